@@ -1,0 +1,4 @@
+pub mod formers
+pub mod Spans
+pub mod Toks
+pub mod Trees

@@ -1,0 +1,89 @@
+-- Token trees by their parts, and the tokens of trees.
+use Rattle.std.specs.Prelude.{ℕ, List, [], ◌∷◌, map, Bool, true, false}
+use Rattle.token_core.specs.declared.tree.Delimiter.{Delimiter}
+use Rattle.token_core.specs.declared.tree.Delimiter.TheVariants.{Parenthesis, Brace, Bracket, None}
+use Rattle.token_core.specs.declared.tree.Spacing.{Spacing}
+use Rattle.token_core.specs.declared.tree.LitKind.{LitKind}
+use Rattle.token_core.specs.declared.span.Span.{Span}
+use Rattle.token_core.specs.declared.span.DelimSpan.{DelimSpan}
+use Rattle.token_core.specs.declared.tree.Ident.{Ident}
+use Rattle.token_core.specs.declared.tree.Punct.{Punct}
+use Rattle.token_core.specs.declared.tree.Literal.{Literal}
+use Rattle.token_core.specs.declared.tree.TokenTree.{TokenTree}
+use Rattle.token_core.specs.declared.tree.TokenTree.TheOpen as o
+use Rattle.token_core.specs.declared.tree.TokenTree.TheFolds.{fold-TokenTree, fold-TokenStream}
+use Rattle.token_core.specs.declared.tree.Group.{Group, out-Group, roll-Group}
+use Rattle.token_core.specs.declared.tree.TokenStream.{TokenStream, out-TokenStream, roll-TokenStream}
+use Rattle.token_core.specs.Toks.{Bytes, Toks, done, word, mark, lit, group, enter, leave}
+
+abbrev pub ident : Bytes → Span → Ident
+ident t s = record { text = t; span = s }
+
+abbrev pub punct : ℕ → Spacing → Span → Punct
+punct c j s = record { ch = c; spacing = j; span = s }
+
+abbrev pub literal : LitKind → Bytes → Span → Literal
+literal k t s = record { kind = k; text = t; span = s }
+
+abbrev pub group_of : Delimiter → TokenStream → DelimSpan → Group
+group_of d c s = roll-Group (record { delimiter = d; stream = c; span = s })
+
+abbrev pub delimiter_of : Group → Delimiter
+delimiter_of g = (out-Group g).delimiter
+
+abbrev pub content_of : Group → TokenStream
+content_of g = (out-Group g).stream
+
+abbrev pub span_of : Group → DelimSpan
+span_of g = (out-Group g).span
+
+abbrev pub trees : TokenStream → List TokenTree
+trees s = (out-TokenStream s).trees
+
+abbrev pub stream_of_trees : List TokenTree → TokenStream
+stream_of_trees l = roll-TokenStream (record { trees = l })
+
+abbrev pub has_none : List TokenTree → Bool
+has_none [] = true
+has_none (t ∷ l) = false
+
+-- ---- the tokens of trees, put before others
+
+abbrev pub Before : Type 0
+Before = Toks → Toks
+
+abbrev pub all : List Before → Before
+all [] r = r
+all (f ∷ fs) r = f (all fs r)
+
+abbrev pub grouped : Delimiter → DelimSpan → Before → Before
+grouped None s content r = enter s (content (leave r))
+grouped Parenthesis s content r = group Parenthesis s (content done) r
+grouped Brace s content r = group Brace s (content done) r
+grouped Bracket s content r = group Bracket s (content done) r
+
+abbrev pub tree_step : o.TokenTree-F Before Before Before → Before
+tree_step (o.Ident i) r = word i r
+tree_step (o.Punct p) r = mark p r
+tree_step (o.Literal l) r = lit l r
+tree_step (o.Group g) r = g r
+
+abbrev pub group_step : o.Group-F Before Before Before → Before
+group_step g = grouped g.delimiter g.span g.stream
+
+abbrev pub stream_step : o.TokenStream-F Before Before Before → Before
+stream_step s = all s.trees
+
+unfoldable pub tree : TokenTree → Before
+tree = fold-TokenTree Before Before Before tree_step group_step stream_step
+
+unfoldable pub stream : TokenStream → Before
+stream = fold-TokenStream Before Before Before tree_step group_step stream_step
+
+-- the tokens of a list of trees
+abbrev pub row : List TokenTree → Before
+row ts = all (map tree ts)
+
+-- the tokens of a token list
+abbrev pub toks : TokenStream → Toks
+toks s = stream s done

@@ -1,0 +1,14 @@
+//! Tokens, streams of them, and punctuated lists.
+#![tactic(auto)]
+
+mod boxed;
+mod items;
+mod span;
+mod text;
+mod tree;
+
+pub use boxed::Boxed;
+pub use items::Items;
+pub use span::{DelimSpan, Span};
+pub use text::Text;
+pub use tree::{Delimiter, Group, Ident, LitKind, Literal, Punct, Spacing, TokenStream, TokenTree};

@@ -1,0 +1,317 @@
+//! Token trees, and lists of them.
+
+ghost use Rattle.std.specs.Prelude.{◌≡◌, ◌++◌, [], ◌∷◌, IfOk, OnOk, OnErr, take, length};
+ghost use Rattle.token_core.specs.Trees as spec;
+
+use crate::items::Items;
+use crate::span::{DelimSpan, Span};
+use crate::text::Text;
+use std::alloc::{AllocError, Global};
+
+/// The bracket of a group; `None` is an invisible one.
+#[derive(Clone, Copy, PartialEq, Eq)]
+pub enum Delimiter {
+    Parenthesis,
+    Brace,
+    Bracket,
+    None,
+}
+
+/// Whether a mark character belongs with the next one.
+#[derive(Clone, Copy, PartialEq, Eq)]
+pub enum Spacing {
+    Joint,
+    Alone,
+}
+
+#[derive(Clone, Copy, PartialEq, Eq)]
+pub enum LitKind {
+    Str,
+    ByteStr,
+    CStr,
+    Byte,
+    Char,
+    Int,
+    Float,
+}
+
+/// An identifier, keywords and `_` too; a raw one's text begins with `r#`.
+#[derive(Drop)]
+pub struct Ident {
+    pub text: Text,
+    pub span: Span,
+}
+
+/// A mark character.
+#[derive(Clone, Copy, PartialEq, Eq)]
+pub struct Punct {
+    pub ch: char,
+    pub spacing: Spacing,
+    pub span: Span,
+}
+
+/// A literal: its kind, and its text as written.
+#[derive(Drop)]
+pub struct Literal {
+    pub kind: LitKind,
+    pub text: Text,
+    pub span: Span,
+}
+
+#[cycle(tree)]
+#[derive(Drop)]
+pub enum TokenTree {
+    Ident(Ident),
+    Punct(Punct),
+    Literal(Literal),
+    Group(Group),
+}
+
+/// A list between a pair of brackets.
+#[cycle(tree)]
+#[derive(Drop)]
+pub struct Group {
+    pub delimiter: Delimiter,
+    pub stream: TokenStream,
+    pub span: DelimSpan,
+}
+
+/// A list of token trees.
+#[cycle(tree)]
+#[derive(Drop)]
+pub struct TokenStream {
+    trees: Items<TokenTree>,
+}
+
+impl Ident {
+    /// Any text.
+    pub fn new(alloc: Global, text: &str, span: Span) -> Result<Ident, AllocError>
+        ensures { IfOk result (λ i. i ≡ spec.ident text.now span) }
+    {
+        Ok(Ident {
+            text: Text::from_str(alloc, text)?,
+            span,
+        })
+    }
+
+    pub fn text(&self) -> &str
+        ensures { result.now ≡ self.now.text }
+    {
+        self.text.as_str()
+    }
+
+    pub fn span(&self) -> Span
+        ensures { result ≡ self.now.span }
+    {
+        self.span
+    }
+
+    /// Its equal, span too.
+    pub fn copy(&self, alloc: Global) -> Result<Ident, AllocError>
+        ensures { IfOk result (λ i. i ≡ self.now) }
+    {
+        Ok(Ident {
+            text: self.text.copy(alloc)?,
+            span: self.span,
+        })
+    }
+}
+
+impl Punct {
+    /// Any character.
+    pub fn new(ch: char, spacing: Spacing, span: Span) -> Punct
+        ensures { result ≡ spec.punct ch spacing span }
+    {
+        Punct { ch, spacing, span }
+    }
+
+    pub fn as_char(&self) -> char
+        ensures { result ≡ self.now.ch }
+    {
+        self.ch
+    }
+
+    pub fn spacing(&self) -> Spacing
+        ensures { result ≡ self.now.spacing }
+    {
+        self.spacing
+    }
+
+    pub fn span(&self) -> Span
+        ensures { result ≡ self.now.span }
+    {
+        self.span
+    }
+}
+
+impl Literal {
+    /// Any text.
+    pub fn new(alloc: Global, kind: LitKind, text: &str, span: Span) -> Result<Literal, AllocError>
+        ensures { IfOk result (λ l. l ≡ spec.literal kind text.now span) }
+    {
+        Ok(Literal {
+            kind,
+            text: Text::from_str(alloc, text)?,
+            span,
+        })
+    }
+
+    pub fn kind(&self) -> LitKind
+        ensures { result ≡ self.now.kind }
+    {
+        self.kind
+    }
+
+    pub fn text(&self) -> &str
+        ensures { result.now ≡ self.now.text }
+    {
+        self.text.as_str()
+    }
+
+    pub fn span(&self) -> Span
+        ensures { result ≡ self.now.span }
+    {
+        self.span
+    }
+
+    /// Its equal, span too.
+    pub fn copy(&self, alloc: Global) -> Result<Literal, AllocError>
+        ensures { IfOk result (λ l. l ≡ self.now) }
+    {
+        Ok(Literal {
+            kind: self.kind,
+            text: self.text.copy(alloc)?,
+            span: self.span,
+        })
+    }
+}
+
+impl Group {
+    pub fn new(delimiter: Delimiter, stream: TokenStream, span: DelimSpan) -> Group
+        ensures { result ≡ spec.group_of delimiter stream span }
+    {
+        Group {
+            delimiter,
+            stream,
+            span,
+        }
+    }
+
+    pub fn delimiter(&self) -> Delimiter
+        ensures { result ≡ spec.delimiter_of self.now }
+    {
+        self.delimiter
+    }
+
+    pub fn stream(&self) -> &TokenStream
+        ensures { result.now ≡ spec.content_of self.now }
+    {
+        &self.stream
+    }
+
+    pub fn delim_span(&self) -> DelimSpan
+        ensures { result ≡ spec.span_of self.now }
+    {
+        self.span
+    }
+
+    /// Its equal, spans too.
+    pub fn copy(&self, alloc: Global) -> Result<Group, AllocError>
+        ensures { IfOk result (λ g. g ≡ self.now) }
+    {
+        copy_group(self, alloc)
+    }
+}
+
+impl TokenTree {
+    /// Its equal, spans too.
+    pub fn copy(&self, alloc: Global) -> Result<TokenTree, AllocError>
+        ensures { IfOk result (λ t. t ≡ self.now) }
+    {
+        copy_tree(self, alloc)
+    }
+}
+
+impl TokenStream {
+    pub fn new(alloc: Global) -> TokenStream
+        ensures { spec.trees result ≡ [] }
+    {
+        TokenStream {
+            trees: Items::new(alloc),
+        }
+    }
+
+    pub fn len(&self) -> usize
+        ensures { result ≡ length (spec.trees self.now) }
+    {
+        self.trees.len()
+    }
+
+    pub fn is_empty(&self) -> bool
+        ensures { result ≡ spec.has_none (spec.trees self.now) }
+    {
+        self.trees.len() == 0
+    }
+
+    pub fn trees(&self) -> &[TokenTree]
+        ensures { result.now ≡ spec.trees self.now }
+    {
+        self.trees.as_slice()
+    }
+
+    /// Puts a tree at the end; a refused push changes nothing and drops the tree.
+    pub fn push(&mut self, tree: TokenTree) -> Result<(), AllocError>
+        ensures ok { OnOk result (spec.trees self.new ≡ spec.trees self.old ++ tree ∷ []) }
+        ensures err { OnErr result (self.new ≡ self.old) }
+    {
+        self.trees.push(tree)
+    }
+
+    /// Keeps the first `n` trees, all where there are no more.
+    pub fn truncate(&mut self, n: usize)
+        ensures { spec.trees self.new ≡ take n (spec.trees self.old) }
+    {
+        self.trees.truncate(n);
+    }
+
+    /// Its equal, spans too.
+    pub fn copy(&self, alloc: Global) -> Result<TokenStream, AllocError>
+        ensures { IfOk result (λ s. s ≡ self.now) }
+    {
+        copy_stream(self, alloc)
+    }
+}
+
+#[cycle(copy)]
+fn copy_stream(stream: &TokenStream, alloc: Global) -> Result<TokenStream, AllocError>
+    ensures { IfOk result (λ s. s ≡ stream.now) }
+{
+    let mut trees = Items::new(alloc);
+    for tree in stream.trees.as_slice() {
+        trees.push(copy_tree(tree, alloc)?)?;
+    }
+    Ok(TokenStream { trees })
+}
+
+#[cycle(copy)]
+fn copy_tree(tree: &TokenTree, alloc: Global) -> Result<TokenTree, AllocError>
+    ensures { IfOk result (λ t. t ≡ tree.now) }
+{
+    match tree {
+        TokenTree::Ident(ident) => Ok(TokenTree::Ident(ident.copy(alloc)?)),
+        TokenTree::Punct(punct) => Ok(TokenTree::Punct(*punct)),
+        TokenTree::Literal(literal) => Ok(TokenTree::Literal(literal.copy(alloc)?)),
+        TokenTree::Group(group) => Ok(TokenTree::Group(copy_group(group, alloc)?)),
+    }
+}
+
+#[cycle(copy)]
+fn copy_group(group: &Group, alloc: Global) -> Result<Group, AllocError>
+    ensures { IfOk result (λ g. g ≡ group.now) }
+{
+    Ok(Group {
+        delimiter: group.delimiter,
+        stream: copy_stream(&group.stream, alloc)?,
+        span: group.span,
+    })
+}
