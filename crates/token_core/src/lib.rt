@@ -2,12 +2,14 @@
 #![tactic(auto)]
 
 mod boxed;
+mod error;
 mod items;
 mod span;
 mod text;
 mod tree;
 
 pub use boxed::Boxed;
+pub use error::{Error, ErrorKind};
 pub use items::Items;
 pub use span::{DelimSpan, Span};
 pub use text::Text;

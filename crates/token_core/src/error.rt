@@ -1,0 +1,160 @@
+//! Refusals.
+
+ghost use Rattle.std.specs.Prelude.{◌≡◌};
+ghost use Rattle.token_core.specs.Refusal as spec;
+
+use crate::span::Span;
+use crate::text::Text;
+use std::alloc::{AllocError, Global};
+use std::marker::Model;
+
+/// What a refusal says. Each kind but `Expected` and `Custom` has one text.
+#[derive(Clone, Copy, PartialEq, Eq)]
+pub enum ErrorKind {
+    /// A growth was refused.
+    OutOfMemory,
+    /// Another token was expected.
+    Expected,
+    /// Something is left over.
+    Unexpected,
+    /// The caller's own.
+    Custom,
+    /// A group was expected.
+    ExpectedDelimiter,
+    /// A path ends in `::`.
+    ExpectedPathSegment,
+    /// A path is no lone identifier.
+    ExpectedPathIdent,
+    /// A bracket is not closed.
+    UnclosedDelimiter,
+    /// A bracket closes none.
+    UnexpectedClosingDelimiter,
+    /// No token begins here.
+    UnknownToken,
+}
+
+impl ErrorKind {
+    /// The text of its refusals, and nothing for the two kinds that have several.
+    #[tactic(auto, unfolding(crate::specs::Refusal::fixed))]
+    pub fn text(self) -> &'static str
+        ensures { result.now ≡ spec.fixed self }
+    {
+        match self {
+            ErrorKind::OutOfMemory => "out of memory",
+            ErrorKind::Expected => "",
+            ErrorKind::Unexpected => "unexpected token",
+            ErrorKind::Custom => "",
+            ErrorKind::ExpectedDelimiter => "expected delimiter",
+            ErrorKind::ExpectedPathSegment => "expected path segment after `::`",
+            ErrorKind::ExpectedPathIdent => "expected this path to be an identifier",
+            ErrorKind::UnclosedDelimiter => "unclosed delimiter",
+            ErrorKind::UnexpectedClosingDelimiter => "unexpected closing delimiter",
+            ErrorKind::UnknownToken => "unknown start of token",
+        }
+    }
+}
+
+/// A refusal: its kind, its text, and from where to where it points.
+#[derive(Drop)]
+pub struct Error {
+    kind: ErrorKind,
+    // none where no memory was left for one
+    text: Option<Text>,
+    start: Span,
+    end: Span,
+}
+
+impl Model for Error {
+    ghost use Rattle.token_core.specs.Refusal.{Refusal, refusal_code, text_or};
+
+    ghost Value = { Refusal };
+
+    ghost coded = { refusal_code };
+
+    ghost view = { λ e. record { kind = e.kind; text = text_or e.text; start = e.start; end = e.end } };
+}
+
+impl Error {
+    /// The caller's own refusal at one place; for want of memory where its text can't be stored.
+    pub fn new(alloc: Global, span: Span, text: &str) -> Error
+        ensures { spec.Made result (spec.custom span span text.now) }
+    {
+        Error::of(alloc, ErrorKind::Custom, text, span, span)
+    }
+
+    /// The same from one place to another.
+    pub fn new2(alloc: Global, start: Span, end: Span, text: &str) -> Error
+        ensures { spec.Made result (spec.custom start end text.now) }
+    {
+        Error::of(alloc, ErrorKind::Custom, text, start, end)
+    }
+
+    /// A refusal of any kind and text.
+    pub fn of(alloc: Global, kind: ErrorKind, text: &str, start: Span, end: Span) -> Error
+        ensures { spec.Made result (spec.refusal kind text.now start end) }
+    {
+        match Text::from_str(alloc, text) {
+            Ok(text) => Error {
+                kind,
+                text: Some(text),
+                start,
+                end,
+            },
+            Err(_) => Error::out_of_memory(),
+        }
+    }
+
+    /// A refusal of a kind that has one text.
+    pub fn named(alloc: Global, kind: ErrorKind, span: Span) -> Error
+        ensures { spec.Made result (spec.named kind span) }
+    {
+        Error::of(alloc, kind, kind.text(), span, span)
+    }
+
+    /// The refusal for want of memory, which points nowhere.
+    pub fn out_of_memory() -> Error
+        ensures { result ≡ spec.out_of_memory }
+    {
+        Error {
+            kind: ErrorKind::OutOfMemory,
+            text: None,
+            start: Span::none(),
+            end: Span::none(),
+        }
+    }
+
+    pub fn kind(&self) -> ErrorKind
+        ensures { result ≡ self.now.kind }
+    {
+        self.kind
+    }
+
+    pub fn text(&self) -> &str
+        ensures { result.now ≡ self.now.text }
+    {
+        match &self.text {
+            Some(text) => text.as_str(),
+            None => ErrorKind::OutOfMemory.text(),
+        }
+    }
+
+    pub fn start(&self) -> Span
+        ensures { result ≡ self.now.start }
+    {
+        self.start
+    }
+
+    pub fn end(&self) -> Span
+        ensures { result ≡ self.now.end }
+    {
+        self.end
+    }
+}
+
+impl From<AllocError> for Error {
+    ghost from_gives = { λ _ e. e ≡ spec.out_of_memory };
+
+    fn from(_e: AllocError) -> Error {
+        Error::out_of_memory()
+    }
+}
