@@ -4,3 +4,8 @@ pub mod Toks
 pub mod Trees
 pub mod Codes
 pub mod Refusal
+pub mod Pieces
+pub mod Seen
+pub mod Entries
+pub mod Front
+pub mod Stream

@@ -11,7 +11,7 @@ use Rattle.token_core.specs.declared.tree.Punct.{Punct}
 use Rattle.token_core.specs.declared.tree.Literal.{Literal}
 use Rattle.token_core.specs.declared.tree.TokenTree.{TokenTree}
 use Rattle.token_core.specs.declared.tree.TokenTree.TheOpen as o
-use Rattle.token_core.specs.declared.tree.TokenTree.TheFolds.{fold-TokenTree, fold-TokenStream}
+use Rattle.token_core.specs.declared.tree.TokenTree.TheFolds.{fold-TokenTree, fold-Group, fold-TokenStream}
 use Rattle.token_core.specs.declared.tree.Group.{Group, out-Group, roll-Group}
 use Rattle.token_core.specs.declared.tree.TokenStream.{TokenStream, out-TokenStream, roll-TokenStream}
 use Rattle.token_core.specs.Toks.{Bytes, Toks, done, word, mark, lit, group, enter, leave}
@@ -76,6 +76,9 @@ stream_step s = all s.trees
 
 unfoldable pub tree : TokenTree → Before
 tree = fold-TokenTree Before Before Before tree_step group_step stream_step
+
+unfoldable pub inside : Group → Before
+inside = fold-Group Before Before Before tree_step group_step stream_step
 
 unfoldable pub stream : TokenStream → Before
 stream = fold-TokenStream Before Before Before tree_step group_step stream_step

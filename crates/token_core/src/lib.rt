@@ -2,6 +2,7 @@
 #![tactic(auto)]
 
 mod boxed;
+mod buffer;
 mod error;
 mod items;
 mod span;
@@ -9,6 +10,7 @@ mod text;
 mod tree;
 
 pub use boxed::Boxed;
+pub use buffer::TokenBuffer;
 pub use error::{Error, ErrorKind};
 pub use items::Items;
 pub use span::{DelimSpan, Span};

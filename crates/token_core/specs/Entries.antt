@@ -1,0 +1,102 @@
+-- What the entries of a buffer show, and the entries of trees.
+use Rattle.std.specs.Prelude.{◌≡◌, ℕ, List, [], ◌∷◌, ◌++◌, map, length, take}
+use Rattle.token_core.specs.declared.tree.TokenTree.{TokenTree, out-TokenTree}
+use Rattle.token_core.specs.declared.tree.Group.{Group}
+use Rattle.token_core.specs.declared.tree.TokenStream.{TokenStream}
+use Rattle.token_core.specs.declared.tree.TokenTree.TheVariants as t
+use Rattle.token_core.specs.declared.tree.TokenTree.TheOpen as o
+use Rattle.token_core.specs.declared.tree.TokenTree.TheFolds.{fold-TokenTree, fold-Group, fold-TokenStream}
+use Rattle.token_core.specs.declared.buffer.Entry.{Entry}
+use Rattle.token_core.specs.declared.buffer.Entry.TheVariants.{Tree, End}
+use Rattle.token_core.specs.Toks.{Toks}
+use Rattle.token_core.specs.Trees.{delimiter_of, span_of, content_of, group_of, stream_of_trees}
+use Rattle.token_core.specs.Seen.{Seen, view, saw_word, saw_mark, saw_lit, saw_group, saw_enter, saw_leave, saw_delimiter}
+
+abbrev pub Layer : Type 0
+Layer = o.TokenTree-F TokenTree Group TokenStream
+
+abbrev pub saw_layer : ℕ → Layer → Seen
+saw_layer n (o.Ident i) = saw_word i
+saw_layer n (o.Punct p) = saw_mark p
+saw_layer n (o.Literal l) = saw_lit l
+saw_layer n (o.Group g) = saw_delimiter (delimiter_of g) (span_of g) (content_of g) n
+
+abbrev pub saw : Entry → Seen
+saw (Tree x n) = saw_layer n (out-TokenTree x.now)
+saw (End x) = saw_leave
+
+abbrev pub entries_view : List Entry → Toks
+entries_view l = view (map saw l)
+
+-- ---- the entries of trees, in order; each tree is kept beside its entries, since a group's entry tells its content
+
+abbrev pub Flat : Type 0
+Flat = List Seen
+
+abbrev pub all_of : List Flat → Flat
+all_of [] = []
+all_of (x ∷ xs) = x ++ all_of xs
+
+abbrev pub KnownTree : Type 0
+KnownTree = TokenTree × Flat
+
+abbrev pub KnownGroup : Type 0
+KnownGroup = Group × Flat
+
+abbrev pub KnownStream : Type 0
+KnownStream = TokenStream × Flat
+
+abbrev pub tree_step : o.TokenTree-F KnownTree KnownGroup KnownStream → KnownTree
+tree_step (o.Ident i) = (t.Ident i, saw_word i ∷ [])
+tree_step (o.Punct p) = (t.Punct p, saw_mark p ∷ [])
+tree_step (o.Literal l) = (t.Literal l, saw_lit l ∷ [])
+tree_step (o.Group g) = (t.Group g.0, g.1)
+
+abbrev pub group_step : o.Group-F KnownTree KnownGroup KnownStream → KnownGroup
+group_step g = (group_of g.delimiter g.stream.0 g.span, saw_delimiter g.delimiter g.span g.stream.0 (length g.stream.1) ∷ (g.stream.1 ++ saw_leave ∷ []))
+
+abbrev pub firsts : List KnownTree → List TokenTree
+firsts [] = []
+firsts (x ∷ xs) = x.0 ∷ firsts xs
+
+abbrev pub seconds : List KnownTree → List Flat
+seconds [] = []
+seconds (x ∷ xs) = x.1 ∷ seconds xs
+
+abbrev pub stream_step : o.TokenStream-F KnownTree KnownGroup KnownStream → KnownStream
+stream_step s = (stream_of_trees (firsts s.trees), all_of (seconds s.trees))
+
+unfoldable pub known_tree : TokenTree → KnownTree
+known_tree = fold-TokenTree KnownTree KnownGroup KnownStream tree_step group_step stream_step
+
+unfoldable pub known_group : Group → KnownGroup
+known_group = fold-Group KnownTree KnownGroup KnownStream tree_step group_step stream_step
+
+unfoldable pub known_stream : TokenStream → KnownStream
+known_stream = fold-TokenStream KnownTree KnownGroup KnownStream tree_step group_step stream_step
+
+abbrev pub flat_tree : TokenTree → Flat
+flat_tree t = (known_tree t).1
+
+abbrev pub flat_group : Group → Flat
+flat_group g = (known_group g).1
+
+abbrev pub flat_stream : TokenStream → Flat
+flat_stream s = (known_stream s).1
+
+-- ---- each group's entry is followed by the entries of its content
+
+abbrev pub Inside : TokenStream → ℕ → Flat → Type 0
+Inside c n l = (n ≡ length (flat_stream c)) × (take n l ≡ flat_stream c)
+
+abbrev pub Nested : Flat → Type 0
+Nested [] = Unit {0}
+Nested (saw_word i ∷ l) = Nested l
+Nested (saw_mark p ∷ l) = Nested l
+Nested (saw_lit k ∷ l) = Nested l
+Nested (saw_group d s c n ∷ l) = Inside c n l × Nested l
+Nested (saw_enter s c n ∷ l) = Inside c n l × Nested l
+Nested (saw_leave ∷ l) = Nested l
+
+pub record AreNested (l : List Entry) : Type 0 where
+  pub nested : Nested (map saw l)

@@ -1,0 +1,223 @@
+//! A flat buffer of entries that refer to the trees of a list, and what stands at its front.
+
+ghost use Rattle.std.specs.Prelude.{◌≡◌, ◌∷◌, ◌++◌, ◌+◌, map, take, drop, IfOk, OnOk};
+ghost use Rattle.token_core.specs.Front as spec;
+ghost use Rattle.token_core.specs.Front.{shows, NestedFront};
+ghost use Rattle.token_core.specs.Trees.{delimiter_of, span_of, content_of, toks};
+ghost use Rattle.token_core.specs.Entries.{saw, saw_layer, entries_view, flat_tree, flat_stream, Nested, Inside};
+ghost use Rattle.token_core.specs.Seen.{view, saw_delimiter};
+ghost use Rattle.token_core.specs.Toks.{word, mark, lit};
+ghost use Rattle.token_core.specs.declared.tree.TokenTree.{out-TokenTree};
+
+use crate::tree::{Delimiter, Group, Ident, Literal, Punct, TokenStream, TokenTree};
+use std::alloc::{AllocError, Global};
+use std::marker::Model;
+
+#[derive(Clone, Copy)]
+pub(crate) enum Entry<'a> {
+    /// A tree, and of a group the number of entries of its content.
+    Tree(&'a TokenTree, usize),
+    /// The end of a group.
+    End(&'a TokenTree),
+}
+
+/// The entries without the bounds of invisible groups at their front.
+fn skip_bounds<'a>(entries: &'a [Entry<'a>]) -> &'a [Entry<'a>]
+    ensures shown { entries_view result.now ≡ spec.front (entries_view entries.now) }
+    ensures nested { Nested (map saw entries.now) → Nested (map saw result.now) }
+{
+    let mut at = 0;
+    'bounds: while at < entries.len() && is_bound(&entries[at]) {
+        at += 1;
+    }
+    &entries[at..]
+}
+
+fn is_bound(entry: &Entry<'_>) -> bool
+    ensures { result ≡ spec.is_bound entry.now }
+{
+    match entry {
+        Entry::Tree(TokenTree::Group(group), _) => group.delimiter == Delimiter::None,
+        Entry::Tree(_, _) => false,
+        Entry::End(_) => true,
+    }
+}
+
+/// The entries without the ends of invisible groups at their front.
+pub(crate) fn skip_ends<'a>(entries: &'a [Entry<'a>]) -> &'a [Entry<'a>]
+    ensures shown { entries_view result.now ≡ spec.past_ends (entries_view entries.now) }
+    ensures nested { Nested (map saw entries.now) → Nested (map saw result.now) }
+{
+    let mut at = 0;
+    'ends: while at < entries.len() && is_end(&entries[at]) {
+        at += 1;
+    }
+    &entries[at..]
+}
+
+fn is_end(entry: &Entry<'_>) -> bool
+    ensures { result ≡ spec.is_end entry.now }
+{
+    match entry {
+        Entry::Tree(_, _) => false,
+        Entry::End(_) => true,
+    }
+}
+
+/// What stands at the front, with what follows it.
+#[derive(Clone, Copy)]
+pub(crate) enum Front<'a> {
+    Done,
+    Word(&'a Ident, &'a [Entry<'a>]),
+    Mark(Punct, &'a [Entry<'a>]),
+    Literal(&'a Literal, &'a [Entry<'a>]),
+    /// A visible group, its content, and what follows it.
+    Group(&'a Group, &'a [Entry<'a>], &'a [Entry<'a>]),
+}
+
+#[tactic(auto, using(crate::proofs::Fronts::views))]
+fn shown<'a>(entry: &Entry<'a>, more: &'a [Entry<'a>]) -> Front<'a>
+    ensures shown { shows result ≡ spec.settled (view (saw entry.now ∷ map saw more.now)) }
+    ensures nested { Nested (saw entry.now ∷ map saw more.now) → NestedFront result }
+{
+    match entry {
+        Entry::Tree(tree, n) => tree_front(tree, *n, more),
+        Entry::End(_) => Front::Done,
+    }
+}
+
+#[tactic(auto, using(crate::proofs::Fronts::views))]
+fn tree_front<'a>(tree: &'a TokenTree, n: usize, more: &'a [Entry<'a>]) -> Front<'a>
+    ensures shown { shows result ≡ spec.settled (view (saw_layer n (out-TokenTree tree.now) ∷ map saw more.now)) }
+    ensures nested { Nested (saw_layer n (out-TokenTree tree.now) ∷ map saw more.now) → NestedFront result }
+{
+    match tree {
+        TokenTree::Ident(ident) => Front::Word(ident, more),
+        TokenTree::Punct(punct) => Front::Mark(*punct, more),
+        TokenTree::Literal(literal) => Front::Literal(literal, more),
+        TokenTree::Group(group) => group_front(group, n, more),
+    }
+}
+
+#[tactic(auto, using(crate::proofs::Fronts::views))]
+fn group_front<'a>(group: &'a Group, n: usize, more: &'a [Entry<'a>]) -> Front<'a>
+    ensures shown { shows result ≡ spec.settled (view (saw_delimiter (delimiter_of group.now) (span_of group.now) (content_of group.now) n ∷ map saw more.now)) }
+    ensures nested { Nested (saw_delimiter (delimiter_of group.now) (span_of group.now) (content_of group.now) n ∷ map saw more.now) → NestedFront result }
+{
+    match group.delimiter {
+        Delimiter::None => Front::Done,
+        _ => {
+            let (inside, after) = around(n, more);
+            Front::Group(group, inside, after)
+        }
+    }
+}
+
+fn around<'a>(n: usize, more: &'a [Entry<'a>]) -> (&'a [Entry<'a>], &'a [Entry<'a>])
+    ensures inside { result.0.now ≡ take n more.now }
+    ensures after { result.1.now ≡ drop (n + 1) more.now }
+{
+    let end = n.min(more.len());
+    let after = if n < more.len() { n + 1 } else { more.len() };
+    (&more[..end], &more[after..])
+}
+
+/// The front within invisible groups, and after the ends of those that are left.
+#[tactic(auto, using(crate::proofs::Fronts::views))]
+pub(crate) fn next<'a>(entries: &'a [Entry<'a>]) -> Front<'a>
+    ensures shown { shows result ≡ spec.front (entries_view entries.now) }
+    ensures nested { Nested (map saw entries.now) → NestedFront result }
+{
+    first(skip_bounds(entries))
+}
+
+/// The front as it stands.
+#[tactic(auto, using(crate::proofs::Fronts::views))]
+pub(crate) fn first<'a>(entries: &'a [Entry<'a>]) -> Front<'a>
+    ensures shown { shows result ≡ spec.settled (entries_view entries.now) }
+    ensures nested { Nested (map saw entries.now) → NestedFront result }
+{
+    if entries.len() == 0 {
+        return Front::Done;
+    }
+    shown(&entries[0], &entries[1..])
+}
+
+/// One flat list of entries that refer to the trees of a list.
+#[derive(Drop)]
+pub struct TokenBuffer<'a> {
+    entries: Vec<Entry<'a>>,
+}
+
+impl<'a> Model for TokenBuffer<'a> {
+    ghost use Rattle.std.specs.Prelude.{map};
+    ghost use Rattle.token_core.specs.Toks.{Toks};
+    ghost use Rattle.token_core.specs.Pieces.{toks_code};
+
+    ghost Value = { Toks };
+
+    ghost coded = { toks_code };
+
+    ghost use Rattle.token_core.specs.Entries.{entries_view, saw, Nested};
+
+    ghost view = { λ b. entries_view b.entries.items };
+
+    ghost invariant = { λ b. Nested (map saw b.entries.items) };
+}
+
+impl<'a> TokenBuffer<'a> {
+    /// Refers to the trees and copies none.
+    pub fn new(alloc: Global, stream: &'a TokenStream) -> Result<TokenBuffer<'a>, AllocError>
+        ensures { IfOk result (λ b. b ≡ toks stream.now) }
+    {
+        let mut entries = Vec::new(alloc);
+        fill_stream(&mut entries, stream)?;
+        Ok(TokenBuffer { entries })
+    }
+
+    pub(crate) fn entries<'b>(&'b self) -> &'b [Entry<'b>]
+        ensures shown { entries_view result.now ≡ self.now }
+        ensures nested { Nested (map saw result.now) }
+    {
+        self.entries.as_slice()
+    }
+}
+
+#[cycle(fill)]
+fn fill_stream<'a>(entries: &mut Vec<Entry<'a>>, stream: &'a TokenStream) -> Result<(), AllocError>
+    ensures { OnOk result (map saw entries.new.items ≡ map saw entries.old.items ++ flat_stream stream.now) }
+{
+    for tree in stream.trees() {
+        fill_tree(entries, tree)?;
+    }
+    Ok(())
+}
+
+#[cycle(fill)]
+fn fill_tree<'a>(entries: &mut Vec<Entry<'a>>, tree: &'a TokenTree) -> Result<(), AllocError>
+    ensures { OnOk result (map saw entries.new.items ≡ map saw entries.old.items ++ flat_tree tree.now) }
+{
+    match tree {
+        TokenTree::Group(group) => {
+            let at = entries.len();
+            entries.push(Entry::Tree(tree, 0))?;
+            fill_stream(entries, &group.stream)?;
+            let n = entries.len() - at - 1;
+            entries[at] = Entry::Tree(tree, n);
+            entries.push(Entry::End(tree))?;
+            Ok(())
+        }
+        TokenTree::Ident(_) => {
+            entries.push(Entry::Tree(tree, 0))?;
+            Ok(())
+        }
+        TokenTree::Punct(_) => {
+            entries.push(Entry::Tree(tree, 0))?;
+            Ok(())
+        }
+        TokenTree::Literal(_) => {
+            entries.push(Entry::Tree(tree, 0))?;
+            Ok(())
+        }
+    }
+}
