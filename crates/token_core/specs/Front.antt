@@ -1,12 +1,12 @@
--- The tokens at the front of a stream: within invisible groups, and after the ends of those that are left.
-use Rattle.std.specs.Prelude.{◌≡◌, ℕ, Bool, true, false, List, map}
+-- The tokens at the front of a buffer: within invisible groups, and after the ends of those that are left.
+use Rattle.std.specs.Prelude.{◌≡◌, ℕ, Bool, true, false}
 use Rattle.token_core.specs.declared.buffer.Entry.{Entry}
 use Rattle.token_core.specs.declared.buffer.Front.{Front}
 use Rattle.token_core.specs.declared.buffer.Front.TheVariants as f
 use Rattle.token_core.specs.Toks.{Toks, done, word, mark, lit, group, enter, leave}
 use Rattle.token_core.specs.Seen.{Seen, saw_enter, saw_leave}
-use Rattle.token_core.specs.Trees.{delimiter_of, span_of, content_of}
-use Rattle.token_core.specs.Entries.{saw, entries_view, Nested, flat_stream}
+use Rattle.token_core.specs.Trees.{delimiter_of, span_of, content_of, toks}
+use Rattle.token_core.specs.Entries.{saw}
 
 abbrev pub front : Toks → Toks
 front done = done
@@ -55,15 +55,15 @@ settled (group d s c k) = group d s c k
 -- what stands at the front of a buffer, as tokens
 abbrev pub shows : Front → Toks
 shows f.Done = done
-shows (f.Word i r) = word i.now (entries_view r.now)
-shows (f.Mark p r) = mark p (entries_view r.now)
-shows (f.Literal l r) = lit l.now (entries_view r.now)
-shows (f.Group g c r) = group (delimiter_of g.now) (span_of g.now) (entries_view c.now) (entries_view r.now)
+shows (f.Word i r) = word i.now r
+shows (f.Mark p r) = mark p r
+shows (f.Literal l r) = lit l.now r
+shows (f.Group g c r) = group (delimiter_of g.now) (span_of g.now) c r
 
--- what follows it in a buffer is nested too, and a group's entries are its content's
-abbrev pub NestedFront : Front → Type 0
-NestedFront f.Done = Unit {0}
-NestedFront (f.Word i r) = Nested (map saw r.now)
-NestedFront (f.Mark p r) = Nested (map saw r.now)
-NestedFront (f.Literal l r) = Nested (map saw r.now)
-NestedFront (f.Group g c r) = Nested (map saw c.now) × Nested (map saw r.now) × (map saw c.now ≡ flat_stream (content_of g.now))
+-- a group's entries are those of its content
+abbrev pub Linked : Front → Type 0
+Linked f.Done = Unit {0}
+Linked (f.Word i r) = Unit {0}
+Linked (f.Mark p r) = Unit {0}
+Linked (f.Literal l r) = Unit {0}
+Linked (f.Group g c r) = c ≡ toks (content_of g.now)

@@ -2,13 +2,13 @@
 
 ghost use Rattle.std.specs.Prelude.{◌≡◌, ◌∷◌, ◌++◌, ◌+◌, map, take, drop, IfOk, OnOk};
 ghost use Rattle.token_core.specs.Front as spec;
-ghost use Rattle.token_core.specs.Front.{shows, NestedFront};
+ghost use Rattle.token_core.specs.Front.{shows, Linked};
 ghost use Rattle.token_core.specs.Trees.{delimiter_of, span_of, content_of, toks};
-ghost use Rattle.token_core.specs.Entries.{saw, saw_layer, entries_view, flat_tree, flat_stream, Nested, Inside};
+ghost use Rattle.token_core.specs.Entries.{saw, saw_layer, entries_view, flat_tree, flat_stream, Nested};
 ghost use Rattle.token_core.specs.Seen.{view, saw_delimiter};
-ghost use Rattle.token_core.specs.Toks.{word, mark, lit};
 ghost use Rattle.token_core.specs.declared.tree.TokenTree.{out-TokenTree};
 
+use crate::cursor::Cursor;
 use crate::tree::{Delimiter, Group, Ident, Literal, Punct, TokenStream, TokenTree};
 use std::alloc::{AllocError, Global};
 use std::marker::Model;
@@ -21,8 +21,8 @@ pub(crate) enum Entry<'a> {
     End(&'a TokenTree),
 }
 
-/// The entries without the bounds of invisible groups at their front.
-fn skip_bounds<'a>(entries: &'a [Entry<'a>]) -> &'a [Entry<'a>]
+/// Past the bounds of invisible groups at the front.
+fn past_bounds<'a>(entries: &'a [Entry<'a>]) -> &'a [Entry<'a>]
     ensures shown { entries_view result.now ≡ spec.front (entries_view entries.now) }
     ensures nested { Nested (map saw entries.now) → Nested (map saw result.now) }
 {
@@ -43,8 +43,8 @@ fn is_bound(entry: &Entry<'_>) -> bool
     }
 }
 
-/// The entries without the ends of invisible groups at their front.
-pub(crate) fn skip_ends<'a>(entries: &'a [Entry<'a>]) -> &'a [Entry<'a>]
+/// Past the ends of invisible groups at the front.
+fn past_ends<'a>(entries: &'a [Entry<'a>]) -> &'a [Entry<'a>]
     ensures shown { entries_view result.now ≡ spec.past_ends (entries_view entries.now) }
     ensures nested { Nested (map saw entries.now) → Nested (map saw result.now) }
 {
@@ -65,20 +65,21 @@ fn is_end(entry: &Entry<'_>) -> bool
 }
 
 /// What stands at the front, with what follows it.
-#[derive(Clone, Copy)]
+#[derive(Drop)]
 pub(crate) enum Front<'a> {
     Done,
-    Word(&'a Ident, &'a [Entry<'a>]),
-    Mark(Punct, &'a [Entry<'a>]),
-    Literal(&'a Literal, &'a [Entry<'a>]),
+    Word(&'a Ident, Cursor<'a>),
+    Mark(Punct, Cursor<'a>),
+    Literal(&'a Literal, Cursor<'a>),
     /// A visible group, its content, and what follows it.
-    Group(&'a Group, &'a [Entry<'a>], &'a [Entry<'a>]),
+    Group(&'a Group, Cursor<'a>, Cursor<'a>),
 }
 
 #[tactic(auto, using(crate::proofs::Fronts::views))]
 fn shown<'a>(entry: &Entry<'a>, more: &'a [Entry<'a>]) -> Front<'a>
+    requires { Nested (saw entry.now ∷ map saw more.now) }
     ensures shown { shows result ≡ spec.settled (view (saw entry.now ∷ map saw more.now)) }
-    ensures nested { Nested (saw entry.now ∷ map saw more.now) → NestedFront result }
+    ensures linked { Linked result }
 {
     match entry {
         Entry::Tree(tree, n) => tree_front(tree, *n, more),
@@ -88,27 +89,29 @@ fn shown<'a>(entry: &Entry<'a>, more: &'a [Entry<'a>]) -> Front<'a>
 
 #[tactic(auto, using(crate::proofs::Fronts::views))]
 fn tree_front<'a>(tree: &'a TokenTree, n: usize, more: &'a [Entry<'a>]) -> Front<'a>
+    requires { Nested (saw_layer n (out-TokenTree tree.now) ∷ map saw more.now) }
     ensures shown { shows result ≡ spec.settled (view (saw_layer n (out-TokenTree tree.now) ∷ map saw more.now)) }
-    ensures nested { Nested (saw_layer n (out-TokenTree tree.now) ∷ map saw more.now) → NestedFront result }
+    ensures linked { Linked result }
 {
     match tree {
-        TokenTree::Ident(ident) => Front::Word(ident, more),
-        TokenTree::Punct(punct) => Front::Mark(*punct, more),
-        TokenTree::Literal(literal) => Front::Literal(literal, more),
+        TokenTree::Ident(ident) => Front::Word(ident, Cursor { entries: more }),
+        TokenTree::Punct(punct) => Front::Mark(*punct, Cursor { entries: more }),
+        TokenTree::Literal(literal) => Front::Literal(literal, Cursor { entries: more }),
         TokenTree::Group(group) => group_front(group, n, more),
     }
 }
 
 #[tactic(auto, using(crate::proofs::Fronts::views))]
 fn group_front<'a>(group: &'a Group, n: usize, more: &'a [Entry<'a>]) -> Front<'a>
+    requires { Nested (saw_delimiter (delimiter_of group.now) (span_of group.now) (content_of group.now) n ∷ map saw more.now) }
     ensures shown { shows result ≡ spec.settled (view (saw_delimiter (delimiter_of group.now) (span_of group.now) (content_of group.now) n ∷ map saw more.now)) }
-    ensures nested { Nested (saw_delimiter (delimiter_of group.now) (span_of group.now) (content_of group.now) n ∷ map saw more.now) → NestedFront result }
+    ensures linked { Linked result }
 {
     match group.delimiter {
         Delimiter::None => Front::Done,
         _ => {
             let (inside, after) = around(n, more);
-            Front::Group(group, inside, after)
+            Front::Group(group, Cursor { entries: inside }, Cursor { entries: after })
         }
     }
 }
@@ -122,25 +125,46 @@ fn around<'a>(n: usize, more: &'a [Entry<'a>]) -> (&'a [Entry<'a>], &'a [Entry<'
     (&more[..end], &more[after..])
 }
 
-/// The front within invisible groups, and after the ends of those that are left.
-#[tactic(auto, using(crate::proofs::Fronts::views))]
-pub(crate) fn next<'a>(entries: &'a [Entry<'a>]) -> Front<'a>
-    ensures shown { shows result ≡ spec.front (entries_view entries.now) }
-    ensures nested { Nested (map saw entries.now) → NestedFront result }
-{
-    first(skip_bounds(entries))
-}
-
 /// The front as it stands.
 #[tactic(auto, using(crate::proofs::Fronts::views))]
-pub(crate) fn first<'a>(entries: &'a [Entry<'a>]) -> Front<'a>
+fn settled<'a>(entries: &'a [Entry<'a>]) -> Front<'a>
+    requires { Nested (map saw entries.now) }
     ensures shown { shows result ≡ spec.settled (entries_view entries.now) }
-    ensures nested { Nested (map saw entries.now) → NestedFront result }
+    ensures linked { Linked result }
 {
     if entries.len() == 0 {
         return Front::Done;
     }
     shown(&entries[0], &entries[1..])
+}
+
+impl<'a> Cursor<'a> {
+    /// The front within invisible groups, and after the ends of those that are left.
+    #[tactic(auto, using(crate::proofs::Fronts::views))]
+    pub(crate) fn next(&self) -> Front<'a>
+        ensures shown { shows result ≡ spec.front self.now }
+        ensures linked { Linked result }
+    {
+        settled(past_bounds(self.entries))
+    }
+
+    /// The front after the ends of invisible groups, but not within one.
+    #[tactic(auto, using(crate::proofs::Fronts::views))]
+    pub(crate) fn next_outside(&self) -> Front<'a>
+        ensures shown { shows result ≡ spec.settled (spec.past_ends self.now) }
+        ensures linked { Linked result }
+    {
+        settled(past_ends(self.entries))
+    }
+
+    /// The same position.
+    pub fn again(&self) -> Cursor<'a>
+        ensures { result ≡ self.now }
+    {
+        Cursor {
+            entries: self.entries,
+        }
+    }
 }
 
 /// One flat list of entries that refer to the trees of a list.
@@ -175,11 +199,13 @@ impl<'a> TokenBuffer<'a> {
         Ok(TokenBuffer { entries })
     }
 
-    pub(crate) fn entries<'b>(&'b self) -> &'b [Entry<'b>]
-        ensures shown { entries_view result.now ≡ self.now }
-        ensures nested { Nested (map saw result.now) }
+    /// The position at its front.
+    pub fn begin<'b>(&'b self) -> Cursor<'b>
+        ensures { result ≡ self.now }
     {
-        self.entries.as_slice()
+        Cursor {
+            entries: self.entries.as_slice(),
+        }
     }
 }
 

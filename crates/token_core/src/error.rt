@@ -1,6 +1,6 @@
 //! Refusals.
 
-ghost use Rattle.std.specs.Prelude.{◌≡◌};
+ghost use Rattle.std.specs.Prelude.{◌≡◌, IfOk, OnErr};
 ghost use Rattle.token_core.specs.Refusal as spec;
 
 use crate::span::Span;
@@ -93,7 +93,14 @@ impl Error {
     pub fn of(alloc: Global, kind: ErrorKind, text: &str, start: Span, end: Span) -> Error
         ensures { spec.Made result (spec.refusal kind text.now start end) }
     {
-        match Text::from_str(alloc, text) {
+        Error::stored(kind, Text::from_str(alloc, text), start, end)
+    }
+
+    pub(crate) fn stored(kind: ErrorKind, text: Result<Text, AllocError>, start: Span, end: Span) -> Error
+        ensures ok { IfOk text (λ t. spec.Made result (spec.refusal kind t start end)) }
+        ensures err { OnErr text (result ≡ spec.out_of_memory) }
+    {
+        match text {
             Ok(text) => Error {
                 kind,
                 text: Some(text),

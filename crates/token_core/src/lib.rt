@@ -3,6 +3,7 @@
 
 mod boxed;
 mod buffer;
+mod cursor;
 mod error;
 mod items;
 mod span;
@@ -11,6 +12,7 @@ mod tree;
 
 pub use boxed::Boxed;
 pub use buffer::TokenBuffer;
+pub use cursor::Cursor;
 pub use error::{Error, ErrorKind};
 pub use items::Items;
 pub use span::{DelimSpan, Span};

@@ -1,6 +1,6 @@
 //! The text of identifiers, literals and refusals.
 
-ghost use Rattle.std.specs.Prelude.{◌≡◌, IfOk};
+ghost use Rattle.std.specs.Prelude.{◌≡◌, ◌++◌, IfOk};
 ghost use Rattle.std.specs.Str.{bytes_eq};
 
 use std::alloc::{AllocError, Global};
@@ -27,6 +27,15 @@ impl Text {
         Ok(Text {
             text: String::from_str(alloc, text)?,
         })
+    }
+
+    /// One text after the other.
+    pub fn joined(alloc: Global, first: &str, second: &str) -> Result<Text, AllocError>
+        ensures { IfOk result (λ t. t ≡ first.now ++ second.now) }
+    {
+        let mut text = String::from_str(alloc, first)?;
+        text.push_str(second)?;
+        Ok(Text { text })
     }
 
     pub fn as_str(&self) -> &str

@@ -1,7 +1,7 @@
 use Rattle.std.proofs.Common.{◌≡◌, ◌≤◌, length, drop, ◌-◌}
 use Rattle.token_core.specs.Front.{past_ends}
 use Rattle.token_core.specs.Entries.{entries_view}
-use Rattle.token_core.proofs.buffer.skip_ends.Given as goal
+use Rattle.token_core.proofs.buffer.past_ends.Given as goal
 
 abbrev pub invariant-ends : goal.invariant-ends
 invariant-ends l = record {

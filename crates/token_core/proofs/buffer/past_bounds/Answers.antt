@@ -2,8 +2,8 @@ use Rattle.std.proofs.Common.{◌≡◌, ℕ, true, false, ◌∙◌, ◌-◌, �
 use Rattle.std.proofs.lemmas.Grind.{common_steps}
 use Rattle.token_core.specs.Front.{is_bound}
 use Rattle.token_core.proofs.Fronts.{past_bound, settled_at, settled_end, nested_drop}
-use Rattle.token_core.proofs.buffer.skip_bounds.Goals.{then-bounds-test+else-is_bound, else-bounds-test}
-use Rattle.token_core.proofs.buffer.skip_bounds.Goals as goal
+use Rattle.token_core.proofs.buffer.past_bounds.Goals.{then-bounds-test+else-is_bound, else-bounds-test}
+use Rattle.token_core.proofs.buffer.past_bounds.Goals as goal
 
 pub bounds-preserved : goal.bounds-preserved
 bounds-preserved c =

@@ -2,8 +2,8 @@ use Rattle.std.proofs.Common.{◌≡◌, ℕ, true, false, ◌∙◌, ◌-◌, �
 use Rattle.std.proofs.lemmas.Grind.{common_steps}
 use Rattle.token_core.specs.Front.{is_end}
 use Rattle.token_core.proofs.Fronts.{past_end, left_at, left_end, nested_drop}
-use Rattle.token_core.proofs.buffer.skip_ends.Goals.{then-ends-test+else-is_end, else-ends-test}
-use Rattle.token_core.proofs.buffer.skip_ends.Goals as goal
+use Rattle.token_core.proofs.buffer.past_ends.Goals.{then-ends-test+else-is_end, else-ends-test}
+use Rattle.token_core.proofs.buffer.past_ends.Goals as goal
 
 pub ends-preserved : goal.ends-preserved
 ends-preserved c =

@@ -1,7 +1,7 @@
 use Rattle.std.proofs.Common.{◌≡◌, ◌≤◌, length, drop, ◌-◌}
 use Rattle.token_core.specs.Front.{front}
 use Rattle.token_core.specs.Entries.{entries_view}
-use Rattle.token_core.proofs.buffer.skip_bounds.Given as goal
+use Rattle.token_core.proofs.buffer.past_bounds.Given as goal
 
 abbrev pub invariant-bounds : goal.invariant-bounds
 invariant-bounds l = record {
