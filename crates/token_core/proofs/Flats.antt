@@ -19,13 +19,13 @@ use Rattle.token_core.specs.Entries.{Flat, all_of, firsts, seconds, KnownTree, K
 
 -- ---- one layer at a time
 
-abbrev TreeLayer : Type 0
+abbrev pub TreeLayer : Type 0
 TreeLayer = o.TokenTree-F TokenTree Group TokenStream
 
-abbrev GroupLayer : Type 0
+abbrev pub GroupLayer : Type 0
 GroupLayer = o.Group-F TokenTree Group TokenStream
 
-abbrev StreamLayer : Type 0
+abbrev pub StreamLayer : Type 0
 StreamLayer = o.TokenStream-F TokenTree Group TokenStream
 
 known-tree : (x : TreeLayer) → known_tree (roll-TokenTree x) ≡ e.tree_step (map-TokenTree TokenTree Group TokenStream KnownTree KnownGroup KnownStream known_tree known_group known_stream x)
@@ -40,15 +40,15 @@ known-stream : (x : StreamLayer) → known_stream (roll-TokenStream x) ≡ e.str
 unfolding known_tree known_group known_stream
 known-stream x = fold-roll-TokenStream KnownTree KnownGroup KnownStream e.tree_step e.group_step e.stream_step x
 
-tree-roll : (x : TreeLayer) → s.tree (roll-TokenTree x) ≡ s.tree_step (map-TokenTree TokenTree Group TokenStream Before Before Before s.tree s.inside s.stream x)
+pub tree-roll : (x : TreeLayer) → s.tree (roll-TokenTree x) ≡ s.tree_step (map-TokenTree TokenTree Group TokenStream Before Before Before s.tree s.inside s.stream x)
 unfolding s.tree s.inside s.stream
 tree-roll x = fold-roll-TokenTree Before Before Before s.tree_step s.group_step s.stream_step x
 
-group-roll : (x : GroupLayer) → s.inside (roll-Group x) ≡ grouped x.delimiter x.span (s.stream x.stream)
+pub group-roll : (x : GroupLayer) → s.inside (roll-Group x) ≡ grouped x.delimiter x.span (s.stream x.stream)
 unfolding s.tree s.inside s.stream
 group-roll x = fold-roll-Group Before Before Before s.tree_step s.group_step s.stream_step x
 
-stream-roll : (x : StreamLayer) → s.stream (roll-TokenStream x) ≡ all (map s.tree x.trees)
+pub stream-roll : (x : StreamLayer) → s.stream (roll-TokenStream x) ≡ all (map s.tree x.trees)
 unfolding s.tree s.inside s.stream
 stream-roll x = fold-roll-TokenStream Before Before Before s.tree_step s.group_step s.stream_step x
 

@@ -1,3 +1,6 @@
 pub mod Flats
 pub mod Fronts
 pub mod Fills
+pub mod Marks
+pub mod Suffixes
+pub mod Rebuilds

@@ -9,3 +9,8 @@ pub mod Seen
 pub mod Entries
 pub mod Front
 pub mod Stream
+pub mod Rebuilt
+pub mod Marks
+pub mod Keywords
+pub mod Reads
+pub mod ByFns

@@ -1,0 +1,129 @@
+-- A token list is rebuilt of its tokens, and tokens with no invisible group are those of the list that is rebuilt of them.
+use Rattle.std.proofs.Common.{◌≡◌, List, [], ◌∷◌, ◌++◌, map, refl, sym, ap, subst, ◌∙◌, append-nil}
+use Rattle.token_core.specs.declared.tree.Delimiter.{Delimiter}
+use Rattle.token_core.specs.declared.tree.Delimiter.TheVariants.{Parenthesis, Brace, Bracket, None}
+use Rattle.token_core.specs.declared.span.DelimSpan.{DelimSpan}
+use Rattle.token_core.specs.declared.tree.Ident.{Ident}
+use Rattle.token_core.specs.declared.tree.Punct.{Punct}
+use Rattle.token_core.specs.declared.tree.Literal.{Literal}
+use Rattle.token_core.specs.declared.tree.TokenTree.{TokenTree, roll-TokenTree, map-TokenTree}
+use Rattle.token_core.specs.declared.tree.TokenTree.TheVariants as t
+use Rattle.token_core.specs.declared.tree.TokenTree.TheOpen as o
+use Rattle.token_core.specs.declared.tree.TokenTree.TheFolds.{ind-TokenStream}
+use Rattle.token_core.specs.declared.tree.Group.{Group, roll-Group, map-Group}
+use Rattle.token_core.specs.declared.tree.TokenStream.{TokenStream, roll-TokenStream, map-TokenStream, out-roll-TokenStream, roll-out-TokenStream}
+use Rattle.token_core.specs.Toks.{Toks, done, word, mark, lit, group, enter, leave}
+use Rattle.token_core.specs.Trees as s
+use Rattle.token_core.specs.Trees.{Before, trees, group_of, stream_of_trees, all, grouped, toks, row}
+use Rattle.token_core.specs.Rebuilt.{Levels, onto, invisible, enclose, levels, stream_of, Visible, IsVisible}
+use Rattle.token_core.proofs.Flats.{tree-roll, group-roll, stream-roll}
+
+abbrev before : List TokenTree → Levels → Levels
+before l v = (l ++ v.0, v.1)
+
+abbrev Rebuilds : TokenStream → Type 0
+Rebuilds c = (r : Toks) → levels (s.stream c r) ≡ before (trees c) (levels r)
+
+-- ---- a list's tokens have its trees as their levels
+
+whole : (c : TokenStream) → stream_of_trees (trees c ++ []) ≡ c
+whole c = ap stream_of_trees (append-nil (trees c)) ∙ roll-out-TokenStream c
+
+abbrev group_tree : Delimiter → DelimSpan → TokenStream → TokenTree
+group_tree d p c = t.Group (group_of d c p)
+
+rebuilds_visible : (d : Delimiter) (p : DelimSpan) (c : TokenStream) (r : Toks) → Rebuilds c → levels (group d p (toks c) r) ≡ onto (group_tree d p c) (levels r)
+rebuilds_visible d p c r h =
+    ap (λ (v : Levels). onto (group_tree d p (stream_of_trees v.0)) (levels r)) (h done)
+    ∙ ap (λ z. onto (group_tree d p z) (levels r)) (whole c)
+
+rebuilds_group : (d : Delimiter) (p : DelimSpan) (c : TokenStream) (r : Toks) → Rebuilds c → levels (grouped d p (s.stream c) r) ≡ onto (group_tree d p c) (levels r)
+rebuilds_group Parenthesis p c r h = rebuilds_visible Parenthesis p c r h
+rebuilds_group Brace p c r h = rebuilds_visible Brace p c r h
+rebuilds_group Bracket p c r h = rebuilds_visible Bracket p c r h
+rebuilds_group None p c r h = ap (enclose p) (h (leave r)) ∙ ap (λ z. onto (group_tree None p z) (levels r)) (whole c)
+
+module _ where
+  abbrev P : TokenTree → Type 0
+  P x = (r : Toks) → levels (s.tree x r) ≡ onto x (levels r)
+
+  abbrev Q : Group → Type 0
+  Q g = (r : Toks) → levels (s.inside g r) ≡ onto (t.Group g) (levels r)
+
+  abbrev A : Type 0
+  A = (x : TokenTree) × P x
+
+  abbrev B : Type 0
+  B = (g : Group) × Q g
+
+  abbrev C : Type 0
+  C = (c : TokenStream) × Rebuilds c
+
+  rebuilds_all : (l : List A) (r : Toks) → levels (all (map s.tree (map (λ (a : A). a.0) l)) r) ≡ before (map (λ (a : A). a.0) l) (levels r)
+  rebuilds_all [] r = refl
+  rebuilds_all (a ∷ l) r = a.1 (all (map s.tree (map (λ (a : A). a.0) l)) r) ∙ ap (onto a.0) (rebuilds_all l r)
+
+  tree_layer : (y : o.TokenTree-F A B C) → P (roll-TokenTree (map-TokenTree A B C TokenTree Group TokenStream (λ a. a.0) (λ b. b.0) (λ c. c.0) y))
+  tree_layer (o.Ident i) = λ r. ap (λ f. levels (f r)) (tree-roll (o.Ident i)) ∙ ap (λ z. onto z (levels r)) (sym (t.rolls-Ident i))
+  tree_layer (o.Punct p) = λ r. ap (λ f. levels (f r)) (tree-roll (o.Punct p)) ∙ ap (λ z. onto z (levels r)) (sym (t.rolls-Punct p))
+  tree_layer (o.Literal l) = λ r. ap (λ f. levels (f r)) (tree-roll (o.Literal l)) ∙ ap (λ z. onto z (levels r)) (sym (t.rolls-Literal l))
+  tree_layer (o.Group g) = λ r. ap (λ f. levels (f r)) (tree-roll (o.Group g.0)) ∙ g.1 r ∙ ap (λ z. onto z (levels r)) (sym (t.rolls-Group g.0))
+
+  group_layer : (y : o.Group-F A B C) → Q (roll-Group (map-Group A B C TokenTree Group TokenStream (λ a. a.0) (λ b. b.0) (λ c. c.0) y))
+  group_layer y = λ r. ap (λ f. levels (f r)) (group-roll (record { delimiter = y.delimiter; stream = y.stream.0; span = y.span })) ∙ rebuilds_group y.delimiter y.span y.stream.0 r y.stream.1
+
+  stream_layer : (y : o.TokenStream-F A B C) → Rebuilds (roll-TokenStream (map-TokenStream A B C TokenTree Group TokenStream (λ a. a.0) (λ b. b.0) (λ c. c.0) y))
+  stream_layer y = λ r.
+      ap (λ f. levels (f r)) (stream-roll (record { trees = map (λ (a : A). a.0) y.trees }))
+      ∙ rebuilds_all y.trees r
+      ∙ ap (λ z. before z (levels r)) (ap (λ (z : o.TokenStream-F TokenTree Group TokenStream). z.trees) (sym (out-roll-TokenStream (record { trees = map (λ (a : A). a.0) y.trees }))))
+
+  rebuilds : (c : TokenStream) → Rebuilds c
+  rebuilds = ind-TokenStream P Q Rebuilds (λ x y is. subst (λ z. P (roll-TokenTree z)) is (tree_layer y)) (λ x y is. subst (λ z. Q (roll-Group z)) is (group_layer y)) (λ x y is. subst (λ z. Rebuilds (roll-TokenStream z)) is (stream_layer y))
+
+pub stream_of-toks : (c : TokenStream) → stream_of (toks c) ≡ c
+unfolding stream_of
+stream_of-toks c = ap (λ (v : Levels). stream_of_trees v.0) (rebuilds c done) ∙ whole c
+
+-- ---- the tokens of each kind of tree
+
+pub tree-ident : (i : Ident) (r : Toks) → s.tree (t.Ident i) r ≡ word i r
+tree-ident i r = ap (λ x. s.tree x r) (sym (t.rolls-Ident i)) ∙ ap (λ f. f r) (tree-roll (o.Ident i))
+
+pub tree-punct : (p : Punct) (r : Toks) → s.tree (t.Punct p) r ≡ mark p r
+tree-punct p r = ap (λ x. s.tree x r) (sym (t.rolls-Punct p)) ∙ ap (λ f. f r) (tree-roll (o.Punct p))
+
+pub tree-literal : (l : Literal) (r : Toks) → s.tree (t.Literal l) r ≡ lit l r
+tree-literal l r = ap (λ x. s.tree x r) (sym (t.rolls-Literal l)) ∙ ap (λ f. f r) (tree-roll (o.Literal l))
+
+pub tree-group : (d : Delimiter) (c : TokenStream) (p : DelimSpan) (r : Toks) → s.tree (t.Group (group_of d c p)) r ≡ grouped d p (s.stream c) r
+tree-group d c p r =
+    ap (λ x. s.tree x r) (sym (t.rolls-Group (group_of d c p))) ∙ ap (λ f. f r) (tree-roll (o.Group (group_of d c p)))
+    ∙ ap (λ f. f r) (group-roll (record { delimiter = d; stream = c; span = p }))
+
+pub stream-trees : (l : List TokenTree) (r : Toks) → s.stream (stream_of_trees l) r ≡ row l r
+stream-trees l r = ap (λ f. f r) (stream-roll (record { trees = l }))
+
+-- ---- tokens with no invisible group
+
+pub visible-tree : (d : Delimiter) (c : TokenStream) (p : DelimSpan) (r : Toks) → IsVisible d → s.tree (t.Group (group_of d c p)) r ≡ group d p (toks c) r
+visible-tree Parenthesis c p r v = tree-group Parenthesis c p r
+visible-tree Brace c p r v = tree-group Brace c p r
+visible-tree Bracket c p r v = tree-group Bracket c p r
+visible-tree None c p r v = absurd v
+
+row-levels : (l : Toks) → Visible l → row (levels l).0 done ≡ l
+row-levels done v = refl
+row-levels (word i k) v = tree-ident i (row (levels k).0 done) ∙ ap (word i) (row-levels k v)
+row-levels (mark p k) v = tree-punct p (row (levels k).0 done) ∙ ap (mark p) (row-levels k v)
+row-levels (lit x k) v = tree-literal x (row (levels k).0 done) ∙ ap (lit x) (row-levels k v)
+row-levels (group d p c k) v =
+    visible-tree d (stream_of_trees (levels c).0) p (row (levels k).0 done) v.0
+    ∙ ap (λ z. group d p z (row (levels k).0 done)) (stream-trees (levels c).0 done ∙ row-levels c v.1)
+    ∙ ap (group d p c) (row-levels k v.2)
+row-levels (enter p k) v = absurd v
+row-levels (leave k) v = absurd v
+
+pub toks-stream_of : (l : Toks) → Visible l → toks (stream_of l) ≡ l
+unfolding stream_of
+toks-stream_of l v = stream-trees (levels l).0 done ∙ row-levels l v

@@ -1,0 +1,439 @@
+//! A stream: a position in a buffer, up to the end of its scope.
+
+ghost use Rattle.std.specs.Prelude.{◌≡◌, ◌≤◌, drop, length, option_map, IfSome};
+ghost use Rattle.token_core.specs.Reads as spec;
+ghost use Rattle.token_core.specs.Reads.{Reads, Follows};
+ghost use Rattle.token_core.specs.Refusal.{Made, fixed};
+ghost use Rattle.token_core.specs.Stream.{started};
+ghost use Rattle.token_core.specs.Trees.{content_of, delimiter_of, span_of, toks};
+ghost use Rattle.token_core.specs.Front.{front, settled, shows, past_ends, Linked};
+ghost use Rattle.std.specs.Str.{bytes_eq};
+
+use crate::buffer::{Front, TokenBuffer};
+use crate::cursor::Cursor;
+use crate::error::{Error, ErrorKind};
+use crate::mark::Spans;
+use crate::span::{DelimSpan, Span};
+use crate::text::Text;
+use crate::tree::{Delimiter, Group, Ident, Punct, Spacing, TokenStream};
+use std::alloc::Global;
+use std::marker::Model;
+
+/// A position in a buffer, with the span of the first left-over tree that was found in a finished group.
+#[derive(Drop)]
+pub struct ParseStream<'a> {
+    cursor: Cursor<'a>,
+    left: Option<Span>,
+    last: Span,
+    scope: Span,
+}
+
+impl<'a> Model for ParseStream<'a> {
+    ghost use Rattle.token_core.specs.Stream.{Stream, stream_code};
+
+    ghost Value = { Stream };
+
+    ghost coded = { stream_code };
+
+    ghost view = { λ s. record { rest = s.cursor; left = s.left; last = s.last; scope = s.scope } };
+}
+
+fn as_word<'a>(at: Front<'a>) -> Option<(&'a Ident, Cursor<'a>)>
+    ensures { option_map (λ p. (p.0.now, p.1)) result ≡ spec.as_word (shows at.entry) }
+{
+    match at {
+        Front::Word(ident, more) => Some((ident, more)),
+        Front::Mark(_, _) => None,
+        Front::Literal(_, _) => None,
+        Front::Group(_, _, _) => None,
+        Front::Done => None,
+    }
+}
+
+fn as_punct<'a>(at: Front<'a>) -> Option<(Punct, Cursor<'a>)>
+    ensures { option_map (λ p. (p.0, p.1)) result ≡ spec.as_punct (shows at.entry) }
+{
+    match at {
+        Front::Mark(punct, more) => Some((punct, more)),
+        Front::Word(_, _) => None,
+        Front::Literal(_, _) => None,
+        Front::Group(_, _, _) => None,
+        Front::Done => None,
+    }
+}
+
+fn as_group<'a>(at: Front<'a>) -> Option<(&'a Group, Cursor<'a>, Cursor<'a>)>
+    ensures shown { option_map (λ p. (delimiter_of p.0.now, span_of p.0.now, p.1, p.2)) result ≡ spec.as_group (shows at.entry) }
+    ensures linked { Linked at.entry → IfSome result (λ p. p.1 ≡ toks (content_of p.0.now)) }
+{
+    match at {
+        Front::Group(group, inside, after) => Some((group, inside, after)),
+        Front::Mark(_, _) => None,
+        Front::Literal(_, _) => None,
+        Front::Word(_, _) => None,
+        Front::Done => None,
+    }
+}
+
+fn three(first: Span, second: Span, third: Span) -> Spans
+    ensures { result ≡ spec.three first second third }
+{
+    Spans {
+        first,
+        second,
+        third,
+    }
+}
+
+fn put_first<'a>(span: Span, others: Option<(Spans, Cursor<'a>)>) -> Option<(Spans, Cursor<'a>)>
+    ensures { result ≡ spec.put_first span others.entry }
+{
+    match others {
+        Some((spans, more)) => Some((three(span, spans.first, spans.second), more)),
+        None => None,
+    }
+}
+
+/// What follows the marks from the `i`th on, each but the last Joint.
+#[tactic(auto, using(crate::proofs::Marks::marks))]
+fn past_mark<'a>(at: Cursor<'a>, marks: &[char], i: usize) -> Option<(Spans, Cursor<'a>)>
+    requires { i ≤ length marks.now }
+    ensures { result ≡ spec.past_mark (drop i marks.now) at.entry }
+{
+    if i == marks.len() {
+        let none = Span::none();
+        return Some((three(none, none, none), at));
+    }
+    match as_punct(at.next()) {
+        Some((punct, more)) => {
+            if punct.ch != marks[i] {
+                None
+            } else if i + 1 == marks.len() {
+                Some((three(punct.span, punct.span, punct.span), more))
+            } else if punct.spacing == Spacing::Joint {
+                put_first(punct.span, past_mark(more, marks, i + 1))
+            } else {
+                None
+            }
+        }
+        None => None,
+    }
+}
+
+impl<'a> ParseStream<'a> {
+    /// At the front of a buffer; the scope is where refusals at its end point.
+    pub fn new(buffer: &'a TokenBuffer<'_>, scope: Span) -> ParseStream<'a>
+        ensures { result ≡ started scope buffer.now }
+    {
+        ParseStream {
+            cursor: buffer.begin(),
+            left: None,
+            last: Span::none(),
+            scope,
+        }
+    }
+
+    /// The position.
+    pub fn cursor(&self) -> Cursor<'a>
+        ensures { result ≡ self.now.rest }
+    {
+        self.cursor.again()
+    }
+
+    /// The span of the tree just before the position, a group's by its closing delimiter, and 0 to 0 where there is none.
+    pub fn prev_span(&self) -> Span
+        ensures { result ≡ self.now.last }
+    {
+        self.last
+    }
+
+    /// Where refusals at the end point.
+    pub fn scope(&self) -> Span
+        ensures { result ≡ self.now.scope }
+    {
+        self.scope
+    }
+
+    /// The span of the first tree that was left over in a finished group.
+    pub fn left_over(&self) -> Option<Span>
+        ensures { result ≡ self.now.left }
+    {
+        self.left
+    }
+
+    /// Whether nothing but empty invisible groups is left.
+    #[tactic(auto, unfolding(crate::specs::Reads::is_done))]
+    pub fn is_empty(&self) -> bool
+        ensures { result ≡ spec.is_done self.now.rest }
+    {
+        match self.cursor.next() {
+            Front::Done => true,
+            Front::Word(_, _) => false,
+            Front::Mark(_, _) => false,
+            Front::Literal(_, _) => false,
+            Front::Group(_, _, _) => false,
+        }
+    }
+
+    /// The span of the first token, and where none is left the scope.
+    #[tactic(auto, unfolding(crate::specs::Reads::here))]
+    pub fn span(&self) -> Span
+        ensures { result ≡ spec.here self.now }
+    {
+        match self.cursor.next() {
+            Front::Done => self.scope,
+            Front::Word(ident, _) => ident.span,
+            Front::Mark(punct, _) => punct.span,
+            Front::Literal(literal, _) => literal.span,
+            Front::Group(group, _, _) => group.delim_span().open_(),
+        }
+    }
+
+    /// Where something is left, in a group that was finished or here, the span of the first such tree.
+    pub fn leaves(&self) -> Option<Span>
+        ensures { result ≡ spec.leaves self.now }
+    {
+        match self.left {
+            Some(span) => Some(span),
+            None => {
+                if self.is_empty() {
+                    None
+                } else {
+                    Some(self.span())
+                }
+            }
+        }
+    }
+
+    /// The caller's own refusal at the first token; at the end of input it says so.
+    pub fn error(&self, alloc: Global, text: &str) -> Error
+        ensures { Made result (spec.refused ErrorKind.Custom text.now self.now) }
+    {
+        self.refused(alloc, ErrorKind::Custom, text)
+    }
+
+    /// A refusal of a kind that has one text.
+    pub fn refuse(&self, alloc: Global, kind: ErrorKind) -> Error
+        ensures { Made result (spec.refused kind (fixed kind) self.now) }
+    {
+        self.refused(alloc, kind, kind.text())
+    }
+
+    /// A refusal where something else was expected.
+    #[tactic(auto, unfolding(crate::specs::Reads::expected_text))]
+    pub fn expected(&self, alloc: Global, name: &str) -> Error
+        ensures { Made result (spec.expected name.now self.now) }
+    {
+        match Text::joined(alloc, "expected ", name) {
+            Ok(text) => self.refused(alloc, ErrorKind::Expected, text.as_str()),
+            Err(_) => Error::out_of_memory(),
+        }
+    }
+
+    #[tactic(auto, unfolding(crate::specs::Reads::refused))]
+    fn refused(&self, alloc: Global, kind: ErrorKind, text: &str) -> Error
+        ensures { Made result (spec.refused kind text.now self.now) }
+    {
+        let at = self.span();
+        if self.is_empty() {
+            Error::stored(kind, Text::joined(alloc, "unexpected end of input, ", text), at, at)
+        } else {
+            Error::of(alloc, kind, text, at, at)
+        }
+    }
+
+    /// The same position, with no left-over tree.
+    pub fn fork(&self) -> ParseStream<'a>
+        ensures { result ≡ spec.forked self.now }
+    {
+        ParseStream {
+            cursor: self.cursor.again(),
+            left: None,
+            last: self.last,
+            scope: self.scope,
+        }
+    }
+
+    /// Goes on from a fork of this stream; its left-over tree is taken over where this one has none.
+    pub fn advance_to(&mut self, fork: ParseStream<'a>)
+        requires { spec.IsFork fork self.old }
+        ensures advanced { self.new ≡ spec.advanced self.old fork.entry }
+        ensures within { Follows self.old self.new }
+    {
+        let left = match self.left {
+            Some(span) => Some(span),
+            None => fork.left,
+        };
+        *self = ParseStream {
+            cursor: fork.cursor.again(),
+            left,
+            last: fork.last,
+            scope: fork.scope,
+        };
+    }
+
+    /// The stream after the first token, which ends at `last`.
+    fn past(&self, cursor: Cursor<'a>, last: Span) -> ParseStream<'a>
+        ensures { result ≡ spec.past self.now cursor.entry last }
+    {
+        ParseStream {
+            cursor,
+            left: self.left,
+            last,
+            scope: self.scope,
+        }
+    }
+
+    /// The same stream at another position.
+    fn at(&self, cursor: Cursor<'a>) -> ParseStream<'a>
+        ensures { result.rest ≡ cursor.entry }
+    {
+        self.past(cursor, self.last)
+    }
+
+    /// What follows the first tree; a lifetime counts as one, a group too.
+    #[tactic(auto, unfolding(crate::specs::Reads::after_one))]
+    pub(crate) fn after_one(&self) -> Option<ParseStream<'a>>
+        ensures { option_map (λ s. s.rest) result ≡ spec.after_one self.now.rest }
+    {
+        match self.cursor.next() {
+            Front::Done => None,
+            Front::Word(_, more) => Some(self.at(more)),
+            Front::Mark(punct, more) => Some(self.at(after_mark(punct, more))),
+            Front::Literal(_, more) => Some(self.at(more)),
+            Front::Group(_, _, more) => Some(self.at(more)),
+        }
+    }
+
+    /// Whether a mark of these characters is at the front.
+    #[tactic(auto, unfolding(crate::specs::Reads::sees_mark))]
+    pub fn peek_mark(&self, marks: &[char]) -> bool
+        ensures { result ≡ spec.sees_mark marks.now self.now.rest }
+    {
+        past_mark(self.cursor.again(), marks, 0).is_some()
+    }
+
+    /// Reads a mark of these characters, which refusals name so.
+    #[tactic(auto, using(crate::proofs::Suffixes::follows_self), unfolding(crate::specs::Reads::read_mark))]
+    pub fn read_mark(&mut self, alloc: Global, marks: &[char], name: &str) -> Result<Spans, Error>
+        ensures reads { Reads (spec.read_mark marks.now name.now self.old) result self.new }
+        ensures within { Follows self.old self.new }
+    {
+        match past_mark(self.cursor.again(), marks, 0) {
+            Some((spans, more)) => {
+                *self = self.past(more, spans.third);
+                Ok(spans)
+            }
+            None => Err(self.expected(alloc, name)),
+        }
+    }
+
+    /// Hands on the first left-over tree of a child stream.
+    #[tactic(auto, using(crate::proofs::Suffixes::firsts), unfolding(crate::specs::Reads::finished))]
+    pub fn finish(&mut self, child: ParseStream<'_>)
+        ensures finished { self.new ≡ spec.finished child.entry self.old }
+        ensures within { Follows self.old self.new }
+    {
+        let left = first_of(self.left, &child);
+        *self = ParseStream {
+            cursor: self.cursor.again(),
+            left,
+            last: self.last,
+            scope: self.scope,
+        };
+    }
+
+    /// Whether a group of this delimiter is at the front.
+    #[tactic(auto, unfolding(crate::specs::Reads::sees_group))]
+    pub fn peek_group(&self, delimiter: Delimiter) -> bool
+        ensures { result ≡ spec.sees_group delimiter self.now.rest }
+    {
+        match as_group(self.cursor.next()) {
+            Some((group, _, _)) => group.delimiter() == delimiter,
+            None => false,
+        }
+    }
+
+    /// The spans of the group of this delimiter at the front, which refusals name so, and a child stream of its content.
+    #[tactic(auto, using(crate::proofs::Suffixes::follows_self), unfolding(crate::specs::Reads::open_group))]
+    pub fn open_group(&mut self, alloc: Global, delimiter: Delimiter, name: &str) -> Result<(DelimSpan, ParseStream<'a>), Error>
+        ensures reads { Reads (spec.open_group delimiter name.now self.old) result self.new }
+        ensures within { Follows self.old self.new }
+    {
+        match as_group(self.cursor.next()) {
+            Some((group, inside, after)) => {
+                if group.delimiter() != delimiter {
+                    return Err(self.expected(alloc, name));
+                }
+                let span = group.delim_span();
+                *self = self.past(after, span.close());
+                Ok((span, content(span, inside)))
+            }
+            None => Err(self.expected(alloc, name)),
+        }
+    }
+
+    /// The delimiter, the spans and a copy of the content of the visible group at the front (`parse_delimiter`).
+    /// It goes on after the end of an invisible group but not into one.
+    #[tactic(auto, using(crate::proofs::Suffixes::follows_self), unfolding(crate::specs::Reads::delimited))]
+    pub fn delimited(&mut self, alloc: Global) -> Result<(Delimiter, DelimSpan, TokenStream), Error>
+        ensures reads { Reads (spec.delimited self.old) result self.new }
+        ensures within { Follows self.old self.new }
+    {
+        match as_group(self.cursor.next_outside()) {
+            Some((group, _, after)) => {
+                let stream = group.stream().copy(alloc)?;
+                let span = group.delim_span();
+                *self = self.past(after, span.close());
+                Ok((group.delimiter(), span, stream))
+            }
+            None => Err(self.refuse(alloc, ErrorKind::ExpectedDelimiter)),
+        }
+    }
+
+    /// The identifier at the front, and the stream after it.
+    #[tactic(auto, unfolding(crate::specs::Reads::next_word))]
+    pub(crate) fn next_ident(&self) -> Option<(&'a Ident, ParseStream<'a>)>
+        ensures { option_map (λ p. (p.0.now, p.1)) result ≡ spec.next_word self.now }
+    {
+        match as_word(self.cursor.next()) {
+            Some((ident, more)) => Some((ident, self.past(more, ident.span))),
+            None => None,
+        }
+    }
+}
+
+fn after_mark<'a>(punct: Punct, more: Cursor<'a>) -> Cursor<'a>
+    ensures { result ≡ spec.after_mark punct more.entry }
+{
+    if punct.ch == '\'' && punct.spacing == Spacing::Joint {
+        match as_word(more.next()) {
+            Some((_, after)) => after,
+            None => more,
+        }
+    } else {
+        more
+    }
+}
+
+/// The first left-over tree, here or in a child stream.
+fn first_of(left: Option<Span>, child: &ParseStream<'_>) -> Option<Span>
+    ensures { result ≡ spec.first_of left (spec.leaves child.now) }
+{
+    match left {
+        Some(span) => Some(span),
+        None => child.leaves(),
+    }
+}
+
+/// A child stream of the content of a group.
+fn content<'a>(span: DelimSpan, cursor: Cursor<'a>) -> ParseStream<'a>
+    ensures { result ≡ spec.inside span cursor.entry }
+{
+    ParseStream {
+        cursor,
+        left: None,
+        last: Span::none(),
+        scope: span.close(),
+    }
+}
