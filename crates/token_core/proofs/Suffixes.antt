@@ -12,7 +12,7 @@ use Rattle.token_core.specs.Toks.{Toks, done, word, mark, lit, group, enter, lea
 use Rattle.token_core.specs.Spans.{none}
 use Rattle.token_core.specs.Front.{front, past_ends, settled}
 use Rattle.token_core.specs.Stream.{Stream}
-use Rattle.token_core.specs.Reads.{IsSuffix, all_of, past_word, past_punct, past_lit, past_group, past_enter, past_leave, Follows, first_of, as_word, as_punct, as_group, past_next, past_mark, is_last, is_joint, put_first, three}
+use Rattle.token_core.specs.Reads.{IsSuffix, all_of, past_word, past_punct, past_lit, past_group, past_enter, past_leave, Follows, first_of, as_word, as_punct, as_group, past_next, past_mark, is_last, is_joint, put_first, three, word_past, next_word, past}
 
 pub suffix_trans : {a b c : Toks} → IsSuffix a b → IsSuffix b c → IsSuffix a c
 suffix_trans p all_of = p
@@ -103,17 +103,24 @@ suffix_mark [] t q e = let f : ◌≡◌ {A = Spans × Toks} (three none none no
 suffix_mark (c ∷ cs) t q e =
     suffix_next c (is_last cs) (past_mark cs) t q (as_punct (front t)) (λ p g. suffix_punct t p.0 p.1 g) (λ k p g. suffix_mark cs k p g) e
 
--- a stream that only goes on follows
-pub follows_past : (s : Stream) (k : Toks) (last : Span) → IsSuffix k s.rest → Follows s (record s { rest = k; last = last })
-follows_past s k last p = record { suffix = p; kept = first-same s.left; scope = refl }
-
 pub first-first : (a b : Option Span) → first_of a (first_of a b) ≡ first_of a b
 first-first None b = refl
 first-first (Some x) b = refl
 
-pub ruleset firsts = (first-first, all_of)
+-- a stream that only goes on follows
+pub follows_past : (s : Stream) (k : Toks) (last : Span) → IsSuffix k s.rest → Follows s (record s { rest = k; last = last })
+follows_past s k last p = record { suffix = p; kept = first-same s.left; scope = refl }
 
-pub ruleset follows = (follows_self, follows_trans)
+next_at : (s t : Stream) (w : Ident) (o : Option (Ident × Toks)) → ((i : Ident) (k : Toks) → o ≡ Some (i, k) → IsSuffix k s.rest) → word_past s o ≡ Some (w, t) → Follows s t
+next_at s t w None h e = cc
+next_at s t w (Some q) h e =
+    let f : ◌≡◌ {A = Ident × Stream} (q.0, past s q.1 q.0.span) (w, t) = cc in
+    subst (λ (x : Ident × Stream). Follows s x.1) f (follows_past s q.1 q.0.span (h q.0 q.1 refl))
+
+-- the stream after an identifier follows
+pub follows_word : (s t : Stream) (w : Ident) → next_word s ≡ Some (w, t) → Follows s t
+unfolding next_word
+follows_word s t w e = next_at s t w (as_word (front s.rest)) (λ i k g. suffix_word s.rest i k g) e
 
 pub as_group-settled : (t : Toks) → as_group (settled t) ≡ as_group t
 as_group-settled done = refl
@@ -123,3 +130,9 @@ as_group-settled (lit v r) = refl
 as_group-settled (group g z y r) = refl
 as_group-settled (enter s r) = refl
 as_group-settled (leave r) = refl
+
+pub ruleset firsts = (first-first, all_of)
+
+pub ruleset follows = (follows_self, follows_trans)
+
+pub ruleset words = (follows_self, follows_word)

@@ -10,7 +10,8 @@ pub mod Entries
 pub mod Front
 pub mod Stream
 pub mod Rebuilt
-pub mod Marks
 pub mod Keywords
 pub mod Reads
+pub mod Marks
+pub mod Prints
 pub mod ByFns

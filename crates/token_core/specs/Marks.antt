@@ -4,7 +4,9 @@ use Rattle.token_core.specs.declared.span.Span.{Span}
 use Rattle.token_core.specs.declared.mark.Spans.{Spans}
 use Rattle.token_core.specs.declared.mark.Mark.{Mark}
 use Rattle.token_core.specs.declared.word.Word.{Word}
+use Rattle.token_core.specs.declared.tree.Ident.{Ident}
 use Rattle.token_core.specs.Toks.{Bytes}
+use Rattle.token_core.specs.Reads.{Reader, ◌<$>◌, read_mark, read_word, is_text}
 
 -- the characters of a mark
 abbrev pub chars_of : ℕ → List ℕ
@@ -40,3 +42,10 @@ mark_of n l s = record { spans = spread l s }
 
 abbrev pub word_of : (n : ℕ) → Span → Word n
 word_of n s = record { span = s }
+
+-- the reader of a mark, and of a word
+abbrev pub read : (n l : ℕ) → Reader (Mark n l)
+read n l = mark_of n l <$> read_mark (chars_of n) (mark_name n)
+
+abbrev pub read_named : (n : ℕ) → Reader (Word n)
+read_named n = (λ (i : Ident). word_of n i.span) <$> read_word (is_text (text_of n)) (word_name n)

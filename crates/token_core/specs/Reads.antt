@@ -19,6 +19,7 @@ use Rattle.token_core.specs.Toks.{Bytes, Toks, done, word, mark, lit, group, ent
 use Rattle.token_core.specs.Spans.{none}
 use Rattle.token_core.specs.Refusal.{Refusal, refusal, fixed}
 use Rattle.token_core.specs.Front.{front, past_ends}
+use Rattle.token_core.specs.Keywords.{is_keyword}
 use Rattle.token_core.specs.Rebuilt.{stream_of}
 use Rattle.token_core.specs.Stream.{Stream, started}
 
@@ -222,11 +223,14 @@ read_word test name s = word_if test (expected name s) (next_word s)
 abbrev pub any_text : Bytes → Bool
 any_text t = true
 
+abbrev pub is_ident : Bytes → Bool
+is_ident t = not (is_keyword t)
+
+abbrev pub is_text : Bytes → Bytes → Bool
+is_text w t = bytes_eq t w
+
 abbrev pub ident_name : Bytes
 ident_name = codes "identifier"
-
-unfoldable pub read_any_ident : Reader Ident
-read_any_ident = read_word any_text ident_name
 
 -- ---- groups
 
@@ -358,3 +362,15 @@ WholeRead reads refuses s (Err e) = e.kind ≢ OutOfMemory → Refuses reads ref
 abbrev pub Promised : {A : Type 0} → (Option A → Type 0) → Result A Refusal → Type 0
 Promised promise (Ok a) = promise (Some a)
 Promised promise (Err e) = e.kind ≢ OutOfMemory → promise None
+
+-- where nothing is promised
+pub nothing_promised : {A : Type 0} (r : Result A Refusal) → Promised (λ (o : Option A). Unit {0}) r
+nothing_promised (Ok a) = tt
+nothing_promised (Err e) = λ h. tt
+
+-- the relations of a read whose outcome is a function
+abbrev pub Gives : {A : Type 0} → Reader A → Stream → A → Stream → Type 0
+Gives f s a new = f s ≡ Ok (a, new)
+
+abbrev pub Fails : {A : Type 0} → Reader A → Stream → Refusal → Type 0
+Fails f s e = f s ≡ Err e

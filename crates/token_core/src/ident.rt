@@ -38,3 +38,86 @@ fn is_one_of(words: &[&str], text: &str) -> bool
     }
     false
 }
+
+impl<'a> ParseStream<'a> {
+    /// Lends the identifier at the front, keywords and `_` too.
+    #[tactic(auto, using(crate::proofs::Suffixes::words), unfolding(crate::specs::Reads::read_word))]
+    pub fn read_any_ident(&mut self, alloc: Global) -> Result<&'a Ident, Error>
+        ensures reads { Reads (spec.read_word spec.any_text spec.ident_name self.old) (lent result) self.new }
+        ensures within { Follows self.old self.new }
+    {
+        match self.next_ident() {
+            Some((ident, more)) => {
+                *self = more;
+                Ok(ident)
+            }
+            None => Err(self.expected(alloc, "identifier")),
+        }
+    }
+
+    /// Lends the identifier at the front, if it is no keyword.
+    #[tactic(auto, using(crate::proofs::Suffixes::words), unfolding(crate::specs::Reads::read_word))]
+    pub fn read_ident(&mut self, alloc: Global) -> Result<&'a Ident, Error>
+        ensures reads { Reads (spec.read_word spec.is_ident spec.ident_name self.old) (lent result) self.new }
+        ensures within { Follows self.old self.new }
+    {
+        match self.next_ident() {
+            Some((ident, more)) => {
+                if is_keyword(ident.text()) {
+                    return Err(self.expected(alloc, "identifier"));
+                }
+                *self = more;
+                Ok(ident)
+            }
+            None => Err(self.expected(alloc, "identifier")),
+        }
+    }
+
+    /// Lends the identifier of this text at the front, which refusals name so.
+    #[tactic(auto, using(crate::proofs::Suffixes::words), unfolding(crate::specs::Reads::read_word))]
+    pub fn read_word(&mut self, alloc: Global, text: &str, name: &str) -> Result<&'a Ident, Error>
+        ensures reads { Reads (spec.read_word (spec.is_text text.now) name.now self.old) (lent result) self.new }
+        ensures within { Follows self.old self.new }
+    {
+        match self.next_ident() {
+            Some((ident, more)) => {
+                if !ident.text.is(text) {
+                    return Err(self.expected(alloc, name));
+                }
+                *self = more;
+                Ok(ident)
+            }
+            None => Err(self.expected(alloc, name)),
+        }
+    }
+
+    /// Whether an identifier is at the front, keywords and `_` too.
+    #[tactic(auto, unfolding(crate::specs::Reads::sees_word, crate::specs::Reads::next_word))]
+    pub fn peek_any_ident(&self) -> bool
+        ensures { result ≡ spec.sees_word spec.any_text self.now.rest }
+    {
+        self.next_ident().is_some()
+    }
+
+    /// Whether an identifier that is no keyword is at the front.
+    #[tactic(auto, unfolding(crate::specs::Reads::sees_word, crate::specs::Reads::next_word))]
+    pub fn peek_ident(&self) -> bool
+        ensures { result ≡ spec.sees_word spec.is_ident self.now.rest }
+    {
+        match self.next_ident() {
+            Some((ident, _)) => !is_keyword(ident.text()),
+            None => false,
+        }
+    }
+
+    /// Whether the identifier of this text is at the front.
+    #[tactic(auto, unfolding(crate::specs::Reads::sees_word, crate::specs::Reads::next_word))]
+    pub fn peek_word(&self, text: &str) -> bool
+        ensures { result ≡ spec.sees_word (spec.is_text text.now) self.now.rest }
+    {
+        match self.next_ident() {
+            Some((ident, _)) => ident.text.is(text),
+            None => false,
+        }
+    }
+}

@@ -1,0 +1,38 @@
+-- What tokens print: a printed mark ends Alone.
+use Rattle.std.specs.Prelude.{ℕ, List, [], ◌∷◌}
+use Rattle.token_core.specs.declared.span.Span.{Span}
+use Rattle.token_core.specs.declared.span.DelimSpan.{DelimSpan}
+use Rattle.token_core.specs.declared.mark.Mark.{Mark}
+use Rattle.token_core.specs.declared.word.Word.{Word}
+use Rattle.token_core.specs.declared.tree.Delimiter.{Delimiter}
+use Rattle.token_core.specs.declared.tree.Ident.{Ident}
+use Rattle.token_core.specs.declared.tree.Spacing.TheVariants.{Joint, Alone}
+use Rattle.token_core.specs.declared.tree.TokenStream.{TokenStream}
+use Rattle.token_core.specs.declared.tree.TokenTree.{TokenTree}
+use Rattle.token_core.specs.declared.tree.TokenTree.TheVariants as t
+use Rattle.token_core.specs.Marks.{chars_of, text_of}
+use Rattle.token_core.specs.Spans.{none}
+use Rattle.token_core.specs.Trees as s
+
+abbrev pub Print : Type 0
+Print = List TokenTree
+
+abbrev pub ident : Ident → Print
+ident i = t.Ident i ∷ []
+
+-- the characters with their spans, each but the last Joint
+abbrev pub puncts : List ℕ → List Span → Print
+puncts [] ss = []
+puncts (c ∷ []) [] = t.Punct (s.punct c Alone none) ∷ []
+puncts (c ∷ []) (a ∷ ss) = t.Punct (s.punct c Alone a) ∷ []
+puncts (c ∷ d ∷ cs) [] = t.Punct (s.punct c Joint none) ∷ puncts (d ∷ cs) []
+puncts (c ∷ d ∷ cs) (a ∷ ss) = t.Punct (s.punct c Joint a) ∷ puncts (d ∷ cs) ss
+
+abbrev pub mark : {n l : ℕ} → Mark n l → Print
+mark {n = n} m = puncts (chars_of n) m.spans
+
+abbrev pub word : {n : ℕ} → Word n → Print
+word {n = n} w = t.Ident (s.ident (text_of n) w.span) ∷ []
+
+abbrev pub group : Delimiter → TokenStream → DelimSpan → Print
+group d c p = t.Group (s.group_of d c p) ∷ []

@@ -1,0 +1,123 @@
+//! What reads from a stream, and whole reads.
+
+ghost use Rattle.std.specs.Prelude.{◌≡◌, Bool, Option, Result, Ok};
+ghost use Rattle.token_core.specs.Toks.{Bytes, Toks};
+ghost use Rattle.token_core.specs.Trees.{toks};
+ghost use Rattle.token_core.specs.Spans.{none};
+ghost use Rattle.token_core.specs.Refusal.{Refusal};
+ghost use Rattle.token_core.specs.Stream.{Stream, started};
+ghost use Rattle.token_core.specs.ByFns.{CanParse, Answers, RefusesBy};
+ghost use Rattle.token_core.specs.Reads.{Follows, Parsed, WholeRead, Promised};
+
+use crate::buffer::TokenBuffer;
+use crate::error::{Error, ErrorKind};
+use crate::parse_stream::ParseStream;
+use crate::span::Span;
+use crate::tree::TokenStream;
+use std::alloc::Global;
+
+/// A token that a stream may be tested for.
+pub trait Token: Sized {
+    /// Whether it is at the front of these tokens.
+    ghost sees: { Toks → Bool };
+
+    /// How refusals name it.
+    ghost name: { Bytes };
+
+    fn peek(input: &ParseStream<'_>) -> bool
+        ensures { result ≡ sees input.now.rest };
+
+    fn display() -> &'static str
+        ensures { result.now ≡ name };
+}
+
+/// What can be read from a stream.
+pub trait Parse: Sized + Drop {
+    /// A read of the first stream may answer this and leave the second.
+    ghost reads: { Stream → Self → Stream → Type 0 };
+
+    /// A read of the stream may be refused so.
+    ghost refuses: { Stream → Refusal → Type 0 };
+
+    /// What a whole read of these tokens promises of its answer, and of a refusal; nothing, where a type promises nothing.
+    ghost promise: { Toks → Option Self → Type 0 } = { λ _ _. Unit {0} };
+
+    fn parse(alloc: Global, input: &mut ParseStream<'_>) -> Result<Self, Error>
+        ensures reads { Parsed (reads input.old) (refuses input.old) result input.new }
+        ensures within { Follows input.old input.new };
+
+    /// The promise is kept.
+    ghost kept: { (l : Toks) (s : _) (r : Result Self Refusal) → WholeRead reads refuses (started s l) r → Promised (promise l) r };
+}
+
+/// Reads all of a list.
+pub fn read_all<T: Parse>(alloc: Global, tokens: &TokenStream) -> Result<T, Error>
+    ensures reads { WholeRead T.reads T.refuses (started none (toks tokens.now)) result }
+    ensures promise { Promised (T.promise (toks tokens.now)) result }
+{
+    whole(alloc, tokens)
+}
+
+fn whole<T: Parse>(alloc: Global, tokens: &TokenStream) -> Result<T, Error>
+    ensures { WholeRead T.reads T.refuses (started none (toks tokens.now)) result }
+{
+    let buffer = TokenBuffer::new(alloc, tokens)?;
+    let mut input = ParseStream::new(&buffer, Span::none());
+    let answer = T::parse(alloc, &mut input)?;
+    match input.leaves() {
+        None => Ok(answer),
+        Some(span) => Err(Error::named(alloc, ErrorKind::Unexpected, span)),
+    }
+}
+
+/// What reads from a stream once.
+pub trait Parser {
+    type Output: Drop;
+
+    /// It may be called.
+    ghost can_parse: { Self → Type 0 };
+
+    /// A read of the first stream may answer this and leave the second.
+    ghost reads: { Self → Stream → Self.Output → Stream → Type 0 };
+
+    /// A read of the stream may be refused so.
+    ghost refuses: { Self → Stream → Refusal → Type 0 };
+
+    fn parse(self, alloc: Global, input: &mut ParseStream<'_>) -> Result<Self::Output, Error>
+        requires { can_parse self }
+        ensures reads { Parsed (reads self input.old) (refuses self input.old) result input.new }
+        ensures within { Follows input.old input.new };
+}
+
+/// Reads all of a list by a parser.
+pub fn read_all_with<P: Parser + Drop>(parser: P, alloc: Global, tokens: &TokenStream) -> Result<P::Output, Error>
+    requires { P.can_parse parser }
+    ensures { WholeRead (P.reads parser) (P.refuses parser) (started none (toks tokens.now)) result }
+{
+    let buffer = TokenBuffer::new(alloc, tokens)?;
+    let mut input = ParseStream::new(&buffer, Span::none());
+    let answer = parser.parse(alloc, &mut input)?;
+    match input.leaves() {
+        None => Ok(answer),
+        Some(span) => Err(Error::named(alloc, ErrorKind::Unexpected, span)),
+    }
+}
+
+/// A function or a closure as a parser.
+#[derive(Drop)]
+pub struct ByFn<F>(pub F);
+
+impl<T: Drop, F: FnOnce(Global, &mut ParseStream<'_>) -> Result<T, Error>> Parser for ByFn<F> {
+    type Output = T;
+
+    ghost can_parse = { λ p. CanParse (F.pre p.0) (F.post p.0) };
+
+    ghost reads = { λ p old a new. Answers (F.post p.0) old (Ok a) new };
+
+    ghost refuses = { λ p old. RefusesBy (F.post p.0) old };
+
+    fn parse(self, alloc: Global, input: &mut ParseStream<'_>) -> Result<T, Error> {
+        let ByFn(f) = self;
+        f(alloc, input)
+    }
+}
