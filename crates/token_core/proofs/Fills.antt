@@ -1,5 +1,5 @@
 -- A buffer as it is filled.
-use Rattle.std.proofs.Common.{◌≡◌, ℕ, suc, ◌+◌, ◌-◌, ◌<◌, ◌≤◌, List, [], ◌∷◌, ◌++◌, map, length, take, get_or, refl, sym, ap, ◌∙◌, append_assoc, append-nil, arith}
+use Rattle.std.proofs.Common.{◌≡◌, ℕ, ◌+◌, ◌-◌, ◌<◌, List, [], ◌∷◌, ◌++◌, map, length, take, get_or, refl, sym, ap, ◌∙◌, append_assoc, append-nil, arith}
 use Rattle.std.proofs.Math.ListN.{set, length-map}
 use Rattle.std.proofs.lemmas.List.{map-append, map-set, length-append, map_more}
 use Rattle.token_core.specs.declared.buffer.Entry.{Entry}
@@ -29,7 +29,7 @@ module _ (old filled : List Entry) (e0 e1 e2 : Entry) (l : Flat) (h : map saw fi
   group_filled =
       map-append saw (set filled (length old) e1) (e2 ∷ [])
       ∙ ap (λ x. x ++ saw e2 ∷ []) (map-set saw filled (length old) e1 ∙ ap (λ x. set x (length old) (saw e1)) front_is
-        ∙ ap (λ i. set ((map saw old ++ saw e0 ∷ []) ++ l) i (saw e1)) (sym (length-map old saw)) ∙ set_at (map saw old) (saw e0) (saw e1) l)
+      ∙ ap (λ i. set ((map saw old ++ saw e0 ∷ []) ++ l) i (saw e1)) (sym (length-map old saw)) ∙ set_at (map saw old) (saw e0) (saw e1) l)
       ∙ append_assoc (map saw old) (saw e1 ∷ l) (saw e2 ∷ [])
 
   pub group_count : length filled - length old - 1 ≡ length l

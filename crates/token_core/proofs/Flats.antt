@@ -1,16 +1,16 @@
 -- The entries of trees: their equations, that they nest, and the tokens that they show.
-use Rattle.std.proofs.Common.{◌≡◌, ℕ, zero, suc, ◌+◌, ◌≤◌, List, [], ◌∷◌, ◌++◌, map, length, take, drop, refl, sym, ap, subst, ◌∙◌, append_assoc, append-nil, arith, add-one}
-use Rattle.std.proofs.lemmas.List.{length-append, take-append-le, length-take}
+use Rattle.std.proofs.Common.{◌≡◌, ℕ, suc, ◌+◌, ◌≤◌, List, [], ◌∷◌, ◌++◌, map, length, take, drop, refl, sym, ap, subst, ◌∙◌, append_assoc, append-nil, arith, add-one}
+use Rattle.std.proofs.lemmas.List.{take-append-le, length-take}
 use Rattle.token_core.specs.declared.tree.Delimiter.{Delimiter}
 use Rattle.token_core.specs.declared.tree.Delimiter.TheVariants.{Parenthesis, Brace, Bracket, None}
 use Rattle.token_core.specs.declared.span.DelimSpan.{DelimSpan}
 use Rattle.token_core.specs.declared.tree.TokenTree.{TokenTree, out-TokenTree, roll-TokenTree, map-TokenTree, roll-out-TokenTree}
 use Rattle.token_core.specs.declared.tree.TokenTree.TheVariants as t
 use Rattle.token_core.specs.declared.tree.TokenTree.TheOpen as o
-use Rattle.token_core.specs.declared.tree.TokenTree.TheFolds.{fold-roll-TokenTree, fold-roll-Group, fold-roll-TokenStream, ind-TokenTree, ind-Group, ind-TokenStream}
+use Rattle.token_core.specs.declared.tree.TokenTree.TheFolds.{fold-roll-TokenTree, fold-roll-Group, fold-roll-TokenStream, ind-TokenStream}
 use Rattle.token_core.specs.declared.tree.Group.{Group, out-Group, roll-Group, map-Group, roll-out-Group}
 use Rattle.token_core.specs.declared.tree.TokenStream.{TokenStream, out-TokenStream, roll-TokenStream, map-TokenStream, roll-out-TokenStream}
-use Rattle.token_core.specs.Toks.{Toks, done, word, mark, lit, group, enter, leave}
+use Rattle.token_core.specs.Toks.{group, enter}
 use Rattle.token_core.specs.Trees as s
 use Rattle.token_core.specs.Trees.{Before, trees, group_of, stream_of_trees, delimiter_of, content_of, span_of, all, grouped, toks}
 use Rattle.token_core.specs.Seen.{Seen, view, saw_word, saw_mark, saw_lit, saw_group, saw_enter, saw_leave, saw_delimiter, view-nil, view-word, view-mark, view-lit, view-group, view-enter, view-leave}

@@ -1,5 +1,5 @@
 -- Entries at a place of a buffer, and the tokens that they show.
-use Rattle.std.proofs.Common.{◌≡◌, ℕ, zero, suc, ◌+◌, ◌<◌, ◌≤◌, Bool, true, false, List, [], ◌∷◌, map, length, get_or, take, drop, sym, ◌∙◌, ap, refl, subst}
+use Rattle.std.proofs.Common.{◌≡◌, ℕ, zero, suc, ◌+◌, ◌<◌, ◌≤◌, true, false, List, [], ◌∷◌, map, length, get_or, take, drop, sym, ◌∙◌, ap, refl, subst}
 use Rattle.std.proofs.lemmas.List.{drop_more, take-map, drop-map}
 use Rattle.std.proofs.Math.ListN.{drop_of_length-le}
 use Rattle.token_core.specs.declared.buffer.Entry.{Entry}

@@ -4,3 +4,5 @@ pub mod Fills
 pub mod Marks
 pub mod Suffixes
 pub mod Rebuilds
+pub mod Lists
+pub mod Puts

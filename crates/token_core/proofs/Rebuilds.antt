@@ -15,7 +15,7 @@ use Rattle.token_core.specs.declared.tree.TokenStream.{TokenStream, roll-TokenSt
 use Rattle.token_core.specs.Toks.{Toks, done, word, mark, lit, group, enter, leave}
 use Rattle.token_core.specs.Trees as s
 use Rattle.token_core.specs.Trees.{Before, trees, group_of, stream_of_trees, all, grouped, toks, row}
-use Rattle.token_core.specs.Rebuilt.{Levels, onto, invisible, enclose, levels, stream_of, Visible, IsVisible}
+use Rattle.token_core.specs.Rebuilt.{Levels, onto, enclose, levels, stream_of, Visible, IsVisible}
 use Rattle.token_core.proofs.Flats.{tree-roll, group-roll, stream-roll}
 
 abbrev before : List TokenTree → Levels → Levels

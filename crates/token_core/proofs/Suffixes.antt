@@ -1,8 +1,6 @@
 -- Where a read leaves a stream.
-use Rattle.std.proofs.Common.{◌≡◌, ℕ, Bool, true, false, List, [], ◌∷◌, Option, Some, None, refl, sym, ◌∙◌, ap, subst, ◌==◌, if◌then◌else◌}
+use Rattle.std.proofs.Common.{◌≡◌, ℕ, Bool, true, false, List, [], ◌∷◌, Option, Some, None, refl, ◌∙◌, ap, subst, ◌==◌, if◌then◌else◌}
 use Rattle.token_core.specs.declared.tree.Delimiter.{Delimiter}
-use Rattle.token_core.specs.declared.tree.Spacing.{Spacing}
-use Rattle.token_core.specs.declared.tree.Spacing.TheVariants.{Joint, Alone}
 use Rattle.token_core.specs.declared.span.DelimSpan.{DelimSpan}
 use Rattle.token_core.specs.declared.tree.Ident.{Ident}
 use Rattle.token_core.specs.declared.tree.Punct.{Punct}

@@ -1,5 +1,5 @@
 -- The words that are no `Ident`.
-use Rattle.std.specs.Prelude.{Bool, true, false, List, [], ◌∷◌, ◌||◌, codes}
+use Rattle.std.specs.Prelude.{Bool, false, List, [], ◌∷◌, ◌||◌, codes}
 use Rattle.std.specs.Str.{bytes_eq}
 use Rattle.token_core.specs.Toks.{Bytes}
 

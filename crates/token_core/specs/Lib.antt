@@ -15,3 +15,6 @@ pub mod Reads
 pub mod Marks
 pub mod Prints
 pub mod ByFns
+pub mod Joined
+pub mod Lists
+pub mod Groups

@@ -1,5 +1,5 @@
 -- A code for tokens: their pieces in order, brackets in pairs.
-use Rattle.std.specs.Prelude.{◌≡◌, ℕ, Bool, true, false, List, [], ◌∷◌, ◌++◌, refl, ◌⊎◌}
+use Rattle.std.specs.Prelude.{◌≡◌, Bool, true, false, List, [], ◌∷◌, ◌++◌, refl, ◌⊎◌}
 use Rattle.std.proofs.Common.{ap, ◌∙◌, inl, inr, append_assoc}
 use Rattle.std.specs.Coded.{Coded, code_by, coded×, coded⊎, coded_bool, coded_list}
 use Rattle.token_core.specs.declared.tree.Delimiter.{Delimiter}

@@ -1,5 +1,5 @@
 -- What tokens print: a printed mark ends Alone.
-use Rattle.std.specs.Prelude.{ℕ, List, [], ◌∷◌}
+use Rattle.std.specs.Prelude.{◌≡◌, ℕ, List, [], ◌∷◌, take, length}
 use Rattle.token_core.specs.declared.span.Span.{Span}
 use Rattle.token_core.specs.declared.span.DelimSpan.{DelimSpan}
 use Rattle.token_core.specs.declared.mark.Mark.{Mark}
@@ -36,3 +36,7 @@ word {n = n} w = t.Ident (s.ident (text_of n) w.span) ∷ []
 
 abbrev pub group : Delimiter → TokenStream → DelimSpan → Print
 group d c p = t.Group (s.group_of d c p) ∷ []
+
+-- what stood before is kept
+abbrev pub Extends : Print → Print → Type 0
+Extends old new = take (length old) new ≡ old

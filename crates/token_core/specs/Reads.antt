@@ -1,5 +1,5 @@
 -- What the tests and reads of a stream answer, and where they leave it.
-use Rattle.std.specs.Prelude.{◌≡◌, ◌≢◌, ℕ, Bool, true, false, ◌&&◌, ◌||◌, not, ◌⊎◌, ◌==◌, if◌then◌else◌, List, [], ◌∷◌, ◌++◌, Option, Some, None, is_some, Result, Ok, Err, codes}
+use Rattle.std.specs.Prelude.{◌≡◌, ◌≢◌, ℕ, Bool, true, false, not, ◌⊎◌, ◌==◌, if◌then◌else◌, List, [], ◌∷◌, ◌++◌, Option, Some, None, is_some, Result, Ok, Err, codes}
 use Rattle.std.specs.Str.{bytes_eq}
 use denote.Ref.{Bor}
 use Rattle.token_core.specs.declared.tree.Delimiter.{Delimiter}
@@ -319,11 +319,6 @@ abbrev pub lent : Result (Bor Ident) Refusal → Result Ident Refusal
 lent (Ok i) = Ok i.now
 lent (Err e) = Err e
 
--- the token of a group, and its child stream
-abbrev pub child : {T : Type 0} → (DelimSpan → T) → Outcome (DelimSpan × Stream) → Outcome (T × Stream)
-child f (Ok p) = Ok ((f p.0.0, p.0.1), p.1)
-child f (Err e) = Err e
-
 -- ---- what a later state of a stream keeps
 
 -- a later state of a stream: at a suffix, with the left-over token that it had, in the same scope
@@ -374,3 +369,12 @@ Gives f s a new = f s ≡ Ok (a, new)
 
 abbrev pub Fails : {A : Type 0} → Reader A → Stream → Refusal → Type 0
 Fails f s e = f s ≡ Err e
+
+-- ---- a token that may be there
+
+abbrev pub OptionReads : {A : Type 0} → (Toks → Bool) → (Stream → A → Stream → Type 0) → Stream → Option A → Stream → Type 0
+OptionReads sees reads s None new = (sees s.rest ≡ false) × (new ≡ s)
+OptionReads sees reads s (Some a) new = (sees s.rest ≡ true) × reads s a new
+
+abbrev pub OptionRefuses : (Toks → Bool) → (Stream → Refusal → Type 0) → Stream → Refusal → Type 0
+OptionRefuses sees refuses s e = (sees s.rest ≡ true) × refuses s e

@@ -96,7 +96,12 @@ impl Error {
         Error::stored(kind, Text::from_str(alloc, text), start, end)
     }
 
-    pub(crate) fn stored(kind: ErrorKind, text: Result<Text, AllocError>, start: Span, end: Span) -> Error
+    pub(crate) fn stored(
+        kind: ErrorKind,
+        text: Result<Text, AllocError>,
+        start: Span,
+        end: Span,
+    ) -> Error
         ensures ok { IfOk text (λ t. spec.Made result (spec.refusal kind t start end)) }
         ensures err { OnErr text (result ≡ spec.out_of_memory) }
     {

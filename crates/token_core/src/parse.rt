@@ -90,7 +90,11 @@ pub trait Parser {
 }
 
 /// Reads all of a list by a parser.
-pub fn read_all_with<P: Parser + Drop>(parser: P, alloc: Global, tokens: &TokenStream) -> Result<P::Output, Error>
+pub fn read_all_with<P: Parser + Drop>(
+    parser: P,
+    alloc: Global,
+    tokens: &TokenStream,
+) -> Result<P::Output, Error>
     requires { P.can_parse parser }
     ensures { WholeRead (P.reads parser) (P.refuses parser) (started none (toks tokens.now)) result }
 {

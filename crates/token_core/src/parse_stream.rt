@@ -236,7 +236,12 @@ impl<'a> ParseStream<'a> {
     {
         let at = self.span();
         if self.is_empty() {
-            Error::stored(kind, Text::joined(alloc, "unexpected end of input, ", text), at, at)
+            Error::stored(
+                kind,
+                Text::joined(alloc, "unexpected end of input, ", text),
+                at,
+                at,
+            )
         } else {
             Error::of(alloc, kind, text, at, at)
         }
@@ -356,7 +361,12 @@ impl<'a> ParseStream<'a> {
 
     /// The spans of the group of this delimiter at the front, which refusals name so, and a child stream of its content.
     #[tactic(auto, using(crate::proofs::Suffixes::follows_self), unfolding(crate::specs::Reads::open_group))]
-    pub fn open_group(&mut self, alloc: Global, delimiter: Delimiter, name: &str) -> Result<(DelimSpan, ParseStream<'a>), Error>
+    pub fn open_group(
+        &mut self,
+        alloc: Global,
+        delimiter: Delimiter,
+        name: &str,
+    ) -> Result<(DelimSpan, ParseStream<'a>), Error>
         ensures reads { Reads (spec.open_group delimiter name.now self.old) result self.new }
         ensures within { Follows self.old self.new }
     {

@@ -1,25 +1,26 @@
 //! Named marks and words, and the tokens of groups. They stand in a module of their own, since some bear names of the prelude.
 
-ghost use Rattle.std.specs.Prelude.{◌≡◌, ◌∷◌, [], List, map};
+ghost use Rattle.std.specs.Prelude.{◌≡◌, ◌++◌, OnOk, OnErr};
+ghost use Rattle.token_core.specs.Trees.{trees};
 ghost use Rattle.token_core.specs.declared.tree.Delimiter.TheVariants as delimiter;
+ghost use Rattle.token_core.specs.Groups as groups;
 ghost use Rattle.token_core.specs.Marks as marks;
 ghost use Rattle.token_core.specs.Prints as prints;
 ghost use Rattle.token_core.specs.Reads as spec;
-ghost use Rattle.token_core.specs.Reads.{Gives, Fails, nothing_promised};
+ghost use Rattle.token_core.specs.Reads.{Reads, Parsed, Follows, Gives, Fails, nothing_promised};
 ghost use Rattle.token_core.specs.Spans as spans;
 
 use crate::error::Error;
+pub use crate::mark::Mark;
 use crate::mark::{mark_chars, mark_name, spread};
 use crate::parse::{Parse, Token};
 use crate::parse_stream::ParseStream;
 use crate::span::{DelimSpan, Span};
 use crate::to_tokens::ToTokens;
 use crate::tree::{Delimiter, Group, Ident, Punct, Spacing, TokenStream, TokenTree};
+pub use crate::word::Word;
 use crate::word::{word_name, word_text};
 use std::alloc::{AllocError, Global};
-
-pub use crate::mark::Mark;
-pub use crate::word::Word;
 
 /// `!`
 pub type Not = Mark<0, 1>;
@@ -167,5 +168,271 @@ impl<const N: u32> ToTokens for Word<N> {
     fn to_tokens(&self, alloc: Global, out: &mut TokenStream) -> Result<(), AllocError> {
         let ident = Ident::new(alloc, word_text(N), self.span)?;
         out.push(TokenTree::Ident(ident))
+    }
+}
+
+impl<const N: u32, const LEN: usize> ToTokens for Mark<N, LEN> {
+    ghost print = { prints.mark };
+
+    fn to_tokens(&self, _alloc: Global, out: &mut TokenStream) -> Result<(), AllocError> {
+        let before = out.len();
+        match put_puncts(mark_chars(N), &self.spans, out) {
+            Ok(()) => Ok(()),
+            Err(error) => {
+                out.truncate(before);
+                Err(error)
+            }
+        }
+    }
+}
+
+/// Mark characters with their spans, each but the last Joint; refused, what stood before is kept.
+#[tactic(auto, using(crate::proofs::Puts::puts))]
+fn put_puncts(chars: &[char], spans: &[Span], out: &mut TokenStream) -> Result<(), AllocError>
+    ensures ok { OnOk result (trees out.new ≡ trees out.old ++ prints.puncts chars.now spans.now) }
+    ensures err { OnErr result (prints.Extends (trees out.old) (trees out.new)) }
+{
+    let mut at = 0;
+    'chars: while at < chars.len() {
+        let spacing = if at + 1 < chars.len() {
+            Spacing::Joint
+        } else {
+            Spacing::Alone
+        };
+        let span = if at < spans.len() {
+            spans[at]
+        } else {
+            Span::none()
+        };
+        out.push(TokenTree::Punct(Punct::new(chars[at], spacing, span)))?;
+        at += 1;
+    }
+    Ok(())
+}
+
+/// `( )`
+#[derive(Clone, Copy)]
+pub struct Paren {
+    pub span: DelimSpan,
+}
+
+/// `{ }`
+#[derive(Clone, Copy)]
+pub struct Brace {
+    pub span: DelimSpan,
+}
+
+/// `[ ]`
+#[derive(Clone, Copy)]
+pub struct Bracket {
+    pub span: DelimSpan,
+}
+
+impl Default for Paren {
+    ghost is_default = { λ p. p ≡ groups.paren (spans.delim_span spans.none spans.none) };
+
+    fn default() -> Paren {
+        Paren {
+            span: DelimSpan::new(Span::none(), Span::none()),
+        }
+    }
+}
+
+impl Default for Brace {
+    ghost is_default = { λ p. p ≡ groups.brace (spans.delim_span spans.none spans.none) };
+
+    fn default() -> Brace {
+        Brace {
+            span: DelimSpan::new(Span::none(), Span::none()),
+        }
+    }
+}
+
+impl Default for Bracket {
+    ghost is_default = { λ p. p ≡ groups.bracket (spans.delim_span spans.none spans.none) };
+
+    fn default() -> Bracket {
+        Bracket {
+            span: DelimSpan::new(Span::none(), Span::none()),
+        }
+    }
+}
+
+impl Token for Paren {
+    ghost sees = { spec.sees_group delimiter.Parenthesis };
+
+    ghost name = { groups.paren_name };
+
+    fn peek(input: &ParseStream<'_>) -> bool {
+        input.peek_group(Delimiter::Parenthesis)
+    }
+
+    fn display() -> &'static str {
+        "parentheses"
+    }
+}
+
+impl Token for Brace {
+    ghost sees = { spec.sees_group delimiter.Brace };
+
+    ghost name = { groups.brace_name };
+
+    fn peek(input: &ParseStream<'_>) -> bool {
+        input.peek_group(Delimiter::Brace)
+    }
+
+    fn display() -> &'static str {
+        "curly braces"
+    }
+}
+
+impl Token for Bracket {
+    ghost sees = { spec.sees_group delimiter.Bracket };
+
+    ghost name = { groups.bracket_name };
+
+    fn peek(input: &ParseStream<'_>) -> bool {
+        input.peek_group(Delimiter::Bracket)
+    }
+
+    fn display() -> &'static str {
+        "square brackets"
+    }
+}
+
+/// Appends a group of these tokens; refused, the list is as before.
+pub fn surround(
+    delimiter: Delimiter,
+    span: DelimSpan,
+    tokens: TokenStream,
+    out: &mut TokenStream,
+) -> Result<(), AllocError>
+    ensures ok { OnOk result (trees out.new ≡ trees out.old ++ prints.group delimiter tokens span) }
+    ensures err { OnErr result (trees out.new ≡ trees out.old) }
+{
+    out.push(TokenTree::Group(Group::new(delimiter, tokens, span)))
+}
+
+impl Paren {
+    /// Appends these tokens in parentheses; refused, the list is as before.
+    pub fn surround(&self, tokens: TokenStream, out: &mut TokenStream) -> Result<(), AllocError>
+        ensures ok { OnOk result (trees out.new ≡ trees out.old ++ prints.group delimiter.Parenthesis tokens self.now.span) }
+        ensures err { OnErr result (trees out.new ≡ trees out.old) }
+    {
+        surround(Delimiter::Parenthesis, self.span, tokens, out)
+    }
+}
+
+impl Brace {
+    /// Appends these tokens in braces; refused, the list is as before.
+    pub fn surround(&self, tokens: TokenStream, out: &mut TokenStream) -> Result<(), AllocError>
+        ensures ok { OnOk result (trees out.new ≡ trees out.old ++ prints.group delimiter.Brace tokens self.now.span) }
+        ensures err { OnErr result (trees out.new ≡ trees out.old) }
+    {
+        surround(Delimiter::Brace, self.span, tokens, out)
+    }
+}
+
+impl Bracket {
+    /// Appends these tokens in brackets; refused, the list is as before.
+    pub fn surround(&self, tokens: TokenStream, out: &mut TokenStream) -> Result<(), AllocError>
+        ensures ok { OnOk result (trees out.new ≡ trees out.old ++ prints.group delimiter.Bracket tokens self.now.span) }
+        ensures err { OnErr result (trees out.new ≡ trees out.old) }
+    {
+        surround(Delimiter::Bracket, self.span, tokens, out)
+    }
+}
+
+impl Ident {
+    /// Whether an identifier is at the front, keywords and `_` too.
+    pub fn peek_any(input: &ParseStream<'_>) -> bool
+        ensures { result ≡ spec.sees_word spec.any_text input.now.rest }
+    {
+        input.peek_any_ident()
+    }
+
+    /// Reads an identifier, keywords and `_` too.
+    pub fn parse_any(alloc: Global, input: &mut ParseStream<'_>) -> Result<Ident, Error>
+        ensures reads { Reads (spec.read_word spec.any_text spec.ident_name input.old) result input.new }
+        ensures within { Follows input.old input.new }
+    {
+        Ok(input.read_any_ident(alloc)?.copy(alloc)?)
+    }
+}
+
+impl<'a> ParseStream<'a> {
+    /// Whether the token is at the front.
+    pub fn peek<T: Token>(&self) -> bool
+        ensures { result ≡ T.sees self.now.rest }
+    {
+        T::peek(self)
+    }
+
+    /// Whether the token is after the first tree; a lifetime counts as one.
+    pub fn peek2<T: Token>(&self) -> bool
+        ensures { result ≡ spec.second T.sees self.now.rest }
+    {
+        match self.after_one() {
+            Some(more) => T::peek(&more),
+            None => false,
+        }
+    }
+
+    /// Whether the token is after the second tree.
+    pub fn peek3<T: Token>(&self) -> bool
+        ensures { result ≡ spec.third T.sees self.now.rest }
+    {
+        match self.after_one() {
+            Some(more) => more.peek2::<T>(),
+            None => false,
+        }
+    }
+
+    /// Reads what the type says.
+    pub fn parse<T: Parse>(&mut self, alloc: Global) -> Result<T, Error>
+        ensures reads { Parsed (T.reads self.old) (T.refuses self.old) result self.new }
+        ensures within { Follows self.old self.new }
+    {
+        T::parse(alloc, self)
+    }
+
+    /// Reads the token if it is there.
+    #[tactic(auto, using(crate::proofs::Suffixes::follows_self))]
+    pub fn parse_option<T: Token + Parse>(&mut self, alloc: Global) -> Result<Option<T>, Error>
+        ensures reads { Parsed (spec.OptionReads T.sees T.reads self.old) (spec.OptionRefuses T.sees T.refuses self.old) result self.new }
+        ensures within { Follows self.old self.new }
+    {
+        if T::peek(self) {
+            Ok(Some(T::parse(alloc, self)?))
+        } else {
+            Ok(None)
+        }
+    }
+
+    /// The parentheses at the front, and a stream of what they hold.
+    pub fn parenthesized(&mut self, alloc: Global) -> Result<(Paren, ParseStream<'a>), Error>
+        ensures reads { Reads (groups.opened groups.paren (spec.open_group delimiter.Parenthesis groups.paren_name self.old)) result self.new }
+        ensures within { Follows self.old self.new }
+    {
+        let (span, inside) = self.open_group(alloc, Delimiter::Parenthesis, Paren::display())?;
+        Ok((Paren { span }, inside))
+    }
+
+    /// The braces at the front, and a stream of what they hold.
+    pub fn braced(&mut self, alloc: Global) -> Result<(Brace, ParseStream<'a>), Error>
+        ensures reads { Reads (groups.opened groups.brace (spec.open_group delimiter.Brace groups.brace_name self.old)) result self.new }
+        ensures within { Follows self.old self.new }
+    {
+        let (span, inside) = self.open_group(alloc, Delimiter::Brace, Brace::display())?;
+        Ok((Brace { span }, inside))
+    }
+
+    /// The brackets at the front, and a stream of what they hold.
+    pub fn bracketed(&mut self, alloc: Global) -> Result<(Bracket, ParseStream<'a>), Error>
+        ensures reads { Reads (groups.opened groups.bracket (spec.open_group delimiter.Bracket groups.bracket_name self.old)) result self.new }
+        ensures within { Follows self.old self.new }
+    {
+        let (span, inside) = self.open_group(alloc, Delimiter::Bracket, Bracket::display())?;
+        Ok((Bracket { span }, inside))
     }
 }

@@ -1,5 +1,4 @@
-use Rattle.std.proofs.Common.{◌≡◌, ℕ, ◌-◌, ◌++◌, ◌∷◌, [], map, take, length, ap, sym, ◌∙◌, append_assoc, rules, arith}
-use Rattle.std.proofs.Math.Seq.{take-length}
+use Rattle.std.proofs.Common.{◌≡◌, ◌-◌, ◌++◌, ◌∷◌, [], map, take, length, ap, sym, ◌∙◌, append_assoc, rules, arith}
 use Rattle.std.proofs.lemmas.Grind.{common_steps}
 use Rattle.std.proofs.Math.ListN.{set}
 use Rattle.token_core.specs.declared.buffer.Entry.TheVariants.{Tree, End}
@@ -10,7 +9,6 @@ use Rattle.token_core.specs.Entries.{saw, saw_layer, flat_tree, flat_stream, all
 use Rattle.token_core.specs.Trees.{delimiter_of, span_of, content_of}
 use Rattle.token_core.specs.declared.tree.TokenTree.{out-TokenTree}
 use Rattle.token_core.specs.declared.tree.TokenTree.TheVariants.{outs-Ident, outs-Punct, outs-Literal, outs-Group}
-use Rattle.std.proofs.lemmas.List.{map-append}
 use Rattle.token_core.proofs.Flats.{flat_stream_is, flat_tree_is, flat_group_is, tree_flat}
 use Rattle.token_core.proofs.Fills.{all_of_more, group_filled, group_count}
 use Rattle.token_core.proofs.buffer.+fill.Goals as goal
@@ -57,16 +55,16 @@ fill_tree-returns-in_ok-push-in-Group-2 t c =
     let p : c.push.new.self.items ≡ old ++ Tree c.args.tree 0 ∷ [] = search rules in
     let s : flat_stream g.stream ≡ inner = ap (λ r. flat_stream r.stream) (sym (outs-Group' g)) in
     let h : map saw filled ≡ map saw (old ++ Tree c.args.tree 0 ∷ []) ++ inner =
-        c.in_ok-fill_stream-in-Group.ensures ∙ ap (λ x. map saw x ++ flat_stream g.stream) p ∙ ap (λ x. map saw (old ++ Tree c.args.tree 0 ∷ []) ++ x) s in
+    c.in_ok-fill_stream-in-Group.ensures ∙ ap (λ x. map saw x ++ flat_stream g.stream) p ∙ ap (λ x. map saw (old ++ Tree c.args.tree 0 ∷ []) ++ x) s in
     let at : c.len-at.result ≡ length old = search rules in
     let len : c.len.result ≡ length filled = search rules in
     let new : c.push-in-Group.new.self.items ≡ set filled c.len-at.result (Tree c.args.tree (c.len.result - c.len-at.result - 1)) ++ End c.args.tree ∷ [] = search rules in
     let e1 = Tree c.args.tree (c.len.result - c.len-at.result - 1) in
     let count : c.len.result - c.len-at.result - 1 ≡ length inner = rw (at, len) (group_count old filled (Tree c.args.tree 0) e1 (End c.args.tree) inner h) in
     let seen : saw e1 ≡ saw_delimiter (delimiter_of g) (span_of g) (content_of g) (length inner) =
-        ap (saw_layer (c.len.result - c.len-at.result - 1)) u ∙ ap (saw_delimiter (delimiter_of g) (span_of g) (content_of g)) count in
+    ap (saw_layer (c.len.result - c.len-at.result - 1)) u ∙ ap (saw_delimiter (delimiter_of g) (span_of g) (content_of g)) count in
     let whole : flat_tree c.args.tree.now ≡ saw_delimiter (delimiter_of g) (span_of g) (content_of g) (length inner) ∷ (inner ++ saw_leave ∷ []) =
-        flat_tree_is c.args.tree.now ∙ ap tree_flat u ∙ flat_group_is g in
+    flat_tree_is c.args.tree.now ∙ ap tree_flat u ∙ flat_group_is g in
     ap (λ x. map saw x) new ∙ ap (λ i. map saw (set filled i e1 ++ End c.args.tree ∷ [])) at
     ∙ group_filled old filled (Tree c.args.tree 0) e1 (End c.args.tree) inner h
     ∙ ap (λ x. map saw old ++ (x ∷ (inner ++ saw_leave ∷ []))) seen ∙ ap (λ x. map saw old ++ x) (sym whole)

@@ -1,8 +1,6 @@
 use Rattle.std.proofs.Common.{◌≡◌, [], refl, arith}
 use Rattle.std.proofs.Math.ListN.{drop_of_length-le}
-use Rattle.token_core.specs.Front.{settled}
 use Rattle.token_core.specs.Seen.{view-nil}
-use Rattle.token_core.specs.Entries.{entries_view}
 use Rattle.token_core.proofs.buffer.settled.Goals as goal
 
 pub returns-then-entries-eq0-clause-shown : goal.returns-then-entries-eq0-clause-shown

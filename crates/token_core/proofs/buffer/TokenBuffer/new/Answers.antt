@@ -1,4 +1,4 @@
-use Rattle.std.proofs.Common.{◌≡◌, [], ◌++◌, map, sym, ap, ◌∙◌, subst, rules}
+use Rattle.std.proofs.Common.{◌≡◌, map, sym, ap, ◌∙◌, subst, rules}
 use Rattle.token_core.specs.Seen.{view}
 use Rattle.token_core.specs.Entries.{saw, Nested, flat_stream}
 use Rattle.token_core.proofs.Flats.{nested_flat, view-flat}

@@ -1,7 +1,7 @@
-use Rattle.std.proofs.Common.{◌≡◌, Some, Ok, sym, ap, ◌∙◌, rules, arith}
+use Rattle.std.proofs.Common.{◌≡◌, Some, sym, ap, ◌∙◌, rules, arith}
 use Rattle.std.proofs.lemmas.Grind.{common_steps}
 use Rattle.token_core.specs.Trees.{delimiter_of, span_of, content_of, toks}
-use Rattle.token_core.specs.Front.{front, past_ends, settled}
+use Rattle.token_core.specs.Front.{past_ends, settled}
 use Rattle.token_core.specs.Rebuilt.{stream_of}
 use Rattle.token_core.specs.Reads.{as_group, delimited}
 use Rattle.token_core.proofs.Rebuilds.{stream_of-toks}

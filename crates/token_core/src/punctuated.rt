@@ -1,0 +1,171 @@
+//! Values with marks between them.
+
+ghost use Rattle.std.specs.Prelude.{◌≡◌, ◌++◌, ◌∷◌, [], ◌<◌, length, OnOk, OnErr, IsTrue, ◌↔◌, ◌+◌, option_map, slice_get, min, ◌^◌, ◌-◌};
+ghost use Rattle.token_core.specs.Lists as spec;
+ghost use Rattle.token_core.specs.Joined.{values_of, marks_of};
+
+use crate::boxed::Boxed;
+use crate::items::Items;
+use std::alloc::{AllocError, Global};
+use std::marker::Model;
+
+/// A value and the mark after it.
+#[derive(Drop)]
+pub struct Pair<T, P> {
+    pub value: T,
+    pub mark: P,
+}
+
+/// Values with marks between them, and perhaps one after the last. Contracts see a list of values and a list of marks,
+/// which are as many or one fewer.
+#[derive(Drop)]
+pub struct Punctuated<T, P> {
+    inner: Items<Pair<T, P>>,
+    last: Option<Boxed<T>>,
+}
+
+impl<T, P> Model for Punctuated<T, P> {
+    ghost use Rattle.std.specs.Prelude.{List};
+    ghost use Rattle.std.specs.Coded.{coded_list, coded×};
+
+    ghost Value = { List T × List P };
+
+    ghost coded = { coded× (coded_list T.code) (coded_list P.code) };
+
+    ghost use Rattle.token_core.specs.Joined.{values_of, marks_of};
+
+    ghost view = { λ p. (values_of p.inner p.last, marks_of p.inner) };
+}
+
+#[tactic(auto, using(crate::proofs::Lists::lists))]
+impl<T, P> Punctuated<T, P> {
+    pub fn new(alloc: Global) -> Punctuated<T, P>
+        ensures { result ≡ ([], []) }
+    {
+        Punctuated {
+            inner: Items::new(alloc),
+            last: None,
+        }
+    }
+
+    /// Whether a value may be put at the end.
+    pub fn empty_or_trailing(&self) -> bool
+        ensures { IsTrue result ↔ (length self.now.0 ≡ length self.now.1) }
+    {
+        self.last.is_none()
+    }
+
+    /// Whether a mark stands after the last value.
+    pub fn trailing_punct(&self) -> bool
+        ensures { IsTrue result ↔ ((length self.now.0 ≡ length self.now.1) × (0 < length self.now.1)) }
+    {
+        self.last.is_none() && self.inner.len() > 0
+    }
+
+    pub fn is_empty(&self) -> bool
+        ensures { IsTrue result ↔ (length self.now.0 ≡ 0) }
+    {
+        self.last.is_none() && self.inner.len() == 0
+    }
+
+    /// The first value.
+    pub fn first(&self) -> Option<&T>
+        ensures { option_map (λ x. x.now) result ≡ spec.first self.now.0 }
+    {
+        match self.inner.as_slice() {
+            [pair, ..] => Some(&pair.value),
+            [] => match &self.last {
+                Some(value) => Some(value.get()),
+                None => None,
+            },
+        }
+    }
+
+    /// The number of values (2^64 - 1 where there are more, which only values without a size can be).
+    #[tactic(auto, using(crate::proofs::Lists::places))]
+    pub fn len(&self) -> usize
+        ensures { result ≡ min (length self.now.0) (2 ^ 64 - 1) }
+    {
+        match self.last {
+            Some(_) => self.inner.len().saturating_add(1),
+            None => self.inner.len(),
+        }
+    }
+
+    /// The values that have a mark, with it, and the last value, where none stands after it.
+    pub fn parts(&self) -> (&[Pair<T, P>], Option<&T>)
+        ensures { self.now ≡ (values_of result.0.now (option_map (λ x. x.now) result.1), marks_of result.0.now) }
+    {
+        let last = match &self.last {
+            Some(value) => Some(value.get()),
+            None => None,
+        };
+        (self.inner.as_slice(), last)
+    }
+
+    /// The `i`th value.
+    #[tactic(auto, using(crate::proofs::Lists::places))]
+    pub fn value(&self, i: usize) -> Option<&T>
+        ensures { option_map (λ x. x.now) result ≡ slice_get self.now.0 i }
+    {
+        let pairs = self.inner.as_slice();
+        if i < pairs.len() {
+            return Some(&pairs[i].value);
+        }
+        match &self.last {
+            Some(value) => {
+                if i == pairs.len() {
+                    Some(value.get())
+                } else {
+                    None
+                }
+            }
+            None => None,
+        }
+    }
+
+    /// The mark after the `i`th value.
+    #[tactic(auto, using(crate::proofs::Lists::places))]
+    pub fn mark(&self, i: usize) -> Option<&P>
+        ensures { option_map (λ x. x.now) result ≡ slice_get self.now.1 i }
+    {
+        let pairs = self.inner.as_slice();
+        if i < pairs.len() {
+            Some(&pairs[i].mark)
+        } else {
+            None
+        }
+    }
+}
+
+#[tactic(auto, using(crate::proofs::Lists::lists))]
+impl<T: Drop, P: Drop> Punctuated<T, P> {
+    /// Puts a value at the end; refused, it changes nothing and drops the value.
+    pub fn push_value(&mut self, alloc: Global, value: T) -> Result<(), AllocError>
+        requires { length self.old.0 ≡ length self.old.1 }
+        ensures ok { OnOk result (self.new ≡ (self.old.0 ++ value ∷ [], self.old.1)) }
+        ensures err { OnErr result (self.new ≡ self.old) }
+    {
+        let value = Boxed::new(alloc, value)?;
+        self.last = Some(value);
+        Ok(())
+    }
+
+    /// Puts a mark after the last value; refused, it changes nothing and drops the mark.
+    pub fn push_punct(&mut self, mark: P) -> Result<(), AllocError>
+        requires { length self.old.0 ≡ length self.old.1 + 1 }
+        ensures ok { OnOk result (self.new ≡ (self.old.0, self.old.1 ++ mark ∷ [])) }
+        ensures err { OnErr result (self.new ≡ self.old) }
+    {
+        match self.last.take() {
+            Some(value) => match self.inner.push_boxed(value, mark) {
+                Ok(()) => Ok(()),
+                Err(value) => {
+                    self.last = Some(value);
+                    Err(AllocError)
+                }
+            },
+            None => Ok(()),
+        }
+    }
+}
