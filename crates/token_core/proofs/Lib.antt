@@ -6,3 +6,4 @@ pub mod Suffixes
 pub mod Rebuilds
 pub mod Lists
 pub mod Puts
+pub mod Turns

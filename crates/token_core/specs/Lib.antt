@@ -18,3 +18,4 @@ pub mod ByFns
 pub mod Joined
 pub mod Lists
 pub mod Groups
+pub mod Loops

@@ -1,0 +1,52 @@
+-- Values joined by a mark: a value, and as long as the mark follows, the mark and a further value.
+use Rattle.std.specs.Prelude.{ℕ, zero, suc, Bool, true, false, List, [], ◌∷◌, ◌++◌, Ok, Err, if◌then◌else◌}
+use Rattle.token_core.specs.declared.error.ErrorKind.TheVariants.{Unexpected}
+use Rattle.token_core.specs.Toks.{Toks, done, word, mark, lit, group, enter, leave}
+use Rattle.token_core.specs.Reads.{Outcome, Reader, ◌>>=◌, pure, peek, refuse}
+
+-- how many tokens there are up to the end of the scope
+abbrev pub size : Toks → ℕ
+size done = 0
+size (word t k) = suc (size k)
+size (mark p k) = suc (size k)
+size (lit l k) = suc (size k)
+size (group d s c k) = suc (size k)
+size (enter s k) = suc (size k)
+size (leave k) = suc (size k)
+
+-- values and marks, as a punctuated list shows them
+abbrev pub Many : Type 0 → Type 0 → Type 0
+Many A P = List A × List P
+
+module _ {A P : Type 0} (value : Bool → Reader A) (more : Toks → Bool) (joint : Reader P) where
+  abbrev pub one : A → Many A P
+  one x = (x ∷ [], [])
+
+  abbrev pub put : A → P → Many A P → Many A P
+  put x p v = (x ∷ v.0, p ∷ v.1)
+
+  -- at most n values; the first value is read as such
+  abbrev pub joined_from : ℕ → Bool → Reader (Many A P)
+  joined_from zero first = refuse Unexpected
+  joined_from (suc n) first = do
+    x ← value first
+    goes ← peek more
+    if goes then (do
+      p ← joint
+      rest ← joined_from n false
+      pure (put x p rest)) else pure (one x)
+
+  unfoldable pub joined : Bool → Reader (Many A P)
+  joined first s = joined_from (suc (size s.rest)) first s
+
+abbrev pub onto : {A P : Type 0} → Many A P → Many A P → Many A P
+onto v w = (v.0 ++ w.0, v.1 ++ w.1)
+
+-- what was found, before what is read
+abbrev pub after : {A P : Type 0} → Many A P → Outcome (Many A P) → Outcome (Many A P)
+after v (Ok p) = Ok (onto v p.0, p.1)
+after v (Err e) = Err e
+
+abbrev pub is_first : {A P : Type 0} → Many A P → Bool
+is_first ([], ps) = true
+is_first (x ∷ xs, ps) = false
