@@ -7,3 +7,4 @@ pub mod Rebuilds
 pub mod Lists
 pub mod Puts
 pub mod Turns
+pub mod Headlines

@@ -19,3 +19,5 @@ pub mod Joined
 pub mod Lists
 pub mod Groups
 pub mod Loops
+pub mod Clear
+pub mod Headline
