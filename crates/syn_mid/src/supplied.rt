@@ -1,0 +1,66 @@
+//! The supplied subtree: what stands where an expression may stand.
+
+ghost use Rattle.std.specs.Prelude.{◌≡◌, ◌++◌, OnOk, OnErr, Ok, Option};
+ghost use Rattle.token_core.specs.Toks.{Toks};
+ghost use Rattle.token_core.specs.Trees.{trees};
+ghost use Rattle.token_core.specs.Prints.{Print};
+ghost use Rattle.token_core.specs.Stream.{Stream};
+ghost use Rattle.token_core.specs.Reads.{Reader, Reads, Follows, leaves};
+ghost use Rattle.syn_mid.specs.Supplied as spec;
+
+use std::alloc::{AllocError, Global};
+use token_core::{Error, ParseStream, TokenStream};
+
+/// Where a supplied subtree stands.
+#[derive(Clone, Copy, PartialEq, Eq)]
+pub enum Place {
+    /// The length of an array type.
+    ArrayLen,
+    /// The value of an attribute, unless it is a lone literal.
+    Value,
+    /// The guard of a pattern.
+    Guard,
+    /// The inside of a block.
+    Block,
+}
+
+/// A tree that stands where an expression may stand. What a reader or a printer of this crate promises holds for each
+/// one that meets these laws.
+pub trait Subtree: Drop {
+    /// The read in a place, a function of the stream.
+    ghost reads: { spec.Place → Reader Self };
+
+    /// The tree spells all of the list in a place.
+    ghost spells: { spec.Place → Self → Toks → Type 0 };
+
+    /// Its normal form in a place.
+    ghost normal: { spec.Place → Self → Self };
+
+    /// Its print in a place.
+    ghost prints: { spec.Place → Self → Print };
+
+    fn read(alloc: Global, place: Place, input: &mut ParseStream<'_>) -> Result<Self, Error>
+        ensures reads { Reads (reads place input.old) result input.new }
+        ensures within { Follows input.old input.new };
+
+    /// Appends its print; refused for want of memory alone, and then the list is as before.
+    fn print(&self, alloc: Global, place: Place, out: &mut TokenStream) -> Result<(), AllocError>
+        ensures ok { OnOk result (trees out.new ≡ trees out.old ++ prints place self.now) }
+        ensures err { OnErr result (trees out.new ≡ trees out.old) };
+
+    /// Whether a read succeeds, what it answers and where it stops depend on the tokens alone.
+    ghost steady: { (p : spec.Place) (s t : Stream) → s.rest ≡ t.rest → spec.SameOutcome (reads p s) (reads p t) };
+
+    /// A read that uses up its list and leaves no tree over in a finished group answers a tree that spells the list.
+    ghost sound: { (p : spec.Place) (s t : Stream) (x : Self) → reads p s ≡ Ok (x, t) → leaves t ≡ Option.None → spells p x s.rest };
+
+    /// Where a tree spells a list, a read of that list answers that tree and uses the list up, finished groups too.
+    ghost complete: { (p : spec.Place) (s : Stream) (x : Self) → spells p x s.rest → (t : Stream) × (reads p s ≡ Ok (x, t)) × spec.UsesUp s t };
+
+    /// The print of a tree that spells a list spells its normal form, and is the normal form's print.
+    /// It holds no invisible group where the list held none.
+    ghost reprint: { (p : spec.Place) (x : Self) (l : Toks) → spells p x l → spec.Reprints (spells p) (normal p) (prints p) x l };
+
+    /// As an attribute's value no tree spells a list that is one literal, or that begins with `#` and a bracket group.
+    ghost apart: { (x : Self) (l : Toks) → spells spec.Value x l → spec.IsApart l };
+}
