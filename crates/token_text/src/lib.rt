@@ -1,0 +1,6 @@
+//! Text to tokens, and back.
+#![tactic(auto)]
+
+mod front;
+mod piece;
+mod word;
