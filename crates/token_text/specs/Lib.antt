@@ -1,3 +1,3 @@
 pub mod Characters
 pub mod Pieces
-
+pub mod Reading

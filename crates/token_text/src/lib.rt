@@ -2,5 +2,9 @@
 #![tactic(auto)]
 
 mod front;
+mod lexer;
 mod piece;
+mod reader;
 mod word;
+
+pub use lexer::lex;
