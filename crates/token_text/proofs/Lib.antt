@@ -1,3 +1,6 @@
 mod Words
 mod Fronts
 mod Steps
+mod Tests
+mod PieceLaws
+mod TextLaws

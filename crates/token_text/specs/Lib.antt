@@ -1,3 +1,4 @@
 pub mod Characters
 pub mod Pieces
 pub mod Reading
+pub mod Spelling
