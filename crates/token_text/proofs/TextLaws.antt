@@ -1,17 +1,17 @@
 -- What is read of a text is what it spells, and what it spells is read.
-use Rattle.std.proofs.Common.{◌≡◌, ℕ, zero, suc, ◌<◌, ◌≤◌, ◌+◌, Bool, true, false, cond, ◌⊎◌, inl, inr, List, [], ◌∷◌, ◌++◌, length, chars, Option, Some, None, Result, Ok, Err, refl, sym, ap, ap₂, ◌∙◌, subst, arith, append_assoc, append-nil, length-append, rules}
+use Rattle.std.proofs.Common.{◌≡◌, ℕ, zero, suc, ◌<◌, ◌≤◌, ◌+◌, Bool, true, false, cond, ◌⊎◌, inl, inr, List, [], ◌∷◌, ◌++◌, length, chars, Option, Some, None, Result, Ok, Err, refl, sym, ap, ap₂, ◌∙◌, subst, arith, append_assoc, append-nil, length-append, rules, IfOk, MatchResult}
 use denote.Enum.Bare.{same_true}
 use Rattle.token_core.specs.contracts.tree.Delimiter.{the_type}
 use Rattle.token_core.specs.declared.tree.Delimiter.{Delimiter}
 use Rattle.token_core.specs.declared.tree.Delimiter.TheVariants as delimiters
 use Rattle.token_core.specs.declared.tree.TokenTree.{TokenTree}
 use Rattle.token_core.specs.declared.span.Span.{Span}
-use Rattle.token_core.specs.Refusal.{Refusal, named}
+use Rattle.token_core.specs.Refusal.{Refusal, named, out_of_memory}
 use Rattle.token_core.specs.Spans.{span}
 use Rattle.token_core.specs.Toks.{Bytes}
 use Rattle.token_text.specs.Characters.{Text, size}
 use Rattle.token_text.specs.Pieces.{Leaf, Piece, blank, leaf, opening, closing, Found, found, front, tree_of}
-use Rattle.token_text.specs.Reading.{Frame, frame, State, state, start, same, group_tree, unexpected, closed, act, finish, finished, reads, lexed}
+use Rattle.token_text.specs.Reading.{Frame, frame, State, state, start, same, group_tree, unexpected, closed, act, finish, finished, reads, lexed, Gives}
 use Rattle.token_text.specs.Spelling.{Begins, Spelled, nothing, a_blank, a_leaf, a_group, Spells}
 use Rattle.token_text.proofs.Fronts.{Splits, front_splits}
 use Rattle.token_text.proofs.Steps.{reads_end, reads_unknown, reads_piece, reads_refused}
@@ -160,3 +160,15 @@ spelled_lexed text l h =
     let cs = chars text in
     let c = reads_sound (length cs) cs (omega arith) 0 [] [] l h in
     (c.1, subst (λ r. Spelled 0 cs r c.1 []) (sym c.3) c.2)
+
+-- ---- how the result of reading stands to what a text spells
+
+pub gives_spelled : {A : Type 0} (f : A → List TokenTree) (text : Bytes) (r : Result A Refusal) → Gives f r (lexed text) → IfOk r (λ a. Spells text (f a))
+gives_spelled f text (Ok a) h = spelled_lexed text (f a) h
+gives_spelled f text (Err e) h = tt
+
+pub gives_all : {A : Type 0} (f : A → List TokenTree) (text : Bytes) (r : Result A Refusal) → Gives f r (lexed text) → (l : List TokenTree) → Spells text l
+    → MatchResult r (λ a. f a ≡ l) (λ e. e ≡ out_of_memory)
+gives_all f text (Ok a) h l s = let e = sym h ∙ lexed_spelled text l s in cc
+gives_all f text (Err e) (inl h) l s = h
+gives_all f text (Err e) (inr h) l s = let bad = sym h ∙ lexed_spelled text l s in cc

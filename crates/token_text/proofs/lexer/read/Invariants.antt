@@ -2,7 +2,7 @@ use Rattle.std.proofs.Common.{◌≡◌, ◌≤◌, ◌-◌, length, chars}
 use denote.Text.{Utf8}
 use denote.Shadow.{shadow}
 use Rattle.token_text.specs.Reading.{reads, lexed, state_of}
-use Rattle.token_text.proofs.lexer.lex.Given as goal
+use Rattle.token_text.proofs.lexer.read.Given as goal
 
 abbrev pub invariant-loop-first : goal.invariant-loop-first
 invariant-loop-first l =
