@@ -4,7 +4,9 @@
 mod front;
 mod lexer;
 mod piece;
+mod printer;
 mod reader;
 mod word;
 
 pub use lexer::lex;
+pub use printer::text_of;
