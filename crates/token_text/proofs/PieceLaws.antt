@@ -116,15 +116,39 @@ no_piece p h = cc
 pub single_is : (c : ℕ) (rest : Text) (p : Piece) → single c rest ≡ Some p → IsPiece p (c ∷ []) rest
 unfolding single
 single_is c rest p h =
-    elim (chosen (is_blank c) _ _ (Some p) h) [ inl a ↦ is_blank_piece c p rest a.0 a.1 | inr a ↦
-    elim (chosen (c == 40) _ _ (Some p) a.1) [ inl b ↦ is_bracket_open c 40 delimiters.Parenthesis p rest tt refl b.0 b.1 | inr b ↦
-    elim (chosen (c == 41) _ _ (Some p) b.1) [ inl b ↦ is_bracket_close c 41 delimiters.Parenthesis p rest tt refl b.0 b.1 | inr b ↦
-    elim (chosen (c == 91) _ _ (Some p) b.1) [ inl b ↦ is_bracket_open c 91 delimiters.Bracket p rest tt refl b.0 b.1 | inr b ↦
-    elim (chosen (c == 93) _ _ (Some p) b.1) [ inl b ↦ is_bracket_close c 93 delimiters.Bracket p rest tt refl b.0 b.1 | inr b ↦
-    elim (chosen (c == 123) _ _ (Some p) b.1) [ inl b ↦ is_bracket_open c 123 delimiters.Brace p rest tt refl b.0 b.1 | inr b ↦
-    elim (chosen (c == 125) _ _ (Some p) b.1) [ inl b ↦ is_bracket_close c 125 delimiters.Brace p rest tt refl b.0 b.1 | inr b ↦
-    elim (chosen (begins_comment c rest) _ _ (Some p) b.1) [ inl b ↦ no_piece p b.1 | inr d ↦
-    elim (chosen (is_mark c) _ _ (Some p) d.1) [ inl b ↦ is_mark_piece c p rest d.0 b.0 b.1 | inr b ↦ no_piece p b.1 ] ] ] ] ] ] ] ] ]
+    elim (chosen (is_blank c) _ _ (Some p) h) [
+      | inl a ↦ is_blank_piece c p rest a.0 a.1
+      | inr a ↦
+          elim (chosen (c == 40) _ _ (Some p) a.1) [
+            | inl b ↦ is_bracket_open c 40 delimiters.Parenthesis p rest tt refl b.0 b.1
+            | inr b ↦
+                elim (chosen (c == 41) _ _ (Some p) b.1) [
+                  | inl b ↦ is_bracket_close c 41 delimiters.Parenthesis p rest tt refl b.0 b.1
+                  | inr b ↦
+                      elim (chosen (c == 91) _ _ (Some p) b.1) [
+                        | inl b ↦ is_bracket_open c 91 delimiters.Bracket p rest tt refl b.0 b.1
+                        | inr b ↦
+                            elim (chosen (c == 93) _ _ (Some p) b.1) [
+                              | inl b ↦ is_bracket_close c 93 delimiters.Bracket p rest tt refl b.0 b.1
+                              | inr b ↦
+                                  elim (chosen (c == 123) _ _ (Some p) b.1) [
+                                    | inl b ↦ is_bracket_open c 123 delimiters.Brace p rest tt refl b.0 b.1
+                                    | inr b ↦
+                                        elim (chosen (c == 125) _ _ (Some p) b.1) [
+                                          | inl b ↦ is_bracket_close c 125 delimiters.Brace p rest tt refl b.0 b.1
+                                          | inr b ↦
+                                              elim (chosen (begins_comment c rest) _ _ (Some p) b.1) [
+                                                | inl b ↦ no_piece p b.1
+                                                | inr d ↦
+                                                    elim (chosen (is_mark c) _ _ (Some p) d.1) [ inl b ↦ is_mark_piece c p rest d.0 b.0 b.1 | inr b ↦ no_piece p b.1 ]
+                                              ]
+                                        ]
+                                  ]
+                            ]
+                      ]
+                ]
+          ]
+    ]
 
 pub single_blank : (c : ℕ) (rest : Text) → is_blank c ≡ true → single c rest ≡ Some blank
 unfolding single
@@ -133,8 +157,17 @@ single_blank c rest h = rw h refl
 pub single_mark : (c : ℕ) (rest : Text) → is_mark c ≡ true → begins_comment c rest ≡ false → single c rest ≡ Some (leaf (mark c (spacing rest)))
 unfolding single
 single_mark c rest h comment =
-    rw (mark_fails is_blank c h refl, mark_fails (λ d. d == 40) c h refl, mark_fails (λ d. d == 41) c h refl, mark_fails (λ d. d == 91) c h refl,
-      mark_fails (λ d. d == 93) c h refl, mark_fails (λ d. d == 123) c h refl, mark_fails (λ d. d == 125) c h refl, comment, h) refl
+    rw (
+      mark_fails is_blank c h refl,
+      mark_fails (λ d. d == 40) c h refl,
+      mark_fails (λ d. d == 41) c h refl,
+      mark_fails (λ d. d == 91) c h refl,
+      mark_fails (λ d. d == 93) c h refl,
+      mark_fails (λ d. d == 123) c h refl,
+      mark_fails (λ d. d == 125) c h refl,
+      comment,
+      h,
+    ) refl
 
 -- ---- the front
 
@@ -145,13 +178,13 @@ front_is_by cs f (by_raw x raw form e) =
     let inner = is_word_by by.body by.plain by.is_word in
     let ends : begins_with is_continue x.1 ≡ false = ap (λ (y : Text × Text). begins_with is_continue y.1) by.same ∙ inner.1 in
     let here : Begins (leaf (word (encode_utf8_all x.0))) cs x.0 x.1 =
-      record { whole = s.whole; is_piece = (refl, ends, inr (by.plain.0, ap (λ (y : Text × Text). y.0) by.same, inner.0, form)) } in
+    record { whole = s.whole; is_piece = (refl, ends, inr (by.plain.0, ap (λ (y : Text × Text). y.0) by.same, inner.0, form)) } in
     subst (λ (g : Found). Begins g.piece cs g.spelled g.rest) (sym e) here
 front_is_by cs f (by_word x raw plain e) =
     let s = word_splits cs x plain in
     let inner = is_word_by cs x plain in
     let here : Begins (leaf (word (encode_utf8_all x.0))) cs x.0 x.1 =
-      record { whole = s.whole; is_piece = (refl, inner.1, inl (inner.0, subst (λ t. ¬ BeginsRaw t) s.whole (raw_begins cs raw))) } in
+    record { whole = s.whole; is_piece = (refl, inner.1, inl (inner.0, subst (λ t. ¬ BeginsRaw t) s.whole (raw_begins cs raw))) } in
     subst (λ (g : Found). Begins g.piece cs g.spelled g.rest) (sym e) here
 front_is_by cs f (by_single c ds p raw plain whole one e) =
     let here : Begins p cs (c ∷ []) ds = record { whole = whole; is_piece = single_is c ds p one } in
@@ -212,7 +245,7 @@ front_of blank cs w ds whole is = front_one cs w ds is.0 blank whole is.1 (no_st
 front_of (leaf (word b)) cs w ds whole is = front_word cs w ds whole is.1 is.2 ∙ ap (λ b. Some (found (leaf (word b)) w ds)) (sym is.0)
 front_of (leaf (mark c j)) cs w ds whole is =
     front_one cs w ds c (leaf (mark c j)) whole is.0 (no_start_mark c is.1)
-      (single_mark c ds is.1 is.2 ∙ ap (λ s. Some (leaf (mark c s))) (sym is.3))
+    (single_mark c ds is.1 is.2 ∙ ap (λ s. Some (leaf (mark c s))) (sym is.3))
 front_of (opening d) cs w ds whole is =
     let o = opening_code d w ds is.0 is.1 in front_one cs w ds o.0 (opening d) whole o.1 o.2 o.3
 front_of (closing d) cs w ds whole is =

@@ -55,8 +55,8 @@ reads_piece at x y (d ∷ cs) (c ∷ w) rest p h a =
     let e : (at + len_utf8 d) + size w ≡ at + size (c ∷ w) = omega (arith, size-cons c w, ap len_utf8 same) in
     reads_turn_ok at d x y (length w) cs t ∙ reads_left (length w) (at + len_utf8 d) y cs
     ∙ ap₂ (λ (a : ℕ) (r : Text). reads 0 a y r)
-      (ap (λ u. (at + len_utf8 d) + size u) (ap (take (length w)) tail ∙ take_at w rest (length w) refl) ∙ e)
-      (ap (drop (length w)) tail ∙ drop_at w rest (length w) refl)
+    (ap (λ u. (at + len_utf8 d) + size u) (ap (take (length w)) tail ∙ take_at w rest (length w) refl) ∙ e)
+    (ap (drop (length w)) tail ∙ drop_at w rest (length w) refl)
 
 pub reads_refused : (at : ℕ) (x : State) (cs w rest : Text) (p : Piece) (e : Refusal) → front cs ≡ Some (found p w rest) → act (span at (at + size w)) p x ≡ Err e
     → reads 0 at x cs ≡ Err e

@@ -90,7 +90,7 @@ closes_group : (fs : List Frame) (ts : List TokenTree) (at : ℕ) (cs w ds : Tex
     → Closes (frame d (span at (at + size w)) ts ∷ fs) [] (at + size w) ds r → Closes fs ts at cs r
 closes_group fs ts at cs w ds d r b h =
     closes_tree fs ts at (h.1 + size h.3) cs h.4 (group_tree d (span at (at + size w)) (span h.1 (h.1 + size h.3)) h.0) r
-      (λ l end rest s. a_group at h.1 end cs w ds h.2 h.3 h.4 rest d h.0 l b h.5 h.6 s) h.7
+    (λ l end rest s. a_group at h.1 end cs w ds h.2 h.3 h.4 rest d h.0 l b h.5 h.6 s) h.7
 
 closes_closing : (f : Frame) (fs : List Frame) (ts : List TokenTree) (at : ℕ) (cs w ds : Text) (r : List TokenTree) → Begins (closing f.delimiter) cs w ds
     → Closes fs (f.before ++ group_tree f.delimiter f.span (span at (at + size w)) ts ∷ []) (at + size w) ds r → Closes (f ∷ fs) ts at cs r

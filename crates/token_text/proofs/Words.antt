@@ -21,13 +21,13 @@ encodes_one c = append-nil (encode_utf8 c)
 pub passed_next : (p : ℕ → Bool) (text rest after : List ℕ) (c : ℕ) → Passed p text rest → chars rest ≡ c ∷ chars after → rest ≡ encode_utf8 c ++ after
     → p c ≡ true → Passed p text after
 passed_next p text rest after c h cs e pass = record {
-    front = h.front ++ c ∷ [];
-    split = h.split ∙ ap (λ t. encode_utf8_all h.front ++ t) (e ∙ ap (λ t. t ++ after) (sym (encodes_one c)))
+  front = h.front ++ c ∷ [];
+  split = h.split ∙ ap (λ t. encode_utf8_all h.front ++ t) (e ∙ ap (λ t. t ++ after) (sym (encodes_one c)))
       ∙ sym (append_assoc (encode_utf8_all h.front) (encode_utf8_all (c ∷ [])) after)
       ∙ ap (λ t. t ++ after) (sym (encodes-append h.front (c ∷ [])));
-    runs = h.runs ∙ ap (λ t. h.front ++ t) (rw (cs, pass) refl) ∙ sym (append_assoc h.front (c ∷ []) (run p (chars after)));
-    goes = h.goes ∙ rw (cs, pass) refl;
-  }
+  runs = h.runs ∙ ap (λ t. h.front ++ t) (rw (cs, pass) refl) ∙ sym (append_assoc h.front (c ∷ []) (run p (chars after)));
+  goes = h.goes ∙ rw (cs, pass) refl;
+}
 
 abbrev pub FrontFound : Option (Text × Text) → List ℕ → List ℕ → Type 0
 FrontFound o text rest = (w : Text) × (o ≡ Some (w, chars rest)) × (text ≡ encode_utf8_all w ++ rest)
@@ -36,9 +36,11 @@ pub word_found : (text rest after : List ℕ) (c : ℕ) → chars text ≡ c ∷
     → chars after ≡ after_run is_continue (chars rest) → rest ≡ encode_utf8_all (run is_continue (chars rest)) ++ after
     → FrontFound (word_front (chars text)) text after
 unfolding word_front
-word_found text rest after c cs e start goes runs =
-    (c ∷ run is_continue (chars rest), rw (cs, start, goes) refl,
-     e ∙ ap (λ t. encode_utf8 c ++ t) runs ∙ sym (append_assoc (encode_utf8 c) (encode_utf8_all (run is_continue (chars rest))) after))
+word_found text rest after c cs e start goes runs = (
+  c ∷ run is_continue (chars rest),
+  rw (cs, start, goes) refl,
+  e ∙ ap (λ t. encode_utf8 c ++ t) runs ∙ sym (append_assoc (encode_utf8 c) (encode_utf8_all (run is_continue (chars rest))) after),
+)
 
 pub plain_front : (cs : Text) (x : Text × Text) → raw_front cs ≡ None → word_front cs ≡ Some x → front cs ≡ Some (as_word x)
 unfolding front

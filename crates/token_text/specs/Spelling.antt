@@ -67,14 +67,14 @@ pub record Begins (p : Piece) (cs w rest : Text) : Type 0 where
 pub data Spelled : ℕ → Text → List TokenTree → ℕ → Text → Type 0 where
   nothing : (at : ℕ) (rest : Text) → Spelled at rest [] at rest
   a_blank : (at end : ℕ) (cs w ds rest : Text) (l : List TokenTree) →
-    Begins blank cs w ds → Spelled (at + size w) ds l end rest → Spelled at cs l end rest
+      Begins blank cs w ds → Spelled (at + size w) ds l end rest → Spelled at cs l end rest
   a_leaf : (at end : ℕ) (cs w ds rest : Text) (t : Leaf) (l : List TokenTree) →
-    Begins (leaf t) cs w ds → Spelled (at + size w) ds l end rest →
-    Spelled at cs (tree_of t (span at (at + size w)) ∷ l) end rest
+      Begins (leaf t) cs w ds → Spelled (at + size w) ds l end rest →
+      Spelled at cs (tree_of t (span at (at + size w)) ∷ l) end rest
   a_group : (at inner_end end : ℕ) (cs w ds es v fs rest : Text) (d : Delimiter) (inner l : List TokenTree) →
-    Begins (opening d) cs w ds → Spelled (at + size w) ds inner inner_end es →
-    Begins (closing d) es v fs → Spelled (inner_end + size v) fs l end rest →
-    Spelled at cs (group_tree d (span at (at + size w)) (span inner_end (inner_end + size v)) inner ∷ l) end rest
+      Begins (opening d) cs w ds → Spelled (at + size w) ds inner inner_end es →
+      Begins (closing d) es v fs → Spelled (inner_end + size v) fs l end rest →
+      Spelled at cs (group_tree d (span at (at + size w)) (span inner_end (inner_end + size v)) inner ∷ l) end rest
 
 -- the whole text spells the trees
 abbrev pub Spells : Bytes → List TokenTree → Type 0

@@ -6,6 +6,8 @@ mod lexer;
 mod piece;
 mod printer;
 mod reader;
+#[cfg(test)]
+mod tests;
 mod word;
 
 pub use lexer::lex;

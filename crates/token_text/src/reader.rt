@@ -89,11 +89,7 @@ impl Reader {
                 let group = Group::new(delimiter, content, span);
                 Ok(self.trees.push(TokenTree::Group(group))?)
             }
-            _ => Err(Error::named(
-                self.alloc,
-                ErrorKind::UnexpectedClosingDelimiter,
-                span,
-            )),
+            _ => Err(Error::named(self.alloc, ErrorKind::UnexpectedClosingDelimiter, span)),
         }
     }
 
@@ -103,11 +99,7 @@ impl Reader {
     {
         match self.open_groups.pop() {
             None => Ok(self.trees),
-            Some(open) => Err(Error::named(
-                self.alloc,
-                ErrorKind::UnclosedDelimiter,
-                open.span,
-            )),
+            Some(open) => Err(Error::named(self.alloc, ErrorKind::UnclosedDelimiter, open.span)),
         }
     }
 }

@@ -12,7 +12,8 @@ returns-in-Some-after_word c =
 
 pub returns : goal.returns
 returns c =
-    let e = c.in_ok-first.ensures in
-    (c.in_ok-first.first ∷ [],
-     single_front (chars c.args.text.now) (chars c.in_ok-first.rest.now) c.in_ok-first.first _ c.in_default.ensures c.in_default-after_word.ensures e.0 c.in_ok-single.ensures,
-     e.1 ∙ ap (λ t. t ++ c.in_ok-first.rest.now) (sym (encodes_one c.in_ok-first.first)))
+    let e = c.in_ok-first.ensures in (
+      c.in_ok-first.first ∷ [],
+      single_front (chars c.args.text.now) (chars c.in_ok-first.rest.now) c.in_ok-first.first _ c.in_default.ensures c.in_default-after_word.ensures e.0 c.in_ok-single.ensures,
+      e.1 ∙ ap (λ t. t ++ c.in_ok-first.rest.now) (sym (encodes_one c.in_ok-first.first)),
+    )

@@ -18,22 +18,22 @@ returns-in_default-front c =
     let none = rw first at c.in_default-front.ensures in
     let place : span at (at + len_utf8 c.in-Some.first) ≡ c.new-span.result = sym (c.new-span.ensures ∙ ap (λ n. span at (at + n)) c.len_utf8.ensures.value) in
     made_fails c.named.result _ (lexed text) c.named.ensures
-      (c.loop-first.invariant.2 ∙ ap (reads 0 at x) first ∙ reads_unknown at c.in-Some.first x (chars c.in-Some.field-0-1.now) none
-      ∙ ap (λ s. Err (named UnknownToken s)) place)
+    (c.loop-first.invariant.2 ∙ ap (reads 0 at x) first ∙ reads_unknown at c.in-Some.first x (chars c.in-Some.field-0-1.now) none
+    ∙ ap (λ s. Err (named UnknownToken s)) place)
 
 pub returns-in_err-take : goal.returns-in_err-take
 returns-in_err-take c =
     let p = err_from_is_err_and c.from_residual.result c.from_residual.ensures.1 in
     let f = c.in-Some-front.ensures in
     let stops = loop_stops c.args.text.now c.loop-first.rest.now c.in-Some-front.after.now f.0 (view c.in-Some-front.piece) (state_of c.loop-first.reader)
-      c.loop-first.invariant.2 c.loop-first.invariant.1 f.1 f.2 in
+    c.loop-first.invariant.2 c.loop-first.invariant.1 f.1 f.2 in
     rw (p.1, p.2) (fails_so _ _ (lexed c.args.text.now) c.in_err-take.ensures (stops c.new.result _ c.new.ensures))
 
 pub loop-first-smaller : goal.loop-first-smaller
 loop-first-smaller c =
     let f = c.in-Some-front.ensures in
     ahead c.args.text.now c.loop-first.rest.now c.in-Some-front.after.now f.0 (view c.in-Some-front.piece) (state_of c.loop-first.reader)
-      c.loop-first.invariant.2 c.loop-first.invariant.1 f.1 f.2
+    c.loop-first.invariant.2 c.loop-first.invariant.1 f.1 f.2
 
 pub loop-first-preserved : goal.loop-first-preserved
 loop-first-preserved c =
@@ -42,10 +42,12 @@ loop-first-preserved c =
     let rest = c.loop-first.rest.now in
     let after = c.in-Some-front.after.now in
     let le : length after ≤ length text =
-      omega (arith, c.loop-first.invariant.1, ahead text rest after f.0 (view c.in-Some-front.piece) (state_of c.loop-first.reader) c.loop-first.invariant.2 c.loop-first.invariant.1 f.1 f.2) in
-    (search rules, le,
-     loop_goes text rest after f.0 (view c.in-Some-front.piece) (state_of c.loop-first.reader)
-      c.loop-first.invariant.2 c.loop-first.invariant.1 f.1 f.2 c.new.result (state_of c.take.new.self) c.new.ensures c.in_ok-take.ensures)
+    omega (arith, c.loop-first.invariant.1, ahead text rest after f.0 (view c.in-Some-front.piece) (state_of c.loop-first.reader) c.loop-first.invariant.2 c.loop-first.invariant.1 f.1 f.2) in (
+      search rules,
+      le,
+      loop_goes text rest after f.0 (view c.in-Some-front.piece) (state_of c.loop-first.reader)
+          c.loop-first.invariant.2 c.loop-first.invariant.1 f.1 f.2 c.new.result (state_of c.take.new.self) c.new.ensures c.in_ok-take.ensures,
+    )
 
 pub returns : goal.returns
 returns c =
