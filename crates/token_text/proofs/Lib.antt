@@ -1,6 +1,6 @@
 mod Words
 mod Fronts
 mod Steps
-mod Tests
+mod CharacterLaws
 mod PieceLaws
 mod TextLaws

@@ -9,7 +9,7 @@ use Rattle.token_text.specs.Pieces.{Leaf, word, mark, Piece, blank, leaf, openin
 use Rattle.token_text.specs.Spelling.{IsWord, BeginsRaw, IsPlainWord, IsRawWord, IsPiece, Begins, IsVisible, opens, closes}
 use Rattle.token_text.proofs.Fronts.{FrontBy, by_raw, by_word, by_single, front_by, word_by, raw_by, word_splits, raw_splits}
 use Rattle.token_text.proofs.Words.{plain_front, single_front}
-use Rattle.token_text.proofs.Tests.{same_number, all_pass, off, blank_fails, mark_fails, no_start, no_start_blank, no_start_mark, start_r}
+use Rattle.token_text.proofs.CharacterLaws.{same_number, all_pass, off, blank_fails, mark_fails, no_start, no_start_blank, no_start_mark, start_r}
 
 -- ---- runs
 
