@@ -5,7 +5,8 @@ use Rattle.std.specs.List.{AllByRecursion}
 use Rattle.token_core.specs.declared.tree.Delimiter.{Delimiter}
 use Rattle.token_core.specs.declared.tree.Delimiter.TheVariants as delimiters
 use Rattle.token_text.specs.Characters.{Text, is_blank, is_mark, is_start, is_continue, run, after_run}
-use Rattle.token_text.specs.Pieces.{Leaf, word, mark, Piece, blank, leaf, opening, closing, Found, found, word_front, raw_front, raw_mark, has_raw_form, front, single, as_word, begins_with, begins_comment, spacing, word_after}
+use Rattle.token_text.specs.Front.{Found, found, word_front, raw_front, raw_mark, front, single, as_word, word_after}
+use Rattle.token_text.specs.Pieces.{Leaf, word, mark, Piece, blank, leaf, opening, closing, has_raw_form, begins_with, begins_comment, spacing}
 use Rattle.token_text.specs.Spelling.{IsWord, BeginsRaw, IsPlainWord, IsRawWord, IsPiece, Begins, IsVisible, opens, closes}
 use Rattle.token_text.proofs.Fronts.{FrontBy, by_raw, by_word, by_single, front_by, word_by, raw_by, word_splits, raw_splits}
 use Rattle.token_text.proofs.Words.{plain_front, single_front}

@@ -8,7 +8,8 @@ use Rattle.token_core.specs.Refusal.{Refusal, Made}
 use Rattle.token_core.specs.Spans.{span}
 use Rattle.token_core.specs.declared.span.Span.{Span}
 use Rattle.token_text.specs.Characters.{Text, size}
-use Rattle.token_text.specs.Pieces.{Piece, Found, found, front}
+use Rattle.token_text.specs.Front.{Found, found, front}
+use Rattle.token_text.specs.Pieces.{Piece}
 use Rattle.token_text.specs.Reading.{State, act, finish, turn, unknown, with_more, reads, lexed, Fails}
 use Rattle.token_text.proofs.Fronts.{Splits, front_splits}
 

@@ -10,8 +10,10 @@ use Rattle.token_core.specs.Refusal.{Refusal, named, out_of_memory}
 use Rattle.token_core.specs.Spans.{span}
 use Rattle.token_core.specs.Toks.{Bytes}
 use Rattle.token_text.specs.Characters.{Text, size}
-use Rattle.token_text.specs.Pieces.{Leaf, Piece, blank, leaf, opening, closing, Found, found, front, tree_of}
-use Rattle.token_text.specs.Reading.{Frame, frame, State, state, start, same, group_tree, unexpected, closed, act, finish, finished, reads, lexed, Gives}
+use Rattle.token_text.specs.Front.{Found, found, front}
+use Rattle.token_text.specs.Pieces.{Leaf, Piece, blank, leaf, opening, closing, tree_of}
+use Rattle.token_text.specs.Pieces.{group_tree}
+use Rattle.token_text.specs.Reading.{Frame, frame, State, state, start, same, unexpected, closed, act, finish, finished, reads, lexed, Gives}
 use Rattle.token_text.specs.Spelling.{Begins, Spelled, nothing, a_blank, a_leaf, a_group, Spells}
 use Rattle.token_text.proofs.Fronts.{Splits, front_splits}
 use Rattle.token_text.proofs.Steps.{reads_end, reads_unknown, reads_piece, reads_refused}

@@ -3,7 +3,8 @@ use Rattle.std.proofs.Common.{◌≡◌, ℕ, ◌<◌, Bool, true, false, List, 
 use Rattle.std.proofs.lemmas.Str.{length-encode, len_utf8_bounds, encodes-append}
 use Rattle.std.proofs.lemmas.List.{append_cancel_right}
 use Rattle.token_text.specs.Characters.{Text, is_start, is_continue, run, after_run}
-use Rattle.token_text.specs.Pieces.{Piece, leaf, word, Found, found, word_front, raw_front, front, single, as_word}
+use Rattle.token_text.specs.Front.{Found, found, word_front, raw_front, front, single, as_word}
+use Rattle.token_text.specs.Pieces.{Piece, leaf, word}
 
 pub encode_utf8_nonempty : (c : ℕ) → 0 < length (encode_utf8 c)
 encode_utf8_nonempty c = let bounds = len_utf8_bounds c in omega (arith, length-encode c)

@@ -5,17 +5,17 @@ use denote.Enum.Bare.{sameb}
 use Rattle.token_core.specs.contracts.tree.Delimiter.{the_type}
 use Rattle.token_core.specs.declared.tree.Delimiter.{Delimiter}
 use Rattle.token_core.specs.declared.tree.TokenTree.{TokenTree}
-use Rattle.token_core.specs.declared.tree.TokenTree.TheVariants.{Group}
 use Rattle.token_core.specs.declared.span.Span.{Span}
 use Rattle.token_core.specs.declared.error.ErrorKind.TheVariants.{UnclosedDelimiter, UnexpectedClosingDelimiter, UnknownToken}
 use Rattle.token_core.specs.Refusal.{Refusal, named, out_of_memory}
-use Rattle.token_core.specs.Spans.{span, delim_span}
+use Rattle.token_core.specs.Spans.{span}
 use Rattle.token_core.specs.Toks.{Bytes}
-use Rattle.token_core.specs.Trees.{trees, group_of, stream_of_trees}
+use Rattle.token_core.specs.Trees.{trees}
 use Rattle.token_text.specs.declared.reader.Open as code_open
 use Rattle.token_text.specs.declared.reader.Reader as code
 use Rattle.token_text.specs.Characters.{Text, size}
-use Rattle.token_text.specs.Pieces.{Piece, blank, leaf, opening, closing, Found, front, tree_of}
+use Rattle.token_text.specs.Front.{Found, front}
+use Rattle.token_text.specs.Pieces.{Piece, blank, leaf, opening, closing, tree_of, group_tree}
 
 -- a group whose closing bracket is still to come: its bracket, where that stands, and the trees before it
 pub record Frame : Type 0 where
@@ -39,9 +39,6 @@ start = state [] []
 
 unfoldable pub same : Delimiter → Delimiter → Bool
 same = sameb the_type
-
-abbrev pub group_tree : Delimiter → Span → Span → List TokenTree → TokenTree
-group_tree d o c ts = Group (group_of d (stream_of_trees ts) (delim_span o c))
 
 abbrev pub unexpected : Span → Refusal
 unexpected s = named UnexpectedClosingDelimiter s

@@ -1,14 +1,17 @@
 -- What a text spells, rule by rule.
-use Rattle.std.specs.Prelude.{◌≡◌, ◌⊎◌, ℕ, ◌+◌, Bool, true, false, List, [], ◌∷◌, ◌++◌, codes, encode_utf8_all, chars}
+use Rattle.std.specs.Prelude.{◌≡◌, ◌⊎◌, ℕ, ◌+◌, Bool, true, false, List, [], ◌∷◌, ◌++◌, codes, encode_utf8_all, chars, Option, Some, None}
+use Rattle.std.specs.Char.{len_utf8}
 use Rattle.std.specs.List.{AllByRecursion}
 use Rattle.token_core.specs.declared.tree.Delimiter.{Delimiter}
-use Rattle.token_core.specs.declared.tree.Delimiter.TheVariants.{Parenthesis, Brace, Bracket, None}
+use Rattle.token_core.specs.declared.tree.Delimiter.TheVariants.{Parenthesis, Brace, Bracket, None as Invisible}
 use Rattle.token_core.specs.declared.tree.TokenTree.{TokenTree}
+use Rattle.token_core.specs.declared.span.Span.{Span}
+use Rattle.token_core.specs.declared.error.ErrorKind.TheVariants.{UnclosedDelimiter, UnexpectedClosingDelimiter, UnknownToken}
+use Rattle.token_core.specs.Refusal.{Refusal, named}
 use Rattle.token_core.specs.Spans.{span}
 use Rattle.token_core.specs.Toks.{Bytes}
 use Rattle.token_text.specs.Characters.{Text, size, is_blank, is_mark, is_start, is_continue}
-use Rattle.token_text.specs.Pieces.{Leaf, word, mark, Piece, blank, leaf, opening, closing, tree_of, has_raw_form, begins_with, begins_comment, spacing}
-use Rattle.token_text.specs.Reading.{group_tree}
+use Rattle.token_text.specs.Pieces.{Leaf, word, mark, Piece, blank, leaf, opening, closing, tree_of, group_tree, has_raw_form, begins_with, begins_comment, spacing}
 
 -- ---- the pieces
 
@@ -33,20 +36,20 @@ abbrev pub opens : Delimiter → Text
 opens Parenthesis = codes "("
 opens Brace = codes "{"
 opens Bracket = codes "["
-opens None = codes "\\("
+opens Invisible = codes "\\("
 
 abbrev pub closes : Delimiter → Text
 closes Parenthesis = codes ")"
 closes Brace = codes "}"
 closes Bracket = codes "]"
-closes None = codes "\\)"
+closes Invisible = codes "\\)"
 
 -- an invisible bracket is not read
 abbrev pub IsVisible : Delimiter → Type 0
 IsVisible Parenthesis = Unit {0}
 IsVisible Brace = Unit {0}
 IsVisible Bracket = Unit {0}
-IsVisible None = ⊥
+IsVisible Invisible = ⊥
 
 -- The text w is the piece, where `rest` follows it: so it is the longest that may begin there.
 abbrev pub IsPiece : Piece → Text → Text → Type 0
@@ -79,3 +82,35 @@ pub data Spelled : ℕ → Text → List TokenTree → ℕ → Text → Type 0 w
 -- the whole text spells the trees
 abbrev pub Spells : Bytes → List TokenTree → Type 0
 Spells text l = (end : ℕ) × Spelled 0 (chars text) l end []
+
+-- ---- the refusals
+
+-- no piece begins a text
+abbrev pub HasNoFront : Text → Type 0
+HasNoFront cs = (p : Piece) (w rest : Text) → Begins p cs w rest → ⊥
+
+-- a group by its bracket, and where that stands
+abbrev pub Opening : Type 0
+Opening = Delimiter × Span
+
+-- The text cs, whose offset is `at`, is trees and the brackets of groups that stay open, and then the rest,
+-- whose offset is `end`. The innermost of these groups is given, where there is one.
+pub data Reaches : ℕ → Text → Option Opening → ℕ → Text → Type 0 where
+  outside : (at end : ℕ) (cs rest : Text) (l : List TokenTree) → Spelled at cs l end rest → Reaches at cs None end rest
+  inside : (at middle end : ℕ) (cs es w ds rest : Text) (o : Option Opening) (d : Delimiter) (l : List TokenTree) →
+    Reaches at cs o middle es → Begins (opening d) es w ds → Spelled (middle + size w) ds l end rest →
+    Reaches at cs (Some (d, span middle (middle + size w))) end rest
+
+-- a closing bracket that doesn't belong to the innermost open group
+abbrev pub ClosesNone : Delimiter → Option Opening → Type 0
+ClosesNone d None = Unit {0}
+ClosesNone d (Some o) = ¬ (o.0 ≡ d)
+
+-- the text spells no trees, for this reason and at this place
+pub data Refused (text : Bytes) : Refusal → Type 0 where
+  unclosed : (end : ℕ) (o : Opening) → Reaches 0 (chars text) (Some o) end [] → Refused text (named UnclosedDelimiter o.1)
+  unexpected : (end : ℕ) (rest w ds : Text) (o : Option Opening) (d : Delimiter) →
+    Reaches 0 (chars text) o end rest → Begins (closing d) rest w ds → ClosesNone d o →
+    Refused text (named UnexpectedClosingDelimiter (span end (end + size w)))
+  unknown : (end c : ℕ) (ds : Text) (o : Option Opening) →
+    Reaches 0 (chars text) o end (c ∷ ds) → HasNoFront (c ∷ ds) → Refused text (named UnknownToken (span end (end + len_utf8 c)))

@@ -2,7 +2,8 @@
 
 ghost use Rattle.std.specs.Prelude.{◌≡◌, chars};
 ghost use Rattle.token_text.specs.Characters as c;
-ghost use Rattle.token_text.specs.Pieces as spec;
+ghost use Rattle.token_text.specs.Front as spec;
+ghost use Rattle.token_text.specs.Pieces as pieces;
 
 use crate::piece::{Leaf, Piece};
 use crate::word;
@@ -29,7 +30,7 @@ fn is_mark(ch: char) -> bool
 
 /// Whether a mark belongs with what follows it.
 fn spacing(rest: &str) -> Spacing
-    ensures { result ≡ spec.spacing (chars rest.now) }
+    ensures { result ≡ pieces.spacing (chars rest.now) }
 {
     match word::split_first(rest) {
         Some((next, _)) if is_mark(next) => Spacing::Joint,
@@ -38,7 +39,7 @@ fn spacing(rest: &str) -> Spacing
 }
 
 fn begins_comment(ch: char, rest: &str) -> bool
-    ensures { result ≡ spec.begins_comment ch (chars rest.now) }
+    ensures { result ≡ pieces.begins_comment ch (chars rest.now) }
 {
     match word::split_first(rest) {
         Some((next, _)) => ch == '/' && (next == '/' || next == '*'),
@@ -47,7 +48,7 @@ fn begins_comment(ch: char, rest: &str) -> bool
 }
 
 /// The piece of one character that this one is before `rest`.
-#[tactic(auto, unfolding(crate::specs::Pieces::single))]
+#[tactic(auto, unfolding(crate::specs::Front::single))]
 fn single(ch: char, rest: &str) -> Option<Piece<'_>>
     ensures { spec.Views (spec.single ch (chars rest.now)) result }
 {
@@ -66,7 +67,7 @@ fn single(ch: char, rest: &str) -> Option<Piece<'_>>
 }
 
 /// The longest piece at the front, and what follows it.
-#[tactic(auto, unfolding(crate::specs::Pieces::front))]
+#[tactic(auto, unfolding(crate::specs::Front::front))]
 pub fn front(text: &str) -> Option<(Piece<'_>, &str)>
     ensures { spec.Finds (spec.front (chars text.now)) text.now result }
 {

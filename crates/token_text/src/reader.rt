@@ -2,6 +2,7 @@
 
 ghost use Rattle.std.specs.Prelude.{◌≡◌, IfOk, MatchResult, Ok};
 ghost use Rattle.token_core.specs.Trees as trees;
+ghost use Rattle.token_text.specs.Front.{leaf_view, view};
 ghost use Rattle.token_text.specs.Pieces as pieces;
 ghost use Rattle.token_text.specs.Reading as spec;
 
@@ -29,7 +30,7 @@ pub struct Reader {
 }
 
 fn tree_of(alloc: Global, leaf: Leaf<'_>, span: Span) -> Result<TokenTree, AllocError>
-    ensures { IfOk result (λ t. t ≡ pieces.tree_of (pieces.leaf_view leaf.entry) span) }
+    ensures { IfOk result (λ t. t ≡ pieces.tree_of (leaf_view leaf.entry) span) }
 {
     match leaf {
         Leaf::Word(word) => Ok(TokenTree::Ident(Ident::new(alloc, word, span)?)),
@@ -57,7 +58,7 @@ impl Reader {
 
     /// Takes the next piece.
     pub fn take(&mut self, piece: Piece<'_>, span: Span) -> Result<(), Error>
-        ensures { spec.Gives (λ _. spec.state_of self.new) result (spec.act span (pieces.view piece.entry) (spec.state_of self.old)) }
+        ensures { spec.Gives (λ _. spec.state_of self.new) result (spec.act span (view piece.entry) (spec.state_of self.old)) }
     {
         match piece {
             Piece::Blank => Ok(()),

@@ -2,7 +2,8 @@
 
 ghost use Rattle.std.specs.Prelude.{◌≡◌, ◌∷◌, [], ◌++◌, ◌<◌, ℕ, List, length, encode_utf8, encode_utf8_all, chars, MatchOption};
 ghost use Rattle.token_text.specs.Characters as c;
-ghost use Rattle.token_text.specs.Pieces as spec;
+ghost use Rattle.token_text.specs.Front as spec;
+ghost use Rattle.token_text.specs.Pieces as pieces;
 
 /// The words that have no raw form, as they would be written.
 const NOT_RAW: [&str; 5] = ["r#_", "r#crate", "r#self", "r#super", "r#Self"];
@@ -57,7 +58,7 @@ fn after_run(text: &str) -> &str
 }
 
 /// What follows the word at the front.
-#[tactic(auto, unfolding(crate::specs::Pieces::word_front))]
+#[tactic(auto, unfolding(crate::specs::Front::word_front))]
 pub fn after_word(text: &str) -> Option<&str>
     ensures { spec.FindsFront (spec.word_front (chars text.now)) text.now result }
 {
@@ -84,7 +85,7 @@ fn after_raw_mark(text: &str) -> Option<&str>
 }
 
 /// What follows the raw word at the front, also of a word that has no raw form.
-#[tactic(auto, unfolding(crate::specs::Pieces::raw_front))]
+#[tactic(auto, unfolding(crate::specs::Front::raw_front))]
 pub fn after_raw_word(text: &str) -> Option<&str>
     ensures { spec.FindsFront (spec.raw_front (chars text.now)) text.now result }
 {
@@ -93,7 +94,7 @@ pub fn after_raw_word(text: &str) -> Option<&str>
 
 #[tactic(auto, unfolding(crate::specs::Pieces::has_raw_form))]
 pub fn has_raw_form(word: &str) -> bool
-    ensures { result ≡ spec.has_raw_form word.now }
+    ensures { result ≡ pieces.has_raw_form word.now }
 {
     !NOT_RAW.contains(&word)
 }
