@@ -1,11 +1,11 @@
 //! Text to tokens.
 
-ghost use Rattle.std.specs.Prelude.{◌≡◌, List, IfOk, MatchResult};
+ghost use Rattle.std.specs.Prelude.{◌≡◌, ◌⊎◌, List, IfOk, IfErr, MatchResult};
 ghost use Rattle.token_core.specs.declared.tree.TokenTree.{TokenTree};
-ghost use Rattle.token_core.specs.Refusal.{out_of_memory};
+ghost use Rattle.token_core.specs.Refusal.{Refusal, out_of_memory};
 ghost use Rattle.token_core.specs.Trees.{trees};
 ghost use Rattle.token_text.specs.Reading as spec;
-ghost use Rattle.token_text.specs.Spelling.{Spells};
+ghost use Rattle.token_text.specs.Spelling.{Spells, Refused};
 
 use crate::front::front;
 use crate::reader::Reader;
@@ -30,7 +30,11 @@ pub fn lex(alloc: Global, text: &str) -> Result<TokenStream, Error>
     ensures read { IfOk result (λ s. Spells text.now (trees s)) }
     // What the text spells is read, unless memory runs out.
     ensures all { (l : List TokenTree) → Spells text.now l → MatchResult result (λ s. trees s ≡ l) (λ e. e ≡ out_of_memory) }
-    // Which refusal it is.
+    // A refusal that is not for memory is one that the text has,
+    ensures refused { IfErr result (λ e. (e ≡ out_of_memory) ⊎ Refused text.now e) }
+    // and a text that has one is not read.
+    ensures refuses { (e : Refusal) → Refused text.now e → MatchResult result (λ _. ⊥) (λ r. (r ≡ e) ⊎ (r ≡ out_of_memory)) }
+    // The same by a function of the text.
     ensures exact { spec.Gives trees result (spec.lexed text.now) }
 {
     read(alloc, text)
