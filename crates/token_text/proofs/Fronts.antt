@@ -1,9 +1,9 @@
 -- By what rule the front of a text was found, and that it is a front.
-use Rattle.std.proofs.Common.{◌≡◌, ℕ, ◌<◌, ◌+◌, Bool, true, false, cond, List, [], ◌∷◌, ◌++◌, ◌&&◌, ◌==◌, length, encode_utf8_all, Option, Some, None, refl, sym, ap, ap₂, ◌∙◌, arith}
+use Rattle.std.proofs.Common.{◌≡◌, ℕ, ◌<◌, Bool, true, false, cond, [], ◌∷◌, ◌++◌, ◌&&◌, ◌==◌, length, encode_utf8_all, Option, Some, None, refl, sym, ap, ap₂, ◌∙◌, arith}
 use Rattle.std.proofs.lemmas.Bool.Decides.{nat_tests}
 use Rattle.token_text.specs.Characters.{Text, is_start, is_continue, run, after_run}
-use Rattle.token_text.specs.Front.{Found, found, word_front, raw_front, raw_mark, front, single, as_word, as_raw_word, as_single, with_raw_mark, raw_or_other, plain_or_single, front_single, word_after, map_with_raw_mark}
-use Rattle.token_text.specs.Pieces.{Piece, leaf, word, has_raw_form}
+use Rattle.token_text.specs.Front.{Found, found, word_front, raw_front, raw_mark, front, single, as_word, as_single, with_raw_mark, raw_or_other, plain_or_single, front_single, word_after, map_with_raw_mark}
+use Rattle.token_text.specs.Pieces.{Piece, has_raw_form}
 
 -- which rule found f at the front of cs
 pub data FrontBy (cs : Text) (f : Found) : Type 0 where

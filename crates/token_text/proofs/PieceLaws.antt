@@ -1,16 +1,15 @@
 -- The front that is found is the piece with which the text begins, and the only one.
-use Rattle.std.proofs.Common.{◌≡◌, ℕ, ◌<◌, Bool, true, false, not, cond, ◌||◌, ◌&&◌, ◌==◌, ◌⊎◌, inl, inr, List, [], ◌∷◌, ◌++◌, codes, length, encode_utf8_all, Option, Some, None, refl, sym, ap, ap₂, ◌∙◌, subst, arith}
-use Rattle.std.proofs.lemmas.Bool.Decides.{nat_tests}
+use Rattle.std.proofs.Common.{◌≡◌, ℕ, Bool, true, false, cond, ◌==◌, ◌⊎◌, inl, inr, [], ◌∷◌, ◌++◌, encode_utf8_all, Option, Some, None, refl, sym, ap, ◌∙◌, subst}
 use Rattle.std.specs.List.{AllByRecursion}
 use Rattle.token_core.specs.declared.tree.Delimiter.{Delimiter}
 use Rattle.token_core.specs.declared.tree.Delimiter.TheVariants as delimiters
 use Rattle.token_text.specs.Characters.{Text, is_blank, is_mark, is_start, is_continue, run, after_run}
-use Rattle.token_text.specs.Front.{Found, found, word_front, raw_front, raw_mark, front, single, as_word, word_after}
-use Rattle.token_text.specs.Pieces.{Leaf, word, mark, Piece, blank, leaf, opening, closing, has_raw_form, begins_with, begins_comment, spacing}
+use Rattle.token_text.specs.Front.{Found, found, word_front, raw_front, front, single, as_word}
+use Rattle.token_text.specs.Pieces.{word, mark, Piece, blank, leaf, opening, closing, has_raw_form, begins_with, begins_comment, spacing}
 use Rattle.token_text.specs.Spelling.{IsWord, BeginsRaw, IsPlainWord, IsRawWord, IsPiece, Begins, IsVisible, opens, closes}
 use Rattle.token_text.proofs.Fronts.{FrontBy, by_raw, by_word, by_single, front_by, word_by, raw_by, word_splits, raw_splits}
 use Rattle.token_text.proofs.Words.{plain_front, single_front}
-use Rattle.token_text.proofs.CharacterLaws.{same_number, all_pass, off, blank_fails, mark_fails, no_start, no_start_blank, no_start_mark, start_r}
+use Rattle.token_text.proofs.CharacterLaws.{same_number, mark_fails, no_start, no_start_blank, no_start_mark, start_r}
 
 -- ---- runs
 

@@ -1,17 +1,15 @@
 -- Reading, a piece at a time.
-use Rattle.std.proofs.Common.{◌≡◌, ℕ, zero, suc, ◌<◌, ◌+◌, ◌-◌, ◌≤◌, List, [], ◌∷◌, ◌++◌, length, take, drop, encode_utf8, encode_utf8_all, Option, Some, None, Result, Ok, Err, refl, sym, ap, ap₂, ◌∙◌, arith, length-append, drop_at, take_at, inl, inr, chars, ◌⊎◌}
-use Rattle.std.proofs.Math.Seq.{drop-nil}
+use Rattle.std.proofs.Common.{◌≡◌, ℕ, zero, suc, ◌<◌, ◌+◌, ◌-◌, ◌≤◌, List, [], ◌∷◌, ◌++◌, length, take, drop, encode_utf8, encode_utf8_all, Some, None, Result, Ok, Err, refl, ap, ap₂, ◌∙◌, arith, length-append, drop_at, take_at, inl, inr, chars}
 use Rattle.std.proofs.lemmas.Str.{length-encode, length-le-encodes}
 use Rattle.std.specs.Char.{len_utf8}
-use Rattle.token_core.specs.declared.tree.TokenTree.{TokenTree}
 use Rattle.token_core.specs.Refusal.{Refusal, Made}
 use Rattle.token_core.specs.Spans.{span}
 use Rattle.token_core.specs.declared.span.Span.{Span}
 use Rattle.token_text.specs.Characters.{Text, size}
-use Rattle.token_text.specs.Front.{Found, found, front}
+use Rattle.token_text.specs.Front.{found, front}
 use Rattle.token_text.specs.Pieces.{Piece}
-use Rattle.token_text.specs.Reading.{State, act, finish, turn, unknown, with_more, reads, lexed, Fails}
-use Rattle.token_text.proofs.Fronts.{Splits, front_splits}
+use Rattle.token_text.specs.Reading.{State, act, finish, turn, unknown, reads, lexed, Fails}
+use Rattle.token_text.proofs.Fronts.{front_splits}
 
 pub size-cons : (c : ℕ) (cs : Text) → size (c ∷ cs) ≡ len_utf8 c + size cs
 size-cons c cs = length-append (encode_utf8 c) (encode_utf8_all cs) ∙ ap (λ n. n + size cs) (length-encode c)

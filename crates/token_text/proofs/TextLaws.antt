@@ -1,5 +1,5 @@
 -- What is read of a text is what it spells, and what it spells is read.
-use Rattle.std.proofs.Common.{◌≡◌, ℕ, zero, suc, ◌<◌, ◌≤◌, ◌+◌, Bool, true, false, cond, ◌⊎◌, inl, inr, List, [], ◌∷◌, ◌++◌, length, chars, Option, Some, None, Result, Ok, Err, refl, sym, ap, ap₂, ◌∙◌, subst, arith, append_assoc, append-nil, length-append, rules, IfOk, IfErr, MatchResult}
+use Rattle.std.proofs.Common.{◌≡◌, ℕ, zero, suc, ◌≤◌, ◌+◌, Bool, true, false, ◌⊎◌, inl, inr, List, [], ◌∷◌, ◌++◌, length, chars, Option, Some, None, Result, Ok, Err, refl, sym, ap, ◌∙◌, subst, arith, append_assoc, append-nil, length-append, rules, IfOk, IfErr, MatchResult}
 use denote.Enum.Bare.{same_true}
 use Rattle.token_core.specs.contracts.tree.Delimiter.{the_type}
 use Rattle.token_core.specs.declared.tree.Delimiter.{Delimiter}
@@ -14,9 +14,9 @@ use Rattle.token_text.specs.Characters.{Text, size}
 use Rattle.token_text.specs.Front.{Found, found, front}
 use Rattle.token_text.specs.Pieces.{Leaf, Piece, blank, leaf, opening, closing, tree_of}
 use Rattle.token_text.specs.Pieces.{group_tree}
-use Rattle.token_text.specs.Reading.{Frame, frame, State, state, start, same, unexpected as unexpected_at, closed, act, finish, finished, reads, lexed, Gives}
+use Rattle.token_text.specs.Reading.{Frame, frame, state, start, same, unexpected as unexpected_at, closed, act, finished, reads, lexed, Gives}
 use Rattle.token_text.specs.Spelling.{Begins, Spelled, nothing, a_blank, a_leaf, a_group, Spells, HasNoFront, Opening, Reaches, outside, inside, ClosesNone, Refused, unclosed, unexpected, unknown}
-use Rattle.token_text.proofs.Fronts.{Splits, front_splits}
+use Rattle.token_text.proofs.Fronts.{front_splits}
 use Rattle.token_text.proofs.Steps.{reads_end, reads_unknown, reads_piece, reads_refused}
 use Rattle.token_text.proofs.PieceLaws.{front_is, front_only}
 
@@ -74,8 +74,8 @@ spelled_more {end = end} {rest = rest} {m = m} (a_group at inner_end middle cs w
 data Stack (text : Text) : List Frame → List TokenTree → ℕ → Text → Type 0 where
   bottom : (ts : List TokenTree) (at : ℕ) (cs : Text) → Spelled 0 text ts at cs → Stack text [] ts at cs
   deeper : (f : Frame) (fs : List Frame) (ts : List TokenTree) (at middle : ℕ) (cs es w ds : Text) → Stack text fs f.before middle es
-    → Begins (opening f.delimiter) es w ds → f.span ≡ span middle (middle + size w) → Spelled (middle + size w) ds ts at cs
-    → Stack text (f ∷ fs) ts at cs
+      → Begins (opening f.delimiter) es w ds → f.span ≡ span middle (middle + size w) → Spelled (middle + size w) ds ts at cs
+      → Stack text (f ∷ fs) ts at cs
 
 stack_more : {text cs ds : Text} {fs : List Frame} {ts l : List TokenTree} {at next : ℕ} → Stack text fs ts at cs → Spelled at cs l next ds
     → Stack text fs (ts ++ l) next ds
@@ -87,7 +87,7 @@ stack_blank : {text cs w ds : Text} {fs : List Frame} {ts : List TokenTree} {at 
     → Stack text fs ts (at + size w) ds
 stack_blank {text} {cs} {w} {ds} {fs} {ts} {at} s b =
     subst (λ ls. Stack text fs ls (at + size w) ds) (append-nil ts)
-      (stack_more s (a_blank at (at + size w) cs w ds ds [] b (nothing (at + size w) ds)))
+    (stack_more s (a_blank at (at + size w) cs w ds ds [] b (nothing (at + size w) ds)))
 
 stack_leaf : {text cs w ds : Text} {fs : List Frame} {ts : List TokenTree} {at : ℕ} (t : Leaf) → Stack text fs ts at cs → Begins (leaf t) cs w ds
     → Stack text fs (ts ++ tree_of t (span at (at + size w)) ∷ []) (at + size w) ds
@@ -104,7 +104,7 @@ stack_closing : {text cs v gs : Text} {f : Frame} {fs : List Frame} {ts : List T
 stack_closing {text} {v = v} {gs = gs} (deeper f fs ts at middle cs es w ds below b e s) c =
     let here = group_tree f.delimiter (span middle (middle + size w)) (span at (at + size v)) ts in
     let more : Spelled middle es (here ∷ []) (at + size v) gs =
-      a_group middle at (at + size v) es w ds cs v gs gs f.delimiter ts [] b s c (nothing (at + size v) gs) in
+    a_group middle at (at + size v) es w ds cs v gs gs f.delimiter ts [] b s c (nothing (at + size v) gs) in
     subst (λ o. Stack text fs (f.before ++ group_tree f.delimiter o (span at (at + size v)) ts ∷ []) (at + size v) gs) (sym e) (stack_more below more)
 
 abbrev innermost : List Frame → Option Opening
@@ -115,7 +115,7 @@ stack_reaches : {text cs : Text} {fs : List Frame} {ts : List TokenTree} {at : �
 stack_reaches {text} (bottom ts at cs s) = outside 0 at text cs ts s
 stack_reaches {text} (deeper f fs ts at middle cs es w ds below b e s) =
     subst (λ o. Reaches 0 text (Some (f.delimiter, o)) at cs) (sym e)
-      (inside 0 middle at text es w ds cs (innermost fs) f.delimiter ts (stack_reaches below) b s)
+    (inside 0 middle at text es w ds cs (innermost fs) f.delimiter ts (stack_reaches below) b s)
 
 -- the trees that a text spells, or why it is refused
 abbrev Verdict : Bytes → Result (List TokenTree) Refusal → Type 0
@@ -147,7 +147,7 @@ module _ (text : Bytes) (n : ℕ) (sound : Sound text n) (cs w ds : Text) (at : 
       → closed d (span at (at + size w)) fs ts ≡ Err (unexpected_at (span at (at + size w))) → Stack (chars text) fs ts at cs → Told fs
   told_unexpected d fs h none a s =
       subst (Verdict text) (sym (reads_refused at (state fs ts) cs w ds (closing d) (unexpected_at (span at (at + size w))) h a))
-        (unexpected at cs w ds (innermost fs) d (stack_reaches s) (front_is cs (found (closing d) w ds) h) none)
+      (unexpected at cs w ds (innermost fs) d (stack_reaches s) (front_is cs (found (closing d) w ds) h) none)
 
   told_closing : (d : Delimiter) (fs : List Frame) → front cs ≡ Some (found (closing d) w ds) → Stack (chars text) fs ts at cs → Told fs
   told_closing d [] h s = told_unexpected d [] h tt refl s
@@ -155,8 +155,8 @@ module _ (text : Bytes) (n : ℕ) (sound : Sound text n) (cs w ds : Text) (at : 
       let P : Bool → Type 0 = λ b. same f.delimiter d ≡ b → Told (f ∷ fs) in
       let by : P (same f.delimiter d) = elim (same f.delimiter d) as P [
         | true ↦ λ e.
-          let g = h ∙ ap (λ k. Some (found (closing k) w ds)) (sym (same_is f.delimiter d e)) in
-          told_next (closing f.delimiter) (f ∷ fs) fs (f.before ++ group_tree f.delimiter f.span (span at (at + size w)) ts ∷ []) g
+            let g = h ∙ ap (λ k. Some (found (closing k) w ds)) (sym (same_is f.delimiter d e)) in
+            told_next (closing f.delimiter) (f ∷ fs) fs (f.before ++ group_tree f.delimiter f.span (span at (at + size w)) ts ∷ []) g
             (closed_same f.delimiter f.span (span at (at + size w)) f.before ts fs)
             (stack_closing s (front_is cs (found (closing f.delimiter) w ds) g))
         | false ↦ λ e. told_unexpected d (f ∷ fs) h (differs d f.delimiter e) (rw e refl) s
@@ -214,10 +214,13 @@ reads_reaches : {at end : ℕ} {cs rest : Text} {o : Option Opening} → Reaches
 reads_reaches (outside at end cs rest l s) = ([], l, refl, reads_spelled s [] [])
 reads_reaches (inside at middle end cs es w ds rest o d l below b s) =
     let c = reads_reaches below in
-    let f = frame d (span middle (middle + size w)) c.1 in
-    (f ∷ c.0, l, (f, c.0, refl, refl, refl),
-     c.3 ∙ reads_piece middle (state c.0 c.1) (state (f ∷ c.0) []) es w ds (opening d) (front_only (opening d) es w ds b) refl
-     ∙ reads_spelled s (f ∷ c.0) [])
+    let f = frame d (span middle (middle + size w)) c.1 in (
+      f ∷ c.0,
+      l,
+      (f, c.0, refl, refl, refl),
+      c.3 ∙ reads_piece middle (state c.0 c.1) (state (f ∷ c.0) []) es w ds (opening d) (front_only (opening d) es w ds b) refl
+          ∙ reads_spelled s (f ∷ c.0) [],
+    )
 
 closes_none : (d : Delimiter) (s : Span) (o : Option Opening) (fs : List Frame) (ts : List TokenTree) → IsInnermost o fs → ClosesNone d o
     → closed d s fs ts ≡ Err (unexpected_at s)
@@ -241,7 +244,7 @@ lexed_refused text e (unclosed end o r) =
 lexed_refused text e (unexpected end rest w ds o d r b none) =
     let c = reads_reaches r in
     c.3 ∙ reads_refused end (state c.0 c.1) rest w ds (closing d) (unexpected_at (span end (end + size w))) (front_only (closing d) rest w ds b)
-      (closes_none d (span end (end + size w)) o c.0 c.1 c.2 none)
+    (closes_none d (span end (end + size w)) o c.0 c.1 c.2 none)
 lexed_refused text e (unknown end ch ds o r none) =
     let c = reads_reaches r in
     c.3 ∙ reads_unknown end ch (state c.0 c.1) ds (found_none (ch ∷ ds) (front (ch ∷ ds)) refl none)

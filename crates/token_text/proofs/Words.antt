@@ -1,10 +1,10 @@
 -- Steps over the characters of a text, and the words and pieces that they find.
-use Rattle.std.proofs.Common.{◌≡◌, ℕ, ◌<◌, Bool, true, false, List, [], ◌∷◌, ◌++◌, length, chars, encode_utf8, encode_utf8_all, Option, Some, None, refl, sym, ap, ◌∙◌, append_assoc, append-nil, arith}
+use Rattle.std.proofs.Common.{◌≡◌, ℕ, ◌<◌, Bool, true, List, [], ◌∷◌, ◌++◌, length, chars, encode_utf8, encode_utf8_all, Option, Some, None, refl, sym, ap, ◌∙◌, append_assoc, append-nil, arith}
 use Rattle.std.proofs.lemmas.Str.{length-encode, len_utf8_bounds, encodes-append}
 use Rattle.std.proofs.lemmas.List.{append_cancel_right}
 use Rattle.token_text.specs.Characters.{Text, is_start, is_continue, run, after_run}
-use Rattle.token_text.specs.Front.{Found, found, word_front, raw_front, front, single, as_word}
-use Rattle.token_text.specs.Pieces.{Piece, leaf, word}
+use Rattle.token_text.specs.Front.{found, word_front, raw_front, front, single, as_word}
+use Rattle.token_text.specs.Pieces.{Piece}
 
 pub encode_utf8_nonempty : (c : ℕ) → 0 < length (encode_utf8 c)
 encode_utf8_nonempty c = let bounds = len_utf8_bounds c in omega (arith, length-encode c)

@@ -1,5 +1,5 @@
 -- Texts by their characters, and what the characters are to a text of Rust.
-use Rattle.std.specs.Prelude.{ℕ, Bool, true, false, ◌&&◌, ◌||◌, ◌==◌, if◌then◌else◌, List, [], ◌∷◌, length, codes, encode_utf8_all}
+use Rattle.std.specs.Prelude.{ℕ, Bool, ◌||◌, ◌==◌, if◌then◌else◌, List, [], ◌∷◌, length, codes, encode_utf8_all}
 use Rattle.std.specs.List.{list_any}
 use Rattle.unicode_ident.specs.Ident.{is_xid_start, is_xid_continue}
 

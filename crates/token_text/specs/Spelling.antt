@@ -1,5 +1,5 @@
 -- What a text spells, rule by rule.
-use Rattle.std.specs.Prelude.{◌≡◌, ◌⊎◌, ℕ, ◌+◌, Bool, true, false, List, [], ◌∷◌, ◌++◌, codes, encode_utf8_all, chars, Option, Some, None}
+use Rattle.std.specs.Prelude.{◌≡◌, ◌⊎◌, ℕ, ◌+◌, true, false, List, [], ◌∷◌, ◌++◌, codes, encode_utf8_all, chars, Option, Some, None}
 use Rattle.std.specs.Char.{len_utf8}
 use Rattle.std.specs.List.{AllByRecursion}
 use Rattle.token_core.specs.declared.tree.Delimiter.{Delimiter}
@@ -98,8 +98,8 @@ Opening = Delimiter × Span
 pub data Reaches : ℕ → Text → Option Opening → ℕ → Text → Type 0 where
   outside : (at end : ℕ) (cs rest : Text) (l : List TokenTree) → Spelled at cs l end rest → Reaches at cs None end rest
   inside : (at middle end : ℕ) (cs es w ds rest : Text) (o : Option Opening) (d : Delimiter) (l : List TokenTree) →
-    Reaches at cs o middle es → Begins (opening d) es w ds → Spelled (middle + size w) ds l end rest →
-    Reaches at cs (Some (d, span middle (middle + size w))) end rest
+      Reaches at cs o middle es → Begins (opening d) es w ds → Spelled (middle + size w) ds l end rest →
+      Reaches at cs (Some (d, span middle (middle + size w))) end rest
 
 -- a closing bracket that doesn't belong to the innermost open group
 abbrev pub ClosesNone : Delimiter → Option Opening → Type 0
@@ -110,7 +110,7 @@ ClosesNone d (Some o) = ¬ (o.0 ≡ d)
 pub data Refused (text : Bytes) : Refusal → Type 0 where
   unclosed : (end : ℕ) (o : Opening) → Reaches 0 (chars text) (Some o) end [] → Refused text (named UnclosedDelimiter o.1)
   unexpected : (end : ℕ) (rest w ds : Text) (o : Option Opening) (d : Delimiter) →
-    Reaches 0 (chars text) o end rest → Begins (closing d) rest w ds → ClosesNone d o →
-    Refused text (named UnexpectedClosingDelimiter (span end (end + size w)))
+      Reaches 0 (chars text) o end rest → Begins (closing d) rest w ds → ClosesNone d o →
+      Refused text (named UnexpectedClosingDelimiter (span end (end + size w)))
   unknown : (end c : ℕ) (ds : Text) (o : Option Opening) →
-    Reaches 0 (chars text) o end (c ∷ ds) → HasNoFront (c ∷ ds) → Refused text (named UnknownToken (span end (end + len_utf8 c)))
+      Reaches 0 (chars text) o end (c ∷ ds) → HasNoFront (c ∷ ds) → Refused text (named UnknownToken (span end (end + len_utf8 c)))

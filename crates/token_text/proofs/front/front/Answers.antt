@@ -1,7 +1,6 @@
 use Rattle.std.proofs.Common.{chars, ◌∷◌, [], ap, sym, ◌∙◌, ◌++◌, Some}
 use Rattle.token_text.specs.Front.{found}
 use Rattle.token_text.specs.Pieces.{leaf, word}
-use Rattle.token_text.specs.Characters.{Text}
 use Rattle.token_text.proofs.Words.{plain_front, single_front, spelled_so, encodes_one}
 use Rattle.token_text.proofs.front.front.Goals as goal
 

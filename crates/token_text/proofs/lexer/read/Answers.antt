@@ -5,7 +5,7 @@ use Rattle.token_core.specs.Spans.{span}
 use Rattle.token_core.specs.Refusal.{named}
 use Rattle.token_core.specs.declared.error.ErrorKind.TheVariants.{UnknownToken}
 use Rattle.token_text.specs.Front.{view}
-use Rattle.token_text.specs.Reading.{reads, lexed, state_of, act, unknown, finish}
+use Rattle.token_text.specs.Reading.{reads, lexed, state_of, finish}
 use Rattle.token_text.proofs.Steps.{reads_unknown, reads_end, ahead, loop_goes, loop_stops, fails_so, made_fails}
 use Rattle.token_text.proofs.lexer.read.Goals as goal
 

@@ -1,4 +1,4 @@
-use Rattle.std.proofs.Common.{◌≡◌, ◌++◌, ◌-◌, length, ap, arith, length-append}
+use Rattle.std.proofs.Common.{◌≡◌, ◌-◌, length, ap, arith, length-append}
 use Rattle.std.proofs.lemmas.Str.{IsCharBoundary-at_seam}
 use Rattle.token_text.proofs.word.up_to.Goals as goal
 
