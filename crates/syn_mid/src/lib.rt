@@ -1,10 +1,8 @@
 //! Paths and macro calls of Rust, read from token lists into syntax trees and printed back.
 #![tactic(auto)]
 
-
-
+pub mod path;
 pub mod supplied;
 
-
-
+pub use path::{AngleBracketedGenericArguments, ParenthesizedGenericArguments, Path, PathArguments, PathSegment};
 pub use supplied::{Place, Subtree};

@@ -8,3 +8,4 @@ pub mod Lists
 pub mod Puts
 pub mod Turns
 pub mod Headlines
+pub mod Took

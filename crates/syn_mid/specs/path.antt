@@ -1,0 +1,4 @@
+pub mod Paths
+pub mod Spelling
+pub mod Reading
+pub mod Printing

@@ -1,0 +1,41 @@
+-- What paths print.
+use Rattle.std.specs.Prelude.{List, [], ◌++◌, Option, Some, None}
+use Rattle.token_core.specs.declared.tree.Delimiter.TheVariants.{Parenthesis}
+use Rattle.token_core.specs.Prints as p
+use Rattle.token_core.specs.Prints.{Print}
+use Rattle.token_core.specs.Trees.{stream_of_trees}
+use Rattle.token_core.specs.Lists.{joined}
+use Rattle.syn_mid.specs.declared.path.Path.{Path}
+use Rattle.syn_mid.specs.declared.path.PathSegment.{PathSegment}
+use Rattle.syn_mid.specs.declared.path.PathArguments.{PathArguments}
+use Rattle.syn_mid.specs.declared.path.PathArguments.TheVariants as a
+use Rattle.syn_mid.specs.declared.path.AngleBracketedGenericArguments.{AngleBracketedGenericArguments}
+use Rattle.syn_mid.specs.declared.path.ParenthesizedGenericArguments.{ParenthesizedGenericArguments}
+use Rattle.syn_mid.specs.declared.path.PathStyle.{PathStyle}
+use Rattle.syn_mid.specs.declared.path.PathStyle.TheVariants.{AsWritten, Mod}
+use Rattle.syn_mid.specs.path.Paths.{Sep}
+
+abbrev pub colon : Option Sep → Print
+colon None = []
+colon (Some m) = p.mark m
+
+module _ {X : Type 0} where
+  abbrev pub angle_bracketed : AngleBracketedGenericArguments X → Print
+  angle_bracketed g = colon g.colon2_token ++ (p.mark g.lt_token ++ p.mark g.gt_token)
+
+  abbrev pub parenthesized : ParenthesizedGenericArguments X → Print
+  parenthesized g = p.group Parenthesis (stream_of_trees []) g.paren_token.span
+
+  -- arguments print as they stand, or not at all
+  abbrev pub arguments : PathStyle → PathArguments X → Print
+  arguments Mod g = []
+  arguments AsWritten a.None = []
+  arguments AsWritten (a.AngleBracketed g) = angle_bracketed g
+  arguments AsWritten (a.Parenthesized g) = parenthesized g
+
+  abbrev pub segment : PathStyle → PathSegment X → Print
+  segment style s = p.ident s.ident ++ arguments style s.arguments
+
+  -- the leading colon, and each segment with its mark
+  abbrev pub path : PathStyle → Path X → Print
+  path style x = colon x.leading_colon ++ joined (segment style) p.mark x.segments.0 x.segments.1

@@ -1,0 +1,46 @@
+-- Which lists an admitted path spells.
+use Rattle.std.specs.Prelude.{◌≡◌, ◌||◌, ℕ, Bool, true, List, [], ◌∷◌, Option, Some, None}
+use Rattle.token_core.specs.declared.span.Span.{Span}
+use Rattle.token_core.specs.declared.tree.Ident.{Ident}
+use Rattle.token_core.specs.declared.tree.Spacing.{Spacing}
+use Rattle.token_core.specs.declared.tree.Spacing.TheVariants.{Joint}
+use Rattle.token_core.specs.Toks.{Bytes, Toks, done, word, mark}
+use Rattle.token_core.specs.Trees.{punct}
+use Rattle.token_core.specs.Reads.{is_ident, is_text}
+use Rattle.token_core.specs.Marks.{text_of}
+use Rattle.token_core.specs.Clear.{Apart}
+use Rattle.syn_mid.specs.declared.path.Path.{Path}
+use Rattle.syn_mid.specs.declared.path.PathSegment.{PathSegment}
+use Rattle.syn_mid.specs.path.Paths.{Sep, segment_of, path_of}
+
+-- an identifier that is no keyword, or `super`, `self`, `Self` or `crate`
+abbrev pub is_mod_word : Bytes → Bool
+is_mod_word t = is_ident t || (is_text (text_of 2) t || (is_text (text_of 1) t || (is_text (text_of 0) t || is_text (text_of 3) t)))
+
+abbrev pub sep_chars : List ℕ
+sep_chars = 58 ∷ 58 ∷ []
+
+-- `::` with the spans of its characters
+abbrev pub sep_at : Span → Span → Sep
+sep_at a b = record { spans = a ∷ b ∷ [] }
+
+module _ (clear : Bool) where
+  -- a leading `::`, or none: the first tokens are its spelling, and then the second
+  pub data IsLeading : Option Sep → Toks → Toks → Type 0 where
+    no_leading : {r : Toks} → IsLeading None r r
+    leading : {a b : Span} {j : Spacing} {r : Toks} → Apart clear sep_chars j r → IsLeading (Some (sep_at a b)) (mark (punct 58 Joint a) (mark (punct 58 j b) r)) r
+
+  module _ {X : Type 0} where
+    -- segments of mod style joined by `::`: without arguments, and no `::` at the end
+    pub data AreModSegments : List (PathSegment X) → List Sep → Toks → Toks → Type 0 where
+      last_segment : {i : Ident} {r : Toks} → is_mod_word i.text ≡ true → AreModSegments (segment_of i ∷ []) [] (word i r) r
+      more_segments : {i : Ident} {a b : Span} {j : Spacing} {all : List (PathSegment X)} {seps : List Sep} {l r : Toks} → is_mod_word i.text ≡ true → Apart clear sep_chars j l →
+          AreModSegments all seps l r → AreModSegments (segment_of i ∷ all) (sep_at a b ∷ seps) (word i (mark (punct 58 Joint a) (mark (punct 58 j b) l))) r
+
+    -- a path of mod style
+    pub data IsModPath : Path X → Toks → Toks → Type 0 where
+      mod_path : {o : Option Sep} {all : List (PathSegment X)} {seps : List Sep} {l m r : Toks} → IsLeading o l m → AreModSegments all seps m r → IsModPath (path_of o (all, seps)) l r
+
+-- all of a list
+abbrev pub SpellsModPath : {X : Type 0} → Bool → Path X → Toks → Type 0
+SpellsModPath clear p l = IsModPath clear p l done

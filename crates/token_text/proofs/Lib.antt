@@ -1,0 +1,6 @@
+mod Words
+mod Fronts
+mod Steps
+mod CharacterLaws
+mod PieceLaws
+mod TextLaws

@@ -1,0 +1,95 @@
+-- Reading, a piece at a time.
+use Rattle.std.proofs.Common.{◌≡◌, ℕ, zero, suc, ◌<◌, ◌+◌, ◌-◌, ◌≤◌, List, [], ◌∷◌, ◌++◌, length, take, drop, encode_utf8, encode_utf8_all, Some, None, Result, Ok, Err, refl, ap, ap₂, ◌∙◌, arith, length-append, drop_at, take_at, inl, inr, chars}
+use Rattle.std.proofs.lemmas.Str.{length-encode, length-le-encodes}
+use Rattle.std.specs.Char.{len_utf8}
+use Rattle.token_core.specs.Refusal.{Refusal, Made}
+use Rattle.token_core.specs.Spans.{span}
+use Rattle.token_core.specs.declared.span.Span.{Span}
+use Rattle.token_text.specs.Characters.{Text, size}
+use Rattle.token_text.specs.Front.{found, front}
+use Rattle.token_text.specs.Pieces.{Piece}
+use Rattle.token_text.specs.Reading.{State, act, finish, turn, unknown, reads, lexed, Fails}
+use Rattle.token_text.proofs.Fronts.{front_splits}
+
+pub size-cons : (c : ℕ) (cs : Text) → size (c ∷ cs) ≡ len_utf8 c + size cs
+size-cons c cs = length-append (encode_utf8 c) (encode_utf8_all cs) ∙ ap (λ n. n + size cs) (length-encode c)
+
+-- what is left of a piece is passed over
+pub reads_left : (n at : ℕ) (x : State) (cs : Text) → reads n at x cs ≡ reads 0 (at + size (take n cs)) x (drop n cs)
+unfolding reads
+reads_left zero at x cs = let e : at ≡ at + 0 = omega arith in ap (λ a. reads 0 a x cs) e
+reads_left (suc n) at x [] = refl
+reads_left (suc n) at x (c ∷ cs) =
+    let e : (at + len_utf8 c) + size (take n cs) ≡ at + size (c ∷ take n cs) = omega (arith, size-cons c (take n cs)) in
+    reads_left n (at + len_utf8 c) x cs ∙ ap (λ a. reads 0 a x (drop n cs)) e
+
+pub reads_end : (at : ℕ) (x : State) → reads 0 at x [] ≡ finish x
+unfolding reads
+reads_end at x = refl
+
+pub reads_unknown : (at c : ℕ) (x : State) (cs : Text) → front (c ∷ cs) ≡ None → reads 0 at x (c ∷ cs) ≡ Err (unknown at c)
+unfolding reads
+reads_unknown at c x cs h = rw (h, reads) refl
+
+reads_turn_err : (at c : ℕ) (x : State) (cs : Text) (e : Refusal) → turn at c x (front (c ∷ cs)) ≡ Err e → reads 0 at x (c ∷ cs) ≡ Err e
+unfolding reads
+reads_turn_err at c x cs e h = rw (h, reads) refl
+
+reads_turn_ok : (at c : ℕ) (x y : State) (n : ℕ) (cs : Text) → turn at c x (front (c ∷ cs)) ≡ Ok (y, n) → reads 0 at x (c ∷ cs) ≡ reads n (at + len_utf8 c) y cs
+unfolding reads
+reads_turn_ok at c x y n cs h = rw (h, reads) refl
+
+-- the piece at the front is taken
+pub reads_piece : (at : ℕ) (x y : State) (cs w rest : Text) (p : Piece) → front cs ≡ Some (found p w rest) → act (span at (at + size w)) p x ≡ Ok y
+    → reads 0 at x cs ≡ reads 0 (at + size w) y rest
+reads_piece at x y cs [] rest p h a = let s = front_splits cs (found p [] rest) h in absurd (omega (arith, s.some))
+reads_piece at x y [] (c ∷ w) rest p h a = let s = front_splits [] (found p (c ∷ w) rest) h in let e = s.whole in cc
+reads_piece at x y (d ∷ cs) (c ∷ w) rest p h a =
+    let s = front_splits (d ∷ cs) (found p (c ∷ w) rest) h in
+    let whole = s.whole in
+    let same : d ≡ c = cc in
+    let tail : cs ≡ w ++ rest = cc in
+    let n : suc (length w) - 1 ≡ length w = omega arith in
+    let t : turn at d x (front (d ∷ cs)) ≡ Ok (y, length w) = rw (h, a) (ap (λ m. Ok (y, m)) n) in
+    let e : (at + len_utf8 d) + size w ≡ at + size (c ∷ w) = omega (arith, size-cons c w, ap len_utf8 same) in
+    reads_turn_ok at d x y (length w) cs t ∙ reads_left (length w) (at + len_utf8 d) y cs
+    ∙ ap₂ (λ (a : ℕ) (r : Text). reads 0 a y r)
+    (ap (λ u. (at + len_utf8 d) + size u) (ap (take (length w)) tail ∙ take_at w rest (length w) refl) ∙ e)
+    (ap (drop (length w)) tail ∙ drop_at w rest (length w) refl)
+
+pub reads_refused : (at : ℕ) (x : State) (cs w rest : Text) (p : Piece) (e : Refusal) → front cs ≡ Some (found p w rest) → act (span at (at + size w)) p x ≡ Err e
+    → reads 0 at x cs ≡ Err e
+reads_refused at x [] w rest p e h a = let s = front_splits [] (found p w rest) h in absurd (omega (arith, s.some, ap length s.whole, length-append w rest))
+reads_refused at x (c ∷ cs) w rest p e h a = reads_turn_err at c x cs e (rw (h, a) refl)
+
+-- ---- the loop over a text
+
+module _ (text rest after : List ℕ) (w : Text) (p : Piece) (x : State) (known : lexed text ≡ reads 0 (length text - length rest) x (chars rest))
+    (le : length rest ≤ length text) (h : front (chars rest) ≡ Some (found p w (chars after))) (e : rest ≡ encode_utf8_all w ++ after) where
+  lengths : length rest ≡ size w + length after
+  lengths = ap length e ∙ length-append (encode_utf8_all w) after
+
+  pub ahead : length after < length rest
+  ahead =
+      let s = front_splits (chars rest) (found p w (chars after)) h in
+      omega (arith, lengths, s.some, length-le-encodes w)
+
+  place : (length text - length rest) + size w ≡ length text - length after
+  place = omega (arith, lengths)
+
+  pub loop_goes : (s : Span) (y : State) → s ≡ span (length text - length rest) (length text - length after) → act s p x ≡ Ok y
+      → lexed text ≡ reads 0 (length text - length after) y (chars after)
+  loop_goes s y is a =
+      known ∙ reads_piece (length text - length rest) x y (chars rest) w (chars after) p h (rw (place, ← is) a)
+      ∙ ap (λ n. reads 0 n y (chars after)) place
+
+  pub loop_stops : (s : Span) (r : Refusal) → s ≡ span (length text - length rest) (length text - length after) → act s p x ≡ Err r → lexed text ≡ Err r
+  loop_stops s r is a = known ∙ reads_refused (length text - length rest) x (chars rest) w (chars after) p r h (rw (place, ← is) a)
+
+pub fails_so : {A B : Type 0} (r : Refusal) (o : Result A Refusal) (u : Result B Refusal) → Fails r o → (o ≡ Err r → u ≡ Err r) → Fails r u
+fails_so r o u (inl h) f = inl h
+fails_so r o u (inr h) f = inr (f h)
+
+pub made_fails : {A : Type 0} (e r : Refusal) (o : Result A Refusal) → Made e r → o ≡ Err r → Fails e o
+made_fails e r o (inl h) f = inr (rw h f)
+made_fails e r o (inr h) f = inl h

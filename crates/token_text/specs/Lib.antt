@@ -1,0 +1,6 @@
+pub mod Characters
+pub mod Pieces
+pub mod Spelling
+pub mod Front
+pub mod Reading
+pub mod Printing

@@ -1,0 +1,58 @@
+//! Text to tokens.
+
+ghost use Rattle.std.specs.Prelude.{◌≡◌, ◌⊎◌, List, IfOk, IfErr, MatchResult};
+ghost use Rattle.token_core.specs.declared.tree.TokenTree.{TokenTree};
+ghost use Rattle.token_core.specs.Refusal.{Refusal, out_of_memory};
+ghost use Rattle.token_core.specs.Trees.{trees};
+ghost use Rattle.token_text.specs.Reading as spec;
+ghost use Rattle.token_text.specs.Spelling.{Spells, Refused};
+
+use crate::front::front;
+use crate::reader::Reader;
+use crate::word;
+use std::alloc::Global;
+use token_core::{Error, ErrorKind, Span, TokenStream};
+
+/// Reads the tokens of a text, each with the bytes from which to which it stands.
+///
+/// From its start the text is cut into pieces, each the longest that may begin there:
+///
+/// - a blank: a space, a tab, a line feed or a carriage return;
+/// - a word: `_` or a character that may start an identifier, and then those that may continue one;
+///   with `r#` before it a raw word, which `_`, `crate`, `self`, `super` and `Self` have not;
+/// - a mark: one of ``! # $ % & * + , - . / : ; < = > ? @ ^ ~ |``, joint where another mark follows;
+/// - a bracket of `( )`, `[ ]` or `{ }`, which come in pairs, one inside another.
+///
+/// It refuses a text with an unknown start of a token, which may also be `//` or `/*`, with a closing
+/// bracket that doesn't belong to the innermost open one, and with an open bracket at its end.
+pub fn lex(alloc: Global, text: &str) -> Result<TokenStream, Error>
+    // What is read the text spells.
+    ensures read { IfOk result (λ s. Spells text.now (trees s)) }
+    // What the text spells is read, unless memory runs out.
+    ensures all { (l : List TokenTree) → Spells text.now l → MatchResult result (λ s. trees s ≡ l) (λ e. e ≡ out_of_memory) }
+    // A refusal that is not for memory is one that the text has,
+    ensures refused { IfErr result (λ e. (e ≡ out_of_memory) ⊎ Refused text.now e) }
+    // and a text that has one is not read.
+    ensures refuses { (e : Refusal) → Refused text.now e → MatchResult result (λ _. ⊥) (λ r. (r ≡ e) ⊎ (r ≡ out_of_memory)) }
+    // The same by a function of the text.
+    ensures exact { spec.Gives trees result (spec.lexed text.now) }
+{
+    read(alloc, text)
+}
+
+fn read(alloc: Global, text: &str) -> Result<TokenStream, Error>
+    ensures { spec.Gives trees result (spec.lexed text.now) }
+{
+    let mut reader = Reader::new(alloc);
+    let mut rest = text;
+    while let Some((first, _)) = word::split_first(rest) {
+        let at = text.len() - rest.len();
+        let Some((piece, after)) = front(rest) else {
+            let span = Span::new(at, at + first.len_utf8());
+            return Err(Error::named(alloc, ErrorKind::UnknownToken, span));
+        };
+        reader.take(piece, Span::new(at, text.len() - after.len()))?;
+        rest = after;
+    }
+    reader.finish()
+}

@@ -1,0 +1,14 @@
+//! Text to tokens, and back.
+#![tactic(auto)]
+
+mod front;
+mod lexer;
+mod piece;
+mod printer;
+mod reader;
+#[cfg(test)]
+mod tests;
+mod word;
+
+pub use lexer::lex;
+pub use printer::text_of;
