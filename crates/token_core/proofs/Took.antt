@@ -1,21 +1,18 @@
 -- What a read took of a list without invisible groups, where it answers.
-use Rattle.std.proofs.Common.{◌≡◌, ℕ, Bool, true, false, ◌==◌, if◌then◌else◌, List, [], ◌∷◌, Option, Some, None, Ok, Err, ◌⊎◌, inl, inr, refl, sym, ◌∙◌, ap, subst}
+use Rattle.std.proofs.Common.{◌≡◌, ℕ, Bool, true, false, ◌==◌, if◌then◌else◌, List, [], ◌∷◌, Option, Some, None, Ok, Err, ◌⊎◌, inl, inr, refl, sym, ◌∙◌, ap}
 use Rattle.std.proofs.lemmas.Bool.{eqb-true}
-use Rattle.token_core.specs.declared.tree.Delimiter.{Delimiter}
 use Rattle.token_core.specs.declared.tree.Spacing.{Spacing}
 use Rattle.token_core.specs.declared.tree.Spacing.TheVariants.{Joint, Alone}
 use Rattle.token_core.specs.declared.tree.Ident.{Ident}
 use Rattle.token_core.specs.declared.tree.Punct.{Punct}
 use Rattle.token_core.specs.declared.span.Span.{Span}
-use Rattle.token_core.specs.declared.span.DelimSpan.{DelimSpan}
 use Rattle.token_core.specs.declared.mark.Spans.{Spans}
 use Rattle.token_core.specs.Refusal.{Refusal}
 use Rattle.token_core.specs.Toks.{Bytes, Toks, done, word, mark, lit, group, enter, leave}
 use Rattle.token_core.specs.Trees.{punct}
 use Rattle.token_core.specs.Rebuilt.{Visible, stream_of}
-use Rattle.token_core.specs.Front.{front}
 use Rattle.token_core.specs.Stream.{Stream}
-use Rattle.token_core.specs.Reads.{Reader, Outcome, Body, and_then, pure, past, past_mark, put_first, three, is_joint, as_punct, sees_word, read_word, next_word, read_mark, delimited, any_text, leaves, is_done, first_of, goes_on, expected}
+use Rattle.token_core.specs.Reads.{Reader, Outcome, Body, and_then, pure, past, past_mark, put_first, three, is_joint, sees_word, read_word, next_word, read_mark, delimited, leaves, is_done, first_of, goes_on, expected}
 use Rattle.token_core.proofs.Turns.{same_pair}
 
 -- a stream by its parts
@@ -115,9 +112,11 @@ two_put c d p k q (Some z) h j f e =
     let one = f z refl in
     let g : ◌≡◌ {A = Spans × Toks} (three p.span z.0.first z.0.second, z.1) q = cc in
     record {
-      first = p.span; second = one.span; spacing = one.spacing;
+      first = p.span;
+      second = one.span;
+      spacing = one.spacing;
       is = ap (λ n. mark (punct n p.spacing p.span) k) h ∙ ap (λ n. mark (punct c n p.span) k) j
-        ∙ ap (mark (punct c Joint p.span)) (one.is ∙ ap (λ (y : Spans × Toks). mark (punct d one.spacing one.span) y.1) g);
+          ∙ ap (mark (punct c Joint p.span)) (one.is ∙ ap (λ (y : Spans × Toks). mark (punct d one.spacing one.span) y.1) g);
       spans = ap (λ (y : Spans × Toks). y.0) (sym g) ∙ ap (λ (y : Spans). three p.span y.first y.second) one.spans;
     }
 
