@@ -1,12 +1,15 @@
 //! Paths.
 
-ghost use Rattle.std.specs.Prelude.{◌≡◌, option_map, IfOk};
+ghost use Rattle.std.specs.Prelude.{◌≡◌, true, option_map, IfOk};
+ghost use Rattle.token_core.specs.Reads.{Reads, Follows, sees_word};
 ghost use Rattle.syn_mid.specs.path.Paths as spec;
+ghost use Rattle.syn_mid.specs.path.Reading as reading;
+ghost use Rattle.syn_mid.specs.path.Spelling.{is_mod_word};
 
 use std::alloc::{AllocError, Global};
 use std::marker::PhantomData;
-use token_core::token::{Gt, Lt, Paren, PathSep};
-use token_core::{Ident, Punctuated};
+use token_core::token::{Crate, Gt, Lt, Paren, PathSep, SelfType, SelfValue, Super};
+use token_core::{Error, ErrorKind, Ident, ParseStream, Punctuated, Token};
 
 /// A path: an optional leading `::`, and segments joined by `::`.
 #[derive(Drop)]
@@ -147,5 +150,71 @@ impl<X> PathSegment<X> {
         } else {
             None
         }
+    }
+}
+
+impl<X: Drop> Path<X> {
+    /// Reads a path of mod style: an optional `::`, and identifiers, `super`, `self`, `Self` or `crate` joined by `::`,
+    /// without arguments. It is refused where no segment begins, and after a `::` that none follows.
+    #[tactic(auto, using(token_core::proofs::Suffixes::follows), unfolding(crate::specs::path::Reading::mod_style))]
+    pub fn parse_mod_style(alloc: Global, input: &mut ParseStream<'_>) -> Result<Path<X>, Error>
+        ensures reads { Reads (reading.mod_style input.old) result input.new }
+        ensures within { Follows input.old input.new }
+    {
+        let leading_colon = parse_leading(alloc, input)?;
+        let segments = parse_mod_segments(alloc, input)?;
+        Ok(Path {
+            leading_colon,
+            segments,
+        })
+    }
+}
+
+#[tactic(auto, unfolding(crate::specs::path::Reading::leading))]
+fn parse_leading(alloc: Global, input: &mut ParseStream<'_>) -> Result<Option<PathSep>, Error>
+    ensures reads { Reads (reading.leading input.old) result input.new }
+    ensures within { Follows input.old input.new }
+{
+    input.parse_option::<PathSep>(alloc)
+}
+
+/// Whether a segment of mod style begins here.
+#[tactic(auto, using(crate::proofs::path_laws::Turns::or_words))]
+fn begins_mod_segment(input: &ParseStream<'_>) -> bool
+    ensures { result ≡ sees_word is_mod_word input.now.rest }
+{
+    // all tested, so that the answer is one value
+    input.peek::<Ident>() | (input.peek::<Super>() | (input.peek::<SelfValue>() | (input.peek::<SelfType>() | input.peek::<Crate>())))
+}
+
+/// A segment of mod style; at first an identifier is expected, and after a `::` a segment.
+#[tactic(auto, using(token_core::proofs::Suffixes::follows), unfolding(crate::specs::path::Reading::mod_segment))]
+fn parse_mod_segment<X>(alloc: Global, input: &mut ParseStream<'_>, is_first: bool) -> Result<PathSegment<X>, Error>
+    ensures reads { Reads (reading.mod_segment is_first input.old) result input.new }
+    ensures within { Follows input.old input.new }
+{
+    if begins_mod_segment(input) {
+        return Ok(PathSegment::from(Ident::parse_any(alloc, input)?));
+    }
+    if is_first {
+        Err(input.expected(alloc, Ident::display()))
+    } else {
+        Err(input.refuse(alloc, ErrorKind::ExpectedPathSegment))
+    }
+}
+
+#[tactic(auto, using(token_core::proofs::Suffixes::follows))]
+fn parse_mod_segments<X: Drop>(alloc: Global, input: &mut ParseStream<'_>) -> Result<Punctuated<PathSegment<X>, PathSep>, Error>
+    ensures reads { Reads (reading.mod_segments true input.old) result input.new }
+    ensures within { Follows input.old input.new }
+{
+    let mut segments = Punctuated::new(alloc);
+    'turn: loop {
+        let segment = parse_mod_segment(alloc, input, segments.is_empty())?;
+        segments.push_value(alloc, segment)?;
+        if !input.peek::<PathSep>() {
+            return Ok(segments);
+        }
+        segments.push_punct(input.parse::<PathSep>(alloc)?)?;
     }
 }
