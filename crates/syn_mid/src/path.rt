@@ -1,15 +1,19 @@
 //! Paths.
 
-ghost use Rattle.std.specs.Prelude.{◌≡◌, true, option_map, IfOk};
+ghost use Rattle.std.specs.Prelude.{◌≡◌, ◌++◌, true, option_map, IfOk, OnOk, OnErr};
+ghost use Rattle.token_core.specs.Trees.{trees};
+ghost use Rattle.token_core.specs.Prints as prints;
+ghost use Rattle.token_core.specs.Prints.{Extends};
 ghost use Rattle.token_core.specs.Reads.{Reads, Follows, sees_word};
 ghost use Rattle.syn_mid.specs.path.Paths as spec;
+ghost use Rattle.syn_mid.specs.path.Printing as printing;
 ghost use Rattle.syn_mid.specs.path.Reading as reading;
 ghost use Rattle.syn_mid.specs.path.Spelling.{is_mod_word};
 
 use std::alloc::{AllocError, Global};
 use std::marker::PhantomData;
 use token_core::token::{Crate, Gt, Lt, Paren, PathSep, SelfType, SelfValue, Super};
-use token_core::{Error, ErrorKind, Ident, ParseStream, Punctuated, Token};
+use token_core::{Error, ErrorKind, Ident, ParseStream, Punctuated, ToTokens, Token, TokenStream};
 
 /// A path: an optional leading `::`, and segments joined by `::`.
 #[derive(Drop)]
@@ -216,5 +220,123 @@ fn parse_mod_segments<X: Drop>(alloc: Global, input: &mut ParseStream<'_>) -> Re
             return Ok(segments);
         }
         segments.push_punct(input.parse::<PathSep>(alloc)?)?;
+    }
+}
+
+// ---- prints
+
+impl<X> ToTokens for Path<X> {
+    ghost print = { printing.path printing.as_written };
+
+    fn to_tokens(&self, alloc: Global, out: &mut TokenStream) -> Result<(), AllocError> {
+        let before = out.len();
+        match print_path(alloc, self, PathStyle::AsWritten, out) {
+            Ok(()) => Ok(()),
+            Err(error) => {
+                out.truncate(before);
+                Err(error)
+            }
+        }
+    }
+}
+
+impl<X> ToTokens for PathSegment<X> {
+    ghost print = { printing.segment printing.as_written };
+
+    fn to_tokens(&self, alloc: Global, out: &mut TokenStream) -> Result<(), AllocError> {
+        let before = out.len();
+        match print_segment(alloc, self, PathStyle::AsWritten, out) {
+            Ok(()) => Ok(()),
+            Err(error) => {
+                out.truncate(before);
+                Err(error)
+            }
+        }
+    }
+}
+
+impl<X> ToTokens for PathArguments<X> {
+    ghost print = { printing.arguments printing.as_written };
+
+    fn to_tokens(&self, alloc: Global, out: &mut TokenStream) -> Result<(), AllocError> {
+        let before = out.len();
+        match print_arguments(alloc, self, PathStyle::AsWritten, out) {
+            Ok(()) => Ok(()),
+            Err(error) => {
+                out.truncate(before);
+                Err(error)
+            }
+        }
+    }
+}
+
+/// Appends a path; refused, what stood before is kept.
+#[tactic(auto, using(token_core::proofs::Puts::puts))]
+pub(crate) fn print_path<X>(alloc: Global, path: &Path<X>, style: PathStyle, out: &mut TokenStream) -> Result<(), AllocError>
+    ensures ok { OnOk result (trees out.new ≡ trees out.old ++ printing.path style path.now) }
+    ensures err { OnErr result (Extends (trees out.old) (trees out.new)) }
+{
+    print_colon(alloc, &path.leading_colon, out)?;
+    print_segments(alloc, &path.segments, style, out)
+}
+
+#[tactic(auto, using(token_core::proofs::Puts::puts))]
+fn print_segments<X>(alloc: Global, segments: &Punctuated<PathSegment<X>, PathSep>, style: PathStyle, out: &mut TokenStream) -> Result<(), AllocError>
+    ensures ok { OnOk result (trees out.new ≡ trees out.old ++ printing.segments style segments.now) }
+    ensures err { OnErr result (Extends (trees out.old) (trees out.new)) }
+{
+    let (pairs, last) = segments.parts();
+    for pair in pairs {
+        print_segment(alloc, &pair.value, style, out)?;
+        pair.mark.to_tokens(alloc, out)?;
+    }
+    match last {
+        Some(segment) => print_segment(alloc, segment, style, out),
+        None => Ok(()),
+    }
+}
+
+#[tactic(auto, using(token_core::proofs::Puts::puts))]
+fn print_segment<X>(alloc: Global, segment: &PathSegment<X>, style: PathStyle, out: &mut TokenStream) -> Result<(), AllocError>
+    ensures ok { OnOk result (trees out.new ≡ trees out.old ++ printing.segment style segment.now) }
+    ensures err { OnErr result (Extends (trees out.old) (trees out.new)) }
+{
+    segment.ident.to_tokens(alloc, out)?;
+    print_arguments(alloc, &segment.arguments, style, out)
+}
+
+#[tactic(auto, using(token_core::proofs::Puts::puts))]
+fn print_arguments<X>(alloc: Global, arguments: &PathArguments<X>, style: PathStyle, out: &mut TokenStream) -> Result<(), AllocError>
+    ensures ok { OnOk result (trees out.new ≡ trees out.old ++ printing.arguments style arguments.now) }
+    ensures err { OnErr result (Extends (trees out.old) (trees out.new)) }
+{
+    match style {
+        PathStyle::Mod => Ok(()),
+        PathStyle::AsWritten => match arguments {
+            PathArguments::None => Ok(()),
+            PathArguments::AngleBracketed(arguments) => print_angle_bracketed(alloc, arguments, out),
+            PathArguments::Parenthesized(arguments) => arguments.paren_token.surround(TokenStream::new(alloc), out),
+        },
+    }
+}
+
+#[tactic(auto, using(token_core::proofs::Puts::puts))]
+fn print_angle_bracketed<X>(alloc: Global, arguments: &AngleBracketedGenericArguments<X>, out: &mut TokenStream) -> Result<(), AllocError>
+    ensures ok { OnOk result (trees out.new ≡ trees out.old ++ printing.angle_bracketed arguments.now) }
+    ensures err { OnErr result (Extends (trees out.old) (trees out.new)) }
+{
+    print_colon(alloc, &arguments.colon2_token, out)?;
+    arguments.lt_token.to_tokens(alloc, out)?;
+    arguments.gt_token.to_tokens(alloc, out)
+}
+
+#[tactic(auto, using(token_core::proofs::Puts::puts))]
+fn print_colon(alloc: Global, colon: &Option<PathSep>, out: &mut TokenStream) -> Result<(), AllocError>
+    ensures ok { OnOk result (trees out.new ≡ trees out.old ++ printing.colon colon.now) }
+    ensures err { OnErr result (Extends (trees out.old) (trees out.new)) }
+{
+    match colon {
+        Some(colon) => colon.to_tokens(alloc, out),
+        None => Ok(()),
     }
 }
