@@ -43,7 +43,7 @@ pub record Taken {A : Type 0} (S : A → Toks → Toks → Type 0) (s t : Stream
   pub left : t.left ≡ s.left
 
 -- a clear colon, where no clearness is asked
-no_claim : {P : Type 0} → false ≡ true → P
+pub no_claim : {P : Type 0} → false ≡ true → P
 no_claim e = absurd (cc)
 
 leading_at : (s t : Stream) (o : Option Sep) (m : Sep) → Some m ≡ o → TookSep s t m → Taken (IsLeading false) s t o
