@@ -4,16 +4,19 @@ ghost use Rattle.std.specs.Prelude.{◌≡◌, ◌++◌, OnOk, OnErr};
 ghost use Rattle.token_core.specs.Trees.{trees};
 ghost use Rattle.token_core.specs.Prints as prints;
 ghost use Rattle.token_core.specs.Prints.{Extends};
-ghost use Rattle.token_core.specs.Reads.{Reads, Follows};
+ghost use Rattle.token_core.specs.Reads.{Reads, Follows, Gives, Fails};
+ghost use Rattle.token_core.specs.Headline.{Headline};
+ghost use Rattle.syn_mid.specs.mac.Grammars as grammars;
 ghost use Rattle.syn_mid.specs.mac.Macros as spec;
 ghost use Rattle.syn_mid.specs.mac.Printing as printing;
 ghost use Rattle.syn_mid.specs.mac.Reading as reading;
 
 use crate::path::{Path, PathStyle, print_path};
+use crate::supplied::Subtree;
 use std::alloc::{AllocError, Global};
 use token_core::token::{Brace, Bracket, Not, Paren};
 use token_core::token::surround;
-use token_core::{DelimSpan, Delimiter, Error, ErrorKind, ParseStream, ToTokens, TokenStream};
+use token_core::{DelimSpan, Delimiter, Error, ErrorKind, Parse, ParseStream, ToTokens, TokenStream};
 
 /// A macro call: a path of mod style, `!`, and a group.
 #[derive(Drop)]
@@ -97,6 +100,19 @@ pub(crate) fn parse_macro<X: Drop>(alloc: Global, input: &mut ParseStream<'_>) -
         tokens,
     })
 }
+
+/// Reads a macro call: a path of mod style, `!`, and a group, which goes on after the end of an invisible group but
+/// not into one. It is refused as the path is, where no `!` follows, and where no group follows that.
+impl<X: Subtree> Parse for Macro<X> {
+    ghost reads = { Gives (reading.mac {X = X}) };
+
+    ghost refuses = { Fails (reading.mac {X = X}) };
+
+    ghost promise = { Headline (grammars.mac {X = X}) };
+
+    fn parse(alloc: Global, input: &mut ParseStream<'_>) -> Result<Macro<X>, Error> {
+        parse_macro(alloc, input)
+    }}
 
 // ---- prints
 

@@ -5,6 +5,8 @@ ghost use Rattle.token_core.specs.Trees.{trees};
 ghost use Rattle.token_core.specs.Prints as prints;
 ghost use Rattle.token_core.specs.Prints.{Extends};
 ghost use Rattle.token_core.specs.Reads.{Reads, Follows, sees_word};
+ghost use Rattle.token_core.specs.Headline.{Heads};
+ghost use Rattle.syn_mid.specs.path.Grammars as grammars;
 ghost use Rattle.syn_mid.specs.path.Paths as spec;
 ghost use Rattle.syn_mid.specs.path.Printing as printing;
 ghost use Rattle.syn_mid.specs.path.Reading as reading;
@@ -160,18 +162,29 @@ impl<X> PathSegment<X> {
 impl<X: Drop> Path<X> {
     /// Reads a path of mod style: an optional `::`, and identifiers, `super`, `self`, `Self` or `crate` joined by `::`,
     /// without arguments. It is refused where no segment begins, and after a `::` that none follows.
-    #[tactic(auto, using(token_core::proofs::Suffixes::follows), unfolding(crate::specs::path::Reading::mod_style))]
+    ///
+    /// Where the stream has no left-over tree, a whole read that begins here keeps the promise of the grammar: it
+    /// answers only a path that spells the list, the path that a list spells clearly, and its print is read again.
     pub fn parse_mod_style(alloc: Global, input: &mut ParseStream<'_>) -> Result<Path<X>, Error>
         ensures reads { Reads (reading.mod_style input.old) result input.new }
         ensures within { Follows input.old input.new }
+        ensures headline { Heads grammars.mod_style input.old result input.new }
     {
-        let leading_colon = parse_leading(alloc, input)?;
-        let segments = parse_mod_segments(alloc, input)?;
-        Ok(Path {
-            leading_colon,
-            segments,
-        })
+        parse_mod_path(alloc, input)
     }
+}
+
+#[tactic(auto, using(token_core::proofs::Suffixes::follows), unfolding(crate::specs::path::Reading::mod_style))]
+fn parse_mod_path<X: Drop>(alloc: Global, input: &mut ParseStream<'_>) -> Result<Path<X>, Error>
+    ensures reads { Reads (reading.mod_style input.old) result input.new }
+    ensures within { Follows input.old input.new }
+{
+    let leading_colon = parse_leading(alloc, input)?;
+    let segments = parse_mod_segments(alloc, input)?;
+    Ok(Path {
+        leading_colon,
+        segments,
+    })
 }
 
 #[tactic(auto, unfolding(crate::specs::path::Reading::leading))]
