@@ -14,9 +14,10 @@ ghost use Rattle.syn_mid.specs.mac.Reading as reading;
 use crate::path::{Path, PathStyle, print_path};
 use crate::supplied::Subtree;
 use std::alloc::{AllocError, Global};
-use token_core::token::{Brace, Bracket, Not, Paren};
-use token_core::token::surround;
-use token_core::{DelimSpan, Delimiter, Error, ErrorKind, Parse, ParseStream, ToTokens, TokenStream};
+use token_core::token::{Brace, Bracket, Not, Paren, surround};
+use token_core::{
+    DelimSpan, Delimiter, Error, ErrorKind, Parse, ParseStream, ToTokens, TokenStream,
+};
 
 /// A macro call: a path of mod style, `!`, and a group.
 #[derive(Drop)]
@@ -71,7 +72,10 @@ impl MacroDelimiter {
 /// The brackets and the tokens of a body (`parse_delimiter`). It goes on after the end of an invisible group but not
 /// into one.
 #[tactic(auto, unfolding(crate::specs::mac::Reading::body))]
-pub(crate) fn parse_body(alloc: Global, input: &mut ParseStream<'_>) -> Result<(MacroDelimiter, TokenStream), Error>
+pub(crate) fn parse_body(
+    alloc: Global,
+    input: &mut ParseStream<'_>,
+) -> Result<(MacroDelimiter, TokenStream), Error>
     ensures reads { Reads (reading.body input.old) result input.new }
     ensures within { Follows input.old input.new }
 {
@@ -86,7 +90,10 @@ pub(crate) fn parse_body(alloc: Global, input: &mut ParseStream<'_>) -> Result<(
 }
 
 #[tactic(auto, using(token_core::proofs::Suffixes::follows), unfolding(crate::specs::mac::Reading::mac))]
-pub(crate) fn parse_macro<X: Drop>(alloc: Global, input: &mut ParseStream<'_>) -> Result<Macro<X>, Error>
+pub(crate) fn parse_macro<X: Drop>(
+    alloc: Global,
+    input: &mut ParseStream<'_>,
+) -> Result<Macro<X>, Error>
     ensures reads { Reads (reading.mac input.old) result input.new }
     ensures within { Follows input.old input.new }
 {
@@ -112,7 +119,8 @@ impl<X: Subtree> Parse for Macro<X> {
 
     fn parse(alloc: Global, input: &mut ParseStream<'_>) -> Result<Macro<X>, Error> {
         parse_macro(alloc, input)
-    }}
+    }
+}
 
 // ---- prints
 
@@ -148,5 +156,10 @@ fn print_call<X>(alloc: Global, mac: &Macro<X>, out: &mut TokenStream) -> Result
 {
     mac.bang_token.to_tokens(alloc, out)?;
     let tokens = mac.tokens.copy(alloc)?;
-    surround(mac.delimiter.delimiter(), *mac.delimiter.span(), tokens, out)
+    surround(
+        mac.delimiter.delimiter(),
+        *mac.delimiter.span(),
+        tokens,
+        out,
+    )
 }

@@ -1,5 +1,5 @@
 -- A macro call that a list spells clearly is what the read answers.
-use Rattle.std.proofs.Common.{◌≡◌, Bool, true, false, [], ◌∷◌, Option, Ok, refl, sym, ◌∙◌, ap}
+use Rattle.std.proofs.Common.{◌≡◌, true, false, Option, Ok, refl, ◌∙◌, ap}
 use Rattle.token_core.specs.declared.span.Span.{Span}
 use Rattle.token_core.specs.declared.span.DelimSpan.{DelimSpan}
 use Rattle.token_core.specs.declared.tree.Delimiter.{Delimiter}
@@ -8,12 +8,11 @@ use Rattle.token_core.specs.declared.tree.TokenStream.{TokenStream}
 use Rattle.token_core.specs.Toks.{Toks, mark, group}
 use Rattle.token_core.specs.Trees.{punct, toks}
 use Rattle.token_core.specs.Rebuilt.{stream_of}
-use Rattle.token_core.specs.Reads.{Outcome, sees_mark, read_mark, delimited}
+use Rattle.token_core.specs.Reads.{sees_mark, read_mark, delimited}
 use Rattle.token_core.proofs.Rebuilds.{stream_of-toks}
 use Rattle.token_core.proofs.Took.{at}
 use Rattle.syn_mid.specs.declared.mac.Macro.{Macro}
 use Rattle.syn_mid.specs.declared.mac.MacroDelimiter.{MacroDelimiter}
-use Rattle.syn_mid.specs.mac.Macros.{Held, macro_of}
 use Rattle.syn_mid.specs.mac.Reading.{bang, held, body, mac}
 use Rattle.syn_mid.specs.mac.Spelling.{bang_at, Delimits, in_paren, in_brace, in_bracket, IsMacro, a_macro}
 use Rattle.syn_mid.specs.path.Reading.{sees_sep}

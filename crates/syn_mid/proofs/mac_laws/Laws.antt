@@ -1,11 +1,10 @@
 -- The read of a macro call meets the laws of its grammar.
-use Rattle.std.proofs.Common.{◌≡◌, true, false, Ok, refl, sym, ◌∙◌, ap, subst}
-use Rattle.token_core.specs.Toks.{Toks, done}
+use Rattle.std.proofs.Common.{true, false, refl, subst}
+use Rattle.token_core.specs.Toks.{done}
 use Rattle.token_core.specs.Trees.{row, toks}
 use Rattle.token_core.specs.Rebuilt.{Visible}
 use Rattle.token_core.specs.Headline.{Lawful}
 use Rattle.token_core.proofs.Took.{at, took_all, leaves_none}
-use Rattle.syn_mid.specs.declared.mac.Macro.{Macro}
 use Rattle.syn_mid.specs.mac.Grammars.{mac}
 use Rattle.syn_mid.specs.mac.Printing as printing
 use Rattle.syn_mid.specs.mac.Spelling.{IsMacro}

@@ -1,13 +1,12 @@
 -- The print of a macro call spells it clearly.
-use Rattle.std.proofs.Common.{◌≡◌, Bool, true, false, [], ◌∷◌, ◌++◌, refl, sym, ◌∙◌, ap, subst}
+use Rattle.std.proofs.Common.{◌≡◌, Bool, true, false, [], ◌∷◌, refl, sym, ◌∙◌, ap, subst}
 use Rattle.token_core.specs.declared.span.Span.{Span}
 use Rattle.token_core.specs.declared.span.DelimSpan.{DelimSpan}
 use Rattle.token_core.specs.declared.tree.Delimiter.{Delimiter}
 use Rattle.token_core.specs.declared.tree.Spacing.TheVariants.{Alone}
 use Rattle.token_core.specs.declared.tree.TokenStream.{TokenStream}
-use Rattle.token_core.specs.declared.tree.TokenTree.TheVariants as t
-use Rattle.token_core.specs.Toks.{Toks, done, mark, group}
-use Rattle.token_core.specs.Trees.{punct, toks, row, group_of}
+use Rattle.token_core.specs.Toks.{Toks, mark, group}
+use Rattle.token_core.specs.Trees.{punct, toks, row}
 use Rattle.token_core.specs.Prints as p
 use Rattle.token_core.specs.Rebuilt.{Visible, IsVisible}
 use Rattle.token_core.proofs.Rebuilds.{tree-punct, visible-tree}
@@ -40,13 +39,13 @@ module _ {X : Type 0} where
   pub macro_again : (clear : Bool) (x : Macro X) (l r k : Toks) → IsMacro clear x l r → IsMacro true x (row (mac x) k) k
   macro_again clear x l r k (a_macro {p = q} {a = a} {j = j} {e = e} {d = d} {s = s} {c = c} {tokens = tokens} i apart h g) =
       let body : row (call (macro_of q (bang_at a) (e, tokens))) k ≡ mark (punct 33 Alone a) (group d s (toks tokens) k) =
-          row-append (p.mark (bang_at a)) (p.group (delimiter_of e) tokens (span_of e)) k
-          ∙ row-bang a (row (p.group (delimiter_of e) tokens (span_of e)) k)
-          ∙ ap (mark (punct 33 Alone a)) (row-body e d s tokens k h) in
+      row-append (p.mark (bang_at a)) (p.group (delimiter_of e) tokens (span_of e)) k
+      ∙ row-bang a (row (p.group (delimiter_of e) tokens (span_of e)) k)
+      ∙ ap (mark (punct 33 Alone a)) (row-body e d s tokens k h) in
       subst (λ z. IsMacro true (macro_of q (bang_at a) (e, tokens)) z k)
-          (sym (row-append (path Mod q) (call (macro_of q (bang_at a) (e, tokens))) k ∙ ap (row (path Mod q)) body))
-          (a_macro (path_again Mod clear q l (mark (punct 33 j a) (group d s c r)) (mark (punct 33 Alone a) (group d s (toks tokens) k)) i)
-              (alone (33 ∷ []) (group d s (toks tokens) k)) h refl)
+      (sym (row-append (path Mod q) (call (macro_of q (bang_at a) (e, tokens))) k ∙ ap (row (path Mod q)) body))
+      (a_macro (path_again Mod clear q l (mark (punct 33 j a) (group d s c r)) (mark (punct 33 Alone a) (group d s (toks tokens) k)) i)
+      (alone (33 ∷ []) (group d s (toks tokens) k)) h refl)
 
   pub whole_macro : (clear : Bool) (x : Macro X) (l r : Toks) → IsMacro clear x l r → ((tokens : TokenStream) → x.tokens ≡ tokens → Visible (toks tokens)) → Visible r → Visible l
   whole_macro clear x l r (a_macro {p = q} {a = a} {j = j} {e = e} {d = d} {s = s} {c = c} {tokens = tokens} i apart h g) held v =

@@ -1,5 +1,5 @@
 -- Where a read of a macro call answers, the call spells what was taken.
-use Rattle.std.proofs.Common.{◌≡◌, Bool, true, false, [], ◌∷◌, Ok, Err, refl, sym, ◌∙◌, ap, subst}
+use Rattle.std.proofs.Common.{◌≡◌, false, [], ◌∷◌, Ok, sym, ◌∙◌, ap, subst}
 use Rattle.token_core.specs.declared.span.Span.{Span}
 use Rattle.token_core.specs.declared.span.DelimSpan.{DelimSpan}
 use Rattle.token_core.specs.declared.tree.Delimiter.{Delimiter}
@@ -10,14 +10,13 @@ use Rattle.token_core.specs.Toks.{Toks, mark, group}
 use Rattle.token_core.specs.Trees.{punct, toks}
 use Rattle.token_core.specs.Groups as groups
 use Rattle.token_core.specs.Marks as marks
-use Rattle.token_core.specs.Rebuilt.{Visible, stream_of}
+use Rattle.token_core.specs.Rebuilt.{Visible}
 use Rattle.token_core.specs.Stream.{Stream}
 use Rattle.token_core.specs.Reads.{read_mark, delimited}
 use Rattle.token_core.proofs.Rebuilds.{toks-stream_of}
 use Rattle.token_core.proofs.Turns.{chain, same_pair}
 use Rattle.token_core.proofs.Took.{mapped, took_mark1, took_group}
 use Rattle.syn_mid.specs.declared.mac.Macro.{Macro}
-use Rattle.syn_mid.specs.declared.mac.MacroDelimiter.{MacroDelimiter}
 use Rattle.syn_mid.specs.declared.mac.MacroDelimiter.TheVariants as m
 use Rattle.syn_mid.specs.mac.Macros.{Bang, Held, macro_of}
 use Rattle.syn_mid.specs.mac.Reading.{bang, held, body, mac}
@@ -62,7 +61,9 @@ took_body s t h v e =
     let k = held_at c.value.0 c.value.1 c.value.2 c.rest t h c.goes in
     let seen = subst Visible g.is v in
     record {
-      delimiter = c.value.0; span = c.value.1; content = g.content;
+      delimiter = c.value.0;
+      span = c.value.1;
+      content = g.content;
       is = g.is ∙ ap (λ (z : Stream). group c.value.0 c.value.1 g.content z.rest) k.2;
       delimits = k.0;
       tokens = sym (toks-stream_of g.content seen.1) ∙ ap toks (sym g.tokens ∙ k.1);
@@ -84,7 +85,7 @@ module _ {X : Type 0} where
       let g = same_pair (macro_of c.value d.value f.value) x f.rest t f.goes in
       let whole : c.rest.rest ≡ mark (punct 33 b.spacing b.span) (group h.delimiter h.span h.content f.rest.rest) = b.is ∙ ap (mark (punct 33 b.spacing b.span)) h.is in
       let call : IsMacro false (macro_of c.value (bang_at b.span) f.value) s.rest f.rest.rest =
-          a_macro (subst (λ z. IsModPath false c.value s.rest z) whole p.spelt) (λ e j. no_claim e) h.delimits h.tokens in
+      a_macro (subst (λ z. IsModPath false c.value s.rest z) whole p.spelt) (λ e j. no_claim e) h.delimits h.tokens in
       record {
         spelt = subst (λ z. IsMacro false z s.rest t.rest) g.0 (subst (λ (z : Stream). IsMacro false (macro_of c.value d.value f.value) s.rest z.rest) g.1
             (subst (λ z. IsMacro false (macro_of c.value z f.value) s.rest f.rest.rest) b.mark_is call));

@@ -1,19 +1,18 @@
 -- A path that a list spells clearly is what the read answers.
-use Rattle.std.proofs.Common.{◌≡◌, ℕ, zero, suc, ◌<◌, ◌≤◌, Bool, true, false, if◌then◌else◌, List, [], ◌∷◌, Option, Some, None, Ok, Err, refl, sym, ◌∙◌, ap, subst, arith}
+use Rattle.std.proofs.Common.{◌≡◌, ℕ, zero, suc, ◌<◌, Bool, true, false, if◌then◌else◌, List, Option, Ok, refl, ◌∙◌, ap, arith}
 use Rattle.token_core.specs.declared.tree.Ident.{Ident}
 use Rattle.token_core.specs.declared.span.Span.{Span}
 use Rattle.token_core.specs.declared.tree.Spacing.{Spacing}
 use Rattle.token_core.specs.declared.tree.Spacing.TheVariants.{Joint}
-use Rattle.token_core.specs.Toks.{Bytes, Toks, word, mark, done}
+use Rattle.token_core.specs.Toks.{Toks, word, mark}
 use Rattle.token_core.specs.Trees.{punct}
 use Rattle.token_core.specs.Stream.{Stream}
-use Rattle.token_core.specs.Marks as marks
-use Rattle.token_core.specs.Loops.{Many, size, joined_from, joined}
-use Rattle.token_core.specs.Reads.{Outcome, Reader, and_then, pure, sees_word, sees_mark, read_word, next_word, read_mark, any_text, ident_name}
+use Rattle.token_core.specs.Loops.{size, joined_from, joined}
+use Rattle.token_core.specs.Reads.{Outcome, Reader, and_then, sees_word, sees_mark, read_word, next_word, read_mark, any_text, ident_name}
 use Rattle.token_core.proofs.Took.{at}
 use Rattle.syn_mid.specs.declared.path.Path.{Path}
 use Rattle.syn_mid.specs.declared.path.PathSegment.{PathSegment}
-use Rattle.syn_mid.specs.path.Paths.{Sep, segment_of, path_of}
+use Rattle.syn_mid.specs.path.Paths.{Sep, segment_of}
 use Rattle.syn_mid.specs.path.Reading.{sees_sep, sep, no_segment, mod_segment, mod_segments, mod_style}
 use Rattle.syn_mid.specs.path.Reading as reading
 use Rattle.syn_mid.specs.path.Spelling.{is_mod_word, sep_at, IsLeading, no_leading, leading, AreModSegments, last_segment, more_segments, IsModPath, mod_path}
@@ -79,7 +78,7 @@ module _ {X : Type 0} where
       record {
         last = q.last;
         reads = link _ (reads_segment first i (mark (punct 58 Joint a) (mark (punct 58 j b) m)) f e sc w)
-          (chosen (sees_sep (mark (punct 58 Joint a) (mark (punct 58 j b) m))) true _ _ (at (mark (punct 58 Joint a) (mark (punct 58 j b) m)) f i.span sc) _ (sees_sep-front a b j m)
+            (chosen (sees_sep (mark (punct 58 Joint a) (mark (punct 58 j b) m))) true _ _ (at (mark (punct 58 Joint a) (mark (punct 58 j b) m)) f i.span sc) _ (sees_sep-front a b j m)
             (link _ (reads_sep a b j m f i.span sc) (link _ q.reads refl)));
       }
 

@@ -1,17 +1,15 @@
 -- The read of a path of mod style meets the laws of its grammar.
-use Rattle.std.proofs.Common.{◌≡◌, Bool, true, false, List, [], ◌∷◌, Option, Some, None, Ok, refl, sym, ◌∙◌, subst}
+use Rattle.std.proofs.Common.{◌≡◌, Bool, true, false, List, Option, refl, subst}
 use Rattle.token_core.specs.Toks.{Toks, done}
 use Rattle.token_core.specs.Trees.{row}
 use Rattle.token_core.specs.Rebuilt.{Visible}
-use Rattle.token_core.specs.Stream.{Stream}
-use Rattle.token_core.specs.Reads.{sees_mark, leaves}
+use Rattle.token_core.specs.Reads.{sees_mark}
 use Rattle.token_core.specs.Headline.{Lawful}
 use Rattle.token_core.proofs.Took.{at, took_all, leaves_none}
 use Rattle.syn_mid.specs.declared.path.Path.{Path}
 use Rattle.syn_mid.specs.declared.path.PathSegment.{PathSegment}
 use Rattle.syn_mid.specs.declared.path.PathStyle.TheVariants.{AsWritten}
 use Rattle.syn_mid.specs.path.Paths.{Sep}
-use Rattle.syn_mid.specs.path.Reading as reading
 use Rattle.syn_mid.specs.path.Reading.{sees_sep}
 use Rattle.syn_mid.specs.path.Printing.{path}
 use Rattle.syn_mid.specs.path.Spelling.{IsLeading, no_leading, leading, AreModSegments, last_segment, more_segments, IsModPath, mod_path}

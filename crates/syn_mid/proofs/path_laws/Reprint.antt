@@ -1,12 +1,10 @@
 -- The print of a path of mod style spells it clearly.
-use Rattle.std.proofs.Common.{◌≡◌, Bool, true, false, List, [], ◌∷◌, ◌++◌, Option, Some, None, refl, sym, ◌∙◌, ap, subst}
+use Rattle.std.proofs.Common.{◌≡◌, Bool, true, List, [], ◌∷◌, ◌++◌, Option, Some, sym, ◌∙◌, ap, subst}
 use Rattle.token_core.specs.declared.tree.Ident.{Ident}
 use Rattle.token_core.specs.declared.span.Span.{Span}
-use Rattle.token_core.specs.declared.tree.Spacing.{Spacing}
 use Rattle.token_core.specs.declared.tree.Spacing.TheVariants.{Joint, Alone}
-use Rattle.token_core.specs.declared.tree.TokenTree.{TokenTree}
 use Rattle.token_core.specs.declared.tree.TokenTree.TheVariants as t
-use Rattle.token_core.specs.Toks.{Toks, word, mark, done}
+use Rattle.token_core.specs.Toks.{Toks, word, mark}
 use Rattle.token_core.specs.Trees.{punct, row}
 use Rattle.token_core.specs.Prints as p
 use Rattle.token_core.specs.Clear.{Apart}
@@ -43,13 +41,13 @@ module _ {X : Type 0} where
   segments_again style clear all seps l r k (more_segments {i = i} {a = a} {b = b} {all = xs} {seps = ps} {l = m} h c q) =
       let rest = row (segments style (xs, ps)) k in
       let seen : row (segments style (segment_of i ∷ xs, sep_at a b ∷ ps)) k ≡ word i (mark (punct 58 Joint a) (mark (punct 58 Alone b) rest)) =
-          row-append (segment {X = X} style (segment_of i)) (p.mark (sep_at a b) ++ segments style (xs, ps)) k
-          ∙ row-segment X style i (row (p.mark (sep_at a b) ++ segments style (xs, ps)) k)
-          ∙ ap (word i) (row-append (p.mark (sep_at a b)) (segments style (xs, ps)) k ∙ row-sep a b rest) in
+      row-append (segment {X = X} style (segment_of i)) (p.mark (sep_at a b) ++ segments style (xs, ps)) k
+      ∙ row-segment X style i (row (p.mark (sep_at a b) ++ segments style (xs, ps)) k)
+      ∙ ap (word i) (row-append (p.mark (sep_at a b)) (segments style (xs, ps)) k ∙ row-sep a b rest) in
       subst (λ z. AreModSegments true (segment_of i ∷ xs) (sep_at a b ∷ ps) z k) (sym seen)
-          (more_segments h (alone sep_chars rest) (segments_again style clear xs ps m r k q))
+      (more_segments h (alone sep_chars rest) (segments_again style clear xs ps m r k q))
 
   pub path_again : (style : PathStyle) (clear : Bool) (x : Path X) (l r k : Toks) → IsModPath clear x l r → IsModPath true x (row (path style x) k) k
   path_again style clear x l r k (mod_path {o = o} {all = all} {seps = seps} {m = m} i q) =
       subst (λ z. IsModPath true (path_of o (all, seps)) z k) (sym (row-append (colon o) (segments style (all, seps)) k))
-          (mod_path (leading_again clear o l m (row (segments style (all, seps)) k) i) (segments_again style clear all seps m r k q))
+      (mod_path (leading_again clear o l m (row (segments style (all, seps)) k) i) (segments_again style clear all seps m r k q))

@@ -1,24 +1,24 @@
 -- Where a read of a path answers, the path spells what was taken.
-use Rattle.std.proofs.Common.{◌≡◌, ℕ, zero, suc, Bool, true, false, List, [], ◌∷◌, Option, Some, None, Ok, Err, inl, inr, refl, sym, ◌∙◌, ap, subst}
+use Rattle.std.proofs.Common.{◌≡◌, ℕ, zero, suc, Bool, true, false, List, [], ◌∷◌, Option, Some, None, Ok, inl, inr, sym, ◌∙◌, ap, subst}
 use Rattle.token_core.specs.declared.tree.Ident.{Ident}
 use Rattle.token_core.specs.declared.span.Span.{Span}
 use Rattle.token_core.specs.declared.tree.Spacing.{Spacing}
 use Rattle.token_core.specs.declared.tree.Spacing.TheVariants.{Joint}
-use Rattle.token_core.specs.Toks.{Bytes, Toks, word, mark, done}
+use Rattle.token_core.specs.Toks.{Toks, word, mark}
 use Rattle.token_core.specs.Trees.{punct}
 use Rattle.token_core.specs.Rebuilt.{Visible}
 use Rattle.token_core.specs.Stream.{Stream}
 use Rattle.token_core.specs.Marks as marks
 use Rattle.token_core.specs.Loops.{Many, size, joined_from, joined}
-use Rattle.token_core.specs.Reads.{Outcome, Reader, and_then, sees_word, read_word, read_mark, any_text, ident_name, leaves}
+use Rattle.token_core.specs.Reads.{sees_word, read_word, read_mark, any_text, ident_name}
 use Rattle.token_core.proofs.Turns.{chain, same_pair}
-use Rattle.token_core.proofs.Took.{branch, mapped, took_word, took_mark2, took_all, seen_word}
+use Rattle.token_core.proofs.Took.{branch, mapped, took_word, took_mark2, seen_word}
 use Rattle.syn_mid.specs.declared.path.Path.{Path}
 use Rattle.syn_mid.specs.declared.path.PathSegment.{PathSegment}
 use Rattle.syn_mid.specs.path.Paths.{Sep, segment_of, path_of}
-use Rattle.syn_mid.specs.path.Reading.{sees_sep, sep, no_segment, mod_segment, mod_segments, mod_style} 
+use Rattle.syn_mid.specs.path.Reading.{sees_sep, sep, no_segment, mod_segment, mod_segments, mod_style}
 use Rattle.syn_mid.specs.path.Reading as reading
-use Rattle.syn_mid.specs.path.Spelling.{is_mod_word, sep_at, IsLeading, no_leading, leading, AreModSegments, last_segment, more_segments, IsModPath, mod_path, SpellsModPath}
+use Rattle.syn_mid.specs.path.Spelling.{is_mod_word, sep_at, IsLeading, no_leading, leading, AreModSegments, last_segment, more_segments, IsModPath, mod_path}
 
 -- ---- a `::`
 
@@ -113,7 +113,7 @@ module _ {X : Type 0} where
       record {
         spelt = subst (λ z. Segments z s.rest w.rest) h (subst (λ z. Segments (x ∷ v.0, z ∷ v.1) s.rest w.rest) m.mark_is
             (subst (λ z. Segments (z ∷ v.0, sep_at m.first m.second ∷ v.1) s.rest w.rest) k.segment
-              (subst (λ z. Segments (segment_of k.ident ∷ v.0, sep_at m.first m.second ∷ v.1) z w.rest) (sym whole) (more_segments k.meets (λ e j. no_claim e) i.spelt))));
+            (subst (λ z. Segments (segment_of k.ident ∷ v.0, sep_at m.first m.second ∷ v.1) z w.rest) (sym whole) (more_segments k.meets (λ e j. no_claim e) i.spelt))));
         left = i.left ∙ m.left ∙ k.left;
       }
 
