@@ -251,9 +251,10 @@ impl<'a> ParseStream<'a> {
     pub fn fork(&self) -> ParseStream<'a>
         ensures { result ≡ spec.forked self.now }
     {
+        let left = None;
         ParseStream {
             cursor: self.cursor.again(),
-            left: None,
+            left,
             last: self.last,
             scope: self.scope,
         }
