@@ -211,7 +211,7 @@ fn words_are_read(rt: HostRuntime) -> Result<(), Fail> {
             assert_eq!(rt; read(Ident::parse_any(alloc, &mut input.fork()))?.text(), text);
             assert_eq!(rt; read(input.read_any_ident(alloc))?.text(), text);
         }
-        assert!(rt; input.is_empty() && input.prev_span() == nth(0), "{text}");
+        assert!(rt; input.is_empty() && input.prev_span() == nth(0));
     }
     let list = tokens(alloc, "Self self super crate self")?;
     let buffer = TokenBuffer::new(alloc, &list)?;
@@ -287,6 +287,7 @@ fn groups_are_read(rt: HostRuntime) -> Result<(), Fail> {
 }
 
 #[test]
+#[tactic(auto, using(crate::proofs::Suffixes::forks))]
 fn forks_go_on(rt: HostRuntime) -> Result<(), Fail> {
     let alloc = rt.alloc();
     let list = tokens(alloc, "( a ) b")?;
@@ -399,6 +400,7 @@ fn lists_have_values_and_marks(rt: HostRuntime) -> Result<(), Fail> {
 }
 
 /// Two identifiers.
+#[tactic(auto, using(crate::proofs::Suffixes::follows))]
 fn two(alloc: Global, input: &mut ParseStream<'_>) -> Result<(Ident, Ident), Error>
     ensures { Follows input.old input.new }
 {
