@@ -8,9 +8,9 @@ use crate::token::{
     Brace, Bracket, Comma, Crate, Gt, Lt, Not, Paren, PathSep, SelfType, SelfValue, Super, surround,
 };
 use crate::{
-    ByFn, DelimSpan, Delimiter, Error, ErrorKind, Group, Ident, LitKind, Literal, ParseStream, Punct,
-    Punctuated, Spacing, Span, Spanned, ToTokens, TokenBuffer, TokenStream, TokenTree, read_all,
-    read_all_with,
+    ByFn, DelimSpan, Delimiter, Error, ErrorKind, Group, Ident, LitKind, Literal, ParseStream,
+    Punct, Punctuated, Spacing, Span, Spanned, ToTokens, TokenBuffer, TokenStream, TokenTree,
+    read_all, read_all_with,
 };
 use std::alloc::{AllocError, Global};
 use std::mem;
@@ -95,7 +95,10 @@ fn refusal<T: Drop>(outcome: Result<T, Error>) -> Result<Error, &'static str> {
 fn says(rt: &impl Abort, error: &Error, kind: ErrorKind, text: &str, at: Span) {
     assert_eq!(rt; error.text(), text);
     assert!(rt; error.kind() == kind, "the kind of {text}");
-    assert!(rt; error.start() == at && error.end() == at, "the place of {text}");
+    assert!(rt;
+        error.start() == at && error.end() == at,
+        "the place of {text}"
+    );
 }
 
 #[test]
@@ -107,24 +110,51 @@ fn refusals_have_their_texts(rt: HostRuntime) -> Result<(), Fail> {
         (ErrorKind::Unexpected, "unexpected token"),
         (ErrorKind::Custom, ""),
         (ErrorKind::ExpectedDelimiter, "expected delimiter"),
-        (ErrorKind::ExpectedPathSegment, "expected path segment after `::`"),
-        (ErrorKind::ExpectedPathIdent, "expected this path to be an identifier"),
+        (
+            ErrorKind::ExpectedPathSegment,
+            "expected path segment after `::`",
+        ),
+        (
+            ErrorKind::ExpectedPathIdent,
+            "expected this path to be an identifier",
+        ),
         (ErrorKind::UnclosedDelimiter, "unclosed delimiter"),
-        (ErrorKind::UnexpectedClosingDelimiter, "unexpected closing delimiter"),
+        (
+            ErrorKind::UnexpectedClosingDelimiter,
+            "unexpected closing delimiter",
+        ),
         (ErrorKind::UnknownToken, "unknown start of token"),
     ] {
         assert_eq!(rt; kind.text(), text);
         says(&rt, &Error::named(alloc, kind, nth(7)), kind, text, nth(7));
     }
-    says(&rt, &Error::new(alloc, nth(1), "odd"), ErrorKind::Custom, "odd", nth(1));
+    says(
+        &rt,
+        &Error::new(alloc, nth(1), "odd"),
+        ErrorKind::Custom,
+        "odd",
+        nth(1),
+    );
     let ranged = Error::new2(alloc, nth(1), nth(2), "odd");
     assert!(rt; ranged.start() == nth(1) && ranged.end() == nth(2));
     let other = Error::of(alloc, ErrorKind::Expected, "expected one", nth(3), nth(3));
     says(&rt, &other, ErrorKind::Expected, "expected one", nth(3));
     let none = Span::none();
     assert!(rt; none == Span::new(0, 0));
-    says(&rt, &Error::out_of_memory(), ErrorKind::OutOfMemory, "out of memory", none);
-    says(&rt, &Error::from(AllocError), ErrorKind::OutOfMemory, "out of memory", none);
+    says(
+        &rt,
+        &Error::out_of_memory(),
+        ErrorKind::OutOfMemory,
+        "out of memory",
+        none,
+    );
+    says(
+        &rt,
+        &Error::from(AllocError),
+        ErrorKind::OutOfMemory,
+        "out of memory",
+        none,
+    );
     Ok(())
 }
 
@@ -138,12 +168,48 @@ fn refuses_each(
 ) -> Result<(), Fail> {
     let kind = ErrorKind::Expected;
     says(rt, &refusal(input.read_ident(alloc))?, kind, texts[0], at);
-    says(rt, &refusal(input.read_any_ident(alloc))?, kind, texts[0], at);
-    says(rt, &refusal(input.parse::<Ident>(alloc))?, kind, texts[0], at);
-    says(rt, &refusal(Ident::parse_any(alloc, input))?, kind, texts[0], at);
-    says(rt, &refusal(input.parse::<PathSep>(alloc))?, kind, texts[1], at);
-    says(rt, &refusal(input.parse::<Crate>(alloc))?, kind, texts[2], at);
-    says(rt, &refusal(input.parenthesized(alloc))?, kind, texts[3], at);
+    says(
+        rt,
+        &refusal(input.read_any_ident(alloc))?,
+        kind,
+        texts[0],
+        at,
+    );
+    says(
+        rt,
+        &refusal(input.parse::<Ident>(alloc))?,
+        kind,
+        texts[0],
+        at,
+    );
+    says(
+        rt,
+        &refusal(Ident::parse_any(alloc, input))?,
+        kind,
+        texts[0],
+        at,
+    );
+    says(
+        rt,
+        &refusal(input.parse::<PathSep>(alloc))?,
+        kind,
+        texts[1],
+        at,
+    );
+    says(
+        rt,
+        &refusal(input.parse::<Crate>(alloc))?,
+        kind,
+        texts[2],
+        at,
+    );
+    says(
+        rt,
+        &refusal(input.parenthesized(alloc))?,
+        kind,
+        texts[3],
+        at,
+    );
     says(rt, &refusal(input.braced(alloc))?, kind, texts[4], at);
     says(rt, &refusal(input.bracketed(alloc))?, kind, texts[5], at);
     let delimiter = refusal(input.delimited(alloc))?;
@@ -167,7 +233,13 @@ fn refusals_name_what_was_expected(rt: HostRuntime) -> Result<(), Fail> {
         "expected delimiter",
     ];
     refuses_each(&rt, alloc, &mut input, texts, nth(0))?;
-    says(&rt, &input.error(alloc, "odd"), ErrorKind::Custom, "odd", nth(0));
+    says(
+        &rt,
+        &input.error(alloc, "odd"),
+        ErrorKind::Custom,
+        "odd",
+        nth(0),
+    );
     read(input.read_mark(alloc, &['+'], "`+`"))?;
     let texts = [
         "unexpected end of input, expected identifier",
@@ -180,7 +252,13 @@ fn refusals_name_what_was_expected(rt: HostRuntime) -> Result<(), Fail> {
     ];
     refuses_each(&rt, alloc, &mut input, texts, nth(9))?;
     let text = "unexpected end of input, odd";
-    says(&rt, &input.error(alloc, "odd"), ErrorKind::Custom, text, nth(9));
+    says(
+        &rt,
+        &input.error(alloc, "odd"),
+        ErrorKind::Custom,
+        text,
+        nth(9),
+    );
     Ok(())
 }
 
@@ -207,12 +285,27 @@ fn words_are_read(rt: HostRuntime) -> Result<(), Fail> {
             assert_eq!(rt; read(input.read_ident(alloc))?.text(), text);
         } else {
             let error = refusal(input.read_ident(alloc))?;
-            says(&rt, &error, ErrorKind::Expected, "expected identifier", nth(0));
-            assert_eq!(rt; read(Ident::parse_any(alloc, &mut input.fork()))?.text(), text);
+            says(
+                &rt,
+                &error,
+                ErrorKind::Expected,
+                "expected identifier",
+                nth(0),
+            );
+            assert_eq!(rt;
+                read(Ident::parse_any(alloc, &mut input.fork()))?.text(),
+                text
+            );
             assert_eq!(rt; read(input.read_any_ident(alloc))?.text(), text);
         }
         assert!(rt; input.is_empty() && input.prev_span() == nth(0));
     }
+    Ok(())
+}
+
+#[test]
+fn named_words_are_read(rt: HostRuntime) -> Result<(), Fail> {
+    let alloc = rt.alloc();
     let list = tokens(alloc, "Self self super crate self")?;
     let buffer = TokenBuffer::new(alloc, &list)?;
     let mut input = ParseStream::new(&buffer, Span::none());
@@ -330,15 +423,23 @@ fn invisible_groups_are_entered(rt: HostRuntime) -> Result<(), Fail> {
     let buffer = TokenBuffer::new(alloc, &list)?;
     let mut input = ParseStream::new(&buffer, Span::none());
     let error = refusal(input.delimited(alloc))?;
-    says(&rt, &error, ErrorKind::ExpectedDelimiter, "expected delimiter", nth(1));
+    says(
+        &rt,
+        &error,
+        ErrorKind::ExpectedDelimiter,
+        "expected delimiter",
+        nth(1),
+    );
     let (paren, inside) = read(input.parenthesized(alloc))?;
     assert!(rt; paren.span == DelimSpan::new(nth(1), nth(3)) && inside.peek_ident());
     // after the end of the invisible group
     let (delimiter, span, body) = read(input.delimited(alloc))?;
     assert!(rt; delimiter == Delimiter::Bracket && span == DelimSpan::new(nth(5), nth(8)));
     assert!(rt; input.is_empty() && input.prev_span() == nth(8));
-    assert!(rt; matches!(body.trees(), [TokenTree::Ident(b), TokenTree::Literal(one)]
-        if b.text() == "b" && one.text() == "1" && one.kind() == LitKind::Int));
+    assert!(rt;
+        matches!(body.trees(), [TokenTree::Ident(b), TokenTree::Literal(one)]
+        if b.text() == "b" && one.text() == "1" && one.kind() == LitKind::Int)
+    );
     Ok(())
 }
 
@@ -381,7 +482,11 @@ fn lists_have_values_and_marks(rt: HostRuntime) -> Result<(), Fail> {
                 list.push_punct(Comma::default())?;
             }
         }
-        let marks = if trailing || count == 0 { count } else { count - 1 };
+        let marks = if trailing || count == 0 {
+            count
+        } else {
+            count - 1
+        };
         assert_eq!(rt; list.len(), count as usize);
         assert_eq!(rt; list.is_empty(), count == 0);
         assert_eq!(rt; list.trailing_punct(), trailing);
@@ -389,8 +494,16 @@ fn lists_have_values_and_marks(rt: HostRuntime) -> Result<(), Fail> {
         assert_eq!(rt; list.first().is_some(), count > 0);
         for i in 0..3u8 {
             let wanted = if i < count { Some(10 + i) } else { None };
-            assert_eq!(rt; list.value(i as usize).copied(), wanted, "value {i} of {count}");
-            assert_eq!(rt; list.mark(i as usize).is_some(), i < marks, "mark {i} of {count}");
+            assert_eq!(rt;
+                list.value(i as usize).copied(),
+                wanted,
+                "value {i} of {count}"
+            );
+            assert_eq!(rt;
+                list.mark(i as usize).is_some(),
+                i < marks,
+                "mark {i} of {count}"
+            );
         }
         let (pairs, last) = list.parts();
         assert_eq!(rt; pairs.len(), marks as usize);
@@ -412,9 +525,18 @@ fn two(alloc: Global, input: &mut ParseStream<'_>) -> Result<(Ident, Ident), Err
 #[test]
 fn whole_lists_are_read(rt: HostRuntime) -> Result<(), Fail> {
     let alloc = rt.alloc();
-    assert_eq!(rt; read(read_all::<Ident>(alloc, &tokens(alloc, "^ a $")?))?.text(), "a");
+    assert_eq!(rt;
+        read(read_all::<Ident>(alloc, &tokens(alloc, "^ a $")?))?.text(),
+        "a"
+    );
     let error = refusal(read_all::<Ident>(alloc, &tokens(alloc, "a ^ $ ^ b $ c")?))?;
-    says(&rt, &error, ErrorKind::Unexpected, "unexpected token", nth(4));
+    says(
+        &rt,
+        &error,
+        ErrorKind::Unexpected,
+        "unexpected token",
+        nth(4),
+    );
     let error = refusal(read_all::<Ident>(alloc, &tokens(alloc, "")?))?;
     let text = "unexpected end of input, expected identifier";
     says(&rt, &error, ErrorKind::Expected, text, Span::none());
@@ -422,9 +544,21 @@ fn whole_lists_are_read(rt: HostRuntime) -> Result<(), Fail> {
     assert_eq!(rt; first.text(), "a");
     assert_eq!(rt; second.text(), "b");
     let error = refusal(read_all_with(ByFn(two), alloc, &tokens(alloc, "a b ( c )")?))?;
-    says(&rt, &error, ErrorKind::Unexpected, "unexpected token", nth(2));
+    says(
+        &rt,
+        &error,
+        ErrorKind::Unexpected,
+        "unexpected token",
+        nth(2),
+    );
     let error = refusal(read_all_with(ByFn(two), alloc, &tokens(alloc, "a +")?))?;
-    says(&rt, &error, ErrorKind::Expected, "expected identifier", nth(1));
+    says(
+        &rt,
+        &error,
+        ErrorKind::Expected,
+        "expected identifier",
+        nth(1),
+    );
     Ok(())
 }
 
@@ -435,20 +569,27 @@ fn tokens_are_printed(rt: HostRuntime) -> Result<(), Fail> {
     assert!(rt; out.is_empty());
     Ident::new(alloc, "a", nth(1))?.to_tokens(alloc, &mut out)?;
     SelfValue { span: nth(2) }.to_tokens(alloc, &mut out)?;
-    PathSep { spans: [nth(3), nth(4)] }.to_tokens(alloc, &mut out)?;
-    assert!(rt; matches!(out.trees(), [TokenTree::Ident(a), TokenTree::Ident(me), TokenTree::Punct(one), TokenTree::Punct(two)]
+    PathSep {
+        spans: [nth(3), nth(4)],
+    }
+    .to_tokens(alloc, &mut out)?;
+    assert!(rt;
+        matches!(out.trees(), [TokenTree::Ident(a), TokenTree::Ident(me), TokenTree::Punct(one), TokenTree::Punct(two)]
         if a.text() == "a" && Spanned::span(a) == nth(1) && me.text() == "self" && me.span() == nth(2)
-        && *one == Punct::new(':', Spacing::Joint, nth(3)) && *two == Punct::new(':', Spacing::Alone, nth(4))));
+        && *one == Punct::new(':', Spacing::Joint, nth(3)) && *two == Punct::new(':', Spacing::Alone, nth(4)))
+    );
     let mut all = TokenStream::new(alloc);
     Paren::default().surround(out.copy(alloc)?, &mut all)?;
     Brace::default().surround(out.copy(alloc)?, &mut all)?;
     Bracket::default().surround(out.copy(alloc)?, &mut all)?;
     let span = DelimSpan::new(nth(5), nth(6));
     surround(Delimiter::None, span, out, &mut all)?;
-    assert!(rt; matches!(all.trees(), [TokenTree::Group(a), TokenTree::Group(b), TokenTree::Group(c), TokenTree::Group(d)]
+    assert!(rt;
+        matches!(all.trees(), [TokenTree::Group(a), TokenTree::Group(b), TokenTree::Group(c), TokenTree::Group(d)]
         if a.delimiter() == Delimiter::Parenthesis && b.delimiter() == Delimiter::Brace
         && c.delimiter() == Delimiter::Bracket && d.delimiter() == Delimiter::None
-        && a.stream().len() == 4 && d.delim_span() == span));
+        && a.stream().len() == 4 && d.delim_span() == span)
+    );
     all.truncate(2);
     assert_eq!(rt; all.len(), 2);
     all.truncate(9);
