@@ -1,8 +1,10 @@
 //! Paths and macro calls of Rust, read from token lists into syntax trees and printed back.
 #![tactic(auto)]
 
+pub mod mac;
 pub mod path;
 pub mod supplied;
 
+pub use mac::{Macro, MacroDelimiter};
 pub use path::{AngleBracketedGenericArguments, ParenthesizedGenericArguments, Path, PathArguments, PathSegment};
 pub use supplied::{Place, Subtree};

@@ -1,12 +1,19 @@
 //! Paths.
 
-ghost use Rattle.std.specs.Prelude.{◌≡◌, option_map, IfOk};
+ghost use Rattle.std.specs.Prelude.{◌≡◌, ◌++◌, true, option_map, IfOk, OnOk, OnErr};
+ghost use Rattle.token_core.specs.Trees.{trees};
+ghost use Rattle.token_core.specs.Prints as prints;
+ghost use Rattle.token_core.specs.Prints.{Extends};
+ghost use Rattle.token_core.specs.Reads.{Reads, Follows, sees_word};
 ghost use Rattle.syn_mid.specs.path.Paths as spec;
+ghost use Rattle.syn_mid.specs.path.Printing as printing;
+ghost use Rattle.syn_mid.specs.path.Reading as reading;
+ghost use Rattle.syn_mid.specs.path.Spelling.{is_mod_word};
 
 use std::alloc::{AllocError, Global};
 use std::marker::PhantomData;
-use token_core::token::{Gt, Lt, Paren, PathSep};
-use token_core::{Ident, Punctuated};
+use token_core::token::{Crate, Gt, Lt, Paren, PathSep, SelfType, SelfValue, Super};
+use token_core::{Error, ErrorKind, Ident, ParseStream, Punctuated, ToTokens, Token, TokenStream};
 
 /// A path: an optional leading `::`, and segments joined by `::`.
 #[derive(Drop)]
@@ -147,5 +154,189 @@ impl<X> PathSegment<X> {
         } else {
             None
         }
+    }
+}
+
+impl<X: Drop> Path<X> {
+    /// Reads a path of mod style: an optional `::`, and identifiers, `super`, `self`, `Self` or `crate` joined by `::`,
+    /// without arguments. It is refused where no segment begins, and after a `::` that none follows.
+    #[tactic(auto, using(token_core::proofs::Suffixes::follows), unfolding(crate::specs::path::Reading::mod_style))]
+    pub fn parse_mod_style(alloc: Global, input: &mut ParseStream<'_>) -> Result<Path<X>, Error>
+        ensures reads { Reads (reading.mod_style input.old) result input.new }
+        ensures within { Follows input.old input.new }
+    {
+        let leading_colon = parse_leading(alloc, input)?;
+        let segments = parse_mod_segments(alloc, input)?;
+        Ok(Path {
+            leading_colon,
+            segments,
+        })
+    }
+}
+
+#[tactic(auto, unfolding(crate::specs::path::Reading::leading))]
+fn parse_leading(alloc: Global, input: &mut ParseStream<'_>) -> Result<Option<PathSep>, Error>
+    ensures reads { Reads (reading.leading input.old) result input.new }
+    ensures within { Follows input.old input.new }
+{
+    input.parse_option::<PathSep>(alloc)
+}
+
+/// Whether a segment of mod style begins here.
+#[tactic(auto, using(crate::proofs::path_laws::Turns::or_words))]
+fn begins_mod_segment(input: &ParseStream<'_>) -> bool
+    ensures { result ≡ sees_word is_mod_word input.now.rest }
+{
+    // all tested, so that the answer is one value
+    input.peek::<Ident>() | (input.peek::<Super>() | (input.peek::<SelfValue>() | (input.peek::<SelfType>() | input.peek::<Crate>())))
+}
+
+/// A segment of mod style; at first an identifier is expected, and after a `::` a segment.
+#[tactic(auto, using(token_core::proofs::Suffixes::follows), unfolding(crate::specs::path::Reading::mod_segment))]
+fn parse_mod_segment<X>(alloc: Global, input: &mut ParseStream<'_>, is_first: bool) -> Result<PathSegment<X>, Error>
+    ensures reads { Reads (reading.mod_segment is_first input.old) result input.new }
+    ensures within { Follows input.old input.new }
+{
+    if begins_mod_segment(input) {
+        return Ok(PathSegment::from(Ident::parse_any(alloc, input)?));
+    }
+    if is_first {
+        Err(input.expected(alloc, Ident::display()))
+    } else {
+        Err(input.refuse(alloc, ErrorKind::ExpectedPathSegment))
+    }
+}
+
+#[tactic(auto, using(token_core::proofs::Suffixes::follows))]
+fn parse_mod_segments<X: Drop>(alloc: Global, input: &mut ParseStream<'_>) -> Result<Punctuated<PathSegment<X>, PathSep>, Error>
+    ensures reads { Reads (reading.mod_segments true input.old) result input.new }
+    ensures within { Follows input.old input.new }
+{
+    let mut segments = Punctuated::new(alloc);
+    'turn: loop {
+        let segment = parse_mod_segment(alloc, input, segments.is_empty())?;
+        segments.push_value(alloc, segment)?;
+        if !input.peek::<PathSep>() {
+            return Ok(segments);
+        }
+        segments.push_punct(input.parse::<PathSep>(alloc)?)?;
+    }
+}
+
+// ---- prints
+
+impl<X> ToTokens for Path<X> {
+    ghost print = { printing.path printing.as_written };
+
+    fn to_tokens(&self, alloc: Global, out: &mut TokenStream) -> Result<(), AllocError> {
+        let before = out.len();
+        match print_path(alloc, self, PathStyle::AsWritten, out) {
+            Ok(()) => Ok(()),
+            Err(error) => {
+                out.truncate(before);
+                Err(error)
+            }
+        }
+    }
+}
+
+impl<X> ToTokens for PathSegment<X> {
+    ghost print = { printing.segment printing.as_written };
+
+    fn to_tokens(&self, alloc: Global, out: &mut TokenStream) -> Result<(), AllocError> {
+        let before = out.len();
+        match print_segment(alloc, self, PathStyle::AsWritten, out) {
+            Ok(()) => Ok(()),
+            Err(error) => {
+                out.truncate(before);
+                Err(error)
+            }
+        }
+    }
+}
+
+impl<X> ToTokens for PathArguments<X> {
+    ghost print = { printing.arguments printing.as_written };
+
+    fn to_tokens(&self, alloc: Global, out: &mut TokenStream) -> Result<(), AllocError> {
+        let before = out.len();
+        match print_arguments(alloc, self, PathStyle::AsWritten, out) {
+            Ok(()) => Ok(()),
+            Err(error) => {
+                out.truncate(before);
+                Err(error)
+            }
+        }
+    }
+}
+
+/// Appends a path; refused, what stood before is kept.
+#[tactic(auto, using(token_core::proofs::Puts::puts))]
+pub(crate) fn print_path<X>(alloc: Global, path: &Path<X>, style: PathStyle, out: &mut TokenStream) -> Result<(), AllocError>
+    ensures ok { OnOk result (trees out.new ≡ trees out.old ++ printing.path style path.now) }
+    ensures err { OnErr result (Extends (trees out.old) (trees out.new)) }
+{
+    print_colon(alloc, &path.leading_colon, out)?;
+    print_segments(alloc, &path.segments, style, out)
+}
+
+#[tactic(auto, using(token_core::proofs::Puts::puts))]
+fn print_segments<X>(alloc: Global, segments: &Punctuated<PathSegment<X>, PathSep>, style: PathStyle, out: &mut TokenStream) -> Result<(), AllocError>
+    ensures ok { OnOk result (trees out.new ≡ trees out.old ++ printing.segments style segments.now) }
+    ensures err { OnErr result (Extends (trees out.old) (trees out.new)) }
+{
+    let (pairs, last) = segments.parts();
+    for pair in pairs {
+        print_segment(alloc, &pair.value, style, out)?;
+        pair.mark.to_tokens(alloc, out)?;
+    }
+    match last {
+        Some(segment) => print_segment(alloc, segment, style, out),
+        None => Ok(()),
+    }
+}
+
+#[tactic(auto, using(token_core::proofs::Puts::puts))]
+fn print_segment<X>(alloc: Global, segment: &PathSegment<X>, style: PathStyle, out: &mut TokenStream) -> Result<(), AllocError>
+    ensures ok { OnOk result (trees out.new ≡ trees out.old ++ printing.segment style segment.now) }
+    ensures err { OnErr result (Extends (trees out.old) (trees out.new)) }
+{
+    segment.ident.to_tokens(alloc, out)?;
+    print_arguments(alloc, &segment.arguments, style, out)
+}
+
+#[tactic(auto, using(token_core::proofs::Puts::puts))]
+fn print_arguments<X>(alloc: Global, arguments: &PathArguments<X>, style: PathStyle, out: &mut TokenStream) -> Result<(), AllocError>
+    ensures ok { OnOk result (trees out.new ≡ trees out.old ++ printing.arguments style arguments.now) }
+    ensures err { OnErr result (Extends (trees out.old) (trees out.new)) }
+{
+    match style {
+        PathStyle::Mod => Ok(()),
+        PathStyle::AsWritten => match arguments {
+            PathArguments::None => Ok(()),
+            PathArguments::AngleBracketed(arguments) => print_angle_bracketed(alloc, arguments, out),
+            PathArguments::Parenthesized(arguments) => arguments.paren_token.surround(TokenStream::new(alloc), out),
+        },
+    }
+}
+
+#[tactic(auto, using(token_core::proofs::Puts::puts))]
+fn print_angle_bracketed<X>(alloc: Global, arguments: &AngleBracketedGenericArguments<X>, out: &mut TokenStream) -> Result<(), AllocError>
+    ensures ok { OnOk result (trees out.new ≡ trees out.old ++ printing.angle_bracketed arguments.now) }
+    ensures err { OnErr result (Extends (trees out.old) (trees out.new)) }
+{
+    print_colon(alloc, &arguments.colon2_token, out)?;
+    arguments.lt_token.to_tokens(alloc, out)?;
+    arguments.gt_token.to_tokens(alloc, out)
+}
+
+#[tactic(auto, using(token_core::proofs::Puts::puts))]
+fn print_colon(alloc: Global, colon: &Option<PathSep>, out: &mut TokenStream) -> Result<(), AllocError>
+    ensures ok { OnOk result (trees out.new ≡ trees out.old ++ printing.colon colon.now) }
+    ensures err { OnErr result (Extends (trees out.old) (trees out.new)) }
+{
+    match colon {
+        Some(colon) => colon.to_tokens(alloc, out),
+        None => Ok(()),
     }
 }

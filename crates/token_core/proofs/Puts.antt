@@ -1,6 +1,6 @@
 -- What is printed, piece by piece.
 use Rattle.std.proofs.Common.{◌≡◌, ℕ, zero, suc, ◌+◌, ◌<◌, ◌≤◌, List, [], ◌∷◌, ◌++◌, length, take, drop, get_or, refl, sym, ap, ◌∙◌, append_assoc, append-nil, arith}
-use Rattle.std.proofs.lemmas.List.{length-take, take-append-le}
+use Rattle.std.proofs.lemmas.List.{length-take, length-append, take-append-le}
 use Rattle.token_core.specs.Prints.{Print, Extends}
 
 pub extends_append : (a b c : Print) → Extends a b → Extends a (b ++ c)
@@ -8,4 +8,23 @@ extends_append a b c h =
     let n : length a ≤ length b = omega (arith, length-take (length a) b, ap length h) in
     take-append-le (length a) b c n ∙ h
 
-pub ruleset puts = (extends_append, append-nil)
+-- what extends a longer print extends the shorter one
+pub extends_on : (a x b c : Print) → b ≡ a ++ x → Extends b c → Extends a c
+extends_on a x b c e h =
+    let n : length a ≤ length b = omega (arith, ap length e, length-append a x) in
+    take-take-le a b c n h ∙ ap (take (length a)) e ∙ take-whole a x
+  where
+    take-whole : (p q : Print) → take (length p) (p ++ q) ≡ p
+    take-whole [] q = refl
+    take-whole (y ∷ p) q = ap (λ l. y ∷ l) (take-whole p q)
+
+    take-take : (i j : ℕ) (l : Print) → i ≤ j → take i (take j l) ≡ take i l
+    take-take zero j l h = refl
+    take-take (suc i) zero l h = absurd (omega (arith, h))
+    take-take (suc i) (suc j) [] h = refl
+    take-take (suc i) (suc j) (y ∷ l) h = ap (λ k. y ∷ k) (take-take i j l (omega (arith, h)))
+
+    take-take-le : (p q l : Print) → length p ≤ length q → take (length q) l ≡ q → take (length p) l ≡ take (length p) q
+    take-take-le p q l n h = sym (take-take (length p) (length q) l n) ∙ ap (take (length p)) h
+
+pub ruleset puts = (extends_append, extends_on, append-nil)

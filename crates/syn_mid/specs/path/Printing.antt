@@ -5,6 +5,7 @@ use Rattle.token_core.specs.Prints as p
 use Rattle.token_core.specs.Prints.{Print}
 use Rattle.token_core.specs.Trees.{stream_of_trees}
 use Rattle.token_core.specs.Lists.{joined}
+use Rattle.token_core.specs.Loops.{Many}
 use Rattle.syn_mid.specs.declared.path.Path.{Path}
 use Rattle.syn_mid.specs.declared.path.PathSegment.{PathSegment}
 use Rattle.syn_mid.specs.declared.path.PathArguments.{PathArguments}
@@ -18,6 +19,9 @@ use Rattle.syn_mid.specs.path.Paths.{Sep}
 abbrev pub colon : Option Sep → Print
 colon None = []
 colon (Some m) = p.mark m
+
+abbrev pub as_written : PathStyle
+as_written = AsWritten
 
 module _ {X : Type 0} where
   abbrev pub angle_bracketed : AngleBracketedGenericArguments X → Print
@@ -36,6 +40,10 @@ module _ {X : Type 0} where
   abbrev pub segment : PathStyle → PathSegment X → Print
   segment style s = p.ident s.ident ++ arguments style s.arguments
 
-  -- the leading colon, and each segment with its mark
+  -- each segment with its mark
+  abbrev pub segments : PathStyle → Many (PathSegment X) Sep → Print
+  segments style v = joined (segment style) p.mark v.0 v.1
+
+  -- the leading colon and the segments
   abbrev pub path : PathStyle → Path X → Print
-  path style x = colon x.leading_colon ++ joined (segment style) p.mark x.segments.0 x.segments.1
+  path style x = colon x.leading_colon ++ segments style x.segments

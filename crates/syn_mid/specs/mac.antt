@@ -1,0 +1,4 @@
+pub mod Macros
+pub mod Reading
+pub mod Spelling
+pub mod Printing

@@ -1,0 +1,136 @@
+//! Macro calls.
+
+ghost use Rattle.std.specs.Prelude.{◌≡◌, ◌++◌, OnOk, OnErr};
+ghost use Rattle.token_core.specs.Trees.{trees};
+ghost use Rattle.token_core.specs.Prints as prints;
+ghost use Rattle.token_core.specs.Prints.{Extends};
+ghost use Rattle.token_core.specs.Reads.{Reads, Follows};
+ghost use Rattle.syn_mid.specs.mac.Macros as spec;
+ghost use Rattle.syn_mid.specs.mac.Printing as printing;
+ghost use Rattle.syn_mid.specs.mac.Reading as reading;
+
+use crate::path::{Path, PathStyle, print_path};
+use std::alloc::{AllocError, Global};
+use token_core::token::{Brace, Bracket, Not, Paren};
+use token_core::token::surround;
+use token_core::{DelimSpan, Delimiter, Error, ErrorKind, ParseStream, ToTokens, TokenStream};
+
+/// A macro call: a path of mod style, `!`, and a group.
+#[derive(Drop)]
+pub struct Macro<X> {
+    pub path: Path<X>,
+    pub bang_token: Not,
+    pub delimiter: MacroDelimiter,
+    pub tokens: TokenStream,
+}
+
+/// The brackets of a macro call's body.
+#[derive(Clone, Copy)]
+pub enum MacroDelimiter {
+    Paren(Paren),
+    Brace(Brace),
+    Bracket(Bracket),
+}
+
+impl MacroDelimiter {
+    /// The spans of the brackets.
+    pub fn span(&self) -> &DelimSpan
+        ensures { result.now ≡ spec.span_of self.now }
+    {
+        match self {
+            MacroDelimiter::Paren(token) => &token.span,
+            MacroDelimiter::Brace(token) => &token.span,
+            MacroDelimiter::Bracket(token) => &token.span,
+        }
+    }
+
+    pub fn is_brace(&self) -> bool
+        ensures { result ≡ spec.is_brace self.now }
+    {
+        match self {
+            MacroDelimiter::Brace(_) => true,
+            MacroDelimiter::Paren(_) => false,
+            MacroDelimiter::Bracket(_) => false,
+        }
+    }
+
+    fn delimiter(&self) -> Delimiter
+        ensures { result ≡ spec.delimiter_of self.now }
+    {
+        match self {
+            MacroDelimiter::Paren(_) => Delimiter::Parenthesis,
+            MacroDelimiter::Brace(_) => Delimiter::Brace,
+            MacroDelimiter::Bracket(_) => Delimiter::Bracket,
+        }
+    }
+}
+
+/// The brackets and the tokens of a body (`parse_delimiter`). It goes on after the end of an invisible group but not
+/// into one.
+#[tactic(auto, unfolding(crate::specs::mac::Reading::body))]
+pub(crate) fn parse_body(alloc: Global, input: &mut ParseStream<'_>) -> Result<(MacroDelimiter, TokenStream), Error>
+    ensures reads { Reads (reading.body input.old) result input.new }
+    ensures within { Follows input.old input.new }
+{
+    let (delimiter, span, tokens) = input.delimited(alloc)?;
+    let delimiter = match delimiter {
+        Delimiter::Parenthesis => MacroDelimiter::Paren(Paren { span }),
+        Delimiter::Brace => MacroDelimiter::Brace(Brace { span }),
+        Delimiter::Bracket => MacroDelimiter::Bracket(Bracket { span }),
+        Delimiter::None => return Err(input.refuse(alloc, ErrorKind::ExpectedDelimiter)),
+    };
+    Ok((delimiter, tokens))
+}
+
+#[tactic(auto, using(token_core::proofs::Suffixes::follows), unfolding(crate::specs::mac::Reading::mac))]
+pub(crate) fn parse_macro<X: Drop>(alloc: Global, input: &mut ParseStream<'_>) -> Result<Macro<X>, Error>
+    ensures reads { Reads (reading.mac input.old) result input.new }
+    ensures within { Follows input.old input.new }
+{
+    let path = Path::parse_mod_style(alloc, input)?;
+    let bang_token = input.parse::<Not>(alloc)?;
+    let (delimiter, tokens) = parse_body(alloc, input)?;
+    Ok(Macro {
+        path,
+        bang_token,
+        delimiter,
+        tokens,
+    })
+}
+
+// ---- prints
+
+impl<X> ToTokens for Macro<X> {
+    ghost print = { printing.mac };
+
+    fn to_tokens(&self, alloc: Global, out: &mut TokenStream) -> Result<(), AllocError> {
+        let before = out.len();
+        match print_macro(alloc, self, out) {
+            Ok(()) => Ok(()),
+            Err(error) => {
+                out.truncate(before);
+                Err(error)
+            }
+        }
+    }
+}
+
+/// Appends a macro call; refused, what stood before is kept.
+#[tactic(auto, using(token_core::proofs::Puts::puts))]
+fn print_macro<X>(alloc: Global, mac: &Macro<X>, out: &mut TokenStream) -> Result<(), AllocError>
+    ensures ok { OnOk result (trees out.new ≡ trees out.old ++ printing.mac mac.now) }
+    ensures err { OnErr result (Extends (trees out.old) (trees out.new)) }
+{
+    print_path(alloc, &mac.path, PathStyle::Mod, out)?;
+    print_call(alloc, mac, out)
+}
+
+#[tactic(auto, using(token_core::proofs::Puts::puts))]
+fn print_call<X>(alloc: Global, mac: &Macro<X>, out: &mut TokenStream) -> Result<(), AllocError>
+    ensures ok { OnOk result (trees out.new ≡ trees out.old ++ printing.call mac.now) }
+    ensures err { OnErr result (Extends (trees out.old) (trees out.new)) }
+{
+    mac.bang_token.to_tokens(alloc, out)?;
+    let tokens = mac.tokens.copy(alloc)?;
+    surround(mac.delimiter.delimiter(), *mac.delimiter.span(), tokens, out)
+}
