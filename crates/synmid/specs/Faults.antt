@@ -1,6 +1,5 @@
 -- What is said of a fault.
-use Rattle.std.specs.Prelude.{ℕ, Result, Ok, Err, codes, string_bytes}
-use Rattle.std.specs.declared.string.String.{String}
+use Rattle.std.specs.Prelude.{ℕ, Result, Ok, Err, codes}
 use Rattle.token_core.specs.declared.error.ErrorKind.{ErrorKind}
 use Rattle.token_core.specs.declared.error.ErrorKind.TheVariants as k
 use Rattle.token_core.specs.Toks.{Bytes}
@@ -44,6 +43,7 @@ abbrev pub faulty : {A : Type 0} → Result A Refusal → Result A Fault
 faulty (Ok a) = Ok a
 faulty (Err e) = Err (of_refusal e)
 
-abbrev pub answer : Result String Fault → Answer
-answer (Ok s) = shown (string_bytes s)
-answer (Err e) = of_fault e
+-- what is said of an answer whose text is read by `text_of`
+abbrev pub answer : {A : Type 0} → (A → Bytes) → Result A Fault → Answer
+answer text_of (Ok a) = shown (text_of a)
+answer text_of (Err e) = of_fault e

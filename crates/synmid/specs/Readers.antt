@@ -1,5 +1,5 @@
 -- The readers that a run knows by name.
-use Rattle.std.specs.Prelude.{◌≡◌, ◌≢◌, if◌then◌else◌, List, Option, Some, None, Result, Ok, Err, codes}
+use Rattle.std.specs.Prelude.{◌≡◌, ◌≢◌, true, if◌then◌else◌, List, Option, Some, None, Result, Ok, Err, codes}
 use Rattle.std.specs.Str.{bytes_eq}
 use Rattle.token_core.specs.declared.error.ErrorKind.TheVariants.{OutOfMemory}
 use Rattle.token_core.specs.declared.tree.TokenStream.{TokenStream}
@@ -27,7 +27,7 @@ grammar ModStyle = record { spells = λ _ _ _. Unit {0}; normal = λ x. x; print
 
 -- no tree of the grammar spells the tokens clearly
 abbrev pub NoTree : {A : Type 0} → Grammar A → Toks → Type 0
-NoTree G l = (b : _) → G.spells true b l → ⊥
+NoTree {A = A} G l = (b : A) → G.spells true b l → ⊥
 
 -- A read that answers prints a tree that its grammar lets it answer. One that is refused is refused as the read of the
 -- grammar is, and no tree spells the tokens clearly.

@@ -1,5 +1,5 @@
 -- What a run promises, of an input and an output whose bytes are known or not.
-use Rattle.std.specs.Prelude.{◌≡◌, ◌≢◌, ◌⊎◌, ℕ, List, ◌++◌, Option, Some, None, IfSome, Err, codes, IsUtf8}
+use Rattle.std.specs.Prelude.{◌≡◌, ◌⊎◌, ℕ, true, List, ◌++◌, Option, Some, None, IfSome, Err, codes, IsUtf8}
 use Rattle.token_core.specs.declared.tree.TokenTree.{TokenTree}
 use Rattle.token_core.specs.Toks.{Bytes, done}
 use Rattle.token_core.specs.Trees.{row, stream_of_trees}

@@ -3,7 +3,7 @@
 ghost use Rattle.std.specs.Prelude.{◌≡◌, ◌++◌, ℕ, List, Option, IfOk, OnOk, OnErr, IfErr, IfSome, codes};
 ghost use Rattle.std.specs.Io.KnownBytes.{Appends};
 ghost use Rattle.token_core.specs.Toks.{Bytes};
-ghost use Rattle.synmid.specs.Run as spec;
+ghost use Rattle.synmid.specs.declared.channel.Unread.{Unread};
 
 use std::alloc::{AllocError, Global};
 use std::io::{ErrorKind, Read, Write};

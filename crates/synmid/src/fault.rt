@@ -1,7 +1,7 @@
 //! Why a run shows no tree.
 
 ghost use Rattle.std.specs.Prelude.{◌≡◌};
-ghost use Rattle.synmid.specs.Run as spec;
+ghost use Rattle.synmid.specs.declared.fault.Fault.{Fault};
 ghost use Rattle.synmid.specs.Faults as faults;
 
 use crate::channel::Unread;

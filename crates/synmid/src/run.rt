@@ -1,6 +1,6 @@
 //! A run over any input and output.
 
-ghost use Rattle.std.specs.Prelude.{◌≡◌, ◌++◌, codes};
+ghost use Rattle.std.specs.Prelude.{◌≡◌, ◌++◌, codes, string_bytes};
 ghost use Rattle.std.specs.Io.KnownBytes.{Appends};
 ghost use Rattle.synmid.specs.Run as spec;
 ghost use Rattle.synmid.specs.Readers.{named};
@@ -39,7 +39,7 @@ fn end<W: Sink>(output: &mut W, first: &str, second: &str, status: u8) -> u8
 
 /// The text that a run shows.
 fn answer<R: Source>(alloc: Global, name: &str, input: &mut R) -> Result<String, Fault>
-    ensures { spec.Answers (named name.now) (R.remaining input.old) (R.can_fail input.old) (input.new ≡ input.old) (faults.answer result) }
+    ensures { spec.Answers (named name.now) (R.remaining input.old) (R.can_fail input.old) (input.new ≡ input.old) (faults.answer string_bytes result) }
 {
     let Some(reader) = Reader::named(name) else {
         return Err(Fault::UnknownReader);
@@ -49,7 +49,7 @@ fn answer<R: Source>(alloc: Global, name: &str, input: &mut R) -> Result<String,
 }
 
 fn shown(alloc: Global, reader: Reader, input: &[u8]) -> Result<String, Fault>
-    ensures { spec.AnswersTo reader input.now (faults.answer result) }
+    ensures { spec.AnswersTo reader input.now (faults.answer string_bytes result) }
 {
     match str::from_utf8(input) {
         Ok(text) => Ok(reprinted(alloc, reader, text)?),
@@ -59,7 +59,7 @@ fn shown(alloc: Global, reader: Reader, input: &[u8]) -> Result<String, Fault>
 
 /// The text of the print of what a reader reads of a text.
 fn reprinted(alloc: Global, reader: Reader, text: &str) -> Result<String, Error>
-    ensures { spec.AnswersTo reader text.now (faults.answer (faults.faulty result)) }
+    ensures { spec.AnswersTo reader text.now (faults.answer string_bytes (faults.faulty result)) }
 {
     let tokens = lex(alloc, text)?;
     let print = reader.reprint(alloc, &tokens)?;

@@ -1,0 +1,11 @@
+use Rattle.std.proofs.Common.{◌≡◌, ◌++◌, ◌∙◌, ap, codes}
+use Rattle.synmid.specs.Run.{line}
+use Rattle.synmid.specs.Faults as faults
+use Rattle.synmid.proofs.Said.{fault-line, ends_so}
+use Rattle.synmid.proofs.run.run.Goals as goal
+
+pub returns-in-Err : goal.returns-in-Err
+returns-in-Err g c =
+    let fault = c.in-Err.fault in
+    let is : codes "error: " ++ c.text.result.now ++ codes "\n" ≡ line (faults.of_fault fault) = ap (λ t. codes "error: " ++ t ++ codes "\n") c.text.ensures ∙ fault-line fault in
+    record { answer = faults.of_fault fault; says = c.in-Err.ensures; ends = ends_so _ _ _ _ _ _ _ is c.status.ensures c.end-in-Err.ensures }
