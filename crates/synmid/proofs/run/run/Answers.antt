@@ -1,4 +1,5 @@
 use Rattle.std.proofs.Common.{◌≡◌, ◌++◌, ◌∙◌, ap, codes}
+use Rattle.std.specs.Io.KnownBytes.{Appends}
 use Rattle.synmid.specs.Run.{line}
 use Rattle.synmid.specs.Faults as faults
 use Rattle.synmid.proofs.Said.{fault-line, ends_so}
@@ -8,4 +9,5 @@ pub returns-in-Err : goal.returns-in-Err
 returns-in-Err g c =
     let fault = c.in-Err.fault in
     let is : codes "error: " ++ c.text.result.now ++ codes "\n" ≡ line (faults.of_fault fault) = ap (λ t. codes "error: " ++ t ++ codes "\n") c.text.ensures ∙ fault-line fault in
-    record { answer = faults.of_fault fault; says = c.in-Err.ensures; ends = ends_so _ _ _ _ _ _ _ is c.status.ensures c.end-in-Err.ensures }
+    let takes = Appends (g.W.Sink.contents c.args.output.now) (g.W.Sink.contents c.end-in-Err.new.output) in
+    record { answer = faults.of_fault fault; says = c.in-Err.ensures; ends = ends_so takes (g.W.Sink.can_fail c.args.output.now) _ _ _ _ _ is c.status.ensures c.end-in-Err.ensures }
