@@ -1,1 +1,2 @@
 pub mod path_laws
+pub mod mac_laws

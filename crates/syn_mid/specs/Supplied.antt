@@ -1,10 +1,10 @@
 -- The words of the laws of a supplied subtree.
-use Rattle.std.specs.Prelude.{◌≡◌, Bool, true, false, ◌&&◌, ◌||◌, ◌==◌, if◌then◌else◌, [], ◌∷◌, Ok, Err, codes}
+use Rattle.std.specs.Prelude.{◌≡◌, Bool, true, false, ◌&&◌, ◌||◌, ◌==◌, if◌then◌else◌, Ok, Err, codes}
 use Rattle.std.specs.Str.{bytes_eq}
 use Rattle.token_core.specs.declared.tree.LitKind.{LitKind}
-use Rattle.token_core.specs.declared.tree.LitKind.TheVariants.{Str, ByteStr, CStr, Byte, Char, Int, Float}
+use Rattle.token_core.specs.declared.tree.LitKind.TheVariants.{Int, Float}
 use Rattle.token_core.specs.declared.tree.Delimiter.TheVariants.{Bracket}
-use Rattle.token_core.specs.Toks.{Bytes, Toks, done, word, mark, lit, group, enter, leave}
+use Rattle.token_core.specs.Toks.{Bytes, Toks, done, word, mark, lit}
 use Rattle.token_core.specs.Trees.{row}
 use Rattle.token_core.specs.Rebuilt.{Visible}
 use Rattle.token_core.specs.Prints.{Print}

@@ -4,7 +4,11 @@
 pub mod mac;
 pub mod path;
 pub mod supplied;
+pub mod whole;
 
 pub use mac::{Macro, MacroDelimiter};
-pub use path::{AngleBracketedGenericArguments, ParenthesizedGenericArguments, Path, PathArguments, PathSegment};
+pub use path::{
+    AngleBracketedGenericArguments, ParenthesizedGenericArguments, Path, PathArguments, PathSegment,
+};
 pub use supplied::{Place, Subtree};
+pub use whole::ModStyle;

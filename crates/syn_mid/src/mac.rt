@@ -4,16 +4,20 @@ ghost use Rattle.std.specs.Prelude.{◌≡◌, ◌++◌, OnOk, OnErr};
 ghost use Rattle.token_core.specs.Trees.{trees};
 ghost use Rattle.token_core.specs.Prints as prints;
 ghost use Rattle.token_core.specs.Prints.{Extends};
-ghost use Rattle.token_core.specs.Reads.{Reads, Follows};
+ghost use Rattle.token_core.specs.Reads.{Reads, Follows, Gives, Fails};
+ghost use Rattle.token_core.specs.Headline.{Headline};
+ghost use Rattle.syn_mid.specs.mac.Grammars as grammars;
 ghost use Rattle.syn_mid.specs.mac.Macros as spec;
 ghost use Rattle.syn_mid.specs.mac.Printing as printing;
 ghost use Rattle.syn_mid.specs.mac.Reading as reading;
 
 use crate::path::{Path, PathStyle, print_path};
+use crate::supplied::Subtree;
 use std::alloc::{AllocError, Global};
-use token_core::token::{Brace, Bracket, Not, Paren};
-use token_core::token::surround;
-use token_core::{DelimSpan, Delimiter, Error, ErrorKind, ParseStream, ToTokens, TokenStream};
+use token_core::token::{Brace, Bracket, Not, Paren, surround};
+use token_core::{
+    DelimSpan, Delimiter, Error, ErrorKind, Parse, ParseStream, ToTokens, TokenStream,
+};
 
 /// A macro call: a path of mod style, `!`, and a group.
 #[derive(Drop)]
@@ -68,7 +72,10 @@ impl MacroDelimiter {
 /// The brackets and the tokens of a body (`parse_delimiter`). It goes on after the end of an invisible group but not
 /// into one.
 #[tactic(auto, unfolding(crate::specs::mac::Reading::body))]
-pub(crate) fn parse_body(alloc: Global, input: &mut ParseStream<'_>) -> Result<(MacroDelimiter, TokenStream), Error>
+pub(crate) fn parse_body(
+    alloc: Global,
+    input: &mut ParseStream<'_>,
+) -> Result<(MacroDelimiter, TokenStream), Error>
     ensures reads { Reads (reading.body input.old) result input.new }
     ensures within { Follows input.old input.new }
 {
@@ -83,7 +90,10 @@ pub(crate) fn parse_body(alloc: Global, input: &mut ParseStream<'_>) -> Result<(
 }
 
 #[tactic(auto, using(token_core::proofs::Suffixes::follows), unfolding(crate::specs::mac::Reading::mac))]
-pub(crate) fn parse_macro<X: Drop>(alloc: Global, input: &mut ParseStream<'_>) -> Result<Macro<X>, Error>
+pub(crate) fn parse_macro<X: Drop>(
+    alloc: Global,
+    input: &mut ParseStream<'_>,
+) -> Result<Macro<X>, Error>
     ensures reads { Reads (reading.mac input.old) result input.new }
     ensures within { Follows input.old input.new }
 {
@@ -96,6 +106,20 @@ pub(crate) fn parse_macro<X: Drop>(alloc: Global, input: &mut ParseStream<'_>) -
         delimiter,
         tokens,
     })
+}
+
+/// Reads a macro call: a path of mod style, `!`, and a group, which goes on after the end of an invisible group but
+/// not into one. It is refused as the path is, where no `!` follows, and where no group follows that.
+impl<X: Subtree> Parse for Macro<X> {
+    ghost reads = { Gives (reading.mac {X = X}) };
+
+    ghost refuses = { Fails (reading.mac {X = X}) };
+
+    ghost promise = { Headline (grammars.mac {X = X}) };
+
+    fn parse(alloc: Global, input: &mut ParseStream<'_>) -> Result<Macro<X>, Error> {
+        parse_macro(alloc, input)
+    }
 }
 
 // ---- prints
@@ -132,5 +156,10 @@ fn print_call<X>(alloc: Global, mac: &Macro<X>, out: &mut TokenStream) -> Result
 {
     mac.bang_token.to_tokens(alloc, out)?;
     let tokens = mac.tokens.copy(alloc)?;
-    surround(mac.delimiter.delimiter(), *mac.delimiter.span(), tokens, out)
+    surround(
+        mac.delimiter.delimiter(),
+        *mac.delimiter.span(),
+        tokens,
+        out,
+    )
 }

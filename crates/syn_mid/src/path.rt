@@ -1,10 +1,14 @@
 //! Paths.
 
-ghost use Rattle.std.specs.Prelude.{◌≡◌, ◌++◌, true, option_map, IfOk, OnOk, OnErr};
+ghost use Rattle.std.specs.Prelude.{◌≡◌, ◌++◌, ◌<◌, length, true, option_map, IfOk, IfErr, OnOk, OnErr};
+ghost use Rattle.token_core.specs.Refusal.{Made};
+ghost use Rattle.token_core.specs.Spans.{none};
 ghost use Rattle.token_core.specs.Trees.{trees};
 ghost use Rattle.token_core.specs.Prints as prints;
 ghost use Rattle.token_core.specs.Prints.{Extends};
 ghost use Rattle.token_core.specs.Reads.{Reads, Follows, sees_word};
+ghost use Rattle.token_core.specs.Headline.{Heads};
+ghost use Rattle.syn_mid.specs.path.Grammars as grammars;
 ghost use Rattle.syn_mid.specs.path.Paths as spec;
 ghost use Rattle.syn_mid.specs.path.Printing as printing;
 ghost use Rattle.syn_mid.specs.path.Reading as reading;
@@ -13,7 +17,9 @@ ghost use Rattle.syn_mid.specs.path.Spelling.{is_mod_word};
 use std::alloc::{AllocError, Global};
 use std::marker::PhantomData;
 use token_core::token::{Crate, Gt, Lt, Paren, PathSep, SelfType, SelfValue, Super};
-use token_core::{Error, ErrorKind, Ident, ParseStream, Punctuated, ToTokens, Token, TokenStream};
+use token_core::{
+    Error, ErrorKind, Ident, ParseStream, Punctuated, Span, ToTokens, Token, TokenStream,
+};
 
 /// A path: an optional leading `::`, and segments joined by `::`.
 #[derive(Drop)]
@@ -133,6 +139,55 @@ impl<X> Path<X> {
         }
     }
 
+    /// The identifier of a path that is one. Another path is refused from its first to its last segment.
+    pub fn require_ident(&self, alloc: Global) -> Result<&Ident, Error>
+        requires { 0 < length self.now.segments.0 }
+        ensures ok { IfOk result (λ i. spec.lone_ident self.now ≡ Some i.now) }
+        ensures err { IfErr result (λ e. spec.lone_ident self.now ≡ None) }
+        ensures refusal { IfErr result (λ e. Made e (spec.no_ident self.now)) }
+    {
+        match self.get_ident() {
+            Some(ident) => Ok(ident),
+            None => {
+                let kind = ErrorKind::ExpectedPathIdent;
+                Err(Error::of(
+                    alloc,
+                    kind,
+                    kind.text(),
+                    self.first_span(),
+                    self.last_span(),
+                ))
+            }
+        }
+    }
+
+    /// The span of the first segment's identifier.
+    fn first_span(&self) -> Span
+        ensures { result ≡ spec.first_span self.now.segments.0 }
+    {
+        match self.segments.first() {
+            Some(segment) => segment.ident.span,
+            None => Span::none(),
+        }
+    }
+
+    /// The span of the last segment's identifier.
+    #[tactic(auto, using(crate::proofs::path_laws::Lasts::lasts))]
+    fn last_span(&self) -> Span
+        ensures { result ≡ spec.last_span self.now.segments.0 none }
+    {
+        let (pairs, last) = self.segments.parts();
+        match last {
+            Some(segment) => segment.ident.span,
+            None => {
+                if pairs.len() == 0 {
+                    return Span::none();
+                }
+                pairs[pairs.len() - 1].value.ident.span
+            }
+        }
+    }
+
     /// Whether the path is this identifier.
     pub fn is_ident(&self, text: &str) -> bool
         ensures { result ≡ spec.is_text text.now (spec.lone_ident self.now) }
@@ -160,18 +215,29 @@ impl<X> PathSegment<X> {
 impl<X: Drop> Path<X> {
     /// Reads a path of mod style: an optional `::`, and identifiers, `super`, `self`, `Self` or `crate` joined by `::`,
     /// without arguments. It is refused where no segment begins, and after a `::` that none follows.
-    #[tactic(auto, using(token_core::proofs::Suffixes::follows), unfolding(crate::specs::path::Reading::mod_style))]
+    ///
+    /// Where the stream has no left-over tree, a whole read that begins here keeps the promise of the grammar: it
+    /// answers only a path that spells the list, the path that a list spells clearly, and its print is read again.
     pub fn parse_mod_style(alloc: Global, input: &mut ParseStream<'_>) -> Result<Path<X>, Error>
         ensures reads { Reads (reading.mod_style input.old) result input.new }
         ensures within { Follows input.old input.new }
+        ensures headline { Heads grammars.mod_style input.old result input.new }
     {
-        let leading_colon = parse_leading(alloc, input)?;
-        let segments = parse_mod_segments(alloc, input)?;
-        Ok(Path {
-            leading_colon,
-            segments,
-        })
+        parse_mod_path(alloc, input)
     }
+}
+
+#[tactic(auto, using(token_core::proofs::Suffixes::follows), unfolding(crate::specs::path::Reading::mod_style))]
+fn parse_mod_path<X: Drop>(alloc: Global, input: &mut ParseStream<'_>) -> Result<Path<X>, Error>
+    ensures reads { Reads (reading.mod_style input.old) result input.new }
+    ensures within { Follows input.old input.new }
+{
+    let leading_colon = parse_leading(alloc, input)?;
+    let segments = parse_mod_segments(alloc, input)?;
+    Ok(Path {
+        leading_colon,
+        segments,
+    })
 }
 
 #[tactic(auto, unfolding(crate::specs::path::Reading::leading))]
@@ -188,12 +254,18 @@ fn begins_mod_segment(input: &ParseStream<'_>) -> bool
     ensures { result ≡ sees_word is_mod_word input.now.rest }
 {
     // all tested, so that the answer is one value
-    input.peek::<Ident>() | (input.peek::<Super>() | (input.peek::<SelfValue>() | (input.peek::<SelfType>() | input.peek::<Crate>())))
+    input.peek::<Ident>()
+        | (input.peek::<Super>()
+            | (input.peek::<SelfValue>() | (input.peek::<SelfType>() | input.peek::<Crate>())))
 }
 
 /// A segment of mod style; at first an identifier is expected, and after a `::` a segment.
 #[tactic(auto, using(token_core::proofs::Suffixes::follows), unfolding(crate::specs::path::Reading::mod_segment))]
-fn parse_mod_segment<X>(alloc: Global, input: &mut ParseStream<'_>, is_first: bool) -> Result<PathSegment<X>, Error>
+fn parse_mod_segment<X>(
+    alloc: Global,
+    input: &mut ParseStream<'_>,
+    is_first: bool,
+) -> Result<PathSegment<X>, Error>
     ensures reads { Reads (reading.mod_segment is_first input.old) result input.new }
     ensures within { Follows input.old input.new }
 {
@@ -208,7 +280,10 @@ fn parse_mod_segment<X>(alloc: Global, input: &mut ParseStream<'_>, is_first: bo
 }
 
 #[tactic(auto, using(token_core::proofs::Suffixes::follows))]
-fn parse_mod_segments<X: Drop>(alloc: Global, input: &mut ParseStream<'_>) -> Result<Punctuated<PathSegment<X>, PathSep>, Error>
+fn parse_mod_segments<X: Drop>(
+    alloc: Global,
+    input: &mut ParseStream<'_>,
+) -> Result<Punctuated<PathSegment<X>, PathSep>, Error>
     ensures reads { Reads (reading.mod_segments true input.old) result input.new }
     ensures within { Follows input.old input.new }
 {
@@ -272,7 +347,12 @@ impl<X> ToTokens for PathArguments<X> {
 
 /// Appends a path; refused, what stood before is kept.
 #[tactic(auto, using(token_core::proofs::Puts::puts))]
-pub(crate) fn print_path<X>(alloc: Global, path: &Path<X>, style: PathStyle, out: &mut TokenStream) -> Result<(), AllocError>
+pub(crate) fn print_path<X>(
+    alloc: Global,
+    path: &Path<X>,
+    style: PathStyle,
+    out: &mut TokenStream,
+) -> Result<(), AllocError>
     ensures ok { OnOk result (trees out.new ≡ trees out.old ++ printing.path style path.now) }
     ensures err { OnErr result (Extends (trees out.old) (trees out.new)) }
 {
@@ -281,7 +361,12 @@ pub(crate) fn print_path<X>(alloc: Global, path: &Path<X>, style: PathStyle, out
 }
 
 #[tactic(auto, using(token_core::proofs::Puts::puts))]
-fn print_segments<X>(alloc: Global, segments: &Punctuated<PathSegment<X>, PathSep>, style: PathStyle, out: &mut TokenStream) -> Result<(), AllocError>
+fn print_segments<X>(
+    alloc: Global,
+    segments: &Punctuated<PathSegment<X>, PathSep>,
+    style: PathStyle,
+    out: &mut TokenStream,
+) -> Result<(), AllocError>
     ensures ok { OnOk result (trees out.new ≡ trees out.old ++ printing.segments style segments.now) }
     ensures err { OnErr result (Extends (trees out.old) (trees out.new)) }
 {
@@ -297,7 +382,12 @@ fn print_segments<X>(alloc: Global, segments: &Punctuated<PathSegment<X>, PathSe
 }
 
 #[tactic(auto, using(token_core::proofs::Puts::puts))]
-fn print_segment<X>(alloc: Global, segment: &PathSegment<X>, style: PathStyle, out: &mut TokenStream) -> Result<(), AllocError>
+fn print_segment<X>(
+    alloc: Global,
+    segment: &PathSegment<X>,
+    style: PathStyle,
+    out: &mut TokenStream,
+) -> Result<(), AllocError>
     ensures ok { OnOk result (trees out.new ≡ trees out.old ++ printing.segment style segment.now) }
     ensures err { OnErr result (Extends (trees out.old) (trees out.new)) }
 {
@@ -306,7 +396,12 @@ fn print_segment<X>(alloc: Global, segment: &PathSegment<X>, style: PathStyle, o
 }
 
 #[tactic(auto, using(token_core::proofs::Puts::puts))]
-fn print_arguments<X>(alloc: Global, arguments: &PathArguments<X>, style: PathStyle, out: &mut TokenStream) -> Result<(), AllocError>
+fn print_arguments<X>(
+    alloc: Global,
+    arguments: &PathArguments<X>,
+    style: PathStyle,
+    out: &mut TokenStream,
+) -> Result<(), AllocError>
     ensures ok { OnOk result (trees out.new ≡ trees out.old ++ printing.arguments style arguments.now) }
     ensures err { OnErr result (Extends (trees out.old) (trees out.new)) }
 {
@@ -314,14 +409,22 @@ fn print_arguments<X>(alloc: Global, arguments: &PathArguments<X>, style: PathSt
         PathStyle::Mod => Ok(()),
         PathStyle::AsWritten => match arguments {
             PathArguments::None => Ok(()),
-            PathArguments::AngleBracketed(arguments) => print_angle_bracketed(alloc, arguments, out),
-            PathArguments::Parenthesized(arguments) => arguments.paren_token.surround(TokenStream::new(alloc), out),
+            PathArguments::AngleBracketed(arguments) => print_angle_bracketed(
+                alloc, arguments, out,
+            ),
+            PathArguments::Parenthesized(arguments) => arguments
+                .paren_token
+                .surround(TokenStream::new(alloc), out),
         },
     }
 }
 
 #[tactic(auto, using(token_core::proofs::Puts::puts))]
-fn print_angle_bracketed<X>(alloc: Global, arguments: &AngleBracketedGenericArguments<X>, out: &mut TokenStream) -> Result<(), AllocError>
+fn print_angle_bracketed<X>(
+    alloc: Global,
+    arguments: &AngleBracketedGenericArguments<X>,
+    out: &mut TokenStream,
+) -> Result<(), AllocError>
     ensures ok { OnOk result (trees out.new ≡ trees out.old ++ printing.angle_bracketed arguments.now) }
     ensures err { OnErr result (Extends (trees out.old) (trees out.new)) }
 {
@@ -331,7 +434,11 @@ fn print_angle_bracketed<X>(alloc: Global, arguments: &AngleBracketedGenericArgu
 }
 
 #[tactic(auto, using(token_core::proofs::Puts::puts))]
-fn print_colon(alloc: Global, colon: &Option<PathSep>, out: &mut TokenStream) -> Result<(), AllocError>
+fn print_colon(
+    alloc: Global,
+    colon: &Option<PathSep>,
+    out: &mut TokenStream,
+) -> Result<(), AllocError>
     ensures ok { OnOk result (trees out.new ≡ trees out.old ++ printing.colon colon.now) }
     ensures err { OnErr result (Extends (trees out.old) (trees out.new)) }
 {

@@ -6,8 +6,8 @@ use Rattle.token_core.specs.Rebuilt.{Visible}
 use Rattle.token_core.specs.Refusal.{Refusal}
 use Rattle.token_core.specs.Spans.{none}
 use Rattle.token_core.specs.Stream.{Stream, started}
-use Rattle.token_core.specs.Reads.{Outcome, Gives, Fails, leaves, Reads, WholeRead, Promised}
-use Rattle.token_core.specs.Headline.{Grammar, whole, end_of, ended, printed, Reprinted, Answered, Headline, kept, Heads, Lawful}
+use Rattle.token_core.specs.Reads.{Outcome, Reads, kept, leaves}
+use Rattle.token_core.specs.Headline.{Grammar, whole, end_of, ended, printed, Reprinted, Answered, Headline, Heads, Lawful}
 use Rattle.token_core.proofs.Turns.{same_pair}
 
 module _ {A : Type 0} (G : Grammar A) (laws : Lawful G) where
@@ -52,14 +52,3 @@ module _ {A : Type 0} (G : Grammar A) (laws : Lawful G) where
   pub heads : (s t : Stream) (r : Result A Refusal) → Reads (G.reader s) r t → Heads G s r t
   heads s t (Ok a) h = λ n. heads_at s t a (leaves t) n h refl
   heads s t (Err e) h = λ k n v b i. refused s b e n v (h k) i
-
-  fails : (l : Toks) (sc : Span) (e : Refusal) → (G.reader (started sc l) ≡ Err e) → Headline G l None
-  fails l sc e r = λ v b i. refused (started sc l) b e refl v r i
-
-  -- of a whole read
-  pub keeps : (l : Toks) (sc : Span) (r : Result A Refusal) → WholeRead (Gives G.reader) (Fails G.reader) (started sc l) r → Promised (Headline G l) r
-  keeps l sc (Ok a) h = heads_at (started sc l) h.last a None refl h.read h.is
-  keeps l sc (Err e) h = λ k. elim (h k) [
-    | inl r ↦ fails l sc e r
-    | inr w ↦ heads_at (started sc l) w.2.last w.0 (Some w.1) refl w.2.read w.2.is
-  ]

@@ -9,3 +9,4 @@ pub mod Puts
 pub mod Turns
 pub mod Headlines
 pub mod Took
+pub mod Rows

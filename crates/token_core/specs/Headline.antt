@@ -1,6 +1,5 @@
 -- What a whole read of a tree promises.
-use Rattle.std.specs.Prelude.{◌≡◌, ◌≢◌, Bool, true, false, Option, Some, None, Result, Ok, Err}
-use Rattle.token_core.specs.declared.error.ErrorKind.TheVariants.{OutOfMemory}
+use Rattle.std.specs.Prelude.{◌≡◌, Bool, true, false, Option, Some, None, Result, Ok, Err}
 use Rattle.token_core.specs.declared.span.Span.{Span}
 use Rattle.token_core.specs.Toks.{Toks, done}
 use Rattle.token_core.specs.Trees.{row}
@@ -9,7 +8,7 @@ use Rattle.token_core.specs.Prints.{Print}
 use Rattle.token_core.specs.Refusal.{Refusal}
 use Rattle.token_core.specs.Spans.{none}
 use Rattle.token_core.specs.Stream.{Stream, started}
-use Rattle.token_core.specs.Reads.{Reader, Outcome, leaves, left_over}
+use Rattle.token_core.specs.Reads.{Reader, Outcome, Keeps, leaves, left_over}
 
 -- A grammar: which lists an admitted tree spells, clearly or not; the normal form and the print of a tree;
 -- which trees have clear verbatim parts; and the read of the category, a function of the stream.
@@ -54,14 +53,9 @@ abbrev pub Headline : {A : Type 0} → Grammar A → Toks → Option A → Type 
 Headline G l (Some a) = Visible l → Answered G l a
 Headline G l None = Visible l → (b : _) → G.spells true b l → ⊥
 
--- the same, of a read of a stream with no left-over token: what a whole read that begins so would answer
-abbrev pub kept : {A : Type 0} → A → Option Span → Option A
-kept a None = Some a
-kept a (Some at) = None
-
+-- the same, of a read of a stream: a whole read that begins here keeps it
 abbrev pub Heads : {A : Type 0} → Grammar A → Stream → Result A Refusal → Stream → Type 0
-Heads G s (Ok a) new = s.left ≡ None → Headline G s.rest (kept a (leaves new))
-Heads G s (Err e) new = e.kind ≢ OutOfMemory → s.left ≡ None → Headline G s.rest None
+Heads G = Keeps (Headline G)
 
 -- ---- the laws of a grammar and its read, from which it follows
 

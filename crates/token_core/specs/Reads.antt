@@ -358,10 +358,20 @@ abbrev pub Promised : {A : Type 0} → (Option A → Type 0) → Result A Refusa
 Promised promise (Ok a) = promise (Some a)
 Promised promise (Err e) = e.kind ≢ OutOfMemory → promise None
 
+-- an answer after which nothing is left over
+abbrev pub kept : {A : Type 0} → A → Option Span → Option A
+kept a None = Some a
+kept a (Some at) = None
+
+-- A whole read that begins here, where nothing was left over before, keeps the promise.
+abbrev pub Keeps : {A : Type 0} → (Toks → Option A → Type 0) → Stream → Result A Refusal → Stream → Type 0
+Keeps promise s (Ok a) new = s.left ≡ None → promise s.rest (kept a (leaves new))
+Keeps promise s (Err e) new = e.kind ≢ OutOfMemory → s.left ≡ None → promise s.rest None
+
 -- where nothing is promised
-pub nothing_promised : {A : Type 0} (r : Result A Refusal) → Promised (λ (o : Option A). Unit {0}) r
-nothing_promised (Ok a) = tt
-nothing_promised (Err e) = λ h. tt
+pub nothing_promised : {A : Type 0} (s : Stream) (r : Result A Refusal) (t : Stream) → Keeps (λ (l : Toks) (o : Option A). Unit {0}) s r t
+nothing_promised s (Ok a) t = λ h. tt
+nothing_promised s (Err e) t = λ k h. tt
 
 -- the relations of a read whose outcome is a function
 abbrev pub Gives : {A : Type 0} → Reader A → Stream → A → Stream → Type 0
@@ -378,3 +388,5 @@ OptionReads sees reads s (Some a) new = (sees s.rest ≡ true) × reads s a new
 
 abbrev pub OptionRefuses : (Toks → Bool) → (Stream → Refusal → Type 0) → Stream → Refusal → Type 0
 OptionRefuses sees refuses s e = (sees s.rest ≡ true) × refuses s e
+
+pub ruleset no_promise = (nothing_promised)

@@ -7,7 +7,7 @@ ghost use Rattle.token_core.specs.Spans.{none};
 ghost use Rattle.token_core.specs.Refusal.{Refusal};
 ghost use Rattle.token_core.specs.Stream.{Stream, started};
 ghost use Rattle.token_core.specs.ByFns.{CanParse, Answers, RefusesBy};
-ghost use Rattle.token_core.specs.Reads.{Follows, Parsed, WholeRead, Promised};
+ghost use Rattle.token_core.specs.Reads.{Follows, Parsed, WholeRead, Promised, Keeps};
 
 use crate::buffer::TokenBuffer;
 use crate::error::{Error, ErrorKind};
@@ -44,22 +44,14 @@ pub trait Parse: Sized + Drop {
 
     fn parse(alloc: Global, input: &mut ParseStream<'_>) -> Result<Self, Error>
         ensures reads { Parsed (reads input.old) (refuses input.old) result input.new }
-        ensures within { Follows input.old input.new };
-
-    /// The promise is kept.
-    ghost kept: { (l : Toks) (s : _) (r : Result Self Refusal) → WholeRead reads refuses (started s l) r → Promised (promise l) r };
+        ensures within { Follows input.old input.new }
+        ensures promise { Keeps promise input.old result input.new };
 }
 
 /// Reads all of a list.
 pub fn read_all<T: Parse>(alloc: Global, tokens: &TokenStream) -> Result<T, Error>
     ensures reads { WholeRead T.reads T.refuses (started none (toks tokens.now)) result }
     ensures promise { Promised (T.promise (toks tokens.now)) result }
-{
-    whole(alloc, tokens)
-}
-
-fn whole<T: Parse>(alloc: Global, tokens: &TokenStream) -> Result<T, Error>
-    ensures { WholeRead T.reads T.refuses (started none (toks tokens.now)) result }
 {
     let buffer = TokenBuffer::new(alloc, tokens)?;
     let mut input = ParseStream::new(&buffer, Span::none());
@@ -83,10 +75,14 @@ pub trait Parser {
     /// A read of the stream may be refused so.
     ghost refuses: { Self → Stream → Refusal → Type 0 };
 
+    /// What a whole read of these tokens promises of its answer, and of a refusal; nothing, where a parser promises nothing.
+    ghost promise: { Self → Toks → Option Self.Output → Type 0 } = { λ _ _ _. Unit {0} };
+
     fn parse(self, alloc: Global, input: &mut ParseStream<'_>) -> Result<Self::Output, Error>
         requires { can_parse self }
         ensures reads { Parsed (reads self input.old) (refuses self input.old) result input.new }
-        ensures within { Follows input.old input.new };
+        ensures within { Follows input.old input.new }
+        ensures promise { Keeps (promise self) input.old result input.new };
 }
 
 /// Reads all of a list by a parser.
@@ -96,7 +92,8 @@ pub fn read_all_with<P: Parser + Drop>(
     tokens: &TokenStream,
 ) -> Result<P::Output, Error>
     requires { P.can_parse parser }
-    ensures { WholeRead (P.reads parser) (P.refuses parser) (started none (toks tokens.now)) result }
+    ensures reads { WholeRead (P.reads parser) (P.refuses parser) (started none (toks tokens.now)) result }
+    ensures promise { Promised (P.promise parser (toks tokens.now)) result }
 {
     let buffer = TokenBuffer::new(alloc, tokens)?;
     let mut input = ParseStream::new(&buffer, Span::none());
@@ -120,6 +117,7 @@ impl<T: Drop, F: FnOnce(Global, &mut ParseStream<'_>) -> Result<T, Error>> Parse
 
     ghost refuses = { λ p old. RefusesBy (F.post p.0) old };
 
+    #[tactic(auto, using(crate::specs::Reads::no_promise))]
     fn parse(self, alloc: Global, input: &mut ParseStream<'_>) -> Result<T, Error> {
         let ByFn(f) = self;
         f(alloc, input)

@@ -7,7 +7,7 @@ ghost use Rattle.token_core.specs.Groups as groups;
 ghost use Rattle.token_core.specs.Marks as marks;
 ghost use Rattle.token_core.specs.Prints as prints;
 ghost use Rattle.token_core.specs.Reads as spec;
-ghost use Rattle.token_core.specs.Reads.{Reads, Parsed, Follows, Gives, Fails, nothing_promised};
+ghost use Rattle.token_core.specs.Reads.{Reads, Parsed, Follows, Gives, Fails};
 ghost use Rattle.token_core.specs.Spans as spans;
 
 use crate::error::Error;
@@ -82,14 +82,13 @@ impl<const N: u32, const LEN: usize> Parse for Mark<N, LEN> {
 
     ghost refuses = { Fails (marks.read N LEN) };
 
+    #[tactic(auto, using(crate::specs::Reads::no_promise))]
     fn parse(alloc: Global, input: &mut ParseStream<'_>) -> Result<Mark<N, LEN>, Error> {
         let spans = input.read_mark(alloc, mark_chars(N), mark_name(N))?;
         Ok(Mark {
             spans: spread(spans),
         })
     }
-
-    ghost kept = { λ l s r w. nothing_promised r };
 }
 
 impl<const N: u32> Default for Word<N> {
@@ -119,12 +118,11 @@ impl<const N: u32> Parse for Word<N> {
 
     ghost refuses = { Fails (marks.read_named N) };
 
+    #[tactic(auto, using(crate::specs::Reads::no_promise))]
     fn parse(alloc: Global, input: &mut ParseStream<'_>) -> Result<Word<N>, Error> {
         let ident = input.read_word(alloc, word_text(N), word_name(N))?;
         Ok(Word { span: ident.span })
     }
-
-    ghost kept = { λ l s r w. nothing_promised r };
 }
 
 impl Token for Ident {
@@ -146,11 +144,10 @@ impl Parse for Ident {
 
     ghost refuses = { Fails (spec.read_word spec.is_ident spec.ident_name) };
 
+    #[tactic(auto, using(crate::specs::Reads::no_promise))]
     fn parse(alloc: Global, input: &mut ParseStream<'_>) -> Result<Ident, Error> {
         Ok(input.read_ident(alloc)?.copy(alloc)?)
     }
-
-    ghost kept = { λ l s r w. nothing_promised r };
 }
 
 impl ToTokens for Ident {

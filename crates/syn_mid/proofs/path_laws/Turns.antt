@@ -1,9 +1,8 @@
 -- The turns of a path's segments.
 use Rattle.std.specs.Prelude.{◌≢◌, IsTrue, ◌↔◌}
 use Rattle.token_core.specs.declared.error.ErrorKind.TheVariants.{OutOfMemory}
-use Rattle.std.proofs.Common.{◌≡◌, ℕ, suc, ◌<◌, ◌≤◌, Bool, true, false, ◌||◌, List, [], ◌∷◌, ◌++◌, length, Option, Some, None, Result, Ok, Err, inl, inr, refl, sym, ◌∙◌, ap, subst, arith}
+use Rattle.std.proofs.Common.{◌≡◌, ◌<◌, ◌≤◌, Bool, true, false, ◌||◌, List, [], ◌∷◌, ◌++◌, length, Option, Some, None, Result, Ok, Err, inl, inr, refl, sym, ◌∙◌, ap, subst, arith}
 use Rattle.token_core.specs.declared.tree.Ident.{Ident}
-use Rattle.token_core.specs.declared.mark.Spans.{Spans}
 use Rattle.token_core.specs.Refusal.{Refusal}
 use Rattle.token_core.specs.Toks.{Bytes, Toks}
 use Rattle.token_core.specs.Front.{front}
@@ -11,7 +10,7 @@ use Rattle.token_core.specs.Stream.{Stream}
 use Rattle.token_core.specs.Marks as marks
 use Rattle.token_core.specs.Marks.{text_of}
 use Rattle.token_core.specs.Loops.{size, Many, after, is_first}
-use Rattle.token_core.specs.Reads.{Reads, Outcome, and_then, pure, as_word, sees_word, word_meets, read_word, read_mark, any_text, ident_name, is_ident, is_text}
+use Rattle.token_core.specs.Reads.{Reads, Outcome, as_word, sees_word, word_meets, read_word, read_mark, any_text, ident_name, is_ident, is_text}
 use Rattle.token_core.proofs.Turns as turns
 use Rattle.token_core.proofs.Turns.{word_takes, mark_keeps}
 use Rattle.token_core.proofs.Took.{branch, mapped}

@@ -6,6 +6,9 @@ use Rattle.token_core.specs.declared.span.Span.{Span}
 use Rattle.token_core.specs.declared.mark.Mark.{Mark}
 use Rattle.token_core.specs.Toks.{Bytes}
 use Rattle.token_core.specs.Loops.{Many}
+use Rattle.token_core.specs.Spans.{none}
+use Rattle.token_core.specs.Refusal.{Refusal, refusal, fixed}
+use Rattle.token_core.specs.declared.error.ErrorKind.TheVariants.{ExpectedPathIdent}
 use Rattle.syn_mid.specs.declared.path.Path.{Path}
 use Rattle.syn_mid.specs.declared.path.PathSegment.{PathSegment}
 use Rattle.syn_mid.specs.declared.path.PathArguments.{PathArguments}
@@ -63,12 +66,16 @@ module _ {X : Type 0} where
   only-first (s ∷ t ∷ l) = refl
 
   -- the first segment's identifier, and the last one's
-  abbrev pub first_span : List (PathSegment X) → Span → Span
-  first_span [] s = s
-  first_span (x ∷ xs) s = x.ident.span
+  abbrev pub first_span : List (PathSegment X) → Span
+  first_span [] = none
+  first_span (x ∷ xs) = x.ident.span
 
   abbrev pub last_span : List (PathSegment X) → Span → Span
   last_span [] s = s
   last_span (x ∷ xs) s = last_span xs x.ident.span
+
+  -- the refusal of a path that is no identifier
+  abbrev pub no_ident : Path X → Refusal
+  no_ident p = refusal ExpectedPathIdent (fixed ExpectedPathIdent) (first_span p.segments.0) (last_span p.segments.0 none)
 
 pub ruleset firsts = (only-first)

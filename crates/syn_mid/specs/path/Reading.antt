@@ -1,8 +1,8 @@
 -- The reads of paths, as functions of the stream.
-use Rattle.std.specs.Prelude.{Bool, true, false, ◌||◌, Option, Some, None, Err, if◌then◌else◌}
+use Rattle.std.specs.Prelude.{Bool, true, false, Option, Some, None, Err, if◌then◌else◌}
 use Rattle.token_core.specs.declared.error.ErrorKind.TheVariants.{ExpectedPathSegment}
-use Rattle.token_core.specs.Toks.{Bytes, Toks}
-use Rattle.token_core.specs.Reads.{Reader, ◌>>=◌, ◌<$>◌, pure, peek, refuse, expected, sees_mark, sees_word, read_word, is_ident, is_text, any_text, ident_name}
+use Rattle.token_core.specs.Toks.{Toks}
+use Rattle.token_core.specs.Reads.{Reader, ◌>>=◌, ◌<$>◌, pure, peek, refuse, expected, sees_mark, sees_word, read_word, any_text, ident_name}
 use Rattle.token_core.specs.Marks as marks
 use Rattle.token_core.specs.Loops.{Many, joined}
 use Rattle.syn_mid.specs.declared.path.Path.{Path}

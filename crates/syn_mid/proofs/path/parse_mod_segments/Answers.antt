@@ -1,9 +1,8 @@
-use Rattle.std.proofs.Common.{◌≡◌, ◌<◌, ◌≤◌, true, false, ◌++◌, ◌∷◌, [], length, Ok, Err, sym, ap, ◌∙◌, rules, arith}
+use Rattle.std.proofs.Common.{◌≡◌, ◌<◌, ◌≤◌, true, false, ◌++◌, ◌∷◌, [], Ok, Err, sym, ap, ◌∙◌, rules, arith}
 use Rattle.std.proofs.lemmas.Grind.{common_steps}
-use Rattle.token_core.specs.Refusal.{Refusal}
 use Rattle.token_core.specs.Loops.{size, after, is_first}
 use Rattle.token_core.proofs.Suffixes.{follows}
-use Rattle.syn_mid.specs.path.Reading.{mod_segment, mod_segments, sep, sees_sep}
+use Rattle.syn_mid.specs.path.Reading.{mod_segments, sep, sees_sep}
 use Rattle.syn_mid.proofs.path_laws.Turns.{turn_refused, turn_last, turn_stuck, turn_on, is_first-is, is_first-more, segment_takes, sep_keeps, refused_by, stuck_by}
 use Rattle.syn_mid.proofs.path.parse_mod_segments.Goals as goal
 
@@ -14,7 +13,7 @@ returns-in_err-segment-clause-reads g c =
     let was : c.parse_mod_segment.result ≡ Err e = first_of (search rules, grind (arith, common_steps)) in
     let back : c.from_residual.result ≡ Err e = first_of (search rules, grind (arith, common_steps)) in
     refused_by _ _ _ _ _ _ e was back c.parse_mod_segment.ensures.reads
-        (λ h. c.turn.invariant.told ∙ ap (λ b. after c.turn.segments (mod_segments b c.turn.input)) (sym f) ∙ turn_refused c.turn.segments c.is_empty.result c.turn.input e h)
+    (λ h. c.turn.invariant.told ∙ ap (λ b. after c.turn.segments (mod_segments b c.turn.input)) (sym f) ∙ turn_refused c.turn.segments c.is_empty.result c.turn.input e h)
 
 pub returns-then-not-peek-clause-reads : goal.returns-then-not-peek-clause-reads
 returns-then-not-peek-clause-reads g c =
@@ -32,8 +31,8 @@ returns-in_err-parse-clause-reads g c =
     let e = c.in_err-parse.field-0.0 in
     let back : c.from_residual-in_err-parse.result ≡ Err e = first_of (search rules, grind (arith, common_steps)) in
     stuck_by (sep c.parse_mod_segment.new.input) _ _ _ e back c.in_err-parse.ensures.reads
-        (λ h. c.turn.invariant.told ∙ ap (λ b. after c.turn.segments (mod_segments b c.turn.input)) (sym f)
-            ∙ turn_stuck c.turn.segments c.is_empty.result c.turn.input c.parse_mod_segment.new.input c.in_ok-segment.segment e c.in_ok-segment.ensures.reads p h)
+    (λ h. c.turn.invariant.told ∙ ap (λ b. after c.turn.segments (mod_segments b c.turn.input)) (sym f)
+    ∙ turn_stuck c.turn.segments c.is_empty.result c.turn.input c.parse_mod_segment.new.input c.in_ok-segment.segment e c.in_ok-segment.ensures.reads p h)
 
 pub turn-smaller : goal.turn-smaller
 turn-smaller g c =
@@ -49,9 +48,9 @@ turn-preserved g c =
     let m = is_first-more c.turn.segments.0 c.in_ok-segment.segment (c.turn.segments.1 ++ c.in_ok-parse.field-0 ∷ []) in
     record {
       told = c.turn.invariant.told ∙ ap (λ b. after c.turn.segments (mod_segments b c.turn.input)) (sym f)
-        ∙ turn_on c.turn.segments c.is_empty.result c.turn.input c.parse_mod_segment.new.input c.parse.new.self c.in_ok-segment.segment c.in_ok-parse.field-0 c.in_ok-segment.ensures.reads p c.in_ok-parse.ensures.reads
-        ∙ ap (λ b. after (c.turn.segments.0 ++ c.in_ok-segment.segment ∷ [], c.turn.segments.1 ++ c.in_ok-parse.field-0 ∷ []) (mod_segments b c.parse.new.self)) (sym m)
-        ∙ ap (λ z. after z (mod_segments (is_first z) c.parse.new.self)) (sym v);
+          ∙ turn_on c.turn.segments c.is_empty.result c.turn.input c.parse_mod_segment.new.input c.parse.new.self c.in_ok-segment.segment c.in_ok-parse.field-0 c.in_ok-segment.ensures.reads p c.in_ok-parse.ensures.reads
+          ∙ ap (λ b. after (c.turn.segments.0 ++ c.in_ok-segment.segment ∷ [], c.turn.segments.1 ++ c.in_ok-parse.field-0 ∷ []) (mod_segments b c.parse.new.self)) (sym m)
+          ∙ ap (λ z. after z (mod_segments (is_first z) c.parse.new.self)) (sym v);
       whole = grind (arith, common_steps);
       within = grind (arith, follows);
     }

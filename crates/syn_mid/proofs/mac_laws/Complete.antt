@@ -1,0 +1,50 @@
+-- A macro call that a list spells clearly is what the read answers.
+use Rattle.std.proofs.Common.{◌≡◌, true, false, Option, Ok, refl, ◌∙◌, ap}
+use Rattle.token_core.specs.declared.span.Span.{Span}
+use Rattle.token_core.specs.declared.span.DelimSpan.{DelimSpan}
+use Rattle.token_core.specs.declared.tree.Delimiter.{Delimiter}
+use Rattle.token_core.specs.declared.tree.Spacing.{Spacing}
+use Rattle.token_core.specs.declared.tree.TokenStream.{TokenStream}
+use Rattle.token_core.specs.Toks.{Toks, mark, group}
+use Rattle.token_core.specs.Trees.{punct, toks}
+use Rattle.token_core.specs.Rebuilt.{stream_of}
+use Rattle.token_core.specs.Reads.{sees_mark, read_mark, delimited}
+use Rattle.token_core.proofs.Rebuilds.{stream_of-toks}
+use Rattle.token_core.proofs.Took.{at}
+use Rattle.syn_mid.specs.declared.mac.Macro.{Macro}
+use Rattle.syn_mid.specs.declared.mac.MacroDelimiter.{MacroDelimiter}
+use Rattle.syn_mid.specs.mac.Reading.{bang, held, body, mac}
+use Rattle.syn_mid.specs.mac.Spelling.{bang_at, Delimits, in_paren, in_brace, in_bracket, IsMacro, a_macro}
+use Rattle.syn_mid.specs.path.Reading.{sees_sep}
+use Rattle.syn_mid.proofs.path_laws.Complete.{link, Reads_to, path_complete}
+
+reads_bang : (a : Span) (j : Spacing) (r : Toks) (f : Option Span) (e sc : Span) → bang (at (mark (punct 33 j a) r) f e sc) ≡ Ok (bang_at a, at r f a sc)
+unfolding read_mark
+reads_bang a j r f e sc = refl
+
+no_sep : (a : Span) (j : Spacing) (r : Toks) → sees_sep (mark (punct 33 j a) r) ≡ false
+unfolding sees_mark
+no_sep a j r = refl
+
+reads_group : (d : Delimiter) (p : DelimSpan) (c r : Toks) (f : Option Span) (e sc : Span) → delimited (at (group d p c r) f e sc) ≡ Ok ((d, p, stream_of c), at r f p.closing sc)
+unfolding delimited
+reads_group d p c r f e sc = refl
+
+held_is : (e : MacroDelimiter) (d : Delimiter) (p : DelimSpan) (c : TokenStream) (r : Toks) (f : Option Span) (sc : Span) → Delimits e d p → held d p c (at r f p.closing sc) ≡ Ok ((e, c), at r f p.closing sc)
+held_is e d p c r f sc in_paren = refl
+held_is e d p c r f sc in_brace = refl
+held_is e d p c r f sc in_bracket = refl
+
+reads_body : (e : MacroDelimiter) (d : Delimiter) (p : DelimSpan) (c r : Toks) (tokens : TokenStream) (f : Option Span) (l sc : Span) → Delimits e d p → c ≡ toks tokens →
+    body (at (group d p c r) f l sc) ≡ Ok ((e, tokens), at r f p.closing sc)
+unfolding body
+reads_body e d p c r tokens f l sc h k =
+    link _ (reads_group d p c r f l sc) (held_is e d p (stream_of c) r f sc h)
+    ∙ ap (λ z. Ok ((e, z), at r f p.closing sc)) (ap stream_of k ∙ stream_of-toks tokens)
+
+module _ {X : Type 0} where
+  pub macro_complete : (x : Macro X) (l r : Toks) (f : Option Span) (e sc : Span) → IsMacro true x l r → Reads_to mac x l r f e sc
+  unfolding mac
+  macro_complete x l r f e sc (a_macro {p = p} {a = a} {j = j} {e = brackets} {d = d} {s = s} {c = c} {tokens = tokens} i apart h k) =
+      let q = path_complete p l (mark (punct 33 j a) (group d s c r)) f e sc i (no_sep a j (group d s c r)) in
+      record { last = s.closing; reads = link _ q.reads (link _ (reads_bang a j (group d s c r) f q.last sc) (link _ (reads_body brackets d s c r tokens f a sc h k) refl)) }

@@ -1,0 +1,97 @@
+-- Where a read of a macro call answers, the call spells what was taken.
+use Rattle.std.proofs.Common.{◌≡◌, false, [], ◌∷◌, Ok, sym, ◌∙◌, ap, subst}
+use Rattle.token_core.specs.declared.span.Span.{Span}
+use Rattle.token_core.specs.declared.span.DelimSpan.{DelimSpan}
+use Rattle.token_core.specs.declared.tree.Delimiter.{Delimiter}
+use Rattle.token_core.specs.declared.tree.Delimiter.TheVariants.{Parenthesis, Brace, Bracket, None}
+use Rattle.token_core.specs.declared.tree.Spacing.{Spacing}
+use Rattle.token_core.specs.declared.tree.TokenStream.{TokenStream}
+use Rattle.token_core.specs.Toks.{Toks, mark, group}
+use Rattle.token_core.specs.Trees.{punct, toks}
+use Rattle.token_core.specs.Groups as groups
+use Rattle.token_core.specs.Marks as marks
+use Rattle.token_core.specs.Rebuilt.{Visible}
+use Rattle.token_core.specs.Stream.{Stream}
+use Rattle.token_core.specs.Reads.{read_mark, delimited}
+use Rattle.token_core.proofs.Rebuilds.{toks-stream_of}
+use Rattle.token_core.proofs.Turns.{chain, same_pair}
+use Rattle.token_core.proofs.Took.{mapped, took_mark1, took_group}
+use Rattle.syn_mid.specs.declared.mac.Macro.{Macro}
+use Rattle.syn_mid.specs.declared.mac.MacroDelimiter.TheVariants as m
+use Rattle.syn_mid.specs.mac.Macros.{Bang, Held, macro_of}
+use Rattle.syn_mid.specs.mac.Reading.{bang, held, body, mac}
+use Rattle.syn_mid.specs.mac.Spelling.{bang_at, Delimits, in_paren, in_brace, in_bracket, IsMacro, a_macro}
+use Rattle.syn_mid.specs.path.Spelling.{IsModPath}
+use Rattle.syn_mid.specs.path.Reading.{mod_style}
+use Rattle.syn_mid.proofs.path_laws.Sound.{Taken, no_claim, path_sound, visible_path}
+
+record TookBang (s t : Stream) (b : Bang) : Type 0 where
+  span : Span
+  spacing : Spacing
+  is : s.rest ≡ mark (punct 33 spacing span) t.rest
+  mark_is : bang_at span ≡ b
+  left : t.left ≡ s.left
+
+took_bang : (s t : Stream) (b : Bang) → Visible s.rest → bang s ≡ Ok (b, t) → TookBang s t b
+took_bang s t b v e =
+    let k = mapped (read_mark (33 ∷ []) (marks.mark_name 0) s) (marks.mark_of 0 1) b t e in
+    let w = took_mark1 33 (marks.mark_name 0) s t k.value v k.was in
+    record { span = w.span; spacing = w.spacing; is = w.is; mark_is = ap (marks.mark_of 0 1) (sym w.spans) ∙ k.is; left = w.left }
+
+record TookBody (s t : Stream) (h : Held) : Type 0 where
+  delimiter : Delimiter
+  span : DelimSpan
+  content : Toks
+  is : s.rest ≡ group delimiter span content t.rest
+  delimits : Delimits h.0 delimiter span
+  tokens : content ≡ toks h.1
+  left : t.left ≡ s.left
+
+held_at : (d : Delimiter) (p : DelimSpan) (c : TokenStream) (u t : Stream) (h : Held) → held d p c u ≡ Ok (h, t) → Delimits h.0 d p × (c ≡ h.1) × (u ≡ t)
+held_at Parenthesis p c u t h e = let k = same_pair (m.Paren (groups.paren p), c) h u t e in (subst (λ (z : Held). Delimits z.0 Parenthesis p) k.0 in_paren, ap (λ (z : Held). z.1) k.0, k.1)
+held_at Brace p c u t h e = let k = same_pair (m.Brace (groups.brace p), c) h u t e in (subst (λ (z : Held). Delimits z.0 Brace p) k.0 in_brace, ap (λ (z : Held). z.1) k.0, k.1)
+held_at Bracket p c u t h e = let k = same_pair (m.Bracket (groups.bracket p), c) h u t e in (subst (λ (z : Held). Delimits z.0 Bracket p) k.0 in_bracket, ap (λ (z : Held). z.1) k.0, k.1)
+held_at None p c u t h e = cc
+
+took_body : (s t : Stream) (h : Held) → Visible s.rest → body s ≡ Ok (h, t) → TookBody s t h
+unfolding body
+took_body s t h v e =
+    let c = chain (delimited s) _ h t e in
+    let g = took_group s c.rest c.value v c.was in
+    let k = held_at c.value.0 c.value.1 c.value.2 c.rest t h c.goes in
+    let seen = subst Visible g.is v in
+    record {
+      delimiter = c.value.0;
+      span = c.value.1;
+      content = g.content;
+      is = g.is ∙ ap (λ (z : Stream). group c.value.0 c.value.1 g.content z.rest) k.2;
+      delimits = k.0;
+      tokens = sym (toks-stream_of g.content seen.1) ∙ ap toks (sym g.tokens ∙ k.1);
+      left = ap (λ (z : Stream). z.left) (sym k.2) ∙ g.left;
+    }
+
+module _ {X : Type 0} where
+  pub macro_sound : (s t : Stream) (x : Macro X) → Visible s.rest → mac s ≡ Ok (x, t) → Taken (IsMacro false) s t x
+  unfolding mac
+  macro_sound s t x v e =
+      let c = chain (mod_style s) _ x t e in
+      let p = path_sound s c.rest c.value v c.was in
+      let vp = visible_path c.value s.rest c.rest.rest p.spelt v in
+      let d = chain (bang c.rest) _ x t c.goes in
+      let b = took_bang c.rest d.rest d.value vp d.was in
+      let vb = subst Visible b.is vp in
+      let f = chain (body d.rest) _ x t d.goes in
+      let h = took_body d.rest f.rest f.value vb f.was in
+      let g = same_pair (macro_of c.value d.value f.value) x f.rest t f.goes in
+      let whole : c.rest.rest ≡ mark (punct 33 b.spacing b.span) (group h.delimiter h.span h.content f.rest.rest) = b.is ∙ ap (mark (punct 33 b.spacing b.span)) h.is in
+      let call : IsMacro false (macro_of c.value (bang_at b.span) f.value) s.rest f.rest.rest =
+      a_macro (subst (λ z. IsModPath false c.value s.rest z) whole p.spelt) (λ e j. no_claim e) h.delimits h.tokens in
+      record {
+        spelt = subst (λ z. IsMacro false z s.rest t.rest) g.0 (subst (λ (z : Stream). IsMacro false (macro_of c.value d.value f.value) s.rest z.rest) g.1
+            (subst (λ z. IsMacro false (macro_of c.value z f.value) s.rest f.rest.rest) b.mark_is call));
+        left = ap (λ (z : Stream). z.left) (sym g.1) ∙ h.left ∙ b.left ∙ p.left;
+      }
+
+  pub visible_macro : (x : Macro X) (l r : Toks) → IsMacro false x l r → Visible l → Visible r
+  visible_macro x l r (a_macro {p = p} {a = a} {j = j} {d = d} {s = s} {c = c} i ap h k) v =
+      (visible_path p l (mark (punct 33 j a) (group d s c r)) i v).2

@@ -1,0 +1,47 @@
+-- The read of a path of mod style meets the laws of its grammar.
+use Rattle.std.proofs.Common.{◌≡◌, Bool, true, false, List, Option, refl, subst}
+use Rattle.token_core.specs.Toks.{Toks, done}
+use Rattle.token_core.specs.Trees.{row}
+use Rattle.token_core.specs.Rebuilt.{Visible}
+use Rattle.token_core.specs.Reads.{sees_mark}
+use Rattle.token_core.specs.Headline.{Lawful}
+use Rattle.token_core.proofs.Took.{at, took_all, leaves_none}
+use Rattle.syn_mid.specs.declared.path.Path.{Path}
+use Rattle.syn_mid.specs.declared.path.PathSegment.{PathSegment}
+use Rattle.syn_mid.specs.declared.path.PathStyle.TheVariants.{AsWritten}
+use Rattle.syn_mid.specs.path.Paths.{Sep}
+use Rattle.syn_mid.specs.path.Reading.{sees_sep}
+use Rattle.syn_mid.specs.path.Printing.{path}
+use Rattle.syn_mid.specs.path.Spelling.{IsLeading, no_leading, leading, AreModSegments, last_segment, more_segments, IsModPath, mod_path}
+use Rattle.syn_mid.specs.path.Grammars.{mod_style}
+use Rattle.syn_mid.proofs.path_laws.Sound.{path_sound, visible_path}
+use Rattle.syn_mid.proofs.path_laws.Complete.{path_complete}
+use Rattle.syn_mid.proofs.path_laws.Reprint.{path_again}
+
+sees_sep-done : sees_sep done ≡ false
+unfolding sees_mark
+sees_sep-done = refl
+
+-- ---- a path holds no invisible group
+
+whole_leading : (clear : Bool) (o : Option Sep) (l r : Toks) → IsLeading clear o l r → Visible r → Visible l
+whole_leading clear o l r no_leading v = v
+whole_leading clear o l r (leading i) v = v
+
+module _ {X : Type 0} where
+  whole_segments : (clear : Bool) (all : List (PathSegment X)) (seps : List Sep) (l r : Toks) → AreModSegments clear all seps l r → Visible r → Visible l
+  whole_segments clear all seps l r (last_segment h) v = v
+  whole_segments clear all seps l r (more_segments {all = xs} {seps = ps} {l = m} h a i) v = whole_segments clear xs ps m r i v
+
+  pub whole_path : (clear : Bool) (p : Path X) (l r : Toks) → IsModPath clear p l r → Visible r → Visible l
+  whole_path clear p l r (mod_path {o = o} {all = all} {seps = seps} {m = m} i k) v = whole_leading clear o l m i (whole_segments clear all seps m r k v)
+
+  pub lawful : Lawful (mod_style {X = X})
+  lawful = record {
+    sound = λ s t a n v e c. let k = path_sound s t a v e in subst (λ z. IsModPath false a s.rest z) (took_all t (visible_path a s.rest t.rest k.spelt v) c) k.spelt;
+    complete = λ s a n v h. let k = path_complete a s.rest done s.left s.last s.scope h sees_sep-done in (at done s.left k.last s.scope, k.reads, leaves_none s.left k.last s.scope n);
+    spells = λ a l h v p. path_again AsWritten false a l done done h;
+    visible = λ a l h v p. whole_path true a (row (path AsWritten a) done) done (path_again AsWritten false a l done done h) tt;
+    stays = λ a l h p. refl;
+    same = λ a l h p. refl;
+  }
