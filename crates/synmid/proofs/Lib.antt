@@ -1,2 +1,3 @@
-pub mod Said
 pub mod Consumed
+pub mod Whole
+pub mod Said

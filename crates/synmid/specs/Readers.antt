@@ -1,29 +1,39 @@
 -- The readers that a run knows by name.
-use Rattle.std.specs.Prelude.{◌≡◌, ◌≢◌, true, if◌then◌else◌, List, Option, Some, None, Result, Ok, Err, codes}
+use Rattle.std.specs.Prelude.{◌≡◌, ◌≢◌, true, if◌then◌else◌, Option, Some, None, Result, Ok, Err, codes}
 use Rattle.std.specs.Str.{bytes_eq}
 use Rattle.token_core.specs.declared.error.ErrorKind.TheVariants.{OutOfMemory}
 use Rattle.token_core.specs.declared.tree.TokenStream.{TokenStream}
 use Rattle.token_core.specs.Toks.{Bytes, Toks}
 use Rattle.token_core.specs.Trees.{trees}
 use Rattle.token_core.specs.Rebuilt.{Visible}
-use Rattle.token_core.specs.Refusal.{Refusal, out_of_memory}
+use Rattle.token_core.specs.Refusal.{Refusal}
 use Rattle.token_core.specs.Headline.{Grammar, Answered, whole}
+use Rattle.token_core.specs.Prints.{Print}
+use Rattle.token_core.specs.Spans.{none}
+use Rattle.token_core.specs.Stream.{Stream, started}
+use Rattle.token_core.specs.Reads.{Refuses}
+use Rattle.syn_mid.specs.declared.mac.Macro as mac
+use Rattle.syn_mid.specs.declared.path.Path as path
+use Rattle.syn_mid.specs.mac.Grammars as macs
+use Rattle.syn_mid.specs.path.Grammars as paths
+use Rattle.synmid.specs.declared.sample.Sample.{Sample}
 use Rattle.synmid.specs.declared.reader.Reader.{Reader}
 use Rattle.synmid.specs.declared.reader.Reader.TheVariants.{Macro, ModStyle}
 
 abbrev pub named : Bytes → Option Reader
 named name =
-  if bytes_eq name (codes "Macro") then Some Macro
-  else (if bytes_eq name (codes "Path::parse_mod_style") then Some ModStyle
-  else None)
+    if bytes_eq name (codes "Macro") then Some Macro
+    else (if bytes_eq name (codes "Path::parse_mod_style") then Some ModStyle
+    else None)
 
+-- the trees of a reader
 abbrev pub Tree : Reader → Type 0
-Tree Macro = TokenStream
-Tree ModStyle = TokenStream
+Tree Macro = mac.Macro Sample
+Tree ModStyle = path.Path Sample
 
 abbrev pub grammar : (r : Reader) → Grammar (Tree r)
-grammar Macro = record { spells = λ _ _ _. Unit {0}; normal = λ x. x; print = λ x. trees x; plain = λ _. Unit {0}; reader = λ s. Err out_of_memory }
-grammar ModStyle = record { spells = λ _ _ _. Unit {0}; normal = λ x. x; print = λ x. trees x; plain = λ _. Unit {0}; reader = λ s. Err out_of_memory }
+grammar Macro = macs.mac
+grammar ModStyle = paths.mod_style
 
 -- no tree of the grammar spells the tokens clearly
 abbrev pub NoTree : {A : Type 0} → Grammar A → Toks → Type 0
@@ -34,3 +44,8 @@ NoTree {A = A} G l = (b : A) → G.spells true b l → ⊥
 abbrev pub Reprints : {A : Type 0} → Grammar A → Toks → Result TokenStream Refusal → Type 0
 Reprints {A = A} G l (Ok s) = Visible l → (a : A) × Answered G l a × (trees s ≡ G.print a)
 Reprints G l (Err e) = e.kind ≢ OutOfMemory → (whole G.reader l ≡ Err e) × (Visible l → NoTree G l)
+
+-- the same by the relations of a read and its promise
+abbrev pub Prints : {A : Type 0} → (Stream → A → Stream → Type 0) → (Stream → Refusal → Type 0) → (Toks → Option A → Type 0) → (A → Print) → Toks → Result TokenStream Refusal → Type 0
+Prints {A = A} reads refuses promise print l (Ok s) = (a : A) × promise l (Some a) × (trees s ≡ print a)
+Prints reads refuses promise print l (Err e) = e.kind ≢ OutOfMemory → Refuses reads refuses (started none l) e × promise l None

@@ -1,11 +1,13 @@
 //! The readers that a run knows by name.
 
-ghost use Rattle.std.specs.Prelude.{◌≡◌};
-ghost use Rattle.token_core.specs.Trees.{toks};
+ghost use Rattle.std.specs.Prelude.{◌≡◌, IfOk};
+ghost use Rattle.token_core.specs.Trees.{toks, trees};
 ghost use Rattle.synmid.specs.Readers as spec;
 
-use std::alloc::Global;
-use token_core::{Error, TokenStream};
+use crate::sample::Sample;
+use std::alloc::{AllocError, Global};
+use syn_mid::{Macro, ModStyle};
+use token_core::{Error, Parse, Parser, ToTokens, TokenStream, read_all, read_all_with};
 
 /// A reader that a run knows by name.
 #[derive(Clone, Copy, PartialEq, Eq)]
@@ -29,6 +31,40 @@ impl Reader {
     pub fn reprint(self, alloc: Global, tokens: &TokenStream) -> Result<TokenStream, Error>
         ensures { spec.Reprints (spec.grammar self) (toks tokens.now) result }
     {
-        Err(Error::out_of_memory())
+        match self {
+            Reader::Macro => reprint::<Macro<Sample>>(alloc, tokens),
+            Reader::ModStyle => reprint_with(alloc, ModStyle::<Sample>::new(), tokens),
+        }
     }
+}
+
+/// Reads all of a list as a `T`, and prints it.
+fn reprint<T: Parse + ToTokens>(alloc: Global, tokens: &TokenStream) -> Result<TokenStream, Error>
+    ensures { spec.Prints T.reads T.refuses T.promise T.print (toks tokens.now) result }
+{
+    let tree = read_all::<T>(alloc, tokens)?;
+    Ok(print_of(alloc, &tree)?)
+}
+
+/// Reads all of a list by a parser, and prints what it answers.
+fn reprint_with<P: Parser + Drop>(
+    alloc: Global,
+    parser: P,
+    tokens: &TokenStream,
+) -> Result<TokenStream, Error>
+where
+    P::Output: ToTokens,
+    requires { P.can_parse parser }
+    ensures { spec.Prints (P.reads parser) (P.refuses parser) (P.promise parser) P.Output.print (toks tokens.now) result }
+{
+    let tree = read_all_with(parser, alloc, tokens)?;
+    Ok(print_of(alloc, &tree)?)
+}
+
+fn print_of<T: ToTokens>(alloc: Global, tree: &T) -> Result<TokenStream, AllocError>
+    ensures { IfOk result (λ s. trees s ≡ T.print tree.now) }
+{
+    let mut out = TokenStream::new(alloc);
+    tree.to_tokens(alloc, &mut out)?;
+    Ok(out)
 }

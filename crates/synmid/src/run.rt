@@ -22,8 +22,16 @@ pub fn run<R: Source, W: Sink>(alloc: Global, name: &str, input: &mut R, output:
 {
     match answer(alloc, name, input) {
         Ok(text) => end(output, "", text.as_str(), 0),
-        Err(fault) => end(output, "error: ", fault.text(), fault.status()),
+        Err(fault) => refuse(&fault, output),
     }
+}
+
+/// Says that there is no tree, and why.
+pub fn refuse<W: Sink>(fault: &Fault, output: &mut W) -> u8
+    ensures { spec.Ends (Appends (W.contents output.old) (W.contents output.new)) (W.can_fail output.old)
+        (spec.line (faults.of_fault fault.now)) (faults.status fault.now) result }
+{
+    end(output, "error: ", fault.text(), fault.status())
 }
 
 /// Writes the line that a run ends with.

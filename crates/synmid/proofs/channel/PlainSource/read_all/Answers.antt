@@ -14,10 +14,10 @@ pub loop-preserved : goal.loop-preserved
 loop-preserved g c =
     let room : length c.read.new.buf ≡ 4096 = c.read.auto.buf ∙ c.loop.invariant.room in
     elim c.match-read.branch [
-      in-Ok+in_ok-extend_from_slice-in-Ok w ↦
-        let e = ap (λ v. v.items) w.bytes-is ∙ w.in_ok-extend_from_slice-in-Ok.ensures.items in
-        record { taken = rw e (consumes-more _ _ _ c.loop.bytes.items _ c.loop.invariant.taken w.in-Ok.ensures.bytes.0); room = room }
+      | in-Ok+in_ok-extend_from_slice-in-Ok w ↦
+          let e = ap (λ v. v.items) w.bytes-is ∙ w.in_ok-extend_from_slice-in-Ok.ensures.items in
+          record { taken = rw e (consumes-more _ _ _ c.loop.bytes.items _ c.loop.invariant.taken w.in-Ok.ensures.bytes.0); room = room }
       | in-Err+else-ne w ↦
-        let e = ap (λ v. v.items) w.bytes-is in
-        record { taken = rw e (consumes-keeps _ _ _ c.loop.bytes.items c.loop.invariant.taken w.in-Err.ensures.bytes); room = room }
+          let e = ap (λ v. v.items) w.bytes-is in
+          record { taken = rw e (consumes-keeps _ _ _ c.loop.bytes.items c.loop.invariant.taken w.in-Err.ensures.bytes); room = room }
     ]
