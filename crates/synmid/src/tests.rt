@@ -110,7 +110,7 @@ fn refuses_a_keyword(rt: HostRuntime) -> Result<(), Fail> {
 fn refuses_bytes_that_are_no_text(rt: HostRuntime) -> Result<(), Fail> {
     let (status, written) = ran(rt.alloc(), "Macro", b"m!(\xff)")?;
     assert_eq!(rt; status, 1);
-    assert!(rt; written.as_slice() == b"error: input is not UTF-8\n");
+    assert!(rt; written.as_slice() == "error: input is not UTF-8\n".as_bytes());
     Ok(())
 }
 
@@ -123,7 +123,7 @@ fn says_that_reading_failed(rt: HostRuntime) -> Result<(), Fail> {
         let mut output = Plain(Vec::new(rt.alloc()));
         let status = run(rt.alloc(), "Macro", &mut input, &mut output);
         assert_eq!(rt; status, 1);
-        assert!(rt; output.0.as_slice() == b"error: cannot read input\n");
+        assert!(rt; output.0.as_slice() == "error: cannot read input\n".as_bytes());
     }
     Ok(())
 }
