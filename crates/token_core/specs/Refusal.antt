@@ -1,5 +1,5 @@
 -- Refusals: what they say, and from where to where they point.
-use Rattle.std.specs.Prelude.{◌≡◌, ◌≢◌, ℕ, zero, suc, [], Option, Some, None, refl, codes}
+use Rattle.std.specs.Prelude.{◌≡◌, ◌≢◌, ◌⊎◌, ℕ, zero, suc, [], Option, Some, None, refl, codes}
 use Rattle.std.specs.Coded.{Coded, code_by, coded×, coded_ℕ}
 use Rattle.token_core.specs.declared.error.ErrorKind.{ErrorKind}
 use Rattle.token_core.specs.declared.error.ErrorKind.TheVariants.{OutOfMemory, Expected, Unexpected, Custom, ExpectedDelimiter, ExpectedPathSegment, ExpectedPathIdent, UnclosedDelimiter, UnexpectedClosingDelimiter, UnknownToken}
@@ -46,6 +46,10 @@ out_of_memory = named OutOfMemory none
 -- the refusal that was asked for, unless its text can't be stored
 abbrev pub Made : Refusal → Refusal → Type 0
 Made e r = e.kind ≢ OutOfMemory → e ≡ r
+
+-- the same, and where memory ran out it is the refusal for that
+abbrev pub Stored : Refusal → Refusal → Type 0
+Stored e r = (e ≡ r) ⊎ (e ≡ out_of_memory)
 
 -- ---- a code for refusals
 

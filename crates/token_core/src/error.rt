@@ -91,7 +91,8 @@ impl Error {
 
     /// A refusal of any kind and text.
     pub fn of(alloc: Global, kind: ErrorKind, text: &str, start: Span, end: Span) -> Error
-        ensures { spec.Made result (spec.refusal kind text.now start end) }
+        ensures made { spec.Made result (spec.refusal kind text.now start end) }
+        ensures stored { spec.Stored result (spec.refusal kind text.now start end) }
     {
         Error::stored(kind, Text::from_str(alloc, text), start, end)
     }
@@ -102,7 +103,7 @@ impl Error {
         start: Span,
         end: Span,
     ) -> Error
-        ensures ok { IfOk text (λ t. spec.Made result (spec.refusal kind t start end)) }
+        ensures ok { IfOk text (λ t. result ≡ spec.refusal kind t start end) }
         ensures err { OnErr text (result ≡ spec.out_of_memory) }
     {
         match text {
@@ -118,7 +119,8 @@ impl Error {
 
     /// A refusal of a kind that has one text.
     pub fn named(alloc: Global, kind: ErrorKind, span: Span) -> Error
-        ensures { spec.Made result (spec.named kind span) }
+        ensures made { spec.Made result (spec.named kind span) }
+        ensures stored { spec.Stored result (spec.named kind span) }
     {
         Error::of(alloc, kind, kind.text(), span, span)
     }

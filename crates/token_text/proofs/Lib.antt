@@ -4,3 +4,4 @@ mod Steps
 mod CharacterLaws
 mod PieceLaws
 mod TextLaws
+pub mod VisibleLaws

@@ -2,7 +2,7 @@
 use Rattle.std.proofs.Common.{◌≡◌, ℕ, zero, suc, ◌<◌, ◌+◌, ◌-◌, ◌≤◌, List, [], ◌∷◌, ◌++◌, length, take, drop, encode_utf8, encode_utf8_all, Some, None, Result, Ok, Err, refl, ap, ap₂, ◌∙◌, arith, length-append, drop_at, take_at, inl, inr, chars}
 use Rattle.std.proofs.lemmas.Str.{length-encode, length-le-encodes}
 use Rattle.std.specs.Char.{len_utf8}
-use Rattle.token_core.specs.Refusal.{Refusal, Made}
+use Rattle.token_core.specs.Refusal.{Refusal, Stored}
 use Rattle.token_core.specs.Spans.{span}
 use Rattle.token_core.specs.declared.span.Span.{Span}
 use Rattle.token_text.specs.Characters.{Text, size}
@@ -90,6 +90,6 @@ pub fails_so : {A B : Type 0} (r : Refusal) (o : Result A Refusal) (u : Result B
 fails_so r o u (inl h) f = inl h
 fails_so r o u (inr h) f = inr (f h)
 
-pub made_fails : {A : Type 0} (e r : Refusal) (o : Result A Refusal) → Made e r → o ≡ Err r → Fails e o
+pub made_fails : {A : Type 0} (e r : Refusal) (o : Result A Refusal) → Stored e r → o ≡ Err r → Fails e o
 made_fails e r o (inl h) f = inr (rw h f)
 made_fails e r o (inr h) f = inl h

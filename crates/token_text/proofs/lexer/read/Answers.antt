@@ -17,7 +17,7 @@ returns-in_default-front c =
     let first = c.in-Some.ensures.0 in
     let none = rw first at c.in_default-front.ensures in
     let place : span at (at + len_utf8 c.in-Some.first) ≡ c.new-span.result = sym (c.new-span.ensures ∙ ap (λ n. span at (at + n)) c.len_utf8.ensures.value) in
-    made_fails c.named.result _ (lexed text) c.named.ensures
+    made_fails c.named.result _ (lexed text) c.named.ensures.stored
     (c.loop-first.invariant.2 ∙ ap (reads 0 at x) first ∙ reads_unknown at c.in-Some.first x (chars c.in-Some.field-0-1.now) none
     ∙ ap (λ s. Err (named UnknownToken s)) place)
 

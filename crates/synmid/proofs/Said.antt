@@ -1,0 +1,109 @@
+-- What is said of an input, by what its list and its read are.
+use Rattle.std.proofs.Common.{◌≡◌, ◌≢◌, ◌⊎◌, inl, inr, ℕ, true, List, ◌++◌, codes, Ok, Err, Result, IsUtf8, refl, ap, sym, subst, ◌∙◌}
+use Rattle.token_core.specs.declared.error.ErrorKind.{ErrorKind}
+use Rattle.token_core.specs.declared.error.ErrorKind.TheVariants.{OutOfMemory, Expected, Unexpected, Custom, ExpectedDelimiter, ExpectedPathSegment, ExpectedPathIdent, UnclosedDelimiter, UnexpectedClosingDelimiter, UnknownToken}
+use Rattle.token_core.specs.declared.tree.TokenTree.{TokenTree}
+use Rattle.token_core.specs.declared.tree.TokenStream.{TokenStream, roll-out-TokenStream}
+use Rattle.token_core.specs.Toks.{Bytes, Toks, done}
+use Rattle.token_core.specs.Trees.{trees, row, stream_of_trees, toks}
+use Rattle.token_core.specs.Trees as s
+use Rattle.token_core.specs.Rebuilt.{Visible}
+use Rattle.token_core.specs.Refusal.{Refusal, out_of_memory}
+use Rattle.token_core.specs.Headline.{Answered, whole}
+use Rattle.token_core.proofs.Rebuilds.{stream-trees}
+use Rattle.token_text.specs.Spelling.{Spells, Refused}
+use Rattle.token_text.specs.Printing.{text_of}
+use Rattle.token_text.proofs.VisibleLaws.{spells-visible}
+use Rattle.synmid.specs.declared.reader.Reader.{Reader}
+use Rattle.synmid.specs.Readers.{Tree, grammar, NoTree, Reprints}
+use Rattle.synmid.specs.Run.{Answer, shown, refused, no_memory, not_text, line, IsTextOf, Shows, Refuses, not_utf8, no_list, no_tree, memory, Justified, Accepts, AnswersTo, text_of_print, Ends}
+use Rattle.synmid.specs.declared.fault.Fault.{Fault}
+use Rattle.synmid.specs.declared.fault.Fault.TheVariants as f
+use Rattle.synmid.specs.Faults.{text, of_fault, of_kind, of_refusal}
+
+-- ---- a refusal is for want of memory, or its text is said
+
+module _ (r : Reader) (input : Bytes) where
+  justified : (k : ErrorKind) (e : Refusal) → (k ≢ OutOfMemory → Refuses r input e.text) → Justified r input (of_fault (of_kind k e))
+  justified OutOfMemory e h = memory
+  justified Expected e h = h (λ q. cc)
+  justified Unexpected e h = h (λ q. cc)
+  justified Custom e h = h (λ q. cc)
+  justified ExpectedDelimiter e h = h (λ q. cc)
+  justified ExpectedPathSegment e h = h (λ q. cc)
+  justified ExpectedPathIdent e h = h (λ q. cc)
+  justified UnclosedDelimiter e h = h (λ q. cc)
+  justified UnexpectedClosingDelimiter e h = h (λ q. cc)
+  justified UnknownToken e h = h (λ q. cc)
+
+  -- where the refusal can only be for want of memory, it is said
+  forgetful : (k : ErrorKind) (e : Refusal) (X : Type 0) → (k ≢ OutOfMemory → ⊥) → X ⊎ (of_fault (of_kind k e) ≡ no_memory)
+  forgetful OutOfMemory e X h = inr refl
+  forgetful Expected e X h = absurd (h (λ q. cc))
+  forgetful Unexpected e X h = absurd (h (λ q. cc))
+  forgetful Custom e X h = absurd (h (λ q. cc))
+  forgetful ExpectedDelimiter e X h = absurd (h (λ q. cc))
+  forgetful ExpectedPathSegment e X h = absurd (h (λ q. cc))
+  forgetful ExpectedPathIdent e X h = absurd (h (λ q. cc))
+  forgetful UnclosedDelimiter e X h = absurd (h (λ q. cc))
+  forgetful UnexpectedClosingDelimiter e X h = absurd (h (λ q. cc))
+  forgetful UnknownToken e X h = absurd (h (λ q. cc))
+
+  pub of_memory : AnswersTo r input no_memory
+  of_memory = record { justified = memory; accepts = λ l a t s. inr refl }
+
+  pub of_bytes : ¬ IsUtf8 input → AnswersTo r input not_text
+  of_bytes h = record { justified = not_utf8 h; accepts = λ l a t s. absurd (h t.utf8) }
+
+  -- ---- a text that is not read
+
+  not_spelled : (e : Refusal) → ((l : List TokenTree) → Spells input l → e ≡ out_of_memory) → Accepts r input (of_fault (of_refusal e))
+  not_spelled e none l a t s =
+      let q = none l t.spells in
+      inr (ap (λ x. of_fault (of_refusal x)) q)
+
+  pub of_unread : (e : Refusal) → IsUtf8 input → (e ≡ out_of_memory) ⊎ Refused input e → ((l : List TokenTree) → Spells input l → e ≡ out_of_memory) →
+      AnswersTo r input (of_fault (of_refusal e))
+  of_unread e utf8 (inl q) none = let P : Answer → Type 0 = λ x. AnswersTo r input x in subst P (sym (ap (λ x. of_fault (of_refusal x)) q)) of_memory
+  of_unread e utf8 (inr h) none = record { justified = justified e.kind e (λ k. no_list e utf8 h); accepts = not_spelled e none }
+
+  -- ---- a text that is read
+
+  module _ (c : TokenStream) (is_text : IsTextOf input (trees c)) (only : (l : List TokenTree) → Spells input l → trees c ≡ l) where
+    tokens : toks c ≡ row (trees c) done
+    tokens = ap (λ x. s.stream x done) (sym (roll-out-TokenStream c)) ∙ stream-trees (trees c) done
+
+    visible : Visible (row (trees c) done)
+    visible = spells-visible input (trees c) is_text.spells
+
+    here : (e : Refusal) → Reprints (grammar r) (toks c) (Err e) → Reprints (grammar r) (row (trees c) done) (Err e)
+    here e h = subst (λ l. Reprints (grammar r) l (Err e)) tokens h
+
+    pub of_refused : (e : Refusal) → Reprints (grammar r) (toks c) (Err e) → AnswersTo r input (of_fault (of_refusal e))
+    of_refused e h = record {
+      justified = justified e.kind e (λ k. no_tree (trees c) e is_text (here e h k).0 ((here e h k).1 visible));
+      accepts = λ l a t s. forgetful e.kind e _ (λ k. (here e h k).1 visible a (subst (λ z. (grammar r).spells true a (row z done)) (sym (only l t.spells)) s));
+    }
+
+    pub of_answer : (p : TokenStream) (text : Bytes) → Reprints (grammar r) (toks c) (Ok p) → text ≡ text_of p → AnswersTo r input (shown text)
+    of_answer p text h is =
+        let q = subst (λ l. Reprints (grammar r) l (Ok p)) tokens h visible in
+        let e : text ≡ text_of_print r q.0 = is ∙ ap text_of (sym (roll-out-TokenStream p) ∙ ap stream_of_trees q.2) in
+        record {
+          justified = record { list = trees c; is_text = is_text; tree = q.0; answered = q.1; text_is = e };
+          accepts = λ l a t s.
+              let b : a ≡ q.0 = q.1.unique a (subst (λ z. (grammar r).spells true a (row z done)) (sym (only l t.spells)) s) in
+              inl (ap shown (e ∙ ap (text_of_print r) (sym b)));
+        }
+
+-- ---- what is written of a fault
+
+pub fault-line : (x : Fault) → codes "error: " ++ text x ++ codes "\n" ≡ line (of_fault x)
+fault-line f.UnknownReader = refl
+fault-line f.CannotRead = refl
+fault-line f.NotUtf8 = refl
+fault-line f.OutOfMemory = refl
+fault-line (f.Refused e) = refl
+
+pub ends_so : (takes can_fail : Bytes → Type 0) (k l : Bytes) (said wanted result : ℕ) → k ≡ l → said ≡ wanted → Ends takes can_fail k said result → Ends takes can_fail l wanted result
+ends_so takes can_fail k l said wanted result e q h = let P : Bytes → ℕ → Type 0 = λ x n. Ends takes can_fail x n result in subst (λ n. P l n) q (subst (λ x. P x said) e h)

@@ -1,0 +1,4 @@
+pub mod Sample
+pub mod Readers
+pub mod Run
+pub mod Faults

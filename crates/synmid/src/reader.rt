@@ -1,0 +1,70 @@
+//! The readers that a run knows by name.
+
+ghost use Rattle.std.specs.Prelude.{◌≡◌, IfOk};
+ghost use Rattle.token_core.specs.Trees.{toks, trees};
+ghost use Rattle.synmid.specs.Readers as spec;
+
+use crate::sample::Sample;
+use std::alloc::{AllocError, Global};
+use syn_mid::{Macro, ModStyle};
+use token_core::{Error, Parse, Parser, ToTokens, TokenStream, read_all, read_all_with};
+
+/// A reader that a run knows by name.
+#[derive(Clone, Copy, PartialEq, Eq)]
+pub enum Reader {
+    Macro,
+    ModStyle,
+}
+
+impl Reader {
+    pub fn named(name: &str) -> Option<Reader>
+        ensures { result ≡ spec.named name.now }
+    {
+        match name {
+            "Macro" => Some(Reader::Macro),
+            "Path::parse_mod_style" => Some(Reader::ModStyle),
+            _ => None,
+        }
+    }
+
+    /// Reads all of a list, and prints what was read.
+    pub fn reprint(self, alloc: Global, tokens: &TokenStream) -> Result<TokenStream, Error>
+        ensures { spec.Reprints (spec.grammar self) (toks tokens.now) result }
+    {
+        match self {
+            Reader::Macro => reprint::<Macro<Sample>>(alloc, tokens),
+            Reader::ModStyle => reprint_with(alloc, ModStyle::<Sample>::new(), tokens),
+        }
+    }
+}
+
+/// Reads all of a list as a `T`, and prints it.
+fn reprint<T: Parse + ToTokens>(alloc: Global, tokens: &TokenStream) -> Result<TokenStream, Error>
+    ensures { spec.Prints T.reads T.refuses T.promise T.print (toks tokens.now) result }
+{
+    let tree = read_all::<T>(alloc, tokens)?;
+    Ok(print_of(alloc, &tree)?)
+}
+
+/// Reads all of a list by a parser, and prints what it answers.
+fn reprint_with<P: Parser + Drop>(
+    alloc: Global,
+    parser: P,
+    tokens: &TokenStream,
+) -> Result<TokenStream, Error>
+where
+    P::Output: ToTokens,
+    requires { P.can_parse parser }
+    ensures { spec.Prints (P.reads parser) (P.refuses parser) (P.promise parser) P.Output.print (toks tokens.now) result }
+{
+    let tree = read_all_with(parser, alloc, tokens)?;
+    Ok(print_of(alloc, &tree)?)
+}
+
+fn print_of<T: ToTokens>(alloc: Global, tree: &T) -> Result<TokenStream, AllocError>
+    ensures { IfOk result (λ s. trees s ≡ T.print tree.now) }
+{
+    let mut out = TokenStream::new(alloc);
+    tree.to_tokens(alloc, &mut out)?;
+    Ok(out)
+}

@@ -1,0 +1,165 @@
+//! Runs over inputs and outputs of memory, and over ones that fail.
+
+use crate::channel::Plain;
+use crate::run::run;
+use std::alloc::{AllocError, Global};
+use std::io;
+use std::io::{ErrorKind, Read, Write};
+use std::test::Fail;
+
+/// A reader that gives its bytes and then fails.
+#[derive(Drop)]
+struct Breaking<'a> {
+    rest: &'a [u8],
+}
+
+impl Read for Breaking<'_> {
+    fn read(&mut self, buf: &mut [u8]) -> io::Result<usize> {
+        if self.rest.is_empty() {
+            return Err(io::Error::from(ErrorKind::Other));
+        }
+        self.rest.read(buf)
+    }
+}
+
+/// A writer that takes some bytes and then fails.
+#[derive(Drop)]
+struct Short {
+    taken: Vec<u8>,
+    room: usize,
+}
+
+impl Write for Short {
+    fn write(&mut self, buf: &[u8]) -> io::Result<usize> {
+        if buf.is_empty() {
+            return Ok(0);
+        }
+        if self.room == 0 {
+            return Err(io::Error::from(ErrorKind::Other));
+        }
+        self.room -= 1;
+        self.taken.write(&buf[..1])
+    }
+
+    fn flush(&mut self) -> io::Result<()> {
+        Ok(())
+    }
+}
+
+/// The status and what was written.
+fn ran(alloc: Global, name: &str, input: &[u8]) -> Result<(u8, Vec<u8>), AllocError> {
+    let mut output = Plain(Vec::new(alloc));
+    let mut input = input;
+    let status = run(alloc, name, &mut input, &mut output);
+    let Plain(written) = output;
+    Ok((status, written))
+}
+
+#[test]
+fn says(rt: HostRuntime) -> Result<(), Fail> {
+    let rows = [
+        ("Macro", "a::b!{x y}", 0, "a :: b ! { x y }\n"),
+        ("Macro", "::a!()", 0, ":: a ! ()\n"),
+        (
+            "Macro",
+            "m!",
+            1,
+            "error: unexpected end of input, expected delimiter\n",
+        ),
+        (
+            "Path::parse_mod_style",
+            "self::Self::crate",
+            0,
+            "self :: Self :: crate\n",
+        ),
+        (
+            "Path::parse_mod_style",
+            "a::",
+            1,
+            "error: unexpected end of input, expected path segment after `::`\n",
+        ),
+        (
+            "Path::parse_mod_style",
+            "a!",
+            1,
+            "error: unexpected token\n",
+        ),
+        ("Foo", "a", 2, "error: unknown reader\n"),
+        ("", "a", 2, "error: unknown reader\n"),
+        ("Macro", "m!(", 1, "error: unclosed delimiter\n"),
+        ("Macro", "m!)", 1, "error: unexpected closing delimiter\n"),
+        ("Macro", "m!(\")", 1, "error: unknown start of token\n"),
+    ];
+    for (name, input, status, line) in rows {
+        let (got, written) = ran(rt.alloc(), name, input.as_bytes())?;
+        assert_eq!(rt; got, status, "{name} of {input}");
+        assert!(rt; written.as_slice() == line.as_bytes(), "{name} of {input}");
+    }
+    Ok(())
+}
+
+#[test]
+fn refuses_a_keyword(rt: HostRuntime) -> Result<(), Fail> {
+    let (status, written) = ran(rt.alloc(), "Path::parse_mod_style", b"try")?;
+    assert_eq!(rt; status, 1);
+    assert!(rt; written.starts_with(b"error: "));
+    Ok(())
+}
+
+#[test]
+fn refuses_bytes_that_are_no_text(rt: HostRuntime) -> Result<(), Fail> {
+    let (status, written) = ran(rt.alloc(), "Macro", b"m!(\xff)")?;
+    assert_eq!(rt; status, 1);
+    assert!(rt; written.as_slice() == "error: input is not UTF-8\n".as_bytes());
+    Ok(())
+}
+
+#[test]
+fn says_that_reading_failed(rt: HostRuntime) -> Result<(), Fail> {
+    for rest in ["", "m!"] {
+        let mut input = Plain(Breaking {
+            rest: rest.as_bytes(),
+        });
+        let mut output = Plain(Vec::new(rt.alloc()));
+        let status = run(rt.alloc(), "Macro", &mut input, &mut output);
+        assert_eq!(rt; status, 1);
+        assert!(rt; output.0.as_slice() == "error: cannot read input\n".as_bytes());
+    }
+    Ok(())
+}
+
+#[test]
+fn reads_nothing_for_an_unknown_name(rt: HostRuntime) -> Result<(), Fail> {
+    let mut input: &[u8] = b"m!()";
+    let mut output = Plain(Vec::new(rt.alloc()));
+    let status = run(rt.alloc(), "Foo", &mut input, &mut output);
+    assert_eq!(rt; status, 2);
+    assert_eq!(rt; input.len(), 4);
+    Ok(())
+}
+
+#[test]
+fn ends_with_1_where_writing_fails(rt: HostRuntime) -> Result<(), Fail> {
+    let rows = [
+        ("Macro", "m!()", "m ! ()\n"),
+        ("Foo", "", "error: unknown reader\n"),
+        (
+            "Macro",
+            "m!",
+            "error: unexpected end of input, expected delimiter\n",
+        ),
+    ];
+    for (name, text, line) in rows {
+        for room in 0..line.len() {
+            let mut input = text.as_bytes();
+            let mut output = Plain(Short {
+                taken: Vec::new(rt.alloc()),
+                room,
+            });
+            let status = run(rt.alloc(), name, &mut input, &mut output);
+            assert_eq!(rt; status, 1, "{name} of {text} with room for {room}");
+            assert!(rt; output.0.taken.as_slice() == &line.as_bytes()[..room]);
+        }
+    }
+    Ok(())
+}
