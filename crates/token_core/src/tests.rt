@@ -262,6 +262,43 @@ fn refusals_name_what_was_expected(rt: HostRuntime) -> Result<(), Fail> {
     Ok(())
 }
 
+/// The stream is at a word that is an identifier.
+fn reads_word(
+    rt: &impl Abort,
+    input: &mut ParseStream<'_>,
+    alloc: Global,
+    text: &str,
+) -> Result<(), Fail> {
+    assert!(rt; input.peek_ident() && input.peek::<Ident>());
+    assert_eq!(rt; read(input.fork().parse::<Ident>(alloc))?.text(), text);
+    assert_eq!(rt; read(input.read_ident(alloc))?.text(), text);
+    Ok(())
+}
+
+/// The stream is at a keyword.
+fn refuses_word(
+    rt: &impl Abort,
+    input: &mut ParseStream<'_>,
+    alloc: Global,
+    text: &str,
+) -> Result<(), Fail> {
+    assert!(rt; !input.peek_ident() && !input.peek::<Ident>());
+    let error = refusal(input.read_ident(alloc))?;
+    says(
+        rt,
+        &error,
+        ErrorKind::Expected,
+        "expected identifier",
+        nth(0),
+    );
+    assert_eq!(rt;
+        read(Ident::parse_any(alloc, &mut input.fork()))?.text(),
+        text
+    );
+    assert_eq!(rt; read(input.read_any_ident(alloc))?.text(), text);
+    Ok(())
+}
+
 #[test]
 fn words_are_read(rt: HostRuntime) -> Result<(), Fail> {
     let alloc = rt.alloc();
@@ -276,27 +313,12 @@ fn words_are_read(rt: HostRuntime) -> Result<(), Fail> {
         let list = tokens(alloc, text)?;
         let buffer = TokenBuffer::new(alloc, &list)?;
         let mut input = ParseStream::new(&buffer, Span::none());
-        assert_eq!(rt; input.peek_ident(), is_ident, "{text}");
-        assert_eq!(rt; input.peek::<Ident>(), is_ident, "{text}");
-        assert!(rt; input.peek_any_ident() && Ident::peek_any(&input), "{text}");
+        assert!(rt; input.peek_any_ident() && Ident::peek_any(&input));
         assert_eq!(rt; input.peek_word("self"), text == "self");
         if is_ident {
-            assert_eq!(rt; read(input.fork().parse::<Ident>(alloc))?.text(), text);
-            assert_eq!(rt; read(input.read_ident(alloc))?.text(), text);
+            reads_word(&rt, &mut input, alloc, text)?;
         } else {
-            let error = refusal(input.read_ident(alloc))?;
-            says(
-                &rt,
-                &error,
-                ErrorKind::Expected,
-                "expected identifier",
-                nth(0),
-            );
-            assert_eq!(rt;
-                read(Ident::parse_any(alloc, &mut input.fork()))?.text(),
-                text
-            );
-            assert_eq!(rt; read(input.read_any_ident(alloc))?.text(), text);
+            refuses_word(&rt, &mut input, alloc, text)?;
         }
         assert!(rt; input.is_empty() && input.prev_span() == nth(0));
     }
