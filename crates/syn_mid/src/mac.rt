@@ -1,12 +1,14 @@
 //! Macro calls.
 
-ghost use Rattle.std.specs.Prelude.{◌≡◌, ◌++◌, OnOk, OnErr};
+ghost use Rattle.std.specs.Prelude.{◌≡◌, ◌++◌, false, IfOk, OnOk, OnErr};
 ghost use Rattle.token_core.specs.Trees.{trees};
 ghost use Rattle.token_core.specs.Prints as prints;
 ghost use Rattle.token_core.specs.Prints.{Extends};
 ghost use Rattle.token_core.specs.Reads.{Reads, Follows, Gives, Fails};
-ghost use Rattle.token_core.specs.Headline.{Headline};
+ghost use Rattle.token_core.specs.Headline.{Headline, Heads};
+ghost use Rattle.token_core.specs.Rebuilt.{Visible};
 ghost use Rattle.syn_mid.specs.mac.Grammars as grammars;
+ghost use Rattle.syn_mid.specs.mac.Spelling.{IsMacro};
 ghost use Rattle.syn_mid.specs.mac.Macros as spec;
 ghost use Rattle.syn_mid.specs.mac.Printing as printing;
 ghost use Rattle.syn_mid.specs.mac.Reading as reading;
@@ -117,7 +119,13 @@ impl<X: Subtree> Parse for Macro<X> {
 
     ghost promise = { Headline (grammars.mac {X = X}) };
 
-    fn parse(alloc: Global, input: &mut ParseStream<'_>) -> Result<Macro<X>, Error> {
+    /// On the front of a list without invisible groups it took what the call spells.
+    fn parse(alloc: Global, input: &mut ParseStream<'_>) -> Result<Macro<X>, Error>
+        ensures reads { Reads (reading.mac input.old) result input.new }
+        ensures within { Follows input.old input.new }
+        ensures front { Visible input.old.rest → IfOk result (λ m. IsMacro false m input.old.rest input.new.rest) }
+        ensures promise { Heads grammars.mac input.old result input.new }
+    {
         parse_macro(alloc, input)
     }
 }

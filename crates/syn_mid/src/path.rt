@@ -1,6 +1,7 @@
 //! Paths.
 
-ghost use Rattle.std.specs.Prelude.{◌≡◌, ◌++◌, ◌<◌, length, true, option_map, IfOk, IfErr, OnOk, OnErr};
+ghost use Rattle.std.specs.Prelude.{◌≡◌, ◌++◌, ◌<◌, length, false, true, option_map, IfOk, IfErr, OnOk, OnErr};
+ghost use Rattle.token_core.specs.Rebuilt.{Visible};
 ghost use Rattle.token_core.specs.Refusal.{Made};
 ghost use Rattle.token_core.specs.Spans.{none};
 ghost use Rattle.token_core.specs.Trees.{trees};
@@ -12,7 +13,7 @@ ghost use Rattle.syn_mid.specs.path.Grammars as grammars;
 ghost use Rattle.syn_mid.specs.path.Paths as spec;
 ghost use Rattle.syn_mid.specs.path.Printing as printing;
 ghost use Rattle.syn_mid.specs.path.Reading as reading;
-ghost use Rattle.syn_mid.specs.path.Spelling.{is_mod_word};
+ghost use Rattle.syn_mid.specs.path.Spelling.{IsModPath, is_mod_word};
 
 use std::alloc::{AllocError, Global};
 use std::marker::PhantomData;
@@ -216,11 +217,12 @@ impl<X: Drop> Path<X> {
     /// Reads a path of mod style: an optional `::`, and identifiers, `super`, `self`, `Self` or `crate` joined by `::`,
     /// without arguments. It is refused where no segment begins, and after a `::` that none follows.
     ///
-    /// Where the stream has no left-over tree, a whole read that begins here keeps the promise of the grammar: it
+    /// On the front of a list without invisible groups it took what the path spells. Where the stream has no left-over tree, a whole read that begins here keeps the promise of the grammar: it
     /// answers only a path that spells the list, the path that a list spells clearly, and its print is read again.
     pub fn parse_mod_style(alloc: Global, input: &mut ParseStream<'_>) -> Result<Path<X>, Error>
         ensures reads { Reads (reading.mod_style input.old) result input.new }
         ensures within { Follows input.old input.new }
+        ensures front { Visible input.old.rest → IfOk result (λ p. IsModPath false p input.old.rest input.new.rest) }
         ensures headline { Heads grammars.mod_style input.old result input.new }
     {
         parse_mod_path(alloc, input)

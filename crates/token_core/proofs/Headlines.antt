@@ -1,5 +1,5 @@
 -- A grammar and its read that meet the laws keep the promise.
-use Rattle.std.proofs.Common.{◌≡◌, true, false, Option, Some, None, Result, Ok, Err, refl, sym, ◌∙◌, ap, inl, inr}
+use Rattle.std.proofs.Common.{◌≡◌, true, false, Option, Some, None, Result, Ok, Err, refl, sym, ◌∙◌, ap}
 use Rattle.token_core.specs.declared.span.Span.{Span}
 use Rattle.token_core.specs.Toks.{Toks}
 use Rattle.token_core.specs.Rebuilt.{Visible}

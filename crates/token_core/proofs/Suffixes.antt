@@ -10,7 +10,7 @@ use Rattle.token_core.specs.Toks.{Toks, done, word, mark, lit, group, enter, lea
 use Rattle.token_core.specs.Spans.{none}
 use Rattle.token_core.specs.Front.{front, past_ends, settled}
 use Rattle.token_core.specs.Stream.{Stream}
-use Rattle.token_core.specs.Reads.{IsSuffix, all_of, past_word, past_punct, past_lit, past_group, past_enter, past_leave, Follows, first_of, as_word, as_punct, as_group, past_next, past_mark, is_last, is_joint, put_first, three, word_past, next_word, past}
+use Rattle.token_core.specs.Reads.{IsSuffix, all_of, past_word, past_punct, past_lit, past_group, past_enter, past_leave, Follows, IsFork, forked, first_of, as_word, as_punct, as_group, past_next, past_mark, is_last, is_joint, put_first, three, word_past, next_word, past}
 
 pub suffix_trans : {a b c : Toks} → IsSuffix a b → IsSuffix b c → IsSuffix a c
 suffix_trans p all_of = p
@@ -129,8 +129,14 @@ as_group-settled (group g z y r) = refl
 as_group-settled (enter s r) = refl
 as_group-settled (leave r) = refl
 
+-- what a fork became is a fork of the same stream
+pub fork_follows : (s t : Stream) → Follows (forked s) t → IsFork t s
+fork_follows s t p = record { suffix = p.suffix; scope = p.scope }
+
 pub ruleset firsts = (first-first, all_of)
 
 pub ruleset follows = (follows_self, follows_trans)
 
 pub ruleset words = (follows_self, follows_word)
+
+pub ruleset forks = (follows_self, follows_trans, fork_follows)

@@ -1,6 +1,6 @@
 //! Identifiers at the front of a stream.
 
-ghost use Rattle.std.specs.Prelude.{◌≡◌, not, option_map, map};
+ghost use Rattle.std.specs.Prelude.{◌≡◌, not, option_map, map, OnErr};
 ghost use Rattle.std.specs.Str.{bytes_eq};
 ghost use Rattle.token_core.specs.Keywords as keywords;
 ghost use Rattle.token_core.specs.Reads as spec;
@@ -45,6 +45,7 @@ impl<'a> ParseStream<'a> {
     pub fn read_any_ident(&mut self, alloc: Global) -> Result<&'a Ident, Error>
         ensures reads { Reads (spec.read_word spec.any_text spec.ident_name self.old) (lent result) self.new }
         ensures within { Follows self.old self.new }
+        ensures same { OnErr result (self.new ≡ self.old) }
     {
         match self.next_ident() {
             Some((ident, more)) => {
@@ -60,6 +61,7 @@ impl<'a> ParseStream<'a> {
     pub fn read_ident(&mut self, alloc: Global) -> Result<&'a Ident, Error>
         ensures reads { Reads (spec.read_word spec.is_ident spec.ident_name self.old) (lent result) self.new }
         ensures within { Follows self.old self.new }
+        ensures same { OnErr result (self.new ≡ self.old) }
     {
         match self.next_ident() {
             Some((ident, more)) => {
@@ -78,6 +80,7 @@ impl<'a> ParseStream<'a> {
     pub fn read_word(&mut self, alloc: Global, text: &str, name: &str) -> Result<&'a Ident, Error>
         ensures reads { Reads (spec.read_word (spec.is_text text.now) name.now self.old) (lent result) self.new }
         ensures within { Follows self.old self.new }
+        ensures same { OnErr result (self.new ≡ self.old) }
     {
         match self.next_ident() {
             Some((ident, more)) => {

@@ -12,6 +12,8 @@ mod parse;
 mod parse_stream;
 mod punctuated;
 mod span;
+#[cfg(test)]
+mod tests;
 mod text;
 mod to_tokens;
 pub mod token;

@@ -1,6 +1,6 @@
 //! A stream: a position in a buffer, up to the end of its scope.
 
-ghost use Rattle.std.specs.Prelude.{◌≡◌, ◌≤◌, drop, length, option_map, IfSome};
+ghost use Rattle.std.specs.Prelude.{◌≡◌, ◌≤◌, drop, length, option_map, IfSome, OnErr};
 ghost use Rattle.token_core.specs.Reads as spec;
 ghost use Rattle.token_core.specs.Reads.{Reads, Follows};
 ghost use Rattle.token_core.specs.Refusal.{Made, fixed};
@@ -251,9 +251,10 @@ impl<'a> ParseStream<'a> {
     pub fn fork(&self) -> ParseStream<'a>
         ensures { result ≡ spec.forked self.now }
     {
+        let left = None;
         ParseStream {
             cursor: self.cursor.again(),
-            left: None,
+            left,
             last: self.last,
             scope: self.scope,
         }
@@ -323,6 +324,7 @@ impl<'a> ParseStream<'a> {
     pub fn read_mark(&mut self, alloc: Global, marks: &[char], name: &str) -> Result<Spans, Error>
         ensures reads { Reads (spec.read_mark marks.now name.now self.old) result self.new }
         ensures within { Follows self.old self.new }
+        ensures same { OnErr result (self.new ≡ self.old) }
     {
         match past_mark(self.cursor.again(), marks, 0) {
             Some((spans, more)) => {
@@ -369,6 +371,7 @@ impl<'a> ParseStream<'a> {
     ) -> Result<(DelimSpan, ParseStream<'a>), Error>
         ensures reads { Reads (spec.open_group delimiter name.now self.old) result self.new }
         ensures within { Follows self.old self.new }
+        ensures same { OnErr result (self.new ≡ self.old) }
     {
         match as_group(self.cursor.next()) {
             Some((group, inside, after)) => {
@@ -389,6 +392,7 @@ impl<'a> ParseStream<'a> {
     pub fn delimited(&mut self, alloc: Global) -> Result<(Delimiter, DelimSpan, TokenStream), Error>
         ensures reads { Reads (spec.delimited self.old) result self.new }
         ensures within { Follows self.old self.new }
+        ensures same { OnErr result (self.new ≡ self.old) }
     {
         match as_group(self.cursor.next_outside()) {
             Some((group, _, after)) => {

@@ -410,6 +410,7 @@ impl<'a> ParseStream<'a> {
     pub fn parenthesized(&mut self, alloc: Global) -> Result<(Paren, ParseStream<'a>), Error>
         ensures reads { Reads (groups.opened groups.paren (spec.open_group delimiter.Parenthesis groups.paren_name self.old)) result self.new }
         ensures within { Follows self.old self.new }
+        ensures same { OnErr result (self.new ≡ self.old) }
     {
         let (span, inside) = self.open_group(alloc, Delimiter::Parenthesis, Paren::display())?;
         Ok((Paren { span }, inside))
@@ -419,6 +420,7 @@ impl<'a> ParseStream<'a> {
     pub fn braced(&mut self, alloc: Global) -> Result<(Brace, ParseStream<'a>), Error>
         ensures reads { Reads (groups.opened groups.brace (spec.open_group delimiter.Brace groups.brace_name self.old)) result self.new }
         ensures within { Follows self.old self.new }
+        ensures same { OnErr result (self.new ≡ self.old) }
     {
         let (span, inside) = self.open_group(alloc, Delimiter::Brace, Brace::display())?;
         Ok((Brace { span }, inside))
@@ -428,6 +430,7 @@ impl<'a> ParseStream<'a> {
     pub fn bracketed(&mut self, alloc: Global) -> Result<(Bracket, ParseStream<'a>), Error>
         ensures reads { Reads (groups.opened groups.bracket (spec.open_group delimiter.Bracket groups.bracket_name self.old)) result self.new }
         ensures within { Follows self.old self.new }
+        ensures same { OnErr result (self.new ≡ self.old) }
     {
         let (span, inside) = self.open_group(alloc, Delimiter::Bracket, Bracket::display())?;
         Ok((Bracket { span }, inside))

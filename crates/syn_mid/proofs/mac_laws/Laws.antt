@@ -1,12 +1,18 @@
 -- The read of a macro call meets the laws of its grammar.
-use Rattle.std.proofs.Common.{true, false, refl, subst}
+use Rattle.std.specs.Prelude.{IfOk}
+use Rattle.std.proofs.Common.{Result, Ok, Err, true, false, refl, subst}
 use Rattle.token_core.specs.Toks.{done}
 use Rattle.token_core.specs.Trees.{row, toks}
+use Rattle.token_core.specs.Refusal.{Refusal}
 use Rattle.token_core.specs.Rebuilt.{Visible}
+use Rattle.token_core.specs.Reads.{Reads}
+use Rattle.token_core.specs.Stream.{Stream}
 use Rattle.token_core.specs.Headline.{Lawful}
 use Rattle.token_core.proofs.Took.{at, took_all, leaves_none}
+use Rattle.syn_mid.specs.declared.mac.Macro.{Macro}
 use Rattle.syn_mid.specs.mac.Grammars.{mac}
 use Rattle.syn_mid.specs.mac.Printing as printing
+use Rattle.syn_mid.specs.mac.Reading as reading
 use Rattle.syn_mid.specs.mac.Spelling.{IsMacro}
 use Rattle.syn_mid.proofs.mac_laws.Sound.{macro_sound, visible_macro}
 use Rattle.syn_mid.proofs.mac_laws.Complete.{macro_complete}
@@ -22,3 +28,8 @@ module _ {X : Type 0} where
     stays = λ a l h p. refl;
     same = λ a l h p. refl;
   }
+
+  -- on the front of a list
+  pub front : (s t : Stream) (r : Result (Macro X) Refusal) → Reads (reading.mac s) r t → Visible s.rest → IfOk r (λ x. IsMacro false x s.rest t.rest)
+  front s t (Ok a) h v = (macro_sound s t a v h).spelt
+  front s t (Err e) h v = tt

@@ -17,6 +17,7 @@ use Rattle.token_core.proofs.Rebuilds.{toks-stream_of}
 use Rattle.token_core.proofs.Turns.{chain, same_pair}
 use Rattle.token_core.proofs.Took.{mapped, took_mark1, took_group}
 use Rattle.syn_mid.specs.declared.mac.Macro.{Macro}
+use Rattle.syn_mid.specs.declared.path.Path.{Path}
 use Rattle.syn_mid.specs.declared.mac.MacroDelimiter.TheVariants as m
 use Rattle.syn_mid.specs.mac.Macros.{Bang, Held, macro_of}
 use Rattle.syn_mid.specs.mac.Reading.{bang, held, body, mac}
@@ -37,6 +38,9 @@ took_bang s t b v e =
     let k = mapped (read_mark (33 ∷ []) (marks.mark_name 0) s) (marks.mark_of 0 1) b t e in
     let w = took_mark1 33 (marks.mark_name 0) s t k.value v k.was in
     record { span = w.span; spacing = w.spacing; is = w.is; mark_is = ap (marks.mark_of 0 1) (sym w.spans) ∙ k.is; left = w.left }
+
+visible_bang : (s t : Stream) (b : Bang) → TookBang s t b → Visible s.rest → Visible t.rest
+visible_bang s t b k v = subst Visible k.is v
 
 record TookBody (s t : Stream) (h : Held) : Type 0 where
   delimiter : Delimiter
@@ -71,6 +75,14 @@ took_body s t h v e =
     }
 
 module _ {X : Type 0} where
+  call_at : (p : Path X) (l m n r : Toks) (a : Span) (j : Spacing) (d : Delimiter) (s : DelimSpan) (c : Toks) (h : Held) → IsModPath false p l m → m ≡ mark (punct 33 j a) n → n ≡ group d s c r →
+      Delimits h.0 d s → c ≡ toks h.1 → IsMacro false (macro_of p (bang_at a) h) l r
+  call_at p l m n r a j d s c h i e g k t = a_macro (subst (λ z. IsModPath false p l z) (e ∙ ap (mark (punct 33 j a)) g) i) (λ e j. no_claim e) k t
+
+  ends_at : (p : Path X) (b a : Bang) (h : Held) (x : Macro X) (l : Toks) (u t : Stream) → a ≡ b → macro_of p b h ≡ x → u ≡ t → IsMacro false (macro_of p a h) l u.rest → IsMacro false x l t.rest
+  ends_at p b a h x l u t e f g i =
+      subst (λ z. IsMacro false z l t.rest) f (subst (λ (z : Stream). IsMacro false (macro_of p b h) l z.rest) g (subst (λ z. IsMacro false (macro_of p z h) l u.rest) e i))
+
   pub macro_sound : (s t : Stream) (x : Macro X) → Visible s.rest → mac s ≡ Ok (x, t) → Taken (IsMacro false) s t x
   unfolding mac
   macro_sound s t x v e =
@@ -79,16 +91,13 @@ module _ {X : Type 0} where
       let vp = visible_path c.value s.rest c.rest.rest p.spelt v in
       let d = chain (bang c.rest) _ x t c.goes in
       let b = took_bang c.rest d.rest d.value vp d.was in
-      let vb = subst Visible b.is vp in
+      let vb = visible_bang c.rest d.rest d.value b vp in
       let f = chain (body d.rest) _ x t d.goes in
       let h = took_body d.rest f.rest f.value vb f.was in
       let g = same_pair (macro_of c.value d.value f.value) x f.rest t f.goes in
-      let whole : c.rest.rest ≡ mark (punct 33 b.spacing b.span) (group h.delimiter h.span h.content f.rest.rest) = b.is ∙ ap (mark (punct 33 b.spacing b.span)) h.is in
-      let call : IsMacro false (macro_of c.value (bang_at b.span) f.value) s.rest f.rest.rest =
-      a_macro (subst (λ z. IsModPath false c.value s.rest z) whole p.spelt) (λ e j. no_claim e) h.delimits h.tokens in
+      let call = call_at c.value s.rest c.rest.rest d.rest.rest f.rest.rest b.span b.spacing h.delimiter h.span h.content f.value p.spelt b.is h.is h.delimits h.tokens in
       record {
-        spelt = subst (λ z. IsMacro false z s.rest t.rest) g.0 (subst (λ (z : Stream). IsMacro false (macro_of c.value d.value f.value) s.rest z.rest) g.1
-            (subst (λ z. IsMacro false (macro_of c.value z f.value) s.rest f.rest.rest) b.mark_is call));
+        spelt = ends_at c.value d.value (bang_at b.span) f.value x s.rest f.rest t b.mark_is g.0 g.1 call;
         left = ap (λ (z : Stream). z.left) (sym g.1) ∙ h.left ∙ b.left ∙ p.left;
       }
 

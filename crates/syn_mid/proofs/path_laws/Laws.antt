@@ -1,15 +1,19 @@
 -- The read of a path of mod style meets the laws of its grammar.
-use Rattle.std.proofs.Common.{◌≡◌, Bool, true, false, List, Option, refl, subst}
+use Rattle.std.proofs.Common.{◌≡◌, Result, Ok, Err, Bool, true, false, List, Option, refl, subst}
+use Rattle.std.specs.Prelude.{IfOk}
 use Rattle.token_core.specs.Toks.{Toks, done}
 use Rattle.token_core.specs.Trees.{row}
+use Rattle.token_core.specs.Refusal.{Refusal}
 use Rattle.token_core.specs.Rebuilt.{Visible}
-use Rattle.token_core.specs.Reads.{sees_mark}
+use Rattle.token_core.specs.Reads.{Reads, sees_mark}
+use Rattle.token_core.specs.Stream.{Stream}
 use Rattle.token_core.specs.Headline.{Lawful}
 use Rattle.token_core.proofs.Took.{at, took_all, leaves_none}
 use Rattle.syn_mid.specs.declared.path.Path.{Path}
 use Rattle.syn_mid.specs.declared.path.PathSegment.{PathSegment}
 use Rattle.syn_mid.specs.declared.path.PathStyle.TheVariants.{AsWritten}
 use Rattle.syn_mid.specs.path.Paths.{Sep}
+use Rattle.syn_mid.specs.path.Reading as reading
 use Rattle.syn_mid.specs.path.Reading.{sees_sep}
 use Rattle.syn_mid.specs.path.Printing.{path}
 use Rattle.syn_mid.specs.path.Spelling.{IsLeading, no_leading, leading, AreModSegments, last_segment, more_segments, IsModPath, mod_path}
@@ -45,3 +49,8 @@ module _ {X : Type 0} where
     stays = λ a l h p. refl;
     same = λ a l h p. refl;
   }
+
+  -- on the front of a list
+  pub front : (s t : Stream) (r : Result (Path X) Refusal) → Reads (reading.mod_style s) r t → Visible s.rest → IfOk r (λ x. IsModPath false x s.rest t.rest)
+  front s t (Ok a) h v = (path_sound s t a v h).spelt
+  front s t (Err e) h v = tt

@@ -1,7 +1,10 @@
 use Rattle.token_core.proofs.Headlines.{heads}
 use Rattle.syn_mid.specs.mac.Grammars as grammars
-use Rattle.syn_mid.proofs.mac_laws.Laws.{lawful}
+use Rattle.syn_mid.proofs.mac_laws.Laws.{lawful, front}
 use Rattle.syn_mid.proofs.mac.MacroParse.parse.Goals as goal
 
 pub returns-clause-promise : goal.returns-clause-promise
 returns-clause-promise g c = heads grammars.mac lawful _ _ _ c.parse_macro.ensures.reads
+
+pub returns-clause-front : goal.returns-clause-front
+returns-clause-front g c = front _ _ _ c.parse_macro.ensures.reads
