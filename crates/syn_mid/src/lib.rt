@@ -4,6 +4,8 @@
 pub mod mac;
 pub mod path;
 pub mod supplied;
+#[cfg(test)]
+mod tests;
 pub mod whole;
 
 pub use mac::{Macro, MacroDelimiter};
