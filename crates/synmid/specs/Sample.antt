@@ -1,6 +1,5 @@
 -- The read of a supplied subtree of which there is none.
 use Rattle.std.specs.Prelude.{◌≡◌, Ok, Err, codes}
-use Rattle.std.proofs.Common.{rules}
 use Rattle.token_core.specs.Stream.{Stream}
 use Rattle.token_core.specs.Reads.{Reader, Outcome, expected}
 use Rattle.synmid.specs.declared.sample.Sample.{Sample}
