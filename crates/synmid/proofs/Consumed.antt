@@ -1,5 +1,5 @@
 -- What reads one after the other take of the bytes that are left.
-use Rattle.std.proofs.Common.{◌≡◌, List, ℕ, [], ◌++◌, Option, Some, None, IfSome, ap, sym, ◌∙◌, append_assoc, append-nil, take, subst, rules}
+use Rattle.std.proofs.Common.{◌≡◌, ℕ, [], ◌++◌, Option, Some, None, IfSome, ap, sym, ◌∙◌, append_assoc, append-nil, take, subst, rules}
 use Rattle.std.specs.Io.KnownBytes.{Consumes, Keeps, IsAtEnd}
 use Rattle.token_core.specs.Toks.{Bytes}
 

@@ -1,22 +1,21 @@
 -- What is said of an input, by what its list and its read are.
-use Rattle.std.proofs.Common.{◌≡◌, ◌≢◌, ◌⊎◌, inl, inr, ℕ, true, List, ◌++◌, codes, Ok, Err, Result, IsUtf8, refl, ap, sym, subst, ◌∙◌}
+use Rattle.std.proofs.Common.{◌≡◌, ◌≢◌, ◌⊎◌, inl, inr, ℕ, true, List, ◌++◌, codes, Ok, Err, IsUtf8, refl, ap, sym, subst, ◌∙◌}
 use Rattle.token_core.specs.declared.error.ErrorKind.{ErrorKind}
 use Rattle.token_core.specs.declared.error.ErrorKind.TheVariants.{OutOfMemory, Expected, Unexpected, Custom, ExpectedDelimiter, ExpectedPathSegment, ExpectedPathIdent, UnclosedDelimiter, UnexpectedClosingDelimiter, UnknownToken}
 use Rattle.token_core.specs.declared.tree.TokenTree.{TokenTree}
 use Rattle.token_core.specs.declared.tree.TokenStream.{TokenStream, roll-out-TokenStream}
-use Rattle.token_core.specs.Toks.{Bytes, Toks, done}
+use Rattle.token_core.specs.Toks.{Bytes, done}
 use Rattle.token_core.specs.Trees.{trees, row, stream_of_trees, toks}
 use Rattle.token_core.specs.Trees as s
 use Rattle.token_core.specs.Rebuilt.{Visible}
 use Rattle.token_core.specs.Refusal.{Refusal, out_of_memory}
-use Rattle.token_core.specs.Headline.{Answered, whole}
 use Rattle.token_core.proofs.Rebuilds.{stream-trees}
 use Rattle.token_text.specs.Spelling.{Spells, Refused}
 use Rattle.token_text.specs.Printing.{text_of}
 use Rattle.token_text.proofs.VisibleLaws.{spells-visible}
 use Rattle.synmid.specs.declared.reader.Reader.{Reader}
-use Rattle.synmid.specs.Readers.{Tree, grammar, NoTree, Reprints}
-use Rattle.synmid.specs.Run.{Answer, shown, refused, no_memory, not_text, line, IsTextOf, Shows, Refuses, not_utf8, no_list, no_tree, memory, Justified, Accepts, AnswersTo, text_of_print, Ends}
+use Rattle.synmid.specs.Readers.{grammar, Reprints}
+use Rattle.synmid.specs.Run.{Answer, shown, no_memory, not_text, line, IsTextOf, Refuses, not_utf8, no_list, no_tree, memory, Justified, Accepts, AnswersTo, text_of_print, Ends}
 use Rattle.synmid.specs.declared.fault.Fault.{Fault}
 use Rattle.synmid.specs.declared.fault.Fault.TheVariants as f
 use Rattle.synmid.specs.Faults.{text, of_fault, of_kind, of_refusal}

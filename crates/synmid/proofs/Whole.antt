@@ -1,11 +1,10 @@
 -- What a whole read prints, by its grammar.
-use Rattle.std.proofs.Common.{◌≡◌, Result, Ok, Err, ap, sym, ◌∙◌, inl, inr, ◌⊎◌}
+use Rattle.std.proofs.Common.{◌≡◌, Result, Ok, Err, ap, sym, ◌∙◌, inl, inr}
 use Rattle.token_core.specs.declared.tree.TokenStream.{TokenStream}
 use Rattle.token_core.specs.Toks.{Toks}
-use Rattle.token_core.specs.Rebuilt.{Visible}
 use Rattle.token_core.specs.Refusal.{Refusal}
 use Rattle.token_core.specs.Spans.{none}
-use Rattle.token_core.specs.Stream.{Stream, started}
+use Rattle.token_core.specs.Stream.{started}
 use Rattle.token_core.specs.Reads.{Reader, Refuses, Gives, Fails}
 use Rattle.token_core.specs.Headline.{Grammar, Headline, whole, end_of, ended}
 use Rattle.synmid.specs.Readers.{Reprints, Prints}

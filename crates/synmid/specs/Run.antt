@@ -12,6 +12,7 @@ use Rattle.synmid.specs.Readers.{named, Tree, grammar, NoTree}
 
 -- ---- what a run says
 
+-- A run says one of three things, in one line, and ends with the status of that.
 pub data Answer : Type 0 where
   -- the text of a tree's print
   shown : Bytes → Answer
@@ -78,31 +79,33 @@ abbrev pub Accepts : Reader → Bytes → Answer → Type 0
 Accepts r input answer = (l : List TokenTree) (a : Tree r) → IsTextOf input l → (grammar r).spells true a (row l done) →
     (answer ≡ shown (text_of_print r a)) ⊎ (answer ≡ no_memory)
 
--- what is said of an input that was read
+-- What is said of an input that was read is so, and no tree that the input spells clearly is kept back.
 pub record AnswersTo (r : Reader) (input : Bytes) (answer : Answer) : Type 0 where
   pub justified : Justified r input answer
   pub accepts : Accepts r input answer
 
 -- ---- a run
 
--- Of an input whose bytes are not known nothing is said.
-abbrev pub Known : Option Bytes → (Bytes → Type 0) → Type 0
-Known input P = IfSome input P
-
--- what a run says of a known reader's input: what it answers of the bytes, or, where reading may fail or memory ran out, that
+-- What a run says of the input of a reader: where its bytes are known, what it answers to them; where reading it may
+-- fail, also that; and where memory ran out, that.
 abbrev pub Says : Reader → Option Bytes → Type 0 → Answer → Type 0
-Says r input can_fail answer = (Known input (λ bytes. AnswersTo r bytes answer)) ⊎ (can_fail × (answer ≡ unreadable)) ⊎ (answer ≡ no_memory)
+Says r input can_fail answer = (IfSome input (λ bytes. AnswersTo r bytes answer)) ⊎ (can_fail × (answer ≡ unreadable)) ⊎ (answer ≡ no_memory)
 
+-- Where there is no such reader it says so, and has not touched the input.
 abbrev pub Answers : Option Reader → Option Bytes → Type 0 → Type 0 → Answer → Type 0
 Answers None input can_fail untouched answer = (answer ≡ unknown) × untouched
 Answers (Some r) input can_fail untouched answer = Says r input can_fail answer
 
--- The output took the line, and the status is that of what was said; or it may fail to take it, and the status is 1.
+-- The output took the line, and the status is the one of what was said; or it may fail to take it, and the status is 1.
 abbrev pub Ends : (Bytes → Type 0) → (Bytes → Type 0) → Bytes → ℕ → ℕ → Type 0
 Ends takes can_fail l said result = (takes l × (result ≡ said)) ⊎ (can_fail l × (result ≡ 1))
 
--- A run says one thing, of the name and the input; and it ends with its line and its status.
+-- A run of a name, on an input whose bytes may be known and that may fail to be read, to an output that takes lines or
+-- may fail to: it answers the result.
 pub record Ran (name : Bytes) (input : Option Bytes) (input_can_fail untouched : Type 0) (takes output_can_fail : Bytes → Type 0) (result : ℕ) : Type 0 where
+  -- It says one thing,
   pub answer : Answer
+  -- which is right for the name and the input,
   pub says : Answers (named name) input input_can_fail untouched answer
+  -- and ends with the line and the status of that.
   pub ends : Ends takes output_can_fail (line answer) (status answer) result

@@ -1,12 +1,11 @@
 -- The read of a supplied subtree of which there is none.
-use Rattle.std.specs.Prelude.{◌≡◌, Ok, Err, codes}
-use Rattle.std.proofs.Common.{rules}
-use Rattle.token_core.specs.Stream.{Stream}
-use Rattle.token_core.specs.Reads.{Reader, Outcome, expected}
+use Rattle.std.specs.Prelude.{Err, codes}
+use Rattle.token_core.specs.Reads.{Reader, expected}
 use Rattle.synmid.specs.declared.sample.Sample.{Sample}
 
 abbrev pub read : Reader Sample
 read s = Err (expected (codes "sample") s)
 
-pub never : (s : Stream) (x : Sample) (t : Stream) → ◌≡◌ {A = Outcome Sample} (read s) (Ok (x, t)) → ⊥
-never s x t e = cc
+-- There is no sample, so each has any property.
+pub never : {P : Type 0} → Sample → P
+never x = elim x [ ]

@@ -20,15 +20,15 @@ impl Subtree for Sample {
 
     ghost prints = { λ _ _. [] };
 
-    ghost steady = { λ _ s t e. tt };
+    ghost steady = { λ _ _ _ _. tt };
 
-    ghost sound = { λ _ s t x e _. spec.never s x t e };
+    ghost sound = { λ _ _ _ x _ _. spec.never x };
 
-    ghost complete = { λ _ s x h. absurd h };
+    ghost complete = { λ _ _ x _. spec.never x };
 
-    ghost reprint = { λ _ x l h. absurd h };
+    ghost reprint = { λ _ x _ _. spec.never x };
 
-    ghost apart = { λ x l h. absurd h };
+    ghost apart = { λ x _ _. spec.never x };
 
     #[tactic(auto, using(token_core::proofs::Suffixes::follows))]
     fn read(alloc: Global, place: Place, input: &mut ParseStream<'_>) -> Result<Sample, Error> {

@@ -1,4 +1,3 @@
-use Rattle.std.proofs.Common.{◌≡◌}
 use Rattle.std.proofs.lemmas.Result.{err_from_is_err_and}
 use Rattle.synmid.proofs.Said.{of_memory, of_unread, of_refused, of_answer}
 use Rattle.synmid.proofs.run.reprinted.Goals as goal

@@ -1,5 +1,4 @@
-use Rattle.std.proofs.Common.{rules, arith, ◌≡◌, ◌<◌, ◌++◌, [], List, ℕ, Option, length, take, ap, sym, subst, ◌∙◌, append-nil}
-use Rattle.std.specs.Io.KnownBytes.{Consumes}
+use Rattle.std.proofs.Common.{arith, ◌≡◌, ◌<◌, length, ap, ◌∙◌}
 use Rattle.synmid.proofs.channel.PlainSource.read_all.Goals as goal
 use Rattle.synmid.proofs.channel.PlainSource.read_all.Goals.{in-Ok+in_ok-extend_from_slice-in-Ok, in-Err+else-ne}
 use Rattle.synmid.proofs.Consumed.{consumes-more, consumes-keeps, consumes-last}
@@ -12,7 +11,7 @@ returns-in-Ok-eq0-clause-ok g c =
 
 pub loop-preserved : goal.loop-preserved
 loop-preserved g c =
-    let room : length c.read.new.buf ≡ 4096 = c.read.auto.buf ∙ c.loop.invariant.room in
+    let room : length c.read.new.buf ≡ 4096 = omega (arith, c.read.auto.buf, c.loop.invariant.room) in
     elim c.match-read.branch [
       | in-Ok+in_ok-extend_from_slice-in-Ok w ↦
           let e = ap (λ v. v.items) w.bytes-is ∙ w.in_ok-extend_from_slice-in-Ok.ensures.items in

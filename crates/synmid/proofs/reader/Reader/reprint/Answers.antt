@@ -1,4 +1,3 @@
-use Rattle.std.proofs.Common.{◌≡◌}
 use Rattle.token_core.specs.Trees.{toks}
 use Rattle.syn_mid.specs.mac.Grammars as macs
 use Rattle.syn_mid.specs.path.Grammars as paths
