@@ -8,9 +8,9 @@ use crate::token::{
     Brace, Bracket, Comma, Crate, Gt, Lt, Not, Paren, PathSep, SelfType, SelfValue, Super, surround,
 };
 use crate::{
-    ByFn, DelimSpan, Delimiter, Error, ErrorKind, Group, Ident, LitKind, Literal, ParseStream,
-    Punct, Punctuated, Spacing, Span, Spanned, ToTokens, TokenBuffer, TokenStream, TokenTree,
-    read_all, read_all_with,
+    Boxed, ByFn, DelimSpan, Delimiter, Error, ErrorKind, Group, Ident, Items, LitKind, Literal,
+    ParseStream, Punct, Punctuated, Spacing, Span, Spanned, ToTokens, TokenBuffer, TokenStream,
+    TokenTree, read_all, read_all_with,
 };
 use std::alloc::{AllocError, Global};
 use std::mem;
@@ -643,5 +643,29 @@ fn memory_may_be_refused(rt: HostRuntime) -> Result<(), Fail> {
     let mut out = TokenStream::new(alloc);
     PathSep::default().to_tokens(alloc, &mut out)?;
     assert_eq!(rt; out.len(), 2);
+    Ok(())
+}
+
+#[test]
+fn items_and_boxes_hold_values(rt: HostRuntime) -> Result<(), Fail> {
+    let alloc = rt.alloc();
+    let mut items = Items::new(alloc);
+    assert!(rt; items.is_empty());
+    items.push(7u8)?;
+    items.push(8u8)?;
+    assert_eq!(rt; items.len(), 2);
+    assert_eq!(rt; items.as_slice(), [7, 8].as_slice());
+    items.truncate(1);
+    assert_eq!(rt; items.pop(), Some(7));
+    assert_eq!(rt; items.pop(), None);
+    let boxed = Boxed::new(alloc, 5u8)?;
+    assert_eq!(rt; *boxed.get(), 5);
+    assert_eq!(rt; boxed.into_inner(), 5);
+    let list = tokens(alloc, "")?;
+    let buffer = TokenBuffer::new(alloc, &list)?;
+    let input = ParseStream::new(&buffer, nth(3));
+    let error = input.refuse(alloc, ErrorKind::ExpectedPathSegment);
+    let text = "unexpected end of input, expected path segment after `::`";
+    says(&rt, &error, ErrorKind::ExpectedPathSegment, text, nth(3));
     Ok(())
 }
