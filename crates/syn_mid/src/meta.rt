@@ -1,13 +1,18 @@
 //! Nested properties: `a, b = 1, c(d)` in the parentheses of an attribute.
 
-ghost use Rattle.std.specs.Prelude.{◌≡◌};
-ghost use Rattle.token_core.specs.Reads.{Follows};
+ghost use Rattle.std.specs.Prelude.{◌≡◌, ◌<◌, length, Result, Ok, Err, IfOk, OnErr};
+ghost use Rattle.std.specs.Borrow.{sem};
+ghost use Rattle.token_core.specs.Refusal.{Made, custom};
+ghost use Rattle.token_core.specs.Reads.{Follows, Reads};
+ghost use Rattle.syn_mid.specs.path.Paths.{first_span};
+ghost use Rattle.syn_mid.specs.meta.Lends.{lends_input};
 ghost use Rattle.syn_mid.specs.meta.Turns as spec;
 
 use crate::path::{Path, SegmentStyle, parse_bare_path};
 use std::alloc::Global;
-use token_core::token::Comma;
-use token_core::{Error, ParseStream};
+use std::marker::PhantomData;
+use token_core::token::{Comma, Eq};
+use token_core::{Error, ParseStream, Parser};
 
 /// A property: its path, and the stream after it, from which a closure reads the rest of the property.
 #[derive(Drop)]
@@ -21,6 +26,88 @@ impl<'a, X: Drop> ParseNestedMeta<'a, X> {
         ensures { result ≡ self.entry.input }
     {
         self.input
+    }
+}
+
+impl<'a, X> ParseNestedMeta<'a, X> {
+    /// Reads `=`, and lends the stream after it for the value.
+    pub fn value(&mut self, alloc: Global) -> Result<&mut ParseStream<'a>, Error>
+        ensures* lends { sem 𝓛 (lends_input self.entry result) }
+        ensures reads { Reads (spec.equals self.old.input) (spec.lent result) (spec.lent_from self.old.input result) }
+        ensures within { IfOk result (λ s. Follows self.old.input s.now) }
+    {
+        self.input.parse::<Eq>(alloc)?;
+        Ok(&mut self.input)
+    }
+
+    /// The caller's own refusal, from the first segment of the path to the tree just before the stream's position.
+    pub fn error(&self, alloc: Global, text: &str) -> Error
+        requires { 0 < length self.now.path.segments.0 }
+        ensures { Made result (custom (first_span self.now.path.segments.0) self.now.input.last text.now) }
+    {
+        Error::new2(alloc, self.path.first_span(), self.input.prev_span(), text)
+    }
+}
+
+impl<'a, X: Drop> ParseNestedMeta<'a, X> {
+    /// Reads the properties in the parentheses that follow, of which there is at least one.
+    #[tactic(auto, using(token_core::proofs::Suffixes::follows))]
+    pub fn parse_nested_meta<
+        F: FnMut(Global, &mut ParseNestedMeta<'_, X>) -> Result<(), Error>,
+    >(
+        &mut self,
+        alloc: Global,
+        logic: F,
+    ) -> Result<(), Error>
+        requires callable { F.IsAlwaysCallable logic }
+        requires careful { spec.Careful F.step }
+        ensures turns { spec.Descends F.step logic self.old.input result self.new.input }
+        ensures within { Follows self.old.input self.new.input }
+        ensures path { self.new.path ≡ self.old.path }
+    {
+        let (_, mut content) = self.input.parenthesized(alloc)?;
+        parse_nested_meta(alloc, &mut content, logic)?;
+        self.input.finish(content);
+        Ok(())
+    }
+}
+
+/// The parser of nested properties by a closure.
+#[derive(Drop)]
+pub struct NestedMetaParser<F, X> {
+    logic: F,
+    of: PhantomData<X>,
+}
+
+/// The parser of properties separated by commas, of which there may be none: the closure is called at each, in order, up
+/// to the first error, and reads what follows the path.
+pub fn parser<F, X>(logic: F) -> NestedMetaParser<F, X>
+    ensures { result.logic ≡ logic }
+{
+    NestedMetaParser {
+        logic,
+        of: PhantomData,
+    }
+}
+
+impl<X: Drop, F: FnMut(Global, &mut ParseNestedMeta<'_, X>) -> Result<(), Error>> Parser
+    for NestedMetaParser<F, X>
+{
+    type Output = ();
+
+    ghost can_parse = { λ p. F.IsAlwaysCallable p.logic × spec.Careful F.step };
+
+    ghost reads = { λ p old a new. spec.Properties F.step p.logic old (Ok a) new };
+
+    ghost refuses = { λ p old e. (new : spec.Stream) × spec.Properties F.step p.logic old (Err e) new };
+
+    #[tactic(auto, using(token_core::specs::Reads::no_promise))]
+    fn parse(self, alloc: Global, input: &mut ParseStream<'_>) -> Result<(), Error> {
+        let NestedMetaParser { logic, of: _ } = self;
+        if input.is_empty() {
+            return Ok(());
+        }
+        parse_nested_meta(alloc, input, logic)
     }
 }
 

@@ -172,7 +172,7 @@ impl<X> Path<X> {
     }
 
     /// The span of the first segment's identifier.
-    fn first_span(&self) -> Span
+    pub(crate) fn first_span(&self) -> Span
         ensures { result ≡ spec.first_span self.now.segments.0 }
     {
         match self.segments.first() {

@@ -1,5 +1,5 @@
 -- Nested properties: the calls of a closure, one for each property of a list, in order.
-use Rattle.std.specs.Prelude.{◌≡◌, ◌≢◌, Bool, true, false, Option, Some, None, Result, Ok, Err}
+use Rattle.std.specs.Prelude.{◌≡◌, ◌≢◌, ◌⊎◌, Bool, true, false, Option, Some, None, Result, Ok, Err}
 use Rattle.std.specs.declared.alloc.Global.{Global}
 use denote.Ref.{MutBor}
 use Rattle.token_core.specs.declared.error.ErrorKind.TheVariants.{OutOfMemory}
@@ -7,7 +7,10 @@ use Rattle.token_core.specs.Refusal.{Refusal}
 use Rattle.token_core.specs.Stream.{Stream}
 use Rattle.token_core.specs.declared.mark.Mark.{Mark}
 use Rattle.token_core.specs.Marks as marks
-use Rattle.token_core.specs.Reads.{Reader, Outcome, Follows, is_done, forked, advanced}
+use Rattle.token_core.specs.Reads.{Reader, Outcome, and_then, Follows, is_done, forked, advanced, open_group, finished}
+use Rattle.token_core.specs.declared.tree.Delimiter.TheVariants.{Parenthesis}
+use Rattle.token_core.specs.declared.token.Paren.{Paren}
+use Rattle.token_core.specs.Groups.{paren, paren_name, opened}
 use Rattle.syn_mid.specs.declared.path.Path.{Path}
 use Rattle.syn_mid.specs.declared.meta.ParseNestedMeta.{ParseNestedMeta}
 use Rattle.syn_mid.specs.path.Reading as paths
@@ -76,3 +79,35 @@ pub data Turns {X F : Type 0} (step : Step X F) : F → Stream → Answer → St
 -- the calls lead the closure, one after the other, on from the state in which it was handed in
 abbrev pub Turned : {X F : Type 0} → Step X F → F → Stream → Answer → Stream → Type 0
 Turned {X = X} {F = F} step f s r t = (g : F) × Turns step f s r t g
+
+-- ---- lists of properties
+
+-- of which there may be none
+abbrev pub Properties : {X F : Type 0} → Step X F → F → Stream → Answer → Stream → Type 0
+Properties {X = X} {F = F} step f s r t = ((is_done s.rest ≡ true) × (r ≡ Ok tt) × (t ≡ s)) ⊎ ((is_done s.rest ≡ false) × Turned step f s r t)
+
+abbrev pub opening : Reader (Paren × Stream)
+opening = λ s. opened paren (open_group Parenthesis paren_name s)
+
+-- in parentheses, of which there is at least one: a child stream of its own, which is finished after the last
+pub data Descends {X F : Type 0} (step : Step X F) (f : F) : Stream → Answer → Stream → Type 0 where
+  no_parentheses : {s t : Stream} {e : Refusal} → Refused (opening s) e → Descends step f s (Err e) t
+  refused_inside : {s a t : Stream} {c : Paren × Stream} {e : Refusal} → opening s ≡ Ok (c, a) → Turned step f c.1 (Err e) t → Descends step f s (Err e) a
+  all_inside : {s a t : Stream} {c : Paren × Stream} → opening s ≡ Ok (c, a) → Turned step f c.1 (Ok tt) t → Descends step f s (Ok tt) (finished t a)
+
+-- ---- the value of a property
+
+abbrev pub Equals : Type 0
+Equals = Mark 11 1
+
+-- `=`, and the stream after it
+abbrev pub equals : Stream → Outcome Stream
+equals s = and_then (marks.read 11 1 s) (λ m t. Ok (t, t))
+
+abbrev pub lent : Result (MutBor Stream) Refusal → Result Stream Refusal
+lent (Ok s) = Ok s.now
+lent (Err e) = Err e
+
+abbrev pub lent_from : Stream → Result (MutBor Stream) Refusal → Stream
+lent_from s (Ok t) = t.now
+lent_from s (Err e) = s
