@@ -3,6 +3,7 @@ pub mod Fronts
 pub mod Fills
 pub mod Marks
 pub mod Suffixes
+pub mod Tables
 pub mod Rebuilds
 pub mod Lists
 pub mod Puts

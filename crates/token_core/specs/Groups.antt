@@ -4,6 +4,7 @@ use Rattle.token_core.specs.declared.span.DelimSpan.{DelimSpan}
 use Rattle.token_core.specs.declared.token.Paren.{Paren}
 use Rattle.token_core.specs.declared.token.Brace.{Brace}
 use Rattle.token_core.specs.declared.token.Bracket.{Bracket}
+use Rattle.token_core.specs.declared.token.GroupToken.{GroupToken}
 use Rattle.token_core.specs.Toks.{Bytes}
 use Rattle.token_core.specs.Stream.{Stream}
 use Rattle.token_core.specs.Reads.{Outcome}
@@ -16,6 +17,9 @@ brace s = record { span = s }
 
 abbrev pub bracket : DelimSpan → Bracket
 bracket s = record { span = s }
+
+abbrev pub group_token : DelimSpan → GroupToken
+group_token s = record { span = s }
 
 -- how refusals name them
 abbrev pub paren_name : Bytes

@@ -21,3 +21,4 @@ pub mod Groups
 pub mod Loops
 pub mod Clear
 pub mod Headline
+pub mod Lits
