@@ -1,45 +1,80 @@
 //! Nested properties: `a, b = 1, c(d)` in the parentheses of an attribute.
 
-ghost use Rattle.std.specs.Prelude.{◌≡◌, ◌<◌, length, Result, Ok, Err, IfOk, OnErr};
+ghost use Rattle.std.specs.Prelude.{◌≡◌, ◌<◌, length, Result, Ok, Err, IfOk, IfErr, OnErr};
 ghost use Rattle.std.specs.Borrow.{sem};
 ghost use Rattle.token_core.specs.Refusal.{Made, custom};
+ghost use Rattle.token_core.specs.Stream.{Stream};
 ghost use Rattle.token_core.specs.Reads.{Follows, Reads};
 ghost use Rattle.syn_mid.specs.path.Paths.{first_span};
-ghost use Rattle.syn_mid.specs.meta.Lends.{lends_input};
+ghost use Rattle.syn_mid.specs.meta.Lends.{lends_input, lends_value};
 ghost use Rattle.syn_mid.specs.meta.Turns as spec;
 
 use crate::path::{Path, SegmentStyle, parse_bare_path};
 use std::alloc::Global;
 use std::marker::PhantomData;
 use token_core::token::{Comma, Eq};
-use token_core::{Error, ParseStream, Parser};
+use token_core::{Error, Parse, ParseStream, Parser};
 
-/// A property: its path, and the stream after it, from which a closure reads the rest of the property.
+/// A property: its path, and the stream after it, from which a closure reads the rest of the property. It is generic in
+/// its stream, since a caller's proof follows a `&mut` to a field only where the field's type is a parameter.
 #[derive(Drop)]
-pub struct ParseNestedMeta<'a, X> {
+pub struct PropertyOf<X, S> {
     pub path: Path<X>,
-    pub input: ParseStream<'a>,
+    pub input: S,
 }
 
-impl<'a, X: Drop> ParseNestedMeta<'a, X> {
-    fn into_input(self) -> ParseStream<'a>
-        ensures { result ≡ self.entry.input }
+/// A property in a stream.
+pub type ParseNestedMeta<'a, X> = PropertyOf<X, ParseStream<'a>>;
+
+/// What an `=` is read from: a stream.
+pub trait ReadEq {
+    /// A read of the first may answer this and leave the second.
+    ghost reads: { Self → spec.Answer → Self → Type 0 };
+
+    fn read_eq(&mut self, alloc: Global) -> Result<(), Error>
+        ensures reads { reads self.old result self.new }
+        ensures same { OnErr result (self.new ≡ self.old) };
+}
+
+impl ReadEq for ParseStream<'_> {
+    ghost reads = { λ old answer new. Reads (spec.equals old) answer new × Follows old new };
+
+    fn read_eq(&mut self, alloc: Global) -> Result<(), Error> {
+        Eq::parse(alloc, self)?;
+        Ok(())
+    }
+}
+
+impl<X: Drop, S> PropertyOf<X, S> {
+    fn into_input(self) -> S
+        ensures { result ≡ self.input }
     {
         self.input
     }
 }
 
-impl<'a, X> ParseNestedMeta<'a, X> {
-    /// Reads `=`, and lends the stream after it for the value.
-    pub fn value(&mut self, alloc: Global) -> Result<&mut ParseStream<'a>, Error>
-        ensures* lends { sem 𝓛 (lends_input self.entry result) }
-        ensures reads { Reads (spec.equals self.old.input) (spec.lent result) (spec.lent_from self.old.input result) }
-        ensures within { IfOk result (λ s. Follows self.old.input s.now) }
+impl<X, S> PropertyOf<X, S> {
+    fn input_mut(&mut self) -> &mut S
+        ensures* lends { sem 𝓛 (lends_input X.row S.row self.entry result) }
+        ensures value { result.now ≡ self.old.input }
     {
-        self.input.parse::<Eq>(alloc)?;
-        Ok(&mut self.input)
+        &mut self.input
     }
+}
 
+impl<X, S: ReadEq> PropertyOf<X, S> {
+    /// Reads `=`, and lends the stream after it for the value; refused, the stream is as before.
+    pub fn value(&mut self, alloc: Global) -> Result<&mut S, Error>
+        ensures* lends { sem 𝓛 (lends_value X.row S.row self.entry result) }
+        ensures reads { IfOk result (λ s. S.reads self.old.input (Ok tt) s.now) }
+        ensures refuses { IfErr result (λ e. S.reads self.old.input (Err e) self.old.input) }
+    {
+        self.input.read_eq(alloc)?;
+        Ok(self.input_mut())
+    }
+}
+
+impl<'a, X> ParseNestedMeta<'a, X> {
     /// The caller's own refusal, from the first segment of the path to the tree just before the stream's position.
     pub fn error(&self, alloc: Global, text: &str) -> Error
         requires { 0 < length self.now.path.segments.0 }
@@ -99,9 +134,9 @@ impl<X: Drop, F: FnMut(Global, &mut ParseNestedMeta<'_, X>) -> Result<(), Error>
 
     ghost reads = { λ p old a new. spec.Properties F.step p.logic old (Ok a) new };
 
-    ghost refuses = { λ p old e. (new : spec.Stream) × spec.Properties F.step p.logic old (Err e) new };
+    ghost refuses = { λ p old e. (new : Stream) × spec.Properties F.step p.logic old (Err e) new };
 
-    #[tactic(auto, using(token_core::specs::Reads::no_promise))]
+    #[tactic(auto, using(token_core::specs::Reads::no_promise, token_core::proofs::Suffixes::follows))]
     fn parse(self, alloc: Global, input: &mut ParseStream<'_>) -> Result<(), Error> {
         let NestedMetaParser { logic, of: _ } = self;
         if input.is_empty() {

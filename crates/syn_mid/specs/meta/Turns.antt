@@ -7,13 +7,17 @@ use Rattle.token_core.specs.Refusal.{Refusal}
 use Rattle.token_core.specs.Stream.{Stream}
 use Rattle.token_core.specs.declared.mark.Mark.{Mark}
 use Rattle.token_core.specs.Marks as marks
-use Rattle.token_core.specs.Reads.{Reader, Outcome, and_then, Follows, is_done, forked, advanced, open_group, finished}
+use Rattle.token_core.specs.Reads.{Reader, Outcome, ◌<$>◌, Follows, is_done, forked, advanced, open_group, finished}
 use Rattle.token_core.specs.declared.tree.Delimiter.TheVariants.{Parenthesis}
 use Rattle.token_core.specs.declared.token.Paren.{Paren}
 use Rattle.token_core.specs.Groups.{paren, paren_name, opened}
 use Rattle.syn_mid.specs.declared.path.Path.{Path}
-use Rattle.syn_mid.specs.declared.meta.ParseNestedMeta.{ParseNestedMeta}
+use Rattle.syn_mid.specs.declared.meta.PropertyOf.{PropertyOf}
 use Rattle.syn_mid.specs.path.Reading as paths
+
+-- a property in a stream
+abbrev pub ParseNestedMeta : Type 0 → Type 0
+ParseNestedMeta X = PropertyOf X Stream
 
 -- ---- a closure
 
@@ -97,17 +101,6 @@ pub data Descends {X F : Type 0} (step : Step X F) (f : F) : Stream → Answer �
 
 -- ---- the value of a property
 
-abbrev pub Equals : Type 0
-Equals = Mark 11 1
-
--- `=`, and the stream after it
-abbrev pub equals : Stream → Outcome Stream
-equals s = and_then (marks.read 11 1 s) (λ m t. Ok (t, t))
-
-abbrev pub lent : Result (MutBor Stream) Refusal → Result Stream Refusal
-lent (Ok s) = Ok s.now
-lent (Err e) = Err e
-
-abbrev pub lent_from : Stream → Result (MutBor Stream) Refusal → Stream
-lent_from s (Ok t) = t.now
-lent_from s (Err e) = s
+-- `=`
+abbrev pub equals : Reader (Unit {0})
+equals = (λ (m : Mark 11 1). tt) <$> marks.read 11 1
