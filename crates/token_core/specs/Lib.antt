@@ -21,4 +21,6 @@ pub mod Groups
 pub mod Loops
 pub mod Clear
 pub mod Headline
+pub mod Negatives
 pub mod Lits
+pub mod Lifetimes
