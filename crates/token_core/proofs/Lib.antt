@@ -13,3 +13,4 @@ pub mod Took
 pub mod Rows
 pub mod lifetime_laws
 pub mod lit_laws
+pub mod member_laws

@@ -6,7 +6,7 @@ use Rattle.token_core.specs.declared.span.Span.{Span}
 use Rattle.token_core.specs.declared.lifetime.Lifetime.{Lifetime}
 use Rattle.token_core.specs.Toks.{Toks}
 use Rattle.token_core.specs.Front.{front}
-use Rattle.token_core.specs.Reads.{IsSuffix, as_word, as_punct, is_joint}
+use Rattle.token_core.specs.Reads.{IsSuffix, as_punct, is_joint}
 use Rattle.token_core.specs.Lifetimes.{lifetime, next_word, with_ident, with_quote, past_lifetime}
 use Rattle.token_core.proofs.Suffixes.{suffix_trans, suffix_word, suffix_punct}
 
@@ -27,4 +27,3 @@ quote_at l q (Some p) h e = by_test (p.0.ch == 39) (is_joint p.0.spacing) e
 
 pub suffix_lifetime : (l : Toks) (q : Lifetime × Toks) → past_lifetime l ≡ Some q → IsSuffix q.1 l
 suffix_lifetime l q e = quote_at l q (as_punct (front l)) (λ p g. suffix_punct l p.0 p.1 g) e
-

@@ -9,11 +9,9 @@ use Rattle.token_core.specs.declared.lit.Lit.{Lit}
 use Rattle.token_core.specs.declared.lit.Lit.TheVariants as v
 use Rattle.token_core.specs.declared.lit.LitStr.{LitStr}
 use Rattle.token_core.specs.Toks.{Toks, done, word, mark, lit, group, enter, leave}
-use Rattle.token_core.specs.Front.{front}
-use Rattle.token_core.specs.Reads.{IsSuffix, all_of, past_word, past_punct, past_lit, past_enter, past_leave, as_lit}
+use Rattle.token_core.specs.Reads.{IsSuffix, all_of, past_word, past_punct, past_lit, past_enter, past_leave}
 use Rattle.token_core.specs.Lits as l
 use Rattle.token_core.specs.Lits.{true_text, false_text, lit_bool, lit_str, negative, is_number, is_str, past_bool, past_number, past_minus, next_lit, str_of, past_str}
-use Rattle.token_core.proofs.Suffixes.{suffix_trans}
 
 module _ {A : Type 0} where
   rest_is : (a : A) (k t : Toks) (q : A × Toks) → ◌≡◌ {A = A × Toks} (a, k) q → IsSuffix k t → IsSuffix q.1 t

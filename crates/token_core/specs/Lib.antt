@@ -23,4 +23,6 @@ pub mod Clear
 pub mod Headline
 pub mod Negatives
 pub mod Lits
+pub mod Members
+pub mod Ranges
 pub mod Lifetimes

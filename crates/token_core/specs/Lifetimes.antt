@@ -1,5 +1,5 @@
 -- Lifetimes: a quote that is Joint, and any identifier.
-use Rattle.std.specs.Prelude.{Bool, true, false, ◌==◌, if◌then◌else◌, List, [], ◌∷◌, Option, Some, None, is_some, codes}
+use Rattle.std.specs.Prelude.{Bool, ◌==◌, if◌then◌else◌, ◌∷◌, Option, Some, None, is_some, codes}
 use Rattle.token_core.specs.declared.tree.Ident.{Ident}
 use Rattle.token_core.specs.declared.tree.Punct.{Punct}
 use Rattle.token_core.specs.declared.span.Span.{Span}

@@ -1,6 +1,5 @@
 -- Literals as values: what reads of them answer, and what they print.
-use Rattle.std.specs.Prelude.{Bool, true, false, ◌==◌, ◌||◌, ◌++◌, if◌then◌else◌, List, [], ◌∷◌, Option, Some, None, is_some, codes, refl}
-use Rattle.std.specs.Coded.{Coded, code_by, coded×}
+use Rattle.std.specs.Prelude.{Bool, true, false, ◌==◌, if◌then◌else◌, [], ◌∷◌, Option, Some, None, is_some, codes}
 use Rattle.std.specs.Str.{bytes_eq}
 use Rattle.token_core.specs.declared.span.Span.{Span}
 use Rattle.token_core.specs.declared.tree.LitKind.{LitKind}
@@ -21,7 +20,7 @@ use Rattle.token_core.specs.declared.lit.Found.TheVariants as f
 use Rattle.token_core.specs.Negatives.{Negative}
 use Rattle.token_core.specs.Toks.{Bytes, Toks, done, word, mark, lit, group, enter, leave}
 use Rattle.token_core.specs.Front.{front}
-use Rattle.token_core.specs.Prints.{Print, ident}
+use Rattle.token_core.specs.Prints.{Print}
 use Rattle.token_core.specs.Spans.{span}
 use Rattle.token_core.specs.Trees as trees
 use Rattle.token_core.specs.Reads.{Reader, as_lit, goes_on, expected}

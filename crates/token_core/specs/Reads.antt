@@ -242,6 +242,9 @@ is_text w t = bytes_eq t w
 abbrev pub ident_name : Bytes
 ident_name = codes "identifier"
 
+abbrev pub builtin_text : Bytes
+builtin_text = codes "builtin"
+
 -- ---- groups
 
 abbrev pub inside : DelimSpan → Toks → Stream

@@ -132,18 +132,10 @@ impl ToTokens for Lifetime {
 
 /// Appends a lifetime; refused, what stood before is kept.
 #[tactic(auto, using(crate::proofs::Puts::puts))]
-fn put_lifetime(
-    alloc: Global,
-    lifetime: &Lifetime,
-    out: &mut TokenStream,
-) -> Result<(), AllocError>
+fn put_lifetime(alloc: Global, lifetime: &Lifetime, out: &mut TokenStream) -> Result<(), AllocError>
     ensures ok { OnOk result (trees out.new ≡ trees out.old ++ spec.print lifetime.now) }
     ensures err { OnErr result (Extends (trees out.old) (trees out.new)) }
 {
-    out.push(TokenTree::Punct(Punct::new(
-        '\'',
-        Spacing::Joint,
-        lifetime.apostrophe,
-    )))?;
+    out.push(TokenTree::Punct(Punct::new('\'', Spacing::Joint, lifetime.apostrophe)))?;
     lifetime.ident.to_tokens(alloc, out)
 }

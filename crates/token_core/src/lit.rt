@@ -487,11 +487,7 @@ fn put_lit(alloc: Global, lit: &Lit, out: &mut TokenStream) -> Result<(), AllocE
         }
         Lit::Negative(negative) => {
             let number = negative.number().copy(alloc)?;
-            out.push(TokenTree::Punct(Punct::new(
-                '-',
-                Spacing::Alone,
-                negative.minus(),
-            )))?;
+            out.push(TokenTree::Punct(Punct::new('-', Spacing::Alone, negative.minus())))?;
             out.push(TokenTree::Literal(number))
         }
     }
