@@ -11,3 +11,6 @@ pub mod Turns
 pub mod Headlines
 pub mod Took
 pub mod Rows
+pub mod lifetime_laws
+pub mod lit_laws
+pub mod member_laws

@@ -21,4 +21,8 @@ pub mod Groups
 pub mod Loops
 pub mod Clear
 pub mod Headline
+pub mod Negatives
 pub mod Lits
+pub mod Members
+pub mod Ranges
+pub mod Lifetimes
