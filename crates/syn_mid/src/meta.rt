@@ -87,9 +87,7 @@ impl<'a, X> ParseNestedMeta<'a, X> {
 impl<'a, X: Drop> ParseNestedMeta<'a, X> {
     /// Reads the properties in the parentheses that follow, of which there is at least one.
     #[tactic(auto, using(token_core::proofs::Suffixes::follows))]
-    pub fn parse_nested_meta<
-        F: FnMut(Global, &mut ParseNestedMeta<'_, X>) -> Result<(), Error>,
-    >(
+    pub fn parse_nested_meta<F: FnMut(Global, &mut ParseNestedMeta<'_, X>) -> Result<(), Error>>(
         &mut self,
         alloc: Global,
         logic: F,
@@ -126,8 +124,7 @@ pub fn parser<F, X>(logic: F) -> NestedMetaParser<F, X>
 }
 
 impl<X: Drop, F: FnMut(Global, &mut ParseNestedMeta<'_, X>) -> Result<(), Error>> Parser
-    for NestedMetaParser<F, X>
-{
+    for NestedMetaParser<F, X> {
     type Output = ();
 
     ghost can_parse = { λ p. F.IsAlwaysCallable p.logic × spec.Careful F.step };
@@ -152,11 +149,7 @@ impl<X: Drop, F: FnMut(Global, &mut ParseNestedMeta<'_, X>) -> Result<(), Error>
 pub(crate) fn parse_nested_meta<
     X: Drop,
     F: FnMut(Global, &mut ParseNestedMeta<'_, X>) -> Result<(), Error>,
->(
-    alloc: Global,
-    input: &mut ParseStream<'_>,
-    mut logic: F,
-) -> Result<(), Error>
+>(alloc: Global, input: &mut ParseStream<'_>, mut logic: F) -> Result<(), Error>
     requires callable { F.IsAlwaysCallable logic }
     requires careful { spec.Careful F.step }
     ensures turns { spec.Turned F.step logic input.old result input.new }

@@ -19,7 +19,7 @@ use std::alloc::{AllocError, Global};
 use std::marker::PhantomData;
 use token_core::token::{Crate, Gt, Lt, Paren, PathSep, SelfType, SelfValue, Super};
 use token_core::{
-    Error, ErrorKind, Ident, ParseStream, Punctuated, Span, ToTokens, Token, TokenStream,
+    Error, ErrorKind, Ident, Lit, ParseStream, Punctuated, Span, ToTokens, Token, TokenStream,
 };
 
 /// A path: an optional leading `::`, and segments joined by `::`.
@@ -293,17 +293,16 @@ fn no_property(alloc: Global, input: &ParseStream<'_>) -> Error
     if input.is_empty() {
         return input.refuse(alloc, ErrorKind::ExpectedNestedAttribute);
     }
-    input.refuse(alloc, ErrorKind::TokenInNestedAttribute)
+    if input.peek::<Lit>() {
+        input.refuse(alloc, ErrorKind::LiteralInNestedAttribute)
+    } else {
+        input.refuse(alloc, ErrorKind::TokenInNestedAttribute)
+    }
 }
 
 /// Where no segment begins: the first one, or one after a `::`.
 #[tactic(auto, unfolding(crate::specs::path::Reading::no_segment))]
-fn no_segment(
-    alloc: Global,
-    input: &ParseStream<'_>,
-    style: SegmentStyle,
-    is_first: bool,
-) -> Error
+fn no_segment(alloc: Global, input: &ParseStream<'_>, style: SegmentStyle, is_first: bool) -> Error
     ensures { Made result (reading.no_segment style is_first input.now) }
 {
     match style {

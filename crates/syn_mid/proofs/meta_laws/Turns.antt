@@ -6,7 +6,7 @@ use Rattle.token_core.specs.Stream.{Stream}
 use Rattle.token_core.specs.Reads.{forked, advanced, is_done, Parsed}
 use Rattle.syn_mid.specs.declared.path.Path.{Path}
 use Rattle.syn_mid.specs.path.Reading as paths
-use Rattle.syn_mid.specs.meta.Turns.{ParseNestedMeta, Answer, Step, Called, Turn, Turned, Properties}
+use Rattle.syn_mid.specs.meta.Turns.{ParseNestedMeta, Answer, Step, Turn, Turned, Properties}
 
 -- a turn, by what the call was given and what it left
 pub turn : {X F : Type 0} {step : Step X F} {f g : F} (alloc : Global) (before after : MutBor (ParseNestedMeta X)) {answer : Answer} {p : Path X} {s a b t : Stream} →

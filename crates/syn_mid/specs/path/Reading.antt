@@ -6,6 +6,7 @@ use Rattle.token_core.specs.Stream.{Stream}
 use Rattle.token_core.specs.Toks.{Toks}
 use Rattle.token_core.specs.Reads.{Reader, ◌>>=◌, ◌<$>◌, pure, peek, refused, expected, is_done, sees_mark, sees_word, read_word, any_text, ident_name}
 use Rattle.token_core.specs.Marks as marks
+use Rattle.token_core.specs.Lits.{sees_lit}
 use Rattle.token_core.specs.Loops.{Many, joined}
 use Rattle.syn_mid.specs.declared.path.Path.{Path}
 use Rattle.syn_mid.specs.declared.path.PathSegment.{PathSegment}
@@ -26,9 +27,6 @@ unfoldable pub leading : Reader (Option Sep)
 leading = do
   has ← peek sees_sep
   if has then Some <$> sep else pure None
-
-abbrev pub sees_lit : Toks → Bool
-sees_lit l = false
 
 -- where no first segment of a nested property's path begins
 unfoldable pub no_property : Stream → Refusal

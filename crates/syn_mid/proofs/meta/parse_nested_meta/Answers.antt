@@ -1,10 +1,8 @@
-use Rattle.std.proofs.Common.{◌≡◌, ◌<◌, ◌≤◌, true, false, Ok, Err, refl, sym, subst, of_calls, rules, arith}
+use Rattle.std.proofs.Common.{◌≡◌, true, false, Ok, Err, refl, sym, subst, of_calls, rules, arith}
 use Rattle.std.proofs.lemmas.Grind.{common_steps}
-use Rattle.token_core.specs.Loops.{size}
-use Rattle.token_core.specs.Reads.{forked, advanced, is_done}
+use Rattle.token_core.specs.Reads.{is_done}
 use Rattle.token_core.proofs.Suffixes.{follows}
-use Rattle.syn_mid.specs.meta.Turns as spec
-use Rattle.syn_mid.specs.meta.Turns.{Turn, Turns, no_path, stopped, last, no_comma, last_comma, next, comma}
+use Rattle.syn_mid.specs.meta.Turns.{Turn, no_path, stopped, last, no_comma, last_comma, next}
 use Rattle.token_core.proofs.Turns.{size_suffix}
 use Rattle.syn_mid.proofs.path_laws.Turns.{path_takes}
 use Rattle.syn_mid.proofs.meta_laws.Turns.{turn}
@@ -22,17 +20,17 @@ returns-in_err-answer-clause-turns g c =
     let back : c.from_residual-in_err-answer.result ≡ Err e = first_of (search rules, grind (arith, common_steps)) in
     let was : c.logic-answer.result ≡ Err e = first_of (search rules, grind (arith, common_steps)) in
     let one : Turn (goal.F-step g) c.turn.logic c.turn.input c.logic-answer.result c.advance_to.new.self c.logic-answer.new.self =
-        turn _ _ _ c.in_ok-path.ensures.reads refl c.fork.ensures (sym c.into_input.ensures) c.advance_to.ensures.advanced c.logic-answer.ensures in
+    turn _ _ _ c.in_ok-path.ensures.reads refl c.fork.ensures (sym c.into_input.ensures) c.advance_to.ensures.advanced c.logic-answer.ensures in
     rw (back) (c.turn.invariant.told (Err e) c.advance_to.new.self (c.logic-answer.new.self, stopped (subst (λ r. Turn (goal.F-step g) c.turn.logic c.turn.input r c.advance_to.new.self c.logic-answer.new.self) was one)))
 
 pub returns-then-is_empty-clause-turns : goal.returns-then-is_empty-clause-turns
 returns-then-is_empty-clause-turns g c =
     let here : is_done c.advance_to.new.self.rest ≡ true = first_of (search rules, grind (arith, common_steps)) in
     let one : Turn (goal.F-step g) c.turn.logic c.turn.input c.logic-answer.result c.advance_to.new.self c.logic-answer.new.self =
-        turn _ _ _ c.in_ok-path.ensures.reads refl c.fork.ensures (sym c.into_input.ensures) c.advance_to.ensures.advanced c.logic-answer.ensures in
+    turn _ _ _ c.in_ok-path.ensures.reads refl c.fork.ensures (sym c.into_input.ensures) c.advance_to.ensures.advanced c.logic-answer.ensures in
     let was : c.logic-answer.result ≡ Ok tt = first_of (search rules, grind (arith, common_steps)) in
     let that : Turn (goal.F-step g) c.turn.logic c.turn.input (Ok tt) c.advance_to.new.self c.logic-answer.new.self =
-        subst (λ r. Turn (goal.F-step g) c.turn.logic c.turn.input r c.advance_to.new.self c.logic-answer.new.self) was one in
+    subst (λ r. Turn (goal.F-step g) c.turn.logic c.turn.input r c.advance_to.new.self c.logic-answer.new.self) was one in
     c.turn.invariant.told (Ok tt) c.advance_to.new.self (c.logic-answer.new.self, last that here)
 
 pub returns-in_err-parse-clause-turns : goal.returns-in_err-parse-clause-turns
@@ -41,10 +39,10 @@ returns-in_err-parse-clause-turns g c =
     let back : c.from_residual-in_err-parse.result ≡ Err e = first_of (search rules, grind (arith, common_steps)) in
     let here : is_done c.advance_to.new.self.rest ≡ false = first_of (search rules, grind (arith, common_steps)) in
     let one : Turn (goal.F-step g) c.turn.logic c.turn.input c.logic-answer.result c.advance_to.new.self c.logic-answer.new.self =
-        turn _ _ _ c.in_ok-path.ensures.reads refl c.fork.ensures (sym c.into_input.ensures) c.advance_to.ensures.advanced c.logic-answer.ensures in
+    turn _ _ _ c.in_ok-path.ensures.reads refl c.fork.ensures (sym c.into_input.ensures) c.advance_to.ensures.advanced c.logic-answer.ensures in
     let was : c.logic-answer.result ≡ Ok tt = first_of (search rules, grind (arith, common_steps)) in
     let that : Turn (goal.F-step g) c.turn.logic c.turn.input (Ok tt) c.advance_to.new.self c.logic-answer.new.self =
-        subst (λ r. Turn (goal.F-step g) c.turn.logic c.turn.input r c.advance_to.new.self c.logic-answer.new.self) was one in
+    subst (λ r. Turn (goal.F-step g) c.turn.logic c.turn.input r c.advance_to.new.self c.logic-answer.new.self) was one in
     rw (back) (c.turn.invariant.told (Err e) c.parse.new.self (c.logic-answer.new.self, no_comma that here c.in_err-parse.ensures.reads))
 
 pub returns-then-is_empty-2-clause-turns : goal.returns-then-is_empty-2-clause-turns
@@ -52,10 +50,10 @@ returns-then-is_empty-2-clause-turns g c =
     let here : is_done c.advance_to.new.self.rest ≡ false = first_of (search rules, grind (arith, common_steps)) in
     let there : is_done c.parse.new.self.rest ≡ true = first_of (search rules, grind (arith, common_steps)) in
     let one : Turn (goal.F-step g) c.turn.logic c.turn.input c.logic-answer.result c.advance_to.new.self c.logic-answer.new.self =
-        turn _ _ _ c.in_ok-path.ensures.reads refl c.fork.ensures (sym c.into_input.ensures) c.advance_to.ensures.advanced c.logic-answer.ensures in
+    turn _ _ _ c.in_ok-path.ensures.reads refl c.fork.ensures (sym c.into_input.ensures) c.advance_to.ensures.advanced c.logic-answer.ensures in
     let was : c.logic-answer.result ≡ Ok tt = first_of (search rules, grind (arith, common_steps)) in
     let that : Turn (goal.F-step g) c.turn.logic c.turn.input (Ok tt) c.advance_to.new.self c.logic-answer.new.self =
-        subst (λ r. Turn (goal.F-step g) c.turn.logic c.turn.input r c.advance_to.new.self c.logic-answer.new.self) was one in
+    subst (λ r. Turn (goal.F-step g) c.turn.logic c.turn.input r c.advance_to.new.self c.logic-answer.new.self) was one in
     c.turn.invariant.told (Ok tt) c.parse.new.self (c.logic-answer.new.self, last_comma that here c.in_ok-parse.ensures.reads there)
 
 pub turn-preserved : goal.turn-preserved
@@ -63,10 +61,10 @@ turn-preserved g c =
     let here : is_done c.advance_to.new.self.rest ≡ false = first_of (search rules, grind (arith, common_steps)) in
     let there : is_done c.parse.new.self.rest ≡ false = first_of (search rules, grind (arith, common_steps)) in
     let one : Turn (goal.F-step g) c.turn.logic c.turn.input c.logic-answer.result c.advance_to.new.self c.logic-answer.new.self =
-        turn _ _ _ c.in_ok-path.ensures.reads refl c.fork.ensures (sym c.into_input.ensures) c.advance_to.ensures.advanced c.logic-answer.ensures in
+    turn _ _ _ c.in_ok-path.ensures.reads refl c.fork.ensures (sym c.into_input.ensures) c.advance_to.ensures.advanced c.logic-answer.ensures in
     let was : c.logic-answer.result ≡ Ok tt = first_of (search rules, grind (arith, common_steps)) in
     let that : Turn (goal.F-step g) c.turn.logic c.turn.input (Ok tt) c.advance_to.new.self c.logic-answer.new.self =
-        subst (λ r. Turn (goal.F-step g) c.turn.logic c.turn.input r c.advance_to.new.self c.logic-answer.new.self) was one in
+    subst (λ r. Turn (goal.F-step g) c.turn.logic c.turn.input r c.advance_to.new.self c.logic-answer.new.self) was one in
     record {
       callable = search of_calls;
       told = λ r t k. c.turn.invariant.told r t (k.0, next that here c.in_ok-parse.ensures.reads there k.1);

@@ -1,4 +1,3 @@
-use Rattle.std.proofs.Common.{ℕ}
 use Rattle.token_core.specs.Stream.{Stream}
 use Rattle.token_core.specs.Loops.{size}
 use Rattle.token_core.specs.Reads.{Follows}

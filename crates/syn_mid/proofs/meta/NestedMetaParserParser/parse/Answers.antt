@@ -1,4 +1,4 @@
-use Rattle.std.proofs.Common.{◌≡◌, false, sym, rules, arith}
+use Rattle.std.proofs.Common.{◌≡◌, false, rules, arith}
 use Rattle.std.proofs.lemmas.Grind.{common_steps}
 use Rattle.token_core.specs.Reads.{is_done}
 use Rattle.syn_mid.proofs.meta_laws.Turns.{properties}

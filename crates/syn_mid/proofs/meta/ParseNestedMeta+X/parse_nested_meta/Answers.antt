@@ -1,4 +1,4 @@
-use Rattle.std.proofs.Common.{◌≡◌, Ok, Err, rules, arith}
+use Rattle.std.proofs.Common.{◌≡◌, Err, rules, arith}
 use Rattle.std.proofs.lemmas.Grind.{common_steps}
 use Rattle.syn_mid.specs.meta.Turns.{no_parentheses, refused_inside, all_inside}
 use Rattle.syn_mid.proofs.meta.ParseNestedMeta+X.parse_nested_meta.Goals as goal
