@@ -92,8 +92,7 @@ impl<'a, X: Drop> ParseNestedMeta<'a, X> {
         alloc: Global,
         logic: F,
     ) -> Result<(), Error>
-        requires callable { F.IsAlwaysCallable logic }
-        requires careful { spec.Careful F.step }
+        requires { spec.Careful F.pre F.step }
         ensures turns { spec.Descends F.step logic self.old.input result self.new.input }
         ensures within { Follows self.old.input self.new.input }
         ensures path { self.new.path ≡ self.old.path }
@@ -127,7 +126,7 @@ impl<X: Drop, F: FnMut(Global, &mut ParseNestedMeta<'_, X>) -> Result<(), Error>
     for NestedMetaParser<F, X> {
     type Output = ();
 
-    ghost can_parse = { λ p. F.IsAlwaysCallable p.logic × spec.Careful F.step };
+    ghost can_parse = { λ _. spec.Careful F.pre F.step };
 
     ghost reads = { λ p old a new. spec.Properties F.step p.logic old (Ok a) new };
 
@@ -150,8 +149,7 @@ pub(crate) fn parse_nested_meta<
     X: Drop,
     F: FnMut(Global, &mut ParseNestedMeta<'_, X>) -> Result<(), Error>,
 >(alloc: Global, input: &mut ParseStream<'_>, mut logic: F) -> Result<(), Error>
-    requires callable { F.IsAlwaysCallable logic }
-    requires careful { spec.Careful F.step }
+    requires { spec.Careful F.pre F.step }
     ensures turns { spec.Turned F.step logic input.old result input.new }
     ensures within { Follows input.old input.new }
 {

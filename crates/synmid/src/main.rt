@@ -10,6 +10,8 @@ mod reader;
 mod run;
 mod sample;
 #[cfg(test)]
+mod nested_tests;
+#[cfg(test)]
 mod tests;
 
 use channel::Plain;

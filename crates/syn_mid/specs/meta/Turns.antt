@@ -28,10 +28,14 @@ Answer = Result (Unit {0}) Refusal
 abbrev pub Step : Type 0 → Type 0 → Type 1
 Step X F = F → Global → MutBor (ParseNestedMeta X) → Answer → MutBor (ParseNestedMeta X) → F → Type 0
 
--- each call leaves the stream at a suffix of what it got, with the left-over token that it had
-abbrev pub Careful : {X F : Type 0} → Step X F → Type 0
-Careful {X = X} {F = F} step = (f : F) (alloc : Global) (old : MutBor (ParseNestedMeta X)) (answer : Answer) (new : MutBor (ParseNestedMeta X)) (g : F) →
-    step f alloc old answer new g → Follows old.now.input new.now.input
+-- what it may be called with
+abbrev pub Pre : Type 0 → Type 0 → Type 1
+Pre X F = F → Global → MutBor (ParseNestedMeta X) → Type 0
+
+-- it may be called in every state, and leaves the stream at a suffix of what it got, with the left-over token that it had
+pub record Careful {X F : Type 0} (pre : Pre X F) (step : Step X F) : Type 0 where
+  pub callable : (f : F) (alloc : Global) (meta : MutBor (ParseNestedMeta X)) → pre f alloc meta
+  pub follows : (f : F) (alloc : Global) (old : MutBor (ParseNestedMeta X)) (answer : Answer) (new : MutBor (ParseNestedMeta X)) (g : F) → step f alloc old answer new g → Follows old.now.input new.now.input
 
 -- a call at a property of this path, before this stream, which it leaves so
 pub record Called {X F : Type 0} (step : Step X F) (f : F) (p : Path X) (s : Stream) (answer : Answer) (t : Stream) (g : F) : Type 0 where

@@ -1,4 +1,4 @@
-use Rattle.std.proofs.Common.{◌≡◌, true, false, Ok, Err, refl, sym, subst, of_calls, rules, arith}
+use Rattle.std.proofs.Common.{◌≡◌, true, false, Ok, Err, refl, sym, subst, rules, arith}
 use Rattle.std.proofs.lemmas.Grind.{common_steps}
 use Rattle.token_core.specs.Reads.{is_done}
 use Rattle.token_core.proofs.Suffixes.{follows}
@@ -66,7 +66,6 @@ turn-preserved g c =
     let that : Turn (goal.F-step g) c.turn.logic c.turn.input (Ok tt) c.advance_to.new.self c.logic-answer.new.self =
     subst (λ r. Turn (goal.F-step g) c.turn.logic c.turn.input r c.advance_to.new.self c.logic-answer.new.self) was one in
     record {
-      callable = search of_calls;
       told = λ r t k. c.turn.invariant.told r t (k.0, next that here c.in_ok-parse.ensures.reads there k.1);
       within = grind (arith, follows);
     }

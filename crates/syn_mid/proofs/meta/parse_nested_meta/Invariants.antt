@@ -6,7 +6,6 @@ use Rattle.syn_mid.proofs.meta.parse_nested_meta.Given as goal
 
 abbrev pub invariant-turn : goal.invariant-turn
 invariant-turn g l = record {
-  callable : goal.F-IsAlwaysCallable g l.logic;
   told : (r : spec.Answer) (t : Stream) → spec.Turned (goal.F-step g) l.logic l.input r t → spec.Turned (goal.F-step g) l.initial.logic l.initial.input r t;
   within : Follows l.initial.input l.input;
 }
