@@ -6,11 +6,11 @@ ghost use Rattle.synmid.specs.declared.fault.Fault.{Fault};
 
 mod channel;
 mod fault;
+#[cfg(test)]
+mod nested_tests;
 mod reader;
 mod run;
 mod sample;
-#[cfg(test)]
-mod nested_tests;
 #[cfg(test)]
 mod tests;
 
