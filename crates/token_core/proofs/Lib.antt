@@ -3,10 +3,13 @@ pub mod Fronts
 pub mod Fills
 pub mod Marks
 pub mod Suffixes
+pub mod Places
 pub mod Rebuilds
 pub mod Lists
 pub mod Puts
 pub mod Turns
+pub mod Steps
+pub mod Listings
 pub mod Headlines
 pub mod Took
 pub mod Rows

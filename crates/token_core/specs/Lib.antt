@@ -19,5 +19,8 @@ pub mod Joined
 pub mod Lists
 pub mod Groups
 pub mod Loops
+pub mod Listed
+pub mod Positions
+pub mod Cut
 pub mod Clear
 pub mod Headline

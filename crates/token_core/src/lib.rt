@@ -18,6 +18,7 @@ mod text;
 mod to_tokens;
 pub mod token;
 mod tree;
+pub mod verbatim;
 mod word;
 
 pub use boxed::Boxed;
@@ -26,7 +27,7 @@ pub use cursor::Cursor;
 pub use error::{Error, ErrorKind};
 pub use items::Items;
 pub use mark::{Mark, Spans};
-pub use parse::{ByFn, Parse, Parser, Token, read_all, read_all_with};
+pub use parse::{ByFn, ByParse, Parse, Parser, Token, read_all, read_all_with, read_scoped};
 pub use parse_stream::ParseStream;
 pub use punctuated::{Pair, Punctuated};
 pub use span::{DelimSpan, Span};
