@@ -4,10 +4,13 @@ pub mod Fills
 pub mod Marks
 pub mod Suffixes
 pub mod Tables
+pub mod Places
 pub mod Rebuilds
 pub mod Lists
 pub mod Puts
 pub mod Turns
+pub mod Steps
+pub mod Listings
 pub mod Headlines
 pub mod Took
 pub mod Rows

@@ -19,6 +19,9 @@ pub mod Joined
 pub mod Lists
 pub mod Groups
 pub mod Loops
+pub mod Listed
+pub mod Positions
+pub mod Cut
 pub mod Clear
 pub mod Headline
 pub mod Negatives

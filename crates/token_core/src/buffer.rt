@@ -116,7 +116,8 @@ fn group_front<'a>(group: &'a Group, n: usize, more: &'a [Entry<'a>]) -> Front<'
     }
 }
 
-fn around<'a>(n: usize, more: &'a [Entry<'a>]) -> (&'a [Entry<'a>], &'a [Entry<'a>])
+/// Within and after a group's content of `n` entries.
+pub(crate) fn around<'a>(n: usize, more: &'a [Entry<'a>]) -> (&'a [Entry<'a>], &'a [Entry<'a>])
     ensures inside { result.0.now ≡ take n more.now }
     ensures after { result.1.now ≡ drop (n + 1) more.now }
 {
@@ -155,15 +156,6 @@ impl<'a> Cursor<'a> {
         ensures linked { Linked result }
     {
         settled(past_ends(self.entries))
-    }
-
-    /// The same position.
-    pub fn again(&self) -> Cursor<'a>
-        ensures { result ≡ self.now }
-    {
-        Cursor {
-            entries: self.entries,
-        }
     }
 }
 

@@ -22,6 +22,7 @@ mod text;
 mod to_tokens;
 pub mod token;
 mod tree;
+pub mod verbatim;
 mod word;
 
 pub use boxed::Boxed;
@@ -33,7 +34,7 @@ pub use lifetime::Lifetime;
 pub use lit::{Lit, LitBool, LitNegative, LitSort, LitStr};
 pub use mark::{Mark, Spans};
 pub use member::{Index, Member};
-pub use parse::{ByFn, Parse, Parser, Token, read_all, read_all_with};
+pub use parse::{ByFn, ByParse, Parse, Parser, Token, read_all, read_all_with, read_scoped};
 pub use parse_stream::ParseStream;
 pub use punctuated::{Pair, Punctuated};
 pub use range::RangeLimits;
