@@ -17,3 +17,8 @@ pub mod Rows
 pub mod lifetime_laws
 pub mod lit_laws
 pub mod member_laws
+pub mod MarkSpells
+pub mod WordSpells
+pub mod LitSpells
+pub mod MemberSpells
+pub mod LimitSpells

@@ -135,9 +135,9 @@ two_at c d (group x p y k) q v e = cc
 two_at c d (enter p k) q v e = absurd v
 two_at c d (leave k) q v e = absurd v
 
-record Went (cs : List ℕ) (s t : Stream) (m : Spans) : Type 0 where
-  was : past_mark cs s.rest ≡ Some (m, t.rest)
-  left : t.left ≡ s.left
+pub record Went (cs : List ℕ) (s t : Stream) (m : Spans) : Type 0 where
+  pub was : past_mark cs s.rest ≡ Some (m, t.rest)
+  pub left : t.left ≡ s.left
 
 went_at : (cs : List ℕ) (s t : Stream) (m : Spans) (e : Refusal) (o : Option (Spans × Toks)) → past_mark cs s.rest ≡ o → goes_on (λ (x : Spans). x.third) e s o ≡ Ok (m, t) → Went cs s t m
 went_at cs s t m e None h k = cc
@@ -145,7 +145,7 @@ went_at cs s t m e (Some q) h k =
     let g = same_pair q.0 m (past s q.1 q.0.third) t k in
     record { was = h ∙ ap (λ (z : Spans). Some (z, q.1)) g.0 ∙ ap (λ (z : Stream). Some (m, z.rest)) g.1; left = ap (λ (z : Stream). z.left) (sym g.1) }
 
-went : (cs : List ℕ) (name : Bytes) (s t : Stream) (m : Spans) → read_mark cs name s ≡ Ok (m, t) → Went cs s t m
+pub went : (cs : List ℕ) (name : Bytes) (s t : Stream) (m : Spans) → read_mark cs name s ≡ Ok (m, t) → Went cs s t m
 unfolding read_mark
 went cs name s t m h = went_at cs s t m (expected name s) (past_mark cs s.rest) refl h
 

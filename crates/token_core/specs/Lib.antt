@@ -29,3 +29,4 @@ pub mod Lits
 pub mod Members
 pub mod Ranges
 pub mod Lifetimes
+pub mod Spellings
