@@ -22,3 +22,4 @@ pub mod WordSpells
 pub mod LitSpells
 pub mod MemberSpells
 pub mod LimitSpells
+pub mod Invisibles

@@ -451,7 +451,7 @@ fn first_of(left: Option<Span>, child: &ParseStream<'_>) -> Option<Span>
 }
 
 /// A child stream of the content of a group.
-fn content<'a>(span: DelimSpan, cursor: Cursor<'a>) -> ParseStream<'a>
+pub(crate) fn content<'a>(span: DelimSpan, cursor: Cursor<'a>) -> ParseStream<'a>
     ensures { result ≡ spec.inside span cursor.entry }
 {
     ParseStream {
