@@ -4,6 +4,7 @@ pub mod Fills
 pub mod Marks
 pub mod Suffixes
 pub mod Places
+pub mod Cuts
 pub mod Rebuilds
 pub mod Lists
 pub mod Puts
