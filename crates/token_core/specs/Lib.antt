@@ -10,6 +10,7 @@ pub mod Entries
 pub mod Front
 pub mod Stream
 pub mod Rebuilt
+pub mod Same
 pub mod Keywords
 pub mod Reads
 pub mod Marks
@@ -18,6 +19,8 @@ pub mod ByFns
 pub mod Joined
 pub mod Lists
 pub mod Groups
+pub mod Looks
+pub mod Terminated
 pub mod Loops
 pub mod Listed
 pub mod Positions
