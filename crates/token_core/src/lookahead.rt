@@ -1,6 +1,6 @@
 //! A choice of tokens that a stream may begin with.
 
-ghost use Rattle.std.specs.Prelude.{◌≡◌, ◌++◌, map, IfOk, OnOk};
+ghost use Rattle.std.specs.Prelude.{◌≡◌, ◌++◌, [], map, IfOk, OnOk};
 ghost use Rattle.token_core.specs.Looks as spec;
 ghost use Rattle.token_core.specs.Refusal.{Made};
 
@@ -20,14 +20,14 @@ pub struct Lookahead<'a> {
 }
 
 impl<'a> Model for Lookahead<'a> {
-    ghost use Rattle.std.specs.Prelude.{map, take};
+    ghost use Rattle.std.specs.Prelude.{map, take, min};
     ghost use Rattle.token_core.specs.Looks.{Looks, looks_code};
 
     ghost Value = { Looks };
 
     ghost coded = { looks_code };
 
-    ghost view = { λ l. record { input = l.input; names = take l.count (map (λ n. n.now) l.names) } };
+    ghost view = { λ l. record { input = l.input; names = take (min l.count 32) (map (λ n. n.now) l.names) } };
 }
 
 impl<'a> ParseStream<'a> {
@@ -66,14 +66,26 @@ impl<'a> Lookahead<'a> {
         }
     }
 
+    /// The refusal where no test was made.
+    #[tactic(auto, unfolding(crate::specs::Looks::choices))]
+    fn untested(&self, alloc: Global) -> Error
+        ensures { Made result (spec.unmet_at [] self.now.input) }
+    {
+        if self.input.is_empty() {
+            let at = self.input.span();
+            return Error::of(alloc, ErrorKind::Expected, "unexpected end of input", at, at);
+        }
+        self.input
+            .refused(alloc, ErrorKind::Expected, "unexpected token")
+    }
+
     /// The refusal where no test succeeded: `expected X`, `expected X or Y`, or `expected one of: X, Y, Z`.
     pub fn error(&self, alloc: Global) -> Error
         ensures { Made result (spec.unmet self.now) }
     {
         let names = &self.names[..self.count.min(32)];
-        if names.is_empty() && self.input.is_empty() {
-            let at = self.input.span();
-            return Error::of(alloc, ErrorKind::Expected, "unexpected end of input", at, at);
+        if names.len() == 0 {
+            return self.untested(alloc);
         }
         match choices(alloc, names) {
             Ok(text) => self
@@ -105,6 +117,7 @@ fn choices(alloc: Global, names: &[&str]) -> Result<Text, AllocError>
     }
 }
 
+#[tactic(auto, using(crate::proofs::Choices::commaed))]
 fn push_commas(text: &mut Text, names: &[&str]) -> Result<(), AllocError>
     ensures { OnOk result (text.new ≡ text.old ++ spec.commas (map (λ n. n.now) names.now)) }
 {

@@ -1,7 +1,6 @@
 //! Token trees, and lists of them.
 
-ghost use Rattle.std.specs.Prelude.{◌≡◌, ◌++◌, [], ◌∷◌, IfOk, IsTrue, ◌↔◌, OnOk, OnErr, take, length};
-ghost use Rattle.token_core.specs.Same as sameness;
+ghost use Rattle.std.specs.Prelude.{◌≡◌, ◌++◌, [], ◌∷◌, IfOk, OnOk, OnErr, take, length};
 ghost use Rattle.token_core.specs.Trees as spec;
 
 use crate::items::Items;
@@ -275,13 +274,6 @@ impl TokenStream {
         self.trees.truncate(n);
     }
 
-    /// Whether it is equal to another list, spans aside.
-    pub fn same(&self, other: &TokenStream) -> bool
-        ensures { IsTrue result ↔ sameness.Same self.now other.now }
-    {
-        same_stream(self, other)
-    }
-
     /// Its equal, spans too.
     pub fn copy(&self, alloc: Global) -> Result<TokenStream, AllocError>
         ensures { IfOk result (λ s. s ≡ self.now) }
@@ -322,46 +314,4 @@ fn copy_group(group: &Group, alloc: Global) -> Result<Group, AllocError>
         stream: copy_stream(&group.stream, alloc)?,
         span: group.span,
     })
-}
-
-#[cycle(same)]
-#[tactic(auto, using(crate::proofs::Bares::streams))]
-fn same_stream(stream: &TokenStream, other: &TokenStream) -> bool
-    ensures { IsTrue result ↔ (sameness.bare_stream stream.now ≡ sameness.bare_stream other.now) }
-{
-    if stream.trees.len() != other.trees.len() {
-        return false;
-    }
-    let others = other.trees.as_slice();
-    let mut at = 0;
-    for tree in stream.trees.as_slice() {
-        if at < others.len() && !same_tree(tree, &others[at]) {
-            return false;
-        }
-        at += 1;
-    }
-    true
-}
-
-#[cycle(same)]
-#[tactic(auto, using(crate::proofs::Bares::kinds))]
-fn same_tree(tree: &TokenTree, other: &TokenTree) -> bool
-    ensures { IsTrue result ↔ (sameness.bare_tree tree.now ≡ sameness.bare_tree other.now) }
-{
-    match (tree, other) {
-        (TokenTree::Ident(a), TokenTree::Ident(b)) => a.text() == b.text(),
-        (TokenTree::Punct(a), TokenTree::Punct(b)) => a.ch == b.ch && a.spacing == b.spacing,
-        (TokenTree::Literal(a), TokenTree::Literal(b)) => {
-            a.kind == b.kind && a.text() == b.text()
-        }
-        (TokenTree::Group(a), TokenTree::Group(b)) => same_group(a, b),
-        _ => false,
-    }
-}
-
-#[cycle(same)]
-fn same_group(group: &Group, other: &Group) -> bool
-    ensures { IsTrue result ↔ (sameness.bare_group group.now ≡ sameness.bare_group other.now) }
-{
-    group.delimiter == other.delimiter && same_stream(&group.stream, &other.stream)
 }
