@@ -5,6 +5,9 @@ pub mod Marks
 pub mod Suffixes
 pub mod Tables
 pub mod Places
+pub mod Cuts
+pub mod Terminations
+pub mod Choices
 pub mod Rebuilds
 pub mod Lists
 pub mod Puts

@@ -93,7 +93,7 @@ pub record Less (a b : Toks) : Type 0 where
   pub sizes : size a < size b
   pub counts : entries a < entries b
 
-abbrev Reached : Toks → Toks → Type 0
+abbrev pub Reached : Toks → Toks → Type 0
 Reached a b = (a ≡ b) ⊎ Less a b
 
 further : (a k t : Toks) → size t ≡ suc (size k) → entries k < entries t → Reached a k → Reached a t

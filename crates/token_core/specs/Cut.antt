@@ -1,5 +1,5 @@
 -- The trees between two positions: an invisible group that ends after the second one is entered, and not kept.
-use Rattle.std.specs.Prelude.{ℕ, zero, suc, ◌-◌, List, [], ◌∷◌, ◌++◌}
+use Rattle.std.specs.Prelude.{ℕ, zero, suc, ◌-◌, List, [], ◌∷◌, ◌++◌, Option, Some, None}
 use Rattle.token_core.specs.declared.span.DelimSpan.{DelimSpan}
 use Rattle.token_core.specs.declared.tree.TokenTree.{TokenTree}
 use Rattle.token_core.specs.declared.tree.TokenTree.TheVariants as t
@@ -52,3 +52,18 @@ trees_between begin end = all_parts (parts (up_to begin end))
 
 abbrev pub between : Toks → Toks → TokenStream
 between begin end = stream_of_trees (trees_between begin end)
+
+-- the trees that are kept at one step
+abbrev pub kept : Option TokenTree → List TokenTree
+kept None = []
+kept (Some x) = x ∷ []
+
+-- inside a group that begins there, or after the end that stands there
+abbrev pub past_bound : Toks → Toks
+past_bound done = done
+past_bound (word i k) = word i k
+past_bound (mark p k) = mark p k
+past_bound (lit l k) = lit l k
+past_bound (group d s c k) = c
+past_bound (enter s k) = k
+past_bound (leave k) = k

@@ -18,6 +18,8 @@ pub mod ByFns
 pub mod Joined
 pub mod Lists
 pub mod Groups
+pub mod Looks
+pub mod Terminated
 pub mod Loops
 pub mod Listed
 pub mod Positions

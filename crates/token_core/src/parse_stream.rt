@@ -231,7 +231,7 @@ impl<'a> ParseStream<'a> {
     }
 
     #[tactic(auto, unfolding(crate::specs::Reads::refused))]
-    fn refused(&self, alloc: Global, kind: ErrorKind, text: &str) -> Error
+    pub(crate) fn refused(&self, alloc: Global, kind: ErrorKind, text: &str) -> Error
         ensures { Made result (spec.refused kind text.now self.now) }
     {
         let at = self.span();

@@ -1,8 +1,10 @@
 //! Tokens that a tree holds as they were written.
 
-ghost use Rattle.std.specs.Prelude.{◌≡◌, IfOk};
+ghost use Rattle.std.specs.Prelude.{◌≡◌, ◌++◌, ◌<◌, true, IfOk, option_map};
 ghost use Rattle.token_core.specs.Cut as spec;
 ghost use Rattle.token_core.specs.Reads.{IsSuffix};
+ghost use Rattle.token_core.specs.Positions.{is_before};
+ghost use Rattle.token_core.specs.Loops.{size};
 
 use crate::cursor::Cursor;
 use crate::tree::{TokenStream, TokenTree};
@@ -29,20 +31,30 @@ pub fn between(
     Ok(tokens)
 }
 
-/// The tree that stands there, if it ends before the second position or at it, and the position after it; else the position
+/// The tree that stands there, if it ends at the second position or before it, and the position after it; else the position
 /// inside the invisible group, or after the one whose end stands there.
 fn part<'a>(cursor: &Cursor<'a>, end: &Cursor<'_>) -> (Option<&'a TokenTree>, Cursor<'a>)
-    requires { IsSuffix end.now cursor.now }
+    requires within { IsSuffix end.now cursor.now }
+    requires before { is_before cursor.now end.now ≡ true }
+    ensures trees { spec.trees_between cursor.now end.now ≡ spec.kept (option_map (λ t. t.now) result.0) ++ spec.trees_between result.1 end.now }
+    ensures within { IsSuffix end.now result.1 }
+    ensures less { size result.1 < size cursor.now }
 {
-    if let Some((tree, after)) = cursor.tree() {
-        if !end.is_before(&after) {
-            return (Some(tree), after);
+    match cursor.tree() {
+        Some((tree, after)) => {
+            if end.is_before(&after) {
+                (None, past_bound(cursor))
+            } else {
+                (Some(tree), after)
+            }
         }
+        None => (None, past_bound(cursor)),
     }
-    (None, past_bound(cursor))
 }
 
-fn past_bound<'a>(cursor: &Cursor<'a>) -> Cursor<'a> {
+fn past_bound<'a>(cursor: &Cursor<'a>) -> Cursor<'a>
+    ensures { result ≡ spec.past_bound cursor.now }
+{
     match cursor.enter() {
         Some(inside) => inside,
         None => match cursor.leave() {

@@ -9,7 +9,7 @@ use Rattle.token_core.specs.Front.{front}
 use Rattle.token_core.specs.Stream.{Stream}
 use Rattle.token_core.specs.Marks as marks
 use Rattle.token_core.specs.Marks.{text_of}
-use Rattle.token_core.specs.Loops.{size, Many, after, is_first}
+use Rattle.token_core.specs.Loops.{size, Many, never, after, is_first}
 use Rattle.token_core.specs.Reads.{Reads, Outcome, as_word, sees_word, word_meets, read_word, read_mark, any_text, ident_name, is_ident, is_text}
 use Rattle.token_core.proofs.Turns as turns
 use Rattle.token_core.proofs.Turns.{word_takes, mark_keeps}
@@ -57,20 +57,20 @@ sep_keeps s t p e = let m = mapped (read_mark (marks.chars_of 1) (marks.mark_nam
 module _ {X : Type 0} where
   pub turn_refused : (v : Many (PathSegment X) Sep) (b : Bool) (s : Stream) (e : Refusal) → mod_segment {X = X} b s ≡ Err e → after v (mod_segments b s) ≡ Err e
   unfolding mod_segments
-  turn_refused v b s e h = turns.turn_refused mod_segment sees_sep sep segment_takes sep_keeps v b s e h
+  turn_refused v b s e h = turns.turn_refused never mod_segment sees_sep sep v b s e refl h
 
   pub turn_last : (v : Many (PathSegment X) Sep) (b : Bool) (s t : Stream) (x : PathSegment X) → mod_segment b s ≡ Ok (x, t) → sees_sep t.rest ≡ false → after v (mod_segments b s) ≡ Ok ((v.0 ++ x ∷ [], v.1), t)
   unfolding mod_segments
-  turn_last v b s t x h k = turns.turn_last mod_segment sees_sep sep segment_takes sep_keeps v b s t x h k
+  turn_last v b s t x h k = turns.turn_last never mod_segment sees_sep sep v b s t x refl h k
 
   pub turn_stuck : (v : Many (PathSegment X) Sep) (b : Bool) (s t : Stream) (x : PathSegment X) (e : Refusal) → mod_segment b s ≡ Ok (x, t) → sees_sep t.rest ≡ true → sep t ≡ Err e → after v (mod_segments b s) ≡ Err e
   unfolding mod_segments
-  turn_stuck v b s t x e h k g = turns.turn_stuck mod_segment sees_sep sep segment_takes sep_keeps v b s t x e h k g
+  turn_stuck v b s t x e h k g = turns.turn_stuck never mod_segment sees_sep sep v b s t x e refl h k g
 
   pub turn_on : (v : Many (PathSegment X) Sep) (b : Bool) (s t u : Stream) (x : PathSegment X) (p : Sep) → mod_segment b s ≡ Ok (x, t) → sees_sep t.rest ≡ true → sep t ≡ Ok (p, u) →
       after v (mod_segments b s) ≡ after (v.0 ++ x ∷ [], v.1 ++ p ∷ []) (mod_segments false u)
   unfolding mod_segments
-  turn_on v b s t u x p h k g = turns.turn_on mod_segment sees_sep sep segment_takes sep_keeps v b s t u x p h k g
+  turn_on v b s t u x p h k g = turns.turn_on never mod_segment sees_sep sep segment_takes sep_keeps v b s t u x p refl h k g
 
 -- the first segment is the one before which none was found
 pub is_first-is : {A P : Type 0} (v : Many A P) (b : Bool) → (IsTrue b ↔ (length v.0 ≡ 0)) → b ≡ is_first v
