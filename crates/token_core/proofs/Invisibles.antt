@@ -1,5 +1,5 @@
 -- An invisible group at the front of a buffer: what its bounds hold, and what follows them.
-use Rattle.std.proofs.Common.{◌≡◌, ℕ, zero, suc, ◌+◌, List, [], ◌∷◌, ◌++◌, map, length, take, drop, Option, Some, None, refl, sym, ◌∙◌, ap, subst, arith, append_assoc, append-nil}
+use Rattle.std.proofs.Common.{◌≡◌, ℕ, zero, suc, ◌+◌, List, [], ◌∷◌, ◌++◌, map, take, drop, Some, None, refl, sym, ◌∙◌, ap, subst, arith, append_assoc}
 use Rattle.std.proofs.lemmas.List.{take-map, drop-map, take-append-drop}
 use Rattle.token_core.specs.declared.buffer.Entry.{Entry}
 use Rattle.token_core.specs.declared.tree.Delimiter.{Delimiter}
@@ -13,9 +13,8 @@ use Rattle.token_core.specs.declared.tree.TokenStream.{TokenStream, roll-TokenSt
 use Rattle.token_core.specs.Toks.{Toks, done, word, mark, lit, group, enter, leave}
 use Rattle.token_core.specs.Trees as s
 use Rattle.token_core.specs.Trees.{Before, all, grouped}
-use Rattle.token_core.specs.Seen.{Seen, view, saw_leave, saw_enter, saw_delimiter, view-enter, view-leave, view-group}
+use Rattle.token_core.specs.Seen.{Seen, view, saw_leave, saw_delimiter, view-enter, view-leave, view-group}
 use Rattle.token_core.specs.Entries.{saw, entries_view, Nested, Inside, flat_stream}
-use Rattle.token_core.specs.Front.{past_ends}
 use Rattle.token_core.specs.Groups.{within, beyond, as_invisible, next_invisible}
 use Rattle.token_core.specs.Reads.{IsSuffix, all_of, past_word, past_punct, past_lit, past_group, past_enter, past_leave}
 use Rattle.token_core.proofs.Flats.{tree-roll, group-roll, stream-roll, shows_stream, nested_flat, view-flat}

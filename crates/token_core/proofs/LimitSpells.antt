@@ -1,7 +1,6 @@
 -- The limits of a range are read where they stand, and print themselves.
-use Rattle.std.proofs.Common.{◌≡◌, ℕ, Bool, true, false, ◌&&◌, ◌||◌, not, [], ◌∷◌, Option, Ok, inl, inr, refl, sym, ◌∙◌, ap, subst, arith}
+use Rattle.std.proofs.Common.{◌≡◌, Bool, true, false, ◌&&◌, ◌||◌, not, [], ◌∷◌, Option, Ok, inl, inr, refl, ◌∙◌, ap, subst, arith}
 use Rattle.token_core.specs.declared.span.Span.{Span}
-use Rattle.token_core.specs.declared.mark.Mark.{Mark}
 use Rattle.token_core.specs.declared.range.RangeLimits.{RangeLimits}
 use Rattle.token_core.specs.declared.range.RangeLimits.TheVariants as x
 use Rattle.token_core.specs.Toks.{Toks}
@@ -11,8 +10,8 @@ use Rattle.token_core.specs.Stream.{Stream}
 use Rattle.token_core.specs.Clear.{is_glued}
 use Rattle.token_core.specs.Marks as marks
 use Rattle.token_core.specs.Reads.{sees_mark}
-use Rattle.token_core.specs.Ranges.{DotDot, DotDotDot, DotDotEq, sees_dot2, sees_dot3, sees_dot2_eq, no_limits, read, closed_by, read_obsolete, print}
-use Rattle.token_core.specs.Spellings.{AreChars, no_char, last_char, more_chars, IsMark, is_mark, AreLimits, half_open, closed, AreOldLimits, new_limits, old_limits}
+use Rattle.token_core.specs.Ranges.{DotDot, DotDotEq, sees_dot2, sees_dot3, sees_dot2_eq, no_limits, read, closed_by, read_obsolete, print}
+use Rattle.token_core.specs.Spellings.{last_char, more_chars, IsMark, is_mark, AreLimits, half_open, closed, AreOldLimits, new_limits, old_limits}
 use Rattle.token_core.proofs.Took.{at, branch, mapped}
 use Rattle.token_core.proofs.Steps.{Reads_to, link, chosen}
 use Rattle.token_core.proofs.MarkSpells.{Taken, mark_sound, mark_complete, mark_seen, mark_print, mark_length, mark_again, mark_visible, mark_whole, longer_unseen}
@@ -27,11 +26,11 @@ limits_sound s t l v e =
           let w = mark_sound {n = 10} {k = 3} refl (omega arith) s t k.value v k.was in
           record { spelt = subst (λ z. AreLimits false z s.rest t.rest) k.is (closed w.spelt); left = w.left }
       | inr y ↦ elim (branch (sees_dot2 s.rest && not (sees_dot3 s.rest)) _ _ s (Ok (l, t)) y.1) [
-          | inl z ↦ let k = mapped (marks.read 8 2 s) x.HalfOpen l t z.1 in
-              let w = mark_sound {n = 8} {k = 2} refl (omega arith) s t k.value v k.was in
-              record { spelt = subst (λ u. AreLimits false u s.rest t.rest) k.is (half_open w.spelt); left = w.left }
-          | inr z ↦ stuck z.1
-        ]
+        | inl z ↦ let k = mapped (marks.read 8 2 s) x.HalfOpen l t z.1 in
+            let w = mark_sound {n = 8} {k = 2} refl (omega arith) s t k.value v k.was in
+            record { spelt = subst (λ u. AreLimits false u s.rest t.rest) k.is (half_open w.spelt); left = w.left }
+        | inr z ↦ stuck z.1
+      ]
     ]
   where
     stuck : no_limits s ≡ Ok (l, t) → Taken (AreLimits false) s t l

@@ -15,13 +15,13 @@ use Rattle.token_core.specs.declared.span.Span.{Span}
 use Rattle.token_core.specs.declared.lit.Lit.{Lit}
 use Rattle.token_core.specs.declared.lit.Lit.TheVariants as v
 use Rattle.token_core.specs.declared.lit.LitStr.{LitStr}
-use Rattle.token_core.specs.Toks.{Bytes, Toks, done, word, mark, lit, group, enter, leave}
+use Rattle.token_core.specs.Toks.{Toks, done, word, mark, lit, group, enter, leave}
 use Rattle.token_core.specs.Trees.{ident, punct, literal, row}
 use Rattle.token_core.specs.Rebuilt.{Visible}
 use Rattle.token_core.specs.Stream.{Stream}
 use Rattle.token_core.specs.Loops.{size}
 use Rattle.token_core.specs.Reads.{goes_on, expected}
-use Rattle.token_core.specs.Lits.{true_text, false_text, bool_text, lit_bool, lit_str, negative, is_number, is_str, past_bool, past_number, past_minus, next_lit, past_lit, sees_lit, read_lit, end_of, lit_name, past_str, str_of, sees_str, read_str, str_name, print, print_str}
+use Rattle.token_core.specs.Lits.{true_text, false_text, bool_text, lit_bool, lit_str, negative, is_number, is_str, past_number, next_lit, past_lit, sees_lit, read_lit, end_of, lit_name, past_str, sees_str, read_str, print, print_str}
 use Rattle.token_core.specs.Spellings.{IsLit, a_literal, a_bool, a_negative, IsStr, a_str}
 use Rattle.token_core.proofs.Took.{at}
 use Rattle.token_core.proofs.Steps.{Reads_to}

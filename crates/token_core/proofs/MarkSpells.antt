@@ -1,5 +1,5 @@
 -- A mark is read where its characters stand, and prints them apart.
-use Rattle.std.proofs.Common.{◌≡◌, ℕ, zero, suc, ◌<◌, ◌≤◌, Bool, true, false, ◌==◌, if◌then◌else◌, List, [], ◌∷◌, ◌++◌, length, Option, Some, None, is_some, Ok, Err, refl, sym, ◌∙◌, ap, subst, arith}
+use Rattle.std.proofs.Common.{◌≡◌, ℕ, suc, ◌≤◌, Bool, true, false, ◌==◌, if◌then◌else◌, List, [], ◌∷◌, ◌++◌, length, Option, Some, None, is_some, Ok, refl, sym, ◌∙◌, ap, subst, arith}
 use Rattle.std.proofs.lemmas.Bool.{eqb-true, eq-eqb}
 use Rattle.token_core.specs.declared.tree.Spacing.{Spacing}
 use Rattle.token_core.specs.declared.tree.Spacing.TheVariants.{Joint, Alone}
@@ -16,9 +16,8 @@ use Rattle.token_core.specs.Rebuilt.{Visible}
 use Rattle.token_core.specs.Stream.{Stream}
 use Rattle.token_core.specs.Loops.{size}
 use Rattle.token_core.specs.Marks.{chars_of, mark_name, mark_of, spread, read}
-use Rattle.token_core.specs.Reads.{Outcome, past_mark, put_first, three, is_joint, sees_mark, read_mark, goes_on, expected}
+use Rattle.token_core.specs.Reads.{past_mark, put_first, three, is_joint, sees_mark, read_mark, goes_on, expected}
 use Rattle.token_core.specs.Spellings.{AreChars, no_char, last_char, more_chars, mark_at, IsMark, is_mark}
-use Rattle.token_core.proofs.Turns.{same_pair}
 use Rattle.token_core.proofs.Took.{at, mapped, went}
 use Rattle.token_core.proofs.Steps.{Reads_to, link}
 use Rattle.token_core.proofs.Rebuilds.{tree-punct}

@@ -6,7 +6,7 @@ use Rattle.std.specs.Prelude.{nat_le}
 use Rattle.std.specs.Str.Parse.{AllDigits, IsNumeral, digits_value_after}
 use Rattle.std.proofs.lemmas.Fmt.{decimal_is_IsNumeral}
 use Rattle.std.proofs.lemmas.Bool.{ne_eqb, lt-ltb, leb-true}
-use Rattle.std.proofs.Common.{◌≡◌, ℕ, ◌+◌, ◌*◌, ◌^◌, ◌<◌, ◌≤◌, Bool, true, false, ◌==◌, ◌&&◌, ◌||◌, if◌then◌else◌, List, [], ◌∷◌, length, drop, Option, Some, None, Ok, Err, inl, inr, refl, sym, ◌∙◌, ap, subst, arith}
+use Rattle.std.proofs.Common.{◌≡◌, ℕ, ◌+◌, ◌*◌, ◌^◌, ◌<◌, ◌≤◌, Bool, true, false, ◌==◌, ◌&&◌, ◌||◌, if◌then◌else◌, [], ◌∷◌, drop, Option, Some, None, Ok, Err, inl, inr, refl, sym, ◌∙◌, ap, subst, arith}
 use Rattle.token_core.specs.declared.tree.Ident.{Ident}
 use Rattle.token_core.specs.declared.tree.Literal.{Literal}
 use Rattle.token_core.specs.declared.tree.LitKind.{LitKind}
@@ -19,8 +19,7 @@ use Rattle.token_core.specs.Toks.{Bytes, Toks, done, word, mark, lit, group, ent
 use Rattle.token_core.specs.Trees.{literal, row}
 use Rattle.token_core.specs.Rebuilt.{Visible}
 use Rattle.token_core.specs.Stream.{Stream}
-use Rattle.token_core.specs.Loops.{size}
-use Rattle.token_core.specs.Reads.{Outcome, is_ident, ident_name, sees_word, read_word, next_word, past, expected}
+use Rattle.token_core.specs.Reads.{Outcome, is_ident, ident_name, sees_word, read_word, next_word, expected}
 use Rattle.token_core.specs.Lits.{next_lit}
 use Rattle.token_core.specs.Members.{index, number_after, begins, number, fit, fitting, value, is_int, int_name, index_if, index_at, read_index, sees_int, no_member, read_member, print_index, print}
 use Rattle.token_core.specs.Spellings.{IsIndex, an_index, IsMember, named, unnamed}
@@ -163,11 +162,11 @@ member_sound s t x v e =
           let w = took_word is_ident ident_name s t k.value v k.was in
           record { spelt = subst (λ z. IsMember z s.rest t.rest) k.is (subst (λ z. IsMember (m.Named k.value) z t.rest) (sym w.is) (named w.meets)); left = w.left }
       | inr y ↦ elim (branch (sees_int s.rest) _ _ s (Ok (x, t)) y.1) [
-          | inl z ↦ let k = mapped (read_index s) m.Unnamed x t z.1 in
-              let w = index_sound s t k.value v k.was in
-              record { spelt = subst (λ u. IsMember u s.rest t.rest) k.is (unnamed w.spelt); left = w.left }
-          | inr z ↦ stuck z.1
-        ]
+        | inl z ↦ let k = mapped (read_index s) m.Unnamed x t z.1 in
+            let w = index_sound s t k.value v k.was in
+            record { spelt = subst (λ u. IsMember u s.rest t.rest) k.is (unnamed w.spelt); left = w.left }
+        | inr z ↦ stuck z.1
+      ]
     ]
   where
     stuck : no_member s ≡ Ok (x, t) → Taken IsMember s t x

@@ -1,10 +1,8 @@
 -- Words and lifetimes are read where they stand, and print themselves.
-use Rattle.std.specs.Str.{bytes_eq}
 use Rattle.std.proofs.lemmas.Slice.Eq.{bytes_eq-Decides}
 use Rattle.std.proofs.lemmas.Bool.{eqb-true}
 use Rattle.std.proofs.Common.{◌≡◌, ℕ, ◌<◌, Bool, true, false, ◌==◌, if◌then◌else◌, Option, Some, None, Ok, Err, refl, sym, ◌∙◌, ap, subst, arith}
-use Rattle.token_core.specs.declared.tree.Spacing.{Spacing}
-use Rattle.token_core.specs.declared.tree.Spacing.TheVariants.{Joint, Alone}
+use Rattle.token_core.specs.declared.tree.Spacing.TheVariants.{Joint}
 use Rattle.token_core.specs.declared.tree.Ident.{Ident}
 use Rattle.token_core.specs.declared.tree.Punct.{Punct}
 use Rattle.token_core.specs.declared.span.Span.{Span}
@@ -18,7 +16,7 @@ use Rattle.token_core.specs.Rebuilt.{Visible}
 use Rattle.token_core.specs.Stream.{Stream}
 use Rattle.token_core.specs.Loops.{size}
 use Rattle.token_core.specs.Marks.{text_of, word_name, word_of, read_named}
-use Rattle.token_core.specs.Reads.{Outcome, is_joint, is_text, sees_word, read_word, next_word, goes_on, past, expected}
+use Rattle.token_core.specs.Reads.{is_joint, is_text, sees_word, read_word, next_word, goes_on, past, expected}
 use Rattle.token_core.specs.Lifetimes as life
 use Rattle.token_core.specs.Lifetimes.{lifetime, with_ident, past_lifetime, sees_lifetime, read_lifetime}
 use Rattle.token_core.specs.Spellings.{IsWord, is_word, IsLifetime, is_lifetime}

@@ -7,7 +7,6 @@ use Rattle.token_core.specs.declared.token.Bracket.{Bracket}
 use Rattle.token_core.specs.declared.token.GroupToken.{GroupToken}
 use Rattle.token_core.specs.Toks.{Bytes, Toks, done, word, mark, lit, group, enter, leave}
 use Rattle.token_core.specs.Front.{past_ends}
-use Rattle.token_core.specs.Refusal.{Refusal}
 use Rattle.token_core.specs.Stream.{Stream}
 use Rattle.token_core.specs.Reads.{Outcome, Reader, expected, inside, past}
 

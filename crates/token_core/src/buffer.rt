@@ -152,9 +152,7 @@ fn invisible_group<'a>(
 
 /// The invisible group that stands first.
 #[tactic(auto, using(crate::proofs::Fronts::views))]
-fn first_invisible<'a>(
-    entries: &'a [Entry<'a>],
-) -> Option<(&'a Group, Cursor<'a>, Cursor<'a>)>
+fn first_invisible<'a>(entries: &'a [Entry<'a>]) -> Option<(&'a Group, Cursor<'a>, Cursor<'a>)>
     requires { Nested (map saw entries.now) }
     ensures { option_map (λ p. (span_of p.0.now, p.1, p.2)) result ≡ groups.as_invisible (entries_view entries.now) }
 {
