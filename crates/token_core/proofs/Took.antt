@@ -13,7 +13,7 @@ use Rattle.token_core.specs.Trees.{punct}
 use Rattle.token_core.specs.Rebuilt.{Visible, stream_of}
 use Rattle.token_core.specs.Stream.{Stream}
 use Rattle.token_core.specs.Reads.{Reader, Outcome, Body, and_then, pure, past, past_mark, put_first, three, is_joint, sees_word, read_word, next_word, read_mark, delimited, leaves, is_done, first_of, goes_on, expected}
-use Rattle.token_core.specs.Loops.{size, Many, joined_from, joined, one, put}
+use Rattle.token_core.specs.Loops.{size, Many, never, joined_from, joined, listed, one, put}
 use Rattle.token_core.proofs.Turns.{chain, same_pair}
 
 -- a stream by its parts
@@ -136,9 +136,9 @@ two_at c d (group x p y k) q v e = cc
 two_at c d (enter p k) q v e = absurd v
 two_at c d (leave k) q v e = absurd v
 
-record Went (cs : List ℕ) (s t : Stream) (m : Spans) : Type 0 where
-  was : past_mark cs s.rest ≡ Some (m, t.rest)
-  left : t.left ≡ s.left
+pub record Went (cs : List ℕ) (s t : Stream) (m : Spans) : Type 0 where
+  pub was : past_mark cs s.rest ≡ Some (m, t.rest)
+  pub left : t.left ≡ s.left
 
 went_at : (cs : List ℕ) (s t : Stream) (m : Spans) (e : Refusal) (o : Option (Spans × Toks)) → past_mark cs s.rest ≡ o → goes_on (λ (x : Spans). x.third) e s o ≡ Ok (m, t) → Went cs s t m
 went_at cs s t m e None h k = cc
@@ -146,7 +146,7 @@ went_at cs s t m e (Some q) h k =
     let g = same_pair q.0 m (past s q.1 q.0.third) t k in
     record { was = h ∙ ap (λ (z : Spans). Some (z, q.1)) g.0 ∙ ap (λ (z : Stream). Some (m, z.rest)) g.1; left = ap (λ (z : Stream). z.left) (sym g.1) }
 
-went : (cs : List ℕ) (name : Bytes) (s t : Stream) (m : Spans) → read_mark cs name s ≡ Ok (m, t) → Went cs s t m
+pub went : (cs : List ℕ) (name : Bytes) (s t : Stream) (m : Spans) → read_mark cs name s ≡ Ok (m, t) → Went cs s t m
 unfolding read_mark
 went cs name s t m h = went_at cs s t m (expected name s) (past_mark cs s.rest) refl h
 
@@ -237,12 +237,12 @@ module _ {A P : Type 0} (value : Bool → Reader A) (more : Toks → Bool) (join
             let le = keeps c.rest d.rest d.value d.was in
             let f = chain (joined_from value more joint n false d.rest) _ v t d.goes in
             let i = from_takes n false d.rest f.rest f.value f.was in
-            let g = same_pair (put value more joint c.value d.value f.value) v f.rest t f.goes in
+            let g = same_pair (put never value more joint c.value d.value f.value) v f.rest t f.goes in
             subst (λ (z : Stream). size z.rest < size s.rest) g.1 (omega (arith, less, le, i))
-        | inr y ↦ let g = same_pair (one value more joint c.value) v c.rest t y.1 in subst (λ (z : Stream). size z.rest < size s.rest) g.1 less
+        | inr y ↦ let g = same_pair (one never value more joint c.value) v c.rest t y.1 in subst (λ (z : Stream). size z.rest < size s.rest) g.1 less
       ]
 
   -- they take a token
   pub joined_takes : (b : Bool) (s t : Stream) (v : Many A P) → joined value more joint b s ≡ Ok (v, t) → size t.rest < size s.rest
-  unfolding joined
+  unfolding listed
   joined_takes b s t v e = from_takes (suc (size s.rest)) b s t v e

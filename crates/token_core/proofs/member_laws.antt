@@ -11,7 +11,7 @@ fit_by : (n m : ℕ) (b : Bool) → nat_le n 4294967295 ≡ b → (if b then Som
 fit_by n m true h e = let same : n ≡ m = cc in subst (λ z. fit z ≡ Some z) same (ap (λ (z : Bool). if z then Some n else None) h)
 fit_by n m false h e = cc
 
-fit-some : (n m : ℕ) → fit n ≡ Some m → fit m ≡ Some m
+pub fit-some : (n m : ℕ) → fit n ≡ Some m → fit m ≡ Some m
 fit-some n m e = fit_by n m (nat_le n 4294967295) refl e
 
 -- a number with one digit more fits

@@ -231,7 +231,7 @@ impl<'a> ParseStream<'a> {
     }
 
     #[tactic(auto, unfolding(crate::specs::Reads::refused))]
-    fn refused(&self, alloc: Global, kind: ErrorKind, text: &str) -> Error
+    pub(crate) fn refused(&self, alloc: Global, kind: ErrorKind, text: &str) -> Error
         ensures { Made result (spec.refused kind text.now self.now) }
     {
         let at = self.span();
@@ -451,7 +451,7 @@ fn first_of(left: Option<Span>, child: &ParseStream<'_>) -> Option<Span>
 }
 
 /// A child stream of the content of a group.
-fn content<'a>(span: DelimSpan, cursor: Cursor<'a>) -> ParseStream<'a>
+pub(crate) fn content<'a>(span: DelimSpan, cursor: Cursor<'a>) -> ParseStream<'a>
     ensures { result ≡ spec.inside span cursor.entry }
 {
     ParseStream {

@@ -14,7 +14,7 @@ use crate::error::Error;
 pub use crate::mark::Mark;
 use crate::mark::{mark_chars, mark_name, spread};
 use crate::parse::{Parse, Token};
-use crate::parse_stream::ParseStream;
+use crate::parse_stream::{ParseStream, content};
 use crate::span::{DelimSpan, Span};
 use crate::to_tokens::ToTokens;
 use crate::tree::{Delimiter, Group, Ident, Punct, Spacing, TokenStream, TokenTree};
@@ -432,6 +432,21 @@ impl Token for Bracket {
     }
 }
 
+impl Token for GroupToken {
+    ghost sees = { groups.sees_invisible };
+
+    ghost name = { groups.invisible_name };
+
+    #[tactic(auto, unfolding(crate::specs::Groups::sees_invisible))]
+    fn peek(input: &ParseStream<'_>) -> bool {
+        input.cursor().next_invisible().is_some()
+    }
+
+    fn display() -> &'static str {
+        "invisible group"
+    }
+}
+
 /// Appends a group of these tokens; refused, the list is as before.
 pub fn surround(
     delimiter: Delimiter,
@@ -569,6 +584,24 @@ impl<'a> ParseStream<'a> {
     {
         let (span, inside) = self.open_group(alloc, Delimiter::Brace, Brace::display())?;
         Ok((Brace { span }, inside))
+    }
+
+    /// The invisible group at the front, and a stream of what it holds (`parse_group`). It goes on after the end of an
+    /// invisible group, but into none.
+    #[tactic(auto, using(crate::proofs::Suffixes::follows_self), unfolding(crate::specs::Groups::open_invisible))]
+    pub fn invisible(&mut self, alloc: Global) -> Result<(GroupToken, ParseStream<'a>), Error>
+        ensures reads { Reads (groups.opened groups.group_token (groups.open_invisible self.old)) result self.new }
+        ensures within { Follows self.old self.new }
+        ensures same { OnErr result (self.new ≡ self.old) }
+    {
+        match self.cursor().next_invisible() {
+            Some((group, inside, after)) => {
+                let span = group.delim_span();
+                self.go_on(after, span.close());
+                Ok((GroupToken { span }, content(span, inside)))
+            }
+            None => Err(self.expected(alloc, GroupToken::display())),
+        }
     }
 
     /// The brackets at the front, and a stream of what they hold.

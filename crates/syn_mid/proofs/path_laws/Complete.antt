@@ -7,9 +7,10 @@ use Rattle.token_core.specs.declared.tree.Spacing.TheVariants.{Joint}
 use Rattle.token_core.specs.Toks.{Toks, word, mark}
 use Rattle.token_core.specs.Trees.{punct}
 use Rattle.token_core.specs.Stream.{Stream}
-use Rattle.token_core.specs.Loops.{size, joined_from, joined}
+use Rattle.token_core.specs.Loops.{size, joined_from, listed}
 use Rattle.token_core.specs.Reads.{Outcome, Reader, and_then, sees_word, sees_mark, read_word, next_word, read_mark, any_text, ident_name}
 use Rattle.token_core.proofs.Took.{at}
+use Rattle.token_core.proofs.Steps.{link, chosen, Reads_to}
 use Rattle.syn_mid.specs.declared.path.Path.{Path}
 use Rattle.syn_mid.specs.declared.path.PathSegment.{PathSegment}
 use Rattle.syn_mid.specs.declared.path.SegmentStyle.TheVariants.{Mod}
@@ -17,14 +18,6 @@ use Rattle.syn_mid.specs.path.Paths.{Sep, segment_of}
 use Rattle.syn_mid.specs.path.Reading.{sees_sep, sep, bare_segment, bare_segments, bare_path, mod_style}
 use Rattle.syn_mid.specs.path.Reading as reading
 use Rattle.syn_mid.specs.path.Spelling.{is_mod_word, sep_at, IsLeading, no_leading, leading, AreModSegments, last_segment, more_segments, IsModPath, mod_path}
-
--- a step that answers, and what goes on from it
-pub link : {A B : Type 0} {o : Outcome A} {x : Outcome B} {a : A} {s : Stream} (f : A → Reader B) → o ≡ Ok (a, s) → f a s ≡ x → and_then o f ≡ x
-link f e g = ap (λ z. and_then z f) e ∙ g
-
--- a test that holds, or not
-pub chosen : {A : Type 0} (b c : Bool) (p q : Reader A) (s : Stream) (x : Outcome A) → b ≡ c → (if c then p else q) s ≡ x → (if b then p else q) s ≡ x
-chosen b c p q s x e h = ap (λ (z : Bool). (if z then p else q) s) e ∙ h
 
 -- ---- single steps
 
@@ -47,11 +40,6 @@ reads_any i r f e sc = refl
 sees_mod : (i : Ident) (r : Toks) → is_mod_word i.text ≡ true → sees_word is_mod_word (word i r) ≡ true
 unfolding sees_word
 sees_mod i r h = h
-
--- the stream stands after what was spelt
-pub record Reads_to {A : Type 0} (p : Reader A) (a : A) (l r : Toks) (f : Option Span) (e sc : Span) : Type 0 where
-  pub last : Span
-  pub reads : p (at l f e sc) ≡ Ok (a, at r f last sc)
 
 leading_complete : (o : Option Sep) (l r : Toks) (f : Option Span) (e sc : Span) → IsLeading true o l r → sees_sep r ≡ false → Reads_to reading.leading o l r f e sc
 unfolding reading.leading
@@ -84,7 +72,7 @@ module _ {X : Type 0} where
       }
 
   segments_complete : (all : List (PathSegment X)) (seps : List Sep) (l r : Toks) (f : Option Span) (e sc : Span) → AreModSegments true all seps l r → sees_sep r ≡ false → Reads_to (bare_segments Mod true) (all, seps) l r f e sc
-  unfolding bare_segments joined
+  unfolding bare_segments listed
   segments_complete all seps l r f e sc i s = let q = segments_from (suc (size l)) true all seps l r f e sc (omega arith) i s in record { last = q.last; reads = q.reads }
 
   begins_word : (all : List (PathSegment X)) (seps : List Sep) (l r : Toks) → AreModSegments true all seps l r → sees_sep l ≡ false

@@ -9,7 +9,7 @@ use Rattle.token_core.specs.Trees.{punct}
 use Rattle.token_core.specs.Rebuilt.{Visible}
 use Rattle.token_core.specs.Stream.{Stream}
 use Rattle.token_core.specs.Marks as marks
-use Rattle.token_core.specs.Loops.{Many, size, joined_from, joined}
+use Rattle.token_core.specs.Loops.{Many, size, joined_from, listed}
 use Rattle.token_core.specs.Reads.{sees_word, read_word, read_mark, any_text, ident_name}
 use Rattle.token_core.proofs.Turns.{chain, same_pair}
 use Rattle.token_core.proofs.Took.{branch, mapped, took_word, took_mark2, seen_word}
@@ -134,7 +134,7 @@ module _ {X : Type 0} where
       ]
 
   segments_sound : (s t : Stream) (v : Many (PathSegment X) Sep) → Visible s.rest → bare_segments Mod true s ≡ Ok (v, t) → Taken Segments s t v
-  unfolding bare_segments joined
+  unfolding bare_segments listed
   segments_sound s t v h e = segments_from (suc (size s.rest)) true s t v h e
 
   -- ---- the path

@@ -9,7 +9,7 @@ use Rattle.token_core.specs.Front.{front}
 use Rattle.token_core.specs.Stream.{Stream}
 use Rattle.token_core.specs.Marks as marks
 use Rattle.token_core.specs.Marks.{text_of}
-use Rattle.token_core.specs.Loops.{size, Many, after, is_first}
+use Rattle.token_core.specs.Loops.{size, Many, never, after, is_first}
 use Rattle.token_core.specs.Reads.{Reads, Outcome, as_word, sees_word, word_meets, read_word, read_mark, any_text, ident_name, is_ident, is_text}
 use Rattle.token_core.proofs.Turns as turns
 use Rattle.token_core.proofs.Turns.{word_takes, mark_keeps, chain, same_pair}
@@ -55,20 +55,20 @@ sep_keeps s t p e = let m = mapped (read_mark (marks.chars_of 1) (marks.mark_nam
 module _ {X : Type 0} (style : SegmentStyle) where
   pub turn_refused : (v : Many (PathSegment X) Sep) (b : Bool) (s : Stream) (e : Refusal) → bare_segment {X = X} style b s ≡ Err e → after v (bare_segments style b s) ≡ Err e
   unfolding bare_segments
-  turn_refused v b s e h = turns.turn_refused (bare_segment style) sees_sep sep (segment_takes style) sep_keeps v b s e h
+  turn_refused v b s e h = turns.turn_refused never (bare_segment style) sees_sep sep v b s e refl h
 
   pub turn_last : (v : Many (PathSegment X) Sep) (b : Bool) (s t : Stream) (x : PathSegment X) → bare_segment style b s ≡ Ok (x, t) → sees_sep t.rest ≡ false → after v (bare_segments style b s) ≡ Ok ((v.0 ++ x ∷ [], v.1), t)
   unfolding bare_segments
-  turn_last v b s t x h k = turns.turn_last (bare_segment style) sees_sep sep (segment_takes style) sep_keeps v b s t x h k
+  turn_last v b s t x h k = turns.turn_last never (bare_segment style) sees_sep sep v b s t x refl h k
 
   pub turn_stuck : (v : Many (PathSegment X) Sep) (b : Bool) (s t : Stream) (x : PathSegment X) (e : Refusal) → bare_segment style b s ≡ Ok (x, t) → sees_sep t.rest ≡ true → sep t ≡ Err e → after v (bare_segments style b s) ≡ Err e
   unfolding bare_segments
-  turn_stuck v b s t x e h k g = turns.turn_stuck (bare_segment style) sees_sep sep (segment_takes style) sep_keeps v b s t x e h k g
+  turn_stuck v b s t x e h k g = turns.turn_stuck never (bare_segment style) sees_sep sep v b s t x e refl h k g
 
   pub turn_on : (v : Many (PathSegment X) Sep) (b : Bool) (s t u : Stream) (x : PathSegment X) (p : Sep) → bare_segment style b s ≡ Ok (x, t) → sees_sep t.rest ≡ true → sep t ≡ Ok (p, u) →
       after v (bare_segments style b s) ≡ after (v.0 ++ x ∷ [], v.1 ++ p ∷ []) (bare_segments style false u)
   unfolding bare_segments
-  turn_on v b s t u x p h k g = turns.turn_on (bare_segment style) sees_sep sep (segment_takes style) sep_keeps v b s t u x p h k g
+  turn_on v b s t u x p h k g = turns.turn_on never (bare_segment style) sees_sep sep (segment_takes style) sep_keeps v b s t u x p refl h k g
 
 leading_keeps : (s t : Stream) (o : Option Sep) → leading s ≡ Ok (o, t) → size t.rest ≤ size s.rest
 unfolding leading
