@@ -1,10 +1,10 @@
 //! Macro calls.
 
 ghost use Rattle.std.specs.Prelude.{◌≡◌, ◌++◌, false, IfOk, OnOk, OnErr};
-ghost use Rattle.token_core.specs.Trees.{trees};
+ghost use Rattle.token_core.specs.Trees.{trees, toks};
 ghost use Rattle.token_core.specs.Prints as prints;
 ghost use Rattle.token_core.specs.Prints.{Extends};
-ghost use Rattle.token_core.specs.Reads.{Reads, Follows, Gives, Fails};
+ghost use Rattle.token_core.specs.Reads.{Reads, Follows, Gives, Fails, WholeRead, Promised};
 ghost use Rattle.token_core.specs.Headline.{Headline, Heads};
 ghost use Rattle.token_core.specs.Rebuilt.{Visible};
 ghost use Rattle.syn_mid.specs.mac.Grammars as grammars;
@@ -18,7 +18,8 @@ use crate::supplied::Subtree;
 use std::alloc::{AllocError, Global};
 use token_core::token::{Brace, Bracket, Not, Paren, surround};
 use token_core::{
-    DelimSpan, Delimiter, Error, ErrorKind, Parse, ParseStream, ToTokens, TokenStream,
+    ByParse, DelimSpan, Delimiter, Error, ErrorKind, Parse, ParseStream, Parser, ToTokens,
+    TokenStream, read_scoped,
 };
 
 /// A macro call: a path of mod style, `!`, and a group.
@@ -127,6 +128,29 @@ impl<X: Subtree> Parse for Macro<X> {
         ensures promise { Heads grammars.mac input.old result input.new }
     {
         parse_macro(alloc, input)
+    }
+}
+
+impl<X> Macro<X> {
+    /// A whole read of the body; refusals at its end point at the closing delimiter.
+    pub fn parse_body<T: Parse>(&self, alloc: Global) -> Result<T, Error>
+        ensures reads { WholeRead T.reads T.refuses (spec.held self.now.delimiter self.now.tokens) result }
+        ensures promise { Promised (T.promise (toks self.now.tokens)) result }
+    {
+        self.parse_body_with(alloc, ByParse::<T>::new())
+    }
+
+    /// The same by a parser.
+    pub fn parse_body_with<P: Parser + Drop>(
+        &self,
+        alloc: Global,
+        parser: P,
+    ) -> Result<P::Output, Error>
+        requires { P.can_parse parser }
+        ensures reads { WholeRead (P.reads parser) (P.refuses parser) (spec.held self.now.delimiter self.now.tokens) result }
+        ensures promise { Promised (P.promise parser (toks self.now.tokens)) result }
+    {
+        read_scoped(parser, alloc, self.delimiter.span().close(), &self.tokens)
     }
 }
 

@@ -5,6 +5,8 @@ use Rattle.token_core.specs.declared.span.DelimSpan.{DelimSpan}
 use Rattle.token_core.specs.declared.tree.Delimiter.{Delimiter}
 use Rattle.token_core.specs.declared.tree.Delimiter.TheVariants.{Parenthesis, Brace, Bracket}
 use Rattle.token_core.specs.declared.tree.TokenStream.{TokenStream}
+use Rattle.token_core.specs.Stream.{Stream, started}
+use Rattle.token_core.specs.Trees.{toks}
 use Rattle.syn_mid.specs.declared.path.Path.{Path}
 use Rattle.syn_mid.specs.declared.mac.Macro.{Macro}
 use Rattle.syn_mid.specs.declared.mac.MacroDelimiter.{MacroDelimiter}
@@ -33,3 +35,7 @@ Held = MacroDelimiter × TokenStream
 
 abbrev pub macro_of : {X : Type 0} → Path X → Bang → Held → Macro X
 macro_of p b h = record { path = p; bang_token = b; delimiter = h.0; tokens = h.1 }
+
+-- the stream of a held list: refusals at its end point at the closing delimiter
+abbrev pub held : MacroDelimiter → TokenStream → Stream
+held d s = started (span_of d).closing (toks s)
