@@ -19,7 +19,7 @@ use std::alloc::{AllocError, Global};
 use std::marker::PhantomData;
 use token_core::token::{Crate, Gt, Lt, Paren, PathSep, SelfType, SelfValue, Super};
 use token_core::{
-    Error, ErrorKind, Ident, Lit, ParseStream, Punctuated, Span, ToTokens, Token, TokenStream,
+    Error, ErrorKind, Ident, Lit, ParseStream, Punctuated, Span, Text, ToTokens, Token, TokenStream,
 };
 
 /// A path: an optional leading `::`, and segments joined by `::`.
@@ -207,6 +207,29 @@ impl<X> Path<X> {
             None => false,
         }
     }
+}
+
+/// A text with the path's identifiers in it, joined by `::`, after a leading `::` if the path has one.
+#[tactic(auto, using(crate::proofs::path_laws::Texts::texts))]
+pub(crate) fn text_around<X>(
+    alloc: Global,
+    before: &str,
+    path: &Path<X>,
+    after: &str,
+) -> Result<Text, AllocError>
+    ensures { IfOk result (λ t. t ≡ before.now ++ (spec.path_text path.now ++ after.now)) }
+{
+    let mut text = Text::from_str(alloc, before)?;
+    let mut joins = path.leading_colon.is_some();
+    for segment in path.segments.iter() {
+        if joins {
+            text.push("::")?;
+        }
+        text.push(segment.ident.text())?;
+        joins = true;
+    }
+    text.push(after)?;
+    Ok(text)
 }
 
 impl<X> PathSegment<X> {

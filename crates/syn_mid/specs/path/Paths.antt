@@ -1,5 +1,5 @@
 -- Paths by their parts.
-use Rattle.std.specs.Prelude.{◌≡◌, Bool, true, false, List, [], ◌∷◌, Option, Some, None, slice_get, refl}
+use Rattle.std.specs.Prelude.{true, false, ◌++◌, codes, is_some, ◌≡◌, Bool, true, false, List, [], ◌∷◌, Option, Some, None, slice_get, refl}
 use Rattle.std.specs.Str.{bytes_eq}
 use Rattle.token_core.specs.declared.tree.Ident.{Ident}
 use Rattle.token_core.specs.declared.span.Span.{Span}
@@ -73,6 +73,16 @@ module _ {X : Type 0} where
   abbrev pub last_span : List (PathSegment X) → Span → Span
   last_span [] s = s
   last_span (x ∷ xs) s = last_span xs x.ident.span
+
+  -- the identifiers with `::` before each, but for the first perhaps
+  abbrev pub idents_text : Bool → List (PathSegment X) → Bytes
+  idents_text joins [] = []
+  idents_text true (x ∷ l) = codes "::" ++ (x.ident.text ++ idents_text true l)
+  idents_text false (x ∷ l) = x.ident.text ++ idents_text true l
+
+  -- the identifiers joined by `::`, after a leading `::` if there is one
+  abbrev pub path_text : Path X → Bytes
+  path_text p = idents_text (is_some p.leading_colon) p.segments.0
 
   -- the refusal of a path that is no identifier
   abbrev pub no_ident : Path X → Refusal
