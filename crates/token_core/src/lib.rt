@@ -22,6 +22,8 @@ mod tests;
 mod text;
 mod to_tokens;
 pub mod token;
+#[cfg(test)]
+mod token_tests;
 mod tree;
 pub mod verbatim;
 mod word;
