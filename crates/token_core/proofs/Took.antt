@@ -1,5 +1,5 @@
 -- What a read took of a list without invisible groups, where it answers.
-use Rattle.std.proofs.Common.{◌≡◌, ℕ, Bool, true, false, ◌==◌, if◌then◌else◌, List, [], ◌∷◌, Option, Some, None, Ok, Err, ◌⊎◌, inl, inr, refl, sym, ◌∙◌, ap}
+use Rattle.std.proofs.Common.{◌≡◌, ℕ, zero, suc, ◌<◌, ◌≤◌, arith, subst, Bool, true, false, ◌==◌, if◌then◌else◌, List, [], ◌∷◌, Option, Some, None, Ok, Err, ◌⊎◌, inl, inr, refl, sym, ◌∙◌, ap}
 use Rattle.std.proofs.lemmas.Bool.{eqb-true}
 use Rattle.token_core.specs.declared.tree.Spacing.{Spacing}
 use Rattle.token_core.specs.declared.tree.Spacing.TheVariants.{Joint, Alone}
@@ -13,7 +13,8 @@ use Rattle.token_core.specs.Trees.{punct}
 use Rattle.token_core.specs.Rebuilt.{Visible, stream_of}
 use Rattle.token_core.specs.Stream.{Stream}
 use Rattle.token_core.specs.Reads.{Reader, Outcome, Body, and_then, pure, past, past_mark, put_first, three, is_joint, sees_word, read_word, next_word, read_mark, delimited, leaves, is_done, first_of, goes_on, expected}
-use Rattle.token_core.proofs.Turns.{same_pair}
+use Rattle.token_core.specs.Loops.{size, Many, never, joined_from, joined, listed, one, put}
+use Rattle.token_core.proofs.Turns.{chain, same_pair}
 
 -- a stream by its parts
 abbrev pub at : Toks → Option Span → Span → Span → Stream
@@ -220,3 +221,28 @@ took_all t v h = ended_at t.rest t.left t.last t.scope v h
 pub leaves_none : (f : Option Span) (e sc : Span) → f ≡ None → leaves (at done f e sc) ≡ None
 unfolding is_done
 leaves_none f e sc h = ap (λ z. first_of z None) h
+
+-- ---- values joined by a mark
+
+module _ {A P : Type 0} (value : Bool → Reader A) (more : Toks → Bool) (joint : Reader P)
+    (takes : (b : Bool) (s t : Stream) (x : A) → value b s ≡ Ok (x, t) → size t.rest < size s.rest)
+    (keeps : (s t : Stream) (p : P) → joint s ≡ Ok (p, t) → size t.rest ≤ size s.rest) where
+  from_takes : (n : ℕ) (b : Bool) (s t : Stream) (v : Many A P) → joined_from value more joint n b s ≡ Ok (v, t) → size t.rest < size s.rest
+  from_takes zero b s t v e = cc
+  from_takes (suc n) b s t v e =
+      let c = chain (value b s) _ v t e in
+      let less = takes b s c.rest c.value c.was in
+      elim (branch (more c.rest.rest) _ _ c.rest (Ok (v, t)) c.goes) [
+        | inl y ↦ let d = chain (joint c.rest) _ v t y.1 in
+            let le = keeps c.rest d.rest d.value d.was in
+            let f = chain (joined_from value more joint n false d.rest) _ v t d.goes in
+            let i = from_takes n false d.rest f.rest f.value f.was in
+            let g = same_pair (put never value more joint c.value d.value f.value) v f.rest t f.goes in
+            subst (λ (z : Stream). size z.rest < size s.rest) g.1 (omega (arith, less, le, i))
+        | inr y ↦ let g = same_pair (one never value more joint c.value) v c.rest t y.1 in subst (λ (z : Stream). size z.rest < size s.rest) g.1 less
+      ]
+
+  -- they take a token
+  pub joined_takes : (b : Bool) (s t : Stream) (v : Many A P) → joined value more joint b s ≡ Ok (v, t) → size t.rest < size s.rest
+  unfolding listed
+  joined_takes b s t v e = from_takes (suc (size s.rest)) b s t v e

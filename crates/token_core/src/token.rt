@@ -7,7 +7,7 @@ ghost use Rattle.token_core.specs.Groups as groups;
 ghost use Rattle.token_core.specs.Marks as marks;
 ghost use Rattle.token_core.specs.Prints as prints;
 ghost use Rattle.token_core.specs.Reads as spec;
-ghost use Rattle.token_core.specs.Reads.{Reads, Parsed, Follows, Gives, Fails};
+ghost use Rattle.token_core.specs.Reads.{Reads, Parsed, Keeps, Follows, Gives, Fails};
 ghost use Rattle.token_core.specs.Spans as spans;
 
 use crate::error::Error;
@@ -197,7 +197,12 @@ impl<const N: u32, const LEN: usize> Parse for Mark<N, LEN> {
     ghost refuses = { Fails (marks.read N LEN) };
 
     #[tactic(auto, using(crate::specs::Reads::no_promise))]
-    fn parse(alloc: Global, input: &mut ParseStream<'_>) -> Result<Mark<N, LEN>, Error> {
+    fn parse(alloc: Global, input: &mut ParseStream<'_>) -> Result<Mark<N, LEN>, Error>
+        ensures reads { Parsed (Gives (marks.read N LEN) input.old) (Fails (marks.read N LEN) input.old) result input.new }
+        ensures within { Follows input.old input.new }
+        ensures promise { Keeps (λ _ _. Unit {0}) input.old result input.new }
+        ensures same { OnErr result (input.new ≡ input.old) }
+    {
         let spans = input.read_mark(alloc, mark_chars(N), mark_name(N))?;
         Ok(Mark {
             spans: spread(spans),
