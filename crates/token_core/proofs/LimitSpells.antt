@@ -1,5 +1,5 @@
 -- The limits of a range are read where they stand, and print themselves.
-use Rattle.std.proofs.Common.{◌≡◌, Bool, true, false, ◌&&◌, ◌||◌, not, [], ◌∷◌, Option, Ok, inl, inr, refl, ◌∙◌, ap, subst, arith}
+use Rattle.std.proofs.Common.{◌≡◌, Bool, true, false, ◌&&◌, not, Option, Ok, inl, inr, refl, ◌∙◌, ap, subst, arith}
 use Rattle.token_core.specs.declared.span.Span.{Span}
 use Rattle.token_core.specs.declared.range.RangeLimits.{RangeLimits}
 use Rattle.token_core.specs.declared.range.RangeLimits.TheVariants as x
@@ -7,10 +7,9 @@ use Rattle.token_core.specs.Toks.{Toks}
 use Rattle.token_core.specs.Trees.{row}
 use Rattle.token_core.specs.Rebuilt.{Visible}
 use Rattle.token_core.specs.Stream.{Stream}
-use Rattle.token_core.specs.Clear.{is_glued}
 use Rattle.token_core.specs.Marks as marks
 use Rattle.token_core.specs.Reads.{sees_mark}
-use Rattle.token_core.specs.Ranges.{DotDot, DotDotEq, sees_dot2, sees_dot3, sees_dot2_eq, no_limits, read, closed_by, read_obsolete, print}
+use Rattle.token_core.specs.Ranges.{DotDotEq, sees_dot2, sees_dot3, sees_dot2_eq, no_limits, read, closed_by, read_obsolete, print}
 use Rattle.token_core.specs.Spellings.{last_char, more_chars, IsMark, is_mark, AreLimits, half_open, closed, AreOldLimits, new_limits, old_limits}
 use Rattle.token_core.proofs.Took.{at, branch, mapped}
 use Rattle.token_core.proofs.Steps.{Reads_to, link, chosen}

@@ -4,14 +4,10 @@ use Rattle.token_core.specs.declared.tree.Delimiter.{Delimiter}
 use Rattle.token_core.specs.declared.tree.Ident.{Ident}
 use Rattle.token_core.specs.declared.tree.Punct.{Punct}
 use Rattle.token_core.specs.declared.tree.Literal.{Literal}
-use Rattle.token_core.specs.declared.tree.Spacing.{Spacing}
-use Rattle.token_core.specs.declared.span.Span.{Span}
 use Rattle.token_core.specs.declared.span.DelimSpan.{DelimSpan}
 use Rattle.token_core.specs.declared.mark.Spans.{Spans}
 use Rattle.token_core.specs.declared.mark.Mark.{Mark}
 use Rattle.token_core.specs.Toks.{Bytes, Toks, done, word, mark, lit, group}
-use Rattle.token_core.specs.Trees.{punct}
-use Rattle.token_core.specs.Clear.{is_glued}
 use Rattle.token_core.specs.Marks.{chars_of}
 use Rattle.token_core.specs.Lifetimes.{sees_lifetime}
 use Rattle.token_core.specs.Reads.{past_mark, past_next, is_last, three, put_first, is_joint, sees_mark, sees_word, sees_group}
@@ -42,9 +38,9 @@ pub no_mark-other : (c : ℕ) (cs : List ℕ) (p : Punct) (r : Toks) → (p.ch =
 unfolding sees_mark
 no_mark-other c cs p r e = by_last (is_last cs)
   where
-    by_last : (last : Bool) → is_some (past_next c last (past_mark cs) (Some (p, r))) ≡ false
-    by_last true = ap (λ (b : Bool). is_some (if b then Some (three p.span p.span p.span, r) else None)) e
-    by_last false = ap (λ (b : Bool). is_some (if b then (if is_joint p.spacing then put_first p.span (past_mark cs r) else None) else None)) e
+    by_last : (last : Bool) → let o : Option (Spans × Toks) = past_next c last (past_mark cs) (Some (p, r)) in is_some o ≡ false
+    by_last true = ap (λ (b : Bool). let o : Option (Spans × Toks) = if b then Some (three p.span p.span p.span, r) else None in is_some o) e
+    by_last false = ap (λ (b : Bool). let o : Option (Spans × Toks) = if b then (if is_joint p.spacing then put_first p.span (past_mark cs r) else None) else None in is_some o) e
 
 -- ---- words, lifetimes and groups
 
