@@ -292,7 +292,7 @@ fn literals_are_read(rt: HostRuntime) -> Result<(), Fail> {
         let buffer = TokenBuffer::new(alloc, &list)?;
         let mut input = ParseStream::new(&buffer, Span::none());
         assert!(rt; input.peek::<Lit>(), "{text}");
-        assert_eq!(rt; input.peek::<LitStr>(), kind == LitKind::Str, "{text}");
+        assert!(rt; input.peek::<LitStr>() == (kind == LitKind::Str));
         let lit = read(input.parse::<Lit>(alloc))?;
         assert!(rt;
             lit.kind() == LitSort::Literal(kind) && lit.text() == text,
