@@ -26,3 +26,4 @@ pub mod LitSpells
 pub mod MemberSpells
 pub mod LimitSpells
 pub mod Invisibles
+pub mod Unseen

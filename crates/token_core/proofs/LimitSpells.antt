@@ -1,5 +1,5 @@
 -- The limits of a range are read where they stand, and print themselves.
-use Rattle.std.proofs.Common.{◌≡◌, Bool, true, false, ◌&&◌, ◌||◌, not, [], ◌∷◌, Option, Ok, inl, inr, refl, ◌∙◌, ap, subst, arith}
+use Rattle.std.proofs.Common.{◌≡◌, Bool, true, false, ◌&&◌, not, Option, Ok, inl, inr, refl, ◌∙◌, ap, subst, arith}
 use Rattle.token_core.specs.declared.span.Span.{Span}
 use Rattle.token_core.specs.declared.range.RangeLimits.{RangeLimits}
 use Rattle.token_core.specs.declared.range.RangeLimits.TheVariants as x
@@ -7,14 +7,14 @@ use Rattle.token_core.specs.Toks.{Toks}
 use Rattle.token_core.specs.Trees.{row}
 use Rattle.token_core.specs.Rebuilt.{Visible}
 use Rattle.token_core.specs.Stream.{Stream}
-use Rattle.token_core.specs.Clear.{is_glued}
 use Rattle.token_core.specs.Marks as marks
 use Rattle.token_core.specs.Reads.{sees_mark}
-use Rattle.token_core.specs.Ranges.{DotDot, DotDotEq, sees_dot2, sees_dot3, sees_dot2_eq, no_limits, read, closed_by, read_obsolete, print}
+use Rattle.token_core.specs.Ranges.{DotDotEq, sees_dot2, sees_dot3, sees_dot2_eq, no_limits, read, closed_by, read_obsolete, print}
 use Rattle.token_core.specs.Spellings.{last_char, more_chars, IsMark, is_mark, AreLimits, half_open, closed, AreOldLimits, new_limits, old_limits}
 use Rattle.token_core.proofs.Took.{at, branch, mapped}
 use Rattle.token_core.proofs.Steps.{Reads_to, link, chosen}
-use Rattle.token_core.proofs.MarkSpells.{Taken, mark_sound, mark_complete, mark_seen, mark_print, mark_length, mark_again, mark_visible, mark_whole, longer_unseen}
+use Rattle.token_core.proofs.Unseen.{dots_apart, dots_no_eq}
+use Rattle.token_core.proofs.MarkSpells.{Taken, mark_sound, mark_complete, mark_seen, mark_print, mark_length, mark_again, mark_visible, mark_whole}
 
 -- ---- sound
 
@@ -48,27 +48,6 @@ old_limits_sound s t l v e =
 
 -- ---- complete
 
-or_left : (a b : Bool) → (a || b) ≡ false → a ≡ false
-or_left true b e = cc
-or_left false b e = refl
-
-or_right : (a b : Bool) → (a || b) ≡ false → b ≡ false
-or_right true b e = cc
-or_right false b e = e
-
--- after a clear `..` neither a dot nor `=` makes it longer
-no_dot : (r : Toks) → is_glued (46 ∷ 46 ∷ []) r ≡ false → sees_mark (46 ∷ []) r ≡ false
-no_dot r e = or_left (sees_mark (46 ∷ []) r) _ e
-
-no_eq : (r : Toks) → is_glued (46 ∷ 46 ∷ []) r ≡ false → sees_mark (61 ∷ []) r ≡ false
-no_eq r e = or_left (sees_mark (61 ∷ []) r) _ (or_right (sees_mark (46 ∷ []) r) _ e)
-
-dots3_unseen : (d : DotDot) (l r : Toks) → IsMark true d l r → sees_dot3 l ≡ false
-dots3_unseen d l r (is_mark {ss = ss} i) = longer_unseen true (46 ∷ 46 ∷ []) 46 (46 ∷ []) 46 [] ss l r i refl (no_dot r)
-
-dots_eq_unseen : (d : DotDot) (l r : Toks) → IsMark true d l r → sees_dot2_eq l ≡ false
-dots_eq_unseen d l r (is_mark {ss = ss} i) = longer_unseen true (46 ∷ 46 ∷ []) 46 (46 ∷ []) 61 [] ss l r i refl (no_eq r)
-
 -- `..=` is not `...`
 eq_not_dots3 : (clear : Bool) (d : DotDotEq) (l r : Toks) → IsMark clear d l r → sees_dot3 l ≡ false
 unfolding sees_mark
@@ -78,14 +57,14 @@ pub limits_complete : (y : RangeLimits) (l r : Toks) (f : Option Span) (e sc : S
 unfolding read
 limits_complete y l r f e sc (half_open {d = d} i) =
     let q = mark_complete true {n = 8} {k = 2} refl (omega arith) d l r f e sc i in
-    let seen : (sees_dot2 l && not (sees_dot3 l)) ≡ true = ap (λ b. b && not (sees_dot3 l)) (mark_seen true {n = 8} {k = 2} d l r i) ∙ ap not (dots3_unseen d l r i) in
-    record { last = q.last; reads = chosen (sees_dot2_eq l) false _ _ (at l f e sc) _ (dots_eq_unseen d l r i) (chosen (sees_dot2 l && not (sees_dot3 l)) true _ _ (at l f e sc) _ seen (link _ q.reads refl)) }
+    let seen : (sees_dot2 l && not (sees_dot3 l)) ≡ true = ap (λ b. b && not (sees_dot3 l)) (mark_seen true {n = 8} {k = 2} d l r i) ∙ ap not (dots_apart d l r i) in
+    record { last = q.last; reads = chosen (sees_dot2_eq l) false _ _ (at l f e sc) _ (dots_no_eq d l r i) (chosen (sees_dot2 l && not (sees_dot3 l)) true _ _ (at l f e sc) _ seen (link _ q.reads refl)) }
 limits_complete y l r f e sc (closed {d = d} i) =
     let q = mark_complete true {n = 10} {k = 3} refl (omega arith) d l r f e sc i in
     record { last = q.last; reads = chosen (sees_dot2_eq l) true _ _ (at l f e sc) _ (mark_seen true {n = 10} {k = 3} d l r i) (link _ q.reads refl) }
 
 limits_not_old : (y : RangeLimits) (l r : Toks) → AreLimits true y l r → sees_dot3 l ≡ false
-limits_not_old y l r (half_open {d = d} i) = dots3_unseen d l r i
+limits_not_old y l r (half_open {d = d} i) = dots_apart d l r i
 limits_not_old y l r (closed {d = d} i) = eq_not_dots3 true d l r i
 
 pub old_limits_complete : (y : RangeLimits) (l r : Toks) (f : Option Span) (e sc : Span) → AreOldLimits true y l r → Reads_to read_obsolete y l r f e sc

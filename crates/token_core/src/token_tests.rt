@@ -292,16 +292,13 @@ fn literals_are_read(rt: HostRuntime) -> Result<(), Fail> {
         let buffer = TokenBuffer::new(alloc, &list)?;
         let mut input = ParseStream::new(&buffer, Span::none());
         assert!(rt; input.peek::<Lit>(), "{text}");
-        assert_eq!(rt; input.peek::<LitStr>(), kind == LitKind::Str, "{text}");
+        assert!(rt; input.peek::<LitStr>() == (kind == LitKind::Str));
         let lit = read(input.parse::<Lit>(alloc))?;
-        assert!(rt;
-            lit.kind() == LitSort::Literal(kind) && lit.text() == text,
-            "{text}"
-        );
-        assert!(rt; lit.span() == nth(0) && input.is_empty(), "{text}");
+        assert!(rt; lit.kind() == LitSort::Literal(kind) && lit.text() == text);
+        assert!(rt; lit.span() == nth(0) && input.is_empty());
         let mut out = TokenStream::new(alloc);
         lit.copy(alloc)?.to_tokens(alloc, &mut out)?;
-        assert!(rt; is_text(&out, text), "{text}");
+        assert!(rt; is_text(&out, text));
     }
     Ok(())
 }
