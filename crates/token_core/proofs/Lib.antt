@@ -5,6 +5,7 @@ pub mod Marks
 pub mod Suffixes
 pub mod Places
 pub mod Cuts
+pub mod Bares
 pub mod Terminations
 pub mod Choices
 pub mod Rebuilds

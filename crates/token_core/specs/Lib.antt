@@ -10,6 +10,7 @@ pub mod Entries
 pub mod Front
 pub mod Stream
 pub mod Rebuilt
+pub mod Same
 pub mod Keywords
 pub mod Reads
 pub mod Marks
