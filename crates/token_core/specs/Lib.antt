@@ -18,6 +18,7 @@ pub mod Prints
 pub mod ByFns
 pub mod Joined
 pub mod Lists
+pub mod Lent
 pub mod Groups
 pub mod Looks
 pub mod Terminated

@@ -31,7 +31,7 @@ pub use lookahead::Lookahead;
 pub use mark::{Mark, Spans};
 pub use parse::{ByFn, ByParse, Parse, Parser, Token, read_all, read_all_with, read_scoped};
 pub use parse_stream::ParseStream;
-pub use punctuated::{Iter, Pair, Pairs, Punctuated};
+pub use punctuated::{Iter, IterMut, Pair, Pairs, Punctuated};
 pub use span::{DelimSpan, Span};
 pub use text::Text;
 pub use to_tokens::{Spanned, ToTokens};
