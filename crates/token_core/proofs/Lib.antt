@@ -14,6 +14,7 @@ pub mod Puts
 pub mod Turns
 pub mod Steps
 pub mod Listings
+pub mod Name_lists
 pub mod Headlines
 pub mod Took
 pub mod Rows

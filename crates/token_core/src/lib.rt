@@ -14,6 +14,8 @@ mod parse_stream;
 mod punctuated;
 mod span;
 #[cfg(test)]
+mod stream_tests;
+#[cfg(test)]
 mod tests;
 mod text;
 mod to_tokens;

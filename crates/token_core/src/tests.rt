@@ -18,7 +18,7 @@ use std::process::Abort;
 use std::test::Fail;
 
 /// The span of a piece, by its number from 0; the characters of a mark are numbered in `hi`.
-fn nth(n: usize) -> Span {
+pub(crate) fn nth(n: usize) -> Span {
     Span::new(n, 0)
 }
 
@@ -55,7 +55,7 @@ fn put(alloc: Global, list: &mut TokenStream, piece: &str, n: usize) -> Result<(
     }
 }
 
-fn tokens(alloc: Global, text: &str) -> Result<TokenStream, AllocError> {
+pub(crate) fn tokens(alloc: Global, text: &str) -> Result<TokenStream, AllocError> {
     let mut list = TokenStream::new(alloc);
     let mut outer = Vec::new(alloc);
     for (n, piece) in text.split_whitespace().enumerate() {
@@ -78,21 +78,21 @@ fn tokens(alloc: Global, text: &str) -> Result<TokenStream, AllocError> {
 }
 
 /// What was read.
-fn read<T>(outcome: Result<T, Error>) -> Result<T, &'static str> {
+pub(crate) fn read<T>(outcome: Result<T, Error>) -> Result<T, &'static str> {
     match outcome {
         Ok(value) => Ok(value),
         Err(error) => Err(error.kind().text()),
     }
 }
 
-fn refusal<T: Drop>(outcome: Result<T, Error>) -> Result<Error, &'static str> {
+pub(crate) fn refusal<T: Drop>(outcome: Result<T, Error>) -> Result<Error, &'static str> {
     match outcome {
         Ok(_) => Err("it is read"),
         Err(error) => Ok(error),
     }
 }
 
-fn says(rt: &impl Abort, error: &Error, kind: ErrorKind, text: &str, at: Span) {
+pub(crate) fn says(rt: &impl Abort, error: &Error, kind: ErrorKind, text: &str, at: Span) {
     assert_eq!(rt; error.text(), text);
     assert!(rt; error.kind() == kind, "the kind of {text}");
     assert!(rt;
