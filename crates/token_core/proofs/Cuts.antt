@@ -1,6 +1,6 @@
 -- The trees between two positions, tree by tree.
 use Rattle.std.specs.Prelude.{◌⊎◌, nat_lt}
-use Rattle.std.proofs.Common.{◌≡◌, ℕ, zero, suc, ◌+◌, ◌-◌, ◌<◌, ◌≤◌, Bool, true, false, List, [], ◌∷◌, ◌++◌, map, Option, Some, None, inl, inr, refl, sym, ◌∙◌, ap, subst, arith, append_assoc, append-nil}
+use Rattle.std.proofs.Common.{◌≡◌, ℕ, suc, ◌-◌, ◌<◌, ◌≤◌, Bool, true, false, List, [], ◌∷◌, ◌++◌, map, inl, inr, refl, sym, ◌∙◌, ap, subst, arith, append_assoc, append-nil}
 use Rattle.std.proofs.lemmas.Bool.{ltb-true, ltb-false}
 use Rattle.token_core.specs.declared.tree.Delimiter.{Delimiter}
 use Rattle.token_core.specs.declared.tree.Delimiter.TheVariants as d
@@ -21,12 +21,12 @@ use Rattle.token_core.specs.Rebuilt.{Levels, onto, invisible, stream_of, Visible
 use Rattle.token_core.specs.Reads.{IsSuffix, all_of, past_word, past_punct, past_lit, past_group, past_enter, past_leave}
 use Rattle.token_core.specs.Loops.{size}
 use Rattle.token_core.specs.Positions.{has_tree, is_before, Beside}
-use Rattle.token_core.specs.Cut.{first, up_to, closed, parts, joined, all_parts, trees_between, kept, past_bound}
+use Rattle.token_core.specs.Cut.{first, up_to, closed, parts, joined, all_parts, trees_between, past_bound}
 use Rattle.token_core.proofs.Flats.{tree-roll, group-roll, stream-roll}
 use Rattle.token_core.proofs.Rebuilds.{stream_of-toks, tree-ident, tree-punct, tree-literal, visible-tree, toks-stream_of}
 use Rattle.token_core.proofs.Suffixes.{suffix_trans}
 use Rattle.token_core.proofs.Turns.{size_suffix}
-use Rattle.token_core.proofs.Places.{Reached, reached}
+use Rattle.token_core.proofs.Places.{reached}
 
 -- ---- the first tokens are those of some trees, and then come the second
 

@@ -3,6 +3,7 @@ pub mod Fronts
 pub mod Fills
 pub mod Marks
 pub mod Suffixes
+pub mod Tables
 pub mod Places
 pub mod Cuts
 pub mod Bares
@@ -18,3 +19,12 @@ pub mod Name_lists
 pub mod Headlines
 pub mod Took
 pub mod Rows
+pub mod lifetime_laws
+pub mod lit_laws
+pub mod member_laws
+pub mod MarkSpells
+pub mod WordSpells
+pub mod LitSpells
+pub mod MemberSpells
+pub mod LimitSpells
+pub mod Invisibles

@@ -1,5 +1,5 @@
 -- Values joined by marks: where they are read, they are spelt; where they are spelt, they are read; and their print spells them.
-use Rattle.std.proofs.Common.{◌≡◌, ℕ, zero, suc, ◌<◌, ◌≤◌, Bool, true, false, List, [], ◌∷◌, ◌++◌, map, Option, Some, None, Ok, inl, inr, refl, sym, ◌∙◌, ap, subst, arith}
+use Rattle.std.proofs.Common.{◌≡◌, ℕ, zero, suc, ◌<◌, ◌≤◌, Bool, true, false, List, [], ◌∷◌, ◌++◌, map, Option, Ok, inl, inr, refl, sym, ◌∙◌, ap, subst, arith}
 use Rattle.token_core.specs.declared.span.Span.{Span}
 use Rattle.token_core.specs.Toks.{Toks}
 use Rattle.token_core.specs.Trees.{row}
@@ -8,7 +8,7 @@ use Rattle.token_core.specs.Stream.{Stream}
 use Rattle.token_core.specs.Rebuilt.{Visible}
 use Rattle.token_core.specs.Reads.{Reader}
 use Rattle.token_core.specs.Lists as lists
-use Rattle.token_core.specs.Loops.{size, Many, listed_from, listed, none, one, put}
+use Rattle.token_core.specs.Loops.{size, Many, listed_from, listed}
 use Rattle.token_core.specs.Listed.{AreListed, none_left, last_value, value_and_mark}
 use Rattle.token_core.proofs.Rows.{row-append}
 use Rattle.token_core.proofs.Steps.{link, chosen, Reads_to}
@@ -49,14 +49,14 @@ module _ {A P : Type 0} (stops : Bool → Toks → Bool) (value : Bool → Reade
                   let i = sound_from n false d.rest f.rest f.value hd f.was in
                   at_answer b (c.value ∷ f.value.0, d.value ∷ f.value.1) v s f.rest t (same_both _ v f.rest t (same_pair _ v f.rest t f.goes))
                   (λ k.
-                    let q = i k in
-                    let m = took_mark c.rest d.rest d.value hc z.0 d.was q.0 in
-                    let w = took_value b s c.rest c.value h y.0 c.was m.0 in
-                    (w.0, value_and_mark w.1 m.1 q.1))
+                  let q = i k in
+                  let m = took_mark c.rest d.rest d.value hc z.0 d.was q.0 in
+                  let w = took_value b s c.rest c.value h y.0 c.was m.0 in
+                  (w.0, value_and_mark w.1 m.1 q.1))
               | inr z ↦ at_answer b (c.value ∷ [], []) v s c.rest t (same_both _ v c.rest t (same_pair _ v c.rest t z.1))
                   (λ k.
-                    let w = took_value b s c.rest c.value h y.0 c.was k in
-                    (w.0, last_value w.1))
+                  let w = took_value b s c.rest c.value h y.0 c.was k in
+                  (w.0, last_value w.1))
             ]
       ]
 

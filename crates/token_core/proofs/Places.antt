@@ -1,5 +1,5 @@
 -- Positions: the tree that stands there, and how many entries are left.
-use Rattle.std.proofs.Common.{◌≡◌, ◌≢◌, ℕ, zero, suc, ◌+◌, ◌<◌, ◌≤◌, Bool, true, false, List, [], ◌∷◌, ◌++◌, map, length, take, drop, inl, inr, refl, sym, ◌∙◌, ap, subst, arith, add-one}
+use Rattle.std.proofs.Common.{◌≡◌, ℕ, zero, suc, ◌+◌, ◌<◌, ◌≤◌, List, [], ◌∷◌, ◌++◌, map, length, take, drop, inl, inr, refl, sym, ◌∙◌, ap, subst, arith}
 use Rattle.std.proofs.lemmas.List.{length-take, length-drop, drop-map, take-append-drop}
 use Rattle.token_core.specs.declared.tree.Delimiter.{Delimiter}
 use Rattle.token_core.specs.declared.tree.Delimiter.TheVariants as d
@@ -9,7 +9,7 @@ use Rattle.token_core.specs.declared.tree.TokenTree.TheOpen as o
 use Rattle.token_core.specs.declared.tree.Group.{Group}
 use Rattle.token_core.specs.declared.tree.TokenStream.{TokenStream}
 use Rattle.token_core.specs.declared.buffer.Entry.{Entry}
-use Rattle.token_core.specs.Toks.{Toks, done, word, mark, lit, group, enter, leave}
+use Rattle.token_core.specs.Toks.{Toks, done}
 use Rattle.token_core.specs.Trees.{delimiter_of, span_of, content_of}
 use Rattle.token_core.specs.Trees as s
 use Rattle.token_core.specs.Seen.{Seen, view, saw_word, saw_mark, saw_lit, saw_group, saw_enter, saw_leave, saw_delimiter, view-nil, view-word, view-mark, view-lit, view-group, view-enter, view-leave}
@@ -33,7 +33,6 @@ insides d.None p c n l h = h.0
 
 -- the entries of a group's content and its end, and those after it
 module _ (b : Delimiter) (p : DelimSpan) (c : TokenStream) (n : ℕ) where
-
   parted : (l : Flat) → Inside c n l → saw_delimiter b p c n ∷ l ≡ group_flat b p c ++ drop (suc n) l
   parted l h =
       ap (λ k. saw_delimiter b p c n ∷ k) (sym (take-append-drop (suc n) l) ∙ ap (λ k. k ++ drop (suc n) l) h.1)

@@ -29,3 +29,9 @@ pub mod Positions
 pub mod Cut
 pub mod Clear
 pub mod Headline
+pub mod Negatives
+pub mod Lits
+pub mod Members
+pub mod Ranges
+pub mod Lifetimes
+pub mod Spellings

@@ -1,5 +1,5 @@
 -- A choice of tokens: where it is made, the names of the tests that failed, and what it says where all did.
-use Rattle.std.specs.Prelude.{◌≡◌, Bool, true, false, if◌then◌else◌, List, [], ◌∷◌, ◌++◌, take, refl, codes}
+use Rattle.std.specs.Prelude.{Bool, true, false, if◌then◌else◌, List, [], ◌∷◌, ◌++◌, take, refl, codes}
 use Rattle.std.specs.Coded.{Coded, code_by, coded×, coded_list}
 use Rattle.token_core.specs.declared.error.ErrorKind.TheVariants.{Expected}
 use Rattle.token_core.specs.Toks.{Bytes}

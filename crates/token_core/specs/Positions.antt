@@ -1,5 +1,5 @@
 -- Positions in a buffer: what stands there, and which of two comes first.
-use Rattle.std.specs.Prelude.{ℕ, zero, suc, ◌+◌, Bool, true, false, ◌⊎◌, Option, Some, None, nat_lt}
+use Rattle.std.specs.Prelude.{ℕ, suc, ◌+◌, Bool, true, false, ◌⊎◌, Option, Some, None, nat_lt}
 use Rattle.token_core.specs.Toks.{Toks, done, word, mark, lit, group, enter, leave}
 use Rattle.token_core.specs.Reads.{IsSuffix}
 use Rattle.token_core.specs.Loops.{size}

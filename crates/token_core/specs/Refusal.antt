@@ -1,8 +1,8 @@
 -- Refusals: what they say, and from where to where they point.
-use Rattle.std.specs.Prelude.{◌≡◌, ◌≢◌, ◌⊎◌, ℕ, zero, suc, [], Option, Some, None, refl, codes}
+use Rattle.std.specs.Prelude.{◌≡◌, ◌≢◌, ◌⊎◌, ℕ, ◌==◌, if◌then◌else◌, [], Option, Some, None, refl, codes}
 use Rattle.std.specs.Coded.{Coded, code_by, coded×, coded_ℕ}
 use Rattle.token_core.specs.declared.error.ErrorKind.{ErrorKind}
-use Rattle.token_core.specs.declared.error.ErrorKind.TheVariants.{OutOfMemory, Expected, Unexpected, Custom, ExpectedDelimiter, ExpectedPathSegment, ExpectedPathIdent, UnclosedDelimiter, UnexpectedClosingDelimiter, UnknownToken}
+use Rattle.token_core.specs.declared.error.ErrorKind.TheVariants.{OutOfMemory, Expected, Unexpected, Custom, ExpectedDelimiter, ExpectedPathSegment, ExpectedPathIdent, ExpectedAttributeArguments, ExpectedParentheses, TokenInAttribute, ExpectedMetaArguments, ExpectedParenthesis, ExpectedMetaValue, ExpectedEquals, AttributeInAttribute, ExpectedNestedAttribute, LiteralInNestedAttribute, TokenInNestedAttribute, UnclosedDelimiter, UnexpectedClosingDelimiter, UnknownToken}
 use Rattle.token_core.specs.declared.span.Span.{Span}
 use Rattle.token_core.specs.Toks.{Bytes}
 use Rattle.token_core.specs.Spans.{none}
@@ -23,6 +23,17 @@ fixed Custom = []
 fixed ExpectedDelimiter = codes "expected delimiter"
 fixed ExpectedPathSegment = codes "expected path segment after `::`"
 fixed ExpectedPathIdent = codes "expected this path to be an identifier"
+fixed ExpectedAttributeArguments = []
+fixed ExpectedParentheses = []
+fixed TokenInAttribute = codes "unexpected token in attribute"
+fixed ExpectedMetaArguments = []
+fixed ExpectedParenthesis = codes "expected `(`"
+fixed ExpectedMetaValue = []
+fixed ExpectedEquals = codes "expected `=`"
+fixed AttributeInAttribute = codes "unexpected attribute inside of attribute"
+fixed ExpectedNestedAttribute = codes "expected nested attribute"
+fixed LiteralInNestedAttribute = codes "unexpected literal in nested attribute, expected ident"
+fixed TokenInNestedAttribute = codes "unexpected token in nested attribute, expected ident"
 fixed UnclosedDelimiter = codes "unclosed delimiter"
 fixed UnexpectedClosingDelimiter = codes "unexpected closing delimiter"
 fixed UnknownToken = codes "unknown start of token"
@@ -61,21 +72,44 @@ kind_number Custom = 3
 kind_number ExpectedDelimiter = 4
 kind_number ExpectedPathSegment = 5
 kind_number ExpectedPathIdent = 6
-kind_number UnclosedDelimiter = 7
-kind_number UnexpectedClosingDelimiter = 8
-kind_number UnknownToken = 9
+kind_number ExpectedAttributeArguments = 7
+kind_number ExpectedParentheses = 8
+kind_number TokenInAttribute = 9
+kind_number ExpectedMetaArguments = 10
+kind_number ExpectedParenthesis = 11
+kind_number ExpectedMetaValue = 12
+kind_number ExpectedEquals = 13
+kind_number AttributeInAttribute = 14
+kind_number ExpectedNestedAttribute = 15
+kind_number LiteralInNestedAttribute = 16
+kind_number TokenInNestedAttribute = 17
+kind_number UnclosedDelimiter = 18
+kind_number UnexpectedClosingDelimiter = 19
+kind_number UnknownToken = 20
 
 abbrev number_kind : ℕ → ErrorKind
-number_kind zero = OutOfMemory
-number_kind (suc zero) = Expected
-number_kind (suc (suc zero)) = Unexpected
-number_kind (suc (suc (suc zero))) = Custom
-number_kind (suc (suc (suc (suc zero)))) = ExpectedDelimiter
-number_kind (suc (suc (suc (suc (suc zero))))) = ExpectedPathSegment
-number_kind (suc (suc (suc (suc (suc (suc zero)))))) = ExpectedPathIdent
-number_kind (suc (suc (suc (suc (suc (suc (suc zero))))))) = UnclosedDelimiter
-number_kind (suc (suc (suc (suc (suc (suc (suc (suc zero)))))))) = UnexpectedClosingDelimiter
-number_kind _ = UnknownToken
+number_kind n =
+    if n == 0 then OutOfMemory else (
+    if n == 1 then Expected else (
+    if n == 2 then Unexpected else (
+    if n == 3 then Custom else (
+    if n == 4 then ExpectedDelimiter else (
+    if n == 5 then ExpectedPathSegment else (
+    if n == 6 then ExpectedPathIdent else (
+    if n == 7 then ExpectedAttributeArguments else (
+    if n == 8 then ExpectedParentheses else (
+    if n == 9 then TokenInAttribute else (
+    if n == 10 then ExpectedMetaArguments else (
+    if n == 11 then ExpectedParenthesis else (
+    if n == 12 then ExpectedMetaValue else (
+    if n == 13 then ExpectedEquals else (
+    if n == 14 then AttributeInAttribute else (
+    if n == 15 then ExpectedNestedAttribute else (
+    if n == 16 then LiteralInNestedAttribute else (
+    if n == 17 then TokenInNestedAttribute else (
+    if n == 18 then UnclosedDelimiter else (
+    if n == 19 then UnexpectedClosingDelimiter else (
+    UnknownToken))))))))))))))))))))
 
 pub kind_back : (k : ErrorKind) → number_kind (kind_number k) ≡ k
 kind_back OutOfMemory = refl
@@ -85,6 +119,17 @@ kind_back Custom = refl
 kind_back ExpectedDelimiter = refl
 kind_back ExpectedPathSegment = refl
 kind_back ExpectedPathIdent = refl
+kind_back ExpectedAttributeArguments = refl
+kind_back ExpectedParentheses = refl
+kind_back TokenInAttribute = refl
+kind_back ExpectedMetaArguments = refl
+kind_back ExpectedParenthesis = refl
+kind_back ExpectedMetaValue = refl
+kind_back ExpectedEquals = refl
+kind_back AttributeInAttribute = refl
+kind_back ExpectedNestedAttribute = refl
+kind_back LiteralInNestedAttribute = refl
+kind_back TokenInNestedAttribute = refl
 kind_back UnclosedDelimiter = refl
 kind_back UnexpectedClosingDelimiter = refl
 kind_back UnknownToken = refl

@@ -1,5 +1,5 @@
 -- Values and marks in turn, up to the end of the stream, by the relations of their reads.
-use Rattle.std.specs.Prelude.{◌≡◌, ◌<◌, Bool, true, false, List, [], ◌∷◌}
+use Rattle.std.specs.Prelude.{◌≡◌, ◌<◌, true, false, List, [], ◌∷◌}
 use Rattle.token_core.specs.Refusal.{Refusal}
 use Rattle.token_core.specs.Stream.{Stream}
 use Rattle.token_core.specs.Reads.{is_done}

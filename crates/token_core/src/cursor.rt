@@ -89,10 +89,7 @@ impl<'a> Cursor<'a> {
 }
 
 #[tactic(auto, using(crate::proofs::Fronts::views))]
-fn tree_at<'a>(
-    entry: &Entry<'a>,
-    more: &'a [Entry<'a>],
-) -> Option<(&'a TokenTree, Cursor<'a>)>
+fn tree_at<'a>(entry: &Entry<'a>, more: &'a [Entry<'a>]) -> Option<(&'a TokenTree, Cursor<'a>)>
     requires { Nested (saw entry.now ∷ map saw more.now) }
     ensures { MatchOption result (spec.has_tree (view (saw entry.now ∷ map saw more.now)) ≡ false) (λ p. view (saw entry.now ∷ map saw more.now) ≡ trees.tree p.0.now p.1) }
 {

@@ -8,7 +8,7 @@ use crate::text::Text;
 use std::alloc::{AllocError, Global};
 use std::marker::Model;
 
-/// What a refusal says. Each kind but `Expected` and `Custom` has one text.
+/// What a refusal says. The kinds that name a token, a path or the caller's own text have several texts, the others one.
 #[derive(Clone, Copy, PartialEq, Eq)]
 pub enum ErrorKind {
     /// A growth was refused.
@@ -25,6 +25,28 @@ pub enum ErrorKind {
     ExpectedPathSegment,
     /// A path is no lone identifier.
     ExpectedPathIdent,
+    /// An attribute has no arguments in parentheses.
+    ExpectedAttributeArguments,
+    /// An attribute has a value in place of arguments.
+    ExpectedParentheses,
+    /// A meta is more than a path.
+    TokenInAttribute,
+    /// A meta has no arguments.
+    ExpectedMetaArguments,
+    /// A meta has a value in place of arguments.
+    ExpectedParenthesis,
+    /// A meta has no value.
+    ExpectedMetaValue,
+    /// A meta has arguments in place of a value.
+    ExpectedEquals,
+    /// An attribute stands as an attribute's value.
+    AttributeInAttribute,
+    /// A list of properties ends where one is needed.
+    ExpectedNestedAttribute,
+    /// A literal stands where a property begins.
+    LiteralInNestedAttribute,
+    /// No property begins here.
+    TokenInNestedAttribute,
     /// A bracket is not closed.
     UnclosedDelimiter,
     /// A bracket closes none.
@@ -34,7 +56,7 @@ pub enum ErrorKind {
 }
 
 impl ErrorKind {
-    /// The text of its refusals, and nothing for the two kinds that have several.
+    /// The text of its refusals, and nothing for the kinds that have several.
     #[tactic(auto, unfolding(crate::specs::Refusal::fixed))]
     pub fn text(self) -> &'static str
         ensures { result.now ≡ spec.fixed self }
@@ -47,6 +69,17 @@ impl ErrorKind {
             ErrorKind::ExpectedDelimiter => "expected delimiter",
             ErrorKind::ExpectedPathSegment => "expected path segment after `::`",
             ErrorKind::ExpectedPathIdent => "expected this path to be an identifier",
+            ErrorKind::ExpectedAttributeArguments => "",
+            ErrorKind::ExpectedParentheses => "",
+            ErrorKind::TokenInAttribute => "unexpected token in attribute",
+            ErrorKind::ExpectedMetaArguments => "",
+            ErrorKind::ExpectedParenthesis => "expected `(`",
+            ErrorKind::ExpectedMetaValue => "",
+            ErrorKind::ExpectedEquals => "expected `=`",
+            ErrorKind::AttributeInAttribute => "unexpected attribute inside of attribute",
+            ErrorKind::ExpectedNestedAttribute => "expected nested attribute",
+            ErrorKind::LiteralInNestedAttribute => "unexpected literal in nested attribute, expected ident",
+            ErrorKind::TokenInNestedAttribute => "unexpected token in nested attribute, expected ident",
             ErrorKind::UnclosedDelimiter => "unclosed delimiter",
             ErrorKind::UnexpectedClosingDelimiter => "unexpected closing delimiter",
             ErrorKind::UnknownToken => "unknown start of token",

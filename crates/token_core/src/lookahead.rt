@@ -73,7 +73,13 @@ impl<'a> Lookahead<'a> {
     {
         if self.input.is_empty() {
             let at = self.input.span();
-            return Error::of(alloc, ErrorKind::Expected, "unexpected end of input", at, at);
+            return Error::of(
+                alloc,
+                ErrorKind::Expected,
+                "unexpected end of input",
+                at,
+                at,
+            );
         }
         self.input
             .refused(alloc, ErrorKind::Expected, "unexpected token")

@@ -1,6 +1,4 @@
-use Rattle.std.proofs.Common.{◌≡◌, ◌++◌, ◌∷◌, [], take, map, ap, sym, ◌∙◌}
-use denote.Ref.{Bor}
-use Rattle.token_core.specs.Toks.{Bytes}
+use Rattle.std.proofs.Common.{ap, sym, ◌∙◌}
 use Rattle.token_core.specs.Looks.{Looks, noted}
 use Rattle.token_core.proofs.Choices.{noted_more, noted_full}
 use Rattle.token_core.proofs.lookahead.Lookahead.note.Goals as goal
