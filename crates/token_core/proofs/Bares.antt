@@ -7,7 +7,7 @@ use Rattle.std.proofs.lemmas.List.{map_more}
 use Rattle.token_core.specs.declared.tree.Spacing.{Spacing}
 use Rattle.token_core.specs.declared.tree.LitKind.{LitKind}
 use Rattle.token_core.specs.Toks.{Bytes}
-use Rattle.std.proofs.Common.{◌≡◌, ℕ, Option, Some, None, zero, suc, ◌+◌, ◌<◌, ◌≤◌, Bool, true, false, List, [], ◌∷◌, ◌++◌, map, length, take, get_or, refl, sym, ap, ◌∙◌, arith}
+use Rattle.std.proofs.Common.{◌≡◌, ℕ, Option, Some, None, zero, suc, ◌+◌, ◌<◌, Bool, true, false, List, [], ◌∷◌, ◌++◌, map, length, take, get_or, refl, sym, ap, ◌∙◌, arith}
 use Rattle.token_core.specs.declared.tree.Ident.{Ident}
 use Rattle.token_core.specs.declared.tree.Punct.{Punct}
 use Rattle.token_core.specs.declared.tree.Literal.{Literal}

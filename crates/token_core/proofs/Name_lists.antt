@@ -1,11 +1,11 @@
 -- The laws of lists at identifiers with commas between them.
 use Rattle.std.specs.Prelude.{not, if◌then◌else◌, Err}
-use Rattle.std.proofs.Common.{◌≡◌, ℕ, suc, ◌<◌, ◌≤◌, Bool, true, false, List, map, Option, Some, None, Ok, refl, sym, ◌∙◌, ap, subst, arith}
+use Rattle.std.proofs.Common.{◌≡◌, suc, ◌<◌, ◌≤◌, Bool, true, false, List, map, Option, Ok, refl, sym, ◌∙◌, ap, subst, arith}
 use Rattle.token_core.specs.declared.span.Span.{Span}
 use Rattle.token_core.specs.declared.mark.Mark.{Mark}
 use Rattle.token_core.specs.declared.tree.Ident.{Ident}
 use Rattle.token_core.specs.declared.tree.Spacing.TheVariants.{Alone}
-use Rattle.token_core.specs.Toks.{Toks, word, mark}
+use Rattle.token_core.specs.Toks.{Toks, word}
 use Rattle.token_core.specs.Trees.{punct, row}
 use Rattle.token_core.specs.Rebuilt.{Visible}
 use Rattle.token_core.specs.Stream.{Stream}
@@ -17,7 +17,7 @@ use Rattle.token_core.specs.Listed.{Anywhere}
 use Rattle.token_core.specs.Reads.{is_done, expected, is_ident, ident_name, read_word, next_word, read_mark}
 use Rattle.token_core.specs.Names.{name, comma, names, IsName, a_name, IsComma, comma_at, a_comma, AreNames}
 use Rattle.token_core.proofs.Rebuilds.{tree-ident, tree-punct}
-use Rattle.token_core.proofs.Steps.{Reads_to, chosen}
+use Rattle.token_core.proofs.Steps.{Reads_to}
 use Rattle.token_core.proofs.Took.{at, mapped, took_word, took_mark1}
 use Rattle.token_core.proofs.Listings as laws
 

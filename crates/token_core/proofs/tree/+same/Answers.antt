@@ -1,5 +1,5 @@
 use Rattle.std.specs.Prelude.{Decides}
-use Rattle.std.proofs.Common.{◌≡◌, false, map, take, length, ap, sym, ◌∙◌, refl, rules, arith, subst}
+use Rattle.std.proofs.Common.{◌≡◌, false, map, take, length, ap, sym, ◌∙◌, rules, arith, subst}
 use Rattle.std.proofs.lemmas.Grind.{common_steps}
 use Rattle.token_core.proofs.Rows.{take_all}
 use Rattle.token_core.specs.Trees.{delimiter_of, trees}
