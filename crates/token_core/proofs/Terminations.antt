@@ -1,5 +1,5 @@
 -- Values and marks up to the end of a stream, turn by turn.
-use Rattle.std.specs.Prelude.{◌≢◌}
+use Rattle.std.specs.Prelude.{◌≢◌, not}
 use Rattle.token_core.specs.declared.error.ErrorKind.TheVariants.{OutOfMemory}
 use Rattle.std.proofs.Common.{◌≡◌, ◌==◌, if◌then◌else◌, ◌<◌, ◌≤◌, ℕ, Bool, true, false, List, [], ◌∷◌, ◌++◌, Option, Some, None, Result, Ok, Err, refl, sym, ◌∙◌, ap, subst, append_assoc, append-nil, arith}
 use Rattle.token_core.specs.Refusal.{Refusal}
@@ -9,11 +9,11 @@ use Rattle.token_core.specs.declared.mark.Spans.{Spans}
 use Rattle.token_core.specs.Toks.{Bytes, Toks, done, word, mark, lit, group, enter, leave}
 use Rattle.token_core.specs.Front.{front}
 use Rattle.token_core.specs.Marks.{chars_of, mark_name, mark_of, read}
-use Rattle.token_core.specs.Reads.{is_done, Parsed, Gives, as_punct, past_next, past_mark, is_last, is_joint, put_first, three, past, goes_on, expected, read_mark}
-use Rattle.token_core.specs.Loops.{Many, onto, size}
-use Rattle.token_core.specs.Terminated.{Answers, at_end, last_value, value_and_mark, Takes}
+use Rattle.token_core.specs.Reads.{Reader, Outcome, is_done, Parsed, Gives, as_punct, past_next, past_mark, is_last, is_joint, put_first, three, past, goes_on, expected, read_mark}
+use Rattle.token_core.specs.Loops.{Many, onto, after, size, listed, terminated}
+use Rattle.token_core.specs.Terminated.{Terminates, Answers, at_end, last_value, value_and_mark, Takes}
 use Rattle.token_core.proofs.Suffixes.{suffix_mark}
-use Rattle.token_core.proofs.Turns.{size_suffix, same_pair}
+use Rattle.token_core.proofs.Turns.{size_suffix, same_pair, turn_none, turn_last, turn_on}
 use Rattle.token_core.proofs.Took.{mapped}
 
 pub refused_so : {A : Type 0} (R : A → Stream → Type 0) (Q : Refusal → Type 0) (r : Result A Refusal) (u : Stream) (e : Refusal) → r ≡ Err e → (e.kind ≢ OutOfMemory → Q e) → Parsed R Q r u
@@ -90,3 +90,29 @@ pub named_takes : (n l c : ℕ) (cs : List ℕ) → chars_of n ≡ c ∷ cs → 
 named_takes n l c cs h s a t e =
     let m = mapped (read_mark (chars_of n) (mark_name n) s) (mark_of n l) a t e in
     mark_takes c cs (mark_name n) s t m.value (ap (λ z. read_mark z (mark_name n) s) (sym h) ∙ m.was)
+
+-- ---- values and marks whose reads are functions
+
+module _ {A P : Type 0} (value : Reader A) (joint : Reader P)
+    (takes : (s t : Stream) (x : A) → value s ≡ Ok (x, t) → size t.rest < size s.rest) (keeps : (s t : Stream) (p : P) → joint s ≡ Ok (p, t) → size t.rest ≤ size s.rest) where
+  abbrev All : Bool → Reader (Many A P)
+  All = listed (λ b. is_done) (λ b. value) (λ l. not (is_done l)) joint
+
+  read_from : (b : Bool) (v : Many A P) (s t : Stream) (xs : List A) (ps : List P) → Terminates (Gives value) (Gives joint) s xs ps t → after v (All b s) ≡ Ok (onto v (xs, ps), t)
+  read_from b v s t xs ps (at_end e) =
+      turn_none (λ b. is_done) (λ b. value) (λ l. not (is_done l)) joint v b s e
+      ∙ ap (λ z. Ok ((z, v.1), s)) (sym (append-nil v.0)) ∙ ap (λ z. Ok ((v.0 ++ [], z), s)) (sym (append-nil v.1))
+  read_from b v s t xs ps (last_value {x = x} d r e) =
+      turn_last (λ b. is_done) (λ b. value) (λ l. not (is_done l)) joint v b s t x d r (ap not e) ∙ ap (λ z. Ok ((v.0 ++ x ∷ [], z), t)) (sym (append-nil v.1))
+  read_from b v s t xs ps (value_and_mark {t = m} {u = k} {x = x} {p = p} {xs = ys} {ps = qs} d r e q i) =
+      turn_on (λ b. is_done) (λ b. value) (λ l. not (is_done l)) joint (λ b. takes) keeps v b s m k x p d r (ap not e) q
+      ∙ read_from false (v.0 ++ x ∷ [], v.1 ++ p ∷ []) k t ys qs i
+      ∙ ap (λ z. Ok ((z, (v.1 ++ p ∷ []) ++ qs), t)) (append_assoc v.0 (x ∷ []) ys) ∙ ap (λ z. Ok ((v.0 ++ x ∷ ys, z), t)) (append_assoc v.1 (p ∷ []) qs)
+
+  after_nothing : (o : Outcome (Many A P)) → after ([], []) o ≡ o
+  after_nothing (Ok p) = refl
+  after_nothing (Err e) = refl
+
+  -- such a list is what the terminated reader reads
+  pub terminates_reads : (s t : Stream) (xs : List A) (ps : List P) → Terminates (Gives value) (Gives joint) s xs ps t → terminated is_done value joint s ≡ Ok ((xs, ps), t)
+  terminates_reads s t xs ps i = sym (after_nothing (All true s)) ∙ read_from true ([], []) s t xs ps i

@@ -5,5 +5,5 @@ use Rattle.token_core.proofs.stream_tests.lists_are_read_to_the_end.Goals as goa
 pub parse_terminated-requires : goal.parse_terminated-requires
 parse_terminated-requires c = named_takes _ _ _ _ refl
 
-pub parse_terminated-requires-2 : goal.parse_terminated-requires-2
-parse_terminated-requires-2 c = named_takes _ _ _ _ refl
+pub parse_terminated-requires-in-loop-text-2 : goal.parse_terminated-requires-in-loop-text-2
+parse_terminated-requires-in-loop-text-2 c = named_takes _ _ _ _ refl
