@@ -217,6 +217,14 @@ fn last_values_are_removed(rt: HostRuntime) -> Result<(), Fail> {
     Ok(())
 }
 
+/// Identifiers with commas, up to the end.
+fn names(
+    alloc: Global,
+    input: &mut ParseStream<'_>,
+) -> Result<Punctuated<Ident, Comma>, Error> {
+    Punctuated::parse_terminated(alloc, input)
+}
+
 #[test]
 fn lists_are_read_to_the_end(rt: HostRuntime) -> Result<(), Fail> {
     let alloc = rt.alloc();
@@ -230,9 +238,9 @@ fn lists_are_read_to_the_end(rt: HostRuntime) -> Result<(), Fail> {
         let list = tokens(alloc, text)?;
         let buffer = TokenBuffer::new(alloc, &list)?;
         let mut input = ParseStream::new(&buffer, Span::none());
-        let names = read(Punctuated::<Ident, Comma>::parse_terminated(alloc, &mut input))?;
-        assert_eq!(rt; names.len(), count, "{text}");
-        assert_eq!(rt; names.trailing_punct(), trailing, "{text}");
+        let list = read(names(alloc, &mut input))?;
+        assert_eq!(rt; list.len(), count, "{text}");
+        assert_eq!(rt; list.trailing_punct(), trailing, "{text}");
         assert!(rt; input.is_empty());
     }
     for (text, said, at) in [
@@ -243,7 +251,7 @@ fn lists_are_read_to_the_end(rt: HostRuntime) -> Result<(), Fail> {
         let list = tokens(alloc, text)?;
         let buffer = TokenBuffer::new(alloc, &list)?;
         let mut input = ParseStream::new(&buffer, Span::none());
-        let error = refusal(Punctuated::<Ident, Comma>::parse_terminated(alloc, &mut input))?;
+        let error = refusal(names(alloc, &mut input))?;
         says(&rt, &error, ErrorKind::Expected, said, nth(at));
     }
     Ok(())
