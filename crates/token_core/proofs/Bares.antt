@@ -155,8 +155,8 @@ same_ident a b x r e q =
     let d = bytes_eq-Decides a.text b.text in (
       (λ h. bare-ident a ∙ ap (λ z. t.Ident (ident z none)) (d.0 (sym q ∙ h)) ∙ sym (bare-ident b) ∙ ap bare_tree (sym e)),
       (λ h.
-        let k : t.Ident (ident a.text none) ≡ t.Ident (ident b.text none) = sym (bare-ident a) ∙ h ∙ ap bare_tree e ∙ bare-ident b in
-        q ∙ d.1 (sym (ap text_in (outs-Ident (ident a.text none))) ∙ ap (λ z. text_in (out-TokenTree z)) k ∙ ap text_in (outs-Ident (ident b.text none)))),
+          let k : t.Ident (ident a.text none) ≡ t.Ident (ident b.text none) = sym (bare-ident a) ∙ h ∙ ap bare_tree e ∙ bare-ident b in
+          q ∙ d.1 (sym (ap text_in (outs-Ident (ident a.text none))) ∙ ap (λ z. text_in (out-TokenTree z)) k ∙ ap text_in (outs-Ident (ident b.text none)))),
     )
 
 same_some : {X : Type 0} (a b : X) → ◌≡◌ {A = Option X} (Some a) (Some b) → a ≡ b
@@ -166,28 +166,28 @@ pub same_punct : (a b : Punct) (x : TokenTree) (r : Bool) → x ≡ t.Punct b �
 same_punct a b x r e d = (
   (λ h. let k = d.0 h in bare-punct a ∙ ap (λ z. t.Punct (punct z a.spacing none)) k.0 ∙ ap (λ z. t.Punct (punct b.ch z none)) k.1 ∙ sym (bare-punct b) ∙ ap bare_tree (sym e)),
   (λ h.
-    let k : t.Punct (punct a.ch a.spacing none) ≡ t.Punct (punct b.ch b.spacing none) = sym (bare-punct a) ∙ h ∙ ap bare_tree e ∙ bare-punct b in
-    let w : ◌≡◌ {A = ℕ × Spacing} (a.ch, a.spacing) (b.ch, b.spacing) =
-    same_some _ _ (sym (ap punct_in (outs-Punct (punct a.ch a.spacing none))) ∙ ap (λ z. punct_in (out-TokenTree z)) k ∙ ap punct_in (outs-Punct (punct b.ch b.spacing none))) in
-    d.1 (ap (λ (z : ℕ × Spacing). z.0) w, ap (λ (z : ℕ × Spacing). z.1) w)),
+      let k : t.Punct (punct a.ch a.spacing none) ≡ t.Punct (punct b.ch b.spacing none) = sym (bare-punct a) ∙ h ∙ ap bare_tree e ∙ bare-punct b in
+      let w : ◌≡◌ {A = ℕ × Spacing} (a.ch, a.spacing) (b.ch, b.spacing) =
+      same_some _ _ (sym (ap punct_in (outs-Punct (punct a.ch a.spacing none))) ∙ ap (λ z. punct_in (out-TokenTree z)) k ∙ ap punct_in (outs-Punct (punct b.ch b.spacing none))) in
+      d.1 (ap (λ (z : ℕ × Spacing). z.0) w, ap (λ (z : ℕ × Spacing). z.1) w)),
 )
 
 pub same_literal : (a b : Literal) (x : TokenTree) (r : Bool) → x ≡ t.Literal b → Decides r ((a.kind ≡ b.kind) × (a.text ≡ b.text)) → Decides r (bare_tree (t.Literal a) ≡ bare_tree x)
 same_literal a b x r e d = (
   (λ h. let k = d.0 h in bare-literal a ∙ ap (λ z. t.Literal (literal z a.text none)) k.0 ∙ ap (λ z. t.Literal (literal b.kind z none)) k.1 ∙ sym (bare-literal b) ∙ ap bare_tree (sym e)),
   (λ h.
-    let k : t.Literal (literal a.kind a.text none) ≡ t.Literal (literal b.kind b.text none) = sym (bare-literal a) ∙ h ∙ ap bare_tree e ∙ bare-literal b in
-    let w : a.kind ≡ b.kind =
-    same_some _ _ (sym (ap literal_in (outs-Literal (literal a.kind a.text none))) ∙ ap (λ z. literal_in (out-TokenTree z)) k ∙ ap literal_in (outs-Literal (literal b.kind b.text none))) in
-    d.1 (w, sym (ap text_in (outs-Literal (literal a.kind a.text none))) ∙ ap (λ z. text_in (out-TokenTree z)) k ∙ ap text_in (outs-Literal (literal b.kind b.text none)))),
+      let k : t.Literal (literal a.kind a.text none) ≡ t.Literal (literal b.kind b.text none) = sym (bare-literal a) ∙ h ∙ ap bare_tree e ∙ bare-literal b in
+      let w : a.kind ≡ b.kind =
+      same_some _ _ (sym (ap literal_in (outs-Literal (literal a.kind a.text none))) ∙ ap (λ z. literal_in (out-TokenTree z)) k ∙ ap literal_in (outs-Literal (literal b.kind b.text none))) in
+      d.1 (w, sym (ap text_in (outs-Literal (literal a.kind a.text none))) ∙ ap (λ z. text_in (out-TokenTree z)) k ∙ ap text_in (outs-Literal (literal b.kind b.text none)))),
 )
 
 pub same_group : (a b : Group) (x : TokenTree) (r : Bool) → x ≡ t.Group b → Decides r (bare_group a ≡ bare_group b) → Decides r (bare_tree (t.Group a) ≡ bare_tree x)
 same_group a b x r e d = (
   (λ h. bare-of-group a ∙ ap t.Group (d.0 h) ∙ sym (bare-of-group b) ∙ ap bare_tree (sym e)),
   (λ h.
-    let k : t.Group (bare_group a) ≡ t.Group (bare_group b) = sym (bare-of-group a) ∙ h ∙ ap bare_tree e ∙ bare-of-group b in
-    d.1 (same_some _ _ (sym (ap group_in (outs-Group (bare_group a))) ∙ ap (λ z. group_in (out-TokenTree z)) k ∙ ap group_in (outs-Group (bare_group b))))),
+      let k : t.Group (bare_group a) ≡ t.Group (bare_group b) = sym (bare-of-group a) ∙ h ∙ ap bare_tree e ∙ bare-of-group b in
+      d.1 (same_some _ _ (sym (ap group_in (outs-Group (bare_group a))) ∙ ap (λ z. group_in (out-TokenTree z)) k ∙ ap group_in (outs-Group (bare_group b))))),
 )
 
 -- ---- groups and lists

@@ -323,4 +323,3 @@ between_visible v e (past_group {k = k} b x c p) h =
     ap (λ z. row (all_parts (parts z)) e) (up_group b x c k e (size_suffix p)) ∙ visible_group b x c (row (trees_between k e) e) h.0 h.1 ∙ ap (group b x c) (between_visible k e p h.2)
 between_visible v e (past_enter x p) h = absurd h
 between_visible v e (past_leave p) h = absurd h
-

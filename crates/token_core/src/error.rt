@@ -78,8 +78,10 @@ impl ErrorKind {
             ErrorKind::ExpectedEquals => "expected `=`",
             ErrorKind::AttributeInAttribute => "unexpected attribute inside of attribute",
             ErrorKind::ExpectedNestedAttribute => "expected nested attribute",
-            ErrorKind::LiteralInNestedAttribute => "unexpected literal in nested attribute, expected ident",
-            ErrorKind::TokenInNestedAttribute => "unexpected token in nested attribute, expected ident",
+            ErrorKind::LiteralInNestedAttribute =>
+                "unexpected literal in nested attribute, expected ident",
+            ErrorKind::TokenInNestedAttribute =>
+                "unexpected token in nested attribute, expected ident",
             ErrorKind::UnclosedDelimiter => "unclosed delimiter",
             ErrorKind::UnexpectedClosingDelimiter => "unexpected closing delimiter",
             ErrorKind::UnknownToken => "unknown start of token",

@@ -42,10 +42,22 @@ fn choices_end_with_the_stream(rt: HostRuntime) -> Result<(), Fail> {
     let mut look = input.lookahead1();
     assert!(rt; !look.peek::<Paren>() && look.peek::<Ident>());
     let kind = ErrorKind::Expected;
-    says(&rt, &look.error(alloc), kind, "expected parentheses", nth(0));
+    says(
+        &rt,
+        &look.error(alloc),
+        kind,
+        "expected parentheses",
+        nth(0),
+    );
     let _ = read(input.read_ident(alloc))?;
     let mut look = input.lookahead1();
-    says(&rt, &look.error(alloc), kind, "unexpected end of input", nth(9));
+    says(
+        &rt,
+        &look.error(alloc),
+        kind,
+        "unexpected end of input",
+        nth(9),
+    );
     assert!(rt; !look.peek::<Ident>());
     let text = "unexpected end of input, expected identifier";
     says(&rt, &look.error(alloc), kind, text, nth(9));
@@ -93,12 +105,27 @@ fn parts_are_cut(rt: HostRuntime) -> Result<(), Fail> {
     let begin = input.cursor();
     holds(&rt, alloc, &verbatim::between(alloc, &begin, &begin)?, "")?;
     skip(alloc, &mut input)?;
-    holds(&rt, alloc, &verbatim::between(alloc, &begin, &input.cursor())?, "a")?;
+    holds(
+        &rt,
+        alloc,
+        &verbatim::between(alloc, &begin, &input.cursor())?,
+        "a",
+    )?;
     // the outer group ends later
     skip(alloc, &mut input)?;
-    holds(&rt, alloc, &verbatim::between(alloc, &begin, &input.cursor())?, "a b")?;
+    holds(
+        &rt,
+        alloc,
+        &verbatim::between(alloc, &begin, &input.cursor())?,
+        "a b",
+    )?;
     skip(alloc, &mut input)?;
-    holds(&rt, alloc, &verbatim::between(alloc, &begin, &input.cursor())?, "a b c")?;
+    holds(
+        &rt,
+        alloc,
+        &verbatim::between(alloc, &begin, &input.cursor())?,
+        "a b c",
+    )?;
     // the inner one has ended
     skip(alloc, &mut input)?;
     let part = verbatim::between(alloc, &begin, &input.cursor())?;
@@ -155,11 +182,7 @@ fn equal_lists_are_the_same(rt: HostRuntime) -> Result<(), Fail> {
     Ok(())
 }
 
-fn numbers(
-    alloc: Global,
-    count: u8,
-    trailing: bool,
-) -> Result<Punctuated<u8, Comma>, Fail> {
+fn numbers(alloc: Global, count: u8, trailing: bool) -> Result<Punctuated<u8, Comma>, Fail> {
     let mut list: Punctuated<u8, Comma> = Punctuated::new(alloc);
     for i in 0..count {
         if list.empty_or_trailing() {
@@ -218,10 +241,7 @@ fn last_values_are_removed(rt: HostRuntime) -> Result<(), Fail> {
 }
 
 /// Identifiers with commas, up to the end.
-fn names(
-    alloc: Global,
-    input: &mut ParseStream<'_>,
-) -> Result<Punctuated<Ident, Comma>, Error> {
+fn names(alloc: Global, input: &mut ParseStream<'_>) -> Result<Punctuated<Ident, Comma>, Error> {
     Punctuated::parse_terminated(alloc, input)
 }
 
@@ -274,7 +294,10 @@ fn scopes_are_told(rt: HostRuntime) -> Result<(), Fail> {
     let text = "unexpected end of input, expected identifier";
     says(&rt, &error, ErrorKind::Expected, text, nth(7));
     let by_type = ByParse::<Ident>::new();
-    assert_eq!(rt; read(read_scoped(by_type, alloc, nth(7), &tokens(alloc, "a")?))?.text(), "a");
+    assert_eq!(rt;
+        read(read_scoped(by_type, alloc, nth(7), &tokens(alloc, "a")?))?.text(),
+        "a"
+    );
     let list = tokens(alloc, ":: a b")?;
     let buffer = TokenBuffer::new(alloc, &list)?;
     let mut input = ParseStream::new(&buffer, Span::none());
