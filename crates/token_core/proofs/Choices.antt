@@ -5,6 +5,7 @@ use Rattle.std.proofs.Common.{◌≡◌, ℕ, zero, suc, ◌+◌, ◌<◌, ◌�
 use Rattle.std.proofs.Math.ListN.{set, length-map}
 use Rattle.std.proofs.lemmas.List.{map-set, map_more, length-take, length-append, take-append-le, take-map}
 use Rattle.token_core.specs.Toks.{Bytes}
+use Rattle.token_core.proofs.Rows.{take_all}
 use Rattle.token_core.specs.declared.error.ErrorKind.TheVariants.{Expected}
 use Rattle.token_core.specs.Stream.{Stream}
 use Rattle.token_core.specs.Reads.{refused}
@@ -23,12 +24,6 @@ commas_last (m ∷ ns) n =
 pub commas_more : (xs : List (Bor Bytes)) (i : ℕ) (d : Bor Bytes) → i < length xs →
     commas (map (λ (n : Bor Bytes). n.now) (take (i + 1) xs)) ≡ commas (map (λ (n : Bor Bytes). n.now) (take i xs)) ++ (codes ", " ++ (get_or xs i d).now)
 commas_more xs i d h = ap commas (map_more (λ (n : Bor Bytes). n.now) xs i d h) ∙ commas_last (map (λ (n : Bor Bytes). n.now) (take i xs)) ((get_or xs i d).now)
-
-take_all : {X : Type 0} (n : ℕ) (xs : List X) → length xs ≤ n → take n xs ≡ xs
-take_all zero [] h = refl
-take_all zero (x ∷ xs) h = absurd (omega (arith, h))
-take_all (suc n) [] h = refl
-take_all (suc n) (x ∷ xs) h = ap (λ l. x ∷ l) (take_all n xs (omega (arith, h)))
 
 take_set : {X : Type 0} (xs : List X) (i : ℕ) (x : X) → i < length xs → take (suc i) (set xs i x) ≡ take i xs ++ x ∷ []
 take_set [] i x h = absurd (omega (arith, h))

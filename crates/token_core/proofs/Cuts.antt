@@ -16,14 +16,14 @@ use Rattle.token_core.specs.declared.tree.Group.{Group, roll-Group, map-Group}
 use Rattle.token_core.specs.declared.tree.TokenStream.{TokenStream, roll-TokenStream, map-TokenStream, out-roll-TokenStream, roll-out-TokenStream}
 use Rattle.token_core.specs.Toks.{Toks, done, word, mark, lit, group, enter, leave}
 use Rattle.token_core.specs.Trees as s
-use Rattle.token_core.specs.Trees.{trees, group_of, stream_of_trees, all, grouped, toks}
-use Rattle.token_core.specs.Rebuilt.{Levels, onto, invisible, stream_of}
+use Rattle.token_core.specs.Trees.{trees, group_of, stream_of_trees, all, grouped, toks, row}
+use Rattle.token_core.specs.Rebuilt.{Levels, onto, invisible, stream_of, Visible, IsVisible}
 use Rattle.token_core.specs.Reads.{IsSuffix, all_of, past_word, past_punct, past_lit, past_group, past_enter, past_leave}
 use Rattle.token_core.specs.Loops.{size}
 use Rattle.token_core.specs.Positions.{has_tree, is_before, Beside}
 use Rattle.token_core.specs.Cut.{first, up_to, closed, parts, joined, all_parts, trees_between, past_bound}
 use Rattle.token_core.proofs.Flats.{tree-roll, group-roll, stream-roll}
-use Rattle.token_core.proofs.Rebuilds.{stream_of-toks}
+use Rattle.token_core.proofs.Rebuilds.{stream_of-toks, tree-ident, tree-punct, tree-literal, visible-tree, toks-stream_of}
 use Rattle.token_core.proofs.Suffixes.{suffix_trans}
 use Rattle.token_core.proofs.Turns.{size_suffix}
 use Rattle.token_core.proofs.Places.{reached}
@@ -303,3 +303,23 @@ module _ (x : TokenTree) (v r e : Toks) (q : v ≡ s.tree x r) (w : IsSuffix e v
 pub between_same : (v e : Toks) → IsSuffix e v → is_before v e ≡ false → trees_between v e ≡ []
 unfolding trees_between
 between_same v e w h = let n = ltb-false (size e) (size v) h in ap (λ z. all_parts (parts z)) (up_none v e n)
+
+-- ---- without invisible groups
+
+visible_group : (b : Delimiter) (p : DelimSpan) (c r : Toks) → IsVisible b → Visible c → s.tree (t.Group (group_of b (stream_of c) p)) r ≡ group b p c r
+visible_group b p c r v w = visible-tree b (stream_of c) p r v ∙ ap (λ z. group b p z r) (toks-stream_of c w)
+
+-- the trees between two positions, and then the tokens from the second one on, are those from the first one on
+pub between_visible : (v e : Toks) → IsSuffix e v → Visible v → row (trees_between v e) e ≡ v
+unfolding trees_between
+between_visible v e all_of h = ap (λ z. row (all_parts (parts z)) e) (up_none v e (omega arith))
+between_visible v e (past_word {k = k} i p) h =
+    ap (λ z. row (all_parts (parts z)) e) (up_word i k e (size_suffix p)) ∙ tree-ident i (row (trees_between k e) e) ∙ ap (word i) (between_visible k e p h)
+between_visible v e (past_punct {k = k} m p) h =
+    ap (λ z. row (all_parts (parts z)) e) (up_mark m k e (size_suffix p)) ∙ tree-punct m (row (trees_between k e) e) ∙ ap (mark m) (between_visible k e p h)
+between_visible v e (past_lit {k = k} x p) h =
+    ap (λ z. row (all_parts (parts z)) e) (up_lit x k e (size_suffix p)) ∙ tree-literal x (row (trees_between k e) e) ∙ ap (lit x) (between_visible k e p h)
+between_visible v e (past_group {k = k} b x c p) h =
+    ap (λ z. row (all_parts (parts z)) e) (up_group b x c k e (size_suffix p)) ∙ visible_group b x c (row (trees_between k e) e) h.0 h.1 ∙ ap (group b x c) (between_visible k e p h.2)
+between_visible v e (past_enter x p) h = absurd h
+between_visible v e (past_leave p) h = absurd h

@@ -6,6 +6,7 @@ pub mod Suffixes
 pub mod Tables
 pub mod Places
 pub mod Cuts
+pub mod Bares
 pub mod Terminations
 pub mod Choices
 pub mod Rebuilds
@@ -14,6 +15,7 @@ pub mod Puts
 pub mod Turns
 pub mod Steps
 pub mod Listings
+pub mod Name_lists
 pub mod Headlines
 pub mod Took
 pub mod Rows

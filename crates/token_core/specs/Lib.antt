@@ -10,6 +10,7 @@ pub mod Entries
 pub mod Front
 pub mod Stream
 pub mod Rebuilt
+pub mod Same
 pub mod Keywords
 pub mod Reads
 pub mod Marks
@@ -17,11 +18,13 @@ pub mod Prints
 pub mod ByFns
 pub mod Joined
 pub mod Lists
+pub mod Lent
 pub mod Groups
 pub mod Looks
 pub mod Terminated
 pub mod Loops
 pub mod Listed
+pub mod Names
 pub mod Positions
 pub mod Cut
 pub mod Clear

@@ -18,6 +18,8 @@ mod punctuated;
 mod range;
 mod span;
 #[cfg(test)]
+mod stream_tests;
+#[cfg(test)]
 mod tests;
 mod text;
 mod to_tokens;
@@ -40,7 +42,7 @@ pub use mark::{Mark, Spans};
 pub use member::{Index, Member};
 pub use parse::{ByFn, ByParse, Parse, Parser, Token, read_all, read_all_with, read_scoped};
 pub use parse_stream::ParseStream;
-pub use punctuated::{Iter, Pair, Pairs, Punctuated};
+pub use punctuated::{Iter, IterMut, Pair, Pairs, Punctuated};
 pub use range::RangeLimits;
 pub use span::{DelimSpan, Span};
 pub use text::Text;

@@ -6,7 +6,8 @@ ghost use Rattle.token_core.specs.Joined.{values_of, marks_of};
 ghost use Rattle.token_core.specs.Reads.{Parsed, Follows};
 ghost use Rattle.token_core.specs.Terminated as terminated;
 ghost use Rattle.token_core.specs.Terminated.{Takes};
-ghost use Rattle.std.specs.Iterator.{YieldsFirstBy, YieldsFirstRef, item_count};
+ghost use Rattle.std.specs.Iterator.{YieldsFirstBy, YieldsFirstRef, YieldsFirstMut, item_count};
+ghost use Rattle.token_core.specs.Lent.{values_left};
 
 use crate::boxed::Boxed;
 use crate::error::Error;
@@ -15,6 +16,7 @@ use crate::parse::Parse;
 use crate::parse_stream::ParseStream;
 use std::alloc::{AllocError, Global};
 use std::marker::Model;
+use std::slice;
 
 /// A value and the mark after it.
 #[derive(Drop)]
@@ -136,6 +138,13 @@ impl<T, P> Punctuated<T, P> {
     {
         let (pairs, last) = self.parts();
         Iter { pairs, last }
+    }
+
+    /// The values, for writing.
+    pub fn iter_mut(&mut self) -> IterMut<'_, T, P>
+        ensures { values_left result ≡ self.old.0 }
+    {
+        lend(&mut self.inner, &mut self.last)
     }
 
     /// The number of values (2^64 - 1 where there are more, which only values without a size can be).
@@ -293,6 +302,44 @@ impl<'a, T, P> Iterator for Iter<'a, T, P> {
                 self.pairs = more;
                 Some(&pair.value)
             }
+            None => self.last.take(),
+        }
+    }
+}
+
+fn lend<'a, T, P>(
+    pairs: &'a mut Items<Pair<T, P>>,
+    last: &'a mut Option<Boxed<T>>,
+) -> IterMut<'a, T, P>
+    ensures { values_left result ≡ values_of pairs.old last.old }
+{
+    let last = match last {
+        Some(value) => Some(value.get_mut()),
+        None => None,
+    };
+    IterMut {
+        pairs: pairs.as_mut_slice().iter_mut(),
+        last,
+    }
+}
+
+/// The values in order, for writing.
+#[derive(Drop)]
+pub struct IterMut<'a, T, P> {
+    pairs: slice::IterMut<'a, Pair<T, P>>,
+    last: Option<&'a mut T>,
+}
+
+impl<'a, T, P> Iterator for IterMut<'a, T, P> {
+    type Item = &'a mut T;
+
+    ghost next_gives = { YieldsFirstMut values_left };
+
+    ghost remaining = { item_count values_left };
+
+    fn next(&mut self) -> Option<&'a mut T> {
+        match self.pairs.next() {
+            Some(pair) => Some(&mut pair.value),
             None => self.last.take(),
         }
     }

@@ -1,6 +1,8 @@
 //! Token trees, and lists of them.
 
-ghost use Rattle.std.specs.Prelude.{◌≡◌, ◌++◌, [], ◌∷◌, IfOk, OnOk, OnErr, take, length};
+ghost use Rattle.std.specs.Prelude.{◌≡◌, ◌++◌, [], ◌∷◌, IfOk, IsTrue, ◌↔◌, OnOk, OnErr, take, length};
+ghost use Rattle.token_core.specs.Same as sameness;
+ghost use Rattle.token_core.specs.declared.tree.TokenTree.TheVariants as kinds;
 ghost use Rattle.token_core.specs.Trees as spec;
 
 use crate::items::Items;
@@ -281,6 +283,13 @@ impl TokenStream {
         self.trees.truncate(n);
     }
 
+    /// Whether it is equal to another list, spans aside.
+    pub fn same(&self, other: &TokenStream) -> bool
+        ensures { IsTrue result ↔ sameness.Same self.now other.now }
+    {
+        same_stream(self, other)
+    }
+
     /// Its equal, spans too.
     pub fn copy(&self, alloc: Global) -> Result<TokenStream, AllocError>
         ensures { IfOk result (λ s. s ≡ self.now) }
@@ -321,4 +330,101 @@ fn copy_group(group: &Group, alloc: Global) -> Result<Group, AllocError>
         stream: copy_stream(&group.stream, alloc)?,
         span: group.span,
     })
+}
+
+#[cycle(same)]
+fn same_stream(stream: &TokenStream, other: &TokenStream) -> bool
+    ensures { IsTrue result ↔ (sameness.bare_stream stream.now ≡ sameness.bare_stream other.now) }
+{
+    let others = other.trees.as_slice();
+    if stream.trees.len() != others.len() {
+        return false;
+    }
+    let mut at = 0;
+    for tree in stream.trees.as_slice() {
+        if !same_tree(tree, &others[at]) {
+            return false;
+        }
+        at += 1;
+    }
+    true
+}
+
+#[cycle(same)]
+fn same_tree(tree: &TokenTree, other: &TokenTree) -> bool
+    ensures { IsTrue result ↔ (sameness.bare_tree tree.now ≡ sameness.bare_tree other.now) }
+{
+    match tree {
+        TokenTree::Ident(ident) => is_ident(ident, other),
+        TokenTree::Punct(punct) => is_punct(punct, other),
+        TokenTree::Literal(literal) => is_literal(literal, other),
+        TokenTree::Group(group) => is_group(group, other),
+    }
+}
+
+#[cycle(same)]
+fn is_group(group: &Group, other: &TokenTree) -> bool
+    ensures { IsTrue result ↔ (sameness.bare_tree (kinds.Group group.now) ≡ sameness.bare_tree other.now) }
+{
+    match other {
+        TokenTree::Ident(_) => false,
+        TokenTree::Punct(_) => false,
+        TokenTree::Literal(_) => false,
+        TokenTree::Group(g) => same_group(group, g),
+    }
+}
+
+#[cycle(same)]
+fn same_group(group: &Group, other: &Group) -> bool
+    ensures { IsTrue result ↔ (sameness.bare_group group.now ≡ sameness.bare_group other.now) }
+{
+    if group.delimiter != other.delimiter {
+        return false;
+    }
+    same_stream(&group.stream, &other.stream)
+}
+
+fn is_ident(ident: &Ident, other: &TokenTree) -> bool
+    ensures { IsTrue result ↔ (sameness.bare_tree (kinds.Ident ident.now) ≡ sameness.bare_tree other.now) }
+{
+    match other {
+        TokenTree::Ident(i) => ident.text.is(i.text()),
+        TokenTree::Punct(_) => false,
+        TokenTree::Literal(_) => false,
+        TokenTree::Group(_) => false,
+    }
+}
+
+fn is_punct(punct: &Punct, other: &TokenTree) -> bool
+    ensures { IsTrue result ↔ (sameness.bare_tree (kinds.Punct punct.now) ≡ sameness.bare_tree other.now) }
+{
+    match other {
+        TokenTree::Ident(_) => false,
+        TokenTree::Punct(p) => same_punct(punct, p),
+        TokenTree::Literal(_) => false,
+        TokenTree::Group(_) => false,
+    }
+}
+
+fn same_punct(punct: &Punct, other: &Punct) -> bool
+    ensures { IsTrue result ↔ ((punct.now.ch ≡ other.now.ch) × (punct.now.spacing ≡ other.now.spacing)) }
+{
+    punct.ch == other.ch && punct.spacing == other.spacing
+}
+
+fn is_literal(literal: &Literal, other: &TokenTree) -> bool
+    ensures { IsTrue result ↔ (sameness.bare_tree (kinds.Literal literal.now) ≡ sameness.bare_tree other.now) }
+{
+    match other {
+        TokenTree::Ident(_) => false,
+        TokenTree::Punct(_) => false,
+        TokenTree::Literal(l) => same_literal(literal, l),
+        TokenTree::Group(_) => false,
+    }
+}
+
+fn same_literal(literal: &Literal, other: &Literal) -> bool
+    ensures { IsTrue result ↔ ((literal.now.kind ≡ other.now.kind) × (literal.now.text ≡ other.now.text)) }
+{
+    literal.kind == other.kind && literal.text.as_str() == other.text.as_str()
 }

@@ -5,19 +5,23 @@ ghost use Rattle.token_core.specs.Cut as spec;
 ghost use Rattle.token_core.specs.Reads.{IsSuffix};
 ghost use Rattle.token_core.specs.Positions.{is_before};
 ghost use Rattle.token_core.specs.Loops.{size};
+ghost use Rattle.token_core.specs.Rebuilt.{Visible};
+ghost use Rattle.token_core.specs.Trees.{row, trees};
 
 use crate::cursor::Cursor;
 use crate::tree::{TokenStream, TokenTree};
 use std::alloc::{AllocError, Global};
 
-/// A copy of the trees between two positions of one scope. An invisible group that ends after the second one is entered and not kept.
+/// A copy of the trees between two positions of one scope. An invisible group that ends after the second one is entered and not
+/// kept; where there is none, the trees and the tokens from the second position on are those from the first one on.
 pub fn between(
     alloc: Global,
     begin: &Cursor<'_>,
     end: &Cursor<'_>,
 ) -> Result<TokenStream, AllocError>
     requires { IsSuffix end.now begin.now }
-    ensures { IfOk result (λ s. s ≡ spec.between begin.now end.now) }
+    ensures trees { IfOk result (λ s. s ≡ spec.between begin.now end.now) }
+    ensures visible { Visible begin.now → IfOk result (λ s. row (trees s) end.now ≡ begin.now) }
 {
     let mut tokens = TokenStream::new(alloc);
     let mut cursor = begin.again();
