@@ -1,7 +1,7 @@
 -- What is said of an input, by what its list and its read are.
 use Rattle.std.proofs.Common.{◌≡◌, ◌≢◌, ◌⊎◌, inl, inr, ℕ, true, List, ◌++◌, codes, Ok, Err, IsUtf8, refl, ap, sym, subst, ◌∙◌}
 use Rattle.token_core.specs.declared.error.ErrorKind.{ErrorKind}
-use Rattle.token_core.specs.declared.error.ErrorKind.TheVariants.{OutOfMemory, Expected, Unexpected, Custom, ExpectedDelimiter, ExpectedPathSegment, ExpectedPathIdent, UnclosedDelimiter, UnexpectedClosingDelimiter, UnknownToken}
+use Rattle.token_core.specs.declared.error.ErrorKind.TheVariants.{OutOfMemory}
 use Rattle.token_core.specs.declared.tree.TokenTree.{TokenTree}
 use Rattle.token_core.specs.declared.tree.TokenStream.{TokenStream, roll-out-TokenStream}
 use Rattle.token_core.specs.Toks.{Bytes, done}
@@ -25,28 +25,12 @@ use Rattle.synmid.specs.Faults.{text, of_fault, of_kind, of_refusal}
 module _ (r : Reader) (input : Bytes) where
   justified : (k : ErrorKind) (e : Refusal) → (k ≢ OutOfMemory → Refuses r input e.text) → Justified r input (of_fault (of_kind k e))
   justified OutOfMemory e h = memory
-  justified Expected e h = h (λ q. cc)
-  justified Unexpected e h = h (λ q. cc)
-  justified Custom e h = h (λ q. cc)
-  justified ExpectedDelimiter e h = h (λ q. cc)
-  justified ExpectedPathSegment e h = h (λ q. cc)
-  justified ExpectedPathIdent e h = h (λ q. cc)
-  justified UnclosedDelimiter e h = h (λ q. cc)
-  justified UnexpectedClosingDelimiter e h = h (λ q. cc)
-  justified UnknownToken e h = h (λ q. cc)
+  justified _ e h = h (λ q. cc)
 
   -- where the refusal can only be for want of memory, it is said
   forgetful : (k : ErrorKind) (e : Refusal) (X : Type 0) → (k ≢ OutOfMemory → ⊥) → X ⊎ (of_fault (of_kind k e) ≡ no_memory)
   forgetful OutOfMemory e X h = inr refl
-  forgetful Expected e X h = absurd (h (λ q. cc))
-  forgetful Unexpected e X h = absurd (h (λ q. cc))
-  forgetful Custom e X h = absurd (h (λ q. cc))
-  forgetful ExpectedDelimiter e X h = absurd (h (λ q. cc))
-  forgetful ExpectedPathSegment e X h = absurd (h (λ q. cc))
-  forgetful ExpectedPathIdent e X h = absurd (h (λ q. cc))
-  forgetful UnclosedDelimiter e X h = absurd (h (λ q. cc))
-  forgetful UnexpectedClosingDelimiter e X h = absurd (h (λ q. cc))
-  forgetful UnknownToken e X h = absurd (h (λ q. cc))
+  forgetful _ e X h = absurd (h (λ q. cc))
 
   pub of_memory : AnswersTo r input no_memory
   of_memory = record { justified = memory; accepts = λ l a t s. inr refl }

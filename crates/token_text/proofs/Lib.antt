@@ -1,4 +1,7 @@
 mod Words
+mod Pasts
+mod Scans
+mod Choices
 mod Fronts
 mod Steps
 mod CharacterLaws

@@ -11,7 +11,7 @@ use crate::front::front;
 use crate::reader::Reader;
 use crate::word;
 use std::alloc::Global;
-use token_core::{Error, ErrorKind, Span, TokenStream};
+use token_core::{Error, Span, TokenStream};
 
 /// Reads the tokens of a text, each with the bytes from which to which it stands.
 ///
@@ -47,12 +47,17 @@ fn read(alloc: Global, text: &str) -> Result<TokenStream, Error>
     let mut rest = text;
     while let Some((first, _)) = word::split_first(rest) {
         let at = text.len() - rest.len();
-        let Some((piece, after)) = front(rest) else {
-            let span = Span::new(at, at + first.len_utf8());
-            return Err(Error::named(alloc, ErrorKind::UnknownToken, span));
-        };
-        reader.take(piece, Span::new(at, text.len() - after.len()))?;
-        rest = after;
+        match front(rest) {
+            Ok((piece, after)) => {
+                let span = Span::new(at, text.len() - after.len());
+                reader.take(piece, word::up_to(rest, after), span)?;
+                rest = after;
+            }
+            Err(kind) => {
+                let span = Span::new(at, at + first.len_utf8());
+                return Err(Error::named(alloc, kind, span));
+            }
+        }
     }
     reader.finish()
 }

@@ -1,8 +1,12 @@
 //! Text to tokens, and back.
 #![tactic(auto)]
 
+mod class;
+mod comment;
 mod front;
 mod lexer;
+mod literal;
+mod number;
 mod piece;
 mod printer;
 mod reader;
