@@ -2,7 +2,11 @@ mod Words
 mod Pasts
 mod Scans
 mod Choices
-mod Fronts
+mod Ends
+mod RunLaws
+mod LiteralLaws
+mod NumberLaws
+mod CommentLaws
 mod Steps
 mod CharacterLaws
 mod PieceLaws

@@ -1,11 +1,12 @@
 -- Steps over the characters of a text.
-use Rattle.std.proofs.Common.{◌≡◌, ℕ, ◌<◌, ◌-◌, Bool, true, false, List, [], ◌∷◌, ◌++◌, length, take, chars, encode_utf8, encode_utf8_all, Option, Some, None, refl, sym, ap, ◌∙◌, arith, length-append, take_at}
+use Rattle.std.proofs.Common.{◌≡◌, ℕ, ◌<◌, ◌-◌, Bool, true, false, cond, ◌==◌, List, [], ◌∷◌, ◌++◌, length, take, chars, encode_utf8, encode_utf8_all, Option, Some, None, refl, sym, ap, ◌∙◌, arith, length-append, take_at}
 use Rattle.std.proofs.lemmas.Str.{length-encode, len_utf8_bounds}
+use Rattle.std.proofs.lemmas.Bool.{eqb-true}
 use Rattle.std.proofs.lemmas.List.{append_cancel_right}
 use Rattle.token_text.specs.declared.class.Class.{Class}
 use Rattle.token_text.specs.Characters.{Text, upto, passes, after_run}
 use Rattle.token_text.specs.Front.{Past, raw_word, any_word}
-use Rattle.token_text.specs.Pieces.{has_raw_form}
+use Rattle.token_text.specs.Pieces.{has_raw_form, past_quote}
 
 pub encode_utf8_nonempty : (c : ℕ) → 0 < length (encode_utf8 c)
 encode_utf8_nonempty c = let bounds = len_utf8_bounds c in omega (arith, length-encode c)
@@ -31,3 +32,10 @@ raw_form_found cs rest w e same form = rw (e, same, form) refl
 pub raw_form_lacks : (cs rest : Text) (w : List ℕ) → raw_word cs ≡ Some rest → encode_utf8_all (upto cs rest) ≡ w → has_raw_form w ≡ false → any_word cs ≡ None
 unfolding any_word
 raw_form_lacks cs rest w e same form = rw (e, same, form) refl
+
+-- a text without a quote at its front stays
+pub no_quote : (b : List ℕ) → ((rest : List ℕ) → b ≡ 39 ∷ rest → ⊥) → b ≡ past_quote b
+no_quote [] h = refl
+no_quote (c ∷ b) h =
+    let P : Bool → Type 0 = λ t. (c == 39) ≡ t → c ∷ b ≡ cond t b (c ∷ b) in
+    let f : P (c == 39) = elim (c == 39) as P [ true ↦ λ e. absurd (h b (ap (λ d. d ∷ b) (eqb-true c 39 e))) | false ↦ λ e. refl ] in f refl
