@@ -11,4 +11,3 @@ mod Steps
 mod CharacterLaws
 mod PieceLaws
 mod TextLaws
-pub mod VisibleLaws
