@@ -1,5 +1,6 @@
 //! The readers that are no `Parse` of their tree, as parsers.
 
+ghost use Rattle.std.specs.Prelude.{◌≡◌};
 ghost use Rattle.token_core.specs.Reads.{Gives, Fails};
 ghost use Rattle.token_core.specs.Headline.{Headline};
 ghost use Rattle.syn_mid.specs.path.Grammars as paths;
@@ -13,11 +14,13 @@ use token_core::{Error, ParseStream, Parser};
 /// `Path::parse_mod_style` as a parser, for `read_all_with`.
 #[derive(Drop)]
 pub struct ModStyle<X> {
-    of: PhantomData<X>,
+    pub of: PhantomData<X>,
 }
 
 impl<X> ModStyle<X> {
-    pub fn new() -> ModStyle<X> {
+    pub fn new() -> ModStyle<X>
+        ensures { result ≡ record { of = record {} } }
+    {
         ModStyle { of: PhantomData }
     }
 }

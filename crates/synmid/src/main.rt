@@ -1,6 +1,9 @@
 //! Reads all of the standard input by a named reader, and writes the print of what was read.
 #![tactic(auto)]
 
+ghost use Rattle.std.specs.Prelude.{◌≡◌, IfErr};
+ghost use Rattle.synmid.specs.declared.fault.Fault.{Fault};
+
 mod channel;
 mod fault;
 mod reader;
@@ -26,7 +29,9 @@ fn main(rt: HostRuntime) -> ExitCode {
 }
 
 /// The one argument after the program's name; the empty name where there is none, or are several, or one is no text.
-fn name(rt: &HostRuntime) -> Result<String, Fault> {
+fn name(rt: &HostRuntime) -> Result<String, Fault>
+    ensures { IfErr result (λ fault. fault ≡ Fault.OutOfMemory) }
+{
     match env::args(rt) {
         Ok(mut arguments) => {
             let _program = arguments.next();

@@ -46,6 +46,49 @@ impl Write for Short {
     }
 }
 
+/// A reader that is interrupted before each byte that it gives.
+#[derive(Drop)]
+struct Halting<'a> {
+    rest: &'a [u8],
+    is_interrupted: bool,
+}
+
+impl Read for Halting<'_> {
+    fn read(&mut self, buf: &mut [u8]) -> io::Result<usize> {
+        self.is_interrupted = !self.is_interrupted;
+        if self.is_interrupted {
+            return Err(io::Error::from(ErrorKind::Interrupted));
+        }
+        if buf.is_empty() {
+            return Ok(0);
+        }
+        self.rest.read(&mut buf[..1])
+    }
+}
+
+/// A writer that knows whether it was flushed since the last write, and may refuse that.
+#[derive(Drop)]
+struct Flushing {
+    taken: Vec<u8>,
+    is_flushed: bool,
+    can_flush: bool,
+}
+
+impl Write for Flushing {
+    fn write(&mut self, buf: &[u8]) -> io::Result<usize> {
+        self.is_flushed = false;
+        self.taken.write(buf)
+    }
+
+    fn flush(&mut self) -> io::Result<()> {
+        if !self.can_flush {
+            return Err(io::Error::from(ErrorKind::Other));
+        }
+        self.is_flushed = true;
+        Ok(())
+    }
+}
+
 /// The status and what was written.
 fn ran(alloc: Global, name: &str, input: &[u8]) -> Result<(u8, Vec<u8>), AllocError> {
     let mut output = Plain(Vec::new(alloc));
@@ -159,6 +202,38 @@ fn ends_with_1_where_writing_fails(rt: HostRuntime) -> Result<(), Fail> {
             let status = run(rt.alloc(), name, &mut input, &mut output);
             assert_eq!(rt; status, 1, "{name} of {text} with room for {room}");
             assert!(rt; output.0.taken.as_slice() == &line.as_bytes()[..room]);
+        }
+    }
+    Ok(())
+}
+
+#[test]
+fn reads_on_after_an_interruption(rt: HostRuntime) -> Result<(), Fail> {
+    let mut input = Plain(Halting {
+        rest: b"a::b!{x y}",
+        is_interrupted: false,
+    });
+    let mut output = Plain(Vec::new(rt.alloc()));
+    let status = run(rt.alloc(), "Macro", &mut input, &mut output);
+    assert_eq!(rt; status, 0);
+    assert!(rt; output.0.as_slice() == "a :: b ! { x y }\n".as_bytes());
+    Ok(())
+}
+
+#[test]
+fn flushes_its_line(rt: HostRuntime) -> Result<(), Fail> {
+    for (name, status) in [("Macro", 0), ("Foo", 2)] {
+        for can_flush in [true, false] {
+            let mut input = "m!()".as_bytes();
+            let mut output = Plain(Flushing {
+                taken: Vec::new(rt.alloc()),
+                is_flushed: false,
+                can_flush,
+            });
+            let got = run(rt.alloc(), name, &mut input, &mut output);
+            let wanted = if can_flush { status } else { 1 };
+            assert_eq!(rt; got, wanted, "{name}");
+            assert_eq!(rt; output.0.is_flushed, can_flush, "{name}");
         }
     }
     Ok(())
