@@ -62,8 +62,8 @@ comment_said n (a ∷ b ∷ cs) =
     let all = a ∷ b ∷ cs in
     which (CommentSaid n all) (a == 47 && b == 42)
     (λ e. both (λ t. CommentSaid n t (comment (n + 1) cs)) a b 47 42 cs e (opens_said n cs (comment (n + 1) cs) (comment_said (n + 1) cs))) (λ h.
-      which (CommentSaid n all) (a == 42 && b == 47)
-          (λ e. which (CommentSaid n all) (n == 0)
-              (λ z. both (λ t. CommentSaid n t (Some cs)) a b 42 47 cs e (ends_said n cs z))
-              (λ z. both (λ t. CommentSaid n t (comment (n - 1) cs)) a b 42 47 cs e (closes_said n cs (comment (n - 1) cs) z (comment_said (n - 1) cs))))
-          (λ k. goes_said n a (b ∷ cs) (comment n (b ∷ cs)) (not_pair a b cs h k) (comment_said n (b ∷ cs))))
+    which (CommentSaid n all) (a == 42 && b == 47)
+    (λ e. which (CommentSaid n all) (n == 0)
+    (λ z. both (λ t. CommentSaid n t (Some cs)) a b 42 47 cs e (ends_said n cs z))
+    (λ z. both (λ t. CommentSaid n t (comment (n - 1) cs)) a b 42 47 cs e (closes_said n cs (comment (n - 1) cs) z (comment_said (n - 1) cs))))
+    (λ k. goes_said n a (b ∷ cs) (comment n (b ∷ cs)) (not_pair a b cs h k) (comment_said n (b ∷ cs))))

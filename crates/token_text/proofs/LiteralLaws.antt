@@ -67,9 +67,9 @@ unfolding hashes
 hashes_verdict n [] le = tt
 hashes_verdict n (c ∷ cs) le =
     which (HashesVerdict n (c ∷ cs)) (c == 34) (λ e. hashes_ended n c cs le e) (λ _.
-      which (HashesVerdict n (c ∷ cs)) (c == 35 && not (n == 255))
-          (λ e. hashes_more n c cs (hashes (n + 1) cs) (left _ _ e) (hashes_verdict (n + 1) cs (one_more n le (not_so _ (right (c == 35) _ e)))))
-          (λ _. tt))
+    which (HashesVerdict n (c ∷ cs)) (c == 35 && not (n == 255))
+    (λ e. hashes_more n c cs (hashes (n + 1) cs) (left _ _ e) (hashes_verdict (n + 1) cs (one_more n le (not_so _ (right (c == 35) _ e)))))
+    (λ _. tt))
 
 -- what was found to begin is so
 abbrev pub OpeningSaid : Text → Option Opening → Type 0
@@ -100,19 +100,19 @@ after_b_said [] = tt
 after_b_said (c ∷ cs) =
     let all = 98 ∷ c ∷ cs in
     which (OpeningSaid all) (c == 39) (λ e. with_char_said Byte all cs (λ h. second_is (λ t. Opens Byte Quote t cs) 98 c 39 cs e (byte h))) (λ _.
-      which (OpeningSaid all) (c == 34) (λ e. second_is (λ t. Opens ByteStr DoubleQuote t cs) 98 c 34 cs e byte_string) (λ _.
-        which (OpeningSaid all) (c == 114)
-            (λ e. with_hashes_said ByteStr all cs (λ n es le h. second_is (λ t. Opens ByteStr (Hashes n) t es) 98 c 114 cs e (raw_byte_string le h)))
-            (λ _. tt)))
+    which (OpeningSaid all) (c == 34) (λ e. second_is (λ t. Opens ByteStr DoubleQuote t cs) 98 c 34 cs e byte_string) (λ _.
+    which (OpeningSaid all) (c == 114)
+    (λ e. with_hashes_said ByteStr all cs (λ n es le h. second_is (λ t. Opens ByteStr (Hashes n) t es) 98 c 114 cs e (raw_byte_string le h)))
+    (λ _. tt)))
 
 after_c_said : (cs : Text) → OpeningSaid (99 ∷ cs) (string_after CStr cs)
 after_c_said [] = tt
 after_c_said (c ∷ cs) =
     let all = 99 ∷ c ∷ cs in
     which (OpeningSaid all) (c == 34) (λ e. second_is (λ t. Opens CStr DoubleQuote t cs) 99 c 34 cs e c_string) (λ _.
-      which (OpeningSaid all) (c == 114)
-          (λ e. with_hashes_said CStr all cs (λ n es le h. second_is (λ t. Opens CStr (Hashes n) t es) 99 c 114 cs e (raw_c_string le h)))
-          (λ _. tt))
+    which (OpeningSaid all) (c == 114)
+    (λ e. with_hashes_said CStr all cs (λ n es le h. second_is (λ t. Opens CStr (Hashes n) t es) 99 c 114 cs e (raw_c_string le h)))
+    (λ _. tt))
 
 pub opening_said : (cs : Text) → OpeningSaid cs (opening cs)
 unfolding opening
@@ -120,11 +120,11 @@ opening_said [] = tt
 opening_said (c ∷ cs) =
     let all = c ∷ cs in
     which (OpeningSaid all) (c == 34) (λ e. first_is (λ t. Opens Str DoubleQuote t cs) c 34 cs e string) (λ _.
-      which (OpeningSaid all) (c == 39) (λ e. with_char_said Char all cs (λ h. first_is (λ t. Opens Char Quote t cs) c 39 cs e (char h))) (λ _.
-        which (OpeningSaid all) (c == 114)
-            (λ e. with_hashes_said Str all cs (λ n es le h. first_is (λ t. Opens Str (Hashes n) t es) c 114 cs e (raw_string le h))) (λ _.
-              which (OpeningSaid all) (c == 98) (λ e. first_is (λ t. OpeningSaid t (after_b cs)) c 98 cs e (after_b_said cs)) (λ _.
-                which (OpeningSaid all) (c == 99) (λ e. first_is (λ t. OpeningSaid t (string_after CStr cs)) c 99 cs e (after_c_said cs)) (λ _. tt)))))
+    which (OpeningSaid all) (c == 39) (λ e. with_char_said Char all cs (λ h. first_is (λ t. Opens Char Quote t cs) c 39 cs e (char h))) (λ _.
+    which (OpeningSaid all) (c == 114)
+    (λ e. with_hashes_said Str all cs (λ n es le h. first_is (λ t. Opens Str (Hashes n) t es) c 114 cs e (raw_string le h))) (λ _.
+    which (OpeningSaid all) (c == 98) (λ e. first_is (λ t. OpeningSaid t (after_b cs)) c 98 cs e (after_b_said cs)) (λ _.
+    which (OpeningSaid all) (c == 99) (λ e. first_is (λ t. OpeningSaid t (string_after CStr cs)) c 99 cs e (after_c_said cs)) (λ _. tt)))))
 
 hashes_found : {n : ℕ} {cs ds : Text} (k : LitKind) → n ≤ 255 → AreHashes n cs ds → with_hashes k (hashes 0 cs) ≡ Some (k, Hashes n, ds)
 hashes_found {n} {cs} {ds} k le h =
@@ -217,8 +217,8 @@ unfolding one_char
 char_said [] = tt
 char_said (c ∷ cs) =
     which (CharSaid (c ∷ cs)) (c == 92) (λ e. first_is (λ t. CharSaid t (escaped_char cs)) c 92 cs e (escaped_said cs)) (λ h.
-      which (CharSaid (c ∷ cs)) (c == 39) (λ _. tt) (λ k.
-        quote_said cs (λ _. Unit {0}) (CharSaid (c ∷ cs)) tt (λ rest e. subst (λ t. IsChar (c ∷ t) rest) (sym e) (one h k))))
+    which (CharSaid (c ∷ cs)) (c == 39) (λ _. tt) (λ k.
+    quote_said cs (λ _. Unit {0}) (CharSaid (c ∷ cs)) tt (λ rest e. subst (λ t. IsChar (c ∷ t) rest) (sym e) (one h k))))
 
 abbrev pub ClosedSaid : Closing → Text → Option Text → Type 0
 ClosedSaid how cs None = Unit {0}

@@ -28,10 +28,10 @@ base_said (c ∷ cs) =
     let all = 48 ∷ c ∷ cs in
     which (BaseSaid all) (c == 120 && starts is_ascii_hexdigit cs)
     (λ e. second_is (λ t. IsBase Hexadecimal t cs) 48 c 120 cs (left _ _ e) (hexadecimal (right (c == 120) _ e))) (λ _.
-      which (BaseSaid all) (c == 111 && starts is_ascii_digit cs)
-          (λ e. second_is (λ t. IsBase Octal t cs) 48 c 111 cs (left _ _ e) (octal (right (c == 111) _ e))) (λ _.
-            which (BaseSaid all) (c == 98 && starts is_ascii_digit cs)
-                (λ e. second_is (λ t. IsBase Binary t cs) 48 c 98 cs (left _ _ e) (binary (right (c == 98) _ e))) (λ _. tt)))
+    which (BaseSaid all) (c == 111 && starts is_ascii_digit cs)
+    (λ e. second_is (λ t. IsBase Octal t cs) 48 c 111 cs (left _ _ e) (octal (right (c == 111) _ e))) (λ _.
+    which (BaseSaid all) (c == 98 && starts is_ascii_digit cs)
+    (λ e. second_is (λ t. IsBase Binary t cs) 48 c 98 cs (left _ _ e) (binary (right (c == 98) _ e))) (λ _. tt)))
 
 -- the text after its first digit, and the base that begins with that
 abbrev after_zero : ℕ → Text → Option (Class × Text)
@@ -79,9 +79,9 @@ unfolding exponent
 exponent_said j cs ds [] d f = rules.decimal d f (absent refl)
 exponent_said j cs ds (c ∷ es) d f =
     which (NumberSaid cs) (is_e c) (λ e.
-      which (NumberSaid cs) (starts is_ascii_digit (after_sign es))
-          (λ h. rules.decimal d f (rules.exponent e h (run_is Decimal (after_sign es))))
-          (λ h. (refl, no_digit d f e h)))
+    which (NumberSaid cs) (starts is_ascii_digit (after_sign es))
+    (λ h. rules.decimal d f (rules.exponent e h (run_is Decimal (after_sign es))))
+    (λ h. (refl, no_digit d f e h)))
     (λ e. rules.decimal d f (absent e))
 
 -- the way of a point

@@ -74,15 +74,15 @@ unfolding slash
 slash_said [] = rules.mark refl slash_ends
 slash_said (c ∷ cs) =
     which (LookSaid (47 ∷ c ∷ cs)) (c == 47) (λ e. second_is (λ t. LookSaid t (line_comment cs)) 47 c 47 cs e (line_said cs)) (λ h.
-      which (LookSaid (47 ∷ c ∷ cs)) (c == 42) (λ e. second_is (λ t. LookSaid t (block_comment cs)) 47 c 42 cs e (block_said cs))
-          (λ k. rules.mark refl (slash_mark c cs h k)))
+    which (LookSaid (47 ∷ c ∷ cs)) (c == 42) (λ e. second_is (λ t. LookSaid t (block_comment cs)) 47 c 42 cs e (block_said cs))
+    (λ k. rules.mark refl (slash_mark c cs h k)))
 
 backslash_said : (cs : Text) → LookSaid (92 ∷ cs) (backslash cs)
 unfolding backslash
 backslash_said [] = inr refl
 backslash_said (c ∷ cs) =
     which (LookSaid (92 ∷ c ∷ cs)) (c == 40) (λ e. second_is (λ t. IsPiece (Open delimiters.None) t cs) 92 c 40 cs e (rules.opening {d = delimiters.None})) (λ _.
-      which (LookSaid (92 ∷ c ∷ cs)) (c == 41) (λ e. second_is (λ t. IsPiece (Close delimiters.None) t cs) 92 c 41 cs e (rules.closing {d = delimiters.None})) (λ _. inr refl))
+    which (LookSaid (92 ∷ c ∷ cs)) (c == 41) (λ e. second_is (λ t. IsPiece (Close delimiters.None) t cs) 92 c 41 cs e (rules.closing {d = delimiters.None})) (λ _. inr refl))
 
 -- ---- single characters, words and numbers
 
@@ -95,13 +95,13 @@ unfolding single
 single_said c cs slash =
     let P : Result Piece ErrorKind → Type 0 = λ r. LookSaid (c ∷ cs) (before cs r) in
     which P (is_blank c) (λ e. rules.blank e) (λ _.
-      which P (c == 40) (λ e. first_is (λ t. IsPiece (Open delimiters.Parenthesis) t cs) c 40 cs e (rules.opening {d = delimiters.Parenthesis})) (λ _.
-        which P (c == 41) (λ e. first_is (λ t. IsPiece (Close delimiters.Parenthesis) t cs) c 41 cs e (rules.closing {d = delimiters.Parenthesis})) (λ _.
-          which P (c == 91) (λ e. first_is (λ t. IsPiece (Open delimiters.Bracket) t cs) c 91 cs e (rules.opening {d = delimiters.Bracket})) (λ _.
-            which P (c == 93) (λ e. first_is (λ t. IsPiece (Close delimiters.Bracket) t cs) c 93 cs e (rules.closing {d = delimiters.Bracket})) (λ _.
-              which P (c == 123) (λ e. first_is (λ t. IsPiece (Open delimiters.Brace) t cs) c 123 cs e (rules.opening {d = delimiters.Brace})) (λ _.
-                which P (c == 125) (λ e. first_is (λ t. IsPiece (Close delimiters.Brace) t cs) c 125 cs e (rules.closing {d = delimiters.Brace})) (λ _.
-                  which P (is_mark c) (λ e. rules.mark e (no_slash c cs slash)) (λ _. inr refl))))))))
+    which P (c == 40) (λ e. first_is (λ t. IsPiece (Open delimiters.Parenthesis) t cs) c 40 cs e (rules.opening {d = delimiters.Parenthesis})) (λ _.
+    which P (c == 41) (λ e. first_is (λ t. IsPiece (Close delimiters.Parenthesis) t cs) c 41 cs e (rules.closing {d = delimiters.Parenthesis})) (λ _.
+    which P (c == 91) (λ e. first_is (λ t. IsPiece (Open delimiters.Bracket) t cs) c 91 cs e (rules.opening {d = delimiters.Bracket})) (λ _.
+    which P (c == 93) (λ e. first_is (λ t. IsPiece (Close delimiters.Bracket) t cs) c 93 cs e (rules.closing {d = delimiters.Bracket})) (λ _.
+    which P (c == 123) (λ e. first_is (λ t. IsPiece (Open delimiters.Brace) t cs) c 123 cs e (rules.opening {d = delimiters.Brace})) (λ _.
+    which P (c == 125) (λ e. first_is (λ t. IsPiece (Close delimiters.Brace) t cs) c 125 cs e (rules.closing {d = delimiters.Brace})) (λ _.
+    which P (is_mark c) (λ e. rules.mark e (no_slash c cs slash)) (λ _. inr refl))))))))
 
 word_said : (c : ℕ) (cs : Text) (o : Option Text) → (c == 47) ≡ false → NoLiteral (c ∷ cs) → AnyWordSaid (c ∷ cs) o → LookSaid (c ∷ cs) (word_or_single c cs o)
 word_said c cs None h n s = single_said c cs h
@@ -118,8 +118,8 @@ plain_said : (c : ℕ) (cs : Text) → (c == 47) ≡ false → opening (c ∷ cs
 unfolding plain
 plain_said c cs h none =
     which (LookSaid (c ∷ cs)) (c == 98 && begins_with (is_char 39) cs) (λ _. inr refl) (λ byte.
-      which (LookSaid (c ∷ cs)) (is_ascii_digit c) (λ e. number_piece c cs (number c cs) (number_said c cs e)) (λ _.
-        word_said c cs (any_word (c ∷ cs)) h (record { no_literal = no_opening (c ∷ cs) none; no_byte = byte }) (any_word_said (c ∷ cs))))
+    which (LookSaid (c ∷ cs)) (is_ascii_digit c) (λ e. number_piece c cs (number c cs) (number_said c cs e)) (λ _.
+    word_said c cs (any_word (c ∷ cs)) h (record { no_literal = no_opening (c ∷ cs) none; no_byte = byte }) (any_word_said (c ∷ cs))))
 
 lifetime_said : (cs : Text) (o : Option Text) → begins_char cs ≡ false → AnyWordSaid cs o → LookSaid (39 ∷ cs) (known lifetime_piece o)
 lifetime_said cs None h s = inr refl
@@ -135,10 +135,10 @@ unopened_said : (c : ℕ) (cs : Text) → opening (c ∷ cs) ≡ None → LookSa
 unfolding unopened
 unopened_said c cs none =
     which (LookSaid (c ∷ cs)) (c == 47) (λ e. first_is (λ t. LookSaid t (slash cs)) c 47 cs e (slash_said cs)) (λ h.
-      which (LookSaid (c ∷ cs)) (c == 39)
-          (λ e. first_is (λ t. LookSaid t (known lifetime_piece (any_word cs))) c 39 cs e
-              (lifetime_said cs (any_word cs) (no_char cs (subst (λ d. opening (d ∷ cs) ≡ None) (same_number c 39 e) none)) (any_word_said cs)))
-          (λ _. which (LookSaid (c ∷ cs)) (c == 92) (λ e. first_is (λ t. LookSaid t (backslash cs)) c 92 cs e (backslash_said cs)) (λ _. plain_said c cs h none)))
+    which (LookSaid (c ∷ cs)) (c == 39)
+    (λ e. first_is (λ t. LookSaid t (known lifetime_piece (any_word cs))) c 39 cs e
+    (lifetime_said cs (any_word cs) (no_char cs (subst (λ d. opening (d ∷ cs) ≡ None) (same_number c 39 e) none)) (any_word_said cs)))
+    (λ _. which (LookSaid (c ∷ cs)) (c == 92) (λ e. first_is (λ t. LookSaid t (backslash cs)) c 92 cs e (backslash_said cs)) (λ _. plain_said c cs h none)))
 
 other_said : (cs : Text) → opening cs ≡ None → LookSaid cs (other cs)
 other_said [] none = inr refl
@@ -234,7 +234,7 @@ mark_look c rest h k =
     let P : Bool → Type 0 = λ b. (c == 47) ≡ b → look (c ∷ rest) ≡ marked c rest in
     let g : P (c == 47) = elim (c == 47) as P [
       | true ↦ λ e. (let same = same_number c 47 e in
-        subst (λ d. look (d ∷ rest) ≡ marked d rest) (sym same)
+          subst (λ d. look (d ∷ rest) ≡ marked d rest) (sym same)
           (slash_look rest ∙ no_comment_mark rest (subst (λ d. begins_comment d rest ≡ false) same k)))
       | false ↦ λ e. lone_look c rest (mark_lone c h e) ∙ ap (before rest) (single_mark c rest h)
     ] in g refl
@@ -376,10 +376,13 @@ no_name_of cs k e u h n =
 
 faulty_by : (cs : Text) (k : ErrorKind) → front cs ≡ Err k → Named k cs ⊎ (k ≡ UnknownToken) → Faulty k cs
 faulty_by cs k h (inl n) = inl n
-faulty_by cs k h (inr u) = inr (u, record {
-  no_piece = λ p w rest b. (let bad = sym h ∙ front_only p cs w rest b in cc);
-  no_name = λ e n. no_name_of cs k e u h n;
-})
+faulty_by cs k h (inr u) = inr (
+  u,
+  record {
+    no_piece = λ p w rest b. (let bad = sym h ∙ front_only p cs w rest b in cc);
+    no_name = λ e n. no_name_of cs k e u h n;
+  },
+)
 
 -- where none is found, the text is faulty
 pub front_faulty : (cs : Text) (k : ErrorKind) → front cs ≡ Err k → Faulty k cs

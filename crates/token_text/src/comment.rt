@@ -59,7 +59,10 @@ pub fn line(text: &str) -> Result<(Piece, &str), ErrorKind>
     if is_line_doc(text) {
         Err(ErrorKind::DocComment)
     } else {
-        Ok((Piece::Leaf(Leaf::Blank), word::after_run(text, Class::NoLineFeed)))
+        Ok((
+            Piece::Leaf(Leaf::Blank),
+            word::after_run(text, Class::NoLineFeed),
+        ))
     }
 }
 

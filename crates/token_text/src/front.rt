@@ -5,11 +5,8 @@ ghost use Rattle.token_text.specs.Characters as c;
 ghost use Rattle.token_text.specs.Front as spec;
 ghost use Rattle.token_text.specs.Pieces as pieces;
 
-use crate::comment;
-use crate::literal;
-use crate::number;
 use crate::piece::{Closing, Leaf, Piece};
-use crate::word;
+use crate::{comment, literal, number, word};
 use token_core::{Delimiter, ErrorKind, LitKind, Spacing};
 
 const BLANKS: [char; 4] = [' ', '\t', '\n', '\r'];

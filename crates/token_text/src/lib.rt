@@ -12,6 +12,8 @@ mod printer;
 mod reader;
 #[cfg(test)]
 mod tests;
+#[cfg(test)]
+mod texts;
 mod word;
 
 pub use lexer::lex;

@@ -9,8 +9,8 @@ use crate::piece::{Leaf, Piece};
 use std::alloc::{AllocError, Global};
 use std::mem;
 use token_core::{
-    DelimSpan, Delimiter, Error, ErrorKind, Group, Ident, Literal, Punct, Spacing, Span, TokenStream,
-    TokenTree,
+    DelimSpan, Delimiter, Error, ErrorKind, Group, Ident, Literal, Punct, Spacing, Span,
+    TokenStream, TokenTree,
 };
 
 /// A group whose closing bracket is still to come.
@@ -93,13 +93,15 @@ impl Reader {
     fn push_word(&mut self, text: &str, span: Span) -> Result<(), AllocError>
         ensures { IfOk result (λ _. spec.state_of self.new ≡ spec.with_tree (pieces.word_tree text.now span) (spec.state_of self.old)) }
     {
-        self.trees.push(TokenTree::Ident(Ident::new(self.alloc, text, span)?))
+        self.trees
+            .push(TokenTree::Ident(Ident::new(self.alloc, text, span)?))
     }
 
     fn push_mark(&mut self, ch: char, spacing: Spacing, span: Span) -> Result<(), AllocError>
         ensures { IfOk result (λ _. spec.state_of self.new ≡ spec.with_tree (pieces.mark_tree ch spacing span) (spec.state_of self.old)) }
     {
-        self.trees.push(TokenTree::Punct(Punct::new(ch, spacing, span)))
+        self.trees
+            .push(TokenTree::Punct(Punct::new(ch, spacing, span)))
     }
 
     fn open_group(&mut self, delimiter: Delimiter, span: Span) -> Result<(), AllocError>

@@ -38,11 +38,7 @@ pub fn after_char(text: &str, ch: char) -> Option<&str>
     ensures { spec.Finds (spec.after_char ch (chars text.now)) text.now result }
 {
     let (first, rest) = split_first(text)?;
-    if first == ch {
-        Some(rest)
-    } else {
-        None
-    }
+    if first == ch { Some(rest) } else { None }
 }
 
 /// Whether this character stands here.
