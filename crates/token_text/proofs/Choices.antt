@@ -1,5 +1,5 @@
 -- Which way a function on the front of a text goes.
-use Rattle.std.proofs.Common.{◌≡◌, ℕ, true, false, ◌&&◌, ◌==◌, ◌∷◌, refl, eq-eqb}
+use Rattle.std.proofs.Common.{◌≡◌, ℕ, true, false, ◌&&◌, ◌==◌, ◌∷◌, refl}
 use Rattle.std.specs.Char.{is_ascii_digit}
 use Rattle.token_core.specs.declared.tree.LitKind.{LitKind}
 use Rattle.token_text.specs.Characters.{Text, begins_with}

@@ -1,6 +1,6 @@
 -- Comments: what is found is one by the rules, and only that.
-use Rattle.std.proofs.Common.{◌≡◌, ℕ, zero, suc, ◌+◌, ◌-◌, Bool, true, false, cond, not, ◌&&◌, ◌||◌, ◌==◌, List, [], ◌∷◌, Option, Some, None, refl, sym, ap, ◌∙◌, subst, arith, eq-eqb}
-use Rattle.token_text.specs.Characters.{Text, begins_with}
+use Rattle.std.proofs.Common.{◌≡◌, ℕ, zero, suc, ◌+◌, ◌-◌, Bool, true, false, ◌&&◌, ◌||◌, ◌==◌, [], ◌∷◌, Option, Some, None, refl, sym, ap, ◌∙◌, subst, arith}
+use Rattle.token_text.specs.Characters.{Text}
 use Rattle.token_text.specs.Front.{comment}
 use Rattle.token_text.specs.Literals.{is_pair, IsComment, ends, inner_begins, inner_ends, goes_on}
 use Rattle.token_text.proofs.CharacterLaws.{same_number, which, left, right}

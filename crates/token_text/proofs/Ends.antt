@@ -1,5 +1,5 @@
 -- Ends of texts by their characters, and what the rules leave of a text.
-use Rattle.std.proofs.Common.{◌≡◌, ℕ, zero, suc, ◌<◌, List, [], ◌∷◌, ◌++◌, length, drop, Bool, true, false, ◌||◌, ◌==◌, if◌then◌else◌, refl, ap, sym, ◌∙◌, arith, length-append}
+use Rattle.std.proofs.Common.{◌≡◌, ℕ, zero, suc, ◌<◌, [], ◌∷◌, ◌++◌, length, drop, true, false, ◌||◌, ◌==◌, if◌then◌else◌, refl, ap, ◌∙◌, arith}
 use Rattle.token_core.specs.declared.tree.LitKind.{LitKind}
 use Rattle.token_text.specs.declared.class.Class.{Class}
 use Rattle.token_text.specs.declared.piece.Closing.{Closing}

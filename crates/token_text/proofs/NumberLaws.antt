@@ -1,17 +1,16 @@
 -- Numbers: what is found is so by the rules, and only that.
-use Rattle.std.proofs.Common.{◌≡◌, ℕ, zero, suc, ◌+◌, ◌-◌, Bool, true, false, cond, not, ◌&&◌, ◌||◌, ◌==◌, List, [], ◌∷◌, Option, Some, None, Result, Ok, Err, refl, sym, ap, ◌∙◌, subst, arith, eq-eqb}
+use Rattle.std.proofs.Common.{◌≡◌, ℕ, Bool, true, false, cond, ◌&&◌, ◌||◌, ◌==◌, [], ◌∷◌, Option, Some, None, Ok, Err, refl, sym, ap, ◌∙◌, subst}
 use Rattle.std.specs.Char.{is_ascii_digit, is_ascii_hexdigit}
-use Rattle.token_core.specs.declared.error.ErrorKind.{ErrorKind}
 use Rattle.token_core.specs.declared.error.ErrorKind.TheVariants.{MalformedNumber}
 use Rattle.token_core.specs.declared.tree.LitKind.{LitKind}
 use Rattle.token_core.specs.declared.tree.LitKind.TheVariants.{Int, Float}
 use Rattle.token_text.specs.declared.class.Class.{Class}
 use Rattle.token_text.specs.declared.class.Class.TheVariants.{Binary, Octal, Decimal, Hexadecimal}
 use Rattle.token_text.specs.Characters.{Text, begins_with, is_start, after_run, starts}
-use Rattle.token_text.specs.Front.{after_char, base, Numeral, based, after_sign, is_e, exponent_digits, exponent, unless_more, point, fraction_by, fraction, decimal, based_or_decimal, number}
+use Rattle.token_text.specs.Front.{base, Numeral, based, after_sign, is_e, exponent, unless_more, point, fraction_by, fraction, decimal, based_or_decimal, number}
 use Rattle.token_text.specs.Literals as rules
 use Rattle.token_text.specs.Literals.{Run, IsBase, hexadecimal, octal, binary, HasBase, IsDecimal, digits, IsFraction, whole, begins_fraction, IsExponent, absent, IsNumber, of_base, IsMalformed, outside, no_digit}
-use Rattle.token_text.proofs.CharacterLaws.{same_number, which, left, right, off}
+use Rattle.token_text.proofs.CharacterLaws.{same_number, which, left, right}
 use Rattle.token_text.proofs.LiteralLaws.{first_is, second_is}
 use Rattle.token_text.proofs.RunLaws.{run_is, run_only}
 

@@ -1,8 +1,8 @@
 -- The front that is found is the piece with which the text begins, and the only one; and where none is found, there is a reason.
-use Rattle.std.proofs.Common.{◌≡◌, ◌⊎◌, inl, inr, ℕ, ◌<◌, Bool, true, false, cond, not, nat_lt, ◌&&◌, ◌||◌, ◌==◌, if◌then◌else◌, [], ◌∷◌, ◌++◌, codes, Option, Some, None, Result, Ok, Err, refl, sym, ap, ◌∙◌, subst}
+use Rattle.std.proofs.Common.{◌≡◌, ◌⊎◌, inl, inr, ℕ, Bool, true, false, cond, not, ◌&&◌, ◌||◌, ◌==◌, if◌then◌else◌, [], ◌∷◌, ◌++◌, codes, Option, Some, None, Result, Ok, Err, refl, sym, ap, ◌∙◌, subst}
 use Rattle.std.specs.Char.{is_ascii_digit}
 use Rattle.token_core.specs.declared.error.ErrorKind.{ErrorKind}
-use Rattle.token_core.specs.declared.error.ErrorKind.TheVariants.{UnknownToken, UnterminatedToken, DocComment, MalformedNumber}
+use Rattle.token_core.specs.declared.error.ErrorKind.TheVariants.{UnknownToken, DocComment}
 use Rattle.token_core.specs.declared.tree.Delimiter.{Delimiter}
 use Rattle.token_core.specs.declared.tree.Delimiter.TheVariants as delimiters
 use Rattle.token_core.specs.declared.tree.LitKind.{LitKind}
@@ -10,17 +10,17 @@ use Rattle.token_core.specs.declared.tree.LitKind.TheVariants.{Char}
 use Rattle.token_text.specs.declared.class.Class.TheVariants.{NoLineFeed}
 use Rattle.token_text.specs.declared.piece.Closing.{Closing}
 use Rattle.token_text.specs.declared.piece.Closing.TheVariants.{Quote}
-use Rattle.token_text.specs.declared.piece.Leaf.TheVariants.{Blank, Word, Lifetime, Literal, Mark}
+use Rattle.token_text.specs.declared.piece.Leaf.TheVariants.{Blank, Word, Lifetime, Literal}
 use Rattle.token_text.specs.declared.piece.Piece.{Piece}
 use Rattle.token_text.specs.declared.piece.Piece.TheVariants.{Leaf, Open, Close}
 use Rattle.token_text.specs.Characters.{Text, upto, begins_with, is_blank, is_mark, is_start, after_run}
 use Rattle.token_text.specs.Front.{Look, Opening, begins_char, opening, closed, comment, after_suffix, ends, known, lifetime_piece, mark_piece, marked, numeral, number, any_word, before, single, word_or_single, line_comment, block_comment, slash, backslash, plain, unopened, other, opened_or_other, look, Found, found, front}
 use Rattle.token_text.specs.Front as f
-use Rattle.token_text.specs.Literals.{IsAnyWord, Opens, Closes, IsNumber, IsMalformed, IsComment}
-use Rattle.token_text.specs.Pieces.{is_char, begins_comment, spacing, is_line_doc, is_block_doc}
+use Rattle.token_text.specs.Literals.{IsAnyWord, Opens, Closes, IsComment}
+use Rattle.token_text.specs.Pieces.{is_char, begins_comment, is_line_doc, is_block_doc}
 use Rattle.token_text.specs.Spelling as rules
 use Rattle.token_text.specs.Spelling.{opens, closes, begins_byte, NoLiteral, IsPiece, Begins, Named, no_end, no_comment_end, line_doc, block_doc, malformed, Faulty}
-use Rattle.token_text.proofs.CharacterLaws.{same_number, which, left, right, listed, off, lone, lone_starts, lone_digit, clash, start_clash, mark_lone, blank_lone, no_digit_starts}
+use Rattle.token_text.proofs.CharacterLaws.{same_number, which, listed, off, lone, lone_starts, lone_digit, clash, start_clash, mark_lone, blank_lone, no_digit_starts}
 use Rattle.token_text.proofs.RunLaws.{run_is, run_only, AnyWordSaid, any_word_said, any_word_only, any_word_starts, no_word, suffix_is, suffix_only}
 use Rattle.token_text.proofs.LiteralLaws.{first_is, second_is, OpeningSaid, opening_said, opening_only, ClosedSaid, closed_said, closed_only}
 use Rattle.token_text.proofs.NumberLaws.{NumberSaid, number_said, number_of, number_only_of, malformed_of, Digit, number_digit, malformed_digit}

@@ -1,5 +1,5 @@
 -- Runs, words and suffixes: what is found is so by the rules, and only that.
-use Rattle.std.proofs.Common.{◌≡◌, ℕ, Bool, true, false, cond, ◌&&◌, ◌==◌, List, [], ◌∷◌, ◌++◌, codes, encode_utf8_all, Option, Some, None, refl, sym, ap, ◌∙◌, subst}
+use Rattle.std.proofs.Common.{◌≡◌, ℕ, true, false, ◌&&◌, ◌==◌, [], ◌∷◌, encode_utf8_all, Option, Some, None, refl, sym, ap, ◌∙◌, subst}
 use Rattle.token_text.specs.declared.class.Class.{Class}
 use Rattle.token_text.specs.declared.class.Class.TheVariants.{Continue}
 use Rattle.token_text.specs.Characters.{Text, upto, begins_with, is_letter, is_start, passes, after_run}

@@ -1,5 +1,5 @@
 -- Reading, a piece at a time.
-use Rattle.std.proofs.Common.{◌≡◌, ℕ, zero, suc, ◌<◌, ◌+◌, ◌-◌, ◌≤◌, List, [], ◌∷◌, ◌++◌, length, take, drop, encode_utf8, encode_utf8_all, Some, None, Result, Ok, Err, refl, sym, ap, ap₂, ◌∙◌, arith, length-append, drop_at, take_at, inl, inr, chars}
+use Rattle.std.proofs.Common.{◌≡◌, ℕ, zero, suc, ◌<◌, ◌+◌, ◌-◌, ◌≤◌, List, [], ◌∷◌, ◌++◌, length, take, drop, encode_utf8, encode_utf8_all, Result, Ok, Err, refl, sym, ap, ap₂, ◌∙◌, arith, length-append, drop_at, take_at, inl, inr, chars}
 use Rattle.std.proofs.lemmas.Str.{length-encode, length-le-encodes}
 use Rattle.std.specs.Char.{len_utf8}
 use Rattle.token_core.specs.Refusal.{Refusal, Stored}

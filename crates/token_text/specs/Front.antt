@@ -9,14 +9,14 @@ use Rattle.token_core.specs.declared.tree.LitKind.{LitKind}
 use Rattle.token_core.specs.declared.tree.LitKind.TheVariants.{Str, ByteStr, CStr, Byte, Char, Int, Float}
 use Rattle.token_core.specs.Toks.{Bytes}
 use Rattle.token_text.specs.declared.class.Class.{Class}
-use Rattle.token_text.specs.declared.class.Class.TheVariants.{Continue, Binary, Octal, Decimal, Hexadecimal, Underscore, NoQuote, NoLineFeed}
+use Rattle.token_text.specs.declared.class.Class.TheVariants.{Continue, Binary, Octal, Decimal, Hexadecimal, NoQuote, NoLineFeed}
 use Rattle.token_text.specs.declared.piece.Closing.{Closing}
 use Rattle.token_text.specs.declared.piece.Closing.TheVariants.{DoubleQuote, Hashes, Quote}
 use Rattle.token_text.specs.declared.piece.Leaf.TheVariants.{Blank, Word, Lifetime, Literal, Mark}
 use Rattle.token_text.specs.declared.piece.Piece.{Piece}
 use Rattle.token_text.specs.declared.piece.Piece.TheVariants.{Leaf, Open, Close}
 use Rattle.token_text.specs.Characters.{Text, upto, begins_with, is_blank, is_mark, is_letter, is_start, after_run, starts}
-use Rattle.token_text.specs.Pieces.{has_raw_form, is_char, begins_comment, spacing, is_line_doc, is_block_doc}
+use Rattle.token_text.specs.Pieces.{has_raw_form, is_char, spacing, is_line_doc, is_block_doc}
 
 -- what follows the first character
 abbrev pub tail : Text → Text

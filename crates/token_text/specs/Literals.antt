@@ -4,7 +4,7 @@ use Rattle.std.specs.Char.{is_ascii_digit, is_ascii_hexdigit}
 use Rattle.token_core.specs.declared.tree.LitKind.{LitKind}
 use Rattle.token_core.specs.declared.tree.LitKind.TheVariants.{Str, ByteStr, CStr, Byte, Char, Int, Float}
 use Rattle.token_text.specs.declared.class.Class.{Class}
-use Rattle.token_text.specs.declared.class.Class.TheVariants.{Continue, Binary, Octal, Decimal, Hexadecimal, Underscore, NoQuote}
+use Rattle.token_text.specs.declared.class.Class.TheVariants.{Continue, Binary, Octal, Decimal, Hexadecimal, NoQuote}
 use Rattle.token_text.specs.declared.piece.Closing.{Closing}
 use Rattle.token_text.specs.declared.piece.Closing.TheVariants.{DoubleQuote, Hashes, Quote}
 use Rattle.token_text.specs.Characters.{Text, upto, begins_with, is_letter, is_start, passes, starts}

@@ -1,5 +1,5 @@
 -- What a text spells, rule by rule.
-use Rattle.std.specs.Prelude.{◌≡◌, ◌≢◌, ◌⊎◌, ℕ, zero, ◌+◌, true, false, ◌&&◌, ◌==◌, Bool, List, [], ◌∷◌, ◌++◌, codes, encode_utf8_all, chars, Option, Some, None}
+use Rattle.std.specs.Prelude.{◌≡◌, ◌⊎◌, ℕ, zero, ◌+◌, true, false, ◌&&◌, ◌==◌, Bool, List, [], ◌∷◌, ◌++◌, codes, encode_utf8_all, chars, Option, Some, None}
 use Rattle.std.specs.Char.{len_utf8}
 use Rattle.token_core.specs.declared.tree.Delimiter.{Delimiter}
 use Rattle.token_core.specs.declared.tree.Delimiter.TheVariants.{Parenthesis, Brace, Bracket, None as Invisible}

@@ -1,4 +1,4 @@
-use Rattle.std.proofs.Common.{◌≡◌, ◌∙◌, Some, None, chars, rules, arith, length}
+use Rattle.std.proofs.Common.{◌∙◌, rules, arith}
 use Rattle.token_text.proofs.Pasts.{past_trans}
 use Rattle.token_text.proofs.Scans.{comment_none, comment_short, comment_opens, comment_ends, comment_closes, comment_goes}
 use Rattle.token_text.proofs.comment.after_block.Goals as goal

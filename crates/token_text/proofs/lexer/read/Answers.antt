@@ -3,7 +3,6 @@ use Rattle.std.proofs.lemmas.Result.{err_from_is_err_and}
 use Rattle.std.specs.Char.{len_utf8}
 use Rattle.token_core.specs.Spans.{span}
 use Rattle.token_core.specs.Refusal.{named}
-use Rattle.token_core.specs.declared.span.Span.{Span}
 use Rattle.token_text.specs.Reading.{reads, lexed, state_of, finish}
 use Rattle.token_text.proofs.Steps.{reads_faulty, reads_end, front_refused, look_ahead, look_goes, look_stops, fails_so, made_fails}
 use Rattle.token_text.proofs.lexer.read.Goals as goal

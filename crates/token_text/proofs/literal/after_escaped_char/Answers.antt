@@ -1,4 +1,4 @@
-use Rattle.std.proofs.Common.{ap, ◌∙◌, sym, chars}
+use Rattle.std.proofs.Common.{ap, ◌∙◌, sym}
 use Rattle.token_text.specs.Front.{after_char, escaped_char}
 use Rattle.token_text.proofs.Pasts.{past_trans, finds_past}
 use Rattle.token_text.proofs.literal.after_escaped_char.Goals as goal

@@ -1,4 +1,4 @@
-use Rattle.std.proofs.Common.{◌∙◌, ap, sym, Some, chars, rules}
+use Rattle.std.proofs.Common.{◌∙◌, ap, sym, Some, rules}
 use Rattle.token_text.proofs.Pasts.{past_trans}
 use Rattle.token_text.proofs.Scans.{hashed_none, hashed_end, hashed_over, hashed_goes}
 use Rattle.token_text.proofs.literal.after_raw_string.Goals as goal

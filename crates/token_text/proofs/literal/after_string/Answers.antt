@@ -1,4 +1,4 @@
-use Rattle.std.proofs.Common.{◌∙◌, chars, rules}
+use Rattle.std.proofs.Common.{◌∙◌, rules}
 use Rattle.token_text.proofs.Pasts.{past_trans}
 use Rattle.token_text.proofs.Scans.{quoted_none, quoted_end, quoted_goes}
 use Rattle.token_text.proofs.literal.after_string.Goals as goal

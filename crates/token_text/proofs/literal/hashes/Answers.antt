@@ -1,4 +1,4 @@
-use Rattle.std.proofs.Common.{◌∙◌, chars, rules, arith}
+use Rattle.std.proofs.Common.{◌∙◌, rules}
 use Rattle.token_text.proofs.Pasts.{past_trans}
 use Rattle.token_text.proofs.Scans.{hashes_none, hashes_end, hashes_stop, hashes_goes}
 use Rattle.token_text.proofs.literal.hashes.Goals as goal
