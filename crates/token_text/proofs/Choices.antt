@@ -3,8 +3,8 @@ use Rattle.std.proofs.Common.{◌≡◌, ℕ, true, false, ◌&&◌, ◌==◌, �
 use Rattle.std.specs.Char.{is_ascii_digit}
 use Rattle.token_core.specs.declared.tree.LitKind.{LitKind}
 use Rattle.token_text.specs.Characters.{Text, begins_with}
-use Rattle.token_text.specs.Front.{exponent, exponent_digits, after_sign, is_e, plain, numeral, number, unopened, slash, known, lifetime_piece, any_word, backslash}
-use Rattle.token_text.specs.Pieces.{is_char}
+use Rattle.token_text.specs.Front.{exponent, exponent_digits, plain, numeral, number, unopened, slash, known, lifetime_piece, any_word, backslash}
+use Rattle.token_text.specs.Pieces.{after_sign, is_e, is_char}
 
 pub exponent_goes : (k : LitKind) (cs ds : Text) (c : ℕ) → cs ≡ c ∷ ds → is_e c ≡ true → exponent k cs ≡ exponent_digits (after_sign ds)
 unfolding exponent

@@ -1,6 +1,7 @@
 -- Ends of texts by their characters, and what the rules leave of a text.
 use Rattle.std.proofs.Common.{◌≡◌, ℕ, zero, suc, ◌<◌, [], ◌∷◌, ◌++◌, length, drop, true, false, ◌||◌, ◌==◌, if◌then◌else◌, refl, ap, ◌∙◌, arith}
 use Rattle.token_core.specs.declared.tree.LitKind.{LitKind}
+use Rattle.token_text.specs.Pieces.{after_sign}
 use Rattle.token_text.specs.declared.class.Class.{Class}
 use Rattle.token_text.specs.declared.piece.Closing.{Closing}
 use Rattle.token_text.specs.declared.piece.Closing.TheVariants.{DoubleQuote, Hashes, Quote}
@@ -8,7 +9,6 @@ use Rattle.token_text.specs.declared.piece.Piece.{Piece}
 use Rattle.token_core.specs.declared.tree.Delimiter.{Delimiter}
 use Rattle.token_core.specs.declared.tree.Delimiter.TheVariants as delimiters
 use Rattle.token_text.specs.Characters.{Text, upto}
-use Rattle.token_text.specs.Front.{after_sign}
 use Rattle.token_text.specs.Literals.{Run, run_ends, run_goes, IsWord, a_word, IsAnyWord, plain, raw, AreHashes, no_hash, a_hash, Opens, string, byte_string, c_string, raw_string, raw_byte_string, raw_c_string, char, byte, IsQuoted, double_quote, escape, other, IsHashed, here, later, IsChar, escaped, one, Closes, IsSuffix, none, suffix, IsBase, hexadecimal, octal, binary, IsDecimal, digits, IsFraction, whole, fraction, IsExponent, absent, exponent, IsNumber, of_base, decimal, IsComment, ends, inner_begins, inner_ends, goes_on}
 use Rattle.token_text.specs.Spelling.{IsPiece, blank, line_comment, block_comment, word, lifetime, literal, number, mark, opening, closing, opens, closes}
 use Rattle.token_text.proofs.Words.{upto_front}

@@ -2,11 +2,12 @@
 use Rattle.std.proofs.Common.{◌≡◌, ℕ, suc, ◌+◌, ◌≤◌, Bool, true, false, not, ◌&&◌, ◌==◌, [], ◌∷◌, drop, Option, Some, None, refl, sym, ap, ◌∙◌, subst, arith, eq-eqb}
 use Rattle.token_core.specs.declared.tree.LitKind.{LitKind}
 use Rattle.token_core.specs.declared.tree.LitKind.TheVariants.{Str, ByteStr, CStr, Byte, Char}
+use Rattle.token_text.specs.Pieces.{begins_char, has_hashes}
 use Rattle.token_text.specs.declared.class.Class.TheVariants.{NoQuote}
 use Rattle.token_text.specs.declared.piece.Closing.{Closing}
 use Rattle.token_text.specs.declared.piece.Closing.TheVariants.{DoubleQuote, Hashes, Quote}
 use Rattle.token_text.specs.Characters.{Text, after_run}
-use Rattle.token_text.specs.Front.{after_char, hashes, begins_char, Opening, with_hashes, with_char, string_after, after_b, opening, quoted, has_hashes, hashed, escaped_char, one_char, closed}
+use Rattle.token_text.specs.Front.{after_char, hashes, Opening, with_hashes, with_char, string_after, after_b, opening, quoted, hashed, escaped_char, one_char, closed}
 use Rattle.token_text.specs.Literals.{Run, AreHashes, no_hash, a_hash, Opens, string, byte_string, c_string, raw_string, raw_byte_string, raw_c_string, char, byte, IsQuoted, double_quote, escape, other, IsHashed, here, later, IsChar, escaped, one, Closes}
 use Rattle.token_text.proofs.CharacterLaws.{same_number, which, left, right}
 use Rattle.token_text.proofs.RunLaws.{run_is, run_only}

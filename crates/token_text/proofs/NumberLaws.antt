@@ -4,10 +4,11 @@ use Rattle.std.specs.Char.{is_ascii_digit, is_ascii_hexdigit}
 use Rattle.token_core.specs.declared.error.ErrorKind.TheVariants.{MalformedNumber}
 use Rattle.token_core.specs.declared.tree.LitKind.{LitKind}
 use Rattle.token_core.specs.declared.tree.LitKind.TheVariants.{Int, Float}
+use Rattle.token_text.specs.Pieces.{after_sign, is_e}
 use Rattle.token_text.specs.declared.class.Class.{Class}
 use Rattle.token_text.specs.declared.class.Class.TheVariants.{Binary, Octal, Decimal, Hexadecimal}
 use Rattle.token_text.specs.Characters.{Text, begins_with, is_start, after_run, starts}
-use Rattle.token_text.specs.Front.{base, Numeral, based, after_sign, is_e, exponent, unless_more, point, fraction_by, fraction, decimal, based_or_decimal, number}
+use Rattle.token_text.specs.Front.{base, Numeral, based, exponent, unless_more, point, fraction_by, fraction, decimal, based_or_decimal, number}
 use Rattle.token_text.specs.Literals as rules
 use Rattle.token_text.specs.Literals.{Run, IsBase, hexadecimal, octal, binary, HasBase, IsDecimal, digits, IsFraction, whole, begins_fraction, IsExponent, absent, IsNumber, of_base, IsMalformed, outside, no_digit}
 use Rattle.token_text.proofs.CharacterLaws.{same_number, which, left, right}

@@ -14,10 +14,10 @@ use Rattle.token_text.specs.declared.piece.Leaf.TheVariants.{Blank, Word, Lifeti
 use Rattle.token_text.specs.declared.piece.Piece.{Piece}
 use Rattle.token_text.specs.declared.piece.Piece.TheVariants.{Leaf, Open, Close}
 use Rattle.token_text.specs.Characters.{Text, upto, begins_with, is_blank, is_mark, is_start, after_run}
-use Rattle.token_text.specs.Front.{Look, Opening, begins_char, opening, closed, comment, after_suffix, ends, known, lifetime_piece, mark_piece, marked, numeral, number, any_word, before, single, word_or_single, line_comment, block_comment, slash, backslash, plain, unopened, other, opened_or_other, look, Found, found, front}
+use Rattle.token_text.specs.Front.{Look, Opening, opening, closed, comment, after_suffix, ends, known, lifetime_piece, mark_piece, marked, numeral, number, any_word, before, single, word_or_single, line_comment, block_comment, slash, backslash, plain, unopened, other, opened_or_other, look, Found, found, front}
 use Rattle.token_text.specs.Front as f
 use Rattle.token_text.specs.Literals.{IsAnyWord, Opens, Closes, IsComment}
-use Rattle.token_text.specs.Pieces.{is_char, begins_comment, is_line_doc, is_block_doc}
+use Rattle.token_text.specs.Pieces.{begins_char, is_char, begins_comment, is_line_doc, is_block_doc}
 use Rattle.token_text.specs.Spelling as rules
 use Rattle.token_text.specs.Spelling.{opens, closes, begins_byte, NoLiteral, IsPiece, Begins, Named, no_end, no_comment_end, line_doc, block_doc, malformed, Faulty}
 use Rattle.token_text.proofs.CharacterLaws.{same_number, which, listed, off, lone, lone_starts, lone_digit, clash, start_clash, mark_lone, blank_lone, no_digit_starts}

@@ -1,8 +1,9 @@
 -- The steps of the functions that look for an end.
 use Rattle.std.proofs.Common.{◌≡◌, ℕ, suc, ◌+◌, ◌-◌, Bool, true, false, not, ◌&&◌, ◌||◌, ◌==◌, if◌then◌else◌, [], ◌∷◌, drop, Some, None, refl, ap, eq-eqb}
 use Rattle.std.proofs.lemmas.Bool.{eqb-true}
+use Rattle.token_text.specs.Pieces.{has_hashes}
 use Rattle.token_text.specs.Characters.{Text}
-use Rattle.token_text.specs.Front.{comment, hashes, quoted, hashed, has_hashes, after_char}
+use Rattle.token_text.specs.Front.{comment, hashes, quoted, hashed, after_char}
 
 pub not_same : (a b : ℕ) → ¬ (a ≡ b) → (a == b) ≡ false
 not_same a b h =

@@ -1,5 +1,5 @@
 -- The piece that is found at the front of a text.
-use Rattle.std.specs.Prelude.{◌≡◌, ℕ, zero, suc, ◌+◌, ◌-◌, Bool, true, false, not, ◌&&◌, ◌||◌, ◌==◌, if◌then◌else◌, [], ◌∷◌, ◌++◌, drop, encode_utf8_all, chars, Option, Some, None, Result, Ok, Err, MatchOption, MatchResult}
+use Rattle.std.specs.Prelude.{◌≡◌, ℕ, ◌+◌, ◌-◌, Bool, false, not, ◌&&◌, ◌||◌, ◌==◌, if◌then◌else◌, [], ◌∷◌, ◌++◌, drop, encode_utf8_all, chars, Option, Some, None, Result, Ok, Err, MatchOption, MatchResult}
 use Rattle.std.specs.Borrow.{Bor}
 use Rattle.std.specs.Char.{is_ascii_digit, is_ascii_hexdigit}
 use Rattle.token_core.specs.declared.error.ErrorKind.{ErrorKind}
@@ -16,7 +16,7 @@ use Rattle.token_text.specs.declared.piece.Leaf.TheVariants.{Blank, Word, Lifeti
 use Rattle.token_text.specs.declared.piece.Piece.{Piece}
 use Rattle.token_text.specs.declared.piece.Piece.TheVariants.{Leaf, Open, Close}
 use Rattle.token_text.specs.Characters.{Text, upto, begins_with, is_blank, is_mark, is_letter, is_start, after_run, starts}
-use Rattle.token_text.specs.Pieces.{has_raw_form, is_char, spacing, is_line_doc, is_block_doc}
+use Rattle.token_text.specs.Pieces.{has_raw_form, is_char, begins_char, has_hashes, after_sign, is_e, spacing, is_line_doc, is_block_doc}
 
 -- what follows the first character
 abbrev pub tail : Text → Text
@@ -62,11 +62,6 @@ unfoldable pub hashes : ℕ → Text → Option (ℕ × Text)
 hashes n [] = None
 hashes n (c ∷ cs) = if c == 34 then Some (n, cs) else (if c == 35 && not (n == 255) then hashes (n + 1) cs else None)
 
--- after a quote a character literal goes on, and not a lifetime
-unfoldable pub begins_char : Text → Bool
-begins_char [] = false
-begins_char (c ∷ cs) = if c == 92 then true else (if c == 39 then false else begins_with (is_char 39) cs)
-
 -- the kind of a literal, how it ends, and what follows its beginning
 abbrev pub Opening : Type 0
 Opening = LitKind × Closing × Text
@@ -103,11 +98,6 @@ opening (c ∷ cs) =
 unfoldable pub quoted : Bool → Text → Option Text
 quoted escaped [] = None
 quoted escaped (c ∷ cs) = if not escaped && c == 34 then Some cs else quoted (not escaped && c == 92) cs
-
-unfoldable pub has_hashes : ℕ → Text → Bool
-has_hashes zero cs = true
-has_hashes (suc n) [] = false
-has_hashes (suc n) (c ∷ cs) = c == 35 && has_hashes n cs
 
 unfoldable pub hashed : ℕ → Text → Option Text
 hashed n [] = None
@@ -158,13 +148,6 @@ base (c ∷ cs) =
 
 unfoldable pub based : Text → Numeral
 based rest = if begins_with is_ascii_digit rest then Err MalformedNumber else Ok (Int, rest)
-
-abbrev pub after_sign : Text → Text
-after_sign [] = []
-after_sign (c ∷ cs) = if c == 43 || c == 45 then cs else c ∷ cs
-
-abbrev pub is_e : ℕ → Bool
-is_e c = c == 101 || c == 69
 
 abbrev pub exponent_digits : Text → Numeral
 exponent_digits cs = if starts is_ascii_digit cs then Ok (Float, after_run Decimal cs) else Err MalformedNumber

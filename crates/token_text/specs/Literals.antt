@@ -8,8 +8,7 @@ use Rattle.token_text.specs.declared.class.Class.TheVariants.{Continue, Binary, 
 use Rattle.token_text.specs.declared.piece.Closing.{Closing}
 use Rattle.token_text.specs.declared.piece.Closing.TheVariants.{DoubleQuote, Hashes, Quote}
 use Rattle.token_text.specs.Characters.{Text, upto, begins_with, is_letter, is_start, passes, starts}
-use Rattle.token_text.specs.Front.{has_hashes, begins_char, after_sign, is_e}
-use Rattle.token_text.specs.Pieces.{has_raw_form}
+use Rattle.token_text.specs.Pieces.{has_hashes, begins_char, after_sign, is_e, has_raw_form}
 
 -- all characters of the class that stand here
 pub data Run (p : Class) : Text → Text → Type 0 where

@@ -1,5 +1,5 @@
 -- The pieces of a text, and their trees.
-use Rattle.std.specs.Prelude.{ℕ, ◌+◌, Bool, false, not, ◌&&◌, ◌||◌, ◌==◌, if◌then◌else◌, List, [], ◌∷◌, codes}
+use Rattle.std.specs.Prelude.{ℕ, zero, suc, ◌+◌, Bool, true, false, not, ◌&&◌, ◌||◌, ◌==◌, if◌then◌else◌, List, [], ◌∷◌, codes}
 use Rattle.std.specs.List.{list_any}
 use Rattle.std.specs.Str.{bytes_eq}
 use Rattle.token_core.specs.declared.tree.Delimiter.{Delimiter}
@@ -66,3 +66,23 @@ is_line_doc (c ∷ cs) = c == 33 || (c == 47 && not (begins_with (is_char 47) cs
 unfoldable pub is_block_doc : Text → Bool
 is_block_doc [] = false
 is_block_doc (c ∷ cs) = c == 33 || (c == 42 && not (begins_with (λ d. d == 42 || d == 47) cs))
+
+-- after a quote a character literal goes on, and not a lifetime
+unfoldable pub begins_char : Text → Bool
+begins_char [] = false
+begins_char (c ∷ cs) = if c == 92 then true else (if c == 39 then false else begins_with (is_char 39) cs)
+
+-- at least as many `#`
+unfoldable pub has_hashes : ℕ → Text → Bool
+has_hashes zero cs = true
+has_hashes (suc n) [] = false
+has_hashes (suc n) (c ∷ cs) = c == 35 && has_hashes n cs
+
+-- after a sign that may stand or not
+abbrev pub after_sign : Text → Text
+after_sign [] = []
+after_sign (c ∷ cs) = if c == 43 || c == 45 then cs else c ∷ cs
+
+-- an exponent begins so
+abbrev pub is_e : ℕ → Bool
+is_e c = c == 101 || c == 69

@@ -18,9 +18,8 @@ use Rattle.token_text.specs.declared.piece.Leaf.TheVariants.{Blank, Word, Lifeti
 use Rattle.token_text.specs.declared.piece.Piece.{Piece}
 use Rattle.token_text.specs.declared.piece.Piece.TheVariants.{Leaf, Open, Close}
 use Rattle.token_text.specs.Characters.{Text, size, begins_with, is_blank, is_mark}
-use Rattle.token_text.specs.Front.{begins_char}
 use Rattle.token_text.specs.Literals.{Run, IsAnyWord, Opens, Closes, IsSuffix, IsNumber, IsMalformed, IsComment}
-use Rattle.token_text.specs.Pieces.{trees_of, group_tree, begins_comment, spacing, is_char, is_line_doc, is_block_doc}
+use Rattle.token_text.specs.Pieces.{begins_char, trees_of, group_tree, begins_comment, spacing, is_char, is_line_doc, is_block_doc}
 
 -- ---- the pieces
 

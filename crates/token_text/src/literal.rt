@@ -2,6 +2,7 @@
 
 ghost use Rattle.std.specs.Prelude.{◌≡◌, MatchOption, true, false, Some, drop, chars};
 ghost use Rattle.token_text.specs.Front as spec;
+ghost use Rattle.token_text.specs.Pieces as pieces;
 
 use crate::class::Class;
 use crate::piece::Closing;
@@ -33,9 +34,9 @@ fn hashes(text: &str) -> Option<(usize, &str)>
 }
 
 /// Whether a character literal goes on here after its quote.
-#[tactic(auto, unfolding(crate::specs::Front::begins_char))]
+#[tactic(auto, unfolding(crate::specs::Pieces::begins_char))]
 fn begins_char(text: &str) -> bool
-    ensures { result ≡ spec.begins_char (chars text.now) }
+    ensures { result ≡ pieces.begins_char (chars text.now) }
 {
     match word::split_first(text) {
         Some((first, rest)) => first == '\\' || (first != '\'' && word::begins(rest, '\'')),
@@ -123,8 +124,8 @@ fn after_string(text: &str) -> Option<&str>
 /// What follows as many `#`, where they stand here.
 #[tactic(auto, using(crate::proofs::Pasts::pasts))]
 fn past_hashes(text: &str, count: usize) -> Option<&str>
-    ensures { MatchOption result (spec.has_hashes count (chars text.now) ≡ false)
-        (λ rest. (spec.has_hashes count (chars text.now) ≡ true) × (chars rest.now ≡ drop count (chars text.now)) × spec.Past text.now rest.now) }
+    ensures { MatchOption result (pieces.has_hashes count (chars text.now) ≡ false)
+        (λ rest. (pieces.has_hashes count (chars text.now) ≡ true) × (chars rest.now ≡ drop count (chars text.now)) × spec.Past text.now rest.now) }
 {
     let mut left = count;
     let mut rest = text;

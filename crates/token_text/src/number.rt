@@ -4,6 +4,7 @@ ghost use Rattle.std.specs.Prelude.{◌≡◌, chars};
 ghost use Rattle.std.specs.Char.{is_ascii_digit, is_ascii_hexdigit};
 ghost use Rattle.token_text.specs.Characters as c;
 ghost use Rattle.token_text.specs.Front as spec;
+ghost use Rattle.token_text.specs.Pieces as pieces;
 
 use crate::class::Class;
 use crate::word;
@@ -62,7 +63,7 @@ fn based(rest: &str) -> Result<(LitKind, &str), ErrorKind>
 
 #[tactic(auto, using(crate::proofs::Pasts::pasts))]
 fn after_sign(text: &str) -> &str
-    ensures rest { chars result.now ≡ spec.after_sign (chars text.now) }
+    ensures rest { chars result.now ≡ pieces.after_sign (chars text.now) }
     ensures past { spec.Past text.now result.now }
 {
     match word::split_first(text) {
@@ -84,7 +85,7 @@ fn exponent_digits(text: &str) -> Result<(LitKind, &str), ErrorKind>
 }
 
 fn is_e(ch: char) -> bool
-    ensures { result ≡ spec.is_e ch }
+    ensures { result ≡ pieces.is_e ch }
 {
     ch == 'e' || ch == 'E'
 }

@@ -1,5 +1,5 @@
 use Rattle.std.proofs.Common.{◌≡◌, ◌∙◌, ◌-◌, suc, chars, drop, rules, arith, sym, ap}
-use Rattle.token_text.specs.Front.{has_hashes}
+use Rattle.token_text.specs.Pieces.{has_hashes}
 use Rattle.token_text.proofs.Pasts.{past_trans}
 use Rattle.token_text.proofs.Scans.{has_hashes_end, has_hashes_none, has_hashes_goes}
 use Rattle.token_text.proofs.literal.past_hashes.Goals as goal

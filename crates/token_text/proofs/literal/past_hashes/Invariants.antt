@@ -1,7 +1,8 @@
 use Rattle.std.proofs.Common.{◌≡◌, drop, chars}
 use denote.Text.{Utf8}
 use denote.Shadow.{shadow}
-use Rattle.token_text.specs.Front.{Past, has_hashes}
+use Rattle.token_text.specs.Pieces.{has_hashes}
+use Rattle.token_text.specs.Front.{Past}
 use Rattle.token_text.proofs.literal.past_hashes.Given as goal
 
 abbrev pub invariant-loop-left : goal.invariant-loop-left
