@@ -1,4 +1,5 @@
 -- What words, literals and comments are, rule by rule: of a text, and of what follows them in it.
+-- Characters stand as numbers: 34 `"`, 35 `#`, 39 `'`, 42 `*`, 46 `.`, 47 `/`, 48 `0`, 92 `\`, 98 `b`, 99 `c`, 111 `o`, 114 `r`, 120 `x`.
 use Rattle.std.specs.Prelude.{◌≡◌, ℕ, zero, suc, ◌≤◌, Bool, true, false, not, ◌&&◌, ◌||◌, ◌==◌, ◌++◌, [], ◌∷◌, codes, drop, encode_utf8_all}
 use Rattle.std.specs.Char.{is_ascii_digit, is_ascii_hexdigit}
 use Rattle.token_core.specs.declared.tree.LitKind.{LitKind}
