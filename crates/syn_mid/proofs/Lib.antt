@@ -1,2 +1,3 @@
 pub mod path_laws
 pub mod mac_laws
+pub mod meta_laws

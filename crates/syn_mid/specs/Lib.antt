@@ -1,3 +1,4 @@
 pub mod Supplied
 pub mod path
 pub mod mac
+pub mod meta

@@ -2,6 +2,7 @@
 #![tactic(auto)]
 
 pub mod mac;
+pub mod meta;
 pub mod path;
 pub mod supplied;
 #[cfg(test)]

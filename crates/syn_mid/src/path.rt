@@ -19,7 +19,7 @@ use std::alloc::{AllocError, Global};
 use std::marker::PhantomData;
 use token_core::token::{Crate, Gt, Lt, Paren, PathSep, SelfType, SelfValue, Super};
 use token_core::{
-    Error, ErrorKind, Ident, ParseStream, Punctuated, Span, ToTokens, Token, TokenStream,
+    Error, ErrorKind, Ident, Lit, ParseStream, Punctuated, Span, ToTokens, Token, TokenStream,
 };
 
 /// A path: an optional leading `::`, and segments joined by `::`.
@@ -62,6 +62,15 @@ pub struct ParenthesizedGenericArguments<X> {
     pub paren_token: Paren,
     /// In place of the inputs.
     pub inputs: PhantomData<X>,
+}
+
+/// What the segments of a path without arguments may be.
+#[derive(Clone, Copy, PartialEq, Eq)]
+pub(crate) enum SegmentStyle {
+    /// An identifier that is no keyword, `super`, `self`, `Self` or `crate`.
+    Mod,
+    /// Any identifier, as in the path of a nested property.
+    Nested,
 }
 
 /// How the arguments of a path's segments print.
@@ -163,7 +172,7 @@ impl<X> Path<X> {
     }
 
     /// The span of the first segment's identifier.
-    fn first_span(&self) -> Span
+    pub(crate) fn first_span(&self) -> Span
         ensures { result ≡ spec.first_span self.now.segments.0 }
     {
         match self.segments.first() {
@@ -225,17 +234,22 @@ impl<X: Drop> Path<X> {
         ensures front { Visible input.old.rest → IfOk result (λ p. IsModPath false p input.old.rest input.new.rest) }
         ensures headline { Heads grammars.mod_style input.old result input.new }
     {
-        parse_mod_path(alloc, input)
+        parse_bare_path(alloc, input, SegmentStyle::Mod)
     }
 }
 
-#[tactic(auto, using(token_core::proofs::Suffixes::follows), unfolding(crate::specs::path::Reading::mod_style))]
-fn parse_mod_path<X: Drop>(alloc: Global, input: &mut ParseStream<'_>) -> Result<Path<X>, Error>
-    ensures reads { Reads (reading.mod_style input.old) result input.new }
+/// A path without arguments.
+#[tactic(auto, using(token_core::proofs::Suffixes::follows), unfolding(crate::specs::path::Reading::bare_path))]
+pub(crate) fn parse_bare_path<X: Drop>(
+    alloc: Global,
+    input: &mut ParseStream<'_>,
+    style: SegmentStyle,
+) -> Result<Path<X>, Error>
+    ensures reads { Reads (reading.bare_path style input.old) result input.new }
     ensures within { Follows input.old input.new }
 {
     let leading_colon = parse_leading(alloc, input)?;
-    let segments = parse_mod_segments(alloc, input)?;
+    let segments = parse_bare_segments(alloc, input, style)?;
     Ok(Path {
         leading_colon,
         segments,
@@ -261,37 +275,83 @@ fn begins_mod_segment(input: &ParseStream<'_>) -> bool
             | (input.peek::<SelfValue>() | (input.peek::<SelfType>() | input.peek::<Crate>())))
 }
 
-/// A segment of mod style; at first an identifier is expected, and after a `::` a segment.
-#[tactic(auto, using(token_core::proofs::Suffixes::follows), unfolding(crate::specs::path::Reading::mod_segment))]
-fn parse_mod_segment<X>(
-    alloc: Global,
-    input: &mut ParseStream<'_>,
-    is_first: bool,
-) -> Result<PathSegment<X>, Error>
-    ensures reads { Reads (reading.mod_segment is_first input.old) result input.new }
-    ensures within { Follows input.old input.new }
+/// Whether a segment of this style begins here.
+fn begins_segment(input: &ParseStream<'_>, style: SegmentStyle) -> bool
+    ensures { result ≡ reading.begins style input.now.rest }
 {
-    if begins_mod_segment(input) {
-        return Ok(PathSegment::from(Ident::parse_any(alloc, input)?));
-    }
-    if is_first {
-        Err(input.expected(alloc, Ident::display()))
-    } else {
-        Err(input.refuse(alloc, ErrorKind::ExpectedPathSegment))
+    match style {
+        SegmentStyle::Mod => begins_mod_segment(input),
+        SegmentStyle::Nested => Ident::peek_any(input),
     }
 }
 
-#[tactic(auto, using(token_core::proofs::Suffixes::follows))]
-fn parse_mod_segments<X: Drop>(
+/// Where no first segment of a nested property's path begins.
+#[tactic(auto, unfolding(crate::specs::path::Reading::no_property))]
+fn no_property(alloc: Global, input: &ParseStream<'_>) -> Error
+    ensures { Made result (reading.no_property input.now) }
+{
+    if input.is_empty() {
+        return input.refuse(alloc, ErrorKind::ExpectedNestedAttribute);
+    }
+    if input.peek::<Lit>() {
+        input.refuse(alloc, ErrorKind::LiteralInNestedAttribute)
+    } else {
+        input.refuse(alloc, ErrorKind::TokenInNestedAttribute)
+    }
+}
+
+/// Where no segment begins: the first one, or one after a `::`.
+#[tactic(auto, unfolding(crate::specs::path::Reading::no_segment))]
+fn no_segment(alloc: Global, input: &ParseStream<'_>, style: SegmentStyle, is_first: bool) -> Error
+    ensures { Made result (reading.no_segment style is_first input.now) }
+{
+    match style {
+        SegmentStyle::Mod => {
+            if is_first {
+                input.expected(alloc, Ident::display())
+            } else {
+                input.refuse(alloc, ErrorKind::ExpectedPathSegment)
+            }
+        }
+        SegmentStyle::Nested => {
+            if is_first {
+                no_property(alloc, input)
+            } else {
+                input.expected(alloc, Ident::display())
+            }
+        }
+    }
+}
+
+/// A segment without arguments.
+#[tactic(auto, using(token_core::proofs::Suffixes::follows), unfolding(crate::specs::path::Reading::bare_segment))]
+fn parse_bare_segment<X>(
     alloc: Global,
     input: &mut ParseStream<'_>,
+    style: SegmentStyle,
+    is_first: bool,
+) -> Result<PathSegment<X>, Error>
+    ensures reads { Reads (reading.bare_segment style is_first input.old) result input.new }
+    ensures within { Follows input.old input.new }
+{
+    if begins_segment(input, style) {
+        return Ok(PathSegment::from(Ident::parse_any(alloc, input)?));
+    }
+    Err(no_segment(alloc, input, style, is_first))
+}
+
+#[tactic(auto, using(token_core::proofs::Suffixes::follows))]
+fn parse_bare_segments<X: Drop>(
+    alloc: Global,
+    input: &mut ParseStream<'_>,
+    style: SegmentStyle,
 ) -> Result<Punctuated<PathSegment<X>, PathSep>, Error>
-    ensures reads { Reads (reading.mod_segments true input.old) result input.new }
+    ensures reads { Reads (reading.bare_segments style true input.old) result input.new }
     ensures within { Follows input.old input.new }
 {
     let mut segments = Punctuated::new(alloc);
     'turn: loop {
-        let segment = parse_mod_segment(alloc, input, segments.is_empty())?;
+        let segment = parse_bare_segment(alloc, input, style, segments.is_empty())?;
         segments.push_value(alloc, segment)?;
         if !input.peek::<PathSep>() {
             return Ok(segments);

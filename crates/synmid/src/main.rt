@@ -6,6 +6,8 @@ ghost use Rattle.synmid.specs.declared.fault.Fault.{Fault};
 
 mod channel;
 mod fault;
+#[cfg(test)]
+mod nested_tests;
 mod reader;
 mod run;
 mod sample;

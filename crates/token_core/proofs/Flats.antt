@@ -1,13 +1,13 @@
 -- The entries of trees: their equations, that they nest, and the tokens that they show.
 use Rattle.std.proofs.Common.{◌≡◌, ℕ, suc, ◌+◌, ◌≤◌, List, [], ◌∷◌, ◌++◌, map, length, take, drop, refl, sym, ap, subst, ◌∙◌, append_assoc, append-nil, arith, add-one}
-use Rattle.std.proofs.lemmas.List.{take-append-le, length-take}
+use Rattle.std.proofs.lemmas.List.{take-append-le, length-take, length-append}
 use Rattle.token_core.specs.declared.tree.Delimiter.{Delimiter}
 use Rattle.token_core.specs.declared.tree.Delimiter.TheVariants.{Parenthesis, Brace, Bracket, None}
 use Rattle.token_core.specs.declared.span.DelimSpan.{DelimSpan}
 use Rattle.token_core.specs.declared.tree.TokenTree.{TokenTree, out-TokenTree, roll-TokenTree, map-TokenTree, roll-out-TokenTree}
 use Rattle.token_core.specs.declared.tree.TokenTree.TheVariants as t
 use Rattle.token_core.specs.declared.tree.TokenTree.TheOpen as o
-use Rattle.token_core.specs.declared.tree.TokenTree.TheFolds.{fold-roll-TokenTree, fold-roll-Group, fold-roll-TokenStream, ind-TokenStream}
+use Rattle.token_core.specs.declared.tree.TokenTree.TheFolds.{fold-roll-TokenTree, fold-roll-Group, fold-roll-TokenStream, ind-TokenTree, ind-TokenStream}
 use Rattle.token_core.specs.declared.tree.Group.{Group, out-Group, roll-Group, map-Group, roll-out-Group}
 use Rattle.token_core.specs.declared.tree.TokenStream.{TokenStream, out-TokenStream, roll-TokenStream, map-TokenStream, roll-out-TokenStream}
 use Rattle.token_core.specs.Toks.{group, enter}
@@ -121,14 +121,18 @@ flat-tree-roll (o.Group g) = ap (λ (k : KnownTree). k.1) (known-tree (o.Group g
 
 -- ---- they nest
 
-take_whole : (xs ys : Flat) → take (length xs) (xs ++ ys) ≡ xs
+pub take_whole : (xs ys : Flat) → take (length xs) (xs ++ ys) ≡ xs
 take_whole [] ys = refl
 take_whole (x ∷ xs) ys = ap (λ l. x ∷ l) (take_whole xs ys)
 
+take_end : (xs : Flat) (y : Seen) → take (suc (length xs)) (xs ++ y ∷ []) ≡ xs ++ y ∷ []
+take_end [] y = refl
+take_end (x ∷ xs) y = ap (λ l. x ∷ l) (take_end xs y)
+
 inside_append : (c : TokenStream) (n : ℕ) (l ys : Flat) → Inside c n l → Inside c n (l ++ ys)
 inside_append c n l ys i =
-    let h : n ≤ length l = omega (arith, i.0, ap length i.1, length-take n l) in
-    (i.0, take-append-le n l ys h ∙ i.1)
+    let h : suc n ≤ length l = omega (arith, i.0, ap length i.1, length-take (suc n) l, length-append (flat_stream c) (saw_leave ∷ [])) in
+    (i.0, take-append-le (suc n) l ys h ∙ i.1)
 
 nested_append : (xs ys : Flat) → Nested xs → Nested ys → Nested (xs ++ ys)
 nested_append [] ys p q = q
@@ -140,10 +144,10 @@ nested_append (saw_enter s c n ∷ xs) ys p q = (inside_append c n xs ys p.0, ne
 nested_append (saw_leave ∷ xs) ys p q = nested_append xs ys p q
 
 nested_group : (d : Delimiter) (s : DelimSpan) (c : TokenStream) → Nested (flat_stream c) → Nested (group_flat d s c)
-nested_group Parenthesis s c h = ((refl, take_whole (flat_stream c) (saw_leave ∷ [])), nested_append (flat_stream c) (saw_leave ∷ []) h tt)
-nested_group Brace s c h = ((refl, take_whole (flat_stream c) (saw_leave ∷ [])), nested_append (flat_stream c) (saw_leave ∷ []) h tt)
-nested_group Bracket s c h = ((refl, take_whole (flat_stream c) (saw_leave ∷ [])), nested_append (flat_stream c) (saw_leave ∷ []) h tt)
-nested_group None s c h = ((refl, take_whole (flat_stream c) (saw_leave ∷ [])), nested_append (flat_stream c) (saw_leave ∷ []) h tt)
+nested_group Parenthesis s c h = ((refl, take_end (flat_stream c) saw_leave), nested_append (flat_stream c) (saw_leave ∷ []) h tt)
+nested_group Brace s c h = ((refl, take_end (flat_stream c) saw_leave), nested_append (flat_stream c) (saw_leave ∷ []) h tt)
+nested_group Bracket s c h = ((refl, take_end (flat_stream c) saw_leave), nested_append (flat_stream c) (saw_leave ∷ []) h tt)
+nested_group None s c h = ((refl, take_end (flat_stream c) saw_leave), nested_append (flat_stream c) (saw_leave ∷ []) h tt)
 
 module _ where
   abbrev NP : TokenTree → Type 0
@@ -263,6 +267,9 @@ module _ where
       ∙ shows_all y.trees l
       ∙ sym (ap (λ f. f (view l)) (stream-roll (record { trees = map (λ (a : SA). a.0) y.trees })))
 
+  shows_tree : (t : TokenTree) → SP t
+  shows_tree = ind-TokenTree SP SQ Shows (λ x y is. subst (λ z. SP (roll-TokenTree z)) is (shows_tree_layer y)) (λ x y is. subst (λ z. SQ (roll-Group z)) is (shows_group_layer y)) (λ x y is. subst (λ z. Shows (roll-TokenStream z)) is (shows_stream_layer y))
+
   pub shows_stream : (c : TokenStream) → Shows c
   shows_stream = ind-TokenStream SP SQ Shows (λ x y is. subst (λ z. SP (roll-TokenTree z)) is (shows_tree_layer y)) (λ x y is. subst (λ z. SQ (roll-Group z)) is (shows_group_layer y)) (λ x y is. subst (λ z. Shows (roll-TokenStream z)) is (shows_stream_layer y))
 
@@ -280,3 +287,7 @@ flat_tree_is t = ap flat_tree (sym (roll-out-TokenTree t)) ∙ flat-tree-roll (o
 
 pub flat_group_is : (g : Group) → flat_group g ≡ group_flat (delimiter_of g) (span_of g) (content_of g)
 flat_group_is g = ap flat_group (sym (roll-out-Group g)) ∙ flat-group-roll (out-Group g)
+
+-- the entries of a tree, and others after them, show the tree and then those
+pub view-tree : (t : TokenTree) (l : Flat) → view (tree_flat (out-TokenTree t) ++ l) ≡ s.tree t (view l)
+view-tree t l = ap (λ x. view (x ++ l)) (sym (flat_tree_is t)) ∙ shows_tree t l

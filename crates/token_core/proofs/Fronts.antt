@@ -1,6 +1,6 @@
 -- Entries at a place of a buffer, and the tokens that they show.
-use Rattle.std.proofs.Common.{◌≡◌, ℕ, zero, suc, ◌+◌, ◌<◌, ◌≤◌, true, false, List, [], ◌∷◌, map, length, get_or, take, drop, sym, ◌∙◌, ap, refl, subst}
-use Rattle.std.proofs.lemmas.List.{drop_more, take-map, drop-map}
+use Rattle.std.proofs.Common.{◌≡◌, ℕ, zero, suc, ◌+◌, ◌<◌, ◌≤◌, true, false, List, [], ◌∷◌, ◌++◌, map, length, get_or, take, drop, sym, ◌∙◌, ap, refl, subst, arith}
+use Rattle.std.proofs.lemmas.List.{drop_more, take-map, drop-map, length-take, length-append}
 use Rattle.std.proofs.Math.ListN.{drop_of_length-le}
 use Rattle.token_core.specs.declared.buffer.Entry.{Entry}
 use Rattle.token_core.specs.declared.tree.Delimiter.{Delimiter}
@@ -9,8 +9,8 @@ use Rattle.token_core.specs.declared.span.DelimSpan.{DelimSpan}
 use Rattle.token_core.specs.declared.tree.TokenStream.{TokenStream}
 use Rattle.token_core.specs.Toks.{Toks, done, word, mark, lit, group, enter, leave}
 use Rattle.token_core.specs.Seen.{Seen, view, saw_word, saw_mark, saw_lit, saw_group, saw_enter, saw_leave, saw_delimiter, view-nil, view-word, view-mark, view-lit, view-group, view-enter, view-leave}
-use Rattle.token_core.specs.Entries.{saw, entries_view, Nested, flat_stream}
-use Rattle.token_core.proofs.Flats.{nested_flat}
+use Rattle.token_core.specs.Entries.{saw, entries_view, Nested, Inside, flat_stream}
+use Rattle.token_core.proofs.Flats.{nested_flat, take_whole}
 use Rattle.token_core.specs.Front.{front, past_ends, bounds, is_bound, ends, is_end, settled}
 
 pub at-drop : {X : Type 0} (xs : List X) (i : ℕ) (x : X) → i < length xs → x ≡ get_or xs i x → drop i xs ≡ x ∷ drop (i + 1) xs
@@ -72,7 +72,7 @@ left_end l i h = rw (drop_of_length-le l h, view-nil) refl
 
 -- ---- what follows is nested too
 
-nested_tail : (s : Seen) (l : List Seen) → Nested (s ∷ l) → Nested l
+pub nested_tail : (s : Seen) (l : List Seen) → Nested (s ∷ l) → Nested l
 nested_tail (saw_word t) l h = h
 nested_tail (saw_mark p) l h = h
 nested_tail (saw_lit k) l h = h
@@ -80,7 +80,7 @@ nested_tail (saw_group d s c n) l h = h.1
 nested_tail (saw_enter s c n) l h = h.1
 nested_tail saw_leave l h = h
 
-nested_from : (l : List Seen) (i : ℕ) → Nested l → Nested (drop i l)
+pub nested_from : (l : List Seen) (i : ℕ) → Nested l → Nested (drop i l)
 nested_from l zero h = h
 nested_from [] (suc i) h = tt
 nested_from (s ∷ l) (suc i) h = nested_from l i (nested_tail s l h)
@@ -99,6 +99,19 @@ settled-front (leave k) = settled-front k
 
 pub ruleset views = (view-nil, view-word, view-mark, view-lit, view-group, view-enter, view-leave, take-map, drop-map, settled-front)
 
+-- ---- the entries of a group's content
+
+take_less : {X : Type 0} (n : ℕ) (l : List X) → take n (take (suc n) l) ≡ take n l
+take_less zero l = refl
+take_less (suc n) [] = refl
+take_less (suc n) (x ∷ l) = ap (λ k. x ∷ k) (take_less n l)
+
+pub inside_taken : (c : TokenStream) (n : ℕ) (l : List Seen) → Inside c n l → take n l ≡ flat_stream c
+inside_taken c n l i = sym (take_less n l) ∙ ap (take n) i.1 ∙ ap (λ m. take m (flat_stream c ++ saw_leave ∷ [])) i.0 ∙ take_whole (flat_stream c) (saw_leave ∷ [])
+
+pub inside_long : (c : TokenStream) (n : ℕ) (l : List Seen) → Inside c n l → suc n ≤ length l
+inside_long c n l i = omega (arith, i.0, ap length i.1, length-take (suc n) l, length-append (flat_stream c) (saw_leave ∷ []))
+
 -- ---- a visible group at the front of a buffer
 
 module _ (s : DelimSpan) (c : TokenStream) (n : ℕ) where
@@ -109,9 +122,9 @@ module _ (s : DelimSpan) (c : TokenStream) (n : ℕ) where
   visible_view None l h = absurd (h refl)
 
   visible_inside : (d : Delimiter) (l : List Seen) → (d ≡ None → ⊥) → Nested (saw_delimiter d s c n ∷ l) → (take n l ≡ flat_stream c) × Nested l
-  visible_inside Parenthesis l h i = (i.0.1, i.1)
-  visible_inside Brace l h i = (i.0.1, i.1)
-  visible_inside Bracket l h i = (i.0.1, i.1)
+  visible_inside Parenthesis l h i = (inside_taken c n l i.0, i.1)
+  visible_inside Brace l h i = (inside_taken c n l i.0, i.1)
+  visible_inside Bracket l h i = (inside_taken c n l i.0, i.1)
   visible_inside None l h i = absurd (h refl)
 
   pub group_shown : (d : Delimiter) (more inside after : List Entry) → (d ≡ None → ⊥) → inside ≡ take n more → after ≡ drop (n + 1) more →

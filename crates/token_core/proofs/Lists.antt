@@ -1,8 +1,9 @@
 -- The values and the marks of a punctuated list, as it grows.
 use Rattle.std.specs.Prelude.{slice_get}
-use Rattle.std.proofs.Common.{◌≡◌, ℕ, zero, suc, ◌+◌, ◌<◌, ◌≤◌, get_or, List, [], ◌∷◌, ◌++◌, length, Option, Some, None, refl, sym, ap, arith}
+use Rattle.std.proofs.Common.{◌≡◌, ℕ, zero, suc, ◌+◌, ◌<◌, ◌≤◌, get_or, List, [], ◌∷◌, ◌++◌, length, Option, Some, None, refl, sym, ap, append-nil, arith}
 use Rattle.token_core.specs.declared.punctuated.Pair.{Pair}
-use Rattle.token_core.specs.Joined.{values_of, marks_of}
+use Rattle.token_core.specs.Joined.{values_of, marks_of, pairs_of}
+use Rattle.token_core.specs.Lists.{last, pairs}
 
 pub length_whole : {T P : Type 0} (xs : List (Pair T P)) → length (values_of xs None) ≡ length (marks_of xs)
 length_whole [] = refl
@@ -60,6 +61,29 @@ past_whole [] i h = refl
 past_whole (y ∷ xs) zero h = absurd (omega (arith, h))
 past_whole (y ∷ xs) (suc i) h = past_whole xs i (omega (arith, h))
 
+pub pairs-are : {T P : Type 0} (xs : List (Pair T P)) (last : Option T) → pairs (values_of xs last) (marks_of xs) ≡ pairs_of xs last
+pairs-are [] None = refl
+pairs-are [] (Some t) = refl
+pairs-are (x ∷ xs) last = ap (λ l. (x.value, Some x.mark) ∷ l) (pairs-are xs last)
+
+pub last-open : {T P : Type 0} (xs : List (Pair T P)) (t : T) → last (values_of xs (Some t)) ≡ Some t
+last-open [] t = refl
+last-open (x ∷ []) t = refl
+last-open (x ∷ y ∷ xs) t = last-open (y ∷ xs) t
+
+pub last-whole : {T P : Type 0} (xs : List (Pair T P)) (i : ℕ) (x : Pair T P) → suc i ≡ length xs → x ≡ get_or xs i x → last (values_of xs None) ≡ Some x.value
+last-whole [] i x h e = absurd (omega (arith, h))
+last-whole (y ∷ []) zero x h e = ap (λ z. Some z.value) (sym e)
+last-whole (y ∷ []) (suc i) x h e = absurd (omega (arith, h))
+last-whole (y ∷ z ∷ xs) zero x h e = absurd (omega (arith, h))
+last-whole (y ∷ z ∷ xs) (suc i) x h e = last-whole (z ∷ xs) i x (omega (arith, h)) e
+
 pub ruleset lists = (length_whole, length_open, length_marks, values_open, values_more, marks_more)
 
 pub ruleset places = (length_whole, length_open, length_marks, value_at, mark_at, no_mark, last_at, past_last, past_whole)
+
+pub ruleset paired = (pairs-are)
+
+pub ruleset lasts = (last-open, last-whole)
+
+pub ruleset popped = (length_whole, length_open, length_marks, values_open, values_more, marks_more, append-nil)

@@ -1,5 +1,5 @@
 -- What a read took of a list without invisible groups, where it answers.
-use Rattle.std.proofs.Common.{◌≡◌, ℕ, Bool, true, false, ◌==◌, if◌then◌else◌, List, [], ◌∷◌, Option, Some, None, Ok, Err, ◌⊎◌, inl, inr, refl, sym, ◌∙◌, ap}
+use Rattle.std.proofs.Common.{◌≡◌, ℕ, zero, suc, ◌<◌, ◌≤◌, arith, subst, Bool, true, false, ◌==◌, if◌then◌else◌, List, [], ◌∷◌, Option, Some, None, Ok, Err, ◌⊎◌, inl, inr, refl, sym, ◌∙◌, ap}
 use Rattle.std.proofs.lemmas.Bool.{eqb-true}
 use Rattle.token_core.specs.declared.tree.Spacing.{Spacing}
 use Rattle.token_core.specs.declared.tree.Spacing.TheVariants.{Joint, Alone}
@@ -13,7 +13,8 @@ use Rattle.token_core.specs.Trees.{punct}
 use Rattle.token_core.specs.Rebuilt.{Visible, stream_of}
 use Rattle.token_core.specs.Stream.{Stream}
 use Rattle.token_core.specs.Reads.{Reader, Outcome, Body, and_then, pure, past, past_mark, put_first, three, is_joint, sees_word, read_word, next_word, read_mark, delimited, leaves, is_done, first_of, goes_on, expected}
-use Rattle.token_core.proofs.Turns.{same_pair}
+use Rattle.token_core.specs.Loops.{size, Many, never, joined_from, joined, listed, one, put}
+use Rattle.token_core.proofs.Turns.{chain, same_pair}
 
 -- a stream by its parts
 abbrev pub at : Toks → Option Span → Span → Span → Stream
@@ -135,9 +136,9 @@ two_at c d (group x p y k) q v e = cc
 two_at c d (enter p k) q v e = absurd v
 two_at c d (leave k) q v e = absurd v
 
-record Went (cs : List ℕ) (s t : Stream) (m : Spans) : Type 0 where
-  was : past_mark cs s.rest ≡ Some (m, t.rest)
-  left : t.left ≡ s.left
+pub record Went (cs : List ℕ) (s t : Stream) (m : Spans) : Type 0 where
+  pub was : past_mark cs s.rest ≡ Some (m, t.rest)
+  pub left : t.left ≡ s.left
 
 went_at : (cs : List ℕ) (s t : Stream) (m : Spans) (e : Refusal) (o : Option (Spans × Toks)) → past_mark cs s.rest ≡ o → goes_on (λ (x : Spans). x.third) e s o ≡ Ok (m, t) → Went cs s t m
 went_at cs s t m e None h k = cc
@@ -145,7 +146,7 @@ went_at cs s t m e (Some q) h k =
     let g = same_pair q.0 m (past s q.1 q.0.third) t k in
     record { was = h ∙ ap (λ (z : Spans). Some (z, q.1)) g.0 ∙ ap (λ (z : Stream). Some (m, z.rest)) g.1; left = ap (λ (z : Stream). z.left) (sym g.1) }
 
-went : (cs : List ℕ) (name : Bytes) (s t : Stream) (m : Spans) → read_mark cs name s ≡ Ok (m, t) → Went cs s t m
+pub went : (cs : List ℕ) (name : Bytes) (s t : Stream) (m : Spans) → read_mark cs name s ≡ Ok (m, t) → Went cs s t m
 unfolding read_mark
 went cs name s t m h = went_at cs s t m (expected name s) (past_mark cs s.rest) refl h
 
@@ -220,3 +221,28 @@ took_all t v h = ended_at t.rest t.left t.last t.scope v h
 pub leaves_none : (f : Option Span) (e sc : Span) → f ≡ None → leaves (at done f e sc) ≡ None
 unfolding is_done
 leaves_none f e sc h = ap (λ z. first_of z None) h
+
+-- ---- values joined by a mark
+
+module _ {A P : Type 0} (value : Bool → Reader A) (more : Toks → Bool) (joint : Reader P)
+    (takes : (b : Bool) (s t : Stream) (x : A) → value b s ≡ Ok (x, t) → size t.rest < size s.rest)
+    (keeps : (s t : Stream) (p : P) → joint s ≡ Ok (p, t) → size t.rest ≤ size s.rest) where
+  from_takes : (n : ℕ) (b : Bool) (s t : Stream) (v : Many A P) → joined_from value more joint n b s ≡ Ok (v, t) → size t.rest < size s.rest
+  from_takes zero b s t v e = cc
+  from_takes (suc n) b s t v e =
+      let c = chain (value b s) _ v t e in
+      let less = takes b s c.rest c.value c.was in
+      elim (branch (more c.rest.rest) _ _ c.rest (Ok (v, t)) c.goes) [
+        | inl y ↦ let d = chain (joint c.rest) _ v t y.1 in
+            let le = keeps c.rest d.rest d.value d.was in
+            let f = chain (joined_from value more joint n false d.rest) _ v t d.goes in
+            let i = from_takes n false d.rest f.rest f.value f.was in
+            let g = same_pair (put never value more joint c.value d.value f.value) v f.rest t f.goes in
+            subst (λ (z : Stream). size z.rest < size s.rest) g.1 (omega (arith, less, le, i))
+        | inr y ↦ let g = same_pair (one never value more joint c.value) v c.rest t y.1 in subst (λ (z : Stream). size z.rest < size s.rest) g.1 less
+      ]
+
+  -- they take a token
+  pub joined_takes : (b : Bool) (s t : Stream) (v : Many A P) → joined value more joint b s ≡ Ok (v, t) → size t.rest < size s.rest
+  unfolding listed
+  joined_takes b s t v e = from_takes (suc (size s.rest)) b s t v e

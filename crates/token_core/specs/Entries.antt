@@ -1,5 +1,5 @@
 -- What the entries of a buffer show, and the entries of trees.
-use Rattle.std.specs.Prelude.{◌≡◌, ℕ, List, [], ◌∷◌, ◌++◌, map, length, take}
+use Rattle.std.specs.Prelude.{◌≡◌, ℕ, suc, List, [], ◌∷◌, ◌++◌, map, length, take}
 use Rattle.token_core.specs.declared.tree.TokenTree.{TokenTree, out-TokenTree}
 use Rattle.token_core.specs.declared.tree.Group.{Group}
 use Rattle.token_core.specs.declared.tree.TokenStream.{TokenStream}
@@ -84,10 +84,10 @@ flat_group g = (known_group g).1
 abbrev pub flat_stream : TokenStream → Flat
 flat_stream s = (known_stream s).1
 
--- ---- each group's entry is followed by the entries of its content
+-- ---- each group's entry is followed by the entries of its content, and by its end
 
 abbrev pub Inside : TokenStream → ℕ → Flat → Type 0
-Inside c n l = (n ≡ length (flat_stream c)) × (take n l ≡ flat_stream c)
+Inside c n l = (n ≡ length (flat_stream c)) × (take (suc n) l ≡ flat_stream c ++ saw_leave ∷ [])
 
 abbrev pub Nested : Flat → Type 0
 Nested [] = Unit {0}

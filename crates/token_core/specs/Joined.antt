@@ -13,3 +13,9 @@ values_of (x ∷ xs) last = x.value ∷ values_of xs last
 abbrev pub marks_of : {T P : Type 0} → List (Pair T P) → List P
 marks_of [] = []
 marks_of (x ∷ xs) = x.mark ∷ marks_of xs
+
+-- each value with its mark, if it has one
+abbrev pub pairs_of : {T P : Type 0} → List (Pair T P) → Option T → List (T × Option P)
+pairs_of [] None = []
+pairs_of [] (Some t) = (t, None) ∷ []
+pairs_of (x ∷ xs) last = (x.value, Some x.mark) ∷ pairs_of xs last

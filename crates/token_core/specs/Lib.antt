@@ -18,6 +18,17 @@ pub mod ByFns
 pub mod Joined
 pub mod Lists
 pub mod Groups
+pub mod Looks
+pub mod Terminated
 pub mod Loops
+pub mod Listed
+pub mod Positions
+pub mod Cut
 pub mod Clear
 pub mod Headline
+pub mod Negatives
+pub mod Lits
+pub mod Members
+pub mod Ranges
+pub mod Lifetimes
+pub mod Spellings

@@ -11,3 +11,22 @@ joined f g (x ∷ xs) (p ∷ ps) = f x ++ (g p ++ joined f g xs ps)
 abbrev pub first : {T : Type 0} → List T → Option T
 first [] = None
 first (x ∷ xs) = Some x
+
+abbrev pub last : {T : Type 0} → List T → Option T
+last [] = None
+last (x ∷ []) = Some x
+last (x ∷ y ∷ xs) = last (y ∷ xs)
+
+-- each value with its mark, if it has one
+abbrev pub pairs : {T P : Type 0} → List T → List P → List (T × Option P)
+pairs [] ps = []
+pairs (x ∷ xs) [] = (x, None) ∷ pairs xs []
+pairs (x ∷ xs) (p ∷ ps) = (x, Some p) ∷ pairs xs ps
+
+abbrev pub option_list : {P : Type 0} → Option P → List P
+option_list None = []
+option_list (Some p) = p ∷ []
+
+-- a value with its mark, if it has one, after others
+abbrev pub put_last : {T P : Type 0} → List T × List P → T × Option P → List T × List P
+put_last v x = (v.0 ++ x.0 ∷ [], v.1 ++ option_list x.1)

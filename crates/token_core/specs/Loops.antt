@@ -1,5 +1,5 @@
--- Values joined by a mark: a value, and as long as the mark follows, the mark and a further value.
-use Rattle.std.specs.Prelude.{ℕ, zero, suc, Bool, true, false, List, [], ◌∷◌, ◌++◌, Ok, Err, if◌then◌else◌}
+-- Values joined by marks, as they are read.
+use Rattle.std.specs.Prelude.{ℕ, zero, suc, Bool, true, false, not, List, [], ◌∷◌, ◌++◌, Ok, Err, if◌then◌else◌}
 use Rattle.token_core.specs.declared.error.ErrorKind.TheVariants.{Unexpected}
 use Rattle.token_core.specs.Toks.{Toks, done, word, mark, lit, group, enter, leave}
 use Rattle.token_core.specs.Reads.{Outcome, Reader, ◌>>=◌, pure, peek, refuse}
@@ -18,7 +18,12 @@ size (leave k) = suc (size k)
 abbrev pub Many : Type 0 → Type 0 → Type 0
 Many A P = List A × List P
 
-module _ {A P : Type 0} (value : Bool → Reader A) (more : Toks → Bool) (joint : Reader P) where
+-- A value, and as long as a mark follows, the mark and a further value, up to where the list stops. The tests say where it
+-- stops before a value, at first and after a mark, and whether a mark follows a value.
+module _ {A P : Type 0} (stops : Bool → Toks → Bool) (value : Bool → Reader A) (more : Toks → Bool) (joint : Reader P) where
+  abbrev pub none : Many A P
+  none = ([], [])
+
   abbrev pub one : A → Many A P
   one x = (x ∷ [], [])
 
@@ -26,18 +31,34 @@ module _ {A P : Type 0} (value : Bool → Reader A) (more : Toks → Bool) (join
   put x p v = (x ∷ v.0, p ∷ v.1)
 
   -- at most n values; the first value is read as such
-  abbrev pub joined_from : ℕ → Bool → Reader (Many A P)
-  joined_from zero first = refuse Unexpected
-  joined_from (suc n) first = do
-    x ← value first
-    goes ← peek more
-    if goes then (do
-      p ← joint
-      rest ← joined_from n false
-      pure (put x p rest)) else pure (one x)
+  abbrev pub listed_from : ℕ → Bool → Reader (Many A P)
+  listed_from zero first = refuse Unexpected
+  listed_from (suc n) first = do
+    over ← peek (stops first)
+    if over then pure none else (do
+      x ← value first
+      goes ← peek more
+      if goes then (do
+        p ← joint
+        rest ← listed_from n false
+        pure (put x p rest)) else pure (one x))
 
-  unfoldable pub joined : Bool → Reader (Many A P)
-  joined first s = joined_from (suc (size s.rest)) first s
+  unfoldable pub listed : Bool → Reader (Many A P)
+  listed first s = listed_from (suc (size s.rest)) first s
+
+-- a list that doesn't stop before a value
+abbrev pub never : Bool → Toks → Bool
+never first l = false
+
+abbrev pub joined_from : {A P : Type 0} → (Bool → Reader A) → (Toks → Bool) → Reader P → ℕ → Bool → Reader (Many A P)
+joined_from value more joint = listed_from never value more joint
+
+abbrev pub joined : {A P : Type 0} → (Bool → Reader A) → (Toks → Bool) → Reader P → Bool → Reader (Many A P)
+joined value more joint = listed never value more joint
+
+-- a list that stops where the test holds, before a value and after one: there a mark is needed
+abbrev pub terminated : {A P : Type 0} → (Toks → Bool) → Reader A → Reader P → Reader (Many A P)
+terminated ends value joint = listed (λ first. ends) (λ first. value) (λ l. not (ends l)) joint true
 
 abbrev pub onto : {A P : Type 0} → Many A P → Many A P → Many A P
 onto v w = (v.0 ++ w.0, v.1 ++ w.1)

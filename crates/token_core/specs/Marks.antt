@@ -1,5 +1,5 @@
 -- The named marks and words, by their numbers.
-use Rattle.std.specs.Prelude.{ℕ, List, [], ◌∷◌, ◌++◌, ◌==◌, if◌then◌else◌, replicate, slice_set, codes}
+use Rattle.std.specs.Prelude.{ℕ, List, [], ◌∷◌, ◌++◌, get_or, replicate, slice_set, codes}
 use Rattle.token_core.specs.declared.span.Span.{Span}
 use Rattle.token_core.specs.declared.mark.Spans.{Spans}
 use Rattle.token_core.specs.declared.mark.Mark.{Mark}
@@ -8,20 +8,29 @@ use Rattle.token_core.specs.declared.tree.Ident.{Ident}
 use Rattle.token_core.specs.Toks.{Bytes}
 use Rattle.token_core.specs.Reads.{Reader, ◌<$>◌, read_mark, read_word, is_text}
 
--- the characters of a mark
-abbrev pub chars_of : ℕ → List ℕ
-chars_of n =
-    if n == 0 then 33 ∷ [] else (
-    if n == 1 then 58 ∷ 58 ∷ [] else (
-    if n == 2 then 60 ∷ [] else (
-    if n == 3 then 62 ∷ [] else 44 ∷ [])))
+-- the characters of the marks, by their numbers
+abbrev pub mark_table : List (List ℕ)
+mark_table =
+    (33 ∷ []) ∷ (58 ∷ 58 ∷ []) ∷ (60 ∷ []) ∷ (62 ∷ []) ∷ (44 ∷ []) ∷ (38 ∷ [])
+    ∷ (64 ∷ []) ∷ (58 ∷ []) ∷ (46 ∷ 46 ∷ []) ∷ (46 ∷ 46 ∷ 46 ∷ []) ∷ (46 ∷ 46 ∷ 61 ∷ []) ∷ (61 ∷ [])
+    ∷ (61 ∷ 61 ∷ []) ∷ (61 ∷ 62 ∷ []) ∷ (60 ∷ 61 ∷ []) ∷ (45 ∷ []) ∷ (33 ∷ 61 ∷ []) ∷ (124 ∷ [])
+    ∷ (124 ∷ 61 ∷ []) ∷ (124 ∷ 124 ∷ []) ∷ (43 ∷ []) ∷ (35 ∷ []) ∷ (63 ∷ []) ∷ (45 ∷ 62 ∷ [])
+    ∷ (59 ∷ []) ∷ (60 ∷ 60 ∷ 61 ∷ []) ∷ (42 ∷ []) ∷ []
 
--- the text of a word
+-- the words, by their numbers
+abbrev pub word_table : List Bytes
+word_table =
+    codes "Self" ∷ codes "self" ∷ codes "super" ∷ codes "crate" ∷ codes "as" ∷ codes "box" ∷ codes "const"
+    ∷ codes "dyn" ∷ codes "extern" ∷ codes "fn" ∷ codes "for" ∷ codes "if" ∷ codes "impl" ∷ codes "mut"
+    ∷ codes "ref" ∷ codes "try" ∷ codes "unsafe" ∷ codes "use" ∷ codes "where" ∷ codes "_" ∷ []
+
+-- the characters of a mark; a number that names none has no character
+abbrev pub chars_of : ℕ → List ℕ
+chars_of n = get_or mark_table n []
+
+-- the text of a word; a number that names none has no text
 abbrev pub text_of : ℕ → Bytes
-text_of n =
-    if n == 0 then codes "Self" else (
-    if n == 1 then codes "self" else (
-    if n == 2 then codes "super" else codes "crate"))
+text_of n = get_or word_table n []
 
 -- a text between back quotes, as refusals name it
 abbrev pub quoted : Bytes → Bytes

@@ -33,6 +33,10 @@ abbrev pub as_punct : Toks → Option (Punct × Toks)
 as_punct (mark p k) = Some (p, k)
 as_punct _ = None
 
+abbrev pub as_lit : Toks → Option (Literal × Toks)
+as_lit (lit l k) = Some (l, k)
+as_lit _ = None
+
 abbrev pub as_group : Toks → Option (Delimiter × DelimSpan × Toks × Toks)
 as_group (group d s c k) = Some (d, s, c, k)
 as_group _ = None
@@ -162,6 +166,12 @@ f <$> p = p >>= (λ x. pure (f x))
 abbrev pub peek : (Toks → Bool) → Reader Bool
 peek test = λ s. Ok (test s.rest, s)
 
+-- what a reader reads where a test sees it
+abbrev pub optional : {A : Type 0} → (Toks → Bool) → Reader A → Reader (Option A)
+optional sees p = do
+  there ← peek sees
+  if there then Some <$> p else pure None
+
 -- ---- refusals: they point at the first token, and where none is left at the end of the scope
 
 abbrev pub span_at : Toks → Span → Span
@@ -231,6 +241,9 @@ is_text w t = bytes_eq t w
 
 abbrev pub ident_name : Bytes
 ident_name = codes "identifier"
+
+abbrev pub builtin_text : Bytes
+builtin_text = codes "builtin"
 
 -- ---- groups
 

@@ -1,6 +1,7 @@
 //! A flat buffer of entries that refer to the trees of a list, and what stands at its front.
 
-ghost use Rattle.std.specs.Prelude.{◌≡◌, ◌∷◌, ◌++◌, ◌+◌, map, take, drop, IfOk, OnOk};
+ghost use Rattle.std.specs.Prelude.{◌≡◌, ◌∷◌, ◌++◌, ◌+◌, map, take, drop, option_map, IfOk, OnOk};
+ghost use Rattle.token_core.specs.Groups as groups;
 ghost use Rattle.token_core.specs.Front as spec;
 ghost use Rattle.token_core.specs.Front.{shows, Linked};
 ghost use Rattle.token_core.specs.Trees.{delimiter_of, span_of, content_of, toks};
@@ -116,7 +117,53 @@ fn group_front<'a>(group: &'a Group, n: usize, more: &'a [Entry<'a>]) -> Front<'
     }
 }
 
-fn around<'a>(n: usize, more: &'a [Entry<'a>]) -> (&'a [Entry<'a>], &'a [Entry<'a>])
+#[tactic(auto, using(crate::proofs::Fronts::views))]
+fn invisible_at<'a>(
+    entry: &Entry<'a>,
+    more: &'a [Entry<'a>],
+) -> Option<(&'a Group, Cursor<'a>, Cursor<'a>)>
+    requires { Nested (saw entry.now ∷ map saw more.now) }
+    ensures { option_map (λ p. (span_of p.0.now, p.1, p.2)) result ≡ groups.as_invisible (view (saw entry.now ∷ map saw more.now)) }
+{
+    match entry {
+        Entry::Tree(TokenTree::Group(group), n) => invisible_group(group, *n, more),
+        Entry::Tree(_, _) => None,
+        Entry::End(_) => None,
+    }
+}
+
+#[tactic(auto, using(crate::proofs::Fronts::views))]
+fn invisible_group<'a>(
+    group: &'a Group,
+    n: usize,
+    more: &'a [Entry<'a>],
+) -> Option<(&'a Group, Cursor<'a>, Cursor<'a>)>
+    requires { Nested (saw_delimiter (delimiter_of group.now) (span_of group.now) (content_of group.now) n ∷ map saw more.now) }
+    ensures { option_map (λ p. (span_of p.0.now, p.1, p.2)) result ≡ groups.as_invisible (view (saw_delimiter (delimiter_of group.now) (span_of group.now) (content_of group.now) n ∷ map saw more.now)) }
+{
+    match group.delimiter {
+        Delimiter::None => {
+            let (inside, after) = around(n, more);
+            Some((group, Cursor { entries: inside }, Cursor { entries: after }))
+        }
+        _ => None,
+    }
+}
+
+/// The invisible group that stands first.
+#[tactic(auto, using(crate::proofs::Fronts::views))]
+fn first_invisible<'a>(entries: &'a [Entry<'a>]) -> Option<(&'a Group, Cursor<'a>, Cursor<'a>)>
+    requires { Nested (map saw entries.now) }
+    ensures { option_map (λ p. (span_of p.0.now, p.1, p.2)) result ≡ groups.as_invisible (entries_view entries.now) }
+{
+    if entries.len() == 0 {
+        return None;
+    }
+    invisible_at(&entries[0], &entries[1..])
+}
+
+/// Within and after a group's content of `n` entries.
+pub(crate) fn around<'a>(n: usize, more: &'a [Entry<'a>]) -> (&'a [Entry<'a>], &'a [Entry<'a>])
     ensures inside { result.0.now ≡ take n more.now }
     ensures after { result.1.now ≡ drop (n + 1) more.now }
 {
@@ -157,13 +204,11 @@ impl<'a> Cursor<'a> {
         settled(past_ends(self.entries))
     }
 
-    /// The same position.
-    pub fn again(&self) -> Cursor<'a>
-        ensures { result ≡ self.now }
+    /// The invisible group at the front, after the ends of others, with its content and what follows it.
+    pub(crate) fn next_invisible(&self) -> Option<(&'a Group, Cursor<'a>, Cursor<'a>)>
+        ensures { option_map (λ p. (span_of p.0.now, p.1, p.2)) result ≡ groups.next_invisible self.now }
     {
-        Cursor {
-            entries: self.entries,
-        }
+        first_invisible(past_ends(self.entries))
     }
 }
 

@@ -123,4 +123,11 @@ impl<'a> ParseStream<'a> {
             None => false,
         }
     }
+
+    /// Whether the plain identifier `builtin` is at the front.
+    pub fn peek_builtin(&self) -> bool
+        ensures { result ≡ spec.sees_word (spec.is_text spec.builtin_text) self.now.rest }
+    {
+        self.peek_word("builtin")
+    }
 }

@@ -1,6 +1,6 @@
 //! Named marks, by their numbers.
 
-ghost use Rattle.std.specs.Prelude.{◌≡◌};
+ghost use Rattle.std.specs.Prelude.{◌≡◌, [], get_or, map};
 ghost use Rattle.token_core.specs.Marks as spec;
 
 use crate::span::Span;
@@ -19,30 +19,76 @@ pub struct Mark<const N: u32, const LEN: usize> {
     pub spans: [Span; LEN],
 }
 
-/// The characters of the mark of a number.
+/// The characters of the marks, by their numbers.
+static CHARS: [&[char]; 27] = [
+    &['!'],
+    &[':', ':'],
+    &['<'],
+    &['>'],
+    &[','],
+    &['&'],
+    &['@'],
+    &[':'],
+    &['.', '.'],
+    &['.', '.', '.'],
+    &['.', '.', '='],
+    &['='],
+    &['=', '='],
+    &['=', '>'],
+    &['<', '='],
+    &['-'],
+    &['!', '='],
+    &['|'],
+    &['|', '='],
+    &['|', '|'],
+    &['+'],
+    &['#'],
+    &['?'],
+    &['-', '>'],
+    &[';'],
+    &['<', '<', '='],
+    &['*'],
+];
+
+/// The marks as refusals name them, by their numbers.
+static NAMES: [&str; 27] = [
+    "`!`", "`::`", "`<`", "`>`", "`,`", "`&`", "`@`", "`:`", "`..`", "`...`", "`..=`", "`=`",
+    "`==`", "`=>`", "`<=`", "`-`", "`!=`", "`|`", "`|=`", "`||`", "`+`", "`#`", "`?`", "`->`",
+    "`;`", "`<<=`", "`*`",
+];
+
+/// The characters of the mark of a number, none where the number names none.
 pub(crate) fn mark_chars(n: u32) -> &'static [char]
     ensures { result.now ≡ spec.chars_of n }
 {
-    match n {
-        0 => &['!'],
-        1 => &[':', ':'],
-        2 => &['<'],
-        3 => &['>'],
-        _ => &[','],
+    chars_at(&CHARS, n)
+}
+
+#[tactic(auto, using(crate::proofs::Tables::rows))]
+fn chars_at(table: &[&'static [char]], n: u32) -> &'static [char]
+    ensures { result.now ≡ get_or (map (λ c. c.now) table.now) n [] }
+{
+    match table.get(n as usize) {
+        Some(chars) => chars,
+        None => &[],
     }
 }
 
 /// The mark of a number as refusals name it.
-#[tactic(auto, unfolding(crate::specs::Marks::mark_name))]
 pub(crate) fn mark_name(n: u32) -> &'static str
     ensures { result.now ≡ spec.mark_name n }
 {
-    match n {
-        0 => "`!`",
-        1 => "`::`",
-        2 => "`<`",
-        3 => "`>`",
-        _ => "`,`",
+    text_at(&NAMES, n, "``")
+}
+
+/// What a table has at a number, and past its end the other text.
+#[tactic(auto, using(crate::proofs::Tables::rows))]
+pub(crate) fn text_at(table: &[&'static str], n: u32, other: &'static str) -> &'static str
+    ensures { result.now ≡ get_or (map (λ t. t.now) table.now) n other.now }
+{
+    match table.get(n as usize) {
+        Some(text) => text,
+        None => other,
     }
 }
 

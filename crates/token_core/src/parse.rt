@@ -15,6 +15,7 @@ use crate::parse_stream::ParseStream;
 use crate::span::Span;
 use crate::tree::TokenStream;
 use std::alloc::Global;
+use std::marker::PhantomData;
 
 /// A token that a stream may be tested for.
 pub trait Token: Sized {
@@ -53,13 +54,7 @@ pub fn read_all<T: Parse>(alloc: Global, tokens: &TokenStream) -> Result<T, Erro
     ensures reads { WholeRead T.reads T.refuses (started none (toks tokens.now)) result }
     ensures promise { Promised (T.promise (toks tokens.now)) result }
 {
-    let buffer = TokenBuffer::new(alloc, tokens)?;
-    let mut input = ParseStream::new(&buffer, Span::none());
-    let answer = T::parse(alloc, &mut input)?;
-    match input.leaves() {
-        None => Ok(answer),
-        Some(span) => Err(Error::named(alloc, ErrorKind::Unexpected, span)),
-    }
+    read_all_with(ByParse::<T>::new(), alloc, tokens)
 }
 
 /// What reads from a stream once.
@@ -95,8 +90,22 @@ pub fn read_all_with<P: Parser + Drop>(
     ensures reads { WholeRead (P.reads parser) (P.refuses parser) (started none (toks tokens.now)) result }
     ensures promise { Promised (P.promise parser (toks tokens.now)) result }
 {
+    read_scoped(parser, alloc, Span::none(), tokens)
+}
+
+/// Reads all of a list by a parser; refusals at its end point at the scope.
+pub fn read_scoped<P: Parser + Drop>(
+    parser: P,
+    alloc: Global,
+    scope: Span,
+    tokens: &TokenStream,
+) -> Result<P::Output, Error>
+    requires { P.can_parse parser }
+    ensures reads { WholeRead (P.reads parser) (P.refuses parser) (started scope (toks tokens.now)) result }
+    ensures promise { Promised (P.promise parser (toks tokens.now)) result }
+{
     let buffer = TokenBuffer::new(alloc, tokens)?;
-    let mut input = ParseStream::new(&buffer, Span::none());
+    let mut input = ParseStream::new(&buffer, scope);
     let answer = parser.parse(alloc, &mut input)?;
     match input.leaves() {
         None => Ok(answer),
@@ -121,5 +130,48 @@ impl<T: Drop, F: FnOnce(Global, &mut ParseStream<'_>) -> Result<T, Error>> Parse
     fn parse(self, alloc: Global, input: &mut ParseStream<'_>) -> Result<T, Error> {
         let ByFn(f) = self;
         f(alloc, input)
+    }
+}
+
+/// What a type reads, as a parser.
+#[derive(Drop)]
+pub struct ByParse<T> {
+    of: PhantomData<T>,
+}
+
+impl<T> ByParse<T> {
+    pub fn new() -> ByParse<T> {
+        ByParse { of: PhantomData }
+    }
+}
+
+impl<T: Parse> Parser for ByParse<T> {
+    type Output = T;
+
+    ghost can_parse = { λ _. Unit {0} };
+
+    ghost reads = { λ _. T.reads };
+
+    ghost refuses = { λ _. T.refuses };
+
+    ghost promise = { λ _. T.promise };
+
+    fn parse(self, alloc: Global, input: &mut ParseStream<'_>) -> Result<T, Error> {
+        T::parse(alloc, input)
+    }
+}
+
+impl<'a> ParseStream<'a> {
+    /// Reads by a function.
+    pub fn call<T: Drop, F: FnOnce(Global, &mut ParseStream<'_>) -> Result<T, Error>>(
+        &mut self,
+        alloc: Global,
+        f: F,
+    ) -> Result<T, Error>
+        requires { CanParse (F.pre f) (F.post f) }
+        ensures reads { Parsed (λ a new. Answers (F.post f) self.old (Ok a) new) (RefusesBy (F.post f) self.old) result self.new }
+        ensures within { Follows self.old self.new }
+    {
+        ByFn(f).parse(alloc, self)
     }
 }

@@ -38,7 +38,7 @@ impl<'a> Model for ParseStream<'a> {
     ghost view = { λ s. record { rest = s.cursor; left = s.left; last = s.last; scope = s.scope } };
 }
 
-fn as_word<'a>(at: Front<'a>) -> Option<(&'a Ident, Cursor<'a>)>
+pub(crate) fn as_word<'a>(at: Front<'a>) -> Option<(&'a Ident, Cursor<'a>)>
     ensures { option_map (λ p. (p.0.now, p.1)) result ≡ spec.as_word (shows at.entry) }
 {
     match at {
@@ -50,7 +50,7 @@ fn as_word<'a>(at: Front<'a>) -> Option<(&'a Ident, Cursor<'a>)>
     }
 }
 
-fn as_punct<'a>(at: Front<'a>) -> Option<(Punct, Cursor<'a>)>
+pub(crate) fn as_punct<'a>(at: Front<'a>) -> Option<(Punct, Cursor<'a>)>
     ensures { option_map (λ p. (p.0, p.1)) result ≡ spec.as_punct (shows at.entry) }
 {
     match at {
@@ -231,7 +231,7 @@ impl<'a> ParseStream<'a> {
     }
 
     #[tactic(auto, unfolding(crate::specs::Reads::refused))]
-    fn refused(&self, alloc: Global, kind: ErrorKind, text: &str) -> Error
+    pub(crate) fn refused(&self, alloc: Global, kind: ErrorKind, text: &str) -> Error
         ensures { Made result (spec.refused kind text.now self.now) }
     {
         let at = self.span();
@@ -288,6 +288,16 @@ impl<'a> ParseStream<'a> {
             last,
             scope: self.scope,
         }
+    }
+
+    /// Goes on after the first token, which ends at `last`.
+    #[tactic(auto, using(crate::proofs::Suffixes::follows_past))]
+    pub(crate) fn go_on(&mut self, cursor: Cursor<'a>, last: Span)
+        requires { spec.IsSuffix cursor self.old.rest }
+        ensures past { self.new ≡ spec.past self.old cursor.entry last }
+        ensures within { Follows self.old self.new }
+    {
+        *self = self.past(cursor, last);
     }
 
     /// The same stream at another position.
@@ -441,7 +451,7 @@ fn first_of(left: Option<Span>, child: &ParseStream<'_>) -> Option<Span>
 }
 
 /// A child stream of the content of a group.
-fn content<'a>(span: DelimSpan, cursor: Cursor<'a>) -> ParseStream<'a>
+pub(crate) fn content<'a>(span: DelimSpan, cursor: Cursor<'a>) -> ParseStream<'a>
     ensures { result ≡ spec.inside span cursor.entry }
 {
     ParseStream {

@@ -1,11 +1,18 @@
 //! Values with marks between them.
 
-ghost use Rattle.std.specs.Prelude.{◌≡◌, ◌++◌, ◌∷◌, [], ◌<◌, length, OnOk, OnErr, IsTrue, ◌↔◌, ◌+◌, option_map, slice_get, min, ◌^◌, ◌-◌};
+ghost use Rattle.std.specs.Prelude.{◌≡◌, ◌++◌, ◌∷◌, [], ◌<◌, length, OnOk, OnErr, IsTrue, ◌↔◌, ◌+◌, option_map, slice_get, min, ◌^◌, ◌-◌, MatchOption, Ok, Err};
 ghost use Rattle.token_core.specs.Lists as spec;
 ghost use Rattle.token_core.specs.Joined.{values_of, marks_of};
+ghost use Rattle.token_core.specs.Reads.{Parsed, Follows};
+ghost use Rattle.token_core.specs.Terminated as terminated;
+ghost use Rattle.token_core.specs.Terminated.{Takes};
+ghost use Rattle.std.specs.Iterator.{YieldsFirstBy, YieldsFirstRef, item_count};
 
 use crate::boxed::Boxed;
+use crate::error::Error;
 use crate::items::Items;
+use crate::parse::Parse;
+use crate::parse_stream::ParseStream;
 use std::alloc::{AllocError, Global};
 use std::marker::Model;
 
@@ -79,6 +86,56 @@ impl<T, P> Punctuated<T, P> {
                 None => None,
             },
         }
+    }
+
+    /// The last value.
+    #[tactic(auto, using(crate::proofs::Lists::lasts))]
+    pub fn last(&self) -> Option<&T>
+        ensures { option_map (λ x. x.now) result ≡ spec.last self.now.0 }
+    {
+        let pairs = self.inner.as_slice();
+        match &self.last {
+            Some(value) => Some(value.get()),
+            None => {
+                if pairs.len() == 0 {
+                    None
+                } else {
+                    Some(&pairs[pairs.len() - 1].value)
+                }
+            }
+        }
+    }
+
+    /// Removes the last value, and its mark if it has one.
+    #[tactic(auto, using(crate::proofs::Lists::popped))]
+    pub fn pop(&mut self) -> Option<(T, Option<P>)>
+        ensures popped { MatchOption result ((self.old ≡ ([], [])) × (self.new ≡ ([], []))) (λ x. self.old ≡ spec.put_last self.new x) }
+        ensures left { length self.new.0 ≡ length self.new.1 }
+    {
+        match self.last.take() {
+            Some(value) => Some((value.into_inner(), None)),
+            None => match self.inner.pop() {
+                Some(pair) => Some((pair.value, Some(pair.mark))),
+                None => None,
+            },
+        }
+    }
+
+    /// Each value with its mark, if it has one.
+    #[tactic(auto, using(crate::proofs::Lists::paired))]
+    pub fn pairs(&self) -> Pairs<'_, T, P>
+        ensures { result ≡ spec.pairs self.now.0 self.now.1 }
+    {
+        let (pairs, last) = self.parts();
+        Pairs { pairs, last }
+    }
+
+    /// The values.
+    pub fn iter(&self) -> Iter<'_, T, P>
+        ensures { result ≡ self.now.0 }
+    {
+        let (pairs, last) = self.parts();
+        Iter { pairs, last }
     }
 
     /// The number of values (2^64 - 1 where there are more, which only values without a size can be).
@@ -167,5 +224,99 @@ impl<T: Drop, P: Drop> Punctuated<T, P> {
             },
             None => Ok(()),
         }
+    }
+}
+
+/// Each value with its mark, if it has one, in order; contracts see those that are left.
+#[derive(Drop)]
+pub struct Pairs<'a, T, P> {
+    pairs: &'a [Pair<T, P>],
+    last: Option<&'a T>,
+}
+
+impl<'a, T, P> Model for Pairs<'a, T, P> {
+    ghost use Rattle.std.specs.Prelude.{List, Option, option_map};
+    ghost use Rattle.token_core.specs.Joined.{pairs_of};
+
+    ghost Value = { List (T × Option P) };
+
+    ghost view = { λ s. pairs_of s.pairs.now (option_map (λ x. x.now) s.last) };
+}
+
+impl<'a, T, P> Iterator for Pairs<'a, T, P> {
+    type Item = (&'a T, Option<&'a P>);
+
+    ghost next_gives = { YieldsFirstBy (λ x. (x.0.now, option_map (λ p. p.now) x.1)) (λ s. s) };
+
+    ghost remaining = { item_count (λ s. s) };
+
+    fn next(&mut self) -> Option<(&'a T, Option<&'a P>)> {
+        match self.pairs.split_first() {
+            Some((pair, more)) => {
+                self.pairs = more;
+                Some((&pair.value, Some(&pair.mark)))
+            }
+            None => match self.last.take() {
+                Some(value) => Some((value, None)),
+                None => None,
+            },
+        }
+    }
+}
+
+/// The values in order; contracts see those that are left.
+#[derive(Drop)]
+pub struct Iter<'a, T, P> {
+    pairs: &'a [Pair<T, P>],
+    last: Option<&'a T>,
+}
+
+impl<'a, T, P> Model for Iter<'a, T, P> {
+    ghost use Rattle.std.specs.Prelude.{List, option_map};
+    ghost use Rattle.token_core.specs.Joined.{values_of};
+
+    ghost Value = { List T };
+
+    ghost view = { λ s. values_of s.pairs.now (option_map (λ x. x.now) s.last) };
+}
+
+impl<'a, T, P> Iterator for Iter<'a, T, P> {
+    type Item = &'a T;
+
+    ghost next_gives = { YieldsFirstRef (λ s. s) };
+
+    ghost remaining = { item_count (λ s. s) };
+
+    fn next(&mut self) -> Option<&'a T> {
+        match self.pairs.split_first() {
+            Some((pair, more)) => {
+                self.pairs = more;
+                Some(&pair.value)
+            }
+            None => self.last.take(),
+        }
+    }
+}
+
+impl<T: Parse, P: Parse> Punctuated<T, P> {
+    /// Reads values and marks in turn up to the end of the stream; a mark may be last. A read of a mark must take a token.
+    #[tactic(auto, using(crate::proofs::Suffixes::follows))]
+    pub fn parse_terminated(
+        alloc: Global,
+        input: &mut ParseStream<'_>,
+    ) -> Result<Punctuated<T, P>, Error>
+        requires { Takes P.reads }
+        ensures reads { Parsed (terminated.Answers T.reads P.reads input.old) (λ e. terminated.Refused T.reads P.reads T.refuses P.refuses e input.old) result input.new }
+        ensures within { Follows input.old input.new }
+    {
+        let mut list = Punctuated::new(alloc);
+        'turn: while !input.is_empty() {
+            list.push_value(alloc, T::parse(alloc, input)?)?;
+            if input.is_empty() {
+                return Ok(list);
+            }
+            list.push_punct(P::parse(alloc, input)?)?;
+        }
+        Ok(list)
     }
 }

@@ -1,6 +1,6 @@
 //! The text of identifiers, literals and refusals.
 
-ghost use Rattle.std.specs.Prelude.{◌≡◌, ◌++◌, IfOk};
+ghost use Rattle.std.specs.Prelude.{◌≡◌, ◌++◌, IfOk, OnOk};
 ghost use Rattle.std.specs.Str.{bytes_eq};
 
 use std::alloc::{AllocError, Global};
@@ -36,6 +36,14 @@ impl Text {
         let mut text = String::from_str(alloc, first)?;
         text.push_str(second)?;
         Ok(Text { text })
+    }
+
+    /// Puts a text at the end.
+    pub fn push(&mut self, text: &str) -> Result<(), AllocError>
+        ensures { OnOk result (self.new ≡ self.old ++ text.now) }
+    {
+        self.text.push_str(text)?;
+        Ok(())
     }
 
     pub fn as_str(&self) -> &str

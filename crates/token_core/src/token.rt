@@ -7,14 +7,14 @@ ghost use Rattle.token_core.specs.Groups as groups;
 ghost use Rattle.token_core.specs.Marks as marks;
 ghost use Rattle.token_core.specs.Prints as prints;
 ghost use Rattle.token_core.specs.Reads as spec;
-ghost use Rattle.token_core.specs.Reads.{Reads, Parsed, Follows, Gives, Fails};
+ghost use Rattle.token_core.specs.Reads.{Reads, Parsed, Keeps, Follows, Gives, Fails};
 ghost use Rattle.token_core.specs.Spans as spans;
 
 use crate::error::Error;
 pub use crate::mark::Mark;
 use crate::mark::{mark_chars, mark_name, spread};
 use crate::parse::{Parse, Token};
-use crate::parse_stream::ParseStream;
+use crate::parse_stream::{ParseStream, content};
 use crate::span::{DelimSpan, Span};
 use crate::to_tokens::ToTokens;
 use crate::tree::{Delimiter, Group, Ident, Punct, Spacing, TokenStream, TokenTree};
@@ -37,6 +37,72 @@ pub type Gt = Mark<3, 1>;
 /// `,`
 pub type Comma = Mark<4, 1>;
 
+/// `&`
+pub type And = Mark<5, 1>;
+
+/// `@`
+pub type At = Mark<6, 1>;
+
+/// `:`
+pub type Colon = Mark<7, 1>;
+
+/// `..`
+pub type DotDot = Mark<8, 2>;
+
+/// `...`
+pub type DotDotDot = Mark<9, 3>;
+
+/// `..=`
+pub type DotDotEq = Mark<10, 3>;
+
+/// `=`
+pub type Eq = Mark<11, 1>;
+
+/// `==`
+pub type EqEq = Mark<12, 2>;
+
+/// `=>`
+pub type FatArrow = Mark<13, 2>;
+
+/// `<=`
+pub type Le = Mark<14, 2>;
+
+/// `-`
+pub type Minus = Mark<15, 1>;
+
+/// `!=`
+pub type Ne = Mark<16, 2>;
+
+/// `|`
+pub type Or = Mark<17, 1>;
+
+/// `|=`
+pub type OrEq = Mark<18, 2>;
+
+/// `||`
+pub type OrOr = Mark<19, 2>;
+
+/// `+`
+pub type Plus = Mark<20, 1>;
+
+/// `#`
+pub type Pound = Mark<21, 1>;
+
+/// `?`
+pub type Question = Mark<22, 1>;
+
+/// `->`
+pub type RArrow = Mark<23, 2>;
+
+/// `;`
+pub type Semi = Mark<24, 1>;
+
+/// `<<=`
+pub type ShlEq = Mark<25, 3>;
+
+/// `*`
+pub type Star = Mark<26, 1>;
+
 /// `Self`
 pub type SelfType = Word<0>;
 
@@ -48,6 +114,54 @@ pub type Super = Word<2>;
 
 /// `crate`
 pub type Crate = Word<3>;
+
+/// `as`
+pub type As = Word<4>;
+
+/// `box`
+pub type Box = Word<5>;
+
+/// `const`
+pub type Const = Word<6>;
+
+/// `dyn`
+pub type Dyn = Word<7>;
+
+/// `extern`
+pub type Extern = Word<8>;
+
+/// `fn`
+pub type Fn = Word<9>;
+
+/// `for`
+pub type For = Word<10>;
+
+/// `if`
+pub type If = Word<11>;
+
+/// `impl`
+pub type Impl = Word<12>;
+
+/// `mut`
+pub type Mut = Word<13>;
+
+/// `ref`
+pub type Ref = Word<14>;
+
+/// `try`
+pub type Try = Word<15>;
+
+/// `unsafe`
+pub type Unsafe = Word<16>;
+
+/// `use`
+pub type Use = Word<17>;
+
+/// `where`
+pub type Where = Word<18>;
+
+/// `_`
+pub type Underscore = Word<19>;
 
 impl<const N: u32, const LEN: usize> Default for Mark<N, LEN> {
     ghost is_default = { λ m. m ≡ marks.mark_of N LEN (spec.three spans.none spans.none spans.none) };
@@ -83,7 +197,12 @@ impl<const N: u32, const LEN: usize> Parse for Mark<N, LEN> {
     ghost refuses = { Fails (marks.read N LEN) };
 
     #[tactic(auto, using(crate::specs::Reads::no_promise))]
-    fn parse(alloc: Global, input: &mut ParseStream<'_>) -> Result<Mark<N, LEN>, Error> {
+    fn parse(alloc: Global, input: &mut ParseStream<'_>) -> Result<Mark<N, LEN>, Error>
+        ensures reads { Parsed (Gives (marks.read N LEN) input.old) (Fails (marks.read N LEN) input.old) result input.new }
+        ensures within { Follows input.old input.new }
+        ensures promise { Keeps (λ _ _. Unit {0}) input.old result input.new }
+        ensures same { OnErr result (input.new ≡ input.old) }
+    {
         let spans = input.read_mark(alloc, mark_chars(N), mark_name(N))?;
         Ok(Mark {
             spans: spread(spans),
@@ -225,6 +344,12 @@ pub struct Bracket {
     pub span: DelimSpan,
 }
 
+/// An invisible group.
+#[derive(Clone, Copy)]
+pub struct GroupToken {
+    pub span: DelimSpan,
+}
+
 impl Default for Paren {
     ghost is_default = { λ p. p ≡ groups.paren (spans.delim_span spans.none spans.none) };
 
@@ -250,6 +375,16 @@ impl Default for Bracket {
 
     fn default() -> Bracket {
         Bracket {
+            span: DelimSpan::new(Span::none(), Span::none()),
+        }
+    }
+}
+
+impl Default for GroupToken {
+    ghost is_default = { λ g. g ≡ groups.group_token (spans.delim_span spans.none spans.none) };
+
+    fn default() -> GroupToken {
+        GroupToken {
             span: DelimSpan::new(Span::none(), Span::none()),
         }
     }
@@ -297,6 +432,21 @@ impl Token for Bracket {
     }
 }
 
+impl Token for GroupToken {
+    ghost sees = { groups.sees_invisible };
+
+    ghost name = { groups.invisible_name };
+
+    #[tactic(auto, unfolding(crate::specs::Groups::sees_invisible))]
+    fn peek(input: &ParseStream<'_>) -> bool {
+        input.cursor().next_invisible().is_some()
+    }
+
+    fn display() -> &'static str {
+        "invisible group"
+    }
+}
+
 /// Appends a group of these tokens; refused, the list is as before.
 pub fn surround(
     delimiter: Delimiter,
@@ -337,6 +487,16 @@ impl Bracket {
         ensures err { OnErr result (trees out.new ≡ trees out.old) }
     {
         surround(Delimiter::Bracket, self.span, tokens, out)
+    }
+}
+
+impl GroupToken {
+    /// Appends these tokens in an invisible group; refused, the list is as before.
+    pub fn surround(&self, tokens: TokenStream, out: &mut TokenStream) -> Result<(), AllocError>
+        ensures ok { OnOk result (trees out.new ≡ trees out.old ++ prints.group delimiter.None tokens self.now.span) }
+        ensures err { OnErr result (trees out.new ≡ trees out.old) }
+    {
+        surround(Delimiter::None, self.span, tokens, out)
     }
 }
 
@@ -424,6 +584,24 @@ impl<'a> ParseStream<'a> {
     {
         let (span, inside) = self.open_group(alloc, Delimiter::Brace, Brace::display())?;
         Ok((Brace { span }, inside))
+    }
+
+    /// The invisible group at the front, and a stream of what it holds (`parse_group`). It goes on after the end of an
+    /// invisible group, but into none.
+    #[tactic(auto, using(crate::proofs::Suffixes::follows_self), unfolding(crate::specs::Groups::open_invisible))]
+    pub fn invisible(&mut self, alloc: Global) -> Result<(GroupToken, ParseStream<'a>), Error>
+        ensures reads { Reads (groups.opened groups.group_token (groups.open_invisible self.old)) result self.new }
+        ensures within { Follows self.old self.new }
+        ensures same { OnErr result (self.new ≡ self.old) }
+    {
+        match self.cursor().next_invisible() {
+            Some((group, inside, after)) => {
+                let span = group.delim_span();
+                self.go_on(after, span.close());
+                Ok((GroupToken { span }, content(span, inside)))
+            }
+            None => Err(self.expected(alloc, GroupToken::display())),
+        }
     }
 
     /// The brackets at the front, and a stream of what they hold.

@@ -137,6 +137,13 @@ impl Punct {
         self.spacing
     }
 
+    /// Its equal, span too. It takes no memory, and is there for the sake of the other trees.
+    pub fn copy(&self, _alloc: Global) -> Result<Punct, AllocError>
+        ensures { IfOk result (λ p. p ≡ self.now) }
+    {
+        Ok(*self)
+    }
+
     pub fn span(&self) -> Span
         ensures { result ≡ self.now.span }
     {

@@ -3,6 +3,7 @@
 ghost use Rattle.std.specs.Prelude.{◌≡◌};
 ghost use Rattle.token_core.specs.Marks as spec;
 
+use crate::mark::text_at;
 use crate::span::Span;
 
 /// The word of a number.
@@ -11,27 +12,29 @@ pub struct Word<const N: u32> {
     pub span: Span,
 }
 
-/// The text of the word of a number.
+/// The words, by their numbers.
+static TEXTS: [&str; 20] = [
+    "Self", "self", "super", "crate", "as", "box", "const", "dyn", "extern", "fn", "for", "if",
+    "impl", "mut", "ref", "try", "unsafe", "use", "where", "_",
+];
+
+/// The words as refusals name them, by their numbers.
+static NAMES: [&str; 20] = [
+    "`Self`", "`self`", "`super`", "`crate`", "`as`", "`box`", "`const`", "`dyn`", "`extern`",
+    "`fn`", "`for`", "`if`", "`impl`", "`mut`", "`ref`", "`try`", "`unsafe`", "`use`", "`where`",
+    "`_`",
+];
+
+/// The text of the word of a number, none where the number names none.
 pub(crate) fn word_text(n: u32) -> &'static str
     ensures { result.now ≡ spec.text_of n }
 {
-    match n {
-        0 => "Self",
-        1 => "self",
-        2 => "super",
-        _ => "crate",
-    }
+    text_at(&TEXTS, n, "")
 }
 
 /// The word of a number as refusals name it.
-#[tactic(auto, unfolding(crate::specs::Marks::word_name))]
 pub(crate) fn word_name(n: u32) -> &'static str
     ensures { result.now ≡ spec.word_name n }
 {
-    match n {
-        0 => "`Self`",
-        1 => "`self`",
-        2 => "`super`",
-        _ => "`crate`",
-    }
+    text_at(&NAMES, n, "``")
 }

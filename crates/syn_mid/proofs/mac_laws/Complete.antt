@@ -16,7 +16,8 @@ use Rattle.syn_mid.specs.declared.mac.MacroDelimiter.{MacroDelimiter}
 use Rattle.syn_mid.specs.mac.Reading.{bang, held, body, mac}
 use Rattle.syn_mid.specs.mac.Spelling.{bang_at, Delimits, in_paren, in_brace, in_bracket, IsMacro, a_macro}
 use Rattle.syn_mid.specs.path.Reading.{sees_sep}
-use Rattle.syn_mid.proofs.path_laws.Complete.{link, Reads_to, path_complete}
+use Rattle.token_core.proofs.Steps.{link, Reads_to}
+use Rattle.syn_mid.proofs.path_laws.Complete.{path_complete}
 
 reads_bang : (a : Span) (j : Spacing) (r : Toks) (f : Option Span) (e sc : Span) → bang (at (mark (punct 33 j a) r) f e sc) ≡ Ok (bang_at a, at r f a sc)
 unfolding read_mark

@@ -7,23 +7,17 @@ use Rattle.token_core.specs.declared.tree.Spacing.TheVariants.{Joint}
 use Rattle.token_core.specs.Toks.{Toks, word, mark}
 use Rattle.token_core.specs.Trees.{punct}
 use Rattle.token_core.specs.Stream.{Stream}
-use Rattle.token_core.specs.Loops.{size, joined_from, joined}
+use Rattle.token_core.specs.Loops.{size, joined_from, listed}
 use Rattle.token_core.specs.Reads.{Outcome, Reader, and_then, sees_word, sees_mark, read_word, next_word, read_mark, any_text, ident_name}
 use Rattle.token_core.proofs.Took.{at}
+use Rattle.token_core.proofs.Steps.{link, chosen, Reads_to}
 use Rattle.syn_mid.specs.declared.path.Path.{Path}
 use Rattle.syn_mid.specs.declared.path.PathSegment.{PathSegment}
+use Rattle.syn_mid.specs.declared.path.SegmentStyle.TheVariants.{Mod}
 use Rattle.syn_mid.specs.path.Paths.{Sep, segment_of}
-use Rattle.syn_mid.specs.path.Reading.{sees_sep, sep, no_segment, mod_segment, mod_segments, mod_style}
+use Rattle.syn_mid.specs.path.Reading.{sees_sep, sep, bare_segment, bare_segments, bare_path, mod_style}
 use Rattle.syn_mid.specs.path.Reading as reading
 use Rattle.syn_mid.specs.path.Spelling.{is_mod_word, sep_at, IsLeading, no_leading, leading, AreModSegments, last_segment, more_segments, IsModPath, mod_path}
-
--- a step that answers, and what goes on from it
-pub link : {A B : Type 0} {o : Outcome A} {x : Outcome B} {a : A} {s : Stream} (f : A → Reader B) → o ≡ Ok (a, s) → f a s ≡ x → and_then o f ≡ x
-link f e g = ap (λ z. and_then z f) e ∙ g
-
--- a test that holds, or not
-pub chosen : {A : Type 0} (b c : Bool) (p q : Reader A) (s : Stream) (x : Outcome A) → b ≡ c → (if c then p else q) s ≡ x → (if b then p else q) s ≡ x
-chosen b c p q s x e h = ap (λ (z : Bool). (if z then p else q) s) e ∙ h
 
 -- ---- single steps
 
@@ -47,11 +41,6 @@ sees_mod : (i : Ident) (r : Toks) → is_mod_word i.text ≡ true → sees_word 
 unfolding sees_word
 sees_mod i r h = h
 
--- the stream stands after what was spelt
-pub record Reads_to {A : Type 0} (p : Reader A) (a : A) (l r : Toks) (f : Option Span) (e sc : Span) : Type 0 where
-  pub last : Span
-  pub reads : p (at l f e sc) ≡ Ok (a, at r f last sc)
-
 leading_complete : (o : Option Sep) (l r : Toks) (f : Option Span) (e sc : Span) → IsLeading true o l r → sees_sep r ≡ false → Reads_to reading.leading o l r f e sc
 unfolding reading.leading
 leading_complete o l r f e sc no_leading s = record { last = e; reads = chosen (sees_sep r) false _ _ (at r f e sc) _ s refl }
@@ -59,8 +48,8 @@ leading_complete o l r f e sc (leading {a = a} {b = b} {j = j} c) s =
     record { last = b; reads = chosen (sees_sep l) true _ _ (at l f e sc) _ (sees_sep-front a b j r) (link _ (reads_sep a b j r f e sc) refl) }
 
 module _ {X : Type 0} where
-  reads_segment : (first : Bool) (i : Ident) (r : Toks) (f : Option Span) (e sc : Span) → is_mod_word i.text ≡ true → mod_segment {X = X} first (at (word i r) f e sc) ≡ Ok (segment_of i, at r f i.span sc)
-  unfolding mod_segment
+  reads_segment : (first : Bool) (i : Ident) (r : Toks) (f : Option Span) (e sc : Span) → is_mod_word i.text ≡ true → bare_segment {X = X} Mod first (at (word i r) f e sc) ≡ Ok (segment_of i, at r f i.span sc)
+  unfolding bare_segment
   reads_segment first i r f e sc h =
       chosen (sees_word is_mod_word (word i r)) true _ _ (at (word i r) f e sc) _ (sees_mod i r h) (link _ (reads_any i r f e sc) refl)
 
@@ -69,7 +58,7 @@ module _ {X : Type 0} where
   size_segments all seps l r (more_segments {all = xs} {seps = ps} {l = m} h a i) = let k = size_segments xs ps m r i in omega (arith, k)
 
   segments_from : (n : ℕ) (first : Bool) (all : List (PathSegment X)) (seps : List Sep) (l r : Toks) (f : Option Span) (e sc : Span) → size l < n → AreModSegments true all seps l r → sees_sep r ≡ false →
-      Reads_to (joined_from mod_segment sees_sep sep n first) (all, seps) l r f e sc
+      Reads_to (joined_from (bare_segment Mod) sees_sep sep n first) (all, seps) l r f e sc
   segments_from zero first all seps l r f e sc h i s = absurd (omega (arith, h))
   segments_from (suc n) first all seps l r f e sc h (last_segment {i = i} w) s =
       record { last = i.span; reads = link _ (reads_segment first i r f e sc w) (chosen (sees_sep r) false _ _ (at r f i.span sc) _ s refl) }
@@ -82,8 +71,8 @@ module _ {X : Type 0} where
             (link _ (reads_sep a b j m f i.span sc) (link _ q.reads refl)));
       }
 
-  segments_complete : (all : List (PathSegment X)) (seps : List Sep) (l r : Toks) (f : Option Span) (e sc : Span) → AreModSegments true all seps l r → sees_sep r ≡ false → Reads_to (mod_segments true) (all, seps) l r f e sc
-  unfolding mod_segments joined
+  segments_complete : (all : List (PathSegment X)) (seps : List Sep) (l r : Toks) (f : Option Span) (e sc : Span) → AreModSegments true all seps l r → sees_sep r ≡ false → Reads_to (bare_segments Mod true) (all, seps) l r f e sc
+  unfolding bare_segments listed
   segments_complete all seps l r f e sc i s = let q = segments_from (suc (size l)) true all seps l r f e sc (omega arith) i s in record { last = q.last; reads = q.reads }
 
   begins_word : (all : List (PathSegment X)) (seps : List Sep) (l r : Toks) → AreModSegments true all seps l r → sees_sep l ≡ false
@@ -91,7 +80,7 @@ module _ {X : Type 0} where
   begins_word all seps l r (more_segments {i = i} h a k) = sees_sep-word i _
 
   pub path_complete : (p : Path X) (l r : Toks) (f : Option Span) (e sc : Span) → IsModPath true p l r → sees_sep r ≡ false → Reads_to mod_style p l r f e sc
-  unfolding mod_style
+  unfolding bare_path
   path_complete p l r f e sc (mod_path {o = o} {all = all} {seps = seps} {m = m} i k) s =
       let c = leading_complete o l m f e sc i (begins_word all seps m r k) in
       let d = segments_complete all seps m r f c.last sc k s in

@@ -9,14 +9,15 @@ use Rattle.token_core.specs.Trees.{punct}
 use Rattle.token_core.specs.Rebuilt.{Visible}
 use Rattle.token_core.specs.Stream.{Stream}
 use Rattle.token_core.specs.Marks as marks
-use Rattle.token_core.specs.Loops.{Many, size, joined_from, joined}
+use Rattle.token_core.specs.Loops.{Many, size, joined_from, listed}
 use Rattle.token_core.specs.Reads.{sees_word, read_word, read_mark, any_text, ident_name}
 use Rattle.token_core.proofs.Turns.{chain, same_pair}
 use Rattle.token_core.proofs.Took.{branch, mapped, took_word, took_mark2, seen_word}
 use Rattle.syn_mid.specs.declared.path.Path.{Path}
 use Rattle.syn_mid.specs.declared.path.PathSegment.{PathSegment}
+use Rattle.syn_mid.specs.declared.path.SegmentStyle.TheVariants.{Mod}
 use Rattle.syn_mid.specs.path.Paths.{Sep, segment_of, path_of}
-use Rattle.syn_mid.specs.path.Reading.{sees_sep, sep, no_segment, mod_segment, mod_segments, mod_style}
+use Rattle.syn_mid.specs.path.Reading.{sees_sep, sep, bare_segment, bare_segments, bare_path, mod_style}
 use Rattle.syn_mid.specs.path.Reading as reading
 use Rattle.syn_mid.specs.path.Spelling.{is_mod_word, sep_at, IsLeading, no_leading, leading, AreModSegments, last_segment, more_segments, IsModPath, mod_path}
 
@@ -82,18 +83,14 @@ module _ {X : Type 0} where
     pub segment : segment_of ident ≡ x
     pub left : t.left ≡ s.left
 
-  no_segment_sound : (b : Bool) (s t : Stream) (x : PathSegment X) → no_segment b s ≡ Ok (x, t) → TookSegment s t x
-  no_segment_sound true s t x e = cc
-  no_segment_sound false s t x e = cc
-
-  segment_sound : (b : Bool) (s t : Stream) (x : PathSegment X) → Visible s.rest → mod_segment b s ≡ Ok (x, t) → TookSegment s t x
-  unfolding mod_segment
+  segment_sound : (b : Bool) (s t : Stream) (x : PathSegment X) → Visible s.rest → bare_segment Mod b s ≡ Ok (x, t) → TookSegment s t x
+  unfolding bare_segment
   segment_sound b s t x v e =
       elim (branch (sees_word is_mod_word s.rest) _ _ s (Ok (x, t)) e) [
         | inl y ↦ let k = mapped (read_word any_text ident_name s) segment_of x t y.1 in
             let w = took_word any_text ident_name s t k.value v k.was in
             record { ident = k.value; is = w.is; meets = sym (ap (sees_word is_mod_word) w.is ∙ seen_word is_mod_word k.value t.rest) ∙ y.0; segment = k.is; left = w.left }
-        | inr y ↦ no_segment_sound b s t x y.1
+        | inr y ↦ cc (y.1)
       ]
 
   abbrev Segments : Many (PathSegment X) Sep → Toks → Toks → Type 0
@@ -120,34 +117,34 @@ module _ {X : Type 0} where
   visible_segment : (s t : Stream) (x : PathSegment X) → TookSegment s t x → Visible s.rest → Visible t.rest
   visible_segment s t x k v = subst Visible k.is v
 
-  segments_from : (n : ℕ) (first : Bool) (s t : Stream) (v : Many (PathSegment X) Sep) → Visible s.rest → joined_from mod_segment sees_sep sep n first s ≡ Ok (v, t) → Taken Segments s t v
+  segments_from : (n : ℕ) (first : Bool) (s t : Stream) (v : Many (PathSegment X) Sep) → Visible s.rest → joined_from (bare_segment Mod) sees_sep sep n first s ≡ Ok (v, t) → Taken Segments s t v
   segments_from zero first s t v h e = cc
   segments_from (suc n) first s t v h e =
-      let c = chain (mod_segment first s) _ v t e in
+      let c = chain (bare_segment Mod first s) _ v t e in
       let k = segment_sound first s c.rest c.value h c.was in
       let hc = visible_segment s c.rest c.value k h in
       elim (branch (sees_sep c.rest.rest) _ _ c.rest (Ok (v, t)) c.goes) [
         | inl y ↦ let d = chain (sep c.rest) _ v t y.1 in
             let m = took_sep c.rest d.rest d.value hc d.was in
-            let f = chain (joined_from mod_segment sees_sep sep n false d.rest) _ v t d.goes in
+            let f = chain (joined_from (bare_segment Mod) sees_sep sep n false d.rest) _ v t d.goes in
             let i = segments_from n false d.rest f.rest f.value (visible_sep c.rest d.rest d.value m hc) f.was in
             let g = same_pair (c.value ∷ f.value.0, d.value ∷ f.value.1) v f.rest t f.goes in
             subst (λ (z : Stream). Taken Segments s z v) g.1 (more_at s c.rest d.rest f.rest c.value d.value f.value v k m i g.0)
         | inr y ↦ let g = same_pair (c.value ∷ [], []) v c.rest t y.1 in last_at s c.rest t c.value v k g.0 g.1
       ]
 
-  segments_sound : (s t : Stream) (v : Many (PathSegment X) Sep) → Visible s.rest → mod_segments true s ≡ Ok (v, t) → Taken Segments s t v
-  unfolding mod_segments joined
+  segments_sound : (s t : Stream) (v : Many (PathSegment X) Sep) → Visible s.rest → bare_segments Mod true s ≡ Ok (v, t) → Taken Segments s t v
+  unfolding bare_segments listed
   segments_sound s t v h e = segments_from (suc (size s.rest)) true s t v h e
 
   -- ---- the path
 
   pub path_sound : (s t : Stream) (p : Path X) → Visible s.rest → mod_style s ≡ Ok (p, t) → Taken (IsModPath false) s t p
-  unfolding mod_style
+  unfolding bare_path
   path_sound s t p v e =
       let c = chain (reading.leading s) _ p t e in
       let k = leading_sound s c.rest c.value v c.was in
-      let d = chain (mod_segments true c.rest) _ p t c.goes in
+      let d = chain (bare_segments Mod true c.rest) _ p t c.goes in
       let i = segments_sound c.rest d.rest d.value (visible_leading c.value s.rest c.rest.rest k.spelt v) d.was in
       let g = same_pair (path_of c.value d.value) p d.rest t d.goes in
       record {

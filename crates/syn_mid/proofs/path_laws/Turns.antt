@@ -9,14 +9,16 @@ use Rattle.token_core.specs.Front.{front}
 use Rattle.token_core.specs.Stream.{Stream}
 use Rattle.token_core.specs.Marks as marks
 use Rattle.token_core.specs.Marks.{text_of}
-use Rattle.token_core.specs.Loops.{size, Many, after, is_first}
+use Rattle.token_core.specs.Loops.{size, Many, never, after, is_first}
 use Rattle.token_core.specs.Reads.{Reads, Outcome, as_word, sees_word, word_meets, read_word, read_mark, any_text, ident_name, is_ident, is_text}
 use Rattle.token_core.proofs.Turns as turns
-use Rattle.token_core.proofs.Turns.{word_takes, mark_keeps}
-use Rattle.token_core.proofs.Took.{branch, mapped}
+use Rattle.token_core.proofs.Turns.{word_takes, mark_keeps, chain, same_pair}
+use Rattle.token_core.proofs.Took.{branch, mapped, joined_takes}
 use Rattle.syn_mid.specs.declared.path.PathSegment.{PathSegment}
-use Rattle.syn_mid.specs.path.Paths.{Sep, segment_of}
-use Rattle.syn_mid.specs.path.Reading.{sees_sep, sep, no_segment, mod_segment, mod_segments}
+use Rattle.syn_mid.specs.declared.path.SegmentStyle.{SegmentStyle}
+use Rattle.syn_mid.specs.declared.path.Path.{Path}
+use Rattle.syn_mid.specs.path.Paths.{Sep, segment_of, path_of}
+use Rattle.syn_mid.specs.path.Reading.{sees_sep, sep, leading, begins, bare_segment, bare_segments, bare_path}
 use Rattle.syn_mid.specs.path.Spelling.{is_mod_word}
 
 or_at : (f g : Bytes → Bool) (o : Option (Ident × Toks)) → word_meets (λ t. f t || g t) o ≡ (word_meets f o || word_meets g o)
@@ -39,38 +41,53 @@ sees-mod l =
 pub ruleset or_words = (sees-mod)
 
 module _ {X : Type 0} where
-  no_segment_takes : (b : Bool) (s t : Stream) (x : PathSegment X) → no_segment b s ≡ Ok (x, t) → size t.rest < size s.rest
-  no_segment_takes true s t x e = cc
-  no_segment_takes false s t x e = cc
-
-  pub segment_takes : (b : Bool) (s t : Stream) (x : PathSegment X) → mod_segment b s ≡ Ok (x, t) → size t.rest < size s.rest
-  unfolding mod_segment
-  segment_takes b s t x e =
-      elim (branch (sees_word is_mod_word s.rest) _ _ s (Ok (x, t)) e) [
+  pub segment_takes : (style : SegmentStyle) (b : Bool) (s t : Stream) (x : PathSegment X) → bare_segment style b s ≡ Ok (x, t) → size t.rest < size s.rest
+  unfolding bare_segment
+  segment_takes style b s t x e =
+      elim (branch (begins style s.rest) _ _ s (Ok (x, t)) e) [
         | inl y ↦ let m = mapped (read_word any_text ident_name s) segment_of x t y.1 in word_takes any_text ident_name s t m.value m.was
-        | inr y ↦ no_segment_takes b s t x y.1
+        | inr y ↦ cc (y.1)
       ]
 
 pub sep_keeps : (s t : Stream) (p : Sep) → sep s ≡ Ok (p, t) → size t.rest ≤ size s.rest
 sep_keeps s t p e = let m = mapped (read_mark (marks.chars_of 1) (marks.mark_name 1) s) (marks.mark_of 1 2) p t e in mark_keeps _ _ s t m.value m.was
 
-module _ {X : Type 0} where
-  pub turn_refused : (v : Many (PathSegment X) Sep) (b : Bool) (s : Stream) (e : Refusal) → mod_segment {X = X} b s ≡ Err e → after v (mod_segments b s) ≡ Err e
-  unfolding mod_segments
-  turn_refused v b s e h = turns.turn_refused mod_segment sees_sep sep segment_takes sep_keeps v b s e h
+module _ {X : Type 0} (style : SegmentStyle) where
+  pub turn_refused : (v : Many (PathSegment X) Sep) (b : Bool) (s : Stream) (e : Refusal) → bare_segment {X = X} style b s ≡ Err e → after v (bare_segments style b s) ≡ Err e
+  unfolding bare_segments
+  turn_refused v b s e h = turns.turn_refused never (bare_segment style) sees_sep sep v b s e refl h
 
-  pub turn_last : (v : Many (PathSegment X) Sep) (b : Bool) (s t : Stream) (x : PathSegment X) → mod_segment b s ≡ Ok (x, t) → sees_sep t.rest ≡ false → after v (mod_segments b s) ≡ Ok ((v.0 ++ x ∷ [], v.1), t)
-  unfolding mod_segments
-  turn_last v b s t x h k = turns.turn_last mod_segment sees_sep sep segment_takes sep_keeps v b s t x h k
+  pub turn_last : (v : Many (PathSegment X) Sep) (b : Bool) (s t : Stream) (x : PathSegment X) → bare_segment style b s ≡ Ok (x, t) → sees_sep t.rest ≡ false → after v (bare_segments style b s) ≡ Ok ((v.0 ++ x ∷ [], v.1), t)
+  unfolding bare_segments
+  turn_last v b s t x h k = turns.turn_last never (bare_segment style) sees_sep sep v b s t x refl h k
 
-  pub turn_stuck : (v : Many (PathSegment X) Sep) (b : Bool) (s t : Stream) (x : PathSegment X) (e : Refusal) → mod_segment b s ≡ Ok (x, t) → sees_sep t.rest ≡ true → sep t ≡ Err e → after v (mod_segments b s) ≡ Err e
-  unfolding mod_segments
-  turn_stuck v b s t x e h k g = turns.turn_stuck mod_segment sees_sep sep segment_takes sep_keeps v b s t x e h k g
+  pub turn_stuck : (v : Many (PathSegment X) Sep) (b : Bool) (s t : Stream) (x : PathSegment X) (e : Refusal) → bare_segment style b s ≡ Ok (x, t) → sees_sep t.rest ≡ true → sep t ≡ Err e → after v (bare_segments style b s) ≡ Err e
+  unfolding bare_segments
+  turn_stuck v b s t x e h k g = turns.turn_stuck never (bare_segment style) sees_sep sep v b s t x e refl h k g
 
-  pub turn_on : (v : Many (PathSegment X) Sep) (b : Bool) (s t u : Stream) (x : PathSegment X) (p : Sep) → mod_segment b s ≡ Ok (x, t) → sees_sep t.rest ≡ true → sep t ≡ Ok (p, u) →
-      after v (mod_segments b s) ≡ after (v.0 ++ x ∷ [], v.1 ++ p ∷ []) (mod_segments false u)
-  unfolding mod_segments
-  turn_on v b s t u x p h k g = turns.turn_on mod_segment sees_sep sep segment_takes sep_keeps v b s t u x p h k g
+  pub turn_on : (v : Many (PathSegment X) Sep) (b : Bool) (s t u : Stream) (x : PathSegment X) (p : Sep) → bare_segment style b s ≡ Ok (x, t) → sees_sep t.rest ≡ true → sep t ≡ Ok (p, u) →
+      after v (bare_segments style b s) ≡ after (v.0 ++ x ∷ [], v.1 ++ p ∷ []) (bare_segments style false u)
+  unfolding bare_segments
+  turn_on v b s t u x p h k g = turns.turn_on never (bare_segment style) sees_sep sep (segment_takes style) sep_keeps v b s t u x p refl h k g
+
+leading_keeps : (s t : Stream) (o : Option Sep) → leading s ≡ Ok (o, t) → size t.rest ≤ size s.rest
+unfolding leading
+leading_keeps s t o e =
+    elim (branch (sees_sep s.rest) _ _ s (Ok (o, t)) e) [
+      | inl y ↦ let m = mapped (sep s) (λ (q : Sep). Some q) o t y.1 in sep_keeps s t m.value m.was
+      | inr y ↦ let g = same_pair None o s t y.1 in subst (λ (z : Stream). size z.rest ≤ size s.rest) g.1 (omega arith)
+    ]
+
+-- a path takes a token
+pub path_takes : {X : Type 0} (style : SegmentStyle) (s t : Stream) (p : Path X) → bare_path style s ≡ Ok (p, t) → size t.rest < size s.rest
+unfolding bare_path bare_segments
+path_takes style s t p e =
+    let c = chain (leading s) _ p t e in
+    let le = leading_keeps s c.rest c.value c.was in
+    let d = chain (bare_segments style true c.rest) _ p t c.goes in
+    let less = joined_takes (bare_segment style) sees_sep sep (segment_takes style) sep_keeps true c.rest d.rest d.value d.was in
+    let g = same_pair (path_of c.value d.value) p d.rest t d.goes in
+    subst (λ (z : Stream). size z.rest < size s.rest) g.1 (omega (arith, le, less))
 
 -- the first segment is the one before which none was found
 pub is_first-is : {A P : Type 0} (v : Many A P) (b : Bool) → (IsTrue b ↔ (length v.0 ≡ 0)) → b ≡ is_first v

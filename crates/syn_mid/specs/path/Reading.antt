@@ -1,12 +1,17 @@
 -- The reads of paths, as functions of the stream.
 use Rattle.std.specs.Prelude.{Bool, true, false, Option, Some, None, Err, if◌then◌else◌}
-use Rattle.token_core.specs.declared.error.ErrorKind.TheVariants.{ExpectedPathSegment}
+use Rattle.token_core.specs.declared.error.ErrorKind.TheVariants.{ExpectedPathSegment, ExpectedNestedAttribute, LiteralInNestedAttribute, TokenInNestedAttribute}
+use Rattle.token_core.specs.Refusal.{Refusal, fixed}
+use Rattle.token_core.specs.Stream.{Stream}
 use Rattle.token_core.specs.Toks.{Toks}
-use Rattle.token_core.specs.Reads.{Reader, ◌>>=◌, ◌<$>◌, pure, peek, refuse, expected, sees_mark, sees_word, read_word, any_text, ident_name}
+use Rattle.token_core.specs.Reads.{Reader, ◌>>=◌, ◌<$>◌, pure, peek, refused, expected, is_done, sees_mark, sees_word, read_word, any_text, ident_name}
 use Rattle.token_core.specs.Marks as marks
+use Rattle.token_core.specs.Lits.{sees_lit}
 use Rattle.token_core.specs.Loops.{Many, joined}
 use Rattle.syn_mid.specs.declared.path.Path.{Path}
 use Rattle.syn_mid.specs.declared.path.PathSegment.{PathSegment}
+use Rattle.syn_mid.specs.declared.path.SegmentStyle.{SegmentStyle}
+use Rattle.syn_mid.specs.declared.path.SegmentStyle.TheVariants.{Mod, Nested}
 use Rattle.syn_mid.specs.path.Paths.{Sep, segment_of, path_of}
 use Rattle.syn_mid.specs.path.Spelling.{is_mod_word}
 
@@ -23,23 +28,43 @@ leading = do
   has ← peek sees_sep
   if has then Some <$> sep else pure None
 
+-- where no first segment of a nested property's path begins
+unfoldable pub no_property : Stream → Refusal
+no_property s =
+    if is_done s.rest then refused ExpectedNestedAttribute (fixed ExpectedNestedAttribute) s else (
+    if sees_lit s.rest then refused LiteralInNestedAttribute (fixed LiteralInNestedAttribute) s else refused TokenInNestedAttribute (fixed TokenInNestedAttribute) s)
+
+-- no segment: the first one, or one after a `::`
+unfoldable pub no_segment : SegmentStyle → Bool → Stream → Refusal
+no_segment Mod true s = expected ident_name s
+no_segment Mod false s = refused ExpectedPathSegment (fixed ExpectedPathSegment) s
+no_segment Nested true s = no_property s
+no_segment Nested false s = expected ident_name s
+
+-- a segment of this style begins
+abbrev pub begins : SegmentStyle → Toks → Bool
+begins Mod = sees_word is_mod_word
+begins Nested = sees_word any_text
+
 module _ {X : Type 0} where
-  -- no segment: at first an identifier was expected, and after a `::` a segment
-  abbrev pub no_segment : Bool → Reader (PathSegment X)
-  no_segment true = λ s. Err (expected ident_name s)
-  no_segment false = refuse ExpectedPathSegment
-
   -- a segment without arguments
-  unfoldable pub mod_segment : Bool → Reader (PathSegment X)
-  mod_segment first = do
-    begins ← peek (sees_word is_mod_word)
-    if begins then segment_of <$> read_word any_text ident_name else no_segment first
+  unfoldable pub bare_segment : SegmentStyle → Bool → Reader (PathSegment X)
+  bare_segment style first = do
+    here ← peek (begins style)
+    if here then segment_of <$> read_word any_text ident_name else (λ s. Err (no_segment style first s))
 
-  unfoldable pub mod_segments : Bool → Reader (Many (PathSegment X) Sep)
-  mod_segments first = joined mod_segment sees_sep sep first
+  unfoldable pub bare_segments : SegmentStyle → Bool → Reader (Many (PathSegment X) Sep)
+  bare_segments style first = joined (bare_segment style) sees_sep sep first
 
-  unfoldable pub mod_style : Reader (Path X)
-  mod_style = do
+  unfoldable pub bare_path : SegmentStyle → Reader (Path X)
+  bare_path style = do
     colon ← leading
-    all ← mod_segments true
+    all ← bare_segments style true
     pure (path_of colon all)
+
+  -- a path of mod style, and that of a nested property
+  abbrev pub mod_style : Reader (Path X)
+  mod_style = bare_path Mod
+
+  abbrev pub nested : Reader (Path X)
+  nested = bare_path Nested

@@ -4,7 +4,7 @@ use Rattle.syn_mid.proofs.path_laws.Laws.{lawful, front}
 use Rattle.syn_mid.proofs.path.Path.parse_mod_style.Goals as goal
 
 pub returns-clause-headline : goal.returns-clause-headline
-returns-clause-headline g c = heads grammars.mod_style lawful _ _ _ c.parse_mod_path.ensures.reads
+returns-clause-headline g c = heads grammars.mod_style lawful _ _ _ c.parse_bare_path.ensures.reads
 
 pub returns-clause-front : goal.returns-clause-front
-returns-clause-front g c = front _ _ _ c.parse_mod_path.ensures.reads
+returns-clause-front g c = front _ _ _ c.parse_bare_path.ensures.reads

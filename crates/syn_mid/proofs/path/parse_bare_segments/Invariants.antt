@@ -1,12 +1,12 @@
 use Rattle.std.proofs.Common.{◌≡◌, true, length}
 use Rattle.token_core.specs.Reads.{Follows}
 use Rattle.token_core.specs.Loops.{size, after, is_first}
-use Rattle.syn_mid.specs.path.Reading.{mod_segments}
-use Rattle.syn_mid.proofs.path.parse_mod_segments.Given as goal
+use Rattle.syn_mid.specs.path.Reading.{bare_segments}
+use Rattle.syn_mid.proofs.path.parse_bare_segments.Given as goal
 
 abbrev pub invariant-turn : goal.invariant-turn
 invariant-turn g l = record {
-  told : mod_segments true l.initial.input ≡ after l.segments (mod_segments (is_first l.segments) l.input);
+  told : bare_segments l.style true l.initial.input ≡ after l.segments (bare_segments l.style (is_first l.segments) l.input);
   whole : length l.segments.0 ≡ length l.segments.1;
   within : Follows l.initial.input l.input;
 }

@@ -1,0 +1,9 @@
+use Rattle.std.proofs.Common.{◌≡◌, [], refl, arith}
+use Rattle.std.proofs.Math.ListN.{drop_of_length-le}
+use Rattle.token_core.specs.Seen.{view-nil}
+use Rattle.token_core.proofs.buffer.first_invisible.Goals as goal
+
+pub returns-then-entries-eq0 : goal.returns-then-entries-eq0
+returns-then-entries-eq0 c =
+    let none : c.args.entries.now ≡ [] = drop_of_length-le c.args.entries.now {i = 0} (omega arith) in
+    rw (none, view-nil) refl

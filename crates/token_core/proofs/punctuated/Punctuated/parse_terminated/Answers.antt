@@ -1,0 +1,54 @@
+use Rattle.std.proofs.Common.{◌≡◌, ◌<◌, ◌≤◌, ◌++◌, ◌∷◌, [], true, false, Err, rules, arith}
+use Rattle.std.proofs.lemmas.Grind.{common_steps}
+use Rattle.token_core.specs.Reads.{is_done}
+use Rattle.token_core.specs.Loops.{size}
+use Rattle.token_core.specs.Terminated.{no_value_there, no_mark_there, later}
+use Rattle.token_core.proofs.Suffixes.{follows}
+use Rattle.token_core.proofs.Turns.{size_suffix}
+use Rattle.token_core.proofs.Terminations.{refused_so, ended, last_turn, next_turn}
+use Rattle.token_core.proofs.punctuated.Punctuated.parse_terminated.Goals as goal
+
+pub returns-in_err-parse-clause-reads : goal.returns-in_err-parse-clause-reads
+returns-in_err-parse-clause-reads g c =
+    let d : is_done c.turn.input.rest ≡ false = first_of (search rules, grind (arith, common_steps)) in
+    let e = c.in_err-parse.field-0.0 in
+    let back : c.from_residual.result ≡ Err e = first_of (search rules, grind (arith, common_steps)) in
+    refused_so _ _ _ _ e back (λ k. c.turn.invariant.refused e (no_value_there d (c.in_err-parse.ensures.reads k)))
+
+pub returns-then-is_empty-clause-reads : goal.returns-then-is_empty-clause-reads
+returns-then-is_empty-clause-reads g c =
+    let d : is_done c.turn.input.rest ≡ false = first_of (search rules, grind (arith, common_steps)) in
+    let e : is_done c.parse.new.input.rest ≡ true = first_of (search rules, grind (arith, common_steps)) in
+    let v : c.push_value.new.self ≡ (c.turn.list.0 ++ c.in_ok-parse.field-0 ∷ [], c.turn.list.1) = first_of (search rules, grind (arith, common_steps)) in
+    last_turn g.T.Parse.reads g.P.Parse.reads _ _ _ _ _ _ c.turn.invariant.answers d c.in_ok-parse.ensures.reads e v
+
+pub returns-in_err-parse-2-clause-reads : goal.returns-in_err-parse-2-clause-reads
+returns-in_err-parse-2-clause-reads g c =
+    let d : is_done c.turn.input.rest ≡ false = first_of (search rules, grind (arith, common_steps)) in
+    let f : is_done c.parse.new.input.rest ≡ false = first_of (search rules, grind (arith, common_steps)) in
+    let e = c.in_err-parse-2.field-0.0 in
+    let back : c.from_residual-in_err-parse-2.result ≡ Err e = first_of (search rules, grind (arith, common_steps)) in
+    refused_so _ _ _ _ e back (λ k. c.turn.invariant.refused e (no_mark_there d c.in_ok-parse.ensures.reads f (c.in_err-parse-2.ensures.reads k)))
+
+pub turn-smaller : goal.turn-smaller
+turn-smaller g c =
+    let a : size c.parse-in-turn.new.input.rest < size c.parse.new.input.rest = c.requires _ _ _ c.in_ok-parse-2.ensures.reads in
+    let b : size c.parse.new.input.rest ≤ size c.turn.input.rest = size_suffix c.parse.ensures.within.suffix in
+    omega (arith, a, b)
+
+pub turn-preserved : goal.turn-preserved
+turn-preserved g c =
+    let d : is_done c.turn.input.rest ≡ false = first_of (search rules, grind (arith, common_steps)) in
+    let f : is_done c.parse.new.input.rest ≡ false = first_of (search rules, grind (arith, common_steps)) in
+    let v : c.push_punct.new.self ≡ (c.turn.list.0 ++ c.in_ok-parse.field-0 ∷ [], c.turn.list.1 ++ c.in_ok-parse-2.field-0 ∷ []) = first_of (search rules, grind (arith, common_steps)) in
+    record {
+      answers = next_turn g.T.Parse.reads g.P.Parse.reads _ _ _ _ _ _ _ _ c.turn.invariant.answers d c.in_ok-parse.ensures.reads f c.in_ok-parse-2.ensures.reads v;
+      refused = λ e i. c.turn.invariant.refused e (later d c.in_ok-parse.ensures.reads f c.in_ok-parse-2.ensures.reads i);
+      whole = grind (arith, common_steps);
+      within = grind (arith, follows);
+    }
+
+pub returns-clause-reads : goal.returns-clause-reads
+returns-clause-reads g c =
+    let d : is_done c.turn.input.rest ≡ true = first_of (search rules, grind (arith, common_steps)) in
+    ended g.T.Parse.reads g.P.Parse.reads _ _ _ c.turn.invariant.answers d

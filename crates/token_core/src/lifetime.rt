@@ -1,0 +1,141 @@
+//! Lifetimes.
+
+ghost use Rattle.std.specs.Prelude.{◌≡◌, ◌++◌, option_map, IfOk, OnOk, OnErr};
+ghost use Rattle.token_core.specs.Lifetimes as spec;
+ghost use Rattle.token_core.specs.Prints as prints;
+ghost use Rattle.token_core.specs.Prints.{Extends};
+ghost use Rattle.token_core.specs.Reads.{Reads, Follows};
+ghost use Rattle.token_core.specs.Trees.{trees};
+
+use crate::cursor::Cursor;
+use crate::error::Error;
+use crate::parse::Token;
+use crate::parse_stream::{ParseStream, as_punct, as_word};
+use crate::span::Span;
+use crate::to_tokens::ToTokens;
+use crate::tree::{Ident, Punct, Spacing, TokenStream, TokenTree};
+use std::alloc::{AllocError, Global};
+
+/// A lifetime: a quote and any identifier, keywords too.
+#[derive(Drop)]
+pub struct Lifetime {
+    pub apostrophe: Span,
+    pub ident: Ident,
+}
+
+/// The lifetime at the front, lent, and what follows it.
+fn past_lifetime<'a>(at: Cursor<'a>) -> Option<(Span, &'a Ident, Cursor<'a>)>
+    ensures { option_map (λ p. (spec.lifetime p.0 p.1.now, p.2)) result ≡ spec.past_lifetime at.entry }
+{
+    match as_punct(at.next()) {
+        Some((quote, more)) => {
+            if quote.ch == '\'' && quote.spacing == Spacing::Joint {
+                with_ident(quote.span, more)
+            } else {
+                None
+            }
+        }
+        None => None,
+    }
+}
+
+fn with_ident<'a>(apostrophe: Span, at: Cursor<'a>) -> Option<(Span, &'a Ident, Cursor<'a>)>
+    ensures { option_map (λ p. (spec.lifetime p.0 p.1.now, p.2)) result ≡ spec.with_ident apostrophe (spec.next_word at.entry) }
+{
+    match as_word(at.next()) {
+        Some((ident, more)) => Some((apostrophe, ident, more)),
+        None => None,
+    }
+}
+
+impl Lifetime {
+    pub fn new(apostrophe: Span, ident: Ident) -> Lifetime
+        ensures { result ≡ spec.lifetime apostrophe ident }
+    {
+        Lifetime { apostrophe, ident }
+    }
+
+    /// Reads a lifetime, a keyword's too; it is refused where none is at the front.
+    #[tactic(auto, using(crate::proofs::Suffixes::follows_self), unfolding(crate::specs::Lifetimes::read_lifetime))]
+    pub fn parse_any(alloc: Global, input: &mut ParseStream<'_>) -> Result<Lifetime, Error>
+        ensures reads { Reads (spec.read_lifetime input.old) result input.new }
+        ensures within { Follows input.old input.new }
+        ensures same { OnErr result (input.new ≡ input.old) }
+    {
+        match past_lifetime(input.cursor()) {
+            Some((apostrophe, ident, more)) => {
+                let copy = ident.copy(alloc)?;
+                input.go_on(more, ident.span);
+                Ok(Lifetime::new(apostrophe, copy))
+            }
+            None => Err(input.expected(alloc, Lifetime::display())),
+        }
+    }
+
+    /// Reads a lifetime if one is at the front.
+    #[tactic(auto, using(crate::proofs::Suffixes::follows_self))]
+    pub fn parse_optional_any(
+        alloc: Global,
+        input: &mut ParseStream<'_>,
+    ) -> Result<Option<Lifetime>, Error>
+        ensures reads { Reads (spec.read_optional_lifetime input.old) result input.new }
+        ensures within { Follows input.old input.new }
+        ensures same { OnErr result (input.new ≡ input.old) }
+    {
+        if Lifetime::peek(input) {
+            Ok(Some(Lifetime::parse_any(alloc, input)?))
+        } else {
+            Ok(None)
+        }
+    }
+
+    /// Its equal, spans too.
+    pub fn copy(&self, alloc: Global) -> Result<Lifetime, AllocError>
+        ensures { IfOk result (λ l. l ≡ self.now) }
+    {
+        Ok(Lifetime {
+            apostrophe: self.apostrophe,
+            ident: self.ident.copy(alloc)?,
+        })
+    }
+}
+
+impl Token for Lifetime {
+    ghost sees = { spec.sees_lifetime };
+
+    ghost name = { spec.lifetime_name };
+
+    #[tactic(auto, unfolding(crate::specs::Lifetimes::sees_lifetime))]
+    fn peek(input: &ParseStream<'_>) -> bool {
+        past_lifetime(input.cursor()).is_some()
+    }
+
+    fn display() -> &'static str {
+        "lifetime"
+    }
+}
+
+impl ToTokens for Lifetime {
+    ghost print = { spec.print };
+
+    fn to_tokens(&self, alloc: Global, out: &mut TokenStream) -> Result<(), AllocError> {
+        let before = out.len();
+        match put_lifetime(alloc, self, out) {
+            Ok(()) => Ok(()),
+            Err(error) => {
+                out.truncate(before);
+                Err(error)
+            }
+        }
+    }
+}
+
+/// Appends a lifetime; refused, what stood before is kept.
+#[tactic(auto, using(crate::proofs::Puts::puts))]
+fn put_lifetime(alloc: Global, lifetime: &Lifetime, out: &mut TokenStream) -> Result<(), AllocError>
+    ensures ok { OnOk result (trees out.new ≡ trees out.old ++ spec.print lifetime.now) }
+    ensures err { OnErr result (Extends (trees out.old) (trees out.new)) }
+{
+    out.push(TokenTree::Punct(Punct::new('\'', Spacing::Joint, lifetime.apostrophe)))?;
+    lifetime.ident.to_tokens(alloc, out)
+}

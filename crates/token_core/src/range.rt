@@ -1,0 +1,79 @@
+//! The marks of ranges.
+
+ghost use Rattle.std.specs.Prelude.{◌≡◌, ◌++◌, OnOk, OnErr};
+ghost use Rattle.token_core.specs.Ranges as spec;
+ghost use Rattle.token_core.specs.Reads.{Reads, Follows, Gives, Fails};
+ghost use Rattle.token_core.specs.Trees.{trees};
+
+use crate::error::Error;
+use crate::parse::Parse;
+use crate::parse_stream::ParseStream;
+use crate::to_tokens::ToTokens;
+use crate::token::{DotDot, DotDotDot, DotDotEq};
+use crate::tree::TokenStream;
+use std::alloc::{AllocError, Global};
+
+/// Whether a range has its end.
+#[derive(Clone, Copy)]
+pub enum RangeLimits {
+    /// `..`
+    HalfOpen(DotDot),
+    /// `..=`
+    Closed(DotDotEq),
+}
+
+#[tactic(auto, using(crate::proofs::Suffixes::follows_self), unfolding(crate::specs::Ranges::read))]
+fn parse_limits(alloc: Global, input: &mut ParseStream<'_>) -> Result<RangeLimits, Error>
+    ensures reads { Reads (spec.read input.old) result input.new }
+    ensures within { Follows input.old input.new }
+{
+    if input.peek::<DotDotEq>() {
+        return Ok(RangeLimits::Closed(input.parse::<DotDotEq>(alloc)?));
+    }
+    // all tested, so that the answer is one value
+    if input.peek::<DotDot>() & !input.peek::<DotDotDot>() {
+        Ok(RangeLimits::HalfOpen(input.parse::<DotDot>(alloc)?))
+    } else {
+        Err(input.expected(alloc, "`..=` or `..`"))
+    }
+}
+
+/// Reads `..=`, or `..` that isn't `...`.
+impl Parse for RangeLimits {
+    ghost reads = { Gives spec.read };
+
+    ghost refuses = { Fails spec.read };
+
+    #[tactic(auto, using(crate::specs::Reads::no_promise))]
+    fn parse(alloc: Global, input: &mut ParseStream<'_>) -> Result<RangeLimits, Error> {
+        parse_limits(alloc, input)
+    }
+}
+
+impl RangeLimits {
+    /// Reads `..=`, `..`, or `...`, which is kept as `..=`.
+    #[tactic(auto, using(crate::proofs::Suffixes::follows_self), unfolding(crate::specs::Ranges::read_obsolete))]
+    pub fn parse_obsolete(alloc: Global, input: &mut ParseStream<'_>) -> Result<RangeLimits, Error>
+        ensures reads { Reads (spec.read_obsolete input.old) result input.new }
+        ensures within { Follows input.old input.new }
+    {
+        if input.peek::<DotDotDot>() {
+            let dots = input.parse::<DotDotDot>(alloc)?;
+            let spans = dots.spans;
+            Ok(RangeLimits::Closed(DotDotEq { spans }))
+        } else {
+            parse_limits(alloc, input)
+        }
+    }
+}
+
+impl ToTokens for RangeLimits {
+    ghost print = { spec.print };
+
+    fn to_tokens(&self, alloc: Global, out: &mut TokenStream) -> Result<(), AllocError> {
+        match self {
+            RangeLimits::HalfOpen(dots) => dots.to_tokens(alloc, out),
+            RangeLimits::Closed(dots) => dots.to_tokens(alloc, out),
+        }
+    }
+}
