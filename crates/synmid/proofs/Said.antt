@@ -12,7 +12,6 @@ use Rattle.token_core.specs.Refusal.{Refusal, out_of_memory}
 use Rattle.token_core.proofs.Rebuilds.{stream-trees}
 use Rattle.token_text.specs.Spelling.{Spells, Refused}
 use Rattle.token_text.specs.Printing.{text_of}
-use Rattle.token_text.proofs.VisibleLaws.{spells-visible}
 use Rattle.synmid.specs.declared.reader.Reader.{Reader}
 use Rattle.synmid.specs.Readers.{grammar, Reprints}
 use Rattle.synmid.specs.Run.{Answer, shown, no_memory, not_text, line, IsTextOf, Refuses, not_utf8, no_list, no_tree, memory, Justified, Accepts, AnswersTo, text_of_print, Ends}
@@ -33,15 +32,15 @@ module _ (r : Reader) (input : Bytes) where
   forgetful _ e X h = absurd (h (λ q. cc))
 
   pub of_memory : AnswersTo r input no_memory
-  of_memory = record { justified = memory; accepts = λ l a t s. inr refl }
+  of_memory = record { justified = memory; accepts = λ l a t v s. inr refl }
 
   pub of_bytes : ¬ IsUtf8 input → AnswersTo r input not_text
-  of_bytes h = record { justified = not_utf8 h; accepts = λ l a t s. absurd (h t.utf8) }
+  of_bytes h = record { justified = not_utf8 h; accepts = λ l a t v s. absurd (h t.utf8) }
 
   -- ---- a text that is not read
 
   not_spelled : (e : Refusal) → ((l : List TokenTree) → Spells input l → e ≡ out_of_memory) → Accepts r input (of_fault (of_refusal e))
-  not_spelled e none l a t s =
+  not_spelled e none l a t v s =
       let q = none l t.spells in
       inr (ap (λ x. of_fault (of_refusal x)) q)
 
@@ -56,26 +55,26 @@ module _ (r : Reader) (input : Bytes) where
     tokens : toks c ≡ row (trees c) done
     tokens = ap (λ x. s.stream x done) (sym (roll-out-TokenStream c)) ∙ stream-trees (trees c) done
 
-    visible : Visible (row (trees c) done)
-    visible = spells-visible input (trees c) is_text.spells
+    visible : (l : List TokenTree) → Spells input l → Visible (row l done) → Visible (row (trees c) done)
+    visible l t v = subst (λ z. Visible (row z done)) (sym (only l t)) v
 
     here : (e : Refusal) → Reprints (grammar r) (toks c) (Err e) → Reprints (grammar r) (row (trees c) done) (Err e)
     here e h = subst (λ l. Reprints (grammar r) l (Err e)) tokens h
 
     pub of_refused : (e : Refusal) → Reprints (grammar r) (toks c) (Err e) → AnswersTo r input (of_fault (of_refusal e))
     of_refused e h = record {
-      justified = justified e.kind e (λ k. no_tree (trees c) e is_text (here e h k).0 ((here e h k).1 visible));
-      accepts = λ l a t s. forgetful e.kind e _ (λ k. (here e h k).1 visible a (subst (λ z. (grammar r).spells true a (row z done)) (sym (only l t.spells)) s));
+      justified = justified e.kind e (λ k. no_tree (trees c) e is_text (here e h k).0 (here e h k).1);
+      accepts = λ l a t v s. forgetful e.kind e _ (λ k. (here e h k).1 (visible l t.spells v) a (subst (λ z. (grammar r).spells true a (row z done)) (sym (only l t.spells)) s));
     }
 
     pub of_answer : (p : TokenStream) (text : Bytes) → Reprints (grammar r) (toks c) (Ok p) → text ≡ text_of p → AnswersTo r input (shown text)
     of_answer p text h is =
-        let q = subst (λ l. Reprints (grammar r) l (Ok p)) tokens h visible in
-        let e : text ≡ text_of_print r q.0 = is ∙ ap text_of (sym (roll-out-TokenStream p) ∙ ap stream_of_trees q.2) in
+        let q = subst (λ l. Reprints (grammar r) l (Ok p)) tokens h in
+        let e : text ≡ text_of_print r q.0 = is ∙ ap text_of (sym (roll-out-TokenStream p) ∙ ap stream_of_trees q.3) in
         record {
-          justified = record { list = trees c; is_text = is_text; tree = q.0; answered = q.1; text_is = e };
-          accepts = λ l a t s.
-              let b : a ≡ q.0 = q.1.unique a (subst (λ z. (grammar r).spells true a (row z done)) (sym (only l t.spells)) s) in
+          justified = record { list = trees c; is_text = is_text; tree = q.0; read = q.1; answered = q.2; text_is = e };
+          accepts = λ l a t v s.
+              let b : a ≡ q.0 = (q.2 (visible l t.spells v)).unique a (subst (λ z. (grammar r).spells true a (row z done)) (sym (only l t.spells)) s) in
               inl (ap shown (e ∙ ap (text_of_print r) (sym b)));
         }
 

@@ -11,7 +11,7 @@ use Rattle.token_core.specs.Headline.{Grammar, Answered, whole}
 use Rattle.token_core.specs.Prints.{Print}
 use Rattle.token_core.specs.Spans.{none}
 use Rattle.token_core.specs.Stream.{Stream, started}
-use Rattle.token_core.specs.Reads.{Refuses}
+use Rattle.token_core.specs.Reads.{Ends, Refuses}
 use Rattle.syn_mid.specs.declared.mac.Macro as mac
 use Rattle.syn_mid.specs.declared.path.Path as path
 use Rattle.syn_mid.specs.mac.Grammars as macs
@@ -39,13 +39,14 @@ grammar ModStyle = paths.mod_style
 abbrev pub NoTree : {A : Type 0} → Grammar A → Toks → Type 0
 NoTree {A = A} G l = (b : A) → G.spells true b l → ⊥
 
--- A read that answers prints a tree that its grammar lets it answer. One that is refused is refused as the read of the
--- grammar is, and no tree spells the tokens clearly.
+-- A read that answers prints the tree that the read of the grammar answers, and where no invisible group stands in the tokens,
+-- its grammar lets it answer that. One that is refused is refused as the read of the grammar is, and where no invisible group
+-- stands there, no tree spells the tokens clearly.
 abbrev pub Reprints : {A : Type 0} → Grammar A → Toks → Result TokenStream Refusal → Type 0
-Reprints {A = A} G l (Ok s) = Visible l → (a : A) × Answered G l a × (trees s ≡ G.print a)
+Reprints {A = A} G l (Ok s) = (a : A) × (whole G.reader l ≡ Ok a) × (Visible l → Answered G l a) × (trees s ≡ G.print a)
 Reprints G l (Err e) = e.kind ≢ OutOfMemory → (whole G.reader l ≡ Err e) × (Visible l → NoTree G l)
 
 -- the same by the relations of a read and its promise
 abbrev pub Prints : {A : Type 0} → (Stream → A → Stream → Type 0) → (Stream → Refusal → Type 0) → (Toks → Option A → Type 0) → (A → Print) → Toks → Result TokenStream Refusal → Type 0
-Prints {A = A} reads refuses promise print l (Ok s) = (a : A) × promise l (Some a) × (trees s ≡ print a)
+Prints {A = A} reads refuses promise print l (Ok s) = (a : A) × Ends reads (started none l) a None × promise l (Some a) × (trees s ≡ print a)
 Prints reads refuses promise print l (Err e) = e.kind ≢ OutOfMemory → Refuses reads refuses (started none l) e × promise l None

@@ -2,7 +2,7 @@
 use Rattle.std.specs.Prelude.{◌≡◌, ◌≢◌, ◌⊎◌, ℕ, ◌==◌, if◌then◌else◌, [], Option, Some, None, refl, codes}
 use Rattle.std.specs.Coded.{Coded, code_by, coded×, coded_ℕ}
 use Rattle.token_core.specs.declared.error.ErrorKind.{ErrorKind}
-use Rattle.token_core.specs.declared.error.ErrorKind.TheVariants.{OutOfMemory, Expected, Unexpected, Custom, ExpectedDelimiter, ExpectedPathSegment, ExpectedPathIdent, ExpectedAttributeArguments, ExpectedParentheses, TokenInAttribute, ExpectedMetaArguments, ExpectedParenthesis, ExpectedMetaValue, ExpectedEquals, AttributeInAttribute, ExpectedNestedAttribute, LiteralInNestedAttribute, TokenInNestedAttribute, UnclosedDelimiter, UnexpectedClosingDelimiter, UnknownToken}
+use Rattle.token_core.specs.declared.error.ErrorKind.TheVariants.{OutOfMemory, Expected, Unexpected, Custom, ExpectedDelimiter, ExpectedPathSegment, ExpectedPathIdent, ExpectedAttributeArguments, ExpectedParentheses, TokenInAttribute, ExpectedMetaArguments, ExpectedParenthesis, ExpectedMetaValue, ExpectedEquals, AttributeInAttribute, ExpectedNestedAttribute, LiteralInNestedAttribute, TokenInNestedAttribute, UnclosedDelimiter, UnexpectedClosingDelimiter, UnknownToken, UnterminatedToken, DocComment, MalformedNumber}
 use Rattle.token_core.specs.declared.span.Span.{Span}
 use Rattle.token_core.specs.Toks.{Bytes}
 use Rattle.token_core.specs.Spans.{none}
@@ -37,6 +37,9 @@ fixed TokenInNestedAttribute = codes "unexpected token in nested attribute, expe
 fixed UnclosedDelimiter = codes "unclosed delimiter"
 fixed UnexpectedClosingDelimiter = codes "unexpected closing delimiter"
 fixed UnknownToken = codes "unknown start of token"
+fixed UnterminatedToken = codes "unterminated literal or comment"
+fixed DocComment = codes "documentation comments are not supported"
+fixed MalformedNumber = codes "malformed number"
 
 abbrev pub text_or : Option Bytes → Bytes
 text_or None = fixed OutOfMemory
@@ -86,6 +89,9 @@ kind_number TokenInNestedAttribute = 17
 kind_number UnclosedDelimiter = 18
 kind_number UnexpectedClosingDelimiter = 19
 kind_number UnknownToken = 20
+kind_number UnterminatedToken = 21
+kind_number DocComment = 22
+kind_number MalformedNumber = 23
 
 abbrev number_kind : ℕ → ErrorKind
 number_kind n =
@@ -109,7 +115,10 @@ number_kind n =
     if n == 17 then TokenInNestedAttribute else (
     if n == 18 then UnclosedDelimiter else (
     if n == 19 then UnexpectedClosingDelimiter else (
-    UnknownToken))))))))))))))))))))
+    if n == 20 then UnknownToken else (
+    if n == 21 then UnterminatedToken else (
+    if n == 22 then DocComment else (
+    MalformedNumber)))))))))))))))))))))))
 
 pub kind_back : (k : ErrorKind) → number_kind (kind_number k) ≡ k
 kind_back OutOfMemory = refl
@@ -133,6 +142,9 @@ kind_back TokenInNestedAttribute = refl
 kind_back UnclosedDelimiter = refl
 kind_back UnexpectedClosingDelimiter = refl
 kind_back UnknownToken = refl
+kind_back UnterminatedToken = refl
+kind_back DocComment = refl
+kind_back MalformedNumber = refl
 
 abbrev pub kind_code : Coded ErrorKind
 kind_code = code_by ℕ coded_ℕ kind_number number_kind kind_back

@@ -53,6 +53,12 @@ pub enum ErrorKind {
     UnexpectedClosingDelimiter,
     /// No token begins here.
     UnknownToken,
+    /// A literal or a comment doesn't end.
+    UnterminatedToken,
+    /// A comment is documentation.
+    DocComment,
+    /// A number goes on as none does.
+    MalformedNumber,
 }
 
 impl ErrorKind {
@@ -85,6 +91,9 @@ impl ErrorKind {
             ErrorKind::UnclosedDelimiter => "unclosed delimiter",
             ErrorKind::UnexpectedClosingDelimiter => "unexpected closing delimiter",
             ErrorKind::UnknownToken => "unknown start of token",
+            ErrorKind::UnterminatedToken => "unterminated literal or comment",
+            ErrorKind::DocComment => "documentation comments are not supported",
+            ErrorKind::MalformedNumber => "malformed number",
         }
     }
 }

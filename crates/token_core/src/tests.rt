@@ -124,6 +124,15 @@ fn refusals_have_their_texts(rt: HostRuntime) -> Result<(), Fail> {
             "unexpected closing delimiter",
         ),
         (ErrorKind::UnknownToken, "unknown start of token"),
+        (
+            ErrorKind::UnterminatedToken,
+            "unterminated literal or comment",
+        ),
+        (
+            ErrorKind::DocComment,
+            "documentation comments are not supported",
+        ),
+        (ErrorKind::MalformedNumber, "malformed number"),
     ] {
         assert_eq!(rt; kind.text(), text);
         says(&rt, &Error::named(alloc, kind, nth(7)), kind, text, nth(7));

@@ -1,7 +1,13 @@
 mod Words
-mod Fronts
+mod Pasts
+mod Scans
+mod Choices
+mod Ends
+mod RunLaws
+mod LiteralLaws
+mod NumberLaws
+mod CommentLaws
 mod Steps
 mod CharacterLaws
 mod PieceLaws
 mod TextLaws
-pub mod VisibleLaws

@@ -1,256 +1,398 @@
--- The front that is found is the piece with which the text begins, and the only one.
-use Rattle.std.proofs.Common.{◌≡◌, ℕ, Bool, true, false, cond, ◌==◌, ◌⊎◌, inl, inr, [], ◌∷◌, ◌++◌, encode_utf8_all, Option, Some, None, refl, sym, ap, ◌∙◌, subst}
-use Rattle.std.specs.List.{AllByRecursion}
+-- The front that is found is the piece with which the text begins, and the only one; and where none is found, there is a reason.
+use Rattle.std.proofs.Common.{◌≡◌, ◌⊎◌, inl, inr, ℕ, Bool, true, false, cond, not, ◌&&◌, ◌||◌, ◌==◌, if◌then◌else◌, [], ◌∷◌, ◌++◌, codes, Option, Some, None, Result, Ok, Err, refl, sym, ap, ◌∙◌, subst}
+use Rattle.std.specs.Char.{is_ascii_digit}
+use Rattle.token_core.specs.declared.error.ErrorKind.{ErrorKind}
+use Rattle.token_core.specs.declared.error.ErrorKind.TheVariants.{UnknownToken, DocComment}
 use Rattle.token_core.specs.declared.tree.Delimiter.{Delimiter}
 use Rattle.token_core.specs.declared.tree.Delimiter.TheVariants as delimiters
-use Rattle.token_text.specs.Characters.{Text, is_blank, is_mark, is_start, is_continue, run, after_run}
-use Rattle.token_text.specs.Front.{Found, found, word_front, raw_front, front, single, as_word}
-use Rattle.token_text.specs.Pieces.{word, mark, Piece, blank, leaf, opening, closing, has_raw_form, begins_with, begins_comment, spacing}
-use Rattle.token_text.specs.Spelling.{IsWord, BeginsRaw, IsPlainWord, IsRawWord, IsPiece, Begins, IsVisible, opens, closes}
-use Rattle.token_text.proofs.Fronts.{FrontBy, by_raw, by_word, by_single, front_by, word_by, raw_by, word_splits, raw_splits}
-use Rattle.token_text.proofs.Words.{plain_front, single_front}
-use Rattle.token_text.proofs.CharacterLaws.{same_number, mark_fails, no_start, no_start_blank, no_start_mark, start_r}
+use Rattle.token_core.specs.declared.tree.LitKind.{LitKind}
+use Rattle.token_core.specs.declared.tree.LitKind.TheVariants.{Char}
+use Rattle.token_text.specs.declared.class.Class.TheVariants.{NoLineFeed}
+use Rattle.token_text.specs.declared.piece.Closing.{Closing}
+use Rattle.token_text.specs.declared.piece.Closing.TheVariants.{Quote}
+use Rattle.token_text.specs.declared.piece.Leaf.TheVariants.{Blank, Word, Lifetime, Literal}
+use Rattle.token_text.specs.declared.piece.Piece.{Piece}
+use Rattle.token_text.specs.declared.piece.Piece.TheVariants.{Leaf, Open, Close}
+use Rattle.token_text.specs.Characters.{Text, upto, begins_with, is_blank, is_mark, is_start, after_run}
+use Rattle.token_text.specs.Front.{Look, Opening, opening, closed, comment, after_suffix, ends, known, lifetime_piece, mark_piece, marked, numeral, number, any_word, before, single, word_or_single, line_comment, block_comment, slash, backslash, plain, unopened, other, opened_or_other, look, Found, found, front}
+use Rattle.token_text.specs.Front as f
+use Rattle.token_text.specs.Literals.{IsAnyWord, Opens, Closes, IsComment}
+use Rattle.token_text.specs.Pieces.{begins_char, is_char, begins_comment, is_line_doc, is_block_doc}
+use Rattle.token_text.specs.Spelling as rules
+use Rattle.token_text.specs.Spelling.{opens, closes, begins_byte, NoLiteral, IsPiece, Begins, Named, no_end, no_comment_end, line_doc, block_doc, malformed, Faulty}
+use Rattle.token_text.proofs.CharacterLaws.{same_number, which, listed, off, lone, lone_starts, lone_digit, clash, start_clash, mark_lone, blank_lone, no_digit_starts}
+use Rattle.token_text.proofs.RunLaws.{run_is, run_only, AnyWordSaid, any_word_said, any_word_only, any_word_starts, no_word, suffix_is, suffix_only}
+use Rattle.token_text.proofs.LiteralLaws.{first_is, second_is, OpeningSaid, opening_said, opening_only, ClosedSaid, closed_said, closed_only}
+use Rattle.token_text.proofs.NumberLaws.{NumberSaid, number_said, number_of, number_only_of, malformed_of, Digit, number_digit, malformed_digit}
+use Rattle.token_text.proofs.CommentLaws.{CommentSaid, comment_said, comment_only}
+use Rattle.token_text.proofs.Ends.{Splits, piece_splits}
+use Rattle.token_text.proofs.Words.{upto_front}
 
--- ---- runs
+-- what is found is so, and what is not found has its reason
+abbrev LookSaid : Text → Look → Type 0
+LookSaid cs (Ok x) = IsPiece x.0 cs x.1
+LookSaid cs (Err k) = Named k cs ⊎ (k ≡ UnknownToken)
 
-pub run_all : (p : ℕ → Bool) (cs : Text) → AllByRecursion (λ d. p d ≡ true) (run p cs)
-run_all p [] = tt
-run_all p (c ∷ cs) =
-    let P : Bool → Type 0 = λ b. p c ≡ b → AllByRecursion (λ d. p d ≡ true) (cond b (c ∷ run p cs) []) in
-    let f : P (p c) = elim (p c) as P [ true ↦ λ e. (e, run_all p cs) | false ↦ λ e. tt ] in f refl
+-- ---- literals that have a beginning and an end
 
-pub run_ends : (p : ℕ → Bool) (cs : Text) → begins_with p (after_run p cs) ≡ false
-run_ends p [] = refl
-run_ends p (c ∷ cs) =
-    let P : Bool → Type 0 = λ b. p c ≡ b → begins_with p (cond b (after_run p cs) (c ∷ cs)) ≡ false in
-    let f : P (p c) = elim (p c) as P [ true ↦ λ e. run_ends p cs | false ↦ λ e. e ] in f refl
+none_closes : (how : Closing) (ds : Text) → closed how ds ≡ None → (rest : Text) → Closes how ds rest → ⊥
+none_closes how ds h rest q = let bad = sym h ∙ closed_only how ds rest q in cc
 
-ends_run : (p : ℕ → Bool) (ds : Text) → begins_with p ds ≡ false → (run p ds ≡ []) × (after_run p ds ≡ ds)
-ends_run p [] h = (refl, refl)
-ends_run p (d ∷ ds) h = (rw h refl, rw h refl)
+literal_said : (k : LitKind) (how : Closing) (cs ds : Text) (o : Option Text) → Opens k how cs ds → closed how ds ≡ o → ClosedSaid how ds o → LookSaid cs (f.literal k o)
+literal_said k how cs ds None b h s = inl (no_end b (none_closes how ds h))
+literal_said k how cs ds (Some rest) b h s = rules.literal b s (suffix_is rest)
 
-pub run_exact : (p : ℕ → Bool) (v ds : Text) → AllByRecursion (λ d. p d ≡ true) v → begins_with p ds ≡ false
-    → (run p (v ++ ds) ≡ v) × (after_run p (v ++ ds) ≡ ds)
-run_exact p [] ds all h = ends_run p ds h
-run_exact p (c ∷ v) ds all h =
-    let inner = run_exact p v ds all.1 h in
-    let here : p c ≡ true = all.0 in
-    (rw here (ap (λ t. c ∷ t) inner.0), rw here inner.1)
+-- ---- comments
 
--- ---- words
+no_comment : (cs : Text) → comment 0 cs ≡ None → (rest : Text) → IsComment 0 cs rest → ⊥
+no_comment cs h rest c = let bad = sym h ∙ comment_only c in cc
 
-is_word_by : (cs : Text) (x : Text × Text) → word_front cs ≡ Some x → IsWord x.0 × (begins_with is_continue x.1 ≡ false)
-is_word_by cs x h =
-    let by = word_by cs x h in
-    let all : IsWord (by.first ∷ run is_continue by.others) = (by.start, run_all is_continue by.others) in
-    (subst IsWord (sym by.spelled) all, ap (begins_with is_continue) by.rest ∙ run_ends is_continue by.others)
+line_said : (cs : Text) → LookSaid (47 ∷ 47 ∷ cs) (line_comment cs)
+unfolding line_comment
+line_said cs =
+    which (LookSaid (47 ∷ 47 ∷ cs)) (is_line_doc cs) (λ e. inl (line_doc e)) (λ e. rules.line_comment e (run_is NoLineFeed cs))
 
-no_raw_by : (cs : Text) (o : Option (Text × Text)) → raw_front cs ≡ o → ¬ BeginsRaw cs → o ≡ None
-no_raw_by cs None h never = refl
-no_raw_by cs (Some x) h never =
-    let by = raw_by cs x h in
-    let inner = word_by by.body by.plain by.is_word in
-    absurd (never (by.body, by.whole, ap (begins_with is_start) inner.whole ∙ inner.start))
+block_by : (cs : Text) (o : Option Text) → is_block_doc cs ≡ false → comment 0 cs ≡ o → CommentSaid 0 cs o → LookSaid (47 ∷ 42 ∷ cs) (ends (Leaf Blank) o)
+block_by cs None d h s = inl (no_comment_end d (no_comment cs h))
+block_by cs (Some rest) d h s = rules.block_comment d s
 
-pub no_raw : (cs : Text) → ¬ BeginsRaw cs → raw_front cs ≡ None
-no_raw cs never = no_raw_by cs (raw_front cs) refl never
+block_said : (cs : Text) → LookSaid (47 ∷ 42 ∷ cs) (block_comment cs)
+unfolding block_comment
+block_said cs =
+    which (LookSaid (47 ∷ 42 ∷ cs)) (is_block_doc cs) (λ e. inl (block_doc e)) (λ e. block_by cs (comment 0 cs) e refl (comment_said 0 cs))
 
-word_at : (body : Text) → begins_with is_start body ≡ true → (x : Text × Text) × (word_front body ≡ Some x)
-unfolding word_front
-word_at [] h = cc
-word_at (c ∷ cs) h = ((c ∷ run is_continue cs, after_run is_continue cs), rw h refl)
+slash_mark : (c : ℕ) (cs : Text) → (c == 47) ≡ false → (c == 42) ≡ false → begins_comment 47 (c ∷ cs) ≡ false
+unfolding begins_comment
+slash_mark c cs h k = rw (h, k) refl
 
-pub raw_at : (body : Text) (x : Text × Text) → word_front body ≡ Some x → raw_front (114 ∷ 35 ∷ body) ≡ Some (114 ∷ 35 ∷ x.0, x.1)
-unfolding raw_front
-raw_at body x h = rw h refl
+slash_ends : begins_comment 47 [] ≡ false
+unfolding begins_comment
+slash_ends = refl
 
-pub raw_begins : (cs : Text) → raw_front cs ≡ None → ¬ BeginsRaw cs
-raw_begins cs none b =
-    let w = word_at b.0 b.2 in
-    let e = sym none ∙ ap raw_front b.1 ∙ raw_at b.0 w.0 w.1 in cc
+slash_said : (cs : Text) → LookSaid (47 ∷ cs) (slash cs)
+unfolding slash
+slash_said [] = rules.mark refl slash_ends
+slash_said (c ∷ cs) =
+    which (LookSaid (47 ∷ c ∷ cs)) (c == 47) (λ e. second_is (λ t. LookSaid t (line_comment cs)) 47 c 47 cs e (line_said cs)) (λ h.
+    which (LookSaid (47 ∷ c ∷ cs)) (c == 42) (λ e. second_is (λ t. LookSaid t (block_comment cs)) 47 c 42 cs e (block_said cs))
+    (λ k. rules.mark refl (slash_mark c cs h k)))
 
-pub word_exact : (w ds : Text) → IsWord w → begins_with is_continue ds ≡ false → word_front (w ++ ds) ≡ Some (w, ds)
-unfolding word_front
-word_exact [] ds is h = absurd is
-word_exact (c ∷ v) ds is h =
-    let e = run_exact is_continue v ds is.1 h in
-    let start : is_start c ≡ true = is.0 in
-    rw (start, e.0, e.1) refl
+backslash_said : (cs : Text) → LookSaid (92 ∷ cs) (backslash cs)
+unfolding backslash
+backslash_said [] = inr refl
+backslash_said (c ∷ cs) =
+    which (LookSaid (92 ∷ c ∷ cs)) (c == 40) (λ e. second_is (λ t. IsPiece (Open delimiters.None) t cs) 92 c 40 cs e (rules.opening {d = delimiters.None})) (λ _.
+    which (LookSaid (92 ∷ c ∷ cs)) (c == 41) (λ e. second_is (λ t. IsPiece (Close delimiters.None) t cs) 92 c 41 cs e (rules.closing {d = delimiters.None})) (λ _. inr refl))
 
--- ---- single characters
+-- ---- single characters, words and numbers
 
--- which way a test went
-pub chosen : {X : Type 0} (b : Bool) (x y z : X) → cond b x y ≡ z → ((b ≡ true) × (x ≡ z)) ⊎ ((b ≡ false) × (y ≡ z))
-chosen true x y z h = inl (refl, h)
-chosen false x y z h = inr (refl, h)
+no_slash : (c : ℕ) (cs : Text) → (c == 47) ≡ false → begins_comment c cs ≡ false
+unfolding begins_comment
+no_slash c cs h = rw h refl
 
-is_bracket_open : (c n : ℕ) (d : Delimiter) (p : Piece) (rest : Text) → IsVisible d → opens d ≡ n ∷ [] → (c == n) ≡ true → Some (opening d) ≡ Some p → IsPiece p (c ∷ []) rest
-is_bracket_open c n d p rest v o t e =
-    let same : c ≡ n = same_number c n t in
-    let q : opening d ≡ p = cc in
-    let here : IsPiece (opening d) (c ∷ []) rest = (v, ap (λ m. m ∷ []) same ∙ sym o) in
-    subst (λ r. IsPiece r (c ∷ []) rest) q here
-
-is_bracket_close : (c n : ℕ) (d : Delimiter) (p : Piece) (rest : Text) → IsVisible d → closes d ≡ n ∷ [] → (c == n) ≡ true → Some (closing d) ≡ Some p → IsPiece p (c ∷ []) rest
-is_bracket_close c n d p rest v o t e =
-    let same : c ≡ n = same_number c n t in
-    let q : closing d ≡ p = cc in
-    let here : IsPiece (closing d) (c ∷ []) rest = (v, ap (λ m. m ∷ []) same ∙ sym o) in
-    subst (λ r. IsPiece r (c ∷ []) rest) q here
-
-is_blank_piece : (c : ℕ) (p : Piece) (rest : Text) → is_blank c ≡ true → Some blank ≡ Some p → IsPiece p (c ∷ []) rest
-is_blank_piece c p rest t e =
-    let q : blank ≡ p = cc in
-    let here : IsPiece blank (c ∷ []) rest = (c, refl, t) in
-    subst (λ r. IsPiece r (c ∷ []) rest) q here
-
-is_mark_piece : (c : ℕ) (p : Piece) (rest : Text) → begins_comment c rest ≡ false → is_mark c ≡ true → Some (leaf (mark c (spacing rest))) ≡ Some p → IsPiece p (c ∷ []) rest
-is_mark_piece c p rest comment t e =
-    let q : leaf (mark c (spacing rest)) ≡ p = cc in
-    let here : IsPiece (leaf (mark c (spacing rest))) (c ∷ []) rest = (refl, t, comment, refl) in
-    subst (λ r. IsPiece r (c ∷ []) rest) q here
-
-no_piece : {P : Type 0} (p : Piece) → ◌≡◌ {A = Option Piece} None (Some p) → P
-no_piece p h = cc
-
-pub single_is : (c : ℕ) (rest : Text) (p : Piece) → single c rest ≡ Some p → IsPiece p (c ∷ []) rest
+single_said : (c : ℕ) (cs : Text) → (c == 47) ≡ false → LookSaid (c ∷ cs) (before cs (single c cs))
 unfolding single
-single_is c rest p h =
-    elim (chosen (is_blank c) _ _ (Some p) h) [
-      | inl a ↦ is_blank_piece c p rest a.0 a.1
-      | inr a ↦
-          elim (chosen (c == 40) _ _ (Some p) a.1) [
-            | inl b ↦ is_bracket_open c 40 delimiters.Parenthesis p rest tt refl b.0 b.1
-            | inr b ↦
-                elim (chosen (c == 41) _ _ (Some p) b.1) [
-                  | inl b ↦ is_bracket_close c 41 delimiters.Parenthesis p rest tt refl b.0 b.1
-                  | inr b ↦
-                      elim (chosen (c == 91) _ _ (Some p) b.1) [
-                        | inl b ↦ is_bracket_open c 91 delimiters.Bracket p rest tt refl b.0 b.1
-                        | inr b ↦
-                            elim (chosen (c == 93) _ _ (Some p) b.1) [
-                              | inl b ↦ is_bracket_close c 93 delimiters.Bracket p rest tt refl b.0 b.1
-                              | inr b ↦
-                                  elim (chosen (c == 123) _ _ (Some p) b.1) [
-                                    | inl b ↦ is_bracket_open c 123 delimiters.Brace p rest tt refl b.0 b.1
-                                    | inr b ↦
-                                        elim (chosen (c == 125) _ _ (Some p) b.1) [
-                                          | inl b ↦ is_bracket_close c 125 delimiters.Brace p rest tt refl b.0 b.1
-                                          | inr b ↦
-                                              elim (chosen (begins_comment c rest) _ _ (Some p) b.1) [
-                                                | inl b ↦ no_piece p b.1
-                                                | inr d ↦
-                                                    elim (chosen (is_mark c) _ _ (Some p) d.1) [ inl b ↦ is_mark_piece c p rest d.0 b.0 b.1 | inr b ↦ no_piece p b.1 ]
-                                              ]
-                                        ]
-                                  ]
-                            ]
-                      ]
-                ]
-          ]
-    ]
+single_said c cs slash =
+    let P : Result Piece ErrorKind → Type 0 = λ r. LookSaid (c ∷ cs) (before cs r) in
+    which P (is_blank c) (λ e. rules.blank e) (λ _.
+    which P (c == 40) (λ e. first_is (λ t. IsPiece (Open delimiters.Parenthesis) t cs) c 40 cs e (rules.opening {d = delimiters.Parenthesis})) (λ _.
+    which P (c == 41) (λ e. first_is (λ t. IsPiece (Close delimiters.Parenthesis) t cs) c 41 cs e (rules.closing {d = delimiters.Parenthesis})) (λ _.
+    which P (c == 91) (λ e. first_is (λ t. IsPiece (Open delimiters.Bracket) t cs) c 91 cs e (rules.opening {d = delimiters.Bracket})) (λ _.
+    which P (c == 93) (λ e. first_is (λ t. IsPiece (Close delimiters.Bracket) t cs) c 93 cs e (rules.closing {d = delimiters.Bracket})) (λ _.
+    which P (c == 123) (λ e. first_is (λ t. IsPiece (Open delimiters.Brace) t cs) c 123 cs e (rules.opening {d = delimiters.Brace})) (λ _.
+    which P (c == 125) (λ e. first_is (λ t. IsPiece (Close delimiters.Brace) t cs) c 125 cs e (rules.closing {d = delimiters.Brace})) (λ _.
+    which P (is_mark c) (λ e. rules.mark e (no_slash c cs slash)) (λ _. inr refl))))))))
 
-pub single_blank : (c : ℕ) (rest : Text) → is_blank c ≡ true → single c rest ≡ Some blank
-unfolding single
-single_blank c rest h = rw h refl
+word_said : (c : ℕ) (cs : Text) (o : Option Text) → (c == 47) ≡ false → NoLiteral (c ∷ cs) → AnyWordSaid (c ∷ cs) o → LookSaid (c ∷ cs) (word_or_single c cs o)
+word_said c cs None h n s = single_said c cs h
+word_said c cs (Some rest) h n s = rules.word s n
 
-pub single_mark : (c : ℕ) (rest : Text) → is_mark c ≡ true → begins_comment c rest ≡ false → single c rest ≡ Some (leaf (mark c (spacing rest)))
-unfolding single
-single_mark c rest h comment =
+number_piece : (c : ℕ) (cs : Text) (r : f.Numeral) → NumberSaid (c ∷ cs) r → LookSaid (c ∷ cs) (numeral r)
+number_piece c cs (Ok x) s = rules.number s (suffix_is x.1)
+number_piece c cs (Err k) s = inl (subst (λ e. Named e (c ∷ cs)) (sym s.0) (malformed s.1))
+
+no_opening : (cs : Text) → opening cs ≡ None → (k : LitKind) (how : Closing) (ds : Text) → Opens k how cs ds → ⊥
+no_opening cs h k how ds b = let bad = sym h ∙ opening_only b in cc
+
+plain_said : (c : ℕ) (cs : Text) → (c == 47) ≡ false → opening (c ∷ cs) ≡ None → LookSaid (c ∷ cs) (plain c cs)
+unfolding plain
+plain_said c cs h none =
+    which (LookSaid (c ∷ cs)) (c == 98 && begins_with (is_char 39) cs) (λ _. inr refl) (λ byte.
+    which (LookSaid (c ∷ cs)) (is_ascii_digit c) (λ e. number_piece c cs (number c cs) (number_said c cs e)) (λ _.
+    word_said c cs (any_word (c ∷ cs)) h (record { no_literal = no_opening (c ∷ cs) none; no_byte = byte }) (any_word_said (c ∷ cs))))
+
+lifetime_said : (cs : Text) (o : Option Text) → begins_char cs ≡ false → AnyWordSaid cs o → LookSaid (39 ∷ cs) (known lifetime_piece o)
+lifetime_said cs None h s = inr refl
+lifetime_said cs (Some rest) h s = rules.lifetime h s
+
+no_char : (cs : Text) → opening (39 ∷ cs) ≡ None → begins_char cs ≡ false
+unfolding opening
+no_char cs h =
+    let P : Bool → Type 0 = λ b. cond b (f.opened Char Quote cs) None ≡ None → b ≡ false in
+    let g : P (begins_char cs) = elim (begins_char cs) as P [ true ↦ λ bad. cc | false ↦ λ _. refl ] in g h
+
+unopened_said : (c : ℕ) (cs : Text) → opening (c ∷ cs) ≡ None → LookSaid (c ∷ cs) (unopened c cs)
+unfolding unopened
+unopened_said c cs none =
+    which (LookSaid (c ∷ cs)) (c == 47) (λ e. first_is (λ t. LookSaid t (slash cs)) c 47 cs e (slash_said cs)) (λ h.
+    which (LookSaid (c ∷ cs)) (c == 39)
+    (λ e. first_is (λ t. LookSaid t (known lifetime_piece (any_word cs))) c 39 cs e
+    (lifetime_said cs (any_word cs) (no_char cs (subst (λ d. opening (d ∷ cs) ≡ None) (same_number c 39 e) none)) (any_word_said cs)))
+    (λ _. which (LookSaid (c ∷ cs)) (c == 92) (λ e. first_is (λ t. LookSaid t (backslash cs)) c 92 cs e (backslash_said cs)) (λ _. plain_said c cs h none)))
+
+other_said : (cs : Text) → opening cs ≡ None → LookSaid cs (other cs)
+other_said [] none = inr refl
+other_said (c ∷ cs) none = unopened_said c cs none
+
+look_by : (cs : Text) (o : Option Opening) → opening cs ≡ o → OpeningSaid cs o → LookSaid cs (opened_or_other cs o)
+look_by cs None h s = other_said cs h
+look_by cs (Some x) h s = literal_said x.0 x.1 cs x.2 (closed x.1 x.2) s refl (closed_said x.1 x.2)
+
+look_said : (cs : Text) → LookSaid cs (look cs)
+unfolding look
+look_said cs = look_by cs (opening cs) refl (opening_said cs)
+
+-- ---- only that
+
+-- where nothing with a beginning and an end stands
+look_other : (cs : Text) → opening cs ≡ None → look cs ≡ other cs
+unfolding look
+look_other cs h = ap (opened_or_other cs) h
+
+look_opened : (cs : Text) (k : LitKind) (how : Closing) (ds : Text) → Opens k how cs ds → look cs ≡ f.literal k (closed how ds)
+unfolding look
+look_opened cs k how ds b = ap (opened_or_other cs) (opening_only b)
+
+-- a character that begins no longer piece
+lone_opening : (c : ℕ) (cs : Text) → lone c ≡ true → opening (c ∷ cs) ≡ None
+unfolding opening
+lone_opening c cs h =
+    rw (clash lone c 34 h refl, clash lone c 39 h refl, clash lone c 114 h refl, clash lone c 98 h refl, clash lone c 99 h refl) refl
+
+lone_unopened : (c : ℕ) (cs : Text) → lone c ≡ true → unopened c cs ≡ before cs (single c cs)
+unfolding unopened plain
+lone_unopened c cs h =
     rw (
-      mark_fails is_blank c h refl,
-      mark_fails (λ d. d == 40) c h refl,
-      mark_fails (λ d. d == 41) c h refl,
-      mark_fails (λ d. d == 91) c h refl,
-      mark_fails (λ d. d == 93) c h refl,
-      mark_fails (λ d. d == 123) c h refl,
-      mark_fails (λ d. d == 125) c h refl,
-      comment,
+      clash lone c 47 h refl,
+      clash lone c 39 h refl,
+      clash lone c 92 h refl,
+      clash lone c 98 h refl,
+      lone_digit c h,
+      no_word c cs (lone_starts c h) (clash lone c 114 h refl),
+    ) refl
+
+lone_look : (c : ℕ) (cs : Text) → lone c ≡ true → look (c ∷ cs) ≡ before cs (single c cs)
+lone_look c cs h = look_other (c ∷ cs) (lone_opening c cs h) ∙ lone_unopened c cs h
+
+single_blank : (c : ℕ) (cs : Text) → is_blank c ≡ true → single c cs ≡ Ok (Leaf Blank)
+unfolding single
+single_blank c cs h = rw h refl
+
+opening_look : (d : Delimiter) (rest : Text) → look (opens d ++ rest) ≡ Ok (Open d, rest)
+unfolding single look opening unopened backslash
+opening_look delimiters.Parenthesis rest = lone_look 40 rest refl
+opening_look delimiters.Brace rest = lone_look 123 rest refl
+opening_look delimiters.Bracket rest = lone_look 91 rest refl
+opening_look delimiters.None rest = refl
+
+closing_look : (d : Delimiter) (rest : Text) → look (closes d ++ rest) ≡ Ok (Close d, rest)
+unfolding single look opening unopened backslash
+closing_look delimiters.Parenthesis rest = lone_look 41 rest refl
+closing_look delimiters.Brace rest = lone_look 125 rest refl
+closing_look delimiters.Bracket rest = lone_look 93 rest refl
+closing_look delimiters.None rest = refl
+
+single_mark : (c : ℕ) (cs : Text) → is_mark c ≡ true → single c cs ≡ Ok (mark_piece c cs)
+unfolding single
+single_mark c cs h =
+    rw (
+      off (is_blank c) (listed (λ d. not (is_blank d)) c (codes "!#$%&*+,-./:;<=>?@^~|") h refl),
+      clash is_mark c 40 h refl,
+      clash is_mark c 41 h refl,
+      clash is_mark c 91 h refl,
+      clash is_mark c 93 h refl,
+      clash is_mark c 123 h refl,
+      clash is_mark c 125 h refl,
       h,
     ) refl
 
+no_comment_mark : (cs : Text) → begins_comment 47 cs ≡ false → slash cs ≡ marked 47 cs
+unfolding begins_comment slash
+no_comment_mark [] h = refl
+no_comment_mark (c ∷ cs) h =
+    let P : Bool → Type 0 = λ b. (b || c == 42) ≡ false → cond b (line_comment cs) (if c == 42 then block_comment cs else marked 47 (c ∷ cs)) ≡ marked 47 (c ∷ cs) in
+    let Q : Bool → Type 0 = λ b. b ≡ false → cond b (block_comment cs) (marked 47 (c ∷ cs)) ≡ marked 47 (c ∷ cs) in
+    let g : Q (c == 42) = elim (c == 42) as Q [ true ↦ λ bad. cc | false ↦ λ _. refl ] in
+    let k : P (c == 47) = elim (c == 47) as P [ true ↦ λ bad. cc | false ↦ λ more. g more ] in k h
+
+slash_look : (cs : Text) → look (47 ∷ cs) ≡ slash cs
+unfolding look opening unopened
+slash_look cs = refl
+
+mark_look : (c : ℕ) (rest : Text) → is_mark c ≡ true → begins_comment c rest ≡ false → look (c ∷ rest) ≡ marked c rest
+mark_look c rest h k =
+    let P : Bool → Type 0 = λ b. (c == 47) ≡ b → look (c ∷ rest) ≡ marked c rest in
+    let g : P (c == 47) = elim (c == 47) as P [
+      | true ↦ λ e. (let same = same_number c 47 e in
+          subst (λ d. look (d ∷ rest) ≡ marked d rest) (sym same)
+          (slash_look rest ∙ no_comment_mark rest (subst (λ d. begins_comment d rest ≡ false) same k)))
+      | false ↦ λ e. lone_look c rest (mark_lone c h e) ∙ ap (before rest) (single_mark c rest h)
+    ] in g refl
+
+-- words
+
+none_opens : (cs : Text) (o : Option Opening) → OpeningSaid cs o → NoLiteral cs → o ≡ None
+none_opens cs None s n = refl
+none_opens cs (Some x) s n = absurd (n.no_literal x.0 x.1 x.2 s)
+
+word_unopened : (cs rest : Text) → begins_with is_start cs ≡ true → begins_byte cs ≡ false → any_word cs ≡ Some rest → other cs ≡ Ok (Leaf Word, rest)
+unfolding unopened plain
+word_unopened [] rest h n w = cc
+word_unopened (c ∷ cs) rest h n w =
+    rw (start_clash c 47 h refl, start_clash c 39 h refl, start_clash c 92 h refl, n, no_digit_starts c h, w) refl
+
+word_look : (cs rest : Text) → IsAnyWord cs rest → NoLiteral cs → look cs ≡ Ok (Leaf Word, rest)
+word_look cs rest w n =
+    look_other cs (none_opens cs (opening cs) (opening_said cs) n) ∙ word_unopened cs rest (any_word_starts w) n.no_byte (any_word_only w)
+
+lifetime_look : (cs rest : Text) → begins_char cs ≡ false → IsAnyWord cs rest → look (39 ∷ cs) ≡ Ok (Leaf Lifetime, rest)
+unfolding look opening unopened
+lifetime_look cs rest h w = rw h (ap (known lifetime_piece) (any_word_only w))
+
+-- numbers
+
+digit_look : (cs : Text) → Digit cs → look cs ≡ numeral (number_of cs)
+unfolding opening unopened plain
+digit_look cs (c, ds, e, h) =
+    let none : opening (c ∷ ds) ≡ None =
+    rw (clash is_ascii_digit c 34 h refl, clash is_ascii_digit c 39 h refl, clash is_ascii_digit c 114 h refl, clash is_ascii_digit c 98 h refl, clash is_ascii_digit c 99 h refl) refl in
+    let more : unopened c ds ≡ numeral (number c ds) =
+    rw (clash is_ascii_digit c 47 h refl, clash is_ascii_digit c 39 h refl, clash is_ascii_digit c 92 h refl, clash is_ascii_digit c 98 h refl, h) refl in
+    subst (λ t. look t ≡ numeral (number_of t)) (sym e) (look_other (c ∷ ds) none ∙ more)
+
+line_look : (cs : Text) → look (47 ∷ 47 ∷ cs) ≡ line_comment cs
+unfolding look opening unopened slash
+line_look cs = refl
+
+block_look : (cs : Text) → look (47 ∷ 42 ∷ cs) ≡ block_comment cs
+unfolding look opening unopened slash
+block_look cs = refl
+
+line_only : (cs rest : Text) → is_line_doc cs ≡ false → after_run NoLineFeed cs ≡ rest → line_comment cs ≡ Ok (Leaf Blank, rest)
+unfolding line_comment
+line_only cs rest h e = rw (h, e) refl
+
+block_only : (cs : Text) (o : Option Text) → is_block_doc cs ≡ false → comment 0 cs ≡ o → block_comment cs ≡ ends (Leaf Blank) o
+unfolding block_comment
+block_only cs o h e = rw (h, e) refl
+
+line_doc_only : (cs : Text) → is_line_doc cs ≡ true → line_comment cs ≡ Err DocComment
+unfolding line_comment
+line_doc_only cs h = rw h refl
+
+block_doc_only : (cs : Text) → is_block_doc cs ≡ true → block_comment cs ≡ Err DocComment
+unfolding block_comment
+block_doc_only cs h = rw h refl
+
+-- the piece with which a text begins is what is found
+look_only : {p : Piece} {cs rest : Text} → IsPiece p cs rest → look cs ≡ Ok (p, rest)
+look_only (rules.blank {c = c} {rest = rest} h) = lone_look c rest (blank_lone c h) ∙ ap (before rest) (single_blank c rest h)
+look_only (rules.line_comment {cs = cs} h r) = line_look cs ∙ line_only cs _ h (run_only r)
+look_only (rules.block_comment {cs = cs} h c) = block_look cs ∙ block_only cs _ h (comment_only c)
+look_only (rules.word {cs = cs} {rest = rest} w n) = word_look cs rest w n
+look_only (rules.lifetime {cs = cs} {rest = rest} h w) = lifetime_look cs rest h w
+look_only (rules.literal {k = k} {how = how} {cs = cs} {ds = ds} {es = es} b c s) =
+    look_opened cs k how ds b ∙ ap (f.literal k) (closed_only how ds es c) ∙ ap (λ t. Ok (Leaf (Literal k), t)) (suffix_only s)
+look_only (rules.number {k = k} {cs = cs} n s) =
+    digit_look cs (number_digit n) ∙ ap numeral (number_only_of n) ∙ ap (λ t. Ok (Leaf (Literal k), t)) (suffix_only s)
+look_only (rules.mark {c = c} {rest = rest} h k) = mark_look c rest h k
+look_only (rules.opening {d = d} {rest = rest}) = opening_look d rest
+look_only (rules.closing {d = d} {rest = rest}) = closing_look d rest
+
+no_closed : (how : Closing) (ds : Text) (o : Option Text) → ClosedSaid how ds o → ((rest : Text) → Closes how ds rest → ⊥) → o ≡ None
+no_closed how ds None s n = refl
+no_closed how ds (Some rest) s n = absurd (n rest s)
+
+no_comment_found : (ds : Text) (o : Option Text) → CommentSaid 0 ds o → ((rest : Text) → IsComment 0 ds rest → ⊥) → o ≡ None
+no_comment_found ds None s n = refl
+no_comment_found ds (Some rest) s n = absurd (n rest s)
+
+-- and why there is none is what is said
+named_only : {k : ErrorKind} {cs : Text} → Named k cs → look cs ≡ Err k
+named_only (no_end {k = k} {how = how} {cs = cs} {ds = ds} b n) =
+    look_opened cs k how ds b ∙ ap (f.literal k) (no_closed how ds (closed how ds) (closed_said how ds) n)
+named_only (no_comment_end {cs = cs} h n) = block_look cs ∙ block_only cs _ h (no_comment_found cs (comment 0 cs) (comment_said 0 cs) n)
+named_only (line_doc {cs = cs} h) = line_look cs ∙ line_doc_only cs h
+named_only (block_doc {cs = cs} h) = block_look cs ∙ block_doc_only cs h
+named_only (malformed {cs = cs} m) = digit_look cs (malformed_digit m) ∙ ap numeral (malformed_of m)
+
 -- ---- the front
 
-front_is_by : (cs : Text) (f : Found) → FrontBy cs f → Begins f.piece cs f.spelled f.rest
-front_is_by cs f (by_raw x raw form e) =
-    let s = raw_splits cs x raw in
-    let by = raw_by cs x raw in
-    let inner = is_word_by by.body by.plain by.is_word in
-    let ends : begins_with is_continue x.1 ≡ false = ap (λ (y : Text × Text). begins_with is_continue y.1) by.same ∙ inner.1 in
-    let here : Begins (leaf (word (encode_utf8_all x.0))) cs x.0 x.1 =
-    record { whole = s.whole; is_piece = (refl, ends, inr (by.plain.0, ap (λ (y : Text × Text). y.0) by.same, inner.0, form)) } in
-    subst (λ (g : Found). Begins g.piece cs g.spelled g.rest) (sym e) here
-front_is_by cs f (by_word x raw plain e) =
-    let s = word_splits cs x plain in
-    let inner = is_word_by cs x plain in
-    let here : Begins (leaf (word (encode_utf8_all x.0))) cs x.0 x.1 =
-    record { whole = s.whole; is_piece = (refl, inner.1, inl (inner.0, subst (λ t. ¬ BeginsRaw t) s.whole (raw_begins cs raw))) } in
-    subst (λ (g : Found). Begins g.piece cs g.spelled g.rest) (sym e) here
-front_is_by cs f (by_single c ds p raw plain whole one e) =
-    let here : Begins p cs (c ∷ []) ds = record { whole = whole; is_piece = single_is c ds p one } in
-    subst (λ (g : Found). Begins g.piece cs g.spelled g.rest) (sym e) here
+found_piece : (cs : Text) (r : Look) (x : Found) → LookSaid cs r → f.found_in cs r ≡ Ok x → IsPiece x.piece cs x.rest × (x.spelled ≡ upto cs x.rest)
+found_piece cs (Ok y) x s h =
+    let e : found y.0 (upto cs y.1) y.1 ≡ x = cc in
+    (subst (λ (z : Found). IsPiece z.piece cs z.rest) e s, subst (λ (z : Found). z.spelled ≡ upto cs z.rest) e refl)
+found_piece cs (Err k) x s h = cc
+
+front_parts : (cs : Text) (x : Found) → front cs ≡ Ok x → IsPiece x.piece cs x.rest × (x.spelled ≡ upto cs x.rest)
+unfolding front
+front_parts cs x h = found_piece cs (look cs) x (look_said cs) h
+
+pub front_splits : (cs : Text) (x : Found) → front cs ≡ Ok x → Splits cs x.spelled x.rest
+front_splits cs x h =
+    let p = front_parts cs x h in
+    subst (λ w. Splits cs w x.rest) (sym p.1) (piece_splits p.0)
 
 -- what is found is the piece with which the text begins
-pub front_is : (cs : Text) (f : Found) → front cs ≡ Some f → Begins f.piece cs f.spelled f.rest
-front_is cs f h = front_is_by cs f (front_by cs f h)
-
-no_word_front : (c : ℕ) (ds : Text) → is_start c ≡ false → word_front (c ∷ ds) ≡ None
-unfolding word_front
-no_word_front c ds h = rw h refl
-
-no_raw_front : (c : ℕ) (ds : Text) → is_start c ≡ false → raw_front (c ∷ ds) ≡ None
-no_raw_front c ds h =
-    no_raw (c ∷ ds) (λ b. let e = b.1 in let same : c ≡ 114 = cc in let bad = sym h ∙ ap is_start same ∙ start_r in cc)
-
-front_one : (cs w ds : Text) (c : ℕ) (p : Piece) → cs ≡ w ++ ds → w ≡ c ∷ [] → is_start c ≡ false → single c ds ≡ Some p → front cs ≡ Some (found p w ds)
-front_one cs w ds c p whole one fails h =
-    let e : cs ≡ c ∷ ds = whole ∙ ap (λ t. t ++ ds) one in
-    ap front e ∙ single_front (c ∷ ds) ds c p (no_raw_front c ds fails) (no_word_front c ds fails) refl h ∙ ap (λ t. Some (found p t ds)) (sym one)
-
-opening_code : (d : Delimiter) (w rest : Text) → IsVisible d → w ≡ opens d → (c : ℕ) × (w ≡ c ∷ []) × (is_start c ≡ false) × (single c rest ≡ Some (opening d))
-unfolding single
-opening_code delimiters.Parenthesis w rest v e = (40, e, no_start 40 refl, refl)
-opening_code delimiters.Brace w rest v e = (123, e, no_start 123 refl, refl)
-opening_code delimiters.Bracket w rest v e = (91, e, no_start 91 refl, refl)
-opening_code delimiters.None w rest v e = absurd v
-
-closing_code : (d : Delimiter) (w rest : Text) → IsVisible d → w ≡ closes d → (c : ℕ) × (w ≡ c ∷ []) × (is_start c ≡ false) × (single c rest ≡ Some (closing d))
-unfolding single
-closing_code delimiters.Parenthesis w rest v e = (41, e, no_start 41 refl, refl)
-closing_code delimiters.Brace w rest v e = (125, e, no_start 125 refl, refl)
-closing_code delimiters.Bracket w rest v e = (93, e, no_start 93 refl, refl)
-closing_code delimiters.None w rest v e = absurd v
-
-front_plain : (cs w ds : Text) → cs ≡ w ++ ds → begins_with is_continue ds ≡ false → IsPlainWord w ds → front cs ≡ Some (as_word (w, ds))
-front_plain cs w ds whole ends is =
-    ap front whole ∙ plain_front (w ++ ds) (w, ds) (no_raw (w ++ ds) is.1) (word_exact w ds is.0 ends)
-
-raw_word_front : (cs : Text) (x : Text × Text) → raw_front cs ≡ Some x → has_raw_form (encode_utf8_all x.0) ≡ true → front cs ≡ Some (as_word x)
-unfolding front
-raw_word_front cs x raw form = rw (raw, form) refl
-
-front_raw : (cs w ds : Text) → cs ≡ w ++ ds → begins_with is_continue ds ≡ false → IsRawWord w → front cs ≡ Some (as_word (w, ds))
-front_raw cs w ds whole ends is =
-    let v = is.0 in
-    let e : cs ≡ 114 ∷ 35 ∷ (v ++ ds) = whole ∙ ap (λ t. t ++ ds) is.1 in
-    let raw = ap raw_front e ∙ raw_at (v ++ ds) (v, ds) (word_exact v ds is.2 ends) ∙ ap (λ t. Some (t, ds)) (sym is.1) in
-    raw_word_front cs (w, ds) raw is.3
-
-front_word : (cs w ds : Text) → cs ≡ w ++ ds → begins_with is_continue ds ≡ false → IsPlainWord w ds ⊎ IsRawWord w → front cs ≡ Some (as_word (w, ds))
-front_word cs w ds whole ends (inl is) = front_plain cs w ds whole ends is
-front_word cs w ds whole ends (inr is) = front_raw cs w ds whole ends is
-
-front_of : (p : Piece) (cs w ds : Text) → cs ≡ w ++ ds → IsPiece p w ds → front cs ≡ Some (found p w ds)
-front_of blank cs w ds whole is = front_one cs w ds is.0 blank whole is.1 (no_start_blank is.0 is.2) (single_blank is.0 ds is.2)
-front_of (leaf (word b)) cs w ds whole is = front_word cs w ds whole is.1 is.2 ∙ ap (λ b. Some (found (leaf (word b)) w ds)) (sym is.0)
-front_of (leaf (mark c j)) cs w ds whole is =
-    front_one cs w ds c (leaf (mark c j)) whole is.0 (no_start_mark c is.1)
-    (single_mark c ds is.1 is.2 ∙ ap (λ s. Some (leaf (mark c s))) (sym is.3))
-front_of (opening d) cs w ds whole is =
-    let o = opening_code d w ds is.0 is.1 in front_one cs w ds o.0 (opening d) whole o.1 o.2 o.3
-front_of (closing d) cs w ds whole is =
-    let o = closing_code d w ds is.0 is.1 in front_one cs w ds o.0 (closing d) whole o.1 o.2 o.3
+pub front_is : (cs : Text) (x : Found) → front cs ≡ Ok x → Begins x.piece cs x.spelled x.rest
+front_is cs x h = record { whole = (front_splits cs x h).whole; is_piece = (front_parts cs x h).0 }
 
 -- the piece with which the text begins is what is found
-pub front_only : (p : Piece) (cs w ds : Text) → Begins p cs w ds → front cs ≡ Some (found p w ds)
-front_only p cs w ds b = front_of p cs w ds b.whole b.is_piece
+pub front_only : (p : Piece) (cs w rest : Text) → Begins p cs w rest → front cs ≡ Ok (found p w rest)
+unfolding front
+front_only p cs w rest b =
+    let e : upto cs rest ≡ w = ap (λ t. upto t rest) b.whole ∙ upto_front w rest in
+    ap (f.found_in cs) (look_only b.is_piece) ∙ ap (λ v. Ok (found p v rest)) e
+
+fault_reason : (cs : Text) (r : Look) (k : ErrorKind) → LookSaid cs r → f.found_in cs r ≡ Err k → Named k cs ⊎ (k ≡ UnknownToken)
+fault_reason cs (Ok x) k s h = cc
+fault_reason cs (Err e) k s h = let same : e ≡ k = cc in subst (λ c. Named c cs ⊎ (c ≡ UnknownToken)) same s
+
+named_front : (k : ErrorKind) (cs : Text) → Named k cs → front cs ≡ Err k
+unfolding front
+named_front k cs n = ap (f.found_in cs) (named_only n)
+
+named_is : {k : ErrorKind} {cs : Text} → Named k cs → k ≡ UnknownToken → ⊥
+named_is (no_end b n) e = cc
+named_is (no_comment_end h n) e = cc
+named_is (line_doc h) e = cc
+named_is (block_doc h) e = cc
+named_is (malformed m) e = cc
+
+no_name_of : (cs : Text) (k e : ErrorKind) → k ≡ UnknownToken → front cs ≡ Err k → Named e cs → ⊥
+no_name_of cs k e u h n =
+    let both = sym h ∙ named_front e cs n in
+    let same : k ≡ e = cc in named_is n (sym same ∙ u)
+
+faulty_by : (cs : Text) (k : ErrorKind) → front cs ≡ Err k → Named k cs ⊎ (k ≡ UnknownToken) → Faulty k cs
+faulty_by cs k h (inl n) = inl n
+faulty_by cs k h (inr u) = inr (
+  u,
+  record {
+    no_piece = λ p w rest b. (let bad = sym h ∙ front_only p cs w rest b in cc);
+    no_name = λ e n. no_name_of cs k e u h n;
+  },
+)
+
+-- where none is found, the text is faulty
+pub front_faulty : (cs : Text) (k : ErrorKind) → front cs ≡ Err k → Faulty k cs
+unfolding front
+front_faulty cs k h = faulty_by cs k h (fault_reason cs (look cs) k (look_said cs) h)
+
+front_unknown : (cs : Text) (r : Result Found ErrorKind) → front cs ≡ r → rules.NothingKnown cs → r ≡ Err UnknownToken
+front_unknown cs (Ok x) h n = absurd (n.no_piece x.piece x.spelled x.rest (front_is cs x h))
+front_unknown cs (Err k) h n = elim (front_faulty cs k h) [ inl a ↦ absurd (n.no_name k a) | inr b ↦ ap (λ e. Err e) b.0 ]
+
+pub faulty_front : (cs : Text) (k : ErrorKind) → Faulty k cs → front cs ≡ Err k
+faulty_front cs k (inl n) = named_front k cs n
+faulty_front cs k (inr u) = front_unknown cs (front cs) refl u.1 ∙ ap (λ e. Err e) (sym u.0)

@@ -1,15 +1,17 @@
 -- Reading, a piece at a time.
-use Rattle.std.proofs.Common.{◌≡◌, ℕ, zero, suc, ◌<◌, ◌+◌, ◌-◌, ◌≤◌, List, [], ◌∷◌, ◌++◌, length, take, drop, encode_utf8, encode_utf8_all, Some, None, Result, Ok, Err, refl, ap, ap₂, ◌∙◌, arith, length-append, drop_at, take_at, inl, inr, chars}
+use Rattle.std.proofs.Common.{◌≡◌, ℕ, zero, suc, ◌<◌, ◌+◌, ◌-◌, ◌≤◌, List, [], ◌∷◌, ◌++◌, length, take, drop, encode_utf8, encode_utf8_all, Result, Ok, Err, refl, sym, ap, ap₂, ◌∙◌, arith, length-append, drop_at, take_at, inl, inr, chars}
 use Rattle.std.proofs.lemmas.Str.{length-encode, length-le-encodes}
 use Rattle.std.specs.Char.{len_utf8}
 use Rattle.token_core.specs.Refusal.{Refusal, Stored}
 use Rattle.token_core.specs.Spans.{span}
 use Rattle.token_core.specs.declared.span.Span.{Span}
-use Rattle.token_text.specs.Characters.{Text, size}
-use Rattle.token_text.specs.Front.{found, front}
-use Rattle.token_text.specs.Pieces.{Piece}
-use Rattle.token_text.specs.Reading.{State, act, finish, turn, unknown, reads, lexed, Fails}
-use Rattle.token_text.proofs.Fronts.{front_splits}
+use Rattle.token_text.specs.Characters.{Text, size, upto}
+use Rattle.token_core.specs.declared.error.ErrorKind.{ErrorKind}
+use Rattle.token_text.specs.declared.piece.Piece.{Piece}
+use Rattle.token_text.specs.Front.{Past, found, found_in, look, front}
+use Rattle.token_text.specs.Reading.{State, act, finish, turn, faulty, reads, lexed, Fails}
+use Rattle.token_text.proofs.PieceLaws.{front_splits}
+use Rattle.token_text.proofs.Words.{spelled_so}
 
 pub size-cons : (c : ℕ) (cs : Text) → size (c ∷ cs) ≡ len_utf8 c + size cs
 size-cons c cs = length-append (encode_utf8 c) (encode_utf8_all cs) ∙ ap (λ n. n + size cs) (length-encode c)
@@ -27,9 +29,9 @@ pub reads_end : (at : ℕ) (x : State) → reads 0 at x [] ≡ finish x
 unfolding reads
 reads_end at x = refl
 
-pub reads_unknown : (at c : ℕ) (x : State) (cs : Text) → front (c ∷ cs) ≡ None → reads 0 at x (c ∷ cs) ≡ Err (unknown at c)
+pub reads_faulty : (k : ErrorKind) (at c : ℕ) (x : State) (cs : Text) → front (c ∷ cs) ≡ Err k → reads 0 at x (c ∷ cs) ≡ Err (faulty k at c)
 unfolding reads
-reads_unknown at c x cs h = rw (h, reads) refl
+reads_faulty k at c x cs h = rw (h, reads) refl
 
 reads_turn_err : (at c : ℕ) (x : State) (cs : Text) (e : Refusal) → turn at c x (front (c ∷ cs)) ≡ Err e → reads 0 at x (c ∷ cs) ≡ Err e
 unfolding reads
@@ -40,7 +42,7 @@ unfolding reads
 reads_turn_ok at c x y n cs h = rw (h, reads) refl
 
 -- the piece at the front is taken
-pub reads_piece : (at : ℕ) (x y : State) (cs w rest : Text) (p : Piece) → front cs ≡ Some (found p w rest) → act (span at (at + size w)) p x ≡ Ok y
+pub reads_piece : (at : ℕ) (x y : State) (cs w rest : Text) (p : Piece) → front cs ≡ Ok (found p w rest) → act (span at (at + size w)) (encode_utf8_all w) p x ≡ Ok y
     → reads 0 at x cs ≡ reads 0 (at + size w) y rest
 reads_piece at x y cs [] rest p h a = let s = front_splits cs (found p [] rest) h in absurd (omega (arith, s.some))
 reads_piece at x y [] (c ∷ w) rest p h a = let s = front_splits [] (found p (c ∷ w) rest) h in let e = s.whole in cc
@@ -57,7 +59,7 @@ reads_piece at x y (d ∷ cs) (c ∷ w) rest p h a =
     (ap (λ u. (at + len_utf8 d) + size u) (ap (take (length w)) tail ∙ take_at w rest (length w) refl) ∙ e)
     (ap (drop (length w)) tail ∙ drop_at w rest (length w) refl)
 
-pub reads_refused : (at : ℕ) (x : State) (cs w rest : Text) (p : Piece) (e : Refusal) → front cs ≡ Some (found p w rest) → act (span at (at + size w)) p x ≡ Err e
+pub reads_refused : (at : ℕ) (x : State) (cs w rest : Text) (p : Piece) (e : Refusal) → front cs ≡ Ok (found p w rest) → act (span at (at + size w)) (encode_utf8_all w) p x ≡ Err e
     → reads 0 at x cs ≡ Err e
 reads_refused at x [] w rest p e h a = let s = front_splits [] (found p w rest) h in absurd (omega (arith, s.some, ap length s.whole, length-append w rest))
 reads_refused at x (c ∷ cs) w rest p e h a = reads_turn_err at c x cs e (rw (h, a) refl)
@@ -65,11 +67,11 @@ reads_refused at x (c ∷ cs) w rest p e h a = reads_turn_err at c x cs e (rw (h
 -- ---- the loop over a text
 
 module _ (text rest after : List ℕ) (w : Text) (p : Piece) (x : State) (known : lexed text ≡ reads 0 (length text - length rest) x (chars rest))
-    (le : length rest ≤ length text) (h : front (chars rest) ≡ Some (found p w (chars after))) (e : rest ≡ encode_utf8_all w ++ after) where
+    (le : length rest ≤ length text) (h : front (chars rest) ≡ Ok (found p w (chars after))) (e : rest ≡ encode_utf8_all w ++ after) where
   lengths : length rest ≡ size w + length after
   lengths = ap length e ∙ length-append (encode_utf8_all w) after
 
-  pub ahead : length after < length rest
+  ahead : length after < length rest
   ahead =
       let s = front_splits (chars rest) (found p w (chars after)) h in
       omega (arith, lengths, s.some, length-le-encodes w)
@@ -77,14 +79,42 @@ module _ (text rest after : List ℕ) (w : Text) (p : Piece) (x : State) (known 
   place : (length text - length rest) + size w ≡ length text - length after
   place = omega (arith, lengths)
 
-  pub loop_goes : (s : Span) (y : State) → s ≡ span (length text - length rest) (length text - length after) → act s p x ≡ Ok y
+  loop_goes : (s : Span) (b : List ℕ) (y : State) → encode_utf8_all w ≡ b → s ≡ span (length text - length rest) (length text - length after) → act s b p x ≡ Ok y
       → lexed text ≡ reads 0 (length text - length after) y (chars after)
-  loop_goes s y is a =
-      known ∙ reads_piece (length text - length rest) x y (chars rest) w (chars after) p h (rw (place, ← is) a)
+  loop_goes s b y same is a =
+      known ∙ reads_piece (length text - length rest) x y (chars rest) w (chars after) p h (rw (place, ← is, same) a)
       ∙ ap (λ n. reads 0 n y (chars after)) place
 
-  pub loop_stops : (s : Span) (r : Refusal) → s ≡ span (length text - length rest) (length text - length after) → act s p x ≡ Err r → lexed text ≡ Err r
-  loop_stops s r is a = known ∙ reads_refused (length text - length rest) x (chars rest) w (chars after) p r h (rw (place, ← is) a)
+  loop_stops : (s : Span) (b : List ℕ) (r : Refusal) → encode_utf8_all w ≡ b → s ≡ span (length text - length rest) (length text - length after) → act s b p x ≡ Err r → lexed text ≡ Err r
+  loop_stops s b r same is a = known ∙ reads_refused (length text - length rest) x (chars rest) w (chars after) p r h (rw (place, ← is, same) a)
+
+front_looked : (cs ds : Text) (p : Piece) → look cs ≡ Ok (p, ds) → front cs ≡ Ok (found p (upto cs ds) ds)
+unfolding front
+front_looked cs ds p h = ap (found_in cs) h
+
+pub front_refused : (cs : Text) (k : ErrorKind) → look cs ≡ Err k → front cs ≡ Err k
+unfolding front
+front_refused cs k h = ap (found_in cs) h
+
+-- the same of the piece that was found, whose bytes are b
+module _ (text rest after : List ℕ) (p : Piece) (x : State) (known : lexed text ≡ reads 0 (length text - length rest) x (chars rest))
+    (le : length rest ≤ length text) (h : look (chars rest) ≡ Ok (p, chars after)) (past : Past rest after) where
+  cut_at : (b : List ℕ) → rest ≡ b ++ after → rest ≡ encode_utf8_all (upto (chars rest) (chars after)) ++ after
+  cut_at b e = e ∙ ap (λ t. t ++ after) (sym (spelled_so rest b after past e))
+
+  pub look_ahead : length after < length rest
+  look_ahead =
+      ahead text rest after (upto (chars rest) (chars after)) p x known le (front_looked (chars rest) (chars after) p h) (cut_at (encode_utf8_all past.front) past.split)
+
+  pub look_goes : (s : Span) (b : List ℕ) (y : State) → rest ≡ b ++ after → s ≡ span (length text - length rest) (length text - length after) → act s b p x ≡ Ok y
+      → lexed text ≡ reads 0 (length text - length after) y (chars after)
+  look_goes s b y e is a =
+      loop_goes text rest after (upto (chars rest) (chars after)) p x known le (front_looked (chars rest) (chars after) p h) (cut_at b e) s b y (spelled_so rest b after past e) is a
+
+  pub look_stops : (s : Span) (b : List ℕ) (r : Refusal) → rest ≡ b ++ after → s ≡ span (length text - length rest) (length text - length after) → act s b p x ≡ Err r
+      → lexed text ≡ Err r
+  look_stops s b r e is a =
+      loop_stops text rest after (upto (chars rest) (chars after)) p x known le (front_looked (chars rest) (chars after) p h) (cut_at b e) s b r (spelled_so rest b after past e) is a
 
 pub fails_so : {A B : Type 0} (r : Refusal) (o : Result A Refusal) (u : Result B Refusal) → Fails r o → (o ≡ Err r → u ≡ Err r) → Fails r u
 fails_so r o u (inl h) f = inl h

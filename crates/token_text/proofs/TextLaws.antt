@@ -1,5 +1,5 @@
 -- What is read of a text is what it spells, and what it spells is read.
-use Rattle.std.proofs.Common.{◌≡◌, ℕ, zero, suc, ◌≤◌, ◌+◌, Bool, true, false, ◌⊎◌, inl, inr, List, [], ◌∷◌, ◌++◌, length, chars, Option, Some, None, Result, Ok, Err, refl, sym, ap, ◌∙◌, subst, arith, append_assoc, append-nil, length-append, rules, IfOk, IfErr, MatchResult}
+use Rattle.std.proofs.Common.{◌≡◌, ℕ, zero, suc, ◌≤◌, ◌+◌, Bool, true, false, ◌⊎◌, inl, inr, List, [], ◌∷◌, ◌++◌, length, chars, encode_utf8_all, Option, Some, None, Result, Ok, Err, refl, sym, ap, ◌∙◌, subst, arith, append_assoc, append-nil, length-append, rules, IfOk, IfErr, MatchResult}
 use denote.Enum.Bare.{same_true}
 use Rattle.token_core.specs.contracts.tree.Delimiter.{the_type}
 use Rattle.token_core.specs.declared.tree.Delimiter.{Delimiter}
@@ -11,14 +11,16 @@ use Rattle.token_core.specs.Refusal.{Refusal, named, out_of_memory}
 use Rattle.token_core.specs.Spans.{span}
 use Rattle.token_core.specs.Toks.{Bytes}
 use Rattle.token_text.specs.Characters.{Text, size}
+use Rattle.token_core.specs.declared.error.ErrorKind.{ErrorKind}
+use Rattle.token_text.specs.declared.piece.Leaf as leaves
+use Rattle.token_text.specs.declared.piece.Piece.{Piece}
+use Rattle.token_text.specs.declared.piece.Piece.TheVariants.{Leaf, Open, Close}
 use Rattle.token_text.specs.Front.{Found, found, front}
-use Rattle.token_text.specs.Pieces.{Leaf, Piece, blank, leaf, opening, closing, tree_of}
-use Rattle.token_text.specs.Pieces.{group_tree}
+use Rattle.token_text.specs.Pieces.{trees_of, group_tree}
 use Rattle.token_text.specs.Reading.{Frame, frame, state, start, same, unexpected as unexpected_at, closed, act, finished, reads, lexed, Gives}
-use Rattle.token_text.specs.Spelling.{Begins, Spelled, nothing, a_blank, a_leaf, a_group, Spells, HasNoFront, Opening, Reaches, outside, inside, ClosesNone, Refused, unclosed, unexpected, unknown}
-use Rattle.token_text.proofs.Fronts.{front_splits}
-use Rattle.token_text.proofs.Steps.{reads_end, reads_unknown, reads_piece, reads_refused}
-use Rattle.token_text.proofs.PieceLaws.{front_is, front_only}
+use Rattle.token_text.specs.Spelling.{Begins, Spelled, nothing, a_leaf, a_group, Spells, Opening, Reaches, outside, inside, ClosesNone, Refused, unclosed, unexpected, faulty}
+use Rattle.token_text.proofs.Steps.{reads_end, reads_faulty, reads_piece, reads_refused}
+use Rattle.token_text.proofs.PieceLaws.{front_splits, front_is, front_only, front_faulty, faulty_front}
 
 same_self : (d : Delimiter) → same d d ≡ true
 unfolding same
@@ -37,23 +39,25 @@ closed_same : (d : Delimiter) (o s : Span) (before ts : List TokenTree) (fs : Li
     → closed d s (frame d o before ∷ fs) ts ≡ Ok (state fs (before ++ group_tree d o s ts ∷ []))
 closed_same d o s before ts fs = rw (same_self d) refl
 
+-- the trees of a piece that begins at an offset
+abbrev leaf_trees : leaves.Leaf → ℕ → Text → List TokenTree
+leaf_trees t at w = trees_of t (span at (at + size w)) (encode_utf8_all w)
+
 pub reads_spelled : {at end : ℕ} {cs rest : Text} {l : List TokenTree} → Spelled at cs l end rest → (fs : List Frame) (ts : List TokenTree)
     → reads 0 at (state fs ts) cs ≡ reads 0 end (state fs (ts ++ l)) rest
 reads_spelled (nothing at rest) fs ts = ap (λ l. reads 0 at (state fs l) rest) (sym (append-nil ts))
-reads_spelled (a_blank at end cs w ds rest l b more) fs ts =
-    reads_piece at (state fs ts) (state fs ts) cs w ds blank (front_only blank cs w ds b) refl ∙ reads_spelled more fs ts
 reads_spelled (a_leaf at end cs w ds rest t l b more) fs ts =
-    let here = tree_of t (span at (at + size w)) in
-    reads_piece at (state fs ts) (state fs (ts ++ here ∷ [])) cs w ds (leaf t) (front_only (leaf t) cs w ds b) refl
-    ∙ reads_spelled more fs (ts ++ here ∷ [])
-    ∙ ap (λ ls. reads 0 end (state fs ls) rest) (append_assoc ts (here ∷ []) l)
+    let here = leaf_trees t at w in
+    reads_piece at (state fs ts) (state fs (ts ++ here)) cs w ds (Leaf t) (front_only (Leaf t) cs w ds b) refl
+    ∙ reads_spelled more fs (ts ++ here)
+    ∙ ap (λ ls. reads 0 end (state fs ls) rest) (append_assoc ts here l)
 reads_spelled (a_group at inner_end end cs w ds es v gs rest d inner l b more c others) fs ts =
     let o = span at (at + size w) in
     let s = span inner_end (inner_end + size v) in
     let here = group_tree d o s inner in
-    reads_piece at (state fs ts) (state (frame d o ts ∷ fs) []) cs w ds (opening d) (front_only (opening d) cs w ds b) refl
+    reads_piece at (state fs ts) (state (frame d o ts ∷ fs) []) cs w ds (Open d) (front_only (Open d) cs w ds b) refl
     ∙ reads_spelled more (frame d o ts ∷ fs) []
-    ∙ reads_piece inner_end (state (frame d o ts ∷ fs) inner) (state fs (ts ++ here ∷ [])) es v gs (closing d) (front_only (closing d) es v gs c) (closed_same d o s ts inner fs)
+    ∙ reads_piece inner_end (state (frame d o ts ∷ fs) inner) (state fs (ts ++ here ∷ [])) es v gs (Close d) (front_only (Close d) es v gs c) (closed_same d o s ts inner fs)
     ∙ reads_spelled others fs (ts ++ here ∷ [])
     ∙ ap (λ ls. reads 0 end (state fs ls) rest) (append_assoc ts (here ∷ []) l)
 
@@ -65,8 +69,8 @@ lexed_spelled text l s = reads_spelled s.1 [] [] ∙ reads_end s.0 (state [] l)
 spelled_more : {at middle end : ℕ} {cs es rest : Text} {l m : List TokenTree} → Spelled at cs l middle es → Spelled middle es m end rest
     → Spelled at cs (l ++ m) end rest
 spelled_more (nothing at rest) s = s
-spelled_more {end = end} {rest = rest} {m = m} (a_blank at middle cs w ds es l b more) s = a_blank at end cs w ds rest (l ++ m) b (spelled_more more s)
-spelled_more {end = end} {rest = rest} {m = m} (a_leaf at middle cs w ds es t l b more) s = a_leaf at end cs w ds rest t (l ++ m) b (spelled_more more s)
+spelled_more {end = end} {rest = rest} {m = m} (a_leaf at middle cs w ds es t l b more) s =
+    subst (λ k. Spelled at cs k end rest) (sym (append_assoc (leaf_trees t at w) l m)) (a_leaf at end cs w ds rest t (l ++ m) b (spelled_more more s))
 spelled_more {end = end} {rest = rest} {m = m} (a_group at inner_end middle cs w ds hs v gs es d inner l b more c others) s =
     a_group at inner_end end cs w ds hs v gs rest d inner (l ++ m) b more c (spelled_more others s)
 
@@ -74,7 +78,7 @@ spelled_more {end = end} {rest = rest} {m = m} (a_group at inner_end middle cs w
 data Stack (text : Text) : List Frame → List TokenTree → ℕ → Text → Type 0 where
   bottom : (ts : List TokenTree) (at : ℕ) (cs : Text) → Spelled 0 text ts at cs → Stack text [] ts at cs
   deeper : (f : Frame) (fs : List Frame) (ts : List TokenTree) (at middle : ℕ) (cs es w ds : Text) → Stack text fs f.before middle es
-      → Begins (opening f.delimiter) es w ds → f.span ≡ span middle (middle + size w) → Spelled (middle + size w) ds ts at cs
+      → Begins (Open f.delimiter) es w ds → f.span ≡ span middle (middle + size w) → Spelled (middle + size w) ds ts at cs
       → Stack text (f ∷ fs) ts at cs
 
 stack_more : {text cs ds : Text} {fs : List Frame} {ts l : List TokenTree} {at next : ℕ} → Stack text fs ts at cs → Spelled at cs l next ds
@@ -83,23 +87,18 @@ stack_more {ds = ds} {l = l} {next = next} (bottom ts at cs s) more = bottom (ts
 stack_more {ds = ds} {l = l} {next = next} (deeper f fs ts at middle cs es w hs below b e s) more =
     deeper f fs (ts ++ l) next middle ds es w hs below b e (spelled_more s more)
 
-stack_blank : {text cs w ds : Text} {fs : List Frame} {ts : List TokenTree} {at : ℕ} → Stack text fs ts at cs → Begins blank cs w ds
-    → Stack text fs ts (at + size w) ds
-stack_blank {text} {cs} {w} {ds} {fs} {ts} {at} s b =
-    subst (λ ls. Stack text fs ls (at + size w) ds) (append-nil ts)
-    (stack_more s (a_blank at (at + size w) cs w ds ds [] b (nothing (at + size w) ds)))
-
-stack_leaf : {text cs w ds : Text} {fs : List Frame} {ts : List TokenTree} {at : ℕ} (t : Leaf) → Stack text fs ts at cs → Begins (leaf t) cs w ds
-    → Stack text fs (ts ++ tree_of t (span at (at + size w)) ∷ []) (at + size w) ds
+stack_leaf : {text cs w ds : Text} {fs : List Frame} {ts : List TokenTree} {at : ℕ} (t : leaves.Leaf) → Stack text fs ts at cs → Begins (Leaf t) cs w ds
+    → Stack text fs (ts ++ leaf_trees t at w) (at + size w) ds
 stack_leaf {text} {cs} {w} {ds} {fs} {ts} {at} t s b =
-    stack_more s (a_leaf at (at + size w) cs w ds ds t [] b (nothing (at + size w) ds))
+    subst (λ k. Stack text fs (ts ++ k) (at + size w) ds) (append-nil (leaf_trees t at w))
+    (stack_more s (a_leaf at (at + size w) cs w ds ds t [] b (nothing (at + size w) ds)))
 
-stack_opening : {text cs w ds : Text} {fs : List Frame} {ts : List TokenTree} {at : ℕ} (d : Delimiter) → Stack text fs ts at cs → Begins (opening d) cs w ds
+stack_opening : {text cs w ds : Text} {fs : List Frame} {ts : List TokenTree} {at : ℕ} (d : Delimiter) → Stack text fs ts at cs → Begins (Open d) cs w ds
     → Stack text (frame d (span at (at + size w)) ts ∷ fs) [] (at + size w) ds
 stack_opening {text} {cs} {w} {ds} {fs} {ts} {at} d s b =
     deeper (frame d (span at (at + size w)) ts) fs [] (at + size w) at ds cs w ds s b refl (nothing (at + size w) ds)
 
-stack_closing : {text cs v gs : Text} {f : Frame} {fs : List Frame} {ts : List TokenTree} {at : ℕ} → Stack text (f ∷ fs) ts at cs → Begins (closing f.delimiter) cs v gs
+stack_closing : {text cs v gs : Text} {f : Frame} {fs : List Frame} {ts : List TokenTree} {at : ℕ} → Stack text (f ∷ fs) ts at cs → Begins (Close f.delimiter) cs v gs
     → Stack text fs (f.before ++ group_tree f.delimiter f.span (span at (at + size v)) ts ∷ []) (at + size v) gs
 stack_closing {text} {v = v} {gs = gs} (deeper f fs ts at middle cs es w ds below b e s) c =
     let here = group_tree f.delimiter (span middle (middle + size w)) (span at (at + size v)) ts in
@@ -138,46 +137,42 @@ module _ (text : Bytes) (n : ℕ) (sound : Sound text n) (cs w ds : Text) (at : 
   abbrev Told : List Frame → Type 0
   Told fs = Verdict text (reads 0 at (state fs ts) cs)
 
-  told_next : (p : Piece) (fs gs : List Frame) (next : List TokenTree) → front cs ≡ Some (found p w ds)
-      → act (span at (at + size w)) p (state fs ts) ≡ Ok (state gs next) → Stack (chars text) gs next (at + size w) ds → Told fs
+  told_next : (p : Piece) (fs gs : List Frame) (next : List TokenTree) → front cs ≡ Ok (found p w ds)
+      → act (span at (at + size w)) (encode_utf8_all w) p (state fs ts) ≡ Ok (state gs next) → Stack (chars text) gs next (at + size w) ds → Told fs
   told_next p fs gs next h a s =
       subst (Verdict text) (sym (reads_piece at (state fs ts) (state gs next) cs w ds p h a)) (sound ds short (at + size w) gs next s)
 
-  told_unexpected : (d : Delimiter) (fs : List Frame) → front cs ≡ Some (found (closing d) w ds) → ClosesNone d (innermost fs)
+  told_unexpected : (d : Delimiter) (fs : List Frame) → front cs ≡ Ok (found (Close d) w ds) → ClosesNone d (innermost fs)
       → closed d (span at (at + size w)) fs ts ≡ Err (unexpected_at (span at (at + size w))) → Stack (chars text) fs ts at cs → Told fs
   told_unexpected d fs h none a s =
-      subst (Verdict text) (sym (reads_refused at (state fs ts) cs w ds (closing d) (unexpected_at (span at (at + size w))) h a))
-      (unexpected at cs w ds (innermost fs) d (stack_reaches s) (front_is cs (found (closing d) w ds) h) none)
+      subst (Verdict text) (sym (reads_refused at (state fs ts) cs w ds (Close d) (unexpected_at (span at (at + size w))) h a))
+      (unexpected at cs w ds (innermost fs) d (stack_reaches s) (front_is cs (found (Close d) w ds) h) none)
 
-  told_closing : (d : Delimiter) (fs : List Frame) → front cs ≡ Some (found (closing d) w ds) → Stack (chars text) fs ts at cs → Told fs
+  told_closing : (d : Delimiter) (fs : List Frame) → front cs ≡ Ok (found (Close d) w ds) → Stack (chars text) fs ts at cs → Told fs
   told_closing d [] h s = told_unexpected d [] h tt refl s
   told_closing d (f ∷ fs) h s =
       let P : Bool → Type 0 = λ b. same f.delimiter d ≡ b → Told (f ∷ fs) in
       let by : P (same f.delimiter d) = elim (same f.delimiter d) as P [
         | true ↦ λ e.
-            let g = h ∙ ap (λ k. Some (found (closing k) w ds)) (sym (same_is f.delimiter d e)) in
-            told_next (closing f.delimiter) (f ∷ fs) fs (f.before ++ group_tree f.delimiter f.span (span at (at + size w)) ts ∷ []) g
+            let g = h ∙ ap (λ k. Ok (found (Close k) w ds)) (sym (same_is f.delimiter d e)) in
+            told_next (Close f.delimiter) (f ∷ fs) fs (f.before ++ group_tree f.delimiter f.span (span at (at + size w)) ts ∷ []) g
             (closed_same f.delimiter f.span (span at (at + size w)) f.before ts fs)
-            (stack_closing s (front_is cs (found (closing f.delimiter) w ds) g))
+            (stack_closing s (front_is cs (found (Close f.delimiter) w ds) g))
         | false ↦ λ e. told_unexpected d (f ∷ fs) h (differs d f.delimiter e) (rw e refl) s
       ] in by refl
 
-  told_piece : (p : Piece) (fs : List Frame) → front cs ≡ Some (found p w ds) → Stack (chars text) fs ts at cs → Told fs
-  told_piece blank fs h s = told_next blank fs fs ts h refl (stack_blank s (front_is cs (found blank w ds) h))
-  told_piece (leaf t) fs h s =
-      told_next (leaf t) fs fs (ts ++ tree_of t (span at (at + size w)) ∷ []) h refl (stack_leaf t s (front_is cs (found (leaf t) w ds) h))
-  told_piece (opening d) fs h s =
-      told_next (opening d) fs (frame d (span at (at + size w)) ts ∷ fs) [] h refl (stack_opening d s (front_is cs (found (opening d) w ds) h))
-  told_piece (closing d) fs h s = told_closing d fs h s
+  told_piece : (p : Piece) (fs : List Frame) → front cs ≡ Ok (found p w ds) → Stack (chars text) fs ts at cs → Told fs
+  told_piece (Leaf t) fs h s =
+      told_next (Leaf t) fs fs (ts ++ leaf_trees t at w) h refl (stack_leaf t s (front_is cs (found (Leaf t) w ds) h))
+  told_piece (Open d) fs h s =
+      told_next (Open d) fs (frame d (span at (at + size w)) ts ∷ fs) [] h refl (stack_opening d s (front_is cs (found (Open d) w ds) h))
+  told_piece (Close d) fs h s = told_closing d fs h s
 
-no_front : (cs : Text) → front cs ≡ None → HasNoFront cs
-no_front cs none p w rest b = let bad = sym none ∙ front_only p cs w rest b in cc
-
-sound_front : (text : Bytes) (n : ℕ) → Sound text n → (c : ℕ) (cs : Text) → length cs ≤ n → (o : Option Found) → front (c ∷ cs) ≡ o
+sound_front : (text : Bytes) (n : ℕ) → Sound text n → (c : ℕ) (cs : Text) → length cs ≤ n → (o : Result Found ErrorKind) → front (c ∷ cs) ≡ o
     → (at : ℕ) (fs : List Frame) (ts : List TokenTree) → Stack (chars text) fs ts at (c ∷ cs) → Verdict text (reads 0 at (state fs ts) (c ∷ cs))
-sound_front text n sound c cs le None h at fs ts s =
-    subst (Verdict text) (sym (reads_unknown at c (state fs ts) cs h)) (unknown at c cs (innermost fs) (stack_reaches s) (no_front (c ∷ cs) h))
-sound_front text n sound c cs le (Some f) h at fs ts s =
+sound_front text n sound c cs le (Err k) h at fs ts s =
+    subst (Verdict text) (sym (reads_faulty k at c (state fs ts) cs h)) (faulty k at c cs (innermost fs) (stack_reaches s) (front_faulty (c ∷ cs) k h))
+sound_front text n sound c cs le (Ok f) h at fs ts s =
     let e = front_splits (c ∷ cs) f h in
     let short : length f.rest ≤ n = omega (arith, e.some, ap length e.whole, length-append f.spelled f.rest) in
     told_piece text n sound (c ∷ cs) f.spelled f.rest at short ts f.piece fs h s
@@ -218,7 +213,7 @@ reads_reaches (inside at middle end cs es w ds rest o d l below b s) =
       f ∷ c.0,
       l,
       (f, c.0, refl, refl, refl),
-      c.3 ∙ reads_piece middle (state c.0 c.1) (state (f ∷ c.0) []) es w ds (opening d) (front_only (opening d) es w ds b) refl
+      c.3 ∙ reads_piece middle (state c.0 c.1) (state (f ∷ c.0) []) es w ds (Open d) (front_only (Open d) es w ds b) refl
           ∙ reads_spelled s (f ∷ c.0) [],
     )
 
@@ -233,21 +228,17 @@ closes_none d s (Some o) fs ts i none =
     ] in
     ap (λ gs. closed d s gs ts) i.2 ∙ by refl
 
-found_none : (cs : Text) (o : Option Found) → front cs ≡ o → HasNoFront cs → o ≡ None
-found_none cs None h none = refl
-found_none cs (Some f) h none = absurd (none f.piece f.spelled f.rest (front_is cs f h))
-
 pub lexed_refused : (text : Bytes) (e : Refusal) → Refused text e → lexed text ≡ Err e
 lexed_refused text e (unclosed end o r) =
     let c = reads_reaches r in
     c.3 ∙ reads_end end (state c.0 c.1) ∙ ap (λ fs. finished fs c.1) c.2.2 ∙ ap (λ s. Err (named UnclosedDelimiter s)) c.2.4
 lexed_refused text e (unexpected end rest w ds o d r b none) =
     let c = reads_reaches r in
-    c.3 ∙ reads_refused end (state c.0 c.1) rest w ds (closing d) (unexpected_at (span end (end + size w))) (front_only (closing d) rest w ds b)
+    c.3 ∙ reads_refused end (state c.0 c.1) rest w ds (Close d) (unexpected_at (span end (end + size w))) (front_only (Close d) rest w ds b)
     (closes_none d (span end (end + size w)) o c.0 c.1 c.2 none)
-lexed_refused text e (unknown end ch ds o r none) =
+lexed_refused text e (faulty k end ch ds o r h) =
     let c = reads_reaches r in
-    c.3 ∙ reads_unknown end ch (state c.0 c.1) ds (found_none (ch ∷ ds) (front (ch ∷ ds)) refl none)
+    c.3 ∙ reads_faulty k end ch (state c.0 c.1) ds (faulty_front (ch ∷ ds) k h)
 
 -- ---- how the result of reading stands to what a text spells
 

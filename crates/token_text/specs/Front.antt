@@ -1,14 +1,281 @@
 -- The piece that is found at the front of a text.
-use Rattle.std.specs.Prelude.{◌≡◌, ℕ, ◌&&◌, ◌==◌, if◌then◌else◌, [], ◌∷◌, ◌++◌, encode_utf8_all, chars, Option, Some, None, MatchOption}
+use Rattle.std.specs.Prelude.{◌≡◌, ℕ, ◌+◌, ◌-◌, Bool, false, not, ◌&&◌, ◌||◌, ◌==◌, if◌then◌else◌, [], ◌∷◌, ◌++◌, drop, encode_utf8_all, chars, Option, Some, None, Result, Ok, Err, MatchOption, MatchResult}
 use Rattle.std.specs.Borrow.{Bor}
-use Rattle.token_core.specs.declared.tree.Delimiter.TheVariants.{Parenthesis, Brace, Bracket}
+use Rattle.std.specs.Char.{is_ascii_digit, is_ascii_hexdigit}
+use Rattle.token_core.specs.declared.error.ErrorKind.{ErrorKind}
+use Rattle.token_core.specs.declared.error.ErrorKind.TheVariants.{UnknownToken, UnterminatedToken, DocComment, MalformedNumber}
+use Rattle.token_core.specs.declared.tree.Delimiter.TheVariants.{Parenthesis, Brace, Bracket, None as Invisible}
+use Rattle.token_core.specs.declared.tree.LitKind.{LitKind}
+use Rattle.token_core.specs.declared.tree.LitKind.TheVariants.{Str, ByteStr, CStr, Byte, Char, Int, Float}
 use Rattle.token_core.specs.Toks.{Bytes}
-use Rattle.token_text.specs.declared.piece.Leaf as code
-use Rattle.token_text.specs.declared.piece.Leaf.TheVariants as leaves
-use Rattle.token_text.specs.declared.piece.Piece as code_piece
-use Rattle.token_text.specs.declared.piece.Piece.TheVariants as pieces
-use Rattle.token_text.specs.Characters.{Text, is_blank, is_mark, is_start, is_continue, run, after_run}
-use Rattle.token_text.specs.Pieces.{Leaf, word, mark, Piece, blank, leaf, opening, closing, has_raw_form, spacing, begins_comment}
+use Rattle.token_text.specs.declared.class.Class.{Class}
+use Rattle.token_text.specs.declared.class.Class.TheVariants.{Continue, Binary, Octal, Decimal, Hexadecimal, NoQuote, NoLineFeed}
+use Rattle.token_text.specs.declared.piece.Closing.{Closing}
+use Rattle.token_text.specs.declared.piece.Closing.TheVariants.{DoubleQuote, Hashes, Quote}
+use Rattle.token_text.specs.declared.piece.Leaf.TheVariants.{Blank, Word, Lifetime, Literal, Mark}
+use Rattle.token_text.specs.declared.piece.Piece.{Piece}
+use Rattle.token_text.specs.declared.piece.Piece.TheVariants.{Leaf, Open, Close}
+use Rattle.token_text.specs.Characters.{Text, upto, begins_with, is_blank, is_mark, is_letter, is_start, after_run, starts}
+use Rattle.token_text.specs.Pieces.{has_raw_form, is_char, begins_char, has_hashes, after_sign, is_e, spacing, is_line_doc, is_block_doc}
+
+-- what follows the first character
+abbrev pub tail : Text → Text
+tail [] = []
+tail (c ∷ cs) = cs
+
+-- what follows this character
+abbrev pub after_char : ℕ → Text → Option Text
+after_char d [] = None
+after_char d (c ∷ cs) = if c == d then Some cs else None
+
+-- ---- words
+
+unfoldable pub word : Text → Option Text
+word [] = None
+word (c ∷ cs) = if is_start c then Some (after_run Continue cs) else None
+
+-- what follows `r#`
+abbrev pub raw_mark : Text → Option Text
+raw_mark [] = None
+raw_mark (a ∷ []) = None
+raw_mark (a ∷ b ∷ cs) = if a == 114 && b == 35 then Some cs else None
+
+abbrev pub word_after : Option Text → Option Text
+word_after None = None
+word_after (Some cs) = word cs
+
+unfoldable pub raw_word : Text → Option Text
+raw_word cs = word_after (raw_mark cs)
+
+abbrev pub raw_or_plain : Text → Option Text → Option Text
+raw_or_plain cs None = word cs
+raw_or_plain cs (Some rest) = if has_raw_form (encode_utf8_all (upto cs rest)) then Some rest else None
+
+-- a word, raw or not
+unfoldable pub any_word : Text → Option Text
+any_word cs = raw_or_plain cs (raw_word cs)
+
+-- ---- what has a beginning and an end
+
+-- after as many `#`, `#` up to 255 in all and `"`
+unfoldable pub hashes : ℕ → Text → Option (ℕ × Text)
+hashes n [] = None
+hashes n (c ∷ cs) = if c == 34 then Some (n, cs) else (if c == 35 && not (n == 255) then hashes (n + 1) cs else None)
+
+-- the kind of a literal, how it ends, and what follows its beginning
+abbrev pub Opening : Type 0
+Opening = LitKind × Closing × Text
+
+abbrev pub opened : LitKind → Closing → Text → Option Opening
+opened k how cs = Some (k, how, cs)
+
+abbrev pub with_hashes : LitKind → Option (ℕ × Text) → Option Opening
+with_hashes k None = None
+with_hashes k (Some x) = opened k (Hashes x.0) x.1
+
+abbrev pub with_char : LitKind → Text → Option Opening
+with_char k cs = if begins_char cs then opened k Quote cs else None
+
+-- after `b` or `c`
+abbrev pub string_after : LitKind → Text → Option Opening
+string_after k [] = None
+string_after k (c ∷ cs) = if c == 34 then opened k DoubleQuote cs else (if c == 114 then with_hashes k (hashes 0 cs) else None)
+
+abbrev pub after_b : Text → Option Opening
+after_b [] = None
+after_b (c ∷ cs) = if c == 39 then with_char Byte cs else string_after ByteStr (c ∷ cs)
+
+unfoldable pub opening : Text → Option Opening
+opening [] = None
+opening (c ∷ cs) =
+    if c == 34 then opened Str DoubleQuote cs
+    else (if c == 39 then with_char Char cs
+    else (if c == 114 then with_hashes Str (hashes 0 cs)
+    else (if c == 98 then after_b cs
+    else (if c == 99 then string_after CStr cs else None))))
+
+-- up to `"`, where the next character doesn't count if it is escaped
+unfoldable pub quoted : Bool → Text → Option Text
+quoted escaped [] = None
+quoted escaped (c ∷ cs) = if not escaped && c == 34 then Some cs else quoted (not escaped && c == 92) cs
+
+unfoldable pub hashed : ℕ → Text → Option Text
+hashed n [] = None
+hashed n (c ∷ cs) = if c == 34 && has_hashes n cs then Some (drop n cs) else hashed n cs
+
+abbrev pub escaped_char : Text → Option Text
+escaped_char [] = None
+escaped_char (c ∷ cs) = after_char 39 (after_run NoQuote cs)
+
+unfoldable pub one_char : Text → Option Text
+one_char [] = None
+one_char (c ∷ cs) = if c == 92 then escaped_char cs else (if c == 39 then None else after_char 39 cs)
+
+unfoldable pub closed : Closing → Text → Option Text
+closed DoubleQuote cs = quoted false cs
+closed (Hashes n) cs = hashed n cs
+closed Quote cs = one_char cs
+
+-- an identifier directly after a literal is its suffix
+unfoldable pub after_suffix : Text → Text
+after_suffix cs = if begins_with is_letter cs then after_run Continue cs else cs
+
+-- ---- comments
+
+abbrev pub begins_star_or_slash : Text → Bool
+begins_star_or_slash = begins_with (λ d. d == 42 || d == 47)
+
+-- up to the end of a comment that is in as many others
+unfoldable pub comment : ℕ → Text → Option Text
+comment n [] = None
+comment n (a ∷ []) = None
+comment n (a ∷ b ∷ cs) =
+    if a == 47 && b == 42 then comment (n + 1) cs
+    else (if a == 42 && b == 47 then (if n == 0 then Some cs else comment (n - 1) cs) else comment n (b ∷ cs))
+
+-- ---- numbers
+
+abbrev pub Numeral : Type 0
+Numeral = Result (LitKind × Text) ErrorKind
+
+-- after a 0: the base of what follows, and that
+unfoldable pub base : Text → Option (Class × Text)
+base [] = None
+base (c ∷ cs) =
+    if c == 120 && starts is_ascii_hexdigit cs then Some (Hexadecimal, cs)
+    else (if c == 111 && starts is_ascii_digit cs then Some (Octal, cs)
+    else (if c == 98 && starts is_ascii_digit cs then Some (Binary, cs) else None))
+
+unfoldable pub based : Text → Numeral
+based rest = if begins_with is_ascii_digit rest then Err MalformedNumber else Ok (Int, rest)
+
+abbrev pub exponent_digits : Text → Numeral
+exponent_digits cs = if starts is_ascii_digit cs then Ok (Float, after_run Decimal cs) else Err MalformedNumber
+
+unfoldable pub exponent : LitKind → Text → Numeral
+exponent k [] = Ok (k, [])
+exponent k (c ∷ cs) = if is_e c then exponent_digits (after_sign cs) else Ok (k, c ∷ cs)
+
+abbrev pub unless_more : Option Text → Option Text
+unless_more None = None
+unless_more (Some cs) = if begins_with (λ d. d == 46 || is_start d) cs then None else Some cs
+
+-- after a point that belongs to a number
+unfoldable pub point : Text → Option Text
+point cs = unless_more (after_char 46 cs)
+
+abbrev pub fraction_by : Text → Option Text → Numeral
+fraction_by cs None = exponent Int cs
+fraction_by cs (Some rest) = exponent Float (after_run Decimal rest)
+
+unfoldable pub fraction : Text → Numeral
+fraction cs = fraction_by cs (point cs)
+
+-- after the first digit
+abbrev pub decimal : Text → Numeral
+decimal cs = fraction (after_run Decimal cs)
+
+abbrev pub based_or_decimal : Text → Option (Class × Text) → Numeral
+based_or_decimal cs None = decimal cs
+based_or_decimal cs (Some x) = based (after_run x.0 x.1)
+
+-- after its first digit
+unfoldable pub number : ℕ → Text → Numeral
+number c cs = if c == 48 then based_or_decimal cs (base cs) else decimal cs
+
+-- ---- the longest piece at the front, or why there is none
+
+-- a piece, and what follows it
+abbrev pub Look : Type 0
+Look = Result (Piece × Text) ErrorKind
+
+abbrev pub ends : Piece → Option Text → Look
+ends p None = Err UnterminatedToken
+ends p (Some rest) = Ok (p, rest)
+
+abbrev pub literal_piece : LitKind → Piece
+literal_piece k = Leaf (Literal k)
+
+abbrev pub lifetime_piece : Piece
+lifetime_piece = Leaf Lifetime
+
+abbrev pub literal : LitKind → Option Text → Look
+literal k None = Err UnterminatedToken
+literal k (Some rest) = Ok (literal_piece k, after_suffix rest)
+
+abbrev pub numeral : Numeral → Look
+numeral (Ok x) = Ok (literal_piece x.0, after_suffix x.1)
+numeral (Err e) = Err e
+
+abbrev pub known : Piece → Option Text → Look
+known p None = Err UnknownToken
+known p (Some rest) = Ok (p, rest)
+
+abbrev pub mark_piece : ℕ → Text → Piece
+mark_piece c rest = Leaf (Mark c (spacing rest))
+
+abbrev pub marked : ℕ → Text → Look
+marked c rest = Ok (mark_piece c rest, rest)
+
+-- after `//`
+unfoldable pub line_comment : Text → Look
+line_comment cs = if is_line_doc cs then Err DocComment else Ok (Leaf Blank, after_run NoLineFeed cs)
+
+-- after `/*`
+unfoldable pub block_comment : Text → Look
+block_comment cs = if is_block_doc cs then Err DocComment else ends (Leaf Blank) (comment 0 cs)
+
+-- after `/`
+unfoldable pub slash : Text → Look
+slash [] = marked 47 []
+slash (c ∷ cs) = if c == 47 then line_comment cs else (if c == 42 then block_comment cs else marked 47 (c ∷ cs))
+
+-- after `\`
+unfoldable pub backslash : Text → Look
+backslash [] = Err UnknownToken
+backslash (c ∷ cs) = if c == 40 then Ok (Open Invisible, cs) else (if c == 41 then Ok (Close Invisible, cs) else Err UnknownToken)
+
+unfoldable pub single : ℕ → Text → Result Piece ErrorKind
+single c rest =
+    if is_blank c then Ok (Leaf Blank)
+    else (if c == 40 then Ok (Open Parenthesis)
+    else (if c == 41 then Ok (Close Parenthesis)
+    else (if c == 91 then Ok (Open Bracket)
+    else (if c == 93 then Ok (Close Bracket)
+    else (if c == 123 then Ok (Open Brace)
+    else (if c == 125 then Ok (Close Brace)
+    else (if is_mark c then Ok (mark_piece c rest) else Err UnknownToken)))))))
+
+abbrev pub before : Text → Result Piece ErrorKind → Look
+before rest (Ok p) = Ok (p, rest)
+before rest (Err e) = Err e
+
+abbrev pub word_or_single : ℕ → Text → Option Text → Look
+word_or_single c cs None = before cs (single c cs)
+word_or_single c cs (Some rest) = Ok (Leaf Word, rest)
+
+-- a number, a word or what is one character long
+unfoldable pub plain : ℕ → Text → Look
+plain c cs =
+    if c == 98 && begins_with (is_char 39) cs then Err UnknownToken
+    else (if is_ascii_digit c then numeral (number c cs) else word_or_single c cs (any_word (c ∷ cs)))
+
+unfoldable pub unopened : ℕ → Text → Look
+unopened c cs =
+    if c == 47 then slash cs
+    else (if c == 39 then known lifetime_piece (any_word cs)
+    else (if c == 92 then backslash cs else plain c cs))
+
+abbrev pub other : Text → Look
+other [] = Err UnknownToken
+other (c ∷ cs) = unopened c cs
+
+abbrev pub opened_or_other : Text → Option Opening → Look
+opened_or_other cs None = other cs
+opened_or_other cs (Some x) = literal x.0 (closed x.1 x.2)
+
+unfoldable pub look : Text → Look
+look cs = opened_or_other cs (opening cs)
 
 -- a piece, its characters, and the text after it
 pub record Found : Type 0 where
@@ -19,94 +286,30 @@ pub record Found : Type 0 where
 abbrev pub found : Piece → Text → Text → Found
 found p w rest = record { piece = p; spelled = w; rest = rest }
 
--- ---- words
+abbrev pub found_in : Text → Look → Result Found ErrorKind
+found_in cs (Ok x) = Ok (found x.0 (upto cs x.1) x.1)
+found_in cs (Err e) = Err e
 
--- the characters of a word at the front, and what follows them
-unfoldable pub word_front : Text → Option (Text × Text)
-word_front [] = None
-word_front (c ∷ cs) = if is_start c then Some (c ∷ run is_continue cs, after_run is_continue cs) else None
-
--- what follows `r#`
-abbrev pub raw_mark : Text → Option Text
-raw_mark [] = None
-raw_mark (a ∷ []) = None
-raw_mark (a ∷ b ∷ cs) = if a == 114 && b == 35 then Some cs else None
-
-abbrev pub with_raw_mark : Text × Text → Text × Text
-with_raw_mark x = (114 ∷ 35 ∷ x.0, x.1)
-
-abbrev pub map_with_raw_mark : Option (Text × Text) → Option (Text × Text)
-map_with_raw_mark None = None
-map_with_raw_mark (Some x) = Some (with_raw_mark x)
-
-abbrev pub word_after : Option Text → Option (Text × Text)
-word_after None = None
-word_after (Some cs) = map_with_raw_mark (word_front cs)
-
-unfoldable pub raw_front : Text → Option (Text × Text)
-raw_front cs = word_after (raw_mark cs)
-
-abbrev pub as_word : Text × Text → Found
-as_word x = found (leaf (word (encode_utf8_all x.0))) x.0 x.1
-
-abbrev pub as_raw_word : Text × Text → Option Found
-as_raw_word x = if has_raw_form (encode_utf8_all x.0) then Some (as_word x) else None
-
--- ---- what is one character long
-
-unfoldable pub single : ℕ → Text → Option Piece
-single c rest =
-    if is_blank c then Some blank
-    else (if c == 40 then Some (opening Parenthesis)
-    else (if c == 41 then Some (closing Parenthesis)
-    else (if c == 91 then Some (opening Bracket)
-    else (if c == 93 then Some (closing Bracket)
-    else (if c == 123 then Some (opening Brace)
-    else (if c == 125 then Some (closing Brace)
-    else (if begins_comment c rest then None
-    else (if is_mark c then Some (leaf (mark c (spacing rest))) else None))))))))
-
-abbrev pub as_single : ℕ → Text → Option Piece → Option Found
-as_single c cs None = None
-as_single c cs (Some p) = Some (found p (c ∷ []) cs)
-
--- ---- the longest piece at the front, where one may begin there
-
-abbrev pub front_single : Text → Option Found
-front_single [] = None
-front_single (c ∷ cs) = as_single c cs (single c cs)
-
-abbrev pub plain_or_single : Text → Option (Text × Text) → Option Found
-plain_or_single cs None = front_single cs
-plain_or_single cs (Some x) = Some (as_word x)
-
-abbrev pub raw_or_other : Text → Option (Text × Text) → Option Found
-raw_or_other cs None = plain_or_single cs (word_front cs)
-raw_or_other cs (Some x) = as_raw_word x
-
-unfoldable pub front : Text → Option Found
-front cs = raw_or_other cs (raw_front cs)
+unfoldable pub front : Text → Result Found ErrorKind
+front cs = found_in cs (look cs)
 
 -- ---- what the functions that look for pieces answer
 
-abbrev pub leaf_view : code.Leaf → Leaf
-leaf_view (leaves.Word w) = word w.now
-leaf_view (leaves.Mark c j) = mark c j
+-- `rest` is an end of the text
+pub record Past (text rest : Bytes) : Type 0 where
+  pub front : Text
+  pub split : text ≡ encode_utf8_all front ++ rest
+  pub whole : chars text ≡ front ++ chars rest
 
-abbrev pub view : code_piece.Piece → Piece
-view pieces.Blank = blank
-view (pieces.Leaf l) = leaf (leaf_view l)
-view (pieces.Open d) = opening d
-view (pieces.Close d) = closing d
+-- what follows was found, and is an end of the text
+abbrev pub Finds : Option Text → Bytes → Option (Bor Bytes) → Type 0
+Finds o text r = MatchOption r (o ≡ None) (λ rest. (o ≡ Some (chars rest.now)) × Past text rest.now)
 
--- the front of the text before `rest` is what was found
-abbrev pub FindsFront : Option (Text × Text) → Bytes → Option (Bor Bytes) → Type 0
-FindsFront o text r =
-    MatchOption r (o ≡ None) (λ rest. (w : Text) × (o ≡ Some (w, chars rest.now)) × (text ≡ encode_utf8_all w ++ rest.now))
+abbrev pub FindsBy : {A : Type 0} → Option (A × Text) → Bytes → Option (A × Bor Bytes) → Type 0
+FindsBy o text r = MatchOption r (o ≡ None) (λ x. (o ≡ Some (x.0, chars x.1.now)) × Past text x.1.now)
 
-abbrev pub Finds : Option Found → Bytes → Option (code_piece.Piece × Bor Bytes) → Type 0
-Finds o text r =
-    MatchOption r (o ≡ None) (λ x. (w : Text) × (o ≡ Some (found (view x.0) w (chars x.1.now))) × (text ≡ encode_utf8_all w ++ x.1.now))
+abbrev pub FindsOpening : Option Opening → Bytes → Option (LitKind × Closing × Bor Bytes) → Type 0
+FindsOpening o text r = MatchOption r (o ≡ None) (λ x. (o ≡ Some (x.0, x.1, chars x.2.now)) × Past text x.2.now)
 
-abbrev pub Views : Option Piece → Option code_piece.Piece → Type 0
-Views o r = MatchOption r (o ≡ None) (λ p. o ≡ Some (view p))
+abbrev pub Tells : {A : Type 0} → Result (A × Text) ErrorKind → Bytes → Result (A × Bor Bytes) ErrorKind → Type 0
+Tells o text r = MatchResult r (λ x. (o ≡ Ok (x.0, chars x.1.now)) × Past text x.1.now) (λ e. o ≡ Err e)

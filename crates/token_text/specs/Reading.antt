@@ -1,21 +1,25 @@
 -- What a text is read as, piece by piece, with the groups that are still open.
-use Rattle.std.specs.Prelude.{◌≡◌, ◌⊎◌, ℕ, zero, suc, ◌+◌, ◌-◌, Bool, List, [], ◌∷◌, ◌++◌, map, length, reverse, chars, if◌then◌else◌, Option, Some, None, Result, Ok, Err, MatchResult}
+use Rattle.std.specs.Prelude.{◌≡◌, ◌⊎◌, ℕ, zero, suc, ◌+◌, ◌-◌, Bool, List, [], ◌∷◌, ◌++◌, map, length, reverse, chars, encode_utf8_all, if◌then◌else◌, Result, Ok, Err, MatchResult}
 use Rattle.std.specs.Char.{len_utf8}
 use denote.Enum.Bare.{sameb}
 use Rattle.token_core.specs.contracts.tree.Delimiter.{the_type}
 use Rattle.token_core.specs.declared.tree.Delimiter.{Delimiter}
 use Rattle.token_core.specs.declared.tree.TokenTree.{TokenTree}
 use Rattle.token_core.specs.declared.span.Span.{Span}
-use Rattle.token_core.specs.declared.error.ErrorKind.TheVariants.{UnclosedDelimiter, UnexpectedClosingDelimiter, UnknownToken}
+use Rattle.token_core.specs.declared.error.ErrorKind.{ErrorKind}
+use Rattle.token_core.specs.declared.error.ErrorKind.TheVariants.{UnclosedDelimiter, UnexpectedClosingDelimiter}
 use Rattle.token_core.specs.Refusal.{Refusal, named, out_of_memory}
 use Rattle.token_core.specs.Spans.{span}
 use Rattle.token_core.specs.Toks.{Bytes}
 use Rattle.token_core.specs.Trees.{trees}
 use Rattle.token_text.specs.declared.reader.Open as code_open
 use Rattle.token_text.specs.declared.reader.Reader as code
+use Rattle.token_text.specs.declared.piece.Leaf as leaves
+use Rattle.token_text.specs.declared.piece.Piece.{Piece}
+use Rattle.token_text.specs.declared.piece.Piece.TheVariants.{Leaf, Open, Close}
 use Rattle.token_text.specs.Characters.{Text, size}
 use Rattle.token_text.specs.Front.{Found, front}
-use Rattle.token_text.specs.Pieces.{Piece, blank, leaf, opening, closing, tree_of, group_tree}
+use Rattle.token_text.specs.Pieces.{trees_of, group_tree}
 
 -- a group whose closing bracket is still to come: its bracket, where that stands, and the trees before it
 pub record Frame : Type 0 where
@@ -47,12 +51,23 @@ abbrev pub closed : Delimiter → Span → List Frame → List TokenTree → Res
 closed d s [] ts = Err (unexpected s)
 closed d s (f ∷ fs) ts = if same f.delimiter d then Ok (state fs (f.before ++ group_tree d f.span s ts ∷ [])) else Err (unexpected s)
 
--- after a piece with its place
-abbrev pub act : Span → Piece → State → Result State Refusal
-act s blank x = Ok x
-act s (leaf l) x = Ok (state x.open_groups (x.so_far ++ tree_of l s ∷ []))
-act s (opening d) x = Ok (state (frame d s x.so_far ∷ x.open_groups) [])
-act s (closing d) x = closed d s x.open_groups x.so_far
+abbrev pub closed_by : Delimiter → Span → State → Result State Refusal
+closed_by d s x = closed d s x.open_groups x.so_far
+
+abbrev pub opened : Delimiter → Span → State → State
+opened d s x = state (frame d s x.so_far ∷ x.open_groups) []
+
+abbrev pub with_tree : TokenTree → State → State
+with_tree t x = state x.open_groups (x.so_far ++ t ∷ [])
+
+abbrev pub leaf_piece : leaves.Leaf → Piece
+leaf_piece t = Leaf t
+
+-- after a piece with its place and its bytes
+abbrev pub act : Span → Bytes → Piece → State → Result State Refusal
+act s b (Leaf t) x = Ok (state x.open_groups (x.so_far ++ trees_of t s b))
+act s b (Open d) x = Ok (opened d s x)
+act s b (Close d) x = closed_by d s x
 
 -- at the end of the text
 abbrev pub finished : List Frame → List TokenTree → Result (List TokenTree) Refusal
@@ -67,12 +82,13 @@ abbrev pub with_more : ℕ → Result State Refusal → Result (State × ℕ) Re
 with_more n (Ok x) = Ok (x, n)
 with_more n (Err e) = Err e
 
-abbrev pub unknown : ℕ → ℕ → Refusal
-unknown at c = named UnknownToken (span at (at + len_utf8 c))
+-- at the first character of what is no piece
+abbrev pub faulty : ErrorKind → ℕ → ℕ → Refusal
+faulty k at c = named k (span at (at + len_utf8 c))
 
-abbrev pub turn : ℕ → ℕ → State → Option Found → Result (State × ℕ) Refusal
-turn at c x None = Err (unknown at c)
-turn at c x (Some f) = with_more (length f.spelled - 1) (act (span at (at + size f.spelled)) f.piece x)
+abbrev pub turn : ℕ → ℕ → State → Result Found ErrorKind → Result (State × ℕ) Refusal
+turn at c x (Err k) = Err (faulty k at c)
+turn at c x (Ok f) = with_more (length f.spelled - 1) (act (span at (at + size f.spelled)) (encode_utf8_all f.spelled) f.piece x)
 
 -- The trees of a text that begins at an offset, or the refusal. The first number counts the characters that are left of a piece.
 unfoldable pub reads : ℕ → ℕ → State → Text → Result (List TokenTree) Refusal

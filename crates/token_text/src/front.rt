@@ -1,13 +1,13 @@
 //! The piece at the front of a text.
 
-ghost use Rattle.std.specs.Prelude.{◌≡◌, chars};
+ghost use Rattle.std.specs.Prelude.{◌≡◌, ◌∷◌, chars};
 ghost use Rattle.token_text.specs.Characters as c;
 ghost use Rattle.token_text.specs.Front as spec;
 ghost use Rattle.token_text.specs.Pieces as pieces;
 
-use crate::piece::{Leaf, Piece};
-use crate::word;
-use token_core::{Delimiter, Spacing};
+use crate::piece::{Closing, Leaf, Piece};
+use crate::{comment, literal, number, word};
+use token_core::{Delimiter, ErrorKind, LitKind, Spacing};
 
 const BLANKS: [char; 4] = [' ', '\t', '\n', '\r'];
 
@@ -29,59 +29,156 @@ fn is_mark(ch: char) -> bool
 }
 
 /// Whether a mark belongs with what follows it.
+#[tactic(auto, unfolding(crate::specs::Pieces::spacing))]
 fn spacing(rest: &str) -> Spacing
     ensures { result ≡ pieces.spacing (chars rest.now) }
 {
     match word::split_first(rest) {
-        Some((next, _)) if is_mark(next) => Spacing::Joint,
-        _ => Spacing::Alone,
+        Some((next, after)) if is_mark(next) && !comment::begins(next, after) => Spacing::Joint,
+        Some(_) => Spacing::Alone,
+        None => Spacing::Alone,
     }
 }
 
-fn begins_comment(ch: char, rest: &str) -> bool
-    ensures { result ≡ pieces.begins_comment ch (chars rest.now) }
+fn mark(ch: char, rest: &str) -> Piece
+    ensures { result ≡ spec.mark_piece ch (chars rest.now) }
+{
+    Piece::Leaf(Leaf::Mark(ch, spacing(rest)))
+}
+
+/// A comment, or the mark `/`, before `rest`.
+#[tactic(auto, using(crate::proofs::Pasts::pasts), unfolding(crate::specs::Front::slash))]
+fn slash(rest: &str) -> Result<(Piece, &str), ErrorKind>
+    ensures { spec.Tells (spec.slash (chars rest.now)) rest.now result }
 {
     match word::split_first(rest) {
-        Some((next, _)) => ch == '/' && (next == '/' || next == '*'),
-        None => false,
+        Some(('/', after)) => comment::line(after),
+        Some(('*', after)) => comment::block(after),
+        Some(_) => Ok((mark('/', rest), rest)),
+        None => Ok((mark('/', rest), rest)),
+    }
+}
+
+/// The bracket of an invisible group, of which this follows the backslash.
+#[tactic(auto, using(crate::proofs::Pasts::pasts), unfolding(crate::specs::Front::backslash))]
+fn backslash(rest: &str) -> Result<(Piece, &str), ErrorKind>
+    ensures { spec.Tells (spec.backslash (chars rest.now)) rest.now result }
+{
+    match word::split_first(rest) {
+        Some(('(', after)) => Ok((Piece::Open(Delimiter::None), after)),
+        Some((')', after)) => Ok((Piece::Close(Delimiter::None), after)),
+        Some(_) => Err(ErrorKind::UnknownToken),
+        None => Err(ErrorKind::UnknownToken),
     }
 }
 
 /// The piece of one character that this one is before `rest`.
 #[tactic(auto, unfolding(crate::specs::Front::single))]
-fn single(ch: char, rest: &str) -> Option<Piece<'_>>
-    ensures { spec.Views (spec.single ch (chars rest.now)) result }
+fn single(ch: char, rest: &str) -> Result<Piece, ErrorKind>
+    ensures { result ≡ spec.single ch (chars rest.now) }
 {
     match ch {
-        _ if is_blank(ch) => Some(Piece::Blank),
-        '(' => Some(Piece::Open(Delimiter::Parenthesis)),
-        ')' => Some(Piece::Close(Delimiter::Parenthesis)),
-        '[' => Some(Piece::Open(Delimiter::Bracket)),
-        ']' => Some(Piece::Close(Delimiter::Bracket)),
-        '{' => Some(Piece::Open(Delimiter::Brace)),
-        '}' => Some(Piece::Close(Delimiter::Brace)),
-        _ if begins_comment(ch, rest) => None,
-        _ if is_mark(ch) => Some(Piece::Leaf(Leaf::Mark(ch, spacing(rest)))),
-        _ => None,
+        _ if is_blank(ch) => Ok(Piece::Leaf(Leaf::Blank)),
+        '(' => Ok(Piece::Open(Delimiter::Parenthesis)),
+        ')' => Ok(Piece::Close(Delimiter::Parenthesis)),
+        '[' => Ok(Piece::Open(Delimiter::Bracket)),
+        ']' => Ok(Piece::Close(Delimiter::Bracket)),
+        '{' => Ok(Piece::Open(Delimiter::Brace)),
+        '}' => Ok(Piece::Close(Delimiter::Brace)),
+        _ if is_mark(ch) => Ok(mark(ch, rest)),
+        _ => Err(ErrorKind::UnknownToken),
     }
 }
 
-/// The longest piece at the front, and what follows it.
-#[tactic(auto, unfolding(crate::specs::Front::front))]
-pub fn front(text: &str) -> Option<(Piece<'_>, &str)>
-    ensures { spec.Finds (spec.front (chars text.now)) text.now result }
+/// A word, or the piece of one character; `text` is the character and `rest`.
+#[tactic(auto, using(crate::proofs::Pasts::pasts))]
+fn word_or_single<'a>(text: &'a str, ch: char, rest: &'a str) -> Result<(Piece, &'a str), ErrorKind>
+    requires { spec.Past text.now rest.now }
+    ensures { spec.Tells (spec.word_or_single ch (chars rest.now) (spec.any_word (chars text.now))) text.now result }
 {
-    if let Some(rest) = word::after_raw_word(text) {
-        let word = word::up_to(text, rest);
-        return if word::has_raw_form(word) {
-            Some((Piece::Leaf(Leaf::Word(word)), rest))
-        } else {
-            None
-        };
+    match word::after_any_word(text) {
+        Some(after) => Ok((Piece::Leaf(Leaf::Word), after)),
+        None => Ok((single(ch, rest)?, rest)),
     }
-    if let Some(rest) = word::after_word(text) {
-        return Some((Piece::Leaf(Leaf::Word(word::up_to(text, rest))), rest));
+}
+
+/// A lifetime, of which this follows the quote.
+#[tactic(auto, using(crate::proofs::Pasts::pasts))]
+fn lifetime(rest: &str) -> Result<(Piece, &str), ErrorKind>
+    ensures { spec.Tells (spec.known spec.lifetime_piece (spec.any_word (chars rest.now))) rest.now result }
+{
+    match word::after_any_word(rest) {
+        Some(after) => Ok((Piece::Leaf(Leaf::Lifetime), after)),
+        None => Err(ErrorKind::UnknownToken),
     }
-    let (first, rest) = word::split_first(text)?;
-    Some((single(first, rest)?, rest))
+}
+
+#[tactic(auto, using(crate::proofs::Pasts::pasts))]
+fn number(first: char, rest: &str) -> Result<(Piece, &str), ErrorKind>
+    ensures { spec.Tells (spec.numeral (spec.number first (chars rest.now))) rest.now result }
+{
+    let (kind, end) = number::number(first, rest)?;
+    Ok((literal_piece(kind), word::after_suffix(end)))
+}
+
+fn literal_piece(kind: LitKind) -> Piece
+    ensures { result ≡ spec.literal_piece kind }
+{
+    Piece::Leaf(Leaf::Literal(kind))
+}
+
+/// A number, a word or the piece of one character; `text` is the character and `rest`.
+#[tactic(auto, using(crate::proofs::Pasts::pasts), unfolding(crate::specs::Front::plain))]
+fn plain<'a>(text: &'a str, first: char, rest: &'a str) -> Result<(Piece, &'a str), ErrorKind>
+    requires { (chars text.now ≡ first ∷ chars rest.now) × spec.Past text.now rest.now }
+    ensures { spec.Tells (spec.plain first (chars rest.now)) text.now result }
+{
+    // `&` in place of `&&`, for one value to prove by
+    if (first == 'b') & word::begins(rest, '\'') {
+        return Err(ErrorKind::UnknownToken);
+    }
+    if first.is_ascii_digit() {
+        number(first, rest)
+    } else {
+        word_or_single(text, first, rest)
+    }
+}
+
+/// What is no literal with a beginning and an end; `text` is the character and `rest`.
+#[tactic(auto, using(crate::proofs::Pasts::pasts), unfolding(crate::specs::Front::unopened))]
+fn unopened<'a>(text: &'a str, first: char, rest: &'a str) -> Result<(Piece, &'a str), ErrorKind>
+    requires { (chars text.now ≡ first ∷ chars rest.now) × spec.Past text.now rest.now }
+    ensures { spec.Tells (spec.unopened first (chars rest.now)) text.now result }
+{
+    match first {
+        '/' => slash(rest),
+        '\'' => lifetime(rest),
+        '\\' => backslash(rest),
+        _ => plain(text, first, rest),
+    }
+}
+
+/// A literal of this kind, which ends so, of which this follows the beginning.
+#[tactic(auto, using(crate::proofs::Pasts::pasts))]
+fn enclosed(kind: LitKind, closing: Closing, body: &str) -> Result<(Piece, &str), ErrorKind>
+    ensures { spec.Tells (spec.literal kind (spec.closed closing (chars body.now))) body.now result }
+{
+    match literal::after_closing(body, closing) {
+        Some(end) => Ok((literal_piece(kind), word::after_suffix(end))),
+        None => Err(ErrorKind::UnterminatedToken),
+    }
+}
+
+/// The longest piece at the front and what follows it, or why none begins there.
+#[tactic(auto, using(crate::proofs::Pasts::pasts), unfolding(crate::specs::Front::look))]
+pub fn front(text: &str) -> Result<(Piece, &str), ErrorKind>
+    ensures { spec.Tells (spec.look (chars text.now)) text.now result }
+{
+    if let Some((kind, closing, body)) = literal::opening(text) {
+        return enclosed(kind, closing, body);
+    }
+    match word::split_first(text) {
+        Some((first, rest)) => unopened(text, first, rest),
+        None => Err(ErrorKind::UnknownToken),
+    }
 }

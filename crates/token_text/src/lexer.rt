@@ -11,20 +11,33 @@ use crate::front::front;
 use crate::reader::Reader;
 use crate::word;
 use std::alloc::Global;
-use token_core::{Error, ErrorKind, Span, TokenStream};
+use token_core::{Error, Span, TokenStream};
 
 /// Reads the tokens of a text, each with the bytes from which to which it stands.
 ///
 /// From its start the text is cut into pieces, each the longest that may begin there:
 ///
-/// - a blank: a space, a tab, a line feed or a carriage return;
+/// - a blank: a space, a tab, a line feed or a carriage return, or a comment: `//` up to the line feed, or
+///   `/*` to `*/`, in which others may stand;
 /// - a word: `_` or a character that may start an identifier, and then those that may continue one;
 ///   with `r#` before it a raw word, which `_`, `crate`, `self`, `super` and `Self` have not;
-/// - a mark: one of ``! # $ % & * + , - . / : ; < = > ? @ ^ ~ |``, joint where another mark follows;
-/// - a bracket of `( )`, `[ ]` or `{ }`, which come in pairs, one inside another.
+/// - a lifetime: `'` and a word, raw or not, which are a joint mark and an identifier;
+/// - a string: `"` to the next `"` that isn't escaped by `\`; a raw one: `r`, up to 255 `#` and `"` to `"`
+///   and as many `#`; with `b` or `c` before either one of bytes or of C;
+/// - a character: `'`, `\` and up to the next `'` after the escaped character, or one other character and
+///   `'`; with `b` before it a byte;
+/// - a number: `0x`, `0o` or `0b` and digits of the base and `_`; or decimal digits and `_`, then a
+///   fraction, where neither `.`, `_` nor a letter follows its point, then an exponent;
+/// - an identifier that begins with a letter, directly after a literal, is its suffix and belongs to it;
+/// - a mark: one of ``! # $ % & * + , - . / : ; < = > ? @ ^ ~ |``, joint where another mark follows that
+///   begins no comment;
+/// - a bracket of `( )`, `[ ]`, `{ }`, or `\( \)` for an invisible group, which come in pairs, one inside
+///   another.
 ///
-/// It refuses a text with an unknown start of a token, which may also be `//` or `/*`, with a closing
-/// bracket that doesn't belong to the innermost open one, and with an open bracket at its end.
+/// It refuses a text with an unknown start of a token, with a literal or a comment that doesn't end, with a
+/// comment of documentation (`///`, `//!`, `/**`, `/*!`), with a number that goes on as none does (`0b2`,
+/// `1e`), with a closing bracket that doesn't belong to the innermost open one, and with an open bracket at
+/// its end.
 pub fn lex(alloc: Global, text: &str) -> Result<TokenStream, Error>
     // What is read the text spells.
     ensures read { IfOk result (λ s. Spells text.now (trees s)) }
@@ -47,12 +60,17 @@ fn read(alloc: Global, text: &str) -> Result<TokenStream, Error>
     let mut rest = text;
     while let Some((first, _)) = word::split_first(rest) {
         let at = text.len() - rest.len();
-        let Some((piece, after)) = front(rest) else {
-            let span = Span::new(at, at + first.len_utf8());
-            return Err(Error::named(alloc, ErrorKind::UnknownToken, span));
-        };
-        reader.take(piece, Span::new(at, text.len() - after.len()))?;
-        rest = after;
+        match front(rest) {
+            Ok((piece, after)) => {
+                let span = Span::new(at, text.len() - after.len());
+                reader.take(piece, word::up_to(rest, after), span)?;
+                rest = after;
+            }
+            Err(kind) => {
+                let span = Span::new(at, at + first.len_utf8());
+                return Err(Error::named(alloc, kind, span));
+            }
+        }
     }
     reader.finish()
 }

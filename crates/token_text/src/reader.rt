@@ -1,8 +1,7 @@
 //! What is read so far, with the groups that are still open.
 
-ghost use Rattle.std.specs.Prelude.{◌≡◌, IfOk, MatchResult, Ok};
+ghost use Rattle.std.specs.Prelude.{◌≡◌, ◌<◌, ◌++◌, IfOk, MatchResult, Ok};
 ghost use Rattle.token_core.specs.Trees as trees;
-ghost use Rattle.token_text.specs.Front.{leaf_view, view};
 ghost use Rattle.token_text.specs.Pieces as pieces;
 ghost use Rattle.token_text.specs.Reading as spec;
 
@@ -10,7 +9,8 @@ use crate::piece::{Leaf, Piece};
 use std::alloc::{AllocError, Global};
 use std::mem;
 use token_core::{
-    DelimSpan, Delimiter, Error, ErrorKind, Group, Ident, Punct, Span, TokenStream, TokenTree,
+    DelimSpan, Delimiter, Error, ErrorKind, Group, Ident, Literal, Punct, Spacing, Span,
+    TokenStream, TokenTree,
 };
 
 /// A group whose closing bracket is still to come.
@@ -29,12 +29,13 @@ pub struct Reader {
     trees: TokenStream,
 }
 
-fn tree_of(alloc: Global, leaf: Leaf<'_>, span: Span) -> Result<TokenTree, AllocError>
-    ensures { IfOk result (λ t. t ≡ pieces.tree_of (leaf_view leaf.entry) span) }
+/// The identifier of a lifetime, of its text.
+fn past_quote(text: &str) -> &str
+    ensures { result.now ≡ pieces.past_quote text.now }
 {
-    match leaf {
-        Leaf::Word(word) => Ok(TokenTree::Ident(Ident::new(alloc, word, span)?)),
-        Leaf::Mark(ch, spacing) => Ok(TokenTree::Punct(Punct::new(ch, spacing, span))),
+    match text.strip_prefix('\'') {
+        Some(word) => word,
+        None => text,
     }
 }
 
@@ -57,19 +58,54 @@ impl Reader {
     }
 
     /// Takes the next piece.
-    pub fn take(&mut self, piece: Piece<'_>, span: Span) -> Result<(), Error>
-        ensures { spec.Gives (λ _. spec.state_of self.new) result (spec.act span (view piece.entry) (spec.state_of self.old)) }
+    pub fn take(&mut self, piece: Piece, text: &str, span: Span) -> Result<(), Error>
+        requires { span.lo < span.hi }
+        ensures { spec.Gives (λ _. spec.state_of self.new) result (spec.act span text.now piece (spec.state_of self.old)) }
     {
         match piece {
-            Piece::Blank => Ok(()),
-            Piece::Leaf(leaf) => Ok(self.trees.push(tree_of(self.alloc, leaf, span)?)?),
+            Piece::Leaf(leaf) => Ok(self.push_leaf(leaf, text, span)?),
             Piece::Open(delimiter) => Ok(self.open_group(delimiter, span)?),
             Piece::Close(delimiter) => self.close_group(delimiter, span),
         }
     }
 
+    fn push_leaf(&mut self, leaf: Leaf, text: &str, span: Span) -> Result<(), AllocError>
+        requires { span.lo < span.hi }
+        ensures { IfOk result (λ _. spec.act span text.now (spec.leaf_piece leaf) (spec.state_of self.old) ≡ Ok (spec.state_of self.new)) }
+    {
+        match leaf {
+            Leaf::Blank => Ok(()),
+            Leaf::Word => self.push_word(text, span),
+            Leaf::Lifetime => {
+                let word = past_quote(text);
+                let quote = Span::new(span.lo, span.lo + 1);
+                self.push_mark('\'', Spacing::Joint, quote)?;
+                self.push_word(word, Span::new(quote.hi, span.hi))
+            }
+            Leaf::Literal(kind) => {
+                let literal = Literal::new(self.alloc, kind, text, span)?;
+                self.trees.push(TokenTree::Literal(literal))
+            }
+            Leaf::Mark(ch, spacing) => self.push_mark(ch, spacing, span),
+        }
+    }
+
+    fn push_word(&mut self, text: &str, span: Span) -> Result<(), AllocError>
+        ensures { IfOk result (λ _. spec.state_of self.new ≡ spec.with_tree (pieces.word_tree text.now span) (spec.state_of self.old)) }
+    {
+        self.trees
+            .push(TokenTree::Ident(Ident::new(self.alloc, text, span)?))
+    }
+
+    fn push_mark(&mut self, ch: char, spacing: Spacing, span: Span) -> Result<(), AllocError>
+        ensures { IfOk result (λ _. spec.state_of self.new ≡ spec.with_tree (pieces.mark_tree ch spacing span) (spec.state_of self.old)) }
+    {
+        self.trees
+            .push(TokenTree::Punct(Punct::new(ch, spacing, span)))
+    }
+
     fn open_group(&mut self, delimiter: Delimiter, span: Span) -> Result<(), AllocError>
-        ensures { IfOk result (λ _. spec.act span (pieces.opening delimiter) (spec.state_of self.old) ≡ Ok (spec.state_of self.new)) }
+        ensures { IfOk result (λ _. spec.opened delimiter span (spec.state_of self.old) ≡ spec.state_of self.new) }
     {
         let before = mem::replace(&mut self.trees, TokenStream::new(self.alloc));
         self.open_groups.push(Open {
@@ -81,7 +117,7 @@ impl Reader {
     }
 
     fn close_group(&mut self, delimiter: Delimiter, span: Span) -> Result<(), Error>
-        ensures { spec.Gives (λ _. spec.state_of self.new) result (spec.act span (pieces.closing delimiter) (spec.state_of self.old)) }
+        ensures { spec.Gives (λ _. spec.state_of self.new) result (spec.closed_by delimiter span (spec.state_of self.old)) }
     {
         match self.open_groups.pop() {
             Some(open) if is_same(open.delimiter, delimiter) => {

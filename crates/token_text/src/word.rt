@@ -1,17 +1,20 @@
-//! Words at the front of a text, and raw ones.
+//! Runs of characters and words at the front of a text, and raw ones.
 
-ghost use Rattle.std.specs.Prelude.{◌≡◌, ◌∷◌, [], ◌++◌, ◌<◌, ℕ, List, length, encode_utf8, encode_utf8_all, chars, MatchOption};
+ghost use Rattle.std.specs.Prelude.{◌≡◌, ◌∷◌, [], ◌++◌, ◌<◌, ℕ, List, length, encode_utf8, chars, MatchOption};
 ghost use Rattle.token_text.specs.Characters as c;
 ghost use Rattle.token_text.specs.Front as spec;
 ghost use Rattle.token_text.specs.Pieces as pieces;
+
+use crate::class::Class;
 
 /// The words that have no raw form, as they would be written.
 const NOT_RAW: [&str; 5] = ["r#_", "r#crate", "r#self", "r#super", "r#Self"];
 
 /// The first character, and the text after it.
+#[tactic(auto, using(crate::proofs::Pasts::pasts))]
 pub fn split_first(text: &str) -> Option<(char, &str)>
     ensures { MatchOption result ((chars text.now ≡ []) × (text.now ≡ []))
-        (λ (c, rest). (chars text.now ≡ c ∷ chars rest.now) × (text.now ≡ encode_utf8 c ++ rest.now) × (length rest.now < length text.now)) }
+        (λ (c, rest). (chars text.now ≡ c ∷ chars rest.now) × (text.now ≡ encode_utf8 c ++ rest.now) × (length rest.now < length text.now) × spec.Past text.now rest.now) }
 {
     let mut chars = text.chars();
     match chars.next() {
@@ -21,35 +24,42 @@ pub fn split_first(text: &str) -> Option<(char, &str)>
 }
 
 /// The text up to where its end, `rest`, begins.
+#[tactic(auto, using(crate::proofs::Pasts::pasts))]
 pub fn up_to<'a>(text: &'a str, rest: &str) -> &'a str
-    requires { (front : List ℕ) × (text.now ≡ front ++ rest.now) }
+    requires { spec.Past text.now rest.now }
     ensures { text.now ≡ result.now ++ rest.now }
 {
     &text[..text.len() - rest.len()]
 }
 
-#[tactic(auto, unfolding(crate::specs::Characters::is_start))]
-fn is_start(ch: char) -> bool
-    ensures { result ≡ c.is_start ch }
+/// What follows this character.
+#[tactic(auto, using(crate::proofs::Pasts::pasts))]
+pub fn after_char(text: &str, ch: char) -> Option<&str>
+    ensures { spec.Finds (spec.after_char ch (chars text.now)) text.now result }
 {
-    unicode_ident::is_xid_start(ch) || ch == '_'
+    let (first, rest) = split_first(text)?;
+    if first == ch { Some(rest) } else { None }
 }
 
-#[tactic(auto, unfolding(crate::specs::Characters::is_continue))]
-fn is_continue(ch: char) -> bool
-    ensures { result ≡ c.is_continue ch }
+/// Whether this character stands here.
+pub fn begins(text: &str, ch: char) -> bool
+    ensures { result ≡ c.begins_with (pieces.is_char ch) (chars text.now) }
 {
-    unicode_ident::is_xid_continue(ch)
+    match split_first(text) {
+        Some((first, _)) => first == ch,
+        None => false,
+    }
 }
 
-/// What follows the characters with which a word goes on.
-fn after_run(text: &str) -> &str
-    ensures rest { chars result.now ≡ c.after_run c.is_continue (chars text.now) }
-    ensures run { text.now ≡ encode_utf8_all (c.run c.is_continue (chars text.now)) ++ result.now }
+/// What follows the characters of a class.
+#[tactic(auto, using(crate::proofs::Pasts::pasts))]
+pub fn after_run(text: &str, class: Class) -> &str
+    ensures rest { chars result.now ≡ c.after_run class (chars text.now) }
+    ensures past { spec.Past text.now result.now }
 {
     let mut rest = text;
     while let Some((ch, after)) = split_first(rest) {
-        if !is_continue(ch) {
+        if !class.passes(ch) {
             return rest;
         }
         rest = after;
@@ -57,23 +67,37 @@ fn after_run(text: &str) -> &str
     rest
 }
 
+#[tactic(auto, unfolding(crate::specs::Characters::is_letter))]
+fn is_letter(ch: char) -> bool
+    ensures { result ≡ c.is_letter ch }
+{
+    unicode_ident::is_xid_start(ch)
+}
+
+#[tactic(auto, unfolding(crate::specs::Characters::is_start))]
+pub fn is_start(ch: char) -> bool
+    ensures { result ≡ c.is_start ch }
+{
+    unicode_ident::is_xid_start(ch) || ch == '_'
+}
+
 /// What follows the word at the front.
-#[tactic(auto, unfolding(crate::specs::Front::word_front))]
-pub fn after_word(text: &str) -> Option<&str>
-    ensures { spec.FindsFront (spec.word_front (chars text.now)) text.now result }
+#[tactic(auto, using(crate::proofs::Pasts::pasts), unfolding(crate::specs::Front::word))]
+fn after_word(text: &str) -> Option<&str>
+    ensures { spec.Finds (spec.word (chars text.now)) text.now result }
 {
     let (first, rest) = split_first(text)?;
     if is_start(first) {
-        Some(after_run(rest))
+        Some(after_run(rest, Class::Continue))
     } else {
         None
     }
 }
 
 /// What follows `r#`.
+#[tactic(auto, using(crate::proofs::Pasts::pasts))]
 fn after_raw_mark(text: &str) -> Option<&str>
-    ensures { MatchOption result (spec.raw_mark (chars text.now) ≡ None)
-        (λ rest. (spec.raw_mark (chars text.now) ≡ Some (chars rest.now)) × (text.now ≡ 114 ∷ 35 ∷ rest.now)) }
+    ensures { spec.Finds (spec.raw_mark (chars text.now)) text.now result }
 {
     let (r, text) = split_first(text)?;
     let (hash, text) = split_first(text)?;
@@ -85,16 +109,46 @@ fn after_raw_mark(text: &str) -> Option<&str>
 }
 
 /// What follows the raw word at the front, also of a word that has no raw form.
-#[tactic(auto, unfolding(crate::specs::Front::raw_front))]
-pub fn after_raw_word(text: &str) -> Option<&str>
-    ensures { spec.FindsFront (spec.raw_front (chars text.now)) text.now result }
+#[tactic(auto, using(crate::proofs::Pasts::pasts), unfolding(crate::specs::Front::raw_word))]
+fn after_raw_word(text: &str) -> Option<&str>
+    ensures { spec.Finds (spec.raw_word (chars text.now)) text.now result }
 {
     after_word(after_raw_mark(text)?)
 }
 
 #[tactic(auto, unfolding(crate::specs::Pieces::has_raw_form))]
-pub fn has_raw_form(word: &str) -> bool
+fn has_raw_form(word: &str) -> bool
     ensures { result ≡ pieces.has_raw_form word.now }
 {
     !NOT_RAW.contains(&word)
+}
+
+/// What follows the word at the front, raw or not.
+#[tactic(auto, using(crate::proofs::Pasts::pasts), unfolding(crate::specs::Front::any_word))]
+pub fn after_any_word(text: &str) -> Option<&str>
+    ensures { spec.Finds (spec.any_word (chars text.now)) text.now result }
+{
+    match after_raw_word(text) {
+        Some(rest) => {
+            if has_raw_form(up_to(text, rest)) {
+                Some(rest)
+            } else {
+                None
+            }
+        }
+        None => after_word(text),
+    }
+}
+
+/// What follows the suffix of a literal, where it has one.
+#[tactic(auto, using(crate::proofs::Pasts::pasts), unfolding(crate::specs::Front::after_suffix))]
+pub fn after_suffix(text: &str) -> &str
+    ensures rest { chars result.now ≡ spec.after_suffix (chars text.now) }
+    ensures past { spec.Past text.now result.now }
+{
+    match split_first(text) {
+        Some((first, _)) if is_letter(first) => after_run(text, Class::Continue),
+        Some(_) => text,
+        None => text,
+    }
 }

@@ -1,53 +1,61 @@
-use Rattle.std.proofs.Common.{◌≡◌, ◌+◌, Err, ◌-◌, ◌≤◌, length, chars, rules, arith, ap, sym, ◌∙◌}
+use Rattle.std.proofs.Common.{◌≡◌, ◌<◌, ◌+◌, Err, ◌-◌, ◌≤◌, length, chars, rules, arith, ap, sym, ◌∙◌}
 use Rattle.std.proofs.lemmas.Result.{err_from_is_err_and}
 use Rattle.std.specs.Char.{len_utf8}
 use Rattle.token_core.specs.Spans.{span}
 use Rattle.token_core.specs.Refusal.{named}
-use Rattle.token_core.specs.declared.error.ErrorKind.TheVariants.{UnknownToken}
-use Rattle.token_text.specs.Front.{view}
 use Rattle.token_text.specs.Reading.{reads, lexed, state_of, finish}
-use Rattle.token_text.proofs.Steps.{reads_unknown, reads_end, ahead, loop_goes, loop_stops, fails_so, made_fails}
+use Rattle.token_text.proofs.Steps.{reads_faulty, reads_end, front_refused, look_ahead, look_goes, look_stops, fails_so, made_fails}
 use Rattle.token_text.proofs.lexer.read.Goals as goal
 
-pub returns-in_default-front : goal.returns-in_default-front
-returns-in_default-front c =
+pub take-requires : goal.take-requires
+take-requires c =
+    let text = c.args.text.now in
+    let f = c.in-Ok.ensures in
+    let i = c.loop-first.invariant in
+    let less = look_ahead text c.loop-first.rest.now c.in-Ok.after.now c.in-Ok.piece (state_of c.loop-first.reader) i.2 i.1 f.0 f.1 in
+    let there : length text - length c.loop-first.rest.now < length text - length c.in-Ok.after.now = omega (arith, less, i.1) in
+    rw c.new-span.ensures there
+
+pub returns-in_err-take-in-Ok : goal.returns-in_err-take-in-Ok
+returns-in_err-take-in-Ok c =
+    let p = err_from_is_err_and c.from_residual.result c.from_residual.ensures.1 in
+    let f = c.in-Ok.ensures in
+    let i = c.loop-first.invariant in
+    let stops = look_stops c.args.text.now c.loop-first.rest.now c.in-Ok.after.now c.in-Ok.piece (state_of c.loop-first.reader) i.2 i.1 f.0 f.1 in
+    rw (p.1, p.2) (fails_so _ _ (lexed c.args.text.now) c.in_err-take-in-Ok.ensures (stops c.new-span.result c.up_to.result.now _ c.up_to.ensures c.new-span.ensures))
+
+pub loop-first-smaller : goal.loop-first-smaller
+loop-first-smaller c =
+    let f = c.in-Ok.ensures in
+    let i = c.loop-first.invariant in
+    look_ahead c.args.text.now c.loop-first.rest.now c.in-Ok.after.now c.in-Ok.piece (state_of c.loop-first.reader) i.2 i.1 f.0 f.1
+
+pub loop-first-preserved : goal.loop-first-preserved
+loop-first-preserved c =
+    let text = c.args.text.now in
+    let rest = c.loop-first.rest.now in
+    let after = c.in-Ok.after.now in
+    let f = c.in-Ok.ensures in
+    let i = c.loop-first.invariant in
+    let x = state_of c.loop-first.reader in
+    let le : length after ≤ length text = omega (arith, i.1, look_ahead text rest after c.in-Ok.piece x i.2 i.1 f.0 f.1) in (
+      search rules,
+      le,
+      look_goes text rest after c.in-Ok.piece x i.2 i.1 f.0 f.1 c.new-span.result c.up_to.result.now (state_of c.take.new.self) c.up_to.ensures c.new-span.ensures c.in_ok-take-in-Ok.ensures,
+    )
+
+pub returns-in-Err : goal.returns-in-Err
+returns-in-Err c =
     let text = c.args.text.now in
     let at = length text - length c.loop-first.rest.now in
     let x = state_of c.loop-first.reader in
     let first = c.in-Some.ensures.0 in
-    let none = rw first at c.in_default-front.ensures in
-    let place : span at (at + len_utf8 c.in-Some.first) ≡ c.new-span.result = sym (c.new-span.ensures ∙ ap (λ n. span at (at + n)) c.len_utf8.ensures.value) in
+    let none = rw first at (front_refused (chars c.loop-first.rest.now) c.in-Err.kind c.in-Err.ensures) in
+    let place : span at (at + len_utf8 c.in-Some.first) ≡ c.new-span-in-Err.result =
+    sym (c.new-span-in-Err.ensures ∙ ap (λ n. span at (at + n)) c.len_utf8.ensures.value) in
     made_fails c.named.result _ (lexed text) c.named.ensures.stored
-    (c.loop-first.invariant.2 ∙ ap (reads 0 at x) first ∙ reads_unknown at c.in-Some.first x (chars c.in-Some.field-0-1.now) none
-    ∙ ap (λ s. Err (named UnknownToken s)) place)
-
-pub returns-in_err-take : goal.returns-in_err-take
-returns-in_err-take c =
-    let p = err_from_is_err_and c.from_residual.result c.from_residual.ensures.1 in
-    let f = c.in-Some-front.ensures in
-    let stops = loop_stops c.args.text.now c.loop-first.rest.now c.in-Some-front.after.now f.0 (view c.in-Some-front.piece) (state_of c.loop-first.reader)
-    c.loop-first.invariant.2 c.loop-first.invariant.1 f.1 f.2 in
-    rw (p.1, p.2) (fails_so _ _ (lexed c.args.text.now) c.in_err-take.ensures (stops c.new.result _ c.new.ensures))
-
-pub loop-first-smaller : goal.loop-first-smaller
-loop-first-smaller c =
-    let f = c.in-Some-front.ensures in
-    ahead c.args.text.now c.loop-first.rest.now c.in-Some-front.after.now f.0 (view c.in-Some-front.piece) (state_of c.loop-first.reader)
-    c.loop-first.invariant.2 c.loop-first.invariant.1 f.1 f.2
-
-pub loop-first-preserved : goal.loop-first-preserved
-loop-first-preserved c =
-    let f = c.in-Some-front.ensures in
-    let text = c.args.text.now in
-    let rest = c.loop-first.rest.now in
-    let after = c.in-Some-front.after.now in
-    let le : length after ≤ length text =
-    omega (arith, c.loop-first.invariant.1, ahead text rest after f.0 (view c.in-Some-front.piece) (state_of c.loop-first.reader) c.loop-first.invariant.2 c.loop-first.invariant.1 f.1 f.2) in (
-      search rules,
-      le,
-      loop_goes text rest after f.0 (view c.in-Some-front.piece) (state_of c.loop-first.reader)
-          c.loop-first.invariant.2 c.loop-first.invariant.1 f.1 f.2 c.new.result (state_of c.take.new.self) c.new.ensures c.in_ok-take.ensures,
-    )
+    (c.loop-first.invariant.2 ∙ ap (reads 0 at x) first ∙ reads_faulty c.in-Err.kind at c.in-Some.first x (chars c.in-Some.field-0-1.now) none
+    ∙ ap (λ s. Err (named c.in-Err.kind s)) place)
 
 pub returns : goal.returns
 returns c =
