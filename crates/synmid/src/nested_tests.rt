@@ -169,6 +169,19 @@ fn a_closure_is_called_at_each_property(rt: HostRuntime) -> Result<(), Fail> {
             "!",
             " unexpected token in nested attribute, expected ident 0-1 0-1",
         ),
+        (
+            Does::Values,
+            "5",
+            " unexpected literal in nested attribute, expected ident 0-1 0-1",
+        ),
+        (
+            Does::Values,
+            "::5",
+            " unexpected literal in nested attribute, expected ident 2-3 2-3",
+        ),
+        (Does::Values, "b::5", " expected identifier 3-4 3-4"),
+        (Does::Values, "min = -1, max = 200", "min max  ok"),
+        (Does::RefusesLate, "b = 1", "b  no 0-1 4-5"),
     ];
     for (does, text, want) in rows {
         match nested(rt.alloc(), does, text) {

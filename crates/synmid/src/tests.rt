@@ -131,7 +131,12 @@ fn says(rt: HostRuntime) -> Result<(), Fail> {
         ("", "a", 2, "error: unknown reader\n"),
         ("Macro", "m!(", 1, "error: unclosed delimiter\n"),
         ("Macro", "m!)", 1, "error: unexpected closing delimiter\n"),
-        ("Macro", "m!(\")", 1, "error: unterminated literal or comment\n"),
+        (
+            "Macro",
+            "m!(\")",
+            1,
+            "error: unterminated literal or comment\n",
+        ),
         ("Macro", "m!(`)", 1, "error: unknown start of token\n"),
     ];
     for (name, input, status, line) in rows {

@@ -1,14 +1,13 @@
 -- A path that a list spells clearly is what the read answers.
-use Rattle.std.proofs.Common.{◌≡◌, ℕ, zero, suc, ◌<◌, Bool, true, false, if◌then◌else◌, List, Option, Ok, refl, ◌∙◌, ap, arith}
+use Rattle.std.proofs.Common.{◌≡◌, ℕ, zero, suc, ◌<◌, Bool, true, false, List, Option, Ok, refl, arith}
 use Rattle.token_core.specs.declared.tree.Ident.{Ident}
 use Rattle.token_core.specs.declared.span.Span.{Span}
 use Rattle.token_core.specs.declared.tree.Spacing.{Spacing}
 use Rattle.token_core.specs.declared.tree.Spacing.TheVariants.{Joint}
 use Rattle.token_core.specs.Toks.{Toks, word, mark}
 use Rattle.token_core.specs.Trees.{punct}
-use Rattle.token_core.specs.Stream.{Stream}
 use Rattle.token_core.specs.Loops.{size, joined_from, listed}
-use Rattle.token_core.specs.Reads.{Outcome, Reader, and_then, sees_word, sees_mark, read_word, next_word, read_mark, any_text, ident_name}
+use Rattle.token_core.specs.Reads.{sees_word, sees_mark, read_word, next_word, read_mark, any_text, ident_name}
 use Rattle.token_core.proofs.Took.{at}
 use Rattle.token_core.proofs.Steps.{link, chosen, Reads_to}
 use Rattle.syn_mid.specs.declared.path.Path.{Path}
