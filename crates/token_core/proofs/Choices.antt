@@ -1,18 +1,18 @@
 -- The names that a choice keeps, and their text.
-use Rattle.std.specs.Prelude.{slice_set, codes, min}
-use denote.Ref.{Bor}
-use Rattle.std.proofs.Common.{◌≡◌, ℕ, zero, suc, ◌+◌, ◌<◌, ◌≤◌, List, [], ◌∷◌, ◌++◌, map, length, take, get_or, refl, sym, ap, ◌∙◌, append_assoc, append-nil, arith}
-use Rattle.std.proofs.Math.ListN.{set, length-map}
-use Rattle.std.proofs.lemmas.List.{map-set, map_more, length-take, length-append, take-append-le, take-map}
+use Rattle.std.specs.Prelude.{slice_set, codes, nat_eq}
+use Rattle.std.specs.List.{list_any, AllByRecursion, IsDistinct}
+use Rattle.std.proofs.Common.{◌≡◌, ℕ, zero, suc, ◌+◌, ◌<◌, ◌≤◌, List, [], ◌∷◌, ◌++◌, true, false, ◌||◌, inl, inr, map, length, take, get_or, refl, sym, ap, ap₂, ◌∙◌, append_assoc, append-nil, length-append, length-take-le, arith}
+use Rattle.std.proofs.lemmas.List.{map_more}
+use Rattle.std.proofs.lemmas.Bool.{cases_Bool, false≢true}
+use Rattle.std.proofs.lemmas.Cmp.{nat_eq_equiv}
+use Rattle.std.proofs.lemmas.Map.Keys.{IsDistinct-push}
+use Rattle.std.proofs.lemmas.Map.Steps.{length-le_from_distinct_below}
 use Rattle.token_core.specs.Toks.{Bytes}
-use Rattle.token_core.proofs.Rows.{take_all}
 use Rattle.token_core.specs.declared.error.ErrorKind.TheVariants.{Expected}
 use Rattle.token_core.specs.Stream.{Stream}
 use Rattle.token_core.specs.Reads.{refused}
-use Rattle.token_core.specs.Looks.{commas, noted, choices, unmet_at}
-
-abbrev text : Bor Bytes → Bytes
-text b = b.now
+use Rattle.token_core.specs.TokenNames.{name_of, token_count}
+use Rattle.token_core.specs.Looks.{commas, Known, is_noted, choices, unmet_at}
 
 commas_last : (ns : List Bytes) (n : Bytes) → commas (ns ++ n ∷ []) ≡ commas ns ++ (codes ", " ++ n)
 commas_last [] n = ap (λ z. codes ", " ++ z) (append-nil n)
@@ -21,43 +21,50 @@ commas_last (m ∷ ns) n =
     ∙ sym (append_assoc (codes ", ") (m ++ commas ns) (codes ", " ++ n))
 
 -- a further name in the text
-pub commas_more : (xs : List (Bor Bytes)) (i : ℕ) (d : Bor Bytes) → i < length xs →
-    commas (map (λ (n : Bor Bytes). n.now) (take (i + 1) xs)) ≡ commas (map (λ (n : Bor Bytes). n.now) (take i xs)) ++ (codes ", " ++ (get_or xs i d).now)
-commas_more xs i d h = ap commas (map_more (λ (n : Bor Bytes). n.now) xs i d h) ∙ commas_last (map (λ (n : Bor Bytes). n.now) (take i xs)) ((get_or xs i d).now)
+pub commas_more : (xs : List ℕ) (i d : ℕ) → i < length xs →
+    commas (map name_of (take (i + 1) xs)) ≡ commas (map name_of (take i xs)) ++ (codes ", " ++ name_of (get_or xs i d))
+commas_more xs i d h = ap commas (map_more name_of xs i d h) ∙ commas_last (map name_of (take i xs)) (name_of (get_or xs i d))
 
-take_set : {X : Type 0} (xs : List X) (i : ℕ) (x : X) → i < length xs → take (suc i) (set xs i x) ≡ take i xs ++ x ∷ []
-take_set [] i x h = absurd (omega (arith, h))
-take_set (y ∷ xs) zero x h = refl
-take_set (y ∷ xs) (suc i) x h = ap (λ l. y ∷ l) (take_set xs i x (omega (arith, h)))
+take_suc_set : (ns : List ℕ) (i n : ℕ) → i < length ns → take (suc i) (slice_set ns i n) ≡ take i ns ++ n ∷ []
+take_suc_set [] i n h = absurd (omega (arith, h))
+take_suc_set (m ∷ ms) zero n h = refl
+take_suc_set (m ∷ ms) (suc i) n h = ap (λ l. m ∷ l) (take_suc_set ms i n (omega (arith, h)))
 
--- a further name
-pub noted_more : (ns : List (Bor Bytes)) (i : ℕ) (n : Bor Bytes) → i < 32 → length ns ≡ 32 →
-    take (min (i + 1) 32) (map (λ (n : Bor Bytes). n.now) (slice_set ns i n)) ≡ noted (take (min i 32) (map (λ (n : Bor Bytes). n.now) ns)) n.now
-noted_more ns i n h l =
-    let xs = map (λ (n : Bor Bytes). n.now) ns in
-    let j : min (i + 1) 32 ≡ suc i = omega (arith, h) in
-    let k : min i 32 ≡ i = omega (arith, h) in
-    let m : length xs ≡ 32 = length-map ns (λ (n : Bor Bytes). n.now) ∙ l in
-    let whole : length (take i xs ++ n.now ∷ []) ≤ 32 = omega (arith, h, length-append (take i xs) (n.now ∷ []), length-take i xs) in
-    ap (λ q. take q (map (λ (n : Bor Bytes). n.now) (slice_set ns i n))) j ∙ ap (take (suc i)) (map-set (λ (n : Bor Bytes). n.now) ns i n)
-    ∙ take_set xs i n.now (omega (arith, h, m)) ∙ sym (take_all 32 _ whole) ∙ ap (λ q. noted (take q xs) n.now) (sym k)
+-- a further number
+pub take_set : (ns : List ℕ) (i n : ℕ) → i < length ns → take (i + 1) (slice_set ns i n) ≡ take i ns ++ n ∷ []
+take_set ns i n h =
+    let e : i + 1 ≡ suc i = omega arith in
+    ap (λ k. take k (slice_set ns i n)) e ∙ take_suc_set ns i n h
 
--- no place for a further one
-pub noted_full : (ns : List (Bor Bytes)) (i : ℕ) (n : Bytes) → 32 ≤ i → length ns ≡ 32 →
-    take (min i 32) (map (λ (n : Bor Bytes). n.now) ns) ≡ noted (take (min i 32) (map (λ (n : Bor Bytes). n.now) ns)) n
-noted_full ns i n h l =
-    let xs = map (λ (n : Bor Bytes). n.now) ns in
-    let m : length xs ≡ 32 = length-map ns (λ (n : Bor Bytes). n.now) ∙ l in
-    let k : min i 32 ≡ 32 = omega (arith, h) in
-    let a : take (min i 32) xs ≡ xs = ap (λ q. take q xs) k ∙ take_all 32 xs (omega (arith, m)) in
-    a ∙ sym (ap (λ z. noted z n) a ∙ take-append-le 32 xs (n ∷ []) (omega (arith, m)) ∙ take_all 32 xs (omega (arith, m)))
+pub known_none : Known []
+unfolding IsDistinct
+known_none = (tt, tt)
 
--- the names that are told
-pub told : (ns : List (Bor Bytes)) (i m : ℕ) → m ≡ min i 32 → map (λ (n : Bor Bytes). n.now) (take m ns) ≡ take (min i 32) (map (λ (n : Bor Bytes). n.now) ns)
-told ns i m h = sym (take-map (λ (n : Bor Bytes). n.now) m ns) ∙ ap (λ k. take k (map (λ (n : Bor Bytes). n.now) ns)) h
+flipped : (ns : List ℕ) (n : ℕ) → list_any (nat_eq n) ns ≡ is_noted ns n
+flipped [] n = refl
+flipped (m ∷ ms) n = ap₂ (λ a b. a || b) (nat_eq_equiv.symm n m) (flipped ms n)
 
-pub told_length : (ns : List (Bor Bytes)) (i m : ℕ) → m ≡ min i 32 → length (take (min i 32) (map (λ (n : Bor Bytes). n.now) ns)) ≡ length (take m ns)
-told_length ns i m h = sym (ap length (told ns i m h)) ∙ length-map (take m ns) (λ (n : Bor Bytes). n.now)
+below_all : (ns : List ℕ) → AllByRecursion (λ m. m < token_count) ns → (q : ℕ) → list_any (nat_eq q) ns ≡ true → q < token_count
+below_all [] a q h = absurd (false≢true h)
+below_all (m ∷ ms) a q h = elim (cases_Bool (nat_eq q m)) [
+  | inl e ↦ grind (arith, e, a.0)
+  | inr e ↦ below_all ms a.1 q (sym (ap (λ b. b || list_any (nat_eq q) ms) e) ∙ h)
+]
+
+below_more : (ns : List ℕ) (n : ℕ) → AllByRecursion (λ m. m < token_count) ns → n < token_count → AllByRecursion (λ m. m < token_count) (ns ++ n ∷ [])
+below_more [] n a h = (h, tt)
+below_more (m ∷ ms) n a h = (a.0, below_more ms n a.1 h)
+
+-- a number that is not yet noted
+pub known_more : (ns : List ℕ) (n : ℕ) → Known ns → n < token_count → is_noted ns n ≡ false → Known (ns ++ n ∷ [])
+known_more ns n k h e = (IsDistinct-push nat_eq_equiv ns n k.0 (flipped ns n ∙ e), below_more ns n k.1 h)
+
+-- there is a place for it
+pub has_place : (ns : List ℕ) (i n : ℕ) → i ≤ length ns → Known (take i ns) → n < token_count → is_noted (take i ns) n ≡ false → i < token_count
+has_place ns i n f k h e =
+    let m = known_more (take i ns) n k h e in
+    let l : length (take i ns ++ n ∷ []) ≤ token_count = length-le_from_distinct_below _ token_count m.0 (below_all _ m.1) in
+    omega (arith, l, length-append (take i ns) (n ∷ []), length-take-le i ns f)
 
 -- no name is told
 pub unmet_none : (ns : List Bytes) (s : Stream) → length ns ≡ 0 → unmet_at [] s ≡ unmet_at ns s

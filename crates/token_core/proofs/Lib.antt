@@ -8,6 +8,7 @@ pub mod Places
 pub mod Cuts
 pub mod Bares
 pub mod Terminations
+pub mod TokenNames
 pub mod Choices
 pub mod Rebuilds
 pub mod Lists

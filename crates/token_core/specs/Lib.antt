@@ -20,6 +20,7 @@ pub mod Joined
 pub mod Lists
 pub mod Lent
 pub mod Groups
+pub mod TokenNames
 pub mod Looks
 pub mod Terminated
 pub mod Loops

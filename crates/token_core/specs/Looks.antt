@@ -1,31 +1,40 @@
--- A choice of tokens: where it is made, the names of the tests that failed, and what it says where all did.
-use Rattle.std.specs.Prelude.{Bool, true, false, if◌then◌else◌, List, [], ◌∷◌, ◌++◌, take, refl, codes}
-use Rattle.std.specs.Coded.{Coded, code_by, coded×, coded_list}
+-- A choice of tokens: where it is made, the tokens that were tested for and not found, and what it says where all were.
+use Rattle.std.specs.Prelude.{Bool, true, false, if◌then◌else◌, ℕ, ◌<◌, List, [], ◌∷◌, ◌++◌, map, nat_eq, refl, codes}
+use Rattle.std.specs.List.{list_any, AllByRecursion, IsDistinct}
+use Rattle.std.specs.Coded.{Coded, code_by, coded×, coded_ℕ, coded_list}
 use Rattle.token_core.specs.declared.error.ErrorKind.TheVariants.{Expected}
 use Rattle.token_core.specs.Toks.{Bytes}
-use Rattle.token_core.specs.Codes.{bytes_code}
 use Rattle.token_core.specs.Refusal.{Refusal, refusal}
 use Rattle.token_core.specs.Stream.{Stream, stream_code}
 use Rattle.token_core.specs.Reads.{forked, refused, here, is_done}
+use Rattle.token_core.specs.TokenNames.{name_of, token_count}
 
 pub record Looks : Type 0 where
   pub input : Stream
-  pub names : List Bytes
+  -- by their numbers, in the order of the tests, each once
+  pub missing : List ℕ
 
 abbrev pub looks_code : Coded Looks
-looks_code = code_by (Stream × List Bytes) (coded× stream_code (coded_list bytes_code)) (λ l. (l.input, l.names)) (λ p. record { input = p.0; names = p.1 }) (λ _. refl)
+looks_code = code_by (Stream × List ℕ) (coded× stream_code (coded_list coded_ℕ)) (λ l. (l.input, l.missing)) (λ p. record { input = p.0; missing = p.1 }) (λ _. refl)
+
+-- the numbers of tokens that can be tested for, each once
+abbrev pub Known : List ℕ → Type 0
+Known ns = IsDistinct nat_eq ns × AllByRecursion (λ n. n < token_count) ns
 
 abbrev pub begun : Stream → Looks
-begun s = record { input = forked s; names = [] }
+begun s = record { input = forked s; missing = [] }
 
--- the first 32 names are kept
-abbrev pub noted : List Bytes → Bytes → List Bytes
-noted ns n = take 32 (ns ++ n ∷ [])
+-- whether a number is one of these
+abbrev pub is_noted : List ℕ → ℕ → Bool
+is_noted ns n = list_any (λ m. nat_eq m n) ns
+
+abbrev pub noted : List ℕ → ℕ → List ℕ
+noted ns n = if is_noted ns n then ns else ns ++ n ∷ []
 
 -- after a test
-abbrev pub tested : Bool → Bytes → Looks → Looks
+abbrev pub tested : Bool → ℕ → Looks → Looks
 tested true n l = l
-tested false n l = record l { names = noted l.names n }
+tested false n l = record l { missing = noted l.missing n }
 
 -- each name after a comma
 abbrev pub commas : List Bytes → Bytes
@@ -46,4 +55,4 @@ unmet_at [] s = if is_done s.rest then nothing_left s else refused Expected (cho
 unmet_at (n ∷ ns) s = refused Expected (choices (n ∷ ns)) s
 
 abbrev pub unmet : Looks → Refusal
-unmet l = unmet_at l.names l.input
+unmet l = unmet_at (map name_of l.missing) l.input

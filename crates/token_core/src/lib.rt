@@ -9,6 +9,8 @@ mod ident;
 mod items;
 mod lifetime;
 mod lit;
+#[cfg(test)]
+mod look_tests;
 mod lookahead;
 mod mark;
 mod member;
@@ -24,6 +26,7 @@ mod tests;
 mod text;
 mod to_tokens;
 pub mod token;
+mod token_names;
 #[cfg(test)]
 mod token_tests;
 mod tree;

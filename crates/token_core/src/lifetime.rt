@@ -105,13 +105,15 @@ impl Token for Lifetime {
 
     ghost name = { spec.lifetime_name };
 
+    ghost number = { 48 };
+
     #[tactic(auto, unfolding(crate::specs::Lifetimes::sees_lifetime))]
     fn peek(input: &ParseStream<'_>) -> bool {
         past_lifetime(input.cursor()).is_some()
     }
 
-    fn display() -> &'static str {
-        "lifetime"
+    fn number() -> u8 {
+        48
     }
 }
 

@@ -327,13 +327,15 @@ impl Token for Lit {
 
     ghost name = { spec.lit_name };
 
+    ghost number = { 49 };
+
     #[tactic(auto, unfolding(crate::specs::Lits::sees_lit))]
     fn peek(input: &ParseStream<'_>) -> bool {
         past_lit(input.cursor()).is_some()
     }
 
-    fn display() -> &'static str {
-        "literal"
+    fn number() -> u8 {
+        49
     }
 }
 
@@ -431,13 +433,15 @@ impl Token for LitStr {
 
     ghost name = { spec.str_name };
 
+    ghost number = { 50 };
+
     #[tactic(auto, unfolding(crate::specs::Lits::sees_str))]
     fn peek(input: &ParseStream<'_>) -> bool {
         past_str(input.cursor()).is_some()
     }
 
-    fn display() -> &'static str {
-        "string literal"
+    fn number() -> u8 {
+        50
     }
 }
 

@@ -1,33 +1,39 @@
 //! A choice of tokens that a stream may begin with.
 
-ghost use Rattle.std.specs.Prelude.{◌≡◌, ◌++◌, [], map, IfOk, OnOk};
+ghost use Rattle.std.specs.Prelude.{◌≡◌, ◌<◌, ◌++◌, [], map, IfOk, OnOk};
 ghost use Rattle.token_core.specs.Looks as spec;
 ghost use Rattle.token_core.specs.Refusal.{Made};
+ghost use Rattle.token_core.specs.TokenNames.{name_of, token_count};
 
 use crate::error::{Error, ErrorKind};
 use crate::parse::Token;
 use crate::parse_stream::ParseStream;
 use crate::text::Text;
+use crate::token_names::{COUNT, token_name};
 use std::alloc::{AllocError, Global};
 use std::marker::Model;
 
-/// A position, and the names of the tests that failed there, which a refusal tells. It keeps the first 32.
+/// A position, and the tokens that were tested for there and not found, which a refusal names.
 #[derive(Drop)]
 pub struct Lookahead<'a> {
     input: ParseStream<'a>,
-    names: [&'static str; 32],
+    // their numbers, each once; so there is a place for every token
+    missing: [u8; COUNT],
     count: usize,
 }
 
 impl<'a> Model for Lookahead<'a> {
-    ghost use Rattle.std.specs.Prelude.{map, take, min};
-    ghost use Rattle.token_core.specs.Looks.{Looks, looks_code};
+    ghost use Rattle.std.specs.Prelude.{take, ◌≤◌};
+    ghost use Rattle.token_core.specs.Looks.{Looks, looks_code, Known};
+    ghost use Rattle.token_core.specs.TokenNames.{token_count};
 
     ghost Value = { Looks };
 
     ghost coded = { looks_code };
 
-    ghost view = { λ l. record { input = l.input; names = take (min l.count 32) (map (λ n. n.now) l.names) } };
+    ghost view = { λ l. record { input = l.input; missing = take l.count l.missing } };
+
+    ghost invariant = { λ l. (l.count ≤ token_count) × Known (take l.count l.missing) };
 }
 
 impl<'a> ParseStream<'a> {
@@ -37,31 +43,32 @@ impl<'a> ParseStream<'a> {
     {
         Lookahead {
             input: self.fork(),
-            names: [""; 32],
+            missing: [0; COUNT],
             count: 0,
         }
     }
 }
 
 impl<'a> Lookahead<'a> {
-    /// Whether the token is at the front; if it isn't, its name is kept for the refusal.
+    /// Whether the token is at the front; if it isn't, the refusal will name it.
     pub fn peek<T: Token>(&mut self) -> bool
         ensures sees { result ≡ T.sees self.old.input.rest }
-        ensures noted { self.new ≡ spec.tested (T.sees self.old.input.rest) T.name self.old }
+        ensures noted { self.new ≡ spec.tested (T.sees self.old.input.rest) T.number self.old }
     {
         if T::peek(&self.input) {
             return true;
         }
-        self.note(T::display());
+        self.note(T::number());
         false
     }
 
-    fn note(&mut self, name: &'static str)
+    fn note(&mut self, number: u8)
+        requires known { number < token_count }
         ensures input { self.new.input ≡ self.old.input }
-        ensures names { self.new.names ≡ spec.noted self.old.names name.now }
+        ensures missing { self.new.missing ≡ spec.noted self.old.missing number }
     {
-        if self.count < 32 {
-            self.names[self.count] = name;
+        if !self.missing[..self.count].contains(&number) {
+            self.missing[self.count] = number;
             self.count += 1;
         }
     }
@@ -85,15 +92,16 @@ impl<'a> Lookahead<'a> {
             .refused(alloc, ErrorKind::Expected, "unexpected token")
     }
 
-    /// The refusal where no test succeeded: `expected X`, `expected X or Y`, or `expected one of: X, Y, Z`.
+    /// The refusal where no test succeeded: `expected X`, `expected X or Y`, or `expected one of: X, Y, Z`, in the order
+    /// of the tests, each token once.
     pub fn error(&self, alloc: Global) -> Error
         ensures { Made result (spec.unmet self.now) }
     {
-        let names = &self.names[..self.count.min(32)];
-        if names.len() == 0 {
+        let missing = &self.missing[..self.count];
+        if missing.len() == 0 {
             return self.untested(alloc);
         }
-        match choices(alloc, names) {
+        match choices(alloc, missing) {
             Ok(text) => self
                 .input
                 .refused(alloc, ErrorKind::Expected, text.as_str()),
@@ -103,20 +111,20 @@ impl<'a> Lookahead<'a> {
 }
 
 #[tactic(auto, unfolding(crate::specs::Looks::choices))]
-fn choices(alloc: Global, names: &[&str]) -> Result<Text, AllocError>
-    ensures { IfOk result (λ t. t ≡ spec.choices (map (λ n. n.now) names.now)) }
+fn choices(alloc: Global, missing: &[u8]) -> Result<Text, AllocError>
+    ensures { IfOk result (λ t. t ≡ spec.choices (map name_of missing.now)) }
 {
-    match names {
+    match missing {
         [] => Text::from_str(alloc, "unexpected token"),
-        [name] => Text::joined(alloc, "expected ", name),
-        [name, other] => {
-            let mut text = Text::joined(alloc, "expected ", name)?;
+        [one] => Text::joined(alloc, "expected ", token_name(*one)),
+        [one, other] => {
+            let mut text = Text::joined(alloc, "expected ", token_name(*one))?;
             text.push(" or ")?;
-            text.push(other)?;
+            text.push(token_name(*other))?;
             Ok(text)
         }
-        [name, others @ ..] => {
-            let mut text = Text::joined(alloc, "expected one of: ", name)?;
+        [one, others @ ..] => {
+            let mut text = Text::joined(alloc, "expected one of: ", token_name(*one))?;
             push_commas(&mut text, others)?;
             Ok(text)
         }
@@ -124,12 +132,12 @@ fn choices(alloc: Global, names: &[&str]) -> Result<Text, AllocError>
 }
 
 #[tactic(auto, using(crate::proofs::Choices::commaed))]
-fn push_commas(text: &mut Text, names: &[&str]) -> Result<(), AllocError>
-    ensures { OnOk result (text.new ≡ text.old ++ spec.commas (map (λ n. n.now) names.now)) }
+fn push_commas(text: &mut Text, tokens: &[u8]) -> Result<(), AllocError>
+    ensures { OnOk result (text.new ≡ text.old ++ spec.commas (map name_of tokens.now)) }
 {
-    for name in names {
+    for token in tokens {
         text.push(", ")?;
-        text.push(name)?;
+        text.push(token_name(*token))?;
     }
     Ok(())
 }

@@ -4,6 +4,7 @@ ghost use Rattle.std.specs.Prelude.{◌≡◌, [], get_or, map};
 ghost use Rattle.token_core.specs.Marks as spec;
 
 use crate::span::Span;
+use crate::token_names::{mark_number, token_name};
 
 /// The spans of the characters of a mark; a short mark repeats its last.
 #[derive(Clone, Copy)]
@@ -50,13 +51,6 @@ static CHARS: [&[char]; 27] = [
     &['*'],
 ];
 
-/// The marks as refusals name them, by their numbers.
-static NAMES: [&str; 27] = [
-    "`!`", "`::`", "`<`", "`>`", "`,`", "`&`", "`@`", "`:`", "`..`", "`...`", "`..=`", "`=`",
-    "`==`", "`=>`", "`<=`", "`-`", "`!=`", "`|`", "`|=`", "`||`", "`+`", "`#`", "`?`", "`->`",
-    "`;`", "`<<=`", "`*`",
-];
-
 /// The characters of the mark of a number, none where the number names none.
 pub(crate) fn mark_chars(n: u32) -> &'static [char]
     ensures { result.now ≡ spec.chars_of n }
@@ -75,10 +69,11 @@ fn chars_at(table: &[&'static [char]], n: u32) -> &'static [char]
 }
 
 /// The mark of a number as refusals name it.
+#[tactic(auto, using(crate::proofs::TokenNames::mark_named))]
 pub(crate) fn mark_name(n: u32) -> &'static str
     ensures { result.now ≡ spec.mark_name n }
 {
-    text_at(&NAMES, n, "``")
+    token_name(mark_number(n))
 }
 
 /// What a table has at a number, and past its end the other text.

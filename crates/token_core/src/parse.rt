@@ -1,10 +1,11 @@
 //! What reads from a stream, and whole reads.
 
-ghost use Rattle.std.specs.Prelude.{◌≡◌, Bool, Option, Result, Ok};
+ghost use Rattle.std.specs.Prelude.{◌≡◌, ◌<◌, ℕ, Bool, Option, Result, Ok};
 ghost use Rattle.token_core.specs.Toks.{Bytes, Toks};
 ghost use Rattle.token_core.specs.Trees.{toks};
 ghost use Rattle.token_core.specs.Spans.{none};
 ghost use Rattle.token_core.specs.Refusal.{Refusal};
+ghost use Rattle.token_core.specs.TokenNames.{name_of, token_count};
 ghost use Rattle.token_core.specs.Stream.{Stream, started};
 ghost use Rattle.token_core.specs.ByFns.{CanParse, Answers, RefusesBy};
 ghost use Rattle.token_core.specs.Reads.{Follows, Parsed, WholeRead, Promised, Keeps};
@@ -13,6 +14,7 @@ use crate::buffer::TokenBuffer;
 use crate::error::{Error, ErrorKind};
 use crate::parse_stream::ParseStream;
 use crate::span::Span;
+use crate::token_names::token_name;
 use crate::tree::TokenStream;
 use std::alloc::Global;
 use std::marker::PhantomData;
@@ -25,11 +27,24 @@ pub trait Token: Sized {
     /// How refusals name it.
     ghost name: { Bytes };
 
+    /// Its number among the tokens that can be tested for.
+    ghost number: { ℕ };
+
     fn peek(input: &ParseStream<'_>) -> bool
         ensures { result ≡ sees input.now.rest };
 
+    /// Its number in the table of names.
+    fn number() -> u8
+        ensures gives { result ≡ number }
+        ensures known { number < token_count }
+        ensures named { name_of number ≡ name };
+
+    /// How refusals name it.
     fn display() -> &'static str
-        ensures { result.now ≡ name };
+        ensures { result.now ≡ name }
+    {
+        token_name(Self::number())
+    }
 }
 
 /// What can be read from a stream.

@@ -64,21 +64,6 @@ fn choices_end_with_the_stream(rt: HostRuntime) -> Result<(), Fail> {
     Ok(())
 }
 
-#[test]
-fn choices_keep_some_names(rt: HostRuntime) -> Result<(), Fail> {
-    let alloc = rt.alloc();
-    let list = tokens(alloc, "a")?;
-    let buffer = TokenBuffer::new(alloc, &list)?;
-    let input = ParseStream::new(&buffer, Span::none());
-    let mut look = input.lookahead1();
-    for _ in 0..40u8 {
-        assert!(rt; !look.peek::<Comma>());
-    }
-    // 32 names of three bytes, with two bytes between them
-    assert_eq!(rt; look.error(alloc).text().len(), 17 + 32 * 3 + 31 * 2);
-    Ok(())
-}
-
 fn holds(rt: &impl Abort, alloc: Global, part: &TokenStream, text: &str) -> Result<(), Fail> {
     assert!(rt; part.same(&tokens(alloc, text)?), "the part is {text}");
     Ok(())

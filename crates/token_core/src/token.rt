@@ -9,6 +9,7 @@ ghost use Rattle.token_core.specs.Prints as prints;
 ghost use Rattle.token_core.specs.Reads as spec;
 ghost use Rattle.token_core.specs.Reads.{Reads, Parsed, Keeps, Follows, Gives, Fails};
 ghost use Rattle.token_core.specs.Spans as spans;
+ghost use Rattle.token_core.specs.TokenNames as names;
 
 use crate::error::Error;
 pub use crate::mark::Mark;
@@ -17,6 +18,7 @@ use crate::parse::{Parse, Token};
 use crate::parse_stream::{ParseStream, content};
 use crate::span::{DelimSpan, Span};
 use crate::to_tokens::ToTokens;
+use crate::token_names::{mark_number, word_number};
 use crate::tree::{Delimiter, Group, Ident, Punct, Spacing, TokenStream, TokenTree};
 pub use crate::word::Word;
 use crate::word::{word_name, word_text};
@@ -182,12 +184,15 @@ impl<const N: u32, const LEN: usize> Token for Mark<N, LEN> {
 
     ghost name = { marks.mark_name N };
 
+    ghost number = { names.mark_number N };
+
     fn peek(input: &ParseStream<'_>) -> bool {
         input.peek_mark(mark_chars(N))
     }
 
-    fn display() -> &'static str {
-        mark_name(N)
+    #[tactic(auto, using(crate::proofs::TokenNames::mark_named))]
+    fn number() -> u8 {
+        mark_number(N)
     }
 }
 
@@ -223,12 +228,15 @@ impl<const N: u32> Token for Word<N> {
 
     ghost name = { marks.word_name N };
 
+    ghost number = { names.word_number N };
+
     fn peek(input: &ParseStream<'_>) -> bool {
         input.peek_word(word_text(N))
     }
 
-    fn display() -> &'static str {
-        word_name(N)
+    #[tactic(auto, using(crate::proofs::TokenNames::word_named))]
+    fn number() -> u8 {
+        word_number(N)
     }
 }
 
@@ -249,12 +257,14 @@ impl Token for Ident {
 
     ghost name = { spec.ident_name };
 
+    ghost number = { 47 };
+
     fn peek(input: &ParseStream<'_>) -> bool {
         input.peek_ident()
     }
 
-    fn display() -> &'static str {
-        "identifier"
+    fn number() -> u8 {
+        47
     }
 }
 
@@ -395,12 +405,14 @@ impl Token for Paren {
 
     ghost name = { groups.paren_name };
 
+    ghost number = { 51 };
+
     fn peek(input: &ParseStream<'_>) -> bool {
         input.peek_group(Delimiter::Parenthesis)
     }
 
-    fn display() -> &'static str {
-        "parentheses"
+    fn number() -> u8 {
+        51
     }
 }
 
@@ -409,12 +421,14 @@ impl Token for Brace {
 
     ghost name = { groups.brace_name };
 
+    ghost number = { 52 };
+
     fn peek(input: &ParseStream<'_>) -> bool {
         input.peek_group(Delimiter::Brace)
     }
 
-    fn display() -> &'static str {
-        "curly braces"
+    fn number() -> u8 {
+        52
     }
 }
 
@@ -423,12 +437,14 @@ impl Token for Bracket {
 
     ghost name = { groups.bracket_name };
 
+    ghost number = { 53 };
+
     fn peek(input: &ParseStream<'_>) -> bool {
         input.peek_group(Delimiter::Bracket)
     }
 
-    fn display() -> &'static str {
-        "square brackets"
+    fn number() -> u8 {
+        53
     }
 }
 
@@ -437,13 +453,15 @@ impl Token for GroupToken {
 
     ghost name = { groups.invisible_name };
 
+    ghost number = { 54 };
+
     #[tactic(auto, unfolding(crate::specs::Groups::sees_invisible))]
     fn peek(input: &ParseStream<'_>) -> bool {
         input.cursor().next_invisible().is_some()
     }
 
-    fn display() -> &'static str {
-        "invisible group"
+    fn number() -> u8 {
+        54
     }
 }
 

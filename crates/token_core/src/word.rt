@@ -5,6 +5,7 @@ ghost use Rattle.token_core.specs.Marks as spec;
 
 use crate::mark::text_at;
 use crate::span::Span;
+use crate::token_names::{token_name, word_number};
 
 /// The word of a number.
 #[derive(Clone, Copy)]
@@ -18,13 +19,6 @@ static TEXTS: [&str; 20] = [
     "impl", "mut", "ref", "try", "unsafe", "use", "where", "_",
 ];
 
-/// The words as refusals name them, by their numbers.
-static NAMES: [&str; 20] = [
-    "`Self`", "`self`", "`super`", "`crate`", "`as`", "`box`", "`const`", "`dyn`", "`extern`",
-    "`fn`", "`for`", "`if`", "`impl`", "`mut`", "`ref`", "`try`", "`unsafe`", "`use`", "`where`",
-    "`_`",
-];
-
 /// The text of the word of a number, none where the number names none.
 pub(crate) fn word_text(n: u32) -> &'static str
     ensures { result.now ≡ spec.text_of n }
@@ -33,8 +27,9 @@ pub(crate) fn word_text(n: u32) -> &'static str
 }
 
 /// The word of a number as refusals name it.
+#[tactic(auto, using(crate::proofs::TokenNames::word_named))]
 pub(crate) fn word_name(n: u32) -> &'static str
     ensures { result.now ≡ spec.word_name n }
 {
-    text_at(&NAMES, n, "``")
+    token_name(word_number(n))
 }

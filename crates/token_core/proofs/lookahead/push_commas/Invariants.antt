@@ -1,6 +1,7 @@
 use Rattle.std.proofs.Common.{◌≡◌, ◌++◌, map, take}
+use Rattle.token_core.specs.TokenNames.{name_of}
 use Rattle.token_core.specs.Looks.{commas}
 use Rattle.token_core.proofs.lookahead.push_commas.Given as goal
 
-abbrev pub invariant-loop-name : goal.invariant-loop-name
-invariant-loop-name l = l.text ≡ l.initial.text ++ commas (map (λ n. n.now) (take l.name-index l.names))
+abbrev pub invariant-loop-token : goal.invariant-loop-token
+invariant-loop-token l = l.text ≡ l.initial.text ++ commas (map name_of (take l.token-index l.tokens))

@@ -1,13 +1,27 @@
-use Rattle.std.proofs.Common.{ap, sym, ◌∙◌}
-use Rattle.token_core.specs.Looks.{Looks, noted}
-use Rattle.token_core.proofs.Choices.{noted_more, noted_full}
+use Rattle.std.proofs.Common.{◌≡◌, ◌++◌, [], ◌∷◌, false, if◌then◌else◌, take, sym, ap, ◌∙◌, arith}
+use Rattle.token_core.specs.Looks.{Looks, is_noted, noted}
+use Rattle.token_core.proofs.Choices.{take_set, known_more, has_place}
 use Rattle.token_core.proofs.lookahead.Lookahead.note.Goals as goal
 
-pub returns-then-self-lt32-clause-names : goal.returns-then-self-lt32-clause-names
-returns-then-self-lt32-clause-names c =
-    noted_more c.self.inside.names c.self.inside.count c.args.name c.if-self-lt32.true c.self.told ∙ ap (λ (l : Looks). noted l.names c.args.name.now) c.self.view_is
+pub bounds-self-inside-self-inside : goal.bounds-self-inside-self-inside
+bounds-self-inside-self-inside c =
+    let s = c.self.inside in
+    let new : is_noted (take s.count s.missing) c.args.number ≡ false = cc in
+    has_place s.missing s.count c.args.number (omega (arith, c.self.told, c.self.invariant.0)) c.self.invariant.1 c.requires.known new
 
-pub returns-else-self-lt32-clause-names : goal.returns-else-self-lt32-clause-names
-returns-else-self-lt32-clause-names c =
-    sym (ap (λ (l : Looks). l.names) c.self.view_is) ∙ noted_full c.self.inside.names c.self.inside.count c.args.name.now c.if-self-lt32.false c.self.told
-    ∙ ap (λ (l : Looks). noted l.names c.args.name.now) c.self.view_is
+pub invariant_of-self : goal.invariant_of-self
+invariant_of-self c =
+    let s = c.self.inside in
+    let new : is_noted (take s.count s.missing) c.args.number ≡ false = cc in
+    let place = has_place s.missing s.count c.args.number (omega (arith, c.self.told, c.self.invariant.0)) c.self.invariant.1 c.requires.known new in
+    let noted = known_more (take s.count s.missing) c.args.number c.self.invariant.1 c.requires.known new in
+    (omega (arith, place), rw (take_set s.missing s.count c.args.number (omega (arith, place, c.self.told))) noted)
+
+pub returns-then-not-contains-clause-missing : goal.returns-then-not-contains-clause-missing
+returns-then-not-contains-clause-missing c =
+    let s = c.self.inside in
+    let new : is_noted (take s.count s.missing) c.args.number ≡ false = cc in
+    let place = has_place s.missing s.count c.args.number (omega (arith, c.self.told, c.self.invariant.0)) c.self.invariant.1 c.requires.known new in
+    take_set s.missing s.count c.args.number (omega (arith, place, c.self.told))
+    ∙ ap (λ b. if b then take s.count s.missing else take s.count s.missing ++ c.args.number ∷ []) (sym new)
+    ∙ ap (λ (l : Looks). noted l.missing c.args.number) c.self.view_is

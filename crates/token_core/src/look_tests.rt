@@ -1,0 +1,147 @@
+//! Choices of more tokens than a list of names would hold. Lists are written as in `tests`.
+
+use crate::tests::{nth, says, tokens};
+use crate::token::{
+    And, As, At, Box, Brace, Bracket, Colon, Comma, Const, Crate, DotDot, DotDotDot, DotDotEq, Dyn,
+    Eq, EqEq, Extern, FatArrow, Fn, For, GroupToken, Gt, If, Impl, Le, Lt, Minus, Mut, Ne, Not, Or,
+    OrEq, OrOr, Paren, PathSep, Plus, Pound, Question, RArrow, Ref, SelfType, SelfValue, Semi,
+    ShlEq, Star, Super, Try, Underscore, Unsafe, Use, Where,
+};
+use crate::{
+    ErrorKind, Ident, Lifetime, Lit, LitStr, Lookahead, Mark, ParseStream, TokenBuffer, Word,
+};
+use std::process::Abort;
+use std::test::Fail;
+
+/// Tests for each word, those of the first half first.
+fn sees_word(look: &mut Lookahead<'_>) -> bool {
+    sees_first_word(look)
+        | look.peek::<If>()
+        | look.peek::<Impl>()
+        | look.peek::<Mut>()
+        | look.peek::<Ref>()
+        | look.peek::<Try>()
+        | look.peek::<Unsafe>()
+        | look.peek::<Use>()
+        | look.peek::<Where>()
+        | look.peek::<Underscore>()
+}
+
+fn sees_first_word(look: &mut Lookahead<'_>) -> bool {
+    look.peek::<SelfType>()
+        | look.peek::<SelfValue>()
+        | look.peek::<Super>()
+        | look.peek::<Crate>()
+        | look.peek::<As>()
+        | look.peek::<Box>()
+        | look.peek::<Const>()
+        | look.peek::<Dyn>()
+        | look.peek::<Extern>()
+        | look.peek::<Fn>()
+        | look.peek::<For>()
+}
+
+/// Tests for each mark but `+`, those of one character first.
+fn sees_mark(look: &mut Lookahead<'_>) -> bool {
+    sees_short_mark(look)
+        | look.peek::<PathSep>()
+        | look.peek::<DotDot>()
+        | look.peek::<DotDotDot>()
+        | look.peek::<DotDotEq>()
+        | look.peek::<EqEq>()
+        | look.peek::<FatArrow>()
+        | look.peek::<Le>()
+        | look.peek::<Ne>()
+        | look.peek::<OrEq>()
+        | look.peek::<OrOr>()
+        | look.peek::<RArrow>()
+        | look.peek::<ShlEq>()
+}
+
+fn sees_short_mark(look: &mut Lookahead<'_>) -> bool {
+    look.peek::<Not>()
+        | look.peek::<Lt>()
+        | look.peek::<Gt>()
+        | look.peek::<Comma>()
+        | look.peek::<And>()
+        | look.peek::<At>()
+        | look.peek::<Colon>()
+        | look.peek::<Eq>()
+        | look.peek::<Minus>()
+        | look.peek::<Or>()
+        | look.peek::<Pound>()
+        | look.peek::<Question>()
+        | look.peek::<Semi>()
+        | look.peek::<Star>()
+}
+
+/// Tests for what is neither a mark nor a word.
+fn sees_other(look: &mut Lookahead<'_>) -> bool {
+    look.peek::<GroupToken>()
+        | look.peek::<Bracket>()
+        | look.peek::<Brace>()
+        | look.peek::<Paren>()
+        | look.peek::<LitStr>()
+        | look.peek::<Lit>()
+        | look.peek::<Lifetime>()
+        | look.peek::<Ident>()
+}
+
+const OTHERS: &str = "invisible group, square brackets, curly braces, parentheses, string literal, \
+                      literal, lifetime, identifier";
+
+const WORDS: &str =
+    "`Self`, `self`, `super`, `crate`, `as`, `box`, `const`, `dyn`, `extern`, `fn`, \
+                     `for`, `if`, `impl`, `mut`, `ref`, `try`, `unsafe`, `use`, `where`, `_`";
+
+const MARKS: &str =
+    "`!`, `<`, `>`, `,`, `&`, `@`, `:`, `=`, `-`, `|`, `#`, `?`, `;`, `*`, `::`, `..`, \
+                     `...`, `..=`, `==`, `=>`, `<=`, `!=`, `|=`, `||`, `->`, `<<=`";
+
+#[test]
+fn choices_name_every_token(rt: HostRuntime) -> Result<(), Fail> {
+    let alloc = rt.alloc();
+    let list = tokens(alloc, "+")?;
+    let buffer = TokenBuffer::new(alloc, &list)?;
+    let mut look = ParseStream::new(&buffer, nth(9)).lookahead1();
+    // the second time names nothing
+    for _ in 0..2u8 {
+        assert!(rt; !sees_other(&mut look));
+        assert!(rt; !sees_word(&mut look));
+        assert!(rt; !sees_mark(&mut look));
+        assert!(rt; look.peek::<Plus>());
+        let error = look.error(alloc);
+        assert!(rt;
+            error
+                .text()
+                .starts_with("expected one of: invisible group, ")
+        );
+    }
+    let error = look.error(alloc);
+    let text = error.text();
+    let mut at = "expected one of: ".len();
+    for part in [OTHERS, WORDS, MARKS] {
+        assert!(rt;
+            text.get(at..).is_some_and(|rest| rest.starts_with(part)),
+            "{part}"
+        );
+        at += part.len() + 2;
+    }
+    assert_eq!(rt; at, text.len() + 2);
+    Ok(())
+}
+
+#[test]
+fn choices_name_marks_and_words_without_a_name(rt: HostRuntime) -> Result<(), Fail> {
+    let alloc = rt.alloc();
+    let list = tokens(alloc, "+")?;
+    let buffer = TokenBuffer::new(alloc, &list)?;
+    let mut look = ParseStream::new(&buffer, nth(9)).lookahead1();
+    assert!(rt; !look.peek::<Comma>());
+    assert!(rt; !look.peek::<Word<99>>());
+    let text = "expected `,` or ``";
+    says(&rt, &look.error(alloc), ErrorKind::Expected, text, nth(0));
+    assert!(rt; !look.peek::<Word<20>>() & !look.peek::<Comma>());
+    says(&rt, &look.error(alloc), ErrorKind::Expected, text, nth(0));
+    Ok(())
+}
