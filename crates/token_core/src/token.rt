@@ -194,6 +194,11 @@ impl<const N: u32, const LEN: usize> Token for Mark<N, LEN> {
     fn number() -> u8 {
         mark_number(N)
     }
+
+    // the trait's body asks for the room of a value, which an array of any length may not have
+    fn display() -> &'static str {
+        mark_name(N)
+    }
 }
 
 impl<const N: u32, const LEN: usize> Parse for Mark<N, LEN> {
