@@ -1,11 +1,11 @@
 -- The names of marks and words, in the table of all names.
 use Rattle.std.specs.Prelude.{nat_lt}
-use Rattle.std.proofs.Common.{◌≡◌, ℕ, ◌+◌, ◌-◌, ◌<◌, ◌≤◌, ◌++◌, [], true, false, if◌then◌else◌, get_or, map, refl, sym, ap, ◌∙◌, inl, inr, arith}
+use Rattle.std.proofs.Common.{◌≡◌, ℕ, ◌+◌, ◌-◌, ◌<◌, ◌++◌, [], if◌then◌else◌, get_or, map, refl, sym, ap, ◌∙◌, inl, inr, arith}
 use Rattle.std.proofs.Math.ListN.{get_or-map}
 use Rattle.std.proofs.lemmas.List.{get_or_append_left, get_or-append_right, get_or_past}
 use Rattle.std.proofs.lemmas.Bool.{cases_Bool}
 use Rattle.token_core.specs.Marks.{mark_table, word_table, chars_of, text_of, quoted, mark_name, word_name}
-use Rattle.token_core.specs.TokenNames.{name_of, names, other_names, nameless, mark_number, word_number}
+use Rattle.token_core.specs.TokenNames.{name_of, other_names, nameless, mark_number, word_number}
 
 mark_at : (n : ℕ) → n < 27 → name_of n ≡ quoted (chars_of n)
 mark_at n h = get_or_append_left (map quoted mark_table) (map quoted word_table ++ other_names) (quoted []) n h ∙ get_or-map quoted mark_table n []

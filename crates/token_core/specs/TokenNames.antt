@@ -16,7 +16,7 @@ names = map quoted mark_table ++ (map quoted word_table ++ other_names)
 abbrev pub name_of : ℕ → Bytes
 name_of n = get_or names n (quoted [])
 
--- how many tokens there are; all that have no name token_count as the last
+-- how many tokens there are; all that have no name count as the last
 abbrev pub token_count : ℕ
 token_count = 56
 
