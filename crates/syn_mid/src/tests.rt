@@ -148,7 +148,7 @@ fn show_error(error: &Error, out: &mut String) -> Result<(), AllocError> {
 
 fn path_read(alloc: Global, tokens: &TokenStream) -> Result<String, AllocError> {
     let mut out = String::new(alloc);
-    match read_all_with(ModStyle::<u8>::new(), alloc, tokens) {
+    match read_all_with(alloc, ModStyle::<u8>::new(), tokens) {
         Ok(path) => show_path(&path, &mut out)?,
         Err(error) => show_error(&error, &mut out)?,
     }
@@ -198,7 +198,7 @@ fn reads_paths_in_invisible_groups(rt: HostRuntime) -> Result<(), Fail> {
     put_group(rt.alloc(), Delimiter::None, ":: b", &mut tokens)?;
     let want = "a 0-1;:: 0-1 1-2;b 3-4;";
     assert_eq!(rt; path_read(rt.alloc(), &tokens)?.as_str(), want);
-    match read_all_with(ByFn(Path::<u8>::parse_mod_style), rt.alloc(), &tokens) {
+    match read_all_with(rt.alloc(), ByFn(Path::<u8>::parse_mod_style), &tokens) {
         Ok(path) => assert_eq!(rt; path.segments.len(), 2),
         Err(_) => assert!(rt; false),
     }
@@ -226,7 +226,7 @@ fn show_macro(call: &Macro<u8>, out: &mut String) -> Result<(), AllocError> {
 /// What a list is read as, and what the call prints.
 fn macro_read(alloc: Global, tokens: &TokenStream) -> Result<String, AllocError> {
     let mut out = String::new(alloc);
-    match read_all_with(ByFn(parse_macro::<u8>), alloc, tokens) {
+    match read_all_with(alloc, ByFn(parse_macro::<u8>), tokens) {
         Ok(call) => {
             show_macro(&call, &mut out)?;
             out.push('=')?;
@@ -279,7 +279,7 @@ fn reads_macros(rt: HostRuntime) -> Result<(), Fail> {
     }
     let mut tokens = tokens_of(rt.alloc(), "m !")?;
     put_group(rt.alloc(), Delimiter::None, "x", &mut tokens)?;
-    match read_all_with(ByFn(parse_macro::<u8>), rt.alloc(), &tokens) {
+    match read_all_with(rt.alloc(), ByFn(parse_macro::<u8>), &tokens) {
         Ok(_) => assert!(rt; false),
         Err(error) => assert!(rt; error.kind() == ErrorKind::ExpectedDelimiter),
     }
@@ -417,7 +417,7 @@ fn tells_identifiers(rt: HostRuntime) -> Result<(), Fail> {
         (":: a :: b :: cd", refused, " 3-4 13-15"),
     ] {
         let tokens = tokens_of(rt.alloc(), text)?;
-        match read_all_with(ModStyle::<u8>::new(), rt.alloc(), &tokens) {
+        match read_all_with(rt.alloc(), ModStyle::<u8>::new(), &tokens) {
             Ok(path) => {
                 let mut all = String::from_str(rt.alloc(), want)?;
                 all.push_str(points)?;
@@ -457,7 +457,7 @@ fn makes_paths(rt: HostRuntime) -> Result<(), Fail> {
 }
 
 fn read_and_print(alloc: Global, tokens: &TokenStream, out: &mut TokenStream) -> Result<(), Error> {
-    let call = read_all_with(ByFn(parse_macro::<u8>), alloc, tokens)?;
+    let call = read_all_with(alloc, ByFn(parse_macro::<u8>), tokens)?;
     call.to_tokens(alloc, out)?;
     Ok(())
 }

@@ -134,7 +134,7 @@ fn nested(alloc: Global, does: Does, text: &str) -> Result<String, Error> {
         }
         at_property(alloc, does, meta)
     };
-    let answer = read_all_with(parser::<_, Sample>(logic), alloc, &tokens);
+    let answer = read_all_with(alloc, parser::<_, Sample>(logic), &tokens);
     show(answer, &mut calls)?;
     Ok(calls)
 }

@@ -57,7 +57,7 @@ where
     requires { P.can_parse parser }
     ensures { spec.Prints (P.reads parser) (P.refuses parser) (P.promise parser) P.Output.print (toks tokens.now) result }
 {
-    let tree = read_all_with(parser, alloc, tokens)?;
+    let tree = read_all_with(alloc, parser, tokens)?;
     Ok(print_of(alloc, &tree)?)
 }
 

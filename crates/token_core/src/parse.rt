@@ -69,7 +69,7 @@ pub fn read_all<T: Parse>(alloc: Global, tokens: &TokenStream) -> Result<T, Erro
     ensures reads { WholeRead T.reads T.refuses (started none (toks tokens.now)) result }
     ensures promise { Promised (T.promise (toks tokens.now)) result }
 {
-    read_all_with(ByParse::<T>::new(), alloc, tokens)
+    read_all_with(alloc, ByParse::<T>::new(), tokens)
 }
 
 /// What reads from a stream once.
@@ -97,21 +97,21 @@ pub trait Parser {
 
 /// Reads all of a list by a parser.
 pub fn read_all_with<P: Parser + Drop>(
-    parser: P,
     alloc: Global,
+    parser: P,
     tokens: &TokenStream,
 ) -> Result<P::Output, Error>
     requires { P.can_parse parser }
     ensures reads { WholeRead (P.reads parser) (P.refuses parser) (started none (toks tokens.now)) result }
     ensures promise { Promised (P.promise parser (toks tokens.now)) result }
 {
-    read_scoped(parser, alloc, Span::none(), tokens)
+    read_scoped(alloc, parser, Span::none(), tokens)
 }
 
 /// Reads all of a list by a parser; refusals at its end point at the scope.
 pub fn read_scoped<P: Parser + Drop>(
-    parser: P,
     alloc: Global,
+    parser: P,
     scope: Span,
     tokens: &TokenStream,
 ) -> Result<P::Output, Error>
@@ -155,7 +155,9 @@ pub struct ByParse<T> {
 }
 
 impl<T> ByParse<T> {
-    pub fn new() -> ByParse<T> {
+    pub fn new() -> ByParse<T>
+        ensures { result ≡ record { of = record {} } }
+    {
         ByParse { of: PhantomData }
     }
 }

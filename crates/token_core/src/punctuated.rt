@@ -5,12 +5,11 @@ ghost use Rattle.token_core.specs.Lists as spec;
 ghost use Rattle.token_core.specs.Joined.{values_of, marks_of};
 ghost use Rattle.token_core.specs.Reads.{Parsed, Follows};
 ghost use Rattle.token_core.specs.Terminated as terminated;
-ghost use Rattle.token_core.specs.Terminated.{Takes};
 ghost use Rattle.std.specs.Iterator.{YieldsFirstBy, YieldsFirstRef, YieldsFirstMut, item_count};
 ghost use Rattle.token_core.specs.Lent.{values_left};
 
 use crate::boxed::Boxed;
-use crate::error::Error;
+use crate::error::{Error, ErrorKind};
 use crate::items::Items;
 use crate::parse::Parse;
 use crate::parse_stream::ParseStream;
@@ -346,23 +345,27 @@ impl<'a, T, P> Iterator for IterMut<'a, T, P> {
 }
 
 impl<T: Parse, P: Parse> Punctuated<T, P> {
-    /// Reads values and marks in turn up to the end of the stream; a mark may be last. A read of a mark must take a token.
+    /// Reads values and marks in turn up to the end of the stream; a mark may be last. A value and a mark that take no token
+    /// are refused as `unexpected token`, since they would come for ever.
     #[tactic(auto, using(crate::proofs::Suffixes::follows))]
     pub fn parse_terminated(
         alloc: Global,
         input: &mut ParseStream<'_>,
     ) -> Result<Punctuated<T, P>, Error>
-        requires { Takes P.reads }
         ensures reads { Parsed (terminated.Answers T.reads P.reads input.old) (λ e. terminated.Refused T.reads P.reads T.refuses P.refuses e input.old) result input.new }
         ensures within { Follows input.old input.new }
     {
         let mut list = Punctuated::new(alloc);
         'turn: while !input.is_empty() {
+            let begin = input.cursor();
             list.push_value(alloc, T::parse(alloc, input)?)?;
             if input.is_empty() {
                 return Ok(list);
             }
             list.push_punct(P::parse(alloc, input)?)?;
+            if !begin.is_before(&input.cursor()) {
+                return Err(input.refuse(alloc, ErrorKind::Unexpected));
+            }
         }
         Ok(list)
     }

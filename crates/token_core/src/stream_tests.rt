@@ -1,12 +1,12 @@
 //! Positions, choices, lists and whole reads: the texts of refusals, and a few worked examples.
 
-ghost use Rattle.token_core.specs.Reads.{Follows};
+ghost use Rattle.token_core.specs.Reads.{Follows, OptionReads, OptionRefuses};
 
 use crate::tests::{nth, read, refusal, says, tokens};
 use crate::token::{Comma, Paren, PathSep};
 use crate::{
-    ByParse, Delimiter, Error, ErrorKind, Ident, ParseStream, Punctuated, Span, TokenBuffer,
-    TokenStream, TokenTree, read_scoped, verbatim,
+    ByParse, Delimiter, Error, ErrorKind, Ident, Parse, ParseStream, Punctuated, Span, Token,
+    TokenBuffer, TokenStream, TokenTree, read_scoped, verbatim,
 };
 use std::alloc::Global;
 use std::process::Abort;
@@ -262,6 +262,58 @@ fn lists_are_read_to_the_end(rt: HostRuntime) -> Result<(), Fail> {
     Ok(())
 }
 
+/// A token, if it is there.
+#[derive(Drop)]
+struct Perhaps<T>(Option<T>);
+
+impl<T: Token + Parse> Parse for Perhaps<T> {
+    ghost reads = { λ s it. OptionReads T.sees T.reads s it.0 };
+
+    ghost refuses = { OptionRefuses T.sees T.refuses };
+
+    #[tactic(auto, using(crate::specs::Reads::no_promise))]
+    fn parse(alloc: Global, input: &mut ParseStream<'_>) -> Result<Perhaps<T>, Error> {
+        Ok(Perhaps(input.parse_option(alloc)?))
+    }
+}
+
+/// Identifiers and commas in turn, each of which may be absent.
+fn perhaps_names(
+    alloc: Global,
+    input: &mut ParseStream<'_>,
+) -> Result<Punctuated<Perhaps<Ident>, Perhaps<Comma>>, Error> {
+    Punctuated::parse_terminated(alloc, input)
+}
+
+#[test]
+fn lists_of_nothing_end(rt: HostRuntime) -> Result<(), Fail> {
+    let alloc = rt.alloc();
+    for (text, count, trailing) in [
+        ("", 0, false),
+        ("a", 1, false),
+        ("a b", 2, false),
+        (", a", 2, false),
+        ("a , ,", 2, true),
+    ] {
+        let list = tokens(alloc, text)?;
+        let buffer = TokenBuffer::new(alloc, &list)?;
+        let mut input = ParseStream::new(&buffer, Span::none());
+        let list = read(perhaps_names(alloc, &mut input))?;
+        assert_eq!(rt; list.len(), count, "{text}");
+        assert_eq!(rt; list.trailing_punct(), trailing, "{text}");
+        assert!(rt; input.is_empty());
+    }
+    for (text, at) in [("+", 0), ("a +", 1), ("a , + b", 2), ("^ $ +", 2)] {
+        let list = tokens(alloc, text)?;
+        let buffer = TokenBuffer::new(alloc, &list)?;
+        let mut input = ParseStream::new(&buffer, nth(9));
+        let error = refusal(perhaps_names(alloc, &mut input))?;
+        let kind = ErrorKind::Unexpected;
+        says(&rt, &error, kind, "unexpected token", nth(at));
+    }
+    Ok(())
+}
+
 /// Two colons, and then an identifier.
 #[tactic(auto, using(crate::proofs::Suffixes::follows))]
 fn after_colons(alloc: Global, input: &mut ParseStream<'_>) -> Result<Ident, Error>
@@ -275,12 +327,12 @@ fn after_colons(alloc: Global, input: &mut ParseStream<'_>) -> Result<Ident, Err
 fn scopes_are_told(rt: HostRuntime) -> Result<(), Fail> {
     let alloc = rt.alloc();
     let by_type = ByParse::<Ident>::new();
-    let error = refusal(read_scoped(by_type, alloc, nth(7), &tokens(alloc, "")?))?;
+    let error = refusal(read_scoped(alloc, by_type, nth(7), &tokens(alloc, "")?))?;
     let text = "unexpected end of input, expected identifier";
     says(&rt, &error, ErrorKind::Expected, text, nth(7));
     let by_type = ByParse::<Ident>::new();
     assert_eq!(rt;
-        read(read_scoped(by_type, alloc, nth(7), &tokens(alloc, "a")?))?.text(),
+        read(read_scoped(alloc, by_type, nth(7), &tokens(alloc, "a")?))?.text(),
         "a"
     );
     let list = tokens(alloc, ":: a b")?;

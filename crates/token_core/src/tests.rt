@@ -571,10 +571,10 @@ fn whole_lists_are_read(rt: HostRuntime) -> Result<(), Fail> {
     let error = refusal(read_all::<Ident>(alloc, &tokens(alloc, "")?))?;
     let text = "unexpected end of input, expected identifier";
     says(&rt, &error, ErrorKind::Expected, text, Span::none());
-    let (first, second) = read(read_all_with(ByFn(two), alloc, &tokens(alloc, "a b")?))?;
+    let (first, second) = read(read_all_with(alloc, ByFn(two), &tokens(alloc, "a b")?))?;
     assert_eq!(rt; first.text(), "a");
     assert_eq!(rt; second.text(), "b");
-    let error = refusal(read_all_with(ByFn(two), alloc, &tokens(alloc, "a b ( c )")?))?;
+    let error = refusal(read_all_with(alloc, ByFn(two), &tokens(alloc, "a b ( c )")?))?;
     says(
         &rt,
         &error,
@@ -582,7 +582,7 @@ fn whole_lists_are_read(rt: HostRuntime) -> Result<(), Fail> {
         "unexpected token",
         nth(2),
     );
-    let error = refusal(read_all_with(ByFn(two), alloc, &tokens(alloc, "a +")?))?;
+    let error = refusal(read_all_with(alloc, ByFn(two), &tokens(alloc, "a +")?))?;
     says(
         &rt,
         &error,

@@ -228,7 +228,7 @@ impl Group {
     pub fn copy(&self, alloc: Global) -> Result<Group, AllocError>
         ensures { IfOk result (λ g. g ≡ self.now) }
     {
-        copy_group(self, alloc)
+        copy_group(alloc, self)
     }
 }
 
@@ -237,7 +237,7 @@ impl TokenTree {
     pub fn copy(&self, alloc: Global) -> Result<TokenTree, AllocError>
         ensures { IfOk result (λ t. t ≡ self.now) }
     {
-        copy_tree(self, alloc)
+        copy_tree(alloc, self)
     }
 }
 
@@ -294,40 +294,40 @@ impl TokenStream {
     pub fn copy(&self, alloc: Global) -> Result<TokenStream, AllocError>
         ensures { IfOk result (λ s. s ≡ self.now) }
     {
-        copy_stream(self, alloc)
+        copy_stream(alloc, self)
     }
 }
 
 #[cycle(copy)]
-fn copy_stream(stream: &TokenStream, alloc: Global) -> Result<TokenStream, AllocError>
+fn copy_stream(alloc: Global, stream: &TokenStream) -> Result<TokenStream, AllocError>
     ensures { IfOk result (λ s. s ≡ stream.now) }
 {
     let mut trees = Items::new(alloc);
     for tree in stream.trees.as_slice() {
-        trees.push(copy_tree(tree, alloc)?)?;
+        trees.push(copy_tree(alloc, tree)?)?;
     }
     Ok(TokenStream { trees })
 }
 
 #[cycle(copy)]
-fn copy_tree(tree: &TokenTree, alloc: Global) -> Result<TokenTree, AllocError>
+fn copy_tree(alloc: Global, tree: &TokenTree) -> Result<TokenTree, AllocError>
     ensures { IfOk result (λ t. t ≡ tree.now) }
 {
     match tree {
         TokenTree::Ident(ident) => Ok(TokenTree::Ident(ident.copy(alloc)?)),
         TokenTree::Punct(punct) => Ok(TokenTree::Punct(*punct)),
         TokenTree::Literal(literal) => Ok(TokenTree::Literal(literal.copy(alloc)?)),
-        TokenTree::Group(group) => Ok(TokenTree::Group(copy_group(group, alloc)?)),
+        TokenTree::Group(group) => Ok(TokenTree::Group(copy_group(alloc, group)?)),
     }
 }
 
 #[cycle(copy)]
-fn copy_group(group: &Group, alloc: Global) -> Result<Group, AllocError>
+fn copy_group(alloc: Global, group: &Group) -> Result<Group, AllocError>
     ensures { IfOk result (λ g. g ≡ group.now) }
 {
     Ok(Group {
         delimiter: group.delimiter,
-        stream: copy_stream(&group.stream, alloc)?,
+        stream: copy_stream(alloc, &group.stream)?,
         span: group.span,
     })
 }

@@ -1,11 +1,12 @@
-use Rattle.std.proofs.Common.{◌≡◌, ◌<◌, ◌≤◌, ◌++◌, ◌∷◌, [], true, false, Err, rules, arith}
+use Rattle.std.proofs.Common.{◌≡◌, ◌++◌, ◌∷◌, [], true, false, Err, ◌∙◌, rules, arith}
 use Rattle.std.proofs.lemmas.Grind.{common_steps}
+use Rattle.token_core.specs.declared.error.ErrorKind.TheVariants.{Unexpected}
+use Rattle.token_core.specs.Refusal.{fixed}
 use Rattle.token_core.specs.Reads.{is_done}
-use Rattle.token_core.specs.Loops.{size}
-use Rattle.token_core.specs.Terminated.{no_value_there, no_mark_there, later}
-use Rattle.token_core.proofs.Suffixes.{follows}
-use Rattle.token_core.proofs.Turns.{size_suffix}
-use Rattle.token_core.proofs.Terminations.{refused_so, ended, last_turn, next_turn}
+use Rattle.token_core.specs.Positions.{is_before}
+use Rattle.token_core.specs.Terminated.{no_value_there, no_mark_there, nothing_taken, later}
+use Rattle.token_core.proofs.Suffixes.{suffix_trans, follows}
+use Rattle.token_core.proofs.Terminations.{refused_so, ended, last_turn, next_turn, moved, stayed, refused_there}
 use Rattle.token_core.proofs.punctuated.Punctuated.parse_terminated.Goals as goal
 
 pub returns-in_err-parse-clause-reads : goal.returns-in_err-parse-clause-reads
@@ -30,20 +31,26 @@ returns-in_err-parse-2-clause-reads g c =
     let back : c.from_residual-in_err-parse-2.result ≡ Err e = first_of (search rules, grind (arith, common_steps)) in
     refused_so _ _ _ _ e back (λ k. c.turn.invariant.refused e (no_mark_there d c.in_ok-parse.ensures.reads f (c.in_err-parse-2.ensures.reads k)))
 
-pub turn-smaller : goal.turn-smaller
-turn-smaller g c =
-    let a : size c.parse-in-turn.new.input.rest < size c.parse.new.input.rest = c.requires _ _ _ c.in_ok-parse-2.ensures.reads in
-    let b : size c.parse.new.input.rest ≤ size c.turn.input.rest = size_suffix c.parse.ensures.within.suffix in
-    omega (arith, a, b)
+pub returns-then-not-is_before-clause-reads : goal.returns-then-not-is_before-clause-reads
+returns-then-not-is_before-clause-reads g c = λ k.
+    let d : is_done c.turn.input.rest ≡ false = first_of (search rules, grind (arith, common_steps)) in
+    let f : is_done c.parse.new.input.rest ≡ false = first_of (search rules, grind (arith, common_steps)) in
+    let b : is_before c.turn.input.rest c.parse-in-turn.new.input.rest ≡ false = first_of (search rules, grind (arith, common_steps)) in
+    let s = stayed c.turn.input.rest c.parse-in-turn.new.input.rest (suffix_trans c.parse-in-turn.ensures.within.suffix c.parse.ensures.within.suffix) b in
+    let o = c.parse-in-turn.ensures.within.scope ∙ c.parse.ensures.within.scope in
+    c.turn.invariant.refused c.refuse.result
+    (nothing_taken d c.in_ok-parse.ensures.reads f c.in_ok-parse-2.ensures.reads s (c.refuse.ensures k ∙ refused_there Unexpected (fixed Unexpected) c.turn.input c.parse-in-turn.new.input s o))
 
 pub turn-preserved : goal.turn-preserved
 turn-preserved g c =
     let d : is_done c.turn.input.rest ≡ false = first_of (search rules, grind (arith, common_steps)) in
     let f : is_done c.parse.new.input.rest ≡ false = first_of (search rules, grind (arith, common_steps)) in
+    let b : is_before c.turn.input.rest c.parse-in-turn.new.input.rest ≡ true = first_of (search rules, grind (arith, common_steps)) in
+    let n = moved c.turn.input.rest c.parse-in-turn.new.input.rest b in
     let v : c.push_punct.new.self ≡ (c.turn.list.0 ++ c.in_ok-parse.field-0 ∷ [], c.turn.list.1 ++ c.in_ok-parse-2.field-0 ∷ []) = first_of (search rules, grind (arith, common_steps)) in
     record {
-      answers = next_turn g.T.Parse.reads g.P.Parse.reads _ _ _ _ _ _ _ _ c.turn.invariant.answers d c.in_ok-parse.ensures.reads f c.in_ok-parse-2.ensures.reads v;
-      refused = λ e i. c.turn.invariant.refused e (later d c.in_ok-parse.ensures.reads f c.in_ok-parse-2.ensures.reads i);
+      answers = next_turn g.T.Parse.reads g.P.Parse.reads _ _ _ _ _ _ _ _ c.turn.invariant.answers d c.in_ok-parse.ensures.reads f c.in_ok-parse-2.ensures.reads n v;
+      refused = λ e i. c.turn.invariant.refused e (later d c.in_ok-parse.ensures.reads f c.in_ok-parse-2.ensures.reads n i);
       whole = grind (arith, common_steps);
       within = grind (arith, follows);
     }
