@@ -17,15 +17,9 @@ mod parse_stream;
 mod punctuated;
 mod range;
 mod span;
-#[cfg(test)]
-mod stream_tests;
-#[cfg(test)]
-mod tests;
 mod text;
 mod to_tokens;
 pub mod token;
-#[cfg(test)]
-mod token_tests;
 mod tree;
 pub mod verbatim;
 mod word;
