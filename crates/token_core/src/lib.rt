@@ -9,8 +9,6 @@ mod ident;
 mod items;
 mod lifetime;
 mod lit;
-#[cfg(test)]
-mod look_tests;
 mod lookahead;
 mod mark;
 mod member;
@@ -19,16 +17,10 @@ mod parse_stream;
 mod punctuated;
 mod range;
 mod span;
-#[cfg(test)]
-mod stream_tests;
-#[cfg(test)]
-mod tests;
 mod text;
 mod to_tokens;
 pub mod token;
 mod token_names;
-#[cfg(test)]
-mod token_tests;
 mod tree;
 pub mod verbatim;
 mod word;

@@ -1,15 +1,13 @@
 //! Choices of more tokens than a list of names would hold. Lists are written as in `tests`.
 
-use crate::tests::{nth, says, tokens};
-use crate::token::{
+use crate::tests::{buffer_of, is, nth, says, tokens};
+use token_core::token::{
     And, As, At, Box, Brace, Bracket, Colon, Comma, Const, Crate, DotDot, DotDotDot, DotDotEq, Dyn,
     Eq, EqEq, Extern, FatArrow, Fn, For, GroupToken, Gt, If, Impl, Le, Lt, Minus, Mut, Ne, Not, Or,
     OrEq, OrOr, Paren, PathSep, Plus, Pound, Question, RArrow, Ref, SelfType, SelfValue, Semi,
     ShlEq, Star, Super, Try, Underscore, Unsafe, Use, Where,
 };
-use crate::{ErrorKind, Ident, Lifetime, Lit, LitStr, Lookahead, ParseStream, TokenBuffer, Word};
-use std::process::Abort;
-use std::test::Fail;
+use token_core::{ErrorKind, Ident, Lifetime, Lit, LitStr, Lookahead, ParseStream, Word};
 
 /// Tests for each word, those of the first half first.
 fn sees_word(look: &mut Lookahead<'_>) -> bool {
@@ -93,33 +91,32 @@ const ALL: &str = "expected one of: invisible group, square brackets, curly brac
                    `||`, `->`, `<<=`";
 
 #[test]
-fn choices_name_every_token(rt: HostRuntime) -> Result<(), Fail> {
+fn choices_name_every_token(rt: HostRuntime) {
     let alloc = rt.alloc();
-    let list = tokens(alloc, "+")?;
-    let buffer = TokenBuffer::new(alloc, &list)?;
+    let list = tokens(&rt, alloc, "+");
+    let buffer = buffer_of(&rt, alloc, &list);
     let mut look = ParseStream::new(&buffer, nth(9)).lookahead1();
     // the second time names nothing more
     for _ in 0..2u8 {
-        assert!(rt; !sees_other(&mut look));
-        assert!(rt; !sees_word(&mut look));
-        assert!(rt; !sees_mark(&mut look));
-        assert!(rt; look.peek::<Plus>());
+        is(&rt, !sees_other(&mut look), "no other token");
+        is(&rt, !sees_word(&mut look), "no word");
+        is(&rt, !sees_mark(&mut look), "no other mark");
+        is(&rt, look.peek::<Plus>(), "a plus");
         says(&rt, &look.error(alloc), ErrorKind::Expected, ALL, nth(0));
     }
-    Ok(())
 }
 
 #[test]
-fn choices_name_marks_and_words_without_a_name(rt: HostRuntime) -> Result<(), Fail> {
+fn choices_name_marks_and_words_without_a_name(rt: HostRuntime) {
     let alloc = rt.alloc();
-    let list = tokens(alloc, "+")?;
-    let buffer = TokenBuffer::new(alloc, &list)?;
+    let list = tokens(&rt, alloc, "+");
+    let buffer = buffer_of(&rt, alloc, &list);
     let mut look = ParseStream::new(&buffer, nth(9)).lookahead1();
-    assert!(rt; !look.peek::<Comma>());
-    assert!(rt; !look.peek::<Word<99>>());
+    is(&rt, !look.peek::<Comma>(), "no comma");
+    is(&rt, !look.peek::<Word<99>>(), "no word without a name");
     let text = "expected `,` or ``";
     says(&rt, &look.error(alloc), ErrorKind::Expected, text, nth(0));
-    assert!(rt; !look.peek::<Word<20>>() & !look.peek::<Comma>());
+    is(&rt, !look.peek::<Word<20>>(), "no other one");
+    is(&rt, !look.peek::<Comma>(), "no comma again");
     says(&rt, &look.error(alloc), ErrorKind::Expected, text, nth(0));
-    Ok(())
 }

@@ -1,0 +1,11 @@
+//! The tests of `token_core`, apart from it, so that they are proved beside its must-fail edits.
+#![tactic(auto)]
+
+#[cfg(test)]
+mod look_tests;
+#[cfg(test)]
+mod stream_tests;
+#[cfg(test)]
+mod tests;
+#[cfg(test)]
+mod token_tests;
