@@ -45,11 +45,11 @@ before ts v = (ts ++ v.0, v.1)
 -- what begins with the items of a tree has the tree first; a part of these items has no end of a group that is not entered
 pub record Whole (x : TokenTree) : Type 0 where
   pub first : (l : List Item) → parts (tree_items x ++ l) ≡ onto x (parts l)
-  pub open : (n : ℕ) → (parts (take n (tree_items x))).1 ≡ []
+  pub no_end : (n : ℕ) → (parts (take n (tree_items x))).1 ≡ []
 
 record WholeStream (c : TokenStream) : Type 0 where
   first : (l : List Item) → parts (items (toks c) ++ l) ≡ before (trees c) (parts l)
-  open : (n : ℕ) → (parts (take n (items (toks c)))).1 ≡ []
+  no_end : (n : ℕ) → (parts (take n (items (toks c)))).1 ≡ []
 
 below : (m n : ℕ) → (m ≤ n) ⊎ (n < m)
 below zero n = inl (omega arith)
@@ -81,15 +81,15 @@ open_all [] n = take_none n
 open_all (a ∷ l) n =
     let more = row_items (map (λ (b : (x : TokenTree) × Whole x). b.0) l) in
     elim (below n (length (tree_items a.0))) [
-      | inl h ↦ ap (λ z. (parts z).1) (take-append-le n (tree_items a.0) more h) ∙ a.1.open n
+      | inl h ↦ ap (λ z. (parts z).1) (take-append-le n (tree_items a.0) more h) ∙ a.1.no_end n
       | inr h ↦ ap (λ z. (parts z).1) (take_past n (tree_items a.0) more (omega (arith, h))) ∙ ap (λ (v : Levels). v.1) (a.1.first (take (n - length (tree_items a.0)) more)) ∙ open_all l (n - length (tree_items a.0))
     ]
 
 module _ (b : Delimiter) (p : DelimSpan) (c : TokenStream) (w : WholeStream c) where
-  abbrev self : TokenTree
-  self = t.Group (group_of b c p)
+  abbrev this : TokenTree
+  this = t.Group (group_of b c p)
 
-  group_first : (l : List Item) → parts (a_beginning b p ∷ ((items (toks c) ++ an_end ∷ []) ++ l)) ≡ onto self (parts l)
+  group_first : (l : List Item) → parts (a_beginning b p ∷ ((items (toks c) ++ an_end ∷ []) ++ l)) ≡ onto this (parts l)
   group_first l =
       ap (λ z. closed b p (parts z)) (append_assoc (items (toks c)) (an_end ∷ []) l) ∙ ap (closed b p) (w.first (an_end ∷ l))
       ∙ ap (λ z. (t.Group (group_of b z p) ∷ (parts l).0, (parts l).1)) (whole c)
@@ -101,7 +101,7 @@ module _ (b : Delimiter) (p : DelimSpan) (c : TokenStream) (w : WholeStream c) w
   group_open : (n : ℕ) → (parts (take n (a_beginning b p ∷ (items (toks c) ++ an_end ∷ [])))).1 ≡ []
   group_open zero = refl
   group_open (suc n) = elim (below n (length (items (toks c)))) [
-    | inl h ↦ still_open (parts (take n (items (toks c) ++ an_end ∷ []))) (ap (λ z. (parts z).1) (take-append-le n (items (toks c)) (an_end ∷ []) h) ∙ w.open n)
+    | inl h ↦ still_open (parts (take n (items (toks c) ++ an_end ∷ []))) (ap (λ z. (parts z).1) (take-append-le n (items (toks c)) (an_end ∷ []) h) ∙ w.no_end n)
     | inr h ↦ ap (λ z. (closed b p (parts z)).1) (take_past n (items (toks c)) (an_end ∷ []) (omega (arith, h))) ∙ ended (n - length (items (toks c))) (omega (arith, h))
   ]
     where
@@ -113,10 +113,10 @@ module _ (b : Delimiter) (p : DelimSpan) (c : TokenStream) (w : WholeStream c) w
           none zero = refl
           none (suc m) = refl
 
-  whole_group : Whole self
+  whole_group : Whole this
   whole_group = record {
     first = λ l. ap (λ z. parts (z ++ l)) (delimited_items b p c) ∙ group_first l;
-    open = λ n. ap (λ z. (parts (take n z)).1) (delimited_items b p c) ∙ group_open n;
+    no_end = λ n. ap (λ z. (parts (take n z)).1) (delimited_items b p c) ∙ group_open n;
   }
 
 one_open : (x : Item) → ((l : List Item) → (parts l).1 ≡ [] → (parts (x ∷ l)).1 ≡ []) → (n : ℕ) → (parts (take n (x ∷ []))).1 ≡ []
@@ -126,7 +126,7 @@ one_open x h (suc n) = h (take n []) (take_none n)
 leaf : (x y : TokenTree) (z : Item) → y ≡ x → tree_items x ≡ z ∷ [] → ((l : List Item) → parts (z ∷ l) ≡ onto x (parts l)) → Whole y
 leaf x y z e i h = subst Whole (sym e) (record {
   first = λ l. ap (λ k. parts (k ++ l)) i ∙ h l;
-  open = λ n. ap (λ k. (parts (take n k)).1) i ∙ one_open z (λ l k. ap (λ (v : Levels). v.1) (h l) ∙ k) n;
+  no_end = λ n. ap (λ k. (parts (take n k)).1) i ∙ one_open z (λ l k. ap (λ (v : Levels). v.1) (h l) ∙ k) n;
 })
 
 module _ where
@@ -156,7 +156,7 @@ module _ where
       let l = map (λ (a : WA). a.0) y.trees in
       record {
         first = λ m. ap (λ z. parts (z ++ m)) (stream_items l) ∙ first_all y.trees m ∙ ap (λ z. before z (parts m)) (sym (same_trees l));
-        open = λ n. ap (λ z. (parts (take n z)).1) (stream_items l) ∙ open_all y.trees n;
+        no_end = λ n. ap (λ z. (parts (take n z)).1) (stream_items l) ∙ open_all y.trees n;
       }
 
   whole_tree : (x : TokenTree) → Whole x
@@ -224,7 +224,7 @@ begins_group g =
           let n : length l - length e ≤ length c = omega (arith, h, ap length a, length-append c (an_end ∷ r)) in
           let u : up_to l e ≡ take (length l - length e) c = ap (take (length l - length e)) a ∙ take-append-le (length l - length e) c (an_end ∷ r) n in
           ap (λ z. all_parts (parts z)) (first_item (a_beginning (delimiter_of g) (span_of g)) l e (omega (arith, k)))
-          ∙ open_here (delimiter_of g) (span_of g) (parts (up_to l e)) (ap (λ z. (parts z).1) u ∙ (whole_stream (content_of g)).open (length l - length e));
+          ∙ open_here (delimiter_of g) (span_of g) (parts (up_to l e)) (ap (λ z. (parts z).1) u ∙ (whole_stream (content_of g)).no_end (length l - length e));
       bound = λ r e h k. refl;
     }
 

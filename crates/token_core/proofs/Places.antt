@@ -2,7 +2,7 @@
 use Rattle.std.specs.Prelude.{nat_lt}
 use Rattle.std.proofs.Common.{◌≡◌, ℕ, zero, suc, ◌+◌, ◌-◌, ◌<◌, ◌≤◌, Bool, true, false, Some, List, [], ◌∷◌, ◌++◌, map, length, take, drop, refl, sym, ◌∙◌, ap, subst, append_assoc, append-nil, arith}
 use Rattle.std.proofs.lemmas.Bool.{ltb-true, ltb-false, lt-ltb}
-use Rattle.std.proofs.lemmas.List.{length-append, drop-map}
+use Rattle.std.proofs.lemmas.List.{length-append, drop-map, take_rest}
 use Rattle.std.proofs.Math.Seq.{drop-length}
 use Rattle.token_core.specs.declared.tree.Delimiter.{Delimiter}
 use Rattle.token_core.specs.declared.tree.Delimiter.TheVariants as d
@@ -22,7 +22,7 @@ use Rattle.token_core.specs.Front.{front, past_ends}
 use Rattle.token_core.specs.Groups.{next_invisible, as_invisible}
 use Rattle.token_core.specs.Stream.{Stream}
 use Rattle.token_core.specs.Reads.{IsSuffix, all_of, past_word, past_punct, past_lit, past_group, past_enter, past_leave, Follows, as_group}
-use Rattle.token_core.specs.Positions.{Item, an_ident, a_punct, a_literal, a_beginning, an_end, items, item, tree_items, entries_items, is_before, IsReached, there, past, Holds}
+use Rattle.token_core.specs.Positions.{Item, an_ident, a_punct, a_literal, a_beginning, an_end, items, item, tree_items, entries_items, entered, left, is_before, IsReached, there, past, Holds, Placed}
 use Rattle.token_core.proofs.Fronts.{nested_tail, nested_drop}
 use Rattle.token_core.proofs.Positions.{ident_items, punct_items, literal_items, a_group_items, items_seen, parts_seen, group_seen, item_group}
 
@@ -120,17 +120,44 @@ drop_front [] ys = refl
 drop_front (x ∷ xs) ys = drop_front xs ys
 
 -- what is left of the buffer there
-module _ (l m after : List Item) (h : Ends l m) where
-  pub ends_shorter : length l ≤ length m
-  ends_shorter = omega (arith, ap length h.is, length-append h.before l)
+module _ (l m : List Item) where
+  pub ends_shorter : Ends l m → length l ≤ length m
+  ends_shorter h = omega (arith, ap length h.is, length-append h.before l)
 
-  pub ends_left : (n : ℕ) (whole : List Item) → whole ≡ m ++ after → n + length l ≡ length m → drop n whole ≡ l ++ after
-  ends_left n whole e f =
+  ends_left : (after : List Item) (h : Ends l m) (n : ℕ) (whole : List Item) → whole ≡ m ++ after → n + length l ≡ length m → drop n whole ≡ l ++ after
+  ends_left after h n whole e f =
       let k : n ≡ length h.before = omega (arith, f, ap length h.is, length-append h.before l) in
       ap (drop n) (e ∙ ap (λ z. z ++ after) h.is ∙ append_assoc h.before l after) ∙ ap (λ i. drop i (h.before ++ (l ++ after))) k ∙ drop_front h.before (l ++ after)
 
-pub drop_scope : (l after : List Item) → drop (length l) (l ++ after) ≡ after
+drop_scope : (l after : List Item) → drop (length l) (l ++ after) ≡ after
 drop_scope l after = drop_front l after
+
+-- a place in a scope, with what follows the scope
+abbrev pub placed : Toks → List Item → Placed
+placed r a = record { rest = r; after = a }
+
+-- the entries from a place in a scope on, to the end of the buffer
+pub record Stands (l : List Entry) (place : Toks) (after : List Item) : Type 0 where
+  pub nested : Nested (map saw l)
+  pub is : entries_items l ≡ items place ++ drop (length (items place)) (entries_items l)
+  pub after_is : drop (length (items place)) (entries_items l) ≡ after
+
+stands : (l : List Entry) (x : Toks) (after : List Item) → Nested (map saw l) → entries_items l ≡ items x ++ after → Stands l x after
+stands l x after h e =
+    let d : drop (length (items x)) (entries_items l) ≡ after = ap (drop (length (items x))) e ∙ drop_scope (items x) after in
+    record { nested = h; is = e ∙ ap (λ z. items x ++ z) (sym d); after_is = d }
+
+pub stands_first : (l : List Entry) (x : Toks) → Nested (map saw l) → entries_view l ≡ x → Stands l x []
+stands_first l x h e = stands l x [] h (items_seen l x h e ∙ sym (append-nil (items x)))
+
+-- further on, where these items are left
+pub stands_on : (whole : List Entry) (m l after : List Item) (x : Toks) (more : List Item) (n : ℕ) → Nested (map saw whole) → entries_items whole ≡ m ++ after → Ends l m →
+    n ≡ length m - length l → l ++ after ≡ items x ++ more → Stands (take (length whole - n) (drop n whole)) x more
+stands_on whole m l after x more n i e h f q =
+    let s = ends_shorter l m h in
+    let t = take_rest whole n in
+    let d : entries_items (drop n whole) ≡ drop n (entries_items whole) = ap (map item) (sym (drop-map saw n whole)) ∙ sym (drop-map item n (map saw whole)) in
+    subst (λ z. Stands z x more) (sym t) (stands (drop n whole) x more (nested_drop whole n i) (d ∙ ends_left l m after h n (entries_items whole) e (omega (arith, f, s)) ∙ q))
 
 -- ---- the order of positions
 
@@ -180,3 +207,26 @@ reached_follows s u f =
     subst (λ z. IsReached (items u.rest ++ z) (items s.rest ++ s.scope.after)) (ap (λ z. z.after) (sym f.scope))
     (subst (λ z. IsReached (items u.rest ++ s.scope.after) z) (sym (append_assoc h.before (items u.rest) s.scope.after) ∙ ap (λ z. z ++ s.scope.after) (sym h.is))
     (reached_after h.before (items u.rest ++ s.scope.after)))
+
+-- ---- each move goes forward
+
+pub reached_tree : (x : TokenTree) (v r : List Item) → v ≡ tree_items x ++ r → IsReached r v
+reached_tree x v r e = subst (λ z. IsReached r z) (sym e) (reached_after (tree_items x) r)
+
+pub reached_entered : (v r : List Item) → Some r ≡ entered v → IsReached r v
+reached_entered [] r e = cc
+reached_entered (an_ident i ∷ l) r e = cc
+reached_entered (a_punct p ∷ l) r e = cc
+reached_entered (a_literal k ∷ l) r e = cc
+reached_entered (a_beginning b s ∷ l) r e = let f : r ≡ l = cc in subst (λ z. IsReached z (a_beginning b s ∷ l)) (sym f) (past (a_beginning b s) there)
+reached_entered (an_end ∷ l) r e = cc
+
+pub reached_left : (v r : List Item) → Some r ≡ left v → IsReached r v
+reached_left [] r e = cc
+reached_left (an_ident i ∷ l) r e = cc
+reached_left (a_punct p ∷ l) r e = cc
+reached_left (a_literal k ∷ l) r e = cc
+reached_left (a_beginning b s ∷ l) r e = cc
+reached_left (an_end ∷ l) r e = let f : r ≡ l = cc in subst (λ z. IsReached z (an_end ∷ l)) (sym f) (past an_end there)
+
+pub ruleset positions = (reached_tree, reached_entered, reached_left, reached_trans, reached_follows, there)

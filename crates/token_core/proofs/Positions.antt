@@ -1,6 +1,6 @@
 -- The items of tokens: those of trees, and those that entries show.
 use Rattle.std.proofs.Common.{◌≡◌, ℕ, zero, suc, ◌+◌, ◌≤◌, List, [], ◌∷◌, ◌++◌, map, length, take, drop, refl, sym, ap, subst, ◌∙◌, append_assoc, arith}
-use Rattle.std.proofs.lemmas.List.{length-take, length-drop, take-append-drop, map-append, drop-map, take-map}
+use Rattle.std.proofs.lemmas.List.{length-map, length-take, length-drop, take-append-drop, map-append, drop-map, take-map}
 use Rattle.token_core.specs.declared.buffer.Entry.{Entry}
 use Rattle.token_core.specs.declared.tree.Delimiter.{Delimiter}
 use Rattle.token_core.specs.declared.tree.Delimiter.TheVariants.{Parenthesis, Brace, Bracket, None}
@@ -166,3 +166,6 @@ item_group Parenthesis p c n = refl
 item_group Brace p c n = refl
 item_group Bracket p c n = refl
 item_group None p c n = refl
+
+pub count : (l : List Entry) (x : Toks) → Nested (map saw l) → entries_view l ≡ x → length l ≡ length (items x)
+count l x h e = sym (length-map l saw) ∙ sym (length-map (map saw l) item) ∙ ap length (items_seen l x h e)

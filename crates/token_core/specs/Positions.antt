@@ -127,7 +127,7 @@ unstore (inr (inl (inl l))) = a_literal l
 unstore (inr (inl (inr p))) = a_beginning p.0 p.1
 unstore (inr (inr b)) = an_end
 
-unstore-store : (x : Item) → unstore (store x) ≡ x
+pub unstore-store : (x : Item) → unstore (store x) ≡ x
 unstore-store (an_ident i) = refl
 unstore-store (a_punct p) = refl
 unstore-store (a_literal l) = refl

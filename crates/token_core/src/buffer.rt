@@ -254,9 +254,8 @@ impl<'a> TokenBuffer<'a> {
     pub fn begin<'b>(&'b self) -> Cursor<'b>
         ensures { result ≡ items self.now }
     {
-        Cursor {
-            entries: self.entries.as_slice(),
-        }
+        let entries = self.entries.as_slice();
+        Cursor { entries }
     }
 
     /// The place at its front.

@@ -1,6 +1,6 @@
-use Rattle.std.proofs.Common.{◌≡◌, ◌++◌, List, false, sym, ap, ◌∙◌, append-nil, rules}
+use Rattle.std.proofs.Common.{◌≡◌, ◌++◌, false, sym, ap, ◌∙◌, append-nil, rules}
 use Rattle.token_core.specs.declared.tree.TokenStream.{roll-out-TokenStream}
-use Rattle.token_core.specs.Cut.{between, trees_between}
+use Rattle.token_core.specs.Cut.{trees_between}
 use Rattle.token_core.specs.Trees.{trees, stream_of_trees}
 use Rattle.token_core.specs.Positions.{is_before}
 use Rattle.token_core.proofs.Cuts.{between_same, between_trees}
