@@ -4,6 +4,8 @@
 mod boxed;
 mod buffer;
 mod cursor;
+#[cfg(test)]
+mod cursor_tests;
 mod error;
 mod ident;
 mod items;

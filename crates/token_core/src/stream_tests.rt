@@ -95,6 +95,14 @@ fn skip(alloc: Global, input: &mut ParseStream<'_>) -> Result<(), Fail>
     }
 }
 
+/// The trees that a stream went on by.
+#[tactic(auto, using(crate::proofs::Places::positions))]
+fn cut(alloc: Global, from: &ParseStream<'_>, to: &ParseStream<'_>) -> Result<TokenStream, Fail>
+    requires { Follows from.now to.now }
+{
+    Ok(verbatim::between(alloc, &from.cursor(), &to.cursor())?)
+}
+
 #[test]
 #[tactic(auto, using(crate::proofs::Suffixes::follows))]
 fn parts_are_cut(rt: HostRuntime) -> Result<(), Fail> {
@@ -102,33 +110,18 @@ fn parts_are_cut(rt: HostRuntime) -> Result<(), Fail> {
     let list = tokens(alloc, "a ^ b ^ c $ d $ ( e ^ f $ )")?;
     let buffer = TokenBuffer::new(alloc, &list)?;
     let mut input = ParseStream::new(&buffer, Span::none());
-    let begin = input.cursor();
-    holds(&rt, alloc, &verbatim::between(alloc, &begin, &begin)?, "")?;
+    let begin = ParseStream::new(&buffer, Span::none());
+    holds(&rt, alloc, &cut(alloc, &begin, &input)?, "")?;
     skip(alloc, &mut input)?;
-    holds(
-        &rt,
-        alloc,
-        &verbatim::between(alloc, &begin, &input.cursor())?,
-        "a",
-    )?;
+    holds(&rt, alloc, &cut(alloc, &begin, &input)?, "a")?;
     // the outer group ends later
     skip(alloc, &mut input)?;
-    holds(
-        &rt,
-        alloc,
-        &verbatim::between(alloc, &begin, &input.cursor())?,
-        "a b",
-    )?;
+    holds(&rt, alloc, &cut(alloc, &begin, &input)?, "a b")?;
     skip(alloc, &mut input)?;
-    holds(
-        &rt,
-        alloc,
-        &verbatim::between(alloc, &begin, &input.cursor())?,
-        "a b c",
-    )?;
+    holds(&rt, alloc, &cut(alloc, &begin, &input)?, "a b c")?;
     // the inner one has ended
     skip(alloc, &mut input)?;
-    let part = verbatim::between(alloc, &begin, &input.cursor())?;
+    let part = cut(alloc, &begin, &input)?;
     holds(&rt, alloc, &part, "a b ^ c $ d")?;
     Ok(())
 }
