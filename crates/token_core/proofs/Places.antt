@@ -85,7 +85,7 @@ module _ (p : DelimSpan) (c : TokenStream) (n : ℕ) where
       record {
         before = a_beginning d.None p ∷ [];
         is = ap items (view-enter p c n l) ∙ ap (λ z. a_beginning d.None p ∷ z)
-        (parts_seen c n l h.0 h.1 ∙ ap (λ z. items z ++ an_end ∷ items (view (drop (n + 1) l))) (sym f) ∙ ap (λ z. items x ++ an_end ∷ items z) (sym g));
+            (parts_seen c n l h.0 h.1 ∙ ap (λ z. items z ++ an_end ∷ items (view (drop (n + 1) l))) (sym f) ∙ ap (λ z. items x ++ an_end ∷ items z) (sym g));
       }
   holds_invisible d.Parenthesis l x y e f g h = cc
   holds_invisible d.Brace l x y e f g h = cc

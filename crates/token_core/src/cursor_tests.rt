@@ -7,7 +7,7 @@ use std::process::Abort;
 use std::test::Fail;
 
 /// Goes on by so many steps: into a group where one stands, out of it at its end, else past the tree that stands there.
-fn walk<'a>(begin: &Cursor<'a>, steps: u8) -> Option<Cursor<'a>> {
+fn walk<'a>(begin: &Cursor<'a>, steps: usize) -> Option<Cursor<'a>> {
     let mut at = begin.again();
     for _ in 0..steps {
         at = step(&at)?;
@@ -25,7 +25,7 @@ fn step<'a>(at: &Cursor<'a>) -> Option<Cursor<'a>> {
     }
 }
 
-fn stands<'a>(begin: &Cursor<'a>, steps: u8) -> Result<Cursor<'a>, Fail> {
+fn stands<'a>(begin: &Cursor<'a>, steps: usize) -> Result<Cursor<'a>, Fail> {
     match walk(begin, steps) {
         Some(at) => Ok(at),
         None => Err(Fail::from("there are so many steps")),
@@ -47,16 +47,19 @@ fn groups_are_entered_and_left(rt: HostRuntime) -> Result<(), Fail> {
     let list = tokens(alloc, "a ( b ^ c $ ) d")?;
     let buffer = TokenBuffer::new(alloc, &list)?;
     let begin = buffer.begin();
-    let names = ["a", "a tree", "b", "a tree", "c", "none", "none", "d", "none"];
-    let mut steps = 0;
-    for text in names {
+    let names = [
+        "a", "a tree", "b", "a tree", "c", "none", "none", "d", "none",
+    ];
+    for (steps, text) in names.into_iter().enumerate() {
         let at = stands(&begin, steps)?;
         assert_eq!(rt; name(&at), text);
         let left = at.leave().is_some();
-        assert!(rt; left == (steps == 5 || steps == 6), "the end of a group is left");
+        assert!(rt;
+            left == (steps == 5 || steps == 6),
+            "the end of a group is left"
+        );
         let entered = at.enter().is_some();
         assert!(rt; entered == (steps == 1 || steps == 3), "a group is entered");
-        steps += 1;
     }
     assert!(rt; walk(&begin, 9).is_none());
     Ok(())
@@ -68,8 +71,8 @@ fn positions_have_an_order(rt: HostRuntime) -> Result<(), Fail> {
     let list = tokens(alloc, "a ( b ^ c $ ) d")?;
     let buffer = TokenBuffer::new(alloc, &list)?;
     let begin = buffer.begin();
-    for i in 0..9u8 {
-        for j in 0..9u8 {
+    for i in 0..9usize {
+        for j in 0..9usize {
             let first = stands(&begin, i)?;
             let second = stands(&begin, j)?;
             assert!(rt; first.is_before(&second) == (i < j));
@@ -79,7 +82,10 @@ fn positions_have_an_order(rt: HostRuntime) -> Result<(), Fail> {
 }
 
 fn same(rt: &impl Abort, one: &Cursor<'_>, other: &Cursor<'_>) {
-    assert!(rt; !one.is_before(other) && !other.is_before(one), "it is the same position");
+    assert!(rt;
+        !one.is_before(other) && !other.is_before(one),
+        "it is the same position"
+    );
 }
 
 #[test]

@@ -7,10 +7,10 @@ ghost use Rattle.token_core.specs.Prints.{Extends};
 ghost use Rattle.token_core.specs.Reads.{Reads, Follows};
 ghost use Rattle.token_core.specs.Trees.{trees};
 
-use crate::place::Place;
 use crate::error::Error;
 use crate::parse::Token;
 use crate::parse_stream::{ParseStream, as_punct, as_word};
+use crate::place::Place;
 use crate::span::Span;
 use crate::to_tokens::ToTokens;
 use crate::tree::{Ident, Punct, Spacing, TokenStream, TokenTree};

@@ -9,10 +9,10 @@ ghost use Rattle.token_core.specs.Front.{shows};
 ghost use Rattle.token_core.specs.Trees.{trees};
 
 use crate::buffer::Front;
-use crate::place::Place;
 use crate::error::Error;
 use crate::parse::{Parse, Token};
 use crate::parse_stream::ParseStream;
+use crate::place::Place;
 use crate::span::Span;
 use crate::text::Text;
 use crate::to_tokens::{Spanned, ToTokens};

@@ -12,9 +12,9 @@ ghost use Rattle.std.specs.Str.{bytes_eq};
 
 use crate::buffer::{Front, TokenBuffer};
 use crate::cursor::Cursor;
-use crate::place::{Place, Placed};
 use crate::error::{Error, ErrorKind};
 use crate::mark::Spans;
+use crate::place::{Place, Placed};
 use crate::span::{DelimSpan, Span};
 use crate::text::Text;
 use crate::tree::{Delimiter, Group, Ident, Punct, Spacing, TokenStream};
