@@ -1,6 +1,6 @@
 -- The trees between two positions, tree by tree.
-use Rattle.std.specs.Prelude.{◌⊎◌, nat_lt}
-use Rattle.std.proofs.Common.{◌≡◌, ℕ, zero, suc, ◌+◌, ◌-◌, ◌<◌, ◌≤◌, Bool, true, false, List, [], ◌∷◌, ◌++◌, map, length, take, inl, inr, refl, sym, ◌∙◌, ap, subst, arith, append_assoc, append-nil}
+use Rattle.std.specs.Prelude.{◌⊎◌}
+use Rattle.std.proofs.Common.{◌≡◌, ℕ, zero, suc, ◌-◌, ◌<◌, ◌≤◌, true, false, List, [], ◌∷◌, ◌++◌, map, length, take, inl, inr, refl, sym, ◌∙◌, ap, subst, arith, append_assoc, append-nil}
 use Rattle.std.proofs.lemmas.Bool.{ltb-true, ltb-false}
 use Rattle.std.proofs.lemmas.List.{length-append, take-append-le}
 use Rattle.token_core.specs.declared.tree.Delimiter.{Delimiter}
@@ -9,19 +9,19 @@ use Rattle.token_core.specs.declared.tree.TokenTree.{TokenTree, roll-TokenTree, 
 use Rattle.token_core.specs.declared.tree.TokenTree.TheVariants as t
 use Rattle.token_core.specs.declared.tree.TokenTree.TheOpen as o
 use Rattle.token_core.specs.declared.tree.TokenTree.TheFolds.{ind-TokenTree, ind-TokenStream}
-use Rattle.token_core.specs.declared.tree.Group.{Group, roll-Group, map-Group, roll-out-Group}
+use Rattle.token_core.specs.declared.tree.Group.{Group, roll-Group, map-Group}
 use Rattle.token_core.specs.declared.tree.TokenStream.{TokenStream, roll-TokenStream, map-TokenStream, out-roll-TokenStream, roll-out-TokenStream}
-use Rattle.token_core.specs.Toks.{Toks, done, word, mark, lit, group, enter, leave}
+use Rattle.token_core.specs.Toks.{Toks, done, group}
 use Rattle.token_core.specs.Trees as s
 use Rattle.token_core.specs.Trees.{trees, group_of, stream_of_trees, toks, row, delimiter_of, span_of, content_of}
 use Rattle.token_core.specs.Rebuilt.{Levels, onto, stream_of, Visible}
 use Rattle.token_core.specs.Reads.{IsSuffix, all_of, past_word, past_punct, past_lit, past_group, past_enter, past_leave}
 use Rattle.token_core.specs.Positions.{Item, an_ident, a_punct, a_literal, a_beginning, an_end, items, tree_items, row_items, has_tree, is_before, IsReached, there, past}
-use Rattle.token_core.specs.Cut.{up_to, closed, parts, joined, all_parts, trees_between, past_bound}
+use Rattle.token_core.specs.Cut.{up_to, closed, parts, all_parts, trees_between, past_bound}
 use Rattle.token_core.proofs.Flats.{stream-roll}
 use Rattle.token_core.proofs.Rebuilds.{tree-ident, tree-punct, tree-literal, visible-tree, toks-stream_of}
 use Rattle.token_core.proofs.Positions.{ident_items, punct_items, literal_items, delimited_items, a_group_items, adds_tree}
-use Rattle.token_core.proofs.Places.{reached_shorter, reached_trans, reached_after, reached_of}
+use Rattle.token_core.proofs.Places.{reached_after, reached_of}
 
 -- ---- the parts of what begins with trees
 

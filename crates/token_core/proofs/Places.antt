@@ -1,9 +1,7 @@
 -- Positions: the tree that stands there, what is left of the buffer, and their order.
-use Rattle.std.specs.Prelude.{nat_lt}
-use Rattle.std.proofs.Common.{◌≡◌, ℕ, zero, suc, ◌+◌, ◌-◌, ◌<◌, ◌≤◌, Bool, true, false, Some, List, [], ◌∷◌, ◌++◌, map, length, take, drop, refl, sym, ◌∙◌, ap, subst, append_assoc, append-nil, arith}
+use Rattle.std.proofs.Common.{◌≡◌, ℕ, ◌+◌, ◌-◌, ◌<◌, ◌≤◌, true, false, Some, List, [], ◌∷◌, ◌++◌, map, length, take, drop, refl, sym, ◌∙◌, ap, subst, append_assoc, append-nil, arith}
 use Rattle.std.proofs.lemmas.Bool.{ltb-true, ltb-false, lt-ltb}
 use Rattle.std.proofs.lemmas.List.{length-append, drop-map, take_rest}
-use Rattle.std.proofs.Math.Seq.{drop-length}
 use Rattle.token_core.specs.declared.tree.Delimiter.{Delimiter}
 use Rattle.token_core.specs.declared.tree.Delimiter.TheVariants as d
 use Rattle.token_core.specs.declared.span.DelimSpan.{DelimSpan}
@@ -15,16 +13,15 @@ use Rattle.token_core.specs.declared.tree.Group.{Group}
 use Rattle.token_core.specs.declared.tree.TokenStream.{TokenStream}
 use Rattle.token_core.specs.declared.buffer.Entry.{Entry}
 use Rattle.token_core.specs.Toks.{Toks, done, word, mark, lit, group, enter, leave}
-use Rattle.token_core.specs.Trees.{delimiter_of, span_of, content_of, toks}
-use Rattle.token_core.specs.Seen.{Seen, view, saw_delimiter, view-enter}
-use Rattle.token_core.specs.Entries.{Flat, Layer, saw, saw_layer, entries_view, Nested, Inside}
+use Rattle.token_core.specs.Trees.{delimiter_of, span_of, content_of}
+use Rattle.token_core.specs.Seen.{view, saw_delimiter, view-enter}
+use Rattle.token_core.specs.Entries.{Flat, saw, saw_layer, entries_view, Nested, Inside}
 use Rattle.token_core.specs.Front.{front, past_ends}
-use Rattle.token_core.specs.Groups.{next_invisible, as_invisible}
 use Rattle.token_core.specs.Stream.{Stream}
 use Rattle.token_core.specs.Reads.{IsSuffix, all_of, past_word, past_punct, past_lit, past_group, past_enter, past_leave, Follows, as_group}
 use Rattle.token_core.specs.Positions.{Item, an_ident, a_punct, a_literal, a_beginning, an_end, items, item, tree_items, entries_items, entered, left, is_before, IsReached, there, past, Holds, Placed}
 use Rattle.token_core.proofs.Fronts.{nested_tail, nested_drop}
-use Rattle.token_core.proofs.Positions.{ident_items, punct_items, literal_items, a_group_items, items_seen, parts_seen, group_seen, item_group}
+use Rattle.token_core.proofs.Positions.{a_group_items, items_seen, parts_seen, group_seen, item_group}
 
 -- ---- the tree that stands there
 

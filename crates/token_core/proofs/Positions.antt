@@ -1,6 +1,6 @@
 -- The items of tokens: those of trees, and those that entries show.
 use Rattle.std.proofs.Common.{◌≡◌, ℕ, zero, suc, ◌+◌, ◌≤◌, List, [], ◌∷◌, ◌++◌, map, length, take, drop, refl, sym, ap, subst, ◌∙◌, append_assoc, arith}
-use Rattle.std.proofs.lemmas.List.{length-map, length-take, length-drop, take-append-drop, map-append, drop-map, take-map}
+use Rattle.std.proofs.lemmas.List.{length-map, length-take, length-drop, take-append-drop, map-append}
 use Rattle.token_core.specs.declared.buffer.Entry.{Entry}
 use Rattle.token_core.specs.declared.tree.Delimiter.{Delimiter}
 use Rattle.token_core.specs.declared.tree.Delimiter.TheVariants.{Parenthesis, Brace, Bracket, None}
@@ -12,16 +12,16 @@ use Rattle.token_core.specs.declared.tree.TokenTree.{TokenTree, roll-TokenTree, 
 use Rattle.token_core.specs.declared.tree.TokenTree.TheVariants as t
 use Rattle.token_core.specs.declared.tree.TokenTree.TheOpen as o
 use Rattle.token_core.specs.declared.tree.TokenTree.TheFolds.{ind-TokenTree, ind-TokenStream}
-use Rattle.token_core.specs.declared.tree.Group.{Group, out-Group, roll-Group, map-Group, roll-out-Group}
+use Rattle.token_core.specs.declared.tree.Group.{Group, roll-Group, map-Group, roll-out-Group}
 use Rattle.token_core.specs.declared.tree.TokenStream.{TokenStream, roll-TokenStream, map-TokenStream}
-use Rattle.token_core.specs.Toks.{Toks, done, word, mark, lit, group, enter, leave}
+use Rattle.token_core.specs.Toks.{Toks, done, word, mark, lit, group, leave}
 use Rattle.token_core.specs.Trees as s
 use Rattle.token_core.specs.Trees.{Before, all, grouped, toks, group_of, delimiter_of, span_of, content_of, row}
-use Rattle.token_core.specs.Seen.{Seen, view, saw_word, saw_mark, saw_lit, saw_group, saw_enter, saw_leave, saw_delimiter, view-nil, view-word, view-mark, view-lit, view-group, view-enter, view-leave}
+use Rattle.token_core.specs.Seen.{view, saw_word, saw_mark, saw_lit, saw_group, saw_enter, saw_leave, saw_delimiter, view-nil, view-word, view-mark, view-lit, view-group, view-enter, view-leave}
 use Rattle.token_core.specs.Entries.{Flat, saw, entries_view, Nested, Inside, flat_stream}
-use Rattle.token_core.specs.Positions.{Item, an_ident, a_punct, a_literal, a_beginning, an_end, items, item, tree_items, entries_items}
+use Rattle.token_core.specs.Positions.{an_ident, a_punct, a_literal, a_beginning, an_end, items, item, tree_items, entries_items}
 use Rattle.token_core.proofs.Flats.{tree-roll, group-roll, stream-roll, nested_flat, view-flat}
-use Rattle.token_core.proofs.Fronts.{inside_taken, inside_long, nested_from}
+use Rattle.token_core.proofs.Fronts.{inside_taken, nested_from}
 use Rattle.token_core.proofs.Rebuilds.{tree-ident, tree-punct, tree-literal, tree-group}
 
 -- ---- tokens that are put before others add their items

@@ -1,5 +1,5 @@
 -- The trees between two positions: a group that ends after the second one is entered, and not kept.
-use Rattle.std.specs.Prelude.{ℕ, ◌-◌, length, take, List, [], ◌∷◌, ◌++◌, Option, Some, None}
+use Rattle.std.specs.Prelude.{◌-◌, length, take, List, [], ◌∷◌, ◌++◌, Option, Some, None}
 use Rattle.token_core.specs.declared.tree.Delimiter.{Delimiter}
 use Rattle.token_core.specs.declared.span.DelimSpan.{DelimSpan}
 use Rattle.token_core.specs.declared.tree.TokenTree.{TokenTree}

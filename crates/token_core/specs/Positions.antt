@@ -1,5 +1,5 @@
 -- Positions in a buffer: what is left of the whole buffer from there on, one item an entry.
-use Rattle.std.specs.Prelude.{ℕ, suc, Bool, true, false, ◌≡◌, ◌⊎◌, Option, Some, None, List, [], ◌∷◌, ◌++◌, length, map, nat_lt, refl}
+use Rattle.std.specs.Prelude.{Bool, true, false, ◌≡◌, ◌⊎◌, Option, Some, None, List, [], ◌∷◌, ◌++◌, length, map, nat_lt, refl}
 use Rattle.std.proofs.Common.{inl, inr}
 use Rattle.std.specs.Coded.{Coded, code_by, coded×, coded⊎, coded_bool, coded_list}
 use Rattle.token_core.specs.declared.buffer.Entry.{Entry}
