@@ -1,325 +1,313 @@
 -- The trees between two positions, tree by tree.
-use Rattle.std.specs.Prelude.{◌⊎◌, nat_lt}
-use Rattle.std.proofs.Common.{◌≡◌, ℕ, suc, ◌-◌, ◌<◌, ◌≤◌, Bool, true, false, List, [], ◌∷◌, ◌++◌, map, inl, inr, refl, sym, ◌∙◌, ap, subst, arith, append_assoc, append-nil}
+use Rattle.std.specs.Prelude.{◌⊎◌}
+use Rattle.std.proofs.Common.{◌≡◌, ℕ, zero, suc, ◌-◌, ◌<◌, ◌≤◌, true, false, List, [], ◌∷◌, ◌++◌, map, length, take, inl, inr, refl, sym, ◌∙◌, ap, subst, arith, append_assoc, append-nil}
 use Rattle.std.proofs.lemmas.Bool.{ltb-true, ltb-false}
+use Rattle.std.proofs.lemmas.List.{length-append, take-append-le}
 use Rattle.token_core.specs.declared.tree.Delimiter.{Delimiter}
-use Rattle.token_core.specs.declared.tree.Delimiter.TheVariants as d
 use Rattle.token_core.specs.declared.span.DelimSpan.{DelimSpan}
-use Rattle.token_core.specs.declared.tree.Ident.{Ident}
-use Rattle.token_core.specs.declared.tree.Punct.{Punct}
-use Rattle.token_core.specs.declared.tree.Literal.{Literal}
-use Rattle.token_core.specs.declared.tree.TokenTree.{TokenTree, roll-TokenTree, map-TokenTree}
+use Rattle.token_core.specs.declared.tree.TokenTree.{TokenTree, roll-TokenTree, map-TokenTree, out-TokenTree, roll-out-TokenTree}
 use Rattle.token_core.specs.declared.tree.TokenTree.TheVariants as t
 use Rattle.token_core.specs.declared.tree.TokenTree.TheOpen as o
-use Rattle.token_core.specs.declared.tree.TokenTree.TheFolds.{ind-TokenTree}
+use Rattle.token_core.specs.declared.tree.TokenTree.TheFolds.{ind-TokenTree, ind-TokenStream}
 use Rattle.token_core.specs.declared.tree.Group.{Group, roll-Group, map-Group}
 use Rattle.token_core.specs.declared.tree.TokenStream.{TokenStream, roll-TokenStream, map-TokenStream, out-roll-TokenStream, roll-out-TokenStream}
-use Rattle.token_core.specs.Toks.{Toks, done, word, mark, lit, group, enter, leave}
+use Rattle.token_core.specs.Toks.{Toks, done, group}
 use Rattle.token_core.specs.Trees as s
-use Rattle.token_core.specs.Trees.{trees, group_of, stream_of_trees, all, grouped, toks, row}
-use Rattle.token_core.specs.Rebuilt.{Levels, onto, invisible, stream_of, Visible, IsVisible}
+use Rattle.token_core.specs.Trees.{trees, group_of, stream_of_trees, toks, row, delimiter_of, span_of, content_of}
+use Rattle.token_core.specs.Rebuilt.{Levels, onto, stream_of, Visible}
 use Rattle.token_core.specs.Reads.{IsSuffix, all_of, past_word, past_punct, past_lit, past_group, past_enter, past_leave}
-use Rattle.token_core.specs.Loops.{size}
-use Rattle.token_core.specs.Positions.{has_tree, is_before, Beside}
-use Rattle.token_core.specs.Cut.{first, up_to, closed, parts, joined, all_parts, trees_between, past_bound}
-use Rattle.token_core.proofs.Flats.{tree-roll, group-roll, stream-roll}
-use Rattle.token_core.proofs.Rebuilds.{stream_of-toks, tree-ident, tree-punct, tree-literal, visible-tree, toks-stream_of}
-use Rattle.token_core.proofs.Suffixes.{suffix_trans}
-use Rattle.token_core.proofs.Turns.{size_suffix}
-use Rattle.token_core.proofs.Places.{reached}
+use Rattle.token_core.specs.Positions.{Item, an_ident, a_punct, a_literal, a_beginning, an_end, items, tree_items, row_items, has_tree, is_before, IsReached, there, past}
+use Rattle.token_core.specs.Cut.{up_to, closed, parts, all_parts, trees_between, past_bound}
+use Rattle.token_core.proofs.Flats.{stream-roll}
+use Rattle.token_core.proofs.Rebuilds.{tree-ident, tree-punct, tree-literal, visible-tree, toks-stream_of}
+use Rattle.token_core.proofs.Positions.{ident_items, punct_items, literal_items, delimited_items, a_group_items, adds_tree}
+use Rattle.token_core.proofs.Places.{reached_after, reached_of}
 
--- ---- the first tokens are those of some trees, and then come the second
+-- ---- the parts of what begins with trees
 
-pub data Through : List TokenTree → Toks → Toks → Type 0 where
-  no_trees : {r : Toks} → Through [] r r
-  ident_first : {ts : List TokenTree} {k r : Toks} (i : Ident) → Through ts k r → Through (t.Ident i ∷ ts) (word i k) r
-  punct_first : {ts : List TokenTree} {k r : Toks} (p : Punct) → Through ts k r → Through (t.Punct p ∷ ts) (mark p k) r
-  literal_first : {ts : List TokenTree} {k r : Toks} (l : Literal) → Through ts k r → Through (t.Literal l ∷ ts) (lit l k) r
-  group_first : {ts : List TokenTree} {k r : Toks} (d : Delimiter) (p : DelimSpan) (c : Toks) → Through ts k r → Through (t.Group (group_of d (stream_of c) p) ∷ ts) (group d p c k) r
-  invisible_first : {xs ts : List TokenTree} {k m r : Toks} (p : DelimSpan) → Through xs k (leave m) → Through ts m r → Through (invisible p xs ∷ ts) (enter p k) r
+-- the items of a list of trees are theirs in order
+row_is : (l : List TokenTree) → items (row l done) ≡ row_items l
+row_is [] = refl
+row_is (x ∷ l) = adds_tree x (row l done) ∙ ap (λ z. tree_items x ++ z) (row_is l)
+
+stream_items : (l : List TokenTree) → items (toks (stream_of_trees l)) ≡ row_items l
+stream_items l = ap items (ap (λ f. f done) (stream-roll (record { trees = l }))) ∙ row_is l
 
 whole : (c : TokenStream) → stream_of_trees (trees c ++ []) ≡ c
 whole c = ap stream_of_trees (append-nil (trees c)) ∙ roll-out-TokenStream c
 
-abbrev ThroughTree : TokenTree → Type 0
-ThroughTree x = (ts : List TokenTree) (k r : Toks) → Through ts k r → Through (x ∷ ts) (s.tree x k) r
-
-abbrev ThroughGroup : Group → Type 0
-ThroughGroup g = (ts : List TokenTree) (k r : Toks) → Through ts k r → Through (t.Group g ∷ ts) (s.inside g k) r
-
-abbrev ThroughStream : TokenStream → Type 0
-ThroughStream c = (ts : List TokenTree) (k r : Toks) → Through ts k r → Through (trees c ++ ts) (s.stream c k) r
-
-through_visible : (d : Delimiter) (p : DelimSpan) (c : TokenStream) (ts : List TokenTree) (k r : Toks) → Through ts k r → Through (t.Group (group_of d c p) ∷ ts) (group d p (toks c) k) r
-through_visible d p c ts k r h = subst (λ z. Through (t.Group (group_of d z p) ∷ ts) (group d p (toks c) k) r) (stream_of-toks c) (group_first d p (toks c) h)
-
-through_group : (d : Delimiter) (p : DelimSpan) (c : TokenStream) → ThroughStream c → (ts : List TokenTree) (k r : Toks) → Through ts k r → Through (t.Group (group_of d c p) ∷ ts) (grouped d p (s.stream c) k) r
-through_group d.Parenthesis p c i ts k r h = through_visible d.Parenthesis p c ts k r h
-through_group d.Brace p c i ts k r h = through_visible d.Brace p c ts k r h
-through_group d.Bracket p c i ts k r h = through_visible d.Bracket p c ts k r h
-through_group d.None p c i ts k r h =
-    subst (λ z. Through (t.Group (group_of d.None z p) ∷ ts) (enter p (s.stream c (leave k))) r) (whole c) (invisible_first p (i [] (leave k) (leave k) no_trees) h)
-
-module _ where
-  abbrev A : Type 0
-  A = (x : TokenTree) × ThroughTree x
-
-  abbrev B : Type 0
-  B = (g : Group) × ThroughGroup g
-
-  abbrev C : Type 0
-  C = (c : TokenStream) × ThroughStream c
-
-  through_all : (l : List A) (ts : List TokenTree) (k r : Toks) → Through ts k r → Through (map (λ (a : A). a.0) l ++ ts) (all (map s.tree (map (λ (a : A). a.0) l)) k) r
-  through_all [] ts k r h = h
-  through_all (a ∷ l) ts k r h = a.1 (map (λ (a : A). a.0) l ++ ts) (all (map s.tree (map (λ (a : A). a.0) l)) k) r (through_all l ts k r h)
-
-  at_tree : (x y : TokenTree) (ts : List TokenTree) (l m r : Toks) → x ≡ y → l ≡ m → Through (x ∷ ts) l r → Through (y ∷ ts) m r
-  at_tree x y ts l m r e f h = subst (λ z. Through (z ∷ ts) m r) e (subst (λ z. Through (x ∷ ts) z r) f h)
-
-  tree_layer : (y : o.TokenTree-F A B C) → ThroughTree (roll-TokenTree (map-TokenTree A B C TokenTree Group TokenStream (λ a. a.0) (λ b. b.0) (λ c. c.0) y))
-  tree_layer (o.Ident i) = λ ts k r h. at_tree _ _ ts _ _ r (sym (t.rolls-Ident i)) (sym (ap (λ f. f k) (tree-roll (o.Ident i)))) (ident_first i h)
-  tree_layer (o.Punct p) = λ ts k r h. at_tree _ _ ts _ _ r (sym (t.rolls-Punct p)) (sym (ap (λ f. f k) (tree-roll (o.Punct p)))) (punct_first p h)
-  tree_layer (o.Literal l) = λ ts k r h. at_tree _ _ ts _ _ r (sym (t.rolls-Literal l)) (sym (ap (λ f. f k) (tree-roll (o.Literal l)))) (literal_first l h)
-  tree_layer (o.Group g) = λ ts k r h. at_tree _ _ ts _ _ r (sym (t.rolls-Group g.0)) (sym (ap (λ f. f k) (tree-roll (o.Group g.0)))) (g.1 ts k r h)
-
-  group_layer : (y : o.Group-F A B C) → ThroughGroup (roll-Group (map-Group A B C TokenTree Group TokenStream (λ a. a.0) (λ b. b.0) (λ c. c.0) y))
-  group_layer y = λ ts k r h.
-      subst (λ z. Through (t.Group (group_of y.delimiter y.stream.0 y.span) ∷ ts) z r) (sym (ap (λ f. f k) (group-roll (record { delimiter = y.delimiter; stream = y.stream.0; span = y.span }))))
-      (through_group y.delimiter y.span y.stream.0 y.stream.1 ts k r h)
-
-  stream_layer : (y : o.TokenStream-F A B C) → ThroughStream (roll-TokenStream (map-TokenStream A B C TokenTree Group TokenStream (λ a. a.0) (λ b. b.0) (λ c. c.0) y))
-  stream_layer y = λ ts k r h.
-      let x : o.TokenStream-F TokenTree Group TokenStream = record { trees = map (λ (a : A). a.0) y.trees } in
-      subst (λ (z : List TokenTree). Through (z ++ ts) (s.stream (roll-TokenStream x) k) r) (ap (λ (z : o.TokenStream-F TokenTree Group TokenStream). z.trees) (sym (out-roll-TokenStream x)))
-      (subst (λ z. Through (map (λ (a : A). a.0) y.trees ++ ts) z r) (sym (ap (λ f. f k) (stream-roll x))) (through_all y.trees ts k r h))
-
-  through_tree : (x : TokenTree) → ThroughTree x
-  through_tree = ind-TokenTree ThroughTree ThroughGroup ThroughStream (λ x y is. subst (λ z. ThroughTree (roll-TokenTree z)) is (tree_layer y)) (λ x y is. subst (λ z. ThroughGroup (roll-Group z)) is (group_layer y)) (λ x y is. subst (λ z. ThroughStream (roll-TokenStream z)) is (stream_layer y))
-
--- ---- the tokens up to a later position
-
-at_enter : (e : Toks) (p : DelimSpan) (k : Toks) → IsSuffix e (enter p k) → size e < suc (size k) → IsSuffix e k
-at_enter e p k all_of l = absurd (omega (arith, l))
-at_enter e p k (past_enter y i) l = i
-
-at_leave : (e k : Toks) → IsSuffix e (leave k) → size e < suc (size k) → IsSuffix e k
-at_leave e k all_of l = absurd (omega (arith, l))
-at_leave e k (past_leave i) l = i
-
-less : (e k : Toks) → size e ≤ size k → suc (size k) - size e ≡ suc (size k - size e)
-less e k h = omega (arith, h)
-
-up_word : (i : Ident) (k e : Toks) → size e ≤ size k → up_to (word i k) e ≡ word i (up_to k e)
-up_word i k e h = ap (λ n. first n (word i k)) (less e k h)
-
-up_mark : (p : Punct) (k e : Toks) → size e ≤ size k → up_to (mark p k) e ≡ mark p (up_to k e)
-up_mark p k e h = ap (λ n. first n (mark p k)) (less e k h)
-
-up_lit : (l : Literal) (k e : Toks) → size e ≤ size k → up_to (lit l k) e ≡ lit l (up_to k e)
-up_lit l k e h = ap (λ n. first n (lit l k)) (less e k h)
-
-up_group : (d : Delimiter) (p : DelimSpan) (c k e : Toks) → size e ≤ size k → up_to (group d p c k) e ≡ group d p c (up_to k e)
-up_group d p c k e h = ap (λ n. first n (group d p c k)) (less e k h)
-
-up_enter : (p : DelimSpan) (k e : Toks) → size e ≤ size k → up_to (enter p k) e ≡ enter p (up_to k e)
-up_enter p k e h = ap (λ n. first n (enter p k)) (less e k h)
-
-up_leave : (k e : Toks) → size e ≤ size k → up_to (leave k) e ≡ leave (up_to k e)
-up_leave k e h = ap (λ n. first n (leave k)) (less e k h)
-
-up_none : (l e : Toks) → size l ≤ size e → up_to l e ≡ done
-up_none l e h = let n : size l - size e ≡ 0 = omega (arith, h) in ap (λ n. first n l) n
+same_trees : (l : List TokenTree) → trees (stream_of_trees l) ≡ l
+same_trees l = ap (λ (z : o.TokenStream-F TokenTree Group TokenStream). z.trees) (out-roll-TokenStream (record { trees = l }))
 
 abbrev before : List TokenTree → Levels → Levels
 before ts v = (ts ++ v.0, v.1)
 
--- the parts of what begins with trees
-parts_through : (ts : List TokenTree) (l r : Toks) → Through ts l r → parts l ≡ before ts (parts r)
-parts_through ts l r no_trees = refl
-parts_through ts l r (ident_first {ts = us} {k = k} i h) = ap (onto (t.Ident i)) (parts_through us k r h)
-parts_through ts l r (punct_first {ts = us} {k = k} p h) = ap (onto (t.Punct p)) (parts_through us k r h)
-parts_through ts l r (literal_first {ts = us} {k = k} x h) = ap (onto (t.Literal x)) (parts_through us k r h)
-parts_through ts l r (group_first {ts = us} {k = k} b p c h) = ap (onto (t.Group (group_of b (stream_of c) p))) (parts_through us k r h)
-parts_through ts l r (invisible_first {xs = xs} {ts = us} {k = k} {m = m} p h i) =
-    ap (closed p) (parts_through xs k (leave m) h) ∙ ap (λ z. (invisible p z ∷ (parts m).0, (parts m).1)) (append-nil xs) ∙ ap (onto (invisible p xs)) (parts_through us m r i)
+-- what begins with the items of a tree has the tree first; a part of these items has no end of a group that is not entered
+pub record Whole (x : TokenTree) : Type 0 where
+  pub first : (l : List Item) → parts (tree_items x ++ l) ≡ onto x (parts l)
+  pub no_end : (n : ℕ) → (parts (take n (tree_items x))).1 ≡ []
 
-suffix_through : (ts : List TokenTree) (l r : Toks) → Through ts l r → IsSuffix r l
-suffix_through ts l r no_trees = all_of
-suffix_through ts l r (ident_first {ts = us} {k = k} i h) = past_word i (suffix_through us k r h)
-suffix_through ts l r (punct_first {ts = us} {k = k} p h) = past_punct p (suffix_through us k r h)
-suffix_through ts l r (literal_first {ts = us} {k = k} x h) = past_lit x (suffix_through us k r h)
-suffix_through ts l r (group_first {ts = us} {k = k} b p c h) = past_group b p c (suffix_through us k r h)
-suffix_through ts l r (invisible_first {xs = xs} {ts = us} {k = k} {m = m} p h i) = past_enter p (suffix_trans (past_leave (suffix_through us m r i)) (suffix_through xs k (leave m) h))
+record WholeStream (c : TokenStream) : Type 0 where
+  first : (l : List Item) → parts (items (toks c) ++ l) ≡ before (trees c) (parts l)
+  no_end : (n : ℕ) → (parts (take n (items (toks c)))).1 ≡ []
 
-module _ (e : Toks) where
-  at_cut : (ts : List TokenTree) (l m r : Toks) → l ≡ m → Through ts m r → Through ts l r
-  at_cut ts l m r q h = subst (λ z. Through ts z r) (sym q) h
+below : (m n : ℕ) → (m ≤ n) ⊎ (n < m)
+below zero n = inl (omega arith)
+below (suc m) zero = inr (omega arith)
+below (suc m) (suc n) = elim (below m n) [
+  | inl h ↦ inl (omega (arith, h))
+  | inr h ↦ inr (omega (arith, h))
+]
 
-  -- trees that end before a later position are there up to it
-  cut_through : (ts : List TokenTree) (l r : Toks) → Through ts l r → size e ≤ size r → Through ts (up_to l e) (up_to r e)
-  cut_through ts l r no_trees s = no_trees
-  cut_through ts l r (ident_first {ts = us} {k = k} i h) s =
-      let w = size_suffix (suffix_through us k r h) in at_cut ts _ _ _ (up_word i k e (omega (arith, s, w))) (ident_first i (cut_through us k r h s))
-  cut_through ts l r (punct_first {ts = us} {k = k} p h) s =
-      let w = size_suffix (suffix_through us k r h) in at_cut ts _ _ _ (up_mark p k e (omega (arith, s, w))) (punct_first p (cut_through us k r h s))
-  cut_through ts l r (literal_first {ts = us} {k = k} x h) s =
-      let w = size_suffix (suffix_through us k r h) in at_cut ts _ _ _ (up_lit x k e (omega (arith, s, w))) (literal_first x (cut_through us k r h s))
-  cut_through ts l r (group_first {ts = us} {k = k} b p c h) s =
-      let w = size_suffix (suffix_through us k r h) in at_cut ts _ _ _ (up_group b p c k e (omega (arith, s, w))) (group_first b p c (cut_through us k r h s))
-  cut_through ts l r (invisible_first {xs = xs} {ts = us} {k = k} {m = m} p h i) s =
-      let w = size_suffix (suffix_through us m r i) in
-      let v = size_suffix (suffix_through xs k (leave m) h) in
-      at_cut ts _ _ _ (up_enter p k e (omega (arith, s, w, v)))
-      (invisible_first p (subst (λ z. Through xs (up_to k e) z) (up_leave m e (omega (arith, s, w))) (cut_through xs k (leave m) h (omega (arith, s, w)))) (cut_through us m r i s))
+take_past : (n : ℕ) (xs ys : List Item) → length xs ≤ n → take n (xs ++ ys) ≡ xs ++ take (n - length xs) ys
+take_past n [] ys h = let k : n - 0 ≡ n = omega arith in ap (λ m. take m ys) (sym k)
+take_past zero (x ∷ xs) ys h = absurd (omega (arith, h))
+take_past (suc n) (x ∷ xs) ys h =
+    let k : n - length xs ≡ suc n - suc (length xs) = omega (arith, h) in
+    ap (λ z. x ∷ z) (take_past n xs ys (omega (arith, h)) ∙ ap (λ m. xs ++ take m ys) k)
 
-  all_before : (ts : List TokenTree) (v : Levels) → all_parts (before ts v) ≡ ts ++ all_parts v
-  all_before ts v = append_assoc ts v.0 (joined v.1)
+take_none : (n : ℕ) → (parts (take n [])).1 ≡ []
+take_none zero = refl
+take_none (suc n) = refl
 
-  between_through : (ts : List TokenTree) (l r : Toks) → Through ts l r → size e ≤ size r → trees_between l e ≡ ts ++ trees_between r e
-  unfolding trees_between
-  between_through ts l r h s = ap all_parts (parts_through ts (up_to l e) (up_to r e) (cut_through ts l r h s)) ∙ all_before ts (parts (up_to r e))
+first_all : (l : List ((x : TokenTree) × Whole x)) (m : List Item) → parts (row_items (map (λ (a : (x : TokenTree) × Whole x). a.0) l) ++ m) ≡ before (map (λ (a : (x : TokenTree) × Whole x). a.0) l) (parts m)
+first_all [] m = refl
+first_all (a ∷ l) m =
+    let more = row_items (map (λ (b : (x : TokenTree) × Whole x). b.0) l) in
+    ap parts (append_assoc (tree_items a.0) more m) ∙ a.1.first (more ++ m) ∙ ap (onto a.0) (first_all l m)
 
-  still_open : (p : DelimSpan) (v : Levels) → v.1 ≡ [] → (closed p v).1 ≡ []
-  still_open p (x, []) h = refl
-  still_open p (x, y ∷ more) h = cc
+open_all : (l : List ((x : TokenTree) × Whole x)) (n : ℕ) → (parts (take n (row_items (map (λ (a : (x : TokenTree) × Whole x). a.0) l)))).1 ≡ []
+open_all [] n = take_none n
+open_all (a ∷ l) n =
+    let more = row_items (map (λ (b : (x : TokenTree) × Whole x). b.0) l) in
+    elim (below n (length (tree_items a.0))) [
+      | inl h ↦ ap (λ z. (parts z).1) (take-append-le n (tree_items a.0) more h) ∙ a.1.no_end n
+      | inr h ↦ ap (λ z. (parts z).1) (take_past n (tree_items a.0) more (omega (arith, h))) ∙ ap (λ (v : Levels). v.1) (a.1.first (take (n - length (tree_items a.0)) more)) ∙ open_all l (n - length (tree_items a.0))
+    ]
 
-  open_here : (p : DelimSpan) (v : Levels) → v.1 ≡ [] → all_parts (closed p v) ≡ all_parts v
-  open_here p (x, []) h = refl
-  open_here p (x, y ∷ more) h = cc
+module _ (b : Delimiter) (p : DelimSpan) (c : TokenStream) (w : WholeStream c) where
+  abbrev this : TokenTree
+  this = t.Group (group_of b c p)
 
-  below : (m n : ℕ) → (m < n) ⊎ (n ≤ m)
-  below m n = by (nat_lt m n) refl
+  group_first : (l : List Item) → parts (a_beginning b p ∷ ((items (toks c) ++ an_end ∷ []) ++ l)) ≡ onto this (parts l)
+  group_first l =
+      ap (λ z. closed b p (parts z)) (append_assoc (items (toks c)) (an_end ∷ []) l) ∙ ap (closed b p) (w.first (an_end ∷ l))
+      ∙ ap (λ z. (t.Group (group_of b z p) ∷ (parts l).0, (parts l).1)) (whole c)
+
+  still_open : (v : Levels) → v.1 ≡ [] → (closed b p v).1 ≡ []
+  still_open (x, []) h = refl
+  still_open (x, y ∷ more) h = cc
+
+  group_open : (n : ℕ) → (parts (take n (a_beginning b p ∷ (items (toks c) ++ an_end ∷ [])))).1 ≡ []
+  group_open zero = refl
+  group_open (suc n) = elim (below n (length (items (toks c)))) [
+    | inl h ↦ still_open (parts (take n (items (toks c) ++ an_end ∷ []))) (ap (λ z. (parts z).1) (take-append-le n (items (toks c)) (an_end ∷ []) h) ∙ w.no_end n)
+    | inr h ↦ ap (λ z. (closed b p (parts z)).1) (take_past n (items (toks c)) (an_end ∷ []) (omega (arith, h))) ∙ ended (n - length (items (toks c))) (omega (arith, h))
+  ]
     where
-      by : (b : Bool) → nat_lt m n ≡ b → (m < n) ⊎ (n ≤ m)
-      by true h = inl (ltb-true m n h)
-      by false h = inr (ltb-false m n h)
+      ended : (m : ℕ) → 0 < m → (closed b p (parts (items (toks c) ++ take m (an_end ∷ [])))).1 ≡ []
+      ended zero h = absurd (omega (arith, h))
+      ended (suc m) h = ap (λ z. (closed b p (parts (items (toks c) ++ an_end ∷ z))).1) (none m) ∙ ap (λ z. (closed b p z).1) (w.first (an_end ∷ []))
+        where
+          none : (m : ℕ) → ◌≡◌ {A = List Item} (take m []) []
+          none zero = refl
+          none (suc m) = refl
 
-  one_more : (l k m : Toks) → size l ≡ suc (size k) → (size e ≤ size k → (parts (up_to l e)).1 ≡ []) → (parts (up_to l e)).1 ≡ []
-  one_more l k m n f =
-      elim (below (size k) (size e)) [
-        | inl h ↦ ap (λ z. (parts z).1) (up_none l e (omega (arith, h, n)))
-        | inr h ↦ f h
-      ]
+  whole_group : Whole this
+  whole_group = record {
+    first = λ l. ap (λ z. parts (z ++ l)) (delimited_items b p c) ∙ group_first l;
+    no_end = λ n. ap (λ z. (parts (take n z)).1) (delimited_items b p c) ∙ group_open n;
+  }
 
-  -- trees that end after a later position: up to it no invisible group ends that did not begin among them
-  no_ends : (ts : List TokenTree) (l r : Toks) → Through ts l r → size r ≤ size e → (parts (up_to l e)).1 ≡ []
-  no_ends ts l r no_trees s = ap (λ z. (parts z).1) (up_none l e s)
-  no_ends ts l r (ident_first {ts = us} {k = k} i h) s = one_more l k k refl (λ c. ap (λ z. (parts z).1) (up_word i k e c) ∙ no_ends us k r h s)
-  no_ends ts l r (punct_first {ts = us} {k = k} p h) s = one_more l k k refl (λ c. ap (λ z. (parts z).1) (up_mark p k e c) ∙ no_ends us k r h s)
-  no_ends ts l r (literal_first {ts = us} {k = k} x h) s = one_more l k k refl (λ c. ap (λ z. (parts z).1) (up_lit x k e c) ∙ no_ends us k r h s)
-  no_ends ts l r (group_first {ts = us} {k = k} b p x h) s = one_more l k k refl (λ c. ap (λ z. (parts z).1) (up_group b p x k e c) ∙ no_ends us k r h s)
-  no_ends ts l r (invisible_first {xs = xs} {ts = us} {k = k} {m = m} p h i) s =
-      one_more l k k refl (λ c. ap (λ z. (parts z).1) (up_enter p k e c) ∙ elim (below (size m) (size e)) [
-        | inl q ↦ still_open p (parts (up_to k e)) (no_ends xs k (leave m) h (omega (arith, q)))
-        | inr q ↦ ap (λ z. (closed p z).1) (parts_through xs (up_to k e) (up_to (leave m) e) (cut_through xs k (leave m) h (omega (arith, q))) ∙ ap (λ z. before xs (parts z)) (up_leave m e q))
-            ∙ no_ends us m r i s
-      ])
+one_open : (x : Item) → ((l : List Item) → (parts l).1 ≡ [] → (parts (x ∷ l)).1 ≡ []) → (n : ℕ) → (parts (take n (x ∷ []))).1 ≡ []
+one_open x h zero = refl
+one_open x h (suc n) = h (take n []) (take_none n)
 
-  -- ---- one step
+leaf : (x y : TokenTree) (z : Item) → y ≡ x → tree_items x ≡ z ∷ [] → ((l : List Item) → parts (z ∷ l) ≡ onto x (parts l)) → Whole y
+leaf x y z e i h = subst Whole (sym e) (record {
+  first = λ l. ap (λ k. parts (k ++ l)) i ∙ h l;
+  no_end = λ n. ap (λ k. (parts (take n k)).1) i ∙ one_open z (λ l k. ap (λ (v : Levels). v.1) (h l) ∙ k) n;
+})
 
-  pub kept_step : (x : TokenTree) (v r : Toks) → v ≡ s.tree x r → is_before e r ≡ false → trees_between v e ≡ (x ∷ []) ++ trees_between r e
-  kept_step x v r q h = ap (λ z. trees_between z e) q ∙ between_through (x ∷ []) (s.tree x r) r (through_tree x [] r r no_trees) (ltb-false (size r) (size e) h)
+module _ where
+  abbrev WQ : Group → Type 0
+  WQ g = Whole (t.Group g)
 
-  pub record Stepped (v w : Toks) : Type 0 where
-    pub trees : trees_between v e ≡ trees_between w e
-    pub within : IsSuffix e w
-    pub less : size w < size v
+  abbrev WA : Type 0
+  WA = (x : TokenTree) × Whole x
 
-  -- a tree that ends after the later position is an invisible group, and is entered
-  entered_at : (x : TokenTree) (v r : Toks) → Through (x ∷ []) v r → IsSuffix e v → size e < size v → size r < size e → Stepped v (past_bound v)
-  unfolding trees_between
-  entered_at x v r (ident_first i no_trees) w l q = absurd (omega (arith, l, q))
-  entered_at x v r (punct_first p no_trees) w l q = absurd (omega (arith, l, q))
-  entered_at x v r (literal_first y no_trees) w l q = absurd (omega (arith, l, q))
-  entered_at x v r (group_first b p c no_trees) w l q = absurd (omega (arith, l, q))
-  entered_at x v r (invisible_first {xs = xs} {k = k} p h no_trees) w l q =
+  abbrev WB : Type 0
+  WB = (g : Group) × WQ g
+
+  abbrev WC : Type 0
+  WC = (c : TokenStream) × WholeStream c
+
+  tree_layer : (y : o.TokenTree-F WA WB WC) → Whole (roll-TokenTree (map-TokenTree WA WB WC TokenTree Group TokenStream (λ a. a.0) (λ b. b.0) (λ c. c.0) y))
+  tree_layer (o.Ident i) = leaf (t.Ident i) _ (an_ident i) (t.rolls-Ident i) (ident_items i) (λ l. refl)
+  tree_layer (o.Punct p) = leaf (t.Punct p) _ (a_punct p) (t.rolls-Punct p) (punct_items p) (λ l. refl)
+  tree_layer (o.Literal k) = leaf (t.Literal k) _ (a_literal k) (t.rolls-Literal k) (literal_items k) (λ l. refl)
+  tree_layer (o.Group g) = subst Whole (sym (t.rolls-Group g.0)) g.1
+
+  group_layer : (y : o.Group-F WA WB WC) → WQ (roll-Group (map-Group WA WB WC TokenTree Group TokenStream (λ a. a.0) (λ b. b.0) (λ c. c.0) y))
+  group_layer y = whole_group y.delimiter y.span y.stream.0 y.stream.1
+
+  stream_layer : (y : o.TokenStream-F WA WB WC) → WholeStream (roll-TokenStream (map-TokenStream WA WB WC TokenTree Group TokenStream (λ a. a.0) (λ b. b.0) (λ c. c.0) y))
+  stream_layer y =
+      let l = map (λ (a : WA). a.0) y.trees in
       record {
-        trees = ap (λ z. all_parts (parts z)) (up_enter p k e (omega (arith, l))) ∙ open_here p (parts (up_to k e)) (no_ends xs k (leave r) h (omega (arith, q)));
-        within = at_enter e p k w l;
-        less = omega arith;
+        first = λ m. ap (λ z. parts (z ++ m)) (stream_items l) ∙ first_all y.trees m ∙ ap (λ z. before z (parts m)) (sym (same_trees l));
+        no_end = λ n. ap (λ z. (parts (take n z)).1) (stream_items l) ∙ open_all y.trees n;
       }
 
-  pub entered_step : (x : TokenTree) (v r : Toks) → v ≡ s.tree x r → IsSuffix e v → is_before v e ≡ true → is_before e r ≡ true → Stepped v (past_bound v)
-  entered_step x v r q w l m = entered_at x v r (subst (λ z. Through (x ∷ []) z r) (sym q) (through_tree x [] r r no_trees)) w (ltb-true (size e) (size v) l) (ltb-true (size r) (size e) m)
+  whole_tree : (x : TokenTree) → Whole x
+  whole_tree = ind-TokenTree Whole WQ WholeStream (λ x y is. subst (λ z. Whole (roll-TokenTree z)) is (tree_layer y)) (λ x y is. subst (λ z. WQ (roll-Group z)) is (group_layer y)) (λ x y is. subst (λ z. WholeStream (roll-TokenStream z)) is (stream_layer y))
 
-  pub left_step : (v : Toks) → IsSuffix e v → is_before v e ≡ true → has_tree v ≡ false → Stepped v (past_bound v)
+  whole_stream : (c : TokenStream) → WholeStream c
+  whole_stream = ind-TokenStream Whole WQ WholeStream (λ x y is. subst (λ z. Whole (roll-TokenTree z)) is (tree_layer y)) (λ x y is. subst (λ z. WQ (roll-Group z)) is (group_layer y)) (λ x y is. subst (λ z. WholeStream (roll-TokenStream z)) is (stream_layer y))
+
+-- ---- one step
+
+pub record Stepped (e v w : List Item) : Type 0 where
+  pub trees : trees_between v e ≡ trees_between w e
+  pub within : IsReached e w
+  pub less : length w < length v
+
+first_item : (x : Item) (l e : List Item) → length e ≤ length l → up_to (x ∷ l) e ≡ x ∷ up_to l e
+first_item x l e h = let k : suc (length l) - length e ≡ suc (length l - length e) = omega (arith, h) in ap (λ n. take n (x ∷ l)) k
+
+at_next : (x : Item) (e l : List Item) → IsReached e (x ∷ l) → length e < suc (length l) → IsReached e l
+at_next x e l there h = absurd (omega (arith, h))
+at_next x e l (past y p) h = p
+
+module _ (x : TokenTree) (v r e : List Item) (q : v ≡ tree_items x ++ r) (w : IsReached e v) where
+  after_tree : IsReached r v
+  after_tree = subst (λ z. IsReached r z) (sym q) (reached_after (tree_items x) r)
+
+  pub kept_step : is_before e r ≡ false → trees_between v e ≡ (x ∷ []) ++ trees_between r e
   unfolding trees_between
-  left_step done w l h = let n = ltb-true (size e) 0 l in absurd (omega (arith, n))
-  left_step (word i k) w l h = cc
-  left_step (mark p k) w l h = cc
-  left_step (lit x k) w l h = cc
-  left_step (group b p c k) w l h = cc
-  left_step (enter p k) w l h = cc
-  left_step (leave k) w l h =
-      let n : size e < suc (size k) = ltb-true (size e) (suc (size k)) l in
-      record { trees = ap (λ z. all_parts (parts z)) (up_leave k e (omega (arith, n))); within = at_leave e k w n; less = omega arith }
+  kept_step h =
+      let n = ltb-false (length r) (length e) h in
+      let k : length (tree_items x) ≤ length (tree_items x ++ r) - length e = omega (arith, n, length-append (tree_items x) r) in
+      let m : length (tree_items x ++ r) - length e - length (tree_items x) ≡ length r - length e = omega (arith, n, length-append (tree_items x) r) in
+      ap (λ z. all_parts (parts (up_to z e))) q ∙ ap (λ z. all_parts (parts z)) (take_past (length (tree_items x ++ r) - length e) (tree_items x) r k ∙ ap (λ i. tree_items x ++ take i r) m)
+      ∙ ap all_parts ((whole_tree x).first (up_to r e))
 
--- two positions that are reached from one
-beside : (a b v : Toks) → IsSuffix a v → IsSuffix b v → Beside a b
-beside a b v all_of q = inr q
-beside a b v (past_word i p) all_of = inl (past_word i p)
-beside a b v (past_word {k = k} i p) (past_word j q) = beside a b k p q
-beside a b v (past_punct i p) all_of = inl (past_punct i p)
-beside a b v (past_punct {k = k} i p) (past_punct j q) = beside a b k p q
-beside a b v (past_lit i p) all_of = inl (past_lit i p)
-beside a b v (past_lit {k = k} i p) (past_lit j q) = beside a b k p q
-beside a b v (past_group g x c p) all_of = inl (past_group g x c p)
-beside a b v (past_group {k = k} g x c p) (past_group h y d q) = beside a b k p q
-beside a b v (past_enter i p) all_of = inl (past_enter i p)
-beside a b v (past_enter {k = k} i p) (past_enter j q) = beside a b k p q
-beside a b v (past_leave p) all_of = inl (past_leave p)
-beside a b v (past_leave {k = k} p) (past_leave q) = beside a b k p q
+  pub kept_within : is_before e r ≡ false → IsReached e r
+  kept_within h = reached_of e r v w after_tree (ltb-false (length r) (length e) h)
 
-module _ (x : TokenTree) (v r e : Toks) (q : v ≡ s.tree x r) (w : IsSuffix e v) where
-  after_tree : IsSuffix r v
-  after_tree = subst (λ z. IsSuffix r z) (sym q) (suffix_through (x ∷ []) (s.tree x r) r (through_tree x [] r r no_trees))
+-- a tree begins with an item, and where it is more than this item it is a group
+record Begins (x : TokenTree) : Type 0 where
+  item : Item
+  more : List Item
+  is : tree_items x ≡ item ∷ more
+  group : (r e : List Item) → length r < length e → length e < suc (length (more ++ r)) → trees_between (item ∷ (more ++ r)) e ≡ trees_between (more ++ r) e
+  bound : (r e : List Item) → length r < length e → length e < suc (length (more ++ r)) → past_bound (item ∷ (more ++ r)) ≡ more ++ r
 
-  pub beside_after : Beside e r
-  beside_after = beside e r v w after_tree
+begins_leaf : (x y : TokenTree) (z : Item) → y ≡ x → tree_items x ≡ z ∷ [] → Begins y
+begins_leaf x y z e i = subst Begins (sym e) (record { item = z; more = []; is = i; group = λ r e h k. absurd (omega (arith, h, k)); bound = λ r e h k. absurd (omega (arith, h, k)) })
 
-  at_or_past : Beside e r → is_before e r ≡ false → IsSuffix e r
-  at_or_past (inl p) h = p
-  at_or_past (inr p) h =
-      elim (reached r e p) [
-        | inl y ↦ subst (λ z. IsSuffix e z) (sym y) all_of
-        | inr y ↦ let n = ltb-false (size r) (size e) h in absurd (omega (arith, n, y.sizes))
-      ]
+open_here : (b : Delimiter) (p : DelimSpan) (v : Levels) → v.1 ≡ [] → all_parts (closed b p v) ≡ all_parts v
+open_here b p (x, []) h = refl
+open_here b p (x, y ∷ more) h = cc
 
-  pub kept_within : is_before e r ≡ false → IsSuffix e r
-  kept_within h = at_or_past beside_after h
+begins_group : (g : Group) → Begins (t.Group g)
+unfolding trees_between
+begins_group g =
+    let c = items (toks (content_of g)) in
+    record {
+      item = a_beginning (delimiter_of g) (span_of g);
+      more = c ++ an_end ∷ [];
+      is = a_group_items g;
+      group = λ r e h k.
+          let l = (c ++ an_end ∷ []) ++ r in
+          let a = append_assoc c (an_end ∷ []) r in
+          let n : length l - length e ≤ length c = omega (arith, h, ap length a, length-append c (an_end ∷ r)) in
+          let u : up_to l e ≡ take (length l - length e) c = ap (take (length l - length e)) a ∙ take-append-le (length l - length e) c (an_end ∷ r) n in
+          ap (λ z. all_parts (parts z)) (first_item (a_beginning (delimiter_of g) (span_of g)) l e (omega (arith, k)))
+          ∙ open_here (delimiter_of g) (span_of g) (parts (up_to l e)) (ap (λ z. (parts z).1) u ∙ (whole_stream (content_of g)).no_end (length l - length e));
+      bound = λ r e h k. refl;
+    }
 
-  pub kept_less : size r < size v
-  kept_less = subst (λ z. size r < size z) (sym q) (takes x (s.tree x r) (through_tree x [] r r no_trees))
-    where
-      takes : (x : TokenTree) (l : Toks) → Through (x ∷ []) l r → size r < size l
-      takes x l (ident_first i no_trees) = omega arith
-      takes x l (punct_first i no_trees) = omega arith
-      takes x l (literal_first i no_trees) = omega arith
-      takes x l (group_first b p c no_trees) = omega arith
-      takes x l (invisible_first {xs = xs} {k = k} p h no_trees) = let n = size_suffix (suffix_through xs k (leave r) h) in omega (arith, n)
+begins : (x : TokenTree) → Begins x
+begins x = subst Begins (roll-out-TokenTree x) (layer (out-TokenTree x))
+  where
+    layer : (y : o.TokenTree-F TokenTree Group TokenStream) → Begins (roll-TokenTree y)
+    layer (o.Ident i) = begins_leaf (t.Ident i) _ (an_ident i) (t.rolls-Ident i) (ident_items i)
+    layer (o.Punct p) = begins_leaf (t.Punct p) _ (a_punct p) (t.rolls-Punct p) (punct_items p)
+    layer (o.Literal l) = begins_leaf (t.Literal l) _ (a_literal l) (t.rolls-Literal l) (literal_items l)
+    layer (o.Group g) = subst Begins (sym (t.rolls-Group g)) (begins_group g)
+
+module _ (x : TokenTree) (v r e : List Item) (q : v ≡ tree_items x ++ r) where
+  begun : v ≡ (begins x).item ∷ ((begins x).more ++ r)
+  begun = q ∙ ap (λ z. z ++ r) (begins x).is
+
+  pub kept_less : length r < length v
+  kept_less = omega (arith, ap length begun, length-append (begins x).more r)
+
+  -- a tree that ends after the later position is a group, and is entered
+  pub entered_step : IsReached e v → is_before v e ≡ true → is_before e r ≡ true → Stepped e v (past_bound v)
+  entered_step w l m =
+      let b = begins x in
+      let n = ltb-true (length e) (length v) l in
+      let k = ltb-true (length r) (length e) m in
+      let s : length e < suc (length (b.more ++ r)) = omega (arith, n, ap length begun) in
+      subst (λ z. Stepped e z (past_bound z)) (sym begun) (subst (λ z. Stepped e (b.item ∷ (b.more ++ r)) z) (sym (b.bound r e k s))
+      (record { trees = b.group r e k s; within = at_next b.item e (b.more ++ r) (subst (λ z. IsReached e z) begun w) s; less = omega arith }))
+
+pub left_step : (v e : List Item) → IsReached e v → is_before v e ≡ true → has_tree v ≡ false → Stepped e v (past_bound v)
+unfolding trees_between
+left_step [] e w l h = let n = ltb-true (length e) 0 l in absurd (omega (arith, n))
+left_step (an_ident i ∷ k) e w l h = cc
+left_step (a_punct p ∷ k) e w l h = cc
+left_step (a_literal x ∷ k) e w l h = cc
+left_step (a_beginning b p ∷ k) e w l h = cc
+left_step (an_end ∷ k) e w l h =
+    let n : length e < suc (length k) = ltb-true (length e) (suc (length k)) l in
+    record { trees = ap (λ z. all_parts (parts z)) (first_item an_end k e (omega (arith, n))); within = at_next an_end e k w n; less = omega arith }
 
 -- nothing stands between a position and itself
-pub between_same : (v e : Toks) → IsSuffix e v → is_before v e ≡ false → trees_between v e ≡ []
+pub between_same : (v e : List Item) → is_before v e ≡ false → trees_between v e ≡ []
 unfolding trees_between
-between_same v e w h = let n = ltb-false (size e) (size v) h in ap (λ z. all_parts (parts z)) (up_none v e n)
+between_same v e h =
+    let n = ltb-false (length e) (length v) h in
+    let k : length v - length e ≡ 0 = omega (arith, n) in
+    ap (λ i. all_parts (parts (take i v))) k
 
--- ---- without invisible groups
+-- ---- whole trees between two positions
 
-visible_group : (b : Delimiter) (p : DelimSpan) (c r : Toks) → IsVisible b → Visible c → s.tree (t.Group (group_of b (stream_of c) p)) r ≡ group b p c r
-visible_group b p c r v w = visible-tree b (stream_of c) p r v ∙ ap (λ z. group b p z r) (toks-stream_of c w)
+take_all : (xs ys : List Item) → take (length xs) (xs ++ ys) ≡ xs
+take_all [] ys = refl
+take_all (x ∷ xs) ys = ap (λ l. x ∷ l) (take_all xs ys)
 
--- the trees between two positions, and then the tokens from the second one on, are those from the first one on
-pub between_visible : (v e : Toks) → IsSuffix e v → Visible v → row (trees_between v e) e ≡ v
+row_parts : (l : List TokenTree) → parts (row_items l) ≡ (l, [])
+row_parts [] = refl
+row_parts (x ∷ l) = (whole_tree x).first (row_items l) ∙ ap (onto x) (row_parts l)
+
+-- where trees and the items from the second position on are those from the first one on, these are the trees
+pub between_trees : (l : List TokenTree) (v e : List Item) → v ≡ row_items l ++ e → trees_between v e ≡ l
 unfolding trees_between
-between_visible v e all_of h = ap (λ z. row (all_parts (parts z)) e) (up_none v e (omega arith))
-between_visible v e (past_word {k = k} i p) h =
-    ap (λ z. row (all_parts (parts z)) e) (up_word i k e (size_suffix p)) ∙ tree-ident i (row (trees_between k e) e) ∙ ap (word i) (between_visible k e p h)
-between_visible v e (past_punct {k = k} m p) h =
-    ap (λ z. row (all_parts (parts z)) e) (up_mark m k e (size_suffix p)) ∙ tree-punct m (row (trees_between k e) e) ∙ ap (mark m) (between_visible k e p h)
-between_visible v e (past_lit {k = k} x p) h =
-    ap (λ z. row (all_parts (parts z)) e) (up_lit x k e (size_suffix p)) ∙ tree-literal x (row (trees_between k e) e) ∙ ap (lit x) (between_visible k e p h)
-between_visible v e (past_group {k = k} b x c p) h =
-    ap (λ z. row (all_parts (parts z)) e) (up_group b x c k e (size_suffix p)) ∙ visible_group b x c (row (trees_between k e) e) h.0 h.1 ∙ ap (group b x c) (between_visible k e p h.2)
-between_visible v e (past_enter x p) h = absurd h
-between_visible v e (past_leave p) h = absurd h
+between_trees l v e q =
+    let k : length (row_items l ++ e) - length e ≡ length (row_items l) = omega (arith, length-append (row_items l) e) in
+    ap (λ z. all_parts (parts (up_to z e))) q ∙ ap (λ n. all_parts (parts (take n (row_items l ++ e)))) k ∙ ap (λ z. all_parts (parts z)) (take_all (row_items l) e) ∙ ap all_parts (row_parts l) ∙ append-nil l
+
+-- without invisible groups, trees lead from a position of a scope to a later one
+pub record Leads (b e : Toks) : Type 0 where
+  pub trees : List TokenTree
+  pub tokens : row trees e ≡ b
+  pub whole : items b ≡ row_items trees ++ items e
+
+one_more : (x : TokenTree) (b k e : Toks) → s.tree x k ≡ b → Leads k e → Leads b e
+one_more x b k e q h = record {
+  trees = x ∷ h.trees;
+  tokens = ap (s.tree x) h.tokens ∙ q;
+  whole = ap items (sym q) ∙ adds_tree x k ∙ ap (λ z. tree_items x ++ z) h.whole ∙ sym (append_assoc (tree_items x) (row_items h.trees) (items e));
+}
+
+pub leads : (b e : Toks) → IsSuffix e b → Visible b → Leads b e
+leads b e all_of v = record { trees = []; tokens = refl; whole = refl }
+leads b e (past_word {k = k} i p) v = one_more (t.Ident i) b k e (tree-ident i k) (leads k e p v)
+leads b e (past_punct {k = k} m p) v = one_more (t.Punct m) b k e (tree-punct m k) (leads k e p v)
+leads b e (past_lit {k = k} x p) v = one_more (t.Literal x) b k e (tree-literal x k) (leads k e p v)
+leads b e (past_group {k = k} d x c p) v = one_more (t.Group (group_of d (stream_of c) x)) b k e (visible-tree d (stream_of c) x k v.0 ∙ ap (λ z. group d x z k) (toks-stream_of c v.1)) (leads k e p v.2)
+leads b e (past_enter x p) v = absurd v
+leads b e (past_leave p) v = absurd v

@@ -5,6 +5,7 @@ pub mod Marks
 pub mod Suffixes
 pub mod Tables
 pub mod Places
+pub mod Positions
 pub mod Cuts
 pub mod Bares
 pub mod Terminations

@@ -6,7 +6,7 @@ use Rattle.token_core.specs.declared.range.RangeLimits.TheVariants as x
 use Rattle.token_core.specs.Toks.{Toks}
 use Rattle.token_core.specs.Trees.{row}
 use Rattle.token_core.specs.Rebuilt.{Visible}
-use Rattle.token_core.specs.Stream.{Stream}
+use Rattle.token_core.specs.Stream.{Scope, Stream}
 use Rattle.token_core.specs.Marks as marks
 use Rattle.token_core.specs.Reads.{sees_mark}
 use Rattle.token_core.specs.Ranges.{DotDotEq, sees_dot2, sees_dot3, sees_dot2_eq, no_limits, read, closed_by, read_obsolete, print}
@@ -53,7 +53,7 @@ eq_not_dots3 : (clear : Bool) (d : DotDotEq) (l r : Toks) → IsMark clear d l r
 unfolding sees_mark
 eq_not_dots3 clear d l r (is_mark (more_chars (more_chars (last_char a)))) = refl
 
-pub limits_complete : (y : RangeLimits) (l r : Toks) (f : Option Span) (e sc : Span) → AreLimits true y l r → Reads_to read y l r f e sc
+pub limits_complete : (y : RangeLimits) (l r : Toks) (f : Option Span) (e : Span) (sc : Scope) → AreLimits true y l r → Reads_to read y l r f e sc
 unfolding read
 limits_complete y l r f e sc (half_open {d = d} i) =
     let q = mark_complete true {n = 8} {k = 2} refl (omega arith) d l r f e sc i in
@@ -67,7 +67,7 @@ limits_not_old : (y : RangeLimits) (l r : Toks) → AreLimits true y l r → see
 limits_not_old y l r (half_open {d = d} i) = dots_apart d l r i
 limits_not_old y l r (closed {d = d} i) = eq_not_dots3 true d l r i
 
-pub old_limits_complete : (y : RangeLimits) (l r : Toks) (f : Option Span) (e sc : Span) → AreOldLimits true y l r → Reads_to read_obsolete y l r f e sc
+pub old_limits_complete : (y : RangeLimits) (l r : Toks) (f : Option Span) (e : Span) (sc : Scope) → AreOldLimits true y l r → Reads_to read_obsolete y l r f e sc
 unfolding read_obsolete
 old_limits_complete y l r f e sc (new_limits i) =
     let q = limits_complete y l r f e sc i in

@@ -4,7 +4,7 @@ use Rattle.token_core.specs.declared.span.Span.{Span}
 use Rattle.token_core.specs.Toks.{Toks}
 use Rattle.token_core.specs.Trees.{row}
 use Rattle.token_core.specs.Prints.{Print}
-use Rattle.token_core.specs.Stream.{Stream}
+use Rattle.token_core.specs.Stream.{Scope, Stream}
 use Rattle.token_core.specs.Rebuilt.{Visible}
 use Rattle.token_core.specs.Reads.{Reader}
 use Rattle.token_core.specs.Lists as lists
@@ -88,8 +88,8 @@ module _ {A P : Type 0} (stops : Bool → Toks → Bool) (value : Bool → Reade
 -- Of values it is known that they are read where they are spelt and what may follow them follows, on tokens fewer than the limit.
 module _ {A P : Type 0} (stops : Bool → Toks → Bool) (value : Bool → Reader A) (more : Toks → Bool) (joint : Reader P)
     (V : Bool → A → Toks → Toks → Type 0) (M : P → Toks → Toks → Type 0) (Ends : Bool → Type 0) (Follows : Toks → Type 0) (limit : ℕ)
-    (reads_value : (b : Bool) (x : A) (l r : Toks) → size l < limit → V b x l r → Follows r → (f : Option Span) (e sc : Span) → Reads_to (value b) x l r f e sc)
-    (reads_mark : (p : P) (l r : Toks) → M p l r → (f : Option Span) (e sc : Span) → Reads_to joint p l r f e sc)
+    (reads_value : (b : Bool) (x : A) (l r : Toks) → size l < limit → V b x l r → Follows r → (f : Option Span) (e : Span) (sc : Scope) → Reads_to (value b) x l r f e sc)
+    (reads_mark : (p : P) (l r : Toks) → M p l r → (f : Option Span) (e : Span) (sc : Scope) → Reads_to joint p l r f e sc)
     (mark_follows : (p : P) (l r : Toks) → M p l r → Follows l × (more l ≡ true))
     (begins : (b : Bool) (x : A) (l r : Toks) → V b x l r → stops b l ≡ false)
     (takes : (b : Bool) (x : A) (l r : Toks) → V b x l r → size r < size l)
@@ -101,7 +101,7 @@ module _ {A P : Type 0} (stops : Bool → Toks → Bool) (value : Bool → Reade
     pub stops_there : (b : Bool) → Ends b → stops b r ≡ true
 
   complete_from : (n : ℕ) (b : Bool) (xs : List A) (ps : List P) (l r : Toks) → size l < n → size l < limit → AreListed V M Ends b xs ps l r → Closes r →
-      (f : Option Span) (e sc : Span) → Reads_to (listed_from stops value more joint n b) (xs, ps) l r f e sc
+      (f : Option Span) (e : Span) (sc : Scope) → Reads_to (listed_from stops value more joint n b) (xs, ps) l r f e sc
   complete_from zero b xs ps l r h lim i o f e sc = absurd (omega (arith, h))
   complete_from (suc n) b xs ps l r h lim (none_left may) o f e sc = record { last = e; reads = chosen (stops b r) true _ _ (at r f e sc) _ (o.stops_there b may) refl }
   complete_from (suc n) b xs ps l r h lim (last_value {x = x} v) o f e sc =
@@ -120,7 +120,7 @@ module _ {A P : Type 0} (stops : Bool → Toks → Bool) (value : Bool → Reade
       }
 
   pub listed_complete : (b : Bool) (xs : List A) (ps : List P) (l r : Toks) → size l < limit → AreListed V M Ends b xs ps l r → Closes r →
-      (f : Option Span) (e sc : Span) → Reads_to (listed stops value more joint b) (xs, ps) l r f e sc
+      (f : Option Span) (e : Span) (sc : Scope) → Reads_to (listed stops value more joint b) (xs, ps) l r f e sc
   unfolding listed
   listed_complete b xs ps l r lim i o f e sc = let q = complete_from (suc (size l)) b xs ps l r (omega arith) lim i o f e sc in record { last = q.last; reads = q.reads }
 

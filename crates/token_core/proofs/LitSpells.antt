@@ -18,7 +18,7 @@ use Rattle.token_core.specs.declared.lit.LitStr.{LitStr}
 use Rattle.token_core.specs.Toks.{Toks, done, word, mark, lit, group, enter, leave}
 use Rattle.token_core.specs.Trees.{ident, punct, literal, row}
 use Rattle.token_core.specs.Rebuilt.{Visible}
-use Rattle.token_core.specs.Stream.{Stream}
+use Rattle.token_core.specs.Stream.{Scope, Stream}
 use Rattle.token_core.specs.Loops.{size}
 use Rattle.token_core.specs.Reads.{goes_on, expected}
 use Rattle.token_core.specs.Lits.{true_text, false_text, bool_text, lit_bool, lit_str, negative, is_number, is_str, past_number, next_lit, past_lit, sees_lit, read_lit, end_of, lit_name, past_str, sees_str, read_str, print, print_str}
@@ -91,7 +91,7 @@ past_spelt x l r (a_bool {b = b} {a = a}) = by_value b
     by_value false = refl
 past_spelt x l r (a_negative {a = a} {x = n} h) = ap (λ (b : Bool). if b then Some (v.Negative (negative a n), r) else None) h
 
-pub lit_complete : (x : Lit) (l r : Toks) (f : Option Span) (e sc : Span) → IsLit x l r → Reads_to read_lit x l r f e sc
+pub lit_complete : (x : Lit) (l r : Toks) (f : Option Span) (e : Span) (sc : Scope) → IsLit x l r → Reads_to read_lit x l r f e sc
 unfolding read_lit
 lit_complete x l r f e sc i = record { last = end_of x; reads = ap (goes_on end_of (expected lit_name (at l f e sc)) (at l f e sc)) (past_spelt x l r i) }
 
@@ -154,7 +154,7 @@ str_sound s t x w e =
     let y = went_on (λ (z : LitStr). z.span) _ s t x (past_str s.rest) e in
     record { spelt = str_at s.rest (x, t.rest) w y.was; left = y.left }
 
-pub str_complete : (x : LitStr) (l r : Toks) (f : Option Span) (e sc : Span) → IsStr x l r → Reads_to read_str x l r f e sc
+pub str_complete : (x : LitStr) (l r : Toks) (f : Option Span) (e : Span) (sc : Scope) → IsStr x l r → Reads_to read_str x l r f e sc
 unfolding read_str
 str_complete x l r f e sc (a_str {a = a}) = record { last = a; reads = refl }
 

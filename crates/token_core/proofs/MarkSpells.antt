@@ -13,7 +13,7 @@ use Rattle.token_core.specs.Trees.{punct, row}
 use Rattle.token_core.specs.Prints as p
 use Rattle.token_core.specs.Clear.{Apart, is_glued}
 use Rattle.token_core.specs.Rebuilt.{Visible}
-use Rattle.token_core.specs.Stream.{Stream}
+use Rattle.token_core.specs.Stream.{Scope, Stream}
 use Rattle.token_core.specs.Loops.{size}
 use Rattle.token_core.specs.Marks.{chars_of, mark_name, mark_of, spread, read}
 use Rattle.token_core.specs.Reads.{past_mark, put_first, three, is_joint, sees_mark, read_mark, goes_on, expected}
@@ -171,12 +171,12 @@ module _ (clear : Bool) (all : List ℕ) where
       none_put None g = refl
       none_put (Some z) g = cc
 
-read_at : (cs : List ℕ) (name : Bytes) (l r : Toks) (x : Spans) (f : Option Span) (e sc : Span) → past_mark cs l ≡ Some (x, r) → read_mark cs name (at l f e sc) ≡ Ok (x, at r f x.third sc)
+read_at : (cs : List ℕ) (name : Bytes) (l r : Toks) (x : Spans) (f : Option Span) (e : Span) (sc : Scope) → past_mark cs l ≡ Some (x, r) → read_mark cs name (at l f e sc) ≡ Ok (x, at r f x.third sc)
 unfolding read_mark
 read_at cs name l r x f e sc h = ap (goes_on (λ (z : Spans). z.third) (expected name (at l f e sc)) (at l f e sc)) h
 
 module _ (clear : Bool) {n k : ℕ} where
-  pub mark_complete : length (chars_of n) ≡ k → k ≤ 3 → (m : Mark n k) (l r : Toks) (f : Option Span) (e sc : Span) → IsMark clear m l r → Reads_to (read n k) m l r f e sc
+  pub mark_complete : length (chars_of n) ≡ k → k ≤ 3 → (m : Mark n k) (l r : Toks) (f : Option Span) (e : Span) (sc : Scope) → IsMark clear m l r → Reads_to (read n k) m l r f e sc
   mark_complete fits short m l r f e sc (is_mark {ss = ss} i) =
       record {
         last = (spans_by ss).third;

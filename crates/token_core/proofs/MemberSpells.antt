@@ -18,7 +18,7 @@ use Rattle.token_core.specs.declared.member.Member.TheVariants as m
 use Rattle.token_core.specs.Toks.{Bytes, Toks, done, word, mark, lit, group, enter, leave}
 use Rattle.token_core.specs.Trees.{literal, row}
 use Rattle.token_core.specs.Rebuilt.{Visible}
-use Rattle.token_core.specs.Stream.{Stream}
+use Rattle.token_core.specs.Stream.{Scope, Stream}
 use Rattle.token_core.specs.Reads.{Outcome, is_ident, ident_name, sees_word, read_word, next_word, expected}
 use Rattle.token_core.specs.Lits.{next_lit}
 use Rattle.token_core.specs.Members.{index, number_after, begins, number, fit, fitting, value, is_int, int_name, index_if, index_at, read_index, sees_int, no_member, read_member, print_index, print}
@@ -103,7 +103,7 @@ int_is CStr e = cc
 int_is Byte e = cc
 int_is Char e = cc
 
-module _ (k : Toks) (f : Option Span) (e sc : Span) (x : Literal) where
+module _ (k : Toks) (f : Option Span) (e : Span) (sc : Scope) (x : Literal) where
   abbrev here : Stream
   here = at (lit x k) f e sc
 
@@ -121,7 +121,7 @@ module _ (k : Toks) (f : Option Span) (e sc : Span) (x : Literal) where
   index_kind i t true h r = index_value i t (value x.text) (int_is x.kind h) refl r
   index_kind i t false h r = cc
 
-index_from : (l : Toks) (f : Option Span) (e sc : Span) (t : Stream) (i : Index) → Visible l → index_at (at l f e sc) (next_lit l) ≡ Ok (i, t) → Taken IsIndex (at l f e sc) t i
+index_from : (l : Toks) (f : Option Span) (e : Span) (sc : Scope) (t : Stream) (i : Index) → Visible l → index_at (at l f e sc) (next_lit l) ≡ Ok (i, t) → Taken IsIndex (at l f e sc) t i
 index_from done f e sc t i v h = cc
 index_from (word j k) f e sc t i v h = cc
 index_from (mark x k) f e sc t i v h = cc
@@ -134,7 +134,7 @@ pub index_sound : (s t : Stream) (i : Index) → Visible s.rest → read_index s
 unfolding read_index
 index_sound s t i v h = index_from s.rest s.left s.last s.scope t i v h
 
-pub index_complete : (i : Index) (l r : Toks) (f : Option Span) (e sc : Span) → IsIndex i l r → Reads_to read_index i l r f e sc
+pub index_complete : (i : Index) (l r : Toks) (f : Option Span) (e : Span) (sc : Scope) → IsIndex i l r → Reads_to read_index i l r f e sc
 unfolding read_index
 index_complete i l r f e sc (an_index {t = t} {n = n} {a = a} h) = record { last = a; reads = ap (index_if (at l f e sc) (literal Int t a, r)) h }
 
@@ -176,7 +176,7 @@ sees_named : (i : Ident) (r : Toks) → is_ident i.text ≡ true → sees_word i
 unfolding sees_word
 sees_named i r h = h
 
-reads_named : (i : Ident) (r : Toks) (f : Option Span) (e sc : Span) → is_ident i.text ≡ true → read_word is_ident ident_name (at (word i r) f e sc) ≡ Ok (i, at r f i.span sc)
+reads_named : (i : Ident) (r : Toks) (f : Option Span) (e : Span) (sc : Scope) → is_ident i.text ≡ true → read_word is_ident ident_name (at (word i r) f e sc) ≡ Ok (i, at r f i.span sc)
 unfolding read_word next_word
 reads_named i r f e sc h = ap (λ (b : Bool). if b then Ok (i, at r f i.span sc) else Err (expected ident_name (at (word i r) f e sc))) h
 
@@ -184,7 +184,7 @@ no_name : (i : Index) (l r : Toks) → IsIndex i l r → sees_word is_ident l �
 unfolding sees_word
 no_name i l r (an_index h) = refl
 
-pub member_complete : (x : Member) (l r : Toks) (f : Option Span) (e sc : Span) → IsMember x l r → Reads_to read_member x l r f e sc
+pub member_complete : (x : Member) (l r : Toks) (f : Option Span) (e : Span) (sc : Scope) → IsMember x l r → Reads_to read_member x l r f e sc
 unfolding read_member
 member_complete x l r f e sc (named {i = i} h) =
     record { last = i.span; reads = chosen (sees_word is_ident (word i r)) true _ _ (at (word i r) f e sc) _ (sees_named i r h) (link _ (reads_named i r f e sc h) refl) }

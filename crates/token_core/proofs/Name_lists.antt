@@ -6,7 +6,7 @@ use Rattle.token_core.specs.declared.tree.Ident.{Ident}
 use Rattle.token_core.specs.Toks.{Toks, word}
 use Rattle.token_core.specs.Trees.{row}
 use Rattle.token_core.specs.Rebuilt.{Visible}
-use Rattle.token_core.specs.Stream.{Stream}
+use Rattle.token_core.specs.Stream.{Scope, Stream}
 use Rattle.token_core.specs.Prints as p
 use Rattle.token_core.specs.Lists as lists
 use Rattle.token_core.specs.Loops.{Many, size}
@@ -37,7 +37,7 @@ names_sound s t v h e =
     (λ b u w x i d q c. (c ∙ (took_name b u w x i q).1, (took_name b u w x i q).0))
     (λ u w x i d q c. let m = mark_sound refl short u w x i q in (c ∙ m.left, m.spelt)) true s t v h e refl
 
-reads_name : (b : Bool) (i : Ident) (l r : Toks) → IsName b i l r → (f : Option Span) (e sc : Span) → Reads_to name i l r f e sc
+reads_name : (b : Bool) (i : Ident) (l r : Toks) → IsName b i l r → (f : Option Span) (e : Span) (sc : Scope) → Reads_to name i l r f e sc
 unfolding read_word next_word
 reads_name b i l r (a_name h) f e sc = record { last = i.span; reads = ap (λ (z : Bool). if z then Ok (i, at r f i.span sc) else Err (expected ident_name (at (word i r) f e sc))) h }
 
@@ -57,7 +57,7 @@ name_takes : (b : Bool) (i : Ident) (l r : Toks) → IsName b i l r → size r <
 name_takes b i l r (a_name h) = omega arith
 
 -- what is spelt up to the end is read
-pub names_complete : (xs : List Ident) (ps : List Comma) (l r : Toks) (f : Option Span) (e sc : Span) → AreNames true xs ps l r → is_done r ≡ true → Reads_to names (xs, ps) l r f e sc
+pub names_complete : (xs : List Ident) (ps : List Comma) (l r : Toks) (f : Option Span) (e : Span) (sc : Scope) → AreNames true xs ps l r → is_done r ≡ true → Reads_to names (xs, ps) l r f e sc
 names_complete xs ps l r f e sc i d =
     laws.listed_complete (λ b. is_done) (λ b. name) (λ l. not (is_done l)) comma IsName (IsMark true) Anywhere (λ l. Unit {0}) (suc (size l))
     (λ b x l r h v k f e sc. reads_name b x l r v f e sc) (λ m l r v f e sc. mark_complete true refl short m l r f e sc v)

@@ -1,131 +1,229 @@
--- Positions: the tree that stands there, and how many entries are left.
-use Rattle.std.proofs.Common.{◌≡◌, ℕ, zero, suc, ◌+◌, ◌<◌, ◌≤◌, List, [], ◌∷◌, ◌++◌, map, length, take, drop, inl, inr, refl, sym, ◌∙◌, ap, subst, arith}
-use Rattle.std.proofs.lemmas.List.{length-take, length-drop, drop-map, take-append-drop}
+-- Positions: the tree that stands there, what is left of the buffer, and their order.
+use Rattle.std.proofs.Common.{◌≡◌, ℕ, ◌+◌, ◌-◌, ◌<◌, ◌≤◌, true, false, Some, List, [], ◌∷◌, ◌++◌, map, length, take, drop, refl, sym, ◌∙◌, ap, subst, append_assoc, append-nil, arith}
+use Rattle.std.proofs.lemmas.Bool.{ltb-true, ltb-false, lt-ltb}
+use Rattle.std.proofs.lemmas.List.{length-append, drop-map, take_rest}
 use Rattle.token_core.specs.declared.tree.Delimiter.{Delimiter}
 use Rattle.token_core.specs.declared.tree.Delimiter.TheVariants as d
 use Rattle.token_core.specs.declared.span.DelimSpan.{DelimSpan}
 use Rattle.token_core.specs.declared.tree.TokenTree.{TokenTree, out-TokenTree}
 use Rattle.token_core.specs.declared.tree.TokenTree.TheOpen as o
+use Rattle.token_core.specs.declared.tree.TokenTree.TheVariants as t
+use Rattle.token_core.specs.declared.tree.TokenTree.TheVariants.{outs-Group}
 use Rattle.token_core.specs.declared.tree.Group.{Group}
 use Rattle.token_core.specs.declared.tree.TokenStream.{TokenStream}
 use Rattle.token_core.specs.declared.buffer.Entry.{Entry}
-use Rattle.token_core.specs.Toks.{Toks, done}
+use Rattle.token_core.specs.Toks.{Toks, done, word, mark, lit, group, enter, leave}
 use Rattle.token_core.specs.Trees.{delimiter_of, span_of, content_of}
-use Rattle.token_core.specs.Trees as s
-use Rattle.token_core.specs.Seen.{Seen, view, saw_word, saw_mark, saw_lit, saw_group, saw_enter, saw_leave, saw_delimiter, view-nil, view-word, view-mark, view-lit, view-group, view-enter, view-leave}
-use Rattle.token_core.specs.Entries.{Flat, Layer, saw, saw_layer, entries_view, Nested, Inside, flat_stream}
-use Rattle.token_core.specs.Loops.{size}
-use Rattle.token_core.specs.Reads.{IsSuffix, all_of, past_word, past_punct, past_lit, past_group as skip_group, past_enter, past_leave}
-use Rattle.token_core.specs.Positions.{entries, is_before, Beside}
-use Rattle.std.specs.Prelude.{nat_lt, ◌⊎◌}
-use Rattle.std.proofs.lemmas.Bool.{lt-ltb, le-ltb}
-use Rattle.token_core.proofs.Flats.{flat_group_is, group_flat, tree_flat, view-tree, nested_flat}
-use Rattle.token_core.proofs.Fronts.{inside_taken, inside_long, nested_from, nested_tail, nested_drop}
-use Rattle.std.proofs.Math.ListN.{length-map}
+use Rattle.token_core.specs.Seen.{view, saw_delimiter, view-enter}
+use Rattle.token_core.specs.Entries.{Flat, saw, saw_layer, entries_view, Nested, Inside}
+use Rattle.token_core.specs.Front.{front, past_ends}
+use Rattle.token_core.specs.Stream.{Stream}
+use Rattle.token_core.specs.Reads.{IsSuffix, all_of, past_word, past_punct, past_lit, past_group, past_enter, past_leave, Follows, as_group}
+use Rattle.token_core.specs.Positions.{Item, an_ident, a_punct, a_literal, a_beginning, an_end, items, item, tree_items, entries_items, entered, left, is_before, IsReached, there, past, Holds, Placed}
+use Rattle.token_core.proofs.Fronts.{nested_tail, nested_drop}
+use Rattle.token_core.proofs.Positions.{a_group_items, items_seen, parts_seen, group_seen, item_group}
 
 -- ---- the tree that stands there
 
-insides : (b : Delimiter) (p : DelimSpan) (c : TokenStream) (n : ℕ) (l : Flat) → Nested (saw_delimiter b p c n ∷ l) → Inside c n l
-insides d.Parenthesis p c n l h = h.0
-insides d.Brace p c n l h = h.0
-insides d.Bracket p c n l h = h.0
-insides d.None p c n l h = h.0
+pub none_left : (l : List Entry) (x : List Item) → entries_items l ≡ x → length l ≡ 0 → x ≡ []
+none_left [] x e h = sym e
+none_left (y ∷ l) x e h = absurd (omega (arith, h))
 
--- the entries of a group's content and its end, and those after it
-module _ (b : Delimiter) (p : DelimSpan) (c : TokenStream) (n : ℕ) where
-  parted : (l : Flat) → Inside c n l → saw_delimiter b p c n ∷ l ≡ group_flat b p c ++ drop (suc n) l
-  parted l h =
-      ap (λ k. saw_delimiter b p c n ∷ k) (sym (take-append-drop (suc n) l) ∙ ap (λ k. k ++ drop (suc n) l) h.1)
-      ∙ ap (λ m. saw_delimiter b p c m ∷ ((flat_stream c ++ saw_leave ∷ []) ++ drop (suc n) l)) h.0
+insides : (b : Delimiter) (p : DelimSpan) (c : TokenStream) (n : ℕ) (l : Flat) → Nested (saw_delimiter b p c n ∷ l) → Inside c n l × Nested l
+insides d.Parenthesis p c n l h = h
+insides d.Brace p c n l h = h
+insides d.Bracket p c n l h = h
+insides d.None p c n l h = h
 
--- a tree that is no group
-pub leaf_shown : (t : TokenTree) (x : Layer) (z : Seen) (n : ℕ) (l : Flat) → out-TokenTree t ≡ x → tree_flat x ≡ z ∷ [] → saw_layer n x ≡ z → view (saw_layer n (out-TokenTree t) ∷ l) ≡ s.tree t (view l)
-leaf_shown t x z n l e f g =
-    ap (λ y. view (saw_layer n y ∷ l)) e ∙ ap (λ y. view (y ∷ l)) g ∙ ap (λ y. view (y ++ l)) (sym f) ∙ ap (λ y. view (tree_flat y ++ l)) (sym e) ∙ view-tree t l
+module _ (x : TokenTree) (g : Group) (n : ℕ) (more after : List Entry) (e : x ≡ t.Group g) (h : Nested (saw_layer n (out-TokenTree x) ∷ map saw more)) (a : after ≡ drop (n + 1) more) where
+  opened : out-TokenTree x ≡ o.Group g
+  opened = ap out-TokenTree e ∙ outs-Group g
 
-past_group : (t : TokenTree) (g : Group) (n : ℕ) (l : Flat) → out-TokenTree t ≡ o.Group g → Nested (saw_layer n (o.Group g) ∷ l) → view (saw_layer n (o.Group g) ∷ l) ≡ s.tree t (view (drop (n + 1) l))
-past_group t g n l e h =
-    let i = insides (delimiter_of g) (span_of g) (content_of g) n l h in
-    let k : suc n ≡ n + 1 = omega arith in
-    ap view (parted (delimiter_of g) (span_of g) (content_of g) n l i)
-    ∙ ap (λ x. view (x ++ drop (suc n) l)) (sym (flat_group_is g) ∙ ap tree_flat (sym e))
-    ∙ view-tree t (drop (suc n) l) ∙ ap (λ m. s.tree t (view (drop m l))) k
-
-module _ (t : TokenTree) (g : Group) (n : ℕ) (more after : List Entry) (e : out-TokenTree t ≡ o.Group g) (h : Nested (saw_layer n (out-TokenTree t) ∷ map saw more)) (a : after ≡ drop (n + 1) more) where
-  pub tree_past : view (saw_layer n (out-TokenTree t) ∷ map saw more) ≡ s.tree t (entries_view after)
+  -- a group stands there, and these entries follow it
+  pub tree_past : item (saw_layer n (out-TokenTree x)) ∷ entries_items more ≡ tree_items x ++ entries_items after
   tree_past =
-      ap (λ y. view (saw_layer n y ∷ map saw more)) e ∙ past_group t g n (map saw more) e (subst (λ y. Nested (saw_layer n y ∷ map saw more)) e h)
-      ∙ ap (λ l. s.tree t (view l)) (drop-map saw (n + 1) more ∙ ap (map saw) (sym a))
+      let i = insides (delimiter_of g) (span_of g) (content_of g) n (map saw more) (subst (λ y. Nested (saw_layer n y ∷ map saw more)) opened h) in
+      ap (λ y. item (saw_layer n y) ∷ entries_items more) opened ∙ ap (λ y. y ∷ entries_items more) (item_group (delimiter_of g) (span_of g) (content_of g) n)
+      ∙ group_seen (content_of g) n (map saw more) i.0 i.1 (delimiter_of g) (span_of g)
+      ∙ ap (λ y. y ++ map item (drop (n + 1) (map saw more))) (sym (a_group_items g) ∙ ap tree_items (sym e))
+      ∙ ap (λ l. tree_items x ++ map item l) (drop-map saw (n + 1) more ∙ ap (map saw) (sym a))
 
   pub nested_past : Nested (map saw after)
-  nested_past = subst (λ l. Nested (map saw l)) (sym a) (nested_drop more (n + 1) (nested_tail (saw_layer n (out-TokenTree t)) (map saw more) h))
+  nested_past = subst (λ l. Nested (map saw l)) (sym a) (nested_drop more (n + 1) (nested_tail (saw_layer n (out-TokenTree x)) (map saw more) h))
 
--- ---- how many entries are left
+-- ---- a group that is left in a scope
 
--- entries that nest are as many as the tokens that they show
-counted : (f : ℕ) (l : Flat) → length l ≤ f → Nested l → length l ≡ entries (view l)
-counted f [] h i = ap entries (sym view-nil)
-counted zero (x ∷ l) h i = absurd (omega (arith, h))
-counted (suc f) (saw_word t ∷ l) h i = ap suc (counted f l (omega (arith, h)) i) ∙ ap entries (sym (view-word t l))
-counted (suc f) (saw_mark m ∷ l) h i = ap suc (counted f l (omega (arith, h)) i) ∙ ap entries (sym (view-mark m l))
-counted (suc f) (saw_lit k ∷ l) h i = ap suc (counted f l (omega (arith, h)) i) ∙ ap entries (sym (view-lit k l))
-counted (suc f) (saw_enter p c n ∷ l) h i = ap suc (counted f l (omega (arith, h)) i.1) ∙ ap entries (sym (view-enter p c n l))
-counted (suc f) (saw_leave ∷ l) h i = ap suc (counted f l (omega (arith, h)) i) ∙ ap entries (sym (view-leave l))
-counted (suc f) (saw_group d p c n ∷ l) h i =
-    let t = inside_taken c n l i.0 in
-    let long : suc n ≤ length l = inside_long c n l i.0 in
-    let a = counted f (take n l) (omega (arith, h, length-take n l)) (subst Nested (sym t) (nested_flat c)) in
-    let b = counted f (drop (n + 1) l) (omega (arith, h, length-drop (n + 1) l)) (nested_from l (n + 1) i.1) in
-    let e = ap entries (view-group d p c n l) in
-    omega (arith, a, b, e, long, length-take n l, length-drop (n + 1) l)
+later : (x : Item) (t k c m : Toks) → items t ≡ x ∷ items k → Holds k c m → Holds t c m
+later x t k c m e h = record { before = x ∷ h.before; is = e ∙ ap (λ z. x ∷ z) h.is }
 
-count : (l : Flat) → Nested l → length l ≡ entries (view l)
-count l h = counted (length l) l (omega arith) h
+pub holds_group : (t : Toks) (p : Delimiter × DelimSpan × Toks × Toks) → as_group (front t) ≡ Some p → Holds t p.2 p.3
+holds_group done p e = cc
+holds_group (word v r) p e = cc
+holds_group (mark c r) p e = cc
+holds_group (lit v r) p e = cc
+holds_group (group g z y r) p e =
+    let f : ◌≡◌ {A = Delimiter × DelimSpan × Toks × Toks} (g, z, y, r) p = cc in
+    subst (λ (q : Delimiter × DelimSpan × Toks × Toks). Holds (group g z y r) q.2 q.3) f (record { before = a_beginning g z ∷ []; is = refl })
+holds_group (enter s r) p e = later (a_beginning d.None s) (enter s r) r p.2 p.3 refl (holds_group r p e)
+holds_group (leave r) p e = later an_end (leave r) r p.2 p.3 refl (holds_group r p e)
 
-pub none_left : (l : List Entry) (x : Toks) → entries_view l ≡ x → length l ≡ 0 → x ≡ done
-none_left [] x e h = sym e ∙ view-nil
-none_left (y ∷ l) x e h = absurd (omega (arith, h))
+pub holds_outside : (t c m : Toks) → Holds (past_ends t) c m → Holds t c m
+holds_outside done c m h = h
+holds_outside (word v r) c m h = h
+holds_outside (mark v r) c m h = h
+holds_outside (lit v r) c m h = h
+holds_outside (group g z y r) c m h = h
+holds_outside (enter s r) c m h = h
+holds_outside (leave r) c m h = later an_end (leave r) r c m refl (holds_outside r c m h)
+
+module _ (p : DelimSpan) (c : TokenStream) (n : ℕ) where
+  pub holds_invisible : (b : Delimiter) (l : Flat) (x y : Toks) → b ≡ d.None → x ≡ view (take n l) → y ≡ view (drop (n + 1) l) → Nested (saw_delimiter b p c n ∷ l) → Holds (view (saw_delimiter b p c n ∷ l)) x y
+  holds_invisible d.None l x y e f g h =
+      record {
+        before = a_beginning d.None p ∷ [];
+        is = ap items (view-enter p c n l) ∙ ap (λ z. a_beginning d.None p ∷ z)
+            (parts_seen c n l h.0 h.1 ∙ ap (λ z. items z ++ an_end ∷ items (view (drop (n + 1) l))) (sym f) ∙ ap (λ z. items x ++ an_end ∷ items z) (sym g));
+      }
+  holds_invisible d.Parenthesis l x y e f g h = cc
+  holds_invisible d.Brace l x y e f g h = cc
+  holds_invisible d.Bracket l x y e f g h = cc
+
+-- ---- further on in a scope
+
+pub record Ends (l : List Item) (m : List Item) : Type 0 where
+  pub before : List Item
+  pub is : m ≡ before ++ l
+
+after_more : (x : Item) (l m : List Item) → Ends l m → Ends l (x ∷ m)
+after_more x l m h = record { before = x ∷ h.before; is = ap (λ z. x ∷ z) h.is }
+
+-- a suffix of tokens has the last of their items
+pub suffix_ends : (r t : Toks) → IsSuffix r t → Ends (items r) (items t)
+suffix_ends r t all_of = record { before = []; is = refl }
+suffix_ends r t (past_word {k = k} i p) = after_more (an_ident i) (items r) (items k) (suffix_ends r k p)
+suffix_ends r t (past_punct {k = k} i p) = after_more (a_punct i) (items r) (items k) (suffix_ends r k p)
+suffix_ends r t (past_lit {k = k} i p) = after_more (a_literal i) (items r) (items k) (suffix_ends r k p)
+suffix_ends r t (past_group {k = k} b s c p) =
+    let h = suffix_ends r k p in
+    record {
+      before = a_beginning b s ∷ (items c ++ an_end ∷ h.before);
+      is = ap (λ z. a_beginning b s ∷ (items c ++ an_end ∷ z)) h.is ∙ ap (λ z. a_beginning b s ∷ z) (sym (append_assoc (items c) (an_end ∷ h.before) (items r)));
+    }
+suffix_ends r t (past_enter {k = k} s p) = after_more (a_beginning d.None s) (items r) (items k) (suffix_ends r k p)
+suffix_ends r t (past_leave {k = k} p) = after_more an_end (items r) (items k) (suffix_ends r k p)
+
+drop_front : (xs ys : List Item) → drop (length xs) (xs ++ ys) ≡ ys
+drop_front [] ys = refl
+drop_front (x ∷ xs) ys = drop_front xs ys
+
+-- what is left of the buffer there
+module _ (l m : List Item) where
+  pub ends_shorter : Ends l m → length l ≤ length m
+  ends_shorter h = omega (arith, ap length h.is, length-append h.before l)
+
+  ends_left : (after : List Item) (h : Ends l m) (n : ℕ) (whole : List Item) → whole ≡ m ++ after → n + length l ≡ length m → drop n whole ≡ l ++ after
+  ends_left after h n whole e f =
+      let k : n ≡ length h.before = omega (arith, f, ap length h.is, length-append h.before l) in
+      ap (drop n) (e ∙ ap (λ z. z ++ after) h.is ∙ append_assoc h.before l after) ∙ ap (λ i. drop i (h.before ++ (l ++ after))) k ∙ drop_front h.before (l ++ after)
+
+drop_scope : (l after : List Item) → drop (length l) (l ++ after) ≡ after
+drop_scope l after = drop_front l after
+
+-- a place in a scope, with what follows the scope
+abbrev pub placed : Toks → List Item → Placed
+placed r a = record { rest = r; after = a }
+
+-- the entries from a place in a scope on, to the end of the buffer
+pub record Stands (l : List Entry) (place : Toks) (after : List Item) : Type 0 where
+  pub nested : Nested (map saw l)
+  pub is : entries_items l ≡ items place ++ drop (length (items place)) (entries_items l)
+  pub after_is : drop (length (items place)) (entries_items l) ≡ after
+
+stands : (l : List Entry) (x : Toks) (after : List Item) → Nested (map saw l) → entries_items l ≡ items x ++ after → Stands l x after
+stands l x after h e =
+    let d : drop (length (items x)) (entries_items l) ≡ after = ap (drop (length (items x))) e ∙ drop_scope (items x) after in
+    record { nested = h; is = e ∙ ap (λ z. items x ++ z) (sym d); after_is = d }
+
+pub stands_first : (l : List Entry) (x : Toks) → Nested (map saw l) → entries_view l ≡ x → Stands l x []
+stands_first l x h e = stands l x [] h (items_seen l x h e ∙ sym (append-nil (items x)))
+
+-- further on, where these items are left
+pub stands_on : (whole : List Entry) (m l after : List Item) (x : Toks) (more : List Item) (n : ℕ) → Nested (map saw whole) → entries_items whole ≡ m ++ after → Ends l m →
+    n ≡ length m - length l → l ++ after ≡ items x ++ more → Stands (take (length whole - n) (drop n whole)) x more
+stands_on whole m l after x more n i e h f q =
+    let s = ends_shorter l m h in
+    let t = take_rest whole n in
+    let d : entries_items (drop n whole) ≡ drop n (entries_items whole) = ap (map item) (sym (drop-map saw n whole)) ∙ sym (drop-map item n (map saw whole)) in
+    subst (λ z. Stands z x more) (sym t) (stands (drop n whole) x more (nested_drop whole n i) (d ∙ ends_left l m after h n (entries_items whole) e (omega (arith, f, s)) ∙ q))
 
 -- ---- the order of positions
 
-pub record Less (a b : Toks) : Type 0 where
-  pub sizes : size a < size b
-  pub counts : entries a < entries b
+pub reached_shorter : (a w : List Item) → IsReached a w → length a ≤ length w
+reached_shorter a w there = omega arith
+reached_shorter a w (past {l = l} x p) = let h = reached_shorter a l p in omega (arith, h)
 
-abbrev pub Reached : Toks → Toks → Type 0
-Reached a b = (a ≡ b) ⊎ Less a b
+pub reached_trans : (a b c : List Item) → IsReached a b → IsReached b c → IsReached a c
+reached_trans a b c p there = p
+reached_trans a b c p (past {l = l} x q) = past x (reached_trans a b l p q)
 
-further : (a k t : Toks) → size t ≡ suc (size k) → entries k < entries t → Reached a k → Reached a t
-further a k t e f (inl h) = inr (record { sizes = omega (arith, e, ap size h); counts = omega (arith, f, ap entries h) })
-further a k t e f (inr h) = inr (record { sizes = omega (arith, e, h.sizes); counts = omega (arith, f, h.counts) })
+pub reached_after : (xs l : List Item) → IsReached l (xs ++ l)
+reached_after [] l = there
+reached_after (x ∷ xs) l = past x (reached_after xs l)
 
--- a later position is the same, or fewer tokens are left there
-pub reached : (a b : Toks) → IsSuffix a b → Reached a b
-reached a b all_of = inl refl
-reached a b (past_word {k = k} t p) = further a k b refl (omega arith) (reached a k p)
-reached a b (past_punct {k = k} m p) = further a k b refl (omega arith) (reached a k p)
-reached a b (past_lit {k = k} x p) = further a k b refl (omega arith) (reached a k p)
-reached a b (skip_group {k = k} d x c p) = further a k b refl (omega arith) (reached a k p)
-reached a b (past_enter {k = k} x p) = further a k b refl (omega arith) (reached a k p)
-reached a b (past_leave {k = k} p) = further a k b refl (omega arith) (reached a k p)
+same_length : (a w : List Item) → IsReached a w → length w ≤ length a → IsReached w a
+same_length a w there h = there
+same_length a w (past {l = l} x p) h = let k = reached_shorter a l p in absurd (omega (arith, h, k))
 
-ordered_at : (a b : Toks) → Reached a b → (nat_lt (entries b) (entries a) ≡ is_before a b) × (nat_lt (entries a) (entries b) ≡ is_before b a)
-ordered_at a b (inl h) =
-    let c : entries a ≡ entries b = ap entries h in
-    let n : size a ≡ size b = ap size h in
-    (le-ltb (entries b) (entries a) (omega (arith, c)) ∙ sym (le-ltb (size b) (size a) (omega (arith, n))), le-ltb (entries a) (entries b) (omega (arith, c)) ∙ sym (le-ltb (size a) (size b) (omega (arith, n))))
-ordered_at a b (inr h) =
-    let c = h.counts in
-    let n = h.sizes in
-    (le-ltb (entries b) (entries a) (omega (arith, c)) ∙ sym (le-ltb (size b) (size a) (omega (arith, n))), lt-ltb (entries a) (entries b) c ∙ sym (lt-ltb (size a) (size b) n))
+-- of two positions of one buffer, the one where less is left is reached from the other
+pub reached_of : (a b w : List Item) → IsReached a w → IsReached b w → length a ≤ length b → IsReached a b
+reached_of a b w there q h = same_length b w q h
+reached_of a b w (past {l = l} x p) there h = past x p
+reached_of a b w (past {l = l} x p) (past y q) h = reached_of a b l p q h
 
-ordered : (a b : Toks) → Beside a b → nat_lt (entries b) (entries a) ≡ is_before a b
-ordered a b (inl p) = (ordered_at a b (reached a b p)).0
-ordered a b (inr p) = (ordered_at b a (reached b a p)).1
+ahead : (a b : List Item) → IsReached b a → (a ≡ b → ⊥) → length b < length a
+ahead a b there n = absurd (n refl)
+ahead a b (past {l = l} x p) n = let h = reached_shorter b l p in omega (arith, h)
 
-left_is : (a : List Entry) (x : Toks) → Nested (map saw a) → entries_view a ≡ x → length a ≡ entries x
-left_is a x h e = sym (length-map a saw) ∙ count (map saw a) h ∙ ap entries e
+-- Of two positions of one buffer, one stands before the other exactly if the other is a different one that is reached from it.
+module _ (a b w : List Item) (p : IsReached a w) (q : IsReached b w) where
+  pub before_reached : is_before a b ≡ true → IsReached b a × (a ≡ b → ⊥)
+  before_reached h =
+      let n = ltb-true (length b) (length a) h in
+      (reached_of b a w q p (omega (arith, n)), λ e. let k : length a ≡ length b = ap length e in absurd (omega (arith, n, k)))
 
--- the order of two positions is that of the entries left there
-pub before : (a b : List Entry) (x y : Toks) → Nested (map saw a) → Nested (map saw b) → entries_view a ≡ x → entries_view b ≡ y → Beside x y → nat_lt (length b) (length a) ≡ is_before x y
-before a b x y h i e f p = ap (λ n. nat_lt n (length a)) (left_is b y i f) ∙ ap (nat_lt (entries y)) (left_is a x h e) ∙ ordered x y p
+  pub not_before : is_before a b ≡ false → IsReached a b
+  not_before h = let n = ltb-false (length b) (length a) h in reached_of a b w p q n
+
+pub reached_before : (a b : List Item) → IsReached b a → (a ≡ b → ⊥) → is_before a b ≡ true
+reached_before a b p n = lt-ltb (length b) (length a) (ahead a b p n)
+
+-- a stream's later position is reached from its earlier one
+pub reached_follows : (s u : Stream) → Follows s u → IsReached (items u.rest ++ u.scope.after) (items s.rest ++ s.scope.after)
+reached_follows s u f =
+    let h = suffix_ends u.rest s.rest f.suffix in
+    subst (λ z. IsReached (items u.rest ++ z) (items s.rest ++ s.scope.after)) (ap (λ z. z.after) (sym f.scope))
+    (subst (λ z. IsReached (items u.rest ++ s.scope.after) z) (sym (append_assoc h.before (items u.rest) s.scope.after) ∙ ap (λ z. z ++ s.scope.after) (sym h.is))
+    (reached_after h.before (items u.rest ++ s.scope.after)))
+
+-- ---- each move goes forward
+
+pub reached_tree : (x : TokenTree) (v r : List Item) → v ≡ tree_items x ++ r → IsReached r v
+reached_tree x v r e = subst (λ z. IsReached r z) (sym e) (reached_after (tree_items x) r)
+
+pub reached_entered : (v r : List Item) → Some r ≡ entered v → IsReached r v
+reached_entered [] r e = cc
+reached_entered (an_ident i ∷ l) r e = cc
+reached_entered (a_punct p ∷ l) r e = cc
+reached_entered (a_literal k ∷ l) r e = cc
+reached_entered (a_beginning b s ∷ l) r e = let f : r ≡ l = cc in subst (λ z. IsReached z (a_beginning b s ∷ l)) (sym f) (past (a_beginning b s) there)
+reached_entered (an_end ∷ l) r e = cc
+
+pub reached_left : (v r : List Item) → Some r ≡ left v → IsReached r v
+reached_left [] r e = cc
+reached_left (an_ident i ∷ l) r e = cc
+reached_left (a_punct p ∷ l) r e = cc
+reached_left (a_literal k ∷ l) r e = cc
+reached_left (a_beginning b s ∷ l) r e = cc
+reached_left (an_end ∷ l) r e = let f : r ≡ l = cc in subst (λ z. IsReached z (an_end ∷ l)) (sym f) (past an_end there)
+
+pub ruleset positions = (reached_tree, reached_entered, reached_left, reached_trans, reached_follows, there)

@@ -2,7 +2,7 @@
 use Rattle.std.proofs.Common.{◌≡◌, Bool, if◌then◌else◌, Option, Ok, ◌∙◌, ap}
 use Rattle.token_core.specs.declared.span.Span.{Span}
 use Rattle.token_core.specs.Toks.{Toks}
-use Rattle.token_core.specs.Stream.{Stream}
+use Rattle.token_core.specs.Stream.{Scope, Stream}
 use Rattle.token_core.specs.Reads.{Outcome, Reader, and_then}
 use Rattle.token_core.proofs.Took.{at}
 
@@ -15,6 +15,6 @@ pub chosen : {A : Type 0} (b c : Bool) (p q : Reader A) (s : Stream) (x : Outcom
 chosen b c p q s x e h = ap (λ (z : Bool). (if z then p else q) s) e ∙ h
 
 -- a read of the tokens answers, and the stream stands after what was spelt
-pub record Reads_to {A : Type 0} (p : Reader A) (a : A) (l r : Toks) (f : Option Span) (e sc : Span) : Type 0 where
+pub record Reads_to {A : Type 0} (p : Reader A) (a : A) (l r : Toks) (f : Option Span) (e : Span) (sc : Scope) : Type 0 where
   pub last : Span
   pub reads : p (at l f e sc) ≡ Ok (a, at r f last sc)

@@ -1,5 +1,5 @@
 -- Where a read leaves a stream.
-use Rattle.std.proofs.Common.{◌≡◌, ℕ, Bool, true, false, List, [], ◌∷◌, Option, Some, None, refl, ◌∙◌, ap, subst, ◌==◌, if◌then◌else◌}
+use Rattle.std.proofs.Common.{◌≡◌, ℕ, Bool, true, false, List, [], ◌∷◌, Option, Some, None, refl, sym, ◌∙◌, ap, subst, ◌==◌, if◌then◌else◌}
 use Rattle.token_core.specs.declared.tree.Delimiter.{Delimiter}
 use Rattle.token_core.specs.declared.span.DelimSpan.{DelimSpan}
 use Rattle.token_core.specs.declared.tree.Ident.{Ident}
@@ -10,7 +10,7 @@ use Rattle.token_core.specs.Toks.{Toks, done, word, mark, lit, group, enter, lea
 use Rattle.token_core.specs.Spans.{none}
 use Rattle.token_core.specs.Front.{front, past_ends, settled}
 use Rattle.token_core.specs.Stream.{Stream}
-use Rattle.token_core.specs.Reads.{IsSuffix, all_of, past_word, past_punct, past_lit, past_group, past_enter, past_leave, Follows, IsFork, forked, first_of, as_word, as_punct, as_group, past_next, past_mark, is_last, is_joint, put_first, three, word_past, next_word, past}
+use Rattle.token_core.specs.Reads.{IsSuffix, all_of, past_word, past_punct, past_lit, past_group, past_enter, past_leave, Follows, IsFork, forked, first_of, as_word, as_punct, as_group, past_next, past_mark, after_mark, after_quote, is_last, is_joint, put_first, three, word_past, next_word, past}
 
 pub suffix_trans : {a b c : Toks} → IsSuffix a b → IsSuffix b c → IsSuffix a c
 suffix_trans p all_of = p
@@ -41,6 +41,31 @@ suffix_punct (lit s r) m k e = cc
 suffix_punct (group d s x r) m k e = cc
 suffix_punct (enter s r) m k e = past_enter s (suffix_punct r m k e)
 suffix_punct (leave r) m k e = past_leave (suffix_punct r m k e)
+
+suffix_front : (t : Toks) → IsSuffix (front t) t
+suffix_front done = all_of
+suffix_front (word i k) = all_of
+suffix_front (mark p k) = all_of
+suffix_front (lit l k) = all_of
+suffix_front (group d s c k) = all_of
+suffix_front (enter s k) = past_enter s (suffix_front k)
+suffix_front (leave k) = past_leave (suffix_front k)
+
+-- what follows the token at the front
+pub suffix_past : (t x k : Toks) → front t ≡ x → IsSuffix k x → IsSuffix k t
+suffix_past t x k e p = suffix_trans (subst (λ z. IsSuffix k z) (sym e) p) (suffix_front t)
+
+after_quoted : (k : Toks) (o : Option (Ident × Toks)) → as_word (front k) ≡ o → IsSuffix (after_quote k o) k
+after_quoted k None e = all_of
+after_quoted k (Some p) e = suffix_word k p.0 p.1 e
+
+pub suffix_after_mark : (p : Punct) (k : Toks) → IsSuffix (after_mark p k) k
+suffix_after_mark p k = by_test (p.ch == 39) (is_joint p.spacing)
+  where
+    by_test : (b j : Bool) → IsSuffix (if b then (if j then after_quote k (as_word (front k)) else k) else k) k
+    by_test true true = after_quoted k (as_word (front k)) refl
+    by_test true false = all_of
+    by_test false j = all_of
 
 abbrev Grouped : Type 0
 Grouped = Delimiter × DelimSpan × Toks × Toks

@@ -11,13 +11,13 @@ use Rattle.token_core.specs.Refusal.{Refusal}
 use Rattle.token_core.specs.Toks.{Bytes, Toks, done, word, mark, lit, group, enter, leave}
 use Rattle.token_core.specs.Trees.{punct}
 use Rattle.token_core.specs.Rebuilt.{Visible, stream_of}
-use Rattle.token_core.specs.Stream.{Stream}
+use Rattle.token_core.specs.Stream.{Scope, Stream}
 use Rattle.token_core.specs.Reads.{Reader, Outcome, Body, and_then, pure, past, past_mark, put_first, three, is_joint, sees_word, read_word, next_word, read_mark, delimited, leaves, is_done, first_of, goes_on, expected}
 use Rattle.token_core.specs.Loops.{size, Many, never, joined_from, joined, listed, one, put}
 use Rattle.token_core.proofs.Turns.{chain, same_pair}
 
 -- a stream by its parts
-abbrev pub at : Toks → Option Span → Span → Span → Stream
+abbrev pub at : Toks → Option Span → Span → Scope → Stream
 at l f e sc = record { rest = l; left = f; last = e; scope = sc }
 
 pub branch : {A : Type 0} (b : Bool) (p q : Reader A) (s : Stream) (x : Outcome A) → (if b then p else q) s ≡ x → ((b ≡ true) × (p s ≡ x)) ⊎ ((b ≡ false) × (q s ≡ x))
@@ -47,7 +47,7 @@ took_word_if test name j i k s t e true r m h =
     record { is = r ∙ ap (λ z. word z k) q.0 ∙ ap (λ (z : Stream). word i z.rest) q.1; meets = ap (λ (z : Ident). test z.text) (sym q.0) ∙ m; left = ap (λ (z : Stream). z.left) (sym q.1) }
 took_word_if test name j i k s t e false r m h = cc
 
-took_word_at : (l : Toks) (f : Option Span) (e sc : Span) (test : Bytes → Bool) (name : Bytes) (i : Ident) (t : Stream) → Visible l → read_word test name (at l f e sc) ≡ Ok (i, t) → Word test (at l f e sc) t i
+took_word_at : (l : Toks) (f : Option Span) (e : Span) (sc : Scope) (test : Bytes → Bool) (name : Bytes) (i : Ident) (t : Stream) → Visible l → read_word test name (at l f e sc) ≡ Ok (i, t) → Word test (at l f e sc) t i
 unfolding read_word next_word
 took_word_at done f e sc test name i t v h = cc
 took_word_at (word j k) f e sc test name i t v h = took_word_if test name j i k (at (word j k) f e sc) t _ (test j.text) refl refl h
@@ -178,7 +178,7 @@ pub record Grouped (s t : Stream) (b : Body) : Type 0 where
   pub tokens : b.2 ≡ stream_of content
   pub left : t.left ≡ s.left
 
-took_group_at : (l : Toks) (f : Option Span) (e sc : Span) (b : Body) (t : Stream) → Visible l → delimited (at l f e sc) ≡ Ok (b, t) → Grouped (at l f e sc) t b
+took_group_at : (l : Toks) (f : Option Span) (e : Span) (sc : Scope) (b : Body) (t : Stream) → Visible l → delimited (at l f e sc) ≡ Ok (b, t) → Grouped (at l f e sc) t b
 unfolding delimited
 took_group_at done f e sc b t v h = cc
 took_group_at (word j k) f e sc b t v h = cc
@@ -200,7 +200,7 @@ took_group s t b v h = took_group_at s.rest s.left s.last s.scope b t v h
 
 -- ---- nothing is left
 
-ended_at : (l : Toks) (f : Option Span) (e sc : Span) → Visible l → leaves (at l f e sc) ≡ None → l ≡ done
+ended_at : (l : Toks) (f : Option Span) (e : Span) (sc : Scope) → Visible l → leaves (at l f e sc) ≡ None → l ≡ done
 unfolding is_done
 ended_at done f e sc v h = refl
 ended_at (word j k) None e sc v h = cc
@@ -218,7 +218,7 @@ pub took_all : (t : Stream) → Visible t.rest → leaves t ≡ None → t.rest 
 took_all t v h = ended_at t.rest t.left t.last t.scope v h
 
 -- where nothing was left over before, nothing is at the end
-pub leaves_none : (f : Option Span) (e sc : Span) → f ≡ None → leaves (at done f e sc) ≡ None
+pub leaves_none : (f : Option Span) (e : Span) (sc : Scope) → f ≡ None → leaves (at done f e sc) ≡ None
 unfolding is_done
 leaves_none f e sc h = ap (λ z. first_of z None) h
 

@@ -13,7 +13,7 @@ use Rattle.token_core.specs.Toks.{Bytes, Toks, done, word, mark, lit, group, ent
 use Rattle.token_core.specs.Trees.{ident, punct, row}
 use Rattle.token_core.specs.Prints as p
 use Rattle.token_core.specs.Rebuilt.{Visible}
-use Rattle.token_core.specs.Stream.{Stream}
+use Rattle.token_core.specs.Stream.{Scope, Stream}
 use Rattle.token_core.specs.Loops.{size}
 use Rattle.token_core.specs.Marks.{text_of, word_name, word_of, read_named}
 use Rattle.token_core.specs.Reads.{is_joint, is_text, sees_word, read_word, next_word, goes_on, past, expected}
@@ -28,7 +28,7 @@ use Rattle.token_core.proofs.MarkSpells.{Taken, joint_is}
 
 -- ---- words
 
-read_text : (t name : Bytes) (a : Span) (r : Toks) (f : Option Span) (e sc : Span) → read_word (is_text t) name (at (word (ident t a) r) f e sc) ≡ Ok (ident t a, at r f a sc)
+read_text : (t name : Bytes) (a : Span) (r : Toks) (f : Option Span) (e : Span) (sc : Scope) → read_word (is_text t) name (at (word (ident t a) r) f e sc) ≡ Ok (ident t a, at r f a sc)
 unfolding read_word next_word
 read_text t name a r f e sc = ap (λ (b : Bool). if b then Ok (ident t a, at r f a sc) else Err (expected name (at (word (ident t a) r) f e sc))) ((bytes_eq-Decides t t).1 refl)
 
@@ -41,7 +41,7 @@ module _ {n : ℕ} where
       let rest : s.rest ≡ word (ident (text_of n) y.value.span) t.rest = k.is ∙ ap (λ z. word (ident z y.value.span) t.rest) text in
       record { spelt = subst (λ z. IsWord z s.rest t.rest) y.is (subst (λ z. IsWord (word_of n y.value.span) z t.rest) (sym rest) is_word); left = k.left }
 
-  pub word_complete : (w : Word n) (l r : Toks) (f : Option Span) (e sc : Span) → IsWord w l r → Reads_to (read_named n) w l r f e sc
+  pub word_complete : (w : Word n) (l r : Toks) (f : Option Span) (e : Span) (sc : Scope) → IsWord w l r → Reads_to (read_named n) w l r f e sc
   word_complete w l r f e sc (is_word {a = a}) = record { last = a; reads = link _ (read_text (text_of n) (word_name n) a r f e sc) refl }
 
   pub word_seen : (w : Word n) (l r : Toks) → IsWord w l r → sees_word (is_text (text_of n)) l ≡ true
@@ -108,7 +108,7 @@ lifetime_sound s t x v e =
     let w = went_on (λ (y : Lifetime). y.ident.span) _ s t x (past_lifetime s.rest) e in
     record { spelt = life_at s.rest (x, t.rest) v w.was; left = w.left }
 
-pub lifetime_complete : (x : Lifetime) (l r : Toks) (f : Option Span) (e sc : Span) → IsLifetime x l r → Reads_to read_lifetime x l r f e sc
+pub lifetime_complete : (x : Lifetime) (l r : Toks) (f : Option Span) (e : Span) (sc : Scope) → IsLifetime x l r → Reads_to read_lifetime x l r f e sc
 unfolding read_lifetime
 lifetime_complete x l r f e sc (is_lifetime {a = a} {i = i}) = record { last = i.span; reads = refl }
 

@@ -87,7 +87,7 @@ sees_invisible l = is_there (next_invisible l)
 
 abbrev pub invisible_at : Stream → Option (DelimSpan × Toks × Toks) → Outcome (DelimSpan × Stream)
 invisible_at s None = Err (expected invisible_name s)
-invisible_at s (Some p) = Ok ((p.0, inside p.0 p.1), past s p.2 p.0.closing)
+invisible_at s (Some p) = Ok ((p.0, inside s p.0 p.1 p.2), past s p.2 p.0.closing)
 
 -- the child stream of the invisible group at the front
 unfoldable pub open_invisible : Reader (DelimSpan × Stream)

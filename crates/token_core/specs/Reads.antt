@@ -21,7 +21,8 @@ use Rattle.token_core.specs.Refusal.{Refusal, refusal, fixed}
 use Rattle.token_core.specs.Front.{front, past_ends}
 use Rattle.token_core.specs.Keywords.{is_keyword}
 use Rattle.token_core.specs.Rebuilt.{stream_of}
-use Rattle.token_core.specs.Stream.{Stream, started}
+use Rattle.token_core.specs.Positions.{an_end, items}
+use Rattle.token_core.specs.Stream.{Stream}
 
 -- ---- what stands at the front
 
@@ -184,7 +185,7 @@ span_at (enter p k) s = s
 span_at (leave k) s = s
 
 unfoldable pub here : Stream → Span
-here s = span_at (front s.rest) s.scope
+here s = span_at (front s.rest) s.scope.at
 
 abbrev pub at_end : Bool → Bytes → Bytes
 at_end true t = codes "unexpected end of input, " ++ t
@@ -247,12 +248,13 @@ builtin_text = codes "builtin"
 
 -- ---- groups
 
-abbrev pub inside : DelimSpan → Toks → Stream
-inside d c = started d.closing c
+-- a child stream: a group's content, after which its end stands and then what follows the group
+abbrev pub inside : Stream → DelimSpan → Toks → Toks → Stream
+inside s d c k = record { rest = c; left = None; last = none; scope = record { at = d.closing; after = an_end ∷ (items k ++ s.scope.after) } }
 
 abbrev pub opened : Delimiter → Refusal → Stream → Option (Delimiter × DelimSpan × Toks × Toks) → Outcome (DelimSpan × Stream)
 opened d e s None = Err e
-opened d e s (Some p) = if same_delimiter p.0 d then Ok ((p.1, inside p.1 p.2), past s p.3 p.1.closing) else Err e
+opened d e s (Some p) = if same_delimiter p.0 d then Ok ((p.1, inside s p.1 p.2 p.3), past s p.3 p.1.closing) else Err e
 
 -- the child stream of the group at the front
 unfoldable pub open_group : Delimiter → Bytes → Reader (DelimSpan × Stream)

@@ -1,15 +1,17 @@
 //! A flat buffer of entries that refer to the trees of a list, and what stands at its front.
 
-ghost use Rattle.std.specs.Prelude.{◌≡◌, ◌∷◌, ◌++◌, ◌+◌, map, take, drop, option_map, IfOk, OnOk};
+ghost use Rattle.std.specs.Prelude.{◌≡◌, ◌∷◌, ◌++◌, ◌+◌, map, take, drop, option_map, IfOk, IfSome, OnOk};
 ghost use Rattle.token_core.specs.Groups as groups;
 ghost use Rattle.token_core.specs.Front as spec;
 ghost use Rattle.token_core.specs.Front.{shows, Linked};
 ghost use Rattle.token_core.specs.Trees.{delimiter_of, span_of, content_of, toks};
 ghost use Rattle.token_core.specs.Entries.{saw, saw_layer, entries_view, flat_tree, flat_stream, Nested};
+ghost use Rattle.token_core.specs.Positions.{items, Holds};
 ghost use Rattle.token_core.specs.Seen.{view, saw_delimiter};
 ghost use Rattle.token_core.specs.declared.tree.TokenTree.{out-TokenTree};
 
 use crate::cursor::Cursor;
+use crate::place::Place;
 use crate::tree::{Delimiter, Group, Ident, Literal, Punct, TokenStream, TokenTree};
 use std::alloc::{AllocError, Global};
 use std::marker::Model;
@@ -69,11 +71,11 @@ fn is_end(entry: &Entry<'_>) -> bool
 #[derive(Drop)]
 pub(crate) enum Front<'a> {
     Done,
-    Word(&'a Ident, Cursor<'a>),
-    Mark(Punct, Cursor<'a>),
-    Literal(&'a Literal, Cursor<'a>),
+    Word(&'a Ident, Place<'a>),
+    Mark(Punct, Place<'a>),
+    Literal(&'a Literal, Place<'a>),
     /// A visible group, its content, and what follows it.
-    Group(&'a Group, Cursor<'a>, Cursor<'a>),
+    Group(&'a Group, Place<'a>, Place<'a>),
 }
 
 #[tactic(auto, using(crate::proofs::Fronts::views))]
@@ -95,9 +97,9 @@ fn tree_front<'a>(tree: &'a TokenTree, n: usize, more: &'a [Entry<'a>]) -> Front
     ensures linked { Linked result }
 {
     match tree {
-        TokenTree::Ident(ident) => Front::Word(ident, Cursor { entries: more }),
-        TokenTree::Punct(punct) => Front::Mark(*punct, Cursor { entries: more }),
-        TokenTree::Literal(literal) => Front::Literal(literal, Cursor { entries: more }),
+        TokenTree::Ident(ident) => Front::Word(ident, Place { entries: more }),
+        TokenTree::Punct(punct) => Front::Mark(*punct, Place { entries: more }),
+        TokenTree::Literal(literal) => Front::Literal(literal, Place { entries: more }),
         TokenTree::Group(group) => group_front(group, n, more),
     }
 }
@@ -112,7 +114,7 @@ fn group_front<'a>(group: &'a Group, n: usize, more: &'a [Entry<'a>]) -> Front<'
         Delimiter::None => Front::Done,
         _ => {
             let (inside, after) = around(n, more);
-            Front::Group(group, Cursor { entries: inside }, Cursor { entries: after })
+            Front::Group(group, Place { entries: inside }, Place { entries: after })
         }
     }
 }
@@ -121,9 +123,10 @@ fn group_front<'a>(group: &'a Group, n: usize, more: &'a [Entry<'a>]) -> Front<'
 fn invisible_at<'a>(
     entry: &Entry<'a>,
     more: &'a [Entry<'a>],
-) -> Option<(&'a Group, Cursor<'a>, Cursor<'a>)>
+) -> Option<(&'a Group, Place<'a>, Place<'a>)>
     requires { Nested (saw entry.now ∷ map saw more.now) }
-    ensures { option_map (λ p. (span_of p.0.now, p.1, p.2)) result ≡ groups.as_invisible (view (saw entry.now ∷ map saw more.now)) }
+    ensures shown { option_map (λ p. (span_of p.0.now, p.1, p.2)) result ≡ groups.as_invisible (view (saw entry.now ∷ map saw more.now)) }
+    ensures held { IfSome result (λ p. Holds (view (saw entry.now ∷ map saw more.now)) p.1 p.2) }
 {
     match entry {
         Entry::Tree(TokenTree::Group(group), n) => invisible_group(group, *n, more),
@@ -137,14 +140,15 @@ fn invisible_group<'a>(
     group: &'a Group,
     n: usize,
     more: &'a [Entry<'a>],
-) -> Option<(&'a Group, Cursor<'a>, Cursor<'a>)>
+) -> Option<(&'a Group, Place<'a>, Place<'a>)>
     requires { Nested (saw_delimiter (delimiter_of group.now) (span_of group.now) (content_of group.now) n ∷ map saw more.now) }
-    ensures { option_map (λ p. (span_of p.0.now, p.1, p.2)) result ≡ groups.as_invisible (view (saw_delimiter (delimiter_of group.now) (span_of group.now) (content_of group.now) n ∷ map saw more.now)) }
+    ensures shown { option_map (λ p. (span_of p.0.now, p.1, p.2)) result ≡ groups.as_invisible (view (saw_delimiter (delimiter_of group.now) (span_of group.now) (content_of group.now) n ∷ map saw more.now)) }
+    ensures held { IfSome result (λ p. Holds (view (saw_delimiter (delimiter_of group.now) (span_of group.now) (content_of group.now) n ∷ map saw more.now)) p.1 p.2) }
 {
     match group.delimiter {
         Delimiter::None => {
             let (inside, after) = around(n, more);
-            Some((group, Cursor { entries: inside }, Cursor { entries: after }))
+            Some((group, Place { entries: inside }, Place { entries: after }))
         }
         _ => None,
     }
@@ -152,9 +156,10 @@ fn invisible_group<'a>(
 
 /// The invisible group that stands first.
 #[tactic(auto, using(crate::proofs::Fronts::views))]
-fn first_invisible<'a>(entries: &'a [Entry<'a>]) -> Option<(&'a Group, Cursor<'a>, Cursor<'a>)>
+fn first_invisible<'a>(entries: &'a [Entry<'a>]) -> Option<(&'a Group, Place<'a>, Place<'a>)>
     requires { Nested (map saw entries.now) }
-    ensures { option_map (λ p. (span_of p.0.now, p.1, p.2)) result ≡ groups.as_invisible (entries_view entries.now) }
+    ensures shown { option_map (λ p. (span_of p.0.now, p.1, p.2)) result ≡ groups.as_invisible (entries_view entries.now) }
+    ensures held { IfSome result (λ p. Holds (entries_view entries.now) p.1 p.2) }
 {
     if entries.len() == 0 {
         return None;
@@ -185,7 +190,7 @@ fn settled<'a>(entries: &'a [Entry<'a>]) -> Front<'a>
     shown(&entries[0], &entries[1..])
 }
 
-impl<'a> Cursor<'a> {
+impl<'a> Place<'a> {
     /// The front within invisible groups, and after the ends of those that are left.
     #[tactic(auto, using(crate::proofs::Fronts::views))]
     pub(crate) fn next(&self) -> Front<'a>
@@ -205,8 +210,9 @@ impl<'a> Cursor<'a> {
     }
 
     /// The invisible group at the front, after the ends of others, with its content and what follows it.
-    pub(crate) fn next_invisible(&self) -> Option<(&'a Group, Cursor<'a>, Cursor<'a>)>
-        ensures { option_map (λ p. (span_of p.0.now, p.1, p.2)) result ≡ groups.next_invisible self.now }
+    pub(crate) fn next_invisible(&self) -> Option<(&'a Group, Place<'a>, Place<'a>)>
+        ensures shown { option_map (λ p. (span_of p.0.now, p.1, p.2)) result ≡ groups.next_invisible self.now }
+        ensures held { IfSome result (λ p. Holds self.now p.1 p.2) }
     {
         first_invisible(past_ends(self.entries))
     }
@@ -246,9 +252,17 @@ impl<'a> TokenBuffer<'a> {
 
     /// The position at its front.
     pub fn begin<'b>(&'b self) -> Cursor<'b>
+        ensures { result ≡ items self.now }
+    {
+        let entries = self.entries.as_slice();
+        Cursor { entries }
+    }
+
+    /// The place at its front.
+    pub(crate) fn place<'b>(&'b self) -> Place<'b>
         ensures { result ≡ self.now }
     {
-        Cursor {
+        Place {
             entries: self.entries.as_slice(),
         }
     }

@@ -14,6 +14,7 @@ mod mark;
 mod member;
 mod parse;
 mod parse_stream;
+mod place;
 mod punctuated;
 mod range;
 mod span;

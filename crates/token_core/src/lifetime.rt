@@ -7,10 +7,10 @@ ghost use Rattle.token_core.specs.Prints.{Extends};
 ghost use Rattle.token_core.specs.Reads.{Reads, Follows};
 ghost use Rattle.token_core.specs.Trees.{trees};
 
-use crate::cursor::Cursor;
 use crate::error::Error;
 use crate::parse::Token;
 use crate::parse_stream::{ParseStream, as_punct, as_word};
+use crate::place::Place;
 use crate::span::Span;
 use crate::to_tokens::ToTokens;
 use crate::tree::{Ident, Punct, Spacing, TokenStream, TokenTree};
@@ -24,7 +24,7 @@ pub struct Lifetime {
 }
 
 /// The lifetime at the front, lent, and what follows it.
-fn past_lifetime<'a>(at: Cursor<'a>) -> Option<(Span, &'a Ident, Cursor<'a>)>
+fn past_lifetime<'a>(at: Place<'a>) -> Option<(Span, &'a Ident, Place<'a>)>
     ensures { option_map (λ p. (spec.lifetime p.0 p.1.now, p.2)) result ≡ spec.past_lifetime at.entry }
 {
     match as_punct(at.next()) {
@@ -39,7 +39,7 @@ fn past_lifetime<'a>(at: Cursor<'a>) -> Option<(Span, &'a Ident, Cursor<'a>)>
     }
 }
 
-fn with_ident<'a>(apostrophe: Span, at: Cursor<'a>) -> Option<(Span, &'a Ident, Cursor<'a>)>
+fn with_ident<'a>(apostrophe: Span, at: Place<'a>) -> Option<(Span, &'a Ident, Place<'a>)>
     ensures { option_map (λ p. (spec.lifetime p.0 p.1.now, p.2)) result ≡ spec.with_ident apostrophe (spec.next_word at.entry) }
 {
     match as_word(at.next()) {
@@ -62,7 +62,7 @@ impl Lifetime {
         ensures within { Follows input.old input.new }
         ensures same { OnErr result (input.new ≡ input.old) }
     {
-        match past_lifetime(input.cursor()) {
+        match past_lifetime(input.place()) {
             Some((apostrophe, ident, more)) => {
                 let copy = ident.copy(alloc)?;
                 input.go_on(more, ident.span);
@@ -109,7 +109,7 @@ impl Token for Lifetime {
 
     #[tactic(auto, unfolding(crate::specs::Lifetimes::sees_lifetime))]
     fn peek(input: &ParseStream<'_>) -> bool {
-        past_lifetime(input.cursor()).is_some()
+        past_lifetime(input.place()).is_some()
     }
 
     fn number() -> u8 {

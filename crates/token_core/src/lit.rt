@@ -9,10 +9,10 @@ ghost use Rattle.token_core.specs.Front.{shows};
 ghost use Rattle.token_core.specs.Trees.{trees};
 
 use crate::buffer::Front;
-use crate::cursor::Cursor;
 use crate::error::Error;
 use crate::parse::{Parse, Token};
 use crate::parse_stream::ParseStream;
+use crate::place::Place;
 use crate::span::Span;
 use crate::text::Text;
 use crate::to_tokens::{Spanned, ToTokens};
@@ -201,7 +201,7 @@ enum Found<'a> {
 }
 
 /// The literal tree at the front, and what follows it.
-pub(crate) fn as_literal<'a>(at: Front<'a>) -> Option<(&'a Literal, Cursor<'a>)>
+pub(crate) fn as_literal<'a>(at: Front<'a>) -> Option<(&'a Literal, Place<'a>)>
     ensures { option_map (λ p. (p.0.now, p.1)) result ≡ as_lit (shows at.entry) }
 {
     match at {
@@ -214,7 +214,7 @@ pub(crate) fn as_literal<'a>(at: Front<'a>) -> Option<(&'a Literal, Cursor<'a>)>
 }
 
 /// `true` or `false`, and what follows it.
-fn as_bool<'a>(ident: &'a Ident, more: Cursor<'a>) -> Option<(Found<'a>, Cursor<'a>)>
+fn as_bool<'a>(ident: &'a Ident, more: Place<'a>) -> Option<(Found<'a>, Place<'a>)>
     ensures { option_map (λ p. (spec.found p.0, p.1)) result ≡ spec.past_bool ident.now more.entry }
 {
     if ident.text.is("true") {
@@ -241,7 +241,7 @@ fn is_number(kind: LitKind) -> bool
 }
 
 /// The number after a minus, and what follows it.
-fn as_number<'a>(minus: Span, at: Cursor<'a>) -> Option<(Found<'a>, Cursor<'a>)>
+fn as_number<'a>(minus: Span, at: Place<'a>) -> Option<(Found<'a>, Place<'a>)>
     ensures { option_map (λ p. (spec.found p.0, p.1)) result ≡ spec.past_number minus (spec.next_lit at.entry) }
 {
     match as_literal(at.next()) {
@@ -257,7 +257,7 @@ fn as_number<'a>(minus: Span, at: Cursor<'a>) -> Option<(Found<'a>, Cursor<'a>)>
 }
 
 /// A minus and a number, and what follows them.
-fn as_negative<'a>(punct: Punct, more: Cursor<'a>) -> Option<(Found<'a>, Cursor<'a>)>
+fn as_negative<'a>(punct: Punct, more: Place<'a>) -> Option<(Found<'a>, Place<'a>)>
     ensures { option_map (λ p. (spec.found p.0, p.1)) result ≡ spec.past_minus punct more.entry }
 {
     if punct.ch == '-' {
@@ -268,7 +268,7 @@ fn as_negative<'a>(punct: Punct, more: Cursor<'a>) -> Option<(Found<'a>, Cursor<
 }
 
 /// The literal at the front, and what follows it.
-fn past_lit<'a>(at: Cursor<'a>) -> Option<(Found<'a>, Cursor<'a>)>
+fn past_lit<'a>(at: Place<'a>) -> Option<(Found<'a>, Place<'a>)>
     ensures { option_map (λ p. (spec.found p.0, p.1)) result ≡ spec.past_lit at.entry }
 {
     match at.next() {
@@ -312,7 +312,7 @@ fn parse_lit(alloc: Global, input: &mut ParseStream<'_>) -> Result<Lit, Error>
     ensures within { Follows input.old input.new }
     ensures same { OnErr result (input.new ≡ input.old) }
 {
-    match past_lit(input.cursor()) {
+    match past_lit(input.place()) {
         Some((found, more)) => {
             let lit = found.copy(alloc)?;
             input.go_on(more, found.end());
@@ -331,7 +331,7 @@ impl Token for Lit {
 
     #[tactic(auto, unfolding(crate::specs::Lits::sees_lit))]
     fn peek(input: &ParseStream<'_>) -> bool {
-        past_lit(input.cursor()).is_some()
+        past_lit(input.place()).is_some()
     }
 
     fn number() -> u8 {
@@ -366,7 +366,7 @@ fn is_str(kind: LitKind) -> bool
 }
 
 /// The string literal at the front, lent, and what follows it.
-fn past_str<'a>(at: Cursor<'a>) -> Option<(&'a Literal, Cursor<'a>)>
+fn past_str<'a>(at: Place<'a>) -> Option<(&'a Literal, Place<'a>)>
     ensures { option_map (λ p. (spec.lit_str p.0.now.text p.0.now.span, p.1)) result ≡ spec.past_str at.entry }
 {
     match as_literal(at.next()) {
@@ -387,7 +387,7 @@ fn parse_str(alloc: Global, input: &mut ParseStream<'_>) -> Result<LitStr, Error
     ensures within { Follows input.old input.new }
     ensures same { OnErr result (input.new ≡ input.old) }
 {
-    match past_str(input.cursor()) {
+    match past_str(input.place()) {
         Some((literal, more)) => {
             let text = literal.text.copy(alloc)?;
             input.go_on(more, literal.span);
@@ -437,7 +437,7 @@ impl Token for LitStr {
 
     #[tactic(auto, unfolding(crate::specs::Lits::sees_str))]
     fn peek(input: &ParseStream<'_>) -> bool {
-        past_str(input.cursor()).is_some()
+        past_str(input.place()).is_some()
     }
 
     fn number() -> u8 {

@@ -120,7 +120,7 @@ fn parse_index(alloc: Global, input: &mut ParseStream<'_>) -> Result<Index, Erro
     ensures within { Follows input.old input.new }
     ensures same { OnErr result (input.new ≡ input.old) }
 {
-    match as_literal(input.cursor().next()) {
+    match as_literal(input.place().next()) {
         Some((literal, more)) => {
             if !is_int(literal.kind) {
                 return Err(input.expected(alloc, "integer literal"));
@@ -154,7 +154,7 @@ impl Parse for Index {
 fn peek_int(input: &ParseStream<'_>) -> bool
     ensures { result ≡ spec.sees_int input.now.rest }
 {
-    match as_literal(input.cursor().next()) {
+    match as_literal(input.place().next()) {
         Some((literal, _)) => is_int(literal.kind),
         None => false,
     }

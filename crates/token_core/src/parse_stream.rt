@@ -1,8 +1,9 @@
 //! A stream: a position in a buffer, up to the end of its scope.
 
-ghost use Rattle.std.specs.Prelude.{◌≡◌, ◌≤◌, drop, length, option_map, IfSome, OnErr};
+ghost use Rattle.std.specs.Prelude.{◌≡◌, ◌≤◌, ◌++◌, drop, length, option_map, IfSome, OnErr};
 ghost use Rattle.token_core.specs.Reads as spec;
 ghost use Rattle.token_core.specs.Reads.{Reads, Follows};
+ghost use Rattle.token_core.specs.Positions.{items, Holds};
 ghost use Rattle.token_core.specs.Refusal.{Made, fixed};
 ghost use Rattle.token_core.specs.Stream.{started};
 ghost use Rattle.token_core.specs.Trees.{content_of, delimiter_of, span_of, toks};
@@ -13,6 +14,7 @@ use crate::buffer::{Front, TokenBuffer};
 use crate::cursor::Cursor;
 use crate::error::{Error, ErrorKind};
 use crate::mark::Spans;
+use crate::place::{Place, Placed};
 use crate::span::{DelimSpan, Span};
 use crate::text::Text;
 use crate::tree::{Delimiter, Group, Ident, Punct, Spacing, TokenStream};
@@ -22,7 +24,7 @@ use std::marker::Model;
 /// A position in a buffer, with the span of the first left-over tree that was found in a finished group.
 #[derive(Drop)]
 pub struct ParseStream<'a> {
-    cursor: Cursor<'a>,
+    placed: Placed<'a>,
     left: Option<Span>,
     last: Span,
     scope: Span,
@@ -35,10 +37,10 @@ impl<'a> Model for ParseStream<'a> {
 
     ghost coded = { stream_code };
 
-    ghost view = { λ s. record { rest = s.cursor; left = s.left; last = s.last; scope = s.scope } };
+    ghost view = { λ s. record { rest = s.placed.rest; left = s.left; last = s.last; scope = record { at = s.scope; after = s.placed.after } } };
 }
 
-pub(crate) fn as_word<'a>(at: Front<'a>) -> Option<(&'a Ident, Cursor<'a>)>
+pub(crate) fn as_word<'a>(at: Front<'a>) -> Option<(&'a Ident, Place<'a>)>
     ensures { option_map (λ p. (p.0.now, p.1)) result ≡ spec.as_word (shows at.entry) }
 {
     match at {
@@ -50,7 +52,7 @@ pub(crate) fn as_word<'a>(at: Front<'a>) -> Option<(&'a Ident, Cursor<'a>)>
     }
 }
 
-pub(crate) fn as_punct<'a>(at: Front<'a>) -> Option<(Punct, Cursor<'a>)>
+pub(crate) fn as_punct<'a>(at: Front<'a>) -> Option<(Punct, Place<'a>)>
     ensures { option_map (λ p. (p.0, p.1)) result ≡ spec.as_punct (shows at.entry) }
 {
     match at {
@@ -62,7 +64,7 @@ pub(crate) fn as_punct<'a>(at: Front<'a>) -> Option<(Punct, Cursor<'a>)>
     }
 }
 
-fn as_group<'a>(at: Front<'a>) -> Option<(&'a Group, Cursor<'a>, Cursor<'a>)>
+fn as_group<'a>(at: Front<'a>) -> Option<(&'a Group, Place<'a>, Place<'a>)>
     ensures shown { option_map (λ p. (delimiter_of p.0.now, span_of p.0.now, p.1, p.2)) result ≡ spec.as_group (shows at.entry) }
     ensures linked { Linked at.entry → IfSome result (λ p. p.1 ≡ toks (content_of p.0.now)) }
 {
@@ -85,7 +87,7 @@ fn three(first: Span, second: Span, third: Span) -> Spans
     }
 }
 
-fn put_first<'a>(span: Span, others: Option<(Spans, Cursor<'a>)>) -> Option<(Spans, Cursor<'a>)>
+fn put_first<'a>(span: Span, others: Option<(Spans, Place<'a>)>) -> Option<(Spans, Place<'a>)>
     ensures { result ≡ spec.put_first span others.entry }
 {
     match others {
@@ -96,7 +98,7 @@ fn put_first<'a>(span: Span, others: Option<(Spans, Cursor<'a>)>) -> Option<(Spa
 
 /// What follows the marks from the `i`th on, each but the last Joint.
 #[tactic(auto, using(crate::proofs::Marks::marks))]
-fn past_mark<'a>(at: Cursor<'a>, marks: &[char], i: usize) -> Option<(Spans, Cursor<'a>)>
+fn past_mark<'a>(at: Place<'a>, marks: &[char], i: usize) -> Option<(Spans, Place<'a>)>
     requires { i ≤ length marks.now }
     ensures { result ≡ spec.past_mark (drop i marks.now) at.entry }
 {
@@ -126,18 +128,25 @@ impl<'a> ParseStream<'a> {
         ensures { result ≡ started scope buffer.now }
     {
         ParseStream {
-            cursor: buffer.begin(),
+            placed: Placed::begin(buffer.place()),
             left: None,
             last: Span::none(),
             scope,
         }
     }
 
-    /// The position.
+    /// The position in the whole buffer.
     pub fn cursor(&self) -> Cursor<'a>
+        ensures { result ≡ items self.now.rest ++ self.now.scope.after }
+    {
+        self.placed.cursor()
+    }
+
+    /// The place in its scope.
+    pub(crate) fn place(&self) -> Place<'a>
         ensures { result ≡ self.now.rest }
     {
-        self.cursor.again()
+        self.placed.place()
     }
 
     /// The span of the tree just before the position, a group's by its closing delimiter, and 0 to 0 where there is none.
@@ -149,7 +158,7 @@ impl<'a> ParseStream<'a> {
 
     /// Where refusals at the end point.
     pub fn scope(&self) -> Span
-        ensures { result ≡ self.now.scope }
+        ensures { result ≡ self.now.scope.at }
     {
         self.scope
     }
@@ -166,7 +175,7 @@ impl<'a> ParseStream<'a> {
     pub fn is_empty(&self) -> bool
         ensures { result ≡ spec.is_done self.now.rest }
     {
-        match self.cursor.next() {
+        match self.place().next() {
             Front::Done => true,
             Front::Word(_, _) => false,
             Front::Mark(_, _) => false,
@@ -180,7 +189,7 @@ impl<'a> ParseStream<'a> {
     pub fn span(&self) -> Span
         ensures { result ≡ spec.here self.now }
     {
-        match self.cursor.next() {
+        match self.place().next() {
             Front::Done => self.scope,
             Front::Word(ident, _) => ident.span,
             Front::Mark(punct, _) => punct.span,
@@ -253,7 +262,7 @@ impl<'a> ParseStream<'a> {
     {
         let left = None;
         ParseStream {
-            cursor: self.cursor.again(),
+            placed: self.placed.again(),
             left,
             last: self.last,
             scope: self.scope,
@@ -271,7 +280,7 @@ impl<'a> ParseStream<'a> {
             None => fork.left,
         };
         *self = ParseStream {
-            cursor: fork.cursor.again(),
+            placed: fork.placed.again(),
             left,
             last: fork.last,
             scope: fork.scope,
@@ -279,11 +288,12 @@ impl<'a> ParseStream<'a> {
     }
 
     /// The stream after the first token, which ends at `last`.
-    fn past(&self, cursor: Cursor<'a>, last: Span) -> ParseStream<'a>
-        ensures { result ≡ spec.past self.now cursor.entry last }
+    fn past(&self, place: Place<'a>, last: Span) -> ParseStream<'a>
+        requires { spec.IsSuffix place self.now.rest }
+        ensures { result ≡ spec.past self.now place.entry last }
     {
         ParseStream {
-            cursor,
+            placed: self.placed.at(place),
             left: self.left,
             last,
             scope: self.scope,
@@ -292,19 +302,20 @@ impl<'a> ParseStream<'a> {
 
     /// Goes on after the first token, which ends at `last`.
     #[tactic(auto, using(crate::proofs::Suffixes::follows_past))]
-    pub(crate) fn go_on(&mut self, cursor: Cursor<'a>, last: Span)
-        requires { spec.IsSuffix cursor self.old.rest }
-        ensures past { self.new ≡ spec.past self.old cursor.entry last }
+    pub(crate) fn go_on(&mut self, place: Place<'a>, last: Span)
+        requires { spec.IsSuffix place self.old.rest }
+        ensures past { self.new ≡ spec.past self.old place.entry last }
         ensures within { Follows self.old self.new }
     {
-        *self = self.past(cursor, last);
+        *self = self.past(place, last);
     }
 
     /// The same stream at another position.
-    fn at(&self, cursor: Cursor<'a>) -> ParseStream<'a>
-        ensures { result.rest ≡ cursor.entry }
+    fn at(&self, place: Place<'a>) -> ParseStream<'a>
+        requires { spec.IsSuffix place self.now.rest }
+        ensures { result.rest ≡ place.entry }
     {
-        self.past(cursor, self.last)
+        self.past(place, self.last)
     }
 
     /// What follows the first tree; a lifetime counts as one, a group too.
@@ -312,7 +323,7 @@ impl<'a> ParseStream<'a> {
     pub(crate) fn after_one(&self) -> Option<ParseStream<'a>>
         ensures { option_map (λ s. s.rest) result ≡ spec.after_one self.now.rest }
     {
-        match self.cursor.next() {
+        match self.place().next() {
             Front::Done => None,
             Front::Word(_, more) => Some(self.at(more)),
             Front::Mark(punct, more) => Some(self.at(after_mark(punct, more))),
@@ -326,7 +337,7 @@ impl<'a> ParseStream<'a> {
     pub fn peek_mark(&self, marks: &[char]) -> bool
         ensures { result ≡ spec.sees_mark marks.now self.now.rest }
     {
-        past_mark(self.cursor.again(), marks, 0).is_some()
+        past_mark(self.place(), marks, 0).is_some()
     }
 
     /// Reads a mark of these characters, which refusals name so.
@@ -336,7 +347,7 @@ impl<'a> ParseStream<'a> {
         ensures within { Follows self.old self.new }
         ensures same { OnErr result (self.new ≡ self.old) }
     {
-        match past_mark(self.cursor.again(), marks, 0) {
+        match past_mark(self.place(), marks, 0) {
             Some((spans, more)) => {
                 *self = self.past(more, spans.third);
                 Ok(spans)
@@ -353,7 +364,7 @@ impl<'a> ParseStream<'a> {
     {
         let left = first_of(self.left, &child);
         *self = ParseStream {
-            cursor: self.cursor.again(),
+            placed: self.placed.again(),
             left,
             last: self.last,
             scope: self.scope,
@@ -365,7 +376,7 @@ impl<'a> ParseStream<'a> {
     pub fn peek_group(&self, delimiter: Delimiter) -> bool
         ensures { result ≡ spec.sees_group delimiter self.now.rest }
     {
-        match as_group(self.cursor.next()) {
+        match as_group(self.place().next()) {
             Some((group, _, _)) => group.delimiter() == delimiter,
             None => false,
         }
@@ -383,14 +394,15 @@ impl<'a> ParseStream<'a> {
         ensures within { Follows self.old self.new }
         ensures same { OnErr result (self.new ≡ self.old) }
     {
-        match as_group(self.cursor.next()) {
+        match as_group(self.place().next()) {
             Some((group, inside, after)) => {
                 if group.delimiter() != delimiter {
                     return Err(self.expected(alloc, name));
                 }
                 let span = group.delim_span();
+                let child = self.inside(span, inside, &after);
                 *self = self.past(after, span.close());
-                Ok((span, content(span, inside)))
+                Ok((span, child))
             }
             None => Err(self.expected(alloc, name)),
         }
@@ -404,7 +416,7 @@ impl<'a> ParseStream<'a> {
         ensures within { Follows self.old self.new }
         ensures same { OnErr result (self.new ≡ self.old) }
     {
-        match as_group(self.cursor.next_outside()) {
+        match as_group(self.place().next_outside()) {
             Some((group, _, after)) => {
                 let stream = group.stream().copy(alloc)?;
                 let span = group.delim_span();
@@ -415,19 +427,37 @@ impl<'a> ParseStream<'a> {
         }
     }
 
+    /// A child stream of the content of a group that `more` follows.
+    pub(crate) fn inside(
+        &self,
+        span: DelimSpan,
+        content: Place<'a>,
+        more: &Place<'_>,
+    ) -> ParseStream<'a>
+        requires { Holds self.now.rest content more.now }
+        ensures { result ≡ spec.inside self.now span content.entry more.now }
+    {
+        ParseStream {
+            placed: self.placed.inside(content, more),
+            left: None,
+            last: Span::none(),
+            scope: span.close(),
+        }
+    }
+
     /// The identifier at the front, and the stream after it.
     #[tactic(auto, unfolding(crate::specs::Reads::next_word))]
     pub(crate) fn next_ident(&self) -> Option<(&'a Ident, ParseStream<'a>)>
         ensures { option_map (λ p. (p.0.now, p.1)) result ≡ spec.next_word self.now }
     {
-        match as_word(self.cursor.next()) {
+        match as_word(self.place().next()) {
             Some((ident, more)) => Some((ident, self.past(more, ident.span))),
             None => None,
         }
     }
 }
 
-fn after_mark<'a>(punct: Punct, more: Cursor<'a>) -> Cursor<'a>
+fn after_mark<'a>(punct: Punct, more: Place<'a>) -> Place<'a>
     ensures { result ≡ spec.after_mark punct more.entry }
 {
     if punct.ch == '\'' && punct.spacing == Spacing::Joint {
@@ -447,17 +477,5 @@ fn first_of(left: Option<Span>, child: &ParseStream<'_>) -> Option<Span>
     match left {
         Some(span) => Some(span),
         None => child.leaves(),
-    }
-}
-
-/// A child stream of the content of a group.
-pub(crate) fn content<'a>(span: DelimSpan, cursor: Cursor<'a>) -> ParseStream<'a>
-    ensures { result ≡ spec.inside span cursor.entry }
-{
-    ParseStream {
-        cursor,
-        left: None,
-        last: Span::none(),
-        scope: span.close(),
     }
 }

@@ -15,7 +15,7 @@ use crate::error::Error;
 pub use crate::mark::Mark;
 use crate::mark::{mark_chars, mark_name, spread};
 use crate::parse::{Parse, Token};
-use crate::parse_stream::{ParseStream, content};
+use crate::parse_stream::ParseStream;
 use crate::span::{DelimSpan, Span};
 use crate::to_tokens::ToTokens;
 use crate::token_names::{mark_number, word_number};
@@ -462,7 +462,7 @@ impl Token for GroupToken {
 
     #[tactic(auto, unfolding(crate::specs::Groups::sees_invisible))]
     fn peek(input: &ParseStream<'_>) -> bool {
-        input.cursor().next_invisible().is_some()
+        input.place().next_invisible().is_some()
     }
 
     fn number() -> u8 {
@@ -617,11 +617,12 @@ impl<'a> ParseStream<'a> {
         ensures within { Follows self.old self.new }
         ensures same { OnErr result (self.new ≡ self.old) }
     {
-        match self.cursor().next_invisible() {
+        match self.place().next_invisible() {
             Some((group, inside, after)) => {
                 let span = group.delim_span();
+                let child = self.inside(span, inside, &after);
                 self.go_on(after, span.close());
-                Ok((GroupToken { span }, content(span, inside)))
+                Ok((GroupToken { span }, child))
             }
             None => Err(self.expected(alloc, GroupToken::display())),
         }

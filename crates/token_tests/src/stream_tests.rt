@@ -66,6 +66,18 @@ fn skip(rt: &impl Abort, alloc: Global, input: &mut ParseStream<'_>)
     drop(got(rt, input.read_ident(alloc)));
 }
 
+/// The trees that a stream went on by.
+#[tactic(auto, using(token_core::proofs::Places::positions))]
+fn cut(
+    alloc: Global,
+    from: &ParseStream<'_>,
+    to: &ParseStream<'_>,
+) -> Result<TokenStream, AllocError>
+    requires { Follows from.now to.now }
+{
+    verbatim::between(alloc, &from.cursor(), &to.cursor())
+}
+
 #[test]
 #[tactic(auto, using(token_core::proofs::Suffixes::follows))]
 fn parts_are_cut(rt: HostRuntime) {
@@ -73,26 +85,22 @@ fn parts_are_cut(rt: HostRuntime) {
     let list = tokens(&rt, alloc, "a ^ b ^ c $ d $ ( e ^ f $ )");
     let buffer = buffer_of(&rt, alloc, &list);
     let mut input = ParseStream::new(&buffer, Span::none());
-    let begin = input.cursor();
-    part_is(&rt, alloc, verbatim::between(alloc, &begin, &begin), "");
+    let begin = ParseStream::new(&buffer, Span::none());
+    part_is(&rt, alloc, cut(alloc, &begin, &input), "");
     skip(&rt, alloc, &mut input);
-    let part = verbatim::between(alloc, &begin, &input.cursor());
-    part_is(&rt, alloc, part, "a");
+    part_is(&rt, alloc, cut(alloc, &begin, &input), "a");
     // the outer group ends later
     skip(&rt, alloc, &mut input);
-    let part = verbatim::between(alloc, &begin, &input.cursor());
-    part_is(&rt, alloc, part, "a b");
+    part_is(&rt, alloc, cut(alloc, &begin, &input), "a b");
     skip(&rt, alloc, &mut input);
-    let part = verbatim::between(alloc, &begin, &input.cursor());
-    part_is(&rt, alloc, part, "a b c");
+    part_is(&rt, alloc, cut(alloc, &begin, &input), "a b c");
     // the inner one has ended
     skip(&rt, alloc, &mut input);
-    let part = verbatim::between(alloc, &begin, &input.cursor());
-    part_is(&rt, alloc, part, "a b ^ c $ d");
+    part_is(&rt, alloc, cut(alloc, &begin, &input), "a b ^ c $ d");
 }
 
 /// What is there.
-fn some<T>(rt: &impl Abort, found: Option<T>) -> T {
+pub(crate) fn some<T>(rt: &impl Abort, found: Option<T>) -> T {
     match found {
         Some(value) => value,
         None => panic!(rt; "nothing is there"),

@@ -19,7 +19,7 @@ use Rattle.syn_mid.specs.path.Reading.{sees_sep}
 use Rattle.token_core.proofs.Steps.{link, Reads_to}
 use Rattle.syn_mid.proofs.path_laws.Complete.{path_complete}
 
-reads_bang : (a : Span) (j : Spacing) (r : Toks) (f : Option Span) (e sc : Span) → bang (at (mark (punct 33 j a) r) f e sc) ≡ Ok (bang_at a, at r f a sc)
+reads_bang : (a : Span) (j : Spacing) (r : Toks) (f : Option Span) (e : Span) (sc : Scope) → bang (at (mark (punct 33 j a) r) f e sc) ≡ Ok (bang_at a, at r f a sc)
 unfolding read_mark
 reads_bang a j r f e sc = refl
 
@@ -27,16 +27,16 @@ no_sep : (a : Span) (j : Spacing) (r : Toks) → sees_sep (mark (punct 33 j a) r
 unfolding sees_mark
 no_sep a j r = refl
 
-reads_group : (d : Delimiter) (p : DelimSpan) (c r : Toks) (f : Option Span) (e sc : Span) → delimited (at (group d p c r) f e sc) ≡ Ok ((d, p, stream_of c), at r f p.closing sc)
+reads_group : (d : Delimiter) (p : DelimSpan) (c r : Toks) (f : Option Span) (e : Span) (sc : Scope) → delimited (at (group d p c r) f e sc) ≡ Ok ((d, p, stream_of c), at r f p.closing sc)
 unfolding delimited
 reads_group d p c r f e sc = refl
 
-held_is : (e : MacroDelimiter) (d : Delimiter) (p : DelimSpan) (c : TokenStream) (r : Toks) (f : Option Span) (sc : Span) → Delimits e d p → held d p c (at r f p.closing sc) ≡ Ok ((e, c), at r f p.closing sc)
+held_is : (e : MacroDelimiter) (d : Delimiter) (p : DelimSpan) (c : TokenStream) (r : Toks) (f : Option Span) (sc : Scope) → Delimits e d p → held d p c (at r f p.closing sc) ≡ Ok ((e, c), at r f p.closing sc)
 held_is e d p c r f sc in_paren = refl
 held_is e d p c r f sc in_brace = refl
 held_is e d p c r f sc in_bracket = refl
 
-reads_body : (e : MacroDelimiter) (d : Delimiter) (p : DelimSpan) (c r : Toks) (tokens : TokenStream) (f : Option Span) (l sc : Span) → Delimits e d p → c ≡ toks tokens →
+reads_body : (e : MacroDelimiter) (d : Delimiter) (p : DelimSpan) (c r : Toks) (tokens : TokenStream) (f : Option Span) (l : Span) (sc : Scope) → Delimits e d p → c ≡ toks tokens →
     body (at (group d p c r) f l sc) ≡ Ok ((e, tokens), at r f p.closing sc)
 unfolding body
 reads_body e d p c r tokens f l sc h k =
@@ -44,7 +44,7 @@ reads_body e d p c r tokens f l sc h k =
     ∙ ap (λ z. Ok ((e, z), at r f p.closing sc)) (ap stream_of k ∙ stream_of-toks tokens)
 
 module _ {X : Type 0} where
-  pub macro_complete : (x : Macro X) (l r : Toks) (f : Option Span) (e sc : Span) → IsMacro true x l r → Reads_to mac x l r f e sc
+  pub macro_complete : (x : Macro X) (l r : Toks) (f : Option Span) (e : Span) (sc : Scope) → IsMacro true x l r → Reads_to mac x l r f e sc
   unfolding mac
   macro_complete x l r f e sc (a_macro {p = p} {a = a} {j = j} {e = brackets} {d = d} {s = s} {c = c} {tokens = tokens} i apart h k) =
       let q = path_complete p l (mark (punct 33 j a) (group d s c r)) f e sc i (no_sep a j (group d s c r)) in

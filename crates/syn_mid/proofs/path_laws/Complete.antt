@@ -20,7 +20,7 @@ use Rattle.syn_mid.specs.path.Spelling.{is_mod_word, sep_at, IsLeading, no_leadi
 
 -- ---- single steps
 
-pub reads_sep : (a b : Span) (j : Spacing) (r : Toks) (f : Option Span) (e sc : Span) → sep (at (mark (punct 58 Joint a) (mark (punct 58 j b) r)) f e sc) ≡ Ok (sep_at a b, at r f b sc)
+pub reads_sep : (a b : Span) (j : Spacing) (r : Toks) (f : Option Span) (e : Span) (sc : Scope) → sep (at (mark (punct 58 Joint a) (mark (punct 58 j b) r)) f e sc) ≡ Ok (sep_at a b, at r f b sc)
 unfolding read_mark
 reads_sep a b j r f e sc = refl
 
@@ -32,7 +32,7 @@ sees_sep-word : (i : Ident) (r : Toks) → sees_sep (word i r) ≡ false
 unfolding sees_mark
 sees_sep-word i r = refl
 
-reads_any : (i : Ident) (r : Toks) (f : Option Span) (e sc : Span) → read_word any_text ident_name (at (word i r) f e sc) ≡ Ok (i, at r f i.span sc)
+reads_any : (i : Ident) (r : Toks) (f : Option Span) (e : Span) (sc : Scope) → read_word any_text ident_name (at (word i r) f e sc) ≡ Ok (i, at r f i.span sc)
 unfolding read_word next_word
 reads_any i r f e sc = refl
 
@@ -40,14 +40,14 @@ sees_mod : (i : Ident) (r : Toks) → is_mod_word i.text ≡ true → sees_word 
 unfolding sees_word
 sees_mod i r h = h
 
-leading_complete : (o : Option Sep) (l r : Toks) (f : Option Span) (e sc : Span) → IsLeading true o l r → sees_sep r ≡ false → Reads_to reading.leading o l r f e sc
+leading_complete : (o : Option Sep) (l r : Toks) (f : Option Span) (e : Span) (sc : Scope) → IsLeading true o l r → sees_sep r ≡ false → Reads_to reading.leading o l r f e sc
 unfolding reading.leading
 leading_complete o l r f e sc no_leading s = record { last = e; reads = chosen (sees_sep r) false _ _ (at r f e sc) _ s refl }
 leading_complete o l r f e sc (leading {a = a} {b = b} {j = j} c) s =
     record { last = b; reads = chosen (sees_sep l) true _ _ (at l f e sc) _ (sees_sep-front a b j r) (link _ (reads_sep a b j r f e sc) refl) }
 
 module _ {X : Type 0} where
-  reads_segment : (first : Bool) (i : Ident) (r : Toks) (f : Option Span) (e sc : Span) → is_mod_word i.text ≡ true → bare_segment {X = X} Mod first (at (word i r) f e sc) ≡ Ok (segment_of i, at r f i.span sc)
+  reads_segment : (first : Bool) (i : Ident) (r : Toks) (f : Option Span) (e : Span) (sc : Scope) → is_mod_word i.text ≡ true → bare_segment {X = X} Mod first (at (word i r) f e sc) ≡ Ok (segment_of i, at r f i.span sc)
   unfolding bare_segment
   reads_segment first i r f e sc h =
       chosen (sees_word is_mod_word (word i r)) true _ _ (at (word i r) f e sc) _ (sees_mod i r h) (link _ (reads_any i r f e sc) refl)
@@ -56,7 +56,7 @@ module _ {X : Type 0} where
   size_segments all seps l r (last_segment h) = omega arith
   size_segments all seps l r (more_segments {all = xs} {seps = ps} {l = m} h a i) = let k = size_segments xs ps m r i in omega (arith, k)
 
-  segments_from : (n : ℕ) (first : Bool) (all : List (PathSegment X)) (seps : List Sep) (l r : Toks) (f : Option Span) (e sc : Span) → size l < n → AreModSegments true all seps l r → sees_sep r ≡ false →
+  segments_from : (n : ℕ) (first : Bool) (all : List (PathSegment X)) (seps : List Sep) (l r : Toks) (f : Option Span) (e : Span) (sc : Scope) → size l < n → AreModSegments true all seps l r → sees_sep r ≡ false →
       Reads_to (joined_from (bare_segment Mod) sees_sep sep n first) (all, seps) l r f e sc
   segments_from zero first all seps l r f e sc h i s = absurd (omega (arith, h))
   segments_from (suc n) first all seps l r f e sc h (last_segment {i = i} w) s =
@@ -70,7 +70,7 @@ module _ {X : Type 0} where
             (link _ (reads_sep a b j m f i.span sc) (link _ q.reads refl)));
       }
 
-  segments_complete : (all : List (PathSegment X)) (seps : List Sep) (l r : Toks) (f : Option Span) (e sc : Span) → AreModSegments true all seps l r → sees_sep r ≡ false → Reads_to (bare_segments Mod true) (all, seps) l r f e sc
+  segments_complete : (all : List (PathSegment X)) (seps : List Sep) (l r : Toks) (f : Option Span) (e : Span) (sc : Scope) → AreModSegments true all seps l r → sees_sep r ≡ false → Reads_to (bare_segments Mod true) (all, seps) l r f e sc
   unfolding bare_segments listed
   segments_complete all seps l r f e sc i s = let q = segments_from (suc (size l)) true all seps l r f e sc (omega arith) i s in record { last = q.last; reads = q.reads }
 
@@ -78,7 +78,7 @@ module _ {X : Type 0} where
   begins_word all seps l r (last_segment {i = i} h) = sees_sep-word i r
   begins_word all seps l r (more_segments {i = i} h a k) = sees_sep-word i _
 
-  pub path_complete : (p : Path X) (l r : Toks) (f : Option Span) (e sc : Span) → IsModPath true p l r → sees_sep r ≡ false → Reads_to mod_style p l r f e sc
+  pub path_complete : (p : Path X) (l r : Toks) (f : Option Span) (e : Span) (sc : Scope) → IsModPath true p l r → sees_sep r ≡ false → Reads_to mod_style p l r f e sc
   unfolding bare_path
   path_complete p l r f e sc (mod_path {o = o} {all = all} {seps = seps} {m = m} i k) s =
       let c = leading_complete o l m f e sc i (begins_word all seps m r k) in

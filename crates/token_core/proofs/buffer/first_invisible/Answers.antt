@@ -6,4 +6,4 @@ use Rattle.token_core.proofs.buffer.first_invisible.Goals as goal
 pub returns-then-entries-eq0 : goal.returns-then-entries-eq0
 returns-then-entries-eq0 c =
     let none : c.args.entries.now ≡ [] = drop_of_length-le c.args.entries.now {i = 0} (omega arith) in
-    rw (none, view-nil) refl
+    rw (none, view-nil) (record { shown = refl; held = tt })

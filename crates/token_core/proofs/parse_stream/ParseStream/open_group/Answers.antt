@@ -4,10 +4,23 @@ use Rattle.token_core.specs.Trees.{delimiter_of, span_of}
 use Rattle.token_core.specs.Front.{front}
 use Rattle.token_core.specs.Reads.{as_group}
 use Rattle.token_core.proofs.Suffixes.{suffix_group, follows_past}
+use Rattle.token_core.proofs.Places.{holds_group}
 use Rattle.token_core.proofs.parse_stream.ParseStream.open_group.Goals as goal
+
+pub inside-child-requires : goal.inside-child-requires
+inside-child-requires c =
+    let g = c.in-Some.group.now in
+    let e : as_group (front c.args.self.now.rest) ≡ Some (delimiter_of g, span_of g, c.in-Some.inside, c.in-Some.after) = first_of (search rules, grind (arith, common_steps)) in
+    holds_group _ _ e
+
+pub past-requires : goal.past-requires
+past-requires c =
+    let g = c.in-Some.group.now in
+    let e : as_group (front c.args.self.now.rest) ≡ Some (delimiter_of g, span_of g, c.in-Some.inside, c.in-Some.after) = first_of (search rules, grind (arith, common_steps)) in
+    suffix_group _ _ e
 
 pub returns-else-ne-clause-within : goal.returns-else-ne-clause-within
 returns-else-ne-clause-within c =
     let g = c.in-Some.group.now in
     let e : as_group (front c.args.self.now.rest) ≡ Some (delimiter_of g, span_of g, c.in-Some.inside, c.in-Some.after) = first_of (search rules, grind (arith, common_steps)) in
-    rw (c.self-in-Some.view_is, c.past.ensures) (follows_past _ _ _ (suffix_group _ _ e))
+    rw c.past.ensures (follows_past _ _ _ (suffix_group _ _ e))

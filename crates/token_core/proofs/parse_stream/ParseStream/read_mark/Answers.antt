@@ -4,7 +4,12 @@ use Rattle.token_core.specs.Reads.{past_mark}
 use Rattle.token_core.proofs.Suffixes.{suffix_mark, follows_past}
 use Rattle.token_core.proofs.parse_stream.ParseStream.read_mark.Goals as goal
 
+pub past-requires : goal.past-requires
+past-requires c =
+    let e : past_mark c.args.marks.now c.args.self.now.rest ≡ Some (c.in-Some.spans, c.in-Some.more) = first_of (search rules, grind (arith, common_steps)) in
+    suffix_mark c.args.marks.now _ _ e
+
 pub returns-in-Some-clause-within : goal.returns-in-Some-clause-within
 returns-in-Some-clause-within c =
     let e : past_mark c.args.marks.now c.args.self.now.rest ≡ Some (c.in-Some.spans, c.in-Some.more) = first_of (search rules, grind (arith, common_steps)) in
-    rw (c.self-in-Some.view_is, c.past.ensures) (follows_past _ _ _ (suffix_mark c.args.marks.now _ _ e))
+    rw c.past.ensures (follows_past _ _ _ (suffix_mark c.args.marks.now _ _ e))
