@@ -1,5 +1,5 @@
 -- Positions: the tree that stands there, what is left of the buffer, and their order.
-use Rattle.std.proofs.Common.{◌≡◌, ℕ, ◌+◌, ◌-◌, ◌<◌, ◌≤◌, true, false, Some, List, [], ◌∷◌, ◌++◌, map, length, take, drop, refl, sym, ◌∙◌, ap, subst, append_assoc, append-nil, arith}
+use Rattle.std.proofs.Common.{◌≡◌, ◌⊎◌, inl, inr, ℕ, suc, ◌+◌, ◌-◌, ◌<◌, ◌≤◌, true, false, Some, List, [], ◌∷◌, ◌++◌, map, length, take, drop, refl, sym, ◌∙◌, ap, subst, append_assoc, append-nil, arith}
 use Rattle.std.proofs.lemmas.Bool.{ltb-true, ltb-false, lt-ltb}
 use Rattle.std.proofs.lemmas.List.{length-append, drop-map, take_rest}
 use Rattle.token_core.specs.declared.tree.Delimiter.{Delimiter}
@@ -18,6 +18,7 @@ use Rattle.token_core.specs.Seen.{view, saw_delimiter, view-enter}
 use Rattle.token_core.specs.Entries.{Flat, saw, saw_layer, entries_view, Nested, Inside}
 use Rattle.token_core.specs.Front.{front, past_ends}
 use Rattle.token_core.specs.Stream.{Stream}
+use Rattle.token_core.specs.Loops.{size}
 use Rattle.token_core.specs.Reads.{IsSuffix, all_of, past_word, past_punct, past_lit, past_group, past_enter, past_leave, Follows, as_group}
 use Rattle.token_core.specs.Positions.{Item, an_ident, a_punct, a_literal, a_beginning, an_end, items, item, tree_items, entries_items, entered, left, is_before, IsReached, there, past, Holds, Placed}
 use Rattle.token_core.proofs.Fronts.{nested_tail, nested_drop}
@@ -196,6 +197,58 @@ module _ (a b w : List Item) (p : IsReached a w) (q : IsReached b w) where
 
 pub reached_before : (a b : List Item) → IsReached b a → (a ≡ b → ⊥) → is_before a b ≡ true
 reached_before a b p n = lt-ltb (length b) (length a) (ahead a b p n)
+
+-- fewer tokens are left, and fewer items
+pub record Fewer (a b : Toks) : Type 0 where
+  pub tokens : size a < size b
+  pub counts : length (items a) < length (items b)
+
+-- a later place of a scope is the same one, or less is left there
+abbrev pub Later : Toks → Toks → Type 0
+Later a b = (a ≡ b) ⊎ Fewer a b
+
+fewer_on : (a k t : Toks) → size t ≡ suc (size k) → length (items k) < length (items t) → Later a k → Later a t
+fewer_on a k t e f (inl h) = inr (record { tokens = omega (arith, e, ap size h); counts = omega (arith, f, ap (λ z. length (items z)) h) })
+fewer_on a k t e f (inr h) = inr (record { tokens = omega (arith, e, h.tokens); counts = omega (arith, f, h.counts) })
+
+pub later_place : (a b : Toks) → IsSuffix a b → Later a b
+later_place a b all_of = inl refl
+later_place a b (past_word {k = k} t p) = fewer_on a k b refl (omega arith) (later_place a k p)
+later_place a b (past_punct {k = k} m p) = fewer_on a k b refl (omega arith) (later_place a k p)
+later_place a b (past_lit {k = k} x p) = fewer_on a k b refl (omega arith) (later_place a k p)
+later_place a b (past_group {k = k} d x c p) = fewer_on a k b refl (omega (arith, length-append (items c) (an_end ∷ items k))) (later_place a k p)
+later_place a b (past_enter {k = k} x p) = fewer_on a k b refl (omega arith) (later_place a k p)
+later_place a b (past_leave {k = k} p) = fewer_on a k b refl (omega arith) (later_place a k p)
+
+-- a stream stands where it stood, or goes on
+-- what is left of the whole buffer where a stream stands
+abbrev pub Place : Stream → List Item
+Place x = items x.rest ++ x.scope.after
+
+module _ (s u : Stream) (f : Follows s u) where
+  place_length : (x : Stream) → length (Place x) ≡ length (items x.rest) + length x.scope.after
+  place_length x = length-append (items x.rest) x.scope.after
+
+  after_length : length u.scope.after ≡ length s.scope.after
+  after_length = ap (λ z. length z.after) f.scope
+
+  pub moved : is_before (Place s) (Place u) ≡ true → u.rest ≡ s.rest → ⊥
+  moved h e = let n : length (items u.rest) ≡ length (items s.rest) = ap (λ z. length (items z)) e in let m = ltb-true (length (Place u)) (length (Place s)) h in
+      omega (arith, m, n, place_length u, place_length s, after_length)
+
+  pub stayed : is_before (Place s) (Place u) ≡ false → u.rest ≡ s.rest
+  stayed h = by_order (later_place u.rest s.rest f.suffix)
+    where
+      by_order : Later u.rest s.rest → u.rest ≡ s.rest
+      by_order (inl e) = e
+      by_order (inr l) = let m = ltb-false (length (Place u)) (length (Place s)) h in let n = l.counts in absurd (omega (arith, m, n, place_length u, place_length s, after_length))
+
+  pub moved_on : is_before (Place s) (Place u) ≡ true → size u.rest < size s.rest
+  moved_on h = by_order (later_place u.rest s.rest f.suffix)
+    where
+      by_order : Later u.rest s.rest → size u.rest < size s.rest
+      by_order (inl e) = absurd (moved h e)
+      by_order (inr l) = l.tokens
 
 -- a stream's later position is reached from its earlier one
 pub reached_follows : (s u : Stream) → Follows s u → IsReached (items u.rest ++ u.scope.after) (items s.rest ++ s.scope.after)

@@ -2,17 +2,14 @@
 use Rattle.std.specs.Prelude.{◌≢◌, not}
 use Rattle.token_core.specs.declared.error.ErrorKind.{ErrorKind}
 use Rattle.token_core.specs.declared.error.ErrorKind.TheVariants.{OutOfMemory}
-use Rattle.std.proofs.Common.{◌≡◌, ◌<◌, ◌≤◌, Bool, true, false, List, [], ◌∷◌, ◌++◌, Result, Ok, Err, inl, inr, refl, sym, ◌∙◌, ap, subst, append_assoc, append-nil, arith}
-use Rattle.std.proofs.lemmas.Bool.{ltb-true, ltb-false}
+use Rattle.std.proofs.Common.{◌≡◌, ◌<◌, ◌≤◌, Bool, true, false, List, [], ◌∷◌, ◌++◌, Result, Ok, Err, refl, sym, ◌∙◌, ap, subst, append_assoc, append-nil}
 use Rattle.token_core.specs.Refusal.{Refusal, refusal}
-use Rattle.token_core.specs.Stream.{Stream}
+use Rattle.token_core.specs.Stream.{Stream, Scope}
 use Rattle.token_core.specs.Toks.{Bytes, Toks}
 use Rattle.token_core.specs.Front.{front}
-use Rattle.token_core.specs.Reads.{Reader, Outcome, IsSuffix, is_done, refused, here, span_at, at_end as input_end, Parsed, Gives}
-use Rattle.token_core.specs.Positions.{is_before}
+use Rattle.token_core.specs.Reads.{Reader, Outcome, is_done, refused, here, span_at, at_end as input_end, Parsed, Gives}
 use Rattle.token_core.specs.Loops.{Many, onto, after, size, listed, terminated}
 use Rattle.token_core.specs.Terminated.{Terminates, Answers, at_end, last_value, value_and_mark}
-use Rattle.token_core.proofs.Places.{Reached, reached}
 use Rattle.token_core.proofs.Turns.{turn_none, turn_last, turn_on}
 
 pub refused_so : {A : Type 0} (R : A → Stream → Type 0) (Q : Refusal → Type 0) (r : Result A Refusal) (u : Stream) (e : Refusal) → r ≡ Err e → (e.kind ≢ OutOfMemory → Q e) → Parsed R Q r u
@@ -36,21 +33,11 @@ module _ {A P : Type 0} (value : Stream → A → Stream → Type 0) (joint : St
       (ap (λ q. (q, v.1 ++ p ∷ y.1)) (sym (append_assoc v.0 (x ∷ []) y.0)) ∙ ap (λ q. ((v.0 ++ x ∷ []) ++ y.0, q)) (sym (append_assoc v.1 (p ∷ []) y.1)) ∙ ap (λ (q : Many A P). onto q y) (sym k))
       (h (x ∷ y.0, p ∷ y.1) z (value_and_mark d a e b n i))
 
--- ---- a turn takes something, or leaves the stream where it was
-
-pub moved : (a b : Toks) → is_before a b ≡ true → b ≢ a
-moved a b h e = let n : size b ≡ size a = ap size e in let m = ltb-true (size b) (size a) h in absurd (omega (arith, m, n))
-
-pub stayed : (a b : Toks) → IsSuffix b a → is_before a b ≡ false → b ≡ a
-stayed a b p h = by_order (reached b a p)
-  where
-    by_order : Reached b a → b ≡ a
-    by_order (inl e) = e
-    by_order (inr l) = let m = ltb-false (size b) (size a) h in let n = l.sizes in absurd (omega (arith, m, n))
+-- ---- a turn that takes nothing
 
 pub refused_there : (k : ErrorKind) (t : Bytes) (s u : Stream) → u.rest ≡ s.rest → u.scope ≡ s.scope → refused k t u ≡ refused k t s
 unfolding refused here
-refused_there k t s u e f = ap (λ (x : Toks). refusal k (input_end (is_done x) t) (span_at (front x) u.scope) (span_at (front x) u.scope)) e ∙ ap (λ x. refusal k (input_end (is_done s.rest) t) (span_at (front s.rest) x) (span_at (front s.rest) x)) f
+refused_there k t s u e f = ap (λ (x : Toks). refusal k (input_end (is_done x) t) (span_at (front x) u.scope.at) (span_at (front x) u.scope.at)) e ∙ ap (λ (x : Scope). refusal k (input_end (is_done s.rest) t) (span_at (front s.rest) x.at) (span_at (front s.rest) x.at)) f
 
 -- ---- values and marks whose reads are functions
 

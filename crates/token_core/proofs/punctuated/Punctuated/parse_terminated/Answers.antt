@@ -5,8 +5,11 @@ use Rattle.token_core.specs.Refusal.{fixed}
 use Rattle.token_core.specs.Reads.{is_done}
 use Rattle.token_core.specs.Positions.{is_before}
 use Rattle.token_core.specs.Terminated.{no_value_there, no_mark_there, nothing_taken, later}
-use Rattle.token_core.proofs.Suffixes.{suffix_trans, follows}
-use Rattle.token_core.proofs.Terminations.{refused_so, ended, last_turn, next_turn, moved, stayed, refused_there}
+use Rattle.token_core.specs.Reads.{Follows}
+use Rattle.token_core.specs.Positions.{items}
+use Rattle.token_core.proofs.Suffixes.{follows}
+use Rattle.token_core.proofs.Places.{moved, moved_on, stayed}
+use Rattle.token_core.proofs.Terminations.{refused_so, ended, last_turn, next_turn, refused_there}
 use Rattle.token_core.proofs.punctuated.Punctuated.parse_terminated.Goals as goal
 
 pub returns-in_err-parse-clause-reads : goal.returns-in_err-parse-clause-reads
@@ -35,9 +38,10 @@ pub returns-then-not-is_before-clause-reads : goal.returns-then-not-is_before-cl
 returns-then-not-is_before-clause-reads g c = λ k.
     let d : is_done c.turn.input.rest ≡ false = first_of (search rules, grind (arith, common_steps)) in
     let f : is_done c.parse.new.input.rest ≡ false = first_of (search rules, grind (arith, common_steps)) in
-    let b : is_before c.turn.input.rest c.parse-in-turn.new.input.rest ≡ false = first_of (search rules, grind (arith, common_steps)) in
-    let s = stayed c.turn.input.rest c.parse-in-turn.new.input.rest (suffix_trans c.parse-in-turn.ensures.within.suffix c.parse.ensures.within.suffix) b in
-    let o = c.parse-in-turn.ensures.within.scope ∙ c.parse.ensures.within.scope in
+    let b : is_before (items c.turn.input.rest ++ c.turn.input.scope.after) (items c.parse-in-turn.new.input.rest ++ c.parse-in-turn.new.input.scope.after) ≡ false = first_of (search rules, grind (arith, common_steps)) in
+    let w : Follows c.turn.input c.parse-in-turn.new.input = grind (arith, follows) in
+    let s = stayed c.turn.input c.parse-in-turn.new.input w b in
+    let o = w.scope in
     c.turn.invariant.refused c.refuse.result
     (nothing_taken d c.in_ok-parse.ensures.reads f c.in_ok-parse-2.ensures.reads s (c.refuse.ensures k ∙ refused_there Unexpected (fixed Unexpected) c.turn.input c.parse-in-turn.new.input s o))
 
@@ -45,8 +49,9 @@ pub turn-preserved : goal.turn-preserved
 turn-preserved g c =
     let d : is_done c.turn.input.rest ≡ false = first_of (search rules, grind (arith, common_steps)) in
     let f : is_done c.parse.new.input.rest ≡ false = first_of (search rules, grind (arith, common_steps)) in
-    let b : is_before c.turn.input.rest c.parse-in-turn.new.input.rest ≡ true = first_of (search rules, grind (arith, common_steps)) in
-    let n = moved c.turn.input.rest c.parse-in-turn.new.input.rest b in
+    let b : is_before (items c.turn.input.rest ++ c.turn.input.scope.after) (items c.parse-in-turn.new.input.rest ++ c.parse-in-turn.new.input.scope.after) ≡ true = first_of (search rules, grind (arith, common_steps)) in
+    let w : Follows c.turn.input c.parse-in-turn.new.input = grind (arith, follows) in
+    let n = moved c.turn.input c.parse-in-turn.new.input w b in
     let v : c.push_punct.new.self ≡ (c.turn.list.0 ++ c.in_ok-parse.field-0 ∷ [], c.turn.list.1 ++ c.in_ok-parse-2.field-0 ∷ []) = first_of (search rules, grind (arith, common_steps)) in
     record {
       answers = next_turn g.T.Parse.reads g.P.Parse.reads _ _ _ _ _ _ _ _ c.turn.invariant.answers d c.in_ok-parse.ensures.reads f c.in_ok-parse-2.ensures.reads n v;
@@ -54,6 +59,12 @@ turn-preserved g c =
       whole = grind (arith, common_steps);
       within = grind (arith, follows);
     }
+
+pub turn-smaller : goal.turn-smaller
+turn-smaller g c =
+    let b : is_before (items c.turn.input.rest ++ c.turn.input.scope.after) (items c.parse-in-turn.new.input.rest ++ c.parse-in-turn.new.input.scope.after) ≡ true = first_of (search rules, grind (arith, common_steps)) in
+    let w : Follows c.turn.input c.parse-in-turn.new.input = grind (arith, follows) in
+    moved_on c.turn.input c.parse-in-turn.new.input w b
 
 pub returns-clause-reads : goal.returns-clause-reads
 returns-clause-reads g c =
