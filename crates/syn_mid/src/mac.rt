@@ -61,7 +61,7 @@ impl MacroDelimiter {
         }
     }
 
-    fn delimiter(&self) -> Delimiter
+    pub(crate) fn delimiter(&self) -> Delimiter
         ensures { result ≡ spec.delimiter_of self.now }
     {
         match self {

@@ -1,0 +1,2 @@
+pub mod Attrs
+pub mod Reading
