@@ -1,15 +1,32 @@
 //! Attributes.
 
-ghost use Rattle.std.specs.Prelude.{◌≡◌};
-ghost use Rattle.token_core.specs.Reads.{Reads, Follows, Gives, Fails};
+ghost use Rattle.std.specs.Prelude.{◌≡◌, ◌++◌, ◌<◌, length, false, None, Ok, IfOk, IfErr, OnOk, OnErr};
+ghost use Rattle.token_core.specs.Headline.{Headline, Heads};
+ghost use Rattle.token_core.specs.Prints.{Extends};
+ghost use Rattle.token_core.specs.Reads.{Reads, Follows, Gives, Fails, WholeRead, Promised};
+ghost use Rattle.token_core.specs.Refusal.{Made};
+ghost use Rattle.token_core.specs.Trees.{trees, toks};
+ghost use Rattle.syn_mid.specs.Supplied.{Value};
+ghost use Rattle.syn_mid.specs.declared.attr.Meta.TheVariants as metas;
+ghost use Rattle.syn_mid.specs.mac.Macros.{held};
+ghost use Rattle.syn_mid.specs.meta.Turns as turns;
+ghost use Rattle.token_core.specs.Rebuilt.{Visible};
+ghost use Rattle.syn_mid.specs.attr.Grammars as grammars;
+ghost use Rattle.syn_mid.specs.attr.Printing as printing;
 ghost use Rattle.syn_mid.specs.attr.Reading as reading;
+ghost use Rattle.syn_mid.specs.attr.Requirements as requirements;
+ghost use Rattle.syn_mid.specs.attr.Spelling.{AreAll, IsMetaList, IsOuter, IsInner};
 
-use crate::mac::{MacroDelimiter, parse_body};
-use crate::path::Path;
+use crate::mac::{MacroDelimiter, parse_body, print_held};
+use crate::meta::{self, ParseNestedMeta};
+use crate::path::{Path, PathStyle, print_path, text_around};
 use crate::supplied::{Expr, ExprLit, Place, Subtree};
-use std::alloc::Global;
+use std::alloc::{AllocError, Global};
 use token_core::token::{Brace, Bracket, Eq, EqEq, FatArrow, Not, Paren, Pound, Unsafe};
-use token_core::{Error, ErrorKind, Ident, Items, Lit, Parse, ParseStream, TokenStream};
+use token_core::{
+    ByParse, Error, ErrorKind, Ident, Items, Lit, Parse, ParseStream, Parser, Span, ToTokens,
+    TokenStream, read_scoped,
+};
 
 /// An attribute: `#[..]`, or `#![..]`, over its content.
 #[derive(Drop)]
@@ -59,6 +76,35 @@ pub struct MetaNameValue<X> {
     pub value: Expr<X>,
 }
 
+impl AttrStyle {
+    fn is_outer(&self) -> bool
+        ensures { result ≡ printing.is_outer self.now }
+    {
+        match self {
+            AttrStyle::Outer => true,
+            AttrStyle::Inner(_) => false,
+        }
+    }
+
+    fn arguments_text(&self) -> &'static str
+        ensures { result.now ≡ requirements.arguments_text self.now }
+    {
+        match self {
+            AttrStyle::Outer => "expected attribute arguments in parentheses: #[",
+            AttrStyle::Inner(_) => "expected attribute arguments in parentheses: #![",
+        }
+    }
+
+    fn parentheses_text(&self) -> &'static str
+        ensures { result.now ≡ requirements.parentheses_text self.now }
+    {
+        match self {
+            AttrStyle::Outer => "expected parentheses: #[",
+            AttrStyle::Inner(_) => "expected parentheses: #![",
+        }
+    }
+}
+
 // ---- reads
 
 /// Reads a meta: a path of mod style or `unsafe`, and then a group, or `=` and a value, or neither.
@@ -67,10 +113,12 @@ impl<X: Subtree> Parse for Meta<X> {
 
     ghost refuses = { Fails (reading.meta X.reads) };
 
-    #[tactic(auto, using(token_core::specs::Reads::no_promise))]
+    ghost promise = { Headline (grammars.meta X.reads X.spells X.normal X.prints) };
+
     fn parse(alloc: Global, input: &mut ParseStream<'_>) -> Result<Meta<X>, Error>
         ensures reads { Reads (reading.meta X.reads input.old) result input.new }
         ensures within { Follows input.old input.new }
+        ensures promise { Heads (grammars.meta X.reads X.spells X.normal X.prints) input.old result input.new }
     {
         parse_meta(alloc, input)
     }
@@ -227,10 +275,14 @@ impl<X: Subtree> Parse for MetaList<X> {
 
     ghost refuses = { Fails (reading.list {X = X}) };
 
-    #[tactic(auto, using(token_core::specs::Reads::no_promise))]
+    ghost promise = { Headline (grammars.list {X = X}) };
+
+    /// On the front of a list without invisible groups it took what the list spells.
     fn parse(alloc: Global, input: &mut ParseStream<'_>) -> Result<MetaList<X>, Error>
         ensures reads { Reads (reading.list input.old) result input.new }
         ensures within { Follows input.old input.new }
+        ensures front { Visible input.old.rest → IfOk result (λ x. IsMetaList false x input.old.rest input.new.rest) }
+        ensures promise { Heads grammars.list input.old result input.new }
     {
         parse_meta_list(alloc, input)
     }
@@ -254,10 +306,12 @@ impl<X: Subtree> Parse for MetaNameValue<X> {
 
     ghost refuses = { Fails (reading.name_value X.reads) };
 
-    #[tactic(auto, using(token_core::specs::Reads::no_promise))]
+    ghost promise = { Headline (grammars.name_value X.reads X.spells X.normal X.prints) };
+
     fn parse(alloc: Global, input: &mut ParseStream<'_>) -> Result<MetaNameValue<X>, Error>
         ensures reads { Reads (reading.name_value X.reads input.old) result input.new }
         ensures within { Follows input.old input.new }
+        ensures promise { Heads (grammars.name_value X.reads X.spells X.normal X.prints) input.old result input.new }
     {
         parse_meta_name_value(alloc, input)
     }
@@ -335,36 +389,489 @@ fn peek_inner(input: &ParseStream<'_>) -> bool
     input.peek::<Pound>() & input.peek2::<Not>()
 }
 
+/// Outer attributes, as long as a `#` follows.
+#[tactic(auto, using(token_core::proofs::Suffixes::follows))]
+fn parse_outers<X: Subtree>(
+    alloc: Global,
+    input: &mut ParseStream<'_>,
+) -> Result<Items<Attribute<X>>, Error>
+    ensures reads { Reads (reading.outer X.reads input.old) result input.new }
+    ensures within { Follows input.old input.new }
+{
+    let mut attrs = Items::new(alloc);
+    'turn: while input.peek::<Pound>() {
+        attrs.push(single_parse_outer(alloc, input)?)?;
+    }
+    Ok(attrs)
+}
+
+/// Inner attributes, as long as a `#` and a `!` follow.
+#[tactic(auto, using(token_core::proofs::Suffixes::follows))]
+fn parse_inners<X: Subtree>(
+    alloc: Global,
+    input: &mut ParseStream<'_>,
+) -> Result<Items<Attribute<X>>, Error>
+    ensures reads { Reads (reading.inner X.reads input.old) result input.new }
+    ensures within { Follows input.old input.new }
+{
+    let mut attrs = Items::new(alloc);
+    'turn: while peek_inner(input) {
+        attrs.push(single_parse_inner(alloc, input)?)?;
+    }
+    Ok(attrs)
+}
+
 impl<X: Subtree> Attribute<X> {
     /// Reads outer attributes as long as a `#` follows, of which there may be none.
-    #[tactic(auto, using(token_core::proofs::Suffixes::follows))]
+    ///
+    /// On the front of a list without invisible groups, where no finished group left a tree over, it took what they spell. Where the
+    /// stream has no left-over tree, a whole read that begins here keeps the promise of the grammar.
     pub fn parse_outer(
         alloc: Global,
         input: &mut ParseStream<'_>,
     ) -> Result<Items<Attribute<X>>, Error>
         ensures reads { Reads (reading.outer X.reads input.old) result input.new }
         ensures within { Follows input.old input.new }
+        ensures front { Visible input.old.rest → input.new.left ≡ None → IfOk result (λ all. AreAll (IsOuter X.spells false) all input.old.rest input.new.rest) }
+        ensures headline { Heads (grammars.outer X.reads X.spells X.normal X.prints) input.old result input.new }
     {
-        let mut attrs = Items::new(alloc);
-        'turn: while input.peek::<Pound>() {
-            attrs.push(single_parse_outer(alloc, input)?)?;
-        }
-        Ok(attrs)
+        parse_outers(alloc, input)
     }
 
-    /// Reads inner attributes as long as a `#` and a `!` follow, of which there may be none.
-    #[tactic(auto, using(token_core::proofs::Suffixes::follows))]
+    /// Reads inner attributes as long as a `#` and a `!` follow, of which there may be none. It promises what `parse_outer` does.
     pub fn parse_inner(
         alloc: Global,
         input: &mut ParseStream<'_>,
     ) -> Result<Items<Attribute<X>>, Error>
         ensures reads { Reads (reading.inner X.reads input.old) result input.new }
         ensures within { Follows input.old input.new }
+        ensures front { Visible input.old.rest → input.new.left ≡ None → IfOk result (λ all. AreAll (IsInner X.spells false) all input.old.rest input.new.rest) }
+        ensures headline { Heads (grammars.inner X.reads X.spells X.normal X.prints) input.old result input.new }
     {
-        let mut attrs = Items::new(alloc);
-        'turn: while peek_inner(input) {
-            attrs.push(single_parse_inner(alloc, input)?)?;
+        parse_inners(alloc, input)
+    }
+}
+
+// ---- prints
+
+impl<X: Subtree> ToTokens for Attribute<X> {
+    ghost print = { printing.attribute (X.prints Value) };
+
+    fn to_tokens(&self, alloc: Global, out: &mut TokenStream) -> Result<(), AllocError> {
+        let before = out.len();
+        match print_attribute(alloc, self, out) {
+            Ok(()) => Ok(()),
+            Err(error) => {
+                out.truncate(before);
+                Err(error)
+            }
         }
-        Ok(attrs)
+    }
+}
+
+impl<X: Subtree> ToTokens for Meta<X> {
+    ghost print = { printing.meta (X.prints Value) };
+
+    fn to_tokens(&self, alloc: Global, out: &mut TokenStream) -> Result<(), AllocError> {
+        let before = out.len();
+        match print_meta(alloc, self, out) {
+            Ok(()) => Ok(()),
+            Err(error) => {
+                out.truncate(before);
+                Err(error)
+            }
+        }
+    }
+}
+
+impl<X: Subtree> ToTokens for MetaList<X> {
+    ghost print = { printing.list };
+
+    fn to_tokens(&self, alloc: Global, out: &mut TokenStream) -> Result<(), AllocError> {
+        let before = out.len();
+        match print_list(alloc, self, out) {
+            Ok(()) => Ok(()),
+            Err(error) => {
+                out.truncate(before);
+                Err(error)
+            }
+        }
+    }
+}
+
+impl<X: Subtree> ToTokens for MetaNameValue<X> {
+    ghost print = { printing.name_value (X.prints Value) };
+
+    fn to_tokens(&self, alloc: Global, out: &mut TokenStream) -> Result<(), AllocError> {
+        let before = out.len();
+        match print_name_value(alloc, self, out) {
+            Ok(()) => Ok(()),
+            Err(error) => {
+                out.truncate(before);
+                Err(error)
+            }
+        }
+    }
+}
+
+/// Appends a meta; refused, what stood before is kept.
+#[cycle(print)]
+#[tactic(auto, using(token_core::proofs::Puts::puts, crate::proofs::attr_laws::Prints::prints))]
+fn print_meta<X: Subtree>(
+    alloc: Global,
+    meta: &Meta<X>,
+    out: &mut TokenStream,
+) -> Result<(), AllocError>
+    ensures ok { OnOk result (trees out.new ≡ trees out.old ++ printing.meta (X.prints Value) meta.now) }
+    ensures err { OnErr result (Extends (trees out.old) (trees out.new)) }
+{
+    match meta {
+        Meta::Path(path) => print_path(alloc, path, PathStyle::Mod, out),
+        Meta::List(list) => print_list(alloc, list, out),
+        Meta::NameValue(value) => print_name_value(alloc, value, out),
+    }
+}
+
+#[cycle(print)]
+#[tactic(auto, using(token_core::proofs::Puts::puts, crate::proofs::attr_laws::Prints::prints))]
+fn print_name_value<X: Subtree>(
+    alloc: Global,
+    meta: &MetaNameValue<X>,
+    out: &mut TokenStream,
+) -> Result<(), AllocError>
+    ensures ok { OnOk result (trees out.new ≡ trees out.old ++ printing.name_value (X.prints Value) meta.now) }
+    ensures err { OnErr result (Extends (trees out.old) (trees out.new)) }
+{
+    print_path(alloc, &meta.path, PathStyle::Mod, out)?;
+    meta.eq_token.to_tokens(alloc, out)?;
+    print_value(alloc, &meta.value, out)
+}
+
+#[cycle(print)]
+#[tactic(auto, using(token_core::proofs::Puts::puts, crate::proofs::attr_laws::Prints::prints))]
+fn print_value<X: Subtree>(
+    alloc: Global,
+    value: &Expr<X>,
+    out: &mut TokenStream,
+) -> Result<(), AllocError>
+    ensures ok { OnOk result (trees out.new ≡ trees out.old ++ printing.value (X.prints Value) value.now) }
+    ensures err { OnErr result (Extends (trees out.old) (trees out.new)) }
+{
+    match value {
+        Expr::Lit(literal) => print_literal(alloc, literal, out),
+        Expr::Other(tree) => tree.print(alloc, Place::Value, out),
+    }
+}
+
+/// The outer attributes of a literal, and the literal.
+#[cycle(print)]
+#[tactic(auto, using(token_core::proofs::Puts::puts))]
+fn print_literal<X: Subtree>(
+    alloc: Global,
+    literal: &ExprLit<X>,
+    out: &mut TokenStream,
+) -> Result<(), AllocError>
+    ensures ok { OnOk result (trees out.new ≡ trees out.old ++ printing.literal_by (printing.meta (X.prints Value)) literal.now) }
+    ensures err { OnErr result (Extends (trees out.old) (trees out.new)) }
+{
+    for attr in literal.attrs.as_slice() {
+        if attr.style.is_outer() {
+            print_attribute(alloc, attr, out)?;
+        }
+    }
+    literal.lit.to_tokens(alloc, out)
+}
+
+#[cycle(print)]
+#[tactic(auto, using(token_core::proofs::Puts::puts, crate::proofs::attr_laws::Prints::contents))]
+fn print_attribute<X: Subtree>(
+    alloc: Global,
+    attr: &Attribute<X>,
+    out: &mut TokenStream,
+) -> Result<(), AllocError>
+    ensures ok { OnOk result (trees out.new ≡ trees out.old ++ printing.attribute (X.prints Value) attr.now) }
+    ensures err { OnErr result (Extends (trees out.old) (trees out.new)) }
+{
+    attr.pound_token.to_tokens(alloc, out)?;
+    print_style(alloc, &attr.style, out)?;
+    let mut content = TokenStream::new(alloc);
+    print_meta(alloc, &attr.meta, &mut content)?;
+    attr.bracket_token.surround(content, out)
+}
+
+#[tactic(auto, using(token_core::proofs::Puts::puts))]
+fn print_style(alloc: Global, style: &AttrStyle, out: &mut TokenStream) -> Result<(), AllocError>
+    ensures ok { OnOk result (trees out.new ≡ trees out.old ++ printing.style style.now) }
+    ensures err { OnErr result (Extends (trees out.old) (trees out.new)) }
+{
+    match style {
+        AttrStyle::Outer => Ok(()),
+        AttrStyle::Inner(bang) => bang.to_tokens(alloc, out),
+    }
+}
+
+#[tactic(auto, using(token_core::proofs::Puts::puts))]
+fn print_list<X>(alloc: Global, list: &MetaList<X>, out: &mut TokenStream) -> Result<(), AllocError>
+    ensures ok { OnOk result (trees out.new ≡ trees out.old ++ printing.list list.now) }
+    ensures err { OnErr result (Extends (trees out.old) (trees out.new)) }
+{
+    print_path(alloc, &list.path, PathStyle::Mod, out)?;
+    print_held(alloc, &list.delimiter, &list.tokens, out)
+}
+
+// ---- calls
+
+impl<X> From<Path<X>> for Meta<X> {
+    ghost from_gives = { λ path meta. meta ≡ metas.Path path };
+
+    fn from(path: Path<X>) -> Meta<X> {
+        Meta::Path(path)
+    }
+}
+
+impl<X> From<MetaList<X>> for Meta<X> {
+    ghost from_gives = { λ list meta. meta ≡ metas.List list };
+
+    fn from(list: MetaList<X>) -> Meta<X> {
+        Meta::List(list)
+    }
+}
+
+impl<X> From<MetaNameValue<X>> for Meta<X> {
+    ghost from_gives = { λ value meta. meta ≡ metas.NameValue value };
+
+    fn from(value: MetaNameValue<X>) -> Meta<X> {
+        Meta::NameValue(value)
+    }
+}
+
+/// A refusal from the first segment of a path to the last, with the path's text between two texts.
+fn refuse_path<X>(
+    alloc: Global,
+    kind: ErrorKind,
+    before: &str,
+    path: &Path<X>,
+    after: &str,
+) -> Error
+    ensures { Made result (requirements.at_path kind before.now path.now after.now) }
+{
+    match text_around(alloc, before, path, after) {
+        Ok(text) => Error::of(
+            alloc,
+            kind,
+            text.as_str(),
+            path.first_span(),
+            path.last_span(),
+        ),
+        Err(_) => Error::out_of_memory(),
+    }
+}
+
+fn equals_span(token: &Eq) -> Span
+    ensures { result ≡ requirements.begins token.now.spans }
+{
+    let [span] = token.spans;
+    span
+}
+
+impl<X> Meta<X> {
+    /// The path that the meta begins with.
+    pub fn path(&self) -> &Path<X>
+        ensures { result.now ≡ requirements.path_in self.now }
+    {
+        match self {
+            Meta::Path(path) => path,
+            Meta::List(meta) => &meta.path,
+            Meta::NameValue(meta) => &meta.path,
+        }
+    }
+
+    /// The path of a meta that is one. Another meta is refused at its opening delimiter or its `=`.
+    pub fn require_path_only(&self, alloc: Global) -> Result<&Path<X>, Error>
+        ensures ok { IfOk result (λ p. requirements.path_only self.now ≡ Ok p.now) }
+        ensures err { IfErr result (λ e. requirements.RefusedBy (requirements.path_only self.now) e) }
+    {
+        match self {
+            Meta::Path(path) => Ok(path),
+            Meta::List(meta) => Err(Error::named(
+                alloc,
+                ErrorKind::TokenInAttribute,
+                meta.delimiter.span().open_(),
+            )),
+            Meta::NameValue(meta) => Err(Error::named(
+                alloc,
+                ErrorKind::TokenInAttribute,
+                equals_span(&meta.eq_token),
+            )),
+        }
+    }
+
+    /// The list of a meta that is one. A path is refused from its first segment to its last, a name and value at its `=`.
+    pub fn require_list(&self, alloc: Global) -> Result<&MetaList<X>, Error>
+        requires { 0 < length (requirements.path_in self.now).segments.0 }
+        ensures ok { IfOk result (λ l. requirements.list self.now ≡ Ok l.now) }
+        ensures err { IfErr result (λ e. requirements.RefusedBy (requirements.list self.now) e) }
+    {
+        match self {
+            Meta::Path(path) => Err(refuse_path(
+                alloc,
+                ErrorKind::ExpectedMetaArguments,
+                "expected attribute arguments in parentheses: `",
+                path,
+                "(...)`",
+            )),
+            Meta::List(meta) => Ok(meta),
+            Meta::NameValue(meta) => Err(Error::named(
+                alloc,
+                ErrorKind::ExpectedParenthesis,
+                equals_span(&meta.eq_token),
+            )),
+        }
+    }
+
+    /// The name and value of a meta that is one. A path is refused from its first segment to its last, a list at its opening delimiter.
+    pub fn require_name_value(&self, alloc: Global) -> Result<&MetaNameValue<X>, Error>
+        requires { 0 < length (requirements.path_in self.now).segments.0 }
+        ensures ok { IfOk result (λ v. requirements.name_value self.now ≡ Ok v.now) }
+        ensures err { IfErr result (λ e. requirements.RefusedBy (requirements.name_value self.now) e) }
+    {
+        match self {
+            Meta::Path(path) => Err(refuse_path(
+                alloc,
+                ErrorKind::ExpectedMetaValue,
+                "expected a value for this attribute: `",
+                path,
+                " = ...`",
+            )),
+            Meta::List(meta) => Err(Error::named(
+                alloc,
+                ErrorKind::ExpectedEquals,
+                meta.delimiter.span().open_(),
+            )),
+            Meta::NameValue(meta) => Ok(meta),
+        }
+    }
+}
+
+impl<X> MetaList<X> {
+    /// A whole read of the tokens; refusals at their end point at the closing delimiter.
+    pub fn parse_args<T: Parse>(&self, alloc: Global) -> Result<T, Error>
+        ensures reads { WholeRead T.reads T.refuses (held self.now.delimiter self.now.tokens) result }
+        ensures promise { Promised (T.promise (toks self.now.tokens)) result }
+    {
+        self.parse_args_with(alloc, ByParse::<T>::new())
+    }
+
+    /// The same by a parser.
+    pub fn parse_args_with<P: Parser + Drop>(
+        &self,
+        alloc: Global,
+        parser: P,
+    ) -> Result<P::Output, Error>
+        requires { P.can_parse parser }
+        ensures reads { WholeRead (P.reads parser) (P.refuses parser) (held self.now.delimiter self.now.tokens) result }
+        ensures promise { Promised (P.promise parser (toks self.now.tokens)) result }
+    {
+        read_scoped(parser, alloc, self.delimiter.span().close(), &self.tokens)
+    }
+}
+
+impl<X: Drop> MetaList<X> {
+    /// Reads the tokens as properties separated by commas, of which there may be none.
+    pub fn parse_nested_meta<F: FnMut(Global, &mut ParseNestedMeta<'_, X>) -> Result<(), Error>>(
+        &self,
+        alloc: Global,
+        logic: F,
+    ) -> Result<(), Error>
+        requires { turns.Careful F.pre F.step }
+        ensures { turns.ReadsProperties F.step logic (held self.now.delimiter self.now.tokens) result }
+    {
+        self.parse_args_with(alloc, meta::parser(logic))
+    }
+}
+
+impl<X> Attribute<X> {
+    /// The path that the attribute begins with.
+    pub fn path(&self) -> &Path<X>
+        ensures { result.now ≡ requirements.path_in self.now.meta }
+    {
+        self.meta.path()
+    }
+
+    /// The list of an attribute that has one. A path is refused from its first segment to its last, a name and value at its `=`.
+    fn arguments(&self, alloc: Global) -> Result<&MetaList<X>, Error>
+        ensures ok { IfOk result (λ l. requirements.arguments self.now ≡ Ok l.now) }
+        ensures err { IfErr result (λ e. requirements.RefusedBy (requirements.arguments self.now) e) }
+    {
+        match &self.meta {
+            Meta::Path(path) => Err(refuse_path(
+                alloc,
+                ErrorKind::ExpectedAttributeArguments,
+                self.style.arguments_text(),
+                path,
+                "(...)]",
+            )),
+            Meta::List(meta) => Ok(meta),
+            Meta::NameValue(meta) => Err(refuse_equals(alloc, self.style.parentheses_text(), meta)),
+        }
+    }
+
+    /// A whole read of the arguments; refusals at their end point at the closing delimiter. An attribute without arguments
+    /// is refused from the first segment of its path to the last, or at its `=`.
+    pub fn parse_args<T: Parse>(&self, alloc: Global) -> Result<T, Error>
+        requires { 0 < length (requirements.path_in self.now.meta).segments.0 }
+        ensures reads { requirements.WithArguments (requirements.arguments self.now) (λ l. WholeRead T.reads T.refuses (held l.delimiter l.tokens) result) result }
+        ensures promise { requirements.WithArguments (requirements.arguments self.now) (λ l. Promised (T.promise (toks l.tokens)) result) result }
+    {
+        self.parse_args_with(alloc, ByParse::<T>::new())
+    }
+
+    /// The same by a parser.
+    pub fn parse_args_with<P: Parser + Drop>(
+        &self,
+        alloc: Global,
+        parser: P,
+    ) -> Result<P::Output, Error>
+        requires parser { P.can_parse parser }
+        requires segment { 0 < length (requirements.path_in self.now.meta).segments.0 }
+        ensures reads { requirements.WithArguments (requirements.arguments self.now) (λ l. WholeRead (P.reads parser) (P.refuses parser) (held l.delimiter l.tokens) result) result }
+        ensures promise { requirements.WithArguments (requirements.arguments self.now) (λ l. Promised (P.promise parser (toks l.tokens)) result) result }
+    {
+        match self.arguments(alloc) {
+            Ok(list) => list.parse_args_with(alloc, parser),
+            Err(error) => Err(error),
+        }
+    }
+}
+
+impl<X: Drop> Attribute<X> {
+    /// Reads the arguments as properties separated by commas, of which there may be none.
+    pub fn parse_nested_meta<F: FnMut(Global, &mut ParseNestedMeta<'_, X>) -> Result<(), Error>>(
+        &self,
+        alloc: Global,
+        logic: F,
+    ) -> Result<(), Error>
+        requires closure { turns.Careful F.pre F.step }
+        requires segment { 0 < length (requirements.path_in self.now.meta).segments.0 }
+        ensures { requirements.WithArguments (requirements.arguments self.now) (λ l. turns.ReadsProperties F.step logic (held l.delimiter l.tokens) result) result }
+    {
+        self.parse_args_with(alloc, meta::parser(logic))
+    }
+}
+
+/// Where an attribute has a value in place of arguments, a refusal at its `=`.
+fn refuse_equals<X>(alloc: Global, before: &str, meta: &MetaNameValue<X>) -> Error
+    ensures { Made result (requirements.no_parentheses before.now meta.now) }
+{
+    let span = equals_span(&meta.eq_token);
+    match text_around(alloc, before, &meta.path, "(...)]") {
+        Ok(text) => Error::of(
+            alloc,
+            ErrorKind::ExpectedParentheses,
+            text.as_str(),
+            span,
+            span,
+        ),
+        Err(_) => Error::out_of_memory(),
     }
 }

@@ -16,4 +16,4 @@ pub use path::{
     AngleBracketedGenericArguments, ParenthesizedGenericArguments, Path, PathArguments, PathSegment,
 };
 pub use supplied::{Expr, ExprLit, ExprLitOf, Place, Subtree};
-pub use whole::ModStyle;
+pub use whole::{ModStyle, ParseInner, ParseOuter};
