@@ -18,7 +18,7 @@ ghost use Rattle.syn_mid.specs.attr.Requirements as requirements;
 ghost use Rattle.syn_mid.specs.attr.Spelling.{AreAll, IsMetaList, IsOuter, IsInner};
 
 use crate::mac::{MacroDelimiter, parse_body, print_held};
-use crate::meta::{self, ParseNestedMeta};
+use crate::meta::{ParseNestedMeta, read_properties};
 use crate::path::{Path, PathStyle, print_path, text_around};
 use crate::supplied::{Expr, ExprLit, Place, Subtree};
 use std::alloc::{AllocError, Global};
@@ -547,8 +547,9 @@ fn print_name_value<X: Subtree>(
     print_value(alloc, &meta.value, out)
 }
 
+/// The value of a meta: a literal has its outer attributes before it.
 #[cycle(print)]
-#[tactic(auto, using(token_core::proofs::Puts::puts, crate::proofs::attr_laws::Prints::prints))]
+#[tactic(auto, using(token_core::proofs::Puts::puts, crate::proofs::attr_laws::Prints::prints, crate::proofs::attr_laws::Prints::contents))]
 fn print_value<X: Subtree>(
     alloc: Global,
     value: &Expr<X>,
@@ -558,31 +559,20 @@ fn print_value<X: Subtree>(
     ensures err { OnErr result (Extends (trees out.old) (trees out.new)) }
 {
     match value {
-        Expr::Lit(literal) => print_literal(alloc, literal, out),
+        Expr::Lit(literal) => {
+            for attr in literal.attrs.as_slice() {
+                if attr.style.is_outer() {
+                    let mut content = TokenStream::new(alloc);
+                    print_meta(alloc, &attr.meta, &mut content)?;
+                    print_around(alloc, attr, content, out)?;
+                }
+            }
+            literal.lit.to_tokens(alloc, out)
+        }
         Expr::Other(tree) => tree.print(alloc, Place::Value, out),
     }
 }
 
-/// The outer attributes of a literal, and the literal.
-#[cycle(print)]
-#[tactic(auto, using(token_core::proofs::Puts::puts))]
-fn print_literal<X: Subtree>(
-    alloc: Global,
-    literal: &ExprLit<X>,
-    out: &mut TokenStream,
-) -> Result<(), AllocError>
-    ensures ok { OnOk result (trees out.new ≡ trees out.old ++ printing.literal_by (printing.meta (X.prints Value)) literal.now) }
-    ensures err { OnErr result (Extends (trees out.old) (trees out.new)) }
-{
-    for attr in literal.attrs.as_slice() {
-        if attr.style.is_outer() {
-            print_attribute(alloc, attr, out)?;
-        }
-    }
-    literal.lit.to_tokens(alloc, out)
-}
-
-#[cycle(print)]
 #[tactic(auto, using(token_core::proofs::Puts::puts, crate::proofs::attr_laws::Prints::contents))]
 fn print_attribute<X: Subtree>(
     alloc: Global,
@@ -592,10 +582,24 @@ fn print_attribute<X: Subtree>(
     ensures ok { OnOk result (trees out.new ≡ trees out.old ++ printing.attribute (X.prints Value) attr.now) }
     ensures err { OnErr result (Extends (trees out.old) (trees out.new)) }
 {
-    attr.pound_token.to_tokens(alloc, out)?;
-    print_style(alloc, &attr.style, out)?;
     let mut content = TokenStream::new(alloc);
     print_meta(alloc, &attr.meta, &mut content)?;
+    print_around(alloc, attr, content, out)
+}
+
+/// Appends an attribute around the tokens of its content; refused, what stood before is kept.
+#[tactic(auto, using(token_core::proofs::Puts::puts))]
+fn print_around<M>(
+    alloc: Global,
+    attr: &AttributeOf<M>,
+    content: TokenStream,
+    out: &mut TokenStream,
+) -> Result<(), AllocError>
+    ensures ok { OnOk result (trees out.new ≡ trees out.old ++ printing.around attr.now content) }
+    ensures err { OnErr result (Extends (trees out.old) (trees out.new)) }
+{
+    attr.pound_token.to_tokens(alloc, out)?;
+    print_style(alloc, &attr.style, out)?;
     attr.bracket_token.surround(content, out)
 }
 
@@ -786,7 +790,7 @@ impl<X: Drop> MetaList<X> {
         requires { turns.Careful F.pre F.step }
         ensures { turns.ReadsProperties F.step logic (held self.now.delimiter self.now.tokens) result }
     {
-        self.parse_args_with(alloc, meta::parser(logic))
+        read_properties(alloc, logic, self.delimiter.span().close(), &self.tokens)
     }
 }
 
@@ -855,7 +859,10 @@ impl<X: Drop> Attribute<X> {
         requires segment { 0 < length (requirements.path_in self.now.meta).segments.0 }
         ensures { requirements.WithArguments (requirements.arguments self.now) (λ l. turns.ReadsProperties F.step logic (held l.delimiter l.tokens) result) result }
     {
-        self.parse_args_with(alloc, meta::parser(logic))
+        match self.arguments(alloc) {
+            Ok(list) => list.parse_nested_meta(alloc, logic),
+            Err(error) => Err(error),
+        }
     }
 }
 

@@ -1,5 +1,5 @@
 -- What each kind of meta and of value prints, and its normal form.
-use Rattle.std.proofs.Common.{◌≡◌, List, [], ◌∷◌, ◌++◌, map, refl, sym, ◌∙◌, ap}
+use Rattle.std.proofs.Common.{◌≡◌, List, [], ◌∷◌, ◌++◌, map, refl, sym, ◌∙◌, ap, append_assoc, append-nil}
 use Rattle.token_core.specs.declared.lit.Lit.{Lit}
 use Rattle.token_core.specs.Lits as lits
 use Rattle.token_core.specs.Trees.{trees, stream_of_trees}
@@ -57,6 +57,21 @@ module _ {X : Type 0} (px : X → Print) where
   prints_literal x =
       ap (value px) (sym (e.rolls-Lit x)) ∙ fold-roll-Expr X Print Print Print (meta_step px) (expr_step px) (name_value_step px) (o.Lit x)
       ∙ ap (λ r. r ++ lits.print x.lit) (outer_mapped x.attrs)
+
+  -- piece by piece
+  pub put_name_value : (x : MetaNameValue X) (old a b new : Print) → a ≡ old ++ path Mod (out-MetaNameValue X x).path → b ≡ a ++ p.mark (out-MetaNameValue X x).eq_token → new ≡ b ++ value px (out-MetaNameValue X x).value → new ≡ old ++ name_value px x
+  put_name_value x old a b new h k n =
+      let f = out-MetaNameValue X x in
+      n ∙ ap (λ z. z ++ value px f.value) (k ∙ ap (λ z. z ++ p.mark f.eq_token) h)
+      ∙ append_assoc (old ++ path Mod f.path) (p.mark f.eq_token) (value px f.value) ∙ append_assoc old (path Mod f.path) (p.mark f.eq_token ++ value px f.value)
+      ∙ ap (λ z. old ++ z) (sym (prints_fields x))
+
+  -- the outer attributes of a literal, and the literal
+  pub put_literal : (x : ExprLitOf (AttributeOf (Meta X))) (v : Expr X) (old mid new : Print) → v ≡ e.Lit x → mid ++ [] ≡ old ++ outer_by (meta px) x.attrs → new ≡ mid ++ lits.print x.lit → new ≡ old ++ value px v
+  put_literal x v old mid new k h n =
+      n ∙ ap (λ z. z ++ lits.print x.lit) (sym (append-nil mid) ∙ h)
+      ∙ append_assoc old (outer_by (meta px) x.attrs) (lits.print x.lit)
+      ∙ ap (λ z. old ++ z) (sym (prints_literal x)) ∙ ap (λ z. old ++ value px z) (sym k)
 
 pub ruleset prints = (prints_path, prints_list, prints_name_value, prints_fields, prints_other, prints_literal)
 

@@ -1,6 +1,7 @@
 -- What attributes print: paths without arguments, and of the attributes of a literal those before it.
 use Rattle.std.specs.Prelude.{Bool, true, false, if◌then◌else◌, List, [], ◌∷◌, ◌++◌}
 use Rattle.token_core.specs.declared.tree.Delimiter.TheVariants.{Bracket}
+use Rattle.token_core.specs.declared.tree.TokenStream.{TokenStream}
 use Rattle.token_core.specs.Lits as lits
 use Rattle.token_core.specs.Prints as p
 use Rattle.token_core.specs.Prints.{Print}
@@ -27,11 +28,15 @@ abbrev pub style : AttrStyle → Print
 style y.Outer = []
 style (y.Inner b) = p.mark b
 
+-- an attribute around the tokens of its content
+abbrev pub around : {M : Type 0} → AttributeOf M → TokenStream → Print
+around a c = p.mark a.pound_token ++ (style a.style ++ p.group Bracket c a.bracket_token.span)
+
 -- ---- by the print of the content
 
 module _ {M : Type 0} (meta : M → Print) where
   abbrev pub attribute_by : AttributeOf M → Print
-  attribute_by a = p.mark a.pound_token ++ (style a.style ++ p.group Bracket (stream_of_trees (meta a.meta)) a.bracket_token.span)
+  attribute_by a = around a (stream_of_trees (meta a.meta))
 
   abbrev pub attributes_by : List (AttributeOf M) → Print
   attributes_by [] = []
