@@ -1,4 +1,5 @@
 pub mod Supplied
 pub mod path
 pub mod mac
+pub mod attr
 pub mod meta

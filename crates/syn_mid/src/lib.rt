@@ -1,6 +1,7 @@
 //! Paths and macro calls of Rust, read from token lists into syntax trees and printed back.
 #![tactic(auto)]
 
+pub mod attr;
 pub mod mac;
 pub mod meta;
 pub mod path;
@@ -9,9 +10,10 @@ pub mod supplied;
 mod tests;
 pub mod whole;
 
+pub use attr::{AttrStyle, Attribute, AttributeOf, Meta, MetaList, MetaNameValue};
 pub use mac::{Macro, MacroDelimiter};
 pub use path::{
     AngleBracketedGenericArguments, ParenthesizedGenericArguments, Path, PathArguments, PathSegment,
 };
-pub use supplied::{Place, Subtree};
-pub use whole::ModStyle;
+pub use supplied::{Expr, ExprLit, ExprLitOf, Place, Subtree};
+pub use whole::{ModStyle, ParseInner, ParseOuter};

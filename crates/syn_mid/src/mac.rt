@@ -61,7 +61,7 @@ impl MacroDelimiter {
         }
     }
 
-    fn delimiter(&self) -> Delimiter
+    pub(crate) fn delimiter(&self) -> Delimiter
         ensures { result ≡ spec.delimiter_of self.now }
     {
         match self {
@@ -194,4 +194,19 @@ fn print_call<X>(alloc: Global, mac: &Macro<X>, out: &mut TokenStream) -> Result
         tokens,
         out,
     )
+}
+
+/// Appends a copy of these tokens in these brackets; refused, what stood before is kept.
+#[tactic(auto, using(token_core::proofs::Puts::puts))]
+pub(crate) fn print_held(
+    alloc: Global,
+    delimiter: &MacroDelimiter,
+    tokens: &TokenStream,
+    out: &mut TokenStream,
+) -> Result<(), AllocError>
+    ensures ok { OnOk result (trees out.new ≡ trees out.old ++ prints.group (spec.delimiter_of delimiter.now) tokens.now (spec.span_of delimiter.now)) }
+    ensures err { OnErr result (Extends (trees out.old) (trees out.new)) }
+{
+    let tokens = tokens.copy(alloc)?;
+    surround(delimiter.delimiter(), *delimiter.span(), tokens, out)
 }

@@ -3,7 +3,8 @@
 ghost use Rattle.std.specs.Prelude.{◌≡◌, ◌<◌, length, Result, Ok, Err, IfOk, IfErr, OnErr};
 ghost use Rattle.std.specs.Borrow.{sem};
 ghost use Rattle.token_core.specs.Refusal.{Made, custom};
-ghost use Rattle.token_core.specs.Stream.{Stream};
+ghost use Rattle.token_core.specs.Stream.{Stream, started};
+ghost use Rattle.token_core.specs.Trees.{toks};
 ghost use Rattle.token_core.specs.Reads.{Follows, Reads};
 ghost use Rattle.syn_mid.specs.path.Paths.{first_span};
 ghost use Rattle.syn_mid.specs.meta.Lends.{lends_input, lends_value};
@@ -13,7 +14,7 @@ use crate::path::{Path, SegmentStyle, parse_bare_path};
 use std::alloc::Global;
 use std::marker::PhantomData;
 use token_core::token::{Comma, Eq};
-use token_core::{Error, Parse, ParseStream, Parser};
+use token_core::{Error, Parse, ParseStream, Parser, Span, TokenStream, read_scoped};
 
 /// A property: its path, and the stream after it, from which a closure reads the rest of the property. It is generic in
 /// its stream, since a caller's proof follows a `&mut` to a field only where the field's type is a parameter.
@@ -140,6 +141,17 @@ impl<X: Drop, F: FnMut(Global, &mut ParseNestedMeta<'_, X>) -> Result<(), Error>
         }
         parse_nested_meta(alloc, input, logic)
     }
+}
+
+/// A whole read of these tokens as properties; refusals at their end point at the scope.
+pub(crate) fn read_properties<
+    X: Drop,
+    F: FnMut(Global, &mut ParseNestedMeta<'_, X>) -> Result<(), Error>,
+>(alloc: Global, logic: F, scope: Span, tokens: &TokenStream) -> Result<(), Error>
+    requires { spec.Careful F.pre F.step }
+    ensures { spec.ReadsProperties F.step logic (started scope (toks tokens.now)) result }
+{
+    read_scoped(parser(logic), alloc, scope, tokens)
 }
 
 /// Reads properties, separated by commas, up to the end: a path of any identifiers, and then what the closure reads.

@@ -183,7 +183,7 @@ impl<X> Path<X> {
 
     /// The span of the last segment's identifier.
     #[tactic(auto, using(crate::proofs::path_laws::Lasts::lasts))]
-    fn last_span(&self) -> Span
+    pub(crate) fn last_span(&self) -> Span
         ensures { result ≡ spec.last_span self.now.segments.0 none }
     {
         let (pairs, last) = self.segments.parts();

@@ -8,8 +8,9 @@ ghost use Rattle.token_core.specs.Stream.{Stream};
 ghost use Rattle.token_core.specs.Reads.{Reader, Reads, Follows, leaves};
 ghost use Rattle.syn_mid.specs.Supplied as spec;
 
+use crate::attr::Attribute;
 use std::alloc::{AllocError, Global};
-use token_core::{Error, ParseStream, TokenStream};
+use token_core::{Error, Items, Lit, ParseStream, TokenStream};
 
 /// Where a supplied subtree stands.
 #[derive(Clone, Copy, PartialEq, Eq)]
@@ -64,3 +65,23 @@ pub trait Subtree: Drop {
     /// As an attribute's value no tree spells a list that is one literal, or that begins with `#` and a bracket group.
     ghost apart: { (x : Self) (l : Toks) → spells spec.Value x l → spec.IsApart l };
 }
+
+/// An expression, of which the cases that this layer reads are told apart.
+#[cycle(trees)]
+#[derive(Drop)]
+pub enum Expr<X> {
+    /// A literal.
+    Lit(ExprLit<X>),
+    /// A supplied subtree.
+    Other(X),
+}
+
+/// A literal as an expression, over its attributes.
+#[derive(Drop)]
+pub struct ExprLitOf<A> {
+    pub attrs: Items<A>,
+    pub lit: Lit,
+}
+
+/// A literal as an expression.
+pub type ExprLit<X> = ExprLitOf<Attribute<X>>;

@@ -1,15 +1,16 @@
-//! Paths and macro calls read from lists made by hand, and what they print.
+//! Paths and macro calls read from lists made by hand, and what they print; what attributes made by hand are asked for.
 
 use crate::mac::parse_macro;
 use crate::{
-    AngleBracketedGenericArguments, Macro, MacroDelimiter, ModStyle, ParenthesizedGenericArguments,
-    Path, PathArguments, PathSegment,
+    AngleBracketedGenericArguments, AttrStyle, Attribute, Expr, Macro, MacroDelimiter, Meta,
+    MetaList, MetaNameValue, ModStyle, ParenthesizedGenericArguments, Path, PathArguments,
+    PathSegment,
 };
 use std::alloc::{AllocError, Global};
 use std::fmt::Write;
 use std::marker::PhantomData;
 use std::test::Fail;
-use token_core::token::{Brace, Bracket, Gt, Lt, Not, Paren, PathSep};
+use token_core::token::{Brace, Bracket, Eq, Gt, Lt, Not, Paren, PathSep, Pound};
 use token_core::{
     ByFn, DelimSpan, Delimiter, Error, ErrorKind, Group, Ident, Punct, Punctuated, Spacing, Span,
     ToTokens, TokenStream, TokenTree, read_all_with,
@@ -483,6 +484,143 @@ fn bears_want_of_memory(rt: HostRuntime) -> Result<(), Fail> {
             }
         }
         Err(_) => {}
+    }
+    Ok(())
+}
+
+/// An attribute with this content, made by hand.
+fn attribute(meta: Meta<u8>, style: AttrStyle) -> Attribute<u8> {
+    Attribute {
+        pound_token: Pound::default(),
+        style,
+        bracket_token: Bracket { span: place() },
+        meta,
+    }
+}
+
+/// The metas of a path: alone, with a list of `x y` and with a value.
+fn metas(alloc: Global, text: &str) -> Result<[Meta<u8>; 3], Error> {
+    let tokens = tokens_of(alloc, text)?;
+    let path = read_all_with(ModStyle::<u8>::new(), alloc, &tokens)?;
+    let list = MetaList {
+        path: read_all_with(ModStyle::<u8>::new(), alloc, &tokens)?,
+        delimiter: MacroDelimiter::Paren(Paren { span: place() }),
+        tokens: tokens_of(alloc, "x y")?,
+    };
+    let value = MetaNameValue {
+        path: read_all_with(ModStyle::<u8>::new(), alloc, &tokens)?,
+        eq_token: Eq {
+            spans: [Span::new(40, 41)],
+        },
+        value: Expr::Other(1),
+    };
+    Ok([Meta::Path(path), Meta::from(list), Meta::from(value)])
+}
+
+/// What a refusal says, and where it points.
+fn told(error: &Error, out: &mut String) -> Result<(), AllocError> {
+    out.push_str(error.text())?;
+    show_span(error.start(), out)?;
+    show_span(error.end(), out)
+}
+
+/// What the calls that ask for a kind of meta answer.
+fn required(alloc: Global, meta: &Meta<u8>) -> Result<String, AllocError> {
+    let mut out = String::new(alloc);
+    if meta.path().segments.is_empty() {
+        return Ok(out);
+    }
+    match meta.require_path_only(alloc) {
+        Ok(_) => out.push_str("path")?,
+        Err(error) => told(&error, &mut out)?,
+    }
+    out.push_str("; ")?;
+    match meta.require_list(alloc) {
+        Ok(list) => write!(out, "list of {}", list.tokens.len())?,
+        Err(error) => told(&error, &mut out)?,
+    }
+    out.push_str("; ")?;
+    match meta.require_name_value(alloc) {
+        Ok(_) => out.push_str("value")?,
+        Err(error) => told(&error, &mut out)?,
+    }
+    Ok(out)
+}
+
+#[test]
+fn asks_for_kinds_of_metas(rt: HostRuntime) -> Result<(), Fail> {
+    let rows = [
+        [
+            "path; expected attribute arguments in parentheses: `::a::bc(...)` 3-4 8-10; expected a value for this attribute: `::a::bc = ...` 3-4 8-10",
+            "unexpected token in attribute 50-51 50-51; list of 2; expected `=` 50-51 50-51",
+            "unexpected token in attribute 40-41 40-41; expected `(` 40-41 40-41; value",
+        ],
+        [
+            "path; expected attribute arguments in parentheses: `a(...)` 0-1 0-1; expected a value for this attribute: `a = ...` 0-1 0-1",
+            "unexpected token in attribute 50-51 50-51; list of 2; expected `=` 50-51 50-51",
+            "unexpected token in attribute 40-41 40-41; expected `(` 40-41 40-41; value",
+        ],
+    ];
+    for (text, wants) in [(":: a :: bc", &rows[0]), ("a", &rows[1])] {
+        match metas(rt.alloc(), text) {
+            Ok([path, list, value]) => {
+                assert_eq!(rt; required(rt.alloc(), &path)?.as_str(), wants[0], "{text}");
+                assert_eq!(rt; required(rt.alloc(), &list)?.as_str(), wants[1], "{text}");
+                assert_eq!(rt; required(rt.alloc(), &value)?.as_str(), wants[2], "{text}");
+            }
+            Err(_) => assert!(rt; false, "{text}"),
+        }
+    }
+    Ok(())
+}
+
+/// What a whole read of an attribute's arguments as an identifier answers.
+fn argument(alloc: Global, attr: &Attribute<u8>) -> Result<String, AllocError> {
+    let mut out = String::new(alloc);
+    if attr.path().segments.is_empty() {
+        return Ok(out);
+    }
+    match attr.parse_args::<Ident>(alloc) {
+        Ok(ident) => out.push_str(ident.text())?,
+        Err(error) => told(&error, &mut out)?,
+    }
+    Ok(out)
+}
+
+#[test]
+fn reads_arguments(rt: HostRuntime) -> Result<(), Fail> {
+    let bang = AttrStyle::Inner(Not::default());
+    for (text, style, wants) in [
+        (
+            "a",
+            AttrStyle::Outer,
+            [
+                "expected attribute arguments in parentheses: #[a(...)] 0-1 0-1",
+                "unexpected token 2-3 2-3",
+                "expected parentheses: #[a(...)] 40-41 40-41",
+            ],
+        ),
+        (
+            ":: a :: b",
+            bang,
+            [
+                "expected attribute arguments in parentheses: #![::a::b(...)] 3-4 8-9",
+                "unexpected token 2-3 2-3",
+                "expected parentheses: #![::a::b(...)] 40-41 40-41",
+            ],
+        ),
+    ] {
+        match metas(rt.alloc(), text) {
+            Ok([path, list, value]) => {
+                let path = attribute(path, style);
+                assert_eq!(rt; argument(rt.alloc(), &path)?.as_str(), wants[0], "{text}");
+                let list = attribute(list, style);
+                assert_eq!(rt; argument(rt.alloc(), &list)?.as_str(), wants[1], "{text}");
+                let value = attribute(value, style);
+                assert_eq!(rt; argument(rt.alloc(), &value)?.as_str(), wants[2], "{text}");
+            }
+            Err(_) => assert!(rt; false, "{text}"),
+        }
     }
     Ok(())
 }

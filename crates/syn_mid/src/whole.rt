@@ -3,13 +3,17 @@
 ghost use Rattle.std.specs.Prelude.{◌≡◌};
 ghost use Rattle.token_core.specs.Reads.{Gives, Fails};
 ghost use Rattle.token_core.specs.Headline.{Headline};
+ghost use Rattle.syn_mid.specs.attr.Grammars as grammars;
+ghost use Rattle.syn_mid.specs.attr.Reading as attrs;
 ghost use Rattle.syn_mid.specs.path.Grammars as paths;
 ghost use Rattle.syn_mid.specs.path.Reading as reading;
 
+use crate::attr::Attribute;
 use crate::path::Path;
+use crate::supplied::Subtree;
 use std::alloc::Global;
 use std::marker::PhantomData;
-use token_core::{Error, ParseStream, Parser};
+use token_core::{Error, Items, ParseStream, Parser};
 
 /// `Path::parse_mod_style` as a parser, for `read_all_with`.
 #[derive(Drop)]
@@ -38,5 +42,73 @@ impl<X: Drop> Parser for ModStyle<X> {
 
     fn parse(self, alloc: Global, input: &mut ParseStream<'_>) -> Result<Path<X>, Error> {
         Path::parse_mod_style(alloc, input)
+    }
+}
+
+/// `Attribute::parse_outer` as a parser.
+#[derive(Drop)]
+pub struct ParseOuter<X> {
+    pub of: PhantomData<X>,
+}
+
+impl<X> ParseOuter<X> {
+    pub fn new() -> ParseOuter<X>
+        ensures { result ≡ record { of = record {} } }
+    {
+        ParseOuter { of: PhantomData }
+    }
+}
+
+impl<X: Subtree> Parser for ParseOuter<X> {
+    type Output = Items<Attribute<X>>;
+
+    ghost can_parse = { λ _. Unit {0} };
+
+    ghost reads = { λ _. Gives (attrs.outer X.reads) };
+
+    ghost refuses = { λ _. Fails (attrs.outer X.reads) };
+
+    ghost promise = { λ _. Headline (grammars.outer X.reads X.spells X.normal X.prints) };
+
+    fn parse(
+        self,
+        alloc: Global,
+        input: &mut ParseStream<'_>,
+    ) -> Result<Items<Attribute<X>>, Error> {
+        Attribute::parse_outer(alloc, input)
+    }
+}
+
+/// `Attribute::parse_inner` as a parser.
+#[derive(Drop)]
+pub struct ParseInner<X> {
+    pub of: PhantomData<X>,
+}
+
+impl<X> ParseInner<X> {
+    pub fn new() -> ParseInner<X>
+        ensures { result ≡ record { of = record {} } }
+    {
+        ParseInner { of: PhantomData }
+    }
+}
+
+impl<X: Subtree> Parser for ParseInner<X> {
+    type Output = Items<Attribute<X>>;
+
+    ghost can_parse = { λ _. Unit {0} };
+
+    ghost reads = { λ _. Gives (attrs.inner X.reads) };
+
+    ghost refuses = { λ _. Fails (attrs.inner X.reads) };
+
+    ghost promise = { λ _. Headline (grammars.inner X.reads X.spells X.normal X.prints) };
+
+    fn parse(
+        self,
+        alloc: Global,
+        input: &mut ParseStream<'_>,
+    ) -> Result<Items<Attribute<X>>, Error> {
+        Attribute::parse_inner(alloc, input)
     }
 }

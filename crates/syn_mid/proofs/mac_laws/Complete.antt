@@ -36,7 +36,7 @@ held_is e d p c r f sc in_paren = refl
 held_is e d p c r f sc in_brace = refl
 held_is e d p c r f sc in_bracket = refl
 
-reads_body : (e : MacroDelimiter) (d : Delimiter) (p : DelimSpan) (c r : Toks) (tokens : TokenStream) (f : Option Span) (l : Span) (sc : Scope) → Delimits e d p → c ≡ toks tokens →
+pub reads_body : (e : MacroDelimiter) (d : Delimiter) (p : DelimSpan) (c r : Toks) (tokens : TokenStream) (f : Option Span) (l : Span) (sc : Scope) → Delimits e d p → c ≡ toks tokens →
     body (at (group d p c r) f l sc) ≡ Ok ((e, tokens), at r f p.closing sc)
 unfolding body
 reads_body e d p c r tokens f l sc h k =

@@ -25,12 +25,12 @@ use Rattle.syn_mid.proofs.path_laws.Laws.{whole_path}
 row-bang : (a : Span) (k : Toks) → row (p.mark (bang_at a)) k ≡ mark (punct 33 Alone a) k
 row-bang a k = tree-punct (punct 33 Alone a) k
 
-delimits_visible : (e : MacroDelimiter) (d : Delimiter) (s : DelimSpan) → Delimits e d s → IsVisible d
+pub delimits_visible : (e : MacroDelimiter) (d : Delimiter) (s : DelimSpan) → Delimits e d s → IsVisible d
 delimits_visible e d s in_paren = tt
 delimits_visible e d s in_brace = tt
 delimits_visible e d s in_bracket = tt
 
-row-body : (e : MacroDelimiter) (d : Delimiter) (s : DelimSpan) (tokens : TokenStream) (k : Toks) → Delimits e d s → row (p.group (delimiter_of e) tokens (span_of e)) k ≡ group d s (toks tokens) k
+pub row-body : (e : MacroDelimiter) (d : Delimiter) (s : DelimSpan) (tokens : TokenStream) (k : Toks) → Delimits e d s → row (p.group (delimiter_of e) tokens (span_of e)) k ≡ group d s (toks tokens) k
 row-body e d s tokens k in_paren = visible-tree d tokens s k tt
 row-body e d s tokens k in_brace = visible-tree d tokens s k tt
 row-body e d s tokens k in_bracket = visible-tree d tokens s k tt

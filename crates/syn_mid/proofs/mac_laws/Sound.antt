@@ -42,14 +42,14 @@ took_bang s t b v e =
 visible_bang : (s t : Stream) (b : Bang) → TookBang s t b → Visible s.rest → Visible t.rest
 visible_bang s t b k v = subst Visible k.is v
 
-record TookBody (s t : Stream) (h : Held) : Type 0 where
-  delimiter : Delimiter
-  span : DelimSpan
-  content : Toks
-  is : s.rest ≡ group delimiter span content t.rest
-  delimits : Delimits h.0 delimiter span
-  tokens : content ≡ toks h.1
-  left : t.left ≡ s.left
+pub record TookBody (s t : Stream) (h : Held) : Type 0 where
+  pub delimiter : Delimiter
+  pub span : DelimSpan
+  pub content : Toks
+  pub is : s.rest ≡ group delimiter span content t.rest
+  pub delimits : Delimits h.0 delimiter span
+  pub tokens : content ≡ toks h.1
+  pub left : t.left ≡ s.left
 
 held_at : (d : Delimiter) (p : DelimSpan) (c : TokenStream) (u t : Stream) (h : Held) → held d p c u ≡ Ok (h, t) → Delimits h.0 d p × (c ≡ h.1) × (u ≡ t)
 held_at Parenthesis p c u t h e = let k = same_pair (m.Paren (groups.paren p), c) h u t e in (subst (λ (z : Held). Delimits z.0 Parenthesis p) k.0 in_paren, ap (λ (z : Held). z.1) k.0, k.1)
@@ -57,7 +57,7 @@ held_at Brace p c u t h e = let k = same_pair (m.Brace (groups.brace p), c) h u 
 held_at Bracket p c u t h e = let k = same_pair (m.Bracket (groups.bracket p), c) h u t e in (subst (λ (z : Held). Delimits z.0 Bracket p) k.0 in_bracket, ap (λ (z : Held). z.1) k.0, k.1)
 held_at None p c u t h e = cc
 
-took_body : (s t : Stream) (h : Held) → Visible s.rest → body s ≡ Ok (h, t) → TookBody s t h
+pub took_body : (s t : Stream) (h : Held) → Visible s.rest → body s ≡ Ok (h, t) → TookBody s t h
 unfolding body
 took_body s t h v e =
     let c = chain (delimited s) _ h t e in

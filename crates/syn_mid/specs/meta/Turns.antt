@@ -7,7 +7,7 @@ use Rattle.token_core.specs.Refusal.{Refusal}
 use Rattle.token_core.specs.Stream.{Stream}
 use Rattle.token_core.specs.declared.mark.Mark.{Mark}
 use Rattle.token_core.specs.Marks as marks
-use Rattle.token_core.specs.Reads.{Reader, Outcome, ◌<$>◌, Follows, is_done, forked, advanced, open_group, finished}
+use Rattle.token_core.specs.Reads.{Reader, Outcome, ◌<$>◌, Follows, WholeRead, is_done, forked, advanced, open_group, finished}
 use Rattle.token_core.specs.declared.tree.Delimiter.TheVariants.{Parenthesis}
 use Rattle.token_core.specs.declared.token.Paren.{Paren}
 use Rattle.token_core.specs.Groups.{paren, paren_name, opened}
@@ -93,6 +93,10 @@ Turned {X = X} {F = F} step f s r t = (g : F) × Turns step f s r t g
 -- of which there may be none
 abbrev pub Properties : {X F : Type 0} → Step X F → F → Stream → Answer → Stream → Type 0
 Properties {X = X} {F = F} step f s r t = ((is_done s.rest ≡ true) × (r ≡ Ok tt) × (t ≡ s)) ⊎ ((is_done s.rest ≡ false) × Turned step f s r t)
+
+-- a whole read of them
+abbrev pub ReadsProperties : {X F : Type 0} → Step X F → F → Stream → Answer → Type 0
+ReadsProperties step f s r = WholeRead (λ old a new. Properties step f old (Ok a) new) (λ old e. (new : Stream) × Properties step f old (Err e) new) s r
 
 abbrev pub opening : Reader (Paren × Stream)
 opening = λ s. opened paren (open_group Parenthesis paren_name s)

@@ -1,0 +1,43 @@
+-- Attributes by their parts.
+use Rattle.std.specs.Prelude.{[]}
+use Rattle.token_core.specs.declared.lit.Lit.{Lit}
+use Rattle.token_core.specs.declared.mark.Mark.{Mark}
+use Rattle.token_core.specs.declared.token.Bracket.{Bracket}
+use Rattle.token_core.specs.declared.tree.Ident.{Ident}
+use Rattle.syn_mid.specs.declared.attr.AttributeOf.{AttributeOf}
+use Rattle.syn_mid.specs.declared.attr.AttrStyle.{AttrStyle}
+use Rattle.syn_mid.specs.declared.attr.Meta.{Meta}
+use Rattle.syn_mid.specs.declared.attr.MetaList.{MetaList}
+use Rattle.syn_mid.specs.declared.attr.MetaNameValue.{MetaNameValue, roll-MetaNameValue}
+use Rattle.syn_mid.specs.declared.path.Path.{Path}
+use Rattle.syn_mid.specs.declared.supplied.Expr.{Expr}
+use Rattle.syn_mid.specs.declared.supplied.Expr.TheVariants as e
+use Rattle.syn_mid.specs.mac.Macros.{Held}
+use Rattle.syn_mid.specs.path.Paths.{lone, segment_of}
+
+abbrev pub Pound : Type 0
+Pound = Mark 21 1
+
+abbrev pub Equals : Type 0
+Equals = Mark 11 1
+
+abbrev pub Attribute : Type 0 → Type 0
+Attribute X = AttributeOf (Meta X)
+
+module _ {X : Type 0} where
+  -- the path of a lone identifier
+  abbrev pub word_path : Ident → Path X
+  word_path i = lone (segment_of i)
+
+  abbrev pub list_of : Path X → Held → MetaList X
+  list_of p h = record { path = p; delimiter = h.0; tokens = h.1 }
+
+  abbrev pub name_value_of : Path X → Equals → Expr X → MetaNameValue X
+  name_value_of p q v = roll-MetaNameValue X (record { path = p; eq_token = q; value = v })
+
+  -- a literal without attributes
+  abbrev pub literal : Lit → Expr X
+  literal x = e.Lit (record { attrs = []; lit = x })
+
+  abbrev pub attribute_of : Pound → AttrStyle → Bracket → Meta X → Attribute X
+  attribute_of p y b x = record { pound_token = p; style = y; bracket_token = b; meta = x }
