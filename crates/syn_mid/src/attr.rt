@@ -776,7 +776,7 @@ impl<X> MetaList<X> {
         ensures reads { WholeRead (P.reads parser) (P.refuses parser) (held self.now.delimiter self.now.tokens) result }
         ensures promise { Promised (P.promise parser (toks self.now.tokens)) result }
     {
-        read_scoped(parser, alloc, self.delimiter.span().close(), &self.tokens)
+        read_scoped(alloc, parser, self.delimiter.span().close(), &self.tokens)
     }
 }
 

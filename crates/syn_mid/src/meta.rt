@@ -151,7 +151,7 @@ pub(crate) fn read_properties<
     requires { spec.Careful F.pre F.step }
     ensures { spec.ReadsProperties F.step logic (started scope (toks tokens.now)) result }
 {
-    read_scoped(parser(logic), alloc, scope, tokens)
+    read_scoped(alloc, parser(logic), scope, tokens)
 }
 
 /// Reads properties, separated by commas, up to the end: a path of any identifiers, and then what the closure reads.

@@ -28,7 +28,7 @@ use Rattle.token_core.specs.Lits as lits
 use Rattle.token_core.specs.Lits.{sees_lit, read_lit, past_lit, lit_at, past_bool, past_minus, past_number, next_lit, lit_name, end_of, true_text, false_text}
 use Rattle.token_core.specs.Loops.{size}
 use Rattle.token_core.specs.Clear.{Apart, is_glued}
-use Rattle.token_core.specs.Stream.{Stream}
+use Rattle.token_core.specs.Stream.{Stream, Scope}
 use Rattle.token_core.specs.Reads.{Reader, Outcome, read_word, next_word, any_text, ident_name, optional, forked, advanced, is_done, leaves, first_of, inside, in_group, sees_mark, sees_group, sees_word, after_one, after_front, after_mark, after_quote, meets, expected, goes_on, here, past_next, past_mark, three, is_joint, as_punct, as_lit, as_word, ◌>>=◌}
 use Rattle.token_core.specs.Spellings.{IsLit, IsMark, is_mark, AreChars, last_char, more_chars}
 use Rattle.token_core.proofs.LitSpells.{lit_complete, lit_seen}
@@ -70,7 +70,7 @@ no_unsafe : (t : Bytes) (b : Bool) → is_unsafe t ≡ b → is_mod_word t ≡ t
 no_unsafe t true h k = let g : true ≡ false = sym k ∙ no_mod_unsafe t h in absurd (cc)
 no_unsafe t false h k = h
 
-reads_any : (i : Ident) (r : Toks) (f : Option Span) (e sc : Span) → read_word any_text ident_name (at (word i r) f e sc) ≡ Ok (i, at r f i.span sc)
+reads_any : (i : Ident) (r : Toks) (f : Option Span) (e : Span) (sc : Scope) → read_word any_text ident_name (at (word i r) f e sc) ≡ Ok (i, at r f i.span sc)
 unfolding read_word next_word
 reads_any i r f e sc = refl
 
@@ -88,7 +88,7 @@ module _ {X : Type 0} where
   begins_mod clear p l r (paths.mod_path {all = all} {seps = seps} {m = k} no_leading i) = begins_segments clear all seps k r i
   begins_mod clear p l r (paths.mod_path (leading a) i) = refl
 
-  pub meta_path_complete : (p : Path X) (l r : Toks) (f : Option Span) (e sc : Span) → IsMetaPath true p l r → sees_sep r ≡ false → Reads_to meta_path p l r f e sc
+  pub meta_path_complete : (p : Path X) (l r : Toks) (f : Option Span) (e : Span) (sc : Scope) → IsMetaPath true p l r → sees_sep r ≡ false → Reads_to meta_path p l r f e sc
   unfolding meta_path
   meta_path_complete p l r f e sc (unsafe_path {i = i} h) s =
       record { last = i.span; reads = chosen (sees_unsafe (word i r)) true _ _ (at (word i r) f e sc) _ (seen_word is_unsafe i r ∙ h) (link _ (reads_any i r f e sc) refl) }
@@ -98,12 +98,12 @@ module _ {X : Type 0} where
 
   -- ---- the list
 
-  pub list_after_complete : (p : Path X) (e : MacroDelimiter) (d : Delimiter) (s : DelimSpan) (c r : Toks) (tokens : TokenStream) (f : Option Span) (a sc : Span) → Delimits e d s → c ≡ toks tokens →
+  pub list_after_complete : (p : Path X) (e : MacroDelimiter) (d : Delimiter) (s : DelimSpan) (c r : Toks) (tokens : TokenStream) (f : Option Span) (a : Span) (sc : Scope) → Delimits e d s → c ≡ toks tokens →
       list_after p (at (group d s c r) f a sc) ≡ Ok (list_of p (e, tokens), at r f s.closing sc)
   unfolding list_after
   list_after_complete p e d s c r tokens f a sc h k = link _ (reads_body e d s c r tokens f a sc h k) refl
 
-  pub list_complete : (x : MetaList X) (l r : Toks) (f : Option Span) (e sc : Span) → IsMetaList true x l r → Reads_to list x l r f e sc
+  pub list_complete : (x : MetaList X) (l r : Toks) (f : Option Span) (e : Span) (sc : Scope) → IsMetaList true x l r → Reads_to list x l r f e sc
   unfolding list
   list_complete x l r f e sc (a_meta_list {p = p} {e = b} {d = d} {s = s} {c = c} {tokens = tokens} i h k) =
       let q = meta_path_complete p l (group d s c r) f e sc i (no_sep_group d s c r) in
@@ -211,7 +211,7 @@ no_attribute : (l : Toks) → IsApart l → sees_attribute l ≡ false
 unfolding sees_attribute sees_mark after_one
 no_attribute l a = ahead (front l) ∙ a.attribute
 
-not_last : (l : Toks) (f : Option Span) (e sc : Span) → IsApart l → last_literal (at l f e sc) ≡ Ok (None, at l f e sc)
+not_last : (l : Toks) (f : Option Span) (e : Span) (sc : Scope) → IsApart l → last_literal (at l f e sc) ≡ Ok (None, at l f e sc)
 unfolding last_literal sees_lit read_lit
 not_last l f e sc a = by_literal (past_lit l) refl
   where
@@ -223,7 +223,7 @@ not_last l f e sc a = by_literal (past_lit l) refl
         (link _ (ap (goes_on end_of (expected lit_name (at l None e sc)) (at l None e sc)) h) refl))
         ∙ ap (λ (b : Bool). if b then Ok (Some q.0, advanced (at l f e sc) (at q.1 None (end_of q.0) sc)) else Ok (None, at l f e sc)) g
 
-last_there : (x : Lit) (l : Toks) (f : Option Span) (e sc : Span) (k : Span) → sees_lit l ≡ true → read_lit (at l None e sc) ≡ Ok (x, at done None k sc) → last_literal (at l f e sc) ≡ Ok (Some x, at done (first_of f None) k sc)
+last_there : (x : Lit) (l : Toks) (f : Option Span) (e : Span) (sc : Scope) (k : Span) → sees_lit l ≡ true → read_lit (at l None e sc) ≡ Ok (x, at done None k sc) → last_literal (at l f e sc) ≡ Ok (Some x, at done (first_of f None) k sc)
 unfolding last_literal is_done
 last_there x l f e sc k s h = ap (if_last (at l f e sc)) (chosen (sees_lit l) true _ _ (at l None e sc) (Ok (Some x, at done None k sc)) s (link _ h refl))
 
@@ -261,7 +261,7 @@ module _ {X : Type 0} (reads : Place → Reader X) (spells : Place → X → Tok
       let k = other_complete x s i in
       (k.0, link (value_or reads) (not_last s.rest s.left s.last s.scope (apart x s.rest i)) k.1, k.2)
 
-  name_value_after_complete : (p : Path X) (q : Equals) (v : Expr X) (l k : Toks) (f : Option Span) (a sc : Span) → IsMark true q l k → IsValue spells true v k → Uses (name_value_after reads p) (name_value_of p q v) (at l f a sc)
+  name_value_after_complete : (p : Path X) (q : Equals) (v : Expr X) (l k : Toks) (f : Option Span) (a : Span) (sc : Scope) → IsMark true q l k → IsValue spells true v k → Uses (name_value_after reads p) (name_value_of p q v) (at l f a sc)
   unfolding name_value_after
   name_value_after_complete p q v l k f a sc i j =
       let w = mark_complete true {n = 11} {k = 1} refl (omega arith) q l k f a sc i in
@@ -323,19 +323,19 @@ module _ {X : Type 0} (reads : Place → Reader X) (spells : Place → X → Tok
 
   -- ---- attributes
 
-  content_complete : (x : Meta X) (s : DelimSpan) (c r : Toks) (f : Option Span) (a sc : Span) → IsMeta spells true x c → content reads (at (group Bracket s c r) f a sc) ≡ Ok ((groups.bracket s, x), at r f s.closing sc)
+  content_complete : (x : Meta X) (s : DelimSpan) (c r : Toks) (f : Option Span) (a : Span) (sc : Scope) → IsMeta spells true x c → content reads (at (group Bracket s c r) f a sc) ≡ Ok ((groups.bracket s, x), at r f s.closing sc)
   unfolding content
   content_complete x s c r f a sc i =
       let k = meta_complete x (inside s c) i in
       link _ (reads_inside groups.bracket_name (meta reads) x s c r k.0 f a sc k.1 (uses_none (inside s c) k.0 refl k.2)) refl
 
-  pub one_outer_complete : (a : Attribute X) (l r : Toks) (f : Option Span) (e sc : Span) → IsOuter spells true a l r → Reads_to (one_outer reads) a l r f e sc
+  pub one_outer_complete : (a : Attribute X) (l r : Toks) (f : Option Span) (e : Span) (sc : Scope) → IsOuter spells true a l r → Reads_to (one_outer reads) a l r f e sc
   unfolding one_outer
   one_outer_complete a l r f e sc (an_outer {p = p} {s = s} {x = x} {c = c} i j) =
       let w = mark_complete true {n = 21} {k = 1} refl (omega arith) p l (group Bracket s c r) f e sc i in
       record { last = s.closing; reads = link _ w.reads (link _ (content_complete x s c r f w.last sc j) refl) }
 
-  pub one_inner_complete : (a : Attribute X) (l r : Toks) (f : Option Span) (e sc : Span) → IsInner spells true a l r → Reads_to (one_inner reads) a l r f e sc
+  pub one_inner_complete : (a : Attribute X) (l r : Toks) (f : Option Span) (e : Span) (sc : Scope) → IsInner spells true a l r → Reads_to (one_inner reads) a l r f e sc
   unfolding one_inner
   one_inner_complete a l r f e sc (an_inner {p = p} {b = b} {s = s} {x = x} {m = n} {c = c} i k j) =
       let w = mark_complete true {n = 21} {k = 1} refl (omega arith) p l n f e sc i in
@@ -367,8 +367,8 @@ module _ {X : Type 0} (reads : Place → Reader X) (spells : Place → X → Tok
 -- ---- lists, up to where the test ends
 
 module _ {A : Type 0} (Is : A → Toks → Toks → Type 0) (goes : Toks → Bool) (one : Reader A) (seen : (a : A) (l r : Toks) → Is a l r → goes l ≡ true) (less : (a : A) (l r : Toks) → Is a l r → size r < size l)
-    (complete : (a : A) (l r : Toks) (f : Option Span) (e sc : Span) → Is a l r → Reads_to one a l r f e sc) where
-  many_from_complete : (n : ℕ) (all : List A) (l r : Toks) (f : Option Span) (e sc : Span) → size l < n → AreAll Is all l r → goes r ≡ false → Reads_to (many_from goes one n) all l r f e sc
+    (complete : (a : A) (l r : Toks) (f : Option Span) (e : Span) (sc : Scope) → Is a l r → Reads_to one a l r f e sc) where
+  many_from_complete : (n : ℕ) (all : List A) (l r : Toks) (f : Option Span) (e : Span) (sc : Scope) → size l < n → AreAll Is all l r → goes r ≡ false → Reads_to (many_from goes one n) all l r f e sc
   many_from_complete zero all l r f e sc h i g = absurd (omega (arith, h))
   many_from_complete (suc n) all l r f e sc h no_more g = record { last = e; reads = chosen (goes r) false _ _ (at r f e sc) _ g refl }
   many_from_complete (suc n) all l r f e sc h (one_more {a = a} {all = more} {m = m} i k) g =
@@ -377,6 +377,6 @@ module _ {A : Type 0} (Is : A → Toks → Toks → Type 0) (goes : Toks → Boo
       let u = many_from_complete n more m r f w.last sc (omega (arith, h, d)) k g in
       record { last = u.last; reads = chosen (goes l) true _ _ (at l f e sc) _ (seen a l m i) (link _ w.reads (link _ u.reads refl)) }
 
-  pub many_complete : (all : List A) (l r : Toks) (f : Option Span) (e sc : Span) → AreAll Is all l r → goes r ≡ false → Reads_to (many goes one) all l r f e sc
+  pub many_complete : (all : List A) (l r : Toks) (f : Option Span) (e : Span) (sc : Scope) → AreAll Is all l r → goes r ≡ false → Reads_to (many goes one) all l r f e sc
   unfolding many
   many_complete all l r f e sc i g = let k = many_from_complete (suc (size l)) all l r f e sc (omega arith) i g in record { last = k.last; reads = k.reads }

@@ -9,7 +9,7 @@ use Rattle.token_core.specs.Refusal.{Refusal}
 use Rattle.token_core.specs.Toks.{Bytes, Toks, done, word, mark, lit, group, enter, leave}
 use Rattle.token_core.specs.Rebuilt.{Visible}
 use Rattle.token_core.specs.Front.{front}
-use Rattle.token_core.specs.Stream.{Stream}
+use Rattle.token_core.specs.Stream.{Stream, Scope}
 use Rattle.token_core.specs.Reads.{Reader, Outcome, as_group, past, opened, same_delimiter, open_group, inside, expected, closing, in_group, finished, leaves, first_of, is_done}
 use Rattle.token_core.proofs.Turns.{chain, same_pair}
 use Rattle.token_core.proofs.Took.{at}
@@ -32,7 +32,7 @@ bracket_is Brace e = cc
 bracket_is Bracket e = refl
 bracket_is d.None e = cc
 
-opened_if : (x : Delimiter) (p : DelimSpan) (c k : Toks) (f : Option Span) (e sc : Span) (r : Refusal) (g : DelimSpan × Stream) (t : Stream) (b : Bool) → same_delimiter x Bracket ≡ b →
+opened_if : (x : Delimiter) (p : DelimSpan) (c k : Toks) (f : Option Span) (e : Span) (sc : Scope) (r : Refusal) (g : DelimSpan × Stream) (t : Stream) (b : Bool) → same_delimiter x Bracket ≡ b →
     ◌≡◌ {A = Outcome (DelimSpan × Stream)} (if b then Ok ((p, inside p c), at k f p.closing sc) else Err r) (Ok (g, t)) → Opened (at (group x p c k) f e sc) t g
 opened_if x p c k f e sc r g t true h i =
     let q = same_pair (p, inside p c) g (at k f p.closing sc) t i in
@@ -44,7 +44,7 @@ opened_if x p c k f e sc r g t true h i =
     }
 opened_if x p c k f e sc r g t false h i = cc
 
-opened_at : (name : Bytes) (l : Toks) (f : Option Span) (e sc : Span) (g : DelimSpan × Stream) (t : Stream) → Visible l → open_group Bracket name (at l f e sc) ≡ Ok (g, t) → Opened (at l f e sc) t g
+opened_at : (name : Bytes) (l : Toks) (f : Option Span) (e : Span) (sc : Scope) (g : DelimSpan × Stream) (t : Stream) → Visible l → open_group Bracket name (at l f e sc) ≡ Ok (g, t) → Opened (at l f e sc) t g
 unfolding open_group
 opened_at name done f e sc g t v h = cc
 opened_at name (word j k) f e sc g t v h = cc
@@ -108,15 +108,15 @@ pub first-none : (f : Option Span) → first_of f None ≡ f
 first-none None = refl
 first-none (Some a) = refl
 
-opens_bracket : (name : Bytes) (p : DelimSpan) (c r : Toks) (f : Option Span) (e sc : Span) → open_group Bracket name (at (group Bracket p c r) f e sc) ≡ Ok ((p, inside p c), at r f p.closing sc)
+opens_bracket : (name : Bytes) (p : DelimSpan) (c r : Toks) (f : Option Span) (e : Span) (sc : Scope) → open_group Bracket name (at (group Bracket p c r) f e sc) ≡ Ok ((p, inside p c), at r f p.closing sc)
 unfolding open_group
 opens_bracket name p c r f e sc = refl
 
-finishes : (u : Stream) (r : Toks) (f : Option Span) (e sc : Span) → leaves u ≡ None → finished u (at r f e sc) ≡ at r f e sc
+finishes : (u : Stream) (r : Toks) (f : Option Span) (e : Span) (sc : Scope) → leaves u ≡ None → finished u (at r f e sc) ≡ at r f e sc
 unfolding finished
 finishes u r f e sc h = ap (λ z. at r (first_of f z) e sc) h ∙ ap (λ z. at r z e sc) (first-none f)
 
-pub reads_inside : {A : Type 0} (name : Bytes) (p : Reader A) (a : A) (x : DelimSpan) (c r : Toks) (u : Stream) (f : Option Span) (e sc : Span) → p (inside x c) ≡ Ok (a, u) → leaves u ≡ None →
+pub reads_inside : {A : Type 0} (name : Bytes) (p : Reader A) (a : A) (x : DelimSpan) (c r : Toks) (u : Stream) (f : Option Span) (e : Span) (sc : Scope) → p (inside x c) ≡ Ok (a, u) → leaves u ≡ None →
     in_group Bracket name p (at (group Bracket x c r) f e sc) ≡ Ok ((x, a), at r f x.closing sc)
 reads_inside name p a x c r u f e sc h k =
     link (λ g. λ s. closing g.0 s (p g.1)) (opens_bracket name x c r f e sc)
