@@ -501,14 +501,14 @@ fn attribute(meta: Meta<u8>, style: AttrStyle) -> Attribute<u8> {
 /// The metas of a path: alone, with a list of `x y` and with a value.
 fn metas(alloc: Global, text: &str) -> Result<[Meta<u8>; 3], Error> {
     let tokens = tokens_of(alloc, text)?;
-    let path = read_all_with(ModStyle::<u8>::new(), alloc, &tokens)?;
+    let path = read_all_with(alloc, ModStyle::<u8>::new(), &tokens)?;
     let list = MetaList {
-        path: read_all_with(ModStyle::<u8>::new(), alloc, &tokens)?,
+        path: read_all_with(alloc, ModStyle::<u8>::new(), &tokens)?,
         delimiter: MacroDelimiter::Paren(Paren { span: place() }),
         tokens: tokens_of(alloc, "x y")?,
     };
     let value = MetaNameValue {
-        path: read_all_with(ModStyle::<u8>::new(), alloc, &tokens)?,
+        path: read_all_with(alloc, ModStyle::<u8>::new(), &tokens)?,
         eq_token: Eq {
             spans: [Span::new(40, 41)],
         },
