@@ -110,7 +110,6 @@ fn streams_know_what_follows(rt: HostRuntime) -> Result<(), Fail> {
 
 /// The trees from a position up to the second of a group that stands after the first tree, and from there to the end of the tree
 /// after the group.
-#[tactic(auto, using(crate::proofs::Places::positions))]
 fn cut(alloc: Global, begin: &Cursor<'_>) -> Result<Option<(TokenStream, TokenStream)>, Fail> {
     let Some((_, group)) = begin.tree() else {
         return Ok(None);
