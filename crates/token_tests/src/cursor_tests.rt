@@ -99,7 +99,6 @@ fn streams_know_what_follows(rt: HostRuntime) {
 
 /// The trees from a position up to the second of a group that stands after the first tree, and from there to the end of the tree
 /// after the group.
-#[tactic(auto, using(token_core::proofs::Places::positions))]
 fn cut(
     alloc: Global,
     begin: &Cursor<'_>,

@@ -9,6 +9,7 @@ use Rattle.token_core.specs.Toks.{Toks, mark, group}
 use Rattle.token_core.specs.Trees.{punct, toks}
 use Rattle.token_core.specs.Rebuilt.{stream_of}
 use Rattle.token_core.specs.Reads.{sees_mark, read_mark, delimited}
+use Rattle.token_core.specs.Stream.{Scope}
 use Rattle.token_core.proofs.Rebuilds.{stream_of-toks}
 use Rattle.token_core.proofs.Took.{at}
 use Rattle.syn_mid.specs.declared.mac.Macro.{Macro}

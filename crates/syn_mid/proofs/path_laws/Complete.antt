@@ -8,6 +8,7 @@ use Rattle.token_core.specs.Toks.{Toks, word, mark}
 use Rattle.token_core.specs.Trees.{punct}
 use Rattle.token_core.specs.Loops.{size, joined_from, listed}
 use Rattle.token_core.specs.Reads.{sees_word, sees_mark, read_word, next_word, read_mark, any_text, ident_name}
+use Rattle.token_core.specs.Stream.{Scope}
 use Rattle.token_core.proofs.Took.{at}
 use Rattle.token_core.proofs.Steps.{link, chosen, Reads_to}
 use Rattle.syn_mid.specs.declared.path.Path.{Path}
