@@ -3,7 +3,7 @@ use Rattle.std.specs.Str.{bytes_eq}
 use Rattle.std.proofs.lemmas.Slice.Eq.{bytes_eq-Decides}
 use Rattle.std.proofs.lemmas.Bool.{eqb-true}
 use Rattle.std.specs.Prelude.{not, ◌&&◌, ◌||◌}
-use Rattle.std.proofs.Common.{◌≡◌, ℕ, zero, suc, ◌<◌, ◌≤◌, Bool, true, false, ◌==◌, if◌then◌else◌, List, [], ◌∷◌, Option, Some, None, is_some, Ok, Err, refl, sym, ◌∙◌, ap, subst, arith}
+use Rattle.std.proofs.Common.{◌≡◌, ℕ, zero, suc, ◌<◌, Bool, true, false, ◌==◌, if◌then◌else◌, List, [], ◌∷◌, Option, Some, None, is_some, Ok, refl, sym, ◌∙◌, ap, subst, arith}
 use Rattle.token_core.specs.declared.lit.Lit.{Lit}
 use Rattle.token_core.specs.declared.lit.Lit.TheVariants as v
 use Rattle.token_core.specs.declared.span.Span.{Span}
@@ -14,7 +14,6 @@ use Rattle.token_core.specs.declared.tree.Delimiter.TheVariants.{Bracket}
 use Rattle.token_core.specs.declared.tree.Ident.{Ident}
 use Rattle.token_core.specs.declared.tree.LitKind.{LitKind}
 use Rattle.token_core.specs.declared.tree.LitKind.TheVariants as kind
-use Rattle.token_core.specs.declared.tree.Literal.{Literal}
 use Rattle.token_core.specs.declared.tree.Punct.{Punct}
 use Rattle.token_core.specs.declared.tree.Spacing.{Spacing}
 use Rattle.token_core.specs.declared.tree.TokenStream.{TokenStream}
@@ -27,17 +26,15 @@ use Rattle.token_core.specs.Marks.{chars_of}
 use Rattle.token_core.specs.Lits as lits
 use Rattle.token_core.specs.Lits.{sees_lit, read_lit, past_lit, lit_at, past_bool, past_minus, past_number, next_lit, lit_name, end_of, true_text, false_text}
 use Rattle.token_core.specs.Loops.{size}
-use Rattle.token_core.specs.Clear.{Apart, is_glued}
+use Rattle.token_core.specs.Clear.{is_glued}
 use Rattle.token_core.specs.Stream.{Stream, Scope}
-use Rattle.token_core.specs.Reads.{Reader, Outcome, read_word, next_word, any_text, ident_name, optional, forked, advanced, is_done, leaves, first_of, inside, in_group, sees_mark, sees_group, sees_word, after_one, after_front, after_mark, after_quote, meets, expected, goes_on, here, past_next, past_mark, three, is_joint, as_punct, as_lit, as_word, ◌>>=◌}
-use Rattle.token_core.specs.Spellings.{IsLit, IsMark, is_mark, AreChars, last_char, more_chars}
+use Rattle.token_core.specs.Reads.{Reader, read_word, next_word, any_text, ident_name, optional, advanced, is_done, leaves, first_of, inside, sees_mark, sees_group, sees_word, after_one, after_front, after_mark, after_quote, meets, expected, goes_on, here, past_next, past_mark, three, is_joint, as_punct, as_lit, as_word, ◌>>=◌}
+use Rattle.token_core.specs.Spellings.{IsMark, is_mark, AreChars, last_char}
 use Rattle.token_core.proofs.LitSpells.{lit_complete, lit_seen}
 use Rattle.token_core.proofs.MarkSpells.{mark_complete, mark_seen, mark_size, longer_unseen}
 use Rattle.token_core.proofs.Steps.{link, chosen, Reads_to}
 use Rattle.token_core.proofs.Took.{at, seen_word}
-use Rattle.syn_mid.specs.declared.attr.AttrStyle.TheVariants as y
 use Rattle.syn_mid.specs.declared.attr.Meta.{Meta}
-use Rattle.syn_mid.specs.declared.attr.Meta.TheVariants as m
 use Rattle.syn_mid.specs.declared.attr.MetaList.{MetaList}
 use Rattle.syn_mid.specs.declared.attr.MetaNameValue.{MetaNameValue}
 use Rattle.syn_mid.specs.declared.mac.MacroDelimiter.{MacroDelimiter}
@@ -45,16 +42,14 @@ use Rattle.syn_mid.specs.declared.path.Path.{Path}
 use Rattle.syn_mid.specs.declared.path.PathSegment.{PathSegment}
 use Rattle.syn_mid.specs.declared.supplied.Expr.{Expr}
 use Rattle.syn_mid.specs.declared.supplied.Expr.TheVariants as e
-use Rattle.syn_mid.specs.Supplied.{Place, Value, UsesUp, IsApart, is_number, is_truth, lone_number, lone_literal, attribute_ahead}
-use Rattle.syn_mid.specs.mac.Macros.{Bang}
-use Rattle.syn_mid.specs.mac.Reading.{bang, body}
+use Rattle.syn_mid.specs.Supplied.{Place, Value, UsesUp, IsApart, is_number, lone_number, lone_literal, attribute_ahead}
 use Rattle.syn_mid.specs.mac.Spelling.{Delimits, in_paren, in_brace, in_bracket}
-use Rattle.syn_mid.specs.path.Reading.{sees_sep, mod_style}
+use Rattle.syn_mid.specs.path.Reading.{sees_sep}
 use Rattle.syn_mid.specs.path.Paths.{Sep}
 use Rattle.syn_mid.specs.path.Spelling.{is_mod_word, IsLeading, no_leading, leading, AreModSegments, last_segment, more_segments, IsModPath}
 use Rattle.syn_mid.specs.path.Spelling as paths
-use Rattle.syn_mid.specs.attr.Attrs.{Pound, Equals, Attribute, word_path, list_of, name_value_of, literal, attribute_of}
-use Rattle.syn_mid.specs.attr.Reading.{sees_unsafe, sees_body, sees_equals, sees_pound, sees_attribute, sees_inner, pound, equals, if_last, last_literal, many_from, many, meta_path, list_after, list, other, value_or, value, name_value_after, name_value, meta_after, meta, content, one_outer, one_inner}
+use Rattle.syn_mid.specs.attr.Attrs.{Pound, Equals, Attribute, list_of, name_value_of}
+use Rattle.syn_mid.specs.attr.Reading.{sees_unsafe, sees_body, sees_equals, sees_pound, sees_attribute, sees_inner, if_last, last_literal, many_from, many, meta_path, list_after, list, other, value_or, value, name_value_after, name_value, meta_after, meta, content, one_outer, one_inner}
 use Rattle.syn_mid.specs.attr.Spelling.{is_unsafe, AreAll, no_more, one_more, IsMetaPath, unsafe_path, mod_path, IsMetaList, a_meta_list, IsValue, a_literal, supplied, IsNameValue, a_name_value, IsMeta, a_path, a_list, a_value, IsOuter, an_outer, IsInner, an_inner}
 use Rattle.syn_mid.proofs.path_laws.Complete.{path_complete}
 use Rattle.syn_mid.proofs.mac_laws.Complete.{reads_body}

@@ -1,5 +1,5 @@
 -- The content of an attribute in its brackets, where the read answers.
-use Rattle.std.proofs.Common.{◌≡◌, Bool, true, false, if◌then◌else◌, Option, Some, None, Ok, Err, refl, sym, ◌∙◌, ap, subst}
+use Rattle.std.proofs.Common.{◌≡◌, Bool, true, false, if◌then◌else◌, Option, Some, None, Ok, Err, refl, sym, ◌∙◌, ap}
 use Rattle.token_core.specs.declared.span.Span.{Span}
 use Rattle.token_core.specs.declared.span.DelimSpan.{DelimSpan}
 use Rattle.token_core.specs.declared.tree.Delimiter.{Delimiter}
@@ -8,9 +8,8 @@ use Rattle.token_core.specs.declared.tree.Delimiter.TheVariants as d
 use Rattle.token_core.specs.Refusal.{Refusal}
 use Rattle.token_core.specs.Toks.{Bytes, Toks, done, word, mark, lit, group, enter, leave}
 use Rattle.token_core.specs.Rebuilt.{Visible}
-use Rattle.token_core.specs.Front.{front}
 use Rattle.token_core.specs.Stream.{Stream, Scope}
-use Rattle.token_core.specs.Reads.{Reader, Outcome, as_group, past, opened, same_delimiter, open_group, inside, expected, closing, in_group, finished, leaves, first_of, is_done}
+use Rattle.token_core.specs.Reads.{Reader, Outcome, same_delimiter, open_group, inside, expected, closing, in_group, finished, leaves, first_of}
 use Rattle.token_core.proofs.Turns.{chain, same_pair}
 use Rattle.token_core.proofs.Took.{at}
 use Rattle.token_core.proofs.Steps.{link}

@@ -1,6 +1,6 @@
 -- The reads of metas and attributes meet the laws of their grammars, over the laws of a supplied subtree.
 use Rattle.std.specs.Prelude.{IfOk}
-use Rattle.std.proofs.Common.{◌≡◌, List, Option, None, Result, Ok, Err, true, false, refl, subst}
+use Rattle.std.proofs.Common.{◌≡◌, List, None, Result, Ok, Err, true, false, refl, subst}
 use Rattle.token_core.specs.Toks.{Toks, done}
 use Rattle.token_core.specs.Prints.{Print}
 use Rattle.token_core.specs.Refusal.{Refusal}
@@ -13,8 +13,6 @@ use Rattle.syn_mid.specs.declared.attr.MetaList.{MetaList}
 use Rattle.syn_mid.specs.Supplied.{Place, Value, UsesUp, Reprints, IsApart}
 use Rattle.syn_mid.specs.attr.Attrs.{Attribute}
 use Rattle.syn_mid.specs.attr.Grammars as grammars
-use Rattle.syn_mid.specs.attr.Normal as normal
-use Rattle.syn_mid.specs.attr.Printing.{attribute}
 use Rattle.syn_mid.specs.attr.Reading as reading
 use Rattle.syn_mid.specs.attr.Reading.{sees_pound, sees_inner, one_outer, one_inner}
 use Rattle.syn_mid.specs.attr.Spelling.{AreAll, IsMetaList, IsOuter, IsInner}

@@ -1,11 +1,10 @@
 -- The print of a meta or of attributes spells their normal form clearly.
-use Rattle.std.proofs.Common.{◌≡◌, Bool, true, false, List, [], ◌∷◌, ◌++◌, map, Option, None, Ok, refl, sym, ◌∙◌, ap, subst}
-use Rattle.token_core.specs.declared.lit.Lit.{Lit}
+use Rattle.std.proofs.Common.{◌≡◌, Bool, true, false, List, [], ◌∷◌, ◌++◌, Ok, refl, sym, ◌∙◌, ap, subst}
 use Rattle.token_core.specs.declared.span.DelimSpan.{DelimSpan}
 use Rattle.token_core.specs.declared.tree.Delimiter.{Delimiter}
 use Rattle.token_core.specs.declared.tree.Delimiter.TheVariants.{Bracket}
 use Rattle.token_core.specs.declared.tree.TokenStream.{TokenStream}
-use Rattle.token_core.specs.Toks.{Toks, done, word, group}
+use Rattle.token_core.specs.Toks.{Toks, done, group}
 use Rattle.token_core.specs.Trees.{row, toks, stream_of_trees}
 use Rattle.token_core.specs.Groups as groups
 use Rattle.token_core.specs.Lits as lits
@@ -15,7 +14,6 @@ use Rattle.token_core.specs.Rebuilt.{Visible}
 use Rattle.token_core.specs.Spans.{none}
 use Rattle.token_core.specs.Stream.{Stream, started}
 use Rattle.token_core.specs.Reads.{Reader}
-use Rattle.token_core.specs.Spellings.{IsLit, IsMark}
 use Rattle.token_core.proofs.LitSpells.{lit_again, lit_whole}
 use Rattle.token_core.proofs.MarkSpells.{mark_again, mark_visible, mark_whole}
 use Rattle.token_core.proofs.Rebuilds.{tree-ident, visible-tree, stream-trees}
@@ -33,10 +31,10 @@ use Rattle.syn_mid.specs.declared.path.PathStyle.TheVariants.{Mod}
 use Rattle.syn_mid.specs.declared.supplied.Expr.{Expr}
 use Rattle.syn_mid.specs.declared.supplied.Expr.TheVariants as e
 use Rattle.syn_mid.specs.Supplied.{Place, Value, UsesUp, Reprints}
-use Rattle.syn_mid.specs.mac.Macros.{Bang, span_of, delimiter_of}
+use Rattle.syn_mid.specs.mac.Macros.{span_of, delimiter_of}
 use Rattle.syn_mid.specs.mac.Spelling.{Delimits}
 use Rattle.syn_mid.specs.path.Printing.{path}
-use Rattle.syn_mid.specs.attr.Attrs.{Pound, Equals, Attribute, word_path, list_of, name_value_of, literal, attribute_of}
+use Rattle.syn_mid.specs.attr.Attrs.{Equals, Attribute, word_path, list_of, name_value_of, literal, attribute_of}
 use Rattle.syn_mid.specs.attr.Normal as normal
 use Rattle.syn_mid.specs.attr.Printing.{list, meta, value, name_value, attribute, attributes}
 use Rattle.syn_mid.specs.attr.Spelling.{AreAll, no_more, one_more, IsMetaPath, unsafe_path, mod_path, IsMetaList, a_meta_list, IsValue, a_literal, supplied, IsNameValue, a_name_value, IsMeta, a_path, a_list, a_value, IsOuter, an_outer, IsInner, an_inner}

@@ -29,8 +29,7 @@ use Rattle.syn_mid.specs.declared.supplied.Expr.TheVariants as e
 use Rattle.syn_mid.specs.Supplied.{Place, Value}
 use Rattle.syn_mid.specs.mac.Macros.{Bang}
 use Rattle.syn_mid.specs.mac.Reading.{bang, body}
-use Rattle.syn_mid.specs.path.Reading.{mod_style}
-use Rattle.syn_mid.specs.attr.Attrs.{Pound, Equals, Attribute, word_path, list_of, name_value_of, literal, attribute_of}
+use Rattle.syn_mid.specs.attr.Attrs.{Pound, Attribute, word_path, list_of, name_value_of, literal, attribute_of}
 use Rattle.syn_mid.specs.attr.Reading.{sees_unsafe, sees_body, sees_equals, sees_attribute, pound, equals, if_last, last_literal, many_from, many, meta_path, list_after, list, other, value_or, value, name_value_after, name_value, meta_after, meta, content, one_outer, one_inner}
 use Rattle.syn_mid.specs.attr.Spelling.{is_unsafe, AreAll, no_more, one_more, IsMetaPath, unsafe_path, mod_path, IsMetaList, a_meta_list, IsValue, a_literal, supplied, IsNameValue, a_name_value, IsMeta, a_path, a_list, a_value, IsOuter, an_outer, IsInner, an_inner}
 use Rattle.syn_mid.proofs.path_laws.Sound.{path_sound, visible_path}

@@ -1,5 +1,5 @@
 -- A read of an attribute takes tokens.
-use Rattle.std.proofs.Common.{◌≡◌, ◌<◌, ◌≤◌, Bool, true, false, if◌then◌else◌, Option, Some, None, Ok, Err, refl, sym, ◌∙◌, ap, subst, arith}
+use Rattle.std.proofs.Common.{◌≡◌, ◌<◌, ◌≤◌, Bool, true, false, if◌then◌else◌, Option, Some, None, Ok, Err, refl, sym, subst, arith}
 use Rattle.token_core.specs.declared.span.DelimSpan.{DelimSpan}
 use Rattle.token_core.specs.declared.token.Bracket.{Bracket}
 use Rattle.token_core.specs.declared.tree.Delimiter.{Delimiter}
@@ -12,7 +12,7 @@ use Rattle.token_core.specs.Loops.{size}
 use Rattle.token_core.specs.Stream.{Stream}
 use Rattle.token_core.specs.Reads.{Reader, Outcome, as_group, opened, same_delimiter, open_group, inside, past, expected, finished, in_group}
 use Rattle.token_core.proofs.Suffixes.{suffix_group}
-use Rattle.token_core.proofs.Turns.{chain, same_pair, size_suffix, mark_keeps}
+use Rattle.token_core.proofs.Turns.{chain, same_pair, size_suffix}
 use Rattle.token_core.proofs.Took.{mapped}
 use Rattle.token_core.proofs.Terminations.{named_takes}
 use Rattle.syn_mid.specs.declared.attr.Meta.{Meta}

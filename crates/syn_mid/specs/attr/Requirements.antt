@@ -16,7 +16,7 @@ use Rattle.syn_mid.specs.declared.path.Path.{Path}
 use Rattle.syn_mid.specs.declared.supplied.Expr.{Expr}
 use Rattle.syn_mid.specs.mac.Macros.{span_of}
 use Rattle.syn_mid.specs.path.Paths.{path_text, first_span, last_span}
-use Rattle.syn_mid.specs.attr.Attrs.{Attribute, Equals}
+use Rattle.syn_mid.specs.attr.Attrs.{Attribute}
 
 -- where a mark begins
 abbrev pub begins : List Span → Span
