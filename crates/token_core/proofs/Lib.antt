@@ -8,6 +8,7 @@ pub mod Places
 pub mod Positions
 pub mod Cuts
 pub mod Bares
+pub mod Takes
 pub mod Terminations
 pub mod TokenNames
 pub mod Choices

@@ -321,8 +321,9 @@ module _ {X : Type 0} (reads : Place → Reader X) (spells : Place → X → Tok
   content_complete : (x : Meta X) (s : DelimSpan) (c r : Toks) (f : Option Span) (a : Span) (sc : Scope) → IsMeta spells true x c → content reads (at (group Bracket s c r) f a sc) ≡ Ok ((groups.bracket s, x), at r f s.closing sc)
   unfolding content
   content_complete x s c r f a sc i =
-      let k = meta_complete x (inside s c) i in
-      link _ (reads_inside groups.bracket_name (meta reads) x s c r k.0 f a sc k.1 (uses_none (inside s c) k.0 refl k.2)) refl
+      let h = inside (at (group Bracket s c r) f a sc) s c r in
+      let k = meta_complete x h i in
+      link _ (reads_inside groups.bracket_name (meta reads) x s c r k.0 f a sc k.1 (uses_none h k.0 refl k.2)) refl
 
   pub one_outer_complete : (a : Attribute X) (l r : Toks) (f : Option Span) (e : Span) (sc : Scope) → IsOuter spells true a l r → Reads_to (one_outer reads) a l r f e sc
   unfolding one_outer

@@ -239,7 +239,7 @@ module _ {X : Type 0} (reads : Place → Reader X) (spells : Place → X → Tok
     ends : Stream
     is : s.rest ≡ group Bracket span tokens t.rest
     token : groups.bracket span ≡ c.0
-    answers : meta reads (inside span tokens) ≡ Ok (c.1, ends)
+    answers : meta reads (inside s span tokens t.rest) ≡ Ok (c.1, ends)
     left : t.left ≡ first_of s.left (leaves ends)
 
   took_content : (s t : Stream) (c : Brackets × Meta X) → Visible s.rest → content reads s ≡ Ok (c, t) → TookContent s t c

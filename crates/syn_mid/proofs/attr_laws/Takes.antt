@@ -14,7 +14,7 @@ use Rattle.token_core.specs.Reads.{Reader, Outcome, as_group, opened, same_delim
 use Rattle.token_core.proofs.Suffixes.{suffix_group}
 use Rattle.token_core.proofs.Turns.{chain, same_pair, size_suffix}
 use Rattle.token_core.proofs.Took.{mapped}
-use Rattle.token_core.proofs.Terminations.{named_takes}
+use Rattle.token_core.proofs.Takes.{named_takes}
 use Rattle.syn_mid.specs.declared.attr.Meta.{Meta}
 use Rattle.syn_mid.specs.declared.attr.AttrStyle.TheVariants as y
 use Rattle.syn_mid.specs.Supplied.{Place}
@@ -30,8 +30,8 @@ opened_size : (s t : Stream) (e : Refusal) (g : DelimSpan × Stream) (o : Option
 opened_size s t e g None h k = cc
 opened_size s t e g (Some p) h k = by_test (same_delimiter p.0 d.Bracket) k
   where
-    by_test : (b : Bool) → ◌≡◌ {A = Outcome (DelimSpan × Stream)} (if b then Ok ((p.1, inside p.1 p.2), past s p.3 p.1.closing) else Err e) (Ok (g, t)) → size t.rest ≤ size s.rest
-    by_test true k = subst (λ (z : Stream). size z.rest ≤ size s.rest) (same_pair (p.1, inside p.1 p.2) g (past s p.3 p.1.closing) t k).1 (h p refl)
+    by_test : (b : Bool) → ◌≡◌ {A = Outcome (DelimSpan × Stream)} (if b then Ok ((p.1, inside s p.1 p.2 p.3), past s p.3 p.1.closing) else Err e) (Ok (g, t)) → size t.rest ≤ size s.rest
+    by_test true k = subst (λ (z : Stream). size z.rest ≤ size s.rest) (same_pair (p.1, inside s p.1 p.2 p.3) g (past s p.3 p.1.closing) t k).1 (h p refl)
     by_test false k = cc
 
 open_keeps : (name : Bytes) (s t : Stream) (g : DelimSpan × Stream) → open_group d.Bracket name s ≡ Ok (g, t) → size t.rest ≤ size s.rest
