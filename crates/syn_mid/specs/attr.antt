@@ -5,3 +5,4 @@ pub mod Printing
 pub mod Normal
 pub mod Grammars
 pub mod Requirements
+pub mod Kinds

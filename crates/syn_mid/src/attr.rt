@@ -11,7 +11,9 @@ ghost use Rattle.syn_mid.specs.declared.attr.Meta.TheVariants as metas;
 ghost use Rattle.syn_mid.specs.mac.Macros.{held};
 ghost use Rattle.syn_mid.specs.meta.Turns as turns;
 ghost use Rattle.token_core.specs.Rebuilt.{Visible};
+ghost use Rattle.std.specs.Iterator.{YieldsFirstRef, item_count};
 ghost use Rattle.syn_mid.specs.attr.Grammars as grammars;
+ghost use Rattle.syn_mid.specs.attr.Kinds.{outer_of, inner_of};
 ghost use Rattle.syn_mid.specs.attr.Printing as printing;
 ghost use Rattle.syn_mid.specs.attr.Reading as reading;
 ghost use Rattle.syn_mid.specs.attr.Requirements as requirements;
@@ -22,6 +24,7 @@ use crate::meta::{ParseNestedMeta, read_properties};
 use crate::path::{Path, PathStyle, print_path, text_around};
 use crate::supplied::{Expr, ExprLit, Place, Subtree};
 use std::alloc::{AllocError, Global};
+use std::marker::Model;
 use token_core::token::{Brace, Bracket, Eq, EqEq, FatArrow, Not, Paren, Pound, Unsafe};
 use token_core::{
     ByParse, Error, ErrorKind, Ident, Items, Lit, Parse, ParseStream, Parser, Span, ToTokens,
@@ -881,4 +884,96 @@ fn refuse_equals<X>(alloc: Global, before: &str, meta: &MetaNameValue<X>) -> Err
         ),
         Err(_) => Error::out_of_memory(),
     }
+}
+
+// ---- the members of one kind
+
+/// The outer attributes of a list, over their content, in order; contracts see those that are left.
+#[derive(Drop)]
+pub struct OuterAttributesOf<'a, M> {
+    rest: &'a [AttributeOf<M>],
+}
+
+/// The outer attributes of a list, in order.
+pub type OuterAttributes<'a, X> = OuterAttributesOf<'a, Meta<X>>;
+
+impl<'a, M> Model for OuterAttributesOf<'a, M> {
+    ghost use Rattle.std.specs.Prelude.{List};
+    ghost use Rattle.syn_mid.specs.declared.attr.AttributeOf.{AttributeOf};
+
+    ghost Value = { List (AttributeOf M) };
+
+    ghost use Rattle.syn_mid.specs.attr.Kinds.{outer_of};
+
+    ghost view = { λ s. outer_of s.rest.now };
+}
+
+impl<'a, M> Iterator for OuterAttributesOf<'a, M> {
+    type Item = &'a AttributeOf<M>;
+
+    ghost next_gives = { YieldsFirstRef (λ s. s) };
+
+    ghost remaining = { item_count (λ s. s) };
+
+    fn next(&mut self) -> Option<&'a AttributeOf<M>> {
+        while let Some((first, more)) = self.rest.split_first() {
+            self.rest = more;
+            if first.style.is_outer() {
+                return Some(first);
+            }
+        }
+        None
+    }
+}
+
+/// The inner attributes of a list, over their content, in order; contracts see those that are left.
+#[derive(Drop)]
+pub struct InnerAttributesOf<'a, M> {
+    rest: &'a [AttributeOf<M>],
+}
+
+/// The inner attributes of a list, in order.
+pub type InnerAttributes<'a, X> = InnerAttributesOf<'a, Meta<X>>;
+
+impl<'a, M> Model for InnerAttributesOf<'a, M> {
+    ghost use Rattle.std.specs.Prelude.{List};
+    ghost use Rattle.syn_mid.specs.declared.attr.AttributeOf.{AttributeOf};
+
+    ghost Value = { List (AttributeOf M) };
+
+    ghost use Rattle.syn_mid.specs.attr.Kinds.{inner_of};
+
+    ghost view = { λ s. inner_of s.rest.now };
+}
+
+impl<'a, M> Iterator for InnerAttributesOf<'a, M> {
+    type Item = &'a AttributeOf<M>;
+
+    ghost next_gives = { YieldsFirstRef (λ s. s) };
+
+    ghost remaining = { item_count (λ s. s) };
+
+    fn next(&mut self) -> Option<&'a AttributeOf<M>> {
+        while let Some((first, more)) = self.rest.split_first() {
+            self.rest = more;
+            if !first.style.is_outer() {
+                return Some(first);
+            }
+        }
+        None
+    }
+}
+
+/// The outer attributes of a list (`FilterAttrs::outer`).
+pub fn outer<X>(attrs: &[Attribute<X>]) -> OuterAttributes<'_, X>
+    ensures { result ≡ outer_of attrs.now }
+{
+    OuterAttributes { rest: attrs }
+}
+
+/// The inner attributes of a list (`FilterAttrs::inner`).
+pub fn inner<X>(attrs: &[Attribute<X>]) -> InnerAttributes<'_, X>
+    ensures { result ≡ inner_of attrs.now }
+{
+    InnerAttributes { rest: attrs }
 }

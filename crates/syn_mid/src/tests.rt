@@ -1,5 +1,6 @@
 //! Paths and macro calls read from lists made by hand, and what they print; what attributes made by hand are asked for.
 
+use crate::attr::{inner, outer};
 use crate::mac::parse_macro;
 use crate::{
     AngleBracketedGenericArguments, AttrStyle, Attribute, Expr, Macro, MacroDelimiter, Meta,
@@ -9,6 +10,7 @@ use crate::{
 use std::alloc::{AllocError, Global};
 use std::fmt::Write;
 use std::marker::PhantomData;
+use std::process::Abort;
 use std::test::Fail;
 use token_core::token::{Brace, Bracket, Eq, Gt, Lt, Not, Paren, PathSep, Pound};
 use token_core::{
@@ -622,5 +624,85 @@ fn reads_arguments(rt: HostRuntime) -> Result<(), Fail> {
             Err(_) => assert!(rt; false, "{text}"),
         }
     }
+    Ok(())
+}
+
+/// What was read or made; a refusal stops the test.
+fn got<T>(rt: &impl Abort, outcome: Result<T, Error>) -> T {
+    match outcome {
+        Ok(value) => value,
+        Err(error) => panic!(rt; "refused: {}", error.text()),
+    }
+}
+
+fn kinds_are(rt: &impl Abort, outcome: Result<String, AllocError>, wanted: &str) {
+    match outcome {
+        Ok(found) => assert_eq!(rt; found.as_str(), wanted),
+        Err(_) => panic!(rt; "out of memory"),
+    }
+}
+
+/// Attributes over the metas of a path, in these styles.
+fn attributes(alloc: Global, styles: [AttrStyle; 3]) -> Result<[Attribute<u8>; 3], Error> {
+    let [path, list, value] = metas(alloc, "a")?;
+    let [first, second, third] = styles;
+    Ok([
+        attribute(path, first),
+        attribute(list, second),
+        attribute(value, third),
+    ])
+}
+
+fn kind_of(attr: &Attribute<u8>) -> char {
+    match attr.meta {
+        Meta::Path(_) => 'p',
+        Meta::List(_) => 'l',
+        Meta::NameValue(_) => 'v',
+    }
+}
+
+/// The kinds of the outer attributes of a list, in order.
+fn outer_kinds(alloc: Global, attrs: &[Attribute<u8>]) -> Result<String, AllocError> {
+    let mut out = String::new(alloc);
+    for attr in outer(attrs) {
+        out.push(kind_of(attr))?;
+    }
+    Ok(out)
+}
+
+/// The kinds of the inner attributes of a list, in order.
+fn inner_kinds(alloc: Global, attrs: &[Attribute<u8>]) -> Result<String, AllocError> {
+    let mut out = String::new(alloc);
+    for attr in inner(attrs) {
+        out.push(kind_of(attr))?;
+    }
+    Ok(out)
+}
+
+#[test]
+fn gives_attributes_of_a_kind(rt: HostRuntime) -> Result<(), Fail> {
+    let bang = AttrStyle::Inner(Not::default());
+    let styles = [AttrStyle::Outer, bang, AttrStyle::Outer];
+    let attrs = got(&rt, attributes(rt.alloc(), styles));
+    kinds_are(&rt, outer_kinds(rt.alloc(), attrs.as_slice()), "pv");
+    kinds_are(&rt, inner_kinds(rt.alloc(), attrs.as_slice()), "l");
+    let attrs = got(&rt, attributes(rt.alloc(), [bang, AttrStyle::Outer, bang]));
+    kinds_are(&rt, outer_kinds(rt.alloc(), attrs.as_slice()), "l");
+    kinds_are(&rt, inner_kinds(rt.alloc(), attrs.as_slice()), "pv");
+    Ok(())
+}
+
+#[test]
+fn gives_all_attributes_or_none(rt: HostRuntime) -> Result<(), Fail> {
+    let styles = [AttrStyle::Outer, AttrStyle::Outer, AttrStyle::Outer];
+    let attrs = got(&rt, attributes(rt.alloc(), styles));
+    kinds_are(&rt, outer_kinds(rt.alloc(), attrs.as_slice()), "plv");
+    kinds_are(&rt, inner_kinds(rt.alloc(), attrs.as_slice()), "");
+    let bang = AttrStyle::Inner(Not::default());
+    let attrs = got(&rt, attributes(rt.alloc(), [bang, bang, bang]));
+    kinds_are(&rt, outer_kinds(rt.alloc(), attrs.as_slice()), "");
+    kinds_are(&rt, inner_kinds(rt.alloc(), attrs.as_slice()), "plv");
+    kinds_are(&rt, outer_kinds(rt.alloc(), &[]), "");
+    kinds_are(&rt, inner_kinds(rt.alloc(), &[]), "");
     Ok(())
 }
