@@ -4,6 +4,8 @@
 ghost use Rattle.std.specs.Prelude.{◌≡◌, IfErr};
 ghost use Rattle.synmid.specs.declared.fault.Fault.{Fault};
 
+#[cfg(test)]
+mod attr_tests;
 mod channel;
 mod fault;
 #[cfg(test)]
