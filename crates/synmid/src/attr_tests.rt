@@ -28,7 +28,7 @@ fn told(alloc: Global, answer: Result<String, Error>) -> Result<String, Error> {
 }
 
 /// It answers this; of a refusal, its text and place.
-fn says(rt: &impl Abort, alloc: Global, answer: Result<String, Error>, wanted: &str) {
+pub(crate) fn says(rt: &impl Abort, alloc: Global, answer: Result<String, Error>, wanted: &str) {
     match told(alloc, answer) {
         Ok(text) => assert_eq!(rt; text.trim(), wanted),
         Err(_) => panic!(rt; "out of memory"),

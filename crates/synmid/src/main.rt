@@ -9,6 +9,8 @@ mod attr_tests;
 mod channel;
 mod fault;
 #[cfg(test)]
+mod form_tests;
+#[cfg(test)]
 mod nested_tests;
 mod reader;
 mod run;
