@@ -37,6 +37,7 @@ fn parse_form(alloc: Global, input: &mut ParseStream<'_>) -> Result<Form, Error>
     Ok(form)
 }
 
+#[tactic(auto, using(crate::proofs::Idents::idents))]
 fn add_forms(alloc: Global, attrs: &[Attribute<Sample>], form: &mut Form) -> Result<(), Error> {
     for attr in attrs {
         if attr.path().is_ident("form") {

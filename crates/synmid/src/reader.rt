@@ -89,6 +89,7 @@ fn reprint_attributes<P: Parser<Output = Items<Attribute<Sample>>> + Drop>(
     Ok(print_attributes(alloc, &attrs)?)
 }
 
+#[tactic(auto, using(token_core::proofs::Puts::puts))]
 fn print_attributes(
     alloc: Global,
     attrs: &Items<Attribute<Sample>>,
