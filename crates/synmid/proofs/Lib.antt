@@ -1,3 +1,4 @@
 pub mod Consumed
 pub mod Whole
 pub mod Said
+pub mod Idents

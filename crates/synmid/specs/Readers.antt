@@ -1,5 +1,5 @@
 -- The readers that a run knows by name.
-use Rattle.std.specs.Prelude.{◌≡◌, ◌≢◌, true, if◌then◌else◌, Option, Some, None, Result, Ok, Err, codes}
+use Rattle.std.specs.Prelude.{◌≡◌, ◌≢◌, true, if◌then◌else◌, List, Option, Some, None, Result, Ok, Err, codes}
 use Rattle.std.specs.Str.{bytes_eq}
 use Rattle.token_core.specs.declared.error.ErrorKind.TheVariants.{OutOfMemory}
 use Rattle.token_core.specs.declared.tree.TokenStream.{TokenStream}
@@ -14,26 +14,53 @@ use Rattle.token_core.specs.Stream.{Stream, started}
 use Rattle.token_core.specs.Reads.{Ends, Refuses}
 use Rattle.syn_mid.specs.declared.mac.Macro as mac
 use Rattle.syn_mid.specs.declared.path.Path as path
+use Rattle.syn_mid.specs.declared.attr.Meta as meta
+use Rattle.syn_mid.specs.declared.attr.MetaList as meta_list
+use Rattle.syn_mid.specs.declared.attr.MetaNameValue as name_value
+use Rattle.syn_mid.specs.Supplied.{Value}
+use Rattle.syn_mid.specs.attr.Attrs.{Attribute}
+use Rattle.syn_mid.specs.attr.Grammars as attrs
+use Rattle.syn_mid.specs.attr.Printing as printing
 use Rattle.syn_mid.specs.mac.Grammars as macs
 use Rattle.syn_mid.specs.path.Grammars as paths
+use Rattle.synmid.specs.contracts.sample.SampleSubtree.TheImpl.{reads-value, spells-value, normal-value, prints-value}
 use Rattle.synmid.specs.declared.sample.Sample.{Sample}
 use Rattle.synmid.specs.declared.reader.Reader.{Reader}
-use Rattle.synmid.specs.declared.reader.Reader.TheVariants.{Macro, ModStyle}
+use Rattle.synmid.specs.declared.reader.Reader.TheVariants.{Macro, ModStyle, Meta, MetaList, MetaNameValue, Outer, Inner}
 
 abbrev pub named : Bytes → Option Reader
 named name =
     if bytes_eq name (codes "Macro") then Some Macro
     else (if bytes_eq name (codes "Path::parse_mod_style") then Some ModStyle
-    else None)
+    else (if bytes_eq name (codes "Meta") then Some Meta
+    else (if bytes_eq name (codes "MetaList") then Some MetaList
+    else (if bytes_eq name (codes "MetaNameValue") then Some MetaNameValue
+    else (if bytes_eq name (codes "Attribute::parse_outer") then Some Outer
+    else (if bytes_eq name (codes "Attribute::parse_inner") then Some Inner
+    else None))))))
 
 -- the trees of a reader
 abbrev pub Tree : Reader → Type 0
 Tree Macro = mac.Macro Sample
 Tree ModStyle = path.Path Sample
+Tree Meta = meta.Meta Sample
+Tree MetaList = meta_list.MetaList Sample
+Tree MetaNameValue = name_value.MetaNameValue Sample
+Tree Outer = List (Attribute Sample)
+Tree Inner = List (Attribute Sample)
 
 abbrev pub grammar : (r : Reader) → Grammar (Tree r)
 grammar Macro = macs.mac
 grammar ModStyle = paths.mod_style
+grammar Meta = attrs.meta reads-value spells-value normal-value prints-value
+grammar MetaList = attrs.list
+grammar MetaNameValue = attrs.name_value reads-value spells-value normal-value prints-value
+grammar Outer = attrs.outer reads-value spells-value normal-value prints-value
+grammar Inner = attrs.inner reads-value spells-value normal-value prints-value
+
+-- what attributes print, one after the other
+abbrev pub attributes : List (Attribute Sample) → Print
+attributes = printing.attributes (prints-value Value)
 
 -- no tree of the grammar spells the tokens clearly
 abbrev pub NoTree : {A : Type 0} → Grammar A → Toks → Type 0

@@ -4,8 +4,12 @@
 ghost use Rattle.std.specs.Prelude.{◌≡◌, IfErr};
 ghost use Rattle.synmid.specs.declared.fault.Fault.{Fault};
 
+#[cfg(test)]
+mod attr_tests;
 mod channel;
 mod fault;
+#[cfg(test)]
+mod form_tests;
 #[cfg(test)]
 mod nested_tests;
 mod reader;

@@ -13,7 +13,7 @@ use token_text::lex;
 
 /// What a closure does at a property.
 #[derive(Clone, Copy)]
-enum Does {
+pub(crate) enum Does {
     /// Reads a literal after `=`, where one stands.
     Values,
     /// Reads properties in parentheses, with such values.
@@ -72,7 +72,7 @@ fn open(alloc: Global, meta: &mut ParseNestedMeta<'_, Sample>, finishes: bool) -
 }
 
 #[tactic(auto, using(token_core::proofs::Suffixes::follows))]
-fn at_property(
+pub(crate) fn at_property(
     alloc: Global,
     does: Does,
     meta: &mut ParseNestedMeta<'_, Sample>,
@@ -102,7 +102,7 @@ fn refusal(alloc: Global, meta: &ParseNestedMeta<'_, Sample>) -> Error {
     meta.error(alloc, "no")
 }
 
-fn show(answer: Result<(), Error>, out: &mut String) -> Result<(), AllocError> {
+pub(crate) fn show(answer: Result<(), Error>, out: &mut String) -> Result<(), AllocError> {
     match answer {
         Ok(()) => out.push_str(" ok")?,
         Err(error) => {
@@ -121,6 +121,17 @@ fn show(answer: Result<(), Error>, out: &mut String) -> Result<(), AllocError> {
     Ok(())
 }
 
+/// Appends the first identifier of a property's path.
+pub(crate) fn called(
+    meta: &ParseNestedMeta<'_, Sample>,
+    calls: &mut String,
+) -> Result<(), AllocError> {
+    if let Some(segment) = meta.path.segments.first() {
+        write!(calls, "{} ", segment.ident.text())?;
+    }
+    Ok(())
+}
+
 /// The paths of the properties that the closure was called at, and what the whole read answered.
 #[tactic(auto, using(token_core::proofs::Suffixes::follows))]
 fn nested(alloc: Global, does: Does, text: &str) -> Result<String, Error> {
@@ -129,9 +140,7 @@ fn nested(alloc: Global, does: Does, text: &str) -> Result<String, Error> {
     let logic = |alloc: Global, meta: &mut ParseNestedMeta<'_, Sample>| -> Result<(), Error>
         ensures { Follows meta.old.input meta.new.input }
     {
-        if let Some(segment) = meta.path.segments.first() {
-            write!(calls, "{} ", segment.ident.text())?;
-        }
+        called(meta, &mut calls)?;
         at_property(alloc, does, meta)
     };
     let answer = read_all_with(alloc, parser::<_, Sample>(logic), &tokens);

@@ -6,14 +6,19 @@ ghost use Rattle.synmid.specs.Readers as spec;
 
 use crate::sample::Sample;
 use std::alloc::{AllocError, Global};
-use syn_mid::{Macro, ModStyle};
-use token_core::{Error, Parse, Parser, ToTokens, TokenStream, read_all, read_all_with};
+use syn_mid::{Attribute, Macro, Meta, MetaList, MetaNameValue, ModStyle, ParseInner, ParseOuter};
+use token_core::{Error, Items, Parse, Parser, ToTokens, TokenStream, read_all, read_all_with};
 
 /// A reader that a run knows by name.
 #[derive(Clone, Copy, PartialEq, Eq)]
 pub enum Reader {
     Macro,
     ModStyle,
+    Meta,
+    MetaList,
+    MetaNameValue,
+    Outer,
+    Inner,
 }
 
 impl Reader {
@@ -23,6 +28,11 @@ impl Reader {
         match name {
             "Macro" => Some(Reader::Macro),
             "Path::parse_mod_style" => Some(Reader::ModStyle),
+            "Meta" => Some(Reader::Meta),
+            "MetaList" => Some(Reader::MetaList),
+            "MetaNameValue" => Some(Reader::MetaNameValue),
+            "Attribute::parse_outer" => Some(Reader::Outer),
+            "Attribute::parse_inner" => Some(Reader::Inner),
             _ => None,
         }
     }
@@ -34,6 +44,11 @@ impl Reader {
         match self {
             Reader::Macro => reprint::<Macro<Sample>>(alloc, tokens),
             Reader::ModStyle => reprint_with(alloc, ModStyle::<Sample>::new(), tokens),
+            Reader::Meta => reprint::<Meta<Sample>>(alloc, tokens),
+            Reader::MetaList => reprint::<MetaList<Sample>>(alloc, tokens),
+            Reader::MetaNameValue => reprint::<MetaNameValue<Sample>>(alloc, tokens),
+            Reader::Outer => reprint_attributes(alloc, ParseOuter::<Sample>::new(), tokens),
+            Reader::Inner => reprint_attributes(alloc, ParseInner::<Sample>::new(), tokens),
         }
     }
 }
@@ -59,6 +74,33 @@ where
 {
     let tree = read_all_with(alloc, parser, tokens)?;
     Ok(print_of(alloc, &tree)?)
+}
+
+/// Reads all of a list by a parser of attributes, and prints them.
+fn reprint_attributes<P: Parser<Output = Items<Attribute<Sample>>> + Drop>(
+    alloc: Global,
+    parser: P,
+    tokens: &TokenStream,
+) -> Result<TokenStream, Error>
+    requires { P.can_parse parser }
+    ensures { spec.Prints (P.reads parser) (P.refuses parser) (P.promise parser) spec.attributes (toks tokens.now) result }
+{
+    let attrs = read_all_with(alloc, parser, tokens)?;
+    Ok(print_attributes(alloc, &attrs)?)
+}
+
+#[tactic(auto, using(token_core::proofs::Puts::puts))]
+fn print_attributes(
+    alloc: Global,
+    attrs: &Items<Attribute<Sample>>,
+) -> Result<TokenStream, AllocError>
+    ensures { IfOk result (λ s. trees s ≡ spec.attributes attrs.now) }
+{
+    let mut out = TokenStream::new(alloc);
+    for attr in attrs.as_slice() {
+        attr.to_tokens(alloc, &mut out)?;
+    }
+    Ok(out)
 }
 
 fn print_of<T: ToTokens>(alloc: Global, tree: &T) -> Result<TokenStream, AllocError>

@@ -127,6 +127,41 @@ fn says(rt: HostRuntime) -> Result<(), Fail> {
             1,
             "error: unexpected token\n",
         ),
+        (
+            "Attribute::parse_outer",
+            "#[foo = true]",
+            0,
+            "# [foo = true]\n",
+        ),
+        (
+            "Attribute::parse_outer",
+            "#[unsafe(no_mangle)]",
+            0,
+            "# [unsafe (no_mangle)]\n",
+        ),
+        (
+            "Attribute::parse_outer",
+            "#[form(min = -1, max = 200)] #[a]",
+            0,
+            "# [form (min = - 1 , max = 200)] # [a]\n",
+        ),
+        ("Attribute::parse_outer", "", 0, "\n"),
+        (
+            "Attribute::parse_outer",
+            "#[a = #[b]]",
+            1,
+            "error: unexpected attribute inside of attribute\n",
+        ),
+        ("Attribute::parse_inner", "#![no_std]", 0, "# ! [no_std]\n"),
+        (
+            "Attribute::parse_inner",
+            "#[a]",
+            1,
+            "error: unexpected token\n",
+        ),
+        ("Meta", "a::b(c)", 0, "a :: b (c)\n"),
+        ("MetaList", "a![b]", 1, "error: expected delimiter\n"),
+        ("MetaNameValue", "a = \"b\"", 0, "a = \"b\"\n"),
         ("Foo", "a", 2, "error: unknown reader\n"),
         ("", "a", 2, "error: unknown reader\n"),
         ("Macro", "m!(", 1, "error: unclosed delimiter\n"),
@@ -148,10 +183,16 @@ fn says(rt: HostRuntime) -> Result<(), Fail> {
 }
 
 #[test]
-fn refuses_a_keyword(rt: HostRuntime) -> Result<(), Fail> {
-    let (status, written) = ran(rt.alloc(), "Path::parse_mod_style", b"try")?;
-    assert_eq!(rt; status, 1);
-    assert!(rt; written.starts_with(b"error: "));
+fn refuses(rt: HostRuntime) -> Result<(), Fail> {
+    for (name, input) in [
+        ("Path::parse_mod_style", "try"),
+        ("Attribute::parse_outer", "#[fn]"),
+        ("Attribute::parse_outer", "#[k = a b]"),
+    ] {
+        let (status, written) = ran(rt.alloc(), name, input.as_bytes())?;
+        assert_eq!(rt; status, 1, "{input}");
+        assert!(rt; written.starts_with(b"error: "), "{input}");
+    }
     Ok(())
 }
 

@@ -1,7 +1,10 @@
 use Rattle.token_core.specs.Trees.{toks}
+use Rattle.syn_mid.specs.attr.Grammars as attrs
 use Rattle.syn_mid.specs.mac.Grammars as macs
 use Rattle.syn_mid.specs.path.Grammars as paths
 use Rattle.synmid.proofs.Whole.{prints-reprints}
+use Rattle.synmid.specs.Readers.{grammar}
+use Rattle.synmid.specs.declared.reader.Reader.TheVariants as r
 use Rattle.synmid.proofs.reader.Reader.reprint.Goals as goal
 
 pub returns-in-Macro : goal.returns-in-Macro
@@ -9,3 +12,18 @@ returns-in-Macro c = rw c.in-Macro.is (prints-reprints macs.mac (toks c.args.tok
 
 pub returns-in-ModStyle : goal.returns-in-ModStyle
 returns-in-ModStyle c = rw c.in-ModStyle.is (prints-reprints paths.mod_style (toks c.args.tokens.now) c.reprint_with.result c.reprint_with.ensures)
+
+pub returns-in-Meta : goal.returns-in-Meta
+returns-in-Meta c = rw c.in-Meta.is (prints-reprints (grammar r.Meta) (toks c.args.tokens.now) c.reprint-in-Meta.result c.reprint-in-Meta.ensures)
+
+pub returns-in-MetaList : goal.returns-in-MetaList
+returns-in-MetaList c = rw c.in-MetaList.is (prints-reprints (grammar r.MetaList) (toks c.args.tokens.now) c.reprint-in-MetaList.result c.reprint-in-MetaList.ensures)
+
+pub returns-in-MetaNameValue : goal.returns-in-MetaNameValue
+returns-in-MetaNameValue c = rw c.in-MetaNameValue.is (prints-reprints (grammar r.MetaNameValue) (toks c.args.tokens.now) c.reprint-in-MetaNameValue.result c.reprint-in-MetaNameValue.ensures)
+
+pub returns-in-Outer : goal.returns-in-Outer
+returns-in-Outer c = rw c.in-Outer.is (prints-reprints (grammar r.Outer) (toks c.args.tokens.now) c.reprint_attributes-in-Outer.result c.reprint_attributes-in-Outer.ensures)
+
+pub returns-in-Inner : goal.returns-in-Inner
+returns-in-Inner c = rw c.in-Inner.is (prints-reprints (grammar r.Inner) (toks c.args.tokens.now) c.reprint_attributes-in-Inner.result c.reprint_attributes-in-Inner.ensures)

@@ -1,0 +1,295 @@
+//! Attributes read from text: what the calls on them answer, and the texts and places of their refusals.
+//!
+//! A test calls and does not branch, as docs/GATE.md says.
+
+ghost use Rattle.std.specs.Prelude.{◌<◌, length, IfOk};
+ghost use Rattle.token_core.specs.Reads.{Follows};
+ghost use Rattle.syn_mid.specs.attr.Requirements.{path_in};
+
+use crate::nested_tests::{Does, at_property, called, show};
+use crate::sample::Sample;
+use std::alloc::Global;
+use std::process::Abort;
+use syn_mid::meta::ParseNestedMeta;
+use syn_mid::{Attribute, Meta, MetaList, MetaNameValue, ParseInner, ParseOuter};
+use token_core::{
+    Error, Ident, Items, Parse, Span, ToTokens, TokenStream, read_all, read_all_with,
+};
+use token_text::{lex, text_of};
+
+/// What was answered, or the refusal's text and place.
+fn told(alloc: Global, answer: Result<String, Error>) -> Result<String, Error> {
+    let mut out = String::new(alloc);
+    match answer {
+        Ok(text) => out.push_str(text.as_str())?,
+        Err(error) => show(Err(error), &mut out)?,
+    }
+    Ok(out)
+}
+
+/// It answers this; of a refusal, its text and place.
+pub(crate) fn says(rt: &impl Abort, alloc: Global, answer: Result<String, Error>, wanted: &str) {
+    match told(alloc, answer) {
+        Ok(text) => assert_eq!(rt; text.trim(), wanted),
+        Err(_) => panic!(rt; "out of memory"),
+    }
+}
+
+fn printed<T: ToTokens>(alloc: Global, tree: &T) -> Result<String, Error> {
+    let mut out = TokenStream::new(alloc);
+    tree.to_tokens(alloc, &mut out)?;
+    Ok(text_of(alloc, &out)?)
+}
+
+fn outers(alloc: Global, text: &str) -> Result<Items<Attribute<Sample>>, Error> {
+    let tokens = lex(alloc, text)?;
+    read_all_with(alloc, ParseOuter::<Sample>::new(), &tokens)
+}
+
+fn inners(alloc: Global, text: &str) -> Result<Items<Attribute<Sample>>, Error> {
+    let tokens = lex(alloc, text)?;
+    read_all_with(alloc, ParseInner::<Sample>::new(), &tokens)
+}
+
+/// The last of some attributes that can be asked for arguments, as each that is read can.
+fn last(
+    alloc: Global,
+    read: Result<Items<Attribute<Sample>>, Error>,
+) -> Result<Attribute<Sample>, Error>
+    ensures { IfOk result (λ a. 0 < length (path_in a.meta).segments.0) }
+{
+    match read?.pop() {
+        Some(attr) => with_segments(alloc, attr),
+        None => Err(Error::new(alloc, Span::none(), "no attribute")),
+    }
+}
+
+fn with_segments(alloc: Global, attr: Attribute<Sample>) -> Result<Attribute<Sample>, Error>
+    ensures { IfOk result (λ a. 0 < length (path_in a.meta).segments.0) }
+{
+    if attr.path().segments.is_empty() {
+        Err(Error::new(alloc, Span::none(), "no segment"))
+    } else {
+        Ok(attr)
+    }
+}
+
+/// The arguments of the last attribute, read as an identifier.
+fn argument(alloc: Global, read: Result<Items<Attribute<Sample>>, Error>) -> Result<String, Error> {
+    let attr = last(alloc, read)?;
+    let ident = attr.parse_args::<Ident>(alloc)?;
+    printed(alloc, &ident)
+}
+
+#[test]
+fn arguments_stand_in_parentheses(rt: HostRuntime) {
+    let alloc = rt.alloc();
+    for (text, wanted) in [
+        ("#[a(b)]", "b"),
+        ("#[a[b]]", "b"),
+        ("#[a {b}]", "b"),
+        ("#[x] #[a(b)]", "b"),
+        ("#[a(b c)]", "unexpected token 6-7 6-7"),
+        (
+            "#[a()]",
+            "unexpected end of input, expected identifier 4-5 4-5",
+        ),
+        (
+            "#[foo]",
+            "expected attribute arguments in parentheses: #[foo(...)] 2-5 2-5",
+        ),
+        (
+            "#[unsafe]",
+            "expected attribute arguments in parentheses: #[unsafe(...)] 2-8 2-8",
+        ),
+        ("#[a = 1]", "expected parentheses: #[a(...)] 4-5 4-5"),
+        (
+            "#[::a::b = 1]",
+            "expected parentheses: #[::a::b(...)] 9-10 9-10",
+        ),
+    ] {
+        says(&rt, alloc, argument(alloc, outers(alloc, text)), wanted);
+    }
+    for (text, wanted) in [
+        ("#![a(b)]", "b"),
+        (
+            "#![::a::b]",
+            "expected attribute arguments in parentheses: #![::a::b(...)] 5-6 8-9",
+        ),
+        ("#![a = 1]", "expected parentheses: #![a(...)] 5-6 5-6"),
+    ] {
+        says(&rt, alloc, argument(alloc, inners(alloc, text)), wanted);
+    }
+}
+
+fn path_only(alloc: Global, text: &str) -> Result<String, Error> {
+    let attr = last(alloc, outers(alloc, text))?;
+    printed(alloc, attr.meta.require_path_only(alloc)?)
+}
+
+fn list(alloc: Global, text: &str) -> Result<String, Error> {
+    let attr = last(alloc, outers(alloc, text))?;
+    printed(alloc, attr.meta.require_list(alloc)?)
+}
+
+fn name_value(alloc: Global, text: &str) -> Result<String, Error> {
+    let attr = last(alloc, outers(alloc, text))?;
+    printed(alloc, attr.meta.require_name_value(alloc)?)
+}
+
+#[test]
+fn kinds_of_metas_are_required(rt: HostRuntime) {
+    let alloc = rt.alloc();
+    for (text, wanted) in [
+        ("#[a]", "a"),
+        ("#[a(b)]", "unexpected token in attribute 3-4 3-4"),
+        ("#[a = 1]", "unexpected token in attribute 4-5 4-5"),
+    ] {
+        says(&rt, alloc, path_only(alloc, text), wanted);
+    }
+    for (text, wanted) in [
+        (
+            "#[foo]",
+            "expected attribute arguments in parentheses: `foo(...)` 2-5 2-5",
+        ),
+        ("#[a::c(b)]", "a :: c (b)"),
+        ("#[a = 1]", "expected `(` 4-5 4-5"),
+    ] {
+        says(&rt, alloc, list(alloc, text), wanted);
+    }
+    for (text, wanted) in [
+        (
+            "#[foo]",
+            "expected a value for this attribute: `foo = ...` 2-5 2-5",
+        ),
+        (
+            "#[a::b]",
+            "expected a value for this attribute: `a::b = ...` 2-3 5-6",
+        ),
+        ("#[a(b)]", "expected `=` 3-4 3-4"),
+        ("#[a = 1]", "a = 1"),
+    ] {
+        says(&rt, alloc, name_value(alloc, text), wanted);
+    }
+}
+
+/// The first attribute that is refused.
+fn refused(alloc: Global, text: &str) -> Result<String, Error> {
+    drop(outers(alloc, text)?);
+    Ok(String::new(alloc))
+}
+
+#[test]
+fn attributes_are_refused(rt: HostRuntime) {
+    let alloc = rt.alloc();
+    for (text, wanted) in [
+        ("", ""),
+        (
+            "#[a = #[b]]",
+            "unexpected attribute inside of attribute 6-7 6-7",
+        ),
+        ("#[a] #![b]", "expected square brackets 6-7 6-7"),
+        ("#[a b]", "unexpected token 4-5 4-5"),
+        ("#[a == 1]", "unexpected token 4-5 4-5"),
+        ("#[a => 1]", "unexpected token 4-5 4-5"),
+        ("#[a(b) c]", "unexpected token 7-8 7-8"),
+        ("#(a)", "expected square brackets 1-2 1-2"),
+        ("a", "unexpected token 0-1 0-1"),
+        (
+            "#[]",
+            "unexpected end of input, expected identifier 2-3 2-3",
+        ),
+    ] {
+        says(&rt, alloc, refused(alloc, text), wanted);
+    }
+}
+
+/// What a tree read from all of a text prints.
+fn reprinted<T: Parse + ToTokens>(alloc: Global, text: &str) -> Result<String, Error> {
+    let tokens = lex(alloc, text)?;
+    let tree = read_all::<T>(alloc, &tokens)?;
+    printed(alloc, &tree)
+}
+
+#[test]
+fn metas_are_read(rt: HostRuntime) {
+    let alloc = rt.alloc();
+    for (text, wanted) in [
+        ("a", "a"),
+        ("a::b(c d)", "a :: b (c d)"),
+        ("a = -1", "a = - 1"),
+        ("unsafe(a = 1)", "unsafe (a = 1)"),
+    ] {
+        says(&rt, alloc, reprinted::<Meta<Sample>>(alloc, text), wanted);
+    }
+    for (text, wanted) in [
+        ("a{ b }", "a { b }"),
+        ("a", "unexpected end of input, expected delimiter 0-0 0-0"),
+    ] {
+        let answer = reprinted::<MetaList<Sample>>(alloc, text);
+        says(&rt, alloc, answer, wanted);
+    }
+    for (text, wanted) in [
+        ("a = \"b\"", "a = \"b\""),
+        ("a", "unexpected end of input, expected `=` 0-0 0-0"),
+    ] {
+        let answer = reprinted::<MetaNameValue<Sample>>(alloc, text);
+        says(&rt, alloc, answer, wanted);
+    }
+}
+
+/// The properties of the arguments of an attribute at which a closure was called, and what was answered.
+#[tactic(auto, using(token_core::proofs::Suffixes::follows))]
+fn properties(alloc: Global, does: Does, text: &str) -> Result<String, Error> {
+    let attr = last(alloc, outers(alloc, text))?;
+    let mut calls = String::new(alloc);
+    let logic = |alloc: Global, meta: &mut ParseNestedMeta<'_, Sample>| -> Result<(), Error>
+        ensures { Follows meta.old.input meta.new.input }
+    {
+        called(meta, &mut calls)?;
+        at_property(alloc, does, meta)
+    };
+    let answer = attr.parse_nested_meta(alloc, logic);
+    show(answer, &mut calls)?;
+    Ok(calls)
+}
+
+#[test]
+fn a_closure_reads_the_arguments(rt: HostRuntime) {
+    let alloc = rt.alloc();
+    for (does, text, wanted) in [
+        (Does::Values, "#[a()]", "ok"),
+        (Does::Values, "#[a(true, fn = 1,)]", "true fn  ok"),
+        (Does::Values, "#[form(min = -1, max = 200)]", "min max  ok"),
+        (Does::Nothing, "#[a(b = 1)]", "b  expected `,` 6-7 6-7"),
+        (Does::Refuses, "#[a(b, c)]", "b  no 4-5 4-5"),
+        (
+            Does::Descends,
+            "#[a(b())]",
+            "b  unexpected end of input, expected nested attribute 6-7 6-7",
+        ),
+        (Does::Descends, "#[a(b(c = 1, d))]", "b  ok"),
+        (
+            Does::Values,
+            "#[a(5)]",
+            "unexpected literal in nested attribute, expected ident 4-5 4-5",
+        ),
+        (
+            Does::Values,
+            "#[a(!)]",
+            "unexpected token in nested attribute, expected ident 4-5 4-5",
+        ),
+        (
+            Does::Values,
+            "#[a]",
+            "expected attribute arguments in parentheses: #[a(...)] 2-3 2-3",
+        ),
+        (
+            Does::Values,
+            "#[a = 2]",
+            "expected parentheses: #[a(...)] 4-5 4-5",
+        ),
+    ] {
+        says(&rt, alloc, properties(alloc, does, text), wanted);
+    }
+}
