@@ -281,7 +281,7 @@ module _ {X : Type 0} (reads : Place → Reader X) (spells : Place → X → Tok
         seen = subst (λ (z : Stream). Visible z.rest) g.1 inner.2;
         spelt = λ h. subst (λ (z : Stream). IsOuter spells false a s.rest z.rest) g.1
             (outer_at p.value s.rest p.rest.rest c.rest.rest k.tokens k.span c.value.0 c.value.1 a q.spelt k.is
-            (meta_sound (inside k.span k.tokens) k.ends c.value.1 inner.1 k.answers (clean p.rest c.rest t c.value k g.1 h).1) k.token g.0);
+            (meta_sound (inside p.rest k.span k.tokens c.rest.rest) k.ends c.value.1 inner.1 k.answers (clean p.rest c.rest t c.value k g.1 h).1) k.token g.0);
       }
 
   inner_at : (p : Pound) (z : Bang) (l o n r c : Toks) (s : DelimSpan) (b : Brackets) (x : Meta X) (a : Attribute X) → IsMark false p l o → IsMark false z o n → n ≡ group Bracket s c r → IsMeta spells false x c →
@@ -307,5 +307,5 @@ module _ {X : Type 0} (reads : Place → Reader X) (spells : Place → X → Tok
         seen = subst (λ (z : Stream). Visible z.rest) g.1 inner.2;
         spelt = λ h. subst (λ (z : Stream). IsInner spells false a s.rest z.rest) g.1
             (inner_at p.value b.value s.rest p.rest.rest b.rest.rest c.rest.rest k.tokens k.span c.value.0 c.value.1 a q.spelt o.spelt k.is
-            (meta_sound (inside k.span k.tokens) k.ends c.value.1 inner.1 k.answers (clean b.rest c.rest t c.value k g.1 h).1) k.token g.0);
+            (meta_sound (inside b.rest k.span k.tokens c.rest.rest) k.ends c.value.1 inner.1 k.answers (clean b.rest c.rest t c.value k g.1 h).1) k.token g.0);
       }
