@@ -1,4 +1,4 @@
-use Rattle.std.proofs.Common.{◌≡◌, ◌++◌, sym, ◌∙◌, ap, append-nil}
+use Rattle.std.proofs.Common.{◌++◌, sym, ◌∙◌, ap, append-nil}
 use Rattle.std.proofs.lemmas.List.{drop_all}
 use Rattle.token_core.specs.Trees.{trees}
 use Rattle.synmid.specs.Readers.{attributes}
