@@ -17,7 +17,7 @@ use Rattle.syn_mid.specs.declared.path.Path as path
 use Rattle.syn_mid.specs.declared.attr.Meta as meta
 use Rattle.syn_mid.specs.declared.attr.MetaList as meta_list
 use Rattle.syn_mid.specs.declared.attr.MetaNameValue as name_value
-use Rattle.syn_mid.specs.Supplied.{Value}
+use Rattle.syn_mid.specs.declared.supplied.Place.TheVariants.{Value}
 use Rattle.syn_mid.specs.attr.Attrs.{Attribute}
 use Rattle.syn_mid.specs.attr.Grammars as attrs
 use Rattle.syn_mid.specs.attr.Printing as printing
@@ -52,15 +52,15 @@ Tree Inner = List (Attribute Sample)
 abbrev pub grammar : (r : Reader) → Grammar (Tree r)
 grammar Macro = macs.mac
 grammar ModStyle = paths.mod_style
-grammar Meta = attrs.meta reads-value spells-value normal-value prints-value
+grammar Meta = attrs.meta reads-value.it spells-value.it normal-value.it prints-value.it
 grammar MetaList = attrs.list
-grammar MetaNameValue = attrs.name_value reads-value spells-value normal-value prints-value
-grammar Outer = attrs.outer reads-value spells-value normal-value prints-value
-grammar Inner = attrs.inner reads-value spells-value normal-value prints-value
+grammar MetaNameValue = attrs.name_value reads-value.it spells-value.it normal-value.it prints-value.it
+grammar Outer = attrs.outer reads-value.it spells-value.it normal-value.it prints-value.it
+grammar Inner = attrs.inner reads-value.it spells-value.it normal-value.it prints-value.it
 
 -- what attributes print, one after the other
 abbrev pub attributes : List (Attribute Sample) → Print
-attributes = printing.attributes (prints-value Value)
+attributes = printing.attributes (prints-value.it Value)
 
 -- no tree of the grammar spells the tokens clearly
 abbrev pub NoTree : {A : Type 0} → Grammar A → Toks → Type 0

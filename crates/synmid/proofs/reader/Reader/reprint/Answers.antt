@@ -1,5 +1,4 @@
 use Rattle.token_core.specs.Trees.{toks}
-use Rattle.syn_mid.specs.attr.Grammars as attrs
 use Rattle.syn_mid.specs.mac.Grammars as macs
 use Rattle.syn_mid.specs.path.Grammars as paths
 use Rattle.synmid.proofs.Whole.{prints-reprints}
@@ -23,7 +22,7 @@ pub returns-in-MetaNameValue : goal.returns-in-MetaNameValue
 returns-in-MetaNameValue c = rw c.in-MetaNameValue.is (prints-reprints (grammar r.MetaNameValue) (toks c.args.tokens.now) c.reprint-in-MetaNameValue.result c.reprint-in-MetaNameValue.ensures)
 
 pub returns-in-Outer : goal.returns-in-Outer
-returns-in-Outer c = rw c.in-Outer.is (prints-reprints (grammar r.Outer) (toks c.args.tokens.now) c.reprint_attributes-in-Outer.result c.reprint_attributes-in-Outer.ensures)
+returns-in-Outer c = rw c.in-Outer.is (prints-reprints (grammar r.Outer) (toks c.args.tokens.now) c.reprint_attributes.result c.reprint_attributes.ensures)
 
 pub returns-in-Inner : goal.returns-in-Inner
 returns-in-Inner c = rw c.in-Inner.is (prints-reprints (grammar r.Inner) (toks c.args.tokens.now) c.reprint_attributes-in-Inner.result c.reprint_attributes-in-Inner.ensures)
