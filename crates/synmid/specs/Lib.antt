@@ -1,4 +1,4 @@
-pub mod Sample
+pub mod sample
 pub mod Readers
 pub mod Run
 pub mod Faults

@@ -1,46 +1,315 @@
-//! A supplied subtree to run with. No place is read yet: its read refuses everywhere, and no list is spelt by it.
+//! A supplied subtree to run with: literals and paths, joined by `+`. In a block nothing is read yet: there the read
+//! refuses, and no list is spelt.
 
-ghost use Rattle.std.specs.Prelude.{[]};
-ghost use Rattle.synmid.specs.Sample as spec;
+ghost use Rattle.std.specs.Prelude.{◌≡◌, ◌++◌, ◌<◌, Ok, OnOk, OnErr};
+ghost use Rattle.token_core.specs.Trees.{trees};
+ghost use Rattle.token_core.specs.Prints.{Extends};
+ghost use Rattle.token_core.specs.Lists.{joined};
+ghost use Rattle.token_core.specs.Stream.{Stream};
+ghost use Rattle.token_core.specs.Loops.{size};
+ghost use Rattle.token_core.specs.Reads.{Reader, Reads, Follows, sees_word};
+ghost use Rattle.syn_mid.specs.path.Spelling.{is_mod_word};
+ghost use Rattle.synmid.specs.sample.Parts as spec;
+ghost use Rattle.synmid.specs.sample.Reading as reading;
+ghost use Rattle.synmid.specs.sample.Printing as printing;
+ghost use Rattle.synmid.specs.sample.Spelling as spelling;
+ghost use Rattle.synmid.specs.sample.Laws as laws;
 
 use std::alloc::{AllocError, Global};
 use syn_mid::{Place, Subtree};
-use token_core::{Error, ParseStream, TokenStream};
+use token_core::token::{Crate, PathSep, Plus, SelfType, SelfValue, Super};
+use token_core::{
+    Error, Ident, Lit, Mark, Parse, ParseStream, Punctuated, ToTokens, Token, TokenStream,
+};
 
-/// A supplied subtree that spells nothing yet, and prints nothing.
-#[derive(Clone, Copy)]
-pub struct Sample {}
+/// Literals and paths, joined by `+`.
+#[derive(Drop)]
+pub struct Sample {
+    pub atoms: Punctuated<Atom, Plus>,
+}
+
+/// What stands between `+`.
+#[derive(Drop)]
+pub enum Atom {
+    Lit(Lit),
+    Path(ModPath),
+}
+
+/// A path of mod style, held over tokens alone: a `Path` of the sample would be a cycle.
+#[derive(Drop)]
+pub struct ModPath {
+    pub leading_colon: Option<PathSep>,
+    pub segments: Punctuated<Ident, PathSep>,
+}
+
+// ---- reads
+
+/// What is joined by marks.
+trait Part: Drop {
+    /// The read of one, a function of the stream.
+    ghost reads: { Reader Self };
+
+    /// It takes a token.
+    ghost takes: { (s t : Stream) (x : Self) → reads s ≡ Ok (x, t) → size t.rest < size s.rest };
+
+    fn read(alloc: Global, input: &mut ParseStream<'_>) -> Result<Self, Error>
+        ensures reads { Reads (reads input.old) result input.new }
+        ensures within { Follows input.old input.new };
+}
+
+/// Reads parts joined by a mark, at least one.
+#[tactic(auto, using(token_core::proofs::Suffixes::follows))]
+fn read_joined<T: Part, const N: u32, const LEN: usize>(
+    alloc: Global,
+    input: &mut ParseStream<'_>,
+) -> Result<Punctuated<T, Mark<N, LEN>>, Error>
+    ensures reads { Reads (reading.joined_by N LEN T.reads input.old) result input.new }
+    ensures within { Follows input.old input.new }
+{
+    let mut parts = Punctuated::new(alloc);
+    'turn: loop {
+        let part = T::read(alloc, input)?;
+        parts.push_value(alloc, part)?;
+        if !input.peek::<Mark<N, LEN>>() {
+            return Ok(parts);
+        }
+        parts.push_punct(input.parse::<Mark<N, LEN>>(alloc)?)?;
+    }
+}
+
+/// Whether an identifier of a path is here.
+#[tactic(auto, using(syn_mid::proofs::path_laws::Turns::or_words))]
+fn begins_segment(input: &ParseStream<'_>) -> bool
+    ensures { result ≡ sees_word is_mod_word input.now.rest }
+{
+    // all tested, so that the answer is one value
+    input.peek::<Ident>()
+        | (input.peek::<Super>()
+            | (input.peek::<SelfValue>() | (input.peek::<SelfType>() | input.peek::<Crate>())))
+}
+
+/// An identifier of a path: no keyword, or `super`, `self`, `Self` or `crate`.
+impl Part for Ident {
+    ghost reads = { reading.segment };
+
+    ghost takes = { laws.segment-takes };
+
+    #[tactic(auto, using(token_core::proofs::Suffixes::follows), unfolding(crate::specs::sample::Reading::segment))]
+    fn read(alloc: Global, input: &mut ParseStream<'_>) -> Result<Ident, Error> {
+        if begins_segment(input) {
+            return Ok(Ident::parse_any(alloc, input)?);
+        }
+        Err(input.expected(alloc, Ident::display()))
+    }
+}
+
+#[tactic(auto, using(token_core::proofs::Suffixes::follows), unfolding(crate::specs::sample::Reading::leading))]
+fn read_leading(alloc: Global, input: &mut ParseStream<'_>) -> Result<Option<PathSep>, Error>
+    ensures reads { Reads (reading.leading input.old) result input.new }
+    ensures within { Follows input.old input.new }
+{
+    input.parse_option::<PathSep>(alloc)
+}
+
+/// An optional `::`, and identifiers joined by `::`.
+#[tactic(auto, using(token_core::proofs::Suffixes::follows), unfolding(crate::specs::sample::Reading::path))]
+fn read_path(alloc: Global, input: &mut ParseStream<'_>) -> Result<ModPath, Error>
+    ensures reads { Reads (reading.path input.old) result input.new }
+    ensures within { Follows input.old input.new }
+{
+    let leading_colon = read_leading(alloc, input)?;
+    let segments = read_joined(alloc, input)?;
+    Ok(ModPath {
+        leading_colon,
+        segments,
+    })
+}
+
+/// A literal, or a path.
+impl Part for Atom {
+    ghost reads = { reading.atom };
+
+    ghost takes = { laws.atom-takes };
+
+    #[tactic(auto, using(token_core::proofs::Suffixes::follows), unfolding(crate::specs::sample::Reading::atom))]
+    fn read(alloc: Global, input: &mut ParseStream<'_>) -> Result<Atom, Error> {
+        if input.peek::<Lit>() {
+            return Ok(Atom::Lit(input.parse::<Lit>(alloc)?));
+        }
+        Ok(Atom::Path(read_path(alloc, input)?))
+    }
+}
+
+/// Atoms joined by `+`.
+#[tactic(auto, using(token_core::proofs::Suffixes::follows), unfolding(crate::specs::sample::Reading::sum))]
+fn read_sum(alloc: Global, input: &mut ParseStream<'_>) -> Result<Sample, Error>
+    ensures reads { Reads (reading.sum input.old) result input.new }
+    ensures within { Follows input.old input.new }
+{
+    let atoms = read_joined(alloc, input)?;
+    Ok(Sample { atoms })
+}
+
+/// The same, but no literal that ends the stream: after it a `+` is needed.
+#[tactic(auto, using(token_core::proofs::Suffixes::follows), unfolding(crate::specs::sample::Reading::value))]
+fn read_value(alloc: Global, input: &mut ParseStream<'_>) -> Result<Sample, Error>
+    ensures reads { Reads (reading.value input.old) result input.new }
+    ensures within { Follows input.old input.new }
+{
+    let sample = read_sum(alloc, input)?;
+    if sample.is_lone_literal() & input.is_empty() {
+        return Err(input.expected(alloc, "`+`"));
+    }
+    Ok(sample)
+}
+
+impl Atom {
+    fn is_lit(&self) -> bool
+        ensures { result ≡ spec.is_lit self.now }
+    {
+        match self {
+            Atom::Lit(_) => true,
+            Atom::Path(_) => false,
+        }
+    }
+}
+
+impl Sample {
+    /// Whether it is one literal.
+    #[tactic(auto, using(crate::specs::sample::Parts::firsts))]
+    fn is_lone_literal(&self) -> bool
+        ensures { result ≡ spec.lone self.now.atoms.0 }
+    {
+        if self.atoms.value(1).is_some() {
+            return false;
+        }
+        match self.atoms.value(0) {
+            Some(atom) => atom.is_lit(),
+            None => false,
+        }
+    }
+}
+
+// ---- prints
+
+/// Appends parts and their marks; refused, what stood before is kept.
+#[tactic(auto, using(token_core::proofs::Puts::puts))]
+fn print_joined<T: ToTokens, P: ToTokens>(
+    alloc: Global,
+    parts: &Punctuated<T, P>,
+    out: &mut TokenStream,
+) -> Result<(), AllocError>
+    ensures ok { OnOk result (trees out.new ≡ trees out.old ++ joined T.print P.print parts.now.0 parts.now.1) }
+    ensures err { OnErr result (Extends (trees out.old) (trees out.new)) }
+{
+    let (pairs, last) = parts.parts();
+    for pair in pairs {
+        pair.value.to_tokens(alloc, out)?;
+        pair.mark.to_tokens(alloc, out)?;
+    }
+    match last {
+        Some(part) => part.to_tokens(alloc, out),
+        None => Ok(()),
+    }
+}
+
+#[tactic(auto, using(token_core::proofs::Puts::puts))]
+fn print_colon(
+    alloc: Global,
+    colon: &Option<PathSep>,
+    out: &mut TokenStream,
+) -> Result<(), AllocError>
+    ensures ok { OnOk result (trees out.new ≡ trees out.old ++ printing.colon colon.now) }
+    ensures err { OnErr result (Extends (trees out.old) (trees out.new)) }
+{
+    match colon {
+        Some(colon) => colon.to_tokens(alloc, out),
+        None => Ok(()),
+    }
+}
+
+#[tactic(auto, using(token_core::proofs::Puts::puts))]
+fn print_path(alloc: Global, path: &ModPath, out: &mut TokenStream) -> Result<(), AllocError>
+    ensures ok { OnOk result (trees out.new ≡ trees out.old ++ printing.path path.now) }
+    ensures err { OnErr result (Extends (trees out.old) (trees out.new)) }
+{
+    print_colon(alloc, &path.leading_colon, out)?;
+    print_joined(alloc, &path.segments, out)
+}
+
+#[tactic(auto, using(token_core::proofs::Puts::puts))]
+fn print_atom(alloc: Global, atom: &Atom, out: &mut TokenStream) -> Result<(), AllocError>
+    ensures ok { OnOk result (trees out.new ≡ trees out.old ++ printing.atom atom.now) }
+    ensures err { OnErr result (Extends (trees out.old) (trees out.new)) }
+{
+    match atom {
+        Atom::Lit(lit) => lit.to_tokens(alloc, out),
+        Atom::Path(path) => print_path(alloc, path, out),
+    }
+}
+
+impl ToTokens for Atom {
+    ghost print = { printing.atom };
+
+    fn to_tokens(&self, alloc: Global, out: &mut TokenStream) -> Result<(), AllocError> {
+        let before = out.len();
+        match print_atom(alloc, self, out) {
+            Ok(()) => Ok(()),
+            Err(error) => {
+                out.truncate(before);
+                Err(error)
+            }
+        }
+    }
+}
+
+impl ToTokens for Sample {
+    ghost print = { printing.sum };
+
+    fn to_tokens(&self, alloc: Global, out: &mut TokenStream) -> Result<(), AllocError> {
+        let before = out.len();
+        match print_joined(alloc, &self.atoms, out) {
+            Ok(()) => Ok(()),
+            Err(error) => {
+                out.truncate(before);
+                Err(error)
+            }
+        }
+    }
+}
+
+// ---- the subtree
 
 impl Subtree for Sample {
-    ghost reads = { λ _. spec.read };
+    ghost reads = { reading.at_place };
 
-    ghost spells = { λ _ _ _. ⊥ };
+    ghost spells = { spelling.spells };
 
     ghost normal = { λ _ x. x };
 
-    ghost prints = { λ _ _. [] };
+    ghost prints = { λ _. printing.sum };
 
-    ghost steady = { λ _ _ _ _. tt };
+    ghost steady = { laws.steady };
 
-    ghost sound = { λ _ s t x e _. spec.refuses s t x e };
+    ghost sound = { laws.sound };
 
-    ghost complete = { λ _ _ _ h. absurd h };
+    ghost complete = { laws.complete };
 
-    ghost reprint = { λ _ _ _ h. absurd h };
+    ghost reprint = { laws.reprint };
 
-    ghost apart = { λ _ _ h. absurd h };
+    ghost apart = { laws.apart };
 
     #[tactic(auto, using(token_core::proofs::Suffixes::follows))]
-    fn read(alloc: Global, _place: Place, input: &mut ParseStream<'_>) -> Result<Sample, Error> {
-        Err(input.expected(alloc, "sample"))
+    fn read(alloc: Global, place: Place, input: &mut ParseStream<'_>) -> Result<Sample, Error> {
+        match place {
+            Place::ArrayLen => read_sum(alloc, input),
+            Place::Value => read_value(alloc, input),
+            Place::Guard => read_sum(alloc, input),
+            Place::Block => Err(input.expected(alloc, "sample")),
+        }
     }
 
-    fn print(
-        &self,
-        _alloc: Global,
-        _place: Place,
-        _out: &mut TokenStream,
-    ) -> Result<(), AllocError> {
-        Ok(())
+    fn print(&self, alloc: Global, _place: Place, out: &mut TokenStream) -> Result<(), AllocError> {
+        self.to_tokens(alloc, out)
     }
 }

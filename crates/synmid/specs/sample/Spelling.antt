@@ -1,0 +1,65 @@
+-- Which lists the sample's trees spell.
+use Rattle.std.specs.Prelude.{◌≡◌, ℕ, true, false, Some, None}
+use Rattle.token_core.specs.declared.tree.Delimiter.{Delimiter}
+use Rattle.token_core.specs.declared.tree.Delimiter.TheVariants as d
+use Rattle.token_core.specs.declared.tree.Ident.{Ident}
+use Rattle.token_core.specs.declared.mark.Mark.{Mark}
+use Rattle.token_core.specs.declared.lit.Lit.{Lit}
+use Rattle.token_core.specs.Toks.{Toks, done, word, mark, lit, group, enter, leave}
+use Rattle.token_core.specs.Loops.{Many}
+use Rattle.token_core.specs.Listed.{AreListed, Nowhere}
+use Rattle.token_core.specs.Spellings.{IsMark, IsLit}
+use Rattle.syn_mid.specs.path.Spelling.{is_mod_word}
+use Rattle.syn_mid.specs.declared.supplied.Place.{Place}
+use Rattle.syn_mid.specs.declared.supplied.Place.TheVariants.{ArrayLen, Value, Guard, Block}
+use Rattle.synmid.specs.declared.sample.Sample.{Sample}
+use Rattle.synmid.specs.declared.sample.Atom.{Atom}
+use Rattle.synmid.specs.declared.sample.Atom.TheVariants as a
+use Rattle.synmid.specs.declared.sample.ModPath.{ModPath}
+use Rattle.synmid.specs.sample.Parts.{Sep, path_of, lone}
+
+-- ---- the tokens of a list, as they stand in its invisible groups
+
+-- no token is an invisible group: such a group is flat between its bounds
+abbrev pub seen_delimiter : Delimiter → Delimiter
+seen_delimiter d.Parenthesis = d.Parenthesis
+seen_delimiter d.Brace = d.Brace
+seen_delimiter d.Bracket = d.Bracket
+seen_delimiter d.None = d.Brace
+
+abbrev pub shown : Toks → Toks
+shown done = done
+shown (word i k) = word i (shown k)
+shown (mark p k) = mark p (shown k)
+shown (lit x k) = lit x (shown k)
+shown (group b s c k) = group (seen_delimiter b) s (shown c) (shown k)
+shown (enter s k) = shown k
+shown (leave k) = shown k
+
+-- ---- the first tokens spell it, and then come the second
+
+pub data IsSegment : Ident → Toks → Toks → Type 0 where
+  a_segment : {i : Ident} {r : Toks} → is_mod_word i.text ≡ true → IsSegment i (word i r) r
+
+-- values joined by a mark, at least one; the first is as the others
+abbrev pub AreJoined : {A : Type 0} → (n k : ℕ) → (A → Toks → Toks → Type 0) → Many A (Mark n k) → Toks → Toks → Type 0
+AreJoined n k V v l r = AreListed (λ first. V) (IsMark false) Nowhere false v.0 v.1 l r
+
+pub data IsPath : ModPath → Toks → Toks → Type 0 where
+  a_path : {v : Many Ident Sep} {l r : Toks} → AreJoined 1 2 IsSegment v l r → IsPath (path_of None v) l r
+  a_global_path : {m : Sep} {v : Many Ident Sep} {l k r : Toks} → IsMark false m l k → AreJoined 1 2 IsSegment v k r → IsPath (path_of (Some m) v) l r
+
+pub data IsAtom : Atom → Toks → Toks → Type 0 where
+  an_atom_lit : {x : Lit} {l r : Toks} → IsLit x l r → IsAtom (a.Lit x) l r
+  an_atom_path : {p : ModPath} {l r : Toks} → IsPath p l r → IsAtom (a.Path p) l r
+
+abbrev pub IsSum : Sample → Toks → Toks → Type 0
+IsSum x l r = AreJoined 20 1 IsAtom x.atoms l r
+
+-- ---- all of a list, by its place
+
+abbrev pub spells : Place → Sample → Toks → Type 0
+spells ArrayLen x l = IsSum x (shown l) done
+spells Value x l = IsSum x (shown l) done × (lone x.atoms.0 ≡ false)
+spells Guard x l = IsSum x (shown l) done
+spells Block x l = ⊥
