@@ -16,6 +16,8 @@ mod reader;
 mod run;
 mod sample;
 #[cfg(test)]
+mod sample_tests;
+#[cfg(test)]
 mod tests;
 
 use channel::Plain;

@@ -1,0 +1,115 @@
+//! What the sample subtree reads and prints, as the value of an attribute and by its other places.
+//!
+//! A test calls and does not branch, as docs/GATE.md says.
+
+ghost use Rattle.token_core.specs.Reads.{Follows};
+
+use crate::attr_tests::says;
+use crate::sample::Sample;
+use std::alloc::Global;
+use syn_mid::{MetaNameValue, Place, Subtree};
+use token_core::{ByFn, Error, ParseStream, ToTokens, TokenStream, read_all, read_all_with};
+use token_text::{lex, text_of};
+
+fn printed<T: ToTokens>(alloc: Global, tree: &T) -> Result<String, Error> {
+    let mut out = TokenStream::new(alloc);
+    tree.to_tokens(alloc, &mut out)?;
+    Ok(text_of(alloc, &out)?)
+}
+
+fn value(alloc: Global, text: &str) -> Result<String, Error> {
+    let tokens = lex(alloc, text)?;
+    let meta = read_all::<MetaNameValue<Sample>>(alloc, &tokens)?;
+    printed(alloc, &meta)
+}
+
+#[tactic(auto, using(token_core::proofs::Suffixes::follows))]
+fn length(alloc: Global, input: &mut ParseStream<'_>) -> Result<Sample, Error>
+    ensures { Follows input.old input.new }
+{
+    Sample::read(alloc, Place::ArrayLen, input)
+}
+
+fn array_length(alloc: Global, text: &str) -> Result<String, Error> {
+    let tokens = lex(alloc, text)?;
+    let sample = read_all_with(alloc, ByFn(length), &tokens)?;
+    printed(alloc, &sample)
+}
+
+#[tactic(auto, using(token_core::proofs::Suffixes::follows))]
+fn inside(alloc: Global, input: &mut ParseStream<'_>) -> Result<Sample, Error>
+    ensures { Follows input.old input.new }
+{
+    Sample::read(alloc, Place::Block, input)
+}
+
+fn block(alloc: Global, text: &str) -> Result<String, Error> {
+    let tokens = lex(alloc, text)?;
+    let sample = read_all_with(alloc, ByFn(inside), &tokens)?;
+    printed(alloc, &sample)
+}
+
+#[test]
+fn values_are_sums(rt: HostRuntime) {
+    let alloc = rt.alloc();
+    for (text, wanted) in [
+        ("k = a + 1", "k = a + 1"),
+        ("k = a::b", "k = a :: b"),
+        ("k = 1 + x", "k = 1 + x"),
+        (
+            "k = ::a+self::b+-1+true",
+            "k = :: a + self :: b + - 1 + true",
+        ),
+        ("k = 1", "k = 1"),
+        ("k = -1", "k = - 1"),
+    ] {
+        says(&rt, alloc, value(alloc, text), wanted);
+    }
+}
+
+#[test]
+fn other_values_are_refused(rt: HostRuntime) {
+    let alloc = rt.alloc();
+    for (text, wanted) in [
+        ("k = a b", "unexpected token 6-7 6-7"),
+        ("k = 1 b", "unexpected token 6-7 6-7"),
+        (
+            "k = #[b]",
+            "unexpected attribute inside of attribute 4-5 4-5",
+        ),
+        (
+            "k = a +",
+            "unexpected end of input, expected identifier 0-0 0-0",
+        ),
+        (
+            "k = a::",
+            "unexpected end of input, expected identifier 0-0 0-0",
+        ),
+        ("k = (a)", "expected identifier 4-5 4-5"),
+        ("k = fn", "expected identifier 4-6 4-6"),
+        (
+            "k =",
+            "unexpected end of input, expected identifier 0-0 0-0",
+        ),
+    ] {
+        says(&rt, alloc, value(alloc, text), wanted);
+    }
+}
+
+#[test]
+fn lengths_may_be_literals(rt: HostRuntime) {
+    let alloc = rt.alloc();
+    for (text, wanted) in [
+        ("4", "4"),
+        ("a + 1", "a + 1"),
+        ("", "unexpected end of input, expected identifier 0-0 0-0"),
+    ] {
+        says(&rt, alloc, array_length(alloc, text), wanted);
+    }
+}
+
+#[test]
+fn blocks_are_refused(rt: HostRuntime) {
+    let alloc = rt.alloc();
+    says(&rt, alloc, block(alloc, "a;"), "expected sample 0-1 0-1");
+}
