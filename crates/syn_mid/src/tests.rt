@@ -549,30 +549,24 @@ fn required(alloc: Global, meta: &Meta<u8>) -> Result<String, AllocError> {
     Ok(out)
 }
 
+/// What the metas of a path answer to the calls that ask for a kind.
+fn requirements_are(rt: &impl Abort, alloc: Global, text: &str, wanted: [&str; 3]) {
+    let [path, list, value] = got(rt, metas(alloc, text));
+    answers(rt, required(alloc, &path), wanted[0]);
+    answers(rt, required(alloc, &list), wanted[1]);
+    answers(rt, required(alloc, &value), wanted[2]);
+}
+
 #[test]
 fn asks_for_kinds_of_metas(rt: HostRuntime) -> Result<(), Fail> {
-    let rows = [
-        [
-            "path; expected attribute arguments in parentheses: `::a::bc(...)` 3-4 8-10; expected a value for this attribute: `::a::bc = ...` 3-4 8-10",
-            "unexpected token in attribute 50-51 50-51; list of 2; expected `=` 50-51 50-51",
-            "unexpected token in attribute 40-41 40-41; expected `(` 40-41 40-41; value",
-        ],
-        [
-            "path; expected attribute arguments in parentheses: `a(...)` 0-1 0-1; expected a value for this attribute: `a = ...` 0-1 0-1",
-            "unexpected token in attribute 50-51 50-51; list of 2; expected `=` 50-51 50-51",
-            "unexpected token in attribute 40-41 40-41; expected `(` 40-41 40-41; value",
-        ],
-    ];
-    for (text, wants) in [(":: a :: bc", &rows[0]), ("a", &rows[1])] {
-        match metas(rt.alloc(), text) {
-            Ok([path, list, value]) => {
-                assert_eq!(rt; required(rt.alloc(), &path)?.as_str(), wants[0], "{text}");
-                assert_eq!(rt; required(rt.alloc(), &list)?.as_str(), wants[1], "{text}");
-                assert_eq!(rt; required(rt.alloc(), &value)?.as_str(), wants[2], "{text}");
-            }
-            Err(_) => assert!(rt; false, "{text}"),
-        }
-    }
+    let list = "unexpected token in attribute 50-51 50-51; list of 2; expected `=` 50-51 50-51";
+    let value = "unexpected token in attribute 40-41 40-41; expected `(` 40-41 40-41; value";
+    let path =
+        "path; expected attribute arguments in parentheses: `::a::bc(...)` 3-4 8-10; expected a value for this attribute: `::a::bc = ...` 3-4 8-10";
+    requirements_are(&rt, rt.alloc(), ":: a :: bc", [path, list, value]);
+    let path =
+        "path; expected attribute arguments in parentheses: `a(...)` 0-1 0-1; expected a value for this attribute: `a = ...` 0-1 0-1";
+    requirements_are(&rt, rt.alloc(), "a", [path, list, value]);
     Ok(())
 }
 
@@ -589,41 +583,26 @@ fn argument(alloc: Global, attr: &Attribute<u8>) -> Result<String, AllocError> {
     Ok(out)
 }
 
+/// What whole reads of the arguments of attributes answer, over the metas of a path.
+fn arguments_are(rt: &impl Abort, alloc: Global, text: &str, style: AttrStyle, wanted: [&str; 3]) {
+    let [path, list, value] = got(rt, metas(alloc, text));
+    answers(rt, argument(alloc, &attribute(path, style)), wanted[0]);
+    answers(rt, argument(alloc, &attribute(list, style)), wanted[1]);
+    answers(rt, argument(alloc, &attribute(value, style)), wanted[2]);
+}
+
 #[test]
 fn reads_arguments(rt: HostRuntime) -> Result<(), Fail> {
+    let path = "expected attribute arguments in parentheses: #[a(...)] 0-1 0-1";
+    let list = "unexpected token 2-3 2-3";
+    let value = "expected parentheses: #[a(...)] 40-41 40-41";
+    let wanted = [path, list, value];
+    arguments_are(&rt, rt.alloc(), "a", AttrStyle::Outer, wanted);
     let bang = AttrStyle::Inner(Not::default());
-    for (text, style, wants) in [
-        (
-            "a",
-            AttrStyle::Outer,
-            [
-                "expected attribute arguments in parentheses: #[a(...)] 0-1 0-1",
-                "unexpected token 2-3 2-3",
-                "expected parentheses: #[a(...)] 40-41 40-41",
-            ],
-        ),
-        (
-            ":: a :: b",
-            bang,
-            [
-                "expected attribute arguments in parentheses: #![::a::b(...)] 3-4 8-9",
-                "unexpected token 2-3 2-3",
-                "expected parentheses: #![::a::b(...)] 40-41 40-41",
-            ],
-        ),
-    ] {
-        match metas(rt.alloc(), text) {
-            Ok([path, list, value]) => {
-                let path = attribute(path, style);
-                assert_eq!(rt; argument(rt.alloc(), &path)?.as_str(), wants[0], "{text}");
-                let list = attribute(list, style);
-                assert_eq!(rt; argument(rt.alloc(), &list)?.as_str(), wants[1], "{text}");
-                let value = attribute(value, style);
-                assert_eq!(rt; argument(rt.alloc(), &value)?.as_str(), wants[2], "{text}");
-            }
-            Err(_) => assert!(rt; false, "{text}"),
-        }
-    }
+    let path = "expected attribute arguments in parentheses: #![::a::b(...)] 3-4 8-9";
+    let value = "expected parentheses: #![::a::b(...)] 40-41 40-41";
+    let wanted = [path, list, value];
+    arguments_are(&rt, rt.alloc(), ":: a :: b", bang, wanted);
     Ok(())
 }
 
@@ -635,7 +614,8 @@ fn got<T>(rt: &impl Abort, outcome: Result<T, Error>) -> T {
     }
 }
 
-fn kinds_are(rt: &impl Abort, outcome: Result<String, AllocError>, wanted: &str) {
+/// It answers this text.
+fn answers(rt: &impl Abort, outcome: Result<String, AllocError>, wanted: &str) {
     match outcome {
         Ok(found) => assert_eq!(rt; found.as_str(), wanted),
         Err(_) => panic!(rt; "out of memory"),
@@ -684,11 +664,11 @@ fn gives_attributes_of_a_kind(rt: HostRuntime) -> Result<(), Fail> {
     let bang = AttrStyle::Inner(Not::default());
     let styles = [AttrStyle::Outer, bang, AttrStyle::Outer];
     let attrs = got(&rt, attributes(rt.alloc(), styles));
-    kinds_are(&rt, outer_kinds(rt.alloc(), attrs.as_slice()), "pv");
-    kinds_are(&rt, inner_kinds(rt.alloc(), attrs.as_slice()), "l");
+    answers(&rt, outer_kinds(rt.alloc(), attrs.as_slice()), "pv");
+    answers(&rt, inner_kinds(rt.alloc(), attrs.as_slice()), "l");
     let attrs = got(&rt, attributes(rt.alloc(), [bang, AttrStyle::Outer, bang]));
-    kinds_are(&rt, outer_kinds(rt.alloc(), attrs.as_slice()), "l");
-    kinds_are(&rt, inner_kinds(rt.alloc(), attrs.as_slice()), "pv");
+    answers(&rt, outer_kinds(rt.alloc(), attrs.as_slice()), "l");
+    answers(&rt, inner_kinds(rt.alloc(), attrs.as_slice()), "pv");
     Ok(())
 }
 
@@ -696,13 +676,13 @@ fn gives_attributes_of_a_kind(rt: HostRuntime) -> Result<(), Fail> {
 fn gives_all_attributes_or_none(rt: HostRuntime) -> Result<(), Fail> {
     let styles = [AttrStyle::Outer, AttrStyle::Outer, AttrStyle::Outer];
     let attrs = got(&rt, attributes(rt.alloc(), styles));
-    kinds_are(&rt, outer_kinds(rt.alloc(), attrs.as_slice()), "plv");
-    kinds_are(&rt, inner_kinds(rt.alloc(), attrs.as_slice()), "");
+    answers(&rt, outer_kinds(rt.alloc(), attrs.as_slice()), "plv");
+    answers(&rt, inner_kinds(rt.alloc(), attrs.as_slice()), "");
     let bang = AttrStyle::Inner(Not::default());
     let attrs = got(&rt, attributes(rt.alloc(), [bang, bang, bang]));
-    kinds_are(&rt, outer_kinds(rt.alloc(), attrs.as_slice()), "");
-    kinds_are(&rt, inner_kinds(rt.alloc(), attrs.as_slice()), "plv");
-    kinds_are(&rt, outer_kinds(rt.alloc(), &[]), "");
-    kinds_are(&rt, inner_kinds(rt.alloc(), &[]), "");
+    answers(&rt, outer_kinds(rt.alloc(), attrs.as_slice()), "");
+    answers(&rt, inner_kinds(rt.alloc(), attrs.as_slice()), "plv");
+    answers(&rt, outer_kinds(rt.alloc(), &[]), "");
+    answers(&rt, inner_kinds(rt.alloc(), &[]), "");
     Ok(())
 }
