@@ -551,10 +551,10 @@ fn required(alloc: Global, meta: &Meta<u8>) -> Result<String, AllocError> {
 
 /// What the metas of a path answer to the calls that ask for a kind.
 fn requirements_are(rt: &impl Abort, alloc: Global, text: &str, wanted: [&str; 3]) {
-    let [path, list, value] = got(rt, metas(alloc, text));
-    answers(rt, required(alloc, &path), wanted[0]);
-    answers(rt, required(alloc, &list), wanted[1]);
-    answers(rt, required(alloc, &value), wanted[2]);
+    let metas = got(rt, metas(alloc, text));
+    answers(rt, required(alloc, &metas[0]), wanted[0]);
+    answers(rt, required(alloc, &metas[1]), wanted[1]);
+    answers(rt, required(alloc, &metas[2]), wanted[2]);
 }
 
 #[test]
@@ -585,10 +585,10 @@ fn argument(alloc: Global, attr: &Attribute<u8>) -> Result<String, AllocError> {
 
 /// What whole reads of the arguments of attributes answer, over the metas of a path.
 fn arguments_are(rt: &impl Abort, alloc: Global, text: &str, style: AttrStyle, wanted: [&str; 3]) {
-    let [path, list, value] = got(rt, metas(alloc, text));
-    answers(rt, argument(alloc, &attribute(path, style)), wanted[0]);
-    answers(rt, argument(alloc, &attribute(list, style)), wanted[1]);
-    answers(rt, argument(alloc, &attribute(value, style)), wanted[2]);
+    let attrs = got(rt, attributes(alloc, text, [style, style, style]));
+    answers(rt, argument(alloc, &attrs[0]), wanted[0]);
+    answers(rt, argument(alloc, &attrs[1]), wanted[1]);
+    answers(rt, argument(alloc, &attrs[2]), wanted[2]);
 }
 
 #[test]
@@ -623,8 +623,12 @@ fn answers(rt: &impl Abort, outcome: Result<String, AllocError>, wanted: &str) {
 }
 
 /// Attributes over the metas of a path, in these styles.
-fn attributes(alloc: Global, styles: [AttrStyle; 3]) -> Result<[Attribute<u8>; 3], Error> {
-    let [path, list, value] = metas(alloc, "a")?;
+fn attributes(
+    alloc: Global,
+    text: &str,
+    styles: [AttrStyle; 3],
+) -> Result<[Attribute<u8>; 3], Error> {
+    let [path, list, value] = metas(alloc, text)?;
     let [first, second, third] = styles;
     Ok([
         attribute(path, first),
@@ -663,10 +667,13 @@ fn inner_kinds(alloc: Global, attrs: &[Attribute<u8>]) -> Result<String, AllocEr
 fn gives_attributes_of_a_kind(rt: HostRuntime) -> Result<(), Fail> {
     let bang = AttrStyle::Inner(Not::default());
     let styles = [AttrStyle::Outer, bang, AttrStyle::Outer];
-    let attrs = got(&rt, attributes(rt.alloc(), styles));
+    let attrs = got(&rt, attributes(rt.alloc(), "a", styles));
     answers(&rt, outer_kinds(rt.alloc(), attrs.as_slice()), "pv");
     answers(&rt, inner_kinds(rt.alloc(), attrs.as_slice()), "l");
-    let attrs = got(&rt, attributes(rt.alloc(), [bang, AttrStyle::Outer, bang]));
+    let attrs = got(
+        &rt,
+        attributes(rt.alloc(), "a", [bang, AttrStyle::Outer, bang]),
+    );
     answers(&rt, outer_kinds(rt.alloc(), attrs.as_slice()), "l");
     answers(&rt, inner_kinds(rt.alloc(), attrs.as_slice()), "pv");
     Ok(())
@@ -675,11 +682,11 @@ fn gives_attributes_of_a_kind(rt: HostRuntime) -> Result<(), Fail> {
 #[test]
 fn gives_all_attributes_or_none(rt: HostRuntime) -> Result<(), Fail> {
     let styles = [AttrStyle::Outer, AttrStyle::Outer, AttrStyle::Outer];
-    let attrs = got(&rt, attributes(rt.alloc(), styles));
+    let attrs = got(&rt, attributes(rt.alloc(), "a", styles));
     answers(&rt, outer_kinds(rt.alloc(), attrs.as_slice()), "plv");
     answers(&rt, inner_kinds(rt.alloc(), attrs.as_slice()), "");
     let bang = AttrStyle::Inner(Not::default());
-    let attrs = got(&rt, attributes(rt.alloc(), [bang, bang, bang]));
+    let attrs = got(&rt, attributes(rt.alloc(), "a", [bang, bang, bang]));
     answers(&rt, outer_kinds(rt.alloc(), attrs.as_slice()), "");
     answers(&rt, inner_kinds(rt.alloc(), attrs.as_slice()), "plv");
     answers(&rt, outer_kinds(rt.alloc(), &[]), "");
