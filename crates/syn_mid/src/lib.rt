@@ -8,6 +8,7 @@ pub mod path;
 pub mod supplied;
 #[cfg(test)]
 mod tests;
+pub mod ty;
 pub mod whole;
 
 pub use attr::{AttrStyle, Attribute, AttributeOf, Meta, MetaList, MetaNameValue};
@@ -16,4 +17,9 @@ pub use path::{
     AngleBracketedGenericArguments, ParenthesizedGenericArguments, Path, PathArguments, PathSegment,
 };
 pub use supplied::{Expr, ExprLit, ExprLitOf, Place, Subtree};
+pub use ty::{
+    PointerMutability, Type, TypeArray, TypeArrayOf, TypeInfer, TypeMacro, TypeNever, TypeParen,
+    TypeParenOf, TypePath, TypePtr, TypePtrOf, TypeReference, TypeReferenceOf, TypeSlice,
+    TypeSliceOf, TypeTuple, TypeTupleOf,
+};
 pub use whole::{ModStyle, ParseInner, ParseOuter};
