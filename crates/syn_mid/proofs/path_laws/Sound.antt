@@ -10,7 +10,7 @@ use Rattle.token_core.specs.Rebuilt.{Visible}
 use Rattle.token_core.specs.Stream.{Stream}
 use Rattle.token_core.specs.Marks as marks
 use Rattle.token_core.specs.Loops.{Many, size, joined_from, listed}
-use Rattle.token_core.specs.Reads.{sees_word, read_word, read_mark, any_text, ident_name}
+use Rattle.token_core.specs.Reads.{read_word, read_mark, any_text, ident_name}
 use Rattle.token_core.proofs.Turns.{chain, same_pair}
 use Rattle.token_core.proofs.Took.{branch, mapped, took_word, took_mark2, seen_word}
 use Rattle.syn_mid.specs.declared.path.Path.{Path}
