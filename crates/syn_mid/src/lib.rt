@@ -2,6 +2,7 @@
 #![tactic(auto)]
 
 pub mod attr;
+mod grammar;
 pub mod mac;
 pub mod meta;
 pub mod path;
