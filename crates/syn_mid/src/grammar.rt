@@ -225,7 +225,7 @@ impl<
     fn more_elements(&self, input: &mut ParseStream<'_>, first: Type<X>) -> Result<Punctuated<Type<X>, Comma>, Error>
         requires types { Nests (knot.ty X.reads) (length self.now.begin) (F.pre self.now.typ) (F.post self.now.typ) }
         requires few { ahead input.old ≤ length self.now.begin }
-        ensures reads { Reads (reading.more_elements (knot.types X.reads (length self.now.begin)) first input.old) result input.new }
+        ensures reads { Reads (reading.more_elements X.reads (knot.types X.reads (length self.now.begin)) first input.old) result input.new }
         ensures within { Follows input.old input.new }
     {
         let mut elems = Punctuated::new(self.alloc);
@@ -249,7 +249,7 @@ impl<
     fn tuple_content(&self, input: &mut ParseStream<'_>) -> Result<Punctuated<Type<X>, Comma>, Error>
         requires types { Nests (knot.ty X.reads) (length self.now.begin) (F.pre self.now.typ) (F.post self.now.typ) }
         requires few { ahead input.old < length self.now.begin }
-        ensures reads { Reads (reading.tuple_content (knot.types X.reads (length self.now.begin)) input.old) result input.new }
+        ensures reads { Reads (reading.tuple_content X.reads (knot.types X.reads (length self.now.begin)) input.old) result input.new }
         ensures within { Follows input.old input.new }
     {
         if input.is_empty() {
@@ -284,7 +284,7 @@ impl<
     pub(crate) fn slice(&self, input: &mut ParseStream<'_>) -> Result<TypeSlice<X>, Error>
         requires types { Nests (knot.ty X.reads) (length self.now.begin) (F.pre self.now.typ) (F.post self.now.typ) }
         requires few { ahead input.old ≤ length self.now.begin }
-        ensures reads { Reads (reading.slice (knot.types X.reads (length self.now.begin)) input.old) result input.new }
+        ensures reads { Reads (reading.slice X.reads (knot.types X.reads (length self.now.begin)) input.old) result input.new }
         ensures within { Follows input.old input.new }
     {
         let (bracket_token, mut content) = open_brackets(self.alloc, input)?;
@@ -301,7 +301,7 @@ impl<
     pub(crate) fn paren(&self, input: &mut ParseStream<'_>) -> Result<TypeParen<X>, Error>
         requires types { Nests (knot.ty X.reads) (length self.now.begin) (F.pre self.now.typ) (F.post self.now.typ) }
         requires few { ahead input.old ≤ length self.now.begin }
-        ensures reads { Reads (reading.paren (knot.types X.reads (length self.now.begin)) input.old) result input.new }
+        ensures reads { Reads (reading.paren X.reads (knot.types X.reads (length self.now.begin)) input.old) result input.new }
         ensures within { Follows input.old input.new }
     {
         let (paren_token, mut content) = open_parens(self.alloc, input)?;
@@ -318,7 +318,7 @@ impl<
     pub(crate) fn tuple(&self, input: &mut ParseStream<'_>) -> Result<TypeTuple<X>, Error>
         requires types { Nests (knot.ty X.reads) (length self.now.begin) (F.pre self.now.typ) (F.post self.now.typ) }
         requires few { ahead input.old ≤ length self.now.begin }
-        ensures reads { Reads (reading.tuple (knot.types X.reads (length self.now.begin)) input.old) result input.new }
+        ensures reads { Reads (reading.tuple X.reads (knot.types X.reads (length self.now.begin)) input.old) result input.new }
         ensures within { Follows input.old input.new }
     {
         let (paren_token, mut content) = open_parens(self.alloc, input)?;
@@ -332,7 +332,7 @@ impl<
     pub(crate) fn ptr(&self, input: &mut ParseStream<'_>) -> Result<TypePtr<X>, Error>
         requires types { Nests (knot.ty X.reads) (length self.now.begin) (F.pre self.now.typ) (F.post self.now.typ) }
         requires few { ahead input.old ≤ length self.now.begin }
-        ensures reads { Reads (reading.ptr (knot.types X.reads (length self.now.begin)) input.old) result input.new }
+        ensures reads { Reads (reading.ptr X.reads (knot.types X.reads (length self.now.begin)) input.old) result input.new }
         ensures within { Follows input.old input.new }
     {
         let star_token = parse_star(self.alloc, input)?;
@@ -350,7 +350,7 @@ impl<
     pub(crate) fn reference(&self, input: &mut ParseStream<'_>) -> Result<TypeReference<X>, Error>
         requires types { Nests (knot.ty X.reads) (length self.now.begin) (F.pre self.now.typ) (F.post self.now.typ) }
         requires few { ahead input.old ≤ length self.now.begin }
-        ensures reads { Reads (reading.reference (knot.types X.reads (length self.now.begin)) input.old) result input.new }
+        ensures reads { Reads (reading.reference X.reads (knot.types X.reads (length self.now.begin)) input.old) result input.new }
         ensures within { Follows input.old input.new }
     {
         let and_token = parse_and(self.alloc, input)?;
@@ -370,7 +370,7 @@ impl<
     fn paren_or_tuple(&self, input: &mut ParseStream<'_>, plus: bool) -> Result<Type<X>, Error>
         requires types { Nests (knot.ty X.reads) (length self.now.begin) (F.pre self.now.typ) (F.post self.now.typ) }
         requires few { ahead input.old ≤ length self.now.begin }
-        ensures reads { Reads (reading.paren_or_tuple (knot.types X.reads (length self.now.begin)) plus input.old) result input.new }
+        ensures reads { Reads (reading.paren_or_tuple X.reads (knot.types X.reads (length self.now.begin)) plus input.old) result input.new }
         ensures within { Follows input.old input.new }
     {
         let (paren_token, mut content) = open_parens(self.alloc, input)?;
@@ -427,7 +427,7 @@ impl<
     fn by_mark(&self, input: &mut ParseStream<'_>) -> Result<Type<X>, Error>
         requires types { Nests (knot.ty X.reads) (length self.now.begin) (F.pre self.now.typ) (F.post self.now.typ) }
         requires few { ahead input.old ≤ length self.now.begin }
-        ensures reads { Reads (reading.by_mark (knot.types X.reads (length self.now.begin)) input.old) result input.new }
+        ensures reads { Reads (reading.by_mark X.reads (knot.types X.reads (length self.now.begin)) input.old) result input.new }
         ensures within { Follows input.old input.new }
     {
         if input.peek::<Star>() {

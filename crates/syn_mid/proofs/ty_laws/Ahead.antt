@@ -1,4 +1,5 @@
 -- How much of the buffer is left: less after a token, and inside a group.
+use Rattle.std.specs.Prelude.{IfOk, Result}
 use Rattle.std.proofs.Common.{◌≡◌, ◌<◌, ◌≤◌, ◌+◌, ◌++◌, ℕ, suc, Bool, true, false, if◌then◌else◌, [], ◌∷◌, length, Option, Some, None, Ok, Err, refl, sym, ◌∙◌, ap, subst, arith}
 use Rattle.std.proofs.lemmas.List.{length-append}
 use Rattle.token_core.specs.declared.span.DelimSpan.{DelimSpan}
@@ -13,7 +14,7 @@ use Rattle.token_core.specs.Positions.{items, an_end}
 use Rattle.token_core.specs.Refusal.{Refusal}
 use Rattle.token_core.specs.Stream.{Stream}
 use Rattle.token_core.specs.Toks.{Bytes, Toks, done, word, mark, lit, group, enter, leave}
-use Rattle.token_core.specs.Reads.{Outcome, Follows, IsSuffix, all_of, past_word, past_punct, past_lit, past_group, past_enter, past_leave, as_group, same_delimiter, inside, past, opened, open_group, expected}
+use Rattle.token_core.specs.Reads.{Outcome, Follows, Parsed, Gives, Fails, IsSuffix, all_of, past_word, past_punct, past_lit, past_group, past_enter, past_leave, as_group, same_delimiter, inside, past, opened, open_group, expected}
 use Rattle.token_core.proofs.Takes.{named_takes}
 use Rattle.token_core.proofs.Turns.{size_suffix, same_pair}
 use Rattle.syn_mid.specs.ty.Knot.{ahead}
@@ -118,15 +119,20 @@ opened_ahead {T} f d name s t g e = by_outcome (open_group d name s) refl e
     by_outcome (Ok p) h e = let q = same_pair (f p.0.0, p.0.1) g p.1 t e in subst (λ (z : T × Stream). ahead z.1 < ahead s) q.0 (open_ahead d name s p.1 p.0 h)
     by_outcome (Err r) h e = cc
 
-pub comma_ahead : (s t : Stream) (m : Mark 4 1) → read 4 1 s ≡ Ok (m, t) → Follows s t → ahead t < ahead s
-comma_ahead = mark_ahead 4 1 44 [] refl
+-- a read of a mark, by its relations
+taken : (n l c : ℕ) (cs : _) → chars_of n ≡ c ∷ cs → (s t : Stream) (r : Result (Mark n l) Refusal) → Parsed (Gives (read n l) s) (Fails (read n l) s) r t → Follows s t → IfOk r (λ _. ahead t < ahead s)
+taken n l c cs h s t (Ok m) e f = mark_ahead n l c cs h s t m e f
+taken n l c cs h s t (Err x) e f = tt
 
-pub and_ahead : (s t : Stream) (m : Mark 5 1) → read 5 1 s ≡ Ok (m, t) → Follows s t → ahead t < ahead s
-and_ahead = mark_ahead 5 1 38 [] refl
+pub comma_taken : (s t : Stream) (r : Result (Mark 4 1) Refusal) → Parsed (Gives (read 4 1) s) (Fails (read 4 1) s) r t → Follows s t → IfOk r (λ _. ahead t < ahead s)
+comma_taken = taken 4 1 44 [] refl
 
-pub star_ahead : (s t : Stream) (m : Mark 26 1) → read 26 1 s ≡ Ok (m, t) → Follows s t → ahead t < ahead s
-star_ahead = mark_ahead 26 1 42 [] refl
+pub and_taken : (s t : Stream) (r : Result (Mark 5 1) Refusal) → Parsed (Gives (read 5 1) s) (Fails (read 5 1) s) r t → Follows s t → IfOk r (λ _. ahead t < ahead s)
+and_taken = taken 5 1 38 [] refl
+
+pub star_taken : (s t : Stream) (r : Result (Mark 26 1) Refusal) → Parsed (Gives (read 26 1) s) (Fails (read 26 1) s) r t → Follows s t → IfOk r (λ _. ahead t < ahead s)
+star_taken = taken 26 1 42 [] refl
 
 pub ruleset later = (ahead_follows)
 pub ruleset inside_groups = (opened_ahead)
-pub ruleset past_marks = (comma_ahead, and_ahead, star_ahead)
+pub ruleset past_marks = (comma_taken, and_taken, star_taken)

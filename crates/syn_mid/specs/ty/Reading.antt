@@ -1,5 +1,5 @@
 -- The reads of types, as functions of the stream, over the read of the types that they hold.
-use Rattle.std.specs.Prelude.{Bool, true, false, not, ◌&&◌, ◌||◌, if◌then◌else◌, List, [], ◌∷◌, Option, Some, None, Err, codes}
+use Rattle.std.specs.Prelude.{ℕ, Bool, true, false, not, ◌&&◌, ◌||◌, if◌then◌else◌, List, [], ◌∷◌, Option, Some, None, Err, codes}
 use Rattle.token_core.specs.declared.tree.Delimiter.TheVariants as d
 use Rattle.token_core.specs.declared.span.DelimSpan.{DelimSpan}
 use Rattle.token_core.specs.declared.error.ErrorKind.TheVariants.{Unexpected}
@@ -64,7 +64,7 @@ sees_and = sees_mark (marks.chars_of 5)
 abbrev pub sees_bang : Toks → Bool
 sees_bang = sees_mark (marks.chars_of 0)
 
-abbrev pub sees_named : _ → Toks → Bool
+abbrev pub sees_named : ℕ → Toks → Bool
 sees_named n = sees_word (is_text (marks.text_of n))
 
 -- ---- parts
@@ -124,6 +124,10 @@ module _ {X : Type 0} where
     call ← peek sees_call
     if call then (λ c. t.Macro (macro_type_of c)) <$> macs.call_after p else ended plus (t.Path (path_type_of p))
 
+-- what follows the element of an array
+abbrev pub Length : Type 0 → Type 0
+Length X = Semi × Expr X
+
 -- what parentheses hold: a type, or the elements of a tuple
 pub data InParens (X : Type 0) : Type 0 where
   one : TypeTree X → InParens X
@@ -132,11 +136,11 @@ pub data InParens (X : Type 0) : Type 0 where
 -- what brackets hold: a type, and perhaps a length
 pub data InBrackets (X : Type 0) : Type 0 where
   element : TypeTree X → InBrackets X
-  counted : TypeTree X → Semi × Expr X → InBrackets X
+  counted : TypeTree X → Length X → InBrackets X
 
 module _ {X : Type 0} (supplied : Place → Reader X) where
   -- `;` and the length of an array
-  unfoldable pub length : Reader (Semi × Expr X)
+  unfoldable pub length : Reader (Length X)
   length = do
     s ← semi
     n ← supplied ArrayLen
@@ -169,7 +173,7 @@ module _ {X : Type 0} (supplied : Place → Reader X) (typ : Bool → Reader (Ty
     goes ← peek sees_semi
     if goes then counted x <$> length supplied else pure (element x)
 
-  unfoldable pub array_content : Reader (TypeTree X × Semi × Expr X)
+  unfoldable pub array_content : Reader (TypeTree X × Length X)
   array_content = do
     x ← typ true
     n ← length supplied
@@ -178,7 +182,7 @@ module _ {X : Type 0} (supplied : Place → Reader X) (typ : Bool → Reader (Ty
   -- ---- the readers of single forms
 
   unfoldable pub array : Reader (TypeArrayOf (TypeTree X) (Expr X))
-  array = (λ g. array_of (groups.bracket g.0) g.1 g.2 g.3) <$> in_group d.Bracket groups.bracket_name array_content
+  array = (λ g. array_of (groups.bracket g.0) g.1.0 g.1.1.0 g.1.1.1) <$> in_group d.Bracket groups.bracket_name array_content
 
   unfoldable pub slice : Reader (TypeSliceOf (TypeTree X))
   slice = (λ g. slice_of (groups.bracket g.0) g.1) <$> in_group d.Bracket groups.bracket_name (typ true)
