@@ -9,9 +9,12 @@ ghost use Rattle.syn_mid.specs.ty.Knot as knot;
 ghost use Rattle.syn_mid.specs.ty.Reading as reading;
 ghost use Rattle.syn_mid.specs.ty.Spelling.{IsMutability, IsInfer, IsNever, IsMacroType, IsPathType, IsSomeType, IsSomeArray, IsSomeParen, IsSomePtr, IsSomeReference, IsSomeSlice, IsSomeTuple};
 
-use crate::grammar::{Grammar, parse_mutability, parse_type};
-use crate::mac::{Macro, parse_macro};
-use crate::path::{Path, parse_plain_path};
+use crate::grammar::{
+    Grammar, parse_infer, parse_macro_type, parse_mutability, parse_never, parse_path_type,
+    parse_type,
+};
+use crate::mac::Macro;
+use crate::path::Path;
 use crate::supplied::{Expr, Subtree};
 use std::alloc::Global;
 use std::marker::PhantomData;
@@ -338,8 +341,7 @@ impl Parse for TypeNever {
         ensures front { Visible input.old.rest → IfOk result (λ x. IsNever false x input.old.rest input.new.rest) }
         ensures promise { Heads grammars.never input.old result input.new }
     {
-        let bang_token = input.parse::<Not>(alloc)?;
-        Ok(TypeNever { bang_token })
+        parse_never(alloc, input)
     }
 }
 
@@ -357,8 +359,7 @@ impl Parse for TypeInfer {
         ensures front { Visible input.old.rest → IfOk result (λ x. IsInfer x input.old.rest input.new.rest) }
         ensures promise { Heads grammars.infer input.old result input.new }
     {
-        let underscore_token = input.parse::<Underscore>(alloc)?;
-        Ok(TypeInfer { underscore_token })
+        parse_infer(alloc, input)
     }
 }
 
@@ -376,8 +377,7 @@ impl<X: Subtree> Parse for TypeMacro<X> {
         ensures front { Visible input.old.rest → IfOk result (λ x. IsMacroType false x input.old.rest input.new.rest) }
         ensures promise { Heads grammars.macro_type input.old result input.new }
     {
-        let mac = parse_macro(alloc, input)?;
-        Ok(TypeMacro { mac })
+        parse_macro_type(alloc, input)
     }
 }
 
@@ -396,8 +396,7 @@ impl<X: Subtree> Parse for TypePath<X> {
         ensures front { Visible input.old.rest → IfOk result (λ x. IsPathType false x input.old.rest input.new.rest) }
         ensures promise { Heads grammars.path_type input.old result input.new }
     {
-        let path = parse_plain_path(alloc, input)?;
-        Ok(TypePath { path })
+        parse_path_type(alloc, input)
     }
 }
 
