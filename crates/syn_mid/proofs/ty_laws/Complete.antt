@@ -1,28 +1,25 @@
 -- A type that a list spells clearly is what the read answers, over the reads of the types that it holds.
 use Rattle.std.specs.Prelude.{not, ◌&&◌}
-use Rattle.std.proofs.Common.{◌≡◌, ℕ, ◌<◌, ◌≤◌, Bool, true, false, List, [], ◌∷◌, Option, Some, None, Ok, refl, sym, ◌∙◌, ap, subst, arith}
+use Rattle.std.proofs.Common.{◌≡◌, ℕ, ◌<◌, ◌≤◌, Bool, true, false, List, ◌∷◌, Option, None, Ok, refl, ◌∙◌, ap, arith}
 use Rattle.token_core.specs.declared.lifetime.Lifetime.{Lifetime}
 use Rattle.token_core.specs.declared.span.Span.{Span}
 use Rattle.token_core.specs.declared.span.DelimSpan.{DelimSpan}
 use Rattle.token_core.specs.declared.mark.Mark.{Mark}
 use Rattle.token_core.specs.declared.tree.Delimiter.{Delimiter}
 use Rattle.token_core.specs.declared.tree.Delimiter.TheVariants.{Parenthesis, Bracket}
-use Rattle.token_core.specs.declared.tree.Ident.{Ident}
-use Rattle.token_core.specs.declared.tree.Punct.{Punct}
 use Rattle.token_core.specs.declared.tree.Spacing.{Spacing}
 use Rattle.token_core.specs.declared.tree.Spacing.TheVariants.{Joint, Alone}
 use Rattle.token_core.specs.declared.word.Word.{Word}
 use Rattle.token_core.specs.Groups as groups
 use Rattle.token_core.specs.Spans.{none}
 use Rattle.token_core.specs.Keywords.{is_keyword}
-use Rattle.token_core.specs.Lifetimes.{sees_lifetime, read_lifetime, read_optional_lifetime}
+use Rattle.token_core.specs.Lifetimes.{sees_lifetime, read_optional_lifetime}
 use Rattle.token_core.specs.Listed.{AreListed, Anywhere}
-use Rattle.token_core.specs.Loops.{size, Many, terminated}
-use Rattle.token_core.specs.Marks.{chars_of, read, read_named}
-use Rattle.token_core.specs.Reads.{Reader, and_then, pure, is_done, leaves, inside, sees_mark, sees_word, sees_group}
+use Rattle.token_core.specs.Loops.{size, terminated}
+use Rattle.token_core.specs.Reads.{Reader, and_then, pure, is_done, sees_mark, sees_word, sees_group}
 use Rattle.token_core.specs.Spellings.{last_char, IsMark, is_mark, IsWord, is_word, IsLifetime, is_lifetime}
 use Rattle.token_core.specs.Stream.{Stream, Scope}
-use Rattle.token_core.specs.Toks.{Bytes, Toks, done, word, mark, lit, group}
+use Rattle.token_core.specs.Toks.{Toks, done, mark, group}
 use Rattle.token_core.specs.Trees.{punct}
 use Rattle.token_core.proofs.MarkSpells.{mark_complete, mark_seen, mark_size}
 use Rattle.token_core.proofs.Steps.{link, chosen, Reads_to}
@@ -33,7 +30,6 @@ use Rattle.syn_mid.specs.declared.path.Path.{Path}
 use Rattle.syn_mid.specs.declared.supplied.Expr.{Expr}
 use Rattle.syn_mid.specs.declared.supplied.Expr.TheVariants as e
 use Rattle.syn_mid.specs.declared.ty.PointerMutability.{PointerMutability}
-use Rattle.syn_mid.specs.declared.ty.PointerMutability.TheVariants as m
 use Rattle.syn_mid.specs.declared.ty.Type.{«Type» as TypeTree}
 use Rattle.syn_mid.specs.declared.ty.Type.TheVariants as t
 use Rattle.syn_mid.specs.declared.ty.TypeArrayOf.{TypeArrayOf}
@@ -48,11 +44,11 @@ use Rattle.syn_mid.specs.declared.ty.TypeSliceOf.{TypeSliceOf}
 use Rattle.syn_mid.specs.declared.ty.TypeTupleOf.{TypeTupleOf}
 use Rattle.syn_mid.specs.Supplied.{Place, ArrayLen, UsesUp}
 use Rattle.syn_mid.specs.mac.Spelling.{IsCall, a_macro}
-use Rattle.syn_mid.specs.path.Reading.{sees_sep, sees_angle, plain_path}
-use Rattle.syn_mid.specs.path.Spelling.{is_mod_word, is_type_word, IsPlainPath}
+use Rattle.syn_mid.specs.path.Reading.{sees_sep, sees_angle}
+use Rattle.syn_mid.specs.path.Spelling.{is_type_word, IsPlainPath}
 use Rattle.syn_mid.specs.ty.Knot.{ahead}
 use Rattle.syn_mid.specs.ty.Reading as reading
-use Rattle.syn_mid.specs.ty.Reading.{InParens, InBrackets, one, elements, element, counted, Length, begins_path, by_mark, type_step, mutable, mutability, infer, never, macro_type, path_type, ended, path_or_macro, more_elements, tuple_content, paren_content, bracket_content, array_content, paren_or_tuple, slice_or_array, held_in_parens, sees_call, sees_plus, sees_comma, sees_semi, sees_named}
+use Rattle.syn_mid.specs.ty.Reading.{one, elements, element, counted, begins_path, by_mark, type_step, mutable, mutability, infer, never, macro_type, path_type, ended, path_or_macro, more_elements, tuple_content, paren_content, bracket_content, array_content, paren_or_tuple, slice_or_array, sees_call, sees_plus, sees_comma, sees_semi, sees_named}
 use Rattle.syn_mid.specs.ty.Spelling as s
 use Rattle.syn_mid.specs.ty.Spelling.{Relation, IsOptional, absent, present, IsMutability, a_const, a_mut, IsInfer, an_infer, IsNever, a_never, IsPathType, a_path_type, IsMacroType, a_macro_type, AreElements, no_elements, some_elements, IsTuple, a_tuple, IsParen, a_paren, IsSlice, a_slice, IsArray, an_array, IsPtr, a_ptr, IsReference, a_reference, IsType, Ends}
 use Rattle.syn_mid.specs.ty.Types.{And, Star, Comma, Semi, Mut, Underscore, array_of, infer_of, macro_type_of, never_of, paren_of, path_type_of, ptr_of, reference_of, slice_of, tuple_of}

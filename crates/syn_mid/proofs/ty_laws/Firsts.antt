@@ -1,6 +1,6 @@
 -- How a spelling of a type begins, and that it takes tokens.
 use Rattle.std.proofs.lemmas.Slice.Eq.{bytes_eq-Decides}
-use Rattle.std.proofs.Common.{◌≡◌, ℕ, zero, suc, ◌<◌, ◌≤◌, Bool, true, false, ◌||◌, List, [], ◌∷◌, Option, Some, None, refl, sym, ◌∙◌, ap, arith}
+use Rattle.std.proofs.Common.{◌≡◌, ℕ, zero, suc, ◌<◌, ◌≤◌, Bool, true, false, ◌||◌, List, ◌∷◌, Option, Some, None, refl, sym, ◌∙◌, ap, arith}
 use Rattle.token_core.specs.declared.lifetime.Lifetime.{Lifetime}
 use Rattle.token_core.specs.declared.span.Span.{Span}
 use Rattle.token_core.specs.declared.span.DelimSpan.{DelimSpan}
@@ -29,7 +29,7 @@ use Rattle.syn_mid.specs.mac.Spelling.{IsCall, a_macro}
 use Rattle.syn_mid.specs.path.Paths.{Sep}
 use Rattle.syn_mid.specs.path.Spelling.{is_mod_word, is_type_word, IsLeading, no_leading, leading, AreSegments, last_segment, more_segments, IsBarePath, a_bare_path, IsPlainPath}
 use Rattle.syn_mid.specs.ty.Reading.{begins_path, sees_named}
-use Rattle.syn_mid.specs.ty.Spelling.{Relation, IsOptional, absent, present, IsMutability, a_const, a_mut, IsNever, a_never, IsInfer, an_infer, IsPathType, a_path_type, IsTuple, a_tuple, IsParen, a_paren, IsSlice, a_slice, IsArray, an_array, IsPtr, a_ptr, IsReference, a_reference, IsType, TypeBelow}
+use Rattle.syn_mid.specs.ty.Spelling.{Relation, IsOptional, absent, present, IsMutability, a_const, a_mut, a_never, an_infer, a_path_type, a_tuple, a_paren, a_slice, an_array, a_ptr, a_reference, IsType, TypeBelow}
 use Rattle.syn_mid.specs.ty.Spelling as s
 use Rattle.syn_mid.specs.ty.Types.{try_first, is_try_path, Star, And}
 

@@ -1,15 +1,13 @@
 -- What an admitted type spells clearly is read, by induction on the height of the tree.
-use Rattle.std.proofs.Common.{◌≡◌, ℕ, zero, suc, ◌<◌, ◌≤◌, Bool, true, false, Option, Ok, sym, ◌∙◌, ap, arith}
+use Rattle.std.proofs.Common.{◌≡◌, ℕ, zero, suc, ◌<◌, Bool, true, false, Option, Ok, ◌∙◌, ap, arith}
 use Rattle.std.proofs.lemmas.Bool.{lt-ltb}
 use Rattle.token_core.specs.declared.span.Span.{Span}
 use Rattle.token_core.specs.declared.span.DelimSpan.{DelimSpan}
 use Rattle.token_core.specs.declared.tree.Delimiter.{Delimiter}
-use Rattle.token_core.specs.declared.tree.Ident.{Ident}
-use Rattle.token_core.specs.declared.tree.Punct.{Punct}
 use Rattle.token_core.specs.Loops.{size}
 use Rattle.token_core.specs.Reads.{Outcome, Reader}
 use Rattle.token_core.specs.Stream.{Stream, Scope}
-use Rattle.token_core.specs.Toks.{Toks, word, mark, group}
+use Rattle.token_core.specs.Toks.{Toks, group}
 use Rattle.token_core.proofs.Steps.{Reads_to}
 use Rattle.token_core.proofs.Took.{at}
 use Rattle.syn_mid.specs.declared.supplied.Expr.{Expr}
@@ -23,7 +21,6 @@ use Rattle.syn_mid.specs.declared.ty.TypeTupleOf.{TypeTupleOf}
 use Rattle.syn_mid.specs.Supplied.{Place, UsesUp}
 use Rattle.syn_mid.specs.ty.Knot.{ahead, below, below_if, ty, types}
 use Rattle.syn_mid.specs.ty.Knot as knot
-use Rattle.syn_mid.specs.ty.Reading.{type_step}
 use Rattle.syn_mid.specs.ty.Spelling.{TypeBelow, IsSomeType, IsSomeArray, IsSomeParen, IsSomePtr, IsSomeReference, IsSomeSlice, IsSomeTuple, Ends}
 use Rattle.syn_mid.proofs.ty_laws.Ahead.{weight, weight-group}
 use Rattle.syn_mid.proofs.ty_laws.Complete as laws
