@@ -4,3 +4,8 @@ pub mod Elements
 pub mod Refusals
 pub mod Takes
 pub mod GroupsSound
+pub mod Firsts
+pub mod GroupsComplete
+pub mod ListedComplete
+pub mod Complete
+pub mod KnotComplete
