@@ -1,5 +1,5 @@
 -- The normal form of each kind of type and of length.
-use Rattle.std.proofs.Common.{◌≡◌, map, sym, ◌∙◌, ap}
+use Rattle.std.proofs.Common.{◌≡◌, sym, ◌∙◌, ap}
 use Rattle.syn_mid.specs.Supplied.{Place, ArrayLen}
 use Rattle.syn_mid.specs.declared.supplied.Expr.{Expr}
 use Rattle.syn_mid.specs.declared.supplied.Expr.TheVariants as e
