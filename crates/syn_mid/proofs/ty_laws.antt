@@ -9,3 +9,7 @@ pub mod GroupsComplete
 pub mod ListedComplete
 pub mod Complete
 pub mod KnotComplete
+pub mod Normal
+pub mod Prints
+pub mod Reprint
+pub mod KnotReprint
