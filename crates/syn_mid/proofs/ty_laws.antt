@@ -1,2 +1,4 @@
 pub mod Ahead
 pub mod Knot
+pub mod GroupsSound
+pub mod Takes
