@@ -13,3 +13,5 @@ pub mod Normal
 pub mod Prints
 pub mod Reprint
 pub mod KnotReprint
+pub mod Sound
+pub mod KnotSound
