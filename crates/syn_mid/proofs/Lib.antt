@@ -2,3 +2,4 @@ pub mod path_laws
 pub mod mac_laws
 pub mod attr_laws
 pub mod meta_laws
+pub mod ty_laws

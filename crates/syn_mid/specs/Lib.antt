@@ -3,3 +3,4 @@ pub mod path
 pub mod mac
 pub mod attr
 pub mod meta
+pub mod ty
