@@ -1,7 +1,8 @@
 -- Where a tuple has one element without a comma.
-use Rattle.std.proofs.Common.{◌≡◌, ℕ, ◌<◌, List, [], ◌∷◌, Option, Some, None, length, refl, arith}
+use Rattle.std.proofs.Common.{◌≡◌, ℕ, ◌<◌, List, [], ◌∷◌, Option, Some, None, length, refl, ap, ◌∙◌, arith}
 use Rattle.token_core.specs.declared.punctuated.Pair.{Pair}
 use Rattle.token_core.specs.Joined.{values_of, marks_of}
+use Rattle.token_core.specs.Loops.{Many}
 use Rattle.token_core.specs.Prints as p
 use Rattle.syn_mid.specs.ty.Printing.{Comma, comma, lone_comma}
 
@@ -21,4 +22,14 @@ module _ {T : Type 0} where
   lone_one [] t h = refl
   lone_one (x ∷ all) t h = absurd (omega (arith, h))
 
-pub ruleset lone = (lone_pairs, lone_none, lone_one)
+  -- of a list, by its parts
+  pub in_pairs : (v : Many T Comma) (all : List (Pair T Comma)) (last : Option T) → v ≡ (values_of all last, marks_of all) → 0 < length all → lone_comma v.0 v.1 ≡ []
+  in_pairs v all last h n = ap (λ (z : Many T Comma). lone_comma z.0 z.1) h ∙ lone_pairs all last n
+
+  pub in_none : (v : Many T Comma) (all : List (Pair T Comma)) (last : Option T) → v ≡ (values_of all last, marks_of all) → last ≡ None → lone_comma v.0 v.1 ≡ []
+  in_none v all last h k = ap (λ (z : Many T Comma). lone_comma z.0 z.1) h ∙ ap (λ l. lone_comma (values_of all l) (marks_of all)) k ∙ lone_none all
+
+  pub in_one : (v : Many T Comma) (all : List (Pair T Comma)) (last : Option T) (t : T) → v ≡ (values_of all last, marks_of all) → last ≡ Some t → length all ≡ 0 → lone_comma v.0 v.1 ≡ p.mark comma
+  in_one v all last t h k n = ap (λ (z : Many T Comma). lone_comma z.0 z.1) h ∙ ap (λ l. lone_comma (values_of all l) (marks_of all)) k ∙ lone_one all t n
+
+pub ruleset lone = (in_pairs, in_none, in_one, lone_pairs, lone_none, lone_one)
