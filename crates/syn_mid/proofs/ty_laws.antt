@@ -1,3 +1,3 @@
-pub mod Elements
+pub mod Parts
 pub mod Prints
 pub mod Lone

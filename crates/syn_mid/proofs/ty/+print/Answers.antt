@@ -7,7 +7,7 @@ use Rattle.token_core.specs.Trees.{trees}
 use Rattle.token_core.proofs.Puts.{extends_on}
 use Rattle.syn_mid.specs.ty.Printing.{ty}
 use Rattle.syn_mid.proofs.ty.Type.TheLaws.{the_size}
-use Rattle.syn_mid.proofs.ty_laws.Elements.{in_list, last_in_list, put_last}
+use Rattle.syn_mid.proofs.ty_laws.Parts.{in_list, last_in_list, put_last}
 use Rattle.syn_mid.proofs.ty.+print.Goals as goal
 
 pub print_ptr-returns-clause-err : goal.print_ptr-returns-clause-err

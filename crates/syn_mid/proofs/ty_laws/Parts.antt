@@ -1,5 +1,5 @@
--- The elements of a list: each weighs no more than the list, and the last is printed after those before it.
-use Rattle.std.proofs.Common.{◌≡◌, ℕ, zero, suc, ◌<◌, ◌≤◌, List, [], ◌∷◌, ◌++◌, Option, Some, None, get_or, length, drop, sym, ap, ◌∙◌, append-nil, arith}
+-- Lists by their parts: an element weighs no more than the list, and the last is printed after those before it.
+use Rattle.std.proofs.Common.{◌≡◌, ℕ, zero, suc, ◌<◌, ◌≤◌, List, [], ◌∷◌, ◌++◌, Option, Some, get_or, length, drop, sym, ap, ◌∙◌, append-nil, arith}
 use Rattle.std.proofs.lemmas.List.{drop_all}
 use denote.Param.Weighed.{most}
 use Rattle.token_core.specs.declared.punctuated.Pair.{Pair}
