@@ -15,3 +15,6 @@ pub mod Reprint
 pub mod KnotReprint
 pub mod Sound
 pub mod KnotSound
+pub mod Parts
+pub mod Lone
+pub mod Laws
