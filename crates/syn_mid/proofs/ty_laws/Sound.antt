@@ -8,21 +8,21 @@ use Rattle.token_core.specs.declared.span.DelimSpan.{DelimSpan}
 use Rattle.token_core.specs.declared.tree.Delimiter.{Delimiter}
 use Rattle.token_core.specs.declared.tree.Delimiter.TheVariants.{Parenthesis, Bracket}
 use Rattle.token_core.specs.declared.tree.Ident.{Ident}
-use Rattle.token_core.specs.Toks.{Bytes, Toks, done, word, mark, lit, group, enter, leave}
+use Rattle.token_core.specs.Toks.{Bytes, Toks, done, word, group}
 use Rattle.token_core.specs.Groups as groups
 use Rattle.token_core.specs.Keywords.{is_keyword}
 use Rattle.token_core.specs.Lifetimes.{sees_lifetime, read_lifetime, read_optional_lifetime}
 use Rattle.token_core.specs.Listed.{AreListed, none_left, last_value, value_and_mark, Anywhere}
-use Rattle.token_core.specs.Loops.{Many, listed, terminated}
+use Rattle.token_core.specs.Loops.{Many, terminated}
 use Rattle.token_core.specs.Marks as marks
 use Rattle.token_core.specs.Rebuilt.{Visible}
 use Rattle.token_core.specs.Refusal.{Refusal}
 use Rattle.token_core.specs.Spellings.{IsMark, IsWord, IsLifetime}
 use Rattle.token_core.specs.Stream.{Stream}
-use Rattle.token_core.specs.Reads.{Reader, Reads, Outcome, optional, is_done, is_text, sees_mark, sees_word, sees_group, leaves, left_here, first_of, inside, in_group}
+use Rattle.token_core.specs.Reads.{Reader, Reads, optional, is_done, is_text, sees_mark, sees_word, sees_group, leaves, left_here, inside, in_group}
 use Rattle.token_core.proofs.Listings.{listed_sound, listed_visible}
 use Rattle.token_core.proofs.MarkSpells.{Taken, mark_sound, mark_visible}
-use Rattle.token_core.proofs.Took.{branch, mapped, seen_word, took_all}
+use Rattle.token_core.proofs.Took.{branch, mapped, took_all}
 use Rattle.token_core.proofs.Turns.{chain, same_pair}
 use Rattle.token_core.proofs.WordSpells.{word_sound, word_visible, lifetime_sound, lifetime_visible}
 use Rattle.syn_mid.specs.declared.mac.Macro.{Macro}
@@ -47,15 +47,14 @@ use Rattle.syn_mid.specs.declared.ty.TypeTupleOf.{TypeTupleOf}
 use Rattle.syn_mid.specs.Supplied.{Place, ArrayLen, UsesUp}
 use Rattle.syn_mid.specs.mac.Reading as macs
 use Rattle.syn_mid.specs.mac.Reading.{call_after}
-use Rattle.syn_mid.specs.mac.Spelling.{IsCall, IsMacro}
 use Rattle.syn_mid.specs.path.Paths.{Sep}
-use Rattle.syn_mid.specs.path.Reading.{plain_path, sees_sep}
-use Rattle.syn_mid.specs.path.Spelling.{is_mod_word, is_type_word, IsLeading, no_leading, leading, AreSegments, last_segment, more_segments, a_bare_path, IsPlainPath}
+use Rattle.syn_mid.specs.path.Reading.{plain_path}
+use Rattle.syn_mid.specs.path.Spelling.{is_mod_word, is_type_word, no_leading, leading, AreSegments, last_segment, more_segments, a_bare_path, IsPlainPath}
 use Rattle.syn_mid.specs.ty.Reading as reading
 use Rattle.syn_mid.specs.ty.Reading.{Length, InParens, one, elements, InBrackets, element, counted, sees_plus, sees_comma, sees_semi, sees_star, sees_and, sees_bang, sees_named, sees_call, begins_path, mutable, ended, path_or_macro, more_elements, tuple_content, paren_content, bracket_content, array_content, held_in_parens, held_in_brackets, paren_or_tuple, slice_or_array, by_mark, type_step}
 use Rattle.syn_mid.specs.ty.Spelling.{Relation, IsOptional, absent, present, IsMutability, a_const, a_mut, IsInfer, an_infer, IsNever, a_never, IsPathType, a_path_type, IsMacroType, a_macro_type, AreElements, no_elements, some_elements, IsTuple, a_tuple, IsParen, a_paren, IsSlice, a_slice, IsArray, an_array, IsPtr, a_ptr, IsReference, a_reference, IsType}
 use Rattle.syn_mid.specs.ty.Spelling as is
-use Rattle.syn_mid.specs.ty.Types.{And, Star, Comma, Semi, Mut, Underscore, array_of, infer_of, macro_type_of, never_of, paren_of, path_type_of, ptr_of, reference_of, slice_of, tuple_of, try_first, is_try_path}
+use Rattle.syn_mid.specs.ty.Types.{Comma, Mut, array_of, infer_of, macro_type_of, never_of, paren_of, path_type_of, ptr_of, reference_of, slice_of, tuple_of, try_first, is_try_path}
 use Rattle.syn_mid.proofs.attr_laws.Sound.{TookOne, first_parts}
 use Rattle.syn_mid.proofs.mac_laws.Sound.{macro_sound, call_sound, visible_call}
 use Rattle.syn_mid.proofs.path_laws.Sound.{plain_sound, visible_path}
@@ -302,10 +301,10 @@ module _ {X : Type 0} (reads : Place → Reader X) (spells : Place → X → Tok
   further_sound : (s t : Stream) (w : Many (TypeTree X) Comma) → Visible s.rest → terminated is_done (typ true) reading.comma s ≡ Ok (w, t) → leaves t ≡ None → (s.left ≡ None) × Further w s.rest done
   further_sound s t w v e h =
       let k = listed_sound (λ (_ : Bool). is_done) (λ (_ : Bool). typ true) (λ l. not (is_done l)) reading.comma (λ (_ : Bool). T true) (IsMark false) Anywhere (λ (z : Stream). z.left ≡ None)
-          (λ b l g. tt) (λ b a c x u i. (took true a c x u i).seen) comma_seen (λ b a c x u g i. value_took a c x u i) (λ a c x u g i. comma_took a c x u i) true s t w v e (nothing_left t h) in
+      (λ b l g. tt) (λ b a c x u i. (took true a c x u i).seen) comma_seen (λ b a c x u g i. value_took a c x u i) (λ a c x u g i. comma_took a c x u i) true s t w v e (nothing_left t h) in
       let over = took_all t
-          (listed_visible (λ (_ : Bool). is_done) (λ (_ : Bool). typ true) (λ l. not (is_done l)) reading.comma (λ (_ : Bool). T true) (IsMark false) Anywhere (λ (z : Stream). z.left ≡ None)
-          (λ b l g. tt) (λ b a c x u i. (took true a c x u i).seen) comma_seen (λ b a c x u g i. value_took a c x u i) (λ a c x u g i. comma_took a c x u i) true s t w v e) h in
+      (listed_visible (λ (_ : Bool). is_done) (λ (_ : Bool). typ true) (λ l. not (is_done l)) reading.comma (λ (_ : Bool). T true) (IsMark false) Anywhere (λ (z : Stream). z.left ≡ None)
+      (λ b l g. tt) (λ b a c x u i. (took true a c x u i).seen) comma_seen (λ b a c x u g i. value_took a c x u i) (λ a c x u g i. comma_took a c x u i) true s t w v e) h in
       (k.0, subst (λ z. Further w s.rest z) over (not_first k.1))
 
   more_sound : (x : TypeTree X) (l : Toks) (s t : Stream) (w : Many (TypeTree X) Comma) → Visible s.rest → more_elements reads typ x s ≡ Ok (w, t) → leaves t ≡ None →

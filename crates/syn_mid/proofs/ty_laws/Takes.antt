@@ -1,5 +1,5 @@
 -- A read of a type takes tokens, on every stream.
-use Rattle.std.proofs.Common.{◌≡◌, ℕ, zero, suc, ◌<◌, ◌≤◌, Bool, true, false, ◌&&◌, Option, Some, None, Ok, Err, inl, inr, refl, sym, ap, subst, arith}
+use Rattle.std.proofs.Common.{◌≡◌, ℕ, zero, suc, ◌<◌, ◌≤◌, Bool, false, ◌&&◌, Option, Some, None, Ok, inl, inr, refl, subst, arith}
 use Rattle.token_core.specs.declared.lifetime.Lifetime.{Lifetime}
 use Rattle.token_core.specs.declared.word.Word.{Word}
 use Rattle.token_core.specs.declared.span.DelimSpan.{DelimSpan}
@@ -30,12 +30,10 @@ use Rattle.syn_mid.specs.declared.ty.PointerMutability.{PointerMutability}
 use Rattle.syn_mid.specs.declared.ty.PointerMutability.TheVariants as m
 use Rattle.syn_mid.specs.declared.ty.Type.{«Type» as TypeTree}
 use Rattle.syn_mid.specs.declared.ty.Type.TheVariants as v
-use Rattle.syn_mid.specs.declared.ty.TypeMacro.{TypeMacro}
-use Rattle.syn_mid.specs.declared.ty.TypePath.{TypePath}
 use Rattle.syn_mid.specs.declared.ty.TypePtrOf.{TypePtrOf}
 use Rattle.syn_mid.specs.declared.ty.TypeReferenceOf.{TypeReferenceOf}
 use Rattle.syn_mid.specs.Supplied.{Place}
-use Rattle.syn_mid.specs.mac.Macros.{Bang, Held, macro_of}
+use Rattle.syn_mid.specs.mac.Macros.{Held, macro_of}
 use Rattle.syn_mid.specs.mac.Reading.{bang, held, body, call_after}
 use Rattle.syn_mid.specs.path.Reading.{bare_path, plain_path, sees_angle}
 use Rattle.syn_mid.specs.ty.Knot.{ahead, below, type_at, ty, types}
