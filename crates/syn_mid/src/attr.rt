@@ -553,7 +553,7 @@ fn print_name_value<X: Subtree>(
 /// The value of a meta: a literal has its outer attributes before it.
 #[cycle(print)]
 #[tactic(auto, using(token_core::proofs::Puts::puts, crate::proofs::attr_laws::Prints::prints, crate::proofs::attr_laws::Prints::contents))]
-fn print_value<X: Subtree>(
+pub(crate) fn print_value<X: Subtree>(
     alloc: Global,
     value: &Expr<X>,
     out: &mut TokenStream,

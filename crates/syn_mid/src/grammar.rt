@@ -13,7 +13,7 @@ ghost use Rattle.syn_mid.specs.ty.Knot as knot;
 ghost use Rattle.syn_mid.specs.ty.Knot.{Nests, ahead};
 ghost use Rattle.syn_mid.specs.ty.Reading as reading;
 
-use crate::mac::parse_call_after;
+use crate::mac::{parse_call_after, parse_macro};
 use crate::path::parse_plain_path;
 use crate::supplied::{Expr, Place, Subtree};
 use crate::ty::{
@@ -155,6 +155,30 @@ fn sees_call(input: &ParseStream<'_>) -> bool
     input.peek::<Not>() & !input.peek::<Ne>()
 }
 
+/// `!`
+pub(crate) fn parse_never(
+    alloc: Global,
+    input: &mut ParseStream<'_>,
+) -> Result<TypeNever, Error>
+    ensures reads { Reads (reading.never input.old) result input.new }
+    ensures within { Follows input.old input.new }
+{
+    let bang_token = input.parse::<Not>(alloc)?;
+    Ok(TypeNever { bang_token })
+}
+
+/// `_`
+pub(crate) fn parse_infer(
+    alloc: Global,
+    input: &mut ParseStream<'_>,
+) -> Result<TypeInfer, Error>
+    ensures reads { Reads (reading.infer input.old) result input.new }
+    ensures within { Follows input.old input.new }
+{
+    let underscore_token = input.parse::<Underscore>(alloc)?;
+    Ok(TypeInfer { underscore_token })
+}
+
 /// A type after which, where `+` is allowed, none may stand: it would begin a trait object, which is not read yet.
 #[tactic(auto, unfolding(crate::specs::ty::Reading::ended))]
 fn ended<X: Drop>(
@@ -169,6 +193,30 @@ fn ended<X: Drop>(
         return Err(input.refuse(alloc, ErrorKind::Unexpected));
     }
     Ok(ty)
+}
+
+/// A macro call in the place of a type.
+pub(crate) fn parse_macro_type<X: Drop>(
+    alloc: Global,
+    input: &mut ParseStream<'_>,
+) -> Result<TypeMacro<X>, Error>
+    ensures reads { Reads (reading.macro_type input.old) result input.new }
+    ensures within { Follows input.old input.new }
+{
+    let mac = parse_macro(alloc, input)?;
+    Ok(TypeMacro { mac })
+}
+
+/// A path as a type by itself.
+pub(crate) fn parse_path_type<X: Drop>(
+    alloc: Global,
+    input: &mut ParseStream<'_>,
+) -> Result<TypePath<X>, Error>
+    ensures reads { Reads (reading.path_type input.old) result input.new }
+    ensures within { Follows input.old input.new }
+{
+    let path = parse_plain_path(alloc, input)?;
+    Ok(TypePath { path })
 }
 
 /// A path, or a macro call by its path.
@@ -437,12 +485,10 @@ impl<
             return Ok(Type::Reference(self.reference(input)?));
         }
         if input.peek::<Not>() {
-            let bang_token = input.parse::<Not>(self.alloc)?;
-            return Ok(Type::Never(TypeNever { bang_token }));
+            return Ok(Type::Never(parse_never(self.alloc, input)?));
         }
         if input.peek::<Underscore>() {
-            let underscore_token = input.parse::<Underscore>(self.alloc)?;
-            return Ok(Type::Infer(TypeInfer { underscore_token }));
+            return Ok(Type::Infer(parse_infer(self.alloc, input)?));
         }
         Err(input.expected(self.alloc, "type"))
     }

@@ -1,4 +1,4 @@
-//! Paths and macro calls of Rust, read from token lists into syntax trees and printed back.
+//! Paths, macro calls, attributes and plain types of Rust, read from token lists into syntax trees and printed back.
 #![tactic(auto)]
 
 pub mod attr;
@@ -23,4 +23,4 @@ pub use ty::{
     TypeParenOf, TypePath, TypePtr, TypePtrOf, TypeReference, TypeReferenceOf, TypeSlice,
     TypeSliceOf, TypeTuple, TypeTupleOf,
 };
-pub use whole::{ModStyle, ParseInner, ParseOuter};
+pub use whole::{ModStyle, ParseInner, ParseOuter, WithoutPlus};

@@ -1,22 +1,31 @@
 //! Types.
 
-ghost use Rattle.std.specs.Prelude.{◌≡◌, false, true, IfOk, Option};
+ghost use Rattle.std.specs.Prelude.{◌≡◌, ◌++◌, false, true, IfOk, OnOk, OnErr, Option};
 ghost use Rattle.token_core.specs.Headline.{Headline, Heads};
+ghost use Rattle.token_core.specs.Prints.{Extends};
 ghost use Rattle.token_core.specs.Reads.{Reads, Follows, Gives, Fails};
 ghost use Rattle.token_core.specs.Rebuilt.{Visible};
+ghost use Rattle.token_core.specs.Trees.{trees};
 ghost use Rattle.syn_mid.specs.ty.Grammars as grammars;
 ghost use Rattle.syn_mid.specs.ty.Knot as knot;
+ghost use Rattle.syn_mid.specs.ty.Printing as printing;
 ghost use Rattle.syn_mid.specs.ty.Reading as reading;
 ghost use Rattle.syn_mid.specs.ty.Spelling.{IsMutability, IsInfer, IsNever, IsMacroType, IsPathType, IsSomeType, IsSomeArray, IsSomeParen, IsSomePtr, IsSomeReference, IsSomeSlice, IsSomeTuple};
 
-use crate::grammar::{Grammar, parse_mutability, parse_type};
-use crate::mac::{Macro, parse_macro};
-use crate::path::{Path, parse_plain_path};
-use crate::supplied::{Expr, Subtree};
-use std::alloc::Global;
+use crate::attr::print_value;
+use crate::grammar::{
+    Grammar, parse_infer, parse_macro_type, parse_mutability, parse_never, parse_path_type,
+    parse_type,
+};
+use crate::mac::Macro;
+use crate::path::Path;
+use crate::supplied::{Expr, Place, Subtree};
+use std::alloc::{AllocError, Global};
 use std::marker::PhantomData;
 use token_core::token::{And, Bracket, Comma, Const, Mut, Not, Paren, Semi, Star, Underscore};
-use token_core::{Boxed, Error, Lifetime, Parse, ParseStream, Punctuated};
+use token_core::{
+    Boxed, Error, Lifetime, Parse, ParseStream, Punctuated, ToTokens, TokenStream,
+};
 
 /// A type.
 #[cycle(types)]
@@ -335,11 +344,10 @@ impl Parse for TypeNever {
     fn parse(alloc: Global, input: &mut ParseStream<'_>) -> Result<TypeNever, Error>
         ensures reads { Reads (reading.never input.old) result input.new }
         ensures within { Follows input.old input.new }
-        ensures front { Visible input.old.rest → IfOk result (λ x. IsNever false x input.old.rest input.new.rest) }
+        ensures front { Visible input.old.rest → input.new.left ≡ Option.None → IfOk result (λ x. IsNever false x input.old.rest input.new.rest) }
         ensures promise { Heads grammars.never input.old result input.new }
     {
-        let bang_token = input.parse::<Not>(alloc)?;
-        Ok(TypeNever { bang_token })
+        parse_never(alloc, input)
     }
 }
 
@@ -354,11 +362,10 @@ impl Parse for TypeInfer {
     fn parse(alloc: Global, input: &mut ParseStream<'_>) -> Result<TypeInfer, Error>
         ensures reads { Reads (reading.infer input.old) result input.new }
         ensures within { Follows input.old input.new }
-        ensures front { Visible input.old.rest → IfOk result (λ x. IsInfer x input.old.rest input.new.rest) }
+        ensures front { Visible input.old.rest → input.new.left ≡ Option.None → IfOk result (λ x. IsInfer x input.old.rest input.new.rest) }
         ensures promise { Heads grammars.infer input.old result input.new }
     {
-        let underscore_token = input.parse::<Underscore>(alloc)?;
-        Ok(TypeInfer { underscore_token })
+        parse_infer(alloc, input)
     }
 }
 
@@ -373,11 +380,10 @@ impl<X: Subtree> Parse for TypeMacro<X> {
     fn parse(alloc: Global, input: &mut ParseStream<'_>) -> Result<TypeMacro<X>, Error>
         ensures reads { Reads (reading.macro_type input.old) result input.new }
         ensures within { Follows input.old input.new }
-        ensures front { Visible input.old.rest → IfOk result (λ x. IsMacroType false x input.old.rest input.new.rest) }
+        ensures front { Visible input.old.rest → input.new.left ≡ Option.None → IfOk result (λ x. IsMacroType false x input.old.rest input.new.rest) }
         ensures promise { Heads grammars.macro_type input.old result input.new }
     {
-        let mac = parse_macro(alloc, input)?;
-        Ok(TypeMacro { mac })
+        parse_macro_type(alloc, input)
     }
 }
 
@@ -393,11 +399,10 @@ impl<X: Subtree> Parse for TypePath<X> {
     fn parse(alloc: Global, input: &mut ParseStream<'_>) -> Result<TypePath<X>, Error>
         ensures reads { Reads (reading.path_type input.old) result input.new }
         ensures within { Follows input.old input.new }
-        ensures front { Visible input.old.rest → IfOk result (λ x. IsPathType false x input.old.rest input.new.rest) }
+        ensures front { Visible input.old.rest → input.new.left ≡ Option.None → IfOk result (λ x. IsPathType false x input.old.rest input.new.rest) }
         ensures promise { Heads grammars.path_type input.old result input.new }
     {
-        let path = parse_plain_path(alloc, input)?;
-        Ok(TypePath { path })
+        parse_path_type(alloc, input)
     }
 }
 
@@ -412,9 +417,367 @@ impl Parse for PointerMutability {
     fn parse(alloc: Global, input: &mut ParseStream<'_>) -> Result<PointerMutability, Error>
         ensures reads { Reads (reading.mutability input.old) result input.new }
         ensures within { Follows input.old input.new }
-        ensures front { Visible input.old.rest → IfOk result (λ x. IsMutability x input.old.rest input.new.rest) }
+        ensures front { Visible input.old.rest → input.new.left ≡ Option.None → IfOk result (λ x. IsMutability x input.old.rest input.new.rest) }
         ensures promise { Heads grammars.mutability input.old result input.new }
     {
         parse_mutability(alloc, input)
+
+// ---- prints
+
+impl<X: Subtree> ToTokens for Type<X> {
+    ghost print = { printing.ty X.prints };
+
+    fn to_tokens(&self, alloc: Global, out: &mut TokenStream) -> Result<(), AllocError> {
+        let before = out.len();
+        match print_type(alloc, self, out) {
+            Ok(()) => Ok(()),
+            Err(error) => {
+                out.truncate(before);
+                Err(error)
+            }
+        }
+    }
+}
+
+impl<X: Subtree> ToTokens for TypeArray<X> {
+    ghost print = { printing.array X.prints };
+
+    fn to_tokens(&self, alloc: Global, out: &mut TokenStream) -> Result<(), AllocError> {
+        let before = out.len();
+        match print_array(alloc, self, out) {
+            Ok(()) => Ok(()),
+            Err(error) => {
+                out.truncate(before);
+                Err(error)
+            }
+        }
+    }
+}
+
+impl ToTokens for TypeInfer {
+    ghost print = { printing.infer };
+
+    fn to_tokens(&self, alloc: Global, out: &mut TokenStream) -> Result<(), AllocError> {
+        self.underscore_token.to_tokens(alloc, out)
+    }
+}
+
+impl<X> ToTokens for TypeMacro<X> {
+    ghost print = { printing.macro_type };
+
+    fn to_tokens(&self, alloc: Global, out: &mut TokenStream) -> Result<(), AllocError> {
+        self.mac.to_tokens(alloc, out)
+    }
+}
+
+impl ToTokens for TypeNever {
+    ghost print = { printing.never };
+
+    fn to_tokens(&self, alloc: Global, out: &mut TokenStream) -> Result<(), AllocError> {
+        self.bang_token.to_tokens(alloc, out)
+    }
+}
+
+impl<X: Subtree> ToTokens for TypeParen<X> {
+    ghost print = { printing.paren X.prints };
+
+    fn to_tokens(&self, alloc: Global, out: &mut TokenStream) -> Result<(), AllocError> {
+        let before = out.len();
+        match print_paren(alloc, self, out) {
+            Ok(()) => Ok(()),
+            Err(error) => {
+                out.truncate(before);
+                Err(error)
+            }
+        }
+    }
+}
+
+impl<X> ToTokens for TypePath<X> {
+    ghost print = { printing.path_type };
+
+    fn to_tokens(&self, alloc: Global, out: &mut TokenStream) -> Result<(), AllocError> {
+        self.path.to_tokens(alloc, out)
+    }
+}
+
+impl<X: Subtree> ToTokens for TypePtr<X> {
+    ghost print = { printing.ptr X.prints };
+
+    fn to_tokens(&self, alloc: Global, out: &mut TokenStream) -> Result<(), AllocError> {
+        let before = out.len();
+        match print_ptr(alloc, self, out) {
+            Ok(()) => Ok(()),
+            Err(error) => {
+                out.truncate(before);
+                Err(error)
+            }
+        }
+    }
+}
+
+impl<X: Subtree> ToTokens for TypeReference<X> {
+    ghost print = { printing.reference X.prints };
+
+    fn to_tokens(&self, alloc: Global, out: &mut TokenStream) -> Result<(), AllocError> {
+        let before = out.len();
+        match print_reference(alloc, self, out) {
+            Ok(()) => Ok(()),
+            Err(error) => {
+                out.truncate(before);
+                Err(error)
+            }
+        }
+    }
+}
+
+impl<X: Subtree> ToTokens for TypeSlice<X> {
+    ghost print = { printing.slice X.prints };
+
+    fn to_tokens(&self, alloc: Global, out: &mut TokenStream) -> Result<(), AllocError> {
+        let before = out.len();
+        match print_slice(alloc, self, out) {
+            Ok(()) => Ok(()),
+            Err(error) => {
+                out.truncate(before);
+                Err(error)
+            }
+        }
+    }
+}
+
+impl<X: Subtree> ToTokens for TypeTuple<X> {
+    ghost print = { printing.tuple X.prints };
+
+    fn to_tokens(&self, alloc: Global, out: &mut TokenStream) -> Result<(), AllocError> {
+        let before = out.len();
+        match print_tuple(alloc, self, out) {
+            Ok(()) => Ok(()),
+            Err(error) => {
+                out.truncate(before);
+                Err(error)
+            }
+        }
+    }
+}
+
+impl ToTokens for PointerMutability {
+    ghost print = { printing.pointer };
+
+    fn to_tokens(&self, alloc: Global, out: &mut TokenStream) -> Result<(), AllocError> {
+        match self {
+            PointerMutability::Const(token) => token.to_tokens(alloc, out),
+            PointerMutability::Mut(token) => token.to_tokens(alloc, out),
+        }
+    }
+}
+
+/// Appends a type; refused, what stood before is kept.
+#[cycle(print)]
+#[tactic(auto, using(token_core::proofs::Puts::puts, crate::proofs::ty_laws::Prints::prints))]
+fn print_type<X: Subtree>(
+    alloc: Global,
+    ty: &Type<X>,
+    out: &mut TokenStream,
+) -> Result<(), AllocError>
+    ensures ok { OnOk result (trees out.new ≡ trees out.old ++ printing.ty X.prints ty.now) }
+    ensures err { OnErr result (Extends (trees out.old) (trees out.new)) }
+{
+    match ty {
+        Type::Array(array) => print_array(alloc, array, out),
+        Type::Infer(infer) => infer.to_tokens(alloc, out),
+        Type::Macro(call) => call.to_tokens(alloc, out),
+        Type::Never(never) => never.to_tokens(alloc, out),
+        Type::Paren(paren) => print_paren(alloc, paren, out),
+        Type::Path(path) => path.to_tokens(alloc, out),
+        Type::Ptr(ptr) => print_ptr(alloc, ptr, out),
+        Type::Reference(reference) => print_reference(alloc, reference, out),
+        Type::Slice(slice) => print_slice(alloc, slice, out),
+        Type::Tuple(tuple) => print_tuple(alloc, tuple, out),
+    }
+}
+
+#[cycle(print)]
+#[tactic(auto, using(token_core::proofs::Puts::puts, crate::proofs::ty_laws::Prints::prints))]
+fn print_array<X: Subtree>(
+    alloc: Global,
+    array: &TypeArray<X>,
+    out: &mut TokenStream,
+) -> Result<(), AllocError>
+    ensures ok { OnOk result (trees out.new ≡ trees out.old ++ printing.array X.prints array.now) }
+    ensures err { OnErr result (Extends (trees out.old) (trees out.new)) }
+{
+    let mut content = TokenStream::new(alloc);
+    print_type(alloc, array.elem.get(), &mut content)?;
+    array.semi_token.to_tokens(alloc, &mut content)?;
+    print_len(alloc, &array.len, &mut content)?;
+    array.bracket_token.surround(content, out)
+}
+
+#[cycle(print)]
+#[tactic(auto, using(token_core::proofs::Puts::puts, crate::proofs::ty_laws::Prints::prints))]
+fn print_paren<X: Subtree>(
+    alloc: Global,
+    paren: &TypeParen<X>,
+    out: &mut TokenStream,
+) -> Result<(), AllocError>
+    ensures ok { OnOk result (trees out.new ≡ trees out.old ++ printing.paren X.prints paren.now) }
+    ensures err { OnErr result (Extends (trees out.old) (trees out.new)) }
+{
+    let mut content = TokenStream::new(alloc);
+    print_type(alloc, paren.elem.get(), &mut content)?;
+    paren.paren_token.surround(content, out)
+}
+
+#[cycle(print)]
+#[tactic(auto, using(token_core::proofs::Puts::puts, crate::proofs::ty_laws::Prints::prints))]
+fn print_ptr<X: Subtree>(
+    alloc: Global,
+    ptr: &TypePtr<X>,
+    out: &mut TokenStream,
+) -> Result<(), AllocError>
+    ensures ok { OnOk result (trees out.new ≡ trees out.old ++ printing.ptr X.prints ptr.now) }
+    ensures err { OnErr result (Extends (trees out.old) (trees out.new)) }
+{
+    ptr.star_token.to_tokens(alloc, out)?;
+    ptr.mutability.to_tokens(alloc, out)?;
+    print_type(alloc, ptr.elem.get(), out)
+}
+
+#[cycle(print)]
+#[tactic(auto, using(token_core::proofs::Puts::puts, crate::proofs::ty_laws::Prints::prints))]
+fn print_reference<X: Subtree>(
+    alloc: Global,
+    reference: &TypeReference<X>,
+    out: &mut TokenStream,
+) -> Result<(), AllocError>
+    ensures ok { OnOk result (trees out.new ≡ trees out.old ++ printing.reference X.prints reference.now) }
+    ensures err { OnErr result (Extends (trees out.old) (trees out.new)) }
+{
+    reference.and_token.to_tokens(alloc, out)?;
+    print_lifetime(alloc, &reference.lifetime, out)?;
+    print_mutability(alloc, &reference.mutability, out)?;
+    print_type(alloc, reference.elem.get(), out)
+}
+
+#[cycle(print)]
+#[tactic(auto, using(token_core::proofs::Puts::puts, crate::proofs::ty_laws::Prints::prints))]
+fn print_slice<X: Subtree>(
+    alloc: Global,
+    slice: &TypeSlice<X>,
+    out: &mut TokenStream,
+) -> Result<(), AllocError>
+    ensures ok { OnOk result (trees out.new ≡ trees out.old ++ printing.slice X.prints slice.now) }
+    ensures err { OnErr result (Extends (trees out.old) (trees out.new)) }
+{
+    let mut content = TokenStream::new(alloc);
+    print_type(alloc, slice.elem.get(), &mut content)?;
+    slice.bracket_token.surround(content, out)
+}
+
+#[cycle(print)]
+#[tactic(auto, using(token_core::proofs::Puts::puts, crate::proofs::ty_laws::Prints::prints))]
+fn print_tuple<X: Subtree>(
+    alloc: Global,
+    tuple: &TypeTuple<X>,
+    out: &mut TokenStream,
+) -> Result<(), AllocError>
+    ensures ok { OnOk result (trees out.new ≡ trees out.old ++ printing.tuple X.prints tuple.now) }
+    ensures err { OnErr result (Extends (trees out.old) (trees out.new)) }
+{
+    let mut content = TokenStream::new(alloc);
+    print_elements(alloc, tuple, &mut content)?;
+    print_lone_comma(alloc, &tuple.elems, &mut content)?;
+    tuple.paren_token.surround(content, out)
+}
+
+/// Each element of a tuple with its comma.
+#[cycle(print)]
+#[tactic(auto, using(token_core::proofs::Puts::puts, crate::proofs::ty_laws::Prints::prints))]
+fn print_elements<X: Subtree>(
+    alloc: Global,
+    tuple: &TypeTuple<X>,
+    out: &mut TokenStream,
+) -> Result<(), AllocError>
+    ensures ok { OnOk result (trees out.new ≡ trees out.old ++ printing.elements X.prints tuple.now.elems) }
+    ensures err { OnErr result (Extends (trees out.old) (trees out.new)) }
+{
+    let (pairs, last) = tuple.elems.parts();
+    for pair in pairs {
+        print_type(alloc, &pair.value, out)?;
+        pair.mark.to_tokens(alloc, out)?;
+    }
+    match last {
+        Some(ty) => print_type(alloc, ty, out),
+        None => Ok(()),
+    }
+}
+
+/// A comma after a lone element that has none, which sets the tuple apart from a type in parentheses.
+#[tactic(auto, using(token_core::proofs::Puts::puts, crate::proofs::ty_laws::Lone::lone))]
+fn print_lone_comma<T>(
+    alloc: Global,
+    elems: &Punctuated<T, Comma>,
+    out: &mut TokenStream,
+) -> Result<(), AllocError>
+    ensures ok { OnOk result (trees out.new ≡ trees out.old ++ printing.lone_comma elems.now.0 elems.now.1) }
+    ensures err { OnErr result (Extends (trees out.old) (trees out.new)) }
+{
+    let (pairs, last) = elems.parts();
+    match last {
+        Some(_) => {
+            if pairs.len() == 0 {
+                Comma::default().to_tokens(alloc, out)
+            } else {
+                Ok(())
+            }
+        }
+        None => Ok(()),
+    }
+}
+
+/// The length of an array: a literal as it prints as a value, or the supplied subtree in this place.
+#[tactic(auto, using(token_core::proofs::Puts::puts, crate::proofs::ty_laws::Prints::prints))]
+fn print_len<X: Subtree>(
+    alloc: Global,
+    len: &Expr<X>,
+    out: &mut TokenStream,
+) -> Result<(), AllocError>
+    ensures ok { OnOk result (trees out.new ≡ trees out.old ++ printing.len X.prints len.now) }
+    ensures err { OnErr result (Extends (trees out.old) (trees out.new)) }
+{
+    match len {
+        Expr::Lit(_) => print_value(alloc, len, out),
+        Expr::Other(tree) => tree.print(alloc, Place::ArrayLen, out),
+    }
+}
+
+#[tactic(auto, using(token_core::proofs::Puts::puts))]
+fn print_lifetime(
+    alloc: Global,
+    lifetime: &Option<Lifetime>,
+    out: &mut TokenStream,
+) -> Result<(), AllocError>
+    ensures ok { OnOk result (trees out.new ≡ trees out.old ++ printing.lifetime lifetime.now) }
+    ensures err { OnErr result (Extends (trees out.old) (trees out.new)) }
+{
+    match lifetime {
+        Some(lifetime) => lifetime.to_tokens(alloc, out),
+        None => Ok(()),
+    }
+}
+
+#[tactic(auto, using(token_core::proofs::Puts::puts))]
+fn print_mutability(
+    alloc: Global,
+    mutability: &Option<Mut>,
+    out: &mut TokenStream,
+) -> Result<(), AllocError>
+    ensures ok { OnOk result (trees out.new ≡ trees out.old ++ printing.mutability mutability.now) }
+    ensures err { OnErr result (Extends (trees out.old) (trees out.new)) }
+{
+    match mutability {
+        Some(token) => token.to_tokens(alloc, out),
+        None => Ok(()),
     }
 }

@@ -19,6 +19,8 @@ mod sample;
 mod sample_tests;
 #[cfg(test)]
 mod tests;
+#[cfg(test)]
+mod type_tests;
 
 use channel::Plain;
 use fault::Fault;

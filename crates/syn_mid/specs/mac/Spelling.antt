@@ -29,7 +29,7 @@ pub data Delimits : MacroDelimiter → Delimiter → DelimSpan → Type 0 where
 
 module _ (clear : Bool) where
   module _ (ok : Bytes → Bool) {X : Type 0} where
-    -- A path of such words, `!`, and a group of the tokens that the call holds: the first tokens are that, and then the second.
+    -- A path whose words `ok` admits, `!`, and a group of the tokens that the call holds: the first tokens are that, and then the second.
     pub data IsCall : Macro X → Toks → Toks → Type 0 where
       a_macro : {p : Path X} {a : Span} {j : Spacing} {e : MacroDelimiter} {d : Delimiter} {s : DelimSpan} {c r l : Toks} {tokens : TokenStream} →
           IsBarePath clear ok p l (mark (punct 33 j a) (group d s c r)) → Apart clear (33 ∷ []) j (group d s c r) → Delimits e d s → c ≡ toks tokens →

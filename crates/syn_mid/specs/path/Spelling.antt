@@ -35,13 +35,13 @@ module _ (clear : Bool) where
     leading : {a b : Span} {j : Spacing} {r : Toks} → Apart clear sep_chars j r → IsLeading (Some (sep_at a b)) (mark (punct 58 Joint a) (mark (punct 58 j b) r)) r
 
   module _ (ok : Bytes → Bool) {X : Type 0} where
-    -- segments of such words joined by `::`: without arguments, and no `::` at the end
+    -- segments whose words `ok` admits, joined by `::`: without arguments, and no `::` at the end
     pub data AreSegments : List (PathSegment X) → List Sep → Toks → Toks → Type 0 where
       last_segment : {i : Ident} {r : Toks} → ok i.text ≡ true → AreSegments (segment_of i ∷ []) [] (word i r) r
       more_segments : {i : Ident} {a b : Span} {j : Spacing} {all : List (PathSegment X)} {seps : List Sep} {l r : Toks} → ok i.text ≡ true → Apart clear sep_chars j l →
           AreSegments all seps l r → AreSegments (segment_of i ∷ all) (sep_at a b ∷ seps) (word i (mark (punct 58 Joint a) (mark (punct 58 j b) l))) r
 
-    -- a path of such words
+    -- a path of such segments
     pub data IsBarePath : Path X → Toks → Toks → Type 0 where
       a_bare_path : {o : Option Sep} {all : List (PathSegment X)} {seps : List Sep} {l m r : Toks} → IsLeading o l m → AreSegments all seps m r → IsBarePath (path_of o (all, seps)) l r
 

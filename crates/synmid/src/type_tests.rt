@@ -1,0 +1,291 @@
+//! What types made by hand print.
+//!
+//! A test calls and does not branch, as docs/GATE.md says.
+
+ghost use Rattle.token_core.specs.Reads.{Follows};
+
+use crate::attr_tests::says;
+use crate::sample::Sample;
+use std::alloc::Global;
+use std::fmt::Write;
+use syn_mid::{
+    Expr, ExprLit, Macro, ModStyle, ParseOuter, Place, PointerMutability, Subtree, Type, TypeArray,
+    TypeInfer, TypeMacro, TypeNever, TypeParen, TypePath, TypePtr, TypeReference, TypeSlice,
+    TypeTuple,
+};
+use token_core::token::{And, Bracket, Comma, Const, Mut, Not, Paren, Semi, Star, Underscore};
+use token_core::{
+    Boxed, ByFn, Error, Ident, Lifetime, Lit, ParseStream, Punctuated, Span, ToTokens, TokenStream,
+    read_all, read_all_with,
+};
+use token_text::{lex, text_of};
+
+type Ty = Type<Sample>;
+
+fn path(alloc: Global, text: &str) -> Result<Ty, Error> {
+    let tokens = lex(alloc, text)?;
+    let path = read_all_with(alloc, ModStyle::<Sample>::new(), &tokens)?;
+    Ok(Type::Path(TypePath { path }))
+}
+
+fn call(alloc: Global, text: &str) -> Result<Ty, Error> {
+    let tokens = lex(alloc, text)?;
+    let mac = read_all::<Macro<Sample>>(alloc, &tokens)?;
+    Ok(Type::Macro(TypeMacro { mac }))
+}
+
+/// `_`
+fn infer() -> Ty {
+    Type::Infer(TypeInfer {
+        underscore_token: Underscore::default(),
+    })
+}
+
+/// `!`
+fn never() -> Ty {
+    Type::Never(TypeNever {
+        bang_token: Not::default(),
+    })
+}
+
+fn paren(alloc: Global, elem: Ty) -> Result<Ty, Error> {
+    Ok(Type::Paren(TypeParen {
+        paren_token: Paren::default(),
+        elem: Boxed::new(alloc, elem)?,
+    }))
+}
+
+fn slice(alloc: Global, elem: Ty) -> Result<Ty, Error> {
+    Ok(Type::Slice(TypeSlice {
+        bracket_token: Bracket::default(),
+        elem: Boxed::new(alloc, elem)?,
+    }))
+}
+
+fn array(alloc: Global, elem: Ty, len: Expr<Sample>) -> Result<Ty, Error> {
+    Ok(Type::Array(TypeArray {
+        bracket_token: Bracket::default(),
+        elem: Boxed::new(alloc, elem)?,
+        semi_token: Semi::default(),
+        len,
+    }))
+}
+
+fn pointer(alloc: Global, mutability: PointerMutability, elem: Ty) -> Result<Ty, Error> {
+    Ok(Type::Ptr(TypePtr {
+        star_token: Star::default(),
+        mutability,
+        elem: Boxed::new(alloc, elem)?,
+    }))
+}
+
+fn reference(
+    alloc: Global,
+    lifetime: Option<Lifetime>,
+    mutability: Option<Mut>,
+    elem: Ty,
+) -> Result<Ty, Error> {
+    Ok(Type::Reference(TypeReference {
+        and_token: And::default(),
+        lifetime,
+        mutability,
+        elem: Boxed::new(alloc, elem)?,
+    }))
+}
+
+fn tuple(elems: Punctuated<Ty, Comma>) -> Ty {
+    Type::Tuple(TypeTuple {
+        paren_token: Paren::default(),
+        elems,
+    })
+}
+
+fn lifetime(alloc: Global) -> Result<Lifetime, Error> {
+    Ok(Lifetime::new(Span::none(), Ident::new(alloc, "a", Span::none())?))
+}
+
+/// A literal after the attributes of a text.
+fn literal(alloc: Global, attrs: &str, text: &str) -> Result<Expr<Sample>, Error> {
+    let tokens = lex(alloc, attrs)?;
+    let attrs = read_all_with(alloc, ParseOuter::<Sample>::new(), &tokens)?;
+    let lit = read_all::<Lit>(alloc, &lex(alloc, text)?)?;
+    Ok(Expr::Lit(ExprLit { attrs, lit }))
+}
+
+#[tactic(auto, using(token_core::proofs::Suffixes::follows))]
+fn parse_length(alloc: Global, input: &mut ParseStream<'_>) -> Result<Sample, Error>
+    ensures { Follows input.old input.new }
+{
+    Sample::read(alloc, Place::ArrayLen, input)
+}
+
+/// What the sample reads as a length.
+fn sum(alloc: Global, text: &str) -> Result<Expr<Sample>, Error> {
+    let tokens = lex(alloc, text)?;
+    Ok(Expr::Other(read_all_with(alloc, ByFn(parse_length), &tokens)?))
+}
+
+fn printed(alloc: Global, ty: Result<Ty, Error>) -> Result<String, Error> {
+    let mut out = TokenStream::new(alloc);
+    ty?.to_tokens(alloc, &mut out)?;
+    Ok(text_of(alloc, &out)?)
+}
+
+#[test]
+fn names_and_lone_tokens(rt: HostRuntime) {
+    let alloc = rt.alloc();
+    says(&rt, alloc, printed(alloc, path(alloc, "A")), "A");
+    says(
+        &rt,
+        alloc,
+        printed(alloc, path(alloc, "::a::B")),
+        ":: a :: B",
+    );
+    says(
+        &rt,
+        alloc,
+        printed(alloc, call(alloc, "a::b!{x}")),
+        "a :: b ! { x }",
+    );
+    says(&rt, alloc, printed(alloc, Ok(infer())), "_");
+    says(&rt, alloc, printed(alloc, Ok(never())), "!");
+}
+
+fn in_paren(alloc: Global) -> Result<Ty, Error> {
+    paren(alloc, path(alloc, "A")?)
+}
+
+fn in_brackets(alloc: Global) -> Result<Ty, Error> {
+    slice(alloc, path(alloc, "A")?)
+}
+
+/// An array of as many as the literal of a text says, after attributes.
+fn of_literal(alloc: Global, attrs: &str, text: &str) -> Result<Ty, Error> {
+    array(alloc, path(alloc, "A")?, literal(alloc, attrs, text)?)
+}
+
+fn of_sum(alloc: Global, text: &str) -> Result<Ty, Error> {
+    array(alloc, path(alloc, "A")?, sum(alloc, text)?)
+}
+
+#[test]
+fn types_in_brackets(rt: HostRuntime) {
+    let alloc = rt.alloc();
+    says(&rt, alloc, printed(alloc, in_paren(alloc)), "(A)");
+    says(&rt, alloc, printed(alloc, in_brackets(alloc)), "[A]");
+    says(
+        &rt,
+        alloc,
+        printed(alloc, of_literal(alloc, "", "1")),
+        "[A ; 1]",
+    );
+    says(
+        &rt,
+        alloc,
+        printed(alloc, of_literal(alloc, "#[b] #[c = d]", "1")),
+        "[A ; # [b] # [c = d] 1]",
+    );
+    says(
+        &rt,
+        alloc,
+        printed(alloc, of_sum(alloc, "n + 1")),
+        "[A ; n + 1]",
+    );
+}
+
+fn to_const(alloc: Global) -> Result<Ty, Error> {
+    let mutability = PointerMutability::Const(Const::default());
+    pointer(alloc, mutability, path(alloc, "A")?)
+}
+
+fn to_mut(alloc: Global) -> Result<Ty, Error> {
+    let mutability = PointerMutability::Mut(Mut::default());
+    pointer(alloc, mutability, path(alloc, "A")?)
+}
+
+fn by_reference(alloc: Global) -> Result<Ty, Error> {
+    reference(alloc, None, None, path(alloc, "A")?)
+}
+
+fn by_whole_reference(alloc: Global) -> Result<Ty, Error> {
+    let lifetime = lifetime(alloc)?;
+    reference(
+        alloc,
+        Some(lifetime),
+        Some(Mut::default()),
+        path(alloc, "A")?,
+    )
+}
+
+#[test]
+fn pointers_and_references(rt: HostRuntime) {
+    let alloc = rt.alloc();
+    says(&rt, alloc, printed(alloc, to_const(alloc)), "* const A");
+    says(&rt, alloc, printed(alloc, to_mut(alloc)), "* mut A");
+    says(&rt, alloc, printed(alloc, by_reference(alloc)), "& A");
+    says(
+        &rt,
+        alloc,
+        printed(alloc, by_whole_reference(alloc)),
+        "& 'a mut A",
+    );
+}
+
+fn one(alloc: Global) -> Result<Ty, Error> {
+    let mut elems = Punctuated::new(alloc);
+    elems.push_value(alloc, path(alloc, "A")?)?;
+    Ok(tuple(elems))
+}
+
+fn one_and_comma(alloc: Global) -> Result<Ty, Error> {
+    let mut elems = Punctuated::new(alloc);
+    elems.push_value(alloc, path(alloc, "A")?)?;
+    elems.push_punct(Comma::default())?;
+    Ok(tuple(elems))
+}
+
+fn two(alloc: Global) -> Result<Ty, Error> {
+    let mut elems = Punctuated::new(alloc);
+    elems.push_value(alloc, path(alloc, "A")?)?;
+    elems.push_punct(Comma::default())?;
+    elems.push_value(alloc, path(alloc, "B")?)?;
+    Ok(tuple(elems))
+}
+
+#[test]
+fn a_lone_element_has_a_comma(rt: HostRuntime) {
+    let alloc = rt.alloc();
+    says(
+        &rt,
+        alloc,
+        printed(alloc, Ok(tuple(Punctuated::new(alloc)))),
+        "()",
+    );
+    says(&rt, alloc, printed(alloc, one(alloc)), "(A ,)");
+    says(&rt, alloc, printed(alloc, one_and_comma(alloc)), "(A ,)");
+    says(&rt, alloc, printed(alloc, two(alloc)), "(A , B)");
+}
+
+/// `_` in as many parentheses.
+fn nested(alloc: Global, depth: usize) -> Result<Ty, Error> {
+    let mut ty = infer();
+    for _ in 0..depth {
+        ty = paren(alloc, ty)?;
+    }
+    Ok(ty)
+}
+
+/// How many parentheses open in the print.
+fn depth_printed(alloc: Global, depth: usize) -> Result<String, Error> {
+    let text = printed(alloc, nested(alloc, depth))?;
+    let opened = text.as_str().chars().filter(|c| *c == '(').count();
+    let mut out = String::new(alloc);
+    write!(out, "{opened}")?;
+    Ok(out)
+}
+
+#[test]
+fn deep_types_print(rt: HostRuntime) {
+    let alloc = rt.alloc();
+    says(&rt, alloc, depth_printed(alloc, 200), "200");
+}
