@@ -86,11 +86,6 @@ module _ {A : Type 0} {Is : Relation A} where
   took_whole s t a k h = subst (λ z. Is a s.rest z) (took_all t k.seen h) (k.spelt (nothing_left t h))
 
   -- on the front of a list
-  pub took_front : (p : Reader A) → ((s t : Stream) (a : A) → Visible s.rest → p s ≡ Ok (a, t) → TookOne Is s t a) →
-      (s t : Stream) (r : Result A Refusal) → Reads (p s) r t → Visible s.rest → t.left ≡ None → IfOk r (λ x. Is x s.rest t.rest)
-  took_front p h s t (Ok a) e v n = (h s t a v e).spelt n
-  took_front p h s t (Err x) e v n = tt
-
   pub taken_front : (p : Reader A) → ((s t : Stream) (a : A) → Visible s.rest → p s ≡ Ok (a, t) → Taken Is s t a) →
       (s t : Stream) (r : Result A Refusal) → Reads (p s) r t → Visible s.rest → IfOk r (λ x. Is x s.rest t.rest)
   taken_front p h s t (Ok a) e v = (h s t a v e).spelt
