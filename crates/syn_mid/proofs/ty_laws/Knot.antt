@@ -1,5 +1,5 @@
 -- The read of types meets its equation: one turn, over the types of streams of which less is left.
-use Rattle.std.proofs.Common.{◌≡◌, ℕ, zero, suc, ◌<◌, Bool, true, false, refl, ◌∙◌, ap, arith}
+use Rattle.std.proofs.Common.{◌≡◌, ℕ, zero, suc, ◌<◌, Bool, true, false, Ok, refl, ◌∙◌, ap, arith}
 use Rattle.std.specs.Prelude.{nat_lt}
 use Rattle.std.proofs.Math.Path.{fun_ext}
 use Rattle.std.proofs.lemmas.Bool.{ltb-true}
@@ -16,6 +16,18 @@ below_at limit p q s false e h = refl
 -- two reads that agree below a limit are one, asked below it
 pub below_same : {A : Type 0} (limit : ℕ) (p q : Reader A) → ((s : Stream) → ahead s < limit → p s ≡ q s) → below limit p ≡ below limit q
 below_same limit p q h = fun_ext (λ s. below_at limit p q s (nat_lt (ahead s) limit) refl (h s))
+
+-- what a read below a limit answered
+pub record Below {A : Type 0} (limit : ℕ) (p : Reader A) (s t : Stream) (x : A) : Type 0 where
+  pub less : ahead s < limit
+  pub was : p s ≡ Ok (x, t)
+
+out_if : {A : Type 0} (limit : ℕ) (p : Reader A) (s t : Stream) (x : A) (b : Bool) → nat_lt (ahead s) limit ≡ b → below_if b p s ≡ Ok (x, t) → Below limit p s t x
+out_if limit p s t x true h e = record { less = ltb-true _ _ h; was = e }
+out_if limit p s t x false h e = cc
+
+pub out : {A : Type 0} (limit : ℕ) (p : Reader A) (s t : Stream) (x : A) → below limit p s ≡ Ok (x, t) → Below limit p s t x
+out limit p s t x e = out_if limit p s t x (nat_lt (ahead s) limit) refl e
 
 module _ {X : Type 0} (supplied : Place → Reader X) where
   -- more turns than there is left change nothing

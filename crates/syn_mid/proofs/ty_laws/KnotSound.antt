@@ -1,7 +1,5 @@
 -- Where a read of a type answers, the answer spells what was taken: at the knot, by induction on how much is left.
-use Rattle.std.proofs.Common.{◌≡◌, ℕ, zero, suc, ◌<◌, Bool, true, false, None, Ok, refl, sym, ◌∙◌, arith}
-use Rattle.std.specs.Prelude.{nat_lt}
-use Rattle.std.proofs.lemmas.Bool.{ltb-true}
+use Rattle.std.proofs.Common.{◌≡◌, ℕ, zero, suc, ◌<◌, Bool, false, None, Ok, refl, sym, ◌∙◌, arith}
 use Rattle.token_core.specs.Toks.{Toks}
 use Rattle.token_core.specs.Rebuilt.{Visible}
 use Rattle.token_core.specs.Reads.{Reader, leaves}
@@ -16,23 +14,11 @@ use Rattle.syn_mid.specs.declared.ty.TypeSliceOf.{TypeSliceOf}
 use Rattle.syn_mid.specs.declared.ty.TypeTupleOf.{TypeTupleOf}
 use Rattle.syn_mid.specs.Supplied.{Place, UsesUp}
 use Rattle.syn_mid.specs.ty.Knot as knot
-use Rattle.syn_mid.specs.ty.Knot.{ahead, below, below_if, types}
+use Rattle.syn_mid.specs.ty.Knot.{ahead, types}
 use Rattle.syn_mid.specs.ty.Spelling.{Relation, TypeBelow, IsSomeType, IsArray, IsSomeArray, IsParen, IsSomeParen, IsPtr, IsSomePtr, IsReference, IsSomeReference, IsSlice, IsSomeSlice, IsTuple, IsSomeTuple}
 use Rattle.syn_mid.proofs.attr_laws.Sound.{TookOne}
-use Rattle.syn_mid.proofs.ty_laws.Knot.{ty-turn}
+use Rattle.syn_mid.proofs.ty_laws.Knot.{out, ty-turn}
 use Rattle.syn_mid.proofs.ty_laws.Sound.{type_took, array_took, paren_took, ptr_took, reference_took, slice_took, tuple_took}
-
--- what a read below a limit answered
-record Below {A : Type 0} (limit : ℕ) (p : Reader A) (s t : Stream) (x : A) : Type 0 where
-  less : ahead s < limit
-  was : p s ≡ Ok (x, t)
-
-out_if : {A : Type 0} (limit : ℕ) (p : Reader A) (s t : Stream) (x : A) (b : Bool) → nat_lt (ahead s) limit ≡ b → below_if b p s ≡ Ok (x, t) → Below limit p s t x
-out_if limit p s t x true h e = record { less = ltb-true _ _ h; was = e }
-out_if limit p s t x false h e = cc
-
-out : {A : Type 0} (limit : ℕ) (p : Reader A) (s t : Stream) (x : A) → below limit p s ≡ Ok (x, t) → Below limit p s t x
-out limit p s t x e = out_if limit p s t x (nat_lt (ahead s) limit) refl e
 
 -- some height
 module _ {A : Type 0} {Is : ℕ → Relation A} (n : ℕ) where

@@ -39,6 +39,7 @@ use Rattle.syn_mid.proofs.ty_laws.KnotReprint as r
 use Rattle.syn_mid.proofs.ty_laws.KnotSound as o
 use Rattle.syn_mid.proofs.ty_laws.Reprint as reprint_parts
 use Rattle.syn_mid.proofs.ty_laws.Sound as sound_parts
+use Rattle.syn_mid.proofs.ty_laws.Sound.{plainly, taken_front}
 
 -- ---- a grammar of a relation on the front of a list: what is read, where it is read, and what prints spell
 
@@ -66,35 +67,35 @@ module _ {A : Type 0} (spells : Bool → A → Toks → Toks → Type 0) (normal
 -- ---- types that hold no type
 
 pub mutability_lawful : Lawful grammars.mutability
-mutability_lawful = lawful_by (λ clear. IsMutability) (λ (z : PointerMutability). z) printing.pointer reading.mutability sound_parts.mutability_sound (λ s a h. complete_parts.mutability_complete a s.rest done s.left s.last s.scope h) reprint_parts.mutability_again
+mutability_lawful = lawful_by (λ clear. IsMutability) (λ (z : PointerMutability). z) printing.pointer reading.mutability (λ s t a v e. plainly {Is = IsMutability} sound_parts.visible_mutability s t a v (sound_parts.mutability_sound s t a v e)) (λ s a h. complete_parts.mutability_complete a s.rest done s.left s.last s.scope h) reprint_parts.mutability_again
 
-pub mutability_front : (s t : Stream) (q : Result (PointerMutability) Refusal) → Reads (reading.mutability s) q t → Visible s.rest → t.left ≡ None → IfOk q (λ x. IsMutability x s.rest t.rest)
-mutability_front = front_by (λ clear. IsMutability) (λ (z : PointerMutability). z) printing.pointer reading.mutability sound_parts.mutability_sound
+pub mutability_front : (s t : Stream) (q : Result (PointerMutability) Refusal) → Reads (reading.mutability s) q t → Visible s.rest → IfOk q (λ x. IsMutability x s.rest t.rest)
+mutability_front = taken_front {Is = IsMutability} reading.mutability sound_parts.mutability_sound
 
 pub infer_lawful : Lawful grammars.infer
-infer_lawful = lawful_by (λ clear. IsInfer) (λ (z : TypeInfer). z) printing.infer reading.infer sound_parts.infer_sound (λ s a h. complete_parts.infer_complete a s.rest done s.left s.last s.scope h) reprint_parts.infer_again
+infer_lawful = lawful_by (λ clear. IsInfer) (λ (z : TypeInfer). z) printing.infer reading.infer (λ s t a v e. plainly {Is = IsInfer} sound_parts.visible_infer s t a v (sound_parts.infer_sound s t a v e)) (λ s a h. complete_parts.infer_complete a s.rest done s.left s.last s.scope h) reprint_parts.infer_again
 
-pub infer_front : (s t : Stream) (q : Result (TypeInfer) Refusal) → Reads (reading.infer s) q t → Visible s.rest → t.left ≡ None → IfOk q (λ x. IsInfer x s.rest t.rest)
-infer_front = front_by (λ clear. IsInfer) (λ (z : TypeInfer). z) printing.infer reading.infer sound_parts.infer_sound
+pub infer_front : (s t : Stream) (q : Result (TypeInfer) Refusal) → Reads (reading.infer s) q t → Visible s.rest → IfOk q (λ x. IsInfer x s.rest t.rest)
+infer_front = taken_front {Is = IsInfer} reading.infer sound_parts.infer_sound
 
 pub never_lawful : Lawful grammars.never
-never_lawful = lawful_by (IsNever) (λ (z : TypeNever). z) printing.never reading.never sound_parts.never_sound (λ s a h. complete_parts.never_complete a s.rest done s.left s.last s.scope h) reprint_parts.never_again
+never_lawful = lawful_by (IsNever) (λ (z : TypeNever). z) printing.never reading.never (λ s t a v e. plainly {Is = IsNever false} sound_parts.visible_never s t a v (sound_parts.never_sound s t a v e)) (λ s a h. complete_parts.never_complete a s.rest done s.left s.last s.scope h) reprint_parts.never_again
 
-pub never_front : (s t : Stream) (q : Result (TypeNever) Refusal) → Reads (reading.never s) q t → Visible s.rest → t.left ≡ None → IfOk q (λ x. IsNever false x s.rest t.rest)
-never_front = front_by (IsNever) (λ (z : TypeNever). z) printing.never reading.never sound_parts.never_sound
+pub never_front : (s t : Stream) (q : Result (TypeNever) Refusal) → Reads (reading.never s) q t → Visible s.rest → IfOk q (λ x. IsNever false x s.rest t.rest)
+never_front = taken_front {Is = IsNever false} reading.never sound_parts.never_sound
 
 module _ {X : Type 0} where
   pub macro_type_lawful : Lawful (grammars.macro_type {X = X})
-  macro_type_lawful = lawful_by (λ clear. IsMacroType clear) (λ (z : TypeMacro X). z) printing.macro_type reading.macro_type sound_parts.macro_type_sound (λ s a h. complete_parts.macro_type_complete a s.rest done s.left s.last s.scope h) reprint_parts.macro_type_again
+  macro_type_lawful = lawful_by (λ clear. IsMacroType clear) (λ (z : TypeMacro X). z) printing.macro_type reading.macro_type (λ s t a v e. plainly {Is = IsMacroType false} sound_parts.visible_macro_type s t a v (sound_parts.macro_type_sound s t a v e)) (λ s a h. complete_parts.macro_type_complete a s.rest done s.left s.last s.scope h) reprint_parts.macro_type_again
 
-  pub macro_type_front : (s t : Stream) (q : Result (TypeMacro X) Refusal) → Reads (reading.macro_type s) q t → Visible s.rest → t.left ≡ None → IfOk q (λ x. IsMacroType false x s.rest t.rest)
-  macro_type_front = front_by (λ clear. IsMacroType clear) (λ (z : TypeMacro X). z) printing.macro_type reading.macro_type sound_parts.macro_type_sound
+  pub macro_type_front : (s t : Stream) (q : Result (TypeMacro X) Refusal) → Reads (reading.macro_type s) q t → Visible s.rest → IfOk q (λ x. IsMacroType false x s.rest t.rest)
+  macro_type_front = taken_front {Is = IsMacroType false} reading.macro_type sound_parts.macro_type_sound
 
   pub path_type_lawful : Lawful (grammars.path_type {X = X})
-  path_type_lawful = lawful_by (λ clear. IsPathType clear) (λ (z : TypePath X). z) printing.path_type reading.path_type sound_parts.path_type_sound (λ s a h. complete_parts.path_type_complete a s.rest done s.left s.last s.scope h (ends_done false).sep (ends_done false).angle) reprint_parts.path_type_again
+  path_type_lawful = lawful_by (λ clear. IsPathType clear) (λ (z : TypePath X). z) printing.path_type reading.path_type (λ s t a v e. plainly {Is = IsPathType false} sound_parts.visible_path_type s t a v (sound_parts.path_type_sound s t a v e)) (λ s a h. complete_parts.path_type_complete a s.rest done s.left s.last s.scope h (ends_done false).sep (ends_done false).angle) reprint_parts.path_type_again
 
-  pub path_type_front : (s t : Stream) (q : Result (TypePath X) Refusal) → Reads (reading.path_type s) q t → Visible s.rest → t.left ≡ None → IfOk q (λ x. IsPathType false x s.rest t.rest)
-  path_type_front = front_by (λ clear. IsPathType clear) (λ (z : TypePath X). z) printing.path_type reading.path_type sound_parts.path_type_sound
+  pub path_type_front : (s t : Stream) (q : Result (TypePath X) Refusal) → Reads (reading.path_type s) q t → Visible s.rest → IfOk q (λ x. IsPathType false x s.rest t.rest)
+  path_type_front = taken_front {Is = IsPathType false} reading.path_type sound_parts.path_type_sound
 
 -- ---- types that hold types
 

@@ -1,5 +1,6 @@
 -- Where a read of a type answers, the answer spells what was taken, over the same law of the types that it holds.
-use Rattle.std.proofs.Common.{◌≡◌, ℕ, Bool, true, false, not, ◌&&◌, ◌||◌, List, [], ◌∷◌, Option, Some, None, Ok, Err, inl, inr, refl, sym, ◌∙◌, ap, subst, arith}
+use Rattle.std.specs.Prelude.{IfOk}
+use Rattle.std.proofs.Common.{◌≡◌, ℕ, Bool, true, false, not, ◌&&◌, ◌||◌, List, [], ◌∷◌, Option, Some, None, Result, Ok, Err, inl, inr, refl, sym, ◌∙◌, ap, subst, arith}
 use Rattle.std.proofs.lemmas.Slice.Eq.{bytes_eq-Decides}
 use Rattle.token_core.specs.declared.lifetime.Lifetime.{Lifetime}
 use Rattle.token_core.specs.declared.word.Word.{Word}
@@ -7,20 +8,21 @@ use Rattle.token_core.specs.declared.span.DelimSpan.{DelimSpan}
 use Rattle.token_core.specs.declared.tree.Delimiter.{Delimiter}
 use Rattle.token_core.specs.declared.tree.Delimiter.TheVariants.{Parenthesis, Bracket}
 use Rattle.token_core.specs.declared.tree.Ident.{Ident}
-use Rattle.token_core.specs.Toks.{Bytes, Toks, done, word, mark, lit, group, enter, leave}
+use Rattle.token_core.specs.Toks.{Bytes, Toks, done, word, group}
 use Rattle.token_core.specs.Groups as groups
 use Rattle.token_core.specs.Keywords.{is_keyword}
 use Rattle.token_core.specs.Lifetimes.{sees_lifetime, read_lifetime, read_optional_lifetime}
 use Rattle.token_core.specs.Listed.{AreListed, none_left, last_value, value_and_mark, Anywhere}
-use Rattle.token_core.specs.Loops.{Many, listed, terminated}
+use Rattle.token_core.specs.Loops.{Many, terminated}
 use Rattle.token_core.specs.Marks as marks
 use Rattle.token_core.specs.Rebuilt.{Visible}
+use Rattle.token_core.specs.Refusal.{Refusal}
 use Rattle.token_core.specs.Spellings.{IsMark, IsWord, IsLifetime}
 use Rattle.token_core.specs.Stream.{Stream}
-use Rattle.token_core.specs.Reads.{Reader, Outcome, optional, is_done, is_text, sees_mark, sees_word, sees_group, leaves, left_here, first_of, inside, in_group}
+use Rattle.token_core.specs.Reads.{Reader, Reads, optional, is_done, is_text, sees_mark, sees_word, sees_group, leaves, left_here, inside, in_group}
 use Rattle.token_core.proofs.Listings.{listed_sound, listed_visible}
-use Rattle.token_core.proofs.MarkSpells.{mark_sound, mark_visible}
-use Rattle.token_core.proofs.Took.{branch, mapped, seen_word, took_all}
+use Rattle.token_core.proofs.MarkSpells.{Taken, mark_sound, mark_visible}
+use Rattle.token_core.proofs.Took.{branch, mapped, took_all}
 use Rattle.token_core.proofs.Turns.{chain, same_pair}
 use Rattle.token_core.proofs.WordSpells.{word_sound, word_visible, lifetime_sound, lifetime_visible}
 use Rattle.syn_mid.specs.declared.mac.Macro.{Macro}
@@ -45,19 +47,22 @@ use Rattle.syn_mid.specs.declared.ty.TypeTupleOf.{TypeTupleOf}
 use Rattle.syn_mid.specs.Supplied.{Place, ArrayLen, UsesUp}
 use Rattle.syn_mid.specs.mac.Reading as macs
 use Rattle.syn_mid.specs.mac.Reading.{call_after}
-use Rattle.syn_mid.specs.mac.Spelling.{IsCall, IsMacro}
 use Rattle.syn_mid.specs.path.Paths.{Sep}
-use Rattle.syn_mid.specs.path.Reading.{plain_path, sees_sep}
-use Rattle.syn_mid.specs.path.Spelling.{is_mod_word, is_type_word, IsLeading, no_leading, leading, AreSegments, last_segment, more_segments, a_bare_path, IsPlainPath}
+use Rattle.syn_mid.specs.path.Reading.{plain_path}
+use Rattle.syn_mid.specs.path.Spelling.{is_mod_word, is_type_word, no_leading, leading, AreSegments, last_segment, more_segments, a_bare_path, IsPlainPath}
 use Rattle.syn_mid.specs.ty.Reading as reading
 use Rattle.syn_mid.specs.ty.Reading.{Length, InParens, one, elements, InBrackets, element, counted, sees_plus, sees_comma, sees_semi, sees_star, sees_and, sees_bang, sees_named, sees_call, begins_path, mutable, ended, path_or_macro, more_elements, tuple_content, paren_content, bracket_content, array_content, held_in_parens, held_in_brackets, paren_or_tuple, slice_or_array, by_mark, type_step}
 use Rattle.syn_mid.specs.ty.Spelling.{Relation, IsOptional, absent, present, IsMutability, a_const, a_mut, IsInfer, an_infer, IsNever, a_never, IsPathType, a_path_type, IsMacroType, a_macro_type, AreElements, no_elements, some_elements, IsTuple, a_tuple, IsParen, a_paren, IsSlice, a_slice, IsArray, an_array, IsPtr, a_ptr, IsReference, a_reference, IsType}
 use Rattle.syn_mid.specs.ty.Spelling as is
-use Rattle.syn_mid.specs.ty.Types.{And, Star, Comma, Semi, Mut, Underscore, array_of, infer_of, macro_type_of, never_of, paren_of, path_type_of, ptr_of, reference_of, slice_of, tuple_of, try_first, is_try_path}
+use Rattle.syn_mid.specs.ty.Types.{Comma, Mut, array_of, infer_of, macro_type_of, never_of, paren_of, path_type_of, ptr_of, reference_of, slice_of, tuple_of, try_first, is_try_path}
 use Rattle.syn_mid.proofs.attr_laws.Sound.{TookOne, first_parts}
 use Rattle.syn_mid.proofs.mac_laws.Sound.{macro_sound, call_sound, visible_call}
 use Rattle.syn_mid.proofs.path_laws.Sound.{plain_sound, visible_path}
 use Rattle.syn_mid.proofs.ty_laws.GroupsSound.{took_inside}
+
+-- where nothing is left over in the end
+nothing_left : (t : Stream) → leaves t ≡ None → t.left ≡ None
+nothing_left t h = (first_parts t.left (left_here t) h).0
 
 -- ---- what was taken, as another tree
 
@@ -66,9 +71,25 @@ module _ {A B : Type 0} {Is : Relation A} {Js : Relation B} where
   took_as f s t a b g h k = record { left = k.left; seen = k.seen; spelt = λ n. subst (λ z. Js z s.rest t.rest) g (h s.rest t.rest (k.spelt n)) }
 
 module _ {A : Type 0} {Is : Relation A} where
+  taken_as : (s t : Stream) (a b : A) → a ≡ b → Is a s.rest t.rest → t.left ≡ s.left → Taken Is s t b
+  taken_as s t a b g i h = record { spelt = subst (λ z. Is z s.rest t.rest) g i; left = h }
+
   -- a read that leaves what is left over as it was
   pub took_plainly : (s t : Stream) (a : A) → Is a s.rest t.rest → t.left ≡ s.left → Visible t.rest → TookOne Is s t a
   took_plainly s t a i h k = record { left = λ n. sym h ∙ n; seen = k; spelt = λ n. i }
+
+  pub plainly : ((a : A) (l r : Toks) → Is a l r → Visible l → Visible r) → (s t : Stream) (a : A) → Visible s.rest → Taken Is s t a → TookOne Is s t a
+  plainly h s t a v k = took_plainly s t a k.spelt k.left (h a s.rest t.rest k.spelt v)
+
+  -- where nothing is left over in the end, all of the list
+  pub took_whole : (s t : Stream) (a : A) → TookOne Is s t a → leaves t ≡ None → Is a s.rest done
+  took_whole s t a k h = subst (λ z. Is a s.rest z) (took_all t k.seen h) (k.spelt (nothing_left t h))
+
+  -- on the front of a list
+  pub taken_front : (p : Reader A) → ((s t : Stream) (a : A) → Visible s.rest → p s ≡ Ok (a, t) → Taken Is s t a) →
+      (s t : Stream) (r : Result A Refusal) → Reads (p s) r t → Visible s.rest → IfOk r (λ x. Is x s.rest t.rest)
+  taken_front p h s t (Ok a) e v = (h s t a v e).spelt
+  taken_front p h s t (Err x) e v = tt
 
 module _ {A : Type 0} {Is : Relation A} where
   -- a token that may be there
@@ -84,33 +105,47 @@ module _ {A : Type 0} {Is : Relation A} where
 -- ---- parts
 
 named_sound : {n : ℕ} (s t : Stream) (w : Word n) → Visible s.rest → marks.read_named n s ≡ Ok (w, t) → TookOne IsWord s t w
-named_sound {n} s t w v e = let k = word_sound {n = n} s t w v e in took_plainly {Is = IsWord {n = n}} s t w k.spelt k.left (word_visible w s.rest t.rest k.spelt v)
+named_sound {n} s t w v e = plainly {Is = IsWord {n = n}} word_visible s t w v (word_sound {n = n} s t w v e)
 
 life_sound : (s t : Stream) (x : Lifetime) → Visible s.rest → read_lifetime s ≡ Ok (x, t) → TookOne IsLifetime s t x
-life_sound s t x v e = let k = lifetime_sound s t x v e in took_plainly {Is = IsLifetime} s t x k.spelt k.left (lifetime_visible x s.rest t.rest k.spelt v)
+life_sound s t x v e = plainly {Is = IsLifetime} lifetime_visible s t x v (lifetime_sound s t x v e)
 
-pub mutability_sound : (s t : Stream) (q : PointerMutability) → Visible s.rest → reading.mutability s ≡ Ok (q, t) → TookOne IsMutability s t q
+pub mutability_sound : (s t : Stream) (q : PointerMutability) → Visible s.rest → reading.mutability s ≡ Ok (q, t) → Taken IsMutability s t q
 unfolding reading.mutability
 mutability_sound s t q v e =
     elim (branch (sees_named 6 s.rest) _ _ s (Ok (q, t)) e) [
-      | inl y ↦ let k = mapped (marks.read_named 6 s) pointer.Const q t y.1 in took_as {Is = IsWord} {Js = IsMutability} pointer.Const s t k.value q k.is (λ l r i. a_const i) (named_sound s t k.value v k.was)
+      | inl y ↦ let k = mapped (marks.read_named 6 s) pointer.Const q t y.1 in
+          let w = word_sound s t k.value v k.was in
+          taken_as {Is = IsMutability} s t (pointer.Const k.value) q k.is (a_const w.spelt) w.left
       | inr y ↦ elim (branch (sees_named 13 s.rest) _ _ s (Ok (q, t)) y.1) [
-        | inl z ↦ let k = mapped (marks.read_named 13 s) pointer.Mut q t z.1 in took_as {Is = IsWord} {Js = IsMutability} pointer.Mut s t k.value q k.is (λ l r i. a_mut i) (named_sound s t k.value v k.was)
+        | inl z ↦ let k = mapped (marks.read_named 13 s) pointer.Mut q t z.1 in
+            let w = word_sound s t k.value v k.was in
+            taken_as {Is = IsMutability} s t (pointer.Mut k.value) q k.is (a_mut w.spelt) w.left
         | inr z ↦ cc (z.1)
       ]
     ]
 
-pub infer_sound : (s t : Stream) (x : TypeInfer) → Visible s.rest → reading.infer s ≡ Ok (x, t) → TookOne IsInfer s t x
+pub visible_mutability : (q : PointerMutability) (l r : Toks) → IsMutability q l r → Visible l → Visible r
+visible_mutability q l r (a_const {w = w} i) v = word_visible w l r i v
+visible_mutability q l r (a_mut {w = w} i) v = word_visible w l r i v
+
+pub infer_sound : (s t : Stream) (x : TypeInfer) → Visible s.rest → reading.infer s ≡ Ok (x, t) → Taken IsInfer s t x
 infer_sound s t x v e =
     let k = mapped (marks.read_named 19 s) infer_of x t e in
-    took_as {Is = IsWord} {Js = IsInfer} infer_of s t k.value x k.is (λ l r i. an_infer i) (named_sound s t k.value v k.was)
+    let w = word_sound s t k.value v k.was in
+    taken_as {Is = IsInfer} s t (infer_of k.value) x k.is (an_infer w.spelt) w.left
 
-pub never_sound : (s t : Stream) (x : TypeNever) → Visible s.rest → reading.never s ≡ Ok (x, t) → TookOne (IsNever false) s t x
+pub visible_infer : (x : TypeInfer) (l r : Toks) → IsInfer x l r → Visible l → Visible r
+visible_infer x l r (an_infer {w = w} i) v = word_visible w l r i v
+
+pub never_sound : (s t : Stream) (x : TypeNever) → Visible s.rest → reading.never s ≡ Ok (x, t) → Taken (IsNever false) s t x
 never_sound s t x v e =
     let k = mapped (macs.bang s) never_of x t e in
     let w = mark_sound {n = 0} {k = 1} refl (omega arith) s t k.value v k.was in
-    took_as {Is = IsMark false} {Js = IsNever false} never_of s t k.value x k.is (λ l r i. a_never i)
-    (took_plainly {Is = IsMark false} s t k.value w.spelt w.left (mark_visible false {n = 0} {k = 1} k.value s.rest t.rest w.spelt v))
+    taken_as {Is = IsNever false} s t (never_of k.value) x k.is (a_never w.spelt) w.left
+
+pub visible_never : (x : TypeNever) (l r : Toks) → IsNever false x l r → Visible l → Visible r
+visible_never x l r (a_never {b = b} i) v = mark_visible false {n = 0} {k = 1} b l r i v
 
 -- ---- paths and macro calls
 
@@ -131,19 +166,23 @@ first_word i k h = no_try i.text (is_text (marks.text_of 15) i.text) refl (only 
     only false h = h
 
 module _ {X : Type 0} where
-  pub path_type_sound : (s t : Stream) (x : TypePath X) → Visible s.rest → reading.path_type s ≡ Ok (x, t) → TookOne (IsPathType false) s t x
+  pub path_type_sound : (s t : Stream) (x : TypePath X) → Visible s.rest → reading.path_type s ≡ Ok (x, t) → Taken (IsPathType false) s t x
   path_type_sound s t x v e =
       let k = mapped (plain_path s) path_type_of x t e in
       let w = plain_sound s t k.value v k.was in
-      took_as {Is = IsPlainPath false} {Js = IsPathType false} path_type_of s t k.value x k.is (λ l r i. a_path_type i)
-      (took_plainly {Is = IsPlainPath false} s t k.value w.spelt w.left (visible_path k.value s.rest t.rest w.spelt v))
+      taken_as {Is = IsPathType false} s t (path_type_of k.value) x k.is (a_path_type w.spelt) w.left
 
-  pub macro_type_sound : (s t : Stream) (x : TypeMacro X) → Visible s.rest → reading.macro_type s ≡ Ok (x, t) → TookOne (IsMacroType false) s t x
+  pub visible_path_type : (x : TypePath X) (l r : Toks) → IsPathType false x l r → Visible l → Visible r
+  visible_path_type x l r (a_path_type {p = p} i) v = visible_path p l r i v
+
+  pub macro_type_sound : (s t : Stream) (x : TypeMacro X) → Visible s.rest → reading.macro_type s ≡ Ok (x, t) → Taken (IsMacroType false) s t x
   macro_type_sound s t x v e =
       let k = mapped (macs.mac s) macro_type_of x t e in
       let w = macro_sound s t k.value v k.was in
-      took_as {Is = IsMacro false} {Js = IsMacroType false} macro_type_of s t k.value x k.is (λ l r i. a_macro_type i)
-      (took_plainly {Is = IsMacro false} s t k.value w.spelt w.left (visible_call k.value s.rest t.rest w.spelt v))
+      taken_as {Is = IsMacroType false} s t (macro_type_of k.value) x k.is (a_macro_type w.spelt) w.left
+
+  pub visible_macro_type : (x : TypeMacro X) (l r : Toks) → IsMacroType false x l r → Visible l → Visible r
+  visible_macro_type x l r (a_macro_type {x = y} i) v = visible_call y l r i v
 
   segments_begin : (all : List (PathSegment X)) (seps : List Sep) (l r : Toks) → AreSegments false is_type_word all seps l r → begins_path l ≡ true → try_first None all ≡ false
   segments_begin all seps l r (last_segment {i = i} h) b = first_word i r b
@@ -182,10 +221,6 @@ module _ (d : Delimiter) {A : Type 0} (Holds : A → Toks → Type 0) (name : By
         spelt = λ h. record { content = w.content; is = w.is; holds = sound (inside s x.0 w.content t.rest) w.ends x.1 inner.1 w.reads (first_parts s.left (leaves w.ends) (sym w.left ∙ h)).1 };
       }
 
--- where nothing is left over in the end
-nothing_left : (t : Stream) → leaves t ≡ None → t.left ≡ None
-nothing_left t h = (first_parts t.left (left_here t) h).0
-
 -- elements after a mark, as elements
 module _ {A P : Type 0} {V : A → Toks → Toks → Type 0} {M : P → Toks → Toks → Type 0} where
   not_first : {xs : List A} {ps : List P} {l r : Toks} → AreListed (λ (_ : Bool). V) M Anywhere true xs ps l r → AreListed (λ (_ : Bool). V) M Anywhere false xs ps l r
@@ -202,9 +237,7 @@ module _ {X : Type 0} (reads : Place → Reader X) (spells : Place → X → Tok
     (took : (p : Bool) (s t : Stream) (x : TypeTree X) → Visible s.rest → typ p s ≡ Ok (x, t) → TookOne (T p) s t x) where
   -- a type that is all of a content
   alone : (p : Bool) (s t : Stream) (x : TypeTree X) → Visible s.rest → typ p s ≡ Ok (x, t) → leaves t ≡ None → T p x s.rest done
-  alone p s t x v e h =
-      let k = took p s t x v e in
-      subst (λ z. T p x s.rest z) (took_all t k.seen h) (k.spelt (nothing_left t h))
+  alone p s t x v e h = took_whole {Is = T p} s t x (took p s t x v e) h
 
   -- ---- lengths of arrays
 
@@ -263,10 +296,10 @@ module _ {X : Type 0} (reads : Place → Reader X) (spells : Place → X → Tok
   further_sound : (s t : Stream) (w : Many (TypeTree X) Comma) → Visible s.rest → terminated is_done (typ true) reading.comma s ≡ Ok (w, t) → leaves t ≡ None → (s.left ≡ None) × Further w s.rest done
   further_sound s t w v e h =
       let k = listed_sound (λ (_ : Bool). is_done) (λ (_ : Bool). typ true) (λ l. not (is_done l)) reading.comma (λ (_ : Bool). T true) (IsMark false) Anywhere (λ (z : Stream). z.left ≡ None)
-          (λ b l g. tt) (λ b a c x u i. (took true a c x u i).seen) comma_seen (λ b a c x u g i. value_took a c x u i) (λ a c x u g i. comma_took a c x u i) true s t w v e (nothing_left t h) in
+      (λ b l g. tt) (λ b a c x u i. (took true a c x u i).seen) comma_seen (λ b a c x u g i. value_took a c x u i) (λ a c x u g i. comma_took a c x u i) true s t w v e (nothing_left t h) in
       let over = took_all t
-          (listed_visible (λ (_ : Bool). is_done) (λ (_ : Bool). typ true) (λ l. not (is_done l)) reading.comma (λ (_ : Bool). T true) (IsMark false) Anywhere (λ (z : Stream). z.left ≡ None)
-          (λ b l g. tt) (λ b a c x u i. (took true a c x u i).seen) comma_seen (λ b a c x u g i. value_took a c x u i) (λ a c x u g i. comma_took a c x u i) true s t w v e) h in
+      (listed_visible (λ (_ : Bool). is_done) (λ (_ : Bool). typ true) (λ l. not (is_done l)) reading.comma (λ (_ : Bool). T true) (IsMark false) Anywhere (λ (z : Stream). z.left ≡ None)
+      (λ b l g. tt) (λ b a c x u i. (took true a c x u i).seen) comma_seen (λ b a c x u g i. value_took a c x u i) (λ a c x u g i. comma_took a c x u i) true s t w v e) h in
       (k.0, subst (λ z. Further w s.rest z) over (not_first k.1))
 
   more_sound : (x : TypeTree X) (l : Toks) (s t : Stream) (w : Many (TypeTree X) Comma) → Visible s.rest → more_elements reads typ x s ≡ Ok (w, t) → leaves t ≡ None →
@@ -407,13 +440,14 @@ module _ {X : Type 0} (reads : Place → Reader X) (spells : Place → X → Tok
       let c = chain (reading.star s) _ x t e in
       let k = mark_sound {n = 26} {k = 1} refl (omega arith) s c.rest c.value v c.was in
       let f = chain (reading.mutability c.rest) _ x t c.goes in
-      let q = mutability_sound c.rest f.rest f.value (mark_visible false {n = 26} {k = 1} c.value s.rest c.rest.rest k.spelt v) f.was in
+      let vc = mark_visible false {n = 26} {k = 1} c.value s.rest c.rest.rest k.spelt v in
+      let q = mutability_sound c.rest f.rest f.value vc f.was in
       let g = mapped (typ false f.rest) (ptr_of c.value f.value) x t f.goes in
-      let w = took false f.rest t g.value q.seen g.was in
+      let w = took false f.rest t g.value (visible_mutability f.value c.rest.rest f.rest.rest q.spelt vc) g.was in
       record {
-        left = λ h. sym k.left ∙ q.left (w.left h);
+        left = λ h. sym k.left ∙ sym q.left ∙ w.left h;
         seen = w.seen;
-        spelt = λ h. subst (λ z. IsPtr spells false T z s.rest t.rest) g.is (a_ptr k.spelt (q.spelt (w.left h)) (w.spelt h));
+        spelt = λ h. subst (λ z. IsPtr spells false T z s.rest t.rest) g.is (a_ptr k.spelt q.spelt (w.spelt h));
       }
 
   pub reference_took : (s t : Stream) (x : TypeReferenceOf (TypeTree X)) → Visible s.rest → reading.reference reads typ s ≡ Ok (x, t) → TookOne (IsReference spells false T) s t x
@@ -449,10 +483,10 @@ module _ {X : Type 0} (reads : Place → Reader X) (spells : Place → X → Tok
               took_as {Is = IsReference spells false T} {Js = Is plus} variant.Reference s t k.value x k.is (λ l r i. is.reference i) (reference_took s t k.value v k.was)
           | inr z ↦ elim (branch (sees_bang s.rest) _ _ s (Ok (x, t)) z.1) [
             | inl w ↦ let k = mapped (reading.never s) variant.Never x t w.1 in
-                took_as {Is = IsNever false} {Js = Is plus} variant.Never s t k.value x k.is (λ l r i. is.never i) (never_sound s t k.value v k.was)
+                took_as {Is = IsNever false} {Js = Is plus} variant.Never s t k.value x k.is (λ l r i. is.never i) (plainly {Is = IsNever false} visible_never s t k.value v (never_sound s t k.value v k.was))
             | inr w ↦ elim (branch (sees_named 19 s.rest) _ _ s (Ok (x, t)) w.1) [
               | inl u ↦ let k = mapped (reading.infer s) variant.Infer x t u.1 in
-                  took_as {Is = IsInfer} {Js = Is plus} variant.Infer s t k.value x k.is (λ l r i. is.infer i) (infer_sound s t k.value v k.was)
+                  took_as {Is = IsInfer} {Js = Is plus} variant.Infer s t k.value x k.is (λ l r i. is.infer i) (plainly {Is = IsInfer} visible_infer s t k.value v (infer_sound s t k.value v k.was))
               | inr u ↦ cc (u.1)
             ]
           ]

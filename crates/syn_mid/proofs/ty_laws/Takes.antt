@@ -1,6 +1,5 @@
 -- A read of a type takes tokens, on every stream.
-use Rattle.std.proofs.Common.{◌≡◌, ℕ, zero, suc, ◌<◌, ◌≤◌, Bool, true, false, ◌&&◌, Option, Some, None, Ok, Err, inl, inr, refl, sym, ap, subst, arith}
-use Rattle.std.specs.Prelude.{nat_lt}
+use Rattle.std.proofs.Common.{◌≡◌, ℕ, zero, suc, ◌<◌, ◌≤◌, Bool, false, ◌&&◌, Option, Some, None, Ok, inl, inr, refl, subst, arith}
 use Rattle.token_core.specs.declared.lifetime.Lifetime.{Lifetime}
 use Rattle.token_core.specs.declared.word.Word.{Word}
 use Rattle.token_core.specs.declared.span.DelimSpan.{DelimSpan}
@@ -31,19 +30,18 @@ use Rattle.syn_mid.specs.declared.ty.PointerMutability.{PointerMutability}
 use Rattle.syn_mid.specs.declared.ty.PointerMutability.TheVariants as m
 use Rattle.syn_mid.specs.declared.ty.Type.{«Type» as TypeTree}
 use Rattle.syn_mid.specs.declared.ty.Type.TheVariants as v
-use Rattle.syn_mid.specs.declared.ty.TypeMacro.{TypeMacro}
-use Rattle.syn_mid.specs.declared.ty.TypePath.{TypePath}
 use Rattle.syn_mid.specs.declared.ty.TypePtrOf.{TypePtrOf}
 use Rattle.syn_mid.specs.declared.ty.TypeReferenceOf.{TypeReferenceOf}
 use Rattle.syn_mid.specs.Supplied.{Place}
-use Rattle.syn_mid.specs.mac.Macros.{Bang, Held, macro_of}
+use Rattle.syn_mid.specs.mac.Macros.{Held, macro_of}
 use Rattle.syn_mid.specs.mac.Reading.{bang, held, body, call_after}
 use Rattle.syn_mid.specs.path.Reading.{bare_path, plain_path, sees_angle}
-use Rattle.syn_mid.specs.ty.Knot.{ahead, below, below_if, type_at, ty, types}
+use Rattle.syn_mid.specs.ty.Knot.{ahead, below, type_at, ty, types}
 use Rattle.syn_mid.specs.ty.Reading.{InParens, one, elements, sees_plus, sees_star, sees_and, sees_bang, sees_named, sees_call, begins_path, star, and, mutable, mutability, infer, never, ended, path_or_macro, paren_content, bracket_content, held_in_parens, held_in_brackets, ptr, reference, paren_or_tuple, slice_or_array, by_mark, type_step}
 use Rattle.syn_mid.specs.ty.Types.{Mut, macro_type_of, path_type_of, paren_of, tuple_of, ptr_of, reference_of, infer_of, never_of}
 use Rattle.syn_mid.proofs.path_laws.Turns.{path_takes}
 use Rattle.syn_mid.proofs.ty_laws.GroupsSound.{group_takes}
+use Rattle.syn_mid.proofs.ty_laws.Knot.{out}
 
 abbrev Less : Stream → Stream → Type 0
 Less s t = size t.rest < size s.rest
@@ -234,18 +232,10 @@ module _ {X : Type 0} (supplied : Place → Reader X) (typ : Bool → Reader (Ty
 
 -- ---- at the knot
 
-out_at : {A : Type 0} (c : Bool) (p : Reader A) (s t : Stream) (x : A) → below_if c p s ≡ Ok (x, t) → p s ≡ Ok (x, t)
-out_at true p s t x e = e
-out_at false p s t x e = cc
-
--- a read that is asked below a limit, where it answers
-pub out : {A : Type 0} (limit : ℕ) (p : Reader A) (s t : Stream) (x : A) → below limit p s ≡ Ok (x, t) → p s ≡ Ok (x, t)
-out limit p s t x e = out_at (nat_lt (ahead s) limit) p s t x e
-
 module _ {X : Type 0} (supplied : Place → Reader X) where
   at_takes : (n : ℕ) (p : Bool) (s t : Stream) (x : TypeTree X) → type_at supplied n p s ≡ Ok (x, t) → size t.rest < size s.rest
   at_takes zero p s t x e = cc
-  at_takes (suc n) p s t x e = step_takes supplied (λ q. below (ahead s) (type_at supplied n q)) (λ q u w y h. at_takes n q u w y (out (ahead s) (type_at supplied n q) u w y h)) p s t x e
+  at_takes (suc n) p s t x e = step_takes supplied (λ q. below (ahead s) (type_at supplied n q)) (λ q u w y h. at_takes n q u w y (out (ahead s) (type_at supplied n q) u w y h).was) p s t x e
 
   pub type_takes : (p : Bool) (s t : Stream) (x : TypeTree X) → ty supplied p s ≡ Ok (x, t) → size t.rest < size s.rest
   unfolding ty
@@ -253,4 +243,4 @@ module _ {X : Type 0} (supplied : Place → Reader X) where
 
   pub types_takes : (limit : ℕ) (p : Bool) (s t : Stream) (x : TypeTree X) → types supplied limit p s ≡ Ok (x, t) → size t.rest < size s.rest
   unfolding types
-  types_takes limit p s t x e = type_takes p s t x (out limit (ty supplied p) s t x e)
+  types_takes limit p s t x e = type_takes p s t x (out limit (ty supplied p) s t x e).was
