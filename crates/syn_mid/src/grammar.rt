@@ -541,3 +541,111 @@ pub(crate) fn parse_type<X: Subtree>(
     }
     .step(input, plus)
 }
+
+/// `[T]`
+#[tactic(auto, unfolding(crate::specs::ty::Knot::slice))]
+pub(crate) fn parse_slice<X: Subtree>(
+    alloc: Global,
+    input: &mut ParseStream<'_>,
+) -> Result<TypeSlice<X>, Error>
+    ensures reads { Reads (knot.slice X.reads input.old) result input.new }
+    ensures within { Follows input.old input.new }
+{
+    Grammar {
+        alloc,
+        of: PhantomData,
+        begin: input.cursor(),
+        typ: parse_type::<X>,
+    }
+    .slice(input)
+}
+
+/// `[T; n]`
+#[tactic(auto, unfolding(crate::specs::ty::Knot::array))]
+pub(crate) fn parse_array<X: Subtree>(
+    alloc: Global,
+    input: &mut ParseStream<'_>,
+) -> Result<TypeArray<X>, Error>
+    ensures reads { Reads (knot.array X.reads input.old) result input.new }
+    ensures within { Follows input.old input.new }
+{
+    Grammar {
+        alloc,
+        of: PhantomData,
+        begin: input.cursor(),
+        typ: parse_type::<X>,
+    }
+    .array(input)
+}
+
+/// `*const T`, `*mut T`
+#[tactic(auto, unfolding(crate::specs::ty::Knot::ptr))]
+pub(crate) fn parse_ptr<X: Subtree>(
+    alloc: Global,
+    input: &mut ParseStream<'_>,
+) -> Result<TypePtr<X>, Error>
+    ensures reads { Reads (knot.ptr X.reads input.old) result input.new }
+    ensures within { Follows input.old input.new }
+{
+    Grammar {
+        alloc,
+        of: PhantomData,
+        begin: input.cursor(),
+        typ: parse_type::<X>,
+    }
+    .ptr(input)
+}
+
+/// `&'a mut T`
+#[tactic(auto, unfolding(crate::specs::ty::Knot::reference))]
+pub(crate) fn parse_reference<X: Subtree>(
+    alloc: Global,
+    input: &mut ParseStream<'_>,
+) -> Result<TypeReference<X>, Error>
+    ensures reads { Reads (knot.reference X.reads input.old) result input.new }
+    ensures within { Follows input.old input.new }
+{
+    Grammar {
+        alloc,
+        of: PhantomData,
+        begin: input.cursor(),
+        typ: parse_type::<X>,
+    }
+    .reference(input)
+}
+
+/// `(A, B)`
+#[tactic(auto, unfolding(crate::specs::ty::Knot::tuple))]
+pub(crate) fn parse_tuple<X: Subtree>(
+    alloc: Global,
+    input: &mut ParseStream<'_>,
+) -> Result<TypeTuple<X>, Error>
+    ensures reads { Reads (knot.tuple X.reads input.old) result input.new }
+    ensures within { Follows input.old input.new }
+{
+    Grammar {
+        alloc,
+        of: PhantomData,
+        begin: input.cursor(),
+        typ: parse_type::<X>,
+    }
+    .tuple(input)
+}
+
+/// `(T)`, the type without plus
+#[tactic(auto, unfolding(crate::specs::ty::Knot::paren))]
+pub(crate) fn parse_paren<X: Subtree>(
+    alloc: Global,
+    input: &mut ParseStream<'_>,
+) -> Result<TypeParen<X>, Error>
+    ensures reads { Reads (knot.paren X.reads input.old) result input.new }
+    ensures within { Follows input.old input.new }
+{
+    Grammar {
+        alloc,
+        of: PhantomData,
+        begin: input.cursor(),
+        typ: parse_type::<X>,
+    }
+    .paren(input)
+}

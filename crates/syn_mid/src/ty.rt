@@ -14,8 +14,8 @@ ghost use Rattle.syn_mid.specs.ty.Spelling.{IsMutability, IsInfer, IsNever, IsMa
 
 use crate::attr::print_value;
 use crate::grammar::{
-    Grammar, parse_infer, parse_macro_type, parse_mutability, parse_never, parse_path_type,
-    parse_type,
+    parse_array, parse_infer, parse_macro_type, parse_mutability, parse_never, parse_paren,
+    parse_path_type, parse_ptr, parse_reference, parse_slice, parse_tuple, parse_type,
 };
 use crate::mac::Macro;
 use crate::path::Path;
@@ -191,20 +191,13 @@ impl<X: Subtree> Parse for TypeSlice<X> {
 
     ghost promise = { Headline (grammars.slice X.reads X.spells X.normal X.prints) };
 
-    #[tactic(auto, unfolding(crate::specs::ty::Knot::slice))]
     fn parse(alloc: Global, input: &mut ParseStream<'_>) -> Result<TypeSlice<X>, Error>
         ensures reads { Reads (knot.slice X.reads input.old) result input.new }
         ensures within { Follows input.old input.new }
         ensures front { Visible input.old.rest → input.new.left ≡ Option.None → IfOk result (λ x. IsSomeSlice X.spells false x input.old.rest input.new.rest) }
         ensures promise { Heads (grammars.slice X.reads X.spells X.normal X.prints) input.old result input.new }
     {
-        Grammar {
-            alloc,
-            of: PhantomData,
-            begin: input.cursor(),
-            typ: parse_type::<X>,
-        }
-        .slice(input)
+        parse_slice(alloc, input)
     }
 }
 
@@ -216,20 +209,13 @@ impl<X: Subtree> Parse for TypeArray<X> {
 
     ghost promise = { Headline (grammars.array X.reads X.spells X.normal X.prints) };
 
-    #[tactic(auto, unfolding(crate::specs::ty::Knot::array))]
     fn parse(alloc: Global, input: &mut ParseStream<'_>) -> Result<TypeArray<X>, Error>
         ensures reads { Reads (knot.array X.reads input.old) result input.new }
         ensures within { Follows input.old input.new }
         ensures front { Visible input.old.rest → input.new.left ≡ Option.None → IfOk result (λ x. IsSomeArray X.spells false x input.old.rest input.new.rest) }
         ensures promise { Heads (grammars.array X.reads X.spells X.normal X.prints) input.old result input.new }
     {
-        Grammar {
-            alloc,
-            of: PhantomData,
-            begin: input.cursor(),
-            typ: parse_type::<X>,
-        }
-        .array(input)
+        parse_array(alloc, input)
     }
 }
 
@@ -241,20 +227,13 @@ impl<X: Subtree> Parse for TypePtr<X> {
 
     ghost promise = { Headline (grammars.ptr X.reads X.spells X.normal X.prints) };
 
-    #[tactic(auto, unfolding(crate::specs::ty::Knot::ptr))]
     fn parse(alloc: Global, input: &mut ParseStream<'_>) -> Result<TypePtr<X>, Error>
         ensures reads { Reads (knot.ptr X.reads input.old) result input.new }
         ensures within { Follows input.old input.new }
         ensures front { Visible input.old.rest → input.new.left ≡ Option.None → IfOk result (λ x. IsSomePtr X.spells false x input.old.rest input.new.rest) }
         ensures promise { Heads (grammars.ptr X.reads X.spells X.normal X.prints) input.old result input.new }
     {
-        Grammar {
-            alloc,
-            of: PhantomData,
-            begin: input.cursor(),
-            typ: parse_type::<X>,
-        }
-        .ptr(input)
+        parse_ptr(alloc, input)
     }
 }
 
@@ -266,20 +245,13 @@ impl<X: Subtree> Parse for TypeReference<X> {
 
     ghost promise = { Headline (grammars.reference X.reads X.spells X.normal X.prints) };
 
-    #[tactic(auto, unfolding(crate::specs::ty::Knot::reference))]
     fn parse(alloc: Global, input: &mut ParseStream<'_>) -> Result<TypeReference<X>, Error>
         ensures reads { Reads (knot.reference X.reads input.old) result input.new }
         ensures within { Follows input.old input.new }
         ensures front { Visible input.old.rest → input.new.left ≡ Option.None → IfOk result (λ x. IsSomeReference X.spells false x input.old.rest input.new.rest) }
         ensures promise { Heads (grammars.reference X.reads X.spells X.normal X.prints) input.old result input.new }
     {
-        Grammar {
-            alloc,
-            of: PhantomData,
-            begin: input.cursor(),
-            typ: parse_type::<X>,
-        }
-        .reference(input)
+        parse_reference(alloc, input)
     }
 }
 
@@ -291,20 +263,13 @@ impl<X: Subtree> Parse for TypeTuple<X> {
 
     ghost promise = { Headline (grammars.tuple X.reads X.spells X.normal X.prints) };
 
-    #[tactic(auto, unfolding(crate::specs::ty::Knot::tuple))]
     fn parse(alloc: Global, input: &mut ParseStream<'_>) -> Result<TypeTuple<X>, Error>
         ensures reads { Reads (knot.tuple X.reads input.old) result input.new }
         ensures within { Follows input.old input.new }
         ensures front { Visible input.old.rest → input.new.left ≡ Option.None → IfOk result (λ x. IsSomeTuple X.spells false x input.old.rest input.new.rest) }
         ensures promise { Heads (grammars.tuple X.reads X.spells X.normal X.prints) input.old result input.new }
     {
-        Grammar {
-            alloc,
-            of: PhantomData,
-            begin: input.cursor(),
-            typ: parse_type::<X>,
-        }
-        .tuple(input)
+        parse_tuple(alloc, input)
     }
 }
 
@@ -316,20 +281,13 @@ impl<X: Subtree> Parse for TypeParen<X> {
 
     ghost promise = { Headline (grammars.paren X.reads X.spells X.normal X.prints) };
 
-    #[tactic(auto, unfolding(crate::specs::ty::Knot::paren))]
     fn parse(alloc: Global, input: &mut ParseStream<'_>) -> Result<TypeParen<X>, Error>
         ensures reads { Reads (knot.paren X.reads input.old) result input.new }
         ensures within { Follows input.old input.new }
         ensures front { Visible input.old.rest → input.new.left ≡ Option.None → IfOk result (λ x. IsSomeParen X.spells false x input.old.rest input.new.rest) }
         ensures promise { Heads (grammars.paren X.reads X.spells X.normal X.prints) input.old result input.new }
     {
-        Grammar {
-            alloc,
-            of: PhantomData,
-            begin: input.cursor(),
-            typ: parse_type::<X>,
-        }
-        .paren(input)
+        parse_paren(alloc, input)
     }
 }
 
