@@ -1,1 +1,7 @@
+pub mod Types
+pub mod Reading
+pub mod Knot
+pub mod Spelling
 pub mod Printing
+pub mod Normal
+pub mod Grammars

@@ -1,7 +1,8 @@
-//! Paths and macro calls of Rust, read from token lists into syntax trees and printed back.
+//! Paths, macro calls, attributes and plain types of Rust, read from token lists into syntax trees and printed back.
 #![tactic(auto)]
 
 pub mod attr;
+mod grammar;
 pub mod mac;
 pub mod meta;
 pub mod path;
@@ -22,4 +23,4 @@ pub use ty::{
     TypeParenOf, TypePath, TypePtr, TypePtrOf, TypeReference, TypeReferenceOf, TypeSlice,
     TypeSliceOf, TypeTuple, TypeTupleOf,
 };
-pub use whole::{ModStyle, ParseInner, ParseOuter};
+pub use whole::{ModStyle, ParseInner, ParseOuter, WithoutPlus};

@@ -101,6 +101,19 @@ pub(crate) fn parse_macro<X: Drop>(
     ensures within { Follows input.old input.new }
 {
     let path = Path::parse_mod_style(alloc, input)?;
+    parse_call_after(alloc, input, path)
+}
+
+/// What follows the path of a macro call: `!` and a group.
+#[tactic(auto, using(token_core::proofs::Suffixes::follows), unfolding(crate::specs::mac::Reading::call_after))]
+pub(crate) fn parse_call_after<X: Drop>(
+    alloc: Global,
+    input: &mut ParseStream<'_>,
+    path: Path<X>,
+) -> Result<Macro<X>, Error>
+    ensures reads { Reads (reading.call_after path input.old) result input.new }
+    ensures within { Follows input.old input.new }
+{
     let bang_token = input.parse::<Not>(alloc)?;
     let (delimiter, tokens) = parse_body(alloc, input)?;
     Ok(Macro {

@@ -13,11 +13,13 @@ ghost use Rattle.syn_mid.specs.path.Grammars as grammars;
 ghost use Rattle.syn_mid.specs.path.Paths as spec;
 ghost use Rattle.syn_mid.specs.path.Printing as printing;
 ghost use Rattle.syn_mid.specs.path.Reading as reading;
-ghost use Rattle.syn_mid.specs.path.Spelling.{IsModPath, is_mod_word};
+ghost use Rattle.syn_mid.specs.path.Spelling.{IsModPath, is_mod_word, is_type_word};
 
 use std::alloc::{AllocError, Global};
 use std::marker::PhantomData;
-use token_core::token::{Crate, Gt, Lt, Paren, PathSep, SelfType, SelfValue, Super};
+use token_core::token::{
+    Crate, Gt, Le, Lt, Paren, PathSep, SelfType, SelfValue, ShlEq, Super, Try,
+};
 use token_core::{
     Error, ErrorKind, Ident, Lit, ParseStream, Punctuated, Span, Text, ToTokens, Token, TokenStream,
 };
@@ -71,6 +73,8 @@ pub(crate) enum SegmentStyle {
     Mod,
     /// Any identifier, as in the path of a nested property.
     Nested,
+    /// In a type: an identifier that is no keyword, `super`, `self`, `Self`, `crate` or `try`.
+    Plain,
 }
 
 /// How the arguments of a path's segments print.
@@ -279,6 +283,32 @@ pub(crate) fn parse_bare_path<X: Drop>(
     })
 }
 
+/// Reads a plain path, as it stands in a type: an optional `::`, and identifiers, `super`, `self`, `Self`, `crate` or `try`
+/// joined by `::`, without arguments. It stops before a `::` and a parenthesis. It is refused where no segment begins, and
+/// where a `<` follows, since arguments between angle marks are not read yet.
+#[tactic(auto, using(token_core::proofs::Suffixes::follows), unfolding(crate::specs::path::Reading::plain_path))]
+pub(crate) fn parse_plain_path<X: Drop>(
+    alloc: Global,
+    input: &mut ParseStream<'_>,
+) -> Result<Path<X>, Error>
+    ensures reads { Reads (reading.plain_path input.old) result input.new }
+    ensures within { Follows input.old input.new }
+{
+    let path = parse_bare_path(alloc, input, SegmentStyle::Plain)?;
+    if peek_angle(input) {
+        return Err(input.refuse(alloc, ErrorKind::Unexpected));
+    }
+    Ok(path)
+}
+
+/// Whether a `<` is at the front that begins neither `<=` nor `<<=`.
+fn peek_angle(input: &ParseStream<'_>) -> bool
+    ensures { result ≡ reading.sees_angle input.now.rest }
+{
+    // all tested, so that the answer is one value
+    input.peek::<Lt>() & (!input.peek::<Le>() & !input.peek::<ShlEq>())
+}
+
 #[tactic(auto, unfolding(crate::specs::path::Reading::leading))]
 fn parse_leading(alloc: Global, input: &mut ParseStream<'_>) -> Result<Option<PathSep>, Error>
     ensures reads { Reads (reading.leading input.old) result input.new }
@@ -298,6 +328,14 @@ fn begins_mod_segment(input: &ParseStream<'_>) -> bool
             | (input.peek::<SelfValue>() | (input.peek::<SelfType>() | input.peek::<Crate>())))
 }
 
+/// Whether a segment of a plain path begins here.
+#[tactic(auto, using(crate::proofs::path_laws::Turns::or_try))]
+fn begins_plain_segment(input: &ParseStream<'_>) -> bool
+    ensures { result ≡ sees_word is_type_word input.now.rest }
+{
+    begins_mod_segment(input) | input.peek::<Try>()
+}
+
 /// Whether a segment of this style begins here.
 fn begins_segment(input: &ParseStream<'_>, style: SegmentStyle) -> bool
     ensures { result ≡ reading.begins style input.now.rest }
@@ -305,6 +343,18 @@ fn begins_segment(input: &ParseStream<'_>, style: SegmentStyle) -> bool
     match style {
         SegmentStyle::Mod => begins_mod_segment(input),
         SegmentStyle::Nested => Ident::peek_any(input),
+        SegmentStyle::Plain => begins_plain_segment(input),
+    }
+}
+
+/// Whether a path of this style goes on with a `::`. A plain one stops before a `::` and a parenthesis.
+fn goes_on(input: &ParseStream<'_>, style: SegmentStyle) -> bool
+    ensures { result ≡ reading.goes_on style input.now.rest }
+{
+    match style {
+        SegmentStyle::Mod => input.peek::<PathSep>(),
+        SegmentStyle::Nested => input.peek::<PathSep>(),
+        SegmentStyle::Plain => input.peek::<PathSep>() & !input.peek3::<Paren>(),
     }
 }
 
@@ -343,6 +393,7 @@ fn no_segment(alloc: Global, input: &ParseStream<'_>, style: SegmentStyle, is_fi
                 input.expected(alloc, Ident::display())
             }
         }
+        SegmentStyle::Plain => input.expected(alloc, Ident::display()),
     }
 }
 
@@ -376,7 +427,7 @@ fn parse_bare_segments<X: Drop>(
     'turn: loop {
         let segment = parse_bare_segment(alloc, input, style, segments.is_empty())?;
         segments.push_value(alloc, segment)?;
-        if !input.peek::<PathSep>() {
+        if !goes_on(input, style) {
             return Ok(segments);
         }
         segments.push_punct(input.parse::<PathSep>(alloc)?)?;

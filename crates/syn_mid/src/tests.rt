@@ -1,4 +1,6 @@
 //! Paths and macro calls read from lists made by hand, and what they print; what attributes made by hand are asked for.
+//!
+//! A test calls and does not branch, as docs/GATE.md says.
 
 use crate::attr::{inner, outer};
 use crate::mac::parse_macro;
@@ -11,7 +13,6 @@ use std::alloc::{AllocError, Global};
 use std::fmt::Write;
 use std::marker::PhantomData;
 use std::process::Abort;
-use std::test::Fail;
 use token_core::token::{Brace, Bracket, Eq, Gt, Lt, Not, Paren, PathSep, Pound};
 use token_core::{
     ByFn, DelimSpan, Delimiter, Error, ErrorKind, Group, Ident, Punct, Punctuated, Spacing, Span,
@@ -23,28 +24,39 @@ fn place() -> DelimSpan {
     DelimSpan::new(Span::new(50, 51), Span::new(60, 61))
 }
 
+fn mark(ch: char, spacing: Spacing, at: usize) -> TokenTree {
+    let span = Span::new(at, at.saturating_add(1));
+    TokenTree::Punct(Punct::new(ch, spacing, span))
+}
+
+fn put_word(alloc: Global, word: &str, at: usize, out: &mut TokenStream) -> Result<(), AllocError> {
+    match word {
+        "::" => {
+            out.push(mark(':', Spacing::Joint, at))?;
+            out.push(mark(':', Spacing::Alone, at.saturating_add(1)))
+        }
+        ":" => out.push(mark(':', Spacing::Alone, at)),
+        "!" => out.push(mark('!', Spacing::Alone, at)),
+        _ => {
+            let span = Span::new(at, at.saturating_add(word.len()));
+            out.push(TokenTree::Ident(Ident::new(alloc, word, span)?))
+        }
+    }
+}
+
 /// The list of a text whose tokens stand one space apart, each with its place.
 fn tokens_of(alloc: Global, text: &str) -> Result<TokenStream, AllocError> {
     let mut out = TokenStream::new(alloc);
     let mut at: usize = 0;
     for word in text.split_whitespace() {
-        let next = at.saturating_add(1);
-        let end = at.saturating_add(word.len());
-        let span = Span::new(at, next);
-        if word == "::" {
-            out.push(TokenTree::Punct(Punct::new(':', Spacing::Joint, span)))?;
-            let span = Span::new(next, end);
-            out.push(TokenTree::Punct(Punct::new(':', Spacing::Alone, span)))?;
-        } else if word == ":" {
-            out.push(TokenTree::Punct(Punct::new(':', Spacing::Alone, span)))?;
-        } else if word == "!" {
-            out.push(TokenTree::Punct(Punct::new('!', Spacing::Alone, span)))?;
-        } else {
-            out.push(TokenTree::Ident(Ident::new(alloc, word, Span::new(at, end))?))?;
-        }
-        at = end.saturating_add(1);
+        put_word(alloc, word, at, &mut out)?;
+        at = at.saturating_add(word.len()).saturating_add(1);
     }
     Ok(out)
+}
+
+fn tokens(rt: &impl Abort, alloc: Global, text: &str) -> TokenStream {
+    made(rt, tokens_of(alloc, text))
 }
 
 /// Puts a group of the tokens of a text at the end.
@@ -58,9 +70,49 @@ fn put_group(
     out.push(TokenTree::Group(Group::new(delimiter, content, place())))
 }
 
-fn show_span(span: Span, out: &mut String) -> Result<(), AllocError> {
+/// What was read; a refusal stops the test.
+fn got<T>(rt: &impl Abort, outcome: Result<T, Error>) -> T {
+    match outcome {
+        Ok(value) => value,
+        Err(error) => panic!(rt; "refused: {}", error.text()),
+    }
+}
+
+/// What was made, where memory was left.
+fn made<T>(rt: &impl Abort, outcome: Result<T, AllocError>) -> T {
+    match outcome {
+        Ok(value) => value,
+        Err(_) => panic!(rt; "out of memory"),
+    }
+}
+
+fn is(rt: &impl Abort, fact: bool, name: &str) {
+    assert!(rt; fact, "{name}");
+}
+
+fn text_is(rt: &impl Abort, found: &str, wanted: &str) {
+    assert_eq!(rt; found, wanted);
+}
+
+/// It is refused with this kind.
+fn refused<T: Drop>(rt: &impl Abort, outcome: Result<T, Error>, kind: ErrorKind) {
+    match outcome {
+        Ok(_) => panic!(rt; "read, and not refused"),
+        Err(error) => is(rt, error.kind() == kind, error.text()),
+    }
+}
+
+fn put(rt: &impl Abort, text: &str, out: &mut String) {
+    made(rt, out.push_str(text));
+}
+
+fn write_span(span: Span, out: &mut String) -> Result<(), AllocError> {
     write!(out, " {}-{}", span.lo, span.hi)?;
     Ok(())
+}
+
+fn show_span(rt: &impl Abort, span: Span, out: &mut String) {
+    made(rt, write_span(span, out));
 }
 
 fn bracket(delimiter: Delimiter) -> &'static str {
@@ -72,94 +124,134 @@ fn bracket(delimiter: Delimiter) -> &'static str {
     }
 }
 
-/// Each tree with its place; a joint mark has a `~`, and a group ends with `end` and its bracket's place.
-fn list(tokens: &TokenStream, out: &mut String) -> Result<(), AllocError> {
-    for tree in tokens.trees() {
-        match tree {
-            TokenTree::Ident(word) => {
-                write!(out, "{} {}-{};", word.text(), word.span.lo, word.span.hi)?
-            }
-            TokenTree::Punct(mark) => {
-                let joint = match mark.spacing {
-                    Spacing::Joint => "~",
-                    Spacing::Alone => "",
-                };
-                write!(out, "{}{joint} {}-{};", mark.ch, mark.span.lo, mark.span.hi)?
-            }
-            TokenTree::Literal(_) => out.push('?')?,
-            TokenTree::Group(group) => {
-                let span = group.delim_span();
-                let opens = bracket(group.delimiter());
-                write!(out, "{opens} {}-{};", span.opening.lo, span.opening.hi)?;
-                list(group.stream(), out)?;
-                write!(out, "end {}-{};", span.closing.lo, span.closing.hi)?;
-            }
-        }
-    }
+fn write_mark(mark: &Punct, out: &mut String) -> Result<(), AllocError> {
+    write!(out, "{}", mark.ch)?;
     Ok(())
 }
 
+fn show_mark(rt: &impl Abort, mark: &Punct, out: &mut String) {
+    made(rt, write_mark(mark, out));
+    put(rt, joint(mark.spacing), out);
+    show_span(rt, mark.span, out);
+}
+
+fn joint(spacing: Spacing) -> &'static str {
+    match spacing {
+        Spacing::Joint => "~",
+        Spacing::Alone => "",
+    }
+}
+
+/// Each tree with its place; a joint mark has a `~`, and a group ends with `end` and its bracket's place.
+fn list(rt: &impl Abort, tokens: &TokenStream, out: &mut String) {
+    for tree in tokens.trees() {
+        match tree {
+            TokenTree::Ident(word) => {
+                put(rt, word.text(), out);
+                show_span(rt, word.span, out);
+            }
+            TokenTree::Punct(mark) => show_mark(rt, mark, out),
+            TokenTree::Literal(_) => put(rt, "?", out),
+            TokenTree::Group(group) => {
+                let span = group.delim_span();
+                put(rt, bracket(group.delimiter()), out);
+                show_span(rt, span.opening, out);
+                put(rt, ";", out);
+                list(rt, group.stream(), out);
+                put(rt, "end", out);
+                show_span(rt, span.closing, out);
+            }
+        }
+        put(rt, ";", out);
+    }
+}
+
+fn show_sep(rt: &impl Abort, mark: &PathSep, out: &mut String) {
+    show_span(rt, mark.spans[0], out);
+    show_span(rt, mark.spans[1], out);
+    put(rt, ";", out);
+}
+
+fn show_segment(rt: &impl Abort, segment: &PathSegment<u8>, out: &mut String) {
+    put(rt, segment.ident.text(), out);
+    show_span(rt, segment.ident.span, out);
+    if !segment.arguments.is_none() {
+        put(rt, " with arguments", out);
+    }
+    put(rt, ";", out);
+}
+
 /// The parts of a path, each with its places.
-fn show_path(path: &Path<u8>, out: &mut String) -> Result<(), AllocError> {
+fn show_path(rt: &impl Abort, path: &Path<u8>, out: &mut String) {
     match &path.leading_colon {
         Some(colon) => {
-            out.push_str("leading")?;
-            show_span(colon.spans[0], out)?;
-            show_span(colon.spans[1], out)?;
-            out.push(';')?;
+            put(rt, "leading", out);
+            show_sep(rt, colon, out);
         }
         None => {}
     }
     for i in 0..path.segments.len() {
         match path.segments.value(i) {
-            Some(segment) => {
-                out.push_str(segment.ident.text())?;
-                show_span(segment.ident.span, out)?;
-                if !segment.arguments.is_none() {
-                    out.push_str(" with arguments")?;
-                }
-                out.push(';')?;
-            }
-            None => out.push('?')?,
+            Some(segment) => show_segment(rt, segment, out),
+            None => put(rt, "?", out),
         }
         match path.segments.mark(i) {
             Some(mark) => {
-                out.push_str("::")?;
-                show_span(mark.spans[0], out)?;
-                show_span(mark.spans[1], out)?;
-                out.push(';')?;
+                put(rt, "::", out);
+                show_sep(rt, mark, out);
             }
             None => {}
         }
     }
-    Ok(())
+}
+
+fn kind_name(kind: ErrorKind) -> &'static str {
+    match kind {
+        ErrorKind::Expected => "Expected",
+        ErrorKind::Unexpected => "Unexpected ",
+        ErrorKind::ExpectedDelimiter => "ExpectedDelimiter ",
+        ErrorKind::ExpectedPathSegment => "ExpectedPathSegment ",
+        ErrorKind::ExpectedPathIdent => "ExpectedPathIdent ",
+        _ => "another kind",
+    }
+}
+
+fn has_one_text(kind: ErrorKind) -> bool {
+    match kind {
+        ErrorKind::Unexpected => true,
+        ErrorKind::ExpectedDelimiter => true,
+        ErrorKind::ExpectedPathSegment => true,
+        ErrorKind::ExpectedPathIdent => true,
+        _ => false,
+    }
 }
 
 /// The kind of a refusal, its text where its kind has one, and where it points.
-fn show_error(error: &Error, out: &mut String) -> Result<(), AllocError> {
-    match error.kind() {
-        ErrorKind::Expected => out.push_str("Expected")?,
-        ErrorKind::Unexpected => write!(out, "Unexpected {}", error.text())?,
-        ErrorKind::ExpectedDelimiter => write!(out, "ExpectedDelimiter {}", error.text())?,
-        ErrorKind::ExpectedPathSegment => write!(out, "ExpectedPathSegment {}", error.text())?,
-        ErrorKind::ExpectedPathIdent => write!(out, "ExpectedPathIdent {}", error.text())?,
-        _ => out.push_str("another kind")?,
+fn show_error(rt: &impl Abort, error: &Error, out: &mut String) {
+    put(rt, kind_name(error.kind()), out);
+    if has_one_text(error.kind()) {
+        put(rt, error.text(), out);
     }
-    show_span(error.start(), out)?;
-    show_span(error.end(), out)
+    show_span(rt, error.start(), out);
+    show_span(rt, error.end(), out);
 }
 
-fn path_read(alloc: Global, tokens: &TokenStream) -> Result<String, AllocError> {
+fn path_read(rt: &impl Abort, alloc: Global, tokens: &TokenStream) -> String {
     let mut out = String::new(alloc);
     match read_all_with(alloc, ModStyle::<u8>::new(), tokens) {
-        Ok(path) => show_path(&path, &mut out)?,
-        Err(error) => show_error(&error, &mut out)?,
+        Ok(path) => show_path(rt, &path, &mut out),
+        Err(error) => show_error(rt, &error, &mut out),
     }
-    Ok(out)
+    out
+}
+
+fn path_is(rt: &impl Abort, alloc: Global, tokens: &TokenStream, wanted: &str) {
+    let out = path_read(rt, alloc, tokens);
+    text_is(rt, out.as_str(), wanted);
 }
 
 #[test]
-fn reads_paths(rt: HostRuntime) -> Result<(), Fail> {
+fn reads_paths(rt: HostRuntime) {
     for (text, want) in [
         ("a", "a 0-1;"),
         ("r#try", "r#try 0-5;"),
@@ -187,106 +279,134 @@ fn reads_paths(rt: HostRuntime) -> Result<(), Fail> {
         // two lone marks are no `::`
         ("a : : b", "Unexpected unexpected token 2-3 2-3"),
     ] {
-        let tokens = tokens_of(rt.alloc(), text)?;
-        assert_eq!(rt; path_read(rt.alloc(), &tokens)?.as_str(), want, "{text}");
+        path_is(&rt, rt.alloc(), &tokens(&rt, rt.alloc(), text), want);
     }
-    Ok(())
+}
+
+fn put_hidden(rt: &impl Abort, alloc: Global, text: &str, out: &mut TokenStream) {
+    made(rt, put_group(alloc, Delimiter::None, text, out));
 }
 
 #[test]
-fn reads_paths_in_invisible_groups(rt: HostRuntime) -> Result<(), Fail> {
-    let mut tokens = TokenStream::new(rt.alloc());
-    put_group(rt.alloc(), Delimiter::None, "a", &mut tokens)?;
-    assert_eq!(rt; path_read(rt.alloc(), &tokens)?.as_str(), "a 0-1;");
-    put_group(rt.alloc(), Delimiter::None, ":: b", &mut tokens)?;
-    let want = "a 0-1;:: 0-1 1-2;b 3-4;";
-    assert_eq!(rt; path_read(rt.alloc(), &tokens)?.as_str(), want);
-    match read_all_with(rt.alloc(), ByFn(Path::<u8>::parse_mod_style), &tokens) {
-        Ok(path) => assert_eq!(rt; path.segments.len(), 2),
-        Err(_) => assert!(rt; false),
-    }
-    Ok(())
+fn reads_paths_in_invisible_groups(rt: HostRuntime) {
+    let alloc = rt.alloc();
+    let mut tokens = TokenStream::new(alloc);
+    put_hidden(&rt, alloc, "a", &mut tokens);
+    path_is(&rt, alloc, &tokens, "a 0-1;");
+    put_hidden(&rt, alloc, ":: b", &mut tokens);
+    path_is(&rt, alloc, &tokens, "a 0-1;:: 0-1 1-2;b 3-4;");
+    let path = got(
+        &rt,
+        read_all_with(alloc, ByFn(Path::<u8>::parse_mod_style), &tokens),
+    );
+    is(&rt, path.segments.len() == 2, "two segments");
 }
 
-fn show_macro(call: &Macro<u8>, out: &mut String) -> Result<(), AllocError> {
-    show_path(&call.path, out)?;
-    out.push('!')?;
-    show_span(call.bang_token.spans[0], out)?;
-    match call.delimiter {
-        MacroDelimiter::Paren(_) => out.push_str(";(")?,
-        MacroDelimiter::Brace(_) => out.push_str(";{")?,
-        MacroDelimiter::Bracket(_) => out.push_str(";[")?,
+fn opens(delimiter: &MacroDelimiter) -> &'static str {
+    match delimiter {
+        MacroDelimiter::Paren(_) => ";(",
+        MacroDelimiter::Brace(_) => ";{",
+        MacroDelimiter::Bracket(_) => ";[",
     }
-    show_span(call.delimiter.span().opening, out)?;
-    show_span(call.delimiter.span().closing, out)?;
+}
+
+fn show_macro(rt: &impl Abort, call: &Macro<u8>, out: &mut String) {
+    show_path(rt, &call.path, out);
+    put(rt, "!", out);
+    show_span(rt, call.bang_token.spans[0], out);
+    put(rt, opens(&call.delimiter), out);
+    show_span(rt, call.delimiter.span().opening, out);
+    show_span(rt, call.delimiter.span().closing, out);
     if call.delimiter.is_brace() {
-        out.push_str(" brace")?;
+        put(rt, " brace", out);
     }
-    out.push(';')?;
-    list(&call.tokens, out)
+    put(rt, ";", out);
+    list(rt, &call.tokens, out);
+}
+
+/// Each tree of the print.
+fn show_print<T: ToTokens>(rt: &impl Abort, alloc: Global, tree: &T, out: &mut String) {
+    let mut tokens = TokenStream::new(alloc);
+    made(rt, tree.to_tokens(alloc, &mut tokens));
+    list(rt, &tokens, out);
 }
 
 /// What a list is read as, and what the call prints.
-fn macro_read(alloc: Global, tokens: &TokenStream) -> Result<String, AllocError> {
+fn macro_read(rt: &impl Abort, alloc: Global, tokens: &TokenStream) -> String {
     let mut out = String::new(alloc);
     match read_all_with(alloc, ByFn(parse_macro::<u8>), tokens) {
         Ok(call) => {
-            show_macro(&call, &mut out)?;
-            out.push('=')?;
-            let mut again = TokenStream::new(alloc);
-            call.to_tokens(alloc, &mut again)?;
-            list(&again, &mut out)?;
+            show_macro(rt, &call, &mut out);
+            put(rt, "=", &mut out);
+            show_print(rt, alloc, &call, &mut out);
         }
-        Err(error) => show_error(&error, &mut out)?,
+        Err(error) => show_error(rt, &error, &mut out),
     }
-    Ok(out)
+    out
+}
+
+fn macro_is(rt: &impl Abort, alloc: Global, tokens: &TokenStream, wanted: &str) {
+    let out = macro_read(rt, alloc, tokens);
+    text_is(rt, out.as_str(), wanted);
+}
+
+/// The tokens of a text, and of a group after it.
+fn with_group(
+    rt: &impl Abort,
+    alloc: Global,
+    text: &str,
+    delimiter: Delimiter,
+    inside: &str,
+) -> TokenStream {
+    let mut tokens = tokens(rt, alloc, text);
+    made(rt, put_group(alloc, delimiter, inside, &mut tokens));
+    tokens
 }
 
 #[test]
-fn reads_macros(rt: HostRuntime) -> Result<(), Fail> {
-    for (text, body, want) in [
+fn reads_macros(rt: HostRuntime) {
+    for (text, delimiter, inside, want) in [
         (
             "a :: b !",
-            Some((Delimiter::Brace, "x y")),
+            Delimiter::Brace,
+            "x y",
             "a 0-1;:: 2-3 3-4;b 5-6;! 7-8;{ 50-51 60-61 brace;x 0-1;y 2-3;=a 0-1;:~ 2-3;: 3-4;b 5-6;! 7-8;{ 50-51;x 0-1;y 2-3;end 60-61;",
         ),
         (
             ":: a !",
-            Some((Delimiter::Parenthesis, "")),
+            Delimiter::Parenthesis,
+            "",
             "leading 0-1 1-2;a 3-4;! 5-6;( 50-51 60-61;=:~ 0-1;: 1-2;a 3-4;! 5-6;( 50-51;end 60-61;",
         ),
         (
             "self !",
-            Some((Delimiter::Bracket, "::")),
+            Delimiter::Bracket,
+            "::",
             "self 0-4;! 5-6;[ 50-51 60-61;:~ 0-1;: 1-2;=self 0-4;! 5-6;[ 50-51;:~ 0-1;: 1-2;end 60-61;",
         ),
+        ("m", Delimiter::Brace, "x", "Expected 50-51 50-51"),
+        ("try !", Delimiter::Brace, "x", "Expected 0-3 0-3"),
+    ] {
+        let tokens = with_group(&rt, rt.alloc(), text, delimiter, inside);
+        macro_is(&rt, rt.alloc(), &tokens, want);
+    }
+}
+
+#[test]
+fn refuses_macros_without_a_group(rt: HostRuntime) {
+    for (text, want) in [
         (
             "m !",
-            None,
             "ExpectedDelimiter unexpected end of input, expected delimiter 0-0 0-0",
         ),
-        (
-            "m ! x",
-            None,
-            "ExpectedDelimiter expected delimiter 4-5 4-5",
-        ),
-        ("m", None, "Expected 0-0 0-0"),
-        ("m", Some((Delimiter::Brace, "x")), "Expected 50-51 50-51"),
-        ("try !", Some((Delimiter::Brace, "x")), "Expected 0-3 0-3"),
+        ("m ! x", "ExpectedDelimiter expected delimiter 4-5 4-5"),
+        ("m", "Expected 0-0 0-0"),
     ] {
-        let mut tokens = tokens_of(rt.alloc(), text)?;
-        if let Some((delimiter, text)) = body {
-            put_group(rt.alloc(), delimiter, text, &mut tokens)?;
-        }
-        assert_eq!(rt; macro_read(rt.alloc(), &tokens)?.as_str(), want, "{text}");
+        macro_is(&rt, rt.alloc(), &tokens(&rt, rt.alloc(), text), want);
     }
-    let mut tokens = tokens_of(rt.alloc(), "m !")?;
-    put_group(rt.alloc(), Delimiter::None, "x", &mut tokens)?;
-    match read_all_with(rt.alloc(), ByFn(parse_macro::<u8>), &tokens) {
-        Ok(_) => assert!(rt; false),
-        Err(error) => assert!(rt; error.kind() == ErrorKind::ExpectedDelimiter),
-    }
-    Ok(())
+    let tokens = with_group(&rt, rt.alloc(), "m !", Delimiter::None, "x");
+    let read = read_all_with(rt.alloc(), ByFn(parse_macro::<u8>), &tokens);
+    refused(&rt, read, ErrorKind::ExpectedDelimiter);
 }
 
 /// `<>`, after `::` if so wanted.
@@ -309,51 +429,64 @@ fn separator() -> PathSep {
     }
 }
 
-/// Puts a segment and a mark at the end of a path that ends in a mark or has no segment.
-fn put_segment(
+fn push_segment(
     alloc: Global,
-    text: &str,
-    arguments: PathArguments<u8>,
+    segment: PathSegment<u8>,
     path: &mut Path<u8>,
 ) -> Result<(), AllocError> {
-    let ident = Ident::new(alloc, text, Span::new(1, 2))?;
     if path.segments.empty_or_trailing() {
-        path.segments
-            .push_value(alloc, PathSegment { ident, arguments })?;
+        path.segments.push_value(alloc, segment)?;
         path.segments.push_punct(separator())?;
     }
     Ok(())
 }
 
+/// Puts a segment and a mark at the end of a path that ends in a mark or has no segment.
+fn put_segment(
+    rt: &impl Abort,
+    alloc: Global,
+    text: &str,
+    arguments: PathArguments<u8>,
+    path: &mut Path<u8>,
+) {
+    let ident = made(rt, Ident::new(alloc, text, Span::new(1, 2)));
+    let segment = PathSegment { ident, arguments };
+    made(rt, push_segment(alloc, segment, path));
+}
+
+fn parentheses() -> PathArguments<u8> {
+    PathArguments::Parenthesized(ParenthesizedGenericArguments {
+        paren_token: Paren { span: place() },
+        inputs: PhantomData,
+    })
+}
+
 /// `::a<>::b::<>::c()::`, or no more than its first segments.
-fn long_path(alloc: Global, segments: usize) -> Result<Path<u8>, AllocError> {
+fn long_path(rt: &impl Abort, alloc: Global, segments: usize) -> Path<u8> {
     let mut path = Path {
         leading_colon: Some(separator()),
         segments: Punctuated::new(alloc),
     };
     if segments > 0 {
-        put_segment(alloc, "a", angles(None), &mut path)?;
+        put_segment(rt, alloc, "a", angles(None), &mut path);
     }
     if segments > 1 {
-        put_segment(alloc, "b", angles(Some(separator())), &mut path)?;
+        put_segment(rt, alloc, "b", angles(Some(separator())), &mut path);
     }
     if segments > 2 {
-        let parentheses = ParenthesizedGenericArguments {
-            paren_token: Paren { span: place() },
-            inputs: PhantomData,
-        };
-        put_segment(
-            alloc,
-            "c",
-            PathArguments::Parenthesized(parentheses),
-            &mut path,
-        )?;
+        put_segment(rt, alloc, "c", parentheses(), &mut path);
     }
-    Ok(path)
+    path
+}
+
+fn prints<T: ToTokens>(rt: &impl Abort, alloc: Global, tree: &T, wanted: &str) {
+    let mut out = String::new(alloc);
+    show_print(rt, alloc, tree, &mut out);
+    text_is(rt, out.as_str(), wanted);
 }
 
 #[test]
-fn prints_paths(rt: HostRuntime) -> Result<(), Fail> {
+fn prints_paths(rt: HostRuntime) {
     for (segments, want) in [
         (0, ":~ 5-6;: 6-7;"),
         (1, ":~ 5-6;: 6-7;a 1-2;< 7-8;> 8-9;:~ 5-6;: 6-7;"),
@@ -362,54 +495,66 @@ fn prints_paths(rt: HostRuntime) -> Result<(), Fail> {
             ":~ 5-6;: 6-7;a 1-2;< 7-8;> 8-9;:~ 5-6;: 6-7;b 1-2;:~ 5-6;: 6-7;< 7-8;> 8-9;:~ 5-6;: 6-7;c 1-2;( 50-51;end 60-61;:~ 5-6;: 6-7;",
         ),
     ] {
-        let path = long_path(rt.alloc(), segments)?;
-        let mut tokens = TokenStream::new(rt.alloc());
-        path.to_tokens(rt.alloc(), &mut tokens)?;
-        let mut out = String::new(rt.alloc());
-        list(&tokens, &mut out)?;
-        assert_eq!(rt; out.as_str(), want);
+        let path = long_path(&rt, rt.alloc(), segments);
+        prints(&rt, rt.alloc(), &path, want);
     }
-    // a macro call leaves the arguments of its path out
+}
+
+#[test]
+fn prints_calls_without_arguments_of_paths(rt: HostRuntime) {
     let call = Macro {
-        path: long_path(rt.alloc(), 2)?,
+        path: long_path(&rt, rt.alloc(), 2),
         bang_token: Not {
             spans: [Span::new(3, 4)],
         },
         delimiter: MacroDelimiter::Bracket(Bracket { span: place() }),
-        tokens: tokens_of(rt.alloc(), "x")?,
+        tokens: tokens(&rt, rt.alloc(), "x"),
     };
-    let mut tokens = TokenStream::new(rt.alloc());
-    call.to_tokens(rt.alloc(), &mut tokens)?;
-    let mut out = String::new(rt.alloc());
-    list(&tokens, &mut out)?;
     let want = ":~ 5-6;: 6-7;a 1-2;:~ 5-6;: 6-7;b 1-2;:~ 5-6;: 6-7;! 3-4;[ 50-51;x 0-1;end 60-61;";
-    assert_eq!(rt; out.as_str(), want);
-    Ok(())
+    prints(&rt, rt.alloc(), &call, want);
+}
+
+fn ident_or_none(path: &Path<u8>) -> &str {
+    match path.get_ident() {
+        Some(ident) => ident.text(),
+        None => "none",
+    }
 }
 
 /// The identifier that a path is, or the refusal of one that is none; whether it is `a`.
-fn identified(alloc: Global, path: &Path<u8>) -> Result<String, AllocError> {
+fn identified(rt: &impl Abort, alloc: Global, path: &Path<u8>) -> String {
     let mut out = String::new(alloc);
-    match path.get_ident() {
-        Some(ident) => out.push_str(ident.text())?,
-        None => out.push_str("none")?,
-    }
+    put(rt, ident_or_none(path), &mut out);
     if path.is_ident("a") {
-        out.push_str(" is a")?;
+        put(rt, " is a", &mut out);
     }
-    out.push(';')?;
+    put(rt, ";", &mut out);
     if path.segments.is_empty() {
-        return Ok(out);
+        return out;
     }
     match path.require_ident(alloc) {
-        Ok(ident) => out.push_str(ident.text())?,
-        Err(error) => show_error(&error, &mut out)?,
+        Ok(ident) => put(rt, ident.text(), &mut out),
+        Err(error) => show_error(rt, &error, &mut out),
     }
-    Ok(out)
+    out
+}
+
+/// It is identified so, and a refusal of it points so.
+fn identifies(rt: &impl Abort, alloc: Global, path: &Path<u8>, wanted: &str, points: &str) {
+    let mut all = String::new(alloc);
+    put(rt, wanted, &mut all);
+    put(rt, points, &mut all);
+    let out = identified(rt, alloc, path);
+    text_is(rt, out.as_str(), all.as_str());
+}
+
+fn read_path(rt: &impl Abort, alloc: Global, text: &str) -> Path<u8> {
+    let tokens = tokens(rt, alloc, text);
+    got(rt, read_all_with(alloc, ModStyle::<u8>::new(), &tokens))
 }
 
 #[test]
-fn tells_identifiers(rt: HostRuntime) -> Result<(), Fail> {
+fn tells_identifiers(rt: HostRuntime) {
     let refused = "none;ExpectedPathIdent expected this path to be an identifier";
     for (text, want, points) in [
         ("a", "a is a;a", ""),
@@ -419,44 +564,47 @@ fn tells_identifiers(rt: HostRuntime) -> Result<(), Fail> {
         ("a :: b", refused, " 0-1 5-6"),
         (":: a :: b :: cd", refused, " 3-4 13-15"),
     ] {
-        let tokens = tokens_of(rt.alloc(), text)?;
-        match read_all_with(rt.alloc(), ModStyle::<u8>::new(), &tokens) {
-            Ok(path) => {
-                let mut all = String::from_str(rt.alloc(), want)?;
-                all.push_str(points)?;
-                assert_eq!(rt;
-                    identified(rt.alloc(), &path)?.as_str(),
-                    all.as_str(),
-                    "{text}"
-                );
-            }
-            Err(_) => assert!(rt; false, "{text}"),
-        }
+        let path = read_path(&rt, rt.alloc(), text);
+        identifies(&rt, rt.alloc(), &path, want, points);
     }
-    let none = long_path(rt.alloc(), 0)?;
-    assert_eq!(rt; identified(rt.alloc(), &none)?.as_str(), "none;");
-    Ok(())
+    let none = long_path(&rt, rt.alloc(), 0);
+    identifies(&rt, rt.alloc(), &none, "none;", "");
+}
+
+/// It shows so.
+fn path_shows(rt: &impl Abort, alloc: Global, path: &Path<u8>, wanted: &str) {
+    let mut out = String::new(alloc);
+    show_path(rt, path, &mut out);
+    text_is(rt, out.as_str(), wanted);
 }
 
 #[test]
-fn makes_paths(rt: HostRuntime) -> Result<(), Fail> {
-    let ident = Ident::new(rt.alloc(), "a", Span::new(3, 4))?;
-    let path = Path::<u8>::from_ident(rt.alloc(), ident)?;
-    let mut out = String::new(rt.alloc());
-    show_path(&path, &mut out)?;
-    assert_eq!(rt; out.as_str(), "a 3-4;");
-    assert_eq!(rt; identified(rt.alloc(), &path)?.as_str(), "a is a;a");
-    let ident = Ident::new(rt.alloc(), "a", Span::new(3, 4))?;
+fn makes_paths(rt: HostRuntime) {
+    let alloc = rt.alloc();
+    let ident = made(&rt, Ident::new(alloc, "a", Span::new(3, 4)));
+    let path = made(&rt, Path::<u8>::from_ident(alloc, ident));
+    path_shows(&rt, alloc, &path, "a 3-4;");
+    identifies(&rt, alloc, &path, "a is a;a", "");
+}
+
+#[test]
+fn makes_paths_of_segments(rt: HostRuntime) {
+    let alloc = rt.alloc();
+    let ident = made(&rt, Ident::new(alloc, "a", Span::new(3, 4)));
     let arguments = angles(None);
-    let path = Path::from_segment(rt.alloc(), PathSegment { ident, arguments })?;
-    let mut out = String::new(rt.alloc());
-    show_path(&path, &mut out)?;
-    assert_eq!(rt; out.as_str(), "a 3-4 with arguments;");
-    let want = "none;ExpectedPathIdent expected this path to be an identifier 3-4 3-4";
-    assert_eq!(rt; identified(rt.alloc(), &path)?.as_str(), want);
-    assert!(rt; MacroDelimiter::Brace(Brace { span: place() }).is_brace());
-    assert!(rt; !MacroDelimiter::Paren(Paren { span: place() }).is_brace());
-    Ok(())
+    let segment = PathSegment { ident, arguments };
+    let path = made(&rt, Path::from_segment(alloc, segment));
+    path_shows(&rt, alloc, &path, "a 3-4 with arguments;");
+    let want = "none;ExpectedPathIdent expected this path to be an identifier";
+    identifies(&rt, alloc, &path, want, " 3-4 3-4");
+}
+
+#[test]
+fn tells_braces(rt: HostRuntime) {
+    let brace = MacroDelimiter::Brace(Brace { span: place() });
+    is(&rt, brace.is_brace(), "brace");
+    let paren = MacroDelimiter::Paren(Paren { span: place() });
+    is(&rt, !paren.is_brace(), "paren");
 }
 
 fn read_and_print(alloc: Global, tokens: &TokenStream, out: &mut TokenStream) -> Result<(), Error> {
@@ -471,23 +619,25 @@ fn macro_call(alloc: Global) -> Result<TokenStream, AllocError> {
     Ok(tokens)
 }
 
+/// It is read and printed, or refused for want of memory with nothing printed.
+fn is_borne(rt: &impl Abort, alloc: Global, tokens: &TokenStream) {
+    let mut out = TokenStream::new(alloc);
+    match read_and_print(alloc, tokens, &mut out) {
+        Ok(()) => is(rt, out.len() == 8, "eight trees printed"),
+        Err(error) => {
+            let is_memory = error.kind() == ErrorKind::OutOfMemory;
+            is(rt, is_memory & out.is_empty(), "nothing printed");
+        }
+    }
+}
+
 /// Passes whichever allocation fails: the refusal is for want of memory, and nothing is printed.
 #[test]
-fn bears_want_of_memory(rt: HostRuntime) -> Result<(), Fail> {
+fn bears_want_of_memory(rt: HostRuntime) {
     match macro_call(rt.alloc()) {
-        Ok(tokens) => {
-            let mut out = TokenStream::new(rt.alloc());
-            match read_and_print(rt.alloc(), &tokens, &mut out) {
-                Ok(()) => assert_eq!(rt; out.len(), 8),
-                Err(error) => {
-                    assert!(rt; error.kind() == ErrorKind::OutOfMemory);
-                    assert!(rt; out.is_empty());
-                }
-            }
-        }
+        Ok(tokens) => is_borne(&rt, rt.alloc(), &tokens),
         Err(_) => {}
     }
-    Ok(())
 }
 
 /// An attribute with this content, made by hand.
@@ -501,64 +651,73 @@ fn attribute(meta: Meta<u8>, style: AttrStyle) -> Attribute<u8> {
 }
 
 /// The metas of a path: alone, with a list of `x y` and with a value.
-fn metas(alloc: Global, text: &str) -> Result<[Meta<u8>; 3], Error> {
-    let tokens = tokens_of(alloc, text)?;
-    let path = read_all_with(alloc, ModStyle::<u8>::new(), &tokens)?;
+fn metas(rt: &impl Abort, alloc: Global, text: &str) -> [Meta<u8>; 3] {
     let list = MetaList {
-        path: read_all_with(alloc, ModStyle::<u8>::new(), &tokens)?,
+        path: read_path(rt, alloc, text),
         delimiter: MacroDelimiter::Paren(Paren { span: place() }),
-        tokens: tokens_of(alloc, "x y")?,
+        tokens: tokens(rt, alloc, "x y"),
     };
     let value = MetaNameValue {
-        path: read_all_with(alloc, ModStyle::<u8>::new(), &tokens)?,
+        path: read_path(rt, alloc, text),
         eq_token: Eq {
             spans: [Span::new(40, 41)],
         },
         value: Expr::Other(1),
     };
-    Ok([Meta::Path(path), Meta::from(list), Meta::from(value)])
+    let path = Meta::Path(read_path(rt, alloc, text));
+    [path, Meta::from(list), Meta::from(value)]
 }
 
 /// What a refusal says, and where it points.
-fn told(error: &Error, out: &mut String) -> Result<(), AllocError> {
-    out.push_str(error.text())?;
-    show_span(error.start(), out)?;
-    show_span(error.end(), out)
+fn told(rt: &impl Abort, error: &Error, out: &mut String) {
+    put(rt, error.text(), out);
+    show_span(rt, error.start(), out);
+    show_span(rt, error.end(), out);
+}
+
+fn write_count(list: &MetaList<u8>, out: &mut String) -> Result<(), AllocError> {
+    write!(out, "list of {}", list.tokens.len())?;
+    Ok(())
 }
 
 /// What the calls that ask for a kind of meta answer.
-fn required(alloc: Global, meta: &Meta<u8>) -> Result<String, AllocError> {
+fn required(rt: &impl Abort, alloc: Global, meta: &Meta<u8>) -> String {
     let mut out = String::new(alloc);
     if meta.path().segments.is_empty() {
-        return Ok(out);
+        return out;
     }
     match meta.require_path_only(alloc) {
-        Ok(_) => out.push_str("path")?,
-        Err(error) => told(&error, &mut out)?,
+        Ok(_) => put(rt, "path", &mut out),
+        Err(error) => told(rt, &error, &mut out),
     }
-    out.push_str("; ")?;
+    put(rt, "; ", &mut out);
     match meta.require_list(alloc) {
-        Ok(list) => write!(out, "list of {}", list.tokens.len())?,
-        Err(error) => told(&error, &mut out)?,
+        Ok(list) => made(rt, write_count(list, &mut out)),
+        Err(error) => told(rt, &error, &mut out),
     }
-    out.push_str("; ")?;
+    put(rt, "; ", &mut out);
     match meta.require_name_value(alloc) {
-        Ok(_) => out.push_str("value")?,
-        Err(error) => told(&error, &mut out)?,
+        Ok(_) => put(rt, "value", &mut out),
+        Err(error) => told(rt, &error, &mut out),
     }
-    Ok(out)
+    out
+}
+
+fn meta_answers(rt: &impl Abort, alloc: Global, meta: &Meta<u8>, wanted: &str) {
+    let out = required(rt, alloc, meta);
+    text_is(rt, out.as_str(), wanted);
 }
 
 /// What the metas of a path answer to the calls that ask for a kind.
 fn requirements_are(rt: &impl Abort, alloc: Global, text: &str, wanted: [&str; 3]) {
-    let metas = got(rt, metas(alloc, text));
-    answers(rt, required(alloc, &metas[0]), wanted[0]);
-    answers(rt, required(alloc, &metas[1]), wanted[1]);
-    answers(rt, required(alloc, &metas[2]), wanted[2]);
+    let metas = metas(rt, alloc, text);
+    meta_answers(rt, alloc, &metas[0], wanted[0]);
+    meta_answers(rt, alloc, &metas[1], wanted[1]);
+    meta_answers(rt, alloc, &metas[2], wanted[2]);
 }
 
 #[test]
-fn asks_for_kinds_of_metas(rt: HostRuntime) -> Result<(), Fail> {
+fn asks_for_kinds_of_metas(rt: HostRuntime) {
     let list = "unexpected token in attribute 50-51 50-51; list of 2; expected `=` 50-51 50-51";
     let value = "unexpected token in attribute 40-41 40-41; expected `(` 40-41 40-41; value";
     let path =
@@ -567,32 +726,36 @@ fn asks_for_kinds_of_metas(rt: HostRuntime) -> Result<(), Fail> {
     let path =
         "path; expected attribute arguments in parentheses: `a(...)` 0-1 0-1; expected a value for this attribute: `a = ...` 0-1 0-1";
     requirements_are(&rt, rt.alloc(), "a", [path, list, value]);
-    Ok(())
 }
 
 /// What a whole read of an attribute's arguments as an identifier answers.
-fn argument(alloc: Global, attr: &Attribute<u8>) -> Result<String, AllocError> {
+fn argument(rt: &impl Abort, alloc: Global, attr: &Attribute<u8>) -> String {
     let mut out = String::new(alloc);
     if attr.path().segments.is_empty() {
-        return Ok(out);
+        return out;
     }
     match attr.parse_args::<Ident>(alloc) {
-        Ok(ident) => out.push_str(ident.text())?,
-        Err(error) => told(&error, &mut out)?,
+        Ok(ident) => put(rt, ident.text(), &mut out),
+        Err(error) => told(rt, &error, &mut out),
     }
-    Ok(out)
+    out
+}
+
+fn argument_is(rt: &impl Abort, alloc: Global, attr: &Attribute<u8>, wanted: &str) {
+    let out = argument(rt, alloc, attr);
+    text_is(rt, out.as_str(), wanted);
 }
 
 /// What whole reads of the arguments of attributes answer, over the metas of a path.
 fn arguments_are(rt: &impl Abort, alloc: Global, text: &str, style: AttrStyle, wanted: [&str; 3]) {
-    let attrs = got(rt, attributes(alloc, text, [style, style, style]));
-    answers(rt, argument(alloc, &attrs[0]), wanted[0]);
-    answers(rt, argument(alloc, &attrs[1]), wanted[1]);
-    answers(rt, argument(alloc, &attrs[2]), wanted[2]);
+    let attrs = attributes(rt, alloc, text, [style, style, style]);
+    argument_is(rt, alloc, &attrs[0], wanted[0]);
+    argument_is(rt, alloc, &attrs[1], wanted[1]);
+    argument_is(rt, alloc, &attrs[2], wanted[2]);
 }
 
 #[test]
-fn reads_arguments(rt: HostRuntime) -> Result<(), Fail> {
+fn reads_arguments(rt: HostRuntime) {
     let path = "expected attribute arguments in parentheses: #[a(...)] 0-1 0-1";
     let list = "unexpected token 2-3 2-3";
     let value = "expected parentheses: #[a(...)] 40-41 40-41";
@@ -603,93 +766,72 @@ fn reads_arguments(rt: HostRuntime) -> Result<(), Fail> {
     let value = "expected parentheses: #![::a::b(...)] 40-41 40-41";
     let wanted = [path, list, value];
     arguments_are(&rt, rt.alloc(), ":: a :: b", bang, wanted);
-    Ok(())
-}
-
-/// What was read or made; a refusal stops the test.
-fn got<T>(rt: &impl Abort, outcome: Result<T, Error>) -> T {
-    match outcome {
-        Ok(value) => value,
-        Err(error) => panic!(rt; "refused: {}", error.text()),
-    }
-}
-
-/// It answers this text.
-fn answers(rt: &impl Abort, outcome: Result<String, AllocError>, wanted: &str) {
-    match outcome {
-        Ok(found) => assert_eq!(rt; found.as_str(), wanted),
-        Err(_) => panic!(rt; "out of memory"),
-    }
 }
 
 /// Attributes over the metas of a path, in these styles.
 fn attributes(
+    rt: &impl Abort,
     alloc: Global,
     text: &str,
     styles: [AttrStyle; 3],
-) -> Result<[Attribute<u8>; 3], Error> {
-    let [path, list, value] = metas(alloc, text)?;
+) -> [Attribute<u8>; 3] {
+    let [path, list, value] = metas(rt, alloc, text);
     let [first, second, third] = styles;
-    Ok([
+    [
         attribute(path, first),
         attribute(list, second),
         attribute(value, third),
-    ])
+    ]
 }
 
-fn kind_of(attr: &Attribute<u8>) -> char {
+fn kind_of(attr: &Attribute<u8>) -> &'static str {
     match attr.meta {
-        Meta::Path(_) => 'p',
-        Meta::List(_) => 'l',
-        Meta::NameValue(_) => 'v',
+        Meta::Path(_) => "p",
+        Meta::List(_) => "l",
+        Meta::NameValue(_) => "v",
     }
 }
 
 /// The kinds of the outer attributes of a list, in order.
-fn outer_kinds(alloc: Global, attrs: &[Attribute<u8>]) -> Result<String, AllocError> {
+fn outers_are(rt: &impl Abort, alloc: Global, attrs: &[Attribute<u8>], wanted: &str) {
     let mut out = String::new(alloc);
     for attr in outer(attrs) {
-        out.push(kind_of(attr))?;
+        put(rt, kind_of(attr), &mut out);
     }
-    Ok(out)
+    text_is(rt, out.as_str(), wanted);
 }
 
 /// The kinds of the inner attributes of a list, in order.
-fn inner_kinds(alloc: Global, attrs: &[Attribute<u8>]) -> Result<String, AllocError> {
+fn inners_are(rt: &impl Abort, alloc: Global, attrs: &[Attribute<u8>], wanted: &str) {
     let mut out = String::new(alloc);
     for attr in inner(attrs) {
-        out.push(kind_of(attr))?;
+        put(rt, kind_of(attr), &mut out);
     }
-    Ok(out)
+    text_is(rt, out.as_str(), wanted);
 }
 
 #[test]
-fn gives_attributes_of_a_kind(rt: HostRuntime) -> Result<(), Fail> {
+fn gives_attributes_of_a_kind(rt: HostRuntime) {
     let bang = AttrStyle::Inner(Not::default());
     let styles = [AttrStyle::Outer, bang, AttrStyle::Outer];
-    let attrs = got(&rt, attributes(rt.alloc(), "a", styles));
-    answers(&rt, outer_kinds(rt.alloc(), attrs.as_slice()), "pv");
-    answers(&rt, inner_kinds(rt.alloc(), attrs.as_slice()), "l");
-    let attrs = got(
-        &rt,
-        attributes(rt.alloc(), "a", [bang, AttrStyle::Outer, bang]),
-    );
-    answers(&rt, outer_kinds(rt.alloc(), attrs.as_slice()), "l");
-    answers(&rt, inner_kinds(rt.alloc(), attrs.as_slice()), "pv");
-    Ok(())
+    let attrs = attributes(&rt, rt.alloc(), "a", styles);
+    outers_are(&rt, rt.alloc(), attrs.as_slice(), "pv");
+    inners_are(&rt, rt.alloc(), attrs.as_slice(), "l");
+    let attrs = attributes(&rt, rt.alloc(), "a", [bang, AttrStyle::Outer, bang]);
+    outers_are(&rt, rt.alloc(), attrs.as_slice(), "l");
+    inners_are(&rt, rt.alloc(), attrs.as_slice(), "pv");
 }
 
 #[test]
-fn gives_all_attributes_or_none(rt: HostRuntime) -> Result<(), Fail> {
+fn gives_all_attributes_or_none(rt: HostRuntime) {
     let styles = [AttrStyle::Outer, AttrStyle::Outer, AttrStyle::Outer];
-    let attrs = got(&rt, attributes(rt.alloc(), "a", styles));
-    answers(&rt, outer_kinds(rt.alloc(), attrs.as_slice()), "plv");
-    answers(&rt, inner_kinds(rt.alloc(), attrs.as_slice()), "");
+    let attrs = attributes(&rt, rt.alloc(), "a", styles);
+    outers_are(&rt, rt.alloc(), attrs.as_slice(), "plv");
+    inners_are(&rt, rt.alloc(), attrs.as_slice(), "");
     let bang = AttrStyle::Inner(Not::default());
-    let attrs = got(&rt, attributes(rt.alloc(), "a", [bang, bang, bang]));
-    answers(&rt, outer_kinds(rt.alloc(), attrs.as_slice()), "");
-    answers(&rt, inner_kinds(rt.alloc(), attrs.as_slice()), "plv");
-    answers(&rt, outer_kinds(rt.alloc(), &[]), "");
-    answers(&rt, inner_kinds(rt.alloc(), &[]), "");
-    Ok(())
+    let attrs = attributes(&rt, rt.alloc(), "a", [bang, bang, bang]);
+    outers_are(&rt, rt.alloc(), attrs.as_slice(), "");
+    inners_are(&rt, rt.alloc(), attrs.as_slice(), "plv");
+    outers_are(&rt, rt.alloc(), &[], "");
+    inners_are(&rt, rt.alloc(), &[], "");
 }

@@ -7,10 +7,13 @@ ghost use Rattle.syn_mid.specs.attr.Grammars as grammars;
 ghost use Rattle.syn_mid.specs.attr.Reading as attrs;
 ghost use Rattle.syn_mid.specs.path.Grammars as paths;
 ghost use Rattle.syn_mid.specs.path.Reading as reading;
+ghost use Rattle.syn_mid.specs.ty.Grammars as types;
+ghost use Rattle.syn_mid.specs.ty.Knot as knot;
 
 use crate::attr::Attribute;
 use crate::path::Path;
 use crate::supplied::Subtree;
+use crate::ty::Type;
 use std::alloc::Global;
 use std::marker::PhantomData;
 use token_core::{Error, Items, ParseStream, Parser};
@@ -110,5 +113,35 @@ impl<X: Subtree> Parser for ParseInner<X> {
         input: &mut ParseStream<'_>,
     ) -> Result<Items<Attribute<X>>, Error> {
         Attribute::parse_inner(alloc, input)
+    }
+}
+
+/// `Type::without_plus` as a parser.
+#[derive(Drop)]
+pub struct WithoutPlus<X> {
+    pub of: PhantomData<X>,
+}
+
+impl<X> WithoutPlus<X> {
+    pub fn new() -> WithoutPlus<X>
+        ensures { result ≡ record { of = record {} } }
+    {
+        WithoutPlus { of: PhantomData }
+    }
+}
+
+impl<X: Subtree> Parser for WithoutPlus<X> {
+    type Output = Type<X>;
+
+    ghost can_parse = { λ _. Unit {0} };
+
+    ghost reads = { λ _. Gives (knot.ty X.reads false) };
+
+    ghost refuses = { λ _. Fails (knot.ty X.reads false) };
+
+    ghost promise = { λ _. Headline (types.ty X.reads X.spells X.normal X.prints false) };
+
+    fn parse(self, alloc: Global, input: &mut ParseStream<'_>) -> Result<Type<X>, Error> {
+        Type::without_plus(alloc, input)
     }
 }

@@ -2,3 +2,4 @@ pub mod Consumed
 pub mod Whole
 pub mod Said
 pub mod Idents
+pub mod Weights

@@ -17,7 +17,21 @@ use Rattle.syn_mid.specs.declared.path.Path as path
 use Rattle.syn_mid.specs.declared.attr.Meta as meta
 use Rattle.syn_mid.specs.declared.attr.MetaList as meta_list
 use Rattle.syn_mid.specs.declared.attr.MetaNameValue as name_value
+use Rattle.syn_mid.specs.declared.supplied.Expr as expr
 use Rattle.syn_mid.specs.declared.supplied.Place.TheVariants.{Value}
+use Rattle.syn_mid.specs.declared.ty.Type as ty
+use Rattle.syn_mid.specs.declared.ty.TypeArrayOf as array
+use Rattle.syn_mid.specs.declared.ty.TypeInfer as infer
+use Rattle.syn_mid.specs.declared.ty.TypeMacro as macro_type
+use Rattle.syn_mid.specs.declared.ty.TypeNever as never
+use Rattle.syn_mid.specs.declared.ty.TypeParenOf as paren
+use Rattle.syn_mid.specs.declared.ty.TypePath as path_type
+use Rattle.syn_mid.specs.declared.ty.TypePtrOf as ptr
+use Rattle.syn_mid.specs.declared.ty.TypeReferenceOf as reference
+use Rattle.syn_mid.specs.declared.ty.TypeSliceOf as slice
+use Rattle.syn_mid.specs.declared.ty.TypeTupleOf as tuple
+use Rattle.syn_mid.specs.declared.ty.PointerMutability as mutability
+use Rattle.syn_mid.specs.ty.Grammars as types
 use Rattle.syn_mid.specs.attr.Attrs.{Attribute}
 use Rattle.syn_mid.specs.attr.Grammars as attrs
 use Rattle.syn_mid.specs.attr.Printing as printing
@@ -26,7 +40,7 @@ use Rattle.syn_mid.specs.path.Grammars as paths
 use Rattle.synmid.specs.contracts.sample.SampleSubtree.TheImpl.{reads-value, spells-value, normal-value, prints-value}
 use Rattle.synmid.specs.declared.sample.Sample.{Sample}
 use Rattle.synmid.specs.declared.reader.Reader.{Reader}
-use Rattle.synmid.specs.declared.reader.Reader.TheVariants.{Macro, ModStyle, Meta, MetaList, MetaNameValue, Outer, Inner}
+use Rattle.synmid.specs.declared.reader.Reader.TheVariants.{Macro, ModStyle, Meta, MetaList, MetaNameValue, Outer, Inner, AnyType, WithoutPlus, TypeArray, TypeInfer, TypeMacro, TypeNever, TypeParen, TypePath, TypePtr, TypeReference, TypeSlice, TypeTuple, PointerMutability}
 
 abbrev pub named : Bytes → Option Reader
 named name =
@@ -37,7 +51,20 @@ named name =
     else (if bytes_eq name (codes "MetaNameValue") then Some MetaNameValue
     else (if bytes_eq name (codes "Attribute::parse_outer") then Some Outer
     else (if bytes_eq name (codes "Attribute::parse_inner") then Some Inner
-    else None))))))
+    else (if bytes_eq name (codes "Type") then Some AnyType
+    else (if bytes_eq name (codes "Type::without_plus") then Some WithoutPlus
+    else (if bytes_eq name (codes "TypeArray") then Some TypeArray
+    else (if bytes_eq name (codes "TypeInfer") then Some TypeInfer
+    else (if bytes_eq name (codes "TypeMacro") then Some TypeMacro
+    else (if bytes_eq name (codes "TypeNever") then Some TypeNever
+    else (if bytes_eq name (codes "TypeParen") then Some TypeParen
+    else (if bytes_eq name (codes "TypePath") then Some TypePath
+    else (if bytes_eq name (codes "TypePtr") then Some TypePtr
+    else (if bytes_eq name (codes "TypeReference") then Some TypeReference
+    else (if bytes_eq name (codes "TypeSlice") then Some TypeSlice
+    else (if bytes_eq name (codes "TypeTuple") then Some TypeTuple
+    else (if bytes_eq name (codes "PointerMutability") then Some PointerMutability
+    else None)))))))))))))))))))
 
 -- the trees of a reader
 abbrev pub Tree : Reader → Type 0
@@ -48,6 +75,19 @@ Tree MetaList = meta_list.MetaList Sample
 Tree MetaNameValue = name_value.MetaNameValue Sample
 Tree Outer = List (Attribute Sample)
 Tree Inner = List (Attribute Sample)
+Tree AnyType = ty.«Type» Sample
+Tree WithoutPlus = ty.«Type» Sample
+Tree TypeArray = array.TypeArrayOf (ty.«Type» Sample) (expr.Expr Sample)
+Tree TypeInfer = infer.TypeInfer
+Tree TypeMacro = macro_type.TypeMacro Sample
+Tree TypeNever = never.TypeNever
+Tree TypeParen = paren.TypeParenOf (ty.«Type» Sample)
+Tree TypePath = path_type.TypePath Sample
+Tree TypePtr = ptr.TypePtrOf (ty.«Type» Sample)
+Tree TypeReference = reference.TypeReferenceOf (ty.«Type» Sample)
+Tree TypeSlice = slice.TypeSliceOf (ty.«Type» Sample)
+Tree TypeTuple = tuple.TypeTupleOf (ty.«Type» Sample)
+Tree PointerMutability = mutability.PointerMutability
 
 abbrev pub grammar : (r : Reader) → Grammar (Tree r)
 grammar Macro = macs.mac
@@ -57,6 +97,19 @@ grammar MetaList = attrs.list
 grammar MetaNameValue = attrs.name_value reads-value.it spells-value.it normal-value.it prints-value.it
 grammar Outer = attrs.outer reads-value.it spells-value.it normal-value.it prints-value.it
 grammar Inner = attrs.inner reads-value.it spells-value.it normal-value.it prints-value.it
+grammar AnyType = types.ty reads-value.it spells-value.it normal-value.it prints-value.it true
+grammar WithoutPlus = types.ty reads-value.it spells-value.it normal-value.it prints-value.it false
+grammar TypeArray = types.array reads-value.it spells-value.it normal-value.it prints-value.it
+grammar TypeInfer = types.infer
+grammar TypeMacro = types.macro_type
+grammar TypeNever = types.never
+grammar TypeParen = types.paren reads-value.it spells-value.it normal-value.it prints-value.it
+grammar TypePath = types.path_type
+grammar TypePtr = types.ptr reads-value.it spells-value.it normal-value.it prints-value.it
+grammar TypeReference = types.reference reads-value.it spells-value.it normal-value.it prints-value.it
+grammar TypeSlice = types.slice reads-value.it spells-value.it normal-value.it prints-value.it
+grammar TypeTuple = types.tuple reads-value.it spells-value.it normal-value.it prints-value.it
+grammar PointerMutability = types.mutability
 
 -- what attributes print, one after the other
 abbrev pub attributes : List (Attribute Sample) → Print

@@ -1,7 +1,10 @@
 pub mod Parts
 pub mod Reading
 pub mod Printing
+pub mod Prints
 pub mod Spelling
+pub mod Groups
 pub mod Steady
 pub mod Joins
+pub mod Reads
 pub mod Laws

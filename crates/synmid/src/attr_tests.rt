@@ -12,8 +12,10 @@ use std::alloc::Global;
 use std::process::Abort;
 use syn_mid::meta::ParseNestedMeta;
 use syn_mid::{Attribute, Meta, MetaList, MetaNameValue, ParseInner, ParseOuter};
+use token_core::token::FatArrow;
 use token_core::{
-    Error, Ident, Items, Parse, Span, ToTokens, TokenStream, read_all, read_all_with,
+    ByFn, Error, Ident, Items, Parse, ParseStream, Span, ToTokens, TokenStream, read_all,
+    read_all_with,
 };
 use token_text::{lex, text_of};
 
@@ -235,6 +237,53 @@ fn metas_are_read(rt: HostRuntime) {
     ] {
         let answer = reprinted::<MetaNameValue<Sample>>(alloc, text);
         says(&rt, alloc, answer, wanted);
+    }
+}
+
+/// A meta, `=>`, and braces with nothing in them, as a `cfg_select` has them: the meta as it is printed.
+#[tactic(auto, using(token_core::proofs::Suffixes::follows))]
+fn arm(alloc: Global, input: &mut ParseStream<'_>) -> Result<String, Error>
+    ensures { Follows input.old input.new }
+{
+    let meta = input.parse::<Meta<Sample>>(alloc)?;
+    let _ = input.parse::<FatArrow>(alloc)?;
+    let (_, content) = input.braced(alloc)?;
+    input.finish(content);
+    printed(alloc, &meta)
+}
+
+#[tactic(auto, using(token_core::proofs::Suffixes::follows))]
+fn two_arms(alloc: Global, input: &mut ParseStream<'_>) -> Result<String, Error>
+    ensures { Follows input.old input.new }
+{
+    let mut metas = arm(alloc, input)?;
+    metas.push_str(" | ")?;
+    metas.push_str(arm(alloc, input)?.as_str())?;
+    Ok(metas)
+}
+
+fn arms(alloc: Global, text: &str) -> Result<String, Error> {
+    let tokens = lex(alloc, text)?;
+    read_all_with(alloc, ByFn(two_arms), &tokens)
+}
+
+#[test]
+fn arms_are_read_in_turn(rt: HostRuntime) {
+    let alloc = rt.alloc();
+    for (text, wanted) in [
+        (
+            "target_os = \"linux\" => {} windows => {}",
+            "target_os = \"linux\" | windows",
+        ),
+        (
+            "all(a, b) => {} k = a::b + 1 => {}",
+            "all (a , b) | k = a :: b + 1",
+        ),
+        ("a => {x} b => {}", "unexpected token 6-7 6-7"),
+        ("a = 1 => {} b = {}", "expected identifier 16-17 16-17"),
+        ("a == 1 => {} b => {}", "expected `=>` 2-3 2-3"),
+    ] {
+        says(&rt, alloc, arms(alloc, text), wanted);
     }
 }
 

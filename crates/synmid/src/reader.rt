@@ -6,7 +6,11 @@ ghost use Rattle.synmid.specs.Readers as spec;
 
 use crate::sample::Sample;
 use std::alloc::{AllocError, Global};
-use syn_mid::{Attribute, Macro, Meta, MetaList, MetaNameValue, ModStyle, ParseInner, ParseOuter};
+use syn_mid::{
+    Attribute, Macro, Meta, MetaList, MetaNameValue, ModStyle, ParseInner, ParseOuter,
+    PointerMutability, Type, TypeArray, TypeInfer, TypeMacro, TypeNever, TypeParen, TypePath,
+    TypePtr, TypeReference, TypeSlice, TypeTuple, WithoutPlus,
+};
 use token_core::{Error, Items, Parse, Parser, ToTokens, TokenStream, read_all, read_all_with};
 
 /// A reader that a run knows by name.
@@ -19,6 +23,19 @@ pub enum Reader {
     MetaNameValue,
     Outer,
     Inner,
+    AnyType,
+    WithoutPlus,
+    TypeArray,
+    TypeInfer,
+    TypeMacro,
+    TypeNever,
+    TypeParen,
+    TypePath,
+    TypePtr,
+    TypeReference,
+    TypeSlice,
+    TypeTuple,
+    PointerMutability,
 }
 
 impl Reader {
@@ -33,6 +50,19 @@ impl Reader {
             "MetaNameValue" => Some(Reader::MetaNameValue),
             "Attribute::parse_outer" => Some(Reader::Outer),
             "Attribute::parse_inner" => Some(Reader::Inner),
+            "Type" => Some(Reader::AnyType),
+            "Type::without_plus" => Some(Reader::WithoutPlus),
+            "TypeArray" => Some(Reader::TypeArray),
+            "TypeInfer" => Some(Reader::TypeInfer),
+            "TypeMacro" => Some(Reader::TypeMacro),
+            "TypeNever" => Some(Reader::TypeNever),
+            "TypeParen" => Some(Reader::TypeParen),
+            "TypePath" => Some(Reader::TypePath),
+            "TypePtr" => Some(Reader::TypePtr),
+            "TypeReference" => Some(Reader::TypeReference),
+            "TypeSlice" => Some(Reader::TypeSlice),
+            "TypeTuple" => Some(Reader::TypeTuple),
+            "PointerMutability" => Some(Reader::PointerMutability),
             _ => None,
         }
     }
@@ -49,6 +79,19 @@ impl Reader {
             Reader::MetaNameValue => reprint::<MetaNameValue<Sample>>(alloc, tokens),
             Reader::Outer => reprint_attributes(alloc, ParseOuter::<Sample>::new(), tokens),
             Reader::Inner => reprint_attributes(alloc, ParseInner::<Sample>::new(), tokens),
+            Reader::AnyType => reprint::<Type<Sample>>(alloc, tokens),
+            Reader::WithoutPlus => reprint_with(alloc, WithoutPlus::<Sample>::new(), tokens),
+            Reader::TypeArray => reprint::<TypeArray<Sample>>(alloc, tokens),
+            Reader::TypeInfer => reprint::<TypeInfer>(alloc, tokens),
+            Reader::TypeMacro => reprint::<TypeMacro<Sample>>(alloc, tokens),
+            Reader::TypeNever => reprint::<TypeNever>(alloc, tokens),
+            Reader::TypeParen => reprint::<TypeParen<Sample>>(alloc, tokens),
+            Reader::TypePath => reprint::<TypePath<Sample>>(alloc, tokens),
+            Reader::TypePtr => reprint::<TypePtr<Sample>>(alloc, tokens),
+            Reader::TypeReference => reprint::<TypeReference<Sample>>(alloc, tokens),
+            Reader::TypeSlice => reprint::<TypeSlice<Sample>>(alloc, tokens),
+            Reader::TypeTuple => reprint::<TypeTuple<Sample>>(alloc, tokens),
+            Reader::PointerMutability => reprint::<PointerMutability>(alloc, tokens),
         }
     }
 }

@@ -1,13 +1,10 @@
-//! A supplied subtree to run with: literals and paths, joined by `+`. In a block nothing is read yet: there the read
-//! refuses, and no list is spelt.
+//! A supplied subtree to run with: literals, paths and parenthesis groups of the same, joined by `+`. In a block nothing
+//! is read yet: there the read refuses, and no list is spelt.
 
-ghost use Rattle.std.specs.Prelude.{◌≡◌, ◌++◌, ◌<◌, Ok, OnOk, OnErr};
+ghost use Rattle.std.specs.Prelude.{◌≡◌, ◌++◌, OnOk, OnErr};
 ghost use Rattle.token_core.specs.Trees.{trees};
 ghost use Rattle.token_core.specs.Prints.{Extends};
-ghost use Rattle.token_core.specs.Lists.{joined};
-ghost use Rattle.token_core.specs.Stream.{Stream};
-ghost use Rattle.token_core.specs.Loops.{size};
-ghost use Rattle.token_core.specs.Reads.{Reader, Reads, Follows, sees_word};
+ghost use Rattle.token_core.specs.Reads.{Reads, Follows, sees_word};
 ghost use Rattle.syn_mid.specs.path.Spelling.{is_mod_word};
 ghost use Rattle.synmid.specs.sample.Parts as spec;
 ghost use Rattle.synmid.specs.sample.Reading as reading;
@@ -17,12 +14,10 @@ ghost use Rattle.synmid.specs.sample.Laws as laws;
 
 use std::alloc::{AllocError, Global};
 use syn_mid::{Place, Subtree};
-use token_core::token::{Crate, PathSep, Plus, SelfType, SelfValue, Super};
-use token_core::{
-    Error, Ident, Lit, Mark, Parse, ParseStream, Punctuated, ToTokens, Token, TokenStream,
-};
+use token_core::token::{Crate, Paren, PathSep, Plus, SelfType, SelfValue, Super};
+use token_core::{Error, Ident, Lit, Parse, ParseStream, Punctuated, ToTokens, Token, TokenStream};
 
-/// Literals and paths, joined by `+`.
+/// Atoms, joined by `+`.
 #[derive(Drop)]
 pub struct Sample {
     pub atoms: Punctuated<Atom, Plus>,
@@ -33,6 +28,8 @@ pub struct Sample {
 pub enum Atom {
     Lit(Lit),
     Path(ModPath),
+    /// Atoms in parentheses, joined by `+`.
+    Group(Paren, Punctuated<Atom, Plus>),
 }
 
 /// A path of mod style, held over tokens alone: a `Path` of the sample would be a cycle.
@@ -43,39 +40,6 @@ pub struct ModPath {
 }
 
 // ---- reads
-
-/// What is joined by marks.
-trait Part: Drop {
-    /// The read of one, a function of the stream.
-    ghost reads: { Reader Self };
-
-    /// It takes a token.
-    ghost takes: { (s t : Stream) (x : Self) → reads s ≡ Ok (x, t) → size t.rest < size s.rest };
-
-    fn read(alloc: Global, input: &mut ParseStream<'_>) -> Result<Self, Error>
-        ensures reads { Reads (reads input.old) result input.new }
-        ensures within { Follows input.old input.new };
-}
-
-/// Reads parts joined by a mark, at least one.
-#[tactic(auto, using(token_core::proofs::Suffixes::follows))]
-fn read_joined<T: Part, const N: u32, const LEN: usize>(
-    alloc: Global,
-    input: &mut ParseStream<'_>,
-) -> Result<Punctuated<T, Mark<N, LEN>>, Error>
-    ensures reads { Reads (reading.joined_by N LEN T.reads input.old) result input.new }
-    ensures within { Follows input.old input.new }
-{
-    let mut parts = Punctuated::new(alloc);
-    'turn: loop {
-        let part = T::read(alloc, input)?;
-        parts.push_value(alloc, part)?;
-        if !input.peek::<Mark<N, LEN>>() {
-            return Ok(parts);
-        }
-        parts.push_punct(input.parse::<Mark<N, LEN>>(alloc)?)?;
-    }
-}
 
 /// Whether an identifier of a path is here.
 #[tactic(auto, using(syn_mid::proofs::path_laws::Turns::or_words))]
@@ -89,17 +53,34 @@ fn begins_segment(input: &ParseStream<'_>) -> bool
 }
 
 /// An identifier of a path: no keyword, or `super`, `self`, `Self` or `crate`.
-impl Part for Ident {
-    ghost reads = { reading.segment };
+#[tactic(auto, using(token_core::proofs::Suffixes::follows), unfolding(crate::specs::sample::Reading::segment))]
+fn read_segment(alloc: Global, input: &mut ParseStream<'_>) -> Result<Ident, Error>
+    ensures reads { Reads (reading.segment input.old) result input.new }
+    ensures within { Follows input.old input.new }
+{
+    if begins_segment(input) {
+        return Ok(Ident::parse_any(alloc, input)?);
+    }
+    Err(input.expected(alloc, Ident::display()))
+}
 
-    ghost takes = { laws.segment-takes };
-
-    #[tactic(auto, using(token_core::proofs::Suffixes::follows), unfolding(crate::specs::sample::Reading::segment))]
-    fn read(alloc: Global, input: &mut ParseStream<'_>) -> Result<Ident, Error> {
-        if begins_segment(input) {
-            return Ok(Ident::parse_any(alloc, input)?);
+/// Identifiers joined by `::`, at least one.
+#[tactic(auto, using(token_core::proofs::Suffixes::follows))]
+fn read_segments(
+    alloc: Global,
+    input: &mut ParseStream<'_>,
+) -> Result<Punctuated<Ident, PathSep>, Error>
+    ensures reads { Reads (reading.joined_by 1 2 reading.segment input.old) result input.new }
+    ensures within { Follows input.old input.new }
+{
+    let mut segments = Punctuated::new(alloc);
+    'turn: loop {
+        let segment = read_segment(alloc, input)?;
+        segments.push_value(alloc, segment)?;
+        if !input.peek::<PathSep>() {
+            return Ok(segments);
         }
-        Err(input.expected(alloc, Ident::display()))
+        segments.push_punct(input.parse::<PathSep>(alloc)?)?;
     }
 }
 
@@ -118,35 +99,67 @@ fn read_path(alloc: Global, input: &mut ParseStream<'_>) -> Result<ModPath, Erro
     ensures within { Follows input.old input.new }
 {
     let leading_colon = read_leading(alloc, input)?;
-    let segments = read_joined(alloc, input)?;
+    let segments = read_segments(alloc, input)?;
     Ok(ModPath {
         leading_colon,
         segments,
     })
 }
 
-/// A literal, or a path.
-impl Part for Atom {
-    ghost reads = { reading.atom };
-
-    ghost takes = { laws.atom-takes };
-
-    #[tactic(auto, using(token_core::proofs::Suffixes::follows), unfolding(crate::specs::sample::Reading::atom))]
-    fn read(alloc: Global, input: &mut ParseStream<'_>) -> Result<Atom, Error> {
-        if input.peek::<Lit>() {
-            return Ok(Atom::Lit(input.parse::<Lit>(alloc)?));
-        }
+/// A literal, a group, or a path.
+#[cycle(atoms)]
+#[tactic(auto, using(token_core::proofs::Suffixes::follows), unfolding(crate::specs::sample::Reading::atom))]
+fn read_atom(alloc: Global, input: &mut ParseStream<'_>) -> Result<Atom, Error>
+    ensures reads { Reads (reading.atom input.old) result input.new }
+    ensures within { Follows input.old input.new }
+{
+    if input.peek::<Lit>() {
+        Ok(Atom::Lit(input.parse::<Lit>(alloc)?))
+    } else if input.peek::<Paren>() {
+        read_group(alloc, input)
+    } else {
         Ok(Atom::Path(read_path(alloc, input)?))
     }
 }
 
-/// Atoms joined by `+`.
+/// Atoms in parentheses.
+#[cycle(atoms)]
+#[tactic(auto, using(token_core::proofs::Suffixes::follows), unfolding(crate::specs::sample::Reading::grouped))]
+fn read_group(alloc: Global, input: &mut ParseStream<'_>) -> Result<Atom, Error>
+    ensures reads { Reads (reading.grouped input.old) result input.new }
+    ensures within { Follows input.old input.new }
+{
+    let (paren_token, mut content) = input.parenthesized(alloc)?;
+    let atoms = read_atoms(alloc, &mut content)?;
+    input.finish(content);
+    Ok(Atom::Group(paren_token, atoms))
+}
+
+/// Atoms joined by `+`, at least one.
+#[cycle(atoms)]
+#[tactic(auto, using(token_core::proofs::Suffixes::follows))]
+fn read_atoms(alloc: Global, input: &mut ParseStream<'_>) -> Result<Punctuated<Atom, Plus>, Error>
+    ensures reads { Reads (reading.atoms input.old) result input.new }
+    ensures within { Follows input.old input.new }
+{
+    let mut atoms = Punctuated::new(alloc);
+    'turn: loop {
+        let atom = read_atom(alloc, input)?;
+        atoms.push_value(alloc, atom)?;
+        if !input.peek::<Plus>() {
+            return Ok(atoms);
+        }
+        atoms.push_punct(input.parse::<Plus>(alloc)?)?;
+    }
+}
+
+/// The same as an expression.
 #[tactic(auto, using(token_core::proofs::Suffixes::follows), unfolding(crate::specs::sample::Reading::sum))]
 fn read_sum(alloc: Global, input: &mut ParseStream<'_>) -> Result<Sample, Error>
     ensures reads { Reads (reading.sum input.old) result input.new }
     ensures within { Follows input.old input.new }
 {
-    let atoms = read_joined(alloc, input)?;
+    let atoms = read_atoms(alloc, input)?;
     Ok(Sample { atoms })
 }
 
@@ -164,12 +177,14 @@ fn read_value(alloc: Global, input: &mut ParseStream<'_>) -> Result<Sample, Erro
 }
 
 impl Atom {
+    #[tactic(auto, using(crate::specs::sample::Parts::kinds))]
     fn is_lit(&self) -> bool
         ensures { result ≡ spec.is_lit self.now }
     {
         match self {
             Atom::Lit(_) => true,
             Atom::Path(_) => false,
+            Atom::Group(_, _) => false,
         }
     }
 }
@@ -192,27 +207,6 @@ impl Sample {
 
 // ---- prints
 
-/// Appends parts and their marks; refused, what stood before is kept.
-#[tactic(auto, using(token_core::proofs::Puts::puts))]
-fn print_joined<T: ToTokens, P: ToTokens>(
-    alloc: Global,
-    parts: &Punctuated<T, P>,
-    out: &mut TokenStream,
-) -> Result<(), AllocError>
-    ensures ok { OnOk result (trees out.new ≡ trees out.old ++ joined T.print P.print parts.now.0 parts.now.1) }
-    ensures err { OnErr result (Extends (trees out.old) (trees out.new)) }
-{
-    let (pairs, last) = parts.parts();
-    for pair in pairs {
-        pair.value.to_tokens(alloc, out)?;
-        pair.mark.to_tokens(alloc, out)?;
-    }
-    match last {
-        Some(part) => part.to_tokens(alloc, out),
-        None => Ok(()),
-    }
-}
-
 #[tactic(auto, using(token_core::proofs::Puts::puts))]
 fn print_colon(
     alloc: Global,
@@ -228,16 +222,61 @@ fn print_colon(
     }
 }
 
+/// Appends identifiers and their marks; refused, what stood before is kept.
+#[tactic(auto, using(token_core::proofs::Puts::puts))]
+fn print_segments(
+    alloc: Global,
+    segments: &Punctuated<Ident, PathSep>,
+    out: &mut TokenStream,
+) -> Result<(), AllocError>
+    ensures ok { OnOk result (trees out.new ≡ trees out.old ++ printing.segments segments.now) }
+    ensures err { OnErr result (Extends (trees out.old) (trees out.new)) }
+{
+    let (pairs, last) = segments.parts();
+    for pair in pairs {
+        pair.value.to_tokens(alloc, out)?;
+        pair.mark.to_tokens(alloc, out)?;
+    }
+    match last {
+        Some(segment) => segment.to_tokens(alloc, out),
+        None => Ok(()),
+    }
+}
+
 #[tactic(auto, using(token_core::proofs::Puts::puts))]
 fn print_path(alloc: Global, path: &ModPath, out: &mut TokenStream) -> Result<(), AllocError>
     ensures ok { OnOk result (trees out.new ≡ trees out.old ++ printing.path path.now) }
     ensures err { OnErr result (Extends (trees out.old) (trees out.new)) }
 {
     print_colon(alloc, &path.leading_colon, out)?;
-    print_joined(alloc, &path.segments, out)
+    print_segments(alloc, &path.segments, out)
 }
 
-#[tactic(auto, using(token_core::proofs::Puts::puts))]
+/// Appends atoms and their marks; refused, what stood before is kept.
+#[cycle(print)]
+#[tactic(auto, using(token_core::proofs::Puts::puts, crate::specs::sample::Prints::prints))]
+fn print_atoms(
+    alloc: Global,
+    atoms: &Punctuated<Atom, Plus>,
+    out: &mut TokenStream,
+) -> Result<(), AllocError>
+    ensures ok { OnOk result (trees out.new ≡ trees out.old ++ printing.atoms atoms.now) }
+    ensures err { OnErr result (Extends (trees out.old) (trees out.new)) }
+{
+    let (pairs, last) = atoms.parts();
+    for pair in pairs {
+        print_atom(alloc, &pair.value, out)?;
+        pair.mark.to_tokens(alloc, out)?;
+    }
+    match last {
+        Some(atom) => print_atom(alloc, atom, out),
+        None => Ok(()),
+    }
+}
+
+/// Appends an atom, a group with its content; refused, what stood before is kept.
+#[cycle(print)]
+#[tactic(auto, using(token_core::proofs::Puts::puts, crate::specs::sample::Prints::prints))]
 fn print_atom(alloc: Global, atom: &Atom, out: &mut TokenStream) -> Result<(), AllocError>
     ensures ok { OnOk result (trees out.new ≡ trees out.old ++ printing.atom atom.now) }
     ensures err { OnErr result (Extends (trees out.old) (trees out.new)) }
@@ -245,6 +284,11 @@ fn print_atom(alloc: Global, atom: &Atom, out: &mut TokenStream) -> Result<(), A
     match atom {
         Atom::Lit(lit) => lit.to_tokens(alloc, out),
         Atom::Path(path) => print_path(alloc, path, out),
+        Atom::Group(paren_token, atoms) => {
+            let mut content = TokenStream::new(alloc);
+            print_atoms(alloc, atoms, &mut content)?;
+            paren_token.surround(content, out)
+        }
     }
 }
 
@@ -268,7 +312,7 @@ impl ToTokens for Sample {
 
     fn to_tokens(&self, alloc: Global, out: &mut TokenStream) -> Result<(), AllocError> {
         let before = out.len();
-        match print_joined(alloc, &self.atoms, out) {
+        match print_atoms(alloc, &self.atoms, out) {
             Ok(()) => Ok(()),
             Err(error) => {
                 out.truncate(before);

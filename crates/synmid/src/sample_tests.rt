@@ -62,6 +62,9 @@ fn values_are_sums(rt: HostRuntime) {
         ),
         ("k = 1", "k = 1"),
         ("k = -1", "k = - 1"),
+        ("k = (1)", "k = (1)"),
+        ("k = (1 + b) + 2", "k = (1 + b) + 2"),
+        ("k = a + ((b) + (1 + 2))", "k = a + ((b) + (1 + 2))"),
     ] {
         says(&rt, alloc, value(alloc, text), wanted);
     }
@@ -85,7 +88,18 @@ fn other_values_are_refused(rt: HostRuntime) {
             "k = a::",
             "unexpected end of input, expected identifier 0-0 0-0",
         ),
-        ("k = (a)", "expected identifier 4-5 4-5"),
+        ("k = [a]", "expected identifier 4-5 4-5"),
+        ("k = (1 2)", "unexpected token 7-8 7-8"),
+        ("k = ((1) 2)", "unexpected token 9-10 9-10"),
+        ("k = (a) b", "unexpected token 8-9 8-9"),
+        (
+            "k = ()",
+            "unexpected end of input, expected identifier 5-6 5-6",
+        ),
+        (
+            "k = (a +)",
+            "unexpected end of input, expected identifier 8-9 8-9",
+        ),
         ("k = fn", "expected identifier 4-6 4-6"),
         (
             "k =",
@@ -102,6 +116,7 @@ fn lengths_may_be_literals(rt: HostRuntime) {
     for (text, wanted) in [
         ("4", "4"),
         ("a + 1", "a + 1"),
+        ("(1 + a) + 2", "(1 + a) + 2"),
         ("", "unexpected end of input, expected identifier 0-0 0-0"),
     ] {
         says(&rt, alloc, array_length(alloc, text), wanted);
@@ -112,4 +127,14 @@ fn lengths_may_be_literals(rt: HostRuntime) {
 fn blocks_are_refused(rt: HostRuntime) {
     let alloc = rt.alloc();
     says(&rt, alloc, block(alloc, "a;"), "expected sample 0-1 0-1");
+}
+
+/// An expression in 50 groups.
+const DEEP: &str =
+    "k = ((((((((((((((((((((((((((((((((((((((((((((((((((1))))))))))))))))))))))))))))))))))))))))))))))))))";
+
+#[test]
+fn groups_are_nested(rt: HostRuntime) {
+    let alloc = rt.alloc();
+    says(&rt, alloc, value(alloc, DEEP), DEEP);
 }

@@ -80,8 +80,8 @@ module _ {X : Type 0} where
 
   begins_mod : (clear : Bool) (p : Path X) (l r : Toks) → IsModPath clear p l r → sees_unsafe l ≡ false
   unfolding sees_word
-  begins_mod clear p l r (paths.mod_path {all = all} {seps = seps} {m = k} no_leading i) = begins_segments clear all seps k r i
-  begins_mod clear p l r (paths.mod_path (leading a) i) = refl
+  begins_mod clear p l r (paths.a_bare_path {all = all} {seps = seps} {m = k} no_leading i) = begins_segments clear all seps k r i
+  begins_mod clear p l r (paths.a_bare_path (leading a) i) = refl
 
   pub meta_path_complete : (p : Path X) (l r : Toks) (f : Option Span) (e : Span) (sc : Scope) → IsMetaPath true p l r → sees_sep r ≡ false → Reads_to meta_path p l r f e sc
   unfolding meta_path

@@ -10,7 +10,7 @@ use Rattle.token_core.specs.Groups as groups
 use Rattle.token_core.specs.Lits as lits
 use Rattle.token_core.specs.Prints as p
 use Rattle.token_core.specs.Prints.{Print}
-use Rattle.token_core.specs.Rebuilt.{Visible}
+use Rattle.token_core.specs.Rebuilt.{Visible, IsVisible}
 use Rattle.token_core.specs.Spans.{none}
 use Rattle.token_core.specs.Stream.{Stream, started}
 use Rattle.token_core.specs.Reads.{Reader}
@@ -44,6 +44,25 @@ use Rattle.syn_mid.proofs.mac_laws.Reprint.{row-body, delimits_visible}
 use Rattle.syn_mid.proofs.attr_laws.Sound.{visible_meta_path}
 use Rattle.syn_mid.proofs.attr_laws.Prints.{prints_path, prints_list, prints_name_value, prints_fields, prints_other, prints_literal, normal_literal, normal_other, normal_fields, normal_path, normal_list, normal_name_value}
 
+-- a print that spells the normal form
+pub record Again {A : Type 0} (S : A → Toks → Type 0) (n : A → A) (pr : A → Print) (a : A) (l : Toks) : Type 0 where
+  pub spelt : S (n a) (row (pr a) done)
+  pub visible : Visible l → Visible (row (pr a) done)
+  pub stays : n (n a) ≡ n a
+  pub same : pr (n a) ≡ pr a
+
+-- the same, before what follows
+pub record AgainFront {A : Type 0} (S : A → Toks → Toks → Type 0) (n : A → A) (pr : A → Print) (a : A) (l r : Toks) : Type 0 where
+  pub spelt : (k : Toks) → S (n a) (row (pr a) k) k
+  pub visible : (k : Toks) → Visible l → Visible k → Visible (row (pr a) k)
+  pub seen : Visible l → Visible r
+  pub stays : n (n a) ≡ n a
+  pub same : pr (n a) ≡ pr a
+
+-- a printed group holds the tokens of what is printed in it
+pub row-group : (d : Delimiter) (s : DelimSpan) (x : Print) (k : Toks) → IsVisible d → row (p.group d (stream_of_trees x) s) k ≡ group d s (row x done) k
+row-group d s x k v = visible-tree d (stream_of_trees x) s k v ∙ ap (λ z. group d s z k) (stream-trees x done)
+
 module _ {X : Type 0} where
   meta_path_again : (clear : Bool) (x : Path X) (l r k : Toks) → IsMetaPath clear x l r → IsMetaPath true x (row (path Mod x) k) k
   meta_path_again clear x l r k (unsafe_path {i = i} h) = subst (λ z. IsMetaPath true {X = X} (word_path i) z k) (sym (tree-ident i k)) (unsafe_path h)
@@ -75,20 +94,15 @@ module _ {X : Type 0} (reads : Place → Reader X) (spells : Place → X → Tok
   abbrev px : X → Print
   px = prints Value
 
-  -- a print that spells the normal form
-  pub record Again {A : Type 0} (S : A → Toks → Type 0) (n : A → A) (pr : A → Print) (a : A) (l : Toks) : Type 0 where
-    pub spelt : S (n a) (row (pr a) done)
-    pub visible : Visible l → Visible (row (pr a) done)
-    pub stays : n (n a) ≡ n a
-    pub same : pr (n a) ≡ pr a
-
-  supplied_stays : (x : X) (l : Toks) → spells Value x l → nx (nx x) ≡ nx x
-  supplied_stays x l i =
-      let r = reprint Value x l i in
-      let q = reprint Value (nx x) (row (px x) done) r.again in
-      let a = complete Value (started none (row (px x) done)) (nx x) r.again in
-      let b = complete Value (started none (row (px x) done)) (nx (nx x)) (subst (λ z. spells Value (nx (nx x)) (row z done)) r.same q.again) in
-      (same_pair (nx (nx x)) (nx x) b.0 a.0 (sym b.1 ∙ a.1)).0
+  -- a normal form is its own, since both have one print
+  pub supplied_stays : (w : Place) (x : X) (l : Toks) → spells w x l → normals w (normals w x) ≡ normals w x
+  supplied_stays w x l i =
+      let once = normals w x in
+      let r = reprint w x l i in
+      let q = reprint w once (row (prints w x) done) r.again in
+      let a = complete w (started none (row (prints w x) done)) once r.again in
+      let b = complete w (started none (row (prints w x) done)) (normals w once) (subst (λ z. spells w (normals w once) (row z done)) r.same q.again) in
+      (same_pair (normals w once) once b.0 a.0 (sym b.1 ∙ a.1)).0
 
   value_again : (v : Expr X) (l : Toks) → IsValue spells false v l → Again (IsValue spells true) (normal.value nx) (value px) v l
   value_again v l (a_literal {x = x} i) =
@@ -107,7 +121,7 @@ module _ {X : Type 0} (reads : Place → Reader X) (spells : Place → X → Tok
       record {
         spelt = subst (λ z. IsValue spells true z (row (value px (e.Other x)) done)) (sym n) (subst (λ z. IsValue spells true (e.Other (nx x)) (row z done)) (sym pr) (supplied r.again));
         visible = λ v. subst (λ z. Visible (row z done)) (sym pr) (r.visible v);
-        stays = ap (normal.value nx) n ∙ normal_other nx (nx x) ∙ ap (λ (z : X). e.Other z) (supplied_stays x l i) ∙ sym n;
+        stays = ap (normal.value nx) n ∙ normal_other nx (nx x) ∙ ap (λ (z : X). e.Other z) (supplied_stays Value x l i) ∙ sym n;
         same = ap (value px) n ∙ prints_other px (nx x) ∙ r.same ∙ sym pr;
       }
 
@@ -170,21 +184,11 @@ module _ {X : Type 0} (reads : Place → Reader X) (spells : Place → X → Tok
 
   -- ---- attributes, before what follows them
 
-  pub record AgainFront {A : Type 0} (S : A → Toks → Toks → Type 0) (n : A → A) (pr : A → Print) (a : A) (l r : Toks) : Type 0 where
-    pub spelt : (k : Toks) → S (n a) (row (pr a) k) k
-    pub visible : (k : Toks) → Visible l → Visible k → Visible (row (pr a) k)
-    pub seen : Visible l → Visible r
-    pub stays : n (n a) ≡ n a
-    pub same : pr (n a) ≡ pr a
-
-  row-content : (s : DelimSpan) (x : Meta X) (k : Toks) → row (p.group Bracket (stream_of_trees (meta px x)) s) k ≡ group Bracket s (row (meta px x) done) k
-  row-content s x k = visible-tree Bracket (stream_of_trees (meta px x)) s k tt ∙ ap (λ z. group Bracket s z k) (stream-trees (meta px x) done)
-
   pub outer_again : (a : Attribute X) (l r : Toks) → IsOuter spells false a l r → AgainFront (IsOuter spells true) (normal.attribute nx) (attribute px) a l r
   outer_again a l r (an_outer {p = t} {s = s} {x = x} {c = c} i j) =
       let w = meta_again x c j in
       let next = λ (k : Toks). group Bracket s (row (meta px x) done) k in
-      let seen = λ (k : Toks). row-append (p.mark t) (p.group Bracket (stream_of_trees (meta px x)) s) k ∙ ap (row (p.mark t)) (row-content s x k) in
+      let seen = λ (k : Toks). row-append (p.mark t) (p.group Bracket (stream_of_trees (meta px x)) s) k ∙ ap (row (p.mark t)) (row-group Bracket s (meta px x) k tt) in
       let first = λ (k : Toks). mark_again false {n = 21} {k = 1} t l (group Bracket s c r) (next k) i in
       record {
         spelt = λ k. subst (λ z. IsOuter spells true (attribute_of t y.Outer (groups.bracket s) (normal.meta nx x)) z k) (sym (seen k)) (an_outer (first k) w.spelt);
@@ -199,7 +203,7 @@ module _ {X : Type 0} (reads : Place → Reader X) (spells : Place → X → Tok
       let w = meta_again x c j in
       let next = λ (k : Toks). group Bracket s (row (meta px x) done) k in
       let seen = λ (k : Toks). row-append (p.mark t) (p.mark b ++ p.group Bracket (stream_of_trees (meta px x)) s) k
-      ∙ ap (row (p.mark t)) (row-append (p.mark b) (p.group Bracket (stream_of_trees (meta px x)) s) k ∙ ap (row (p.mark b)) (row-content s x k)) in
+      ∙ ap (row (p.mark t)) (row-append (p.mark b) (p.group Bracket (stream_of_trees (meta px x)) s) k ∙ ap (row (p.mark b)) (row-group Bracket s (meta px x) k tt)) in
       let second = λ (k : Toks). mark_again false {n = 0} {k = 1} b n (group Bracket s c r) (next k) h in
       let first = λ (k : Toks). mark_again false {n = 21} {k = 1} t l n (row (p.mark b) (next k)) i in
       let inside = λ (u : Visible l). mark_visible false {n = 0} {k = 1} b n (group Bracket s c r) h (mark_visible false {n = 21} {k = 1} t l n i u) in

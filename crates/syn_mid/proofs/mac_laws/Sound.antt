@@ -1,12 +1,12 @@
 -- Where a read of a macro call answers, the call spells what was taken.
-use Rattle.std.proofs.Common.{◌≡◌, false, [], ◌∷◌, Ok, sym, ◌∙◌, ap, subst}
+use Rattle.std.proofs.Common.{◌≡◌, Bool, false, [], ◌∷◌, Ok, sym, ◌∙◌, ap, subst}
 use Rattle.token_core.specs.declared.span.Span.{Span}
 use Rattle.token_core.specs.declared.span.DelimSpan.{DelimSpan}
 use Rattle.token_core.specs.declared.tree.Delimiter.{Delimiter}
 use Rattle.token_core.specs.declared.tree.Delimiter.TheVariants.{Parenthesis, Brace, Bracket, None}
 use Rattle.token_core.specs.declared.tree.Spacing.{Spacing}
 use Rattle.token_core.specs.declared.tree.TokenStream.{TokenStream}
-use Rattle.token_core.specs.Toks.{Toks, mark, group}
+use Rattle.token_core.specs.Toks.{Bytes, Toks, mark, group}
 use Rattle.token_core.specs.Trees.{punct, toks}
 use Rattle.token_core.specs.Groups as groups
 use Rattle.token_core.specs.Marks as marks
@@ -20,9 +20,9 @@ use Rattle.syn_mid.specs.declared.mac.Macro.{Macro}
 use Rattle.syn_mid.specs.declared.path.Path.{Path}
 use Rattle.syn_mid.specs.declared.mac.MacroDelimiter.TheVariants as m
 use Rattle.syn_mid.specs.mac.Macros.{Bang, Held, macro_of}
-use Rattle.syn_mid.specs.mac.Reading.{bang, held, body, mac}
-use Rattle.syn_mid.specs.mac.Spelling.{bang_at, Delimits, in_paren, in_brace, in_bracket, IsMacro, a_macro}
-use Rattle.syn_mid.specs.path.Spelling.{IsModPath}
+use Rattle.syn_mid.specs.mac.Reading.{bang, held, body, call_after, mac}
+use Rattle.syn_mid.specs.mac.Spelling.{bang_at, Delimits, in_paren, in_brace, in_bracket, IsCall, a_macro, IsMacro}
+use Rattle.syn_mid.specs.path.Spelling.{is_mod_word, IsBarePath}
 use Rattle.syn_mid.specs.path.Reading.{mod_style}
 use Rattle.syn_mid.proofs.path_laws.Sound.{Taken, no_claim, path_sound, visible_path}
 
@@ -74,33 +74,38 @@ took_body s t h v e =
       left = ap (λ (z : Stream). z.left) (sym k.2) ∙ g.left;
     }
 
-module _ {X : Type 0} where
-  call_at : (p : Path X) (l m n r : Toks) (a : Span) (j : Spacing) (d : Delimiter) (s : DelimSpan) (c : Toks) (h : Held) → IsModPath false p l m → m ≡ mark (punct 33 j a) n → n ≡ group d s c r →
-      Delimits h.0 d s → c ≡ toks h.1 → IsMacro false (macro_of p (bang_at a) h) l r
-  call_at p l m n r a j d s c h i e g k t = a_macro (subst (λ z. IsModPath false p l z) (e ∙ ap (mark (punct 33 j a)) g) i) (λ e j. no_claim e) k t
+module _ (ok : Bytes → Bool) {X : Type 0} where
+  call_at : (p : Path X) (l m n r : Toks) (a : Span) (j : Spacing) (d : Delimiter) (s : DelimSpan) (c : Toks) (h : Held) → IsBarePath false ok p l m → m ≡ mark (punct 33 j a) n → n ≡ group d s c r →
+      Delimits h.0 d s → c ≡ toks h.1 → IsCall false ok (macro_of p (bang_at a) h) l r
+  call_at p l m n r a j d s c h i e g k t = a_macro (subst (λ z. IsBarePath false ok p l z) (e ∙ ap (mark (punct 33 j a)) g) i) (λ e j. no_claim e) k t
 
-  ends_at : (p : Path X) (b a : Bang) (h : Held) (x : Macro X) (l : Toks) (u t : Stream) → a ≡ b → macro_of p b h ≡ x → u ≡ t → IsMacro false (macro_of p a h) l u.rest → IsMacro false x l t.rest
+  ends_at : (p : Path X) (b a : Bang) (h : Held) (x : Macro X) (l : Toks) (u t : Stream) → a ≡ b → macro_of p b h ≡ x → u ≡ t → IsCall false ok (macro_of p a h) l u.rest → IsCall false ok x l t.rest
   ends_at p b a h x l u t e f g i =
-      subst (λ z. IsMacro false z l t.rest) f (subst (λ (z : Stream). IsMacro false (macro_of p b h) l z.rest) g (subst (λ z. IsMacro false (macro_of p z h) l u.rest) e i))
+      subst (λ z. IsCall false ok z l t.rest) f (subst (λ (z : Stream). IsCall false ok (macro_of p b h) l z.rest) g (subst (λ z. IsCall false ok (macro_of p z h) l u.rest) e i))
 
+  -- what follows a path that spells the tokens before
+  pub call_sound : (p : Path X) (l : Toks) (s t : Stream) (x : Macro X) → IsBarePath false ok p l s.rest → Visible s.rest → call_after p s ≡ Ok (x, t) → IsCall false ok x l t.rest × (t.left ≡ s.left)
+  unfolding call_after
+  call_sound p l s t x i v e =
+      let d = chain (bang s) _ x t e in
+      let b = took_bang s d.rest d.value v d.was in
+      let vb = visible_bang s d.rest d.value b v in
+      let f = chain (body d.rest) _ x t d.goes in
+      let h = took_body d.rest f.rest f.value vb f.was in
+      let g = same_pair (macro_of p d.value f.value) x f.rest t f.goes in
+      let call = call_at p l s.rest d.rest.rest f.rest.rest b.span b.spacing h.delimiter h.span h.content f.value i b.is h.is h.delimits h.tokens in
+      (ends_at p d.value (bang_at b.span) f.value x l f.rest t b.mark_is g.0 g.1 call, ap (λ (z : Stream). z.left) (sym g.1) ∙ h.left ∙ b.left)
+
+module _ {X : Type 0} where
   pub macro_sound : (s t : Stream) (x : Macro X) → Visible s.rest → mac s ≡ Ok (x, t) → Taken (IsMacro false) s t x
   unfolding mac
   macro_sound s t x v e =
       let c = chain (mod_style s) _ x t e in
       let p = path_sound s c.rest c.value v c.was in
-      let vp = visible_path c.value s.rest c.rest.rest p.spelt v in
-      let d = chain (bang c.rest) _ x t c.goes in
-      let b = took_bang c.rest d.rest d.value vp d.was in
-      let vb = visible_bang c.rest d.rest d.value b vp in
-      let f = chain (body d.rest) _ x t d.goes in
-      let h = took_body d.rest f.rest f.value vb f.was in
-      let g = same_pair (macro_of c.value d.value f.value) x f.rest t f.goes in
-      let call = call_at c.value s.rest c.rest.rest d.rest.rest f.rest.rest b.span b.spacing h.delimiter h.span h.content f.value p.spelt b.is h.is h.delimits h.tokens in
-      record {
-        spelt = ends_at c.value d.value (bang_at b.span) f.value x s.rest f.rest t b.mark_is g.0 g.1 call;
-        left = ap (λ (z : Stream). z.left) (sym g.1) ∙ h.left ∙ b.left ∙ p.left;
-      }
+      let k = call_sound is_mod_word c.value s.rest c.rest t x p.spelt (visible_path c.value s.rest c.rest.rest p.spelt v) c.goes in
+      record { spelt = k.0; left = k.1 ∙ p.left }
 
-  pub visible_macro : (x : Macro X) (l r : Toks) → IsMacro false x l r → Visible l → Visible r
-  visible_macro x l r (a_macro {p = p} {a = a} {j = j} {d = d} {s = s} {c = c} i ap h k) v =
-      (visible_path p l (mark (punct 33 j a) (group d s c r)) i v).2
+-- what follows a call holds no invisible group
+pub visible_call : {ok : Bytes → Bool} {X : Type 0} (x : Macro X) (l r : Toks) → IsCall false ok x l r → Visible l → Visible r
+visible_call x l r (a_macro {p = p} {a = a} {j = j} {d = d} {s = s} {c = c} i ap h k) v =
+    (visible_path p l (mark (punct 33 j a) (group d s c r)) i v).2

@@ -1,7 +1,7 @@
 -- The read of a path of mod style meets the laws of its grammar.
 use Rattle.std.proofs.Common.{◌≡◌, Result, Ok, Err, Bool, true, false, List, Option, refl, subst}
 use Rattle.std.specs.Prelude.{IfOk}
-use Rattle.token_core.specs.Toks.{Toks, done}
+use Rattle.token_core.specs.Toks.{Bytes, Toks, done}
 use Rattle.token_core.specs.Trees.{row}
 use Rattle.token_core.specs.Refusal.{Refusal}
 use Rattle.token_core.specs.Rebuilt.{Visible}
@@ -16,7 +16,7 @@ use Rattle.syn_mid.specs.path.Paths.{Sep}
 use Rattle.syn_mid.specs.path.Reading as reading
 use Rattle.syn_mid.specs.path.Reading.{sees_sep}
 use Rattle.syn_mid.specs.path.Printing.{path}
-use Rattle.syn_mid.specs.path.Spelling.{IsLeading, no_leading, leading, AreModSegments, last_segment, more_segments, IsModPath, mod_path}
+use Rattle.syn_mid.specs.path.Spelling.{IsLeading, no_leading, leading, AreSegments, last_segment, more_segments, IsBarePath, a_bare_path, IsModPath}
 use Rattle.syn_mid.specs.path.Grammars.{mod_style}
 use Rattle.syn_mid.proofs.path_laws.Sound.{path_sound, visible_path}
 use Rattle.syn_mid.proofs.path_laws.Complete.{path_complete}
@@ -32,14 +32,15 @@ whole_leading : (clear : Bool) (o : Option Sep) (l r : Toks) → IsLeading clear
 whole_leading clear o l r no_leading v = v
 whole_leading clear o l r (leading i) v = v
 
-module _ {X : Type 0} where
-  whole_segments : (clear : Bool) (all : List (PathSegment X)) (seps : List Sep) (l r : Toks) → AreModSegments clear all seps l r → Visible r → Visible l
+module _ {ok : Bytes → Bool} {X : Type 0} where
+  whole_segments : (clear : Bool) (all : List (PathSegment X)) (seps : List Sep) (l r : Toks) → AreSegments clear ok all seps l r → Visible r → Visible l
   whole_segments clear all seps l r (last_segment h) v = v
   whole_segments clear all seps l r (more_segments {all = xs} {seps = ps} {l = m} h a i) v = whole_segments clear xs ps m r i v
 
-  pub whole_path : (clear : Bool) (p : Path X) (l r : Toks) → IsModPath clear p l r → Visible r → Visible l
-  whole_path clear p l r (mod_path {o = o} {all = all} {seps = seps} {m = m} i k) v = whole_leading clear o l m i (whole_segments clear all seps m r k v)
+  pub whole_path : (clear : Bool) (p : Path X) (l r : Toks) → IsBarePath clear ok p l r → Visible r → Visible l
+  whole_path clear p l r (a_bare_path {o = o} {all = all} {seps = seps} {m = m} i k) v = whole_leading clear o l m i (whole_segments clear all seps m r k v)
 
+module _ {X : Type 0} where
   pub lawful : Lawful (mod_style {X = X})
   lawful = record {
     sound = λ s t a n v e c. let k = path_sound s t a v e in subst (λ z. IsModPath false a s.rest z) (took_all t (visible_path a s.rest t.rest k.spelt v) c) k.spelt;

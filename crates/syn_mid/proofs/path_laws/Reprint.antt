@@ -1,10 +1,10 @@
--- The print of a path of mod style spells it clearly.
+-- The print of a path without arguments spells it clearly.
 use Rattle.std.proofs.Common.{◌≡◌, Bool, true, List, [], ◌∷◌, ◌++◌, Option, Some, sym, ◌∙◌, ap, subst}
 use Rattle.token_core.specs.declared.tree.Ident.{Ident}
 use Rattle.token_core.specs.declared.span.Span.{Span}
 use Rattle.token_core.specs.declared.tree.Spacing.TheVariants.{Joint, Alone}
 use Rattle.token_core.specs.declared.tree.TokenTree.TheVariants as t
-use Rattle.token_core.specs.Toks.{Toks, word, mark}
+use Rattle.token_core.specs.Toks.{Bytes, Toks, word, mark}
 use Rattle.token_core.specs.Trees.{punct, row}
 use Rattle.token_core.specs.Prints as p
 use Rattle.token_core.specs.Clear.{Apart}
@@ -16,7 +16,7 @@ use Rattle.syn_mid.specs.declared.path.PathStyle.{PathStyle}
 use Rattle.syn_mid.specs.declared.path.PathStyle.TheVariants.{AsWritten, Mod}
 use Rattle.syn_mid.specs.path.Paths.{Sep, segment_of, path_of}
 use Rattle.syn_mid.specs.path.Printing.{colon, segment, segments, path}
-use Rattle.syn_mid.specs.path.Spelling.{sep_chars, sep_at, IsLeading, no_leading, leading, AreModSegments, last_segment, more_segments, IsModPath, mod_path}
+use Rattle.syn_mid.specs.path.Spelling.{sep_chars, sep_at, IsLeading, no_leading, leading, AreSegments, last_segment, more_segments, IsBarePath, a_bare_path}
 
 -- a printed mark stands alone, and so apart
 pub alone : (cs : _) (l : Toks) → Apart true cs Alone l
@@ -33,21 +33,21 @@ row-segment : (X : Type 0) (style : PathStyle) (i : Ident) (k : Toks) → row (s
 row-segment X Mod i k = tree-ident i k
 row-segment X AsWritten i k = tree-ident i k
 
-module _ {X : Type 0} where
-  segments_again : (style : PathStyle) (clear : Bool) (all : List (PathSegment X)) (seps : List Sep) (l r k : Toks) → AreModSegments clear all seps l r →
-      AreModSegments true all seps (row (segments style (all, seps)) k) k
+module _ {ok : Bytes → Bool} {X : Type 0} where
+  segments_again : (style : PathStyle) (clear : Bool) (all : List (PathSegment X)) (seps : List Sep) (l r k : Toks) → AreSegments clear ok all seps l r →
+      AreSegments true ok all seps (row (segments style (all, seps)) k) k
   segments_again style clear all seps l r k (last_segment {i = i} h) =
-      subst (λ z. AreModSegments true {X = X} (segment_of i ∷ []) [] z k) (sym (row-append (segment {X = X} style (segment_of i)) [] k ∙ row-segment X style i k)) (last_segment h)
+      subst (λ z. AreSegments true ok {X = X} (segment_of i ∷ []) [] z k) (sym (row-append (segment {X = X} style (segment_of i)) [] k ∙ row-segment X style i k)) (last_segment h)
   segments_again style clear all seps l r k (more_segments {i = i} {a = a} {b = b} {all = xs} {seps = ps} {l = m} h c q) =
       let rest = row (segments style (xs, ps)) k in
       let seen : row (segments style (segment_of i ∷ xs, sep_at a b ∷ ps)) k ≡ word i (mark (punct 58 Joint a) (mark (punct 58 Alone b) rest)) =
       row-append (segment {X = X} style (segment_of i)) (p.mark (sep_at a b) ++ segments style (xs, ps)) k
       ∙ row-segment X style i (row (p.mark (sep_at a b) ++ segments style (xs, ps)) k)
       ∙ ap (word i) (row-append (p.mark (sep_at a b)) (segments style (xs, ps)) k ∙ row-sep a b rest) in
-      subst (λ z. AreModSegments true (segment_of i ∷ xs) (sep_at a b ∷ ps) z k) (sym seen)
+      subst (λ z. AreSegments true ok (segment_of i ∷ xs) (sep_at a b ∷ ps) z k) (sym seen)
       (more_segments h (alone sep_chars rest) (segments_again style clear xs ps m r k q))
 
-  pub path_again : (style : PathStyle) (clear : Bool) (x : Path X) (l r k : Toks) → IsModPath clear x l r → IsModPath true x (row (path style x) k) k
-  path_again style clear x l r k (mod_path {o = o} {all = all} {seps = seps} {m = m} i q) =
-      subst (λ z. IsModPath true (path_of o (all, seps)) z k) (sym (row-append (colon o) (segments style (all, seps)) k))
-      (mod_path (leading_again clear o l m (row (segments style (all, seps)) k) i) (segments_again style clear all seps m r k q))
+  pub path_again : (style : PathStyle) (clear : Bool) (x : Path X) (l r k : Toks) → IsBarePath clear ok x l r → IsBarePath true ok x (row (path style x) k) k
+  path_again style clear x l r k (a_bare_path {o = o} {all = all} {seps = seps} {m = m} i q) =
+      subst (λ z. IsBarePath true ok (path_of o (all, seps)) z k) (sym (row-append (colon o) (segments style (all, seps)) k))
+      (a_bare_path (leading_again clear o l m (row (segments style (all, seps)) k) i) (segments_again style clear all seps m r k q))

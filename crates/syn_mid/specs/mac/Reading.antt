@@ -7,6 +7,7 @@ use Rattle.token_core.specs.declared.tree.TokenStream.{TokenStream}
 use Rattle.token_core.specs.Groups as groups
 use Rattle.token_core.specs.Marks as marks
 use Rattle.token_core.specs.Reads.{Reader, ◌>>=◌, pure, refuse, delimited}
+use Rattle.syn_mid.specs.declared.path.Path.{Path}
 use Rattle.syn_mid.specs.declared.mac.Macro.{Macro}
 use Rattle.syn_mid.specs.declared.mac.MacroDelimiter.TheVariants as m
 use Rattle.syn_mid.specs.mac.Macros.{Bang, Held, macro_of}
@@ -26,9 +27,13 @@ body = do
   b ← delimited
   held b.0 b.1 b.2
 
-unfoldable pub mac : {X : Type 0} → Reader (Macro X)
-mac = do
-  p ← mod_style
-  b ← bang
-  h ← body
-  pure (macro_of p b h)
+module _ {X : Type 0} where
+  -- what follows the path of a call
+  unfoldable pub call_after : Path X → Reader (Macro X)
+  call_after p = do
+    b ← bang
+    h ← body
+    pure (macro_of p b h)
+
+  unfoldable pub mac : Reader (Macro X)
+  mac = mod_style >>= call_after

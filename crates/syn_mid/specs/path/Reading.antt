@@ -1,19 +1,20 @@
 -- The reads of paths, as functions of the stream.
-use Rattle.std.specs.Prelude.{Bool, true, false, Option, Some, None, Err, if◌then◌else◌}
-use Rattle.token_core.specs.declared.error.ErrorKind.TheVariants.{ExpectedPathSegment, ExpectedNestedAttribute, LiteralInNestedAttribute, TokenInNestedAttribute}
+use Rattle.std.specs.Prelude.{Bool, true, false, not, ◌&&◌, Option, Some, None, Err, if◌then◌else◌}
+use Rattle.token_core.specs.declared.error.ErrorKind.TheVariants.{Unexpected, ExpectedPathSegment, ExpectedNestedAttribute, LiteralInNestedAttribute, TokenInNestedAttribute}
+use Rattle.token_core.specs.declared.tree.Delimiter.TheVariants.{Parenthesis}
 use Rattle.token_core.specs.Refusal.{Refusal, fixed}
 use Rattle.token_core.specs.Stream.{Stream}
-use Rattle.token_core.specs.Toks.{Toks}
-use Rattle.token_core.specs.Reads.{Reader, ◌>>=◌, ◌<$>◌, pure, peek, refused, expected, is_done, sees_mark, sees_word, read_word, any_text, ident_name}
+use Rattle.token_core.specs.Toks.{Bytes, Toks}
+use Rattle.token_core.specs.Reads.{Reader, ◌>>=◌, ◌<$>◌, pure, peek, refuse, refused, expected, is_done, sees_mark, sees_word, sees_group, third, read_word, any_text, ident_name}
 use Rattle.token_core.specs.Marks as marks
 use Rattle.token_core.specs.Lits.{sees_lit}
 use Rattle.token_core.specs.Loops.{Many, joined}
 use Rattle.syn_mid.specs.declared.path.Path.{Path}
 use Rattle.syn_mid.specs.declared.path.PathSegment.{PathSegment}
 use Rattle.syn_mid.specs.declared.path.SegmentStyle.{SegmentStyle}
-use Rattle.syn_mid.specs.declared.path.SegmentStyle.TheVariants.{Mod, Nested}
+use Rattle.syn_mid.specs.declared.path.SegmentStyle.TheVariants.{Mod, Nested, Plain}
 use Rattle.syn_mid.specs.path.Paths.{Sep, segment_of, path_of}
-use Rattle.syn_mid.specs.path.Spelling.{is_mod_word}
+use Rattle.syn_mid.specs.path.Spelling.{is_mod_word, is_type_word}
 
 -- `::`
 abbrev pub sees_sep : Toks → Bool
@@ -40,11 +41,28 @@ no_segment Mod true s = expected ident_name s
 no_segment Mod false s = refused ExpectedPathSegment (fixed ExpectedPathSegment) s
 no_segment Nested true s = no_property s
 no_segment Nested false s = expected ident_name s
+no_segment Plain true s = expected ident_name s
+no_segment Plain false s = expected ident_name s
+
+-- the words that a segment of this style may be
+abbrev pub words_of : SegmentStyle → Bytes → Bool
+words_of Mod = is_mod_word
+words_of Nested = any_text
+words_of Plain = is_type_word
 
 -- a segment of this style begins
 abbrev pub begins : SegmentStyle → Toks → Bool
-begins Mod = sees_word is_mod_word
-begins Nested = sees_word any_text
+begins style = sees_word (words_of style)
+
+-- a `::` goes on with the path; in a plain path a parenthesis after it doesn't
+abbrev pub goes_on : SegmentStyle → Toks → Bool
+goes_on Mod l = sees_sep l
+goes_on Nested l = sees_sep l
+goes_on Plain l = sees_sep l && not (third (sees_group Parenthesis) l)
+
+-- a `<` that begins neither `<=` nor `<<=`
+abbrev pub sees_angle : Toks → Bool
+sees_angle l = sees_mark (marks.chars_of 2) l && (not (sees_mark (marks.chars_of 14) l) && not (sees_mark (marks.chars_of 25) l))
 
 module _ {X : Type 0} where
   -- a segment without arguments
@@ -54,7 +72,7 @@ module _ {X : Type 0} where
     if here then segment_of <$> read_word any_text ident_name else (λ s. Err (no_segment style first s))
 
   unfoldable pub bare_segments : SegmentStyle → Bool → Reader (Many (PathSegment X) Sep)
-  bare_segments style first = joined (bare_segment style) sees_sep sep first
+  bare_segments style first = joined (bare_segment style) (goes_on style) sep first
 
   unfoldable pub bare_path : SegmentStyle → Reader (Path X)
   bare_path style = do
@@ -68,3 +86,10 @@ module _ {X : Type 0} where
 
   abbrev pub nested : Reader (Path X)
   nested = bare_path Nested
+
+  -- a plain path; angle arguments are not read yet
+  unfoldable pub plain_path : Reader (Path X)
+  plain_path = do
+    path ← bare_path Plain
+    angle ← peek sees_angle
+    if angle then refuse Unexpected else pure path

@@ -17,6 +17,10 @@ use Rattle.syn_mid.specs.path.Paths.{Sep, segment_of, path_of}
 abbrev pub is_mod_word : Bytes → Bool
 is_mod_word t = is_ident t || (is_text (text_of 2) t || (is_text (text_of 1) t || (is_text (text_of 0) t || is_text (text_of 3) t)))
 
+-- and in a type `try` too
+abbrev pub is_type_word : Bytes → Bool
+is_type_word t = is_mod_word t || is_text (text_of 15) t
+
 abbrev pub sep_chars : List ℕ
 sep_chars = 58 ∷ 58 ∷ []
 
@@ -30,16 +34,28 @@ module _ (clear : Bool) where
     no_leading : {r : Toks} → IsLeading None r r
     leading : {a b : Span} {j : Spacing} {r : Toks} → Apart clear sep_chars j r → IsLeading (Some (sep_at a b)) (mark (punct 58 Joint a) (mark (punct 58 j b) r)) r
 
-  module _ {X : Type 0} where
-    -- segments of mod style joined by `::`: without arguments, and no `::` at the end
-    pub data AreModSegments : List (PathSegment X) → List Sep → Toks → Toks → Type 0 where
-      last_segment : {i : Ident} {r : Toks} → is_mod_word i.text ≡ true → AreModSegments (segment_of i ∷ []) [] (word i r) r
-      more_segments : {i : Ident} {a b : Span} {j : Spacing} {all : List (PathSegment X)} {seps : List Sep} {l r : Toks} → is_mod_word i.text ≡ true → Apart clear sep_chars j l →
-          AreModSegments all seps l r → AreModSegments (segment_of i ∷ all) (sep_at a b ∷ seps) (word i (mark (punct 58 Joint a) (mark (punct 58 j b) l))) r
+  module _ (ok : Bytes → Bool) {X : Type 0} where
+    -- segments whose words `ok` admits, joined by `::`: without arguments, and no `::` at the end
+    pub data AreSegments : List (PathSegment X) → List Sep → Toks → Toks → Type 0 where
+      last_segment : {i : Ident} {r : Toks} → ok i.text ≡ true → AreSegments (segment_of i ∷ []) [] (word i r) r
+      more_segments : {i : Ident} {a b : Span} {j : Spacing} {all : List (PathSegment X)} {seps : List Sep} {l r : Toks} → ok i.text ≡ true → Apart clear sep_chars j l →
+          AreSegments all seps l r → AreSegments (segment_of i ∷ all) (sep_at a b ∷ seps) (word i (mark (punct 58 Joint a) (mark (punct 58 j b) l))) r
 
-    -- a path of mod style
-    pub data IsModPath : Path X → Toks → Toks → Type 0 where
-      mod_path : {o : Option Sep} {all : List (PathSegment X)} {seps : List Sep} {l m r : Toks} → IsLeading o l m → AreModSegments all seps m r → IsModPath (path_of o (all, seps)) l r
+    -- a path of such segments
+    pub data IsBarePath : Path X → Toks → Toks → Type 0 where
+      a_bare_path : {o : Option Sep} {all : List (PathSegment X)} {seps : List Sep} {l m r : Toks} → IsLeading o l m → AreSegments all seps m r → IsBarePath (path_of o (all, seps)) l r
+
+  module _ {X : Type 0} where
+    -- of mod style
+    abbrev pub AreModSegments : List (PathSegment X) → List Sep → Toks → Toks → Type 0
+    AreModSegments = AreSegments is_mod_word
+
+    abbrev pub IsModPath : Path X → Toks → Toks → Type 0
+    IsModPath = IsBarePath is_mod_word
+
+    -- a plain path
+    abbrev pub IsPlainPath : Path X → Toks → Toks → Type 0
+    IsPlainPath = IsBarePath is_type_word
 
 -- all of a list
 abbrev pub SpellsModPath : {X : Type 0} → Bool → Path X → Toks → Type 0

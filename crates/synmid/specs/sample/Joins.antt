@@ -20,7 +20,7 @@ use Rattle.token_core.proofs.Steps.{Reads_to}
 use Rattle.token_core.proofs.Took.{mapped}
 use Rattle.token_core.proofs.Turns.{mark_keeps}
 use Rattle.token_core.proofs.MarkSpells.{mark_sound, mark_complete, mark_seen, mark_again, mark_visible, mark_whole, mark_size}
-use Rattle.token_core.proofs.Listings.{listed_sound, listed_complete, listed_again, listed_takes, spelt_visible}
+use Rattle.token_core.proofs.Listings.{listed_sound, listed_complete, listed_visible, listed_again, listed_takes, spelt_visible}
 use Rattle.synmid.specs.sample.Reading.{joined_by}
 use Rattle.synmid.specs.sample.Spelling.{AreJoined}
 
@@ -40,20 +40,33 @@ mark_weaker {n = n} clear m l r (is_mark {ss = ss} i) = is_mark (chars_weaker cl
 module _ {A : Type 0} (n k : ℕ) (fits : length (marks.chars_of n) ≡ k) (short : k ≤ 3) (value : Reader A) (V : A → Toks → Toks → Type 0) where
   -- ---- sound
 
-  module _ (sound : (s t : Stream) (x : A) → Visible s.rest → value s ≡ Ok (x, t) → V x s.rest t.rest)
-      (seen : (x : A) (l r : Toks) → V x l r → Visible l → Visible r) where
-    pub joined_sound : (s t : Stream) (v : Many A (Mark n k)) → Visible s.rest → joined_by n k value s ≡ Ok (v, t) → AreJoined n k V v s.rest t.rest
+  -- Of values it is known that a read of one on tokens without invisible groups leaves such tokens, and that it took what
+  -- spells the answer, if what is left over then is as it should be; and so it was before.
+  module _ (C : Option Span → Type 0) (seen : (s t : Stream) (x : A) → Visible s.rest → value s ≡ Ok (x, t) → Visible t.rest)
+      (sound : (s t : Stream) (x : A) → Visible s.rest → value s ≡ Ok (x, t) → C t.left → C s.left × V x s.rest t.rest) where
+    pub joined_sound : (s t : Stream) (v : Many A (Mark n k)) → Visible s.rest → joined_by n k value s ≡ Ok (v, t) → C t.left → C s.left × AreJoined n k V v s.rest t.rest
     joined_sound s t v h e =
-        (listed_sound never (λ b. value) (sees_mark (marks.chars_of n)) (marks.read n k) (λ b. V) (IsMark false) Nowhere (λ z. Unit {0})
+        listed_sound never (λ b. value) (sees_mark (marks.chars_of n)) (marks.read n k) (λ b. V) (IsMark false) Nowhere (λ z. C z.left)
         (λ b l q. absurd (cc))
-        (λ b i j x g q. seen x i.rest j.rest (sound i j x g q) g)
+        (λ b. seen)
         (λ i j m g q. mark_visible false m i.rest j.rest (mark_sound fits short i j m g q).spelt g)
-        (λ b i j x g o q c. (tt, sound i j x g q))
-        (λ i j m g o q c. (tt, (mark_sound fits short i j m g q).spelt))
-        false s t v h e tt).1
+        (λ b i j x g o q c. sound i j x g q c)
+        (λ i j m g o q c. let w = mark_sound fits short i j m g q in (subst C w.left c, w.spelt))
+        false s t v h e
 
-    pub joined_seen : (v : Many A (Mark n k)) (l r : Toks) → AreJoined n k V v l r → Visible l → Visible r
-    joined_seen v l r i h = spelt_visible (λ b. V) (IsMark false) Nowhere (λ b. seen) (mark_visible false) false v.0 v.1 l r i h
+  module _ (seen : (s t : Stream) (x : A) → Visible s.rest → value s ≡ Ok (x, t) → Visible t.rest) where
+    pub joined_visible : (s t : Stream) (v : Many A (Mark n k)) → Visible s.rest → joined_by n k value s ≡ Ok (v, t) → Visible t.rest
+    joined_visible s t v h e =
+        listed_visible never (λ b. value) (sees_mark (marks.chars_of n)) (marks.read n k) (λ b x l r. Unit {0}) (IsMark false) Nowhere (λ z. Unit {0})
+        (λ b l q. absurd (cc))
+        (λ b. seen)
+        (λ i j m g q. mark_visible false m i.rest j.rest (mark_sound fits short i j m g q).spelt g)
+        (λ b i j x g o q c. (tt, tt))
+        (λ i j m g o q c. (tt, (mark_sound fits short i j m g q).spelt))
+        false s t v h e
+
+  pub joined_seen : ((x : A) (l r : Toks) → V x l r → Visible l → Visible r) → (v : Many A (Mark n k)) (l r : Toks) → AreJoined n k V v l r → Visible l → Visible r
+  joined_seen seen v l r i h = spelt_visible (λ b. V) (IsMark false) Nowhere (λ b. seen) (mark_visible false) false v.0 v.1 l r i h
 
   -- ---- complete
 
@@ -101,3 +114,12 @@ module _ {A : Type 0} (n k : ℕ) (fits : length (marks.chars_of n) ≡ k) (shor
       subst (λ z. AreListed (λ b. V) (IsMark false) Nowhere false z v.1 (row (lists.joined print p.mark z v.1) h) h) (map-id v.0)
       (listed_again (λ b. V) (IsMark false) Nowhere (λ b. V) (IsMark false) (λ x. x) print p.mark
       (λ b x a c q w. again x a c q w) (λ m a c q w. mark_weaker true m (row (p.mark m) q) q (mark_again false m a c q w)) false v.0 v.1 l r h i)
+
+-- what spells each value another way spells them all
+pub joined_weaker : {A : Type 0} (n k : ℕ) (V W : A → Toks → Toks → Type 0) → ((x : A) (l r : Toks) → V x l r → W x l r) → (v : Many A (Mark n k)) (l r : Toks) → AreJoined n k V v l r → AreJoined n k W v l r
+joined_weaker {A = A} n k V W weaker v l r i = from false v.0 v.1 l r i
+  where
+    from : (b : Bool) (xs : List A) (ps : List (Mark n k)) (l r : Toks) → AreListed (λ b. V) (IsMark false) Nowhere b xs ps l r → AreListed (λ b. W) (IsMark false) Nowhere b xs ps l r
+    from b xs ps l r (none_left may) = none_left may
+    from b xs ps l r (last_value {x = x} q) = last_value (weaker x l r q)
+    from b xs ps l r (value_and_mark {x = x} {xs = ys} {ps = qs} {m = m} {k = o} q w j) = value_and_mark (weaker x l m q) w (from false ys qs o r j)

@@ -1,9 +1,10 @@
 -- The sample meets the laws of a supplied subtree.
-use Rattle.std.specs.Prelude.{◌≡◌, ℕ, suc, ◌<◌, ◌≤◌, Bool, true, false, ◌&&◌, ◌||◌, ◌==◌, if◌then◌else◌, List, [], ◌∷◌, Option, Some, None, is_some, Ok, Err, refl, codes}
+use Rattle.std.specs.Prelude.{◌≡◌, ℕ, zero, suc, ◌+◌, ◌<◌, ◌≤◌, Bool, true, false, ◌&&◌, ◌||◌, ◌==◌, if◌then◌else◌, List, [], ◌∷◌, Option, Some, None, is_some, Ok, Err, refl, codes}
 use Rattle.std.proofs.Common.{◌⊎◌, inl, inr, sym, ◌∙◌, ap, subst, arith}
 use Rattle.std.specs.Str.{bytes_eq}
 use Rattle.std.proofs.lemmas.Slice.Eq.{bytes_eq-Decides}
 use Rattle.token_core.specs.declared.span.Span.{Span}
+use Rattle.token_core.specs.declared.span.DelimSpan.{DelimSpan}
 use Rattle.token_core.specs.declared.tree.Ident.{Ident}
 use Rattle.token_core.specs.declared.tree.Spacing.TheVariants.{Joint}
 use Rattle.token_core.specs.declared.tree.Delimiter.{Delimiter}
@@ -13,10 +14,11 @@ use Rattle.token_core.specs.declared.tree.Punct.{Punct}
 use Rattle.token_core.specs.declared.lit.Lit.{Lit}
 use Rattle.token_core.specs.declared.lit.Lit.TheVariants as v
 use Rattle.token_core.specs.Toks.{Bytes, Toks, done, word, mark, lit, group, enter, leave}
-use Rattle.token_core.specs.Trees.{punct, row}
+use Rattle.token_core.specs.Trees.{punct, row, stream_of_trees}
 use Rattle.token_core.specs.Prints as p
 use Rattle.token_core.specs.Lists as lists
 use Rattle.token_core.specs.Front.{front}
+use Rattle.token_core.specs.Groups.{paren, paren_name}
 use Rattle.token_core.specs.Stream.{Scope, Stream}
 use Rattle.token_core.specs.Rebuilt.{Visible, IsVisible}
 use Rattle.token_core.specs.Marks as marks
@@ -25,17 +27,14 @@ use Rattle.token_core.specs.Listed.{AreListed, none_left, last_value, value_and_
 use Rattle.token_core.specs.Spellings.{IsMark, is_mark, AreChars, last_char, more_chars, IsLit, a_literal, a_bool, a_negative}
 use Rattle.token_core.specs.Lits.{sees_lit, read_lit}
 use Rattle.token_core.specs.Lits as lits
-use Rattle.token_core.specs.Reads.{Outcome, leaves, here, first_of, sees_group, is_done, expected, sees_mark, sees_word, read_word, next_word, any_text, ident_name}
+use Rattle.token_core.specs.Reads.{Outcome, Reader, leaves, left_here, here, first_of, in_group, inside, sees_group, is_done, expected, sees_mark, sees_word, read_word, next_word, any_text, ident_name}
 use Rattle.token_core.specs.Keywords.{is_keyword}
 use Rattle.token_core.proofs.Steps.{link, chosen, Reads_to}
-use Rattle.token_core.proofs.Took.{at, branch, mapped, took_word, seen_word}
-use Rattle.token_core.proofs.Took as took
-use Rattle.token_core.proofs.Turns.{chain, same_pair, word_takes, size_suffix}
-use Rattle.token_core.proofs.lit_laws.{suffix_literal}
-use Rattle.token_core.proofs.WordSpells.{went_on}
+use Rattle.token_core.proofs.Took.{at, branch, mapped, took_word, took_all, leaves_none, seen_word}
+use Rattle.token_core.proofs.Turns.{chain, same_pair}
 use Rattle.token_core.proofs.LitSpells.{lit_sound, lit_complete, lit_seen, lit_again, lit_visible, lit_whole, lit_size}
 use Rattle.token_core.proofs.MarkSpells.{mark_sound, mark_complete, mark_seen, mark_again, mark_visible, mark_whole, mark_size}
-use Rattle.token_core.proofs.Rebuilds.{tree-ident}
+use Rattle.token_core.proofs.Rebuilds.{tree-ident, visible-tree, stream-trees}
 use Rattle.token_core.proofs.Rows.{row-append}
 use Rattle.token_core.proofs.Unseen.{no_mark-done, no_mark-word, no_mark-other}
 use Rattle.syn_mid.specs.declared.supplied.Place.{Place}
@@ -46,80 +45,36 @@ use Rattle.synmid.specs.declared.sample.Sample.{Sample}
 use Rattle.synmid.specs.declared.sample.Atom.{Atom}
 use Rattle.synmid.specs.declared.sample.Atom.TheVariants as a
 use Rattle.synmid.specs.declared.sample.ModPath.{ModPath}
-use Rattle.synmid.specs.sample.Parts.{Sep, Plus, path_of, sum_of, is_lit, lone}
-use Rattle.synmid.specs.sample.Reading.{joined_by, sees_sep, segment, leading, path, atom, sum, value, at_place}
+use Rattle.synmid.specs.sample.Parts.{Sep, Plus, Atoms, path_of, group_of, sum_of, is_lit, lit-is_lit, lone, groups}
+use Rattle.synmid.specs.sample.Reading.{joined_by, sees_sep, segment, leading, path, group_by, atom_by, atoms_at, atoms, sum, value, at_place}
 use Rattle.synmid.specs.sample.Printing as printing
-use Rattle.synmid.specs.sample.Spelling.{seen_delimiter, shown, AreJoined, IsSegment, a_segment, IsPath, a_path, a_global_path, IsAtom, an_atom_lit, an_atom_path, IsSum, spells}
+use Rattle.synmid.specs.sample.Prints.{prints_lit, prints_path, prints_group}
+use Rattle.synmid.specs.sample.Spelling.{seen_delimiter, shown, AreJoined, IsSegment, a_segment, IsPath, a_path, a_global_path, IsAtom, an_atom_lit, an_atom_path, an_atom_group, AreAtoms, IsSum, spells}
+use Rattle.synmid.specs.sample.Groups.{took_inside, first-none, reads_inside}
 use Rattle.synmid.specs.sample.Steady as st
-use Rattle.synmid.specs.sample.Joins.{joint_keeps, mark_weaker, joined_sound, joined_seen, joined_complete, joined_size, joined_whole, joined_again}
+use Rattle.synmid.specs.sample.Joins.{mark_weaker, joined_sound, joined_visible, joined_seen, joined_weaker, joined_complete, joined_size, joined_whole, joined_again}
+use Rattle.synmid.specs.sample.Reads.{Any, path_steady, atoms_steady, any_count}
 
--- ---- each read takes a token
+-- ---- the same tokens at the front
 
-pub segment-takes : (s t : Stream) (x : Ident) → segment s ≡ Ok (x, t) → size t.rest < size s.rest
-unfolding segment
-segment-takes s t x e =
-    elim (branch (sees_word is_mod_word s.rest) _ _ s (Ok (x, t)) e) [
-      | inl y ↦ word_takes any_text ident_name s t x y.1
-      | inr y ↦ cc (y.1)
-    ]
+abbrev Equal : Toks → Toks → Type 0
+Equal l m = l ≡ m
 
-leading_keeps : (s t : Stream) (o : Option Sep) → leading s ≡ Ok (o, t) → size t.rest ≤ size s.rest
-unfolding leading
-leading_keeps s t o e =
-    elim (branch (sees_sep s.rest) _ _ s (Ok (o, t)) e) [
-      | inl y ↦ let m = mapped (marks.read 1 2 s) (λ (q : Sep). Some q) o t y.1 in joint_keeps 1 2 s t m.value m.was
-      | inr y ↦ let g = same_pair None o s t y.1 in subst (λ (z : Stream). size z.rest ≤ size s.rest) g.1 (omega arith)
-    ]
+module _ (M : Option Span → Option Span → Type 0) where
+  group_equal : (b : Delimiter) (s : DelimSpan) (c k : Toks) → st.Fronts Equal M (group b s c k) (group b s c k)
+  group_equal d.Parenthesis s c k = st.both_paren refl refl
+  group_equal d.Brace s c k = st.both_other refl refl
+  group_equal d.Bracket s c k = st.both_other refl refl
+  group_equal d.None s c k = st.both_other refl refl
 
-path_takes : (s t : Stream) (x : ModPath) → path s ≡ Ok (x, t) → size t.rest < size s.rest
-unfolding path
-path_takes s t x e =
-    let c = chain (leading s) _ x t e in
-    let le = leading_keeps s c.rest c.value c.was in
-    let d = chain (joined_by 1 2 segment c.rest) _ x t c.goes in
-    let less = took.joined_takes (λ b. segment) sees_sep (marks.read 1 2) (λ b. segment-takes) (joint_keeps 1 2) false c.rest d.rest d.value d.was in
-    let g = same_pair (path_of c.value d.value) x d.rest t d.goes in
-    subst (λ (z : Stream). size z.rest < size s.rest) g.1 (omega (arith, le, less))
-
-bool_less : (b c : Bool) (x y : Lit) (k : Toks) (q : Lit × Toks) → (if b then Some (x, k) else (if c then Some (y, k) else None)) ≡ Some q → size q.1 ≤ size k
-bool_less true c x y k q e = let f : ◌≡◌ {A = Lit × Toks} (x, k) q = cc in subst (λ (z : Lit × Toks). size z.1 ≤ size k) f (omega arith)
-bool_less false true x y k q e = let f : ◌≡◌ {A = Lit × Toks} (y, k) q = cc in subst (λ (z : Lit × Toks). size z.1 ≤ size k) f (omega arith)
-bool_less false false x y k q e = cc
-
-number_less : (a : Span) (k : Toks) (q : Lit × Toks) (o : Option (Literal × Toks)) → lits.next_lit k ≡ o → lits.past_number a o ≡ Some q → size q.1 ≤ size k
-number_less a k q None h e = cc
-number_less a k q (Some o) h e = by_test (lits.is_number o.0.kind) e
-  where
-    by_test : (b : Bool) → (if b then Some (v.Negative (lits.negative a o.0), o.1) else None) ≡ Some q → size q.1 ≤ size k
-    by_test true e =
-        let f : ◌≡◌ {A = Lit × Toks} (v.Negative (lits.negative a o.0), o.1) q = cc in
-        subst (λ (z : Lit × Toks). size z.1 ≤ size k) f (size_suffix (suffix_literal k o h))
-    by_test false e = cc
-
-minus_less : (b : Bool) (a : Span) (k : Toks) (q : Lit × Toks) → (if b then lits.past_number a (lits.next_lit k) else None) ≡ Some q → size q.1 ≤ size k
-minus_less true a k q e = number_less a k q (lits.next_lit k) refl e
-minus_less false a k q e = cc
-
-past_less : (l : Toks) (q : Lit × Toks) → lits.past_lit l ≡ Some q → size q.1 < size l
-past_less done q e = cc
-past_less (word i k) q e = let h = bool_less (bytes_eq i.text lits.true_text) (bytes_eq i.text lits.false_text) (v.Bool (lits.lit_bool true i.span)) (v.Bool (lits.lit_bool false i.span)) k q e in omega (arith, h)
-past_less (mark p k) q e = let h = minus_less (p.ch == 45) p.span k q e in omega (arith, h)
-past_less (lit x k) q e = let f : ◌≡◌ {A = Lit × Toks} (v.Literal x, k) q = cc in subst (λ (z : Lit × Toks). size z.1 < suc (size k)) f (omega arith)
-past_less (group d s c k) q e = cc
-past_less (enter s k) q e = let h = past_less k q e in omega (arith, h)
-past_less (leave k) q e = let h = past_less k q e in omega (arith, h)
-
-lit_takes : (s t : Stream) (x : Lit) → read_lit s ≡ Ok (x, t) → size t.rest < size s.rest
-unfolding read_lit
-lit_takes s t x e = let w = went_on lits.end_of _ s t x (lits.past_lit s.rest) e in past_less s.rest (x, t.rest) w.was
-
-pub atom-takes : (s t : Stream) (x : Atom) → atom s ≡ Ok (x, t) → size t.rest < size s.rest
-unfolding atom
-atom-takes s t x e =
-    elim (branch (sees_lit s.rest) _ _ s (Ok (x, t)) e) [
-      | inl y ↦ let m = mapped (read_lit s) a.Lit x t y.1 in lit_takes s t m.value m.was
-      | inr y ↦ let m = mapped (path s) a.Path x t y.1 in path_takes s t m.value m.was
-    ]
+  fronts_equal : (l : Toks) → st.Fronts Equal M (front l) (front l)
+  fronts_equal done = st.both_done
+  fronts_equal (word i k) = st.both_word refl
+  fronts_equal (mark x k) = st.both_mark refl
+  fronts_equal (lit x k) = st.both_lit refl
+  fronts_equal (group b s c k) = group_equal b s c k
+  fronts_equal (enter s k) = fronts_equal k
+  fronts_equal (leave k) = fronts_equal k
 
 -- ---- on a list without invisible groups: what is read is spelt
 
@@ -149,7 +104,8 @@ segment_size : (x : Ident) (l r : Toks) → IsSegment x l r → size r < size l
 segment_size x l r (a_segment m) = omega arith
 
 segments_sound : (s t : Stream) (v : Many Ident Sep) → Visible s.rest → joined_by 1 2 segment s ≡ Ok (v, t) → AreJoined 1 2 IsSegment v s.rest t.rest
-segments_sound s t v h e = joined_sound 1 2 refl short2 segment IsSegment segment_sound segment_seen s t v h e
+segments_sound s t v h e =
+    (joined_sound 1 2 refl short2 segment IsSegment (λ z. Unit {0}) (λ i j x g q. segment_seen x i.rest j.rest (segment_sound i j x g q) g) (λ i j x g q c. (tt, segment_sound i j x g q)) s t v h e tt).1
 
 after_leading : (s m u : Stream) (o : Option Sep) (w : Many Ident Sep) → Visible s.rest → leading s ≡ Ok (o, m) → (Visible m.rest → AreJoined 1 2 IsSegment w m.rest u.rest) → IsPath (path_of o w) s.rest u.rest
 unfolding leading
@@ -173,8 +129,8 @@ path_sound s t x h e =
     (after_leading s c.rest d.rest c.value d.value h c.was (λ k. segments_sound c.rest d.rest d.value k d.was)))
 
 path_seen : (x : ModPath) (l r : Toks) → IsPath x l r → Visible l → Visible r
-path_seen x l r (a_path {v = w} i) h = joined_seen 1 2 refl short2 segment IsSegment segment_sound segment_seen w l r i h
-path_seen x l r (a_global_path {m = m} {v = w} {k = k} i j) h = joined_seen 1 2 refl short2 segment IsSegment segment_sound segment_seen w k r j (mark_visible false m l k i h)
+path_seen x l r (a_path {v = w} i) h = joined_seen 1 2 refl short2 segment IsSegment segment_seen w l r i h
+path_seen x l r (a_global_path {m = m} {v = w} {k = k} i j) h = joined_seen 1 2 refl short2 segment IsSegment segment_seen w k r j (mark_visible false m l k i h)
 
 path_whole : (x : ModPath) (l r : Toks) → IsPath x l r → Visible r → Visible l
 path_whole x l r (a_path {v = w} i) h = joined_whole 1 2 refl short2 segment IsSegment segment_whole w l r i h
@@ -187,31 +143,80 @@ path_size x l r (a_global_path {m = m} {v = w} {k = k} i j) =
     let h = joined_size 1 2 refl short2 segment IsSegment segment_size w k r j in
     omega (arith, g, h)
 
-atom_sound : (s t : Stream) (x : Atom) → Visible s.rest → atom s ≡ Ok (x, t) → IsAtom x s.rest t.rest
-unfolding atom
-atom_sound s t x h e =
-    elim (branch (sees_lit s.rest) _ _ s (Ok (x, t)) e) [
-      | inl y ↦ let q = mapped (read_lit s) a.Lit x t y.1 in subst (λ z. IsAtom z s.rest t.rest) q.is (an_atom_lit (lit_sound s t q.value h q.was).spelt)
-      | inr y ↦ let q = mapped (path s) a.Path x t y.1 in subst (λ z. IsAtom z s.rest t.rest) q.is (an_atom_path (path_sound s t q.value h q.was))
-    ]
+-- what a read leaves as it was
+abbrev Is : Option Span → Option Span → Option Span → Type 0
+Is o f g = f ≡ o
 
-atom_seen : (x : Atom) (l r : Toks) → IsAtom x l r → Visible l → Visible r
-atom_seen x l r (an_atom_lit {x = y} i) h = lit_visible y l r i h
-atom_seen x l r (an_atom_path {p = y} i) h = path_seen y l r i h
+path_left : (s t : Stream) (x : ModPath) → path s ≡ Ok (x, t) → t.left ≡ s.left
+path_left s t x e =
+    let h = path_steady Equal (Is s.left) (λ l m k. subst (λ z. st.Fronts Equal (Is s.left) (front l) (front z)) k (fronts_equal (Is s.left) l)) s s (record { rest = refl; left = refl }) in
+    let q : st.Same Equal (Is s.left) (Ok (x, t)) (Ok (x, t)) = subst (λ (o : Outcome ModPath). st.Same Equal (Is s.left) o o) e h in
+    q.1.left
 
-atom_whole : (x : Atom) (l r : Toks) → IsAtom x l r → Visible r → Visible l
-atom_whole x l r (an_atom_lit {x = y} i) h = lit_whole y l r i h
-atom_whole x l r (an_atom_path {p = y} i) h = path_whole y l r i h
+-- nothing is left over
+abbrev Clean : Option Span → Type 0
+Clean f = f ≡ None
 
-atom_size : (x : Atom) (l r : Toks) → IsAtom x l r → size r < size l
-atom_size x l r (an_atom_lit {x = y} i) = lit_size y l r i
-atom_size x l r (an_atom_path {p = y} i) = path_size y l r i
+module _ (inner : Reader Atoms) where
+  group_seen : (s t : Stream) (x : Atom) → Visible s.rest → group_by inner s ≡ Ok (x, t) → Visible t.rest
+  group_seen s t x h e =
+      let m = mapped (in_group d.Parenthesis paren_name inner s) (λ (g : DelimSpan × Atoms). group_of g.0 g.1) x t e in
+      let i = took_inside paren_name inner s t m.value h m.was in
+      let w : Visible (group d.Parenthesis m.value.0 i.content t.rest) = subst Visible i.is h in
+      w.2
 
-sum_sound : (s t : Stream) (x : Sample) → Visible s.rest → sum s ≡ Ok (x, t) → IsSum x s.rest t.rest
-unfolding sum
-sum_sound s t x h e =
-    let q = mapped (joined_by 20 1 atom s) sum_of x t e in
-    subst (λ (z : Sample). IsSum z s.rest t.rest) q.is (joined_sound 20 1 refl short1 atom IsAtom atom_sound atom_seen s t q.value h q.was)
+  atom_seen : (s t : Stream) (x : Atom) → Visible s.rest → atom_by (group_by inner) s ≡ Ok (x, t) → Visible t.rest
+  atom_seen s t x h e =
+      elim (branch (sees_lit s.rest) _ _ s (Ok (x, t)) e) [
+        | inl y ↦ let q = mapped (read_lit s) a.Lit x t y.1 in lit_visible q.value s.rest t.rest (lit_sound s t q.value h q.was).spelt h
+        | inr y ↦ elim (branch (sees_group d.Parenthesis s.rest) _ _ s (Ok (x, t)) y.1) [
+          | inl z ↦ group_seen s t x h z.1
+          | inr z ↦ let q = mapped (path s) a.Path x t z.1 in path_seen q.value s.rest t.rest (path_sound s t q.value h q.was) h
+        ]
+      ]
+
+  -- of the content of a group it is known that what is read is spelt
+  module _ (Inside : Atoms → Toks → Type 0) (content : (s t : Stream) (w : Atoms) → Visible s.rest → inner s ≡ Ok (w, t) → leaves t ≡ None → Inside w s.rest) where
+    group_sound : (s t : Stream) (x : Atom) → Visible s.rest → group_by inner s ≡ Ok (x, t) → Clean t.left → Clean s.left × IsAtom Inside x s.rest t.rest
+    group_sound s t x h e c =
+        let m = mapped (in_group d.Parenthesis paren_name inner s) (λ (g : DelimSpan × Atoms). group_of g.0 g.1) x t e in
+        let i = took_inside paren_name inner s t m.value h m.was in
+        let w : Visible (group d.Parenthesis m.value.0 i.content t.rest) = subst Visible i.is h in
+        let n = first-none s.left (leaves i.ends) (sym i.left ∙ c) in
+        let k = content (inside s m.value.0 i.content t.rest) i.ends m.value.1 w.1 i.reads n.1 in
+        (n.0, subst (λ z. IsAtom Inside z s.rest t.rest) m.is (subst (λ z. IsAtom Inside (group_of m.value.0 m.value.1) z t.rest) (sym i.is) (an_atom_group k)))
+
+    atom_sound : (s t : Stream) (x : Atom) → Visible s.rest → atom_by (group_by inner) s ≡ Ok (x, t) → Clean t.left → Clean s.left × IsAtom Inside x s.rest t.rest
+    atom_sound s t x h e c =
+        elim (branch (sees_lit s.rest) _ _ s (Ok (x, t)) e) [
+          | inl y ↦ let q = mapped (read_lit s) a.Lit x t y.1 in
+              let k = lit_sound s t q.value h q.was in
+              (sym k.left ∙ c, subst (λ z. IsAtom Inside z s.rest t.rest) q.is (an_atom_lit k.spelt))
+          | inr y ↦ elim (branch (sees_group d.Parenthesis s.rest) _ _ s (Ok (x, t)) y.1) [
+            | inl z ↦ group_sound s t x h z.1 c
+            | inr z ↦ let q = mapped (path s) a.Path x t z.1 in
+                (sym (path_left s t q.value q.was) ∙ c, subst (λ z. IsAtom Inside z s.rest t.rest) q.is (an_atom_path (path_sound s t q.value h q.was)))
+          ]
+        ]
+
+atoms_seen : (n : ℕ) (s t : Stream) (w : Atoms) → Visible s.rest → atoms_at n s ≡ Ok (w, t) → Visible t.rest
+atoms_seen zero s t w h e = cc
+atoms_seen (suc n) s t w h e = joined_visible 20 1 refl short1 (atom_by (group_by (atoms_at n))) (λ x l r. Unit {0}) (atom_seen (atoms_at n)) s t w h e
+
+abbrev Content : ℕ → Atoms → Toks → Type 0
+Content n w c = AreAtoms n w c done
+
+atoms_sound : (n : ℕ) (s t : Stream) (w : Atoms) → Visible s.rest → atoms_at n s ≡ Ok (w, t) → Clean t.left → Clean s.left × AreAtoms n w s.rest t.rest
+atoms_sound zero s t w h e c = cc
+atoms_sound (suc n) s t w h e c =
+    joined_sound 20 1 refl short1 (atom_by (group_by (atoms_at n))) (IsAtom (Content n)) Clean (atom_seen (atoms_at n)) (atom_sound (atoms_at n) (Content n) (λ i j v g q k.
+    let f = first-none j.left (left_here j) k in
+    subst (λ z. AreAtoms n v i.rest z) (took_all j (atoms_seen n i j v g q) k) (atoms_sound n i j v g q f.0).1)) s t w h e c
+
+atom_size : (Inside : Atoms → Toks → Type 0) (x : Atom) (l r : Toks) → IsAtom Inside x l r → size r < size l
+atom_size S x l r (an_atom_lit {x = y} i) = lit_size y l r i
+atom_size S x l r (an_atom_path {p = y} i) = path_size y l r i
+atom_size S x l r (an_atom_group i) = omega arith
 
 -- ---- what stands at the front of a spelling
 
@@ -236,14 +241,14 @@ segments_first v l r h = from v.0 v.1 l r h
     from xs ps l r (last_value {x = x} q) = of_one x l r q
     from xs ps l r (value_and_mark {x = x} {m = m} q w j) = of_one x l m q
 
+true_false : true ≡ false → ⊥
+true_false z = absurd (cc)
+
 other_word : (t w : Bytes) → is_mod_word t ≡ true → is_mod_word w ≡ false → bytes_eq t w ≡ false
 other_word t w h k = by_test (bytes_eq t w) refl
   where
     by_test : (b : Bool) → bytes_eq t w ≡ b → b ≡ false
     by_test true e = let g : is_mod_word t ≡ is_mod_word w = ap is_mod_word ((bytes_eq-Decides t w).0 e) in absurd (true_false (sym h ∙ g ∙ k))
-      where
-        true_false : true ≡ false → ⊥
-        true_false z = absurd (cc)
     by_test false e = refl
 
 true_no_word : is_mod_word lits.true_text ≡ false
@@ -271,6 +276,26 @@ path_no_lit : (x : ModPath) (l r : Toks) → IsPath x l r → sees_lit l ≡ fal
 path_no_lit x l r (a_path {v = w} i) = let f = segments_first w l r i in ap sees_lit f.2 ∙ no_lit-word f.0 f.1 f.3
 path_no_lit x l r (a_global_path {m = m} {k = k} i j) = let f = sep_first m l k i in ap sees_lit f.2 ∙ no_lit-mark f.0 f.1 f.3
 
+no_lit-group : (b : Delimiter) (s : DelimSpan) (c r : Toks) → sees_lit (group b s c r) ≡ false
+unfolding sees_lit
+no_lit-group b s c r = refl
+
+no_group-word : (i : Ident) (r : Toks) → sees_group d.Parenthesis (word i r) ≡ false
+unfolding sees_group
+no_group-word i r = refl
+
+no_group-mark : (p : Punct) (r : Toks) → sees_group d.Parenthesis (mark p r) ≡ false
+unfolding sees_group
+no_group-mark p r = refl
+
+group_there : (s : DelimSpan) (c r : Toks) → sees_group d.Parenthesis (group d.Parenthesis s c r) ≡ true
+unfolding sees_group
+group_there s c r = refl
+
+path_no_group : (x : ModPath) (l r : Toks) → IsPath x l r → sees_group d.Parenthesis l ≡ false
+path_no_group x l r (a_path {v = w} i) = let f = segments_first w l r i in ap (sees_group d.Parenthesis) f.2 ∙ no_group-word f.0 f.1
+path_no_group x l r (a_global_path {m = m} {k = k} i j) = let f = sep_first m l k i in ap (sees_group d.Parenthesis) f.2 ∙ no_group-mark f.0 f.1
+
 -- ---- where it is spelt, it is read
 
 reads_any : (i : Ident) (r : Toks) (f : Option Span) (e : Span) (sc : Scope) → read_word any_text ident_name (at (word i r) f e sc) ≡ Ok (i, at r f i.span sc)
@@ -297,23 +322,60 @@ path_complete x l r (a_global_path {m = m} {v = w} {k = k} i j) h f e sc =
     let q = segments_complete w k r j h f c.last sc in
     record { last = q.last; reads = link _ (chosen (sees_sep l) true _ _ (at l f e sc) _ (mark_seen false m l k i) (link _ c.reads refl)) (link _ q.reads refl) }
 
-atom_complete : (x : Atom) (l r : Toks) → IsAtom x l r → sees_sep r ≡ false → (f : Option Span) (e : Span) (sc : Scope) → Reads_to atom x l r f e sc
-unfolding atom
-atom_complete x l r (an_atom_lit {x = y} i) h f e sc =
-    let q = lit_complete y l r f e sc i in
-    record { last = q.last; reads = chosen (sees_lit l) true _ _ (at l f e sc) _ (lit_seen y l r i) (link _ q.reads refl) }
-atom_complete x l r (an_atom_path {p = y} i) h f e sc =
-    let q = path_complete y l r i h f e sc in
-    record { last = q.last; reads = chosen (sees_lit l) false _ _ (at l f e sc) _ (path_no_lit y l r i) (link _ q.reads refl) }
+module _ (inner : Reader Atoms) (Inside : Atoms → Toks → Type 0) (content : (w : Atoms) (c : Toks) → Inside w c → (f : Option Span) (e : Span) (sc : Scope) → Reads_to inner w c done f e sc) where
+  group_complete : (b : DelimSpan) (w : Atoms) (c r : Toks) → Inside w c → (f : Option Span) (e : Span) (sc : Scope) → Reads_to (group_by inner) (group_of b w) (group d.Parenthesis b c r) r f e sc
+  group_complete b w c r i f e sc =
+      let u = inside (at (group d.Parenthesis b c r) f e sc) b c r in
+      let q = content w c i u.left u.last u.scope in
+      record { last = b.closing; reads = link _ (reads_inside paren_name inner w b c r (at done u.left q.last u.scope) f e sc q.reads (leaves_none u.left q.last u.scope refl)) refl }
+
+  atom_complete : (x : Atom) (l r : Toks) → IsAtom Inside x l r → sees_sep r ≡ false → (f : Option Span) (e : Span) (sc : Scope) → Reads_to (atom_by (group_by inner)) x l r f e sc
+  atom_complete x l r (an_atom_lit {x = y} i) h f e sc =
+      let q = lit_complete y l r f e sc i in
+      record { last = q.last; reads = chosen (sees_lit l) true _ _ (at l f e sc) _ (lit_seen y l r i) (link _ q.reads refl) }
+  atom_complete x l r (an_atom_path {p = y} i) h f e sc =
+      let q = path_complete y l r i h f e sc in
+      record {
+        last = q.last;
+        reads = chosen (sees_lit l) false _ _ (at l f e sc) _ (path_no_lit y l r i) (chosen (sees_group d.Parenthesis l) false _ _ (at l f e sc) _ (path_no_group y l r i) (link _ q.reads refl));
+      }
+  atom_complete x l r (an_atom_group {s = b} {v = w} {c = c} i) h f e sc =
+      let q = group_complete b w c r i f e sc in
+      record {
+        last = q.last;
+        reads = chosen (sees_lit l) false _ _ (at l f e sc) _ (no_lit-group d.Parenthesis b c r) (chosen (sees_group d.Parenthesis l) true _ _ (at l f e sc) _ (group_there b c r) q.reads);
+      }
 
 plus_no_sep : (m : Plus) (l r : Toks) → IsMark false m l r → sees_sep l ≡ false
 plus_no_sep m l r i = let f = plus_first m l r i in ap sees_sep f.2 ∙ no_mark-other 58 (58 ∷ []) f.0 f.1 (ap (λ c. c == 58) f.3)
 
-sum_complete : (x : Sample) (l : Toks) → IsSum x l done → (f : Option Span) (e : Span) (sc : Scope) → Reads_to sum x l done f e sc
-unfolding sum
+atoms_complete : (n : ℕ) (w : Atoms) (l : Toks) → AreAtoms n w l done → (f : Option Span) (e : Span) (sc : Scope) → Reads_to (atoms_at n) w l done f e sc
+atoms_complete zero w l i f e sc = absurd i
+atoms_complete (suc n) w l i f e sc =
+    let q = joined_complete 20 1 refl short1 (atom_by (group_by (atoms_at n))) (IsAtom (Content n)) (λ z. sees_sep z ≡ false) (λ y m k. atom_complete (atoms_at n) (Content n) (atoms_complete n) y m k) plus_no_sep (atom_size (Content n)) w l done i
+    (no_mark-done 58 (58 ∷ [])) (no_mark-done 43 []) f e sc in
+    record { last = q.last; reads = q.reads }
+
+-- the same in more groups
+atom_weaker : (S T : Atoms → Toks → Type 0) → ((w : Atoms) (c : Toks) → S w c → T w c) → (x : Atom) (l r : Toks) → IsAtom S x l r → IsAtom T x l r
+atom_weaker S T h x l r (an_atom_lit i) = an_atom_lit i
+atom_weaker S T h x l r (an_atom_path i) = an_atom_path i
+atom_weaker S T h x l r (an_atom_group {v = w} {c = c} i) = an_atom_group (h w c i)
+
+one_more : (n : ℕ) (w : Atoms) (l r : Toks) → AreAtoms n w l r → AreAtoms (suc n) w l r
+one_more zero w l r i = absurd i
+one_more (suc n) w l r i = joined_weaker 20 1 (IsAtom (Content n)) (IsAtom (Content (suc n))) (atom_weaker (Content n) (Content (suc n)) (λ v c. one_more n v c done)) w l r i
+
+above : (m n : ℕ) (w : Atoms) (l r : Toks) → AreAtoms n w l r → (k : ℕ) × (m < k) × AreAtoms k w l r
+above zero n w l r i = (suc n, omega arith, one_more n w l r i)
+above (suc m) n w l r i = let h = above m n w l r i in let less = h.1 in (suc h.0, omega (arith, less), one_more h.0 w l r h.2)
+
+sum_complete : (x : Sample) (l : Toks) → IsSum x l → (f : Option Span) (e : Span) (sc : Scope) → Reads_to sum x l done f e sc
+unfolding sum atoms
 sum_complete x l i f e sc =
-    let q = joined_complete 20 1 refl short1 atom IsAtom (λ z. sees_sep z ≡ false) (λ y m k. atom_complete y m k) plus_no_sep atom_size x.atoms l done i (no_mark-done 58 (58 ∷ [])) (no_mark-done 43 []) f e sc in
-    record { last = q.last; reads = link _ q.reads refl }
+    let h = above (groups l) i.0 x.atoms l done i.1 in
+    let q = atoms_complete h.0 x.atoms l h.2 f e sc in
+    record { last = q.last; reads = link _ (any_count (suc (groups l)) h.0 (at l f e sc) (omega arith) h.1 ∙ q.reads) refl }
 
 -- ---- what is printed is spelt
 
@@ -330,12 +392,34 @@ path_again x l r h (a_global_path {m = m} {v = w} {k = k} i j) =
     subst (λ z. IsPath (path_of (Some m) w) z h) (sym (row-append (p.mark m) (lists.joined p.ident p.mark w.0 w.1) h))
     (a_global_path (mark_weaker true m (row (p.mark m) rest) rest (mark_again false m l k rest i)) (segments_again w k r h j))
 
-atom_again : (x : Atom) (l r h : Toks) → IsAtom x l r → IsAtom x (row (printing.atom x) h) h
-atom_again x l r h (an_atom_lit {x = y} i) = an_atom_lit (lit_again y l r h i)
-atom_again x l r h (an_atom_path {p = y} i) = an_atom_path (path_again y l r h i)
+row-group : (b : DelimSpan) (w : Atoms) (h : Toks) → row (printing.atom (group_of b w)) h ≡ group d.Parenthesis b (row (printing.atoms w) done) h
+row-group b w h =
+    ap (λ z. row z h) (prints_group (paren b) w) ∙ visible-tree d.Parenthesis (stream_of_trees (printing.atoms w)) b h tt
+    ∙ ap (λ z. group d.Parenthesis b z h) (stream-trees (printing.atoms w) done)
 
-sum_again : (x : Sample) (l : Toks) → IsSum x l done → IsSum x (row (printing.sum x) done) done
-sum_again x l i = joined_again 20 1 refl short1 atom IsAtom printing.atom atom_again x.atoms l done done i
+atom_again : (S : Atoms → Toks → Type 0) → ((w : Atoms) (c : Toks) → S w c → S w (row (printing.atoms w) done)) → (x : Atom) (l r h : Toks) → IsAtom S x l r → IsAtom S x (row (printing.atom x) h) h
+atom_again S again x l r h (an_atom_lit {x = y} i) = subst (λ z. IsAtom S (a.Lit y) (row z h) h) (sym (prints_lit y)) (an_atom_lit (lit_again y l r h i))
+atom_again S again x l r h (an_atom_path {p = y} i) = subst (λ z. IsAtom S (a.Path y) (row z h) h) (sym (prints_path y)) (an_atom_path (path_again y l r h i))
+atom_again S again x l r h (an_atom_group {s = b} {v = w} {c = c} i) = subst (λ z. IsAtom S (group_of b w) z h) (sym (row-group b w h)) (an_atom_group (again w c i))
+
+atoms_again : (n : ℕ) (w : Atoms) (l : Toks) → AreAtoms n w l done → AreAtoms n w (row (printing.atoms w) done) done
+atoms_again zero w l i = absurd i
+atoms_again (suc n) w l i =
+    joined_again 20 1 refl short1 (atom_by (group_by (atoms_at n))) (IsAtom (Content n)) printing.atom (atom_again (Content n) (λ v c. atoms_again n v c)) w l done done i
+
+sum_again : (x : Sample) (l : Toks) → IsSum x l → IsSum x (row (printing.sum x) done)
+sum_again x l i = (i.0, atoms_again i.0 x.atoms l i.1)
+
+-- no invisible group stands in what is spelt
+atom_whole : (S : Atoms → Toks → Type 0) → ((w : Atoms) (c : Toks) → S w c → Visible c) → (x : Atom) (l r : Toks) → IsAtom S x l r → Visible r → Visible l
+atom_whole S whole x l r (an_atom_lit {x = y} i) h = lit_whole y l r i h
+atom_whole S whole x l r (an_atom_path {p = y} i) h = path_whole y l r i h
+atom_whole S whole x l r (an_atom_group {v = w} {c = c} i) h = (tt, whole w c i, h)
+
+atoms_whole : (n : ℕ) (w : Atoms) (l : Toks) → AreAtoms n w l done → Visible l
+atoms_whole zero w l i = absurd i
+atoms_whole (suc n) w l i =
+    joined_whole 20 1 refl short1 (atom_by (group_by (atoms_at n))) (IsAtom (Content n)) (atom_whole (Content n) (λ v c. atoms_whole n v c)) w l done i tt
 
 -- ---- the tokens as they stand in invisible groups
 
@@ -379,34 +463,13 @@ shown-done (group b s c k) e = cc
 shown-done (enter s k) e = shown-done k e
 shown-done (leave k) e = shown-done k e
 
--- ---- each read goes alike on alike streams
+-- ---- each place's read goes alike on alike streams
 
-module _ (K : Toks → Toks → Type 0) (M : Option Span → Option Span → Type 0) (fronts : (l m : Toks) → K l m → st.Fronts K M (front l) (front m)) where
-  segment_steady : st.Steady K M segment
-  unfolding segment
-  segment_steady = st.choose K M (sees_word is_mod_word) _ _ (st.sees_word_steady K M fronts is_mod_word) (st.word_steady K M fronts any_text ident_name) (st.refuses K M Ident (expected ident_name))
-
-  leading_steady : st.Steady K M leading
-  unfolding leading
-  leading_steady = st.choose K M sees_sep _ _ (st.sees_mark_steady K M fronts (marks.chars_of 1)) (st.bind K M (marks.read 1 2) _ (st.mark_steady K M fronts 1 2) (λ x. st.stays K M (Some x))) (st.stays K M None)
-
-  path_steady : st.Steady K M path
-  unfolding path
-  path_steady =
-      st.bind K M leading _ leading_steady (λ o. st.bind K M (joined_by 1 2 segment) _
-      (st.joined_steady K M (λ b. segment) sees_sep (marks.read 1 2) (λ b. segment_steady) (st.sees_mark_steady K M fronts (marks.chars_of 1)) (st.mark_steady K M fronts 1 2) (λ b. segment-takes) (joint_keeps 1 2) false)
-      (λ w. st.stays K M (path_of o w)))
-
-  atom_steady : st.Steady K M atom
-  unfolding atom
-  atom_steady = st.choose K M sees_lit _ _ (st.sees_lit_steady K M fronts) (st.bind K M read_lit _ (st.lit_steady K M fronts) (λ x. st.stays K M (a.Lit x))) (st.bind K M path _ path_steady (λ x. st.stays K M (a.Path x)))
-
+module _ (K : Toks → Toks → Type 0) (M : Option Span → Option Span → Type 0) (fronts : (l m : Toks) → K l m → st.Fronts K M (front l) (front m))
+    (both : (f : Option Span) → M f f) (joins : (f g h i : Option Span) → M f g → M h i → M (first_of f h) (first_of g i)) (counts : (l m : Toks) → K l m → groups l ≡ groups m) where
   sum_steady : st.Steady K M sum
   unfolding sum
-  sum_steady =
-      st.bind K M (joined_by 20 1 atom) _
-      (st.joined_steady K M (λ b. atom) (sees_mark (marks.chars_of 20)) (marks.read 20 1) (λ b. atom_steady) (st.sees_mark_steady K M fronts (marks.chars_of 20)) (st.mark_steady K M fronts 20 1) (λ b. atom-takes) (joint_keeps 20 1) false)
-      (λ w. st.stays K M (sum_of w))
+  sum_steady = st.bind K M atoms _ (atoms_steady K M fronts both joins counts) (λ w. st.stays K M (sum_of w))
 
   value_steady : st.Steady K M value
   unfolding value
@@ -421,21 +484,6 @@ module _ (K : Toks → Toks → Type 0) (M : Option Span → Option Span → Typ
 
 -- ---- the same tokens
 
-abbrev Any : Option Span → Option Span → Type 0
-Any f g = Unit {0}
-
-abbrev Equal : Toks → Toks → Type 0
-Equal l m = l ≡ m
-
-fronts_same : (l : Toks) → st.Fronts Equal Any (front l) (front l)
-fronts_same done = st.both_done
-fronts_same (word i k) = st.both_word refl
-fronts_same (mark x k) = st.both_mark refl
-fronts_same (lit x k) = st.both_lit refl
-fronts_same (group b s c k) = st.both_group
-fronts_same (enter s k) = fronts_same k
-fronts_same (leave k) = fronts_same k
-
 same_outcome : (o u : Outcome Sample) → st.Same Equal Any o u → SameOutcome o u
 same_outcome (Ok x) (Ok y) h = (h.0, h.1.rest)
 same_outcome (Ok x) (Err e) h = absurd h
@@ -445,7 +493,7 @@ same_outcome (Err e) (Err f) h = tt
 pub steady : (q : Place) (s t : Stream) → s.rest ≡ t.rest → SameOutcome (at_place q s) (at_place q t)
 steady q s t e =
     same_outcome (at_place q s) (at_place q t)
-    (place_steady Equal Any (λ l m k. subst (λ z. st.Fronts Equal Any (front l) (front z)) k (fronts_same l)) q s t (record { rest = e; left = tt }))
+    (place_steady Equal Any (λ l m k. subst (λ z. st.Fronts Equal Any (front l) (front z)) k (fronts_equal Any l)) (λ f. tt) (λ f g h i y z. tt) (λ l m k. ap groups k) q s t (record { rest = e; left = tt }))
 
 -- ---- the tokens as they stand in invisible groups
 
@@ -455,12 +503,18 @@ Shown l m = shown l ≡ m
 abbrev Kept : Option Span → Option Span → Type 0
 Kept f g = f ≡ g
 
+group_shown : (b : Delimiter) (s : DelimSpan) (c k : Toks) → st.Fronts Shown Kept (group b s c k) (group (seen_delimiter b) s (shown c) (shown k))
+group_shown d.Parenthesis s c k = st.both_paren refl refl
+group_shown d.Brace s c k = st.both_other refl refl
+group_shown d.Bracket s c k = st.both_other refl refl
+group_shown d.None s c k = st.both_other refl refl
+
 fronts_shown : (l : Toks) → st.Fronts Shown Kept (front l) (front (shown l))
 fronts_shown done = st.both_done
 fronts_shown (word i k) = st.both_word refl
 fronts_shown (mark x k) = st.both_mark refl
 fronts_shown (lit x k) = st.both_lit refl
-fronts_shown (group b s c k) = st.both_group
+fronts_shown (group b s c k) = group_shown b s c k
 fronts_shown (enter s k) = fronts_shown k
 fronts_shown (leave k) = fronts_shown k
 
@@ -470,8 +524,21 @@ fronts_at l m k = subst (λ z. st.Fronts Shown Kept (front l) (front z)) k (fron
 abbrev unveiled : Stream → Stream
 unveiled s = at (shown s.rest) s.left s.last s.scope
 
+kept_both : (f g h i : Option Span) → Kept f g → Kept h i → Kept (first_of f h) (first_of g i)
+kept_both f g h i k e = ap (λ z. first_of z h) k ∙ ap (first_of g) e
+
+groups-shown : (l : Toks) → groups (shown l) ≡ groups l
+groups-shown done = refl
+groups-shown (word i k) = groups-shown k
+groups-shown (mark x k) = groups-shown k
+groups-shown (lit x k) = groups-shown k
+groups-shown (group b s c k) = ap (λ z. suc (z + groups (shown k))) (groups-shown c) ∙ ap (λ z. suc (groups c + z)) (groups-shown k)
+groups-shown (enter s k) = groups-shown k
+groups-shown (leave k) = groups-shown k
+
 alike : (s : Stream) → st.Same Shown Kept (sum s) (sum (unveiled s))
-alike s = sum_steady Shown Kept fronts_at s (unveiled s) (record { rest = refl; left = refl })
+alike s =
+    sum_steady Shown Kept fronts_at (λ f. refl) kept_both (λ l m k. sym (groups-shown l) ∙ ap groups k) s (unveiled s) (record { rest = refl; left = refl })
 
 record Told (o : Outcome Sample) (x : Sample) (t : Stream) : Type 0 where
   end : Stream
@@ -508,11 +575,20 @@ nothing_left (Some y) false x e = cc
 over : (t : Stream) → leaves t ≡ None → is_done t.rest ≡ true
 over t e = nothing_left t.left (is_done t.rest) (here t) e
 
-sum_spells : (s t : Stream) (x : Sample) → sum s ≡ Ok (x, t) → leaves t ≡ None → IsSum x (shown s.rest) done
+sum_was : (s t : Stream) (x : Sample) → sum s ≡ Ok (x, t) → atoms s ≡ Ok (x.atoms, t)
+unfolding sum
+sum_was s t x e = let q = mapped (atoms s) sum_of x t e in subst (λ (z : Sample). atoms s ≡ Ok (z.atoms, t)) q.is q.was
+
+sum_sound : (s t : Stream) (x : Sample) → Visible s.rest → sum s ≡ Ok (x, t) → Clean t.left → AreAtoms (suc (groups s.rest)) x.atoms s.rest t.rest
+unfolding atoms
+sum_sound s t x h e c = (atoms_sound (suc (groups s.rest)) s t x.atoms h (sum_was s t x e) c).1
+
+sum_spells : (s t : Stream) (x : Sample) → sum s ≡ Ok (x, t) → leaves t ≡ None → IsSum x (shown s.rest)
 sum_spells s t x e h =
     let y = forth (sum s) (sum (unveiled s)) x t e (alike s) in
-    let i = sum_sound (unveiled s) y.end x (shown-visible s.rest) y.was in
-    subst (λ z. IsSum x (shown s.rest) z) (sym y.like.rest ∙ shown-done t.rest (over t h)) i
+    let f = first-none t.left (left_here t) h in
+    let i = sum_sound (unveiled s) y.end x (shown-visible s.rest) y.was (sym y.like.left ∙ f.0) in
+    (suc (groups (shown s.rest)), subst (λ z. AreAtoms (suc (groups (shown s.rest))) x.atoms (shown s.rest) z) (sym y.like.rest ∙ shown-done t.rest (over t h)) i)
 
 value_was : (s t : Stream) (x : Sample) → value s ≡ Ok (x, t) → (sum s ≡ Ok (x, t)) × ((lone x.atoms.0 && is_done t.rest) ≡ false)
 unfolding value
@@ -543,7 +619,7 @@ shown_over : (t : Stream) → shown t.rest ≡ done → is_done t.rest ≡ true
 unfolding is_done
 shown_over t e = st.done_steady Shown Kept fronts_at t.rest done e
 
-sum_read : (s : Stream) (x : Sample) → IsSum x (shown s.rest) done → (t : Stream) × (sum s ≡ Ok (x, t)) × UsesUp s t
+sum_read : (s : Stream) (x : Sample) → IsSum x (shown s.rest) → (t : Stream) × (sum s ≡ Ok (x, t)) × UsesUp s t
 sum_read s x i =
     let q = sum_complete x (shown s.rest) i s.left s.last s.scope in
     let y = back (sum s) (sum (unveiled s)) x (at done s.left q.last s.scope) q.reads (alike s) in
@@ -561,11 +637,11 @@ complete Block s x i = absurd i
 
 -- ---- reprint
 
-sum_visible : (x : Sample) (l : Toks) → IsSum x l done → Visible (row (printing.sum x) done)
-sum_visible x l i = joined_whole 20 1 refl short1 atom IsAtom atom_whole x.atoms (row (printing.sum x) done) done (sum_again x l i) tt
+sum_visible : (x : Sample) (l : Toks) → IsSum x l → Visible (row (printing.sum x) done)
+sum_visible x l i = atoms_whole i.0 x.atoms (row (printing.sum x) done) (atoms_again i.0 x.atoms l i.1)
 
-sum_reprint : (x : Sample) (l : Toks) → IsSum x l done → IsSum x (shown (row (printing.sum x) done)) done
-sum_reprint x l i = subst (λ z. IsSum x z done) (sym (shown-same (row (printing.sum x) done) (sum_visible x l i))) (sum_again x l i)
+sum_reprint : (x : Sample) (l : Toks) → IsSum x l → IsSum x (shown (row (printing.sum x) done))
+sum_reprint x l i = subst (λ z. IsSum x z) (sym (shown-same (row (printing.sum x) done) (sum_visible x l i))) (sum_again x l i)
 
 pub reprint : (q : Place) (x : Sample) (l : Toks) → spells q x l → Reprints (spells q) (λ z. z) printing.sum x l
 reprint ArrayLen x l i = record { again = sum_reprint x (shown l) i; same = refl; visible = λ v. sum_visible x (shown l) i }
@@ -584,14 +660,16 @@ number_alike x y st.both_done = refl
 number_alike x y (st.both_word q) = refl
 number_alike x y (st.both_mark q) = refl
 number_alike x y (st.both_lit {x = w} {k = k} {n = n} q) = ap (λ b. is_number w.kind && b) (st.done_steady Shown Kept fronts_at k n q)
-number_alike x y st.both_group = refl
+number_alike x y (st.both_paren q w) = refl
+number_alike x y (st.both_other q w) = refl
 
 lone_alike : (x y : Toks) → st.Fronts Shown Kept x y → lone_literal x ≡ lone_literal y
 lone_alike x y st.both_done = refl
 lone_alike x y (st.both_word {i = i} {k = k} {n = n} q) = ap (λ b. is_truth i.text && b) (st.done_steady Shown Kept fronts_at k n q)
 lone_alike x y (st.both_mark {p = m} {k = k} {n = n} q) = ap (λ b. if m.ch == 45 then b else false) (number_alike (front k) (front n) (fronts_at k n q))
 lone_alike x y (st.both_lit {k = k} {n = n} q) = st.done_steady Shown Kept fronts_at k n q
-lone_alike x y st.both_group = refl
+lone_alike x y (st.both_paren q w) = refl
+lone_alike x y (st.both_other q w) = refl
 
 -- no `#` stands there
 abbrev NoPound : Toks → Type 0
@@ -608,7 +686,8 @@ no_attribute x y st.both_done h = refl
 no_attribute x y (st.both_word q) h = refl
 no_attribute x y (st.both_mark {k = k} q) h = ap (λ b. if b then sees_group d.Bracket k else false) h
 no_attribute x y (st.both_lit q) h = refl
-no_attribute x y st.both_group h = refl
+no_attribute x y (st.both_paren q w) h = refl
+no_attribute x y (st.both_other q w) h = refl
 
 not_true : (i : Ident) → is_mod_word i.text ≡ true → is_truth i.text ≡ false
 not_true i h = ap (λ b. b || bytes_eq i.text lits.false_text) (other_word i.text lits.true_text h true_no_word) ∙ other_word i.text lits.false_text h false_no_word
@@ -630,18 +709,23 @@ plus_there : (m : Plus) (l r : Toks) → IsMark false m l r → is_done l ≡ fa
 unfolding is_done
 plus_there m l r i = let f = plus_first m l r i in ap is_done f.2
 
-atom_apart : (x : Atom) (l r : Toks) → IsAtom x l r → (is_lit x ≡ false) ⊎ (is_done r ≡ false) → (lone_literal (front l) ≡ false) × NoPound (front l)
-atom_apart x l r (an_atom_lit {x = y} i) (inl h) = cc
-atom_apart x l r (an_atom_lit {x = y} i) (inr h) = lit_apart y l r i h
-atom_apart x l r (an_atom_path {p = y} i) h = path_apart y l r i
+atom_apart : (S : Atoms → Toks → Type 0) (x : Atom) (l r : Toks) → IsAtom S x l r → (is_lit x ≡ false) ⊎ (is_done r ≡ false) → (lone_literal (front l) ≡ false) × NoPound (front l)
+atom_apart S x l r (an_atom_lit {x = y} i) (inl h) = absurd (true_false (sym (lit-is_lit y) ∙ h))
+atom_apart S x l r (an_atom_lit {x = y} i) (inr h) = lit_apart y l r i h
+atom_apart S x l r (an_atom_path {p = y} i) h = path_apart y l r i
+atom_apart S x l r (an_atom_group i) h = (refl, tt)
 
-sum_apart : (xs : List Atom) (ps : List Plus) (l : Toks) → AreListed (λ b. IsAtom) (IsMark false) Nowhere false xs ps l done → lone xs ≡ false → (lone_literal (front l) ≡ false) × NoPound (front l)
-sum_apart xs ps l (none_left may) h = absurd may
-sum_apart xs ps l (last_value {x = x} q) h = atom_apart x l done q (inl h)
-sum_apart xs ps l (value_and_mark {x = x} {p = m} {m = k} {k = n} q i j) h = atom_apart x l k q (inr (plus_there m k n i))
+sum_apart : (S : Atoms → Toks → Type 0) (xs : List Atom) (ps : List Plus) (l : Toks) → AreListed (λ b. IsAtom S) (IsMark false) Nowhere false xs ps l done → lone xs ≡ false → (lone_literal (front l) ≡ false) × NoPound (front l)
+sum_apart S xs ps l (none_left may) h = absurd may
+sum_apart S xs ps l (last_value {x = x} q) h = atom_apart S x l done q (inl h)
+sum_apart S xs ps l (value_and_mark {x = x} {p = m} {m = k} {k = n} q i j) h = atom_apart S x l k q (inr (plus_there m k n i))
+
+atoms_apart : (n : ℕ) (w : Atoms) (l : Toks) → AreAtoms n w l done → lone w.0 ≡ false → (lone_literal (front l) ≡ false) × NoPound (front l)
+atoms_apart zero w l i h = absurd i
+atoms_apart (suc n) w l i h = sum_apart (Content n) w.0 w.1 l i h
 
 pub apart : (x : Sample) (l : Toks) → spells Value x l → IsApart l
 apart x l i =
-    let h = sum_apart x.atoms.0 x.atoms.1 (shown l) i.0 i.1 in
+    let h = atoms_apart i.0.0 x.atoms (shown l) i.0.1 i.1 in
     let f = fronts_shown l in
     record { literal = lone_alike (front l) (front (shown l)) f ∙ h.0; attribute = no_attribute (front l) (front (shown l)) f h.1 }

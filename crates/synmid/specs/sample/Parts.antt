@@ -1,10 +1,17 @@
 -- The sample's trees by their parts.
-use Rattle.std.specs.Prelude.{◌≡◌, Bool, true, false, List, [], ◌∷◌, Option, Some, None, slice_get, refl}
+use Rattle.std.specs.Prelude.{◌≡◌, ℕ, suc, ◌+◌, Bool, true, false, List, [], ◌∷◌, Option, Some, None, slice_get, refl}
+use Rattle.std.proofs.Common.{ap}
+use Rattle.token_core.specs.declared.span.DelimSpan.{DelimSpan}
+use Rattle.token_core.specs.declared.token.Paren.{Paren}
+use Rattle.token_core.specs.declared.lit.Lit.{Lit}
 use Rattle.token_core.specs.declared.mark.Mark.{Mark}
 use Rattle.token_core.specs.declared.tree.Ident.{Ident}
+use Rattle.token_core.specs.Toks.{Toks, done, word, mark, lit, group, enter, leave}
+use Rattle.token_core.specs.Groups.{paren}
 use Rattle.token_core.specs.Loops.{Many}
 use Rattle.synmid.specs.declared.sample.Sample.{Sample}
-use Rattle.synmid.specs.declared.sample.Atom.{Atom}
+use Rattle.synmid.specs.declared.sample.Atom.{Atom, out-Atom}
+use Rattle.synmid.specs.declared.sample.Atom.TheOpen as o
 use Rattle.synmid.specs.declared.sample.Atom.TheVariants as a
 use Rattle.synmid.specs.declared.sample.ModPath.{ModPath}
 
@@ -18,12 +25,37 @@ Plus = Mark 20 1
 abbrev pub path_of : Option Sep → Many Ident Sep → ModPath
 path_of o v = record { leading_colon = o; segments = v }
 
-abbrev pub sum_of : Many Atom Plus → Sample
+-- atoms with their `+`
+abbrev pub Atoms : Type 0
+Atoms = Many Atom Plus
+
+-- atoms in parentheses
+abbrev pub group_of : DelimSpan → Atoms → Atom
+group_of s v = a.Group (paren s) v
+
+abbrev pub sum_of : Atoms → Sample
 sum_of v = record { atoms = v }
 
+-- ---- a literal
+
+abbrev pub layer_is_lit : o.Atom-F Atom → Bool
+layer_is_lit (o.Lit x) = true
+layer_is_lit (o.Path p) = false
+layer_is_lit (o.Group t v) = false
+
 abbrev pub is_lit : Atom → Bool
-is_lit (a.Lit x) = true
-is_lit (a.Path p) = false
+is_lit x = layer_is_lit (out-Atom x)
+
+pub lit-is_lit : (x : Lit) → is_lit (a.Lit x) ≡ true
+lit-is_lit x = ap layer_is_lit (a.outs-Lit x)
+
+pub path-is_lit : (p : ModPath) → is_lit (a.Path p) ≡ false
+path-is_lit p = ap layer_is_lit (a.outs-Path p)
+
+pub group-is_lit : (t : Paren) (v : Atoms) → is_lit (a.Group t v) ≡ false
+group-is_lit t v = ap layer_is_lit (a.outs-Group t v)
+
+pub ruleset kinds = (lit-is_lit, path-is_lit, group-is_lit)
 
 -- no `+`, and a literal
 abbrev pub lone : List Atom → Bool
@@ -43,3 +75,15 @@ lone-first (x ∷ []) = refl
 lone-first (x ∷ y ∷ l) = refl
 
 pub ruleset firsts = (lone-first)
+
+-- ---- tokens
+
+-- how many groups there are, at any depth
+abbrev pub groups : Toks → ℕ
+groups done = 0
+groups (word i k) = groups k
+groups (mark p k) = groups k
+groups (lit x k) = groups k
+groups (group d s c k) = suc (groups c + groups k)
+groups (enter s k) = groups k
+groups (leave k) = groups k

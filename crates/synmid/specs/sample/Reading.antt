@@ -1,9 +1,12 @@
 -- The reads of the sample, as functions of the stream.
-use Rattle.std.specs.Prelude.{ℕ, Bool, false, ◌&&◌, Option, Err, if◌then◌else◌, codes}
+use Rattle.std.specs.Prelude.{ℕ, zero, suc, Bool, false, ◌&&◌, Option, Err, if◌then◌else◌, codes}
+use Rattle.token_core.specs.declared.error.ErrorKind.TheVariants.{Unexpected}
 use Rattle.token_core.specs.declared.mark.Mark.{Mark}
+use Rattle.token_core.specs.declared.tree.Delimiter.TheVariants.{Parenthesis}
 use Rattle.token_core.specs.declared.tree.Ident.{Ident}
 use Rattle.token_core.specs.Toks.{Toks}
-use Rattle.token_core.specs.Reads.{Reader, ◌>>=◌, ◌<$>◌, pure, peek, optional, expected, is_done, sees_mark, sees_word, read_word, any_text, ident_name}
+use Rattle.token_core.specs.Reads.{Reader, ◌>>=◌, ◌<$>◌, pure, peek, optional, refuse, expected, is_done, sees_mark, sees_word, sees_group, in_group, read_word, any_text, ident_name}
+use Rattle.token_core.specs.Groups.{paren_name}
 use Rattle.token_core.specs.Marks as marks
 use Rattle.token_core.specs.Lits.{sees_lit, read_lit}
 use Rattle.token_core.specs.Loops.{Many, joined}
@@ -14,7 +17,7 @@ use Rattle.synmid.specs.declared.sample.Sample.{Sample}
 use Rattle.synmid.specs.declared.sample.Atom.{Atom}
 use Rattle.synmid.specs.declared.sample.Atom.TheVariants as a
 use Rattle.synmid.specs.declared.sample.ModPath.{ModPath}
-use Rattle.synmid.specs.sample.Parts.{Sep, path_of, sum_of, lone}
+use Rattle.synmid.specs.sample.Parts.{Sep, Atoms, path_of, group_of, sum_of, lone, groups}
 
 -- values joined by a mark, at least one; the first is as the others
 abbrev pub joined_by : {A : Type 0} → (n k : ℕ) → Reader A → Reader (Many A (Mark n k))
@@ -39,14 +42,35 @@ path = do
   all ← joined_by 1 2 segment
   pure (path_of colon all)
 
--- a literal, or a path
-unfoldable pub atom : Reader Atom
-atom = do
+-- atoms in parentheses, as they are read there
+abbrev pub group_by : Reader Atoms → Reader Atom
+group_by inside = (λ g. group_of g.0 g.1) <$> in_group Parenthesis paren_name inside
+
+-- a literal, a group, or a path
+abbrev pub atom_by : Reader Atom → Reader Atom
+atom_by in_parens = do
   here ← peek sees_lit
-  if here then a.Lit <$> read_lit else (a.Path <$> path)
+  if here then a.Lit <$> read_lit else (do
+    opens ← peek (sees_group Parenthesis)
+    if opens then in_parens else (a.Path <$> path))
+
+-- atoms joined by `+`, in less than n groups
+abbrev pub atoms_at : ℕ → Reader Atoms
+atoms_at zero = refuse Unexpected
+atoms_at (suc n) = joined_by 20 1 (atom_by (group_by (atoms_at n)))
+
+-- they stand in no more groups than there are
+unfoldable pub atoms : Reader Atoms
+atoms s = atoms_at (suc (groups s.rest)) s
+
+unfoldable pub grouped : Reader Atom
+grouped = group_by atoms
+
+unfoldable pub atom : Reader Atom
+atom = atom_by grouped
 
 unfoldable pub sum : Reader Sample
-sum = sum_of <$> joined_by 20 1 atom
+sum = sum_of <$> atoms
 
 -- not a literal that ends the stream
 unfoldable pub value : Reader Sample

@@ -1,5 +1,6 @@
 -- Which lists the sample's trees spell.
-use Rattle.std.specs.Prelude.{◌≡◌, ℕ, true, false, Some, None}
+use Rattle.std.specs.Prelude.{◌≡◌, ℕ, zero, suc, true, false, Some, None}
+use Rattle.token_core.specs.declared.span.DelimSpan.{DelimSpan}
 use Rattle.token_core.specs.declared.tree.Delimiter.{Delimiter}
 use Rattle.token_core.specs.declared.tree.Delimiter.TheVariants as d
 use Rattle.token_core.specs.declared.tree.Ident.{Ident}
@@ -16,7 +17,7 @@ use Rattle.synmid.specs.declared.sample.Sample.{Sample}
 use Rattle.synmid.specs.declared.sample.Atom.{Atom}
 use Rattle.synmid.specs.declared.sample.Atom.TheVariants as a
 use Rattle.synmid.specs.declared.sample.ModPath.{ModPath}
-use Rattle.synmid.specs.sample.Parts.{Sep, path_of, lone}
+use Rattle.synmid.specs.sample.Parts.{Sep, Atoms, path_of, group_of, lone}
 
 -- ---- the tokens of a list, as they stand in its invisible groups
 
@@ -49,17 +50,26 @@ pub data IsPath : ModPath → Toks → Toks → Type 0 where
   a_path : {v : Many Ident Sep} {l r : Toks} → AreJoined 1 2 IsSegment v l r → IsPath (path_of None v) l r
   a_global_path : {m : Sep} {v : Many Ident Sep} {l k r : Toks} → IsMark false m l k → AreJoined 1 2 IsSegment v k r → IsPath (path_of (Some m) v) l r
 
-pub data IsAtom : Atom → Toks → Toks → Type 0 where
-  an_atom_lit : {x : Lit} {l r : Toks} → IsLit x l r → IsAtom (a.Lit x) l r
-  an_atom_path : {p : ModPath} {l r : Toks} → IsPath p l r → IsAtom (a.Path p) l r
+-- what spells the content of a group is given
+module _ (Inside : Atoms → Toks → Type 0) where
+  pub data IsAtom : Atom → Toks → Toks → Type 0 where
+    an_atom_lit : {x : Lit} {l r : Toks} → IsLit x l r → IsAtom (a.Lit x) l r
+    an_atom_path : {p : ModPath} {l r : Toks} → IsPath p l r → IsAtom (a.Path p) l r
+    an_atom_group : {s : DelimSpan} {v : Atoms} {c r : Toks} → Inside v c → IsAtom (group_of s v) (group d.Parenthesis s c r) r
 
-abbrev pub IsSum : Sample → Toks → Toks → Type 0
-IsSum x l r = AreJoined 20 1 IsAtom x.atoms l r
+-- atoms joined by `+`, in less than n groups
+abbrev pub AreAtoms : ℕ → Atoms → Toks → Toks → Type 0
+AreAtoms zero v l r = ⊥
+AreAtoms (suc n) v l r = AreJoined 20 1 (IsAtom (λ w c. AreAtoms n w c done)) v l r
+
+-- in any number of groups
+abbrev pub IsSum : Sample → Toks → Type 0
+IsSum x l = (n : ℕ) × AreAtoms n x.atoms l done
 
 -- ---- all of a list, by its place
 
 abbrev pub spells : Place → Sample → Toks → Type 0
-spells ArrayLen x l = IsSum x (shown l) done
-spells Value x l = IsSum x (shown l) done × (lone x.atoms.0 ≡ false)
-spells Guard x l = IsSum x (shown l) done
+spells ArrayLen x l = IsSum x (shown l)
+spells Value x l = IsSum x (shown l) × (lone x.atoms.0 ≡ false)
+spells Guard x l = IsSum x (shown l)
 spells Block x l = ⊥

@@ -1,11 +1,12 @@
 -- Reads that go alike on streams whose tokens stand in a relation.
 use Rattle.std.specs.Prelude.{◌≡◌, ℕ, zero, suc, ◌+◌, ◌<◌, ◌≤◌, Bool, true, false, ◌==◌, if◌then◌else◌, List, [], ◌∷◌, Option, Some, None, is_some, Ok, Err, refl}
-use Rattle.std.proofs.Common.{ap, subst, arith}
+use Rattle.std.proofs.Common.{sym, ◌∙◌, ap, subst, arith}
 use Rattle.std.specs.Str.{bytes_eq}
 use Rattle.token_core.specs.declared.span.Span.{Span}
 use Rattle.token_core.specs.declared.span.DelimSpan.{DelimSpan}
 use Rattle.token_core.specs.declared.mark.Spans.{Spans}
 use Rattle.token_core.specs.declared.tree.Delimiter.{Delimiter}
+use Rattle.token_core.specs.declared.tree.Delimiter.TheVariants.{Parenthesis}
 use Rattle.token_core.specs.declared.tree.Ident.{Ident}
 use Rattle.token_core.specs.declared.tree.Punct.{Punct}
 use Rattle.token_core.specs.declared.tree.Literal.{Literal}
@@ -16,19 +17,20 @@ use Rattle.token_core.specs.Front.{front}
 use Rattle.token_core.specs.Refusal.{Refusal}
 use Rattle.token_core.specs.Stream.{Stream}
 use Rattle.token_core.specs.Marks as marks
-use Rattle.token_core.specs.Reads.{Outcome, Reader, and_then, ◌>>=◌, pure, peek, expected, goes_on, past_mark, past_next, put_first, three, is_last, is_joint, as_punct, as_word, as_lit, sees_mark, sees_word, word_meets, is_done, is_end, read_mark, read_word, next_word, word_if, word_past}
+use Rattle.token_core.specs.Reads.{Outcome, Reader, and_then, ◌>>=◌, pure, peek, expected, goes_on, past_mark, past_next, put_first, past, three, is_last, is_joint, as_punct, as_word, as_lit, as_group, sees_mark, sees_word, sees_group, group_meets, same_delimiter, word_meets, is_done, is_end, read_mark, read_word, next_word, word_if, word_past, opened, open_group, inside, in_group, closing, finished, first_of, leaves, left_here, here, span_at}
 use Rattle.token_core.specs.Lits.{sees_lit, read_lit, past_lit, lit_at, past_number, next_lit, lit_bool, negative, is_number, true_text, false_text}
 use Rattle.token_core.specs.Loops.{size, never, listed, listed_from}
 use Rattle.token_core.proofs.Turns.{enough, after_value, after_mark}
 
 module _ (K : Toks → Toks → Type 0) (M : Option Span → Option Span → Type 0) where
-  -- the same token stands at the front of both, or a group of each
+  -- the same token stands at the front of both, or a group in parentheses or in others of each
   pub data Fronts : Toks → Toks → Type 0 where
     both_done : Fronts done done
     both_word : {i : Ident} {k n : Toks} → K k n → Fronts (word i k) (word i n)
     both_mark : {p : Punct} {k n : Toks} → K k n → Fronts (mark p k) (mark p n)
     both_lit : {x : Literal} {k n : Toks} → K k n → Fronts (lit x k) (lit x n)
-    both_group : {b d : Delimiter} {s t : DelimSpan} {c e k n : Toks} → Fronts (group b s c k) (group d t e n)
+    both_paren : {s : DelimSpan} {c e k n : Toks} → K c e → K k n → Fronts (group Parenthesis s c k) (group Parenthesis s e n)
+    both_other : {b w : Delimiter} {s : DelimSpan} {c e k n : Toks} → same_delimiter b Parenthesis ≡ false → same_delimiter w Parenthesis ≡ false → Fronts (group b s c k) (group w s e n)
 
   abbrev pub OnRest : {A : Type 0} → Option (A × Toks) → Option (A × Toks) → Type 0
   OnRest None None = Unit {0}
@@ -76,7 +78,7 @@ module _ (K : Toks → Toks → Type 0) (M : Option Span → Option Span → Typ
   if_at false true p q s t e k a b = absurd (cc)
   if_at false false p q s t e k a b = b s t k
 
-  pub choose : {A : Type 0} (test : Toks → Bool) (p q : Reader A) → SteadyTest test → Steady p → Steady q → Steady (peek test >>= (λ here. if here then p else q))
+  pub choose : {A : Type 0} (test : Toks → Bool) (p q : Reader A) → SteadyTest test → Steady p → Steady q → Steady (peek test >>= (λ b. if b then p else q))
   choose test p q h a b s t k = if_at (test s.rest) (test t.rest) p q s t (h s.rest t.rest k.rest) k a b
 
   went_at : {A : Type 0} (end : A → Span) (e f : Refusal) (s t : Stream) (o u : Option (A × Toks)) → Alike s t → OnRest o u → Same (goes_on end e s o) (goes_on end f t u)
@@ -114,7 +116,8 @@ module _ (K : Toks → Toks → Type 0) (M : Option Span → Option Span → Typ
   next_at c true f h x y (both_mark {p = p} {k = k} {n = n} q) = char_at (p.ch == c) (three p.span p.span p.span) k n q
   next_at c false f h x y (both_mark {p = p} {k = k} {n = n} q) = more_at (p.ch == c) (is_joint p.spacing) p.span (f k) (f n) (h k n q)
   next_at c last f h x y (both_lit q) = tt
-  next_at c last f h x y both_group = tt
+  next_at c last f h x y (both_paren q w) = tt
+  next_at c last f h x y (both_other q w) = tt
 
   -- ---- a word
 
@@ -127,21 +130,24 @@ module _ (K : Toks → Toks → Type 0) (M : Option Span → Option Span → Typ
       by_test false = tt
   word_at test e f s t x y k (both_mark q) = tt
   word_at test e f s t x y k (both_lit q) = tt
-  word_at test e f s t x y k both_group = tt
+  word_at test e f s t x y k (both_paren q w) = tt
+  word_at test e f s t x y k (both_other q w) = tt
 
   meets_at : (test : Bytes → Bool) (x y : Toks) → Fronts x y → word_meets test (as_word x) ≡ word_meets test (as_word y)
   meets_at test x y both_done = refl
   meets_at test x y (both_word q) = refl
   meets_at test x y (both_mark q) = refl
   meets_at test x y (both_lit q) = refl
-  meets_at test x y both_group = refl
+  meets_at test x y (both_paren q w) = refl
+  meets_at test x y (both_other q w) = refl
 
   done_at : (x y : Toks) → Fronts x y → is_end x ≡ is_end y
   done_at x y both_done = refl
   done_at x y (both_word q) = refl
   done_at x y (both_mark q) = refl
   done_at x y (both_lit q) = refl
-  done_at x y both_group = refl
+  done_at x y (both_paren q w) = refl
+  done_at x y (both_other q w) = refl
 
   -- ---- a literal
 
@@ -159,7 +165,8 @@ module _ (K : Toks → Toks → Type 0) (M : Option Span → Option Span → Typ
   number_at a x y (both_word q) = tt
   number_at a x y (both_mark q) = tt
   number_at a x y (both_lit {x = w} {k = k} {n = n} q) = number_if (is_number w.kind) (v.Negative (negative a w)) k n q
-  number_at a x y both_group = tt
+  number_at a x y (both_paren q w) = tt
+  number_at a x y (both_other q w) = tt
 
   minus_at : (b : Bool) (o u : Option (Lit × Toks)) → OnRest o u → OnRest (if b then o else None) (if b then u else None)
   minus_at true o u h = h
@@ -198,7 +205,8 @@ module _ (K : Toks → Toks → Type 0) (M : Option Span → Option Span → Typ
     literal_at x y (both_word {i = i} {k = k} {n = n} q) = bool_at (bytes_eq i.text true_text) (bytes_eq i.text false_text) (v.Bool (lit_bool true i.span)) (v.Bool (lit_bool false i.span)) k n q
     literal_at x y (both_mark {p = p} {k = k} {n = n} q) = minus_at (p.ch == 45) (past_number p.span (next_lit k)) (past_number p.span (next_lit n)) (number_at p.span (front k) (front n) (fronts k n q))
     literal_at x y (both_lit q) = (refl, q)
-    literal_at x y both_group = tt
+    literal_at x y (both_paren q w) = tt
+    literal_at x y (both_other q w) = tt
 
     pub lit_steady : Steady read_lit
     unfolding read_lit
@@ -207,6 +215,69 @@ module _ (K : Toks → Toks → Type 0) (M : Option Span → Option Span → Typ
     pub sees_lit_steady : SteadyTest sees_lit
     unfolding sees_lit
     sees_lit_steady l m k = is_some_same (past_lit l) (past_lit m) (literal_at (front l) (front m) (fronts l m k))
+
+    -- ---- a group
+
+    meets_group_at : (x y : Toks) → Fronts x y → group_meets Parenthesis (as_group x) ≡ group_meets Parenthesis (as_group y)
+    meets_group_at x y both_done = refl
+    meets_group_at x y (both_word q) = refl
+    meets_group_at x y (both_mark q) = refl
+    meets_group_at x y (both_lit q) = refl
+    meets_group_at x y (both_paren q w) = refl
+    meets_group_at x y (both_other q w) = q ∙ sym w
+
+    pub sees_group_steady : SteadyTest (sees_group Parenthesis)
+    unfolding sees_group
+    sees_group_steady l m k = meets_group_at (front l) (front m) (fronts l m k)
+
+    here_at : (x y : Toks) (a b : Span) → Fronts x y → ◌≡◌ {A = Option Span} (if is_end x then None else Some (span_at x a)) (if is_end y then None else Some (span_at y b))
+    here_at x y a b both_done = refl
+    here_at x y a b (both_word q) = refl
+    here_at x y a b (both_mark q) = refl
+    here_at x y a b (both_lit q) = refl
+    here_at x y a b (both_paren q w) = refl
+    here_at x y a b (both_other q w) = refl
+
+    left_here_same : (s t : Stream) → Alike s t → left_here s ≡ left_here t
+    unfolding is_done here
+    left_here_same s t k = here_at (front s.rest) (front t.rest) s.scope.at t.scope.at (fronts s.rest t.rest k.rest)
+
+    -- what is left over in a group is handed on alike
+    module _ (both : (f : Option Span) → M f f) (joins : (a b c e : Option Span) → M a b → M c e → M (first_of a c) (first_of b e)) where
+      leaves_alike : (s t : Stream) → Alike s t → M (leaves s) (leaves t)
+      leaves_alike s t k = joins s.left t.left (left_here s) (left_here t) k.left (subst (M (left_here s)) (left_here_same s t k) (both (left_here s)))
+
+      closed_at : {A : Type 0} (g : DelimSpan) (s t : Stream) (o u : Outcome A) → Alike s t → Same o u → Same (closing g s o) (closing g t u)
+      unfolding finished
+      closed_at g s t (Ok p) (Ok q) k h = (ap (λ z. (g, z)) h.0, record { rest = k.rest; left = joins s.left t.left (leaves p.1) (leaves q.1) k.left (leaves_alike p.1 q.1 h.1) })
+      closed_at g s t (Ok p) (Err e) k h = absurd h
+      closed_at g s t (Err e) (Ok q) k h = absurd h
+      closed_at g s t (Err e) (Err f) k h = tt
+
+      module _ {A : Type 0} (p : Reader A) (steady : Steady p) where
+        abbrev within : DelimSpan × Stream → Reader (DelimSpan × A)
+        within g = λ u. closing g.0 u (p g.1)
+
+        other_at : (x y : Bool) (e f : Refusal) (a b : (DelimSpan × Stream) × Stream) → x ≡ false → y ≡ false → Same (and_then (if x then Ok a else Err e) within) (and_then (if y then Ok b else Err f) within)
+        other_at false false e f a b h k = tt
+        other_at false true e f a b h k = absurd (cc)
+        other_at true y e f a b h k = absurd (cc)
+
+        inside_at : (s t : Stream) (e f : Refusal) (x y : Toks) → Alike s t → Fronts x y → Same (and_then (opened Parenthesis e s (as_group x)) within) (and_then (opened Parenthesis f t (as_group y)) within)
+        inside_at s t e f x y k both_done = tt
+        inside_at s t e f x y k (both_word q) = tt
+        inside_at s t e f x y k (both_mark q) = tt
+        inside_at s t e f x y k (both_lit q) = tt
+        inside_at s t e f x y k (both_paren {s = b} {c = c} {e = d} {k = l} {n = m} q w) =
+            let i = inside s b c l in
+            let j = inside t b d m in
+            closed_at b (past s l b.closing) (past t m b.closing) (p i) (p j) (record { rest = w; left = k.left }) (steady i j (record { rest = q; left = both None }))
+        inside_at s t e f x y k (both_other {b = a} {w = z} {s = b} {c = c} {e = d} {k = l} {n = m} q w) =
+            other_at (same_delimiter a Parenthesis) (same_delimiter z Parenthesis) e f ((b, inside s b c l), past s l b.closing) ((b, inside t b d m), past t m b.closing) q w
+
+        pub inside_steady : (name : Bytes) → Steady (in_group Parenthesis name p)
+        unfolding open_group
+        inside_steady name s t k = inside_at s t (expected name s) (expected name t) (front s.rest) (front t.rest) k (fronts s.rest t.rest k.rest)
 
   -- ---- values joined by marks
 

@@ -2,7 +2,7 @@ use Rattle.std.proofs.Common.{◌≡◌, ◌<◌, ◌≤◌, true, false, ◌++�
 use Rattle.std.proofs.lemmas.Grind.{common_steps}
 use Rattle.token_core.specs.Loops.{size, after, is_first}
 use Rattle.token_core.proofs.Suffixes.{follows}
-use Rattle.syn_mid.specs.path.Reading.{bare_segments, sep, sees_sep}
+use Rattle.syn_mid.specs.path.Reading.{bare_segments, sep, goes_on}
 use Rattle.syn_mid.proofs.path_laws.Turns.{turn_refused, turn_last, turn_stuck, turn_on, is_first-is, is_first-more, segment_takes, sep_keeps, refused_by, stuck_by}
 use Rattle.syn_mid.proofs.path.parse_bare_segments.Goals as goal
 
@@ -15,10 +15,10 @@ returns-in_err-segment-clause-reads g c =
     refused_by _ _ _ _ _ _ e was back c.parse_bare_segment.ensures.reads
     (λ h. c.turn.invariant.told ∙ ap (λ b. after c.turn.segments (bare_segments c.args.style b c.turn.input)) (sym f) ∙ turn_refused c.args.style c.turn.segments c.is_empty.result c.turn.input e h)
 
-pub returns-then-not-peek-clause-reads : goal.returns-then-not-peek-clause-reads
-returns-then-not-peek-clause-reads g c =
+pub returns-then-not-goes_on-clause-reads : goal.returns-then-not-goes_on-clause-reads
+returns-then-not-goes_on-clause-reads g c =
     let f = is_first-is c.turn.segments c.is_empty.result c.is_empty.ensures in
-    let p : sees_sep c.parse_bare_segment.new.input.rest ≡ false = first_of (search rules, grind (arith, common_steps)) in
+    let p : goes_on c.args.style c.parse_bare_segment.new.input.rest ≡ false = first_of (search rules, grind (arith, common_steps)) in
     let v : c.push_value.new.self ≡ (c.turn.segments.0 ++ c.in_ok-segment.segment ∷ [], c.turn.segments.1) = first_of (search rules, grind (arith, common_steps)) in
     c.turn.invariant.told ∙ ap (λ b. after c.turn.segments (bare_segments c.args.style b c.turn.input)) (sym f)
     ∙ turn_last c.args.style c.turn.segments c.is_empty.result c.turn.input c.parse_bare_segment.new.input c.in_ok-segment.segment c.in_ok-segment.ensures.reads p
@@ -27,7 +27,7 @@ returns-then-not-peek-clause-reads g c =
 pub returns-in_err-parse-clause-reads : goal.returns-in_err-parse-clause-reads
 returns-in_err-parse-clause-reads g c =
     let f = is_first-is c.turn.segments c.is_empty.result c.is_empty.ensures in
-    let p : sees_sep c.parse_bare_segment.new.input.rest ≡ true = first_of (search rules, grind (arith, common_steps)) in
+    let p : goes_on c.args.style c.parse_bare_segment.new.input.rest ≡ true = first_of (search rules, grind (arith, common_steps)) in
     let e = c.in_err-parse.field-0.0 in
     let back : c.from_residual-in_err-parse.result ≡ Err e = first_of (search rules, grind (arith, common_steps)) in
     stuck_by (sep c.parse_bare_segment.new.input) _ _ _ e back c.in_err-parse.ensures.reads
@@ -43,7 +43,7 @@ turn-smaller g c =
 pub turn-preserved : goal.turn-preserved
 turn-preserved g c =
     let f = is_first-is c.turn.segments c.is_empty.result c.is_empty.ensures in
-    let p : sees_sep c.parse_bare_segment.new.input.rest ≡ true = first_of (search rules, grind (arith, common_steps)) in
+    let p : goes_on c.args.style c.parse_bare_segment.new.input.rest ≡ true = first_of (search rules, grind (arith, common_steps)) in
     let v : c.push_punct.new.self ≡ (c.turn.segments.0 ++ c.in_ok-segment.segment ∷ [], c.turn.segments.1 ++ c.in_ok-parse.field-0 ∷ []) = first_of (search rules, grind (arith, common_steps)) in
     let m = is_first-more c.turn.segments.0 c.in_ok-segment.segment (c.turn.segments.1 ++ c.in_ok-parse.field-0 ∷ []) in
     record {

@@ -1,0 +1,59 @@
+-- The elements of a tuple after the first one, turn by turn.
+use Rattle.std.proofs.Common.{◌≡◌, ◌<◌, ◌≤◌, Bool, true, false, not, [], ◌∷◌, ◌++◌, Ok, Err, refl, ◌∙◌, ap, arith}
+use Rattle.token_core.specs.Refusal.{Refusal}
+use Rattle.token_core.specs.Stream.{Stream}
+use Rattle.token_core.specs.Reads.{Reader, Outcome, and_then, pure, is_done}
+use Rattle.token_core.specs.Loops.{Many, size, after, listed, terminated}
+use Rattle.token_core.proofs.Steps.{link}
+use Rattle.token_core.proofs.Takes.{named_takes}
+use Rattle.token_core.proofs.Turns as turns
+use Rattle.syn_mid.specs.declared.ty.Type.{«Type» as TypeTree}
+use Rattle.syn_mid.specs.Supplied.{Place}
+use Rattle.syn_mid.specs.ty.Types.{Comma}
+use Rattle.syn_mid.specs.ty.Reading.{comma, more_elements}
+
+module _ {A P : Type 0} (value : Reader A) (joint : Reader P) where
+  abbrev All : Reader (Many A P)
+  All = terminated is_done value joint
+
+  -- where a list stops doesn't depend on whether a value comes first
+  same_first : (s : Stream) → listed (λ first. is_done) (λ first. value) (λ l. not (is_done l)) joint false s ≡ All s
+  unfolding listed
+  same_first s = refl
+
+  pub none_left : (v : Many A P) (s : Stream) → is_done s.rest ≡ true → after v (All s) ≡ Ok (v, s)
+  none_left v s e = turns.turn_none (λ first. is_done) (λ first. value) (λ l. not (is_done l)) joint v true s e
+
+  pub no_value : (v : Many A P) (s : Stream) (r : Refusal) → is_done s.rest ≡ false → value s ≡ Err r → after v (All s) ≡ Err r
+  no_value v s r e h = turns.turn_refused (λ first. is_done) (λ first. value) (λ l. not (is_done l)) joint v true s r e h
+
+  pub last_value : (v : Many A P) (s t : Stream) (x : A) → is_done s.rest ≡ false → value s ≡ Ok (x, t) → is_done t.rest ≡ true → after v (All s) ≡ Ok ((v.0 ++ x ∷ [], v.1), t)
+  last_value v s t x e h k = turns.turn_last (λ first. is_done) (λ first. value) (λ l. not (is_done l)) joint v true s t x e h (ap not k)
+
+  pub no_mark : (v : Many A P) (s t : Stream) (x : A) (r : Refusal) → is_done s.rest ≡ false → value s ≡ Ok (x, t) → is_done t.rest ≡ false → joint t ≡ Err r → after v (All s) ≡ Err r
+  no_mark v s t x r e h k g = turns.turn_stuck (λ first. is_done) (λ first. value) (λ l. not (is_done l)) joint v true s t x r e h (ap not k) g
+
+  pub next_value : (takes : (s t : Stream) (x : A) → value s ≡ Ok (x, t) → size t.rest < size s.rest) (keeps : (s t : Stream) (p : P) → joint s ≡ Ok (p, t) → size t.rest ≤ size s.rest)
+      (v : Many A P) (s t u : Stream) (x : A) (p : P) → is_done s.rest ≡ false → value s ≡ Ok (x, t) → is_done t.rest ≡ false → joint t ≡ Ok (p, u) →
+      after v (All s) ≡ after (v.0 ++ x ∷ [], v.1 ++ p ∷ []) (All u)
+  next_value takes keeps v s t u x p e h k g =
+      turns.turn_on (λ first. is_done) (λ first. value) (λ l. not (is_done l)) joint (λ b. takes) keeps v true s t u x p e h (ap not k) g
+      ∙ ap (after (v.0 ++ x ∷ [], v.1 ++ p ∷ [])) (same_first u)
+
+module _ {X : Type 0} (supplied : Place → Reader X) (typ : Bool → Reader (TypeTree X)) where
+  begun_at : (x : TypeTree X) (c : Comma) (o : Outcome (Many (TypeTree X) Comma)) → and_then o (λ rest. pure (x ∷ rest.0, c ∷ rest.1)) ≡ after (x ∷ [], c ∷ []) o
+  begun_at x c (Ok p) = refl
+  begun_at x c (Err e) = refl
+
+  -- the comma after the first element
+  pub begun : (x : TypeTree X) (c : Comma) (s u : Stream) → comma s ≡ Ok (c, u) → more_elements supplied typ x s ≡ after (x ∷ [], c ∷ []) (terminated is_done (typ true) comma u)
+  unfolding more_elements
+  begun x c s u e = link _ e (begun_at x c (terminated is_done (typ true) comma u))
+
+  pub not_begun : (x : TypeTree X) (s : Stream) (r : Refusal) → comma s ≡ Err r → more_elements supplied typ x s ≡ Err r
+  unfolding more_elements
+  not_begun x s r e = ap (λ z. and_then z (λ c. λ t. and_then (terminated is_done (typ true) comma t) (λ rest. pure (x ∷ rest.0, c ∷ rest.1)))) e
+
+-- a comma gives nothing back
+pub comma_keeps : (s t : Stream) (c : Comma) → comma s ≡ Ok (c, t) → size t.rest ≤ size s.rest
+comma_keeps s t c e = let h = named_takes 4 1 44 [] refl s c t e in omega (arith, h)

@@ -1,0 +1,39 @@
+-- The read of types meets its equation: one turn, over the types of streams of which less is left.
+use Rattle.std.proofs.Common.{◌≡◌, ℕ, zero, suc, ◌<◌, Bool, true, false, refl, ◌∙◌, ap, arith}
+use Rattle.std.specs.Prelude.{nat_lt}
+use Rattle.std.proofs.Math.Path.{fun_ext}
+use Rattle.std.proofs.lemmas.Bool.{ltb-true}
+use Rattle.token_core.specs.Reads.{Reader}
+use Rattle.token_core.specs.Stream.{Stream}
+use Rattle.syn_mid.specs.Supplied.{Place}
+use Rattle.syn_mid.specs.ty.Knot.{ahead, below, below_if, type_at, ty, types}
+use Rattle.syn_mid.specs.ty.Reading.{type_step}
+
+below_at : {A : Type 0} (limit : ℕ) (p q : Reader A) (s : Stream) (b : Bool) → nat_lt (ahead s) limit ≡ b → (ahead s < limit → p s ≡ q s) → below_if b p s ≡ below_if b q s
+below_at limit p q s true e h = h (ltb-true _ _ e)
+below_at limit p q s false e h = refl
+
+-- two reads that agree below a limit are one, asked below it
+pub below_same : {A : Type 0} (limit : ℕ) (p q : Reader A) → ((s : Stream) → ahead s < limit → p s ≡ q s) → below limit p ≡ below limit q
+below_same limit p q h = fun_ext (λ s. below_at limit p q s (nat_lt (ahead s) limit) refl (h s))
+
+module _ {X : Type 0} (supplied : Place → Reader X) where
+  -- more turns than there is left change nothing
+  enough : (k : ℕ) (s : Stream) (m n : ℕ) (plus : Bool) → ahead s < k → ahead s < m → ahead s < n → type_at supplied m plus s ≡ type_at supplied n plus s
+  enough zero s m n plus h hm hn = absurd (omega (arith, h))
+  enough (suc k) s zero n plus h hm hn = absurd (omega (arith, hm))
+  enough (suc k) s (suc m) zero plus h hm hn = absurd (omega (arith, hn))
+  enough (suc k) s (suc m) (suc n) plus h hm hn =
+      let T : (λ (p : Bool). below (ahead s) (type_at supplied m p)) ≡ (λ (p : Bool). below (ahead s) (type_at supplied n p)) =
+      fun_ext (λ p. below_same (ahead s) (type_at supplied m p) (type_at supplied n p) (λ t e. enough k t m n p (omega (arith, e, h)) (omega (arith, e, hm)) (omega (arith, e, hn)))) in
+      ap (λ t. type_step supplied t plus s) T
+
+  here : (n : ℕ) → (λ (p : Bool). below n (type_at supplied n p)) ≡ types supplied n
+  unfolding types ty
+  here n = fun_ext (λ p. below_same n (type_at supplied n p) (ty supplied p) (λ s e. enough n s n (suc (ahead s)) p e e (omega arith)))
+
+  pub ty-turn : (plus : Bool) (s : Stream) → ty supplied plus s ≡ type_step supplied (types supplied (ahead s)) plus s
+  unfolding ty
+  ty-turn plus s = ap (λ t. type_step supplied t plus s) (here (ahead s))
+
+pub ruleset turns = (ty-turn)

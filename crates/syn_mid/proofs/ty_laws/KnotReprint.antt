@@ -1,0 +1,64 @@
+-- The print of a type spells its normal form clearly, by induction on the height.
+use Rattle.std.proofs.Common.{◌≡◌, ℕ, zero, suc, Bool, true, false, Ok}
+use Rattle.token_core.specs.Prints.{Print}
+use Rattle.token_core.specs.Reads.{Reader}
+use Rattle.token_core.specs.Stream.{Stream}
+use Rattle.token_core.specs.Toks.{Toks}
+use Rattle.syn_mid.specs.declared.supplied.Expr.{Expr}
+use Rattle.syn_mid.specs.declared.ty.Type.{«Type» as TypeTree}
+use Rattle.syn_mid.specs.declared.ty.TypeArrayOf.{TypeArrayOf}
+use Rattle.syn_mid.specs.declared.ty.TypeParenOf.{TypeParenOf}
+use Rattle.syn_mid.specs.declared.ty.TypePtrOf.{TypePtrOf}
+use Rattle.syn_mid.specs.declared.ty.TypeReferenceOf.{TypeReferenceOf}
+use Rattle.syn_mid.specs.declared.ty.TypeSliceOf.{TypeSliceOf}
+use Rattle.syn_mid.specs.declared.ty.TypeTupleOf.{TypeTupleOf}
+use Rattle.syn_mid.specs.Supplied.{Place, UsesUp, Reprints}
+use Rattle.syn_mid.specs.ty.Normal as normal
+use Rattle.syn_mid.specs.ty.Printing as printing
+use Rattle.syn_mid.specs.ty.Spelling.{Relation, IsArray, IsParen, IsPtr, IsReference, IsSlice, IsTuple, TypeBelow, IsSomeType, IsSomeArray, IsSomeParen, IsSomePtr, IsSomeReference, IsSomeSlice, IsSomeTuple}
+use Rattle.syn_mid.proofs.attr_laws.Reprint.{AgainFront}
+use Rattle.syn_mid.proofs.ty_laws.Reprint.{type_front, array_front, paren_front, ptr_front, reference_front, slice_front, tuple_front}
+
+-- what is spelt at a height is spelt at some height
+some_front : {A : Type 0} (S : ℕ → Relation A) (n : A → A) (pr : A → Print) (m : ℕ) (x : A) (l r : Toks) → AgainFront (S m) n pr x l r → AgainFront (λ (y : A) (k h : Toks). (i : ℕ) × S i y k h) n pr x l r
+some_front S n pr m x l r k = record { spelt = λ h. (m, k.spelt h); visible = λ h u w. k.visible h u w; seen = λ u. k.seen u; stays = k.stays; same = k.same }
+
+module _ {X : Type 0} (reads : Place → Reader X) (spells : Place → X → Toks → Type 0) (normals : Place → X → X) (prints : Place → X → Print)
+    (complete : (w : Place) (s : Stream) (x : X) → spells w x s.rest → (t : Stream) × (reads w s ≡ Ok (x, t)) × UsesUp s t)
+    (reprint : (w : Place) (x : X) (l : Toks) → spells w x l → Reprints (spells w) (normals w) (prints w) x l) where
+  pub below_again : (n : ℕ) (plus : Bool) (x : TypeTree X) (l r : Toks) → TypeBelow spells false n plus x l r → AgainFront (TypeBelow spells true n plus) (normal.ty normals) (printing.ty prints) x l r
+  below_again zero plus x l r i = absurd i
+  below_again (suc n) plus x l r i = type_front reads spells normals prints complete reprint (TypeBelow spells false n) (TypeBelow spells true n) (below_again n) plus x l r i
+
+  pub ty_again : (plus : Bool) (x : TypeTree X) (l r : Toks) → IsSomeType spells false plus x l r → AgainFront (IsSomeType spells true plus) (normal.ty normals) (printing.ty prints) x l r
+  ty_again plus x l r i = some_front (λ n. TypeBelow spells true n plus) (normal.ty normals) (printing.ty prints) i.0 x l r (below_again i.0 plus x l r i.1)
+
+  pub array_again : (x : TypeArrayOf (TypeTree X) (Expr X)) (l r : Toks) → IsSomeArray spells false x l r → AgainFront (IsSomeArray spells true) (normal.array normals) (printing.array prints) x l r
+  array_again x l r i =
+      some_front (λ n. IsArray spells true (TypeBelow spells true n)) (normal.array normals) (printing.array prints) i.0 x l r
+      (array_front reads spells normals prints complete reprint (TypeBelow spells false i.0) (TypeBelow spells true i.0) (below_again i.0) x l r i.1)
+
+  pub paren_again : (x : TypeParenOf (TypeTree X)) (l r : Toks) → IsSomeParen spells false x l r → AgainFront (IsSomeParen spells true) (normal.paren normals) (printing.paren prints) x l r
+  paren_again x l r i =
+      some_front (λ n. IsParen spells true (TypeBelow spells true n) false) (normal.paren normals) (printing.paren prints) i.0 x l r
+      (paren_front reads spells normals prints complete reprint (TypeBelow spells false i.0) (TypeBelow spells true i.0) (below_again i.0) false x l r i.1)
+
+  pub ptr_again : (x : TypePtrOf (TypeTree X)) (l r : Toks) → IsSomePtr spells false x l r → AgainFront (IsSomePtr spells true) (normal.ptr normals) (printing.ptr prints) x l r
+  ptr_again x l r i =
+      some_front (λ n. IsPtr spells true (TypeBelow spells true n)) (normal.ptr normals) (printing.ptr prints) i.0 x l r
+      (ptr_front reads spells normals prints complete reprint (TypeBelow spells false i.0) (TypeBelow spells true i.0) (below_again i.0) x l r i.1)
+
+  pub reference_again : (x : TypeReferenceOf (TypeTree X)) (l r : Toks) → IsSomeReference spells false x l r → AgainFront (IsSomeReference spells true) (normal.reference normals) (printing.reference prints) x l r
+  reference_again x l r i =
+      some_front (λ n. IsReference spells true (TypeBelow spells true n)) (normal.reference normals) (printing.reference prints) i.0 x l r
+      (reference_front reads spells normals prints complete reprint (TypeBelow spells false i.0) (TypeBelow spells true i.0) (below_again i.0) x l r i.1)
+
+  pub slice_again : (x : TypeSliceOf (TypeTree X)) (l r : Toks) → IsSomeSlice spells false x l r → AgainFront (IsSomeSlice spells true) (normal.slice normals) (printing.slice prints) x l r
+  slice_again x l r i =
+      some_front (λ n. IsSlice spells true (TypeBelow spells true n)) (normal.slice normals) (printing.slice prints) i.0 x l r
+      (slice_front reads spells normals prints complete reprint (TypeBelow spells false i.0) (TypeBelow spells true i.0) (below_again i.0) x l r i.1)
+
+  pub tuple_again : (x : TypeTupleOf (TypeTree X)) (l r : Toks) → IsSomeTuple spells false x l r → AgainFront (IsSomeTuple spells true) (normal.tuple normals) (printing.tuple prints) x l r
+  tuple_again x l r i =
+      some_front (λ n. IsTuple spells true (TypeBelow spells true n)) (normal.tuple normals) (printing.tuple prints) i.0 x l r
+      (tuple_front reads spells normals prints complete reprint (TypeBelow spells false i.0) (TypeBelow spells true i.0) (below_again i.0) x l r i.1)

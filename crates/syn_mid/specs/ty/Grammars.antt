@@ -1,0 +1,64 @@
+-- The promises of the readers of types, over what a supplied subtree reads, spells, has as its normal form and prints.
+use Rattle.std.specs.Prelude.{Bool}
+use Rattle.token_core.specs.Headline.{Grammar}
+use Rattle.token_core.specs.Prints.{Print}
+use Rattle.token_core.specs.Reads.{Reader}
+use Rattle.token_core.specs.Toks.{Toks, done}
+use Rattle.syn_mid.specs.declared.supplied.Expr.{Expr}
+use Rattle.syn_mid.specs.declared.ty.PointerMutability.{PointerMutability}
+use Rattle.syn_mid.specs.declared.ty.Type.{«Type» as TypeTree}
+use Rattle.syn_mid.specs.declared.ty.TypeArrayOf.{TypeArrayOf}
+use Rattle.syn_mid.specs.declared.ty.TypeInfer.{TypeInfer}
+use Rattle.syn_mid.specs.declared.ty.TypeMacro.{TypeMacro}
+use Rattle.syn_mid.specs.declared.ty.TypeNever.{TypeNever}
+use Rattle.syn_mid.specs.declared.ty.TypeParenOf.{TypeParenOf}
+use Rattle.syn_mid.specs.declared.ty.TypePath.{TypePath}
+use Rattle.syn_mid.specs.declared.ty.TypePtrOf.{TypePtrOf}
+use Rattle.syn_mid.specs.declared.ty.TypeReferenceOf.{TypeReferenceOf}
+use Rattle.syn_mid.specs.declared.ty.TypeSliceOf.{TypeSliceOf}
+use Rattle.syn_mid.specs.declared.ty.TypeTupleOf.{TypeTupleOf}
+use Rattle.syn_mid.specs.Supplied.{Place}
+use Rattle.syn_mid.specs.ty.Knot as knot
+use Rattle.syn_mid.specs.ty.Normal as normal
+use Rattle.syn_mid.specs.ty.Printing as printing
+use Rattle.syn_mid.specs.ty.Reading as reading
+use Rattle.syn_mid.specs.ty.Spelling.{IsMutability, IsInfer, IsNever, IsMacroType, IsPathType, IsSomeType, IsSomeArray, IsSomeParen, IsSomePtr, IsSomeReference, IsSomeSlice, IsSomeTuple}
+
+-- No tree here has a verbatim part. These are their own normal forms.
+abbrev pub mutability : Grammar PointerMutability
+mutability = record { spells = λ clear x l. IsMutability x l done; normal = λ x. x; print = printing.pointer; plain = λ x. Unit {0}; reader = reading.mutability }
+
+abbrev pub infer : Grammar TypeInfer
+infer = record { spells = λ clear x l. IsInfer x l done; normal = λ x. x; print = printing.infer; plain = λ x. Unit {0}; reader = reading.infer }
+
+abbrev pub never : Grammar TypeNever
+never = record { spells = λ clear x l. IsNever clear x l done; normal = λ x. x; print = printing.never; plain = λ x. Unit {0}; reader = reading.never }
+
+abbrev pub macro_type : {X : Type 0} → Grammar (TypeMacro X)
+macro_type = record { spells = λ clear x l. IsMacroType clear x l done; normal = λ x. x; print = printing.macro_type; plain = λ x. Unit {0}; reader = reading.macro_type }
+
+abbrev pub path_type : {X : Type 0} → Grammar (TypePath X)
+path_type = record { spells = λ clear x l. IsPathType clear x l done; normal = λ x. x; print = printing.path_type; plain = λ x. Unit {0}; reader = reading.path_type }
+
+module _ {X : Type 0} (reads : Place → Reader X) (spells : Place → X → Toks → Type 0) (normals : Place → X → X) (prints : Place → X → Print) where
+  -- a type in a place with plus or without plus
+  abbrev pub ty : Bool → Grammar (TypeTree X)
+  ty plus = record { spells = λ clear x l. IsSomeType spells clear plus x l done; normal = normal.ty normals; print = printing.ty prints; plain = λ x. Unit {0}; reader = knot.ty reads plus }
+
+  abbrev pub array : Grammar (TypeArrayOf (TypeTree X) (Expr X))
+  array = record { spells = λ clear x l. IsSomeArray spells clear x l done; normal = normal.array normals; print = printing.array prints; plain = λ x. Unit {0}; reader = knot.array reads }
+
+  abbrev pub paren : Grammar (TypeParenOf (TypeTree X))
+  paren = record { spells = λ clear x l. IsSomeParen spells clear x l done; normal = normal.paren normals; print = printing.paren prints; plain = λ x. Unit {0}; reader = knot.paren reads }
+
+  abbrev pub ptr : Grammar (TypePtrOf (TypeTree X))
+  ptr = record { spells = λ clear x l. IsSomePtr spells clear x l done; normal = normal.ptr normals; print = printing.ptr prints; plain = λ x. Unit {0}; reader = knot.ptr reads }
+
+  abbrev pub reference : Grammar (TypeReferenceOf (TypeTree X))
+  reference = record { spells = λ clear x l. IsSomeReference spells clear x l done; normal = normal.reference normals; print = printing.reference prints; plain = λ x. Unit {0}; reader = knot.reference reads }
+
+  abbrev pub slice : Grammar (TypeSliceOf (TypeTree X))
+  slice = record { spells = λ clear x l. IsSomeSlice spells clear x l done; normal = normal.slice normals; print = printing.slice prints; plain = λ x. Unit {0}; reader = knot.slice reads }
+
+  abbrev pub tuple : Grammar (TypeTupleOf (TypeTree X))
+  tuple = record { spells = λ clear x l. IsSomeTuple spells clear x l done; normal = normal.tuple normals; print = printing.tuple prints; plain = λ x. Unit {0}; reader = knot.tuple reads }

@@ -1,0 +1,86 @@
+-- Types by their parts.
+use Rattle.std.specs.Prelude.{Bool, true, false, List, [], ◌∷◌, Option, Some, None}
+use Rattle.token_core.specs.declared.mark.Mark.{Mark}
+use Rattle.token_core.specs.declared.word.Word.{Word}
+use Rattle.token_core.specs.declared.lifetime.Lifetime.{Lifetime}
+use Rattle.token_core.specs.declared.token.Bracket.{Bracket}
+use Rattle.token_core.specs.declared.token.Paren.{Paren}
+use Rattle.token_core.specs.Loops.{Many}
+use Rattle.token_core.specs.Marks.{text_of}
+use Rattle.token_core.specs.Reads.{is_text}
+use Rattle.syn_mid.specs.declared.mac.Macro.{Macro}
+use Rattle.syn_mid.specs.declared.path.Path.{Path}
+use Rattle.syn_mid.specs.declared.path.PathSegment.{PathSegment}
+use Rattle.syn_mid.specs.declared.ty.PointerMutability.{PointerMutability}
+use Rattle.syn_mid.specs.declared.ty.TypeArrayOf.{TypeArrayOf}
+use Rattle.syn_mid.specs.declared.ty.TypeInfer.{TypeInfer}
+use Rattle.syn_mid.specs.declared.ty.TypeMacro.{TypeMacro}
+use Rattle.syn_mid.specs.declared.ty.TypeNever.{TypeNever}
+use Rattle.syn_mid.specs.declared.ty.TypeParenOf.{TypeParenOf}
+use Rattle.syn_mid.specs.declared.ty.TypePath.{TypePath}
+use Rattle.syn_mid.specs.declared.ty.TypePtrOf.{TypePtrOf}
+use Rattle.syn_mid.specs.declared.ty.TypeReferenceOf.{TypeReferenceOf}
+use Rattle.syn_mid.specs.declared.ty.TypeSliceOf.{TypeSliceOf}
+use Rattle.syn_mid.specs.declared.ty.TypeTupleOf.{TypeTupleOf}
+use Rattle.syn_mid.specs.mac.Macros.{Bang}
+use Rattle.syn_mid.specs.path.Paths.{Sep}
+
+abbrev pub And : Type 0
+And = Mark 5 1
+
+abbrev pub Star : Type 0
+Star = Mark 26 1
+
+abbrev pub Comma : Type 0
+Comma = Mark 4 1
+
+abbrev pub Semi : Type 0
+Semi = Mark 24 1
+
+abbrev pub Mut : Type 0
+Mut = Word 13
+
+abbrev pub Underscore : Type 0
+Underscore = Word 19
+
+abbrev pub array_of : {T E : Type 0} → Bracket → T → Semi → E → TypeArrayOf T E
+array_of b x s n = record { bracket_token = b; elem = x; semi_token = s; len = n }
+
+abbrev pub infer_of : Underscore → TypeInfer
+infer_of u = record { underscore_token = u }
+
+abbrev pub macro_type_of : {X : Type 0} → Macro X → TypeMacro X
+macro_type_of m = record { mac = m }
+
+abbrev pub never_of : Bang → TypeNever
+never_of b = record { bang_token = b }
+
+abbrev pub paren_of : {T : Type 0} → Paren → T → TypeParenOf T
+paren_of p x = record { paren_token = p; elem = x }
+
+abbrev pub path_type_of : {X : Type 0} → Path X → TypePath X
+path_type_of p = record { path = p }
+
+abbrev pub ptr_of : {T : Type 0} → Star → PointerMutability → T → TypePtrOf T
+ptr_of s m x = record { star_token = s; mutability = m; elem = x }
+
+abbrev pub reference_of : {T : Type 0} → And → Option Lifetime → Option Mut → T → TypeReferenceOf T
+reference_of a l m x = record { and_token = a; lifetime = l; mutability = m; elem = x }
+
+abbrev pub slice_of : {T : Type 0} → Bracket → T → TypeSliceOf T
+slice_of b x = record { bracket_token = b; elem = x }
+
+abbrev pub tuple_of : {T : Type 0} → Paren → Many T Comma → TypeTupleOf T
+tuple_of p v = record { paren_token = p; elems = v }
+
+-- ---- paths of types
+
+module _ {X : Type 0} where
+  abbrev pub try_first : Option Sep → List (PathSegment X) → Bool
+  try_first None (s ∷ l) = is_text (text_of 15) s.ident.text
+  try_first None [] = false
+  try_first (Some c) l = false
+
+  -- a path that begins with `try`, which no type does
+  abbrev pub is_try_path : Path X → Bool
+  is_try_path p = try_first p.leading_colon p.segments.0

@@ -1,0 +1,543 @@
+//! The readers that go back to themselves.
+//!
+//! A type holds types. So that each reader is proved by itself, it takes the reader of types as a parameter, and
+//! `parse_type` ties them together.
+
+ghost use Rattle.std.specs.Prelude.{◌≡◌, ◌<◌, ◌≤◌, length, IfOk};
+ghost use Rattle.token_core.specs.declared.tree.Delimiter.TheVariants as delimiter;
+ghost use Rattle.token_core.specs.Groups as groups;
+ghost use Rattle.token_core.specs.Lifetimes.{read_optional_lifetime};
+ghost use Rattle.token_core.specs.Reads as spec;
+ghost use Rattle.token_core.specs.Reads.{Reads, Follows};
+ghost use Rattle.syn_mid.specs.ty.Knot as knot;
+ghost use Rattle.syn_mid.specs.ty.Knot.{Nests, ahead};
+ghost use Rattle.syn_mid.specs.ty.Reading as reading;
+
+use crate::mac::{parse_call_after, parse_macro};
+use crate::path::parse_plain_path;
+use crate::supplied::{Expr, Place, Subtree};
+use crate::ty::{
+    PointerMutability, Type, TypeArray, TypeArrayOf, TypeInfer, TypeMacro, TypeNever, TypeParen,
+    TypeParenOf, TypePath, TypePtr, TypePtrOf, TypeReference, TypeReferenceOf, TypeSlice,
+    TypeSliceOf, TypeTuple, TypeTupleOf,
+};
+use std::alloc::Global;
+use std::marker::PhantomData;
+use token_core::token::{
+    And, Bracket, Comma, Const, Crate, GroupToken, Mut, Ne, Not, Paren, PathSep, Plus, SelfType,
+    SelfValue, Semi, Star, Super, Underscore,
+};
+use token_core::{Boxed, Cursor, Error, ErrorKind, Ident, Lifetime, ParseStream, Punctuated};
+
+// ---- what is read before a type that another one holds: a token is taken
+
+#[tactic(auto, using(crate::proofs::ty_laws::Ahead::inside_groups))]
+fn open_parens<'a>(
+    alloc: Global,
+    input: &mut ParseStream<'a>,
+) -> Result<(Paren, ParseStream<'a>), Error>
+    ensures reads { Reads (groups.opened groups.paren (spec.open_group delimiter.Parenthesis groups.paren_name input.old)) result input.new }
+    ensures within { Follows input.old input.new }
+    ensures inside { IfOk result (λ p. ahead p.1 < ahead input.old) }
+{
+    input.parenthesized(alloc)
+}
+
+#[tactic(auto, using(crate::proofs::ty_laws::Ahead::inside_groups))]
+fn open_brackets<'a>(
+    alloc: Global,
+    input: &mut ParseStream<'a>,
+) -> Result<(Bracket, ParseStream<'a>), Error>
+    ensures reads { Reads (groups.opened groups.bracket (spec.open_group delimiter.Bracket groups.bracket_name input.old)) result input.new }
+    ensures within { Follows input.old input.new }
+    ensures inside { IfOk result (λ p. ahead p.1 < ahead input.old) }
+{
+    input.bracketed(alloc)
+}
+
+#[tactic(auto, using(crate::proofs::ty_laws::Ahead::past_marks))]
+fn parse_comma(alloc: Global, input: &mut ParseStream<'_>) -> Result<Comma, Error>
+    ensures reads { Reads (reading.comma input.old) result input.new }
+    ensures within { Follows input.old input.new }
+    ensures taken { IfOk result (λ _. ahead input.new < ahead input.old) }
+{
+    input.parse::<Comma>(alloc)
+}
+
+#[tactic(auto, using(crate::proofs::ty_laws::Ahead::past_marks))]
+fn parse_star(alloc: Global, input: &mut ParseStream<'_>) -> Result<Star, Error>
+    ensures reads { Reads (reading.star input.old) result input.new }
+    ensures within { Follows input.old input.new }
+    ensures taken { IfOk result (λ _. ahead input.new < ahead input.old) }
+{
+    input.parse::<Star>(alloc)
+}
+
+#[tactic(auto, using(crate::proofs::ty_laws::Ahead::past_marks))]
+fn parse_and(alloc: Global, input: &mut ParseStream<'_>) -> Result<And, Error>
+    ensures reads { Reads (reading.and input.old) result input.new }
+    ensures within { Follows input.old input.new }
+    ensures taken { IfOk result (λ _. ahead input.new < ahead input.old) }
+{
+    input.parse::<And>(alloc)
+}
+
+// ---- parts that hold no type
+
+/// `const` or `mut`.
+#[tactic(auto, using(token_core::proofs::Suffixes::follows, crate::proofs::ty_laws::Ahead::later), unfolding(crate::specs::ty::Reading::mutability))]
+pub(crate) fn parse_mutability(
+    alloc: Global,
+    input: &mut ParseStream<'_>,
+) -> Result<PointerMutability, Error>
+    ensures reads { Reads (reading.mutability input.old) result input.new }
+    ensures within { Follows input.old input.new }
+    ensures fewer { ahead input.new ≤ ahead input.old }
+{
+    if input.peek::<Const>() {
+        return Ok(PointerMutability::Const(input.parse::<Const>(alloc)?));
+    }
+    if input.peek::<Mut>() {
+        return Ok(PointerMutability::Mut(input.parse::<Mut>(alloc)?));
+    }
+    Err(input.expected(alloc, "`const` or `mut`"))
+}
+
+#[tactic(auto, using(crate::proofs::ty_laws::Ahead::later))]
+fn parse_lifetime(alloc: Global, input: &mut ParseStream<'_>) -> Result<Option<Lifetime>, Error>
+    ensures reads { Reads (read_optional_lifetime input.old) result input.new }
+    ensures within { Follows input.old input.new }
+    ensures fewer { ahead input.new ≤ ahead input.old }
+{
+    Lifetime::parse_optional_any(alloc, input)
+}
+
+#[tactic(auto, using(crate::proofs::ty_laws::Ahead::later))]
+fn parse_mut(alloc: Global, input: &mut ParseStream<'_>) -> Result<Option<Mut>, Error>
+    ensures reads { Reads (reading.mutable input.old) result input.new }
+    ensures within { Follows input.old input.new }
+    ensures fewer { ahead input.new ≤ ahead input.old }
+{
+    input.parse_option::<Mut>(alloc)
+}
+
+/// `;` and the length of an array.
+#[tactic(auto, using(token_core::proofs::Suffixes::follows), unfolding(crate::specs::ty::Reading::length))]
+fn parse_length<X: Subtree>(
+    alloc: Global,
+    input: &mut ParseStream<'_>,
+) -> Result<(Semi, Expr<X>), Error>
+    ensures reads { Reads (reading.length X.reads input.old) result input.new }
+    ensures within { Follows input.old input.new }
+{
+    let semi_token = input.parse::<Semi>(alloc)?;
+    let len = X::read(alloc, Place::ArrayLen, input)?;
+    Ok((semi_token, Expr::Other(len)))
+}
+
+/// Whether a path that a type may be begins here.
+#[tactic(auto, using(crate::proofs::path_laws::Turns::or_words), unfolding(crate::specs::ty::Reading::begins_path))]
+fn begins_path(input: &ParseStream<'_>) -> bool
+    ensures { result ≡ reading.begins_path input.now.rest }
+{
+    // all tested, so that the answer is one value
+    (input.peek::<Ident>()
+        | (input.peek::<Super>()
+            | (input.peek::<SelfValue>() | (input.peek::<SelfType>() | input.peek::<Crate>()))))
+        | input.peek::<PathSep>()
+}
+
+/// Whether a `!` that is not `!=` follows.
+#[tactic(auto, unfolding(crate::specs::ty::Reading::sees_call))]
+fn sees_call(input: &ParseStream<'_>) -> bool
+    ensures { result ≡ reading.sees_call input.now.rest }
+{
+    input.peek::<Not>() & !input.peek::<Ne>()
+}
+
+/// `!`
+pub(crate) fn parse_never(alloc: Global, input: &mut ParseStream<'_>) -> Result<TypeNever, Error>
+    ensures reads { Reads (reading.never input.old) result input.new }
+    ensures within { Follows input.old input.new }
+{
+    let bang_token = input.parse::<Not>(alloc)?;
+    Ok(TypeNever { bang_token })
+}
+
+/// `_`
+pub(crate) fn parse_infer(alloc: Global, input: &mut ParseStream<'_>) -> Result<TypeInfer, Error>
+    ensures reads { Reads (reading.infer input.old) result input.new }
+    ensures within { Follows input.old input.new }
+{
+    let underscore_token = input.parse::<Underscore>(alloc)?;
+    Ok(TypeInfer { underscore_token })
+}
+
+/// A type after which, where `+` is allowed, none may stand: it would begin a trait object, which is not read yet.
+#[tactic(auto, unfolding(crate::specs::ty::Reading::ended))]
+fn ended<X: Drop>(
+    alloc: Global,
+    input: &ParseStream<'_>,
+    plus: bool,
+    ty: Type<X>,
+) -> Result<Type<X>, Error>
+    ensures reads { Reads (reading.ended plus ty input.now) result input.now }
+{
+    if plus & input.peek::<Plus>() {
+        return Err(input.refuse(alloc, ErrorKind::Unexpected));
+    }
+    Ok(ty)
+}
+
+/// A macro call in the place of a type.
+pub(crate) fn parse_macro_type<X: Drop>(
+    alloc: Global,
+    input: &mut ParseStream<'_>,
+) -> Result<TypeMacro<X>, Error>
+    ensures reads { Reads (reading.macro_type input.old) result input.new }
+    ensures within { Follows input.old input.new }
+{
+    let mac = parse_macro(alloc, input)?;
+    Ok(TypeMacro { mac })
+}
+
+/// A path as a type by itself.
+pub(crate) fn parse_path_type<X: Drop>(
+    alloc: Global,
+    input: &mut ParseStream<'_>,
+) -> Result<TypePath<X>, Error>
+    ensures reads { Reads (reading.path_type input.old) result input.new }
+    ensures within { Follows input.old input.new }
+{
+    let path = parse_plain_path(alloc, input)?;
+    Ok(TypePath { path })
+}
+
+/// A path, or a macro call by its path.
+#[tactic(auto, using(token_core::proofs::Suffixes::follows), unfolding(crate::specs::ty::Reading::path_or_macro))]
+fn parse_path_or_macro<X: Drop>(
+    alloc: Global,
+    input: &mut ParseStream<'_>,
+    plus: bool,
+) -> Result<Type<X>, Error>
+    ensures reads { Reads (reading.path_or_macro plus input.old) result input.new }
+    ensures within { Follows input.old input.new }
+{
+    let path = parse_plain_path(alloc, input)?;
+    if sees_call(input) {
+        let mac = parse_call_after(alloc, input, path)?;
+        return Ok(Type::Macro(TypeMacro { mac }));
+    }
+    ended(alloc, input, plus, Type::Path(TypePath { path }))
+}
+
+// ---- types over the reader of the types that they hold
+
+/// One turn of the readers.
+#[derive(Drop)]
+pub(crate) struct Grammar<'a, X, F> {
+    pub(crate) alloc: Global,
+    pub(crate) of: PhantomData<X>,
+    /// Where the turn began. The reader below is asked only further on, so that reading ends.
+    pub(crate) begin: Cursor<'a>,
+    /// The reader of types.
+    pub(crate) typ: F,
+}
+
+impl<
+    'a,
+    X: Subtree,
+    F: Fn(Global, PhantomData<X>, &mut ParseStream<'_>, bool) -> Result<Type<X>, Error>,
+> Grammar<'a, X, F> {
+    /// A type that another one holds.
+    #[tactic(auto, using(crate::proofs::ty_laws::Ahead::later), unfolding(crate::specs::ty::Knot::types))]
+    fn nested(&self, input: &mut ParseStream<'_>, plus: bool) -> Result<Type<X>, Error>
+        requires types { Nests (knot.ty X.reads) (length self.now.begin) (F.pre self.now.typ) (F.post self.now.typ) }
+        requires few { ahead input.old < length self.now.begin }
+        ensures reads { Reads (knot.types X.reads (length self.now.begin) plus input.old) result input.new }
+        ensures within { Follows input.old input.new }
+        ensures fewer { ahead input.new ≤ ahead input.old }
+    {
+        (self.typ)(self.alloc, PhantomData, input, plus)
+    }
+
+    /// A comma, and the elements of a tuple after the first one.
+    #[tactic(auto, using(token_core::proofs::Suffixes::follows), unfolding(crate::specs::ty::Reading::more_elements))]
+    fn more_elements(
+        &self,
+        input: &mut ParseStream<'_>,
+        first: Type<X>,
+    ) -> Result<Punctuated<Type<X>, Comma>, Error>
+        requires types { Nests (knot.ty X.reads) (length self.now.begin) (F.pre self.now.typ) (F.post self.now.typ) }
+        requires few { ahead input.old ≤ length self.now.begin }
+        ensures reads { Reads (reading.more_elements X.reads (knot.types X.reads (length self.now.begin)) first input.old) result input.new }
+        ensures within { Follows input.old input.new }
+    {
+        let mut elems = Punctuated::new(self.alloc);
+        elems.push_value(self.alloc, first)?;
+        elems.push_punct(parse_comma(self.alloc, input)?)?;
+        'turn: loop {
+            if input.is_empty() {
+                return Ok(elems);
+            }
+            let elem = self.nested(input, true)?;
+            elems.push_value(self.alloc, elem)?;
+            if input.is_empty() {
+                return Ok(elems);
+            }
+            elems.push_punct(parse_comma(self.alloc, input)?)?;
+        }
+    }
+
+    /// What the parentheses of a tuple hold.
+    #[tactic(auto, using(token_core::proofs::Suffixes::follows), unfolding(crate::specs::ty::Reading::tuple_content))]
+    fn tuple_content(
+        &self,
+        input: &mut ParseStream<'_>,
+    ) -> Result<Punctuated<Type<X>, Comma>, Error>
+        requires types { Nests (knot.ty X.reads) (length self.now.begin) (F.pre self.now.typ) (F.post self.now.typ) }
+        requires few { ahead input.old < length self.now.begin }
+        ensures reads { Reads (reading.tuple_content X.reads (knot.types X.reads (length self.now.begin)) input.old) result input.new }
+        ensures within { Follows input.old input.new }
+    {
+        if input.is_empty() {
+            return Ok(Punctuated::new(self.alloc));
+        }
+        let first = self.nested(input, true)?;
+        self.more_elements(input, first)
+    }
+
+    /// `[T; n]`
+    #[tactic(auto, using(token_core::proofs::Suffixes::follows), unfolding(crate::specs::ty::Reading::array, crate::specs::ty::Reading::array_content))]
+    pub(crate) fn array(&self, input: &mut ParseStream<'_>) -> Result<TypeArray<X>, Error>
+        requires types { Nests (knot.ty X.reads) (length self.now.begin) (F.pre self.now.typ) (F.post self.now.typ) }
+        requires few { ahead input.old ≤ length self.now.begin }
+        ensures reads { Reads (reading.array X.reads (knot.types X.reads (length self.now.begin)) input.old) result input.new }
+        ensures within { Follows input.old input.new }
+    {
+        let (bracket_token, mut content) = open_brackets(self.alloc, input)?;
+        let elem = self.nested(&mut content, true)?;
+        let (semi_token, len) = parse_length(self.alloc, &mut content)?;
+        input.finish(content);
+        Ok(TypeArrayOf {
+            bracket_token,
+            elem: Boxed::new(self.alloc, elem)?,
+            semi_token,
+            len,
+        })
+    }
+
+    /// `[T]`
+    #[tactic(auto, using(token_core::proofs::Suffixes::follows), unfolding(crate::specs::ty::Reading::slice))]
+    pub(crate) fn slice(&self, input: &mut ParseStream<'_>) -> Result<TypeSlice<X>, Error>
+        requires types { Nests (knot.ty X.reads) (length self.now.begin) (F.pre self.now.typ) (F.post self.now.typ) }
+        requires few { ahead input.old ≤ length self.now.begin }
+        ensures reads { Reads (reading.slice X.reads (knot.types X.reads (length self.now.begin)) input.old) result input.new }
+        ensures within { Follows input.old input.new }
+    {
+        let (bracket_token, mut content) = open_brackets(self.alloc, input)?;
+        let elem = self.nested(&mut content, true)?;
+        input.finish(content);
+        Ok(TypeSliceOf {
+            bracket_token,
+            elem: Boxed::new(self.alloc, elem)?,
+        })
+    }
+
+    /// `(T)`, the type without plus
+    #[tactic(auto, using(token_core::proofs::Suffixes::follows), unfolding(crate::specs::ty::Reading::paren))]
+    pub(crate) fn paren(&self, input: &mut ParseStream<'_>) -> Result<TypeParen<X>, Error>
+        requires types { Nests (knot.ty X.reads) (length self.now.begin) (F.pre self.now.typ) (F.post self.now.typ) }
+        requires few { ahead input.old ≤ length self.now.begin }
+        ensures reads { Reads (reading.paren X.reads (knot.types X.reads (length self.now.begin)) input.old) result input.new }
+        ensures within { Follows input.old input.new }
+    {
+        let (paren_token, mut content) = open_parens(self.alloc, input)?;
+        let elem = self.nested(&mut content, false)?;
+        input.finish(content);
+        Ok(TypeParenOf {
+            paren_token,
+            elem: Boxed::new(self.alloc, elem)?,
+        })
+    }
+
+    /// `(A, B)`
+    #[tactic(auto, using(token_core::proofs::Suffixes::follows), unfolding(crate::specs::ty::Reading::tuple))]
+    pub(crate) fn tuple(&self, input: &mut ParseStream<'_>) -> Result<TypeTuple<X>, Error>
+        requires types { Nests (knot.ty X.reads) (length self.now.begin) (F.pre self.now.typ) (F.post self.now.typ) }
+        requires few { ahead input.old ≤ length self.now.begin }
+        ensures reads { Reads (reading.tuple X.reads (knot.types X.reads (length self.now.begin)) input.old) result input.new }
+        ensures within { Follows input.old input.new }
+    {
+        let (paren_token, mut content) = open_parens(self.alloc, input)?;
+        let elems = self.tuple_content(&mut content)?;
+        input.finish(content);
+        Ok(TypeTupleOf { paren_token, elems })
+    }
+
+    /// `*const T`, `*mut T`
+    #[tactic(auto, using(token_core::proofs::Suffixes::follows), unfolding(crate::specs::ty::Reading::ptr))]
+    pub(crate) fn ptr(&self, input: &mut ParseStream<'_>) -> Result<TypePtr<X>, Error>
+        requires types { Nests (knot.ty X.reads) (length self.now.begin) (F.pre self.now.typ) (F.post self.now.typ) }
+        requires few { ahead input.old ≤ length self.now.begin }
+        ensures reads { Reads (reading.ptr X.reads (knot.types X.reads (length self.now.begin)) input.old) result input.new }
+        ensures within { Follows input.old input.new }
+    {
+        let star_token = parse_star(self.alloc, input)?;
+        let mutability = parse_mutability(self.alloc, input)?;
+        let elem = self.nested(input, false)?;
+        Ok(TypePtrOf {
+            star_token,
+            mutability,
+            elem: Boxed::new(self.alloc, elem)?,
+        })
+    }
+
+    /// `&'a mut T`
+    #[tactic(auto, using(token_core::proofs::Suffixes::follows), unfolding(crate::specs::ty::Reading::reference))]
+    pub(crate) fn reference(&self, input: &mut ParseStream<'_>) -> Result<TypeReference<X>, Error>
+        requires types { Nests (knot.ty X.reads) (length self.now.begin) (F.pre self.now.typ) (F.post self.now.typ) }
+        requires few { ahead input.old ≤ length self.now.begin }
+        ensures reads { Reads (reading.reference X.reads (knot.types X.reads (length self.now.begin)) input.old) result input.new }
+        ensures within { Follows input.old input.new }
+    {
+        let and_token = parse_and(self.alloc, input)?;
+        let lifetime = parse_lifetime(self.alloc, input)?;
+        let mutability = parse_mut(self.alloc, input)?;
+        let elem = self.nested(input, false)?;
+        Ok(TypeReferenceOf {
+            and_token,
+            lifetime,
+            mutability,
+            elem: Boxed::new(self.alloc, elem)?,
+        })
+    }
+
+    /// A tuple, or a type in parentheses.
+    #[tactic(auto, using(token_core::proofs::Suffixes::follows), unfolding(crate::specs::ty::Reading::paren_or_tuple, crate::specs::ty::Reading::paren_content))]
+    fn paren_or_tuple(&self, input: &mut ParseStream<'_>, plus: bool) -> Result<Type<X>, Error>
+        requires types { Nests (knot.ty X.reads) (length self.now.begin) (F.pre self.now.typ) (F.post self.now.typ) }
+        requires few { ahead input.old ≤ length self.now.begin }
+        ensures reads { Reads (reading.paren_or_tuple X.reads (knot.types X.reads (length self.now.begin)) plus input.old) result input.new }
+        ensures within { Follows input.old input.new }
+    {
+        let (paren_token, mut content) = open_parens(self.alloc, input)?;
+        if content.is_empty() {
+            input.finish(content);
+            let elems = Punctuated::new(self.alloc);
+            return Ok(Type::Tuple(TypeTupleOf { paren_token, elems }));
+        }
+        let first = self.nested(&mut content, true)?;
+        if content.peek::<Comma>() {
+            let elems = self.more_elements(&mut content, first)?;
+            input.finish(content);
+            return Ok(Type::Tuple(TypeTupleOf { paren_token, elems }));
+        }
+        input.finish(content);
+        let elem = Boxed::new(self.alloc, first)?;
+        ended(
+            self.alloc,
+            input,
+            plus,
+            Type::Paren(TypeParenOf { paren_token, elem }),
+        )
+    }
+
+    /// A slice, or an array.
+    #[tactic(auto, using(token_core::proofs::Suffixes::follows), unfolding(crate::specs::ty::Reading::slice_or_array, crate::specs::ty::Reading::bracket_content))]
+    fn slice_or_array(&self, input: &mut ParseStream<'_>) -> Result<Type<X>, Error>
+        requires types { Nests (knot.ty X.reads) (length self.now.begin) (F.pre self.now.typ) (F.post self.now.typ) }
+        requires few { ahead input.old ≤ length self.now.begin }
+        ensures reads { Reads (reading.slice_or_array X.reads (knot.types X.reads (length self.now.begin)) input.old) result input.new }
+        ensures within { Follows input.old input.new }
+    {
+        let (bracket_token, mut content) = open_brackets(self.alloc, input)?;
+        let elem = self.nested(&mut content, true)?;
+        if content.peek::<Semi>() {
+            let (semi_token, len) = parse_length(self.alloc, &mut content)?;
+            input.finish(content);
+            return Ok(Type::Array(TypeArrayOf {
+                bracket_token,
+                elem: Boxed::new(self.alloc, elem)?,
+                semi_token,
+                len,
+            }));
+        }
+        input.finish(content);
+        Ok(Type::Slice(TypeSliceOf {
+            bracket_token,
+            elem: Boxed::new(self.alloc, elem)?,
+        }))
+    }
+
+    /// A type that begins with a mark or `_`.
+    #[tactic(auto, using(token_core::proofs::Suffixes::follows), unfolding(crate::specs::ty::Reading::by_mark))]
+    fn by_mark(&self, input: &mut ParseStream<'_>) -> Result<Type<X>, Error>
+        requires types { Nests (knot.ty X.reads) (length self.now.begin) (F.pre self.now.typ) (F.post self.now.typ) }
+        requires few { ahead input.old ≤ length self.now.begin }
+        ensures reads { Reads (reading.by_mark X.reads (knot.types X.reads (length self.now.begin)) input.old) result input.new }
+        ensures within { Follows input.old input.new }
+    {
+        if input.peek::<Star>() {
+            return Ok(Type::Ptr(self.ptr(input)?));
+        }
+        if input.peek::<And>() {
+            return Ok(Type::Reference(self.reference(input)?));
+        }
+        if input.peek::<Not>() {
+            return Ok(Type::Never(parse_never(self.alloc, input)?));
+        }
+        if input.peek::<Underscore>() {
+            return Ok(Type::Infer(parse_infer(self.alloc, input)?));
+        }
+        Err(input.expected(self.alloc, "type"))
+    }
+
+    /// A type (`ambig_ty`), by its first token.
+    #[tactic(auto, using(token_core::proofs::Suffixes::follows), unfolding(crate::specs::ty::Reading::type_step))]
+    fn step(&self, input: &mut ParseStream<'_>, plus: bool) -> Result<Type<X>, Error>
+        requires types { Nests (knot.ty X.reads) (length self.now.begin) (F.pre self.now.typ) (F.post self.now.typ) }
+        requires few { ahead input.old ≤ length self.now.begin }
+        ensures reads { Reads (reading.type_step X.reads (knot.types X.reads (length self.now.begin)) plus input.old) result input.new }
+        ensures within { Follows input.old input.new }
+    {
+        if input.peek::<GroupToken>() {
+            return Err(input.expected(self.alloc, "type"));
+        }
+        if input.peek::<Paren>() {
+            return self.paren_or_tuple(input, plus);
+        }
+        if begins_path(input) {
+            return parse_path_or_macro(self.alloc, input, plus);
+        }
+        if input.peek::<Bracket>() {
+            return self.slice_or_array(input);
+        }
+        self.by_mark(input)
+    }
+}
+
+// ---- the knot
+
+/// Reads a type, where `+` may be allowed or not.
+#[cycle(knot)]
+#[tactic(auto, using(crate::proofs::ty_laws::Knot::turns))]
+pub(crate) fn parse_type<X: Subtree>(
+    alloc: Global,
+    of: PhantomData<X>,
+    input: &mut ParseStream<'_>,
+    plus: bool,
+) -> Result<Type<X>, Error>
+    ensures reads { Reads (knot.ty X.reads plus input.old) result input.new }
+    ensures within { Follows input.old input.new }
+{
+    let begin = input.cursor();
+    let typ = parse_type::<X>;
+    Grammar {
+        alloc,
+        of,
+        begin,
+        typ,
+    }
+    .step(input, plus)
+}

@@ -1,0 +1,12 @@
+use Rattle.std.proofs.Common.{◌≡◌, ◌++◌, drop, option_map}
+use Rattle.token_core.specs.Trees.{trees}
+use Rattle.token_core.specs.Prints.{Extends}
+use Rattle.token_core.specs.Joined.{values_of, marks_of}
+use Rattle.synmid.specs.sample.Printing.{segments}
+use Rattle.synmid.proofs.sample.print_segments.Given as goal
+
+abbrev pub invariant-loop-pair : goal.invariant-loop-pair
+invariant-loop-pair l = record {
+  told : trees l.out ++ segments (values_of (drop l.pair-index l.pairs) (option_map (λ x. x.now) l.last), marks_of (drop l.pair-index l.pairs)) ≡ trees l.initial.out ++ segments l.initial.segments;
+  kept : Extends (trees l.initial.out) (trees l.out);
+}
