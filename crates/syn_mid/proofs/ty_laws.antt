@@ -1,5 +1,3 @@
-pub mod Parts
-pub mod Lone
 pub mod Ahead
 pub mod Knot
 pub mod Elements
@@ -15,3 +13,8 @@ pub mod Normal
 pub mod Prints
 pub mod Reprint
 pub mod KnotReprint
+pub mod Sound
+pub mod KnotSound
+pub mod Parts
+pub mod Lone
+pub mod Laws

@@ -23,7 +23,9 @@ use crate::supplied::{Expr, Place, Subtree};
 use std::alloc::{AllocError, Global};
 use std::marker::PhantomData;
 use token_core::token::{And, Bracket, Comma, Const, Mut, Not, Paren, Semi, Star, Underscore};
-use token_core::{Boxed, Error, Lifetime, Parse, ParseStream, Punctuated, ToTokens, TokenStream};
+use token_core::{
+    Boxed, Error, Lifetime, Parse, ParseStream, Punctuated, ToTokens, TokenStream,
+};
 
 /// A type.
 #[cycle(types)]
@@ -342,7 +344,7 @@ impl Parse for TypeNever {
     fn parse(alloc: Global, input: &mut ParseStream<'_>) -> Result<TypeNever, Error>
         ensures reads { Reads (reading.never input.old) result input.new }
         ensures within { Follows input.old input.new }
-        ensures front { Visible input.old.rest → IfOk result (λ x. IsNever false x input.old.rest input.new.rest) }
+        ensures front { Visible input.old.rest → input.new.left ≡ Option.None → IfOk result (λ x. IsNever false x input.old.rest input.new.rest) }
         ensures promise { Heads grammars.never input.old result input.new }
     {
         parse_never(alloc, input)
@@ -360,7 +362,7 @@ impl Parse for TypeInfer {
     fn parse(alloc: Global, input: &mut ParseStream<'_>) -> Result<TypeInfer, Error>
         ensures reads { Reads (reading.infer input.old) result input.new }
         ensures within { Follows input.old input.new }
-        ensures front { Visible input.old.rest → IfOk result (λ x. IsInfer x input.old.rest input.new.rest) }
+        ensures front { Visible input.old.rest → input.new.left ≡ Option.None → IfOk result (λ x. IsInfer x input.old.rest input.new.rest) }
         ensures promise { Heads grammars.infer input.old result input.new }
     {
         parse_infer(alloc, input)
@@ -378,7 +380,7 @@ impl<X: Subtree> Parse for TypeMacro<X> {
     fn parse(alloc: Global, input: &mut ParseStream<'_>) -> Result<TypeMacro<X>, Error>
         ensures reads { Reads (reading.macro_type input.old) result input.new }
         ensures within { Follows input.old input.new }
-        ensures front { Visible input.old.rest → IfOk result (λ x. IsMacroType false x input.old.rest input.new.rest) }
+        ensures front { Visible input.old.rest → input.new.left ≡ Option.None → IfOk result (λ x. IsMacroType false x input.old.rest input.new.rest) }
         ensures promise { Heads grammars.macro_type input.old result input.new }
     {
         parse_macro_type(alloc, input)
@@ -397,7 +399,7 @@ impl<X: Subtree> Parse for TypePath<X> {
     fn parse(alloc: Global, input: &mut ParseStream<'_>) -> Result<TypePath<X>, Error>
         ensures reads { Reads (reading.path_type input.old) result input.new }
         ensures within { Follows input.old input.new }
-        ensures front { Visible input.old.rest → IfOk result (λ x. IsPathType false x input.old.rest input.new.rest) }
+        ensures front { Visible input.old.rest → input.new.left ≡ Option.None → IfOk result (λ x. IsPathType false x input.old.rest input.new.rest) }
         ensures promise { Heads grammars.path_type input.old result input.new }
     {
         parse_path_type(alloc, input)
@@ -415,12 +417,10 @@ impl Parse for PointerMutability {
     fn parse(alloc: Global, input: &mut ParseStream<'_>) -> Result<PointerMutability, Error>
         ensures reads { Reads (reading.mutability input.old) result input.new }
         ensures within { Follows input.old input.new }
-        ensures front { Visible input.old.rest → IfOk result (λ x. IsMutability x input.old.rest input.new.rest) }
+        ensures front { Visible input.old.rest → input.new.left ≡ Option.None → IfOk result (λ x. IsMutability x input.old.rest input.new.rest) }
         ensures promise { Heads grammars.mutability input.old result input.new }
     {
         parse_mutability(alloc, input)
-    }
-}
 
 // ---- prints
 

@@ -1,0 +1,10 @@
+use Rattle.token_core.proofs.Headlines.{heads}
+use Rattle.syn_mid.specs.ty.Grammars as grammars
+use Rattle.syn_mid.proofs.ty_laws.Laws.{macro_type_lawful, macro_type_front}
+use Rattle.syn_mid.proofs.ty.TypeMacroParse.parse.Goals as goal
+
+pub returns-clause-promise : goal.returns-clause-promise
+returns-clause-promise g c = heads (grammars.macro_type) (macro_type_lawful) _ _ _ c.parse_macro_type.ensures.reads
+
+pub returns-clause-front : goal.returns-clause-front
+returns-clause-front g c = macro_type_front _ _ _ c.parse_macro_type.ensures.reads

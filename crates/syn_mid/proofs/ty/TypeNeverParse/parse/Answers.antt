@@ -1,0 +1,10 @@
+use Rattle.token_core.proofs.Headlines.{heads}
+use Rattle.syn_mid.specs.ty.Grammars as grammars
+use Rattle.syn_mid.proofs.ty_laws.Laws.{never_lawful, never_front}
+use Rattle.syn_mid.proofs.ty.TypeNeverParse.parse.Goals as goal
+
+pub returns-clause-promise : goal.returns-clause-promise
+returns-clause-promise c = heads (grammars.never) (never_lawful) _ _ _ c.parse_never.ensures.reads
+
+pub returns-clause-front : goal.returns-clause-front
+returns-clause-front c = never_front _ _ _ c.parse_never.ensures.reads

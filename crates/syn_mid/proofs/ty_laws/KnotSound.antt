@@ -1,0 +1,92 @@
+-- Where a read of a type answers, the answer spells what was taken: at the knot, by induction on how much is left.
+use Rattle.std.proofs.Common.{◌≡◌, ℕ, zero, suc, ◌<◌, Bool, true, false, None, Ok, refl, sym, ◌∙◌, arith}
+use Rattle.std.specs.Prelude.{nat_lt}
+use Rattle.std.proofs.lemmas.Bool.{ltb-true}
+use Rattle.token_core.specs.Toks.{Toks}
+use Rattle.token_core.specs.Rebuilt.{Visible}
+use Rattle.token_core.specs.Reads.{Reader, leaves}
+use Rattle.token_core.specs.Stream.{Stream}
+use Rattle.syn_mid.specs.declared.supplied.Expr.{Expr}
+use Rattle.syn_mid.specs.declared.ty.Type.{«Type» as TypeTree}
+use Rattle.syn_mid.specs.declared.ty.TypeArrayOf.{TypeArrayOf}
+use Rattle.syn_mid.specs.declared.ty.TypeParenOf.{TypeParenOf}
+use Rattle.syn_mid.specs.declared.ty.TypePtrOf.{TypePtrOf}
+use Rattle.syn_mid.specs.declared.ty.TypeReferenceOf.{TypeReferenceOf}
+use Rattle.syn_mid.specs.declared.ty.TypeSliceOf.{TypeSliceOf}
+use Rattle.syn_mid.specs.declared.ty.TypeTupleOf.{TypeTupleOf}
+use Rattle.syn_mid.specs.Supplied.{Place, UsesUp}
+use Rattle.syn_mid.specs.ty.Knot as knot
+use Rattle.syn_mid.specs.ty.Knot.{ahead, below, below_if, types}
+use Rattle.syn_mid.specs.ty.Spelling.{Relation, TypeBelow, IsSomeType, IsArray, IsSomeArray, IsParen, IsSomeParen, IsPtr, IsSomePtr, IsReference, IsSomeReference, IsSlice, IsSomeSlice, IsTuple, IsSomeTuple}
+use Rattle.syn_mid.proofs.attr_laws.Sound.{TookOne}
+use Rattle.syn_mid.proofs.ty_laws.Knot.{ty-turn}
+use Rattle.syn_mid.proofs.ty_laws.Sound.{type_took, array_took, paren_took, ptr_took, reference_took, slice_took, tuple_took}
+
+-- what a read below a limit answered
+record Below {A : Type 0} (limit : ℕ) (p : Reader A) (s t : Stream) (x : A) : Type 0 where
+  less : ahead s < limit
+  was : p s ≡ Ok (x, t)
+
+out_if : {A : Type 0} (limit : ℕ) (p : Reader A) (s t : Stream) (x : A) (b : Bool) → nat_lt (ahead s) limit ≡ b → below_if b p s ≡ Ok (x, t) → Below limit p s t x
+out_if limit p s t x true h e = record { less = ltb-true _ _ h; was = e }
+out_if limit p s t x false h e = cc
+
+out : {A : Type 0} (limit : ℕ) (p : Reader A) (s t : Stream) (x : A) → below limit p s ≡ Ok (x, t) → Below limit p s t x
+out limit p s t x e = out_if limit p s t x (nat_lt (ahead s) limit) refl e
+
+-- some height
+module _ {A : Type 0} {Is : ℕ → Relation A} (n : ℕ) where
+  at_height : (s t : Stream) (x : A) → TookOne (Is n) s t x → TookOne (λ y l r. (m : ℕ) × Is m y l r) s t x
+  at_height s t x k = record { left = k.left; seen = k.seen; spelt = λ h. (n, k.spelt h) }
+
+module _ {X : Type 0} (reads : Place → Reader X) (spells : Place → X → Toks → Type 0)
+    (sound : (p : Place) (s t : Stream) (x : X) → reads p s ≡ Ok (x, t) → leaves t ≡ None → spells p x s.rest)
+    (complete : (p : Place) (s : Stream) (x : X) → spells p x s.rest → (t : Stream) × (reads p s ≡ Ok (x, t)) × UsesUp s t) where
+  abbrev T : ℕ → Bool → Relation (TypeTree X)
+  T = TypeBelow spells false
+
+  below_took : (n : ℕ) (p : Bool) (s t : Stream) (x : TypeTree X) → ahead s < n → Visible s.rest → knot.ty reads p s ≡ Ok (x, t) → TookOne (T n p) s t x
+  unfolding types
+  below_took zero p s t x h v e = absurd (omega (arith, h))
+  below_took (suc n) p s t x h v e =
+      type_took reads spells sound complete (T n) (types reads (ahead s))
+      (λ q u w y vu k. let b = out (ahead s) (knot.ty reads q) u w y k in let less = b.less in below_took n q u w y (omega (arith, h, less)) vu b.was)
+      p s t x v (sym (ty-turn reads p s) ∙ e)
+
+  -- types where less than the limit is left
+  pub types_sound : (limit : ℕ) (p : Bool) (s t : Stream) (x : TypeTree X) → Visible s.rest → types reads limit p s ≡ Ok (x, t) → TookOne (TypeBelow spells false limit p) s t x
+  unfolding types
+  types_sound limit p s t x v e = let b = out limit (knot.ty reads p) s t x e in below_took limit p s t x b.less v b.was
+
+  pub ty_sound : (p : Bool) (s t : Stream) (x : TypeTree X) → Visible s.rest → knot.ty reads p s ≡ Ok (x, t) → TookOne (IsSomeType spells false p) s t x
+  ty_sound p s t x v e = at_height {Is = λ n. T n p} (suc (ahead s)) s t x (below_took (suc (ahead s)) p s t x (omega arith) v e)
+
+  pub array_sound : (s t : Stream) (x : TypeArrayOf (TypeTree X) (Expr X)) → Visible s.rest → knot.array reads s ≡ Ok (x, t) → TookOne (IsSomeArray spells false) s t x
+  unfolding knot.array
+  array_sound s t x v e =
+      at_height {Is = λ n. IsArray spells false (T n)} (ahead s) s t x (array_took reads spells sound complete (T (ahead s)) (types reads (ahead s)) (types_sound (ahead s)) s t x v e)
+
+  pub paren_sound : (s t : Stream) (x : TypeParenOf (TypeTree X)) → Visible s.rest → knot.paren reads s ≡ Ok (x, t) → TookOne (IsSomeParen spells false) s t x
+  unfolding knot.paren
+  paren_sound s t x v e =
+      at_height {Is = λ n. IsParen spells false (T n) false} (ahead s) s t x (paren_took reads spells sound complete (T (ahead s)) (types reads (ahead s)) (types_sound (ahead s)) s t x v e)
+
+  pub ptr_sound : (s t : Stream) (x : TypePtrOf (TypeTree X)) → Visible s.rest → knot.ptr reads s ≡ Ok (x, t) → TookOne (IsSomePtr spells false) s t x
+  unfolding knot.ptr
+  ptr_sound s t x v e =
+      at_height {Is = λ n. IsPtr spells false (T n)} (ahead s) s t x (ptr_took reads spells sound complete (T (ahead s)) (types reads (ahead s)) (types_sound (ahead s)) s t x v e)
+
+  pub reference_sound : (s t : Stream) (x : TypeReferenceOf (TypeTree X)) → Visible s.rest → knot.reference reads s ≡ Ok (x, t) → TookOne (IsSomeReference spells false) s t x
+  unfolding knot.reference
+  reference_sound s t x v e =
+      at_height {Is = λ n. IsReference spells false (T n)} (ahead s) s t x (reference_took reads spells sound complete (T (ahead s)) (types reads (ahead s)) (types_sound (ahead s)) s t x v e)
+
+  pub slice_sound : (s t : Stream) (x : TypeSliceOf (TypeTree X)) → Visible s.rest → knot.slice reads s ≡ Ok (x, t) → TookOne (IsSomeSlice spells false) s t x
+  unfolding knot.slice
+  slice_sound s t x v e =
+      at_height {Is = λ n. IsSlice spells false (T n)} (ahead s) s t x (slice_took reads spells sound complete (T (ahead s)) (types reads (ahead s)) (types_sound (ahead s)) s t x v e)
+
+  pub tuple_sound : (s t : Stream) (x : TypeTupleOf (TypeTree X)) → Visible s.rest → knot.tuple reads s ≡ Ok (x, t) → TookOne (IsSomeTuple spells false) s t x
+  unfolding knot.tuple
+  tuple_sound s t x v e =
+      at_height {Is = λ n. IsTuple spells false (T n)} (ahead s) s t x (tuple_took reads spells sound complete (T (ahead s)) (types reads (ahead s)) (types_sound (ahead s)) s t x v e)
