@@ -421,6 +421,8 @@ impl Parse for PointerMutability {
         ensures promise { Heads grammars.mutability input.old result input.new }
     {
         parse_mutability(alloc, input)
+    }
+}
 
 // ---- prints
 
