@@ -1,4 +1,4 @@
--- Lists by their parts: an element weighs no more than the list, and the last is printed after those before it.
+-- Lists by their parts: an element measures no more than the list, and the last is printed after those before it.
 use Rattle.std.proofs.Common.{◌≡◌, ℕ, zero, suc, ◌<◌, ◌≤◌, List, [], ◌∷◌, ◌++◌, Option, Some, get_or, length, drop, sym, ap, ◌∙◌, append-nil, arith}
 use Rattle.std.proofs.lemmas.List.{drop_all}
 use denote.Param.Weighed.{most}
@@ -8,27 +8,27 @@ use Rattle.token_core.specs.Lists.{joined}
 use Rattle.token_core.specs.Loops.{Many}
 use Rattle.token_core.specs.Prints.{Print}
 
-module _ {T P : Type 0} (weight : T → ℕ) where
-  pub value_weighs : (all : List (Pair T P)) (last : Option T) (i : ℕ) (x : Pair T P) → i < length all → x ≡ get_or all i x → weight x.value ≤ most weight (values_of all last)
-  value_weighs [] last i x h e = absurd (omega (arith, h))
-  value_weighs (y ∷ all) last zero x h e = let k : weight x.value ≡ weight y.value = ap (λ z. weight z.value) e in omega (arith, k)
-  value_weighs (y ∷ all) last (suc i) x h e = let k : weight x.value ≤ most weight (values_of all last) = value_weighs all last i x (omega (arith, h)) e in omega (arith, k)
+module _ {T P : Type 0} (measure : T → ℕ) where
+  pub value_measures : (all : List (Pair T P)) (last : Option T) (i : ℕ) (x : Pair T P) → i < length all → x ≡ get_or all i x → measure x.value ≤ most measure (values_of all last)
+  value_measures [] last i x h e = absurd (omega (arith, h))
+  value_measures (y ∷ all) last zero x h e = let k : measure x.value ≡ measure y.value = ap (λ z. measure z.value) e in omega (arith, k)
+  value_measures (y ∷ all) last (suc i) x h e = let k : measure x.value ≤ most measure (values_of all last) = value_measures all last i x (omega (arith, h)) e in omega (arith, k)
 
-  pub last_weighs : (all : List (Pair T P)) (t : T) → weight t ≤ most weight (values_of all (Some t))
-  last_weighs [] t = omega arith
-  last_weighs (y ∷ all) t = let k : weight t ≤ most weight (values_of all (Some t)) = last_weighs all t in omega (arith, k)
+  pub last_measures : (all : List (Pair T P)) (t : T) → measure t ≤ most measure (values_of all (Some t))
+  last_measures [] t = omega arith
+  last_measures (y ∷ all) t = let k : measure t ≤ most measure (values_of all (Some t)) = last_measures all t in omega (arith, k)
 
   -- of a list, by its parts
-  pub in_list : (v : Many T P) (all : List (Pair T P)) (last : Option T) (i : ℕ) (x : Pair T P) → v ≡ (values_of all last, marks_of all) → i < length all → x ≡ get_or all i x → weight x.value ≤ most weight v.0
+  pub in_list : (v : Many T P) (all : List (Pair T P)) (last : Option T) (i : ℕ) (x : Pair T P) → v ≡ (values_of all last, marks_of all) → i < length all → x ≡ get_or all i x → measure x.value ≤ most measure v.0
   in_list v all last i x p h e =
-      let k : most weight v.0 ≡ most weight (values_of all last) = ap (λ (z : Many T P). most weight z.0) p in
-      omega (arith, k, value_weighs all last i x h e)
+      let k : most measure v.0 ≡ most measure (values_of all last) = ap (λ (z : Many T P). most measure z.0) p in
+      omega (arith, k, value_measures all last i x h e)
 
-  pub last_in_list : (v : Many T P) (all : List (Pair T P)) (last : Option T) (t : T) → v ≡ (values_of all last, marks_of all) → last ≡ Some t → weight t ≤ most weight v.0
+  pub last_in_list : (v : Many T P) (all : List (Pair T P)) (last : Option T) (t : T) → v ≡ (values_of all last, marks_of all) → last ≡ Some t → measure t ≤ most measure v.0
   last_in_list v all last t p e =
-      let k : most weight v.0 ≡ most weight (values_of all last) = ap (λ (z : Many T P). most weight z.0) p in
-      let m : most weight (values_of all last) ≡ most weight (values_of all (Some t)) = ap (λ l. most weight (values_of all l)) e in
-      omega (arith, k, m, last_weighs all t)
+      let k : most measure v.0 ≡ most measure (values_of all last) = ap (λ (z : Many T P). most measure z.0) p in
+      let m : most measure (values_of all last) ≡ most measure (values_of all (Some t)) = ap (λ l. most measure (values_of all l)) e in
+      omega (arith, k, m, last_measures all t)
 
 module _ {T P : Type 0} (f : T → Print) (g : P → Print) where
   -- after those that have a mark, the last

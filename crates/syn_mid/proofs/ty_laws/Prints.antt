@@ -26,7 +26,8 @@ use Rattle.syn_mid.specs.declared.ty.TypeReferenceOf.{TypeReferenceOf}
 use Rattle.syn_mid.specs.declared.ty.TypeSliceOf.{TypeSliceOf}
 use Rattle.syn_mid.specs.declared.ty.TypeTupleOf.{TypeTupleOf}
 use Rattle.syn_mid.specs.attr.Printing.{literal_by, meta, value}
-use Rattle.syn_mid.specs.ty.Printing.{Comma, infer, never, macro_type, path_type, array, paren, ptr, reference, slice, tuple, lone_comma, len, len_layer, ty, ty_step}
+use Rattle.syn_mid.specs.ty.Types.{Comma}
+use Rattle.syn_mid.specs.ty.Printing.{infer, never, macro_type, path_type, array, paren, ptr, reference, slice, tuple, lone_comma, len, len_layer, ty, ty_step}
 use Rattle.syn_mid.proofs.attr_laws.Prints.{prints_literal}
 
 module _ {X : Type 0} (px : Place → X → Print) where

@@ -1,7 +1,6 @@
 -- What types print.
 use Rattle.std.specs.Prelude.{List, [], ◌∷◌, ◌++◌, Option, Some, None}
 use Rattle.token_core.specs.declared.lifetime.Lifetime.{Lifetime}
-use Rattle.token_core.specs.declared.mark.Mark.{Mark}
 use Rattle.token_core.specs.declared.word.Word.{Word}
 use Rattle.token_core.specs.declared.tree.Delimiter.TheVariants.{Parenthesis, Bracket}
 use Rattle.token_core.specs.Lifetimes as lifetimes
@@ -34,6 +33,7 @@ use Rattle.syn_mid.specs.declared.ty.TypeTupleOf.{TypeTupleOf}
 use Rattle.syn_mid.specs.attr.Printing.{literal_by, meta}
 use Rattle.syn_mid.specs.mac.Printing.{mac}
 use Rattle.syn_mid.specs.path.Printing.{path, as_written}
+use Rattle.syn_mid.specs.ty.Types.{Comma}
 
 abbrev pub infer : TypeInfer → Print
 infer x = p.word x.underscore_token
@@ -60,9 +60,6 @@ lifetime (Some x) = lifetimes.print x
 abbrev pub mutability : Option (Word 13) → Print
 mutability None = []
 mutability (Some w) = p.word w
-
-abbrev pub Comma : Type 0
-Comma = Mark 4 1
 
 -- `,` that stands nowhere
 abbrev pub comma : Comma
