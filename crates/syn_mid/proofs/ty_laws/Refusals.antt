@@ -12,7 +12,8 @@ use Rattle.token_core.proofs.Steps.{link, chosen}
 use Rattle.token_core.proofs.Turns.{same_pair}
 use Rattle.syn_mid.specs.declared.ty.Type.{«Type» as TypeTree}
 use Rattle.syn_mid.specs.Supplied.{Place}
-use Rattle.syn_mid.specs.ty.Reading.{InParens, InBrackets, elements, counted, Length, length, more_elements, paren_content, bracket_content, paren_or_tuple, slice_or_array, held_in_parens, held_in_brackets, sees_comma, sees_semi}
+use Rattle.syn_mid.specs.ty.Types.{array_of}
+use Rattle.syn_mid.specs.ty.Reading.{InParens, InBrackets, elements, counted, Length, length, more_elements, array, array_content, paren_content, bracket_content, paren_or_tuple, slice_or_array, held_in_parens, held_in_brackets, sees_comma, sees_semi}
 
 -- a read that is refused, mapped
 mapped_refused : {A B : Type 0} (o : Outcome A) (f : A → B) (e : Refusal) → o ≡ Err e → and_then o (λ x. pure (f x)) ≡ Err e
@@ -29,6 +30,9 @@ group_refused {A} {T} f x name p s t g e h k = by_outcome (open_group x name s) 
     by_outcome (Err r) h = cc
 
 module _ {X : Type 0} (supplied : Place → Reader X) (typ : Bool → Reader (TypeTree X)) where
+  abbrev Held : Type 0
+  Held = TypeTree X × Length X
+
   -- the length of an array
   pub length_refused : {T : Type 0} (f : DelimSpan → T) (s t u : Stream) (g : T × Stream) (x : TypeTree X) (e : Refusal) → groups.opened f (open_group d.Bracket groups.bracket_name s) ≡ Ok (g, t) →
       typ true g.1 ≡ Ok (x, u) → sees_semi u.rest ≡ true → length supplied u ≡ Err e → slice_or_array supplied typ s ≡ Err e
@@ -37,6 +41,14 @@ module _ {X : Type 0} (supplied : Place → Reader X) (typ : Bool → Reader (Ty
       mapped_refused _ (held_in_brackets supplied typ) e
       (group_refused f d.Bracket groups.bracket_name (bracket_content supplied typ) s t g e h
       (link _ i (chosen (sees_semi u.rest) true _ _ u _ b (mapped_refused (length supplied u) (counted x) e k))))
+
+  -- the same, of the reader of arrays
+  pub counted_refused : {T : Type 0} (f : DelimSpan → T) (s t u : Stream) (g : T × Stream) (x : TypeTree X) (e : Refusal) → groups.opened f (open_group d.Bracket groups.bracket_name s) ≡ Ok (g, t) →
+      typ true g.1 ≡ Ok (x, u) → length supplied u ≡ Err e → array supplied typ s ≡ Err e
+  unfolding array array_content
+  counted_refused f s t u g x e h i k =
+      let content : array_content supplied typ g.1 ≡ Err e = link _ i (mapped_refused (length supplied u) (λ (n : Length X). (x, n)) e k) in
+      mapped_refused (in_group d.Bracket groups.bracket_name (array_content supplied typ) s) (λ (q : DelimSpan × Held). array_of (groups.bracket q.0) q.1.0 q.1.1.0 q.1.1.1) e (group_refused f d.Bracket groups.bracket_name (array_content supplied typ) s t g e h content)
 
   -- the further elements of a tuple
   pub elements_refused : {T : Type 0} (f : DelimSpan → T) (plus : Bool) (s t u : Stream) (g : T × Stream) (x : TypeTree X) (e : Refusal) → groups.opened f (open_group d.Parenthesis groups.paren_name s) ≡ Ok (g, t) →
