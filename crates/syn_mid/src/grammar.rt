@@ -156,10 +156,7 @@ fn sees_call(input: &ParseStream<'_>) -> bool
 }
 
 /// `!`
-pub(crate) fn parse_never(
-    alloc: Global,
-    input: &mut ParseStream<'_>,
-) -> Result<TypeNever, Error>
+pub(crate) fn parse_never(alloc: Global, input: &mut ParseStream<'_>) -> Result<TypeNever, Error>
     ensures reads { Reads (reading.never input.old) result input.new }
     ensures within { Follows input.old input.new }
 {
@@ -168,10 +165,7 @@ pub(crate) fn parse_never(
 }
 
 /// `_`
-pub(crate) fn parse_infer(
-    alloc: Global,
-    input: &mut ParseStream<'_>,
-) -> Result<TypeInfer, Error>
+pub(crate) fn parse_infer(alloc: Global, input: &mut ParseStream<'_>) -> Result<TypeInfer, Error>
     ensures reads { Reads (reading.infer input.old) result input.new }
     ensures within { Follows input.old input.new }
 {
@@ -254,8 +248,7 @@ impl<
     'a,
     X: Subtree,
     F: Fn(Global, PhantomData<X>, &mut ParseStream<'_>, bool) -> Result<Type<X>, Error>,
-> Grammar<'a, X, F>
-{
+> Grammar<'a, X, F> {
     /// A type that another one holds.
     #[tactic(auto, using(crate::proofs::ty_laws::Ahead::later), unfolding(crate::specs::ty::Knot::types))]
     fn nested(&self, input: &mut ParseStream<'_>, plus: bool) -> Result<Type<X>, Error>
@@ -270,7 +263,11 @@ impl<
 
     /// A comma, and the elements of a tuple after the first one.
     #[tactic(auto, using(token_core::proofs::Suffixes::follows), unfolding(crate::specs::ty::Reading::more_elements))]
-    fn more_elements(&self, input: &mut ParseStream<'_>, first: Type<X>) -> Result<Punctuated<Type<X>, Comma>, Error>
+    fn more_elements(
+        &self,
+        input: &mut ParseStream<'_>,
+        first: Type<X>,
+    ) -> Result<Punctuated<Type<X>, Comma>, Error>
         requires types { Nests (knot.ty X.reads) (length self.now.begin) (F.pre self.now.typ) (F.post self.now.typ) }
         requires few { ahead input.old ≤ length self.now.begin }
         ensures reads { Reads (reading.more_elements X.reads (knot.types X.reads (length self.now.begin)) first input.old) result input.new }
@@ -294,7 +291,10 @@ impl<
 
     /// What the parentheses of a tuple hold.
     #[tactic(auto, using(token_core::proofs::Suffixes::follows), unfolding(crate::specs::ty::Reading::tuple_content))]
-    fn tuple_content(&self, input: &mut ParseStream<'_>) -> Result<Punctuated<Type<X>, Comma>, Error>
+    fn tuple_content(
+        &self,
+        input: &mut ParseStream<'_>,
+    ) -> Result<Punctuated<Type<X>, Comma>, Error>
         requires types { Nests (knot.ty X.reads) (length self.now.begin) (F.pre self.now.typ) (F.post self.now.typ) }
         requires few { ahead input.old < length self.now.begin }
         ensures reads { Reads (reading.tuple_content X.reads (knot.types X.reads (length self.now.begin)) input.old) result input.new }

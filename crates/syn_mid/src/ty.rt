@@ -23,9 +23,7 @@ use crate::supplied::{Expr, Place, Subtree};
 use std::alloc::{AllocError, Global};
 use std::marker::PhantomData;
 use token_core::token::{And, Bracket, Comma, Const, Mut, Not, Paren, Semi, Star, Underscore};
-use token_core::{
-    Boxed, Error, Lifetime, Parse, ParseStream, Punctuated, ToTokens, TokenStream,
-};
+use token_core::{Boxed, Error, Lifetime, Parse, ParseStream, Punctuated, ToTokens, TokenStream};
 
 /// A type.
 #[cycle(types)]

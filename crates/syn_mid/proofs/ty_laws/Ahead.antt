@@ -134,5 +134,7 @@ pub star_taken : (s t : Stream) (r : Result (Mark 26 1) Refusal) → Parsed (Giv
 star_taken = taken 26 1 42 [] refl
 
 pub ruleset later = (ahead_follows)
+
 pub ruleset inside_groups = (opened_ahead)
+
 pub ruleset past_marks = (comma_taken, and_taken, star_taken)
