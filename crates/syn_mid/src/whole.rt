@@ -1,6 +1,6 @@
 //! The readers that are no `Parse` of their tree, as parsers.
 
-ghost use Rattle.std.specs.Prelude.{◌≡◌};
+ghost use Rattle.std.specs.Prelude.{◌≡◌, false};
 ghost use Rattle.token_core.specs.Reads.{Gives, Fails};
 ghost use Rattle.token_core.specs.Headline.{Headline};
 ghost use Rattle.syn_mid.specs.attr.Grammars as grammars;

@@ -1,9 +1,8 @@
 -- How much of the buffer is left: less after a token, and inside a group.
 use Rattle.std.specs.Prelude.{IfOk, Result}
-use Rattle.std.proofs.Common.{◌≡◌, ◌<◌, ◌≤◌, ◌+◌, ◌++◌, ℕ, suc, Bool, true, false, if◌then◌else◌, [], ◌∷◌, length, Option, Some, None, Ok, Err, refl, sym, ◌∙◌, ap, subst, arith}
+use Rattle.std.proofs.Common.{◌≡◌, ◌<◌, ◌≤◌, ◌+◌, ℕ, suc, Bool, true, false, if◌then◌else◌, [], ◌∷◌, length, Option, Some, None, Ok, Err, refl, ap, subst, arith}
 use Rattle.std.proofs.lemmas.List.{length-append}
 use Rattle.token_core.specs.declared.span.DelimSpan.{DelimSpan}
-use Rattle.token_core.specs.declared.span.Span.{Span}
 use Rattle.token_core.specs.declared.tree.Delimiter.{Delimiter}
 use Rattle.token_core.specs.declared.mark.Mark.{Mark}
 use Rattle.token_core.specs.Front.{front}
@@ -16,7 +15,7 @@ use Rattle.token_core.specs.Stream.{Stream}
 use Rattle.token_core.specs.Toks.{Bytes, Toks, done, word, mark, lit, group, enter, leave}
 use Rattle.token_core.specs.Reads.{Outcome, Follows, Parsed, Gives, Fails, IsSuffix, all_of, past_word, past_punct, past_lit, past_group, past_enter, past_leave, as_group, same_delimiter, inside, past, opened, open_group, expected}
 use Rattle.token_core.proofs.Takes.{named_takes}
-use Rattle.token_core.proofs.Turns.{size_suffix, same_pair}
+use Rattle.token_core.proofs.Turns.{same_pair}
 use Rattle.syn_mid.specs.ty.Knot.{ahead}
 
 -- the number of a list's items

@@ -1,5 +1,5 @@
 -- Where what a group holds is refused, so is the type in that group.
-use Rattle.std.proofs.Common.{◌≡◌, Bool, true, false, Ok, Err, sym, ◌∙◌, ap}
+use Rattle.std.proofs.Common.{◌≡◌, Bool, true, false, Ok, Err, ◌∙◌, ap}
 use Rattle.token_core.specs.declared.span.DelimSpan.{DelimSpan}
 use Rattle.token_core.specs.declared.tree.Delimiter.{Delimiter}
 use Rattle.token_core.specs.declared.tree.Delimiter.TheVariants as d
@@ -7,13 +7,13 @@ use Rattle.token_core.specs.Groups as groups
 use Rattle.token_core.specs.Refusal.{Refusal}
 use Rattle.token_core.specs.Stream.{Stream}
 use Rattle.token_core.specs.Toks.{Bytes}
-use Rattle.token_core.specs.Reads.{Reader, Outcome, ◌>>=◌, and_then, pure, closing, in_group, open_group, is_done}
+use Rattle.token_core.specs.Reads.{Reader, Outcome, and_then, pure, closing, in_group, open_group, is_done}
 use Rattle.token_core.proofs.Steps.{link, chosen}
 use Rattle.token_core.proofs.Turns.{same_pair}
 use Rattle.syn_mid.specs.declared.ty.Type.{«Type» as TypeTree}
 use Rattle.syn_mid.specs.Supplied.{Place}
 use Rattle.syn_mid.specs.ty.Types.{array_of}
-use Rattle.syn_mid.specs.ty.Reading.{InParens, InBrackets, elements, counted, Length, length, more_elements, array, array_content, paren_content, bracket_content, paren_or_tuple, slice_or_array, held_in_parens, held_in_brackets, sees_comma, sees_semi}
+use Rattle.syn_mid.specs.ty.Reading.{elements, counted, Length, length, more_elements, array, array_content, paren_content, bracket_content, paren_or_tuple, slice_or_array, held_in_parens, held_in_brackets, sees_comma, sees_semi}
 
 -- a read that is refused, mapped
 mapped_refused : {A B : Type 0} (o : Outcome A) (f : A → B) (e : Refusal) → o ≡ Err e → and_then o (λ x. pure (f x)) ≡ Err e

@@ -54,7 +54,7 @@ use Rattle.syn_mid.specs.ty.Reading as reading
 use Rattle.syn_mid.specs.ty.Reading.{Length, InParens, one, elements, InBrackets, element, counted, sees_plus, sees_comma, sees_semi, sees_star, sees_and, sees_bang, sees_named, sees_call, begins_path, mutable, ended, path_or_macro, more_elements, tuple_content, paren_content, bracket_content, array_content, held_in_parens, held_in_brackets, paren_or_tuple, slice_or_array, by_mark, type_step}
 use Rattle.syn_mid.specs.ty.Spelling.{Relation, IsOptional, absent, present, IsMutability, a_const, a_mut, IsInfer, an_infer, IsNever, a_never, IsPathType, a_path_type, IsMacroType, a_macro_type, AreElements, no_elements, some_elements, IsTuple, a_tuple, IsParen, a_paren, IsSlice, a_slice, IsArray, an_array, IsPtr, a_ptr, IsReference, a_reference, IsType}
 use Rattle.syn_mid.specs.ty.Spelling as is
-use Rattle.syn_mid.specs.ty.Types.{Comma, Mut, array_of, infer_of, macro_type_of, never_of, paren_of, path_type_of, ptr_of, reference_of, slice_of, tuple_of, try_first, is_try_path}
+use Rattle.syn_mid.specs.ty.Types.{Comma, array_of, infer_of, macro_type_of, never_of, paren_of, path_type_of, ptr_of, reference_of, slice_of, tuple_of, try_first, is_try_path}
 use Rattle.syn_mid.proofs.attr_laws.Sound.{TookOne, first_parts}
 use Rattle.syn_mid.proofs.mac_laws.Sound.{macro_sound, call_sound, visible_call}
 use Rattle.syn_mid.proofs.path_laws.Sound.{plain_sound, visible_path}

@@ -1,19 +1,14 @@
 -- The reads of types, as functions of the stream, over the read of the types that they hold.
-use Rattle.std.specs.Prelude.{ℕ, Bool, true, false, not, ◌&&◌, ◌||◌, if◌then◌else◌, List, [], ◌∷◌, Option, Some, None, Err, codes}
+use Rattle.std.specs.Prelude.{ℕ, Bool, true, false, not, ◌&&◌, ◌||◌, if◌then◌else◌, [], ◌∷◌, Option, Err, codes}
 use Rattle.token_core.specs.declared.tree.Delimiter.TheVariants as d
 use Rattle.token_core.specs.declared.span.DelimSpan.{DelimSpan}
 use Rattle.token_core.specs.declared.error.ErrorKind.TheVariants.{Unexpected}
-use Rattle.token_core.specs.declared.lifetime.Lifetime.{Lifetime}
 use Rattle.token_core.specs.Groups as groups
 use Rattle.token_core.specs.Lifetimes.{read_optional_lifetime}
-use Rattle.token_core.specs.Looks as looks
 use Rattle.token_core.specs.Loops.{Many, terminated}
 use Rattle.token_core.specs.Marks as marks
-use Rattle.token_core.specs.Stream.{Stream}
-use Rattle.token_core.specs.TokenNames.{word_number}
 use Rattle.token_core.specs.Toks.{Bytes, Toks}
 use Rattle.token_core.specs.Reads.{Reader, ◌>>=◌, ◌<$>◌, pure, peek, optional, refuse, expected, is_done, is_text, sees_mark, sees_word, sees_group, in_group}
-use Rattle.syn_mid.specs.declared.path.Path.{Path}
 use Rattle.syn_mid.specs.declared.supplied.Expr.{Expr}
 use Rattle.syn_mid.specs.declared.supplied.Expr.TheVariants as e
 use Rattle.syn_mid.specs.declared.ty.PointerMutability.{PointerMutability}
@@ -34,7 +29,7 @@ use Rattle.syn_mid.specs.Supplied.{Place, ArrayLen}
 use Rattle.syn_mid.specs.mac.Reading as macs
 use Rattle.syn_mid.specs.path.Reading.{plain_path, sees_sep}
 use Rattle.syn_mid.specs.path.Spelling.{is_mod_word}
-use Rattle.syn_mid.specs.ty.Types.{And, Star, Comma, Semi, Mut, Underscore, array_of, infer_of, macro_type_of, never_of, paren_of, path_type_of, ptr_of, reference_of, slice_of, tuple_of}
+use Rattle.syn_mid.specs.ty.Types.{And, Star, Comma, Semi, Mut, array_of, infer_of, macro_type_of, never_of, paren_of, path_type_of, ptr_of, reference_of, slice_of, tuple_of}
 
 -- ---- tests
 
