@@ -1,4 +1,4 @@
-use Rattle.std.proofs.Common.{◌≡◌, suc, ◌+◌, ◌*◌, ◌<◌, ◌≤◌, Some, Bor, ◌∙◌, ap, arith}
+use Rattle.std.proofs.Common.{◌≡◌, suc, ◌+◌, ◌*◌, ◌<◌, Some, Bor, ◌∙◌, ap, arith}
 use Rattle.std.specs.Option.{option_map}
 use Rattle.token_core.specs.Joined.{values_of}
 use Rattle.synmid.specs.declared.sample.Atom.{Atom}
