@@ -20,6 +20,8 @@ mod sample_tests;
 #[cfg(test)]
 mod tests;
 #[cfg(test)]
+mod type_read_tests;
+#[cfg(test)]
 mod type_tests;
 
 use channel::Plain;
