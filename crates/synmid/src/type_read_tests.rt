@@ -87,7 +87,10 @@ fn slices_are_told_from_arrays(rt: HostRuntime) {
         ("[A; 1]", "[A ; 1]"),
         ("[A]", "unexpected end of input, expected `;` 2-3 2-3"),
         ("[A; 1 2]", "unexpected token 6-7 6-7"),
-        ("[u8; ]", "unexpected end of input, expected identifier 5-6 5-6"),
+        (
+            "[u8; ]",
+            "unexpected end of input, expected identifier 5-6 5-6",
+        ),
     ] {
         says(&rt, alloc, read(alloc, Reader::TypeArray, text), wanted);
     }
@@ -101,7 +104,12 @@ fn pointers_have_a_mutability(rt: HostRuntime) {
         ("mut", "mut"),
         ("A", "expected `const` or `mut` 0-1 0-1"),
     ] {
-        says(&rt, alloc, read(alloc, Reader::PointerMutability, text), wanted);
+        says(
+            &rt,
+            alloc,
+            read(alloc, Reader::PointerMutability, text),
+            wanted,
+        );
     }
     for (text, wanted) in [
         ("*const A", "* const A"),
@@ -134,7 +142,10 @@ fn types_are_refused(rt: HostRuntime) {
         ("try::a", "expected type 0-3 0-3"),
         ("1", "expected type 0-1 0-1"),
         ("fn", "expected type 0-2 0-2"),
-        ("[u8; ]", "unexpected end of input, expected identifier 5-6 5-6"),
+        (
+            "[u8; ]",
+            "unexpected end of input, expected identifier 5-6 5-6",
+        ),
     ] {
         says(&rt, alloc, read(alloc, Reader::AnyType, text), wanted);
     }
@@ -151,7 +162,11 @@ fn forms_are_read_alone(rt: HostRuntime) {
         (Reader::TypePath, "A<B>", "unexpected token 1-2 1-2"),
         (Reader::TypePath, "_", "expected identifier 0-1 0-1"),
         (Reader::TypeMacro, "m!()", "m ! ()"),
-        (Reader::TypeMacro, "m", "unexpected end of input, expected `!` 0-0 0-0"),
+        (
+            Reader::TypeMacro,
+            "m",
+            "unexpected end of input, expected `!` 0-0 0-0",
+        ),
         (Reader::TypeNever, "!", "!"),
         (Reader::TypeNever, "A", "expected `!` 0-1 0-1"),
         (Reader::TypeInfer, "_", "_"),

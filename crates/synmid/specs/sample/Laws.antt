@@ -9,7 +9,6 @@ use Rattle.token_core.specs.declared.tree.Ident.{Ident}
 use Rattle.token_core.specs.declared.tree.Spacing.TheVariants.{Joint}
 use Rattle.token_core.specs.declared.tree.Delimiter.{Delimiter}
 use Rattle.token_core.specs.declared.tree.Delimiter.TheVariants as d
-use Rattle.token_core.specs.declared.tree.Literal.{Literal}
 use Rattle.token_core.specs.declared.tree.Punct.{Punct}
 use Rattle.token_core.specs.declared.lit.Lit.{Lit}
 use Rattle.token_core.specs.declared.lit.Lit.TheVariants as v
@@ -27,7 +26,7 @@ use Rattle.token_core.specs.Listed.{AreListed, none_left, last_value, value_and_
 use Rattle.token_core.specs.Spellings.{IsMark, is_mark, AreChars, last_char, more_chars, IsLit, a_literal, a_bool, a_negative}
 use Rattle.token_core.specs.Lits.{sees_lit, read_lit}
 use Rattle.token_core.specs.Lits as lits
-use Rattle.token_core.specs.Reads.{Outcome, Reader, leaves, left_here, here, first_of, in_group, inside, sees_group, is_done, expected, sees_mark, sees_word, read_word, next_word, any_text, ident_name}
+use Rattle.token_core.specs.Reads.{Outcome, Reader, leaves, left_here, here, first_of, in_group, inside, sees_group, is_done, expected, sees_word, read_word, next_word, any_text, ident_name}
 use Rattle.token_core.specs.Keywords.{is_keyword}
 use Rattle.token_core.proofs.Steps.{link, chosen, Reads_to}
 use Rattle.token_core.proofs.Took.{at, branch, mapped, took_word, took_all, leaves_none, seen_word}

@@ -9,7 +9,6 @@ use Rattle.token_core.specs.Prints.{Print}
 use Rattle.token_core.specs.Lits as lits
 use Rattle.token_core.specs.Lists.{joined}
 use Rattle.token_core.specs.Trees.{stream_of_trees}
-use Rattle.synmid.specs.declared.sample.Atom.{Atom}
 use Rattle.synmid.specs.declared.sample.Atom.TheFolds.{fold-roll-Atom}
 use Rattle.synmid.specs.declared.sample.Atom.TheOpen as o
 use Rattle.synmid.specs.declared.sample.Atom.TheVariants as a
