@@ -6,3 +6,4 @@ pub mod Complete
 pub mod Prints
 pub mod Reprint
 pub mod Laws
+pub mod Normal

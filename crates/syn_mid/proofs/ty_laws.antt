@@ -11,6 +11,8 @@ pub mod Complete
 pub mod KnotComplete
 pub mod Normal
 pub mod Prints
+pub mod Each
+pub mod Stays
 pub mod Reprint
 pub mod KnotReprint
 pub mod Sound

@@ -4,3 +4,4 @@ pub mod mac
 pub mod attr
 pub mod meta
 pub mod ty
+pub mod generics

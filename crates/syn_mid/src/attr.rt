@@ -590,6 +590,24 @@ fn print_attribute<X: Subtree>(
     print_around(alloc, attr, content, out)
 }
 
+/// The outer attributes of a list, before the node that bears them; refused, what stood before is kept.
+#[tactic(auto, using(token_core::proofs::Puts::puts))]
+pub(crate) fn print_outer<X: Subtree>(
+    alloc: Global,
+    attrs: &Items<Attribute<X>>,
+    out: &mut TokenStream,
+) -> Result<(), AllocError>
+    ensures ok { OnOk result (trees out.new ≡ trees out.old ++ printing.outer_by (printing.meta (X.prints Value)) attrs.now) }
+    ensures err { OnErr result (Extends (trees out.old) (trees out.new)) }
+{
+    for attribute in attrs.as_slice() {
+        if attribute.style.is_outer() {
+            print_attribute(alloc, attribute, out)?;
+        }
+    }
+    Ok(())
+}
+
 /// Appends an attribute around the tokens of its content; refused, what stood before is kept.
 #[tactic(auto, using(token_core::proofs::Puts::puts))]
 fn print_around<M>(

@@ -2,17 +2,22 @@
 #![tactic(auto)]
 
 pub mod attr;
+pub mod generics;
 mod grammar;
 pub mod mac;
 pub mod meta;
 pub mod path;
 pub mod supplied;
-#[cfg(test)]
-mod tests;
 pub mod ty;
 pub mod whole;
 
 pub use attr::{AttrStyle, Attribute, AttributeOf, Meta, MetaList, MetaNameValue};
+pub use generics::{
+    BoundLifetimes, BoundLifetimesOf, CapturedParam, ConstParam, GenericParam, Generics,
+    LifetimeParam, PreciseCapture, PredicateLifetime, PredicateType, TraitBound,
+    TraitBoundModifiers, TraitBoundOf, TypeParam, TypeParamBound, TypeParamOf, WhereClause,
+    WherePredicate,
+};
 pub use mac::{Macro, MacroDelimiter};
 pub use path::{
     AngleBracketedGenericArguments, ParenthesizedGenericArguments, Path, PathArguments, PathSegment,

@@ -6,6 +6,7 @@ ghost use Rattle.token_core.specs.Prints.{Extends};
 ghost use Rattle.token_core.specs.Reads.{Reads, Follows, Gives, Fails};
 ghost use Rattle.token_core.specs.Rebuilt.{Visible};
 ghost use Rattle.token_core.specs.Trees.{trees};
+ghost use Rattle.syn_mid.specs.declared.ty.Type.TheVariants as types;
 ghost use Rattle.syn_mid.specs.ty.Grammars as grammars;
 ghost use Rattle.syn_mid.specs.ty.Knot as knot;
 ghost use Rattle.syn_mid.specs.ty.Printing as printing;
@@ -49,6 +50,8 @@ pub enum Type<X> {
     Slice(TypeSlice<X>),
     /// `(A, B)`
     Tuple(TypeTuple<X>),
+    /// Tokens that no other case holds. No reader answers it yet.
+    Verbatim(TokenStream),
 }
 
 /// An array over its element's type and its length.
@@ -380,6 +383,88 @@ impl Parse for PointerMutability {
     }
 }
 
+// ---- a form as a type
+
+impl<X> From<TypeArray<X>> for Type<X> {
+    ghost from_gives = { λ form ty. ty ≡ types.Array form };
+
+    fn from(form: TypeArray<X>) -> Type<X> {
+        Type::Array(form)
+    }
+}
+
+impl<X> From<TypeInfer> for Type<X> {
+    ghost from_gives = { λ form ty. ty ≡ types.Infer form };
+
+    fn from(form: TypeInfer) -> Type<X> {
+        Type::Infer(form)
+    }
+}
+
+impl<X> From<TypeMacro<X>> for Type<X> {
+    ghost from_gives = { λ form ty. ty ≡ types.Macro form };
+
+    fn from(form: TypeMacro<X>) -> Type<X> {
+        Type::Macro(form)
+    }
+}
+
+impl<X> From<TypeNever> for Type<X> {
+    ghost from_gives = { λ form ty. ty ≡ types.Never form };
+
+    fn from(form: TypeNever) -> Type<X> {
+        Type::Never(form)
+    }
+}
+
+impl<X> From<TypeParen<X>> for Type<X> {
+    ghost from_gives = { λ form ty. ty ≡ types.Paren form };
+
+    fn from(form: TypeParen<X>) -> Type<X> {
+        Type::Paren(form)
+    }
+}
+
+impl<X> From<TypePath<X>> for Type<X> {
+    ghost from_gives = { λ form ty. ty ≡ types.Path form };
+
+    fn from(form: TypePath<X>) -> Type<X> {
+        Type::Path(form)
+    }
+}
+
+impl<X> From<TypePtr<X>> for Type<X> {
+    ghost from_gives = { λ form ty. ty ≡ types.Ptr form };
+
+    fn from(form: TypePtr<X>) -> Type<X> {
+        Type::Ptr(form)
+    }
+}
+
+impl<X> From<TypeReference<X>> for Type<X> {
+    ghost from_gives = { λ form ty. ty ≡ types.Reference form };
+
+    fn from(form: TypeReference<X>) -> Type<X> {
+        Type::Reference(form)
+    }
+}
+
+impl<X> From<TypeSlice<X>> for Type<X> {
+    ghost from_gives = { λ form ty. ty ≡ types.Slice form };
+
+    fn from(form: TypeSlice<X>) -> Type<X> {
+        Type::Slice(form)
+    }
+}
+
+impl<X> From<TypeTuple<X>> for Type<X> {
+    ghost from_gives = { λ form ty. ty ≡ types.Tuple form };
+
+    fn from(form: TypeTuple<X>) -> Type<X> {
+        Type::Tuple(form)
+    }
+}
+
 // ---- prints
 
 impl<X: Subtree> ToTokens for Type<X> {
@@ -533,7 +618,7 @@ impl ToTokens for PointerMutability {
 /// Appends a type; refused, what stood before is kept.
 #[cycle(print)]
 #[tactic(auto, using(token_core::proofs::Puts::puts, crate::proofs::ty_laws::Prints::prints))]
-fn print_type<X: Subtree>(
+pub(crate) fn print_type<X: Subtree>(
     alloc: Global,
     ty: &Type<X>,
     out: &mut TokenStream,
@@ -552,6 +637,7 @@ fn print_type<X: Subtree>(
         Type::Reference(reference) => print_reference(alloc, reference, out),
         Type::Slice(slice) => print_slice(alloc, slice, out),
         Type::Tuple(tuple) => print_tuple(alloc, tuple, out),
+        Type::Verbatim(tokens) => print_verbatim(alloc, tokens, out),
     }
 }
 
@@ -692,6 +778,22 @@ fn print_lone_comma<T>(
         }
         None => Ok(()),
     }
+}
+
+/// Appends a copy of each of these trees; refused, what stood before is kept.
+#[tactic(auto, using(token_core::proofs::Puts::puts))]
+fn print_verbatim(
+    alloc: Global,
+    tokens: &TokenStream,
+    out: &mut TokenStream,
+) -> Result<(), AllocError>
+    ensures ok { OnOk result (trees out.new ≡ trees out.old ++ trees tokens.now) }
+    ensures err { OnErr result (Extends (trees out.old) (trees out.new)) }
+{
+    for tree in tokens.trees() {
+        out.push(tree.copy(alloc)?)?;
+    }
+    Ok(())
 }
 
 /// The length of an array: a literal as it prints as a value, or the supplied subtree in this place.

@@ -25,45 +25,45 @@ type Ty = Type<Sample>;
 fn path(alloc: Global, text: &str) -> Result<Ty, Error> {
     let tokens = lex(alloc, text)?;
     let path = read_all_with(alloc, ModStyle::<Sample>::new(), &tokens)?;
-    Ok(Type::Path(TypePath { path }))
+    Ok(Type::from(TypePath { path }))
 }
 
 fn call(alloc: Global, text: &str) -> Result<Ty, Error> {
     let tokens = lex(alloc, text)?;
     let mac = read_all::<Macro<Sample>>(alloc, &tokens)?;
-    Ok(Type::Macro(TypeMacro { mac }))
+    Ok(Type::from(TypeMacro { mac }))
 }
 
 /// `_`
 fn infer() -> Ty {
-    Type::Infer(TypeInfer {
+    Type::from(TypeInfer {
         underscore_token: Underscore::default(),
     })
 }
 
 /// `!`
 fn never() -> Ty {
-    Type::Never(TypeNever {
+    Type::from(TypeNever {
         bang_token: Not::default(),
     })
 }
 
 fn paren(alloc: Global, elem: Ty) -> Result<Ty, Error> {
-    Ok(Type::Paren(TypeParen {
+    Ok(Type::from(TypeParen {
         paren_token: Paren::default(),
         elem: Boxed::new(alloc, elem)?,
     }))
 }
 
 fn slice(alloc: Global, elem: Ty) -> Result<Ty, Error> {
-    Ok(Type::Slice(TypeSlice {
+    Ok(Type::from(TypeSlice {
         bracket_token: Bracket::default(),
         elem: Boxed::new(alloc, elem)?,
     }))
 }
 
 fn array(alloc: Global, elem: Ty, len: Expr<Sample>) -> Result<Ty, Error> {
-    Ok(Type::Array(TypeArray {
+    Ok(Type::from(TypeArray {
         bracket_token: Bracket::default(),
         elem: Boxed::new(alloc, elem)?,
         semi_token: Semi::default(),
@@ -72,7 +72,7 @@ fn array(alloc: Global, elem: Ty, len: Expr<Sample>) -> Result<Ty, Error> {
 }
 
 fn pointer(alloc: Global, mutability: PointerMutability, elem: Ty) -> Result<Ty, Error> {
-    Ok(Type::Ptr(TypePtr {
+    Ok(Type::from(TypePtr {
         star_token: Star::default(),
         mutability,
         elem: Boxed::new(alloc, elem)?,
@@ -85,7 +85,7 @@ fn reference(
     mutability: Option<Mut>,
     elem: Ty,
 ) -> Result<Ty, Error> {
-    Ok(Type::Reference(TypeReference {
+    Ok(Type::from(TypeReference {
         and_token: And::default(),
         lifetime,
         mutability,
@@ -94,7 +94,7 @@ fn reference(
 }
 
 fn tuple(elems: Punctuated<Ty, Comma>) -> Ty {
-    Type::Tuple(TypeTuple {
+    Type::from(TypeTuple {
         paren_token: Paren::default(),
         elems,
     })
@@ -102,6 +102,11 @@ fn tuple(elems: Punctuated<Ty, Comma>) -> Ty {
 
 fn lifetime(alloc: Global) -> Result<Lifetime, Error> {
     Ok(Lifetime::new(Span::none(), Ident::new(alloc, "a", Span::none())?))
+}
+
+/// The tokens of a text, held as they are.
+fn verbatim(alloc: Global, text: &str) -> Result<Ty, Error> {
+    Ok(Type::Verbatim(lex(alloc, text)?))
 }
 
 /// A literal after the attributes of a text.
@@ -264,6 +269,28 @@ fn a_lone_element_has_a_comma(rt: HostRuntime) {
     says(&rt, alloc, printed(alloc, one(alloc)), "(A ,)");
     says(&rt, alloc, printed(alloc, one_and_comma(alloc)), "(A ,)");
     says(&rt, alloc, printed(alloc, two(alloc)), "(A , B)");
+}
+
+fn verbatim_in_paren(alloc: Global) -> Result<Ty, Error> {
+    paren(alloc, verbatim(alloc, "dyn A + 'b")?)
+}
+
+#[test]
+fn held_tokens_print_as_they_are(rt: HostRuntime) {
+    let alloc = rt.alloc();
+    says(&rt, alloc, printed(alloc, verbatim(alloc, "")), "");
+    says(
+        &rt,
+        alloc,
+        printed(alloc, verbatim(alloc, "fn(A, [b; 1]) -> c::D")),
+        "fn (A , [b ; 1]) -> c :: D",
+    );
+    says(
+        &rt,
+        alloc,
+        printed(alloc, verbatim_in_paren(alloc)),
+        "(dyn A + 'b)",
+    );
 }
 
 /// `_` in as many parentheses.

@@ -26,10 +26,18 @@ pub struct Pair<T, P> {
 
 /// Values with marks between them, and perhaps one after the last. Contracts see a list of values and a list of marks,
 /// which are as many or one fewer.
-#[derive(Drop)]
 pub struct Punctuated<T, P> {
     inner: Items<Pair<T, P>>,
     last: Option<Boxed<T>>,
+}
+
+impl<T: Drop, P: Drop> Drop for Punctuated<T, P> {
+    fn drop(self) {
+        let Punctuated {
+            inner: _inner,
+            last: _last,
+        } = self;
+    }
 }
 
 impl<T, P> Model for Punctuated<T, P> {

@@ -1,5 +1,6 @@
 -- The normal form of each kind of type and of length.
 use Rattle.std.proofs.Common.{◌≡◌, sym, ◌∙◌, ap}
+use Rattle.token_core.specs.declared.tree.TokenStream.{TokenStream}
 use Rattle.syn_mid.specs.Supplied.{Place, ArrayLen}
 use Rattle.syn_mid.specs.declared.supplied.Expr.{Expr}
 use Rattle.syn_mid.specs.declared.supplied.Expr.TheVariants as e
@@ -59,6 +60,10 @@ module _ {X : Type 0} (nx : Place → X → X) where
   pub normal-Tuple : (x : TypeTupleOf (TypeTree X)) → ty nx (v.Tuple x) ≡ v.Tuple (tuple nx x)
   unfolding ty
   normal-Tuple x = ap (ty nx) (sym (v.rolls-Tuple x)) ∙ fold-roll-Type X (TypeTree X) (ty_step nx) (t.Tuple x)
+
+  pub normal-Verbatim : (x : TokenStream) → ty nx (v.Verbatim x) ≡ v.Verbatim x
+  unfolding ty
+  normal-Verbatim x = ap (ty nx) (sym (v.rolls-Verbatim x)) ∙ fold-roll-Type X (TypeTree X) (ty_step nx) (t.Verbatim x)
 
   pub normal-len : (x : X) → len nx (e.Other x) ≡ e.Other (nx ArrayLen x)
   normal-len x = ap (len_layer nx) (e.outs-Other x)

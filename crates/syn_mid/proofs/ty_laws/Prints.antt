@@ -3,8 +3,9 @@ use Rattle.std.proofs.Common.{◌≡◌, List, [], ◌∷◌, ◌++◌, map, ref
 use Rattle.token_core.specs.Lists.{joined}
 use Rattle.token_core.specs.Prints as p
 use Rattle.token_core.specs.Prints.{Print}
-use Rattle.token_core.specs.Trees.{stream_of_trees}
+use Rattle.token_core.specs.Trees.{trees, stream_of_trees}
 use Rattle.token_core.specs.declared.tree.Delimiter.TheVariants.{Parenthesis}
+use Rattle.token_core.specs.declared.tree.TokenStream.{TokenStream}
 use Rattle.syn_mid.specs.Supplied.{Place, ArrayLen, Value}
 use Rattle.syn_mid.specs.declared.attr.AttributeOf.{AttributeOf}
 use Rattle.syn_mid.specs.declared.attr.Meta.{Meta}
@@ -86,6 +87,10 @@ module _ {X : Type 0} (px : Place → X → Print) where
       ∙ ap (λ r. p.group Parenthesis (stream_of_trees (r ++ lone_comma (map (ty px) x.elems.0) x.elems.1)) x.paren_token.span) (joined_mapped x.elems.0 x.elems.1)
       ∙ ap (λ r. p.group Parenthesis (stream_of_trees (joined (ty px) p.mark x.elems.0 x.elems.1 ++ r)) x.paren_token.span) (lone_mapped x.elems.0 x.elems.1)
 
+  pub ty-Verbatim : (x : TokenStream) → ty px (v.Verbatim x) ≡ trees x
+  unfolding ty
+  ty-Verbatim x = ap (ty px) (sym (v.rolls-Verbatim x)) ∙ fold-roll-Type X Print (ty_step px) (t.Verbatim x)
+
   pub len-Lit : (x : ExprLitOf (AttributeOf (Meta X))) → len px (e.Lit x) ≡ literal_by (meta (px Value)) x
   len-Lit x = ap (len_layer px) (e.outs-Lit x)
 
@@ -96,4 +101,4 @@ module _ {X : Type 0} (px : Place → X → Print) where
   pub len_value : (x : ExprLitOf (AttributeOf (Meta X))) → value (px Value) (e.Lit x) ≡ len px (e.Lit x)
   len_value x = prints_literal (px Value) x ∙ sym (len-Lit x)
 
-pub ruleset prints = (ty-Array, ty-Infer, ty-Macro, ty-Never, ty-Paren, ty-Path, ty-Ptr, ty-Reference, ty-Slice, ty-Tuple, len-Lit, len-Other, len_value)
+pub ruleset prints = (ty-Array, ty-Infer, ty-Macro, ty-Never, ty-Paren, ty-Path, ty-Ptr, ty-Reference, ty-Slice, ty-Tuple, ty-Verbatim, len-Lit, len-Other, len_value)

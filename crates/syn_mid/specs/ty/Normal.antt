@@ -39,6 +39,7 @@ module _ {X : Type 0} (normal : Place → X → X) where
   ty_step (t.Reference x) = v.Reference x
   ty_step (t.Slice x) = v.Slice x
   ty_step (t.Tuple x) = v.Tuple x
+  ty_step (t.Verbatim x) = v.Verbatim x
 
   unfoldable pub ty : TypeTree X → TypeTree X
   ty = fold-Type X (TypeTree X) ty_step

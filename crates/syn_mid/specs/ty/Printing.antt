@@ -9,7 +9,7 @@ use Rattle.token_core.specs.Loops.{Many}
 use Rattle.token_core.specs.Prints as p
 use Rattle.token_core.specs.Prints.{Print}
 use Rattle.token_core.specs.Spans.{none}
-use Rattle.token_core.specs.Trees.{stream_of_trees}
+use Rattle.token_core.specs.Trees.{trees, stream_of_trees}
 use Rattle.syn_mid.specs.Supplied.{Place, ArrayLen, Value}
 use Rattle.syn_mid.specs.declared.attr.Meta.{Meta}
 use Rattle.syn_mid.specs.declared.attr.Meta.TheOpen as o
@@ -120,6 +120,7 @@ module _ {X : Type 0} (prints : Place → X → Print) where
   ty_step (t.Reference x) = reference_by (λ z. z) x
   ty_step (t.Slice x) = slice_by (λ z. z) x
   ty_step (t.Tuple x) = tuple_by (λ z. z) x
+  ty_step (t.Verbatim x) = trees x
 
   unfoldable pub ty : TypeTree X → Print
   ty = fold-Type X Print ty_step

@@ -2,21 +2,21 @@
 //!
 //! A test calls and does not branch, as docs/GATE.md says.
 
-use crate::attr::{inner, outer};
-use crate::mac::parse_macro;
-use crate::{
-    AngleBracketedGenericArguments, AttrStyle, Attribute, Expr, Macro, MacroDelimiter, Meta,
-    MetaList, MetaNameValue, ModStyle, ParenthesizedGenericArguments, Path, PathArguments,
-    PathSegment,
-};
+use crate::nothing::Nothing;
 use std::alloc::{AllocError, Global};
 use std::fmt::Write;
 use std::marker::PhantomData;
 use std::process::Abort;
+use syn_mid::attr::{inner, outer};
+use syn_mid::{
+    AngleBracketedGenericArguments, AttrStyle, Attribute, Expr, Macro, MacroDelimiter, Meta,
+    MetaList, MetaNameValue, ModStyle, ParenthesizedGenericArguments, Path, PathArguments,
+    PathSegment,
+};
 use token_core::token::{Brace, Bracket, Eq, Gt, Lt, Not, Paren, PathSep, Pound};
 use token_core::{
     ByFn, DelimSpan, Delimiter, Error, ErrorKind, Group, Ident, Punct, Punctuated, Spacing, Span,
-    ToTokens, TokenStream, TokenTree, read_all_with,
+    ToTokens, TokenStream, TokenTree, read_all, read_all_with,
 };
 
 /// Where each group of these tests stands.
@@ -172,7 +172,7 @@ fn show_sep(rt: &impl Abort, mark: &PathSep, out: &mut String) {
     put(rt, ";", out);
 }
 
-fn show_segment(rt: &impl Abort, segment: &PathSegment<u8>, out: &mut String) {
+fn show_segment(rt: &impl Abort, segment: &PathSegment<Nothing>, out: &mut String) {
     put(rt, segment.ident.text(), out);
     show_span(rt, segment.ident.span, out);
     if !segment.arguments.is_none() {
@@ -182,7 +182,7 @@ fn show_segment(rt: &impl Abort, segment: &PathSegment<u8>, out: &mut String) {
 }
 
 /// The parts of a path, each with its places.
-fn show_path(rt: &impl Abort, path: &Path<u8>, out: &mut String) {
+fn show_path(rt: &impl Abort, path: &Path<Nothing>, out: &mut String) {
     match &path.leading_colon {
         Some(colon) => {
             put(rt, "leading", out);
@@ -238,7 +238,7 @@ fn show_error(rt: &impl Abort, error: &Error, out: &mut String) {
 
 fn path_read(rt: &impl Abort, alloc: Global, tokens: &TokenStream) -> String {
     let mut out = String::new(alloc);
-    match read_all_with(alloc, ModStyle::<u8>::new(), tokens) {
+    match read_all_with(alloc, ModStyle::<Nothing>::new(), tokens) {
         Ok(path) => show_path(rt, &path, &mut out),
         Err(error) => show_error(rt, &error, &mut out),
     }
@@ -297,7 +297,7 @@ fn reads_paths_in_invisible_groups(rt: HostRuntime) {
     path_is(&rt, alloc, &tokens, "a 0-1;:: 0-1 1-2;b 3-4;");
     let path = got(
         &rt,
-        read_all_with(alloc, ByFn(Path::<u8>::parse_mod_style), &tokens),
+        read_all_with(alloc, ByFn(Path::<Nothing>::parse_mod_style), &tokens),
     );
     is(&rt, path.segments.len() == 2, "two segments");
 }
@@ -310,7 +310,7 @@ fn opens(delimiter: &MacroDelimiter) -> &'static str {
     }
 }
 
-fn show_macro(rt: &impl Abort, call: &Macro<u8>, out: &mut String) {
+fn show_macro(rt: &impl Abort, call: &Macro<Nothing>, out: &mut String) {
     show_path(rt, &call.path, out);
     put(rt, "!", out);
     show_span(rt, call.bang_token.spans[0], out);
@@ -334,7 +334,7 @@ fn show_print<T: ToTokens>(rt: &impl Abort, alloc: Global, tree: &T, out: &mut S
 /// What a list is read as, and what the call prints.
 fn macro_read(rt: &impl Abort, alloc: Global, tokens: &TokenStream) -> String {
     let mut out = String::new(alloc);
-    match read_all_with(alloc, ByFn(parse_macro::<u8>), tokens) {
+    match read_all::<Macro<Nothing>>(alloc, tokens) {
         Ok(call) => {
             show_macro(rt, &call, &mut out);
             put(rt, "=", &mut out);
@@ -405,12 +405,12 @@ fn refuses_macros_without_a_group(rt: HostRuntime) {
         macro_is(&rt, rt.alloc(), &tokens(&rt, rt.alloc(), text), want);
     }
     let tokens = with_group(&rt, rt.alloc(), "m !", Delimiter::None, "x");
-    let read = read_all_with(rt.alloc(), ByFn(parse_macro::<u8>), &tokens);
+    let read = read_all::<Macro<Nothing>>(rt.alloc(), &tokens);
     refused(&rt, read, ErrorKind::ExpectedDelimiter);
 }
 
 /// `<>`, after `::` if so wanted.
-fn angles(colon: Option<PathSep>) -> PathArguments<u8> {
+fn angles(colon: Option<PathSep>) -> PathArguments<Nothing> {
     PathArguments::AngleBracketed(AngleBracketedGenericArguments {
         colon2_token: colon,
         lt_token: Lt {
@@ -431,8 +431,8 @@ fn separator() -> PathSep {
 
 fn push_segment(
     alloc: Global,
-    segment: PathSegment<u8>,
-    path: &mut Path<u8>,
+    segment: PathSegment<Nothing>,
+    path: &mut Path<Nothing>,
 ) -> Result<(), AllocError> {
     if path.segments.empty_or_trailing() {
         path.segments.push_value(alloc, segment)?;
@@ -446,15 +446,15 @@ fn put_segment(
     rt: &impl Abort,
     alloc: Global,
     text: &str,
-    arguments: PathArguments<u8>,
-    path: &mut Path<u8>,
+    arguments: PathArguments<Nothing>,
+    path: &mut Path<Nothing>,
 ) {
     let ident = made(rt, Ident::new(alloc, text, Span::new(1, 2)));
     let segment = PathSegment { ident, arguments };
     made(rt, push_segment(alloc, segment, path));
 }
 
-fn parentheses() -> PathArguments<u8> {
+fn parentheses() -> PathArguments<Nothing> {
     PathArguments::Parenthesized(ParenthesizedGenericArguments {
         paren_token: Paren { span: place() },
         inputs: PhantomData,
@@ -462,7 +462,7 @@ fn parentheses() -> PathArguments<u8> {
 }
 
 /// `::a<>::b::<>::c()::`, or no more than its first segments.
-fn long_path(rt: &impl Abort, alloc: Global, segments: usize) -> Path<u8> {
+fn long_path(rt: &impl Abort, alloc: Global, segments: usize) -> Path<Nothing> {
     let mut path = Path {
         leading_colon: Some(separator()),
         segments: Punctuated::new(alloc),
@@ -514,7 +514,7 @@ fn prints_calls_without_arguments_of_paths(rt: HostRuntime) {
     prints(&rt, rt.alloc(), &call, want);
 }
 
-fn ident_or_none(path: &Path<u8>) -> &str {
+fn ident_or_none(path: &Path<Nothing>) -> &str {
     match path.get_ident() {
         Some(ident) => ident.text(),
         None => "none",
@@ -522,7 +522,7 @@ fn ident_or_none(path: &Path<u8>) -> &str {
 }
 
 /// The identifier that a path is, or the refusal of one that is none; whether it is `a`.
-fn identified(rt: &impl Abort, alloc: Global, path: &Path<u8>) -> String {
+fn identified(rt: &impl Abort, alloc: Global, path: &Path<Nothing>) -> String {
     let mut out = String::new(alloc);
     put(rt, ident_or_none(path), &mut out);
     if path.is_ident("a") {
@@ -540,7 +540,7 @@ fn identified(rt: &impl Abort, alloc: Global, path: &Path<u8>) -> String {
 }
 
 /// It is identified so, and a refusal of it points so.
-fn identifies(rt: &impl Abort, alloc: Global, path: &Path<u8>, wanted: &str, points: &str) {
+fn identifies(rt: &impl Abort, alloc: Global, path: &Path<Nothing>, wanted: &str, points: &str) {
     let mut all = String::new(alloc);
     put(rt, wanted, &mut all);
     put(rt, points, &mut all);
@@ -548,9 +548,12 @@ fn identifies(rt: &impl Abort, alloc: Global, path: &Path<u8>, wanted: &str, poi
     text_is(rt, out.as_str(), all.as_str());
 }
 
-fn read_path(rt: &impl Abort, alloc: Global, text: &str) -> Path<u8> {
+fn read_path(rt: &impl Abort, alloc: Global, text: &str) -> Path<Nothing> {
     let tokens = tokens(rt, alloc, text);
-    got(rt, read_all_with(alloc, ModStyle::<u8>::new(), &tokens))
+    got(
+        rt,
+        read_all_with(alloc, ModStyle::<Nothing>::new(), &tokens),
+    )
 }
 
 #[test]
@@ -572,7 +575,7 @@ fn tells_identifiers(rt: HostRuntime) {
 }
 
 /// It shows so.
-fn path_shows(rt: &impl Abort, alloc: Global, path: &Path<u8>, wanted: &str) {
+fn path_shows(rt: &impl Abort, alloc: Global, path: &Path<Nothing>, wanted: &str) {
     let mut out = String::new(alloc);
     show_path(rt, path, &mut out);
     text_is(rt, out.as_str(), wanted);
@@ -582,7 +585,7 @@ fn path_shows(rt: &impl Abort, alloc: Global, path: &Path<u8>, wanted: &str) {
 fn makes_paths(rt: HostRuntime) {
     let alloc = rt.alloc();
     let ident = made(&rt, Ident::new(alloc, "a", Span::new(3, 4)));
-    let path = made(&rt, Path::<u8>::from_ident(alloc, ident));
+    let path = made(&rt, Path::<Nothing>::from_ident(alloc, ident));
     path_shows(&rt, alloc, &path, "a 3-4;");
     identifies(&rt, alloc, &path, "a is a;a", "");
 }
@@ -608,7 +611,7 @@ fn tells_braces(rt: HostRuntime) {
 }
 
 fn read_and_print(alloc: Global, tokens: &TokenStream, out: &mut TokenStream) -> Result<(), Error> {
-    let call = read_all_with(alloc, ByFn(parse_macro::<u8>), tokens)?;
+    let call = read_all::<Macro<Nothing>>(alloc, tokens)?;
     call.to_tokens(alloc, out)?;
     Ok(())
 }
@@ -641,7 +644,7 @@ fn bears_want_of_memory(rt: HostRuntime) {
 }
 
 /// An attribute with this content, made by hand.
-fn attribute(meta: Meta<u8>, style: AttrStyle) -> Attribute<u8> {
+fn attribute(meta: Meta<Nothing>, style: AttrStyle) -> Attribute<Nothing> {
     Attribute {
         pound_token: Pound::default(),
         style,
@@ -651,7 +654,7 @@ fn attribute(meta: Meta<u8>, style: AttrStyle) -> Attribute<u8> {
 }
 
 /// The metas of a path: alone, with a list of `x y` and with a value.
-fn metas(rt: &impl Abort, alloc: Global, text: &str) -> [Meta<u8>; 3] {
+fn metas(rt: &impl Abort, alloc: Global, text: &str) -> [Meta<Nothing>; 3] {
     let list = MetaList {
         path: read_path(rt, alloc, text),
         delimiter: MacroDelimiter::Paren(Paren { span: place() }),
@@ -662,7 +665,7 @@ fn metas(rt: &impl Abort, alloc: Global, text: &str) -> [Meta<u8>; 3] {
         eq_token: Eq {
             spans: [Span::new(40, 41)],
         },
-        value: Expr::Other(1),
+        value: Expr::Other(Nothing {}),
     };
     let path = Meta::Path(read_path(rt, alloc, text));
     [path, Meta::from(list), Meta::from(value)]
@@ -675,13 +678,13 @@ fn told(rt: &impl Abort, error: &Error, out: &mut String) {
     show_span(rt, error.end(), out);
 }
 
-fn write_count(list: &MetaList<u8>, out: &mut String) -> Result<(), AllocError> {
+fn write_count(list: &MetaList<Nothing>, out: &mut String) -> Result<(), AllocError> {
     write!(out, "list of {}", list.tokens.len())?;
     Ok(())
 }
 
 /// What the calls that ask for a kind of meta answer.
-fn required(rt: &impl Abort, alloc: Global, meta: &Meta<u8>) -> String {
+fn required(rt: &impl Abort, alloc: Global, meta: &Meta<Nothing>) -> String {
     let mut out = String::new(alloc);
     if meta.path().segments.is_empty() {
         return out;
@@ -703,7 +706,7 @@ fn required(rt: &impl Abort, alloc: Global, meta: &Meta<u8>) -> String {
     out
 }
 
-fn meta_answers(rt: &impl Abort, alloc: Global, meta: &Meta<u8>, wanted: &str) {
+fn meta_answers(rt: &impl Abort, alloc: Global, meta: &Meta<Nothing>, wanted: &str) {
     let out = required(rt, alloc, meta);
     text_is(rt, out.as_str(), wanted);
 }
@@ -729,7 +732,7 @@ fn asks_for_kinds_of_metas(rt: HostRuntime) {
 }
 
 /// What a whole read of an attribute's arguments as an identifier answers.
-fn argument(rt: &impl Abort, alloc: Global, attr: &Attribute<u8>) -> String {
+fn argument(rt: &impl Abort, alloc: Global, attr: &Attribute<Nothing>) -> String {
     let mut out = String::new(alloc);
     if attr.path().segments.is_empty() {
         return out;
@@ -741,7 +744,7 @@ fn argument(rt: &impl Abort, alloc: Global, attr: &Attribute<u8>) -> String {
     out
 }
 
-fn argument_is(rt: &impl Abort, alloc: Global, attr: &Attribute<u8>, wanted: &str) {
+fn argument_is(rt: &impl Abort, alloc: Global, attr: &Attribute<Nothing>, wanted: &str) {
     let out = argument(rt, alloc, attr);
     text_is(rt, out.as_str(), wanted);
 }
@@ -774,7 +777,7 @@ fn attributes(
     alloc: Global,
     text: &str,
     styles: [AttrStyle; 3],
-) -> [Attribute<u8>; 3] {
+) -> [Attribute<Nothing>; 3] {
     let [path, list, value] = metas(rt, alloc, text);
     let [first, second, third] = styles;
     [
@@ -784,7 +787,7 @@ fn attributes(
     ]
 }
 
-fn kind_of(attr: &Attribute<u8>) -> &'static str {
+fn kind_of(attr: &Attribute<Nothing>) -> &'static str {
     match attr.meta {
         Meta::Path(_) => "p",
         Meta::List(_) => "l",
@@ -793,7 +796,7 @@ fn kind_of(attr: &Attribute<u8>) -> &'static str {
 }
 
 /// The kinds of the outer attributes of a list, in order.
-fn outers_are(rt: &impl Abort, alloc: Global, attrs: &[Attribute<u8>], wanted: &str) {
+fn outers_are(rt: &impl Abort, alloc: Global, attrs: &[Attribute<Nothing>], wanted: &str) {
     let mut out = String::new(alloc);
     for attr in outer(attrs) {
         put(rt, kind_of(attr), &mut out);
@@ -802,7 +805,7 @@ fn outers_are(rt: &impl Abort, alloc: Global, attrs: &[Attribute<u8>], wanted: &
 }
 
 /// The kinds of the inner attributes of a list, in order.
-fn inners_are(rt: &impl Abort, alloc: Global, attrs: &[Attribute<u8>], wanted: &str) {
+fn inners_are(rt: &impl Abort, alloc: Global, attrs: &[Attribute<Nothing>], wanted: &str) {
     let mut out = String::new(alloc);
     for attr in inner(attrs) {
         put(rt, kind_of(attr), &mut out);

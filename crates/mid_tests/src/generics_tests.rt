@@ -1,0 +1,315 @@
+//! What parameters and captures made by hand print, which parameters the iterators give, and the where clause that is lent.
+//!
+//! A test calls and does not branch, as docs/GATE.md says.
+
+use crate::nothing::Nothing;
+use std::alloc::Global;
+use std::fmt::Write;
+use std::process::Abort;
+use syn_mid::{
+    CapturedParam, ConstParam, Expr, ExprLit, GenericParam, Generics, LifetimeParam, ModStyle,
+    ParseInner, ParseOuter, Path, PreciseCapture, PredicateLifetime, Type, TypeParam, TypePath,
+    WherePredicate,
+};
+use token_core::token::{Colon, Comma, Const, Eq, Gt, Lt, Plus, Use};
+use token_core::{
+    Error, Ident, Items, Lifetime, Lit, Punctuated, Span, ToTokens, TokenStream, read_all,
+    read_all_with,
+};
+use token_text::{lex, text_of};
+
+type Param = GenericParam<Nothing>;
+
+/// It answers this; of a refusal, its text.
+fn says(rt: &impl Abort, answer: Result<String, Error>, wanted: &str) {
+    match answer {
+        Ok(text) => assert_eq!(rt; text.as_str(), wanted),
+        Err(error) => panic!(rt; "refused: {}", error.text()),
+    }
+}
+
+fn printed<T: ToTokens>(alloc: Global, tree: &T) -> Result<String, Error> {
+    let mut out = TokenStream::new(alloc);
+    tree.to_tokens(alloc, &mut out)?;
+    Ok(text_of(alloc, &out)?)
+}
+
+fn ident(alloc: Global, text: &str) -> Result<Ident, Error> {
+    Ok(Ident::new(alloc, text, Span::none())?)
+}
+
+fn lifetime(alloc: Global, text: &str) -> Result<Lifetime, Error> {
+    Ok(Lifetime::new(Span::none(), ident(alloc, text)?))
+}
+
+fn path(alloc: Global, text: &str) -> Result<Path<Nothing>, Error> {
+    let tokens = lex(alloc, text)?;
+    read_all_with(alloc, ModStyle::<Nothing>::new(), &tokens)
+}
+
+fn ty(alloc: Global, text: &str) -> Result<Type<Nothing>, Error> {
+    Ok(Type::Path(TypePath {
+        path: path(alloc, text)?,
+    }))
+}
+
+/// A literal without attributes.
+fn literal(alloc: Global, text: &str) -> Result<Expr<Nothing>, Error> {
+    let lit = read_all::<Lit>(alloc, &lex(alloc, text)?)?;
+    Ok(Expr::Lit(ExprLit {
+        attrs: Items::new(alloc),
+        lit,
+    }))
+}
+
+fn two<T: Drop>(alloc: Global, first: T, second: T) -> Result<Punctuated<T, Plus>, Error> {
+    let mut list = Punctuated::new(alloc);
+    list.push_value(alloc, first)?;
+    list.push_punct(Plus::default())?;
+    list.push_value(alloc, second)?;
+    Ok(list)
+}
+
+fn alone<T: Drop>(alloc: Global, value: T) -> Result<Punctuated<T, Comma>, Error> {
+    let mut list = Punctuated::new(alloc);
+    list.push_value(alloc, value)?;
+    Ok(list)
+}
+
+fn pair<T: Drop>(alloc: Global, first: T, second: T) -> Result<Punctuated<T, Comma>, Error> {
+    let mut list = Punctuated::new(alloc);
+    list.push_value(alloc, first)?;
+    list.push_punct(Comma::default())?;
+    list.push_value(alloc, second)?;
+    Ok(list)
+}
+
+fn three<T: Drop>(
+    alloc: Global,
+    first: T,
+    second: T,
+    third: T,
+) -> Result<Punctuated<T, Comma>, Error> {
+    let mut list = Punctuated::new(alloc);
+    list.push_value(alloc, first)?;
+    list.push_punct(Comma::default())?;
+    list.push_value(alloc, second)?;
+    list.push_punct(Comma::default())?;
+    list.push_value(alloc, third)?;
+    Ok(list)
+}
+
+// ---- captures
+
+fn captured(alloc: Global, text: &str) -> Result<CapturedParam, Error> {
+    Ok(CapturedParam::Ident(ident(alloc, text)?))
+}
+
+fn captured_lifetime(alloc: Global, text: &str) -> Result<CapturedParam, Error> {
+    Ok(CapturedParam::Lifetime(lifetime(alloc, text)?))
+}
+
+fn capture(
+    alloc: Global,
+    params: Result<Punctuated<CapturedParam, Comma>, Error>,
+) -> Result<String, Error> {
+    let capture = PreciseCapture {
+        use_token: Use::default(),
+        lt_token: Lt::default(),
+        params: params?,
+        gt_token: Gt::default(),
+    };
+    printed(alloc, &capture)
+}
+
+/// `T, 'a`
+fn lifetime_last(alloc: Global) -> Result<Punctuated<CapturedParam, Comma>, Error> {
+    pair(alloc, captured(alloc, "T")?, captured_lifetime(alloc, "a")?)
+}
+
+/// `T, 'a, U`
+fn lifetime_between(alloc: Global) -> Result<Punctuated<CapturedParam, Comma>, Error> {
+    let first = captured(alloc, "T")?;
+    let second = captured_lifetime(alloc, "a")?;
+    three(alloc, first, second, captured(alloc, "U")?)
+}
+
+/// `'a, 'b`
+fn lifetimes_alone(alloc: Global) -> Result<Punctuated<CapturedParam, Comma>, Error> {
+    let first = captured_lifetime(alloc, "a")?;
+    pair(alloc, first, captured_lifetime(alloc, "b")?)
+}
+
+#[test]
+fn captures_print_lifetimes_first(rt: HostRuntime) {
+    let alloc = rt.alloc();
+    says(
+        &rt,
+        capture(alloc, lifetime_last(alloc)),
+        "use < 'a , T , >",
+    );
+    says(
+        &rt,
+        capture(alloc, lifetime_between(alloc)),
+        "use < 'a , T , U >",
+    );
+    says(
+        &rt,
+        capture(alloc, lifetimes_alone(alloc)),
+        "use < 'a , 'b >",
+    );
+    says(&rt, capture(alloc, Ok(Punctuated::new(alloc))), "use < >");
+}
+
+// ---- parameters
+
+fn lifetime_param(alloc: Global, text: &str) -> Result<Param, Error> {
+    let lifetime = lifetime(alloc, text)?;
+    Ok(GenericParam::from(LifetimeParam::new(alloc, lifetime)))
+}
+
+fn named(alloc: Global, text: &str) -> Result<TypeParam<Nothing>, Error> {
+    Ok(TypeParam::from_ident(alloc, ident(alloc, text)?))
+}
+
+/// `const N: usize` with a default
+fn const_param(
+    alloc: Global,
+    default: Option<(Eq, Expr<Nothing>)>,
+) -> Result<ConstParam<Nothing>, Error> {
+    Ok(ConstParam {
+        attrs: Items::new(alloc),
+        const_token: Const::default(),
+        ident: ident(alloc, "N")?,
+        colon_token: Colon::default(),
+        ty: ty(alloc, "usize")?,
+        default,
+    })
+}
+
+/// `'a: 'b + 'c`, its colon left to the print
+fn bounded_lifetime(alloc: Global) -> Result<String, Error> {
+    let mut param = LifetimeParam::<Nothing>::new(alloc, lifetime(alloc, "a")?);
+    param.bounds = two(alloc, lifetime(alloc, "b")?, lifetime(alloc, "c")?)?;
+    printed(alloc, &param)
+}
+
+/// `'a:` without a bound
+fn lifetime_colon(alloc: Global) -> Result<String, Error> {
+    let mut param = LifetimeParam::<Nothing>::new(alloc, lifetime(alloc, "a")?);
+    param.colon_token = Some(Colon::default());
+    printed(alloc, &param)
+}
+
+fn const_literal(alloc: Global) -> Result<String, Error> {
+    let default = Some((Eq::default(), literal(alloc, "-1")?));
+    printed(alloc, &const_param(alloc, default)?)
+}
+
+fn const_other(alloc: Global) -> Result<String, Error> {
+    let default = Some((Eq::default(), Expr::Other(Nothing {})));
+    printed(alloc, &const_param(alloc, default)?)
+}
+
+/// A lifetime parameter after the attributes of a text.
+fn with_outer(alloc: Global, text: &str) -> Result<String, Error> {
+    let mut param = LifetimeParam::<Nothing>::new(alloc, lifetime(alloc, "a")?);
+    let tokens = lex(alloc, text)?;
+    param.attrs = read_all_with(alloc, ParseOuter::<Nothing>::new(), &tokens)?;
+    printed(alloc, &param)
+}
+
+fn with_inner(alloc: Global, text: &str) -> Result<String, Error> {
+    let mut param = LifetimeParam::<Nothing>::new(alloc, lifetime(alloc, "a")?);
+    let tokens = lex(alloc, text)?;
+    param.attrs = read_all_with(alloc, ParseInner::<Nothing>::new(), &tokens)?;
+    printed(alloc, &param)
+}
+
+#[test]
+fn parameters_print(rt: HostRuntime) {
+    let alloc = rt.alloc();
+    says(&rt, bounded_lifetime(alloc), "'a : 'b + 'c");
+    says(&rt, lifetime_colon(alloc), "'a");
+    says(&rt, const_literal(alloc), "const N : usize = - 1");
+    says(&rt, const_other(alloc), "const N : usize = { }");
+    says(&rt, with_outer(alloc, "#[b]"), "# [b] 'a");
+    says(&rt, with_inner(alloc, "#![b]"), "'a");
+}
+
+// ---- where clauses
+
+/// `'a:` without a bound
+fn lone_predicate(alloc: Global) -> Result<PredicateLifetime<Nothing>, Error> {
+    Ok(PredicateLifetime {
+        attrs: Items::new(alloc),
+        lifetime: lifetime(alloc, "a")?,
+        colon_token: Colon::default(),
+        bounds: Punctuated::new(alloc),
+    })
+}
+
+fn shown_predicate(alloc: Global) -> Result<String, Error> {
+    printed(alloc, &lone_predicate(alloc)?)
+}
+
+fn number(alloc: Global, count: usize) -> Result<String, Error> {
+    let mut out = String::new(alloc);
+    write!(out, "{count}")?;
+    Ok(out)
+}
+
+/// How many predicates the clause has that is lent first, and then, with one put there, again.
+fn lent_twice(alloc: Global) -> Result<String, Error> {
+    let mut generics = Generics::<Nothing>::default(alloc);
+    let mut out = number(alloc, generics.make_where_clause(alloc).predicates.len())?;
+    let predicate = WherePredicate::from(lone_predicate(alloc)?);
+    generics.make_where_clause(alloc).predicates = alone(alloc, predicate)?;
+    let again = generics.make_where_clause(alloc).predicates.len();
+    write!(out, " {again}")?;
+    Ok(out)
+}
+
+#[test]
+fn where_clauses_are_lent(rt: HostRuntime) {
+    let alloc = rt.alloc();
+    says(&rt, shown_predicate(alloc), "'a :");
+    says(&rt, lent_twice(alloc), "0 1");
+}
+
+// ---- iterators
+
+/// `<T, 'a, const N: usize>`
+fn generics(alloc: Global) -> Result<Generics<Nothing>, Error> {
+    let mut generics = Generics::default(alloc);
+    generics.params = three(
+        alloc,
+        Param::from(named(alloc, "T")?),
+        lifetime_param(alloc, "a")?,
+        Param::from(const_param(alloc, None)?),
+    )?;
+    Ok(generics)
+}
+
+/// The names of the type parameters, then of the const ones, then of the lifetimes.
+fn kinds(alloc: Global, generics: Result<Generics<Nothing>, Error>) -> Result<String, Error> {
+    let generics = generics?;
+    let mut out = String::new(alloc);
+    for param in generics.type_params() {
+        write!(out, "{} ", param.ident.text())?;
+    }
+    for param in generics.const_params() {
+        write!(out, "{} ", param.ident.text())?;
+    }
+    for param in generics.lifetimes() {
+        write!(out, "{} ", param.lifetime.ident.text())?;
+    }
+    Ok(out)
+}
+
+#[test]
+fn iterators_give_their_kind(rt: HostRuntime) {
+    let alloc = rt.alloc();
+    says(&rt, kinds(alloc, generics(alloc)), "T N a ");
+    says(&rt, kinds(alloc, Ok(Generics::default(alloc))), "");
+}

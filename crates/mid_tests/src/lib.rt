@@ -1,0 +1,9 @@
+//! The tests of `syn_mid`, apart from it, so that it is proved once and they beside its must-fail edits.
+#![tactic(auto)]
+
+#[cfg(test)]
+mod generics_tests;
+#[cfg(test)]
+mod nothing;
+#[cfg(test)]
+mod tests;

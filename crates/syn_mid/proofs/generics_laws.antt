@@ -1,0 +1,7 @@
+pub mod Members
+pub mod Sorted
+pub mod Prints
+pub mod Views
+pub mod Marked
+pub mod Normal
+pub mod SamePrint

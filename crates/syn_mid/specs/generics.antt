@@ -1,0 +1,8 @@
+pub mod Params
+pub mod Members
+pub mod Marked
+pub mod Printing
+pub mod Normal
+pub mod Views
+pub mod Kinds
+pub mod Lends

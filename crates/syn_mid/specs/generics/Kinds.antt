@@ -1,0 +1,33 @@
+-- The parameters of one kind that an iterator of generics has left.
+use Rattle.std.specs.Prelude.{List}
+use Rattle.token_core.specs.Lent.{values_left}
+use Rattle.syn_mid.specs.declared.generics.Lifetimes.{Lifetimes}
+use Rattle.syn_mid.specs.declared.generics.LifetimesMut.{LifetimesMut}
+use Rattle.syn_mid.specs.declared.generics.TypeParams.{TypeParams}
+use Rattle.syn_mid.specs.declared.generics.TypeParamsMut.{TypeParamsMut}
+use Rattle.syn_mid.specs.declared.generics.ConstParams.{ConstParams}
+use Rattle.syn_mid.specs.declared.generics.ConstParamsMut.{ConstParamsMut}
+use Rattle.syn_mid.specs.declared.generics.LifetimeParam.{LifetimeParam}
+use Rattle.syn_mid.specs.declared.generics.TypeParamOf.{TypeParamOf}
+use Rattle.syn_mid.specs.declared.generics.TypeParamBound.{TypeParamBound}
+use Rattle.syn_mid.specs.declared.generics.ConstParam.{ConstParam}
+use Rattle.syn_mid.specs.generics.Params.{only, as_lifetime, as_type, as_const}
+
+module _ {X : Type 0} where
+  abbrev pub lifetimes_left : Lifetimes X → List (LifetimeParam X)
+  lifetimes_left s = only as_lifetime s.params
+
+  abbrev pub lifetimes_mut_left : LifetimesMut X → List (LifetimeParam X)
+  lifetimes_mut_left s = only as_lifetime (values_left s.params)
+
+  abbrev pub type_params_left : TypeParams X → List (TypeParamOf (TypeParamBound X) X)
+  type_params_left s = only as_type s.params
+
+  abbrev pub type_params_mut_left : TypeParamsMut X → List (TypeParamOf (TypeParamBound X) X)
+  type_params_mut_left s = only as_type (values_left s.params)
+
+  abbrev pub const_params_left : ConstParams X → List (ConstParam X)
+  const_params_left s = only as_const s.params
+
+  abbrev pub const_params_mut_left : ConstParamsMut X → List (ConstParam X)
+  const_params_mut_left s = only as_const (values_left s.params)

@@ -1,0 +1,137 @@
+-- Generics by their parts.
+use Rattle.std.specs.Prelude.{ℕ, Bool, true, false, List, [], ◌∷◌, Option, Some, None}
+use Rattle.token_core.specs.declared.lifetime.Lifetime.{Lifetime}
+use Rattle.token_core.specs.declared.mark.Mark.{Mark}
+use Rattle.token_core.specs.declared.word.Word.{Word}
+use Rattle.token_core.specs.declared.tree.Ident.{Ident}
+use Rattle.token_core.specs.declared.token.Paren.{Paren}
+use Rattle.token_core.specs.Loops.{Many}
+use Rattle.token_core.specs.Spans.{none}
+use Rattle.syn_mid.specs.declared.attr.AttributeOf.{AttributeOf}
+use Rattle.syn_mid.specs.declared.attr.Meta.{Meta}
+use Rattle.syn_mid.specs.declared.path.Path.{Path}
+use Rattle.syn_mid.specs.declared.supplied.Expr.{Expr}
+use Rattle.syn_mid.specs.declared.ty.Type.{«Type» as TypeTree}
+use Rattle.syn_mid.specs.declared.generics.Generics.{Generics}
+use Rattle.syn_mid.specs.declared.generics.GenericParam.{GenericParam, out-GenericParam}
+use Rattle.syn_mid.specs.declared.generics.GenericParam.TheOpen as g
+use Rattle.syn_mid.specs.declared.generics.LifetimeParam.{LifetimeParam}
+use Rattle.syn_mid.specs.declared.generics.TypeParamOf.{TypeParamOf}
+use Rattle.syn_mid.specs.declared.generics.ConstParam.{ConstParam}
+use Rattle.syn_mid.specs.declared.generics.BoundLifetimesOf.{BoundLifetimesOf}
+use Rattle.syn_mid.specs.declared.generics.TypeParamBound.{TypeParamBound}
+use Rattle.syn_mid.specs.declared.generics.TraitBoundOf.{TraitBoundOf}
+use Rattle.syn_mid.specs.declared.generics.TraitBoundModifiers.{TraitBoundModifiers}
+use Rattle.syn_mid.specs.declared.generics.PreciseCapture.{PreciseCapture}
+use Rattle.syn_mid.specs.declared.generics.CapturedParam.{CapturedParam}
+use Rattle.syn_mid.specs.declared.generics.WhereClause.{WhereClause}
+use Rattle.syn_mid.specs.declared.generics.WherePredicate.{WherePredicate}
+use Rattle.syn_mid.specs.declared.generics.PredicateLifetime.{PredicateLifetime}
+use Rattle.syn_mid.specs.declared.generics.PredicateType.{PredicateType}
+
+abbrev pub Colon : Type 0
+Colon = Mark 7 1
+
+abbrev pub Comma : Type 0
+Comma = Mark 4 1
+
+abbrev pub Plus : Type 0
+Plus = Mark 20 1
+
+abbrev pub Eq : Type 0
+Eq = Mark 11 1
+
+abbrev pub Attrs : Type 0 → Type 0
+Attrs X = List (AttributeOf (Meta X))
+
+abbrev pub nowhere : {n : ℕ} → Mark n 1
+nowhere = record { spans = none ∷ [] }
+
+abbrev pub word_nowhere : {n : ℕ} → Word n
+word_nowhere = record { span = none }
+
+abbrev pub bound_lifetimes_of : {G : Type 0} → Word 10 → Mark 2 1 → Many G Comma → Mark 3 1 → BoundLifetimesOf G
+bound_lifetimes_of f l v g = record { for_token = f; lt_token = l; lifetimes = v; gt_token = g }
+
+abbrev pub trait_bound_of : {G X : Type 0} → Option Paren → Option (BoundLifetimesOf G) → TraitBoundModifiers → Option (Mark 22 1) → Path X → TraitBoundOf G X
+trait_bound_of t l m q p = record { paren_token = t; lifetimes = l; modifiers = m; maybe = q; path = p }
+
+abbrev pub capture_of : Word 17 → Mark 2 1 → Many CapturedParam Comma → Mark 3 1 → PreciseCapture
+capture_of u l v g = record { use_token = u; lt_token = l; params = v; gt_token = g }
+
+abbrev pub type_param_of : {B X : Type 0} → Attrs X → Ident → Option Colon → Many B Plus → Option (Eq × TypeTree X) → TypeParamOf B X
+type_param_of a i c b d = record { attrs = a; ident = i; colon_token = c; bounds = b; default = d }
+
+module _ {X : Type 0} where
+  abbrev pub lifetime_param_of : Attrs X → Lifetime → Option Colon → Many Lifetime Plus → LifetimeParam X
+  lifetime_param_of a l c b = record { attrs = a; lifetime = l; colon_token = c; bounds = b }
+
+  abbrev pub const_param_of : Attrs X → Word 6 → Ident → Colon → TypeTree X → Option (Eq × Expr X) → ConstParam X
+  const_param_of a w i c t d = record { attrs = a; const_token = w; ident = i; colon_token = c; ty = t; default = d }
+
+  abbrev pub where_clause_of : Word 18 → Many (WherePredicate X) Comma → WhereClause X
+  where_clause_of w v = record { where_token = w; predicates = v }
+
+  abbrev pub predicate_lifetime_of : Attrs X → Lifetime → Colon → Many Lifetime Plus → PredicateLifetime X
+  predicate_lifetime_of a l c b = record { attrs = a; lifetime = l; colon_token = c; bounds = b }
+
+  abbrev pub predicate_type_of : Attrs X → Option (BoundLifetimesOf (GenericParam X)) → TypeTree X → Colon → Many (TypeParamBound X) Plus → PredicateType X
+  predicate_type_of a l t c b = record { attrs = a; lifetimes = l; bounded_ty = t; colon_token = c; bounds = b }
+
+  abbrev pub generics_of : Option (Mark 2 1) → Many (GenericParam X) Comma → Option (Mark 3 1) → Option (WhereClause X) → Generics X
+  generics_of l v g w = record { lt_token = l; params = v; gt_token = g; where_clause = w }
+
+  -- no parameters and no where clause
+  abbrev pub empty : Generics X
+  empty = generics_of None ([], []) None None
+
+  -- a binder that stands nowhere, without parameters
+  abbrev pub empty_binder : BoundLifetimesOf (GenericParam X)
+  empty_binder = bound_lifetimes_of word_nowhere nowhere ([], []) nowhere
+
+  -- a where clause that stands nowhere, without predicates
+  abbrev pub empty_clause : WhereClause X
+  empty_clause = where_clause_of word_nowhere ([], [])
+
+  -- ---- the parameters of one kind, in order
+
+  abbrev pub lifetime_layer : g.GenericParam-F X (GenericParam X) (TypeParamBound X) → Option (LifetimeParam X)
+  lifetime_layer (g.GenericParam::Lifetime x) = Some x
+  lifetime_layer (g.«Type» x) = None
+  lifetime_layer (g.Const x) = None
+
+  abbrev pub type_layer : g.GenericParam-F X (GenericParam X) (TypeParamBound X) → Option (TypeParamOf (TypeParamBound X) X)
+  type_layer (g.GenericParam::Lifetime x) = None
+  type_layer (g.«Type» x) = Some x
+  type_layer (g.Const x) = None
+
+  abbrev pub const_layer : g.GenericParam-F X (GenericParam X) (TypeParamBound X) → Option (ConstParam X)
+  const_layer (g.GenericParam::Lifetime x) = None
+  const_layer (g.«Type» x) = None
+  const_layer (g.Const x) = Some x
+
+  abbrev pub is_lifetime_layer : g.GenericParam-F X (GenericParam X) (TypeParamBound X) → Bool
+  is_lifetime_layer (g.GenericParam::Lifetime x) = true
+  is_lifetime_layer (g.«Type» x) = false
+  is_lifetime_layer (g.Const x) = false
+
+  abbrev pub is_lifetime : GenericParam X → Bool
+  is_lifetime x = is_lifetime_layer (out-GenericParam X x)
+
+  abbrev pub as_lifetime : GenericParam X → Option (LifetimeParam X)
+  as_lifetime x = lifetime_layer (out-GenericParam X x)
+
+  abbrev pub as_type : GenericParam X → Option (TypeParamOf (TypeParamBound X) X)
+  as_type x = type_layer (out-GenericParam X x)
+
+  abbrev pub as_const : GenericParam X → Option (ConstParam X)
+  as_const x = const_layer (out-GenericParam X x)
+
+-- what a test answers of each member of a list, where it answers something
+abbrev pub kept_by : {B : Type 0} → Option B → List B → List B
+kept_by None l = l
+kept_by (Some x) l = x ∷ l
+
+abbrev pub only : {A B : Type 0} → (A → Option B) → List A → List B
+only f [] = []
+only f (x ∷ l) = kept_by (f x) (only f l)

@@ -1,0 +1,62 @@
+-- The views of generics for an implementation: the parameters without their defaults, and their names.
+use Rattle.std.specs.Prelude.{List, [], ◌∷◌, ◌++◌, None, map}
+use Rattle.token_core.specs.Lifetimes as lifetimes
+use Rattle.token_core.specs.Prints as p
+use Rattle.token_core.specs.Prints.{Print}
+use Rattle.token_core.specs.Spans.{none}
+use Rattle.syn_mid.specs.declared.generics.Generics.{Generics}
+use Rattle.syn_mid.specs.declared.generics.GenericParam.{GenericParam, out-GenericParam}
+use Rattle.syn_mid.specs.declared.generics.GenericParam.TheOpen as g
+use Rattle.syn_mid.specs.declared.generics.GenericParam.TheVariants as v
+use Rattle.syn_mid.specs.declared.generics.TypeParamBound.{TypeParamBound}
+use Rattle.syn_mid.specs.declared.generics.Style.{Style}
+use Rattle.syn_mid.specs.declared.generics.Style.TheVariants as styles
+use Rattle.syn_mid.specs.Supplied.{Place}
+use Rattle.syn_mid.specs.generics.Members.{sorted}
+use Rattle.syn_mid.specs.generics.Params.{is_lifetime, type_param_of, const_param_of, generics_of}
+use Rattle.syn_mid.specs.generics.Printing as printing
+
+module _ {X : Type 0} where
+  abbrev pub strip_layer : g.GenericParam-F X (GenericParam X) (TypeParamBound X) → GenericParam X
+  strip_layer (g.GenericParam::Lifetime x) = v.Lifetime x
+  strip_layer (g.«Type» x) = v.«Type» (type_param_of x.attrs x.ident x.colon_token x.bounds None)
+  strip_layer (g.Const x) = v.Const (const_param_of x.attrs x.const_token x.ident x.colon_token x.ty None)
+
+  -- a parameter without its default
+  abbrev pub strip : GenericParam X → GenericParam X
+  strip x = strip_layer (out-GenericParam X x)
+
+  -- generics without defaults and where clause
+  abbrev pub stripped : Generics X → Generics X
+  stripped x = generics_of x.lt_token (map strip x.params.0, x.params.1) x.gt_token None
+
+  abbrev pub name_layer : g.GenericParam-F X (GenericParam X) (TypeParamBound X) → Print
+  name_layer (g.GenericParam::Lifetime x) = lifetimes.print x.lifetime
+  name_layer (g.«Type» x) = p.ident x.ident
+  name_layer (g.Const x) = p.ident x.ident
+
+  abbrev pub name : GenericParam X → Print
+  name x = name_layer (out-GenericParam X x)
+
+  -- each parameter's name with its comma, lifetimes first; nothing without parameters
+  abbrev pub names : Generics X → Print
+  names x = printing.between x.lt_token x.gt_token x.params.0 (sorted is_lifetime name x.params)
+
+  abbrev pub after_sep : List (GenericParam X) → Print → Print
+  after_sep [] l = []
+  after_sep (x ∷ all) l = p.mark {n = 1} {l = 2} (record { spans = none ∷ none ∷ [] }) ++ l
+
+  -- `::` and the names; nothing without parameters
+  abbrev pub turbofish : Generics X → Print
+  turbofish x = after_sep x.params.0 (names x)
+
+module _ {X : Type 0} (prints : Place → X → Print) where
+  -- what is printed of a parameter
+  abbrev pub shown : Style → GenericParam X → Print
+  shown styles.Whole x = printing.param prints x
+  shown styles.NoDefault x = printing.param prints (strip x)
+  shown styles.Name x = name x
+
+  -- lifetimes first, between `<` and `>`; nothing without parameters
+  abbrev pub between_as : Style → Generics X → Print
+  between_as style x = printing.between x.lt_token x.gt_token x.params.0 (sorted is_lifetime (shown style) x.params)

@@ -1,0 +1,941 @@
+//! Generics: parameters, bounds, captures, where clauses.
+
+ghost use Rattle.std.specs.Borrow.{sem};
+ghost use Rattle.std.specs.Iterator.{YieldsFirstRef, YieldsFirstMut, item_count};
+ghost use Rattle.std.specs.Prelude.{◌≡◌, ◌++◌, ◌∷◌, [], Bool, false, None, IsOk, unwrap_or, OnOk, OnErr, option_map};
+ghost use Rattle.token_core.specs.Joined.{pairs_of};
+ghost use Rattle.token_core.specs.Lifetimes as lifetimes;
+ghost use Rattle.token_core.specs.Prints.{Extends, Print};
+ghost use Rattle.token_core.specs.Trees.{trees};
+ghost use Rattle.syn_mid.specs.declared.generics.GenericParam.TheVariants as params;
+ghost use Rattle.syn_mid.specs.declared.generics.Style as styles;
+ghost use Rattle.syn_mid.specs.declared.generics.TypeParamBound.TheVariants as bounds;
+ghost use Rattle.syn_mid.specs.declared.generics.WherePredicate.TheVariants as predicates;
+ghost use Rattle.syn_mid.specs.generics.Kinds as kinds;
+ghost use Rattle.syn_mid.specs.generics.Lends.{lends_clause};
+ghost use Rattle.syn_mid.specs.generics.Members as members;
+ghost use Rattle.syn_mid.specs.generics.Params as spec;
+ghost use Rattle.syn_mid.specs.generics.Printing as printing;
+
+use crate::attr::{Attribute, print_outer, print_value};
+use crate::path::Path;
+use crate::supplied::{Expr, Place, Subtree};
+use crate::ty::{Type, print_type};
+use std::alloc::{AllocError, Global};
+use token_core::token::{
+    Brace, Colon, Comma, Const, Eq, For, Gt, Lt, Mark, Paren, Plus, Question, Use, Where,
+};
+use token_core::{
+    Error, Ident, Items, Iter, IterMut, Lifetime, Pair, Punctuated, ToTokens, TokenStream,
+};
+
+/// The parameters of a declaration, and its where clause, which stands elsewhere in many of them.
+#[derive(Drop)]
+pub struct Generics<X> {
+    pub lt_token: Option<Lt>,
+    pub params: Punctuated<GenericParam<X>, Comma>,
+    pub gt_token: Option<Gt>,
+    pub where_clause: Option<WhereClause<X>>,
+}
+
+/// A parameter of generics.
+#[cycle(generics)]
+#[derive(Drop)]
+pub enum GenericParam<X> {
+    /// `'a: 'b + 'c`
+    Lifetime(LifetimeParam<X>),
+    /// `T: A + B = C`
+    Type(TypeParam<X>),
+    /// `const N: T = 1`
+    Const(ConstParam<X>),
+}
+
+/// A lifetime parameter: `'a: 'b + 'c`.
+#[derive(Drop)]
+pub struct LifetimeParam<X> {
+    pub attrs: Items<Attribute<X>>,
+    pub lifetime: Lifetime,
+    pub colon_token: Option<Colon>,
+    pub bounds: Punctuated<Lifetime, Plus>,
+}
+
+/// A type parameter, over its bounds.
+#[derive(Drop)]
+pub struct TypeParamOf<B, X> {
+    pub attrs: Items<Attribute<X>>,
+    pub ident: Ident,
+    pub colon_token: Option<Colon>,
+    pub bounds: Punctuated<B, Plus>,
+    pub default: Option<(Eq, Type<X>)>,
+}
+
+/// A type parameter: `T: A + B = C`.
+pub type TypeParam<X> = TypeParamOf<TypeParamBound<X>, X>;
+
+/// A const parameter: `const N: T = 1`.
+#[derive(Drop)]
+pub struct ConstParam<X> {
+    pub attrs: Items<Attribute<X>>,
+    pub const_token: Const,
+    pub ident: Ident,
+    pub colon_token: Colon,
+    pub ty: Type<X>,
+    pub default: Option<(Eq, Expr<X>)>,
+}
+
+/// A binder, over its parameters.
+#[derive(Drop)]
+pub struct BoundLifetimesOf<G> {
+    pub for_token: For,
+    pub lt_token: Lt,
+    pub lifetimes: Punctuated<G, Comma>,
+    pub gt_token: Gt,
+}
+
+/// A binder: `for<'a, 'b>`.
+pub type BoundLifetimes<X> = BoundLifetimesOf<GenericParam<X>>;
+
+/// A bound.
+#[cycle(generics)]
+#[derive(Drop)]
+pub enum TypeParamBound<X> {
+    /// `for<'a> ?a::b`
+    Trait(TraitBound<X>),
+    /// `'a`
+    Lifetime(Lifetime),
+    /// `use<'a, T>`
+    PreciseCapture(PreciseCapture),
+    /// Tokens that no other case holds.
+    Verbatim(TokenStream),
+}
+
+/// A trait as a bound, over the parameters of its binder.
+#[derive(Drop)]
+pub struct TraitBoundOf<G, X> {
+    pub paren_token: Option<Paren>,
+    pub lifetimes: Option<BoundLifetimesOf<G>>,
+    pub modifiers: TraitBoundModifiers,
+    pub maybe: Option<Question>,
+    pub path: Path<X>,
+}
+
+/// A trait as a bound: an optional binder, an optional `?`, a path; perhaps in parentheses.
+pub type TraitBound<X> = TraitBoundOf<GenericParam<X>, X>;
+
+/// What stands between the binder of a trait bound and its `?`: nothing, today.
+#[derive(Clone, Copy, Default)]
+pub struct TraitBoundModifiers {}
+
+/// What an opaque type captures: `use<'a, T>`.
+#[derive(Drop)]
+pub struct PreciseCapture {
+    pub use_token: Use,
+    pub lt_token: Lt,
+    pub params: Punctuated<CapturedParam, Comma>,
+    pub gt_token: Gt,
+}
+
+/// A parameter that is captured.
+#[derive(Drop)]
+pub enum CapturedParam {
+    /// `'a`
+    Lifetime(Lifetime),
+    /// `T`, `Self`
+    Ident(Ident),
+}
+
+/// A where clause: `where T: A, 'a: 'b`.
+#[derive(Drop)]
+pub struct WhereClause<X> {
+    pub where_token: Where,
+    pub predicates: Punctuated<WherePredicate<X>, Comma>,
+}
+
+/// A predicate of a where clause.
+#[derive(Drop)]
+pub enum WherePredicate<X> {
+    /// `'a: 'b + 'c`
+    Lifetime(PredicateLifetime<X>),
+    /// `for<'a> T: A + B`
+    Type(PredicateType<X>),
+}
+
+/// A predicate of a lifetime: `'a: 'b + 'c`.
+#[derive(Drop)]
+pub struct PredicateLifetime<X> {
+    pub attrs: Items<Attribute<X>>,
+    pub lifetime: Lifetime,
+    pub colon_token: Colon,
+    pub bounds: Punctuated<Lifetime, Plus>,
+}
+
+/// A predicate of a type: `for<'a> T: A + B`.
+#[derive(Drop)]
+pub struct PredicateType<X> {
+    pub attrs: Items<Attribute<X>>,
+    pub lifetimes: Option<BoundLifetimes<X>>,
+    pub bounded_ty: Type<X>,
+    pub colon_token: Colon,
+    pub bounds: Punctuated<TypeParamBound<X>, Plus>,
+}
+
+// ---- calls
+
+impl<X> Generics<X> {
+    /// No parameters, and no where clause.
+    pub fn default(alloc: Global) -> Generics<X>
+        ensures { result ≡ spec.empty }
+    {
+        Generics {
+            lt_token: None,
+            params: Punctuated::new(alloc),
+            gt_token: None,
+            where_clause: None,
+        }
+    }
+}
+
+impl<X> BoundLifetimes<X> {
+    /// A binder without parameters, whose marks stand nowhere.
+    pub fn default(alloc: Global) -> BoundLifetimes<X>
+        ensures { result ≡ spec.empty_binder }
+    {
+        BoundLifetimesOf {
+            for_token: For::default(),
+            lt_token: Lt::default(),
+            lifetimes: Punctuated::new(alloc),
+            gt_token: Gt::default(),
+        }
+    }
+}
+
+impl<X> TypeParam<X> {
+    /// A type parameter without attributes, bounds and default.
+    pub fn from_ident(alloc: Global, ident: Ident) -> TypeParam<X>
+        ensures { result ≡ spec.type_param_of [] ident None ([], []) None }
+    {
+        TypeParamOf {
+            attrs: Items::new(alloc),
+            ident,
+            colon_token: None,
+            bounds: Punctuated::new(alloc),
+            default: None,
+        }
+    }
+}
+
+impl<X> LifetimeParam<X> {
+    /// A lifetime parameter without attributes and bounds.
+    pub fn new(alloc: Global, lifetime: Lifetime) -> LifetimeParam<X>
+        ensures { result ≡ spec.lifetime_param_of [] lifetime None ([], []) }
+    {
+        LifetimeParam {
+            attrs: Items::new(alloc),
+            lifetime,
+            colon_token: None,
+            bounds: Punctuated::new(alloc),
+        }
+    }
+}
+
+impl TraitBoundModifiers {
+    /// Refuses modifiers where none may stand. None is there today.
+    pub fn require_empty(&self) -> Result<(), Error>
+        ensures { IsOk result }
+    {
+        let TraitBoundModifiers {} = self;
+        Ok(())
+    }
+}
+
+impl<X> From<LifetimeParam<X>> for GenericParam<X> {
+    ghost from_gives = { λ param made. made ≡ params.Lifetime param };
+
+    fn from(param: LifetimeParam<X>) -> GenericParam<X> {
+        GenericParam::Lifetime(param)
+    }
+}
+
+impl<X> From<TypeParam<X>> for GenericParam<X> {
+    ghost from_gives = { λ param made. made ≡ params.«Type» param };
+
+    fn from(param: TypeParam<X>) -> GenericParam<X> {
+        GenericParam::Type(param)
+    }
+}
+
+impl<X> From<ConstParam<X>> for GenericParam<X> {
+    ghost from_gives = { λ param made. made ≡ params.Const param };
+
+    fn from(param: ConstParam<X>) -> GenericParam<X> {
+        GenericParam::Const(param)
+    }
+}
+
+impl<X> From<TraitBound<X>> for TypeParamBound<X> {
+    ghost from_gives = { λ bound made. made ≡ bounds.Trait bound };
+
+    fn from(bound: TraitBound<X>) -> TypeParamBound<X> {
+        TypeParamBound::Trait(bound)
+    }
+}
+
+impl<X> From<Lifetime> for TypeParamBound<X> {
+    ghost from_gives = { λ lifetime made. made ≡ bounds.Lifetime lifetime };
+
+    fn from(lifetime: Lifetime) -> TypeParamBound<X> {
+        TypeParamBound::Lifetime(lifetime)
+    }
+}
+
+impl<X> From<PreciseCapture> for TypeParamBound<X> {
+    ghost from_gives = { λ capture made. made ≡ bounds.PreciseCapture capture };
+
+    fn from(capture: PreciseCapture) -> TypeParamBound<X> {
+        TypeParamBound::PreciseCapture(capture)
+    }
+}
+
+impl<X> From<PredicateLifetime<X>> for WherePredicate<X> {
+    ghost from_gives = { λ predicate made. made ≡ predicates.Lifetime predicate };
+
+    fn from(predicate: PredicateLifetime<X>) -> WherePredicate<X> {
+        WherePredicate::Lifetime(predicate)
+    }
+}
+
+impl<X> From<PredicateType<X>> for WherePredicate<X> {
+    ghost from_gives = { λ predicate made. made ≡ predicates.«Type» predicate };
+
+    fn from(predicate: PredicateType<X>) -> WherePredicate<X> {
+        WherePredicate::Type(predicate)
+    }
+}
+
+// ---- the parameters of one kind
+
+impl<X> Generics<X> {
+    /// The lifetime parameters.
+    pub fn lifetimes(&self) -> Lifetimes<'_, X>
+        ensures { kinds.lifetimes_left result ≡ spec.only spec.as_lifetime self.now.params.0 }
+    {
+        let params = self.params.iter();
+        Lifetimes { params }
+    }
+
+    /// The lifetime parameters, for writing.
+    pub fn lifetimes_mut(&mut self) -> LifetimesMut<'_, X>
+        ensures { kinds.lifetimes_mut_left result ≡ spec.only spec.as_lifetime self.old.params.0 }
+    {
+        let params = self.params.iter_mut();
+        LifetimesMut { params }
+    }
+
+    /// The type parameters.
+    pub fn type_params(&self) -> TypeParams<'_, X>
+        ensures { kinds.type_params_left result ≡ spec.only spec.as_type self.now.params.0 }
+    {
+        let params = self.params.iter();
+        TypeParams { params }
+    }
+
+    /// The type parameters, for writing.
+    pub fn type_params_mut(&mut self) -> TypeParamsMut<'_, X>
+        ensures { kinds.type_params_mut_left result ≡ spec.only spec.as_type self.old.params.0 }
+    {
+        let params = self.params.iter_mut();
+        TypeParamsMut { params }
+    }
+
+    /// The const parameters.
+    pub fn const_params(&self) -> ConstParams<'_, X>
+        ensures { kinds.const_params_left result ≡ spec.only spec.as_const self.now.params.0 }
+    {
+        let params = self.params.iter();
+        ConstParams { params }
+    }
+
+    /// The const parameters, for writing.
+    pub fn const_params_mut(&mut self) -> ConstParamsMut<'_, X>
+        ensures { kinds.const_params_mut_left result ≡ spec.only spec.as_const self.old.params.0 }
+    {
+        let params = self.params.iter_mut();
+        ConstParamsMut { params }
+    }
+}
+
+/// The lifetime parameters of generics, in order.
+#[derive(Drop)]
+pub struct Lifetimes<'a, X> {
+    params: Iter<'a, GenericParam<X>, Comma>,
+}
+
+impl<'a, X> Iterator for Lifetimes<'a, X> {
+    type Item = &'a LifetimeParam<X>;
+
+    ghost next_gives = { YieldsFirstRef kinds.lifetimes_left };
+
+    ghost remaining = { item_count kinds.lifetimes_left };
+
+    fn next(&mut self) -> Option<&'a LifetimeParam<X>> {
+        while let Some(param) = self.params.next() {
+            if let GenericParam::Lifetime(param) = param {
+                return Some(param);
+            }
+        }
+        None
+    }
+}
+
+/// The lifetime parameters of generics, in order, for writing.
+#[derive(Drop)]
+pub struct LifetimesMut<'a, X> {
+    params: IterMut<'a, GenericParam<X>, Comma>,
+}
+
+impl<'a, X> Iterator for LifetimesMut<'a, X> {
+    type Item = &'a mut LifetimeParam<X>;
+
+    ghost next_gives = { YieldsFirstMut kinds.lifetimes_mut_left };
+
+    ghost remaining = { item_count kinds.lifetimes_mut_left };
+
+    fn next(&mut self) -> Option<&'a mut LifetimeParam<X>> {
+        while let Some(param) = self.params.next() {
+            if let GenericParam::Lifetime(param) = param {
+                return Some(param);
+            }
+        }
+        None
+    }
+}
+
+/// The type parameters of generics, in order.
+#[derive(Drop)]
+pub struct TypeParams<'a, X> {
+    params: Iter<'a, GenericParam<X>, Comma>,
+}
+
+impl<'a, X> Iterator for TypeParams<'a, X> {
+    type Item = &'a TypeParam<X>;
+
+    ghost next_gives = { YieldsFirstRef kinds.type_params_left };
+
+    ghost remaining = { item_count kinds.type_params_left };
+
+    fn next(&mut self) -> Option<&'a TypeParam<X>> {
+        while let Some(param) = self.params.next() {
+            if let GenericParam::Type(param) = param {
+                return Some(param);
+            }
+        }
+        None
+    }
+}
+
+/// The type parameters of generics, in order, for writing.
+#[derive(Drop)]
+pub struct TypeParamsMut<'a, X> {
+    params: IterMut<'a, GenericParam<X>, Comma>,
+}
+
+impl<'a, X> Iterator for TypeParamsMut<'a, X> {
+    type Item = &'a mut TypeParam<X>;
+
+    ghost next_gives = { YieldsFirstMut kinds.type_params_mut_left };
+
+    ghost remaining = { item_count kinds.type_params_mut_left };
+
+    fn next(&mut self) -> Option<&'a mut TypeParam<X>> {
+        while let Some(param) = self.params.next() {
+            if let GenericParam::Type(param) = param {
+                return Some(param);
+            }
+        }
+        None
+    }
+}
+
+/// The const parameters of generics, in order.
+#[derive(Drop)]
+pub struct ConstParams<'a, X> {
+    params: Iter<'a, GenericParam<X>, Comma>,
+}
+
+impl<'a, X> Iterator for ConstParams<'a, X> {
+    type Item = &'a ConstParam<X>;
+
+    ghost next_gives = { YieldsFirstRef kinds.const_params_left };
+
+    ghost remaining = { item_count kinds.const_params_left };
+
+    fn next(&mut self) -> Option<&'a ConstParam<X>> {
+        while let Some(param) = self.params.next() {
+            if let GenericParam::Const(param) = param {
+                return Some(param);
+            }
+        }
+        None
+    }
+}
+
+/// The const parameters of generics, in order, for writing.
+#[derive(Drop)]
+pub struct ConstParamsMut<'a, X> {
+    params: IterMut<'a, GenericParam<X>, Comma>,
+}
+
+impl<'a, X> Iterator for ConstParamsMut<'a, X> {
+    type Item = &'a mut ConstParam<X>;
+
+    ghost next_gives = { YieldsFirstMut kinds.const_params_mut_left };
+
+    ghost remaining = { item_count kinds.const_params_mut_left };
+
+    fn next(&mut self) -> Option<&'a mut ConstParam<X>> {
+        while let Some(param) = self.params.next() {
+            if let GenericParam::Const(param) = param {
+                return Some(param);
+            }
+        }
+        None
+    }
+}
+
+// ---- the where clause
+
+impl<X> WhereClause<X> {
+    /// A where clause that stands nowhere, without predicates.
+    fn empty(alloc: Global) -> WhereClause<X>
+        ensures { result ≡ spec.empty_clause }
+    {
+        WhereClause {
+            where_token: Where::default(),
+            predicates: Punctuated::new(alloc),
+        }
+    }
+}
+
+impl<X: Drop> Generics<X> {
+    /// Lends the where clause; where there is none, an empty one is put there first.
+    pub fn make_where_clause(&mut self, alloc: Global) -> &mut WhereClause<X>
+        ensures* lends { sem 𝓛 (lends_clause X.row self.entry result) }
+        ensures clause { result.now ≡ unwrap_or self.old.where_clause spec.empty_clause }
+    {
+        self.where_clause.get_or_insert(WhereClause::empty(alloc))
+    }
+}
+
+// ---- prints
+
+/// What is printed of a parameter.
+#[derive(Clone, Copy)]
+enum Style {
+    Whole,
+    NoDefault,
+    Name,
+}
+
+/// A member of a list that prints its lifetimes first.
+trait Member {
+    /// It is a lifetime.
+    ghost first: { Self → Bool };
+
+    /// What is printed of it.
+    ghost shown: { styles.Style → Self → Print };
+
+    fn is_lifetime(&self) -> bool
+        ensures { result ≡ first self.now };
+
+    /// Appends it; refused, what stood before is kept.
+    fn print_as(&self, alloc: Global, style: Style, out: &mut TokenStream) -> Result<(), AllocError>
+        ensures ok { OnOk result (trees out.new ≡ trees out.old ++ shown style self.now) }
+        ensures err { OnErr result (Extends (trees out.old) (trees out.new)) };
+}
+
+impl Member for CapturedParam {
+    ghost first = { printing.is_captured_lifetime };
+
+    ghost shown = { λ style x. printing.captured x };
+
+    fn is_lifetime(&self) -> bool {
+        match self {
+            CapturedParam::Lifetime(_) => true,
+            CapturedParam::Ident(_) => false,
+        }
+    }
+
+    #[tactic(auto, using(token_core::proofs::Puts::puts))]
+    fn print_as(
+        &self,
+        alloc: Global,
+        _style: Style,
+        out: &mut TokenStream,
+    ) -> Result<(), AllocError> {
+        self.to_tokens(alloc, out)
+    }
+}
+
+impl ToTokens for CapturedParam {
+    ghost print = { printing.captured };
+
+    fn to_tokens(&self, alloc: Global, out: &mut TokenStream) -> Result<(), AllocError> {
+        match self {
+            CapturedParam::Lifetime(lifetime) => lifetime.to_tokens(alloc, out),
+            CapturedParam::Ident(ident) => ident.to_tokens(alloc, out),
+        }
+    }
+}
+
+impl ToTokens for PreciseCapture {
+    ghost print = { printing.capture };
+
+    fn to_tokens(&self, alloc: Global, out: &mut TokenStream) -> Result<(), AllocError> {
+        let before = out.len();
+        match print_capture(alloc, self, out) {
+            Ok(()) => Ok(()),
+            Err(error) => {
+                out.truncate(before);
+                Err(error)
+            }
+        }
+    }
+}
+
+#[tactic(auto, using(token_core::proofs::Puts::puts))]
+fn print_capture(
+    alloc: Global,
+    capture: &PreciseCapture,
+    out: &mut TokenStream,
+) -> Result<(), AllocError>
+    ensures ok { OnOk result (trees out.new ≡ trees out.old ++ printing.capture capture.now) }
+    ensures err { OnErr result (Extends (trees out.old) (trees out.new)) }
+{
+    capture.use_token.to_tokens(alloc, out)?;
+    capture.lt_token.to_tokens(alloc, out)?;
+    print_sorted(alloc, &capture.params, Style::Whole, out)?;
+    capture.gt_token.to_tokens(alloc, out)
+}
+
+/// Lifetimes, each with its comma; a comma where the last has none and others follow; the others, each with its comma.
+#[tactic(auto, using(token_core::proofs::Puts::puts))]
+fn print_sorted<M: Member>(
+    alloc: Global,
+    list: &Punctuated<M, Comma>,
+    style: Style,
+    out: &mut TokenStream,
+) -> Result<(), AllocError>
+    ensures ok { OnOk result (trees out.new ≡ trees out.old ++ members.sorted M.first (M.shown style) list.now) }
+    ensures err { OnErr result (Extends (trees out.old) (trees out.new)) }
+{
+    print_lifetime_members(alloc, list, style, out)?;
+    print_added_comma(alloc, list, out)?;
+    print_other_members(alloc, list, style, out)
+}
+
+#[tactic(auto, using(token_core::proofs::Puts::puts, crate::proofs::generics_laws::Sorted::kinds))]
+fn print_lifetime_members<M: Member>(
+    alloc: Global,
+    list: &Punctuated<M, Comma>,
+    style: Style,
+    out: &mut TokenStream,
+) -> Result<(), AllocError>
+    ensures ok { OnOk result (trees out.new ≡ trees out.old ++ members.each (M.shown style) (members.firsts M.first list.now)) }
+    ensures err { OnErr result (Extends (trees out.old) (trees out.new)) }
+{
+    print_kind(alloc, list, true, style, out)
+}
+
+#[tactic(auto, using(token_core::proofs::Puts::puts, crate::proofs::generics_laws::Sorted::kinds))]
+fn print_other_members<M: Member>(
+    alloc: Global,
+    list: &Punctuated<M, Comma>,
+    style: Style,
+    out: &mut TokenStream,
+) -> Result<(), AllocError>
+    ensures ok { OnOk result (trees out.new ≡ trees out.old ++ members.each (M.shown style) (members.others M.first list.now)) }
+    ensures err { OnErr result (Extends (trees out.old) (trees out.new)) }
+{
+    print_kind(alloc, list, false, style, out)
+}
+
+/// The members that are lifetimes, or those that are not, each with its comma.
+#[tactic(auto, using(token_core::proofs::Puts::puts, crate::proofs::generics_laws::Sorted::kinds))]
+fn print_kind<M: Member>(
+    alloc: Global,
+    list: &Punctuated<M, Comma>,
+    lifetimes: bool,
+    style: Style,
+    out: &mut TokenStream,
+) -> Result<(), AllocError>
+    ensures ok { OnOk result (trees out.new ≡ trees out.old ++ members.each (M.shown style) (members.those M.first lifetimes (members.members_of list.now))) }
+    ensures err { OnErr result (Extends (trees out.old) (trees out.new)) }
+{
+    let (pairs, last) = list.parts();
+    for pair in pairs {
+        print_member(alloc, &pair.value, Some(&pair.mark), lifetimes, style, out)?;
+    }
+    match last {
+        Some(member) => print_member(alloc, member, None, lifetimes, style, out),
+        None => Ok(()),
+    }
+}
+
+/// A member with its comma, where it is of the kind.
+#[tactic(auto, using(token_core::proofs::Puts::puts, crate::proofs::generics_laws::Sorted::kinds))]
+fn print_member<M: Member>(
+    alloc: Global,
+    member: &M,
+    comma: Option<&Comma>,
+    lifetimes: bool,
+    style: Style,
+    out: &mut TokenStream,
+) -> Result<(), AllocError>
+    ensures ok { OnOk result (trees out.new ≡ trees out.old ++ members.each (M.shown style) (members.those M.first lifetimes ((member.now, option_map (λ c. c.now) comma.entry) ∷ []))) }
+    ensures err { OnErr result (Extends (trees out.old) (trees out.new)) }
+{
+    if member.is_lifetime() != lifetimes {
+        return Ok(());
+    }
+    member.print_as(alloc, style, out)?;
+    match comma {
+        Some(comma) => comma.to_tokens(alloc, out),
+        None => Ok(()),
+    }
+}
+
+#[tactic(auto, using(token_core::proofs::Puts::puts))]
+fn print_added_comma<M: Member>(
+    alloc: Global,
+    list: &Punctuated<M, Comma>,
+    out: &mut TokenStream,
+) -> Result<(), AllocError>
+    ensures ok { OnOk result (trees out.new ≡ trees out.old ++ members.added M.first list.now) }
+    ensures err { OnErr result (Extends (trees out.old) (trees out.new)) }
+{
+    if lacks_comma(list) {
+        Comma::default().to_tokens(alloc, out)
+    } else {
+        Ok(())
+    }
+}
+
+/// Whether a comma is to be added after the lifetimes. Only the last member may have none: it is a lifetime, and another member is there.
+#[tactic(auto, using(crate::proofs::generics_laws::Sorted::commas))]
+fn lacks_comma<M: Member>(list: &Punctuated<M, Comma>) -> bool
+    ensures { result ≡ members.adds (members.firsts M.first list.now) (members.others M.first list.now) }
+{
+    let (pairs, last) = list.parts();
+    match last {
+        Some(member) => member.is_lifetime() && has_other(pairs),
+        None => false,
+    }
+}
+
+/// Whether a member is there that is no lifetime.
+#[tactic(auto, using(crate::proofs::generics_laws::Sorted::commas))]
+fn has_other<M: Member>(pairs: &[Pair<M, Comma>]) -> bool
+    ensures { result ≡ members.some_left (members.those M.first false (pairs_of pairs.now None)) }
+{
+    for pair in pairs {
+        if !pair.value.is_lifetime() {
+            return true;
+        }
+    }
+    false
+}
+
+#[tactic(auto, using(token_core::proofs::Puts::puts))]
+fn print_lifetime_param<X: Subtree>(
+    alloc: Global,
+    param: &LifetimeParam<X>,
+    out: &mut TokenStream,
+) -> Result<(), AllocError>
+    ensures ok { OnOk result (trees out.new ≡ trees out.old ++ printing.lifetime_param X.prints param.now) }
+    ensures err { OnErr result (Extends (trees out.old) (trees out.new)) }
+{
+    print_outer(alloc, &param.attrs, out)?;
+    param.lifetime.to_tokens(alloc, out)?;
+    print_lifetime_bounds(alloc, param, out)
+}
+
+/// The bounds of a lifetime parameter after their colon.
+#[tactic(auto, using(token_core::proofs::Puts::puts, crate::proofs::generics_laws::Prints::bounds))]
+fn print_lifetime_bounds<X>(
+    alloc: Global,
+    param: &LifetimeParam<X>,
+    out: &mut TokenStream,
+) -> Result<(), AllocError>
+    ensures ok { OnOk result (trees out.new ≡ trees out.old ++ printing.after_colon lifetimes.print param.now.colon_token param.now.bounds) }
+    ensures err { OnErr result (Extends (trees out.old) (trees out.new)) }
+{
+    if param.bounds.is_empty() {
+        return Ok(());
+    }
+    print_or_default(alloc, &param.colon_token, out)?;
+    print_lifetimes(alloc, &param.bounds, out)
+}
+
+#[tactic(auto, using(token_core::proofs::Puts::puts))]
+fn print_lifetimes(
+    alloc: Global,
+    bounds: &Punctuated<Lifetime, Plus>,
+    out: &mut TokenStream,
+) -> Result<(), AllocError>
+    ensures ok { OnOk result (trees out.new ≡ trees out.old ++ printing.lifetimes_joined bounds.now) }
+    ensures err { OnErr result (Extends (trees out.old) (trees out.new)) }
+{
+    let (pairs, last) = bounds.parts();
+    for pair in pairs {
+        pair.value.to_tokens(alloc, out)?;
+        pair.mark.to_tokens(alloc, out)?;
+    }
+    match last {
+        Some(lifetime) => lifetime.to_tokens(alloc, out),
+        None => Ok(()),
+    }
+}
+
+#[tactic(auto, using(token_core::proofs::Puts::puts))]
+fn print_const_param<X: Subtree>(
+    alloc: Global,
+    param: &ConstParam<X>,
+    out: &mut TokenStream,
+) -> Result<(), AllocError>
+    ensures ok { OnOk result (trees out.new ≡ trees out.old ++ printing.const_param X.prints param.now) }
+    ensures err { OnErr result (Extends (trees out.old) (trees out.new)) }
+{
+    print_const_head(alloc, param, out)?;
+    print_const_default(alloc, &param.default, out)
+}
+
+/// A const parameter without its default.
+#[tactic(auto, using(token_core::proofs::Puts::puts))]
+fn print_const_head<X: Subtree>(
+    alloc: Global,
+    param: &ConstParam<X>,
+    out: &mut TokenStream,
+) -> Result<(), AllocError>
+    ensures ok { OnOk result (trees out.new ≡ trees out.old ++ printing.const_head X.prints param.now) }
+    ensures err { OnErr result (Extends (trees out.old) (trees out.new)) }
+{
+    print_outer(alloc, &param.attrs, out)?;
+    param.const_token.to_tokens(alloc, out)?;
+    param.ident.to_tokens(alloc, out)?;
+    param.colon_token.to_tokens(alloc, out)?;
+    print_type(alloc, &param.ty, out)
+}
+
+#[tactic(auto, using(token_core::proofs::Puts::puts))]
+fn print_const_default<X: Subtree>(
+    alloc: Global,
+    default: &Option<(Eq, Expr<X>)>,
+    out: &mut TokenStream,
+) -> Result<(), AllocError>
+    ensures ok { OnOk result (trees out.new ≡ trees out.old ++ printing.const_default X.prints default.now) }
+    ensures err { OnErr result (Extends (trees out.old) (trees out.new)) }
+{
+    match default {
+        Some((eq_token, value)) => {
+            eq_token.to_tokens(alloc, out)?;
+            print_const_argument(alloc, value, out)
+        }
+        None => Ok(()),
+    }
+}
+
+/// A const argument: a literal as it prints as a value, anything else in braces.
+#[tactic(auto, using(token_core::proofs::Puts::puts, crate::proofs::generics_laws::Prints::prints, crate::proofs::attr_laws::Prints::contents))]
+fn print_const_argument<X: Subtree>(
+    alloc: Global,
+    value: &Expr<X>,
+    out: &mut TokenStream,
+) -> Result<(), AllocError>
+    ensures ok { OnOk result (trees out.new ≡ trees out.old ++ printing.const_argument X.prints value.now) }
+    ensures err { OnErr result (Extends (trees out.old) (trees out.new)) }
+{
+    match value {
+        Expr::Lit(_) => print_value(alloc, value, out),
+        Expr::Other(tree) => {
+            let mut content = TokenStream::new(alloc);
+            tree.print(alloc, Place::Block, &mut content)?;
+            Brace::default().surround(content, out)
+        }
+    }
+}
+
+/// A mark of one character, or the same that stands nowhere.
+#[tactic(auto, using(token_core::proofs::Puts::puts))]
+fn print_or_default<const N: u32>(
+    alloc: Global,
+    mark: &Option<Mark<N, 1>>,
+    out: &mut TokenStream,
+) -> Result<(), AllocError>
+    ensures ok { OnOk result (trees out.new ≡ trees out.old ++ printing.or_default mark.now) }
+    ensures err { OnErr result (Extends (trees out.old) (trees out.new)) }
+{
+    match mark {
+        Some(token) => token.to_tokens(alloc, out),
+        None => Mark::<N, 1>::default().to_tokens(alloc, out),
+    }
+}
+
+#[tactic(auto, using(token_core::proofs::Puts::puts))]
+fn print_predicate_lifetime<X: Subtree>(
+    alloc: Global,
+    predicate: &PredicateLifetime<X>,
+    out: &mut TokenStream,
+) -> Result<(), AllocError>
+    ensures ok { OnOk result (trees out.new ≡ trees out.old ++ printing.predicate_lifetime X.prints predicate.now) }
+    ensures err { OnErr result (Extends (trees out.old) (trees out.new)) }
+{
+    print_outer(alloc, &predicate.attrs, out)?;
+    predicate.lifetime.to_tokens(alloc, out)?;
+    predicate.colon_token.to_tokens(alloc, out)?;
+    print_lifetimes(alloc, &predicate.bounds, out)
+}
+
+impl<X: Subtree> ToTokens for LifetimeParam<X> {
+    ghost print = { printing.lifetime_param X.prints };
+
+    fn to_tokens(&self, alloc: Global, out: &mut TokenStream) -> Result<(), AllocError> {
+        let before = out.len();
+        match print_lifetime_param(alloc, self, out) {
+            Ok(()) => Ok(()),
+            Err(error) => {
+                out.truncate(before);
+                Err(error)
+            }
+        }
+    }
+}
+
+impl<X: Subtree> ToTokens for ConstParam<X> {
+    ghost print = { printing.const_param X.prints };
+
+    fn to_tokens(&self, alloc: Global, out: &mut TokenStream) -> Result<(), AllocError> {
+        let before = out.len();
+        match print_const_param(alloc, self, out) {
+            Ok(()) => Ok(()),
+            Err(error) => {
+                out.truncate(before);
+                Err(error)
+            }
+        }
+    }
+}
+
+impl<X: Subtree> ToTokens for PredicateLifetime<X> {
+    ghost print = { printing.predicate_lifetime X.prints };
+
+    fn to_tokens(&self, alloc: Global, out: &mut TokenStream) -> Result<(), AllocError> {
+        let before = out.len();
+        match print_predicate_lifetime(alloc, self, out) {
+            Ok(()) => Ok(()),
+            Err(error) => {
+                out.truncate(before);
+                Err(error)
+            }
+        }
+    }
+}
