@@ -7,11 +7,14 @@ use std::alloc::Global;
 use std::fmt::Write;
 use std::process::Abort;
 use syn_mid::{
-    CapturedParam, ConstParam, Expr, ExprLit, GenericParam, Generics, LifetimeParam, ModStyle,
-    ParseInner, ParseOuter, Path, PreciseCapture, PredicateLifetime, Type, TypeParam, TypePath,
-    WherePredicate,
+    BoundLifetimes, CapturedParam, ConstParam, Expr, ExprLit, GenericParam, Generics,
+    LifetimeParam, ModStyle, ParseInner, ParseOuter, Path, PreciseCapture, PredicateLifetime,
+    PredicateType, TraitBound, TraitBoundModifiers, Type, TypeParam, TypeParamBound, TypePath,
+    WhereClause, WherePredicate,
 };
-use token_core::token::{Colon, Comma, Const, Eq, Gt, Lt, Plus, Use};
+use token_core::token::{
+    Colon, Comma, Const, Eq, Gt, Lt, Paren, Plus, Question, Use, Where,
+};
 use token_core::{
     Error, Ident, Items, Lifetime, Lit, Punctuated, Span, ToTokens, TokenStream, read_all,
     read_all_with,
@@ -19,6 +22,7 @@ use token_core::{
 use token_text::{lex, text_of};
 
 type Param = GenericParam<Nothing>;
+type Bound = TypeParamBound<Nothing>;
 
 /// It answers this; of a refusal, its text.
 fn says(rt: &impl Abort, answer: Result<String, Error>, wanted: &str) {
@@ -237,7 +241,122 @@ fn parameters_print(rt: HostRuntime) {
     says(&rt, with_inner(alloc, "#![b]"), "'a");
 }
 
+/// `Clone`, in parentheses and after a `?` where it is asked for
+fn clone_bound(alloc: Global, whole: bool) -> Result<Bound, Error> {
+    Ok(TypeParamBound::from(TraitBound {
+        paren_token: option(whole, Paren::default()),
+        lifetimes: None,
+        modifiers: TraitBoundModifiers::default(),
+        maybe: option(whole, Question::default()),
+        path: path(alloc, "Clone")?,
+    }))
+}
+
+fn option<T: Drop>(there: bool, value: T) -> Option<T> {
+    if there { Some(value) } else { None }
+}
+
+/// `for<'b>`
+fn binder(alloc: Global) -> Result<BoundLifetimes<Nothing>, Error> {
+    let mut binder = BoundLifetimes::default(alloc);
+    binder.lifetimes = alone(alloc, lifetime_param(alloc, "b")?)?;
+    Ok(binder)
+}
+
+/// `T: Clone = u8`, its colon left to the print
+fn bounded(alloc: Global) -> Result<TypeParam<Nothing>, Error> {
+    let mut param = named(alloc, "T")?;
+    param.bounds = lone_bound(alloc, clone_bound(alloc, false)?)?;
+    param.default = Some((Eq::default(), ty(alloc, "u8")?));
+    Ok(param)
+}
+
+fn lone_bound(alloc: Global, bound: Bound) -> Result<Punctuated<Bound, Plus>, Error> {
+    let mut list = Punctuated::new(alloc);
+    list.push_value(alloc, bound)?;
+    Ok(list)
+}
+
+/// `for<'b> A`
+fn bound_to(alloc: Global) -> Result<Bound, Error> {
+    Ok(TypeParamBound::Trait(TraitBound {
+        paren_token: None,
+        lifetimes: Some(binder(alloc)?),
+        modifiers: TraitBoundModifiers::default(),
+        maybe: None,
+        path: path(alloc, "A")?,
+    }))
+}
+
+fn captures(alloc: Global) -> Result<Bound, Error> {
+    Ok(TypeParamBound::from(PreciseCapture {
+        use_token: Use::default(),
+        lt_token: Lt::default(),
+        params: lifetime_last(alloc)?,
+        gt_token: Gt::default(),
+    }))
+}
+
+fn shown<T: ToTokens + Drop>(alloc: Global, tree: Result<T, Error>) -> Result<String, Error> {
+    printed(alloc, &tree?)
+}
+
+fn held(alloc: Global, text: &str) -> Result<Bound, Error> {
+    Ok(TypeParamBound::Verbatim(lex(alloc, text)?))
+}
+
+fn lifetime_bound(alloc: Global) -> Result<Bound, Error> {
+    Ok(TypeParamBound::from(lifetime(alloc, "a")?))
+}
+
+#[test]
+fn bounds_print(rt: HostRuntime) {
+    let alloc = rt.alloc();
+    says(&rt, shown(alloc, bounded(alloc)), "T : Clone = u8");
+    says(&rt, shown(alloc, clone_bound(alloc, true)), "(? Clone)");
+    says(&rt, shown(alloc, bound_to(alloc)), "for < 'b > A");
+    says(&rt, shown(alloc, binder(alloc)), "for < 'b >");
+    says(&rt, shown(alloc, lifetime_bound(alloc)), "'a");
+    says(&rt, shown(alloc, captures(alloc)), "use < 'a , T , >");
+    says(&rt, shown(alloc, held(alloc, "~ const A")), "~ const A");
+}
+
 // ---- where clauses
+
+/// `for<'b> T: Clone`
+fn bounded_type(alloc: Global) -> Result<PredicateType<Nothing>, Error> {
+    Ok(PredicateType {
+        attrs: Items::new(alloc),
+        lifetimes: Some(binder(alloc)?),
+        bounded_ty: ty(alloc, "T")?,
+        colon_token: Colon::default(),
+        bounds: lone_bound(alloc, clone_bound(alloc, false)?)?,
+    })
+}
+
+/// `where 'a:, for<'b> T: Clone`
+fn clause(alloc: Global) -> Result<WhereClause<Nothing>, Error> {
+    let first = WherePredicate::from(lone_predicate(alloc)?);
+    Ok(WhereClause {
+        where_token: Where::default(),
+        predicates: pair(alloc, first, WherePredicate::from(bounded_type(alloc)?))?,
+    })
+}
+
+fn empty_clause(alloc: Global) -> Result<WhereClause<Nothing>, Error> {
+    Ok(WhereClause {
+        where_token: Where::default(),
+        predicates: Punctuated::new(alloc),
+    })
+}
+
+#[test]
+fn where_clauses_print(rt: HostRuntime) {
+    let alloc = rt.alloc();
+    let whole = "where 'a : , for < 'b > T : Clone";
+    says(&rt, shown(alloc, clause(alloc)), whole);
+    says(&rt, shown(alloc, empty_clause(alloc)), "");
+}
 
 /// `'a:` without a bound
 fn lone_predicate(alloc: Global) -> Result<PredicateLifetime<Nothing>, Error> {
@@ -312,4 +431,65 @@ fn iterators_give_their_kind(rt: HostRuntime) {
     let alloc = rt.alloc();
     says(&rt, kinds(alloc, generics(alloc)), "T N a ");
     says(&rt, kinds(alloc, Ok(Generics::default(alloc))), "");
+}
+
+// ---- views
+
+/// `<T: Clone = u8, 'a, const N: usize = 1>`, with a where clause
+fn whole(alloc: Global) -> Result<Generics<Nothing>, Error> {
+    let mut generics = Generics::default(alloc);
+    let default = Some((Eq::default(), literal(alloc, "1")?));
+    generics.params = three(
+        alloc,
+        Param::from(bounded(alloc)?),
+        lifetime_param(alloc, "a")?,
+        Param::from(const_param(alloc, default)?),
+    )?;
+    generics.where_clause = Some(clause(alloc)?);
+    Ok(generics)
+}
+
+fn impl_generics(alloc: Global, of: Result<Generics<Nothing>, Error>) -> Result<String, Error> {
+    let generics = of?;
+    printed(alloc, &generics.split_for_impl().0)
+}
+
+fn type_generics(alloc: Global, of: Result<Generics<Nothing>, Error>) -> Result<String, Error> {
+    let generics = of?;
+    printed(alloc, &generics.split_for_impl().1)
+}
+
+fn turbofish(alloc: Global, of: Result<Generics<Nothing>, Error>) -> Result<String, Error> {
+    let generics = of?;
+    printed(alloc, &generics.split_for_impl().1.as_turbofish())
+}
+
+/// How many predicates the where clause has that is split off.
+fn split_clause(alloc: Global) -> Result<String, Error> {
+    let generics = whole(alloc)?;
+    match generics.split_for_impl().2 {
+        Some(clause) => number(alloc, clause.predicates.len()),
+        None => Ok(String::new(alloc)),
+    }
+}
+
+#[test]
+fn generics_print_lifetimes_first(rt: HostRuntime) {
+    let alloc = rt.alloc();
+    let all = "< 'a , T : Clone = u8 , const N : usize = 1 >";
+    says(&rt, shown(alloc, whole(alloc)), all);
+    says(&rt, shown(alloc, Ok(Generics::<Nothing>::default(alloc))), "");
+}
+
+#[test]
+fn views_print(rt: HostRuntime) {
+    let alloc = rt.alloc();
+    let head = "< 'a , T : Clone , const N : usize >";
+    says(&rt, impl_generics(alloc, whole(alloc)), head);
+    says(&rt, type_generics(alloc, whole(alloc)), "< 'a , T , N >");
+    says(&rt, turbofish(alloc, whole(alloc)), ":: < 'a , T , N >");
+    says(&rt, impl_generics(alloc, Ok(Generics::default(alloc))), "");
+    says(&rt, type_generics(alloc, Ok(Generics::default(alloc))), "");
+    says(&rt, turbofish(alloc, Ok(Generics::default(alloc))), "");
+    says(&rt, split_clause(alloc), "2");
 }

@@ -3,7 +3,7 @@
 ghost use Rattle.std.specs.Borrow.{sem};
 ghost use Rattle.std.specs.Iterator.{YieldsFirstRef, YieldsFirstMut, item_count};
 ghost use Rattle.std.specs.Prelude.{◌≡◌, ◌++◌, ◌∷◌, [], Bool, false, None, IsOk, unwrap_or, OnOk, OnErr, option_map};
-ghost use Rattle.token_core.specs.Joined.{pairs_of};
+ghost use Rattle.token_core.specs.Joined.{values_of, marks_of, pairs_of};
 ghost use Rattle.token_core.specs.Lifetimes as lifetimes;
 ghost use Rattle.token_core.specs.Prints.{Extends, Print};
 ghost use Rattle.token_core.specs.Trees.{trees};
@@ -16,14 +16,15 @@ ghost use Rattle.syn_mid.specs.generics.Lends.{lends_clause};
 ghost use Rattle.syn_mid.specs.generics.Members as members;
 ghost use Rattle.syn_mid.specs.generics.Params as spec;
 ghost use Rattle.syn_mid.specs.generics.Printing as printing;
+ghost use Rattle.syn_mid.specs.generics.Views as views;
 
 use crate::attr::{Attribute, print_outer, print_value};
 use crate::path::Path;
 use crate::supplied::{Expr, Place, Subtree};
-use crate::ty::{Type, print_type};
+use crate::ty::{Type, print_type, print_verbatim};
 use std::alloc::{AllocError, Global};
 use token_core::token::{
-    Brace, Colon, Comma, Const, Eq, For, Gt, Lt, Mark, Paren, Plus, Question, Use, Where,
+    Brace, Colon, Comma, Const, Eq, For, Gt, Lt, Mark, Paren, PathSep, Plus, Question, Use, Where,
 };
 use token_core::{
     Error, Ident, Items, Iter, IterMut, Lifetime, Pair, Punctuated, ToTokens, TokenStream,
@@ -773,27 +774,7 @@ fn print_lifetime_bounds<X>(
         return Ok(());
     }
     print_or_default(alloc, &param.colon_token, out)?;
-    print_lifetimes(alloc, &param.bounds, out)
-}
-
-#[tactic(auto, using(token_core::proofs::Puts::puts))]
-fn print_lifetimes(
-    alloc: Global,
-    bounds: &Punctuated<Lifetime, Plus>,
-    out: &mut TokenStream,
-) -> Result<(), AllocError>
-    ensures ok { OnOk result (trees out.new ≡ trees out.old ++ printing.lifetimes_joined bounds.now) }
-    ensures err { OnErr result (Extends (trees out.old) (trees out.new)) }
-{
-    let (pairs, last) = bounds.parts();
-    for pair in pairs {
-        pair.value.to_tokens(alloc, out)?;
-        pair.mark.to_tokens(alloc, out)?;
-    }
-    match last {
-        Some(lifetime) => lifetime.to_tokens(alloc, out),
-        None => Ok(()),
-    }
+    param.bounds.to_tokens(alloc, out)
 }
 
 #[tactic(auto, using(token_core::proofs::Puts::puts))]
@@ -864,6 +845,255 @@ fn print_const_argument<X: Subtree>(
     }
 }
 
+// ---- prints of parameters and bounds, which lead back to each other
+
+/// Appends a parameter; refused, what stood before is kept.
+#[cycle(print)]
+#[tactic(auto, using(token_core::proofs::Puts::puts, crate::proofs::generics_laws::Prints::prints))]
+fn print_param<X: Subtree>(
+    alloc: Global,
+    param: &GenericParam<X>,
+    out: &mut TokenStream,
+) -> Result<(), AllocError>
+    ensures ok { OnOk result (trees out.new ≡ trees out.old ++ printing.param X.prints param.now) }
+    ensures err { OnErr result (Extends (trees out.old) (trees out.new)) }
+{
+    match param {
+        GenericParam::Lifetime(param) => print_lifetime_param(alloc, param, out),
+        GenericParam::Type(param) => print_type_param(alloc, param, out),
+        GenericParam::Const(param) => print_const_param(alloc, param, out),
+    }
+}
+
+#[cycle(print)]
+#[tactic(auto, using(token_core::proofs::Puts::puts, crate::proofs::generics_laws::Prints::prints))]
+fn print_type_param<X: Subtree>(
+    alloc: Global,
+    param: &TypeParam<X>,
+    out: &mut TokenStream,
+) -> Result<(), AllocError>
+    ensures ok { OnOk result (trees out.new ≡ trees out.old ++ printing.type_param X.prints param.now) }
+    ensures err { OnErr result (Extends (trees out.old) (trees out.new)) }
+{
+    print_type_head(alloc, param, out)?;
+    print_type_default(alloc, &param.default, out)
+}
+
+/// A type parameter without its default.
+#[cycle(print)]
+#[tactic(auto, using(token_core::proofs::Puts::puts, crate::proofs::generics_laws::Prints::prints))]
+fn print_type_head<X: Subtree>(
+    alloc: Global,
+    param: &TypeParam<X>,
+    out: &mut TokenStream,
+) -> Result<(), AllocError>
+    ensures ok { OnOk result (trees out.new ≡ trees out.old ++ printing.type_head_by X.prints (printing.bound X.prints) param.now) }
+    ensures err { OnErr result (Extends (trees out.old) (trees out.new)) }
+{
+    print_outer(alloc, &param.attrs, out)?;
+    param.ident.to_tokens(alloc, out)?;
+    print_type_bounds(alloc, param, out)
+}
+
+/// The bounds of a type parameter after their colon.
+#[cycle(print)]
+#[tactic(auto, using(token_core::proofs::Puts::puts, crate::proofs::generics_laws::Prints::bounds))]
+fn print_type_bounds<X: Subtree>(
+    alloc: Global,
+    param: &TypeParam<X>,
+    out: &mut TokenStream,
+) -> Result<(), AllocError>
+    ensures ok { OnOk result (trees out.new ≡ trees out.old ++ printing.after_colon (printing.bound X.prints) param.now.colon_token param.now.bounds) }
+    ensures err { OnErr result (Extends (trees out.old) (trees out.new)) }
+{
+    if param.bounds.is_empty() {
+        return Ok(());
+    }
+    print_or_default(alloc, &param.colon_token, out)?;
+    print_bounds(alloc, param, out)
+}
+
+#[cycle(print)]
+#[tactic(auto, using(token_core::proofs::Puts::puts, crate::proofs::generics_laws::Prints::prints))]
+fn print_bounds<X: Subtree>(
+    alloc: Global,
+    param: &TypeParam<X>,
+    out: &mut TokenStream,
+) -> Result<(), AllocError>
+    ensures ok { OnOk result (trees out.new ≡ trees out.old ++ printing.bounds_joined X.prints param.now.bounds) }
+    ensures err { OnErr result (Extends (trees out.old) (trees out.new)) }
+{
+    let (pairs, last) = param.bounds.parts();
+    for pair in pairs {
+        print_bound(alloc, &pair.value, out)?;
+        pair.mark.to_tokens(alloc, out)?;
+    }
+    match last {
+        Some(bound) => print_bound(alloc, bound, out),
+        None => Ok(()),
+    }
+}
+
+/// Appends a bound; refused, what stood before is kept.
+#[cycle(print)]
+#[tactic(auto, using(token_core::proofs::Puts::puts, crate::proofs::generics_laws::Prints::prints))]
+fn print_bound<X: Subtree>(
+    alloc: Global,
+    bound: &TypeParamBound<X>,
+    out: &mut TokenStream,
+) -> Result<(), AllocError>
+    ensures ok { OnOk result (trees out.new ≡ trees out.old ++ printing.bound X.prints bound.now) }
+    ensures err { OnErr result (Extends (trees out.old) (trees out.new)) }
+{
+    match bound {
+        TypeParamBound::Trait(bound) => print_trait_bound(alloc, bound, out),
+        TypeParamBound::Lifetime(lifetime) => lifetime.to_tokens(alloc, out),
+        TypeParamBound::PreciseCapture(capture) => print_capture(alloc, capture, out),
+        TypeParamBound::Verbatim(tokens) => print_verbatim(alloc, tokens, out),
+    }
+}
+
+#[cycle(print)]
+#[tactic(auto, using(token_core::proofs::Puts::puts, crate::proofs::attr_laws::Prints::contents))]
+fn print_trait_bound<X: Subtree>(
+    alloc: Global,
+    bound: &TraitBound<X>,
+    out: &mut TokenStream,
+) -> Result<(), AllocError>
+    ensures ok { OnOk result (trees out.new ≡ trees out.old ++ printing.trait_bound X.prints bound.now) }
+    ensures err { OnErr result (Extends (trees out.old) (trees out.new)) }
+{
+    match &bound.paren_token {
+        Some(paren) => {
+            let mut content = TokenStream::new(alloc);
+            print_bare_trait(alloc, bound, &mut content)?;
+            paren.surround(content, out)
+        }
+        None => print_bare_trait(alloc, bound, out),
+    }
+}
+
+/// A trait bound without its parentheses.
+#[cycle(print)]
+#[tactic(auto, using(token_core::proofs::Puts::puts, crate::proofs::generics_laws::Prints::binders))]
+fn print_bare_trait<X: Subtree>(
+    alloc: Global,
+    bound: &TraitBound<X>,
+    out: &mut TokenStream,
+) -> Result<(), AllocError>
+    ensures ok { OnOk result (trees out.new ≡ trees out.old ++ printing.bare_trait_by (printing.param X.prints) bound.now) }
+    ensures err { OnErr result (Extends (trees out.old) (trees out.new)) }
+{
+    print_binder_start(alloc, &bound.lifetimes, out)?;
+    print_trait_params(alloc, bound, out)?;
+    print_binder_end(alloc, &bound.lifetimes, out)?;
+    print_named_trait(alloc, bound, out)
+}
+
+/// The parameters of a trait bound's binder.
+#[cycle(print)]
+#[tactic(auto, using(token_core::proofs::Puts::puts, crate::proofs::generics_laws::Prints::prints))]
+fn print_trait_params<X: Subtree>(
+    alloc: Global,
+    bound: &TraitBound<X>,
+    out: &mut TokenStream,
+) -> Result<(), AllocError>
+    ensures ok { OnOk result (trees out.new ≡ trees out.old ++ printing.binder_joined (printing.param X.prints) bound.now.lifetimes) }
+    ensures err { OnErr result (Extends (trees out.old) (trees out.new)) }
+{
+    let (pairs, last) = binder_parts(bound);
+    for pair in pairs {
+        print_param(alloc, &pair.value, out)?;
+        pair.mark.to_tokens(alloc, out)?;
+    }
+    match last {
+        Some(param) => print_param(alloc, param, out),
+        None => Ok(()),
+    }
+}
+
+/// The parameters of a trait bound's binder by their parts; none without a binder.
+fn binder_parts<X>(
+    bound: &TraitBound<X>,
+) -> (&[Pair<GenericParam<X>, Comma>], Option<&GenericParam<X>>)
+    ensures { printing.binder_params bound.now.lifetimes ≡ (values_of result.0.now (option_map (λ x. x.now) result.1), marks_of result.0.now) }
+{
+    match &bound.lifetimes {
+        Some(binder) => binder.lifetimes.parts(),
+        None => (&[], None),
+    }
+}
+
+/// A binder before its parameters; nothing without one.
+#[tactic(auto, using(token_core::proofs::Puts::puts))]
+fn print_binder_start<G>(
+    alloc: Global,
+    binder: &Option<BoundLifetimesOf<G>>,
+    out: &mut TokenStream,
+) -> Result<(), AllocError>
+    ensures ok { OnOk result (trees out.new ≡ trees out.old ++ printing.binder_start binder.now) }
+    ensures err { OnErr result (Extends (trees out.old) (trees out.new)) }
+{
+    match binder {
+        Some(binder) => {
+            binder.for_token.to_tokens(alloc, out)?;
+            binder.lt_token.to_tokens(alloc, out)
+        }
+        None => Ok(()),
+    }
+}
+
+/// A binder after its parameters; nothing without one.
+#[tactic(auto, using(token_core::proofs::Puts::puts))]
+fn print_binder_end<G>(
+    alloc: Global,
+    binder: &Option<BoundLifetimesOf<G>>,
+    out: &mut TokenStream,
+) -> Result<(), AllocError>
+    ensures ok { OnOk result (trees out.new ≡ trees out.old ++ printing.binder_end binder.now) }
+    ensures err { OnErr result (Extends (trees out.old) (trees out.new)) }
+{
+    match binder {
+        Some(binder) => binder.gt_token.to_tokens(alloc, out),
+        None => Ok(()),
+    }
+}
+
+/// A trait bound after its binder.
+#[tactic(auto, using(token_core::proofs::Puts::puts))]
+fn print_named_trait<X>(
+    alloc: Global,
+    bound: &TraitBound<X>,
+    out: &mut TokenStream,
+) -> Result<(), AllocError>
+    ensures ok { OnOk result (trees out.new ≡ trees out.old ++ printing.named_trait bound.now) }
+    ensures err { OnErr result (Extends (trees out.old) (trees out.new)) }
+{
+    match &bound.maybe {
+        Some(question) => question.to_tokens(alloc, out)?,
+        None => {}
+    }
+    bound.path.to_tokens(alloc, out)
+}
+
+#[tactic(auto, using(token_core::proofs::Puts::puts))]
+fn print_type_default<X: Subtree>(
+    alloc: Global,
+    default: &Option<(Eq, Type<X>)>,
+    out: &mut TokenStream,
+) -> Result<(), AllocError>
+    ensures ok { OnOk result (trees out.new ≡ trees out.old ++ printing.type_default X.prints default.now) }
+    ensures err { OnErr result (Extends (trees out.old) (trees out.new)) }
+{
+    match default {
+        Some((eq_token, ty)) => {
+            eq_token.to_tokens(alloc, out)?;
+            print_type(alloc, ty, out)
+        }
+        None => Ok(()),
+    }
+}
+
 /// A mark of one character, or the same that stands nowhere.
 #[tactic(auto, using(token_core::proofs::Puts::puts))]
 fn print_or_default<const N: u32>(
@@ -892,7 +1122,7 @@ fn print_predicate_lifetime<X: Subtree>(
     print_outer(alloc, &predicate.attrs, out)?;
     predicate.lifetime.to_tokens(alloc, out)?;
     predicate.colon_token.to_tokens(alloc, out)?;
-    print_lifetimes(alloc, &predicate.bounds, out)
+    predicate.bounds.to_tokens(alloc, out)
 }
 
 impl<X: Subtree> ToTokens for LifetimeParam<X> {
@@ -931,6 +1161,401 @@ impl<X: Subtree> ToTokens for PredicateLifetime<X> {
     fn to_tokens(&self, alloc: Global, out: &mut TokenStream) -> Result<(), AllocError> {
         let before = out.len();
         match print_predicate_lifetime(alloc, self, out) {
+            Ok(()) => Ok(()),
+            Err(error) => {
+                out.truncate(before);
+                Err(error)
+            }
+        }
+    }
+}
+
+impl<X: Subtree> ToTokens for GenericParam<X> {
+    ghost print = { printing.param X.prints };
+
+    fn to_tokens(&self, alloc: Global, out: &mut TokenStream) -> Result<(), AllocError> {
+        let before = out.len();
+        match print_param(alloc, self, out) {
+            Ok(()) => Ok(()),
+            Err(error) => {
+                out.truncate(before);
+                Err(error)
+            }
+        }
+    }
+}
+
+impl<X: Subtree> ToTokens for TypeParam<X> {
+    ghost print = { printing.type_param X.prints };
+
+    fn to_tokens(&self, alloc: Global, out: &mut TokenStream) -> Result<(), AllocError> {
+        let before = out.len();
+        match print_type_param(alloc, self, out) {
+            Ok(()) => Ok(()),
+            Err(error) => {
+                out.truncate(before);
+                Err(error)
+            }
+        }
+    }
+}
+
+impl<X: Subtree> ToTokens for TypeParamBound<X> {
+    ghost print = { printing.bound X.prints };
+
+    fn to_tokens(&self, alloc: Global, out: &mut TokenStream) -> Result<(), AllocError> {
+        let before = out.len();
+        match print_bound(alloc, self, out) {
+            Ok(()) => Ok(()),
+            Err(error) => {
+                out.truncate(before);
+                Err(error)
+            }
+        }
+    }
+}
+
+impl<X: Subtree> ToTokens for TraitBound<X> {
+    ghost print = { printing.trait_bound X.prints };
+
+    fn to_tokens(&self, alloc: Global, out: &mut TokenStream) -> Result<(), AllocError> {
+        let before = out.len();
+        match print_trait_bound(alloc, self, out) {
+            Ok(()) => Ok(()),
+            Err(error) => {
+                out.truncate(before);
+                Err(error)
+            }
+        }
+    }
+}
+
+// ---- where clauses
+
+#[tactic(auto, using(token_core::proofs::Puts::puts))]
+fn print_bound_lifetimes<X: Subtree>(
+    alloc: Global,
+    binder: &BoundLifetimes<X>,
+    out: &mut TokenStream,
+) -> Result<(), AllocError>
+    ensures ok { OnOk result (trees out.new ≡ trees out.old ++ printing.bound_lifetimes X.prints binder.now) }
+    ensures err { OnErr result (Extends (trees out.old) (trees out.new)) }
+{
+    binder.for_token.to_tokens(alloc, out)?;
+    binder.lt_token.to_tokens(alloc, out)?;
+    binder.lifetimes.to_tokens(alloc, out)?;
+    binder.gt_token.to_tokens(alloc, out)
+}
+
+#[tactic(auto, using(token_core::proofs::Puts::puts))]
+fn print_predicate_type<X: Subtree>(
+    alloc: Global,
+    predicate: &PredicateType<X>,
+    out: &mut TokenStream,
+) -> Result<(), AllocError>
+    ensures ok { OnOk result (trees out.new ≡ trees out.old ++ printing.predicate_type X.prints predicate.now) }
+    ensures err { OnErr result (Extends (trees out.old) (trees out.new)) }
+{
+    print_outer(alloc, &predicate.attrs, out)?;
+    print_binder(alloc, &predicate.lifetimes, out)?;
+    print_type(alloc, &predicate.bounded_ty, out)?;
+    predicate.colon_token.to_tokens(alloc, out)?;
+    predicate.bounds.to_tokens(alloc, out)
+}
+
+/// A binder; nothing without one.
+#[tactic(auto, using(token_core::proofs::Puts::puts))]
+fn print_binder<X: Subtree>(
+    alloc: Global,
+    binder: &Option<BoundLifetimes<X>>,
+    out: &mut TokenStream,
+) -> Result<(), AllocError>
+    ensures ok { OnOk result (trees out.new ≡ trees out.old ++ printing.binder_by (printing.param X.prints) binder.now) }
+    ensures err { OnErr result (Extends (trees out.old) (trees out.new)) }
+{
+    match binder {
+        Some(binder) => print_bound_lifetimes(alloc, binder, out),
+        None => Ok(()),
+    }
+}
+
+/// `where` and the predicates; nothing without predicates.
+#[tactic(auto, using(token_core::proofs::Puts::puts, crate::proofs::generics_laws::Prints::clauses))]
+fn print_where<X: Subtree>(
+    alloc: Global,
+    clause: &WhereClause<X>,
+    out: &mut TokenStream,
+) -> Result<(), AllocError>
+    ensures ok { OnOk result (trees out.new ≡ trees out.old ++ printing.where_clause X.prints clause.now) }
+    ensures err { OnErr result (Extends (trees out.old) (trees out.new)) }
+{
+    if clause.predicates.is_empty() {
+        return Ok(());
+    }
+    clause.where_token.to_tokens(alloc, out)?;
+    clause.predicates.to_tokens(alloc, out)
+}
+
+impl<X: Subtree> ToTokens for BoundLifetimes<X> {
+    ghost print = { printing.bound_lifetimes X.prints };
+
+    fn to_tokens(&self, alloc: Global, out: &mut TokenStream) -> Result<(), AllocError> {
+        let before = out.len();
+        match print_bound_lifetimes(alloc, self, out) {
+            Ok(()) => Ok(()),
+            Err(error) => {
+                out.truncate(before);
+                Err(error)
+            }
+        }
+    }
+}
+
+impl<X: Subtree> ToTokens for PredicateType<X> {
+    ghost print = { printing.predicate_type X.prints };
+
+    fn to_tokens(&self, alloc: Global, out: &mut TokenStream) -> Result<(), AllocError> {
+        let before = out.len();
+        match print_predicate_type(alloc, self, out) {
+            Ok(()) => Ok(()),
+            Err(error) => {
+                out.truncate(before);
+                Err(error)
+            }
+        }
+    }
+}
+
+impl<X: Subtree> ToTokens for WherePredicate<X> {
+    ghost print = { printing.predicate X.prints };
+
+    fn to_tokens(&self, alloc: Global, out: &mut TokenStream) -> Result<(), AllocError> {
+        match self {
+            WherePredicate::Lifetime(predicate) => predicate.to_tokens(alloc, out),
+            WherePredicate::Type(predicate) => predicate.to_tokens(alloc, out),
+        }
+    }
+}
+
+impl<X: Subtree> ToTokens for WhereClause<X> {
+    ghost print = { printing.where_clause X.prints };
+
+    fn to_tokens(&self, alloc: Global, out: &mut TokenStream) -> Result<(), AllocError> {
+        let before = out.len();
+        match print_where(alloc, self, out) {
+            Ok(()) => Ok(()),
+            Err(error) => {
+                out.truncate(before);
+                Err(error)
+            }
+        }
+    }
+}
+
+// ---- generics and their views
+
+/// The head of an implementation: the parameters without their defaults.
+#[derive(Clone, Drop)]
+pub struct ImplGenerics<'a, X> {
+    generics: &'a Generics<X>,
+}
+
+/// The parameters by their names.
+#[derive(Clone, Drop)]
+pub struct TypeGenerics<'a, X> {
+    generics: &'a Generics<X>,
+}
+
+/// The parameters by their names, after `::`.
+#[derive(Clone, Drop)]
+pub struct Turbofish<'a, X> {
+    generics: &'a Generics<X>,
+}
+
+impl<X> Generics<X> {
+    /// The generics of an implementation for this declaration: its parameters without their defaults, their names, and its where clause.
+    pub fn split_for_impl(
+        &self,
+    ) -> (
+        ImplGenerics<'_, X>,
+        TypeGenerics<'_, X>,
+        Option<&WhereClause<X>>,
+    )
+        ensures impls { result.0.generics.now ≡ self.now }
+        ensures names { result.1.generics.now ≡ self.now }
+        ensures clause { option_map (λ c. c.now) result.2 ≡ self.now.where_clause }
+    {
+        (
+            ImplGenerics { generics: self },
+            TypeGenerics { generics: self },
+            self.where_clause.as_ref(),
+        )
+    }
+}
+
+impl<'a, X> TypeGenerics<'a, X> {
+    /// The names after `::`, as in a call.
+    pub fn as_turbofish(&self) -> Turbofish<'a, X>
+        ensures { result.generics.now ≡ self.now.generics.now }
+    {
+        Turbofish {
+            generics: self.generics,
+        }
+    }
+}
+
+impl<X: Subtree> Member for GenericParam<X> {
+    ghost first = { spec.is_lifetime };
+
+    ghost shown = { views.shown X.prints };
+
+    #[tactic(auto, using(crate::proofs::generics_laws::Views::views))]
+    fn is_lifetime(&self) -> bool {
+        match self {
+            GenericParam::Lifetime(_) => true,
+            GenericParam::Type(_) | GenericParam::Const(_) => false,
+        }
+    }
+
+    #[tactic(auto, using(token_core::proofs::Puts::puts, crate::proofs::generics_laws::Views::views))]
+    fn print_as(
+        &self,
+        alloc: Global,
+        style: Style,
+        out: &mut TokenStream,
+    ) -> Result<(), AllocError> {
+        match style {
+            Style::Whole => print_param(alloc, self, out),
+            Style::NoDefault => print_head(alloc, self, out),
+            Style::Name => print_name(alloc, self, out),
+        }
+    }
+}
+
+/// A parameter without its default.
+#[tactic(auto, using(token_core::proofs::Puts::puts, crate::proofs::generics_laws::Views::views))]
+fn print_head<X: Subtree>(
+    alloc: Global,
+    param: &GenericParam<X>,
+    out: &mut TokenStream,
+) -> Result<(), AllocError>
+    ensures ok { OnOk result (trees out.new ≡ trees out.old ++ printing.param X.prints (views.strip param.now)) }
+    ensures err { OnErr result (Extends (trees out.old) (trees out.new)) }
+{
+    match param {
+        GenericParam::Lifetime(param) => print_lifetime_param(alloc, param, out),
+        GenericParam::Type(param) => print_type_head(alloc, param, out),
+        GenericParam::Const(param) => print_const_head(alloc, param, out),
+    }
+}
+
+/// A parameter's name.
+#[tactic(auto, using(token_core::proofs::Puts::puts, crate::proofs::generics_laws::Views::views))]
+fn print_name<X>(
+    alloc: Global,
+    param: &GenericParam<X>,
+    out: &mut TokenStream,
+) -> Result<(), AllocError>
+    ensures ok { OnOk result (trees out.new ≡ trees out.old ++ views.name param.now) }
+    ensures err { OnErr result (Extends (trees out.old) (trees out.new)) }
+{
+    match param {
+        GenericParam::Lifetime(param) => param.lifetime.to_tokens(alloc, out),
+        GenericParam::Type(param) => param.ident.to_tokens(alloc, out),
+        GenericParam::Const(param) => param.ident.to_tokens(alloc, out),
+    }
+}
+
+/// The parameters between `<` and `>`, lifetimes first; nothing without parameters.
+#[tactic(auto, using(token_core::proofs::Puts::puts, crate::proofs::generics_laws::Views::betweens))]
+fn print_between<X: Subtree>(
+    alloc: Global,
+    generics: &Generics<X>,
+    style: Style,
+    out: &mut TokenStream,
+) -> Result<(), AllocError>
+    ensures ok { OnOk result (trees out.new ≡ trees out.old ++ views.between_as X.prints style generics.now) }
+    ensures err { OnErr result (Extends (trees out.old) (trees out.new)) }
+{
+    if generics.params.is_empty() {
+        return Ok(());
+    }
+    print_or_default(alloc, &generics.lt_token, out)?;
+    print_sorted(alloc, &generics.params, style, out)?;
+    print_or_default(alloc, &generics.gt_token, out)
+}
+
+/// The names after `::`; nothing without parameters.
+#[tactic(auto, using(token_core::proofs::Puts::puts, crate::proofs::generics_laws::Views::after_seps, crate::proofs::generics_laws::Views::showns))]
+fn print_turbofish<X: Subtree>(
+    alloc: Global,
+    generics: &Generics<X>,
+    out: &mut TokenStream,
+) -> Result<(), AllocError>
+    ensures ok { OnOk result (trees out.new ≡ trees out.old ++ views.turbofish generics.now) }
+    ensures err { OnErr result (Extends (trees out.old) (trees out.new)) }
+{
+    if generics.params.is_empty() {
+        return Ok(());
+    }
+    PathSep::default().to_tokens(alloc, out)?;
+    print_between(alloc, generics, Style::Name, out)
+}
+
+impl<X: Subtree> ToTokens for Generics<X> {
+    ghost print = { printing.generics X.prints };
+
+    #[tactic(auto, using(crate::proofs::generics_laws::Views::showns))]
+    fn to_tokens(&self, alloc: Global, out: &mut TokenStream) -> Result<(), AllocError> {
+        let before = out.len();
+        match print_between(alloc, self, Style::Whole, out) {
+            Ok(()) => Ok(()),
+            Err(error) => {
+                out.truncate(before);
+                Err(error)
+            }
+        }
+    }
+}
+
+impl<'a, X: Subtree> ToTokens for ImplGenerics<'a, X> {
+    ghost print = { λ view. printing.generics X.prints (views.stripped view.generics.now) };
+
+    #[tactic(auto, using(crate::proofs::generics_laws::Views::showns))]
+    fn to_tokens(&self, alloc: Global, out: &mut TokenStream) -> Result<(), AllocError> {
+        let before = out.len();
+        match print_between(alloc, self.generics, Style::NoDefault, out) {
+            Ok(()) => Ok(()),
+            Err(error) => {
+                out.truncate(before);
+                Err(error)
+            }
+        }
+    }
+}
+
+impl<'a, X: Subtree> ToTokens for TypeGenerics<'a, X> {
+    ghost print = { λ view. views.names view.generics.now };
+
+    #[tactic(auto, using(crate::proofs::generics_laws::Views::showns))]
+    fn to_tokens(&self, alloc: Global, out: &mut TokenStream) -> Result<(), AllocError> {
+        let before = out.len();
+        match print_between(alloc, self.generics, Style::Name, out) {
+            Ok(()) => Ok(()),
+            Err(error) => {
+                out.truncate(before);
+                Err(error)
+            }
+        }
+    }
+}
+
+impl<'a, X: Subtree> ToTokens for Turbofish<'a, X> {
+    ghost print = { λ view. views.turbofish view.generics.now };
+
+    fn to_tokens(&self, alloc: Global, out: &mut TokenStream) -> Result<(), AllocError> {
+        let before = out.len();
+        match print_turbofish(alloc, self.generics, out) {
             Ok(()) => Ok(()),
             Err(error) => {
                 out.truncate(before);

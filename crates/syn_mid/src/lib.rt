@@ -14,9 +14,9 @@ pub mod whole;
 pub use attr::{AttrStyle, Attribute, AttributeOf, Meta, MetaList, MetaNameValue};
 pub use generics::{
     BoundLifetimes, BoundLifetimesOf, CapturedParam, ConstParam, GenericParam, Generics,
-    LifetimeParam, PreciseCapture, PredicateLifetime, PredicateType, TraitBound,
-    TraitBoundModifiers, TraitBoundOf, TypeParam, TypeParamBound, TypeParamOf, WhereClause,
-    WherePredicate,
+    ImplGenerics, LifetimeParam, PreciseCapture, PredicateLifetime, PredicateType, TraitBound,
+    TraitBoundModifiers, TraitBoundOf, Turbofish, TypeGenerics, TypeParam, TypeParamBound,
+    TypeParamOf, WhereClause, WherePredicate,
 };
 pub use mac::{Macro, MacroDelimiter};
 pub use path::{

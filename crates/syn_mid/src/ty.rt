@@ -782,7 +782,7 @@ fn print_lone_comma<T>(
 
 /// Appends a copy of each of these trees; refused, what stood before is kept.
 #[tactic(auto, using(token_core::proofs::Puts::puts))]
-fn print_verbatim(
+pub(crate) fn print_verbatim(
     alloc: Global,
     tokens: &TokenStream,
     out: &mut TokenStream,

@@ -3,8 +3,10 @@
 ghost use Rattle.std.specs.Prelude.{◌≡◌, ◌++◌, ◌∷◌, [], ◌<◌, length, OnOk, OnErr, IsTrue, ◌↔◌, ◌+◌, option_map, slice_get, min, ◌^◌, ◌-◌, MatchOption, Ok, Err};
 ghost use Rattle.token_core.specs.Lists as spec;
 ghost use Rattle.token_core.specs.Joined.{values_of, marks_of};
+ghost use Rattle.token_core.specs.Prints.{Extends};
 ghost use Rattle.token_core.specs.Reads.{Parsed, Follows};
 ghost use Rattle.token_core.specs.Terminated as terminated;
+ghost use Rattle.token_core.specs.Trees.{trees};
 ghost use Rattle.std.specs.Iterator.{YieldsFirstBy, YieldsFirstRef, YieldsFirstMut, item_count};
 ghost use Rattle.token_core.specs.Lent.{values_left};
 
@@ -13,6 +15,8 @@ use crate::error::{Error, ErrorKind};
 use crate::items::Items;
 use crate::parse::Parse;
 use crate::parse_stream::ParseStream;
+use crate::to_tokens::ToTokens;
+use crate::tree::TokenStream;
 use std::alloc::{AllocError, Global};
 use std::marker::Model;
 use std::slice;
@@ -376,5 +380,44 @@ impl<T: Parse, P: Parse> Punctuated<T, P> {
             }
         }
         Ok(list)
+    }
+}
+
+// ---- prints
+
+/// Each value with its mark, if it has one.
+impl<T: ToTokens, P: ToTokens> ToTokens for Punctuated<T, P> {
+    ghost print = { λ v. spec.joined T.print P.print v.0 v.1 };
+
+    fn to_tokens(&self, alloc: Global, out: &mut TokenStream) -> Result<(), AllocError> {
+        let before = out.len();
+        match put_parts(alloc, self, out) {
+            Ok(()) => Ok(()),
+            Err(error) => {
+                out.truncate(before);
+                Err(error)
+            }
+        }
+    }
+}
+
+/// Appends each value with its mark; refused, what stood before is kept.
+#[tactic(auto, using(crate::proofs::Puts::puts))]
+fn put_parts<T: ToTokens, P: ToTokens>(
+    alloc: Global,
+    list: &Punctuated<T, P>,
+    out: &mut TokenStream,
+) -> Result<(), AllocError>
+    ensures ok { OnOk result (trees out.new ≡ trees out.old ++ spec.joined T.print P.print list.now.0 list.now.1) }
+    ensures err { OnErr result (Extends (trees out.old) (trees out.new)) }
+{
+    let (pairs, last) = list.parts();
+    for pair in pairs {
+        pair.value.to_tokens(alloc, out)?;
+        pair.mark.to_tokens(alloc, out)?;
+    }
+    match last {
+        Some(value) => value.to_tokens(alloc, out),
+        None => Ok(()),
     }
 }

@@ -1,5 +1,5 @@
 -- What each kind of parameter, of bound and of const argument prints.
-use Rattle.std.proofs.Common.{◌≡◌, ℕ, List, [], ◌∷◌, ◌++◌, Option, Some, None, option_map, length, map, refl, sym, ◌∙◌, ap, arith}
+use Rattle.std.proofs.Common.{◌≡◌, ℕ, List, [], ◌∷◌, ◌++◌, Option, Some, None, length, map, refl, sym, ◌∙◌, ap, append_assoc, arith}
 use Rattle.token_core.specs.declared.lifetime.Lifetime.{Lifetime}
 use Rattle.token_core.specs.declared.mark.Mark.{Mark}
 use Rattle.token_core.specs.declared.token.Paren.{Paren}
@@ -15,7 +15,6 @@ use Rattle.token_core.specs.Trees.{trees, stream_of_trees}
 use Rattle.syn_mid.specs.Supplied.{Place, Value, Block}
 use Rattle.syn_mid.specs.declared.attr.AttributeOf.{AttributeOf}
 use Rattle.syn_mid.specs.declared.attr.Meta.{Meta}
-use Rattle.syn_mid.specs.declared.supplied.Expr.{Expr}
 use Rattle.syn_mid.specs.declared.supplied.Expr.TheVariants as e
 use Rattle.syn_mid.specs.declared.supplied.ExprLitOf.{ExprLitOf}
 use Rattle.syn_mid.specs.declared.generics.GenericParam.{GenericParam}
@@ -32,10 +31,11 @@ use Rattle.syn_mid.specs.declared.generics.TraitBoundOf.{TraitBoundOf}
 use Rattle.syn_mid.specs.declared.generics.TraitBoundModifiers.{TraitBoundModifiers}
 use Rattle.syn_mid.specs.declared.path.Path.{Path}
 use Rattle.syn_mid.specs.declared.generics.PreciseCapture.{PreciseCapture}
+use Rattle.syn_mid.specs.declared.generics.WherePredicate.{WherePredicate}
 use Rattle.syn_mid.specs.attr.Printing.{literal_by, meta, value}
 use Rattle.syn_mid.specs.path.Printing.{path, as_written}
-use Rattle.syn_mid.specs.generics.Params.{Plus, Colon, trait_bound_of}
-use Rattle.syn_mid.specs.generics.Printing.{or_default, optional, after_colon, in_parens, bound_lifetimes_by, binder_by, capture, attrs, const_layer, const_argument, lifetime_param, type_default, type_param, const_param, trait_bound, param_step, bound_step, param, bound}
+use Rattle.syn_mid.specs.generics.Params.{Plus, Comma, Colon, trait_bound_of}
+use Rattle.syn_mid.specs.generics.Printing.{or_default, optional, after_colon, in_parens, binder_by, binder_start, binder_joined, binder_end, predicate, predicates_after, capture, attrs, const_layer, const_argument, lifetime_param, type_default, type_param, const_param, trait_bound, param_step, bound_step, param, bound}
 use Rattle.syn_mid.proofs.attr_laws.Prints.{prints_literal}
 
 -- what is already printed is printed as it is
@@ -113,3 +113,28 @@ module _ {B : Type 0} where
   some_bounds f c (x ∷ all, ms) h = refl
 
 pub ruleset bounds = (no_bounds, some_bounds)
+
+-- a binder by its pieces
+module _ {G : Type 0} (f : G → Print) where
+  pub binder_whole : (o : Option (BoundLifetimesOf G)) (l : Print) → binder_start o ++ (binder_joined f o ++ (binder_end o ++ l)) ≡ binder_by f o ++ l
+  binder_whole None l = refl
+  binder_whole (Some x) l =
+      let v = x.lifetimes in
+      append_assoc (p.word x.for_token) (p.mark x.lt_token) (joined f p.mark v.0 v.1 ++ (p.mark x.gt_token ++ l))
+      ∙ ap (λ r. p.word x.for_token ++ (p.mark x.lt_token ++ r)) (sym (append_assoc (joined f p.mark v.0 v.1) (p.mark x.gt_token) l))
+      ∙ ap (λ r. p.word x.for_token ++ r) (sym (append_assoc (p.mark x.lt_token) (joined f p.mark v.0 v.1 ++ p.mark x.gt_token) l))
+      ∙ sym (append_assoc (p.word x.for_token) (p.mark x.lt_token ++ (joined f p.mark v.0 v.1 ++ p.mark x.gt_token)) l)
+
+pub ruleset binders = (binder_whole)
+
+-- the list of predicates
+module _ {X : Type 0} (px : Place → X → Print) where
+  pub no_predicates : (start : Print) (v : Many (WherePredicate X) Comma) → length v.0 ≡ 0 → predicates_after px start v ≡ []
+  no_predicates start ([], ms) h = refl
+  no_predicates start (x ∷ all, ms) h = absurd (omega (arith, h))
+
+  pub some_predicates : (start : Print) (v : Many (WherePredicate X) Comma) → ¬ (length v.0 ≡ 0) → predicates_after px start v ≡ start ++ joined (predicate px) p.mark v.0 v.1
+  some_predicates start ([], ms) h = absurd (h refl)
+  some_predicates start (x ∷ all, ms) h = refl
+
+pub ruleset clauses = (no_predicates, some_predicates)

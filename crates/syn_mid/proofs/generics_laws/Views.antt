@@ -1,5 +1,5 @@
 -- What parameters print as a whole, without defaults and by name.
-use Rattle.std.proofs.Common.{◌≡◌, ℕ, Bool, true, false, not, ◌&&◌, List, [], ◌∷◌, ◌++◌, Option, Some, None, if◌then◌else◌, filter, length, map, refl, sym, ◌∙◌, ap, append-nil, arith}
+use Rattle.std.proofs.Common.{◌≡◌, Bool, true, false, not, ◌&&◌, List, [], ◌∷◌, ◌++◌, Option, Some, None, if◌then◌else◌, filter, length, map, refl, sym, ◌∙◌, ap, append-nil, arith}
 use Rattle.token_core.specs.declared.mark.Mark.{Mark}
 use Rattle.token_core.specs.Lifetimes as lifetimes
 use Rattle.token_core.specs.Lists.{pairs}
@@ -22,7 +22,7 @@ use Rattle.syn_mid.specs.declared.generics.Style.TheVariants as styles
 use Rattle.syn_mid.specs.generics.Members.{Member, comma_of, lacks, some_left, adds, each, firsts, others, sorted}
 use Rattle.syn_mid.specs.generics.Params.{is_lifetime, is_lifetime_layer, type_param_of, const_param_of}
 use Rattle.syn_mid.specs.generics.Printing.{or_default, between, after_colon, attrs, lifetime_param, type_head_by, const_head, param, bound, generics}
-use Rattle.syn_mid.specs.generics.Views.{strip, strip_layer, stripped, name, name_layer, names, after_sep, turbofish, shown, between_as}
+use Rattle.syn_mid.specs.generics.Views.{strip, strip_layer, stripped, name, name_layer, names, after_sep, turbofish, between_as}
 use Rattle.syn_mid.proofs.generics_laws.Prints.{param-Lifetime, param-Type, param-Const}
 
 module _ {X : Type 0} where

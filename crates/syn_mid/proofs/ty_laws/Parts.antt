@@ -1,5 +1,5 @@
 -- Lists by their parts: an element measures no more than the list, and the last is printed after those before it.
-use Rattle.std.proofs.Common.{◌≡◌, ℕ, zero, suc, ◌<◌, ◌≤◌, List, [], ◌∷◌, ◌++◌, Option, Some, get_or, length, drop, sym, ap, ◌∙◌, append-nil, arith}
+use Rattle.std.proofs.Common.{◌≡◌, ℕ, zero, suc, ◌+◌, ◌<◌, ◌≤◌, List, [], ◌∷◌, ◌++◌, Option, Some, get_or, length, drop, sym, ap, ◌∙◌, append-nil, append_assoc, arith}
 use Rattle.std.proofs.lemmas.List.{drop_all}
 use denote.Param.Weighed.{most}
 use Rattle.token_core.specs.declared.punctuated.Pair.{Pair}
@@ -41,3 +41,21 @@ module _ {T P : Type 0} (f : T → Print) (g : P → Print) where
       ∙ ap (λ l. mid ++ joined f g (values_of {P = P} [] l) []) (sym k)
       ∙ ap (λ (z : List (Pair T P)). mid ++ joined f g (values_of z last) (marks_of z)) (sym (drop_all i all h))
       ∙ told ∙ ap (λ (z : Many T P). old ++ joined f g z.0 z.1) (sym p)
+
+  -- one after the other
+  pub put_next : (all : List (Pair T P)) (last : Option T) (i : ℕ) (x : Pair T P) (old mid between new whole : Print) → i < length all → x ≡ get_or all i x
+      → mid ++ joined f g (values_of (drop i all) last) (marks_of (drop i all)) ≡ old ++ whole
+      → between ≡ mid ++ f x.value → new ≡ between ++ g x.mark
+      → new ++ joined f g (values_of (drop (i + 1) all) last) (marks_of (drop (i + 1) all)) ≡ old ++ whole
+  put_next all last i x old mid between new whole h e told b n =
+      let rest = joined f g (values_of (drop (i + 1) all) last) (marks_of (drop (i + 1) all)) in
+      ap (λ z. z ++ rest) (n ∙ ap (λ z. z ++ g x.mark) b) ∙ append_assoc (mid ++ f x.value) (g x.mark) rest ∙ append_assoc mid (f x.value) (g x.mark ++ rest)
+      ∙ ap (λ (z : List (Pair T P)). mid ++ joined f g (values_of z last) (marks_of z)) (sym (drop_next all i x h e ∙ ap (λ j. x ∷ drop j all) step)) ∙ told
+    where
+      step : suc i ≡ i + 1
+      step = omega arith
+
+      drop_next : (all : List (Pair T P)) (i : ℕ) (x : Pair T P) → i < length all → x ≡ get_or all i x → drop i all ≡ x ∷ drop (suc i) all
+      drop_next [] i x h e = absurd (omega (arith, h))
+      drop_next (y ∷ all) zero x h e = ap (λ z. z ∷ all) (sym e)
+      drop_next (y ∷ all) (suc i) x h e = drop_next all i x (omega (arith, h)) e

@@ -87,6 +87,25 @@ is_captured_lifetime (c.Ident x) = false
 abbrev pub capture : PreciseCapture → Print
 capture x = p.word x.use_token ++ (p.mark x.lt_token ++ (sorted is_captured_lifetime captured x.params ++ p.mark x.gt_token))
 
+-- a binder before its parameters: `for <`
+abbrev pub binder_start : {G : Type 0} → Option (BoundLifetimesOf G) → Print
+binder_start None = []
+binder_start (Some x) = p.word x.for_token ++ p.mark x.lt_token
+
+-- and after them
+abbrev pub binder_end : {G : Type 0} → Option (BoundLifetimesOf G) → Print
+binder_end None = []
+binder_end (Some x) = p.mark x.gt_token
+
+-- the parameters of a binder, none without one
+abbrev pub binder_params : {G : Type 0} → Option (BoundLifetimesOf G) → Many G Comma
+binder_params None = ([], [])
+binder_params (Some x) = x.lifetimes
+
+-- a bound without its binder
+abbrev pub named_trait : {G X : Type 0} → TraitBoundOf G X → Print
+named_trait x = optional x.maybe ++ path as_written x.path
+
 -- ---- by the print of the parameters of a binder, and of bounds
 
 module _ {G : Type 0} (param : G → Print) where
@@ -98,12 +117,15 @@ module _ {G : Type 0} (param : G → Print) where
   binder_by None = []
   binder_by (Some x) = bound_lifetimes_by x
 
+  abbrev pub binder_joined : Option (BoundLifetimesOf G) → Print
+  binder_joined x = joined param p.mark (binder_params x).0 (binder_params x).1
+
   -- without its parentheses
   abbrev pub bare_trait_by : {X : Type 0} → TraitBoundOf G X → Print
-  bare_trait_by x = binder_by x.lifetimes ++ (optional x.maybe ++ path as_written x.path)
+  bare_trait_by x = binder_by x.lifetimes ++ named_trait x
 
   abbrev pub trait_bound_by : {X : Type 0} → TraitBoundOf G X → Print
-  trait_bound_by x = in_parens x.paren_token (binder_by x.lifetimes ++ (optional x.maybe ++ path as_written x.path))
+  trait_bound_by x = in_parens x.paren_token (bare_trait_by x)
 
 -- ---- trees
 

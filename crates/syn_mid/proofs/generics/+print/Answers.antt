@@ -1,0 +1,108 @@
+use Rattle.std.proofs.Common.{rules, ◌≡◌, ◌≤◌, ℕ, ◌++◌, drop, length, Option, Some, None, option_map, sym, ap, ◌∙◌, arith}
+use Rattle.std.proofs.lemmas.List.{take-append-drop}
+use Rattle.std.proofs.lemmas.Result.{on_ok_weaker, on_err_weaker}
+use Rattle.token_core.specs.Prints as p
+use Rattle.token_core.specs.Prints.{Extends}
+use Rattle.token_core.specs.Trees.{trees}
+use Rattle.token_core.proofs.Puts.{extends_append, extends_on}
+use denote.Param.Weighed.{most}
+use Rattle.token_core.specs.Joined.{values_of, marks_of}
+use Rattle.token_core.specs.Lists.{joined}
+use Rattle.syn_mid.specs.declared.generics.BoundLifetimesOf.{BoundLifetimesOf}
+use Rattle.syn_mid.specs.declared.generics.GenericParam.{GenericParam}
+use Rattle.syn_mid.specs.declared.generics.GenericParam.TheShapes as shapes
+use Rattle.syn_mid.specs.generics.Printing.{param, bound, binder_params}
+use Rattle.syn_mid.proofs.generics.GenericParam.TheLaws as params
+use Rattle.syn_mid.proofs.generics.TypeParamBound.TheLaws as bounds
+use Rattle.syn_mid.proofs.generics.+print.Given.{Over}
+use Rattle.syn_mid.proofs.ty_laws.Parts.{in_list, last_in_list, put_last, put_next}
+use Rattle.syn_mid.proofs.generics.+print.Goals as goal
+
+pub print_type_head-returns-clause-err : goal.print_type_head-returns-clause-err
+print_type_head-returns-clause-err g t c =
+    on_err_weaker c.print_type_bounds.result (λ h. extends_on _ _ _ _ c.in_ok-print_outer.ensures.ok (extends_on _ _ _ _ c.in_ok-to_tokens.ensures.ok h)) c.print_type_bounds.ensures.err
+
+pub print_bounds-print_bound-requires : goal.print_bounds-print_bound-requires
+print_bounds-print_bound-requires g t c κs within =
+    let size = bounds.the_size g.row.X g.X.laws in
+    let h = in_list size c.args.param.now.bounds c.parts.result.0.now (option_map (λ x. x.now) c.parts.result.1) c.loop-pair.pair-index c.pair-item.result c.parts.ensures c.loop-pair-test.true c.pair-item.is in
+    (omega (arith, c.decreases, h), within)
+
+pub print_bounds-print_bound-requires-in-Some : goal.print_bounds-print_bound-requires-in-Some
+print_bounds-print_bound-requires-in-Some g t c κs within =
+    let size = bounds.the_size g.row.X g.X.laws in
+    let k : option_map (λ x. x.now) c.parts.result.1 ≡ Some c.in-Some.bound.now = ap (option_map (λ x. x.now)) c.in-Some.is in
+    let h = last_in_list size c.args.param.now.bounds c.parts.result.0.now (option_map (λ x. x.now) c.parts.result.1) c.in-Some.bound.now c.parts.ensures k in
+    (omega (arith, c.decreases, h), within)
+
+pub print_bounds-returns-in-Some-clause-ok : goal.print_bounds-returns-in-Some-clause-ok
+print_bounds-returns-in-Some-clause-ok g t c =
+    let k : option_map (λ x. x.now) c.parts.result.1 ≡ Some c.in-Some.bound.now = ap (option_map (λ x. x.now)) c.in-Some.is in
+    on_ok_weaker c.print_bound-in-Some.result
+    (λ h. put_last (bound g.X.Subtree.prints) p.mark c.args.param.now.bounds c.parts.result.0.now (option_map (λ x. x.now) c.parts.result.1) c.in-Some.bound.now c.loop-pair.pair-index (trees c.args.out.now) (trees c.loop-pair.out)
+    (trees c.print_bound-in-Some.new.out) c.parts.ensures k c.loop-pair-test.false c.loop-pair.invariant.told h) c.print_bound-in-Some.ensures.ok
+
+pub print_bounds-returns-in-Some-clause-err : goal.print_bounds-returns-in-Some-clause-err
+print_bounds-returns-in-Some-clause-err g t c =
+    let old = trees c.args.out.now in
+    let mid = trees c.loop-pair.out in
+    on_err_weaker c.print_bound-in-Some.result
+    (λ h. extends_on old (drop (length old) mid) mid _ (sym (take-append-drop (length old) mid) ∙ ap (λ z. z ++ drop (length old) mid) c.loop-pair.invariant.kept) h) c.print_bound-in-Some.ensures.err
+
+-- the parameters of an optional binder weigh no more than it
+abbrev size : (g : Over) → GenericParam g.row.X.Denot → ℕ
+size g = params.the_size g.row.X g.X.laws
+
+abbrev weight : (g : Over) → Option (BoundLifetimesOf (GenericParam g.row.X.Denot)) → ℕ
+weight g = (shapes.weighed-TypeParamBound-Trait-0-at-7 g.row.X.Denot).weight (GenericParam g.row.X.Denot) (size g)
+
+weighs : (g : Over) (o : Option (BoundLifetimesOf (GenericParam g.row.X.Denot))) → most (size g) (binder_params o).0 ≤ weight g o
+weighs g None = omega arith
+weighs g (Some x) = omega arith
+
+pub print_trait_params-print_param-requires : goal.print_trait_params-print_param-requires
+print_trait_params-print_param-requires g t c κs within =
+    let o = c.args.bound.now.lifetimes in
+    let h = in_list (size g) (binder_params o) c.binder_parts.result.0.now (option_map (λ x. x.now) c.binder_parts.result.1) c.loop-pair.pair-index c.pair-item.result c.binder_parts.ensures c.loop-pair-test.true c.pair-item.is in
+    (omega (arith, c.decreases, h, weighs g o), within)
+
+pub print_trait_params-returns-in_err-print_param-clause-err : goal.print_trait_params-returns-in_err-print_param-clause-err
+print_trait_params-returns-in_err-print_param-clause-err g t c =
+    let old = trees c.args.out.now in
+    let mid = trees c.loop-pair.out in
+    let kept : Extends old (trees c.print_param.new.out) =
+    extends_on old (drop (length old) mid) mid _ (sym (take-append-drop (length old) mid) ∙ ap (λ z. z ++ drop (length old) mid) c.loop-pair.invariant.kept) c.in_err-print_param.ensures.err in
+    search rules
+
+pub print_trait_params-print_param-requires-in-Some : goal.print_trait_params-print_param-requires-in-Some
+print_trait_params-print_param-requires-in-Some g t c κs within =
+    let o = c.args.bound.now.lifetimes in
+    let k : option_map (λ x. x.now) c.binder_parts.result.1 ≡ Some c.in-Some.param.now = ap (option_map (λ x. x.now)) c.in-Some.is in
+    let h = last_in_list (size g) (binder_params o) c.binder_parts.result.0.now (option_map (λ x. x.now) c.binder_parts.result.1) c.in-Some.param.now c.binder_parts.ensures k in
+    (omega (arith, c.decreases, h, weighs g o), within)
+
+pub print_trait_params-returns-in-Some-clause-ok : goal.print_trait_params-returns-in-Some-clause-ok
+print_trait_params-returns-in-Some-clause-ok g t c =
+    let k : option_map (λ x. x.now) c.binder_parts.result.1 ≡ Some c.in-Some.param.now = ap (option_map (λ x. x.now)) c.in-Some.is in
+    on_ok_weaker c.print_param-in-Some.result
+    (λ h. put_last (param g.X.Subtree.prints) p.mark (binder_params c.args.bound.now.lifetimes) c.binder_parts.result.0.now (option_map (λ x. x.now) c.binder_parts.result.1) c.in-Some.param.now c.loop-pair.pair-index (trees c.args.out.now) (trees c.loop-pair.out)
+    (trees c.print_param-in-Some.new.out) c.binder_parts.ensures k c.loop-pair-test.false c.loop-pair.invariant.told h) c.print_param-in-Some.ensures.ok
+
+pub print_trait_params-returns-in-Some-clause-err : goal.print_trait_params-returns-in-Some-clause-err
+print_trait_params-returns-in-Some-clause-err g t c =
+    let old = trees c.args.out.now in
+    let mid = trees c.loop-pair.out in
+    on_err_weaker c.print_param-in-Some.result
+    (λ h. extends_on old (drop (length old) mid) mid _ (sym (take-append-drop (length old) mid) ∙ ap (λ z. z ++ drop (length old) mid) c.loop-pair.invariant.kept) h) c.print_param-in-Some.ensures.err
+
+pub print_trait_params-loop-pair-preserved : goal.print_trait_params-loop-pair-preserved
+print_trait_params-loop-pair-preserved g t c =
+    let old = trees c.args.out.now in
+    let mid = trees c.loop-pair.out in
+    let last = option_map (λ x. x.now) c.binder_parts.result.1 in
+    let all = c.binder_parts.result.0.now in
+    record {
+      told = put_next (param g.X.Subtree.prints) p.mark all last c.loop-pair.pair-index c.pair-item.result old mid (trees c.print_param.new.out) (trees c.to_tokens.new.out) (joined (param g.X.Subtree.prints) p.mark (values_of all last) (marks_of all))
+          c.loop-pair-test.true c.pair-item.is c.loop-pair.invariant.told c.in_ok-print_param.ensures.ok c.in_ok-to_tokens.ensures.ok;
+      kept = rw c.in_ok-to_tokens.ensures.ok (rw c.in_ok-print_param.ensures.ok (extends_append old _ _ (extends_append old mid _ c.loop-pair.invariant.kept)));
+    }
