@@ -12,9 +12,7 @@ use syn_mid::{
     PredicateType, TraitBound, TraitBoundModifiers, Type, TypeParam, TypeParamBound, TypePath,
     WhereClause, WherePredicate,
 };
-use token_core::token::{
-    Colon, Comma, Const, Eq, Gt, Lt, Paren, Plus, Question, Use, Where,
-};
+use token_core::token::{Colon, Comma, Const, Eq, For, Gt, Lt, Paren, Plus, Question, Use, Where};
 use token_core::{
     Error, Ident, Items, Lifetime, Lit, Punctuated, Span, ToTokens, TokenStream, read_all,
     read_all_with,
@@ -22,6 +20,7 @@ use token_core::{
 use token_text::{lex, text_of};
 
 type Param = GenericParam<Nothing>;
+
 type Bound = TypeParamBound<Nothing>;
 
 /// It answers this; of a refusal, its text.
@@ -30,6 +29,34 @@ fn says(rt: &impl Abort, answer: Result<String, Error>, wanted: &str) {
         Ok(text) => assert_eq!(rt; text.as_str(), wanted),
         Err(error) => panic!(rt; "refused: {}", error.text()),
     }
+}
+
+/// What was made; stops the test at a refusal.
+fn got<T: Drop>(rt: &impl Abort, made: Result<T, Error>) -> T {
+    match made {
+        Ok(value) => value,
+        Err(error) => panic!(rt; "refused: {}", error.text()),
+    }
+}
+
+/// Both, or the first refusal. Where it refuses what was made is generic, and dropped by a call: trees that stand at a `?` have their drops
+/// written out there, which is what makes the proof of a test long.
+fn both<A: Drop, B: Drop>(
+    first: Result<A, Error>,
+    second: Result<B, Error>,
+) -> Result<(A, B), Error> {
+    Ok((first?, second?))
+}
+
+/// A list of one.
+fn lone<T: Drop, P: Drop>(
+    alloc: Global,
+    value: Result<T, Error>,
+) -> Result<Punctuated<T, P>, Error> {
+    let value = value?;
+    let mut list = Punctuated::new(alloc);
+    list.push_value(alloc, value)?;
+    Ok(list)
 }
 
 fn printed<T: ToTokens>(alloc: Global, tree: &T) -> Result<String, Error> {
@@ -71,12 +98,6 @@ fn two<T: Drop>(alloc: Global, first: T, second: T) -> Result<Punctuated<T, Plus
     list.push_value(alloc, first)?;
     list.push_punct(Plus::default())?;
     list.push_value(alloc, second)?;
-    Ok(list)
-}
-
-fn alone<T: Drop>(alloc: Global, value: T) -> Result<Punctuated<T, Comma>, Error> {
-    let mut list = Punctuated::new(alloc);
-    list.push_value(alloc, value)?;
     Ok(list)
 }
 
@@ -258,33 +279,36 @@ fn option<T: Drop>(there: bool, value: T) -> Option<T> {
 
 /// `for<'b>`
 fn binder(alloc: Global) -> Result<BoundLifetimes<Nothing>, Error> {
-    let mut binder = BoundLifetimes::default(alloc);
-    binder.lifetimes = alone(alloc, lifetime_param(alloc, "b")?)?;
-    Ok(binder)
+    Ok(BoundLifetimes {
+        for_token: For::default(),
+        lt_token: Lt::default(),
+        lifetimes: lone(alloc, lifetime_param(alloc, "b"))?,
+        gt_token: Gt::default(),
+    })
 }
 
 /// `T: Clone = u8`, its colon left to the print
 fn bounded(alloc: Global) -> Result<TypeParam<Nothing>, Error> {
-    let mut param = named(alloc, "T")?;
-    param.bounds = lone_bound(alloc, clone_bound(alloc, false)?)?;
-    param.default = Some((Eq::default(), ty(alloc, "u8")?));
-    Ok(param)
-}
-
-fn lone_bound(alloc: Global, bound: Bound) -> Result<Punctuated<Bound, Plus>, Error> {
-    let mut list = Punctuated::new(alloc);
-    list.push_value(alloc, bound)?;
-    Ok(list)
+    let bounds = lone(alloc, clone_bound(alloc, false));
+    let (ident, (bounds, ty)) = both(ident(alloc, "T"), both(bounds, ty(alloc, "u8")))?;
+    Ok(TypeParam {
+        attrs: Items::new(alloc),
+        ident,
+        colon_token: None,
+        bounds,
+        default: Some((Eq::default(), ty)),
+    })
 }
 
 /// `for<'b> A`
 fn bound_to(alloc: Global) -> Result<Bound, Error> {
+    let (binder, path) = both(binder(alloc), path(alloc, "A"))?;
     Ok(TypeParamBound::Trait(TraitBound {
         paren_token: None,
-        lifetimes: Some(binder(alloc)?),
+        lifetimes: Some(binder),
         modifiers: TraitBoundModifiers::default(),
         maybe: None,
-        path: path(alloc, "A")?,
+        path,
     }))
 }
 
@@ -325,21 +349,27 @@ fn bounds_print(rt: HostRuntime) {
 
 /// `for<'b> T: Clone`
 fn bounded_type(alloc: Global) -> Result<PredicateType<Nothing>, Error> {
+    let bounds = lone(alloc, clone_bound(alloc, false));
+    let (binder, (bounded_ty, bounds)) = both(binder(alloc), both(ty(alloc, "T"), bounds))?;
     Ok(PredicateType {
         attrs: Items::new(alloc),
-        lifetimes: Some(binder(alloc)?),
-        bounded_ty: ty(alloc, "T")?,
+        lifetimes: Some(binder),
+        bounded_ty,
         colon_token: Colon::default(),
-        bounds: lone_bound(alloc, clone_bound(alloc, false)?)?,
+        bounds,
     })
 }
 
 /// `where 'a:, for<'b> T: Clone`
 fn clause(alloc: Global) -> Result<WhereClause<Nothing>, Error> {
-    let first = WherePredicate::from(lone_predicate(alloc)?);
+    let (first, second) = both(lone_predicate(alloc), bounded_type(alloc))?;
     Ok(WhereClause {
         where_token: Where::default(),
-        predicates: pair(alloc, first, WherePredicate::from(bounded_type(alloc)?))?,
+        predicates: pair(
+            alloc,
+            WherePredicate::from(first),
+            WherePredicate::from(second),
+        )?,
     })
 }
 
@@ -368,6 +398,10 @@ fn lone_predicate(alloc: Global) -> Result<PredicateLifetime<Nothing>, Error> {
     })
 }
 
+fn as_predicate(alloc: Global) -> Result<WherePredicate<Nothing>, Error> {
+    Ok(WherePredicate::from(lone_predicate(alloc)?))
+}
+
 fn shown_predicate(alloc: Global) -> Result<String, Error> {
     printed(alloc, &lone_predicate(alloc)?)
 }
@@ -382,8 +416,7 @@ fn number(alloc: Global, count: usize) -> Result<String, Error> {
 fn lent_twice(alloc: Global) -> Result<String, Error> {
     let mut generics = Generics::<Nothing>::default(alloc);
     let mut out = number(alloc, generics.make_where_clause(alloc).predicates.len())?;
-    let predicate = WherePredicate::from(lone_predicate(alloc)?);
-    generics.make_where_clause(alloc).predicates = alone(alloc, predicate)?;
+    generics.make_where_clause(alloc).predicates = lone(alloc, as_predicate(alloc))?;
     let again = generics.make_where_clause(alloc).predicates.len();
     write!(out, " {again}")?;
     Ok(out)
@@ -435,38 +468,45 @@ fn iterators_give_their_kind(rt: HostRuntime) {
 
 // ---- views
 
-/// `<T: Clone = u8, 'a, const N: usize = 1>`, with a where clause
-fn whole(alloc: Global) -> Result<Generics<Nothing>, Error> {
-    let mut generics = Generics::default(alloc);
-    let default = Some((Eq::default(), literal(alloc, "1")?));
-    generics.params = three(
-        alloc,
-        Param::from(bounded(alloc)?),
-        lifetime_param(alloc, "a")?,
-        Param::from(const_param(alloc, default)?),
+/// `T: Clone = u8, 'a, const N: usize = 1`
+fn params(alloc: Global) -> Result<Punctuated<Param, Comma>, Error> {
+    let ((first, second), third) = both(
+        both(bounded(alloc), lifetime_param(alloc, "a")),
+        const_one(alloc),
     )?;
-    generics.where_clause = Some(clause(alloc)?);
-    Ok(generics)
+    three(alloc, Param::from(first), second, Param::from(third))
 }
 
-fn impl_generics(alloc: Global, of: Result<Generics<Nothing>, Error>) -> Result<String, Error> {
-    let generics = of?;
+fn const_one(alloc: Global) -> Result<ConstParam<Nothing>, Error> {
+    let default = Some((Eq::default(), literal(alloc, "1")?));
+    const_param(alloc, default)
+}
+
+/// Those parameters, with a where clause.
+fn whole(alloc: Global) -> Result<Generics<Nothing>, Error> {
+    let (params, clause) = both(params(alloc), clause(alloc))?;
+    Ok(Generics {
+        lt_token: None,
+        params,
+        gt_token: None,
+        where_clause: Some(clause),
+    })
+}
+
+fn impl_generics(alloc: Global, generics: &Generics<Nothing>) -> Result<String, Error> {
     printed(alloc, &generics.split_for_impl().0)
 }
 
-fn type_generics(alloc: Global, of: Result<Generics<Nothing>, Error>) -> Result<String, Error> {
-    let generics = of?;
+fn type_generics(alloc: Global, generics: &Generics<Nothing>) -> Result<String, Error> {
     printed(alloc, &generics.split_for_impl().1)
 }
 
-fn turbofish(alloc: Global, of: Result<Generics<Nothing>, Error>) -> Result<String, Error> {
-    let generics = of?;
+fn turbofish(alloc: Global, generics: &Generics<Nothing>) -> Result<String, Error> {
     printed(alloc, &generics.split_for_impl().1.as_turbofish())
 }
 
 /// How many predicates the where clause has that is split off.
-fn split_clause(alloc: Global) -> Result<String, Error> {
-    let generics = whole(alloc)?;
+fn split_clause(alloc: Global, generics: &Generics<Nothing>) -> Result<String, Error> {
     match generics.split_for_impl().2 {
         Some(clause) => number(alloc, clause.predicates.len()),
         None => Ok(String::new(alloc)),
@@ -478,18 +518,30 @@ fn generics_print_lifetimes_first(rt: HostRuntime) {
     let alloc = rt.alloc();
     let all = "< 'a , T : Clone = u8 , const N : usize = 1 >";
     says(&rt, shown(alloc, whole(alloc)), all);
-    says(&rt, shown(alloc, Ok(Generics::<Nothing>::default(alloc))), "");
+    says(
+        &rt,
+        shown(alloc, Ok(Generics::<Nothing>::default(alloc))),
+        "",
+    );
 }
 
 #[test]
 fn views_print(rt: HostRuntime) {
     let alloc = rt.alloc();
+    let generics = got(&rt, whole(alloc));
     let head = "< 'a , T : Clone , const N : usize >";
-    says(&rt, impl_generics(alloc, whole(alloc)), head);
-    says(&rt, type_generics(alloc, whole(alloc)), "< 'a , T , N >");
-    says(&rt, turbofish(alloc, whole(alloc)), ":: < 'a , T , N >");
-    says(&rt, impl_generics(alloc, Ok(Generics::default(alloc))), "");
-    says(&rt, type_generics(alloc, Ok(Generics::default(alloc))), "");
-    says(&rt, turbofish(alloc, Ok(Generics::default(alloc))), "");
-    says(&rt, split_clause(alloc), "2");
+    says(&rt, impl_generics(alloc, &generics), head);
+    says(&rt, type_generics(alloc, &generics), "< 'a , T , N >");
+    says(&rt, turbofish(alloc, &generics), ":: < 'a , T , N >");
+    says(&rt, split_clause(alloc, &generics), "2");
+}
+
+#[test]
+fn views_without_parameters_print_nothing(rt: HostRuntime) {
+    let alloc = rt.alloc();
+    let generics = Generics::default(alloc);
+    says(&rt, impl_generics(alloc, &generics), "");
+    says(&rt, type_generics(alloc, &generics), "");
+    says(&rt, turbofish(alloc, &generics), "");
+    says(&rt, split_clause(alloc, &generics), "");
 }
