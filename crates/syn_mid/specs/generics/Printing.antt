@@ -193,9 +193,6 @@ module _ {X : Type 0} (prints : Place → X → Print) where
   abbrev pub bound_lifetimes : BoundLifetimesOf (GenericParam X) → Print
   bound_lifetimes = bound_lifetimes_by param
 
-  abbrev pub params_joined : Many (GenericParam X) Comma → Print
-  params_joined v = joined param p.mark v.0 v.1
-
   abbrev pub bounds_joined : Many (TypeParamBound X) Plus → Print
   bounds_joined v = joined bound p.mark v.0 v.1
 
