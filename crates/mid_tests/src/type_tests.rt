@@ -50,7 +50,7 @@ fn group_prints(alloc: Global, groups: u8) -> Result<String, Error> {
 
 #[test]
 fn prints_types_in_invisible_groups(rt: HostRuntime) {
-    let alloc = rt.global();
+    let alloc = rt.alloc();
     says(&rt, group_prints(alloc, 0), "!");
     says(&rt, group_prints(alloc, 1), "\\(!\\)");
     says(&rt, group_prints(alloc, 2), "\\(\\(!\\)\\)");
@@ -71,7 +71,7 @@ fn no_output(alloc: Global) -> Result<String, Error> {
 
 #[test]
 fn prints_what_is_returned(rt: HostRuntime) {
-    let alloc = rt.global();
+    let alloc = rt.alloc();
     says(&rt, output(alloc), "-> !");
     says(&rt, no_output(alloc), "");
 }
@@ -94,7 +94,7 @@ fn nameless(alloc: Global) -> Result<String, Error> {
 
 #[test]
 fn prints_conventions(rt: HostRuntime) {
-    let alloc = rt.global();
+    let alloc = rt.alloc();
     says(&rt, named(alloc, "\"C\""), "extern \"C\"");
     says(&rt, nameless(alloc), "extern");
 }
