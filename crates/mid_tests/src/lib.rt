@@ -7,3 +7,5 @@ mod generics_tests;
 mod nothing;
 #[cfg(test)]
 mod tests;
+#[cfg(test)]
+mod type_tests;

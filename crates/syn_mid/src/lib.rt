@@ -24,8 +24,8 @@ pub use path::{
 };
 pub use supplied::{Expr, ExprLit, ExprLitOf, Place, Subtree};
 pub use ty::{
-    PointerMutability, Type, TypeArray, TypeArrayOf, TypeInfer, TypeMacro, TypeNever, TypeParen,
-    TypeParenOf, TypePath, TypePtr, TypePtrOf, TypeReference, TypeReferenceOf, TypeSlice,
-    TypeSliceOf, TypeTuple, TypeTupleOf,
+    Abi, PointerMutability, ReturnType, ReturnTypeOf, Type, TypeArray, TypeArrayOf, TypeGroup,
+    TypeGroupOf, TypeInfer, TypeMacro, TypeNever, TypeParen, TypeParenOf, TypePath, TypePtr,
+    TypePtrOf, TypeReference, TypeReferenceOf, TypeSlice, TypeSliceOf, TypeTuple, TypeTupleOf,
 };
 pub use whole::{ModStyle, ParseInner, ParseOuter, WithoutPlus};

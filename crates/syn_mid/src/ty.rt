@@ -23,8 +23,12 @@ use crate::path::Path;
 use crate::supplied::{Expr, Place, Subtree};
 use std::alloc::{AllocError, Global};
 use std::marker::PhantomData;
-use token_core::token::{And, Bracket, Comma, Const, Mut, Not, Paren, Semi, Star, Underscore};
-use token_core::{Boxed, Error, Lifetime, Parse, ParseStream, Punctuated, ToTokens, TokenStream};
+use token_core::token::{
+    And, Bracket, Comma, Const, Extern, GroupToken, Mut, Not, Paren, RArrow, Semi, Star, Underscore,
+};
+use token_core::{
+    Boxed, Error, Lifetime, LitStr, Parse, ParseStream, Punctuated, ToTokens, TokenStream,
+};
 
 /// A type.
 #[cycle(types)]
@@ -32,6 +36,8 @@ use token_core::{Boxed, Error, Lifetime, Parse, ParseStream, Punctuated, ToToken
 pub enum Type<X> {
     /// `[T; n]`
     Array(TypeArray<X>),
+    /// A type in an invisible group, as a macro hands it on. No reader answers it yet.
+    Group(TypeGroup<X>),
     /// `_`
     Infer(TypeInfer),
     /// `a::b! { .. }`
@@ -65,6 +71,16 @@ pub struct TypeArrayOf<T, E> {
 
 /// An array: `[`, a type, `;`, a length, `]`.
 pub type TypeArray<X> = TypeArrayOf<Type<X>, Expr<X>>;
+
+/// A type in an invisible group, over that type.
+#[derive(Drop)]
+pub struct TypeGroupOf<T> {
+    pub group_token: GroupToken,
+    pub elem: Boxed<T>,
+}
+
+/// A type in an invisible group.
+pub type TypeGroup<X> = TypeGroupOf<Type<X>>;
 
 /// A type to be found by the compiler: `_`.
 #[derive(Clone, Copy)]
@@ -149,6 +165,25 @@ pub struct TypeTupleOf<T> {
 
 /// A tuple: types in parentheses, joined by commas.
 pub type TypeTuple<X> = TypeTupleOf<Type<X>>;
+
+/// The calling convention of a function: `extern "C"`.
+#[derive(Drop)]
+pub struct Abi {
+    pub extern_token: Extern,
+    pub name: Option<LitStr>,
+}
+
+/// What a function returns, over its type.
+#[derive(Drop)]
+pub enum ReturnTypeOf<T> {
+    /// Nothing is written: the function returns `()`.
+    Default,
+    /// `-> T`
+    Type(RArrow, Boxed<T>),
+}
+
+/// What a function returns.
+pub type ReturnType<X> = ReturnTypeOf<Type<X>>;
 
 // ---- readers
 
@@ -393,6 +428,14 @@ impl<X> From<TypeArray<X>> for Type<X> {
     }
 }
 
+impl<X> From<TypeGroup<X>> for Type<X> {
+    ghost from_gives = { λ form ty. ty ≡ types.Group form };
+
+    fn from(form: TypeGroup<X>) -> Type<X> {
+        Type::Group(form)
+    }
+}
+
 impl<X> From<TypeInfer> for Type<X> {
     ghost from_gives = { λ form ty. ty ≡ types.Infer form };
 
@@ -488,6 +531,21 @@ impl<X: Subtree> ToTokens for TypeArray<X> {
     fn to_tokens(&self, alloc: Global, out: &mut TokenStream) -> Result<(), AllocError> {
         let before = out.len();
         match print_array(alloc, self, out) {
+            Ok(()) => Ok(()),
+            Err(error) => {
+                out.truncate(before);
+                Err(error)
+            }
+        }
+    }
+}
+
+impl<X: Subtree> ToTokens for TypeGroup<X> {
+    ghost print = { printing.group X.prints };
+
+    fn to_tokens(&self, alloc: Global, out: &mut TokenStream) -> Result<(), AllocError> {
+        let before = out.len();
+        match print_group(alloc, self, out) {
             Ok(()) => Ok(()),
             Err(error) => {
                 out.truncate(before);
@@ -615,6 +673,68 @@ impl ToTokens for PointerMutability {
     }
 }
 
+/// Appends `extern`, and the convention's name where it has one.
+impl ToTokens for Abi {
+    ghost print = { printing.abi };
+
+    fn to_tokens(&self, alloc: Global, out: &mut TokenStream) -> Result<(), AllocError> {
+        let before = out.len();
+        match print_abi(alloc, self, out) {
+            Ok(()) => Ok(()),
+            Err(error) => {
+                out.truncate(before);
+                Err(error)
+            }
+        }
+    }
+}
+
+#[tactic(auto, using(token_core::proofs::Puts::puts))]
+fn print_abi(alloc: Global, abi: &Abi, out: &mut TokenStream) -> Result<(), AllocError>
+    ensures ok { OnOk result (trees out.new ≡ trees out.old ++ printing.abi abi.now) }
+    ensures err { OnErr result (Extends (trees out.old) (trees out.new)) }
+{
+    abi.extern_token.to_tokens(alloc, out)?;
+    match &abi.name {
+        Some(name) => name.to_tokens(alloc, out),
+        None => Ok(()),
+    }
+}
+
+/// Appends nothing, or `->` and the type.
+impl<X: Subtree> ToTokens for ReturnType<X> {
+    ghost print = { printing.return_type X.prints };
+
+    fn to_tokens(&self, alloc: Global, out: &mut TokenStream) -> Result<(), AllocError> {
+        let before = out.len();
+        match print_return_type(alloc, self, out) {
+            Ok(()) => Ok(()),
+            Err(error) => {
+                out.truncate(before);
+                Err(error)
+            }
+        }
+    }
+}
+
+#[tactic(auto, using(token_core::proofs::Puts::puts))]
+fn print_return_type<X: Subtree>(
+    alloc: Global,
+    output: &ReturnType<X>,
+    out: &mut TokenStream,
+) -> Result<(), AllocError>
+    ensures ok { OnOk result (trees out.new ≡ trees out.old ++ printing.return_type X.prints output.now) }
+    ensures err { OnErr result (Extends (trees out.old) (trees out.new)) }
+{
+    match output {
+        ReturnTypeOf::Default => Ok(()),
+        ReturnTypeOf::Type(arrow, ty) => {
+            arrow.to_tokens(alloc, out)?;
+            print_type(alloc, ty.get(), out)
+        }
+    }
+}
+
 /// Appends a type; refused, what stood before is kept.
 #[cycle(print)]
 #[tactic(auto, using(token_core::proofs::Puts::puts, crate::proofs::ty_laws::Prints::prints))]
@@ -628,6 +748,7 @@ pub(crate) fn print_type<X: Subtree>(
 {
     match ty {
         Type::Array(array) => print_array(alloc, array, out),
+        Type::Group(group) => print_group(alloc, group, out),
         Type::Infer(infer) => infer.to_tokens(alloc, out),
         Type::Macro(call) => call.to_tokens(alloc, out),
         Type::Never(never) => never.to_tokens(alloc, out),
@@ -656,6 +777,21 @@ fn print_array<X: Subtree>(
     array.semi_token.to_tokens(alloc, &mut content)?;
     print_len(alloc, &array.len, &mut content)?;
     array.bracket_token.surround(content, out)
+}
+
+#[cycle(print)]
+#[tactic(auto, using(token_core::proofs::Puts::puts, crate::proofs::ty_laws::Prints::prints))]
+fn print_group<X: Subtree>(
+    alloc: Global,
+    group: &TypeGroup<X>,
+    out: &mut TokenStream,
+) -> Result<(), AllocError>
+    ensures ok { OnOk result (trees out.new ≡ trees out.old ++ printing.group X.prints group.now) }
+    ensures err { OnErr result (Extends (trees out.old) (trees out.new)) }
+{
+    let mut content = TokenStream::new(alloc);
+    print_type(alloc, group.elem.get(), &mut content)?;
+    group.group_token.surround(content, out)
 }
 
 #[cycle(print)]

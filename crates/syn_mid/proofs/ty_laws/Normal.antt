@@ -12,13 +12,14 @@ use Rattle.syn_mid.specs.declared.ty.TypeArrayOf.{TypeArrayOf}
 use Rattle.syn_mid.specs.declared.ty.TypeInfer.{TypeInfer}
 use Rattle.syn_mid.specs.declared.ty.TypeMacro.{TypeMacro}
 use Rattle.syn_mid.specs.declared.ty.TypeNever.{TypeNever}
+use Rattle.syn_mid.specs.declared.ty.TypeGroupOf.{TypeGroupOf}
 use Rattle.syn_mid.specs.declared.ty.TypeParenOf.{TypeParenOf}
 use Rattle.syn_mid.specs.declared.ty.TypePath.{TypePath}
 use Rattle.syn_mid.specs.declared.ty.TypePtrOf.{TypePtrOf}
 use Rattle.syn_mid.specs.declared.ty.TypeReferenceOf.{TypeReferenceOf}
 use Rattle.syn_mid.specs.declared.ty.TypeSliceOf.{TypeSliceOf}
 use Rattle.syn_mid.specs.declared.ty.TypeTupleOf.{TypeTupleOf}
-use Rattle.syn_mid.specs.ty.Normal.{ty, ty_step, len, len_layer, array, paren, ptr, reference, slice, tuple}
+use Rattle.syn_mid.specs.ty.Normal.{ty, ty_step, len, len_layer, array, group, paren, ptr, reference, slice, tuple}
 
 module _ {X : Type 0} (nx : Place → X → X) where
   pub normal-Array : (x : TypeArrayOf (TypeTree X) (Expr X)) → ty nx (v.Array x) ≡ v.Array (array nx x)
@@ -36,6 +37,10 @@ module _ {X : Type 0} (nx : Place → X → X) where
   pub normal-Never : (x : TypeNever) → ty nx (v.Never x) ≡ v.Never x
   unfolding ty
   normal-Never x = ap (ty nx) (sym (v.rolls-Never x)) ∙ fold-roll-Type X (TypeTree X) (ty_step nx) (t.Never x)
+
+  pub normal-Group : (x : TypeGroupOf (TypeTree X)) → ty nx (v.Group x) ≡ v.Group (group nx x)
+  unfolding ty
+  normal-Group x = ap (ty nx) (sym (v.rolls-Group x)) ∙ fold-roll-Type X (TypeTree X) (ty_step nx) (t.Group x)
 
   pub normal-Paren : (x : TypeParenOf (TypeTree X)) → ty nx (v.Paren x) ≡ v.Paren (paren nx x)
   unfolding ty

@@ -20,6 +20,7 @@ use Rattle.syn_mid.specs.declared.ty.TypeArrayOf.{TypeArrayOf}
 use Rattle.syn_mid.specs.declared.ty.TypeInfer.{TypeInfer}
 use Rattle.syn_mid.specs.declared.ty.TypeMacro.{TypeMacro}
 use Rattle.syn_mid.specs.declared.ty.TypeNever.{TypeNever}
+use Rattle.syn_mid.specs.declared.ty.TypeGroupOf.{TypeGroupOf}
 use Rattle.syn_mid.specs.declared.ty.TypeParenOf.{TypeParenOf}
 use Rattle.syn_mid.specs.declared.ty.TypePath.{TypePath}
 use Rattle.syn_mid.specs.declared.ty.TypePtrOf.{TypePtrOf}
@@ -28,7 +29,7 @@ use Rattle.syn_mid.specs.declared.ty.TypeSliceOf.{TypeSliceOf}
 use Rattle.syn_mid.specs.declared.ty.TypeTupleOf.{TypeTupleOf}
 use Rattle.syn_mid.specs.attr.Printing.{literal_by, meta, value}
 use Rattle.syn_mid.specs.ty.Types.{Comma}
-use Rattle.syn_mid.specs.ty.Printing.{infer, never, macro_type, path_type, array, paren, ptr, reference, slice, tuple, lone_comma, len, len_layer, ty, ty_step}
+use Rattle.syn_mid.specs.ty.Printing.{infer, never, macro_type, path_type, array, group, paren, ptr, reference, slice, tuple, lone_comma, len, len_layer, ty, ty_step}
 use Rattle.syn_mid.proofs.attr_laws.Prints.{prints_literal}
 
 module _ {X : Type 0} (px : Place → X → Print) where
@@ -47,6 +48,10 @@ module _ {X : Type 0} (px : Place → X → Print) where
   pub ty-Never : (x : TypeNever) → ty px (v.Never x) ≡ never x
   unfolding ty
   ty-Never x = ap (ty px) (sym (v.rolls-Never x)) ∙ fold-roll-Type X Print (ty_step px) (t.Never x)
+
+  pub ty-Group : (x : TypeGroupOf (TypeTree X)) → ty px (v.Group x) ≡ group px x
+  unfolding ty
+  ty-Group x = ap (ty px) (sym (v.rolls-Group x)) ∙ fold-roll-Type X Print (ty_step px) (t.Group x)
 
   pub ty-Paren : (x : TypeParenOf (TypeTree X)) → ty px (v.Paren x) ≡ paren px x
   unfolding ty
@@ -101,4 +106,4 @@ module _ {X : Type 0} (px : Place → X → Print) where
   pub len_value : (x : ExprLitOf (AttributeOf (Meta X))) → value (px Value) (e.Lit x) ≡ len px (e.Lit x)
   len_value x = prints_literal (px Value) x ∙ sym (len-Lit x)
 
-pub ruleset prints = (ty-Array, ty-Infer, ty-Macro, ty-Never, ty-Paren, ty-Path, ty-Ptr, ty-Reference, ty-Slice, ty-Tuple, ty-Verbatim, len-Lit, len-Other, len_value)
+pub ruleset prints = (ty-Array, ty-Group, ty-Infer, ty-Macro, ty-Never, ty-Paren, ty-Path, ty-Ptr, ty-Reference, ty-Slice, ty-Tuple, ty-Verbatim, len-Lit, len-Other, len_value)

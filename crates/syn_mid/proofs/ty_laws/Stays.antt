@@ -4,6 +4,7 @@ use Rattle.token_core.specs.Prints as p
 use Rattle.token_core.specs.Prints.{Print}
 use Rattle.token_core.specs.Trees.{stream_of_trees}
 use Rattle.token_core.specs.declared.tree.Delimiter.TheVariants.{Parenthesis, Bracket}
+use Rattle.token_core.specs.declared.tree.Delimiter.TheVariants as d
 use Rattle.syn_mid.specs.Supplied.{Place, ArrayLen}
 use Rattle.syn_mid.specs.declared.attr.Meta.{Meta}
 use Rattle.syn_mid.specs.declared.attr.Meta.TheOpen as o
@@ -14,13 +15,13 @@ use Rattle.syn_mid.specs.declared.ty.Type.{«Type» as TypeTree, roll-Type, map-
 use Rattle.syn_mid.specs.declared.ty.Type.TheVariants as v
 use Rattle.syn_mid.specs.declared.ty.Type.TheOpen as t
 use Rattle.syn_mid.specs.declared.ty.Type.TheFolds.{ind-Type}
-use Rattle.syn_mid.specs.ty.Types.{Comma, array_of, paren_of, ptr_of, reference_of, slice_of, tuple_of}
+use Rattle.syn_mid.specs.ty.Types.{Comma, array_of, group_of, paren_of, ptr_of, reference_of, slice_of, tuple_of}
 use Rattle.syn_mid.specs.ty.Normal as normal
 use Rattle.syn_mid.specs.ty.Printing as printing
 use Rattle.syn_mid.specs.ty.Printing.{pointer, lifetime, mutability, lone_comma}
 use Rattle.syn_mid.proofs.ty_laws.Each.{each_held, map_stays, joined_same}
-use Rattle.syn_mid.proofs.ty_laws.Normal.{normal-Array, normal-Infer, normal-Macro, normal-Never, normal-Paren, normal-Path, normal-Ptr, normal-Reference, normal-Slice, normal-Tuple, normal-Verbatim, normal-len}
-use Rattle.syn_mid.proofs.ty_laws.Prints.{ty-Array, ty-Paren, ty-Ptr, ty-Reference, ty-Slice, ty-Tuple, len-Other}
+use Rattle.syn_mid.proofs.ty_laws.Normal.{normal-Array, normal-Group, normal-Infer, normal-Macro, normal-Never, normal-Paren, normal-Path, normal-Ptr, normal-Reference, normal-Slice, normal-Tuple, normal-Verbatim, normal-len}
+use Rattle.syn_mid.proofs.ty_laws.Prints.{ty-Array, ty-Group, ty-Paren, ty-Ptr, ty-Reference, ty-Slice, ty-Tuple, len-Other}
 
 module _ {X : Type 0} (nx : Place → X → X) (own : (w : Place) (x : X) → nx w (nx w x) ≡ nx w x) where
   len_layer_stays : (y : o.Expr-F X (Meta X) (Expr X) (MetaNameValue X)) → normal.len nx (normal.len_layer nx y) ≡ normal.len_layer nx y
@@ -50,6 +51,10 @@ module _ {X : Type 0} (nx : Place → X → X) (own : (w : Place) (x : X) → nx
   layer_stays (t.Infer x) = subst Own (sym (v.rolls-Infer x)) (by_form (v.Infer x) (v.Infer x) (normal-Infer nx x) (normal-Infer nx x))
   layer_stays (t.Macro x) = subst Own (sym (v.rolls-Macro x)) (by_form (v.Macro x) (v.Macro x) (normal-Macro nx x) (normal-Macro nx x))
   layer_stays (t.Never x) = subst Own (sym (v.rolls-Never x)) (by_form (v.Never x) (v.Never x) (normal-Never nx x) (normal-Never nx x))
+  layer_stays (t.Group y) =
+      let x = group_of y.group_token y.elem.0 in
+      let z = normal.group nx x in
+      subst Own (sym (v.rolls-Group x)) (by_form (v.Group x) (v.Group z) (normal-Group nx x) (normal-Group nx z ∙ ap (λ u. v.Group (group_of y.group_token u)) y.elem.1))
   layer_stays (t.Paren y) =
       let x = paren_of y.paren_token y.elem.0 in
       let z = normal.paren nx x in
@@ -111,6 +116,10 @@ module _ {X : Type 0} (nx : Place → X → X) (px : Place → X → Print) (sam
   layer_same (t.Infer x) = subst Same (sym (v.rolls-Infer x)) (ap (printing.ty px) (normal-Infer nx x))
   layer_same (t.Macro x) = subst Same (sym (v.rolls-Macro x)) (ap (printing.ty px) (normal-Macro nx x))
   layer_same (t.Never x) = subst Same (sym (v.rolls-Never x)) (ap (printing.ty px) (normal-Never nx x))
+  layer_same (t.Group y) =
+      let x = group_of y.group_token y.elem.0 in
+      subst Same (sym (v.rolls-Group x))
+      (ap (printing.ty px) (normal-Group nx x) ∙ ty-Group px (normal.group nx x) ∙ ap (λ u. p.group d.None (stream_of_trees u) y.group_token.span) y.elem.1 ∙ sym (ty-Group px x))
   layer_same (t.Paren y) =
       let x = paren_of y.paren_token y.elem.0 in
       subst Same (sym (v.rolls-Paren x))

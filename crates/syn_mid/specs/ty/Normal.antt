@@ -10,13 +10,16 @@ use Rattle.syn_mid.specs.declared.ty.Type.TheFolds.{fold-Type}
 use Rattle.syn_mid.specs.declared.ty.Type.TheOpen as t
 use Rattle.syn_mid.specs.declared.ty.Type.TheVariants as v
 use Rattle.syn_mid.specs.declared.ty.TypeArrayOf.{TypeArrayOf}
+use Rattle.syn_mid.specs.declared.ty.ReturnTypeOf.{ReturnTypeOf}
+use Rattle.syn_mid.specs.declared.ty.ReturnTypeOf.TheVariants as r
+use Rattle.syn_mid.specs.declared.ty.TypeGroupOf.{TypeGroupOf}
 use Rattle.syn_mid.specs.declared.ty.TypeParenOf.{TypeParenOf}
 use Rattle.syn_mid.specs.declared.ty.TypePtrOf.{TypePtrOf}
 use Rattle.syn_mid.specs.declared.ty.TypeReferenceOf.{TypeReferenceOf}
 use Rattle.syn_mid.specs.declared.ty.TypeSliceOf.{TypeSliceOf}
 use Rattle.syn_mid.specs.declared.ty.TypeTupleOf.{TypeTupleOf}
 use Rattle.syn_mid.specs.Supplied.{Place, ArrayLen}
-use Rattle.syn_mid.specs.ty.Types.{array_of, paren_of, ptr_of, reference_of, slice_of, tuple_of}
+use Rattle.syn_mid.specs.ty.Types.{array_of, group_of, paren_of, ptr_of, reference_of, slice_of, tuple_of}
 
 module _ {X : Type 0} (normal : Place → X → X) where
   abbrev pub len_layer : o.Expr-F X (Meta X) (Expr X) (MetaNameValue X) → Expr X
@@ -30,6 +33,7 @@ module _ {X : Type 0} (normal : Place → X → X) where
   -- a type whose parts are in their normal form, but for a length
   abbrev pub ty_step : t.Type-F X (TypeTree X) → TypeTree X
   ty_step (t.Array x) = v.Array (array_of x.bracket_token x.elem x.semi_token (len x.len))
+  ty_step (t.Group x) = v.Group x
   ty_step (t.Infer x) = v.Infer x
   ty_step (t.Macro x) = v.Macro x
   ty_step (t.Never x) = v.Never x
@@ -46,6 +50,13 @@ module _ {X : Type 0} (normal : Place → X → X) where
 
   abbrev pub array : TypeArrayOf (TypeTree X) (Expr X) → TypeArrayOf (TypeTree X) (Expr X)
   array x = array_of x.bracket_token (ty x.elem) x.semi_token (len x.len)
+
+  abbrev pub group : TypeGroupOf (TypeTree X) → TypeGroupOf (TypeTree X)
+  group x = group_of x.group_token (ty x.elem)
+
+  abbrev pub return_type : ReturnTypeOf (TypeTree X) → ReturnTypeOf (TypeTree X)
+  return_type r.Default = r.Default
+  return_type (r.«Type» a x) = r.«Type» a (ty x)
 
   abbrev pub paren : TypeParenOf (TypeTree X) → TypeParenOf (TypeTree X)
   paren x = paren_of x.paren_token (ty x.elem)

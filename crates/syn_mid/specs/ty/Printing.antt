@@ -1,10 +1,13 @@
 -- What types print.
 use Rattle.std.specs.Prelude.{List, [], ◌∷◌, ◌++◌, Option, Some, None}
 use Rattle.token_core.specs.declared.lifetime.Lifetime.{Lifetime}
+use Rattle.token_core.specs.declared.lit.LitStr.{LitStr}
 use Rattle.token_core.specs.declared.word.Word.{Word}
 use Rattle.token_core.specs.declared.tree.Delimiter.TheVariants.{Parenthesis, Bracket}
+use Rattle.token_core.specs.declared.tree.Delimiter.TheVariants as d
 use Rattle.token_core.specs.Lifetimes as lifetimes
 use Rattle.token_core.specs.Lists.{joined}
+use Rattle.token_core.specs.Lits as lits
 use Rattle.token_core.specs.Loops.{Many}
 use Rattle.token_core.specs.Prints as p
 use Rattle.token_core.specs.Prints.{Print}
@@ -15,12 +18,16 @@ use Rattle.syn_mid.specs.declared.attr.Meta.{Meta}
 use Rattle.syn_mid.specs.declared.attr.Meta.TheOpen as o
 use Rattle.syn_mid.specs.declared.attr.MetaNameValue.{MetaNameValue}
 use Rattle.syn_mid.specs.declared.supplied.Expr.{Expr, out-Expr}
+use Rattle.syn_mid.specs.declared.ty.Abi.{Abi}
 use Rattle.syn_mid.specs.declared.ty.PointerMutability.{PointerMutability}
 use Rattle.syn_mid.specs.declared.ty.PointerMutability.TheVariants as m
+use Rattle.syn_mid.specs.declared.ty.ReturnTypeOf.{ReturnTypeOf}
+use Rattle.syn_mid.specs.declared.ty.ReturnTypeOf.TheVariants as r
 use Rattle.syn_mid.specs.declared.ty.Type.{«Type» as TypeTree}
 use Rattle.syn_mid.specs.declared.ty.Type.TheOpen as t
 use Rattle.syn_mid.specs.declared.ty.Type.TheFolds.{fold-Type}
 use Rattle.syn_mid.specs.declared.ty.TypeArrayOf.{TypeArrayOf}
+use Rattle.syn_mid.specs.declared.ty.TypeGroupOf.{TypeGroupOf}
 use Rattle.syn_mid.specs.declared.ty.TypeInfer.{TypeInfer}
 use Rattle.syn_mid.specs.declared.ty.TypeMacro.{TypeMacro}
 use Rattle.syn_mid.specs.declared.ty.TypeNever.{TypeNever}
@@ -34,6 +41,14 @@ use Rattle.syn_mid.specs.attr.Printing.{literal_by, meta}
 use Rattle.syn_mid.specs.mac.Printing.{mac}
 use Rattle.syn_mid.specs.path.Printing.{path, as_written}
 use Rattle.syn_mid.specs.ty.Types.{Comma}
+
+-- the name of a convention, where it is written
+abbrev pub convention : Option LitStr → Print
+convention None = []
+convention (Some l) = lits.print_str l
+
+abbrev pub abi : Abi → Print
+abi x = p.word x.extern_token ++ convention x.name
 
 abbrev pub infer : TypeInfer → Print
 infer x = p.word x.underscore_token
@@ -78,6 +93,9 @@ module _ {T : Type 0} (print : T → Print) where
   abbrev pub array_by : {E : Type 0} → (E → Print) → TypeArrayOf T E → Print
   array_by len x = p.group Bracket (stream_of_trees (print x.elem ++ (p.mark x.semi_token ++ len x.len))) x.bracket_token.span
 
+  abbrev pub group_by : TypeGroupOf T → Print
+  group_by x = p.group d.None (stream_of_trees (print x.elem)) x.group_token.span
+
   abbrev pub paren_by : TypeParenOf T → Print
   paren_by x = p.group Parenthesis (stream_of_trees (print x.elem)) x.paren_token.span
 
@@ -89,6 +107,10 @@ module _ {T : Type 0} (print : T → Print) where
 
   abbrev pub slice_by : TypeSliceOf T → Print
   slice_by x = p.group Bracket (stream_of_trees (print x.elem)) x.bracket_token.span
+
+  abbrev pub return_type_by : ReturnTypeOf T → Print
+  return_type_by r.Default = []
+  return_type_by (r.«Type» a x) = p.mark a ++ print x
 
   -- each element with its comma
   abbrev pub elements_by : Many T Comma → Print
@@ -111,6 +133,7 @@ module _ {X : Type 0} (prints : Place → X → Print) where
 
   abbrev pub ty_step : t.Type-F X Print → Print
   ty_step (t.Array x) = array_by (λ z. z) len x
+  ty_step (t.Group x) = group_by (λ z. z) x
   ty_step (t.Infer x) = infer x
   ty_step (t.Macro x) = macro_type x
   ty_step (t.Never x) = never x
@@ -127,6 +150,12 @@ module _ {X : Type 0} (prints : Place → X → Print) where
 
   abbrev pub array : TypeArrayOf (TypeTree X) (Expr X) → Print
   array = array_by ty len
+
+  abbrev pub group : TypeGroupOf (TypeTree X) → Print
+  group = group_by ty
+
+  abbrev pub return_type : ReturnTypeOf (TypeTree X) → Print
+  return_type = return_type_by ty
 
   abbrev pub paren : TypeParenOf (TypeTree X) → Print
   paren = paren_by ty

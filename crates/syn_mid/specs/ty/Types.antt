@@ -4,6 +4,7 @@ use Rattle.token_core.specs.declared.mark.Mark.{Mark}
 use Rattle.token_core.specs.declared.word.Word.{Word}
 use Rattle.token_core.specs.declared.lifetime.Lifetime.{Lifetime}
 use Rattle.token_core.specs.declared.token.Bracket.{Bracket}
+use Rattle.token_core.specs.declared.token.GroupToken.{GroupToken}
 use Rattle.token_core.specs.declared.token.Paren.{Paren}
 use Rattle.token_core.specs.Loops.{Many}
 use Rattle.token_core.specs.Marks.{text_of}
@@ -16,6 +17,7 @@ use Rattle.syn_mid.specs.declared.ty.TypeArrayOf.{TypeArrayOf}
 use Rattle.syn_mid.specs.declared.ty.TypeInfer.{TypeInfer}
 use Rattle.syn_mid.specs.declared.ty.TypeMacro.{TypeMacro}
 use Rattle.syn_mid.specs.declared.ty.TypeNever.{TypeNever}
+use Rattle.syn_mid.specs.declared.ty.TypeGroupOf.{TypeGroupOf}
 use Rattle.syn_mid.specs.declared.ty.TypeParenOf.{TypeParenOf}
 use Rattle.syn_mid.specs.declared.ty.TypePath.{TypePath}
 use Rattle.syn_mid.specs.declared.ty.TypePtrOf.{TypePtrOf}
@@ -45,6 +47,9 @@ Underscore = Word 19
 
 abbrev pub array_of : {T E : Type 0} → Bracket → T → Semi → E → TypeArrayOf T E
 array_of b x s n = record { bracket_token = b; elem = x; semi_token = s; len = n }
+
+abbrev pub group_of : {T : Type 0} → GroupToken → T → TypeGroupOf T
+group_of g x = record { group_token = g; elem = x }
 
 abbrev pub infer_of : Underscore → TypeInfer
 infer_of u = record { underscore_token = u }
