@@ -6,4 +6,6 @@ mod generics_tests;
 #[cfg(test)]
 mod nothing;
 #[cfg(test)]
+mod pat_tests;
+#[cfg(test)]
 mod tests;

@@ -1,0 +1,2 @@
+pub mod Pats
+pub mod Printing
