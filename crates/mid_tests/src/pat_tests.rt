@@ -5,13 +5,15 @@
 use crate::generics_tests::{both, ident, literal, lone, pair, path, printed, says, shown, ty};
 use crate::nothing::Nothing;
 use std::alloc::Global;
+use std::marker::PhantomData;
 use syn_mid::{
-    Attribute, FieldPat, ParseInner, ParseOuter, Pat, PatGuard, PatIdent, PatLit, PatOr,
+    AngleBracketedGenericArguments, Attribute, FieldPat, ParseInner, ParseOuter, Pat, Path,
+    PathArguments, PathSegment, PatGuard, PatIdent, PatLit, PatOr,
     PatParen, PatReference, PatRest, PatSlice, PatStruct, PatTuple, PatTupleStruct, PatType,
     PatWild,
 };
 use token_core::token::{
-    And, At, Brace, Bracket, Colon, Comma, DotDot, If, Mut, Or, Paren, Ref, Underscore,
+    And, At, Brace, Bracket, Colon, Comma, DotDot, Gt, If, Lt, Mut, Or, Paren, Ref, Underscore,
 };
 use token_core::{
     Boxed, Error, Index, Items, Lit, Member, Punctuated, Span, read_all,
@@ -336,4 +338,36 @@ fn outer_attributes_print(rt: HostRuntime) {
     let fields = lone(alloc, short(alloc, "x"));
     let whole = with_rest(alloc, fields, rest_after(alloc, outer(alloc, "#[b]")));
     says(&rt, shown(alloc, whole), "A { x , # [b] .. }");
+}
+
+/// `A<>`, its `::` left to the print
+fn angled(alloc: Global) -> Result<Path<Nothing>, Error> {
+    let segment = PathSegment {
+        ident: ident(alloc, "A")?,
+        arguments: PathArguments::AngleBracketed(AngleBracketedGenericArguments {
+            colon2_token: None,
+            lt_token: Lt::default(),
+            args: PhantomData,
+            gt_token: Gt::default(),
+        }),
+    };
+    Ok(Path {
+        leading_colon: None,
+        segments: lone(alloc, Ok(segment))?,
+    })
+}
+
+fn angled_struct(alloc: Global) -> Result<PatTupleStruct<Nothing>, Error> {
+    Ok(PatTupleStruct {
+        attrs: Items::new(alloc),
+        path: angled(alloc)?,
+        paren_token: Paren::default(),
+        elems: Punctuated::new(alloc),
+    })
+}
+
+#[test]
+fn paths_print_as_in_an_expression(rt: HostRuntime) {
+    let alloc = rt.alloc();
+    says(&rt, shown(alloc, angled_struct(alloc)), "A :: < > ()");
 }
