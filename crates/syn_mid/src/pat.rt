@@ -1,8 +1,8 @@
 //! Patterns.
 
-ghost use Rattle.std.specs.Prelude.{◌≡◌, ◌++◌, OnOk, OnErr};
+ghost use Rattle.std.specs.Prelude.{◌≡◌, ◌++◌, OnOk, OnErr, option_map};
+ghost use Rattle.token_core.specs.Joined.{values_of, marks_of};
 ghost use Rattle.token_core.specs.Prints.{Extends};
-ghost use Rattle.token_core.specs.Prints as prints;
 ghost use Rattle.token_core.specs.Trees.{trees};
 ghost use Rattle.syn_mid.specs.declared.pat.Pat.TheVariants as pats;
 ghost use Rattle.syn_mid.specs.generics.Printing as generics;
@@ -17,7 +17,7 @@ use std::alloc::{AllocError, Global};
 use token_core::token::{
     And, At, Brace, Bracket, Colon, Comma, DotDot, If, Mark, Mut, Or, Paren, Ref, Underscore, Word,
 };
-use token_core::{Boxed, Ident, Items, Member, Punctuated, ToTokens, TokenStream};
+use token_core::{Boxed, Ident, Items, Member, Pair, Punctuated, ToTokens, TokenStream};
 
 /// A pattern.
 #[cycle(pats)]
@@ -656,7 +656,7 @@ fn print_slice<X: Subtree>(
 {
     print_outer(alloc, &pat.attrs, out)?;
     let mut content = TokenStream::new(alloc);
-    print_elements(alloc, &pat.elems, &mut content)?;
+    print_slice_elements(alloc, pat, &mut content)?;
     pat.bracket_token.surround(content, out)
 }
 
@@ -689,29 +689,19 @@ fn print_fields<X: Subtree>(
     ensures ok { OnOk result (trees out.new ≡ trees out.old ++ printing.fields X.prints pat.now.fields) }
     ensures err { OnErr result (Extends (trees out.old) (trees out.new)) }
 {
-    let (pairs, last) = pat.fields.parts();
+    let (pairs, last) = field_parts(pat);
     for pair in pairs {
-        print_field(alloc, &pair.value, out)?;
+        print_member(alloc, &pair.value, out)?;
+        print_pat(alloc, pair.value.pat.get(), out)?;
         pair.mark.to_tokens(alloc, out)?;
     }
     match last {
-        Some(field) => print_field(alloc, field, out),
+        Some(field) => {
+            print_member(alloc, field, out)?;
+            print_pat(alloc, field.pat.get(), out)
+        }
         None => Ok(()),
     }
-}
-
-#[cycle(print)]
-#[tactic(auto, using(token_core::proofs::Puts::puts, crate::proofs::pat_laws::Prints::prints))]
-fn print_field<X: Subtree>(
-    alloc: Global,
-    field: &FieldPat<X>,
-    out: &mut TokenStream,
-) -> Result<(), AllocError>
-    ensures ok { OnOk result (trees out.new ≡ trees out.old ++ printing.field X.prints field.now) }
-    ensures err { OnErr result (Extends (trees out.old) (trees out.new)) }
-{
-    print_member(alloc, field, out)?;
-    print_pat(alloc, field.pat.get(), out)
 }
 
 #[cycle(print)]
@@ -726,7 +716,7 @@ fn print_tuple<X: Subtree>(
 {
     print_outer(alloc, &pat.attrs, out)?;
     let mut content = TokenStream::new(alloc);
-    print_elements(alloc, &pat.elems, &mut content)?;
+    print_tuple_elements(alloc, pat, &mut content)?;
     print_tuple_comma(alloc, &pat.elems, &mut content)?;
     pat.paren_token.surround(content, out)
 }
@@ -744,7 +734,7 @@ fn print_tuple_struct<X: Subtree>(
     print_outer(alloc, &pat.attrs, out)?;
     print_path(alloc, &pat.path, PathStyle::Expr, out)?;
     let mut content = TokenStream::new(alloc);
-    print_elements(alloc, &pat.elems, &mut content)?;
+    print_tuple_struct_elements(alloc, pat, &mut content)?;
     pat.paren_token.surround(content, out)
 }
 
@@ -767,21 +757,65 @@ fn print_typed<X: Subtree>(
 /// Each element with its comma.
 #[cycle(print)]
 #[tactic(auto, using(token_core::proofs::Puts::puts, crate::proofs::pat_laws::Prints::prints))]
-fn print_elements<X: Subtree>(
+fn print_slice_elements<X: Subtree>(
     alloc: Global,
-    elems: &Punctuated<Pat<X>, Comma>,
+    pat: &PatSlice<X>,
     out: &mut TokenStream,
 ) -> Result<(), AllocError>
-    ensures ok { OnOk result (trees out.new ≡ trees out.old ++ printing.list X.prints elems.now) }
+    ensures ok { OnOk result (trees out.new ≡ trees out.old ++ printing.list X.prints pat.now.elems) }
     ensures err { OnErr result (Extends (trees out.old) (trees out.new)) }
 {
-    let (pairs, last) = elems.parts();
+    let (pairs, last) = element_parts(&pat.elems);
     for pair in pairs {
         print_pat(alloc, &pair.value, out)?;
         pair.mark.to_tokens(alloc, out)?;
     }
     match last {
-        Some(pat) => print_pat(alloc, pat, out),
+        Some(element) => print_pat(alloc, element, out),
+        None => Ok(()),
+    }
+}
+
+/// Each element with its comma.
+#[cycle(print)]
+#[tactic(auto, using(token_core::proofs::Puts::puts, crate::proofs::pat_laws::Prints::prints))]
+fn print_tuple_elements<X: Subtree>(
+    alloc: Global,
+    pat: &PatTuple<X>,
+    out: &mut TokenStream,
+) -> Result<(), AllocError>
+    ensures ok { OnOk result (trees out.new ≡ trees out.old ++ printing.list X.prints pat.now.elems) }
+    ensures err { OnErr result (Extends (trees out.old) (trees out.new)) }
+{
+    let (pairs, last) = element_parts(&pat.elems);
+    for pair in pairs {
+        print_pat(alloc, &pair.value, out)?;
+        pair.mark.to_tokens(alloc, out)?;
+    }
+    match last {
+        Some(element) => print_pat(alloc, element, out),
+        None => Ok(()),
+    }
+}
+
+/// Each element with its comma.
+#[cycle(print)]
+#[tactic(auto, using(token_core::proofs::Puts::puts, crate::proofs::pat_laws::Prints::prints))]
+fn print_tuple_struct_elements<X: Subtree>(
+    alloc: Global,
+    pat: &PatTupleStruct<X>,
+    out: &mut TokenStream,
+) -> Result<(), AllocError>
+    ensures ok { OnOk result (trees out.new ≡ trees out.old ++ printing.list X.prints pat.now.elems) }
+    ensures err { OnErr result (Extends (trees out.old) (trees out.new)) }
+{
+    let (pairs, last) = element_parts(&pat.elems);
+    for pair in pairs {
+        print_pat(alloc, &pair.value, out)?;
+        pair.mark.to_tokens(alloc, out)?;
+    }
+    match last {
+        Some(element) => print_pat(alloc, element, out),
         None => Ok(()),
     }
 }
@@ -797,7 +831,7 @@ fn print_cases<X: Subtree>(
     ensures ok { OnOk result (trees out.new ≡ trees out.old ++ printing.list X.prints pat.now.cases) }
     ensures err { OnErr result (Extends (trees out.old) (trees out.new)) }
 {
-    let (pairs, last) = pat.cases.parts();
+    let (pairs, last) = case_parts(pat);
     for pair in pairs {
         print_pat(alloc, &pair.value, out)?;
         pair.mark.to_tokens(alloc, out)?;
@@ -806,6 +840,31 @@ fn print_cases<X: Subtree>(
         Some(case) => print_pat(alloc, case, out),
         None => Ok(()),
     }
+}
+
+// ---- lists by their parts
+
+/// Elements by their parts.
+fn element_parts<X>(
+    elems: &Punctuated<Pat<X>, Comma>,
+) -> (&[Pair<Pat<X>, Comma>], Option<&Pat<X>>)
+    ensures { elems.now ≡ (values_of result.0.now (option_map (λ x. x.now) result.1), marks_of result.0.now) }
+{
+    elems.parts()
+}
+
+/// Alternatives by their parts.
+fn case_parts<X>(pat: &PatOr<X>) -> (&[Pair<Pat<X>, Or>], Option<&Pat<X>>)
+    ensures { pat.now.cases ≡ (values_of result.0.now (option_map (λ x. x.now) result.1), marks_of result.0.now) }
+{
+    pat.cases.parts()
+}
+
+/// The fields of a struct's pattern by their parts.
+fn field_parts<X>(pat: &PatStruct<X>) -> (&[Pair<FieldPat<X>, Comma>], Option<&FieldPat<X>>)
+    ensures { pat.now.fields ≡ (values_of result.0.now (option_map (λ x. x.now) result.1), marks_of result.0.now) }
+{
+    pat.fields.parts()
 }
 
 // ---- prints of the parts that hold no pattern
@@ -883,6 +942,19 @@ fn print_member<P, X: Subtree>(
         }
         None => Ok(()),
     }
+}
+
+#[tactic(auto, using(token_core::proofs::Puts::puts))]
+fn print_field<X: Subtree>(
+    alloc: Global,
+    field: &FieldPat<X>,
+    out: &mut TokenStream,
+) -> Result<(), AllocError>
+    ensures ok { OnOk result (trees out.new ≡ trees out.old ++ printing.field X.prints field.now) }
+    ensures err { OnErr result (Extends (trees out.old) (trees out.new)) }
+{
+    print_member(alloc, field, out)?;
+    print_pat(alloc, field.pat.get(), out)
 }
 
 /// The `..` of a struct's pattern, after a comma that sets it apart from the last field.

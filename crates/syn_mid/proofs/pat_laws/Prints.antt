@@ -49,25 +49,25 @@ module _ {T Q : Type 0} (f : T → Q) where
   joined_mapped print (x ∷ all) [] = ap (λ r. print (f x) ++ r) (joined_mapped print all [])
   joined_mapped print (x ∷ all) (m ∷ ms) = ap (λ r. print (f x) ++ (p.mark m ++ r)) (joined_mapped print all ms)
 
-  last_mapped : (all : List T) (cs : List Comma) → s.last_comma (map f all) cs ≡ s.last_comma all cs
+  pub last_mapped : (all : List T) (cs : List Comma) → s.last_comma (map f all) cs ≡ s.last_comma all cs
   last_mapped [] cs = refl
   last_mapped (x ∷ all) [] = refl
   last_mapped (x ∷ all) (c ∷ cs) = last_mapped all cs
 
-  tuple_mapped : (rest : Q → Bool) (all : List T) (cs : List Comma) → s.tuple_comma rest (map f all) cs ≡ s.tuple_comma (λ x. rest (f x)) all cs
+  pub tuple_mapped : (rest : Q → Bool) (all : List T) (cs : List Comma) → s.tuple_comma rest (map f all) cs ≡ s.tuple_comma (λ x. rest (f x)) all cs
   tuple_mapped rest [] cs = refl
   tuple_mapped rest (x ∷ []) [] = refl
   tuple_mapped rest (x ∷ []) (c ∷ cs) = refl
   tuple_mapped rest (x ∷ y ∷ all) cs = refl
 
-tuple_same : {T : Type 0} (f g : T → Bool) → ((x : T) → f x ≡ g x) → (all : List T) (cs : List Comma) → s.tuple_comma f all cs ≡ s.tuple_comma g all cs
+pub tuple_same : {T : Type 0} (f g : T → Bool) → ((x : T) → f x ≡ g x) → (all : List T) (cs : List Comma) → s.tuple_comma f all cs ≡ s.tuple_comma g all cs
 tuple_same f g h [] cs = refl
 tuple_same f g h (x ∷ []) [] = ap (λ b. if b then [] else p.mark comma) (h x)
 tuple_same f g h (x ∷ []) (c ∷ cs) = refl
 tuple_same f g h (x ∷ y ∷ all) cs = refl
 
 module _ {X : Type 0} (px : Place → X → Print) where
-  rest_mapped : {T Q : Type 0} (f : T → Q) (o : Option (PatRest X)) (all : List T) (cs : List Comma) → s.rest_comma px o (map f all, cs) ≡ s.rest_comma px o (all, cs)
+  pub rest_mapped : {T Q : Type 0} (f : T → Q) (o : Option (PatRest X)) (all : List T) (cs : List Comma) → s.rest_comma px o (map f all, cs) ≡ s.rest_comma px o (all, cs)
   rest_mapped f None all cs = refl
   rest_mapped f (Some x) all cs = last_mapped f all cs
 
