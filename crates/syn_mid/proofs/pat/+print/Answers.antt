@@ -1,3 +1,4 @@
+use Prim.Native.Nat.{max}
 use Rattle.std.proofs.Common.{rules, append_assoc, ◌≡◌, ℕ, ◌++◌, drop, length, Some, option_map, sym, ap, ◌∙◌, arith}
 use Rattle.std.proofs.lemmas.List.{take-append-drop}
 use Rattle.std.proofs.lemmas.Result.{on_ok_weaker, on_err_weaker}
@@ -41,9 +42,9 @@ print_binding-returns-in_ok-to_tokens-in-Some-clause-err g t c =
     on_err_weaker c.print_pat.result
     (λ h. extends_on _ _ _ _ c.in_ok-print_name.ensures.ok (extends_on _ _ _ _ c.in_ok-to_tokens-in-Some.ensures.ok h)) c.print_pat.ensures.err
 
--- a field measures what its pattern does
+-- what a field weighs, by its parts
 abbrev field_size : (g : Over) → FieldPatOf (Pat g.row.X.Denot) g.row.X.Denot → ℕ
-field_size g x = the_size g.row.X g.X.laws x.pat
+field_size g x = max 0 (max 0 (max 0 (max (the_size g.row.X g.X.laws x.pat) 0)))
 
 -- ---- print_slice_elements
 
@@ -192,3 +193,22 @@ print_fields-loop-pair-preserved g t c =
       kept = rw c.in_ok-to_tokens.ensures.ok (rw whole (extends_append old _ _ (extends_append old mid _ c.loop-pair.invariant.kept)));
     }
 
+
+pub print_fields-returns-in_ok-print_member-in-Some-clause-ok : goal.print_fields-returns-in_ok-print_member-in-Some-clause-ok
+print_fields-returns-in_ok-print_member-in-Some-clause-ok g t c =
+    let px = g.X.Subtree.prints in
+    let mid = trees c.loop-pair.out in
+    let last = option_map (λ x. x.now) c.field_parts.result.1 in
+    let x = c.in-Some.field.now in
+    let k : option_map (λ x. x.now) c.field_parts.result.1 ≡ Some x = ap (option_map (λ x. x.now)) c.in-Some.is in
+    on_ok_weaker c.print_pat-in-Some.result
+    (λ h. put_last (field px) p.mark c.args.pat.now.fields c.field_parts.result.0.now last x c.loop-pair.pair-index (trees c.args.out.now) mid (trees c.print_pat-in-Some.new.out) c.field_parts.ensures k c.loop-pair-test.false c.loop-pair.invariant.told
+    (h ∙ ap (λ z. z ++ pat px c.get-in-Some.result.now) c.in_ok-print_member-in-Some.ensures.ok ∙ append_assoc mid (member px x) (pat px c.get-in-Some.result.now) ∙ ap (λ z. mid ++ (member px x ++ pat px z)) c.get-in-Some.ensures)) c.print_pat-in-Some.ensures.ok
+
+pub print_fields-returns-in_ok-print_member-in-Some-clause-err : goal.print_fields-returns-in_ok-print_member-in-Some-clause-err
+print_fields-returns-in_ok-print_member-in-Some-clause-err g t c =
+    let old = trees c.args.out.now in
+    let mid = trees c.loop-pair.out in
+    on_err_weaker c.print_pat-in-Some.result
+    (λ h. extends_on old (drop (length old) mid) mid _ (sym (take-append-drop (length old) mid) ∙ ap (λ z. z ++ drop (length old) mid) c.loop-pair.invariant.kept)
+    (extends_on _ _ _ _ c.in_ok-print_member-in-Some.ensures.ok h)) c.print_pat-in-Some.ensures.err
