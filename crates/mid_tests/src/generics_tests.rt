@@ -101,7 +101,11 @@ fn two<T: Drop>(alloc: Global, first: T, second: T) -> Result<Punctuated<T, Plus
     Ok(list)
 }
 
-pub(crate) fn pair<T: Drop>(alloc: Global, first: T, second: T) -> Result<Punctuated<T, Comma>, Error> {
+pub(crate) fn pair<T: Drop>(
+    alloc: Global,
+    first: T,
+    second: T,
+) -> Result<Punctuated<T, Comma>, Error> {
     let mut list = Punctuated::new(alloc);
     list.push_value(alloc, first)?;
     list.push_punct(Comma::default())?;
@@ -321,7 +325,10 @@ fn captures(alloc: Global) -> Result<Bound, Error> {
     }))
 }
 
-pub(crate) fn shown<T: ToTokens + Drop>(alloc: Global, tree: Result<T, Error>) -> Result<String, Error> {
+pub(crate) fn shown<T: ToTokens + Drop>(
+    alloc: Global,
+    tree: Result<T, Error>,
+) -> Result<String, Error> {
     printed(alloc, &tree?)
 }
 

@@ -7,17 +7,15 @@ use crate::nothing::Nothing;
 use std::alloc::Global;
 use std::marker::PhantomData;
 use syn_mid::{
-    AngleBracketedGenericArguments, Attribute, FieldPat, ParseInner, ParseOuter, Pat, Path,
-    PathArguments, PathSegment, PatGuard, PatIdent, PatLit, PatOr,
-    PatParen, PatReference, PatRest, PatSlice, PatStruct, PatTuple, PatTupleStruct, PatType,
-    PatWild,
+    AngleBracketedGenericArguments, Attribute, FieldPat, ParseInner, ParseOuter, Pat, PatGuard,
+    PatIdent, PatLit, PatOr, PatParen, PatReference, PatRest, PatSlice, PatStruct, PatTuple,
+    PatTupleStruct, PatType, PatWild, Path, PathArguments, PathSegment,
 };
 use token_core::token::{
     And, At, Brace, Bracket, Colon, Comma, DotDot, Gt, If, Lt, Mut, Or, Paren, Ref, Underscore,
 };
 use token_core::{
-    Boxed, Error, Index, Items, Lit, Member, Punctuated, Span, read_all,
-    read_all_with,
+    Boxed, Error, Index, Items, Lit, Member, Punctuated, Span, read_all, read_all_with,
 };
 use token_text::lex;
 
@@ -157,10 +155,7 @@ fn reference(alloc: Global) -> Result<Pattern, Error> {
 }
 
 fn typed(alloc: Global) -> Result<Pattern, Error> {
-    let (pat, ty) = both(
-        boxed(alloc, name(alloc, "a")),
-        boxed(alloc, ty(alloc, "T")),
-    )?;
+    let (pat, ty) = both(boxed(alloc, name(alloc, "a")), boxed(alloc, ty(alloc, "T")))?;
     Ok(Pat::from(PatType {
         attrs: Items::new(alloc),
         pat,
@@ -227,7 +222,11 @@ fn lists_print(rt: HostRuntime) {
     let some = two(alloc, name(alloc, "a"));
     says(&rt, shown(alloc, slice(alloc, some)), "[a , ..]");
     let some = two(alloc, name(alloc, "a"));
-    says(&rt, shown(alloc, tuple_struct(alloc, some)), "a :: B (a , ..)");
+    says(
+        &rt,
+        shown(alloc, tuple_struct(alloc, some)),
+        "a :: B (a , ..)",
+    );
     let some = two(alloc, name(alloc, "a"));
     says(&rt, shown(alloc, tuple(alloc, some)), "(a , ..)");
 }
@@ -243,7 +242,11 @@ fn a_tuple_of_one_gets_its_comma(rt: HostRuntime) {
     says(&rt, shown(alloc, tuple(alloc, left)), "(..)");
     let left = marked(alloc, rest(alloc));
     says(&rt, shown(alloc, tuple(alloc, left)), "(.. ,)");
-    says(&rt, shown(alloc, tuple(alloc, Ok(Punctuated::new(alloc)))), "()");
+    says(
+        &rt,
+        shown(alloc, tuple(alloc, Ok(Punctuated::new(alloc)))),
+        "()",
+    );
 }
 
 // ---- structs

@@ -845,9 +845,7 @@ fn print_cases<X: Subtree>(
 // ---- lists by their parts
 
 /// Elements by their parts.
-fn element_parts<X>(
-    elems: &Punctuated<Pat<X>, Comma>,
-) -> (&[Pair<Pat<X>, Comma>], Option<&Pat<X>>)
+fn element_parts<X>(elems: &Punctuated<Pat<X>, Comma>) -> (&[Pair<Pat<X>, Comma>], Option<&Pat<X>>)
     ensures { elems.now ≡ (values_of result.0.now (option_map (λ x. x.now) result.1), marks_of result.0.now) }
 {
     elems.parts()

@@ -93,9 +93,11 @@ module _ {X : Type 0} (nx : Place → X → X) (own : (w : Place) (x : X) → nx
 
   fields_own : (l : List (FieldPatOf Held X)) → Each OwnField (map within l)
   fields_own [] = tt
-  fields_own (y ∷ l) =
-      (ap (λ z. field_of z y.member y.colon_token (n.pat nx (n.pat nx y.pat.0))) (attrs_stay y.attrs)
-      ∙ ap (λ z. field_of (n.attrs nx y.attrs) y.member y.colon_token z) y.pat.1, fields_own l)
+  fields_own (y ∷ l) = (
+    ap (λ z. field_of z y.member y.colon_token (n.pat nx (n.pat nx y.pat.0))) (attrs_stay y.attrs)
+        ∙ ap (λ z. field_of (n.attrs nx y.attrs) y.member y.colon_token z) y.pat.1,
+    fields_own l,
+  )
 
   binding_held : (a : Attrs X) (r : Option (Word 14)) (m : Option (Word 13)) (i : Ident) (l : Option (Mark 6 1 × Held)) → Own (roll-Pat X (map-Pat X Held (Pat X) (λ c. c.0) (o.Ident (binding_of a r m i l))))
   binding_held a r m i None =
@@ -243,9 +245,11 @@ module _ {X : Type 0} (nx : Place → X → X) (px : Place → X → Print) (sam
 
   fields_same : (l : List (FieldPatOf Shown X)) → Each SameField (map shown_within l)
   fields_same [] = tt
-  fields_same (y ∷ l) =
-      (ap (λ z. (z ++ s.colon_member px y.member y.colon_token) ++ s.pat px (n.pat nx y.pat.0)) (attrs_same y.attrs)
-      ∙ ap (λ z. (s.attrs px y.attrs ++ s.colon_member px y.member y.colon_token) ++ z) y.pat.1, fields_same l)
+  fields_same (y ∷ l) = (
+    ap (λ z. (z ++ s.colon_member px y.member y.colon_token) ++ s.pat px (n.pat nx y.pat.0)) (attrs_same y.attrs)
+        ∙ ap (λ z. (s.attrs px y.attrs ++ s.colon_member px y.member y.colon_token) ++ z) y.pat.1,
+    fields_same l,
+  )
 
   binding_shown : (a : Attrs X) (r : Option (Word 14)) (m : Option (Word 13)) (i : Ident) (l : Option (Mark 6 1 × Shown)) → Same (roll-Pat X (map-Pat X Shown (Pat X) (λ c. c.0) (o.Ident (binding_of a r m i l))))
   binding_shown a r m i None =

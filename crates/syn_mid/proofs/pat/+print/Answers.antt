@@ -193,7 +193,6 @@ print_fields-loop-pair-preserved g t c =
       kept = rw c.in_ok-to_tokens.ensures.ok (rw whole (extends_append old _ _ (extends_append old mid _ c.loop-pair.invariant.kept)));
     }
 
-
 pub print_fields-returns-in_ok-print_member-in-Some-clause-ok : goal.print_fields-returns-in_ok-print_member-in-Some-clause-ok
 print_fields-returns-in_ok-print_member-in-Some-clause-ok g t c =
     let px = g.X.Subtree.prints in
