@@ -24,7 +24,7 @@ type Param = GenericParam<Nothing>;
 type Bound = TypeParamBound<Nothing>;
 
 /// It answers this; of a refusal, its text.
-fn says(rt: &impl Abort, answer: Result<String, Error>, wanted: &str) {
+pub(crate) fn says(rt: &impl Abort, answer: Result<String, Error>, wanted: &str) {
     match answer {
         Ok(text) => assert_eq!(rt; text.as_str(), wanted),
         Err(error) => panic!(rt; "refused: {}", error.text()),
@@ -41,7 +41,7 @@ fn got<T: Drop>(rt: &impl Abort, made: Result<T, Error>) -> T {
 
 /// Both, or the first refusal. Where it refuses what was made is generic, and dropped by a call: trees that stand at a `?` have their drops
 /// written out there, which is what makes the proof of a test long.
-fn both<A: Drop, B: Drop>(
+pub(crate) fn both<A: Drop, B: Drop>(
     first: Result<A, Error>,
     second: Result<B, Error>,
 ) -> Result<(A, B), Error> {
@@ -49,7 +49,7 @@ fn both<A: Drop, B: Drop>(
 }
 
 /// A list of one.
-fn lone<T: Drop, P: Drop>(
+pub(crate) fn lone<T: Drop, P: Drop>(
     alloc: Global,
     value: Result<T, Error>,
 ) -> Result<Punctuated<T, P>, Error> {
@@ -59,13 +59,13 @@ fn lone<T: Drop, P: Drop>(
     Ok(list)
 }
 
-fn printed<T: ToTokens>(alloc: Global, tree: &T) -> Result<String, Error> {
+pub(crate) fn printed<T: ToTokens>(alloc: Global, tree: &T) -> Result<String, Error> {
     let mut out = TokenStream::new(alloc);
     tree.to_tokens(alloc, &mut out)?;
     Ok(text_of(alloc, &out)?)
 }
 
-fn ident(alloc: Global, text: &str) -> Result<Ident, Error> {
+pub(crate) fn ident(alloc: Global, text: &str) -> Result<Ident, Error> {
     Ok(Ident::new(alloc, text, Span::none())?)
 }
 
@@ -73,19 +73,19 @@ fn lifetime(alloc: Global, text: &str) -> Result<Lifetime, Error> {
     Ok(Lifetime::new(Span::none(), ident(alloc, text)?))
 }
 
-fn path(alloc: Global, text: &str) -> Result<Path<Nothing>, Error> {
+pub(crate) fn path(alloc: Global, text: &str) -> Result<Path<Nothing>, Error> {
     let tokens = lex(alloc, text)?;
     read_all_with(alloc, ModStyle::<Nothing>::new(), &tokens)
 }
 
-fn ty(alloc: Global, text: &str) -> Result<Type<Nothing>, Error> {
+pub(crate) fn ty(alloc: Global, text: &str) -> Result<Type<Nothing>, Error> {
     Ok(Type::Path(TypePath {
         path: path(alloc, text)?,
     }))
 }
 
 /// A literal without attributes.
-fn literal(alloc: Global, text: &str) -> Result<Expr<Nothing>, Error> {
+pub(crate) fn literal(alloc: Global, text: &str) -> Result<Expr<Nothing>, Error> {
     let lit = read_all::<Lit>(alloc, &lex(alloc, text)?)?;
     Ok(Expr::Lit(ExprLit {
         attrs: Items::new(alloc),
@@ -101,7 +101,11 @@ fn two<T: Drop>(alloc: Global, first: T, second: T) -> Result<Punctuated<T, Plus
     Ok(list)
 }
 
-fn pair<T: Drop>(alloc: Global, first: T, second: T) -> Result<Punctuated<T, Comma>, Error> {
+pub(crate) fn pair<T: Drop>(
+    alloc: Global,
+    first: T,
+    second: T,
+) -> Result<Punctuated<T, Comma>, Error> {
     let mut list = Punctuated::new(alloc);
     list.push_value(alloc, first)?;
     list.push_punct(Comma::default())?;
@@ -321,7 +325,10 @@ fn captures(alloc: Global) -> Result<Bound, Error> {
     }))
 }
 
-fn shown<T: ToTokens + Drop>(alloc: Global, tree: Result<T, Error>) -> Result<String, Error> {
+pub(crate) fn shown<T: ToTokens + Drop>(
+    alloc: Global,
+    tree: Result<T, Error>,
+) -> Result<String, Error> {
     printed(alloc, &tree?)
 }
 

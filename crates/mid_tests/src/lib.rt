@@ -6,6 +6,8 @@ mod generics_tests;
 #[cfg(test)]
 mod nothing;
 #[cfg(test)]
+mod pat_tests;
+#[cfg(test)]
 mod tests;
 #[cfg(test)]
 mod type_tests;

@@ -4,3 +4,4 @@ pub mod attr_laws
 pub mod meta_laws
 pub mod ty_laws
 pub mod generics_laws
+pub mod pat_laws

@@ -5,3 +5,4 @@ pub mod attr
 pub mod meta
 pub mod ty
 pub mod generics
+pub mod pat

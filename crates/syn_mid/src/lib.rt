@@ -6,6 +6,7 @@ pub mod generics;
 mod grammar;
 pub mod mac;
 pub mod meta;
+pub mod pat;
 pub mod path;
 pub mod supplied;
 pub mod ty;
@@ -19,6 +20,12 @@ pub use generics::{
     TypeParamOf, WhereClause, WherePredicate,
 };
 pub use mac::{Macro, MacroDelimiter};
+pub use pat::{
+    FieldPat, FieldPatOf, Pat, PatGuard, PatGuardOf, PatIdent, PatIdentOf, PatLit, PatOr, PatOrOf,
+    PatParen, PatParenOf, PatReference, PatReferenceOf, PatRest, PatSlice, PatSliceOf, PatStruct,
+    PatStructOf, PatTuple, PatTupleOf, PatTupleStruct, PatTupleStructOf, PatType, PatTypeOf,
+    PatWild,
+};
 pub use path::{
     AngleBracketedGenericArguments, ParenthesizedGenericArguments, Path, PathArguments, PathSegment,
 };

@@ -80,6 +80,8 @@ pub(crate) enum SegmentStyle {
 /// How the arguments of a path's segments print.
 #[derive(Clone, Copy, PartialEq, Eq)]
 pub(crate) enum PathStyle {
+    /// As in an expression: those between angle marks after `::`.
+    Expr,
     /// As they stand.
     AsWritten,
     /// Not at all.
@@ -552,6 +554,13 @@ fn print_arguments<X>(
                 .paren_token
                 .surround(TokenStream::new(alloc), out),
         },
+        PathStyle::Expr => match arguments {
+            PathArguments::None => Ok(()),
+            PathArguments::AngleBracketed(arguments) => print_turbofish(alloc, arguments, out),
+            PathArguments::Parenthesized(arguments) => arguments
+                .paren_token
+                .surround(TokenStream::new(alloc), out),
+        },
     }
 }
 
@@ -565,6 +574,24 @@ fn print_angle_bracketed<X>(
     ensures err { OnErr result (Extends (trees out.old) (trees out.new)) }
 {
     print_colon(alloc, &arguments.colon2_token, out)?;
+    arguments.lt_token.to_tokens(alloc, out)?;
+    arguments.gt_token.to_tokens(alloc, out)
+}
+
+/// Arguments between angle marks after `::`, which is printed where it is missing.
+#[tactic(auto, using(token_core::proofs::Puts::puts))]
+fn print_turbofish<X>(
+    alloc: Global,
+    arguments: &AngleBracketedGenericArguments<X>,
+    out: &mut TokenStream,
+) -> Result<(), AllocError>
+    ensures ok { OnOk result (trees out.new ≡ trees out.old ++ printing.turbofish arguments.now) }
+    ensures err { OnErr result (Extends (trees out.old) (trees out.new)) }
+{
+    match &arguments.colon2_token {
+        Some(colon) => colon.to_tokens(alloc, out)?,
+        None => PathSep::default().to_tokens(alloc, out)?,
+    }
     arguments.lt_token.to_tokens(alloc, out)?;
     arguments.gt_token.to_tokens(alloc, out)
 }

@@ -895,7 +895,7 @@ fn print_elements<X: Subtree>(
 
 /// A comma after a lone element that has none, which sets the tuple apart from a type in parentheses.
 #[tactic(auto, using(token_core::proofs::Puts::puts, crate::proofs::ty_laws::Lone::lone))]
-fn print_lone_comma<T>(
+pub(crate) fn print_lone_comma<T>(
     alloc: Global,
     elems: &Punctuated<T, Comma>,
     out: &mut TokenStream,

@@ -13,7 +13,7 @@ use Rattle.token_core.proofs.Rows.{row-append}
 use Rattle.syn_mid.specs.declared.path.Path.{Path}
 use Rattle.syn_mid.specs.declared.path.PathSegment.{PathSegment}
 use Rattle.syn_mid.specs.declared.path.PathStyle.{PathStyle}
-use Rattle.syn_mid.specs.declared.path.PathStyle.TheVariants.{AsWritten, Mod}
+use Rattle.syn_mid.specs.declared.path.PathStyle.TheVariants.{Expr, AsWritten, Mod}
 use Rattle.syn_mid.specs.path.Paths.{Sep, segment_of, path_of}
 use Rattle.syn_mid.specs.path.Printing.{colon, segment, segments, path}
 use Rattle.syn_mid.specs.path.Spelling.{sep_chars, sep_at, IsLeading, no_leading, leading, AreSegments, last_segment, more_segments, IsBarePath, a_bare_path}
@@ -32,6 +32,7 @@ leading_again clear o l r k (leading {a = a} {b = b} c) = subst (λ z. IsLeading
 row-segment : (X : Type 0) (style : PathStyle) (i : Ident) (k : Toks) → row (segment {X = X} style (segment_of i)) k ≡ word i k
 row-segment X Mod i k = tree-ident i k
 row-segment X AsWritten i k = tree-ident i k
+row-segment X Expr i k = tree-ident i k
 
 module _ {ok : Bytes → Bool} {X : Type 0} where
   segments_again : (style : PathStyle) (clear : Bool) (all : List (PathSegment X)) (seps : List Sep) (l r k : Toks) → AreSegments clear ok all seps l r →

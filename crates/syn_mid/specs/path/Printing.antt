@@ -1,8 +1,9 @@
 -- What paths print.
-use Rattle.std.specs.Prelude.{[], ◌++◌, Option, Some, None}
+use Rattle.std.specs.Prelude.{[], ◌∷◌, ◌++◌, Option, Some, None}
 use Rattle.token_core.specs.declared.tree.Delimiter.TheVariants.{Parenthesis}
 use Rattle.token_core.specs.Prints as p
 use Rattle.token_core.specs.Prints.{Print}
+use Rattle.token_core.specs.Spans.{none}
 use Rattle.token_core.specs.Trees.{stream_of_trees}
 use Rattle.token_core.specs.Lists.{joined}
 use Rattle.token_core.specs.Loops.{Many}
@@ -13,26 +14,41 @@ use Rattle.syn_mid.specs.declared.path.PathArguments.TheVariants as a
 use Rattle.syn_mid.specs.declared.path.AngleBracketedGenericArguments.{AngleBracketedGenericArguments}
 use Rattle.syn_mid.specs.declared.path.ParenthesizedGenericArguments.{ParenthesizedGenericArguments}
 use Rattle.syn_mid.specs.declared.path.PathStyle.{PathStyle}
-use Rattle.syn_mid.specs.declared.path.PathStyle.TheVariants.{AsWritten, Mod}
+use Rattle.syn_mid.specs.declared.path.PathStyle.TheVariants.{Expr, AsWritten, Mod}
 use Rattle.syn_mid.specs.path.Paths.{Sep}
 
 abbrev pub colon : Option Sep → Print
 colon None = []
 colon (Some m) = p.mark m
 
+-- `::`, or one that stands nowhere
+abbrev pub colon_or_default : Option Sep → Print
+colon_or_default None = p.mark {n = 1} {l = 2} (record { spans = none ∷ none ∷ [] })
+colon_or_default (Some m) = p.mark m
+
 abbrev pub as_written : PathStyle
 as_written = AsWritten
+
+abbrev pub expr_style : PathStyle
+expr_style = Expr
 
 module _ {X : Type 0} where
   abbrev pub angle_bracketed : AngleBracketedGenericArguments X → Print
   angle_bracketed g = colon g.colon2_token ++ (p.mark g.lt_token ++ p.mark g.gt_token)
 
+  -- after `::`
+  abbrev pub turbofish : AngleBracketedGenericArguments X → Print
+  turbofish g = colon_or_default g.colon2_token ++ (p.mark g.lt_token ++ p.mark g.gt_token)
+
   abbrev pub parenthesized : ParenthesizedGenericArguments X → Print
   parenthesized g = p.group Parenthesis (stream_of_trees []) g.paren_token.span
 
-  -- arguments print as they stand, or not at all
+  -- arguments print as in an expression, as they stand, or not at all
   abbrev pub arguments : PathStyle → PathArguments X → Print
   arguments Mod g = []
+  arguments Expr a.None = []
+  arguments Expr (a.AngleBracketed g) = turbofish g
+  arguments Expr (a.Parenthesized g) = parenthesized g
   arguments AsWritten a.None = []
   arguments AsWritten (a.AngleBracketed g) = angle_bracketed g
   arguments AsWritten (a.Parenthesized g) = parenthesized g

@@ -1,0 +1,376 @@
+//! What patterns made by hand print.
+//!
+//! A test calls and does not branch, as docs/GATE.md says.
+
+use crate::generics_tests::{both, ident, literal, lone, pair, path, printed, says, shown, ty};
+use crate::nothing::Nothing;
+use std::alloc::Global;
+use std::marker::PhantomData;
+use syn_mid::{
+    AngleBracketedGenericArguments, Attribute, FieldPat, ParseInner, ParseOuter, Pat, PatGuard,
+    PatIdent, PatLit, PatOr, PatParen, PatReference, PatRest, PatSlice, PatStruct, PatTuple,
+    PatTupleStruct, PatType, PatWild, Path, PathArguments, PathSegment,
+};
+use token_core::token::{
+    And, At, Brace, Bracket, Colon, Comma, DotDot, Gt, If, Lt, Mut, Or, Paren, Ref, Underscore,
+};
+use token_core::{
+    Boxed, Error, Index, Items, Lit, Member, Punctuated, Span, read_all, read_all_with,
+};
+use token_text::lex;
+
+type Pattern = Pat<Nothing>;
+
+fn boxed<T: Drop>(alloc: Global, made: Result<T, Error>) -> Result<Boxed<T>, Error> {
+    Ok(Boxed::new(alloc, made?)?)
+}
+
+fn outer(alloc: Global, text: &str) -> Result<Items<Attribute<Nothing>>, Error> {
+    read_all_with(alloc, ParseOuter::<Nothing>::new(), &lex(alloc, text)?)
+}
+
+fn inner(alloc: Global, text: &str) -> Result<Items<Attribute<Nothing>>, Error> {
+    read_all_with(alloc, ParseInner::<Nothing>::new(), &lex(alloc, text)?)
+}
+
+// ---- patterns of one token
+
+fn rest_after(
+    alloc: Global,
+    attrs: Result<Items<Attribute<Nothing>>, Error>,
+) -> Result<PatRest<Nothing>, Error> {
+    Ok(PatRest {
+        attrs: attrs?,
+        dot2_token: DotDot::default(),
+    })
+}
+
+fn rest(alloc: Global) -> Result<Pattern, Error> {
+    Ok(Pat::from(rest_after(alloc, Ok(Items::new(alloc)))?))
+}
+
+fn wild(alloc: Global) -> Result<Pattern, Error> {
+    Ok(Pat::from(PatWild {
+        attrs: Items::new(alloc),
+        underscore_token: Underscore::default(),
+    }))
+}
+
+fn lit(alloc: Global, text: &str) -> Result<Pattern, Error> {
+    let lit = read_all::<Lit>(alloc, &lex(alloc, text)?)?;
+    Ok(Pat::from(PatLit {
+        attrs: Items::new(alloc),
+        lit,
+    }))
+}
+
+fn verbatim(alloc: Global, text: &str) -> Result<Pattern, Error> {
+    Ok(Pat::Verbatim(lex(alloc, text)?))
+}
+
+#[test]
+fn leaves_print(rt: HostRuntime) {
+    let alloc = rt.alloc();
+    says(&rt, shown(alloc, rest(alloc)), "..");
+    says(&rt, shown(alloc, wild(alloc)), "_");
+    says(&rt, shown(alloc, lit(alloc, "-1")), "- 1");
+    says(&rt, shown(alloc, verbatim(alloc, "box a")), "box a");
+}
+
+// ---- bindings, guards, alternatives
+
+fn name(alloc: Global, text: &str) -> Result<Pattern, Error> {
+    Ok(Pat::from(PatIdent {
+        attrs: Items::new(alloc),
+        by_ref: None,
+        mutability: None,
+        ident: ident(alloc, text)?,
+        subpat: None,
+    }))
+}
+
+/// `ref mut a @ _`
+fn binding(alloc: Global) -> Result<Pattern, Error> {
+    let (ident, subpat) = both(ident(alloc, "a"), boxed(alloc, wild(alloc)))?;
+    Ok(Pat::from(PatIdent {
+        attrs: Items::new(alloc),
+        by_ref: Some(Ref::default()),
+        mutability: Some(Mut::default()),
+        ident,
+        subpat: Some((At::default(), subpat)),
+    }))
+}
+
+fn guarded(alloc: Global) -> Result<Pattern, Error> {
+    let guard = boxed(alloc, literal(alloc, "true"));
+    let (pat, guard) = both(boxed(alloc, name(alloc, "a")), guard)?;
+    Ok(Pat::from(PatGuard {
+        attrs: Items::new(alloc),
+        pat,
+        if_token: If::default(),
+        guard,
+    }))
+}
+
+/// `| a | _`
+fn alternatives(alloc: Global) -> Result<Pattern, Error> {
+    let (first, second) = both(name(alloc, "a"), wild(alloc))?;
+    let mut cases = Punctuated::new(alloc);
+    cases.push_value(alloc, first)?;
+    cases.push_punct(Or::default())?;
+    cases.push_value(alloc, second)?;
+    Ok(Pat::from(PatOr {
+        attrs: Items::new(alloc),
+        leading_vert: Some(Or::default()),
+        cases,
+    }))
+}
+
+#[test]
+fn bindings_print(rt: HostRuntime) {
+    let alloc = rt.alloc();
+    says(&rt, shown(alloc, name(alloc, "a")), "a");
+    says(&rt, shown(alloc, binding(alloc)), "ref mut a @ _");
+    says(&rt, shown(alloc, guarded(alloc)), "a if true");
+    says(&rt, shown(alloc, alternatives(alloc)), "| a | _");
+}
+
+// ---- a pattern within
+
+fn paren(alloc: Global) -> Result<Pattern, Error> {
+    Ok(Pat::from(PatParen {
+        attrs: Items::new(alloc),
+        paren_token: Paren::default(),
+        pat: boxed(alloc, name(alloc, "a"))?,
+    }))
+}
+
+fn reference(alloc: Global) -> Result<Pattern, Error> {
+    Ok(Pat::from(PatReference {
+        attrs: Items::new(alloc),
+        and_token: And::default(),
+        mutability: Some(Mut::default()),
+        pat: boxed(alloc, name(alloc, "a"))?,
+    }))
+}
+
+fn typed(alloc: Global) -> Result<Pattern, Error> {
+    let (pat, ty) = both(boxed(alloc, name(alloc, "a")), boxed(alloc, ty(alloc, "T")))?;
+    Ok(Pat::from(PatType {
+        attrs: Items::new(alloc),
+        pat,
+        colon_token: Colon::default(),
+        ty,
+    }))
+}
+
+#[test]
+fn patterns_within_print(rt: HostRuntime) {
+    let alloc = rt.alloc();
+    says(&rt, shown(alloc, paren(alloc)), "(a)");
+    says(&rt, shown(alloc, reference(alloc)), "& mut a");
+    says(&rt, shown(alloc, typed(alloc)), "a : T");
+}
+
+// ---- lists
+
+type Elements = Punctuated<Pattern, Comma>;
+
+fn two(alloc: Global, first: Result<Pattern, Error>) -> Result<Elements, Error> {
+    let (first, second) = both(first, rest(alloc))?;
+    pair(alloc, first, second)
+}
+
+/// A list of one, with its comma.
+fn marked(alloc: Global, element: Result<Pattern, Error>) -> Result<Elements, Error> {
+    let mut list = lone(alloc, element)?;
+    list.push_punct(Comma::default())?;
+    Ok(list)
+}
+
+fn slice(alloc: Global, elems: Result<Elements, Error>) -> Result<Pattern, Error> {
+    Ok(Pat::from(PatSlice {
+        attrs: Items::new(alloc),
+        bracket_token: Bracket::default(),
+        elems: elems?,
+    }))
+}
+
+fn tuple(alloc: Global, elems: Result<Elements, Error>) -> Result<Pattern, Error> {
+    Ok(Pat::from(PatTuple {
+        attrs: Items::new(alloc),
+        paren_token: Paren::default(),
+        elems: elems?,
+    }))
+}
+
+fn tuple_struct(alloc: Global, elems: Result<Elements, Error>) -> Result<Pattern, Error> {
+    let (path, elems) = both(path(alloc, "a::B"), elems)?;
+    Ok(Pat::from(PatTupleStruct {
+        attrs: Items::new(alloc),
+        path,
+        paren_token: Paren::default(),
+        elems,
+    }))
+}
+
+#[test]
+fn lists_print(rt: HostRuntime) {
+    let alloc = rt.alloc();
+    let one = lone(alloc, name(alloc, "a"));
+    says(&rt, shown(alloc, slice(alloc, one)), "[a]");
+    let some = two(alloc, name(alloc, "a"));
+    says(&rt, shown(alloc, slice(alloc, some)), "[a , ..]");
+    let some = two(alloc, name(alloc, "a"));
+    says(
+        &rt,
+        shown(alloc, tuple_struct(alloc, some)),
+        "a :: B (a , ..)",
+    );
+    let some = two(alloc, name(alloc, "a"));
+    says(&rt, shown(alloc, tuple(alloc, some)), "(a , ..)");
+}
+
+#[test]
+fn a_tuple_of_one_gets_its_comma(rt: HostRuntime) {
+    let alloc = rt.alloc();
+    let bare = lone(alloc, name(alloc, "a"));
+    says(&rt, shown(alloc, tuple(alloc, bare)), "(a ,)");
+    let whole = marked(alloc, name(alloc, "a"));
+    says(&rt, shown(alloc, tuple(alloc, whole)), "(a ,)");
+    let left = lone(alloc, rest(alloc));
+    says(&rt, shown(alloc, tuple(alloc, left)), "(..)");
+    let left = marked(alloc, rest(alloc));
+    says(&rt, shown(alloc, tuple(alloc, left)), "(.. ,)");
+    says(
+        &rt,
+        shown(alloc, tuple(alloc, Ok(Punctuated::new(alloc)))),
+        "()",
+    );
+}
+
+// ---- structs
+
+type Fields = Punctuated<FieldPat<Nothing>, Comma>;
+
+/// A field that is its pattern alone.
+fn short(alloc: Global, text: &str) -> Result<FieldPat<Nothing>, Error> {
+    let (ident, pat) = both(ident(alloc, text), boxed(alloc, name(alloc, text)))?;
+    Ok(FieldPat {
+        attrs: Items::new(alloc),
+        member: Member::Named(ident),
+        colon_token: None,
+        pat,
+    })
+}
+
+/// `0: _`
+fn whole_field(alloc: Global) -> Result<FieldPat<Nothing>, Error> {
+    Ok(FieldPat {
+        attrs: Items::new(alloc),
+        member: Member::Unnamed(Index::new(0, Span::none())),
+        colon_token: Some(Colon::default()),
+        pat: boxed(alloc, wild(alloc))?,
+    })
+}
+
+fn with_rest(
+    alloc: Global,
+    fields: Result<Fields, Error>,
+    rest: Result<PatRest<Nothing>, Error>,
+) -> Result<Pattern, Error> {
+    let (path, (fields, rest)) = both(path(alloc, "A"), both(fields, rest))?;
+    Ok(Pat::from(PatStruct {
+        attrs: Items::new(alloc),
+        path,
+        brace_token: Brace::default(),
+        fields,
+        rest: Some(rest),
+    }))
+}
+
+fn without_rest(alloc: Global, fields: Result<Fields, Error>) -> Result<Pattern, Error> {
+    let (path, fields) = both(path(alloc, "A"), fields)?;
+    Ok(Pat::from(PatStruct {
+        attrs: Items::new(alloc),
+        path,
+        brace_token: Brace::default(),
+        fields,
+        rest: None,
+    }))
+}
+
+/// `x, 0: _`
+fn two_fields(alloc: Global) -> Result<Fields, Error> {
+    let (first, second) = both(short(alloc, "x"), whole_field(alloc))?;
+    pair(alloc, first, second)
+}
+
+fn marked_field(alloc: Global) -> Result<Fields, Error> {
+    let mut fields = lone(alloc, short(alloc, "x"))?;
+    fields.push_punct(Comma::default())?;
+    Ok(fields)
+}
+
+fn plain_rest(alloc: Global) -> Result<PatRest<Nothing>, Error> {
+    rest_after(alloc, Ok(Items::new(alloc)))
+}
+
+#[test]
+fn structs_print(rt: HostRuntime) {
+    let alloc = rt.alloc();
+    says(&rt, shown(alloc, short(alloc, "x")), "x");
+    says(&rt, shown(alloc, whole_field(alloc)), "0 : _");
+    let plain = without_rest(alloc, two_fields(alloc));
+    says(&rt, shown(alloc, plain), "A { x , 0 : _ }");
+    let whole = with_rest(alloc, two_fields(alloc), plain_rest(alloc));
+    says(&rt, shown(alloc, whole), "A { x , 0 : _ , .. }");
+    let marked = with_rest(alloc, marked_field(alloc), plain_rest(alloc));
+    says(&rt, shown(alloc, marked), "A { x , .. }");
+    let empty = with_rest(alloc, Ok(Punctuated::new(alloc)), plain_rest(alloc));
+    says(&rt, shown(alloc, empty), "A { .. }");
+}
+
+#[test]
+fn outer_attributes_print(rt: HostRuntime) {
+    let alloc = rt.alloc();
+    let left = rest_after(alloc, outer(alloc, "#[b]"));
+    says(&rt, shown(alloc, left), "# [b] ..");
+    let left = rest_after(alloc, inner(alloc, "#![b]"));
+    says(&rt, shown(alloc, left), "..");
+    let fields = lone(alloc, short(alloc, "x"));
+    let whole = with_rest(alloc, fields, rest_after(alloc, outer(alloc, "#[b]")));
+    says(&rt, shown(alloc, whole), "A { x , # [b] .. }");
+}
+
+/// `A<>`, its `::` left to the print
+fn angled(alloc: Global) -> Result<Path<Nothing>, Error> {
+    let segment = PathSegment {
+        ident: ident(alloc, "A")?,
+        arguments: PathArguments::AngleBracketed(AngleBracketedGenericArguments {
+            colon2_token: None,
+            lt_token: Lt::default(),
+            args: PhantomData,
+            gt_token: Gt::default(),
+        }),
+    };
+    Ok(Path {
+        leading_colon: None,
+        segments: lone(alloc, Ok(segment))?,
+    })
+}
+
+fn angled_struct(alloc: Global) -> Result<PatTupleStruct<Nothing>, Error> {
+    Ok(PatTupleStruct {
+        attrs: Items::new(alloc),
+        path: angled(alloc)?,
+        paren_token: Paren::default(),
+        elems: Punctuated::new(alloc),
+    })
+}
+
+#[test]
+fn paths_print_as_in_an_expression(rt: HostRuntime) {
+    let alloc = rt.alloc();
+    says(&rt, shown(alloc, angled_struct(alloc)), "A :: < > ()");
+}

@@ -1,0 +1,4 @@
+pub mod Commas
+pub mod Prints
+pub mod Normal
+pub mod Stays

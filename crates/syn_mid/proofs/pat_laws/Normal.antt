@@ -1,0 +1,133 @@
+-- The normal form of each kind of pattern and of guard.
+use Rattle.std.proofs.Common.{◌≡◌, Bool, List, [], ◌∷◌, Option, Some, None, map, refl, sym, ◌∙◌, ap, subst}
+use Rattle.token_core.specs.declared.mark.Mark.{Mark}
+use Rattle.token_core.specs.declared.word.Word.{Word}
+use Rattle.token_core.specs.declared.tree.Ident.{Ident}
+use Rattle.token_core.specs.declared.tree.TokenStream.{TokenStream}
+use Rattle.syn_mid.specs.Supplied.{Place, Value, Guard}
+use Rattle.syn_mid.specs.declared.attr.AttributeOf.{AttributeOf}
+use Rattle.syn_mid.specs.declared.attr.Meta.{Meta}
+use Rattle.syn_mid.specs.declared.attr.Meta.TheOpen as e
+use Rattle.syn_mid.specs.declared.attr.MetaNameValue.{MetaNameValue}
+use Rattle.syn_mid.specs.declared.pat.FieldPatOf.{FieldPatOf}
+use Rattle.syn_mid.specs.declared.pat.Pat.{Pat, out-Pat, map-Pat}
+use Rattle.syn_mid.specs.declared.pat.Pat.TheFolds.{fold-roll-Pat, fold_out-Pat}
+use Rattle.syn_mid.specs.declared.pat.Pat.TheOpen as o
+use Rattle.syn_mid.specs.declared.pat.Pat.TheVariants as v
+use Rattle.syn_mid.specs.declared.pat.PatGuardOf.{PatGuardOf}
+use Rattle.syn_mid.specs.declared.pat.PatIdentOf.{PatIdentOf}
+use Rattle.syn_mid.specs.declared.pat.PatOrOf.{PatOrOf}
+use Rattle.syn_mid.specs.declared.pat.PatParenOf.{PatParenOf}
+use Rattle.syn_mid.specs.declared.pat.PatReferenceOf.{PatReferenceOf}
+use Rattle.syn_mid.specs.declared.pat.PatRest.{PatRest}
+use Rattle.syn_mid.specs.declared.pat.PatSliceOf.{PatSliceOf}
+use Rattle.syn_mid.specs.declared.pat.PatStructOf.{PatStructOf}
+use Rattle.syn_mid.specs.declared.pat.PatTupleOf.{PatTupleOf}
+use Rattle.syn_mid.specs.declared.pat.PatTupleStructOf.{PatTupleStructOf}
+use Rattle.syn_mid.specs.declared.pat.PatTypeOf.{PatTypeOf}
+use Rattle.syn_mid.specs.declared.pat.PatWild.{PatWild}
+use Rattle.syn_mid.specs.declared.supplied.Expr.{Expr, out-Expr, roll-Expr, roll-out-Expr}
+use Rattle.syn_mid.specs.declared.supplied.Expr.TheVariants as expr
+use Rattle.syn_mid.specs.declared.supplied.ExprLitOf.{ExprLitOf}
+use Rattle.syn_mid.specs.generics.Normal.{many}
+use Rattle.syn_mid.specs.pat.Pats.{Attrs, is_rest, is_rest_layer, guard_of, binding_of, or_of, paren_of, reference_of, slice_of, struct_of, tuple_of, tuple_struct_of, typed_of, field_of, rest_of, wild_of, lit_of}
+use Rattle.syn_mid.specs.ty.Normal as types
+use Rattle.syn_mid.specs.ty.Types.{Comma}
+use Rattle.syn_mid.specs.pat.Normal as n
+use Rattle.syn_mid.specs.pat.Normal.{pat, pat_step}
+
+module _ {X : Type 0} (nx : Place → X → X) where
+  -- a field after its pattern
+  abbrev inside : FieldPatOf (Pat X) X → FieldPatOf (Pat X) X
+  inside x = field_of x.attrs x.member x.colon_token (pat nx x.pat)
+
+  fields_mapped : (l : List (FieldPatOf (Pat X) X)) → map (n.field_around nx) (map inside l) ≡ map (n.field nx) l
+  fields_mapped [] = refl
+  fields_mapped (x ∷ l) = ap (λ z. n.field nx x ∷ z) (fields_mapped l)
+
+  pub normal-Guard : (x : PatGuardOf (Pat X) X) → pat nx (v.Guard x) ≡ v.Guard (n.guarded nx x)
+  unfolding pat
+  normal-Guard x = ap (pat nx) (sym (v.rolls-Guard x)) ∙ fold-roll-Pat X (Pat X) (pat_step nx) (o.Guard x)
+
+  -- by the pattern after its `@`
+  binding_by : (a : Attrs X) (r : Option (Word 14)) (m : Option (Word 13)) (i : Ident) (z : Option (Mark 6 1 × Pat X)) → pat nx (v.Ident (binding_of a r m i z)) ≡ v.Ident (n.binding nx (binding_of a r m i z))
+  unfolding pat
+  binding_by a r m i None = ap (pat nx) (sym (v.rolls-Ident (binding_of a r m i None))) ∙ fold-roll-Pat X (Pat X) (pat_step nx) (o.Ident (binding_of a r m i None))
+  binding_by a r m i (Some z) = ap (pat nx) (sym (v.rolls-Ident (binding_of a r m i (Some z)))) ∙ fold-roll-Pat X (Pat X) (pat_step nx) (o.Ident (binding_of a r m i (Some z)))
+
+  pub normal-Ident : (x : PatIdentOf (Pat X) X) → pat nx (v.Ident x) ≡ v.Ident (n.binding nx x)
+  normal-Ident x = binding_by x.attrs x.by_ref x.mutability x.ident x.subpat
+
+  pub normal-Lit : (x : ExprLitOf (AttributeOf (Meta X))) → pat nx (v.Lit x) ≡ v.Lit (n.lit nx x)
+  unfolding pat
+  normal-Lit x = ap (pat nx) (sym (v.rolls-Lit x)) ∙ fold-roll-Pat X (Pat X) (pat_step nx) (o.Lit x)
+
+  pub normal-Or : (x : PatOrOf (Pat X) X) → pat nx (v.Or x) ≡ v.Or (n.alternatives nx x)
+  unfolding pat
+  normal-Or x = ap (pat nx) (sym (v.rolls-Or x)) ∙ fold-roll-Pat X (Pat X) (pat_step nx) (o.Or x)
+
+  pub normal-Paren : (x : PatParenOf (Pat X) X) → pat nx (v.Paren x) ≡ v.Paren (n.paren nx x)
+  unfolding pat
+  normal-Paren x = ap (pat nx) (sym (v.rolls-Paren x)) ∙ fold-roll-Pat X (Pat X) (pat_step nx) (o.Paren x)
+
+  pub normal-Reference : (x : PatReferenceOf (Pat X) X) → pat nx (v.Reference x) ≡ v.Reference (n.reference nx x)
+  unfolding pat
+  normal-Reference x = ap (pat nx) (sym (v.rolls-Reference x)) ∙ fold-roll-Pat X (Pat X) (pat_step nx) (o.Reference x)
+
+  pub normal-Rest : (x : PatRest X) → pat nx (v.Rest x) ≡ v.Rest (n.rest nx x)
+  unfolding pat
+  normal-Rest x = ap (pat nx) (sym (v.rolls-Rest x)) ∙ fold-roll-Pat X (Pat X) (pat_step nx) (o.Rest x)
+
+  pub normal-Slice : (x : PatSliceOf (Pat X) X) → pat nx (v.Slice x) ≡ v.Slice (n.slice nx x)
+  unfolding pat
+  normal-Slice x = ap (pat nx) (sym (v.rolls-Slice x)) ∙ fold-roll-Pat X (Pat X) (pat_step nx) (o.Slice x)
+
+  pub normal-Struct : (x : PatStructOf (Pat X) X) → pat nx (v.Struct x) ≡ v.Struct (n.fielded nx x)
+  unfolding pat
+  normal-Struct x =
+      ap (pat nx) (sym (v.rolls-Struct x)) ∙ fold-roll-Pat X (Pat X) (pat_step nx) (o.Struct x)
+      ∙ ap (λ z. v.Struct (struct_of (n.attrs nx x.attrs) x.path x.brace_token (z, x.fields.1) (n.optional_rest nx x.rest))) (fields_mapped x.fields.0)
+
+  pub normal-Tuple : (x : PatTupleOf (Pat X) X) → pat nx (v.Tuple x) ≡ v.Tuple (n.tuple nx x)
+  unfolding pat
+  normal-Tuple x = ap (pat nx) (sym (v.rolls-Tuple x)) ∙ fold-roll-Pat X (Pat X) (pat_step nx) (o.Tuple x)
+
+  pub normal-TupleStruct : (x : PatTupleStructOf (Pat X) X) → pat nx (v.TupleStruct x) ≡ v.TupleStruct (n.tuple_struct nx x)
+  unfolding pat
+  normal-TupleStruct x = ap (pat nx) (sym (v.rolls-TupleStruct x)) ∙ fold-roll-Pat X (Pat X) (pat_step nx) (o.TupleStruct x)
+
+  pub normal-Type : (x : PatTypeOf (Pat X) X) → pat nx (v.«Type» x) ≡ v.«Type» (n.typed nx x)
+  unfolding pat
+  normal-Type x = ap (pat nx) (sym (v.rolls-Type x)) ∙ fold-roll-Pat X (Pat X) (pat_step nx) (o.«Type» x)
+
+  pub normal-Verbatim : (x : TokenStream) → pat nx (v.Verbatim x) ≡ v.Verbatim x
+  unfolding pat
+  normal-Verbatim x = ap (pat nx) (sym (v.rolls-Verbatim x)) ∙ fold-roll-Pat X (Pat X) (pat_step nx) (o.Verbatim x)
+
+  pub normal-Wild : (x : PatWild X) → pat nx (v.Wild x) ≡ v.Wild (n.wild nx x)
+  unfolding pat
+  normal-Wild x = ap (pat nx) (sym (v.rolls-Wild x)) ∙ fold-roll-Pat X (Pat X) (pat_step nx) (o.Wild x)
+
+  pub normal-guard : (x : X) → n.guard nx (expr.Other x) ≡ expr.Other (nx Guard x)
+  normal-guard x = ap (n.guard_layer nx) (expr.outs-Other x)
+
+  -- a pattern stays of its kind
+  kept_layer : (y : o.Pat-F X (Pat X)) → is_rest (pat_step nx (map-Pat X (Pat X) (Pat X) (pat nx) y)) ≡ is_rest_layer y
+  kept_layer (o.Guard x) = ap is_rest_layer (v.outs-Guard _)
+  kept_layer (o.Ident x) = ap is_rest_layer (v.outs-Ident _)
+  kept_layer (o.Lit x) = ap is_rest_layer (v.outs-Lit _)
+  kept_layer (o.Or x) = ap is_rest_layer (v.outs-Or _)
+  kept_layer (o.Paren x) = ap is_rest_layer (v.outs-Paren _)
+  kept_layer (o.Reference x) = ap is_rest_layer (v.outs-Reference _)
+  kept_layer (o.Rest x) = ap is_rest_layer (v.outs-Rest _)
+  kept_layer (o.Slice x) = ap is_rest_layer (v.outs-Slice _)
+  kept_layer (o.Struct x) = ap is_rest_layer (v.outs-Struct _)
+  kept_layer (o.Tuple x) = ap is_rest_layer (v.outs-Tuple _)
+  kept_layer (o.TupleStruct x) = ap is_rest_layer (v.outs-TupleStruct _)
+  kept_layer (o.«Type» x) = ap is_rest_layer (v.outs-Type _)
+  kept_layer (o.Verbatim x) = ap is_rest_layer (v.outs-Verbatim _)
+  kept_layer (o.Wild x) = ap is_rest_layer (v.outs-Wild _)
+
+  pub kind_kept : (x : Pat X) → is_rest (pat nx x) ≡ is_rest x
+  unfolding pat
+  kind_kept x = ap is_rest (fold_out-Pat X (Pat X) (pat_step nx) x) ∙ kept_layer (out-Pat X x)

@@ -1,0 +1,3 @@
+pub mod Pats
+pub mod Printing
+pub mod Normal

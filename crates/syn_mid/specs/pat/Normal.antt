@@ -1,0 +1,119 @@
+-- The normal form of patterns: their attributes, types and supplied subtrees in theirs. Lists keep their marks, and verbatim patterns stay.
+use Rattle.std.specs.Prelude.{List, Option, Some, None, map}
+use Rattle.token_core.specs.declared.mark.Mark.{Mark}
+use Rattle.token_core.specs.Loops.{Many}
+use Rattle.syn_mid.specs.Supplied.{Place, Value, Guard}
+use Rattle.syn_mid.specs.declared.attr.AttributeOf.{AttributeOf}
+use Rattle.syn_mid.specs.declared.attr.Meta.{Meta}
+use Rattle.syn_mid.specs.declared.attr.Meta.TheOpen as e
+use Rattle.syn_mid.specs.declared.attr.MetaNameValue.{MetaNameValue}
+use Rattle.syn_mid.specs.declared.pat.FieldPatOf.{FieldPatOf}
+use Rattle.syn_mid.specs.declared.pat.Pat.{Pat}
+use Rattle.syn_mid.specs.declared.pat.Pat.TheFolds.{fold-Pat}
+use Rattle.syn_mid.specs.declared.pat.Pat.TheOpen as o
+use Rattle.syn_mid.specs.declared.pat.Pat.TheVariants as v
+use Rattle.syn_mid.specs.declared.pat.PatGuardOf.{PatGuardOf}
+use Rattle.syn_mid.specs.declared.pat.PatIdentOf.{PatIdentOf}
+use Rattle.syn_mid.specs.declared.pat.PatOrOf.{PatOrOf}
+use Rattle.syn_mid.specs.declared.pat.PatParenOf.{PatParenOf}
+use Rattle.syn_mid.specs.declared.pat.PatReferenceOf.{PatReferenceOf}
+use Rattle.syn_mid.specs.declared.pat.PatRest.{PatRest}
+use Rattle.syn_mid.specs.declared.pat.PatSliceOf.{PatSliceOf}
+use Rattle.syn_mid.specs.declared.pat.PatStructOf.{PatStructOf}
+use Rattle.syn_mid.specs.declared.pat.PatTupleOf.{PatTupleOf}
+use Rattle.syn_mid.specs.declared.pat.PatTupleStructOf.{PatTupleStructOf}
+use Rattle.syn_mid.specs.declared.pat.PatTypeOf.{PatTypeOf}
+use Rattle.syn_mid.specs.declared.pat.PatWild.{PatWild}
+use Rattle.syn_mid.specs.declared.supplied.Expr.{Expr, out-Expr}
+use Rattle.syn_mid.specs.declared.supplied.Expr.TheVariants as expr
+use Rattle.syn_mid.specs.declared.supplied.ExprLitOf.{ExprLitOf}
+use Rattle.syn_mid.specs.attr.Normal as attr
+use Rattle.syn_mid.specs.generics.Normal.{many}
+use Rattle.syn_mid.specs.pat.Pats.{Attrs, guard_of, binding_of, or_of, paren_of, reference_of, slice_of, struct_of, tuple_of, tuple_struct_of, typed_of, field_of, rest_of, wild_of, lit_of}
+use Rattle.syn_mid.specs.ty.Normal as ty
+
+module _ {X : Type 0} (normal : Place → X → X) where
+  abbrev pub attrs : Attrs X → Attrs X
+  attrs = attr.attributes (normal Value)
+
+  abbrev pub guard_layer : e.Expr-F X (Meta X) (Expr X) (MetaNameValue X) → Expr X
+  guard_layer (e.Lit x) = expr.Lit x
+  guard_layer (e.Other x) = expr.Other (normal Guard x)
+
+  -- a guard; an admitted one is a supplied subtree
+  abbrev pub guard : Expr X → Expr X
+  guard x = guard_layer (out-Expr X x)
+
+  abbrev pub lit : ExprLitOf (AttributeOf (Meta X)) → ExprLitOf (AttributeOf (Meta X))
+  lit x = lit_of (attrs x.attrs) x.lit
+
+  abbrev pub rest : PatRest X → PatRest X
+  rest x = rest_of (attrs x.attrs) x.dot2_token
+
+  abbrev pub wild : PatWild X → PatWild X
+  wild x = wild_of (attrs x.attrs) x.underscore_token
+
+  abbrev pub optional_rest : Option (PatRest X) → Option (PatRest X)
+  optional_rest None = None
+  optional_rest (Some x) = Some (rest x)
+
+  -- a field whose pattern is in its normal form
+  abbrev pub field_around : FieldPatOf (Pat X) X → FieldPatOf (Pat X) X
+  field_around x = field_of (attrs x.attrs) x.member x.colon_token x.pat
+
+  -- a pattern whose patterns within are in their normal form
+  abbrev pub pat_step : o.Pat-F X (Pat X) → Pat X
+  pat_step (o.Guard x) = v.Guard (guard_of (attrs x.attrs) x.pat x.if_token (guard x.guard))
+  pat_step (o.Ident x) = v.Ident (binding_of (attrs x.attrs) x.by_ref x.mutability x.ident x.subpat)
+  pat_step (o.Lit x) = v.Lit (lit x)
+  pat_step (o.Or x) = v.Or (or_of (attrs x.attrs) x.leading_vert x.cases)
+  pat_step (o.Paren x) = v.Paren (paren_of (attrs x.attrs) x.paren_token x.pat)
+  pat_step (o.Reference x) = v.Reference (reference_of (attrs x.attrs) x.and_token x.mutability x.pat)
+  pat_step (o.Rest x) = v.Rest (rest x)
+  pat_step (o.Slice x) = v.Slice (slice_of (attrs x.attrs) x.bracket_token x.elems)
+  pat_step (o.Struct x) = v.Struct (struct_of (attrs x.attrs) x.path x.brace_token (many field_around x.fields) (optional_rest x.rest))
+  pat_step (o.Tuple x) = v.Tuple (tuple_of (attrs x.attrs) x.paren_token x.elems)
+  pat_step (o.TupleStruct x) = v.TupleStruct (tuple_struct_of (attrs x.attrs) x.path x.paren_token x.elems)
+  pat_step (o.«Type» x) = v.«Type» (typed_of (attrs x.attrs) x.pat x.colon_token (ty.ty normal x.ty))
+  pat_step (o.Verbatim x) = v.Verbatim x
+  pat_step (o.Wild x) = v.Wild (wild x)
+
+  unfoldable pub pat : Pat X → Pat X
+  pat = fold-Pat X (Pat X) pat_step
+
+  abbrev pub subpattern : Option (Mark 6 1 × Pat X) → Option (Mark 6 1 × Pat X)
+  subpattern None = None
+  subpattern (Some s) = Some (s.0, pat s.1)
+
+  abbrev pub field : FieldPatOf (Pat X) X → FieldPatOf (Pat X) X
+  field x = field_of (attrs x.attrs) x.member x.colon_token (pat x.pat)
+
+  abbrev pub guarded : PatGuardOf (Pat X) X → PatGuardOf (Pat X) X
+  guarded x = guard_of (attrs x.attrs) (pat x.pat) x.if_token (guard x.guard)
+
+  abbrev pub binding : PatIdentOf (Pat X) X → PatIdentOf (Pat X) X
+  binding x = binding_of (attrs x.attrs) x.by_ref x.mutability x.ident (subpattern x.subpat)
+
+  abbrev pub alternatives : PatOrOf (Pat X) X → PatOrOf (Pat X) X
+  alternatives x = or_of (attrs x.attrs) x.leading_vert (many (pat) x.cases)
+
+  abbrev pub paren : PatParenOf (Pat X) X → PatParenOf (Pat X) X
+  paren x = paren_of (attrs x.attrs) x.paren_token (pat x.pat)
+
+  abbrev pub reference : PatReferenceOf (Pat X) X → PatReferenceOf (Pat X) X
+  reference x = reference_of (attrs x.attrs) x.and_token x.mutability (pat x.pat)
+
+  abbrev pub slice : PatSliceOf (Pat X) X → PatSliceOf (Pat X) X
+  slice x = slice_of (attrs x.attrs) x.bracket_token (many (pat) x.elems)
+
+  abbrev pub fielded : PatStructOf (Pat X) X → PatStructOf (Pat X) X
+  fielded x = struct_of (attrs x.attrs) x.path x.brace_token (many (field) x.fields) (optional_rest x.rest)
+
+  abbrev pub tuple : PatTupleOf (Pat X) X → PatTupleOf (Pat X) X
+  tuple x = tuple_of (attrs x.attrs) x.paren_token (many (pat) x.elems)
+
+  abbrev pub tuple_struct : PatTupleStructOf (Pat X) X → PatTupleStructOf (Pat X) X
+  tuple_struct x = tuple_struct_of (attrs x.attrs) x.path x.paren_token (many (pat) x.elems)
+
+  abbrev pub typed : PatTypeOf (Pat X) X → PatTypeOf (Pat X) X
+  typed x = typed_of (attrs x.attrs) (pat x.pat) x.colon_token (ty.ty normal x.ty)

@@ -1,0 +1,99 @@
+-- Patterns by their parts.
+use Rattle.std.specs.Prelude.{Bool, true, false, List, Option}
+use Rattle.token_core.specs.declared.mark.Mark.{Mark}
+use Rattle.token_core.specs.declared.member.Member.{Member}
+use Rattle.token_core.specs.declared.lit.Lit.{Lit}
+use Rattle.token_core.specs.declared.tree.Ident.{Ident}
+use Rattle.token_core.specs.declared.token.Brace.{Brace}
+use Rattle.token_core.specs.declared.token.Bracket.{Bracket}
+use Rattle.token_core.specs.declared.token.Paren.{Paren}
+use Rattle.token_core.specs.declared.word.Word.{Word}
+use Rattle.token_core.specs.Loops.{Many}
+use Rattle.syn_mid.specs.declared.attr.AttributeOf.{AttributeOf}
+use Rattle.syn_mid.specs.declared.attr.Meta.{Meta}
+use Rattle.syn_mid.specs.declared.path.Path.{Path}
+use Rattle.syn_mid.specs.declared.pat.FieldPatOf.{FieldPatOf}
+use Rattle.syn_mid.specs.declared.pat.Pat.{Pat, out-Pat}
+use Rattle.syn_mid.specs.declared.pat.Pat.TheOpen as o
+use Rattle.syn_mid.specs.declared.pat.PatGuardOf.{PatGuardOf}
+use Rattle.syn_mid.specs.declared.pat.PatIdentOf.{PatIdentOf}
+use Rattle.syn_mid.specs.declared.pat.PatOrOf.{PatOrOf}
+use Rattle.syn_mid.specs.declared.pat.PatParenOf.{PatParenOf}
+use Rattle.syn_mid.specs.declared.pat.PatReferenceOf.{PatReferenceOf}
+use Rattle.syn_mid.specs.declared.pat.PatRest.{PatRest}
+use Rattle.syn_mid.specs.declared.pat.PatSliceOf.{PatSliceOf}
+use Rattle.syn_mid.specs.declared.pat.PatStructOf.{PatStructOf}
+use Rattle.syn_mid.specs.declared.pat.PatTupleOf.{PatTupleOf}
+use Rattle.syn_mid.specs.declared.pat.PatTupleStructOf.{PatTupleStructOf}
+use Rattle.syn_mid.specs.declared.pat.PatTypeOf.{PatTypeOf}
+use Rattle.syn_mid.specs.declared.pat.PatWild.{PatWild}
+use Rattle.syn_mid.specs.declared.supplied.Expr.{Expr}
+use Rattle.syn_mid.specs.declared.supplied.ExprLitOf.{ExprLitOf}
+use Rattle.syn_mid.specs.declared.ty.Type.{«Type» as TypeTree}
+use Rattle.syn_mid.specs.ty.Types.{Comma}
+
+abbrev pub Attrs : Type 0 → Type 0
+Attrs X = List (AttributeOf (Meta X))
+
+abbrev pub guard_of : {P X : Type 0} → Attrs X → P → Word 11 → Expr X → PatGuardOf P X
+guard_of a b c d = record { attrs = a; pat = b; if_token = c; guard = d }
+
+abbrev pub binding_of : {P X : Type 0} → Attrs X → Option (Word 14) → Option (Word 13) → Ident → Option (Mark 6 1 × P) → PatIdentOf P X
+binding_of a b c d e = record { attrs = a; by_ref = b; mutability = c; ident = d; subpat = e }
+
+abbrev pub lit_of : {X : Type 0} → Attrs X → Lit → ExprLitOf (AttributeOf (Meta X))
+lit_of a b = record { attrs = a; lit = b }
+
+abbrev pub or_of : {P X : Type 0} → Attrs X → Option (Mark 17 1) → Many P (Mark 17 1) → PatOrOf P X
+or_of a b c = record { attrs = a; leading_vert = b; cases = c }
+
+abbrev pub paren_of : {P X : Type 0} → Attrs X → Paren → P → PatParenOf P X
+paren_of a b c = record { attrs = a; paren_token = b; pat = c }
+
+abbrev pub reference_of : {P X : Type 0} → Attrs X → Mark 5 1 → Option (Word 13) → P → PatReferenceOf P X
+reference_of a b c d = record { attrs = a; and_token = b; mutability = c; pat = d }
+
+abbrev pub rest_of : {X : Type 0} → Attrs X → Mark 8 2 → PatRest X
+rest_of a b = record { attrs = a; dot2_token = b }
+
+abbrev pub slice_of : {P X : Type 0} → Attrs X → Bracket → Many P Comma → PatSliceOf P X
+slice_of a b c = record { attrs = a; bracket_token = b; elems = c }
+
+abbrev pub field_of : {P X : Type 0} → Attrs X → Member → Option (Mark 7 1) → P → FieldPatOf P X
+field_of a b c d = record { attrs = a; member = b; colon_token = c; pat = d }
+
+abbrev pub struct_of : {P X : Type 0} → Attrs X → Path X → Brace → Many (FieldPatOf P X) Comma → Option (PatRest X) → PatStructOf P X
+struct_of a b c d e = record { attrs = a; path = b; brace_token = c; fields = d; rest = e }
+
+abbrev pub tuple_of : {P X : Type 0} → Attrs X → Paren → Many P Comma → PatTupleOf P X
+tuple_of a b c = record { attrs = a; paren_token = b; elems = c }
+
+abbrev pub tuple_struct_of : {P X : Type 0} → Attrs X → Path X → Paren → Many P Comma → PatTupleStructOf P X
+tuple_struct_of a b c d = record { attrs = a; path = b; paren_token = c; elems = d }
+
+abbrev pub typed_of : {P X : Type 0} → Attrs X → P → Mark 7 1 → TypeTree X → PatTypeOf P X
+typed_of a b c d = record { attrs = a; pat = b; colon_token = c; ty = d }
+
+abbrev pub wild_of : {X : Type 0} → Attrs X → Word 19 → PatWild X
+wild_of a b = record { attrs = a; underscore_token = b }
+
+module _ {X : Type 0} where
+  abbrev pub is_rest_layer : {T : Type 0} → o.Pat-F X T → Bool
+  is_rest_layer (o.Guard x) = false
+  is_rest_layer (o.Ident x) = false
+  is_rest_layer (o.Lit x) = false
+  is_rest_layer (o.Or x) = false
+  is_rest_layer (o.Paren x) = false
+  is_rest_layer (o.Reference x) = false
+  is_rest_layer (o.Rest x) = true
+  is_rest_layer (o.Slice x) = false
+  is_rest_layer (o.Struct x) = false
+  is_rest_layer (o.Tuple x) = false
+  is_rest_layer (o.TupleStruct x) = false
+  is_rest_layer (o.«Type» x) = false
+  is_rest_layer (o.Verbatim x) = false
+  is_rest_layer (o.Wild x) = false
+
+  -- whether it is `..`
+  abbrev pub is_rest : Pat X → Bool
+  is_rest x = is_rest_layer (out-Pat X x)

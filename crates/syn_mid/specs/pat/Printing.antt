@@ -1,0 +1,233 @@
+-- What patterns print.
+use Rattle.std.specs.Prelude.{ℕ, Bool, if◌then◌else◌, List, [], ◌∷◌, ◌++◌, Option, Some, None}
+use Rattle.token_core.specs.declared.mark.Mark.{Mark}
+use Rattle.token_core.specs.declared.member.Member.{Member}
+use Rattle.token_core.specs.declared.word.Word.{Word}
+use Rattle.token_core.specs.declared.tree.Delimiter.TheVariants.{Parenthesis, Brace, Bracket}
+use Rattle.token_core.specs.Lists.{joined}
+use Rattle.token_core.specs.Loops.{Many}
+use Rattle.token_core.specs.Members as members
+use Rattle.token_core.specs.Prints as p
+use Rattle.token_core.specs.Prints.{Print}
+use Rattle.token_core.specs.Trees.{trees, stream_of_trees}
+use Rattle.syn_mid.specs.Supplied.{Place, Guard, Value}
+use Rattle.syn_mid.specs.declared.attr.AttributeOf.{AttributeOf}
+use Rattle.syn_mid.specs.declared.attr.Meta.{Meta}
+use Rattle.syn_mid.specs.declared.attr.Meta.TheOpen as e
+use Rattle.syn_mid.specs.declared.attr.MetaNameValue.{MetaNameValue}
+use Rattle.syn_mid.specs.declared.supplied.Expr.{Expr, out-Expr}
+use Rattle.syn_mid.specs.declared.supplied.ExprLitOf.{ExprLitOf}
+use Rattle.syn_mid.specs.declared.pat.FieldPatOf.{FieldPatOf}
+use Rattle.syn_mid.specs.declared.pat.Pat.{Pat}
+use Rattle.syn_mid.specs.declared.pat.Pat.TheOpen as o
+use Rattle.syn_mid.specs.declared.pat.Pat.TheFolds.{fold-Pat}
+use Rattle.syn_mid.specs.declared.pat.PatGuardOf.{PatGuardOf}
+use Rattle.syn_mid.specs.declared.pat.PatIdentOf.{PatIdentOf}
+use Rattle.syn_mid.specs.declared.pat.PatOrOf.{PatOrOf}
+use Rattle.syn_mid.specs.declared.pat.PatParenOf.{PatParenOf}
+use Rattle.syn_mid.specs.declared.pat.PatReferenceOf.{PatReferenceOf}
+use Rattle.syn_mid.specs.declared.pat.PatRest.{PatRest}
+use Rattle.syn_mid.specs.declared.pat.PatSliceOf.{PatSliceOf}
+use Rattle.syn_mid.specs.declared.pat.PatStructOf.{PatStructOf}
+use Rattle.syn_mid.specs.declared.pat.PatTupleOf.{PatTupleOf}
+use Rattle.syn_mid.specs.declared.pat.PatTupleStructOf.{PatTupleStructOf}
+use Rattle.syn_mid.specs.declared.pat.PatTypeOf.{PatTypeOf}
+use Rattle.syn_mid.specs.declared.pat.PatWild.{PatWild}
+use Rattle.syn_mid.specs.attr.Printing.{literal_by, meta, outer_by}
+use Rattle.syn_mid.specs.generics.Printing.{optional}
+use Rattle.syn_mid.specs.pat.Pats.{is_rest, is_rest_layer}
+use Rattle.syn_mid.specs.path.Printing.{path, expr_style}
+use Rattle.syn_mid.specs.ty.Printing as ty
+use Rattle.syn_mid.specs.ty.Printing.{comma}
+use Rattle.syn_mid.specs.ty.Types.{Comma}
+
+-- a word, or nothing
+abbrev pub optional_word : {n : ℕ} → Option (Word n) → Print
+optional_word None = []
+optional_word (Some w) = p.word w
+
+-- a comma after a last member that has none
+abbrev pub last_comma : {T : Type 0} → List T → List Comma → Print
+last_comma [] cs = []
+last_comma (x ∷ all) [] = p.mark comma
+last_comma (x ∷ all) (c ∷ cs) = last_comma all cs
+
+-- a comma after a lone element that has none, which sets the tuple apart from a pattern in parentheses, unless the element is `..`
+abbrev pub tuple_comma : {T : Type 0} → (T → Bool) → List T → List Comma → Print
+tuple_comma rest [] cs = []
+tuple_comma rest (x ∷ []) [] = if rest x then [] else p.mark comma
+tuple_comma rest (x ∷ []) (c ∷ cs) = []
+tuple_comma rest (x ∷ y ∷ all) cs = []
+
+-- what a supplied subtree prints in a place is given
+module _ {X : Type 0} (prints : Place → X → Print) where
+  abbrev pub attrs : List (AttributeOf (Meta X)) → Print
+  attrs = outer_by (meta (prints Value))
+
+  abbrev pub guard_layer : e.Expr-F X (Meta X) (Expr X) (MetaNameValue X) → Print
+  guard_layer (e.Lit x) = literal_by (meta (prints Value)) x
+  guard_layer (e.Other x) = prints Guard x
+
+  -- a guard: a literal after its outer attributes, or a supplied subtree
+  abbrev pub guard : Expr X → Print
+  guard x = guard_layer (out-Expr X x)
+
+  abbrev pub lit : ExprLitOf (AttributeOf (Meta X)) → Print
+  lit = literal_by (meta (prints Value))
+
+  abbrev pub rest : PatRest X → Print
+  rest x = attrs x.attrs ++ p.mark x.dot2_token
+
+  abbrev pub wild : PatWild X → Print
+  wild x = attrs x.attrs ++ p.word x.underscore_token
+
+  -- the `..` of a struct's pattern
+  abbrev pub optional_rest : Option (PatRest X) → Print
+  optional_rest None = []
+  optional_rest (Some x) = rest x
+
+  -- its comma, which sets it apart from the last field
+  abbrev pub rest_comma : {T : Type 0} → Option (PatRest X) → Many T Comma → Print
+  rest_comma None v = []
+  rest_comma (Some x) v = last_comma v.0 v.1
+
+  abbrev pub struct_rest : {P : Type 0} → PatStructOf P X → Print
+  struct_rest x = rest_comma x.rest x.fields ++ optional_rest x.rest
+
+  -- a binding before its `@`
+  abbrev pub name : {P : Type 0} → PatIdentOf P X → Print
+  name x = attrs x.attrs ++ (optional_word x.by_ref ++ (optional_word x.mutability ++ p.ident x.ident))
+
+  -- the member of a field that has a colon
+  abbrev pub colon_member : Member → Option (Mark 7 1) → Print
+  colon_member m None = []
+  colon_member m (Some c) = members.print m ++ p.mark c
+
+  -- a field before its pattern
+  abbrev pub member : {P : Type 0} → FieldPatOf P X → Print
+  member x = attrs x.attrs ++ colon_member x.member x.colon_token
+
+  -- ---- by the print of the patterns within
+
+  module _ {P : Type 0} (print : P → Print) where
+    abbrev pub guarded_by : PatGuardOf P X → Print
+    guarded_by x = attrs x.attrs ++ (print x.pat ++ (p.word x.if_token ++ guard x.guard))
+
+    abbrev pub subpattern_by : Option (Mark 6 1 × P) → Print
+    subpattern_by None = []
+    subpattern_by (Some s) = p.mark s.0 ++ print s.1
+
+    abbrev pub binding_by : PatIdentOf P X → Print
+    binding_by x = name x ++ subpattern_by x.subpat
+
+    -- each pattern with its mark
+    abbrev pub list_by : {n : ℕ} → Many P (Mark n 1) → Print
+    list_by v = joined print p.mark v.0 v.1
+
+    abbrev pub alternatives_by : PatOrOf P X → Print
+    alternatives_by x = attrs x.attrs ++ (optional x.leading_vert ++ list_by x.cases)
+
+    abbrev pub paren_by : PatParenOf P X → Print
+    paren_by x = attrs x.attrs ++ p.group Parenthesis (stream_of_trees (print x.pat)) x.paren_token.span
+
+    abbrev pub reference_by : PatReferenceOf P X → Print
+    reference_by x = attrs x.attrs ++ (p.mark x.and_token ++ (optional_word x.mutability ++ print x.pat))
+
+    abbrev pub slice_by : PatSliceOf P X → Print
+    slice_by x = attrs x.attrs ++ p.group Bracket (stream_of_trees (list_by x.elems)) x.bracket_token.span
+
+    abbrev pub field_by : FieldPatOf P X → Print
+    field_by x = member x ++ print x.pat
+
+    -- each field with its comma
+    abbrev pub fields_by : Many (FieldPatOf P X) Comma → Print
+    fields_by v = joined field_by p.mark v.0 v.1
+
+    abbrev pub struct_by : PatStructOf P X → Print
+    struct_by x = attrs x.attrs ++ (path expr_style x.path ++ p.group Brace (stream_of_trees (fields_by x.fields ++ struct_rest x)) x.brace_token.span)
+
+    -- it is given which patterns are `..`
+    abbrev pub tuple_by : (P → Bool) → PatTupleOf P X → Print
+    tuple_by rest x = attrs x.attrs ++ p.group Parenthesis (stream_of_trees (list_by x.elems ++ tuple_comma rest x.elems.0 x.elems.1)) x.paren_token.span
+
+    abbrev pub tuple_struct_by : PatTupleStructOf P X → Print
+    tuple_struct_by x = attrs x.attrs ++ (path expr_style x.path ++ p.group Parenthesis (stream_of_trees (list_by x.elems)) x.paren_token.span)
+
+    abbrev pub typed_by : PatTypeOf P X → Print
+    typed_by x = attrs x.attrs ++ (print x.pat ++ (p.mark x.colon_token ++ ty.ty prints x.ty))
+
+  -- ---- trees
+
+  -- a pattern's print, and whether the pattern is `..`
+  abbrev pub Printed : Type 0
+  Printed = Print × Bool
+
+  abbrev pub print_of : Printed → Print
+  print_of z = z.0
+
+  abbrev pub rest_of : Printed → Bool
+  rest_of z = z.1
+
+  abbrev pub pat_layer : o.Pat-F X Printed → Print
+  pat_layer (o.Guard x) = guarded_by print_of x
+  pat_layer (o.Ident x) = binding_by print_of x
+  pat_layer (o.Lit x) = lit x
+  pat_layer (o.Or x) = alternatives_by print_of x
+  pat_layer (o.Paren x) = paren_by print_of x
+  pat_layer (o.Reference x) = reference_by print_of x
+  pat_layer (o.Rest x) = rest x
+  pat_layer (o.Slice x) = slice_by print_of x
+  pat_layer (o.Struct x) = struct_by print_of x
+  pat_layer (o.Tuple x) = tuple_by print_of rest_of x
+  pat_layer (o.TupleStruct x) = tuple_struct_by print_of x
+  pat_layer (o.«Type» x) = typed_by print_of x
+  pat_layer (o.Verbatim x) = trees x
+  pat_layer (o.Wild x) = wild x
+
+  abbrev pub pat_step : o.Pat-F X Printed → Printed
+  pat_step x = (pat_layer x, is_rest_layer x)
+
+  unfoldable pub printed : Pat X → Printed
+  printed = fold-Pat X Printed pat_step
+
+  unfoldable pub pat : Pat X → Print
+  pat x = (printed x).0
+
+  abbrev pub guarded : PatGuardOf (Pat X) X → Print
+  guarded = guarded_by pat
+
+  abbrev pub binding : PatIdentOf (Pat X) X → Print
+  binding = binding_by pat
+
+  abbrev pub list : {n : ℕ} → Many (Pat X) (Mark n 1) → Print
+  list = list_by pat
+
+  abbrev pub alternatives : PatOrOf (Pat X) X → Print
+  alternatives = alternatives_by pat
+
+  abbrev pub paren : PatParenOf (Pat X) X → Print
+  paren = paren_by pat
+
+  abbrev pub reference : PatReferenceOf (Pat X) X → Print
+  reference = reference_by pat
+
+  abbrev pub slice : PatSliceOf (Pat X) X → Print
+  slice = slice_by pat
+
+  abbrev pub field : FieldPatOf (Pat X) X → Print
+  field = field_by pat
+
+  abbrev pub fields : Many (FieldPatOf (Pat X) X) Comma → Print
+  fields = fields_by pat
+
+  abbrev pub fielded : PatStructOf (Pat X) X → Print
+  fielded = struct_by pat
+
+  abbrev pub tuple : PatTupleOf (Pat X) X → Print
+  tuple = tuple_by pat is_rest
+
+  abbrev pub tuple_struct : PatTupleStructOf (Pat X) X → Print
+  tuple_struct = tuple_struct_by pat
+
+  abbrev pub typed : PatTypeOf (Pat X) X → Print
+  typed = typed_by pat
