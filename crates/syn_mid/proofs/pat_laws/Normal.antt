@@ -1,14 +1,12 @@
 -- The normal form of each kind of pattern and of guard.
-use Rattle.std.proofs.Common.{◌≡◌, Bool, List, [], ◌∷◌, Option, Some, None, map, refl, sym, ◌∙◌, ap, subst}
+use Rattle.std.proofs.Common.{◌≡◌, List, [], ◌∷◌, Option, Some, None, map, refl, sym, ◌∙◌, ap}
 use Rattle.token_core.specs.declared.mark.Mark.{Mark}
 use Rattle.token_core.specs.declared.word.Word.{Word}
 use Rattle.token_core.specs.declared.tree.Ident.{Ident}
 use Rattle.token_core.specs.declared.tree.TokenStream.{TokenStream}
-use Rattle.syn_mid.specs.Supplied.{Place, Value, Guard}
+use Rattle.syn_mid.specs.Supplied.{Place, Guard}
 use Rattle.syn_mid.specs.declared.attr.AttributeOf.{AttributeOf}
 use Rattle.syn_mid.specs.declared.attr.Meta.{Meta}
-use Rattle.syn_mid.specs.declared.attr.Meta.TheOpen as e
-use Rattle.syn_mid.specs.declared.attr.MetaNameValue.{MetaNameValue}
 use Rattle.syn_mid.specs.declared.pat.FieldPatOf.{FieldPatOf}
 use Rattle.syn_mid.specs.declared.pat.Pat.{Pat, out-Pat, map-Pat}
 use Rattle.syn_mid.specs.declared.pat.Pat.TheFolds.{fold-roll-Pat, fold_out-Pat}
@@ -26,13 +24,9 @@ use Rattle.syn_mid.specs.declared.pat.PatTupleOf.{PatTupleOf}
 use Rattle.syn_mid.specs.declared.pat.PatTupleStructOf.{PatTupleStructOf}
 use Rattle.syn_mid.specs.declared.pat.PatTypeOf.{PatTypeOf}
 use Rattle.syn_mid.specs.declared.pat.PatWild.{PatWild}
-use Rattle.syn_mid.specs.declared.supplied.Expr.{Expr, out-Expr, roll-Expr, roll-out-Expr}
 use Rattle.syn_mid.specs.declared.supplied.Expr.TheVariants as expr
 use Rattle.syn_mid.specs.declared.supplied.ExprLitOf.{ExprLitOf}
-use Rattle.syn_mid.specs.generics.Normal.{many}
-use Rattle.syn_mid.specs.pat.Pats.{Attrs, is_rest, is_rest_layer, guard_of, binding_of, or_of, paren_of, reference_of, slice_of, struct_of, tuple_of, tuple_struct_of, typed_of, field_of, rest_of, wild_of, lit_of}
-use Rattle.syn_mid.specs.ty.Normal as types
-use Rattle.syn_mid.specs.ty.Types.{Comma}
+use Rattle.syn_mid.specs.pat.Pats.{Attrs, is_rest, is_rest_layer, binding_of, struct_of, field_of}
 use Rattle.syn_mid.specs.pat.Normal as n
 use Rattle.syn_mid.specs.pat.Normal.{pat, pat_step}
 

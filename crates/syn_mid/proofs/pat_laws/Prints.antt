@@ -12,7 +12,6 @@ use Rattle.token_core.specs.Trees.{trees, stream_of_trees}
 use Rattle.syn_mid.specs.Supplied.{Place, Guard, Value}
 use Rattle.syn_mid.specs.declared.attr.AttributeOf.{AttributeOf}
 use Rattle.syn_mid.specs.declared.attr.Meta.{Meta}
-use Rattle.syn_mid.specs.declared.supplied.Expr.{Expr}
 use Rattle.syn_mid.specs.declared.supplied.Expr.TheVariants as e
 use Rattle.syn_mid.specs.declared.supplied.ExprLitOf.{ExprLitOf}
 use Rattle.syn_mid.specs.declared.pat.FieldPatOf.{FieldPatOf}

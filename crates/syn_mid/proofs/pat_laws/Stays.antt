@@ -1,10 +1,8 @@
 -- On every pattern, the normal form is its own and prints the same, where that of a supplied subtree does.
-use Rattle.std.proofs.Common.{◌≡◌, Bool, List, [], ◌∷◌, ◌++◌, Option, Some, None, map, refl, sym, ◌∙◌, ap, subst}
-use Rattle.token_core.specs.Lists.{joined}
-use Rattle.token_core.specs.Members as members
+use Rattle.std.proofs.Common.{◌≡◌, List, [], ◌∷◌, ◌++◌, Option, Some, None, map, refl, sym, ◌∙◌, ap, subst}
 use Rattle.token_core.specs.Prints as p
 use Rattle.token_core.specs.Prints.{Print}
-use Rattle.token_core.specs.Trees.{trees, stream_of_trees}
+use Rattle.token_core.specs.Trees.{stream_of_trees}
 use Rattle.token_core.specs.declared.mark.Mark.{Mark}
 use Rattle.token_core.specs.declared.tree.Delimiter.TheVariants.{Parenthesis, Brace, Bracket}
 use Rattle.token_core.specs.declared.tree.Ident.{Ident}
@@ -19,23 +17,12 @@ use Rattle.syn_mid.specs.declared.pat.Pat.{Pat, roll-Pat, map-Pat}
 use Rattle.syn_mid.specs.declared.pat.Pat.TheFolds.{ind-Pat}
 use Rattle.syn_mid.specs.declared.pat.Pat.TheOpen as o
 use Rattle.syn_mid.specs.declared.pat.Pat.TheVariants as v
-use Rattle.syn_mid.specs.declared.pat.PatGuardOf.{PatGuardOf}
-use Rattle.syn_mid.specs.declared.pat.PatIdentOf.{PatIdentOf}
-use Rattle.syn_mid.specs.declared.pat.PatOrOf.{PatOrOf}
-use Rattle.syn_mid.specs.declared.pat.PatParenOf.{PatParenOf}
-use Rattle.syn_mid.specs.declared.pat.PatReferenceOf.{PatReferenceOf}
 use Rattle.syn_mid.specs.declared.pat.PatRest.{PatRest}
-use Rattle.syn_mid.specs.declared.pat.PatSliceOf.{PatSliceOf}
-use Rattle.syn_mid.specs.declared.pat.PatStructOf.{PatStructOf}
-use Rattle.syn_mid.specs.declared.pat.PatTupleOf.{PatTupleOf}
-use Rattle.syn_mid.specs.declared.pat.PatTupleStructOf.{PatTupleStructOf}
-use Rattle.syn_mid.specs.declared.pat.PatTypeOf.{PatTypeOf}
 use Rattle.syn_mid.specs.declared.pat.PatWild.{PatWild}
 use Rattle.syn_mid.specs.declared.supplied.Expr.{Expr, out-Expr, roll-Expr, roll-out-Expr}
 use Rattle.syn_mid.specs.declared.supplied.Expr.TheVariants as expr
 use Rattle.syn_mid.specs.declared.supplied.ExprLitOf.{ExprLitOf}
-use Rattle.syn_mid.specs.generics.Normal.{many}
-use Rattle.syn_mid.specs.pat.Pats.{Attrs, is_rest, is_rest_layer, guard_of, binding_of, or_of, paren_of, reference_of, slice_of, struct_of, tuple_of, tuple_struct_of, typed_of, field_of, rest_of, wild_of, lit_of}
+use Rattle.syn_mid.specs.pat.Pats.{Attrs, is_rest, guard_of, binding_of, or_of, paren_of, reference_of, slice_of, struct_of, tuple_of, tuple_struct_of, typed_of, field_of, rest_of, wild_of, lit_of}
 use Rattle.syn_mid.specs.ty.Normal as types
 use Rattle.syn_mid.specs.ty.Types.{Comma}
 use Rattle.syn_mid.specs.generics.Printing.{optional}
@@ -49,7 +36,7 @@ use Rattle.syn_mid.proofs.attr_laws.Normal.{attributes_stay, outer_same}
 use Rattle.syn_mid.proofs.ty_laws.Each.{Each, each_held, map_stays, joined_same}
 use Rattle.syn_mid.proofs.ty_laws.Stays.{ty_stays, ty_same}
 use Rattle.syn_mid.proofs.pat_laws.Normal.{normal-Guard, normal-Ident, normal-Lit, normal-Or, normal-Paren, normal-Reference, normal-Rest, normal-Slice, normal-Struct, normal-Tuple, normal-TupleStruct, normal-Type, normal-Verbatim, normal-Wild, normal-guard, kind_kept}
-use Rattle.syn_mid.proofs.pat_laws.Prints.{pat-Guard, pat-Ident, pat-Lit, pat-Or, pat-Paren, pat-Reference, pat-Rest, pat-Slice, pat-Struct, pat-Tuple, pat-TupleStruct, pat-Type, pat-Verbatim, pat-Wild, guard-Other, last_mapped, rest_mapped, tuple_mapped, tuple_same}
+use Rattle.syn_mid.proofs.pat_laws.Prints.{pat-Guard, pat-Ident, pat-Lit, pat-Or, pat-Paren, pat-Reference, pat-Rest, pat-Slice, pat-Struct, pat-Tuple, pat-TupleStruct, pat-Type, pat-Wild, guard-Other, last_mapped, tuple_mapped, tuple_same}
 
 module _ {X : Type 0} (nx : Place → X → X) (own : (w : Place) (x : X) → nx w (nx w x) ≡ nx w x) where
   attrs_stay : (l : Attrs X) → n.attrs nx (n.attrs nx l) ≡ n.attrs nx l

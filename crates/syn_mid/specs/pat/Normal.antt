@@ -1,7 +1,6 @@
 -- The normal form of patterns: their attributes, types and supplied subtrees in theirs. Lists keep their marks, and verbatim patterns stay.
-use Rattle.std.specs.Prelude.{List, Option, Some, None, map}
+use Rattle.std.specs.Prelude.{Option, Some, None}
 use Rattle.token_core.specs.declared.mark.Mark.{Mark}
-use Rattle.token_core.specs.Loops.{Many}
 use Rattle.syn_mid.specs.Supplied.{Place, Value, Guard}
 use Rattle.syn_mid.specs.declared.attr.AttributeOf.{AttributeOf}
 use Rattle.syn_mid.specs.declared.attr.Meta.{Meta}
