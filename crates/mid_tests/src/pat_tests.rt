@@ -182,8 +182,13 @@ fn two(alloc: Global, first: Result<Pattern, Error>) -> Result<Elements, Error> 
 }
 
 /// A list of one, with its comma.
-fn marked(alloc: Global, element: Result<Pattern, Error>) -> Result<Elements, Error> {
-    let mut list = lone(alloc, element)?;
+fn marked<T: Drop>(
+    alloc: Global,
+    element: Result<T, Error>,
+) -> Result<Punctuated<T, Comma>, Error> {
+    let element = element?;
+    let mut list = Punctuated::new(alloc);
+    list.push_value(alloc, element)?;
     list.push_punct(Comma::default())?;
     Ok(list)
 }
@@ -307,9 +312,7 @@ fn two_fields(alloc: Global) -> Result<Fields, Error> {
 }
 
 fn marked_field(alloc: Global) -> Result<Fields, Error> {
-    let mut fields = lone(alloc, short(alloc, "x"))?;
-    fields.push_punct(Comma::default())?;
-    Ok(fields)
+    marked(alloc, short(alloc, "x"))
 }
 
 fn plain_rest(alloc: Global) -> Result<PatRest<Nothing>, Error> {
