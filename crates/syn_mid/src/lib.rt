@@ -22,7 +22,10 @@ pub use mac::{Macro, MacroDelimiter};
 pub use path::{
     AngleBracketedGenericArguments, ParenthesizedGenericArguments, Path, PathArguments, PathSegment,
 };
-pub use supplied::{Expr, ExprLit, ExprLitOf, Place, Subtree};
+pub use supplied::{
+    Expr, ExprBlock, ExprBlockOf, ExprConst, ExprConstOf, ExprLit, ExprLitOf, ExprMacro,
+    ExprMacroOf, ExprPath, ExprPathOf, ExprRange, Place, Subtree,
+};
 pub use ty::{
     PointerMutability, Type, TypeArray, TypeArrayOf, TypeInfer, TypeMacro, TypeNever, TypeParen,
     TypeParenOf, TypePath, TypePtr, TypePtrOf, TypeReference, TypeReferenceOf, TypeSlice,

@@ -82,6 +82,8 @@ pub(crate) enum SegmentStyle {
 pub(crate) enum PathStyle {
     /// As they stand.
     AsWritten,
+    /// As in an expression: a `::` before arguments between angle marks.
+    Expr,
     /// Not at all.
     Mod,
 }
@@ -541,17 +543,14 @@ fn print_arguments<X>(
     ensures ok { OnOk result (trees out.new ≡ trees out.old ++ printing.arguments style arguments.now) }
     ensures err { OnErr result (Extends (trees out.old) (trees out.new)) }
 {
-    match style {
-        PathStyle::Mod => Ok(()),
-        PathStyle::AsWritten => match arguments {
-            PathArguments::None => Ok(()),
-            PathArguments::AngleBracketed(arguments) => print_angle_bracketed(
-                alloc, arguments, out,
-            ),
-            PathArguments::Parenthesized(arguments) => arguments
-                .paren_token
-                .surround(TokenStream::new(alloc), out),
-        },
+    match arguments {
+        PathArguments::None => Ok(()),
+        PathArguments::AngleBracketed(arguments) => print_angle_bracketed(
+            alloc, arguments, style, out,
+        ),
+        PathArguments::Parenthesized(arguments) => print_parenthesized(
+            alloc, arguments, style, out,
+        ),
     }
 }
 
@@ -559,14 +558,56 @@ fn print_arguments<X>(
 fn print_angle_bracketed<X>(
     alloc: Global,
     arguments: &AngleBracketedGenericArguments<X>,
+    style: PathStyle,
     out: &mut TokenStream,
 ) -> Result<(), AllocError>
-    ensures ok { OnOk result (trees out.new ≡ trees out.old ++ printing.angle_bracketed arguments.now) }
+    ensures ok { OnOk result (trees out.new ≡ trees out.old ++ printing.angle_bracketed style arguments.now) }
     ensures err { OnErr result (Extends (trees out.old) (trees out.new)) }
 {
-    print_colon(alloc, &arguments.colon2_token, out)?;
+    match style {
+        PathStyle::AsWritten => print_colon(alloc, &arguments.colon2_token, out)?,
+        PathStyle::Expr => print_turbofish(alloc, &arguments.colon2_token, out)?,
+        PathStyle::Mod => return Ok(()),
+    }
     arguments.lt_token.to_tokens(alloc, out)?;
     arguments.gt_token.to_tokens(alloc, out)
+}
+
+#[tactic(auto, using(token_core::proofs::Puts::puts))]
+fn print_parenthesized<X>(
+    alloc: Global,
+    arguments: &ParenthesizedGenericArguments<X>,
+    style: PathStyle,
+    out: &mut TokenStream,
+) -> Result<(), AllocError>
+    ensures ok { OnOk result (trees out.new ≡ trees out.old ++ printing.parenthesized style arguments.now) }
+    ensures err { OnErr result (Extends (trees out.old) (trees out.new)) }
+{
+    match style {
+        PathStyle::AsWritten => arguments
+            .paren_token
+            .surround(TokenStream::new(alloc), out),
+        PathStyle::Expr => arguments
+            .paren_token
+            .surround(TokenStream::new(alloc), out),
+        PathStyle::Mod => Ok(()),
+    }
+}
+
+/// The `::` before arguments in an expression.
+#[tactic(auto, using(token_core::proofs::Puts::puts))]
+fn print_turbofish(
+    alloc: Global,
+    colon: &Option<PathSep>,
+    out: &mut TokenStream,
+) -> Result<(), AllocError>
+    ensures ok { OnOk result (trees out.new ≡ trees out.old ++ printing.turbofish colon.now) }
+    ensures err { OnErr result (Extends (trees out.old) (trees out.new)) }
+{
+    match colon {
+        Some(colon) => colon.to_tokens(alloc, out),
+        None => PathSep::default().to_tokens(alloc, out),
+    }
 }
 
 #[tactic(auto, using(token_core::proofs::Puts::puts))]

@@ -796,7 +796,7 @@ pub(crate) fn print_verbatim(
     Ok(())
 }
 
-/// The length of an array: a literal as it prints as a value, or the supplied subtree in this place.
+/// The length of an array: the supplied subtree in this place, and anything else as it prints as a value.
 #[tactic(auto, using(token_core::proofs::Puts::puts, crate::proofs::ty_laws::Prints::prints))]
 fn print_len<X: Subtree>(
     alloc: Global,
@@ -807,8 +807,8 @@ fn print_len<X: Subtree>(
     ensures err { OnErr result (Extends (trees out.old) (trees out.new)) }
 {
     match len {
-        Expr::Lit(_) => print_value(alloc, len, out),
         Expr::Other(tree) => tree.print(alloc, Place::ArrayLen, out),
+        _ => print_value(alloc, len, out),
     }
 }
 

@@ -14,6 +14,7 @@ use Rattle.syn_mid.specs.declared.attr.MetaList.{MetaList}
 use Rattle.syn_mid.specs.declared.attr.MetaNameValue.{MetaNameValue, out-MetaNameValue}
 use Rattle.syn_mid.specs.declared.path.Path.{Path}
 use Rattle.syn_mid.specs.declared.supplied.Expr.{Expr}
+use Rattle.syn_mid.specs.declared.supplied.ExprRange.{ExprRange}
 use Rattle.syn_mid.specs.mac.Macros.{span_of}
 use Rattle.syn_mid.specs.path.Paths.{path_text, first_span, last_span}
 use Rattle.syn_mid.specs.attr.Attrs.{Attribute}
@@ -32,7 +33,7 @@ parentheses_text y.Outer = codes "expected parentheses: #["
 parentheses_text (y.Inner b) = codes "expected parentheses: #!["
 
 abbrev pub Layer : Type 0 → Type 0
-Layer X = o.Meta-F X (Meta X) (Expr X) (MetaNameValue X)
+Layer X = o.Meta-F X (Meta X) (Expr X) (ExprRange X) (MetaNameValue X)
 
 module _ {X : Type 0} where
   abbrev pub path_at : Layer X → Path X

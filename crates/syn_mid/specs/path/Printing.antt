@@ -1,8 +1,9 @@
 -- What paths print.
-use Rattle.std.specs.Prelude.{[], ◌++◌, Option, Some, None}
+use Rattle.std.specs.Prelude.{[], ◌∷◌, ◌++◌, Option, Some, None}
 use Rattle.token_core.specs.declared.tree.Delimiter.TheVariants.{Parenthesis}
 use Rattle.token_core.specs.Prints as p
 use Rattle.token_core.specs.Prints.{Print}
+use Rattle.token_core.specs.Spans.{none}
 use Rattle.token_core.specs.Trees.{stream_of_trees}
 use Rattle.token_core.specs.Lists.{joined}
 use Rattle.token_core.specs.Loops.{Many}
@@ -13,29 +14,37 @@ use Rattle.syn_mid.specs.declared.path.PathArguments.TheVariants as a
 use Rattle.syn_mid.specs.declared.path.AngleBracketedGenericArguments.{AngleBracketedGenericArguments}
 use Rattle.syn_mid.specs.declared.path.ParenthesizedGenericArguments.{ParenthesizedGenericArguments}
 use Rattle.syn_mid.specs.declared.path.PathStyle.{PathStyle}
-use Rattle.syn_mid.specs.declared.path.PathStyle.TheVariants.{AsWritten, Mod}
+use Rattle.syn_mid.specs.declared.path.PathStyle.TheVariants.{AsWritten, Expr, Mod}
 use Rattle.syn_mid.specs.path.Paths.{Sep}
 
 abbrev pub colon : Option Sep → Print
 colon None = []
 colon (Some m) = p.mark m
 
+-- `::`, or one that stands nowhere
+abbrev pub turbofish : Option Sep → Print
+turbofish None = p.mark {n = 1} {l = 2} (record { spans = none ∷ none ∷ [] })
+turbofish (Some m) = p.mark m
+
 abbrev pub as_written : PathStyle
 as_written = AsWritten
 
 module _ {X : Type 0} where
-  abbrev pub angle_bracketed : AngleBracketedGenericArguments X → Print
-  angle_bracketed g = colon g.colon2_token ++ (p.mark g.lt_token ++ p.mark g.gt_token)
+  -- between angle marks: as they stand, after `::` in an expression, or not at all
+  abbrev pub angle_bracketed : PathStyle → AngleBracketedGenericArguments X → Print
+  angle_bracketed Mod g = []
+  angle_bracketed AsWritten g = colon g.colon2_token ++ (p.mark g.lt_token ++ p.mark g.gt_token)
+  angle_bracketed Expr g = turbofish g.colon2_token ++ (p.mark g.lt_token ++ p.mark g.gt_token)
 
-  abbrev pub parenthesized : ParenthesizedGenericArguments X → Print
-  parenthesized g = p.group Parenthesis (stream_of_trees []) g.paren_token.span
+  abbrev pub parenthesized : PathStyle → ParenthesizedGenericArguments X → Print
+  parenthesized Mod g = []
+  parenthesized AsWritten g = p.group Parenthesis (stream_of_trees []) g.paren_token.span
+  parenthesized Expr g = p.group Parenthesis (stream_of_trees []) g.paren_token.span
 
-  -- arguments print as they stand, or not at all
   abbrev pub arguments : PathStyle → PathArguments X → Print
-  arguments Mod g = []
-  arguments AsWritten a.None = []
-  arguments AsWritten (a.AngleBracketed g) = angle_bracketed g
-  arguments AsWritten (a.Parenthesized g) = parenthesized g
+  arguments style a.None = []
+  arguments style (a.AngleBracketed g) = angle_bracketed style g
+  arguments style (a.Parenthesized g) = parenthesized style g
 
   abbrev pub segment : PathStyle → PathSegment X → Print
   segment style s = p.ident s.ident ++ arguments style s.arguments
