@@ -669,71 +669,29 @@ pub(crate) fn print_value<X: Subtree>(
     ensures err { OnErr result (Extends (trees out.old) (trees out.new)) }
 {
     match value {
-        Expr::Lit(expr) => print_literal(alloc, expr, out),
-        Expr::Path(expr) => print_expr_path(alloc, expr, out),
-        Expr::Const(expr) => print_expr_const(alloc, expr, out),
-        Expr::Macro(expr) => print_expr_macro(alloc, expr, out),
+        Expr::Lit(expr) => {
+            print_outer(alloc, &expr.attrs, out)?;
+            expr.lit.to_tokens(alloc, out)
+        }
+        Expr::Path(expr) => {
+            print_outer(alloc, &expr.attrs, out)?;
+            print_path(alloc, &expr.path, PathStyle::Expr, out)
+        }
+        Expr::Const(expr) => {
+            print_outer(alloc, &expr.attrs, out)?;
+            print_const_block(alloc, expr, out)
+        }
+        Expr::Macro(expr) => {
+            print_outer(alloc, &expr.attrs, out)?;
+            expr.mac.to_tokens(alloc, out)
+        }
         Expr::Range(expr) => print_range(alloc, expr, out),
-        Expr::Block(expr) => print_block(alloc, expr, out),
+        Expr::Block(expr) => {
+            print_outer(alloc, &expr.attrs, out)?;
+            print_body(alloc, &expr.body, &expr.brace_token, out)
+        }
         Expr::Other(tree) => tree.print(alloc, Place::Value, out),
     }
-}
-
-#[cycle(print)]
-#[tactic(auto, using(token_core::proofs::Puts::puts, crate::proofs::attr_laws::Prints::prints))]
-fn print_literal<X: Subtree>(
-    alloc: Global,
-    expr: &ExprLit<X>,
-    out: &mut TokenStream,
-) -> Result<(), AllocError>
-    ensures ok { OnOk result (trees out.new ≡ trees out.old ++ printing.literal X.prints expr.now) }
-    ensures err { OnErr result (Extends (trees out.old) (trees out.new)) }
-{
-    print_outer(alloc, &expr.attrs, out)?;
-    expr.lit.to_tokens(alloc, out)
-}
-
-#[cycle(print)]
-#[tactic(auto, using(token_core::proofs::Puts::puts, crate::proofs::attr_laws::Prints::prints))]
-fn print_expr_path<X: Subtree>(
-    alloc: Global,
-    expr: &ExprPath<X>,
-    out: &mut TokenStream,
-) -> Result<(), AllocError>
-    ensures ok { OnOk result (trees out.new ≡ trees out.old ++ printing.expr_path X.prints expr.now) }
-    ensures err { OnErr result (Extends (trees out.old) (trees out.new)) }
-{
-    print_outer(alloc, &expr.attrs, out)?;
-    print_path(alloc, &expr.path, PathStyle::Expr, out)
-}
-
-#[cycle(print)]
-#[tactic(auto, using(token_core::proofs::Puts::puts, crate::proofs::attr_laws::Prints::prints))]
-fn print_expr_const<X: Subtree>(
-    alloc: Global,
-    expr: &ExprConst<X>,
-    out: &mut TokenStream,
-) -> Result<(), AllocError>
-    ensures ok { OnOk result (trees out.new ≡ trees out.old ++ printing.expr_const X.prints expr.now) }
-    ensures err { OnErr result (Extends (trees out.old) (trees out.new)) }
-{
-    print_outer(alloc, &expr.attrs, out)?;
-    expr.const_token.to_tokens(alloc, out)?;
-    print_body(alloc, &expr.body, &expr.brace_token, out)
-}
-
-#[cycle(print)]
-#[tactic(auto, using(token_core::proofs::Puts::puts, crate::proofs::attr_laws::Prints::prints))]
-fn print_expr_macro<X: Subtree>(
-    alloc: Global,
-    expr: &ExprMacro<X>,
-    out: &mut TokenStream,
-) -> Result<(), AllocError>
-    ensures ok { OnOk result (trees out.new ≡ trees out.old ++ printing.expr_macro X.prints expr.now) }
-    ensures err { OnErr result (Extends (trees out.old) (trees out.new)) }
-{
-    print_outer(alloc, &expr.attrs, out)?;
-    expr.mac.to_tokens(alloc, out)
 }
 
 #[cycle(print)]
@@ -747,8 +705,9 @@ fn print_range<X: Subtree>(
     ensures err { OnErr result (Extends (trees out.old) (trees out.new)) }
 {
     print_outer(alloc, &expr.attrs, out)?;
-    if let Some(start) = &expr.start {
-        print_value(alloc, start.get(), out)?;
+    match &expr.start {
+        Some(start) => print_value(alloc, start.get(), out)?,
+        None => {}
     }
     expr.limits.to_tokens(alloc, out)?;
     match &expr.end {
@@ -757,22 +716,28 @@ fn print_range<X: Subtree>(
     }
 }
 
-#[cycle(print)]
-#[tactic(auto, using(token_core::proofs::Puts::puts, crate::proofs::attr_laws::Prints::prints))]
-fn print_block<X: Subtree>(
-    alloc: Global,
-    expr: &ExprBlock<X>,
-    out: &mut TokenStream,
-) -> Result<(), AllocError>
-    ensures ok { OnOk result (trees out.new ≡ trees out.old ++ printing.block X.prints expr.now) }
-    ensures err { OnErr result (Extends (trees out.old) (trees out.new)) }
-{
-    print_outer(alloc, &expr.attrs, out)?;
-    print_body(alloc, &expr.body, &expr.brace_token, out)
-}
-
+/// The outer attributes of a list, before the node that bears them; refused, what stood before is kept.
 #[cycle(print)]
 #[tactic(auto, using(token_core::proofs::Puts::puts, crate::proofs::attr_laws::Prints::prints, crate::proofs::attr_laws::Prints::contents))]
+pub(crate) fn print_outer<X: Subtree>(
+    alloc: Global,
+    attrs: &Items<Attribute<X>>,
+    out: &mut TokenStream,
+) -> Result<(), AllocError>
+    ensures ok { OnOk result (trees out.new ≡ trees out.old ++ printing.outer X.prints attrs.now) }
+    ensures err { OnErr result (Extends (trees out.old) (trees out.new)) }
+{
+    for attr in attrs.as_slice() {
+        if attr.style.is_outer() {
+            let mut content = TokenStream::new(alloc);
+            print_meta(alloc, &attr.meta, &mut content)?;
+            print_around(alloc, attr, content, out)?;
+        }
+    }
+    Ok(())
+}
+
+#[tactic(auto, using(token_core::proofs::Puts::puts, crate::proofs::attr_laws::Prints::contents))]
 fn print_attribute<X: Subtree>(
     alloc: Global,
     attr: &Attribute<X>,
@@ -786,23 +751,83 @@ fn print_attribute<X: Subtree>(
     print_around(alloc, attr, content, out)
 }
 
-/// The outer attributes of a list, before the node that bears them; refused, what stood before is kept.
-#[cycle(print)]
-#[tactic(auto, using(token_core::proofs::Puts::puts, crate::proofs::attr_laws::Prints::prints))]
-pub(crate) fn print_outer<X: Subtree>(
+#[tactic(auto, using(token_core::proofs::Puts::puts))]
+fn print_literal<X: Subtree>(
     alloc: Global,
-    attrs: &Items<Attribute<X>>,
+    expr: &ExprLit<X>,
     out: &mut TokenStream,
 ) -> Result<(), AllocError>
-    ensures ok { OnOk result (trees out.new ≡ trees out.old ++ printing.outer X.prints attrs.now) }
+    ensures ok { OnOk result (trees out.new ≡ trees out.old ++ printing.literal X.prints expr.now) }
     ensures err { OnErr result (Extends (trees out.old) (trees out.new)) }
 {
-    for attr in attrs.as_slice() {
-        if attr.style.is_outer() {
-            print_attribute(alloc, attr, out)?;
-        }
-    }
-    Ok(())
+    print_outer(alloc, &expr.attrs, out)?;
+    expr.lit.to_tokens(alloc, out)
+}
+
+#[tactic(auto, using(token_core::proofs::Puts::puts))]
+fn print_expr_path<X: Subtree>(
+    alloc: Global,
+    expr: &ExprPath<X>,
+    out: &mut TokenStream,
+) -> Result<(), AllocError>
+    ensures ok { OnOk result (trees out.new ≡ trees out.old ++ printing.expr_path X.prints expr.now) }
+    ensures err { OnErr result (Extends (trees out.old) (trees out.new)) }
+{
+    print_outer(alloc, &expr.attrs, out)?;
+    print_path(alloc, &expr.path, PathStyle::Expr, out)
+}
+
+#[tactic(auto, using(token_core::proofs::Puts::puts))]
+fn print_expr_const<X: Subtree>(
+    alloc: Global,
+    expr: &ExprConst<X>,
+    out: &mut TokenStream,
+) -> Result<(), AllocError>
+    ensures ok { OnOk result (trees out.new ≡ trees out.old ++ printing.expr_const X.prints expr.now) }
+    ensures err { OnErr result (Extends (trees out.old) (trees out.new)) }
+{
+    print_outer(alloc, &expr.attrs, out)?;
+    print_const_block(alloc, expr, out)
+}
+
+/// A const block without its attributes.
+#[tactic(auto, using(token_core::proofs::Puts::puts))]
+fn print_const_block<X: Subtree>(
+    alloc: Global,
+    expr: &ExprConst<X>,
+    out: &mut TokenStream,
+) -> Result<(), AllocError>
+    ensures ok { OnOk result (trees out.new ≡ trees out.old ++ printing.const_block X.prints expr.now) }
+    ensures err { OnErr result (Extends (trees out.old) (trees out.new)) }
+{
+    expr.const_token.to_tokens(alloc, out)?;
+    print_body(alloc, &expr.body, &expr.brace_token, out)
+}
+
+#[tactic(auto, using(token_core::proofs::Puts::puts))]
+fn print_expr_macro<X: Subtree>(
+    alloc: Global,
+    expr: &ExprMacro<X>,
+    out: &mut TokenStream,
+) -> Result<(), AllocError>
+    ensures ok { OnOk result (trees out.new ≡ trees out.old ++ printing.expr_macro X.prints expr.now) }
+    ensures err { OnErr result (Extends (trees out.old) (trees out.new)) }
+{
+    print_outer(alloc, &expr.attrs, out)?;
+    expr.mac.to_tokens(alloc, out)
+}
+
+#[tactic(auto, using(token_core::proofs::Puts::puts))]
+fn print_block<X: Subtree>(
+    alloc: Global,
+    expr: &ExprBlock<X>,
+    out: &mut TokenStream,
+) -> Result<(), AllocError>
+    ensures ok { OnOk result (trees out.new ≡ trees out.old ++ printing.block X.prints expr.now) }
+    ensures err { OnErr result (Extends (trees out.old) (trees out.new)) }
+{
+    print_outer(alloc, &expr.attrs, out)?;
+    print_body(alloc, &expr.body, &expr.brace_token, out)
 }
 
 /// The body of a block in its braces.

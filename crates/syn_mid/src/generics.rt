@@ -857,7 +857,7 @@ fn stands_alone<X>(value: &Expr<X>) -> bool
 }
 
 /// What stands between the braces of a const argument.
-#[tactic(auto, using(token_core::proofs::Puts::puts, crate::proofs::generics_laws::Prints::prints))]
+#[tactic(auto, using(token_core::proofs::Puts::puts, crate::proofs::attr_laws::Prints::places))]
 fn print_in_braces<X: Subtree>(
     alloc: Global,
     value: &Expr<X>,

@@ -797,7 +797,7 @@ pub(crate) fn print_verbatim(
 }
 
 /// The length of an array: the supplied subtree in this place, and anything else as it prints as a value.
-#[tactic(auto, using(token_core::proofs::Puts::puts, crate::proofs::ty_laws::Prints::prints))]
+#[tactic(auto, using(token_core::proofs::Puts::puts, crate::proofs::attr_laws::Prints::places))]
 fn print_len<X: Subtree>(
     alloc: Global,
     len: &Expr<X>,

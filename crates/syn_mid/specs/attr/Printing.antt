@@ -85,14 +85,18 @@ module _ {X : Type 0} (prints : Place → X → Print) where
   abbrev pub body : BraceToken → X → Print
   body b x = p.group Brace (stream_of_trees (prints Block x)) b.span
 
+  -- without its attributes
+  abbrev pub const_block : {A : Type 0} → ExprConstOf A X → Print
+  const_block x = p.word x.const_token ++ body x.brace_token x.body
+
   abbrev pub expr_const_by : {M : Type 0} → (M → Print) → ExprConstOf (AttributeOf M) X → Print
-  expr_const_by meta x = outer_by meta x.attrs ++ (p.word x.const_token ++ body x.brace_token x.body)
+  expr_const_by meta x = outer_by meta x.attrs ++ const_block x
 
   abbrev pub block_by : {M : Type 0} → (M → Print) → ExprBlockOf (AttributeOf M) X → Print
   block_by meta x = outer_by meta x.attrs ++ body x.brace_token x.body
 
   abbrev pub meta_step : o.Meta-F X Print Print Print Print → Print
-  meta_step (o.Path x) = path Mod x
+  meta_step (o.Meta::Path x) = path Mod x
   meta_step (o.List x) = list x
   meta_step (o.NameValue x) = x
 
@@ -113,16 +117,16 @@ module _ {X : Type 0} (prints : Place → X → Print) where
   name_value_step x = path Mod x.path ++ (p.mark x.eq_token ++ x.value)
 
   unfoldable pub meta : Meta X → Print
-  meta = fold-Meta X Print Print Print Print meta_step expr_step range_step name_value_step
+  meta = fold-Meta X Print Print Print Print meta_step expr_step name_value_step range_step
 
   unfoldable pub value : Expr X → Print
-  value = fold-Expr X Print Print Print Print meta_step expr_step range_step name_value_step
+  value = fold-Expr X Print Print Print Print meta_step expr_step name_value_step range_step
 
   unfoldable pub range : ExprRange X → Print
-  range = fold-ExprRange X Print Print Print Print meta_step expr_step range_step name_value_step
+  range = fold-ExprRange X Print Print Print Print meta_step expr_step name_value_step range_step
 
   unfoldable pub name_value : MetaNameValue X → Print
-  name_value = fold-MetaNameValue X Print Print Print Print meta_step expr_step range_step name_value_step
+  name_value = fold-MetaNameValue X Print Print Print Print meta_step expr_step name_value_step range_step
 
   abbrev pub attribute : AttributeOf (Meta X) → Print
   attribute = attribute_by meta
@@ -148,7 +152,7 @@ module _ {X : Type 0} (prints : Place → X → Print) where
   abbrev pub block : ExprBlockOf (AttributeOf (Meta X)) X → Print
   block = block_by meta
 
-  abbrev pub place_layer : Place → o.Expr-F X (Meta X) (Expr X) (ExprRange X) (MetaNameValue X) → Print → Print
+  abbrev pub place_layer : Place → o.Expr-F X (Meta X) (Expr X) (MetaNameValue X) (ExprRange X) → Print → Print
   place_layer w (o.Other x) l = prints w x
   place_layer w (o.Lit x) l = l
   place_layer w (o.Expr::Path x) l = l

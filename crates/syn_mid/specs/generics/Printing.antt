@@ -140,7 +140,7 @@ is_empty (x ∷ all) = false
 abbrev pub is_word : {A X : Type 0} → ExprPathOf A X → Bool
 is_word x = is_empty x.attrs && is_some (lone_ident x.path)
 
-abbrev pub alone_layer : {X : Type 0} → o.Expr-F X (Meta X) (Expr X) (ExprRange X) (MetaNameValue X) → Bool
+abbrev pub alone_layer : {X : Type 0} → o.Expr-F X (Meta X) (Expr X) (MetaNameValue X) (ExprRange X) → Bool
 alone_layer (o.Lit x) = true
 alone_layer (o.Expr::Path x) = is_word x
 alone_layer (o.Const x) = false
