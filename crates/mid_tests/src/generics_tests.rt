@@ -24,7 +24,7 @@ type Param = GenericParam<Nothing>;
 type Bound = TypeParamBound<Nothing>;
 
 /// It answers this; of a refusal, its text.
-fn says(rt: &impl Abort, answer: Result<String, Error>, wanted: &str) {
+pub(crate) fn says(rt: &impl Abort, answer: Result<String, Error>, wanted: &str) {
     match answer {
         Ok(text) => assert_eq!(rt; text.as_str(), wanted),
         Err(error) => panic!(rt; "refused: {}", error.text()),
@@ -59,13 +59,13 @@ fn lone<T: Drop, P: Drop>(
     Ok(list)
 }
 
-fn printed<T: ToTokens>(alloc: Global, tree: &T) -> Result<String, Error> {
+pub(crate) fn printed<T: ToTokens>(alloc: Global, tree: &T) -> Result<String, Error> {
     let mut out = TokenStream::new(alloc);
     tree.to_tokens(alloc, &mut out)?;
     Ok(text_of(alloc, &out)?)
 }
 
-fn ident(alloc: Global, text: &str) -> Result<Ident, Error> {
+pub(crate) fn ident(alloc: Global, text: &str) -> Result<Ident, Error> {
     Ok(Ident::new(alloc, text, Span::none())?)
 }
 
@@ -73,7 +73,7 @@ fn lifetime(alloc: Global, text: &str) -> Result<Lifetime, Error> {
     Ok(Lifetime::new(Span::none(), ident(alloc, text)?))
 }
 
-fn path(alloc: Global, text: &str) -> Result<Path<Nothing>, Error> {
+pub(crate) fn path(alloc: Global, text: &str) -> Result<Path<Nothing>, Error> {
     let tokens = lex(alloc, text)?;
     read_all_with(alloc, ModStyle::<Nothing>::new(), &tokens)
 }
@@ -85,7 +85,7 @@ fn ty(alloc: Global, text: &str) -> Result<Type<Nothing>, Error> {
 }
 
 /// A literal without attributes.
-fn literal(alloc: Global, text: &str) -> Result<Expr<Nothing>, Error> {
+pub(crate) fn literal(alloc: Global, text: &str) -> Result<Expr<Nothing>, Error> {
     let lit = read_all::<Lit>(alloc, &lex(alloc, text)?)?;
     Ok(Expr::Lit(ExprLit {
         attrs: Items::new(alloc),
@@ -198,7 +198,7 @@ fn named(alloc: Global, text: &str) -> Result<TypeParam<Nothing>, Error> {
 }
 
 /// `const N: usize` with a default
-fn const_param(
+pub(crate) fn const_param(
     alloc: Global,
     default: Option<(Eq, Expr<Nothing>)>,
 ) -> Result<ConstParam<Nothing>, Error> {
@@ -231,7 +231,7 @@ fn const_literal(alloc: Global) -> Result<String, Error> {
     printed(alloc, &const_param(alloc, default)?)
 }
 
-fn const_other(alloc: Global) -> Result<String, Error> {
+pub(crate) fn const_other(alloc: Global) -> Result<String, Error> {
     let default = Some((Eq::default(), Expr::Other(Nothing {})));
     printed(alloc, &const_param(alloc, default)?)
 }
@@ -321,7 +321,7 @@ fn captures(alloc: Global) -> Result<Bound, Error> {
     }))
 }
 
-fn shown<T: ToTokens + Drop>(alloc: Global, tree: Result<T, Error>) -> Result<String, Error> {
+pub(crate) fn shown<T: ToTokens + Drop>(alloc: Global, tree: Result<T, Error>) -> Result<String, Error> {
     printed(alloc, &tree?)
 }
 

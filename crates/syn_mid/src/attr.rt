@@ -706,9 +706,25 @@ fn print_range<X: Subtree>(
 {
     print_outer(alloc, &expr.attrs, out)?;
     match &expr.start {
-        Some(start) => print_value(alloc, start.get(), out)?,
-        None => {}
+        Some(start) => {
+            print_value(alloc, start.get(), out)?;
+            print_range_end(alloc, expr, out)
+        }
+        None => print_range_end(alloc, expr, out),
     }
+}
+
+/// The limits of a range and what follows them.
+#[cycle(print)]
+#[tactic(auto, using(token_core::proofs::Puts::puts, crate::proofs::attr_laws::Prints::prints))]
+fn print_range_end<X: Subtree>(
+    alloc: Global,
+    expr: &ExprRange<X>,
+    out: &mut TokenStream,
+) -> Result<(), AllocError>
+    ensures ok { OnOk result (trees out.new ≡ trees out.old ++ printing.range_end X.prints expr.now) }
+    ensures err { OnErr result (Extends (trees out.old) (trees out.new)) }
+{
     expr.limits.to_tokens(alloc, out)?;
     match &expr.end {
         Some(end) => print_value(alloc, end.get(), out),
@@ -718,13 +734,13 @@ fn print_range<X: Subtree>(
 
 /// The outer attributes of a list, before the node that bears them; refused, what stood before is kept.
 #[cycle(print)]
-#[tactic(auto, using(token_core::proofs::Puts::puts, crate::proofs::attr_laws::Prints::prints, crate::proofs::attr_laws::Prints::contents))]
+#[tactic(auto, using(token_core::proofs::Puts::puts, crate::proofs::attr_laws::Prints::contents))]
 pub(crate) fn print_outer<X: Subtree>(
     alloc: Global,
     attrs: &Items<Attribute<X>>,
     out: &mut TokenStream,
 ) -> Result<(), AllocError>
-    ensures ok { OnOk result (trees out.new ≡ trees out.old ++ printing.outer X.prints attrs.now) }
+    ensures ok { OnOk result (trees out.new ≡ trees out.old ++ printing.outer_by (printing.meta X.prints) attrs.now) }
     ensures err { OnErr result (Extends (trees out.old) (trees out.new)) }
 {
     for attr in attrs.as_slice() {

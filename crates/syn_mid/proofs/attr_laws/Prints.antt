@@ -32,7 +32,7 @@ use Rattle.syn_mid.specs.path.Printing.{path}
 use Rattle.syn_mid.specs.attr.Attrs.{Equals, Attribute, name_value_of, range_of, literal}
 use Rattle.syn_mid.specs.attr.Normal as normal
 use Rattle.syn_mid.specs.attr.Printing as printing
-use Rattle.syn_mid.specs.attr.Printing.{if_outer, outer_by, end_by, list, meta_step, expr_step, name_value_step, range_step, meta, value, name_value, range, outer, body, place_layer, at_place}
+use Rattle.syn_mid.specs.attr.Printing.{if_outer, outer_by, end_by, list, meta_step, expr_step, name_value_step, range_step, meta, value, name_value, range, range_end, outer, body, place_layer, at_place}
 
 -- attributes whose content is already printed are printed as they are
 module _ {M : Type 0} (f : M → Print) where
@@ -102,7 +102,7 @@ module _ {X : Type 0} (px : Place → X → Print) where
   abbrev pub parts : List (Attribute X) → Option (Expr X) → RangeLimits → Option (Expr X) → Print
   parts l a t b = outer px l ++ (end_by (value px) a ++ (ranges.print t ++ end_by (value px) b))
 
-  parts_mapped : (l : List (Attribute X)) (a : Option (Expr X)) (t : RangeLimits) (b : Option (Expr X)) → range px (range_of l a t b) ≡ parts l a t b
+  pub parts_mapped : (l : List (Attribute X)) (a : Option (Expr X)) (t : RangeLimits) (b : Option (Expr X)) → range px (range_of l a t b) ≡ parts l a t b
   unfolding range value meta
   parts_mapped l None t None =
       fold-roll-ExprRange X Print Print Print Print (meta_step px) (expr_step px) (name_value_step px) (range_step px) (record { attrs = l; start = None; limits = t; end = None })
@@ -120,6 +120,10 @@ module _ {X : Type 0} (px : Place → X → Print) where
   pub prints_parts : (x : ExprRange X) → range px x ≡ parts (out-ExprRange X x).attrs (out-ExprRange X x).start (out-ExprRange X x).limits (out-ExprRange X x).end
   prints_parts x = let y = out-ExprRange X x in ap (range px) (sym (roll-out-ExprRange X x)) ∙ parts_mapped y.attrs y.start y.limits y.end
 
+  pub prints_named : (q : Path X) (t : Equals) (v : Expr X) → name_value px (name_value_of q t v) ≡ path Mod q ++ (p.mark t ++ value px v)
+  unfolding name_value value
+  prints_named q t v = fold-roll-MetaNameValue X Print Print Print Print (meta_step px) (expr_step px) (name_value_step px) (range_step px) (record { path = q; eq_token = t; value = v })
+
   -- a name and value, piece by piece
   pub put_name_value : (x : MetaNameValue X) (old a b new : Print) → a ≡ old ++ path Mod (out-MetaNameValue X x).path → b ≡ a ++ p.mark (out-MetaNameValue X x).eq_token → new ≡ b ++ value px (out-MetaNameValue X x).value → new ≡ old ++ name_value px x
   put_name_value x old a b new h k n =
@@ -128,18 +132,23 @@ module _ {X : Type 0} (px : Place → X → Print) where
       ∙ append_assoc (old ++ path Mod f.path) (p.mark f.eq_token) (value px f.value) ∙ append_assoc old (path Mod f.path) (p.mark f.eq_token ++ value px f.value)
       ∙ ap (λ z. old ++ z) (sym (prints_fields x))
 
-  -- a range, piece by piece
-  pub put_range : (x : ExprRange X) (old a b c new : Print) → a ≡ old ++ outer px (out-ExprRange X x).attrs → b ≡ a ++ end_by (value px) (out-ExprRange X x).start → c ≡ b ++ ranges.print (out-ExprRange X x).limits
-      → new ≡ c ++ end_by (value px) (out-ExprRange X x).end → new ≡ old ++ range px x
-  put_range x old a b c new h i k n =
-      let f = out-ExprRange X x in
-      let l = outer px f.attrs in
-      let s = end_by (value px) f.start in
-      let t = ranges.print f.limits in
-      let u = end_by (value px) f.end in
-      n ∙ ap (λ z. z ++ u) (k ∙ ap (λ z. z ++ t) (i ∙ ap (λ z. z ++ s) h))
-      ∙ append_assoc ((old ++ l) ++ s) t u ∙ append_assoc (old ++ l) s (t ++ u) ∙ append_assoc old l (s ++ (t ++ u))
-      ∙ ap (λ z. old ++ z) (sym (prints_parts x))
+  -- a node: its attributes, and what follows them
+  pub put_node : (v : Expr X) (l r old mid new : Print) → value px v ≡ l ++ r → mid ≡ old ++ l → new ≡ mid ++ r → new ≡ old ++ value px v
+  put_node v l r old mid new k h n = n ∙ ap (λ z. z ++ r) h ∙ append_assoc old l r ∙ ap (λ z. old ++ z) (sym k)
+
+  -- a range with its start, and without
+  pub put_started : (x : ExprRange X) (y : Expr X) (old a b new : Print) → (out-ExprRange X x).start ≡ Some y → a ≡ old ++ outer px (out-ExprRange X x).attrs → b ≡ a ++ value px y → new ≡ b ++ range_end px x → new ≡ old ++ range px x
+  put_started x y old a b new k h i n =
+      let l = outer px (out-ExprRange X x).attrs in
+      n ∙ ap (λ z. z ++ range_end px x) (i ∙ ap (λ z. z ++ value px y) h)
+      ∙ append_assoc (old ++ l) (value px y) (range_end px x) ∙ append_assoc old l (value px y ++ range_end px x)
+      ∙ ap (λ z. old ++ (l ++ (end_by (value px) z ++ range_end px x))) (sym k) ∙ ap (λ z. old ++ z) (sym (prints_parts x))
+
+  pub put_unstarted : (x : ExprRange X) (old a new : Print) → (out-ExprRange X x).start ≡ None → a ≡ old ++ outer px (out-ExprRange X x).attrs → new ≡ a ++ range_end px x → new ≡ old ++ range px x
+  put_unstarted x old a new k h n =
+      let l = outer px (out-ExprRange X x).attrs in
+      n ∙ ap (λ z. z ++ range_end px x) h ∙ append_assoc old l (range_end px x)
+      ∙ ap (λ z. old ++ (l ++ (end_by (value px) z ++ range_end px x))) (sym k) ∙ ap (λ z. old ++ z) (sym (prints_parts x))
 
   -- a supplied subtree by its place, anything else as a value
   pub place_other : (w : Place) (x : X) → at_place px w (e.Other x) ≡ px w x

@@ -25,7 +25,7 @@ use Rattle.syn_mid.specs.declared.supplied.ExprConstOf.{ExprConstOf}
 use Rattle.syn_mid.specs.declared.supplied.ExprLitOf.{ExprLitOf}
 use Rattle.syn_mid.specs.declared.supplied.ExprMacroOf.{ExprMacroOf}
 use Rattle.syn_mid.specs.declared.supplied.ExprPathOf.{ExprPathOf}
-use Rattle.syn_mid.specs.declared.supplied.ExprRange.{ExprRange}
+use Rattle.syn_mid.specs.declared.supplied.ExprRange.{ExprRange, out-ExprRange}
 use Rattle.syn_mid.specs.mac.Macros.{span_of, delimiter_of}
 use Rattle.syn_mid.specs.mac.Printing.{mac}
 use Rattle.syn_mid.specs.path.Printing.{path}
@@ -124,6 +124,10 @@ module _ {X : Type 0} (prints : Place → X → Print) where
 
   unfoldable pub range : ExprRange X → Print
   range = fold-ExprRange X Print Print Print Print meta_step expr_step name_value_step range_step
+
+  -- the limits of a range and what follows them
+  abbrev pub range_end : ExprRange X → Print
+  range_end x = ranges.print (out-ExprRange X x).limits ++ end_by value (out-ExprRange X x).end
 
   unfoldable pub name_value : MetaNameValue X → Print
   name_value = fold-MetaNameValue X Print Print Print Print meta_step expr_step name_value_step range_step
