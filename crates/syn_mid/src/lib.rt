@@ -21,15 +21,18 @@ pub use generics::{
 };
 pub use mac::{Macro, MacroDelimiter};
 pub use pat::{
-    FieldPat, FieldPatOf, Pat, PatGuard, PatGuardOf, PatIdent, PatIdentOf, PatLit, PatOr, PatOrOf,
-    PatParen, PatParenOf, PatReference, PatReferenceOf, PatRest, PatSlice, PatSliceOf, PatStruct,
+    FieldPat, FieldPatOf, Pat, PatConst, PatGuard, PatGuardOf, PatIdent, PatIdentOf, PatLit, PatMacro, PatOr, PatOrOf,
+    PatParen, PatParenOf, PatPath, PatRange, PatReference, PatReferenceOf, PatRest, PatSlice, PatSliceOf, PatStruct,
     PatStructOf, PatTuple, PatTupleOf, PatTupleStruct, PatTupleStructOf, PatType, PatTypeOf,
     PatWild,
 };
 pub use path::{
     AngleBracketedGenericArguments, ParenthesizedGenericArguments, Path, PathArguments, PathSegment,
 };
-pub use supplied::{Expr, ExprLit, ExprLitOf, Place, Subtree};
+pub use supplied::{
+    Expr, ExprBlock, ExprBlockOf, ExprConst, ExprConstOf, ExprLit, ExprLitOf, ExprMacro,
+    ExprMacroOf, ExprPath, ExprPathOf, ExprRange, Place, Subtree,
+};
 pub use ty::{
     Abi, PointerMutability, ReturnType, ReturnTypeOf, Type, TypeArray, TypeArrayOf, TypeGroup,
     TypeGroupOf, TypeInfer, TypeMacro, TypeNever, TypeParen, TypeParenOf, TypePath, TypePtr,
