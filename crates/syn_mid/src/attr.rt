@@ -734,7 +734,7 @@ fn print_range_end<X: Subtree>(
 
 /// The outer attributes of a list, before the node that bears them; refused, what stood before is kept.
 #[cycle(print)]
-#[tactic(auto, using(token_core::proofs::Puts::puts))]
+#[tactic(auto, using(token_core::proofs::Puts::puts, crate::proofs::attr_laws::Prints::contents))]
 pub(crate) fn print_outer<X: Subtree>(
     alloc: Global,
     attrs: &Items<Attribute<X>>,
@@ -744,29 +744,15 @@ pub(crate) fn print_outer<X: Subtree>(
     ensures err { OnErr result (Extends (trees out.old) (trees out.new)) }
 {
     for attr in attrs.as_slice() {
-        print_if_outer(alloc, attr, out)?;
+        if attr.style.is_outer() {
+            let mut content = TokenStream::new(alloc);
+            print_meta(alloc, &attr.meta, &mut content)?;
+            print_around(alloc, attr, content, out)?;
+        }
     }
     Ok(())
 }
 
-#[cycle(print)]
-#[tactic(auto, using(token_core::proofs::Puts::puts, crate::proofs::attr_laws::Prints::contents))]
-fn print_if_outer<X: Subtree>(
-    alloc: Global,
-    attr: &Attribute<X>,
-    out: &mut TokenStream,
-) -> Result<(), AllocError>
-    ensures ok { OnOk result (trees out.new ≡ trees out.old ++ printing.if_outer (printing.meta X.prints) attr.now) }
-    ensures err { OnErr result (Extends (trees out.old) (trees out.new)) }
-{
-    if attr.style.is_outer() {
-        print_attribute(alloc, attr, out)
-    } else {
-        Ok(())
-    }
-}
-
-#[cycle(print)]
 #[tactic(auto, using(token_core::proofs::Puts::puts, crate::proofs::attr_laws::Prints::contents))]
 fn print_attribute<X: Subtree>(
     alloc: Global,

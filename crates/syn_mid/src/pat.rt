@@ -11,9 +11,7 @@ ghost use Rattle.syn_mid.specs.pat.Printing as printing;
 
 use crate::attr::{Attribute, print_outer, print_value};
 use crate::path::{Path, PathStyle, print_path};
-use crate::supplied::{
-    Expr, ExprConst, ExprLit, ExprMacro, ExprPath, ExprRange, Place, Subtree,
-};
+use crate::supplied::{Expr, ExprConst, ExprLit, ExprMacro, ExprPath, ExprRange, Place, Subtree};
 use crate::ty::{Type, print_lone_comma, print_type, print_verbatim};
 use std::alloc::{AllocError, Global};
 use token_core::token::{
