@@ -202,7 +202,7 @@ fn named(alloc: Global, text: &str) -> Result<TypeParam<Nothing>, Error> {
 }
 
 /// `const N: usize` with a default
-fn const_param(
+pub(crate) fn const_param(
     alloc: Global,
     default: Option<(Eq, Expr<Nothing>)>,
 ) -> Result<ConstParam<Nothing>, Error> {

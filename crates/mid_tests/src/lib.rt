@@ -2,6 +2,8 @@
 #![tactic(auto)]
 
 #[cfg(test)]
+mod expr_tests;
+#[cfg(test)]
 mod generics_tests;
 #[cfg(test)]
 mod nothing;

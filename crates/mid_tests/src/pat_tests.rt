@@ -2,6 +2,7 @@
 //!
 //! A test calls and does not branch, as docs/GATE.md says.
 
+use crate::expr_tests::{call, closed, const_block, name_with_outer};
 use crate::generics_tests::{both, ident, literal, lone, pair, path, printed, says, shown, ty};
 use crate::nothing::Nothing;
 use std::alloc::Global;
@@ -124,6 +125,31 @@ fn alternatives(alloc: Global) -> Result<Pattern, Error> {
         leading_vert: Some(Or::default()),
         cases,
     }))
+}
+
+fn const_pat(alloc: Global) -> Result<Pattern, Error> {
+    Ok(Pat::from(const_block(alloc)?))
+}
+
+fn macro_pat(alloc: Global) -> Result<Pattern, Error> {
+    Ok(Pat::from(call(alloc)?))
+}
+
+fn path_pat(alloc: Global) -> Result<Pattern, Error> {
+    Ok(Pat::from(name_with_outer(alloc)?))
+}
+
+fn range_pat(alloc: Global) -> Result<Pattern, Error> {
+    Ok(Pat::from(closed(alloc)?))
+}
+
+#[test]
+fn patterns_that_are_expressions_print(rt: HostRuntime) {
+    let alloc = rt.alloc();
+    says(&rt, shown(alloc, const_pat(alloc)), "# [b] const { }");
+    says(&rt, shown(alloc, macro_pat(alloc)), "# [b] a :: b ! (c)");
+    says(&rt, shown(alloc, path_pat(alloc)), "# [b] a");
+    says(&rt, shown(alloc, range_pat(alloc)), "a ..= 1");
 }
 
 #[test]

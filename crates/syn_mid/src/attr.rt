@@ -22,7 +22,9 @@ ghost use Rattle.syn_mid.specs.attr.Spelling.{AreAll, IsMetaList, IsOuter, IsInn
 use crate::mac::{MacroDelimiter, parse_body, print_held};
 use crate::meta::{ParseNestedMeta, read_properties};
 use crate::path::{Path, PathStyle, print_path, text_around};
-use crate::supplied::{Expr, ExprLit, Place, Subtree};
+use crate::supplied::{
+    Expr, ExprBlock, ExprConst, ExprLit, ExprMacro, ExprPath, ExprRange, Place, Subtree,
+};
 use std::alloc::{AllocError, Global};
 use std::marker::Model;
 use token_core::token::{Brace, Bracket, Eq, EqEq, FatArrow, Not, Paren, Pound, Unsafe};
@@ -458,7 +460,7 @@ impl<X: Subtree> Attribute<X> {
 // ---- prints
 
 impl<X: Subtree> ToTokens for Attribute<X> {
-    ghost print = { printing.attribute (X.prints Value) };
+    ghost print = { printing.attribute X.prints };
 
     fn to_tokens(&self, alloc: Global, out: &mut TokenStream) -> Result<(), AllocError> {
         let before = out.len();
@@ -473,7 +475,7 @@ impl<X: Subtree> ToTokens for Attribute<X> {
 }
 
 impl<X: Subtree> ToTokens for Meta<X> {
-    ghost print = { printing.meta (X.prints Value) };
+    ghost print = { printing.meta X.prints };
 
     fn to_tokens(&self, alloc: Global, out: &mut TokenStream) -> Result<(), AllocError> {
         let before = out.len();
@@ -503,11 +505,116 @@ impl<X: Subtree> ToTokens for MetaList<X> {
 }
 
 impl<X: Subtree> ToTokens for MetaNameValue<X> {
-    ghost print = { printing.name_value (X.prints Value) };
+    ghost print = { printing.name_value X.prints };
 
     fn to_tokens(&self, alloc: Global, out: &mut TokenStream) -> Result<(), AllocError> {
         let before = out.len();
         match print_name_value(alloc, self, out) {
+            Ok(()) => Ok(()),
+            Err(error) => {
+                out.truncate(before);
+                Err(error)
+            }
+        }
+    }
+}
+
+impl<X: Subtree> ToTokens for Expr<X> {
+    ghost print = { printing.value X.prints };
+
+    fn to_tokens(&self, alloc: Global, out: &mut TokenStream) -> Result<(), AllocError> {
+        let before = out.len();
+        match print_value(alloc, self, out) {
+            Ok(()) => Ok(()),
+            Err(error) => {
+                out.truncate(before);
+                Err(error)
+            }
+        }
+    }
+}
+
+impl<X: Subtree> ToTokens for ExprLit<X> {
+    ghost print = { printing.literal X.prints };
+
+    fn to_tokens(&self, alloc: Global, out: &mut TokenStream) -> Result<(), AllocError> {
+        let before = out.len();
+        match print_literal(alloc, self, out) {
+            Ok(()) => Ok(()),
+            Err(error) => {
+                out.truncate(before);
+                Err(error)
+            }
+        }
+    }
+}
+
+impl<X: Subtree> ToTokens for ExprPath<X> {
+    ghost print = { printing.expr_path X.prints };
+
+    fn to_tokens(&self, alloc: Global, out: &mut TokenStream) -> Result<(), AllocError> {
+        let before = out.len();
+        match print_expr_path(alloc, self, out) {
+            Ok(()) => Ok(()),
+            Err(error) => {
+                out.truncate(before);
+                Err(error)
+            }
+        }
+    }
+}
+
+impl<X: Subtree> ToTokens for ExprConst<X> {
+    ghost print = { printing.expr_const X.prints };
+
+    fn to_tokens(&self, alloc: Global, out: &mut TokenStream) -> Result<(), AllocError> {
+        let before = out.len();
+        match print_expr_const(alloc, self, out) {
+            Ok(()) => Ok(()),
+            Err(error) => {
+                out.truncate(before);
+                Err(error)
+            }
+        }
+    }
+}
+
+impl<X: Subtree> ToTokens for ExprMacro<X> {
+    ghost print = { printing.expr_macro X.prints };
+
+    fn to_tokens(&self, alloc: Global, out: &mut TokenStream) -> Result<(), AllocError> {
+        let before = out.len();
+        match print_expr_macro(alloc, self, out) {
+            Ok(()) => Ok(()),
+            Err(error) => {
+                out.truncate(before);
+                Err(error)
+            }
+        }
+    }
+}
+
+impl<X: Subtree> ToTokens for ExprRange<X> {
+    ghost print = { printing.range X.prints };
+
+    fn to_tokens(&self, alloc: Global, out: &mut TokenStream) -> Result<(), AllocError> {
+        let before = out.len();
+        match print_range(alloc, self, out) {
+            Ok(()) => Ok(()),
+            Err(error) => {
+                out.truncate(before);
+                Err(error)
+            }
+        }
+    }
+}
+
+impl<X: Subtree> ToTokens for ExprBlock<X> {
+    ghost print = { printing.block X.prints };
+
+    fn to_tokens(&self, alloc: Global, out: &mut TokenStream) -> Result<(), AllocError> {
+        let before = out.len();
+        match print_block(alloc, self, out) {
             Ok(()) => Ok(()),
             Err(error) => {
                 out.truncate(before);
@@ -525,7 +632,7 @@ fn print_meta<X: Subtree>(
     meta: &Meta<X>,
     out: &mut TokenStream,
 ) -> Result<(), AllocError>
-    ensures ok { OnOk result (trees out.new ≡ trees out.old ++ printing.meta (X.prints Value) meta.now) }
+    ensures ok { OnOk result (trees out.new ≡ trees out.old ++ printing.meta X.prints meta.now) }
     ensures err { OnErr result (Extends (trees out.old) (trees out.new)) }
 {
     match meta {
@@ -542,7 +649,7 @@ fn print_name_value<X: Subtree>(
     meta: &MetaNameValue<X>,
     out: &mut TokenStream,
 ) -> Result<(), AllocError>
-    ensures ok { OnOk result (trees out.new ≡ trees out.old ++ printing.name_value (X.prints Value) meta.now) }
+    ensures ok { OnOk result (trees out.new ≡ trees out.old ++ printing.name_value X.prints meta.now) }
     ensures err { OnErr result (Extends (trees out.old) (trees out.new)) }
 {
     print_path(alloc, &meta.path, PathStyle::Mod, out)?;
@@ -550,30 +657,100 @@ fn print_name_value<X: Subtree>(
     print_value(alloc, &meta.value, out)
 }
 
-/// The value of a meta: a literal has its outer attributes before it.
+/// Appends an expression as a value; refused, what stood before is kept.
 #[cycle(print)]
-#[tactic(auto, using(token_core::proofs::Puts::puts, crate::proofs::attr_laws::Prints::prints, crate::proofs::attr_laws::Prints::contents))]
+#[tactic(auto, using(token_core::proofs::Puts::puts, crate::proofs::attr_laws::Prints::prints))]
 pub(crate) fn print_value<X: Subtree>(
     alloc: Global,
     value: &Expr<X>,
     out: &mut TokenStream,
 ) -> Result<(), AllocError>
-    ensures ok { OnOk result (trees out.new ≡ trees out.old ++ printing.value (X.prints Value) value.now) }
+    ensures ok { OnOk result (trees out.new ≡ trees out.old ++ printing.value X.prints value.now) }
     ensures err { OnErr result (Extends (trees out.old) (trees out.new)) }
 {
     match value {
-        Expr::Lit(literal) => {
-            for attr in literal.attrs.as_slice() {
-                if attr.style.is_outer() {
-                    let mut content = TokenStream::new(alloc);
-                    print_meta(alloc, &attr.meta, &mut content)?;
-                    print_around(alloc, attr, content, out)?;
-                }
-            }
-            literal.lit.to_tokens(alloc, out)
+        Expr::Lit(expr) => {
+            print_outer(alloc, &expr.attrs, out)?;
+            expr.lit.to_tokens(alloc, out)
+        }
+        Expr::Path(expr) => {
+            print_outer(alloc, &expr.attrs, out)?;
+            print_path(alloc, &expr.path, PathStyle::Expr, out)
+        }
+        Expr::Const(expr) => {
+            print_outer(alloc, &expr.attrs, out)?;
+            print_const_block(alloc, expr, out)
+        }
+        Expr::Macro(expr) => {
+            print_outer(alloc, &expr.attrs, out)?;
+            expr.mac.to_tokens(alloc, out)
+        }
+        Expr::Range(expr) => print_range(alloc, expr, out),
+        Expr::Block(expr) => {
+            print_outer(alloc, &expr.attrs, out)?;
+            print_body(alloc, &expr.body, &expr.brace_token, out)
         }
         Expr::Other(tree) => tree.print(alloc, Place::Value, out),
     }
+}
+
+#[cycle(print)]
+#[tactic(auto, using(token_core::proofs::Puts::puts, crate::proofs::attr_laws::Prints::prints))]
+fn print_range<X: Subtree>(
+    alloc: Global,
+    expr: &ExprRange<X>,
+    out: &mut TokenStream,
+) -> Result<(), AllocError>
+    ensures ok { OnOk result (trees out.new ≡ trees out.old ++ printing.range X.prints expr.now) }
+    ensures err { OnErr result (Extends (trees out.old) (trees out.new)) }
+{
+    print_outer(alloc, &expr.attrs, out)?;
+    match &expr.start {
+        Some(start) => {
+            print_value(alloc, start.get(), out)?;
+            print_range_end(alloc, expr, out)
+        }
+        None => print_range_end(alloc, expr, out),
+    }
+}
+
+/// The limits of a range and what follows them.
+#[cycle(print)]
+#[tactic(auto, using(token_core::proofs::Puts::puts, crate::proofs::attr_laws::Prints::prints))]
+fn print_range_end<X: Subtree>(
+    alloc: Global,
+    expr: &ExprRange<X>,
+    out: &mut TokenStream,
+) -> Result<(), AllocError>
+    ensures ok { OnOk result (trees out.new ≡ trees out.old ++ printing.range_end X.prints expr.now) }
+    ensures err { OnErr result (Extends (trees out.old) (trees out.new)) }
+{
+    expr.limits.to_tokens(alloc, out)?;
+    match &expr.end {
+        Some(end) => print_value(alloc, end.get(), out),
+        None => Ok(()),
+    }
+}
+
+/// The outer attributes of a list, before the node that bears them; refused, what stood before is kept.
+#[cycle(print)]
+#[tactic(auto, using(token_core::proofs::Puts::puts, crate::proofs::attr_laws::Prints::contents))]
+pub(crate) fn print_outer<X: Subtree>(
+    alloc: Global,
+    attrs: &Items<Attribute<X>>,
+    out: &mut TokenStream,
+) -> Result<(), AllocError>
+    ensures ok { OnOk result (trees out.new ≡ trees out.old ++ printing.outer_by (printing.meta X.prints) attrs.now) }
+    ensures err { OnErr result (Extends (trees out.old) (trees out.new)) }
+{
+    for attr in attrs.as_slice() {
+        if attr.style.is_outer() {
+            let mut content = TokenStream::new(alloc);
+            print_meta(alloc, &attr.meta, &mut content)?;
+            print_around(alloc, attr, content, out)?;
+        }
+    }
+    Ok(())
 }
 
 #[tactic(auto, using(token_core::proofs::Puts::puts, crate::proofs::attr_laws::Prints::contents))]
@@ -582,7 +759,7 @@ fn print_attribute<X: Subtree>(
     attr: &Attribute<X>,
     out: &mut TokenStream,
 ) -> Result<(), AllocError>
-    ensures ok { OnOk result (trees out.new ≡ trees out.old ++ printing.attribute (X.prints Value) attr.now) }
+    ensures ok { OnOk result (trees out.new ≡ trees out.old ++ printing.attribute X.prints attr.now) }
     ensures err { OnErr result (Extends (trees out.old) (trees out.new)) }
 {
     let mut content = TokenStream::new(alloc);
@@ -590,22 +767,99 @@ fn print_attribute<X: Subtree>(
     print_around(alloc, attr, content, out)
 }
 
-/// The outer attributes of a list, before the node that bears them; refused, what stood before is kept.
 #[tactic(auto, using(token_core::proofs::Puts::puts))]
-pub(crate) fn print_outer<X: Subtree>(
+fn print_literal<X: Subtree>(
     alloc: Global,
-    attrs: &Items<Attribute<X>>,
+    expr: &ExprLit<X>,
     out: &mut TokenStream,
 ) -> Result<(), AllocError>
-    ensures ok { OnOk result (trees out.new ≡ trees out.old ++ printing.outer_by (printing.meta (X.prints Value)) attrs.now) }
+    ensures ok { OnOk result (trees out.new ≡ trees out.old ++ printing.literal X.prints expr.now) }
     ensures err { OnErr result (Extends (trees out.old) (trees out.new)) }
 {
-    for attribute in attrs.as_slice() {
-        if attribute.style.is_outer() {
-            print_attribute(alloc, attribute, out)?;
-        }
-    }
-    Ok(())
+    print_outer(alloc, &expr.attrs, out)?;
+    expr.lit.to_tokens(alloc, out)
+}
+
+#[tactic(auto, using(token_core::proofs::Puts::puts))]
+fn print_expr_path<X: Subtree>(
+    alloc: Global,
+    expr: &ExprPath<X>,
+    out: &mut TokenStream,
+) -> Result<(), AllocError>
+    ensures ok { OnOk result (trees out.new ≡ trees out.old ++ printing.expr_path X.prints expr.now) }
+    ensures err { OnErr result (Extends (trees out.old) (trees out.new)) }
+{
+    print_outer(alloc, &expr.attrs, out)?;
+    print_path(alloc, &expr.path, PathStyle::Expr, out)
+}
+
+#[tactic(auto, using(token_core::proofs::Puts::puts))]
+fn print_expr_const<X: Subtree>(
+    alloc: Global,
+    expr: &ExprConst<X>,
+    out: &mut TokenStream,
+) -> Result<(), AllocError>
+    ensures ok { OnOk result (trees out.new ≡ trees out.old ++ printing.expr_const X.prints expr.now) }
+    ensures err { OnErr result (Extends (trees out.old) (trees out.new)) }
+{
+    print_outer(alloc, &expr.attrs, out)?;
+    print_const_block(alloc, expr, out)
+}
+
+/// A const block without its attributes.
+#[tactic(auto, using(token_core::proofs::Puts::puts))]
+fn print_const_block<X: Subtree>(
+    alloc: Global,
+    expr: &ExprConst<X>,
+    out: &mut TokenStream,
+) -> Result<(), AllocError>
+    ensures ok { OnOk result (trees out.new ≡ trees out.old ++ printing.const_block X.prints expr.now) }
+    ensures err { OnErr result (Extends (trees out.old) (trees out.new)) }
+{
+    expr.const_token.to_tokens(alloc, out)?;
+    print_body(alloc, &expr.body, &expr.brace_token, out)
+}
+
+#[tactic(auto, using(token_core::proofs::Puts::puts))]
+fn print_expr_macro<X: Subtree>(
+    alloc: Global,
+    expr: &ExprMacro<X>,
+    out: &mut TokenStream,
+) -> Result<(), AllocError>
+    ensures ok { OnOk result (trees out.new ≡ trees out.old ++ printing.expr_macro X.prints expr.now) }
+    ensures err { OnErr result (Extends (trees out.old) (trees out.new)) }
+{
+    print_outer(alloc, &expr.attrs, out)?;
+    expr.mac.to_tokens(alloc, out)
+}
+
+#[tactic(auto, using(token_core::proofs::Puts::puts))]
+fn print_block<X: Subtree>(
+    alloc: Global,
+    expr: &ExprBlock<X>,
+    out: &mut TokenStream,
+) -> Result<(), AllocError>
+    ensures ok { OnOk result (trees out.new ≡ trees out.old ++ printing.block X.prints expr.now) }
+    ensures err { OnErr result (Extends (trees out.old) (trees out.new)) }
+{
+    print_outer(alloc, &expr.attrs, out)?;
+    print_body(alloc, &expr.body, &expr.brace_token, out)
+}
+
+/// The body of a block in its braces.
+#[tactic(auto, using(token_core::proofs::Puts::puts, crate::proofs::attr_laws::Prints::contents))]
+fn print_body<X: Subtree>(
+    alloc: Global,
+    body: &X,
+    brace_token: &Brace,
+    out: &mut TokenStream,
+) -> Result<(), AllocError>
+    ensures ok { OnOk result (trees out.new ≡ trees out.old ++ printing.body X.prints brace_token.now body.now) }
+    ensures err { OnErr result (Extends (trees out.old) (trees out.new)) }
+{
+    let mut content = TokenStream::new(alloc);
+    body.print(alloc, Place::Block, &mut content)?;
+    brace_token.surround(content, out)
 }
 
 /// Appends an attribute around the tokens of its content; refused, what stood before is kept.

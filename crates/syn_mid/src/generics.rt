@@ -825,7 +825,7 @@ fn print_const_default<X: Subtree>(
     }
 }
 
-/// A const argument: a literal as it prints as a value, anything else in braces.
+/// A const argument: a literal, a block or an identifier as it prints as a value, anything else in braces.
 #[tactic(auto, using(token_core::proofs::Puts::puts, crate::proofs::generics_laws::Prints::prints, crate::proofs::attr_laws::Prints::contents))]
 fn print_const_argument<X: Subtree>(
     alloc: Global,
@@ -835,13 +835,40 @@ fn print_const_argument<X: Subtree>(
     ensures ok { OnOk result (trees out.new ≡ trees out.old ++ printing.const_argument X.prints value.now) }
     ensures err { OnErr result (Extends (trees out.old) (trees out.new)) }
 {
+    if stands_alone(value) {
+        return print_value(alloc, value, out);
+    }
+    let mut content = TokenStream::new(alloc);
+    print_in_braces(alloc, value, &mut content)?;
+    Brace::default().surround(content, out)
+}
+
+/// Whether a const argument needs no braces: a literal, a block, or an identifier without attributes.
+#[tactic(auto, using(crate::proofs::generics_laws::Prints::alone))]
+fn stands_alone<X>(value: &Expr<X>) -> bool
+    ensures { result ≡ printing.stands_alone value.now }
+{
     match value {
-        Expr::Lit(_) => print_value(alloc, value, out),
-        Expr::Other(tree) => {
-            let mut content = TokenStream::new(alloc);
-            tree.print(alloc, Place::Block, &mut content)?;
-            Brace::default().surround(content, out)
-        }
+        Expr::Lit(_) => true,
+        Expr::Block(_) => true,
+        Expr::Path(expr) => expr.attrs.len() == 0 && expr.path.get_ident().is_some(),
+        _ => false,
+    }
+}
+
+/// What stands between the braces of a const argument.
+#[tactic(auto, using(token_core::proofs::Puts::puts, crate::proofs::attr_laws::Prints::places))]
+fn print_in_braces<X: Subtree>(
+    alloc: Global,
+    value: &Expr<X>,
+    out: &mut TokenStream,
+) -> Result<(), AllocError>
+    ensures ok { OnOk result (trees out.new ≡ trees out.old ++ printing.in_braces X.prints value.now) }
+    ensures err { OnErr result (Extends (trees out.old) (trees out.new)) }
+{
+    match value {
+        Expr::Other(tree) => tree.print(alloc, Place::Block, out),
+        _ => print_value(alloc, value, out),
     }
 }
 

@@ -12,27 +12,108 @@ pub mod supplied;
 pub mod ty;
 pub mod whole;
 
-pub use attr::{AttrStyle, Attribute, AttributeOf, Meta, MetaList, MetaNameValue};
-pub use generics::{
-    BoundLifetimes, BoundLifetimesOf, CapturedParam, ConstParam, GenericParam, Generics,
-    ImplGenerics, LifetimeParam, PreciseCapture, PredicateLifetime, PredicateType, TraitBound,
-    TraitBoundModifiers, TraitBoundOf, Turbofish, TypeGenerics, TypeParam, TypeParamBound,
-    TypeParamOf, WhereClause, WherePredicate,
-};
-pub use mac::{Macro, MacroDelimiter};
-pub use pat::{
-    FieldPat, FieldPatOf, Pat, PatGuard, PatGuardOf, PatIdent, PatIdentOf, PatLit, PatOr, PatOrOf,
-    PatParen, PatParenOf, PatReference, PatReferenceOf, PatRest, PatSlice, PatSliceOf, PatStruct,
-    PatStructOf, PatTuple, PatTupleOf, PatTupleStruct, PatTupleStructOf, PatType, PatTypeOf,
-    PatWild,
-};
-pub use path::{
-    AngleBracketedGenericArguments, ParenthesizedGenericArguments, Path, PathArguments, PathSegment,
-};
-pub use supplied::{Expr, ExprLit, ExprLitOf, Place, Subtree};
-pub use ty::{
-    Abi, PointerMutability, ReturnType, ReturnTypeOf, Type, TypeArray, TypeArrayOf, TypeGroup,
-    TypeGroupOf, TypeInfer, TypeMacro, TypeNever, TypeParen, TypeParenOf, TypePath, TypePtr,
-    TypePtrOf, TypeReference, TypeReferenceOf, TypeSlice, TypeSliceOf, TypeTuple, TypeTupleOf,
-};
-pub use whole::{ModStyle, ParseInner, ParseOuter, WithoutPlus};
+pub use attr::AttrStyle;
+pub use attr::Attribute;
+pub use attr::AttributeOf;
+pub use attr::Meta;
+pub use attr::MetaList;
+pub use attr::MetaNameValue;
+pub use generics::BoundLifetimes;
+pub use generics::BoundLifetimesOf;
+pub use generics::CapturedParam;
+pub use generics::ConstParam;
+pub use generics::GenericParam;
+pub use generics::Generics;
+pub use generics::ImplGenerics;
+pub use generics::LifetimeParam;
+pub use generics::PreciseCapture;
+pub use generics::PredicateLifetime;
+pub use generics::PredicateType;
+pub use generics::TraitBound;
+pub use generics::TraitBoundModifiers;
+pub use generics::TraitBoundOf;
+pub use generics::Turbofish;
+pub use generics::TypeGenerics;
+pub use generics::TypeParam;
+pub use generics::TypeParamBound;
+pub use generics::TypeParamOf;
+pub use generics::WhereClause;
+pub use generics::WherePredicate;
+pub use mac::Macro;
+pub use mac::MacroDelimiter;
+pub use pat::FieldPat;
+pub use pat::FieldPatOf;
+pub use pat::Pat;
+pub use pat::PatConst;
+pub use pat::PatGuard;
+pub use pat::PatGuardOf;
+pub use pat::PatIdent;
+pub use pat::PatIdentOf;
+pub use pat::PatLit;
+pub use pat::PatMacro;
+pub use pat::PatOr;
+pub use pat::PatOrOf;
+pub use pat::PatParen;
+pub use pat::PatParenOf;
+pub use pat::PatPath;
+pub use pat::PatRange;
+pub use pat::PatReference;
+pub use pat::PatReferenceOf;
+pub use pat::PatRest;
+pub use pat::PatSlice;
+pub use pat::PatSliceOf;
+pub use pat::PatStruct;
+pub use pat::PatStructOf;
+pub use pat::PatTuple;
+pub use pat::PatTupleOf;
+pub use pat::PatTupleStruct;
+pub use pat::PatTupleStructOf;
+pub use pat::PatType;
+pub use pat::PatTypeOf;
+pub use pat::PatWild;
+pub use path::AngleBracketedGenericArguments;
+pub use path::ParenthesizedGenericArguments;
+pub use path::Path;
+pub use path::PathArguments;
+pub use path::PathSegment;
+pub use supplied::Expr;
+pub use supplied::ExprBlock;
+pub use supplied::ExprBlockOf;
+pub use supplied::ExprConst;
+pub use supplied::ExprConstOf;
+pub use supplied::ExprLit;
+pub use supplied::ExprLitOf;
+pub use supplied::ExprMacro;
+pub use supplied::ExprMacroOf;
+pub use supplied::ExprPath;
+pub use supplied::ExprPathOf;
+pub use supplied::ExprRange;
+pub use supplied::Place;
+pub use supplied::Subtree;
+pub use ty::Abi;
+pub use ty::PointerMutability;
+pub use ty::ReturnType;
+pub use ty::ReturnTypeOf;
+pub use ty::Type;
+pub use ty::TypeArray;
+pub use ty::TypeArrayOf;
+pub use ty::TypeGroup;
+pub use ty::TypeGroupOf;
+pub use ty::TypeInfer;
+pub use ty::TypeMacro;
+pub use ty::TypeNever;
+pub use ty::TypeParen;
+pub use ty::TypeParenOf;
+pub use ty::TypePath;
+pub use ty::TypePtr;
+pub use ty::TypePtrOf;
+pub use ty::TypeReference;
+pub use ty::TypeReferenceOf;
+pub use ty::TypeSlice;
+pub use ty::TypeSliceOf;
+pub use ty::TypeTuple;
+pub use ty::TypeTupleOf;
+pub use whole::ModStyle;
+pub use whole::ParseInner;
+pub use whole::ParseOuter;
+pub use whole::WithoutPlus;

@@ -11,7 +11,7 @@ ghost use Rattle.syn_mid.specs.pat.Printing as printing;
 
 use crate::attr::{Attribute, print_outer, print_value};
 use crate::path::{Path, PathStyle, print_path};
-use crate::supplied::{Expr, ExprLit, Place, Subtree};
+use crate::supplied::{Expr, ExprConst, ExprLit, ExprMacro, ExprPath, ExprRange, Place, Subtree};
 use crate::ty::{Type, print_lone_comma, print_type, print_verbatim};
 use std::alloc::{AllocError, Global};
 use token_core::token::{
@@ -23,16 +23,24 @@ use token_core::{Boxed, Ident, Items, Member, Pair, Punctuated, ToTokens, TokenS
 #[cycle(pats)]
 #[derive(Drop)]
 pub enum Pat<X> {
+    /// `const { .. }`
+    Const(PatConst<X>),
     /// `a if b`
     Guard(PatGuard<X>),
     /// `ref mut a @ b`
     Ident(PatIdent<X>),
     /// `1`
     Lit(PatLit<X>),
+    /// `a!(b)`
+    Macro(PatMacro<X>),
     /// `a | b`
     Or(PatOr<X>),
     /// `(a)`
     Paren(PatParen<X>),
+    /// `a::b`
+    Path(PatPath<X>),
+    /// `1..=2`
+    Range(PatRange<X>),
     /// `&mut a`
     Reference(PatReference<X>),
     /// `..`
@@ -52,6 +60,9 @@ pub enum Pat<X> {
     /// `_`
     Wild(PatWild<X>),
 }
+
+/// A const block as a pattern.
+pub type PatConst<X> = ExprConst<X>;
 
 /// A pattern with a guard, over that pattern.
 #[derive(Drop)]
@@ -81,6 +92,9 @@ pub type PatIdent<X> = PatIdentOf<Pat<X>, X>;
 /// A literal as a pattern.
 pub type PatLit<X> = ExprLit<X>;
 
+/// A macro call as a pattern.
+pub type PatMacro<X> = ExprMacro<X>;
+
 /// Alternatives, over their pattern.
 #[derive(Drop)]
 pub struct PatOrOf<P, X> {
@@ -102,6 +116,12 @@ pub struct PatParenOf<P, X> {
 
 /// A pattern in parentheses.
 pub type PatParen<X> = PatParenOf<Pat<X>, X>;
+
+/// A path as a pattern.
+pub type PatPath<X> = ExprPath<X>;
+
+/// A range as a pattern.
+pub type PatRange<X> = ExprRange<X>;
 
 /// A pattern of a reference, over the pattern of what it points to.
 #[derive(Drop)]
@@ -207,7 +227,8 @@ impl<X> Pat<X> {
     {
         match self {
             Pat::Rest(_) => true,
-            Pat::Guard(_) | Pat::Ident(_) | Pat::Lit(_) | Pat::Or(_) | Pat::Paren(_) => false,
+            Pat::Const(_) | Pat::Guard(_) | Pat::Ident(_) | Pat::Lit(_) | Pat::Macro(_) => false,
+            Pat::Or(_) | Pat::Paren(_) | Pat::Path(_) | Pat::Range(_) => false,
             Pat::Reference(_) | Pat::Slice(_) | Pat::Struct(_) | Pat::Tuple(_) => false,
             Pat::TupleStruct(_) | Pat::Type(_) | Pat::Verbatim(_) | Pat::Wild(_) => false,
         }
@@ -215,6 +236,14 @@ impl<X> Pat<X> {
 }
 
 // ---- a form as a pattern
+
+impl<X> From<PatConst<X>> for Pat<X> {
+    ghost from_gives = { λ form pat. pat ≡ pats.Const form };
+
+    fn from(form: PatConst<X>) -> Pat<X> {
+        Pat::Const(form)
+    }
+}
 
 impl<X> From<PatGuard<X>> for Pat<X> {
     ghost from_gives = { λ form pat. pat ≡ pats.Guard form };
@@ -240,6 +269,14 @@ impl<X> From<PatLit<X>> for Pat<X> {
     }
 }
 
+impl<X> From<PatMacro<X>> for Pat<X> {
+    ghost from_gives = { λ form pat. pat ≡ pats.Macro form };
+
+    fn from(form: PatMacro<X>) -> Pat<X> {
+        Pat::Macro(form)
+    }
+}
+
 impl<X> From<PatOr<X>> for Pat<X> {
     ghost from_gives = { λ form pat. pat ≡ pats.Or form };
 
@@ -253,6 +290,22 @@ impl<X> From<PatParen<X>> for Pat<X> {
 
     fn from(form: PatParen<X>) -> Pat<X> {
         Pat::Paren(form)
+    }
+}
+
+impl<X> From<PatPath<X>> for Pat<X> {
+    ghost from_gives = { λ form pat. pat ≡ pats.Path form };
+
+    fn from(form: PatPath<X>) -> Pat<X> {
+        Pat::Path(form)
+    }
+}
+
+impl<X> From<PatRange<X>> for Pat<X> {
+    ghost from_gives = { λ form pat. pat ≡ pats.Range form };
+
+    fn from(form: PatRange<X>) -> Pat<X> {
+        Pat::Range(form)
     }
 }
 
@@ -544,11 +597,15 @@ pub(crate) fn print_pat<X: Subtree>(
     ensures err { OnErr result (Extends (trees out.old) (trees out.new)) }
 {
     match pat {
+        Pat::Const(pat) => pat.to_tokens(alloc, out),
         Pat::Guard(pat) => print_guarded(alloc, pat, out),
         Pat::Ident(pat) => print_binding(alloc, pat, out),
-        Pat::Lit(pat) => print_lit(alloc, pat, out),
+        Pat::Lit(pat) => pat.to_tokens(alloc, out),
+        Pat::Macro(pat) => pat.to_tokens(alloc, out),
         Pat::Or(pat) => print_alternatives(alloc, pat, out),
         Pat::Paren(pat) => print_paren(alloc, pat, out),
+        Pat::Path(pat) => pat.to_tokens(alloc, out),
+        Pat::Range(pat) => pat.to_tokens(alloc, out),
         Pat::Reference(pat) => print_reference(alloc, pat, out),
         Pat::Rest(pat) => print_rest(alloc, pat, out),
         Pat::Slice(pat) => print_slice(alloc, pat, out),
@@ -868,19 +925,6 @@ fn field_parts<X>(pat: &PatStruct<X>) -> (&[Pair<FieldPat<X>, Comma>], Option<&F
 // ---- prints of the parts that hold no pattern
 
 #[tactic(auto, using(token_core::proofs::Puts::puts))]
-fn print_lit<X: Subtree>(
-    alloc: Global,
-    pat: &PatLit<X>,
-    out: &mut TokenStream,
-) -> Result<(), AllocError>
-    ensures ok { OnOk result (trees out.new ≡ trees out.old ++ printing.lit X.prints pat.now) }
-    ensures err { OnErr result (Extends (trees out.old) (trees out.new)) }
-{
-    print_outer(alloc, &pat.attrs, out)?;
-    pat.lit.to_tokens(alloc, out)
-}
-
-#[tactic(auto, using(token_core::proofs::Puts::puts))]
 fn print_rest<X: Subtree>(
     alloc: Global,
     pat: &PatRest<X>,
@@ -1014,8 +1058,8 @@ fn print_tuple_comma<X>(
     }
 }
 
-/// The guard of a pattern: a literal as it prints as a value, or the supplied subtree in this place.
-#[tactic(auto, using(token_core::proofs::Puts::puts, crate::proofs::pat_laws::Prints::prints))]
+/// The guard of a pattern: the supplied subtree in this place, and anything else as it prints as a value.
+#[tactic(auto, using(token_core::proofs::Puts::puts, crate::proofs::attr_laws::Prints::places))]
 fn print_guard<X: Subtree>(
     alloc: Global,
     guard: &Expr<X>,
@@ -1025,8 +1069,8 @@ fn print_guard<X: Subtree>(
     ensures err { OnErr result (Extends (trees out.old) (trees out.new)) }
 {
     match guard {
-        Expr::Lit(_) => print_value(alloc, guard, out),
         Expr::Other(tree) => tree.print(alloc, Place::Guard, out),
+        _ => print_value(alloc, guard, out),
     }
 }
 

@@ -9,8 +9,11 @@ ghost use Rattle.token_core.specs.Reads.{Reader, Reads, Follows, leaves};
 ghost use Rattle.syn_mid.specs.Supplied as spec;
 
 use crate::attr::Attribute;
+use crate::mac::Macro;
+use crate::path::Path;
 use std::alloc::{AllocError, Global};
-use token_core::{Error, Items, Lit, ParseStream, TokenStream};
+use token_core::token::{Brace, Const};
+use token_core::{Boxed, Error, Items, Lit, ParseStream, RangeLimits, TokenStream};
 
 /// Where a supplied subtree stands.
 #[derive(Clone, Copy, PartialEq, Eq)]
@@ -66,12 +69,22 @@ pub trait Subtree: Drop {
     ghost apart: { (x : Self) (l : Toks) → spells spec.Value x l → spec.IsApart l };
 }
 
-/// An expression, of which the cases that this layer reads are told apart.
+/// An expression, of which the cases that this layer knows are told apart.
 #[cycle(trees)]
 #[derive(Drop)]
 pub enum Expr<X> {
     /// A literal.
     Lit(ExprLit<X>),
+    /// `a::b`
+    Path(ExprPath<X>),
+    /// `const { .. }`
+    Const(ExprConst<X>),
+    /// `a::b!(..)`
+    Macro(ExprMacro<X>),
+    /// `a..b`
+    Range(ExprRange<X>),
+    /// `{ .. }`
+    Block(ExprBlock<X>),
     /// A supplied subtree.
     Other(X),
 }
@@ -85,3 +98,56 @@ pub struct ExprLitOf<A> {
 
 /// A literal as an expression.
 pub type ExprLit<X> = ExprLitOf<Attribute<X>>;
+
+/// A path as an expression, over its attributes.
+#[derive(Drop)]
+pub struct ExprPathOf<A, X> {
+    pub attrs: Items<A>,
+    pub path: Path<X>,
+}
+
+/// A path as an expression: `a::b`.
+pub type ExprPath<X> = ExprPathOf<Attribute<X>, X>;
+
+/// A const block, over its attributes.
+#[derive(Drop)]
+pub struct ExprConstOf<A, X> {
+    pub attrs: Items<A>,
+    pub const_token: Const,
+    pub brace_token: Brace,
+    pub body: X,
+}
+
+/// A const block: `const`, and a body in braces.
+pub type ExprConst<X> = ExprConstOf<Attribute<X>, X>;
+
+/// A macro call as an expression, over its attributes.
+#[derive(Drop)]
+pub struct ExprMacroOf<A, X> {
+    pub attrs: Items<A>,
+    pub mac: Macro<X>,
+}
+
+/// A macro call as an expression: `a::b!(..)`.
+pub type ExprMacro<X> = ExprMacroOf<Attribute<X>, X>;
+
+/// A range: an optional start, `..` or `..=`, an optional end.
+#[cycle(trees)]
+#[derive(Drop)]
+pub struct ExprRange<X> {
+    pub attrs: Items<Attribute<X>>,
+    pub start: Option<Boxed<Expr<X>>>,
+    pub limits: RangeLimits,
+    pub end: Option<Boxed<Expr<X>>>,
+}
+
+/// A block as an expression, over its attributes.
+#[derive(Drop)]
+pub struct ExprBlockOf<A, X> {
+    pub attrs: Items<A>,
+    pub brace_token: Brace,
+    pub body: X,
+}
+
+/// A block as an expression: a body in braces.
+pub type ExprBlock<X> = ExprBlockOf<Attribute<X>, X>;

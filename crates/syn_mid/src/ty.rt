@@ -932,8 +932,8 @@ pub(crate) fn print_verbatim(
     Ok(())
 }
 
-/// The length of an array: a literal as it prints as a value, or the supplied subtree in this place.
-#[tactic(auto, using(token_core::proofs::Puts::puts, crate::proofs::ty_laws::Prints::prints))]
+/// The length of an array: the supplied subtree in this place, and anything else as it prints as a value.
+#[tactic(auto, using(token_core::proofs::Puts::puts, crate::proofs::attr_laws::Prints::places))]
 fn print_len<X: Subtree>(
     alloc: Global,
     len: &Expr<X>,
@@ -943,8 +943,8 @@ fn print_len<X: Subtree>(
     ensures err { OnErr result (Extends (trees out.old) (trees out.new)) }
 {
     match len {
-        Expr::Lit(_) => print_value(alloc, len, out),
         Expr::Other(tree) => tree.print(alloc, Place::ArrayLen, out),
+        _ => print_value(alloc, len, out),
     }
 }
 

@@ -23,7 +23,7 @@ use Rattle.syn_mid.specs.declared.attr.AttrStyle.TheVariants as y
 use Rattle.syn_mid.specs.declared.attr.Meta.{Meta}
 use Rattle.syn_mid.specs.declared.attr.Meta.TheVariants as m
 use Rattle.syn_mid.specs.declared.attr.MetaList.{MetaList}
-use Rattle.syn_mid.specs.declared.attr.MetaNameValue.{MetaNameValue, out-roll-MetaNameValue}
+use Rattle.syn_mid.specs.declared.attr.MetaNameValue.{MetaNameValue}
 use Rattle.syn_mid.specs.declared.attr.Meta.TheOpen as o
 use Rattle.syn_mid.specs.declared.mac.MacroDelimiter.{MacroDelimiter}
 use Rattle.syn_mid.specs.declared.path.Path.{Path}
@@ -42,7 +42,7 @@ use Rattle.syn_mid.proofs.path_laws.Reprint.{path_again}
 use Rattle.syn_mid.proofs.path_laws.Laws.{whole_path}
 use Rattle.syn_mid.proofs.mac_laws.Reprint.{row-body, delimits_visible}
 use Rattle.syn_mid.proofs.attr_laws.Sound.{visible_meta_path}
-use Rattle.syn_mid.proofs.attr_laws.Prints.{prints_path, prints_list, prints_name_value, prints_fields, prints_other, prints_literal, normal_literal, normal_other, normal_fields, normal_path, normal_list, normal_name_value}
+use Rattle.syn_mid.proofs.attr_laws.Prints.{prints_path, prints_list, prints_name_value, prints_named, prints_other, prints_literal, normal_literal, normal_other, normal_fields, normal_path, normal_list, normal_name_value}
 
 -- a print that spells the normal form
 pub record Again {A : Type 0} (S : A → Toks → Type 0) (n : A → A) (pr : A → Print) (a : A) (l : Toks) : Type 0 where
@@ -88,11 +88,11 @@ module _ {X : Type 0} where
 module _ {X : Type 0} (reads : Place → Reader X) (spells : Place → X → Toks → Type 0) (normals : Place → X → X) (prints : Place → X → Print)
     (complete : (p : Place) (s : Stream) (x : X) → spells p x s.rest → (t : Stream) × (reads p s ≡ Ok (x, t)) × UsesUp s t)
     (reprint : (p : Place) (x : X) (l : Toks) → spells p x l → Reprints (spells p) (normals p) (prints p) x l) where
-  abbrev nx : X → X
-  nx = normals Value
+  abbrev nx : Place → X → X
+  nx = normals
 
-  abbrev px : X → Print
-  px = prints Value
+  abbrev px : Place → X → Print
+  px = prints
 
   -- a normal form is its own, since both have one print
   pub supplied_stays : (w : Place) (x : X) (l : Toks) → spells w x l → normals w (normals w x) ≡ normals w x
@@ -119,20 +119,15 @@ module _ {X : Type 0} (reads : Place → Reader X) (spells : Place → X → Tok
       let pr = prints_other px x in
       let r = reprint Value x l i in
       record {
-        spelt = subst (λ z. IsValue spells true z (row (value px (e.Other x)) done)) (sym n) (subst (λ z. IsValue spells true (e.Other (nx x)) (row z done)) (sym pr) (supplied r.again));
+        spelt = subst (λ z. IsValue spells true z (row (value px (e.Other x)) done)) (sym n) (subst (λ z. IsValue spells true (e.Other (nx Value x)) (row z done)) (sym pr) (supplied r.again));
         visible = λ v. subst (λ z. Visible (row z done)) (sym pr) (r.visible v);
-        stays = ap (normal.value nx) n ∙ normal_other nx (nx x) ∙ ap (λ (z : X). e.Other z) (supplied_stays Value x l i) ∙ sym n;
-        same = ap (value px) n ∙ prints_other px (nx x) ∙ r.same ∙ sym pr;
+        stays = ap (normal.value nx) n ∙ normal_other nx (nx Value x) ∙ ap (λ (z : X). e.Other z) (supplied_stays Value x l i) ∙ sym n;
+        same = ap (value px) n ∙ prints_other px (nx Value x) ∙ r.same ∙ sym pr;
       }
-
-  print-fields : (q : Path X) (t : Equals) (v : Expr X) → name_value px (name_value_of q t v) ≡ path Mod q ++ (p.mark t ++ value px v)
-  print-fields q t v =
-      prints_fields px (name_value_of q t v)
-      ∙ ap (λ (z : o.MetaNameValue-F X (Meta X) (Expr X) (MetaNameValue X)). path Mod z.path ++ (p.mark z.eq_token ++ value px z.value)) (out-roll-MetaNameValue X (record { path = q; eq_token = t; value = v }))
 
   row-fields : (q : Path X) (t : Equals) (v : Expr X) → row (name_value px (name_value_of q t v)) done ≡ row (path Mod q) (row (p.mark t) (row (value px v) done))
   row-fields q t v =
-      ap (λ z. row z done) (print-fields q t v) ∙ row-append (path Mod q) (p.mark t ++ value px v) done ∙ ap (row (path Mod q)) (row-append (p.mark t) (value px v) done)
+      ap (λ z. row z done) (prints_named px q t v) ∙ row-append (path Mod q) (p.mark t ++ value px v) done ∙ ap (row (path Mod q)) (row-append (p.mark t) (value px v) done)
 
   pub name_value_again : (x : MetaNameValue X) (l : Toks) → IsNameValue spells false x l → Again (IsNameValue spells true) (normal.name_value nx) (name_value px) x l
   name_value_again x l (a_name_value {p = q} {q = t} {v = v} {m = n} {k = k} i j h) =
@@ -148,7 +143,7 @@ module _ {X : Type 0} (reads : Place → Reader X) (spells : Place → X → Tok
         visible = λ u. subst Visible (sym seen) (whole_meta_path true q (row (path Mod q) (row (p.mark t) rest)) (row (p.mark t) rest) first
             (mark_whole true {n = 11} {k = 1} t (row (p.mark t) rest) rest second (w.visible (mark_visible false {n = 11} {k = 1} t n k j (visible_meta_path q l n i u)))));
         stays = ap (normal.name_value nx) f ∙ normal_fields nx q t (normal.value nx v) ∙ ap (name_value_of q t) w.stays ∙ sym f;
-        same = ap (name_value px) f ∙ print-fields q t (normal.value nx v) ∙ ap (λ z. path Mod q ++ (p.mark t ++ z)) w.same ∙ sym (print-fields q t v);
+        same = ap (name_value px) f ∙ prints_named px q t (normal.value nx v) ∙ ap (λ z. path Mod q ++ (p.mark t ++ z)) w.same ∙ sym (prints_named px q t v);
       }
 
   pub meta_again : (x : Meta X) (l : Toks) → IsMeta spells false x l → Again (IsMeta spells true) (normal.meta nx) (meta px) x l

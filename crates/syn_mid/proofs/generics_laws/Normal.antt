@@ -5,12 +5,8 @@ use Rattle.token_core.specs.declared.mark.Mark.{Mark}
 use Rattle.token_core.specs.declared.tree.TokenStream.{TokenStream}
 use Rattle.token_core.specs.declared.word.Word.{Word}
 use Rattle.token_core.specs.Loops.{Many}
-use Rattle.syn_mid.specs.Supplied.{Place, Value, Block}
-use Rattle.syn_mid.specs.declared.attr.Meta.{Meta}
-use Rattle.syn_mid.specs.declared.attr.Meta.TheOpen as o
-use Rattle.syn_mid.specs.declared.attr.MetaNameValue.{MetaNameValue}
-use Rattle.syn_mid.specs.declared.supplied.Expr.{Expr, out-Expr}
-use Rattle.syn_mid.specs.declared.supplied.Expr.TheVariants as e
+use Rattle.syn_mid.specs.Supplied.{Place, Block}
+use Rattle.syn_mid.specs.declared.supplied.Expr.{Expr}
 use Rattle.syn_mid.specs.declared.ty.Type.{«Type» as TypeTree}
 use Rattle.syn_mid.specs.declared.generics.Generics.{Generics}
 use Rattle.syn_mid.specs.declared.generics.GenericParam.{GenericParam, out-GenericParam, roll-GenericParam, roll-out-GenericParam, map-GenericParam}
@@ -40,7 +36,7 @@ use Rattle.syn_mid.specs.generics.Normal as normal
 use Rattle.syn_mid.specs.generics.Normal.{colon, many, param, bound, param_step, bound_step}
 use Rattle.syn_mid.specs.generics.Params.{Attrs, Colon, Comma, Eq, is_lifetime, is_lifetime_layer, bound_lifetimes_of, trait_bound_of, capture_of, type_param_of, lifetime_param_of, const_param_of, where_clause_of, predicate_lifetime_of, predicate_type_of, generics_of}
 use Rattle.syn_mid.specs.generics.Printing.{is_captured_lifetime}
-use Rattle.syn_mid.proofs.attr_laws.Normal.{attributes_stay}
+use Rattle.syn_mid.proofs.attr_laws.Normal.{attributes_stay, at_place_stays}
 use Rattle.syn_mid.proofs.ty_laws.Each.{Each, each_held, each_of, map_stays}
 use Rattle.syn_mid.proofs.ty_laws.Stays.{ty_stays}
 use Rattle.syn_mid.proofs.generics_laws.Marked.{and_left, and_right, each_marked, marked-Type, marked-Trait, marked-PreciseCapture}
@@ -98,9 +94,6 @@ module _ {X : Type 0} (nx : Place → X → X) where
   unfolding bound
   normal-Verbatim x = ap (bound nx) (sym (b.rolls-Verbatim x)) ∙ fold-roll-TypeParamBound X (GenericParam X) (TypeParamBound X) (param_step nx) (bound_step nx) (g.Verbatim x)
 
-  pub normal_const-Other : (x : X) → normal.const_argument nx (e.Other x) ≡ e.Other (nx Block x)
-  normal_const-Other x = ap (normal.const_layer nx) (e.outs-Other x)
-
   -- a parameter stays of its kind
   kept_layer : (y : g.GenericParam-F X (GenericParam X) (TypeParamBound X)) → is_lifetime (param nx (roll-GenericParam X y)) ≡ is_lifetime (roll-GenericParam X y)
   kept_layer (g.GenericParam::Lifetime x) =
@@ -123,14 +116,10 @@ capture_stays x h = ap (λ z. capture_of x.use_token x.lt_token z x.gt_token) (s
 
 module _ {X : Type 0} (nx : Place → X → X) (own : (w : Place) (x : X) → nx w (nx w x) ≡ nx w x) where
   attrs_stay : (l : Attrs X) → normal.attrs nx (normal.attrs nx l) ≡ normal.attrs nx l
-  attrs_stay l = attributes_stay (nx Value) (own Value) l
-
-  const_layer_stays : (y : o.Expr-F X (Meta X) (Expr X) (MetaNameValue X)) → normal.const_argument nx (normal.const_layer nx y) ≡ normal.const_layer nx y
-  const_layer_stays (o.Lit x) = ap (normal.const_layer nx) (e.outs-Lit x)
-  const_layer_stays (o.Other x) = normal_const-Other nx (nx Block x) ∙ ap e.Other (own Block x)
+  attrs_stay l = attributes_stay nx own l
 
   pub const_argument_stays : (x : Expr X) → normal.const_argument nx (normal.const_argument nx x) ≡ normal.const_argument nx x
-  const_argument_stays x = const_layer_stays (out-Expr X x)
+  const_argument_stays x = at_place_stays nx own Block x
 
   pub lifetime_param_stays : (x : LifetimeParam X) → normal.lifetime_param nx (normal.lifetime_param nx x) ≡ normal.lifetime_param nx x
   lifetime_param_stays x =
@@ -322,6 +311,6 @@ module _ {X : Type 0} (nx : Place → X → X) (own : (w : Place) (x : X) → nx
       let h = params_stay x.params.0 (and_right (marks.marked x.params.0 x.params.1) all k) in
       generics_parts x.lt_token x.params.0 x.params.1 x.gt_token x.where_clause (and_left (marks.marked x.params.0 x.params.1) all k) h c
 
-pub ruleset normals = (normal-Lifetime, normal-Type, normal-Const, normal-Trait, normal-bound-Lifetime, normal-PreciseCapture, normal-Verbatim, normal_const-Other, kind_kept)
+pub ruleset normals = (normal-Lifetime, normal-Type, normal-Const, normal-Trait, normal-bound-Lifetime, normal-PreciseCapture, normal-Verbatim, kind_kept)
 
 pub ruleset laws = (capture_stays, const_argument_stays, lifetime_param_stays, type_param_stays, const_param_stays, param_stays, bound_stays, trait_bound_stays, bound_lifetimes_stay, predicate_lifetime_stays, predicate_type_stays, predicate_stays, where_clause_stays, where_option_stays, generics_stay)

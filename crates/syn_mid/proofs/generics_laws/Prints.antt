@@ -1,5 +1,5 @@
 -- What each kind of parameter, of bound and of const argument prints.
-use Rattle.std.proofs.Common.{◌≡◌, ℕ, List, [], ◌∷◌, ◌++◌, Option, Some, None, length, map, refl, sym, ◌∙◌, ap, append_assoc, arith}
+use Rattle.std.proofs.Common.{◌≡◌, true, false, if◌then◌else◌, ℕ, List, [], ◌∷◌, ◌++◌, Option, Some, None, length, map, refl, sym, ◌∙◌, ap, append_assoc, arith}
 use Rattle.token_core.specs.declared.lifetime.Lifetime.{Lifetime}
 use Rattle.token_core.specs.declared.mark.Mark.{Mark}
 use Rattle.token_core.specs.declared.token.Paren.{Paren}
@@ -12,11 +12,17 @@ use Rattle.token_core.specs.Prints as p
 use Rattle.token_core.specs.Prints.{Print}
 use Rattle.token_core.specs.Spans.{none, delim_span}
 use Rattle.token_core.specs.Trees.{trees, stream_of_trees}
-use Rattle.syn_mid.specs.Supplied.{Place, Value, Block}
+use Rattle.syn_mid.specs.Supplied.{Place}
 use Rattle.syn_mid.specs.declared.attr.AttributeOf.{AttributeOf}
 use Rattle.syn_mid.specs.declared.attr.Meta.{Meta}
 use Rattle.syn_mid.specs.declared.supplied.Expr.TheVariants as e
+use Rattle.syn_mid.specs.declared.supplied.Expr.{Expr}
+use Rattle.syn_mid.specs.declared.supplied.ExprBlockOf.{ExprBlockOf}
+use Rattle.syn_mid.specs.declared.supplied.ExprConstOf.{ExprConstOf}
 use Rattle.syn_mid.specs.declared.supplied.ExprLitOf.{ExprLitOf}
+use Rattle.syn_mid.specs.declared.supplied.ExprMacroOf.{ExprMacroOf}
+use Rattle.syn_mid.specs.declared.supplied.ExprPathOf.{ExprPathOf}
+use Rattle.syn_mid.specs.declared.supplied.ExprRange.{ExprRange}
 use Rattle.syn_mid.specs.declared.generics.GenericParam.{GenericParam}
 use Rattle.syn_mid.specs.declared.generics.GenericParam.TheFolds.{fold-roll-GenericParam, fold-roll-TypeParamBound}
 use Rattle.syn_mid.specs.declared.generics.GenericParam.TheOpen as g
@@ -32,11 +38,10 @@ use Rattle.syn_mid.specs.declared.generics.TraitBoundModifiers.{TraitBoundModifi
 use Rattle.syn_mid.specs.declared.path.Path.{Path}
 use Rattle.syn_mid.specs.declared.generics.PreciseCapture.{PreciseCapture}
 use Rattle.syn_mid.specs.declared.generics.WherePredicate.{WherePredicate}
-use Rattle.syn_mid.specs.attr.Printing.{literal_by, meta, value}
+use Rattle.syn_mid.specs.attr.Printing.{value}
 use Rattle.syn_mid.specs.path.Printing.{path, as_written}
 use Rattle.syn_mid.specs.generics.Params.{Plus, Comma, Colon, trait_bound_of}
-use Rattle.syn_mid.specs.generics.Printing.{or_default, optional, after_colon, in_parens, binder_by, binder_start, binder_joined, binder_end, predicate, predicates_after, capture, attrs, const_layer, const_argument, lifetime_param, type_default, type_param, const_param, trait_bound, param_step, bound_step, param, bound}
-use Rattle.syn_mid.proofs.attr_laws.Prints.{prints_literal}
+use Rattle.syn_mid.specs.generics.Printing.{or_default, optional, after_colon, in_parens, binder_by, binder_start, binder_joined, binder_end, predicate, predicates_after, capture, attrs, is_word, alone_layer, stands_alone, in_braces, const_argument, lifetime_param, type_default, type_param, const_param, trait_bound, param_step, bound_step, param, bound}
 
 -- what is already printed is printed as it is
 module _ {T : Type 0} {n l : ℕ} (f : T → Print) where
@@ -90,17 +95,37 @@ module _ {X : Type 0} (px : Place → X → Print) where
   unfolding bound
   bound-Verbatim x = ap (bound px) (sym (b.rolls-Verbatim x)) ∙ fold-roll-TypeParamBound X Print Print (param_step px) (bound_step px) (g.Verbatim x)
 
-  pub const_argument-Lit : (x : ExprLitOf (AttributeOf (Meta X))) → const_argument px (e.Lit x) ≡ literal_by (meta (px Value)) x
-  const_argument-Lit x = ap (const_layer px) (e.outs-Lit x)
+  pub const_alone : (x : Expr X) → stands_alone x ≡ true → const_argument px x ≡ value px x
+  const_alone x h = ap (λ z. if z then value px x else p.group Brace (stream_of_trees (in_braces px x)) (delim_span none none)) h
 
-  pub const_argument-Other : (x : X) → const_argument px (e.Other x) ≡ p.group Brace (stream_of_trees (px Block x)) (delim_span none none)
-  const_argument-Other x = ap (const_layer px) (e.outs-Other x)
+  pub const_braced : (x : Expr X) → stands_alone x ≡ false → const_argument px x ≡ p.group Brace (stream_of_trees (in_braces px x)) (delim_span none none)
+  const_braced x h = ap (λ z. if z then value px x else p.group Brace (stream_of_trees (in_braces px x)) (delim_span none none)) h
 
-  -- a literal prints as it does as a value
-  pub const_argument_value : (x : ExprLitOf (AttributeOf (Meta X))) → value (px Value) (e.Lit x) ≡ const_argument px (e.Lit x)
-  const_argument_value x = prints_literal (px Value) x ∙ sym (const_argument-Lit x)
+module _ {X : Type 0} where
+  pub alone-Lit : (x : ExprLitOf (AttributeOf (Meta X))) → stands_alone (e.Lit x) ≡ true
+  alone-Lit x = ap alone_layer (e.outs-Lit x)
 
-pub ruleset prints = (param-Lifetime, param-Type, param-Const, bound-Trait, bound-Lifetime, bound-PreciseCapture, bound-Verbatim, const_argument-Lit, const_argument-Other, const_argument_value)
+  pub alone-Path : (x : ExprPathOf (AttributeOf (Meta X)) X) → stands_alone (e.Path x) ≡ is_word x
+  alone-Path x = ap alone_layer (e.outs-Path x)
+
+  pub alone-Const : (x : ExprConstOf (AttributeOf (Meta X)) X) → stands_alone (e.Const x) ≡ false
+  alone-Const x = ap alone_layer (e.outs-Const x)
+
+  pub alone-Macro : (x : ExprMacroOf (AttributeOf (Meta X)) X) → stands_alone (e.Macro x) ≡ false
+  alone-Macro x = ap alone_layer (e.outs-Macro x)
+
+  pub alone-Range : (x : ExprRange X) → stands_alone (e.Range x) ≡ false
+  alone-Range x = ap alone_layer (e.outs-Range x)
+
+  pub alone-Block : (x : ExprBlockOf (AttributeOf (Meta X)) X) → stands_alone (e.Block x) ≡ true
+  alone-Block x = ap alone_layer (e.outs-Block x)
+
+  pub alone-Other : (x : X) → stands_alone (e.Other x) ≡ false
+  alone-Other x = ap alone_layer (e.outs-Other x)
+
+pub ruleset alone = (alone-Lit, alone-Path, alone-Const, alone-Macro, alone-Range, alone-Block, alone-Other)
+
+pub ruleset prints = (param-Lifetime, param-Type, param-Const, bound-Trait, bound-Lifetime, bound-PreciseCapture, bound-Verbatim, const_alone, const_braced)
 
 module _ {B : Type 0} where
   -- without bounds no colon

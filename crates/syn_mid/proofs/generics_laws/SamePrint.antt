@@ -1,5 +1,5 @@
 -- On every tree, the normal form of generics prints the same, where that of a supplied subtree does, and where lists have their marks.
-use Rattle.std.proofs.Common.{◌≡◌, true, List, [], ◌∷◌, ◌++◌, Option, Some, None, map, refl, sym, ◌∙◌, ap, subst}
+use Rattle.std.proofs.Common.{◌≡◌, Bool, true, false, List, [], ◌∷◌, ◌++◌, Option, Some, None, map, refl, sym, ◌∙◌, ap, subst}
 use Rattle.token_core.specs.declared.mark.Mark.{Mark}
 use Rattle.token_core.specs.declared.token.Paren.{Paren}
 use Rattle.token_core.specs.declared.word.Word.{Word}
@@ -10,13 +10,14 @@ use Rattle.token_core.specs.Prints as p
 use Rattle.token_core.specs.Prints.{Print}
 use Rattle.token_core.specs.Spans.{none, delim_span}
 use Rattle.token_core.specs.Trees.{stream_of_trees}
-use Rattle.syn_mid.specs.Supplied.{Place, Value, Block}
+use Rattle.syn_mid.specs.Supplied.{Place, Block}
 use Rattle.syn_mid.specs.declared.attr.Meta.{Meta}
 use Rattle.syn_mid.specs.declared.attr.Meta.TheOpen as o
 use Rattle.syn_mid.specs.declared.attr.MetaNameValue.{MetaNameValue}
 use Rattle.syn_mid.specs.declared.path.Path.{Path}
 use Rattle.syn_mid.specs.declared.supplied.Expr.{Expr, out-Expr, roll-Expr, roll-out-Expr}
 use Rattle.syn_mid.specs.declared.supplied.Expr.TheVariants as e
+use Rattle.syn_mid.specs.declared.supplied.ExprRange.{ExprRange}
 use Rattle.syn_mid.specs.declared.ty.Type.{«Type» as TypeTree}
 use Rattle.syn_mid.specs.declared.generics.Generics.{Generics}
 use Rattle.syn_mid.specs.declared.generics.GenericParam.{GenericParam, roll-GenericParam, map-GenericParam}
@@ -37,6 +38,9 @@ use Rattle.syn_mid.specs.declared.generics.WherePredicate.{WherePredicate}
 use Rattle.syn_mid.specs.declared.generics.WherePredicate.TheVariants as w
 use Rattle.syn_mid.specs.declared.generics.PredicateLifetime.{PredicateLifetime}
 use Rattle.syn_mid.specs.declared.generics.PredicateType.{PredicateType}
+use Rattle.syn_mid.specs.attr.Attrs.{Attribute, expr_path_of}
+use Rattle.syn_mid.specs.attr.Normal as attr
+use Rattle.syn_mid.specs.attr.Printing.{value}
 use Rattle.syn_mid.specs.path.Printing.{path, as_written}
 use Rattle.syn_mid.specs.ty.Normal as types
 use Rattle.syn_mid.specs.ty.Printing as texts
@@ -46,14 +50,15 @@ use Rattle.syn_mid.specs.generics.Normal as normal
 use Rattle.syn_mid.specs.generics.Normal.{colon, many}
 use Rattle.syn_mid.specs.generics.Params.{Attrs, Colon, Comma, Plus, Eq, is_lifetime, bound_lifetimes_of, trait_bound_of, type_param_of, where_clause_of, generics_of}
 use Rattle.syn_mid.specs.generics.Printing as printing
-use Rattle.syn_mid.specs.generics.Printing.{param, bound, after_colon, between, in_parens, optional, or_default, captured, is_captured_lifetime, lifetimes_joined, predicates_after}
-use Rattle.syn_mid.proofs.attr_laws.Normal.{outer_same}
+use Rattle.syn_mid.specs.generics.Printing.{is_word, stands_alone, param, bound, after_colon, between, in_parens, optional, or_default, captured, is_captured_lifetime, lifetimes_joined, predicates_after}
+use Rattle.syn_mid.proofs.attr_laws.Normal.{outer_same, value_same, at_place_same}
 use Rattle.syn_mid.proofs.ty_laws.Each.{Each, each_held, each_of, joined_same}
 use Rattle.syn_mid.proofs.ty_laws.Stays.{ty_same}
 use Rattle.syn_mid.proofs.generics_laws.Marked.{and_left, and_right, each_marked, marked-Type, marked-Trait, marked-PreciseCapture}
 use Rattle.syn_mid.proofs.generics_laws.Members.{true_false, some, some_sort, sort_prints, sorted_map, sorted_agrees, marked_map}
 use Rattle.syn_mid.proofs.generics_laws.Normal.{normal-Lifetime, normal-Type, normal-Const, normal-Trait, normal-bound-Lifetime, normal-PreciseCapture, normal-Verbatim, kind_kept}
-use Rattle.syn_mid.proofs.generics_laws.Prints.{param-Lifetime, param-Type, param-Const, bound-Trait, bound-PreciseCapture, const_argument-Other}
+use Rattle.syn_mid.proofs.generics_laws.Prints.{param-Lifetime, param-Type, param-Const, bound-Trait, bound-PreciseCapture, const_alone, const_braced, alone-Lit, alone-Path, alone-Const, alone-Macro, alone-Range, alone-Block, alone-Other}
+use Rattle.syn_mid.proofs.attr_laws.Prints.{normal-Lit, normal-Path as normal-ExprPath, normal-Const as normal-ExprConst, normal-Macro, normal-Range, normal-Block, normal_place}
 
 -- a colon without bounds prints nothing
 colon_same : {B : Type 0} (f : B → Print) (c : Option Colon) (l : List B) (ms : List Plus) → after_colon f (colon c l) (l, ms) ≡ after_colon f c (l, ms)
@@ -76,16 +81,57 @@ capture_same x m = ap (λ z. p.word x.use_token ++ (p.mark x.lt_token ++ (z ++ p
 
 module _ {X : Type 0} (nx : Place → X → X) (px : Place → X → Print) (same : (w : Place) (x : X) → px w (nx w x) ≡ px w x) where
   attrs_same : (l : Attrs X) → printing.attrs px (normal.attrs nx l) ≡ printing.attrs px l
-  attrs_same l = outer_same (nx Value) (px Value) (same Value) l
+  attrs_same l = outer_same nx px same l
 
-  const_layer_same : (y : o.Expr-F X (Meta X) (Expr X) (MetaNameValue X)) → printing.const_argument px (normal.const_layer nx y) ≡ printing.const_argument px (roll-Expr X y)
-  const_layer_same (o.Lit x) = ap (printing.const_argument px) (sym (e.rolls-Lit x))
-  const_layer_same (o.Other x) =
-      const_argument-Other px (nx Block x) ∙ ap (λ z. p.group Brace (stream_of_trees z) (delim_span none none)) (same Block x)
-      ∙ sym (const_argument-Other px x) ∙ ap (printing.const_argument px) (sym (e.rolls-Other x))
+  -- what stands alone does so in its normal form
+  word_kept : (l : List (Attribute X)) (q : Path X) → is_word (expr_path_of (attr.attributes nx l) q) ≡ is_word (expr_path_of l q)
+  word_kept [] q = refl
+  word_kept (a ∷ l) q = refl
+
+  abbrev Kept : Expr X → Type 0
+  Kept x = stands_alone (normal.const_argument nx x) ≡ stands_alone x
+
+  alone_layer_kept : (y : o.Expr-F X (Meta X) (Expr X) (MetaNameValue X) (ExprRange X)) → Kept (roll-Expr X y)
+  alone_layer_kept (o.Lit x) =
+      subst Kept (sym (e.rolls-Lit x)) (ap stands_alone (ap (λ z. attr.place_layer nx Block z (attr.value nx (e.Lit x))) (e.outs-Lit x) ∙ normal-Lit nx x) ∙ alone-Lit (attr.literal nx x) ∙ sym (alone-Lit x))
+  alone_layer_kept (o.Expr::Path x) =
+      subst Kept (sym (e.rolls-Path x)) (ap stands_alone (ap (λ z. attr.place_layer nx Block z (attr.value nx (e.Path x))) (e.outs-Path x) ∙ normal-ExprPath nx x) ∙ alone-Path (attr.expr_path nx x) ∙ word_kept x.attrs x.path ∙ sym (alone-Path x))
+  alone_layer_kept (o.Const x) =
+      subst Kept (sym (e.rolls-Const x)) (ap stands_alone (ap (λ z. attr.place_layer nx Block z (attr.value nx (e.Const x))) (e.outs-Const x) ∙ normal-ExprConst nx x) ∙ alone-Const (attr.expr_const nx x) ∙ sym (alone-Const x))
+  alone_layer_kept (o.Macro x) =
+      subst Kept (sym (e.rolls-Macro x)) (ap stands_alone (ap (λ z. attr.place_layer nx Block z (attr.value nx (e.Macro x))) (e.outs-Macro x) ∙ normal-Macro nx x) ∙ alone-Macro (attr.expr_macro nx x) ∙ sym (alone-Macro x))
+  alone_layer_kept (o.Range x) =
+      subst Kept (sym (e.rolls-Range x)) (ap stands_alone (ap (λ z. attr.place_layer nx Block z (attr.value nx (e.Range x))) (e.outs-Range x) ∙ normal-Range nx x) ∙ alone-Range (attr.range nx x) ∙ sym (alone-Range x))
+  alone_layer_kept (o.Block x) =
+      subst Kept (sym (e.rolls-Block x)) (ap stands_alone (ap (λ z. attr.place_layer nx Block z (attr.value nx (e.Block x))) (e.outs-Block x) ∙ normal-Block nx x) ∙ alone-Block (attr.block nx x) ∙ sym (alone-Block x))
+  alone_layer_kept (o.Other x) = subst Kept (sym (e.rolls-Other x)) (ap stands_alone (normal_place nx Block x) ∙ alone-Other (nx Block x) ∙ sym (alone-Other x))
+
+  alone_kept : (x : Expr X) → stands_alone (normal.const_argument nx x) ≡ stands_alone x
+  alone_kept x = subst Kept (roll-out-Expr X x) (alone_layer_kept (out-Expr X x))
+
+  -- where it does, it isn't a supplied subtree
+  abbrev KeptValue : Expr X → Type 0
+  KeptValue x = stands_alone x ≡ true → value px (normal.const_argument nx x) ≡ value px x
+
+  value_layer_kept : (y : o.Expr-F X (Meta X) (Expr X) (MetaNameValue X) (ExprRange X)) → KeptValue (roll-Expr X y)
+  value_layer_kept (o.Lit x) = subst KeptValue (sym (e.rolls-Lit x)) (λ h. ap (value px) (ap (λ z. attr.place_layer nx Block z (attr.value nx (e.Lit x))) (e.outs-Lit x)) ∙ value_same nx px same (e.Lit x))
+  value_layer_kept (o.Expr::Path x) = subst KeptValue (sym (e.rolls-Path x)) (λ h. ap (value px) (ap (λ z. attr.place_layer nx Block z (attr.value nx (e.Path x))) (e.outs-Path x)) ∙ value_same nx px same (e.Path x))
+  value_layer_kept (o.Block x) = subst KeptValue (sym (e.rolls-Block x)) (λ h. ap (value px) (ap (λ z. attr.place_layer nx Block z (attr.value nx (e.Block x))) (e.outs-Block x)) ∙ value_same nx px same (e.Block x))
+  value_layer_kept (o.Const x) = subst KeptValue (sym (e.rolls-Const x)) (λ h. true_false (sym h ∙ alone-Const x))
+  value_layer_kept (o.Macro x) = subst KeptValue (sym (e.rolls-Macro x)) (λ h. true_false (sym h ∙ alone-Macro x))
+  value_layer_kept (o.Range x) = subst KeptValue (sym (e.rolls-Range x)) (λ h. true_false (sym h ∙ alone-Range x))
+  value_layer_kept (o.Other x) = subst KeptValue (sym (e.rolls-Other x)) (λ h. true_false (sym h ∙ alone-Other x))
+
+  value_kept : (x : Expr X) → stands_alone x ≡ true → value px (normal.const_argument nx x) ≡ value px x
+  value_kept x = subst KeptValue (roll-out-Expr X x) (value_layer_kept (out-Expr X x))
+
+  const_by : (x : Expr X) (b : Bool) → stands_alone x ≡ b → printing.const_argument px (normal.const_argument nx x) ≡ printing.const_argument px x
+  const_by x true h = const_alone px (normal.const_argument nx x) (alone_kept x ∙ h) ∙ value_kept x h ∙ sym (const_alone px x h)
+  const_by x false h =
+      const_braced px (normal.const_argument nx x) (alone_kept x ∙ h) ∙ ap (λ z. p.group Brace (stream_of_trees z) (delim_span none none)) (at_place_same nx px same Block x) ∙ sym (const_braced px x h)
 
   pub const_argument_same : (x : Expr X) → printing.const_argument px (normal.const_argument nx x) ≡ printing.const_argument px x
-  const_argument_same x = const_layer_same (out-Expr X x) ∙ ap (printing.const_argument px) (roll-out-Expr X x)
+  const_argument_same x = const_by x (stands_alone x) refl
 
   pub lifetime_param_same : (x : LifetimeParam X) → printing.lifetime_param px (normal.lifetime_param nx x) ≡ printing.lifetime_param px x
   lifetime_param_same x =

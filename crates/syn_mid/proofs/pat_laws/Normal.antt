@@ -1,10 +1,10 @@
--- The normal form of each kind of pattern and of guard.
+-- The normal form of each kind of pattern.
 use Rattle.std.proofs.Common.{◌≡◌, List, [], ◌∷◌, Option, Some, None, map, refl, sym, ◌∙◌, ap}
 use Rattle.token_core.specs.declared.mark.Mark.{Mark}
 use Rattle.token_core.specs.declared.word.Word.{Word}
 use Rattle.token_core.specs.declared.tree.Ident.{Ident}
 use Rattle.token_core.specs.declared.tree.TokenStream.{TokenStream}
-use Rattle.syn_mid.specs.Supplied.{Place, Guard}
+use Rattle.syn_mid.specs.Supplied.{Place}
 use Rattle.syn_mid.specs.declared.attr.AttributeOf.{AttributeOf}
 use Rattle.syn_mid.specs.declared.attr.Meta.{Meta}
 use Rattle.syn_mid.specs.declared.pat.FieldPatOf.{FieldPatOf}
@@ -24,8 +24,12 @@ use Rattle.syn_mid.specs.declared.pat.PatTupleOf.{PatTupleOf}
 use Rattle.syn_mid.specs.declared.pat.PatTupleStructOf.{PatTupleStructOf}
 use Rattle.syn_mid.specs.declared.pat.PatTypeOf.{PatTypeOf}
 use Rattle.syn_mid.specs.declared.pat.PatWild.{PatWild}
-use Rattle.syn_mid.specs.declared.supplied.Expr.TheVariants as expr
+use Rattle.syn_mid.specs.declared.supplied.ExprConstOf.{ExprConstOf}
 use Rattle.syn_mid.specs.declared.supplied.ExprLitOf.{ExprLitOf}
+use Rattle.syn_mid.specs.declared.supplied.ExprMacroOf.{ExprMacroOf}
+use Rattle.syn_mid.specs.declared.supplied.ExprPathOf.{ExprPathOf}
+use Rattle.syn_mid.specs.declared.supplied.ExprRange.{ExprRange}
+use Rattle.syn_mid.specs.attr.Normal as attr
 use Rattle.syn_mid.specs.pat.Pats.{Attrs, is_rest, is_rest_layer, binding_of, struct_of, field_of}
 use Rattle.syn_mid.specs.pat.Normal as n
 use Rattle.syn_mid.specs.pat.Normal.{pat, pat_step}
@@ -38,6 +42,10 @@ module _ {X : Type 0} (nx : Place → X → X) where
   fields_mapped : (l : List (FieldPatOf (Pat X) X)) → map (n.field_around nx) (map inside l) ≡ map (n.field nx) l
   fields_mapped [] = refl
   fields_mapped (x ∷ l) = ap (λ z. n.field nx x ∷ z) (fields_mapped l)
+
+  pub normal-Const : (x : ExprConstOf (AttributeOf (Meta X)) X) → pat nx (v.Const x) ≡ v.Const (attr.expr_const nx x)
+  unfolding pat
+  normal-Const x = ap (pat nx) (sym (v.rolls-Const x)) ∙ fold-roll-Pat X (Pat X) (pat_step nx) (o.Const x)
 
   pub normal-Guard : (x : PatGuardOf (Pat X) X) → pat nx (v.Guard x) ≡ v.Guard (n.guarded nx x)
   unfolding pat
@@ -52,9 +60,13 @@ module _ {X : Type 0} (nx : Place → X → X) where
   pub normal-Ident : (x : PatIdentOf (Pat X) X) → pat nx (v.Ident x) ≡ v.Ident (n.binding nx x)
   normal-Ident x = binding_by x.attrs x.by_ref x.mutability x.ident x.subpat
 
-  pub normal-Lit : (x : ExprLitOf (AttributeOf (Meta X))) → pat nx (v.Lit x) ≡ v.Lit (n.lit nx x)
+  pub normal-Lit : (x : ExprLitOf (AttributeOf (Meta X))) → pat nx (v.Lit x) ≡ v.Lit (attr.literal nx x)
   unfolding pat
   normal-Lit x = ap (pat nx) (sym (v.rolls-Lit x)) ∙ fold-roll-Pat X (Pat X) (pat_step nx) (o.Lit x)
+
+  pub normal-Macro : (x : ExprMacroOf (AttributeOf (Meta X)) X) → pat nx (v.Macro x) ≡ v.Macro (attr.expr_macro nx x)
+  unfolding pat
+  normal-Macro x = ap (pat nx) (sym (v.rolls-Macro x)) ∙ fold-roll-Pat X (Pat X) (pat_step nx) (o.Macro x)
 
   pub normal-Or : (x : PatOrOf (Pat X) X) → pat nx (v.Or x) ≡ v.Or (n.alternatives nx x)
   unfolding pat
@@ -63,6 +75,14 @@ module _ {X : Type 0} (nx : Place → X → X) where
   pub normal-Paren : (x : PatParenOf (Pat X) X) → pat nx (v.Paren x) ≡ v.Paren (n.paren nx x)
   unfolding pat
   normal-Paren x = ap (pat nx) (sym (v.rolls-Paren x)) ∙ fold-roll-Pat X (Pat X) (pat_step nx) (o.Paren x)
+
+  pub normal-Path : (x : ExprPathOf (AttributeOf (Meta X)) X) → pat nx (v.Path x) ≡ v.Path (attr.expr_path nx x)
+  unfolding pat
+  normal-Path x = ap (pat nx) (sym (v.rolls-Path x)) ∙ fold-roll-Pat X (Pat X) (pat_step nx) (o.Path x)
+
+  pub normal-Range : (x : ExprRange X) → pat nx (v.Range x) ≡ v.Range (attr.range nx x)
+  unfolding pat
+  normal-Range x = ap (pat nx) (sym (v.rolls-Range x)) ∙ fold-roll-Pat X (Pat X) (pat_step nx) (o.Range x)
 
   pub normal-Reference : (x : PatReferenceOf (Pat X) X) → pat nx (v.Reference x) ≡ v.Reference (n.reference nx x)
   unfolding pat
@@ -102,16 +122,17 @@ module _ {X : Type 0} (nx : Place → X → X) where
   unfolding pat
   normal-Wild x = ap (pat nx) (sym (v.rolls-Wild x)) ∙ fold-roll-Pat X (Pat X) (pat_step nx) (o.Wild x)
 
-  pub normal-guard : (x : X) → n.guard nx (expr.Other x) ≡ expr.Other (nx Guard x)
-  normal-guard x = ap (n.guard_layer nx) (expr.outs-Other x)
-
   -- a pattern stays of its kind
   kept_layer : (y : o.Pat-F X (Pat X)) → is_rest (pat_step nx (map-Pat X (Pat X) (Pat X) (pat nx) y)) ≡ is_rest_layer y
+  kept_layer (o.Const x) = ap is_rest_layer (v.outs-Const _)
   kept_layer (o.Guard x) = ap is_rest_layer (v.outs-Guard _)
   kept_layer (o.Ident x) = ap is_rest_layer (v.outs-Ident _)
   kept_layer (o.Lit x) = ap is_rest_layer (v.outs-Lit _)
+  kept_layer (o.Macro x) = ap is_rest_layer (v.outs-Macro _)
   kept_layer (o.Or x) = ap is_rest_layer (v.outs-Or _)
   kept_layer (o.Paren x) = ap is_rest_layer (v.outs-Paren _)
+  kept_layer (o.Path x) = ap is_rest_layer (v.outs-Path _)
+  kept_layer (o.Range x) = ap is_rest_layer (v.outs-Range _)
   kept_layer (o.Reference x) = ap is_rest_layer (v.outs-Reference _)
   kept_layer (o.Rest x) = ap is_rest_layer (v.outs-Rest _)
   kept_layer (o.Slice x) = ap is_rest_layer (v.outs-Slice _)

@@ -1,4 +1,4 @@
--- What each kind of pattern and of guard prints.
+-- What each kind of pattern prints.
 use Rattle.std.proofs.Common.{◌≡◌, ℕ, Bool, if◌then◌else◌, List, [], ◌∷◌, ◌++◌, Option, Some, None, map, refl, sym, ◌∙◌, ap}
 use Rattle.token_core.specs.declared.mark.Mark.{Mark}
 use Rattle.token_core.specs.declared.word.Word.{Word}
@@ -9,11 +9,14 @@ use Rattle.token_core.specs.Lists.{joined}
 use Rattle.token_core.specs.Prints as p
 use Rattle.token_core.specs.Prints.{Print}
 use Rattle.token_core.specs.Trees.{trees, stream_of_trees}
-use Rattle.syn_mid.specs.Supplied.{Place, Guard, Value}
+use Rattle.syn_mid.specs.Supplied.{Place}
 use Rattle.syn_mid.specs.declared.attr.AttributeOf.{AttributeOf}
 use Rattle.syn_mid.specs.declared.attr.Meta.{Meta}
-use Rattle.syn_mid.specs.declared.supplied.Expr.TheVariants as e
+use Rattle.syn_mid.specs.declared.supplied.ExprConstOf.{ExprConstOf}
 use Rattle.syn_mid.specs.declared.supplied.ExprLitOf.{ExprLitOf}
+use Rattle.syn_mid.specs.declared.supplied.ExprMacroOf.{ExprMacroOf}
+use Rattle.syn_mid.specs.declared.supplied.ExprPathOf.{ExprPathOf}
+use Rattle.syn_mid.specs.declared.supplied.ExprRange.{ExprRange}
 use Rattle.syn_mid.specs.declared.pat.FieldPatOf.{FieldPatOf}
 use Rattle.syn_mid.specs.declared.pat.Pat.{Pat, out-Pat, map-Pat}
 use Rattle.syn_mid.specs.declared.pat.Pat.TheFolds.{fold-roll-Pat, fold_out-Pat}
@@ -31,7 +34,7 @@ use Rattle.syn_mid.specs.declared.pat.PatTupleOf.{PatTupleOf}
 use Rattle.syn_mid.specs.declared.pat.PatTupleStructOf.{PatTupleStructOf}
 use Rattle.syn_mid.specs.declared.pat.PatTypeOf.{PatTypeOf}
 use Rattle.syn_mid.specs.declared.pat.PatWild.{PatWild}
-use Rattle.syn_mid.specs.attr.Printing.{literal_by, meta, value}
+use Rattle.syn_mid.specs.attr.Printing as attr
 use Rattle.syn_mid.specs.generics.Printing.{optional}
 use Rattle.syn_mid.specs.pat.Pats.{Attrs, binding_of, field_of, is_rest, is_rest_layer}
 use Rattle.syn_mid.specs.pat.Printing as s
@@ -39,7 +42,6 @@ use Rattle.syn_mid.specs.pat.Printing.{pat, printed, pat_step}
 use Rattle.syn_mid.specs.path.Printing.{path, expr_style}
 use Rattle.syn_mid.specs.ty.Printing.{comma}
 use Rattle.syn_mid.specs.ty.Types.{Comma}
-use Rattle.syn_mid.proofs.attr_laws.Prints.{prints_literal}
 
 -- what is already printed is printed as it is
 module _ {T Q : Type 0} (f : T → Q) where
@@ -70,6 +72,10 @@ module _ {X : Type 0} (px : Place → X → Print) where
   rest_mapped f None all cs = refl
   rest_mapped f (Some x) all cs = last_mapped f all cs
 
+  pub pat-Const : (x : ExprConstOf (AttributeOf (Meta X)) X) → pat px (v.Const x) ≡ attr.expr_const px x
+  unfolding pat printed
+  pat-Const x = ap (pat px) (sym (v.rolls-Const x)) ∙ ap (λ z. z.0) (fold-roll-Pat X (s.Printed px) (pat_step px) (o.Const x))
+
   pub pat-Guard : (x : PatGuardOf (Pat X) X) → pat px (v.Guard x) ≡ s.guarded px x
   unfolding pat printed
   pat-Guard x = ap (pat px) (sym (v.rolls-Guard x)) ∙ ap (λ z. z.0) (fold-roll-Pat X (s.Printed px) (pat_step px) (o.Guard x))
@@ -83,9 +89,13 @@ module _ {X : Type 0} (px : Place → X → Print) where
   pub pat-Ident : (x : PatIdentOf (Pat X) X) → pat px (v.Ident x) ≡ s.binding px x
   pat-Ident x = binding_by x.attrs x.by_ref x.mutability x.ident x.subpat
 
-  pub pat-Lit : (x : ExprLitOf (AttributeOf (Meta X))) → pat px (v.Lit x) ≡ s.lit px x
+  pub pat-Lit : (x : ExprLitOf (AttributeOf (Meta X))) → pat px (v.Lit x) ≡ attr.literal px x
   unfolding pat printed
   pat-Lit x = ap (pat px) (sym (v.rolls-Lit x)) ∙ ap (λ z. z.0) (fold-roll-Pat X (s.Printed px) (pat_step px) (o.Lit x))
+
+  pub pat-Macro : (x : ExprMacroOf (AttributeOf (Meta X)) X) → pat px (v.Macro x) ≡ attr.expr_macro px x
+  unfolding pat printed
+  pat-Macro x = ap (pat px) (sym (v.rolls-Macro x)) ∙ ap (λ z. z.0) (fold-roll-Pat X (s.Printed px) (pat_step px) (o.Macro x))
 
   pub pat-Or : (x : PatOrOf (Pat X) X) → pat px (v.Or x) ≡ s.alternatives px x
   unfolding pat printed
@@ -96,6 +106,14 @@ module _ {X : Type 0} (px : Place → X → Print) where
   pub pat-Paren : (x : PatParenOf (Pat X) X) → pat px (v.Paren x) ≡ s.paren px x
   unfolding pat printed
   pat-Paren x = ap (pat px) (sym (v.rolls-Paren x)) ∙ ap (λ z. z.0) (fold-roll-Pat X (s.Printed px) (pat_step px) (o.Paren x))
+
+  pub pat-Path : (x : ExprPathOf (AttributeOf (Meta X)) X) → pat px (v.Path x) ≡ attr.expr_path px x
+  unfolding pat printed
+  pat-Path x = ap (pat px) (sym (v.rolls-Path x)) ∙ ap (λ z. z.0) (fold-roll-Pat X (s.Printed px) (pat_step px) (o.Path x))
+
+  pub pat-Range : (x : ExprRange X) → pat px (v.Range x) ≡ attr.range px x
+  unfolding pat printed
+  pat-Range x = ap (pat px) (sym (v.rolls-Range x)) ∙ ap (λ z. z.0) (fold-roll-Pat X (s.Printed px) (pat_step px) (o.Range x))
 
   pub pat-Reference : (x : PatReferenceOf (Pat X) X) → pat px (v.Reference x) ≡ s.reference px x
   unfolding pat printed
@@ -123,11 +141,15 @@ module _ {X : Type 0} (px : Place → X → Print) where
       ∙ ap (inside (s.fields px x.fields)) (rest_mapped print_field x.rest x.fields.0 x.fields.1)
 
   layer_mapped : (y : o.Pat-F X (Pat X)) → is_rest_layer (map-Pat X (Pat X) (s.Printed px) (printed px) y) ≡ is_rest_layer y
+  layer_mapped (o.Const x) = refl
   layer_mapped (o.Guard x) = refl
   layer_mapped (o.Ident x) = refl
   layer_mapped (o.Lit x) = refl
+  layer_mapped (o.Macro x) = refl
   layer_mapped (o.Or x) = refl
   layer_mapped (o.Paren x) = refl
+  layer_mapped (o.Path x) = refl
+  layer_mapped (o.Range x) = refl
   layer_mapped (o.Reference x) = refl
   layer_mapped (o.Rest x) = refl
   layer_mapped (o.Slice x) = refl
@@ -168,14 +190,4 @@ module _ {X : Type 0} (px : Place → X → Print) where
   unfolding pat printed
   pat-Wild x = ap (pat px) (sym (v.rolls-Wild x)) ∙ ap (λ z. z.0) (fold-roll-Pat X (s.Printed px) (pat_step px) (o.Wild x))
 
-  pub guard-Lit : (x : ExprLitOf (AttributeOf (Meta X))) → s.guard px (e.Lit x) ≡ literal_by (meta (px Value)) x
-  guard-Lit x = ap (s.guard_layer px) (e.outs-Lit x)
-
-  pub guard-Other : (x : X) → s.guard px (e.Other x) ≡ px Guard x
-  guard-Other x = ap (s.guard_layer px) (e.outs-Other x)
-
-  -- a literal prints as it does as a value
-  pub guard_value : (x : ExprLitOf (AttributeOf (Meta X))) → value (px Value) (e.Lit x) ≡ s.guard px (e.Lit x)
-  guard_value x = prints_literal (px Value) x ∙ sym (guard-Lit x)
-
-pub ruleset prints = (pat-Guard, pat-Ident, pat-Lit, pat-Or, pat-Paren, pat-Reference, pat-Rest, pat-Slice, pat-Struct, pat-Tuple, pat-TupleStruct, pat-Type, pat-Verbatim, pat-Wild, guard-Lit, guard-Other, guard_value)
+pub ruleset prints = (pat-Const, pat-Guard, pat-Ident, pat-Lit, pat-Macro, pat-Or, pat-Paren, pat-Path, pat-Range, pat-Reference, pat-Rest, pat-Slice, pat-Struct, pat-Tuple, pat-TupleStruct, pat-Type, pat-Verbatim, pat-Wild)

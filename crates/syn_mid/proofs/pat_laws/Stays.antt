@@ -7,11 +7,9 @@ use Rattle.token_core.specs.declared.mark.Mark.{Mark}
 use Rattle.token_core.specs.declared.tree.Delimiter.TheVariants.{Parenthesis, Brace, Bracket}
 use Rattle.token_core.specs.declared.tree.Ident.{Ident}
 use Rattle.token_core.specs.declared.word.Word.{Word}
-use Rattle.syn_mid.specs.Supplied.{Place, Value, Guard}
+use Rattle.syn_mid.specs.Supplied.{Place, Guard, Block}
 use Rattle.syn_mid.specs.declared.attr.AttributeOf.{AttributeOf}
 use Rattle.syn_mid.specs.declared.attr.Meta.{Meta}
-use Rattle.syn_mid.specs.declared.attr.Meta.TheOpen as e
-use Rattle.syn_mid.specs.declared.attr.MetaNameValue.{MetaNameValue}
 use Rattle.syn_mid.specs.declared.pat.FieldPatOf.{FieldPatOf}
 use Rattle.syn_mid.specs.declared.pat.Pat.{Pat, roll-Pat, map-Pat}
 use Rattle.syn_mid.specs.declared.pat.Pat.TheFolds.{ind-Pat}
@@ -19,10 +17,17 @@ use Rattle.syn_mid.specs.declared.pat.Pat.TheOpen as o
 use Rattle.syn_mid.specs.declared.pat.Pat.TheVariants as v
 use Rattle.syn_mid.specs.declared.pat.PatRest.{PatRest}
 use Rattle.syn_mid.specs.declared.pat.PatWild.{PatWild}
-use Rattle.syn_mid.specs.declared.supplied.Expr.{Expr, out-Expr, roll-Expr, roll-out-Expr}
-use Rattle.syn_mid.specs.declared.supplied.Expr.TheVariants as expr
+use Rattle.syn_mid.specs.declared.supplied.Expr.{Expr}
+use Rattle.syn_mid.specs.declared.supplied.ExprConstOf.{ExprConstOf}
 use Rattle.syn_mid.specs.declared.supplied.ExprLitOf.{ExprLitOf}
-use Rattle.syn_mid.specs.pat.Pats.{Attrs, is_rest, guard_of, binding_of, or_of, paren_of, reference_of, slice_of, struct_of, tuple_of, tuple_struct_of, typed_of, field_of, rest_of, wild_of, lit_of}
+use Rattle.syn_mid.specs.declared.supplied.ExprMacroOf.{ExprMacroOf}
+use Rattle.syn_mid.specs.declared.supplied.ExprPathOf.{ExprPathOf}
+use Rattle.syn_mid.specs.declared.supplied.ExprRange.{ExprRange}
+use Rattle.syn_mid.specs.attr.Attrs.{lit_of, const_of, expr_macro_of, expr_path_of}
+use Rattle.syn_mid.specs.attr.Normal as attr
+use Rattle.syn_mid.specs.attr.Printing as expr
+use Rattle.syn_mid.specs.mac.Printing.{mac}
+use Rattle.syn_mid.specs.pat.Pats.{Attrs, is_rest, guard_of, binding_of, or_of, paren_of, reference_of, slice_of, struct_of, tuple_of, tuple_struct_of, typed_of, field_of, rest_of, wild_of}
 use Rattle.syn_mid.specs.ty.Normal as types
 use Rattle.syn_mid.specs.ty.Types.{Comma}
 use Rattle.syn_mid.specs.generics.Printing.{optional}
@@ -32,24 +37,31 @@ use Rattle.syn_mid.specs.pat.Printing.{optional_word, tuple_comma}
 use Rattle.syn_mid.specs.path.Printing.{path, expr_style}
 use Rattle.syn_mid.specs.ty.Printing as texts
 use Rattle.token_core.specs.Lits as lits
-use Rattle.syn_mid.proofs.attr_laws.Normal.{attributes_stay, outer_same}
+use Rattle.syn_mid.proofs.attr_laws.Normal.{attributes_stay, at_place_stays, range_stays, outer_same, at_place_same, range_same}
 use Rattle.syn_mid.proofs.ty_laws.Each.{Each, each_held, map_stays, joined_same}
 use Rattle.syn_mid.proofs.ty_laws.Stays.{ty_stays, ty_same}
-use Rattle.syn_mid.proofs.pat_laws.Normal.{normal-Guard, normal-Ident, normal-Lit, normal-Or, normal-Paren, normal-Reference, normal-Rest, normal-Slice, normal-Struct, normal-Tuple, normal-TupleStruct, normal-Type, normal-Verbatim, normal-Wild, normal-guard, kind_kept}
-use Rattle.syn_mid.proofs.pat_laws.Prints.{pat-Guard, pat-Ident, pat-Lit, pat-Or, pat-Paren, pat-Reference, pat-Rest, pat-Slice, pat-Struct, pat-Tuple, pat-TupleStruct, pat-Type, pat-Wild, guard-Other, last_mapped, tuple_mapped, tuple_same}
+use Rattle.syn_mid.proofs.pat_laws.Normal.{normal-Const, normal-Guard, normal-Ident, normal-Lit, normal-Macro, normal-Or, normal-Paren, normal-Path, normal-Range, normal-Reference, normal-Rest, normal-Slice, normal-Struct, normal-Tuple, normal-TupleStruct, normal-Type, normal-Verbatim, normal-Wild, kind_kept}
+use Rattle.syn_mid.proofs.pat_laws.Prints.{pat-Const, pat-Guard, pat-Ident, pat-Lit, pat-Macro, pat-Or, pat-Paren, pat-Path, pat-Range, pat-Reference, pat-Rest, pat-Slice, pat-Struct, pat-Tuple, pat-TupleStruct, pat-Type, pat-Wild, last_mapped, tuple_mapped, tuple_same}
 
 module _ {X : Type 0} (nx : Place → X → X) (own : (w : Place) (x : X) → nx w (nx w x) ≡ nx w x) where
   attrs_stay : (l : Attrs X) → n.attrs nx (n.attrs nx l) ≡ n.attrs nx l
-  attrs_stay l = attributes_stay (nx Value) (own Value) l
-
-  guard_layer_stays : (y : e.Expr-F X (Meta X) (Expr X) (MetaNameValue X)) → n.guard nx (n.guard_layer nx y) ≡ n.guard_layer nx y
-  guard_layer_stays (e.Lit x) = ap (n.guard_layer nx) (expr.outs-Lit x)
-  guard_layer_stays (e.Other x) = normal-guard nx (nx Guard x) ∙ ap expr.Other (own Guard x)
+  attrs_stay l = attributes_stay nx own l
 
   pub guard_stays : (x : Expr X) → n.guard nx (n.guard nx x) ≡ n.guard nx x
-  guard_stays x = guard_layer_stays (out-Expr X x)
+  guard_stays x = at_place_stays nx own Guard x
 
-  lit_stays : (x : ExprLitOf (AttributeOf (Meta X))) → n.lit nx (n.lit nx x) ≡ n.lit nx x
+  const_stays : (x : ExprConstOf (AttributeOf (Meta X)) X) → attr.expr_const nx (attr.expr_const nx x) ≡ attr.expr_const nx x
+  const_stays x =
+      ap (λ z. const_of z x.const_token x.brace_token (nx Block (nx Block x.body))) (attrs_stay x.attrs)
+      ∙ ap (λ z. const_of (n.attrs nx x.attrs) x.const_token x.brace_token z) (own Block x.body)
+
+  macro_stays : (x : ExprMacroOf (AttributeOf (Meta X)) X) → attr.expr_macro nx (attr.expr_macro nx x) ≡ attr.expr_macro nx x
+  macro_stays x = ap (λ z. expr_macro_of z x.mac) (attrs_stay x.attrs)
+
+  path_stays : (x : ExprPathOf (AttributeOf (Meta X)) X) → attr.expr_path nx (attr.expr_path nx x) ≡ attr.expr_path nx x
+  path_stays x = ap (λ z. expr_path_of z x.path) (attrs_stay x.attrs)
+
+  lit_stays : (x : ExprLitOf (AttributeOf (Meta X))) → attr.literal nx (attr.literal nx x) ≡ attr.literal nx x
   lit_stays x = ap (λ z. lit_of z x.lit) (attrs_stay x.attrs)
 
   rest_stays : (x : PatRest X) → n.rest nx (n.rest nx x) ≡ n.rest nx x
@@ -100,6 +112,7 @@ module _ {X : Type 0} (nx : Place → X → X) (own : (w : Place) (x : X) → nx
       ∙ ap (λ z. v.Ident (binding_of (n.attrs nx a) r m i (Some (s.0, z)))) s.1.1))
 
   layer_stays : (y : o.Pat-F X Held) → Own (roll-Pat X (map-Pat X Held (Pat X) (λ a. a.0) y))
+  layer_stays (o.Const x) = subst Own (sym (v.rolls-Const x)) (by_form (v.Const x) (v.Const (attr.expr_const nx x)) (normal-Const nx x) (normal-Const nx (attr.expr_const nx x) ∙ ap v.Const (const_stays x)))
   layer_stays (o.Guard y) =
       let x = guard_of y.attrs y.pat.0 y.if_token y.guard in
       let z = n.guarded nx x in
@@ -110,7 +123,8 @@ module _ {X : Type 0} (nx : Place → X → X) (own : (w : Place) (x : X) → nx
       ∙ ap (λ z. v.Guard (guard_of (n.attrs nx y.attrs) z y.if_token (n.guard nx (n.guard nx y.guard)))) (y.pat.1)
       ∙ ap (λ z. v.Guard (guard_of (n.attrs nx y.attrs) (n.pat nx y.pat.0) y.if_token z)) (guard_stays y.guard)))
   layer_stays (o.Ident y) = binding_held y.attrs y.by_ref y.mutability y.ident y.subpat
-  layer_stays (o.Lit x) = subst Own (sym (v.rolls-Lit x)) (by_form (v.Lit x) (v.Lit (n.lit nx x)) (normal-Lit nx x) (normal-Lit nx (n.lit nx x) ∙ ap v.Lit (lit_stays x)))
+  layer_stays (o.Lit x) = subst Own (sym (v.rolls-Lit x)) (by_form (v.Lit x) (v.Lit (attr.literal nx x)) (normal-Lit nx x) (normal-Lit nx (attr.literal nx x) ∙ ap v.Lit (lit_stays x)))
+  layer_stays (o.Macro x) = subst Own (sym (v.rolls-Macro x)) (by_form (v.Macro x) (v.Macro (attr.expr_macro nx x)) (normal-Macro nx x) (normal-Macro nx (attr.expr_macro nx x) ∙ ap v.Macro (macro_stays x)))
   layer_stays (o.Or y) =
       let all = map (λ (a : Held). a.0) y.cases.0 in
       let x = or_of y.attrs y.leading_vert (all, y.cases.1) in
@@ -128,6 +142,8 @@ module _ {X : Type 0} (nx : Place → X → X) (own : (w : Place) (x : X) → nx
       (normal-Paren nx z
       ∙ ap (λ z. v.Paren (paren_of z y.paren_token (n.pat nx (n.pat nx y.pat.0)))) (attrs_stay y.attrs)
       ∙ ap (λ z. v.Paren (paren_of (n.attrs nx y.attrs) y.paren_token z)) (y.pat.1)))
+  layer_stays (o.Path x) = subst Own (sym (v.rolls-Path x)) (by_form (v.Path x) (v.Path (attr.expr_path nx x)) (normal-Path nx x) (normal-Path nx (attr.expr_path nx x) ∙ ap v.Path (path_stays x)))
+  layer_stays (o.Range x) = subst Own (sym (v.rolls-Range x)) (by_form (v.Range x) (v.Range (attr.range nx x)) (normal-Range nx x) (normal-Range nx (attr.range nx x) ∙ ap v.Range (range_stays nx own x)))
   layer_stays (o.Reference y) =
       let x = reference_of y.attrs y.and_token y.mutability y.pat.0 in
       let z = n.reference nx x in
@@ -191,16 +207,23 @@ module _ {X : Type 0} (nx : Place → X → X) (own : (w : Place) (x : X) → nx
 
 module _ {X : Type 0} (nx : Place → X → X) (px : Place → X → Print) (same : (w : Place) (x : X) → px w (nx w x) ≡ px w x) where
   attrs_same : (l : Attrs X) → s.attrs px (n.attrs nx l) ≡ s.attrs px l
-  attrs_same l = outer_same (nx Value) (px Value) (same Value) l
-
-  guard_layer_same : (y : e.Expr-F X (Meta X) (Expr X) (MetaNameValue X)) → s.guard px (n.guard_layer nx y) ≡ s.guard px (roll-Expr X y)
-  guard_layer_same (e.Lit x) = ap (s.guard px) (sym (expr.rolls-Lit x))
-  guard_layer_same (e.Other x) = guard-Other px (nx Guard x) ∙ same Guard x ∙ sym (guard-Other px x) ∙ ap (s.guard px) (sym (expr.rolls-Other x))
+  attrs_same l = outer_same nx px same l
 
   pub guard_same : (x : Expr X) → s.guard px (n.guard nx x) ≡ s.guard px x
-  guard_same x = guard_layer_same (out-Expr X x) ∙ ap (s.guard px) (roll-out-Expr X x)
+  guard_same x = at_place_same nx px same Guard x
 
-  lit_same : (x : ExprLitOf (AttributeOf (Meta X))) → s.lit px (n.lit nx x) ≡ s.lit px x
+  const_same : (x : ExprConstOf (AttributeOf (Meta X)) X) → expr.expr_const px (attr.expr_const nx x) ≡ expr.expr_const px x
+  const_same x =
+      ap (λ z. z ++ (p.word x.const_token ++ p.group Brace (stream_of_trees (px Block (nx Block x.body))) x.brace_token.span)) (attrs_same x.attrs)
+      ∙ ap (λ z. s.attrs px x.attrs ++ (p.word x.const_token ++ p.group Brace (stream_of_trees z) x.brace_token.span)) (same Block x.body)
+
+  macro_same : (x : ExprMacroOf (AttributeOf (Meta X)) X) → expr.expr_macro px (attr.expr_macro nx x) ≡ expr.expr_macro px x
+  macro_same x = ap (λ z. z ++ mac x.mac) (attrs_same x.attrs)
+
+  path_same : (x : ExprPathOf (AttributeOf (Meta X)) X) → expr.expr_path px (attr.expr_path nx x) ≡ expr.expr_path px x
+  path_same x = ap (λ z. z ++ path expr_style x.path) (attrs_same x.attrs)
+
+  lit_same : (x : ExprLitOf (AttributeOf (Meta X))) → expr.literal px (attr.literal nx x) ≡ expr.literal px x
   lit_same x = ap (λ z. z ++ lits.print x.lit) (attrs_same x.attrs)
 
   rest_same : (x : PatRest X) → s.rest px (n.rest nx x) ≡ s.rest px x
@@ -254,6 +277,7 @@ module _ {X : Type 0} (nx : Place → X → X) (px : Place → X → Print) (sam
       ∙ sym (pat-Ident px x))
 
   layer_same : (y : o.Pat-F X Shown) → Same (roll-Pat X (map-Pat X Shown (Pat X) (λ a. a.0) y))
+  layer_same (o.Const x) = subst Same (sym (v.rolls-Const x)) (ap (s.pat px) (normal-Const nx x) ∙ pat-Const px (attr.expr_const nx x) ∙ const_same x ∙ sym (pat-Const px x))
   layer_same (o.Guard y) =
       let x = guard_of y.attrs y.pat.0 y.if_token y.guard in
       subst Same (sym (v.rolls-Guard x))
@@ -263,7 +287,8 @@ module _ {X : Type 0} (nx : Place → X → X) (px : Place → X → Print) (sam
       ∙ ap (λ z. s.attrs px y.attrs ++ (s.pat px y.pat.0 ++ (p.word y.if_token ++ z))) (guard_same y.guard)
       ∙ sym (pat-Guard px x))
   layer_same (o.Ident y) = binding_shown y.attrs y.by_ref y.mutability y.ident y.subpat
-  layer_same (o.Lit x) = subst Same (sym (v.rolls-Lit x)) (ap (s.pat px) (normal-Lit nx x) ∙ pat-Lit px (n.lit nx x) ∙ lit_same x ∙ sym (pat-Lit px x))
+  layer_same (o.Lit x) = subst Same (sym (v.rolls-Lit x)) (ap (s.pat px) (normal-Lit nx x) ∙ pat-Lit px (attr.literal nx x) ∙ lit_same x ∙ sym (pat-Lit px x))
+  layer_same (o.Macro x) = subst Same (sym (v.rolls-Macro x)) (ap (s.pat px) (normal-Macro nx x) ∙ pat-Macro px (attr.expr_macro nx x) ∙ macro_same x ∙ sym (pat-Macro px x))
   layer_same (o.Or y) =
       let all = map (λ (a : Shown). a.0) y.cases.0 in
       let x = or_of y.attrs y.leading_vert (all, y.cases.1) in
@@ -279,6 +304,8 @@ module _ {X : Type 0} (nx : Place → X → X) (px : Place → X → Print) (sam
       ∙ ap (λ z. z ++ p.group Parenthesis (stream_of_trees (s.pat px (n.pat nx y.pat.0))) y.paren_token.span) (attrs_same y.attrs)
       ∙ ap (λ z. s.attrs px y.attrs ++ p.group Parenthesis (stream_of_trees (z)) y.paren_token.span) (y.pat.1)
       ∙ sym (pat-Paren px x))
+  layer_same (o.Path x) = subst Same (sym (v.rolls-Path x)) (ap (s.pat px) (normal-Path nx x) ∙ pat-Path px (attr.expr_path nx x) ∙ path_same x ∙ sym (pat-Path px x))
+  layer_same (o.Range x) = subst Same (sym (v.rolls-Range x)) (ap (s.pat px) (normal-Range nx x) ∙ pat-Range px (attr.range nx x) ∙ range_same nx px same x ∙ sym (pat-Range px x))
   layer_same (o.Reference y) =
       let x = reference_of y.attrs y.and_token y.mutability y.pat.0 in
       subst Same (sym (v.rolls-Reference x))

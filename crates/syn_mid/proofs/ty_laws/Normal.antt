@@ -1,9 +1,8 @@
 -- The normal form of each kind of type and of length.
 use Rattle.std.proofs.Common.{◌≡◌, sym, ◌∙◌, ap}
 use Rattle.token_core.specs.declared.tree.TokenStream.{TokenStream}
-use Rattle.syn_mid.specs.Supplied.{Place, ArrayLen}
+use Rattle.syn_mid.specs.Supplied.{Place}
 use Rattle.syn_mid.specs.declared.supplied.Expr.{Expr}
-use Rattle.syn_mid.specs.declared.supplied.Expr.TheVariants as e
 use Rattle.syn_mid.specs.declared.ty.Type.{«Type» as TypeTree}
 use Rattle.syn_mid.specs.declared.ty.Type.TheVariants as v
 use Rattle.syn_mid.specs.declared.ty.Type.TheOpen as t
@@ -19,7 +18,7 @@ use Rattle.syn_mid.specs.declared.ty.TypePtrOf.{TypePtrOf}
 use Rattle.syn_mid.specs.declared.ty.TypeReferenceOf.{TypeReferenceOf}
 use Rattle.syn_mid.specs.declared.ty.TypeSliceOf.{TypeSliceOf}
 use Rattle.syn_mid.specs.declared.ty.TypeTupleOf.{TypeTupleOf}
-use Rattle.syn_mid.specs.ty.Normal.{ty, ty_step, len, len_layer, array, group, paren, ptr, reference, slice, tuple}
+use Rattle.syn_mid.specs.ty.Normal.{ty, ty_step, array, group, paren, ptr, reference, slice, tuple}
 
 module _ {X : Type 0} (nx : Place → X → X) where
   pub normal-Array : (x : TypeArrayOf (TypeTree X) (Expr X)) → ty nx (v.Array x) ≡ v.Array (array nx x)
@@ -69,6 +68,3 @@ module _ {X : Type 0} (nx : Place → X → X) where
   pub normal-Verbatim : (x : TokenStream) → ty nx (v.Verbatim x) ≡ v.Verbatim x
   unfolding ty
   normal-Verbatim x = ap (ty nx) (sym (v.rolls-Verbatim x)) ∙ fold-roll-Type X (TypeTree X) (ty_step nx) (t.Verbatim x)
-
-  pub normal-len : (x : X) → len nx (e.Other x) ≡ e.Other (nx ArrayLen x)
-  normal-len x = ap (len_layer nx) (e.outs-Other x)

@@ -1,4 +1,4 @@
--- What each kind of type and of length prints.
+-- What each kind of type prints.
 use Rattle.std.proofs.Common.{◌≡◌, List, [], ◌∷◌, ◌++◌, map, refl, sym, ◌∙◌, ap}
 use Rattle.token_core.specs.Lists.{joined}
 use Rattle.token_core.specs.Prints as p
@@ -6,12 +6,8 @@ use Rattle.token_core.specs.Prints.{Print}
 use Rattle.token_core.specs.Trees.{trees, stream_of_trees}
 use Rattle.token_core.specs.declared.tree.Delimiter.TheVariants.{Parenthesis}
 use Rattle.token_core.specs.declared.tree.TokenStream.{TokenStream}
-use Rattle.syn_mid.specs.Supplied.{Place, ArrayLen, Value}
-use Rattle.syn_mid.specs.declared.attr.AttributeOf.{AttributeOf}
-use Rattle.syn_mid.specs.declared.attr.Meta.{Meta}
+use Rattle.syn_mid.specs.Supplied.{Place}
 use Rattle.syn_mid.specs.declared.supplied.Expr.{Expr}
-use Rattle.syn_mid.specs.declared.supplied.Expr.TheVariants as e
-use Rattle.syn_mid.specs.declared.supplied.ExprLitOf.{ExprLitOf}
 use Rattle.syn_mid.specs.declared.ty.Type.{«Type» as TypeTree}
 use Rattle.syn_mid.specs.declared.ty.Type.TheVariants as v
 use Rattle.syn_mid.specs.declared.ty.Type.TheOpen as t
@@ -27,10 +23,8 @@ use Rattle.syn_mid.specs.declared.ty.TypePtrOf.{TypePtrOf}
 use Rattle.syn_mid.specs.declared.ty.TypeReferenceOf.{TypeReferenceOf}
 use Rattle.syn_mid.specs.declared.ty.TypeSliceOf.{TypeSliceOf}
 use Rattle.syn_mid.specs.declared.ty.TypeTupleOf.{TypeTupleOf}
-use Rattle.syn_mid.specs.attr.Printing.{literal_by, meta, value}
 use Rattle.syn_mid.specs.ty.Types.{Comma}
-use Rattle.syn_mid.specs.ty.Printing.{infer, never, macro_type, path_type, array, group, paren, ptr, reference, slice, tuple, lone_comma, len, len_layer, ty, ty_step}
-use Rattle.syn_mid.proofs.attr_laws.Prints.{prints_literal}
+use Rattle.syn_mid.specs.ty.Printing.{infer, never, macro_type, path_type, array, group, paren, ptr, reference, slice, tuple, lone_comma, ty, ty_step}
 
 module _ {X : Type 0} (px : Place → X → Print) where
   pub ty-Array : (x : TypeArrayOf (TypeTree X) (Expr X)) → ty px (v.Array x) ≡ array px x
@@ -96,14 +90,4 @@ module _ {X : Type 0} (px : Place → X → Print) where
   unfolding ty
   ty-Verbatim x = ap (ty px) (sym (v.rolls-Verbatim x)) ∙ fold-roll-Type X Print (ty_step px) (t.Verbatim x)
 
-  pub len-Lit : (x : ExprLitOf (AttributeOf (Meta X))) → len px (e.Lit x) ≡ literal_by (meta (px Value)) x
-  len-Lit x = ap (len_layer px) (e.outs-Lit x)
-
-  pub len-Other : (x : X) → len px (e.Other x) ≡ px ArrayLen x
-  len-Other x = ap (len_layer px) (e.outs-Other x)
-
-  -- a literal prints as it does as a value
-  pub len_value : (x : ExprLitOf (AttributeOf (Meta X))) → value (px Value) (e.Lit x) ≡ len px (e.Lit x)
-  len_value x = prints_literal (px Value) x ∙ sym (len-Lit x)
-
-pub ruleset prints = (ty-Array, ty-Group, ty-Infer, ty-Macro, ty-Never, ty-Paren, ty-Path, ty-Ptr, ty-Reference, ty-Slice, ty-Tuple, ty-Verbatim, len-Lit, len-Other, len_value)
+pub ruleset prints = (ty-Array, ty-Group, ty-Infer, ty-Macro, ty-Never, ty-Paren, ty-Path, ty-Ptr, ty-Reference, ty-Slice, ty-Tuple, ty-Verbatim)

@@ -51,8 +51,9 @@ use Rattle.syn_mid.proofs.mac_laws.Sound.{visible_call}
 use Rattle.syn_mid.proofs.path_laws.Laws.{whole_path}
 use Rattle.syn_mid.proofs.path_laws.Reprint.{path_again}
 use Rattle.syn_mid.proofs.path_laws.Sound.{visible_path}
-use Rattle.syn_mid.proofs.ty_laws.Normal.{normal-Array, normal-Infer, normal-Macro, normal-Never, normal-Paren, normal-Path, normal-Ptr, normal-Reference, normal-Slice, normal-Tuple, normal-len}
-use Rattle.syn_mid.proofs.ty_laws.Prints.{ty-Array, ty-Infer, ty-Macro, ty-Never, ty-Paren, ty-Path, ty-Ptr, ty-Reference, ty-Slice, ty-Tuple, len-Other}
+use Rattle.syn_mid.proofs.ty_laws.Normal.{normal-Array, normal-Infer, normal-Macro, normal-Never, normal-Paren, normal-Path, normal-Ptr, normal-Reference, normal-Slice, normal-Tuple}
+use Rattle.syn_mid.proofs.ty_laws.Prints.{ty-Array, ty-Infer, ty-Macro, ty-Never, ty-Paren, ty-Path, ty-Ptr, ty-Reference, ty-Slice, ty-Tuple}
+use Rattle.syn_mid.proofs.attr_laws.Prints.{place_other, normal_place}
 
 -- ---- marks, words and lifetimes, which are their own normal forms
 
@@ -199,12 +200,12 @@ module _ {X : Type 0} (reads : Place → Reader X) (spells : Place → X → Tok
   len_again : (x : X) (l : Toks) → spells ArrayLen x l → Again (spells ArrayLen) (normals ArrayLen) (λ (z : X). pl (e.Other z)) x l
   len_again x l i =
       let k = reprint ArrayLen x l i in
-      let pr = len-Other prints x in
+      let pr = place_other prints ArrayLen x in
       record {
         spelt = subst (λ z. spells ArrayLen (normals ArrayLen x) (row z done)) (sym pr) k.again;
         visible = λ u. subst (λ z. Visible (row z done)) (sym pr) (k.visible u);
         stays = supplied_stays reads spells normals prints complete reprint ArrayLen x l i;
-        same = len-Other prints (normals ArrayLen x) ∙ k.same ∙ sym pr;
+        same = place_other prints ArrayLen (normals ArrayLen x) ∙ k.same ∙ sym pr;
       }
 
   module _ (T U : Bool → Relation (TypeTree X)) (again : (plus : Bool) (x : TypeTree X) (l r : Toks) → T plus x l r → AgainFront (U plus) nt pt x l r) where
@@ -237,7 +238,7 @@ module _ {X : Type 0} (reads : Place → Reader X) (spells : Place → X → Tok
         let k = again true y c m i in
         let d = mark_front q m o j in
         let w = len_again n o g in
-        let is = normal-len normals n in
+        let is = normal_place normals ArrayLen n in
         let last = pl (e.Other n) in
         let rest = row last done in
         let seen = λ (h : Toks). row-group Bracket s (pt y ++ (p.mark q ++ last)) h tt
@@ -249,7 +250,7 @@ module _ {X : Type 0} (reads : Place → Reader X) (spells : Place → X → Tok
           visible = λ h u v. subst Visible (sym (seen h)) (tt, k.visible (row (p.mark q) rest) u.1 (d.visible rest (k.seen u.1) (w.visible (d.seen (k.seen u.1)))), v);
           seen = λ u. u.2;
           stays = ap (λ z. array_of (groups.bracket s) z q (nl (nl (e.Other n)))) k.stays
-              ∙ ap (array_of (groups.bracket s) (nt y) q) (ap nl is ∙ normal-len normals (normals ArrayLen n) ∙ ap (λ (z : X). e.Other z) w.stays ∙ sym is);
+              ∙ ap (array_of (groups.bracket s) (nt y) q) (ap nl is ∙ normal_place normals ArrayLen (normals ArrayLen n) ∙ ap (λ (z : X). e.Other z) w.stays ∙ sym is);
           same = ap (λ z. p.group Bracket (stream_of_trees (z ++ (p.mark q ++ pl (nl (e.Other n))))) s) k.same
               ∙ ap (λ z. p.group Bracket (stream_of_trees (pt y ++ (p.mark q ++ z))) s) (ap pl is ∙ w.same);
         }

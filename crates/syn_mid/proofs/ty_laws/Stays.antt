@@ -6,11 +6,7 @@ use Rattle.token_core.specs.Trees.{stream_of_trees}
 use Rattle.token_core.specs.declared.tree.Delimiter.TheVariants.{Parenthesis, Bracket}
 use Rattle.token_core.specs.declared.tree.Delimiter.TheVariants as d
 use Rattle.syn_mid.specs.Supplied.{Place, ArrayLen}
-use Rattle.syn_mid.specs.declared.attr.Meta.{Meta}
-use Rattle.syn_mid.specs.declared.attr.Meta.TheOpen as o
-use Rattle.syn_mid.specs.declared.attr.MetaNameValue.{MetaNameValue}
-use Rattle.syn_mid.specs.declared.supplied.Expr.{Expr, out-Expr, roll-Expr, roll-out-Expr}
-use Rattle.syn_mid.specs.declared.supplied.Expr.TheVariants as e
+use Rattle.syn_mid.specs.declared.supplied.Expr.{Expr}
 use Rattle.syn_mid.specs.declared.ty.Type.{«Type» as TypeTree, roll-Type, map-Type}
 use Rattle.syn_mid.specs.declared.ty.Type.TheVariants as v
 use Rattle.syn_mid.specs.declared.ty.Type.TheOpen as t
@@ -20,16 +16,13 @@ use Rattle.syn_mid.specs.ty.Normal as normal
 use Rattle.syn_mid.specs.ty.Printing as printing
 use Rattle.syn_mid.specs.ty.Printing.{pointer, lifetime, mutability, lone_comma}
 use Rattle.syn_mid.proofs.ty_laws.Each.{each_held, map_stays, joined_same}
-use Rattle.syn_mid.proofs.ty_laws.Normal.{normal-Array, normal-Group, normal-Infer, normal-Macro, normal-Never, normal-Paren, normal-Path, normal-Ptr, normal-Reference, normal-Slice, normal-Tuple, normal-Verbatim, normal-len}
-use Rattle.syn_mid.proofs.ty_laws.Prints.{ty-Array, ty-Group, ty-Paren, ty-Ptr, ty-Reference, ty-Slice, ty-Tuple, len-Other}
+use Rattle.syn_mid.proofs.ty_laws.Normal.{normal-Array, normal-Group, normal-Infer, normal-Macro, normal-Never, normal-Paren, normal-Path, normal-Ptr, normal-Reference, normal-Slice, normal-Tuple, normal-Verbatim}
+use Rattle.syn_mid.proofs.ty_laws.Prints.{ty-Array, ty-Group, ty-Paren, ty-Ptr, ty-Reference, ty-Slice, ty-Tuple}
+use Rattle.syn_mid.proofs.attr_laws.Normal.{at_place_stays, at_place_same}
 
 module _ {X : Type 0} (nx : Place → X → X) (own : (w : Place) (x : X) → nx w (nx w x) ≡ nx w x) where
-  len_layer_stays : (y : o.Expr-F X (Meta X) (Expr X) (MetaNameValue X)) → normal.len nx (normal.len_layer nx y) ≡ normal.len_layer nx y
-  len_layer_stays (o.Lit x) = ap (normal.len_layer nx) (e.outs-Lit x)
-  len_layer_stays (o.Other x) = normal-len nx (nx ArrayLen x) ∙ ap e.Other (own ArrayLen x)
-
   pub len_stays : (x : Expr X) → normal.len nx (normal.len nx x) ≡ normal.len nx x
-  len_stays x = len_layer_stays (out-Expr X x)
+  len_stays x = at_place_stays nx own ArrayLen x
 
   abbrev Own : TypeTree X → Type 0
   Own x = normal.ty nx (normal.ty nx x) ≡ normal.ty nx x
@@ -86,12 +79,8 @@ module _ {X : Type 0} (nx : Place → X → X) (own : (w : Place) (x : X) → nx
   ty_stays = ind-Type X Own (λ x y is. subst (λ z. Own (roll-Type X z)) is (layer_stays y))
 
 module _ {X : Type 0} (nx : Place → X → X) (px : Place → X → Print) (same : (w : Place) (x : X) → px w (nx w x) ≡ px w x) where
-  len_layer_same : (y : o.Expr-F X (Meta X) (Expr X) (MetaNameValue X)) → printing.len px (normal.len_layer nx y) ≡ printing.len px (roll-Expr X y)
-  len_layer_same (o.Lit x) = ap (printing.len px) (sym (e.rolls-Lit x))
-  len_layer_same (o.Other x) = len-Other px (nx ArrayLen x) ∙ same ArrayLen x ∙ sym (len-Other px x) ∙ ap (printing.len px) (sym (e.rolls-Other x))
-
   pub len_same : (x : Expr X) → printing.len px (normal.len nx x) ≡ printing.len px x
-  len_same x = len_layer_same (out-Expr X x) ∙ ap (printing.len px) (roll-out-Expr X x)
+  len_same x = at_place_same nx px same ArrayLen x
 
   abbrev Same : TypeTree X → Type 0
   Same x = printing.ty px (normal.ty nx x) ≡ printing.ty px x

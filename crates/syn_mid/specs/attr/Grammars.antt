@@ -7,7 +7,7 @@ use Rattle.token_core.specs.Toks.{Toks}
 use Rattle.syn_mid.specs.declared.attr.Meta.{Meta}
 use Rattle.syn_mid.specs.declared.attr.MetaList.{MetaList}
 use Rattle.syn_mid.specs.declared.attr.MetaNameValue.{MetaNameValue}
-use Rattle.syn_mid.specs.Supplied.{Place, Value}
+use Rattle.syn_mid.specs.Supplied.{Place}
 use Rattle.syn_mid.specs.attr.Attrs.{Attribute}
 use Rattle.syn_mid.specs.attr.Normal as normal
 use Rattle.syn_mid.specs.attr.Printing as printing
@@ -20,13 +20,13 @@ list = record { spells = SpellsMetaList; normal = λ x. x; print = printing.list
 
 module _ {X : Type 0} (reads : Place → Reader X) (spells : Place → X → Toks → Type 0) (normals : Place → X → X) (prints : Place → X → Print) where
   abbrev pub name_value : Grammar (MetaNameValue X)
-  name_value = record { spells = IsNameValue spells; normal = normal.name_value (normals Value); print = printing.name_value (prints Value); plain = λ x. Unit {0}; reader = reading.name_value reads }
+  name_value = record { spells = IsNameValue spells; normal = normal.name_value normals; print = printing.name_value prints; plain = λ x. Unit {0}; reader = reading.name_value reads }
 
   abbrev pub meta : Grammar (Meta X)
-  meta = record { spells = IsMeta spells; normal = normal.meta (normals Value); print = printing.meta (prints Value); plain = λ x. Unit {0}; reader = reading.meta reads }
+  meta = record { spells = IsMeta spells; normal = normal.meta normals; print = printing.meta prints; plain = λ x. Unit {0}; reader = reading.meta reads }
 
   abbrev pub outer : Grammar (List (Attribute X))
-  outer = record { spells = SpellOuter spells; normal = normal.attributes (normals Value); print = printing.attributes (prints Value); plain = λ x. Unit {0}; reader = reading.outer reads }
+  outer = record { spells = SpellOuter spells; normal = normal.attributes normals; print = printing.attributes prints; plain = λ x. Unit {0}; reader = reading.outer reads }
 
   abbrev pub inner : Grammar (List (Attribute X))
-  inner = record { spells = SpellInner spells; normal = normal.attributes (normals Value); print = printing.attributes (prints Value); plain = λ x. Unit {0}; reader = reading.inner reads }
+  inner = record { spells = SpellInner spells; normal = normal.attributes normals; print = printing.attributes prints; plain = λ x. Unit {0}; reader = reading.inner reads }

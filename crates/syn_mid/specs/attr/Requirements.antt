@@ -14,6 +14,7 @@ use Rattle.syn_mid.specs.declared.attr.MetaList.{MetaList}
 use Rattle.syn_mid.specs.declared.attr.MetaNameValue.{MetaNameValue, out-MetaNameValue}
 use Rattle.syn_mid.specs.declared.path.Path.{Path}
 use Rattle.syn_mid.specs.declared.supplied.Expr.{Expr}
+use Rattle.syn_mid.specs.declared.supplied.ExprRange.{ExprRange}
 use Rattle.syn_mid.specs.mac.Macros.{span_of}
 use Rattle.syn_mid.specs.path.Paths.{path_text, first_span, last_span}
 use Rattle.syn_mid.specs.attr.Attrs.{Attribute}
@@ -32,11 +33,11 @@ parentheses_text y.Outer = codes "expected parentheses: #["
 parentheses_text (y.Inner b) = codes "expected parentheses: #!["
 
 abbrev pub Layer : Type 0 → Type 0
-Layer X = o.Meta-F X (Meta X) (Expr X) (MetaNameValue X)
+Layer X = o.Meta-F X (Meta X) (Expr X) (MetaNameValue X) (ExprRange X)
 
 module _ {X : Type 0} where
   abbrev pub path_at : Layer X → Path X
-  path_at (o.Path x) = x
+  path_at (o.Meta::Path x) = x
   path_at (o.List x) = x.path
   path_at (o.NameValue x) = (out-MetaNameValue X x).path
 
@@ -59,7 +60,7 @@ module _ {X : Type 0} where
   equals_at x = begins (out-MetaNameValue X x).eq_token.spans
 
   abbrev pub path_only_at : Layer X → Result (Path X) Refusal
-  path_only_at (o.Path x) = Ok x
+  path_only_at (o.Meta::Path x) = Ok x
   path_only_at (o.List x) = Err (named TokenInAttribute (opens x))
   path_only_at (o.NameValue x) = Err (named TokenInAttribute (equals_at x))
 
@@ -68,7 +69,7 @@ module _ {X : Type 0} where
   path_only x = path_only_at (out-Meta X x)
 
   abbrev pub list_at : Layer X → Result (MetaList X) Refusal
-  list_at (o.Path x) = Err (at_path ExpectedMetaArguments (codes "expected attribute arguments in parentheses: `") x (codes "(...)`"))
+  list_at (o.Meta::Path x) = Err (at_path ExpectedMetaArguments (codes "expected attribute arguments in parentheses: `") x (codes "(...)`"))
   list_at (o.List x) = Ok x
   list_at (o.NameValue x) = Err (named ExpectedParenthesis (equals_at x))
 
@@ -77,7 +78,7 @@ module _ {X : Type 0} where
   list x = list_at (out-Meta X x)
 
   abbrev pub name_value_at : Layer X → Result (MetaNameValue X) Refusal
-  name_value_at (o.Path x) = Err (at_path ExpectedMetaValue (codes "expected a value for this attribute: `") x (codes " = ...`"))
+  name_value_at (o.Meta::Path x) = Err (at_path ExpectedMetaValue (codes "expected a value for this attribute: `") x (codes " = ...`"))
   name_value_at (o.List x) = Err (named ExpectedEquals (opens x))
   name_value_at (o.NameValue x) = Ok x
 
@@ -90,7 +91,7 @@ module _ {X : Type 0} where
   no_parentheses before x = refusal ExpectedParentheses (around before (out-MetaNameValue X x).path (codes "(...)]")) (equals_at x) (equals_at x)
 
   abbrev pub arguments_at : AttrStyle → Layer X → Result (MetaList X) Refusal
-  arguments_at s (o.Path x) = Err (at_path ExpectedAttributeArguments (arguments_text s) x (codes "(...)]"))
+  arguments_at s (o.Meta::Path x) = Err (at_path ExpectedAttributeArguments (arguments_text s) x (codes "(...)]"))
   arguments_at s (o.List x) = Ok x
   arguments_at s (o.NameValue x) = Err (no_parentheses (parentheses_text s) x)
 

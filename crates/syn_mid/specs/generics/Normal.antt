@@ -2,12 +2,8 @@
 -- no colon without bounds in a parameter; supplied subtrees in theirs. Binders keep their order, and verbatim bounds stay.
 use Rattle.std.specs.Prelude.{List, [], ◌∷◌, Option, Some, None, map}
 use Rattle.token_core.specs.Loops.{Many}
-use Rattle.syn_mid.specs.Supplied.{Place, Value, Block}
-use Rattle.syn_mid.specs.declared.attr.Meta.{Meta}
-use Rattle.syn_mid.specs.declared.attr.Meta.TheOpen as o
-use Rattle.syn_mid.specs.declared.attr.MetaNameValue.{MetaNameValue}
-use Rattle.syn_mid.specs.declared.supplied.Expr.{Expr, out-Expr}
-use Rattle.syn_mid.specs.declared.supplied.Expr.TheVariants as e
+use Rattle.syn_mid.specs.Supplied.{Place, Block}
+use Rattle.syn_mid.specs.declared.supplied.Expr.{Expr}
 use Rattle.syn_mid.specs.declared.ty.Type.{«Type» as TypeTree}
 use Rattle.syn_mid.specs.declared.generics.Generics.{Generics}
 use Rattle.syn_mid.specs.declared.generics.GenericParam.{GenericParam}
@@ -55,14 +51,10 @@ module _ {G : Type 0} where
 
 module _ {X : Type 0} (normal : Place → X → X) where
   abbrev pub attrs : Attrs X → Attrs X
-  attrs = attr.attributes (normal Value)
-
-  abbrev pub const_layer : o.Expr-F X (Meta X) (Expr X) (MetaNameValue X) → Expr X
-  const_layer (o.Lit x) = e.Lit x
-  const_layer (o.Other x) = e.Other (normal Block x)
+  attrs = attr.attributes normal
 
   abbrev pub const_argument : Expr X → Expr X
-  const_argument x = const_layer (out-Expr X x)
+  const_argument = attr.at_place normal Block
 
   abbrev pub lifetime_param : LifetimeParam X → LifetimeParam X
   lifetime_param x = lifetime_param_of (attrs x.attrs) x.lifetime (colon x.colon_token x.bounds.0) x.bounds

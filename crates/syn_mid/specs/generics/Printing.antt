@@ -1,5 +1,5 @@
 -- What generics print.
-use Rattle.std.specs.Prelude.{ℕ, Bool, true, false, List, [], ◌∷◌, ◌++◌, Option, Some, None}
+use Rattle.std.specs.Prelude.{ℕ, Bool, true, false, ◌&&◌, if◌then◌else◌, is_some, List, [], ◌∷◌, ◌++◌, Option, Some, None}
 use Rattle.token_core.specs.declared.lifetime.Lifetime.{Lifetime}
 use Rattle.token_core.specs.declared.mark.Mark.{Mark}
 use Rattle.token_core.specs.declared.token.Paren.{Paren}
@@ -11,12 +11,14 @@ use Rattle.token_core.specs.Prints as p
 use Rattle.token_core.specs.Prints.{Print}
 use Rattle.token_core.specs.Spans.{none, delim_span}
 use Rattle.token_core.specs.Trees.{trees, stream_of_trees}
-use Rattle.syn_mid.specs.Supplied.{Place, Value, Block}
+use Rattle.syn_mid.specs.Supplied.{Place, Block}
 use Rattle.syn_mid.specs.declared.attr.AttributeOf.{AttributeOf}
 use Rattle.syn_mid.specs.declared.attr.Meta.{Meta}
 use Rattle.syn_mid.specs.declared.attr.Meta.TheOpen as o
 use Rattle.syn_mid.specs.declared.attr.MetaNameValue.{MetaNameValue}
 use Rattle.syn_mid.specs.declared.supplied.Expr.{Expr, out-Expr}
+use Rattle.syn_mid.specs.declared.supplied.ExprPathOf.{ExprPathOf}
+use Rattle.syn_mid.specs.declared.supplied.ExprRange.{ExprRange}
 use Rattle.syn_mid.specs.declared.ty.Type.{«Type» as TypeTree}
 use Rattle.syn_mid.specs.declared.generics.Generics.{Generics}
 use Rattle.syn_mid.specs.declared.generics.GenericParam.{GenericParam}
@@ -36,7 +38,8 @@ use Rattle.syn_mid.specs.declared.generics.WherePredicate.{WherePredicate}
 use Rattle.syn_mid.specs.declared.generics.WherePredicate.TheVariants as w
 use Rattle.syn_mid.specs.declared.generics.PredicateLifetime.{PredicateLifetime}
 use Rattle.syn_mid.specs.declared.generics.PredicateType.{PredicateType}
-use Rattle.syn_mid.specs.attr.Printing.{literal_by, meta, outer_by}
+use Rattle.syn_mid.specs.attr.Printing.{meta, value, outer_by, at_place}
+use Rattle.syn_mid.specs.path.Paths.{lone_ident}
 use Rattle.syn_mid.specs.path.Printing.{path, as_written}
 use Rattle.syn_mid.specs.ty.Printing as ty
 use Rattle.syn_mid.specs.generics.Members.{sorted}
@@ -129,18 +132,39 @@ module _ {G : Type 0} (param : G → Print) where
 
 -- ---- trees
 
+abbrev pub is_empty : {A : Type 0} → List A → Bool
+is_empty [] = true
+is_empty (x ∷ all) = false
+
+-- a path without attributes that is one identifier
+abbrev pub is_word : {A X : Type 0} → ExprPathOf A X → Bool
+is_word x = is_empty x.attrs && is_some (lone_ident x.path)
+
+abbrev pub alone_layer : {X : Type 0} → o.Expr-F X (Meta X) (Expr X) (MetaNameValue X) (ExprRange X) → Bool
+alone_layer (o.Lit x) = true
+alone_layer (o.Expr::Path x) = is_word x
+alone_layer (o.Const x) = false
+alone_layer (o.Macro x) = false
+alone_layer (o.Range x) = false
+alone_layer (o.Block x) = true
+alone_layer (o.Other x) = false
+
+-- a const argument that needs no braces: a literal, a block, or a path that is one identifier
+abbrev pub stands_alone : {X : Type 0} → Expr X → Bool
+stands_alone {X = X} x = alone_layer (out-Expr X x)
+
 -- what a supplied subtree prints in a place is given
 module _ {X : Type 0} (prints : Place → X → Print) where
   abbrev pub attrs : List (AttributeOf (Meta X)) → Print
-  attrs = outer_by (meta (prints Value))
+  attrs = outer_by (meta prints)
 
-  abbrev pub const_layer : o.Expr-F X (Meta X) (Expr X) (MetaNameValue X) → Print
-  const_layer (o.Lit x) = literal_by (meta (prints Value)) x
-  const_layer (o.Other x) = p.group Brace (stream_of_trees (prints Block x)) (delim_span none none)
+  -- what stands between the braces of a const argument
+  abbrev pub in_braces : Expr X → Print
+  in_braces = at_place prints Block
 
-  -- a const argument: a literal as it is, anything else in braces
+  -- a const argument: as it is where it stands alone, else in braces
   abbrev pub const_argument : Expr X → Print
-  const_argument x = const_layer (out-Expr X x)
+  const_argument x = if stands_alone x then value prints x else p.group Brace (stream_of_trees (in_braces x)) (delim_span none none)
 
   abbrev pub lifetime_param : LifetimeParam X → Print
   lifetime_param x = attrs x.attrs ++ (lifetimes.print x.lifetime ++ after_colon lifetimes.print x.colon_token x.bounds)

@@ -1,11 +1,9 @@
 -- The normal form of patterns: their attributes, types and supplied subtrees in theirs. Lists keep their marks, and verbatim patterns stay.
 use Rattle.std.specs.Prelude.{Option, Some, None}
 use Rattle.token_core.specs.declared.mark.Mark.{Mark}
-use Rattle.syn_mid.specs.Supplied.{Place, Value, Guard}
+use Rattle.syn_mid.specs.Supplied.{Place, Guard}
 use Rattle.syn_mid.specs.declared.attr.AttributeOf.{AttributeOf}
 use Rattle.syn_mid.specs.declared.attr.Meta.{Meta}
-use Rattle.syn_mid.specs.declared.attr.Meta.TheOpen as e
-use Rattle.syn_mid.specs.declared.attr.MetaNameValue.{MetaNameValue}
 use Rattle.syn_mid.specs.declared.pat.FieldPatOf.{FieldPatOf}
 use Rattle.syn_mid.specs.declared.pat.Pat.{Pat}
 use Rattle.syn_mid.specs.declared.pat.Pat.TheFolds.{fold-Pat}
@@ -23,28 +21,18 @@ use Rattle.syn_mid.specs.declared.pat.PatTupleOf.{PatTupleOf}
 use Rattle.syn_mid.specs.declared.pat.PatTupleStructOf.{PatTupleStructOf}
 use Rattle.syn_mid.specs.declared.pat.PatTypeOf.{PatTypeOf}
 use Rattle.syn_mid.specs.declared.pat.PatWild.{PatWild}
-use Rattle.syn_mid.specs.declared.supplied.Expr.{Expr, out-Expr}
-use Rattle.syn_mid.specs.declared.supplied.Expr.TheVariants as expr
-use Rattle.syn_mid.specs.declared.supplied.ExprLitOf.{ExprLitOf}
+use Rattle.syn_mid.specs.declared.supplied.Expr.{Expr}
 use Rattle.syn_mid.specs.attr.Normal as attr
 use Rattle.syn_mid.specs.generics.Normal.{many}
-use Rattle.syn_mid.specs.pat.Pats.{Attrs, guard_of, binding_of, or_of, paren_of, reference_of, slice_of, struct_of, tuple_of, tuple_struct_of, typed_of, field_of, rest_of, wild_of, lit_of}
+use Rattle.syn_mid.specs.pat.Pats.{Attrs, guard_of, binding_of, or_of, paren_of, reference_of, slice_of, struct_of, tuple_of, tuple_struct_of, typed_of, field_of, rest_of, wild_of}
 use Rattle.syn_mid.specs.ty.Normal as ty
 
 module _ {X : Type 0} (normal : Place → X → X) where
   abbrev pub attrs : Attrs X → Attrs X
-  attrs = attr.attributes (normal Value)
+  attrs = attr.attributes normal
 
-  abbrev pub guard_layer : e.Expr-F X (Meta X) (Expr X) (MetaNameValue X) → Expr X
-  guard_layer (e.Lit x) = expr.Lit x
-  guard_layer (e.Other x) = expr.Other (normal Guard x)
-
-  -- a guard; an admitted one is a supplied subtree
   abbrev pub guard : Expr X → Expr X
-  guard x = guard_layer (out-Expr X x)
-
-  abbrev pub lit : ExprLitOf (AttributeOf (Meta X)) → ExprLitOf (AttributeOf (Meta X))
-  lit x = lit_of (attrs x.attrs) x.lit
+  guard = attr.at_place normal Guard
 
   abbrev pub rest : PatRest X → PatRest X
   rest x = rest_of (attrs x.attrs) x.dot2_token
@@ -62,11 +50,15 @@ module _ {X : Type 0} (normal : Place → X → X) where
 
   -- a pattern whose patterns within are in their normal form
   abbrev pub pat_step : o.Pat-F X (Pat X) → Pat X
+  pat_step (o.Const x) = v.Const (attr.expr_const normal x)
   pat_step (o.Guard x) = v.Guard (guard_of (attrs x.attrs) x.pat x.if_token (guard x.guard))
   pat_step (o.Ident x) = v.Ident (binding_of (attrs x.attrs) x.by_ref x.mutability x.ident x.subpat)
-  pat_step (o.Lit x) = v.Lit (lit x)
+  pat_step (o.Lit x) = v.Lit (attr.literal normal x)
+  pat_step (o.Macro x) = v.Macro (attr.expr_macro normal x)
   pat_step (o.Or x) = v.Or (or_of (attrs x.attrs) x.leading_vert x.cases)
   pat_step (o.Paren x) = v.Paren (paren_of (attrs x.attrs) x.paren_token x.pat)
+  pat_step (o.Path x) = v.Path (attr.expr_path normal x)
+  pat_step (o.Range x) = v.Range (attr.range normal x)
   pat_step (o.Reference x) = v.Reference (reference_of (attrs x.attrs) x.and_token x.mutability x.pat)
   pat_step (o.Rest x) = v.Rest (rest x)
   pat_step (o.Slice x) = v.Slice (slice_of (attrs x.attrs) x.bracket_token x.elems)

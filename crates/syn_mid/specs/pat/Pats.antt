@@ -41,9 +41,6 @@ guard_of a b c d = record { attrs = a; pat = b; if_token = c; guard = d }
 abbrev pub binding_of : {P X : Type 0} → Attrs X → Option (Word 14) → Option (Word 13) → Ident → Option (Mark 6 1 × P) → PatIdentOf P X
 binding_of a b c d e = record { attrs = a; by_ref = b; mutability = c; ident = d; subpat = e }
 
-abbrev pub lit_of : {X : Type 0} → Attrs X → Lit → ExprLitOf (AttributeOf (Meta X))
-lit_of a b = record { attrs = a; lit = b }
-
 abbrev pub or_of : {P X : Type 0} → Attrs X → Option (Mark 17 1) → Many P (Mark 17 1) → PatOrOf P X
 or_of a b c = record { attrs = a; leading_vert = b; cases = c }
 
@@ -79,11 +76,15 @@ wild_of a b = record { attrs = a; underscore_token = b }
 
 module _ {X : Type 0} where
   abbrev pub is_rest_layer : {T : Type 0} → o.Pat-F X T → Bool
+  is_rest_layer (o.Const x) = false
   is_rest_layer (o.Guard x) = false
   is_rest_layer (o.Ident x) = false
   is_rest_layer (o.Lit x) = false
+  is_rest_layer (o.Macro x) = false
   is_rest_layer (o.Or x) = false
   is_rest_layer (o.Paren x) = false
+  is_rest_layer (o.Path x) = false
+  is_rest_layer (o.Range x) = false
   is_rest_layer (o.Reference x) = false
   is_rest_layer (o.Rest x) = true
   is_rest_layer (o.Slice x) = false

@@ -10,12 +10,10 @@ use Rattle.token_core.specs.Members as members
 use Rattle.token_core.specs.Prints as p
 use Rattle.token_core.specs.Prints.{Print}
 use Rattle.token_core.specs.Trees.{trees, stream_of_trees}
-use Rattle.syn_mid.specs.Supplied.{Place, Guard, Value}
+use Rattle.syn_mid.specs.Supplied.{Place, Guard}
 use Rattle.syn_mid.specs.declared.attr.AttributeOf.{AttributeOf}
 use Rattle.syn_mid.specs.declared.attr.Meta.{Meta}
-use Rattle.syn_mid.specs.declared.attr.Meta.TheOpen as e
-use Rattle.syn_mid.specs.declared.attr.MetaNameValue.{MetaNameValue}
-use Rattle.syn_mid.specs.declared.supplied.Expr.{Expr, out-Expr}
+use Rattle.syn_mid.specs.declared.supplied.Expr.{Expr}
 use Rattle.syn_mid.specs.declared.supplied.ExprLitOf.{ExprLitOf}
 use Rattle.syn_mid.specs.declared.pat.FieldPatOf.{FieldPatOf}
 use Rattle.syn_mid.specs.declared.pat.Pat.{Pat}
@@ -33,7 +31,7 @@ use Rattle.syn_mid.specs.declared.pat.PatTupleOf.{PatTupleOf}
 use Rattle.syn_mid.specs.declared.pat.PatTupleStructOf.{PatTupleStructOf}
 use Rattle.syn_mid.specs.declared.pat.PatTypeOf.{PatTypeOf}
 use Rattle.syn_mid.specs.declared.pat.PatWild.{PatWild}
-use Rattle.syn_mid.specs.attr.Printing.{literal_by, meta, outer_by}
+use Rattle.syn_mid.specs.attr.Printing.{literal, expr_const, expr_macro, expr_path, range, outer, at_place}
 use Rattle.syn_mid.specs.generics.Printing.{optional}
 use Rattle.syn_mid.specs.pat.Pats.{is_rest, is_rest_layer}
 use Rattle.syn_mid.specs.path.Printing.{path, expr_style}
@@ -62,18 +60,10 @@ tuple_comma rest (x ∷ y ∷ all) cs = []
 -- what a supplied subtree prints in a place is given
 module _ {X : Type 0} (prints : Place → X → Print) where
   abbrev pub attrs : List (AttributeOf (Meta X)) → Print
-  attrs = outer_by (meta (prints Value))
+  attrs = outer prints
 
-  abbrev pub guard_layer : e.Expr-F X (Meta X) (Expr X) (MetaNameValue X) → Print
-  guard_layer (e.Lit x) = literal_by (meta (prints Value)) x
-  guard_layer (e.Other x) = prints Guard x
-
-  -- a guard: a literal after its outer attributes, or a supplied subtree
   abbrev pub guard : Expr X → Print
-  guard x = guard_layer (out-Expr X x)
-
-  abbrev pub lit : ExprLitOf (AttributeOf (Meta X)) → Print
-  lit = literal_by (meta (prints Value))
+  guard = at_place prints Guard
 
   abbrev pub rest : PatRest X → Print
   rest x = attrs x.attrs ++ p.mark x.dot2_token
@@ -169,11 +159,15 @@ module _ {X : Type 0} (prints : Place → X → Print) where
   rest_of z = z.1
 
   abbrev pub pat_layer : o.Pat-F X Printed → Print
+  pat_layer (o.Const x) = expr_const prints x
   pat_layer (o.Guard x) = guarded_by print_of x
   pat_layer (o.Ident x) = binding_by print_of x
-  pat_layer (o.Lit x) = lit x
+  pat_layer (o.Lit x) = literal prints x
+  pat_layer (o.Macro x) = expr_macro prints x
   pat_layer (o.Or x) = alternatives_by print_of x
   pat_layer (o.Paren x) = paren_by print_of x
+  pat_layer (o.Path x) = expr_path prints x
+  pat_layer (o.Range x) = range prints x
   pat_layer (o.Reference x) = reference_by print_of x
   pat_layer (o.Rest x) = rest x
   pat_layer (o.Slice x) = slice_by print_of x

@@ -1,10 +1,6 @@
 -- The normal form of types: supplied subtrees in theirs.
 use Rattle.std.specs.Prelude.{map}
-use Rattle.syn_mid.specs.declared.attr.Meta.{Meta}
-use Rattle.syn_mid.specs.declared.attr.Meta.TheOpen as o
-use Rattle.syn_mid.specs.declared.attr.MetaNameValue.{MetaNameValue}
-use Rattle.syn_mid.specs.declared.supplied.Expr.{Expr, out-Expr}
-use Rattle.syn_mid.specs.declared.supplied.Expr.TheVariants as e
+use Rattle.syn_mid.specs.declared.supplied.Expr.{Expr}
 use Rattle.syn_mid.specs.declared.ty.Type.{«Type» as TypeTree}
 use Rattle.syn_mid.specs.declared.ty.Type.TheFolds.{fold-Type}
 use Rattle.syn_mid.specs.declared.ty.Type.TheOpen as t
@@ -19,16 +15,13 @@ use Rattle.syn_mid.specs.declared.ty.TypeReferenceOf.{TypeReferenceOf}
 use Rattle.syn_mid.specs.declared.ty.TypeSliceOf.{TypeSliceOf}
 use Rattle.syn_mid.specs.declared.ty.TypeTupleOf.{TypeTupleOf}
 use Rattle.syn_mid.specs.Supplied.{Place, ArrayLen}
+use Rattle.syn_mid.specs.attr.Normal.{at_place}
 use Rattle.syn_mid.specs.ty.Types.{array_of, group_of, paren_of, ptr_of, reference_of, slice_of, tuple_of}
 
 module _ {X : Type 0} (normal : Place → X → X) where
-  abbrev pub len_layer : o.Expr-F X (Meta X) (Expr X) (MetaNameValue X) → Expr X
-  len_layer (o.Lit x) = e.Lit x
-  len_layer (o.Other x) = e.Other (normal ArrayLen x)
-
-  -- the length of an array; an admitted one is a supplied subtree
+  -- the length of an array
   abbrev pub len : Expr X → Expr X
-  len x = len_layer (out-Expr X x)
+  len = at_place normal ArrayLen
 
   -- a type whose parts are in their normal form, but for a length
   abbrev pub ty_step : t.Type-F X (TypeTree X) → TypeTree X

@@ -13,11 +13,8 @@ use Rattle.token_core.specs.Prints as p
 use Rattle.token_core.specs.Prints.{Print}
 use Rattle.token_core.specs.Spans.{none}
 use Rattle.token_core.specs.Trees.{trees, stream_of_trees}
-use Rattle.syn_mid.specs.Supplied.{Place, ArrayLen, Value}
-use Rattle.syn_mid.specs.declared.attr.Meta.{Meta}
-use Rattle.syn_mid.specs.declared.attr.Meta.TheOpen as o
-use Rattle.syn_mid.specs.declared.attr.MetaNameValue.{MetaNameValue}
-use Rattle.syn_mid.specs.declared.supplied.Expr.{Expr, out-Expr}
+use Rattle.syn_mid.specs.Supplied.{Place, ArrayLen}
+use Rattle.syn_mid.specs.declared.supplied.Expr.{Expr}
 use Rattle.syn_mid.specs.declared.ty.Abi.{Abi}
 use Rattle.syn_mid.specs.declared.ty.PointerMutability.{PointerMutability}
 use Rattle.syn_mid.specs.declared.ty.PointerMutability.TheVariants as m
@@ -37,7 +34,7 @@ use Rattle.syn_mid.specs.declared.ty.TypePtrOf.{TypePtrOf}
 use Rattle.syn_mid.specs.declared.ty.TypeReferenceOf.{TypeReferenceOf}
 use Rattle.syn_mid.specs.declared.ty.TypeSliceOf.{TypeSliceOf}
 use Rattle.syn_mid.specs.declared.ty.TypeTupleOf.{TypeTupleOf}
-use Rattle.syn_mid.specs.attr.Printing.{literal_by, meta}
+use Rattle.syn_mid.specs.attr.Printing.{at_place}
 use Rattle.syn_mid.specs.mac.Printing.{mac}
 use Rattle.syn_mid.specs.path.Printing.{path, as_written}
 use Rattle.syn_mid.specs.ty.Types.{Comma}
@@ -123,13 +120,9 @@ module _ {T : Type 0} (print : T → Print) where
 
 -- what a supplied subtree prints in a place is given
 module _ {X : Type 0} (prints : Place → X → Print) where
-  abbrev pub len_layer : o.Expr-F X (Meta X) (Expr X) (MetaNameValue X) → Print
-  len_layer (o.Lit x) = literal_by (meta (prints Value)) x
-  len_layer (o.Other x) = prints ArrayLen x
-
-  -- the length of an array: a literal after its outer attributes, or a supplied subtree
+  -- the length of an array
   abbrev pub len : Expr X → Print
-  len x = len_layer (out-Expr X x)
+  len = at_place prints ArrayLen
 
   abbrev pub ty_step : t.Type-F X Print → Print
   ty_step (t.Array x) = array_by (λ z. z) len x

@@ -1,27 +1,55 @@
-use Rattle.std.proofs.Common.{◌≡◌, [], ◌++◌, sym, ◌∙◌, ap}
-use Rattle.std.proofs.lemmas.List.{drop_all}
+use Rattle.std.proofs.Common.{◌++◌, ◌∙◌, ap}
 use Rattle.std.proofs.lemmas.Result.{on_ok_weaker, on_err_weaker}
 use Rattle.token_core.specs.Trees.{trees}
 use Rattle.token_core.proofs.Puts.{extends_on}
-use Rattle.syn_mid.specs.Supplied.{Value}
-use Rattle.syn_mid.specs.attr.Printing.{outer_by, meta}
-use Rattle.syn_mid.proofs.attr_laws.Prints.{put_name_value, put_literal}
+use Rattle.syn_mid.specs.attr.Printing.{value}
+use Rattle.syn_mid.proofs.attr_laws.Prints.{put_name_value, put_node, put_started, put_unstarted, prints_literal, prints_expr_path, prints_const, prints_macro, prints_block}
 use Rattle.syn_mid.proofs.attr.+print.Goals as goal
 
 pub print_name_value-returns-clause-ok : goal.print_name_value-returns-clause-ok
 print_name_value-returns-clause-ok g m c =
-    on_ok_weaker c.print_value.result (λ h. put_name_value (g.X.Subtree.prints Value) c.args.meta.now _ _ _ _ c.in_ok-print_path.ensures.ok c.in_ok-to_tokens.ensures.ok h) c.print_value.ensures.ok
+    on_ok_weaker c.print_value.result (λ h. put_name_value g.X.Subtree.prints c.args.meta.now _ _ _ _ c.in_ok-print_path.ensures.ok c.in_ok-to_tokens.ensures.ok h) c.print_value.ensures.ok
 
 pub print_name_value-returns-clause-err : goal.print_name_value-returns-clause-err
 print_name_value-returns-clause-err g m c =
     on_err_weaker c.print_value.result (λ h. extends_on _ _ _ _ c.in_ok-print_path.ensures.ok (extends_on _ _ _ _ c.in_ok-to_tokens.ensures.ok h)) c.print_value.ensures.err
 
-pub print_value-returns-after-loop-attr-clause-ok : goal.print_value-returns-after-loop-attr-clause-ok
-print_value-returns-after-loop-attr-clause-ok g m c =
-    let px = g.X.Subtree.prints Value in
-    let items = c.as_slice-attr-items.result.now in
-    let told : trees c.loop-attr.out ++ [] ≡ trees c.args.out.now ++ outer_by (meta px) c.in-Lit.literal.attrs =
-    ap (λ z. trees c.loop-attr.out ++ outer_by (meta px) z) (sym (drop_all c.loop-attr.attr-index items c.loop-attr-test.false))
-    ∙ c.loop-attr.invariant.told ∙ ap (λ z. trees c.args.out.now ++ outer_by (meta px) z) c.as_slice-attr-items.ensures in
+pub print_value-returns-in_ok-print_outer-in-Lit-clause-ok : goal.print_value-returns-in_ok-print_outer-in-Lit-clause-ok
+print_value-returns-in_ok-print_outer-in-Lit-clause-ok g t c =
+    let px = g.X.Subtree.prints in
     on_ok_weaker c.to_tokens.result
-    (λ h. put_literal px c.in-Lit.literal c.args.value.now (trees c.args.out.now) (trees c.loop-attr.out) (trees c.to_tokens.new.out) c.in-Lit.is told h) c.to_tokens.ensures.ok
+    (λ h. put_node px c.args.value.now _ _ _ _ _ (ap (value px) c.in-Lit.is ∙ prints_literal px c.in-Lit.expr) c.in_ok-print_outer-in-Lit.ensures.ok h) c.to_tokens.ensures.ok
+
+pub print_value-returns-in_ok-print_outer-in-Path-clause-ok : goal.print_value-returns-in_ok-print_outer-in-Path-clause-ok
+print_value-returns-in_ok-print_outer-in-Path-clause-ok g t c =
+    let px = g.X.Subtree.prints in
+    on_ok_weaker c.print_path.result
+    (λ h. put_node px c.args.value.now _ _ _ _ _ (ap (value px) c.in-Path.is ∙ prints_expr_path px c.in-Path.expr) c.in_ok-print_outer-in-Path.ensures.ok h) c.print_path.ensures.ok
+
+pub print_value-returns-in_ok-print_outer-in-Const-clause-ok : goal.print_value-returns-in_ok-print_outer-in-Const-clause-ok
+print_value-returns-in_ok-print_outer-in-Const-clause-ok g t c =
+    let px = g.X.Subtree.prints in
+    on_ok_weaker c.print_const_block.result
+    (λ h. put_node px c.args.value.now _ _ _ _ _ (ap (value px) c.in-Const.is ∙ prints_const px c.in-Const.expr) c.in_ok-print_outer-in-Const.ensures.ok h) c.print_const_block.ensures.ok
+
+pub print_value-returns-in_ok-print_outer-in-Macro-clause-ok : goal.print_value-returns-in_ok-print_outer-in-Macro-clause-ok
+print_value-returns-in_ok-print_outer-in-Macro-clause-ok g t c =
+    let px = g.X.Subtree.prints in
+    on_ok_weaker c.to_tokens-in-Macro.result
+    (λ h. put_node px c.args.value.now _ _ _ _ _ (ap (value px) c.in-Macro.is ∙ prints_macro px c.in-Macro.expr) c.in_ok-print_outer-in-Macro.ensures.ok h) c.to_tokens-in-Macro.ensures.ok
+
+pub print_value-returns-in_ok-print_outer-in-Block-clause-ok : goal.print_value-returns-in_ok-print_outer-in-Block-clause-ok
+print_value-returns-in_ok-print_outer-in-Block-clause-ok g t c =
+    let px = g.X.Subtree.prints in
+    on_ok_weaker c.print_body.result
+    (λ h. put_node px c.args.value.now _ _ _ _ _ (ap (value px) c.in-Block.is ∙ prints_block px c.in-Block.expr) c.in_ok-print_outer-in-Block.ensures.ok h) c.print_body.ensures.ok
+
+pub print_range-returns-in_ok-print_value-in-Some-clause-ok : goal.print_range-returns-in_ok-print_value-in-Some-clause-ok
+print_range-returns-in_ok-print_value-in-Some-clause-ok g t c =
+    let px = g.X.Subtree.prints in
+    on_ok_weaker c.print_range_end.result
+    (λ h. put_started px c.args.expr.now c.in-Some.start _ _ _ _ c.in-Some.is c.in_ok-print_outer.ensures.ok (c.in_ok-print_value-in-Some.ensures.ok ∙ ap (λ z. trees c.print_outer.new.out ++ value px z) c.get.ensures) h) c.print_range_end.ensures.ok
+
+pub print_range-returns-in-None-clause-ok : goal.print_range-returns-in-None-clause-ok
+print_range-returns-in-None-clause-ok g t c =
+    on_ok_weaker c.print_range_end-in-None.result (λ h. put_unstarted g.X.Subtree.prints c.args.expr.now _ _ _ c.in-None.is c.in_ok-print_outer.ensures.ok h) c.print_range_end-in-None.ensures.ok
