@@ -21,7 +21,7 @@ ghost use Rattle.syn_mid.specs.generics.Views as views;
 use crate::attr::{Attribute, print_outer, print_value};
 use crate::path::Path;
 use crate::supplied::{Expr, Place, Subtree};
-use crate::ty::{Type, print_type, print_verbatim};
+use crate::ty::{Type, bound_parts, print_type, print_verbatim};
 use std::alloc::{AllocError, Global};
 use token_core::token::{
     Brace, Colon, Comma, Const, Eq, For, Gt, Lt, Mark, Paren, PathSep, Plus, Question, Use, Where,
@@ -40,7 +40,7 @@ pub struct Generics<X> {
 }
 
 /// A parameter of generics.
-#[cycle(generics)]
+#[cycle(types)]
 #[derive(Drop)]
 pub enum GenericParam<X> {
     /// `'a: 'b + 'c`
@@ -60,29 +60,30 @@ pub struct LifetimeParam<X> {
     pub bounds: Punctuated<Lifetime, Plus>,
 }
 
-/// A type parameter, over its bounds.
+/// A type parameter: `T: A + B = C`.
+#[cycle(types)]
 #[derive(Drop)]
-pub struct TypeParamOf<B, X> {
+pub struct TypeParam<X> {
     pub attrs: Items<Attribute<X>>,
     pub ident: Ident,
     pub colon_token: Option<Colon>,
-    pub bounds: Punctuated<B, Plus>,
+    pub bounds: Punctuated<TypeParamBound<X>, Plus>,
     pub default: Option<(Eq, Type<X>)>,
 }
 
-/// A type parameter: `T: A + B = C`.
-pub type TypeParam<X> = TypeParamOf<TypeParamBound<X>, X>;
-
-/// A const parameter: `const N: T = 1`.
+/// A const parameter, over its type.
 #[derive(Drop)]
-pub struct ConstParam<X> {
+pub struct ConstParamOf<T, X> {
     pub attrs: Items<Attribute<X>>,
     pub const_token: Const,
     pub ident: Ident,
     pub colon_token: Colon,
-    pub ty: Type<X>,
+    pub ty: T,
     pub default: Option<(Eq, Expr<X>)>,
 }
+
+/// A const parameter: `const N: T = 1`.
+pub type ConstParam<X> = ConstParamOf<Type<X>, X>;
 
 /// A binder, over its parameters.
 #[derive(Drop)]
@@ -97,7 +98,7 @@ pub struct BoundLifetimesOf<G> {
 pub type BoundLifetimes<X> = BoundLifetimesOf<GenericParam<X>>;
 
 /// A bound.
-#[cycle(generics)]
+#[cycle(types)]
 #[derive(Drop)]
 pub enum TypeParamBound<X> {
     /// `for<'a> ?a::b`
@@ -215,7 +216,7 @@ impl<X> TypeParam<X> {
     pub fn from_ident(alloc: Global, ident: Ident) -> TypeParam<X>
         ensures { result ≡ spec.type_param_of [] ident None ([], []) None }
     {
-        TypeParamOf {
+        TypeParam {
             attrs: Items::new(alloc),
             ident,
             colon_token: None,
@@ -778,36 +779,6 @@ fn print_lifetime_bounds<X>(
 }
 
 #[tactic(auto, using(token_core::proofs::Puts::puts))]
-fn print_const_param<X: Subtree>(
-    alloc: Global,
-    param: &ConstParam<X>,
-    out: &mut TokenStream,
-) -> Result<(), AllocError>
-    ensures ok { OnOk result (trees out.new ≡ trees out.old ++ printing.const_param X.prints param.now) }
-    ensures err { OnErr result (Extends (trees out.old) (trees out.new)) }
-{
-    print_const_head(alloc, param, out)?;
-    print_const_default(alloc, &param.default, out)
-}
-
-/// A const parameter without its default.
-#[tactic(auto, using(token_core::proofs::Puts::puts))]
-fn print_const_head<X: Subtree>(
-    alloc: Global,
-    param: &ConstParam<X>,
-    out: &mut TokenStream,
-) -> Result<(), AllocError>
-    ensures ok { OnOk result (trees out.new ≡ trees out.old ++ printing.const_head X.prints param.now) }
-    ensures err { OnErr result (Extends (trees out.old) (trees out.new)) }
-{
-    print_outer(alloc, &param.attrs, out)?;
-    param.const_token.to_tokens(alloc, out)?;
-    param.ident.to_tokens(alloc, out)?;
-    param.colon_token.to_tokens(alloc, out)?;
-    print_type(alloc, &param.ty, out)
-}
-
-#[tactic(auto, using(token_core::proofs::Puts::puts))]
 fn print_const_default<X: Subtree>(
     alloc: Global,
     default: &Option<(Eq, Expr<X>)>,
@@ -877,7 +848,7 @@ fn print_in_braces<X: Subtree>(
 /// Appends a parameter; refused, what stood before is kept.
 #[cycle(print)]
 #[tactic(auto, using(token_core::proofs::Puts::puts, crate::proofs::generics_laws::Prints::prints))]
-fn print_param<X: Subtree>(
+pub(crate) fn print_param<X: Subtree>(
     alloc: Global,
     param: &GenericParam<X>,
     out: &mut TokenStream,
@@ -893,7 +864,39 @@ fn print_param<X: Subtree>(
 }
 
 #[cycle(print)]
-#[tactic(auto, using(token_core::proofs::Puts::puts, crate::proofs::generics_laws::Prints::prints))]
+#[tactic(auto, using(token_core::proofs::Puts::puts, crate::proofs::ty_laws::Prints::prints))]
+fn print_const_param<X: Subtree>(
+    alloc: Global,
+    param: &ConstParam<X>,
+    out: &mut TokenStream,
+) -> Result<(), AllocError>
+    ensures ok { OnOk result (trees out.new ≡ trees out.old ++ printing.const_param X.prints param.now) }
+    ensures err { OnErr result (Extends (trees out.old) (trees out.new)) }
+{
+    print_const_head(alloc, param, out)?;
+    print_const_default(alloc, &param.default, out)
+}
+
+/// A const parameter without its default.
+#[cycle(print)]
+#[tactic(auto, using(token_core::proofs::Puts::puts, crate::proofs::ty_laws::Prints::prints))]
+fn print_const_head<X: Subtree>(
+    alloc: Global,
+    param: &ConstParam<X>,
+    out: &mut TokenStream,
+) -> Result<(), AllocError>
+    ensures ok { OnOk result (trees out.new ≡ trees out.old ++ printing.const_head X.prints param.now) }
+    ensures err { OnErr result (Extends (trees out.old) (trees out.new)) }
+{
+    print_outer(alloc, &param.attrs, out)?;
+    param.const_token.to_tokens(alloc, out)?;
+    param.ident.to_tokens(alloc, out)?;
+    param.colon_token.to_tokens(alloc, out)?;
+    print_type(alloc, &param.ty, out)
+}
+
+#[cycle(print)]
+#[tactic(auto, using(token_core::proofs::Puts::puts, crate::proofs::ty_laws::Prints::prints))]
 fn print_type_param<X: Subtree>(
     alloc: Global,
     param: &TypeParam<X>,
@@ -903,7 +906,13 @@ fn print_type_param<X: Subtree>(
     ensures err { OnErr result (Extends (trees out.old) (trees out.new)) }
 {
     print_type_head(alloc, param, out)?;
-    print_type_default(alloc, &param.default, out)
+    match &param.default {
+        Some((eq_token, ty)) => {
+            eq_token.to_tokens(alloc, out)?;
+            print_type(alloc, ty, out)
+        }
+        None => Ok(()),
+    }
 }
 
 /// A type parameter without its default.
@@ -950,7 +959,7 @@ fn print_bounds<X: Subtree>(
     ensures ok { OnOk result (trees out.new ≡ trees out.old ++ printing.bounds_joined X.prints param.now.bounds) }
     ensures err { OnErr result (Extends (trees out.old) (trees out.new)) }
 {
-    let (pairs, last) = param.bounds.parts();
+    let (pairs, last) = bound_parts(&param.bounds);
     for pair in pairs {
         print_bound(alloc, &pair.value, out)?;
         pair.mark.to_tokens(alloc, out)?;
@@ -964,7 +973,7 @@ fn print_bounds<X: Subtree>(
 /// Appends a bound; refused, what stood before is kept.
 #[cycle(print)]
 #[tactic(auto, using(token_core::proofs::Puts::puts, crate::proofs::generics_laws::Prints::prints))]
-fn print_bound<X: Subtree>(
+pub(crate) fn print_bound<X: Subtree>(
     alloc: Global,
     bound: &TypeParamBound<X>,
     out: &mut TokenStream,
@@ -1053,7 +1062,7 @@ fn binder_parts<X>(
 
 /// A binder before its parameters; nothing without one.
 #[tactic(auto, using(token_core::proofs::Puts::puts))]
-fn print_binder_start<G>(
+pub(crate) fn print_binder_start<G>(
     alloc: Global,
     binder: &Option<BoundLifetimesOf<G>>,
     out: &mut TokenStream,
@@ -1072,7 +1081,7 @@ fn print_binder_start<G>(
 
 /// A binder after its parameters; nothing without one.
 #[tactic(auto, using(token_core::proofs::Puts::puts))]
-fn print_binder_end<G>(
+pub(crate) fn print_binder_end<G>(
     alloc: Global,
     binder: &Option<BoundLifetimesOf<G>>,
     out: &mut TokenStream,
@@ -1101,24 +1110,6 @@ fn print_named_trait<X>(
         None => {}
     }
     bound.path.to_tokens(alloc, out)
-}
-
-#[tactic(auto, using(token_core::proofs::Puts::puts))]
-fn print_type_default<X: Subtree>(
-    alloc: Global,
-    default: &Option<(Eq, Type<X>)>,
-    out: &mut TokenStream,
-) -> Result<(), AllocError>
-    ensures ok { OnOk result (trees out.new ≡ trees out.old ++ printing.type_default X.prints default.now) }
-    ensures err { OnErr result (Extends (trees out.old) (trees out.new)) }
-{
-    match default {
-        Some((eq_token, ty)) => {
-            eq_token.to_tokens(alloc, out)?;
-            print_type(alloc, ty, out)
-        }
-        None => Ok(()),
-    }
 }
 
 /// A mark of one character, or the same that stands nowhere.

@@ -18,7 +18,7 @@ use crate::path::parse_plain_path;
 use crate::supplied::{Expr, Place, Subtree};
 use crate::ty::{
     PointerMutability, Type, TypeArray, TypeArrayOf, TypeInfer, TypeMacro, TypeNever, TypeParen,
-    TypeParenOf, TypePath, TypePtr, TypePtrOf, TypeReference, TypeReferenceOf, TypeSlice,
+    TypeParenOf, TypePath, TypePathOf, TypePtr, TypePtrOf, TypeReference, TypeReferenceOf, TypeSlice,
     TypeSliceOf, TypeTuple, TypeTupleOf,
 };
 use std::alloc::Global;
@@ -210,7 +210,7 @@ pub(crate) fn parse_path_type<X: Drop>(
     ensures within { Follows input.old input.new }
 {
     let path = parse_plain_path(alloc, input)?;
-    Ok(TypePath { path })
+    Ok(TypePathOf { qself: None, path })
 }
 
 /// A path, or a macro call by its path.
@@ -228,7 +228,7 @@ fn parse_path_or_macro<X: Drop>(
         let mac = parse_call_after(alloc, input, path)?;
         return Ok(Type::Macro(TypeMacro { mac }));
     }
-    ended(alloc, input, plus, Type::Path(TypePath { path }))
+    ended(alloc, input, plus, Type::Path(TypePathOf { qself: None, path }))
 }
 
 // ---- types over the reader of the types that they hold
