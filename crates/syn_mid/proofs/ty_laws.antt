@@ -20,3 +20,4 @@ pub mod KnotSound
 pub mod Parts
 pub mod Lone
 pub mod Laws
+pub mod Lasts

@@ -1,4 +1,5 @@
 pub mod Params
+pub mod Shapes
 pub mod Members
 pub mod Marked
 pub mod Printing

@@ -16,6 +16,8 @@ ghost use Rattle.syn_mid.specs.generics.Lends.{lends_clause};
 ghost use Rattle.syn_mid.specs.generics.Members as members;
 ghost use Rattle.syn_mid.specs.generics.Params as spec;
 ghost use Rattle.syn_mid.specs.generics.Printing as printing;
+ghost use Rattle.syn_mid.specs.generics.Shapes as shapes;
+ghost use Rattle.syn_mid.specs.ty.Printing as types;
 ghost use Rattle.syn_mid.specs.generics.Views as views;
 
 use crate::attr::{Attribute, print_outer, print_value};
@@ -556,9 +558,9 @@ trait Member {
 }
 
 impl Member for CapturedParam {
-    ghost first = { printing.is_captured_lifetime };
+    ghost first = { shapes.is_captured_lifetime };
 
-    ghost shown = { λ style x. printing.captured x };
+    ghost shown = { λ style x. shapes.captured x };
 
     fn is_lifetime(&self) -> bool {
         match self {
@@ -579,7 +581,7 @@ impl Member for CapturedParam {
 }
 
 impl ToTokens for CapturedParam {
-    ghost print = { printing.captured };
+    ghost print = { shapes.captured };
 
     fn to_tokens(&self, alloc: Global, out: &mut TokenStream) -> Result<(), AllocError> {
         match self {
@@ -590,7 +592,7 @@ impl ToTokens for CapturedParam {
 }
 
 impl ToTokens for PreciseCapture {
-    ghost print = { printing.capture };
+    ghost print = { shapes.capture };
 
     fn to_tokens(&self, alloc: Global, out: &mut TokenStream) -> Result<(), AllocError> {
         let before = out.len();
@@ -610,7 +612,7 @@ fn print_capture(
     capture: &PreciseCapture,
     out: &mut TokenStream,
 ) -> Result<(), AllocError>
-    ensures ok { OnOk result (trees out.new ≡ trees out.old ++ printing.capture capture.now) }
+    ensures ok { OnOk result (trees out.new ≡ trees out.old ++ shapes.capture capture.now) }
     ensures err { OnErr result (Extends (trees out.old) (trees out.new)) }
 {
     capture.use_token.to_tokens(alloc, out)?;
@@ -753,7 +755,7 @@ fn print_lifetime_param<X: Subtree>(
     param: &LifetimeParam<X>,
     out: &mut TokenStream,
 ) -> Result<(), AllocError>
-    ensures ok { OnOk result (trees out.new ≡ trees out.old ++ printing.lifetime_param X.prints param.now) }
+    ensures ok { OnOk result (trees out.new ≡ trees out.old ++ shapes.lifetime_param X.prints param.now) }
     ensures err { OnErr result (Extends (trees out.old) (trees out.new)) }
 {
     print_outer(alloc, &param.attrs, out)?;
@@ -768,7 +770,7 @@ fn print_lifetime_bounds<X>(
     param: &LifetimeParam<X>,
     out: &mut TokenStream,
 ) -> Result<(), AllocError>
-    ensures ok { OnOk result (trees out.new ≡ trees out.old ++ printing.after_colon lifetimes.print param.now.colon_token param.now.bounds) }
+    ensures ok { OnOk result (trees out.new ≡ trees out.old ++ shapes.after_colon lifetimes.print param.now.colon_token param.now.bounds) }
     ensures err { OnErr result (Extends (trees out.old) (trees out.new)) }
 {
     if param.bounds.is_empty() {
@@ -784,7 +786,7 @@ fn print_const_default<X: Subtree>(
     default: &Option<(Eq, Expr<X>)>,
     out: &mut TokenStream,
 ) -> Result<(), AllocError>
-    ensures ok { OnOk result (trees out.new ≡ trees out.old ++ printing.const_default X.prints default.now) }
+    ensures ok { OnOk result (trees out.new ≡ trees out.old ++ shapes.const_default X.prints default.now) }
     ensures err { OnErr result (Extends (trees out.old) (trees out.new)) }
 {
     match default {
@@ -797,13 +799,13 @@ fn print_const_default<X: Subtree>(
 }
 
 /// A const argument: a literal, a block or an identifier as it prints as a value, anything else in braces.
-#[tactic(auto, using(token_core::proofs::Puts::puts, crate::proofs::generics_laws::Prints::prints, crate::proofs::attr_laws::Prints::contents))]
+#[tactic(auto, using(token_core::proofs::Puts::puts, crate::proofs::generics_laws::Prints::consts, crate::proofs::attr_laws::Prints::contents))]
 fn print_const_argument<X: Subtree>(
     alloc: Global,
     value: &Expr<X>,
     out: &mut TokenStream,
 ) -> Result<(), AllocError>
-    ensures ok { OnOk result (trees out.new ≡ trees out.old ++ printing.const_argument X.prints value.now) }
+    ensures ok { OnOk result (trees out.new ≡ trees out.old ++ shapes.const_argument X.prints value.now) }
     ensures err { OnErr result (Extends (trees out.old) (trees out.new)) }
 {
     if stands_alone(value) {
@@ -817,7 +819,7 @@ fn print_const_argument<X: Subtree>(
 /// Whether a const argument needs no braces: a literal, a block, or an identifier without attributes.
 #[tactic(auto, using(crate::proofs::generics_laws::Prints::alone))]
 fn stands_alone<X>(value: &Expr<X>) -> bool
-    ensures { result ≡ printing.stands_alone value.now }
+    ensures { result ≡ shapes.stands_alone value.now }
 {
     match value {
         Expr::Lit(_) => true,
@@ -834,7 +836,7 @@ fn print_in_braces<X: Subtree>(
     value: &Expr<X>,
     out: &mut TokenStream,
 ) -> Result<(), AllocError>
-    ensures ok { OnOk result (trees out.new ≡ trees out.old ++ printing.in_braces X.prints value.now) }
+    ensures ok { OnOk result (trees out.new ≡ trees out.old ++ shapes.in_braces X.prints value.now) }
     ensures err { OnErr result (Extends (trees out.old) (trees out.new)) }
 {
     match value {
@@ -847,13 +849,13 @@ fn print_in_braces<X: Subtree>(
 
 /// Appends a parameter; refused, what stood before is kept.
 #[cycle(print)]
-#[tactic(auto, using(token_core::proofs::Puts::puts, crate::proofs::generics_laws::Prints::prints))]
+#[tactic(auto, using(token_core::proofs::Puts::puts, crate::proofs::ty_laws::Prints::parts))]
 pub(crate) fn print_param<X: Subtree>(
     alloc: Global,
     param: &GenericParam<X>,
     out: &mut TokenStream,
 ) -> Result<(), AllocError>
-    ensures ok { OnOk result (trees out.new ≡ trees out.old ++ printing.param X.prints param.now) }
+    ensures ok { OnOk result (trees out.new ≡ trees out.old ++ types.param X.prints param.now) }
     ensures err { OnErr result (Extends (trees out.old) (trees out.new)) }
 {
     match param {
@@ -870,7 +872,7 @@ fn print_const_param<X: Subtree>(
     param: &ConstParam<X>,
     out: &mut TokenStream,
 ) -> Result<(), AllocError>
-    ensures ok { OnOk result (trees out.new ≡ trees out.old ++ printing.const_param X.prints param.now) }
+    ensures ok { OnOk result (trees out.new ≡ trees out.old ++ types.const_param X.prints param.now) }
     ensures err { OnErr result (Extends (trees out.old) (trees out.new)) }
 {
     print_const_head(alloc, param, out)?;
@@ -885,7 +887,7 @@ fn print_const_head<X: Subtree>(
     param: &ConstParam<X>,
     out: &mut TokenStream,
 ) -> Result<(), AllocError>
-    ensures ok { OnOk result (trees out.new ≡ trees out.old ++ printing.const_head X.prints param.now) }
+    ensures ok { OnOk result (trees out.new ≡ trees out.old ++ types.const_head X.prints param.now) }
     ensures err { OnErr result (Extends (trees out.old) (trees out.new)) }
 {
     print_outer(alloc, &param.attrs, out)?;
@@ -902,7 +904,7 @@ fn print_type_param<X: Subtree>(
     param: &TypeParam<X>,
     out: &mut TokenStream,
 ) -> Result<(), AllocError>
-    ensures ok { OnOk result (trees out.new ≡ trees out.old ++ printing.type_param X.prints param.now) }
+    ensures ok { OnOk result (trees out.new ≡ trees out.old ++ types.type_param X.prints param.now) }
     ensures err { OnErr result (Extends (trees out.old) (trees out.new)) }
 {
     print_type_head(alloc, param, out)?;
@@ -917,13 +919,13 @@ fn print_type_param<X: Subtree>(
 
 /// A type parameter without its default.
 #[cycle(print)]
-#[tactic(auto, using(token_core::proofs::Puts::puts, crate::proofs::generics_laws::Prints::prints))]
+#[tactic(auto, using(token_core::proofs::Puts::puts, crate::proofs::ty_laws::Prints::parts))]
 fn print_type_head<X: Subtree>(
     alloc: Global,
     param: &TypeParam<X>,
     out: &mut TokenStream,
 ) -> Result<(), AllocError>
-    ensures ok { OnOk result (trees out.new ≡ trees out.old ++ printing.type_head_by X.prints (printing.bound X.prints) param.now) }
+    ensures ok { OnOk result (trees out.new ≡ trees out.old ++ types.type_head X.prints param.now) }
     ensures err { OnErr result (Extends (trees out.old) (trees out.new)) }
 {
     print_outer(alloc, &param.attrs, out)?;
@@ -939,7 +941,7 @@ fn print_type_bounds<X: Subtree>(
     param: &TypeParam<X>,
     out: &mut TokenStream,
 ) -> Result<(), AllocError>
-    ensures ok { OnOk result (trees out.new ≡ trees out.old ++ printing.after_colon (printing.bound X.prints) param.now.colon_token param.now.bounds) }
+    ensures ok { OnOk result (trees out.new ≡ trees out.old ++ types.type_bounds X.prints param.now) }
     ensures err { OnErr result (Extends (trees out.old) (trees out.new)) }
 {
     if param.bounds.is_empty() {
@@ -950,13 +952,13 @@ fn print_type_bounds<X: Subtree>(
 }
 
 #[cycle(print)]
-#[tactic(auto, using(token_core::proofs::Puts::puts, crate::proofs::generics_laws::Prints::prints))]
+#[tactic(auto, using(token_core::proofs::Puts::puts, crate::proofs::ty_laws::Prints::parts))]
 fn print_bounds<X: Subtree>(
     alloc: Global,
     param: &TypeParam<X>,
     out: &mut TokenStream,
 ) -> Result<(), AllocError>
-    ensures ok { OnOk result (trees out.new ≡ trees out.old ++ printing.bounds_joined X.prints param.now.bounds) }
+    ensures ok { OnOk result (trees out.new ≡ trees out.old ++ types.own_bounds X.prints param.now) }
     ensures err { OnErr result (Extends (trees out.old) (trees out.new)) }
 {
     let (pairs, last) = bound_parts(&param.bounds);
@@ -972,13 +974,13 @@ fn print_bounds<X: Subtree>(
 
 /// Appends a bound; refused, what stood before is kept.
 #[cycle(print)]
-#[tactic(auto, using(token_core::proofs::Puts::puts, crate::proofs::generics_laws::Prints::prints))]
+#[tactic(auto, using(token_core::proofs::Puts::puts, crate::proofs::ty_laws::Prints::parts))]
 pub(crate) fn print_bound<X: Subtree>(
     alloc: Global,
     bound: &TypeParamBound<X>,
     out: &mut TokenStream,
 ) -> Result<(), AllocError>
-    ensures ok { OnOk result (trees out.new ≡ trees out.old ++ printing.bound X.prints bound.now) }
+    ensures ok { OnOk result (trees out.new ≡ trees out.old ++ types.bound X.prints bound.now) }
     ensures err { OnErr result (Extends (trees out.old) (trees out.new)) }
 {
     match bound {
@@ -996,7 +998,7 @@ fn print_trait_bound<X: Subtree>(
     bound: &TraitBound<X>,
     out: &mut TokenStream,
 ) -> Result<(), AllocError>
-    ensures ok { OnOk result (trees out.new ≡ trees out.old ++ printing.trait_bound X.prints bound.now) }
+    ensures ok { OnOk result (trees out.new ≡ trees out.old ++ types.trait_bound X.prints bound.now) }
     ensures err { OnErr result (Extends (trees out.old) (trees out.new)) }
 {
     match &bound.paren_token {
@@ -1017,7 +1019,7 @@ fn print_bare_trait<X: Subtree>(
     bound: &TraitBound<X>,
     out: &mut TokenStream,
 ) -> Result<(), AllocError>
-    ensures ok { OnOk result (trees out.new ≡ trees out.old ++ printing.bare_trait_by (printing.param X.prints) bound.now) }
+    ensures ok { OnOk result (trees out.new ≡ trees out.old ++ shapes.bare_trait_by (types.param X.prints) bound.now) }
     ensures err { OnErr result (Extends (trees out.old) (trees out.new)) }
 {
     print_binder_start(alloc, &bound.lifetimes, out)?;
@@ -1028,13 +1030,13 @@ fn print_bare_trait<X: Subtree>(
 
 /// The parameters of a trait bound's binder.
 #[cycle(print)]
-#[tactic(auto, using(token_core::proofs::Puts::puts, crate::proofs::generics_laws::Prints::prints))]
+#[tactic(auto, using(token_core::proofs::Puts::puts, crate::proofs::ty_laws::Prints::parts))]
 fn print_trait_params<X: Subtree>(
     alloc: Global,
     bound: &TraitBound<X>,
     out: &mut TokenStream,
 ) -> Result<(), AllocError>
-    ensures ok { OnOk result (trees out.new ≡ trees out.old ++ printing.binder_joined (printing.param X.prints) bound.now.lifetimes) }
+    ensures ok { OnOk result (trees out.new ≡ trees out.old ++ shapes.binder_joined (types.param X.prints) bound.now.lifetimes) }
     ensures err { OnErr result (Extends (trees out.old) (trees out.new)) }
 {
     let (pairs, last) = binder_parts(bound);
@@ -1052,7 +1054,7 @@ fn print_trait_params<X: Subtree>(
 fn binder_parts<X>(
     bound: &TraitBound<X>,
 ) -> (&[Pair<GenericParam<X>, Comma>], Option<&GenericParam<X>>)
-    ensures { printing.binder_params bound.now.lifetimes ≡ (values_of result.0.now (option_map (λ x. x.now) result.1), marks_of result.0.now) }
+    ensures { shapes.binder_params bound.now.lifetimes ≡ (values_of result.0.now (option_map (λ x. x.now) result.1), marks_of result.0.now) }
 {
     match &bound.lifetimes {
         Some(binder) => binder.lifetimes.parts(),
@@ -1067,7 +1069,7 @@ pub(crate) fn print_binder_start<G>(
     binder: &Option<BoundLifetimesOf<G>>,
     out: &mut TokenStream,
 ) -> Result<(), AllocError>
-    ensures ok { OnOk result (trees out.new ≡ trees out.old ++ printing.binder_start binder.now) }
+    ensures ok { OnOk result (trees out.new ≡ trees out.old ++ shapes.binder_start binder.now) }
     ensures err { OnErr result (Extends (trees out.old) (trees out.new)) }
 {
     match binder {
@@ -1086,7 +1088,7 @@ pub(crate) fn print_binder_end<G>(
     binder: &Option<BoundLifetimesOf<G>>,
     out: &mut TokenStream,
 ) -> Result<(), AllocError>
-    ensures ok { OnOk result (trees out.new ≡ trees out.old ++ printing.binder_end binder.now) }
+    ensures ok { OnOk result (trees out.new ≡ trees out.old ++ shapes.binder_end binder.now) }
     ensures err { OnErr result (Extends (trees out.old) (trees out.new)) }
 {
     match binder {
@@ -1102,7 +1104,7 @@ fn print_named_trait<X>(
     bound: &TraitBound<X>,
     out: &mut TokenStream,
 ) -> Result<(), AllocError>
-    ensures ok { OnOk result (trees out.new ≡ trees out.old ++ printing.named_trait bound.now) }
+    ensures ok { OnOk result (trees out.new ≡ trees out.old ++ shapes.named_trait bound.now) }
     ensures err { OnErr result (Extends (trees out.old) (trees out.new)) }
 {
     match &bound.maybe {
@@ -1119,7 +1121,7 @@ fn print_or_default<const N: u32>(
     mark: &Option<Mark<N, 1>>,
     out: &mut TokenStream,
 ) -> Result<(), AllocError>
-    ensures ok { OnOk result (trees out.new ≡ trees out.old ++ printing.or_default mark.now) }
+    ensures ok { OnOk result (trees out.new ≡ trees out.old ++ shapes.or_default mark.now) }
     ensures err { OnErr result (Extends (trees out.old) (trees out.new)) }
 {
     match mark {
@@ -1144,7 +1146,7 @@ fn print_predicate_lifetime<X: Subtree>(
 }
 
 impl<X: Subtree> ToTokens for LifetimeParam<X> {
-    ghost print = { printing.lifetime_param X.prints };
+    ghost print = { shapes.lifetime_param X.prints };
 
     fn to_tokens(&self, alloc: Global, out: &mut TokenStream) -> Result<(), AllocError> {
         let before = out.len();
@@ -1159,7 +1161,7 @@ impl<X: Subtree> ToTokens for LifetimeParam<X> {
 }
 
 impl<X: Subtree> ToTokens for ConstParam<X> {
-    ghost print = { printing.const_param X.prints };
+    ghost print = { types.const_param X.prints };
 
     fn to_tokens(&self, alloc: Global, out: &mut TokenStream) -> Result<(), AllocError> {
         let before = out.len();
@@ -1189,7 +1191,7 @@ impl<X: Subtree> ToTokens for PredicateLifetime<X> {
 }
 
 impl<X: Subtree> ToTokens for GenericParam<X> {
-    ghost print = { printing.param X.prints };
+    ghost print = { types.param X.prints };
 
     fn to_tokens(&self, alloc: Global, out: &mut TokenStream) -> Result<(), AllocError> {
         let before = out.len();
@@ -1204,7 +1206,7 @@ impl<X: Subtree> ToTokens for GenericParam<X> {
 }
 
 impl<X: Subtree> ToTokens for TypeParam<X> {
-    ghost print = { printing.type_param X.prints };
+    ghost print = { types.type_param X.prints };
 
     fn to_tokens(&self, alloc: Global, out: &mut TokenStream) -> Result<(), AllocError> {
         let before = out.len();
@@ -1219,7 +1221,7 @@ impl<X: Subtree> ToTokens for TypeParam<X> {
 }
 
 impl<X: Subtree> ToTokens for TypeParamBound<X> {
-    ghost print = { printing.bound X.prints };
+    ghost print = { types.bound X.prints };
 
     fn to_tokens(&self, alloc: Global, out: &mut TokenStream) -> Result<(), AllocError> {
         let before = out.len();
@@ -1234,7 +1236,7 @@ impl<X: Subtree> ToTokens for TypeParamBound<X> {
 }
 
 impl<X: Subtree> ToTokens for TraitBound<X> {
-    ghost print = { printing.trait_bound X.prints };
+    ghost print = { types.trait_bound X.prints };
 
     fn to_tokens(&self, alloc: Global, out: &mut TokenStream) -> Result<(), AllocError> {
         let before = out.len();
@@ -1256,7 +1258,7 @@ fn print_bound_lifetimes<X: Subtree>(
     binder: &BoundLifetimes<X>,
     out: &mut TokenStream,
 ) -> Result<(), AllocError>
-    ensures ok { OnOk result (trees out.new ≡ trees out.old ++ printing.bound_lifetimes X.prints binder.now) }
+    ensures ok { OnOk result (trees out.new ≡ trees out.old ++ types.bound_lifetimes X.prints binder.now) }
     ensures err { OnErr result (Extends (trees out.old) (trees out.new)) }
 {
     binder.for_token.to_tokens(alloc, out)?;
@@ -1288,7 +1290,7 @@ fn print_binder<X: Subtree>(
     binder: &Option<BoundLifetimes<X>>,
     out: &mut TokenStream,
 ) -> Result<(), AllocError>
-    ensures ok { OnOk result (trees out.new ≡ trees out.old ++ printing.binder_by (printing.param X.prints) binder.now) }
+    ensures ok { OnOk result (trees out.new ≡ trees out.old ++ shapes.binder_by (types.param X.prints) binder.now) }
     ensures err { OnErr result (Extends (trees out.old) (trees out.new)) }
 {
     match binder {
@@ -1315,7 +1317,7 @@ fn print_where<X: Subtree>(
 }
 
 impl<X: Subtree> ToTokens for BoundLifetimes<X> {
-    ghost print = { printing.bound_lifetimes X.prints };
+    ghost print = { types.bound_lifetimes X.prints };
 
     fn to_tokens(&self, alloc: Global, out: &mut TokenStream) -> Result<(), AllocError> {
         let before = out.len();
@@ -1457,7 +1459,7 @@ fn print_head<X: Subtree>(
     param: &GenericParam<X>,
     out: &mut TokenStream,
 ) -> Result<(), AllocError>
-    ensures ok { OnOk result (trees out.new ≡ trees out.old ++ printing.param X.prints (views.strip param.now)) }
+    ensures ok { OnOk result (trees out.new ≡ trees out.old ++ types.param X.prints (views.strip param.now)) }
     ensures err { OnErr result (Extends (trees out.old) (trees out.new)) }
 {
     match param {

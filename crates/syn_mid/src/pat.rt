@@ -12,7 +12,7 @@ ghost use Rattle.syn_mid.specs.pat.Printing as printing;
 use crate::attr::{Attribute, print_outer, print_value};
 use crate::path::{Path, PathStyle, print_path};
 use crate::supplied::{Expr, ExprConst, ExprLit, ExprMacro, ExprPath, ExprRange, Place, Subtree};
-use crate::ty::{Type, print_lone_comma, print_type, print_verbatim};
+use crate::ty::{Type, print_last_comma, print_lone_comma, print_type, print_verbatim};
 use std::alloc::{AllocError, Global};
 use token_core::token::{
     And, At, Brace, Bracket, Colon, Comma, DotDot, If, Mark, Mut, Or, Paren, Ref, Underscore, Word,
@@ -1011,26 +1011,9 @@ fn print_struct_rest<P, X: Subtree>(
 {
     match &pat.rest {
         Some(rest) => {
-            print_last_comma(alloc, &pat.fields, out)?;
+            print_last_comma(alloc, &pat.fields, Comma::default(), out)?;
             print_rest(alloc, rest, out)
         }
-        None => Ok(()),
-    }
-}
-
-/// A comma after a last member that has none.
-#[tactic(auto, using(token_core::proofs::Puts::puts, crate::proofs::pat_laws::Commas::commas))]
-fn print_last_comma<T>(
-    alloc: Global,
-    list: &Punctuated<T, Comma>,
-    out: &mut TokenStream,
-) -> Result<(), AllocError>
-    ensures ok { OnOk result (trees out.new ≡ trees out.old ++ printing.last_comma list.now.0 list.now.1) }
-    ensures err { OnErr result (Extends (trees out.old) (trees out.new)) }
-{
-    let (_pairs, last) = list.parts();
-    match last {
-        Some(_) => Comma::default().to_tokens(alloc, out),
         None => Ok(()),
     }
 }

@@ -10,6 +10,7 @@ ghost use Rattle.token_core.specs.Trees.{trees};
 ghost use Rattle.syn_mid.specs.declared.ty.Type.TheVariants as types;
 ghost use Rattle.syn_mid.specs.ty.Grammars as grammars;
 ghost use Rattle.syn_mid.specs.ty.Knot as knot;
+ghost use Rattle.syn_mid.specs.generics.Shapes as shapes;
 ghost use Rattle.syn_mid.specs.ty.Printing as printing;
 ghost use Rattle.syn_mid.specs.ty.Reading as reading;
 ghost use Rattle.syn_mid.specs.ty.Spelling.{IsMutability, IsInfer, IsNever, IsMacroType, IsPathType, IsSomeType, IsSomeArray, IsSomeParen, IsSomePtr, IsSomeReference, IsSomeSlice, IsSomeTuple};
@@ -32,7 +33,7 @@ use token_core::token::{
     Paren, Plus, RArrow, Semi, Star, Underscore, Unsafe,
 };
 use token_core::{
-    Boxed, Error, Ident, Items, Lifetime, LitStr, Pair, Parse, ParseStream, Punctuated, Span, ToTokens,
+    Boxed, Error, Ident, Items, Lifetime, LitStr, Pair, Parse, ParseStream, Punctuated, ToTokens,
     TokenStream,
 };
 
@@ -964,7 +965,7 @@ fn print_array<X: Subtree>(
 }
 
 #[cycle(print)]
-#[tactic(auto, using(token_core::proofs::Puts::puts, crate::proofs::generics_laws::Prints::binders))]
+#[tactic(auto, using(token_core::proofs::Puts::puts, crate::proofs::ty_laws::Prints::parts))]
 fn print_fn_ptr<X: Subtree>(
     alloc: Global,
     pointer: &TypeFnPtr<X>,
@@ -988,7 +989,7 @@ fn print_fn_params<X: Subtree>(
     pointer: &TypeFnPtr<X>,
     out: &mut TokenStream,
 ) -> Result<(), AllocError>
-    ensures ok { OnOk result (trees out.new ≡ trees out.old ++ printing.binder_joined (printing.param X.prints) pointer.now.lifetimes) }
+    ensures ok { OnOk result (trees out.new ≡ trees out.old ++ printing.fn_params X.prints pointer.now) }
     ensures err { OnErr result (Extends (trees out.old) (trees out.new)) }
 {
     let (pairs, last) = pointer_params(pointer);
@@ -1027,7 +1028,7 @@ fn print_inputs<X: Subtree>(
     pointer: &TypeFnPtr<X>,
     out: &mut TokenStream,
 ) -> Result<(), AllocError>
-    ensures ok { OnOk result (trees out.new ≡ trees out.old ++ printing.inputs X.prints pointer.now.inputs) }
+    ensures ok { OnOk result (trees out.new ≡ trees out.old ++ printing.fn_inputs X.prints pointer.now) }
     ensures err { OnErr result (Extends (trees out.old) (trees out.new)) }
 {
     let (pairs, last) = pointer_inputs(pointer);
@@ -1053,7 +1054,7 @@ fn print_output<X: Subtree>(
     pointer: &TypeFnPtr<X>,
     out: &mut TokenStream,
 ) -> Result<(), AllocError>
-    ensures ok { OnOk result (trees out.new ≡ trees out.old ++ printing.return_type X.prints pointer.now.output) }
+    ensures ok { OnOk result (trees out.new ≡ trees out.old ++ printing.fn_output X.prints pointer.now) }
     ensures err { OnErr result (Extends (trees out.old) (trees out.new)) }
 {
     match &pointer.output {
@@ -1334,7 +1335,7 @@ fn print_mutability(
 fn pointer_params<X>(
     pointer: &TypeFnPtr<X>,
 ) -> (&[Pair<GenericParam<X>, Comma>], Option<&GenericParam<X>>)
-    ensures { printing.binder_params pointer.now.lifetimes ≡ (values_of result.0.now (option_map (λ x. x.now) result.1), marks_of result.0.now) }
+    ensures { shapes.binder_params (printing.fn_lifetimes pointer.now) ≡ (values_of result.0.now (option_map (λ x. x.now) result.1), marks_of result.0.now) }
 {
     match &pointer.lifetimes {
         Some(binder) => binder.lifetimes.parts(),
@@ -1344,7 +1345,7 @@ fn pointer_params<X>(
 
 /// The arguments of a pointer to a function by their parts.
 fn pointer_inputs<X>(pointer: &TypeFnPtr<X>) -> (&[Pair<NamedArg<X>, Comma>], Option<&NamedArg<X>>)
-    ensures { pointer.now.inputs ≡ (values_of result.0.now (option_map (λ x. x.now) result.1), marks_of result.0.now) }
+    ensures { printing.inputs_of pointer.now ≡ (values_of result.0.now (option_map (λ x. x.now) result.1), marks_of result.0.now) }
 {
     pointer.inputs.parts()
 }
@@ -1471,37 +1472,41 @@ fn print_variadic<X: Subtree>(
 }
 
 /// `...` of a pointer to a function, after a comma, which is added where the last argument has none.
-#[tactic(auto, using(token_core::proofs::Puts::puts, crate::proofs::ty_laws::More::commas))]
+#[tactic(auto, using(token_core::proofs::Puts::puts))]
 fn print_more<X: Subtree>(
     alloc: Global,
     pointer: &TypeFnPtr<X>,
     out: &mut TokenStream,
 ) -> Result<(), AllocError>
-    ensures ok { OnOk result (trees out.new ≡ trees out.old ++ printing.more X.prints pointer.now.inputs pointer.now.variadic) }
+    ensures ok { OnOk result (trees out.new ≡ trees out.old ++ printing.fn_more X.prints pointer.now) }
     ensures err { OnErr result (Extends (trees out.old) (trees out.new)) }
 {
     match &pointer.variadic {
         Some(variadic) => {
-            print_comma_before(alloc, pointer, variadic.dots.spans[0], out)?;
+            let comma = Mark::<4, 1> {
+                spans: [variadic.dots.spans[0]],
+            };
+            print_last_comma(alloc, &pointer.inputs, comma, out)?;
             print_variadic(alloc, variadic, out)
         }
         None => Ok(()),
     }
 }
 
-/// A comma, where the last argument has none.
-#[tactic(auto, using(token_core::proofs::Puts::puts, crate::proofs::ty_laws::More::commas))]
-fn print_comma_before<X>(
+/// A comma after a last member that has none.
+#[tactic(auto, using(token_core::proofs::Puts::puts, crate::proofs::ty_laws::Lasts::lasts))]
+pub(crate) fn print_last_comma<T>(
     alloc: Global,
-    pointer: &TypeFnPtr<X>,
-    span: Span,
+    list: &Punctuated<T, Comma>,
+    comma: Comma,
     out: &mut TokenStream,
 ) -> Result<(), AllocError>
-    ensures ok { OnOk result (trees out.new ≡ trees out.old ++ printing.comma_before span pointer.now.inputs.0 pointer.now.inputs.1) }
+    ensures ok { OnOk result (trees out.new ≡ trees out.old ++ printing.last_comma comma list.now.0 list.now.1) }
     ensures err { OnErr result (Extends (trees out.old) (trees out.new)) }
 {
-    if pointer.inputs.empty_or_trailing() {
-        return Ok(());
+    let (_, last) = list.parts();
+    match last {
+        Some(_) => comma.to_tokens(alloc, out),
+        None => Ok(()),
     }
-    Mark::<4, 1> { spans: [span] }.to_tokens(alloc, out)
 }

@@ -5,7 +5,7 @@ use Rattle.syn_mid.specs.declared.generics.GenericParam.TheFolds.{fold-roll-Gene
 use Rattle.syn_mid.specs.declared.generics.GenericParam.TheOpen as g
 use Rattle.syn_mid.specs.declared.generics.GenericParam.TheVariants as v
 use Rattle.syn_mid.specs.declared.generics.BoundLifetimesOf.{BoundLifetimesOf}
-use Rattle.syn_mid.specs.declared.generics.TypeParamOf.{TypeParamOf}
+use Rattle.syn_mid.specs.declared.generics.TypeParam.{TypeParam}
 use Rattle.syn_mid.specs.declared.generics.TypeParamBound.{TypeParamBound}
 use Rattle.syn_mid.specs.declared.generics.TypeParamBound.TheVariants as b
 use Rattle.syn_mid.specs.declared.generics.TraitBoundOf.{TraitBoundOf}
@@ -43,7 +43,7 @@ each_marked f Q [] h e = tt
 each_marked f Q (x ∷ l) h e = (h.0 (and_left (f x) (every f l) e), each_marked f Q l h.1 (and_right (f x) (every f l) e))
 
 module _ {X : Type 0} where
-  pub marked-Type : (x : TypeParamOf (TypeParamBound X) X) → param (v.«Type» x) ≡ marks.type_param x
+  pub marked-Type : (x : TypeParam X) → param (v.«Type» x) ≡ marks.type_param x
   unfolding param bound
   marked-Type x = ap param (sym (v.rolls-Type x)) ∙ fold-roll-GenericParam X Bool Bool param_step bound_step (g.«Type» x) ∙ every_mapped bound x.bounds.0
 

@@ -9,7 +9,7 @@ use Rattle.token_core.specs.Prints.{Print}
 use Rattle.token_core.specs.Joined as punctuated
 use Rattle.token_core.specs.declared.punctuated.Pair.{Pair}
 use Rattle.syn_mid.specs.ty.Types.{Comma}
-use Rattle.syn_mid.specs.ty.Printing.{comma}
+use Rattle.syn_mid.specs.ty.Types.{comma}
 use Rattle.syn_mid.specs.generics.Members.{Member, comma_of, lacks, some_left, adds, completed, each, commas_of, values_of, firsts, others, added, sorted, first_members, in_order, sort}
 use Rattle.syn_mid.specs.generics.Marked.{marked}
 use Rattle.syn_mid.proofs.ty_laws.Each.{Each}

@@ -6,6 +6,7 @@ use Rattle.token_core.specs.declared.tree.TokenStream.{TokenStream}
 use Rattle.token_core.specs.declared.word.Word.{Word}
 use Rattle.token_core.specs.Loops.{Many}
 use Rattle.syn_mid.specs.Supplied.{Place, Block}
+use Rattle.syn_mid.specs.declared.ty.TypeFnPtr.{TypeFnPtr}
 use Rattle.syn_mid.specs.declared.supplied.Expr.{Expr}
 use Rattle.syn_mid.specs.declared.ty.Type.{«Type» as TypeTree}
 use Rattle.syn_mid.specs.declared.generics.Generics.{Generics}
@@ -14,8 +15,8 @@ use Rattle.syn_mid.specs.declared.generics.GenericParam.TheFolds.{fold-roll-Gene
 use Rattle.syn_mid.specs.declared.generics.GenericParam.TheOpen as g
 use Rattle.syn_mid.specs.declared.generics.GenericParam.TheVariants as v
 use Rattle.syn_mid.specs.declared.generics.LifetimeParam.{LifetimeParam}
-use Rattle.syn_mid.specs.declared.generics.TypeParamOf.{TypeParamOf}
-use Rattle.syn_mid.specs.declared.generics.ConstParam.{ConstParam}
+use Rattle.syn_mid.specs.declared.generics.TypeParam.{TypeParam}
+use Rattle.syn_mid.specs.declared.generics.ConstParamOf.{ConstParamOf}
 use Rattle.syn_mid.specs.declared.generics.BoundLifetimesOf.{BoundLifetimesOf}
 use Rattle.syn_mid.specs.declared.generics.TypeParamBound.{TypeParamBound, roll-TypeParamBound, map-TypeParamBound}
 use Rattle.syn_mid.specs.declared.generics.TypeParamBound.TheVariants as b
@@ -58,14 +59,14 @@ module _ {X : Type 0} (nx : Place → X → X) where
   unfolding param
   normal-Lifetime x = ap (param nx) (sym (v.rolls-Lifetime x)) ∙ fold-roll-GenericParam X (GenericParam X) (TypeParamBound X) (param_step nx) (bound_step nx) (g.GenericParam::Lifetime x)
 
-  pub normal-Type : (x : TypeParamOf (TypeParamBound X) X) → param nx (v.«Type» x) ≡ v.«Type» (normal.type_param nx x)
+  pub normal-Type : (x : TypeParam X) → param nx (v.«Type» x) ≡ v.«Type» (normal.type_param nx x)
   unfolding param bound
   normal-Type x =
       ap (param nx) (sym (v.rolls-Type x)) ∙ fold-roll-GenericParam X (GenericParam X) (TypeParamBound X) (param_step nx) (bound_step nx) (g.«Type» x)
       ∙ ap (λ z. v.«Type» (type_param_of (normal.attrs nx x.attrs) x.ident (colon x.colon_token (map (bound nx) x.bounds.0)) (z, x.bounds.1) (normal.type_default nx x.default))) (map-id (map (bound nx) x.bounds.0))
       ∙ ap (λ z. v.«Type» (type_param_of (normal.attrs nx x.attrs) x.ident z (many (bound nx) x.bounds) (normal.type_default nx x.default))) (colon_map (bound nx) x.colon_token x.bounds.0)
 
-  pub normal-Const : (x : ConstParam X) → param nx (v.Const x) ≡ v.Const (normal.const_param nx x)
+  pub normal-Const : (x : ConstParamOf (TypeTree X) X) → param nx (v.Const x) ≡ v.Const (normal.const_param nx x)
   unfolding param
   normal-Const x = ap (param nx) (sym (v.rolls-Const x)) ∙ fold-roll-GenericParam X (GenericParam X) (TypeParamBound X) (param_step nx) (bound_step nx) (g.Const x)
 
@@ -95,7 +96,7 @@ module _ {X : Type 0} (nx : Place → X → X) where
   normal-Verbatim x = ap (bound nx) (sym (b.rolls-Verbatim x)) ∙ fold-roll-TypeParamBound X (GenericParam X) (TypeParamBound X) (param_step nx) (bound_step nx) (g.Verbatim x)
 
   -- a parameter stays of its kind
-  kept_layer : (y : g.GenericParam-F X (GenericParam X) (TypeParamBound X)) → is_lifetime (param nx (roll-GenericParam X y)) ≡ is_lifetime (roll-GenericParam X y)
+  kept_layer : (y : g.GenericParam-F X (GenericParam X) (TypeParamBound X) (TypeTree X) (TypeParam X) (TypeFnPtr X)) → is_lifetime (param nx (roll-GenericParam X y)) ≡ is_lifetime (roll-GenericParam X y)
   kept_layer (g.GenericParam::Lifetime x) =
       ap (λ z. is_lifetime (param nx z)) (v.rolls-Lifetime x) ∙ ap is_lifetime (normal-Lifetime x) ∙ ap is_lifetime_layer (v.outs-Lifetime (normal.lifetime_param nx x))
       ∙ sym (ap is_lifetime_layer (v.outs-Lifetime x)) ∙ ap is_lifetime (sym (v.rolls-Lifetime x))
@@ -134,7 +135,7 @@ module _ {X : Type 0} (nx : Place → X → X) (own : (w : Place) (x : X) → nx
   const_default_stays None = refl
   const_default_stays (Some d) = ap (λ z. Some (d.0, z)) (const_argument_stays d.1)
 
-  pub const_param_stays : (x : ConstParam X) → normal.const_param nx (normal.const_param nx x) ≡ normal.const_param nx x
+  pub const_param_stays : (x : ConstParamOf (TypeTree X) X) → normal.const_param nx (normal.const_param nx x) ≡ normal.const_param nx x
   const_param_stays x =
       ap (λ z. const_param_of z x.const_token x.ident x.colon_token (types.ty nx (types.ty nx x.ty)) (normal.const_default nx (normal.const_default nx x.default))) (attrs_stay x.attrs)
       ∙ ap (λ z. const_param_of (normal.attrs nx x.attrs) x.const_token x.ident x.colon_token z (normal.const_default nx (normal.const_default nx x.default))) (ty_stays nx own x.ty)
@@ -147,7 +148,7 @@ module _ {X : Type 0} (nx : Place → X → X) (own : (w : Place) (x : X) → nx
   abbrev OwnBound : TypeParamBound X → Type 0
   OwnBound x = bound nx (bound nx x) ≡ bound nx x
 
-  type_parts : (x : TypeParamOf (TypeParamBound X) X) → Each OwnBound x.bounds.0 → normal.type_param nx (normal.type_param nx x) ≡ normal.type_param nx x
+  type_parts : (x : TypeParam X) → Each OwnBound x.bounds.0 → normal.type_param nx (normal.type_param nx x) ≡ normal.type_param nx x
   type_parts x h =
       let l = x.bounds.0 in
       let d = normal.type_default nx x.default in
@@ -235,7 +236,7 @@ module _ {X : Type 0} (nx : Place → X → X) (own : (w : Place) (x : X) → nx
   binder_each None m = tt
   binder_each (Some x) m = params_stay x.lifetimes.0 m
 
-  pub type_param_stays : (x : TypeParamOf (TypeParamBound X) X) → marks.type_param x ≡ true → normal.type_param nx (normal.type_param nx x) ≡ normal.type_param nx x
+  pub type_param_stays : (x : TypeParam X) → marks.type_param x ≡ true → normal.type_param nx (normal.type_param nx x) ≡ normal.type_param nx x
   type_param_stays x m = type_parts x (bounds_stay x.bounds.0 m)
 
   pub bound_lifetimes_stay : (x : BoundLifetimesOf (GenericParam X)) → marks.bound_lifetimes x ≡ true → normal.bound_lifetimes nx (normal.bound_lifetimes nx x) ≡ normal.bound_lifetimes nx x

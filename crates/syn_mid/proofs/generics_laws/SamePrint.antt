@@ -25,8 +25,8 @@ use Rattle.syn_mid.specs.declared.generics.GenericParam.TheFolds.{ind-GenericPar
 use Rattle.syn_mid.specs.declared.generics.GenericParam.TheOpen as g
 use Rattle.syn_mid.specs.declared.generics.GenericParam.TheVariants as v
 use Rattle.syn_mid.specs.declared.generics.LifetimeParam.{LifetimeParam}
-use Rattle.syn_mid.specs.declared.generics.TypeParamOf.{TypeParamOf}
-use Rattle.syn_mid.specs.declared.generics.ConstParam.{ConstParam}
+use Rattle.syn_mid.specs.declared.generics.TypeParam.{TypeParam}
+use Rattle.syn_mid.specs.declared.generics.ConstParamOf.{ConstParamOf}
 use Rattle.syn_mid.specs.declared.generics.BoundLifetimesOf.{BoundLifetimesOf}
 use Rattle.syn_mid.specs.declared.generics.TypeParamBound.{TypeParamBound, roll-TypeParamBound, map-TypeParamBound}
 use Rattle.syn_mid.specs.declared.generics.TypeParamBound.TheVariants as b
@@ -146,7 +146,7 @@ module _ {X : Type 0} (nx : Place → X → X) (px : Place → X → Print) (sam
   const_default_same None = refl
   const_default_same (Some d) = ap (λ z. p.mark d.0 ++ z) (const_argument_same d.1)
 
-  pub const_param_same : (x : ConstParam X) → printing.const_param px (normal.const_param nx x) ≡ printing.const_param px x
+  pub const_param_same : (x : ConstParamOf (TypeTree X) X) → printing.const_param px (normal.const_param nx x) ≡ printing.const_param px x
   const_param_same x =
       ap (λ z. z ++ (p.word x.const_token ++ (p.ident x.ident ++ (p.mark x.colon_token ++ (texts.ty px (types.ty nx x.ty) ++ printing.const_default px (normal.const_default nx x.default)))))) (attrs_same x.attrs)
       ∙ ap (λ z. printing.attrs px x.attrs ++ (p.word x.const_token ++ (p.ident x.ident ++ (p.mark x.colon_token ++ (z ++ printing.const_default px (normal.const_default nx x.default)))))) (ty_same nx px same x.ty)
@@ -159,7 +159,7 @@ module _ {X : Type 0} (nx : Place → X → X) (px : Place → X → Print) (sam
   abbrev SameBound : TypeParamBound X → Type 0
   SameBound x = bound px (normal.bound nx x) ≡ bound px x
 
-  type_parts : (x : TypeParamOf (TypeParamBound X) X) → Each SameBound x.bounds.0 → printing.type_param px (normal.type_param nx x) ≡ printing.type_param px x
+  type_parts : (x : TypeParam X) → Each SameBound x.bounds.0 → printing.type_param px (normal.type_param nx x) ≡ printing.type_param px x
   type_parts x h =
       ap (λ z. z ++ (p.ident x.ident ++ (after_colon (bound px) (colon x.colon_token x.bounds.0) (many (normal.bound nx) x.bounds) ++ printing.type_default px (normal.type_default nx x.default)))) (attrs_same x.attrs)
       ∙ ap (λ z. printing.attrs px x.attrs ++ (p.ident x.ident ++ (z ++ printing.type_default px (normal.type_default nx x.default)))) (bounds_same (normal.bound nx) (bound px) x.colon_token x.bounds.0 x.bounds.1 h)
@@ -238,7 +238,7 @@ module _ {X : Type 0} (nx : Place → X → X) (px : Place → X → Print) (sam
   binder_each None m = tt
   binder_each (Some x) m = params_same x.lifetimes.0 m
 
-  pub type_param_same : (x : TypeParamOf (TypeParamBound X) X) → marks.type_param x ≡ true → printing.type_param px (normal.type_param nx x) ≡ printing.type_param px x
+  pub type_param_same : (x : TypeParam X) → marks.type_param x ≡ true → printing.type_param px (normal.type_param nx x) ≡ printing.type_param px x
   type_param_same x m = type_parts x (bounds_each x.bounds.0 m)
 
   pub bound_lifetimes_same : (x : BoundLifetimesOf (GenericParam X)) → marks.bound_lifetimes x ≡ true → printing.bound_lifetimes px (normal.bound_lifetimes nx x) ≡ printing.bound_lifetimes px x

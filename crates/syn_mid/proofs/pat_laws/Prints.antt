@@ -40,7 +40,7 @@ use Rattle.syn_mid.specs.pat.Pats.{Attrs, binding_of, field_of, is_rest, is_rest
 use Rattle.syn_mid.specs.pat.Printing as s
 use Rattle.syn_mid.specs.pat.Printing.{pat, printed, pat_step}
 use Rattle.syn_mid.specs.path.Printing.{path, expr_style}
-use Rattle.syn_mid.specs.ty.Printing.{comma}
+use Rattle.syn_mid.specs.ty.Types.{comma}
 use Rattle.syn_mid.specs.ty.Types.{Comma}
 
 -- what is already printed is printed as it is

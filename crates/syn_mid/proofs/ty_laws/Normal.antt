@@ -13,7 +13,7 @@ use Rattle.syn_mid.specs.declared.ty.TypeMacro.{TypeMacro}
 use Rattle.syn_mid.specs.declared.ty.TypeNever.{TypeNever}
 use Rattle.syn_mid.specs.declared.ty.TypeGroupOf.{TypeGroupOf}
 use Rattle.syn_mid.specs.declared.ty.TypeParenOf.{TypeParenOf}
-use Rattle.syn_mid.specs.declared.ty.TypePath.{TypePath}
+use Rattle.syn_mid.specs.declared.ty.TypePathOf.{TypePathOf}
 use Rattle.syn_mid.specs.declared.ty.TypePtrOf.{TypePtrOf}
 use Rattle.syn_mid.specs.declared.ty.TypeReferenceOf.{TypeReferenceOf}
 use Rattle.syn_mid.specs.declared.ty.TypeSliceOf.{TypeSliceOf}
@@ -45,7 +45,7 @@ module _ {X : Type 0} (nx : Place → X → X) where
   unfolding ty
   normal-Paren x = ap (ty nx) (sym (v.rolls-Paren x)) ∙ fold-roll-Type X (TypeTree X) (ty_step nx) (t.Paren x)
 
-  pub normal-Path : (x : TypePath X) → ty nx (v.Path x) ≡ v.Path x
+  pub normal-Path : (x : TypePathOf (TypeTree X) X) → ty nx (v.Path x) ≡ v.Path x
   unfolding ty
   normal-Path x = ap (ty nx) (sym (v.rolls-Path x)) ∙ fold-roll-Type X (TypeTree X) (ty_step nx) (t.Path x)
 

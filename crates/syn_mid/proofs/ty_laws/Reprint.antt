@@ -31,7 +31,7 @@ use Rattle.syn_mid.specs.declared.ty.TypeInfer.{TypeInfer}
 use Rattle.syn_mid.specs.declared.ty.TypeMacro.{TypeMacro}
 use Rattle.syn_mid.specs.declared.ty.TypeNever.{TypeNever}
 use Rattle.syn_mid.specs.declared.ty.TypeParenOf.{TypeParenOf}
-use Rattle.syn_mid.specs.declared.ty.TypePath.{TypePath}
+use Rattle.syn_mid.specs.declared.ty.TypePathOf.{TypePathOf}
 use Rattle.syn_mid.specs.declared.ty.TypePtrOf.{TypePtrOf}
 use Rattle.syn_mid.specs.declared.ty.TypeReferenceOf.{TypeReferenceOf}
 use Rattle.syn_mid.specs.declared.ty.TypeSliceOf.{TypeSliceOf}
@@ -106,7 +106,7 @@ pub never_again : (x : TypeNever) (l r : Toks) → IsNever false x l r → Again
 never_again x l r (a_never {b = b} i) = let k = mark_front b l r i in record { spelt = λ h. a_never (k.spelt h); visible = λ h u w. k.visible h u w; seen = λ u. k.seen u; stays = refl; same = refl }
 
 module _ {X : Type 0} where
-  pub path_type_again : (x : TypePath X) (l r : Toks) → IsPathType false x l r → AgainFront (IsPathType true) (λ (z : TypePath X). z) printing.path_type x l r
+  pub path_type_again : (x : TypePathOf (TypeTree X) X) (l r : Toks) → IsPathType false x l r → AgainFront (IsPathType true) (λ (z : TypePathOf (TypeTree X) X). z) printing.path_type x l r
   path_type_again x l r (a_path_type {p = q} i) =
       let again = λ (h : Toks). path_again AsWritten false q l r h i in
       record {

@@ -7,7 +7,7 @@ use Rattle.syn_mid.specs.declared.generics.GenericParam.TheOpen as g
 use Rattle.syn_mid.specs.declared.generics.BoundLifetimesOf.{BoundLifetimesOf}
 use Rattle.syn_mid.specs.declared.generics.TypeParamBound.{TypeParamBound}
 use Rattle.syn_mid.specs.declared.generics.TraitBoundOf.{TraitBoundOf}
-use Rattle.syn_mid.specs.declared.generics.TypeParamOf.{TypeParamOf}
+use Rattle.syn_mid.specs.declared.generics.TypeParam.{TypeParam}
 use Rattle.syn_mid.specs.declared.generics.PreciseCapture.{PreciseCapture}
 use Rattle.syn_mid.specs.declared.generics.WhereClause.{WhereClause}
 use Rattle.syn_mid.specs.declared.generics.WherePredicate.{WherePredicate}
@@ -50,7 +50,7 @@ module _ {X : Type 0} where
   unfoldable pub bound : TypeParamBound X → Bool
   bound = fold-TypeParamBound X Bool Bool param_step bound_step
 
-  abbrev pub type_param : TypeParamOf (TypeParamBound X) X → Bool
+  abbrev pub type_param : TypeParam X → Bool
   type_param x = every bound x.bounds.0
 
   abbrev pub trait_bound : TraitBoundOf (GenericParam X) X → Bool

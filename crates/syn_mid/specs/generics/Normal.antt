@@ -3,6 +3,7 @@
 use Rattle.std.specs.Prelude.{List, [], ◌∷◌, Option, Some, None, map}
 use Rattle.token_core.specs.Loops.{Many}
 use Rattle.syn_mid.specs.Supplied.{Place, Block}
+use Rattle.syn_mid.specs.declared.ty.TypeFnPtr.{TypeFnPtr}
 use Rattle.syn_mid.specs.declared.supplied.Expr.{Expr}
 use Rattle.syn_mid.specs.declared.ty.Type.{«Type» as TypeTree}
 use Rattle.syn_mid.specs.declared.generics.Generics.{Generics}
@@ -12,8 +13,8 @@ use Rattle.syn_mid.specs.declared.generics.GenericParam.TheOpen as g
 use Rattle.syn_mid.specs.declared.generics.GenericParam.TheVariants as v
 use Rattle.syn_mid.specs.declared.generics.TypeParamBound.TheVariants as b
 use Rattle.syn_mid.specs.declared.generics.LifetimeParam.{LifetimeParam}
-use Rattle.syn_mid.specs.declared.generics.TypeParamOf.{TypeParamOf}
-use Rattle.syn_mid.specs.declared.generics.ConstParam.{ConstParam}
+use Rattle.syn_mid.specs.declared.generics.TypeParam.{TypeParam}
+use Rattle.syn_mid.specs.declared.generics.ConstParamOf.{ConstParamOf}
 use Rattle.syn_mid.specs.declared.generics.BoundLifetimesOf.{BoundLifetimesOf}
 use Rattle.syn_mid.specs.declared.generics.TypeParamBound.{TypeParamBound}
 use Rattle.syn_mid.specs.declared.generics.TraitBoundOf.{TraitBoundOf}
@@ -70,15 +71,15 @@ module _ {X : Type 0} (normal : Place → X → X) where
   const_default None = None
   const_default (Some d) = Some (d.0, const_argument d.1)
 
-  abbrev pub const_param : ConstParam X → ConstParam X
+  abbrev pub const_param : ConstParamOf (TypeTree X) X → ConstParamOf (TypeTree X) X
   const_param x = const_param_of (attrs x.attrs) x.const_token x.ident x.colon_token (ty.ty normal x.ty) (const_default x.default)
 
-  abbrev pub param_step : g.GenericParam-F X (GenericParam X) (TypeParamBound X) → GenericParam X
+  abbrev pub param_step : g.GenericParam-F X (GenericParam X) (TypeParamBound X) (TypeTree X) (TypeParam X) (TypeFnPtr X) → GenericParam X
   param_step (g.GenericParam::Lifetime x) = v.Lifetime (lifetime_param x)
   param_step (g.«Type» x) = v.«Type» (type_param_by (λ z. z) x)
   param_step (g.Const x) = v.Const (const_param x)
 
-  abbrev pub bound_step : g.TypeParamBound-F X (GenericParam X) (TypeParamBound X) → TypeParamBound X
+  abbrev pub bound_step : g.TypeParamBound-F X (GenericParam X) (TypeParamBound X) (TypeTree X) (TypeParam X) (TypeFnPtr X) → TypeParamBound X
   bound_step (g.Trait x) = b.Trait (trait_bound_by (λ z. z) x)
   bound_step (g.TypeParamBound::Lifetime x) = b.Lifetime x
   bound_step (g.PreciseCapture x) = b.PreciseCapture (capture x)
@@ -90,7 +91,7 @@ module _ {X : Type 0} (normal : Place → X → X) where
   unfoldable pub bound : TypeParamBound X → TypeParamBound X
   bound = fold-TypeParamBound X (GenericParam X) (TypeParamBound X) param_step bound_step
 
-  abbrev pub type_param : TypeParamOf (TypeParamBound X) X → TypeParamOf (TypeParamBound X) X
+  abbrev pub type_param : TypeParam X → TypeParam X
   type_param = type_param_by bound
 
   abbrev pub trait_bound : TraitBoundOf (GenericParam X) X → TraitBoundOf (GenericParam X) X

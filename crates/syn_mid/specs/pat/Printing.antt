@@ -36,19 +36,13 @@ use Rattle.syn_mid.specs.generics.Printing.{optional}
 use Rattle.syn_mid.specs.pat.Pats.{is_rest, is_rest_layer}
 use Rattle.syn_mid.specs.path.Printing.{path, expr_style}
 use Rattle.syn_mid.specs.ty.Printing as ty
-use Rattle.syn_mid.specs.ty.Printing.{comma}
+use Rattle.syn_mid.specs.ty.Types.{comma}
 use Rattle.syn_mid.specs.ty.Types.{Comma}
 
 -- a word, or nothing
 abbrev pub optional_word : {n : ℕ} → Option (Word n) → Print
 optional_word None = []
 optional_word (Some w) = p.word w
-
--- a comma after a last member that has none
-abbrev pub last_comma : {T : Type 0} → List T → List Comma → Print
-last_comma [] cs = []
-last_comma (x ∷ all) [] = p.mark comma
-last_comma (x ∷ all) (c ∷ cs) = last_comma all cs
 
 -- a comma after a lone element that has none, which sets the tuple apart from a pattern in parentheses, unless the element is `..`
 abbrev pub tuple_comma : {T : Type 0} → (T → Bool) → List T → List Comma → Print
@@ -79,7 +73,7 @@ module _ {X : Type 0} (prints : Place → X → Print) where
   -- its comma, which sets it apart from the last field
   abbrev pub rest_comma : {T : Type 0} → Option (PatRest X) → Many T Comma → Print
   rest_comma None v = []
-  rest_comma (Some x) v = last_comma v.0 v.1
+  rest_comma (Some x) v = last_comma comma v.0 v.1
 
   abbrev pub struct_rest : {P : Type 0} → PatStructOf P X → Print
   struct_rest x = rest_comma x.rest x.fields ++ optional_rest x.rest

@@ -11,12 +11,55 @@ use Rattle.token_core.specs.Lists.{joined}
 use Rattle.syn_mid.specs.declared.generics.BoundLifetimesOf.{BoundLifetimesOf}
 use Rattle.syn_mid.specs.declared.generics.GenericParam.{GenericParam}
 use Rattle.syn_mid.specs.declared.generics.GenericParam.TheShapes as shapes
-use Rattle.syn_mid.specs.generics.Printing.{param, bound, binder_params}
+use Rattle.syn_mid.specs.generics.Shapes.{binder_params}
+use Rattle.syn_mid.specs.ty.Printing.{ty, param, bound}
 use Rattle.syn_mid.proofs.generics.GenericParam.TheLaws as params
 use Rattle.syn_mid.proofs.generics.TypeParamBound.TheLaws as bounds
-use Rattle.syn_mid.proofs.generics.+print.Given.{Over}
+use Rattle.syn_mid.proofs.ty.Type.TheLaws as types
+use Rattle.syn_mid.proofs.+print.Given.{Over}
 use Rattle.syn_mid.proofs.ty_laws.Parts.{in_list, last_in_list, put_last, put_next}
-use Rattle.syn_mid.proofs.generics.+print.Goals as goal
+use Rattle.syn_mid.proofs.+print.Goals as goal
+
+pub print_ptr-returns-clause-err : goal.print_ptr-returns-clause-err
+print_ptr-returns-clause-err g t c =
+    on_err_weaker c.print_type.result (λ h. extends_on _ _ _ _ c.in_ok-to_tokens.ensures.ok (extends_on _ _ _ _ c.in_ok-to_tokens-2.ensures.ok h)) c.print_type.ensures.err
+
+pub print_reference-returns-in_err-print_mutability-clause-err : goal.print_reference-returns-in_err-print_mutability-clause-err
+print_reference-returns-in_err-print_mutability-clause-err g t c =
+    let kept : Extends (trees c.args.out.now) (trees c.print_mutability.new.out) =
+    extends_on _ _ _ _ c.in_ok-to_tokens.ensures.ok (extends_on _ _ _ _ c.in_ok-print_lifetime.ensures.ok c.in_err-print_mutability.ensures.err) in
+    search rules
+
+pub print_reference-returns-clause-err : goal.print_reference-returns-clause-err
+print_reference-returns-clause-err g t c =
+    on_err_weaker c.print_type.result (λ h. extends_on _ _ _ _ c.in_ok-to_tokens.ensures.ok (extends_on _ _ _ _ c.in_ok-print_lifetime.ensures.ok (extends_on _ _ _ _ c.in_ok-print_mutability.ensures.ok h))) c.print_type.ensures.err
+
+pub print_elements-returns-in-Some-clause-err : goal.print_elements-returns-in-Some-clause-err
+print_elements-returns-in-Some-clause-err g t c =
+    let old = trees c.args.out.now in
+    let mid = trees c.loop-pair.out in
+    on_err_weaker c.print_type-in-Some.result
+    (λ h. extends_on old (drop (length old) mid) mid _ (sym (take-append-drop (length old) mid) ∙ ap (λ z. z ++ drop (length old) mid) c.loop-pair.invariant.kept) h) c.print_type-in-Some.ensures.err
+
+pub print_elements-print_type-requires : goal.print_elements-print_type-requires
+print_elements-print_type-requires g t c κs within =
+    let size = types.the_size g.row.X g.X.laws in
+    let h = in_list size c.args.tuple.now.elems c.parts.result.0.now (option_map (λ x. x.now) c.parts.result.1) c.loop-pair.pair-index c.pair-item.result c.parts.ensures c.loop-pair-test.true c.pair-item.is in
+    (omega (arith, c.decreases, h), within)
+
+pub print_elements-print_type-requires-in-Some : goal.print_elements-print_type-requires-in-Some
+print_elements-print_type-requires-in-Some g t c κs within =
+    let size = types.the_size g.row.X g.X.laws in
+    let k : option_map (λ x. x.now) c.parts.result.1 ≡ Some c.in-Some.ty.now = ap (option_map (λ x. x.now)) c.in-Some.is in
+    let h = last_in_list size c.args.tuple.now.elems c.parts.result.0.now (option_map (λ x. x.now) c.parts.result.1) c.in-Some.ty.now c.parts.ensures k in
+    (omega (arith, c.decreases, h), within)
+
+pub print_elements-returns-in-Some-clause-ok : goal.print_elements-returns-in-Some-clause-ok
+print_elements-returns-in-Some-clause-ok g t c =
+    let k : option_map (λ x. x.now) c.parts.result.1 ≡ Some c.in-Some.ty.now = ap (option_map (λ x. x.now)) c.in-Some.is in
+    on_ok_weaker c.print_type-in-Some.result
+    (λ h. put_last (ty g.X.Subtree.prints) p.mark c.args.tuple.now.elems c.parts.result.0.now (option_map (λ x. x.now) c.parts.result.1) c.in-Some.ty.now c.loop-pair.pair-index (trees c.args.out.now) (trees c.loop-pair.out)
+    (trees c.print_type-in-Some.new.out) c.parts.ensures k c.loop-pair-test.false c.loop-pair.invariant.told h) c.print_type-in-Some.ensures.ok
 
 pub print_type_head-returns-clause-err : goal.print_type_head-returns-clause-err
 print_type_head-returns-clause-err g t c =
@@ -25,21 +68,21 @@ print_type_head-returns-clause-err g t c =
 pub print_bounds-print_bound-requires : goal.print_bounds-print_bound-requires
 print_bounds-print_bound-requires g t c κs within =
     let size = bounds.the_size g.row.X g.X.laws in
-    let h = in_list size c.args.param.now.bounds c.parts.result.0.now (option_map (λ x. x.now) c.parts.result.1) c.loop-pair.pair-index c.pair-item.result c.parts.ensures c.loop-pair-test.true c.pair-item.is in
+    let h = in_list size (own g c.args.param.now) c.parts.result.0.now (option_map (λ x. x.now) c.parts.result.1) c.loop-pair.pair-index c.pair-item.result c.parts.ensures c.loop-pair-test.true c.pair-item.is in
     (omega (arith, c.decreases, h), within)
 
 pub print_bounds-print_bound-requires-in-Some : goal.print_bounds-print_bound-requires-in-Some
 print_bounds-print_bound-requires-in-Some g t c κs within =
     let size = bounds.the_size g.row.X g.X.laws in
     let k : option_map (λ x. x.now) c.parts.result.1 ≡ Some c.in-Some.bound.now = ap (option_map (λ x. x.now)) c.in-Some.is in
-    let h = last_in_list size c.args.param.now.bounds c.parts.result.0.now (option_map (λ x. x.now) c.parts.result.1) c.in-Some.bound.now c.parts.ensures k in
+    let h = last_in_list size (own g c.args.param.now) c.parts.result.0.now (option_map (λ x. x.now) c.parts.result.1) c.in-Some.bound.now c.parts.ensures k in
     (omega (arith, c.decreases, h), within)
 
 pub print_bounds-returns-in-Some-clause-ok : goal.print_bounds-returns-in-Some-clause-ok
 print_bounds-returns-in-Some-clause-ok g t c =
     let k : option_map (λ x. x.now) c.parts.result.1 ≡ Some c.in-Some.bound.now = ap (option_map (λ x. x.now)) c.in-Some.is in
     on_ok_weaker c.print_bound-in-Some.result
-    (λ h. put_last (bound g.X.Subtree.prints) p.mark c.args.param.now.bounds c.parts.result.0.now (option_map (λ x. x.now) c.parts.result.1) c.in-Some.bound.now c.loop-pair.pair-index (trees c.args.out.now) (trees c.loop-pair.out)
+    (λ h. put_last (bound g.X.Subtree.prints) p.mark (own g c.args.param.now) c.parts.result.0.now (option_map (λ x. x.now) c.parts.result.1) c.in-Some.bound.now c.loop-pair.pair-index (trees c.args.out.now) (trees c.loop-pair.out)
     (trees c.print_bound-in-Some.new.out) c.parts.ensures k c.loop-pair-test.false c.loop-pair.invariant.told h) c.print_bound-in-Some.ensures.ok
 
 pub print_bounds-returns-in-Some-clause-err : goal.print_bounds-returns-in-Some-clause-err
