@@ -1,5 +1,5 @@
 -- What each kind of meta and of expression prints, and its normal form.
-use Rattle.std.proofs.Common.{◌≡◌, List, [], ◌∷◌, ◌++◌, Option, Some, None, map, refl, sym, ◌∙◌, ap, append_assoc}
+use Rattle.std.proofs.Common.{◌≡◌, ℕ, ◌+◌, ◌<◌, List, [], ◌∷◌, ◌++◌, Option, Some, None, map, length, drop, get_or, refl, sym, ◌∙◌, ap, append_assoc}
 use Rattle.token_core.specs.declared.lit.Lit.{Lit}
 use Rattle.token_core.specs.declared.range.RangeLimits.{RangeLimits}
 use Rattle.token_core.specs.Lits as lits
@@ -8,6 +8,7 @@ use Rattle.token_core.specs.Trees.{trees, stream_of_trees}
 use Rattle.token_core.specs.declared.tree.TokenStream.{TokenStream, roll-out-TokenStream}
 use Rattle.token_core.specs.Prints as p
 use Rattle.token_core.specs.Prints.{Print}
+use Rattle.token_core.proofs.Fronts.{at-drop}
 use Rattle.syn_mid.specs.Supplied.{Place, Value}
 use Rattle.syn_mid.specs.declared.attr.AttributeOf.{AttributeOf}
 use Rattle.syn_mid.specs.declared.attr.Meta.{Meta}
@@ -42,6 +43,13 @@ module _ {M : Type 0} (f : M → Print) where
   outer_mapped : (all : List (AttributeOf M)) → outer_by (λ z. z) (map printed all) ≡ outer_by f all
   outer_mapped [] = refl
   outer_mapped (a ∷ all) = ap (λ r. if_outer f a ++ r) (outer_mapped all)
+
+  -- one of a list, after those before it
+  pub put_attribute : (all : List (AttributeOf M)) (i : ℕ) (x : AttributeOf M) (old mid new whole : Print) → i < length all → x ≡ get_or all i x
+      → mid ++ outer_by f (drop i all) ≡ old ++ whole → new ≡ mid ++ if_outer f x → new ++ outer_by f (drop (i + 1) all) ≡ old ++ whole
+  put_attribute all i x old mid new whole h e told n =
+      let rest = outer_by f (drop (i + 1) all) in
+      ap (λ z. z ++ rest) n ∙ append_assoc mid (if_outer f x) rest ∙ ap (λ z. mid ++ outer_by f z) (sym (at-drop all i x h e)) ∙ told
 
 module _ {X : Type 0} (px : Place → X → Print) where
   pub prints_path : (x : Path X) → meta px (m.Path x) ≡ path Mod x
