@@ -1,3 +1,4 @@
+use Rattle.syn_mid.specs.pat.Pats.{Pat}
 use Prim.Native.Nat.{max}
 use Rattle.std.proofs.Common.{rules, append_assoc, ◌≡◌, ℕ, ◌++◌, drop, length, Some, option_map, sym, ap, ◌∙◌, arith}
 use Rattle.std.proofs.lemmas.List.{take-append-drop}
@@ -9,9 +10,8 @@ use Rattle.token_core.specs.Prints.{Extends}
 use Rattle.token_core.specs.Trees.{trees}
 use Rattle.token_core.proofs.Puts.{extends_append, extends_on}
 use Rattle.syn_mid.specs.declared.pat.FieldPatOf.{FieldPatOf}
-use Rattle.syn_mid.specs.declared.pat.Pat.{Pat}
 use Rattle.syn_mid.specs.pat.Printing.{pat, member, field}
-use Rattle.syn_mid.proofs.pat.Pat.TheLaws.{the_size}
+use Rattle.syn_mid.proofs.pat.PatOf.TheLaws.{the_size}
 use Rattle.syn_mid.proofs.ty_laws.Parts.{in_list, last_in_list, put_last, put_next}
 use Rattle.syn_mid.proofs.pat.+print.Given.{Over}
 use Rattle.syn_mid.proofs.pat.+print.Goals as goal
