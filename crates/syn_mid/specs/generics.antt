@@ -1,6 +1,5 @@
 pub mod Params
 pub mod Members
-pub mod Marked
 pub mod Printing
 pub mod Normal
 pub mod Views
