@@ -49,7 +49,7 @@ use Rattle.syn_mid.specs.generics.Normal as normal
 use Rattle.syn_mid.specs.generics.Normal.{colon, many}
 use Rattle.syn_mid.specs.generics.Params.{Attrs, Colon, Comma, Plus, Eq, is_lifetime, bound_lifetimes_of, trait_bound_of, type_param_of, where_clause_of, generics_of}
 use Rattle.syn_mid.specs.generics.Printing as printing
-use Rattle.syn_mid.specs.generics.Printing.{is_word, stands_alone, param, bound, after_colon, between, in_parens, optional, or_default, captured, is_captured_lifetime, lifetimes_joined, predicates_after}
+use Rattle.syn_mid.specs.generics.Printing.{is_word, stands_alone, param, bound, after_colon, between, in_parens, optional, or_default, captured, is_captured_lifetime, lifetimes_joined}
 use Rattle.syn_mid.proofs.attr_laws.Normal.{outer_same, value_same, at_place_same}
 use Rattle.syn_mid.proofs.ty_laws.Each.{Each, each_held, each_of, joined_same}
 use Rattle.syn_mid.proofs.ty_laws.Stays.{ty_same}
