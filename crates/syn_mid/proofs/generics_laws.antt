@@ -2,6 +2,5 @@ pub mod Members
 pub mod Sorted
 pub mod Prints
 pub mod Views
-pub mod Marked
 pub mod Normal
 pub mod SamePrint

@@ -1,7 +1,6 @@
 pub mod Params
 pub mod Shapes
 pub mod Members
-pub mod Marked
 pub mod Printing
 pub mod Normal
 pub mod Views

@@ -1,39 +1,22 @@
--- Lists that print their lifetimes first: their sorted order prints the same, and is its own. This needs each value but the last to have a mark, as every
--- `Punctuated` value has: there are as many values as marks, or one more. Without marks, the captures `'a 'b A` become `'a, 'b A` and then `'a, 'b, A`.
-use Rattle.std.proofs.Common.{◌≡◌, suc, ◌≤◌, Bool, true, false, not, ◌&&◌, ◌||◌, if◌then◌else◌, List, [], ◌∷◌, ◌++◌, Option, Some, None, map, length, refl, sym, ◌∙◌, ap, subst, arith, append_assoc, append-nil}
+-- Lists that print their lifetimes first: their sorted order prints the same, and is its own.
+use Rattle.std.proofs.Common.{◌≡◌, Bool, true, false, not, ◌&&◌, ◌||◌, if◌then◌else◌, List, [], ◌∷◌, ◌++◌, Some, None, map, refl, sym, ◌∙◌, ap, subst, append_assoc, append-nil}
 use Rattle.std.specs.Prelude.{cond, filter}
-use Rattle.token_core.specs.Lists.{pairs, option_list}
+use Rattle.token_core.specs.Lists.{option_list}
 use Rattle.token_core.specs.Loops.{Many}
 use Rattle.token_core.specs.Prints as p
 use Rattle.token_core.specs.Prints.{Print}
-use Rattle.token_core.specs.Joined as punctuated
-use Rattle.token_core.specs.declared.punctuated.Pair.{Pair}
 use Rattle.syn_mid.specs.ty.Types.{Comma}
 use Rattle.syn_mid.specs.ty.Types.{comma}
-use Rattle.syn_mid.specs.generics.Members.{Member, comma_of, lacks, some_left, adds, completed, each, commas_of, values_of, firsts, others, added, sorted, first_members, in_order, sort}
-use Rattle.syn_mid.specs.generics.Marked.{marked}
+use Rattle.syn_mid.specs.generics.Members.{Member, comma_of, lacks, some_left, adds, completed, each, commas_of, values_of, members, members_of, firsts, others, added, sorted, first_members, in_order, sort}
 use Rattle.syn_mid.proofs.ty_laws.Each.{Each}
 
 pub true_false : {R : Type 0} → true ≡ false → R
 true_false e = elim (subst (λ (b : Bool). cond b (Unit {0}) ⊥) e tt) [ ]
 
--- a list with as many marks as values, or one less
-pub marked_length : {A C : Type 0} (xs : List A) (ps : List C) → length xs ≤ suc (length ps) → marked xs ps ≡ true
-marked_length [] ps h = refl
-marked_length (x ∷ []) [] h = refl
-marked_length (x ∷ y ∷ l) [] h = absurd (omega (arith, h))
-marked_length (x ∷ l) (c ∷ ps) h = marked_length l ps (omega (arith, h))
-
 -- whether there is one
 abbrev pub some : {T : Type 0} → List T → Bool
 some [] = false
 some (x ∷ l) = true
-
--- so is what a `Punctuated` shows: values with their marks, and perhaps a last value
-pub marked_shown : {T P : Type 0} (l : List (Pair T P)) (o : Option T) → marked (punctuated.values_of l o) (punctuated.marks_of l) ≡ true
-marked_shown [] None = refl
-marked_shown [] (Some t) = refl
-marked_shown (x ∷ l) o = marked_shown l o
 
 module _ {A : Type 0} where
   -- each has a comma; each but the last has one
@@ -48,18 +31,18 @@ module _ {A : Type 0} where
   Marked ((x, None) ∷ y ∷ l) = ⊥
   Marked ((x, Some c) ∷ l) = Marked l
 
-  marked_pairs : (xs : List A) (ps : List Comma) → marked xs ps ≡ true → Marked (pairs xs ps)
-  marked_pairs [] ps h = tt
-  marked_pairs (x ∷ []) [] h = tt
-  marked_pairs (x ∷ y ∷ l) [] h = true_false (sym h)
-  marked_pairs (x ∷ l) (c ∷ ps) h = marked_pairs l ps h
+  marked_members : (xs : List A) (ps : List Comma) → Marked (members xs ps)
+  marked_members [] ps = tt
+  marked_members (x ∷ []) [] = tt
+  marked_members (x ∷ y ∷ l) [] = marked_members (y ∷ l) []
+  marked_members (x ∷ l) (c ∷ ps) = marked_members l ps
 
   -- the values and the marks make the members again
-  pairs_of : (l : List (Member A)) → Marked l → pairs (values_of l) (commas_of l) ≡ l
-  pairs_of [] h = refl
-  pairs_of ((x, None) ∷ []) h = refl
-  pairs_of ((x, None) ∷ y ∷ l) h = absurd h
-  pairs_of ((x, Some c) ∷ l) h = ap (λ z. (x, Some c) ∷ z) (pairs_of l h)
+  members_again : (l : List (Member A)) → Marked l → members (values_of l) (commas_of l) ≡ l
+  members_again [] h = refl
+  members_again ((x, None) ∷ []) h = refl
+  members_again ((x, None) ∷ y ∷ l) h = absurd h
+  members_again ((x, Some c) ∷ l) h = ap (λ z. (x, Some c) ∷ z) (members_again l h)
 
   marked_filter : (q : Member A → Bool) (l : List (Member A)) → Marked l → Marked (filter q l)
   marked_filter q [] h = tt
@@ -165,30 +148,30 @@ module _ {A : Type 0} (q : A → Bool) where
   order_prints f true l r e = each_completed f l (elim (lacks l) as (λ b. b && some_left r ≡ true → b ≡ true) [ true ↦ λ d. refl | false ↦ λ d. d ] e)
   order_prints f false l r e = sym (append-nil (each f l))
 
-  module _ (v : Many A Comma) (h : marked v.0 v.1 ≡ true) where
+  module _ (v : Many A Comma) where
     first_are : Each (λ x. q x.0 ≡ true) (first_members q v)
-    first_are = ordered_are (adds (firsts q v) (others q v)) (firsts q v) (filter_passed (λ x. q x.0) (pairs v.0 v.1))
+    first_are = ordered_are (adds (firsts q v) (others q v)) (firsts q v) (filter_passed (λ x. q x.0) (members_of v))
 
     other_are : Each (λ x. q x.0 ≡ false) (others q v)
-    other_are = all_by (λ x e. not_not (q x.0) e) (others q v) (filter_passed (λ x. not (q x.0)) (pairs v.0 v.1))
+    other_are = all_by (λ x e. not_not (q x.0) e) (others q v) (filter_passed (λ x. not (q x.0)) (members_of v))
 
     in_order_marked : Marked (in_order q v)
     in_order_marked =
-        let k = marked_pairs v.0 v.1 h in
-        marked_order (adds (firsts q v) (others q v)) (firsts q v) (others q v) refl (marked_filter (λ x. q x.0) (pairs v.0 v.1) k) (marked_filter (λ x. not (q x.0)) (pairs v.0 v.1) k)
+        let k = marked_members v.0 v.1 in
+        marked_order (adds (firsts q v) (others q v)) (firsts q v) (others q v) refl (marked_filter (λ x. q x.0) (members_of v) k) (marked_filter (λ x. not (q x.0)) (members_of v) k)
 
-    pairs_sorted : pairs (sort q v).0 (sort q v).1 ≡ in_order q v
-    pairs_sorted = pairs_of (in_order q v) in_order_marked
+    members_sorted : members_of (sort q v) ≡ in_order q v
+    members_sorted = members_again (in_order q v) in_order_marked
 
     firsts_sorted : firsts q (sort q v) ≡ first_members q v
     firsts_sorted =
-        ap (filter (λ x. q x.0)) pairs_sorted ∙ filter-append (λ x. q x.0) (first_members q v) (others q v)
+        ap (filter (λ x. q x.0)) members_sorted ∙ filter-append (λ x. q x.0) (first_members q v) (others q v)
         ∙ ap (λ z. z ++ filter (λ x. q x.0) (others q v)) (filter_kept (λ x. q x.0) (first_members q v) first_are)
         ∙ ap (λ z. first_members q v ++ z) (filter_gone (λ x. q x.0) (others q v) other_are) ∙ append-nil (first_members q v)
 
     others_sorted : others q (sort q v) ≡ others q v
     others_sorted =
-        ap (filter (λ x. not (q x.0))) pairs_sorted ∙ filter-append (λ x. not (q x.0)) (first_members q v) (others q v)
+        ap (filter (λ x. not (q x.0))) members_sorted ∙ filter-append (λ x. not (q x.0)) (first_members q v) (others q v)
         ∙ ap (λ z. z ++ filter (λ x. not (q x.0)) (others q v)) (filter_gone (λ x. not (q x.0)) (first_members q v) (all_by (λ x e. ap not e) (first_members q v) first_are))
         ∙ filter_kept (λ x. not (q x.0)) (others q v) (all_by (λ x e. ap not e) (others q v) other_are)
 
@@ -218,10 +201,11 @@ module _ {A B : Type 0} (f : A → B) where
   abbrev on : Member A → Member B
   on x = (f x.0, x.1)
 
-  pairs_map : (xs : List A) (ps : List Comma) → pairs (map f xs) ps ≡ map on (pairs xs ps)
-  pairs_map [] ps = refl
-  pairs_map (x ∷ xs) [] = ap (λ z. (f x, None) ∷ z) (pairs_map xs [])
-  pairs_map (x ∷ xs) (c ∷ ps) = ap (λ z. (f x, Some c) ∷ z) (pairs_map xs ps)
+  members_map : (xs : List A) (ps : List Comma) → members (map f xs) ps ≡ map on (members xs ps)
+  members_map [] ps = refl
+  members_map (x ∷ []) [] = refl
+  members_map (x ∷ y ∷ xs) [] = ap (λ z. (f x, Some comma) ∷ z) (members_map (y ∷ xs) [])
+  members_map (x ∷ xs) (c ∷ ps) = ap (λ z. (f x, Some c) ∷ z) (members_map xs ps)
 
   filter_on : (s : Member A → Bool) (t : Member B → Bool) → ((x : Member A) → t (on x) ≡ s x) → (l : List (Member A)) → filter t (map on l) ≡ map on (filter s l)
   filter_on s t k [] = refl
@@ -268,12 +252,6 @@ module _ {A B : Type 0} (f : A → B) where
   each_on g [] = refl
   each_on g (x ∷ l) = ap (λ z. g (f x.0) ++ (comma_of x.1 ++ z)) (each_on g l)
 
-  pub marked_map : (xs : List A) (ps : List Comma) → marked (map f xs) ps ≡ marked xs ps
-  marked_map [] ps = refl
-  marked_map (x ∷ []) [] = refl
-  marked_map (x ∷ y ∷ l) [] = refl
-  marked_map (x ∷ l) (c ∷ ps) = marked_map l ps
-
   pub some_map : (l : List A) → some (map f l) ≡ some l
   some_map [] = refl
   some_map (x ∷ l) = refl
@@ -281,10 +259,10 @@ module _ {A B : Type 0} (f : A → B) where
   -- by tests that agree
   module _ (q : A → Bool) (r : B → Bool) (keep : (x : A) → r (f x) ≡ q x) (v : Many A Comma) where
     firsts_on : firsts r (map f v.0, v.1) ≡ map on (firsts q v)
-    firsts_on = ap (filter (λ x. r x.0)) (pairs_map v.0 v.1) ∙ filter_on (λ x. q x.0) (λ x. r x.0) (λ x. keep x.0) (pairs v.0 v.1)
+    firsts_on = ap (filter (λ x. r x.0)) (members_map v.0 v.1) ∙ filter_on (λ x. q x.0) (λ x. r x.0) (λ x. keep x.0) (members_of v)
 
     others_on : others r (map f v.0, v.1) ≡ map on (others q v)
-    others_on = ap (filter (λ x. not (r x.0))) (pairs_map v.0 v.1) ∙ filter_on (λ x. not (q x.0)) (λ x. not (r x.0)) (λ x. ap not (keep x.0)) (pairs v.0 v.1)
+    others_on = ap (filter (λ x. not (r x.0))) (members_map v.0 v.1) ∙ filter_on (λ x. not (q x.0)) (λ x. not (r x.0)) (λ x. ap not (keep x.0)) (members_of v)
 
     in_order_on : in_order r (map f v.0, v.1) ≡ map on (in_order q v)
     in_order_on =
@@ -310,10 +288,11 @@ module _ {A B : Type 0} (f : A → B) where
 -- ---- by prints that agree on each value
 
 module _ {A : Type 0} (g h : A → Print) where
-  agree_pairs : (xs : List A) (ps : List Comma) → Each (λ x. g x ≡ h x) xs → Each (λ (x : Member A). g x.0 ≡ h x.0) (pairs xs ps)
-  agree_pairs [] ps k = tt
-  agree_pairs (x ∷ xs) [] k = (k.0, agree_pairs xs [] k.1)
-  agree_pairs (x ∷ xs) (c ∷ ps) k = (k.0, agree_pairs xs ps k.1)
+  agree_members : (xs : List A) (ps : List Comma) → Each (λ x. g x ≡ h x) xs → Each (λ (x : Member A). g x.0 ≡ h x.0) (members xs ps)
+  agree_members [] ps k = tt
+  agree_members (x ∷ []) [] k = (k.0, tt)
+  agree_members (x ∷ y ∷ xs) [] k = (k.0, agree_members (y ∷ xs) [] k.1)
+  agree_members (x ∷ xs) (c ∷ ps) k = (k.0, agree_members xs ps k.1)
 
   agree_filter : (s : Member A → Bool) (l : List (Member A)) → Each (λ x. g x.0 ≡ h x.0) l → Each (λ x. g x.0 ≡ h x.0) (filter s l)
   agree_filter s [] k = tt
@@ -325,17 +304,18 @@ module _ {A : Type 0} (g h : A → Print) where
 
   pub sorted_agrees : (q : A → Bool) (v : Many A Comma) → Each (λ x. g x ≡ h x) v.0 → sorted q g v ≡ sorted q h v
   sorted_agrees q v k =
-      let m = agree_pairs v.0 v.1 k in
-      ap (λ z. z ++ (added q v ++ each g (others q v))) (agree_each (firsts q v) (agree_filter (λ x. q x.0) (pairs v.0 v.1) m))
-      ∙ ap (λ z. each h (firsts q v) ++ (added q v ++ z)) (agree_each (others q v) (agree_filter (λ x. not (q x.0)) (pairs v.0 v.1) m))
+      let m = agree_members v.0 v.1 k in
+      ap (λ z. z ++ (added q v ++ each g (others q v))) (agree_each (firsts q v) (agree_filter (λ x. q x.0) (members_of v) m))
+      ∙ ap (λ z. each h (firsts q v) ++ (added q v ++ z)) (agree_each (others q v) (agree_filter (λ x. not (q x.0)) (members_of v) m))
 
 -- ---- a sorted list is empty where the list is
 
 module _ {A : Type 0} where
-  some_pairs : (xs : List A) (ps : List Comma) → some (pairs xs ps) ≡ some xs
-  some_pairs [] ps = refl
-  some_pairs (x ∷ xs) [] = refl
-  some_pairs (x ∷ xs) (c ∷ ps) = refl
+  some_members : (xs : List A) (ps : List Comma) → some (members xs ps) ≡ some xs
+  some_members [] ps = refl
+  some_members (x ∷ []) [] = refl
+  some_members (x ∷ y ∷ xs) [] = refl
+  some_members (x ∷ xs) (c ∷ ps) = refl
 
   some_order : (b : Bool) (l : List (Member A)) → some (if b then completed l else l) ≡ some l
   some_order false l = refl
@@ -357,6 +337,6 @@ module _ {A : Type 0} where
   pub some_sort : (q : A → Bool) (v : Many A Comma) → some (sort q v).0 ≡ some v.0
   some_sort q v =
       some_map (λ (x : Member A). x.0) (in_order q v) ∙ some_append (first_members q v) (others q v)
-      ∙ ap (λ z. z || some (others q v)) (some_order (adds (firsts q v) (others q v)) (firsts q v)) ∙ some_parts q (pairs v.0 v.1) ∙ some_pairs v.0 v.1
+      ∙ ap (λ z. z || some (others q v)) (some_order (adds (firsts q v) (others q v)) (firsts q v)) ∙ some_parts q (members_of v) ∙ some_members v.0 v.1
 
 pub ruleset laws = (sort_stays, sort_prints, sort_map, sorted_map, sorted_agrees, some_sort)

@@ -1,4 +1,4 @@
--- On every tree, the normal form of generics prints the same, where that of a supplied subtree does, and where lists have their marks.
+-- On every tree, the normal form of generics prints the same, where that of a supplied subtree does.
 use Rattle.std.proofs.Common.{◌≡◌, Bool, true, false, List, [], ◌∷◌, ◌++◌, Option, Some, None, map, refl, sym, ◌∙◌, ap, subst}
 use Rattle.token_core.specs.declared.mark.Mark.{Mark}
 use Rattle.token_core.specs.declared.token.Paren.{Paren}
@@ -25,8 +25,8 @@ use Rattle.syn_mid.specs.declared.generics.GenericParam.TheFolds.{ind-GenericPar
 use Rattle.syn_mid.specs.declared.generics.GenericParam.TheOpen as g
 use Rattle.syn_mid.specs.declared.generics.GenericParam.TheVariants as v
 use Rattle.syn_mid.specs.declared.generics.LifetimeParam.{LifetimeParam}
-use Rattle.syn_mid.specs.declared.generics.TypeParam.{TypeParam}
-use Rattle.syn_mid.specs.declared.generics.ConstParamOf.{ConstParamOf}
+use Rattle.syn_mid.specs.declared.generics.TypeParamOf.{TypeParamOf}
+use Rattle.syn_mid.specs.declared.generics.ConstParam.{ConstParam}
 use Rattle.syn_mid.specs.declared.generics.BoundLifetimesOf.{BoundLifetimesOf}
 use Rattle.syn_mid.specs.declared.generics.TypeParamBound.{TypeParamBound, roll-TypeParamBound, map-TypeParamBound}
 use Rattle.syn_mid.specs.declared.generics.TypeParamBound.TheVariants as b
@@ -44,18 +44,16 @@ use Rattle.syn_mid.specs.attr.Printing.{value}
 use Rattle.syn_mid.specs.path.Printing.{path, as_written}
 use Rattle.syn_mid.specs.ty.Normal as types
 use Rattle.syn_mid.specs.ty.Printing as texts
-use Rattle.syn_mid.specs.generics.Marked as marks
 use Rattle.syn_mid.specs.generics.Members.{sort, sorted}
 use Rattle.syn_mid.specs.generics.Normal as normal
 use Rattle.syn_mid.specs.generics.Normal.{colon, many}
 use Rattle.syn_mid.specs.generics.Params.{Attrs, Colon, Comma, Plus, Eq, is_lifetime, bound_lifetimes_of, trait_bound_of, type_param_of, where_clause_of, generics_of}
 use Rattle.syn_mid.specs.generics.Printing as printing
-use Rattle.syn_mid.specs.generics.Printing.{is_word, stands_alone, param, bound, after_colon, between, in_parens, optional, or_default, captured, is_captured_lifetime, lifetimes_joined, predicates_after}
+use Rattle.syn_mid.specs.generics.Printing.{is_word, stands_alone, param, bound, after_colon, between, in_parens, optional, or_default, captured, is_captured_lifetime, lifetimes_joined}
 use Rattle.syn_mid.proofs.attr_laws.Normal.{outer_same, value_same, at_place_same}
 use Rattle.syn_mid.proofs.ty_laws.Each.{Each, each_held, each_of, joined_same}
 use Rattle.syn_mid.proofs.ty_laws.Stays.{ty_same}
-use Rattle.syn_mid.proofs.generics_laws.Marked.{and_left, and_right, each_marked, marked-Type, marked-Trait, marked-PreciseCapture}
-use Rattle.syn_mid.proofs.generics_laws.Members.{true_false, some, some_sort, sort_prints, sorted_map, sorted_agrees, marked_map}
+use Rattle.syn_mid.proofs.generics_laws.Members.{true_false, some, some_sort, sort_prints, sorted_map, sorted_agrees}
 use Rattle.syn_mid.proofs.generics_laws.Normal.{normal-Lifetime, normal-Type, normal-Const, normal-Trait, normal-bound-Lifetime, normal-PreciseCapture, normal-Verbatim, kind_kept}
 use Rattle.syn_mid.proofs.generics_laws.Prints.{param-Lifetime, param-Type, param-Const, bound-Trait, bound-PreciseCapture, const_alone, const_braced, alone-Lit, alone-Path, alone-Const, alone-Macro, alone-Range, alone-Block, alone-Other}
 use Rattle.syn_mid.proofs.attr_laws.Prints.{normal-Lit, normal-Path as normal-ExprPath, normal-Const as normal-ExprConst, normal-Macro, normal-Range, normal-Block, normal_place}
@@ -76,8 +74,8 @@ between_same t u [] (y ∷ m) k e = true_false (sym e)
 between_same t u (x ∷ l) [] k e = true_false e
 between_same t u (x ∷ l) (y ∷ m) k e = refl
 
-pub capture_same : (x : PreciseCapture) → marks.capture x ≡ true → printing.capture (normal.capture x) ≡ printing.capture x
-capture_same x m = ap (λ z. p.word x.use_token ++ (p.mark x.lt_token ++ (z ++ p.mark x.gt_token))) (sort_prints is_captured_lifetime x.params m captured)
+pub capture_same : (x : PreciseCapture) → printing.capture (normal.capture x) ≡ printing.capture x
+capture_same x = ap (λ z. p.word x.use_token ++ (p.mark x.lt_token ++ (z ++ p.mark x.gt_token))) (sort_prints is_captured_lifetime x.params captured)
 
 module _ {X : Type 0} (nx : Place → X → X) (px : Place → X → Print) (same : (w : Place) (x : X) → px w (nx w x) ≡ px w x) where
   attrs_same : (l : Attrs X) → printing.attrs px (normal.attrs nx l) ≡ printing.attrs px l
@@ -146,20 +144,19 @@ module _ {X : Type 0} (nx : Place → X → X) (px : Place → X → Print) (sam
   const_default_same None = refl
   const_default_same (Some d) = ap (λ z. p.mark d.0 ++ z) (const_argument_same d.1)
 
-  pub const_param_same : (x : ConstParamOf (TypeTree X) X) → printing.const_param px (normal.const_param nx x) ≡ printing.const_param px x
+  pub const_param_same : (x : ConstParam X) → printing.const_param px (normal.const_param nx x) ≡ printing.const_param px x
   const_param_same x =
       ap (λ z. z ++ (p.word x.const_token ++ (p.ident x.ident ++ (p.mark x.colon_token ++ (texts.ty px (types.ty nx x.ty) ++ printing.const_default px (normal.const_default nx x.default)))))) (attrs_same x.attrs)
       ∙ ap (λ z. printing.attrs px x.attrs ++ (p.word x.const_token ++ (p.ident x.ident ++ (p.mark x.colon_token ++ (z ++ printing.const_default px (normal.const_default nx x.default)))))) (ty_same nx px same x.ty)
       ∙ ap (λ z. printing.attrs px x.attrs ++ (p.word x.const_token ++ (p.ident x.ident ++ (p.mark x.colon_token ++ (texts.ty px x.ty ++ z))))) (const_default_same x.default)
 
-  -- where the parameters and bounds within have lists with their marks
   abbrev Same : GenericParam X → Type 0
   Same x = param px (normal.param nx x) ≡ param px x
 
   abbrev SameBound : TypeParamBound X → Type 0
   SameBound x = bound px (normal.bound nx x) ≡ bound px x
 
-  type_parts : (x : TypeParam X) → Each SameBound x.bounds.0 → printing.type_param px (normal.type_param nx x) ≡ printing.type_param px x
+  type_parts : (x : TypeParamOf (TypeParamBound X) X) → Each SameBound x.bounds.0 → printing.type_param px (normal.type_param nx x) ≡ printing.type_param px x
   type_parts x h =
       ap (λ z. z ++ (p.ident x.ident ++ (after_colon (bound px) (colon x.colon_token x.bounds.0) (many (normal.bound nx) x.bounds) ++ printing.type_default px (normal.type_default nx x.default)))) (attrs_same x.attrs)
       ∙ ap (λ z. printing.attrs px x.attrs ++ (p.ident x.ident ++ (z ++ printing.type_default px (normal.type_default nx x.default)))) (bounds_same (normal.bound nx) (bound px) x.colon_token x.bounds.0 x.bounds.1 h)
@@ -176,94 +173,78 @@ module _ {X : Type 0} (nx : Place → X → X) (px : Place → X → Print) (sam
   trait_parts : (x : TraitBoundOf (GenericParam X) X) → EachOf x.lifetimes → printing.trait_bound px (normal.trait_bound nx x) ≡ printing.trait_bound px x
   trait_parts x h = ap (λ z. in_parens x.paren_token (z ++ (optional x.maybe ++ path as_written x.path))) (binder_parts x.lifetimes h)
 
-  abbrev P : GenericParam X → Type 0
-  P x = marks.param x ≡ true → Same x
-
-  abbrev Q : TypeParamBound X → Type 0
-  Q x = marks.bound x ≡ true → SameBound x
-
   abbrev HeldParam : Type 0
-  HeldParam = (x : GenericParam X) × P x
+  HeldParam = (x : GenericParam X) × Same x
 
   abbrev HeldBound : Type 0
-  HeldBound = (x : TypeParamBound X) × Q x
+  HeldBound = (x : TypeParamBound X) × SameBound x
 
-  param_layer : (y : g.GenericParam-F X HeldParam HeldBound) → P (roll-GenericParam X (map-GenericParam X HeldParam HeldBound (GenericParam X) (TypeParamBound X) (λ a. a.0) (λ c. c.0) y))
+  param_layer : (y : g.GenericParam-F X HeldParam HeldBound) → Same (roll-GenericParam X (map-GenericParam X HeldParam HeldBound (GenericParam X) (TypeParamBound X) (λ a. a.0) (λ c. c.0) y))
   param_layer (g.GenericParam::Lifetime x) =
-      subst P (sym (v.rolls-Lifetime x))
-      (λ m. ap (param px) (normal-Lifetime nx x) ∙ param-Lifetime px (normal.lifetime_param nx x) ∙ lifetime_param_same x ∙ sym (param-Lifetime px x))
+      subst Same (sym (v.rolls-Lifetime x)) (ap (param px) (normal-Lifetime nx x) ∙ param-Lifetime px (normal.lifetime_param nx x) ∙ lifetime_param_same x ∙ sym (param-Lifetime px x))
   param_layer (g.«Type» y) =
       let l = map (λ (a : HeldBound). a.0) y.bounds.0 in
       let x = type_param_of y.attrs y.ident y.colon_token (l, y.bounds.1) y.default in
-      subst P (sym (v.rolls-Type x))
-      (λ m. ap (param px) (normal-Type nx x) ∙ param-Type px (normal.type_param nx x)
-      ∙ type_parts x (each_marked marks.bound SameBound l (each_held Q y.bounds.0) (sym (marked-Type x) ∙ m)) ∙ sym (param-Type px x))
+      subst Same (sym (v.rolls-Type x)) (ap (param px) (normal-Type nx x) ∙ param-Type px (normal.type_param nx x) ∙ type_parts x (each_held SameBound y.bounds.0) ∙ sym (param-Type px x))
   param_layer (g.Const x) =
-      subst P (sym (v.rolls-Const x)) (λ m. ap (param px) (normal-Const nx x) ∙ param-Const px (normal.const_param nx x) ∙ const_param_same x ∙ sym (param-Const px x))
+      subst Same (sym (v.rolls-Const x)) (ap (param px) (normal-Const nx x) ∙ param-Const px (normal.const_param nx x) ∙ const_param_same x ∙ sym (param-Const px x))
 
   trait_by : (x : TraitBoundOf (GenericParam X) X) → EachOf x.lifetimes → SameBound (b.Trait x)
   trait_by x h = ap (bound px) (normal-Trait nx x) ∙ bound-Trait px (normal.trait_bound nx x) ∙ trait_parts x h ∙ sym (bound-Trait px x)
 
   trait_held : (t : Option Paren) (l : Option (BoundLifetimesOf HeldParam)) (m : TraitBoundModifiers) (q : Option (Mark 22 1)) (y : Path X) →
-      Q (roll-TypeParamBound X (map-TypeParamBound X HeldParam HeldBound (GenericParam X) (TypeParamBound X) (λ a. a.0) (λ c. c.0) (g.Trait (trait_bound_of t l m q y))))
-  trait_held t None m q y = let x = trait_bound_of t None m q y in subst Q (sym (b.rolls-Trait x)) (λ k. trait_by x tt)
+      SameBound (roll-TypeParamBound X (map-TypeParamBound X HeldParam HeldBound (GenericParam X) (TypeParamBound X) (λ a. a.0) (λ c. c.0) (g.Trait (trait_bound_of t l m q y))))
+  trait_held t None m q y = let x = trait_bound_of t None m q y in subst SameBound (sym (b.rolls-Trait x)) (trait_by x tt)
   trait_held t (Some z) m q y =
       let l = map (λ (a : HeldParam). a.0) z.lifetimes.0 in
       let x = trait_bound_of t (Some (bound_lifetimes_of z.for_token z.lt_token (l, z.lifetimes.1) z.gt_token)) m q y in
-      subst Q (sym (b.rolls-Trait x)) (λ k. trait_by x (each_marked marks.param Same l (each_held P z.lifetimes.0) (sym (marked-Trait x) ∙ k)))
+      subst SameBound (sym (b.rolls-Trait x)) (trait_by x (each_held Same z.lifetimes.0))
 
-  bound_layer : (y : g.TypeParamBound-F X HeldParam HeldBound) → Q (roll-TypeParamBound X (map-TypeParamBound X HeldParam HeldBound (GenericParam X) (TypeParamBound X) (λ a. a.0) (λ c. c.0) y))
+  bound_layer : (y : g.TypeParamBound-F X HeldParam HeldBound) → SameBound (roll-TypeParamBound X (map-TypeParamBound X HeldParam HeldBound (GenericParam X) (TypeParamBound X) (λ a. a.0) (λ c. c.0) y))
   bound_layer (g.Trait y) = trait_held y.paren_token y.lifetimes y.modifiers y.maybe y.path
-  bound_layer (g.TypeParamBound::Lifetime x) = subst Q (sym (b.rolls-Lifetime x)) (λ m. ap (bound px) (normal-bound-Lifetime nx x))
+  bound_layer (g.TypeParamBound::Lifetime x) = subst SameBound (sym (b.rolls-Lifetime x)) (ap (bound px) (normal-bound-Lifetime nx x))
   bound_layer (g.PreciseCapture x) =
-      subst Q (sym (b.rolls-PreciseCapture x))
-      (λ m. ap (bound px) (normal-PreciseCapture nx x) ∙ bound-PreciseCapture px (normal.capture x) ∙ capture_same x (sym (marked-PreciseCapture X x) ∙ m) ∙ sym (bound-PreciseCapture px x))
-  bound_layer (g.Verbatim x) = subst Q (sym (b.rolls-Verbatim x)) (λ m. ap (bound px) (normal-Verbatim nx x))
+      subst SameBound (sym (b.rolls-PreciseCapture x)) (ap (bound px) (normal-PreciseCapture nx x) ∙ bound-PreciseCapture px (normal.capture x) ∙ capture_same x ∙ sym (bound-PreciseCapture px x))
+  bound_layer (g.Verbatim x) = subst SameBound (sym (b.rolls-Verbatim x)) (ap (bound px) (normal-Verbatim nx x))
 
-  pub param_same : (x : GenericParam X) → marks.param x ≡ true → param px (normal.param nx x) ≡ param px x
-  param_same = ind-GenericParam X P Q (λ x y is. subst (λ z. P (roll-GenericParam X z)) is (param_layer y)) (λ x y is. subst (λ z. Q (roll-TypeParamBound X z)) is (bound_layer y))
+  pub param_same : (x : GenericParam X) → param px (normal.param nx x) ≡ param px x
+  param_same = ind-GenericParam X Same SameBound (λ x y is. subst (λ z. Same (roll-GenericParam X z)) is (param_layer y)) (λ x y is. subst (λ z. SameBound (roll-TypeParamBound X z)) is (bound_layer y))
 
-  pub bound_same : (x : TypeParamBound X) → marks.bound x ≡ true → bound px (normal.bound nx x) ≡ bound px x
-  bound_same = ind-TypeParamBound X P Q (λ x y is. subst (λ z. P (roll-GenericParam X z)) is (param_layer y)) (λ x y is. subst (λ z. Q (roll-TypeParamBound X z)) is (bound_layer y))
+  pub bound_same : (x : TypeParamBound X) → bound px (normal.bound nx x) ≡ bound px x
+  bound_same = ind-TypeParamBound X Same SameBound (λ x y is. subst (λ z. Same (roll-GenericParam X z)) is (param_layer y)) (λ x y is. subst (λ z. SameBound (roll-TypeParamBound X z)) is (bound_layer y))
 
   -- ---- what holds parameters and bounds
 
-  params_same : (l : List (GenericParam X)) → marks.every marks.param l ≡ true → Each Same l
-  params_same l m = each_marked marks.param Same l (each_of param_same l) m
+  binder_each : (x : Option (BoundLifetimesOf (GenericParam X))) → EachOf x
+  binder_each None = tt
+  binder_each (Some x) = each_of param_same x.lifetimes.0
 
-  bounds_each : (l : List (TypeParamBound X)) → marks.every marks.bound l ≡ true → Each SameBound l
-  bounds_each l m = each_marked marks.bound SameBound l (each_of bound_same l) m
+  pub type_param_same : (x : TypeParamOf (TypeParamBound X) X) → printing.type_param px (normal.type_param nx x) ≡ printing.type_param px x
+  type_param_same x = type_parts x (each_of bound_same x.bounds.0)
 
-  binder_each : (x : Option (BoundLifetimesOf (GenericParam X))) → marks.binder_by marks.param x ≡ true → EachOf x
-  binder_each None m = tt
-  binder_each (Some x) m = params_same x.lifetimes.0 m
+  pub bound_lifetimes_same : (x : BoundLifetimesOf (GenericParam X)) → printing.bound_lifetimes px (normal.bound_lifetimes nx x) ≡ printing.bound_lifetimes px x
+  bound_lifetimes_same x = binder_parts (Some x) (each_of param_same x.lifetimes.0)
 
-  pub type_param_same : (x : TypeParam X) → marks.type_param x ≡ true → printing.type_param px (normal.type_param nx x) ≡ printing.type_param px x
-  type_param_same x m = type_parts x (bounds_each x.bounds.0 m)
-
-  pub bound_lifetimes_same : (x : BoundLifetimesOf (GenericParam X)) → marks.bound_lifetimes x ≡ true → printing.bound_lifetimes px (normal.bound_lifetimes nx x) ≡ printing.bound_lifetimes px x
-  bound_lifetimes_same x m = binder_parts (Some x) (params_same x.lifetimes.0 m)
-
-  pub trait_bound_same : (x : TraitBoundOf (GenericParam X) X) → marks.trait_bound x ≡ true → printing.trait_bound px (normal.trait_bound nx x) ≡ printing.trait_bound px x
-  trait_bound_same x m = trait_parts x (binder_each x.lifetimes m)
+  pub trait_bound_same : (x : TraitBoundOf (GenericParam X) X) → printing.trait_bound px (normal.trait_bound nx x) ≡ printing.trait_bound px x
+  trait_bound_same x = trait_parts x (binder_each x.lifetimes)
 
   pub predicate_lifetime_same : (x : PredicateLifetime X) → printing.predicate_lifetime px (normal.predicate_lifetime nx x) ≡ printing.predicate_lifetime px x
   predicate_lifetime_same x = ap (λ z. z ++ (lifetimes.print x.lifetime ++ (p.mark x.colon_token ++ lifetimes_joined x.bounds))) (attrs_same x.attrs)
 
-  pub predicate_type_same : (x : PredicateType X) → marks.predicate_type x ≡ true → printing.predicate_type px (normal.predicate_type nx x) ≡ printing.predicate_type px x
-  predicate_type_same x m =
+  pub predicate_type_same : (x : PredicateType X) → printing.predicate_type px (normal.predicate_type nx x) ≡ printing.predicate_type px x
+  predicate_type_same x =
       let k = printing.binder_by (param px) (normal.binder_by (normal.param nx) x.lifetimes) in
       let l = printing.bounds_joined px (many (normal.bound nx) x.bounds) in
       ap (λ z. z ++ (k ++ (texts.ty px (types.ty nx x.bounded_ty) ++ (p.mark x.colon_token ++ l)))) (attrs_same x.attrs)
       ∙ ap (λ z. printing.attrs px x.attrs ++ (z ++ (texts.ty px (types.ty nx x.bounded_ty) ++ (p.mark x.colon_token ++ l))))
-      (binder_parts x.lifetimes (binder_each x.lifetimes (and_left (marks.binder_by marks.param x.lifetimes) (marks.every marks.bound x.bounds.0) m)))
+      (binder_parts x.lifetimes (binder_each x.lifetimes))
       ∙ ap (λ z. printing.attrs px x.attrs ++ (printing.binder_by (param px) x.lifetimes ++ (z ++ (p.mark x.colon_token ++ l)))) (ty_same nx px same x.bounded_ty)
       ∙ ap (λ z. printing.attrs px x.attrs ++ (printing.binder_by (param px) x.lifetimes ++ (texts.ty px x.bounded_ty ++ (p.mark x.colon_token ++ z))))
-      (joined_same (normal.bound nx) (bound px) p.mark x.bounds.0 x.bounds.1 (bounds_each x.bounds.0 (and_right (marks.binder_by marks.param x.lifetimes) (marks.every marks.bound x.bounds.0) m)))
+      (joined_same (normal.bound nx) (bound px) p.mark x.bounds.0 x.bounds.1 (each_of bound_same x.bounds.0))
 
-  pub predicate_same : (x : WherePredicate X) → marks.predicate x ≡ true → printing.predicate px (normal.predicate nx x) ≡ printing.predicate px x
-  predicate_same (w.Lifetime x) m = predicate_lifetime_same x
-  predicate_same (w.«Type» x) m = predicate_type_same x m
+  pub predicate_same : (x : WherePredicate X) → printing.predicate px (normal.predicate nx x) ≡ printing.predicate px x
+  predicate_same (w.Lifetime x) = predicate_lifetime_same x
+  predicate_same (w.«Type» x) = predicate_type_same x
 
   abbrev SamePredicate : WherePredicate X → Type 0
   SamePredicate x = printing.predicate px (normal.predicate nx x) ≡ printing.predicate px x
@@ -273,29 +254,23 @@ module _ {X : Type 0} (nx : Place → X → X) (px : Place → X → Print) (sam
   where_parts t [] cs h = refl
   where_parts t (x ∷ l) cs h = ap (λ z. p.word t ++ z) (joined_same (normal.predicate nx) (printing.predicate px) p.mark (x ∷ l) cs h)
 
-  predicates_each : (l : List (WherePredicate X)) → marks.every marks.predicate l ≡ true → Each SamePredicate l
-  predicates_each l m = each_marked marks.predicate SamePredicate l (each_of predicate_same l) m
+  pub where_clause_same : (x : WhereClause X) → printing.where_clause px (normal.where_clause nx x) ≡ printing.where_clause px x
+  where_clause_same x = where_parts x.where_token x.predicates.0 x.predicates.1 (each_of predicate_same x.predicates.0)
 
-  pub where_clause_same : (x : WhereClause X) → marks.where_clause x ≡ true → printing.where_clause px (normal.where_clause nx x) ≡ printing.where_clause px x
-  where_clause_same x m = where_parts x.where_token x.predicates.0 x.predicates.1 (predicates_each x.predicates.0 m)
-
-  generics_parts : (t : Option (Mark 2 1)) (l : List (GenericParam X)) (cs : List Comma) (u : Option (Mark 3 1)) (c : Option (WhereClause X)) → marks.marked l cs ≡ true → Each Same l →
+  generics_parts : (t : Option (Mark 2 1)) (l : List (GenericParam X)) (cs : List Comma) (u : Option (Mark 3 1)) (c : Option (WhereClause X)) → Each Same l →
       printing.generics px (normal.generics nx (generics_of t (l, cs) u c)) ≡ printing.generics px (generics_of t (l, cs) u c)
-  generics_parts t [] cs u c m h = refl
-  generics_parts t (a ∷ l) cs u c m h =
+  generics_parts t [] cs u c h = refl
+  generics_parts t (a ∷ l) cs u c h =
       let k : Many (GenericParam X) Comma = (a ∷ l, cs) in
       let f = many (normal.param nx) k in
       let n = sort is_lifetime f in
       between_same t u n.0 (a ∷ l) (sorted is_lifetime (param px) n) (some_sort is_lifetime f)
       ∙ ap (between t u (a ∷ l))
-      (sort_prints is_lifetime f (marked_map (normal.param nx) (a ∷ l) cs ∙ m) (param px)
+      (sort_prints is_lifetime f (param px)
       ∙ sorted_map (normal.param nx) is_lifetime is_lifetime (kind_kept nx) k (param px)
       ∙ sorted_agrees (λ x. param px (normal.param nx x)) (param px) is_lifetime k h)
 
-  -- the where clause, which stands elsewhere, is not needed
-  pub generics_same : (x : Generics X) → marks.params x ≡ true → printing.generics px (normal.generics nx x) ≡ printing.generics px x
-  generics_same x m =
-      let all = marks.every marks.param x.params.0 in
-      generics_parts x.lt_token x.params.0 x.params.1 x.gt_token x.where_clause (and_left (marks.marked x.params.0 x.params.1) all m) (params_same x.params.0 (and_right (marks.marked x.params.0 x.params.1) all m))
+  pub generics_same : (x : Generics X) → printing.generics px (normal.generics nx x) ≡ printing.generics px x
+  generics_same x = generics_parts x.lt_token x.params.0 x.params.1 x.gt_token x.where_clause (each_of param_same x.params.0)
 
 pub ruleset laws = (capture_same, const_argument_same, lifetime_param_same, type_param_same, const_param_same, param_same, bound_same, trait_bound_same, bound_lifetimes_same, predicate_lifetime_same, predicate_type_same, predicate_same, where_clause_same, generics_same)

@@ -5,9 +5,8 @@ use Rattle.token_core.specs.declared.punctuated.Pair.{Pair}
 use Rattle.token_core.specs.Joined.{values_of, marks_of, pairs_of}
 use Rattle.token_core.specs.Loops.{Many}
 use Rattle.token_core.specs.Prints.{Print}
-use Rattle.token_core.proofs.Lists.{pairs-are}
 use Rattle.syn_mid.specs.ty.Types.{Comma}
-use Rattle.syn_mid.specs.generics.Members.{Member, comma_of, lacks, some_left, adds, each, members_of, those, firsts, others}
+use Rattle.syn_mid.specs.generics.Members.{Member, comma_of, lacks, some_left, adds, each, members, members_of, those, firsts, others}
 
 module _ {A : Type 0} where
   pub each_append : (f : A → Print) (k l : List (Member A)) → each f (k ++ l) ≡ each f k ++ each f l
@@ -15,8 +14,14 @@ module _ {A : Type 0} where
   each_append f (x ∷ k) l = ap (λ r. f x.0 ++ (comma_of x.1 ++ r)) (each_append f k l) ∙ ap (λ r. f x.0 ++ r) (sym (append_assoc (comma_of x.1) (each f k) (each f l)))
       ∙ sym (append_assoc (f x.0) (comma_of x.1 ++ each f k) (each f l))
 
+  -- of what a `Punctuated` shows, values with their marks and perhaps a last value
+  members_are : (all : List (Pair A Comma)) (last : Option A) → members (values_of all last) (marks_of all) ≡ pairs_of all last
+  members_are [] None = refl
+  members_are [] (Some t) = refl
+  members_are (x ∷ all) last = ap (λ l. (x.value, Some x.mark) ∷ l) (members_are all last)
+
   pub members_by : (v : Many A Comma) (all : List (Pair A Comma)) (last : Option A) → v ≡ (values_of all last, marks_of all) → members_of v ≡ pairs_of all last
-  members_by v all last h = ap (λ (z : Many A Comma). members_of z) h ∙ pairs-are all last
+  members_by v all last h = ap (λ (z : Many A Comma). members_of z) h ∙ members_are all last
 
   lacks_pair : (x : A) (c : Comma) (l : List (Member A)) → lacks ((x, Some c) ∷ l) ≡ lacks l
   lacks_pair x c [] = refl

@@ -2,7 +2,6 @@
 use Rattle.std.proofs.Common.{◌≡◌, Bool, true, false, not, ◌&&◌, List, [], ◌∷◌, ◌++◌, Option, Some, None, if◌then◌else◌, filter, length, map, refl, sym, ◌∙◌, ap, append-nil, arith}
 use Rattle.token_core.specs.declared.mark.Mark.{Mark}
 use Rattle.token_core.specs.Lifetimes as lifetimes
-use Rattle.token_core.specs.Lists.{pairs}
 use Rattle.token_core.specs.Loops.{Many}
 use Rattle.token_core.specs.Prints as p
 use Rattle.token_core.specs.Prints.{Print}
@@ -20,7 +19,7 @@ use Rattle.syn_mid.specs.declared.generics.TypeParam.{TypeParam, out-TypeParam}
 use Rattle.syn_mid.specs.declared.generics.ConstParamOf.{ConstParamOf}
 use Rattle.syn_mid.specs.declared.generics.TypeParamBound.{TypeParamBound}
 use Rattle.syn_mid.specs.declared.generics.Style.TheVariants as styles
-use Rattle.syn_mid.specs.generics.Members.{Member, comma_of, lacks, some_left, adds, each, firsts, others, sorted}
+use Rattle.syn_mid.specs.generics.Members.{Member, comma_of, lacks, some_left, adds, each, members, members_of, firsts, others, sorted}
 use Rattle.syn_mid.specs.generics.Params.{is_lifetime, is_lifetime_layer, type_param_of, const_param_of}
 use Rattle.syn_mid.specs.generics.Printing.{generics}
 use Rattle.syn_mid.specs.generics.Shapes.{or_default, between, after_colon, attrs, lifetime_param}
@@ -80,10 +79,11 @@ module _ {A : Type 0} (h : A → A) where
   abbrev changed : Member A → Member A
   changed x = (h x.0, x.1)
 
-  pairs_changed : (l : List A) (cs : List Comma) → pairs (map h l) cs ≡ map changed (pairs l cs)
-  pairs_changed [] cs = refl
-  pairs_changed (x ∷ l) [] = ap (λ r. (h x, None) ∷ r) (pairs_changed l [])
-  pairs_changed (x ∷ l) (c ∷ cs) = ap (λ r. (h x, Some c) ∷ r) (pairs_changed l cs)
+  members_changed : (l : List A) (cs : List Comma) → members (map h l) cs ≡ map changed (members l cs)
+  members_changed [] cs = refl
+  members_changed (x ∷ []) [] = refl
+  members_changed (x ∷ y ∷ l) [] = ap (λ r. (h x, Some ty.comma) ∷ r) (members_changed (y ∷ l) [])
+  members_changed (x ∷ l) (c ∷ cs) = ap (λ r. (h x, Some c) ∷ r) (members_changed l cs)
 
   filter_changed : (q : Member A → Bool) → ((x : Member A) → q (changed x) ≡ q x) → (l : List (Member A)) → filter q (map changed l) ≡ map changed (filter q l)
   filter_changed q same [] = refl
@@ -110,9 +110,9 @@ module _ {A : Type 0} (h : A → A) where
   sorted_changed : (is : A → Bool) (f : A → Print) (v : Many A Comma) → ((x : A) → is (h x) ≡ is x) → sorted is f (map h v.0, v.1) ≡ sorted is (λ x. f (h x)) v
   sorted_changed is f v same =
       let k : firsts is (map h v.0, v.1) ≡ map changed (firsts is v) =
-      ap (filter (λ x. is x.0)) (pairs_changed v.0 v.1) ∙ filter_changed (λ x. is x.0) (λ x. same x.0) (pairs v.0 v.1) in
+      ap (filter (λ x. is x.0)) (members_changed v.0 v.1) ∙ filter_changed (λ x. is x.0) (λ x. same x.0) (members_of v) in
       let l : others is (map h v.0, v.1) ≡ map changed (others is v) =
-      ap (filter (λ x. not (is x.0))) (pairs_changed v.0 v.1) ∙ filter_changed (λ x. not (is x.0)) (λ x. ap not (same x.0)) (pairs v.0 v.1) in
+      ap (filter (λ x. not (is x.0))) (members_changed v.0 v.1) ∙ filter_changed (λ x. not (is x.0)) (λ x. ap not (same x.0)) (members_of v) in
       let a : adds (firsts is (map h v.0, v.1)) (others is (map h v.0, v.1)) ≡ adds (firsts is v) (others is v) =
       ap (λ z. adds z (others is (map h v.0, v.1))) k ∙ ap (λ z. adds (map changed (firsts is v)) z) l
       ∙ ap (λ z. z && some_left (map changed (others is v))) (lacks_changed (firsts is v)) ∙ ap (λ z. lacks (firsts is v) && z) (left_changed (others is v)) in

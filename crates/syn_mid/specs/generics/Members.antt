@@ -1,6 +1,6 @@
 -- Lists that print their lifetimes first: parameters and captures.
 use Rattle.std.specs.Prelude.{Bool, true, false, not, ◌&&◌, List, [], ◌∷◌, ◌++◌, Option, Some, None, map, filter, if◌then◌else◌}
-use Rattle.token_core.specs.Lists.{pairs, option_list}
+use Rattle.token_core.specs.Lists.{option_list}
 use Rattle.token_core.specs.Loops.{Many}
 use Rattle.token_core.specs.Prints as p
 use Rattle.token_core.specs.Prints.{Print}
@@ -50,8 +50,16 @@ module _ {A : Type 0} where
   abbrev pub values_of : List (Member A) → List A
   values_of = map (λ x. x.0)
 
+  -- each value with its comma; where another value follows and no comma is left, one that stands nowhere: each but the last has its comma, as in every
+  -- `Punctuated` value
+  abbrev pub members : List A → List Comma → List (Member A)
+  members [] cs = []
+  members (x ∷ []) [] = (x, None) ∷ []
+  members (x ∷ y ∷ l) [] = (x, Some comma) ∷ members (y ∷ l) []
+  members (x ∷ l) (c ∷ cs) = (x, Some c) ∷ members l cs
+
   abbrev pub members_of : Many A Comma → List (Member A)
-  members_of v = pairs v.0 v.1
+  members_of v = members v.0 v.1
 
 -- by which of them are lifetimes
 module _ {A : Type 0} (is_lifetime : A → Bool) where
@@ -61,10 +69,10 @@ module _ {A : Type 0} (is_lifetime : A → Bool) where
   those false l = filter (λ x. not (is_lifetime x.0)) l
 
   abbrev pub firsts : Many A Comma → List (Member A)
-  firsts v = filter (λ x. is_lifetime x.0) (pairs v.0 v.1)
+  firsts v = filter (λ x. is_lifetime x.0) (members_of v)
 
   abbrev pub others : Many A Comma → List (Member A)
-  others v = filter (λ x. not (is_lifetime x.0)) (pairs v.0 v.1)
+  others v = filter (λ x. not (is_lifetime x.0)) (members_of v)
 
   abbrev pub added : Many A Comma → Print
   added v = if adds (firsts v) (others v) then p.mark comma else []
