@@ -2,6 +2,7 @@ pub mod Params
 pub mod Shapes
 pub mod Members
 pub mod Printing
+pub mod NormalShapes
 pub mod Normal
 pub mod Views
 pub mod Kinds

@@ -460,13 +460,13 @@ impl<X: Subtree> Parse for TypePath<X> {
 
     ghost refuses = { Fails (reading.path_type {X = X}) };
 
-    ghost promise = { Headline (grammars.path_type {X = X}) };
+    ghost promise = { Headline (grammars.path_type X.reads X.spells X.normal X.prints) };
 
     fn parse(alloc: Global, input: &mut ParseStream<'_>) -> Result<TypePath<X>, Error>
         ensures reads { Reads (reading.path_type input.old) result input.new }
         ensures within { Follows input.old input.new }
         ensures front { Visible input.old.rest → IfOk result (λ x. IsPathType false x input.old.rest input.new.rest) }
-        ensures promise { Heads grammars.path_type input.old result input.new }
+        ensures promise { Heads (grammars.path_type X.reads X.spells X.normal X.prints) input.old result input.new }
     {
         parse_path_type(alloc, input)
     }

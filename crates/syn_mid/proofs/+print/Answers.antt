@@ -20,73 +20,73 @@ use Rattle.syn_mid.proofs.+print.Given.{Over}
 use Rattle.syn_mid.proofs.ty_laws.Parts.{in_list, last_in_list, put_last, put_next}
 use Rattle.syn_mid.proofs.+print.Goals as goal
 
-pub print_ptr-returns-clause-err : goal.print_ptr-returns-clause-err
-print_ptr-returns-clause-err g t c =
+pub ty::print_ptr-returns-clause-err : goal.ty::print_ptr-returns-clause-err
+ty::print_ptr-returns-clause-err g t c =
     on_err_weaker c.print_type.result (λ h. extends_on _ _ _ _ c.in_ok-to_tokens.ensures.ok (extends_on _ _ _ _ c.in_ok-to_tokens-2.ensures.ok h)) c.print_type.ensures.err
 
-pub print_reference-returns-in_err-print_mutability-clause-err : goal.print_reference-returns-in_err-print_mutability-clause-err
-print_reference-returns-in_err-print_mutability-clause-err g t c =
+pub ty::print_reference-returns-in_err-print_mutability-clause-err : goal.ty::print_reference-returns-in_err-print_mutability-clause-err
+ty::print_reference-returns-in_err-print_mutability-clause-err g t c =
     let kept : Extends (trees c.args.out.now) (trees c.print_mutability.new.out) =
     extends_on _ _ _ _ c.in_ok-to_tokens.ensures.ok (extends_on _ _ _ _ c.in_ok-print_lifetime.ensures.ok c.in_err-print_mutability.ensures.err) in
     search rules
 
-pub print_reference-returns-clause-err : goal.print_reference-returns-clause-err
-print_reference-returns-clause-err g t c =
+pub ty::print_reference-returns-clause-err : goal.ty::print_reference-returns-clause-err
+ty::print_reference-returns-clause-err g t c =
     on_err_weaker c.print_type.result (λ h. extends_on _ _ _ _ c.in_ok-to_tokens.ensures.ok (extends_on _ _ _ _ c.in_ok-print_lifetime.ensures.ok (extends_on _ _ _ _ c.in_ok-print_mutability.ensures.ok h))) c.print_type.ensures.err
 
-pub print_elements-returns-in-Some-clause-err : goal.print_elements-returns-in-Some-clause-err
-print_elements-returns-in-Some-clause-err g t c =
+pub ty::print_elements-returns-in-Some-clause-err : goal.ty::print_elements-returns-in-Some-clause-err
+ty::print_elements-returns-in-Some-clause-err g t c =
     let old = trees c.args.out.now in
     let mid = trees c.loop-pair.out in
     on_err_weaker c.print_type-in-Some.result
     (λ h. extends_on old (drop (length old) mid) mid _ (sym (take-append-drop (length old) mid) ∙ ap (λ z. z ++ drop (length old) mid) c.loop-pair.invariant.kept) h) c.print_type-in-Some.ensures.err
 
-pub print_elements-print_type-requires : goal.print_elements-print_type-requires
-print_elements-print_type-requires g t c κs within =
+pub ty::print_elements-print_type-requires : goal.ty::print_elements-print_type-requires
+ty::print_elements-print_type-requires g t c κs within =
     let size = types.the_size g.row.X g.X.laws in
     let h = in_list size c.args.tuple.now.elems c.parts.result.0.now (option_map (λ x. x.now) c.parts.result.1) c.loop-pair.pair-index c.pair-item.result c.parts.ensures c.loop-pair-test.true c.pair-item.is in
     (omega (arith, c.decreases, h), within)
 
-pub print_elements-print_type-requires-in-Some : goal.print_elements-print_type-requires-in-Some
-print_elements-print_type-requires-in-Some g t c κs within =
+pub ty::print_elements-print_type-requires-in-Some : goal.ty::print_elements-print_type-requires-in-Some
+ty::print_elements-print_type-requires-in-Some g t c κs within =
     let size = types.the_size g.row.X g.X.laws in
     let k : option_map (λ x. x.now) c.parts.result.1 ≡ Some c.in-Some.ty.now = ap (option_map (λ x. x.now)) c.in-Some.is in
     let h = last_in_list size c.args.tuple.now.elems c.parts.result.0.now (option_map (λ x. x.now) c.parts.result.1) c.in-Some.ty.now c.parts.ensures k in
     (omega (arith, c.decreases, h), within)
 
-pub print_elements-returns-in-Some-clause-ok : goal.print_elements-returns-in-Some-clause-ok
-print_elements-returns-in-Some-clause-ok g t c =
+pub ty::print_elements-returns-in-Some-clause-ok : goal.ty::print_elements-returns-in-Some-clause-ok
+ty::print_elements-returns-in-Some-clause-ok g t c =
     let k : option_map (λ x. x.now) c.parts.result.1 ≡ Some c.in-Some.ty.now = ap (option_map (λ x. x.now)) c.in-Some.is in
     on_ok_weaker c.print_type-in-Some.result
     (λ h. put_last (ty g.X.Subtree.prints) p.mark c.args.tuple.now.elems c.parts.result.0.now (option_map (λ x. x.now) c.parts.result.1) c.in-Some.ty.now c.loop-pair.pair-index (trees c.args.out.now) (trees c.loop-pair.out)
     (trees c.print_type-in-Some.new.out) c.parts.ensures k c.loop-pair-test.false c.loop-pair.invariant.told h) c.print_type-in-Some.ensures.ok
 
-pub print_type_head-returns-clause-err : goal.print_type_head-returns-clause-err
-print_type_head-returns-clause-err g t c =
+pub generics::print_type_head-returns-clause-err : goal.generics::print_type_head-returns-clause-err
+generics::print_type_head-returns-clause-err g t c =
     on_err_weaker c.print_type_bounds.result (λ h. extends_on _ _ _ _ c.in_ok-print_outer.ensures.ok (extends_on _ _ _ _ c.in_ok-to_tokens.ensures.ok h)) c.print_type_bounds.ensures.err
 
-pub print_bounds-print_bound-requires : goal.print_bounds-print_bound-requires
-print_bounds-print_bound-requires g t c κs within =
+pub generics::print_bounds-print_bound-requires : goal.generics::print_bounds-print_bound-requires
+generics::print_bounds-print_bound-requires g t c κs within =
     let size = bounds.the_size g.row.X g.X.laws in
     let h = in_list size (own g c.args.param.now) c.parts.result.0.now (option_map (λ x. x.now) c.parts.result.1) c.loop-pair.pair-index c.pair-item.result c.parts.ensures c.loop-pair-test.true c.pair-item.is in
     (omega (arith, c.decreases, h), within)
 
-pub print_bounds-print_bound-requires-in-Some : goal.print_bounds-print_bound-requires-in-Some
-print_bounds-print_bound-requires-in-Some g t c κs within =
+pub generics::print_bounds-print_bound-requires-in-Some : goal.generics::print_bounds-print_bound-requires-in-Some
+generics::print_bounds-print_bound-requires-in-Some g t c κs within =
     let size = bounds.the_size g.row.X g.X.laws in
     let k : option_map (λ x. x.now) c.parts.result.1 ≡ Some c.in-Some.bound.now = ap (option_map (λ x. x.now)) c.in-Some.is in
     let h = last_in_list size (own g c.args.param.now) c.parts.result.0.now (option_map (λ x. x.now) c.parts.result.1) c.in-Some.bound.now c.parts.ensures k in
     (omega (arith, c.decreases, h), within)
 
-pub print_bounds-returns-in-Some-clause-ok : goal.print_bounds-returns-in-Some-clause-ok
-print_bounds-returns-in-Some-clause-ok g t c =
+pub generics::print_bounds-returns-in-Some-clause-ok : goal.generics::print_bounds-returns-in-Some-clause-ok
+generics::print_bounds-returns-in-Some-clause-ok g t c =
     let k : option_map (λ x. x.now) c.parts.result.1 ≡ Some c.in-Some.bound.now = ap (option_map (λ x. x.now)) c.in-Some.is in
     on_ok_weaker c.print_bound-in-Some.result
     (λ h. put_last (bound g.X.Subtree.prints) p.mark (own g c.args.param.now) c.parts.result.0.now (option_map (λ x. x.now) c.parts.result.1) c.in-Some.bound.now c.loop-pair.pair-index (trees c.args.out.now) (trees c.loop-pair.out)
     (trees c.print_bound-in-Some.new.out) c.parts.ensures k c.loop-pair-test.false c.loop-pair.invariant.told h) c.print_bound-in-Some.ensures.ok
 
-pub print_bounds-returns-in-Some-clause-err : goal.print_bounds-returns-in-Some-clause-err
-print_bounds-returns-in-Some-clause-err g t c =
+pub generics::print_bounds-returns-in-Some-clause-err : goal.generics::print_bounds-returns-in-Some-clause-err
+generics::print_bounds-returns-in-Some-clause-err g t c =
     let old = trees c.args.out.now in
     let mid = trees c.loop-pair.out in
     on_err_weaker c.print_bound-in-Some.result
@@ -103,43 +103,43 @@ weighs : (g : Over) (o : Option (BoundLifetimesOf (GenericParam g.row.X.Denot)))
 weighs g None = omega arith
 weighs g (Some x) = omega arith
 
-pub print_trait_params-print_param-requires : goal.print_trait_params-print_param-requires
-print_trait_params-print_param-requires g t c κs within =
+pub generics::print_trait_params-print_param-requires : goal.generics::print_trait_params-print_param-requires
+generics::print_trait_params-print_param-requires g t c κs within =
     let o = c.args.bound.now.lifetimes in
     let h = in_list (size g) (binder_params o) c.binder_parts.result.0.now (option_map (λ x. x.now) c.binder_parts.result.1) c.loop-pair.pair-index c.pair-item.result c.binder_parts.ensures c.loop-pair-test.true c.pair-item.is in
     (omega (arith, c.decreases, h, weighs g o), within)
 
-pub print_trait_params-returns-in_err-print_param-clause-err : goal.print_trait_params-returns-in_err-print_param-clause-err
-print_trait_params-returns-in_err-print_param-clause-err g t c =
+pub generics::print_trait_params-returns-in_err-print_param-clause-err : goal.generics::print_trait_params-returns-in_err-print_param-clause-err
+generics::print_trait_params-returns-in_err-print_param-clause-err g t c =
     let old = trees c.args.out.now in
     let mid = trees c.loop-pair.out in
     let kept : Extends old (trees c.print_param.new.out) =
     extends_on old (drop (length old) mid) mid _ (sym (take-append-drop (length old) mid) ∙ ap (λ z. z ++ drop (length old) mid) c.loop-pair.invariant.kept) c.in_err-print_param.ensures.err in
     search rules
 
-pub print_trait_params-print_param-requires-in-Some : goal.print_trait_params-print_param-requires-in-Some
-print_trait_params-print_param-requires-in-Some g t c κs within =
+pub generics::print_trait_params-print_param-requires-in-Some : goal.generics::print_trait_params-print_param-requires-in-Some
+generics::print_trait_params-print_param-requires-in-Some g t c κs within =
     let o = c.args.bound.now.lifetimes in
     let k : option_map (λ x. x.now) c.binder_parts.result.1 ≡ Some c.in-Some.param.now = ap (option_map (λ x. x.now)) c.in-Some.is in
     let h = last_in_list (size g) (binder_params o) c.binder_parts.result.0.now (option_map (λ x. x.now) c.binder_parts.result.1) c.in-Some.param.now c.binder_parts.ensures k in
     (omega (arith, c.decreases, h, weighs g o), within)
 
-pub print_trait_params-returns-in-Some-clause-ok : goal.print_trait_params-returns-in-Some-clause-ok
-print_trait_params-returns-in-Some-clause-ok g t c =
+pub generics::print_trait_params-returns-in-Some-clause-ok : goal.generics::print_trait_params-returns-in-Some-clause-ok
+generics::print_trait_params-returns-in-Some-clause-ok g t c =
     let k : option_map (λ x. x.now) c.binder_parts.result.1 ≡ Some c.in-Some.param.now = ap (option_map (λ x. x.now)) c.in-Some.is in
     on_ok_weaker c.print_param-in-Some.result
     (λ h. put_last (param g.X.Subtree.prints) p.mark (binder_params c.args.bound.now.lifetimes) c.binder_parts.result.0.now (option_map (λ x. x.now) c.binder_parts.result.1) c.in-Some.param.now c.loop-pair.pair-index (trees c.args.out.now) (trees c.loop-pair.out)
     (trees c.print_param-in-Some.new.out) c.binder_parts.ensures k c.loop-pair-test.false c.loop-pair.invariant.told h) c.print_param-in-Some.ensures.ok
 
-pub print_trait_params-returns-in-Some-clause-err : goal.print_trait_params-returns-in-Some-clause-err
-print_trait_params-returns-in-Some-clause-err g t c =
+pub generics::print_trait_params-returns-in-Some-clause-err : goal.generics::print_trait_params-returns-in-Some-clause-err
+generics::print_trait_params-returns-in-Some-clause-err g t c =
     let old = trees c.args.out.now in
     let mid = trees c.loop-pair.out in
     on_err_weaker c.print_param-in-Some.result
     (λ h. extends_on old (drop (length old) mid) mid _ (sym (take-append-drop (length old) mid) ∙ ap (λ z. z ++ drop (length old) mid) c.loop-pair.invariant.kept) h) c.print_param-in-Some.ensures.err
 
-pub print_trait_params-loop-pair-preserved : goal.print_trait_params-loop-pair-preserved
-print_trait_params-loop-pair-preserved g t c =
+pub generics::print_trait_params-loop-pair-preserved : goal.generics::print_trait_params-loop-pair-preserved
+generics::print_trait_params-loop-pair-preserved g t c =
     let old = trees c.args.out.now in
     let mid = trees c.loop-pair.out in
     let last = option_map (λ x. x.now) c.binder_parts.result.1 in

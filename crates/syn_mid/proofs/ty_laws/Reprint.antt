@@ -106,8 +106,8 @@ pub never_again : (x : TypeNever) (l r : Toks) → IsNever false x l r → Again
 never_again x l r (a_never {b = b} i) = let k = mark_front b l r i in record { spelt = λ h. a_never (k.spelt h); visible = λ h u w. k.visible h u w; seen = λ u. k.seen u; stays = refl; same = refl }
 
 module _ {X : Type 0} where
-  pub path_type_again : (x : TypePathOf (TypeTree X) X) (l r : Toks) → IsPathType false x l r → AgainFront (IsPathType true) (λ (z : TypePathOf (TypeTree X) X). z) printing.path_type x l r
-  path_type_again x l r (a_path_type {p = q} i) =
+  pub path_type_again : (nx : Place → X → X) (px : Place → X → Print) (x : TypePathOf (TypeTree X) X) (l r : Toks) → IsPathType false x l r → AgainFront (IsPathType true) (normal.path_type nx) (printing.path_type px) x l r
+  path_type_again nx px x l r (a_path_type {p = q} i) =
       let again = λ (h : Toks). path_again AsWritten false q l r h i in
       record {
         spelt = λ h. a_path_type (again h);
@@ -334,6 +334,10 @@ module _ {X : Type 0} (reads : Place → Reader X) (spells : Place → X → Tok
         (x : A) (l r : Toks) → AgainFront S n pr x l r → ((k h : Toks) → S (n x) k h → IsType spells true U plus (made (n x)) k h) → AgainFront (IsType spells true U plus) nt pt (made x) l r
     variant plus S n pr made ni pi x l r k rule = variant_front S (IsType spells true U plus) n pr nt pt made ni pi x l r k rule
 
+    path_front : (plus : Bool) (y : TypePathOf (TypeTree X) X) (l r : Toks) → IsPathType false y l r → is_try_path y.path ≡ false → AgainFront (IsType spells true U plus) nt pt (v.Path y) l r
+    path_front plus y l r i is =
+        variant plus (IsPathType true) (normal.path_type normals) (printing.path_type prints) (λ z. v.Path z) (normal-Path normals) (ty-Path prints) y l r (path_type_again normals prints y l r i) (λ k h j. a_path j is)
+
     pub type_front : (plus : Bool) (x : TypeTree X) (l r : Toks) → IsType spells false T plus x l r → AgainFront (IsType spells true U plus) nt pt x l r
     type_front plus x l r (array {x = y} i) =
         variant plus (IsArray spells true U) (normal.array normals) (printing.array prints) (λ z. v.Array z) (normal-Array normals) (ty-Array prints) y l r (array_front y l r i) (λ k h j. array j)
@@ -344,7 +348,7 @@ module _ {X : Type 0} (reads : Place → Reader X) (spells : Place → X → Tok
     type_front plus x l r (paren {x = y} i) =
         variant plus (IsParen spells true U true) (normal.paren normals) (printing.paren prints) (λ z. v.Paren z) (normal-Paren normals) (ty-Paren prints) y l r (paren_front true y l r i) (λ k h j. paren j)
     type_front plus x l r (a_path {x = y} i is) =
-        variant plus (IsPathType true) (λ z. z) printing.path_type (λ z. v.Path z) (normal-Path normals) (ty-Path prints) y l r (path_type_again y l r i) (λ k h j. a_path j is)
+        path_front plus y l r i is
     type_front plus x l r (ptr {x = y} i) = variant plus (IsPtr spells true U) (normal.ptr normals) (printing.ptr prints) (λ z. v.Ptr z) (normal-Ptr normals) (ty-Ptr prints) y l r (ptr_front y l r i) (λ k h j. ptr j)
     type_front plus x l r (reference {x = y} i) =
         variant plus (IsReference spells true U) (normal.reference normals) (printing.reference prints) (λ z. v.Reference z) (normal-Reference normals) (ty-Reference prints) y l r (reference_front y l r i) (λ k h j. reference j)
