@@ -44,7 +44,7 @@ use Rattle.syn_mid.specs.ty.Normal as normal
 use Rattle.syn_mid.specs.ty.Printing as printing
 use Rattle.syn_mid.specs.ty.Printing.{lone_comma}
 use Rattle.syn_mid.specs.ty.Spelling.{Relation, IsOptional, absent, present, IsMutability, a_const, a_mut, IsInfer, an_infer, IsNever, a_never, IsPathType, a_path_type, IsMacroType, a_macro_type, AreElements, no_elements, some_elements, IsTuple, a_tuple, IsParen, a_paren, IsSlice, a_slice, IsArray, an_array, IsPtr, a_ptr, IsReference, a_reference, IsType, array, infer, macro_call, never, paren, path as a_path, ptr, reference, slice, tuple}
-use Rattle.syn_mid.specs.ty.Types.{Comma, Mut, array_of, macro_type_of, paren_of, ptr_of, reference_of, slice_of, tuple_of}
+use Rattle.syn_mid.specs.ty.Types.{Comma, Mut, array_of, macro_type_of, paren_of, ptr_of, reference_of, slice_of, tuple_of, is_try_path}
 use Rattle.syn_mid.proofs.attr_laws.Reprint.{Again, AgainFront, row-group, supplied_stays}
 use Rattle.syn_mid.proofs.mac_laws.Reprint.{macro_again, whole_macro, held_visible}
 use Rattle.syn_mid.proofs.mac_laws.Sound.{visible_call}
