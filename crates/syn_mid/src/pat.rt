@@ -4,7 +4,7 @@ ghost use Rattle.std.specs.Prelude.{◌≡◌, ◌++◌, OnOk, OnErr, option_map
 ghost use Rattle.token_core.specs.Joined.{values_of, marks_of};
 ghost use Rattle.token_core.specs.Prints.{Extends};
 ghost use Rattle.token_core.specs.Trees.{trees};
-ghost use Rattle.syn_mid.specs.declared.pat.Pat.TheVariants as pats;
+ghost use Rattle.syn_mid.specs.declared.pat.PatOf.TheVariants as pats;
 ghost use Rattle.syn_mid.specs.generics.Printing as generics;
 ghost use Rattle.syn_mid.specs.pat.Pats as spec;
 ghost use Rattle.syn_mid.specs.pat.Printing as printing;
