@@ -30,7 +30,7 @@ use std::alloc::{AllocError, Global};
 use std::marker::PhantomData;
 use token_core::token::{
     And, Bracket, Colon, Comma, Const, DotDotDot, Dyn, Extern, Fn, GroupToken, Impl, Mark, Mut, Not,
-    Paren, Plus, RArrow, Semi, Star, Underscore, Unsafe,
+    Paren, Plus, RArrow, Semi, Star, Underscore, Unsafe, Word,
 };
 use token_core::{
     Boxed, Error, Ident, Items, Lifetime, LitStr, Pair, Parse, ParseStream, Punctuated, ToTokens,
@@ -1165,7 +1165,7 @@ fn print_reference<X: Subtree>(
 {
     reference.and_token.to_tokens(alloc, out)?;
     print_lifetime(alloc, &reference.lifetime, out)?;
-    print_mutability(alloc, &reference.mutability, out)?;
+    print_word(alloc, &reference.mutability, out)?;
     print_type(alloc, reference.elem.get(), out)
 }
 
@@ -1194,7 +1194,7 @@ fn print_trait_object<X: Subtree>(
     ensures ok { OnOk result (trees out.new ≡ trees out.old ++ printing.trait_object X.prints object.now) }
     ensures err { OnErr result (Extends (trees out.old) (trees out.new)) }
 {
-    print_dyn(alloc, &object.dyn_token, out)?;
+    print_word(alloc, &object.dyn_token, out)?;
     let (pairs, last) = bound_parts(&object.bounds);
     for pair in pairs {
         print_bound(alloc, &pair.value, out)?;
@@ -1233,7 +1233,7 @@ fn print_elements<X: Subtree>(
     ensures ok { OnOk result (trees out.new ≡ trees out.old ++ printing.elements X.prints tuple.now.elems) }
     ensures err { OnErr result (Extends (trees out.old) (trees out.new)) }
 {
-    let (pairs, last) = tuple.elems.parts();
+    let (pairs, last) = element_parts(tuple);
     for pair in pairs {
         print_type(alloc, &pair.value, out)?;
         pair.mark.to_tokens(alloc, out)?;
@@ -1314,22 +1314,14 @@ fn print_lifetime(
     }
 }
 
-#[tactic(auto, using(token_core::proofs::Puts::puts))]
-fn print_mutability(
-    alloc: Global,
-    mutability: &Option<Mut>,
-    out: &mut TokenStream,
-) -> Result<(), AllocError>
-    ensures ok { OnOk result (trees out.new ≡ trees out.old ++ printing.mutability mutability.now) }
-    ensures err { OnErr result (Extends (trees out.old) (trees out.new)) }
-{
-    match mutability {
-        Some(token) => token.to_tokens(alloc, out),
-        None => Ok(()),
-    }
-}
-
 // ---- parts of pointers to functions, trait objects and opaque types that lead back to no type
+
+/// The elements of a tuple by their parts.
+fn element_parts<X>(tuple: &TypeTuple<X>) -> (&[Pair<Type<X>, Comma>], Option<&Type<X>>)
+    ensures { tuple.now.elems ≡ (values_of result.0.now (option_map (λ x. x.now) result.1), marks_of result.0.now) }
+{
+    tuple.elems.parts()
+}
 
 /// The parameters of the binder of a pointer to a function by their parts; none without a binder.
 fn pointer_params<X>(
@@ -1359,6 +1351,22 @@ pub(crate) fn bound_parts<X>(
     bounds.parts()
 }
 
+/// A word, where there is one.
+#[tactic(auto, using(token_core::proofs::Puts::puts))]
+pub(crate) fn print_word<const N: u32>(
+    alloc: Global,
+    word: &Option<Word<N>>,
+    out: &mut TokenStream,
+) -> Result<(), AllocError>
+    ensures ok { OnOk result (trees out.new ≡ trees out.old ++ printing.optional_word word.now) }
+    ensures err { OnErr result (Extends (trees out.old) (trees out.new)) }
+{
+    match word {
+        Some(token) => token.to_tokens(alloc, out),
+        None => Ok(()),
+    }
+}
+
 /// A pointer to a function from the end of its binder to `fn`.
 #[tactic(auto, using(token_core::proofs::Puts::puts))]
 fn print_fn_head<X>(
@@ -1370,24 +1378,9 @@ fn print_fn_head<X>(
     ensures err { OnErr result (Extends (trees out.old) (trees out.new)) }
 {
     print_binder_end(alloc, &pointer.lifetimes, out)?;
-    print_unsafety(alloc, &pointer.unsafety, out)?;
+    print_word(alloc, &pointer.unsafety, out)?;
     print_convention(alloc, &pointer.abi, out)?;
     pointer.fn_token.to_tokens(alloc, out)
-}
-
-#[tactic(auto, using(token_core::proofs::Puts::puts))]
-fn print_unsafety(
-    alloc: Global,
-    unsafety: &Option<Unsafe>,
-    out: &mut TokenStream,
-) -> Result<(), AllocError>
-    ensures ok { OnOk result (trees out.new ≡ trees out.old ++ printing.optional_word unsafety.now) }
-    ensures err { OnErr result (Extends (trees out.old) (trees out.new)) }
-{
-    match unsafety {
-        Some(token) => token.to_tokens(alloc, out),
-        None => Ok(()),
-    }
 }
 
 #[tactic(auto, using(token_core::proofs::Puts::puts))]
@@ -1401,21 +1394,6 @@ fn print_convention(
 {
     match abi {
         Some(abi) => print_abi(alloc, abi, out),
-        None => Ok(()),
-    }
-}
-
-#[tactic(auto, using(token_core::proofs::Puts::puts))]
-fn print_dyn(
-    alloc: Global,
-    dyn_token: &Option<Dyn>,
-    out: &mut TokenStream,
-) -> Result<(), AllocError>
-    ensures ok { OnOk result (trees out.new ≡ trees out.old ++ printing.optional_word dyn_token.now) }
-    ensures err { OnErr result (Extends (trees out.old) (trees out.new)) }
-{
-    match dyn_token {
-        Some(token) => token.to_tokens(alloc, out),
         None => Ok(()),
     }
 }

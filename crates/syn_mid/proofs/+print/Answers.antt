@@ -11,6 +11,7 @@ use Rattle.token_core.specs.Lists.{joined}
 use Rattle.syn_mid.specs.declared.generics.BoundLifetimesOf.{BoundLifetimesOf}
 use Rattle.syn_mid.specs.declared.generics.GenericParam.{GenericParam}
 use Rattle.syn_mid.specs.declared.generics.GenericParam.TheShapes as shapes
+use Rattle.syn_mid.specs.declared.generics.TypeParam.{out-TypeParam}
 use Rattle.syn_mid.specs.generics.Shapes.{binder_params}
 use Rattle.syn_mid.specs.ty.Printing.{ty, param, bound}
 use Rattle.syn_mid.proofs.generics.GenericParam.TheLaws as params
@@ -24,15 +25,15 @@ pub ty::print_ptr-returns-clause-err : goal.ty::print_ptr-returns-clause-err
 ty::print_ptr-returns-clause-err g t c =
     on_err_weaker c.print_type.result (λ h. extends_on _ _ _ _ c.in_ok-to_tokens.ensures.ok (extends_on _ _ _ _ c.in_ok-to_tokens-2.ensures.ok h)) c.print_type.ensures.err
 
-pub ty::print_reference-returns-in_err-print_mutability-clause-err : goal.ty::print_reference-returns-in_err-print_mutability-clause-err
-ty::print_reference-returns-in_err-print_mutability-clause-err g t c =
-    let kept : Extends (trees c.args.out.now) (trees c.print_mutability.new.out) =
-    extends_on _ _ _ _ c.in_ok-to_tokens.ensures.ok (extends_on _ _ _ _ c.in_ok-print_lifetime.ensures.ok c.in_err-print_mutability.ensures.err) in
+pub ty::print_reference-returns-in_err-print_word-clause-err : goal.ty::print_reference-returns-in_err-print_word-clause-err
+ty::print_reference-returns-in_err-print_word-clause-err g t c =
+    let kept : Extends (trees c.args.out.now) (trees c.print_word.new.out) =
+    extends_on _ _ _ _ c.in_ok-to_tokens.ensures.ok (extends_on _ _ _ _ c.in_ok-print_lifetime.ensures.ok c.in_err-print_word.ensures.err) in
     search rules
 
 pub ty::print_reference-returns-clause-err : goal.ty::print_reference-returns-clause-err
 ty::print_reference-returns-clause-err g t c =
-    on_err_weaker c.print_type.result (λ h. extends_on _ _ _ _ c.in_ok-to_tokens.ensures.ok (extends_on _ _ _ _ c.in_ok-print_lifetime.ensures.ok (extends_on _ _ _ _ c.in_ok-print_mutability.ensures.ok h))) c.print_type.ensures.err
+    on_err_weaker c.print_type.result (λ h. extends_on _ _ _ _ c.in_ok-to_tokens.ensures.ok (extends_on _ _ _ _ c.in_ok-print_lifetime.ensures.ok (extends_on _ _ _ _ c.in_ok-print_word.ensures.ok h))) c.print_type.ensures.err
 
 pub ty::print_elements-returns-in-Some-clause-err : goal.ty::print_elements-returns-in-Some-clause-err
 ty::print_elements-returns-in-Some-clause-err g t c =
@@ -44,22 +45,22 @@ ty::print_elements-returns-in-Some-clause-err g t c =
 pub ty::print_elements-print_type-requires : goal.ty::print_elements-print_type-requires
 ty::print_elements-print_type-requires g t c κs within =
     let size = types.the_size g.row.X g.X.laws in
-    let h = in_list size c.args.tuple.now.elems c.parts.result.0.now (option_map (λ x. x.now) c.parts.result.1) c.loop-pair.pair-index c.pair-item.result c.parts.ensures c.loop-pair-test.true c.pair-item.is in
+    let h = in_list size c.args.tuple.now.elems c.element_parts.result.0.now (option_map (λ x. x.now) c.element_parts.result.1) c.loop-pair.pair-index c.pair-item.result c.element_parts.ensures c.loop-pair-test.true c.pair-item.is in
     (omega (arith, c.decreases, h), within)
 
 pub ty::print_elements-print_type-requires-in-Some : goal.ty::print_elements-print_type-requires-in-Some
 ty::print_elements-print_type-requires-in-Some g t c κs within =
     let size = types.the_size g.row.X g.X.laws in
-    let k : option_map (λ x. x.now) c.parts.result.1 ≡ Some c.in-Some.ty.now = ap (option_map (λ x. x.now)) c.in-Some.is in
-    let h = last_in_list size c.args.tuple.now.elems c.parts.result.0.now (option_map (λ x. x.now) c.parts.result.1) c.in-Some.ty.now c.parts.ensures k in
+    let k : option_map (λ x. x.now) c.element_parts.result.1 ≡ Some c.in-Some.ty.now = ap (option_map (λ x. x.now)) c.in-Some.is in
+    let h = last_in_list size c.args.tuple.now.elems c.element_parts.result.0.now (option_map (λ x. x.now) c.element_parts.result.1) c.in-Some.ty.now c.element_parts.ensures k in
     (omega (arith, c.decreases, h), within)
 
 pub ty::print_elements-returns-in-Some-clause-ok : goal.ty::print_elements-returns-in-Some-clause-ok
 ty::print_elements-returns-in-Some-clause-ok g t c =
-    let k : option_map (λ x. x.now) c.parts.result.1 ≡ Some c.in-Some.ty.now = ap (option_map (λ x. x.now)) c.in-Some.is in
+    let k : option_map (λ x. x.now) c.element_parts.result.1 ≡ Some c.in-Some.ty.now = ap (option_map (λ x. x.now)) c.in-Some.is in
     on_ok_weaker c.print_type-in-Some.result
-    (λ h. put_last (ty g.X.Subtree.prints) p.mark c.args.tuple.now.elems c.parts.result.0.now (option_map (λ x. x.now) c.parts.result.1) c.in-Some.ty.now c.loop-pair.pair-index (trees c.args.out.now) (trees c.loop-pair.out)
-    (trees c.print_type-in-Some.new.out) c.parts.ensures k c.loop-pair-test.false c.loop-pair.invariant.told h) c.print_type-in-Some.ensures.ok
+    (λ h. put_last (ty g.X.Subtree.prints) p.mark c.args.tuple.now.elems c.element_parts.result.0.now (option_map (λ x. x.now) c.element_parts.result.1) c.in-Some.ty.now c.loop-pair.pair-index (trees c.args.out.now) (trees c.loop-pair.out)
+    (trees c.print_type-in-Some.new.out) c.element_parts.ensures k c.loop-pair-test.false c.loop-pair.invariant.told h) c.print_type-in-Some.ensures.ok
 
 pub generics::print_type_head-returns-clause-err : goal.generics::print_type_head-returns-clause-err
 generics::print_type_head-returns-clause-err g t c =
@@ -68,22 +69,22 @@ generics::print_type_head-returns-clause-err g t c =
 pub generics::print_bounds-print_bound-requires : goal.generics::print_bounds-print_bound-requires
 generics::print_bounds-print_bound-requires g t c κs within =
     let size = bounds.the_size g.row.X g.X.laws in
-    let h = in_list size (own g c.args.param.now) c.parts.result.0.now (option_map (λ x. x.now) c.parts.result.1) c.loop-pair.pair-index c.pair-item.result c.parts.ensures c.loop-pair-test.true c.pair-item.is in
+    let h = in_list size (out-TypeParam _ c.args.param.now).bounds c.bound_parts.result.0.now (option_map (λ x. x.now) c.bound_parts.result.1) c.loop-pair.pair-index c.pair-item.result c.bound_parts.ensures c.loop-pair-test.true c.pair-item.is in
     (omega (arith, c.decreases, h), within)
 
 pub generics::print_bounds-print_bound-requires-in-Some : goal.generics::print_bounds-print_bound-requires-in-Some
 generics::print_bounds-print_bound-requires-in-Some g t c κs within =
     let size = bounds.the_size g.row.X g.X.laws in
-    let k : option_map (λ x. x.now) c.parts.result.1 ≡ Some c.in-Some.bound.now = ap (option_map (λ x. x.now)) c.in-Some.is in
-    let h = last_in_list size (own g c.args.param.now) c.parts.result.0.now (option_map (λ x. x.now) c.parts.result.1) c.in-Some.bound.now c.parts.ensures k in
+    let k : option_map (λ x. x.now) c.bound_parts.result.1 ≡ Some c.in-Some.bound.now = ap (option_map (λ x. x.now)) c.in-Some.is in
+    let h = last_in_list size (out-TypeParam _ c.args.param.now).bounds c.bound_parts.result.0.now (option_map (λ x. x.now) c.bound_parts.result.1) c.in-Some.bound.now c.bound_parts.ensures k in
     (omega (arith, c.decreases, h), within)
 
 pub generics::print_bounds-returns-in-Some-clause-ok : goal.generics::print_bounds-returns-in-Some-clause-ok
 generics::print_bounds-returns-in-Some-clause-ok g t c =
-    let k : option_map (λ x. x.now) c.parts.result.1 ≡ Some c.in-Some.bound.now = ap (option_map (λ x. x.now)) c.in-Some.is in
+    let k : option_map (λ x. x.now) c.bound_parts.result.1 ≡ Some c.in-Some.bound.now = ap (option_map (λ x. x.now)) c.in-Some.is in
     on_ok_weaker c.print_bound-in-Some.result
-    (λ h. put_last (bound g.X.Subtree.prints) p.mark (own g c.args.param.now) c.parts.result.0.now (option_map (λ x. x.now) c.parts.result.1) c.in-Some.bound.now c.loop-pair.pair-index (trees c.args.out.now) (trees c.loop-pair.out)
-    (trees c.print_bound-in-Some.new.out) c.parts.ensures k c.loop-pair-test.false c.loop-pair.invariant.told h) c.print_bound-in-Some.ensures.ok
+    (λ h. put_last (bound g.X.Subtree.prints) p.mark (out-TypeParam _ c.args.param.now).bounds c.bound_parts.result.0.now (option_map (λ x. x.now) c.bound_parts.result.1) c.in-Some.bound.now c.loop-pair.pair-index (trees c.args.out.now) (trees c.loop-pair.out)
+    (trees c.print_bound-in-Some.new.out) c.bound_parts.ensures k c.loop-pair-test.false c.loop-pair.invariant.told h) c.print_bound-in-Some.ensures.ok
 
 pub generics::print_bounds-returns-in-Some-clause-err : goal.generics::print_bounds-returns-in-Some-clause-err
 generics::print_bounds-returns-in-Some-clause-err g t c =

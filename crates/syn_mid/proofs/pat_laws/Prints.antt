@@ -35,7 +35,7 @@ use Rattle.syn_mid.specs.declared.pat.PatTupleStructOf.{PatTupleStructOf}
 use Rattle.syn_mid.specs.declared.pat.PatTypeOf.{PatTypeOf}
 use Rattle.syn_mid.specs.declared.pat.PatWild.{PatWild}
 use Rattle.syn_mid.specs.attr.Printing as attr
-use Rattle.syn_mid.specs.generics.Printing.{optional}
+use Rattle.syn_mid.specs.generics.Shapes.{optional}
 use Rattle.syn_mid.specs.pat.Pats.{Pat, Attr, Attrs, binding_of, field_of, is_rest, is_rest_layer}
 use Rattle.syn_mid.specs.pat.Printing as s
 use Rattle.syn_mid.specs.pat.Printing.{pat, printed, pat_step}

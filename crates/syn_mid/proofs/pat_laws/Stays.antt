@@ -30,10 +30,11 @@ use Rattle.syn_mid.specs.mac.Printing.{mac}
 use Rattle.syn_mid.specs.pat.Pats.{Pat, Attr, Attrs, is_rest, guard_of, binding_of, or_of, paren_of, reference_of, slice_of, struct_of, tuple_of, tuple_struct_of, typed_of, field_of, rest_of, wild_of}
 use Rattle.syn_mid.specs.ty.Normal as types
 use Rattle.syn_mid.specs.ty.Types.{Comma}
-use Rattle.syn_mid.specs.generics.Printing.{optional}
+use Rattle.syn_mid.specs.generics.Shapes.{optional}
 use Rattle.syn_mid.specs.pat.Normal as n
 use Rattle.syn_mid.specs.pat.Printing as s
-use Rattle.syn_mid.specs.pat.Printing.{optional_word, tuple_comma}
+use Rattle.syn_mid.specs.pat.Printing.{tuple_comma}
+use Rattle.syn_mid.specs.ty.Printing.{optional_word}
 use Rattle.syn_mid.specs.path.Printing.{path, expr_style}
 use Rattle.syn_mid.specs.ty.Printing as texts
 use Rattle.token_core.specs.Lits as lits

@@ -89,7 +89,7 @@ maybe_lifetime o l r (present {a = a} i) =
       same = refl;
     }
 
-maybe_mut : (o : Option Mut) (l r : Toks) → IsOptional IsWord o l r → AgainFront (IsOptional IsWord) (λ (z : Option Mut). z) printing.mutability o l r
+maybe_mut : (o : Option Mut) (l r : Toks) → IsOptional IsWord o l r → AgainFront (IsOptional IsWord) (λ (z : Option Mut). z) printing.optional_word o l r
 maybe_mut o l r absent = record { spelt = λ h. absent; visible = λ h u w. w; seen = λ u. u; stays = refl; same = refl }
 maybe_mut o l r (present {a = a} i) = let k = word_front a l r i in record { spelt = λ h. present (k.spelt h); visible = λ h u w. k.visible h u w; seen = λ u. k.seen u; stays = refl; same = refl }
 
@@ -278,16 +278,16 @@ module _ {X : Type 0} (reads : Place → Reader X) (spells : Place → X → Tok
         let w = maybe_mut q n b f in
         let k = again false y b r g in
         let last = λ (h : Toks). row (pt y) h in
-        let more = λ (h : Toks). row (printing.mutability q) (last h) in
+        let more = λ (h : Toks). row (printing.optional_word q) (last h) in
         let all = λ (h : Toks). row (printing.lifetime o) (more h) in
-        let seen = λ (h : Toks). row-append (p.mark a) (printing.lifetime o ++ (printing.mutability q ++ pt y)) h
-        ∙ ap (row (p.mark a)) (row-append (printing.lifetime o) (printing.mutability q ++ pt y) h ∙ ap (row (printing.lifetime o)) (row-append (printing.mutability q) (pt y) h)) in
+        let seen = λ (h : Toks). row-append (p.mark a) (printing.lifetime o ++ (printing.optional_word q ++ pt y)) h
+        ∙ ap (row (p.mark a)) (row-append (printing.lifetime o) (printing.optional_word q ++ pt y) h ∙ ap (row (printing.lifetime o)) (row-append (printing.optional_word q) (pt y) h)) in
         record {
           spelt = λ h. subst (λ z. IsReference spells true U (reference_of a o q (nt y)) z h) (sym (seen h)) (a_reference (d.spelt (all h)) (c.spelt (more h)) (w.spelt (last h)) (k.spelt h));
           visible = λ h u v. subst Visible (sym (seen h)) (d.visible (all h) u (c.visible (more h) (d.seen u) (w.visible (last h) (c.seen (d.seen u)) (k.visible h (w.seen (c.seen (d.seen u))) v))));
           seen = λ u. k.seen (w.seen (c.seen (d.seen u)));
           stays = ap (reference_of a o q) k.stays;
-          same = ap (λ z. p.mark a ++ (printing.lifetime o ++ (printing.mutability q ++ z))) k.same;
+          same = ap (λ z. p.mark a ++ (printing.lifetime o ++ (printing.optional_word q ++ z))) k.same;
         }
 
     -- ---- tuples

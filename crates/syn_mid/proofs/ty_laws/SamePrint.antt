@@ -61,7 +61,7 @@ use Rattle.syn_mid.specs.generics.Shapes.{or_default, after_colon, attrs, in_par
 use Rattle.syn_mid.specs.path.Printing.{path, as_written, qualified}
 use Rattle.syn_mid.specs.ty.Normal as normal
 use Rattle.syn_mid.specs.ty.Printing as printing
-use Rattle.syn_mid.specs.ty.Printing.{ty, fn_ptr, param, type_param, bound, pointer, lifetime, mutability, optional_word, lone_comma, arg_name, name, fn_head_by, return_type_by}
+use Rattle.syn_mid.specs.ty.Printing.{ty, fn_ptr, param, type_param, bound, pointer, lifetime, optional_word, lone_comma, arg_name, name, fn_head_by, return_type_by}
 use Rattle.syn_mid.specs.ty.Types.{Comma, Plus, array_of, fn_ptr_of, group_of, impl_trait_of, named_arg_of, paren_of, ptr_of, qself_of, qualified_of, reference_of, slice_of, trait_object_of, tuple_of}
 use Rattle.syn_mid.proofs.attr_laws.Normal.{outer_same, at_place_same}
 use Rattle.syn_mid.proofs.generics_laws.Consts.{const_argument_same}
@@ -198,7 +198,7 @@ module _ {X : Type 0} (nx : Place → X → X) (px : Place → X → Print) (sam
       let x = reference_of y.and_token y.lifetime y.mutability y.elem.0 in
       subst Same (sym (v.rolls-Reference x))
       (ap (ty px) (normal-Reference nx x) ∙ ty-Reference px (normal.reference nx x)
-      ∙ ap (λ u. p.mark y.and_token ++ (lifetime y.lifetime ++ (mutability y.mutability ++ u))) y.elem.1 ∙ sym (ty-Reference px x))
+      ∙ ap (λ u. p.mark y.and_token ++ (lifetime y.lifetime ++ (optional_word y.mutability ++ u))) y.elem.1 ∙ sym (ty-Reference px x))
   layer_same (o.Slice y) =
       let x = slice_of y.bracket_token y.elem.0 in
       subst Same (sym (v.rolls-Slice x))

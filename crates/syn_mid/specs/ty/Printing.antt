@@ -75,6 +75,7 @@ never x = p.mark x.bang_token
 abbrev pub macro_type : {X : Type 0} → TypeMacro X → Print
 macro_type x = mac x.mac
 
+-- a word, or nothing
 abbrev pub optional_word : {n : ℕ} → Option (Word n) → Print
 optional_word None = []
 optional_word (Some w) = p.word w
@@ -96,9 +97,6 @@ pointer (m.Mut w) = p.word w
 abbrev pub lifetime : Option Lifetime → Print
 lifetime None = []
 lifetime (Some x) = lifetimes.print x
-
-abbrev pub mutability : Option (Word 13) → Print
-mutability = optional_word
 
 -- a comma after a lone element that has none, which sets the tuple apart from a type in parentheses
 abbrev pub lone_comma : {T : Type 0} → List T → List Comma → Print
@@ -140,7 +138,7 @@ module _ {T : Type 0} (print : T → Print) where
   ptr_by x = p.mark x.star_token ++ (pointer x.mutability ++ print x.elem)
 
   abbrev pub reference_by : TypeReferenceOf T → Print
-  reference_by x = p.mark x.and_token ++ (lifetime x.lifetime ++ (mutability x.mutability ++ print x.elem))
+  reference_by x = p.mark x.and_token ++ (lifetime x.lifetime ++ (optional_word x.mutability ++ print x.elem))
 
   abbrev pub slice_by : TypeSliceOf T → Print
   slice_by x = p.group Bracket (stream_of_trees (print x.elem)) x.bracket_token.span
