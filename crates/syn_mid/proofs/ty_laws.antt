@@ -22,3 +22,4 @@ pub mod Parts
 pub mod Lone
 pub mod Laws
 pub mod Lasts
+pub mod Pieces

@@ -11,7 +11,7 @@ use Rattle.token_core.specs.Lists.{joined}
 use Rattle.syn_mid.specs.declared.generics.BoundLifetimesOf.{BoundLifetimesOf}
 use Rattle.syn_mid.specs.declared.generics.GenericParam.{GenericParam}
 use Rattle.syn_mid.specs.declared.generics.GenericParam.TheShapes as shapes
-use Rattle.syn_mid.specs.declared.generics.TypeParam.{out-TypeParam}
+use Rattle.syn_mid.specs.declared.generics.TypeParam.{out-TypeParam, size_is-TypeParam}
 use Rattle.syn_mid.specs.generics.Shapes.{binder_params}
 use Rattle.syn_mid.specs.ty.Printing.{ty, param, bound}
 use Rattle.syn_mid.proofs.generics.GenericParam.TheLaws as params
@@ -69,15 +69,17 @@ generics::print_type_head-returns-clause-err g t c =
 pub generics::print_bounds-print_bound-requires : goal.generics::print_bounds-print_bound-requires
 generics::print_bounds-print_bound-requires g t c κs within =
     let size = bounds.the_size g.row.X g.X.laws in
+    let whole = size_is-TypeParam g.row.X.Denot c.args.param.now in
     let h = in_list size (out-TypeParam _ c.args.param.now).bounds c.bound_parts.result.0.now (option_map (λ x. x.now) c.bound_parts.result.1) c.loop-pair.pair-index c.pair-item.result c.bound_parts.ensures c.loop-pair-test.true c.pair-item.is in
-    (omega (arith, c.decreases, h), within)
+    (omega (arith, c.decreases, h, whole), within)
 
 pub generics::print_bounds-print_bound-requires-in-Some : goal.generics::print_bounds-print_bound-requires-in-Some
 generics::print_bounds-print_bound-requires-in-Some g t c κs within =
     let size = bounds.the_size g.row.X g.X.laws in
+    let whole = size_is-TypeParam g.row.X.Denot c.args.param.now in
     let k : option_map (λ x. x.now) c.bound_parts.result.1 ≡ Some c.in-Some.bound.now = ap (option_map (λ x. x.now)) c.in-Some.is in
     let h = last_in_list size (out-TypeParam _ c.args.param.now).bounds c.bound_parts.result.0.now (option_map (λ x. x.now) c.bound_parts.result.1) c.in-Some.bound.now c.bound_parts.ensures k in
-    (omega (arith, c.decreases, h), within)
+    (omega (arith, c.decreases, h, whole), within)
 
 pub generics::print_bounds-returns-in-Some-clause-ok : goal.generics::print_bounds-returns-in-Some-clause-ok
 generics::print_bounds-returns-in-Some-clause-ok g t c =
@@ -150,3 +152,7 @@ generics::print_trait_params-loop-pair-preserved g t c =
           c.loop-pair-test.true c.pair-item.is c.loop-pair.invariant.told c.in_ok-print_param.ensures.ok c.in_ok-to_tokens.ensures.ok;
       kept = rw c.in_ok-to_tokens.ensures.ok (rw c.in_ok-print_param.ensures.ok (extends_append old _ _ (extends_append old mid _ c.loop-pair.invariant.kept)));
     }
+
+pub generics::print_const_head-returns-clause-err : goal.generics::print_const_head-returns-clause-err
+generics::print_const_head-returns-clause-err g t c =
+    on_err_weaker c.print_type.result (λ h. extends_on _ _ _ _ c.in_ok-print_outer.ensures.ok (extends_on _ _ _ _ c.in_ok-to_tokens.ensures.ok (extends_on _ _ _ _ c.in_ok-to_tokens-2.ensures.ok (extends_on _ _ _ _ c.in_ok-to_tokens-3.ensures.ok h)))) c.print_type.ensures.err
