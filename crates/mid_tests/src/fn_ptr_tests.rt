@@ -259,7 +259,7 @@ fn is_borne(rt: &impl Abort, alloc: Global, pointer: &Pointer) {
     let marked = Comma::default().to_tokens(alloc, &mut out).is_ok();
     let before = out.len();
     match pointer.to_tokens(alloc, &mut out) {
-        Ok(()) => assert!(rt; (out.len() == 13) | !marked),
+        Ok(()) => assert!(rt; (out.len() == 14) | !marked),
         Err(_) => assert!(rt; out.len() == before),
     }
 }
