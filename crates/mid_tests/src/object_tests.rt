@@ -60,10 +60,7 @@ fn opaque(bounds: Result<Bounds, Error>) -> Result<Type<Nothing>, Error> {
     }))
 }
 
-fn object(
-    dyn_token: Option<Dyn>,
-    bounds: Result<Bounds, Error>,
-) -> Result<Type<Nothing>, Error> {
+fn object(dyn_token: Option<Dyn>, bounds: Result<Bounds, Error>) -> Result<Type<Nothing>, Error> {
     Ok(Type::from(TypeTraitObjectOf {
         dyn_token,
         bounds: bounds?,
@@ -92,7 +89,11 @@ fn trait_objects_print(rt: HostRuntime) {
     let bound = lone(alloc, bound_with_binder(alloc));
     says(&rt, shown(alloc, object(word, bound)), "dyn for < 'b > A");
     let marked = trailing(alloc, bound_with_binder(alloc));
-    says(&rt, shown(alloc, object(word, marked)), "dyn for < 'b > A +");
+    says(
+        &rt,
+        shown(alloc, object(word, marked)),
+        "dyn for < 'b > A +",
+    );
 }
 
 #[test]

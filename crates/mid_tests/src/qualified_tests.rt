@@ -8,8 +8,8 @@ use crate::pat_tests::boxed;
 use std::alloc::Global;
 use std::fmt::Write;
 use syn_mid::{Path, QSelf, QSelfOf, Type, TypePathOf};
-use token_core::token::{As, Gt, Lt};
 use token_core::Error;
+use token_core::token::{As, Gt, Lt};
 
 /// A path without its last segments.
 fn popped(alloc: Global, text: &str, times: u8) -> Result<Path<Nothing>, Error> {
@@ -21,11 +21,7 @@ fn popped(alloc: Global, text: &str, times: u8) -> Result<Path<Nothing>, Error> 
 }
 
 /// `<Self as ..>`, with `>` after as many segments, and without `as` where it is left to the print.
-fn qself(
-    alloc: Global,
-    position: usize,
-    as_token: Option<As>,
-) -> Result<QSelf<Nothing>, Error> {
+fn qself(alloc: Global, position: usize, as_token: Option<As>) -> Result<QSelf<Nothing>, Error> {
     Ok(QSelfOf {
         lt_token: Lt::default(),
         ty: boxed(alloc, ty(alloc, "Self"))?,
@@ -115,10 +111,7 @@ fn the_closing_mark_stands_by_its_position(rt: HostRuntime) {
 fn nested(alloc: Global, times: u8) -> Result<Type<Nothing>, Error> {
     let mut inner = ty(alloc, "T")?;
     for _ in 0..times {
-        let (boxed, path) = both(
-            boxed(alloc, Ok(inner)),
-            path(alloc, "::A"),
-        )?;
+        let (boxed, path) = both(boxed(alloc, Ok(inner)), path(alloc, "::A"))?;
         inner = Type::from(TypePathOf {
             qself: Some(QSelfOf {
                 lt_token: Lt::default(),
@@ -147,7 +140,10 @@ fn nested_text(alloc: Global, times: u8) -> Result<String, Error> {
 
 /// Whether it prints so.
 fn nests(alloc: Global, times: u8) -> Result<bool, Error> {
-    let (found, wanted) = both(shown(alloc, nested(alloc, times)), nested_text(alloc, times))?;
+    let (found, wanted) = both(
+        shown(alloc, nested(alloc, times)),
+        nested_text(alloc, times),
+    )?;
     Ok(found.as_str() == wanted.as_str())
 }
 
