@@ -121,10 +121,14 @@ fn prints_more(alloc: Global, inputs: Result<Args, Error>) -> Result<String, Err
     shown(alloc, pointer(inputs, Ok(Some(more(alloc)))))
 }
 
+fn some<T: Drop>(made: Result<T, Error>) -> Result<Option<T>, Error> {
+    Ok(Some(made?))
+}
+
 /// With `#[b] y: ...,` after these arguments.
 fn prints_named(alloc: Global, inputs: Result<Args, Error>) -> Result<String, Error> {
-    let more = named_more(alloc, outer(alloc, "#[b]"))?;
-    shown(alloc, pointer(inputs, Ok(Some(more))))
+    let more = named_more(alloc, outer(alloc, "#[b]"));
+    shown(alloc, pointer(inputs, some(more)))
 }
 
 fn two(alloc: Global) -> Result<Args, Error> {
