@@ -51,6 +51,7 @@ pub use pat::PatIdent;
 pub use pat::PatIdentOf;
 pub use pat::PatLit;
 pub use pat::PatMacro;
+pub use pat::PatOf;
 pub use pat::PatOr;
 pub use pat::PatOrOf;
 pub use pat::PatParen;

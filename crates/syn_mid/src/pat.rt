@@ -4,14 +4,17 @@ ghost use Rattle.std.specs.Prelude.{◌≡◌, ◌++◌, OnOk, OnErr, option_map
 ghost use Rattle.token_core.specs.Joined.{values_of, marks_of};
 ghost use Rattle.token_core.specs.Prints.{Extends};
 ghost use Rattle.token_core.specs.Trees.{trees};
-ghost use Rattle.syn_mid.specs.declared.pat.Pat.TheVariants as pats;
+ghost use Rattle.syn_mid.specs.declared.pat.PatOf.TheVariants as pats;
 ghost use Rattle.syn_mid.specs.generics.Printing as generics;
 ghost use Rattle.syn_mid.specs.pat.Pats as spec;
 ghost use Rattle.syn_mid.specs.pat.Printing as printing;
 
 use crate::attr::{Attribute, print_outer, print_value};
 use crate::path::{Path, PathStyle, print_path};
-use crate::supplied::{Expr, ExprConst, ExprLit, ExprMacro, ExprPath, ExprRange, Place, Subtree};
+use crate::supplied::{
+    Expr, ExprConst, ExprConstOf, ExprLit, ExprLitOf, ExprMacro, ExprMacroOf, ExprPath, ExprPathOf,
+    ExprRange, Place, Subtree,
+};
 use crate::ty::{Type, print_lone_comma, print_type, print_verbatim};
 use std::alloc::{AllocError, Global};
 use token_core::token::{
@@ -19,67 +22,70 @@ use token_core::token::{
 };
 use token_core::{Boxed, Ident, Items, Member, Pair, Punctuated, ToTokens, TokenStream};
 
-/// A pattern.
+/// A pattern, over its attributes.
 #[cycle(pats)]
 #[derive(Drop)]
-pub enum Pat<X> {
+pub enum PatOf<A, X> {
     /// `const { .. }`
-    Const(PatConst<X>),
+    Const(ExprConstOf<A, X>),
     /// `a if b`
-    Guard(PatGuard<X>),
+    Guard(PatGuardOf<PatOf<A, X>, A, X>),
     /// `ref mut a @ b`
-    Ident(PatIdent<X>),
+    Ident(PatIdentOf<PatOf<A, X>, A>),
     /// `1`
-    Lit(PatLit<X>),
+    Lit(ExprLitOf<A>),
     /// `a!(b)`
-    Macro(PatMacro<X>),
+    Macro(ExprMacroOf<A, X>),
     /// `a | b`
-    Or(PatOr<X>),
+    Or(PatOrOf<PatOf<A, X>, A>),
     /// `(a)`
-    Paren(PatParen<X>),
+    Paren(PatParenOf<PatOf<A, X>, A>),
     /// `a::b`
-    Path(PatPath<X>),
+    Path(ExprPathOf<A, X>),
     /// `1..=2`
-    Range(PatRange<X>),
+    Range(ExprRange<X>),
     /// `&mut a`
-    Reference(PatReference<X>),
+    Reference(PatReferenceOf<PatOf<A, X>, A>),
     /// `..`
     Rest(PatRest<X>),
     /// `[a, b, ..]`
-    Slice(PatSlice<X>),
+    Slice(PatSliceOf<PatOf<A, X>, A>),
     /// `A { x, y: b, .. }`
-    Struct(PatStruct<X>),
+    Struct(PatStructOf<PatOf<A, X>, A, X>),
     /// `(a, b)`
-    Tuple(PatTuple<X>),
+    Tuple(PatTupleOf<PatOf<A, X>, A>),
     /// `A(b, ..)`
-    TupleStruct(PatTupleStruct<X>),
+    TupleStruct(PatTupleStructOf<PatOf<A, X>, A, X>),
     /// `a: T`
-    Type(PatType<X>),
+    Type(PatTypeOf<PatOf<A, X>, A, X>),
     /// Tokens that no other case holds.
     Verbatim(TokenStream),
     /// `_`
     Wild(PatWild<X>),
 }
 
+/// A pattern.
+pub type Pat<X> = PatOf<Attribute<X>, X>;
+
 /// A const block as a pattern.
 pub type PatConst<X> = ExprConst<X>;
 
 /// A pattern with a guard, over that pattern.
 #[derive(Drop)]
-pub struct PatGuardOf<P, X> {
-    pub attrs: Items<Attribute<X>>,
+pub struct PatGuardOf<P, A, X> {
+    pub attrs: Items<A>,
     pub pat: Boxed<P>,
     pub if_token: If,
     pub guard: Boxed<Expr<X>>,
 }
 
 /// A pattern with a guard: a pattern, `if`, an expression.
-pub type PatGuard<X> = PatGuardOf<Pat<X>, X>;
+pub type PatGuard<X> = PatGuardOf<Pat<X>, Attribute<X>, X>;
 
 /// A binding, over the pattern after its `@`.
 #[derive(Drop)]
-pub struct PatIdentOf<P, X> {
-    pub attrs: Items<Attribute<X>>,
+pub struct PatIdentOf<P, A> {
+    pub attrs: Items<A>,
     pub by_ref: Option<Ref>,
     pub mutability: Option<Mut>,
     pub ident: Ident,
@@ -87,7 +93,7 @@ pub struct PatIdentOf<P, X> {
 }
 
 /// A binding: an optional `ref`, an optional `mut`, a name, perhaps `@` and a pattern.
-pub type PatIdent<X> = PatIdentOf<Pat<X>, X>;
+pub type PatIdent<X> = PatIdentOf<Pat<X>, Attribute<X>>;
 
 /// A literal as a pattern.
 pub type PatLit<X> = ExprLit<X>;
@@ -97,25 +103,25 @@ pub type PatMacro<X> = ExprMacro<X>;
 
 /// Alternatives, over their pattern.
 #[derive(Drop)]
-pub struct PatOrOf<P, X> {
-    pub attrs: Items<Attribute<X>>,
+pub struct PatOrOf<P, A> {
+    pub attrs: Items<A>,
     pub leading_vert: Option<Or>,
     pub cases: Punctuated<P, Or>,
 }
 
 /// Alternatives: an optional `|`, patterns joined by `|`.
-pub type PatOr<X> = PatOrOf<Pat<X>, X>;
+pub type PatOr<X> = PatOrOf<Pat<X>, Attribute<X>>;
 
 /// A pattern in parentheses, over that pattern.
 #[derive(Drop)]
-pub struct PatParenOf<P, X> {
-    pub attrs: Items<Attribute<X>>,
+pub struct PatParenOf<P, A> {
+    pub attrs: Items<A>,
     pub paren_token: Paren,
     pub pat: Boxed<P>,
 }
 
 /// A pattern in parentheses.
-pub type PatParen<X> = PatParenOf<Pat<X>, X>;
+pub type PatParen<X> = PatParenOf<Pat<X>, Attribute<X>>;
 
 /// A path as a pattern.
 pub type PatPath<X> = ExprPath<X>;
@@ -125,15 +131,15 @@ pub type PatRange<X> = ExprRange<X>;
 
 /// A pattern of a reference, over the pattern of what it points to.
 #[derive(Drop)]
-pub struct PatReferenceOf<P, X> {
-    pub attrs: Items<Attribute<X>>,
+pub struct PatReferenceOf<P, A> {
+    pub attrs: Items<A>,
     pub and_token: And,
     pub mutability: Option<Mut>,
     pub pat: Boxed<P>,
 }
 
 /// A pattern of a reference: `&`, an optional `mut`, a pattern.
-pub type PatReference<X> = PatReferenceOf<Pat<X>, X>;
+pub type PatReference<X> = PatReferenceOf<Pat<X>, Attribute<X>>;
 
 /// What is left over: `..`.
 #[derive(Drop)]
@@ -144,62 +150,62 @@ pub struct PatRest<X> {
 
 /// A pattern of a slice, over its elements' pattern.
 #[derive(Drop)]
-pub struct PatSliceOf<P, X> {
-    pub attrs: Items<Attribute<X>>,
+pub struct PatSliceOf<P, A> {
+    pub attrs: Items<A>,
     pub bracket_token: Bracket,
     pub elems: Punctuated<P, Comma>,
 }
 
 /// A pattern of a slice: patterns in brackets, joined by commas.
-pub type PatSlice<X> = PatSliceOf<Pat<X>, X>;
+pub type PatSlice<X> = PatSliceOf<Pat<X>, Attribute<X>>;
 
 /// A pattern of a struct, over its fields' pattern.
 #[derive(Drop)]
-pub struct PatStructOf<P, X> {
-    pub attrs: Items<Attribute<X>>,
+pub struct PatStructOf<P, A, X> {
+    pub attrs: Items<A>,
     pub path: Path<X>,
     pub brace_token: Brace,
-    pub fields: Punctuated<FieldPatOf<P, X>, Comma>,
+    pub fields: Punctuated<FieldPatOf<P, A>, Comma>,
     pub rest: Option<PatRest<X>>,
 }
 
 /// A pattern of a struct: a path, and in braces fields joined by commas, perhaps `..` at the end.
-pub type PatStruct<X> = PatStructOf<Pat<X>, X>;
+pub type PatStruct<X> = PatStructOf<Pat<X>, Attribute<X>, X>;
 
 /// A pattern of a tuple, over its elements' pattern.
 #[derive(Drop)]
-pub struct PatTupleOf<P, X> {
-    pub attrs: Items<Attribute<X>>,
+pub struct PatTupleOf<P, A> {
+    pub attrs: Items<A>,
     pub paren_token: Paren,
     pub elems: Punctuated<P, Comma>,
 }
 
 /// A pattern of a tuple: patterns in parentheses, joined by commas.
-pub type PatTuple<X> = PatTupleOf<Pat<X>, X>;
+pub type PatTuple<X> = PatTupleOf<Pat<X>, Attribute<X>>;
 
 /// A pattern of a tuple struct, over its elements' pattern.
 #[derive(Drop)]
-pub struct PatTupleStructOf<P, X> {
-    pub attrs: Items<Attribute<X>>,
+pub struct PatTupleStructOf<P, A, X> {
+    pub attrs: Items<A>,
     pub path: Path<X>,
     pub paren_token: Paren,
     pub elems: Punctuated<P, Comma>,
 }
 
 /// A pattern of a tuple struct: a path, and patterns in parentheses, joined by commas.
-pub type PatTupleStruct<X> = PatTupleStructOf<Pat<X>, X>;
+pub type PatTupleStruct<X> = PatTupleStructOf<Pat<X>, Attribute<X>, X>;
 
 /// A pattern with its type, over that pattern.
 #[derive(Drop)]
-pub struct PatTypeOf<P, X> {
-    pub attrs: Items<Attribute<X>>,
+pub struct PatTypeOf<P, A, X> {
+    pub attrs: Items<A>,
     pub pat: Boxed<P>,
     pub colon_token: Colon,
     pub ty: Boxed<Type<X>>,
 }
 
 /// A pattern with its type: a pattern, `:`, a type.
-pub type PatType<X> = PatTypeOf<Pat<X>, X>;
+pub type PatType<X> = PatTypeOf<Pat<X>, Attribute<X>, X>;
 
 /// A pattern of any value: `_`.
 #[derive(Drop)]
@@ -210,15 +216,15 @@ pub struct PatWild<X> {
 
 /// A field of a struct's pattern, over its pattern.
 #[derive(Drop)]
-pub struct FieldPatOf<P, X> {
-    pub attrs: Items<Attribute<X>>,
+pub struct FieldPatOf<P, A> {
+    pub attrs: Items<A>,
     pub member: Member,
     pub colon_token: Option<Colon>,
     pub pat: Boxed<P>,
 }
 
 /// A field of a struct's pattern: a member, `:`, a pattern; or a pattern alone, which binds the member of its name.
-pub type FieldPat<X> = FieldPatOf<Pat<X>, X>;
+pub type FieldPat<X> = FieldPatOf<Pat<X>, Attribute<X>>;
 
 impl<X> Pat<X> {
     /// Whether it is `..`.
@@ -954,7 +960,7 @@ fn print_wild<X: Subtree>(
 #[tactic(auto, using(token_core::proofs::Puts::puts))]
 fn print_name<P, X: Subtree>(
     alloc: Global,
-    pat: &PatIdentOf<P, X>,
+    pat: &PatIdentOf<P, Attribute<X>>,
     out: &mut TokenStream,
 ) -> Result<(), AllocError>
     ensures ok { OnOk result (trees out.new ≡ trees out.old ++ printing.name X.prints pat.now) }
@@ -970,7 +976,7 @@ fn print_name<P, X: Subtree>(
 #[tactic(auto, using(token_core::proofs::Puts::puts))]
 fn print_member<P, X: Subtree>(
     alloc: Global,
-    field: &FieldPatOf<P, X>,
+    field: &FieldPatOf<P, Attribute<X>>,
     out: &mut TokenStream,
 ) -> Result<(), AllocError>
     ensures ok { OnOk result (trees out.new ≡ trees out.old ++ printing.member X.prints field.now) }
@@ -1003,7 +1009,7 @@ fn print_field<X: Subtree>(
 #[tactic(auto, using(token_core::proofs::Puts::puts))]
 fn print_struct_rest<P, X: Subtree>(
     alloc: Global,
-    pat: &PatStructOf<P, X>,
+    pat: &PatStructOf<P, Attribute<X>, X>,
     out: &mut TokenStream,
 ) -> Result<(), AllocError>
     ensures ok { OnOk result (trees out.new ≡ trees out.old ++ printing.struct_rest X.prints pat.now) }

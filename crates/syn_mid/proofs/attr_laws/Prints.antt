@@ -1,5 +1,5 @@
 -- What each kind of meta and of expression prints, and its normal form.
-use Rattle.std.proofs.Common.{◌≡◌, List, [], ◌∷◌, ◌++◌, Option, Some, None, map, refl, sym, ◌∙◌, ap, append_assoc}
+use Rattle.std.proofs.Common.{◌≡◌, ℕ, ◌+◌, ◌<◌, Bool, true, false, if◌then◌else◌, List, [], ◌∷◌, ◌++◌, Option, Some, None, map, length, drop, get_or, refl, sym, ◌∙◌, ap, append_assoc, append-nil}
 use Rattle.token_core.specs.declared.lit.Lit.{Lit}
 use Rattle.token_core.specs.declared.range.RangeLimits.{RangeLimits}
 use Rattle.token_core.specs.Lits as lits
@@ -8,6 +8,7 @@ use Rattle.token_core.specs.Trees.{trees, stream_of_trees}
 use Rattle.token_core.specs.declared.tree.TokenStream.{TokenStream, roll-out-TokenStream}
 use Rattle.token_core.specs.Prints as p
 use Rattle.token_core.specs.Prints.{Print}
+use Rattle.token_core.proofs.Fronts.{at-drop}
 use Rattle.syn_mid.specs.Supplied.{Place, Value}
 use Rattle.syn_mid.specs.declared.attr.AttributeOf.{AttributeOf}
 use Rattle.syn_mid.specs.declared.attr.Meta.{Meta}
@@ -32,7 +33,11 @@ use Rattle.syn_mid.specs.path.Printing.{path}
 use Rattle.syn_mid.specs.attr.Attrs.{Equals, Attribute, name_value_of, range_of, literal}
 use Rattle.syn_mid.specs.attr.Normal as normal
 use Rattle.syn_mid.specs.attr.Printing as printing
-use Rattle.syn_mid.specs.attr.Printing.{if_outer, outer_by, end_by, list, meta_step, expr_step, name_value_step, range_step, meta, value, name_value, range, range_end, outer, body, place_layer, at_place}
+use Rattle.syn_mid.specs.attr.Printing.{is_outer, around, attribute_by, if_outer, outer_by, end_by, list, meta_step, expr_step, name_value_step, range_step, meta, value, name_value, range, range_end, outer, body, place_layer, at_place}
+
+-- a list of trees, as what they make
+pub content_is : (s : TokenStream) → s ≡ stream_of_trees (trees s)
+content_is s = sym (roll-out-TokenStream s)
 
 -- attributes whose content is already printed are printed as they are
 module _ {M : Type 0} (f : M → Print) where
@@ -42,6 +47,21 @@ module _ {M : Type 0} (f : M → Print) where
   outer_mapped : (all : List (AttributeOf M)) → outer_by (λ z. z) (map printed all) ≡ outer_by f all
   outer_mapped [] = refl
   outer_mapped (a ∷ all) = ap (λ r. if_outer f a ++ r) (outer_mapped all)
+
+  -- one of a list, after those before it
+  pub put_attribute : (all : List (AttributeOf M)) (i : ℕ) (x : AttributeOf M) (old mid new whole : Print) → i < length all → x ≡ get_or all i x
+      → mid ++ outer_by f (drop i all) ≡ old ++ whole → new ≡ mid ++ if_outer f x → new ++ outer_by f (drop (i + 1) all) ≡ old ++ whole
+  put_attribute all i x old mid new whole h e told n =
+      let rest = outer_by f (drop (i + 1) all) in
+      ap (λ z. z ++ rest) n ∙ append_assoc mid (if_outer f x) rest ∙ ap (λ z. mid ++ outer_by f z) (sym (at-drop all i x h e)) ∙ told
+
+  -- an outer one, by its content, and one that is not
+  pub put_outer : (x : AttributeOf M) (content : TokenStream) (mid new : Print) → is_outer x.style ≡ true → trees content ≡ f x.meta → new ≡ mid ++ around x content → new ≡ mid ++ if_outer f x
+  put_outer x content mid new b h n =
+      n ∙ ap (λ z. mid ++ around x z) (content_is content ∙ ap stream_of_trees h) ∙ ap (λ (z : Bool). mid ++ (if z then attribute_by f x else [])) (sym b)
+
+  pub pass_inner : (x : AttributeOf M) (mid : Print) → is_outer x.style ≡ false → mid ≡ mid ++ if_outer f x
+  pass_inner x mid b = sym (append-nil mid) ∙ ap (λ (z : Bool). mid ++ (if z then attribute_by f x else [])) (sym b)
 
 module _ {X : Type 0} (px : Place → X → Print) where
   pub prints_path : (x : Path X) → meta px (m.Path x) ≡ path Mod x
@@ -260,9 +280,5 @@ module _ {X : Type 0} (nx : Place → X → X) where
   -- a supplied subtree by its place
   pub normal_place : (w : Place) (x : X) → normal.at_place nx w (e.Other x) ≡ e.Other (nx w x)
   normal_place w x = ap (λ z. normal.place_layer nx w z (normal.value nx (e.Other x))) (e.outs-Other x)
-
--- a list of trees, as what they make
-pub content_is : (s : TokenStream) → s ≡ stream_of_trees (trees s)
-content_is s = sym (roll-out-TokenStream s)
 
 pub ruleset contents = (content_is)

@@ -11,10 +11,10 @@ use Rattle.syn_mid.specs.Supplied.{Place, Guard, Block}
 use Rattle.syn_mid.specs.declared.attr.AttributeOf.{AttributeOf}
 use Rattle.syn_mid.specs.declared.attr.Meta.{Meta}
 use Rattle.syn_mid.specs.declared.pat.FieldPatOf.{FieldPatOf}
-use Rattle.syn_mid.specs.declared.pat.Pat.{Pat, roll-Pat, map-Pat}
-use Rattle.syn_mid.specs.declared.pat.Pat.TheFolds.{ind-Pat}
-use Rattle.syn_mid.specs.declared.pat.Pat.TheOpen as o
-use Rattle.syn_mid.specs.declared.pat.Pat.TheVariants as v
+use Rattle.syn_mid.specs.declared.pat.PatOf.{roll-PatOf, map-PatOf}
+use Rattle.syn_mid.specs.declared.pat.PatOf.TheFolds.{ind-PatOf}
+use Rattle.syn_mid.specs.declared.pat.PatOf.TheOpen as o
+use Rattle.syn_mid.specs.declared.pat.PatOf.TheVariants as v
 use Rattle.syn_mid.specs.declared.pat.PatRest.{PatRest}
 use Rattle.syn_mid.specs.declared.pat.PatWild.{PatWild}
 use Rattle.syn_mid.specs.declared.supplied.Expr.{Expr}
@@ -22,12 +22,11 @@ use Rattle.syn_mid.specs.declared.supplied.ExprConstOf.{ExprConstOf}
 use Rattle.syn_mid.specs.declared.supplied.ExprLitOf.{ExprLitOf}
 use Rattle.syn_mid.specs.declared.supplied.ExprMacroOf.{ExprMacroOf}
 use Rattle.syn_mid.specs.declared.supplied.ExprPathOf.{ExprPathOf}
-use Rattle.syn_mid.specs.declared.supplied.ExprRange.{ExprRange}
 use Rattle.syn_mid.specs.attr.Attrs.{lit_of, const_of, expr_macro_of, expr_path_of}
 use Rattle.syn_mid.specs.attr.Normal as attr
 use Rattle.syn_mid.specs.attr.Printing as expr
 use Rattle.syn_mid.specs.mac.Printing.{mac}
-use Rattle.syn_mid.specs.pat.Pats.{Attrs, is_rest, guard_of, binding_of, or_of, paren_of, reference_of, slice_of, struct_of, tuple_of, tuple_struct_of, typed_of, field_of, rest_of, wild_of}
+use Rattle.syn_mid.specs.pat.Pats.{Pat, Attr, Attrs, is_rest, guard_of, binding_of, or_of, paren_of, reference_of, slice_of, struct_of, tuple_of, tuple_struct_of, typed_of, field_of, rest_of, wild_of}
 use Rattle.syn_mid.specs.ty.Normal as types
 use Rattle.syn_mid.specs.ty.Types.{Comma}
 use Rattle.syn_mid.specs.generics.Printing.{optional}
@@ -84,13 +83,13 @@ module _ {X : Type 0} (nx : Place → X → X) (own : (w : Place) (x : X) → nx
   by_form : (x y : Pat X) → n.pat nx x ≡ y → n.pat nx y ≡ y → Own x
   by_form x y h k = ap (n.pat nx) h ∙ k ∙ sym h
 
-  abbrev OwnField : FieldPatOf (Pat X) X → Type 0
+  abbrev OwnField : FieldPatOf (Pat X) (Attr X) → Type 0
   OwnField x = n.field nx (n.field nx x) ≡ n.field nx x
 
-  abbrev within : FieldPatOf Held X → FieldPatOf (Pat X) X
+  abbrev within : FieldPatOf Held (Attr X) → FieldPatOf (Pat X) (Attr X)
   within x = field_of x.attrs x.member x.colon_token x.pat.0
 
-  fields_own : (l : List (FieldPatOf Held X)) → Each OwnField (map within l)
+  fields_own : (l : List (FieldPatOf Held (Attr X))) → Each OwnField (map within l)
   fields_own [] = tt
   fields_own (y ∷ l) = (
     ap (λ z. field_of z y.member y.colon_token (n.pat nx (n.pat nx y.pat.0))) (attrs_stay y.attrs)
@@ -98,7 +97,7 @@ module _ {X : Type 0} (nx : Place → X → X) (own : (w : Place) (x : X) → nx
     fields_own l,
   )
 
-  binding_held : (a : Attrs X) (r : Option (Word 14)) (m : Option (Word 13)) (i : Ident) (l : Option (Mark 6 1 × Held)) → Own (roll-Pat X (map-Pat X Held (Pat X) (λ c. c.0) (o.Ident (binding_of a r m i l))))
+  binding_held : (a : Attrs X) (r : Option (Word 14)) (m : Option (Word 13)) (i : Ident) (l : Option (Mark 6 1 × Held)) → Own (roll-PatOf (Attr X) X (map-PatOf (Attr X) X Held (Pat X) (λ c. c.0) (o.Ident (binding_of a r m i l))))
   binding_held a r m i None =
       let x = binding_of a r m i None in
       let z = n.binding nx x in
@@ -111,7 +110,7 @@ module _ {X : Type 0} (nx : Place → X → X) (own : (w : Place) (x : X) → nx
       (by_form (v.Ident x) (v.Ident z) (normal-Ident nx x) (normal-Ident nx z ∙ ap (λ z. v.Ident (binding_of z r m i (Some (s.0, n.pat nx (n.pat nx s.1.0))))) (attrs_stay a)
       ∙ ap (λ z. v.Ident (binding_of (n.attrs nx a) r m i (Some (s.0, z)))) s.1.1))
 
-  layer_stays : (y : o.Pat-F X Held) → Own (roll-Pat X (map-Pat X Held (Pat X) (λ a. a.0) y))
+  layer_stays : (y : o.PatOf-F (Attr X) X Held) → Own (roll-PatOf (Attr X) X (map-PatOf (Attr X) X Held (Pat X) (λ a. a.0) y))
   layer_stays (o.Const x) = subst Own (sym (v.rolls-Const x)) (by_form (v.Const x) (v.Const (attr.expr_const nx x)) (normal-Const nx x) (normal-Const nx (attr.expr_const nx x) ∙ ap v.Const (const_stays x)))
   layer_stays (o.Guard y) =
       let x = guard_of y.attrs y.pat.0 y.if_token y.guard in
@@ -203,7 +202,7 @@ module _ {X : Type 0} (nx : Place → X → X) (own : (w : Place) (x : X) → nx
   layer_stays (o.Wild x) = subst Own (sym (v.rolls-Wild x)) (by_form (v.Wild x) (v.Wild (n.wild nx x)) (normal-Wild nx x) (normal-Wild nx (n.wild nx x) ∙ ap v.Wild (wild_stays x)))
 
   pub pat_stays : (x : Pat X) → n.pat nx (n.pat nx x) ≡ n.pat nx x
-  pat_stays = ind-Pat X Own (λ x y is. subst (λ z. Own (roll-Pat X z)) is (layer_stays y))
+  pat_stays = ind-PatOf (Attr X) X Own (λ x y is. subst (λ z. Own (roll-PatOf (Attr X) X z)) is (layer_stays y))
 
 module _ {X : Type 0} (nx : Place → X → X) (px : Place → X → Print) (same : (w : Place) (x : X) → px w (nx w x) ≡ px w x) where
   attrs_same : (l : Attrs X) → s.attrs px (n.attrs nx l) ≡ s.attrs px l
@@ -247,13 +246,13 @@ module _ {X : Type 0} (nx : Place → X → X) (px : Place → X → Print) (sam
   abbrev Shown : Type 0
   Shown = (x : Pat X) × Same x
 
-  abbrev SameField : FieldPatOf (Pat X) X → Type 0
+  abbrev SameField : FieldPatOf (Pat X) (Attr X) → Type 0
   SameField x = s.field px (n.field nx x) ≡ s.field px x
 
-  abbrev shown_within : FieldPatOf Shown X → FieldPatOf (Pat X) X
+  abbrev shown_within : FieldPatOf Shown (Attr X) → FieldPatOf (Pat X) (Attr X)
   shown_within x = field_of x.attrs x.member x.colon_token x.pat.0
 
-  fields_same : (l : List (FieldPatOf Shown X)) → Each SameField (map shown_within l)
+  fields_same : (l : List (FieldPatOf Shown (Attr X))) → Each SameField (map shown_within l)
   fields_same [] = tt
   fields_same (y ∷ l) = (
     ap (λ z. (z ++ s.colon_member px y.member y.colon_token) ++ s.pat px (n.pat nx y.pat.0)) (attrs_same y.attrs)
@@ -261,7 +260,7 @@ module _ {X : Type 0} (nx : Place → X → X) (px : Place → X → Print) (sam
     fields_same l,
   )
 
-  binding_shown : (a : Attrs X) (r : Option (Word 14)) (m : Option (Word 13)) (i : Ident) (l : Option (Mark 6 1 × Shown)) → Same (roll-Pat X (map-Pat X Shown (Pat X) (λ c. c.0) (o.Ident (binding_of a r m i l))))
+  binding_shown : (a : Attrs X) (r : Option (Word 14)) (m : Option (Word 13)) (i : Ident) (l : Option (Mark 6 1 × Shown)) → Same (roll-PatOf (Attr X) X (map-PatOf (Attr X) X Shown (Pat X) (λ c. c.0) (o.Ident (binding_of a r m i l))))
   binding_shown a r m i None =
       let x = binding_of a r m i None in
       subst Same (sym (v.rolls-Ident x))
@@ -276,7 +275,7 @@ module _ {X : Type 0} (nx : Place → X → X) (px : Place → X → Print) (sam
       ∙ ap (λ z. (s.attrs px a ++ (optional_word r ++ (optional_word m ++ p.ident i))) ++ (p.mark w.0 ++ z)) w.1.1
       ∙ sym (pat-Ident px x))
 
-  layer_same : (y : o.Pat-F X Shown) → Same (roll-Pat X (map-Pat X Shown (Pat X) (λ a. a.0) y))
+  layer_same : (y : o.PatOf-F (Attr X) X Shown) → Same (roll-PatOf (Attr X) X (map-PatOf (Attr X) X Shown (Pat X) (λ a. a.0) y))
   layer_same (o.Const x) = subst Same (sym (v.rolls-Const x)) (ap (s.pat px) (normal-Const nx x) ∙ pat-Const px (attr.expr_const nx x) ∙ const_same x ∙ sym (pat-Const px x))
   layer_same (o.Guard y) =
       let x = guard_of y.attrs y.pat.0 y.if_token y.guard in
@@ -361,6 +360,6 @@ module _ {X : Type 0} (nx : Place → X → X) (px : Place → X → Print) (sam
   layer_same (o.Wild x) = subst Same (sym (v.rolls-Wild x)) (ap (s.pat px) (normal-Wild nx x) ∙ pat-Wild px (n.wild nx x) ∙ wild_same x ∙ sym (pat-Wild px x))
 
   pub pat_same : (x : Pat X) → s.pat px (n.pat nx x) ≡ s.pat px x
-  pat_same = ind-Pat X Same (λ x y is. subst (λ z. Same (roll-Pat X z)) is (layer_same y))
+  pat_same = ind-PatOf (Attr X) X Same (λ x y is. subst (λ z. Same (roll-PatOf (Attr X) X z)) is (layer_same y))
 
 pub ruleset normals = (guard_stays, pat_stays, guard_same, pat_same)

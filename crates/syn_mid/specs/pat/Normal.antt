@@ -2,13 +2,10 @@
 use Rattle.std.specs.Prelude.{Option, Some, None}
 use Rattle.token_core.specs.declared.mark.Mark.{Mark}
 use Rattle.syn_mid.specs.Supplied.{Place, Guard}
-use Rattle.syn_mid.specs.declared.attr.AttributeOf.{AttributeOf}
-use Rattle.syn_mid.specs.declared.attr.Meta.{Meta}
 use Rattle.syn_mid.specs.declared.pat.FieldPatOf.{FieldPatOf}
-use Rattle.syn_mid.specs.declared.pat.Pat.{Pat}
-use Rattle.syn_mid.specs.declared.pat.Pat.TheFolds.{fold-Pat}
-use Rattle.syn_mid.specs.declared.pat.Pat.TheOpen as o
-use Rattle.syn_mid.specs.declared.pat.Pat.TheVariants as v
+use Rattle.syn_mid.specs.declared.pat.PatOf.TheFolds.{fold-PatOf}
+use Rattle.syn_mid.specs.declared.pat.PatOf.TheOpen as o
+use Rattle.syn_mid.specs.declared.pat.PatOf.TheVariants as v
 use Rattle.syn_mid.specs.declared.pat.PatGuardOf.{PatGuardOf}
 use Rattle.syn_mid.specs.declared.pat.PatIdentOf.{PatIdentOf}
 use Rattle.syn_mid.specs.declared.pat.PatOrOf.{PatOrOf}
@@ -24,7 +21,7 @@ use Rattle.syn_mid.specs.declared.pat.PatWild.{PatWild}
 use Rattle.syn_mid.specs.declared.supplied.Expr.{Expr}
 use Rattle.syn_mid.specs.attr.Normal as attr
 use Rattle.syn_mid.specs.generics.Normal.{many}
-use Rattle.syn_mid.specs.pat.Pats.{Attrs, guard_of, binding_of, or_of, paren_of, reference_of, slice_of, struct_of, tuple_of, tuple_struct_of, typed_of, field_of, rest_of, wild_of}
+use Rattle.syn_mid.specs.pat.Pats.{Pat, Attr, Attrs, guard_of, binding_of, or_of, paren_of, reference_of, slice_of, struct_of, tuple_of, tuple_struct_of, typed_of, field_of, rest_of, wild_of}
 use Rattle.syn_mid.specs.ty.Normal as ty
 
 module _ {X : Type 0} (normal : Place → X → X) where
@@ -45,11 +42,11 @@ module _ {X : Type 0} (normal : Place → X → X) where
   optional_rest (Some x) = Some (rest x)
 
   -- a field whose pattern is in its normal form
-  abbrev pub field_around : FieldPatOf (Pat X) X → FieldPatOf (Pat X) X
+  abbrev pub field_around : FieldPatOf (Pat X) (Attr X) → FieldPatOf (Pat X) (Attr X)
   field_around x = field_of (attrs x.attrs) x.member x.colon_token x.pat
 
   -- a pattern whose patterns within are in their normal form
-  abbrev pub pat_step : o.Pat-F X (Pat X) → Pat X
+  abbrev pub pat_step : o.PatOf-F (Attr X) X (Pat X) → Pat X
   pat_step (o.Const x) = v.Const (attr.expr_const normal x)
   pat_step (o.Guard x) = v.Guard (guard_of (attrs x.attrs) x.pat x.if_token (guard x.guard))
   pat_step (o.Ident x) = v.Ident (binding_of (attrs x.attrs) x.by_ref x.mutability x.ident x.subpat)
@@ -70,41 +67,41 @@ module _ {X : Type 0} (normal : Place → X → X) where
   pat_step (o.Wild x) = v.Wild (wild x)
 
   unfoldable pub pat : Pat X → Pat X
-  pat = fold-Pat X (Pat X) pat_step
+  pat = fold-PatOf (Attr X) X (Pat X) pat_step
 
   abbrev pub subpattern : Option (Mark 6 1 × Pat X) → Option (Mark 6 1 × Pat X)
   subpattern None = None
   subpattern (Some s) = Some (s.0, pat s.1)
 
-  abbrev pub field : FieldPatOf (Pat X) X → FieldPatOf (Pat X) X
+  abbrev pub field : FieldPatOf (Pat X) (Attr X) → FieldPatOf (Pat X) (Attr X)
   field x = field_of (attrs x.attrs) x.member x.colon_token (pat x.pat)
 
-  abbrev pub guarded : PatGuardOf (Pat X) X → PatGuardOf (Pat X) X
+  abbrev pub guarded : PatGuardOf (Pat X) (Attr X) X → PatGuardOf (Pat X) (Attr X) X
   guarded x = guard_of (attrs x.attrs) (pat x.pat) x.if_token (guard x.guard)
 
-  abbrev pub binding : PatIdentOf (Pat X) X → PatIdentOf (Pat X) X
+  abbrev pub binding : PatIdentOf (Pat X) (Attr X) → PatIdentOf (Pat X) (Attr X)
   binding x = binding_of (attrs x.attrs) x.by_ref x.mutability x.ident (subpattern x.subpat)
 
-  abbrev pub alternatives : PatOrOf (Pat X) X → PatOrOf (Pat X) X
+  abbrev pub alternatives : PatOrOf (Pat X) (Attr X) → PatOrOf (Pat X) (Attr X)
   alternatives x = or_of (attrs x.attrs) x.leading_vert (many (pat) x.cases)
 
-  abbrev pub paren : PatParenOf (Pat X) X → PatParenOf (Pat X) X
+  abbrev pub paren : PatParenOf (Pat X) (Attr X) → PatParenOf (Pat X) (Attr X)
   paren x = paren_of (attrs x.attrs) x.paren_token (pat x.pat)
 
-  abbrev pub reference : PatReferenceOf (Pat X) X → PatReferenceOf (Pat X) X
+  abbrev pub reference : PatReferenceOf (Pat X) (Attr X) → PatReferenceOf (Pat X) (Attr X)
   reference x = reference_of (attrs x.attrs) x.and_token x.mutability (pat x.pat)
 
-  abbrev pub slice : PatSliceOf (Pat X) X → PatSliceOf (Pat X) X
+  abbrev pub slice : PatSliceOf (Pat X) (Attr X) → PatSliceOf (Pat X) (Attr X)
   slice x = slice_of (attrs x.attrs) x.bracket_token (many (pat) x.elems)
 
-  abbrev pub fielded : PatStructOf (Pat X) X → PatStructOf (Pat X) X
+  abbrev pub fielded : PatStructOf (Pat X) (Attr X) X → PatStructOf (Pat X) (Attr X) X
   fielded x = struct_of (attrs x.attrs) x.path x.brace_token (many (field) x.fields) (optional_rest x.rest)
 
-  abbrev pub tuple : PatTupleOf (Pat X) X → PatTupleOf (Pat X) X
+  abbrev pub tuple : PatTupleOf (Pat X) (Attr X) → PatTupleOf (Pat X) (Attr X)
   tuple x = tuple_of (attrs x.attrs) x.paren_token (many (pat) x.elems)
 
-  abbrev pub tuple_struct : PatTupleStructOf (Pat X) X → PatTupleStructOf (Pat X) X
+  abbrev pub tuple_struct : PatTupleStructOf (Pat X) (Attr X) X → PatTupleStructOf (Pat X) (Attr X) X
   tuple_struct x = tuple_struct_of (attrs x.attrs) x.path x.paren_token (many (pat) x.elems)
 
-  abbrev pub typed : PatTypeOf (Pat X) X → PatTypeOf (Pat X) X
+  abbrev pub typed : PatTypeOf (Pat X) (Attr X) X → PatTypeOf (Pat X) (Attr X) X
   typed x = typed_of (attrs x.attrs) (pat x.pat) x.colon_token (ty.ty normal x.ty)

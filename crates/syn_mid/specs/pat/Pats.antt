@@ -2,7 +2,6 @@
 use Rattle.std.specs.Prelude.{Bool, true, false, List, Option}
 use Rattle.token_core.specs.declared.mark.Mark.{Mark}
 use Rattle.token_core.specs.declared.member.Member.{Member}
-use Rattle.token_core.specs.declared.lit.Lit.{Lit}
 use Rattle.token_core.specs.declared.tree.Ident.{Ident}
 use Rattle.token_core.specs.declared.token.Brace.{Brace}
 use Rattle.token_core.specs.declared.token.Bracket.{Bracket}
@@ -13,8 +12,8 @@ use Rattle.syn_mid.specs.declared.attr.AttributeOf.{AttributeOf}
 use Rattle.syn_mid.specs.declared.attr.Meta.{Meta}
 use Rattle.syn_mid.specs.declared.path.Path.{Path}
 use Rattle.syn_mid.specs.declared.pat.FieldPatOf.{FieldPatOf}
-use Rattle.syn_mid.specs.declared.pat.Pat.{Pat, out-Pat}
-use Rattle.syn_mid.specs.declared.pat.Pat.TheOpen as o
+use Rattle.syn_mid.specs.declared.pat.PatOf.{PatOf, out-PatOf}
+use Rattle.syn_mid.specs.declared.pat.PatOf.TheOpen as o
 use Rattle.syn_mid.specs.declared.pat.PatGuardOf.{PatGuardOf}
 use Rattle.syn_mid.specs.declared.pat.PatIdentOf.{PatIdentOf}
 use Rattle.syn_mid.specs.declared.pat.PatOrOf.{PatOrOf}
@@ -28,54 +27,60 @@ use Rattle.syn_mid.specs.declared.pat.PatTupleStructOf.{PatTupleStructOf}
 use Rattle.syn_mid.specs.declared.pat.PatTypeOf.{PatTypeOf}
 use Rattle.syn_mid.specs.declared.pat.PatWild.{PatWild}
 use Rattle.syn_mid.specs.declared.supplied.Expr.{Expr}
-use Rattle.syn_mid.specs.declared.supplied.ExprLitOf.{ExprLitOf}
 use Rattle.syn_mid.specs.declared.ty.Type.{«Type» as TypeTree}
 use Rattle.syn_mid.specs.ty.Types.{Comma}
 
-abbrev pub Attrs : Type 0 → Type 0
-Attrs X = List (AttributeOf (Meta X))
+abbrev pub Attr : Type 0 → Type 0
+Attr X = AttributeOf (Meta X)
 
-abbrev pub guard_of : {P X : Type 0} → Attrs X → P → Word 11 → Expr X → PatGuardOf P X
+abbrev pub Attrs : Type 0 → Type 0
+Attrs X = List (Attr X)
+
+-- a pattern with the attributes of this crate
+abbrev pub Pat : Type 0 → Type 0
+Pat X = PatOf (Attr X) X
+
+abbrev pub guard_of : {P A X : Type 0} → List A → P → Word 11 → Expr X → PatGuardOf P A X
 guard_of a b c d = record { attrs = a; pat = b; if_token = c; guard = d }
 
-abbrev pub binding_of : {P X : Type 0} → Attrs X → Option (Word 14) → Option (Word 13) → Ident → Option (Mark 6 1 × P) → PatIdentOf P X
+abbrev pub binding_of : {P A : Type 0} → List A → Option (Word 14) → Option (Word 13) → Ident → Option (Mark 6 1 × P) → PatIdentOf P A
 binding_of a b c d e = record { attrs = a; by_ref = b; mutability = c; ident = d; subpat = e }
 
-abbrev pub or_of : {P X : Type 0} → Attrs X → Option (Mark 17 1) → Many P (Mark 17 1) → PatOrOf P X
+abbrev pub or_of : {P A : Type 0} → List A → Option (Mark 17 1) → Many P (Mark 17 1) → PatOrOf P A
 or_of a b c = record { attrs = a; leading_vert = b; cases = c }
 
-abbrev pub paren_of : {P X : Type 0} → Attrs X → Paren → P → PatParenOf P X
+abbrev pub paren_of : {P A : Type 0} → List A → Paren → P → PatParenOf P A
 paren_of a b c = record { attrs = a; paren_token = b; pat = c }
 
-abbrev pub reference_of : {P X : Type 0} → Attrs X → Mark 5 1 → Option (Word 13) → P → PatReferenceOf P X
+abbrev pub reference_of : {P A : Type 0} → List A → Mark 5 1 → Option (Word 13) → P → PatReferenceOf P A
 reference_of a b c d = record { attrs = a; and_token = b; mutability = c; pat = d }
 
 abbrev pub rest_of : {X : Type 0} → Attrs X → Mark 8 2 → PatRest X
 rest_of a b = record { attrs = a; dot2_token = b }
 
-abbrev pub slice_of : {P X : Type 0} → Attrs X → Bracket → Many P Comma → PatSliceOf P X
+abbrev pub slice_of : {P A : Type 0} → List A → Bracket → Many P Comma → PatSliceOf P A
 slice_of a b c = record { attrs = a; bracket_token = b; elems = c }
 
-abbrev pub field_of : {P X : Type 0} → Attrs X → Member → Option (Mark 7 1) → P → FieldPatOf P X
+abbrev pub field_of : {P A : Type 0} → List A → Member → Option (Mark 7 1) → P → FieldPatOf P A
 field_of a b c d = record { attrs = a; member = b; colon_token = c; pat = d }
 
-abbrev pub struct_of : {P X : Type 0} → Attrs X → Path X → Brace → Many (FieldPatOf P X) Comma → Option (PatRest X) → PatStructOf P X
+abbrev pub struct_of : {P A X : Type 0} → List A → Path X → Brace → Many (FieldPatOf P A) Comma → Option (PatRest X) → PatStructOf P A X
 struct_of a b c d e = record { attrs = a; path = b; brace_token = c; fields = d; rest = e }
 
-abbrev pub tuple_of : {P X : Type 0} → Attrs X → Paren → Many P Comma → PatTupleOf P X
+abbrev pub tuple_of : {P A : Type 0} → List A → Paren → Many P Comma → PatTupleOf P A
 tuple_of a b c = record { attrs = a; paren_token = b; elems = c }
 
-abbrev pub tuple_struct_of : {P X : Type 0} → Attrs X → Path X → Paren → Many P Comma → PatTupleStructOf P X
+abbrev pub tuple_struct_of : {P A X : Type 0} → List A → Path X → Paren → Many P Comma → PatTupleStructOf P A X
 tuple_struct_of a b c d = record { attrs = a; path = b; paren_token = c; elems = d }
 
-abbrev pub typed_of : {P X : Type 0} → Attrs X → P → Mark 7 1 → TypeTree X → PatTypeOf P X
+abbrev pub typed_of : {P A X : Type 0} → List A → P → Mark 7 1 → TypeTree X → PatTypeOf P A X
 typed_of a b c d = record { attrs = a; pat = b; colon_token = c; ty = d }
 
 abbrev pub wild_of : {X : Type 0} → Attrs X → Word 19 → PatWild X
 wild_of a b = record { attrs = a; underscore_token = b }
 
 module _ {X : Type 0} where
-  abbrev pub is_rest_layer : {T : Type 0} → o.Pat-F X T → Bool
+  abbrev pub is_rest_layer : {T : Type 0} → o.PatOf-F (Attr X) X T → Bool
   is_rest_layer (o.Const x) = false
   is_rest_layer (o.Guard x) = false
   is_rest_layer (o.Ident x) = false
@@ -97,4 +102,4 @@ module _ {X : Type 0} where
 
   -- whether it is `..`
   abbrev pub is_rest : Pat X → Bool
-  is_rest x = is_rest_layer (out-Pat X x)
+  is_rest x = is_rest_layer (out-PatOf (Attr X) X x)

@@ -14,11 +14,9 @@ use Rattle.syn_mid.specs.Supplied.{Place, Guard}
 use Rattle.syn_mid.specs.declared.attr.AttributeOf.{AttributeOf}
 use Rattle.syn_mid.specs.declared.attr.Meta.{Meta}
 use Rattle.syn_mid.specs.declared.supplied.Expr.{Expr}
-use Rattle.syn_mid.specs.declared.supplied.ExprLitOf.{ExprLitOf}
 use Rattle.syn_mid.specs.declared.pat.FieldPatOf.{FieldPatOf}
-use Rattle.syn_mid.specs.declared.pat.Pat.{Pat}
-use Rattle.syn_mid.specs.declared.pat.Pat.TheOpen as o
-use Rattle.syn_mid.specs.declared.pat.Pat.TheFolds.{fold-Pat}
+use Rattle.syn_mid.specs.declared.pat.PatOf.TheOpen as o
+use Rattle.syn_mid.specs.declared.pat.PatOf.TheFolds.{fold-PatOf}
 use Rattle.syn_mid.specs.declared.pat.PatGuardOf.{PatGuardOf}
 use Rattle.syn_mid.specs.declared.pat.PatIdentOf.{PatIdentOf}
 use Rattle.syn_mid.specs.declared.pat.PatOrOf.{PatOrOf}
@@ -33,7 +31,7 @@ use Rattle.syn_mid.specs.declared.pat.PatTypeOf.{PatTypeOf}
 use Rattle.syn_mid.specs.declared.pat.PatWild.{PatWild}
 use Rattle.syn_mid.specs.attr.Printing.{literal, expr_const, expr_macro, expr_path, range, outer, at_place}
 use Rattle.syn_mid.specs.generics.Printing.{optional}
-use Rattle.syn_mid.specs.pat.Pats.{is_rest, is_rest_layer}
+use Rattle.syn_mid.specs.pat.Pats.{Pat, Attr, is_rest, is_rest_layer}
 use Rattle.syn_mid.specs.path.Printing.{path, expr_style}
 use Rattle.syn_mid.specs.ty.Printing as ty
 use Rattle.syn_mid.specs.ty.Printing.{comma}
@@ -81,11 +79,11 @@ module _ {X : Type 0} (prints : Place → X → Print) where
   rest_comma None v = []
   rest_comma (Some x) v = last_comma v.0 v.1
 
-  abbrev pub struct_rest : {P : Type 0} → PatStructOf P X → Print
+  abbrev pub struct_rest : {P : Type 0} → PatStructOf P (Attr X) X → Print
   struct_rest x = rest_comma x.rest x.fields ++ optional_rest x.rest
 
   -- a binding before its `@`
-  abbrev pub name : {P : Type 0} → PatIdentOf P X → Print
+  abbrev pub name : {P : Type 0} → PatIdentOf P (Attr X) → Print
   name x = attrs x.attrs ++ (optional_word x.by_ref ++ (optional_word x.mutability ++ p.ident x.ident))
 
   -- the member of a field that has a colon
@@ -94,56 +92,56 @@ module _ {X : Type 0} (prints : Place → X → Print) where
   colon_member m (Some c) = members.print m ++ p.mark c
 
   -- a field before its pattern
-  abbrev pub member : {P : Type 0} → FieldPatOf P X → Print
+  abbrev pub member : {P : Type 0} → FieldPatOf P (Attr X) → Print
   member x = attrs x.attrs ++ colon_member x.member x.colon_token
 
   -- ---- by the print of the patterns within
 
   module _ {P : Type 0} (print : P → Print) where
-    abbrev pub guarded_by : PatGuardOf P X → Print
+    abbrev pub guarded_by : PatGuardOf P (Attr X) X → Print
     guarded_by x = attrs x.attrs ++ (print x.pat ++ (p.word x.if_token ++ guard x.guard))
 
     abbrev pub subpattern_by : Option (Mark 6 1 × P) → Print
     subpattern_by None = []
     subpattern_by (Some s) = p.mark s.0 ++ print s.1
 
-    abbrev pub binding_by : PatIdentOf P X → Print
+    abbrev pub binding_by : PatIdentOf P (Attr X) → Print
     binding_by x = name x ++ subpattern_by x.subpat
 
     -- each pattern with its mark
     abbrev pub list_by : {n : ℕ} → Many P (Mark n 1) → Print
     list_by v = joined print p.mark v.0 v.1
 
-    abbrev pub alternatives_by : PatOrOf P X → Print
+    abbrev pub alternatives_by : PatOrOf P (Attr X) → Print
     alternatives_by x = attrs x.attrs ++ (optional x.leading_vert ++ list_by x.cases)
 
-    abbrev pub paren_by : PatParenOf P X → Print
+    abbrev pub paren_by : PatParenOf P (Attr X) → Print
     paren_by x = attrs x.attrs ++ p.group Parenthesis (stream_of_trees (print x.pat)) x.paren_token.span
 
-    abbrev pub reference_by : PatReferenceOf P X → Print
+    abbrev pub reference_by : PatReferenceOf P (Attr X) → Print
     reference_by x = attrs x.attrs ++ (p.mark x.and_token ++ (optional_word x.mutability ++ print x.pat))
 
-    abbrev pub slice_by : PatSliceOf P X → Print
+    abbrev pub slice_by : PatSliceOf P (Attr X) → Print
     slice_by x = attrs x.attrs ++ p.group Bracket (stream_of_trees (list_by x.elems)) x.bracket_token.span
 
-    abbrev pub field_by : FieldPatOf P X → Print
+    abbrev pub field_by : FieldPatOf P (Attr X) → Print
     field_by x = member x ++ print x.pat
 
     -- each field with its comma
-    abbrev pub fields_by : Many (FieldPatOf P X) Comma → Print
+    abbrev pub fields_by : Many (FieldPatOf P (Attr X)) Comma → Print
     fields_by v = joined field_by p.mark v.0 v.1
 
-    abbrev pub struct_by : PatStructOf P X → Print
+    abbrev pub struct_by : PatStructOf P (Attr X) X → Print
     struct_by x = attrs x.attrs ++ (path expr_style x.path ++ p.group Brace (stream_of_trees (fields_by x.fields ++ struct_rest x)) x.brace_token.span)
 
     -- it is given which patterns are `..`
-    abbrev pub tuple_by : (P → Bool) → PatTupleOf P X → Print
+    abbrev pub tuple_by : (P → Bool) → PatTupleOf P (Attr X) → Print
     tuple_by rest x = attrs x.attrs ++ p.group Parenthesis (stream_of_trees (list_by x.elems ++ tuple_comma rest x.elems.0 x.elems.1)) x.paren_token.span
 
-    abbrev pub tuple_struct_by : PatTupleStructOf P X → Print
+    abbrev pub tuple_struct_by : PatTupleStructOf P (Attr X) X → Print
     tuple_struct_by x = attrs x.attrs ++ (path expr_style x.path ++ p.group Parenthesis (stream_of_trees (list_by x.elems)) x.paren_token.span)
 
-    abbrev pub typed_by : PatTypeOf P X → Print
+    abbrev pub typed_by : PatTypeOf P (Attr X) X → Print
     typed_by x = attrs x.attrs ++ (print x.pat ++ (p.mark x.colon_token ++ ty.ty prints x.ty))
 
   -- ---- trees
@@ -158,7 +156,7 @@ module _ {X : Type 0} (prints : Place → X → Print) where
   abbrev pub rest_of : Printed → Bool
   rest_of z = z.1
 
-  abbrev pub pat_layer : o.Pat-F X Printed → Print
+  abbrev pub pat_layer : o.PatOf-F (Attr X) X Printed → Print
   pat_layer (o.Const x) = expr_const prints x
   pat_layer (o.Guard x) = guarded_by print_of x
   pat_layer (o.Ident x) = binding_by print_of x
@@ -178,50 +176,50 @@ module _ {X : Type 0} (prints : Place → X → Print) where
   pat_layer (o.Verbatim x) = trees x
   pat_layer (o.Wild x) = wild x
 
-  abbrev pub pat_step : o.Pat-F X Printed → Printed
+  abbrev pub pat_step : o.PatOf-F (Attr X) X Printed → Printed
   pat_step x = (pat_layer x, is_rest_layer x)
 
   unfoldable pub printed : Pat X → Printed
-  printed = fold-Pat X Printed pat_step
+  printed = fold-PatOf (Attr X) X Printed pat_step
 
   unfoldable pub pat : Pat X → Print
   pat x = (printed x).0
 
-  abbrev pub guarded : PatGuardOf (Pat X) X → Print
+  abbrev pub guarded : PatGuardOf (Pat X) (Attr X) X → Print
   guarded = guarded_by pat
 
-  abbrev pub binding : PatIdentOf (Pat X) X → Print
+  abbrev pub binding : PatIdentOf (Pat X) (Attr X) → Print
   binding = binding_by pat
 
   abbrev pub list : {n : ℕ} → Many (Pat X) (Mark n 1) → Print
   list = list_by pat
 
-  abbrev pub alternatives : PatOrOf (Pat X) X → Print
+  abbrev pub alternatives : PatOrOf (Pat X) (Attr X) → Print
   alternatives = alternatives_by pat
 
-  abbrev pub paren : PatParenOf (Pat X) X → Print
+  abbrev pub paren : PatParenOf (Pat X) (Attr X) → Print
   paren = paren_by pat
 
-  abbrev pub reference : PatReferenceOf (Pat X) X → Print
+  abbrev pub reference : PatReferenceOf (Pat X) (Attr X) → Print
   reference = reference_by pat
 
-  abbrev pub slice : PatSliceOf (Pat X) X → Print
+  abbrev pub slice : PatSliceOf (Pat X) (Attr X) → Print
   slice = slice_by pat
 
-  abbrev pub field : FieldPatOf (Pat X) X → Print
+  abbrev pub field : FieldPatOf (Pat X) (Attr X) → Print
   field = field_by pat
 
-  abbrev pub fields : Many (FieldPatOf (Pat X) X) Comma → Print
+  abbrev pub fields : Many (FieldPatOf (Pat X) (Attr X)) Comma → Print
   fields = fields_by pat
 
-  abbrev pub fielded : PatStructOf (Pat X) X → Print
+  abbrev pub fielded : PatStructOf (Pat X) (Attr X) X → Print
   fielded = struct_by pat
 
-  abbrev pub tuple : PatTupleOf (Pat X) X → Print
+  abbrev pub tuple : PatTupleOf (Pat X) (Attr X) → Print
   tuple = tuple_by pat is_rest
 
-  abbrev pub tuple_struct : PatTupleStructOf (Pat X) X → Print
+  abbrev pub tuple_struct : PatTupleStructOf (Pat X) (Attr X) X → Print
   tuple_struct = tuple_struct_by pat
 
-  abbrev pub typed : PatTypeOf (Pat X) X → Print
+  abbrev pub typed : PatTypeOf (Pat X) (Attr X) X → Print
   typed = typed_by pat

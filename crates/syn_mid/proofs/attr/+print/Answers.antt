@@ -1,9 +1,10 @@
-use Rattle.std.proofs.Common.{◌++◌, ◌∙◌, ap}
+use Rattle.std.proofs.Common.{rules, ◌≡◌, true, false, ◌++◌, ◌∙◌, ap}
 use Rattle.std.proofs.lemmas.Result.{on_ok_weaker, on_err_weaker}
 use Rattle.token_core.specs.Trees.{trees}
-use Rattle.token_core.proofs.Puts.{extends_on}
-use Rattle.syn_mid.specs.attr.Printing.{value}
-use Rattle.syn_mid.proofs.attr_laws.Prints.{put_name_value, put_node, put_started, put_unstarted, prints_literal, prints_expr_path, prints_const, prints_macro, prints_block}
+use Rattle.token_core.proofs.Puts.{extends_append, extends_on}
+use Rattle.syn_mid.specs.attr.Printing.{is_outer, if_outer, outer_by, meta, value}
+use Rattle.syn_mid.proofs.attr_laws.Prints.{put_attribute, put_outer, pass_inner, put_name_value, put_node, put_started, put_unstarted, prints_literal, prints_expr_path, prints_const, prints_macro, prints_block}
+use Rattle.syn_mid.proofs.attr.+print.Goals.{print_outer-then-is_outer+in_ok-print_meta+in_ok-print_around, print_outer-else-is_outer}
 use Rattle.syn_mid.proofs.attr.+print.Goals as goal
 
 pub print_name_value-returns-clause-ok : goal.print_name_value-returns-clause-ok
@@ -53,3 +54,24 @@ print_range-returns-in_ok-print_value-in-Some-clause-ok g t c =
 pub print_range-returns-in-None-clause-ok : goal.print_range-returns-in-None-clause-ok
 print_range-returns-in-None-clause-ok g t c =
     on_ok_weaker c.print_range_end-in-None.result (λ h. put_unstarted g.X.Subtree.prints c.args.expr.now _ _ _ c.in-None.is c.in_ok-print_outer.ensures.ok h) c.print_range_end-in-None.ensures.ok
+
+pub print_outer-loop-attr-preserved : goal.print_outer-loop-attr-preserved
+print_outer-loop-attr-preserved g t c =
+    let px = g.X.Subtree.prints in
+    let x = c.attr-item.result in
+    let old = trees c.args.out.now in
+    let mid = trees c.loop-attr.out in
+    let all = c.as_slice-attr-items.result.now in
+    let put : trees c.if-is_outer.out ≡ mid ++ if_outer (meta px) x = elim c.if-is_outer.branch [
+      | print_outer-then-is_outer+in_ok-print_meta+in_ok-print_around w ↦
+          (let b : is_outer x.style ≡ true = search rules in
+          let content : trees w.print_meta.new.out ≡ meta px x.meta = search rules in
+          ap trees w.out-is ∙ put_outer (meta px) x w.print_meta.new.out mid _ b content w.in_ok-print_around.ensures.ok)
+      | print_outer-else-is_outer w ↦
+          (let b : is_outer x.style ≡ false = search rules in
+          ap trees w.out-is ∙ pass_inner (meta px) x mid b)
+    ] in
+    record {
+      told = put_attribute (meta px) all c.loop-attr.attr-index x old mid _ (outer_by (meta px) all) c.loop-attr-test.true c.attr-item.is c.loop-attr.invariant.told put;
+      kept = rw put (extends_append old mid _ c.loop-attr.invariant.kept);
+    }

@@ -1,5 +1,4 @@
-use Prim.Native.Nat.{max}
-use Rattle.std.proofs.Common.{rules, append_assoc, ◌≡◌, ℕ, ◌++◌, drop, length, Some, option_map, sym, ap, ◌∙◌, arith}
+use Rattle.std.proofs.Common.{rules, append_assoc, ◌≡◌, ◌++◌, drop, length, Some, option_map, sym, ap, ◌∙◌, arith}
 use Rattle.std.proofs.lemmas.List.{take-append-drop}
 use Rattle.std.proofs.lemmas.Result.{on_ok_weaker, on_err_weaker}
 use Rattle.token_core.specs.Joined.{values_of, marks_of}
@@ -8,12 +7,9 @@ use Rattle.token_core.specs.Prints as p
 use Rattle.token_core.specs.Prints.{Extends}
 use Rattle.token_core.specs.Trees.{trees}
 use Rattle.token_core.proofs.Puts.{extends_append, extends_on}
-use Rattle.syn_mid.specs.declared.pat.FieldPatOf.{FieldPatOf}
-use Rattle.syn_mid.specs.declared.pat.Pat.{Pat}
 use Rattle.syn_mid.specs.pat.Printing.{pat, member, field}
-use Rattle.syn_mid.proofs.pat.Pat.TheLaws.{the_size}
+use Rattle.syn_mid.proofs.pat_laws.Height.{height, sub_by, field_by, height-Guard, height-Ident, height-Or, height-Paren, height-Reference, height-Slice, height-Struct, height-Tuple, height-TupleStruct, height-Type}
 use Rattle.syn_mid.proofs.ty_laws.Parts.{in_list, last_in_list, put_last, put_next}
-use Rattle.syn_mid.proofs.pat.+print.Given.{Over}
 use Rattle.syn_mid.proofs.pat.+print.Goals as goal
 
 pub print_guarded-returns-clause-err : goal.print_guarded-returns-clause-err
@@ -42,23 +38,17 @@ print_binding-returns-in_ok-to_tokens-in-Some-clause-err g t c =
     on_err_weaker c.print_pat.result
     (λ h. extends_on _ _ _ _ c.in_ok-print_name.ensures.ok (extends_on _ _ _ _ c.in_ok-to_tokens-in-Some.ensures.ok h)) c.print_pat.ensures.err
 
--- what a field weighs, by its parts
-abbrev field_size : (g : Over) → FieldPatOf (Pat g.row.X.Denot) g.row.X.Denot → ℕ
-field_size g x = max 0 (max 0 (max 0 (max (the_size g.row.X g.X.laws x.pat) 0)))
-
 -- ---- print_slice_elements
 
 pub print_slice_elements-print_pat-requires : goal.print_slice_elements-print_pat-requires
 print_slice_elements-print_pat-requires g t c κs within =
-    let size = the_size g.row.X g.X.laws in
-    let h = in_list size c.args.pat.now.elems c.element_parts.result.0.now (option_map (λ x. x.now) c.element_parts.result.1) c.loop-pair.pair-index c.pair-item.result c.element_parts.ensures c.loop-pair-test.true c.pair-item.is in
+    let h = in_list height c.args.pat.now.elems c.element_parts.result.0.now (option_map (λ x. x.now) c.element_parts.result.1) c.loop-pair.pair-index c.pair-item.result c.element_parts.ensures c.loop-pair-test.true c.pair-item.is in
     (omega (arith, c.decreases, h), within)
 
 pub print_slice_elements-print_pat-requires-in-Some : goal.print_slice_elements-print_pat-requires-in-Some
 print_slice_elements-print_pat-requires-in-Some g t c κs within =
-    let size = the_size g.row.X g.X.laws in
     let k : option_map (λ x. x.now) c.element_parts.result.1 ≡ Some c.in-Some.element.now = ap (option_map (λ x. x.now)) c.in-Some.is in
-    let h = last_in_list size c.args.pat.now.elems c.element_parts.result.0.now (option_map (λ x. x.now) c.element_parts.result.1) c.in-Some.element.now c.element_parts.ensures k in
+    let h = last_in_list height c.args.pat.now.elems c.element_parts.result.0.now (option_map (λ x. x.now) c.element_parts.result.1) c.in-Some.element.now c.element_parts.ensures k in
     (omega (arith, c.decreases, h), within)
 
 pub print_slice_elements-returns-in-Some-clause-ok : goal.print_slice_elements-returns-in-Some-clause-ok
@@ -79,15 +69,13 @@ print_slice_elements-returns-in-Some-clause-err g t c =
 
 pub print_tuple_elements-print_pat-requires : goal.print_tuple_elements-print_pat-requires
 print_tuple_elements-print_pat-requires g t c κs within =
-    let size = the_size g.row.X g.X.laws in
-    let h = in_list size c.args.pat.now.elems c.element_parts.result.0.now (option_map (λ x. x.now) c.element_parts.result.1) c.loop-pair.pair-index c.pair-item.result c.element_parts.ensures c.loop-pair-test.true c.pair-item.is in
+    let h = in_list height c.args.pat.now.elems c.element_parts.result.0.now (option_map (λ x. x.now) c.element_parts.result.1) c.loop-pair.pair-index c.pair-item.result c.element_parts.ensures c.loop-pair-test.true c.pair-item.is in
     (omega (arith, c.decreases, h), within)
 
 pub print_tuple_elements-print_pat-requires-in-Some : goal.print_tuple_elements-print_pat-requires-in-Some
 print_tuple_elements-print_pat-requires-in-Some g t c κs within =
-    let size = the_size g.row.X g.X.laws in
     let k : option_map (λ x. x.now) c.element_parts.result.1 ≡ Some c.in-Some.element.now = ap (option_map (λ x. x.now)) c.in-Some.is in
-    let h = last_in_list size c.args.pat.now.elems c.element_parts.result.0.now (option_map (λ x. x.now) c.element_parts.result.1) c.in-Some.element.now c.element_parts.ensures k in
+    let h = last_in_list height c.args.pat.now.elems c.element_parts.result.0.now (option_map (λ x. x.now) c.element_parts.result.1) c.in-Some.element.now c.element_parts.ensures k in
     (omega (arith, c.decreases, h), within)
 
 pub print_tuple_elements-returns-in-Some-clause-ok : goal.print_tuple_elements-returns-in-Some-clause-ok
@@ -108,15 +96,13 @@ print_tuple_elements-returns-in-Some-clause-err g t c =
 
 pub print_tuple_struct_elements-print_pat-requires : goal.print_tuple_struct_elements-print_pat-requires
 print_tuple_struct_elements-print_pat-requires g t c κs within =
-    let size = the_size g.row.X g.X.laws in
-    let h = in_list size c.args.pat.now.elems c.element_parts.result.0.now (option_map (λ x. x.now) c.element_parts.result.1) c.loop-pair.pair-index c.pair-item.result c.element_parts.ensures c.loop-pair-test.true c.pair-item.is in
+    let h = in_list height c.args.pat.now.elems c.element_parts.result.0.now (option_map (λ x. x.now) c.element_parts.result.1) c.loop-pair.pair-index c.pair-item.result c.element_parts.ensures c.loop-pair-test.true c.pair-item.is in
     (omega (arith, c.decreases, h), within)
 
 pub print_tuple_struct_elements-print_pat-requires-in-Some : goal.print_tuple_struct_elements-print_pat-requires-in-Some
 print_tuple_struct_elements-print_pat-requires-in-Some g t c κs within =
-    let size = the_size g.row.X g.X.laws in
     let k : option_map (λ x. x.now) c.element_parts.result.1 ≡ Some c.in-Some.element.now = ap (option_map (λ x. x.now)) c.in-Some.is in
-    let h = last_in_list size c.args.pat.now.elems c.element_parts.result.0.now (option_map (λ x. x.now) c.element_parts.result.1) c.in-Some.element.now c.element_parts.ensures k in
+    let h = last_in_list height c.args.pat.now.elems c.element_parts.result.0.now (option_map (λ x. x.now) c.element_parts.result.1) c.in-Some.element.now c.element_parts.ensures k in
     (omega (arith, c.decreases, h), within)
 
 pub print_tuple_struct_elements-returns-in-Some-clause-ok : goal.print_tuple_struct_elements-returns-in-Some-clause-ok
@@ -137,15 +123,13 @@ print_tuple_struct_elements-returns-in-Some-clause-err g t c =
 
 pub print_cases-print_pat-requires : goal.print_cases-print_pat-requires
 print_cases-print_pat-requires g t c κs within =
-    let size = the_size g.row.X g.X.laws in
-    let h = in_list size c.args.pat.now.cases c.case_parts.result.0.now (option_map (λ x. x.now) c.case_parts.result.1) c.loop-pair.pair-index c.pair-item.result c.case_parts.ensures c.loop-pair-test.true c.pair-item.is in
+    let h = in_list height c.args.pat.now.cases c.case_parts.result.0.now (option_map (λ x. x.now) c.case_parts.result.1) c.loop-pair.pair-index c.pair-item.result c.case_parts.ensures c.loop-pair-test.true c.pair-item.is in
     (omega (arith, c.decreases, h), within)
 
 pub print_cases-print_pat-requires-in-Some : goal.print_cases-print_pat-requires-in-Some
 print_cases-print_pat-requires-in-Some g t c κs within =
-    let size = the_size g.row.X g.X.laws in
     let k : option_map (λ x. x.now) c.case_parts.result.1 ≡ Some c.in-Some.case.now = ap (option_map (λ x. x.now)) c.in-Some.is in
-    let h = last_in_list size c.args.pat.now.cases c.case_parts.result.0.now (option_map (λ x. x.now) c.case_parts.result.1) c.in-Some.case.now c.case_parts.ensures k in
+    let h = last_in_list height c.args.pat.now.cases c.case_parts.result.0.now (option_map (λ x. x.now) c.case_parts.result.1) c.in-Some.case.now c.case_parts.ensures k in
     (omega (arith, c.decreases, h), within)
 
 pub print_cases-returns-in-Some-clause-ok : goal.print_cases-returns-in-Some-clause-ok
@@ -166,15 +150,15 @@ print_cases-returns-in-Some-clause-err g t c =
 
 pub print_fields-print_pat-requires : goal.print_fields-print_pat-requires
 print_fields-print_pat-requires g t c κs within =
-    let h = in_list (field_size g) c.args.pat.now.fields c.field_parts.result.0.now (option_map (λ x. x.now) c.field_parts.result.1) c.loop-pair.pair-index c.pair-item.result c.field_parts.ensures c.loop-pair-test.true c.pair-item.is in
-    let e = ap (the_size g.row.X g.X.laws) c.get.ensures in
+    let h = in_list (field_by height) c.args.pat.now.fields c.field_parts.result.0.now (option_map (λ x. x.now) c.field_parts.result.1) c.loop-pair.pair-index c.pair-item.result c.field_parts.ensures c.loop-pair-test.true c.pair-item.is in
+    let e = ap height c.get.ensures in
     (omega (arith, c.decreases, h, e), within)
 
 pub print_fields-print_pat-requires-in-Some : goal.print_fields-print_pat-requires-in-Some
 print_fields-print_pat-requires-in-Some g t c κs within =
     let k : option_map (λ x. x.now) c.field_parts.result.1 ≡ Some c.in-Some.field.now = ap (option_map (λ x. x.now)) c.in-Some.is in
-    let h = last_in_list (field_size g) c.args.pat.now.fields c.field_parts.result.0.now (option_map (λ x. x.now) c.field_parts.result.1) c.in-Some.field.now c.field_parts.ensures k in
-    let e = ap (the_size g.row.X g.X.laws) c.get-in-Some.ensures in
+    let h = last_in_list (field_by height) c.args.pat.now.fields c.field_parts.result.0.now (option_map (λ x. x.now) c.field_parts.result.1) c.in-Some.field.now c.field_parts.ensures k in
+    let e = ap height c.get-in-Some.ensures in
     (omega (arith, c.decreases, h, e), within)
 
 pub print_fields-loop-pair-preserved : goal.print_fields-loop-pair-preserved
@@ -211,3 +195,96 @@ print_fields-returns-in_ok-print_member-in-Some-clause-err g t c =
     on_err_weaker c.print_pat-in-Some.result
     (λ h. extends_on old (drop (length old) mid) mid _ (sym (take-append-drop (length old) mid) ∙ ap (λ z. z ++ drop (length old) mid) c.loop-pair.invariant.kept)
     (extends_on _ _ _ _ c.in_ok-print_member-in-Some.ensures.ok h)) c.print_pat-in-Some.ensures.err
+
+-- ---- each call is for a smaller pattern, or for a part of the same
+
+pub print_pat-print_guarded-requires : goal.print_pat-print_guarded-requires
+print_pat-print_guarded-requires g t c κs within =
+    let e = ap height c.in-Guard.is ∙ height-Guard c.in-Guard.pat in
+    (omega (arith, c.decreases, e), within)
+
+pub print_pat-print_binding-requires : goal.print_pat-print_binding-requires
+print_pat-print_binding-requires g t c κs within =
+    let e = ap height c.in-Ident.is ∙ height-Ident c.in-Ident.pat in
+    (omega (arith, c.decreases, e), within)
+
+pub print_pat-print_alternatives-requires : goal.print_pat-print_alternatives-requires
+print_pat-print_alternatives-requires g t c κs within =
+    let e = ap height c.in-Or.is ∙ height-Or c.in-Or.pat in
+    (omega (arith, c.decreases, e), within)
+
+pub print_pat-print_paren-requires : goal.print_pat-print_paren-requires
+print_pat-print_paren-requires g t c κs within =
+    let e = ap height c.in-Paren.is ∙ height-Paren c.in-Paren.pat in
+    (omega (arith, c.decreases, e), within)
+
+pub print_pat-print_reference-requires : goal.print_pat-print_reference-requires
+print_pat-print_reference-requires g t c κs within =
+    let e = ap height c.in-Reference.is ∙ height-Reference c.in-Reference.pat in
+    (omega (arith, c.decreases, e), within)
+
+pub print_pat-print_slice-requires : goal.print_pat-print_slice-requires
+print_pat-print_slice-requires g t c κs within =
+    let e = ap height c.in-Slice.is ∙ height-Slice c.in-Slice.pat in
+    (omega (arith, c.decreases, e), within)
+
+pub print_pat-print_struct-requires : goal.print_pat-print_struct-requires
+print_pat-print_struct-requires g t c κs within =
+    let e = ap height c.in-Struct.is ∙ height-Struct c.in-Struct.pat in
+    (omega (arith, c.decreases, e), within)
+
+pub print_pat-print_tuple-requires : goal.print_pat-print_tuple-requires
+print_pat-print_tuple-requires g t c κs within =
+    let e = ap height c.in-Tuple.is ∙ height-Tuple c.in-Tuple.pat in
+    (omega (arith, c.decreases, e), within)
+
+pub print_pat-print_tuple_struct-requires : goal.print_pat-print_tuple_struct-requires
+print_pat-print_tuple_struct-requires g t c κs within =
+    let e = ap height c.in-TupleStruct.is ∙ height-TupleStruct c.in-TupleStruct.pat in
+    (omega (arith, c.decreases, e), within)
+
+pub print_pat-print_typed-requires : goal.print_pat-print_typed-requires
+print_pat-print_typed-requires g t c κs within =
+    let e = ap height c.in-Type.is ∙ height-Type c.in-Type.pat in
+    (omega (arith, c.decreases, e), within)
+
+pub print_guarded-print_pat-requires : goal.print_guarded-print_pat-requires
+print_guarded-print_pat-requires g t c κs within =
+    let e = ap height c.get.ensures in
+    (omega (arith, c.decreases, e), within)
+
+pub print_paren-print_pat-requires : goal.print_paren-print_pat-requires
+print_paren-print_pat-requires g t c κs within =
+    let e = ap height c.get.ensures in
+    (omega (arith, c.decreases, e), within)
+
+pub print_reference-print_pat-requires : goal.print_reference-print_pat-requires
+print_reference-print_pat-requires g t c κs within =
+    let e = ap height c.get.ensures in
+    (omega (arith, c.decreases, e), within)
+
+pub print_typed-print_pat-requires : goal.print_typed-print_pat-requires
+print_typed-print_pat-requires g t c κs within =
+    let e = ap height c.get.ensures in
+    (omega (arith, c.decreases, e), within)
+
+pub print_binding-print_pat-requires : goal.print_binding-print_pat-requires
+print_binding-print_pat-requires g t c κs within =
+    let e = ap (sub_by height) c.in-Some.is in
+    let k = ap height c.get.ensures in
+    (omega (arith, c.decreases, e, k), within)
+
+pub print_alternatives-print_cases-requires : goal.print_alternatives-print_cases-requires
+print_alternatives-print_cases-requires g t c κs within = (omega (arith, c.decreases), within)
+
+pub print_slice-print_slice_elements-requires : goal.print_slice-print_slice_elements-requires
+print_slice-print_slice_elements-requires g t c κs within = (omega (arith, c.decreases), within)
+
+pub print_struct-print_fields-requires : goal.print_struct-print_fields-requires
+print_struct-print_fields-requires g t c κs within = (omega (arith, c.decreases), within)
+
+pub print_tuple-print_tuple_elements-requires : goal.print_tuple-print_tuple_elements-requires
+print_tuple-print_tuple_elements-requires g t c κs within = (omega (arith, c.decreases), within)
+
+pub print_tuple_struct-print_tuple_struct_elements-requires : goal.print_tuple_struct-print_tuple_struct_elements-requires
+print_tuple_struct-print_tuple_struct_elements-requires g t c κs within = (omega (arith, c.decreases), within)
