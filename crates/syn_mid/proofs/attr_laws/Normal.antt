@@ -14,10 +14,9 @@ use Rattle.syn_mid.specs.declared.attr.Meta.{Meta, roll-Meta, map-Meta}
 use Rattle.syn_mid.specs.declared.attr.Meta.TheVariants as m
 use Rattle.syn_mid.specs.declared.attr.Meta.TheOpen as o
 use Rattle.syn_mid.specs.declared.attr.Meta.TheFolds.{ind-Meta, ind-Expr, ind-MetaNameValue, ind-ExprRange}
-use Rattle.syn_mid.specs.declared.attr.MetaNameValue.{MetaNameValue, roll-MetaNameValue, map-MetaNameValue, out-roll-MetaNameValue}
+use Rattle.syn_mid.specs.declared.attr.MetaNameValue.{MetaNameValue, roll-MetaNameValue, map-MetaNameValue}
 use Rattle.syn_mid.specs.declared.path.PathStyle.TheVariants as style
 use Rattle.syn_mid.specs.declared.path.PathStyle.TheVariants.{Mod}
-use Rattle.syn_mid.specs.declared.path.Path.{Path}
 use Rattle.syn_mid.specs.declared.supplied.Expr.{Expr, out-Expr, roll-Expr, roll-out-Expr, map-Expr}
 use Rattle.syn_mid.specs.declared.supplied.Expr.TheVariants as e
 use Rattle.syn_mid.specs.declared.supplied.ExprBlockOf.{ExprBlockOf}
@@ -28,11 +27,11 @@ use Rattle.syn_mid.specs.declared.supplied.ExprPathOf.{ExprPathOf}
 use Rattle.syn_mid.specs.declared.supplied.ExprRange.{ExprRange, roll-ExprRange, map-ExprRange}
 use Rattle.syn_mid.specs.mac.Printing.{mac}
 use Rattle.syn_mid.specs.path.Printing.{path}
-use Rattle.syn_mid.specs.attr.Attrs.{Equals, Attribute, name_value_of, range_of, lit_of, expr_path_of, const_of, expr_macro_of, block_of, attribute_of}
+use Rattle.syn_mid.specs.attr.Attrs.{Attribute, name_value_of, range_of, lit_of, expr_path_of, const_of, expr_macro_of, block_of, attribute_of}
 use Rattle.syn_mid.specs.attr.Normal as normal
 use Rattle.syn_mid.specs.attr.Printing as printing
 use Rattle.syn_mid.specs.attr.Printing.{around, is_outer, end_by, body}
-use Rattle.syn_mid.proofs.attr_laws.Prints.{prints_path, prints_list, prints_name_value, prints_named, prints_other, prints_literal, prints_expr_path, prints_const, prints_macro, prints_range, prints_block, parts_mapped, place_other, place_literal, place_path, place_const, place_macro, place_range, place_block, normal-Lit, normal-Path, normal-Const, normal-Macro, normal-Range, normal-Block, normal_other, normal_fields, normal_range, normal_path, normal_list, normal_name_value, normal_place}
+use Rattle.syn_mid.proofs.attr_laws.Prints.{prints_name_value, prints_named, prints_other, prints_literal, prints_expr_path, prints_const, prints_macro, prints_range, prints_block, parts_mapped, place_other, place_literal, place_path, place_const, place_macro, place_range, place_block, normal-Lit, normal-Path, normal-Const, normal-Macro, normal-Range, normal-Block, normal_other, normal_fields, normal_range, normal_path, normal_list, normal_name_value, normal_place}
 
 module _ {X : Type 0} (nx : Place → X → X) (own : (w : Place) (x : X) → nx w (nx w x) ≡ nx w x) where
   abbrev OwnMeta : Meta X → Type 0

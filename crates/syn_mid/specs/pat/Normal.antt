@@ -2,8 +2,6 @@
 use Rattle.std.specs.Prelude.{Option, Some, None}
 use Rattle.token_core.specs.declared.mark.Mark.{Mark}
 use Rattle.syn_mid.specs.Supplied.{Place, Guard}
-use Rattle.syn_mid.specs.declared.attr.AttributeOf.{AttributeOf}
-use Rattle.syn_mid.specs.declared.attr.Meta.{Meta}
 use Rattle.syn_mid.specs.declared.pat.FieldPatOf.{FieldPatOf}
 use Rattle.syn_mid.specs.declared.pat.PatOf.TheFolds.{fold-PatOf}
 use Rattle.syn_mid.specs.declared.pat.PatOf.TheOpen as o

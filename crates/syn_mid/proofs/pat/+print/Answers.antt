@@ -1,5 +1,4 @@
-use Rattle.syn_mid.specs.pat.Pats.{Pat}
-use Rattle.std.proofs.Common.{rules, append_assoc, ◌≡◌, ℕ, ◌++◌, drop, length, Some, option_map, sym, ap, ◌∙◌, arith}
+use Rattle.std.proofs.Common.{rules, append_assoc, ◌≡◌, ◌++◌, drop, length, Some, option_map, sym, ap, ◌∙◌, arith}
 use Rattle.std.proofs.lemmas.List.{take-append-drop}
 use Rattle.std.proofs.lemmas.Result.{on_ok_weaker, on_err_weaker}
 use Rattle.token_core.specs.Joined.{values_of, marks_of}
