@@ -113,7 +113,7 @@ grammar PointerMutability = types.mutability
 
 -- what attributes print, one after the other
 abbrev pub attributes : List (Attribute Sample) → Print
-attributes = printing.attributes (prints-value.it Value)
+attributes = printing.attributes prints-value.it
 
 -- no tree of the grammar spells the tokens clearly
 abbrev pub NoTree : {A : Type 0} → Grammar A → Toks → Type 0
