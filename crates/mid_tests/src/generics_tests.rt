@@ -387,12 +387,20 @@ fn empty_clause(alloc: Global) -> Result<WhereClause<Nothing>, Error> {
     })
 }
 
+fn shown_clause(alloc: Global) -> Result<String, Error> {
+    printed(alloc, &clause(alloc)?)
+}
+
+fn shown_empty_clause(alloc: Global) -> Result<String, Error> {
+    printed(alloc, &empty_clause(alloc)?)
+}
+
 #[test]
 fn where_clauses_print(rt: HostRuntime) {
     let alloc = rt.alloc();
     let whole = "where 'a : , for < 'b > T : Clone";
-    says(&rt, shown(alloc, clause(alloc)), whole);
-    says(&rt, shown(alloc, empty_clause(alloc)), "");
+    says(&rt, shown_clause(alloc), whole);
+    says(&rt, shown_empty_clause(alloc), "");
 }
 
 /// `'a:` without a bound
@@ -451,8 +459,7 @@ fn generics(alloc: Global) -> Result<Generics<Nothing>, Error> {
 }
 
 /// The names of the type parameters, then of the const ones, then of the lifetimes.
-fn kinds(alloc: Global, generics: Result<Generics<Nothing>, Error>) -> Result<String, Error> {
-    let generics = generics?;
+fn kinds(alloc: Global, generics: &Generics<Nothing>) -> Result<String, Error> {
     let mut out = String::new(alloc);
     for param in generics.type_params() {
         write!(out, "{} ", param.ident.text())?;
@@ -466,11 +473,19 @@ fn kinds(alloc: Global, generics: Result<Generics<Nothing>, Error>) -> Result<St
     Ok(out)
 }
 
+fn kinds_of_three(alloc: Global) -> Result<String, Error> {
+    kinds(alloc, &generics(alloc)?)
+}
+
+fn kinds_of_none(alloc: Global) -> Result<String, Error> {
+    kinds(alloc, &Generics::default(alloc))
+}
+
 #[test]
 fn iterators_give_their_kind(rt: HostRuntime) {
     let alloc = rt.alloc();
-    says(&rt, kinds(alloc, generics(alloc)), "T N a ");
-    says(&rt, kinds(alloc, Ok(Generics::default(alloc))), "");
+    says(&rt, kinds_of_three(alloc), "T N a ");
+    says(&rt, kinds_of_none(alloc), "");
 }
 
 // ---- views
@@ -520,16 +535,20 @@ fn split_clause(alloc: Global, generics: &Generics<Nothing>) -> Result<String, E
     }
 }
 
+fn shown_whole(alloc: Global) -> Result<String, Error> {
+    printed(alloc, &whole(alloc)?)
+}
+
+fn shown_default(alloc: Global) -> Result<String, Error> {
+    printed(alloc, &Generics::<Nothing>::default(alloc))
+}
+
 #[test]
 fn generics_print_lifetimes_first(rt: HostRuntime) {
     let alloc = rt.alloc();
     let all = "< 'a , T : Clone = u8 , const N : usize = 1 >";
-    says(&rt, shown(alloc, whole(alloc)), all);
-    says(
-        &rt,
-        shown(alloc, Ok(Generics::<Nothing>::default(alloc))),
-        "",
-    );
+    says(&rt, shown_whole(alloc), all);
+    says(&rt, shown_default(alloc), "");
 }
 
 #[test]
