@@ -397,21 +397,17 @@ fn angled(alloc: Global) -> Result<Path<Nothing>, Error> {
     })
 }
 
-fn angled_struct(alloc: Global) -> Result<PatTupleStruct<Nothing>, Error> {
-    Ok(PatTupleStruct {
+fn angled_struct(alloc: Global) -> Result<Pattern, Error> {
+    Ok(Pat::from(PatTupleStruct {
         attrs: Items::new(alloc),
         path: angled(alloc)?,
         paren_token: Paren::default(),
         elems: Punctuated::new(alloc),
-    })
-}
-
-fn shown_angled(alloc: Global) -> Result<String, Error> {
-    printed(alloc, &angled_struct(alloc)?)
+    }))
 }
 
 #[test]
 fn paths_print_as_in_an_expression(rt: HostRuntime) {
     let alloc = rt.alloc();
-    says(&rt, shown_angled(alloc), "A :: < > ()");
+    says(&rt, shown(alloc, angled_struct(alloc)), "A :: < > ()");
 }
