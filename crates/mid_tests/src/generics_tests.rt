@@ -459,7 +459,7 @@ fn generics(alloc: Global) -> Result<Generics<Nothing>, Error> {
 }
 
 /// The names of the type parameters, then of the const ones, then of the lifetimes.
-fn kinds(alloc: Global, generics: &Generics<Nothing>) -> Result<String, Error> {
+fn kinds<X>(alloc: Global, generics: &Generics<X>) -> Result<String, Error> {
     let mut out = String::new(alloc);
     for param in generics.type_params() {
         write!(out, "{} ", param.ident.text())?;
@@ -478,7 +478,7 @@ fn kinds_of_three(alloc: Global) -> Result<String, Error> {
 }
 
 fn kinds_of_none(alloc: Global) -> Result<String, Error> {
-    kinds(alloc, &Generics::default(alloc))
+    kinds(alloc, &Generics::<Nothing>::default(alloc))
 }
 
 #[test]

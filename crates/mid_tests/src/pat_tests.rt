@@ -10,7 +10,7 @@ use std::marker::PhantomData;
 use syn_mid::{
     AngleBracketedGenericArguments, Attribute, FieldPat, ParseInner, ParseOuter, Pat, PatGuard,
     PatIdent, PatLit, PatOr, PatParen, PatReference, PatRest, PatSlice, PatStruct, PatTuple,
-    PatTupleStruct, PatType, PatWild, Path, PathArguments, PathSegment,
+    PatTupleStruct, PatType, PatWild, Path, PathArguments, PathSegment, Subtree,
 };
 use token_core::token::{
     And, At, Brace, Bracket, Colon, Comma, DotDot, Gt, If, Lt, Mut, Or, Paren, Ref, Underscore,
@@ -381,7 +381,7 @@ fn outer_attributes_print(rt: HostRuntime) {
 }
 
 /// `A<>`, its `::` left to the print
-fn angled(alloc: Global) -> Result<Path<Nothing>, Error> {
+fn angled<X: Drop>(alloc: Global) -> Result<Path<X>, Error> {
     let segment = PathSegment {
         ident: ident(alloc, "A")?,
         arguments: PathArguments::AngleBracketed(AngleBracketedGenericArguments {
@@ -397,7 +397,7 @@ fn angled(alloc: Global) -> Result<Path<Nothing>, Error> {
     })
 }
 
-fn angled_struct(alloc: Global) -> Result<PatTupleStruct<Nothing>, Error> {
+fn angled_struct<X: Drop>(alloc: Global) -> Result<PatTupleStruct<X>, Error> {
     Ok(PatTupleStruct {
         attrs: Items::new(alloc),
         path: angled(alloc)?,
@@ -406,12 +406,12 @@ fn angled_struct(alloc: Global) -> Result<PatTupleStruct<Nothing>, Error> {
     })
 }
 
-fn shown_angled(alloc: Global) -> Result<String, Error> {
-    printed(alloc, &angled_struct(alloc)?)
+fn shown_angled<X: Subtree>(alloc: Global) -> Result<String, Error> {
+    printed(alloc, &angled_struct::<X>(alloc)?)
 }
 
 #[test]
 fn paths_print_as_in_an_expression(rt: HostRuntime) {
     let alloc = rt.alloc();
-    says(&rt, shown_angled(alloc), "A :: < > ()");
+    says(&rt, shown_angled::<Nothing>(alloc), "A :: < > ()");
 }
