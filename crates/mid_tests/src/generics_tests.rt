@@ -1,8 +1,6 @@
-//! What parameters and captures made by hand print, which parameters the iterators give, and the where clause that is lent.
+//! What parameters and captures made by hand print, and the where clause that is lent.
 //!
 //! A test calls and does not branch, as docs/GATE.md says.
-
-ghost use Rattle.std.specs.Iterator.{IsFinite};
 
 use crate::nothing::Nothing;
 use std::alloc::Global;
@@ -444,79 +442,6 @@ fn where_clauses_are_lent(rt: HostRuntime) {
     let alloc = rt.alloc();
     says(&rt, shown_predicate(alloc), "'a :");
     says(&rt, lent_twice(alloc), "0 1");
-}
-
-// ---- iterators
-
-/// `<T, 'a, const N: usize>`
-fn generics(alloc: Global) -> Result<Generics<Nothing>, Error> {
-    let mut generics = Generics::default(alloc);
-    generics.params = three(
-        alloc,
-        Param::from(named(alloc, "T")?),
-        lifetime_param(alloc, "a")?,
-        Param::from(const_param(alloc, None)?),
-    )?;
-    Ok(generics)
-}
-
-// The loops are generic in the iterator: what is known of an iterator over trees by its type passes the prover's step limit.
-
-fn type_names<'a, I: Iterator<Item = &'a TypeParam<Nothing>>>(
-    alloc: Global,
-    params: I,
-) -> Result<String, Error>
-    requires { I.can_next params × IsFinite (I.remaining params) }
-{
-    let mut out = String::new(alloc);
-    for param in params {
-        write!(out, "{} ", param.ident.text())?;
-    }
-    Ok(out)
-}
-
-fn const_names<'a, I: Iterator<Item = &'a ConstParam<Nothing>>>(
-    alloc: Global,
-    params: I,
-) -> Result<String, Error>
-    requires { I.can_next params × IsFinite (I.remaining params) }
-{
-    let mut out = String::new(alloc);
-    for param in params {
-        write!(out, "{} ", param.ident.text())?;
-    }
-    Ok(out)
-}
-
-fn lifetime_names<'a, I: Iterator<Item = &'a LifetimeParam<Nothing>>>(
-    alloc: Global,
-    params: I,
-) -> Result<String, Error>
-    requires { I.can_next params × IsFinite (I.remaining params) }
-{
-    let mut out = String::new(alloc);
-    for param in params {
-        write!(out, "{} ", param.lifetime.ident.text())?;
-    }
-    Ok(out)
-}
-
-#[test]
-fn iterators_give_their_kind(rt: HostRuntime) {
-    let alloc = rt.alloc();
-    let generics = got(&rt, generics(alloc));
-    says(&rt, type_names(alloc, generics.type_params()), "T ");
-    says(&rt, const_names(alloc, generics.const_params()), "N ");
-    says(&rt, lifetime_names(alloc, generics.lifetimes()), "a ");
-}
-
-#[test]
-fn iterators_of_no_parameters_end(rt: HostRuntime) {
-    let alloc = rt.alloc();
-    let generics = Generics::<Nothing>::default(alloc);
-    says(&rt, type_names(alloc, generics.type_params()), "");
-    says(&rt, const_names(alloc, generics.const_params()), "");
-    says(&rt, lifetime_names(alloc, generics.lifetimes()), "");
 }
 
 // ---- views
