@@ -1,4 +1,4 @@
-//! What parameters and captures made by hand print, which parameters the iterators give, and the where clause that is lent.
+//! What parameters and captures made by hand print, and the where clause that is lent.
 //!
 //! A test calls and does not branch, as docs/GATE.md says.
 
@@ -400,12 +400,20 @@ fn empty_clause(alloc: Global) -> Result<WhereClause<Nothing>, Error> {
     })
 }
 
+fn shown_clause(alloc: Global) -> Result<String, Error> {
+    printed(alloc, &clause(alloc)?)
+}
+
+fn shown_empty_clause(alloc: Global) -> Result<String, Error> {
+    printed(alloc, &empty_clause(alloc)?)
+}
+
 #[test]
 fn where_clauses_print(rt: HostRuntime) {
     let alloc = rt.alloc();
     let whole = "where 'a : , for < 'b > T : Clone";
-    says(&rt, shown(alloc, clause(alloc)), whole);
-    says(&rt, shown(alloc, empty_clause(alloc)), "");
+    says(&rt, shown_clause(alloc), whole);
+    says(&rt, shown_empty_clause(alloc), "");
 }
 
 /// `'a:` without a bound
@@ -447,43 +455,6 @@ fn where_clauses_are_lent(rt: HostRuntime) {
     let alloc = rt.alloc();
     says(&rt, shown_predicate(alloc), "'a :");
     says(&rt, lent_twice(alloc), "0 1");
-}
-
-// ---- iterators
-
-/// `<T, 'a, const N: usize>`
-fn generics(alloc: Global) -> Result<Generics<Nothing>, Error> {
-    let mut generics = Generics::default(alloc);
-    generics.params = three(
-        alloc,
-        Param::from(named(alloc, "T")?),
-        lifetime_param(alloc, "a")?,
-        Param::from(const_param(alloc, None)?),
-    )?;
-    Ok(generics)
-}
-
-/// The names of the type parameters, then of the const ones, then of the lifetimes.
-fn kinds(alloc: Global, generics: Result<Generics<Nothing>, Error>) -> Result<String, Error> {
-    let generics = generics?;
-    let mut out = String::new(alloc);
-    for param in generics.type_params() {
-        write!(out, "{} ", param.ident.text())?;
-    }
-    for param in generics.const_params() {
-        write!(out, "{} ", param.ident.text())?;
-    }
-    for param in generics.lifetimes() {
-        write!(out, "{} ", param.lifetime.ident.text())?;
-    }
-    Ok(out)
-}
-
-#[test]
-fn iterators_give_their_kind(rt: HostRuntime) {
-    let alloc = rt.alloc();
-    says(&rt, kinds(alloc, generics(alloc)), "T N a ");
-    says(&rt, kinds(alloc, Ok(Generics::default(alloc))), "");
 }
 
 // ---- views
@@ -533,16 +504,20 @@ fn split_clause(alloc: Global, generics: &Generics<Nothing>) -> Result<String, E
     }
 }
 
+fn shown_whole(alloc: Global) -> Result<String, Error> {
+    printed(alloc, &whole(alloc)?)
+}
+
+fn shown_default(alloc: Global) -> Result<String, Error> {
+    printed(alloc, &Generics::<Nothing>::default(alloc))
+}
+
 #[test]
 fn generics_print_lifetimes_first(rt: HostRuntime) {
     let alloc = rt.alloc();
     let all = "< 'a , T : Clone = u8 , const N : usize = 1 >";
-    says(&rt, shown(alloc, whole(alloc)), all);
-    says(
-        &rt,
-        shown(alloc, Ok(Generics::<Nothing>::default(alloc))),
-        "",
-    );
+    says(&rt, shown_whole(alloc), all);
+    says(&rt, shown_default(alloc), "");
 }
 
 #[test]

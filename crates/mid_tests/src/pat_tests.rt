@@ -345,11 +345,19 @@ fn plain_rest(alloc: Global) -> Result<PatRest<Nothing>, Error> {
     rest_after(alloc, Ok(Items::new(alloc)))
 }
 
+fn shown_short(alloc: Global) -> Result<String, Error> {
+    printed(alloc, &short(alloc, "x")?)
+}
+
+fn shown_field(alloc: Global) -> Result<String, Error> {
+    printed(alloc, &whole_field(alloc)?)
+}
+
 #[test]
 fn structs_print(rt: HostRuntime) {
     let alloc = rt.alloc();
-    says(&rt, shown(alloc, short(alloc, "x")), "x");
-    says(&rt, shown(alloc, whole_field(alloc)), "0 : _");
+    says(&rt, shown_short(alloc), "x");
+    says(&rt, shown_field(alloc), "0 : _");
     let plain = without_rest(alloc, two_fields(alloc));
     says(&rt, shown(alloc, plain), "A { x , 0 : _ }");
     let whole = with_rest(alloc, two_fields(alloc), plain_rest(alloc));
@@ -389,13 +397,13 @@ fn angled(alloc: Global) -> Result<Path<Nothing>, Error> {
     })
 }
 
-fn angled_struct(alloc: Global) -> Result<PatTupleStruct<Nothing>, Error> {
-    Ok(PatTupleStruct {
+fn angled_struct(alloc: Global) -> Result<Pattern, Error> {
+    Ok(Pat::from(PatTupleStruct {
         attrs: Items::new(alloc),
         path: angled(alloc)?,
         paren_token: Paren::default(),
         elems: Punctuated::new(alloc),
-    })
+    }))
 }
 
 #[test]

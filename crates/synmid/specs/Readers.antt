@@ -18,7 +18,6 @@ use Rattle.syn_mid.specs.declared.attr.Meta as meta
 use Rattle.syn_mid.specs.declared.attr.MetaList as meta_list
 use Rattle.syn_mid.specs.declared.attr.MetaNameValue as name_value
 use Rattle.syn_mid.specs.declared.supplied.Expr as expr
-use Rattle.syn_mid.specs.declared.supplied.Place.TheVariants.{Value}
 use Rattle.syn_mid.specs.declared.ty.Type as ty
 use Rattle.syn_mid.specs.declared.ty.TypeArrayOf as array
 use Rattle.syn_mid.specs.declared.ty.TypeInfer as infer
