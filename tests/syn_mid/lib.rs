@@ -1,4 +1,4 @@
-//! The tests of `syn_mid`, apart from it, so that it is proved once and they beside its must-fail edits.
+//! The tests of `syn_mid`, which are run and not proved (docs/GATE.md): `checks/tests` runs them.
 #![tactic(auto)]
 
 #[cfg(test)]

@@ -1,6 +1,5 @@
 //! What qualified paths made by hand print, whole and with segments taken off their ends.
 //!
-//! A test calls and does not branch, as docs/GATE.md says.
 
 use crate::generics_tests::{both, holds, path, says, shown, ty};
 use crate::nothing::Nothing;

@@ -1,6 +1,4 @@
-//! What parameters and captures made by hand print, and the where clause that is lent.
-//!
-//! A test calls and does not branch, as docs/GATE.md says.
+//! What parameters and captures made by hand print, which parameters the iterators give, and the where clause that is lent.
 
 use crate::nothing::Nothing;
 use std::alloc::Global;
@@ -47,8 +45,7 @@ fn got<T: Drop>(rt: &impl Abort, made: Result<T, Error>) -> T {
     }
 }
 
-/// Both, or the first refusal. Where it refuses what was made is generic, and dropped by a call: trees that stand at a `?` have their drops
-/// written out there, which is what makes the proof of a test long.
+/// Both, or the first refusal.
 pub(crate) fn both<A: Drop, B: Drop>(
     first: Result<A, Error>,
     second: Result<B, Error>,
@@ -455,6 +452,89 @@ fn where_clauses_are_lent(rt: HostRuntime) {
     let alloc = rt.alloc();
     says(&rt, shown_predicate(alloc), "'a :");
     says(&rt, lent_twice(alloc), "0 1");
+}
+
+// ---- iterators
+
+/// `<T, 'a, const N: usize, U, 'b>`
+fn mixed(alloc: Global) -> Result<Generics<Nothing>, Error> {
+    let mut generics = Generics::default(alloc);
+    let mut params = three(
+        alloc,
+        Param::from(named(alloc, "T")?),
+        lifetime_param(alloc, "a")?,
+        Param::from(const_param(alloc, None)?),
+    )?;
+    params.push_punct(Comma::default())?;
+    params.push_value(alloc, Param::from(named(alloc, "U")?))?;
+    params.push_punct(Comma::default())?;
+    params.push_value(alloc, lifetime_param(alloc, "b")?)?;
+    generics.params = params;
+    Ok(generics)
+}
+
+fn type_names(alloc: Global, generics: &Generics<Nothing>) -> Result<String, Error> {
+    let mut out = String::new(alloc);
+    for param in generics.type_params() {
+        write!(out, "{} ", param.ident.text())?;
+    }
+    Ok(out)
+}
+
+fn const_names(alloc: Global, generics: &Generics<Nothing>) -> Result<String, Error> {
+    let mut out = String::new(alloc);
+    for param in generics.const_params() {
+        write!(out, "{} ", param.ident.text())?;
+    }
+    Ok(out)
+}
+
+fn lifetime_names(alloc: Global, generics: &Generics<Nothing>) -> Result<String, Error> {
+    let mut out = String::new(alloc);
+    for param in generics.lifetimes() {
+        write!(out, "{} ", param.lifetime.ident.text())?;
+    }
+    Ok(out)
+}
+
+/// Gives each parameter the name of its kind, through the iterators for writing.
+fn renamed(alloc: Global, generics: &mut Generics<Nothing>) -> Result<(), Error> {
+    for param in generics.type_params_mut() {
+        param.ident = ident(alloc, "Type")?;
+    }
+    for param in generics.const_params_mut() {
+        param.ident = ident(alloc, "CONST")?;
+    }
+    for param in generics.lifetimes_mut() {
+        param.lifetime.ident = ident(alloc, "life")?;
+    }
+    Ok(())
+}
+
+#[test]
+fn iterators_give_their_kind(rt: HostRuntime) {
+    let alloc = rt.alloc();
+    let generics = got(&rt, mixed(alloc));
+    says(&rt, type_names(alloc, &generics), "T U ");
+    says(&rt, const_names(alloc, &generics), "N ");
+    says(&rt, lifetime_names(alloc, &generics), "a b ");
+}
+
+#[test]
+fn iterators_of_no_parameters_end(rt: HostRuntime) {
+    let alloc = rt.alloc();
+    let generics = Generics::<Nothing>::default(alloc);
+    says(&rt, type_names(alloc, &generics), "");
+    says(&rt, const_names(alloc, &generics), "");
+    says(&rt, lifetime_names(alloc, &generics), "");
+}
+
+#[test]
+fn parameters_are_lent_for_writing(rt: HostRuntime) {
+    let alloc = rt.alloc();
+    let mut generics = got(&rt, mixed(alloc));
+    got(&rt, renamed(alloc, &mut generics));
+    says(&rt, printed(alloc, &generics), "< 'life , 'life , Type , const CONST : usize , Type , >");
 }
 
 // ---- views

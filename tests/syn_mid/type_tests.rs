@@ -1,6 +1,4 @@
 //! What forms of types made by hand print that no reader answers yet.
-//!
-//! A test calls and does not branch, as docs/GATE.md says.
 
 use crate::nothing::Nothing;
 use std::alloc::Global;

@@ -1,6 +1,4 @@
 //! Paths and macro calls read from lists made by hand, and what they print; what attributes made by hand are asked for.
-//!
-//! A test calls and does not branch, as docs/GATE.md says.
 
 use crate::nothing::Nothing;
 use std::alloc::{AllocError, Global};

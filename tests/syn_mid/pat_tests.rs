@@ -1,6 +1,4 @@
 //! What patterns made by hand print.
-//!
-//! A test calls and does not branch, as docs/GATE.md says.
 
 use crate::expr_tests::{call, closed, const_block, name_with_outer};
 use crate::generics_tests::{both, ident, literal, lone, pair, path, printed, says, shown, ty};

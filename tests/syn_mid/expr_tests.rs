@@ -1,6 +1,4 @@
 //! What expressions made by hand print, as they are and as a const argument.
-//!
-//! A test calls and does not branch, as docs/GATE.md says.
 
 use crate::generics_tests::{const_param, ident, literal, path, printed, says, shown};
 use crate::nothing::Nothing;

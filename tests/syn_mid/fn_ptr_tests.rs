@@ -1,6 +1,5 @@
 //! What pointers to functions made by hand print.
 //!
-//! A test calls and does not branch, as docs/GATE.md says.
 
 use crate::generics_tests::{binder, both, holds, ident, lone, pair, says, shown, ty};
 use crate::nothing::Nothing;

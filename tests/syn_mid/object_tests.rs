@@ -1,6 +1,5 @@
 //! What trait objects and `impl` types made by hand print.
 //!
-//! A test calls and does not branch, as docs/GATE.md says.
 
 use crate::generics_tests::{binder, both, lifetime_bound, lone, path, says, shown, two};
 use crate::nothing::Nothing;
