@@ -1,5 +1,4 @@
 //! What pointers to functions made by hand print.
-//!
 
 use crate::generics_tests::{binder, both, holds, ident, lone, pair, says, shown, ty};
 use crate::nothing::Nothing;

@@ -1,5 +1,4 @@
 //! What trait objects and `impl` types made by hand print.
-//!
 
 use crate::generics_tests::{binder, both, lifetime_bound, lone, path, says, shown, two};
 use crate::nothing::Nothing;

@@ -1,5 +1,4 @@
 //! What qualified paths made by hand print, whole and with segments taken off their ends.
-//!
 
 use crate::generics_tests::{both, holds, path, says, shown, ty};
 use crate::nothing::Nothing;
