@@ -82,7 +82,7 @@ module _ {A : Type 0} (h : A → A) where
   members_changed : (l : List A) (cs : List Comma) → members (map h l) cs ≡ map changed (members l cs)
   members_changed [] cs = refl
   members_changed (x ∷ []) [] = refl
-  members_changed (x ∷ y ∷ l) [] = ap (λ r. (h x, Some ty.comma) ∷ r) (members_changed (y ∷ l) [])
+  members_changed (x ∷ y ∷ l) [] = ap (λ r. (h x, Some comma) ∷ r) (members_changed (y ∷ l) [])
   members_changed (x ∷ l) (c ∷ cs) = ap (λ r. (h x, Some c) ∷ r) (members_changed l cs)
 
   filter_changed : (q : Member A → Bool) → ((x : Member A) → q (changed x) ≡ q x) → (l : List (Member A)) → filter q (map changed l) ≡ map changed (filter q l)
