@@ -8,7 +8,7 @@ use Rattle.token_core.specs.Prints as p
 use Rattle.token_core.specs.Prints.{Print}
 use Rattle.syn_mid.specs.pat.Printing.{tuple_comma}
 use Rattle.syn_mid.specs.ty.Printing.{lone_comma}
-use Rattle.syn_mid.specs.ty.Types.{Comma}
+use Rattle.syn_mid.specs.ty.Types.{Comma, comma}
 
 module _ {T : Type 0} where
   abbrev tests : (T → Bool) → Option T → Bool

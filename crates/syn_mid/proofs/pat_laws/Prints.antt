@@ -40,6 +40,7 @@ use Rattle.syn_mid.specs.pat.Pats.{Pat, Attr, Attrs, binding_of, field_of, is_re
 use Rattle.syn_mid.specs.pat.Printing as s
 use Rattle.syn_mid.specs.pat.Printing.{pat, printed, pat_step}
 use Rattle.syn_mid.specs.path.Printing.{path, expr_style}
+use Rattle.syn_mid.specs.ty.Printing as ty
 use Rattle.syn_mid.specs.ty.Types.{comma}
 use Rattle.syn_mid.specs.ty.Types.{Comma}
 
@@ -50,7 +51,7 @@ module _ {T Q : Type 0} (f : T → Q) where
   joined_mapped print (x ∷ all) [] = ap (λ r. print (f x) ++ r) (joined_mapped print all [])
   joined_mapped print (x ∷ all) (m ∷ ms) = ap (λ r. print (f x) ++ (p.mark m ++ r)) (joined_mapped print all ms)
 
-  pub last_mapped : (all : List T) (cs : List Comma) → s.last_comma (map f all) cs ≡ s.last_comma all cs
+  pub last_mapped : (all : List T) (cs : List Comma) → ty.last_comma comma (map f all) cs ≡ ty.last_comma comma all cs
   last_mapped [] cs = refl
   last_mapped (x ∷ all) [] = refl
   last_mapped (x ∷ all) (c ∷ cs) = last_mapped all cs

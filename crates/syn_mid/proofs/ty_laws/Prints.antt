@@ -206,7 +206,7 @@ module _ {X : Type 0} (px : Place → X → Print) where
   abbrev named_printed : NamedArgOf (TypeTree X) X → NamedArgOf Print X
   named_printed z = record { attrs = z.attrs; name = z.name; ty = ty px z.ty }
 
-  more_mapped : {A B : Type 0} (f : A → B) (l : List A) (ms : List Comma) (q : Option (FnPtrVariadic X)) → more px (map f l, ms) q ≡ more px (l, ms) q
+  pub more_mapped : {A B : Type 0} (f : A → B) (l : List A) (ms : List Comma) (q : Option (FnPtrVariadic X)) → more px (map f l, ms) q ≡ more px (l, ms) q
   more_mapped f l ms None = refl
   more_mapped f [] ms (Some x) = refl
   more_mapped f (y ∷ l) [] (Some x) = refl
