@@ -18,8 +18,8 @@ use crate::path::parse_plain_path;
 use crate::supplied::{Expr, Place, Subtree};
 use crate::ty::{
     PointerMutability, Type, TypeArray, TypeArrayOf, TypeInfer, TypeMacro, TypeNever, TypeParen,
-    TypeParenOf, TypePath, TypePathOf, TypePtr, TypePtrOf, TypeReference, TypeReferenceOf, TypeSlice,
-    TypeSliceOf, TypeTuple, TypeTupleOf,
+    TypeParenOf, TypePath, TypePathOf, TypePtr, TypePtrOf, TypeReference, TypeReferenceOf,
+    TypeSlice, TypeSliceOf, TypeTuple, TypeTupleOf,
 };
 use std::alloc::Global;
 use std::marker::PhantomData;
@@ -228,7 +228,12 @@ fn parse_path_or_macro<X: Drop>(
         let mac = parse_call_after(alloc, input, path)?;
         return Ok(Type::Macro(TypeMacro { mac }));
     }
-    ended(alloc, input, plus, Type::Path(TypePathOf { qself: None, path }))
+    ended(
+        alloc,
+        input,
+        plus,
+        Type::Path(TypePathOf { qself: None, path }),
+    )
 }
 
 // ---- types over the reader of the types that they hold

@@ -15,9 +15,7 @@ use crate::supplied::{
     Expr, ExprConst, ExprConstOf, ExprLit, ExprLitOf, ExprMacro, ExprMacroOf, ExprPath, ExprPathOf,
     ExprRange, Place, Subtree,
 };
-use crate::ty::{
-    Type, print_last_comma, print_lone_comma, print_type, print_verbatim, print_word,
-};
+use crate::ty::{Type, print_last_comma, print_lone_comma, print_type, print_verbatim, print_word};
 use std::alloc::{AllocError, Global};
 use token_core::token::{
     And, At, Brace, Bracket, Colon, Comma, DotDot, If, Mark, Mut, Or, Paren, Ref, Underscore, Word,

@@ -22,7 +22,8 @@ use token_core::token::{
     As, Crate, Gt, Le, Lt, Paren, PathSep, SelfType, SelfValue, ShlEq, Super, Try,
 };
 use token_core::{
-    Boxed, Error, ErrorKind, Ident, Lit, ParseStream, Punctuated, Span, Text, ToTokens, Token, TokenStream,
+    Boxed, Error, ErrorKind, Ident, Lit, ParseStream, Punctuated, Span, Text, ToTokens, Token,
+    TokenStream,
 };
 
 /// A path: an optional leading `::`, and segments joined by `::`.
@@ -651,11 +652,7 @@ pub(crate) fn print_qualified<T, X>(
 
 /// `as`, or one that stands nowhere.
 #[tactic(auto, using(token_core::proofs::Puts::puts))]
-fn print_as(
-    alloc: Global,
-    as_token: &Option<As>,
-    out: &mut TokenStream,
-) -> Result<(), AllocError>
+fn print_as(alloc: Global, as_token: &Option<As>, out: &mut TokenStream) -> Result<(), AllocError>
     ensures ok { OnOk result (trees out.new ≡ trees out.old ++ printing.as_or_default as_token.now) }
     ensures err { OnErr result (Extends (trees out.old) (trees out.new)) }
 {

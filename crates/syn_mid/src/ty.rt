@@ -17,7 +17,8 @@ ghost use Rattle.syn_mid.specs.ty.Spelling.{IsMutability, IsInfer, IsNever, IsMa
 
 use crate::attr::{Attribute, print_outer, print_value};
 use crate::generics::{
-    BoundLifetimes, GenericParam, TypeParamBound, print_binder_end, print_binder_start, print_bound, print_param,
+    BoundLifetimes, GenericParam, TypeParamBound, print_binder_end, print_binder_start,
+    print_bound, print_param,
 };
 use crate::grammar::{
     parse_array, parse_infer, parse_macro_type, parse_mutability, parse_never, parse_paren,
@@ -29,8 +30,8 @@ use crate::supplied::{Expr, Place, Subtree};
 use std::alloc::{AllocError, Global};
 use std::marker::PhantomData;
 use token_core::token::{
-    And, Bracket, Colon, Comma, Const, DotDotDot, Dyn, Extern, Fn, GroupToken, Impl, Mark, Mut, Not,
-    Paren, Plus, RArrow, Semi, Star, Underscore, Unsafe, Word,
+    And, Bracket, Colon, Comma, Const, DotDotDot, Dyn, Extern, Fn, GroupToken, Impl, Mark, Mut,
+    Not, Paren, Plus, RArrow, Semi, Star, Underscore, Unsafe, Word,
 };
 use token_core::{
     Boxed, Error, Ident, Items, Lifetime, LitStr, Pair, Parse, ParseStream, Punctuated, ToTokens,
