@@ -7,7 +7,7 @@ use std::process::Abort;
 use syn_mid::{
     BoundLifetimes, CapturedParam, ConstParam, Expr, ExprLit, GenericParam, Generics,
     LifetimeParam, ModStyle, ParseInner, ParseOuter, Path, PreciseCapture, PredicateLifetime,
-    PredicateType, TraitBound, TraitBoundModifiers, Type, TypeParam, TypeParamBound, TypePath,
+    PredicateType, TraitBound, TraitBoundModifiers, Type, TypeParam, TypeParamBound, TypePathOf,
     WhereClause, WherePredicate,
 };
 use token_core::token::{Colon, Comma, Const, Eq, For, Gt, Lt, Paren, Plus, Question, Use, Where};
@@ -25,6 +25,14 @@ type Bound = TypeParamBound<Nothing>;
 pub(crate) fn says(rt: &impl Abort, answer: Result<String, Error>, wanted: &str) {
     match answer {
         Ok(text) => assert_eq!(rt; text.as_str(), wanted),
+        Err(error) => panic!(rt; "refused: {}", error.text()),
+    }
+}
+
+/// It is so, and no refusal.
+pub(crate) fn holds(rt: &impl Abort, answer: Result<bool, Error>) {
+    match answer {
+        Ok(is_so) => assert!(rt; is_so),
         Err(error) => panic!(rt; "refused: {}", error.text()),
     }
 }
@@ -76,7 +84,8 @@ pub(crate) fn path(alloc: Global, text: &str) -> Result<Path<Nothing>, Error> {
 }
 
 pub(crate) fn ty(alloc: Global, text: &str) -> Result<Type<Nothing>, Error> {
-    Ok(Type::Path(TypePath {
+    Ok(Type::Path(TypePathOf {
+        qself: None,
         path: path(alloc, text)?,
     }))
 }
@@ -90,7 +99,11 @@ pub(crate) fn literal(alloc: Global, text: &str) -> Result<Expr<Nothing>, Error>
     }))
 }
 
-fn two<T: Drop>(alloc: Global, first: T, second: T) -> Result<Punctuated<T, Plus>, Error> {
+pub(crate) fn two<T: Drop>(
+    alloc: Global,
+    first: T,
+    second: T,
+) -> Result<Punctuated<T, Plus>, Error> {
     let mut list = Punctuated::new(alloc);
     list.push_value(alloc, first)?;
     list.push_punct(Plus::default())?;
@@ -278,12 +291,12 @@ fn option<T: Drop>(there: bool, value: T) -> Option<T> {
     if there { Some(value) } else { None }
 }
 
-/// `for<'b>`
-fn binder(alloc: Global) -> Result<BoundLifetimes<Nothing>, Error> {
+/// A binder of one lifetime.
+pub(crate) fn binder(alloc: Global, text: &str) -> Result<BoundLifetimes<Nothing>, Error> {
     Ok(BoundLifetimes {
         for_token: For::default(),
         lt_token: Lt::default(),
-        lifetimes: lone(alloc, lifetime_param(alloc, "b"))?,
+        lifetimes: lone(alloc, lifetime_param(alloc, text))?,
         gt_token: Gt::default(),
     })
 }
@@ -303,7 +316,7 @@ fn bounded(alloc: Global) -> Result<TypeParam<Nothing>, Error> {
 
 /// `for<'b> A`
 fn bound_to(alloc: Global) -> Result<Bound, Error> {
-    let (binder, path) = both(binder(alloc), path(alloc, "A"))?;
+    let (binder, path) = both(binder(alloc, "b"), path(alloc, "A"))?;
     Ok(TypeParamBound::Trait(TraitBound {
         paren_token: None,
         lifetimes: Some(binder),
@@ -333,7 +346,7 @@ fn held(alloc: Global, text: &str) -> Result<Bound, Error> {
     Ok(TypeParamBound::Verbatim(lex(alloc, text)?))
 }
 
-fn lifetime_bound(alloc: Global) -> Result<Bound, Error> {
+pub(crate) fn lifetime_bound(alloc: Global) -> Result<Bound, Error> {
     Ok(TypeParamBound::from(lifetime(alloc, "a")?))
 }
 
@@ -343,7 +356,7 @@ fn bounds_print(rt: HostRuntime) {
     says(&rt, shown(alloc, bounded(alloc)), "T : Clone = u8");
     says(&rt, shown(alloc, clone_bound(alloc, true)), "(? Clone)");
     says(&rt, shown(alloc, bound_to(alloc)), "for < 'b > A");
-    says(&rt, shown(alloc, binder(alloc)), "for < 'b >");
+    says(&rt, shown(alloc, binder(alloc, "b")), "for < 'b >");
     says(&rt, shown(alloc, lifetime_bound(alloc)), "'a");
     says(&rt, shown(alloc, captures(alloc)), "use < 'a , T , >");
     says(&rt, shown(alloc, held(alloc, "~ const A")), "~ const A");
@@ -354,7 +367,7 @@ fn bounds_print(rt: HostRuntime) {
 /// `for<'b> T: Clone`
 fn bounded_type(alloc: Global) -> Result<PredicateType<Nothing>, Error> {
     let bounds = lone(alloc, clone_bound(alloc, false));
-    let (binder, (bounded_ty, bounds)) = both(binder(alloc), both(ty(alloc, "T"), bounds))?;
+    let (binder, (bounded_ty, bounds)) = both(binder(alloc, "b"), both(ty(alloc, "T"), bounds))?;
     Ok(PredicateType {
         attrs: Items::new(alloc),
         lifetimes: Some(binder),

@@ -4,11 +4,17 @@
 #[cfg(test)]
 mod expr_tests;
 #[cfg(test)]
+mod fn_ptr_tests;
+#[cfg(test)]
 mod generics_tests;
 #[cfg(test)]
 mod nothing;
 #[cfg(test)]
+mod object_tests;
+#[cfg(test)]
 mod pat_tests;
+#[cfg(test)]
+mod qualified_tests;
 #[cfg(test)]
 mod tests;
 #[cfg(test)]

@@ -20,15 +20,15 @@ use token_text::lex;
 
 type Pattern = Pat<Nothing>;
 
-fn boxed<T: Drop>(alloc: Global, made: Result<T, Error>) -> Result<Boxed<T>, Error> {
+pub(crate) fn boxed<T: Drop>(alloc: Global, made: Result<T, Error>) -> Result<Boxed<T>, Error> {
     Ok(Boxed::new(alloc, made?)?)
 }
 
-fn outer(alloc: Global, text: &str) -> Result<Items<Attribute<Nothing>>, Error> {
+pub(crate) fn outer(alloc: Global, text: &str) -> Result<Items<Attribute<Nothing>>, Error> {
     read_all_with(alloc, ParseOuter::<Nothing>::new(), &lex(alloc, text)?)
 }
 
-fn inner(alloc: Global, text: &str) -> Result<Items<Attribute<Nothing>>, Error> {
+pub(crate) fn inner(alloc: Global, text: &str) -> Result<Items<Attribute<Nothing>>, Error> {
     read_all_with(alloc, ParseInner::<Nothing>::new(), &lex(alloc, text)?)
 }
 
@@ -206,7 +206,7 @@ fn two(alloc: Global, first: Result<Pattern, Error>) -> Result<Elements, Error> 
 }
 
 /// A list of one, with its comma.
-fn marked<T: Drop>(
+pub(crate) fn marked<T: Drop>(
     alloc: Global,
     element: Result<T, Error>,
 ) -> Result<Punctuated<T, Comma>, Error> {

@@ -4,3 +4,4 @@ pub mod Prints
 pub mod Views
 pub mod Normal
 pub mod SamePrint
+pub mod Consts

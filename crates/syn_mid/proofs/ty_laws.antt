@@ -13,6 +13,7 @@ pub mod Normal
 pub mod Prints
 pub mod Each
 pub mod Stays
+pub mod SamePrint
 pub mod Reprint
 pub mod KnotReprint
 pub mod Sound
@@ -20,3 +21,5 @@ pub mod KnotSound
 pub mod Parts
 pub mod Lone
 pub mod Laws
+pub mod Lasts
+pub mod Pieces

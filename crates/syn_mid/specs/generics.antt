@@ -1,6 +1,8 @@
 pub mod Params
+pub mod Shapes
 pub mod Members
 pub mod Printing
+pub mod NormalShapes
 pub mod Normal
 pub mod Views
 pub mod Kinds

@@ -16,12 +16,14 @@ ghost use Rattle.syn_mid.specs.generics.Lends.{lends_clause};
 ghost use Rattle.syn_mid.specs.generics.Members as members;
 ghost use Rattle.syn_mid.specs.generics.Params as spec;
 ghost use Rattle.syn_mid.specs.generics.Printing as printing;
+ghost use Rattle.syn_mid.specs.generics.Shapes as shapes;
+ghost use Rattle.syn_mid.specs.ty.Printing as types;
 ghost use Rattle.syn_mid.specs.generics.Views as views;
 
 use crate::attr::{Attribute, print_outer, print_value};
 use crate::path::Path;
 use crate::supplied::{Expr, Place, Subtree};
-use crate::ty::{Type, print_type, print_verbatim};
+use crate::ty::{Type, bound_parts, print_type, print_verbatim};
 use std::alloc::{AllocError, Global};
 use token_core::token::{
     Brace, Colon, Comma, Const, Eq, For, Gt, Lt, Mark, Paren, PathSep, Plus, Question, Use, Where,
@@ -40,7 +42,7 @@ pub struct Generics<X> {
 }
 
 /// A parameter of generics.
-#[cycle(generics)]
+#[cycle(types)]
 #[derive(Drop)]
 pub enum GenericParam<X> {
     /// `'a: 'b + 'c`
@@ -60,29 +62,30 @@ pub struct LifetimeParam<X> {
     pub bounds: Punctuated<Lifetime, Plus>,
 }
 
-/// A type parameter, over its bounds.
+/// A type parameter: `T: A + B = C`.
+#[cycle(types)]
 #[derive(Drop)]
-pub struct TypeParamOf<B, X> {
+pub struct TypeParam<X> {
     pub attrs: Items<Attribute<X>>,
     pub ident: Ident,
     pub colon_token: Option<Colon>,
-    pub bounds: Punctuated<B, Plus>,
+    pub bounds: Punctuated<TypeParamBound<X>, Plus>,
     pub default: Option<(Eq, Type<X>)>,
 }
 
-/// A type parameter: `T: A + B = C`.
-pub type TypeParam<X> = TypeParamOf<TypeParamBound<X>, X>;
-
-/// A const parameter: `const N: T = 1`.
+/// A const parameter, over its type.
 #[derive(Drop)]
-pub struct ConstParam<X> {
+pub struct ConstParamOf<T, X> {
     pub attrs: Items<Attribute<X>>,
     pub const_token: Const,
     pub ident: Ident,
     pub colon_token: Colon,
-    pub ty: Type<X>,
+    pub ty: T,
     pub default: Option<(Eq, Expr<X>)>,
 }
+
+/// A const parameter: `const N: T = 1`.
+pub type ConstParam<X> = ConstParamOf<Type<X>, X>;
 
 /// A binder, over its parameters.
 #[derive(Drop)]
@@ -97,7 +100,7 @@ pub struct BoundLifetimesOf<G> {
 pub type BoundLifetimes<X> = BoundLifetimesOf<GenericParam<X>>;
 
 /// A bound.
-#[cycle(generics)]
+#[cycle(types)]
 #[derive(Drop)]
 pub enum TypeParamBound<X> {
     /// `for<'a> ?a::b`
@@ -215,7 +218,7 @@ impl<X> TypeParam<X> {
     pub fn from_ident(alloc: Global, ident: Ident) -> TypeParam<X>
         ensures { result ≡ spec.type_param_of [] ident None ([], []) None }
     {
-        TypeParamOf {
+        TypeParam {
             attrs: Items::new(alloc),
             ident,
             colon_token: None,
@@ -555,9 +558,9 @@ trait Member {
 }
 
 impl Member for CapturedParam {
-    ghost first = { printing.is_captured_lifetime };
+    ghost first = { shapes.is_captured_lifetime };
 
-    ghost shown = { λ style x. printing.captured x };
+    ghost shown = { λ style x. shapes.captured x };
 
     fn is_lifetime(&self) -> bool {
         match self {
@@ -578,7 +581,7 @@ impl Member for CapturedParam {
 }
 
 impl ToTokens for CapturedParam {
-    ghost print = { printing.captured };
+    ghost print = { shapes.captured };
 
     fn to_tokens(&self, alloc: Global, out: &mut TokenStream) -> Result<(), AllocError> {
         match self {
@@ -589,7 +592,7 @@ impl ToTokens for CapturedParam {
 }
 
 impl ToTokens for PreciseCapture {
-    ghost print = { printing.capture };
+    ghost print = { shapes.capture };
 
     fn to_tokens(&self, alloc: Global, out: &mut TokenStream) -> Result<(), AllocError> {
         let before = out.len();
@@ -609,7 +612,7 @@ fn print_capture(
     capture: &PreciseCapture,
     out: &mut TokenStream,
 ) -> Result<(), AllocError>
-    ensures ok { OnOk result (trees out.new ≡ trees out.old ++ printing.capture capture.now) }
+    ensures ok { OnOk result (trees out.new ≡ trees out.old ++ shapes.capture capture.now) }
     ensures err { OnErr result (Extends (trees out.old) (trees out.new)) }
 {
     capture.use_token.to_tokens(alloc, out)?;
@@ -752,7 +755,7 @@ fn print_lifetime_param<X: Subtree>(
     param: &LifetimeParam<X>,
     out: &mut TokenStream,
 ) -> Result<(), AllocError>
-    ensures ok { OnOk result (trees out.new ≡ trees out.old ++ printing.lifetime_param X.prints param.now) }
+    ensures ok { OnOk result (trees out.new ≡ trees out.old ++ shapes.lifetime_param X.prints param.now) }
     ensures err { OnErr result (Extends (trees out.old) (trees out.new)) }
 {
     print_outer(alloc, &param.attrs, out)?;
@@ -767,7 +770,7 @@ fn print_lifetime_bounds<X>(
     param: &LifetimeParam<X>,
     out: &mut TokenStream,
 ) -> Result<(), AllocError>
-    ensures ok { OnOk result (trees out.new ≡ trees out.old ++ printing.after_colon lifetimes.print param.now.colon_token param.now.bounds) }
+    ensures ok { OnOk result (trees out.new ≡ trees out.old ++ shapes.after_colon lifetimes.print param.now.colon_token param.now.bounds) }
     ensures err { OnErr result (Extends (trees out.old) (trees out.new)) }
 {
     if param.bounds.is_empty() {
@@ -778,42 +781,12 @@ fn print_lifetime_bounds<X>(
 }
 
 #[tactic(auto, using(token_core::proofs::Puts::puts))]
-fn print_const_param<X: Subtree>(
-    alloc: Global,
-    param: &ConstParam<X>,
-    out: &mut TokenStream,
-) -> Result<(), AllocError>
-    ensures ok { OnOk result (trees out.new ≡ trees out.old ++ printing.const_param X.prints param.now) }
-    ensures err { OnErr result (Extends (trees out.old) (trees out.new)) }
-{
-    print_const_head(alloc, param, out)?;
-    print_const_default(alloc, &param.default, out)
-}
-
-/// A const parameter without its default.
-#[tactic(auto, using(token_core::proofs::Puts::puts))]
-fn print_const_head<X: Subtree>(
-    alloc: Global,
-    param: &ConstParam<X>,
-    out: &mut TokenStream,
-) -> Result<(), AllocError>
-    ensures ok { OnOk result (trees out.new ≡ trees out.old ++ printing.const_head X.prints param.now) }
-    ensures err { OnErr result (Extends (trees out.old) (trees out.new)) }
-{
-    print_outer(alloc, &param.attrs, out)?;
-    param.const_token.to_tokens(alloc, out)?;
-    param.ident.to_tokens(alloc, out)?;
-    param.colon_token.to_tokens(alloc, out)?;
-    print_type(alloc, &param.ty, out)
-}
-
-#[tactic(auto, using(token_core::proofs::Puts::puts))]
 fn print_const_default<X: Subtree>(
     alloc: Global,
     default: &Option<(Eq, Expr<X>)>,
     out: &mut TokenStream,
 ) -> Result<(), AllocError>
-    ensures ok { OnOk result (trees out.new ≡ trees out.old ++ printing.const_default X.prints default.now) }
+    ensures ok { OnOk result (trees out.new ≡ trees out.old ++ shapes.const_default X.prints default.now) }
     ensures err { OnErr result (Extends (trees out.old) (trees out.new)) }
 {
     match default {
@@ -826,13 +799,13 @@ fn print_const_default<X: Subtree>(
 }
 
 /// A const argument: a literal, a block or an identifier as it prints as a value, anything else in braces.
-#[tactic(auto, using(token_core::proofs::Puts::puts, crate::proofs::generics_laws::Prints::prints, crate::proofs::attr_laws::Prints::contents))]
+#[tactic(auto, using(token_core::proofs::Puts::puts, crate::proofs::generics_laws::Prints::consts, crate::proofs::attr_laws::Prints::contents))]
 fn print_const_argument<X: Subtree>(
     alloc: Global,
     value: &Expr<X>,
     out: &mut TokenStream,
 ) -> Result<(), AllocError>
-    ensures ok { OnOk result (trees out.new ≡ trees out.old ++ printing.const_argument X.prints value.now) }
+    ensures ok { OnOk result (trees out.new ≡ trees out.old ++ shapes.const_argument X.prints value.now) }
     ensures err { OnErr result (Extends (trees out.old) (trees out.new)) }
 {
     if stands_alone(value) {
@@ -846,7 +819,7 @@ fn print_const_argument<X: Subtree>(
 /// Whether a const argument needs no braces: a literal, a block, or an identifier without attributes.
 #[tactic(auto, using(crate::proofs::generics_laws::Prints::alone))]
 fn stands_alone<X>(value: &Expr<X>) -> bool
-    ensures { result ≡ printing.stands_alone value.now }
+    ensures { result ≡ shapes.stands_alone value.now }
 {
     match value {
         Expr::Lit(_) => true,
@@ -863,7 +836,7 @@ fn print_in_braces<X: Subtree>(
     value: &Expr<X>,
     out: &mut TokenStream,
 ) -> Result<(), AllocError>
-    ensures ok { OnOk result (trees out.new ≡ trees out.old ++ printing.in_braces X.prints value.now) }
+    ensures ok { OnOk result (trees out.new ≡ trees out.old ++ shapes.in_braces X.prints value.now) }
     ensures err { OnErr result (Extends (trees out.old) (trees out.new)) }
 {
     match value {
@@ -876,13 +849,13 @@ fn print_in_braces<X: Subtree>(
 
 /// Appends a parameter; refused, what stood before is kept.
 #[cycle(print)]
-#[tactic(auto, using(token_core::proofs::Puts::puts, crate::proofs::generics_laws::Prints::prints))]
-fn print_param<X: Subtree>(
+#[tactic(auto, using(token_core::proofs::Puts::puts, crate::proofs::ty_laws::Prints::parts))]
+pub(crate) fn print_param<X: Subtree>(
     alloc: Global,
     param: &GenericParam<X>,
     out: &mut TokenStream,
 ) -> Result<(), AllocError>
-    ensures ok { OnOk result (trees out.new ≡ trees out.old ++ printing.param X.prints param.now) }
+    ensures ok { OnOk result (trees out.new ≡ trees out.old ++ types.param X.prints param.now) }
     ensures err { OnErr result (Extends (trees out.old) (trees out.new)) }
 {
     match param {
@@ -893,28 +866,66 @@ fn print_param<X: Subtree>(
 }
 
 #[cycle(print)]
-#[tactic(auto, using(token_core::proofs::Puts::puts, crate::proofs::generics_laws::Prints::prints))]
+#[tactic(auto, using(token_core::proofs::Puts::puts, crate::proofs::ty_laws::Prints::prints))]
+fn print_const_param<X: Subtree>(
+    alloc: Global,
+    param: &ConstParam<X>,
+    out: &mut TokenStream,
+) -> Result<(), AllocError>
+    ensures ok { OnOk result (trees out.new ≡ trees out.old ++ types.const_param X.prints param.now) }
+    ensures err { OnErr result (Extends (trees out.old) (trees out.new)) }
+{
+    print_const_head(alloc, param, out)?;
+    print_const_default(alloc, &param.default, out)
+}
+
+/// A const parameter without its default.
+#[cycle(print)]
+#[tactic(auto, using(token_core::proofs::Puts::puts, crate::proofs::ty_laws::Prints::prints))]
+fn print_const_head<X: Subtree>(
+    alloc: Global,
+    param: &ConstParam<X>,
+    out: &mut TokenStream,
+) -> Result<(), AllocError>
+    ensures ok { OnOk result (trees out.new ≡ trees out.old ++ types.const_head X.prints param.now) }
+    ensures err { OnErr result (Extends (trees out.old) (trees out.new)) }
+{
+    print_outer(alloc, &param.attrs, out)?;
+    param.const_token.to_tokens(alloc, out)?;
+    param.ident.to_tokens(alloc, out)?;
+    param.colon_token.to_tokens(alloc, out)?;
+    print_type(alloc, &param.ty, out)
+}
+
+#[cycle(print)]
+#[tactic(auto, using(token_core::proofs::Puts::puts, crate::proofs::ty_laws::Prints::prints))]
 fn print_type_param<X: Subtree>(
     alloc: Global,
     param: &TypeParam<X>,
     out: &mut TokenStream,
 ) -> Result<(), AllocError>
-    ensures ok { OnOk result (trees out.new ≡ trees out.old ++ printing.type_param X.prints param.now) }
+    ensures ok { OnOk result (trees out.new ≡ trees out.old ++ types.type_param X.prints param.now) }
     ensures err { OnErr result (Extends (trees out.old) (trees out.new)) }
 {
     print_type_head(alloc, param, out)?;
-    print_type_default(alloc, &param.default, out)
+    match &param.default {
+        Some((eq_token, ty)) => {
+            eq_token.to_tokens(alloc, out)?;
+            print_type(alloc, ty, out)
+        }
+        None => Ok(()),
+    }
 }
 
 /// A type parameter without its default.
 #[cycle(print)]
-#[tactic(auto, using(token_core::proofs::Puts::puts, crate::proofs::generics_laws::Prints::prints))]
+#[tactic(auto, using(token_core::proofs::Puts::puts, crate::proofs::ty_laws::Prints::parts))]
 fn print_type_head<X: Subtree>(
     alloc: Global,
     param: &TypeParam<X>,
     out: &mut TokenStream,
 ) -> Result<(), AllocError>
-    ensures ok { OnOk result (trees out.new ≡ trees out.old ++ printing.type_head_by X.prints (printing.bound X.prints) param.now) }
+    ensures ok { OnOk result (trees out.new ≡ trees out.old ++ types.type_head X.prints param.now) }
     ensures err { OnErr result (Extends (trees out.old) (trees out.new)) }
 {
     print_outer(alloc, &param.attrs, out)?;
@@ -930,7 +941,7 @@ fn print_type_bounds<X: Subtree>(
     param: &TypeParam<X>,
     out: &mut TokenStream,
 ) -> Result<(), AllocError>
-    ensures ok { OnOk result (trees out.new ≡ trees out.old ++ printing.after_colon (printing.bound X.prints) param.now.colon_token param.now.bounds) }
+    ensures ok { OnOk result (trees out.new ≡ trees out.old ++ types.type_bounds X.prints param.now) }
     ensures err { OnErr result (Extends (trees out.old) (trees out.new)) }
 {
     if param.bounds.is_empty() {
@@ -941,16 +952,16 @@ fn print_type_bounds<X: Subtree>(
 }
 
 #[cycle(print)]
-#[tactic(auto, using(token_core::proofs::Puts::puts, crate::proofs::generics_laws::Prints::prints))]
+#[tactic(auto, using(token_core::proofs::Puts::puts, crate::proofs::ty_laws::Prints::parts))]
 fn print_bounds<X: Subtree>(
     alloc: Global,
     param: &TypeParam<X>,
     out: &mut TokenStream,
 ) -> Result<(), AllocError>
-    ensures ok { OnOk result (trees out.new ≡ trees out.old ++ printing.bounds_joined X.prints param.now.bounds) }
+    ensures ok { OnOk result (trees out.new ≡ trees out.old ++ types.own_bounds X.prints param.now) }
     ensures err { OnErr result (Extends (trees out.old) (trees out.new)) }
 {
-    let (pairs, last) = param.bounds.parts();
+    let (pairs, last) = bound_parts(&param.bounds);
     for pair in pairs {
         print_bound(alloc, &pair.value, out)?;
         pair.mark.to_tokens(alloc, out)?;
@@ -963,13 +974,13 @@ fn print_bounds<X: Subtree>(
 
 /// Appends a bound; refused, what stood before is kept.
 #[cycle(print)]
-#[tactic(auto, using(token_core::proofs::Puts::puts, crate::proofs::generics_laws::Prints::prints))]
-fn print_bound<X: Subtree>(
+#[tactic(auto, using(token_core::proofs::Puts::puts, crate::proofs::ty_laws::Prints::parts))]
+pub(crate) fn print_bound<X: Subtree>(
     alloc: Global,
     bound: &TypeParamBound<X>,
     out: &mut TokenStream,
 ) -> Result<(), AllocError>
-    ensures ok { OnOk result (trees out.new ≡ trees out.old ++ printing.bound X.prints bound.now) }
+    ensures ok { OnOk result (trees out.new ≡ trees out.old ++ types.bound X.prints bound.now) }
     ensures err { OnErr result (Extends (trees out.old) (trees out.new)) }
 {
     match bound {
@@ -987,7 +998,7 @@ fn print_trait_bound<X: Subtree>(
     bound: &TraitBound<X>,
     out: &mut TokenStream,
 ) -> Result<(), AllocError>
-    ensures ok { OnOk result (trees out.new ≡ trees out.old ++ printing.trait_bound X.prints bound.now) }
+    ensures ok { OnOk result (trees out.new ≡ trees out.old ++ types.trait_bound X.prints bound.now) }
     ensures err { OnErr result (Extends (trees out.old) (trees out.new)) }
 {
     match &bound.paren_token {
@@ -1008,7 +1019,7 @@ fn print_bare_trait<X: Subtree>(
     bound: &TraitBound<X>,
     out: &mut TokenStream,
 ) -> Result<(), AllocError>
-    ensures ok { OnOk result (trees out.new ≡ trees out.old ++ printing.bare_trait_by (printing.param X.prints) bound.now) }
+    ensures ok { OnOk result (trees out.new ≡ trees out.old ++ shapes.bare_trait_by (types.param X.prints) bound.now) }
     ensures err { OnErr result (Extends (trees out.old) (trees out.new)) }
 {
     print_binder_start(alloc, &bound.lifetimes, out)?;
@@ -1019,13 +1030,13 @@ fn print_bare_trait<X: Subtree>(
 
 /// The parameters of a trait bound's binder.
 #[cycle(print)]
-#[tactic(auto, using(token_core::proofs::Puts::puts, crate::proofs::generics_laws::Prints::prints))]
+#[tactic(auto, using(token_core::proofs::Puts::puts, crate::proofs::ty_laws::Prints::parts))]
 fn print_trait_params<X: Subtree>(
     alloc: Global,
     bound: &TraitBound<X>,
     out: &mut TokenStream,
 ) -> Result<(), AllocError>
-    ensures ok { OnOk result (trees out.new ≡ trees out.old ++ printing.binder_joined (printing.param X.prints) bound.now.lifetimes) }
+    ensures ok { OnOk result (trees out.new ≡ trees out.old ++ shapes.binder_joined (types.param X.prints) bound.now.lifetimes) }
     ensures err { OnErr result (Extends (trees out.old) (trees out.new)) }
 {
     let (pairs, last) = binder_parts(bound);
@@ -1043,7 +1054,7 @@ fn print_trait_params<X: Subtree>(
 fn binder_parts<X>(
     bound: &TraitBound<X>,
 ) -> (&[Pair<GenericParam<X>, Comma>], Option<&GenericParam<X>>)
-    ensures { printing.binder_params bound.now.lifetimes ≡ (values_of result.0.now (option_map (λ x. x.now) result.1), marks_of result.0.now) }
+    ensures { shapes.binder_params bound.now.lifetimes ≡ (values_of result.0.now (option_map (λ x. x.now) result.1), marks_of result.0.now) }
 {
     match &bound.lifetimes {
         Some(binder) => binder.lifetimes.parts(),
@@ -1053,12 +1064,12 @@ fn binder_parts<X>(
 
 /// A binder before its parameters; nothing without one.
 #[tactic(auto, using(token_core::proofs::Puts::puts))]
-fn print_binder_start<G>(
+pub(crate) fn print_binder_start<G>(
     alloc: Global,
     binder: &Option<BoundLifetimesOf<G>>,
     out: &mut TokenStream,
 ) -> Result<(), AllocError>
-    ensures ok { OnOk result (trees out.new ≡ trees out.old ++ printing.binder_start binder.now) }
+    ensures ok { OnOk result (trees out.new ≡ trees out.old ++ shapes.binder_start binder.now) }
     ensures err { OnErr result (Extends (trees out.old) (trees out.new)) }
 {
     match binder {
@@ -1072,12 +1083,12 @@ fn print_binder_start<G>(
 
 /// A binder after its parameters; nothing without one.
 #[tactic(auto, using(token_core::proofs::Puts::puts))]
-fn print_binder_end<G>(
+pub(crate) fn print_binder_end<G>(
     alloc: Global,
     binder: &Option<BoundLifetimesOf<G>>,
     out: &mut TokenStream,
 ) -> Result<(), AllocError>
-    ensures ok { OnOk result (trees out.new ≡ trees out.old ++ printing.binder_end binder.now) }
+    ensures ok { OnOk result (trees out.new ≡ trees out.old ++ shapes.binder_end binder.now) }
     ensures err { OnErr result (Extends (trees out.old) (trees out.new)) }
 {
     match binder {
@@ -1093,7 +1104,7 @@ fn print_named_trait<X>(
     bound: &TraitBound<X>,
     out: &mut TokenStream,
 ) -> Result<(), AllocError>
-    ensures ok { OnOk result (trees out.new ≡ trees out.old ++ printing.named_trait bound.now) }
+    ensures ok { OnOk result (trees out.new ≡ trees out.old ++ shapes.named_trait bound.now) }
     ensures err { OnErr result (Extends (trees out.old) (trees out.new)) }
 {
     match &bound.maybe {
@@ -1103,24 +1114,6 @@ fn print_named_trait<X>(
     bound.path.to_tokens(alloc, out)
 }
 
-#[tactic(auto, using(token_core::proofs::Puts::puts))]
-fn print_type_default<X: Subtree>(
-    alloc: Global,
-    default: &Option<(Eq, Type<X>)>,
-    out: &mut TokenStream,
-) -> Result<(), AllocError>
-    ensures ok { OnOk result (trees out.new ≡ trees out.old ++ printing.type_default X.prints default.now) }
-    ensures err { OnErr result (Extends (trees out.old) (trees out.new)) }
-{
-    match default {
-        Some((eq_token, ty)) => {
-            eq_token.to_tokens(alloc, out)?;
-            print_type(alloc, ty, out)
-        }
-        None => Ok(()),
-    }
-}
-
 /// A mark of one character, or the same that stands nowhere.
 #[tactic(auto, using(token_core::proofs::Puts::puts))]
 fn print_or_default<const N: u32>(
@@ -1128,7 +1121,7 @@ fn print_or_default<const N: u32>(
     mark: &Option<Mark<N, 1>>,
     out: &mut TokenStream,
 ) -> Result<(), AllocError>
-    ensures ok { OnOk result (trees out.new ≡ trees out.old ++ printing.or_default mark.now) }
+    ensures ok { OnOk result (trees out.new ≡ trees out.old ++ shapes.or_default mark.now) }
     ensures err { OnErr result (Extends (trees out.old) (trees out.new)) }
 {
     match mark {
@@ -1153,7 +1146,7 @@ fn print_predicate_lifetime<X: Subtree>(
 }
 
 impl<X: Subtree> ToTokens for LifetimeParam<X> {
-    ghost print = { printing.lifetime_param X.prints };
+    ghost print = { shapes.lifetime_param X.prints };
 
     fn to_tokens(&self, alloc: Global, out: &mut TokenStream) -> Result<(), AllocError> {
         let before = out.len();
@@ -1168,7 +1161,7 @@ impl<X: Subtree> ToTokens for LifetimeParam<X> {
 }
 
 impl<X: Subtree> ToTokens for ConstParam<X> {
-    ghost print = { printing.const_param X.prints };
+    ghost print = { types.const_param X.prints };
 
     fn to_tokens(&self, alloc: Global, out: &mut TokenStream) -> Result<(), AllocError> {
         let before = out.len();
@@ -1198,7 +1191,7 @@ impl<X: Subtree> ToTokens for PredicateLifetime<X> {
 }
 
 impl<X: Subtree> ToTokens for GenericParam<X> {
-    ghost print = { printing.param X.prints };
+    ghost print = { types.param X.prints };
 
     fn to_tokens(&self, alloc: Global, out: &mut TokenStream) -> Result<(), AllocError> {
         let before = out.len();
@@ -1213,7 +1206,7 @@ impl<X: Subtree> ToTokens for GenericParam<X> {
 }
 
 impl<X: Subtree> ToTokens for TypeParam<X> {
-    ghost print = { printing.type_param X.prints };
+    ghost print = { types.type_param X.prints };
 
     fn to_tokens(&self, alloc: Global, out: &mut TokenStream) -> Result<(), AllocError> {
         let before = out.len();
@@ -1228,7 +1221,7 @@ impl<X: Subtree> ToTokens for TypeParam<X> {
 }
 
 impl<X: Subtree> ToTokens for TypeParamBound<X> {
-    ghost print = { printing.bound X.prints };
+    ghost print = { types.bound X.prints };
 
     fn to_tokens(&self, alloc: Global, out: &mut TokenStream) -> Result<(), AllocError> {
         let before = out.len();
@@ -1243,7 +1236,7 @@ impl<X: Subtree> ToTokens for TypeParamBound<X> {
 }
 
 impl<X: Subtree> ToTokens for TraitBound<X> {
-    ghost print = { printing.trait_bound X.prints };
+    ghost print = { types.trait_bound X.prints };
 
     fn to_tokens(&self, alloc: Global, out: &mut TokenStream) -> Result<(), AllocError> {
         let before = out.len();
@@ -1265,7 +1258,7 @@ fn print_bound_lifetimes<X: Subtree>(
     binder: &BoundLifetimes<X>,
     out: &mut TokenStream,
 ) -> Result<(), AllocError>
-    ensures ok { OnOk result (trees out.new ≡ trees out.old ++ printing.bound_lifetimes X.prints binder.now) }
+    ensures ok { OnOk result (trees out.new ≡ trees out.old ++ types.bound_lifetimes X.prints binder.now) }
     ensures err { OnErr result (Extends (trees out.old) (trees out.new)) }
 {
     binder.for_token.to_tokens(alloc, out)?;
@@ -1297,7 +1290,7 @@ fn print_binder<X: Subtree>(
     binder: &Option<BoundLifetimes<X>>,
     out: &mut TokenStream,
 ) -> Result<(), AllocError>
-    ensures ok { OnOk result (trees out.new ≡ trees out.old ++ printing.binder_by (printing.param X.prints) binder.now) }
+    ensures ok { OnOk result (trees out.new ≡ trees out.old ++ shapes.binder_by (types.param X.prints) binder.now) }
     ensures err { OnErr result (Extends (trees out.old) (trees out.new)) }
 {
     match binder {
@@ -1324,7 +1317,7 @@ fn print_where<X: Subtree>(
 }
 
 impl<X: Subtree> ToTokens for BoundLifetimes<X> {
-    ghost print = { printing.bound_lifetimes X.prints };
+    ghost print = { types.bound_lifetimes X.prints };
 
     fn to_tokens(&self, alloc: Global, out: &mut TokenStream) -> Result<(), AllocError> {
         let before = out.len();
@@ -1466,7 +1459,7 @@ fn print_head<X: Subtree>(
     param: &GenericParam<X>,
     out: &mut TokenStream,
 ) -> Result<(), AllocError>
-    ensures ok { OnOk result (trees out.new ≡ trees out.old ++ printing.param X.prints (views.strip param.now)) }
+    ensures ok { OnOk result (trees out.new ≡ trees out.old ++ types.param X.prints (views.strip param.now)) }
     ensures err { OnErr result (Extends (trees out.old) (trees out.new)) }
 {
     match param {

@@ -18,8 +18,8 @@ use crate::path::parse_plain_path;
 use crate::supplied::{Expr, Place, Subtree};
 use crate::ty::{
     PointerMutability, Type, TypeArray, TypeArrayOf, TypeInfer, TypeMacro, TypeNever, TypeParen,
-    TypeParenOf, TypePath, TypePtr, TypePtrOf, TypeReference, TypeReferenceOf, TypeSlice,
-    TypeSliceOf, TypeTuple, TypeTupleOf,
+    TypeParenOf, TypePath, TypePathOf, TypePtr, TypePtrOf, TypeReference, TypeReferenceOf,
+    TypeSlice, TypeSliceOf, TypeTuple, TypeTupleOf,
 };
 use std::alloc::Global;
 use std::marker::PhantomData;
@@ -210,7 +210,7 @@ pub(crate) fn parse_path_type<X: Drop>(
     ensures within { Follows input.old input.new }
 {
     let path = parse_plain_path(alloc, input)?;
-    Ok(TypePath { path })
+    Ok(TypePathOf { qself: None, path })
 }
 
 /// A path, or a macro call by its path.
@@ -228,7 +228,12 @@ fn parse_path_or_macro<X: Drop>(
         let mac = parse_call_after(alloc, input, path)?;
         return Ok(Type::Macro(TypeMacro { mac }));
     }
-    ended(alloc, input, plus, Type::Path(TypePath { path }))
+    ended(
+        alloc,
+        input,
+        plus,
+        Type::Path(TypePathOf { qself: None, path }),
+    )
 }
 
 // ---- types over the reader of the types that they hold
@@ -287,92 +292,6 @@ impl<
             }
             elems.push_punct(parse_comma(self.alloc, input)?)?;
         }
-    }
-
-    /// What the parentheses of a tuple hold.
-    #[tactic(auto, using(token_core::proofs::Suffixes::follows), unfolding(crate::specs::ty::Reading::tuple_content))]
-    fn tuple_content(
-        &self,
-        input: &mut ParseStream<'_>,
-    ) -> Result<Punctuated<Type<X>, Comma>, Error>
-        requires types { Nests (knot.ty X.reads) (length self.now.begin) (F.pre self.now.typ) (F.post self.now.typ) }
-        requires few { ahead input.old < length self.now.begin }
-        ensures reads { Reads (reading.tuple_content X.reads (knot.types X.reads (length self.now.begin)) input.old) result input.new }
-        ensures within { Follows input.old input.new }
-    {
-        if input.is_empty() {
-            return Ok(Punctuated::new(self.alloc));
-        }
-        let first = self.nested(input, true)?;
-        self.more_elements(input, first)
-    }
-
-    /// `[T; n]`
-    #[tactic(auto, using(token_core::proofs::Suffixes::follows), unfolding(crate::specs::ty::Reading::array, crate::specs::ty::Reading::array_content))]
-    pub(crate) fn array(&self, input: &mut ParseStream<'_>) -> Result<TypeArray<X>, Error>
-        requires types { Nests (knot.ty X.reads) (length self.now.begin) (F.pre self.now.typ) (F.post self.now.typ) }
-        requires few { ahead input.old ≤ length self.now.begin }
-        ensures reads { Reads (reading.array X.reads (knot.types X.reads (length self.now.begin)) input.old) result input.new }
-        ensures within { Follows input.old input.new }
-    {
-        let (bracket_token, mut content) = open_brackets(self.alloc, input)?;
-        let elem = self.nested(&mut content, true)?;
-        let (semi_token, len) = parse_length(self.alloc, &mut content)?;
-        input.finish(content);
-        Ok(TypeArrayOf {
-            bracket_token,
-            elem: Boxed::new(self.alloc, elem)?,
-            semi_token,
-            len,
-        })
-    }
-
-    /// `[T]`
-    #[tactic(auto, using(token_core::proofs::Suffixes::follows), unfolding(crate::specs::ty::Reading::slice))]
-    pub(crate) fn slice(&self, input: &mut ParseStream<'_>) -> Result<TypeSlice<X>, Error>
-        requires types { Nests (knot.ty X.reads) (length self.now.begin) (F.pre self.now.typ) (F.post self.now.typ) }
-        requires few { ahead input.old ≤ length self.now.begin }
-        ensures reads { Reads (reading.slice X.reads (knot.types X.reads (length self.now.begin)) input.old) result input.new }
-        ensures within { Follows input.old input.new }
-    {
-        let (bracket_token, mut content) = open_brackets(self.alloc, input)?;
-        let elem = self.nested(&mut content, true)?;
-        input.finish(content);
-        Ok(TypeSliceOf {
-            bracket_token,
-            elem: Boxed::new(self.alloc, elem)?,
-        })
-    }
-
-    /// `(T)`, the type without plus
-    #[tactic(auto, using(token_core::proofs::Suffixes::follows), unfolding(crate::specs::ty::Reading::paren))]
-    pub(crate) fn paren(&self, input: &mut ParseStream<'_>) -> Result<TypeParen<X>, Error>
-        requires types { Nests (knot.ty X.reads) (length self.now.begin) (F.pre self.now.typ) (F.post self.now.typ) }
-        requires few { ahead input.old ≤ length self.now.begin }
-        ensures reads { Reads (reading.paren X.reads (knot.types X.reads (length self.now.begin)) input.old) result input.new }
-        ensures within { Follows input.old input.new }
-    {
-        let (paren_token, mut content) = open_parens(self.alloc, input)?;
-        let elem = self.nested(&mut content, false)?;
-        input.finish(content);
-        Ok(TypeParenOf {
-            paren_token,
-            elem: Boxed::new(self.alloc, elem)?,
-        })
-    }
-
-    /// `(A, B)`
-    #[tactic(auto, using(token_core::proofs::Suffixes::follows), unfolding(crate::specs::ty::Reading::tuple))]
-    pub(crate) fn tuple(&self, input: &mut ParseStream<'_>) -> Result<TypeTuple<X>, Error>
-        requires types { Nests (knot.ty X.reads) (length self.now.begin) (F.pre self.now.typ) (F.post self.now.typ) }
-        requires few { ahead input.old ≤ length self.now.begin }
-        ensures reads { Reads (reading.tuple X.reads (knot.types X.reads (length self.now.begin)) input.old) result input.new }
-        ensures within { Follows input.old input.new }
-    {
-        let (paren_token, mut content) = open_parens(self.alloc, input)?;
-        let elems = self.tuple_content(&mut content)?;
-        input.finish(content);
-        Ok(TypeTupleOf { paren_token, elems })
     }
 
     /// `*const T`, `*mut T`
@@ -542,6 +461,191 @@ pub(crate) fn parse_type<X: Subtree>(
     .step(input, plus)
 }
 
+// ---- single forms
+
+// They ask the reader of types itself, further on than they begin: a function value that is made outside the knot, as a
+// turn takes one, passes the prover's step limit.
+
+/// A type that another one holds.
+#[tactic(auto, using(crate::proofs::ty_laws::Ahead::later), unfolding(crate::specs::ty::Knot::types))]
+fn parse_nested<X: Subtree>(
+    alloc: Global,
+    begin: &Cursor<'_>,
+    input: &mut ParseStream<'_>,
+    plus: bool,
+) -> Result<Type<X>, Error>
+    requires few { ahead input.old < length begin.now }
+    ensures reads { Reads (knot.types X.reads (length begin.now) plus input.old) result input.new }
+    ensures within { Follows input.old input.new }
+    ensures fewer { ahead input.new ≤ ahead input.old }
+{
+    parse_type(alloc, PhantomData, input, plus)
+}
+
+#[tactic(auto, using(token_core::proofs::Suffixes::follows), unfolding(crate::specs::ty::Reading::slice))]
+fn parse_slice_from<X: Subtree>(
+    alloc: Global,
+    begin: &Cursor<'_>,
+    input: &mut ParseStream<'_>,
+) -> Result<TypeSlice<X>, Error>
+    requires few { ahead input.old ≤ length begin.now }
+    ensures reads { Reads (reading.slice X.reads (knot.types X.reads (length begin.now)) input.old) result input.new }
+    ensures within { Follows input.old input.new }
+{
+    let (bracket_token, mut content) = open_brackets(alloc, input)?;
+    let elem = parse_nested(alloc, begin, &mut content, true)?;
+    input.finish(content);
+    Ok(TypeSliceOf {
+        bracket_token,
+        elem: Boxed::new(alloc, elem)?,
+    })
+}
+
+#[tactic(auto, using(token_core::proofs::Suffixes::follows), unfolding(crate::specs::ty::Reading::array, crate::specs::ty::Reading::array_content))]
+fn parse_array_from<X: Subtree>(
+    alloc: Global,
+    begin: &Cursor<'_>,
+    input: &mut ParseStream<'_>,
+) -> Result<TypeArray<X>, Error>
+    requires few { ahead input.old ≤ length begin.now }
+    ensures reads { Reads (reading.array X.reads (knot.types X.reads (length begin.now)) input.old) result input.new }
+    ensures within { Follows input.old input.new }
+{
+    let (bracket_token, mut content) = open_brackets(alloc, input)?;
+    let elem = parse_nested(alloc, begin, &mut content, true)?;
+    let (semi_token, len) = parse_length(alloc, &mut content)?;
+    input.finish(content);
+    Ok(TypeArrayOf {
+        bracket_token,
+        elem: Boxed::new(alloc, elem)?,
+        semi_token,
+        len,
+    })
+}
+
+#[tactic(auto, using(token_core::proofs::Suffixes::follows), unfolding(crate::specs::ty::Reading::paren))]
+fn parse_paren_from<X: Subtree>(
+    alloc: Global,
+    begin: &Cursor<'_>,
+    input: &mut ParseStream<'_>,
+) -> Result<TypeParen<X>, Error>
+    requires few { ahead input.old ≤ length begin.now }
+    ensures reads { Reads (reading.paren X.reads (knot.types X.reads (length begin.now)) input.old) result input.new }
+    ensures within { Follows input.old input.new }
+{
+    let (paren_token, mut content) = open_parens(alloc, input)?;
+    let elem = parse_nested(alloc, begin, &mut content, false)?;
+    input.finish(content);
+    Ok(TypeParenOf {
+        paren_token,
+        elem: Boxed::new(alloc, elem)?,
+    })
+}
+
+#[tactic(auto, using(token_core::proofs::Suffixes::follows), unfolding(crate::specs::ty::Reading::ptr))]
+fn parse_ptr_from<X: Subtree>(
+    alloc: Global,
+    begin: &Cursor<'_>,
+    input: &mut ParseStream<'_>,
+) -> Result<TypePtr<X>, Error>
+    requires few { ahead input.old ≤ length begin.now }
+    ensures reads { Reads (reading.ptr X.reads (knot.types X.reads (length begin.now)) input.old) result input.new }
+    ensures within { Follows input.old input.new }
+{
+    let star_token = parse_star(alloc, input)?;
+    let mutability = parse_mutability(alloc, input)?;
+    let elem = parse_nested(alloc, begin, input, false)?;
+    Ok(TypePtrOf {
+        star_token,
+        mutability,
+        elem: Boxed::new(alloc, elem)?,
+    })
+}
+
+#[tactic(auto, using(token_core::proofs::Suffixes::follows), unfolding(crate::specs::ty::Reading::reference))]
+fn parse_reference_from<X: Subtree>(
+    alloc: Global,
+    begin: &Cursor<'_>,
+    input: &mut ParseStream<'_>,
+) -> Result<TypeReference<X>, Error>
+    requires few { ahead input.old ≤ length begin.now }
+    ensures reads { Reads (reading.reference X.reads (knot.types X.reads (length begin.now)) input.old) result input.new }
+    ensures within { Follows input.old input.new }
+{
+    let and_token = parse_and(alloc, input)?;
+    let lifetime = parse_lifetime(alloc, input)?;
+    let mutability = parse_mut(alloc, input)?;
+    let elem = parse_nested(alloc, begin, input, false)?;
+    Ok(TypeReferenceOf {
+        and_token,
+        lifetime,
+        mutability,
+        elem: Boxed::new(alloc, elem)?,
+    })
+}
+
+/// A comma, and the elements of a tuple after the first one.
+#[tactic(auto, using(token_core::proofs::Suffixes::follows), unfolding(crate::specs::ty::Reading::more_elements))]
+fn parse_more_elements<X: Subtree>(
+    alloc: Global,
+    begin: &Cursor<'_>,
+    input: &mut ParseStream<'_>,
+    first: Type<X>,
+) -> Result<Punctuated<Type<X>, Comma>, Error>
+    requires few { ahead input.old ≤ length begin.now }
+    ensures reads { Reads (reading.more_elements X.reads (knot.types X.reads (length begin.now)) first input.old) result input.new }
+    ensures within { Follows input.old input.new }
+{
+    let mut elems = Punctuated::new(alloc);
+    elems.push_value(alloc, first)?;
+    elems.push_punct(parse_comma(alloc, input)?)?;
+    'turn: loop {
+        if input.is_empty() {
+            return Ok(elems);
+        }
+        let elem = parse_nested(alloc, begin, input, true)?;
+        elems.push_value(alloc, elem)?;
+        if input.is_empty() {
+            return Ok(elems);
+        }
+        elems.push_punct(parse_comma(alloc, input)?)?;
+    }
+}
+
+/// What the parentheses of a tuple hold.
+#[tactic(auto, using(token_core::proofs::Suffixes::follows), unfolding(crate::specs::ty::Reading::tuple_content))]
+fn parse_tuple_content<X: Subtree>(
+    alloc: Global,
+    begin: &Cursor<'_>,
+    input: &mut ParseStream<'_>,
+) -> Result<Punctuated<Type<X>, Comma>, Error>
+    requires few { ahead input.old < length begin.now }
+    ensures reads { Reads (reading.tuple_content X.reads (knot.types X.reads (length begin.now)) input.old) result input.new }
+    ensures within { Follows input.old input.new }
+{
+    if input.is_empty() {
+        return Ok(Punctuated::new(alloc));
+    }
+    let first = parse_nested(alloc, begin, input, true)?;
+    parse_more_elements(alloc, begin, input, first)
+}
+
+#[tactic(auto, using(token_core::proofs::Suffixes::follows), unfolding(crate::specs::ty::Reading::tuple))]
+fn parse_tuple_from<X: Subtree>(
+    alloc: Global,
+    begin: &Cursor<'_>,
+    input: &mut ParseStream<'_>,
+) -> Result<TypeTuple<X>, Error>
+    requires few { ahead input.old ≤ length begin.now }
+    ensures reads { Reads (reading.tuple X.reads (knot.types X.reads (length begin.now)) input.old) result input.new }
+    ensures within { Follows input.old input.new }
+{
+    let (paren_token, mut content) = open_parens(alloc, input)?;
+    let elems = parse_tuple_content(alloc, begin, &mut content)?;
+    input.finish(content);
+    Ok(TypeTupleOf { paren_token, elems })
+}
+
 /// `[T]`
 #[tactic(auto, unfolding(crate::specs::ty::Knot::slice))]
 pub(crate) fn parse_slice<X: Subtree>(
@@ -551,13 +655,8 @@ pub(crate) fn parse_slice<X: Subtree>(
     ensures reads { Reads (knot.slice X.reads input.old) result input.new }
     ensures within { Follows input.old input.new }
 {
-    Grammar {
-        alloc,
-        of: PhantomData,
-        begin: input.cursor(),
-        typ: parse_type::<X>,
-    }
-    .slice(input)
+    let begin = input.cursor();
+    parse_slice_from(alloc, &begin, input)
 }
 
 /// `[T; n]`
@@ -569,13 +668,8 @@ pub(crate) fn parse_array<X: Subtree>(
     ensures reads { Reads (knot.array X.reads input.old) result input.new }
     ensures within { Follows input.old input.new }
 {
-    Grammar {
-        alloc,
-        of: PhantomData,
-        begin: input.cursor(),
-        typ: parse_type::<X>,
-    }
-    .array(input)
+    let begin = input.cursor();
+    parse_array_from(alloc, &begin, input)
 }
 
 /// `*const T`, `*mut T`
@@ -587,13 +681,8 @@ pub(crate) fn parse_ptr<X: Subtree>(
     ensures reads { Reads (knot.ptr X.reads input.old) result input.new }
     ensures within { Follows input.old input.new }
 {
-    Grammar {
-        alloc,
-        of: PhantomData,
-        begin: input.cursor(),
-        typ: parse_type::<X>,
-    }
-    .ptr(input)
+    let begin = input.cursor();
+    parse_ptr_from(alloc, &begin, input)
 }
 
 /// `&'a mut T`
@@ -605,13 +694,8 @@ pub(crate) fn parse_reference<X: Subtree>(
     ensures reads { Reads (knot.reference X.reads input.old) result input.new }
     ensures within { Follows input.old input.new }
 {
-    Grammar {
-        alloc,
-        of: PhantomData,
-        begin: input.cursor(),
-        typ: parse_type::<X>,
-    }
-    .reference(input)
+    let begin = input.cursor();
+    parse_reference_from(alloc, &begin, input)
 }
 
 /// `(A, B)`
@@ -623,13 +707,8 @@ pub(crate) fn parse_tuple<X: Subtree>(
     ensures reads { Reads (knot.tuple X.reads input.old) result input.new }
     ensures within { Follows input.old input.new }
 {
-    Grammar {
-        alloc,
-        of: PhantomData,
-        begin: input.cursor(),
-        typ: parse_type::<X>,
-    }
-    .tuple(input)
+    let begin = input.cursor();
+    parse_tuple_from(alloc, &begin, input)
 }
 
 /// `(T)`, the type without plus
@@ -641,11 +720,6 @@ pub(crate) fn parse_paren<X: Subtree>(
     ensures reads { Reads (knot.paren X.reads input.old) result input.new }
     ensures within { Follows input.old input.new }
 {
-    Grammar {
-        alloc,
-        of: PhantomData,
-        begin: input.cursor(),
-        typ: parse_type::<X>,
-    }
-    .paren(input)
+    let begin = input.cursor();
+    parse_paren_from(alloc, &begin, input)
 }

@@ -5,7 +5,7 @@ ghost use Rattle.token_core.specs.Joined.{values_of, marks_of};
 ghost use Rattle.token_core.specs.Prints.{Extends};
 ghost use Rattle.token_core.specs.Trees.{trees};
 ghost use Rattle.syn_mid.specs.declared.pat.PatOf.TheVariants as pats;
-ghost use Rattle.syn_mid.specs.generics.Printing as generics;
+ghost use Rattle.syn_mid.specs.generics.Shapes as generics;
 ghost use Rattle.syn_mid.specs.pat.Pats as spec;
 ghost use Rattle.syn_mid.specs.pat.Printing as printing;
 
@@ -15,7 +15,7 @@ use crate::supplied::{
     Expr, ExprConst, ExprConstOf, ExprLit, ExprLitOf, ExprMacro, ExprMacroOf, ExprPath, ExprPathOf,
     ExprRange, Place, Subtree,
 };
-use crate::ty::{Type, print_lone_comma, print_type, print_verbatim};
+use crate::ty::{Type, print_last_comma, print_lone_comma, print_type, print_verbatim, print_word};
 use std::alloc::{AllocError, Global};
 use token_core::token::{
     And, At, Brace, Bracket, Colon, Comma, DotDot, If, Mark, Mut, Or, Paren, Ref, Underscore, Word,
@@ -1017,26 +1017,9 @@ fn print_struct_rest<P, X: Subtree>(
 {
     match &pat.rest {
         Some(rest) => {
-            print_last_comma(alloc, &pat.fields, out)?;
+            print_last_comma(alloc, &pat.fields, Comma::default(), out)?;
             print_rest(alloc, rest, out)
         }
-        None => Ok(()),
-    }
-}
-
-/// A comma after a last member that has none.
-#[tactic(auto, using(token_core::proofs::Puts::puts, crate::proofs::pat_laws::Commas::commas))]
-fn print_last_comma<T>(
-    alloc: Global,
-    list: &Punctuated<T, Comma>,
-    out: &mut TokenStream,
-) -> Result<(), AllocError>
-    ensures ok { OnOk result (trees out.new ≡ trees out.old ++ printing.last_comma list.now.0 list.now.1) }
-    ensures err { OnErr result (Extends (trees out.old) (trees out.new)) }
-{
-    let (_pairs, last) = list.parts();
-    match last {
-        Some(_) => Comma::default().to_tokens(alloc, out),
         None => Ok(()),
     }
 }
@@ -1077,21 +1060,6 @@ fn print_guard<X: Subtree>(
     match guard {
         Expr::Other(tree) => tree.print(alloc, Place::Guard, out),
         _ => print_value(alloc, guard, out),
-    }
-}
-
-#[tactic(auto, using(token_core::proofs::Puts::puts))]
-fn print_word<const N: u32>(
-    alloc: Global,
-    word: &Option<Word<N>>,
-    out: &mut TokenStream,
-) -> Result<(), AllocError>
-    ensures ok { OnOk result (trees out.new ≡ trees out.old ++ printing.optional_word word.now) }
-    ensures err { OnErr result (Extends (trees out.old) (trees out.new)) }
-{
-    match word {
-        Some(token) => token.to_tokens(alloc, out),
-        None => Ok(()),
     }
 }
 

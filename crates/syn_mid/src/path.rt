@@ -15,13 +15,15 @@ ghost use Rattle.syn_mid.specs.path.Printing as printing;
 ghost use Rattle.syn_mid.specs.path.Reading as reading;
 ghost use Rattle.syn_mid.specs.path.Spelling.{IsModPath, is_mod_word, is_type_word};
 
+use crate::ty::Type;
 use std::alloc::{AllocError, Global};
 use std::marker::PhantomData;
 use token_core::token::{
-    Crate, Gt, Le, Lt, Paren, PathSep, SelfType, SelfValue, ShlEq, Super, Try,
+    As, Crate, Gt, Le, Lt, Paren, PathSep, SelfType, SelfValue, ShlEq, Super, Try,
 };
 use token_core::{
-    Error, ErrorKind, Ident, Lit, ParseStream, Punctuated, Span, Text, ToTokens, Token, TokenStream,
+    Boxed, Error, ErrorKind, Ident, Lit, ParseStream, Punctuated, Span, Text, ToTokens, Token,
+    TokenStream,
 };
 
 /// A path: an optional leading `::`, and segments joined by `::`.
@@ -65,6 +67,20 @@ pub struct ParenthesizedGenericArguments<X> {
     /// In place of the inputs.
     pub inputs: PhantomData<X>,
 }
+
+/// What qualifies a path, over that type: `<T as ..>` before it.
+#[derive(Drop)]
+pub struct QSelfOf<T> {
+    pub lt_token: Lt,
+    pub ty: Boxed<T>,
+    /// How many segments of the path stand before `>`.
+    pub position: usize,
+    pub as_token: Option<As>,
+    pub gt_token: Gt,
+}
+
+/// What qualifies a path: a type, and how many of its segments name the trait.
+pub type QSelf<X> = QSelfOf<Type<X>>;
 
 /// What the segments of a path without arguments may be.
 #[derive(Clone, Copy, PartialEq, Eq)]
@@ -608,5 +624,90 @@ fn print_colon(
     match colon {
         Some(colon) => colon.to_tokens(alloc, out),
         None => Ok(()),
+    }
+}
+
+/// Appends what follows the type that qualifies a path: `as` and the segments up to `>`, and those after it. `>` stands after as many segments as
+/// `position` says, or as there are; where that is none, there is no `as`. A missing `as` is printed all the same.
+#[tactic(auto, using(token_core::proofs::Puts::puts, crate::proofs::path_laws::Around::qualifies))]
+pub(crate) fn print_qualified<T, X>(
+    alloc: Global,
+    qself: &QSelfOf<T>,
+    path: &Path<X>,
+    style: PathStyle,
+    out: &mut TokenStream,
+) -> Result<(), AllocError>
+    ensures ok { OnOk result (trees out.new ≡ trees out.old ++ printing.qualified style qself.now path.now) }
+    ensures err { OnErr result (Extends (trees out.old) (trees out.new)) }
+{
+    let before = qself.position.min(path.segments.len());
+    if before == 0 {
+        qself.gt_token.to_tokens(alloc, out)?;
+        return print_path(alloc, path, style, out);
+    }
+    print_as(alloc, &qself.as_token, out)?;
+    print_colon(alloc, &path.leading_colon, out)?;
+    print_around(alloc, &path.segments, before, &qself.gt_token, style, out)
+}
+
+/// `as`, or one that stands nowhere.
+#[tactic(auto, using(token_core::proofs::Puts::puts))]
+fn print_as(alloc: Global, as_token: &Option<As>, out: &mut TokenStream) -> Result<(), AllocError>
+    ensures ok { OnOk result (trees out.new ≡ trees out.old ++ printing.as_or_default as_token.now) }
+    ensures err { OnErr result (Extends (trees out.old) (trees out.new)) }
+{
+    match as_token {
+        Some(token) => token.to_tokens(alloc, out),
+        None => As::default().to_tokens(alloc, out),
+    }
+}
+
+/// The segments, with `>` after as many as are to stand before it; those print as they stand.
+#[tactic(auto, using(token_core::proofs::Puts::puts))]
+fn print_around<X>(
+    alloc: Global,
+    segments: &Punctuated<PathSegment<X>, PathSep>,
+    before: usize,
+    gt_token: &Gt,
+    style: PathStyle,
+    out: &mut TokenStream,
+) -> Result<(), AllocError>
+    ensures ok { OnOk result (trees out.new ≡ trees out.old ++ printing.around style gt_token.now before segments.now.0 segments.now.1) }
+    ensures err { OnErr result (Extends (trees out.old) (trees out.new)) }
+{
+    let (pairs, last) = segments.parts();
+    let mut before = before;
+    for pair in pairs {
+        print_closing(alloc, &pair.value, before, gt_token, style, out)?;
+        pair.mark.to_tokens(alloc, out)?;
+        before = before.saturating_sub(1);
+    }
+    match last {
+        Some(segment) => print_closing(alloc, segment, before, gt_token, style, out),
+        None => Ok(()),
+    }
+}
+
+/// A segment, and `>` after it where it is the last of those before.
+#[tactic(auto, using(token_core::proofs::Puts::puts, crate::proofs::path_laws::Around::closings))]
+fn print_closing<X>(
+    alloc: Global,
+    segment: &PathSegment<X>,
+    before: usize,
+    gt_token: &Gt,
+    style: PathStyle,
+    out: &mut TokenStream,
+) -> Result<(), AllocError>
+    ensures ok { OnOk result (trees out.new ≡ trees out.old ++ printing.closing style gt_token.now before segment.now) }
+    ensures err { OnErr result (Extends (trees out.old) (trees out.new)) }
+{
+    if before == 0 {
+        return print_segment(alloc, segment, style, out);
+    }
+    print_segment(alloc, segment, PathStyle::AsWritten, out)?;
+    if before == 1 {
+        gt_token.to_tokens(alloc, out)
+    } else {
+        Ok(())
     }
 }

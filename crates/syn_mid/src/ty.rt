@@ -1,6 +1,7 @@
 //! Types.
 
-ghost use Rattle.std.specs.Prelude.{◌≡◌, ◌++◌, false, true, IfOk, OnOk, OnErr, Option};
+ghost use Rattle.std.specs.Prelude.{◌≡◌, ◌++◌, false, true, IfOk, OnOk, OnErr, Option, option_map};
+ghost use Rattle.token_core.specs.Joined.{values_of, marks_of};
 ghost use Rattle.token_core.specs.Headline.{Headline, Heads};
 ghost use Rattle.token_core.specs.Prints.{Extends};
 ghost use Rattle.token_core.specs.Reads.{Reads, Follows, Gives, Fails};
@@ -9,25 +10,32 @@ ghost use Rattle.token_core.specs.Trees.{trees};
 ghost use Rattle.syn_mid.specs.declared.ty.Type.TheVariants as types;
 ghost use Rattle.syn_mid.specs.ty.Grammars as grammars;
 ghost use Rattle.syn_mid.specs.ty.Knot as knot;
+ghost use Rattle.syn_mid.specs.generics.Shapes as shapes;
 ghost use Rattle.syn_mid.specs.ty.Printing as printing;
 ghost use Rattle.syn_mid.specs.ty.Reading as reading;
 ghost use Rattle.syn_mid.specs.ty.Spelling.{IsMutability, IsInfer, IsNever, IsMacroType, IsPathType, IsSomeType, IsSomeArray, IsSomeParen, IsSomePtr, IsSomeReference, IsSomeSlice, IsSomeTuple};
 
-use crate::attr::print_value;
+use crate::attr::{Attribute, print_outer, print_value};
+use crate::generics::{
+    BoundLifetimes, GenericParam, TypeParamBound, print_binder_end, print_binder_start,
+    print_bound, print_param,
+};
 use crate::grammar::{
     parse_array, parse_infer, parse_macro_type, parse_mutability, parse_never, parse_paren,
     parse_path_type, parse_ptr, parse_reference, parse_slice, parse_tuple, parse_type,
 };
 use crate::mac::Macro;
-use crate::path::Path;
+use crate::path::{Path, PathStyle, QSelfOf, print_qualified};
 use crate::supplied::{Expr, Place, Subtree};
 use std::alloc::{AllocError, Global};
 use std::marker::PhantomData;
 use token_core::token::{
-    And, Bracket, Comma, Const, Extern, GroupToken, Mut, Not, Paren, RArrow, Semi, Star, Underscore,
+    And, Bracket, Colon, Comma, Const, DotDotDot, Dyn, Extern, Fn, GroupToken, Impl, Mark, Mut,
+    Not, Paren, Plus, RArrow, Semi, Star, Underscore, Unsafe, Word,
 };
 use token_core::{
-    Boxed, Error, Lifetime, LitStr, Parse, ParseStream, Punctuated, ToTokens, TokenStream,
+    Boxed, Error, Ident, Items, Lifetime, LitStr, Pair, Parse, ParseStream, Punctuated, ToTokens,
+    TokenStream,
 };
 
 /// A type.
@@ -36,8 +44,12 @@ use token_core::{
 pub enum Type<X> {
     /// `[T; n]`
     Array(TypeArray<X>),
+    /// `for<'a> unsafe extern "C" fn(a: A, ...) -> B`. No reader answers it yet.
+    FnPtr(TypeFnPtr<X>),
     /// A type in an invisible group, as a macro hands it on. No reader answers it yet.
     Group(TypeGroup<X>),
+    /// `impl A + 'a`. No reader answers it yet.
+    ImplTrait(TypeImplTrait<X>),
     /// `_`
     Infer(TypeInfer),
     /// `a::b! { .. }`
@@ -46,7 +58,7 @@ pub enum Type<X> {
     Never(TypeNever),
     /// `(T)`
     Paren(TypeParen<X>),
-    /// `a::b`
+    /// `a::b`, `<T as a::b>::c`
     Path(TypePath<X>),
     /// `*const T`, `*mut T`
     Ptr(TypePtr<X>),
@@ -54,6 +66,8 @@ pub enum Type<X> {
     Reference(TypeReference<X>),
     /// `[T]`
     Slice(TypeSlice<X>),
+    /// `dyn A + 'a`. No reader answers it yet.
+    TraitObject(TypeTraitObject<X>),
     /// `(A, B)`
     Tuple(TypeTuple<X>),
     /// Tokens that no other case holds. No reader answers it yet.
@@ -72,6 +86,21 @@ pub struct TypeArrayOf<T, E> {
 /// An array: `[`, a type, `;`, a length, `]`.
 pub type TypeArray<X> = TypeArrayOf<Type<X>, Expr<X>>;
 
+/// A pointer to a function: an optional binder, an optional `unsafe`, an optional calling convention, `fn`, in parentheses the
+/// arguments and an optional `...`, and what it returns.
+#[cycle(types)]
+#[derive(Drop)]
+pub struct TypeFnPtr<X> {
+    pub lifetimes: Option<BoundLifetimes<X>>,
+    pub unsafety: Option<Unsafe>,
+    pub abi: Option<Abi>,
+    pub fn_token: Fn,
+    pub paren_token: Paren,
+    pub inputs: Punctuated<NamedArg<X>, Comma>,
+    pub variadic: Option<FnPtrVariadic<X>>,
+    pub output: ReturnType<X>,
+}
+
 /// A type in an invisible group, over that type.
 #[derive(Drop)]
 pub struct TypeGroupOf<T> {
@@ -81,6 +110,16 @@ pub struct TypeGroupOf<T> {
 
 /// A type in an invisible group.
 pub type TypeGroup<X> = TypeGroupOf<Type<X>>;
+
+/// A type that the function picks, over its bounds.
+#[derive(Drop)]
+pub struct TypeImplTraitOf<B> {
+    pub impl_token: Impl,
+    pub bounds: Punctuated<B, Plus>,
+}
+
+/// A type that the function picks: `impl`, and bounds joined by `+`.
+pub type TypeImplTrait<X> = TypeImplTraitOf<TypeParamBound<X>>;
 
 /// A type to be found by the compiler: `_`.
 #[derive(Clone, Copy)]
@@ -110,11 +149,15 @@ pub struct TypeParenOf<T> {
 /// A type in parentheses.
 pub type TypeParen<X> = TypeParenOf<Type<X>>;
 
-/// A type by its path.
+/// A type by its path, over the type that qualifies it.
 #[derive(Drop)]
-pub struct TypePath<X> {
+pub struct TypePathOf<T, X> {
+    pub qself: Option<QSelfOf<T>>,
     pub path: Path<X>,
 }
+
+/// A type by its path, which may be qualified.
+pub type TypePath<X> = TypePathOf<Type<X>, X>;
 
 /// What may be done by way of a raw pointer.
 #[derive(Clone, Copy)]
@@ -156,6 +199,16 @@ pub struct TypeSliceOf<T> {
 /// A slice: a type in brackets.
 pub type TypeSlice<X> = TypeSliceOf<Type<X>>;
 
+/// A trait object, over its bounds.
+#[derive(Drop)]
+pub struct TypeTraitObjectOf<B> {
+    pub dyn_token: Option<Dyn>,
+    pub bounds: Punctuated<B, Plus>,
+}
+
+/// A trait object: `dyn`, and bounds joined by `+`.
+pub type TypeTraitObject<X> = TypeTraitObjectOf<TypeParamBound<X>>;
+
 /// A tuple over its elements' type.
 #[derive(Drop)]
 pub struct TypeTupleOf<T> {
@@ -171,6 +224,26 @@ pub type TypeTuple<X> = TypeTupleOf<Type<X>>;
 pub struct Abi {
     pub extern_token: Extern,
     pub name: Option<LitStr>,
+}
+
+/// An argument of a pointer to a function, over its type.
+#[derive(Drop)]
+pub struct NamedArgOf<T, X> {
+    pub attrs: Items<Attribute<X>>,
+    pub name: Option<(Ident, Colon)>,
+    pub ty: T,
+}
+
+/// An argument of a pointer to a function: attributes, an optional name, a type.
+pub type NamedArg<X> = NamedArgOf<Type<X>, X>;
+
+/// What stands after the arguments of a function that takes any number of them: attributes, an optional name, `...`, an optional comma.
+#[derive(Drop)]
+pub struct FnPtrVariadic<X> {
+    pub attrs: Items<Attribute<X>>,
+    pub name: Option<(Ident, Colon)>,
+    pub dots: DotDotDot,
+    pub comma: Option<Comma>,
 }
 
 /// What a function returns, over its type.
@@ -388,13 +461,13 @@ impl<X: Subtree> Parse for TypePath<X> {
 
     ghost refuses = { Fails (reading.path_type {X = X}) };
 
-    ghost promise = { Headline (grammars.path_type {X = X}) };
+    ghost promise = { Headline (grammars.path_type X.reads X.spells X.normal X.prints) };
 
     fn parse(alloc: Global, input: &mut ParseStream<'_>) -> Result<TypePath<X>, Error>
         ensures reads { Reads (reading.path_type input.old) result input.new }
         ensures within { Follows input.old input.new }
         ensures front { Visible input.old.rest → IfOk result (λ x. IsPathType false x input.old.rest input.new.rest) }
-        ensures promise { Heads grammars.path_type input.old result input.new }
+        ensures promise { Heads (grammars.path_type X.reads X.spells X.normal X.prints) input.old result input.new }
     {
         parse_path_type(alloc, input)
     }
@@ -428,11 +501,27 @@ impl<X> From<TypeArray<X>> for Type<X> {
     }
 }
 
+impl<X> From<TypeFnPtr<X>> for Type<X> {
+    ghost from_gives = { λ form ty. ty ≡ types.FnPtr form };
+
+    fn from(form: TypeFnPtr<X>) -> Type<X> {
+        Type::FnPtr(form)
+    }
+}
+
 impl<X> From<TypeGroup<X>> for Type<X> {
     ghost from_gives = { λ form ty. ty ≡ types.Group form };
 
     fn from(form: TypeGroup<X>) -> Type<X> {
         Type::Group(form)
+    }
+}
+
+impl<X> From<TypeImplTrait<X>> for Type<X> {
+    ghost from_gives = { λ form ty. ty ≡ types.ImplTrait form };
+
+    fn from(form: TypeImplTrait<X>) -> Type<X> {
+        Type::ImplTrait(form)
     }
 }
 
@@ -497,6 +586,14 @@ impl<X> From<TypeSlice<X>> for Type<X> {
 
     fn from(form: TypeSlice<X>) -> Type<X> {
         Type::Slice(form)
+    }
+}
+
+impl<X> From<TypeTraitObject<X>> for Type<X> {
+    ghost from_gives = { λ form ty. ty ≡ types.TraitObject form };
+
+    fn from(form: TypeTraitObject<X>) -> Type<X> {
+        Type::TraitObject(form)
     }
 }
 
@@ -594,11 +691,19 @@ impl<X: Subtree> ToTokens for TypeParen<X> {
     }
 }
 
-impl<X> ToTokens for TypePath<X> {
-    ghost print = { printing.path_type };
+/// Appends a path as it stands; a qualified one between `<` and `>`, which stand after as many segments as its `position` says, or as there are.
+impl<X: Subtree> ToTokens for TypePath<X> {
+    ghost print = { printing.path_type X.prints };
 
     fn to_tokens(&self, alloc: Global, out: &mut TokenStream) -> Result<(), AllocError> {
-        self.path.to_tokens(alloc, out)
+        let before = out.len();
+        match print_path_type(alloc, self, out) {
+            Ok(()) => Ok(()),
+            Err(error) => {
+                out.truncate(before);
+                Err(error)
+            }
+        }
     }
 }
 
@@ -735,6 +840,84 @@ fn print_return_type<X: Subtree>(
     }
 }
 
+/// Appends the binder, `unsafe`, the convention, `fn`, in parentheses the arguments and `...` after a comma, and what is returned.
+impl<X: Subtree> ToTokens for TypeFnPtr<X> {
+    ghost print = { printing.fn_ptr X.prints };
+
+    fn to_tokens(&self, alloc: Global, out: &mut TokenStream) -> Result<(), AllocError> {
+        let before = out.len();
+        match print_fn_ptr(alloc, self, out) {
+            Ok(()) => Ok(()),
+            Err(error) => {
+                out.truncate(before);
+                Err(error)
+            }
+        }
+    }
+}
+
+impl<X: Subtree> ToTokens for TypeImplTrait<X> {
+    ghost print = { printing.impl_trait X.prints };
+
+    fn to_tokens(&self, alloc: Global, out: &mut TokenStream) -> Result<(), AllocError> {
+        let before = out.len();
+        match print_impl_trait(alloc, self, out) {
+            Ok(()) => Ok(()),
+            Err(error) => {
+                out.truncate(before);
+                Err(error)
+            }
+        }
+    }
+}
+
+impl<X: Subtree> ToTokens for TypeTraitObject<X> {
+    ghost print = { printing.trait_object X.prints };
+
+    fn to_tokens(&self, alloc: Global, out: &mut TokenStream) -> Result<(), AllocError> {
+        let before = out.len();
+        match print_trait_object(alloc, self, out) {
+            Ok(()) => Ok(()),
+            Err(error) => {
+                out.truncate(before);
+                Err(error)
+            }
+        }
+    }
+}
+
+/// Appends the outer attributes, the name and its colon, and the type.
+impl<X: Subtree> ToTokens for NamedArg<X> {
+    ghost print = { printing.named_arg X.prints };
+
+    fn to_tokens(&self, alloc: Global, out: &mut TokenStream) -> Result<(), AllocError> {
+        let before = out.len();
+        match print_named_arg(alloc, self, out) {
+            Ok(()) => Ok(()),
+            Err(error) => {
+                out.truncate(before);
+                Err(error)
+            }
+        }
+    }
+}
+
+/// Appends the outer attributes, the name and its colon, `...`, and the comma that it has.
+impl<X: Subtree> ToTokens for FnPtrVariadic<X> {
+    ghost print = { printing.variadic X.prints };
+
+    fn to_tokens(&self, alloc: Global, out: &mut TokenStream) -> Result<(), AllocError> {
+        let before = out.len();
+        match print_variadic(alloc, self, out) {
+            Ok(()) => Ok(()),
+            Err(error) => {
+                out.truncate(before);
+                Err(error)
+            }
+        }
+    }
+}
+
 /// Appends a type; refused, what stood before is kept.
 #[cycle(print)]
 #[tactic(auto, using(token_core::proofs::Puts::puts, crate::proofs::ty_laws::Prints::prints))]
@@ -748,15 +931,18 @@ pub(crate) fn print_type<X: Subtree>(
 {
     match ty {
         Type::Array(array) => print_array(alloc, array, out),
+        Type::FnPtr(pointer) => print_fn_ptr(alloc, pointer, out),
         Type::Group(group) => print_group(alloc, group, out),
+        Type::ImplTrait(opaque) => print_impl_trait(alloc, opaque, out),
         Type::Infer(infer) => infer.to_tokens(alloc, out),
         Type::Macro(call) => call.to_tokens(alloc, out),
         Type::Never(never) => never.to_tokens(alloc, out),
         Type::Paren(paren) => print_paren(alloc, paren, out),
-        Type::Path(path) => path.to_tokens(alloc, out),
+        Type::Path(path) => print_path_type(alloc, path, out),
         Type::Ptr(ptr) => print_ptr(alloc, ptr, out),
         Type::Reference(reference) => print_reference(alloc, reference, out),
         Type::Slice(slice) => print_slice(alloc, slice, out),
+        Type::TraitObject(object) => print_trait_object(alloc, object, out),
         Type::Tuple(tuple) => print_tuple(alloc, tuple, out),
         Type::Verbatim(tokens) => print_verbatim(alloc, tokens, out),
     }
@@ -780,6 +966,108 @@ fn print_array<X: Subtree>(
 }
 
 #[cycle(print)]
+#[tactic(auto, using(token_core::proofs::Puts::puts, crate::proofs::ty_laws::Prints::parts))]
+fn print_fn_ptr<X: Subtree>(
+    alloc: Global,
+    pointer: &TypeFnPtr<X>,
+    out: &mut TokenStream,
+) -> Result<(), AllocError>
+    ensures ok { OnOk result (trees out.new ≡ trees out.old ++ printing.fn_ptr X.prints pointer.now) }
+    ensures err { OnErr result (Extends (trees out.old) (trees out.new)) }
+{
+    print_binder_start(alloc, &pointer.lifetimes, out)?;
+    print_fn_params(alloc, pointer, out)?;
+    print_fn_head(alloc, pointer, out)?;
+    print_arguments(alloc, pointer, out)?;
+    print_output(alloc, pointer, out)
+}
+
+/// The parameters of the binder of a pointer to a function.
+#[cycle(print)]
+#[tactic(auto, using(token_core::proofs::Puts::puts, crate::proofs::ty_laws::Prints::prints))]
+fn print_fn_params<X: Subtree>(
+    alloc: Global,
+    pointer: &TypeFnPtr<X>,
+    out: &mut TokenStream,
+) -> Result<(), AllocError>
+    ensures ok { OnOk result (trees out.new ≡ trees out.old ++ printing.fn_params X.prints pointer.now) }
+    ensures err { OnErr result (Extends (trees out.old) (trees out.new)) }
+{
+    let (pairs, last) = pointer_params(pointer);
+    for pair in pairs {
+        print_param(alloc, &pair.value, out)?;
+        pair.mark.to_tokens(alloc, out)?;
+    }
+    match last {
+        Some(param) => print_param(alloc, param, out),
+        None => Ok(()),
+    }
+}
+
+/// The arguments of a pointer to a function in their parentheses.
+#[cycle(print)]
+#[tactic(auto, using(token_core::proofs::Puts::puts, crate::proofs::ty_laws::Prints::prints))]
+fn print_arguments<X: Subtree>(
+    alloc: Global,
+    pointer: &TypeFnPtr<X>,
+    out: &mut TokenStream,
+) -> Result<(), AllocError>
+    ensures ok { OnOk result (trees out.new ≡ trees out.old ++ printing.arguments X.prints pointer.now) }
+    ensures err { OnErr result (Extends (trees out.old) (trees out.new)) }
+{
+    let mut content = TokenStream::new(alloc);
+    print_inputs(alloc, pointer, &mut content)?;
+    print_more(alloc, pointer, &mut content)?;
+    pointer.paren_token.surround(content, out)
+}
+
+/// Each argument of a pointer to a function with its comma.
+#[cycle(print)]
+#[tactic(auto, using(token_core::proofs::Puts::puts, crate::proofs::ty_laws::Prints::prints))]
+fn print_inputs<X: Subtree>(
+    alloc: Global,
+    pointer: &TypeFnPtr<X>,
+    out: &mut TokenStream,
+) -> Result<(), AllocError>
+    ensures ok { OnOk result (trees out.new ≡ trees out.old ++ printing.fn_inputs X.prints pointer.now) }
+    ensures err { OnErr result (Extends (trees out.old) (trees out.new)) }
+{
+    let (pairs, last) = pointer_inputs(pointer);
+    for pair in pairs {
+        print_arg_name(alloc, &pair.value.attrs, &pair.value.name, out)?;
+        print_type(alloc, &pair.value.ty, out)?;
+        pair.mark.to_tokens(alloc, out)?;
+    }
+    match last {
+        Some(arg) => {
+            print_arg_name(alloc, &arg.attrs, &arg.name, out)?;
+            print_type(alloc, &arg.ty, out)
+        }
+        None => Ok(()),
+    }
+}
+
+/// What a pointer to a function returns.
+#[cycle(print)]
+#[tactic(auto, using(token_core::proofs::Puts::puts, crate::proofs::ty_laws::Prints::prints))]
+fn print_output<X: Subtree>(
+    alloc: Global,
+    pointer: &TypeFnPtr<X>,
+    out: &mut TokenStream,
+) -> Result<(), AllocError>
+    ensures ok { OnOk result (trees out.new ≡ trees out.old ++ printing.fn_output X.prints pointer.now) }
+    ensures err { OnErr result (Extends (trees out.old) (trees out.new)) }
+{
+    match &pointer.output {
+        ReturnTypeOf::Default => Ok(()),
+        ReturnTypeOf::Type(arrow, ty) => {
+            arrow.to_tokens(alloc, out)?;
+            print_type(alloc, ty.get(), out)
+        }
+    }
+}
+
+#[cycle(print)]
 #[tactic(auto, using(token_core::proofs::Puts::puts, crate::proofs::ty_laws::Prints::prints))]
 fn print_group<X: Subtree>(
     alloc: Global,
@@ -796,6 +1084,28 @@ fn print_group<X: Subtree>(
 
 #[cycle(print)]
 #[tactic(auto, using(token_core::proofs::Puts::puts, crate::proofs::ty_laws::Prints::prints))]
+fn print_impl_trait<X: Subtree>(
+    alloc: Global,
+    opaque: &TypeImplTrait<X>,
+    out: &mut TokenStream,
+) -> Result<(), AllocError>
+    ensures ok { OnOk result (trees out.new ≡ trees out.old ++ printing.impl_trait X.prints opaque.now) }
+    ensures err { OnErr result (Extends (trees out.old) (trees out.new)) }
+{
+    opaque.impl_token.to_tokens(alloc, out)?;
+    let (pairs, last) = bound_parts(&opaque.bounds);
+    for pair in pairs {
+        print_bound(alloc, &pair.value, out)?;
+        pair.mark.to_tokens(alloc, out)?;
+    }
+    match last {
+        Some(bound) => print_bound(alloc, bound, out),
+        None => Ok(()),
+    }
+}
+
+#[cycle(print)]
+#[tactic(auto, using(token_core::proofs::Puts::puts, crate::proofs::ty_laws::Prints::prints))]
 fn print_paren<X: Subtree>(
     alloc: Global,
     paren: &TypeParen<X>,
@@ -807,6 +1117,26 @@ fn print_paren<X: Subtree>(
     let mut content = TokenStream::new(alloc);
     print_type(alloc, paren.elem.get(), &mut content)?;
     paren.paren_token.surround(content, out)
+}
+
+#[cycle(print)]
+#[tactic(auto, using(token_core::proofs::Puts::puts, crate::proofs::ty_laws::Prints::prints))]
+fn print_path_type<X: Subtree>(
+    alloc: Global,
+    path: &TypePath<X>,
+    out: &mut TokenStream,
+) -> Result<(), AllocError>
+    ensures ok { OnOk result (trees out.new ≡ trees out.old ++ printing.path_type X.prints path.now) }
+    ensures err { OnErr result (Extends (trees out.old) (trees out.new)) }
+{
+    match &path.qself {
+        Some(qself) => {
+            qself.lt_token.to_tokens(alloc, out)?;
+            print_type(alloc, qself.ty.get(), out)?;
+            print_qualified(alloc, qself, &path.path, PathStyle::AsWritten, out)
+        }
+        None => path.path.to_tokens(alloc, out),
+    }
 }
 
 #[cycle(print)]
@@ -836,7 +1166,7 @@ fn print_reference<X: Subtree>(
 {
     reference.and_token.to_tokens(alloc, out)?;
     print_lifetime(alloc, &reference.lifetime, out)?;
-    print_mutability(alloc, &reference.mutability, out)?;
+    print_word(alloc, &reference.mutability, out)?;
     print_type(alloc, reference.elem.get(), out)
 }
 
@@ -853,6 +1183,28 @@ fn print_slice<X: Subtree>(
     let mut content = TokenStream::new(alloc);
     print_type(alloc, slice.elem.get(), &mut content)?;
     slice.bracket_token.surround(content, out)
+}
+
+#[cycle(print)]
+#[tactic(auto, using(token_core::proofs::Puts::puts, crate::proofs::ty_laws::Prints::prints))]
+fn print_trait_object<X: Subtree>(
+    alloc: Global,
+    object: &TypeTraitObject<X>,
+    out: &mut TokenStream,
+) -> Result<(), AllocError>
+    ensures ok { OnOk result (trees out.new ≡ trees out.old ++ printing.trait_object X.prints object.now) }
+    ensures err { OnErr result (Extends (trees out.old) (trees out.new)) }
+{
+    print_word(alloc, &object.dyn_token, out)?;
+    let (pairs, last) = bound_parts(&object.bounds);
+    for pair in pairs {
+        print_bound(alloc, &pair.value, out)?;
+        pair.mark.to_tokens(alloc, out)?;
+    }
+    match last {
+        Some(bound) => print_bound(alloc, bound, out),
+        None => Ok(()),
+    }
 }
 
 #[cycle(print)]
@@ -882,7 +1234,7 @@ fn print_elements<X: Subtree>(
     ensures ok { OnOk result (trees out.new ≡ trees out.old ++ printing.elements X.prints tuple.now.elems) }
     ensures err { OnErr result (Extends (trees out.old) (trees out.new)) }
 {
-    let (pairs, last) = tuple.elems.parts();
+    let (pairs, last) = element_parts(tuple);
     for pair in pairs {
         print_type(alloc, &pair.value, out)?;
         pair.mark.to_tokens(alloc, out)?;
@@ -963,17 +1315,177 @@ fn print_lifetime(
     }
 }
 
+// ---- parts of pointers to functions, trait objects and opaque types that lead back to no type
+
+/// The elements of a tuple by their parts.
+fn element_parts<X>(tuple: &TypeTuple<X>) -> (&[Pair<Type<X>, Comma>], Option<&Type<X>>)
+    ensures { tuple.now.elems ≡ (values_of result.0.now (option_map (λ x. x.now) result.1), marks_of result.0.now) }
+{
+    tuple.elems.parts()
+}
+
+/// The parameters of the binder of a pointer to a function by their parts; none without a binder.
+fn pointer_params<X>(
+    pointer: &TypeFnPtr<X>,
+) -> (&[Pair<GenericParam<X>, Comma>], Option<&GenericParam<X>>)
+    ensures { shapes.binder_params (printing.fn_lifetimes pointer.now) ≡ (values_of result.0.now (option_map (λ x. x.now) result.1), marks_of result.0.now) }
+{
+    match &pointer.lifetimes {
+        Some(binder) => binder.lifetimes.parts(),
+        None => (&[], None),
+    }
+}
+
+/// The arguments of a pointer to a function by their parts.
+fn pointer_inputs<X>(pointer: &TypeFnPtr<X>) -> (&[Pair<NamedArg<X>, Comma>], Option<&NamedArg<X>>)
+    ensures { printing.inputs_of pointer.now ≡ (values_of result.0.now (option_map (λ x. x.now) result.1), marks_of result.0.now) }
+{
+    pointer.inputs.parts()
+}
+
+/// Bounds by their parts.
+pub(crate) fn bound_parts<X>(
+    bounds: &Punctuated<TypeParamBound<X>, Plus>,
+) -> (&[Pair<TypeParamBound<X>, Plus>], Option<&TypeParamBound<X>>)
+    ensures { bounds.now ≡ (values_of result.0.now (option_map (λ x. x.now) result.1), marks_of result.0.now) }
+{
+    bounds.parts()
+}
+
+/// A word, where there is one.
 #[tactic(auto, using(token_core::proofs::Puts::puts))]
-fn print_mutability(
+pub(crate) fn print_word<const N: u32>(
     alloc: Global,
-    mutability: &Option<Mut>,
+    word: &Option<Word<N>>,
     out: &mut TokenStream,
 ) -> Result<(), AllocError>
-    ensures ok { OnOk result (trees out.new ≡ trees out.old ++ printing.mutability mutability.now) }
+    ensures ok { OnOk result (trees out.new ≡ trees out.old ++ printing.optional_word word.now) }
     ensures err { OnErr result (Extends (trees out.old) (trees out.new)) }
 {
-    match mutability {
+    match word {
         Some(token) => token.to_tokens(alloc, out),
+        None => Ok(()),
+    }
+}
+
+/// A pointer to a function from the end of its binder to `fn`.
+#[tactic(auto, using(token_core::proofs::Puts::puts))]
+fn print_fn_head<X>(
+    alloc: Global,
+    pointer: &TypeFnPtr<X>,
+    out: &mut TokenStream,
+) -> Result<(), AllocError>
+    ensures ok { OnOk result (trees out.new ≡ trees out.old ++ printing.fn_head pointer.now) }
+    ensures err { OnErr result (Extends (trees out.old) (trees out.new)) }
+{
+    print_binder_end(alloc, &pointer.lifetimes, out)?;
+    print_word(alloc, &pointer.unsafety, out)?;
+    print_convention(alloc, &pointer.abi, out)?;
+    pointer.fn_token.to_tokens(alloc, out)
+}
+
+#[tactic(auto, using(token_core::proofs::Puts::puts))]
+fn print_convention(
+    alloc: Global,
+    abi: &Option<Abi>,
+    out: &mut TokenStream,
+) -> Result<(), AllocError>
+    ensures ok { OnOk result (trees out.new ≡ trees out.old ++ printing.optional_abi abi.now) }
+    ensures err { OnErr result (Extends (trees out.old) (trees out.new)) }
+{
+    match abi {
+        Some(abi) => print_abi(alloc, abi, out),
+        None => Ok(()),
+    }
+}
+
+/// Outer attributes, and a name with its colon.
+#[tactic(auto, using(token_core::proofs::Puts::puts))]
+fn print_arg_name<X: Subtree>(
+    alloc: Global,
+    attrs: &Items<Attribute<X>>,
+    name: &Option<(Ident, Colon)>,
+    out: &mut TokenStream,
+) -> Result<(), AllocError>
+    ensures ok { OnOk result (trees out.new ≡ trees out.old ++ printing.arg_name X.prints attrs.now name.now) }
+    ensures err { OnErr result (Extends (trees out.old) (trees out.new)) }
+{
+    print_outer(alloc, attrs, out)?;
+    match name {
+        Some((ident, colon)) => {
+            ident.to_tokens(alloc, out)?;
+            colon.to_tokens(alloc, out)
+        }
+        None => Ok(()),
+    }
+}
+
+#[tactic(auto, using(token_core::proofs::Puts::puts))]
+fn print_named_arg<X: Subtree>(
+    alloc: Global,
+    arg: &NamedArg<X>,
+    out: &mut TokenStream,
+) -> Result<(), AllocError>
+    ensures ok { OnOk result (trees out.new ≡ trees out.old ++ printing.named_arg X.prints arg.now) }
+    ensures err { OnErr result (Extends (trees out.old) (trees out.new)) }
+{
+    print_arg_name(alloc, &arg.attrs, &arg.name, out)?;
+    print_type(alloc, &arg.ty, out)
+}
+
+#[tactic(auto, using(token_core::proofs::Puts::puts))]
+fn print_variadic<X: Subtree>(
+    alloc: Global,
+    variadic: &FnPtrVariadic<X>,
+    out: &mut TokenStream,
+) -> Result<(), AllocError>
+    ensures ok { OnOk result (trees out.new ≡ trees out.old ++ printing.variadic X.prints variadic.now) }
+    ensures err { OnErr result (Extends (trees out.old) (trees out.new)) }
+{
+    print_arg_name(alloc, &variadic.attrs, &variadic.name, out)?;
+    variadic.dots.to_tokens(alloc, out)?;
+    match &variadic.comma {
+        Some(comma) => comma.to_tokens(alloc, out),
+        None => Ok(()),
+    }
+}
+
+/// `...` of a pointer to a function, after a comma, which is added where the last argument has none.
+#[tactic(auto, using(token_core::proofs::Puts::puts))]
+fn print_more<X: Subtree>(
+    alloc: Global,
+    pointer: &TypeFnPtr<X>,
+    out: &mut TokenStream,
+) -> Result<(), AllocError>
+    ensures ok { OnOk result (trees out.new ≡ trees out.old ++ printing.fn_more X.prints pointer.now) }
+    ensures err { OnErr result (Extends (trees out.old) (trees out.new)) }
+{
+    match &pointer.variadic {
+        Some(variadic) => {
+            let comma = Mark::<4, 1> {
+                spans: [variadic.dots.spans[0]],
+            };
+            print_last_comma(alloc, &pointer.inputs, comma, out)?;
+            print_variadic(alloc, variadic, out)
+        }
+        None => Ok(()),
+    }
+}
+
+/// A comma after a last member that has none.
+#[tactic(auto, using(token_core::proofs::Puts::puts, crate::proofs::ty_laws::Lasts::lasts))]
+pub(crate) fn print_last_comma<T>(
+    alloc: Global,
+    list: &Punctuated<T, Comma>,
+    comma: Comma,
+    out: &mut TokenStream,
+) -> Result<(), AllocError>
+    ensures ok { OnOk result (trees out.new ≡ trees out.old ++ printing.last_comma comma list.now.0 list.now.1) }
+    ensures err { OnErr result (Extends (trees out.old) (trees out.new)) }
+{
+    let (_, last) = list.parts();
+    match last {
+        Some(_) => comma.to_tokens(alloc, out),
         None => Ok(()),
     }
 }

@@ -24,7 +24,7 @@ use Rattle.syn_mid.specs.declared.ty.TypeInfer as infer
 use Rattle.syn_mid.specs.declared.ty.TypeMacro as macro_type
 use Rattle.syn_mid.specs.declared.ty.TypeNever as never
 use Rattle.syn_mid.specs.declared.ty.TypeParenOf as paren
-use Rattle.syn_mid.specs.declared.ty.TypePath as path_type
+use Rattle.syn_mid.specs.declared.ty.TypePathOf as path_type
 use Rattle.syn_mid.specs.declared.ty.TypePtrOf as ptr
 use Rattle.syn_mid.specs.declared.ty.TypeReferenceOf as reference
 use Rattle.syn_mid.specs.declared.ty.TypeSliceOf as slice
@@ -81,7 +81,7 @@ Tree TypeInfer = infer.TypeInfer
 Tree TypeMacro = macro_type.TypeMacro Sample
 Tree TypeNever = never.TypeNever
 Tree TypeParen = paren.TypeParenOf (ty.«Type» Sample)
-Tree TypePath = path_type.TypePath Sample
+Tree TypePath = path_type.TypePathOf (ty.«Type» Sample) Sample
 Tree TypePtr = ptr.TypePtrOf (ty.«Type» Sample)
 Tree TypeReference = reference.TypeReferenceOf (ty.«Type» Sample)
 Tree TypeSlice = slice.TypeSliceOf (ty.«Type» Sample)
@@ -103,7 +103,7 @@ grammar TypeInfer = types.infer
 grammar TypeMacro = types.macro_type
 grammar TypeNever = types.never
 grammar TypeParen = types.paren reads-value.it spells-value.it normal-value.it prints-value.it
-grammar TypePath = types.path_type
+grammar TypePath = types.path_type reads-value.it spells-value.it normal-value.it prints-value.it
 grammar TypePtr = types.ptr reads-value.it spells-value.it normal-value.it prints-value.it
 grammar TypeReference = types.reference reads-value.it spells-value.it normal-value.it prints-value.it
 grammar TypeSlice = types.slice reads-value.it spells-value.it normal-value.it prints-value.it

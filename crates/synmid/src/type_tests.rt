@@ -10,7 +10,7 @@ use std::alloc::Global;
 use std::fmt::Write;
 use syn_mid::{
     Expr, ExprLit, Macro, ModStyle, ParseOuter, Place, PointerMutability, Subtree, Type, TypeArray,
-    TypeInfer, TypeMacro, TypeNever, TypeParen, TypePath, TypePtr, TypeReference, TypeSlice,
+    TypeInfer, TypeMacro, TypeNever, TypeParen, TypePathOf, TypePtr, TypeReference, TypeSlice,
     TypeTuple,
 };
 use token_core::token::{And, Bracket, Comma, Const, Mut, Not, Paren, Semi, Star, Underscore};
@@ -25,7 +25,7 @@ type Ty = Type<Sample>;
 fn path(alloc: Global, text: &str) -> Result<Ty, Error> {
     let tokens = lex(alloc, text)?;
     let path = read_all_with(alloc, ModStyle::<Sample>::new(), &tokens)?;
-    Ok(Type::from(TypePath { path }))
+    Ok(Type::from(TypePathOf { qself: None, path }))
 }
 
 fn call(alloc: Global, text: &str) -> Result<Ty, Error> {

@@ -5,8 +5,7 @@ use Rattle.token_core.specs.Lists.{option_list}
 use Rattle.token_core.specs.Loops.{Many}
 use Rattle.token_core.specs.Prints as p
 use Rattle.token_core.specs.Prints.{Print}
-use Rattle.syn_mid.specs.ty.Types.{Comma}
-use Rattle.syn_mid.specs.ty.Printing.{comma}
+use Rattle.syn_mid.specs.ty.Types.{Comma, comma}
 use Rattle.syn_mid.specs.generics.Members.{Member, comma_of, lacks, some_left, adds, completed, each, commas_of, values_of, members, members_of, firsts, others, added, sorted, first_members, in_order, sort}
 use Rattle.syn_mid.proofs.ty_laws.Each.{Each}
 

@@ -6,26 +6,11 @@ use Rattle.token_core.specs.Lists.{first}
 use Rattle.token_core.specs.Loops.{Many}
 use Rattle.token_core.specs.Prints as p
 use Rattle.token_core.specs.Prints.{Print}
-use Rattle.syn_mid.specs.pat.Printing.{last_comma, tuple_comma}
-use Rattle.syn_mid.specs.ty.Printing.{comma, lone_comma}
-use Rattle.syn_mid.specs.ty.Types.{Comma}
+use Rattle.syn_mid.specs.pat.Printing.{tuple_comma}
+use Rattle.syn_mid.specs.ty.Printing.{lone_comma}
+use Rattle.syn_mid.specs.ty.Types.{Comma, comma}
 
 module _ {T : Type 0} where
-  last_none : (all : List (Pair T Comma)) → last_comma (values_of all None) (marks_of all) ≡ []
-  last_none [] = refl
-  last_none (x ∷ all) = last_none all
-
-  last_some : (all : List (Pair T Comma)) (t : T) → last_comma (values_of all (Some t)) (marks_of all) ≡ p.mark comma
-  last_some [] t = refl
-  last_some (x ∷ all) t = last_some all t
-
-  -- of a list, by its parts
-  pub ends_marked : (v : Many T Comma) (all : List (Pair T Comma)) (last : Option T) → v ≡ (values_of all last, marks_of all) → last ≡ None → last_comma v.0 v.1 ≡ []
-  ends_marked v all last h k = ap (λ (z : Many T Comma). last_comma z.0 z.1) h ∙ ap (λ l. last_comma (values_of all l) (marks_of all)) k ∙ last_none all
-
-  pub ends_bare : (v : Many T Comma) (all : List (Pair T Comma)) (last : Option T) (t : T) → v ≡ (values_of all last, marks_of all) → last ≡ Some t → last_comma v.0 v.1 ≡ p.mark comma
-  ends_bare v all last t h k = ap (λ (z : Many T Comma). last_comma z.0 z.1) h ∙ ap (λ l. last_comma (values_of all l) (marks_of all)) k ∙ last_some all t
-
   abbrev tests : (T → Bool) → Option T → Bool
   tests rest None = false
   tests rest (Some x) = rest x
@@ -48,4 +33,4 @@ module _ {T : Type 0} where
   begins_with_none rest [] cs h = refl
   begins_with_none rest (x ∷ all) cs h = let w : ◌≡◌ {A = Option T} (Some x) None = h in absurd (cc)
 
-pub ruleset commas = (ends_marked, ends_bare, begins_with_rest, begins_with_other, begins_with_none)
+pub ruleset commas = (begins_with_rest, begins_with_other, begins_with_none)

@@ -35,12 +35,13 @@ use Rattle.syn_mid.specs.declared.pat.PatTupleStructOf.{PatTupleStructOf}
 use Rattle.syn_mid.specs.declared.pat.PatTypeOf.{PatTypeOf}
 use Rattle.syn_mid.specs.declared.pat.PatWild.{PatWild}
 use Rattle.syn_mid.specs.attr.Printing as attr
-use Rattle.syn_mid.specs.generics.Printing.{optional}
+use Rattle.syn_mid.specs.generics.Shapes.{optional}
 use Rattle.syn_mid.specs.pat.Pats.{Pat, Attr, Attrs, binding_of, field_of, is_rest, is_rest_layer}
 use Rattle.syn_mid.specs.pat.Printing as s
 use Rattle.syn_mid.specs.pat.Printing.{pat, printed, pat_step}
 use Rattle.syn_mid.specs.path.Printing.{path, expr_style}
-use Rattle.syn_mid.specs.ty.Printing.{comma}
+use Rattle.syn_mid.specs.ty.Printing as ty
+use Rattle.syn_mid.specs.ty.Types.{comma}
 use Rattle.syn_mid.specs.ty.Types.{Comma}
 
 -- what is already printed is printed as it is
@@ -50,7 +51,7 @@ module _ {T Q : Type 0} (f : T → Q) where
   joined_mapped print (x ∷ all) [] = ap (λ r. print (f x) ++ r) (joined_mapped print all [])
   joined_mapped print (x ∷ all) (m ∷ ms) = ap (λ r. print (f x) ++ (p.mark m ++ r)) (joined_mapped print all ms)
 
-  pub last_mapped : (all : List T) (cs : List Comma) → s.last_comma (map f all) cs ≡ s.last_comma all cs
+  pub last_mapped : (all : List T) (cs : List Comma) → ty.last_comma comma (map f all) cs ≡ ty.last_comma comma all cs
   last_mapped [] cs = refl
   last_mapped (x ∷ all) [] = refl
   last_mapped (x ∷ all) (c ∷ cs) = last_mapped all cs

@@ -29,16 +29,18 @@ use Rattle.syn_mid.specs.mac.Printing.{mac}
 use Rattle.syn_mid.specs.pat.Pats.{Pat, Attr, Attrs, is_rest, guard_of, binding_of, or_of, paren_of, reference_of, slice_of, struct_of, tuple_of, tuple_struct_of, typed_of, field_of, rest_of, wild_of}
 use Rattle.syn_mid.specs.ty.Normal as types
 use Rattle.syn_mid.specs.ty.Types.{Comma}
-use Rattle.syn_mid.specs.generics.Printing.{optional}
+use Rattle.syn_mid.specs.generics.Shapes.{optional}
 use Rattle.syn_mid.specs.pat.Normal as n
 use Rattle.syn_mid.specs.pat.Printing as s
-use Rattle.syn_mid.specs.pat.Printing.{optional_word, tuple_comma}
+use Rattle.syn_mid.specs.pat.Printing.{tuple_comma}
+use Rattle.syn_mid.specs.ty.Printing.{optional_word}
 use Rattle.syn_mid.specs.path.Printing.{path, expr_style}
 use Rattle.syn_mid.specs.ty.Printing as texts
 use Rattle.token_core.specs.Lits as lits
 use Rattle.syn_mid.proofs.attr_laws.Normal.{attributes_stay, at_place_stays, range_stays, outer_same, at_place_same, range_same}
 use Rattle.syn_mid.proofs.ty_laws.Each.{Each, each_held, map_stays, joined_same}
-use Rattle.syn_mid.proofs.ty_laws.Stays.{ty_stays, ty_same}
+use Rattle.syn_mid.proofs.ty_laws.SamePrint.{ty_same}
+use Rattle.syn_mid.proofs.ty_laws.Stays.{ty_stays}
 use Rattle.syn_mid.proofs.pat_laws.Normal.{normal-Const, normal-Guard, normal-Ident, normal-Lit, normal-Macro, normal-Or, normal-Paren, normal-Path, normal-Range, normal-Reference, normal-Rest, normal-Slice, normal-Struct, normal-Tuple, normal-TupleStruct, normal-Type, normal-Verbatim, normal-Wild, kind_kept}
 use Rattle.syn_mid.proofs.pat_laws.Prints.{pat-Const, pat-Guard, pat-Ident, pat-Lit, pat-Macro, pat-Or, pat-Paren, pat-Path, pat-Range, pat-Reference, pat-Rest, pat-Slice, pat-Struct, pat-Tuple, pat-TupleStruct, pat-Type, pat-Wild, last_mapped, tuple_mapped, tuple_same}
 

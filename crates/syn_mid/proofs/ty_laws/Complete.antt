@@ -37,7 +37,7 @@ use Rattle.syn_mid.specs.declared.ty.TypeInfer.{TypeInfer}
 use Rattle.syn_mid.specs.declared.ty.TypeMacro.{TypeMacro}
 use Rattle.syn_mid.specs.declared.ty.TypeNever.{TypeNever}
 use Rattle.syn_mid.specs.declared.ty.TypeParenOf.{TypeParenOf}
-use Rattle.syn_mid.specs.declared.ty.TypePath.{TypePath}
+use Rattle.syn_mid.specs.declared.ty.TypePathOf.{TypePathOf}
 use Rattle.syn_mid.specs.declared.ty.TypePtrOf.{TypePtrOf}
 use Rattle.syn_mid.specs.declared.ty.TypeReferenceOf.{TypeReferenceOf}
 use Rattle.syn_mid.specs.declared.ty.TypeSliceOf.{TypeSliceOf}
@@ -193,7 +193,7 @@ no_plus true r h = h.open_end refl
 no_plus false r h = refl
 
 module _ {X : Type 0} where
-  pub path_type_complete : (x : TypePath X) (l r : Toks) (f : Option Span) (e : Span) (sc : Scope) → IsPathType true x l r → sees_sep r ≡ false → sees_angle r ≡ false → Reads_to path_type x l r f e sc
+  pub path_type_complete : (x : TypePathOf (TypeTree X) X) (l r : Toks) (f : Option Span) (e : Span) (sc : Scope) → IsPathType true x l r → sees_sep r ≡ false → sees_angle r ≡ false → Reads_to path_type x l r f e sc
   path_type_complete x l r f e sc (a_path_type {p = p} i) h g = let k = plain_complete p l r f e sc i h g in record { last = k.last; reads = link _ k.reads refl }
 
   pub macro_type_complete : (x : TypeMacro X) (l r : Toks) (f : Option Span) (e : Span) (sc : Scope) → IsMacroType true x l r → Reads_to macro_type x l r f e sc

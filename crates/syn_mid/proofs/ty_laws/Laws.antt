@@ -18,7 +18,7 @@ use Rattle.syn_mid.specs.declared.ty.TypeInfer.{TypeInfer}
 use Rattle.syn_mid.specs.declared.ty.TypeMacro.{TypeMacro}
 use Rattle.syn_mid.specs.declared.ty.TypeNever.{TypeNever}
 use Rattle.syn_mid.specs.declared.ty.TypeParenOf.{TypeParenOf}
-use Rattle.syn_mid.specs.declared.ty.TypePath.{TypePath}
+use Rattle.syn_mid.specs.declared.ty.TypePathOf.{TypePathOf}
 use Rattle.syn_mid.specs.declared.ty.TypePtrOf.{TypePtrOf}
 use Rattle.syn_mid.specs.declared.ty.TypeReferenceOf.{TypeReferenceOf}
 use Rattle.syn_mid.specs.declared.ty.TypeSliceOf.{TypeSliceOf}
@@ -91,10 +91,10 @@ module _ {X : Type 0} where
   pub macro_type_front : (s t : Stream) (q : Result (TypeMacro X) Refusal) → Reads (reading.macro_type s) q t → Visible s.rest → IfOk q (λ x. IsMacroType false x s.rest t.rest)
   macro_type_front = taken_front {Is = IsMacroType false} reading.macro_type sound_parts.macro_type_sound
 
-  pub path_type_lawful : Lawful (grammars.path_type {X = X})
-  path_type_lawful = lawful_by (λ clear. IsPathType clear) (λ (z : TypePath X). z) printing.path_type reading.path_type (λ s t a v e. plainly {Is = IsPathType false} sound_parts.visible_path_type s t a v (sound_parts.path_type_sound s t a v e)) (λ s a h. complete_parts.path_type_complete a s.rest done s.left s.last s.scope h (ends_done false).sep (ends_done false).angle) reprint_parts.path_type_again
+  pub path_type_lawful : (reads : Place → Reader X) (spells : Place → X → Toks → Type 0) (normals : Place → X → X) (prints : Place → X → Print) → Lawful (grammars.path_type reads spells normals prints)
+  path_type_lawful reads spells normals prints = lawful_by (λ clear. IsPathType clear) (normal.path_type normals) (printing.path_type prints) reading.path_type (λ s t a v e. plainly {Is = IsPathType false} sound_parts.visible_path_type s t a v (sound_parts.path_type_sound s t a v e)) (λ s a h. complete_parts.path_type_complete a s.rest done s.left s.last s.scope h (ends_done false).sep (ends_done false).angle) (reprint_parts.path_type_again normals prints)
 
-  pub path_type_front : (s t : Stream) (q : Result (TypePath X) Refusal) → Reads (reading.path_type s) q t → Visible s.rest → IfOk q (λ x. IsPathType false x s.rest t.rest)
+  pub path_type_front : (s t : Stream) (q : Result (TypePathOf (TypeTree X) X) Refusal) → Reads (reading.path_type s) q t → Visible s.rest → IfOk q (λ x. IsPathType false x s.rest t.rest)
   path_type_front = taken_front {Is = IsPathType false} reading.path_type sound_parts.path_type_sound
 
 -- ---- types that hold types

@@ -4,8 +4,8 @@ use Rattle.token_core.specs.declared.punctuated.Pair.{Pair}
 use Rattle.token_core.specs.Joined.{values_of, marks_of}
 use Rattle.token_core.specs.Loops.{Many}
 use Rattle.token_core.specs.Prints as p
-use Rattle.syn_mid.specs.ty.Types.{Comma}
-use Rattle.syn_mid.specs.ty.Printing.{comma, lone_comma}
+use Rattle.syn_mid.specs.ty.Types.{Comma, comma}
+use Rattle.syn_mid.specs.ty.Printing.{lone_comma}
 
 module _ {T : Type 0} where
   pub lone_pairs : (all : List (Pair T Comma)) (last : Option T) → 0 < length all → lone_comma (values_of all last) (marks_of all) ≡ []

@@ -31,7 +31,7 @@ use Rattle.syn_mid.specs.declared.ty.TypeInfer.{TypeInfer}
 use Rattle.syn_mid.specs.declared.ty.TypeMacro.{TypeMacro}
 use Rattle.syn_mid.specs.declared.ty.TypeNever.{TypeNever}
 use Rattle.syn_mid.specs.declared.ty.TypeParenOf.{TypeParenOf}
-use Rattle.syn_mid.specs.declared.ty.TypePath.{TypePath}
+use Rattle.syn_mid.specs.declared.ty.TypePathOf.{TypePathOf}
 use Rattle.syn_mid.specs.declared.ty.TypePtrOf.{TypePtrOf}
 use Rattle.syn_mid.specs.declared.ty.TypeReferenceOf.{TypeReferenceOf}
 use Rattle.syn_mid.specs.declared.ty.TypeSliceOf.{TypeSliceOf}
@@ -44,7 +44,7 @@ use Rattle.syn_mid.specs.ty.Normal as normal
 use Rattle.syn_mid.specs.ty.Printing as printing
 use Rattle.syn_mid.specs.ty.Printing.{lone_comma}
 use Rattle.syn_mid.specs.ty.Spelling.{Relation, IsOptional, absent, present, IsMutability, a_const, a_mut, IsInfer, an_infer, IsNever, a_never, IsPathType, a_path_type, IsMacroType, a_macro_type, AreElements, no_elements, some_elements, IsTuple, a_tuple, IsParen, a_paren, IsSlice, a_slice, IsArray, an_array, IsPtr, a_ptr, IsReference, a_reference, IsType, array, infer, macro_call, never, paren, path as a_path, ptr, reference, slice, tuple}
-use Rattle.syn_mid.specs.ty.Types.{Comma, Mut, array_of, macro_type_of, paren_of, ptr_of, reference_of, slice_of, tuple_of}
+use Rattle.syn_mid.specs.ty.Types.{Comma, Mut, array_of, macro_type_of, paren_of, ptr_of, reference_of, slice_of, tuple_of, is_try_path}
 use Rattle.syn_mid.proofs.attr_laws.Reprint.{Again, AgainFront, row-group, supplied_stays}
 use Rattle.syn_mid.proofs.mac_laws.Reprint.{macro_again, whole_macro, held_visible}
 use Rattle.syn_mid.proofs.mac_laws.Sound.{visible_call}
@@ -89,7 +89,7 @@ maybe_lifetime o l r (present {a = a} i) =
       same = refl;
     }
 
-maybe_mut : (o : Option Mut) (l r : Toks) → IsOptional IsWord o l r → AgainFront (IsOptional IsWord) (λ (z : Option Mut). z) printing.mutability o l r
+maybe_mut : (o : Option Mut) (l r : Toks) → IsOptional IsWord o l r → AgainFront (IsOptional IsWord) (λ (z : Option Mut). z) printing.optional_word o l r
 maybe_mut o l r absent = record { spelt = λ h. absent; visible = λ h u w. w; seen = λ u. u; stays = refl; same = refl }
 maybe_mut o l r (present {a = a} i) = let k = word_front a l r i in record { spelt = λ h. present (k.spelt h); visible = λ h u w. k.visible h u w; seen = λ u. k.seen u; stays = refl; same = refl }
 
@@ -106,8 +106,8 @@ pub never_again : (x : TypeNever) (l r : Toks) → IsNever false x l r → Again
 never_again x l r (a_never {b = b} i) = let k = mark_front b l r i in record { spelt = λ h. a_never (k.spelt h); visible = λ h u w. k.visible h u w; seen = λ u. k.seen u; stays = refl; same = refl }
 
 module _ {X : Type 0} where
-  pub path_type_again : (x : TypePath X) (l r : Toks) → IsPathType false x l r → AgainFront (IsPathType true) (λ (z : TypePath X). z) printing.path_type x l r
-  path_type_again x l r (a_path_type {p = q} i) =
+  pub path_type_again : (nx : Place → X → X) (px : Place → X → Print) (x : TypePathOf (TypeTree X) X) (l r : Toks) → IsPathType false x l r → AgainFront (IsPathType true) (normal.path_type nx) (printing.path_type px) x l r
+  path_type_again nx px x l r (a_path_type {p = q} i) =
       let again = λ (h : Toks). path_again AsWritten false q l r h i in
       record {
         spelt = λ h. a_path_type (again h);
@@ -278,16 +278,16 @@ module _ {X : Type 0} (reads : Place → Reader X) (spells : Place → X → Tok
         let w = maybe_mut q n b f in
         let k = again false y b r g in
         let last = λ (h : Toks). row (pt y) h in
-        let more = λ (h : Toks). row (printing.mutability q) (last h) in
+        let more = λ (h : Toks). row (printing.optional_word q) (last h) in
         let all = λ (h : Toks). row (printing.lifetime o) (more h) in
-        let seen = λ (h : Toks). row-append (p.mark a) (printing.lifetime o ++ (printing.mutability q ++ pt y)) h
-        ∙ ap (row (p.mark a)) (row-append (printing.lifetime o) (printing.mutability q ++ pt y) h ∙ ap (row (printing.lifetime o)) (row-append (printing.mutability q) (pt y) h)) in
+        let seen = λ (h : Toks). row-append (p.mark a) (printing.lifetime o ++ (printing.optional_word q ++ pt y)) h
+        ∙ ap (row (p.mark a)) (row-append (printing.lifetime o) (printing.optional_word q ++ pt y) h ∙ ap (row (printing.lifetime o)) (row-append (printing.optional_word q) (pt y) h)) in
         record {
           spelt = λ h. subst (λ z. IsReference spells true U (reference_of a o q (nt y)) z h) (sym (seen h)) (a_reference (d.spelt (all h)) (c.spelt (more h)) (w.spelt (last h)) (k.spelt h));
           visible = λ h u v. subst Visible (sym (seen h)) (d.visible (all h) u (c.visible (more h) (d.seen u) (w.visible (last h) (c.seen (d.seen u)) (k.visible h (w.seen (c.seen (d.seen u))) v))));
           seen = λ u. k.seen (w.seen (c.seen (d.seen u)));
           stays = ap (reference_of a o q) k.stays;
-          same = ap (λ z. p.mark a ++ (printing.lifetime o ++ (printing.mutability q ++ z))) k.same;
+          same = ap (λ z. p.mark a ++ (printing.lifetime o ++ (printing.optional_word q ++ z))) k.same;
         }
 
     -- ---- tuples
@@ -334,6 +334,10 @@ module _ {X : Type 0} (reads : Place → Reader X) (spells : Place → X → Tok
         (x : A) (l r : Toks) → AgainFront S n pr x l r → ((k h : Toks) → S (n x) k h → IsType spells true U plus (made (n x)) k h) → AgainFront (IsType spells true U plus) nt pt (made x) l r
     variant plus S n pr made ni pi x l r k rule = variant_front S (IsType spells true U plus) n pr nt pt made ni pi x l r k rule
 
+    path_front : (plus : Bool) (y : TypePathOf (TypeTree X) X) (l r : Toks) → IsPathType false y l r → is_try_path y.path ≡ false → AgainFront (IsType spells true U plus) nt pt (v.Path y) l r
+    path_front plus y l r i is =
+        variant plus (IsPathType true) (normal.path_type normals) (printing.path_type prints) (λ z. v.Path z) (normal-Path normals) (ty-Path prints) y l r (path_type_again normals prints y l r i) (λ k h j. a_path j is)
+
     pub type_front : (plus : Bool) (x : TypeTree X) (l r : Toks) → IsType spells false T plus x l r → AgainFront (IsType spells true U plus) nt pt x l r
     type_front plus x l r (array {x = y} i) =
         variant plus (IsArray spells true U) (normal.array normals) (printing.array prints) (λ z. v.Array z) (normal-Array normals) (ty-Array prints) y l r (array_front y l r i) (λ k h j. array j)
@@ -344,7 +348,7 @@ module _ {X : Type 0} (reads : Place → Reader X) (spells : Place → X → Tok
     type_front plus x l r (paren {x = y} i) =
         variant plus (IsParen spells true U true) (normal.paren normals) (printing.paren prints) (λ z. v.Paren z) (normal-Paren normals) (ty-Paren prints) y l r (paren_front true y l r i) (λ k h j. paren j)
     type_front plus x l r (a_path {x = y} i is) =
-        variant plus (IsPathType true) (λ z. z) printing.path_type (λ z. v.Path z) (normal-Path normals) (ty-Path prints) y l r (path_type_again y l r i) (λ k h j. a_path j is)
+        path_front plus y l r i is
     type_front plus x l r (ptr {x = y} i) = variant plus (IsPtr spells true U) (normal.ptr normals) (printing.ptr prints) (λ z. v.Ptr z) (normal-Ptr normals) (ty-Ptr prints) y l r (ptr_front y l r i) (λ k h j. ptr j)
     type_front plus x l r (reference {x = y} i) =
         variant plus (IsReference spells true U) (normal.reference normals) (printing.reference prints) (λ z. v.Reference z) (normal-Reference normals) (ty-Reference prints) y l r (reference_front y l r i) (λ k h j. reference j)

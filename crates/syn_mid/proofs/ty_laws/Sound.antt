@@ -39,7 +39,7 @@ use Rattle.syn_mid.specs.declared.ty.TypeInfer.{TypeInfer}
 use Rattle.syn_mid.specs.declared.ty.TypeMacro.{TypeMacro}
 use Rattle.syn_mid.specs.declared.ty.TypeNever.{TypeNever}
 use Rattle.syn_mid.specs.declared.ty.TypeParenOf.{TypeParenOf}
-use Rattle.syn_mid.specs.declared.ty.TypePath.{TypePath}
+use Rattle.syn_mid.specs.declared.ty.TypePathOf.{TypePathOf}
 use Rattle.syn_mid.specs.declared.ty.TypePtrOf.{TypePtrOf}
 use Rattle.syn_mid.specs.declared.ty.TypeReferenceOf.{TypeReferenceOf}
 use Rattle.syn_mid.specs.declared.ty.TypeSliceOf.{TypeSliceOf}
@@ -166,13 +166,13 @@ first_word i k h = no_try i.text (is_text (marks.text_of 15) i.text) refl (only 
     only false h = h
 
 module _ {X : Type 0} where
-  pub path_type_sound : (s t : Stream) (x : TypePath X) → Visible s.rest → reading.path_type s ≡ Ok (x, t) → Taken (IsPathType false) s t x
+  pub path_type_sound : (s t : Stream) (x : TypePathOf (TypeTree X) X) → Visible s.rest → reading.path_type s ≡ Ok (x, t) → Taken (IsPathType false) s t x
   path_type_sound s t x v e =
       let k = mapped (plain_path s) path_type_of x t e in
       let w = plain_sound s t k.value v k.was in
       taken_as {Is = IsPathType false} s t (path_type_of k.value) x k.is (a_path_type w.spelt) w.left
 
-  pub visible_path_type : (x : TypePath X) (l r : Toks) → IsPathType false x l r → Visible l → Visible r
+  pub visible_path_type : (x : TypePathOf (TypeTree X) X) (l r : Toks) → IsPathType false x l r → Visible l → Visible r
   visible_path_type x l r (a_path_type {p = p} i) v = visible_path p l r i v
 
   pub macro_type_sound : (s t : Stream) (x : TypeMacro X) → Visible s.rest → reading.macro_type s ≡ Ok (x, t) → Taken (IsMacroType false) s t x

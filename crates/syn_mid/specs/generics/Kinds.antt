@@ -8,9 +8,10 @@ use Rattle.syn_mid.specs.declared.generics.TypeParamsMut.{TypeParamsMut}
 use Rattle.syn_mid.specs.declared.generics.ConstParams.{ConstParams}
 use Rattle.syn_mid.specs.declared.generics.ConstParamsMut.{ConstParamsMut}
 use Rattle.syn_mid.specs.declared.generics.LifetimeParam.{LifetimeParam}
-use Rattle.syn_mid.specs.declared.generics.TypeParamOf.{TypeParamOf}
+use Rattle.syn_mid.specs.declared.generics.TypeParam.{TypeParam}
 use Rattle.syn_mid.specs.declared.generics.TypeParamBound.{TypeParamBound}
-use Rattle.syn_mid.specs.declared.generics.ConstParam.{ConstParam}
+use Rattle.syn_mid.specs.declared.generics.ConstParamOf.{ConstParamOf}
+use Rattle.syn_mid.specs.declared.ty.Type.{«Type» as TypeTree}
 use Rattle.syn_mid.specs.generics.Params.{only, as_lifetime, as_type, as_const}
 
 module _ {X : Type 0} where
@@ -20,14 +21,14 @@ module _ {X : Type 0} where
   abbrev pub lifetimes_mut_left : LifetimesMut X → List (LifetimeParam X)
   lifetimes_mut_left s = only as_lifetime (values_left s.params)
 
-  abbrev pub type_params_left : TypeParams X → List (TypeParamOf (TypeParamBound X) X)
+  abbrev pub type_params_left : TypeParams X → List (TypeParam X)
   type_params_left s = only as_type s.params
 
-  abbrev pub type_params_mut_left : TypeParamsMut X → List (TypeParamOf (TypeParamBound X) X)
+  abbrev pub type_params_mut_left : TypeParamsMut X → List (TypeParam X)
   type_params_mut_left s = only as_type (values_left s.params)
 
-  abbrev pub const_params_left : ConstParams X → List (ConstParam X)
+  abbrev pub const_params_left : ConstParams X → List (ConstParamOf (TypeTree X) X)
   const_params_left s = only as_const s.params
 
-  abbrev pub const_params_mut_left : ConstParamsMut X → List (ConstParam X)
+  abbrev pub const_params_mut_left : ConstParamsMut X → List (ConstParamOf (TypeTree X) X)
   const_params_mut_left s = only as_const (values_left s.params)

@@ -4,8 +4,7 @@ use Rattle.token_core.specs.Lists.{option_list}
 use Rattle.token_core.specs.Loops.{Many}
 use Rattle.token_core.specs.Prints as p
 use Rattle.token_core.specs.Prints.{Print}
-use Rattle.syn_mid.specs.ty.Types.{Comma}
-use Rattle.syn_mid.specs.ty.Printing.{comma}
+use Rattle.syn_mid.specs.ty.Types.{Comma, comma}
 
 -- a member with its comma, if it has one
 abbrev pub Member : Type 0 → Type 0

@@ -7,6 +7,7 @@ use Rattle.token_core.specs.declared.tree.Ident.{Ident}
 use Rattle.token_core.specs.declared.token.Paren.{Paren}
 use Rattle.token_core.specs.Loops.{Many}
 use Rattle.token_core.specs.Spans.{none}
+use Rattle.syn_mid.specs.declared.ty.TypeFnPtr.{TypeFnPtr}
 use Rattle.syn_mid.specs.declared.attr.AttributeOf.{AttributeOf}
 use Rattle.syn_mid.specs.declared.attr.Meta.{Meta}
 use Rattle.syn_mid.specs.declared.path.Path.{Path}
@@ -16,8 +17,8 @@ use Rattle.syn_mid.specs.declared.generics.Generics.{Generics}
 use Rattle.syn_mid.specs.declared.generics.GenericParam.{GenericParam, out-GenericParam}
 use Rattle.syn_mid.specs.declared.generics.GenericParam.TheOpen as g
 use Rattle.syn_mid.specs.declared.generics.LifetimeParam.{LifetimeParam}
-use Rattle.syn_mid.specs.declared.generics.TypeParamOf.{TypeParamOf}
-use Rattle.syn_mid.specs.declared.generics.ConstParam.{ConstParam}
+use Rattle.syn_mid.specs.declared.generics.TypeParam.{TypeParam, roll-TypeParam}
+use Rattle.syn_mid.specs.declared.generics.ConstParamOf.{ConstParamOf}
 use Rattle.syn_mid.specs.declared.generics.BoundLifetimesOf.{BoundLifetimesOf}
 use Rattle.syn_mid.specs.declared.generics.TypeParamBound.{TypeParamBound}
 use Rattle.syn_mid.specs.declared.generics.TraitBoundOf.{TraitBoundOf}
@@ -59,15 +60,15 @@ trait_bound_of t l m q p = record { paren_token = t; lifetimes = l; modifiers = 
 abbrev pub capture_of : Word 17 → Mark 2 1 → Many CapturedParam Comma → Mark 3 1 → PreciseCapture
 capture_of u l v g = record { use_token = u; lt_token = l; params = v; gt_token = g }
 
-abbrev pub type_param_of : {B X : Type 0} → Attrs X → Ident → Option Colon → Many B Plus → Option (Eq × TypeTree X) → TypeParamOf B X
-type_param_of a i c b d = record { attrs = a; ident = i; colon_token = c; bounds = b; default = d }
+abbrev pub type_param_of : {X : Type 0} → Attrs X → Ident → Option Colon → Many (TypeParamBound X) Plus → Option (Eq × TypeTree X) → TypeParam X
+type_param_of {X = X} a i c b d = roll-TypeParam X (record { attrs = a; ident = i; colon_token = c; bounds = b; default = d })
+
+abbrev pub const_param_of : {T X : Type 0} → Attrs X → Word 6 → Ident → Colon → T → Option (Eq × Expr X) → ConstParamOf T X
+const_param_of a w i c t d = record { attrs = a; const_token = w; ident = i; colon_token = c; ty = t; default = d }
 
 module _ {X : Type 0} where
   abbrev pub lifetime_param_of : Attrs X → Lifetime → Option Colon → Many Lifetime Plus → LifetimeParam X
   lifetime_param_of a l c b = record { attrs = a; lifetime = l; colon_token = c; bounds = b }
-
-  abbrev pub const_param_of : Attrs X → Word 6 → Ident → Colon → TypeTree X → Option (Eq × Expr X) → ConstParam X
-  const_param_of a w i c t d = record { attrs = a; const_token = w; ident = i; colon_token = c; ty = t; default = d }
 
   abbrev pub where_clause_of : Word 18 → Many (WherePredicate X) Comma → WhereClause X
   where_clause_of w v = record { where_token = w; predicates = v }
@@ -95,22 +96,22 @@ module _ {X : Type 0} where
 
   -- ---- the parameters of one kind, in order
 
-  abbrev pub lifetime_layer : g.GenericParam-F X (GenericParam X) (TypeParamBound X) → Option (LifetimeParam X)
+  abbrev pub lifetime_layer : g.GenericParam-F X (GenericParam X) (TypeParamBound X) (TypeTree X) (TypeParam X) (TypeFnPtr X) → Option (LifetimeParam X)
   lifetime_layer (g.GenericParam::Lifetime x) = Some x
   lifetime_layer (g.«Type» x) = None
   lifetime_layer (g.Const x) = None
 
-  abbrev pub type_layer : g.GenericParam-F X (GenericParam X) (TypeParamBound X) → Option (TypeParamOf (TypeParamBound X) X)
+  abbrev pub type_layer : g.GenericParam-F X (GenericParam X) (TypeParamBound X) (TypeTree X) (TypeParam X) (TypeFnPtr X) → Option (TypeParam X)
   type_layer (g.GenericParam::Lifetime x) = None
   type_layer (g.«Type» x) = Some x
   type_layer (g.Const x) = None
 
-  abbrev pub const_layer : g.GenericParam-F X (GenericParam X) (TypeParamBound X) → Option (ConstParam X)
+  abbrev pub const_layer : g.GenericParam-F X (GenericParam X) (TypeParamBound X) (TypeTree X) (TypeParam X) (TypeFnPtr X) → Option (ConstParamOf (TypeTree X) X)
   const_layer (g.GenericParam::Lifetime x) = None
   const_layer (g.«Type» x) = None
   const_layer (g.Const x) = Some x
 
-  abbrev pub is_lifetime_layer : g.GenericParam-F X (GenericParam X) (TypeParamBound X) → Bool
+  abbrev pub is_lifetime_layer : g.GenericParam-F X (GenericParam X) (TypeParamBound X) (TypeTree X) (TypeParam X) (TypeFnPtr X) → Bool
   is_lifetime_layer (g.GenericParam::Lifetime x) = true
   is_lifetime_layer (g.«Type» x) = false
   is_lifetime_layer (g.Const x) = false
@@ -121,10 +122,10 @@ module _ {X : Type 0} where
   abbrev pub as_lifetime : GenericParam X → Option (LifetimeParam X)
   as_lifetime x = lifetime_layer (out-GenericParam X x)
 
-  abbrev pub as_type : GenericParam X → Option (TypeParamOf (TypeParamBound X) X)
+  abbrev pub as_type : GenericParam X → Option (TypeParam X)
   as_type x = type_layer (out-GenericParam X x)
 
-  abbrev pub as_const : GenericParam X → Option (ConstParam X)
+  abbrev pub as_const : GenericParam X → Option (ConstParamOf (TypeTree X) X)
   as_const x = const_layer (out-GenericParam X x)
 
 -- what a test answers of each member of a list, where it answers something

@@ -1,231 +1,31 @@
 -- What generics print.
-use Rattle.std.specs.Prelude.{ℕ, Bool, true, false, ◌&&◌, if◌then◌else◌, is_some, List, [], ◌∷◌, ◌++◌, Option, Some, None}
-use Rattle.token_core.specs.declared.lifetime.Lifetime.{Lifetime}
-use Rattle.token_core.specs.declared.mark.Mark.{Mark}
-use Rattle.token_core.specs.declared.token.Paren.{Paren}
-use Rattle.token_core.specs.declared.tree.Delimiter.TheVariants.{Parenthesis, Brace}
+use Rattle.std.specs.Prelude.{List, [], ◌∷◌, ◌++◌}
+use Rattle.token_core.specs.declared.word.Word.{Word}
 use Rattle.token_core.specs.Lifetimes as lifetimes
 use Rattle.token_core.specs.Lists.{joined}
 use Rattle.token_core.specs.Loops.{Many}
 use Rattle.token_core.specs.Prints as p
 use Rattle.token_core.specs.Prints.{Print}
-use Rattle.token_core.specs.Spans.{none, delim_span}
-use Rattle.token_core.specs.Trees.{trees, stream_of_trees}
-use Rattle.syn_mid.specs.Supplied.{Place, Block}
-use Rattle.syn_mid.specs.declared.attr.AttributeOf.{AttributeOf}
-use Rattle.syn_mid.specs.declared.attr.Meta.{Meta}
-use Rattle.syn_mid.specs.declared.attr.Meta.TheOpen as o
-use Rattle.syn_mid.specs.declared.attr.MetaNameValue.{MetaNameValue}
-use Rattle.syn_mid.specs.declared.supplied.Expr.{Expr, out-Expr}
-use Rattle.syn_mid.specs.declared.supplied.ExprPathOf.{ExprPathOf}
-use Rattle.syn_mid.specs.declared.supplied.ExprRange.{ExprRange}
-use Rattle.syn_mid.specs.declared.ty.Type.{«Type» as TypeTree}
+use Rattle.syn_mid.specs.Supplied.{Place}
 use Rattle.syn_mid.specs.declared.generics.Generics.{Generics}
-use Rattle.syn_mid.specs.declared.generics.GenericParam.{GenericParam}
-use Rattle.syn_mid.specs.declared.generics.GenericParam.TheOpen as g
-use Rattle.syn_mid.specs.declared.generics.GenericParam.TheFolds.{fold-GenericParam, fold-TypeParamBound}
-use Rattle.syn_mid.specs.declared.generics.LifetimeParam.{LifetimeParam}
-use Rattle.syn_mid.specs.declared.generics.TypeParamOf.{TypeParamOf}
-use Rattle.syn_mid.specs.declared.generics.ConstParam.{ConstParam}
-use Rattle.syn_mid.specs.declared.generics.BoundLifetimesOf.{BoundLifetimesOf}
-use Rattle.syn_mid.specs.declared.generics.TypeParamBound.{TypeParamBound}
-use Rattle.syn_mid.specs.declared.generics.TraitBoundOf.{TraitBoundOf}
-use Rattle.syn_mid.specs.declared.generics.PreciseCapture.{PreciseCapture}
-use Rattle.syn_mid.specs.declared.generics.CapturedParam.{CapturedParam}
-use Rattle.syn_mid.specs.declared.generics.CapturedParam.TheVariants as c
 use Rattle.syn_mid.specs.declared.generics.WhereClause.{WhereClause}
 use Rattle.syn_mid.specs.declared.generics.WherePredicate.{WherePredicate}
 use Rattle.syn_mid.specs.declared.generics.WherePredicate.TheVariants as w
 use Rattle.syn_mid.specs.declared.generics.PredicateLifetime.{PredicateLifetime}
 use Rattle.syn_mid.specs.declared.generics.PredicateType.{PredicateType}
-use Rattle.syn_mid.specs.attr.Printing.{meta, value, outer_by, at_place}
-use Rattle.syn_mid.specs.path.Paths.{lone_ident}
-use Rattle.syn_mid.specs.path.Printing.{path, as_written}
-use Rattle.syn_mid.specs.ty.Printing as ty
+use Rattle.syn_mid.specs.ty.Printing.{ty, param, bound, bounds_joined}
 use Rattle.syn_mid.specs.generics.Members.{sorted}
-use Rattle.syn_mid.specs.generics.Params.{is_lifetime}
-
-abbrev pub Plus : Type 0
-Plus = Mark 20 1
-
-abbrev pub Comma : Type 0
-Comma = Mark 4 1
-
--- a mark of one character, or the same that stands nowhere
-abbrev pub or_default : {n : ℕ} → Option (Mark n 1) → Print
-or_default {n = n} None = p.mark {n = n} {l = 1} (record { spans = none ∷ [] })
-or_default (Some m) = p.mark m
-
--- a mark, or nothing
-abbrev pub optional : {n l : ℕ} → Option (Mark n l) → Print
-optional None = []
-optional (Some m) = p.mark m
-
--- bounds after their colon, which prints where a bound is there
-abbrev pub after_colon : {B : Type 0} → (B → Print) → Option (Mark 7 1) → Many B Plus → Print
-after_colon f colon ([], marks) = []
-after_colon f colon (b ∷ bounds, marks) = or_default colon ++ joined f p.mark (b ∷ bounds) marks
-
--- parameters between `<` and `>`; nothing without parameters
-abbrev pub between : {A : Type 0} → Option (Mark 2 1) → Option (Mark 3 1) → List A → Print → Print
-between lt gt [] l = []
-between lt gt (x ∷ all) l = or_default lt ++ (l ++ or_default gt)
-
-abbrev pub lifetimes_joined : Many Lifetime Plus → Print
-lifetimes_joined v = joined lifetimes.print p.mark v.0 v.1
-
-abbrev pub in_parens : Option Paren → Print → Print
-in_parens None l = l
-in_parens (Some t) l = p.group Parenthesis (stream_of_trees l) t.span
-
-abbrev pub captured : CapturedParam → Print
-captured (c.Lifetime x) = lifetimes.print x
-captured (c.Ident x) = p.ident x
-
-abbrev pub is_captured_lifetime : CapturedParam → Bool
-is_captured_lifetime (c.Lifetime x) = true
-is_captured_lifetime (c.Ident x) = false
-
--- `use<..>`, lifetimes first
-abbrev pub capture : PreciseCapture → Print
-capture x = p.word x.use_token ++ (p.mark x.lt_token ++ (sorted is_captured_lifetime captured x.params ++ p.mark x.gt_token))
-
--- a binder before its parameters: `for <`
-abbrev pub binder_start : {G : Type 0} → Option (BoundLifetimesOf G) → Print
-binder_start None = []
-binder_start (Some x) = p.word x.for_token ++ p.mark x.lt_token
-
--- and after them
-abbrev pub binder_end : {G : Type 0} → Option (BoundLifetimesOf G) → Print
-binder_end None = []
-binder_end (Some x) = p.mark x.gt_token
-
--- the parameters of a binder, none without one
-abbrev pub binder_params : {G : Type 0} → Option (BoundLifetimesOf G) → Many G Comma
-binder_params None = ([], [])
-binder_params (Some x) = x.lifetimes
-
--- a bound without its binder
-abbrev pub named_trait : {G X : Type 0} → TraitBoundOf G X → Print
-named_trait x = optional x.maybe ++ path as_written x.path
-
--- ---- by the print of the parameters of a binder, and of bounds
-
-module _ {G : Type 0} (param : G → Print) where
-  -- parameters in their order
-  abbrev pub bound_lifetimes_by : BoundLifetimesOf G → Print
-  bound_lifetimes_by x = p.word x.for_token ++ (p.mark x.lt_token ++ (joined param p.mark x.lifetimes.0 x.lifetimes.1 ++ p.mark x.gt_token))
-
-  abbrev pub binder_by : Option (BoundLifetimesOf G) → Print
-  binder_by None = []
-  binder_by (Some x) = bound_lifetimes_by x
-
-  abbrev pub binder_joined : Option (BoundLifetimesOf G) → Print
-  binder_joined x = joined param p.mark (binder_params x).0 (binder_params x).1
-
-  -- without its parentheses
-  abbrev pub bare_trait_by : {X : Type 0} → TraitBoundOf G X → Print
-  bare_trait_by x = binder_by x.lifetimes ++ named_trait x
-
-  abbrev pub trait_bound_by : {X : Type 0} → TraitBoundOf G X → Print
-  trait_bound_by x = in_parens x.paren_token (bare_trait_by x)
-
--- ---- trees
-
-abbrev pub is_empty : {A : Type 0} → List A → Bool
-is_empty [] = true
-is_empty (x ∷ all) = false
-
--- a path without attributes that is one identifier
-abbrev pub is_word : {A X : Type 0} → ExprPathOf A X → Bool
-is_word x = is_empty x.attrs && is_some (lone_ident x.path)
-
-abbrev pub alone_layer : {X : Type 0} → o.Expr-F X (Meta X) (Expr X) (MetaNameValue X) (ExprRange X) → Bool
-alone_layer (o.Lit x) = true
-alone_layer (o.Expr::Path x) = is_word x
-alone_layer (o.Const x) = false
-alone_layer (o.Macro x) = false
-alone_layer (o.Range x) = false
-alone_layer (o.Block x) = true
-alone_layer (o.Other x) = false
-
--- a const argument that needs no braces: a literal, a block, or a path that is one identifier
-abbrev pub stands_alone : {X : Type 0} → Expr X → Bool
-stands_alone {X = X} x = alone_layer (out-Expr X x)
+use Rattle.syn_mid.specs.generics.Params.{Comma, is_lifetime}
+use Rattle.syn_mid.specs.generics.Shapes.{attrs, between, binder_by, lifetimes_joined}
 
 -- what a supplied subtree prints in a place is given
 module _ {X : Type 0} (prints : Place → X → Print) where
-  abbrev pub attrs : List (AttributeOf (Meta X)) → Print
-  attrs = outer_by (meta prints)
-
-  -- what stands between the braces of a const argument
-  abbrev pub in_braces : Expr X → Print
-  in_braces = at_place prints Block
-
-  -- a const argument: as it is where it stands alone, else in braces
-  abbrev pub const_argument : Expr X → Print
-  const_argument x = if stands_alone x then value prints x else p.group Brace (stream_of_trees (in_braces x)) (delim_span none none)
-
-  abbrev pub lifetime_param : LifetimeParam X → Print
-  lifetime_param x = attrs x.attrs ++ (lifetimes.print x.lifetime ++ after_colon lifetimes.print x.colon_token x.bounds)
-
-  abbrev pub type_default : Option (Mark 11 1 × TypeTree X) → Print
-  type_default None = []
-  type_default (Some d) = p.mark d.0 ++ ty.ty prints d.1
-
-  -- without its default
-  abbrev pub type_head_by : {B : Type 0} → (B → Print) → TypeParamOf B X → Print
-  type_head_by bound x = attrs x.attrs ++ (p.ident x.ident ++ after_colon bound x.colon_token x.bounds)
-
-  abbrev pub type_param_by : {B : Type 0} → (B → Print) → TypeParamOf B X → Print
-  type_param_by bound x = attrs x.attrs ++ (p.ident x.ident ++ (after_colon bound x.colon_token x.bounds ++ type_default x.default))
-
-  abbrev pub const_default : Option (Mark 11 1 × Expr X) → Print
-  const_default None = []
-  const_default (Some d) = p.mark d.0 ++ const_argument d.1
-
-  -- without its default
-  abbrev pub const_head : ConstParam X → Print
-  const_head x = attrs x.attrs ++ (p.word x.const_token ++ (p.ident x.ident ++ (p.mark x.colon_token ++ ty.ty prints x.ty)))
-
-  abbrev pub const_param : ConstParam X → Print
-  const_param x = attrs x.attrs ++ (p.word x.const_token ++ (p.ident x.ident ++ (p.mark x.colon_token ++ (ty.ty prints x.ty ++ const_default x.default))))
-
-  abbrev pub param_step : g.GenericParam-F X Print Print → Print
-  param_step (g.GenericParam::Lifetime x) = lifetime_param x
-  param_step (g.«Type» x) = type_param_by (λ z. z) x
-  param_step (g.Const x) = const_param x
-
-  abbrev pub bound_step : g.TypeParamBound-F X Print Print → Print
-  bound_step (g.Trait x) = trait_bound_by (λ z. z) x
-  bound_step (g.TypeParamBound::Lifetime x) = lifetimes.print x
-  bound_step (g.PreciseCapture x) = capture x
-  bound_step (g.Verbatim x) = trees x
-
-  unfoldable pub param : GenericParam X → Print
-  param = fold-GenericParam X Print Print param_step bound_step
-
-  unfoldable pub bound : TypeParamBound X → Print
-  bound = fold-TypeParamBound X Print Print param_step bound_step
-
-  abbrev pub type_param : TypeParamOf (TypeParamBound X) X → Print
-  type_param = type_param_by bound
-
-  abbrev pub trait_bound : TraitBoundOf (GenericParam X) X → Print
-  trait_bound = trait_bound_by param
-
-  abbrev pub bound_lifetimes : BoundLifetimesOf (GenericParam X) → Print
-  bound_lifetimes = bound_lifetimes_by param
-
-  abbrev pub bounds_joined : Many (TypeParamBound X) Plus → Print
-  bounds_joined v = joined bound p.mark v.0 v.1
-
   -- a colon is kept in predicates
   abbrev pub predicate_lifetime : PredicateLifetime X → Print
-  predicate_lifetime x = attrs x.attrs ++ (lifetimes.print x.lifetime ++ (p.mark x.colon_token ++ lifetimes_joined x.bounds))
+  predicate_lifetime x = attrs prints x.attrs ++ (lifetimes.print x.lifetime ++ (p.mark x.colon_token ++ lifetimes_joined x.bounds))
 
   abbrev pub predicate_type : PredicateType X → Print
-  predicate_type x = attrs x.attrs ++ (binder_by param x.lifetimes ++ (ty.ty prints x.bounded_ty ++ (p.mark x.colon_token ++ bounds_joined x.bounds)))
+  predicate_type x = attrs prints x.attrs ++ (binder_by (param prints) x.lifetimes ++ (ty prints x.bounded_ty ++ (p.mark x.colon_token ++ bounds_joined prints x.bounds)))
 
   abbrev pub predicate : WherePredicate X → Print
   predicate (w.Lifetime x) = predicate_lifetime x
@@ -241,4 +41,4 @@ module _ {X : Type 0} (prints : Place → X → Print) where
 
   -- the where clause stands elsewhere
   abbrev pub generics : Generics X → Print
-  generics x = between x.lt_token x.gt_token x.params.0 (sorted is_lifetime param x.params)
+  generics x = between x.lt_token x.gt_token x.params.0 (sorted is_lifetime (param prints) x.params)

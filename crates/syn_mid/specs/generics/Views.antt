@@ -4,6 +4,7 @@ use Rattle.token_core.specs.Lifetimes as lifetimes
 use Rattle.token_core.specs.Prints as p
 use Rattle.token_core.specs.Prints.{Print}
 use Rattle.token_core.specs.Spans.{none}
+use Rattle.syn_mid.specs.declared.ty.TypeFnPtr.{TypeFnPtr}
 use Rattle.syn_mid.specs.declared.generics.Generics.{Generics}
 use Rattle.syn_mid.specs.declared.generics.GenericParam.{GenericParam, out-GenericParam}
 use Rattle.syn_mid.specs.declared.generics.GenericParam.TheOpen as g
@@ -14,12 +15,18 @@ use Rattle.syn_mid.specs.declared.generics.Style.TheVariants as styles
 use Rattle.syn_mid.specs.Supplied.{Place}
 use Rattle.syn_mid.specs.generics.Members.{sorted}
 use Rattle.syn_mid.specs.generics.Params.{is_lifetime, type_param_of, const_param_of, generics_of}
-use Rattle.syn_mid.specs.generics.Printing as printing
+use Rattle.syn_mid.specs.generics.Shapes.{between}
+use Rattle.syn_mid.specs.ty.Printing.{param}
+use Rattle.syn_mid.specs.declared.generics.TypeParam.{TypeParam, out-TypeParam}
+use Rattle.syn_mid.specs.declared.ty.Type.{«Type» as TypeTree}
 
 module _ {X : Type 0} where
-  abbrev pub strip_layer : g.GenericParam-F X (GenericParam X) (TypeParamBound X) → GenericParam X
+  abbrev pub strip_type : TypeParam X → TypeParam X
+  strip_type x = let f = out-TypeParam X x in type_param_of f.attrs f.ident f.colon_token f.bounds None
+
+  abbrev pub strip_layer : g.GenericParam-F X (GenericParam X) (TypeParamBound X) (TypeTree X) (TypeParam X) (TypeFnPtr X) → GenericParam X
   strip_layer (g.GenericParam::Lifetime x) = v.Lifetime x
-  strip_layer (g.«Type» x) = v.«Type» (type_param_of x.attrs x.ident x.colon_token x.bounds None)
+  strip_layer (g.«Type» x) = v.«Type» (strip_type x)
   strip_layer (g.Const x) = v.Const (const_param_of x.attrs x.const_token x.ident x.colon_token x.ty None)
 
   -- a parameter without its default
@@ -30,9 +37,9 @@ module _ {X : Type 0} where
   abbrev pub stripped : Generics X → Generics X
   stripped x = generics_of x.lt_token (map strip x.params.0, x.params.1) x.gt_token None
 
-  abbrev pub name_layer : g.GenericParam-F X (GenericParam X) (TypeParamBound X) → Print
+  abbrev pub name_layer : g.GenericParam-F X (GenericParam X) (TypeParamBound X) (TypeTree X) (TypeParam X) (TypeFnPtr X) → Print
   name_layer (g.GenericParam::Lifetime x) = lifetimes.print x.lifetime
-  name_layer (g.«Type» x) = p.ident x.ident
+  name_layer (g.«Type» x) = p.ident (out-TypeParam X x).ident
   name_layer (g.Const x) = p.ident x.ident
 
   abbrev pub name : GenericParam X → Print
@@ -40,7 +47,7 @@ module _ {X : Type 0} where
 
   -- each parameter's name with its comma, lifetimes first; nothing without parameters
   abbrev pub names : Generics X → Print
-  names x = printing.between x.lt_token x.gt_token x.params.0 (sorted is_lifetime name x.params)
+  names x = between x.lt_token x.gt_token x.params.0 (sorted is_lifetime name x.params)
 
   abbrev pub after_sep : List (GenericParam X) → Print → Print
   after_sep [] l = []
@@ -53,10 +60,10 @@ module _ {X : Type 0} where
 module _ {X : Type 0} (prints : Place → X → Print) where
   -- what is printed of a parameter
   abbrev pub shown : Style → GenericParam X → Print
-  shown styles.Whole x = printing.param prints x
-  shown styles.NoDefault x = printing.param prints (strip x)
+  shown styles.Whole x = param prints x
+  shown styles.NoDefault x = param prints (strip x)
   shown styles.Name x = name x
 
   -- lifetimes first, between `<` and `>`; nothing without parameters
   abbrev pub between_as : Style → Generics X → Print
-  between_as style x = printing.between x.lt_token x.gt_token x.params.0 (sorted is_lifetime (shown style) x.params)
+  between_as style x = between x.lt_token x.gt_token x.params.0 (sorted is_lifetime (shown style) x.params)

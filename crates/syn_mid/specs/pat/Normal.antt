@@ -20,7 +20,7 @@ use Rattle.syn_mid.specs.declared.pat.PatTypeOf.{PatTypeOf}
 use Rattle.syn_mid.specs.declared.pat.PatWild.{PatWild}
 use Rattle.syn_mid.specs.declared.supplied.Expr.{Expr}
 use Rattle.syn_mid.specs.attr.Normal as attr
-use Rattle.syn_mid.specs.generics.Normal.{many}
+use Rattle.syn_mid.specs.generics.NormalShapes.{many}
 use Rattle.syn_mid.specs.pat.Pats.{Pat, Attr, Attrs, guard_of, binding_of, or_of, paren_of, reference_of, slice_of, struct_of, tuple_of, tuple_struct_of, typed_of, field_of, rest_of, wild_of}
 use Rattle.syn_mid.specs.ty.Normal as ty
 

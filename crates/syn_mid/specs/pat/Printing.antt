@@ -30,23 +30,11 @@ use Rattle.syn_mid.specs.declared.pat.PatTupleStructOf.{PatTupleStructOf}
 use Rattle.syn_mid.specs.declared.pat.PatTypeOf.{PatTypeOf}
 use Rattle.syn_mid.specs.declared.pat.PatWild.{PatWild}
 use Rattle.syn_mid.specs.attr.Printing.{literal, expr_const, expr_macro, expr_path, range, outer, at_place}
-use Rattle.syn_mid.specs.generics.Printing.{optional}
+use Rattle.syn_mid.specs.generics.Shapes.{optional}
 use Rattle.syn_mid.specs.pat.Pats.{Pat, Attr, is_rest, is_rest_layer}
 use Rattle.syn_mid.specs.path.Printing.{path, expr_style}
 use Rattle.syn_mid.specs.ty.Printing as ty
-use Rattle.syn_mid.specs.ty.Printing.{comma}
-use Rattle.syn_mid.specs.ty.Types.{Comma}
-
--- a word, or nothing
-abbrev pub optional_word : {n : ℕ} → Option (Word n) → Print
-optional_word None = []
-optional_word (Some w) = p.word w
-
--- a comma after a last member that has none
-abbrev pub last_comma : {T : Type 0} → List T → List Comma → Print
-last_comma [] cs = []
-last_comma (x ∷ all) [] = p.mark comma
-last_comma (x ∷ all) (c ∷ cs) = last_comma all cs
+use Rattle.syn_mid.specs.ty.Types.{Comma, comma}
 
 -- a comma after a lone element that has none, which sets the tuple apart from a pattern in parentheses, unless the element is `..`
 abbrev pub tuple_comma : {T : Type 0} → (T → Bool) → List T → List Comma → Print
@@ -77,14 +65,14 @@ module _ {X : Type 0} (prints : Place → X → Print) where
   -- its comma, which sets it apart from the last field
   abbrev pub rest_comma : {T : Type 0} → Option (PatRest X) → Many T Comma → Print
   rest_comma None v = []
-  rest_comma (Some x) v = last_comma v.0 v.1
+  rest_comma (Some x) v = ty.last_comma comma v.0 v.1
 
   abbrev pub struct_rest : {P : Type 0} → PatStructOf P (Attr X) X → Print
   struct_rest x = rest_comma x.rest x.fields ++ optional_rest x.rest
 
   -- a binding before its `@`
   abbrev pub name : {P : Type 0} → PatIdentOf P (Attr X) → Print
-  name x = attrs x.attrs ++ (optional_word x.by_ref ++ (optional_word x.mutability ++ p.ident x.ident))
+  name x = attrs x.attrs ++ (ty.optional_word x.by_ref ++ (ty.optional_word x.mutability ++ p.ident x.ident))
 
   -- the member of a field that has a colon
   abbrev pub colon_member : Member → Option (Mark 7 1) → Print
@@ -119,7 +107,7 @@ module _ {X : Type 0} (prints : Place → X → Print) where
     paren_by x = attrs x.attrs ++ p.group Parenthesis (stream_of_trees (print x.pat)) x.paren_token.span
 
     abbrev pub reference_by : PatReferenceOf P (Attr X) → Print
-    reference_by x = attrs x.attrs ++ (p.mark x.and_token ++ (optional_word x.mutability ++ print x.pat))
+    reference_by x = attrs x.attrs ++ (p.mark x.and_token ++ (ty.optional_word x.mutability ++ print x.pat))
 
     abbrev pub slice_by : PatSliceOf P (Attr X) → Print
     slice_by x = attrs x.attrs ++ p.group Bracket (stream_of_trees (list_by x.elems)) x.bracket_token.span

@@ -1,5 +1,8 @@
 -- What paths print.
-use Rattle.std.specs.Prelude.{[], ◌∷◌, ◌++◌, Option, Some, None}
+use Rattle.std.specs.Prelude.{ℕ, zero, suc, pred, min, length, List, [], ◌∷◌, ◌++◌, Option, Some, None}
+use Rattle.token_core.specs.declared.mark.Mark.{Mark}
+use Rattle.token_core.specs.declared.word.Word.{Word}
+use Rattle.syn_mid.specs.declared.path.QSelfOf.{QSelfOf}
 use Rattle.token_core.specs.declared.tree.Delimiter.TheVariants.{Parenthesis}
 use Rattle.token_core.specs.Prints as p
 use Rattle.token_core.specs.Prints.{Print}
@@ -25,6 +28,11 @@ colon (Some m) = p.mark m
 abbrev pub colon_or_default : Option Sep → Print
 colon_or_default None = p.mark {n = 1} {l = 2} (record { spans = none ∷ none ∷ [] })
 colon_or_default (Some m) = p.mark m
+
+-- `as`, or one that stands nowhere
+abbrev pub as_or_default : Option (Word 4) → Print
+as_or_default None = p.word {n = 4} (record { span = none })
+as_or_default (Some w) = p.word w
 
 abbrev pub as_written : PathStyle
 as_written = AsWritten
@@ -63,3 +71,26 @@ module _ {X : Type 0} where
   -- the leading colon and the segments
   abbrev pub path : PathStyle → Path X → Print
   path style x = colon x.leading_colon ++ segments style x.segments
+
+  -- ---- qualified paths
+
+  -- a segment, where so many are to stand before `>`, itself among them: those as they stand, and `>` after the last
+  abbrev pub closing : PathStyle → Mark 3 1 → ℕ → PathSegment X → Print
+  closing style gt zero s = segment style s
+  closing style gt (suc zero) s = segment AsWritten s ++ p.mark gt
+  closing style gt (suc (suc n)) s = segment AsWritten s
+
+  -- segments, with `>` after so many of them
+  abbrev pub around : PathStyle → Mark 3 1 → ℕ → List (PathSegment X) → List Sep → Print
+  around style gt n [] ps = []
+  around style gt n (x ∷ xs) [] = closing style gt n x ++ around style gt (pred n) xs []
+  around style gt n (x ∷ xs) (m ∷ ps) = closing style gt n x ++ (p.mark m ++ around style gt (pred n) xs ps)
+
+  -- what follows the type, where so many segments stand before `>`
+  abbrev pub qualified_by : {T : Type 0} → PathStyle → QSelfOf T → Path X → ℕ → Print
+  qualified_by style q x zero = p.mark q.gt_token ++ path style x
+  qualified_by style q x (suc n) = as_or_default q.as_token ++ (colon x.leading_colon ++ around style q.gt_token (suc n) x.segments.0 x.segments.1)
+
+  -- as many as `position` says, or as there are
+  abbrev pub qualified : {T : Type 0} → PathStyle → QSelfOf T → Path X → Print
+  qualified style q x = qualified_by style q x (min q.position (length x.segments.0))

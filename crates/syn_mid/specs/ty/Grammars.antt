@@ -12,7 +12,7 @@ use Rattle.syn_mid.specs.declared.ty.TypeInfer.{TypeInfer}
 use Rattle.syn_mid.specs.declared.ty.TypeMacro.{TypeMacro}
 use Rattle.syn_mid.specs.declared.ty.TypeNever.{TypeNever}
 use Rattle.syn_mid.specs.declared.ty.TypeParenOf.{TypeParenOf}
-use Rattle.syn_mid.specs.declared.ty.TypePath.{TypePath}
+use Rattle.syn_mid.specs.declared.ty.TypePathOf.{TypePathOf}
 use Rattle.syn_mid.specs.declared.ty.TypePtrOf.{TypePtrOf}
 use Rattle.syn_mid.specs.declared.ty.TypeReferenceOf.{TypeReferenceOf}
 use Rattle.syn_mid.specs.declared.ty.TypeSliceOf.{TypeSliceOf}
@@ -37,13 +37,13 @@ never = record { spells = λ clear x l. IsNever clear x l done; normal = λ x. x
 abbrev pub macro_type : {X : Type 0} → Grammar (TypeMacro X)
 macro_type = record { spells = λ clear x l. IsMacroType clear x l done; normal = λ x. x; print = printing.macro_type; plain = λ x. Unit {0}; reader = reading.macro_type }
 
-abbrev pub path_type : {X : Type 0} → Grammar (TypePath X)
-path_type = record { spells = λ clear x l. IsPathType clear x l done; normal = λ x. x; print = printing.path_type; plain = λ x. Unit {0}; reader = reading.path_type }
-
 module _ {X : Type 0} (reads : Place → Reader X) (spells : Place → X → Toks → Type 0) (normals : Place → X → X) (prints : Place → X → Print) where
   -- a type in a place with plus or without plus
   abbrev pub ty : Bool → Grammar (TypeTree X)
   ty plus = record { spells = λ clear x l. IsSomeType spells clear plus x l done; normal = normal.ty normals; print = printing.ty prints; plain = λ x. Unit {0}; reader = knot.ty reads plus }
+
+  abbrev pub path_type : Grammar (TypePathOf (TypeTree X) X)
+  path_type = record { spells = λ clear x l. IsPathType clear x l done; normal = normal.path_type normals; print = printing.path_type prints; plain = λ x. Unit {0}; reader = reading.path_type }
 
   abbrev pub array : Grammar (TypeArrayOf (TypeTree X) (Expr X))
   array = record { spells = λ clear x l. IsSomeArray spells clear x l done; normal = normal.array normals; print = printing.array prints; plain = λ x. Unit {0}; reader = knot.array reads }

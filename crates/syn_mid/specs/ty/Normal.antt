@@ -1,9 +1,28 @@
--- The normal form of types: supplied subtrees in theirs.
-use Rattle.std.specs.Prelude.{map}
+-- The normal form of types, parameters and bounds: supplied subtrees in theirs; no colon without bounds in a parameter; captures with lifetimes first. Binders keep
+-- their order, and verbatim types and bounds stay.
+use Rattle.std.specs.Prelude.{Option, Some, None, map, option_map}
 use Rattle.syn_mid.specs.declared.supplied.Expr.{Expr}
 use Rattle.syn_mid.specs.declared.ty.Type.{«Type» as TypeTree}
-use Rattle.syn_mid.specs.declared.ty.Type.TheFolds.{fold-Type}
-use Rattle.syn_mid.specs.declared.ty.Type.TheOpen as t
+use Rattle.syn_mid.specs.declared.generics.GenericParam.TheFolds.{fold-GenericParam, fold-TypeParamBound, fold-TypeParam, fold-Type, fold-TypeFnPtr}
+use Rattle.syn_mid.specs.declared.generics.GenericParam.TheOpen as o
+use Rattle.syn_mid.specs.declared.generics.GenericParam.TheVariants as g
+use Rattle.syn_mid.specs.declared.generics.GenericParam.{GenericParam}
+use Rattle.syn_mid.specs.declared.generics.BoundLifetimesOf.{BoundLifetimesOf}
+use Rattle.syn_mid.specs.declared.generics.ConstParamOf.{ConstParamOf}
+use Rattle.syn_mid.specs.declared.generics.TraitBoundOf.{TraitBoundOf}
+use Rattle.syn_mid.specs.declared.generics.TypeParam.{TypeParam}
+use Rattle.syn_mid.specs.declared.generics.TypeParamBound.{TypeParamBound}
+use Rattle.syn_mid.specs.declared.generics.TypeParamBound.TheVariants as b
+use Rattle.syn_mid.specs.declared.path.QSelfOf.{QSelfOf}
+use Rattle.syn_mid.specs.declared.ty.FnPtrVariadic.{FnPtrVariadic}
+use Rattle.syn_mid.specs.declared.ty.NamedArgOf.{NamedArgOf}
+use Rattle.syn_mid.specs.declared.ty.TypeFnPtr.{TypeFnPtr}
+use Rattle.syn_mid.specs.declared.ty.TypeImplTraitOf.{TypeImplTraitOf}
+use Rattle.syn_mid.specs.declared.ty.TypePathOf.{TypePathOf}
+use Rattle.syn_mid.specs.declared.ty.TypeTraitObjectOf.{TypeTraitObjectOf}
+use Rattle.token_core.specs.Loops.{Many}
+use Rattle.syn_mid.specs.generics.NormalShapes.{colon, capture, many, trait_bound_by, attrs, lifetime_param, const_default}
+use Rattle.syn_mid.specs.generics.Params.{Eq, bound_lifetimes_of, const_param_of, type_param_of}
 use Rattle.syn_mid.specs.declared.ty.Type.TheVariants as v
 use Rattle.syn_mid.specs.declared.ty.TypeArrayOf.{TypeArrayOf}
 use Rattle.syn_mid.specs.declared.ty.ReturnTypeOf.{ReturnTypeOf}
@@ -16,30 +35,103 @@ use Rattle.syn_mid.specs.declared.ty.TypeSliceOf.{TypeSliceOf}
 use Rattle.syn_mid.specs.declared.ty.TypeTupleOf.{TypeTupleOf}
 use Rattle.syn_mid.specs.Supplied.{Place, ArrayLen}
 use Rattle.syn_mid.specs.attr.Normal.{at_place}
-use Rattle.syn_mid.specs.ty.Types.{array_of, group_of, paren_of, ptr_of, reference_of, slice_of, tuple_of}
+use Rattle.syn_mid.specs.ty.Types.{Plus, array_of, fn_ptr_of, group_of, impl_trait_of, named_arg_of, paren_of, ptr_of, qself_of, qualified_of, reference_of, slice_of, trait_object_of, tuple_of, variadic_of}
 
 module _ {X : Type 0} (normal : Place → X → X) where
   -- the length of an array
   abbrev pub len : Expr X → Expr X
   len = at_place normal ArrayLen
 
-  -- a type whose parts are in their normal form, but for a length
-  abbrev pub ty_step : t.Type-F X (TypeTree X) → TypeTree X
-  ty_step (t.Array x) = v.Array (array_of x.bracket_token x.elem x.semi_token (len x.len))
-  ty_step (t.Group x) = v.Group x
-  ty_step (t.Infer x) = v.Infer x
-  ty_step (t.Macro x) = v.Macro x
-  ty_step (t.Never x) = v.Never x
-  ty_step (t.Paren x) = v.Paren x
-  ty_step (t.Path x) = v.Path x
-  ty_step (t.Ptr x) = v.Ptr x
-  ty_step (t.Reference x) = v.Reference x
-  ty_step (t.Slice x) = v.Slice x
-  ty_step (t.Tuple x) = v.Tuple x
-  ty_step (t.Verbatim x) = v.Verbatim x
+  -- an argument whose type is in its normal form
+  abbrev pub named_arg_by : {T : Type 0} → NamedArgOf T X → NamedArgOf T X
+  named_arg_by x = named_arg_of (attrs normal x.attrs) x.name x.ty
+
+  abbrev pub variadic : FnPtrVariadic X → FnPtrVariadic X
+  variadic x = variadic_of (attrs normal x.attrs) x.name x.dots x.comma
+
+  abbrev pub optional_variadic : Option (FnPtrVariadic X) → Option (FnPtrVariadic X)
+  optional_variadic = option_map variadic
+
+  -- parts that lead back are in their normal form
+  abbrev pub ty_step : o.Type-F X (GenericParam X) (TypeParamBound X) (TypeTree X) (TypeParam X) (TypeFnPtr X) → TypeTree X
+  ty_step (o.Array x) = v.Array (array_of x.bracket_token x.elem x.semi_token (len x.len))
+  ty_step (o.FnPtr x) = v.FnPtr x
+  ty_step (o.Group x) = v.Group x
+  ty_step (o.ImplTrait x) = v.ImplTrait x
+  ty_step (o.Infer x) = v.Infer x
+  ty_step (o.Macro x) = v.Macro x
+  ty_step (o.Never x) = v.Never x
+  ty_step (o.Paren x) = v.Paren x
+  ty_step (o.Path x) = v.Path x
+  ty_step (o.Ptr x) = v.Ptr x
+  ty_step (o.Reference x) = v.Reference x
+  ty_step (o.Slice x) = v.Slice x
+  ty_step (o.TraitObject x) = v.TraitObject x
+  ty_step (o.Tuple x) = v.Tuple x
+  ty_step (o.Type::Verbatim x) = v.Verbatim x
+
+  abbrev pub fn_ptr_step : o.TypeFnPtr-F X (GenericParam X) (TypeParamBound X) (TypeTree X) (TypeParam X) (TypeFnPtr X) → TypeFnPtr X
+  fn_ptr_step x = fn_ptr_of x.lifetimes x.unsafety x.abi x.fn_token x.paren_token (many named_arg_by x.inputs) (optional_variadic x.variadic) x.output
+
+  abbrev pub param_step : o.GenericParam-F X (GenericParam X) (TypeParamBound X) (TypeTree X) (TypeParam X) (TypeFnPtr X) → GenericParam X
+  param_step (o.GenericParam::Lifetime x) = g.Lifetime (lifetime_param normal x)
+  param_step (o.«Type» x) = g.«Type» x
+  param_step (o.Const x) = g.Const (const_param_of (attrs normal x.attrs) x.const_token x.ident x.colon_token x.ty (const_default normal x.default))
+
+  abbrev pub type_param_step : o.TypeParam-F X (GenericParam X) (TypeParamBound X) (TypeTree X) (TypeParam X) (TypeFnPtr X) → TypeParam X
+  type_param_step x = type_param_of (attrs normal x.attrs) x.ident (colon x.colon_token x.bounds.0) x.bounds x.default
+
+  abbrev pub bound_step : o.TypeParamBound-F X (GenericParam X) (TypeParamBound X) (TypeTree X) (TypeParam X) (TypeFnPtr X) → TypeParamBound X
+  bound_step (o.Trait x) = b.Trait x
+  bound_step (o.TypeParamBound::Lifetime x) = b.Lifetime x
+  bound_step (o.PreciseCapture x) = b.PreciseCapture (capture x)
+  bound_step (o.TypeParamBound::Verbatim x) = b.Verbatim x
 
   unfoldable pub ty : TypeTree X → TypeTree X
-  ty = fold-Type X (TypeTree X) ty_step
+  ty = fold-Type X (GenericParam X) (TypeParamBound X) (TypeTree X) (TypeParam X) (TypeFnPtr X) param_step bound_step ty_step type_param_step fn_ptr_step
+
+  unfoldable pub fn_ptr : TypeFnPtr X → TypeFnPtr X
+  fn_ptr = fold-TypeFnPtr X (GenericParam X) (TypeParamBound X) (TypeTree X) (TypeParam X) (TypeFnPtr X) param_step bound_step ty_step type_param_step fn_ptr_step
+
+  unfoldable pub param : GenericParam X → GenericParam X
+  param = fold-GenericParam X (GenericParam X) (TypeParamBound X) (TypeTree X) (TypeParam X) (TypeFnPtr X) param_step bound_step ty_step type_param_step fn_ptr_step
+
+  unfoldable pub type_param : TypeParam X → TypeParam X
+  type_param = fold-TypeParam X (GenericParam X) (TypeParamBound X) (TypeTree X) (TypeParam X) (TypeFnPtr X) param_step bound_step ty_step type_param_step fn_ptr_step
+
+  unfoldable pub bound : TypeParamBound X → TypeParamBound X
+  bound = fold-TypeParamBound X (GenericParam X) (TypeParamBound X) (TypeTree X) (TypeParam X) (TypeFnPtr X) param_step bound_step ty_step type_param_step fn_ptr_step
+
+  abbrev pub bounds : Many (TypeParamBound X) Plus → Many (TypeParamBound X) Plus
+  bounds = many bound
+
+  abbrev pub impl_trait : TypeImplTraitOf (TypeParamBound X) → TypeImplTraitOf (TypeParamBound X)
+  impl_trait x = impl_trait_of x.impl_token (bounds x.bounds)
+
+  abbrev pub trait_object : TypeTraitObjectOf (TypeParamBound X) → TypeTraitObjectOf (TypeParamBound X)
+  trait_object x = trait_object_of x.dyn_token (bounds x.bounds)
+
+  abbrev pub qself : QSelfOf (TypeTree X) → QSelfOf (TypeTree X)
+  qself x = qself_of x.lt_token (ty x.ty) x.position x.as_token x.gt_token
+
+  abbrev pub path_type : TypePathOf (TypeTree X) X → TypePathOf (TypeTree X) X
+  path_type x = qualified_of (option_map qself x.qself) x.path
+
+  abbrev pub named_arg : NamedArgOf (TypeTree X) X → NamedArgOf (TypeTree X) X
+  named_arg x = named_arg_of (attrs normal x.attrs) x.name (ty x.ty)
+
+  abbrev pub type_default : Option (Eq × TypeTree X) → Option (Eq × TypeTree X)
+  type_default None = None
+  type_default (Some d) = Some (d.0, ty d.1)
+
+  abbrev pub const_param : ConstParamOf (TypeTree X) X → ConstParamOf (TypeTree X) X
+  const_param x = const_param_of (attrs normal x.attrs) x.const_token x.ident x.colon_token (ty x.ty) (const_default normal x.default)
+
+  abbrev pub trait_bound : TraitBoundOf (GenericParam X) X → TraitBoundOf (GenericParam X) X
+  trait_bound = trait_bound_by param
+
+  abbrev pub bound_lifetimes : BoundLifetimesOf (GenericParam X) → BoundLifetimesOf (GenericParam X)
+  bound_lifetimes x = bound_lifetimes_of x.for_token x.lt_token (many param x.lifetimes) x.gt_token
 
   abbrev pub array : TypeArrayOf (TypeTree X) (Expr X) → TypeArrayOf (TypeTree X) (Expr X)
   array x = array_of x.bracket_token (ty x.elem) x.semi_token (len x.len)

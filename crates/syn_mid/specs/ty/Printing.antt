@@ -1,5 +1,5 @@
 -- What types print.
-use Rattle.std.specs.Prelude.{List, [], ◌∷◌, ◌++◌, Option, Some, None}
+use Rattle.std.specs.Prelude.{ℕ, get_or, List, [], ◌∷◌, ◌++◌, Option, Some, None}
 use Rattle.token_core.specs.declared.lifetime.Lifetime.{Lifetime}
 use Rattle.token_core.specs.declared.lit.LitStr.{LitStr}
 use Rattle.token_core.specs.declared.word.Word.{Word}
@@ -21,23 +21,42 @@ use Rattle.syn_mid.specs.declared.ty.PointerMutability.TheVariants as m
 use Rattle.syn_mid.specs.declared.ty.ReturnTypeOf.{ReturnTypeOf}
 use Rattle.syn_mid.specs.declared.ty.ReturnTypeOf.TheVariants as r
 use Rattle.syn_mid.specs.declared.ty.Type.{«Type» as TypeTree}
-use Rattle.syn_mid.specs.declared.ty.Type.TheOpen as t
-use Rattle.syn_mid.specs.declared.ty.Type.TheFolds.{fold-Type}
+use Rattle.syn_mid.specs.declared.generics.GenericParam.TheOpen as o
+use Rattle.syn_mid.specs.declared.generics.GenericParam.TheFolds.{fold-GenericParam, fold-TypeParamBound, fold-TypeParam, fold-Type, fold-TypeFnPtr}
 use Rattle.syn_mid.specs.declared.ty.TypeArrayOf.{TypeArrayOf}
 use Rattle.syn_mid.specs.declared.ty.TypeGroupOf.{TypeGroupOf}
 use Rattle.syn_mid.specs.declared.ty.TypeInfer.{TypeInfer}
 use Rattle.syn_mid.specs.declared.ty.TypeMacro.{TypeMacro}
 use Rattle.syn_mid.specs.declared.ty.TypeNever.{TypeNever}
 use Rattle.syn_mid.specs.declared.ty.TypeParenOf.{TypeParenOf}
-use Rattle.syn_mid.specs.declared.ty.TypePath.{TypePath}
+use Rattle.syn_mid.specs.declared.ty.TypePathOf.{TypePathOf}
+use Rattle.syn_mid.specs.declared.ty.TypeImplTraitOf.{TypeImplTraitOf}
+use Rattle.syn_mid.specs.declared.ty.TypeTraitObjectOf.{TypeTraitObjectOf}
+use Rattle.syn_mid.specs.declared.ty.TypeFnPtr.{TypeFnPtr, out-TypeFnPtr}
+use Rattle.syn_mid.specs.declared.ty.NamedArgOf.{NamedArgOf}
+use Rattle.syn_mid.specs.declared.ty.FnPtrVariadic.{FnPtrVariadic}
+use Rattle.syn_mid.specs.declared.path.Path.{Path}
+use Rattle.syn_mid.specs.declared.path.QSelfOf.{QSelfOf}
+use Rattle.syn_mid.specs.declared.generics.BoundLifetimesOf.{BoundLifetimesOf}
+use Rattle.syn_mid.specs.declared.generics.ConstParamOf.{ConstParamOf}
+use Rattle.syn_mid.specs.declared.generics.GenericParam.{GenericParam}
+use Rattle.syn_mid.specs.declared.generics.TraitBoundOf.{TraitBoundOf}
+use Rattle.syn_mid.specs.declared.generics.TypeParam.{TypeParam, out-TypeParam}
+use Rattle.syn_mid.specs.declared.generics.TypeParamBound.{TypeParamBound}
+use Rattle.syn_mid.specs.declared.attr.AttributeOf.{AttributeOf}
+use Rattle.syn_mid.specs.declared.attr.Meta.{Meta}
+use Rattle.syn_mid.specs.generics.Shapes.{after_colon, attrs, binder_end, binder_joined, binder_start, bound_lifetimes_by, capture, const_head_by, const_param_by, lifetime_param, trait_bound_by, type_head_by, type_param_by}
+use Rattle.token_core.specs.declared.mark.Mark.{Mark}
+use Rattle.token_core.specs.declared.token.Paren.{Paren}
+use Rattle.token_core.specs.declared.tree.Ident.{Ident}
 use Rattle.syn_mid.specs.declared.ty.TypePtrOf.{TypePtrOf}
 use Rattle.syn_mid.specs.declared.ty.TypeReferenceOf.{TypeReferenceOf}
 use Rattle.syn_mid.specs.declared.ty.TypeSliceOf.{TypeSliceOf}
 use Rattle.syn_mid.specs.declared.ty.TypeTupleOf.{TypeTupleOf}
 use Rattle.syn_mid.specs.attr.Printing.{at_place}
 use Rattle.syn_mid.specs.mac.Printing.{mac}
-use Rattle.syn_mid.specs.path.Printing.{path, as_written}
-use Rattle.syn_mid.specs.ty.Types.{Comma}
+use Rattle.syn_mid.specs.path.Printing.{path, as_written, qualified}
+use Rattle.syn_mid.specs.ty.Types.{Comma, Plus, comma}
 
 -- the name of a convention, where it is written
 abbrev pub convention : Option LitStr → Print
@@ -56,8 +75,19 @@ never x = p.mark x.bang_token
 abbrev pub macro_type : {X : Type 0} → TypeMacro X → Print
 macro_type x = mac x.mac
 
-abbrev pub path_type : {X : Type 0} → TypePath X → Print
-path_type x = path as_written x.path
+-- a word, or nothing
+abbrev pub optional_word : {n : ℕ} → Option (Word n) → Print
+optional_word None = []
+optional_word (Some w) = p.word w
+
+abbrev pub optional_abi : Option Abi → Print
+optional_abi None = []
+optional_abi (Some x) = abi x
+
+-- a name and its colon
+abbrev pub name : Option (Ident × Mark 7 1) → Print
+name None = []
+name (Some n) = p.ident n.0 ++ p.mark n.1
 
 -- `const` or `mut`
 abbrev pub pointer : PointerMutability → Print
@@ -68,15 +98,6 @@ abbrev pub lifetime : Option Lifetime → Print
 lifetime None = []
 lifetime (Some x) = lifetimes.print x
 
--- `mut`, or nothing
-abbrev pub mutability : Option (Word 13) → Print
-mutability None = []
-mutability (Some w) = p.word w
-
--- `,` that stands nowhere
-abbrev pub comma : Comma
-comma = record { spans = none ∷ [] }
-
 -- a comma after a lone element that has none, which sets the tuple apart from a type in parentheses
 abbrev pub lone_comma : {T : Type 0} → List T → List Comma → Print
 lone_comma (x ∷ []) [] = p.mark comma
@@ -84,11 +105,28 @@ lone_comma (x ∷ []) (c ∷ cs) = []
 lone_comma (x ∷ y ∷ all) cs = []
 lone_comma [] cs = []
 
+-- a comma where `...` begins
+abbrev pub comma_at : Mark 9 3 → Comma
+comma_at d = record { spans = get_or d.spans 0 none ∷ [] }
+
+-- a comma after a last member that has none
+abbrev pub last_comma : {A : Type 0} → Comma → List A → List Comma → Print
+last_comma c [] cs = []
+last_comma c (x ∷ all) [] = p.mark c
+last_comma c (x ∷ all) (d ∷ cs) = last_comma c all cs
+
 -- ---- by the print of the types within
 
 module _ {T : Type 0} (print : T → Print) where
+  abbrev pub path_by : {X : Type 0} → Option (QSelfOf T) → Path X → Print
+  path_by None x = path as_written x
+  path_by (Some q) x = p.mark q.lt_token ++ (print q.ty ++ qualified as_written q x)
+
   abbrev pub array_by : {E : Type 0} → (E → Print) → TypeArrayOf T E → Print
   array_by len x = p.group Bracket (stream_of_trees (print x.elem ++ (p.mark x.semi_token ++ len x.len))) x.bracket_token.span
+
+  abbrev pub path_type_by : {X : Type 0} → TypePathOf T X → Print
+  path_type_by x = path_by x.qself x.path
 
   abbrev pub group_by : TypeGroupOf T → Print
   group_by x = p.group d.None (stream_of_trees (print x.elem)) x.group_token.span
@@ -100,7 +138,7 @@ module _ {T : Type 0} (print : T → Print) where
   ptr_by x = p.mark x.star_token ++ (pointer x.mutability ++ print x.elem)
 
   abbrev pub reference_by : TypeReferenceOf T → Print
-  reference_by x = p.mark x.and_token ++ (lifetime x.lifetime ++ (mutability x.mutability ++ print x.elem))
+  reference_by x = p.mark x.and_token ++ (lifetime x.lifetime ++ (optional_word x.mutability ++ print x.elem))
 
   abbrev pub slice_by : TypeSliceOf T → Print
   slice_by x = p.group Bracket (stream_of_trees (print x.elem)) x.bracket_token.span
@@ -116,7 +154,34 @@ module _ {T : Type 0} (print : T → Print) where
   abbrev pub tuple_by : TypeTupleOf T → Print
   tuple_by x = p.group Parenthesis (stream_of_trees (elements_by x.elems ++ lone_comma x.elems.0 x.elems.1)) x.paren_token.span
 
+-- from the end of the binder to `fn`
+abbrev pub fn_head_by : {G : Type 0} → Option (BoundLifetimesOf G) → Option (Word 16) → Option Abi → Word 9 → Print
+fn_head_by l u a w = binder_end l ++ (optional_word u ++ (optional_abi a ++ p.word w))
+
+-- by the print of bounds
+module _ {B : Type 0} (bound : B → Print) where
+  abbrev pub joined_by : Many B Plus → Print
+  joined_by v = joined bound p.mark v.0 v.1
+
+  abbrev pub impl_trait_by : TypeImplTraitOf B → Print
+  impl_trait_by x = p.word x.impl_token ++ joined_by x.bounds
+
+  abbrev pub trait_object_by : TypeTraitObjectOf B → Print
+  trait_object_by x = optional_word x.dyn_token ++ joined_by x.bounds
+
 -- ---- trees
+
+module _ {X : Type 0} where
+  -- the binder of a pointer to a function
+  abbrev pub fn_lifetimes : TypeFnPtr X → Option (BoundLifetimesOf (GenericParam X))
+  fn_lifetimes x = (out-TypeFnPtr X x).lifetimes
+
+  abbrev pub inputs_of : TypeFnPtr X → Many (NamedArgOf (TypeTree X) X) Comma
+  inputs_of x = (out-TypeFnPtr X x).inputs
+
+  -- from the end of its binder to `fn`
+  abbrev pub fn_head : TypeFnPtr X → Print
+  fn_head x = let f = out-TypeFnPtr X x in fn_head_by f.lifetimes f.unsafety f.abi f.fn_token
 
 -- what a supplied subtree prints in a place is given
 module _ {X : Type 0} (prints : Place → X → Print) where
@@ -124,25 +189,145 @@ module _ {X : Type 0} (prints : Place → X → Print) where
   abbrev pub len : Expr X → Print
   len = at_place prints ArrayLen
 
-  abbrev pub ty_step : t.Type-F X Print → Print
-  ty_step (t.Array x) = array_by (λ z. z) len x
-  ty_step (t.Group x) = group_by (λ z. z) x
-  ty_step (t.Infer x) = infer x
-  ty_step (t.Macro x) = macro_type x
-  ty_step (t.Never x) = never x
-  ty_step (t.Paren x) = paren_by (λ z. z) x
-  ty_step (t.Path x) = path_type x
-  ty_step (t.Ptr x) = ptr_by (λ z. z) x
-  ty_step (t.Reference x) = reference_by (λ z. z) x
-  ty_step (t.Slice x) = slice_by (λ z. z) x
-  ty_step (t.Tuple x) = tuple_by (λ z. z) x
-  ty_step (t.Verbatim x) = trees x
+  abbrev pub arg_name : List (AttributeOf (Meta X)) → Option (Ident × Mark 7 1) → Print
+  arg_name a n = attrs prints a ++ name n
+
+  abbrev pub named_arg_by : {T : Type 0} → (T → Print) → NamedArgOf T X → Print
+  named_arg_by type x = arg_name x.attrs x.name ++ type x.ty
+
+  abbrev pub optional_comma : Option Comma → Print
+  optional_comma None = []
+  optional_comma (Some c) = p.mark c
+
+  abbrev pub variadic : FnPtrVariadic X → Print
+  variadic x = arg_name x.attrs x.name ++ (p.mark x.dots ++ optional_comma x.comma)
+
+  abbrev pub inputs_by : {T : Type 0} → (T → Print) → Many (NamedArgOf T X) Comma → Print
+  inputs_by type v = joined (named_arg_by type) p.mark v.0 v.1
+
+  -- `...` after a comma, which is added where the last argument has none
+  abbrev pub more : {A : Type 0} → Many A Comma → Option (FnPtrVariadic X) → Print
+  more v None = []
+  more v (Some x) = last_comma (comma_at x.dots) v.0 v.1 ++ variadic x
+
+  abbrev pub arguments_by : {T : Type 0} → (T → Print) → Paren → Many (NamedArgOf T X) Comma → Option (FnPtrVariadic X) → Print
+  arguments_by type t v m = p.group Parenthesis (stream_of_trees (inputs_by type v ++ more v m)) t.span
+
+  abbrev pub fn_ptr_by : {G T : Type 0} → (G → Print) → (T → Print) → Option (BoundLifetimesOf G) → Option (Word 16) → Option Abi → Word 9 → Paren → Many (NamedArgOf T X) Comma → Option (FnPtrVariadic X) → ReturnTypeOf T → Print
+  fn_ptr_by param type l u a w t v m r = binder_start l ++ (binder_joined param l ++ (fn_head_by l u a w ++ (arguments_by type t v m ++ return_type_by type r)))
+
+  abbrev pub ty_step : o.Type-F X Print Print Print Print Print → Print
+  ty_step (o.Array x) = array_by (λ z. z) len x
+  ty_step (o.FnPtr x) = x
+  ty_step (o.Group x) = group_by (λ z. z) x
+  ty_step (o.ImplTrait x) = impl_trait_by (λ z. z) x
+  ty_step (o.Infer x) = infer x
+  ty_step (o.Macro x) = macro_type x
+  ty_step (o.Never x) = never x
+  ty_step (o.Paren x) = paren_by (λ z. z) x
+  ty_step (o.Path x) = path_type_by (λ z. z) x
+  ty_step (o.Ptr x) = ptr_by (λ z. z) x
+  ty_step (o.Reference x) = reference_by (λ z. z) x
+  ty_step (o.Slice x) = slice_by (λ z. z) x
+  ty_step (o.TraitObject x) = trait_object_by (λ z. z) x
+  ty_step (o.Tuple x) = tuple_by (λ z. z) x
+  ty_step (o.Type::Verbatim x) = trees x
+
+  abbrev pub fn_ptr_step : o.TypeFnPtr-F X Print Print Print Print Print → Print
+  fn_ptr_step x = fn_ptr_by (λ z. z) (λ z. z) x.lifetimes x.unsafety x.abi x.fn_token x.paren_token x.inputs x.variadic x.output
+
+  abbrev pub param_step : o.GenericParam-F X Print Print Print Print Print → Print
+  param_step (o.GenericParam::Lifetime x) = lifetime_param prints x
+  param_step (o.«Type» x) = x
+  param_step (o.Const x) = const_param_by prints (λ z. z) x
+
+  abbrev pub type_param_step : o.TypeParam-F X Print Print Print Print Print → Print
+  type_param_step x = type_param_by prints (λ z. z) (λ z. z) x.attrs x.ident x.colon_token x.bounds x.default
+
+  abbrev pub bound_step : o.TypeParamBound-F X Print Print Print Print Print → Print
+  bound_step (o.Trait x) = trait_bound_by (λ z. z) x
+  bound_step (o.TypeParamBound::Lifetime x) = lifetimes.print x
+  bound_step (o.PreciseCapture x) = capture x
+  bound_step (o.TypeParamBound::Verbatim x) = trees x
 
   unfoldable pub ty : TypeTree X → Print
-  ty = fold-Type X Print ty_step
+  ty = fold-Type X Print Print Print Print Print param_step bound_step ty_step type_param_step fn_ptr_step
+
+  unfoldable pub fn_ptr : TypeFnPtr X → Print
+  fn_ptr = fold-TypeFnPtr X Print Print Print Print Print param_step bound_step ty_step type_param_step fn_ptr_step
+
+  unfoldable pub param : GenericParam X → Print
+  param = fold-GenericParam X Print Print Print Print Print param_step bound_step ty_step type_param_step fn_ptr_step
+
+  unfoldable pub type_param : TypeParam X → Print
+  type_param = fold-TypeParam X Print Print Print Print Print param_step bound_step ty_step type_param_step fn_ptr_step
+
+  unfoldable pub bound : TypeParamBound X → Print
+  bound = fold-TypeParamBound X Print Print Print Print Print param_step bound_step ty_step type_param_step fn_ptr_step
 
   abbrev pub array : TypeArrayOf (TypeTree X) (Expr X) → Print
   array = array_by ty len
+
+  abbrev pub path_type : TypePathOf (TypeTree X) X → Print
+  path_type = path_type_by ty
+
+  abbrev pub impl_trait : TypeImplTraitOf (TypeParamBound X) → Print
+  impl_trait = impl_trait_by bound
+
+  abbrev pub trait_object : TypeTraitObjectOf (TypeParamBound X) → Print
+  trait_object = trait_object_by bound
+
+  abbrev pub named_arg : NamedArgOf (TypeTree X) X → Print
+  named_arg = named_arg_by ty
+
+  abbrev pub inputs : Many (NamedArgOf (TypeTree X) X) Comma → Print
+  inputs = inputs_by ty
+
+  -- the parts of a pointer to a function: the parameters of its binder
+  abbrev pub fn_params : TypeFnPtr X → Print
+  fn_params x = binder_joined param (fn_lifetimes x)
+
+  -- its arguments
+  abbrev pub fn_inputs : TypeFnPtr X → Print
+  fn_inputs x = inputs (inputs_of x)
+
+  -- what follows them
+  abbrev pub fn_more : TypeFnPtr X → Print
+  fn_more x = more (inputs_of x) (out-TypeFnPtr X x).variadic
+
+  -- what it returns
+  abbrev pub fn_output : TypeFnPtr X → Print
+  fn_output x = return_type_by ty (out-TypeFnPtr X x).output
+
+  -- the arguments in their parentheses
+  abbrev pub arguments : TypeFnPtr X → Print
+  arguments x = let f = out-TypeFnPtr X x in arguments_by ty f.paren_token f.inputs f.variadic
+
+  abbrev pub bounds_joined : Many (TypeParamBound X) Plus → Print
+  bounds_joined = joined_by bound
+
+  abbrev pub own_bounds : TypeParam X → Print
+  own_bounds x = bounds_joined (out-TypeParam X x).bounds
+
+  -- a type parameter without its default
+  abbrev pub type_head : TypeParam X → Print
+  type_head x = let f = out-TypeParam X x in type_head_by prints bound f.attrs f.ident f.colon_token f.bounds
+
+  -- the bounds of a type parameter after their colon
+  abbrev pub type_bounds : TypeParam X → Print
+  type_bounds x = let f = out-TypeParam X x in after_colon bound f.colon_token f.bounds
+
+  abbrev pub const_head : ConstParamOf (TypeTree X) X → Print
+  const_head = const_head_by prints ty
+
+  abbrev pub const_param : ConstParamOf (TypeTree X) X → Print
+  const_param = const_param_by prints ty
+
+  abbrev pub trait_bound : TraitBoundOf (GenericParam X) X → Print
+  trait_bound = trait_bound_by param
+
+  abbrev pub bound_lifetimes : BoundLifetimesOf (GenericParam X) → Print
+  bound_lifetimes = bound_lifetimes_by param
 
   abbrev pub group : TypeGroupOf (TypeTree X) → Print
   group = group_by ty

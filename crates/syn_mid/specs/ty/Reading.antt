@@ -20,7 +20,7 @@ use Rattle.syn_mid.specs.declared.ty.TypeInfer.{TypeInfer}
 use Rattle.syn_mid.specs.declared.ty.TypeMacro.{TypeMacro}
 use Rattle.syn_mid.specs.declared.ty.TypeNever.{TypeNever}
 use Rattle.syn_mid.specs.declared.ty.TypeParenOf.{TypeParenOf}
-use Rattle.syn_mid.specs.declared.ty.TypePath.{TypePath}
+use Rattle.syn_mid.specs.declared.ty.TypePathOf.{TypePathOf}
 use Rattle.syn_mid.specs.declared.ty.TypePtrOf.{TypePtrOf}
 use Rattle.syn_mid.specs.declared.ty.TypeReferenceOf.{TypeReferenceOf}
 use Rattle.syn_mid.specs.declared.ty.TypeSliceOf.{TypeSliceOf}
@@ -100,7 +100,7 @@ abbrev pub type_name : Bytes
 type_name = codes "type"
 
 module _ {X : Type 0} where
-  abbrev pub path_type : Reader (TypePath X)
+  abbrev pub path_type : Reader (TypePathOf (TypeTree X) X)
   path_type = path_type_of <$> plain_path
 
   abbrev pub macro_type : Reader (TypeMacro X)

@@ -21,7 +21,7 @@ use Rattle.syn_mid.specs.declared.ty.TypeInfer.{TypeInfer}
 use Rattle.syn_mid.specs.declared.ty.TypeMacro.{TypeMacro}
 use Rattle.syn_mid.specs.declared.ty.TypeNever.{TypeNever}
 use Rattle.syn_mid.specs.declared.ty.TypeParenOf.{TypeParenOf}
-use Rattle.syn_mid.specs.declared.ty.TypePath.{TypePath}
+use Rattle.syn_mid.specs.declared.ty.TypePathOf.{TypePathOf}
 use Rattle.syn_mid.specs.declared.ty.TypePtrOf.{TypePtrOf}
 use Rattle.syn_mid.specs.declared.ty.TypeReferenceOf.{TypeReferenceOf}
 use Rattle.syn_mid.specs.declared.ty.TypeSliceOf.{TypeSliceOf}
@@ -58,7 +58,7 @@ module _ (clear : Bool) where
     a_never : {b : Bang} {l r : Toks} → IsMark clear b l r → IsNever (never_of b) l r
 
   module _ {X : Type 0} where
-    pub data IsPathType : TypePath X → Toks → Toks → Type 0 where
+    pub data IsPathType : TypePathOf (TypeTree X) X → Toks → Toks → Type 0 where
       a_path_type : {p : Path X} {l r : Toks} → IsPlainPath clear p l r → IsPathType (path_type_of p) l r
 
     -- a macro call whose path is of mod style
@@ -105,7 +105,7 @@ module _ {X : Type 0} (spells : Place → X → Toks → Type 0) (clear : Bool) 
     macro_call : {plus : Bool} {x : Macro X} {l r : Toks} → IsCall clear is_type_word x l r → is_try_path x.path ≡ false → IsType plus (t.Macro (macro_type_of x)) l r
     never : {plus : Bool} {x : TypeNever} {l r : Toks} → IsNever clear x l r → IsType plus (t.Never x) l r
     paren : {plus : Bool} {x : TypeParenOf (TypeTree X)} {l r : Toks} → IsParen true x l r → IsType plus (t.Paren x) l r
-    path : {plus : Bool} {x : TypePath X} {l r : Toks} → IsPathType clear x l r → is_try_path x.path ≡ false → IsType plus (t.Path x) l r
+    path : {plus : Bool} {x : TypePathOf (TypeTree X) X} {l r : Toks} → IsPathType clear x l r → is_try_path x.path ≡ false → IsType plus (t.Path x) l r
     ptr : {plus : Bool} {x : TypePtrOf (TypeTree X)} {l r : Toks} → IsPtr x l r → IsType plus (t.Ptr x) l r
     reference : {plus : Bool} {x : TypeReferenceOf (TypeTree X)} {l r : Toks} → IsReference x l r → IsType plus (t.Reference x) l r
     slice : {plus : Bool} {x : TypeSliceOf (TypeTree X)} {l r : Toks} → IsSlice x l r → IsType plus (t.Slice x) l r

@@ -1,5 +1,5 @@
 -- Types by their parts.
-use Rattle.std.specs.Prelude.{Bool, false, List, [], ◌∷◌, Option, Some, None}
+use Rattle.std.specs.Prelude.{ℕ, Bool, false, List, [], ◌∷◌, Option, Some, None}
 use Rattle.token_core.specs.declared.mark.Mark.{Mark}
 use Rattle.token_core.specs.declared.word.Word.{Word}
 use Rattle.token_core.specs.declared.lifetime.Lifetime.{Lifetime}
@@ -19,7 +19,22 @@ use Rattle.syn_mid.specs.declared.ty.TypeMacro.{TypeMacro}
 use Rattle.syn_mid.specs.declared.ty.TypeNever.{TypeNever}
 use Rattle.syn_mid.specs.declared.ty.TypeGroupOf.{TypeGroupOf}
 use Rattle.syn_mid.specs.declared.ty.TypeParenOf.{TypeParenOf}
-use Rattle.syn_mid.specs.declared.ty.TypePath.{TypePath}
+use Rattle.syn_mid.specs.declared.ty.TypePathOf.{TypePathOf}
+use Rattle.syn_mid.specs.declared.ty.TypeImplTraitOf.{TypeImplTraitOf}
+use Rattle.syn_mid.specs.declared.ty.TypeTraitObjectOf.{TypeTraitObjectOf}
+use Rattle.syn_mid.specs.declared.ty.TypeFnPtr.{TypeFnPtr, roll-TypeFnPtr}
+use Rattle.syn_mid.specs.declared.ty.NamedArgOf.{NamedArgOf}
+use Rattle.syn_mid.specs.declared.ty.FnPtrVariadic.{FnPtrVariadic}
+use Rattle.syn_mid.specs.declared.ty.ReturnTypeOf.{ReturnTypeOf}
+use Rattle.syn_mid.specs.declared.ty.Abi.{Abi}
+use Rattle.syn_mid.specs.declared.ty.Type.{«Type» as TypeTree}
+use Rattle.syn_mid.specs.declared.path.QSelfOf.{QSelfOf}
+use Rattle.syn_mid.specs.declared.generics.BoundLifetimesOf.{BoundLifetimesOf}
+use Rattle.syn_mid.specs.declared.generics.GenericParam.{GenericParam}
+use Rattle.syn_mid.specs.declared.attr.AttributeOf.{AttributeOf}
+use Rattle.syn_mid.specs.declared.attr.Meta.{Meta}
+use Rattle.token_core.specs.declared.tree.Ident.{Ident}
+use Rattle.token_core.specs.Spans.{none}
 use Rattle.syn_mid.specs.declared.ty.TypePtrOf.{TypePtrOf}
 use Rattle.syn_mid.specs.declared.ty.TypeReferenceOf.{TypeReferenceOf}
 use Rattle.syn_mid.specs.declared.ty.TypeSliceOf.{TypeSliceOf}
@@ -35,6 +50,13 @@ Star = Mark 26 1
 
 abbrev pub Comma : Type 0
 Comma = Mark 4 1
+
+-- `,` that stands nowhere
+abbrev pub comma : Comma
+comma = record { spans = none ∷ [] }
+
+abbrev pub Plus : Type 0
+Plus = Mark 20 1
 
 abbrev pub Semi : Type 0
 Semi = Mark 24 1
@@ -63,8 +85,31 @@ never_of b = record { bang_token = b }
 abbrev pub paren_of : {T : Type 0} → Paren → T → TypeParenOf T
 paren_of p x = record { paren_token = p; elem = x }
 
-abbrev pub path_type_of : {X : Type 0} → Path X → TypePath X
-path_type_of p = record { path = p }
+-- a path that no type qualifies
+abbrev pub path_type_of : {T X : Type 0} → Path X → TypePathOf T X
+path_type_of p = record { qself = None; path = p }
+
+abbrev pub qself_of : {T : Type 0} → Mark 2 1 → T → ℕ → Option (Word 4) → Mark 3 1 → QSelfOf T
+qself_of l x n a g = record { lt_token = l; ty = x; position = n; as_token = a; gt_token = g }
+
+abbrev pub qualified_of : {T X : Type 0} → Option (QSelfOf T) → Path X → TypePathOf T X
+qualified_of q p = record { qself = q; path = p }
+
+abbrev pub impl_trait_of : {B : Type 0} → Word 12 → Many B Plus → TypeImplTraitOf B
+impl_trait_of w v = record { impl_token = w; bounds = v }
+
+abbrev pub trait_object_of : {B : Type 0} → Option (Word 7) → Many B Plus → TypeTraitObjectOf B
+trait_object_of w v = record { dyn_token = w; bounds = v }
+
+abbrev pub named_arg_of : {T X : Type 0} → List (AttributeOf (Meta X)) → Option (Ident × Mark 7 1) → T → NamedArgOf T X
+named_arg_of a n x = record { attrs = a; name = n; ty = x }
+
+abbrev pub variadic_of : {X : Type 0} → List (AttributeOf (Meta X)) → Option (Ident × Mark 7 1) → Mark 9 3 → Option Comma → FnPtrVariadic X
+variadic_of a n d c = record { attrs = a; name = n; dots = d; comma = c }
+
+abbrev pub fn_ptr_of : {X : Type 0} → Option (BoundLifetimesOf (GenericParam X)) → Option (Word 16) → Option Abi → Word 9 → Paren → Many (NamedArgOf (TypeTree X) X) Comma → Option (FnPtrVariadic X)
+    → ReturnTypeOf (TypeTree X) → TypeFnPtr X
+fn_ptr_of {X = X} l u a w t v m r = roll-TypeFnPtr X (record { lifetimes = l; unsafety = u; abi = a; fn_token = w; paren_token = t; inputs = v; variadic = m; output = r })
 
 abbrev pub ptr_of : {T : Type 0} → Star → PointerMutability → T → TypePtrOf T
 ptr_of s m x = record { star_token = s; mutability = m; elem = x }

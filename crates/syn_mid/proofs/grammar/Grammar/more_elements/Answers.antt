@@ -6,7 +6,7 @@ use Rattle.token_core.proofs.Suffixes.{follows}
 use Rattle.syn_mid.specs.ty.Knot.{types}
 use Rattle.syn_mid.specs.ty.Reading.{comma}
 use Rattle.syn_mid.proofs.path_laws.Turns.{refused_by}
-use Rattle.syn_mid.proofs.ty_laws.Elements.{none_left, no_value, last_value, no_mark, next_value, comma_keeps}
+use Rattle.syn_mid.proofs.ty_laws.Elements.{begun, none_left, no_value, last_value, no_mark, next_value, comma_keeps}
 use Rattle.syn_mid.proofs.ty_laws.Takes.{types_takes}
 use Rattle.syn_mid.proofs.grammar.Grammar.more_elements.Goals as goal
 
@@ -42,6 +42,17 @@ returns-in_err-parse_comma-2-clause-reads g c =
     let back : c.from_residual-in_err-parse_comma-2.result ≡ Err e = first_of (search rules, grind (arith, common_steps)) in
     refused_by _ _ _ _ _ _ e was back c.parse_comma-in-turn.ensures.reads
     (λ h. c.turn.invariant.told ∙ no_mark (types g.X.Subtree.reads (length c.args.self.now.begin) true) comma c.turn.elems c.turn.input c.nested.new.input c.in_ok-elem.elem e d c.in_ok-elem.ensures.reads n h)
+
+pub turn-init : goal.turn-init
+turn-init g c =
+    let v : c.push_punct.new.self ≡ (c.args.first ∷ [], c.in_ok-parse_comma.field-0 ∷ []) = first_of (search rules, grind (arith, common_steps)) in
+    record {
+      told = begun g.X.Subtree.reads (types g.X.Subtree.reads (length c.args.self.now.begin)) c.args.first c.in_ok-parse_comma.field-0 c.args.input.now c.parse_comma.new.input c.in_ok-parse_comma.ensures.reads
+          ∙ ap (λ z. after z (terminated is_done (types g.X.Subtree.reads (length c.args.self.now.begin) true) comma c.parse_comma.new.input)) (sym v);
+      whole = grind (arith, common_steps);
+      few = first_of (grind (arith, common_steps), search rules);
+      within = grind (arith, follows);
+    }
 
 pub turn-preserved : goal.turn-preserved
 turn-preserved g c =

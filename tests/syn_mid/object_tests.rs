@@ -1,0 +1,106 @@
+//! What trait objects and `impl` types made by hand print.
+
+use crate::generics_tests::{binder, both, lifetime_bound, lone, path, says, shown, two};
+use crate::nothing::Nothing;
+use std::alloc::Global;
+use syn_mid::{
+    TraitBoundModifiers, TraitBoundOf, Type, TypeImplTraitOf, TypeParamBound, TypeTraitObjectOf,
+};
+use token_core::token::{Dyn, Impl, Plus};
+use token_core::{Error, Punctuated};
+
+type Bound = TypeParamBound<Nothing>;
+
+type Bounds = Punctuated<Bound, Plus>;
+
+/// `A`
+fn bound(alloc: Global, text: &str) -> Result<Bound, Error> {
+    Ok(TypeParamBound::from(TraitBoundOf {
+        paren_token: None,
+        lifetimes: None,
+        modifiers: TraitBoundModifiers::default(),
+        maybe: None,
+        path: path(alloc, text)?,
+    }))
+}
+
+/// `for<'b> A`
+fn bound_with_binder(alloc: Global) -> Result<Bound, Error> {
+    let (binder, path) = both(binder(alloc, "b"), path(alloc, "A"))?;
+    Ok(TypeParamBound::from(TraitBoundOf {
+        paren_token: None,
+        lifetimes: Some(binder),
+        modifiers: TraitBoundModifiers::default(),
+        maybe: None,
+        path,
+    }))
+}
+
+/// `A + ..`
+fn and(alloc: Global, second: Result<Bound, Error>) -> Result<Bounds, Error> {
+    let (first, second) = both(bound(alloc, "A"), second)?;
+    two(alloc, first, second)
+}
+
+/// A list of one, with its mark.
+fn trailing(alloc: Global, bound: Result<Bound, Error>) -> Result<Bounds, Error> {
+    let bound = bound?;
+    let mut list = Punctuated::new(alloc);
+    list.push_value(alloc, bound)?;
+    list.push_punct(Plus::default())?;
+    Ok(list)
+}
+
+fn opaque(bounds: Result<Bounds, Error>) -> Result<Type<Nothing>, Error> {
+    Ok(Type::from(TypeImplTraitOf {
+        impl_token: Impl::default(),
+        bounds: bounds?,
+    }))
+}
+
+fn object(dyn_token: Option<Dyn>, bounds: Result<Bounds, Error>) -> Result<Type<Nothing>, Error> {
+    Ok(Type::from(TypeTraitObjectOf {
+        dyn_token,
+        bounds: bounds?,
+    }))
+}
+
+#[test]
+fn opaque_types_print(rt: HostRuntime) {
+    let alloc = rt.alloc();
+    let one = lone(alloc, bound(alloc, "a::B"));
+    says(&rt, shown(alloc, opaque(one)), "impl a :: B");
+    let some = and(alloc, lifetime_bound(alloc));
+    says(&rt, shown(alloc, opaque(some)), "impl A + 'a");
+    let marked = trailing(alloc, bound(alloc, "A"));
+    says(&rt, shown(alloc, opaque(marked)), "impl A +");
+    let none = Ok(Punctuated::new(alloc));
+    says(&rt, shown(alloc, opaque(none)), "impl");
+}
+
+#[test]
+fn trait_objects_print(rt: HostRuntime) {
+    let alloc = rt.alloc();
+    let word = Some(Dyn::default());
+    let one = lone(alloc, bound(alloc, "A"));
+    says(&rt, shown(alloc, object(word, one)), "dyn A");
+    let bound = lone(alloc, bound_with_binder(alloc));
+    says(&rt, shown(alloc, object(word, bound)), "dyn for < 'b > A");
+    let marked = trailing(alloc, bound_with_binder(alloc));
+    says(
+        &rt,
+        shown(alloc, object(word, marked)),
+        "dyn for < 'b > A +",
+    );
+}
+
+#[test]
+fn trait_objects_without_their_word_print(rt: HostRuntime) {
+    let alloc = rt.alloc();
+    let some = and(alloc, bound(alloc, "B"));
+    says(&rt, shown(alloc, object(None, some)), "A + B");
+    let marked = trailing(alloc, bound(alloc, "A"));
+    says(&rt, shown(alloc, object(None, marked)), "A +");
+    let none = Ok(Punctuated::new(alloc));
+    says(&rt, shown(alloc, object(None, none)), "");
+}

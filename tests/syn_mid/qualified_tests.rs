@@ -1,0 +1,153 @@
+//! What qualified paths made by hand print, whole and with segments taken off their ends.
+
+use crate::generics_tests::{both, holds, path, says, shown, ty};
+use crate::nothing::Nothing;
+use crate::pat_tests::boxed;
+use std::alloc::Global;
+use std::fmt::Write;
+use syn_mid::{Path, QSelf, QSelfOf, Type, TypePathOf};
+use token_core::Error;
+use token_core::token::{As, Gt, Lt};
+
+/// A path without its last segments.
+fn popped(alloc: Global, text: &str, times: u8) -> Result<Path<Nothing>, Error> {
+    let mut path = path(alloc, text)?;
+    for _ in 0..times {
+        let _last = path.segments.pop();
+    }
+    Ok(path)
+}
+
+/// `<Self as ..>`, with `>` after as many segments, and without `as` where it is left to the print.
+fn qself(alloc: Global, position: usize, as_token: Option<As>) -> Result<QSelf<Nothing>, Error> {
+    Ok(QSelfOf {
+        lt_token: Lt::default(),
+        ty: boxed(alloc, ty(alloc, "Self"))?,
+        position,
+        as_token,
+        gt_token: Gt::default(),
+    })
+}
+
+fn qualified(
+    qself: Result<QSelf<Nothing>, Error>,
+    path: Result<Path<Nothing>, Error>,
+) -> Result<Type<Nothing>, Error> {
+    let (qself, path) = both(qself, path)?;
+    Ok(Type::from(TypePathOf {
+        qself: Some(qself),
+        path,
+    }))
+}
+
+fn plain(path: Result<Path<Nothing>, Error>) -> Result<Type<Nothing>, Error> {
+    Ok(Type::from(TypePathOf {
+        qself: None,
+        path: path?,
+    }))
+}
+
+/// `<Self as A>::Q` without its last segments
+fn of_a_trait(alloc: Global, times: u8) -> Result<String, Error> {
+    let qself = qself(alloc, 1, Some(As::default()));
+    shown(alloc, qualified(qself, popped(alloc, "A::Q", times)))
+}
+
+/// `<Self>::A::B` without its last segments
+fn of_a_type(alloc: Global, times: u8) -> Result<String, Error> {
+    let qself = qself(alloc, 0, None);
+    shown(alloc, qualified(qself, popped(alloc, "::A::B", times)))
+}
+
+/// `Self::A::B` without its last segments
+fn of_none(alloc: Global, times: u8) -> Result<String, Error> {
+    shown(alloc, plain(popped(alloc, "Self::A::B", times)))
+}
+
+#[test]
+fn paths_of_a_trait_print(rt: HostRuntime) {
+    let alloc = rt.alloc();
+    says(&rt, of_a_trait(alloc, 0), "< Self as A > :: Q");
+    says(&rt, of_a_trait(alloc, 1), "< Self as A > ::");
+    says(&rt, of_a_trait(alloc, 2), "< Self >");
+}
+
+#[test]
+fn paths_of_a_type_print(rt: HostRuntime) {
+    let alloc = rt.alloc();
+    says(&rt, of_a_type(alloc, 0), "< Self > :: A :: B");
+    says(&rt, of_a_type(alloc, 1), "< Self > :: A ::");
+    says(&rt, of_a_type(alloc, 2), "< Self > ::");
+}
+
+#[test]
+fn plain_paths_print(rt: HostRuntime) {
+    let alloc = rt.alloc();
+    says(&rt, of_none(alloc, 0), "Self :: A :: B");
+    says(&rt, of_none(alloc, 1), "Self :: A ::");
+    says(&rt, of_none(alloc, 2), "Self ::");
+    says(&rt, of_none(alloc, 3), "");
+}
+
+/// `<Self as ..>` with `>` after as many segments of this path, and `as` left to the print.
+fn at(alloc: Global, position: usize, text: &str) -> Result<String, Error> {
+    let qself = qself(alloc, position, None);
+    shown(alloc, qualified(qself, path(alloc, text)))
+}
+
+#[test]
+fn the_closing_mark_stands_by_its_position(rt: HostRuntime) {
+    let alloc = rt.alloc();
+    says(&rt, at(alloc, 0, "A::B::C"), "< Self > A :: B :: C");
+    says(&rt, at(alloc, 1, "A::B::C"), "< Self as A > :: B :: C");
+    says(&rt, at(alloc, 2, "A::B::C"), "< Self as A :: B > :: C");
+    says(&rt, at(alloc, 3, "::A::B::C"), "< Self as :: A :: B :: C >");
+    says(&rt, at(alloc, 3, "A"), "< Self as A >");
+}
+
+/// `<<T>::A>::A`, as often as wanted
+fn nested(alloc: Global, times: u8) -> Result<Type<Nothing>, Error> {
+    let mut inner = ty(alloc, "T")?;
+    for _ in 0..times {
+        let (boxed, path) = both(boxed(alloc, Ok(inner)), path(alloc, "::A"))?;
+        inner = Type::from(TypePathOf {
+            qself: Some(QSelfOf {
+                lt_token: Lt::default(),
+                ty: boxed,
+                position: 0,
+                as_token: None,
+                gt_token: Gt::default(),
+            }),
+            path,
+        });
+    }
+    Ok(inner)
+}
+
+fn nested_text(alloc: Global, times: u8) -> Result<String, Error> {
+    let mut out = String::new(alloc);
+    for _ in 0..times {
+        write!(out, "< ")?;
+    }
+    write!(out, "T")?;
+    for _ in 0..times {
+        write!(out, " > :: A")?;
+    }
+    Ok(out)
+}
+
+/// Whether it prints so.
+fn nests(alloc: Global, times: u8) -> Result<bool, Error> {
+    let (found, wanted) = both(
+        shown(alloc, nested(alloc, times)),
+        nested_text(alloc, times),
+    )?;
+    Ok(found.as_str() == wanted.as_str())
+}
+
+#[test]
+fn deeply_qualified_paths_print(rt: HostRuntime) {
+    let alloc = rt.alloc();
+    says(&rt, shown(alloc, nested(alloc, 1)), "< T > :: A");
+    holds(&rt, nests(alloc, 200));
+}
