@@ -2,27 +2,18 @@
 
 use crate::generics_tests::{const_param, ident, literal, path, printed, says, shown};
 use crate::nothing::Nothing;
+use crate::pat_tests::{inner, outer};
 use std::alloc::Global;
 use std::marker::PhantomData;
 use syn_mid::{
-    AngleBracketedGenericArguments, Attribute, Expr, ExprBlock, ExprConst, ExprLit, ExprMacro,
-    ExprPath, ExprRange, Macro, ParseInner, ParseOuter, Path, PathArguments, PathSegment,
+    AngleBracketedGenericArguments, Expr, ExprBlock, ExprConst, ExprLit, ExprMacro, ExprPath,
+    ExprRange, Macro, ParenthesizedGenericArguments, Path, PathArguments, PathSegment,
 };
-use token_core::token::{Brace, Const, DotDot, DotDotEq, Eq, Gt, Lt, PathSep};
-use token_core::{Boxed, Error, Items, Lit, RangeLimits, read_all, read_all_with};
+use token_core::token::{Brace, Const, DotDot, DotDotEq, Eq, Gt, Lt, Paren, PathSep};
+use token_core::{Boxed, Error, Items, Lit, RangeLimits, read_all};
 use token_text::lex;
 
 type Form = Expr<Nothing>;
-
-fn outer(alloc: Global, text: &str) -> Result<Items<Attribute<Nothing>>, Error> {
-    let tokens = lex(alloc, text)?;
-    read_all_with(alloc, ParseOuter::<Nothing>::new(), &tokens)
-}
-
-fn inner(alloc: Global, text: &str) -> Result<Items<Attribute<Nothing>>, Error> {
-    let tokens = lex(alloc, text)?;
-    read_all_with(alloc, ParseInner::<Nothing>::new(), &tokens)
-}
 
 fn name(alloc: Global, text: &str) -> Result<Form, Error> {
     Ok(Expr::Path(ExprPath {
@@ -45,19 +36,36 @@ fn literal_with_inner(alloc: Global) -> Result<ExprLit<Nothing>, Error> {
     Ok(ExprLit { attrs, lit })
 }
 
+/// `a` with these arguments
+fn with_arguments(
+    alloc: Global,
+    arguments: PathArguments<Nothing>,
+) -> Result<ExprPath<Nothing>, Error> {
+    let ident = ident(alloc, "a")?;
+    Ok(ExprPath {
+        attrs: Items::new(alloc),
+        path: Path::from_segment(alloc, PathSegment { ident, arguments })?,
+    })
+}
+
 /// `a<>`, after `::` if so wanted
 fn generic(alloc: Global, colon: Option<PathSep>) -> Result<ExprPath<Nothing>, Error> {
-    let ident = ident(alloc, "a")?;
     let arguments = PathArguments::AngleBracketed(AngleBracketedGenericArguments {
         colon2_token: colon,
         lt_token: Lt::default(),
         args: PhantomData,
         gt_token: Gt::default(),
     });
-    Ok(ExprPath {
-        attrs: Items::new(alloc),
-        path: Path::from_segment(alloc, PathSegment { ident, arguments })?,
-    })
+    with_arguments(alloc, arguments)
+}
+
+/// `a()`
+fn parenthesized(alloc: Global) -> Result<ExprPath<Nothing>, Error> {
+    let arguments = PathArguments::Parenthesized(ParenthesizedGenericArguments {
+        paren_token: Paren::default(),
+        inputs: PhantomData,
+    });
+    with_arguments(alloc, arguments)
 }
 
 pub(crate) fn const_block(alloc: Global) -> Result<ExprConst<Nothing>, Error> {
@@ -134,6 +142,7 @@ fn expressions_print(rt: HostRuntime) {
         shown(alloc, generic(alloc, Some(PathSep::default()))),
         "a :: < >",
     );
+    says(&rt, shown(alloc, parenthesized(alloc)), "a :: ()");
     says(&rt, shown(alloc, const_block(alloc)), "# [b] const { }");
     says(&rt, shown(alloc, call(alloc)), "# [b] a :: b ! (c)");
     says(&rt, shown(alloc, closed(alloc)), "a ..= 1");

@@ -1,6 +1,6 @@
 //! What pointers to functions made by hand print.
 
-use crate::generics_tests::{binder, both, holds, ident, lone, pair, says, shown, ty};
+use crate::generics_tests::{binder, both, holds, ident, lone, pair, prints_as, says, shown, ty};
 use crate::nothing::Nothing;
 use crate::pat_tests::{boxed, inner, marked, outer};
 use std::alloc::Global;
@@ -180,7 +180,7 @@ fn output(alloc: Global) -> Result<ReturnType<Nothing>, Error> {
 }
 
 /// `for<'a> unsafe extern "C" fn(.., ...) -> B`
-fn whole(alloc: Global, inputs: Result<Args, Error>) -> Result<Pointer, Error> {
+pub(crate) fn whole(alloc: Global, inputs: Result<Args, Error>) -> Result<Pointer, Error> {
     let head = both(binder(alloc, "a"), convention(alloc));
     let ((binder, abi), (inputs, output)) = both(head, both(inputs, output(alloc)))?;
     Ok(TypeFnPtr {
@@ -239,20 +239,13 @@ fn nested_text(alloc: Global, times: u8) -> Result<String, Error> {
     Ok(out)
 }
 
-/// Whether it prints so.
-fn nests(alloc: Global, times: u8) -> Result<bool, Error> {
-    let (found, wanted) = both(
-        shown(alloc, nested(alloc, times)),
-        nested_text(alloc, times),
-    )?;
-    Ok(found.as_str() == wanted.as_str())
-}
-
 #[test]
 fn deep_pointers_print(rt: HostRuntime) {
     let alloc = rt.alloc();
     says(&rt, shown(alloc, nested(alloc, 1)), "fn () -> A");
-    holds(&rt, nests(alloc, 200));
+    let deep = nested(alloc, 200);
+    let wanted = nested_text(alloc, 200);
+    holds(&rt, prints_as(alloc, deep, wanted));
 }
 
 /// It is printed after a mark, or refused with that mark alone left.

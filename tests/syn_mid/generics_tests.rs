@@ -342,6 +342,16 @@ pub(crate) fn shown<T: ToTokens + Drop>(
     printed(alloc, &tree?)
 }
 
+/// Whether it prints so.
+pub(crate) fn prints_as<T: ToTokens + Drop>(
+    alloc: Global,
+    tree: Result<T, Error>,
+    wanted: Result<String, Error>,
+) -> Result<bool, Error> {
+    let (found, wanted) = both(shown(alloc, tree), wanted)?;
+    Ok(found.as_str() == wanted.as_str())
+}
+
 fn held(alloc: Global, text: &str) -> Result<Bound, Error> {
     Ok(TypeParamBound::Verbatim(lex(alloc, text)?))
 }
@@ -378,7 +388,7 @@ fn bounded_type(alloc: Global) -> Result<PredicateType<Nothing>, Error> {
 }
 
 /// `where 'a:, for<'b> T: Clone`
-fn clause(alloc: Global) -> Result<WhereClause<Nothing>, Error> {
+pub(crate) fn clause(alloc: Global) -> Result<WhereClause<Nothing>, Error> {
     let (first, second) = both(lone_predicate(alloc), bounded_type(alloc))?;
     Ok(WhereClause {
         where_token: Where::default(),
@@ -534,7 +544,11 @@ fn parameters_are_lent_for_writing(rt: HostRuntime) {
     let alloc = rt.alloc();
     let mut generics = got(&rt, mixed(alloc));
     got(&rt, renamed(alloc, &mut generics));
-    says(&rt, printed(alloc, &generics), "< 'life , 'life , Type , const CONST : usize , Type , >");
+    says(
+        &rt,
+        printed(alloc, &generics),
+        "< 'life , 'life , Type , const CONST : usize , Type , >",
+    );
 }
 
 // ---- views
@@ -554,7 +568,7 @@ fn const_one(alloc: Global) -> Result<ConstParam<Nothing>, Error> {
 }
 
 /// Those parameters, with a where clause.
-fn whole(alloc: Global) -> Result<Generics<Nothing>, Error> {
+pub(crate) fn whole(alloc: Global) -> Result<Generics<Nothing>, Error> {
     let (params, clause) = both(params(alloc), clause(alloc))?;
     Ok(Generics {
         lt_token: None,

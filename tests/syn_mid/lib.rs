@@ -2,6 +2,8 @@
 #![tactic(auto)]
 
 #[cfg(test)]
+mod bound_tests;
+#[cfg(test)]
 mod expr_tests;
 #[cfg(test)]
 mod fn_ptr_tests;

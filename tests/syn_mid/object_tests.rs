@@ -25,7 +25,7 @@ fn bound(alloc: Global, text: &str) -> Result<Bound, Error> {
 }
 
 /// `for<'b> A`
-fn bound_with_binder(alloc: Global) -> Result<Bound, Error> {
+pub(crate) fn bound_with_binder(alloc: Global) -> Result<Bound, Error> {
     let (binder, path) = both(binder(alloc, "b"), path(alloc, "A"))?;
     Ok(TypeParamBound::from(TraitBoundOf {
         paren_token: None,
@@ -37,7 +37,7 @@ fn bound_with_binder(alloc: Global) -> Result<Bound, Error> {
 }
 
 /// `A + ..`
-fn and(alloc: Global, second: Result<Bound, Error>) -> Result<Bounds, Error> {
+pub(crate) fn and(alloc: Global, second: Result<Bound, Error>) -> Result<Bounds, Error> {
     let (first, second) = both(bound(alloc, "A"), second)?;
     two(alloc, first, second)
 }
@@ -51,7 +51,7 @@ fn trailing(alloc: Global, bound: Result<Bound, Error>) -> Result<Bounds, Error>
     Ok(list)
 }
 
-fn opaque(bounds: Result<Bounds, Error>) -> Result<Type<Nothing>, Error> {
+pub(crate) fn opaque(bounds: Result<Bounds, Error>) -> Result<Type<Nothing>, Error> {
     Ok(Type::from(TypeImplTraitOf {
         impl_token: Impl::default(),
         bounds: bounds?,

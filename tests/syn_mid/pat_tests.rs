@@ -3,15 +3,17 @@
 use crate::expr_tests::{call, closed, const_block, name_with_outer};
 use crate::generics_tests::{both, ident, literal, lone, pair, path, printed, says, shown, ty};
 use crate::nothing::Nothing;
+use crate::qualified_tests::qself;
 use std::alloc::Global;
 use std::marker::PhantomData;
 use syn_mid::{
     AngleBracketedGenericArguments, Attribute, FieldPat, ParseInner, ParseOuter, Pat, PatGuard,
     PatIdent, PatLit, PatOr, PatParen, PatReference, PatRest, PatSlice, PatStruct, PatTuple,
-    PatTupleStruct, PatType, PatWild, Path, PathArguments, PathSegment,
+    PatTupleStruct, PatType, PatWild, Path, PathArguments, PathSegment, QSelf,
 };
 use token_core::token::{
-    And, At, Brace, Bracket, Colon, Comma, DotDot, Gt, If, Lt, Mut, Or, Paren, Ref, Underscore,
+    And, As, At, Brace, Bracket, Colon, Comma, DotDot, Gt, If, Lt, Mut, Or, Paren, PathSep, Ref,
+    Underscore,
 };
 use token_core::{
     Boxed, Error, Index, Items, Lit, Member, Punctuated, Span, read_all, read_all_with,
@@ -34,7 +36,7 @@ pub(crate) fn inner(alloc: Global, text: &str) -> Result<Items<Attribute<Nothing
 
 // ---- patterns of one token
 
-fn rest_after(
+pub(crate) fn rest_after(
     alloc: Global,
     attrs: Result<Items<Attribute<Nothing>>, Error>,
 ) -> Result<PatRest<Nothing>, Error> {
@@ -89,7 +91,7 @@ fn name(alloc: Global, text: &str) -> Result<Pattern, Error> {
 }
 
 /// `ref mut a @ _`
-fn binding(alloc: Global) -> Result<Pattern, Error> {
+pub(crate) fn binding(alloc: Global) -> Result<Pattern, Error> {
     let (ident, subpat) = both(ident(alloc, "a"), boxed(alloc, wild(alloc)))?;
     Ok(Pat::from(PatIdent {
         attrs: Items::new(alloc),
@@ -111,9 +113,13 @@ fn guarded(alloc: Global) -> Result<Pattern, Error> {
     }))
 }
 
-/// `| a | _`
-fn alternatives(alloc: Global) -> Result<Pattern, Error> {
-    let (first, second) = both(name(alloc, "a"), wild(alloc))?;
+/// `| .. | ..`
+pub(crate) fn alternatives(
+    alloc: Global,
+    first: Result<Pattern, Error>,
+    second: Result<Pattern, Error>,
+) -> Result<Pattern, Error> {
+    let (first, second) = both(first, second)?;
     let mut cases = Punctuated::new(alloc);
     cases.push_value(alloc, first)?;
     cases.push_punct(Or::default())?;
@@ -156,7 +162,8 @@ fn bindings_print(rt: HostRuntime) {
     says(&rt, shown(alloc, name(alloc, "a")), "a");
     says(&rt, shown(alloc, binding(alloc)), "ref mut a @ _");
     says(&rt, shown(alloc, guarded(alloc)), "a if true");
-    says(&rt, shown(alloc, alternatives(alloc)), "| a | _");
+    let some = alternatives(alloc, name(alloc, "a"), wild(alloc));
+    says(&rt, shown(alloc, some), "| a | _");
 }
 
 // ---- a pattern within
@@ -200,7 +207,7 @@ fn patterns_within_print(rt: HostRuntime) {
 
 type Elements = Punctuated<Pattern, Comma>;
 
-fn two(alloc: Global, first: Result<Pattern, Error>) -> Result<Elements, Error> {
+pub(crate) fn two(alloc: Global, first: Result<Pattern, Error>) -> Result<Elements, Error> {
     let (first, second) = both(first, rest(alloc))?;
     pair(alloc, first, second)
 }
@@ -217,7 +224,7 @@ pub(crate) fn marked<T: Drop>(
     Ok(list)
 }
 
-fn slice(alloc: Global, elems: Result<Elements, Error>) -> Result<Pattern, Error> {
+pub(crate) fn slice(alloc: Global, elems: Result<Elements, Error>) -> Result<Pattern, Error> {
     Ok(Pat::from(PatSlice {
         attrs: Items::new(alloc),
         bracket_token: Bracket::default(),
@@ -225,7 +232,7 @@ fn slice(alloc: Global, elems: Result<Elements, Error>) -> Result<Pattern, Error
     }))
 }
 
-fn tuple(alloc: Global, elems: Result<Elements, Error>) -> Result<Pattern, Error> {
+pub(crate) fn tuple(alloc: Global, elems: Result<Elements, Error>) -> Result<Pattern, Error> {
     Ok(Pat::from(PatTuple {
         attrs: Items::new(alloc),
         paren_token: Paren::default(),
@@ -237,6 +244,7 @@ fn tuple_struct(alloc: Global, elems: Result<Elements, Error>) -> Result<Pattern
     let (path, elems) = both(path(alloc, "a::B"), elems)?;
     Ok(Pat::from(PatTupleStruct {
         attrs: Items::new(alloc),
+        qself: None,
         path,
         paren_token: Paren::default(),
         elems,
@@ -303,7 +311,7 @@ fn whole_field(alloc: Global) -> Result<FieldPat<Nothing>, Error> {
     })
 }
 
-fn with_rest(
+pub(crate) fn with_rest(
     alloc: Global,
     fields: Result<Fields, Error>,
     rest: Result<PatRest<Nothing>, Error>,
@@ -311,6 +319,7 @@ fn with_rest(
     let (path, (fields, rest)) = both(path(alloc, "A"), both(fields, rest))?;
     Ok(Pat::from(PatStruct {
         attrs: Items::new(alloc),
+        qself: None,
         path,
         brace_token: Brace::default(),
         fields,
@@ -322,6 +331,7 @@ fn without_rest(alloc: Global, fields: Result<Fields, Error>) -> Result<Pattern,
     let (path, fields) = both(path(alloc, "A"), fields)?;
     Ok(Pat::from(PatStruct {
         attrs: Items::new(alloc),
+        qself: None,
         path,
         brace_token: Brace::default(),
         fields,
@@ -330,7 +340,7 @@ fn without_rest(alloc: Global, fields: Result<Fields, Error>) -> Result<Pattern,
 }
 
 /// `x, 0: _`
-fn two_fields(alloc: Global) -> Result<Fields, Error> {
+pub(crate) fn two_fields(alloc: Global) -> Result<Fields, Error> {
     let (first, second) = both(short(alloc, "x"), whole_field(alloc))?;
     pair(alloc, first, second)
 }
@@ -379,25 +389,29 @@ fn outer_attributes_print(rt: HostRuntime) {
 }
 
 /// `A<>`, its `::` left to the print
-fn angled(alloc: Global) -> Result<Path<Nothing>, Error> {
-    let segment = PathSegment {
-        ident: ident(alloc, "A")?,
+fn angled_segment(alloc: Global, text: &str) -> Result<PathSegment<Nothing>, Error> {
+    Ok(PathSegment {
+        ident: ident(alloc, text)?,
         arguments: PathArguments::AngleBracketed(AngleBracketedGenericArguments {
             colon2_token: None,
             lt_token: Lt::default(),
             args: PhantomData,
             gt_token: Gt::default(),
         }),
-    };
+    })
+}
+
+fn angled(alloc: Global) -> Result<Path<Nothing>, Error> {
     Ok(Path {
         leading_colon: None,
-        segments: lone(alloc, Ok(segment))?,
+        segments: lone(alloc, angled_segment(alloc, "A"))?,
     })
 }
 
 fn angled_struct(alloc: Global) -> Result<Pattern, Error> {
     Ok(Pat::from(PatTupleStruct {
         attrs: Items::new(alloc),
+        qself: None,
         path: angled(alloc)?,
         paren_token: Paren::default(),
         elems: Punctuated::new(alloc),
@@ -408,4 +422,69 @@ fn angled_struct(alloc: Global) -> Result<Pattern, Error> {
 fn paths_print_as_in_an_expression(rt: HostRuntime) {
     let alloc = rt.alloc();
     says(&rt, shown(alloc, angled_struct(alloc)), "A :: < > ()");
+}
+
+// ---- qualified paths
+
+/// `#[b] <Self as A>::Q { x, .. }`
+fn qualified_struct(alloc: Global) -> Result<Pattern, Error> {
+    let qself = qself(alloc, 1, Some(As::default()));
+    let (qself, path) = both(qself, path(alloc, "A::Q"))?;
+    let (attrs, fields) = both(outer(alloc, "#[b]"), lone(alloc, short(alloc, "x")))?;
+    Ok(Pat::from(PatStruct {
+        attrs,
+        qself: Some(qself),
+        path,
+        brace_token: Brace::default(),
+        fields,
+        rest: Some(plain_rest(alloc)?),
+    }))
+}
+
+fn qualified_tuple_struct(
+    alloc: Global,
+    qself: Result<QSelf<Nothing>, Error>,
+    path: Result<Path<Nothing>, Error>,
+    elems: Result<Elements, Error>,
+) -> Result<Pattern, Error> {
+    let (qself, (path, elems)) = both(qself, both(path, elems))?;
+    Ok(Pat::from(PatTupleStruct {
+        attrs: Items::new(alloc),
+        qself: Some(qself),
+        path,
+        paren_token: Paren::default(),
+        elems,
+    }))
+}
+
+/// `<Self>::Q(a, ..)`
+fn of_a_type(alloc: Global) -> Result<Pattern, Error> {
+    let elems = two(alloc, name(alloc, "a"));
+    let path = path(alloc, "::Q");
+    qualified_tuple_struct(alloc, qself(alloc, 0, None), path, elems)
+}
+
+/// `A<>::Q<>`
+fn angled_twice(alloc: Global) -> Result<Path<Nothing>, Error> {
+    let (mut path, last) = both(angled(alloc), angled_segment(alloc, "Q"))?;
+    path.segments.push_punct(PathSep::default())?;
+    path.segments.push_value(alloc, last)?;
+    Ok(path)
+}
+
+/// `<Self as A<>>::Q<>()`, the `::` before the last arguments left to the print
+fn of_a_trait(alloc: Global) -> Result<Pattern, Error> {
+    let qself = qself(alloc, 1, Some(As::default()));
+    let none = Ok(Punctuated::new(alloc));
+    qualified_tuple_struct(alloc, qself, angled_twice(alloc), none)
+}
+
+#[test]
+fn qualified_paths_print(rt: HostRuntime) {
+    let alloc = rt.alloc();
+    let whole = "# [b] < Self as A > :: Q { x , .. }";
+    says(&rt, shown(alloc, qualified_struct(alloc)), whole);
+    says(&rt, shown(alloc, of_a_type(alloc)), "< Self > :: Q (a , ..)");
+    let arguments = "< Self as A < > > :: Q :: < > ()";
+    says(&rt, shown(alloc, of_a_trait(alloc)), arguments);
 }

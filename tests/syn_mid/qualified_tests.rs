@@ -1,6 +1,6 @@
 //! What qualified paths made by hand print, whole and with segments taken off their ends.
 
-use crate::generics_tests::{both, holds, path, says, shown, ty};
+use crate::generics_tests::{both, holds, path, prints_as, says, shown, ty};
 use crate::nothing::Nothing;
 use crate::pat_tests::boxed;
 use std::alloc::Global;
@@ -19,7 +19,11 @@ fn popped(alloc: Global, text: &str, times: u8) -> Result<Path<Nothing>, Error> 
 }
 
 /// `<Self as ..>`, with `>` after as many segments, and without `as` where it is left to the print.
-fn qself(alloc: Global, position: usize, as_token: Option<As>) -> Result<QSelf<Nothing>, Error> {
+pub(crate) fn qself(
+    alloc: Global,
+    position: usize,
+    as_token: Option<As>,
+) -> Result<QSelf<Nothing>, Error> {
     Ok(QSelfOf {
         lt_token: Lt::default(),
         ty: boxed(alloc, ty(alloc, "Self"))?,
@@ -29,7 +33,7 @@ fn qself(alloc: Global, position: usize, as_token: Option<As>) -> Result<QSelf<N
     })
 }
 
-fn qualified(
+pub(crate) fn qualified(
     qself: Result<QSelf<Nothing>, Error>,
     path: Result<Path<Nothing>, Error>,
 ) -> Result<Type<Nothing>, Error> {
@@ -136,18 +140,11 @@ fn nested_text(alloc: Global, times: u8) -> Result<String, Error> {
     Ok(out)
 }
 
-/// Whether it prints so.
-fn nests(alloc: Global, times: u8) -> Result<bool, Error> {
-    let (found, wanted) = both(
-        shown(alloc, nested(alloc, times)),
-        nested_text(alloc, times),
-    )?;
-    Ok(found.as_str() == wanted.as_str())
-}
-
 #[test]
 fn deeply_qualified_paths_print(rt: HostRuntime) {
     let alloc = rt.alloc();
     says(&rt, shown(alloc, nested(alloc, 1)), "< T > :: A");
-    holds(&rt, nests(alloc, 200));
+    let deep = nested(alloc, 200);
+    let wanted = nested_text(alloc, 200);
+    holds(&rt, prints_as(alloc, deep, wanted));
 }

@@ -1,26 +1,11 @@
 //! What forms of types made by hand print that no reader answers yet.
 
+use crate::generics_tests::{printed, says};
 use crate::nothing::Nothing;
 use std::alloc::Global;
-use std::process::Abort;
 use syn_mid::{Abi, ReturnType, ReturnTypeOf, Type, TypeGroupOf, TypeNever};
 use token_core::token::{Extern, GroupToken, Not, RArrow};
-use token_core::{Boxed, Error, LitStr, Span, ToTokens, TokenStream};
-use token_text::text_of;
-
-/// It answers this; of a refusal, its text.
-fn says(rt: &impl Abort, answer: Result<String, Error>, wanted: &str) {
-    match answer {
-        Ok(text) => assert_eq!(rt; text.as_str(), wanted),
-        Err(error) => panic!(rt; "refused: {}", error.text()),
-    }
-}
-
-fn printed<T: ToTokens>(alloc: Global, tree: &T) -> Result<String, Error> {
-    let mut out = TokenStream::new(alloc);
-    tree.to_tokens(alloc, &mut out)?;
-    Ok(text_of(alloc, &out)?)
-}
+use token_core::{Boxed, Error, LitStr, Span};
 
 /// `!`
 fn never() -> Type<Nothing> {

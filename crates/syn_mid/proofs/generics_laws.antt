@@ -5,3 +5,8 @@ pub mod Views
 pub mod Normal
 pub mod SamePrint
 pub mod Consts
+pub mod Takes
+pub mod Sound
+pub mod Complete
+pub mod Reprint
+pub mod Elements

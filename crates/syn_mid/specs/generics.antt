@@ -1,5 +1,7 @@
 pub mod Params
 pub mod Shapes
+pub mod Reading
+pub mod Spelling
 pub mod Members
 pub mod Printing
 pub mod NormalShapes

@@ -2,10 +2,13 @@
 
 ghost use Rattle.std.specs.Borrow.{sem};
 ghost use Rattle.std.specs.Iterator.{YieldsFirstRef, YieldsFirstMut, item_count};
-ghost use Rattle.std.specs.Prelude.{◌≡◌, ◌++◌, ◌∷◌, [], Bool, false, None, IsOk, unwrap_or, OnOk, OnErr, option_map};
+ghost use Rattle.std.specs.Prelude.{◌≡◌, ◌++◌, ◌∷◌, [], Bool, false, None, IfOk, IsOk, unwrap_or, OnOk, OnErr, option_map};
+ghost use Rattle.token_core.specs.Headline.{Headline, Heads};
 ghost use Rattle.token_core.specs.Joined.{values_of, marks_of, pairs_of};
 ghost use Rattle.token_core.specs.Lifetimes as lifetimes;
 ghost use Rattle.token_core.specs.Prints.{Extends, Print};
+ghost use Rattle.token_core.specs.Reads.{Reads, Follows, Gives, Fails};
+ghost use Rattle.token_core.specs.Rebuilt.{Visible};
 ghost use Rattle.token_core.specs.Trees.{trees};
 ghost use Rattle.syn_mid.specs.declared.generics.GenericParam.TheVariants as params;
 ghost use Rattle.syn_mid.specs.declared.generics.Style as styles;
@@ -17,19 +20,25 @@ ghost use Rattle.syn_mid.specs.generics.Members as members;
 ghost use Rattle.syn_mid.specs.generics.Params as spec;
 ghost use Rattle.syn_mid.specs.generics.Printing as printing;
 ghost use Rattle.syn_mid.specs.generics.Shapes as shapes;
+ghost use Rattle.syn_mid.specs.ty.Grammars as grammars;
+ghost use Rattle.syn_mid.specs.ty.Heights.{IsSomeBound};
+ghost use Rattle.syn_mid.specs.ty.Knot as knot;
 ghost use Rattle.syn_mid.specs.ty.Printing as types;
 ghost use Rattle.syn_mid.specs.generics.Views as views;
 
 use crate::attr::{Attribute, print_outer, print_value};
+use crate::grammar::parse_bound;
 use crate::path::Path;
 use crate::supplied::{Expr, Place, Subtree};
 use crate::ty::{Type, bound_parts, print_type, print_verbatim};
 use std::alloc::{AllocError, Global};
+use std::marker::PhantomData;
 use token_core::token::{
     Brace, Colon, Comma, Const, Eq, For, Gt, Lt, Mark, Paren, PathSep, Plus, Question, Use, Where,
 };
 use token_core::{
-    Error, Ident, Items, Iter, IterMut, Lifetime, Pair, Punctuated, ToTokens, TokenStream,
+    Error, Ident, Items, Iter, IterMut, Lifetime, Pair, Parse, ParseStream, Punctuated, ToTokens,
+    TokenStream,
 };
 
 /// The parameters of a declaration, and its where clause, which stands elsewhere in many of them.
@@ -527,6 +536,36 @@ impl<X: Drop> Generics<X> {
         ensures clause { result.now ≡ unwrap_or self.old.where_clause spec.empty_clause }
     {
         self.where_clause.get_or_insert(WhereClause::empty(alloc))
+    }
+}
+
+// ---- reads
+
+/// Reads a bound: a lifetime, or a trait by its path, after an optional `for<..>` or `?`, which may stand in parentheses.
+///
+/// ```text
+/// bound = lifetime | '(' trait ')' | trait
+/// trait = [binder] path | '?' path
+/// binder = 'for' '<' [lifetime {',' lifetime} [',']] '>'
+/// ```
+///
+/// It is refused where neither begins, where one of its parts is refused, where a binder stands beside a `?`
+/// (`BinderWithQuestion`, at the `?`), and where `<` follows the path, since arguments of paths are not read yet. Nor are
+/// `use<..>`, `const` and `[const]`, and parameters of binders other than lifetimes alone. As `syn::TypeParamBound`.
+impl<X: Subtree> Parse for TypeParamBound<X> {
+    ghost reads = { Gives (knot.bound X.reads) };
+
+    ghost refuses = { Fails (knot.bound X.reads) };
+
+    ghost promise = { Headline (grammars.bound X.reads X.spells X.normal X.prints) };
+
+    fn parse(alloc: Global, input: &mut ParseStream<'_>) -> Result<TypeParamBound<X>, Error>
+        ensures reads { Reads (knot.bound X.reads input.old) result input.new }
+        ensures within { Follows input.old input.new }
+        ensures front { Visible input.old.rest → input.new.left ≡ None → IfOk result (λ x. IsSomeBound X.spells false x input.old.rest input.new.rest) }
+        ensures promise { Heads (grammars.bound X.reads X.spells X.normal X.prints) input.old result input.new }
+    {
+        parse_bound(alloc, PhantomData, input)
     }
 }
 

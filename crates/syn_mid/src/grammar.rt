@@ -1,7 +1,8 @@
 //! The readers that go back to themselves.
 //!
-//! A type holds types. So that each reader is proved by itself, it takes the reader of types as a parameter, and
-//! `parse_type` ties them together.
+//! A type holds types, and a bound the parameters of its binder. So that each reader is proved by itself, it takes the
+//! readers of what may lead back as parameters: of types, of bounds and of the parameters of binders. `parse_type`,
+//! `parse_bound` and `parse_param` tie them together.
 
 ghost use Rattle.std.specs.Prelude.{◌≡◌, ◌<◌, ◌≤◌, length, IfOk};
 ghost use Rattle.token_core.specs.declared.tree.Delimiter.TheVariants as delimiter;
@@ -9,12 +10,18 @@ ghost use Rattle.token_core.specs.Groups as groups;
 ghost use Rattle.token_core.specs.Lifetimes.{read_optional_lifetime};
 ghost use Rattle.token_core.specs.Reads as spec;
 ghost use Rattle.token_core.specs.Reads.{Reads, Follows};
+ghost use Rattle.syn_mid.specs.generics.Params as parts;
+ghost use Rattle.syn_mid.specs.generics.Reading as bounds;
 ghost use Rattle.syn_mid.specs.ty.Knot as knot;
-ghost use Rattle.syn_mid.specs.ty.Knot.{Nests, ahead};
+ghost use Rattle.syn_mid.specs.ty.Knot.{Nests, NestsAlone, ahead};
 ghost use Rattle.syn_mid.specs.ty.Reading as reading;
 
+use crate::generics::{
+    BoundLifetimes, BoundLifetimesOf, GenericParam, LifetimeParam, TraitBound, TraitBoundModifiers,
+    TraitBoundOf, TypeParamBound,
+};
 use crate::mac::{parse_call_after, parse_macro};
-use crate::path::parse_plain_path;
+use crate::path::{Path, parse_plain_path};
 use crate::supplied::{Expr, Place, Subtree};
 use crate::ty::{
     PointerMutability, Type, TypeArray, TypeArrayOf, TypeInfer, TypeMacro, TypeNever, TypeParen,
@@ -24,8 +31,8 @@ use crate::ty::{
 use std::alloc::Global;
 use std::marker::PhantomData;
 use token_core::token::{
-    And, Bracket, Comma, Const, Crate, GroupToken, Mut, Ne, Not, Paren, PathSep, Plus, SelfType,
-    SelfValue, Semi, Star, Super, Underscore,
+    And, Bracket, Comma, Const, Crate, For, GroupToken, Gt, Lt, Mut, Ne, Not, Paren, PathSep, Plus,
+    Question, SelfType, SelfValue, Semi, Star, Super, Underscore,
 };
 use token_core::{Boxed, Cursor, Error, ErrorKind, Ident, Lifetime, ParseStream, Punctuated};
 
@@ -82,6 +89,24 @@ fn parse_and(alloc: Global, input: &mut ParseStream<'_>) -> Result<And, Error>
     input.parse::<And>(alloc)
 }
 
+#[tactic(auto, using(crate::proofs::ty_laws::Ahead::past_marks))]
+fn parse_lt(alloc: Global, input: &mut ParseStream<'_>) -> Result<Lt, Error>
+    ensures reads { Reads (bounds.lt input.old) result input.new }
+    ensures within { Follows input.old input.new }
+    ensures taken { IfOk result (λ _. ahead input.new < ahead input.old) }
+{
+    input.parse::<Lt>(alloc)
+}
+
+#[tactic(auto, using(crate::proofs::ty_laws::Ahead::past_marks))]
+fn parse_for(alloc: Global, input: &mut ParseStream<'_>) -> Result<For, Error>
+    ensures reads { Reads (bounds.for_word input.old) result input.new }
+    ensures within { Follows input.old input.new }
+    ensures taken { IfOk result (λ _. ahead input.new < ahead input.old) }
+{
+    input.parse::<For>(alloc)
+}
+
 // ---- parts that hold no type
 
 /// `const` or `mut`.
@@ -119,6 +144,15 @@ fn parse_mut(alloc: Global, input: &mut ParseStream<'_>) -> Result<Option<Mut>, 
     ensures fewer { ahead input.new ≤ ahead input.old }
 {
     input.parse_option::<Mut>(alloc)
+}
+
+#[tactic(auto, using(crate::proofs::ty_laws::Ahead::later))]
+fn parse_question(alloc: Global, input: &mut ParseStream<'_>) -> Result<Option<Question>, Error>
+    ensures reads { Reads (bounds.question input.old) result input.new }
+    ensures within { Follows input.old input.new }
+    ensures fewer { ahead input.new ≤ ahead input.old }
+{
+    input.parse_option::<Question>(alloc)
 }
 
 /// `;` and the length of an array.
@@ -236,24 +270,77 @@ fn parse_path_or_macro<X: Drop>(
     )
 }
 
+/// A trait by its path, without parentheses.
+fn named_bound<X>(
+    lifetimes: Option<BoundLifetimes<X>>,
+    maybe: Option<Question>,
+    path: Path<X>,
+) -> TraitBound<X>
+    ensures { result ≡ parts.named_bound lifetimes maybe path }
+{
+    TraitBoundOf {
+        paren_token: None,
+        lifetimes,
+        modifiers: TraitBoundModifiers {},
+        maybe,
+        path,
+    }
+}
+
+/// A trait bound in parentheses.
+fn held_bound<X>(paren_token: Paren, bound: TraitBound<X>) -> TraitBound<X>
+    ensures { result ≡ parts.held_bound paren_token bound }
+{
+    TraitBoundOf {
+        paren_token: Some(paren_token),
+        ..bound
+    }
+}
+
+/// The path of a bound after `?`. With a binder beside the `?` the bound is refused at the `?`.
+#[tactic(auto, using(token_core::proofs::Suffixes::follows))]
+fn parse_asked<X: Drop>(
+    alloc: Global,
+    input: &mut ParseStream<'_>,
+    question: Question,
+    lifetimes: Option<BoundLifetimes<X>>,
+) -> Result<TraitBound<X>, Error>
+    ensures reads { Reads (bounds.asked question lifetimes input.old) result input.new }
+    ensures within { Follows input.old input.new }
+{
+    let path = parse_plain_path(alloc, input)?;
+    if lifetimes.is_some() {
+        let kind = ErrorKind::BinderWithQuestion;
+        let at = question.spans[0];
+        return Err(Error::of(alloc, kind, kind.text(), at, at));
+    }
+    Ok(named_bound(None, Some(question), path))
+}
+
 // ---- types over the reader of the types that they hold
 
 /// One turn of the readers.
 #[derive(Drop)]
-pub(crate) struct Grammar<'a, X, F> {
+pub(crate) struct Grammar<'a, X, F, G, H> {
     pub(crate) alloc: Global,
     pub(crate) of: PhantomData<X>,
-    /// Where the turn began. The reader below is asked only further on, so that reading ends.
+    /// Where the turn began. The readers below are asked only further on, so that reading ends.
     pub(crate) begin: Cursor<'a>,
     /// The reader of types.
     pub(crate) typ: F,
+    /// The reader of bounds.
+    pub(crate) bound: G,
+    /// The reader of parameters of binders.
+    pub(crate) param: H,
 }
 
 impl<
     'a,
     X: Subtree,
     F: Fn(Global, PhantomData<X>, &mut ParseStream<'_>, bool) -> Result<Type<X>, Error>,
-> Grammar<'a, X, F> {
+    G: Fn(Global, PhantomData<X>, &mut ParseStream<'_>) -> Result<TypeParamBound<X>, Error>,
+    H: Fn(Global, PhantomData<X>, &mut ParseStream<'_>) -> Result<GenericParam<X>, Error>,
+> Grammar<'a, X, F, G, H> {
     /// A type that another one holds.
     #[tactic(auto, using(crate::proofs::ty_laws::Ahead::later), unfolding(crate::specs::ty::Knot::types))]
     fn nested(&self, input: &mut ParseStream<'_>, plus: bool) -> Result<Type<X>, Error>
@@ -414,7 +501,7 @@ impl<
 
     /// A type (`ambig_ty`), by its first token.
     #[tactic(auto, using(token_core::proofs::Suffixes::follows), unfolding(crate::specs::ty::Reading::type_step))]
-    fn step(&self, input: &mut ParseStream<'_>, plus: bool) -> Result<Type<X>, Error>
+    fn type_step(&self, input: &mut ParseStream<'_>, plus: bool) -> Result<Type<X>, Error>
         requires types { Nests (knot.ty X.reads) (length self.now.begin) (F.pre self.now.typ) (F.post self.now.typ) }
         requires few { ahead input.old ≤ length self.now.begin }
         ensures reads { Reads (reading.type_step X.reads (knot.types X.reads (length self.now.begin)) plus input.old) result input.new }
@@ -434,6 +521,175 @@ impl<
         }
         self.by_mark(input)
     }
+
+    // ---- bounds, over the reader of the parameters of their binders
+
+    /// A parameter of a binder that a bound holds.
+    #[tactic(auto, using(crate::proofs::ty_laws::Ahead::later), unfolding(crate::specs::ty::Knot::params))]
+    fn nested_param(&self, input: &mut ParseStream<'_>) -> Result<GenericParam<X>, Error>
+        requires params { NestsAlone (knot.param X.reads) (length self.now.begin) (H.pre self.now.param) (H.post self.now.param) }
+        requires few { ahead input.old < length self.now.begin }
+        ensures reads { Reads (knot.params X.reads (length self.now.begin) input.old) result input.new }
+        ensures within { Follows input.old input.new }
+        ensures fewer { ahead input.new ≤ ahead input.old }
+    {
+        (self.param)(self.alloc, PhantomData, input)
+    }
+
+    /// The parameters of a binder, up to a `>`.
+    #[tactic(auto, using(token_core::proofs::Suffixes::follows), unfolding(crate::specs::generics::Reading::params))]
+    fn params(
+        &self,
+        input: &mut ParseStream<'_>,
+    ) -> Result<Punctuated<GenericParam<X>, Comma>, Error>
+        requires params { NestsAlone (knot.param X.reads) (length self.now.begin) (H.pre self.now.param) (H.post self.now.param) }
+        requires few { ahead input.old < length self.now.begin }
+        ensures reads { Reads (bounds.params (knot.params X.reads (length self.now.begin)) input.old) result input.new }
+        ensures within { Follows input.old input.new }
+    {
+        let mut params = Punctuated::new(self.alloc);
+        'turn: loop {
+            if input.peek::<Gt>() {
+                return Ok(params);
+            }
+            let param = self.nested_param(input)?;
+            params.push_value(self.alloc, param)?;
+            if input.peek::<Gt>() {
+                return Ok(params);
+            }
+            params.push_punct(parse_comma(self.alloc, input)?)?;
+        }
+    }
+
+    /// `for<'a, 'b>`
+    #[tactic(auto, using(token_core::proofs::Suffixes::follows), unfolding(crate::specs::generics::Reading::binder))]
+    fn binder(&self, input: &mut ParseStream<'_>) -> Result<BoundLifetimes<X>, Error>
+        requires params { NestsAlone (knot.param X.reads) (length self.now.begin) (H.pre self.now.param) (H.post self.now.param) }
+        requires few { ahead input.old ≤ length self.now.begin }
+        ensures reads { Reads (bounds.binder (knot.params X.reads (length self.now.begin)) input.old) result input.new }
+        ensures within { Follows input.old input.new }
+    {
+        let for_token = parse_for(self.alloc, input)?;
+        self.binder_after(input, for_token)
+    }
+
+    /// What follows the `for` of a binder.
+    #[tactic(auto, using(token_core::proofs::Suffixes::follows))]
+    fn binder_after(
+        &self,
+        input: &mut ParseStream<'_>,
+        for_token: For,
+    ) -> Result<BoundLifetimes<X>, Error>
+        requires params { NestsAlone (knot.param X.reads) (length self.now.begin) (H.pre self.now.param) (H.post self.now.param) }
+        requires few { ahead input.old < length self.now.begin }
+        ensures reads { Reads (bounds.binder_after (knot.params X.reads (length self.now.begin)) for_token input.old) result input.new }
+        ensures within { Follows input.old input.new }
+    {
+        let lt_token = parse_lt(self.alloc, input)?;
+        let lifetimes = self.params(input)?;
+        let gt_token = input.parse::<Gt>(self.alloc)?;
+        Ok(BoundLifetimesOf {
+            for_token,
+            lt_token,
+            lifetimes,
+            gt_token,
+        })
+    }
+
+    /// A binder that may be there.
+    #[tactic(auto, using(token_core::proofs::Suffixes::follows, crate::proofs::ty_laws::Ahead::later), unfolding(crate::specs::generics::Reading::optional_binder))]
+    fn optional_binder(
+        &self,
+        input: &mut ParseStream<'_>,
+    ) -> Result<Option<BoundLifetimes<X>>, Error>
+        requires params { NestsAlone (knot.param X.reads) (length self.now.begin) (H.pre self.now.param) (H.post self.now.param) }
+        requires few { ahead input.old ≤ length self.now.begin }
+        ensures reads { Reads (bounds.optional_binder (knot.params X.reads (length self.now.begin)) input.old) result input.new }
+        ensures within { Follows input.old input.new }
+        ensures fewer { ahead input.new ≤ ahead input.old }
+    {
+        if input.peek::<For>() {
+            return Ok(Some(self.binder(input)?));
+        }
+        Ok(None)
+    }
+
+    /// What follows the `?` of a bound: a binder that stands behind it is read, and refused once the path is.
+    #[tactic(auto, using(token_core::proofs::Suffixes::follows), unfolding(crate::specs::generics::Reading::after_question))]
+    fn after_question(
+        &self,
+        input: &mut ParseStream<'_>,
+        lifetimes: Option<BoundLifetimes<X>>,
+        question: Question,
+    ) -> Result<TraitBound<X>, Error>
+        requires params { NestsAlone (knot.param X.reads) (length self.now.begin) (H.pre self.now.param) (H.post self.now.param) }
+        requires few { ahead input.old ≤ length self.now.begin }
+        ensures reads { Reads (bounds.after_question (knot.params X.reads (length self.now.begin)) lifetimes question input.old) result input.new }
+        ensures within { Follows input.old input.new }
+    {
+        if lifetimes.is_some() {
+            return parse_asked(self.alloc, input, question, lifetimes);
+        }
+        let lifetimes = self.optional_binder(input)?;
+        parse_asked(self.alloc, input, question, lifetimes)
+    }
+
+    /// A trait bound without parentheses.
+    #[tactic(auto, using(token_core::proofs::Suffixes::follows), unfolding(crate::specs::generics::Reading::bare_bound))]
+    fn bare_bound(&self, input: &mut ParseStream<'_>) -> Result<TraitBound<X>, Error>
+        requires params { NestsAlone (knot.param X.reads) (length self.now.begin) (H.pre self.now.param) (H.post self.now.param) }
+        requires few { ahead input.old ≤ length self.now.begin }
+        ensures reads { Reads (bounds.bare_bound (knot.params X.reads (length self.now.begin)) input.old) result input.new }
+        ensures within { Follows input.old input.new }
+    {
+        let lifetimes = self.optional_binder(input)?;
+        if let Some(question) = parse_question(self.alloc, input)? {
+            return self.after_question(input, lifetimes, question);
+        }
+        let path = parse_plain_path(self.alloc, input)?;
+        Ok(named_bound(lifetimes, None, path))
+    }
+
+    /// A trait bound, which may stand in parentheses.
+    #[tactic(auto, using(token_core::proofs::Suffixes::follows), unfolding(crate::specs::generics::Reading::trait_bound))]
+    fn trait_bound(&self, input: &mut ParseStream<'_>) -> Result<TraitBound<X>, Error>
+        requires params { NestsAlone (knot.param X.reads) (length self.now.begin) (H.pre self.now.param) (H.post self.now.param) }
+        requires few { ahead input.old ≤ length self.now.begin }
+        ensures reads { Reads (bounds.trait_bound (knot.params X.reads (length self.now.begin)) input.old) result input.new }
+        ensures within { Follows input.old input.new }
+    {
+        if !input.peek::<Paren>() {
+            return self.bare_bound(input);
+        }
+        let (paren_token, mut content) = open_parens(self.alloc, input)?;
+        let bound = self.bare_bound(&mut content)?;
+        input.finish(content);
+        Ok(held_bound(paren_token, bound))
+    }
+
+    /// A parameter of a binder: a lifetime. Types, constants, bounds and attributes of parameters are not read yet.
+    #[tactic(auto, using(token_core::proofs::Suffixes::follows), unfolding(crate::specs::generics::Reading::param_step))]
+    fn param_step(&self, input: &mut ParseStream<'_>) -> Result<GenericParam<X>, Error>
+        ensures reads { Reads (bounds.param_step input.old) result input.new }
+        ensures within { Follows input.old input.new }
+    {
+        let lifetime = Lifetime::parse_any(self.alloc, input)?;
+        Ok(GenericParam::Lifetime(LifetimeParam::new(self.alloc, lifetime)))
+    }
+
+    /// A bound: a lifetime or a trait.
+    #[tactic(auto, using(token_core::proofs::Suffixes::follows), unfolding(crate::specs::generics::Reading::bound_step))]
+    fn bound_step(&self, input: &mut ParseStream<'_>) -> Result<TypeParamBound<X>, Error>
+        requires params { NestsAlone (knot.param X.reads) (length self.now.begin) (H.pre self.now.param) (H.post self.now.param) }
+        requires few { ahead input.old ≤ length self.now.begin }
+        ensures reads { Reads (bounds.bound_step (knot.params X.reads (length self.now.begin)) input.old) result input.new }
+        ensures within { Follows input.old input.new }
+    {
+        if input.peek::<Lifetime>() {
+            return Ok(TypeParamBound::Lifetime(Lifetime::parse_any(self.alloc, input)?));
+        }
+        Ok(TypeParamBound::Trait(self.trait_bound(input)?))
+    }
 }
 
 // ---- the knot
@@ -452,13 +708,69 @@ pub(crate) fn parse_type<X: Subtree>(
 {
     let begin = input.cursor();
     let typ = parse_type::<X>;
+    let bound = parse_bound::<X>;
+    let param = parse_param::<X>;
     Grammar {
         alloc,
         of,
         begin,
         typ,
+        bound,
+        param,
     }
-    .step(input, plus)
+    .type_step(input, plus)
+}
+
+/// Reads a bound.
+#[cycle(knot)]
+#[tactic(auto, using(crate::proofs::ty_laws::Knot::turns))]
+pub(crate) fn parse_bound<X: Subtree>(
+    alloc: Global,
+    of: PhantomData<X>,
+    input: &mut ParseStream<'_>,
+) -> Result<TypeParamBound<X>, Error>
+    ensures reads { Reads (knot.bound X.reads input.old) result input.new }
+    ensures within { Follows input.old input.new }
+{
+    let begin = input.cursor();
+    let typ = parse_type::<X>;
+    let bound = parse_bound::<X>;
+    let param = parse_param::<X>;
+    Grammar {
+        alloc,
+        of,
+        begin,
+        typ,
+        bound,
+        param,
+    }
+    .bound_step(input)
+}
+
+/// Reads a parameter of a binder.
+#[cycle(knot)]
+#[tactic(auto, using(crate::proofs::ty_laws::Knot::turns))]
+fn parse_param<X: Subtree>(
+    alloc: Global,
+    of: PhantomData<X>,
+    input: &mut ParseStream<'_>,
+) -> Result<GenericParam<X>, Error>
+    ensures reads { Reads (knot.param X.reads input.old) result input.new }
+    ensures within { Follows input.old input.new }
+{
+    let begin = input.cursor();
+    let typ = parse_type::<X>;
+    let bound = parse_bound::<X>;
+    let param = parse_param::<X>;
+    Grammar {
+        alloc,
+        of,
+        begin,
+        typ,
+        bound,
+        param,
+    }
+    .param_step(input)
 }
 
 // ---- single forms

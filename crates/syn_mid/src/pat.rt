@@ -10,54 +10,56 @@ ghost use Rattle.syn_mid.specs.pat.Pats as spec;
 ghost use Rattle.syn_mid.specs.pat.Printing as printing;
 
 use crate::attr::{Attribute, print_outer, print_value};
-use crate::path::{Path, PathStyle, print_path};
+use crate::path::{Path, PathStyle, QSelf};
 use crate::supplied::{
     Expr, ExprConst, ExprConstOf, ExprLit, ExprLitOf, ExprMacro, ExprMacroOf, ExprPath, ExprPathOf,
     ExprRange, Place, Subtree,
 };
-use crate::ty::{Type, print_last_comma, print_lone_comma, print_type, print_verbatim, print_word};
+use crate::ty::{
+    Type, print_last_comma, print_lone_comma, print_qpath, print_type, print_verbatim, print_word,
+};
 use std::alloc::{AllocError, Global};
 use token_core::token::{
     And, At, Brace, Bracket, Colon, Comma, DotDot, If, Mark, Mut, Or, Paren, Ref, Underscore, Word,
 };
 use token_core::{Boxed, Ident, Items, Member, Pair, Punctuated, ToTokens, TokenStream};
 
-/// A pattern, over its attributes.
+/// A pattern, over its attributes and what qualifies its paths.
 #[cycle(pats)]
 #[derive(Drop)]
-pub enum PatOf<A, X> {
+pub enum PatOf<A, Q, X> {
     /// `const { .. }`
     Const(ExprConstOf<A, X>),
     /// `a if b`
-    Guard(PatGuardOf<PatOf<A, X>, A, X>),
+    Guard(PatGuardOf<PatOf<A, Q, X>, A, X>),
     /// `ref mut a @ b`
-    Ident(PatIdentOf<PatOf<A, X>, A>),
+    Ident(PatIdentOf<PatOf<A, Q, X>, A>),
     /// `1`
     Lit(ExprLitOf<A>),
     /// `a!(b)`
     Macro(ExprMacroOf<A, X>),
     /// `a | b`
-    Or(PatOrOf<PatOf<A, X>, A>),
+    Or(PatOrOf<PatOf<A, Q, X>, A>),
     /// `(a)`
-    Paren(PatParenOf<PatOf<A, X>, A>),
+    Paren(PatParenOf<PatOf<A, Q, X>, A>),
     /// `a::b`
     Path(ExprPathOf<A, X>),
     /// `1..=2`
     Range(ExprRange<X>),
     /// `&mut a`
-    Reference(PatReferenceOf<PatOf<A, X>, A>),
+    Reference(PatReferenceOf<PatOf<A, Q, X>, A>),
     /// `..`
     Rest(PatRest<X>),
     /// `[a, b, ..]`
-    Slice(PatSliceOf<PatOf<A, X>, A>),
+    Slice(PatSliceOf<PatOf<A, Q, X>, A>),
     /// `A { x, y: b, .. }`
-    Struct(PatStructOf<PatOf<A, X>, A, X>),
+    Struct(PatStructOf<PatOf<A, Q, X>, A, Q, X>),
     /// `(a, b)`
-    Tuple(PatTupleOf<PatOf<A, X>, A>),
+    Tuple(PatTupleOf<PatOf<A, Q, X>, A>),
     /// `A(b, ..)`
-    TupleStruct(PatTupleStructOf<PatOf<A, X>, A, X>),
+    TupleStruct(PatTupleStructOf<PatOf<A, Q, X>, A, Q, X>),
     /// `a: T`
-    Type(PatTypeOf<PatOf<A, X>, A, X>),
+    Type(PatTypeOf<PatOf<A, Q, X>, A, X>),
     /// Tokens that no other case holds.
     Verbatim(TokenStream),
     /// `_`
@@ -65,7 +67,7 @@ pub enum PatOf<A, X> {
 }
 
 /// A pattern.
-pub type Pat<X> = PatOf<Attribute<X>, X>;
+pub type Pat<X> = PatOf<Attribute<X>, QSelf<X>, X>;
 
 /// A const block as a pattern.
 pub type PatConst<X> = ExprConst<X>;
@@ -159,18 +161,19 @@ pub struct PatSliceOf<P, A> {
 /// A pattern of a slice: patterns in brackets, joined by commas.
 pub type PatSlice<X> = PatSliceOf<Pat<X>, Attribute<X>>;
 
-/// A pattern of a struct, over its fields' pattern.
+/// A pattern of a struct, over its fields' pattern and what qualifies its path.
 #[derive(Drop)]
-pub struct PatStructOf<P, A, X> {
+pub struct PatStructOf<P, A, Q, X> {
     pub attrs: Items<A>,
+    pub qself: Option<Q>,
     pub path: Path<X>,
     pub brace_token: Brace,
     pub fields: Punctuated<FieldPatOf<P, A>, Comma>,
     pub rest: Option<PatRest<X>>,
 }
 
-/// A pattern of a struct: a path, and in braces fields joined by commas, perhaps `..` at the end.
-pub type PatStruct<X> = PatStructOf<Pat<X>, Attribute<X>, X>;
+/// A pattern of a struct: a path, perhaps a qualified one, and in braces fields joined by commas, perhaps `..` at the end.
+pub type PatStruct<X> = PatStructOf<Pat<X>, Attribute<X>, QSelf<X>, X>;
 
 /// A pattern of a tuple, over its elements' pattern.
 #[derive(Drop)]
@@ -183,17 +186,18 @@ pub struct PatTupleOf<P, A> {
 /// A pattern of a tuple: patterns in parentheses, joined by commas.
 pub type PatTuple<X> = PatTupleOf<Pat<X>, Attribute<X>>;
 
-/// A pattern of a tuple struct, over its elements' pattern.
+/// A pattern of a tuple struct, over its elements' pattern and what qualifies its path.
 #[derive(Drop)]
-pub struct PatTupleStructOf<P, A, X> {
+pub struct PatTupleStructOf<P, A, Q, X> {
     pub attrs: Items<A>,
+    pub qself: Option<Q>,
     pub path: Path<X>,
     pub paren_token: Paren,
     pub elems: Punctuated<P, Comma>,
 }
 
-/// A pattern of a tuple struct: a path, and patterns in parentheses, joined by commas.
-pub type PatTupleStruct<X> = PatTupleStructOf<Pat<X>, Attribute<X>, X>;
+/// A pattern of a tuple struct: a path, perhaps a qualified one, and patterns in parentheses, joined by commas.
+pub type PatTupleStruct<X> = PatTupleStructOf<Pat<X>, Attribute<X>, QSelf<X>, X>;
 
 /// A pattern with its type, over that pattern.
 #[derive(Drop)]
@@ -734,7 +738,7 @@ fn print_struct<X: Subtree>(
     ensures err { OnErr result (Extends (trees out.old) (trees out.new)) }
 {
     print_outer(alloc, &pat.attrs, out)?;
-    print_path(alloc, &pat.path, PathStyle::Expr, out)?;
+    print_qpath(alloc, &pat.qself, &pat.path, PathStyle::Expr, out)?;
     let mut content = TokenStream::new(alloc);
     print_fields(alloc, pat, &mut content)?;
     print_struct_rest(alloc, pat, &mut content)?;
@@ -780,7 +784,8 @@ fn print_tuple<X: Subtree>(
     print_outer(alloc, &pat.attrs, out)?;
     let mut content = TokenStream::new(alloc);
     print_tuple_elements(alloc, pat, &mut content)?;
-    print_tuple_comma(alloc, &pat.elems, &mut content)?;
+    let is_rest = begins_with_rest(&pat.elems);
+    print_tuple_comma(alloc, &pat.elems, is_rest, &mut content)?;
     pat.paren_token.surround(content, out)
 }
 
@@ -795,7 +800,7 @@ fn print_tuple_struct<X: Subtree>(
     ensures err { OnErr result (Extends (trees out.old) (trees out.new)) }
 {
     print_outer(alloc, &pat.attrs, out)?;
-    print_path(alloc, &pat.path, PathStyle::Expr, out)?;
+    print_qpath(alloc, &pat.qself, &pat.path, PathStyle::Expr, out)?;
     let mut content = TokenStream::new(alloc);
     print_tuple_struct_elements(alloc, pat, &mut content)?;
     pat.paren_token.surround(content, out)
@@ -1007,9 +1012,9 @@ fn print_field<X: Subtree>(
 
 /// The `..` of a struct's pattern, after a comma that sets it apart from the last field.
 #[tactic(auto, using(token_core::proofs::Puts::puts))]
-fn print_struct_rest<P, X: Subtree>(
+fn print_struct_rest<P, Q, X: Subtree>(
     alloc: Global,
-    pat: &PatStructOf<P, Attribute<X>, X>,
+    pat: &PatStructOf<P, Attribute<X>, Q, X>,
     out: &mut TokenStream,
 ) -> Result<(), AllocError>
     ensures ok { OnOk result (trees out.new ≡ trees out.old ++ printing.struct_rest X.prints pat.now) }
@@ -1024,26 +1029,33 @@ fn print_struct_rest<P, X: Subtree>(
     }
 }
 
-/// A comma after a lone element that has none, which sets the tuple apart from a pattern in parentheses; `(..)` is a tuple
-/// without one.
-#[tactic(auto, using(token_core::proofs::Puts::puts, crate::proofs::pat_laws::Commas::commas))]
-fn print_tuple_comma<X>(
-    alloc: Global,
-    elems: &Punctuated<Pat<X>, Comma>,
-    out: &mut TokenStream,
-) -> Result<(), AllocError>
-    ensures ok { OnOk result (trees out.new ≡ trees out.old ++ printing.tuple_comma spec.is_rest elems.now.0 elems.now.1) }
-    ensures err { OnErr result (Extends (trees out.old) (trees out.new)) }
+/// Whether the first element is `..`.
+#[tactic(auto, using(crate::proofs::pat_laws::Commas::firsts))]
+fn begins_with_rest<X>(elems: &Punctuated<Pat<X>, Comma>) -> bool
+    ensures { result ≡ printing.begins spec.is_rest elems.now.0 }
 {
     match elems.first() {
-        Some(pat) => {
-            if pat.is_rest() {
-                Ok(())
-            } else {
-                print_lone_comma(alloc, elems, out)
-            }
-        }
-        None => Ok(()),
+        Some(pat) => pat.is_rest(),
+        None => false,
+    }
+}
+
+/// A comma after a lone element that has none, which sets the tuple apart from a pattern in parentheses; `(..)` is a tuple
+/// without one.
+#[tactic(auto, using(token_core::proofs::Puts::puts))]
+fn print_tuple_comma<T>(
+    alloc: Global,
+    elems: &Punctuated<T, Comma>,
+    is_rest: bool,
+    out: &mut TokenStream,
+) -> Result<(), AllocError>
+    ensures ok { OnOk result (trees out.new ≡ trees out.old ++ printing.comma_unless is_rest elems.now.0 elems.now.1) }
+    ensures err { OnErr result (Extends (trees out.old) (trees out.new)) }
+{
+    if is_rest {
+        Ok(())
+    } else {
+        print_lone_comma(alloc, elems, out)
     }
 }
 

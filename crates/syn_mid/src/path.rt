@@ -96,7 +96,7 @@ pub(crate) enum SegmentStyle {
 /// How the arguments of a path's segments print.
 #[derive(Clone, Copy, PartialEq, Eq)]
 pub(crate) enum PathStyle {
-    /// As in an expression: those between angle marks after `::`.
+    /// As in an expression: after `::`.
     Expr,
     /// As they stand.
     AsWritten,
@@ -573,9 +573,9 @@ fn print_arguments<X>(
         PathStyle::Expr => match arguments {
             PathArguments::None => Ok(()),
             PathArguments::AngleBracketed(arguments) => print_turbofish(alloc, arguments, out),
-            PathArguments::Parenthesized(arguments) => arguments
-                .paren_token
-                .surround(TokenStream::new(alloc), out),
+            PathArguments::Parenthesized(arguments) => print_parenthesized_turbofish(
+                alloc, arguments, out,
+            ),
         },
     }
 }
@@ -610,6 +610,20 @@ fn print_turbofish<X>(
     }
     arguments.lt_token.to_tokens(alloc, out)?;
     arguments.gt_token.to_tokens(alloc, out)
+}
+
+/// Arguments in parentheses after `::`.
+#[tactic(auto, using(token_core::proofs::Puts::puts))]
+fn print_parenthesized_turbofish<X>(
+    alloc: Global,
+    arguments: &ParenthesizedGenericArguments<X>,
+    out: &mut TokenStream,
+) -> Result<(), AllocError>
+    ensures ok { OnOk result (trees out.new ≡ trees out.old ++ printing.parenthesized_turbofish arguments.now) }
+    ensures err { OnErr result (Extends (trees out.old) (trees out.new)) }
+{
+    PathSep::default().to_tokens(alloc, out)?;
+    arguments.paren_token.surround(TokenStream::new(alloc), out)
 }
 
 #[tactic(auto, using(token_core::proofs::Puts::puts))]

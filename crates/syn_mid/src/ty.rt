@@ -13,7 +13,8 @@ ghost use Rattle.syn_mid.specs.ty.Knot as knot;
 ghost use Rattle.syn_mid.specs.generics.Shapes as shapes;
 ghost use Rattle.syn_mid.specs.ty.Printing as printing;
 ghost use Rattle.syn_mid.specs.ty.Reading as reading;
-ghost use Rattle.syn_mid.specs.ty.Spelling.{IsMutability, IsInfer, IsNever, IsMacroType, IsPathType, IsSomeType, IsSomeArray, IsSomeParen, IsSomePtr, IsSomeReference, IsSomeSlice, IsSomeTuple};
+ghost use Rattle.syn_mid.specs.ty.Heights.{IsSomeType, IsSomeArray, IsSomeParen, IsSomePtr, IsSomeReference, IsSomeSlice, IsSomeTuple};
+ghost use Rattle.syn_mid.specs.ty.Spelling.{IsMutability, IsInfer, IsNever, IsMacroType, IsPathType};
 
 use crate::attr::{Attribute, print_outer, print_value};
 use crate::generics::{
@@ -25,7 +26,7 @@ use crate::grammar::{
     parse_path_type, parse_ptr, parse_reference, parse_slice, parse_tuple, parse_type,
 };
 use crate::mac::Macro;
-use crate::path::{Path, PathStyle, QSelfOf, print_qualified};
+use crate::path::{Path, PathStyle, QSelf, QSelfOf, print_path, print_qualified};
 use crate::supplied::{Expr, Place, Subtree};
 use std::alloc::{AllocError, Global};
 use std::marker::PhantomData;
@@ -1242,6 +1243,28 @@ fn print_elements<X: Subtree>(
     match last {
         Some(ty) => print_type(alloc, ty, out),
         None => Ok(()),
+    }
+}
+
+/// Appends a path, which a type may qualify; refused, what stood before is kept.
+#[tactic(auto, using(token_core::proofs::Puts::puts))]
+pub(crate) fn print_qpath<X: Subtree>(
+    alloc: Global,
+    qself: &Option<QSelf<X>>,
+    path: &Path<X>,
+    style: PathStyle,
+    out: &mut TokenStream,
+) -> Result<(), AllocError>
+    ensures ok { OnOk result (trees out.new ≡ trees out.old ++ printing.qpath X.prints style qself.now path.now) }
+    ensures err { OnErr result (Extends (trees out.old) (trees out.new)) }
+{
+    match qself {
+        Some(qself) => {
+            qself.lt_token.to_tokens(alloc, out)?;
+            print_type(alloc, qself.ty.get(), out)?;
+            print_qualified(alloc, qself, path, style, out)
+        }
+        None => print_path(alloc, path, style, out),
     }
 }
 

@@ -18,6 +18,7 @@ use Rattle.syn_mid.specs.declared.attr.Meta as meta
 use Rattle.syn_mid.specs.declared.attr.MetaList as meta_list
 use Rattle.syn_mid.specs.declared.attr.MetaNameValue as name_value
 use Rattle.syn_mid.specs.declared.supplied.Expr as expr
+use Rattle.syn_mid.specs.declared.generics.TypeParamBound as bound
 use Rattle.syn_mid.specs.declared.ty.Type as ty
 use Rattle.syn_mid.specs.declared.ty.TypeArrayOf as array
 use Rattle.syn_mid.specs.declared.ty.TypeInfer as infer
@@ -39,7 +40,7 @@ use Rattle.syn_mid.specs.path.Grammars as paths
 use Rattle.synmid.specs.contracts.sample.SampleSubtree.TheImpl.{reads-value, spells-value, normal-value, prints-value}
 use Rattle.synmid.specs.declared.sample.Sample.{Sample}
 use Rattle.synmid.specs.declared.reader.Reader.{Reader}
-use Rattle.synmid.specs.declared.reader.Reader.TheVariants.{Macro, ModStyle, Meta, MetaList, MetaNameValue, Outer, Inner, AnyType, WithoutPlus, TypeArray, TypeInfer, TypeMacro, TypeNever, TypeParen, TypePath, TypePtr, TypeReference, TypeSlice, TypeTuple, PointerMutability}
+use Rattle.synmid.specs.declared.reader.Reader.TheVariants.{Macro, ModStyle, Meta, MetaList, MetaNameValue, Outer, Inner, AnyType, WithoutPlus, TypeArray, TypeInfer, TypeMacro, TypeNever, TypeParen, TypePath, TypePtr, TypeReference, TypeSlice, TypeTuple, PointerMutability, TypeParamBound}
 
 abbrev pub named : Bytes → Option Reader
 named name =
@@ -63,7 +64,8 @@ named name =
     else (if bytes_eq name (codes "TypeSlice") then Some TypeSlice
     else (if bytes_eq name (codes "TypeTuple") then Some TypeTuple
     else (if bytes_eq name (codes "PointerMutability") then Some PointerMutability
-    else None)))))))))))))))))))
+    else (if bytes_eq name (codes "TypeParamBound") then Some TypeParamBound
+    else None))))))))))))))))))))
 
 -- the trees of a reader
 abbrev pub Tree : Reader → Type 0
@@ -87,6 +89,7 @@ Tree TypeReference = reference.TypeReferenceOf (ty.«Type» Sample)
 Tree TypeSlice = slice.TypeSliceOf (ty.«Type» Sample)
 Tree TypeTuple = tuple.TypeTupleOf (ty.«Type» Sample)
 Tree PointerMutability = mutability.PointerMutability
+Tree TypeParamBound = bound.TypeParamBound Sample
 
 abbrev pub grammar : (r : Reader) → Grammar (Tree r)
 grammar Macro = macs.mac
@@ -109,6 +112,7 @@ grammar TypeReference = types.reference reads-value.it spells-value.it normal-va
 grammar TypeSlice = types.slice reads-value.it spells-value.it normal-value.it prints-value.it
 grammar TypeTuple = types.tuple reads-value.it spells-value.it normal-value.it prints-value.it
 grammar PointerMutability = types.mutability
+grammar TypeParamBound = types.bound reads-value.it spells-value.it normal-value.it prints-value.it
 
 -- what attributes print, one after the other
 abbrev pub attributes : List (Attribute Sample) → Print

@@ -8,8 +8,8 @@ use crate::sample::Sample;
 use std::alloc::{AllocError, Global};
 use syn_mid::{
     Attribute, Macro, Meta, MetaList, MetaNameValue, ModStyle, ParseInner, ParseOuter,
-    PointerMutability, Type, TypeArray, TypeInfer, TypeMacro, TypeNever, TypeParen, TypePath,
-    TypePtr, TypeReference, TypeSlice, TypeTuple, WithoutPlus,
+    PointerMutability, Type, TypeArray, TypeInfer, TypeMacro, TypeNever, TypeParamBound, TypeParen,
+    TypePath, TypePtr, TypeReference, TypeSlice, TypeTuple, WithoutPlus,
 };
 use token_core::{Error, Items, Parse, Parser, ToTokens, TokenStream, read_all, read_all_with};
 
@@ -36,6 +36,7 @@ pub enum Reader {
     TypeSlice,
     TypeTuple,
     PointerMutability,
+    TypeParamBound,
 }
 
 impl Reader {
@@ -63,6 +64,7 @@ impl Reader {
             "TypeSlice" => Some(Reader::TypeSlice),
             "TypeTuple" => Some(Reader::TypeTuple),
             "PointerMutability" => Some(Reader::PointerMutability),
+            "TypeParamBound" => Some(Reader::TypeParamBound),
             _ => None,
         }
     }
@@ -92,6 +94,7 @@ impl Reader {
             Reader::TypeSlice => reprint::<TypeSlice<Sample>>(alloc, tokens),
             Reader::TypeTuple => reprint::<TypeTuple<Sample>>(alloc, tokens),
             Reader::PointerMutability => reprint::<PointerMutability>(alloc, tokens),
+            Reader::TypeParamBound => reprint::<TypeParamBound<Sample>>(alloc, tokens),
         }
     }
 }

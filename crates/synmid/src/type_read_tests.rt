@@ -1,4 +1,4 @@
-//! What types that are read from text print, and the texts and places of their refusals.
+//! What types and bounds that are read from text print, and the texts and places of their refusals.
 //!
 //! A test calls and does not branch, as docs/GATE.md says.
 
@@ -39,6 +39,22 @@ fn types_are_read(rt: HostRuntime) {
         ("&&A", "& & A"),
     ] {
         says(&rt, alloc, read(alloc, Reader::AnyType, text), wanted);
+    }
+}
+
+#[test]
+fn bounds_are_read(rt: HostRuntime) {
+    let alloc = rt.alloc();
+    for (text, wanted) in [
+        ("'a", "'a"),
+        ("for<'a, 'b> ::A", "for < 'a , 'b > :: A"),
+        ("(?A)", "(? A)"),
+        (
+            "for<'a> ?A",
+            "`for<...>` binder not allowed with `?` trait polarity modifier 8-9 8-9",
+        ),
+    ] {
+        says(&rt, alloc, read(alloc, Reader::TypeParamBound, text), wanted);
     }
 }
 

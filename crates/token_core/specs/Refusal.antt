@@ -2,7 +2,7 @@
 use Rattle.std.specs.Prelude.{◌≡◌, ◌≢◌, ◌⊎◌, ℕ, ◌==◌, if◌then◌else◌, [], Option, Some, None, refl, codes}
 use Rattle.std.specs.Coded.{Coded, code_by, coded×, coded_ℕ}
 use Rattle.token_core.specs.declared.error.ErrorKind.{ErrorKind}
-use Rattle.token_core.specs.declared.error.ErrorKind.TheVariants.{OutOfMemory, Expected, Unexpected, Custom, ExpectedDelimiter, ExpectedPathSegment, ExpectedPathIdent, ExpectedAttributeArguments, ExpectedParentheses, TokenInAttribute, ExpectedMetaArguments, ExpectedParenthesis, ExpectedMetaValue, ExpectedEquals, AttributeInAttribute, ExpectedNestedAttribute, LiteralInNestedAttribute, TokenInNestedAttribute, UnclosedDelimiter, UnexpectedClosingDelimiter, UnknownToken, UnterminatedToken, DocComment, MalformedNumber}
+use Rattle.token_core.specs.declared.error.ErrorKind.TheVariants.{OutOfMemory, Expected, Unexpected, Custom, ExpectedDelimiter, ExpectedPathSegment, ExpectedPathIdent, ExpectedAttributeArguments, ExpectedParentheses, TokenInAttribute, ExpectedMetaArguments, ExpectedParenthesis, ExpectedMetaValue, ExpectedEquals, AttributeInAttribute, ExpectedNestedAttribute, LiteralInNestedAttribute, TokenInNestedAttribute, UnclosedDelimiter, UnexpectedClosingDelimiter, UnknownToken, UnterminatedToken, DocComment, MalformedNumber, BinderWithQuestion}
 use Rattle.token_core.specs.declared.span.Span.{Span}
 use Rattle.token_core.specs.Toks.{Bytes}
 use Rattle.token_core.specs.Spans.{none}
@@ -40,6 +40,7 @@ fixed UnknownToken = codes "unknown start of token"
 fixed UnterminatedToken = codes "unterminated literal or comment"
 fixed DocComment = codes "documentation comments are not supported"
 fixed MalformedNumber = codes "malformed number"
+fixed BinderWithQuestion = codes "`for<...>` binder not allowed with `?` trait polarity modifier"
 
 abbrev pub text_or : Option Bytes → Bytes
 text_or None = fixed OutOfMemory
@@ -92,6 +93,7 @@ kind_number UnknownToken = 20
 kind_number UnterminatedToken = 21
 kind_number DocComment = 22
 kind_number MalformedNumber = 23
+kind_number BinderWithQuestion = 24
 
 abbrev number_kind : ℕ → ErrorKind
 number_kind n =
@@ -118,7 +120,8 @@ number_kind n =
     if n == 20 then UnknownToken else (
     if n == 21 then UnterminatedToken else (
     if n == 22 then DocComment else (
-    MalformedNumber)))))))))))))))))))))))
+    if n == 23 then MalformedNumber else (
+    BinderWithQuestion))))))))))))))))))))))))
 
 pub kind_back : (k : ErrorKind) → number_kind (kind_number k) ≡ k
 kind_back OutOfMemory = refl
@@ -145,6 +148,7 @@ kind_back UnknownToken = refl
 kind_back UnterminatedToken = refl
 kind_back DocComment = refl
 kind_back MalformedNumber = refl
+kind_back BinderWithQuestion = refl
 
 abbrev pub kind_code : Coded ErrorKind
 kind_code = code_by ℕ coded_ℕ kind_number number_kind kind_back

@@ -59,6 +59,8 @@ pub enum ErrorKind {
     DocComment,
     /// A number goes on as none does.
     MalformedNumber,
+    /// A trait bound has both `for<..>` and `?`.
+    BinderWithQuestion,
 }
 
 impl ErrorKind {
@@ -94,6 +96,8 @@ impl ErrorKind {
             ErrorKind::UnterminatedToken => "unterminated literal or comment",
             ErrorKind::DocComment => "documentation comments are not supported",
             ErrorKind::MalformedNumber => "malformed number",
+            ErrorKind::BinderWithQuestion =>
+                "`for<...>` binder not allowed with `?` trait polarity modifier",
         }
     }
 }

@@ -184,6 +184,10 @@ fn refusals_have_their_texts(rt: HostRuntime) {
             "documentation comments are not supported",
         ),
         (ErrorKind::MalformedNumber, "malformed number"),
+        (
+            ErrorKind::BinderWithQuestion,
+            "`for<...>` binder not allowed with `?` trait polarity modifier",
+        ),
     ] {
         kind_says(&rt, alloc, kind, text);
     }

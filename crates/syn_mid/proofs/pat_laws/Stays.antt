@@ -26,7 +26,7 @@ use Rattle.syn_mid.specs.attr.Attrs.{lit_of, const_of, expr_macro_of, expr_path_
 use Rattle.syn_mid.specs.attr.Normal as attr
 use Rattle.syn_mid.specs.attr.Printing as expr
 use Rattle.syn_mid.specs.mac.Printing.{mac}
-use Rattle.syn_mid.specs.pat.Pats.{Pat, Attr, Attrs, is_rest, guard_of, binding_of, or_of, paren_of, reference_of, slice_of, struct_of, tuple_of, tuple_struct_of, typed_of, field_of, rest_of, wild_of}
+use Rattle.syn_mid.specs.pat.Pats.{Pat, Attr, Qual, Attrs, is_rest, guard_of, binding_of, or_of, paren_of, reference_of, slice_of, struct_of, tuple_of, tuple_struct_of, typed_of, field_of, rest_of, wild_of}
 use Rattle.syn_mid.specs.ty.Normal as types
 use Rattle.syn_mid.specs.ty.Types.{Comma}
 use Rattle.syn_mid.specs.generics.Shapes.{optional}
@@ -39,8 +39,8 @@ use Rattle.syn_mid.specs.ty.Printing as texts
 use Rattle.token_core.specs.Lits as lits
 use Rattle.syn_mid.proofs.attr_laws.Normal.{attributes_stay, at_place_stays, range_stays, outer_same, at_place_same, range_same}
 use Rattle.syn_mid.proofs.ty_laws.Each.{Each, each_held, map_stays, joined_same}
-use Rattle.syn_mid.proofs.ty_laws.SamePrint.{ty_same}
-use Rattle.syn_mid.proofs.ty_laws.Stays.{ty_stays}
+use Rattle.syn_mid.proofs.ty_laws.SamePrint.{qpath_same, ty_same}
+use Rattle.syn_mid.proofs.ty_laws.Stays.{qself_stays, ty_stays}
 use Rattle.syn_mid.proofs.pat_laws.Normal.{normal-Const, normal-Guard, normal-Ident, normal-Lit, normal-Macro, normal-Or, normal-Paren, normal-Path, normal-Range, normal-Reference, normal-Rest, normal-Slice, normal-Struct, normal-Tuple, normal-TupleStruct, normal-Type, normal-Verbatim, normal-Wild, kind_kept}
 use Rattle.syn_mid.proofs.pat_laws.Prints.{pat-Const, pat-Guard, pat-Ident, pat-Lit, pat-Macro, pat-Or, pat-Paren, pat-Path, pat-Range, pat-Reference, pat-Rest, pat-Slice, pat-Struct, pat-Tuple, pat-TupleStruct, pat-Type, pat-Wild, last_mapped, tuple_mapped, tuple_same}
 
@@ -99,7 +99,7 @@ module _ {X : Type 0} (nx : Place → X → X) (own : (w : Place) (x : X) → nx
     fields_own l,
   )
 
-  binding_held : (a : Attrs X) (r : Option (Word 14)) (m : Option (Word 13)) (i : Ident) (l : Option (Mark 6 1 × Held)) → Own (roll-PatOf (Attr X) X (map-PatOf (Attr X) X Held (Pat X) (λ c. c.0) (o.Ident (binding_of a r m i l))))
+  binding_held : (a : Attrs X) (r : Option (Word 14)) (m : Option (Word 13)) (i : Ident) (l : Option (Mark 6 1 × Held)) → Own (roll-PatOf (Attr X) (Qual X) X (map-PatOf (Attr X) (Qual X) X Held (Pat X) (λ c. c.0) (o.Ident (binding_of a r m i l))))
   binding_held a r m i None =
       let x = binding_of a r m i None in
       let z = n.binding nx x in
@@ -112,7 +112,7 @@ module _ {X : Type 0} (nx : Place → X → X) (own : (w : Place) (x : X) → nx
       (by_form (v.Ident x) (v.Ident z) (normal-Ident nx x) (normal-Ident nx z ∙ ap (λ z. v.Ident (binding_of z r m i (Some (s.0, n.pat nx (n.pat nx s.1.0))))) (attrs_stay a)
       ∙ ap (λ z. v.Ident (binding_of (n.attrs nx a) r m i (Some (s.0, z)))) s.1.1))
 
-  layer_stays : (y : o.PatOf-F (Attr X) X Held) → Own (roll-PatOf (Attr X) X (map-PatOf (Attr X) X Held (Pat X) (λ a. a.0) y))
+  layer_stays : (y : o.PatOf-F (Attr X) (Qual X) X Held) → Own (roll-PatOf (Attr X) (Qual X) X (map-PatOf (Attr X) (Qual X) X Held (Pat X) (λ a. a.0) y))
   layer_stays (o.Const x) = subst Own (sym (v.rolls-Const x)) (by_form (v.Const x) (v.Const (attr.expr_const nx x)) (normal-Const nx x) (normal-Const nx (attr.expr_const nx x) ∙ ap v.Const (const_stays x)))
   layer_stays (o.Guard y) =
       let x = guard_of y.attrs y.pat.0 y.if_token y.guard in
@@ -165,14 +165,15 @@ module _ {X : Type 0} (nx : Place → X → X) (own : (w : Place) (x : X) → nx
       ∙ ap (λ z. v.Slice (slice_of (n.attrs nx y.attrs) y.bracket_token z)) (ap (λ u. (u, y.elems.1)) (map_stays (n.pat nx) all (each_held Own y.elems.0)))))
   layer_stays (o.Struct y) =
       let all = map within y.fields.0 in
-      let x = struct_of y.attrs y.path y.brace_token (all, y.fields.1) y.rest in
+      let x = struct_of y.attrs y.qself y.path y.brace_token (all, y.fields.1) y.rest in
       let z = n.fielded nx x in
       subst Own (sym (v.rolls-Struct x))
       (by_form (v.Struct x) (v.Struct z) (normal-Struct nx x)
       (normal-Struct nx z
-      ∙ ap (λ z. v.Struct (struct_of z y.path y.brace_token (map (n.field nx) (map (n.field nx) all), y.fields.1) (n.optional_rest nx (n.optional_rest nx y.rest)))) (attrs_stay y.attrs)
-      ∙ ap (λ z. v.Struct (struct_of (n.attrs nx y.attrs) y.path y.brace_token z (n.optional_rest nx (n.optional_rest nx y.rest)))) (ap (λ u. (u, y.fields.1)) (map_stays (n.field nx) all (fields_own y.fields.0)))
-      ∙ ap (λ z. v.Struct (struct_of (n.attrs nx y.attrs) y.path y.brace_token (map (n.field nx) all, y.fields.1) z)) (optional_rest_stays y.rest)))
+      ∙ ap (λ z. v.Struct (struct_of z (types.optional_qself nx (types.optional_qself nx y.qself)) y.path y.brace_token (map (n.field nx) (map (n.field nx) all), y.fields.1) (n.optional_rest nx (n.optional_rest nx y.rest)))) (attrs_stay y.attrs)
+      ∙ ap (λ z. v.Struct (struct_of (n.attrs nx y.attrs) z y.path y.brace_token (map (n.field nx) (map (n.field nx) all), y.fields.1) (n.optional_rest nx (n.optional_rest nx y.rest)))) (qself_stays nx own y.qself)
+      ∙ ap (λ z. v.Struct (struct_of (n.attrs nx y.attrs) (types.optional_qself nx y.qself) y.path y.brace_token z (n.optional_rest nx (n.optional_rest nx y.rest)))) (ap (λ u. (u, y.fields.1)) (map_stays (n.field nx) all (fields_own y.fields.0)))
+      ∙ ap (λ z. v.Struct (struct_of (n.attrs nx y.attrs) (types.optional_qself nx y.qself) y.path y.brace_token (map (n.field nx) all, y.fields.1) z)) (optional_rest_stays y.rest)))
   layer_stays (o.Tuple y) =
       let all = map (λ (a : Held). a.0) y.elems.0 in
       let x = tuple_of y.attrs y.paren_token (all, y.elems.1) in
@@ -184,13 +185,14 @@ module _ {X : Type 0} (nx : Place → X → X) (own : (w : Place) (x : X) → nx
       ∙ ap (λ z. v.Tuple (tuple_of (n.attrs nx y.attrs) y.paren_token z)) (ap (λ u. (u, y.elems.1)) (map_stays (n.pat nx) all (each_held Own y.elems.0)))))
   layer_stays (o.TupleStruct y) =
       let all = map (λ (a : Held). a.0) y.elems.0 in
-      let x = tuple_struct_of y.attrs y.path y.paren_token (all, y.elems.1) in
+      let x = tuple_struct_of y.attrs y.qself y.path y.paren_token (all, y.elems.1) in
       let z = n.tuple_struct nx x in
       subst Own (sym (v.rolls-TupleStruct x))
       (by_form (v.TupleStruct x) (v.TupleStruct z) (normal-TupleStruct nx x)
       (normal-TupleStruct nx z
-      ∙ ap (λ z. v.TupleStruct (tuple_struct_of z y.path y.paren_token (map (n.pat nx) (map (n.pat nx) all), y.elems.1))) (attrs_stay y.attrs)
-      ∙ ap (λ z. v.TupleStruct (tuple_struct_of (n.attrs nx y.attrs) y.path y.paren_token z)) (ap (λ u. (u, y.elems.1)) (map_stays (n.pat nx) all (each_held Own y.elems.0)))))
+      ∙ ap (λ z. v.TupleStruct (tuple_struct_of z (types.optional_qself nx (types.optional_qself nx y.qself)) y.path y.paren_token (map (n.pat nx) (map (n.pat nx) all), y.elems.1))) (attrs_stay y.attrs)
+      ∙ ap (λ z. v.TupleStruct (tuple_struct_of (n.attrs nx y.attrs) z y.path y.paren_token (map (n.pat nx) (map (n.pat nx) all), y.elems.1))) (qself_stays nx own y.qself)
+      ∙ ap (λ z. v.TupleStruct (tuple_struct_of (n.attrs nx y.attrs) (types.optional_qself nx y.qself) y.path y.paren_token z)) (ap (λ u. (u, y.elems.1)) (map_stays (n.pat nx) all (each_held Own y.elems.0)))))
   layer_stays (o.«Type» y) =
       let x = typed_of y.attrs y.pat.0 y.colon_token y.ty in
       let z = n.typed nx x in
@@ -204,7 +206,7 @@ module _ {X : Type 0} (nx : Place → X → X) (own : (w : Place) (x : X) → nx
   layer_stays (o.Wild x) = subst Own (sym (v.rolls-Wild x)) (by_form (v.Wild x) (v.Wild (n.wild nx x)) (normal-Wild nx x) (normal-Wild nx (n.wild nx x) ∙ ap v.Wild (wild_stays x)))
 
   pub pat_stays : (x : Pat X) → n.pat nx (n.pat nx x) ≡ n.pat nx x
-  pat_stays = ind-PatOf (Attr X) X Own (λ x y is. subst (λ z. Own (roll-PatOf (Attr X) X z)) is (layer_stays y))
+  pat_stays = ind-PatOf (Attr X) (Qual X) X Own (λ x y is. subst (λ z. Own (roll-PatOf (Attr X) (Qual X) X z)) is (layer_stays y))
 
 module _ {X : Type 0} (nx : Place → X → X) (px : Place → X → Print) (same : (w : Place) (x : X) → px w (nx w x) ≡ px w x) where
   attrs_same : (l : Attrs X) → s.attrs px (n.attrs nx l) ≡ s.attrs px l
@@ -262,7 +264,7 @@ module _ {X : Type 0} (nx : Place → X → X) (px : Place → X → Print) (sam
     fields_same l,
   )
 
-  binding_shown : (a : Attrs X) (r : Option (Word 14)) (m : Option (Word 13)) (i : Ident) (l : Option (Mark 6 1 × Shown)) → Same (roll-PatOf (Attr X) X (map-PatOf (Attr X) X Shown (Pat X) (λ c. c.0) (o.Ident (binding_of a r m i l))))
+  binding_shown : (a : Attrs X) (r : Option (Word 14)) (m : Option (Word 13)) (i : Ident) (l : Option (Mark 6 1 × Shown)) → Same (roll-PatOf (Attr X) (Qual X) X (map-PatOf (Attr X) (Qual X) X Shown (Pat X) (λ c. c.0) (o.Ident (binding_of a r m i l))))
   binding_shown a r m i None =
       let x = binding_of a r m i None in
       subst Same (sym (v.rolls-Ident x))
@@ -277,7 +279,7 @@ module _ {X : Type 0} (nx : Place → X → X) (px : Place → X → Print) (sam
       ∙ ap (λ z. (s.attrs px a ++ (optional_word r ++ (optional_word m ++ p.ident i))) ++ (p.mark w.0 ++ z)) w.1.1
       ∙ sym (pat-Ident px x))
 
-  layer_same : (y : o.PatOf-F (Attr X) X Shown) → Same (roll-PatOf (Attr X) X (map-PatOf (Attr X) X Shown (Pat X) (λ a. a.0) y))
+  layer_same : (y : o.PatOf-F (Attr X) (Qual X) X Shown) → Same (roll-PatOf (Attr X) (Qual X) X (map-PatOf (Attr X) (Qual X) X Shown (Pat X) (λ a. a.0) y))
   layer_same (o.Const x) = subst Same (sym (v.rolls-Const x)) (ap (s.pat px) (normal-Const nx x) ∙ pat-Const px (attr.expr_const nx x) ∙ const_same x ∙ sym (pat-Const px x))
   layer_same (o.Guard y) =
       let x = guard_of y.attrs y.pat.0 y.if_token y.guard in
@@ -325,13 +327,14 @@ module _ {X : Type 0} (nx : Place → X → X) (px : Place → X → Print) (sam
       ∙ sym (pat-Slice px x))
   layer_same (o.Struct y) =
       let all = map shown_within y.fields.0 in
-      let x = struct_of y.attrs y.path y.brace_token (all, y.fields.1) y.rest in
+      let x = struct_of y.attrs y.qself y.path y.brace_token (all, y.fields.1) y.rest in
       subst Same (sym (v.rolls-Struct x))
       (ap (s.pat px) (normal-Struct nx x) ∙ pat-Struct px (n.fielded nx x)
-      ∙ ap (λ z. z ++ (path expr_style y.path ++ p.group Brace (stream_of_trees ((s.fields px (map (n.field nx) all, y.fields.1)) ++ ((s.rest_comma px (n.optional_rest nx y.rest) (map (n.field nx) all, y.fields.1)) ++ s.optional_rest px (n.optional_rest nx y.rest)))) y.brace_token.span)) (attrs_same y.attrs)
-      ∙ ap (λ z. s.attrs px y.attrs ++ (path expr_style y.path ++ p.group Brace (stream_of_trees ((z) ++ ((s.rest_comma px (n.optional_rest nx y.rest) (map (n.field nx) all, y.fields.1)) ++ s.optional_rest px (n.optional_rest nx y.rest)))) y.brace_token.span)) (joined_same (n.field nx) (s.field px) p.mark all y.fields.1 (fields_same y.fields.0))
-      ∙ ap (λ z. s.attrs px y.attrs ++ (path expr_style y.path ++ p.group Brace (stream_of_trees ((s.fields px (all, y.fields.1)) ++ ((z) ++ s.optional_rest px (n.optional_rest nx y.rest)))) y.brace_token.span)) (rest_comma_same (n.field nx) y.rest all y.fields.1)
-      ∙ ap (λ z. s.attrs px y.attrs ++ (path expr_style y.path ++ p.group Brace (stream_of_trees ((s.fields px (all, y.fields.1)) ++ ((s.rest_comma px y.rest (all, y.fields.1)) ++ z))) y.brace_token.span)) (optional_rest_same y.rest)
+      ∙ ap (λ z. z ++ (texts.qpath px expr_style (types.optional_qself nx y.qself) y.path ++ p.group Brace (stream_of_trees ((s.fields px (map (n.field nx) all, y.fields.1)) ++ ((s.rest_comma px (n.optional_rest nx y.rest) (map (n.field nx) all, y.fields.1)) ++ s.optional_rest px (n.optional_rest nx y.rest)))) y.brace_token.span)) (attrs_same y.attrs)
+      ∙ ap (λ z. s.attrs px y.attrs ++ (z ++ p.group Brace (stream_of_trees ((s.fields px (map (n.field nx) all, y.fields.1)) ++ ((s.rest_comma px (n.optional_rest nx y.rest) (map (n.field nx) all, y.fields.1)) ++ s.optional_rest px (n.optional_rest nx y.rest)))) y.brace_token.span)) (qpath_same nx px same expr_style y.qself y.path)
+      ∙ ap (λ z. s.attrs px y.attrs ++ (texts.qpath px expr_style y.qself y.path ++ p.group Brace (stream_of_trees ((z) ++ ((s.rest_comma px (n.optional_rest nx y.rest) (map (n.field nx) all, y.fields.1)) ++ s.optional_rest px (n.optional_rest nx y.rest)))) y.brace_token.span)) (joined_same (n.field nx) (s.field px) p.mark all y.fields.1 (fields_same y.fields.0))
+      ∙ ap (λ z. s.attrs px y.attrs ++ (texts.qpath px expr_style y.qself y.path ++ p.group Brace (stream_of_trees ((s.fields px (all, y.fields.1)) ++ ((z) ++ s.optional_rest px (n.optional_rest nx y.rest)))) y.brace_token.span)) (rest_comma_same (n.field nx) y.rest all y.fields.1)
+      ∙ ap (λ z. s.attrs px y.attrs ++ (texts.qpath px expr_style y.qself y.path ++ p.group Brace (stream_of_trees ((s.fields px (all, y.fields.1)) ++ ((s.rest_comma px y.rest (all, y.fields.1)) ++ z))) y.brace_token.span)) (optional_rest_same y.rest)
       ∙ sym (pat-Struct px x))
   layer_same (o.Tuple y) =
       let all = map (λ (a : Shown). a.0) y.elems.0 in
@@ -344,11 +347,12 @@ module _ {X : Type 0} (nx : Place → X → X) (px : Place → X → Print) (sam
       ∙ sym (pat-Tuple px x))
   layer_same (o.TupleStruct y) =
       let all = map (λ (a : Shown). a.0) y.elems.0 in
-      let x = tuple_struct_of y.attrs y.path y.paren_token (all, y.elems.1) in
+      let x = tuple_struct_of y.attrs y.qself y.path y.paren_token (all, y.elems.1) in
       subst Same (sym (v.rolls-TupleStruct x))
       (ap (s.pat px) (normal-TupleStruct nx x) ∙ pat-TupleStruct px (n.tuple_struct nx x)
-      ∙ ap (λ z. z ++ (path expr_style y.path ++ p.group Parenthesis (stream_of_trees (s.list px {n = 4} (map (n.pat nx) all, y.elems.1))) y.paren_token.span)) (attrs_same y.attrs)
-      ∙ ap (λ z. s.attrs px y.attrs ++ (path expr_style y.path ++ p.group Parenthesis (stream_of_trees (z)) y.paren_token.span)) (joined_same (n.pat nx) (s.pat px) p.mark all y.elems.1 (each_held Same y.elems.0))
+      ∙ ap (λ z. z ++ (texts.qpath px expr_style (types.optional_qself nx y.qself) y.path ++ p.group Parenthesis (stream_of_trees (s.list px {n = 4} (map (n.pat nx) all, y.elems.1))) y.paren_token.span)) (attrs_same y.attrs)
+      ∙ ap (λ z. s.attrs px y.attrs ++ (z ++ p.group Parenthesis (stream_of_trees (s.list px {n = 4} (map (n.pat nx) all, y.elems.1))) y.paren_token.span)) (qpath_same nx px same expr_style y.qself y.path)
+      ∙ ap (λ z. s.attrs px y.attrs ++ (texts.qpath px expr_style y.qself y.path ++ p.group Parenthesis (stream_of_trees (z)) y.paren_token.span)) (joined_same (n.pat nx) (s.pat px) p.mark all y.elems.1 (each_held Same y.elems.0))
       ∙ sym (pat-TupleStruct px x))
   layer_same (o.«Type» y) =
       let x = typed_of y.attrs y.pat.0 y.colon_token y.ty in
@@ -362,6 +366,6 @@ module _ {X : Type 0} (nx : Place → X → X) (px : Place → X → Print) (sam
   layer_same (o.Wild x) = subst Same (sym (v.rolls-Wild x)) (ap (s.pat px) (normal-Wild nx x) ∙ pat-Wild px (n.wild nx x) ∙ wild_same x ∙ sym (pat-Wild px x))
 
   pub pat_same : (x : Pat X) → s.pat px (n.pat nx x) ≡ s.pat px x
-  pat_same = ind-PatOf (Attr X) X Same (λ x y is. subst (λ z. Same (roll-PatOf (Attr X) X z)) is (layer_same y))
+  pat_same = ind-PatOf (Attr X) (Qual X) X Same (λ x y is. subst (λ z. Same (roll-PatOf (Attr X) (Qual X) X z)) is (layer_same y))
 
 pub ruleset normals = (guard_stays, pat_stays, guard_same, pat_same)

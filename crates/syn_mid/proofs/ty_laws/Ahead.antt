@@ -5,17 +5,20 @@ use Rattle.std.proofs.lemmas.List.{length-append}
 use Rattle.token_core.specs.declared.span.DelimSpan.{DelimSpan}
 use Rattle.token_core.specs.declared.tree.Delimiter.{Delimiter}
 use Rattle.token_core.specs.declared.mark.Mark.{Mark}
+use Rattle.token_core.specs.declared.tree.Ident.{Ident}
+use Rattle.token_core.specs.declared.word.Word.{Word}
 use Rattle.token_core.specs.Front.{front}
 use Rattle.token_core.specs.Groups as groups
 use Rattle.token_core.specs.Loops.{size}
-use Rattle.token_core.specs.Marks.{chars_of, read}
+use Rattle.token_core.specs.Marks.{chars_of, text_of, word_name, word_of, read, read_named}
 use Rattle.token_core.specs.Positions.{items, an_end}
 use Rattle.token_core.specs.Refusal.{Refusal}
 use Rattle.token_core.specs.Stream.{Stream}
 use Rattle.token_core.specs.Toks.{Bytes, Toks, done, word, mark, lit, group, enter, leave}
-use Rattle.token_core.specs.Reads.{Outcome, Follows, Parsed, Gives, Fails, IsSuffix, all_of, past_word, past_punct, past_lit, past_group, past_enter, past_leave, as_group, same_delimiter, inside, past, opened, open_group, expected}
+use Rattle.token_core.specs.Reads.{Outcome, Follows, Parsed, Gives, Fails, IsSuffix, all_of, past_word, past_punct, past_lit, past_group, past_enter, past_leave, as_group, same_delimiter, inside, past, opened, open_group, expected, is_text, read_word}
 use Rattle.token_core.proofs.Takes.{named_takes}
-use Rattle.token_core.proofs.Turns.{same_pair}
+use Rattle.token_core.proofs.Took.{mapped}
+use Rattle.token_core.proofs.Turns.{same_pair, word_takes}
 use Rattle.syn_mid.specs.ty.Knot.{ahead}
 
 -- the number of a list's items
@@ -132,8 +135,21 @@ and_taken = taken 5 1 38 [] refl
 pub star_taken : (s t : Stream) (r : Result (Mark 26 1) Refusal) → Parsed (Gives (read 26 1) s) (Fails (read 26 1) s) r t → Follows s t → IfOk r (λ _. ahead t < ahead s)
 star_taken = taken 26 1 42 [] refl
 
+pub lt_taken : (s t : Stream) (r : Result (Mark 2 1) Refusal) → Parsed (Gives (read 2 1) s) (Fails (read 2 1) s) r t → Follows s t → IfOk r (λ _. ahead t < ahead s)
+lt_taken = taken 2 1 60 [] refl
+
+-- and that of a word
+pub named_word_takes : (n : ℕ) (s t : Stream) (w : Word n) → read_named n s ≡ Ok (w, t) → size t.rest < size s.rest
+named_word_takes n s t w e =
+    let k = mapped (read_word (is_text (text_of n)) (word_name n) s) (λ (i : Ident). word_of n i.span) w t e in
+    word_takes (is_text (text_of n)) (word_name n) s t k.value k.was
+
+pub for_taken : (s t : Stream) (r : Result (Word 10) Refusal) → Parsed (Gives (read_named 10) s) (Fails (read_named 10) s) r t → Follows s t → IfOk r (λ _. ahead t < ahead s)
+for_taken s t (Ok w) e f = ahead_less s t f (named_word_takes 10 s t w e)
+for_taken s t (Err x) e f = tt
+
 pub ruleset later = (ahead_follows)
 
 pub ruleset inside_groups = (opened_ahead)
 
-pub ruleset past_marks = (comma_taken, and_taken, star_taken)
+pub ruleset past_marks = (comma_taken, and_taken, star_taken, lt_taken, for_taken)

@@ -97,19 +97,19 @@ no_semi = refl
 -- ---- how much is left
 
 -- less is left after tokens
-later : (l k : Toks) (f g : Option Span) (d e : Span) (sc : Scope) (limit : ℕ) → weight k < weight l → ahead (at l f d sc) ≤ limit → ahead (at k g e sc) < limit
+pub later : (l k : Toks) (f g : Option Span) (d e : Span) (sc : Scope) (limit : ℕ) → weight k < weight l → ahead (at l f d sc) ≤ limit → ahead (at k g e sc) < limit
 later l k f g d e sc limit h lim =
     let x = ahead-is (at l f d sc) in
     let y = ahead-is (at k g e sc) in
     omega (arith, h, lim, x, y)
 
-not_more : (l k : Toks) (f g : Option Span) (d e : Span) (sc : Scope) (limit : ℕ) → weight k ≤ weight l → ahead (at l f d sc) < limit → ahead (at k g e sc) < limit
+pub not_more : (l k : Toks) (f g : Option Span) (d e : Span) (sc : Scope) (limit : ℕ) → weight k ≤ weight l → ahead (at l f d sc) < limit → ahead (at k g e sc) < limit
 not_more l k f g d e sc limit h lim =
     let x = ahead-is (at l f d sc) in
     let y = ahead-is (at k g e sc) in
     omega (arith, h, lim, x, y)
 
-comma_light : (c : Comma) (l r : Toks) → IsMark true c l r → weight r ≤ weight l
+pub comma_light : (c : Comma) (l r : Toks) → IsMark true c l r → weight r ≤ weight l
 comma_light c l r (is_mark (last_char x)) = omega arith
 
 star_light : (q : Star) (l r : Toks) → IsMark true q l r → weight r < weight l

@@ -1,6 +1,7 @@
--- The elements of a tuple after the first one, turn by turn.
+-- Values joined by marks up to where a test holds, turn by turn: the elements of a tuple, the parameters of a binder.
 use Rattle.std.proofs.Common.{◌≡◌, ◌<◌, ◌≤◌, Bool, true, false, not, [], ◌∷◌, ◌++◌, Ok, Err, refl, ◌∙◌, ap, arith}
 use Rattle.token_core.specs.Refusal.{Refusal}
+use Rattle.token_core.specs.Toks.{Toks}
 use Rattle.token_core.specs.Stream.{Stream}
 use Rattle.token_core.specs.Reads.{Reader, Outcome, and_then, pure, is_done}
 use Rattle.token_core.specs.Loops.{Many, size, after, listed, terminated}
@@ -12,33 +13,42 @@ use Rattle.syn_mid.specs.Supplied.{Place}
 use Rattle.syn_mid.specs.ty.Types.{Comma}
 use Rattle.syn_mid.specs.ty.Reading.{comma, more_elements}
 
-module _ {A P : Type 0} (value : Reader A) (joint : Reader P) where
+-- a list that stops where a test holds, before a value and after one
+module _ {A P : Type 0} (ends : Toks → Bool) (value : Reader A) (joint : Reader P) where
   abbrev All : Reader (Many A P)
-  All = terminated is_done value joint
+  All = terminated ends value joint
 
   -- where a list stops doesn't depend on whether a value comes first
-  same_first : (s : Stream) → listed (λ first. is_done) (λ first. value) (λ l. not (is_done l)) joint false s ≡ All s
+  same_first : (s : Stream) → listed (λ first. ends) (λ first. value) (λ l. not (ends l)) joint false s ≡ All s
   unfolding listed
   same_first s = refl
 
-  pub none_left : (v : Many A P) (s : Stream) → is_done s.rest ≡ true → after v (All s) ≡ Ok (v, s)
-  none_left v s e = turns.turn_none (λ first. is_done) (λ first. value) (λ l. not (is_done l)) joint v true s e
+  pub none_left : (v : Many A P) (s : Stream) → ends s.rest ≡ true → after v (All s) ≡ Ok (v, s)
+  none_left v s e = turns.turn_none (λ first. ends) (λ first. value) (λ l. not (ends l)) joint v true s e
 
-  pub no_value : (v : Many A P) (s : Stream) (r : Refusal) → is_done s.rest ≡ false → value s ≡ Err r → after v (All s) ≡ Err r
-  no_value v s r e h = turns.turn_refused (λ first. is_done) (λ first. value) (λ l. not (is_done l)) joint v true s r e h
+  pub no_value : (v : Many A P) (s : Stream) (r : Refusal) → ends s.rest ≡ false → value s ≡ Err r → after v (All s) ≡ Err r
+  no_value v s r e h = turns.turn_refused (λ first. ends) (λ first. value) (λ l. not (ends l)) joint v true s r e h
 
-  pub last_value : (v : Many A P) (s t : Stream) (x : A) → is_done s.rest ≡ false → value s ≡ Ok (x, t) → is_done t.rest ≡ true → after v (All s) ≡ Ok ((v.0 ++ x ∷ [], v.1), t)
-  last_value v s t x e h k = turns.turn_last (λ first. is_done) (λ first. value) (λ l. not (is_done l)) joint v true s t x e h (ap not k)
+  pub last_value : (v : Many A P) (s t : Stream) (x : A) → ends s.rest ≡ false → value s ≡ Ok (x, t) → ends t.rest ≡ true → after v (All s) ≡ Ok ((v.0 ++ x ∷ [], v.1), t)
+  last_value v s t x e h k = turns.turn_last (λ first. ends) (λ first. value) (λ l. not (ends l)) joint v true s t x e h (ap not k)
 
-  pub no_mark : (v : Many A P) (s t : Stream) (x : A) (r : Refusal) → is_done s.rest ≡ false → value s ≡ Ok (x, t) → is_done t.rest ≡ false → joint t ≡ Err r → after v (All s) ≡ Err r
-  no_mark v s t x r e h k g = turns.turn_stuck (λ first. is_done) (λ first. value) (λ l. not (is_done l)) joint v true s t x r e h (ap not k) g
+  pub no_mark : (v : Many A P) (s t : Stream) (x : A) (r : Refusal) → ends s.rest ≡ false → value s ≡ Ok (x, t) → ends t.rest ≡ false → joint t ≡ Err r → after v (All s) ≡ Err r
+  no_mark v s t x r e h k g = turns.turn_stuck (λ first. ends) (λ first. value) (λ l. not (ends l)) joint v true s t x r e h (ap not k) g
 
   pub next_value : (takes : (s t : Stream) (x : A) → value s ≡ Ok (x, t) → size t.rest < size s.rest) (keeps : (s t : Stream) (p : P) → joint s ≡ Ok (p, t) → size t.rest ≤ size s.rest)
-      (v : Many A P) (s t u : Stream) (x : A) (p : P) → is_done s.rest ≡ false → value s ≡ Ok (x, t) → is_done t.rest ≡ false → joint t ≡ Ok (p, u) →
+      (v : Many A P) (s t u : Stream) (x : A) (p : P) → ends s.rest ≡ false → value s ≡ Ok (x, t) → ends t.rest ≡ false → joint t ≡ Ok (p, u) →
       after v (All s) ≡ after (v.0 ++ x ∷ [], v.1 ++ p ∷ []) (All u)
   next_value takes keeps v s t u x p e h k g =
-      turns.turn_on (λ first. is_done) (λ first. value) (λ l. not (is_done l)) joint (λ b. takes) keeps v true s t u x p e h (ap not k) g
+      turns.turn_on (λ first. ends) (λ first. value) (λ l. not (ends l)) joint (λ b. takes) keeps v true s t u x p e h (ap not k) g
       ∙ ap (after (v.0 ++ x ∷ [], v.1 ++ p ∷ [])) (same_first u)
+
+  none_yet_at : (o : Outcome (Many A P)) → o ≡ after ([], []) o
+  none_yet_at (Ok p) = refl
+  none_yet_at (Err e) = refl
+
+  -- before the first value
+  pub none_yet : (s : Stream) → All s ≡ after ([], []) (All s)
+  none_yet s = none_yet_at (All s)
 
 module _ {X : Type 0} (supplied : Place → Reader X) (typ : Bool → Reader (TypeTree X)) where
   begun_at : (x : TypeTree X) (c : Comma) (o : Outcome (Many (TypeTree X) Comma)) → and_then o (λ rest. pure (x ∷ rest.0, c ∷ rest.1)) ≡ after (x ∷ [], c ∷ []) o

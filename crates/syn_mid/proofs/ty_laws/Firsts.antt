@@ -29,7 +29,7 @@ use Rattle.syn_mid.specs.mac.Spelling.{IsCall, a_macro}
 use Rattle.syn_mid.specs.path.Paths.{Sep}
 use Rattle.syn_mid.specs.path.Spelling.{is_mod_word, is_type_word, IsLeading, no_leading, leading, AreSegments, last_segment, more_segments, IsBarePath, a_bare_path, IsPlainPath}
 use Rattle.syn_mid.specs.ty.Reading.{begins_path, sees_named}
-use Rattle.syn_mid.specs.ty.Spelling.{Relation, IsOptional, absent, present, IsMutability, a_const, a_mut, a_never, an_infer, a_path_type, a_tuple, a_paren, a_slice, an_array, a_ptr, a_reference, IsType, TypeBelow}
+use Rattle.syn_mid.specs.ty.Spelling.{Relation, IsOptional, absent, present, IsMutability, a_const, a_mut, a_never, an_infer, a_path_type, a_tuple, a_paren, a_slice, an_array, a_ptr, a_reference, IsType}
 use Rattle.syn_mid.specs.ty.Spelling as s
 use Rattle.syn_mid.specs.ty.Types.{try_first, is_try_path, Star, And}
 
@@ -120,10 +120,6 @@ module _ {X : Type 0} (spells : Place → X → Toks → Type 0) (clear : Bool) 
     type_begins plus x l r (s.slice (a_slice {s = a} {c = c} i)) = group_begins Bracket a c r
     type_begins plus x l r (s.tuple (a_tuple {s = a} {c = c} i)) = group_begins Parenthesis a c r
 
-  pub begins_below : (n : ℕ) (plus : Bool) (x : TypeTree X) (l r : Toks) → TypeBelow spells clear n plus x l r → Begins l
-  begins_below zero plus x l r i = absurd i
-  begins_below (suc n) plus x l r i = type_begins (TypeBelow spells clear n) plus x l r i
-
 -- ---- a type takes tokens, by a measure that each token adds to
 
 module _ (m : Toks → ℕ) (word_adds : (i : Ident) (k : Toks) → m k < m (word i k)) (mark_adds : (p : Punct) (k : Toks) → m k < m (mark p k)) (group_adds : (d : Delimiter) (a : DelimSpan) (c k : Toks) → m k < m (group d a c k)) (clear : Bool) where
@@ -207,7 +203,3 @@ module _ (m : Toks → ℕ) (word_adds : (i : Ident) (k : Toks) → m k < m (wor
           omega (arith, w, z, v, t)
       type_less plus x l r (s.slice (a_slice {s = a} {c = c} i)) = group_adds Bracket a c r
       type_less plus x l r (s.tuple (a_tuple {s = a} {c = c} i)) = group_adds Parenthesis a c r
-
-    pub less_below : (n : ℕ) (plus : Bool) (x : TypeTree X) (l r : Toks) → TypeBelow spells clear n plus x l r → m r < m l
-    less_below zero plus x l r i = absurd i
-    less_below (suc n) plus x l r i = type_less (TypeBelow spells clear n) (less_below n) plus x l r i

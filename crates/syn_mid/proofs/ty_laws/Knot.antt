@@ -1,4 +1,4 @@
--- The read of types meets its equation: one turn, over the types of streams of which less is left.
+-- The reads that go back to themselves meet their equations: one turn, over the reads of streams of which less is left.
 use Rattle.std.proofs.Common.{◌≡◌, ℕ, zero, suc, ◌<◌, Bool, true, false, Ok, refl, ap, arith}
 use Rattle.std.specs.Prelude.{nat_lt}
 use Rattle.std.proofs.Math.Path.{fun_ext}
@@ -6,7 +6,8 @@ use Rattle.std.proofs.lemmas.Bool.{ltb-true}
 use Rattle.token_core.specs.Reads.{Reader}
 use Rattle.token_core.specs.Stream.{Stream}
 use Rattle.syn_mid.specs.Supplied.{Place}
-use Rattle.syn_mid.specs.ty.Knot.{ahead, below, below_if, type_at, ty, types}
+use Rattle.syn_mid.specs.generics.Reading.{param_step, bound_step}
+use Rattle.syn_mid.specs.ty.Knot.{ahead, below, below_if, Point, a_type, a_bound, a_param, Tree, Readers, step, read_at, read, reads_below, ty, bound, param, types, params}
 use Rattle.syn_mid.specs.ty.Reading.{type_step}
 
 below_at : {A : Type 0} (limit : ℕ) (p q : Reader A) (s : Stream) (b : Bool) → nat_lt (ahead s) limit ≡ b → (ahead s < limit → p s ≡ q s) → below_if b p s ≡ below_if b q s
@@ -30,22 +31,37 @@ pub out : {A : Type 0} (limit : ℕ) (p : Reader A) (s t : Stream) (x : A) → b
 out limit p s t x e = out_if limit p s t x (nat_lt (ahead s) limit) refl e
 
 module _ {X : Type 0} (supplied : Place → Reader X) where
-  -- more turns than there is left change nothing
-  enough : (k : ℕ) (s : Stream) (m n : ℕ) (plus : Bool) → ahead s < k → ahead s < m → ahead s < n → type_at supplied m plus s ≡ type_at supplied n plus s
-  enough zero s m n plus h hm hn = absurd (omega (arith, h))
-  enough (suc k) s zero n plus h hm hn = absurd (omega (arith, hm))
-  enough (suc k) s (suc m) zero plus h hm hn = absurd (omega (arith, hn))
-  enough (suc k) s (suc m) (suc n) plus h hm hn =
-      let T : (λ (p : Bool). below (ahead s) (type_at supplied m p)) ≡ (λ (p : Bool). below (ahead s) (type_at supplied n p)) =
-      fun_ext (λ p. below_same (ahead s) (type_at supplied m p) (type_at supplied n p) (λ t e. enough k t m n p (omega (arith, e, h)) (omega (arith, e, hm)) (omega (arith, e, hn)))) in
-      ap (λ t. type_step supplied t plus s) T
+  -- readers that are asked below a limit
+  abbrev limited : ℕ → Readers X → Readers X
+  limited limit r q = below limit (r q)
 
-  here : (n : ℕ) → (λ (p : Bool). below n (type_at supplied n p)) ≡ types supplied n
-  unfolding types ty
-  here n = fun_ext (λ p. below_same n (type_at supplied n p) (ty supplied p) (λ s e. enough n s n (suc (ahead s)) p e e (omega arith)))
+  -- more turns than there is left change nothing
+  enough : (k : ℕ) (s : Stream) (m n : ℕ) (q : Point) → ahead s < k → ahead s < m → ahead s < n → read_at supplied m q s ≡ read_at supplied n q s
+  enough zero s m n q h hm hn = absurd (omega (arith, h))
+  enough (suc k) s zero n q h hm hn = absurd (omega (arith, hm))
+  enough (suc k) s (suc m) zero q h hm hn = absurd (omega (arith, hn))
+  enough (suc k) s (suc m) (suc n) q h hm hn =
+      let T : limited (ahead s) (read_at supplied m) ≡ limited (ahead s) (read_at supplied n) =
+      fun_ext (λ p. below_same (ahead s) (read_at supplied m p) (read_at supplied n p) (λ t e. enough k t m n p (omega (arith, e, h)) (omega (arith, e, hm)) (omega (arith, e, hn)))) in
+      ap (λ r. step supplied r q s) T
+
+  here : (n : ℕ) → limited n (read_at supplied n) ≡ reads_below supplied n
+  unfolding read
+  here n = fun_ext (λ p. below_same n (read_at supplied n p) (read supplied p) (λ s e. enough n s n (suc (ahead s)) p e e (omega arith)))
+
+  pub turn : (q : Point) (s : Stream) → read supplied q s ≡ step supplied (reads_below supplied (ahead s)) q s
+  unfolding read
+  turn q s = ap (λ r. step supplied r q s) (here (ahead s))
 
   pub ty-turn : (plus : Bool) (s : Stream) → ty supplied plus s ≡ type_step supplied (types supplied (ahead s)) plus s
-  unfolding ty
-  ty-turn plus s = ap (λ t. type_step supplied t plus s) (here (ahead s))
+  unfolding types
+  ty-turn plus s = turn (a_type plus) s
 
-pub ruleset turns = (ty-turn)
+  pub bound-turn : (s : Stream) → bound supplied s ≡ bound_step (params supplied (ahead s)) s
+  unfolding params
+  bound-turn s = turn a_bound s
+
+  pub param-turn : (s : Stream) → param supplied s ≡ param_step s
+  param-turn s = turn a_param s
+
+pub ruleset turns = (ty-turn, bound-turn, param-turn)

@@ -1,10 +1,11 @@
--- The print of a type spells its normal form clearly, by induction on the height.
+-- The print of a type, a bound or a parameter of a binder spells its normal form clearly, by induction on the height.
 use Rattle.std.proofs.Common.{◌≡◌, ℕ, zero, suc, Bool, true, false, Ok}
 use Rattle.token_core.specs.Prints.{Print}
 use Rattle.token_core.specs.Reads.{Reader}
 use Rattle.token_core.specs.Stream.{Stream}
 use Rattle.token_core.specs.Toks.{Toks}
 use Rattle.syn_mid.specs.declared.supplied.Expr.{Expr}
+use Rattle.syn_mid.specs.declared.generics.TypeParamBound.{TypeParamBound}
 use Rattle.syn_mid.specs.declared.ty.Type.{«Type» as TypeTree}
 use Rattle.syn_mid.specs.declared.ty.TypeArrayOf.{TypeArrayOf}
 use Rattle.syn_mid.specs.declared.ty.TypeParenOf.{TypeParenOf}
@@ -13,10 +14,13 @@ use Rattle.syn_mid.specs.declared.ty.TypeReferenceOf.{TypeReferenceOf}
 use Rattle.syn_mid.specs.declared.ty.TypeSliceOf.{TypeSliceOf}
 use Rattle.syn_mid.specs.declared.ty.TypeTupleOf.{TypeTupleOf}
 use Rattle.syn_mid.specs.Supplied.{Place, UsesUp, Reprints}
+use Rattle.syn_mid.specs.ty.Knot.{Point, a_type, a_bound, a_param, Tree}
 use Rattle.syn_mid.specs.ty.Normal as normal
 use Rattle.syn_mid.specs.ty.Printing as printing
-use Rattle.syn_mid.specs.ty.Spelling.{Relation, IsArray, IsParen, IsPtr, IsReference, IsSlice, IsTuple, TypeBelow, IsSomeType, IsSomeArray, IsSomeParen, IsSomePtr, IsSomeReference, IsSomeSlice, IsSomeTuple}
+use Rattle.syn_mid.specs.ty.Heights.{Below, TypeBelow, IsSomeType, IsSomeBound, IsSomeArray, IsSomeParen, IsSomePtr, IsSomeReference, IsSomeSlice, IsSomeTuple}
+use Rattle.syn_mid.specs.ty.Spelling.{Relation, IsArray, IsParen, IsPtr, IsReference, IsSlice, IsTuple}
 use Rattle.syn_mid.proofs.attr_laws.Reprint.{AgainFront}
+use Rattle.syn_mid.proofs.generics_laws.Reprint.{param_front, bound_front}
 use Rattle.syn_mid.proofs.ty_laws.Reprint.{type_front, array_front, paren_front, ptr_front, reference_front, slice_front, tuple_front}
 
 -- what is spelt at a height is spelt at some height
@@ -26,12 +30,31 @@ some_front S n pr m x l r k = record { spelt = λ h. (m, k.spelt h); visible = �
 module _ {X : Type 0} (reads : Place → Reader X) (spells : Place → X → Toks → Type 0) (normals : Place → X → X) (prints : Place → X → Print)
     (complete : (w : Place) (s : Stream) (x : X) → spells w x s.rest → (t : Stream) × (reads w s ≡ Ok (x, t)) × UsesUp s t)
     (reprint : (w : Place) (x : X) (l : Toks) → spells w x l → Reprints (spells w) (normals w) (prints w) x l) where
-  pub below_again : (n : ℕ) (plus : Bool) (x : TypeTree X) (l r : Toks) → TypeBelow spells false n plus x l r → AgainFront (TypeBelow spells true n plus) (normal.ty normals) (printing.ty prints) x l r
-  below_again zero plus x l r i = absurd i
-  below_again (suc n) plus x l r i = type_front reads spells normals prints complete reprint (TypeBelow spells false n) (TypeBelow spells true n) (below_again n) plus x l r i
+  abbrev normal_at : (q : Point) → Tree X q → Tree X q
+  normal_at (a_type plus) = normal.ty normals
+  normal_at a_bound = normal.bound normals
+  normal_at a_param = normal.param normals
+
+  abbrev print_at : (q : Point) → Tree X q → Print
+  print_at (a_type plus) = printing.ty prints
+  print_at a_bound = printing.bound prints
+  print_at a_param = printing.param prints
+
+  again_at : (n : ℕ) (q : Point) (x : Tree X q) (l r : Toks) → Below spells false n q x l r → AgainFront (Below spells true n q) (normal_at q) (print_at q) x l r
+  again_at zero q x l r i = absurd i
+  again_at (suc n) (a_type p) x l r i =
+      type_front reads spells normals prints complete reprint (TypeBelow spells false n) (TypeBelow spells true n) (λ b. again_at n (a_type b)) p x l r i
+  again_at (suc n) a_bound x l r i = bound_front normals prints (Below spells false n a_param) (Below spells true n a_param) (again_at n a_param) x l r i
+  again_at (suc n) a_param x l r i = param_front normals prints x l r i
+
+  below_again : (n : ℕ) (plus : Bool) (x : TypeTree X) (l r : Toks) → TypeBelow spells false n plus x l r → AgainFront (TypeBelow spells true n plus) (normal.ty normals) (printing.ty prints) x l r
+  below_again n plus = again_at n (a_type plus)
 
   pub ty_again : (plus : Bool) (x : TypeTree X) (l r : Toks) → IsSomeType spells false plus x l r → AgainFront (IsSomeType spells true plus) (normal.ty normals) (printing.ty prints) x l r
   ty_again plus x l r i = some_front (λ n. TypeBelow spells true n plus) (normal.ty normals) (printing.ty prints) i.0 x l r (below_again i.0 plus x l r i.1)
+
+  pub bound_again : (x : TypeParamBound X) (l r : Toks) → IsSomeBound spells false x l r → AgainFront (IsSomeBound spells true) (normal.bound normals) (printing.bound prints) x l r
+  bound_again x l r i = some_front (λ n. Below spells true n a_bound) (normal.bound normals) (printing.bound prints) i.0 x l r (again_at i.0 a_bound x l r i.1)
 
   pub array_again : (x : TypeArrayOf (TypeTree X) (Expr X)) (l r : Toks) → IsSomeArray spells false x l r → AgainFront (IsSomeArray spells true) (normal.array normals) (printing.array prints) x l r
   array_again x l r i =

@@ -1,4 +1,4 @@
--- Where a read of a type answers, the answer spells what was taken: at the knot, by induction on how much is left.
+-- Where a read of a type, a bound or a parameter of a binder answers, the answer spells what was taken: at the knot, by induction on how much is left.
 use Rattle.std.proofs.Common.{◌≡◌, ℕ, zero, suc, ◌<◌, Bool, false, None, Ok, sym, ◌∙◌, arith}
 use Rattle.token_core.specs.Toks.{Toks}
 use Rattle.token_core.specs.Rebuilt.{Visible}
@@ -14,10 +14,12 @@ use Rattle.syn_mid.specs.declared.ty.TypeSliceOf.{TypeSliceOf}
 use Rattle.syn_mid.specs.declared.ty.TypeTupleOf.{TypeTupleOf}
 use Rattle.syn_mid.specs.Supplied.{Place, UsesUp}
 use Rattle.syn_mid.specs.ty.Knot as knot
-use Rattle.syn_mid.specs.ty.Knot.{ahead, types}
-use Rattle.syn_mid.specs.ty.Spelling.{Relation, TypeBelow, IsSomeType, IsArray, IsSomeArray, IsParen, IsSomeParen, IsPtr, IsSomePtr, IsReference, IsSomeReference, IsSlice, IsSomeSlice, IsTuple, IsSomeTuple}
+use Rattle.syn_mid.specs.ty.Knot.{ahead, Point, a_type, a_bound, a_param, Tree, types, params}
+use Rattle.syn_mid.specs.ty.Heights.{Below, IsSome, TypeBelow, IsSomeArray, IsSomeParen, IsSomePtr, IsSomeReference, IsSomeSlice, IsSomeTuple}
+use Rattle.syn_mid.specs.ty.Spelling.{Relation, IsArray, IsParen, IsPtr, IsReference, IsSlice, IsTuple}
 use Rattle.syn_mid.proofs.attr_laws.Sound.{TookOne}
-use Rattle.syn_mid.proofs.ty_laws.Knot.{out, ty-turn}
+use Rattle.syn_mid.proofs.generics_laws.Sound.{param_took, bound_took}
+use Rattle.syn_mid.proofs.ty_laws.Knot.{out, turn}
 use Rattle.syn_mid.proofs.ty_laws.Sound.{type_took, array_took, paren_took, ptr_took, reference_took, slice_took, tuple_took}
 
 -- some height
@@ -31,21 +33,27 @@ module _ {X : Type 0} (reads : Place → Reader X) (spells : Place → X → Tok
   abbrev T : ℕ → Bool → Relation (TypeTree X)
   T = TypeBelow spells false
 
-  below_took : (n : ℕ) (p : Bool) (s t : Stream) (x : TypeTree X) → ahead s < n → Visible s.rest → knot.ty reads p s ≡ Ok (x, t) → TookOne (T n p) s t x
-  unfolding types
-  below_took zero p s t x h v e = absurd (omega (arith, h))
-  below_took (suc n) p s t x h v e =
+  below_took : (n : ℕ) (q : Point) (s t : Stream) (x : Tree X q) → ahead s < n → Visible s.rest → knot.read reads q s ≡ Ok (x, t) → TookOne (Below spells false n q) s t x
+  unfolding types params
+  below_took zero q s t x h v e = absurd (omega (arith, h))
+  below_took (suc n) (a_type p) s t x h v e =
       type_took reads spells sound complete (T n) (types reads (ahead s))
-      (λ q u w y vu k. let b = out (ahead s) (knot.ty reads q) u w y k in let less = b.less in below_took n q u w y (omega (arith, h, less)) vu b.was)
-      p s t x v (sym (ty-turn reads p s) ∙ e)
+      (λ q u w y vu k. let b = out (ahead s) (knot.ty reads q) u w y k in let less = b.less in below_took n (a_type q) u w y (omega (arith, h, less)) vu b.was)
+      p s t x v (sym (turn reads (a_type p) s) ∙ e)
+  below_took (suc n) a_bound s t x h v e =
+      bound_took (Below spells false n a_param) (params reads (ahead s))
+      (λ u w y vu k. let b = out (ahead s) (knot.param reads) u w y k in let less = b.less in below_took n a_param u w y (omega (arith, h, less)) vu b.was)
+      s t x v (sym (turn reads a_bound s) ∙ e)
+  below_took (suc n) a_param s t x h v e = param_took s t x v (sym (turn reads a_param s) ∙ e)
 
   -- types where less than the limit is left
   pub types_sound : (limit : ℕ) (p : Bool) (s t : Stream) (x : TypeTree X) → Visible s.rest → types reads limit p s ≡ Ok (x, t) → TookOne (TypeBelow spells false limit p) s t x
   unfolding types
-  types_sound limit p s t x v e = let b = out limit (knot.ty reads p) s t x e in below_took limit p s t x b.less v b.was
+  types_sound limit p s t x v e = let b = out limit (knot.ty reads p) s t x e in below_took limit (a_type p) s t x b.less v b.was
 
-  pub ty_sound : (p : Bool) (s t : Stream) (x : TypeTree X) → Visible s.rest → knot.ty reads p s ≡ Ok (x, t) → TookOne (IsSomeType spells false p) s t x
-  ty_sound p s t x v e = at_height {Is = λ n. T n p} (suc (ahead s)) s t x (below_took (suc (ahead s)) p s t x (omega arith) v e)
+  -- at each point
+  pub some_sound : (q : Point) (s t : Stream) (x : Tree X q) → Visible s.rest → knot.read reads q s ≡ Ok (x, t) → TookOne (IsSome spells false q) s t x
+  some_sound q s t x v e = at_height {Is = λ n. Below spells false n q} (suc (ahead s)) s t x (below_took (suc (ahead s)) q s t x (omega arith) v e)
 
   pub array_sound : (s t : Stream) (x : TypeArrayOf (TypeTree X) (Expr X)) → Visible s.rest → knot.array reads s ≡ Ok (x, t) → TookOne (IsSomeArray spells false) s t x
   unfolding knot.array

@@ -1,4 +1,4 @@
--- The reads of types meet the laws of their grammars.
+-- The reads of types and of bounds meet the laws of their grammars.
 use Rattle.std.specs.Prelude.{IfOk}
 use Rattle.std.proofs.Common.{◌≡◌, Bool, true, false, None, Result, Ok, Err, subst}
 use Rattle.token_core.specs.Headline.{Grammar, Lawful}
@@ -11,6 +11,7 @@ use Rattle.token_core.specs.Toks.{Toks, done}
 use Rattle.token_core.proofs.Steps.{Reads_to}
 use Rattle.token_core.proofs.Took.{at, took_all, leaves_none}
 use Rattle.syn_mid.specs.declared.supplied.Expr.{Expr}
+use Rattle.syn_mid.specs.declared.generics.TypeParamBound.{TypeParamBound}
 use Rattle.syn_mid.specs.declared.ty.PointerMutability.{PointerMutability}
 use Rattle.syn_mid.specs.declared.ty.Type.{«Type» as TypeTree}
 use Rattle.syn_mid.specs.declared.ty.TypeArrayOf.{TypeArrayOf}
@@ -27,11 +28,14 @@ use Rattle.syn_mid.specs.Supplied.{Place, UsesUp, Reprints}
 use Rattle.syn_mid.specs.ty.Grammars as grammars
 use Rattle.syn_mid.specs.ty.Reading as reading
 use Rattle.syn_mid.specs.ty.Knot as knot
+use Rattle.syn_mid.specs.ty.Knot.{a_type, a_bound}
 use Rattle.syn_mid.specs.ty.Normal as normal
 use Rattle.syn_mid.specs.ty.Printing as printing
-use Rattle.syn_mid.specs.ty.Spelling.{IsMutability, IsInfer, IsNever, IsMacroType, IsPathType, IsSomeType, IsSomeArray, IsSomeParen, IsSomePtr, IsSomeReference, IsSomeSlice, IsSomeTuple}
+use Rattle.syn_mid.specs.ty.Heights.{IsSomeBound, IsSomeType, IsSomeArray, IsSomeParen, IsSomePtr, IsSomeReference, IsSomeSlice, IsSomeTuple}
+use Rattle.syn_mid.specs.ty.Spelling.{IsMutability, IsInfer, IsNever, IsMacroType, IsPathType}
 use Rattle.syn_mid.proofs.attr_laws.Reprint.{AgainFront}
 use Rattle.syn_mid.proofs.attr_laws.Sound.{TookOne, first_parts}
+use Rattle.syn_mid.proofs.generics_laws.Complete as bounds
 use Rattle.syn_mid.proofs.ty_laws.Complete as complete_parts
 use Rattle.syn_mid.proofs.ty_laws.Complete.{ends_done}
 use Rattle.syn_mid.proofs.ty_laws.KnotComplete as c
@@ -104,11 +108,18 @@ module _ {X : Type 0} (reads : Place → Reader X) (spells : Place → X → Tok
     (complete : (p : Place) (s : Stream) (x : X) → spells p x s.rest → (t : Stream) × (reads p s ≡ Ok (x, t)) × UsesUp s t)
     (reprint : (p : Place) (x : X) (l : Toks) → spells p x l → Reprints (spells p) (normals p) (prints p) x l) where
   pub ty_lawful : (plus : Bool) → Lawful (grammars.ty reads spells normals prints plus)
-  ty_lawful plus = lawful_by (λ clear. IsSomeType spells clear plus) (normal.ty normals) (printing.ty prints) (knot.ty reads plus) (o.ty_sound reads spells sound complete plus)
-      (λ s a h. c.some_complete reads spells complete plus a s.rest done s.left s.last s.scope h (ends_done plus)) (r.ty_again reads spells normals prints complete reprint plus)
+  ty_lawful plus = lawful_by (λ clear. IsSomeType spells clear plus) (normal.ty normals) (printing.ty prints) (knot.ty reads plus) (o.some_sound reads spells sound complete (a_type plus))
+      (λ s a h. c.some_complete reads spells complete (a_type plus) a s.rest done s.left s.last s.scope h (ends_done plus)) (r.ty_again reads spells normals prints complete reprint plus)
 
   pub ty_front : (plus : Bool) (s t : Stream) (q : Result (TypeTree X) Refusal) → Reads (knot.ty reads plus s) q t → Visible s.rest → t.left ≡ None → IfOk q (λ x. IsSomeType spells false plus x s.rest t.rest)
-  ty_front plus = front_by (λ clear. IsSomeType spells clear plus) (normal.ty normals) (printing.ty prints) (knot.ty reads plus) (o.ty_sound reads spells sound complete plus)
+  ty_front plus = front_by (λ clear. IsSomeType spells clear plus) (normal.ty normals) (printing.ty prints) (knot.ty reads plus) (o.some_sound reads spells sound complete (a_type plus))
+
+  pub bound_lawful : Lawful (grammars.bound reads spells normals prints)
+  bound_lawful = lawful_by (IsSomeBound spells) (normal.bound normals) (printing.bound prints) (knot.bound reads) (o.some_sound reads spells sound complete a_bound)
+      (λ s a h. c.some_complete reads spells complete a_bound a s.rest done s.left s.last s.scope h bounds.ends_done) (r.bound_again reads spells normals prints complete reprint)
+
+  pub bound_front : (s t : Stream) (q : Result (TypeParamBound X) Refusal) → Reads (knot.bound reads s) q t → Visible s.rest → t.left ≡ None → IfOk q (λ x. IsSomeBound spells false x s.rest t.rest)
+  bound_front = front_by (IsSomeBound spells) (normal.bound normals) (printing.bound prints) (knot.bound reads) (o.some_sound reads spells sound complete a_bound)
 
   pub array_lawful : Lawful (grammars.array reads spells normals prints)
   array_lawful = lawful_by (IsSomeArray spells) (normal.array normals) (printing.array prints) (knot.array reads) (o.array_sound reads spells sound complete)

@@ -28,6 +28,7 @@ use Rattle.syn_mid.specs.declared.generics.TypeParam.{TypeParam, roll-TypeParam,
 use Rattle.syn_mid.specs.declared.generics.TypeParamBound.{TypeParamBound, roll-TypeParamBound, map-TypeParamBound}
 use Rattle.syn_mid.specs.declared.generics.TypeParamBound.TheVariants as b
 use Rattle.syn_mid.specs.declared.path.Path.{Path}
+use Rattle.syn_mid.specs.declared.path.PathStyle.{PathStyle}
 use Rattle.syn_mid.specs.declared.path.QSelfOf.{QSelfOf}
 use Rattle.syn_mid.specs.declared.supplied.Expr.{Expr}
 use Rattle.syn_mid.specs.declared.ty.Abi.{Abi}
@@ -148,14 +149,14 @@ module _ {X : Type 0} (nx : Place → X → X) (px : Place → X → Print) (sam
   SameSelf None = Unit {0}
   SameSelf (Some q) = Same q.ty
 
-  path_parts : (q : Option (QSelfOf (TypeTree X))) (z : Path X) → SameSelf q → printing.path_type px (normal.path_type nx (qualified_of q z)) ≡ printing.path_type px (qualified_of q z)
-  path_parts None z h = refl
-  path_parts (Some q) z h = ap (λ u. p.mark q.lt_token ++ (u ++ qualified as_written q z)) h
+  path_parts : (style : PathStyle) (q : Option (QSelfOf (TypeTree X))) (z : Path X) → SameSelf q → printing.qpath px style (normal.optional_qself nx q) z ≡ printing.qpath px style q z
+  path_parts style None z h = refl
+  path_parts style (Some q) z h = ap (λ u. p.mark q.lt_token ++ (u ++ qualified style q z)) h
 
   path_same : (q : Option (QSelfOf (TypeTree X))) (z : Path X) → SameSelf q → Same (v.Path (qualified_of q z))
   path_same q z h =
       let x = qualified_of q z in
-      ap (ty px) (normal-Path nx x) ∙ ty-Path px (normal.path_type nx x) ∙ path_parts q z h ∙ sym (ty-Path px x)
+      ap (ty px) (normal-Path nx x) ∙ ty-Path px (normal.path_type nx x) ∙ path_parts as_written q z h ∙ sym (ty-Path px x)
 
   path_held : (q : Option (QSelfOf HeldType)) (z : Path X) → Same (roll-Type X (map-Type X HeldParam HeldBound HeldType HeldTypeParam HeldFnPtr (GenericParam X) (TypeParamBound X) (TypeTree X) (TypeParam X) (TypeFnPtr X) (λ a. a.0) (λ a. a.0) (λ a. a.0) (λ a. a.0) (λ a. a.0) (o.Path (qualified_of q z))))
   path_held None z = subst Same (sym (v.rolls-Path (qualified_of None z))) (path_same None z tt)
@@ -365,6 +366,10 @@ module _ {X : Type 0} (nx : Place → X → X) (px : Place → X → Print) (sam
   ty_same =
       ind-Type X SameParam SameBound Same SameTypeParam SameFnPtr (λ x y is. subst (λ z. SameParam (roll-GenericParam X z)) is (param_layer y)) (λ x y is. subst (λ z. SameBound (roll-TypeParamBound X z)) is (bound_layer y)) (λ x y is. subst (λ z. Same (roll-Type X z)) is (layer_same y))
       (λ x y is. subst (λ z. SameTypeParam (roll-TypeParam X z)) is (type_layer y)) (λ x y is. subst (λ z. SameFnPtr (roll-TypeFnPtr X z)) is (fn_layer y))
+
+  pub qpath_same : (style : PathStyle) (q : Option (QSelfOf (TypeTree X))) (z : Path X) → printing.qpath px style (normal.optional_qself nx q) z ≡ printing.qpath px style q z
+  qpath_same style None z = refl
+  qpath_same style (Some q) z = path_parts style (Some q) z (ty_same q.ty)
 
   pub param_same : (x : GenericParam X) → param px (normal.param nx x) ≡ param px x
   param_same =

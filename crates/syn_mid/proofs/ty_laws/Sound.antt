@@ -71,7 +71,7 @@ module _ {A B : Type 0} {Is : Relation A} {Js : Relation B} where
   took_as f s t a b g h k = record { left = k.left; seen = k.seen; spelt = λ n. subst (λ z. Js z s.rest t.rest) g (h s.rest t.rest (k.spelt n)) }
 
 module _ {A : Type 0} {Is : Relation A} where
-  taken_as : (s t : Stream) (a b : A) → a ≡ b → Is a s.rest t.rest → t.left ≡ s.left → Taken Is s t b
+  pub taken_as : (s t : Stream) (a b : A) → a ≡ b → Is a s.rest t.rest → t.left ≡ s.left → Taken Is s t b
   taken_as s t a b g i h = record { spelt = subst (λ z. Is z s.rest t.rest) g i; left = h }
 
   -- a read that leaves what is left over as it was
@@ -93,7 +93,7 @@ module _ {A : Type 0} {Is : Relation A} where
 
 module _ {A : Type 0} {Is : Relation A} where
   -- a token that may be there
-  optional_sound : (sees : Toks → Bool) (p : Reader A) → ((s t : Stream) (a : A) → Visible s.rest → p s ≡ Ok (a, t) → TookOne Is s t a) →
+  pub optional_sound : (sees : Toks → Bool) (p : Reader A) → ((s t : Stream) (a : A) → Visible s.rest → p s ≡ Ok (a, t) → TookOne Is s t a) →
       (s t : Stream) (o : Option A) → Visible s.rest → optional sees p s ≡ Ok (o, t) → TookOne (IsOptional Is) s t o
   optional_sound sees p h s t o v e =
       elim (branch (sees s.rest) _ _ s (Ok (o, t)) e) [
@@ -104,11 +104,17 @@ module _ {A : Type 0} {Is : Relation A} where
 
 -- ---- parts
 
-named_sound : {n : ℕ} (s t : Stream) (w : Word n) → Visible s.rest → marks.read_named n s ≡ Ok (w, t) → TookOne IsWord s t w
+pub named_sound : {n : ℕ} (s t : Stream) (w : Word n) → Visible s.rest → marks.read_named n s ≡ Ok (w, t) → TookOne IsWord s t w
 named_sound {n} s t w v e = plainly {Is = IsWord {n = n}} word_visible s t w v (word_sound {n = n} s t w v e)
 
-life_sound : (s t : Stream) (x : Lifetime) → Visible s.rest → read_lifetime s ≡ Ok (x, t) → TookOne IsLifetime s t x
+pub life_sound : (s t : Stream) (x : Lifetime) → Visible s.rest → read_lifetime s ≡ Ok (x, t) → TookOne IsLifetime s t x
 life_sound s t x v e = plainly {Is = IsLifetime} lifetime_visible s t x v (lifetime_sound s t x v e)
+
+pub comma_seen : (s t : Stream) (c : Comma) → Visible s.rest → reading.comma s ≡ Ok (c, t) → Visible t.rest
+comma_seen s t c v e = mark_visible false {n = 4} {k = 1} c s.rest t.rest (mark_sound {n = 4} {k = 1} refl (omega arith) s t c v e).spelt v
+
+pub comma_took : (s t : Stream) (c : Comma) → Visible s.rest → reading.comma s ≡ Ok (c, t) → t.left ≡ None → (s.left ≡ None) × IsMark false c s.rest t.rest
+comma_took s t c v e h = let k = mark_sound {n = 4} {k = 1} refl (omega arith) s t c v e in (sym k.left ∙ h, k.spelt)
 
 pub mutability_sound : (s t : Stream) (q : PointerMutability) → Visible s.rest → reading.mutability s ≡ Ok (q, t) → Taken IsMutability s t q
 unfolding reading.mutability
@@ -283,12 +289,6 @@ module _ {X : Type 0} (reads : Place → Reader X) (spells : Place → X → Tok
 
   abbrev Further : Many (TypeTree X) Comma → Toks → Toks → Type 0
   Further w l r = AreListed (λ (_ : Bool). T true) (IsMark false) Anywhere false w.0 w.1 l r
-
-  comma_seen : (s t : Stream) (c : Comma) → Visible s.rest → reading.comma s ≡ Ok (c, t) → Visible t.rest
-  comma_seen s t c v e = mark_visible false {n = 4} {k = 1} c s.rest t.rest (mark_sound {n = 4} {k = 1} refl (omega arith) s t c v e).spelt v
-
-  comma_took : (s t : Stream) (c : Comma) → Visible s.rest → reading.comma s ≡ Ok (c, t) → t.left ≡ None → (s.left ≡ None) × IsMark false c s.rest t.rest
-  comma_took s t c v e h = let k = mark_sound {n = 4} {k = 1} refl (omega arith) s t c v e in (sym k.left ∙ h, k.spelt)
 
   value_took : (s t : Stream) (x : TypeTree X) → Visible s.rest → typ true s ≡ Ok (x, t) → t.left ≡ None → (s.left ≡ None) × T true x s.rest t.rest
   value_took s t x v e h = let k = took true s t x v e in (k.left h, k.spelt h)

@@ -1,5 +1,5 @@
 -- On every type, parameter and bound, the normal form is its own, where that of a supplied subtree is.
-use Rattle.std.proofs.Common.{◌≡◌, List, [], ◌∷◌, Option, Some, None, map, option_map, refl, sym, ◌∙◌, ap, subst}
+use Rattle.std.proofs.Common.{◌≡◌, List, [], ◌∷◌, Option, Some, None, map, refl, sym, ◌∙◌, ap, subst}
 use Rattle.token_core.specs.Loops.{Many}
 use Rattle.token_core.specs.declared.lifetime.Lifetime.{Lifetime}
 use Rattle.token_core.specs.declared.mark.Mark.{Mark}
@@ -136,7 +136,7 @@ module _ {X : Type 0} (nx : Place → X → X) (own : (w : Place) (x : X) → nx
   OwnSelf None = Unit {0}
   OwnSelf (Some q) = Own q.ty
 
-  self_stays : (q : Option (QSelfOf (TypeTree X))) → OwnSelf q → option_map (normal.qself nx) (option_map (normal.qself nx) q) ≡ option_map (normal.qself nx) q
+  self_stays : (q : Option (QSelfOf (TypeTree X))) → OwnSelf q → normal.optional_qself nx (normal.optional_qself nx q) ≡ normal.optional_qself nx q
   self_stays None h = refl
   self_stays (Some q) h = ap (λ u. Some (qself_of q.lt_token u q.position q.as_token q.gt_token)) h
 
@@ -338,6 +338,10 @@ module _ {X : Type 0} (nx : Place → X → X) (own : (w : Place) (x : X) → nx
   ty_stays =
       ind-Type X OwnParam OwnBound Own OwnTypeParam OwnFnPtr (λ x y is. subst (λ z. OwnParam (roll-GenericParam X z)) is (param_layer y)) (λ x y is. subst (λ z. OwnBound (roll-TypeParamBound X z)) is (bound_layer y)) (λ x y is. subst (λ z. Own (roll-Type X z)) is (layer_stays y))
       (λ x y is. subst (λ z. OwnTypeParam (roll-TypeParam X z)) is (type_layer y)) (λ x y is. subst (λ z. OwnFnPtr (roll-TypeFnPtr X z)) is (fn_layer y))
+
+  pub qself_stays : (q : Option (QSelfOf (TypeTree X))) → normal.optional_qself nx (normal.optional_qself nx q) ≡ normal.optional_qself nx q
+  qself_stays None = refl
+  qself_stays (Some q) = self_stays (Some q) (ty_stays q.ty)
 
   pub param_stays : (x : GenericParam X) → param nx (param nx x) ≡ param nx x
   param_stays =

@@ -36,10 +36,11 @@ use Rattle.syn_mid.specs.Supplied.{Place}
 use Rattle.syn_mid.specs.mac.Macros.{Held, macro_of}
 use Rattle.syn_mid.specs.mac.Reading.{bang, held, body, call_after}
 use Rattle.syn_mid.specs.path.Reading.{bare_path, plain_path, sees_angle}
-use Rattle.syn_mid.specs.ty.Knot.{ahead, below, type_at, ty, types}
+use Rattle.syn_mid.specs.ty.Knot.{ahead, below, a_type, read_at, read, ty, types}
 use Rattle.syn_mid.specs.ty.Reading.{InParens, one, elements, sees_plus, sees_star, sees_and, sees_bang, sees_named, sees_call, begins_path, star, and, mutable, mutability, infer, never, ended, path_or_macro, paren_content, bracket_content, held_in_parens, held_in_brackets, ptr, reference, paren_or_tuple, slice_or_array, by_mark, type_step}
 use Rattle.syn_mid.specs.ty.Types.{Mut, macro_type_of, path_type_of, paren_of, tuple_of, ptr_of, reference_of, infer_of, never_of}
 use Rattle.syn_mid.proofs.path_laws.Turns.{path_takes}
+use Rattle.syn_mid.proofs.ty_laws.Ahead.{named_word_takes}
 use Rattle.syn_mid.proofs.ty_laws.GroupsSound.{group_takes}
 use Rattle.syn_mid.proofs.ty_laws.Knot.{out}
 
@@ -54,11 +55,6 @@ stays : {A : Type 0} (x y : A) (s t : Stream) → ◌≡◌ {A = Outcome A} (Ok 
 stays x y s t e = subst (λ (z : Stream). NoMore s z) (same_pair x y s t e).1 (omega arith)
 
 -- ---- parts
-
-named_word_takes : (n : ℕ) (s t : Stream) (w : Word n) → marks.read_named n s ≡ Ok (w, t) → Less s t
-named_word_takes n s t w e =
-    let k = mapped (read_word (is_text (marks.text_of n)) (marks.word_name n) s) (λ (i : Ident). marks.word_of n i.span) w t e in
-    word_takes (is_text (marks.text_of n)) (marks.word_name n) s t k.value k.was
 
 mutability_keeps : (s t : Stream) (q : PointerMutability) → mutability s ≡ Ok (q, t) → NoMore s t
 unfolding mutability
@@ -233,12 +229,13 @@ module _ {X : Type 0} (supplied : Place → Reader X) (typ : Bool → Reader (Ty
 -- ---- at the knot
 
 module _ {X : Type 0} (supplied : Place → Reader X) where
-  at_takes : (n : ℕ) (p : Bool) (s t : Stream) (x : TypeTree X) → type_at supplied n p s ≡ Ok (x, t) → size t.rest < size s.rest
+  at_takes : (n : ℕ) (p : Bool) (s t : Stream) (x : TypeTree X) → read_at supplied n (a_type p) s ≡ Ok (x, t) → size t.rest < size s.rest
   at_takes zero p s t x e = cc
-  at_takes (suc n) p s t x e = step_takes supplied (λ q. below (ahead s) (type_at supplied n q)) (λ q u w y h. at_takes n q u w y (out (ahead s) (type_at supplied n q) u w y h).was) p s t x e
+  at_takes (suc n) p s t x e =
+      step_takes supplied (λ q. below (ahead s) (read_at supplied n (a_type q))) (λ q u w y h. at_takes n q u w y (out (ahead s) (read_at supplied n (a_type q)) u w y h).was) p s t x e
 
   pub type_takes : (p : Bool) (s t : Stream) (x : TypeTree X) → ty supplied p s ≡ Ok (x, t) → size t.rest < size s.rest
-  unfolding ty
+  unfolding read
   type_takes p s t x e = at_takes (suc (ahead s)) p s t x e
 
   pub types_takes : (limit : ℕ) (p : Bool) (s t : Stream) (x : TypeTree X) → types supplied limit p s ≡ Ok (x, t) → size t.rest < size s.rest

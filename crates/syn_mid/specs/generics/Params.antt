@@ -57,6 +57,14 @@ bound_lifetimes_of f l v g = record { for_token = f; lt_token = l; lifetimes = v
 abbrev pub trait_bound_of : {G X : Type 0} → Option Paren → Option (BoundLifetimesOf G) → TraitBoundModifiers → Option (Mark 22 1) → Path X → TraitBoundOf G X
 trait_bound_of t l m q p = record { paren_token = t; lifetimes = l; modifiers = m; maybe = q; path = p }
 
+-- a trait by its path, without parentheses
+abbrev pub named_bound : {G X : Type 0} → Option (BoundLifetimesOf G) → Option (Mark 22 1) → Path X → TraitBoundOf G X
+named_bound l q p = trait_bound_of None l (record {}) q p
+
+-- a bound in parentheses
+abbrev pub held_bound : {G X : Type 0} → Paren → TraitBoundOf G X → TraitBoundOf G X
+held_bound t x = trait_bound_of (Some t) x.lifetimes x.modifiers x.maybe x.path
+
 abbrev pub capture_of : Word 17 → Mark 2 1 → Many CapturedParam Comma → Mark 3 1 → PreciseCapture
 capture_of u l v g = record { use_token = u; lt_token = l; params = v; gt_token = g }
 
@@ -69,6 +77,10 @@ const_param_of a w i c t d = record { attrs = a; const_token = w; ident = i; col
 module _ {X : Type 0} where
   abbrev pub lifetime_param_of : Attrs X → Lifetime → Option Colon → Many Lifetime Plus → LifetimeParam X
   lifetime_param_of a l c b = record { attrs = a; lifetime = l; colon_token = c; bounds = b }
+
+  -- a lifetime alone
+  abbrev pub lone_lifetime : Lifetime → LifetimeParam X
+  lone_lifetime l = lifetime_param_of [] l None ([], [])
 
   abbrev pub where_clause_of : Word 18 → Many (WherePredicate X) Comma → WhereClause X
   where_clause_of w v = record { where_token = w; predicates = v }

@@ -21,7 +21,7 @@ use Rattle.syn_mid.specs.declared.pat.PatWild.{PatWild}
 use Rattle.syn_mid.specs.declared.supplied.Expr.{Expr}
 use Rattle.syn_mid.specs.attr.Normal as attr
 use Rattle.syn_mid.specs.generics.NormalShapes.{many}
-use Rattle.syn_mid.specs.pat.Pats.{Pat, Attr, Attrs, guard_of, binding_of, or_of, paren_of, reference_of, slice_of, struct_of, tuple_of, tuple_struct_of, typed_of, field_of, rest_of, wild_of}
+use Rattle.syn_mid.specs.pat.Pats.{Pat, Attr, Qual, Attrs, guard_of, binding_of, or_of, paren_of, reference_of, slice_of, struct_of, tuple_of, tuple_struct_of, typed_of, field_of, rest_of, wild_of}
 use Rattle.syn_mid.specs.ty.Normal as ty
 
 module _ {X : Type 0} (normal : Place → X → X) where
@@ -46,7 +46,7 @@ module _ {X : Type 0} (normal : Place → X → X) where
   field_around x = field_of (attrs x.attrs) x.member x.colon_token x.pat
 
   -- a pattern whose patterns within are in their normal form
-  abbrev pub pat_step : o.PatOf-F (Attr X) X (Pat X) → Pat X
+  abbrev pub pat_step : o.PatOf-F (Attr X) (Qual X) X (Pat X) → Pat X
   pat_step (o.Const x) = v.Const (attr.expr_const normal x)
   pat_step (o.Guard x) = v.Guard (guard_of (attrs x.attrs) x.pat x.if_token (guard x.guard))
   pat_step (o.Ident x) = v.Ident (binding_of (attrs x.attrs) x.by_ref x.mutability x.ident x.subpat)
@@ -59,15 +59,15 @@ module _ {X : Type 0} (normal : Place → X → X) where
   pat_step (o.Reference x) = v.Reference (reference_of (attrs x.attrs) x.and_token x.mutability x.pat)
   pat_step (o.Rest x) = v.Rest (rest x)
   pat_step (o.Slice x) = v.Slice (slice_of (attrs x.attrs) x.bracket_token x.elems)
-  pat_step (o.Struct x) = v.Struct (struct_of (attrs x.attrs) x.path x.brace_token (many field_around x.fields) (optional_rest x.rest))
+  pat_step (o.Struct x) = v.Struct (struct_of (attrs x.attrs) (ty.optional_qself normal x.qself) x.path x.brace_token (many field_around x.fields) (optional_rest x.rest))
   pat_step (o.Tuple x) = v.Tuple (tuple_of (attrs x.attrs) x.paren_token x.elems)
-  pat_step (o.TupleStruct x) = v.TupleStruct (tuple_struct_of (attrs x.attrs) x.path x.paren_token x.elems)
+  pat_step (o.TupleStruct x) = v.TupleStruct (tuple_struct_of (attrs x.attrs) (ty.optional_qself normal x.qself) x.path x.paren_token x.elems)
   pat_step (o.«Type» x) = v.«Type» (typed_of (attrs x.attrs) x.pat x.colon_token (ty.ty normal x.ty))
   pat_step (o.Verbatim x) = v.Verbatim x
   pat_step (o.Wild x) = v.Wild (wild x)
 
   unfoldable pub pat : Pat X → Pat X
-  pat = fold-PatOf (Attr X) X (Pat X) pat_step
+  pat = fold-PatOf (Attr X) (Qual X) X (Pat X) pat_step
 
   abbrev pub subpattern : Option (Mark 6 1 × Pat X) → Option (Mark 6 1 × Pat X)
   subpattern None = None
@@ -94,14 +94,14 @@ module _ {X : Type 0} (normal : Place → X → X) where
   abbrev pub slice : PatSliceOf (Pat X) (Attr X) → PatSliceOf (Pat X) (Attr X)
   slice x = slice_of (attrs x.attrs) x.bracket_token (many (pat) x.elems)
 
-  abbrev pub fielded : PatStructOf (Pat X) (Attr X) X → PatStructOf (Pat X) (Attr X) X
-  fielded x = struct_of (attrs x.attrs) x.path x.brace_token (many (field) x.fields) (optional_rest x.rest)
+  abbrev pub fielded : PatStructOf (Pat X) (Attr X) (Qual X) X → PatStructOf (Pat X) (Attr X) (Qual X) X
+  fielded x = struct_of (attrs x.attrs) (ty.optional_qself normal x.qself) x.path x.brace_token (many (field) x.fields) (optional_rest x.rest)
 
   abbrev pub tuple : PatTupleOf (Pat X) (Attr X) → PatTupleOf (Pat X) (Attr X)
   tuple x = tuple_of (attrs x.attrs) x.paren_token (many (pat) x.elems)
 
-  abbrev pub tuple_struct : PatTupleStructOf (Pat X) (Attr X) X → PatTupleStructOf (Pat X) (Attr X) X
-  tuple_struct x = tuple_struct_of (attrs x.attrs) x.path x.paren_token (many (pat) x.elems)
+  abbrev pub tuple_struct : PatTupleStructOf (Pat X) (Attr X) (Qual X) X → PatTupleStructOf (Pat X) (Attr X) (Qual X) X
+  tuple_struct x = tuple_struct_of (attrs x.attrs) (ty.optional_qself normal x.qself) x.path x.paren_token (many (pat) x.elems)
 
   abbrev pub typed : PatTypeOf (Pat X) (Attr X) X → PatTypeOf (Pat X) (Attr X) X
   typed x = typed_of (attrs x.attrs) (pat x.pat) x.colon_token (ty.ty normal x.ty)

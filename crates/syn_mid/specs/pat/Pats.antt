@@ -11,6 +11,7 @@ use Rattle.token_core.specs.Loops.{Many}
 use Rattle.syn_mid.specs.declared.attr.AttributeOf.{AttributeOf}
 use Rattle.syn_mid.specs.declared.attr.Meta.{Meta}
 use Rattle.syn_mid.specs.declared.path.Path.{Path}
+use Rattle.syn_mid.specs.declared.path.QSelfOf.{QSelfOf}
 use Rattle.syn_mid.specs.declared.pat.FieldPatOf.{FieldPatOf}
 use Rattle.syn_mid.specs.declared.pat.PatOf.{PatOf, out-PatOf}
 use Rattle.syn_mid.specs.declared.pat.PatOf.TheOpen as o
@@ -36,9 +37,13 @@ Attr X = AttributeOf (Meta X)
 abbrev pub Attrs : Type 0 → Type 0
 Attrs X = List (Attr X)
 
--- a pattern with the attributes of this crate
+-- what qualifies a path: a type
+abbrev pub Qual : Type 0 → Type 0
+Qual X = QSelfOf (TypeTree X)
+
+-- a pattern with the attributes and types of this crate
 abbrev pub Pat : Type 0 → Type 0
-Pat X = PatOf (Attr X) X
+Pat X = PatOf (Attr X) (Qual X) X
 
 abbrev pub guard_of : {P A X : Type 0} → List A → P → Word 11 → Expr X → PatGuardOf P A X
 guard_of a b c d = record { attrs = a; pat = b; if_token = c; guard = d }
@@ -64,14 +69,14 @@ slice_of a b c = record { attrs = a; bracket_token = b; elems = c }
 abbrev pub field_of : {P A : Type 0} → List A → Member → Option (Mark 7 1) → P → FieldPatOf P A
 field_of a b c d = record { attrs = a; member = b; colon_token = c; pat = d }
 
-abbrev pub struct_of : {P A X : Type 0} → List A → Path X → Brace → Many (FieldPatOf P A) Comma → Option (PatRest X) → PatStructOf P A X
-struct_of a b c d e = record { attrs = a; path = b; brace_token = c; fields = d; rest = e }
+abbrev pub struct_of : {P A Q X : Type 0} → List A → Option Q → Path X → Brace → Many (FieldPatOf P A) Comma → Option (PatRest X) → PatStructOf P A Q X
+struct_of a b c d e f = record { attrs = a; qself = b; path = c; brace_token = d; fields = e; rest = f }
 
 abbrev pub tuple_of : {P A : Type 0} → List A → Paren → Many P Comma → PatTupleOf P A
 tuple_of a b c = record { attrs = a; paren_token = b; elems = c }
 
-abbrev pub tuple_struct_of : {P A X : Type 0} → List A → Path X → Paren → Many P Comma → PatTupleStructOf P A X
-tuple_struct_of a b c d = record { attrs = a; path = b; paren_token = c; elems = d }
+abbrev pub tuple_struct_of : {P A Q X : Type 0} → List A → Option Q → Path X → Paren → Many P Comma → PatTupleStructOf P A Q X
+tuple_struct_of a b c d e = record { attrs = a; qself = b; path = c; paren_token = d; elems = e }
 
 abbrev pub typed_of : {P A X : Type 0} → List A → P → Mark 7 1 → TypeTree X → PatTypeOf P A X
 typed_of a b c d = record { attrs = a; pat = b; colon_token = c; ty = d }
@@ -80,7 +85,7 @@ abbrev pub wild_of : {X : Type 0} → Attrs X → Word 19 → PatWild X
 wild_of a b = record { attrs = a; underscore_token = b }
 
 module _ {X : Type 0} where
-  abbrev pub is_rest_layer : {T : Type 0} → o.PatOf-F (Attr X) X T → Bool
+  abbrev pub is_rest_layer : {T : Type 0} → o.PatOf-F (Attr X) (Qual X) X T → Bool
   is_rest_layer (o.Const x) = false
   is_rest_layer (o.Guard x) = false
   is_rest_layer (o.Ident x) = false
@@ -102,4 +107,4 @@ module _ {X : Type 0} where
 
   -- whether it is `..`
   abbrev pub is_rest : Pat X → Bool
-  is_rest x = is_rest_layer (out-PatOf (Attr X) X x)
+  is_rest x = is_rest_layer (out-PatOf (Attr X) (Qual X) X x)

@@ -1,5 +1,5 @@
 -- What patterns print.
-use Rattle.std.specs.Prelude.{ℕ, Bool, if◌then◌else◌, List, [], ◌∷◌, ◌++◌, Option, Some, None}
+use Rattle.std.specs.Prelude.{ℕ, Bool, false, if◌then◌else◌, List, [], ◌∷◌, ◌++◌, Option, Some, None}
 use Rattle.token_core.specs.declared.mark.Mark.{Mark}
 use Rattle.token_core.specs.declared.member.Member.{Member}
 use Rattle.token_core.specs.declared.word.Word.{Word}
@@ -31,17 +31,23 @@ use Rattle.syn_mid.specs.declared.pat.PatTypeOf.{PatTypeOf}
 use Rattle.syn_mid.specs.declared.pat.PatWild.{PatWild}
 use Rattle.syn_mid.specs.attr.Printing.{literal, expr_const, expr_macro, expr_path, range, outer, at_place}
 use Rattle.syn_mid.specs.generics.Shapes.{optional}
-use Rattle.syn_mid.specs.pat.Pats.{Pat, Attr, is_rest, is_rest_layer}
-use Rattle.syn_mid.specs.path.Printing.{path, expr_style}
+use Rattle.syn_mid.specs.pat.Pats.{Pat, Attr, Qual, is_rest, is_rest_layer}
+use Rattle.syn_mid.specs.path.Printing.{expr_style}
 use Rattle.syn_mid.specs.ty.Printing as ty
 use Rattle.syn_mid.specs.ty.Types.{Comma, comma}
 
--- a comma after a lone element that has none, which sets the tuple apart from a pattern in parentheses, unless the element is `..`
+-- whether the first of them is so
+abbrev pub begins : {T : Type 0} → (T → Bool) → List T → Bool
+begins rest [] = false
+begins rest (x ∷ all) = rest x
+
+-- a comma after a lone element that has none, unless it is left out
+abbrev pub comma_unless : {T : Type 0} → Bool → List T → List Comma → Print
+comma_unless out all cs = if out then [] else ty.lone_comma all cs
+
+-- it sets the tuple apart from a pattern in parentheses, as `..` does
 abbrev pub tuple_comma : {T : Type 0} → (T → Bool) → List T → List Comma → Print
-tuple_comma rest [] cs = []
-tuple_comma rest (x ∷ []) [] = if rest x then [] else p.mark comma
-tuple_comma rest (x ∷ []) (c ∷ cs) = []
-tuple_comma rest (x ∷ y ∷ all) cs = []
+tuple_comma rest all cs = comma_unless (begins rest all) all cs
 
 -- what a supplied subtree prints in a place is given
 module _ {X : Type 0} (prints : Place → X → Print) where
@@ -67,7 +73,7 @@ module _ {X : Type 0} (prints : Place → X → Print) where
   rest_comma None v = []
   rest_comma (Some x) v = ty.last_comma comma v.0 v.1
 
-  abbrev pub struct_rest : {P : Type 0} → PatStructOf P (Attr X) X → Print
+  abbrev pub struct_rest : {P Q : Type 0} → PatStructOf P (Attr X) Q X → Print
   struct_rest x = rest_comma x.rest x.fields ++ optional_rest x.rest
 
   -- a binding before its `@`
@@ -119,15 +125,15 @@ module _ {X : Type 0} (prints : Place → X → Print) where
     abbrev pub fields_by : Many (FieldPatOf P (Attr X)) Comma → Print
     fields_by v = joined field_by p.mark v.0 v.1
 
-    abbrev pub struct_by : PatStructOf P (Attr X) X → Print
-    struct_by x = attrs x.attrs ++ (path expr_style x.path ++ p.group Brace (stream_of_trees (fields_by x.fields ++ struct_rest x)) x.brace_token.span)
+    abbrev pub struct_by : PatStructOf P (Attr X) (Qual X) X → Print
+    struct_by x = attrs x.attrs ++ (ty.qpath prints expr_style x.qself x.path ++ p.group Brace (stream_of_trees (fields_by x.fields ++ struct_rest x)) x.brace_token.span)
 
     -- it is given which patterns are `..`
     abbrev pub tuple_by : (P → Bool) → PatTupleOf P (Attr X) → Print
     tuple_by rest x = attrs x.attrs ++ p.group Parenthesis (stream_of_trees (list_by x.elems ++ tuple_comma rest x.elems.0 x.elems.1)) x.paren_token.span
 
-    abbrev pub tuple_struct_by : PatTupleStructOf P (Attr X) X → Print
-    tuple_struct_by x = attrs x.attrs ++ (path expr_style x.path ++ p.group Parenthesis (stream_of_trees (list_by x.elems)) x.paren_token.span)
+    abbrev pub tuple_struct_by : PatTupleStructOf P (Attr X) (Qual X) X → Print
+    tuple_struct_by x = attrs x.attrs ++ (ty.qpath prints expr_style x.qself x.path ++ p.group Parenthesis (stream_of_trees (list_by x.elems)) x.paren_token.span)
 
     abbrev pub typed_by : PatTypeOf P (Attr X) X → Print
     typed_by x = attrs x.attrs ++ (print x.pat ++ (p.mark x.colon_token ++ ty.ty prints x.ty))
@@ -144,7 +150,7 @@ module _ {X : Type 0} (prints : Place → X → Print) where
   abbrev pub rest_of : Printed → Bool
   rest_of z = z.1
 
-  abbrev pub pat_layer : o.PatOf-F (Attr X) X Printed → Print
+  abbrev pub pat_layer : o.PatOf-F (Attr X) (Qual X) X Printed → Print
   pat_layer (o.Const x) = expr_const prints x
   pat_layer (o.Guard x) = guarded_by print_of x
   pat_layer (o.Ident x) = binding_by print_of x
@@ -164,11 +170,11 @@ module _ {X : Type 0} (prints : Place → X → Print) where
   pat_layer (o.Verbatim x) = trees x
   pat_layer (o.Wild x) = wild x
 
-  abbrev pub pat_step : o.PatOf-F (Attr X) X Printed → Printed
+  abbrev pub pat_step : o.PatOf-F (Attr X) (Qual X) X Printed → Printed
   pat_step x = (pat_layer x, is_rest_layer x)
 
   unfoldable pub printed : Pat X → Printed
-  printed = fold-PatOf (Attr X) X Printed pat_step
+  printed = fold-PatOf (Attr X) (Qual X) X Printed pat_step
 
   unfoldable pub pat : Pat X → Print
   pat x = (printed x).0
@@ -200,13 +206,13 @@ module _ {X : Type 0} (prints : Place → X → Print) where
   abbrev pub fields : Many (FieldPatOf (Pat X) (Attr X)) Comma → Print
   fields = fields_by pat
 
-  abbrev pub fielded : PatStructOf (Pat X) (Attr X) X → Print
+  abbrev pub fielded : PatStructOf (Pat X) (Attr X) (Qual X) X → Print
   fielded = struct_by pat
 
   abbrev pub tuple : PatTupleOf (Pat X) (Attr X) → Print
   tuple = tuple_by pat is_rest
 
-  abbrev pub tuple_struct : PatTupleStructOf (Pat X) (Attr X) X → Print
+  abbrev pub tuple_struct : PatTupleStructOf (Pat X) (Attr X) (Qual X) X → Print
   tuple_struct = tuple_struct_by pat
 
   abbrev pub typed : PatTypeOf (Pat X) (Attr X) X → Print

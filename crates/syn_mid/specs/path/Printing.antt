@@ -51,12 +51,16 @@ module _ {X : Type 0} where
   abbrev pub parenthesized : ParenthesizedGenericArguments X → Print
   parenthesized g = p.group Parenthesis (stream_of_trees []) g.paren_token.span
 
-  -- arguments print as in an expression, as they stand, or not at all
+  -- after `::`, which they don't hold
+  abbrev pub parenthesized_turbofish : ParenthesizedGenericArguments X → Print
+  parenthesized_turbofish g = colon_or_default None ++ parenthesized g
+
+  -- arguments print as in an expression, after `::`, as they stand, or not at all
   abbrev pub arguments : PathStyle → PathArguments X → Print
   arguments Mod g = []
   arguments Expr a.None = []
   arguments Expr (a.AngleBracketed g) = turbofish g
-  arguments Expr (a.Parenthesized g) = parenthesized g
+  arguments Expr (a.Parenthesized g) = parenthesized_turbofish g
   arguments AsWritten a.None = []
   arguments AsWritten (a.AngleBracketed g) = angle_bracketed g
   arguments AsWritten (a.Parenthesized g) = parenthesized g

@@ -1,10 +1,11 @@
--- The promises of the readers of types, over what a supplied subtree reads, spells, has as its normal form and prints.
+-- The promises of the readers of types and of bounds, over what a supplied subtree reads, spells, has as its normal form and prints.
 use Rattle.std.specs.Prelude.{Bool}
 use Rattle.token_core.specs.Headline.{Grammar}
 use Rattle.token_core.specs.Prints.{Print}
 use Rattle.token_core.specs.Reads.{Reader}
 use Rattle.token_core.specs.Toks.{Toks, done}
 use Rattle.syn_mid.specs.declared.supplied.Expr.{Expr}
+use Rattle.syn_mid.specs.declared.generics.TypeParamBound.{TypeParamBound}
 use Rattle.syn_mid.specs.declared.ty.PointerMutability.{PointerMutability}
 use Rattle.syn_mid.specs.declared.ty.Type.{«Type» as TypeTree}
 use Rattle.syn_mid.specs.declared.ty.TypeArrayOf.{TypeArrayOf}
@@ -22,7 +23,8 @@ use Rattle.syn_mid.specs.ty.Knot as knot
 use Rattle.syn_mid.specs.ty.Normal as normal
 use Rattle.syn_mid.specs.ty.Printing as printing
 use Rattle.syn_mid.specs.ty.Reading as reading
-use Rattle.syn_mid.specs.ty.Spelling.{IsMutability, IsInfer, IsNever, IsMacroType, IsPathType, IsSomeType, IsSomeArray, IsSomeParen, IsSomePtr, IsSomeReference, IsSomeSlice, IsSomeTuple}
+use Rattle.syn_mid.specs.ty.Heights.{IsSomeBound, IsSomeType, IsSomeArray, IsSomeParen, IsSomePtr, IsSomeReference, IsSomeSlice, IsSomeTuple}
+use Rattle.syn_mid.specs.ty.Spelling.{IsMutability, IsInfer, IsNever, IsMacroType, IsPathType}
 
 -- No tree here has a verbatim part. These are their own normal forms.
 abbrev pub mutability : Grammar PointerMutability
@@ -41,6 +43,9 @@ module _ {X : Type 0} (reads : Place → Reader X) (spells : Place → X → Tok
   -- a type in a place with plus or without plus
   abbrev pub ty : Bool → Grammar (TypeTree X)
   ty plus = record { spells = λ clear x l. IsSomeType spells clear plus x l done; normal = normal.ty normals; print = printing.ty prints; plain = λ x. Unit {0}; reader = knot.ty reads plus }
+
+  abbrev pub bound : Grammar (TypeParamBound X)
+  bound = record { spells = λ clear x l. IsSomeBound spells clear x l done; normal = normal.bound normals; print = printing.bound prints; plain = λ x. Unit {0}; reader = knot.bound reads }
 
   abbrev pub path_type : Grammar (TypePathOf (TypeTree X) X)
   path_type = record { spells = λ clear x l. IsPathType clear x l done; normal = normal.path_type normals; print = printing.path_type prints; plain = λ x. Unit {0}; reader = reading.path_type }

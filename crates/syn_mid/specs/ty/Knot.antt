@@ -1,4 +1,5 @@
--- The read of types, which goes back to itself: each turn asks only about streams of which less is left, so how much is left is turns enough.
+-- The reads that go back to themselves, tied: of types, of bounds and of the parameters of binders. Each turn asks only about streams of which less is left, so how much is left is
+-- turns enough.
 use Rattle.std.specs.Prelude.{ℕ, zero, suc, ◌<◌, Bool, true, false, nat_lt, ◌++◌, length, Err, Result}
 use Rattle.std.specs.declared.alloc.Global.{Global}
 use Rattle.std.specs.declared.marker.PhantomData.{PhantomData}
@@ -8,6 +9,8 @@ use Rattle.token_core.specs.Positions.{items}
 use Rattle.token_core.specs.Refusal.{Refusal, fixed}
 use Rattle.token_core.specs.Stream.{Stream}
 use Rattle.token_core.specs.Reads.{Reader, Reads, Follows, refuse, refused}
+use Rattle.syn_mid.specs.declared.generics.GenericParam.{GenericParam}
+use Rattle.syn_mid.specs.declared.generics.TypeParamBound.{TypeParamBound}
 use Rattle.syn_mid.specs.declared.ty.Type.{«Type» as TypeTree}
 use Rattle.syn_mid.specs.Supplied.{Place}
 use Rattle.syn_mid.specs.declared.supplied.Expr.{Expr}
@@ -17,6 +20,7 @@ use Rattle.syn_mid.specs.declared.ty.TypePtrOf.{TypePtrOf}
 use Rattle.syn_mid.specs.declared.ty.TypeReferenceOf.{TypeReferenceOf}
 use Rattle.syn_mid.specs.declared.ty.TypeSliceOf.{TypeSliceOf}
 use Rattle.syn_mid.specs.declared.ty.TypeTupleOf.{TypeTupleOf}
+use Rattle.syn_mid.specs.generics.Reading.{param_step, bound_step}
 use Rattle.syn_mid.specs.ty.Reading.{type_step}
 use Rattle.syn_mid.specs.ty.Reading as reading
 
@@ -32,17 +36,56 @@ below_if false p s = Err (refused Unexpected (fixed Unexpected) s)
 abbrev pub below : {A : Type 0} → ℕ → Reader A → Reader A
 below limit p s = below_if (nat_lt (ahead s) limit) p s
 
+-- ---- the points: what a read may go back to
+
+-- types, in a place with plus or without plus; bounds; parameters of binders
+pub data Point : Type 0 where
+  a_type : Bool → Point
+  a_bound : Point
+  a_param : Point
+
+-- what is read there
+abbrev pub Tree : Type 0 → Point → Type 0
+Tree X (a_type plus) = TypeTree X
+Tree X a_bound = TypeParamBound X
+Tree X a_param = GenericParam X
+
+-- a reader for each point
+abbrev pub Readers : Type 0 → Type 0
+Readers X = (q : Point) → Reader (Tree X q)
+
 module _ {X : Type 0} (supplied : Place → Reader X) where
-  abbrev pub type_at : ℕ → Bool → Reader (TypeTree X)
-  type_at zero plus s = refuse Unexpected s
-  type_at (suc n) plus s = type_step supplied (λ p. below (ahead s) (type_at n p)) plus s
+  -- one turn, over the readers of all points
+  abbrev pub step : Readers X → Readers X
+  step r (a_type plus) = type_step supplied (λ p. r (a_type p)) plus
+  step r a_bound = bound_step (r a_param)
+  step r a_param = param_step
 
-  unfoldable pub ty : Bool → Reader (TypeTree X)
-  ty plus s = type_at (suc (ahead s)) plus s
+  abbrev pub read_at : ℕ → Readers X
+  read_at zero q s = refuse Unexpected s
+  read_at (suc n) q s = step (λ p. below (ahead s) (read_at n p)) q s
 
-  -- types where less than the limit is left
+  unfoldable pub read : Readers X
+  read q s = read_at (suc (ahead s)) q s
+
+  -- where less than the limit is left
+  abbrev pub reads_below : ℕ → Readers X
+  reads_below limit q = below limit (read q)
+
+  abbrev pub ty : Bool → Reader (TypeTree X)
+  ty plus = read (a_type plus)
+
+  abbrev pub bound : Reader (TypeParamBound X)
+  bound = read a_bound
+
+  abbrev pub param : Reader (GenericParam X)
+  param = read a_param
+
   unfoldable pub types : ℕ → Bool → Reader (TypeTree X)
-  types limit p = below limit (ty p)
+  types limit plus = reads_below limit (a_type plus)
+
+  unfoldable pub params : ℕ → Reader (GenericParam X)
+  params limit = reads_below limit a_param
 
   -- the reads of single forms
   unfoldable pub array : Reader (TypeArrayOf (TypeTree X) (Expr X))
@@ -69,3 +112,9 @@ pub record Nests {X : Type 0} (typ : Bool → Reader (TypeTree X)) (limit : ℕ)
   pub callable : (alloc : Global) (of : PhantomData X) (old : MutBor Stream) (plus : Bool) → ahead old.now < limit → pre alloc of old plus
   pub reads : (alloc : Global) (of : PhantomData X) (old new : MutBor Stream) (plus : Bool) (r : Result (TypeTree X) Refusal) → post alloc of old plus r new → Reads (typ plus old.now) r new.now
   pub within : (alloc : Global) (of : PhantomData X) (old new : MutBor Stream) (plus : Bool) (r : Result (TypeTree X) Refusal) → post alloc of old plus r new → Follows old.now new.now
+
+-- the same of bounds, and of parameters of binders
+pub record NestsAlone {X A : Type 0} (reader : Reader A) (limit : ℕ) (pre : Global → PhantomData X → MutBor Stream → Type 0) (post : Global → PhantomData X → MutBor Stream → Result A Refusal → MutBor Stream → Type 0) : Type 0 where
+  pub callable : (alloc : Global) (of : PhantomData X) (old : MutBor Stream) → ahead old.now < limit → pre alloc of old
+  pub reads : (alloc : Global) (of : PhantomData X) (old new : MutBor Stream) (r : Result A Refusal) → post alloc of old r new → Reads (reader old.now) r new.now
+  pub within : (alloc : Global) (of : PhantomData X) (old new : MutBor Stream) (r : Result A Refusal) → post alloc of old r new → Follows old.now new.now

@@ -114,8 +114,11 @@ module _ {X : Type 0} (normal : Place → X → X) where
   abbrev pub qself : QSelfOf (TypeTree X) → QSelfOf (TypeTree X)
   qself x = qself_of x.lt_token (ty x.ty) x.position x.as_token x.gt_token
 
+  abbrev pub optional_qself : Option (QSelfOf (TypeTree X)) → Option (QSelfOf (TypeTree X))
+  optional_qself = option_map qself
+
   abbrev pub path_type : TypePathOf (TypeTree X) X → TypePathOf (TypeTree X) X
-  path_type x = qualified_of (option_map qself x.qself) x.path
+  path_type x = qualified_of (optional_qself x.qself) x.path
 
   abbrev pub named_arg : NamedArgOf (TypeTree X) X → NamedArgOf (TypeTree X) X
   named_arg x = named_arg_of (attrs normal x.attrs) x.name (ty x.ty)

@@ -36,6 +36,7 @@ use Rattle.syn_mid.specs.declared.ty.TypeFnPtr.{TypeFnPtr, out-TypeFnPtr}
 use Rattle.syn_mid.specs.declared.ty.NamedArgOf.{NamedArgOf}
 use Rattle.syn_mid.specs.declared.ty.FnPtrVariadic.{FnPtrVariadic}
 use Rattle.syn_mid.specs.declared.path.Path.{Path}
+use Rattle.syn_mid.specs.declared.path.PathStyle.{PathStyle}
 use Rattle.syn_mid.specs.declared.path.QSelfOf.{QSelfOf}
 use Rattle.syn_mid.specs.declared.generics.BoundLifetimesOf.{BoundLifetimesOf}
 use Rattle.syn_mid.specs.declared.generics.ConstParamOf.{ConstParamOf}
@@ -118,15 +119,16 @@ last_comma c (x ∷ all) (d ∷ cs) = last_comma c all cs
 -- ---- by the print of the types within
 
 module _ {T : Type 0} (print : T → Print) where
-  abbrev pub path_by : {X : Type 0} → Option (QSelfOf T) → Path X → Print
-  path_by None x = path as_written x
-  path_by (Some q) x = p.mark q.lt_token ++ (print q.ty ++ qualified as_written q x)
+  -- a path, which a type may qualify
+  abbrev pub qpath_by : {X : Type 0} → PathStyle → Option (QSelfOf T) → Path X → Print
+  qpath_by style None x = path style x
+  qpath_by style (Some q) x = p.mark q.lt_token ++ (print q.ty ++ qualified style q x)
 
   abbrev pub array_by : {E : Type 0} → (E → Print) → TypeArrayOf T E → Print
   array_by len x = p.group Bracket (stream_of_trees (print x.elem ++ (p.mark x.semi_token ++ len x.len))) x.bracket_token.span
 
   abbrev pub path_type_by : {X : Type 0} → TypePathOf T X → Print
-  path_type_by x = path_by x.qself x.path
+  path_type_by x = qpath_by as_written x.qself x.path
 
   abbrev pub group_by : TypeGroupOf T → Print
   group_by x = p.group d.None (stream_of_trees (print x.elem)) x.group_token.span
@@ -267,6 +269,9 @@ module _ {X : Type 0} (prints : Place → X → Print) where
 
   abbrev pub array : TypeArrayOf (TypeTree X) (Expr X) → Print
   array = array_by ty len
+
+  abbrev pub qpath : PathStyle → Option (QSelfOf (TypeTree X)) → Path X → Print
+  qpath = qpath_by ty
 
   abbrev pub path_type : TypePathOf (TypeTree X) X → Print
   path_type = path_type_by ty

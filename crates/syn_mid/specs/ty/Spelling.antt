@@ -111,38 +111,6 @@ module _ {X : Type 0} (spells : Place → X → Toks → Type 0) (clear : Bool) 
     slice : {plus : Bool} {x : TypeSliceOf (TypeTree X)} {l r : Toks} → IsSlice x l r → IsType plus (t.Slice x) l r
     tuple : {plus : Bool} {x : TypeTupleOf (TypeTree X)} {l r : Toks} → IsTuple x l r → IsType plus (t.Tuple x) l r
 
--- ---- the knot: types of at most this height
-
-module _ {X : Type 0} (spells : Place → X → Toks → Type 0) (clear : Bool) where
-  abbrev pub TypeBelow : ℕ → Bool → Relation (TypeTree X)
-  TypeBelow zero plus x l r = ⊥
-  TypeBelow (suc n) plus x l r = IsType spells clear (TypeBelow n) plus x l r
-
--- ---- trees of some height, on the front of a list
-
-module _ {X : Type 0} (spells : Place → X → Toks → Type 0) (clear : Bool) where
-  abbrev pub IsSomeType : Bool → Relation (TypeTree X)
-  IsSomeType plus x l r = (n : ℕ) × TypeBelow spells clear n plus x l r
-
-  abbrev pub IsSomeArray : Relation (TypeArrayOf (TypeTree X) (Expr X))
-  IsSomeArray x l r = (n : ℕ) × IsArray spells clear (TypeBelow spells clear n) x l r
-
-  -- alone, its content stands without plus
-  abbrev pub IsSomeParen : Relation (TypeParenOf (TypeTree X))
-  IsSomeParen x l r = (n : ℕ) × IsParen spells clear (TypeBelow spells clear n) false x l r
-
-  abbrev pub IsSomePtr : Relation (TypePtrOf (TypeTree X))
-  IsSomePtr x l r = (n : ℕ) × IsPtr spells clear (TypeBelow spells clear n) x l r
-
-  abbrev pub IsSomeReference : Relation (TypeReferenceOf (TypeTree X))
-  IsSomeReference x l r = (n : ℕ) × IsReference spells clear (TypeBelow spells clear n) x l r
-
-  abbrev pub IsSomeSlice : Relation (TypeSliceOf (TypeTree X))
-  IsSomeSlice x l r = (n : ℕ) × IsSlice spells clear (TypeBelow spells clear n) x l r
-
-  abbrev pub IsSomeTuple : Relation (TypeTupleOf (TypeTree X))
-  IsSomeTuple x l r = (n : ℕ) × IsTuple spells clear (TypeBelow spells clear n) x l r
-
 -- what may follow a type, in a place with plus or without plus: nothing that goes on with it
 pub record Ends (plus : Bool) (r : Toks) : Type 0 where
   pub sep : sees_sep r ≡ false

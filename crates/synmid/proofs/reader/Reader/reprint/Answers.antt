@@ -65,3 +65,6 @@ returns-in-TypeTuple c = rw c.in-TypeTuple.is (prints-reprints (grammar r.TypeTu
 
 pub returns-in-PointerMutability : goal.returns-in-PointerMutability
 returns-in-PointerMutability c = rw c.in-PointerMutability.is (prints-reprints (grammar r.PointerMutability) (toks c.args.tokens.now) c.reprint-in-PointerMutability.result c.reprint-in-PointerMutability.ensures)
+
+pub returns-in-TypeParamBound : goal.returns-in-TypeParamBound
+returns-in-TypeParamBound c = rw c.in-TypeParamBound.is (prints-reprints (grammar r.TypeParamBound) (toks c.args.tokens.now) c.reprint-in-TypeParamBound.result c.reprint-in-TypeParamBound.ensures)
