@@ -54,7 +54,12 @@ fn bounds_are_read(rt: HostRuntime) {
             "`for<...>` binder not allowed with `?` trait polarity modifier 8-9 8-9",
         ),
     ] {
-        says(&rt, alloc, read(alloc, Reader::TypeParamBound, text), wanted);
+        says(
+            &rt,
+            alloc,
+            read(alloc, Reader::TypeParamBound, text),
+            wanted,
+        );
     }
 }
 
