@@ -5,8 +5,8 @@ use std::alloc::Global;
 use std::fmt::Write;
 use std::process::Abort;
 use syn_mid::{
-    BoundLifetimes, CapturedParam, ConstParam, Expr, ExprLit, GenericParam, Generics,
-    LifetimeParam, ModStyle, ParseInner, ParseOuter, Path, PreciseCapture, PredicateLifetime,
+    Arguments, BoundLifetimes, CapturedParam, ConstParam, Expr, ExprLit, GenericParam, Generics,
+    LifetimeParam, ModStyle, ParseInner, ParseOuter, PathOf, PreciseCapture, PredicateLifetime,
     PredicateType, TraitBound, TraitBoundModifiers, Type, TypeParam, TypeParamBound, TypePathOf,
     WhereClause, WherePredicate,
 };
@@ -78,9 +78,9 @@ fn lifetime(alloc: Global, text: &str) -> Result<Lifetime, Error> {
     Ok(Lifetime::new(Span::none(), ident(alloc, text)?))
 }
 
-pub(crate) fn path(alloc: Global, text: &str) -> Result<Path<Nothing>, Error> {
+pub(crate) fn path<A: Arguments>(alloc: Global, text: &str) -> Result<PathOf<A>, Error> {
     let tokens = lex(alloc, text)?;
-    read_all_with(alloc, ModStyle::<Nothing>::new(), &tokens)
+    read_all_with(alloc, ModStyle::<A>::new(), &tokens)
 }
 
 pub(crate) fn ty(alloc: Global, text: &str) -> Result<Type<Nothing>, Error> {

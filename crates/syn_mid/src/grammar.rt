@@ -21,7 +21,7 @@ use crate::generics::{
     TraitBoundOf, TypeParamBound,
 };
 use crate::mac::{parse_call_after, parse_macro};
-use crate::path::{Path, parse_plain_path};
+use crate::path::{Path, parse_plain_path, without_arguments};
 use crate::supplied::{Expr, Place, Subtree};
 use crate::ty::{
     PointerMutability, Type, TypeArray, TypeArrayOf, TypeInfer, TypeMacro, TypeNever, TypeParen,
@@ -224,10 +224,10 @@ fn ended<X: Drop>(
 }
 
 /// A macro call in the place of a type.
-pub(crate) fn parse_macro_type<X: Drop>(
+pub(crate) fn parse_macro_type(
     alloc: Global,
     input: &mut ParseStream<'_>,
-) -> Result<TypeMacro<X>, Error>
+) -> Result<TypeMacro, Error>
     ensures reads { Reads (reading.macro_type input.old) result input.new }
     ensures within { Follows input.old input.new }
 {
@@ -259,6 +259,7 @@ fn parse_path_or_macro<X: Drop>(
 {
     let path = parse_plain_path(alloc, input)?;
     if sees_call(input) {
+        let path = without_arguments(alloc, &path)?;
         let mac = parse_call_after(alloc, input, path)?;
         return Ok(Type::Macro(TypeMacro { mac }));
     }

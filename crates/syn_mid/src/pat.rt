@@ -10,9 +10,9 @@ ghost use Rattle.syn_mid.specs.pat.Pats as spec;
 ghost use Rattle.syn_mid.specs.pat.Printing as printing;
 
 use crate::attr::{Attribute, print_outer, print_value};
-use crate::path::{Path, PathStyle, QSelf};
+use crate::path::{Path, PathStyle, QSelf, print_path};
 use crate::supplied::{
-    Expr, ExprConst, ExprConstOf, ExprLit, ExprLitOf, ExprMacro, ExprMacroOf, ExprPath, ExprPathOf,
+    Expr, ExprConst, ExprConstOf, ExprLit, ExprLitOf, ExprMacro, ExprMacroOf, ExprPathOf,
     ExprRange, Place, Subtree,
 };
 use crate::ty::{
@@ -37,13 +37,13 @@ pub enum PatOf<A, Q, X> {
     /// `1`
     Lit(ExprLitOf<A>),
     /// `a!(b)`
-    Macro(ExprMacroOf<A, X>),
+    Macro(ExprMacroOf<A>),
     /// `a | b`
     Or(PatOrOf<PatOf<A, Q, X>, A>),
     /// `(a)`
     Paren(PatParenOf<PatOf<A, Q, X>, A>),
     /// `a::b`
-    Path(ExprPathOf<A, X>),
+    Path(ExprPathOf<A, Path<X>>),
     /// `1..=2`
     Range(ExprRange<X>),
     /// `&mut a`
@@ -126,7 +126,7 @@ pub struct PatParenOf<P, A> {
 pub type PatParen<X> = PatParenOf<Pat<X>, Attribute<X>>;
 
 /// A path as a pattern.
-pub type PatPath<X> = ExprPath<X>;
+pub type PatPath<X> = ExprPathOf<Attribute<X>, Path<X>>;
 
 /// A range as a pattern.
 pub type PatRange<X> = ExprRange<X>;
@@ -460,6 +460,21 @@ impl<X: Subtree> ToTokens for PatParen<X> {
     }
 }
 
+impl<X: Subtree> ToTokens for PatPath<X> {
+    ghost print = { printing.by_path X.prints };
+
+    fn to_tokens(&self, alloc: Global, out: &mut TokenStream) -> Result<(), AllocError> {
+        let before = out.len();
+        match print_by_path(alloc, self, out) {
+            Ok(()) => Ok(()),
+            Err(error) => {
+                out.truncate(before);
+                Err(error)
+            }
+        }
+    }
+}
+
 impl<X: Subtree> ToTokens for PatReference<X> {
     ghost print = { printing.reference X.prints };
 
@@ -725,6 +740,19 @@ fn print_slice<X: Subtree>(
     let mut content = TokenStream::new(alloc);
     print_slice_elements(alloc, pat, &mut content)?;
     pat.bracket_token.surround(content, out)
+}
+
+#[tactic(auto, using(token_core::proofs::Puts::puts))]
+fn print_by_path<X: Subtree>(
+    alloc: Global,
+    pat: &PatPath<X>,
+    out: &mut TokenStream,
+) -> Result<(), AllocError>
+    ensures ok { OnOk result (trees out.new ≡ trees out.old ++ printing.by_path X.prints pat.now) }
+    ensures err { OnErr result (Extends (trees out.old) (trees out.new)) }
+{
+    print_outer(alloc, &pat.attrs, out)?;
+    print_path(alloc, &pat.path, PathStyle::Expr, out)
 }
 
 #[cycle(print)]

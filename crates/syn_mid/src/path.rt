@@ -1,12 +1,12 @@
 //! Paths.
 
-ghost use Rattle.std.specs.Prelude.{◌≡◌, ◌++◌, ◌<◌, length, false, true, option_map, IfOk, IfErr, OnOk, OnErr};
+ghost use Rattle.std.specs.Prelude.{◌≡◌, refl, [], ◌++◌, ◌<◌, length, Bool, false, true, option_map, IfOk, IfErr, OnOk, OnErr};
 ghost use Rattle.token_core.specs.Rebuilt.{Visible};
 ghost use Rattle.token_core.specs.Refusal.{Made};
 ghost use Rattle.token_core.specs.Spans.{none};
 ghost use Rattle.token_core.specs.Trees.{trees};
 ghost use Rattle.token_core.specs.Prints as prints;
-ghost use Rattle.token_core.specs.Prints.{Extends};
+ghost use Rattle.token_core.specs.Prints.{Print, Extends};
 ghost use Rattle.token_core.specs.Reads.{Reads, Follows, sees_word};
 ghost use Rattle.token_core.specs.Headline.{Heads};
 ghost use Rattle.syn_mid.specs.path.Grammars as grammars;
@@ -26,19 +26,56 @@ use token_core::{
     TokenStream,
 };
 
-/// A path: an optional leading `::`, and segments joined by `::`.
+/// A path, over what stands in the place of its segments' arguments: an optional leading `::`, and segments joined by `::`.
 #[derive(Drop)]
-pub struct Path<X> {
+pub struct PathOf<A> {
     pub leading_colon: Option<PathSep>,
-    pub segments: Punctuated<PathSegment<X>, PathSep>,
+    pub segments: Punctuated<PathSegmentOf<A>, PathSep>,
 }
 
 /// A segment of a path: its identifier and its arguments.
 #[derive(Drop)]
-pub struct PathSegment<X> {
+pub struct PathSegmentOf<A> {
     pub ident: Ident,
-    pub arguments: PathArguments<X>,
+    pub arguments: A,
 }
+
+/// A path whose segments may have arguments, as in a type.
+pub type Path<X> = PathOf<PathArguments<X>>;
+
+/// A segment that may have arguments.
+pub type PathSegment<X> = PathSegmentOf<PathArguments<X>>;
+
+/// A path without arguments: of a macro, of an attribute, of an expression.
+pub type ModPath = PathOf<NoArguments>;
+
+/// A segment without arguments.
+pub type ModSegment = PathSegmentOf<NoArguments>;
+
+/// What may stand in the place of a segment's arguments.
+pub trait Arguments: Drop {
+    /// There are none.
+    ghost absent: { Self };
+
+    /// Whether there are none.
+    ghost is_absent: { Self → Bool };
+
+    /// What they print as they stand.
+    ghost shown: { Self → Print };
+
+    /// Where there are none, nothing is printed.
+    ghost silent: { shown absent ≡ [] };
+
+    fn none() -> Self
+        ensures { result ≡ absent };
+
+    fn are_none(&self) -> bool
+        ensures { result ≡ is_absent self.now };
+}
+
+/// The arguments of a segment that has none.
+#[derive(Clone, Copy, Default)]
+pub struct NoArguments {}
 
 /// The arguments of a segment.
 #[derive(Drop)]
@@ -100,8 +137,6 @@ pub(crate) enum PathStyle {
     Expr,
     /// As they stand.
     AsWritten,
-    /// Not at all.
-    Mod,
 }
 
 impl<X> Default for PathArguments<X> {
@@ -124,43 +159,77 @@ impl<X> PathArguments<X> {
     }
 }
 
-impl<X> From<Ident> for PathSegment<X> {
-    ghost from_gives = { λ ident segment. segment ≡ spec.segment_of ident };
+impl<X: Drop> Arguments for PathArguments<X> {
+    ghost absent = { spec.no_arguments };
 
-    fn from(ident: Ident) -> PathSegment<X> {
-        PathSegment {
+    ghost is_absent = { spec.is_none };
+
+    ghost shown = { printing.arguments printing.as_written };
+
+    ghost silent = { refl };
+
+    fn none() -> PathArguments<X> {
+        PathArguments::None
+    }
+
+    fn are_none(&self) -> bool {
+        self.is_none()
+    }
+}
+
+impl Arguments for NoArguments {
+    ghost absent = { spec.nothing };
+
+    ghost is_absent = { λ a. true };
+
+    ghost shown = { λ a. [] };
+
+    ghost silent = { refl };
+
+    fn none() -> NoArguments {
+        NoArguments {}
+    }
+
+    fn are_none(&self) -> bool {
+        true
+    }
+}
+
+impl<A: Arguments> From<Ident> for PathSegmentOf<A> {
+    ghost from_gives = { λ ident segment. segment ≡ spec.segment_of A.absent ident };
+
+    fn from(ident: Ident) -> PathSegmentOf<A> {
+        PathSegmentOf {
             ident,
-            arguments: PathArguments::None,
+            arguments: A::none(),
         }
     }
 }
 
-impl<X: Drop> Path<X> {
+impl<A: Arguments> PathOf<A> {
     /// The path of one segment, without a leading colon.
-    pub fn from_segment(alloc: Global, segment: PathSegment<X>) -> Result<Path<X>, AllocError>
+    pub fn from_segment(alloc: Global, segment: PathSegmentOf<A>) -> Result<PathOf<A>, AllocError>
         ensures { IfOk result (λ p. p ≡ spec.lone segment) }
     {
         let mut segments = Punctuated::new(alloc);
         segments.push_value(alloc, segment)?;
-        Ok(Path {
+        Ok(PathOf {
             leading_colon: None,
             segments,
         })
     }
 
     /// The path of one identifier, without a leading colon.
-    pub fn from_ident(alloc: Global, ident: Ident) -> Result<Path<X>, AllocError>
-        ensures { IfOk result (λ p. p ≡ spec.lone (spec.segment_of ident)) }
+    pub fn from_ident(alloc: Global, ident: Ident) -> Result<PathOf<A>, AllocError>
+        ensures { IfOk result (λ p. p ≡ spec.lone (spec.segment_of A.absent ident)) }
     {
-        Path::from_segment(alloc, PathSegment::from(ident))
+        PathOf::from_segment(alloc, PathSegmentOf::from(ident))
     }
-}
 
-impl<X> Path<X> {
     /// The identifier of a path that is one: no leading colon, one segment, no arguments.
     #[tactic(auto, using(crate::specs::path::Paths::firsts))]
     pub fn get_ident(&self) -> Option<&Ident>
-        ensures { option_map (λ i. i.now) result ≡ spec.lone_ident self.now }
+        ensures { option_map (λ i. i.now) result ≡ spec.lone_ident A.is_absent self.now }
     {
         if self.leading_colon.is_some() || self.segments.value(1).is_some() {
             return None;
@@ -174,8 +243,8 @@ impl<X> Path<X> {
     /// The identifier of a path that is one. Another path is refused from its first to its last segment.
     pub fn require_ident(&self, alloc: Global) -> Result<&Ident, Error>
         requires { 0 < length self.now.segments.0 }
-        ensures ok { IfOk result (λ i. spec.lone_ident self.now ≡ Some i.now) }
-        ensures err { IfErr result (λ e. spec.lone_ident self.now ≡ None) }
+        ensures ok { IfOk result (λ i. spec.lone_ident A.is_absent self.now ≡ Some i.now) }
+        ensures err { IfErr result (λ e. spec.lone_ident A.is_absent self.now ≡ None) }
         ensures refusal { IfErr result (λ e. Made e (spec.no_ident self.now)) }
     {
         match self.get_ident() {
@@ -222,7 +291,7 @@ impl<X> Path<X> {
 
     /// Whether the path is this identifier.
     pub fn is_ident(&self, text: &str) -> bool
-        ensures { result ≡ spec.is_text text.now (spec.lone_ident self.now) }
+        ensures { result ≡ spec.is_text text.now (spec.lone_ident A.is_absent self.now) }
     {
         match self.get_ident() {
             Some(ident) => ident.text.is(text),
@@ -233,10 +302,10 @@ impl<X> Path<X> {
 
 /// A text with the path's identifiers in it, joined by `::`, after a leading `::` if the path has one.
 #[tactic(auto, using(crate::proofs::path_laws::Texts::texts))]
-pub(crate) fn text_around<X>(
+pub(crate) fn text_around<A>(
     alloc: Global,
     before: &str,
-    path: &Path<X>,
+    path: &PathOf<A>,
     after: &str,
 ) -> Result<Text, AllocError>
     ensures { IfOk result (λ t. t ≡ before.now ++ (spec.path_text path.now ++ after.now)) }
@@ -254,12 +323,12 @@ pub(crate) fn text_around<X>(
     Ok(text)
 }
 
-impl<X> PathSegment<X> {
+impl<A: Arguments> PathSegmentOf<A> {
     /// The identifier of a segment without arguments.
     fn ident_if_bare(&self) -> Option<&Ident>
-        ensures { option_map (λ i. i.now) result ≡ spec.bare self.now.ident self.now.arguments }
+        ensures { option_map (λ i. i.now) result ≡ spec.bare A.is_absent self.now }
     {
-        if self.arguments.is_none() {
+        if self.arguments.are_none() {
             Some(&self.ident)
         } else {
             None
@@ -267,17 +336,17 @@ impl<X> PathSegment<X> {
     }
 }
 
-impl<X: Drop> Path<X> {
+impl<A: Arguments> PathOf<A> {
     /// Reads a path of mod style: an optional `::`, and identifiers, `super`, `self`, `Self` or `crate` joined by `::`,
     /// without arguments. It is refused where no segment begins, and after a `::` that none follows.
     ///
     /// On the front of a list without invisible groups it took what the path spells. Where the stream has no left-over tree, a whole read that begins here keeps the promise of the grammar: it
     /// answers only a path that spells the list, the path that a list spells clearly, and its print is read again.
-    pub fn parse_mod_style(alloc: Global, input: &mut ParseStream<'_>) -> Result<Path<X>, Error>
-        ensures reads { Reads (reading.mod_style input.old) result input.new }
+    pub fn parse_mod_style(alloc: Global, input: &mut ParseStream<'_>) -> Result<PathOf<A>, Error>
+        ensures reads { Reads (reading.mod_style A.absent input.old) result input.new }
         ensures within { Follows input.old input.new }
-        ensures front { Visible input.old.rest → IfOk result (λ p. IsModPath false p input.old.rest input.new.rest) }
-        ensures headline { Heads grammars.mod_style input.old result input.new }
+        ensures front { Visible input.old.rest → IfOk result (λ p. IsModPath false A.absent p input.old.rest input.new.rest) }
+        ensures headline { Heads (grammars.mod_style A.absent A.shown) input.old result input.new }
     {
         parse_bare_path(alloc, input, SegmentStyle::Mod)
     }
@@ -285,17 +354,17 @@ impl<X: Drop> Path<X> {
 
 /// A path without arguments.
 #[tactic(auto, using(token_core::proofs::Suffixes::follows), unfolding(crate::specs::path::Reading::bare_path))]
-pub(crate) fn parse_bare_path<X: Drop>(
+pub(crate) fn parse_bare_path<A: Arguments>(
     alloc: Global,
     input: &mut ParseStream<'_>,
     style: SegmentStyle,
-) -> Result<Path<X>, Error>
-    ensures reads { Reads (reading.bare_path style input.old) result input.new }
+) -> Result<PathOf<A>, Error>
+    ensures reads { Reads (reading.bare_path A.absent style input.old) result input.new }
     ensures within { Follows input.old input.new }
 {
     let leading_colon = parse_leading(alloc, input)?;
     let segments = parse_bare_segments(alloc, input, style)?;
-    Ok(Path {
+    Ok(PathOf {
         leading_colon,
         segments,
     })
@@ -305,11 +374,11 @@ pub(crate) fn parse_bare_path<X: Drop>(
 /// joined by `::`, without arguments. It stops before a `::` and a parenthesis. It is refused where no segment begins, and
 /// where a `<` follows, since arguments between angle marks are not read yet.
 #[tactic(auto, using(token_core::proofs::Suffixes::follows), unfolding(crate::specs::path::Reading::plain_path))]
-pub(crate) fn parse_plain_path<X: Drop>(
+pub(crate) fn parse_plain_path<A: Arguments>(
     alloc: Global,
     input: &mut ParseStream<'_>,
-) -> Result<Path<X>, Error>
-    ensures reads { Reads (reading.plain_path input.old) result input.new }
+) -> Result<PathOf<A>, Error>
+    ensures reads { Reads (reading.plain_path A.absent input.old) result input.new }
     ensures within { Follows input.old input.new }
 {
     let path = parse_bare_path(alloc, input, SegmentStyle::Plain)?;
@@ -417,28 +486,28 @@ fn no_segment(alloc: Global, input: &ParseStream<'_>, style: SegmentStyle, is_fi
 
 /// A segment without arguments.
 #[tactic(auto, using(token_core::proofs::Suffixes::follows), unfolding(crate::specs::path::Reading::bare_segment))]
-fn parse_bare_segment<X>(
+fn parse_bare_segment<A: Arguments>(
     alloc: Global,
     input: &mut ParseStream<'_>,
     style: SegmentStyle,
     is_first: bool,
-) -> Result<PathSegment<X>, Error>
-    ensures reads { Reads (reading.bare_segment style is_first input.old) result input.new }
+) -> Result<PathSegmentOf<A>, Error>
+    ensures reads { Reads (reading.bare_segment A.absent style is_first input.old) result input.new }
     ensures within { Follows input.old input.new }
 {
     if begins_segment(input, style) {
-        return Ok(PathSegment::from(Ident::parse_any(alloc, input)?));
+        return Ok(PathSegmentOf::from(Ident::parse_any(alloc, input)?));
     }
     Err(no_segment(alloc, input, style, is_first))
 }
 
 #[tactic(auto, using(token_core::proofs::Suffixes::follows))]
-fn parse_bare_segments<X: Drop>(
+fn parse_bare_segments<A: Arguments>(
     alloc: Global,
     input: &mut ParseStream<'_>,
     style: SegmentStyle,
-) -> Result<Punctuated<PathSegment<X>, PathSep>, Error>
-    ensures reads { Reads (reading.bare_segments style true input.old) result input.new }
+) -> Result<Punctuated<PathSegmentOf<A>, PathSep>, Error>
+    ensures reads { Reads (reading.bare_segments A.absent style true input.old) result input.new }
     ensures within { Follows input.old input.new }
 {
     let mut segments = Punctuated::new(alloc);
@@ -452,6 +521,45 @@ fn parse_bare_segments<X: Drop>(
     }
 }
 
+/// The path without its arguments.
+pub(crate) fn without_arguments<A>(alloc: Global, path: &PathOf<A>) -> Result<ModPath, AllocError>
+    ensures { IfOk result (λ p. p ≡ spec.without spec.nothing path.now) }
+{
+    let segments = bare_segments(alloc, &path.segments)?;
+    Ok(PathOf {
+        leading_colon: path.leading_colon,
+        segments,
+    })
+}
+
+#[tactic(auto, using(crate::proofs::path_laws::Texts::texts))]
+fn bare_segments<A>(
+    alloc: Global,
+    segments: &Punctuated<PathSegmentOf<A>, PathSep>,
+) -> Result<Punctuated<ModSegment, PathSep>, AllocError>
+    ensures { IfOk result (λ v. v ≡ spec.segments_without spec.nothing segments.now) }
+{
+    let (pairs, last) = segments.parts();
+    let mut bare = Punctuated::new(alloc);
+    for pair in pairs {
+        bare.push_value(alloc, bare_segment(alloc, &pair.value)?)?;
+        bare.push_punct(pair.mark)?;
+    }
+    match last {
+        Some(segment) => {
+            bare.push_value(alloc, bare_segment(alloc, segment)?)?;
+            Ok(bare)
+        }
+        None => Ok(bare),
+    }
+}
+
+fn bare_segment<A>(alloc: Global, segment: &PathSegmentOf<A>) -> Result<ModSegment, AllocError>
+    ensures { IfOk result (λ s. s ≡ spec.segment_of spec.nothing segment.now.ident) }
+{
+    Ok(ModSegment::from(segment.ident.copy(alloc)?))
+}
+
 // ---- prints
 
 impl<X> ToTokens for Path<X> {
@@ -460,6 +568,21 @@ impl<X> ToTokens for Path<X> {
     fn to_tokens(&self, alloc: Global, out: &mut TokenStream) -> Result<(), AllocError> {
         let before = out.len();
         match print_path(alloc, self, PathStyle::AsWritten, out) {
+            Ok(()) => Ok(()),
+            Err(error) => {
+                out.truncate(before);
+                Err(error)
+            }
+        }
+    }
+}
+
+impl ToTokens for ModPath {
+    ghost print = { printing.mod_path };
+
+    fn to_tokens(&self, alloc: Global, out: &mut TokenStream) -> Result<(), AllocError> {
+        let before = out.len();
+        match print_mod_path(alloc, self, out) {
             Ok(()) => Ok(()),
             Err(error) => {
                 out.truncate(before);
@@ -484,6 +607,14 @@ impl<X> ToTokens for PathSegment<X> {
     }
 }
 
+impl ToTokens for ModSegment {
+    ghost print = { printing.mod_segment };
+
+    fn to_tokens(&self, alloc: Global, out: &mut TokenStream) -> Result<(), AllocError> {
+        self.ident.to_tokens(alloc, out)
+    }
+}
+
 impl<X> ToTokens for PathArguments<X> {
     ghost print = { printing.arguments printing.as_written };
 
@@ -497,6 +628,52 @@ impl<X> ToTokens for PathArguments<X> {
             }
         }
     }
+}
+
+/// Appends a path without arguments; refused, what stood before is kept.
+#[tactic(auto, using(token_core::proofs::Puts::puts))]
+pub(crate) fn print_mod_path(
+    alloc: Global,
+    path: &ModPath,
+    out: &mut TokenStream,
+) -> Result<(), AllocError>
+    ensures ok { OnOk result (trees out.new ≡ trees out.old ++ printing.mod_path path.now) }
+    ensures err { OnErr result (Extends (trees out.old) (trees out.new)) }
+{
+    print_colon(alloc, &path.leading_colon, out)?;
+    print_mod_segments(alloc, &path.segments, out)
+}
+
+#[tactic(auto, using(token_core::proofs::Puts::puts))]
+fn print_mod_segments(
+    alloc: Global,
+    segments: &Punctuated<ModSegment, PathSep>,
+    out: &mut TokenStream,
+) -> Result<(), AllocError>
+    ensures ok { OnOk result (trees out.new ≡ trees out.old ++ printing.mod_segments segments.now) }
+    ensures err { OnErr result (Extends (trees out.old) (trees out.new)) }
+{
+    let (pairs, last) = segments.parts();
+    for pair in pairs {
+        print_mod_segment(alloc, &pair.value, out)?;
+        pair.mark.to_tokens(alloc, out)?;
+    }
+    match last {
+        Some(segment) => print_mod_segment(alloc, segment, out),
+        None => Ok(()),
+    }
+}
+
+#[tactic(auto, using(token_core::proofs::Puts::puts))]
+fn print_mod_segment(
+    alloc: Global,
+    segment: &ModSegment,
+    out: &mut TokenStream,
+) -> Result<(), AllocError>
+    ensures ok { OnOk result (trees out.new ≡ trees out.old ++ printing.mod_segment segment.now) }
+    ensures err { OnErr result (Extends (trees out.old) (trees out.new)) }
+{
+    segment.ident.to_tokens(alloc, out)
 }
 
 /// Appends a path; refused, what stood before is kept.
@@ -560,7 +737,6 @@ fn print_arguments<X>(
     ensures err { OnErr result (Extends (trees out.old) (trees out.new)) }
 {
     match style {
-        PathStyle::Mod => Ok(()),
         PathStyle::AsWritten => match arguments {
             PathArguments::None => Ok(()),
             PathArguments::AngleBracketed(arguments) => print_angle_bracketed(

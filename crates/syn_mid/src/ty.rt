@@ -54,7 +54,7 @@ pub enum Type<X> {
     /// `_`
     Infer(TypeInfer),
     /// `a::b! { .. }`
-    Macro(TypeMacro<X>),
+    Macro(TypeMacro),
     /// `!`
     Never(TypeNever),
     /// `(T)`
@@ -130,8 +130,8 @@ pub struct TypeInfer {
 
 /// A macro call in the place of a type.
 #[derive(Drop)]
-pub struct TypeMacro<X> {
-    pub mac: Macro<X>,
+pub struct TypeMacro {
+    pub mac: Macro,
 }
 
 /// The type without a value: `!`.
@@ -438,14 +438,14 @@ impl Parse for TypeInfer {
 }
 
 /// Reads a macro call, as `Macro` does.
-impl<X: Subtree> Parse for TypeMacro<X> {
-    ghost reads = { Gives (reading.macro_type {X = X}) };
+impl Parse for TypeMacro {
+    ghost reads = { Gives reading.macro_type };
 
-    ghost refuses = { Fails (reading.macro_type {X = X}) };
+    ghost refuses = { Fails reading.macro_type };
 
-    ghost promise = { Headline (grammars.macro_type {X = X}) };
+    ghost promise = { Headline grammars.macro_type };
 
-    fn parse(alloc: Global, input: &mut ParseStream<'_>) -> Result<TypeMacro<X>, Error>
+    fn parse(alloc: Global, input: &mut ParseStream<'_>) -> Result<TypeMacro, Error>
         ensures reads { Reads (reading.macro_type input.old) result input.new }
         ensures within { Follows input.old input.new }
         ensures front { Visible input.old.rest → IfOk result (λ x. IsMacroType false x input.old.rest input.new.rest) }
@@ -534,10 +534,10 @@ impl<X> From<TypeInfer> for Type<X> {
     }
 }
 
-impl<X> From<TypeMacro<X>> for Type<X> {
+impl<X> From<TypeMacro> for Type<X> {
     ghost from_gives = { λ form ty. ty ≡ types.Macro form };
 
-    fn from(form: TypeMacro<X>) -> Type<X> {
+    fn from(form: TypeMacro) -> Type<X> {
         Type::Macro(form)
     }
 }
@@ -661,7 +661,7 @@ impl ToTokens for TypeInfer {
     }
 }
 
-impl<X> ToTokens for TypeMacro<X> {
+impl ToTokens for TypeMacro {
     ghost print = { printing.macro_type };
 
     fn to_tokens(&self, alloc: Global, out: &mut TokenStream) -> Result<(), AllocError> {

@@ -1,5 +1,5 @@
 -- The readers that a run knows by name.
-use Rattle.std.specs.Prelude.{◌≡◌, ◌≢◌, true, false, if◌then◌else◌, List, Option, Some, None, Result, Ok, Err, codes}
+use Rattle.std.specs.Prelude.{◌≡◌, ◌≢◌, true, false, if◌then◌else◌, List, [], Option, Some, None, Result, Ok, Err, codes}
 use Rattle.std.specs.Str.{bytes_eq}
 use Rattle.token_core.specs.declared.error.ErrorKind.TheVariants.{OutOfMemory}
 use Rattle.token_core.specs.declared.tree.TokenStream.{TokenStream}
@@ -13,7 +13,6 @@ use Rattle.token_core.specs.Spans.{none}
 use Rattle.token_core.specs.Stream.{Stream, started}
 use Rattle.token_core.specs.Reads.{Ends, Refuses}
 use Rattle.syn_mid.specs.declared.mac.Macro as mac
-use Rattle.syn_mid.specs.declared.path.Path as path
 use Rattle.syn_mid.specs.declared.attr.Meta as meta
 use Rattle.syn_mid.specs.declared.attr.MetaList as meta_list
 use Rattle.syn_mid.specs.declared.attr.MetaNameValue as name_value
@@ -37,6 +36,7 @@ use Rattle.syn_mid.specs.attr.Grammars as attrs
 use Rattle.syn_mid.specs.attr.Printing as printing
 use Rattle.syn_mid.specs.mac.Grammars as macs
 use Rattle.syn_mid.specs.path.Grammars as paths
+use Rattle.syn_mid.specs.path.Paths as path
 use Rattle.synmid.specs.contracts.sample.SampleSubtree.TheImpl.{reads-value, spells-value, normal-value, prints-value}
 use Rattle.synmid.specs.declared.sample.Sample.{Sample}
 use Rattle.synmid.specs.declared.reader.Reader.{Reader}
@@ -69,10 +69,10 @@ named name =
 
 -- the trees of a reader
 abbrev pub Tree : Reader → Type 0
-Tree Macro = mac.Macro Sample
-Tree ModStyle = path.Path Sample
+Tree Macro = mac.Macro
+Tree ModStyle = path.ModPath
 Tree Meta = meta.Meta Sample
-Tree MetaList = meta_list.MetaList Sample
+Tree MetaList = meta_list.MetaList
 Tree MetaNameValue = name_value.MetaNameValue Sample
 Tree Outer = List (Attribute Sample)
 Tree Inner = List (Attribute Sample)
@@ -80,7 +80,7 @@ Tree AnyType = ty.«Type» Sample
 Tree WithoutPlus = ty.«Type» Sample
 Tree TypeArray = array.TypeArrayOf (ty.«Type» Sample) (expr.Expr Sample)
 Tree TypeInfer = infer.TypeInfer
-Tree TypeMacro = macro_type.TypeMacro Sample
+Tree TypeMacro = macro_type.TypeMacro
 Tree TypeNever = never.TypeNever
 Tree TypeParen = paren.TypeParenOf (ty.«Type» Sample)
 Tree TypePath = path_type.TypePathOf (ty.«Type» Sample) Sample
@@ -93,7 +93,7 @@ Tree TypeParamBound = bound.TypeParamBound Sample
 
 abbrev pub grammar : (r : Reader) → Grammar (Tree r)
 grammar Macro = macs.mac
-grammar ModStyle = paths.mod_style
+grammar ModStyle = paths.mod_style path.nothing (λ a. [])
 grammar Meta = attrs.meta reads-value.it spells-value.it normal-value.it prints-value.it
 grammar MetaList = attrs.list
 grammar MetaNameValue = attrs.name_value reads-value.it spells-value.it normal-value.it prints-value.it

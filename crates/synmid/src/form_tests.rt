@@ -51,7 +51,7 @@ fn add_forms(alloc: Global, attrs: &[Attribute<Sample>], form: &mut Form) -> Res
 fn add_options(alloc: Global, attr: &Attribute<Sample>, form: &mut Form) -> Result<(), Error>
     requires { 0 < length (path_in attr.now.meta).segments.0 }
 {
-    let logic = |alloc: Global, meta: &mut ParseNestedMeta<'_, Sample>| -> Result<(), Error>
+    let logic = |alloc: Global, meta: &mut ParseNestedMeta<'_>| -> Result<(), Error>
         ensures { Follows meta.old.input meta.new.input }
     { parse_option(alloc, meta, form) };
     attr.parse_nested_meta(alloc, logic)
@@ -61,7 +61,7 @@ fn add_options(alloc: Global, attr: &Attribute<Sample>, form: &mut Form) -> Resu
 #[tactic(auto, using(token_core::proofs::Suffixes::follows))]
 fn parse_option(
     alloc: Global,
-    meta: &mut ParseNestedMeta<'_, Sample>,
+    meta: &mut ParseNestedMeta<'_>,
     form: &mut Form,
 ) -> Result<(), Error>
     ensures { Follows meta.old.input meta.new.input }
@@ -84,7 +84,7 @@ fn parse_option(
 #[tactic(auto, using(token_core::proofs::Suffixes::follows))]
 fn parse_rename(
     alloc: Global,
-    meta: &mut ParseNestedMeta<'_, Sample>,
+    meta: &mut ParseNestedMeta<'_>,
 ) -> Result<(LitStr, LitStr), Error>
     ensures { Follows meta.old.input meta.new.input }
 {
@@ -96,7 +96,7 @@ fn parse_rename(
     Ok((from, to))
 }
 
-fn unknown_option(alloc: Global, meta: &ParseNestedMeta<'_, Sample>) -> Error {
+fn unknown_option(alloc: Global, meta: &ParseNestedMeta<'_>) -> Error {
     // the path of a property has a segment, but what a closure is called with doesn't say so
     if meta.path.segments.is_empty() {
         return meta.input.error(alloc, "unknown option");

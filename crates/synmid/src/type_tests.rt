@@ -24,13 +24,13 @@ type Ty = Type<Sample>;
 
 fn path(alloc: Global, text: &str) -> Result<Ty, Error> {
     let tokens = lex(alloc, text)?;
-    let path = read_all_with(alloc, ModStyle::<Sample>::new(), &tokens)?;
+    let path = read_all_with(alloc, ModStyle::new(), &tokens)?;
     Ok(Type::from(TypePathOf { qself: None, path }))
 }
 
 fn call(alloc: Global, text: &str) -> Result<Ty, Error> {
     let tokens = lex(alloc, text)?;
-    let mac = read_all::<Macro<Sample>>(alloc, &tokens)?;
+    let mac = read_all::<Macro>(alloc, &tokens)?;
     Ok(Type::from(TypeMacro { mac }))
 }
 

@@ -26,7 +26,6 @@ use Rattle.token_core.proofs.Steps.{link, chosen, Reads_to}
 use Rattle.token_core.proofs.Took.{at, leaves_none}
 use Rattle.token_core.proofs.WordSpells.{word_complete, word_seen, lifetime_complete, lifetime_seen}
 use Rattle.syn_mid.specs.declared.mac.Macro.{Macro}
-use Rattle.syn_mid.specs.declared.path.Path.{Path}
 use Rattle.syn_mid.specs.declared.supplied.Expr.{Expr}
 use Rattle.syn_mid.specs.declared.supplied.Expr.TheVariants as e
 use Rattle.syn_mid.specs.declared.ty.PointerMutability.{PointerMutability}
@@ -44,6 +43,7 @@ use Rattle.syn_mid.specs.declared.ty.TypeSliceOf.{TypeSliceOf}
 use Rattle.syn_mid.specs.declared.ty.TypeTupleOf.{TypeTupleOf}
 use Rattle.syn_mid.specs.Supplied.{Place, ArrayLen, UsesUp}
 use Rattle.syn_mid.specs.mac.Spelling.{IsCall, a_macro}
+use Rattle.syn_mid.specs.path.Paths.{Path, nothing, no_arguments, without}
 use Rattle.syn_mid.specs.path.Reading.{sees_sep, sees_angle}
 use Rattle.syn_mid.specs.path.Spelling.{is_type_word, IsPlainPath}
 use Rattle.syn_mid.specs.ty.Knot.{ahead}
@@ -54,6 +54,7 @@ use Rattle.syn_mid.specs.ty.Spelling.{Relation, IsOptional, absent, present, IsM
 use Rattle.syn_mid.specs.ty.Types.{And, Star, Comma, Semi, Mut, Underscore, array_of, infer_of, macro_type_of, never_of, paren_of, path_type_of, ptr_of, reference_of, slice_of, tuple_of}
 use Rattle.syn_mid.proofs.attr_laws.Complete.{Uses, uses_none}
 use Rattle.syn_mid.proofs.mac_laws.Complete.{call_after_complete, macro_complete}
+use Rattle.syn_mid.proofs.path_laws.Without.{path_without, path_back}
 use Rattle.syn_mid.proofs.path_laws.Complete.{plain_complete}
 use Rattle.syn_mid.proofs.ty_laws.Ahead.{weight, ahead-is}
 use Rattle.syn_mid.proofs.ty_laws.Firsts.{Begins, OnPath, path_first}
@@ -194,29 +195,30 @@ no_plus false r h = refl
 
 module _ {X : Type 0} where
   pub path_type_complete : (x : TypePathOf (TypeTree X) X) (l r : Toks) (f : Option Span) (e : Span) (sc : Scope) → IsPathType true x l r → sees_sep r ≡ false → sees_angle r ≡ false → Reads_to path_type x l r f e sc
-  path_type_complete x l r f e sc (a_path_type {p = p} i) h g = let k = plain_complete p l r f e sc i h g in record { last = k.last; reads = link _ k.reads refl }
+  path_type_complete x l r f e sc (a_path_type {p = p} i) h g = let k = plain_complete no_arguments p l r f e sc i h g in record { last = k.last; reads = link _ k.reads refl }
 
-  pub macro_type_complete : (x : TypeMacro X) (l r : Toks) (f : Option Span) (e : Span) (sc : Scope) → IsMacroType true x l r → Reads_to macro_type x l r f e sc
+  pub macro_type_complete : (x : TypeMacro) (l r : Toks) (f : Option Span) (e : Span) (sc : Scope) → IsMacroType true x l r → Reads_to macro_type x l r f e sc
   macro_type_complete x l r f e sc (a_macro_type {x = y} i) = let k = macro_complete y l r f e sc i in record { last = k.last; reads = link _ k.reads refl }
 
   ended_complete : (plus : Bool) (x : TypeTree X) (r : Toks) (f : Option Span) (e : Span) (sc : Scope) → Ends plus r → ended plus x (at r f e sc) ≡ Ok (x, at r f e sc)
   unfolding ended
   ended_complete plus x r f e sc h = chosen (plus && sees_plus r) false _ _ (at r f e sc) _ (no_plus plus r h) refl
 
-  path_complete : (plus : Bool) (p : Path X) (l r : Toks) (f : Option Span) (e : Span) (sc : Scope) → IsPlainPath true p l r → Ends plus r → Reads_to (path_or_macro plus) (t.Path (path_type_of p)) l r f e sc
+  path_complete : (plus : Bool) (p : Path X) (l r : Toks) (f : Option Span) (e : Span) (sc : Scope) → IsPlainPath true no_arguments p l r → Ends plus r → Reads_to (path_or_macro plus) (t.Path (path_type_of p)) l r f e sc
   unfolding path_or_macro
   path_complete plus p l r f e sc i h =
-      let k = plain_complete p l r f e sc i h.sep h.angle in
+      let k = plain_complete no_arguments p l r f e sc i h.sep h.angle in
       record { last = k.last; reads = link _ k.reads (chosen (sees_call r) false _ _ (at r f k.last sc) _ h.call (ended_complete plus (t.Path (path_type_of p)) r f k.last sc h)) }
 
-  call_complete : (plus : Bool) (x : Macro X) (l r : Toks) (f : Option Span) (e : Span) (sc : Scope) → IsCall true is_type_word x l r → Reads_to (path_or_macro plus) (t.Macro (macro_type_of x)) l r f e sc
+  call_complete : (plus : Bool) (x : Macro) (l r : Toks) (f : Option Span) (e : Span) (sc : Scope) → IsCall true is_type_word x l r → Reads_to (path_or_macro plus) (t.Macro (macro_type_of x)) l r f e sc
   unfolding path_or_macro
   call_complete plus x l r f e sc (a_macro {p = p} {a = a} {j = j} {e = b} {d = d} {s = g} {c = c} {tokens = tokens} i apart h k) =
       let n = mark (punct 33 j a) (group d g c r) in
-      let w = plain_complete p l n f e sc i (no_sep_bang a j (group d g c r)) (no_angle_bang a j (group d g c r)) in
+      let q : Path X = without no_arguments p in
+      let w = plain_complete no_arguments q l n f e sc (path_without nothing no_arguments p l n i) (no_sep_bang a j (group d g c r)) (no_angle_bang a j (group d g c r)) in
       record {
         last = g.closing;
-        reads = link _ w.reads (chosen (sees_call n) true _ _ (at n f w.last sc) _ (call_seen a j d g c r) (link _ (call_after_complete p a j b d g c r tokens f w.last sc h k) refl));
+        reads = link _ w.reads (chosen (sees_call n) true _ _ (at n f w.last sc) _ (call_seen a j d g c r) (link _ (ap (λ z. call_after z (at n f w.last sc)) (path_back nothing no_arguments p l n i) ∙ call_after_complete p a j b d g c r tokens f w.last sc h k) refl));
       }
 
 -- ---- the steps of a turn, by the first token

@@ -88,13 +88,13 @@ never_lawful = lawful_by (IsNever) (λ (z : TypeNever). z) printing.never readin
 pub never_front : (s t : Stream) (q : Result (TypeNever) Refusal) → Reads (reading.never s) q t → Visible s.rest → IfOk q (λ x. IsNever false x s.rest t.rest)
 never_front = taken_front {Is = IsNever false} reading.never sound_parts.never_sound
 
+pub macro_type_lawful : Lawful grammars.macro_type
+macro_type_lawful = lawful_by (λ clear. IsMacroType clear) (λ (z : TypeMacro). z) printing.macro_type reading.macro_type (λ s t a v e. plainly {Is = IsMacroType false} sound_parts.visible_macro_type s t a v (sound_parts.macro_type_sound s t a v e)) (λ s a h. complete_parts.macro_type_complete a s.rest done s.left s.last s.scope h) reprint_parts.macro_type_again
+
+pub macro_type_front : (s t : Stream) (q : Result TypeMacro Refusal) → Reads (reading.macro_type s) q t → Visible s.rest → IfOk q (λ x. IsMacroType false x s.rest t.rest)
+macro_type_front = taken_front {Is = IsMacroType false} reading.macro_type sound_parts.macro_type_sound
+
 module _ {X : Type 0} where
-  pub macro_type_lawful : Lawful (grammars.macro_type {X = X})
-  macro_type_lawful = lawful_by (λ clear. IsMacroType clear) (λ (z : TypeMacro X). z) printing.macro_type reading.macro_type (λ s t a v e. plainly {Is = IsMacroType false} sound_parts.visible_macro_type s t a v (sound_parts.macro_type_sound s t a v e)) (λ s a h. complete_parts.macro_type_complete a s.rest done s.left s.last s.scope h) reprint_parts.macro_type_again
-
-  pub macro_type_front : (s t : Stream) (q : Result (TypeMacro X) Refusal) → Reads (reading.macro_type s) q t → Visible s.rest → IfOk q (λ x. IsMacroType false x s.rest t.rest)
-  macro_type_front = taken_front {Is = IsMacroType false} reading.macro_type sound_parts.macro_type_sound
-
   pub path_type_lawful : (reads : Place → Reader X) (spells : Place → X → Toks → Type 0) (normals : Place → X → X) (prints : Place → X → Print) → Lawful (grammars.path_type reads spells normals prints)
   path_type_lawful reads spells normals prints = lawful_by (λ clear. IsPathType clear) (normal.path_type normals) (printing.path_type prints) reading.path_type (λ s t a v e. plainly {Is = IsPathType false} sound_parts.visible_path_type s t a v (sound_parts.path_type_sound s t a v e)) (λ s a h. complete_parts.path_type_complete a s.rest done s.left s.last s.scope h (ends_done false).sep (ends_done false).angle) (reprint_parts.path_type_again normals prints)
 

@@ -20,7 +20,7 @@ use Rattle.syn_mid.specs.declared.generics.TraitBoundOf.{TraitBoundOf}
 use Rattle.syn_mid.specs.declared.generics.TypeParam.{TypeParam, roll-TypeParam, map-TypeParam, out-TypeParam, roll-out-TypeParam}
 use Rattle.syn_mid.specs.declared.generics.TypeParamBound.{TypeParamBound, roll-TypeParamBound, map-TypeParamBound}
 use Rattle.syn_mid.specs.declared.generics.TypeParamBound.TheVariants as b
-use Rattle.syn_mid.specs.declared.path.Path.{Path}
+use Rattle.syn_mid.specs.path.Paths.{Path}
 use Rattle.syn_mid.specs.declared.path.QSelfOf.{QSelfOf}
 use Rattle.syn_mid.specs.declared.supplied.Expr.{Expr}
 use Rattle.syn_mid.specs.declared.ty.Abi.{Abi}
@@ -92,7 +92,7 @@ module _ {X : Type 0} (nx : Place → X → X) where
   pub normal-Infer : (x : TypeInfer) → ty nx (v.Infer x) ≡ v.Infer x
   normal-Infer x = ap (ty nx) (sym (v.rolls-Infer x)) ∙ by_ty (o.Infer x)
 
-  pub normal-Macro : (x : TypeMacro X) → ty nx (v.Macro x) ≡ v.Macro x
+  pub normal-Macro : (x : TypeMacro) → ty nx (v.Macro x) ≡ v.Macro x
   normal-Macro x = ap (ty nx) (sym (v.rolls-Macro x)) ∙ by_ty (o.Macro x)
 
   pub normal-Never : (x : TypeNever) → ty nx (v.Never x) ≡ v.Never x

@@ -27,7 +27,7 @@ use Rattle.syn_mid.specs.declared.generics.TraitBoundOf.{TraitBoundOf}
 use Rattle.syn_mid.specs.declared.generics.TypeParam.{TypeParam, roll-TypeParam, map-TypeParam, out-TypeParam, roll-out-TypeParam}
 use Rattle.syn_mid.specs.declared.generics.TypeParamBound.{TypeParamBound, roll-TypeParamBound, map-TypeParamBound}
 use Rattle.syn_mid.specs.declared.generics.TypeParamBound.TheVariants as b
-use Rattle.syn_mid.specs.declared.path.Path.{Path}
+use Rattle.syn_mid.specs.path.Paths.{Path}
 use Rattle.syn_mid.specs.declared.path.QSelfOf.{QSelfOf}
 use Rattle.syn_mid.specs.declared.supplied.Expr.{Expr}
 use Rattle.syn_mid.specs.declared.ty.Abi.{Abi}
@@ -105,7 +105,7 @@ module _ {X : Type 0} (px : Place → X → Print) where
   pub ty-Infer : (x : TypeInfer) → ty px (v.Infer x) ≡ infer x
   ty-Infer x = ap (ty px) (sym (v.rolls-Infer x)) ∙ by_ty (o.Infer x)
 
-  pub ty-Macro : (x : TypeMacro X) → ty px (v.Macro x) ≡ macro_type x
+  pub ty-Macro : (x : TypeMacro) → ty px (v.Macro x) ≡ macro_type x
   ty-Macro x = ap (ty px) (sym (v.rolls-Macro x)) ∙ by_ty (o.Macro x)
 
   pub ty-Never : (x : TypeNever) → ty px (v.Never x) ≡ never x

@@ -39,7 +39,8 @@ use Rattle.syn_mid.specs.declared.ty.TypeTupleOf.{TypeTupleOf}
 use Rattle.syn_mid.specs.Supplied.{Place, ArrayLen, UsesUp, Reprints}
 use Rattle.syn_mid.specs.mac.Printing.{mac}
 use Rattle.syn_mid.specs.mac.Spelling.{IsCall}
-use Rattle.syn_mid.specs.path.Printing.{path}
+use Rattle.syn_mid.specs.path.Paths.{no_arguments}
+use Rattle.syn_mid.specs.path.Printing.{path, arguments}
 use Rattle.syn_mid.specs.ty.Normal as normal
 use Rattle.syn_mid.specs.ty.Printing as printing
 use Rattle.syn_mid.specs.ty.Printing.{lone_comma}
@@ -108,7 +109,7 @@ never_again x l r (a_never {b = b} i) = let k = mark_front b l r i in record { s
 module _ {X : Type 0} where
   pub path_type_again : (nx : Place → X → X) (px : Place → X → Print) (x : TypePathOf (TypeTree X) X) (l r : Toks) → IsPathType false x l r → AgainFront (IsPathType true) (normal.path_type nx) (printing.path_type px) x l r
   path_type_again nx px x l r (a_path_type {p = q} i) =
-      let again = λ (h : Toks). path_again AsWritten false q l r h i in
+      let again = λ (h : Toks). path_again no_arguments (arguments AsWritten) refl false q l r h i in
       record {
         spelt = λ h. a_path_type (again h);
         visible = λ h u w. whole_path true q (row (path AsWritten q) h) h (again h) w;
@@ -117,7 +118,7 @@ module _ {X : Type 0} where
         same = refl;
       }
 
-  call_front : {ok : Bytes → Bool} (x : Macro X) (l r : Toks) → IsCall false ok x l r → AgainFront (IsCall true ok) (λ (z : Macro X). z) mac x l r
+  call_front : {ok : Bytes → Bool} (x : Macro) (l r : Toks) → IsCall false ok x l r → AgainFront (IsCall true ok) (λ (z : Macro). z) mac x l r
   call_front x l r i =
       let again = λ (h : Toks). macro_again false x l r h i in
       record {
@@ -128,7 +129,7 @@ module _ {X : Type 0} where
         same = refl;
       }
 
-  pub macro_type_again : (x : TypeMacro X) (l r : Toks) → IsMacroType false x l r → AgainFront (IsMacroType true) (λ (z : TypeMacro X). z) printing.macro_type x l r
+  pub macro_type_again : (x : TypeMacro) (l r : Toks) → IsMacroType false x l r → AgainFront (IsMacroType true) (λ (z : TypeMacro). z) printing.macro_type x l r
   macro_type_again x l r (a_macro_type {x = y} i) = let k = call_front y l r i in record { spelt = λ h. a_macro_type (k.spelt h); visible = λ h u w. k.visible h u w; seen = λ u. k.seen u; stays = refl; same = refl }
 
 -- ---- values joined by marks

@@ -27,7 +27,7 @@ use Rattle.syn_mid.specs.declared.generics.TraitBoundOf.{TraitBoundOf}
 use Rattle.syn_mid.specs.declared.generics.TypeParam.{TypeParam, roll-TypeParam, map-TypeParam, out-TypeParam, roll-out-TypeParam}
 use Rattle.syn_mid.specs.declared.generics.TypeParamBound.{TypeParamBound, roll-TypeParamBound, map-TypeParamBound}
 use Rattle.syn_mid.specs.declared.generics.TypeParamBound.TheVariants as b
-use Rattle.syn_mid.specs.declared.path.Path.{Path}
+use Rattle.syn_mid.specs.path.Paths.{Path}
 use Rattle.syn_mid.specs.declared.path.PathStyle.{PathStyle}
 use Rattle.syn_mid.specs.declared.path.QSelfOf.{QSelfOf}
 use Rattle.syn_mid.specs.declared.supplied.Expr.{Expr}

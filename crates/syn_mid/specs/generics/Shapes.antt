@@ -28,7 +28,7 @@ use Rattle.syn_mid.specs.declared.generics.PreciseCapture.{PreciseCapture}
 use Rattle.syn_mid.specs.declared.generics.CapturedParam.{CapturedParam}
 use Rattle.syn_mid.specs.declared.generics.CapturedParam.TheVariants as c
 use Rattle.syn_mid.specs.attr.Printing.{meta, value, outer_by, at_place}
-use Rattle.syn_mid.specs.path.Paths.{lone_ident}
+use Rattle.syn_mid.specs.path.Paths.{ModPath, lone_ident}
 use Rattle.syn_mid.specs.path.Printing.{path, as_written}
 use Rattle.syn_mid.specs.generics.Members.{sorted}
 
@@ -124,8 +124,8 @@ is_empty [] = true
 is_empty (x ∷ all) = false
 
 -- a path without attributes that is one identifier
-abbrev pub is_word : {A X : Type 0} → ExprPathOf A X → Bool
-is_word x = is_empty x.attrs && is_some (lone_ident x.path)
+abbrev pub is_word : {A : Type 0} → ExprPathOf A ModPath → Bool
+is_word x = is_empty x.attrs && is_some (lone_ident (λ a. true) x.path)
 
 abbrev pub alone_layer : {X : Type 0} → o.Expr-F X (Meta X) (Expr X) (MetaNameValue X) (ExprRange X) → Bool
 alone_layer (o.Lit x) = true

@@ -10,15 +10,15 @@ use Rattle.token_core.specs.Spans.{none}
 use Rattle.token_core.specs.Trees.{stream_of_trees}
 use Rattle.token_core.specs.Lists.{joined}
 use Rattle.token_core.specs.Loops.{Many}
-use Rattle.syn_mid.specs.declared.path.Path.{Path}
-use Rattle.syn_mid.specs.declared.path.PathSegment.{PathSegment}
+use Rattle.syn_mid.specs.declared.path.PathOf.{PathOf}
+use Rattle.syn_mid.specs.declared.path.PathSegmentOf.{PathSegmentOf}
 use Rattle.syn_mid.specs.declared.path.PathArguments.{PathArguments}
 use Rattle.syn_mid.specs.declared.path.PathArguments.TheVariants as a
 use Rattle.syn_mid.specs.declared.path.AngleBracketedGenericArguments.{AngleBracketedGenericArguments}
 use Rattle.syn_mid.specs.declared.path.ParenthesizedGenericArguments.{ParenthesizedGenericArguments}
 use Rattle.syn_mid.specs.declared.path.PathStyle.{PathStyle}
-use Rattle.syn_mid.specs.declared.path.PathStyle.TheVariants.{Expr, AsWritten, Mod}
-use Rattle.syn_mid.specs.path.Paths.{Sep}
+use Rattle.syn_mid.specs.declared.path.PathStyle.TheVariants.{Expr, AsWritten}
+use Rattle.syn_mid.specs.path.Paths.{Sep, Path, PathSegment, ModPath, ModSegment}
 
 abbrev pub colon : Option Sep → Print
 colon None = []
@@ -40,6 +40,56 @@ as_written = AsWritten
 abbrev pub expr_style : PathStyle
 expr_style = Expr
 
+-- ---- by the print of what stands in the place of the arguments
+
+module _ {A : Type 0} (arguments : A → Print) where
+  abbrev pub segment_by : PathSegmentOf A → Print
+  segment_by s = p.ident s.ident ++ arguments s.arguments
+
+  -- each segment with its mark
+  abbrev pub segments_by : Many (PathSegmentOf A) Sep → Print
+  segments_by v = joined segment_by p.mark v.0 v.1
+
+  -- the leading colon and the segments
+  abbrev pub path_by : PathOf A → Print
+  path_by x = colon x.leading_colon ++ segments_by x.segments
+
+-- qualified paths
+module _ {A : Type 0} (arguments : PathStyle → A → Print) where
+  -- a segment, where so many are to stand before `>`, itself among them: those as they stand, and `>` after the last
+  abbrev pub closing_by : PathStyle → Mark 3 1 → ℕ → PathSegmentOf A → Print
+  closing_by style gt zero s = segment_by (arguments style) s
+  closing_by style gt (suc zero) s = segment_by (arguments AsWritten) s ++ p.mark gt
+  closing_by style gt (suc (suc n)) s = segment_by (arguments AsWritten) s
+
+  -- segments, with `>` after so many of them
+  abbrev pub around_by : PathStyle → Mark 3 1 → ℕ → List (PathSegmentOf A) → List Sep → Print
+  around_by style gt n [] ps = []
+  around_by style gt n (x ∷ xs) [] = closing_by style gt n x ++ around_by style gt (pred n) xs []
+  around_by style gt n (x ∷ xs) (m ∷ ps) = closing_by style gt n x ++ (p.mark m ++ around_by style gt (pred n) xs ps)
+
+  -- what follows the type, where so many segments stand before `>`
+  abbrev pub qualified_at : {T : Type 0} → PathStyle → QSelfOf T → PathOf A → ℕ → Print
+  qualified_at style q x zero = p.mark q.gt_token ++ path_by (arguments style) x
+  qualified_at style q x (suc n) = as_or_default q.as_token ++ (colon x.leading_colon ++ around_by style q.gt_token (suc n) x.segments.0 x.segments.1)
+
+  -- as many as `position` says, or as there are
+  abbrev pub qualified_by : {T : Type 0} → PathStyle → QSelfOf T → PathOf A → Print
+  qualified_by style q x = qualified_at style q x (min q.position (length x.segments.0))
+
+-- ---- paths without arguments
+
+abbrev pub mod_segment : ModSegment → Print
+mod_segment = segment_by (λ a. [])
+
+abbrev pub mod_segments : Many ModSegment Sep → Print
+mod_segments = segments_by (λ a. [])
+
+abbrev pub mod_path : ModPath → Print
+mod_path = path_by (λ a. [])
+
+-- ---- paths with arguments
+
 module _ {X : Type 0} where
   abbrev pub angle_bracketed : AngleBracketedGenericArguments X → Print
   angle_bracketed g = colon g.colon2_token ++ (p.mark g.lt_token ++ p.mark g.gt_token)
@@ -55,9 +105,8 @@ module _ {X : Type 0} where
   abbrev pub parenthesized_turbofish : ParenthesizedGenericArguments X → Print
   parenthesized_turbofish g = colon_or_default None ++ parenthesized g
 
-  -- arguments print as in an expression, after `::`, as they stand, or not at all
+  -- arguments print as in an expression, after `::`, or as they stand
   abbrev pub arguments : PathStyle → PathArguments X → Print
-  arguments Mod g = []
   arguments Expr a.None = []
   arguments Expr (a.AngleBracketed g) = turbofish g
   arguments Expr (a.Parenthesized g) = parenthesized_turbofish g
@@ -66,35 +115,19 @@ module _ {X : Type 0} where
   arguments AsWritten (a.Parenthesized g) = parenthesized g
 
   abbrev pub segment : PathStyle → PathSegment X → Print
-  segment style s = p.ident s.ident ++ arguments style s.arguments
+  segment style = segment_by (arguments style)
 
-  -- each segment with its mark
   abbrev pub segments : PathStyle → Many (PathSegment X) Sep → Print
-  segments style v = joined (segment style) p.mark v.0 v.1
+  segments style = segments_by (arguments style)
 
-  -- the leading colon and the segments
   abbrev pub path : PathStyle → Path X → Print
-  path style x = colon x.leading_colon ++ segments style x.segments
+  path style = path_by (arguments style)
 
-  -- ---- qualified paths
-
-  -- a segment, where so many are to stand before `>`, itself among them: those as they stand, and `>` after the last
   abbrev pub closing : PathStyle → Mark 3 1 → ℕ → PathSegment X → Print
-  closing style gt zero s = segment style s
-  closing style gt (suc zero) s = segment AsWritten s ++ p.mark gt
-  closing style gt (suc (suc n)) s = segment AsWritten s
+  closing = closing_by arguments
 
-  -- segments, with `>` after so many of them
   abbrev pub around : PathStyle → Mark 3 1 → ℕ → List (PathSegment X) → List Sep → Print
-  around style gt n [] ps = []
-  around style gt n (x ∷ xs) [] = closing style gt n x ++ around style gt (pred n) xs []
-  around style gt n (x ∷ xs) (m ∷ ps) = closing style gt n x ++ (p.mark m ++ around style gt (pred n) xs ps)
+  around = around_by arguments
 
-  -- what follows the type, where so many segments stand before `>`
-  abbrev pub qualified_by : {T : Type 0} → PathStyle → QSelfOf T → Path X → ℕ → Print
-  qualified_by style q x zero = p.mark q.gt_token ++ path style x
-  qualified_by style q x (suc n) = as_or_default q.as_token ++ (colon x.leading_colon ++ around style q.gt_token (suc n) x.segments.0 x.segments.1)
-
-  -- as many as `position` says, or as there are
   abbrev pub qualified : {T : Type 0} → PathStyle → QSelfOf T → Path X → Print
-  qualified style q x = qualified_by style q x (min q.position (length x.segments.0))
+  qualified = qualified_by arguments

@@ -36,7 +36,7 @@ infer = record { spells = λ clear x l. IsInfer x l done; normal = λ x. x; prin
 abbrev pub never : Grammar TypeNever
 never = record { spells = λ clear x l. IsNever clear x l done; normal = λ x. x; print = printing.never; plain = λ x. Unit {0}; reader = reading.never }
 
-abbrev pub macro_type : {X : Type 0} → Grammar (TypeMacro X)
+abbrev pub macro_type : Grammar TypeMacro
 macro_type = record { spells = λ clear x l. IsMacroType clear x l done; normal = λ x. x; print = printing.macro_type; plain = λ x. Unit {0}; reader = reading.macro_type }
 
 module _ {X : Type 0} (reads : Place → Reader X) (spells : Place → X → Toks → Type 0) (normals : Place → X → X) (prints : Place → X → Print) where

@@ -35,7 +35,6 @@ use Rattle.syn_mid.specs.declared.ty.TypeTraitObjectOf.{TypeTraitObjectOf}
 use Rattle.syn_mid.specs.declared.ty.TypeFnPtr.{TypeFnPtr, out-TypeFnPtr}
 use Rattle.syn_mid.specs.declared.ty.NamedArgOf.{NamedArgOf}
 use Rattle.syn_mid.specs.declared.ty.FnPtrVariadic.{FnPtrVariadic}
-use Rattle.syn_mid.specs.declared.path.Path.{Path}
 use Rattle.syn_mid.specs.declared.path.PathStyle.{PathStyle}
 use Rattle.syn_mid.specs.declared.path.QSelfOf.{QSelfOf}
 use Rattle.syn_mid.specs.declared.generics.BoundLifetimesOf.{BoundLifetimesOf}
@@ -56,6 +55,7 @@ use Rattle.syn_mid.specs.declared.ty.TypeSliceOf.{TypeSliceOf}
 use Rattle.syn_mid.specs.declared.ty.TypeTupleOf.{TypeTupleOf}
 use Rattle.syn_mid.specs.attr.Printing.{at_place}
 use Rattle.syn_mid.specs.mac.Printing.{mac}
+use Rattle.syn_mid.specs.path.Paths.{Path}
 use Rattle.syn_mid.specs.path.Printing.{path, as_written, qualified}
 use Rattle.syn_mid.specs.ty.Types.{Comma, Plus, comma}
 
@@ -73,7 +73,7 @@ infer x = p.word x.underscore_token
 abbrev pub never : TypeNever → Print
 never x = p.mark x.bang_token
 
-abbrev pub macro_type : {X : Type 0} → TypeMacro X → Print
+abbrev pub macro_type : TypeMacro → Print
 macro_type x = mac x.mac
 
 -- a word, or nothing

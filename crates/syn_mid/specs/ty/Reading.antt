@@ -27,6 +27,7 @@ use Rattle.syn_mid.specs.declared.ty.TypeSliceOf.{TypeSliceOf}
 use Rattle.syn_mid.specs.declared.ty.TypeTupleOf.{TypeTupleOf}
 use Rattle.syn_mid.specs.Supplied.{Place, ArrayLen}
 use Rattle.syn_mid.specs.mac.Reading as macs
+use Rattle.syn_mid.specs.path.Paths.{no_arguments, nothing, without}
 use Rattle.syn_mid.specs.path.Reading.{plain_path, sees_sep}
 use Rattle.syn_mid.specs.path.Spelling.{is_mod_word}
 use Rattle.syn_mid.specs.ty.Types.{And, Star, Comma, Semi, Mut, array_of, infer_of, macro_type_of, never_of, paren_of, path_type_of, ptr_of, reference_of, slice_of, tuple_of}
@@ -99,12 +100,12 @@ mutability = do
 abbrev pub type_name : Bytes
 type_name = codes "type"
 
+abbrev pub macro_type : Reader TypeMacro
+macro_type = macro_type_of <$> macs.mac
+
 module _ {X : Type 0} where
   abbrev pub path_type : Reader (TypePathOf (TypeTree X) X)
-  path_type = path_type_of <$> plain_path
-
-  abbrev pub macro_type : Reader (TypeMacro X)
-  macro_type = macro_type_of <$> macs.mac
+  path_type = path_type_of <$> plain_path no_arguments
 
   -- a type after which, where a plus is allowed, none may stand: it would begin a trait object
   unfoldable pub ended : Bool → TypeTree X → Reader (TypeTree X)
@@ -115,9 +116,9 @@ module _ {X : Type 0} where
   -- after the path of a type: a macro call, or the path alone
   unfoldable pub path_or_macro : Bool → Reader (TypeTree X)
   path_or_macro plus = do
-    p ← plain_path
+    p ← plain_path no_arguments
     call ← peek sees_call
-    if call then (λ c. t.Macro (macro_type_of c)) <$> macs.call_after p else ended plus (t.Path (path_type_of p))
+    if call then (λ c. t.Macro (macro_type_of c)) <$> macs.call_after (without nothing p) else ended plus (t.Path (path_type_of p))
 
 -- what follows the element of an array
 abbrev pub Length : Type 0 → Type 0

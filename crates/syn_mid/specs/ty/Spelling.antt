@@ -9,7 +9,6 @@ use Rattle.token_core.specs.Listed.{AreListed, Anywhere}
 use Rattle.token_core.specs.Spellings.{IsMark, IsWord, IsLifetime}
 use Rattle.token_core.specs.Toks.{Toks, done, group}
 use Rattle.syn_mid.specs.declared.mac.Macro.{Macro}
-use Rattle.syn_mid.specs.declared.path.Path.{Path}
 use Rattle.syn_mid.specs.declared.supplied.Expr.{Expr}
 use Rattle.syn_mid.specs.declared.supplied.Expr.TheVariants as e
 use Rattle.syn_mid.specs.declared.ty.PointerMutability.{PointerMutability}
@@ -29,6 +28,7 @@ use Rattle.syn_mid.specs.declared.ty.TypeTupleOf.{TypeTupleOf}
 use Rattle.syn_mid.specs.Supplied.{Place, ArrayLen}
 use Rattle.syn_mid.specs.mac.Macros.{Bang}
 use Rattle.syn_mid.specs.mac.Spelling.{IsCall, IsMacro}
+use Rattle.syn_mid.specs.path.Paths.{Path, no_arguments}
 use Rattle.syn_mid.specs.path.Reading.{sees_sep, sees_angle}
 use Rattle.syn_mid.specs.path.Spelling.{IsPlainPath, is_type_word}
 use Rattle.syn_mid.specs.ty.Reading.{sees_call, sees_plus}
@@ -57,13 +57,13 @@ module _ (clear : Bool) where
   pub data IsNever : TypeNever → Toks → Toks → Type 0 where
     a_never : {b : Bang} {l r : Toks} → IsMark clear b l r → IsNever (never_of b) l r
 
+  -- a macro call whose path is of mod style
+  pub data IsMacroType : TypeMacro → Toks → Toks → Type 0 where
+    a_macro_type : {x : Macro} {l r : Toks} → IsMacro clear x l r → IsMacroType (macro_type_of x) l r
+
   module _ {X : Type 0} where
     pub data IsPathType : TypePathOf (TypeTree X) X → Toks → Toks → Type 0 where
-      a_path_type : {p : Path X} {l r : Toks} → IsPlainPath clear p l r → IsPathType (path_type_of p) l r
-
-    -- a macro call whose path is of mod style
-    pub data IsMacroType : TypeMacro X → Toks → Toks → Type 0 where
-      a_macro_type : {x : Macro X} {l r : Toks} → IsMacro clear x l r → IsMacroType (macro_type_of x) l r
+      a_path_type : {p : Path X} {l r : Toks} → IsPlainPath clear no_arguments p l r → IsPathType (path_type_of p) l r
 
 -- ---- the types that hold types: those are spelt by the relation T, in a place with plus or without plus. What a supplied
 -- subtree spells in a place is told by the first relation.
@@ -102,7 +102,7 @@ module _ {X : Type 0} (spells : Place → X → Toks → Type 0) (clear : Bool) 
   pub data IsType : Bool → TypeTree X → Toks → Toks → Type 0 where
     array : {plus : Bool} {x : TypeArrayOf (TypeTree X) (Expr X)} {l r : Toks} → IsArray x l r → IsType plus (t.Array x) l r
     infer : {plus : Bool} {x : TypeInfer} {l r : Toks} → IsInfer x l r → IsType plus (t.Infer x) l r
-    macro_call : {plus : Bool} {x : Macro X} {l r : Toks} → IsCall clear is_type_word x l r → is_try_path x.path ≡ false → IsType plus (t.Macro (macro_type_of x)) l r
+    macro_call : {plus : Bool} {x : Macro} {l r : Toks} → IsCall clear is_type_word x l r → is_try_path x.path ≡ false → IsType plus (t.Macro (macro_type_of x)) l r
     never : {plus : Bool} {x : TypeNever} {l r : Toks} → IsNever clear x l r → IsType plus (t.Never x) l r
     paren : {plus : Bool} {x : TypeParenOf (TypeTree X)} {l r : Toks} → IsParen true x l r → IsType plus (t.Paren x) l r
     path : {plus : Bool} {x : TypePathOf (TypeTree X) X} {l r : Toks} → IsPathType clear x l r → is_try_path x.path ≡ false → IsType plus (t.Path x) l r

@@ -10,8 +10,8 @@ use Rattle.token_core.specs.Loops.{Many}
 use Rattle.token_core.specs.Marks.{text_of}
 use Rattle.token_core.specs.Reads.{is_text}
 use Rattle.syn_mid.specs.declared.mac.Macro.{Macro}
-use Rattle.syn_mid.specs.declared.path.Path.{Path}
-use Rattle.syn_mid.specs.declared.path.PathSegment.{PathSegment}
+use Rattle.syn_mid.specs.declared.path.PathOf.{PathOf}
+use Rattle.syn_mid.specs.declared.path.PathSegmentOf.{PathSegmentOf}
 use Rattle.syn_mid.specs.declared.ty.PointerMutability.{PointerMutability}
 use Rattle.syn_mid.specs.declared.ty.TypeArrayOf.{TypeArrayOf}
 use Rattle.syn_mid.specs.declared.ty.TypeInfer.{TypeInfer}
@@ -40,7 +40,7 @@ use Rattle.syn_mid.specs.declared.ty.TypeReferenceOf.{TypeReferenceOf}
 use Rattle.syn_mid.specs.declared.ty.TypeSliceOf.{TypeSliceOf}
 use Rattle.syn_mid.specs.declared.ty.TypeTupleOf.{TypeTupleOf}
 use Rattle.syn_mid.specs.mac.Macros.{Bang}
-use Rattle.syn_mid.specs.path.Paths.{Sep}
+use Rattle.syn_mid.specs.path.Paths.{Sep, Path}
 
 abbrev pub And : Type 0
 And = Mark 5 1
@@ -76,7 +76,7 @@ group_of g x = record { group_token = g; elem = x }
 abbrev pub infer_of : Underscore → TypeInfer
 infer_of u = record { underscore_token = u }
 
-abbrev pub macro_type_of : {X : Type 0} → Macro X → TypeMacro X
+abbrev pub macro_type_of : Macro → TypeMacro
 macro_type_of m = record { mac = m }
 
 abbrev pub never_of : Bang → TypeNever
@@ -125,12 +125,12 @@ tuple_of p v = record { paren_token = p; elems = v }
 
 -- ---- paths of types
 
-module _ {X : Type 0} where
-  abbrev pub try_first : Option Sep → List (PathSegment X) → Bool
+module _ {A : Type 0} where
+  abbrev pub try_first : Option Sep → List (PathSegmentOf A) → Bool
   try_first None (s ∷ l) = is_text (text_of 15) s.ident.text
   try_first None [] = false
   try_first (Some c) l = false
 
   -- a path that begins with `try`, which no type does
-  abbrev pub is_try_path : Path X → Bool
+  abbrev pub is_try_path : PathOf A → Bool
   is_try_path p = try_first p.leading_colon p.segments.0

@@ -72,7 +72,7 @@ turn-preserved g c =
 
 pub turn-smaller : goal.turn-smaller
 turn-smaller g c =
-    let a = path_takes _ c.turn.input c.parse_bare_path.new.input c.in_ok-path.path c.in_ok-path.ensures.reads in
+    let a = path_takes _ _ c.turn.input c.parse_bare_path.new.input c.in_ok-path.path c.in_ok-path.ensures.reads in
     let b = size_suffix c.advance_to.ensures.within.suffix in
     let d = size_suffix c.parse.ensures.within.suffix in
     omega (arith, a, b, d)
