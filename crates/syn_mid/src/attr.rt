@@ -294,10 +294,7 @@ impl Parse for MetaList {
 }
 
 #[tactic(auto, using(token_core::proofs::Suffixes::follows), unfolding(crate::specs::attr::Reading::list))]
-fn parse_meta_list(
-    alloc: Global,
-    input: &mut ParseStream<'_>,
-) -> Result<MetaList, Error>
+fn parse_meta_list(alloc: Global, input: &mut ParseStream<'_>) -> Result<MetaList, Error>
     ensures reads { Reads (reading.list input.old) result input.new }
     ensures within { Follows input.old input.new }
 {
@@ -925,13 +922,7 @@ impl<X> From<MetaNameValue<X>> for Meta<X> {
 }
 
 /// A refusal from the first segment of a path to the last, with the path's text between two texts.
-fn refuse_path(
-    alloc: Global,
-    kind: ErrorKind,
-    before: &str,
-    path: &ModPath,
-    after: &str,
-) -> Error
+fn refuse_path(alloc: Global, kind: ErrorKind, before: &str, path: &ModPath, after: &str) -> Error
     ensures { Made result (requirements.at_path kind before.now path.now after.now) }
 {
     match text_around(alloc, before, path, after) {

@@ -139,9 +139,12 @@ impl<F: FnMut(Global, &mut ParseNestedMeta<'_>) -> Result<(), Error>> Parser
 }
 
 /// A whole read of these tokens as properties; refusals at their end point at the scope.
-pub(crate) fn read_properties<
-    F: FnMut(Global, &mut ParseNestedMeta<'_>) -> Result<(), Error>,
->(alloc: Global, logic: F, scope: Span, tokens: &TokenStream) -> Result<(), Error>
+pub(crate) fn read_properties<F: FnMut(Global, &mut ParseNestedMeta<'_>) -> Result<(), Error>>(
+    alloc: Global,
+    logic: F,
+    scope: Span,
+    tokens: &TokenStream,
+) -> Result<(), Error>
     requires { spec.Careful F.pre F.step }
     ensures { spec.ReadsProperties F.step logic (started scope (toks tokens.now)) result }
 {
@@ -151,9 +154,11 @@ pub(crate) fn read_properties<
 /// Reads properties, separated by commas, up to the end: a path of any identifiers, and then what the closure reads.
 /// It stops at the first error.
 #[tactic(auto, using(token_core::proofs::Suffixes::forks))]
-pub(crate) fn parse_nested_meta<
-    F: FnMut(Global, &mut ParseNestedMeta<'_>) -> Result<(), Error>,
->(alloc: Global, input: &mut ParseStream<'_>, mut logic: F) -> Result<(), Error>
+pub(crate) fn parse_nested_meta<F: FnMut(Global, &mut ParseNestedMeta<'_>) -> Result<(), Error>>(
+    alloc: Global,
+    input: &mut ParseStream<'_>,
+    mut logic: F,
+) -> Result<(), Error>
     requires { spec.Careful F.pre F.step }
     ensures turns { spec.Turned F.step logic input.old result input.new }
     ensures within { Follows input.old input.new }

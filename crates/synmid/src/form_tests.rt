@@ -59,11 +59,7 @@ fn add_options(alloc: Global, attr: &Attribute<Sample>, form: &mut Form) -> Resu
 
 /// Reads one option: `min = ..`, `max = ..` or `rename(.., ..)`.
 #[tactic(auto, using(token_core::proofs::Suffixes::follows))]
-fn parse_option(
-    alloc: Global,
-    meta: &mut ParseNestedMeta<'_>,
-    form: &mut Form,
-) -> Result<(), Error>
+fn parse_option(alloc: Global, meta: &mut ParseNestedMeta<'_>, form: &mut Form) -> Result<(), Error>
     ensures { Follows meta.old.input meta.new.input }
 {
     if meta.path.is_ident("min") {
@@ -82,10 +78,7 @@ fn parse_option(
 
 /// Reads two string literals in parentheses, with a comma between them.
 #[tactic(auto, using(token_core::proofs::Suffixes::follows))]
-fn parse_rename(
-    alloc: Global,
-    meta: &mut ParseNestedMeta<'_>,
-) -> Result<(LitStr, LitStr), Error>
+fn parse_rename(alloc: Global, meta: &mut ParseNestedMeta<'_>) -> Result<(LitStr, LitStr), Error>
     ensures { Follows meta.old.input meta.new.input }
 {
     let (_, mut content) = meta.input.parenthesized(alloc)?;

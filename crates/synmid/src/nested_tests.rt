@@ -122,10 +122,7 @@ pub(crate) fn show(answer: Result<(), Error>, out: &mut String) -> Result<(), Al
 }
 
 /// Appends the first identifier of a property's path.
-pub(crate) fn called(
-    meta: &ParseNestedMeta<'_>,
-    calls: &mut String,
-) -> Result<(), AllocError> {
+pub(crate) fn called(meta: &ParseNestedMeta<'_>, calls: &mut String) -> Result<(), AllocError> {
     if let Some(segment) = meta.path.segments.first() {
         write!(calls, "{} ", segment.ident.text())?;
     }
