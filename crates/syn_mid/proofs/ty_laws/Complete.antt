@@ -43,6 +43,7 @@ use Rattle.syn_mid.specs.declared.ty.TypeSliceOf.{TypeSliceOf}
 use Rattle.syn_mid.specs.declared.ty.TypeTupleOf.{TypeTupleOf}
 use Rattle.syn_mid.specs.Supplied.{Place, ArrayLen, UsesUp}
 use Rattle.syn_mid.specs.mac.Spelling.{IsCall, a_macro}
+use Rattle.syn_mid.specs.mac.Reading.{call_after}
 use Rattle.syn_mid.specs.path.Paths.{Path, nothing, no_arguments, without}
 use Rattle.syn_mid.specs.path.Reading.{sees_sep, sees_angle}
 use Rattle.syn_mid.specs.path.Spelling.{is_type_word, IsPlainPath}
@@ -193,12 +194,12 @@ no_plus : (plus : Bool) (r : Toks) → Ends plus r → (plus && sees_plus r) ≡
 no_plus true r h = h.open_end refl
 no_plus false r h = refl
 
+pub macro_type_complete : (x : TypeMacro) (l r : Toks) (f : Option Span) (e : Span) (sc : Scope) → IsMacroType true x l r → Reads_to macro_type x l r f e sc
+macro_type_complete x l r f e sc (a_macro_type {x = y} i) = let k = macro_complete y l r f e sc i in record { last = k.last; reads = link _ k.reads refl }
+
 module _ {X : Type 0} where
   pub path_type_complete : (x : TypePathOf (TypeTree X) X) (l r : Toks) (f : Option Span) (e : Span) (sc : Scope) → IsPathType true x l r → sees_sep r ≡ false → sees_angle r ≡ false → Reads_to path_type x l r f e sc
   path_type_complete x l r f e sc (a_path_type {p = p} i) h g = let k = plain_complete no_arguments p l r f e sc i h g in record { last = k.last; reads = link _ k.reads refl }
-
-  pub macro_type_complete : (x : TypeMacro) (l r : Toks) (f : Option Span) (e : Span) (sc : Scope) → IsMacroType true x l r → Reads_to macro_type x l r f e sc
-  macro_type_complete x l r f e sc (a_macro_type {x = y} i) = let k = macro_complete y l r f e sc i in record { last = k.last; reads = link _ k.reads refl }
 
   ended_complete : (plus : Bool) (x : TypeTree X) (r : Toks) (f : Option Span) (e : Span) (sc : Scope) → Ends plus r → ended plus x (at r f e sc) ≡ Ok (x, at r f e sc)
   unfolding ended

@@ -106,6 +106,20 @@ infer_again x l r (an_infer {w = a} i) = let k = word_front a l r i in record { 
 pub never_again : (x : TypeNever) (l r : Toks) → IsNever false x l r → AgainFront (IsNever true) (λ (z : TypeNever). z) printing.never x l r
 never_again x l r (a_never {b = b} i) = let k = mark_front b l r i in record { spelt = λ h. a_never (k.spelt h); visible = λ h u w. k.visible h u w; seen = λ u. k.seen u; stays = refl; same = refl }
 
+call_front : {ok : Bytes → Bool} (x : Macro) (l r : Toks) → IsCall false ok x l r → AgainFront (IsCall true ok) (λ (z : Macro). z) mac x l r
+call_front x l r i =
+    let again = λ (h : Toks). macro_again false x l r h i in
+    record {
+      spelt = λ h. again h;
+      visible = λ h u w. whole_macro true x (row (mac x) h) h (again h) (λ ts e. subst (λ z. Visible (toks z)) e (held_visible x l r i u)) w;
+      seen = λ u. visible_call x l r i u;
+      stays = refl;
+      same = refl;
+    }
+
+pub macro_type_again : (x : TypeMacro) (l r : Toks) → IsMacroType false x l r → AgainFront (IsMacroType true) (λ (z : TypeMacro). z) printing.macro_type x l r
+macro_type_again x l r (a_macro_type {x = y} i) = let k = call_front y l r i in record { spelt = λ h. a_macro_type (k.spelt h); visible = λ h u w. k.visible h u w; seen = λ u. k.seen u; stays = refl; same = refl }
+
 module _ {X : Type 0} where
   pub path_type_again : (nx : Place → X → X) (px : Place → X → Print) (x : TypePathOf (TypeTree X) X) (l r : Toks) → IsPathType false x l r → AgainFront (IsPathType true) (normal.path_type nx) (printing.path_type px) x l r
   path_type_again nx px x l r (a_path_type {p = q} i) =
@@ -117,20 +131,6 @@ module _ {X : Type 0} where
         stays = refl;
         same = refl;
       }
-
-  call_front : {ok : Bytes → Bool} (x : Macro) (l r : Toks) → IsCall false ok x l r → AgainFront (IsCall true ok) (λ (z : Macro). z) mac x l r
-  call_front x l r i =
-      let again = λ (h : Toks). macro_again false x l r h i in
-      record {
-        spelt = λ h. again h;
-        visible = λ h u w. whole_macro true x (row (mac x) h) h (again h) (λ ts e. subst (λ z. Visible (toks z)) e (held_visible x l r i u)) w;
-        seen = λ u. visible_call x l r i u;
-        stays = refl;
-        same = refl;
-      }
-
-  pub macro_type_again : (x : TypeMacro) (l r : Toks) → IsMacroType false x l r → AgainFront (IsMacroType true) (λ (z : TypeMacro). z) printing.macro_type x l r
-  macro_type_again x l r (a_macro_type {x = y} i) = let k = call_front y l r i in record { spelt = λ h. a_macro_type (k.spelt h); visible = λ h u w. k.visible h u w; seen = λ u. k.seen u; stays = refl; same = refl }
 
 -- ---- values joined by marks
 

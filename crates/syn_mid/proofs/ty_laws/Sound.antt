@@ -170,6 +170,15 @@ first_word i k h = no_try i.text (is_text (marks.text_of 15) i.text) refl (only 
     only true h = refl
     only false h = h
 
+pub macro_type_sound : (s t : Stream) (x : TypeMacro) → Visible s.rest → reading.macro_type s ≡ Ok (x, t) → Taken (IsMacroType false) s t x
+macro_type_sound s t x v e =
+    let k = mapped (macs.mac s) macro_type_of x t e in
+    let w = macro_sound s t k.value v k.was in
+    taken_as {Is = IsMacroType false} s t (macro_type_of k.value) x k.is (a_macro_type w.spelt) w.left
+
+pub visible_macro_type : (x : TypeMacro) (l r : Toks) → IsMacroType false x l r → Visible l → Visible r
+visible_macro_type x l r (a_macro_type {x = y} i) v = visible_call y l r i v
+
 module _ {X : Type 0} where
   pub path_type_sound : (s t : Stream) (x : TypePathOf (TypeTree X) X) → Visible s.rest → reading.path_type s ≡ Ok (x, t) → Taken (IsPathType false) s t x
   path_type_sound s t x v e =
@@ -179,15 +188,6 @@ module _ {X : Type 0} where
 
   pub visible_path_type : (x : TypePathOf (TypeTree X) X) (l r : Toks) → IsPathType false x l r → Visible l → Visible r
   visible_path_type x l r (a_path_type {p = p} i) v = visible_path p l r i v
-
-  pub macro_type_sound : (s t : Stream) (x : TypeMacro) → Visible s.rest → reading.macro_type s ≡ Ok (x, t) → Taken (IsMacroType false) s t x
-  macro_type_sound s t x v e =
-      let k = mapped (macs.mac s) macro_type_of x t e in
-      let w = macro_sound s t k.value v k.was in
-      taken_as {Is = IsMacroType false} s t (macro_type_of k.value) x k.is (a_macro_type w.spelt) w.left
-
-  pub visible_macro_type : (x : TypeMacro) (l r : Toks) → IsMacroType false x l r → Visible l → Visible r
-  visible_macro_type x l r (a_macro_type {x = y} i) v = visible_call y l r i v
 
   segments_begin : (all : List (PathSegment X)) (seps : List Sep) (l r : Toks) → AreSegments false is_type_word no_arguments all seps l r → begins_path l ≡ true → try_first None all ≡ false
   segments_begin all seps l r (last_segment {i = i} h) b = first_word i r b

@@ -123,17 +123,17 @@ body_keeps s t h e =
     let more = held_keeps c.value.0 c.value.1 c.value.2 c.rest t h c.goes in
     omega (arith, le, more)
 
-module _ {X : Type 0} where
-  call_keeps : (p : ModPath) (s t : Stream) (x : Macro) → call_after p s ≡ Ok (x, t) → NoMore s t
-  unfolding call_after
-  call_keeps p s t x e =
-      let c = chain (bang s) _ x t e in
-      let less = named_takes 0 1 _ _ refl s c.value c.rest c.was in
-      let f = chain (body c.rest) _ x t c.goes in
-      let le = body_keeps c.rest f.rest f.value f.was in
-      let over = stays (macro_of p c.value f.value) x f.rest t f.goes in
-      omega (arith, less, le, over)
+call_keeps : (p : ModPath) (s t : Stream) (x : Macro) → call_after p s ≡ Ok (x, t) → NoMore s t
+unfolding call_after
+call_keeps p s t x e =
+    let c = chain (bang s) _ x t e in
+    let less = named_takes 0 1 _ _ refl s c.value c.rest c.was in
+    let f = chain (body c.rest) _ x t c.goes in
+    let le = body_keeps c.rest f.rest f.value f.was in
+    let over = stays (macro_of p c.value f.value) x f.rest t f.goes in
+    omega (arith, less, le, over)
 
+module _ {X : Type 0} where
   ended_keeps : (plus : Bool) (x y : TypeTree X) (s t : Stream) → ended plus x s ≡ Ok (y, t) → NoMore s t
   unfolding ended
   ended_keeps plus x y s t e =
