@@ -85,6 +85,7 @@ pub(crate) fn path(alloc: Global, text: &str) -> Result<Path<Nothing>, Error> {
 
 pub(crate) fn ty(alloc: Global, text: &str) -> Result<Type<Nothing>, Error> {
     Ok(Type::Path(TypePathOf {
+        attrs: Items::new(alloc),
         qself: None,
         path: path(alloc, text)?,
     }))
