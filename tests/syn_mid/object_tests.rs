@@ -59,7 +59,11 @@ pub(crate) fn opaque(alloc: Global, bounds: Result<Bounds, Error>) -> Result<Typ
     }))
 }
 
-pub(crate) fn object(alloc: Global, dyn_token: Option<Dyn>, bounds: Result<Bounds, Error>) -> Result<Type<Nothing>, Error> {
+pub(crate) fn object(
+    alloc: Global,
+    dyn_token: Option<Dyn>,
+    bounds: Result<Bounds, Error>,
+) -> Result<Type<Nothing>, Error> {
     Ok(Type::from(TypeTraitObjectOf {
         attrs: Items::new(alloc),
         dyn_token,
@@ -87,7 +91,11 @@ fn trait_objects_print(rt: HostRuntime) {
     let one = lone(alloc, bound(alloc, "A"));
     says(&rt, shown(alloc, object(alloc, word, one)), "dyn A");
     let bound = lone(alloc, bound_with_binder(alloc));
-    says(&rt, shown(alloc, object(alloc, word, bound)), "dyn for < 'b > A");
+    says(
+        &rt,
+        shown(alloc, object(alloc, word, bound)),
+        "dyn for < 'b > A",
+    );
     let marked = trailing(alloc, bound_with_binder(alloc));
     says(
         &rt,

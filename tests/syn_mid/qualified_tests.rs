@@ -63,7 +63,10 @@ fn of_a_trait(alloc: Global, times: u8) -> Result<String, Error> {
 /// `<Self>::A::B` without its last segments
 fn of_a_type(alloc: Global, times: u8) -> Result<String, Error> {
     let qself = qself(alloc, 0, None);
-    shown(alloc, qualified(alloc, qself, popped(alloc, "::A::B", times)))
+    shown(
+        alloc,
+        qualified(alloc, qself, popped(alloc, "::A::B", times)),
+    )
 }
 
 /// `Self::A::B` without its last segments

@@ -164,13 +164,34 @@ fn outer_attributes_stand_before_forms_made_by_hand(rt: HostRuntime) {
     let wanted = ("\\(A\\)", "# [b] \\(A\\)");
     prints(&rt, alloc, group(alloc), group(alloc), group(alloc), wanted);
     let wanted = ("impl A + for < 'b > A", "# [b] impl A + for < 'b > A");
-    prints(&rt, alloc, some_type(alloc), some_type(alloc), some_type(alloc), wanted);
+    prints(
+        &rt,
+        alloc,
+        some_type(alloc),
+        some_type(alloc),
+        some_type(alloc),
+        wanted,
+    );
     let wanted = ("dyn A + for < 'b > A", "# [b] dyn A + for < 'b > A");
     let made = trait_object(alloc);
-    prints(&rt, alloc, made, trait_object(alloc), trait_object(alloc), wanted);
+    prints(
+        &rt,
+        alloc,
+        made,
+        trait_object(alloc),
+        trait_object(alloc),
+        wanted,
+    );
     let wanted = (
         "for < 'a > unsafe extern \"C\" fn (...) -> B",
         "# [b] for < 'a > unsafe extern \"C\" fn (...) -> B",
     );
-    prints(&rt, alloc, fn_ptr(alloc), fn_ptr(alloc), fn_ptr(alloc), wanted);
+    prints(
+        &rt,
+        alloc,
+        fn_ptr(alloc),
+        fn_ptr(alloc),
+        fn_ptr(alloc),
+        wanted,
+    );
 }

@@ -15,8 +15,8 @@ use syn_mid::{
 };
 use token_core::token::{And, Bracket, Comma, Const, Mut, Not, Paren, Semi, Star, Underscore};
 use token_core::{
-    Boxed, ByFn, Error, Ident, Items, Lifetime, Lit, ParseStream, Punctuated, Span, ToTokens, TokenStream,
-    read_all, read_all_with,
+    Boxed, ByFn, Error, Ident, Items, Lifetime, Lit, ParseStream, Punctuated, Span, ToTokens,
+    TokenStream, read_all, read_all_with,
 };
 use token_text::{lex, text_of};
 
