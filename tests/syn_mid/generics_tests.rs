@@ -85,6 +85,7 @@ pub(crate) fn path<A: Arguments>(alloc: Global, text: &str) -> Result<PathOf<A>,
 
 pub(crate) fn ty(alloc: Global, text: &str) -> Result<Type<Nothing>, Error> {
     Ok(Type::Path(TypePathOf {
+        attrs: Items::new(alloc),
         qself: None,
         path: path(alloc, text)?,
     }))

@@ -20,4 +20,6 @@ mod qualified_tests;
 #[cfg(test)]
 mod tests;
 #[cfg(test)]
+mod type_attr_tests;
+#[cfg(test)]
 mod type_tests;

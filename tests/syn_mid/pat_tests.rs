@@ -524,7 +524,11 @@ fn qualified_paths_print(rt: HostRuntime) {
     let alloc = rt.alloc();
     let whole = "# [b] < Self as A > :: Q { x , .. }";
     says(&rt, shown(alloc, qualified_struct(alloc)), whole);
-    says(&rt, shown(alloc, of_a_type(alloc)), "< Self > :: Q (a , ..)");
+    says(
+        &rt,
+        shown(alloc, of_a_type(alloc)),
+        "< Self > :: Q (a , ..)",
+    );
     let arguments = "< Self as A < > > :: Q :: < > ()";
     says(&rt, shown(alloc, of_a_trait(alloc)), arguments);
 }

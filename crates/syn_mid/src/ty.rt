@@ -52,11 +52,11 @@ pub enum Type<X> {
     /// `impl A + 'a`. No reader answers it yet.
     ImplTrait(TypeImplTrait<X>),
     /// `_`
-    Infer(TypeInfer),
+    Infer(TypeInfer<X>),
     /// `a::b! { .. }`
-    Macro(TypeMacro),
+    Macro(TypeMacro<X>),
     /// `!`
-    Never(TypeNever),
+    Never(TypeNever<X>),
     /// `(T)`
     Paren(TypeParen<X>),
     /// `a::b`, `<T as a::b>::c`
@@ -77,21 +77,23 @@ pub enum Type<X> {
 
 /// An array over its element's type and its length.
 #[derive(Drop)]
-pub struct TypeArrayOf<T, E> {
+pub struct TypeArrayOf<T, X> {
+    pub attrs: Items<Attribute<X>>,
     pub bracket_token: Bracket,
     pub elem: Boxed<T>,
     pub semi_token: Semi,
-    pub len: E,
+    pub len: Expr<X>,
 }
 
 /// An array: `[`, a type, `;`, a length, `]`.
-pub type TypeArray<X> = TypeArrayOf<Type<X>, Expr<X>>;
+pub type TypeArray<X> = TypeArrayOf<Type<X>, X>;
 
 /// A pointer to a function: an optional binder, an optional `unsafe`, an optional calling convention, `fn`, in parentheses the
 /// arguments and an optional `...`, and what it returns.
 #[cycle(types)]
 #[derive(Drop)]
 pub struct TypeFnPtr<X> {
+    pub attrs: Items<Attribute<X>>,
     pub lifetimes: Option<BoundLifetimes<X>>,
     pub unsafety: Option<Unsafe>,
     pub abi: Option<Abi>,
@@ -104,55 +106,62 @@ pub struct TypeFnPtr<X> {
 
 /// A type in an invisible group, over that type.
 #[derive(Drop)]
-pub struct TypeGroupOf<T> {
+pub struct TypeGroupOf<T, X> {
+    pub attrs: Items<Attribute<X>>,
     pub group_token: GroupToken,
     pub elem: Boxed<T>,
 }
 
 /// A type in an invisible group.
-pub type TypeGroup<X> = TypeGroupOf<Type<X>>;
+pub type TypeGroup<X> = TypeGroupOf<Type<X>, X>;
 
 /// A type that the function picks, over its bounds.
 #[derive(Drop)]
-pub struct TypeImplTraitOf<B> {
+pub struct TypeImplTraitOf<B, X> {
+    pub attrs: Items<Attribute<X>>,
     pub impl_token: Impl,
     pub bounds: Punctuated<B, Plus>,
 }
 
 /// A type that the function picks: `impl`, and bounds joined by `+`.
-pub type TypeImplTrait<X> = TypeImplTraitOf<TypeParamBound<X>>;
+pub type TypeImplTrait<X> = TypeImplTraitOf<TypeParamBound<X>, X>;
 
 /// A type to be found by the compiler: `_`.
-#[derive(Clone, Copy)]
-pub struct TypeInfer {
+#[derive(Drop)]
+pub struct TypeInfer<X> {
+    pub attrs: Items<Attribute<X>>,
     pub underscore_token: Underscore,
 }
 
 /// A macro call in the place of a type.
 #[derive(Drop)]
-pub struct TypeMacro {
+pub struct TypeMacro<X> {
+    pub attrs: Items<Attribute<X>>,
     pub mac: Macro,
 }
 
 /// The type without a value: `!`.
-#[derive(Clone, Copy)]
-pub struct TypeNever {
+#[derive(Drop)]
+pub struct TypeNever<X> {
+    pub attrs: Items<Attribute<X>>,
     pub bang_token: Not,
 }
 
 /// A type in parentheses, over that type.
 #[derive(Drop)]
-pub struct TypeParenOf<T> {
+pub struct TypeParenOf<T, X> {
+    pub attrs: Items<Attribute<X>>,
     pub paren_token: Paren,
     pub elem: Boxed<T>,
 }
 
 /// A type in parentheses.
-pub type TypeParen<X> = TypeParenOf<Type<X>>;
+pub type TypeParen<X> = TypeParenOf<Type<X>, X>;
 
 /// A type by its path, over the type that qualifies it.
 #[derive(Drop)]
 pub struct TypePathOf<T, X> {
+    pub attrs: Items<Attribute<X>>,
     pub qself: Option<QSelfOf<T>>,
     pub path: Path<X>,
 }
@@ -169,18 +178,20 @@ pub enum PointerMutability {
 
 /// A raw pointer over the type that it points to.
 #[derive(Drop)]
-pub struct TypePtrOf<T> {
+pub struct TypePtrOf<T, X> {
+    pub attrs: Items<Attribute<X>>,
     pub star_token: Star,
     pub mutability: PointerMutability,
     pub elem: Boxed<T>,
 }
 
 /// A raw pointer: `*`, `const` or `mut`, a type.
-pub type TypePtr<X> = TypePtrOf<Type<X>>;
+pub type TypePtr<X> = TypePtrOf<Type<X>, X>;
 
 /// A reference over the type that it points to.
 #[derive(Drop)]
-pub struct TypeReferenceOf<T> {
+pub struct TypeReferenceOf<T, X> {
+    pub attrs: Items<Attribute<X>>,
     pub and_token: And,
     pub lifetime: Option<Lifetime>,
     pub mutability: Option<Mut>,
@@ -188,37 +199,40 @@ pub struct TypeReferenceOf<T> {
 }
 
 /// A reference: `&`, an optional lifetime, an optional `mut`, a type.
-pub type TypeReference<X> = TypeReferenceOf<Type<X>>;
+pub type TypeReference<X> = TypeReferenceOf<Type<X>, X>;
 
 /// A slice over its element's type.
 #[derive(Drop)]
-pub struct TypeSliceOf<T> {
+pub struct TypeSliceOf<T, X> {
+    pub attrs: Items<Attribute<X>>,
     pub bracket_token: Bracket,
     pub elem: Boxed<T>,
 }
 
 /// A slice: a type in brackets.
-pub type TypeSlice<X> = TypeSliceOf<Type<X>>;
+pub type TypeSlice<X> = TypeSliceOf<Type<X>, X>;
 
 /// A trait object, over its bounds.
 #[derive(Drop)]
-pub struct TypeTraitObjectOf<B> {
+pub struct TypeTraitObjectOf<B, X> {
+    pub attrs: Items<Attribute<X>>,
     pub dyn_token: Option<Dyn>,
     pub bounds: Punctuated<B, Plus>,
 }
 
 /// A trait object: `dyn`, and bounds joined by `+`.
-pub type TypeTraitObject<X> = TypeTraitObjectOf<TypeParamBound<X>>;
+pub type TypeTraitObject<X> = TypeTraitObjectOf<TypeParamBound<X>, X>;
 
 /// A tuple over its elements' type.
 #[derive(Drop)]
-pub struct TypeTupleOf<T> {
+pub struct TypeTupleOf<T, X> {
+    pub attrs: Items<Attribute<X>>,
     pub paren_token: Paren,
     pub elems: Punctuated<T, Comma>,
 }
 
 /// A tuple: types in parentheses, joined by commas.
-pub type TypeTuple<X> = TypeTupleOf<Type<X>>;
+pub type TypeTuple<X> = TypeTupleOf<Type<X>, X>;
 
 /// The calling convention of a function: `extern "C"`.
 #[derive(Drop)]
@@ -402,54 +416,54 @@ impl<X: Subtree> Parse for TypeParen<X> {
 }
 
 /// Reads `!`.
-impl Parse for TypeNever {
-    ghost reads = { Gives reading.never };
+impl<X: Subtree> Parse for TypeNever<X> {
+    ghost reads = { Gives (reading.never {X = X}) };
 
-    ghost refuses = { Fails reading.never };
+    ghost refuses = { Fails (reading.never {X = X}) };
 
-    ghost promise = { Headline grammars.never };
+    ghost promise = { Headline (grammars.never X.normal X.prints) };
 
-    fn parse(alloc: Global, input: &mut ParseStream<'_>) -> Result<TypeNever, Error>
+    fn parse(alloc: Global, input: &mut ParseStream<'_>) -> Result<TypeNever<X>, Error>
         ensures reads { Reads (reading.never input.old) result input.new }
         ensures within { Follows input.old input.new }
         ensures front { Visible input.old.rest → IfOk result (λ x. IsNever false x input.old.rest input.new.rest) }
-        ensures promise { Heads grammars.never input.old result input.new }
+        ensures promise { Heads (grammars.never X.normal X.prints) input.old result input.new }
     {
         parse_never(alloc, input)
     }
 }
 
 /// Reads `_`.
-impl Parse for TypeInfer {
-    ghost reads = { Gives reading.infer };
+impl<X: Subtree> Parse for TypeInfer<X> {
+    ghost reads = { Gives (reading.infer {X = X}) };
 
-    ghost refuses = { Fails reading.infer };
+    ghost refuses = { Fails (reading.infer {X = X}) };
 
-    ghost promise = { Headline grammars.infer };
+    ghost promise = { Headline (grammars.infer X.normal X.prints) };
 
-    fn parse(alloc: Global, input: &mut ParseStream<'_>) -> Result<TypeInfer, Error>
+    fn parse(alloc: Global, input: &mut ParseStream<'_>) -> Result<TypeInfer<X>, Error>
         ensures reads { Reads (reading.infer input.old) result input.new }
         ensures within { Follows input.old input.new }
         ensures front { Visible input.old.rest → IfOk result (λ x. IsInfer x input.old.rest input.new.rest) }
-        ensures promise { Heads grammars.infer input.old result input.new }
+        ensures promise { Heads (grammars.infer X.normal X.prints) input.old result input.new }
     {
         parse_infer(alloc, input)
     }
 }
 
 /// Reads a macro call, as `Macro` does.
-impl Parse for TypeMacro {
-    ghost reads = { Gives reading.macro_type };
+impl<X: Subtree> Parse for TypeMacro<X> {
+    ghost reads = { Gives (reading.macro_type {X = X}) };
 
-    ghost refuses = { Fails reading.macro_type };
+    ghost refuses = { Fails (reading.macro_type {X = X}) };
 
-    ghost promise = { Headline grammars.macro_type };
+    ghost promise = { Headline (grammars.macro_type X.normal X.prints) };
 
-    fn parse(alloc: Global, input: &mut ParseStream<'_>) -> Result<TypeMacro, Error>
+    fn parse(alloc: Global, input: &mut ParseStream<'_>) -> Result<TypeMacro<X>, Error>
         ensures reads { Reads (reading.macro_type input.old) result input.new }
         ensures within { Follows input.old input.new }
         ensures front { Visible input.old.rest → IfOk result (λ x. IsMacroType false x input.old.rest input.new.rest) }
-        ensures promise { Heads grammars.macro_type input.old result input.new }
+        ensures promise { Heads (grammars.macro_type X.normal X.prints) input.old result input.new }
     {
         parse_macro_type(alloc, input)
     }
@@ -526,26 +540,26 @@ impl<X> From<TypeImplTrait<X>> for Type<X> {
     }
 }
 
-impl<X> From<TypeInfer> for Type<X> {
+impl<X> From<TypeInfer<X>> for Type<X> {
     ghost from_gives = { λ form ty. ty ≡ types.Infer form };
 
-    fn from(form: TypeInfer) -> Type<X> {
+    fn from(form: TypeInfer<X>) -> Type<X> {
         Type::Infer(form)
     }
 }
 
-impl<X> From<TypeMacro> for Type<X> {
+impl<X> From<TypeMacro<X>> for Type<X> {
     ghost from_gives = { λ form ty. ty ≡ types.Macro form };
 
-    fn from(form: TypeMacro) -> Type<X> {
+    fn from(form: TypeMacro<X>) -> Type<X> {
         Type::Macro(form)
     }
 }
 
-impl<X> From<TypeNever> for Type<X> {
+impl<X> From<TypeNever<X>> for Type<X> {
     ghost from_gives = { λ form ty. ty ≡ types.Never form };
 
-    fn from(form: TypeNever) -> Type<X> {
+    fn from(form: TypeNever<X>) -> Type<X> {
         Type::Never(form)
     }
 }
@@ -653,27 +667,48 @@ impl<X: Subtree> ToTokens for TypeGroup<X> {
     }
 }
 
-impl ToTokens for TypeInfer {
-    ghost print = { printing.infer };
+impl<X: Subtree> ToTokens for TypeInfer<X> {
+    ghost print = { printing.infer X.prints };
 
     fn to_tokens(&self, alloc: Global, out: &mut TokenStream) -> Result<(), AllocError> {
-        self.underscore_token.to_tokens(alloc, out)
+        let before = out.len();
+        match print_infer(alloc, self, out) {
+            Ok(()) => Ok(()),
+            Err(error) => {
+                out.truncate(before);
+                Err(error)
+            }
+        }
     }
 }
 
-impl ToTokens for TypeMacro {
-    ghost print = { printing.macro_type };
+impl<X: Subtree> ToTokens for TypeMacro<X> {
+    ghost print = { printing.macro_type X.prints };
 
     fn to_tokens(&self, alloc: Global, out: &mut TokenStream) -> Result<(), AllocError> {
-        self.mac.to_tokens(alloc, out)
+        let before = out.len();
+        match print_macro_type(alloc, self, out) {
+            Ok(()) => Ok(()),
+            Err(error) => {
+                out.truncate(before);
+                Err(error)
+            }
+        }
     }
 }
 
-impl ToTokens for TypeNever {
-    ghost print = { printing.never };
+impl<X: Subtree> ToTokens for TypeNever<X> {
+    ghost print = { printing.never X.prints };
 
     fn to_tokens(&self, alloc: Global, out: &mut TokenStream) -> Result<(), AllocError> {
-        self.bang_token.to_tokens(alloc, out)
+        let before = out.len();
+        match print_never(alloc, self, out) {
+            Ok(()) => Ok(()),
+            Err(error) => {
+                out.truncate(before);
+                Err(error)
+            }
+        }
     }
 }
 
@@ -692,7 +727,7 @@ impl<X: Subtree> ToTokens for TypeParen<X> {
     }
 }
 
-/// Appends a path as it stands; a qualified one between `<` and `>`, which stand after as many segments as its `position` says, or as there are.
+/// Appends outer attributes, and a path as it stands; a qualified one between `<` and `>`, which stand after as many segments as its `position` says, or as there are.
 impl<X: Subtree> ToTokens for TypePath<X> {
     ghost print = { printing.path_type X.prints };
 
@@ -841,7 +876,7 @@ fn print_return_type<X: Subtree>(
     }
 }
 
-/// Appends the binder, `unsafe`, the convention, `fn`, in parentheses the arguments and `...` after a comma, and what is returned.
+/// Appends outer attributes, the binder, `unsafe`, the convention, `fn`, in parentheses the arguments and `...` after a comma, and what is returned.
 impl<X: Subtree> ToTokens for TypeFnPtr<X> {
     ghost print = { printing.fn_ptr X.prints };
 
@@ -935,9 +970,9 @@ pub(crate) fn print_type<X: Subtree>(
         Type::FnPtr(pointer) => print_fn_ptr(alloc, pointer, out),
         Type::Group(group) => print_group(alloc, group, out),
         Type::ImplTrait(opaque) => print_impl_trait(alloc, opaque, out),
-        Type::Infer(infer) => infer.to_tokens(alloc, out),
-        Type::Macro(call) => call.to_tokens(alloc, out),
-        Type::Never(never) => never.to_tokens(alloc, out),
+        Type::Infer(infer) => print_infer(alloc, infer, out),
+        Type::Macro(call) => print_macro_type(alloc, call, out),
+        Type::Never(never) => print_never(alloc, never, out),
         Type::Paren(paren) => print_paren(alloc, paren, out),
         Type::Path(path) => print_path_type(alloc, path, out),
         Type::Ptr(ptr) => print_ptr(alloc, ptr, out),
@@ -959,6 +994,7 @@ fn print_array<X: Subtree>(
     ensures ok { OnOk result (trees out.new ≡ trees out.old ++ printing.array X.prints array.now) }
     ensures err { OnErr result (Extends (trees out.old) (trees out.new)) }
 {
+    print_outer(alloc, &array.attrs, out)?;
     let mut content = TokenStream::new(alloc);
     print_type(alloc, array.elem.get(), &mut content)?;
     array.semi_token.to_tokens(alloc, &mut content)?;
@@ -976,7 +1012,7 @@ fn print_fn_ptr<X: Subtree>(
     ensures ok { OnOk result (trees out.new ≡ trees out.old ++ printing.fn_ptr X.prints pointer.now) }
     ensures err { OnErr result (Extends (trees out.old) (trees out.new)) }
 {
-    print_binder_start(alloc, &pointer.lifetimes, out)?;
+    print_fn_start(alloc, pointer, out)?;
     print_fn_params(alloc, pointer, out)?;
     print_fn_head(alloc, pointer, out)?;
     print_arguments(alloc, pointer, out)?;
@@ -1078,6 +1114,7 @@ fn print_group<X: Subtree>(
     ensures ok { OnOk result (trees out.new ≡ trees out.old ++ printing.group X.prints group.now) }
     ensures err { OnErr result (Extends (trees out.old) (trees out.new)) }
 {
+    print_outer(alloc, &group.attrs, out)?;
     let mut content = TokenStream::new(alloc);
     print_type(alloc, group.elem.get(), &mut content)?;
     group.group_token.surround(content, out)
@@ -1093,6 +1130,7 @@ fn print_impl_trait<X: Subtree>(
     ensures ok { OnOk result (trees out.new ≡ trees out.old ++ printing.impl_trait X.prints opaque.now) }
     ensures err { OnErr result (Extends (trees out.old) (trees out.new)) }
 {
+    print_outer(alloc, &opaque.attrs, out)?;
     opaque.impl_token.to_tokens(alloc, out)?;
     let (pairs, last) = bound_parts(&opaque.bounds);
     for pair in pairs {
@@ -1115,6 +1153,7 @@ fn print_paren<X: Subtree>(
     ensures ok { OnOk result (trees out.new ≡ trees out.old ++ printing.paren X.prints paren.now) }
     ensures err { OnErr result (Extends (trees out.old) (trees out.new)) }
 {
+    print_outer(alloc, &paren.attrs, out)?;
     let mut content = TokenStream::new(alloc);
     print_type(alloc, paren.elem.get(), &mut content)?;
     paren.paren_token.surround(content, out)
@@ -1128,6 +1167,21 @@ fn print_path_type<X: Subtree>(
     out: &mut TokenStream,
 ) -> Result<(), AllocError>
     ensures ok { OnOk result (trees out.new ≡ trees out.old ++ printing.path_type X.prints path.now) }
+    ensures err { OnErr result (Extends (trees out.old) (trees out.new)) }
+{
+    print_outer(alloc, &path.attrs, out)?;
+    print_type_name(alloc, path, out)
+}
+
+/// The path of a type, which a type may qualify, without the attributes.
+#[cycle(print)]
+#[tactic(auto, using(token_core::proofs::Puts::puts, crate::proofs::ty_laws::Prints::prints))]
+fn print_type_name<X: Subtree>(
+    alloc: Global,
+    path: &TypePath<X>,
+    out: &mut TokenStream,
+) -> Result<(), AllocError>
+    ensures ok { OnOk result (trees out.new ≡ trees out.old ++ printing.type_name X.prints path.now) }
     ensures err { OnErr result (Extends (trees out.old) (trees out.new)) }
 {
     match &path.qself {
@@ -1150,6 +1204,7 @@ fn print_ptr<X: Subtree>(
     ensures ok { OnOk result (trees out.new ≡ trees out.old ++ printing.ptr X.prints ptr.now) }
     ensures err { OnErr result (Extends (trees out.old) (trees out.new)) }
 {
+    print_outer(alloc, &ptr.attrs, out)?;
     ptr.star_token.to_tokens(alloc, out)?;
     ptr.mutability.to_tokens(alloc, out)?;
     print_type(alloc, ptr.elem.get(), out)
@@ -1165,6 +1220,7 @@ fn print_reference<X: Subtree>(
     ensures ok { OnOk result (trees out.new ≡ trees out.old ++ printing.reference X.prints reference.now) }
     ensures err { OnErr result (Extends (trees out.old) (trees out.new)) }
 {
+    print_outer(alloc, &reference.attrs, out)?;
     reference.and_token.to_tokens(alloc, out)?;
     print_lifetime(alloc, &reference.lifetime, out)?;
     print_word(alloc, &reference.mutability, out)?;
@@ -1181,6 +1237,7 @@ fn print_slice<X: Subtree>(
     ensures ok { OnOk result (trees out.new ≡ trees out.old ++ printing.slice X.prints slice.now) }
     ensures err { OnErr result (Extends (trees out.old) (trees out.new)) }
 {
+    print_outer(alloc, &slice.attrs, out)?;
     let mut content = TokenStream::new(alloc);
     print_type(alloc, slice.elem.get(), &mut content)?;
     slice.bracket_token.surround(content, out)
@@ -1196,6 +1253,7 @@ fn print_trait_object<X: Subtree>(
     ensures ok { OnOk result (trees out.new ≡ trees out.old ++ printing.trait_object X.prints object.now) }
     ensures err { OnErr result (Extends (trees out.old) (trees out.new)) }
 {
+    print_outer(alloc, &object.attrs, out)?;
     print_word(alloc, &object.dyn_token, out)?;
     let (pairs, last) = bound_parts(&object.bounds);
     for pair in pairs {
@@ -1218,6 +1276,7 @@ fn print_tuple<X: Subtree>(
     ensures ok { OnOk result (trees out.new ≡ trees out.old ++ printing.tuple X.prints tuple.now) }
     ensures err { OnErr result (Extends (trees out.old) (trees out.new)) }
 {
+    print_outer(alloc, &tuple.attrs, out)?;
     let mut content = TokenStream::new(alloc);
     print_elements(alloc, tuple, &mut content)?;
     print_lone_comma(alloc, &tuple.elems, &mut content)?;
@@ -1307,6 +1366,45 @@ pub(crate) fn print_verbatim(
     Ok(())
 }
 
+#[tactic(auto, using(token_core::proofs::Puts::puts))]
+fn print_infer<X: Subtree>(
+    alloc: Global,
+    infer: &TypeInfer<X>,
+    out: &mut TokenStream,
+) -> Result<(), AllocError>
+    ensures ok { OnOk result (trees out.new ≡ trees out.old ++ printing.infer X.prints infer.now) }
+    ensures err { OnErr result (Extends (trees out.old) (trees out.new)) }
+{
+    print_outer(alloc, &infer.attrs, out)?;
+    infer.underscore_token.to_tokens(alloc, out)
+}
+
+#[tactic(auto, using(token_core::proofs::Puts::puts))]
+fn print_macro_type<X: Subtree>(
+    alloc: Global,
+    call: &TypeMacro<X>,
+    out: &mut TokenStream,
+) -> Result<(), AllocError>
+    ensures ok { OnOk result (trees out.new ≡ trees out.old ++ printing.macro_type X.prints call.now) }
+    ensures err { OnErr result (Extends (trees out.old) (trees out.new)) }
+{
+    print_outer(alloc, &call.attrs, out)?;
+    call.mac.to_tokens(alloc, out)
+}
+
+#[tactic(auto, using(token_core::proofs::Puts::puts))]
+fn print_never<X: Subtree>(
+    alloc: Global,
+    never: &TypeNever<X>,
+    out: &mut TokenStream,
+) -> Result<(), AllocError>
+    ensures ok { OnOk result (trees out.new ≡ trees out.old ++ printing.never X.prints never.now) }
+    ensures err { OnErr result (Extends (trees out.old) (trees out.new)) }
+{
+    print_outer(alloc, &never.attrs, out)?;
+    never.bang_token.to_tokens(alloc, out)
+}
+
 /// The length of an array: the supplied subtree in this place, and anything else as it prints as a value.
 #[tactic(auto, using(token_core::proofs::Puts::puts, crate::proofs::attr_laws::Prints::places))]
 fn print_len<X: Subtree>(
@@ -1389,6 +1487,20 @@ pub(crate) fn print_word<const N: u32>(
         Some(token) => token.to_tokens(alloc, out),
         None => Ok(()),
     }
+}
+
+/// A pointer to a function to the start of its binder.
+#[tactic(auto, using(token_core::proofs::Puts::puts))]
+fn print_fn_start<X: Subtree>(
+    alloc: Global,
+    pointer: &TypeFnPtr<X>,
+    out: &mut TokenStream,
+) -> Result<(), AllocError>
+    ensures ok { OnOk result (trees out.new ≡ trees out.old ++ printing.fn_start X.prints pointer.now) }
+    ensures err { OnErr result (Extends (trees out.old) (trees out.new)) }
+{
+    print_outer(alloc, &pointer.attrs, out)?;
+    print_binder_start(alloc, &pointer.lifetimes, out)
 }
 
 /// A pointer to a function from the end of its binder to `fn`.

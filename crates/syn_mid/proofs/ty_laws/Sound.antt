@@ -134,22 +134,22 @@ pub visible_mutability : (q : PointerMutability) (l r : Toks) → IsMutability q
 visible_mutability q l r (a_const {w = w} i) v = word_visible w l r i v
 visible_mutability q l r (a_mut {w = w} i) v = word_visible w l r i v
 
-pub infer_sound : (s t : Stream) (x : TypeInfer) → Visible s.rest → reading.infer s ≡ Ok (x, t) → Taken IsInfer s t x
+pub infer_sound : {X : Type 0} (s t : Stream) (x : TypeInfer X) → Visible s.rest → reading.infer s ≡ Ok (x, t) → Taken IsInfer s t x
 infer_sound s t x v e =
     let k = mapped (marks.read_named 19 s) infer_of x t e in
     let w = word_sound s t k.value v k.was in
     taken_as {Is = IsInfer} s t (infer_of k.value) x k.is (an_infer w.spelt) w.left
 
-pub visible_infer : (x : TypeInfer) (l r : Toks) → IsInfer x l r → Visible l → Visible r
+pub visible_infer : {X : Type 0} (x : TypeInfer X) (l r : Toks) → IsInfer x l r → Visible l → Visible r
 visible_infer x l r (an_infer {w = w} i) v = word_visible w l r i v
 
-pub never_sound : (s t : Stream) (x : TypeNever) → Visible s.rest → reading.never s ≡ Ok (x, t) → Taken (IsNever false) s t x
+pub never_sound : {X : Type 0} (s t : Stream) (x : TypeNever X) → Visible s.rest → reading.never s ≡ Ok (x, t) → Taken (IsNever false) s t x
 never_sound s t x v e =
     let k = mapped (macs.bang s) never_of x t e in
     let w = mark_sound {n = 0} {k = 1} refl (omega arith) s t k.value v k.was in
     taken_as {Is = IsNever false} s t (never_of k.value) x k.is (a_never w.spelt) w.left
 
-pub visible_never : (x : TypeNever) (l r : Toks) → IsNever false x l r → Visible l → Visible r
+pub visible_never : {X : Type 0} (x : TypeNever X) (l r : Toks) → IsNever false x l r → Visible l → Visible r
 visible_never x l r (a_never {b = b} i) v = mark_visible false {n = 0} {k = 1} b l r i v
 
 -- ---- paths and macro calls
@@ -170,13 +170,13 @@ first_word i k h = no_try i.text (is_text (marks.text_of 15) i.text) refl (only 
     only true h = refl
     only false h = h
 
-pub macro_type_sound : (s t : Stream) (x : TypeMacro) → Visible s.rest → reading.macro_type s ≡ Ok (x, t) → Taken (IsMacroType false) s t x
+pub macro_type_sound : {X : Type 0} (s t : Stream) (x : TypeMacro X) → Visible s.rest → reading.macro_type s ≡ Ok (x, t) → Taken (IsMacroType false) s t x
 macro_type_sound s t x v e =
     let k = mapped (macs.mac s) macro_type_of x t e in
     let w = macro_sound s t k.value v k.was in
     taken_as {Is = IsMacroType false} s t (macro_type_of k.value) x k.is (a_macro_type w.spelt) w.left
 
-pub visible_macro_type : (x : TypeMacro) (l r : Toks) → IsMacroType false x l r → Visible l → Visible r
+pub visible_macro_type : {X : Type 0} (x : TypeMacro X) (l r : Toks) → IsMacroType false x l r → Visible l → Visible r
 visible_macro_type x l r (a_macro_type {x = y} i) v = visible_call y l r i v
 
 module _ {X : Type 0} where
@@ -408,41 +408,41 @@ module _ {X : Type 0} (reads : Place → Reader X) (spells : Place → X → Tok
       subst (λ z. IsArray spells false T (array_of (groups.bracket s) x n.0 n.1) z r) (sym h)
       (subst (λ z. IsArray spells false T (array_of (groups.bracket s) x n.0 z) (group Bracket s c r) r) i.2.is (an_array i.1 i.2.mark i.2.spelt))
 
-  pub array_took : (s t : Stream) (x : TypeArrayOf (TypeTree X) (Expr X)) → Visible s.rest → reading.array reads typ s ≡ Ok (x, t) → TookOne (IsArray spells false T) s t x
+  pub array_took : (s t : Stream) (x : TypeArrayOf (TypeTree X) X) → Visible s.rest → reading.array reads typ s ≡ Ok (x, t) → TookOne (IsArray spells false T) s t x
   unfolding reading.array
   array_took s t x v e =
-      let f : DelimSpan × (TypeTree X × Length X) → TypeArrayOf (TypeTree X) (Expr X) = λ g. array_of (groups.bracket g.0) g.1.0 g.1.1.0 g.1.1.1 in
+      let f : DelimSpan × (TypeTree X × Length X) → TypeArrayOf (TypeTree X) X = λ g. array_of (groups.bracket g.0) g.1.0 g.1.1.0 g.1.1.1 in
       let k = mapped (in_group Bracket groups.bracket_name (array_content reads typ) s) f x t e in
       took_as {Is = IsHeld Bracket HoldsCounted} {Js = IsArray spells false T} f s t k.value x k.is (λ l r i. array_at k.value.0 k.value.1.0 k.value.1.1 i.content l r i.is i.holds)
       (held_sound Bracket HoldsCounted groups.bracket_name (array_content reads typ) array_content_sound s t k.value v k.was)
 
-  pub slice_took : (s t : Stream) (x : TypeSliceOf (TypeTree X)) → Visible s.rest → reading.slice reads typ s ≡ Ok (x, t) → TookOne (IsSlice spells false T) s t x
+  pub slice_took : (s t : Stream) (x : TypeSliceOf (TypeTree X) X) → Visible s.rest → reading.slice reads typ s ≡ Ok (x, t) → TookOne (IsSlice spells false T) s t x
   unfolding reading.slice
   slice_took s t x v e =
-      let f : DelimSpan × TypeTree X → TypeSliceOf (TypeTree X) = λ g. slice_of (groups.bracket g.0) g.1 in
+      let f : DelimSpan × TypeTree X → TypeSliceOf (TypeTree X) X = λ g. slice_of (groups.bracket g.0) g.1 in
       let k = mapped (in_group Bracket groups.bracket_name (typ true) s) f x t e in
       took_as {Is = IsHeld Bracket (λ y c. T true y c done)} {Js = IsSlice spells false T} f s t k.value x k.is (λ l r i. slice_at k.value.0 k.value.1 i.content l r i.is i.holds)
       (held_sound Bracket (λ y c. T true y c done) groups.bracket_name (typ true) (alone true) s t k.value v k.was)
 
-  pub paren_took : (s t : Stream) (x : TypeParenOf (TypeTree X)) → Visible s.rest → reading.paren reads typ s ≡ Ok (x, t) → TookOne (IsParen spells false T false) s t x
+  pub paren_took : (s t : Stream) (x : TypeParenOf (TypeTree X) X) → Visible s.rest → reading.paren reads typ s ≡ Ok (x, t) → TookOne (IsParen spells false T false) s t x
   unfolding reading.paren
   paren_took s t x v e =
-      let f : DelimSpan × TypeTree X → TypeParenOf (TypeTree X) = λ g. paren_of (groups.paren g.0) g.1 in
+      let f : DelimSpan × TypeTree X → TypeParenOf (TypeTree X) X = λ g. paren_of (groups.paren g.0) g.1 in
       let k = mapped (in_group Parenthesis groups.paren_name (typ false) s) f x t e in
       took_as {Is = IsHeld Parenthesis (λ y c. T false y c done)} {Js = IsParen spells false T false} f s t k.value x k.is (λ l r i. paren_at false k.value.0 k.value.1 i.content l r i.is i.holds)
       (held_sound Parenthesis (λ y c. T false y c done) groups.paren_name (typ false) (alone false) s t k.value v k.was)
 
-  pub tuple_took : (s t : Stream) (x : TypeTupleOf (TypeTree X)) → Visible s.rest → reading.tuple reads typ s ≡ Ok (x, t) → TookOne (IsTuple spells false T) s t x
+  pub tuple_took : (s t : Stream) (x : TypeTupleOf (TypeTree X) X) → Visible s.rest → reading.tuple reads typ s ≡ Ok (x, t) → TookOne (IsTuple spells false T) s t x
   unfolding reading.tuple
   tuple_took s t x v e =
-      let f : DelimSpan × Many (TypeTree X) Comma → TypeTupleOf (TypeTree X) = λ g. tuple_of (groups.paren g.0) g.1 in
+      let f : DelimSpan × Many (TypeTree X) Comma → TypeTupleOf (TypeTree X) X = λ g. tuple_of (groups.paren g.0) g.1 in
       let k = mapped (in_group Parenthesis groups.paren_name (tuple_content reads typ) s) f x t e in
       took_as {Is = IsHeld Parenthesis Elements} {Js = IsTuple spells false T} f s t k.value x k.is (λ l r i. tuple_at k.value.0 k.value.1 i.content l r i.is i.holds)
       (held_sound Parenthesis Elements groups.paren_name (tuple_content reads typ) tuple_content_sound s t k.value v k.was)
 
   -- ---- pointers and references
 
-  pub ptr_took : (s t : Stream) (x : TypePtrOf (TypeTree X)) → Visible s.rest → reading.ptr reads typ s ≡ Ok (x, t) → TookOne (IsPtr spells false T) s t x
+  pub ptr_took : (s t : Stream) (x : TypePtrOf (TypeTree X) X) → Visible s.rest → reading.ptr reads typ s ≡ Ok (x, t) → TookOne (IsPtr spells false T) s t x
   unfolding reading.ptr
   ptr_took s t x v e =
       let c = chain (reading.star s) _ x t e in
@@ -458,7 +458,7 @@ module _ {X : Type 0} (reads : Place → Reader X) (spells : Place → X → Tok
         spelt = λ h. subst (λ z. IsPtr spells false T z s.rest t.rest) g.is (a_ptr k.spelt q.spelt (w.spelt h));
       }
 
-  pub reference_took : (s t : Stream) (x : TypeReferenceOf (TypeTree X)) → Visible s.rest → reading.reference reads typ s ≡ Ok (x, t) → TookOne (IsReference spells false T) s t x
+  pub reference_took : (s t : Stream) (x : TypeReferenceOf (TypeTree X) X) → Visible s.rest → reading.reference reads typ s ≡ Ok (x, t) → TookOne (IsReference spells false T) s t x
   unfolding reading.reference
   reference_took s t x v e =
       let c = chain (reading.and s) _ x t e in

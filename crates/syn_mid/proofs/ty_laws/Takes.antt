@@ -157,7 +157,7 @@ module _ {X : Type 0} where
 -- ---- types, over those that they hold
 
 module _ {X : Type 0} (supplied : Place → Reader X) (typ : Bool → Reader (TypeTree X)) (takes : (p : Bool) (s t : Stream) (x : TypeTree X) → typ p s ≡ Ok (x, t) → size t.rest < size s.rest) where
-  ptr_takes : (s t : Stream) (x : TypePtrOf (TypeTree X)) → ptr supplied typ s ≡ Ok (x, t) → Less s t
+  ptr_takes : (s t : Stream) (x : TypePtrOf (TypeTree X) X) → ptr supplied typ s ≡ Ok (x, t) → Less s t
   unfolding ptr
   ptr_takes s t x e =
       let c = chain (star s) _ x t e in
@@ -168,7 +168,7 @@ module _ {X : Type 0} (supplied : Place → Reader X) (typ : Bool → Reader (Ty
       let more = takes false f.rest t k.value k.was in
       omega (arith, less, le, more)
 
-  reference_takes : (s t : Stream) (x : TypeReferenceOf (TypeTree X)) → reference supplied typ s ≡ Ok (x, t) → Less s t
+  reference_takes : (s t : Stream) (x : TypeReferenceOf (TypeTree X) X) → reference supplied typ s ≡ Ok (x, t) → Less s t
   unfolding reference
   reference_takes s t x e =
       let c = chain (and s) _ x t e in

@@ -18,6 +18,9 @@ use Rattle.syn_mid.specs.declared.ty.FnPtrVariadic.{FnPtrVariadic}
 use Rattle.syn_mid.specs.declared.ty.NamedArgOf.{NamedArgOf}
 use Rattle.syn_mid.specs.declared.ty.TypeFnPtr.{TypeFnPtr}
 use Rattle.syn_mid.specs.declared.ty.TypeImplTraitOf.{TypeImplTraitOf}
+use Rattle.syn_mid.specs.declared.ty.TypeInfer.{TypeInfer}
+use Rattle.syn_mid.specs.declared.ty.TypeMacro.{TypeMacro}
+use Rattle.syn_mid.specs.declared.ty.TypeNever.{TypeNever}
 use Rattle.syn_mid.specs.declared.ty.TypePathOf.{TypePathOf}
 use Rattle.syn_mid.specs.declared.ty.TypeTraitObjectOf.{TypeTraitObjectOf}
 use Rattle.token_core.specs.Loops.{Many}
@@ -35,7 +38,7 @@ use Rattle.syn_mid.specs.declared.ty.TypeSliceOf.{TypeSliceOf}
 use Rattle.syn_mid.specs.declared.ty.TypeTupleOf.{TypeTupleOf}
 use Rattle.syn_mid.specs.Supplied.{Place, ArrayLen}
 use Rattle.syn_mid.specs.attr.Normal.{at_place}
-use Rattle.syn_mid.specs.ty.Types.{Plus, array_of, fn_ptr_of, group_of, impl_trait_of, named_arg_of, paren_of, ptr_of, qself_of, qualified_of, reference_of, slice_of, trait_object_of, tuple_of, variadic_of}
+use Rattle.syn_mid.specs.ty.Types.{Plus, array_with, fn_ptr_with, group_with, impl_trait_with, infer_with, macro_type_with, named_arg_of, never_with, paren_with, ptr_with, qself_of, qualified_with, reference_with, slice_with, trait_object_with, tuple_with, variadic_of}
 
 module _ {X : Type 0} (normal : Place → X → X) where
   -- the length of an array
@@ -52,26 +55,35 @@ module _ {X : Type 0} (normal : Place → X → X) where
   abbrev pub optional_variadic : Option (FnPtrVariadic X) → Option (FnPtrVariadic X)
   optional_variadic = option_map variadic
 
+  abbrev pub infer : TypeInfer X → TypeInfer X
+  infer x = infer_with (attrs normal x.attrs) x.underscore_token
+
+  abbrev pub macro_type : TypeMacro X → TypeMacro X
+  macro_type x = macro_type_with (attrs normal x.attrs) x.mac
+
+  abbrev pub never : TypeNever X → TypeNever X
+  never x = never_with (attrs normal x.attrs) x.bang_token
+
   -- parts that lead back are in their normal form
   abbrev pub ty_step : o.Type-F X (GenericParam X) (TypeParamBound X) (TypeTree X) (TypeParam X) (TypeFnPtr X) → TypeTree X
-  ty_step (o.Array x) = v.Array (array_of x.bracket_token x.elem x.semi_token (len x.len))
+  ty_step (o.Array x) = v.Array (array_with (attrs normal x.attrs) x.bracket_token x.elem x.semi_token (len x.len))
   ty_step (o.FnPtr x) = v.FnPtr x
-  ty_step (o.Group x) = v.Group x
-  ty_step (o.ImplTrait x) = v.ImplTrait x
-  ty_step (o.Infer x) = v.Infer x
-  ty_step (o.Macro x) = v.Macro x
-  ty_step (o.Never x) = v.Never x
-  ty_step (o.Paren x) = v.Paren x
-  ty_step (o.Path x) = v.Path x
-  ty_step (o.Ptr x) = v.Ptr x
-  ty_step (o.Reference x) = v.Reference x
-  ty_step (o.Slice x) = v.Slice x
-  ty_step (o.TraitObject x) = v.TraitObject x
-  ty_step (o.Tuple x) = v.Tuple x
+  ty_step (o.Group x) = v.Group (group_with (attrs normal x.attrs) x.group_token x.elem)
+  ty_step (o.ImplTrait x) = v.ImplTrait (impl_trait_with (attrs normal x.attrs) x.impl_token x.bounds)
+  ty_step (o.Infer x) = v.Infer (infer_with (attrs normal x.attrs) x.underscore_token)
+  ty_step (o.Macro x) = v.Macro (macro_type_with (attrs normal x.attrs) x.mac)
+  ty_step (o.Never x) = v.Never (never_with (attrs normal x.attrs) x.bang_token)
+  ty_step (o.Paren x) = v.Paren (paren_with (attrs normal x.attrs) x.paren_token x.elem)
+  ty_step (o.Path x) = v.Path (qualified_with (attrs normal x.attrs) x.qself x.path)
+  ty_step (o.Ptr x) = v.Ptr (ptr_with (attrs normal x.attrs) x.star_token x.mutability x.elem)
+  ty_step (o.Reference x) = v.Reference (reference_with (attrs normal x.attrs) x.and_token x.lifetime x.mutability x.elem)
+  ty_step (o.Slice x) = v.Slice (slice_with (attrs normal x.attrs) x.bracket_token x.elem)
+  ty_step (o.TraitObject x) = v.TraitObject (trait_object_with (attrs normal x.attrs) x.dyn_token x.bounds)
+  ty_step (o.Tuple x) = v.Tuple (tuple_with (attrs normal x.attrs) x.paren_token x.elems)
   ty_step (o.Type::Verbatim x) = v.Verbatim x
 
   abbrev pub fn_ptr_step : o.TypeFnPtr-F X (GenericParam X) (TypeParamBound X) (TypeTree X) (TypeParam X) (TypeFnPtr X) → TypeFnPtr X
-  fn_ptr_step x = fn_ptr_of x.lifetimes x.unsafety x.abi x.fn_token x.paren_token (many named_arg_by x.inputs) (optional_variadic x.variadic) x.output
+  fn_ptr_step x = fn_ptr_with (attrs normal x.attrs) x.lifetimes x.unsafety x.abi x.fn_token x.paren_token (many named_arg_by x.inputs) (optional_variadic x.variadic) x.output
 
   abbrev pub param_step : o.GenericParam-F X (GenericParam X) (TypeParamBound X) (TypeTree X) (TypeParam X) (TypeFnPtr X) → GenericParam X
   param_step (o.GenericParam::Lifetime x) = g.Lifetime (lifetime_param normal x)
@@ -105,11 +117,11 @@ module _ {X : Type 0} (normal : Place → X → X) where
   abbrev pub bounds : Many (TypeParamBound X) Plus → Many (TypeParamBound X) Plus
   bounds = many bound
 
-  abbrev pub impl_trait : TypeImplTraitOf (TypeParamBound X) → TypeImplTraitOf (TypeParamBound X)
-  impl_trait x = impl_trait_of x.impl_token (bounds x.bounds)
+  abbrev pub impl_trait : TypeImplTraitOf (TypeParamBound X) X → TypeImplTraitOf (TypeParamBound X) X
+  impl_trait x = impl_trait_with (attrs normal x.attrs) x.impl_token (bounds x.bounds)
 
-  abbrev pub trait_object : TypeTraitObjectOf (TypeParamBound X) → TypeTraitObjectOf (TypeParamBound X)
-  trait_object x = trait_object_of x.dyn_token (bounds x.bounds)
+  abbrev pub trait_object : TypeTraitObjectOf (TypeParamBound X) X → TypeTraitObjectOf (TypeParamBound X) X
+  trait_object x = trait_object_with (attrs normal x.attrs) x.dyn_token (bounds x.bounds)
 
   abbrev pub qself : QSelfOf (TypeTree X) → QSelfOf (TypeTree X)
   qself x = qself_of x.lt_token (ty x.ty) x.position x.as_token x.gt_token
@@ -118,7 +130,7 @@ module _ {X : Type 0} (normal : Place → X → X) where
   optional_qself = option_map qself
 
   abbrev pub path_type : TypePathOf (TypeTree X) X → TypePathOf (TypeTree X) X
-  path_type x = qualified_of (optional_qself x.qself) x.path
+  path_type x = qualified_with (attrs normal x.attrs) (optional_qself x.qself) x.path
 
   abbrev pub named_arg : NamedArgOf (TypeTree X) X → NamedArgOf (TypeTree X) X
   named_arg x = named_arg_of (attrs normal x.attrs) x.name (ty x.ty)
@@ -136,27 +148,27 @@ module _ {X : Type 0} (normal : Place → X → X) where
   abbrev pub bound_lifetimes : BoundLifetimesOf (GenericParam X) → BoundLifetimesOf (GenericParam X)
   bound_lifetimes x = bound_lifetimes_of x.for_token x.lt_token (many param x.lifetimes) x.gt_token
 
-  abbrev pub array : TypeArrayOf (TypeTree X) (Expr X) → TypeArrayOf (TypeTree X) (Expr X)
-  array x = array_of x.bracket_token (ty x.elem) x.semi_token (len x.len)
+  abbrev pub array : TypeArrayOf (TypeTree X) X → TypeArrayOf (TypeTree X) X
+  array x = array_with (attrs normal x.attrs) x.bracket_token (ty x.elem) x.semi_token (len x.len)
 
-  abbrev pub group : TypeGroupOf (TypeTree X) → TypeGroupOf (TypeTree X)
-  group x = group_of x.group_token (ty x.elem)
+  abbrev pub group : TypeGroupOf (TypeTree X) X → TypeGroupOf (TypeTree X) X
+  group x = group_with (attrs normal x.attrs) x.group_token (ty x.elem)
 
   abbrev pub return_type : ReturnTypeOf (TypeTree X) → ReturnTypeOf (TypeTree X)
   return_type r.Default = r.Default
   return_type (r.«Type» a x) = r.«Type» a (ty x)
 
-  abbrev pub paren : TypeParenOf (TypeTree X) → TypeParenOf (TypeTree X)
-  paren x = paren_of x.paren_token (ty x.elem)
+  abbrev pub paren : TypeParenOf (TypeTree X) X → TypeParenOf (TypeTree X) X
+  paren x = paren_with (attrs normal x.attrs) x.paren_token (ty x.elem)
 
-  abbrev pub ptr : TypePtrOf (TypeTree X) → TypePtrOf (TypeTree X)
-  ptr x = ptr_of x.star_token x.mutability (ty x.elem)
+  abbrev pub ptr : TypePtrOf (TypeTree X) X → TypePtrOf (TypeTree X) X
+  ptr x = ptr_with (attrs normal x.attrs) x.star_token x.mutability (ty x.elem)
 
-  abbrev pub reference : TypeReferenceOf (TypeTree X) → TypeReferenceOf (TypeTree X)
-  reference x = reference_of x.and_token x.lifetime x.mutability (ty x.elem)
+  abbrev pub reference : TypeReferenceOf (TypeTree X) X → TypeReferenceOf (TypeTree X) X
+  reference x = reference_with (attrs normal x.attrs) x.and_token x.lifetime x.mutability (ty x.elem)
 
-  abbrev pub slice : TypeSliceOf (TypeTree X) → TypeSliceOf (TypeTree X)
-  slice x = slice_of x.bracket_token (ty x.elem)
+  abbrev pub slice : TypeSliceOf (TypeTree X) X → TypeSliceOf (TypeTree X) X
+  slice x = slice_with (attrs normal x.attrs) x.bracket_token (ty x.elem)
 
-  abbrev pub tuple : TypeTupleOf (TypeTree X) → TypeTupleOf (TypeTree X)
-  tuple x = tuple_of x.paren_token (map ty x.elems.0, x.elems.1)
+  abbrev pub tuple : TypeTupleOf (TypeTree X) X → TypeTupleOf (TypeTree X) X
+  tuple x = tuple_with (attrs normal x.attrs) x.paren_token (map ty x.elems.0, x.elems.1)

@@ -67,15 +67,6 @@ convention (Some l) = lits.print_str l
 abbrev pub abi : Abi → Print
 abi x = p.word x.extern_token ++ convention x.name
 
-abbrev pub infer : TypeInfer → Print
-infer x = p.word x.underscore_token
-
-abbrev pub never : TypeNever → Print
-never x = p.mark x.bang_token
-
-abbrev pub macro_type : TypeMacro → Print
-macro_type x = mac x.mac
-
 -- a word, or nothing
 abbrev pub optional_word : {n : ℕ} → Option (Word n) → Print
 optional_word None = []
@@ -116,7 +107,7 @@ last_comma c [] cs = []
 last_comma c (x ∷ all) [] = p.mark c
 last_comma c (x ∷ all) (d ∷ cs) = last_comma c all cs
 
--- ---- by the print of the types within
+-- ---- by the print of the types within, without attributes
 
 module _ {T : Type 0} (print : T → Print) where
   -- a path, which a type may qualify
@@ -124,25 +115,25 @@ module _ {T : Type 0} (print : T → Print) where
   qpath_by style None x = path style x
   qpath_by style (Some q) x = p.mark q.lt_token ++ (print q.ty ++ qualified style q x)
 
-  abbrev pub array_by : {E : Type 0} → (E → Print) → TypeArrayOf T E → Print
+  abbrev pub array_by : {X : Type 0} → (Expr X → Print) → TypeArrayOf T X → Print
   array_by len x = p.group Bracket (stream_of_trees (print x.elem ++ (p.mark x.semi_token ++ len x.len))) x.bracket_token.span
 
   abbrev pub path_type_by : {X : Type 0} → TypePathOf T X → Print
   path_type_by x = qpath_by as_written x.qself x.path
 
-  abbrev pub group_by : TypeGroupOf T → Print
+  abbrev pub group_by : {X : Type 0} → TypeGroupOf T X → Print
   group_by x = p.group d.None (stream_of_trees (print x.elem)) x.group_token.span
 
-  abbrev pub paren_by : TypeParenOf T → Print
+  abbrev pub paren_by : {X : Type 0} → TypeParenOf T X → Print
   paren_by x = p.group Parenthesis (stream_of_trees (print x.elem)) x.paren_token.span
 
-  abbrev pub ptr_by : TypePtrOf T → Print
+  abbrev pub ptr_by : {X : Type 0} → TypePtrOf T X → Print
   ptr_by x = p.mark x.star_token ++ (pointer x.mutability ++ print x.elem)
 
-  abbrev pub reference_by : TypeReferenceOf T → Print
+  abbrev pub reference_by : {X : Type 0} → TypeReferenceOf T X → Print
   reference_by x = p.mark x.and_token ++ (lifetime x.lifetime ++ (optional_word x.mutability ++ print x.elem))
 
-  abbrev pub slice_by : TypeSliceOf T → Print
+  abbrev pub slice_by : {X : Type 0} → TypeSliceOf T X → Print
   slice_by x = p.group Bracket (stream_of_trees (print x.elem)) x.bracket_token.span
 
   abbrev pub return_type_by : ReturnTypeOf T → Print
@@ -153,7 +144,7 @@ module _ {T : Type 0} (print : T → Print) where
   abbrev pub elements_by : Many T Comma → Print
   elements_by v = joined print p.mark v.0 v.1
 
-  abbrev pub tuple_by : TypeTupleOf T → Print
+  abbrev pub tuple_by : {X : Type 0} → TypeTupleOf T X → Print
   tuple_by x = p.group Parenthesis (stream_of_trees (elements_by x.elems ++ lone_comma x.elems.0 x.elems.1)) x.paren_token.span
 
 -- from the end of the binder to `fn`
@@ -165,10 +156,10 @@ module _ {B : Type 0} (bound : B → Print) where
   abbrev pub joined_by : Many B Plus → Print
   joined_by v = joined bound p.mark v.0 v.1
 
-  abbrev pub impl_trait_by : TypeImplTraitOf B → Print
+  abbrev pub impl_trait_by : {X : Type 0} → TypeImplTraitOf B X → Print
   impl_trait_by x = p.word x.impl_token ++ joined_by x.bounds
 
-  abbrev pub trait_object_by : TypeTraitObjectOf B → Print
+  abbrev pub trait_object_by : {X : Type 0} → TypeTraitObjectOf B X → Print
   trait_object_by x = optional_word x.dyn_token ++ joined_by x.bounds
 
 -- ---- trees
@@ -215,28 +206,41 @@ module _ {X : Type 0} (prints : Place → X → Print) where
   abbrev pub arguments_by : {T : Type 0} → (T → Print) → Paren → Many (NamedArgOf T X) Comma → Option (FnPtrVariadic X) → Print
   arguments_by type t v m = p.group Parenthesis (stream_of_trees (inputs_by type v ++ more v m)) t.span
 
-  abbrev pub fn_ptr_by : {G T : Type 0} → (G → Print) → (T → Print) → Option (BoundLifetimesOf G) → Option (Word 16) → Option Abi → Word 9 → Paren → Many (NamedArgOf T X) Comma → Option (FnPtrVariadic X) → ReturnTypeOf T → Print
-  fn_ptr_by param type l u a w t v m r = binder_start l ++ (binder_joined param l ++ (fn_head_by l u a w ++ (arguments_by type t v m ++ return_type_by type r)))
+  -- to the start of its binder
+  abbrev pub fn_start_by : {G : Type 0} → List (AttributeOf (Meta X)) → Option (BoundLifetimesOf G) → Print
+  fn_start_by a l = attrs prints a ++ binder_start l
+
+  abbrev pub fn_ptr_by : {G T : Type 0} → (G → Print) → (T → Print) → List (AttributeOf (Meta X)) → Option (BoundLifetimesOf G) → Option (Word 16) → Option Abi → Word 9 → Paren → Many (NamedArgOf T X) Comma → Option (FnPtrVariadic X) → ReturnTypeOf T → Print
+  fn_ptr_by param type b l u a w t v m r = fn_start_by b l ++ (binder_joined param l ++ (fn_head_by l u a w ++ (arguments_by type t v m ++ return_type_by type r)))
+
+  abbrev pub infer : TypeInfer X → Print
+  infer x = attrs prints x.attrs ++ p.word x.underscore_token
+
+  abbrev pub never : TypeNever X → Print
+  never x = attrs prints x.attrs ++ p.mark x.bang_token
+
+  abbrev pub macro_type : TypeMacro X → Print
+  macro_type x = attrs prints x.attrs ++ mac x.mac
 
   abbrev pub ty_step : o.Type-F X Print Print Print Print Print → Print
-  ty_step (o.Array x) = array_by (λ z. z) len x
+  ty_step (o.Array x) = attrs prints x.attrs ++ array_by (λ z. z) len x
   ty_step (o.FnPtr x) = x
-  ty_step (o.Group x) = group_by (λ z. z) x
-  ty_step (o.ImplTrait x) = impl_trait_by (λ z. z) x
+  ty_step (o.Group x) = attrs prints x.attrs ++ group_by (λ z. z) x
+  ty_step (o.ImplTrait x) = attrs prints x.attrs ++ impl_trait_by (λ z. z) x
   ty_step (o.Infer x) = infer x
   ty_step (o.Macro x) = macro_type x
   ty_step (o.Never x) = never x
-  ty_step (o.Paren x) = paren_by (λ z. z) x
-  ty_step (o.Path x) = path_type_by (λ z. z) x
-  ty_step (o.Ptr x) = ptr_by (λ z. z) x
-  ty_step (o.Reference x) = reference_by (λ z. z) x
-  ty_step (o.Slice x) = slice_by (λ z. z) x
-  ty_step (o.TraitObject x) = trait_object_by (λ z. z) x
-  ty_step (o.Tuple x) = tuple_by (λ z. z) x
+  ty_step (o.Paren x) = attrs prints x.attrs ++ paren_by (λ z. z) x
+  ty_step (o.Path x) = attrs prints x.attrs ++ path_type_by (λ z. z) x
+  ty_step (o.Ptr x) = attrs prints x.attrs ++ ptr_by (λ z. z) x
+  ty_step (o.Reference x) = attrs prints x.attrs ++ reference_by (λ z. z) x
+  ty_step (o.Slice x) = attrs prints x.attrs ++ slice_by (λ z. z) x
+  ty_step (o.TraitObject x) = attrs prints x.attrs ++ trait_object_by (λ z. z) x
+  ty_step (o.Tuple x) = attrs prints x.attrs ++ tuple_by (λ z. z) x
   ty_step (o.Type::Verbatim x) = trees x
 
   abbrev pub fn_ptr_step : o.TypeFnPtr-F X Print Print Print Print Print → Print
-  fn_ptr_step x = fn_ptr_by (λ z. z) (λ z. z) x.lifetimes x.unsafety x.abi x.fn_token x.paren_token x.inputs x.variadic x.output
+  fn_ptr_step x = fn_ptr_by (λ z. z) (λ z. z) x.attrs x.lifetimes x.unsafety x.abi x.fn_token x.paren_token x.inputs x.variadic x.output
 
   abbrev pub param_step : o.GenericParam-F X Print Print Print Print Print → Print
   param_step (o.GenericParam::Lifetime x) = lifetime_param prints x
@@ -267,20 +271,24 @@ module _ {X : Type 0} (prints : Place → X → Print) where
   unfoldable pub bound : TypeParamBound X → Print
   bound = fold-TypeParamBound X Print Print Print Print Print param_step bound_step ty_step type_param_step fn_ptr_step
 
-  abbrev pub array : TypeArrayOf (TypeTree X) (Expr X) → Print
-  array = array_by ty len
+  abbrev pub array : TypeArrayOf (TypeTree X) X → Print
+  array x = attrs prints x.attrs ++ array_by ty len x
 
   abbrev pub qpath : PathStyle → Option (QSelfOf (TypeTree X)) → Path X → Print
   qpath = qpath_by ty
 
+  -- the path of a type without its attributes
+  abbrev pub type_name : TypePathOf (TypeTree X) X → Print
+  type_name = path_type_by ty
+
   abbrev pub path_type : TypePathOf (TypeTree X) X → Print
-  path_type = path_type_by ty
+  path_type x = attrs prints x.attrs ++ path_type_by ty x
 
-  abbrev pub impl_trait : TypeImplTraitOf (TypeParamBound X) → Print
-  impl_trait = impl_trait_by bound
+  abbrev pub impl_trait : TypeImplTraitOf (TypeParamBound X) X → Print
+  impl_trait x = attrs prints x.attrs ++ impl_trait_by bound x
 
-  abbrev pub trait_object : TypeTraitObjectOf (TypeParamBound X) → Print
-  trait_object = trait_object_by bound
+  abbrev pub trait_object : TypeTraitObjectOf (TypeParamBound X) X → Print
+  trait_object x = attrs prints x.attrs ++ trait_object_by bound x
 
   abbrev pub named_arg : NamedArgOf (TypeTree X) X → Print
   named_arg = named_arg_by ty
@@ -288,7 +296,11 @@ module _ {X : Type 0} (prints : Place → X → Print) where
   abbrev pub inputs : Many (NamedArgOf (TypeTree X) X) Comma → Print
   inputs = inputs_by ty
 
-  -- the parts of a pointer to a function: the parameters of its binder
+  -- the parts of a pointer to a function: to the start of its binder
+  abbrev pub fn_start : TypeFnPtr X → Print
+  fn_start x = let f = out-TypeFnPtr X x in fn_start_by f.attrs f.lifetimes
+
+  -- the parameters of its binder
   abbrev pub fn_params : TypeFnPtr X → Print
   fn_params x = binder_joined param (fn_lifetimes x)
 
@@ -334,26 +346,26 @@ module _ {X : Type 0} (prints : Place → X → Print) where
   abbrev pub bound_lifetimes : BoundLifetimesOf (GenericParam X) → Print
   bound_lifetimes = bound_lifetimes_by param
 
-  abbrev pub group : TypeGroupOf (TypeTree X) → Print
-  group = group_by ty
+  abbrev pub group : TypeGroupOf (TypeTree X) X → Print
+  group x = attrs prints x.attrs ++ group_by ty x
 
   abbrev pub return_type : ReturnTypeOf (TypeTree X) → Print
   return_type = return_type_by ty
 
-  abbrev pub paren : TypeParenOf (TypeTree X) → Print
-  paren = paren_by ty
+  abbrev pub paren : TypeParenOf (TypeTree X) X → Print
+  paren x = attrs prints x.attrs ++ paren_by ty x
 
-  abbrev pub ptr : TypePtrOf (TypeTree X) → Print
-  ptr = ptr_by ty
+  abbrev pub ptr : TypePtrOf (TypeTree X) X → Print
+  ptr x = attrs prints x.attrs ++ ptr_by ty x
 
-  abbrev pub reference : TypeReferenceOf (TypeTree X) → Print
-  reference = reference_by ty
+  abbrev pub reference : TypeReferenceOf (TypeTree X) X → Print
+  reference x = attrs prints x.attrs ++ reference_by ty x
 
-  abbrev pub slice : TypeSliceOf (TypeTree X) → Print
-  slice = slice_by ty
+  abbrev pub slice : TypeSliceOf (TypeTree X) X → Print
+  slice x = attrs prints x.attrs ++ slice_by ty x
 
   abbrev pub elements : Many (TypeTree X) Comma → Print
   elements = elements_by ty
 
-  abbrev pub tuple : TypeTupleOf (TypeTree X) → Print
-  tuple = tuple_by ty
+  abbrev pub tuple : TypeTupleOf (TypeTree X) X → Print
+  tuple x = attrs prints x.attrs ++ tuple_by ty x

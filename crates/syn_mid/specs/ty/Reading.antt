@@ -80,10 +80,10 @@ semi = marks.read 24 1
 abbrev pub mutable : Reader (Option Mut)
 mutable = optional (sees_named 13) (marks.read_named 13)
 
-abbrev pub infer : Reader TypeInfer
+abbrev pub infer : {X : Type 0} → Reader (TypeInfer X)
 infer = infer_of <$> marks.read_named 19
 
-abbrev pub never : Reader TypeNever
+abbrev pub never : {X : Type 0} → Reader (TypeNever X)
 never = never_of <$> macs.bang
 
 abbrev pub mutability_name : Bytes
@@ -100,7 +100,7 @@ mutability = do
 abbrev pub type_name : Bytes
 type_name = codes "type"
 
-abbrev pub macro_type : Reader TypeMacro
+abbrev pub macro_type : {X : Type 0} → Reader (TypeMacro X)
 macro_type = macro_type_of <$> macs.mac
 
 module _ {X : Type 0} where
@@ -177,26 +177,26 @@ module _ {X : Type 0} (supplied : Place → Reader X) (typ : Bool → Reader (Ty
 
   -- ---- the readers of single forms
 
-  unfoldable pub array : Reader (TypeArrayOf (TypeTree X) (Expr X))
+  unfoldable pub array : Reader (TypeArrayOf (TypeTree X) X)
   array = (λ g. array_of (groups.bracket g.0) g.1.0 g.1.1.0 g.1.1.1) <$> in_group d.Bracket groups.bracket_name array_content
 
-  unfoldable pub slice : Reader (TypeSliceOf (TypeTree X))
+  unfoldable pub slice : Reader (TypeSliceOf (TypeTree X) X)
   slice = (λ g. slice_of (groups.bracket g.0) g.1) <$> in_group d.Bracket groups.bracket_name (typ true)
 
   -- its content is read without plus
-  unfoldable pub paren : Reader (TypeParenOf (TypeTree X))
+  unfoldable pub paren : Reader (TypeParenOf (TypeTree X) X)
   paren = (λ g. paren_of (groups.paren g.0) g.1) <$> in_group d.Parenthesis groups.paren_name (typ false)
 
-  unfoldable pub tuple : Reader (TypeTupleOf (TypeTree X))
+  unfoldable pub tuple : Reader (TypeTupleOf (TypeTree X) X)
   tuple = (λ g. tuple_of (groups.paren g.0) g.1) <$> in_group d.Parenthesis groups.paren_name tuple_content
 
-  unfoldable pub ptr : Reader (TypePtrOf (TypeTree X))
+  unfoldable pub ptr : Reader (TypePtrOf (TypeTree X) X)
   ptr = do
     s ← star
     q ← mutability
     ptr_of s q <$> typ false
 
-  unfoldable pub reference : Reader (TypeReferenceOf (TypeTree X))
+  unfoldable pub reference : Reader (TypeReferenceOf (TypeTree X) X)
   reference = do
     a ← and
     l ← read_optional_lifetime

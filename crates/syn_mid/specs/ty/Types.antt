@@ -1,4 +1,4 @@
--- Types by their parts.
+-- Types by their parts: with attributes (`.._with`), and as readers answer them, without any.
 use Rattle.std.specs.Prelude.{ℕ, Bool, false, List, [], ◌∷◌, Option, Some, None}
 use Rattle.token_core.specs.declared.mark.Mark.{Mark}
 use Rattle.token_core.specs.declared.word.Word.{Word}
@@ -12,6 +12,7 @@ use Rattle.token_core.specs.Reads.{is_text}
 use Rattle.syn_mid.specs.declared.mac.Macro.{Macro}
 use Rattle.syn_mid.specs.declared.path.PathOf.{PathOf}
 use Rattle.syn_mid.specs.declared.path.PathSegmentOf.{PathSegmentOf}
+use Rattle.syn_mid.specs.declared.supplied.Expr.{Expr}
 use Rattle.syn_mid.specs.declared.ty.PointerMutability.{PointerMutability}
 use Rattle.syn_mid.specs.declared.ty.TypeArrayOf.{TypeArrayOf}
 use Rattle.syn_mid.specs.declared.ty.TypeInfer.{TypeInfer}
@@ -67,39 +68,54 @@ Mut = Word 13
 abbrev pub Underscore : Type 0
 Underscore = Word 19
 
-abbrev pub array_of : {T E : Type 0} → Bracket → T → Semi → E → TypeArrayOf T E
-array_of b x s n = record { bracket_token = b; elem = x; semi_token = s; len = n }
+abbrev pub array_with : {T X : Type 0} → List (AttributeOf (Meta X)) → Bracket → T → Semi → Expr X → TypeArrayOf T X
+array_with a b x s n = record { attrs = a; bracket_token = b; elem = x; semi_token = s; len = n }
 
-abbrev pub group_of : {T : Type 0} → GroupToken → T → TypeGroupOf T
-group_of g x = record { group_token = g; elem = x }
+abbrev pub array_of : {T X : Type 0} → Bracket → T → Semi → Expr X → TypeArrayOf T X
+array_of = array_with []
 
-abbrev pub infer_of : Underscore → TypeInfer
-infer_of u = record { underscore_token = u }
+abbrev pub group_with : {T X : Type 0} → List (AttributeOf (Meta X)) → GroupToken → T → TypeGroupOf T X
+group_with a g x = record { attrs = a; group_token = g; elem = x }
 
-abbrev pub macro_type_of : Macro → TypeMacro
-macro_type_of m = record { mac = m }
+abbrev pub infer_with : {X : Type 0} → List (AttributeOf (Meta X)) → Underscore → TypeInfer X
+infer_with a u = record { attrs = a; underscore_token = u }
 
-abbrev pub never_of : Bang → TypeNever
-never_of b = record { bang_token = b }
+abbrev pub infer_of : {X : Type 0} → Underscore → TypeInfer X
+infer_of = infer_with []
 
-abbrev pub paren_of : {T : Type 0} → Paren → T → TypeParenOf T
-paren_of p x = record { paren_token = p; elem = x }
+abbrev pub macro_type_with : {X : Type 0} → List (AttributeOf (Meta X)) → Macro X → TypeMacro X
+macro_type_with a m = record { attrs = a; mac = m }
+
+abbrev pub macro_type_of : {X : Type 0} → Macro → TypeMacro X
+macro_type_of = macro_type_with []
+
+abbrev pub never_with : {X : Type 0} → List (AttributeOf (Meta X)) → Bang → TypeNever X
+never_with a b = record { attrs = a; bang_token = b }
+
+abbrev pub never_of : {X : Type 0} → Bang → TypeNever X
+never_of = never_with []
+
+abbrev pub paren_with : {T X : Type 0} → List (AttributeOf (Meta X)) → Paren → T → TypeParenOf T X
+paren_with a p x = record { attrs = a; paren_token = p; elem = x }
+
+abbrev pub paren_of : {T X : Type 0} → Paren → T → TypeParenOf T X
+paren_of = paren_with []
 
 -- a path that no type qualifies
 abbrev pub path_type_of : {T X : Type 0} → Path X → TypePathOf T X
-path_type_of p = record { qself = None; path = p }
+path_type_of p = record { attrs = []; qself = None; path = p }
 
 abbrev pub qself_of : {T : Type 0} → Mark 2 1 → T → ℕ → Option (Word 4) → Mark 3 1 → QSelfOf T
 qself_of l x n a g = record { lt_token = l; ty = x; position = n; as_token = a; gt_token = g }
 
-abbrev pub qualified_of : {T X : Type 0} → Option (QSelfOf T) → Path X → TypePathOf T X
-qualified_of q p = record { qself = q; path = p }
+abbrev pub qualified_with : {T X : Type 0} → List (AttributeOf (Meta X)) → Option (QSelfOf T) → Path X → TypePathOf T X
+qualified_with a q p = record { attrs = a; qself = q; path = p }
 
-abbrev pub impl_trait_of : {B : Type 0} → Word 12 → Many B Plus → TypeImplTraitOf B
-impl_trait_of w v = record { impl_token = w; bounds = v }
+abbrev pub impl_trait_with : {B X : Type 0} → List (AttributeOf (Meta X)) → Word 12 → Many B Plus → TypeImplTraitOf B X
+impl_trait_with a w v = record { attrs = a; impl_token = w; bounds = v }
 
-abbrev pub trait_object_of : {B : Type 0} → Option (Word 7) → Many B Plus → TypeTraitObjectOf B
-trait_object_of w v = record { dyn_token = w; bounds = v }
+abbrev pub trait_object_with : {B X : Type 0} → List (AttributeOf (Meta X)) → Option (Word 7) → Many B Plus → TypeTraitObjectOf B X
+trait_object_with a w v = record { attrs = a; dyn_token = w; bounds = v }
 
 abbrev pub named_arg_of : {T X : Type 0} → List (AttributeOf (Meta X)) → Option (Ident × Mark 7 1) → T → NamedArgOf T X
 named_arg_of a n x = record { attrs = a; name = n; ty = x }
@@ -107,21 +123,33 @@ named_arg_of a n x = record { attrs = a; name = n; ty = x }
 abbrev pub variadic_of : {X : Type 0} → List (AttributeOf (Meta X)) → Option (Ident × Mark 7 1) → Mark 9 3 → Option Comma → FnPtrVariadic X
 variadic_of a n d c = record { attrs = a; name = n; dots = d; comma = c }
 
-abbrev pub fn_ptr_of : {X : Type 0} → Option (BoundLifetimesOf (GenericParam X)) → Option (Word 16) → Option Abi → Word 9 → Paren → Many (NamedArgOf (TypeTree X) X) Comma → Option (FnPtrVariadic X)
+abbrev pub fn_ptr_with : {X : Type 0} → List (AttributeOf (Meta X)) → Option (BoundLifetimesOf (GenericParam X)) → Option (Word 16) → Option Abi → Word 9 → Paren → Many (NamedArgOf (TypeTree X) X) Comma → Option (FnPtrVariadic X)
     → ReturnTypeOf (TypeTree X) → TypeFnPtr X
-fn_ptr_of {X = X} l u a w t v m r = roll-TypeFnPtr X (record { lifetimes = l; unsafety = u; abi = a; fn_token = w; paren_token = t; inputs = v; variadic = m; output = r })
+fn_ptr_with {X = X} b l u a w t v m r = roll-TypeFnPtr X (record { attrs = b; lifetimes = l; unsafety = u; abi = a; fn_token = w; paren_token = t; inputs = v; variadic = m; output = r })
 
-abbrev pub ptr_of : {T : Type 0} → Star → PointerMutability → T → TypePtrOf T
-ptr_of s m x = record { star_token = s; mutability = m; elem = x }
+abbrev pub ptr_with : {T X : Type 0} → List (AttributeOf (Meta X)) → Star → PointerMutability → T → TypePtrOf T X
+ptr_with a s m x = record { attrs = a; star_token = s; mutability = m; elem = x }
 
-abbrev pub reference_of : {T : Type 0} → And → Option Lifetime → Option Mut → T → TypeReferenceOf T
-reference_of a l m x = record { and_token = a; lifetime = l; mutability = m; elem = x }
+abbrev pub ptr_of : {T X : Type 0} → Star → PointerMutability → T → TypePtrOf T X
+ptr_of = ptr_with []
 
-abbrev pub slice_of : {T : Type 0} → Bracket → T → TypeSliceOf T
-slice_of b x = record { bracket_token = b; elem = x }
+abbrev pub reference_with : {T X : Type 0} → List (AttributeOf (Meta X)) → And → Option Lifetime → Option Mut → T → TypeReferenceOf T X
+reference_with a t l m x = record { attrs = a; and_token = t; lifetime = l; mutability = m; elem = x }
 
-abbrev pub tuple_of : {T : Type 0} → Paren → Many T Comma → TypeTupleOf T
-tuple_of p v = record { paren_token = p; elems = v }
+abbrev pub reference_of : {T X : Type 0} → And → Option Lifetime → Option Mut → T → TypeReferenceOf T X
+reference_of = reference_with []
+
+abbrev pub slice_with : {T X : Type 0} → List (AttributeOf (Meta X)) → Bracket → T → TypeSliceOf T X
+slice_with a b x = record { attrs = a; bracket_token = b; elem = x }
+
+abbrev pub slice_of : {T X : Type 0} → Bracket → T → TypeSliceOf T X
+slice_of = slice_with []
+
+abbrev pub tuple_with : {T X : Type 0} → List (AttributeOf (Meta X)) → Paren → Many T Comma → TypeTupleOf T X
+tuple_with a p v = record { attrs = a; paren_token = p; elems = v }
+
+abbrev pub tuple_of : {T X : Type 0} → Paren → Many T Comma → TypeTupleOf T X
+tuple_of = tuple_with []
 
 -- ---- paths of types
 
