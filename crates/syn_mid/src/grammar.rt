@@ -265,7 +265,7 @@ fn bare_type<X>(alloc: Global, path: Path<X>) -> TypePath<X>
 }
 
 /// A path as a type by itself.
-pub(crate) fn parse_path_type<X: Drop>(
+pub(crate) fn parse_path_type<X: Subtree>(
     alloc: Global,
     input: &mut ParseStream<'_>,
 ) -> Result<TypePath<X>, Error>
@@ -278,7 +278,7 @@ pub(crate) fn parse_path_type<X: Drop>(
 
 /// A path, or a macro call by its path.
 #[tactic(auto, using(token_core::proofs::Suffixes::follows), unfolding(crate::specs::ty::Reading::path_or_macro))]
-fn parse_path_or_macro<X: Drop>(
+fn parse_path_or_macro<X: Subtree>(
     alloc: Global,
     input: &mut ParseStream<'_>,
     plus: bool,
@@ -327,7 +327,7 @@ fn held_bound<X>(paren_token: Paren, bound: TraitBound<X>) -> TraitBound<X>
 
 /// The path of a bound after `?`. With a binder beside the `?` the bound is refused at the `?`.
 #[tactic(auto, using(token_core::proofs::Suffixes::follows))]
-fn parse_asked<X: Drop>(
+fn parse_asked<X: Subtree>(
     alloc: Global,
     input: &mut ParseStream<'_>,
     question: Question,

@@ -18,15 +18,17 @@ ghost use Rattle.syn_mid.specs.ty.Spelling.{IsMutability, IsInfer, IsNever, IsMa
 
 use crate::attr::{Attribute, print_outer, print_value};
 use crate::generics::{
-    BoundLifetimes, GenericParam, TypeParamBound, print_binder_end, print_binder_start,
-    print_bound, print_param,
+    BoundLifetimes, BoundLifetimesOf, GenericParam, GenericParamOf, TypeParamBound,
+    TypeParamBoundOf, print_binder_end, print_binder_start, print_bound, print_param,
 };
 use crate::grammar::{
     parse_array, parse_infer, parse_macro_type, parse_mutability, parse_never, parse_paren,
     parse_path_type, parse_ptr, parse_reference, parse_slice, parse_tuple, parse_type,
 };
 use crate::mac::Macro;
-use crate::path::{Path, PathStyle, QSelf, QSelfOf, print_path, print_qualified};
+use crate::path::{
+    Path, PathArgumentsOf, PathOf, PathStyle, QSelf, QSelfOf, print_path, print_qualified,
+};
 use crate::supplied::{Expr, Place, Subtree};
 use std::alloc::{AllocError, Global};
 use std::marker::PhantomData;
@@ -39,135 +41,151 @@ use token_core::{
     TokenStream,
 };
 
-/// A type.
+/// A type, over its attributes and expressions: these lead back to no type.
 #[cycle(types)]
 #[derive(Drop)]
-pub enum Type<X> {
+pub enum TypeOf<A, E> {
     /// `[T; n]`
-    Array(TypeArray<X>),
+    Array(TypeArrayOf<TypeOf<A, E>, A, E>),
     /// `for<'a> unsafe extern "C" fn(a: A, ...) -> B`. No reader answers it yet.
-    FnPtr(TypeFnPtr<X>),
+    FnPtr(TypeFnPtrOf<A, E>),
     /// A type in an invisible group, as a macro hands it on. No reader answers it yet.
-    Group(TypeGroup<X>),
+    Group(TypeGroupOf<TypeOf<A, E>, A>),
     /// `impl A + 'a`. No reader answers it yet.
-    ImplTrait(TypeImplTrait<X>),
+    ImplTrait(TypeImplTraitOf<TypeParamBoundOf<A, E>, A>),
     /// `_`
-    Infer(TypeInfer<X>),
+    Infer(TypeInferOf<A>),
     /// `a::b! { .. }`
-    Macro(TypeMacro<X>),
+    Macro(TypeMacroOf<A>),
     /// `!`
-    Never(TypeNever<X>),
+    Never(TypeNeverOf<A>),
     /// `(T)`
-    Paren(TypeParen<X>),
+    Paren(TypeParenOf<TypeOf<A, E>, A>),
     /// `a::b`, `<T as a::b>::c`
-    Path(TypePath<X>),
+    Path(TypePathOf<A, E>),
     /// `*const T`, `*mut T`
-    Ptr(TypePtr<X>),
+    Ptr(TypePtrOf<TypeOf<A, E>, A>),
     /// `&'a mut T`
-    Reference(TypeReference<X>),
+    Reference(TypeReferenceOf<TypeOf<A, E>, A>),
     /// `[T]`
-    Slice(TypeSlice<X>),
+    Slice(TypeSliceOf<TypeOf<A, E>, A>),
     /// `dyn A + 'a`. No reader answers it yet.
-    TraitObject(TypeTraitObject<X>),
+    TraitObject(TypeTraitObjectOf<TypeParamBoundOf<A, E>, A>),
     /// `(A, B)`
-    Tuple(TypeTuple<X>),
+    Tuple(TypeTupleOf<TypeOf<A, E>, A>),
     /// Tokens that no other case holds. No reader answers it yet.
     Verbatim(TokenStream),
 }
 
+/// A type.
+pub type Type<X> = TypeOf<Attribute<X>, Expr<X>>;
+
 /// An array over its element's type and its length.
 #[derive(Drop)]
-pub struct TypeArrayOf<T, X> {
-    pub attrs: Items<Attribute<X>>,
+pub struct TypeArrayOf<T, A, E> {
+    pub attrs: Items<A>,
     pub bracket_token: Bracket,
     pub elem: Boxed<T>,
     pub semi_token: Semi,
-    pub len: Expr<X>,
+    pub len: E,
 }
 
 /// An array: `[`, a type, `;`, a length, `]`.
-pub type TypeArray<X> = TypeArrayOf<Type<X>, X>;
+pub type TypeArray<X> = TypeArrayOf<Type<X>, Attribute<X>, Expr<X>>;
 
 /// A pointer to a function: an optional binder, an optional `unsafe`, an optional calling convention, `fn`, in parentheses the
 /// arguments and an optional `...`, and what it returns.
 #[cycle(types)]
 #[derive(Drop)]
-pub struct TypeFnPtr<X> {
-    pub attrs: Items<Attribute<X>>,
-    pub lifetimes: Option<BoundLifetimes<X>>,
+pub struct TypeFnPtrOf<A, E> {
+    pub attrs: Items<A>,
+    pub lifetimes: Option<BoundLifetimesOf<GenericParamOf<A, E>>>,
     pub unsafety: Option<Unsafe>,
     pub abi: Option<Abi>,
     pub fn_token: Fn,
     pub paren_token: Paren,
-    pub inputs: Punctuated<NamedArg<X>, Comma>,
-    pub variadic: Option<FnPtrVariadic<X>>,
-    pub output: ReturnType<X>,
+    pub inputs: Punctuated<NamedArgOf<TypeOf<A, E>, A>, Comma>,
+    pub variadic: Option<FnPtrVariadicOf<A>>,
+    pub output: ReturnTypeOf<TypeOf<A, E>>,
 }
+
+/// A pointer to a function.
+pub type TypeFnPtr<X> = TypeFnPtrOf<Attribute<X>, Expr<X>>;
 
 /// A type in an invisible group, over that type.
 #[derive(Drop)]
-pub struct TypeGroupOf<T, X> {
-    pub attrs: Items<Attribute<X>>,
+pub struct TypeGroupOf<T, A> {
+    pub attrs: Items<A>,
     pub group_token: GroupToken,
     pub elem: Boxed<T>,
 }
 
 /// A type in an invisible group.
-pub type TypeGroup<X> = TypeGroupOf<Type<X>, X>;
+pub type TypeGroup<X> = TypeGroupOf<Type<X>, Attribute<X>>;
 
 /// A type that the function picks, over its bounds.
 #[derive(Drop)]
-pub struct TypeImplTraitOf<B, X> {
-    pub attrs: Items<Attribute<X>>,
+pub struct TypeImplTraitOf<B, A> {
+    pub attrs: Items<A>,
     pub impl_token: Impl,
     pub bounds: Punctuated<B, Plus>,
 }
 
 /// A type that the function picks: `impl`, and bounds joined by `+`.
-pub type TypeImplTrait<X> = TypeImplTraitOf<TypeParamBound<X>, X>;
+pub type TypeImplTrait<X> = TypeImplTraitOf<TypeParamBound<X>, Attribute<X>>;
 
 /// A type to be found by the compiler: `_`.
 #[derive(Drop)]
-pub struct TypeInfer<X> {
-    pub attrs: Items<Attribute<X>>,
+pub struct TypeInferOf<A> {
+    pub attrs: Items<A>,
     pub underscore_token: Underscore,
 }
 
+/// A type to be found by the compiler: `_`.
+pub type TypeInfer<X> = TypeInferOf<Attribute<X>>;
+
 /// A macro call in the place of a type.
 #[derive(Drop)]
-pub struct TypeMacro<X> {
-    pub attrs: Items<Attribute<X>>,
+pub struct TypeMacroOf<A> {
+    pub attrs: Items<A>,
     pub mac: Macro,
 }
 
+/// A macro call in the place of a type.
+pub type TypeMacro<X> = TypeMacroOf<Attribute<X>>;
+
 /// The type without a value: `!`.
 #[derive(Drop)]
-pub struct TypeNever<X> {
-    pub attrs: Items<Attribute<X>>,
+pub struct TypeNeverOf<A> {
+    pub attrs: Items<A>,
     pub bang_token: Not,
 }
 
+/// The type without a value: `!`.
+pub type TypeNever<X> = TypeNeverOf<Attribute<X>>;
+
 /// A type in parentheses, over that type.
 #[derive(Drop)]
-pub struct TypeParenOf<T, X> {
-    pub attrs: Items<Attribute<X>>,
+pub struct TypeParenOf<T, A> {
+    pub attrs: Items<A>,
     pub paren_token: Paren,
     pub elem: Boxed<T>,
 }
 
 /// A type in parentheses.
-pub type TypeParen<X> = TypeParenOf<Type<X>, X>;
+pub type TypeParen<X> = TypeParenOf<Type<X>, Attribute<X>>;
 
 /// A type by its path, over the type that qualifies it.
+#[cycle(types)]
 #[derive(Drop)]
-pub struct TypePathOf<T, X> {
-    pub attrs: Items<Attribute<X>>,
-    pub qself: Option<QSelfOf<T>>,
-    pub path: Path<X>,
+pub struct TypePathOf<A, E> {
+    pub attrs: Items<A>,
+    pub qself: Option<QSelfOf<TypeOf<A, E>>>,
+    pub path: PathOf<PathArgumentsOf<A, E>>,
 }
 
 /// A type by its path, which may be qualified.
-pub type TypePath<X> = TypePathOf<Type<X>, X>;
+pub type TypePath<X> = TypePathOf<Attribute<X>, Expr<X>>;
 
 /// What may be done by way of a raw pointer.
 #[derive(Clone, Copy)]
@@ -178,20 +196,20 @@ pub enum PointerMutability {
 
 /// A raw pointer over the type that it points to.
 #[derive(Drop)]
-pub struct TypePtrOf<T, X> {
-    pub attrs: Items<Attribute<X>>,
+pub struct TypePtrOf<T, A> {
+    pub attrs: Items<A>,
     pub star_token: Star,
     pub mutability: PointerMutability,
     pub elem: Boxed<T>,
 }
 
 /// A raw pointer: `*`, `const` or `mut`, a type.
-pub type TypePtr<X> = TypePtrOf<Type<X>, X>;
+pub type TypePtr<X> = TypePtrOf<Type<X>, Attribute<X>>;
 
 /// A reference over the type that it points to.
 #[derive(Drop)]
-pub struct TypeReferenceOf<T, X> {
-    pub attrs: Items<Attribute<X>>,
+pub struct TypeReferenceOf<T, A> {
+    pub attrs: Items<A>,
     pub and_token: And,
     pub lifetime: Option<Lifetime>,
     pub mutability: Option<Mut>,
@@ -199,40 +217,40 @@ pub struct TypeReferenceOf<T, X> {
 }
 
 /// A reference: `&`, an optional lifetime, an optional `mut`, a type.
-pub type TypeReference<X> = TypeReferenceOf<Type<X>, X>;
+pub type TypeReference<X> = TypeReferenceOf<Type<X>, Attribute<X>>;
 
 /// A slice over its element's type.
 #[derive(Drop)]
-pub struct TypeSliceOf<T, X> {
-    pub attrs: Items<Attribute<X>>,
+pub struct TypeSliceOf<T, A> {
+    pub attrs: Items<A>,
     pub bracket_token: Bracket,
     pub elem: Boxed<T>,
 }
 
 /// A slice: a type in brackets.
-pub type TypeSlice<X> = TypeSliceOf<Type<X>, X>;
+pub type TypeSlice<X> = TypeSliceOf<Type<X>, Attribute<X>>;
 
 /// A trait object, over its bounds.
 #[derive(Drop)]
-pub struct TypeTraitObjectOf<B, X> {
-    pub attrs: Items<Attribute<X>>,
+pub struct TypeTraitObjectOf<B, A> {
+    pub attrs: Items<A>,
     pub dyn_token: Option<Dyn>,
     pub bounds: Punctuated<B, Plus>,
 }
 
 /// A trait object: `dyn`, and bounds joined by `+`.
-pub type TypeTraitObject<X> = TypeTraitObjectOf<TypeParamBound<X>, X>;
+pub type TypeTraitObject<X> = TypeTraitObjectOf<TypeParamBound<X>, Attribute<X>>;
 
 /// A tuple over its elements' type.
 #[derive(Drop)]
-pub struct TypeTupleOf<T, X> {
-    pub attrs: Items<Attribute<X>>,
+pub struct TypeTupleOf<T, A> {
+    pub attrs: Items<A>,
     pub paren_token: Paren,
     pub elems: Punctuated<T, Comma>,
 }
 
 /// A tuple: types in parentheses, joined by commas.
-pub type TypeTuple<X> = TypeTupleOf<Type<X>, X>;
+pub type TypeTuple<X> = TypeTupleOf<Type<X>, Attribute<X>>;
 
 /// The calling convention of a function: `extern "C"`.
 #[derive(Drop)]
@@ -243,23 +261,26 @@ pub struct Abi {
 
 /// An argument of a pointer to a function, over its type.
 #[derive(Drop)]
-pub struct NamedArgOf<T, X> {
-    pub attrs: Items<Attribute<X>>,
+pub struct NamedArgOf<T, A> {
+    pub attrs: Items<A>,
     pub name: Option<(Ident, Colon)>,
     pub ty: T,
 }
 
 /// An argument of a pointer to a function: attributes, an optional name, a type.
-pub type NamedArg<X> = NamedArgOf<Type<X>, X>;
+pub type NamedArg<X> = NamedArgOf<Type<X>, Attribute<X>>;
 
 /// What stands after the arguments of a function that takes any number of them: attributes, an optional name, `...`, an optional comma.
 #[derive(Drop)]
-pub struct FnPtrVariadic<X> {
-    pub attrs: Items<Attribute<X>>,
+pub struct FnPtrVariadicOf<A> {
+    pub attrs: Items<A>,
     pub name: Option<(Ident, Colon)>,
     pub dots: DotDotDot,
     pub comma: Option<Comma>,
 }
+
+/// What stands after the arguments of a function that takes any number of them.
+pub type FnPtrVariadic<X> = FnPtrVariadicOf<Attribute<X>>;
 
 /// What a function returns, over its type.
 #[derive(Drop)]
@@ -1190,7 +1211,7 @@ fn print_type_name<X: Subtree>(
             print_type(alloc, qself.ty.get(), out)?;
             print_qualified(alloc, qself, &path.path, PathStyle::AsWritten, out)
         }
-        None => path.path.to_tokens(alloc, out),
+        None => print_path(alloc, &path.path, PathStyle::AsWritten, out),
     }
 }
 
@@ -1536,7 +1557,7 @@ fn print_convention(
 
 /// Outer attributes, and a name with its colon.
 #[tactic(auto, using(token_core::proofs::Puts::puts))]
-fn print_arg_name<X: Subtree>(
+pub(crate) fn print_arg_name<X: Subtree>(
     alloc: Global,
     attrs: &Items<Attribute<X>>,
     name: &Option<(Ident, Colon)>,
