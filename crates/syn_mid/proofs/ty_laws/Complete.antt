@@ -211,7 +211,7 @@ module _ {X : Type 0} where
       let k = plain_complete no_arguments p l r f e sc i h.sep h.angle in
       record { last = k.last; reads = link _ k.reads (chosen (sees_call r) false _ _ (at r f k.last sc) _ h.call (ended_complete plus (t.Path (path_type_of p)) r f k.last sc h)) }
 
-  call_complete : (plus : Bool) (x : Macro) (l r : Toks) (f : Option Span) (e : Span) (sc : Scope) → IsCall true is_type_word x l r → Reads_to (path_or_macro plus) (t.Macro (macro_type_of x)) l r f e sc
+  call_complete : (plus : Bool) (x : Macro) (l r : Toks) (f : Option Span) (e : Span) (sc : Scope) → IsCall true is_type_word x l r → Reads_to (path_or_macro {X = X} plus) (t.Macro (macro_type_of x)) l r f e sc
   unfolding path_or_macro
   call_complete plus x l r f e sc (a_macro {p = p} {a = a} {j = j} {e = b} {d = d} {s = g} {c = c} {tokens = tokens} i apart h k) =
       let n = mark (punct 33 j a) (group d g c r) in
@@ -457,7 +457,7 @@ module _ {X : Type 0} (supplied : Place → Reader X) (spells : Place → X → 
         let k = infer_complete (infer_of w) l r f e sc (an_infer i) in
         record { last = k.last; reads = step_infer supplied typ plus w l r f e sc i ∙ link _ k.reads refl }
     type_complete plus x l r f e sc h (s.macro_call {x = y} (a_macro {p = p} i apart d w) g) o =
-        let k = call_complete plus y l r f e sc (a_macro i apart d w) in
+        let k = call_complete {X = X} plus y l r f e sc (a_macro i apart d w) in
         record { last = k.last; reads = step_path supplied typ plus l f e sc (path_first true p l _ i g) ∙ k.reads }
     type_complete plus x l r f e sc h (s.never (a_never {b = b} i)) o =
         let k = never_complete (never_of b) l r f e sc (a_never i) in
