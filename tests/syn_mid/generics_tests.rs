@@ -74,7 +74,7 @@ pub(crate) fn ident(alloc: Global, text: &str) -> Result<Ident, Error> {
     Ok(Ident::new(alloc, text, Span::none())?)
 }
 
-fn lifetime(alloc: Global, text: &str) -> Result<Lifetime, Error> {
+pub(crate) fn lifetime(alloc: Global, text: &str) -> Result<Lifetime, Error> {
     Ok(Lifetime::new(Span::none(), ident(alloc, text)?))
 }
 

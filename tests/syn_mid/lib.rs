@@ -2,6 +2,8 @@
 #![tactic(auto)]
 
 #[cfg(test)]
+mod argument_tests;
+#[cfg(test)]
 mod bound_tests;
 #[cfg(test)]
 mod expr_tests;

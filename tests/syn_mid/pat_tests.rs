@@ -5,12 +5,11 @@ use crate::generics_tests::{both, ident, literal, lone, pair, path, printed, say
 use crate::nothing::Nothing;
 use crate::qualified_tests::qself;
 use std::alloc::Global;
-use std::marker::PhantomData;
 use syn_mid::{
     AngleBracketedGenericArguments, Attribute, FieldPat, ParenthesizedGenericArguments, ParseInner,
     ParseOuter, Pat, PatGuard, PatIdent, PatLit, PatOr, PatParen, PatPath, PatReference, PatRest,
     PatSlice, PatStruct, PatTuple, PatTupleStruct, PatType, PatWild, Path, PathArguments,
-    PathSegment, QSelf,
+    PathSegment, QSelf, ReturnTypeOf,
 };
 use token_core::token::{
     And, As, At, Brace, Bracket, Colon, Comma, DotDot, Gt, If, Lt, Mut, Or, Paren, PathSep, Ref,
@@ -399,7 +398,7 @@ fn angled_segment(alloc: Global, text: &str) -> Result<PathSegment<Nothing>, Err
         arguments: PathArguments::AngleBracketed(AngleBracketedGenericArguments {
             colon2_token: None,
             lt_token: Lt::default(),
-            args: PhantomData,
+            args: Punctuated::new(alloc),
             gt_token: Gt::default(),
         }),
     })
@@ -439,7 +438,7 @@ fn generic(alloc: Global, colon: Option<PathSep>) -> Result<PatPath<Nothing>, Er
     let arguments = PathArguments::AngleBracketed(AngleBracketedGenericArguments {
         colon2_token: colon,
         lt_token: Lt::default(),
-        args: PhantomData,
+        args: Punctuated::new(alloc),
         gt_token: Gt::default(),
     });
     with_arguments(alloc, arguments)
@@ -449,7 +448,8 @@ fn generic(alloc: Global, colon: Option<PathSep>) -> Result<PatPath<Nothing>, Er
 fn parenthesized(alloc: Global) -> Result<PatPath<Nothing>, Error> {
     let arguments = PathArguments::Parenthesized(ParenthesizedGenericArguments {
         paren_token: Paren::default(),
-        inputs: PhantomData,
+        inputs: Punctuated::new(alloc),
+        output: ReturnTypeOf::Default,
     });
     with_arguments(alloc, arguments)
 }

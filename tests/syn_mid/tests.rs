@@ -3,13 +3,12 @@
 use crate::nothing::Nothing;
 use std::alloc::{AllocError, Global};
 use std::fmt::Write;
-use std::marker::PhantomData;
 use std::process::Abort;
 use syn_mid::attr::{inner, outer};
 use syn_mid::{
     AngleBracketedGenericArguments, Arguments, AttrStyle, Attribute, Expr, Macro, MacroDelimiter,
     Meta, MetaList, MetaNameValue, ModPath, ModStyle, ParenthesizedGenericArguments, Path,
-    PathArguments, PathOf, PathSegment, PathSegmentOf,
+    PathArguments, PathOf, PathSegment, PathSegmentOf, ReturnTypeOf,
 };
 use token_core::token::{Brace, Bracket, Eq, Gt, Lt, Not, Paren, PathSep, Pound};
 use token_core::{
@@ -408,13 +407,13 @@ fn refuses_macros_without_a_group(rt: HostRuntime) {
 }
 
 /// `<>`, after `::` if so wanted.
-fn angles(colon: Option<PathSep>) -> PathArguments<Nothing> {
+fn angles(alloc: Global, colon: Option<PathSep>) -> PathArguments<Nothing> {
     PathArguments::AngleBracketed(AngleBracketedGenericArguments {
         colon2_token: colon,
         lt_token: Lt {
             spans: [Span::new(7, 8)],
         },
-        args: PhantomData,
+        args: Punctuated::new(alloc),
         gt_token: Gt {
             spans: [Span::new(8, 9)],
         },
@@ -452,10 +451,11 @@ fn put_segment(
     made(rt, push_segment(alloc, segment, path));
 }
 
-fn parentheses() -> PathArguments<Nothing> {
+fn parentheses(alloc: Global) -> PathArguments<Nothing> {
     PathArguments::Parenthesized(ParenthesizedGenericArguments {
         paren_token: Paren { span: place() },
-        inputs: PhantomData,
+        inputs: Punctuated::new(alloc),
+        output: ReturnTypeOf::Default,
     })
 }
 
@@ -466,13 +466,13 @@ fn long_path(rt: &impl Abort, alloc: Global, segments: usize) -> Path<Nothing> {
         segments: Punctuated::new(alloc),
     };
     if segments > 0 {
-        put_segment(rt, alloc, "a", angles(None), &mut path);
+        put_segment(rt, alloc, "a", angles(alloc, None), &mut path);
     }
     if segments > 1 {
-        put_segment(rt, alloc, "b", angles(Some(separator())), &mut path);
+        put_segment(rt, alloc, "b", angles(alloc, Some(separator())), &mut path);
     }
     if segments > 2 {
-        put_segment(rt, alloc, "c", parentheses(), &mut path);
+        put_segment(rt, alloc, "c", parentheses(alloc), &mut path);
     }
     path
 }
@@ -597,7 +597,7 @@ fn makes_paths(rt: HostRuntime) {
 fn makes_paths_of_segments(rt: HostRuntime) {
     let alloc = rt.alloc();
     let ident = made(&rt, Ident::new(alloc, "a", Span::new(3, 4)));
-    let arguments = angles(None);
+    let arguments = angles(alloc, None);
     let segment = PathSegment { ident, arguments };
     let path = made(&rt, Path::from_segment(alloc, segment));
     path_shows(&rt, alloc, &path, "a 3-4 with arguments;");
