@@ -65,6 +65,7 @@ pub use pat::PatRange;
 pub use pat::PatReference;
 pub use pat::PatReferenceOf;
 pub use pat::PatRest;
+pub use pat::PatRestOf;
 pub use pat::PatSlice;
 pub use pat::PatSliceOf;
 pub use pat::PatStruct;
