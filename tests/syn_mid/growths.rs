@@ -70,10 +70,11 @@ fn take(alloc: Global, times: usize) -> Result<(), Error> {
 
 /// `(impl A + for<'b> A, <Self as A>::Q)`
 fn tuple(alloc: Global) -> Result<Type<Nothing>, Error> {
-    let first = opaque(and(alloc, bound_with_binder(alloc)));
+    let first = opaque(alloc, and(alloc, bound_with_binder(alloc)));
     let qself = qself(alloc, 1, Some(As::default()));
-    let (first, second) = both(first, qualified(qself, path(alloc, "A::Q")))?;
+    let (first, second) = both(first, qualified(alloc, qself, path(alloc, "A::Q")))?;
     Ok(Type::from(TypeTupleOf {
+        attrs: Items::new(alloc),
         paren_token: Paren::default(),
         elems: pair(alloc, first, second)?,
     }))
@@ -82,14 +83,17 @@ fn tuple(alloc: Global) -> Result<Type<Nothing>, Error> {
 /// `[((impl A + for<'b> A, <Self as A>::Q))]`, with an invisible group in the outer parentheses
 fn nested(alloc: Global) -> Result<Type<Nothing>, Error> {
     let group = Type::Group(TypeGroupOf {
+        attrs: Items::new(alloc),
         group_token: GroupToken::default(),
         elem: boxed(alloc, tuple(alloc))?,
     });
     let paren = Type::from(TypeParenOf {
+        attrs: Items::new(alloc),
         paren_token: Paren::default(),
         elem: Boxed::new(alloc, group)?,
     });
     Ok(Type::from(TypeSliceOf {
+        attrs: Items::new(alloc),
         bracket_token: Bracket::default(),
         elem: Boxed::new(alloc, paren)?,
     }))

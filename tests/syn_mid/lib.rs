@@ -2,6 +2,8 @@
 #![tactic(auto)]
 
 #[cfg(test)]
+mod argument_tests;
+#[cfg(test)]
 mod bound_tests;
 #[cfg(test)]
 mod expr_tests;
@@ -19,5 +21,7 @@ mod pat_tests;
 mod qualified_tests;
 #[cfg(test)]
 mod tests;
+#[cfg(test)]
+mod type_attr_tests;
 #[cfg(test)]
 mod type_tests;

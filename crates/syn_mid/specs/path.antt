@@ -1,4 +1,5 @@
 pub mod Paths
+pub mod Shapes
 pub mod Spelling
 pub mod Reading
 pub mod Printing

@@ -28,9 +28,9 @@ ghost use Rattle.syn_mid.specs.generics.Views as views;
 
 use crate::attr::{Attribute, print_outer, print_value};
 use crate::grammar::parse_bound;
-use crate::path::Path;
+use crate::path::{PathArgumentsOf, PathOf, PathStyle, print_path};
 use crate::supplied::{Expr, Place, Subtree};
-use crate::ty::{Type, bound_parts, print_type, print_verbatim};
+use crate::ty::{Type, TypeOf, bound_parts, print_type, print_verbatim};
 use std::alloc::{AllocError, Global};
 use std::marker::PhantomData;
 use token_core::token::{
@@ -53,48 +53,57 @@ pub struct Generics<X> {
 /// A parameter of generics.
 #[cycle(types)]
 #[derive(Drop)]
-pub enum GenericParam<X> {
+pub enum GenericParamOf<A, E> {
     /// `'a: 'b + 'c`
-    Lifetime(LifetimeParam<X>),
+    Lifetime(LifetimeParamOf<A>),
     /// `T: A + B = C`
-    Type(TypeParam<X>),
+    Type(TypeParamOf<A, E>),
     /// `const N: T = 1`
-    Const(ConstParam<X>),
+    Const(ConstParamOf<TypeOf<A, E>, A, E>),
 }
+
+/// A parameter of generics.
+pub type GenericParam<X> = GenericParamOf<Attribute<X>, Expr<X>>;
 
 /// A lifetime parameter: `'a: 'b + 'c`.
 #[derive(Drop)]
-pub struct LifetimeParam<X> {
-    pub attrs: Items<Attribute<X>>,
+pub struct LifetimeParamOf<A> {
+    pub attrs: Items<A>,
     pub lifetime: Lifetime,
     pub colon_token: Option<Colon>,
     pub bounds: Punctuated<Lifetime, Plus>,
 }
 
+/// A lifetime parameter: `'a: 'b + 'c`.
+pub type LifetimeParam<X> = LifetimeParamOf<Attribute<X>>;
+
 /// A type parameter: `T: A + B = C`.
 #[cycle(types)]
 #[derive(Drop)]
-pub struct TypeParam<X> {
-    pub attrs: Items<Attribute<X>>,
+pub struct TypeParamOf<A, E> {
+    pub attrs: Items<A>,
     pub ident: Ident,
     pub colon_token: Option<Colon>,
-    pub bounds: Punctuated<TypeParamBound<X>, Plus>,
-    pub default: Option<(Eq, Type<X>)>,
+    pub bounds: Punctuated<TypeParamBoundOf<A, E>, Plus>,
+    pub default: Option<(Eq, TypeOf<A, E>)>,
 }
+
+/// A type parameter: `T: A + B = C`.
+pub type TypeParam<X> = TypeParamOf<Attribute<X>, Expr<X>>;
 
 /// A const parameter, over its type.
 #[derive(Drop)]
-pub struct ConstParamOf<T, X> {
-    pub attrs: Items<Attribute<X>>,
+pub struct ConstParamOf<T, A, E> {
+    pub attrs: Items<A>,
     pub const_token: Const,
     pub ident: Ident,
     pub colon_token: Colon,
     pub ty: T,
-    pub default: Option<(Eq, Expr<X>)>,
+    pub default: Option<(Eq, E)>,
 }
 
 /// A const parameter: `const N: T = 1`.
-pub type ConstParam<X> = ConstParamOf<Type<X>, X>;
+pub type ConstParam<X> = ConstParamOf<Type<X>, Attribute<X>, Expr<X>>;
 
 /// A binder, over its parameters.
 #[derive(Drop)]
@@ -111,9 +120,9 @@ pub type BoundLifetimes<X> = BoundLifetimesOf<GenericParam<X>>;
 /// A bound.
 #[cycle(types)]
 #[derive(Drop)]
-pub enum TypeParamBound<X> {
+pub enum TypeParamBoundOf<A, E> {
     /// `for<'a> ?a::b`
-    Trait(TraitBound<X>),
+    Trait(TraitBoundOf<A, E>),
     /// `'a`
     Lifetime(Lifetime),
     /// `use<'a, T>`
@@ -122,18 +131,22 @@ pub enum TypeParamBound<X> {
     Verbatim(TokenStream),
 }
 
+/// A bound.
+pub type TypeParamBound<X> = TypeParamBoundOf<Attribute<X>, Expr<X>>;
+
 /// A trait as a bound, over the parameters of its binder.
+#[cycle(types)]
 #[derive(Drop)]
-pub struct TraitBoundOf<G, X> {
+pub struct TraitBoundOf<A, E> {
     pub paren_token: Option<Paren>,
-    pub lifetimes: Option<BoundLifetimesOf<G>>,
+    pub lifetimes: Option<BoundLifetimesOf<GenericParamOf<A, E>>>,
     pub modifiers: TraitBoundModifiers,
     pub maybe: Option<Question>,
-    pub path: Path<X>,
+    pub path: PathOf<PathArgumentsOf<A, E>>,
 }
 
 /// A trait as a bound: an optional binder, an optional `?`, a path; perhaps in parentheses.
-pub type TraitBound<X> = TraitBoundOf<GenericParam<X>, X>;
+pub type TraitBound<X> = TraitBoundOf<Attribute<X>, Expr<X>>;
 
 /// What stands between the binder of a trait bound and its `?`: nothing, today.
 #[derive(Clone, Copy, Default)]
@@ -839,7 +852,7 @@ fn print_const_default<X: Subtree>(
 
 /// A const argument: a literal, a block or an identifier as it prints as a value, anything else in braces.
 #[tactic(auto, using(token_core::proofs::Puts::puts, crate::proofs::generics_laws::Prints::consts, crate::proofs::attr_laws::Prints::contents))]
-fn print_const_argument<X: Subtree>(
+pub(crate) fn print_const_argument<X: Subtree>(
     alloc: Global,
     value: &Expr<X>,
     out: &mut TokenStream,
@@ -1137,20 +1150,21 @@ pub(crate) fn print_binder_end<G>(
 }
 
 /// A trait bound after its binder.
-#[tactic(auto, using(token_core::proofs::Puts::puts))]
-fn print_named_trait<X>(
+#[cycle(print)]
+#[tactic(auto, using(token_core::proofs::Puts::puts, crate::proofs::ty_laws::Prints::prints))]
+fn print_named_trait<X: Subtree>(
     alloc: Global,
     bound: &TraitBound<X>,
     out: &mut TokenStream,
 ) -> Result<(), AllocError>
-    ensures ok { OnOk result (trees out.new ≡ trees out.old ++ shapes.named_trait bound.now) }
+    ensures ok { OnOk result (trees out.new ≡ trees out.old ++ types.named_trait X.prints bound.now) }
     ensures err { OnErr result (Extends (trees out.old) (trees out.new)) }
 {
     match &bound.maybe {
         Some(question) => question.to_tokens(alloc, out)?,
         None => {}
     }
-    bound.path.to_tokens(alloc, out)
+    print_path(alloc, &bound.path, PathStyle::AsWritten, out)
 }
 
 /// A mark of one character, or the same that stands nowhere.

@@ -15,13 +15,14 @@ ghost use Rattle.syn_mid.specs.generics.Reading as bounds;
 ghost use Rattle.syn_mid.specs.ty.Knot as knot;
 ghost use Rattle.syn_mid.specs.ty.Knot.{Nests, NestsAlone, ahead};
 ghost use Rattle.syn_mid.specs.ty.Reading as reading;
+ghost use Rattle.syn_mid.specs.ty.Types as types;
 
 use crate::generics::{
     BoundLifetimes, BoundLifetimesOf, GenericParam, LifetimeParam, TraitBound, TraitBoundModifiers,
     TraitBoundOf, TypeParamBound,
 };
 use crate::mac::{parse_call_after, parse_macro};
-use crate::path::{Path, parse_plain_path};
+use crate::path::{Path, parse_plain_path, without_arguments};
 use crate::supplied::{Expr, Place, Subtree};
 use crate::ty::{
     PointerMutability, Type, TypeArray, TypeArrayOf, TypeInfer, TypeMacro, TypeNever, TypeParen,
@@ -34,7 +35,9 @@ use token_core::token::{
     And, Bracket, Comma, Const, Crate, For, GroupToken, Gt, Lt, Mut, Ne, Not, Paren, PathSep, Plus,
     Question, SelfType, SelfValue, Semi, Star, Super, Underscore,
 };
-use token_core::{Boxed, Cursor, Error, ErrorKind, Ident, Lifetime, ParseStream, Punctuated};
+use token_core::{
+    Boxed, Cursor, Error, ErrorKind, Ident, Items, Lifetime, ParseStream, Punctuated,
+};
 
 // ---- what is read before a type that another one holds: a token is taken
 
@@ -190,21 +193,33 @@ fn sees_call(input: &ParseStream<'_>) -> bool
 }
 
 /// `!`
-pub(crate) fn parse_never(alloc: Global, input: &mut ParseStream<'_>) -> Result<TypeNever, Error>
+pub(crate) fn parse_never<X>(
+    alloc: Global,
+    input: &mut ParseStream<'_>,
+) -> Result<TypeNever<X>, Error>
     ensures reads { Reads (reading.never input.old) result input.new }
     ensures within { Follows input.old input.new }
 {
     let bang_token = input.parse::<Not>(alloc)?;
-    Ok(TypeNever { bang_token })
+    Ok(TypeNever {
+        attrs: Items::new(alloc),
+        bang_token,
+    })
 }
 
 /// `_`
-pub(crate) fn parse_infer(alloc: Global, input: &mut ParseStream<'_>) -> Result<TypeInfer, Error>
+pub(crate) fn parse_infer<X>(
+    alloc: Global,
+    input: &mut ParseStream<'_>,
+) -> Result<TypeInfer<X>, Error>
     ensures reads { Reads (reading.infer input.old) result input.new }
     ensures within { Follows input.old input.new }
 {
     let underscore_token = input.parse::<Underscore>(alloc)?;
-    Ok(TypeInfer { underscore_token })
+    Ok(TypeInfer {
+        attrs: Items::new(alloc),
+        underscore_token,
+    })
 }
 
 /// A type after which, where `+` is allowed, none may stand: it would begin a trait object, which is not read yet.
@@ -224,7 +239,7 @@ fn ended<X: Drop>(
 }
 
 /// A macro call in the place of a type.
-pub(crate) fn parse_macro_type<X: Drop>(
+pub(crate) fn parse_macro_type<X>(
     alloc: Global,
     input: &mut ParseStream<'_>,
 ) -> Result<TypeMacro<X>, Error>
@@ -232,11 +247,25 @@ pub(crate) fn parse_macro_type<X: Drop>(
     ensures within { Follows input.old input.new }
 {
     let mac = parse_macro(alloc, input)?;
-    Ok(TypeMacro { mac })
+    Ok(TypeMacro {
+        attrs: Items::new(alloc),
+        mac,
+    })
+}
+
+/// The type of a path, without attributes, that no type qualifies.
+fn bare_type<X>(alloc: Global, path: Path<X>) -> TypePath<X>
+    ensures { result ≡ types.path_type_of path }
+{
+    TypePathOf {
+        attrs: Items::new(alloc),
+        qself: None,
+        path,
+    }
 }
 
 /// A path as a type by itself.
-pub(crate) fn parse_path_type<X: Drop>(
+pub(crate) fn parse_path_type<X: Subtree>(
     alloc: Global,
     input: &mut ParseStream<'_>,
 ) -> Result<TypePath<X>, Error>
@@ -244,12 +273,12 @@ pub(crate) fn parse_path_type<X: Drop>(
     ensures within { Follows input.old input.new }
 {
     let path = parse_plain_path(alloc, input)?;
-    Ok(TypePathOf { qself: None, path })
+    Ok(bare_type(alloc, path))
 }
 
 /// A path, or a macro call by its path.
 #[tactic(auto, using(token_core::proofs::Suffixes::follows), unfolding(crate::specs::ty::Reading::path_or_macro))]
-fn parse_path_or_macro<X: Drop>(
+fn parse_path_or_macro<X: Subtree>(
     alloc: Global,
     input: &mut ParseStream<'_>,
     plus: bool,
@@ -259,15 +288,14 @@ fn parse_path_or_macro<X: Drop>(
 {
     let path = parse_plain_path(alloc, input)?;
     if sees_call(input) {
+        let path = without_arguments(alloc, &path)?;
         let mac = parse_call_after(alloc, input, path)?;
-        return Ok(Type::Macro(TypeMacro { mac }));
+        return Ok(Type::Macro(TypeMacro {
+            attrs: Items::new(alloc),
+            mac,
+        }));
     }
-    ended(
-        alloc,
-        input,
-        plus,
-        Type::Path(TypePathOf { qself: None, path }),
-    )
+    ended(alloc, input, plus, Type::Path(bare_type(alloc, path)))
 }
 
 /// A trait by its path, without parentheses.
@@ -299,7 +327,7 @@ fn held_bound<X>(paren_token: Paren, bound: TraitBound<X>) -> TraitBound<X>
 
 /// The path of a bound after `?`. With a binder beside the `?` the bound is refused at the `?`.
 #[tactic(auto, using(token_core::proofs::Suffixes::follows))]
-fn parse_asked<X: Drop>(
+fn parse_asked<X: Subtree>(
     alloc: Global,
     input: &mut ParseStream<'_>,
     question: Question,
@@ -393,6 +421,7 @@ impl<
         let mutability = parse_mutability(self.alloc, input)?;
         let elem = self.nested(input, false)?;
         Ok(TypePtrOf {
+            attrs: Items::new(self.alloc),
             star_token,
             mutability,
             elem: Boxed::new(self.alloc, elem)?,
@@ -412,6 +441,7 @@ impl<
         let mutability = parse_mut(self.alloc, input)?;
         let elem = self.nested(input, false)?;
         Ok(TypeReferenceOf {
+            attrs: Items::new(self.alloc),
             and_token,
             lifetime,
             mutability,
@@ -431,13 +461,21 @@ impl<
         if content.is_empty() {
             input.finish(content);
             let elems = Punctuated::new(self.alloc);
-            return Ok(Type::Tuple(TypeTupleOf { paren_token, elems }));
+            return Ok(Type::Tuple(TypeTupleOf {
+                attrs: Items::new(self.alloc),
+                paren_token,
+                elems,
+            }));
         }
         let first = self.nested(&mut content, true)?;
         if content.peek::<Comma>() {
             let elems = self.more_elements(&mut content, first)?;
             input.finish(content);
-            return Ok(Type::Tuple(TypeTupleOf { paren_token, elems }));
+            return Ok(Type::Tuple(TypeTupleOf {
+                attrs: Items::new(self.alloc),
+                paren_token,
+                elems,
+            }));
         }
         input.finish(content);
         let elem = Boxed::new(self.alloc, first)?;
@@ -445,7 +483,11 @@ impl<
             self.alloc,
             input,
             plus,
-            Type::Paren(TypeParenOf { paren_token, elem }),
+            Type::Paren(TypeParenOf {
+                attrs: Items::new(self.alloc),
+                paren_token,
+                elem,
+            }),
         )
     }
 
@@ -463,6 +505,7 @@ impl<
             let (semi_token, len) = parse_length(self.alloc, &mut content)?;
             input.finish(content);
             return Ok(Type::Array(TypeArrayOf {
+                attrs: Items::new(self.alloc),
                 bracket_token,
                 elem: Boxed::new(self.alloc, elem)?,
                 semi_token,
@@ -471,6 +514,7 @@ impl<
         }
         input.finish(content);
         Ok(Type::Slice(TypeSliceOf {
+            attrs: Items::new(self.alloc),
             bracket_token,
             elem: Boxed::new(self.alloc, elem)?,
         }))
@@ -808,6 +852,7 @@ fn parse_slice_from<X: Subtree>(
     let elem = parse_nested(alloc, begin, &mut content, true)?;
     input.finish(content);
     Ok(TypeSliceOf {
+        attrs: Items::new(alloc),
         bracket_token,
         elem: Boxed::new(alloc, elem)?,
     })
@@ -828,6 +873,7 @@ fn parse_array_from<X: Subtree>(
     let (semi_token, len) = parse_length(alloc, &mut content)?;
     input.finish(content);
     Ok(TypeArrayOf {
+        attrs: Items::new(alloc),
         bracket_token,
         elem: Boxed::new(alloc, elem)?,
         semi_token,
@@ -849,6 +895,7 @@ fn parse_paren_from<X: Subtree>(
     let elem = parse_nested(alloc, begin, &mut content, false)?;
     input.finish(content);
     Ok(TypeParenOf {
+        attrs: Items::new(alloc),
         paren_token,
         elem: Boxed::new(alloc, elem)?,
     })
@@ -868,6 +915,7 @@ fn parse_ptr_from<X: Subtree>(
     let mutability = parse_mutability(alloc, input)?;
     let elem = parse_nested(alloc, begin, input, false)?;
     Ok(TypePtrOf {
+        attrs: Items::new(alloc),
         star_token,
         mutability,
         elem: Boxed::new(alloc, elem)?,
@@ -889,6 +937,7 @@ fn parse_reference_from<X: Subtree>(
     let mutability = parse_mut(alloc, input)?;
     let elem = parse_nested(alloc, begin, input, false)?;
     Ok(TypeReferenceOf {
+        attrs: Items::new(alloc),
         and_token,
         lifetime,
         mutability,
@@ -955,7 +1004,11 @@ fn parse_tuple_from<X: Subtree>(
     let (paren_token, mut content) = open_parens(alloc, input)?;
     let elems = parse_tuple_content(alloc, begin, &mut content)?;
     input.finish(content);
-    Ok(TypeTupleOf { paren_token, elems })
+    Ok(TypeTupleOf {
+        attrs: Items::new(alloc),
+        paren_token,
+        elems,
+    })
 }
 
 /// `[T]`

@@ -10,7 +10,7 @@ ghost use Rattle.syn_mid.specs.Supplied as spec;
 
 use crate::attr::Attribute;
 use crate::mac::Macro;
-use crate::path::Path;
+use crate::path::ModPath;
 use std::alloc::{AllocError, Global};
 use token_core::token::{Brace, Const};
 use token_core::{Boxed, Error, Items, Lit, ParseStream, RangeLimits, TokenStream};
@@ -99,15 +99,15 @@ pub struct ExprLitOf<A> {
 /// A literal as an expression.
 pub type ExprLit<X> = ExprLitOf<Attribute<X>>;
 
-/// A path as an expression, over its attributes.
+/// A path as an expression, over its attributes and the path.
 #[derive(Drop)]
-pub struct ExprPathOf<A, X> {
+pub struct ExprPathOf<A, P> {
     pub attrs: Items<A>,
-    pub path: Path<X>,
+    pub path: P,
 }
 
 /// A path as an expression: `a::b`.
-pub type ExprPath<X> = ExprPathOf<Attribute<X>, X>;
+pub type ExprPath<X> = ExprPathOf<Attribute<X>, ModPath>;
 
 /// A const block, over its attributes.
 #[derive(Drop)]
@@ -123,13 +123,13 @@ pub type ExprConst<X> = ExprConstOf<Attribute<X>, X>;
 
 /// A macro call as an expression, over its attributes.
 #[derive(Drop)]
-pub struct ExprMacroOf<A, X> {
+pub struct ExprMacroOf<A> {
     pub attrs: Items<A>,
-    pub mac: Macro<X>,
+    pub mac: Macro,
 }
 
 /// A macro call as an expression: `a::b!(..)`.
-pub type ExprMacro<X> = ExprMacroOf<Attribute<X>, X>;
+pub type ExprMacro<X> = ExprMacroOf<Attribute<X>>;
 
 /// A range: an optional start, `..` or `..=`, an optional end.
 #[cycle(trees)]

@@ -18,15 +18,17 @@ ghost use Rattle.syn_mid.specs.ty.Spelling.{IsMutability, IsInfer, IsNever, IsMa
 
 use crate::attr::{Attribute, print_outer, print_value};
 use crate::generics::{
-    BoundLifetimes, GenericParam, TypeParamBound, print_binder_end, print_binder_start,
-    print_bound, print_param,
+    BoundLifetimes, BoundLifetimesOf, GenericParam, GenericParamOf, TypeParamBound,
+    TypeParamBoundOf, print_binder_end, print_binder_start, print_bound, print_param,
 };
 use crate::grammar::{
     parse_array, parse_infer, parse_macro_type, parse_mutability, parse_never, parse_paren,
     parse_path_type, parse_ptr, parse_reference, parse_slice, parse_tuple, parse_type,
 };
 use crate::mac::Macro;
-use crate::path::{Path, PathStyle, QSelf, QSelfOf, print_path, print_qualified};
+use crate::path::{
+    Path, PathArgumentsOf, PathOf, PathStyle, QSelf, QSelfOf, print_path, print_qualified,
+};
 use crate::supplied::{Expr, Place, Subtree};
 use std::alloc::{AllocError, Global};
 use std::marker::PhantomData;
@@ -39,45 +41,49 @@ use token_core::{
     TokenStream,
 };
 
-/// A type.
+/// A type, over its attributes and expressions: these lead back to no type.
 #[cycle(types)]
 #[derive(Drop)]
-pub enum Type<X> {
+pub enum TypeOf<A, E> {
     /// `[T; n]`
-    Array(TypeArray<X>),
+    Array(TypeArrayOf<TypeOf<A, E>, A, E>),
     /// `for<'a> unsafe extern "C" fn(a: A, ...) -> B`. No reader answers it yet.
-    FnPtr(TypeFnPtr<X>),
+    FnPtr(TypeFnPtrOf<A, E>),
     /// A type in an invisible group, as a macro hands it on. No reader answers it yet.
-    Group(TypeGroup<X>),
+    Group(TypeGroupOf<TypeOf<A, E>, A>),
     /// `impl A + 'a`. No reader answers it yet.
-    ImplTrait(TypeImplTrait<X>),
+    ImplTrait(TypeImplTraitOf<TypeParamBoundOf<A, E>, A>),
     /// `_`
-    Infer(TypeInfer),
+    Infer(TypeInferOf<A>),
     /// `a::b! { .. }`
-    Macro(TypeMacro<X>),
+    Macro(TypeMacroOf<A>),
     /// `!`
-    Never(TypeNever),
+    Never(TypeNeverOf<A>),
     /// `(T)`
-    Paren(TypeParen<X>),
+    Paren(TypeParenOf<TypeOf<A, E>, A>),
     /// `a::b`, `<T as a::b>::c`
-    Path(TypePath<X>),
+    Path(TypePathOf<A, E>),
     /// `*const T`, `*mut T`
-    Ptr(TypePtr<X>),
+    Ptr(TypePtrOf<TypeOf<A, E>, A>),
     /// `&'a mut T`
-    Reference(TypeReference<X>),
+    Reference(TypeReferenceOf<TypeOf<A, E>, A>),
     /// `[T]`
-    Slice(TypeSlice<X>),
+    Slice(TypeSliceOf<TypeOf<A, E>, A>),
     /// `dyn A + 'a`. No reader answers it yet.
-    TraitObject(TypeTraitObject<X>),
+    TraitObject(TypeTraitObjectOf<TypeParamBoundOf<A, E>, A>),
     /// `(A, B)`
-    Tuple(TypeTuple<X>),
+    Tuple(TypeTupleOf<TypeOf<A, E>, A>),
     /// Tokens that no other case holds. No reader answers it yet.
     Verbatim(TokenStream),
 }
 
+/// A type.
+pub type Type<X> = TypeOf<Attribute<X>, Expr<X>>;
+
 /// An array over its element's type and its length.
 #[derive(Drop)]
-pub struct TypeArrayOf<T, E> {
+pub struct TypeArrayOf<T, A, E> {
+    pub attrs: Items<A>,
     pub bracket_token: Bracket,
     pub elem: Boxed<T>,
     pub semi_token: Semi,
@@ -85,80 +91,101 @@ pub struct TypeArrayOf<T, E> {
 }
 
 /// An array: `[`, a type, `;`, a length, `]`.
-pub type TypeArray<X> = TypeArrayOf<Type<X>, Expr<X>>;
+pub type TypeArray<X> = TypeArrayOf<Type<X>, Attribute<X>, Expr<X>>;
 
 /// A pointer to a function: an optional binder, an optional `unsafe`, an optional calling convention, `fn`, in parentheses the
 /// arguments and an optional `...`, and what it returns.
 #[cycle(types)]
 #[derive(Drop)]
-pub struct TypeFnPtr<X> {
-    pub lifetimes: Option<BoundLifetimes<X>>,
+pub struct TypeFnPtrOf<A, E> {
+    pub attrs: Items<A>,
+    pub lifetimes: Option<BoundLifetimesOf<GenericParamOf<A, E>>>,
     pub unsafety: Option<Unsafe>,
     pub abi: Option<Abi>,
     pub fn_token: Fn,
     pub paren_token: Paren,
-    pub inputs: Punctuated<NamedArg<X>, Comma>,
-    pub variadic: Option<FnPtrVariadic<X>>,
-    pub output: ReturnType<X>,
+    pub inputs: Punctuated<NamedArgOf<TypeOf<A, E>, A>, Comma>,
+    pub variadic: Option<FnPtrVariadicOf<A>>,
+    pub output: ReturnTypeOf<TypeOf<A, E>>,
 }
+
+/// A pointer to a function.
+pub type TypeFnPtr<X> = TypeFnPtrOf<Attribute<X>, Expr<X>>;
 
 /// A type in an invisible group, over that type.
 #[derive(Drop)]
-pub struct TypeGroupOf<T> {
+pub struct TypeGroupOf<T, A> {
+    pub attrs: Items<A>,
     pub group_token: GroupToken,
     pub elem: Boxed<T>,
 }
 
 /// A type in an invisible group.
-pub type TypeGroup<X> = TypeGroupOf<Type<X>>;
+pub type TypeGroup<X> = TypeGroupOf<Type<X>, Attribute<X>>;
 
 /// A type that the function picks, over its bounds.
 #[derive(Drop)]
-pub struct TypeImplTraitOf<B> {
+pub struct TypeImplTraitOf<B, A> {
+    pub attrs: Items<A>,
     pub impl_token: Impl,
     pub bounds: Punctuated<B, Plus>,
 }
 
 /// A type that the function picks: `impl`, and bounds joined by `+`.
-pub type TypeImplTrait<X> = TypeImplTraitOf<TypeParamBound<X>>;
+pub type TypeImplTrait<X> = TypeImplTraitOf<TypeParamBound<X>, Attribute<X>>;
 
 /// A type to be found by the compiler: `_`.
-#[derive(Clone, Copy)]
-pub struct TypeInfer {
+#[derive(Drop)]
+pub struct TypeInferOf<A> {
+    pub attrs: Items<A>,
     pub underscore_token: Underscore,
 }
 
+/// A type to be found by the compiler: `_`.
+pub type TypeInfer<X> = TypeInferOf<Attribute<X>>;
+
 /// A macro call in the place of a type.
 #[derive(Drop)]
-pub struct TypeMacro<X> {
-    pub mac: Macro<X>,
+pub struct TypeMacroOf<A> {
+    pub attrs: Items<A>,
+    pub mac: Macro,
 }
 
+/// A macro call in the place of a type.
+pub type TypeMacro<X> = TypeMacroOf<Attribute<X>>;
+
 /// The type without a value: `!`.
-#[derive(Clone, Copy)]
-pub struct TypeNever {
+#[derive(Drop)]
+pub struct TypeNeverOf<A> {
+    pub attrs: Items<A>,
     pub bang_token: Not,
 }
 
+/// The type without a value: `!`.
+pub type TypeNever<X> = TypeNeverOf<Attribute<X>>;
+
 /// A type in parentheses, over that type.
 #[derive(Drop)]
-pub struct TypeParenOf<T> {
+pub struct TypeParenOf<T, A> {
+    pub attrs: Items<A>,
     pub paren_token: Paren,
     pub elem: Boxed<T>,
 }
 
 /// A type in parentheses.
-pub type TypeParen<X> = TypeParenOf<Type<X>>;
+pub type TypeParen<X> = TypeParenOf<Type<X>, Attribute<X>>;
 
 /// A type by its path, over the type that qualifies it.
+#[cycle(types)]
 #[derive(Drop)]
-pub struct TypePathOf<T, X> {
-    pub qself: Option<QSelfOf<T>>,
-    pub path: Path<X>,
+pub struct TypePathOf<A, E> {
+    pub attrs: Items<A>,
+    pub qself: Option<QSelfOf<TypeOf<A, E>>>,
+    pub path: PathOf<PathArgumentsOf<A, E>>,
 }
 
 /// A type by its path, which may be qualified.
-pub type TypePath<X> = TypePathOf<Type<X>, X>;
+pub type TypePath<X> = TypePathOf<Attribute<X>, Expr<X>>;
 
 /// What may be done by way of a raw pointer.
 #[derive(Clone, Copy)]
@@ -169,18 +196,20 @@ pub enum PointerMutability {
 
 /// A raw pointer over the type that it points to.
 #[derive(Drop)]
-pub struct TypePtrOf<T> {
+pub struct TypePtrOf<T, A> {
+    pub attrs: Items<A>,
     pub star_token: Star,
     pub mutability: PointerMutability,
     pub elem: Boxed<T>,
 }
 
 /// A raw pointer: `*`, `const` or `mut`, a type.
-pub type TypePtr<X> = TypePtrOf<Type<X>>;
+pub type TypePtr<X> = TypePtrOf<Type<X>, Attribute<X>>;
 
 /// A reference over the type that it points to.
 #[derive(Drop)]
-pub struct TypeReferenceOf<T> {
+pub struct TypeReferenceOf<T, A> {
+    pub attrs: Items<A>,
     pub and_token: And,
     pub lifetime: Option<Lifetime>,
     pub mutability: Option<Mut>,
@@ -188,37 +217,40 @@ pub struct TypeReferenceOf<T> {
 }
 
 /// A reference: `&`, an optional lifetime, an optional `mut`, a type.
-pub type TypeReference<X> = TypeReferenceOf<Type<X>>;
+pub type TypeReference<X> = TypeReferenceOf<Type<X>, Attribute<X>>;
 
 /// A slice over its element's type.
 #[derive(Drop)]
-pub struct TypeSliceOf<T> {
+pub struct TypeSliceOf<T, A> {
+    pub attrs: Items<A>,
     pub bracket_token: Bracket,
     pub elem: Boxed<T>,
 }
 
 /// A slice: a type in brackets.
-pub type TypeSlice<X> = TypeSliceOf<Type<X>>;
+pub type TypeSlice<X> = TypeSliceOf<Type<X>, Attribute<X>>;
 
 /// A trait object, over its bounds.
 #[derive(Drop)]
-pub struct TypeTraitObjectOf<B> {
+pub struct TypeTraitObjectOf<B, A> {
+    pub attrs: Items<A>,
     pub dyn_token: Option<Dyn>,
     pub bounds: Punctuated<B, Plus>,
 }
 
 /// A trait object: `dyn`, and bounds joined by `+`.
-pub type TypeTraitObject<X> = TypeTraitObjectOf<TypeParamBound<X>>;
+pub type TypeTraitObject<X> = TypeTraitObjectOf<TypeParamBound<X>, Attribute<X>>;
 
 /// A tuple over its elements' type.
 #[derive(Drop)]
-pub struct TypeTupleOf<T> {
+pub struct TypeTupleOf<T, A> {
+    pub attrs: Items<A>,
     pub paren_token: Paren,
     pub elems: Punctuated<T, Comma>,
 }
 
 /// A tuple: types in parentheses, joined by commas.
-pub type TypeTuple<X> = TypeTupleOf<Type<X>>;
+pub type TypeTuple<X> = TypeTupleOf<Type<X>, Attribute<X>>;
 
 /// The calling convention of a function: `extern "C"`.
 #[derive(Drop)]
@@ -229,23 +261,26 @@ pub struct Abi {
 
 /// An argument of a pointer to a function, over its type.
 #[derive(Drop)]
-pub struct NamedArgOf<T, X> {
-    pub attrs: Items<Attribute<X>>,
+pub struct NamedArgOf<T, A> {
+    pub attrs: Items<A>,
     pub name: Option<(Ident, Colon)>,
     pub ty: T,
 }
 
 /// An argument of a pointer to a function: attributes, an optional name, a type.
-pub type NamedArg<X> = NamedArgOf<Type<X>, X>;
+pub type NamedArg<X> = NamedArgOf<Type<X>, Attribute<X>>;
 
 /// What stands after the arguments of a function that takes any number of them: attributes, an optional name, `...`, an optional comma.
 #[derive(Drop)]
-pub struct FnPtrVariadic<X> {
-    pub attrs: Items<Attribute<X>>,
+pub struct FnPtrVariadicOf<A> {
+    pub attrs: Items<A>,
     pub name: Option<(Ident, Colon)>,
     pub dots: DotDotDot,
     pub comma: Option<Comma>,
 }
+
+/// What stands after the arguments of a function that takes any number of them.
+pub type FnPtrVariadic<X> = FnPtrVariadicOf<Attribute<X>>;
 
 /// What a function returns, over its type.
 #[derive(Drop)]
@@ -402,36 +437,36 @@ impl<X: Subtree> Parse for TypeParen<X> {
 }
 
 /// Reads `!`.
-impl Parse for TypeNever {
-    ghost reads = { Gives reading.never };
+impl<X: Subtree> Parse for TypeNever<X> {
+    ghost reads = { Gives (reading.never {X = X}) };
 
-    ghost refuses = { Fails reading.never };
+    ghost refuses = { Fails (reading.never {X = X}) };
 
-    ghost promise = { Headline grammars.never };
+    ghost promise = { Headline (grammars.never X.normal X.prints) };
 
-    fn parse(alloc: Global, input: &mut ParseStream<'_>) -> Result<TypeNever, Error>
+    fn parse(alloc: Global, input: &mut ParseStream<'_>) -> Result<TypeNever<X>, Error>
         ensures reads { Reads (reading.never input.old) result input.new }
         ensures within { Follows input.old input.new }
         ensures front { Visible input.old.rest → IfOk result (λ x. IsNever false x input.old.rest input.new.rest) }
-        ensures promise { Heads grammars.never input.old result input.new }
+        ensures promise { Heads (grammars.never X.normal X.prints) input.old result input.new }
     {
         parse_never(alloc, input)
     }
 }
 
 /// Reads `_`.
-impl Parse for TypeInfer {
-    ghost reads = { Gives reading.infer };
+impl<X: Subtree> Parse for TypeInfer<X> {
+    ghost reads = { Gives (reading.infer {X = X}) };
 
-    ghost refuses = { Fails reading.infer };
+    ghost refuses = { Fails (reading.infer {X = X}) };
 
-    ghost promise = { Headline grammars.infer };
+    ghost promise = { Headline (grammars.infer X.normal X.prints) };
 
-    fn parse(alloc: Global, input: &mut ParseStream<'_>) -> Result<TypeInfer, Error>
+    fn parse(alloc: Global, input: &mut ParseStream<'_>) -> Result<TypeInfer<X>, Error>
         ensures reads { Reads (reading.infer input.old) result input.new }
         ensures within { Follows input.old input.new }
         ensures front { Visible input.old.rest → IfOk result (λ x. IsInfer x input.old.rest input.new.rest) }
-        ensures promise { Heads grammars.infer input.old result input.new }
+        ensures promise { Heads (grammars.infer X.normal X.prints) input.old result input.new }
     {
         parse_infer(alloc, input)
     }
@@ -443,13 +478,13 @@ impl<X: Subtree> Parse for TypeMacro<X> {
 
     ghost refuses = { Fails (reading.macro_type {X = X}) };
 
-    ghost promise = { Headline (grammars.macro_type {X = X}) };
+    ghost promise = { Headline (grammars.macro_type X.normal X.prints) };
 
     fn parse(alloc: Global, input: &mut ParseStream<'_>) -> Result<TypeMacro<X>, Error>
         ensures reads { Reads (reading.macro_type input.old) result input.new }
         ensures within { Follows input.old input.new }
         ensures front { Visible input.old.rest → IfOk result (λ x. IsMacroType false x input.old.rest input.new.rest) }
-        ensures promise { Heads grammars.macro_type input.old result input.new }
+        ensures promise { Heads (grammars.macro_type X.normal X.prints) input.old result input.new }
     {
         parse_macro_type(alloc, input)
     }
@@ -526,10 +561,10 @@ impl<X> From<TypeImplTrait<X>> for Type<X> {
     }
 }
 
-impl<X> From<TypeInfer> for Type<X> {
+impl<X> From<TypeInfer<X>> for Type<X> {
     ghost from_gives = { λ form ty. ty ≡ types.Infer form };
 
-    fn from(form: TypeInfer) -> Type<X> {
+    fn from(form: TypeInfer<X>) -> Type<X> {
         Type::Infer(form)
     }
 }
@@ -542,10 +577,10 @@ impl<X> From<TypeMacro<X>> for Type<X> {
     }
 }
 
-impl<X> From<TypeNever> for Type<X> {
+impl<X> From<TypeNever<X>> for Type<X> {
     ghost from_gives = { λ form ty. ty ≡ types.Never form };
 
-    fn from(form: TypeNever) -> Type<X> {
+    fn from(form: TypeNever<X>) -> Type<X> {
         Type::Never(form)
     }
 }
@@ -653,27 +688,48 @@ impl<X: Subtree> ToTokens for TypeGroup<X> {
     }
 }
 
-impl ToTokens for TypeInfer {
-    ghost print = { printing.infer };
+impl<X: Subtree> ToTokens for TypeInfer<X> {
+    ghost print = { printing.infer X.prints };
 
     fn to_tokens(&self, alloc: Global, out: &mut TokenStream) -> Result<(), AllocError> {
-        self.underscore_token.to_tokens(alloc, out)
+        let before = out.len();
+        match print_infer(alloc, self, out) {
+            Ok(()) => Ok(()),
+            Err(error) => {
+                out.truncate(before);
+                Err(error)
+            }
+        }
     }
 }
 
-impl<X> ToTokens for TypeMacro<X> {
-    ghost print = { printing.macro_type };
+impl<X: Subtree> ToTokens for TypeMacro<X> {
+    ghost print = { printing.macro_type X.prints };
 
     fn to_tokens(&self, alloc: Global, out: &mut TokenStream) -> Result<(), AllocError> {
-        self.mac.to_tokens(alloc, out)
+        let before = out.len();
+        match print_macro_type(alloc, self, out) {
+            Ok(()) => Ok(()),
+            Err(error) => {
+                out.truncate(before);
+                Err(error)
+            }
+        }
     }
 }
 
-impl ToTokens for TypeNever {
-    ghost print = { printing.never };
+impl<X: Subtree> ToTokens for TypeNever<X> {
+    ghost print = { printing.never X.prints };
 
     fn to_tokens(&self, alloc: Global, out: &mut TokenStream) -> Result<(), AllocError> {
-        self.bang_token.to_tokens(alloc, out)
+        let before = out.len();
+        match print_never(alloc, self, out) {
+            Ok(()) => Ok(()),
+            Err(error) => {
+                out.truncate(before);
+                Err(error)
+            }
+        }
     }
 }
 
@@ -692,7 +748,7 @@ impl<X: Subtree> ToTokens for TypeParen<X> {
     }
 }
 
-/// Appends a path as it stands; a qualified one between `<` and `>`, which stand after as many segments as its `position` says, or as there are.
+/// Appends outer attributes, and a path as it stands; a qualified one between `<` and `>`, which stand after as many segments as its `position` says, or as there are.
 impl<X: Subtree> ToTokens for TypePath<X> {
     ghost print = { printing.path_type X.prints };
 
@@ -841,7 +897,7 @@ fn print_return_type<X: Subtree>(
     }
 }
 
-/// Appends the binder, `unsafe`, the convention, `fn`, in parentheses the arguments and `...` after a comma, and what is returned.
+/// Appends outer attributes, the binder, `unsafe`, the convention, `fn`, in parentheses the arguments and `...` after a comma, and what is returned.
 impl<X: Subtree> ToTokens for TypeFnPtr<X> {
     ghost print = { printing.fn_ptr X.prints };
 
@@ -935,9 +991,9 @@ pub(crate) fn print_type<X: Subtree>(
         Type::FnPtr(pointer) => print_fn_ptr(alloc, pointer, out),
         Type::Group(group) => print_group(alloc, group, out),
         Type::ImplTrait(opaque) => print_impl_trait(alloc, opaque, out),
-        Type::Infer(infer) => infer.to_tokens(alloc, out),
-        Type::Macro(call) => call.to_tokens(alloc, out),
-        Type::Never(never) => never.to_tokens(alloc, out),
+        Type::Infer(infer) => print_infer(alloc, infer, out),
+        Type::Macro(call) => print_macro_type(alloc, call, out),
+        Type::Never(never) => print_never(alloc, never, out),
         Type::Paren(paren) => print_paren(alloc, paren, out),
         Type::Path(path) => print_path_type(alloc, path, out),
         Type::Ptr(ptr) => print_ptr(alloc, ptr, out),
@@ -959,6 +1015,7 @@ fn print_array<X: Subtree>(
     ensures ok { OnOk result (trees out.new ≡ trees out.old ++ printing.array X.prints array.now) }
     ensures err { OnErr result (Extends (trees out.old) (trees out.new)) }
 {
+    print_outer(alloc, &array.attrs, out)?;
     let mut content = TokenStream::new(alloc);
     print_type(alloc, array.elem.get(), &mut content)?;
     array.semi_token.to_tokens(alloc, &mut content)?;
@@ -976,7 +1033,7 @@ fn print_fn_ptr<X: Subtree>(
     ensures ok { OnOk result (trees out.new ≡ trees out.old ++ printing.fn_ptr X.prints pointer.now) }
     ensures err { OnErr result (Extends (trees out.old) (trees out.new)) }
 {
-    print_binder_start(alloc, &pointer.lifetimes, out)?;
+    print_fn_start(alloc, pointer, out)?;
     print_fn_params(alloc, pointer, out)?;
     print_fn_head(alloc, pointer, out)?;
     print_arguments(alloc, pointer, out)?;
@@ -1078,6 +1135,7 @@ fn print_group<X: Subtree>(
     ensures ok { OnOk result (trees out.new ≡ trees out.old ++ printing.group X.prints group.now) }
     ensures err { OnErr result (Extends (trees out.old) (trees out.new)) }
 {
+    print_outer(alloc, &group.attrs, out)?;
     let mut content = TokenStream::new(alloc);
     print_type(alloc, group.elem.get(), &mut content)?;
     group.group_token.surround(content, out)
@@ -1093,6 +1151,7 @@ fn print_impl_trait<X: Subtree>(
     ensures ok { OnOk result (trees out.new ≡ trees out.old ++ printing.impl_trait X.prints opaque.now) }
     ensures err { OnErr result (Extends (trees out.old) (trees out.new)) }
 {
+    print_outer(alloc, &opaque.attrs, out)?;
     opaque.impl_token.to_tokens(alloc, out)?;
     let (pairs, last) = bound_parts(&opaque.bounds);
     for pair in pairs {
@@ -1115,6 +1174,7 @@ fn print_paren<X: Subtree>(
     ensures ok { OnOk result (trees out.new ≡ trees out.old ++ printing.paren X.prints paren.now) }
     ensures err { OnErr result (Extends (trees out.old) (trees out.new)) }
 {
+    print_outer(alloc, &paren.attrs, out)?;
     let mut content = TokenStream::new(alloc);
     print_type(alloc, paren.elem.get(), &mut content)?;
     paren.paren_token.surround(content, out)
@@ -1130,13 +1190,28 @@ fn print_path_type<X: Subtree>(
     ensures ok { OnOk result (trees out.new ≡ trees out.old ++ printing.path_type X.prints path.now) }
     ensures err { OnErr result (Extends (trees out.old) (trees out.new)) }
 {
+    print_outer(alloc, &path.attrs, out)?;
+    print_type_name(alloc, path, out)
+}
+
+/// The path of a type, which a type may qualify, without the attributes.
+#[cycle(print)]
+#[tactic(auto, using(token_core::proofs::Puts::puts, crate::proofs::ty_laws::Prints::prints))]
+fn print_type_name<X: Subtree>(
+    alloc: Global,
+    path: &TypePath<X>,
+    out: &mut TokenStream,
+) -> Result<(), AllocError>
+    ensures ok { OnOk result (trees out.new ≡ trees out.old ++ printing.type_name X.prints path.now) }
+    ensures err { OnErr result (Extends (trees out.old) (trees out.new)) }
+{
     match &path.qself {
         Some(qself) => {
             qself.lt_token.to_tokens(alloc, out)?;
             print_type(alloc, qself.ty.get(), out)?;
             print_qualified(alloc, qself, &path.path, PathStyle::AsWritten, out)
         }
-        None => path.path.to_tokens(alloc, out),
+        None => print_path(alloc, &path.path, PathStyle::AsWritten, out),
     }
 }
 
@@ -1150,6 +1225,7 @@ fn print_ptr<X: Subtree>(
     ensures ok { OnOk result (trees out.new ≡ trees out.old ++ printing.ptr X.prints ptr.now) }
     ensures err { OnErr result (Extends (trees out.old) (trees out.new)) }
 {
+    print_outer(alloc, &ptr.attrs, out)?;
     ptr.star_token.to_tokens(alloc, out)?;
     ptr.mutability.to_tokens(alloc, out)?;
     print_type(alloc, ptr.elem.get(), out)
@@ -1165,6 +1241,7 @@ fn print_reference<X: Subtree>(
     ensures ok { OnOk result (trees out.new ≡ trees out.old ++ printing.reference X.prints reference.now) }
     ensures err { OnErr result (Extends (trees out.old) (trees out.new)) }
 {
+    print_outer(alloc, &reference.attrs, out)?;
     reference.and_token.to_tokens(alloc, out)?;
     print_lifetime(alloc, &reference.lifetime, out)?;
     print_word(alloc, &reference.mutability, out)?;
@@ -1181,6 +1258,7 @@ fn print_slice<X: Subtree>(
     ensures ok { OnOk result (trees out.new ≡ trees out.old ++ printing.slice X.prints slice.now) }
     ensures err { OnErr result (Extends (trees out.old) (trees out.new)) }
 {
+    print_outer(alloc, &slice.attrs, out)?;
     let mut content = TokenStream::new(alloc);
     print_type(alloc, slice.elem.get(), &mut content)?;
     slice.bracket_token.surround(content, out)
@@ -1196,6 +1274,7 @@ fn print_trait_object<X: Subtree>(
     ensures ok { OnOk result (trees out.new ≡ trees out.old ++ printing.trait_object X.prints object.now) }
     ensures err { OnErr result (Extends (trees out.old) (trees out.new)) }
 {
+    print_outer(alloc, &object.attrs, out)?;
     print_word(alloc, &object.dyn_token, out)?;
     let (pairs, last) = bound_parts(&object.bounds);
     for pair in pairs {
@@ -1218,6 +1297,7 @@ fn print_tuple<X: Subtree>(
     ensures ok { OnOk result (trees out.new ≡ trees out.old ++ printing.tuple X.prints tuple.now) }
     ensures err { OnErr result (Extends (trees out.old) (trees out.new)) }
 {
+    print_outer(alloc, &tuple.attrs, out)?;
     let mut content = TokenStream::new(alloc);
     print_elements(alloc, tuple, &mut content)?;
     print_lone_comma(alloc, &tuple.elems, &mut content)?;
@@ -1307,6 +1387,45 @@ pub(crate) fn print_verbatim(
     Ok(())
 }
 
+#[tactic(auto, using(token_core::proofs::Puts::puts))]
+fn print_infer<X: Subtree>(
+    alloc: Global,
+    infer: &TypeInfer<X>,
+    out: &mut TokenStream,
+) -> Result<(), AllocError>
+    ensures ok { OnOk result (trees out.new ≡ trees out.old ++ printing.infer X.prints infer.now) }
+    ensures err { OnErr result (Extends (trees out.old) (trees out.new)) }
+{
+    print_outer(alloc, &infer.attrs, out)?;
+    infer.underscore_token.to_tokens(alloc, out)
+}
+
+#[tactic(auto, using(token_core::proofs::Puts::puts))]
+fn print_macro_type<X: Subtree>(
+    alloc: Global,
+    call: &TypeMacro<X>,
+    out: &mut TokenStream,
+) -> Result<(), AllocError>
+    ensures ok { OnOk result (trees out.new ≡ trees out.old ++ printing.macro_type X.prints call.now) }
+    ensures err { OnErr result (Extends (trees out.old) (trees out.new)) }
+{
+    print_outer(alloc, &call.attrs, out)?;
+    call.mac.to_tokens(alloc, out)
+}
+
+#[tactic(auto, using(token_core::proofs::Puts::puts))]
+fn print_never<X: Subtree>(
+    alloc: Global,
+    never: &TypeNever<X>,
+    out: &mut TokenStream,
+) -> Result<(), AllocError>
+    ensures ok { OnOk result (trees out.new ≡ trees out.old ++ printing.never X.prints never.now) }
+    ensures err { OnErr result (Extends (trees out.old) (trees out.new)) }
+{
+    print_outer(alloc, &never.attrs, out)?;
+    never.bang_token.to_tokens(alloc, out)
+}
+
 /// The length of an array: the supplied subtree in this place, and anything else as it prints as a value.
 #[tactic(auto, using(token_core::proofs::Puts::puts, crate::proofs::attr_laws::Prints::places))]
 fn print_len<X: Subtree>(
@@ -1391,6 +1510,20 @@ pub(crate) fn print_word<const N: u32>(
     }
 }
 
+/// A pointer to a function to the start of its binder.
+#[tactic(auto, using(token_core::proofs::Puts::puts))]
+fn print_fn_start<X: Subtree>(
+    alloc: Global,
+    pointer: &TypeFnPtr<X>,
+    out: &mut TokenStream,
+) -> Result<(), AllocError>
+    ensures ok { OnOk result (trees out.new ≡ trees out.old ++ printing.fn_start X.prints pointer.now) }
+    ensures err { OnErr result (Extends (trees out.old) (trees out.new)) }
+{
+    print_outer(alloc, &pointer.attrs, out)?;
+    print_binder_start(alloc, &pointer.lifetimes, out)
+}
+
 /// A pointer to a function from the end of its binder to `fn`.
 #[tactic(auto, using(token_core::proofs::Puts::puts))]
 fn print_fn_head<X>(
@@ -1424,7 +1557,7 @@ fn print_convention(
 
 /// Outer attributes, and a name with its colon.
 #[tactic(auto, using(token_core::proofs::Puts::puts))]
-fn print_arg_name<X: Subtree>(
+pub(crate) fn print_arg_name<X: Subtree>(
     alloc: Global,
     attrs: &Items<Attribute<X>>,
     name: &Option<(Ident, Colon)>,

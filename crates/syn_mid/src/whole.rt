@@ -11,40 +11,40 @@ ghost use Rattle.syn_mid.specs.ty.Grammars as types;
 ghost use Rattle.syn_mid.specs.ty.Knot as knot;
 
 use crate::attr::Attribute;
-use crate::path::Path;
+use crate::path::{Arguments, PathOf};
 use crate::supplied::Subtree;
 use crate::ty::Type;
 use std::alloc::Global;
 use std::marker::PhantomData;
 use token_core::{Error, Items, ParseStream, Parser};
 
-/// `Path::parse_mod_style` as a parser, for `read_all_with`.
+/// `PathOf::parse_mod_style` as a parser, for `read_all_with`.
 #[derive(Drop)]
-pub struct ModStyle<X> {
-    pub of: PhantomData<X>,
+pub struct ModStyle<A> {
+    pub of: PhantomData<A>,
 }
 
-impl<X> ModStyle<X> {
-    pub fn new() -> ModStyle<X>
+impl<A> ModStyle<A> {
+    pub fn new() -> ModStyle<A>
         ensures { result ≡ record { of = record {} } }
     {
         ModStyle { of: PhantomData }
     }
 }
 
-impl<X: Drop> Parser for ModStyle<X> {
-    type Output = Path<X>;
+impl<A: Arguments> Parser for ModStyle<A> {
+    type Output = PathOf<A>;
 
     ghost can_parse = { λ _. Unit {0} };
 
-    ghost reads = { λ _. Gives (reading.mod_style {X = X}) };
+    ghost reads = { λ _. Gives (reading.mod_style A.absent) };
 
-    ghost refuses = { λ _. Fails (reading.mod_style {X = X}) };
+    ghost refuses = { λ _. Fails (reading.mod_style A.absent) };
 
-    ghost promise = { λ _. Headline (paths.mod_style {X = X}) };
+    ghost promise = { λ _. Headline (paths.mod_style A.absent A.shown) };
 
-    fn parse(self, alloc: Global, input: &mut ParseStream<'_>) -> Result<Path<X>, Error> {
-        Path::parse_mod_style(alloc, input)
+    fn parse(self, alloc: Global, input: &mut ParseStream<'_>) -> Result<PathOf<A>, Error> {
+        PathOf::parse_mod_style(alloc, input)
     }
 }
 

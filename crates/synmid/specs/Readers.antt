@@ -1,5 +1,5 @@
 -- The readers that a run knows by name.
-use Rattle.std.specs.Prelude.{◌≡◌, ◌≢◌, true, false, if◌then◌else◌, List, Option, Some, None, Result, Ok, Err, codes}
+use Rattle.std.specs.Prelude.{◌≡◌, ◌≢◌, true, false, if◌then◌else◌, List, [], Option, Some, None, Result, Ok, Err, codes}
 use Rattle.std.specs.Str.{bytes_eq}
 use Rattle.token_core.specs.declared.error.ErrorKind.TheVariants.{OutOfMemory}
 use Rattle.token_core.specs.declared.tree.TokenStream.{TokenStream}
@@ -13,7 +13,6 @@ use Rattle.token_core.specs.Spans.{none}
 use Rattle.token_core.specs.Stream.{Stream, started}
 use Rattle.token_core.specs.Reads.{Ends, Refuses}
 use Rattle.syn_mid.specs.declared.mac.Macro as mac
-use Rattle.syn_mid.specs.declared.path.Path as path
 use Rattle.syn_mid.specs.declared.attr.Meta as meta
 use Rattle.syn_mid.specs.declared.attr.MetaList as meta_list
 use Rattle.syn_mid.specs.declared.attr.MetaNameValue as name_value
@@ -37,6 +36,7 @@ use Rattle.syn_mid.specs.attr.Grammars as attrs
 use Rattle.syn_mid.specs.attr.Printing as printing
 use Rattle.syn_mid.specs.mac.Grammars as macs
 use Rattle.syn_mid.specs.path.Grammars as paths
+use Rattle.syn_mid.specs.path.Paths as path
 use Rattle.synmid.specs.contracts.sample.SampleSubtree.TheImpl.{reads-value, spells-value, normal-value, prints-value}
 use Rattle.synmid.specs.declared.sample.Sample.{Sample}
 use Rattle.synmid.specs.declared.reader.Reader.{Reader}
@@ -69,31 +69,31 @@ named name =
 
 -- the trees of a reader
 abbrev pub Tree : Reader → Type 0
-Tree Macro = mac.Macro Sample
-Tree ModStyle = path.Path Sample
+Tree Macro = mac.Macro
+Tree ModStyle = path.ModPath
 Tree Meta = meta.Meta Sample
-Tree MetaList = meta_list.MetaList Sample
+Tree MetaList = meta_list.MetaList
 Tree MetaNameValue = name_value.MetaNameValue Sample
 Tree Outer = List (Attribute Sample)
 Tree Inner = List (Attribute Sample)
 Tree AnyType = ty.«Type» Sample
 Tree WithoutPlus = ty.«Type» Sample
-Tree TypeArray = array.TypeArrayOf (ty.«Type» Sample) (expr.Expr Sample)
-Tree TypeInfer = infer.TypeInfer
+Tree TypeArray = array.TypeArrayOf (ty.«Type» Sample) Sample
+Tree TypeInfer = infer.TypeInfer Sample
 Tree TypeMacro = macro_type.TypeMacro Sample
-Tree TypeNever = never.TypeNever
-Tree TypeParen = paren.TypeParenOf (ty.«Type» Sample)
+Tree TypeNever = never.TypeNever Sample
+Tree TypeParen = paren.TypeParenOf (ty.«Type» Sample) Sample
 Tree TypePath = path_type.TypePathOf (ty.«Type» Sample) Sample
-Tree TypePtr = ptr.TypePtrOf (ty.«Type» Sample)
-Tree TypeReference = reference.TypeReferenceOf (ty.«Type» Sample)
-Tree TypeSlice = slice.TypeSliceOf (ty.«Type» Sample)
-Tree TypeTuple = tuple.TypeTupleOf (ty.«Type» Sample)
+Tree TypePtr = ptr.TypePtrOf (ty.«Type» Sample) Sample
+Tree TypeReference = reference.TypeReferenceOf (ty.«Type» Sample) Sample
+Tree TypeSlice = slice.TypeSliceOf (ty.«Type» Sample) Sample
+Tree TypeTuple = tuple.TypeTupleOf (ty.«Type» Sample) Sample
 Tree PointerMutability = mutability.PointerMutability
 Tree TypeParamBound = bound.TypeParamBound Sample
 
 abbrev pub grammar : (r : Reader) → Grammar (Tree r)
 grammar Macro = macs.mac
-grammar ModStyle = paths.mod_style
+grammar ModStyle = paths.mod_style path.nothing (λ a. [])
 grammar Meta = attrs.meta reads-value.it spells-value.it normal-value.it prints-value.it
 grammar MetaList = attrs.list
 grammar MetaNameValue = attrs.name_value reads-value.it spells-value.it normal-value.it prints-value.it
@@ -102,9 +102,9 @@ grammar Inner = attrs.inner reads-value.it spells-value.it normal-value.it print
 grammar AnyType = types.ty reads-value.it spells-value.it normal-value.it prints-value.it true
 grammar WithoutPlus = types.ty reads-value.it spells-value.it normal-value.it prints-value.it false
 grammar TypeArray = types.array reads-value.it spells-value.it normal-value.it prints-value.it
-grammar TypeInfer = types.infer
-grammar TypeMacro = types.macro_type
-grammar TypeNever = types.never
+grammar TypeInfer = types.infer normal-value.it prints-value.it
+grammar TypeMacro = types.macro_type normal-value.it prints-value.it
+grammar TypeNever = types.never normal-value.it prints-value.it
 grammar TypeParen = types.paren reads-value.it spells-value.it normal-value.it prints-value.it
 grammar TypePath = types.path_type reads-value.it spells-value.it normal-value.it prints-value.it
 grammar TypePtr = types.ptr reads-value.it spells-value.it normal-value.it prints-value.it

@@ -7,7 +7,7 @@ ghost use Rattle.synmid.specs.Readers as spec;
 use crate::sample::Sample;
 use std::alloc::{AllocError, Global};
 use syn_mid::{
-    Attribute, Macro, Meta, MetaList, MetaNameValue, ModStyle, ParseInner, ParseOuter,
+    Attribute, Macro, Meta, MetaList, MetaNameValue, ModStyle, NoArguments, ParseInner, ParseOuter,
     PointerMutability, Type, TypeArray, TypeInfer, TypeMacro, TypeNever, TypeParamBound, TypeParen,
     TypePath, TypePtr, TypeReference, TypeSlice, TypeTuple, WithoutPlus,
 };
@@ -74,19 +74,19 @@ impl Reader {
         ensures { spec.Reprints (spec.grammar self) (toks tokens.now) result }
     {
         match self {
-            Reader::Macro => reprint::<Macro<Sample>>(alloc, tokens),
-            Reader::ModStyle => reprint_with(alloc, ModStyle::<Sample>::new(), tokens),
+            Reader::Macro => reprint::<Macro>(alloc, tokens),
+            Reader::ModStyle => reprint_with(alloc, ModStyle::<NoArguments>::new(), tokens),
             Reader::Meta => reprint::<Meta<Sample>>(alloc, tokens),
-            Reader::MetaList => reprint::<MetaList<Sample>>(alloc, tokens),
+            Reader::MetaList => reprint::<MetaList>(alloc, tokens),
             Reader::MetaNameValue => reprint::<MetaNameValue<Sample>>(alloc, tokens),
             Reader::Outer => reprint_attributes(alloc, ParseOuter::<Sample>::new(), tokens),
             Reader::Inner => reprint_attributes(alloc, ParseInner::<Sample>::new(), tokens),
             Reader::AnyType => reprint::<Type<Sample>>(alloc, tokens),
             Reader::WithoutPlus => reprint_with(alloc, WithoutPlus::<Sample>::new(), tokens),
             Reader::TypeArray => reprint::<TypeArray<Sample>>(alloc, tokens),
-            Reader::TypeInfer => reprint::<TypeInfer>(alloc, tokens),
+            Reader::TypeInfer => reprint::<TypeInfer<Sample>>(alloc, tokens),
             Reader::TypeMacro => reprint::<TypeMacro<Sample>>(alloc, tokens),
-            Reader::TypeNever => reprint::<TypeNever>(alloc, tokens),
+            Reader::TypeNever => reprint::<TypeNever<Sample>>(alloc, tokens),
             Reader::TypeParen => reprint::<TypeParen<Sample>>(alloc, tokens),
             Reader::TypePath => reprint::<TypePath<Sample>>(alloc, tokens),
             Reader::TypePtr => reprint::<TypePtr<Sample>>(alloc, tokens),

@@ -15,8 +15,8 @@ use syn_mid::{
 };
 use token_core::token::{And, Bracket, Comma, Const, Mut, Not, Paren, Semi, Star, Underscore};
 use token_core::{
-    Boxed, ByFn, Error, Ident, Lifetime, Lit, ParseStream, Punctuated, Span, ToTokens, TokenStream,
-    read_all, read_all_with,
+    Boxed, ByFn, Error, Ident, Items, Lifetime, Lit, ParseStream, Punctuated, Span, ToTokens,
+    TokenStream, read_all, read_all_with,
 };
 use token_text::{lex, text_of};
 
@@ -24,32 +24,42 @@ type Ty = Type<Sample>;
 
 fn path(alloc: Global, text: &str) -> Result<Ty, Error> {
     let tokens = lex(alloc, text)?;
-    let path = read_all_with(alloc, ModStyle::<Sample>::new(), &tokens)?;
-    Ok(Type::from(TypePathOf { qself: None, path }))
+    let path = read_all_with(alloc, ModStyle::new(), &tokens)?;
+    Ok(Type::from(TypePathOf {
+        attrs: Items::new(alloc),
+        qself: None,
+        path,
+    }))
 }
 
 fn call(alloc: Global, text: &str) -> Result<Ty, Error> {
     let tokens = lex(alloc, text)?;
-    let mac = read_all::<Macro<Sample>>(alloc, &tokens)?;
-    Ok(Type::from(TypeMacro { mac }))
+    let mac = read_all::<Macro>(alloc, &tokens)?;
+    Ok(Type::from(TypeMacro {
+        attrs: Items::new(alloc),
+        mac,
+    }))
 }
 
 /// `_`
-fn infer() -> Ty {
+fn infer(alloc: Global) -> Ty {
     Type::from(TypeInfer {
+        attrs: Items::new(alloc),
         underscore_token: Underscore::default(),
     })
 }
 
 /// `!`
-fn never() -> Ty {
+fn never(alloc: Global) -> Ty {
     Type::from(TypeNever {
+        attrs: Items::new(alloc),
         bang_token: Not::default(),
     })
 }
 
 fn paren(alloc: Global, elem: Ty) -> Result<Ty, Error> {
     Ok(Type::from(TypeParen {
+        attrs: Items::new(alloc),
         paren_token: Paren::default(),
         elem: Boxed::new(alloc, elem)?,
     }))
@@ -57,6 +67,7 @@ fn paren(alloc: Global, elem: Ty) -> Result<Ty, Error> {
 
 fn slice(alloc: Global, elem: Ty) -> Result<Ty, Error> {
     Ok(Type::from(TypeSlice {
+        attrs: Items::new(alloc),
         bracket_token: Bracket::default(),
         elem: Boxed::new(alloc, elem)?,
     }))
@@ -64,6 +75,7 @@ fn slice(alloc: Global, elem: Ty) -> Result<Ty, Error> {
 
 fn array(alloc: Global, elem: Ty, len: Expr<Sample>) -> Result<Ty, Error> {
     Ok(Type::from(TypeArray {
+        attrs: Items::new(alloc),
         bracket_token: Bracket::default(),
         elem: Boxed::new(alloc, elem)?,
         semi_token: Semi::default(),
@@ -73,6 +85,7 @@ fn array(alloc: Global, elem: Ty, len: Expr<Sample>) -> Result<Ty, Error> {
 
 fn pointer(alloc: Global, mutability: PointerMutability, elem: Ty) -> Result<Ty, Error> {
     Ok(Type::from(TypePtr {
+        attrs: Items::new(alloc),
         star_token: Star::default(),
         mutability,
         elem: Boxed::new(alloc, elem)?,
@@ -86,6 +99,7 @@ fn reference(
     elem: Ty,
 ) -> Result<Ty, Error> {
     Ok(Type::from(TypeReference {
+        attrs: Items::new(alloc),
         and_token: And::default(),
         lifetime,
         mutability,
@@ -93,8 +107,9 @@ fn reference(
     }))
 }
 
-fn tuple(elems: Punctuated<Ty, Comma>) -> Ty {
+fn tuple(alloc: Global, elems: Punctuated<Ty, Comma>) -> Ty {
     Type::from(TypeTuple {
+        attrs: Items::new(alloc),
         paren_token: Paren::default(),
         elems,
     })
@@ -152,8 +167,8 @@ fn names_and_lone_tokens(rt: HostRuntime) {
         printed(alloc, call(alloc, "a::b!{x}")),
         "a :: b ! { x }",
     );
-    says(&rt, alloc, printed(alloc, Ok(infer())), "_");
-    says(&rt, alloc, printed(alloc, Ok(never())), "!");
+    says(&rt, alloc, printed(alloc, Ok(infer(alloc))), "_");
+    says(&rt, alloc, printed(alloc, Ok(never(alloc))), "!");
 }
 
 fn in_paren(alloc: Global) -> Result<Ty, Error> {
@@ -239,14 +254,14 @@ fn pointers_and_references(rt: HostRuntime) {
 fn one(alloc: Global) -> Result<Ty, Error> {
     let mut elems = Punctuated::new(alloc);
     elems.push_value(alloc, path(alloc, "A")?)?;
-    Ok(tuple(elems))
+    Ok(tuple(alloc, elems))
 }
 
 fn one_and_comma(alloc: Global) -> Result<Ty, Error> {
     let mut elems = Punctuated::new(alloc);
     elems.push_value(alloc, path(alloc, "A")?)?;
     elems.push_punct(Comma::default())?;
-    Ok(tuple(elems))
+    Ok(tuple(alloc, elems))
 }
 
 fn two(alloc: Global) -> Result<Ty, Error> {
@@ -254,7 +269,7 @@ fn two(alloc: Global) -> Result<Ty, Error> {
     elems.push_value(alloc, path(alloc, "A")?)?;
     elems.push_punct(Comma::default())?;
     elems.push_value(alloc, path(alloc, "B")?)?;
-    Ok(tuple(elems))
+    Ok(tuple(alloc, elems))
 }
 
 #[test]
@@ -263,7 +278,7 @@ fn a_lone_element_has_a_comma(rt: HostRuntime) {
     says(
         &rt,
         alloc,
-        printed(alloc, Ok(tuple(Punctuated::new(alloc)))),
+        printed(alloc, Ok(tuple(alloc, Punctuated::new(alloc)))),
         "()",
     );
     says(&rt, alloc, printed(alloc, one(alloc)), "(A ,)");
@@ -295,7 +310,7 @@ fn held_tokens_print_as_they_are(rt: HostRuntime) {
 
 /// `_` in as many parentheses.
 fn nested(alloc: Global, depth: usize) -> Result<Ty, Error> {
-    let mut ty = infer();
+    let mut ty = infer(alloc);
     for _ in 0..depth {
         ty = paren(alloc, ty)?;
     }

@@ -27,12 +27,10 @@ use Rattle.syn_mid.specs.declared.generics.BoundLifetimesOf.{BoundLifetimesOf}
 use Rattle.syn_mid.specs.declared.generics.GenericParam.{GenericParam}
 use Rattle.syn_mid.specs.declared.generics.TraitBoundOf.{TraitBoundOf}
 use Rattle.syn_mid.specs.declared.generics.TypeParamBound.{TypeParamBound}
-use Rattle.syn_mid.specs.declared.path.Path.{Path}
-use Rattle.syn_mid.specs.declared.path.PathSegment.{PathSegment}
 use Rattle.syn_mid.specs.generics.Params.{Comma}
 use Rattle.syn_mid.specs.generics.Reading.{sees_gt, sees_question, sees_for, comma, question, param_step, params, binder, optional_binder, after_question, bare_bound, trait_bound, bound_step}
 use Rattle.syn_mid.specs.generics.Spelling.{IsParam, a_lifetime, IsBinder, a_binder, IsBareBound, a_bound, with_question, IsTraitBound, bare, in_parens, IsBound, lifetime, a_trait, BoundEnds}
-use Rattle.syn_mid.specs.path.Paths.{Sep}
+use Rattle.syn_mid.specs.path.Paths.{Sep, Path, PathSegment, no_arguments}
 use Rattle.syn_mid.specs.path.Spelling.{is_type_word, no_leading, leading, AreSegments, last_segment, more_segments, a_bare_path, IsPlainPath}
 use Rattle.syn_mid.specs.ty.Knot.{ahead}
 use Rattle.syn_mid.specs.ty.Spelling.{Relation, IsOptional, absent, present}
@@ -68,11 +66,11 @@ unfolding sees_lifetime sees_word sees_group sees_mark
 word_name i r h = record { on = record { no_lifetime = refl; no_paren = refl }; no_for = no_for_word i.text (is_text (text_of 10) i.text) refl h; no_question = refl }
 
 module _ {X : Type 0} where
-  segments_name : (all : List (PathSegment X)) (seps : List Sep) (l r : Toks) → AreSegments true is_type_word all seps l r → OnName l
+  segments_name : (all : List (PathSegment X)) (seps : List Sep) (l r : Toks) → AreSegments true is_type_word no_arguments all seps l r → OnName l
   segments_name all seps l r (last_segment {i = i} h) = word_name i r h
   segments_name all seps l r (more_segments {i = i} h a k) = word_name i _ h
 
-  path_name : (p : Path X) (l r : Toks) → IsPlainPath true p l r → OnName l
+  path_name : (p : Path X) (l r : Toks) → IsPlainPath true no_arguments p l r → OnName l
   unfolding sees_lifetime sees_word sees_group sees_mark
   path_name p l r (a_bare_path {all = all} {seps = seps} no_leading k) = segments_name all seps l r k
   path_name p l r (a_bare_path (leading a) k) = record { on = record { no_lifetime = refl; no_paren = refl }; no_for = refl; no_question = refl }
@@ -189,7 +187,7 @@ module _ {X : Type 0} (P : Relation (GenericParam X)) (param : Reader (GenericPa
       let s = path_name p m r j in
       let a = optional_complete o l m f e sc h i s.no_for in
       let d : question (at m f a.last sc) ≡ Ok (None, at m f a.last sc) = chosen (sees_question m) false _ _ (at m f a.last sc) _ s.no_question refl in
-      let u = plain_complete p m r f a.last sc j n.sep n.angle in
+      let u = plain_complete no_arguments p m r f a.last sc j n.sep n.angle in
       record { last = u.last; reads = link _ a.reads (link _ d (link _ u.reads refl)) }
   bare_complete x l r f e sc h (with_question {q = q} {p = p} {m = m} i j) n =
       let s = path_name p m r j in
@@ -198,7 +196,7 @@ module _ {X : Type 0} (P : Relation (GenericParam X)) (param : Reader (GenericPa
       let w : question (at l f a.last sc) ≡ Ok (Some q, at m f d.last sc) = chosen (sees_question l) true _ _ (at l f a.last sc) _ (mark_seen true {n = 22} {k = 1} q l m i) (link _ d.reads refl) in
       let le = question_light q l m i in
       let c = optional_complete None m m f d.last sc (as_much l m f f e d.last sc h le) absent s.no_for in
-      let u = plain_complete p m r f c.last sc j n.sep n.angle in
+      let u = plain_complete no_arguments p m r f c.last sc j n.sep n.angle in
       record { last = u.last; reads = link _ a.reads (link _ w (link _ c.reads (link _ u.reads refl))) }
 
   bare_begins : (x : TraitBoundOf (GenericParam X) X) (l r : Toks) → IsBareBound true P x l r → Bare l

@@ -22,6 +22,7 @@ use Rattle.syn_mid.specs.declared.supplied.ExprRange.{ExprRange}
 use Rattle.syn_mid.specs.declared.generics.BoundLifetimesOf.{BoundLifetimesOf}
 use Rattle.syn_mid.specs.declared.generics.WherePredicate.{WherePredicate}
 use Rattle.syn_mid.specs.attr.Printing.{value}
+use Rattle.syn_mid.specs.path.Paths.{ModPath}
 use Rattle.syn_mid.specs.generics.Params.{Plus, Comma, Colon}
 use Rattle.syn_mid.specs.generics.Printing.{predicate, predicates_after}
 use Rattle.syn_mid.specs.generics.Shapes.{or_default, after_colon, binder_by, binder_start, binder_joined, binder_end, is_word, alone_layer, stands_alone, in_braces, const_argument}
@@ -37,13 +38,13 @@ module _ {X : Type 0} where
   pub alone-Lit : (x : ExprLitOf (AttributeOf (Meta X))) → stands_alone (e.Lit x) ≡ true
   alone-Lit x = ap alone_layer (e.outs-Lit x)
 
-  pub alone-Path : (x : ExprPathOf (AttributeOf (Meta X)) X) → stands_alone (e.Path x) ≡ is_word x
+  pub alone-Path : (x : ExprPathOf (AttributeOf (Meta X)) ModPath) → stands_alone (e.Path x) ≡ is_word x
   alone-Path x = ap alone_layer (e.outs-Path x)
 
   pub alone-Const : (x : ExprConstOf (AttributeOf (Meta X)) X) → stands_alone (e.Const x) ≡ false
   alone-Const x = ap alone_layer (e.outs-Const x)
 
-  pub alone-Macro : (x : ExprMacroOf (AttributeOf (Meta X)) X) → stands_alone (e.Macro x) ≡ false
+  pub alone-Macro : (x : ExprMacroOf (AttributeOf (Meta X))) → stands_alone (e.Macro x) ≡ false
   alone-Macro x = ap alone_layer (e.outs-Macro x)
 
   pub alone-Range : (x : ExprRange X) → stands_alone (e.Range x) ≡ false

@@ -21,7 +21,6 @@ use Rattle.syn_mid.specs.declared.generics.GenericParam.TheVariants as g
 use Rattle.syn_mid.specs.declared.generics.TraitBoundOf.{TraitBoundOf}
 use Rattle.syn_mid.specs.declared.generics.TypeParamBound.{TypeParamBound}
 use Rattle.syn_mid.specs.declared.generics.TypeParamBound.TheVariants as b
-use Rattle.syn_mid.specs.declared.path.Path.{Path}
 use Rattle.syn_mid.specs.declared.path.PathStyle.TheVariants.{AsWritten}
 use Rattle.syn_mid.specs.Supplied.{Place}
 use Rattle.syn_mid.specs.generics.NormalShapes as shapes
@@ -29,7 +28,8 @@ use Rattle.syn_mid.specs.generics.NormalShapes.{many}
 use Rattle.syn_mid.specs.generics.Params.{bound_lifetimes_of, lone_lifetime, named_bound, held_bound}
 use Rattle.syn_mid.specs.generics.Shapes.{bare_trait_by, binder_by, bound_lifetimes_by, trait_bound_by}
 use Rattle.syn_mid.specs.generics.Spelling.{IsParam, a_lifetime, IsBinder, a_binder, IsBareBound, a_bound, with_question, IsTraitBound, bare, in_parens, IsBound, lifetime, a_trait}
-use Rattle.syn_mid.specs.path.Printing.{path}
+use Rattle.syn_mid.specs.path.Paths.{Path, no_arguments}
+use Rattle.syn_mid.specs.path.Printing.{path, arguments}
 use Rattle.syn_mid.specs.path.Spelling.{IsPlainPath}
 use Rattle.syn_mid.specs.ty.Normal as normal
 use Rattle.syn_mid.specs.ty.Printing as printing
@@ -53,9 +53,9 @@ lifetime_front x l r i =
     }
 
 module _ {X : Type 0} where
-  path_front : (x : Path X) (l r : Toks) → IsPlainPath false x l r → AgainFront (IsPlainPath true) (λ (z : Path X). z) (path AsWritten) x l r
+  path_front : (x : Path X) (l r : Toks) → IsPlainPath false no_arguments x l r → AgainFront (IsPlainPath true no_arguments) (λ (z : Path X). z) (path AsWritten) x l r
   path_front x l r i =
-      let again = λ (h : Toks). path_again AsWritten false x l r h i in
+      let again = λ (h : Toks). path_again no_arguments (arguments AsWritten) refl false x l r h i in
       record { spelt = λ h. again h; visible = λ h u w. whole_path true x (row (path AsWritten x) h) h (again h) w; seen = λ u. visible_path x l r i u; stays = refl; same = refl }
 
 module _ {X : Type 0} (normals : Place → X → X) (prints : Place → X → Print) where

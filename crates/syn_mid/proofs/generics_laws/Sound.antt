@@ -25,11 +25,11 @@ use Rattle.syn_mid.specs.declared.generics.GenericParam.TheVariants as g
 use Rattle.syn_mid.specs.declared.generics.TraitBoundOf.{TraitBoundOf}
 use Rattle.syn_mid.specs.declared.generics.TypeParamBound.{TypeParamBound}
 use Rattle.syn_mid.specs.declared.generics.TypeParamBound.TheVariants as b
-use Rattle.syn_mid.specs.declared.path.Path.{Path}
 use Rattle.syn_mid.specs.generics.Params.{Comma, bound_lifetimes_of, lone_lifetime, named_bound, held_bound}
 use Rattle.syn_mid.specs.generics.Reading as reading
 use Rattle.syn_mid.specs.generics.Reading.{sees_gt, sees_question, sees_for, comma, lt, gt, for_word, question, param_step, asked, params, binder_after, binder, optional_binder, after_question, after_binder, bare_bound, trait_bound, bound_step}
 use Rattle.syn_mid.specs.generics.Spelling.{IsParam, a_lifetime, IsBinder, a_binder, IsBareBound, a_bound, with_question, IsTraitBound, bare, in_parens, IsBound, lifetime, a_trait}
+use Rattle.syn_mid.specs.path.Paths.{Path, no_arguments}
 use Rattle.syn_mid.specs.path.Reading.{plain_path}
 use Rattle.syn_mid.specs.path.Spelling.{IsPlainPath}
 use Rattle.syn_mid.specs.ty.Spelling.{Relation, IsOptional, absent, present}
@@ -109,17 +109,17 @@ module _ {X : Type 0} (P : Relation (GenericParam X)) (param : Reader (GenericPa
   unfolding optional_binder
   optional_took s t o v e = optional_sound {Is = IsBinder false P} sees_for (binder param) binder_took s t o v e
 
-  named : (o : Option Binder) (p : Path X) (l m k r : Toks) → MaybeBinder o l m → MaybeMark None m k → IsPlainPath false p k r → Bare (named_bound o None p) l r
+  named : (o : Option Binder) (p : Path X) (l m k r : Toks) → MaybeBinder o l m → MaybeMark None m k → IsPlainPath false no_arguments p k r → Bare (named_bound o None p) l r
   named o p l m k r i absent h = a_bound i h
 
-  questioned : (q : Mark 22 1) (p : Path X) (l m k n r : Toks) → MaybeBinder None l m → MaybeMark (Some q) m k → MaybeBinder None k n → IsPlainPath false p n r → Bare (named_bound None (Some q) p) l r
+  questioned : (q : Mark 22 1) (p : Path X) (l m k n r : Toks) → MaybeBinder None l m → MaybeMark (Some q) m k → MaybeBinder None k n → IsPlainPath false no_arguments p n r → Bare (named_bound None (Some q) p) l r
   questioned q p l m k n r absent (present i) absent h = with_question i h
 
   -- after a `?` no binder was read
   asked_at : (q : Mark 22 1) (o : Option Binder) (s c d u t : Stream) (x : Bound) → TookOne MaybeBinder s c None → TookOne MaybeMark c d (Some q) → TookOne MaybeBinder d u o → asked q o u ≡ Ok (x, t) → TookOne Bare s t x
   asked_at q None s c d u t x kc kd ku e =
-      let k = mapped (plain_path u) (named_bound None (Some q)) x t e in
-      let w = plain_sound u t k.value ku.seen k.was in
+      let k = mapped (plain_path no_arguments u) (named_bound None (Some q)) x t e in
+      let w = plain_sound no_arguments u t k.value ku.seen k.was in
       subst (λ z. TookOne Bare s t z) k.is (record {
         left = λ n. kc.left (kd.left (ku.left (sym w.left ∙ n)));
         seen = visible_path k.value u.rest t.rest w.spelt ku.seen;
@@ -128,11 +128,11 @@ module _ {X : Type 0} (P : Relation (GenericParam X)) (param : Reader (GenericPa
             let nd = ku.left nu in
             questioned q k.value s.rest c.rest d.rest u.rest t.rest (kc.spelt (kd.left nd)) (kd.spelt nd) (ku.spelt nu) w.spelt;
       })
-  asked_at q (Some y) s c d u t x kc kd ku e = let k = chain (plain_path {X = X} u) _ x t e in cc (k.goes)
+  asked_at q (Some y) s c d u t x kc kd ku e = let k = chain (plain_path (no_arguments {X = X}) u) _ x t e in cc (k.goes)
 
   no_asked : (q : Mark 22 1) (y : Binder) (s t : Stream) (x : Bound) → after_question param (Some y) q s ≡ Ok (x, t) → ⊥
   unfolding after_question
-  no_asked q y s t x e = let k = chain (plain_path {X = X} s) _ x t e in cc (k.goes)
+  no_asked q y s t x e = let k = chain (plain_path (no_arguments {X = X}) s) _ x t e in cc (k.goes)
 
   question_at : (q : Mark 22 1) (s c d t : Stream) (x : Bound) → TookOne MaybeBinder s c None → TookOne MaybeMark c d (Some q) → after_question param None q d ≡ Ok (x, t) → TookOne Bare s t x
   unfolding after_question
@@ -142,8 +142,8 @@ module _ {X : Type 0} (P : Relation (GenericParam X)) (param : Reader (GenericPa
 
   after_at : (o : Option Binder) (q : Option (Mark 22 1)) (s c d t : Stream) (x : Bound) → TookOne MaybeBinder s c o → TookOne MaybeMark c d q → after_binder param o q d ≡ Ok (x, t) → TookOne Bare s t x
   after_at o None s c d t x kc kd e =
-      let k = mapped (plain_path d) (named_bound o None) x t e in
-      let w = plain_sound d t k.value kd.seen k.was in
+      let k = mapped (plain_path no_arguments d) (named_bound o None) x t e in
+      let w = plain_sound no_arguments d t k.value kd.seen k.was in
       subst (λ z. TookOne Bare s t z) k.is (record {
         left = λ n. kc.left (kd.left (sym w.left ∙ n));
         seen = visible_path k.value d.rest t.rest w.spelt kd.seen;

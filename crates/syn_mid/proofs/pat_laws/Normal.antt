@@ -30,6 +30,7 @@ use Rattle.syn_mid.specs.declared.supplied.ExprMacroOf.{ExprMacroOf}
 use Rattle.syn_mid.specs.declared.supplied.ExprPathOf.{ExprPathOf}
 use Rattle.syn_mid.specs.declared.supplied.ExprRange.{ExprRange}
 use Rattle.syn_mid.specs.attr.Normal as attr
+use Rattle.syn_mid.specs.path.Paths.{Path}
 use Rattle.syn_mid.specs.pat.Pats.{Pat, Attr, Qual, Attrs, is_rest, is_rest_layer, binding_of, struct_of, field_of}
 use Rattle.syn_mid.specs.pat.Normal as n
 use Rattle.syn_mid.specs.ty.Normal as types
@@ -65,7 +66,7 @@ module _ {X : Type 0} (nx : Place → X → X) where
   unfolding pat
   normal-Lit x = ap (pat nx) (sym (v.rolls-Lit x)) ∙ fold-roll-PatOf (Attr X) (Qual X) X (Pat X) (pat_step nx) (o.Lit x)
 
-  pub normal-Macro : (x : ExprMacroOf (AttributeOf (Meta X)) X) → pat nx (v.Macro x) ≡ v.Macro (attr.expr_macro nx x)
+  pub normal-Macro : (x : ExprMacroOf (AttributeOf (Meta X))) → pat nx (v.Macro x) ≡ v.Macro (attr.expr_macro nx x)
   unfolding pat
   normal-Macro x = ap (pat nx) (sym (v.rolls-Macro x)) ∙ fold-roll-PatOf (Attr X) (Qual X) X (Pat X) (pat_step nx) (o.Macro x)
 
@@ -77,7 +78,7 @@ module _ {X : Type 0} (nx : Place → X → X) where
   unfolding pat
   normal-Paren x = ap (pat nx) (sym (v.rolls-Paren x)) ∙ fold-roll-PatOf (Attr X) (Qual X) X (Pat X) (pat_step nx) (o.Paren x)
 
-  pub normal-Path : (x : ExprPathOf (AttributeOf (Meta X)) X) → pat nx (v.Path x) ≡ v.Path (attr.expr_path nx x)
+  pub normal-Path : (x : ExprPathOf (AttributeOf (Meta X)) (Path X)) → pat nx (v.Path x) ≡ v.Path (attr.expr_path nx x)
   unfolding pat
   normal-Path x = ap (pat nx) (sym (v.rolls-Path x)) ∙ fold-roll-PatOf (Attr X) (Qual X) X (Pat X) (pat_step nx) (o.Path x)
 

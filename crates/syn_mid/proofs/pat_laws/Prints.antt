@@ -39,6 +39,7 @@ use Rattle.syn_mid.specs.generics.Shapes.{optional}
 use Rattle.syn_mid.specs.pat.Pats.{Pat, Attr, Qual, Attrs, binding_of, field_of, is_rest, is_rest_layer}
 use Rattle.syn_mid.specs.pat.Printing as s
 use Rattle.syn_mid.specs.pat.Printing.{pat, printed, pat_step}
+use Rattle.syn_mid.specs.path.Paths.{Path}
 use Rattle.syn_mid.specs.path.Printing.{expr_style}
 use Rattle.syn_mid.specs.ty.Printing as ty
 use Rattle.syn_mid.specs.ty.Types.{comma}
@@ -92,7 +93,7 @@ module _ {X : Type 0} (px : Place → X → Print) where
   unfolding pat printed
   pat-Lit x = ap (pat px) (sym (v.rolls-Lit x)) ∙ ap (λ z. z.0) (fold-roll-PatOf (Attr X) (Qual X) X (s.Printed px) (pat_step px) (o.Lit x))
 
-  pub pat-Macro : (x : ExprMacroOf (AttributeOf (Meta X)) X) → pat px (v.Macro x) ≡ attr.expr_macro px x
+  pub pat-Macro : (x : ExprMacroOf (AttributeOf (Meta X))) → pat px (v.Macro x) ≡ attr.expr_macro px x
   unfolding pat printed
   pat-Macro x = ap (pat px) (sym (v.rolls-Macro x)) ∙ ap (λ z. z.0) (fold-roll-PatOf (Attr X) (Qual X) X (s.Printed px) (pat_step px) (o.Macro x))
 
@@ -106,7 +107,7 @@ module _ {X : Type 0} (px : Place → X → Print) where
   unfolding pat printed
   pat-Paren x = ap (pat px) (sym (v.rolls-Paren x)) ∙ ap (λ z. z.0) (fold-roll-PatOf (Attr X) (Qual X) X (s.Printed px) (pat_step px) (o.Paren x))
 
-  pub pat-Path : (x : ExprPathOf (AttributeOf (Meta X)) X) → pat px (v.Path x) ≡ attr.expr_path px x
+  pub pat-Path : (x : ExprPathOf (AttributeOf (Meta X)) (Path X)) → pat px (v.Path x) ≡ s.by_path px x
   unfolding pat printed
   pat-Path x = ap (pat px) (sym (v.rolls-Path x)) ∙ ap (λ z. z.0) (fold-roll-PatOf (Attr X) (Qual X) X (s.Printed px) (pat_step px) (o.Path x))
 

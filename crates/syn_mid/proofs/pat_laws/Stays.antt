@@ -34,6 +34,7 @@ use Rattle.syn_mid.specs.pat.Normal as n
 use Rattle.syn_mid.specs.pat.Printing as s
 use Rattle.syn_mid.specs.pat.Printing.{tuple_comma}
 use Rattle.syn_mid.specs.ty.Printing.{optional_word}
+use Rattle.syn_mid.specs.path.Paths.{Path}
 use Rattle.syn_mid.specs.path.Printing.{path, expr_style}
 use Rattle.syn_mid.specs.ty.Printing as texts
 use Rattle.token_core.specs.Lits as lits
@@ -56,10 +57,10 @@ module _ {X : Type 0} (nx : Place → X → X) (own : (w : Place) (x : X) → nx
       ap (λ z. const_of z x.const_token x.brace_token (nx Block (nx Block x.body))) (attrs_stay x.attrs)
       ∙ ap (λ z. const_of (n.attrs nx x.attrs) x.const_token x.brace_token z) (own Block x.body)
 
-  macro_stays : (x : ExprMacroOf (AttributeOf (Meta X)) X) → attr.expr_macro nx (attr.expr_macro nx x) ≡ attr.expr_macro nx x
+  macro_stays : (x : ExprMacroOf (AttributeOf (Meta X))) → attr.expr_macro nx (attr.expr_macro nx x) ≡ attr.expr_macro nx x
   macro_stays x = ap (λ z. expr_macro_of z x.mac) (attrs_stay x.attrs)
 
-  path_stays : (x : ExprPathOf (AttributeOf (Meta X)) X) → attr.expr_path nx (attr.expr_path nx x) ≡ attr.expr_path nx x
+  path_stays : (x : ExprPathOf (AttributeOf (Meta X)) (Path X)) → attr.expr_path nx (attr.expr_path nx x) ≡ attr.expr_path nx x
   path_stays x = ap (λ z. expr_path_of z x.path) (attrs_stay x.attrs)
 
   lit_stays : (x : ExprLitOf (AttributeOf (Meta X))) → attr.literal nx (attr.literal nx x) ≡ attr.literal nx x
@@ -220,10 +221,10 @@ module _ {X : Type 0} (nx : Place → X → X) (px : Place → X → Print) (sam
       ap (λ z. z ++ (p.word x.const_token ++ p.group Brace (stream_of_trees (px Block (nx Block x.body))) x.brace_token.span)) (attrs_same x.attrs)
       ∙ ap (λ z. s.attrs px x.attrs ++ (p.word x.const_token ++ p.group Brace (stream_of_trees z) x.brace_token.span)) (same Block x.body)
 
-  macro_same : (x : ExprMacroOf (AttributeOf (Meta X)) X) → expr.expr_macro px (attr.expr_macro nx x) ≡ expr.expr_macro px x
+  macro_same : (x : ExprMacroOf (AttributeOf (Meta X))) → expr.expr_macro px (attr.expr_macro nx x) ≡ expr.expr_macro px x
   macro_same x = ap (λ z. z ++ mac x.mac) (attrs_same x.attrs)
 
-  path_same : (x : ExprPathOf (AttributeOf (Meta X)) X) → expr.expr_path px (attr.expr_path nx x) ≡ expr.expr_path px x
+  path_same : (x : ExprPathOf (AttributeOf (Meta X)) (Path X)) → s.by_path px (attr.expr_path nx x) ≡ s.by_path px x
   path_same x = ap (λ z. z ++ path expr_style x.path) (attrs_same x.attrs)
 
   lit_same : (x : ExprLitOf (AttributeOf (Meta X))) → expr.literal px (attr.literal nx x) ≡ expr.literal px x

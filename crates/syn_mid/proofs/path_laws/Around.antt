@@ -3,11 +3,10 @@ use Rattle.std.proofs.Common.{◌≡◌, ℕ, zero, suc, refl, ap, ◌++◌, min
 use Rattle.token_core.specs.declared.mark.Mark.{Mark}
 use Rattle.token_core.specs.Prints as p
 use Rattle.token_core.specs.Prints.{Print}
-use Rattle.syn_mid.specs.declared.path.Path.{Path}
-use Rattle.syn_mid.specs.declared.path.PathSegment.{PathSegment}
 use Rattle.syn_mid.specs.declared.path.PathStyle.{PathStyle}
 use Rattle.syn_mid.specs.declared.path.QSelfOf.{QSelfOf}
-use Rattle.syn_mid.specs.path.Printing.{closing, around, qualified, qualified_by, path, segment, as_written, as_or_default, colon}
+use Rattle.syn_mid.specs.path.Paths.{Path, PathSegment}
+use Rattle.syn_mid.specs.path.Printing.{arguments, closing, around, qualified, qualified_at, path, segment, as_written, as_or_default, colon}
 
 module _ {X : Type 0} where
   pub past_all : (style : PathStyle) (g : Mark 3 1) (n : ℕ) (s : PathSegment X) → n ≡ 0 → closing style g n s ≡ segment style s
@@ -23,9 +22,9 @@ module _ {X : Type 0} where
 
   module _ {T : Type 0} where
     pub by_none : (style : PathStyle) (q : QSelfOf T) (x : Path X) → min q.position (length x.segments.0) ≡ 0 → qualified style q x ≡ p.mark q.gt_token ++ path style x
-    by_none style q x h = ap (qualified_by style q x) h
+    by_none style q x h = ap (qualified_at arguments style q x) h
 
-    by_count : (style : PathStyle) (q : QSelfOf T) (x : Path X) (n : ℕ) → ¬ (n ≡ 0) → qualified_by style q x n ≡ as_or_default q.as_token ++ (colon x.leading_colon ++ around style q.gt_token n x.segments.0 x.segments.1)
+    by_count : (style : PathStyle) (q : QSelfOf T) (x : Path X) (n : ℕ) → ¬ (n ≡ 0) → qualified_at arguments style q x n ≡ as_or_default q.as_token ++ (colon x.leading_colon ++ around style q.gt_token n x.segments.0 x.segments.1)
     by_count style q x zero h = absurd (h refl)
     by_count style q x (suc n) h = refl
 

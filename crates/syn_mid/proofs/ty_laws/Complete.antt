@@ -26,7 +26,6 @@ use Rattle.token_core.proofs.Steps.{link, chosen, Reads_to}
 use Rattle.token_core.proofs.Took.{at, leaves_none}
 use Rattle.token_core.proofs.WordSpells.{word_complete, word_seen, lifetime_complete, lifetime_seen}
 use Rattle.syn_mid.specs.declared.mac.Macro.{Macro}
-use Rattle.syn_mid.specs.declared.path.Path.{Path}
 use Rattle.syn_mid.specs.declared.supplied.Expr.{Expr}
 use Rattle.syn_mid.specs.declared.supplied.Expr.TheVariants as e
 use Rattle.syn_mid.specs.declared.ty.PointerMutability.{PointerMutability}
@@ -44,6 +43,8 @@ use Rattle.syn_mid.specs.declared.ty.TypeSliceOf.{TypeSliceOf}
 use Rattle.syn_mid.specs.declared.ty.TypeTupleOf.{TypeTupleOf}
 use Rattle.syn_mid.specs.Supplied.{Place, ArrayLen, UsesUp}
 use Rattle.syn_mid.specs.mac.Spelling.{IsCall, a_macro}
+use Rattle.syn_mid.specs.mac.Reading.{call_after}
+use Rattle.syn_mid.specs.path.Paths.{Path, nothing, no_arguments, without}
 use Rattle.syn_mid.specs.path.Reading.{sees_sep, sees_angle}
 use Rattle.syn_mid.specs.path.Spelling.{is_type_word, IsPlainPath}
 use Rattle.syn_mid.specs.ty.Knot.{ahead}
@@ -54,6 +55,7 @@ use Rattle.syn_mid.specs.ty.Spelling.{Relation, IsOptional, absent, present, IsM
 use Rattle.syn_mid.specs.ty.Types.{And, Star, Comma, Semi, Mut, Underscore, array_of, infer_of, macro_type_of, never_of, paren_of, path_type_of, ptr_of, reference_of, slice_of, tuple_of}
 use Rattle.syn_mid.proofs.attr_laws.Complete.{Uses, uses_none}
 use Rattle.syn_mid.proofs.mac_laws.Complete.{call_after_complete, macro_complete}
+use Rattle.syn_mid.proofs.path_laws.Without.{path_without, path_back}
 use Rattle.syn_mid.proofs.path_laws.Complete.{plain_complete}
 use Rattle.syn_mid.proofs.ty_laws.Ahead.{weight, ahead-is}
 use Rattle.syn_mid.proofs.ty_laws.Firsts.{Begins, OnPath, path_first}
@@ -145,10 +147,10 @@ mutability_complete x l r f e sc (a_mut {w = w} i) =
     let k = word_complete w l r f e sc i in
     record { last = k.last; reads = chosen (sees_named 6 l) false _ _ (at l f e sc) _ (no_const w l r i) (chosen (sees_named 13 l) true _ _ (at l f e sc) _ (word_seen w l r i) (link _ k.reads refl)) }
 
-pub infer_complete : (x : TypeInfer) (l r : Toks) (f : Option Span) (e : Span) (sc : Scope) → IsInfer x l r → Reads_to infer x l r f e sc
+pub infer_complete : {X : Type 0} (x : TypeInfer X) (l r : Toks) (f : Option Span) (e : Span) (sc : Scope) → IsInfer x l r → Reads_to infer x l r f e sc
 infer_complete x l r f e sc (an_infer {w = w} i) = let k = word_complete w l r f e sc i in record { last = k.last; reads = link _ k.reads refl }
 
-pub never_complete : (x : TypeNever) (l r : Toks) (f : Option Span) (e : Span) (sc : Scope) → IsNever true x l r → Reads_to never x l r f e sc
+pub never_complete : {X : Type 0} (x : TypeNever X) (l r : Toks) (f : Option Span) (e : Span) (sc : Scope) → IsNever true x l r → Reads_to never x l r f e sc
 never_complete x l r f e sc (a_never {b = b} i) = let k = mark_complete true {n = 0} {k = 1} refl (omega arith) b l r f e sc i in record { last = k.last; reads = link _ k.reads refl }
 
 -- a lifetime that may be there
@@ -192,31 +194,32 @@ no_plus : (plus : Bool) (r : Toks) → Ends plus r → (plus && sees_plus r) ≡
 no_plus true r h = h.open_end refl
 no_plus false r h = refl
 
+pub macro_type_complete : {X : Type 0} (x : TypeMacro X) (l r : Toks) (f : Option Span) (e : Span) (sc : Scope) → IsMacroType true x l r → Reads_to macro_type x l r f e sc
+macro_type_complete x l r f e sc (a_macro_type {x = y} i) = let k = macro_complete y l r f e sc i in record { last = k.last; reads = link _ k.reads refl }
+
 module _ {X : Type 0} where
   pub path_type_complete : (x : TypePathOf (TypeTree X) X) (l r : Toks) (f : Option Span) (e : Span) (sc : Scope) → IsPathType true x l r → sees_sep r ≡ false → sees_angle r ≡ false → Reads_to path_type x l r f e sc
-  path_type_complete x l r f e sc (a_path_type {p = p} i) h g = let k = plain_complete p l r f e sc i h g in record { last = k.last; reads = link _ k.reads refl }
-
-  pub macro_type_complete : (x : TypeMacro X) (l r : Toks) (f : Option Span) (e : Span) (sc : Scope) → IsMacroType true x l r → Reads_to macro_type x l r f e sc
-  macro_type_complete x l r f e sc (a_macro_type {x = y} i) = let k = macro_complete y l r f e sc i in record { last = k.last; reads = link _ k.reads refl }
+  path_type_complete x l r f e sc (a_path_type {p = p} i) h g = let k = plain_complete no_arguments p l r f e sc i h g in record { last = k.last; reads = link _ k.reads refl }
 
   ended_complete : (plus : Bool) (x : TypeTree X) (r : Toks) (f : Option Span) (e : Span) (sc : Scope) → Ends plus r → ended plus x (at r f e sc) ≡ Ok (x, at r f e sc)
   unfolding ended
   ended_complete plus x r f e sc h = chosen (plus && sees_plus r) false _ _ (at r f e sc) _ (no_plus plus r h) refl
 
-  path_complete : (plus : Bool) (p : Path X) (l r : Toks) (f : Option Span) (e : Span) (sc : Scope) → IsPlainPath true p l r → Ends plus r → Reads_to (path_or_macro plus) (t.Path (path_type_of p)) l r f e sc
+  path_complete : (plus : Bool) (p : Path X) (l r : Toks) (f : Option Span) (e : Span) (sc : Scope) → IsPlainPath true no_arguments p l r → Ends plus r → Reads_to (path_or_macro plus) (t.Path (path_type_of p)) l r f e sc
   unfolding path_or_macro
   path_complete plus p l r f e sc i h =
-      let k = plain_complete p l r f e sc i h.sep h.angle in
+      let k = plain_complete no_arguments p l r f e sc i h.sep h.angle in
       record { last = k.last; reads = link _ k.reads (chosen (sees_call r) false _ _ (at r f k.last sc) _ h.call (ended_complete plus (t.Path (path_type_of p)) r f k.last sc h)) }
 
-  call_complete : (plus : Bool) (x : Macro X) (l r : Toks) (f : Option Span) (e : Span) (sc : Scope) → IsCall true is_type_word x l r → Reads_to (path_or_macro plus) (t.Macro (macro_type_of x)) l r f e sc
+  call_complete : (plus : Bool) (x : Macro) (l r : Toks) (f : Option Span) (e : Span) (sc : Scope) → IsCall true is_type_word x l r → Reads_to (path_or_macro {X = X} plus) (t.Macro (macro_type_of x)) l r f e sc
   unfolding path_or_macro
   call_complete plus x l r f e sc (a_macro {p = p} {a = a} {j = j} {e = b} {d = d} {s = g} {c = c} {tokens = tokens} i apart h k) =
       let n = mark (punct 33 j a) (group d g c r) in
-      let w = plain_complete p l n f e sc i (no_sep_bang a j (group d g c r)) (no_angle_bang a j (group d g c r)) in
+      let q : Path X = without no_arguments p in
+      let w = plain_complete no_arguments q l n f e sc (path_without nothing no_arguments p l n i) (no_sep_bang a j (group d g c r)) (no_angle_bang a j (group d g c r)) in
       record {
         last = g.closing;
-        reads = link _ w.reads (chosen (sees_call n) true _ _ (at n f w.last sc) _ (call_seen a j d g c r) (link _ (call_after_complete p a j b d g c r tokens f w.last sc h k) refl));
+        reads = link _ w.reads (chosen (sees_call n) true _ _ (at n f w.last sc) _ (call_seen a j d g c r) (link _ (ap (λ z. call_after z (at n f w.last sc)) (path_back nothing no_arguments p l n i) ∙ call_after_complete p a j b d g c r tokens f w.last sc h k) refl));
       }
 
 -- ---- the steps of a turn, by the first token
@@ -359,35 +362,35 @@ module _ {X : Type 0} (supplied : Place → Reader X) (spells : Place → X → 
     less_inside : (d : Delimiter) (a : DelimSpan) (c r : Toks) (f : Option Span) (e : Span) (sc : Scope) → ahead (at (group d a c r) f e sc) ≤ limit → ahead (content d a c r f e sc) < limit
     less_inside d a c r f e sc h = let g = content_ahead d groups.paren_name a c r f e sc in omega (arith, h, g)
 
-    pub array_complete : (x : TypeArrayOf (TypeTree X) (Expr X)) (l r : Toks) (f : Option Span) (e : Span) (sc : Scope) → ahead (at l f e sc) ≤ limit → IsArray spells true T x l r → Reads_to (reading.array supplied typ) x l r f e sc
+    pub array_complete : (x : TypeArrayOf (TypeTree X) X) (l r : Toks) (f : Option Span) (e : Span) (sc : Scope) → ahead (at l f e sc) ≤ limit → IsArray spells true T x l r → Reads_to (reading.array supplied typ) x l r f e sc
     unfolding reading.array
     array_complete x l r f a sc h (an_array {s = b} {x = y} {q = q} {n = n} {c = c} {m = m} {k = k} i j g) =
         let z = content Bracket b c r f a sc in
         let u = array_content_complete y q n c m k None none z.scope (less_inside Bracket b c r f a sc h) i j g in
         record { last = b.closing; reads = link _ (reads_inside Bracket groups.bracket_name (array_content supplied typ) (y, (q, e.Other n)) b c r u.0 f a sc u.1 (uses_none z u.0 refl u.2)) refl }
 
-    pub slice_complete : (x : TypeSliceOf (TypeTree X)) (l r : Toks) (f : Option Span) (e : Span) (sc : Scope) → ahead (at l f e sc) ≤ limit → IsSlice spells true T x l r → Reads_to (reading.slice supplied typ) x l r f e sc
+    pub slice_complete : (x : TypeSliceOf (TypeTree X) X) (l r : Toks) (f : Option Span) (e : Span) (sc : Scope) → ahead (at l f e sc) ≤ limit → IsSlice spells true T x l r → Reads_to (reading.slice supplied typ) x l r f e sc
     unfolding reading.slice
     slice_complete x l r f e sc h (a_slice {s = b} {x = y} {c = c} i) =
         let z = content Bracket b c r f e sc in
         let u = c_typ true y c done None none z.scope (less_inside Bracket b c r f e sc h) i (ends_done true) in
         record { last = b.closing; reads = link _ (reads_inside Bracket groups.bracket_name (typ true) y b c r (at done None u.last z.scope) f e sc u.reads (leaves_none None u.last z.scope refl)) refl }
 
-    pub paren_complete : (x : TypeParenOf (TypeTree X)) (l r : Toks) (f : Option Span) (e : Span) (sc : Scope) → ahead (at l f e sc) ≤ limit → IsParen spells true T false x l r → Reads_to (reading.paren supplied typ) x l r f e sc
+    pub paren_complete : (x : TypeParenOf (TypeTree X) X) (l r : Toks) (f : Option Span) (e : Span) (sc : Scope) → ahead (at l f e sc) ≤ limit → IsParen spells true T false x l r → Reads_to (reading.paren supplied typ) x l r f e sc
     unfolding reading.paren
     paren_complete x l r f e sc h (a_paren {s = b} {x = y} {c = c} i) =
         let z = content Parenthesis b c r f e sc in
         let u = c_typ false y c done None none z.scope (less_inside Parenthesis b c r f e sc h) i (ends_done false) in
         record { last = b.closing; reads = link _ (reads_inside Parenthesis groups.paren_name (typ false) y b c r (at done None u.last z.scope) f e sc u.reads (leaves_none None u.last z.scope refl)) refl }
 
-    pub tuple_complete : (x : TypeTupleOf (TypeTree X)) (l r : Toks) (f : Option Span) (e : Span) (sc : Scope) → ahead (at l f e sc) ≤ limit → IsTuple spells true T x l r → Reads_to (reading.tuple supplied typ) x l r f e sc
+    pub tuple_complete : (x : TypeTupleOf (TypeTree X) X) (l r : Toks) (f : Option Span) (e : Span) (sc : Scope) → ahead (at l f e sc) ≤ limit → IsTuple spells true T x l r → Reads_to (reading.tuple supplied typ) x l r f e sc
     unfolding reading.tuple
     tuple_complete x l r f e sc h (a_tuple {s = b} {xs = xs} {cs = cs} {c = c} i) =
         let z = content Parenthesis b c r f e sc in
         let u = tuple_content_complete xs cs c None none z.scope (less_inside Parenthesis b c r f e sc h) i in
         record { last = b.closing; reads = link _ (reads_inside Parenthesis groups.paren_name (tuple_content supplied typ) (xs, cs) b c r (at done None u.last z.scope) f e sc u.reads (leaves_none None u.last z.scope refl)) refl }
 
-    pub ptr_complete : (x : TypePtrOf (TypeTree X)) (l r : Toks) (f : Option Span) (e : Span) (sc : Scope) → ahead (at l f e sc) ≤ limit → IsPtr spells true T x l r → Ends false r → Reads_to (reading.ptr supplied typ) x l r f e sc
+    pub ptr_complete : (x : TypePtrOf (TypeTree X) X) (l r : Toks) (f : Option Span) (e : Span) (sc : Scope) → ahead (at l f e sc) ≤ limit → IsPtr spells true T x l r → Ends false r → Reads_to (reading.ptr supplied typ) x l r f e sc
     unfolding reading.ptr
     ptr_complete x l r f e sc h (a_ptr {s = b} {q = q} {x = y} {m = m} {k = k} i j g) o =
         let w = mark_complete true {n = 26} {k = 1} refl (omega arith) b l m f e sc i in
@@ -397,7 +400,7 @@ module _ {X : Type 0} (supplied : Place → Reader X) (spells : Place → X → 
         let v = c_typ false y k r f u.last sc (later l k f f e u.last sc limit (omega (arith, less, le)) h) g o in
         record { last = v.last; reads = link _ w.reads (link _ u.reads (link _ v.reads refl)) }
 
-    pub reference_complete : (x : TypeReferenceOf (TypeTree X)) (l r : Toks) (f : Option Span) (e : Span) (sc : Scope) → ahead (at l f e sc) ≤ limit → IsReference spells true T x l r → Ends false r →
+    pub reference_complete : (x : TypeReferenceOf (TypeTree X) X) (l r : Toks) (f : Option Span) (e : Span) (sc : Scope) → ahead (at l f e sc) ≤ limit → IsReference spells true T x l r → Ends false r →
         Reads_to (reading.reference supplied typ) x l r f e sc
     unfolding reading.reference
     reference_complete x l r f e sc h (a_reference {a = b} {o = life} {q = q} {x = y} {m = m} {n = n} {k = k} i j p g) o =
@@ -413,21 +416,21 @@ module _ {X : Type 0} (supplied : Place → Reader X) (spells : Place → X → 
 
     -- ---- a type
 
-    held_array : (x : TypeArrayOf (TypeTree X) (Expr X)) (l r : Toks) (f : Option Span) (e : Span) (sc : Scope) → ahead (at l f e sc) ≤ limit → IsArray spells true T x l r → Reads_to (slice_or_array supplied typ) (t.Array x) l r f e sc
+    held_array : (x : TypeArrayOf (TypeTree X) X) (l r : Toks) (f : Option Span) (e : Span) (sc : Scope) → ahead (at l f e sc) ≤ limit → IsArray spells true T x l r → Reads_to (slice_or_array supplied typ) (t.Array x) l r f e sc
     unfolding slice_or_array
     held_array x l r f a sc h (an_array {s = b} {x = y} {q = q} {n = n} {c = c} {m = m} {k = k} i j g) =
         let z = content Bracket b c r f a sc in
         let u = brackets_counted y q n c m k None none z.scope (less_inside Bracket b c r f a sc h) i j g in
         record { last = b.closing; reads = link _ (reads_inside Bracket groups.bracket_name (bracket_content supplied typ) (counted y (q, e.Other n)) b c r u.0 f a sc u.1 (uses_none z u.0 refl u.2)) refl }
 
-    held_slice : (x : TypeSliceOf (TypeTree X)) (l r : Toks) (f : Option Span) (e : Span) (sc : Scope) → ahead (at l f e sc) ≤ limit → IsSlice spells true T x l r → Reads_to (slice_or_array supplied typ) (t.Slice x) l r f e sc
+    held_slice : (x : TypeSliceOf (TypeTree X) X) (l r : Toks) (f : Option Span) (e : Span) (sc : Scope) → ahead (at l f e sc) ≤ limit → IsSlice spells true T x l r → Reads_to (slice_or_array supplied typ) (t.Slice x) l r f e sc
     unfolding slice_or_array
     held_slice x l r f e sc h (a_slice {s = b} {x = y} {c = c} i) =
         let z = content Bracket b c r f e sc in
         let u = brackets_one y c None none z.scope (less_inside Bracket b c r f e sc h) i in
         record { last = b.closing; reads = link _ (reads_inside Bracket groups.bracket_name (bracket_content supplied typ) (element y) b c r (at done None u.last z.scope) f e sc u.reads (leaves_none None u.last z.scope refl)) refl }
 
-    held_paren : (plus : Bool) (x : TypeParenOf (TypeTree X)) (l r : Toks) (f : Option Span) (e : Span) (sc : Scope) → ahead (at l f e sc) ≤ limit → IsParen spells true T true x l r → Ends plus r →
+    held_paren : (plus : Bool) (x : TypeParenOf (TypeTree X) X) (l r : Toks) (f : Option Span) (e : Span) (sc : Scope) → ahead (at l f e sc) ≤ limit → IsParen spells true T true x l r → Ends plus r →
         Reads_to (paren_or_tuple supplied typ plus) (t.Paren x) l r f e sc
     unfolding paren_or_tuple
     held_paren plus x l r f e sc h (a_paren {s = b} {x = y} {c = c} i) o =
@@ -439,7 +442,7 @@ module _ {X : Type 0} (supplied : Place → Reader X) (spells : Place → X → 
               (ended_complete plus (t.Paren (paren_of (groups.paren b) y)) r f b.closing sc o);
         }
 
-    held_tuple : (plus : Bool) (x : TypeTupleOf (TypeTree X)) (l r : Toks) (f : Option Span) (e : Span) (sc : Scope) → ahead (at l f e sc) ≤ limit → IsTuple spells true T x l r → Reads_to (paren_or_tuple supplied typ plus) (t.Tuple x) l r f e sc
+    held_tuple : (plus : Bool) (x : TypeTupleOf (TypeTree X) X) (l r : Toks) (f : Option Span) (e : Span) (sc : Scope) → ahead (at l f e sc) ≤ limit → IsTuple spells true T x l r → Reads_to (paren_or_tuple supplied typ plus) (t.Tuple x) l r f e sc
     unfolding paren_or_tuple
     held_tuple plus x l r f e sc h (a_tuple {s = b} {xs = xs} {cs = cs} {c = c} i) =
         let z = content Parenthesis b c r f e sc in
@@ -454,7 +457,7 @@ module _ {X : Type 0} (supplied : Place → Reader X) (spells : Place → X → 
         let k = infer_complete (infer_of w) l r f e sc (an_infer i) in
         record { last = k.last; reads = step_infer supplied typ plus w l r f e sc i ∙ link _ k.reads refl }
     type_complete plus x l r f e sc h (s.macro_call {x = y} (a_macro {p = p} i apart d w) g) o =
-        let k = call_complete plus y l r f e sc (a_macro i apart d w) in
+        let k = call_complete {X = X} plus y l r f e sc (a_macro i apart d w) in
         record { last = k.last; reads = step_path supplied typ plus l f e sc (path_first true p l _ i g) ∙ k.reads }
     type_complete plus x l r f e sc h (s.never (a_never {b = b} i)) o =
         let k = never_complete (never_of b) l r f e sc (a_never i) in

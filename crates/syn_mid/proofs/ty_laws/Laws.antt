@@ -76,21 +76,21 @@ mutability_lawful = lawful_by (λ clear. IsMutability) (λ (z : PointerMutabilit
 pub mutability_front : (s t : Stream) (q : Result (PointerMutability) Refusal) → Reads (reading.mutability s) q t → Visible s.rest → IfOk q (λ x. IsMutability x s.rest t.rest)
 mutability_front = taken_front {Is = IsMutability} reading.mutability sound_parts.mutability_sound
 
-pub infer_lawful : Lawful grammars.infer
-infer_lawful = lawful_by (λ clear. IsInfer) (λ (z : TypeInfer). z) printing.infer reading.infer (λ s t a v e. plainly {Is = IsInfer} sound_parts.visible_infer s t a v (sound_parts.infer_sound s t a v e)) (λ s a h. complete_parts.infer_complete a s.rest done s.left s.last s.scope h) reprint_parts.infer_again
+pub infer_lawful : {X : Type 0} (nx : Place → X → X) (px : Place → X → Print) → Lawful (grammars.infer nx px)
+infer_lawful nx px = lawful_by (λ clear. IsInfer) (normal.infer nx) (printing.infer px) reading.infer (λ s t a v e. plainly {Is = IsInfer} sound_parts.visible_infer s t a v (sound_parts.infer_sound s t a v e)) (λ s a h. complete_parts.infer_complete a s.rest done s.left s.last s.scope h) (reprint_parts.infer_again nx px)
 
-pub infer_front : (s t : Stream) (q : Result (TypeInfer) Refusal) → Reads (reading.infer s) q t → Visible s.rest → IfOk q (λ x. IsInfer x s.rest t.rest)
+pub infer_front : {X : Type 0} (s t : Stream) (q : Result (TypeInfer X) Refusal) → Reads (reading.infer s) q t → Visible s.rest → IfOk q (λ x. IsInfer x s.rest t.rest)
 infer_front = taken_front {Is = IsInfer} reading.infer sound_parts.infer_sound
 
-pub never_lawful : Lawful grammars.never
-never_lawful = lawful_by (IsNever) (λ (z : TypeNever). z) printing.never reading.never (λ s t a v e. plainly {Is = IsNever false} sound_parts.visible_never s t a v (sound_parts.never_sound s t a v e)) (λ s a h. complete_parts.never_complete a s.rest done s.left s.last s.scope h) reprint_parts.never_again
+pub never_lawful : {X : Type 0} (nx : Place → X → X) (px : Place → X → Print) → Lawful (grammars.never nx px)
+never_lawful nx px = lawful_by (λ clear. IsNever clear) (normal.never nx) (printing.never px) reading.never (λ s t a v e. plainly {Is = IsNever false} sound_parts.visible_never s t a v (sound_parts.never_sound s t a v e)) (λ s a h. complete_parts.never_complete a s.rest done s.left s.last s.scope h) (reprint_parts.never_again nx px)
 
-pub never_front : (s t : Stream) (q : Result (TypeNever) Refusal) → Reads (reading.never s) q t → Visible s.rest → IfOk q (λ x. IsNever false x s.rest t.rest)
+pub never_front : {X : Type 0} (s t : Stream) (q : Result (TypeNever X) Refusal) → Reads (reading.never s) q t → Visible s.rest → IfOk q (λ x. IsNever false x s.rest t.rest)
 never_front = taken_front {Is = IsNever false} reading.never sound_parts.never_sound
 
 module _ {X : Type 0} where
-  pub macro_type_lawful : Lawful (grammars.macro_type {X = X})
-  macro_type_lawful = lawful_by (λ clear. IsMacroType clear) (λ (z : TypeMacro X). z) printing.macro_type reading.macro_type (λ s t a v e. plainly {Is = IsMacroType false} sound_parts.visible_macro_type s t a v (sound_parts.macro_type_sound s t a v e)) (λ s a h. complete_parts.macro_type_complete a s.rest done s.left s.last s.scope h) reprint_parts.macro_type_again
+  pub macro_type_lawful : (nx : Place → X → X) (px : Place → X → Print) → Lawful (grammars.macro_type nx px)
+  macro_type_lawful nx px = lawful_by (λ clear. IsMacroType clear) (normal.macro_type nx) (printing.macro_type px) reading.macro_type (λ s t a v e. plainly {Is = IsMacroType false} sound_parts.visible_macro_type s t a v (sound_parts.macro_type_sound s t a v e)) (λ s a h. complete_parts.macro_type_complete a s.rest done s.left s.last s.scope h) (reprint_parts.macro_type_again nx px)
 
   pub macro_type_front : (s t : Stream) (q : Result (TypeMacro X) Refusal) → Reads (reading.macro_type s) q t → Visible s.rest → IfOk q (λ x. IsMacroType false x s.rest t.rest)
   macro_type_front = taken_front {Is = IsMacroType false} reading.macro_type sound_parts.macro_type_sound
@@ -125,40 +125,40 @@ module _ {X : Type 0} (reads : Place → Reader X) (spells : Place → X → Tok
   array_lawful = lawful_by (IsSomeArray spells) (normal.array normals) (printing.array prints) (knot.array reads) (o.array_sound reads spells sound complete)
       (λ s a h. c.array_complete reads spells complete a s.rest done s.left s.last s.scope h) (r.array_again reads spells normals prints complete reprint)
 
-  pub array_front : (s t : Stream) (q : Result (TypeArrayOf (TypeTree X) (Expr X)) Refusal) → Reads (knot.array reads s) q t → Visible s.rest → t.left ≡ None → IfOk q (λ x. IsSomeArray spells false x s.rest t.rest)
+  pub array_front : (s t : Stream) (q : Result (TypeArrayOf (TypeTree X) X) Refusal) → Reads (knot.array reads s) q t → Visible s.rest → t.left ≡ None → IfOk q (λ x. IsSomeArray spells false x s.rest t.rest)
   array_front = front_by (IsSomeArray spells) (normal.array normals) (printing.array prints) (knot.array reads) (o.array_sound reads spells sound complete)
 
   pub paren_lawful : Lawful (grammars.paren reads spells normals prints)
   paren_lawful = lawful_by (IsSomeParen spells) (normal.paren normals) (printing.paren prints) (knot.paren reads) (o.paren_sound reads spells sound complete)
       (λ s a h. c.paren_complete reads spells complete a s.rest done s.left s.last s.scope h) (r.paren_again reads spells normals prints complete reprint)
 
-  pub paren_front : (s t : Stream) (q : Result (TypeParenOf (TypeTree X)) Refusal) → Reads (knot.paren reads s) q t → Visible s.rest → t.left ≡ None → IfOk q (λ x. IsSomeParen spells false x s.rest t.rest)
+  pub paren_front : (s t : Stream) (q : Result (TypeParenOf (TypeTree X) X) Refusal) → Reads (knot.paren reads s) q t → Visible s.rest → t.left ≡ None → IfOk q (λ x. IsSomeParen spells false x s.rest t.rest)
   paren_front = front_by (IsSomeParen spells) (normal.paren normals) (printing.paren prints) (knot.paren reads) (o.paren_sound reads spells sound complete)
 
   pub ptr_lawful : Lawful (grammars.ptr reads spells normals prints)
   ptr_lawful = lawful_by (IsSomePtr spells) (normal.ptr normals) (printing.ptr prints) (knot.ptr reads) (o.ptr_sound reads spells sound complete)
       (λ s a h. c.ptr_complete reads spells complete a s.rest done s.left s.last s.scope h (ends_done false)) (r.ptr_again reads spells normals prints complete reprint)
 
-  pub ptr_front : (s t : Stream) (q : Result (TypePtrOf (TypeTree X)) Refusal) → Reads (knot.ptr reads s) q t → Visible s.rest → t.left ≡ None → IfOk q (λ x. IsSomePtr spells false x s.rest t.rest)
+  pub ptr_front : (s t : Stream) (q : Result (TypePtrOf (TypeTree X) X) Refusal) → Reads (knot.ptr reads s) q t → Visible s.rest → t.left ≡ None → IfOk q (λ x. IsSomePtr spells false x s.rest t.rest)
   ptr_front = front_by (IsSomePtr spells) (normal.ptr normals) (printing.ptr prints) (knot.ptr reads) (o.ptr_sound reads spells sound complete)
 
   pub reference_lawful : Lawful (grammars.reference reads spells normals prints)
   reference_lawful = lawful_by (IsSomeReference spells) (normal.reference normals) (printing.reference prints) (knot.reference reads) (o.reference_sound reads spells sound complete)
       (λ s a h. c.reference_complete reads spells complete a s.rest done s.left s.last s.scope h (ends_done false)) (r.reference_again reads spells normals prints complete reprint)
 
-  pub reference_front : (s t : Stream) (q : Result (TypeReferenceOf (TypeTree X)) Refusal) → Reads (knot.reference reads s) q t → Visible s.rest → t.left ≡ None → IfOk q (λ x. IsSomeReference spells false x s.rest t.rest)
+  pub reference_front : (s t : Stream) (q : Result (TypeReferenceOf (TypeTree X) X) Refusal) → Reads (knot.reference reads s) q t → Visible s.rest → t.left ≡ None → IfOk q (λ x. IsSomeReference spells false x s.rest t.rest)
   reference_front = front_by (IsSomeReference spells) (normal.reference normals) (printing.reference prints) (knot.reference reads) (o.reference_sound reads spells sound complete)
 
   pub slice_lawful : Lawful (grammars.slice reads spells normals prints)
   slice_lawful = lawful_by (IsSomeSlice spells) (normal.slice normals) (printing.slice prints) (knot.slice reads) (o.slice_sound reads spells sound complete)
       (λ s a h. c.slice_complete reads spells complete a s.rest done s.left s.last s.scope h) (r.slice_again reads spells normals prints complete reprint)
 
-  pub slice_front : (s t : Stream) (q : Result (TypeSliceOf (TypeTree X)) Refusal) → Reads (knot.slice reads s) q t → Visible s.rest → t.left ≡ None → IfOk q (λ x. IsSomeSlice spells false x s.rest t.rest)
+  pub slice_front : (s t : Stream) (q : Result (TypeSliceOf (TypeTree X) X) Refusal) → Reads (knot.slice reads s) q t → Visible s.rest → t.left ≡ None → IfOk q (λ x. IsSomeSlice spells false x s.rest t.rest)
   slice_front = front_by (IsSomeSlice spells) (normal.slice normals) (printing.slice prints) (knot.slice reads) (o.slice_sound reads spells sound complete)
 
   pub tuple_lawful : Lawful (grammars.tuple reads spells normals prints)
   tuple_lawful = lawful_by (IsSomeTuple spells) (normal.tuple normals) (printing.tuple prints) (knot.tuple reads) (o.tuple_sound reads spells sound complete)
       (λ s a h. c.tuple_complete reads spells complete a s.rest done s.left s.last s.scope h) (r.tuple_again reads spells normals prints complete reprint)
 
-  pub tuple_front : (s t : Stream) (q : Result (TypeTupleOf (TypeTree X)) Refusal) → Reads (knot.tuple reads s) q t → Visible s.rest → t.left ≡ None → IfOk q (λ x. IsSomeTuple spells false x s.rest t.rest)
+  pub tuple_front : (s t : Stream) (q : Result (TypeTupleOf (TypeTree X) X) Refusal) → Reads (knot.tuple reads s) q t → Visible s.rest → t.left ≡ None → IfOk q (λ x. IsSomeTuple spells false x s.rest t.rest)
   tuple_front = front_by (IsSomeTuple spells) (normal.tuple normals) (printing.tuple prints) (knot.tuple reads) (o.tuple_sound reads spells sound complete)

@@ -20,7 +20,7 @@ use Rattle.syn_mid.specs.declared.generics.TraitBoundOf.{TraitBoundOf}
 use Rattle.syn_mid.specs.declared.generics.TypeParam.{TypeParam, roll-TypeParam, map-TypeParam, out-TypeParam, roll-out-TypeParam}
 use Rattle.syn_mid.specs.declared.generics.TypeParamBound.{TypeParamBound, roll-TypeParamBound, map-TypeParamBound}
 use Rattle.syn_mid.specs.declared.generics.TypeParamBound.TheVariants as b
-use Rattle.syn_mid.specs.declared.path.Path.{Path}
+use Rattle.syn_mid.specs.path.Paths.{Path}
 use Rattle.syn_mid.specs.declared.path.QSelfOf.{QSelfOf}
 use Rattle.syn_mid.specs.declared.supplied.Expr.{Expr}
 use Rattle.syn_mid.specs.declared.ty.Abi.{Abi}
@@ -49,7 +49,7 @@ use Rattle.syn_mid.specs.generics.NormalShapes.{colon, capture, many, binder_by,
 use Rattle.syn_mid.specs.generics.Params.{Attrs, Colon, Eq, is_lifetime, is_lifetime_layer, bound_lifetimes_of, trait_bound_of, type_param_of}
 use Rattle.syn_mid.specs.ty.Normal as normal
 use Rattle.syn_mid.specs.ty.Normal.{ty, fn_ptr, param, type_param, bound, ty_step, fn_ptr_step, param_step, type_param_step, bound_step}
-use Rattle.syn_mid.specs.ty.Types.{Comma, Plus, fn_ptr_of, named_arg_of, qualified_of}
+use Rattle.syn_mid.specs.ty.Types.{Comma, Plus, fn_ptr_with, named_arg_of, qualified_with}
 
 -- the colon stays where the bounds are as many
 pub colon_map : {A B : Type 0} (f : A → B) (c : Option Colon) (l : List A) → colon c (map f l) ≡ colon c l
@@ -77,50 +77,50 @@ module _ {X : Type 0} (nx : Place → X → X) where
   unfolding ty param bound type_param fn_ptr
   by_fn_ptr y = fold-roll-TypeFnPtr X (GenericParam X) (TypeParamBound X) (TypeTree X) (TypeParam X) (TypeFnPtr X) (param_step nx) (bound_step nx) (ty_step nx) (type_param_step nx) (fn_ptr_step nx) y
 
-  pub normal-Array : (x : TypeArrayOf (TypeTree X) (Expr X)) → ty nx (v.Array x) ≡ v.Array (normal.array nx x)
+  pub normal-Array : (x : TypeArrayOf (TypeTree X) X) → ty nx (v.Array x) ≡ v.Array (normal.array nx x)
   normal-Array x = ap (ty nx) (sym (v.rolls-Array x)) ∙ by_ty (o.Array x)
 
   pub normal-FnPtr : (x : TypeFnPtr X) → ty nx (v.FnPtr x) ≡ v.FnPtr (fn_ptr nx x)
   normal-FnPtr x = ap (ty nx) (sym (v.rolls-FnPtr x)) ∙ by_ty (o.FnPtr x)
 
-  pub normal-Group : (x : TypeGroupOf (TypeTree X)) → ty nx (v.Group x) ≡ v.Group (normal.group nx x)
+  pub normal-Group : (x : TypeGroupOf (TypeTree X) X) → ty nx (v.Group x) ≡ v.Group (normal.group nx x)
   normal-Group x = ap (ty nx) (sym (v.rolls-Group x)) ∙ by_ty (o.Group x)
 
-  pub normal-ImplTrait : (x : TypeImplTraitOf (TypeParamBound X)) → ty nx (v.ImplTrait x) ≡ v.ImplTrait (normal.impl_trait nx x)
+  pub normal-ImplTrait : (x : TypeImplTraitOf (TypeParamBound X) X) → ty nx (v.ImplTrait x) ≡ v.ImplTrait (normal.impl_trait nx x)
   normal-ImplTrait x = ap (ty nx) (sym (v.rolls-ImplTrait x)) ∙ by_ty (o.ImplTrait x)
 
-  pub normal-Infer : (x : TypeInfer) → ty nx (v.Infer x) ≡ v.Infer x
+  pub normal-Infer : (x : TypeInfer X) → ty nx (v.Infer x) ≡ v.Infer (normal.infer nx x)
   normal-Infer x = ap (ty nx) (sym (v.rolls-Infer x)) ∙ by_ty (o.Infer x)
 
-  pub normal-Macro : (x : TypeMacro X) → ty nx (v.Macro x) ≡ v.Macro x
+  pub normal-Macro : (x : TypeMacro X) → ty nx (v.Macro x) ≡ v.Macro (normal.macro_type nx x)
   normal-Macro x = ap (ty nx) (sym (v.rolls-Macro x)) ∙ by_ty (o.Macro x)
 
-  pub normal-Never : (x : TypeNever) → ty nx (v.Never x) ≡ v.Never x
+  pub normal-Never : (x : TypeNever X) → ty nx (v.Never x) ≡ v.Never (normal.never nx x)
   normal-Never x = ap (ty nx) (sym (v.rolls-Never x)) ∙ by_ty (o.Never x)
 
-  pub normal-Paren : (x : TypeParenOf (TypeTree X)) → ty nx (v.Paren x) ≡ v.Paren (normal.paren nx x)
+  pub normal-Paren : (x : TypeParenOf (TypeTree X) X) → ty nx (v.Paren x) ≡ v.Paren (normal.paren nx x)
   normal-Paren x = ap (ty nx) (sym (v.rolls-Paren x)) ∙ by_ty (o.Paren x)
 
-  path_by_self : (q : Option (QSelfOf (TypeTree X))) (z : Path X) → ty nx (v.Path (qualified_of q z)) ≡ v.Path (normal.path_type nx (qualified_of q z))
-  path_by_self None z = ap (ty nx) (sym (v.rolls-Path (qualified_of None z))) ∙ by_ty (o.Path (qualified_of None z))
-  path_by_self (Some q) z = ap (ty nx) (sym (v.rolls-Path (qualified_of (Some q) z))) ∙ by_ty (o.Path (qualified_of (Some q) z))
+  path_by_self : (a : Attrs X) (q : Option (QSelfOf (TypeTree X))) (z : Path X) → ty nx (v.Path (qualified_with a q z)) ≡ v.Path (normal.path_type nx (qualified_with a q z))
+  path_by_self a None z = ap (ty nx) (sym (v.rolls-Path (qualified_with a None z))) ∙ by_ty (o.Path (qualified_with a None z))
+  path_by_self a (Some q) z = ap (ty nx) (sym (v.rolls-Path (qualified_with a (Some q) z))) ∙ by_ty (o.Path (qualified_with a (Some q) z))
 
   pub normal-Path : (x : TypePathOf (TypeTree X) X) → ty nx (v.Path x) ≡ v.Path (normal.path_type nx x)
-  normal-Path x = path_by_self x.qself x.path
+  normal-Path x = path_by_self x.attrs x.qself x.path
 
-  pub normal-Ptr : (x : TypePtrOf (TypeTree X)) → ty nx (v.Ptr x) ≡ v.Ptr (normal.ptr nx x)
+  pub normal-Ptr : (x : TypePtrOf (TypeTree X) X) → ty nx (v.Ptr x) ≡ v.Ptr (normal.ptr nx x)
   normal-Ptr x = ap (ty nx) (sym (v.rolls-Ptr x)) ∙ by_ty (o.Ptr x)
 
-  pub normal-Reference : (x : TypeReferenceOf (TypeTree X)) → ty nx (v.Reference x) ≡ v.Reference (normal.reference nx x)
+  pub normal-Reference : (x : TypeReferenceOf (TypeTree X) X) → ty nx (v.Reference x) ≡ v.Reference (normal.reference nx x)
   normal-Reference x = ap (ty nx) (sym (v.rolls-Reference x)) ∙ by_ty (o.Reference x)
 
-  pub normal-Slice : (x : TypeSliceOf (TypeTree X)) → ty nx (v.Slice x) ≡ v.Slice (normal.slice nx x)
+  pub normal-Slice : (x : TypeSliceOf (TypeTree X) X) → ty nx (v.Slice x) ≡ v.Slice (normal.slice nx x)
   normal-Slice x = ap (ty nx) (sym (v.rolls-Slice x)) ∙ by_ty (o.Slice x)
 
-  pub normal-TraitObject : (x : TypeTraitObjectOf (TypeParamBound X)) → ty nx (v.TraitObject x) ≡ v.TraitObject (normal.trait_object nx x)
+  pub normal-TraitObject : (x : TypeTraitObjectOf (TypeParamBound X) X) → ty nx (v.TraitObject x) ≡ v.TraitObject (normal.trait_object nx x)
   normal-TraitObject x = ap (ty nx) (sym (v.rolls-TraitObject x)) ∙ by_ty (o.TraitObject x)
 
-  pub normal-Tuple : (x : TypeTupleOf (TypeTree X)) → ty nx (v.Tuple x) ≡ v.Tuple (normal.tuple nx x)
+  pub normal-Tuple : (x : TypeTupleOf (TypeTree X) X) → ty nx (v.Tuple x) ≡ v.Tuple (normal.tuple nx x)
   normal-Tuple x = ap (ty nx) (sym (v.rolls-Tuple x)) ∙ by_ty (o.Tuple x)
 
   pub normal-Verbatim : (x : TokenStream) → ty nx (v.Verbatim x) ≡ v.Verbatim x
@@ -188,20 +188,20 @@ module _ {X : Type 0} (nx : Place → X → X) where
   args_mapped [] = refl
   args_mapped (x ∷ l) = ap (λ z. normal.named_arg nx x ∷ z) (args_mapped l)
 
-  pub fn_ptr_normal : (l : Option (BoundLifetimesOf (GenericParam X))) (u : Option (Word 16)) (a : Option Abi) (w : Word 9) (t : Paren) (k : Many (NamedArgOf (TypeTree X) X) Comma)
+  pub fn_ptr_normal : (b : Attrs X) (l : Option (BoundLifetimesOf (GenericParam X))) (u : Option (Word 16)) (a : Option Abi) (w : Word 9) (t : Paren) (k : Many (NamedArgOf (TypeTree X) X) Comma)
       (m : Option (FnPtrVariadic X)) (q : ReturnTypeOf (TypeTree X))
-      → fn_ptr nx (fn_ptr_of l u a w t k m q) ≡ fn_ptr_of (binder_by (param nx) l) u a w t (many (normal.named_arg nx) k) (normal.optional_variadic nx m) (normal.return_type nx q)
-  fn_ptr_normal None u a w t k m r.Default =
-      by_fn_ptr (record { lifetimes = None; unsafety = u; abi = a; fn_token = w; paren_token = t; inputs = k; variadic = m; output = r.Default })
-      ∙ ap (λ z. fn_ptr_of (binder_by (param nx) None) u a w t (z, k.1) (normal.optional_variadic nx m) (normal.return_type nx r.Default)) (args_mapped k.0)
-  fn_ptr_normal None u a w t k m (r.«Type» h x) =
-      by_fn_ptr (record { lifetimes = None; unsafety = u; abi = a; fn_token = w; paren_token = t; inputs = k; variadic = m; output = r.«Type» h x })
-      ∙ ap (λ z. fn_ptr_of (binder_by (param nx) None) u a w t (z, k.1) (normal.optional_variadic nx m) (normal.return_type nx (r.«Type» h x))) (args_mapped k.0)
-  fn_ptr_normal (Some l) u a w t k m r.Default =
-      by_fn_ptr (record { lifetimes = Some l; unsafety = u; abi = a; fn_token = w; paren_token = t; inputs = k; variadic = m; output = r.Default })
-      ∙ ap (λ z. fn_ptr_of (binder_by (param nx) (Some l)) u a w t (z, k.1) (normal.optional_variadic nx m) (normal.return_type nx r.Default)) (args_mapped k.0)
-  fn_ptr_normal (Some l) u a w t k m (r.«Type» h x) =
-      by_fn_ptr (record { lifetimes = Some l; unsafety = u; abi = a; fn_token = w; paren_token = t; inputs = k; variadic = m; output = r.«Type» h x })
-      ∙ ap (λ z. fn_ptr_of (binder_by (param nx) (Some l)) u a w t (z, k.1) (normal.optional_variadic nx m) (normal.return_type nx (r.«Type» h x))) (args_mapped k.0)
+      → fn_ptr nx (fn_ptr_with b l u a w t k m q) ≡ fn_ptr_with (attrs nx b) (binder_by (param nx) l) u a w t (many (normal.named_arg nx) k) (normal.optional_variadic nx m) (normal.return_type nx q)
+  fn_ptr_normal b None u a w t k m r.Default =
+      by_fn_ptr (record { attrs = b; lifetimes = None; unsafety = u; abi = a; fn_token = w; paren_token = t; inputs = k; variadic = m; output = r.Default })
+      ∙ ap (λ z. fn_ptr_with (attrs nx b) (binder_by (param nx) None) u a w t (z, k.1) (normal.optional_variadic nx m) (normal.return_type nx r.Default)) (args_mapped k.0)
+  fn_ptr_normal b None u a w t k m (r.«Type» h x) =
+      by_fn_ptr (record { attrs = b; lifetimes = None; unsafety = u; abi = a; fn_token = w; paren_token = t; inputs = k; variadic = m; output = r.«Type» h x })
+      ∙ ap (λ z. fn_ptr_with (attrs nx b) (binder_by (param nx) None) u a w t (z, k.1) (normal.optional_variadic nx m) (normal.return_type nx (r.«Type» h x))) (args_mapped k.0)
+  fn_ptr_normal b (Some l) u a w t k m r.Default =
+      by_fn_ptr (record { attrs = b; lifetimes = Some l; unsafety = u; abi = a; fn_token = w; paren_token = t; inputs = k; variadic = m; output = r.Default })
+      ∙ ap (λ z. fn_ptr_with (attrs nx b) (binder_by (param nx) (Some l)) u a w t (z, k.1) (normal.optional_variadic nx m) (normal.return_type nx r.Default)) (args_mapped k.0)
+  fn_ptr_normal b (Some l) u a w t k m (r.«Type» h x) =
+      by_fn_ptr (record { attrs = b; lifetimes = Some l; unsafety = u; abi = a; fn_token = w; paren_token = t; inputs = k; variadic = m; output = r.«Type» h x })
+      ∙ ap (λ z. fn_ptr_with (attrs nx b) (binder_by (param nx) (Some l)) u a w t (z, k.1) (normal.optional_variadic nx m) (normal.return_type nx (r.«Type» h x))) (args_mapped k.0)
 
 pub ruleset normals = (normal-Array, normal-FnPtr, normal-Group, normal-ImplTrait, normal-Infer, normal-Macro, normal-Never, normal-Paren, normal-Path, normal-Ptr, normal-Reference, normal-Slice, normal-TraitObject, normal-Tuple, normal-Verbatim, normal-Lifetime, normal-Type, normal-Const, normal-Trait, normal-bound-Lifetime, normal-PreciseCapture, normal-bound-Verbatim, kind_kept)

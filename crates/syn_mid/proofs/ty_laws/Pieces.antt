@@ -7,8 +7,8 @@ use Rattle.syn_mid.specs.declared.generics.TypeParam.{TypeParam, out-TypeParam}
 use Rattle.syn_mid.specs.declared.ty.Type.{«Type» as TypeTree}
 use Rattle.syn_mid.specs.declared.ty.TypeFnPtr.{TypeFnPtr}
 use Rattle.syn_mid.specs.generics.Params.{Eq}
-use Rattle.syn_mid.specs.generics.Shapes.{attrs, after_colon, binder_start, type_default_by}
-use Rattle.syn_mid.specs.ty.Printing.{ty, fn_ptr, fn_lifetimes, fn_params, fn_head, fn_output, arguments, bound, type_param, type_head}
+use Rattle.syn_mid.specs.generics.Shapes.{attrs, after_colon, type_default_by}
+use Rattle.syn_mid.specs.ty.Printing.{ty, fn_ptr, fn_start, fn_params, fn_head, fn_output, arguments, bound, type_param, type_head}
 use Rattle.syn_mid.proofs.ty_laws.Prints.{prints_type_param, prints_fn_ptr}
 
 pub put_both : (old mid new l r : Print) → mid ≡ old ++ l → new ≡ mid ++ r → new ≡ old ++ (l ++ r)
@@ -33,6 +33,6 @@ module _ {X : Type 0} (px : Place → X → Print) where
   put_bare x old new k h = put_param x [] old new new (ap (type_default_by px (ty px)) k) h (sym (append-nil new))
 
   -- a pointer to a function
-  pub put_fn_ptr : (x : TypeFnPtr X) (old a b c d new : Print) → a ≡ old ++ binder_start (fn_lifetimes x) → b ≡ a ++ fn_params px x → c ≡ b ++ fn_head x → d ≡ c ++ arguments px x → new ≡ d ++ fn_output px x → new ≡ old ++ fn_ptr px x
+  pub put_fn_ptr : (x : TypeFnPtr X) (old a b c d new : Print) → a ≡ old ++ fn_start px x → b ≡ a ++ fn_params px x → c ≡ b ++ fn_head x → d ≡ c ++ arguments px x → new ≡ d ++ fn_output px x → new ≡ old ++ fn_ptr px x
   put_fn_ptr x old a b c d new h i j k n =
       put_both old a new _ _ h (put_both a b new _ _ i (put_both b c new _ _ j (put_both c d new _ _ k n))) ∙ ap (λ z. old ++ z) (sym (prints_fn_ptr px x))

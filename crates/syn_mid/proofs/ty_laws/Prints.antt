@@ -27,7 +27,7 @@ use Rattle.syn_mid.specs.declared.generics.TraitBoundOf.{TraitBoundOf}
 use Rattle.syn_mid.specs.declared.generics.TypeParam.{TypeParam, roll-TypeParam, map-TypeParam, out-TypeParam, roll-out-TypeParam}
 use Rattle.syn_mid.specs.declared.generics.TypeParamBound.{TypeParamBound, roll-TypeParamBound, map-TypeParamBound}
 use Rattle.syn_mid.specs.declared.generics.TypeParamBound.TheVariants as b
-use Rattle.syn_mid.specs.declared.path.Path.{Path}
+use Rattle.syn_mid.specs.path.Paths.{Path}
 use Rattle.syn_mid.specs.declared.path.QSelfOf.{QSelfOf}
 use Rattle.syn_mid.specs.declared.supplied.Expr.{Expr}
 use Rattle.syn_mid.specs.declared.ty.Abi.{Abi}
@@ -52,10 +52,10 @@ use Rattle.syn_mid.specs.declared.ty.TypeSliceOf.{TypeSliceOf}
 use Rattle.syn_mid.specs.declared.ty.TypeTraitObjectOf.{TypeTraitObjectOf}
 use Rattle.syn_mid.specs.declared.ty.TypeTupleOf.{TypeTupleOf}
 use Rattle.syn_mid.specs.generics.Params.{Attrs, Colon, Eq, trait_bound_of, type_param_of}
-use Rattle.syn_mid.specs.generics.Shapes.{or_default, optional, after_colon, attrs, in_parens, binder_start, capture, lifetime_param, type_default_by, type_param_by}
+use Rattle.syn_mid.specs.generics.Shapes.{or_default, optional, after_colon, attrs, in_parens, capture, lifetime_param, type_default_by, type_param_by}
 use Rattle.syn_mid.specs.path.Printing.{path, as_written}
-use Rattle.syn_mid.specs.ty.Types.{Comma, Plus, qualified_of, fn_ptr_of}
-use Rattle.syn_mid.specs.ty.Printing.{abi, infer, never, macro_type, optional_word, path_type, array, group, paren, ptr, reference, slice, impl_trait, trait_object, tuple, lone_comma, more, name, arg_name, named_arg, inputs_by, fn_head_by, fn_ptr_by, return_type_by, fn_lifetimes, fn_params, fn_head, fn_output, arguments, trait_bound, const_param, ty, fn_ptr, param, type_param, bound, ty_step, fn_ptr_step, param_step, type_param_step, bound_step}
+use Rattle.syn_mid.specs.ty.Types.{Comma, Plus, qualified_with, fn_ptr_with}
+use Rattle.syn_mid.specs.ty.Printing.{abi, infer, never, macro_type, optional_word, path_type, array, group, paren, ptr, reference, slice, impl_trait, trait_object, tuple, lone_comma, more, name, arg_name, named_arg, inputs_by, fn_head_by, fn_ptr_by, return_type_by, fn_start, fn_start_by, fn_params, fn_head, fn_output, arguments, trait_bound, const_param, ty, fn_ptr, param, type_param, bound, ty_step, fn_ptr_step, param_step, type_param_step, bound_step}
 
 -- what is already printed is printed as it is
 module _ {T : Type 0} {n l : ℕ} (f : T → Print) where
@@ -96,54 +96,54 @@ module _ {X : Type 0} (px : Place → X → Print) where
   unfolding ty param bound type_param fn_ptr
   by_fn_ptr y = fold-roll-TypeFnPtr X Print Print Print Print Print (param_step px) (bound_step px) (ty_step px) (type_param_step px) (fn_ptr_step px) y
 
-  pub ty-Array : (x : TypeArrayOf (TypeTree X) (Expr X)) → ty px (v.Array x) ≡ array px x
+  pub ty-Array : (x : TypeArrayOf (TypeTree X) X) → ty px (v.Array x) ≡ array px x
   ty-Array x = ap (ty px) (sym (v.rolls-Array x)) ∙ by_ty (o.Array x)
 
   pub ty-FnPtr : (x : TypeFnPtr X) → ty px (v.FnPtr x) ≡ fn_ptr px x
   ty-FnPtr x = ap (ty px) (sym (v.rolls-FnPtr x)) ∙ by_ty (o.FnPtr x)
 
-  pub ty-Infer : (x : TypeInfer) → ty px (v.Infer x) ≡ infer x
+  pub ty-Infer : (x : TypeInfer X) → ty px (v.Infer x) ≡ infer px x
   ty-Infer x = ap (ty px) (sym (v.rolls-Infer x)) ∙ by_ty (o.Infer x)
 
-  pub ty-Macro : (x : TypeMacro X) → ty px (v.Macro x) ≡ macro_type x
+  pub ty-Macro : (x : TypeMacro X) → ty px (v.Macro x) ≡ macro_type px x
   ty-Macro x = ap (ty px) (sym (v.rolls-Macro x)) ∙ by_ty (o.Macro x)
 
-  pub ty-Never : (x : TypeNever) → ty px (v.Never x) ≡ never x
+  pub ty-Never : (x : TypeNever X) → ty px (v.Never x) ≡ never px x
   ty-Never x = ap (ty px) (sym (v.rolls-Never x)) ∙ by_ty (o.Never x)
 
-  pub ty-Group : (x : TypeGroupOf (TypeTree X)) → ty px (v.Group x) ≡ group px x
+  pub ty-Group : (x : TypeGroupOf (TypeTree X) X) → ty px (v.Group x) ≡ group px x
   ty-Group x = ap (ty px) (sym (v.rolls-Group x)) ∙ by_ty (o.Group x)
 
-  pub ty-Paren : (x : TypeParenOf (TypeTree X)) → ty px (v.Paren x) ≡ paren px x
+  pub ty-Paren : (x : TypeParenOf (TypeTree X) X) → ty px (v.Paren x) ≡ paren px x
   ty-Paren x = ap (ty px) (sym (v.rolls-Paren x)) ∙ by_ty (o.Paren x)
 
-  pub ty-ImplTrait : (x : TypeImplTraitOf (TypeParamBound X)) → ty px (v.ImplTrait x) ≡ impl_trait px x
-  ty-ImplTrait x = ap (ty px) (sym (v.rolls-ImplTrait x)) ∙ by_ty (o.ImplTrait x) ∙ ap (λ r. p.word x.impl_token ++ r) (joined_mapped (bound px) x.bounds.0 x.bounds.1)
+  pub ty-ImplTrait : (x : TypeImplTraitOf (TypeParamBound X) X) → ty px (v.ImplTrait x) ≡ impl_trait px x
+  ty-ImplTrait x = ap (ty px) (sym (v.rolls-ImplTrait x)) ∙ by_ty (o.ImplTrait x) ∙ ap (λ r. attrs px x.attrs ++ (p.word x.impl_token ++ r)) (joined_mapped (bound px) x.bounds.0 x.bounds.1)
 
-  pub ty-TraitObject : (x : TypeTraitObjectOf (TypeParamBound X)) → ty px (v.TraitObject x) ≡ trait_object px x
-  ty-TraitObject x = ap (ty px) (sym (v.rolls-TraitObject x)) ∙ by_ty (o.TraitObject x) ∙ ap (λ r. optional_word x.dyn_token ++ r) (joined_mapped (bound px) x.bounds.0 x.bounds.1)
+  pub ty-TraitObject : (x : TypeTraitObjectOf (TypeParamBound X) X) → ty px (v.TraitObject x) ≡ trait_object px x
+  ty-TraitObject x = ap (ty px) (sym (v.rolls-TraitObject x)) ∙ by_ty (o.TraitObject x) ∙ ap (λ r. attrs px x.attrs ++ (optional_word x.dyn_token ++ r)) (joined_mapped (bound px) x.bounds.0 x.bounds.1)
 
-  path_by_self : (q : Option (QSelfOf (TypeTree X))) (z : Path X) → ty px (v.Path (qualified_of q z)) ≡ path_type px (qualified_of q z)
-  path_by_self None z = ap (ty px) (sym (v.rolls-Path (qualified_of None z))) ∙ by_ty (o.Path (qualified_of None z))
-  path_by_self (Some q) z = ap (ty px) (sym (v.rolls-Path (qualified_of (Some q) z))) ∙ by_ty (o.Path (qualified_of (Some q) z))
+  path_by_self : (a : Attrs X) (q : Option (QSelfOf (TypeTree X))) (z : Path X) → ty px (v.Path (qualified_with a q z)) ≡ path_type px (qualified_with a q z)
+  path_by_self a None z = ap (ty px) (sym (v.rolls-Path (qualified_with a None z))) ∙ by_ty (o.Path (qualified_with a None z))
+  path_by_self a (Some q) z = ap (ty px) (sym (v.rolls-Path (qualified_with a (Some q) z))) ∙ by_ty (o.Path (qualified_with a (Some q) z))
 
   pub ty-Path : (x : TypePathOf (TypeTree X) X) → ty px (v.Path x) ≡ path_type px x
-  ty-Path x = path_by_self x.qself x.path
+  ty-Path x = path_by_self x.attrs x.qself x.path
 
-  pub ty-Ptr : (x : TypePtrOf (TypeTree X)) → ty px (v.Ptr x) ≡ ptr px x
+  pub ty-Ptr : (x : TypePtrOf (TypeTree X) X) → ty px (v.Ptr x) ≡ ptr px x
   ty-Ptr x = ap (ty px) (sym (v.rolls-Ptr x)) ∙ by_ty (o.Ptr x)
 
-  pub ty-Reference : (x : TypeReferenceOf (TypeTree X)) → ty px (v.Reference x) ≡ reference px x
+  pub ty-Reference : (x : TypeReferenceOf (TypeTree X) X) → ty px (v.Reference x) ≡ reference px x
   ty-Reference x = ap (ty px) (sym (v.rolls-Reference x)) ∙ by_ty (o.Reference x)
 
-  pub ty-Slice : (x : TypeSliceOf (TypeTree X)) → ty px (v.Slice x) ≡ slice px x
+  pub ty-Slice : (x : TypeSliceOf (TypeTree X) X) → ty px (v.Slice x) ≡ slice px x
   ty-Slice x = ap (ty px) (sym (v.rolls-Slice x)) ∙ by_ty (o.Slice x)
 
-  pub ty-Tuple : (x : TypeTupleOf (TypeTree X)) → ty px (v.Tuple x) ≡ tuple px x
+  pub ty-Tuple : (x : TypeTupleOf (TypeTree X) X) → ty px (v.Tuple x) ≡ tuple px x
   ty-Tuple x =
       ap (ty px) (sym (v.rolls-Tuple x)) ∙ by_ty (o.Tuple x)
-      ∙ ap (λ r. p.group Parenthesis (stream_of_trees (r ++ lone_comma (map (ty px) x.elems.0) x.elems.1)) x.paren_token.span) (joined_mapped (ty px) x.elems.0 x.elems.1)
-      ∙ ap (λ r. p.group Parenthesis (stream_of_trees (joined (ty px) p.mark x.elems.0 x.elems.1 ++ r)) x.paren_token.span) (lone_mapped (ty px) x.elems.0 x.elems.1)
+      ∙ ap (λ r. attrs px x.attrs ++ p.group Parenthesis (stream_of_trees (r ++ lone_comma (map (ty px) x.elems.0) x.elems.1)) x.paren_token.span) (joined_mapped (ty px) x.elems.0 x.elems.1)
+      ∙ ap (λ r. attrs px x.attrs ++ p.group Parenthesis (stream_of_trees (joined (ty px) p.mark x.elems.0 x.elems.1 ++ r)) x.paren_token.span) (lone_mapped (ty px) x.elems.0 x.elems.1)
 
   pub ty-Verbatim : (x : TokenStream) → ty px (v.Verbatim x) ≡ trees x
   ty-Verbatim x = ap (ty px) (sym (v.rolls-Verbatim x)) ∙ by_ty (o.Type::Verbatim x)
@@ -218,29 +218,29 @@ module _ {X : Type 0} (px : Place → X → Print) where
       ap (λ z. z ++ more px (map named_printed v.0, v.1) m) (inputs_mapped v.0 v.1) ∙ ap (λ z. inputs_by px (ty px) v ++ z) (more_mapped named_printed v.0 v.1 m)
 
   -- with the binder and the output as they are given
-  abbrev around : Print → Option (BoundLifetimesOf (GenericParam X)) → Option (Word 16) → Option Abi → Word 9 → Paren → Print → ReturnTypeOf (TypeTree X) → Print
-  around l k u a w t z r = binder_start k ++ (l ++ (fn_head_by k u a w ++ (p.group Parenthesis (stream_of_trees z) t.span ++ return_type_by (ty px) r)))
+  abbrev around : Attrs X → Print → Option (BoundLifetimesOf (GenericParam X)) → Option (Word 16) → Option Abi → Word 9 → Paren → Print → ReturnTypeOf (TypeTree X) → Print
+  around b l k u a w t z r = fn_start_by px b k ++ (l ++ (fn_head_by k u a w ++ (p.group Parenthesis (stream_of_trees z) t.span ++ return_type_by (ty px) r)))
 
-  pub fn_ptr_parts : (l : Option (BoundLifetimesOf (GenericParam X))) (u : Option (Word 16)) (a : Option Abi) (w : Word 9) (t : Paren) (v : Many (NamedArgOf (TypeTree X) X) Comma)
-      (m : Option (FnPtrVariadic X)) (q : ReturnTypeOf (TypeTree X)) → fn_ptr px (fn_ptr_of l u a w t v m q) ≡ fn_ptr_by px (param px) (ty px) l u a w t v m q
-  fn_ptr_parts None u a w t v m r.Default =
-      by_fn_ptr (record { lifetimes = None; unsafety = u; abi = a; fn_token = w; paren_token = t; inputs = v; variadic = m; output = r.Default })
-      ∙ ap (λ z. around [] None u a w t z r.Default) (content_mapped v m)
-  fn_ptr_parts None u a w t v m (r.«Type» h x) =
-      by_fn_ptr (record { lifetimes = None; unsafety = u; abi = a; fn_token = w; paren_token = t; inputs = v; variadic = m; output = r.«Type» h x })
-      ∙ ap (λ z. around [] None u a w t z (r.«Type» h x)) (content_mapped v m)
-  fn_ptr_parts (Some l) u a w t v m r.Default =
-      by_fn_ptr (record { lifetimes = Some l; unsafety = u; abi = a; fn_token = w; paren_token = t; inputs = v; variadic = m; output = r.Default })
-      ∙ ap (λ z. around (joined (λ y. y) p.mark (map (param px) l.lifetimes.0) l.lifetimes.1) (Some l) u a w t z r.Default) (content_mapped v m)
-      ∙ ap (λ y. around y (Some l) u a w t (inputs_by px (ty px) v ++ more px v m) r.Default) (joined_mapped (param px) l.lifetimes.0 l.lifetimes.1)
-  fn_ptr_parts (Some l) u a w t v m (r.«Type» h x) =
-      by_fn_ptr (record { lifetimes = Some l; unsafety = u; abi = a; fn_token = w; paren_token = t; inputs = v; variadic = m; output = r.«Type» h x })
-      ∙ ap (λ z. around (joined (λ y. y) p.mark (map (param px) l.lifetimes.0) l.lifetimes.1) (Some l) u a w t z (r.«Type» h x)) (content_mapped v m)
-      ∙ ap (λ y. around y (Some l) u a w t (inputs_by px (ty px) v ++ more px v m) (r.«Type» h x)) (joined_mapped (param px) l.lifetimes.0 l.lifetimes.1)
+  pub fn_ptr_parts : (b : Attrs X) (l : Option (BoundLifetimesOf (GenericParam X))) (u : Option (Word 16)) (a : Option Abi) (w : Word 9) (t : Paren) (v : Many (NamedArgOf (TypeTree X) X) Comma)
+      (m : Option (FnPtrVariadic X)) (q : ReturnTypeOf (TypeTree X)) → fn_ptr px (fn_ptr_with b l u a w t v m q) ≡ fn_ptr_by px (param px) (ty px) b l u a w t v m q
+  fn_ptr_parts b None u a w t v m r.Default =
+      by_fn_ptr (record { attrs = b; lifetimes = None; unsafety = u; abi = a; fn_token = w; paren_token = t; inputs = v; variadic = m; output = r.Default })
+      ∙ ap (λ z. around b [] None u a w t z r.Default) (content_mapped v m)
+  fn_ptr_parts b None u a w t v m (r.«Type» h x) =
+      by_fn_ptr (record { attrs = b; lifetimes = None; unsafety = u; abi = a; fn_token = w; paren_token = t; inputs = v; variadic = m; output = r.«Type» h x })
+      ∙ ap (λ z. around b [] None u a w t z (r.«Type» h x)) (content_mapped v m)
+  fn_ptr_parts b (Some l) u a w t v m r.Default =
+      by_fn_ptr (record { attrs = b; lifetimes = Some l; unsafety = u; abi = a; fn_token = w; paren_token = t; inputs = v; variadic = m; output = r.Default })
+      ∙ ap (λ z. around b (joined (λ y. y) p.mark (map (param px) l.lifetimes.0) l.lifetimes.1) (Some l) u a w t z r.Default) (content_mapped v m)
+      ∙ ap (λ y. around b y (Some l) u a w t (inputs_by px (ty px) v ++ more px v m) r.Default) (joined_mapped (param px) l.lifetimes.0 l.lifetimes.1)
+  fn_ptr_parts b (Some l) u a w t v m (r.«Type» h x) =
+      by_fn_ptr (record { attrs = b; lifetimes = Some l; unsafety = u; abi = a; fn_token = w; paren_token = t; inputs = v; variadic = m; output = r.«Type» h x })
+      ∙ ap (λ z. around b (joined (λ y. y) p.mark (map (param px) l.lifetimes.0) l.lifetimes.1) (Some l) u a w t z (r.«Type» h x)) (content_mapped v m)
+      ∙ ap (λ y. around b y (Some l) u a w t (inputs_by px (ty px) v ++ more px v m) (r.«Type» h x)) (joined_mapped (param px) l.lifetimes.0 l.lifetimes.1)
 
   -- piece by piece
-  pub prints_fn_ptr : (x : TypeFnPtr X) → fn_ptr px x ≡ binder_start (fn_lifetimes x) ++ (fn_params px x ++ (fn_head x ++ (arguments px x ++ fn_output px x)))
-  prints_fn_ptr x = let f = out-TypeFnPtr X x in ap (fn_ptr px) (sym (roll-out-TypeFnPtr X x)) ∙ fn_ptr_parts f.lifetimes f.unsafety f.abi f.fn_token f.paren_token f.inputs f.variadic f.output
+  pub prints_fn_ptr : (x : TypeFnPtr X) → fn_ptr px x ≡ fn_start px x ++ (fn_params px x ++ (fn_head x ++ (arguments px x ++ fn_output px x)))
+  prints_fn_ptr x = let f = out-TypeFnPtr X x in ap (fn_ptr px) (sym (roll-out-TypeFnPtr X x)) ∙ fn_ptr_parts f.attrs f.lifetimes f.unsafety f.abi f.fn_token f.paren_token f.inputs f.variadic f.output
 
 pub ruleset prints = (ty-Array, ty-FnPtr, ty-Group, ty-ImplTrait, ty-Infer, ty-Macro, ty-Never, ty-Paren, ty-Path, ty-Ptr, ty-Reference, ty-Slice, ty-TraitObject, ty-Tuple, ty-Verbatim)
 

@@ -39,7 +39,8 @@ use Rattle.syn_mid.specs.declared.ty.TypeTupleOf.{TypeTupleOf}
 use Rattle.syn_mid.specs.Supplied.{Place, ArrayLen, UsesUp, Reprints}
 use Rattle.syn_mid.specs.mac.Printing.{mac}
 use Rattle.syn_mid.specs.mac.Spelling.{IsCall}
-use Rattle.syn_mid.specs.path.Printing.{path}
+use Rattle.syn_mid.specs.path.Paths.{no_arguments}
+use Rattle.syn_mid.specs.path.Printing.{path, arguments}
 use Rattle.syn_mid.specs.ty.Normal as normal
 use Rattle.syn_mid.specs.ty.Printing as printing
 use Rattle.syn_mid.specs.ty.Printing.{lone_comma}
@@ -99,16 +100,27 @@ pub mutability_again : (x : PointerMutability) (l r : Toks) → IsMutability x l
 mutability_again x l r (a_const {w = a} i) = let k = word_front a l r i in record { spelt = λ h. a_const (k.spelt h); visible = λ h u w. k.visible h u w; seen = λ u. k.seen u; stays = refl; same = refl }
 mutability_again x l r (a_mut {w = a} i) = let k = word_front a l r i in record { spelt = λ h. a_mut (k.spelt h); visible = λ h u w. k.visible h u w; seen = λ u. k.seen u; stays = refl; same = refl }
 
-pub infer_again : (x : TypeInfer) (l r : Toks) → IsInfer x l r → AgainFront IsInfer (λ (z : TypeInfer). z) printing.infer x l r
-infer_again x l r (an_infer {w = a} i) = let k = word_front a l r i in record { spelt = λ h. an_infer (k.spelt h); visible = λ h u w. k.visible h u w; seen = λ u. k.seen u; stays = refl; same = refl }
+pub infer_again : {X : Type 0} (nx : Place → X → X) (px : Place → X → Print) (x : TypeInfer X) (l r : Toks) → IsInfer x l r → AgainFront IsInfer (normal.infer nx) (printing.infer px) x l r
+infer_again nx px x l r (an_infer {w = a} i) = let k = word_front a l r i in record { spelt = λ h. an_infer (k.spelt h); visible = λ h u w. k.visible h u w; seen = λ u. k.seen u; stays = refl; same = refl }
 
-pub never_again : (x : TypeNever) (l r : Toks) → IsNever false x l r → AgainFront (IsNever true) (λ (z : TypeNever). z) printing.never x l r
-never_again x l r (a_never {b = b} i) = let k = mark_front b l r i in record { spelt = λ h. a_never (k.spelt h); visible = λ h u w. k.visible h u w; seen = λ u. k.seen u; stays = refl; same = refl }
+pub never_again : {X : Type 0} (nx : Place → X → X) (px : Place → X → Print) (x : TypeNever X) (l r : Toks) → IsNever false x l r → AgainFront (IsNever true) (normal.never nx) (printing.never px) x l r
+never_again nx px x l r (a_never {b = b} i) = let k = mark_front b l r i in record { spelt = λ h. a_never (k.spelt h); visible = λ h u w. k.visible h u w; seen = λ u. k.seen u; stays = refl; same = refl }
+
+call_front : {ok : Bytes → Bool} (x : Macro) (l r : Toks) → IsCall false ok x l r → AgainFront (IsCall true ok) (λ (z : Macro). z) mac x l r
+call_front x l r i =
+    let again = λ (h : Toks). macro_again false x l r h i in
+    record {
+      spelt = λ h. again h;
+      visible = λ h u w. whole_macro true x (row (mac x) h) h (again h) (λ ts e. subst (λ z. Visible (toks z)) e (held_visible x l r i u)) w;
+      seen = λ u. visible_call x l r i u;
+      stays = refl;
+      same = refl;
+    }
 
 module _ {X : Type 0} where
   pub path_type_again : (nx : Place → X → X) (px : Place → X → Print) (x : TypePathOf (TypeTree X) X) (l r : Toks) → IsPathType false x l r → AgainFront (IsPathType true) (normal.path_type nx) (printing.path_type px) x l r
   path_type_again nx px x l r (a_path_type {p = q} i) =
-      let again = λ (h : Toks). path_again AsWritten false q l r h i in
+      let again = λ (h : Toks). path_again no_arguments (arguments AsWritten) refl false q l r h i in
       record {
         spelt = λ h. a_path_type (again h);
         visible = λ h u w. whole_path true q (row (path AsWritten q) h) h (again h) w;
@@ -117,19 +129,8 @@ module _ {X : Type 0} where
         same = refl;
       }
 
-  call_front : {ok : Bytes → Bool} (x : Macro X) (l r : Toks) → IsCall false ok x l r → AgainFront (IsCall true ok) (λ (z : Macro X). z) mac x l r
-  call_front x l r i =
-      let again = λ (h : Toks). macro_again false x l r h i in
-      record {
-        spelt = λ h. again h;
-        visible = λ h u w. whole_macro true x (row (mac x) h) h (again h) (λ ts e. subst (λ z. Visible (toks z)) e (held_visible x l r i u)) w;
-        seen = λ u. visible_call x l r i u;
-        stays = refl;
-        same = refl;
-      }
-
-  pub macro_type_again : (x : TypeMacro X) (l r : Toks) → IsMacroType false x l r → AgainFront (IsMacroType true) (λ (z : TypeMacro X). z) printing.macro_type x l r
-  macro_type_again x l r (a_macro_type {x = y} i) = let k = call_front y l r i in record { spelt = λ h. a_macro_type (k.spelt h); visible = λ h u w. k.visible h u w; seen = λ u. k.seen u; stays = refl; same = refl }
+  pub macro_type_again : (nx : Place → X → X) (px : Place → X → Print) (x : TypeMacro X) (l r : Toks) → IsMacroType false x l r → AgainFront (IsMacroType true) (normal.macro_type nx) (printing.macro_type px) x l r
+  macro_type_again nx px x l r (a_macro_type {x = y} i) = let k = call_front y l r i in record { spelt = λ h. a_macro_type (k.spelt h); visible = λ h u w. k.visible h u w; seen = λ u. k.seen u; stays = refl; same = refl }
 
 -- ---- values joined by marks
 
@@ -209,7 +210,7 @@ module _ {X : Type 0} (reads : Place → Reader X) (spells : Place → X → Tok
       }
 
   module _ (T U : Bool → Relation (TypeTree X)) (again : (plus : Bool) (x : TypeTree X) (l r : Toks) → T plus x l r → AgainFront (U plus) nt pt x l r) where
-    pub paren_front : (plus : Bool) (x : TypeParenOf (TypeTree X)) (l r : Toks) → IsParen spells false T plus x l r → AgainFront (IsParen spells true U plus) (normal.paren normals) (printing.paren prints) x l r
+    pub paren_front : (plus : Bool) (x : TypeParenOf (TypeTree X) X) (l r : Toks) → IsParen spells false T plus x l r → AgainFront (IsParen spells true U plus) (normal.paren normals) (printing.paren prints) x l r
     paren_front plus x l r (a_paren {s = s} {x = y} {c = c} i) =
         let k = again plus y c done i in
         let seen = λ (h : Toks). row-group Parenthesis s (pt y) h tt in
@@ -221,7 +222,7 @@ module _ {X : Type 0} (reads : Place → Reader X) (spells : Place → X → Tok
           same = ap (λ z. p.group Parenthesis (stream_of_trees z) s) k.same;
         }
 
-    pub slice_front : (x : TypeSliceOf (TypeTree X)) (l r : Toks) → IsSlice spells false T x l r → AgainFront (IsSlice spells true U) (normal.slice normals) (printing.slice prints) x l r
+    pub slice_front : (x : TypeSliceOf (TypeTree X) X) (l r : Toks) → IsSlice spells false T x l r → AgainFront (IsSlice spells true U) (normal.slice normals) (printing.slice prints) x l r
     slice_front x l r (a_slice {s = s} {x = y} {c = c} i) =
         let k = again true y c done i in
         let seen = λ (h : Toks). row-group Bracket s (pt y) h tt in
@@ -233,7 +234,7 @@ module _ {X : Type 0} (reads : Place → Reader X) (spells : Place → X → Tok
           same = ap (λ z. p.group Bracket (stream_of_trees z) s) k.same;
         }
 
-    pub array_front : (x : TypeArrayOf (TypeTree X) (Expr X)) (l r : Toks) → IsArray spells false T x l r → AgainFront (IsArray spells true U) (normal.array normals) (printing.array prints) x l r
+    pub array_front : (x : TypeArrayOf (TypeTree X) X) (l r : Toks) → IsArray spells false T x l r → AgainFront (IsArray spells true U) (normal.array normals) (printing.array prints) x l r
     array_front x l r (an_array {s = s} {x = y} {q = q} {n = n} {c = c} {m = m} {k = o} i j g) =
         let k = again true y c m i in
         let d = mark_front q m o j in
@@ -255,7 +256,7 @@ module _ {X : Type 0} (reads : Place → Reader X) (spells : Place → X → Tok
               ∙ ap (λ z. p.group Bracket (stream_of_trees (pt y ++ (p.mark q ++ z))) s) (ap pl is ∙ w.same);
         }
 
-    pub ptr_front : (x : TypePtrOf (TypeTree X)) (l r : Toks) → IsPtr spells false T x l r → AgainFront (IsPtr spells true U) (normal.ptr normals) (printing.ptr prints) x l r
+    pub ptr_front : (x : TypePtrOf (TypeTree X) X) (l r : Toks) → IsPtr spells false T x l r → AgainFront (IsPtr spells true U) (normal.ptr normals) (printing.ptr prints) x l r
     ptr_front x l r (a_ptr {s = s} {q = q} {x = y} {m = m} {k = o} i j g) =
         let d = mark_front s l m i in
         let w = mutability_again q m o j in
@@ -271,7 +272,7 @@ module _ {X : Type 0} (reads : Place → Reader X) (spells : Place → X → Tok
           same = ap (λ z. p.mark s ++ (printing.pointer q ++ z)) k.same;
         }
 
-    pub reference_front : (x : TypeReferenceOf (TypeTree X)) (l r : Toks) → IsReference spells false T x l r → AgainFront (IsReference spells true U) (normal.reference normals) (printing.reference prints) x l r
+    pub reference_front : (x : TypeReferenceOf (TypeTree X) X) (l r : Toks) → IsReference spells false T x l r → AgainFront (IsReference spells true U) (normal.reference normals) (printing.reference prints) x l r
     reference_front x l r (a_reference {a = a} {o = o} {q = q} {x = y} {m = m} {n = n} {k = b} i j f g) =
         let d = mark_front a l m i in
         let c = maybe_lifetime o m n j in
@@ -315,7 +316,7 @@ module _ {X : Type 0} (reads : Place → Reader X) (spells : Place → X → Tok
           same = no_lone (nt x) c (map nt ys) ds ∙ k.same ∙ sym is;
         }
 
-    pub tuple_front : (x : TypeTupleOf (TypeTree X)) (l r : Toks) → IsTuple spells false T x l r → AgainFront (IsTuple spells true U) (normal.tuple normals) (printing.tuple prints) x l r
+    pub tuple_front : (x : TypeTupleOf (TypeTree X) X) (l r : Toks) → IsTuple spells false T x l r → AgainFront (IsTuple spells true U) (normal.tuple normals) (printing.tuple prints) x l r
     tuple_front x l r (a_tuple {s = s} {xs = xs} {cs = cs} {c = c} i) =
         let k = elements_again xs cs c i in
         let seen = λ (h : Toks). row-group Parenthesis s (inside (xs, cs)) h tt in
@@ -341,10 +342,10 @@ module _ {X : Type 0} (reads : Place → Reader X) (spells : Place → X → Tok
     pub type_front : (plus : Bool) (x : TypeTree X) (l r : Toks) → IsType spells false T plus x l r → AgainFront (IsType spells true U plus) nt pt x l r
     type_front plus x l r (array {x = y} i) =
         variant plus (IsArray spells true U) (normal.array normals) (printing.array prints) (λ z. v.Array z) (normal-Array normals) (ty-Array prints) y l r (array_front y l r i) (λ k h j. array j)
-    type_front plus x l r (infer {x = y} i) = variant plus IsInfer (λ z. z) printing.infer (λ z. v.Infer z) (normal-Infer normals) (ty-Infer prints) y l r (infer_again y l r i) (λ k h j. infer j)
+    type_front plus x l r (infer {x = y} i) = variant plus IsInfer (normal.infer normals) (printing.infer prints) (λ z. v.Infer z) (normal-Infer normals) (ty-Infer prints) y l r (infer_again normals prints y l r i) (λ k h j. infer j)
     type_front plus x l r (macro_call {x = y} i is) =
         variant plus (IsCall true _) (λ z. z) mac (λ z. v.Macro (macro_type_of z)) (λ z. normal-Macro normals (macro_type_of z)) (λ z. ty-Macro prints (macro_type_of z)) y l r (call_front y l r i) (λ k h j. macro_call j is)
-    type_front plus x l r (never {x = y} i) = variant plus (IsNever true) (λ z. z) printing.never (λ z. v.Never z) (normal-Never normals) (ty-Never prints) y l r (never_again y l r i) (λ k h j. never j)
+    type_front plus x l r (never {x = y} i) = variant plus (IsNever true) (normal.never normals) (printing.never prints) (λ z. v.Never z) (normal-Never normals) (ty-Never prints) y l r (never_again normals prints y l r i) (λ k h j. never j)
     type_front plus x l r (paren {x = y} i) =
         variant plus (IsParen spells true U true) (normal.paren normals) (printing.paren prints) (λ z. v.Paren z) (normal-Paren normals) (ty-Paren prints) y l r (paren_front true y l r i) (λ k h j. paren j)
     type_front plus x l r (a_path {x = y} i is) =

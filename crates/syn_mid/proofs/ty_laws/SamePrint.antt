@@ -27,7 +27,7 @@ use Rattle.syn_mid.specs.declared.generics.TraitBoundOf.{TraitBoundOf}
 use Rattle.syn_mid.specs.declared.generics.TypeParam.{TypeParam, roll-TypeParam, map-TypeParam, out-TypeParam, roll-out-TypeParam}
 use Rattle.syn_mid.specs.declared.generics.TypeParamBound.{TypeParamBound, roll-TypeParamBound, map-TypeParamBound}
 use Rattle.syn_mid.specs.declared.generics.TypeParamBound.TheVariants as b
-use Rattle.syn_mid.specs.declared.path.Path.{Path}
+use Rattle.syn_mid.specs.path.Paths.{Path}
 use Rattle.syn_mid.specs.declared.path.PathStyle.{PathStyle}
 use Rattle.syn_mid.specs.declared.path.QSelfOf.{QSelfOf}
 use Rattle.syn_mid.specs.declared.supplied.Expr.{Expr}
@@ -59,17 +59,18 @@ use Rattle.syn_mid.specs.generics.NormalShapes.{colon, many}
 use Rattle.syn_mid.specs.generics.Params.{Attrs, Colon, Eq, bound_lifetimes_of, const_param_of, trait_bound_of, type_param_of}
 use Rattle.syn_mid.specs.generics.Shapes as shapes
 use Rattle.syn_mid.specs.generics.Shapes.{or_default, after_colon, attrs, in_parens, optional, binder_by, binder_start, binder_joined, captured, is_captured_lifetime, type_default_by, type_param_by}
+use Rattle.syn_mid.specs.mac.Printing.{mac}
 use Rattle.syn_mid.specs.path.Printing.{path, as_written, qualified}
 use Rattle.syn_mid.specs.ty.Normal as normal
 use Rattle.syn_mid.specs.ty.Printing as printing
-use Rattle.syn_mid.specs.ty.Printing.{ty, fn_ptr, param, type_param, bound, pointer, lifetime, optional_word, lone_comma, arg_name, name, fn_head_by, return_type_by}
-use Rattle.syn_mid.specs.ty.Types.{Comma, Plus, array_of, fn_ptr_of, group_of, impl_trait_of, named_arg_of, paren_of, ptr_of, qself_of, qualified_of, reference_of, slice_of, trait_object_of, tuple_of}
+use Rattle.syn_mid.specs.ty.Printing.{ty, fn_ptr, param, type_param, bound, pointer, lifetime, optional_word, lone_comma, arg_name, name, fn_head_by, fn_start_by, return_type_by}
+use Rattle.syn_mid.specs.ty.Types.{Comma, Plus, array_with, fn_ptr_with, group_with, impl_trait_with, named_arg_of, paren_with, ptr_with, qself_of, qualified_with, reference_with, slice_with, trait_object_with, tuple_with}
 use Rattle.syn_mid.proofs.attr_laws.Normal.{outer_same, at_place_same}
 use Rattle.syn_mid.proofs.generics_laws.Consts.{const_argument_same}
 use Rattle.syn_mid.proofs.generics_laws.Members.{sort_prints}
 use Rattle.syn_mid.proofs.ty_laws.Each.{Each, each_held, each_of, joined_same}
 use Rattle.syn_mid.proofs.ty_laws.Normal.{normal-Array, normal-FnPtr, normal-Group, normal-ImplTrait, normal-Infer, normal-Macro, normal-Never, normal-Paren, normal-Path, normal-Ptr, normal-Reference, normal-Slice, normal-TraitObject, normal-Tuple, normal-Verbatim, normal-Lifetime, normal-Type, normal-Const, normal-Trait, normal-bound-Lifetime, normal-PreciseCapture, normal-bound-Verbatim, type_param_normal, fn_ptr_normal}
-use Rattle.syn_mid.proofs.ty_laws.Prints.{ty-Array, ty-FnPtr, ty-Group, ty-ImplTrait, ty-Paren, ty-Path, ty-Ptr, ty-Reference, ty-Slice, ty-TraitObject, ty-Tuple, param-Lifetime, param-Type, param-Const, type_param_parts, bound-Trait, bound-PreciseCapture, fn_ptr_parts, more_mapped}
+use Rattle.syn_mid.proofs.ty_laws.Prints.{ty-Array, ty-FnPtr, ty-Group, ty-ImplTrait, ty-Infer, ty-Macro, ty-Never, ty-Paren, ty-Path, ty-Ptr, ty-Reference, ty-Slice, ty-TraitObject, ty-Tuple, param-Lifetime, param-Type, param-Const, type_param_parts, bound-Trait, bound-PreciseCapture, fn_ptr_parts, more_mapped}
 
 -- a colon without bounds prints nothing
 colon_same : {B : Type 0} (f : B → Print) (c : Option Colon) (l : List B) (ms : List Plus) → after_colon f (colon c l) (l, ms) ≡ after_colon f c (l, ms)
@@ -90,6 +91,10 @@ module _ {X : Type 0} (nx : Place → X → X) (px : Place → X → Print) (sam
 
   pub attrs_same : (l : Attrs X) → attrs px (nshapes.attrs nx l) ≡ attrs px l
   attrs_same l = outer_same nx px same l
+
+  -- what stands behind attributes
+  behind : (a : Attrs X) {l m : Print} → l ≡ m → attrs px (nshapes.attrs nx a) ++ l ≡ attrs px a ++ m
+  behind a {m = m} h = ap (λ z. attrs px (nshapes.attrs nx a) ++ z) h ∙ ap (λ z. z ++ m) (attrs_same a)
 
   pub lifetime_param_same : (x : LifetimeParam X) → shapes.lifetime_param px (nshapes.lifetime_param nx x) ≡ shapes.lifetime_param px x
   lifetime_param_same x =
@@ -153,70 +158,70 @@ module _ {X : Type 0} (nx : Place → X → X) (px : Place → X → Print) (sam
   path_parts style None z h = refl
   path_parts style (Some q) z h = ap (λ u. p.mark q.lt_token ++ (u ++ qualified style q z)) h
 
-  path_same : (q : Option (QSelfOf (TypeTree X))) (z : Path X) → SameSelf q → Same (v.Path (qualified_of q z))
-  path_same q z h =
-      let x = qualified_of q z in
-      ap (ty px) (normal-Path nx x) ∙ ty-Path px (normal.path_type nx x) ∙ path_parts as_written q z h ∙ sym (ty-Path px x)
+  path_same : (a : Attrs X) (q : Option (QSelfOf (TypeTree X))) (z : Path X) → SameSelf q → Same (v.Path (qualified_with a q z))
+  path_same a q z h =
+      let x = qualified_with a q z in
+      ap (ty px) (normal-Path nx x) ∙ ty-Path px (normal.path_type nx x) ∙ behind a (path_parts as_written q z h) ∙ sym (ty-Path px x)
 
-  path_held : (q : Option (QSelfOf HeldType)) (z : Path X) → Same (roll-Type X (map-Type X HeldParam HeldBound HeldType HeldTypeParam HeldFnPtr (GenericParam X) (TypeParamBound X) (TypeTree X) (TypeParam X) (TypeFnPtr X) (λ a. a.0) (λ a. a.0) (λ a. a.0) (λ a. a.0) (λ a. a.0) (o.Path (qualified_of q z))))
-  path_held None z = subst Same (sym (v.rolls-Path (qualified_of None z))) (path_same None z tt)
-  path_held (Some q) z =
+  path_held : (a : Attrs X) (q : Option (QSelfOf HeldType)) (z : Path X) → Same (roll-Type X (map-Type X HeldParam HeldBound HeldType HeldTypeParam HeldFnPtr (GenericParam X) (TypeParamBound X) (TypeTree X) (TypeParam X) (TypeFnPtr X) (λ a. a.0) (λ a. a.0) (λ a. a.0) (λ a. a.0) (λ a. a.0) (o.Path (qualified_with a q z))))
+  path_held a None z = subst Same (sym (v.rolls-Path (qualified_with a None z))) (path_same a None z tt)
+  path_held a (Some q) z =
       let s = Some (qself_of q.lt_token q.ty.0 q.position q.as_token q.gt_token) in
-      subst Same (sym (v.rolls-Path (qualified_of s z))) (path_same s z q.ty.1)
+      subst Same (sym (v.rolls-Path (qualified_with a s z))) (path_same a s z q.ty.1)
 
   layer_same : (y : o.Type-F X HeldParam HeldBound HeldType HeldTypeParam HeldFnPtr) → Same (roll-Type X (map-Type X HeldParam HeldBound HeldType HeldTypeParam HeldFnPtr (GenericParam X) (TypeParamBound X) (TypeTree X) (TypeParam X) (TypeFnPtr X) (λ a. a.0) (λ a. a.0) (λ a. a.0) (λ a. a.0) (λ a. a.0) y))
   layer_same (o.Array y) =
-      let x = array_of y.bracket_token y.elem.0 y.semi_token y.len in
+      let x = array_with y.attrs y.bracket_token y.elem.0 y.semi_token y.len in
       subst Same (sym (v.rolls-Array x))
       (ap (ty px) (normal-Array nx x) ∙ ty-Array px (normal.array nx x)
-      ∙ ap (λ u. p.group Bracket (stream_of_trees (u ++ (p.mark y.semi_token ++ printing.len px (normal.len nx y.len)))) y.bracket_token.span) y.elem.1
-      ∙ ap (λ u. p.group Bracket (stream_of_trees (ty px y.elem.0 ++ (p.mark y.semi_token ++ u))) y.bracket_token.span) (len_same y.len)
+      ∙ behind y.attrs (ap (λ u. p.group Bracket (stream_of_trees (u ++ (p.mark y.semi_token ++ printing.len px (normal.len nx y.len)))) y.bracket_token.span) y.elem.1
+      ∙ ap (λ u. p.group Bracket (stream_of_trees (ty px y.elem.0 ++ (p.mark y.semi_token ++ u))) y.bracket_token.span) (len_same y.len))
       ∙ sym (ty-Array px x))
   layer_same (o.FnPtr y) = subst Same (sym (v.rolls-FnPtr y.0)) (ap (ty px) (normal-FnPtr nx y.0) ∙ ty-FnPtr px (normal.fn_ptr nx y.0) ∙ y.1 ∙ sym (ty-FnPtr px y.0))
   layer_same (o.Group y) =
-      let x = group_of y.group_token y.elem.0 in
+      let x = group_with y.attrs y.group_token y.elem.0 in
       subst Same (sym (v.rolls-Group x))
-      (ap (ty px) (normal-Group nx x) ∙ ty-Group px (normal.group nx x) ∙ ap (λ u. p.group d.None (stream_of_trees u) y.group_token.span) y.elem.1 ∙ sym (ty-Group px x))
+      (ap (ty px) (normal-Group nx x) ∙ ty-Group px (normal.group nx x) ∙ behind y.attrs (ap (λ u. p.group d.None (stream_of_trees u) y.group_token.span) y.elem.1) ∙ sym (ty-Group px x))
   layer_same (o.ImplTrait y) =
       let all = map (λ (a : HeldBound). a.0) y.bounds.0 in
-      let x = impl_trait_of y.impl_token (all, y.bounds.1) in
+      let x = impl_trait_with y.attrs y.impl_token (all, y.bounds.1) in
       subst Same (sym (v.rolls-ImplTrait x))
       (ap (ty px) (normal-ImplTrait nx x) ∙ ty-ImplTrait px (normal.impl_trait nx x)
-      ∙ ap (λ u. p.word y.impl_token ++ u) (joined_same (normal.bound nx) (bound px) p.mark all y.bounds.1 (each_held SameBound y.bounds.0)) ∙ sym (ty-ImplTrait px x))
-  layer_same (o.Infer x) = subst Same (sym (v.rolls-Infer x)) (ap (ty px) (normal-Infer nx x))
-  layer_same (o.Macro x) = subst Same (sym (v.rolls-Macro x)) (ap (ty px) (normal-Macro nx x))
-  layer_same (o.Never x) = subst Same (sym (v.rolls-Never x)) (ap (ty px) (normal-Never nx x))
+      ∙ behind y.attrs (ap (λ u. p.word y.impl_token ++ u) (joined_same (normal.bound nx) (bound px) p.mark all y.bounds.1 (each_held SameBound y.bounds.0))) ∙ sym (ty-ImplTrait px x))
+  layer_same (o.Infer x) = subst Same (sym (v.rolls-Infer x)) (ap (ty px) (normal-Infer nx x) ∙ ty-Infer px (normal.infer nx x) ∙ ap (λ z. z ++ p.word x.underscore_token) (attrs_same x.attrs) ∙ sym (ty-Infer px x))
+  layer_same (o.Macro x) = subst Same (sym (v.rolls-Macro x)) (ap (ty px) (normal-Macro nx x) ∙ ty-Macro px (normal.macro_type nx x) ∙ ap (λ z. z ++ mac x.mac) (attrs_same x.attrs) ∙ sym (ty-Macro px x))
+  layer_same (o.Never x) = subst Same (sym (v.rolls-Never x)) (ap (ty px) (normal-Never nx x) ∙ ty-Never px (normal.never nx x) ∙ ap (λ z. z ++ p.mark x.bang_token) (attrs_same x.attrs) ∙ sym (ty-Never px x))
   layer_same (o.Paren y) =
-      let x = paren_of y.paren_token y.elem.0 in
+      let x = paren_with y.attrs y.paren_token y.elem.0 in
       subst Same (sym (v.rolls-Paren x))
-      (ap (ty px) (normal-Paren nx x) ∙ ty-Paren px (normal.paren nx x) ∙ ap (λ u. p.group Parenthesis (stream_of_trees u) y.paren_token.span) y.elem.1 ∙ sym (ty-Paren px x))
-  layer_same (o.Path y) = path_held y.qself y.path
+      (ap (ty px) (normal-Paren nx x) ∙ ty-Paren px (normal.paren nx x) ∙ behind y.attrs (ap (λ u. p.group Parenthesis (stream_of_trees u) y.paren_token.span) y.elem.1) ∙ sym (ty-Paren px x))
+  layer_same (o.Path y) = path_held y.attrs y.qself y.path
   layer_same (o.Ptr y) =
-      let x = ptr_of y.star_token y.mutability y.elem.0 in
+      let x = ptr_with y.attrs y.star_token y.mutability y.elem.0 in
       subst Same (sym (v.rolls-Ptr x))
-      (ap (ty px) (normal-Ptr nx x) ∙ ty-Ptr px (normal.ptr nx x) ∙ ap (λ u. p.mark y.star_token ++ (pointer y.mutability ++ u)) y.elem.1 ∙ sym (ty-Ptr px x))
+      (ap (ty px) (normal-Ptr nx x) ∙ ty-Ptr px (normal.ptr nx x) ∙ behind y.attrs (ap (λ u. p.mark y.star_token ++ (pointer y.mutability ++ u)) y.elem.1) ∙ sym (ty-Ptr px x))
   layer_same (o.Reference y) =
-      let x = reference_of y.and_token y.lifetime y.mutability y.elem.0 in
+      let x = reference_with y.attrs y.and_token y.lifetime y.mutability y.elem.0 in
       subst Same (sym (v.rolls-Reference x))
       (ap (ty px) (normal-Reference nx x) ∙ ty-Reference px (normal.reference nx x)
-      ∙ ap (λ u. p.mark y.and_token ++ (lifetime y.lifetime ++ (optional_word y.mutability ++ u))) y.elem.1 ∙ sym (ty-Reference px x))
+      ∙ behind y.attrs (ap (λ u. p.mark y.and_token ++ (lifetime y.lifetime ++ (optional_word y.mutability ++ u))) y.elem.1) ∙ sym (ty-Reference px x))
   layer_same (o.Slice y) =
-      let x = slice_of y.bracket_token y.elem.0 in
+      let x = slice_with y.attrs y.bracket_token y.elem.0 in
       subst Same (sym (v.rolls-Slice x))
-      (ap (ty px) (normal-Slice nx x) ∙ ty-Slice px (normal.slice nx x) ∙ ap (λ u. p.group Bracket (stream_of_trees u) y.bracket_token.span) y.elem.1 ∙ sym (ty-Slice px x))
+      (ap (ty px) (normal-Slice nx x) ∙ ty-Slice px (normal.slice nx x) ∙ behind y.attrs (ap (λ u. p.group Bracket (stream_of_trees u) y.bracket_token.span) y.elem.1) ∙ sym (ty-Slice px x))
   layer_same (o.TraitObject y) =
       let all = map (λ (a : HeldBound). a.0) y.bounds.0 in
-      let x = trait_object_of y.dyn_token (all, y.bounds.1) in
+      let x = trait_object_with y.attrs y.dyn_token (all, y.bounds.1) in
       subst Same (sym (v.rolls-TraitObject x))
       (ap (ty px) (normal-TraitObject nx x) ∙ ty-TraitObject px (normal.trait_object nx x)
-      ∙ ap (λ u. optional_word y.dyn_token ++ u) (joined_same (normal.bound nx) (bound px) p.mark all y.bounds.1 (each_held SameBound y.bounds.0)) ∙ sym (ty-TraitObject px x))
+      ∙ behind y.attrs (ap (λ u. optional_word y.dyn_token ++ u) (joined_same (normal.bound nx) (bound px) p.mark all y.bounds.1 (each_held SameBound y.bounds.0))) ∙ sym (ty-TraitObject px x))
   layer_same (o.Tuple y) =
       let all = map (λ (a : HeldType). a.0) y.elems.0 in
-      let x = tuple_of y.paren_token (all, y.elems.1) in
+      let x = tuple_with y.attrs y.paren_token (all, y.elems.1) in
       subst Same (sym (v.rolls-Tuple x))
       (ap (ty px) (normal-Tuple nx x) ∙ ty-Tuple px (normal.tuple nx x)
-      ∙ ap (λ u. p.group Parenthesis (stream_of_trees (u ++ lone_comma (map (normal.ty nx) all) y.elems.1)) y.paren_token.span) (joined_same (normal.ty nx) (ty px) p.mark all y.elems.1 (each_held Same y.elems.0))
-      ∙ ap (λ u. p.group Parenthesis (stream_of_trees (printing.elements px (all, y.elems.1) ++ u)) y.paren_token.span) (lone_same all y.elems.1)
+      ∙ behind y.attrs (ap (λ u. p.group Parenthesis (stream_of_trees (u ++ lone_comma (map (normal.ty nx) all) y.elems.1)) y.paren_token.span) (joined_same (normal.ty nx) (ty px) p.mark all y.elems.1 (each_held Same y.elems.0))
+      ∙ ap (λ u. p.group Parenthesis (stream_of_trees (printing.elements px (all, y.elems.1) ++ u)) y.paren_token.span) (lone_same all y.elems.1))
       ∙ sym (ty-Tuple px x))
   layer_same (o.Type::Verbatim x) = subst Same (sym (v.rolls-Verbatim x)) (ap (ty px) (normal-Verbatim nx x))
 
@@ -335,32 +340,32 @@ module _ {X : Type 0} (nx : Place → X → X) (px : Place → X → Print) (sam
   head_same None u a w = refl
   head_same (Some x) u a w = refl
 
-  fn_parts : (l : Option (BoundLifetimesOf (GenericParam X))) (u : Option (Word 16)) (a : Option Abi) (w : Word 9) (t : Paren) (k : List (NamedArgOf (TypeTree X) X)) (ms : List Comma)
-      (m : Option (FnPtrVariadic X)) (q : ReturnTypeOf (TypeTree X)) → EachOf l → Each SameArg k → SameOutput q → SameFnPtr (fn_ptr_of l u a w t (k, ms) m q)
-  fn_parts l u a w t k ms m q hl hk hq =
+  fn_parts : (b : Attrs X) (l : Option (BoundLifetimesOf (GenericParam X))) (u : Option (Word 16)) (a : Option Abi) (w : Word 9) (t : Paren) (k : List (NamedArgOf (TypeTree X) X)) (ms : List Comma)
+      (m : Option (FnPtrVariadic X)) (q : ReturnTypeOf (TypeTree X)) → EachOf l → Each SameArg k → SameOutput q → SameFnPtr (fn_ptr_with b l u a w t (k, ms) m q)
+  fn_parts b l u a w t k ms m q hl hk hq =
       let n = nshapes.binder_by (normal.param nx) l in
       let f = map (normal.named_arg nx) k in
       let e = normal.optional_variadic nx m in
       let y = return_type_by (ty px) (normal.return_type nx q) in
-      ap (fn_ptr px) (fn_ptr_normal nx l u a w t (k, ms) m q) ∙ fn_ptr_parts px n u a w t (f, ms) e (normal.return_type nx q)
-      ∙ ap (λ z. z ++ (binder_joined (param px) n ++ (fn_head_by n u a w ++ (p.group Parenthesis (stream_of_trees (printing.inputs px (f, ms) ++ printing.more px (f, ms) e)) t.span ++ y)))) (start_same l)
-      ∙ ap (λ z. binder_start l ++ (z ++ (fn_head_by n u a w ++ (p.group Parenthesis (stream_of_trees (printing.inputs px (f, ms) ++ printing.more px (f, ms) e)) t.span ++ y)))) (params_same l hl)
-      ∙ ap (λ z. binder_start l ++ (binder_joined (param px) l ++ (z ++ (p.group Parenthesis (stream_of_trees (printing.inputs px (f, ms) ++ printing.more px (f, ms) e)) t.span ++ y)))) (head_same l u a w)
-      ∙ ap (λ z. binder_start l ++ (binder_joined (param px) l ++ (fn_head_by l u a w ++ (p.group Parenthesis (stream_of_trees (z ++ printing.more px (f, ms) e)) t.span ++ y)))) (inputs_same k ms hk)
-      ∙ ap (λ z. binder_start l ++ (binder_joined (param px) l ++ (fn_head_by l u a w ++ (p.group Parenthesis (stream_of_trees (printing.inputs px (k, ms) ++ z)) t.span ++ y)))) (more_same (f, ms) m ∙ more_mapped px (normal.named_arg nx) k ms m)
-      ∙ ap (λ z. binder_start l ++ (binder_joined (param px) l ++ (fn_head_by l u a w ++ (p.group Parenthesis (stream_of_trees (printing.inputs px (k, ms) ++ printing.more px (k, ms) m)) t.span ++ z)))) (output_same q hq)
-      ∙ sym (fn_ptr_parts px l u a w t (k, ms) m q)
+      ap (fn_ptr px) (fn_ptr_normal nx b l u a w t (k, ms) m q) ∙ fn_ptr_parts px (nshapes.attrs nx b) n u a w t (f, ms) e (normal.return_type nx q)
+      ∙ ap (λ z. z ++ (binder_joined (param px) n ++ (fn_head_by n u a w ++ (p.group Parenthesis (stream_of_trees (printing.inputs px (f, ms) ++ printing.more px (f, ms) e)) t.span ++ y)))) (behind b (start_same l))
+      ∙ ap (λ z. fn_start_by px b l ++ (z ++ (fn_head_by n u a w ++ (p.group Parenthesis (stream_of_trees (printing.inputs px (f, ms) ++ printing.more px (f, ms) e)) t.span ++ y)))) (params_same l hl)
+      ∙ ap (λ z. fn_start_by px b l ++ (binder_joined (param px) l ++ (z ++ (p.group Parenthesis (stream_of_trees (printing.inputs px (f, ms) ++ printing.more px (f, ms) e)) t.span ++ y)))) (head_same l u a w)
+      ∙ ap (λ z. fn_start_by px b l ++ (binder_joined (param px) l ++ (fn_head_by l u a w ++ (p.group Parenthesis (stream_of_trees (z ++ printing.more px (f, ms) e)) t.span ++ y)))) (inputs_same k ms hk)
+      ∙ ap (λ z. fn_start_by px b l ++ (binder_joined (param px) l ++ (fn_head_by l u a w ++ (p.group Parenthesis (stream_of_trees (printing.inputs px (k, ms) ++ z)) t.span ++ y)))) (more_same (f, ms) m ∙ more_mapped px (normal.named_arg nx) k ms m)
+      ∙ ap (λ z. fn_start_by px b l ++ (binder_joined (param px) l ++ (fn_head_by l u a w ++ (p.group Parenthesis (stream_of_trees (printing.inputs px (k, ms) ++ printing.more px (k, ms) m)) t.span ++ z)))) (output_same q hq)
+      ∙ sym (fn_ptr_parts px b l u a w t (k, ms) m q)
 
-  fn_held : (l : Option (BoundLifetimesOf HeldParam)) (u : Option (Word 16)) (a : Option Abi) (w : Word 9) (t : Paren) (k : Many (NamedArgOf HeldType X) Comma)
+  fn_held : (b : Attrs X) (l : Option (BoundLifetimesOf HeldParam)) (u : Option (Word 16)) (a : Option Abi) (w : Word 9) (t : Paren) (k : Many (NamedArgOf HeldType X) Comma)
       (m : Option (FnPtrVariadic X)) (q : ReturnTypeOf HeldType) → SameFnPtr (roll-TypeFnPtr X (map-TypeFnPtr X HeldParam HeldBound HeldType HeldTypeParam HeldFnPtr (GenericParam X) (TypeParamBound X) (TypeTree X) (TypeParam X) (TypeFnPtr X) (λ a. a.0) (λ a. a.0) (λ a. a.0) (λ a. a.0) (λ a. a.0)
-      (record { lifetimes = l; unsafety = u; abi = a; fn_token = w; paren_token = t; inputs = k; variadic = m; output = q })))
-  fn_held None u a w t k m r.Default = fn_parts None u a w t (map plain_arg k.0) k.1 m r.Default tt (args_held k.0) tt
-  fn_held None u a w t k m (r.«Type» h x) = fn_parts None u a w t (map plain_arg k.0) k.1 m (r.«Type» h x.0) tt (args_held k.0) x.1
-  fn_held (Some z) u a w t k m r.Default = fn_parts (Some (bound_lifetimes_of z.for_token z.lt_token (map (λ (c : HeldParam). c.0) z.lifetimes.0, z.lifetimes.1) z.gt_token)) u a w t (map plain_arg k.0) k.1 m r.Default (each_held SameParam z.lifetimes.0) (args_held k.0) tt
-  fn_held (Some z) u a w t k m (r.«Type» h x) = fn_parts (Some (bound_lifetimes_of z.for_token z.lt_token (map (λ (c : HeldParam). c.0) z.lifetimes.0, z.lifetimes.1) z.gt_token)) u a w t (map plain_arg k.0) k.1 m (r.«Type» h x.0) (each_held SameParam z.lifetimes.0) (args_held k.0) x.1
+      (record { attrs = b; lifetimes = l; unsafety = u; abi = a; fn_token = w; paren_token = t; inputs = k; variadic = m; output = q })))
+  fn_held b None u a w t k m r.Default = fn_parts b None u a w t (map plain_arg k.0) k.1 m r.Default tt (args_held k.0) tt
+  fn_held b None u a w t k m (r.«Type» h x) = fn_parts b None u a w t (map plain_arg k.0) k.1 m (r.«Type» h x.0) tt (args_held k.0) x.1
+  fn_held b (Some z) u a w t k m r.Default = fn_parts b (Some (bound_lifetimes_of z.for_token z.lt_token (map (λ (c : HeldParam). c.0) z.lifetimes.0, z.lifetimes.1) z.gt_token)) u a w t (map plain_arg k.0) k.1 m r.Default (each_held SameParam z.lifetimes.0) (args_held k.0) tt
+  fn_held b (Some z) u a w t k m (r.«Type» h x) = fn_parts b (Some (bound_lifetimes_of z.for_token z.lt_token (map (λ (c : HeldParam). c.0) z.lifetimes.0, z.lifetimes.1) z.gt_token)) u a w t (map plain_arg k.0) k.1 m (r.«Type» h x.0) (each_held SameParam z.lifetimes.0) (args_held k.0) x.1
 
   fn_layer : (y : o.TypeFnPtr-F X HeldParam HeldBound HeldType HeldTypeParam HeldFnPtr) → SameFnPtr (roll-TypeFnPtr X (map-TypeFnPtr X HeldParam HeldBound HeldType HeldTypeParam HeldFnPtr (GenericParam X) (TypeParamBound X) (TypeTree X) (TypeParam X) (TypeFnPtr X) (λ a. a.0) (λ a. a.0) (λ a. a.0) (λ a. a.0) (λ a. a.0) y))
-  fn_layer y = fn_held y.lifetimes y.unsafety y.abi y.fn_token y.paren_token y.inputs y.variadic y.output
+  fn_layer y = fn_held y.attrs y.lifetimes y.unsafety y.abi y.fn_token y.paren_token y.inputs y.variadic y.output
 
   pub ty_same : (x : TypeTree X) → ty px (normal.ty nx x) ≡ ty px x
   ty_same =

@@ -1,6 +1,6 @@
 -- Where a read of a type answers, the answer spells what was taken, over the same law of the types that it holds.
 use Rattle.std.specs.Prelude.{IfOk}
-use Rattle.std.proofs.Common.{◌≡◌, ℕ, Bool, true, false, not, ◌&&◌, ◌||◌, List, [], ◌∷◌, Option, Some, None, Result, Ok, Err, inl, inr, refl, sym, ◌∙◌, ap, subst, arith}
+use Rattle.std.proofs.Common.{◌≡◌, ℕ, Bool, true, false, not, ◌&&◌, ◌||◌, List, [], ◌∷◌, map, Option, Some, None, Result, Ok, Err, inl, inr, refl, sym, ◌∙◌, ap, subst, arith}
 use Rattle.std.proofs.lemmas.Slice.Eq.{bytes_eq-Decides}
 use Rattle.token_core.specs.declared.lifetime.Lifetime.{Lifetime}
 use Rattle.token_core.specs.declared.word.Word.{Word}
@@ -26,8 +26,6 @@ use Rattle.token_core.proofs.Took.{branch, mapped, took_all}
 use Rattle.token_core.proofs.Turns.{chain, same_pair}
 use Rattle.token_core.proofs.WordSpells.{word_sound, word_visible, lifetime_sound, lifetime_visible}
 use Rattle.syn_mid.specs.declared.mac.Macro.{Macro}
-use Rattle.syn_mid.specs.declared.path.Path.{Path}
-use Rattle.syn_mid.specs.declared.path.PathSegment.{PathSegment}
 use Rattle.syn_mid.specs.declared.supplied.Expr.{Expr}
 use Rattle.syn_mid.specs.declared.supplied.Expr.TheVariants as expr
 use Rattle.syn_mid.specs.declared.ty.PointerMutability.{PointerMutability}
@@ -47,7 +45,7 @@ use Rattle.syn_mid.specs.declared.ty.TypeTupleOf.{TypeTupleOf}
 use Rattle.syn_mid.specs.Supplied.{Place, ArrayLen, UsesUp}
 use Rattle.syn_mid.specs.mac.Reading as macs
 use Rattle.syn_mid.specs.mac.Reading.{call_after}
-use Rattle.syn_mid.specs.path.Paths.{Sep}
+use Rattle.syn_mid.specs.path.Paths.{Sep, Path, PathSegment, nothing, no_arguments, segment_of, without}
 use Rattle.syn_mid.specs.path.Reading.{plain_path}
 use Rattle.syn_mid.specs.path.Spelling.{is_mod_word, is_type_word, no_leading, leading, AreSegments, last_segment, more_segments, a_bare_path, IsPlainPath}
 use Rattle.syn_mid.specs.ty.Reading as reading
@@ -57,6 +55,7 @@ use Rattle.syn_mid.specs.ty.Spelling as is
 use Rattle.syn_mid.specs.ty.Types.{Comma, array_of, infer_of, macro_type_of, never_of, paren_of, path_type_of, ptr_of, reference_of, slice_of, tuple_of, try_first, is_try_path}
 use Rattle.syn_mid.proofs.attr_laws.Sound.{TookOne, first_parts}
 use Rattle.syn_mid.proofs.mac_laws.Sound.{macro_sound, call_sound, visible_call}
+use Rattle.syn_mid.proofs.path_laws.Without.{path_without}
 use Rattle.syn_mid.proofs.path_laws.Sound.{plain_sound, visible_path}
 use Rattle.syn_mid.proofs.ty_laws.GroupsSound.{took_inside}
 
@@ -135,22 +134,22 @@ pub visible_mutability : (q : PointerMutability) (l r : Toks) → IsMutability q
 visible_mutability q l r (a_const {w = w} i) v = word_visible w l r i v
 visible_mutability q l r (a_mut {w = w} i) v = word_visible w l r i v
 
-pub infer_sound : (s t : Stream) (x : TypeInfer) → Visible s.rest → reading.infer s ≡ Ok (x, t) → Taken IsInfer s t x
+pub infer_sound : {X : Type 0} (s t : Stream) (x : TypeInfer X) → Visible s.rest → reading.infer s ≡ Ok (x, t) → Taken IsInfer s t x
 infer_sound s t x v e =
     let k = mapped (marks.read_named 19 s) infer_of x t e in
     let w = word_sound s t k.value v k.was in
     taken_as {Is = IsInfer} s t (infer_of k.value) x k.is (an_infer w.spelt) w.left
 
-pub visible_infer : (x : TypeInfer) (l r : Toks) → IsInfer x l r → Visible l → Visible r
+pub visible_infer : {X : Type 0} (x : TypeInfer X) (l r : Toks) → IsInfer x l r → Visible l → Visible r
 visible_infer x l r (an_infer {w = w} i) v = word_visible w l r i v
 
-pub never_sound : (s t : Stream) (x : TypeNever) → Visible s.rest → reading.never s ≡ Ok (x, t) → Taken (IsNever false) s t x
+pub never_sound : {X : Type 0} (s t : Stream) (x : TypeNever X) → Visible s.rest → reading.never s ≡ Ok (x, t) → Taken (IsNever false) s t x
 never_sound s t x v e =
     let k = mapped (macs.bang s) never_of x t e in
     let w = mark_sound {n = 0} {k = 1} refl (omega arith) s t k.value v k.was in
     taken_as {Is = IsNever false} s t (never_of k.value) x k.is (a_never w.spelt) w.left
 
-pub visible_never : (x : TypeNever) (l r : Toks) → IsNever false x l r → Visible l → Visible r
+pub visible_never : {X : Type 0} (x : TypeNever X) (l r : Toks) → IsNever false x l r → Visible l → Visible r
 visible_never x l r (a_never {b = b} i) v = mark_visible false {n = 0} {k = 1} b l r i v
 
 -- ---- paths and macro calls
@@ -171,33 +170,42 @@ first_word i k h = no_try i.text (is_text (marks.text_of 15) i.text) refl (only 
     only true h = refl
     only false h = h
 
+pub macro_type_sound : {X : Type 0} (s t : Stream) (x : TypeMacro X) → Visible s.rest → reading.macro_type s ≡ Ok (x, t) → Taken (IsMacroType false) s t x
+macro_type_sound s t x v e =
+    let k = mapped (macs.mac s) macro_type_of x t e in
+    let w = macro_sound s t k.value v k.was in
+    taken_as {Is = IsMacroType false} s t (macro_type_of k.value) x k.is (a_macro_type w.spelt) w.left
+
+pub visible_macro_type : {X : Type 0} (x : TypeMacro X) (l r : Toks) → IsMacroType false x l r → Visible l → Visible r
+visible_macro_type x l r (a_macro_type {x = y} i) v = visible_call y l r i v
+
 module _ {X : Type 0} where
   pub path_type_sound : (s t : Stream) (x : TypePathOf (TypeTree X) X) → Visible s.rest → reading.path_type s ≡ Ok (x, t) → Taken (IsPathType false) s t x
   path_type_sound s t x v e =
-      let k = mapped (plain_path s) path_type_of x t e in
-      let w = plain_sound s t k.value v k.was in
+      let k = mapped (plain_path no_arguments s) path_type_of x t e in
+      let w = plain_sound no_arguments s t k.value v k.was in
       taken_as {Is = IsPathType false} s t (path_type_of k.value) x k.is (a_path_type w.spelt) w.left
 
   pub visible_path_type : (x : TypePathOf (TypeTree X) X) (l r : Toks) → IsPathType false x l r → Visible l → Visible r
   visible_path_type x l r (a_path_type {p = p} i) v = visible_path p l r i v
 
-  pub macro_type_sound : (s t : Stream) (x : TypeMacro X) → Visible s.rest → reading.macro_type s ≡ Ok (x, t) → Taken (IsMacroType false) s t x
-  macro_type_sound s t x v e =
-      let k = mapped (macs.mac s) macro_type_of x t e in
-      let w = macro_sound s t k.value v k.was in
-      taken_as {Is = IsMacroType false} s t (macro_type_of k.value) x k.is (a_macro_type w.spelt) w.left
-
-  pub visible_macro_type : (x : TypeMacro X) (l r : Toks) → IsMacroType false x l r → Visible l → Visible r
-  visible_macro_type x l r (a_macro_type {x = y} i) v = visible_call y l r i v
-
-  segments_begin : (all : List (PathSegment X)) (seps : List Sep) (l r : Toks) → AreSegments false is_type_word all seps l r → begins_path l ≡ true → try_first None all ≡ false
+  segments_begin : (all : List (PathSegment X)) (seps : List Sep) (l r : Toks) → AreSegments false is_type_word no_arguments all seps l r → begins_path l ≡ true → try_first None all ≡ false
   segments_begin all seps l r (last_segment {i = i} h) b = first_word i r b
   segments_begin all seps l r (more_segments {i = i} h a k) b = first_word i _ b
 
   -- the path of a type doesn't begin with `try`
-  no_try_path : (p : Path X) (l r : Toks) → IsPlainPath false p l r → begins_path l ≡ true → is_try_path p ≡ false
+  no_try_path : (p : Path X) (l r : Toks) → IsPlainPath false no_arguments p l r → begins_path l ≡ true → is_try_path p ≡ false
   no_try_path p l r (a_bare_path {all = all} {seps = seps} no_leading k) b = segments_begin all seps l r k b
   no_try_path p l r (a_bare_path (leading i) k) b = refl
+
+  try_from : (o : Option Sep) (all : List (PathSegment X)) → try_first o (map (λ s. segment_of nothing s.ident) all) ≡ try_first o all
+  try_from None [] = refl
+  try_from None (s ∷ all) = refl
+  try_from (Some c) all = refl
+
+  -- its arguments don't matter for that
+  try_without : (p : Path X) → is_try_path (without nothing p) ≡ is_try_path p
+  try_without p = try_from p.leading_colon p.segments.0
 
   -- what ends a type takes nothing
   ended_same : (plus : Bool) (x y : TypeTree X) (s t : Stream) → ended plus x s ≡ Ok (y, t) → (x ≡ y) × (s ≡ t)
@@ -400,41 +408,41 @@ module _ {X : Type 0} (reads : Place → Reader X) (spells : Place → X → Tok
       subst (λ z. IsArray spells false T (array_of (groups.bracket s) x n.0 n.1) z r) (sym h)
       (subst (λ z. IsArray spells false T (array_of (groups.bracket s) x n.0 z) (group Bracket s c r) r) i.2.is (an_array i.1 i.2.mark i.2.spelt))
 
-  pub array_took : (s t : Stream) (x : TypeArrayOf (TypeTree X) (Expr X)) → Visible s.rest → reading.array reads typ s ≡ Ok (x, t) → TookOne (IsArray spells false T) s t x
+  pub array_took : (s t : Stream) (x : TypeArrayOf (TypeTree X) X) → Visible s.rest → reading.array reads typ s ≡ Ok (x, t) → TookOne (IsArray spells false T) s t x
   unfolding reading.array
   array_took s t x v e =
-      let f : DelimSpan × (TypeTree X × Length X) → TypeArrayOf (TypeTree X) (Expr X) = λ g. array_of (groups.bracket g.0) g.1.0 g.1.1.0 g.1.1.1 in
+      let f : DelimSpan × (TypeTree X × Length X) → TypeArrayOf (TypeTree X) X = λ g. array_of (groups.bracket g.0) g.1.0 g.1.1.0 g.1.1.1 in
       let k = mapped (in_group Bracket groups.bracket_name (array_content reads typ) s) f x t e in
       took_as {Is = IsHeld Bracket HoldsCounted} {Js = IsArray spells false T} f s t k.value x k.is (λ l r i. array_at k.value.0 k.value.1.0 k.value.1.1 i.content l r i.is i.holds)
       (held_sound Bracket HoldsCounted groups.bracket_name (array_content reads typ) array_content_sound s t k.value v k.was)
 
-  pub slice_took : (s t : Stream) (x : TypeSliceOf (TypeTree X)) → Visible s.rest → reading.slice reads typ s ≡ Ok (x, t) → TookOne (IsSlice spells false T) s t x
+  pub slice_took : (s t : Stream) (x : TypeSliceOf (TypeTree X) X) → Visible s.rest → reading.slice reads typ s ≡ Ok (x, t) → TookOne (IsSlice spells false T) s t x
   unfolding reading.slice
   slice_took s t x v e =
-      let f : DelimSpan × TypeTree X → TypeSliceOf (TypeTree X) = λ g. slice_of (groups.bracket g.0) g.1 in
+      let f : DelimSpan × TypeTree X → TypeSliceOf (TypeTree X) X = λ g. slice_of (groups.bracket g.0) g.1 in
       let k = mapped (in_group Bracket groups.bracket_name (typ true) s) f x t e in
       took_as {Is = IsHeld Bracket (λ y c. T true y c done)} {Js = IsSlice spells false T} f s t k.value x k.is (λ l r i. slice_at k.value.0 k.value.1 i.content l r i.is i.holds)
       (held_sound Bracket (λ y c. T true y c done) groups.bracket_name (typ true) (alone true) s t k.value v k.was)
 
-  pub paren_took : (s t : Stream) (x : TypeParenOf (TypeTree X)) → Visible s.rest → reading.paren reads typ s ≡ Ok (x, t) → TookOne (IsParen spells false T false) s t x
+  pub paren_took : (s t : Stream) (x : TypeParenOf (TypeTree X) X) → Visible s.rest → reading.paren reads typ s ≡ Ok (x, t) → TookOne (IsParen spells false T false) s t x
   unfolding reading.paren
   paren_took s t x v e =
-      let f : DelimSpan × TypeTree X → TypeParenOf (TypeTree X) = λ g. paren_of (groups.paren g.0) g.1 in
+      let f : DelimSpan × TypeTree X → TypeParenOf (TypeTree X) X = λ g. paren_of (groups.paren g.0) g.1 in
       let k = mapped (in_group Parenthesis groups.paren_name (typ false) s) f x t e in
       took_as {Is = IsHeld Parenthesis (λ y c. T false y c done)} {Js = IsParen spells false T false} f s t k.value x k.is (λ l r i. paren_at false k.value.0 k.value.1 i.content l r i.is i.holds)
       (held_sound Parenthesis (λ y c. T false y c done) groups.paren_name (typ false) (alone false) s t k.value v k.was)
 
-  pub tuple_took : (s t : Stream) (x : TypeTupleOf (TypeTree X)) → Visible s.rest → reading.tuple reads typ s ≡ Ok (x, t) → TookOne (IsTuple spells false T) s t x
+  pub tuple_took : (s t : Stream) (x : TypeTupleOf (TypeTree X) X) → Visible s.rest → reading.tuple reads typ s ≡ Ok (x, t) → TookOne (IsTuple spells false T) s t x
   unfolding reading.tuple
   tuple_took s t x v e =
-      let f : DelimSpan × Many (TypeTree X) Comma → TypeTupleOf (TypeTree X) = λ g. tuple_of (groups.paren g.0) g.1 in
+      let f : DelimSpan × Many (TypeTree X) Comma → TypeTupleOf (TypeTree X) X = λ g. tuple_of (groups.paren g.0) g.1 in
       let k = mapped (in_group Parenthesis groups.paren_name (tuple_content reads typ) s) f x t e in
       took_as {Is = IsHeld Parenthesis Elements} {Js = IsTuple spells false T} f s t k.value x k.is (λ l r i. tuple_at k.value.0 k.value.1 i.content l r i.is i.holds)
       (held_sound Parenthesis Elements groups.paren_name (tuple_content reads typ) tuple_content_sound s t k.value v k.was)
 
   -- ---- pointers and references
 
-  pub ptr_took : (s t : Stream) (x : TypePtrOf (TypeTree X)) → Visible s.rest → reading.ptr reads typ s ≡ Ok (x, t) → TookOne (IsPtr spells false T) s t x
+  pub ptr_took : (s t : Stream) (x : TypePtrOf (TypeTree X) X) → Visible s.rest → reading.ptr reads typ s ≡ Ok (x, t) → TookOne (IsPtr spells false T) s t x
   unfolding reading.ptr
   ptr_took s t x v e =
       let c = chain (reading.star s) _ x t e in
@@ -450,7 +458,7 @@ module _ {X : Type 0} (reads : Place → Reader X) (spells : Place → X → Tok
         spelt = λ h. subst (λ z. IsPtr spells false T z s.rest t.rest) g.is (a_ptr k.spelt q.spelt (w.spelt h));
       }
 
-  pub reference_took : (s t : Stream) (x : TypeReferenceOf (TypeTree X)) → Visible s.rest → reading.reference reads typ s ≡ Ok (x, t) → TookOne (IsReference spells false T) s t x
+  pub reference_took : (s t : Stream) (x : TypeReferenceOf (TypeTree X) X) → Visible s.rest → reading.reference reads typ s ≡ Ok (x, t) → TookOne (IsReference spells false T) s t x
   unfolding reading.reference
   reference_took s t x v e =
       let c = chain (reading.and s) _ x t e in
@@ -494,30 +502,30 @@ module _ {X : Type 0} (reads : Place → Reader X) (spells : Place → X → Tok
       ]
 
   -- a path that no call follows
-  path_at : (plus : Bool) (p : Path X) (x : TypeTree X) (s c t : Stream) → IsPlainPath false p s.rest c.rest → is_try_path p ≡ false → c.left ≡ s.left → Visible s.rest → variant.Path (path_type_of p) ≡ x → c ≡ t → TookOne (Is plus) s t x
+  path_at : (plus : Bool) (p : Path X) (x : TypeTree X) (s c t : Stream) → IsPlainPath false no_arguments p s.rest c.rest → is_try_path p ≡ false → c.left ≡ s.left → Visible s.rest → variant.Path (path_type_of p) ≡ x → c ≡ t → TookOne (Is plus) s t x
   path_at plus p x s c t i n h k g w =
       subst (λ z. TookOne (Is plus) s t z) g
       (subst (λ z. TookOne (Is plus) s z (variant.Path (path_type_of p))) w (took_plainly {Is = Is plus} s c (variant.Path (path_type_of p)) (is.path (a_path_type i) n) h (visible_path p s.rest c.rest i k)))
 
-  call_at : (plus : Bool) (p : Path X) (y : Macro X) (x : TypeTree X) (s c t : Stream) → IsPlainPath false p s.rest c.rest → is_try_path p ≡ false → c.left ≡ s.left → Visible s.rest → Visible c.rest →
-      call_after p c ≡ Ok (y, t) → variant.Macro (macro_type_of y) ≡ x → TookOne (Is plus) s t x
+  call_at : (plus : Bool) (p : Path X) (y : Macro) (x : TypeTree X) (s c t : Stream) → IsPlainPath false no_arguments p s.rest c.rest → is_try_path p ≡ false → c.left ≡ s.left → Visible s.rest → Visible c.rest →
+      call_after (without nothing p) c ≡ Ok (y, t) → variant.Macro (macro_type_of y) ≡ x → TookOne (Is plus) s t x
   unfolding call_after
   call_at plus p y x s c t i n h k vc e g =
-      let w = call_sound is_type_word p s.rest c t y i vc e in
+      let w = call_sound is_type_word (without nothing p) s.rest c t y (path_without no_arguments nothing p s.rest c.rest i) vc e in
       let a = chain (macs.bang c) _ y t e in
       let b = chain (macs.body a.rest) _ y t a.goes in
       let q = same_pair _ y b.rest t b.goes in
-      let same : is_try_path y.path ≡ false = ap (λ (z : Macro X). is_try_path z.path) (sym q.0) ∙ n in
+      let same : is_try_path y.path ≡ false = ap (λ (z : Macro). is_try_path z.path) (sym q.0) ∙ try_without p ∙ n in
       subst (λ z. TookOne (Is plus) s t z) g (took_plainly {Is = Is plus} s t (variant.Macro (macro_type_of y)) (is.macro_call w.0 same) (w.1 ∙ h) (visible_call y s.rest t.rest w.0 k))
 
   path_or_macro_took : (plus : Bool) (s t : Stream) (x : TypeTree X) → Visible s.rest → begins_path s.rest ≡ true → path_or_macro plus s ≡ Ok (x, t) → TookOne (Is plus) s t x
   unfolding path_or_macro
   path_or_macro_took plus s t x v b e =
-      let c = chain (plain_path s) _ x t e in
-      let p = plain_sound s c.rest c.value v c.was in
+      let c = chain (plain_path no_arguments s) _ x t e in
+      let p = plain_sound no_arguments s c.rest c.value v c.was in
       let n = no_try_path c.value s.rest c.rest.rest p.spelt b in
       elim (branch (sees_call c.rest.rest) _ _ c.rest (Ok (x, t)) c.goes) [
-        | inl y ↦ let k = mapped (call_after c.value c.rest) (λ (z : Macro X). variant.Macro (macro_type_of z)) x t y.1 in
+        | inl y ↦ let k = mapped (call_after (without nothing c.value) c.rest) (λ (z : Macro). variant.Macro (macro_type_of z)) x t y.1 in
             call_at plus c.value k.value x s c.rest t p.spelt n p.left v (visible_path c.value s.rest c.rest.rest p.spelt v) k.was k.is
         | inr y ↦ let g = ended_same plus (variant.Path (path_type_of c.value)) x c.rest t y.1 in path_at plus c.value x s c.rest t p.spelt n p.left v g.0 g.1
       ]

@@ -20,7 +20,7 @@ use Rattle.syn_mid.specs.declared.generics.TraitBoundOf.{TraitBoundOf}
 use Rattle.syn_mid.specs.declared.generics.TypeParam.{TypeParam, roll-TypeParam, map-TypeParam, out-TypeParam, roll-out-TypeParam}
 use Rattle.syn_mid.specs.declared.generics.TypeParamBound.{TypeParamBound, roll-TypeParamBound, map-TypeParamBound}
 use Rattle.syn_mid.specs.declared.generics.TypeParamBound.TheVariants as b
-use Rattle.syn_mid.specs.declared.path.Path.{Path}
+use Rattle.syn_mid.specs.path.Paths.{Path}
 use Rattle.syn_mid.specs.declared.path.QSelfOf.{QSelfOf}
 use Rattle.syn_mid.specs.declared.supplied.Expr.{Expr}
 use Rattle.syn_mid.specs.declared.ty.Abi.{Abi}
@@ -50,7 +50,7 @@ use Rattle.syn_mid.specs.generics.Params.{Attrs, Colon, Eq, bound_lifetimes_of, 
 use Rattle.syn_mid.specs.generics.Shapes.{is_captured_lifetime}
 use Rattle.syn_mid.specs.ty.Normal as normal
 use Rattle.syn_mid.specs.ty.Normal.{ty, fn_ptr, param, type_param, bound}
-use Rattle.syn_mid.specs.ty.Types.{Comma, Plus, array_of, fn_ptr_of, group_of, impl_trait_of, named_arg_of, paren_of, ptr_of, qself_of, qualified_of, reference_of, slice_of, trait_object_of, tuple_of, variadic_of}
+use Rattle.syn_mid.specs.ty.Types.{infer_with, macro_type_with, never_with, Comma, Plus, array_with, fn_ptr_with, group_with, impl_trait_with, named_arg_of, paren_with, ptr_with, qself_of, qualified_with, reference_with, slice_with, trait_object_with, tuple_with, variadic_of}
 use Rattle.syn_mid.proofs.attr_laws.Normal.{attributes_stay, at_place_stays}
 use Rattle.syn_mid.proofs.generics_laws.Members.{sort_stays}
 use Rattle.syn_mid.proofs.ty_laws.Each.{Each, each_held, each_of, map_stays}
@@ -72,6 +72,10 @@ module _ {X : Type 0} (nx : Place → X → X) (own : (w : Place) (x : X) → nx
 
   pub const_argument_stays : (x : Expr X) → const_argument nx (const_argument nx x) ≡ const_argument nx x
   const_argument_stays x = at_place_stays nx own Block x
+
+  -- a tree of attributes and of what else has a normal form
+  both : {A B : Type 0} (f : Attrs X → A → B) (a : Attrs X) {x y : A} → x ≡ y → f (attrs nx (attrs nx a)) x ≡ f (attrs nx a) y
+  both f a {x = x} h = ap (λ u. f u x) (attrs_stay a) ∙ ap (f (attrs nx a)) h
 
   pub lifetime_param_stays : (x : LifetimeParam X) → lifetime_param nx (lifetime_param nx x) ≡ lifetime_param nx x
   lifetime_param_stays x =
@@ -140,69 +144,69 @@ module _ {X : Type 0} (nx : Place → X → X) (own : (w : Place) (x : X) → nx
   self_stays None h = refl
   self_stays (Some q) h = ap (λ u. Some (qself_of q.lt_token u q.position q.as_token q.gt_token)) h
 
-  path_own : (q : Option (QSelfOf (TypeTree X))) (z : Path X) → OwnSelf q → Own (v.Path (qualified_of q z))
-  path_own q z h =
-      let x = qualified_of q z in
-      by_form (v.Path x) (v.Path (normal.path_type nx x)) (normal-Path nx x) (normal-Path nx (normal.path_type nx x) ∙ ap (λ u. v.Path (qualified_of u z)) (self_stays q h))
+  path_own : (a : Attrs X) (q : Option (QSelfOf (TypeTree X))) (z : Path X) → OwnSelf q → Own (v.Path (qualified_with a q z))
+  path_own a q z h =
+      let x = qualified_with a q z in
+      by_form (v.Path x) (v.Path (normal.path_type nx x)) (normal-Path nx x) (normal-Path nx (normal.path_type nx x) ∙ both (λ b u. v.Path (qualified_with b u z)) a (self_stays q h))
 
-  path_held : (q : Option (QSelfOf HeldType)) (z : Path X) → Own (roll-Type X (map-Type X HeldParam HeldBound HeldType HeldTypeParam HeldFnPtr (GenericParam X) (TypeParamBound X) (TypeTree X) (TypeParam X) (TypeFnPtr X) (λ a. a.0) (λ a. a.0) (λ a. a.0) (λ a. a.0) (λ a. a.0) (o.Path (qualified_of q z))))
-  path_held None z = subst Own (sym (v.rolls-Path (qualified_of None z))) (path_own None z tt)
-  path_held (Some q) z =
+  path_held : (a : Attrs X) (q : Option (QSelfOf HeldType)) (z : Path X) → Own (roll-Type X (map-Type X HeldParam HeldBound HeldType HeldTypeParam HeldFnPtr (GenericParam X) (TypeParamBound X) (TypeTree X) (TypeParam X) (TypeFnPtr X) (λ a. a.0) (λ a. a.0) (λ a. a.0) (λ a. a.0) (λ a. a.0) (o.Path (qualified_with a q z))))
+  path_held a None z = subst Own (sym (v.rolls-Path (qualified_with a None z))) (path_own a None z tt)
+  path_held a (Some q) z =
       let s = Some (qself_of q.lt_token q.ty.0 q.position q.as_token q.gt_token) in
-      subst Own (sym (v.rolls-Path (qualified_of s z))) (path_own s z q.ty.1)
+      subst Own (sym (v.rolls-Path (qualified_with a s z))) (path_own a s z q.ty.1)
 
   layer_stays : (y : o.Type-F X HeldParam HeldBound HeldType HeldTypeParam HeldFnPtr) → Own (roll-Type X (map-Type X HeldParam HeldBound HeldType HeldTypeParam HeldFnPtr (GenericParam X) (TypeParamBound X) (TypeTree X) (TypeParam X) (TypeFnPtr X) (λ a. a.0) (λ a. a.0) (λ a. a.0) (λ a. a.0) (λ a. a.0) y))
   layer_stays (o.Array y) =
-      let x = array_of y.bracket_token y.elem.0 y.semi_token y.len in
+      let x = array_with y.attrs y.bracket_token y.elem.0 y.semi_token y.len in
       let z = normal.array nx x in
       subst Own (sym (v.rolls-Array x))
       (by_form (v.Array x) (v.Array z) (normal-Array nx x)
-      (normal-Array nx z ∙ ap (λ u. v.Array (array_of y.bracket_token u y.semi_token (normal.len nx (normal.len nx y.len)))) y.elem.1 ∙ ap (λ u. v.Array (array_of y.bracket_token (ty nx y.elem.0) y.semi_token u)) (len_stays y.len)))
+      (normal-Array nx z ∙ both (λ b u. v.Array (array_with b y.bracket_token u y.semi_token (normal.len nx (normal.len nx y.len)))) y.attrs y.elem.1 ∙ ap (λ u. v.Array (array_with (attrs nx y.attrs) y.bracket_token (ty nx y.elem.0) y.semi_token u)) (len_stays y.len)))
   layer_stays (o.FnPtr y) = let z = fn_ptr nx y.0 in subst Own (sym (v.rolls-FnPtr y.0)) (by_form (v.FnPtr y.0) (v.FnPtr z) (normal-FnPtr nx y.0) (normal-FnPtr nx z ∙ ap v.FnPtr y.1))
   layer_stays (o.Group y) =
-      let x = group_of y.group_token y.elem.0 in
+      let x = group_with y.attrs y.group_token y.elem.0 in
       let z = normal.group nx x in
-      subst Own (sym (v.rolls-Group x)) (by_form (v.Group x) (v.Group z) (normal-Group nx x) (normal-Group nx z ∙ ap (λ u. v.Group (group_of y.group_token u)) y.elem.1))
+      subst Own (sym (v.rolls-Group x)) (by_form (v.Group x) (v.Group z) (normal-Group nx x) (normal-Group nx z ∙ both (λ b u. v.Group (group_with b y.group_token u)) y.attrs y.elem.1))
   layer_stays (o.ImplTrait y) =
       let all = map (λ (a : HeldBound). a.0) y.bounds.0 in
-      let x = impl_trait_of y.impl_token (all, y.bounds.1) in
+      let x = impl_trait_with y.attrs y.impl_token (all, y.bounds.1) in
       let z = normal.impl_trait nx x in
       subst Own (sym (v.rolls-ImplTrait x))
-      (by_form (v.ImplTrait x) (v.ImplTrait z) (normal-ImplTrait nx x) (normal-ImplTrait nx z ∙ ap (λ u. v.ImplTrait (impl_trait_of y.impl_token (u, y.bounds.1))) (map_stays (bound nx) all (each_held OwnBound y.bounds.0))))
-  layer_stays (o.Infer x) = subst Own (sym (v.rolls-Infer x)) (by_form (v.Infer x) (v.Infer x) (normal-Infer nx x) (normal-Infer nx x))
-  layer_stays (o.Macro x) = subst Own (sym (v.rolls-Macro x)) (by_form (v.Macro x) (v.Macro x) (normal-Macro nx x) (normal-Macro nx x))
-  layer_stays (o.Never x) = subst Own (sym (v.rolls-Never x)) (by_form (v.Never x) (v.Never x) (normal-Never nx x) (normal-Never nx x))
+      (by_form (v.ImplTrait x) (v.ImplTrait z) (normal-ImplTrait nx x) (normal-ImplTrait nx z ∙ both (λ b u. v.ImplTrait (impl_trait_with b y.impl_token (u, y.bounds.1))) y.attrs (map_stays (bound nx) all (each_held OwnBound y.bounds.0))))
+  layer_stays (o.Infer x) = subst Own (sym (v.rolls-Infer x)) (by_form (v.Infer x) (v.Infer (normal.infer nx x)) (normal-Infer nx x) (normal-Infer nx (normal.infer nx x) ∙ ap (λ u. v.Infer (infer_with u x.underscore_token)) (attrs_stay x.attrs)))
+  layer_stays (o.Macro x) = subst Own (sym (v.rolls-Macro x)) (by_form (v.Macro x) (v.Macro (normal.macro_type nx x)) (normal-Macro nx x) (normal-Macro nx (normal.macro_type nx x) ∙ ap (λ u. v.Macro (macro_type_with u x.mac)) (attrs_stay x.attrs)))
+  layer_stays (o.Never x) = subst Own (sym (v.rolls-Never x)) (by_form (v.Never x) (v.Never (normal.never nx x)) (normal-Never nx x) (normal-Never nx (normal.never nx x) ∙ ap (λ u. v.Never (never_with u x.bang_token)) (attrs_stay x.attrs)))
   layer_stays (o.Paren y) =
-      let x = paren_of y.paren_token y.elem.0 in
+      let x = paren_with y.attrs y.paren_token y.elem.0 in
       let z = normal.paren nx x in
-      subst Own (sym (v.rolls-Paren x)) (by_form (v.Paren x) (v.Paren z) (normal-Paren nx x) (normal-Paren nx z ∙ ap (λ u. v.Paren (paren_of y.paren_token u)) y.elem.1))
-  layer_stays (o.Path y) = path_held y.qself y.path
+      subst Own (sym (v.rolls-Paren x)) (by_form (v.Paren x) (v.Paren z) (normal-Paren nx x) (normal-Paren nx z ∙ both (λ b u. v.Paren (paren_with b y.paren_token u)) y.attrs y.elem.1))
+  layer_stays (o.Path y) = path_held y.attrs y.qself y.path
   layer_stays (o.Ptr y) =
-      let x = ptr_of y.star_token y.mutability y.elem.0 in
+      let x = ptr_with y.attrs y.star_token y.mutability y.elem.0 in
       let z = normal.ptr nx x in
-      subst Own (sym (v.rolls-Ptr x)) (by_form (v.Ptr x) (v.Ptr z) (normal-Ptr nx x) (normal-Ptr nx z ∙ ap (λ u. v.Ptr (ptr_of y.star_token y.mutability u)) y.elem.1))
+      subst Own (sym (v.rolls-Ptr x)) (by_form (v.Ptr x) (v.Ptr z) (normal-Ptr nx x) (normal-Ptr nx z ∙ both (λ b u. v.Ptr (ptr_with b y.star_token y.mutability u)) y.attrs y.elem.1))
   layer_stays (o.Reference y) =
-      let x = reference_of y.and_token y.lifetime y.mutability y.elem.0 in
+      let x = reference_with y.attrs y.and_token y.lifetime y.mutability y.elem.0 in
       let z = normal.reference nx x in
-      subst Own (sym (v.rolls-Reference x)) (by_form (v.Reference x) (v.Reference z) (normal-Reference nx x) (normal-Reference nx z ∙ ap (λ u. v.Reference (reference_of y.and_token y.lifetime y.mutability u)) y.elem.1))
+      subst Own (sym (v.rolls-Reference x)) (by_form (v.Reference x) (v.Reference z) (normal-Reference nx x) (normal-Reference nx z ∙ both (λ b u. v.Reference (reference_with b y.and_token y.lifetime y.mutability u)) y.attrs y.elem.1))
   layer_stays (o.Slice y) =
-      let x = slice_of y.bracket_token y.elem.0 in
+      let x = slice_with y.attrs y.bracket_token y.elem.0 in
       let z = normal.slice nx x in
-      subst Own (sym (v.rolls-Slice x)) (by_form (v.Slice x) (v.Slice z) (normal-Slice nx x) (normal-Slice nx z ∙ ap (λ u. v.Slice (slice_of y.bracket_token u)) y.elem.1))
+      subst Own (sym (v.rolls-Slice x)) (by_form (v.Slice x) (v.Slice z) (normal-Slice nx x) (normal-Slice nx z ∙ both (λ b u. v.Slice (slice_with b y.bracket_token u)) y.attrs y.elem.1))
   layer_stays (o.TraitObject y) =
       let all = map (λ (a : HeldBound). a.0) y.bounds.0 in
-      let x = trait_object_of y.dyn_token (all, y.bounds.1) in
+      let x = trait_object_with y.attrs y.dyn_token (all, y.bounds.1) in
       let z = normal.trait_object nx x in
       subst Own (sym (v.rolls-TraitObject x))
       (by_form (v.TraitObject x) (v.TraitObject z) (normal-TraitObject nx x)
-      (normal-TraitObject nx z ∙ ap (λ u. v.TraitObject (trait_object_of y.dyn_token (u, y.bounds.1))) (map_stays (bound nx) all (each_held OwnBound y.bounds.0))))
+      (normal-TraitObject nx z ∙ both (λ b u. v.TraitObject (trait_object_with b y.dyn_token (u, y.bounds.1))) y.attrs (map_stays (bound nx) all (each_held OwnBound y.bounds.0))))
   layer_stays (o.Tuple y) =
       let all = map (λ (a : HeldType). a.0) y.elems.0 in
-      let x = tuple_of y.paren_token (all, y.elems.1) in
+      let x = tuple_with y.attrs y.paren_token (all, y.elems.1) in
       let z = normal.tuple nx x in
       subst Own (sym (v.rolls-Tuple x))
       (by_form (v.Tuple x) (v.Tuple z) (normal-Tuple nx x)
-      (normal-Tuple nx z ∙ ap (λ u. v.Tuple (tuple_of y.paren_token (u, y.elems.1))) (map_stays (ty nx) all (each_held Own y.elems.0))))
+      (normal-Tuple nx z ∙ both (λ b u. v.Tuple (tuple_with b y.paren_token (u, y.elems.1))) y.attrs (map_stays (ty nx) all (each_held Own y.elems.0))))
   layer_stays (o.Type::Verbatim x) = subst Own (sym (v.rolls-Verbatim x)) (by_form (v.Verbatim x) (v.Verbatim x) (normal-Verbatim nx x) (normal-Verbatim nx x))
 
   -- ---- parameters and bounds
@@ -308,31 +312,31 @@ module _ {X : Type 0} (nx : Place → X → X) (own : (w : Place) (x : X) → nx
   output_stays r.Default h = refl
   output_stays (r.«Type» t x) h = ap (r.«Type» t) h
 
-  fn_parts : (l : Option (BoundLifetimesOf (GenericParam X))) (u : Option (Word 16)) (a : Option Abi) (w : Word 9) (t : Paren) (k : List (NamedArgOf (TypeTree X) X)) (ms : List Comma)
-      (m : Option (FnPtrVariadic X)) (q : ReturnTypeOf (TypeTree X)) → EachOf l → Each OwnArg k → OwnOutput q → OwnFnPtr (fn_ptr_of l u a w t (k, ms) m q)
-  fn_parts l u a w t k ms m q hl hk hq =
+  fn_parts : (b : Attrs X) (l : Option (BoundLifetimesOf (GenericParam X))) (u : Option (Word 16)) (a : Option Abi) (w : Word 9) (t : Paren) (k : List (NamedArgOf (TypeTree X) X)) (ms : List Comma)
+      (m : Option (FnPtrVariadic X)) (q : ReturnTypeOf (TypeTree X)) → EachOf l → Each OwnArg k → OwnOutput q → OwnFnPtr (fn_ptr_with b l u a w t (k, ms) m q)
+  fn_parts b l u a w t k ms m q hl hk hq =
       let f = normal.named_arg nx in
-      let is = fn_ptr_normal nx l u a w t (k, ms) m q in
+      let is = fn_ptr_normal nx b l u a w t (k, ms) m q in
       let n = binder_by (param nx) l in
       let e = normal.optional_variadic nx m in
       let y = normal.return_type nx q in
-      ap (fn_ptr nx) is ∙ fn_ptr_normal nx n u a w t (map f k, ms) e y
-      ∙ ap (λ z. fn_ptr_of z u a w t (map f (map f k), ms) (normal.optional_variadic nx e) (normal.return_type nx y)) (binder_parts l hl)
-      ∙ ap (λ z. fn_ptr_of n u a w t (z, ms) (normal.optional_variadic nx e) (normal.return_type nx y)) (args_stay k hk)
-      ∙ ap (λ z. fn_ptr_of n u a w t (map f k, ms) z (normal.return_type nx y)) (optional_variadic_stays m)
-      ∙ ap (λ z. fn_ptr_of n u a w t (map f k, ms) e z) (output_stays q hq)
+      ap (fn_ptr nx) is ∙ fn_ptr_normal nx (attrs nx b) n u a w t (map f k, ms) e y
+      ∙ both (λ c z. fn_ptr_with c z u a w t (map f (map f k), ms) (normal.optional_variadic nx e) (normal.return_type nx y)) b (binder_parts l hl)
+      ∙ ap (λ z. fn_ptr_with (attrs nx b) n u a w t (z, ms) (normal.optional_variadic nx e) (normal.return_type nx y)) (args_stay k hk)
+      ∙ ap (λ z. fn_ptr_with (attrs nx b) n u a w t (map f k, ms) z (normal.return_type nx y)) (optional_variadic_stays m)
+      ∙ ap (λ z. fn_ptr_with (attrs nx b) n u a w t (map f k, ms) e z) (output_stays q hq)
       ∙ sym is
 
-  fn_held : (l : Option (BoundLifetimesOf HeldParam)) (u : Option (Word 16)) (a : Option Abi) (w : Word 9) (t : Paren) (k : Many (NamedArgOf HeldType X) Comma)
+  fn_held : (b : Attrs X) (l : Option (BoundLifetimesOf HeldParam)) (u : Option (Word 16)) (a : Option Abi) (w : Word 9) (t : Paren) (k : Many (NamedArgOf HeldType X) Comma)
       (m : Option (FnPtrVariadic X)) (q : ReturnTypeOf HeldType) → OwnFnPtr (roll-TypeFnPtr X (map-TypeFnPtr X HeldParam HeldBound HeldType HeldTypeParam HeldFnPtr (GenericParam X) (TypeParamBound X) (TypeTree X) (TypeParam X) (TypeFnPtr X) (λ a. a.0) (λ a. a.0) (λ a. a.0) (λ a. a.0) (λ a. a.0)
-      (record { lifetimes = l; unsafety = u; abi = a; fn_token = w; paren_token = t; inputs = k; variadic = m; output = q })))
-  fn_held None u a w t k m r.Default = fn_parts None u a w t (map plain_arg k.0) k.1 m r.Default tt (args_held k.0) tt
-  fn_held None u a w t k m (r.«Type» h x) = fn_parts None u a w t (map plain_arg k.0) k.1 m (r.«Type» h x.0) tt (args_held k.0) x.1
-  fn_held (Some z) u a w t k m r.Default = fn_parts (Some (bound_lifetimes_of z.for_token z.lt_token (map (λ (c : HeldParam). c.0) z.lifetimes.0, z.lifetimes.1) z.gt_token)) u a w t (map plain_arg k.0) k.1 m r.Default (each_held OwnParam z.lifetimes.0) (args_held k.0) tt
-  fn_held (Some z) u a w t k m (r.«Type» h x) = fn_parts (Some (bound_lifetimes_of z.for_token z.lt_token (map (λ (c : HeldParam). c.0) z.lifetimes.0, z.lifetimes.1) z.gt_token)) u a w t (map plain_arg k.0) k.1 m (r.«Type» h x.0) (each_held OwnParam z.lifetimes.0) (args_held k.0) x.1
+      (record { attrs = b; lifetimes = l; unsafety = u; abi = a; fn_token = w; paren_token = t; inputs = k; variadic = m; output = q })))
+  fn_held b None u a w t k m r.Default = fn_parts b None u a w t (map plain_arg k.0) k.1 m r.Default tt (args_held k.0) tt
+  fn_held b None u a w t k m (r.«Type» h x) = fn_parts b None u a w t (map plain_arg k.0) k.1 m (r.«Type» h x.0) tt (args_held k.0) x.1
+  fn_held b (Some z) u a w t k m r.Default = fn_parts b (Some (bound_lifetimes_of z.for_token z.lt_token (map (λ (c : HeldParam). c.0) z.lifetimes.0, z.lifetimes.1) z.gt_token)) u a w t (map plain_arg k.0) k.1 m r.Default (each_held OwnParam z.lifetimes.0) (args_held k.0) tt
+  fn_held b (Some z) u a w t k m (r.«Type» h x) = fn_parts b (Some (bound_lifetimes_of z.for_token z.lt_token (map (λ (c : HeldParam). c.0) z.lifetimes.0, z.lifetimes.1) z.gt_token)) u a w t (map plain_arg k.0) k.1 m (r.«Type» h x.0) (each_held OwnParam z.lifetimes.0) (args_held k.0) x.1
 
   fn_layer : (y : o.TypeFnPtr-F X HeldParam HeldBound HeldType HeldTypeParam HeldFnPtr) → OwnFnPtr (roll-TypeFnPtr X (map-TypeFnPtr X HeldParam HeldBound HeldType HeldTypeParam HeldFnPtr (GenericParam X) (TypeParamBound X) (TypeTree X) (TypeParam X) (TypeFnPtr X) (λ a. a.0) (λ a. a.0) (λ a. a.0) (λ a. a.0) (λ a. a.0) y))
-  fn_layer y = fn_held y.lifetimes y.unsafety y.abi y.fn_token y.paren_token y.inputs y.variadic y.output
+  fn_layer y = fn_held y.attrs y.lifetimes y.unsafety y.abi y.fn_token y.paren_token y.inputs y.variadic y.output
 
   pub ty_stays : (x : TypeTree X) → ty nx (ty nx x) ≡ ty nx x
   ty_stays =

@@ -24,7 +24,7 @@ use Rattle.token_core.proofs.Turns.{chain, same_pair, size_suffix, word_takes}
 use Rattle.token_core.proofs.WordSpells.{went_on}
 use Rattle.syn_mid.specs.declared.mac.Macro.{Macro}
 use Rattle.syn_mid.specs.declared.mac.MacroDelimiter.TheVariants as b
-use Rattle.syn_mid.specs.declared.path.Path.{Path}
+use Rattle.syn_mid.specs.declared.path.PathOf.{PathOf}
 use Rattle.syn_mid.specs.declared.path.SegmentStyle.TheVariants.{Plain}
 use Rattle.syn_mid.specs.declared.ty.PointerMutability.{PointerMutability}
 use Rattle.syn_mid.specs.declared.ty.PointerMutability.TheVariants as m
@@ -35,6 +35,7 @@ use Rattle.syn_mid.specs.declared.ty.TypeReferenceOf.{TypeReferenceOf}
 use Rattle.syn_mid.specs.Supplied.{Place}
 use Rattle.syn_mid.specs.mac.Macros.{Held, macro_of}
 use Rattle.syn_mid.specs.mac.Reading.{bang, held, body, call_after}
+use Rattle.syn_mid.specs.path.Paths.{ModPath, nothing, no_arguments, without}
 use Rattle.syn_mid.specs.path.Reading.{bare_path, plain_path, sees_angle}
 use Rattle.syn_mid.specs.ty.Knot.{ahead, below, a_type, read_at, read, ty, types}
 use Rattle.syn_mid.specs.ty.Reading.{InParens, one, elements, sees_plus, sees_star, sees_and, sees_bang, sees_named, sees_call, begins_path, star, and, mutable, mutability, infer, never, ended, path_or_macro, paren_content, bracket_content, held_in_parens, held_in_brackets, ptr, reference, paren_or_tuple, slice_or_array, by_mark, type_step}
@@ -89,12 +90,12 @@ lifetime_keeps s t q e =
 
 -- ---- paths and macro calls
 
-module _ {X : Type 0} where
-  plain_takes : (s t : Stream) (p : Path X) → plain_path s ≡ Ok (p, t) → Less s t
+module _ {A : Type 0} (none : A) where
+  plain_takes : (s t : Stream) (p : PathOf A) → plain_path none s ≡ Ok (p, t) → Less s t
   unfolding plain_path
   plain_takes s t p e =
-      let c = chain (bare_path Plain s) _ p t e in
-      let less = path_takes Plain s c.rest c.value c.was in
+      let c = chain (bare_path none Plain s) _ p t e in
+      let less = path_takes none Plain s c.rest c.value c.was in
       elim (branch (sees_angle c.rest.rest) _ _ c.rest (Ok (p, t)) c.goes) [
         | inl y ↦ cc (y.1)
         | inr y ↦ let g = same_pair c.value p c.rest t y.1 in subst (λ (z : Stream). Less s z) g.1 less
@@ -122,17 +123,17 @@ body_keeps s t h e =
     let more = held_keeps c.value.0 c.value.1 c.value.2 c.rest t h c.goes in
     omega (arith, le, more)
 
-module _ {X : Type 0} where
-  call_keeps : (p : Path X) (s t : Stream) (x : Macro X) → call_after p s ≡ Ok (x, t) → NoMore s t
-  unfolding call_after
-  call_keeps p s t x e =
-      let c = chain (bang s) _ x t e in
-      let less = named_takes 0 1 _ _ refl s c.value c.rest c.was in
-      let f = chain (body c.rest) _ x t c.goes in
-      let le = body_keeps c.rest f.rest f.value f.was in
-      let over = stays (macro_of p c.value f.value) x f.rest t f.goes in
-      omega (arith, less, le, over)
+call_keeps : (p : ModPath) (s t : Stream) (x : Macro) → call_after p s ≡ Ok (x, t) → NoMore s t
+unfolding call_after
+call_keeps p s t x e =
+    let c = chain (bang s) _ x t e in
+    let less = named_takes 0 1 _ _ refl s c.value c.rest c.was in
+    let f = chain (body c.rest) _ x t c.goes in
+    let le = body_keeps c.rest f.rest f.value f.was in
+    let over = stays (macro_of p c.value f.value) x f.rest t f.goes in
+    omega (arith, less, le, over)
 
+module _ {X : Type 0} where
   ended_keeps : (plus : Bool) (x y : TypeTree X) (s t : Stream) → ended plus x s ≡ Ok (y, t) → NoMore s t
   unfolding ended
   ended_keeps plus x y s t e =
@@ -144,11 +145,11 @@ module _ {X : Type 0} where
   path_or_macro_takes : (plus : Bool) (s t : Stream) (x : TypeTree X) → path_or_macro plus s ≡ Ok (x, t) → Less s t
   unfolding path_or_macro
   path_or_macro_takes plus s t x e =
-      let c = chain (plain_path s) _ x t e in
-      let less = plain_takes s c.rest c.value c.was in
+      let c = chain (plain_path no_arguments s) _ x t e in
+      let less = plain_takes no_arguments s c.rest c.value c.was in
       elim (branch (sees_call c.rest.rest) _ _ c.rest (Ok (x, t)) c.goes) [
-        | inl y ↦ let k = mapped (call_after c.value c.rest) (λ (z : Macro X). v.Macro (macro_type_of z)) x t y.1 in
-            let le = call_keeps c.value c.rest t k.value k.was in
+        | inl y ↦ let k = mapped (call_after (without nothing c.value) c.rest) (λ (z : Macro). v.Macro (macro_type_of z)) x t y.1 in
+            let le = call_keeps (without nothing c.value) c.rest t k.value k.was in
             omega (arith, less, le)
         | inr y ↦ let le = ended_keeps plus (v.Path (path_type_of c.value)) x c.rest t y.1 in omega (arith, less, le)
       ]
@@ -156,7 +157,7 @@ module _ {X : Type 0} where
 -- ---- types, over those that they hold
 
 module _ {X : Type 0} (supplied : Place → Reader X) (typ : Bool → Reader (TypeTree X)) (takes : (p : Bool) (s t : Stream) (x : TypeTree X) → typ p s ≡ Ok (x, t) → size t.rest < size s.rest) where
-  ptr_takes : (s t : Stream) (x : TypePtrOf (TypeTree X)) → ptr supplied typ s ≡ Ok (x, t) → Less s t
+  ptr_takes : (s t : Stream) (x : TypePtrOf (TypeTree X) X) → ptr supplied typ s ≡ Ok (x, t) → Less s t
   unfolding ptr
   ptr_takes s t x e =
       let c = chain (star s) _ x t e in
@@ -167,7 +168,7 @@ module _ {X : Type 0} (supplied : Place → Reader X) (typ : Bool → Reader (Ty
       let more = takes false f.rest t k.value k.was in
       omega (arith, less, le, more)
 
-  reference_takes : (s t : Stream) (x : TypeReferenceOf (TypeTree X)) → reference supplied typ s ≡ Ok (x, t) → Less s t
+  reference_takes : (s t : Stream) (x : TypeReferenceOf (TypeTree X) X) → reference supplied typ s ≡ Ok (x, t) → Less s t
   unfolding reference
   reference_takes s t x e =
       let c = chain (and s) _ x t e in

@@ -7,12 +7,8 @@ use Rattle.syn_mid.specs.declared.generics.TypeParams.{TypeParams}
 use Rattle.syn_mid.specs.declared.generics.TypeParamsMut.{TypeParamsMut}
 use Rattle.syn_mid.specs.declared.generics.ConstParams.{ConstParams}
 use Rattle.syn_mid.specs.declared.generics.ConstParamsMut.{ConstParamsMut}
-use Rattle.syn_mid.specs.declared.generics.LifetimeParam.{LifetimeParam}
-use Rattle.syn_mid.specs.declared.generics.TypeParam.{TypeParam}
-use Rattle.syn_mid.specs.declared.generics.TypeParamBound.{TypeParamBound}
-use Rattle.syn_mid.specs.declared.generics.ConstParamOf.{ConstParamOf}
-use Rattle.syn_mid.specs.declared.ty.Type.{«Type» as TypeTree}
 use Rattle.syn_mid.specs.generics.Params.{only, as_lifetime, as_type, as_const}
+use Rattle.syn_mid.specs.ty.Trees.{LifetimeParam, TypeParam, ConstParam}
 
 module _ {X : Type 0} where
   abbrev pub lifetimes_left : Lifetimes X → List (LifetimeParam X)
@@ -27,8 +23,8 @@ module _ {X : Type 0} where
   abbrev pub type_params_mut_left : TypeParamsMut X → List (TypeParam X)
   type_params_mut_left s = only as_type (values_left s.params)
 
-  abbrev pub const_params_left : ConstParams X → List (ConstParamOf (TypeTree X) X)
+  abbrev pub const_params_left : ConstParams X → List (ConstParam X)
   const_params_left s = only as_const s.params
 
-  abbrev pub const_params_mut_left : ConstParamsMut X → List (ConstParamOf (TypeTree X) X)
+  abbrev pub const_params_mut_left : ConstParamsMut X → List (ConstParam X)
   const_params_mut_left s = only as_const (values_left s.params)

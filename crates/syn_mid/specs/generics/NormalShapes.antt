@@ -3,14 +3,13 @@ use Rattle.std.specs.Prelude.{List, [], ◌∷◌, Option, Some, None, map}
 use Rattle.token_core.specs.Loops.{Many}
 use Rattle.syn_mid.specs.Supplied.{Place, Block}
 use Rattle.syn_mid.specs.declared.supplied.Expr.{Expr}
-use Rattle.syn_mid.specs.declared.generics.LifetimeParam.{LifetimeParam}
 use Rattle.syn_mid.specs.declared.generics.BoundLifetimesOf.{BoundLifetimesOf}
-use Rattle.syn_mid.specs.declared.generics.TraitBoundOf.{TraitBoundOf}
 use Rattle.syn_mid.specs.declared.generics.PreciseCapture.{PreciseCapture}
 use Rattle.syn_mid.specs.attr.Normal as attr
 use Rattle.syn_mid.specs.generics.Members.{sort}
-use Rattle.syn_mid.specs.generics.Params.{Attrs, Colon, Eq, bound_lifetimes_of, trait_bound_of, capture_of, lifetime_param_of}
+use Rattle.syn_mid.specs.generics.Params.{Colon, Eq, bound_lifetimes_of, capture_of, lifetime_param_of}
 use Rattle.syn_mid.specs.generics.Shapes.{is_captured_lifetime}
+use Rattle.syn_mid.specs.ty.Trees.{Attrs, LifetimeParam}
 
 -- the colon of a parameter, where a bound is there
 abbrev pub colon : {B : Type 0} → Option Colon → List B → Option Colon
@@ -28,9 +27,6 @@ module _ {G : Type 0} where
   abbrev pub binder_by : (G → G) → Option (BoundLifetimesOf G) → Option (BoundLifetimesOf G)
   binder_by f None = None
   binder_by f (Some x) = Some (bound_lifetimes_of x.for_token x.lt_token (many f x.lifetimes) x.gt_token)
-
-  abbrev pub trait_bound_by : {X : Type 0} → (G → G) → TraitBoundOf G X → TraitBoundOf G X
-  trait_bound_by f x = trait_bound_of x.paren_token (binder_by f x.lifetimes) x.modifiers x.maybe x.path
 
 module _ {X : Type 0} (normal : Place → X → X) where
   abbrev pub attrs : Attrs X → Attrs X

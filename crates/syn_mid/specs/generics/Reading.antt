@@ -19,6 +19,7 @@ use Rattle.syn_mid.specs.declared.generics.TraitBoundOf.{TraitBoundOf}
 use Rattle.syn_mid.specs.declared.generics.TypeParamBound.{TypeParamBound}
 use Rattle.syn_mid.specs.declared.generics.TypeParamBound.TheVariants as b
 use Rattle.syn_mid.specs.generics.Params.{Comma, bound_lifetimes_of, lone_lifetime, named_bound, held_bound}
+use Rattle.syn_mid.specs.path.Paths.{no_arguments}
 use Rattle.syn_mid.specs.path.Reading.{plain_path}
 
 abbrev pub sees_gt : Toks → Bool
@@ -59,9 +60,9 @@ module _ {X : Type 0} where
 
   -- the path of a bound after `?`, and after the binder if one is beside the `?`, which is refused then
   abbrev pub asked : Mark 22 1 → Option (Binder X) → Reader (TraitBoundOf (GenericParam X) X)
-  asked q None = named_bound None (Some q) <$> plain_path
+  asked q None = named_bound None (Some q) <$> plain_path no_arguments
   asked q (Some x) = do
-    p ← plain_path {X = X}
+    p ← plain_path (no_arguments {X = X})
     (λ s. Err (with_binder q))
 
 -- over the read of the parameters of a binder
@@ -90,7 +91,7 @@ module _ {X : Type 0} (param : Reader (GenericParam X)) where
 
   -- what follows the binder, by whether a `?` was read
   abbrev pub after_binder : Option (Binder X) → Option (Mark 22 1) → Reader (TraitBoundOf (GenericParam X) X)
-  after_binder x None = named_bound x None <$> plain_path
+  after_binder x None = named_bound x None <$> plain_path no_arguments
   after_binder x (Some q) = after_question x q
 
   -- a trait bound without parentheses

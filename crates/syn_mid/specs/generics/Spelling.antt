@@ -15,8 +15,8 @@ use Rattle.syn_mid.specs.declared.generics.GenericParam.TheVariants as g
 use Rattle.syn_mid.specs.declared.generics.TraitBoundOf.{TraitBoundOf}
 use Rattle.syn_mid.specs.declared.generics.TypeParamBound.{TypeParamBound}
 use Rattle.syn_mid.specs.declared.generics.TypeParamBound.TheVariants as b
-use Rattle.syn_mid.specs.declared.path.Path.{Path}
 use Rattle.syn_mid.specs.generics.Params.{Comma, bound_lifetimes_of, lone_lifetime, named_bound, held_bound}
+use Rattle.syn_mid.specs.path.Paths.{Path, no_arguments}
 use Rattle.syn_mid.specs.path.Reading.{sees_sep, sees_angle}
 use Rattle.syn_mid.specs.path.Spelling.{IsPlainPath}
 use Rattle.syn_mid.specs.ty.Spelling.{Relation, IsOptional}
@@ -35,8 +35,8 @@ module _ (clear : Bool) {X : Type 0} (P : Relation (GenericParam X)) where
 
   -- a trait by its path, after a binder or `?`, but not both
   pub data IsBareBound : TraitBoundOf (GenericParam X) X → Toks → Toks → Type 0 where
-    a_bound : {x : Option (BoundLifetimesOf (GenericParam X))} {p : Path X} {l m r : Toks} → IsOptional IsBinder x l m → IsPlainPath clear p m r → IsBareBound (named_bound x None p) l r
-    with_question : {q : Mark 22 1} {p : Path X} {l m r : Toks} → IsMark clear q l m → IsPlainPath clear p m r → IsBareBound (named_bound None (Some q) p) l r
+    a_bound : {x : Option (BoundLifetimesOf (GenericParam X))} {p : Path X} {l m r : Toks} → IsOptional IsBinder x l m → IsPlainPath clear no_arguments p m r → IsBareBound (named_bound x None p) l r
+    with_question : {q : Mark 22 1} {p : Path X} {l m r : Toks} → IsMark clear q l m → IsPlainPath clear no_arguments p m r → IsBareBound (named_bound None (Some q) p) l r
 
   pub data IsTraitBound : TraitBoundOf (GenericParam X) X → Toks → Toks → Type 0 where
     bare : {x : TraitBoundOf (GenericParam X) X} {l r : Toks} → IsBareBound x l r → IsTraitBound x l r

@@ -14,6 +14,7 @@ use Rattle.syn_mid.specs.Supplied.{Place, Guard}
 use Rattle.syn_mid.specs.declared.attr.AttributeOf.{AttributeOf}
 use Rattle.syn_mid.specs.declared.attr.Meta.{Meta}
 use Rattle.syn_mid.specs.declared.supplied.Expr.{Expr}
+use Rattle.syn_mid.specs.declared.supplied.ExprPathOf.{ExprPathOf}
 use Rattle.syn_mid.specs.declared.pat.FieldPatOf.{FieldPatOf}
 use Rattle.syn_mid.specs.declared.pat.PatOf.TheOpen as o
 use Rattle.syn_mid.specs.declared.pat.PatOf.TheFolds.{fold-PatOf}
@@ -29,10 +30,11 @@ use Rattle.syn_mid.specs.declared.pat.PatTupleOf.{PatTupleOf}
 use Rattle.syn_mid.specs.declared.pat.PatTupleStructOf.{PatTupleStructOf}
 use Rattle.syn_mid.specs.declared.pat.PatTypeOf.{PatTypeOf}
 use Rattle.syn_mid.specs.declared.pat.PatWild.{PatWild}
-use Rattle.syn_mid.specs.attr.Printing.{literal, expr_const, expr_macro, expr_path, range, outer, at_place}
+use Rattle.syn_mid.specs.attr.Printing.{literal, expr_const, expr_macro, range, outer, at_place}
 use Rattle.syn_mid.specs.generics.Shapes.{optional}
 use Rattle.syn_mid.specs.pat.Pats.{Pat, Attr, Qual, is_rest, is_rest_layer}
-use Rattle.syn_mid.specs.path.Printing.{expr_style}
+use Rattle.syn_mid.specs.path.Paths.{Path}
+use Rattle.syn_mid.specs.path.Printing.{path, expr_style}
 use Rattle.syn_mid.specs.ty.Printing as ty
 use Rattle.syn_mid.specs.ty.Types.{Comma, comma}
 
@@ -62,6 +64,10 @@ module _ {X : Type 0} (prints : Place → X → Print) where
 
   abbrev pub wild : PatWild X → Print
   wild x = attrs x.attrs ++ p.word x.underscore_token
+
+  -- by its path
+  abbrev pub by_path : ExprPathOf (Attr X) (Path X) → Print
+  by_path x = attrs x.attrs ++ path expr_style x.path
 
   -- the `..` of a struct's pattern
   abbrev pub optional_rest : Option (PatRest X) → Print
@@ -158,7 +164,7 @@ module _ {X : Type 0} (prints : Place → X → Print) where
   pat_layer (o.Macro x) = expr_macro prints x
   pat_layer (o.Or x) = alternatives_by print_of x
   pat_layer (o.Paren x) = paren_by print_of x
-  pat_layer (o.Path x) = expr_path prints x
+  pat_layer (o.Path x) = by_path x
   pat_layer (o.Range x) = range prints x
   pat_layer (o.Reference x) = reference_by print_of x
   pat_layer (o.Rest x) = rest x

@@ -26,18 +26,19 @@ use Rattle.syn_mid.specs.ty.Reading as reading
 use Rattle.syn_mid.specs.ty.Heights.{IsSomeBound, IsSomeType, IsSomeArray, IsSomeParen, IsSomePtr, IsSomeReference, IsSomeSlice, IsSomeTuple}
 use Rattle.syn_mid.specs.ty.Spelling.{IsMutability, IsInfer, IsNever, IsMacroType, IsPathType}
 
--- No tree here has a verbatim part. These are their own normal forms.
+-- No tree here has a verbatim part. A mutability is its own normal form.
 abbrev pub mutability : Grammar PointerMutability
 mutability = record { spells = λ clear x l. IsMutability x l done; normal = λ x. x; print = printing.pointer; plain = λ x. Unit {0}; reader = reading.mutability }
 
-abbrev pub infer : Grammar TypeInfer
-infer = record { spells = λ clear x l. IsInfer x l done; normal = λ x. x; print = printing.infer; plain = λ x. Unit {0}; reader = reading.infer }
+module _ {X : Type 0} (normals : Place → X → X) (prints : Place → X → Print) where
+  abbrev pub infer : Grammar (TypeInfer X)
+  infer = record { spells = λ clear x l. IsInfer x l done; normal = normal.infer normals; print = printing.infer prints; plain = λ x. Unit {0}; reader = reading.infer }
 
-abbrev pub never : Grammar TypeNever
-never = record { spells = λ clear x l. IsNever clear x l done; normal = λ x. x; print = printing.never; plain = λ x. Unit {0}; reader = reading.never }
+  abbrev pub never : Grammar (TypeNever X)
+  never = record { spells = λ clear x l. IsNever clear x l done; normal = normal.never normals; print = printing.never prints; plain = λ x. Unit {0}; reader = reading.never }
 
-abbrev pub macro_type : {X : Type 0} → Grammar (TypeMacro X)
-macro_type = record { spells = λ clear x l. IsMacroType clear x l done; normal = λ x. x; print = printing.macro_type; plain = λ x. Unit {0}; reader = reading.macro_type }
+  abbrev pub macro_type : Grammar (TypeMacro X)
+  macro_type = record { spells = λ clear x l. IsMacroType clear x l done; normal = normal.macro_type normals; print = printing.macro_type prints; plain = λ x. Unit {0}; reader = reading.macro_type }
 
 module _ {X : Type 0} (reads : Place → Reader X) (spells : Place → X → Toks → Type 0) (normals : Place → X → X) (prints : Place → X → Print) where
   -- a type in a place with plus or without plus
@@ -50,20 +51,20 @@ module _ {X : Type 0} (reads : Place → Reader X) (spells : Place → X → Tok
   abbrev pub path_type : Grammar (TypePathOf (TypeTree X) X)
   path_type = record { spells = λ clear x l. IsPathType clear x l done; normal = normal.path_type normals; print = printing.path_type prints; plain = λ x. Unit {0}; reader = reading.path_type }
 
-  abbrev pub array : Grammar (TypeArrayOf (TypeTree X) (Expr X))
+  abbrev pub array : Grammar (TypeArrayOf (TypeTree X) X)
   array = record { spells = λ clear x l. IsSomeArray spells clear x l done; normal = normal.array normals; print = printing.array prints; plain = λ x. Unit {0}; reader = knot.array reads }
 
-  abbrev pub paren : Grammar (TypeParenOf (TypeTree X))
+  abbrev pub paren : Grammar (TypeParenOf (TypeTree X) X)
   paren = record { spells = λ clear x l. IsSomeParen spells clear x l done; normal = normal.paren normals; print = printing.paren prints; plain = λ x. Unit {0}; reader = knot.paren reads }
 
-  abbrev pub ptr : Grammar (TypePtrOf (TypeTree X))
+  abbrev pub ptr : Grammar (TypePtrOf (TypeTree X) X)
   ptr = record { spells = λ clear x l. IsSomePtr spells clear x l done; normal = normal.ptr normals; print = printing.ptr prints; plain = λ x. Unit {0}; reader = knot.ptr reads }
 
-  abbrev pub reference : Grammar (TypeReferenceOf (TypeTree X))
+  abbrev pub reference : Grammar (TypeReferenceOf (TypeTree X) X)
   reference = record { spells = λ clear x l. IsSomeReference spells clear x l done; normal = normal.reference normals; print = printing.reference prints; plain = λ x. Unit {0}; reader = knot.reference reads }
 
-  abbrev pub slice : Grammar (TypeSliceOf (TypeTree X))
+  abbrev pub slice : Grammar (TypeSliceOf (TypeTree X) X)
   slice = record { spells = λ clear x l. IsSomeSlice spells clear x l done; normal = normal.slice normals; print = printing.slice prints; plain = λ x. Unit {0}; reader = knot.slice reads }
 
-  abbrev pub tuple : Grammar (TypeTupleOf (TypeTree X))
+  abbrev pub tuple : Grammar (TypeTupleOf (TypeTree X) X)
   tuple = record { spells = λ clear x l. IsSomeTuple spells clear x l done; normal = normal.tuple normals; print = printing.tuple prints; plain = λ x. Unit {0}; reader = knot.tuple reads }

@@ -47,21 +47,21 @@ module _ {X : Type 0} (spells : Place → X → Toks → Type 0) (clear : Bool) 
   abbrev pub IsSomeBound : Relation (TypeParamBound X)
   IsSomeBound = IsSome a_bound
 
-  abbrev pub IsSomeArray : Relation (TypeArrayOf (TypeTree X) (Expr X))
+  abbrev pub IsSomeArray : Relation (TypeArrayOf (TypeTree X) X)
   IsSomeArray x l r = (n : ℕ) × IsArray spells clear (TypeBelow spells clear n) x l r
 
   -- alone, its content stands without plus
-  abbrev pub IsSomeParen : Relation (TypeParenOf (TypeTree X))
+  abbrev pub IsSomeParen : Relation (TypeParenOf (TypeTree X) X)
   IsSomeParen x l r = (n : ℕ) × IsParen spells clear (TypeBelow spells clear n) false x l r
 
-  abbrev pub IsSomePtr : Relation (TypePtrOf (TypeTree X))
+  abbrev pub IsSomePtr : Relation (TypePtrOf (TypeTree X) X)
   IsSomePtr x l r = (n : ℕ) × IsPtr spells clear (TypeBelow spells clear n) x l r
 
-  abbrev pub IsSomeReference : Relation (TypeReferenceOf (TypeTree X))
+  abbrev pub IsSomeReference : Relation (TypeReferenceOf (TypeTree X) X)
   IsSomeReference x l r = (n : ℕ) × IsReference spells clear (TypeBelow spells clear n) x l r
 
-  abbrev pub IsSomeSlice : Relation (TypeSliceOf (TypeTree X))
+  abbrev pub IsSomeSlice : Relation (TypeSliceOf (TypeTree X) X)
   IsSomeSlice x l r = (n : ℕ) × IsSlice spells clear (TypeBelow spells clear n) x l r
 
-  abbrev pub IsSomeTuple : Relation (TypeTupleOf (TypeTree X))
+  abbrev pub IsSomeTuple : Relation (TypeTupleOf (TypeTree X) X)
   IsSomeTuple x l r = (n : ℕ) × IsTuple spells clear (TypeBelow spells clear n) x l r

@@ -88,22 +88,22 @@ module _ {X : Type 0} (supplied : Place → Reader X) where
   params limit = reads_below limit a_param
 
   -- the reads of single forms
-  unfoldable pub array : Reader (TypeArrayOf (TypeTree X) (Expr X))
+  unfoldable pub array : Reader (TypeArrayOf (TypeTree X) X)
   array s = reading.array supplied (types (ahead s)) s
 
-  unfoldable pub paren : Reader (TypeParenOf (TypeTree X))
+  unfoldable pub paren : Reader (TypeParenOf (TypeTree X) X)
   paren s = reading.paren supplied (types (ahead s)) s
 
-  unfoldable pub ptr : Reader (TypePtrOf (TypeTree X))
+  unfoldable pub ptr : Reader (TypePtrOf (TypeTree X) X)
   ptr s = reading.ptr supplied (types (ahead s)) s
 
-  unfoldable pub reference : Reader (TypeReferenceOf (TypeTree X))
+  unfoldable pub reference : Reader (TypeReferenceOf (TypeTree X) X)
   reference s = reading.reference supplied (types (ahead s)) s
 
-  unfoldable pub slice : Reader (TypeSliceOf (TypeTree X))
+  unfoldable pub slice : Reader (TypeSliceOf (TypeTree X) X)
   slice s = reading.slice supplied (types (ahead s)) s
 
-  unfoldable pub tuple : Reader (TypeTupleOf (TypeTree X))
+  unfoldable pub tuple : Reader (TypeTupleOf (TypeTree X) X)
   tuple s = reading.tuple supplied (types (ahead s)) s
 
 -- a function value that reads types where less than the limit is left

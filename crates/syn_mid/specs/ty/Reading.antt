@@ -27,6 +27,7 @@ use Rattle.syn_mid.specs.declared.ty.TypeSliceOf.{TypeSliceOf}
 use Rattle.syn_mid.specs.declared.ty.TypeTupleOf.{TypeTupleOf}
 use Rattle.syn_mid.specs.Supplied.{Place, ArrayLen}
 use Rattle.syn_mid.specs.mac.Reading as macs
+use Rattle.syn_mid.specs.path.Paths.{no_arguments, nothing, without}
 use Rattle.syn_mid.specs.path.Reading.{plain_path, sees_sep}
 use Rattle.syn_mid.specs.path.Spelling.{is_mod_word}
 use Rattle.syn_mid.specs.ty.Types.{And, Star, Comma, Semi, Mut, array_of, infer_of, macro_type_of, never_of, paren_of, path_type_of, ptr_of, reference_of, slice_of, tuple_of}
@@ -79,10 +80,10 @@ semi = marks.read 24 1
 abbrev pub mutable : Reader (Option Mut)
 mutable = optional (sees_named 13) (marks.read_named 13)
 
-abbrev pub infer : Reader TypeInfer
+abbrev pub infer : {X : Type 0} → Reader (TypeInfer X)
 infer = infer_of <$> marks.read_named 19
 
-abbrev pub never : Reader TypeNever
+abbrev pub never : {X : Type 0} → Reader (TypeNever X)
 never = never_of <$> macs.bang
 
 abbrev pub mutability_name : Bytes
@@ -99,12 +100,12 @@ mutability = do
 abbrev pub type_name : Bytes
 type_name = codes "type"
 
+abbrev pub macro_type : {X : Type 0} → Reader (TypeMacro X)
+macro_type = macro_type_of <$> macs.mac
+
 module _ {X : Type 0} where
   abbrev pub path_type : Reader (TypePathOf (TypeTree X) X)
-  path_type = path_type_of <$> plain_path
-
-  abbrev pub macro_type : Reader (TypeMacro X)
-  macro_type = macro_type_of <$> macs.mac
+  path_type = path_type_of <$> plain_path no_arguments
 
   -- a type after which, where a plus is allowed, none may stand: it would begin a trait object
   unfoldable pub ended : Bool → TypeTree X → Reader (TypeTree X)
@@ -115,9 +116,9 @@ module _ {X : Type 0} where
   -- after the path of a type: a macro call, or the path alone
   unfoldable pub path_or_macro : Bool → Reader (TypeTree X)
   path_or_macro plus = do
-    p ← plain_path
+    p ← plain_path no_arguments
     call ← peek sees_call
-    if call then (λ c. t.Macro (macro_type_of c)) <$> macs.call_after p else ended plus (t.Path (path_type_of p))
+    if call then (λ c. t.Macro (macro_type_of c)) <$> macs.call_after (without nothing p) else ended plus (t.Path (path_type_of p))
 
 -- what follows the element of an array
 abbrev pub Length : Type 0 → Type 0
@@ -176,26 +177,26 @@ module _ {X : Type 0} (supplied : Place → Reader X) (typ : Bool → Reader (Ty
 
   -- ---- the readers of single forms
 
-  unfoldable pub array : Reader (TypeArrayOf (TypeTree X) (Expr X))
+  unfoldable pub array : Reader (TypeArrayOf (TypeTree X) X)
   array = (λ g. array_of (groups.bracket g.0) g.1.0 g.1.1.0 g.1.1.1) <$> in_group d.Bracket groups.bracket_name array_content
 
-  unfoldable pub slice : Reader (TypeSliceOf (TypeTree X))
+  unfoldable pub slice : Reader (TypeSliceOf (TypeTree X) X)
   slice = (λ g. slice_of (groups.bracket g.0) g.1) <$> in_group d.Bracket groups.bracket_name (typ true)
 
   -- its content is read without plus
-  unfoldable pub paren : Reader (TypeParenOf (TypeTree X))
+  unfoldable pub paren : Reader (TypeParenOf (TypeTree X) X)
   paren = (λ g. paren_of (groups.paren g.0) g.1) <$> in_group d.Parenthesis groups.paren_name (typ false)
 
-  unfoldable pub tuple : Reader (TypeTupleOf (TypeTree X))
+  unfoldable pub tuple : Reader (TypeTupleOf (TypeTree X) X)
   tuple = (λ g. tuple_of (groups.paren g.0) g.1) <$> in_group d.Parenthesis groups.paren_name tuple_content
 
-  unfoldable pub ptr : Reader (TypePtrOf (TypeTree X))
+  unfoldable pub ptr : Reader (TypePtrOf (TypeTree X) X)
   ptr = do
     s ← star
     q ← mutability
     ptr_of s q <$> typ false
 
-  unfoldable pub reference : Reader (TypeReferenceOf (TypeTree X))
+  unfoldable pub reference : Reader (TypeReferenceOf (TypeTree X) X)
   reference = do
     a ← and
     l ← read_optional_lifetime

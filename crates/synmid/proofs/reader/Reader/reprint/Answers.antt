@@ -1,6 +1,5 @@
 use Rattle.token_core.specs.Trees.{toks}
 use Rattle.syn_mid.specs.mac.Grammars as macs
-use Rattle.syn_mid.specs.path.Grammars as paths
 use Rattle.synmid.proofs.Whole.{prints-reprints}
 use Rattle.synmid.specs.Readers.{grammar}
 use Rattle.synmid.specs.declared.reader.Reader.TheVariants as r
@@ -10,7 +9,7 @@ pub returns-in-Macro : goal.returns-in-Macro
 returns-in-Macro c = rw c.in-Macro.is (prints-reprints macs.mac (toks c.args.tokens.now) c.reprint.result c.reprint.ensures)
 
 pub returns-in-ModStyle : goal.returns-in-ModStyle
-returns-in-ModStyle c = rw c.in-ModStyle.is (prints-reprints paths.mod_style (toks c.args.tokens.now) c.reprint_with.result c.reprint_with.ensures)
+returns-in-ModStyle c = rw c.in-ModStyle.is (prints-reprints (grammar r.ModStyle) (toks c.args.tokens.now) c.reprint_with.result c.reprint_with.ensures)
 
 pub returns-in-Meta : goal.returns-in-Meta
 returns-in-Meta c = rw c.in-Meta.is (prints-reprints (grammar r.Meta) (toks c.args.tokens.now) c.reprint-in-Meta.result c.reprint-in-Meta.ensures)

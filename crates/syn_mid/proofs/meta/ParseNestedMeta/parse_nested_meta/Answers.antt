@@ -1,7 +1,7 @@
 use Rattle.std.proofs.Common.{◌≡◌, Err, rules, arith}
 use Rattle.std.proofs.lemmas.Grind.{common_steps}
 use Rattle.syn_mid.specs.meta.Turns.{no_parentheses, refused_inside, all_inside}
-use Rattle.syn_mid.proofs.meta.ParseNestedMeta+X.parse_nested_meta.Goals as goal
+use Rattle.syn_mid.proofs.meta.ParseNestedMeta.parse_nested_meta.Goals as goal
 
 pub returns-in_err-content-clause-turns : goal.returns-in_err-content-clause-turns
 returns-in_err-content-clause-turns g c =
