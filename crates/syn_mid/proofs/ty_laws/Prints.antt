@@ -1,26 +1,39 @@
 -- What each kind of type, of parameter and of bound prints.
 use Rattle.std.proofs.Common.{◌≡◌, ℕ, List, [], ◌∷◌, ◌++◌, Option, Some, None, map, refl, sym, ◌∙◌, ap}
+use Rattle.token_core.specs.Lifetimes as lifetimes
 use Rattle.token_core.specs.Lists.{joined}
 use Rattle.token_core.specs.Loops.{Many}
 use Rattle.token_core.specs.Prints as p
 use Rattle.token_core.specs.Prints.{Print}
 use Rattle.token_core.specs.Trees.{trees, stream_of_trees}
+use Rattle.token_core.specs.declared.lifetime.Lifetime.{Lifetime}
+use Rattle.token_core.specs.declared.mark.Mark.{Mark}
+use Rattle.token_core.specs.declared.token.Paren.{Paren}
 use Rattle.token_core.specs.declared.tree.Delimiter.TheVariants.{Parenthesis}
+use Rattle.token_core.specs.declared.tree.Ident.{Ident}
 use Rattle.token_core.specs.declared.tree.TokenStream.{TokenStream}
 use Rattle.syn_mid.specs.Supplied.{Place}
-use Rattle.syn_mid.specs.declared.generics.GenericParamOf.TheFolds.{fold-roll-GenericParamOf, fold-roll-TypeParamBoundOf, fold-roll-GenericArgumentOf, fold-roll-PathArgumentsOf, fold-roll-TypeOf, fold-roll-TraitBoundOf, fold-roll-TypeParamOf, fold-roll-AssocTypeOf, fold-roll-ConstraintOf, fold-roll-TypeFnPtrOf, fold-roll-TypePathOf, map-TypeOf, map-TypePathOf}
+use Rattle.syn_mid.specs.declared.generics.GenericParamOf.TheFolds.{fold-roll-GenericParamOf, fold-roll-TypeParamBoundOf, fold-roll-GenericArgumentOf, fold-roll-PathArgumentsOf, fold-roll-TypeOf, fold-roll-TraitBoundOf, fold-roll-TypeParamOf, fold-roll-AssocTypeOf, fold-roll-ConstraintOf, fold-roll-TypeFnPtrOf, fold-roll-TypePathOf, map-GenericParamOf, map-TypeParamBoundOf, map-TypeOf, map-TraitBoundOf, map-TypeParamOf, map-TypePathOf}
 use Rattle.syn_mid.specs.declared.generics.GenericParamOf.TheOpen as o
-use Rattle.syn_mid.specs.declared.path.PathStyle.{PathStyle}
+use Rattle.syn_mid.specs.declared.generics.GenericParamOf.{roll-GenericParamOf}
+use Rattle.syn_mid.specs.declared.generics.GenericParamOf.TheVariants as g
+use Rattle.syn_mid.specs.declared.generics.PreciseCapture.{PreciseCapture}
+use Rattle.syn_mid.specs.declared.generics.TraitBoundModifiers.{TraitBoundModifiers}
+use Rattle.syn_mid.specs.declared.generics.TraitBoundOf.{roll-TraitBoundOf, out-TraitBoundOf, roll-out-TraitBoundOf}
+use Rattle.syn_mid.specs.declared.generics.TypeParamBoundOf.{roll-TypeParamBoundOf}
+use Rattle.syn_mid.specs.declared.generics.TypeParamBoundOf.TheVariants as b
+use Rattle.syn_mid.specs.declared.generics.TypeParamOf.{roll-TypeParamOf, out-TypeParamOf, roll-out-TypeParamOf}
 use Rattle.syn_mid.specs.declared.supplied.Expr.{Expr}
 use Rattle.syn_mid.specs.declared.ty.TypeOf.{roll-TypeOf}
 use Rattle.syn_mid.specs.declared.ty.TypeOf.TheVariants as v
 use Rattle.syn_mid.specs.declared.ty.TypePathOf.{roll-TypePathOf, out-TypePathOf, roll-out-TypePathOf}
-use Rattle.syn_mid.specs.generics.Shapes.{attrs}
-use Rattle.syn_mid.specs.path.Shapes.{as_written}
-use Rattle.syn_mid.specs.ty.Types.{qualified_with}
-use Rattle.syn_mid.specs.ty.Trees.{Family, LayerOf, Attr, Attrs, GenericParam, TypeParam, TypeParamBound, TraitBound, PathArguments, Path, GenericArgument, AssocType, Constraint, TypeTree, QSelf, TypeArray, TypeFnPtr, TypeGroup, TypeImplTrait, TypeInfer, TypeMacro, TypeNever, TypeParen, TypePath, TypePtr, TypeReference, TypeSlice, TypeTraitObject, TypeTuple}
-use Rattle.syn_mid.specs.ty.Printing.{Shown, infer, never, macro_type, optional_word, path_type, qpath, type_name, array, group, paren, ptr, reference, slice, impl_trait, trait_object, tuple, lone_comma, ty, fn_ptr, param, bound, type_param, trait_bound, argument_shown, arguments_shown, arguments, assoc_type, constraint, param_step, bound_step, argument_step, arguments_step, ty_step, trait_bound_step, type_param_step, assoc_type_step, constraint_step, fn_ptr_step, path_type_step}
-use Rattle.syn_mid.proofs.ty_laws.Mapped.{joined_mapped, lone_mapped, path_mapped, qualified_mapped}
+use Rattle.syn_mid.specs.generics.Params.{Colon, Eq, trait_bound_of, type_param_of}
+use Rattle.syn_mid.specs.generics.Shapes.{optional, attrs, in_parens, capture, lifetime_param, type_param_by, trait_bound_by}
+use Rattle.syn_mid.specs.path.Shapes.{as_written, path_by}
+use Rattle.syn_mid.specs.ty.Types.{Plus, qualified_with}
+use Rattle.syn_mid.specs.ty.Trees.{Family, LayerOf, Attr, Attrs, GenericParam, LifetimeParam, TypeParam, ConstParam, BoundLifetimes, TypeParamBound, TraitBound, PathArguments, Path, GenericArgument, AssocType, Constraint, TypeTree, QSelf, TypeArray, TypeFnPtr, TypeGroup, TypeImplTrait, TypeInfer, TypeMacro, TypeNever, TypeParen, TypePath, TypePtr, TypeReference, TypeSlice, TypeTraitObject, TypeTuple}
+use Rattle.syn_mid.specs.ty.Printing.{Shown, infer, never, macro_type, optional_word, path_type, qpath, type_name, bare_trait, bound_lifetimes, const_param, array, group, paren, ptr, reference, slice, impl_trait, trait_object, tuple, lone_comma, ty, fn_ptr, param, bound, type_param, trait_bound, argument_shown, arguments_shown, arguments, assoc_type, constraint, param_step, bound_step, argument_step, arguments_step, ty_step, trait_bound_step, type_param_step, assoc_type_step, constraint_step, fn_ptr_step, path_type_step}
+use Rattle.syn_mid.proofs.ty_laws.Mapped.{joined_mapped, colon_mapped, path_on, lone_mapped, path_mapped, qualified_mapped}
 
 module _ {X : Type 0} (px : Place → X → Print) where
   -- ---- one layer whose trees are printed
@@ -99,3 +112,72 @@ module _ {X : Type 0} (px : Place → X → Print) where
 
   pub prints_path_type : (x : TypePath X) → path_type px x ≡ attrs px (out-TypePathOf (Attr X) (Expr X) x).attrs ++ type_name px x
   prints_path_type x = let f = out-TypePathOf (Attr X) (Expr X) x in ap (path_type px) (sym (roll-out-TypePathOf (Attr X) (Expr X) x)) ∙ path_type_parts f.attrs f.qself f.path
+
+  -- ---- parameters and bounds
+
+  by_param : (y : LayerOf o.GenericParamOf-F X) → param px (roll-GenericParamOf (Attr X) (Expr X) y) ≡ param_step px (shown o.GenericParamOf-F (map-GenericParamOf (Attr X) (Expr X)) y)
+  unfolding param bound argument_shown arguments_shown ty trait_bound type_param assoc_type constraint fn_ptr path_type
+  by_param y = fold-roll-GenericParamOf (Attr X) (Expr X) _ _ _ _ _ _ _ _ _ _ _ (param_step px) (bound_step px) (argument_step px) (arguments_step px) (ty_step px) (trait_bound_step px) (type_param_step px) (assoc_type_step px) (constraint_step px) (fn_ptr_step px) (path_type_step px) y
+
+  by_type_param : (y : LayerOf o.TypeParamOf-F X) → type_param px (roll-TypeParamOf (Attr X) (Expr X) y) ≡ type_param_step px (shown o.TypeParamOf-F (map-TypeParamOf (Attr X) (Expr X)) y)
+  unfolding param bound argument_shown arguments_shown ty trait_bound type_param assoc_type constraint fn_ptr path_type
+  by_type_param y = fold-roll-TypeParamOf (Attr X) (Expr X) _ _ _ _ _ _ _ _ _ _ _ (param_step px) (bound_step px) (argument_step px) (arguments_step px) (ty_step px) (trait_bound_step px) (type_param_step px) (assoc_type_step px) (constraint_step px) (fn_ptr_step px) (path_type_step px) y
+
+  by_bound : (y : LayerOf o.TypeParamBoundOf-F X) → bound px (roll-TypeParamBoundOf (Attr X) (Expr X) y) ≡ bound_step px (shown o.TypeParamBoundOf-F (map-TypeParamBoundOf (Attr X) (Expr X)) y)
+  unfolding param bound argument_shown arguments_shown ty trait_bound type_param assoc_type constraint fn_ptr path_type
+  by_bound y = fold-roll-TypeParamBoundOf (Attr X) (Expr X) _ _ _ _ _ _ _ _ _ _ _ (param_step px) (bound_step px) (argument_step px) (arguments_step px) (ty_step px) (trait_bound_step px) (type_param_step px) (assoc_type_step px) (constraint_step px) (fn_ptr_step px) (path_type_step px) y
+
+  by_trait_bound : (y : LayerOf o.TraitBoundOf-F X) → trait_bound px (roll-TraitBoundOf (Attr X) (Expr X) y) ≡ trait_bound_step px (shown o.TraitBoundOf-F (map-TraitBoundOf (Attr X) (Expr X)) y)
+  unfolding param bound argument_shown arguments_shown ty trait_bound type_param assoc_type constraint fn_ptr path_type
+  by_trait_bound y = fold-roll-TraitBoundOf (Attr X) (Expr X) _ _ _ _ _ _ _ _ _ _ _ (param_step px) (bound_step px) (argument_step px) (arguments_step px) (ty_step px) (trait_bound_step px) (type_param_step px) (assoc_type_step px) (constraint_step px) (fn_ptr_step px) (path_type_step px) y
+
+  pub param-Lifetime : (x : LifetimeParam X) → param px (g.Lifetime x) ≡ lifetime_param px x
+  param-Lifetime x = ap (param px) (sym (g.rolls-Lifetime x)) ∙ by_param (o.GenericParamOf::Lifetime x)
+
+  pub param-Type : (x : TypeParam X) → param px (g.«Type» x) ≡ type_param px x
+  param-Type x = ap (param px) (sym (g.rolls-Type x)) ∙ by_param (o.GenericParamOf::Type x)
+
+  pub param-Const : (x : ConstParam X) → param px (g.Const x) ≡ const_param px x
+  param-Const x = ap (param px) (sym (g.rolls-Const x)) ∙ by_param (o.GenericParamOf::Const x)
+
+  -- by its parts
+  pub type_param_parts : (a : Attrs X) (i : Ident) (c : Option Colon) (l : Many (TypeParamBound X) Plus) (t : Option (Eq × TypeTree X))
+      → type_param px (type_param_of a i c l t) ≡ type_param_by px (bound px) (ty px) a i c l t
+  type_param_parts a i c l None =
+      by_type_param (record { attrs = a; ident = i; colon_token = c; bounds = l; default = None }) ∙ ap (λ r. attrs px a ++ (p.ident i ++ (r ++ []))) (colon_mapped (bound px) c l)
+  type_param_parts a i c l (Some t) =
+      by_type_param (record { attrs = a; ident = i; colon_token = c; bounds = l; default = Some t })
+      ∙ ap (λ r. attrs px a ++ (p.ident i ++ (r ++ (p.mark t.0 ++ ty px t.1)))) (colon_mapped (bound px) c l)
+
+  pub prints_type_param : (x : TypeParam X) → let f = out-TypeParamOf (Attr X) (Expr X) x in type_param px x ≡ type_param_by px (bound px) (ty px) f.attrs f.ident f.colon_token f.bounds f.default
+  prints_type_param x =
+      let f = out-TypeParamOf (Attr X) (Expr X) x in
+      ap (type_param px) (sym (roll-out-TypeParamOf (Attr X) (Expr X) x)) ∙ type_param_parts f.attrs f.ident f.colon_token f.bounds f.default
+
+  pub bound-Trait : (x : TraitBound X) → bound px (b.Trait x) ≡ trait_bound px x
+  bound-Trait x = ap (bound px) (sym (b.rolls-Trait x)) ∙ by_bound (o.Trait x)
+
+  pub bound-Lifetime : (x : Lifetime) → bound px (b.Lifetime x) ≡ lifetimes.print x
+  bound-Lifetime x = ap (bound px) (sym (b.rolls-Lifetime x)) ∙ by_bound (o.TypeParamBoundOf::Lifetime x)
+
+  pub bound-PreciseCapture : (x : PreciseCapture) → bound px (b.PreciseCapture x) ≡ capture x
+  bound-PreciseCapture x = ap (bound px) (sym (b.rolls-PreciseCapture x)) ∙ by_bound (o.PreciseCapture x)
+
+  pub bound-Verbatim : (x : TokenStream) → bound px (b.Verbatim x) ≡ trees x
+  bound-Verbatim x = ap (bound px) (sym (b.rolls-Verbatim x)) ∙ by_bound (o.TypeParamBoundOf::Verbatim x)
+
+  -- by its parts
+  pub trait_bound_parts : (t : Option Paren) (l : Option (BoundLifetimes X)) (m : TraitBoundModifiers) (q : Option (Mark 22 1)) (z : Path X)
+      → trait_bound px (trait_bound_of t l m q z) ≡ trait_bound_by (param px) (arguments px as_written) t l q z
+  trait_bound_parts t None m q z =
+      by_trait_bound (record { paren_token = t; lifetimes = None; modifiers = m; maybe = q; path = z })
+      ∙ ap (λ r. in_parens t (optional q ++ r)) (path_mapped (arguments_shown px) (λ k. k as_written) z)
+  trait_bound_parts t (Some l) m q z =
+      by_trait_bound (record { paren_token = t; lifetimes = Some l; modifiers = m; maybe = q; path = z })
+      ∙ ap (λ r. in_parens t ((p.word l.for_token ++ (p.mark l.lt_token ++ (r ++ p.mark l.gt_token))) ++ (optional q ++ path_by (λ k. k as_written) (path_on (arguments_shown px) z)))) (joined_mapped (param px) l.lifetimes.0 l.lifetimes.1)
+      ∙ ap (λ r. in_parens t (bound_lifetimes px l ++ (optional q ++ r))) (path_mapped (arguments_shown px) (λ k. k as_written) z)
+
+  pub prints_trait_bound : (x : TraitBound X) → trait_bound px x ≡ in_parens (out-TraitBoundOf (Attr X) (Expr X) x).paren_token (bare_trait px x)
+  prints_trait_bound x =
+      let f = out-TraitBoundOf (Attr X) (Expr X) x in
+      ap (trait_bound px) (sym (roll-out-TraitBoundOf (Attr X) (Expr X) x)) ∙ trait_bound_parts f.paren_token f.lifetimes f.modifiers f.maybe f.path
