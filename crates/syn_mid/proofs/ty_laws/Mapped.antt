@@ -1,21 +1,25 @@
 -- What is printed by prints of values is printed by them where they are mapped first.
-use Rattle.std.proofs.Common.{◌≡◌, ℕ, zero, suc, pred, min, length, List, [], ◌∷◌, ◌++◌, Option, Some, None, map, refl, ◌∙◌, ap}
+use Rattle.std.proofs.Common.{◌≡◌, ℕ, zero, suc, pred, min, length, Bool, List, [], ◌∷◌, ◌++◌, Option, Some, None, map, refl, ◌∙◌, ap}
 use Rattle.std.proofs.lemmas.List.{length-map}
 use Rattle.token_core.specs.Lists.{joined}
 use Rattle.token_core.specs.Loops.{Many}
 use Rattle.token_core.specs.Prints as p
 use Rattle.token_core.specs.Prints.{Print}
 use Rattle.token_core.specs.declared.mark.Mark.{Mark}
+use Rattle.syn_mid.specs.declared.path.AngleBracketedGenericArgumentsOf.{AngleBracketedGenericArgumentsOf}
 use Rattle.syn_mid.specs.declared.path.PathOf.{PathOf}
 use Rattle.syn_mid.specs.declared.path.PathSegmentOf.{PathSegmentOf}
 use Rattle.syn_mid.specs.declared.path.PathStyle.{PathStyle}
+use Rattle.syn_mid.specs.declared.path.PathStyle.TheVariants.{Expr, AsWritten}
 use Rattle.syn_mid.specs.declared.path.QSelfOf.{QSelfOf}
+use Rattle.syn_mid.specs.generics.Members.{sorted}
 use Rattle.syn_mid.specs.generics.Params.{Colon}
 use Rattle.syn_mid.specs.generics.Shapes.{or_default, after_colon}
-use Rattle.syn_mid.specs.path.Paths.{Sep, segment_of, path_of}
-use Rattle.syn_mid.specs.path.Shapes.{colon, as_or_default, segment_by, path_by, closing_by, around_by, qualified_at, qualified_by}
+use Rattle.syn_mid.specs.path.Paths.{Sep, segment_of, path_of, angle_of}
+use Rattle.syn_mid.specs.path.Shapes.{colon, as_or_default, angle_start, angle_by, segment_by, path_by, closing_by, around_by, qualified_at, qualified_by}
 use Rattle.syn_mid.specs.ty.Types.{Comma, Plus}
 use Rattle.syn_mid.specs.ty.Printing.{lone_comma, last_comma}
+use Rattle.syn_mid.proofs.generics_laws.Members.{sorted_map}
 
 module _ {T U : Type 0} {n l : ℕ} (g : U → Print) (f : T → U) where
   pub joined_map : (all : List T) (ms : List (Mark n l)) → joined g p.mark (map f all) ms ≡ joined (λ x. g (f x)) p.mark all ms
@@ -84,3 +88,13 @@ module _ {A B : Type 0} (f : A → B) where
 
       pub qualified_mapped : (style : PathStyle) (q : QSelfOf T) (x : PathOf A) → qualified_by h style q (path_on x) ≡ qualified_by on style q x
       qualified_mapped style q x = ap (λ n. qualified_at h style q (path_on x) (min q.position n)) (length-map x.segments.0 segment_on) ∙ at_mapped style q x (min q.position (length x.segments.0))
+
+-- ---- arguments between angle marks, whose tests agree
+
+module _ {G H : Type 0} (f : G → H) (is : G → Bool) (other : H → Bool) (keep : (x : G) → other (f x) ≡ is x) (h : H → Print) where
+  abbrev pub angle_on : AngleBracketedGenericArgumentsOf G → AngleBracketedGenericArgumentsOf H
+  angle_on x = angle_of x.colon2_token x.lt_token (map f x.args.0, x.args.1) x.gt_token
+
+  pub angle_mapped : (style : PathStyle) (x : AngleBracketedGenericArgumentsOf G) → angle_by other h style (angle_on x) ≡ angle_by is (λ z. h (f z)) style x
+  angle_mapped Expr x = ap (λ r. angle_start Expr x ++ (r ++ p.mark x.gt_token)) (sorted_map f is other keep x.args h)
+  angle_mapped AsWritten x = ap (λ r. angle_start AsWritten x ++ (r ++ p.mark x.gt_token)) (sorted_map f is other keep x.args h)

@@ -1,5 +1,5 @@
 -- What each kind of type, of parameter and of bound prints.
-use Rattle.std.proofs.Common.{◌≡◌, ℕ, List, [], ◌∷◌, ◌++◌, Option, Some, None, map, refl, sym, ◌∙◌, ap}
+use Rattle.std.proofs.Common.{◌≡◌, Bool, List, [], ◌∷◌, ◌++◌, Option, Some, None, map, refl, sym, ◌∙◌, ap}
 use Rattle.token_core.specs.Lifetimes as lifetimes
 use Rattle.token_core.specs.Lists.{joined}
 use Rattle.token_core.specs.Loops.{Many}
@@ -13,7 +13,7 @@ use Rattle.token_core.specs.declared.tree.Delimiter.TheVariants.{Parenthesis}
 use Rattle.token_core.specs.declared.tree.Ident.{Ident}
 use Rattle.token_core.specs.declared.tree.TokenStream.{TokenStream}
 use Rattle.syn_mid.specs.Supplied.{Place}
-use Rattle.syn_mid.specs.declared.generics.GenericParamOf.TheFolds.{fold-roll-GenericParamOf, fold-roll-TypeParamBoundOf, fold-roll-GenericArgumentOf, fold-roll-PathArgumentsOf, fold-roll-TypeOf, fold-roll-TraitBoundOf, fold-roll-TypeParamOf, fold-roll-AssocTypeOf, fold-roll-ConstraintOf, fold-roll-TypeFnPtrOf, fold-roll-TypePathOf, map-GenericParamOf, map-TypeParamBoundOf, map-TypeOf, map-TraitBoundOf, map-TypeParamOf, map-TypePathOf}
+use Rattle.syn_mid.specs.declared.generics.GenericParamOf.TheFolds.{fold-roll-GenericParamOf, fold-roll-TypeParamBoundOf, fold-roll-GenericArgumentOf, fold-roll-PathArgumentsOf, fold-roll-TypeOf, fold-roll-TraitBoundOf, fold-roll-TypeParamOf, fold-roll-AssocTypeOf, fold-roll-ConstraintOf, fold-roll-TypeFnPtrOf, fold-roll-TypePathOf, map-GenericParamOf, map-TypeParamBoundOf, map-GenericArgumentOf, map-PathArgumentsOf, map-TypeOf, map-TraitBoundOf, map-TypeParamOf, map-AssocTypeOf, map-ConstraintOf, map-TypePathOf}
 use Rattle.syn_mid.specs.declared.generics.GenericParamOf.TheOpen as o
 use Rattle.syn_mid.specs.declared.generics.GenericParamOf.{roll-GenericParamOf}
 use Rattle.syn_mid.specs.declared.generics.GenericParamOf.TheVariants as g
@@ -23,17 +23,28 @@ use Rattle.syn_mid.specs.declared.generics.TraitBoundOf.{roll-TraitBoundOf, out-
 use Rattle.syn_mid.specs.declared.generics.TypeParamBoundOf.{roll-TypeParamBoundOf}
 use Rattle.syn_mid.specs.declared.generics.TypeParamBoundOf.TheVariants as b
 use Rattle.syn_mid.specs.declared.generics.TypeParamOf.{roll-TypeParamOf, out-TypeParamOf, roll-out-TypeParamOf}
+use Rattle.syn_mid.specs.declared.path.AngleBracketedGenericArgumentsOf.{AngleBracketedGenericArgumentsOf}
+use Rattle.syn_mid.specs.declared.path.AssocTypeOf.{roll-AssocTypeOf, out-AssocTypeOf, roll-out-AssocTypeOf}
+use Rattle.syn_mid.specs.declared.path.ConstraintOf.{roll-ConstraintOf, out-ConstraintOf, roll-out-ConstraintOf}
+use Rattle.syn_mid.specs.declared.path.GenericArgumentOf.{roll-GenericArgumentOf, out-GenericArgumentOf, roll-out-GenericArgumentOf}
+use Rattle.syn_mid.specs.declared.path.GenericArgumentOf.TheVariants as ga
+use Rattle.syn_mid.specs.declared.path.PathArgumentsOf.{roll-PathArgumentsOf}
+use Rattle.syn_mid.specs.declared.path.PathArgumentsOf.TheVariants as pa
+use Rattle.syn_mid.specs.declared.path.PathStyle.{PathStyle}
 use Rattle.syn_mid.specs.declared.supplied.Expr.{Expr}
+use Rattle.syn_mid.specs.declared.ty.NamedArgOf.{NamedArgOf}
+use Rattle.syn_mid.specs.declared.ty.ReturnTypeOf.TheVariants as r
 use Rattle.syn_mid.specs.declared.ty.TypeOf.{roll-TypeOf}
 use Rattle.syn_mid.specs.declared.ty.TypeOf.TheVariants as v
 use Rattle.syn_mid.specs.declared.ty.TypePathOf.{roll-TypePathOf, out-TypePathOf, roll-out-TypePathOf}
 use Rattle.syn_mid.specs.generics.Params.{Colon, Eq, trait_bound_of, type_param_of}
-use Rattle.syn_mid.specs.generics.Shapes.{optional, attrs, in_parens, capture, lifetime_param, type_param_by, trait_bound_by}
-use Rattle.syn_mid.specs.path.Shapes.{as_written, path_by}
-use Rattle.syn_mid.specs.ty.Types.{Plus, qualified_with}
-use Rattle.syn_mid.specs.ty.Trees.{Family, LayerOf, Attr, Attrs, GenericParam, LifetimeParam, TypeParam, ConstParam, BoundLifetimes, TypeParamBound, TraitBound, PathArguments, Path, GenericArgument, AssocType, Constraint, TypeTree, QSelf, TypeArray, TypeFnPtr, TypeGroup, TypeImplTrait, TypeInfer, TypeMacro, TypeNever, TypeParen, TypePath, TypePtr, TypeReference, TypeSlice, TypeTraitObject, TypeTuple}
-use Rattle.syn_mid.specs.ty.Printing.{Shown, infer, never, macro_type, optional_word, path_type, qpath, type_name, bare_trait, bound_lifetimes, const_param, array, group, paren, ptr, reference, slice, impl_trait, trait_object, tuple, lone_comma, ty, fn_ptr, param, bound, type_param, trait_bound, argument_shown, arguments_shown, arguments, assoc_type, constraint, param_step, bound_step, argument_step, arguments_step, ty_step, trait_bound_step, type_param_step, assoc_type_step, constraint_step, fn_ptr_step, path_type_step}
-use Rattle.syn_mid.proofs.ty_laws.Mapped.{joined_mapped, colon_mapped, path_on, lone_mapped, path_mapped, qualified_mapped}
+use Rattle.syn_mid.specs.generics.Shapes.{optional, attrs, in_parens, capture, const_argument, lifetime_param, type_param_by, trait_bound_by}
+use Rattle.syn_mid.specs.path.Paths.{is_lifetime, lifetime_layer, assoc_type_of, assoc_const_of, constraint_of, parens_of}
+use Rattle.syn_mid.specs.path.Shapes.{as_written, path_by, angle_by, parenthesized_start}
+use Rattle.syn_mid.specs.ty.Types.{Comma, Plus, named_arg_of, qualified_with}
+use Rattle.syn_mid.specs.ty.Trees.{Family, LayerOf, Attr, Attrs, GenericParam, LifetimeParam, TypeParam, ConstParam, BoundLifetimes, TypeParamBound, TraitBound, PathArguments, Path, GenericArgument, AngleBracketed, Parenthesized, AssocType, AssocConst, Constraint, TypeTree, QSelf, TypeArray, TypeFnPtr, TypeGroup, TypeImplTrait, TypeInfer, TypeMacro, TypeNever, TypeParen, TypePath, TypePtr, TypeReference, TypeSlice, TypeTraitObject, TypeTuple, NamedArg, ReturnType}
+use Rattle.syn_mid.specs.ty.Printing.{Shown, infer, never, macro_type, optional_word, path_type, qpath, type_name, bare_trait, bound_lifetimes, const_param, named_arg_by, inputs_by, inputs, argument, angle, parenthesized, assoc_const, assoc_type_by, constraint_by, array, group, paren, ptr, reference, slice, impl_trait, trait_object, tuple, lone_comma, ty, fn_ptr, param, bound, type_param, trait_bound, argument_shown, arguments_shown, arguments, assoc_type, constraint, param_step, bound_step, argument_step, arguments_step, ty_step, trait_bound_step, type_param_step, assoc_type_step, constraint_step, fn_ptr_step, path_type_step}
+use Rattle.syn_mid.proofs.ty_laws.Mapped.{joined_map, angle_on, angle_mapped, joined_mapped, colon_mapped, path_on, lone_mapped, path_mapped, qualified_mapped}
 
 module _ {X : Type 0} (px : Place → X → Print) where
   -- ---- one layer whose trees are printed
@@ -181,3 +192,116 @@ module _ {X : Type 0} (px : Place → X → Print) where
   prints_trait_bound x =
       let f = out-TraitBoundOf (Attr X) (Expr X) x in
       ap (trait_bound px) (sym (roll-out-TraitBoundOf (Attr X) (Expr X) x)) ∙ trait_bound_parts f.paren_token f.lifetimes f.modifiers f.maybe f.path
+
+  -- ---- arguments
+
+  by_argument : (y : LayerOf o.GenericArgumentOf-F X) → argument_shown px (roll-GenericArgumentOf (Attr X) (Expr X) y) ≡ argument_step px (shown o.GenericArgumentOf-F (map-GenericArgumentOf (Attr X) (Expr X)) y)
+  unfolding param bound argument_shown arguments_shown ty trait_bound type_param assoc_type constraint fn_ptr path_type
+  by_argument y = fold-roll-GenericArgumentOf (Attr X) (Expr X) _ _ _ _ _ _ _ _ _ _ _ (param_step px) (bound_step px) (argument_step px) (arguments_step px) (ty_step px) (trait_bound_step px) (type_param_step px) (assoc_type_step px) (constraint_step px) (fn_ptr_step px) (path_type_step px) y
+
+  by_arguments : (y : LayerOf o.PathArgumentsOf-F X) → arguments_shown px (roll-PathArgumentsOf (Attr X) (Expr X) y) ≡ arguments_step px (shown o.PathArgumentsOf-F (map-PathArgumentsOf (Attr X) (Expr X)) y)
+  unfolding param bound argument_shown arguments_shown ty trait_bound type_param assoc_type constraint fn_ptr path_type
+  by_arguments y = fold-roll-PathArgumentsOf (Attr X) (Expr X) _ _ _ _ _ _ _ _ _ _ _ (param_step px) (bound_step px) (argument_step px) (arguments_step px) (ty_step px) (trait_bound_step px) (type_param_step px) (assoc_type_step px) (constraint_step px) (fn_ptr_step px) (path_type_step px) y
+
+  by_assoc_type : (y : LayerOf o.AssocTypeOf-F X) → assoc_type px (roll-AssocTypeOf (Attr X) (Expr X) y) ≡ assoc_type_step px (shown o.AssocTypeOf-F (map-AssocTypeOf (Attr X) (Expr X)) y)
+  unfolding param bound argument_shown arguments_shown ty trait_bound type_param assoc_type constraint fn_ptr path_type
+  by_assoc_type y = fold-roll-AssocTypeOf (Attr X) (Expr X) _ _ _ _ _ _ _ _ _ _ _ (param_step px) (bound_step px) (argument_step px) (arguments_step px) (ty_step px) (trait_bound_step px) (type_param_step px) (assoc_type_step px) (constraint_step px) (fn_ptr_step px) (path_type_step px) y
+
+  by_constraint : (y : LayerOf o.ConstraintOf-F X) → constraint px (roll-ConstraintOf (Attr X) (Expr X) y) ≡ constraint_step px (shown o.ConstraintOf-F (map-ConstraintOf (Attr X) (Expr X)) y)
+  unfolding param bound argument_shown arguments_shown ty trait_bound type_param assoc_type constraint fn_ptr path_type
+  by_constraint y = fold-roll-ConstraintOf (Attr X) (Expr X) _ _ _ _ _ _ _ _ _ _ _ (param_step px) (bound_step px) (argument_step px) (arguments_step px) (ty_step px) (trait_bound_step px) (type_param_step px) (assoc_type_step px) (constraint_step px) (fn_ptr_step px) (path_type_step px) y
+
+  layer_first : (y : LayerOf o.GenericArgumentOf-F X) → (argument_step px (shown o.GenericArgumentOf-F (map-GenericArgumentOf (Attr X) (Expr X)) y)).0 ≡ lifetime_layer y
+  layer_first (o.GenericArgumentOf::Lifetime x) = refl
+  layer_first (o.GenericArgumentOf::Type x) = refl
+  layer_first (o.GenericArgumentOf::Const x) = refl
+  layer_first (o.AssocType x) = refl
+  layer_first (o.AssocConst x) = refl
+  layer_first (o.Constraint x) = refl
+
+  -- which print first
+  pub argument_first : (x : GenericArgument X) → (argument_shown px x).0 ≡ is_lifetime x
+  argument_first x =
+      let y = out-GenericArgumentOf (Attr X) (Expr X) x in
+      ap (λ z. (argument_shown px z).0) (sym (roll-out-GenericArgumentOf (Attr X) (Expr X) x)) ∙ ap (λ z. z.0) (by_argument y) ∙ layer_first y
+
+  abbrev shown_angle : AngleBracketed X → AngleBracketedGenericArgumentsOf (Bool × Print)
+  shown_angle = angle_on (argument_shown px) is_lifetime (λ z. z.0) argument_first (λ z. z.1)
+
+  angle_shown : (style : PathStyle) (x : AngleBracketed X) → angle_by (λ z. z.0) (λ z. z.1) style (shown_angle x) ≡ angle px style x
+  angle_shown = angle_mapped (argument_shown px) is_lifetime (λ z. z.0) argument_first (λ z. z.1)
+
+  pub argument-Lifetime : (x : Lifetime) → argument px (ga.Lifetime x) ≡ lifetimes.print x
+  argument-Lifetime x = ap (argument px) (sym (ga.rolls-Lifetime x)) ∙ ap (λ z. z.1) (by_argument (o.GenericArgumentOf::Lifetime x))
+
+  pub argument-Type : (x : TypeTree X) → argument px (ga.«Type» x) ≡ ty px x
+  argument-Type x = ap (argument px) (sym (ga.rolls-Type x)) ∙ ap (λ z. z.1) (by_argument (o.GenericArgumentOf::Type x))
+
+  pub argument-Const : (x : Expr X) → argument px (ga.Const x) ≡ const_argument px x
+  argument-Const x = ap (argument px) (sym (ga.rolls-Const x)) ∙ ap (λ z. z.1) (by_argument (o.GenericArgumentOf::Const x))
+
+  pub argument-AssocType : (x : AssocType X) → argument px (ga.AssocType x) ≡ assoc_type px x
+  argument-AssocType x = ap (argument px) (sym (ga.rolls-AssocType x)) ∙ ap (λ z. z.1) (by_argument (o.AssocType x))
+
+  pub argument-Constraint : (x : Constraint X) → argument px (ga.Constraint x) ≡ constraint px x
+  argument-Constraint x = ap (argument px) (sym (ga.rolls-Constraint x)) ∙ ap (λ z. z.1) (by_argument (o.Constraint x))
+
+  assoc_const_parts : (i : Ident) (l : Option (AngleBracketed X)) (e : Eq) (n : Expr X) → argument px (ga.AssocConst (assoc_const_of i l e n)) ≡ assoc_const px (assoc_const_of i l e n)
+  assoc_const_parts i None e n =
+      let x = assoc_const_of i None e n in
+      ap (argument px) (sym (ga.rolls-AssocConst x)) ∙ ap (λ z. z.1) (by_argument (o.AssocConst x))
+  assoc_const_parts i (Some l) e n =
+      let x = assoc_const_of i (Some l) e n in
+      ap (argument px) (sym (ga.rolls-AssocConst x)) ∙ ap (λ z. z.1) (by_argument (o.AssocConst x)) ∙ ap (λ r. p.ident i ++ (r ++ (p.mark e ++ const_argument px n))) (angle_shown as_written l)
+
+  pub argument-AssocConst : (x : AssocConst X) → argument px (ga.AssocConst x) ≡ assoc_const px x
+  argument-AssocConst x = assoc_const_parts x.ident x.generics x.eq_token x.value
+
+  -- by its parts
+  pub assoc_type_parts : (i : Ident) (l : Option (AngleBracketed X)) (e : Eq) (t : TypeTree X) → assoc_type px (assoc_type_of i l e t) ≡ assoc_type_by px is_lifetime (argument px) (ty px) i l e t
+  assoc_type_parts i None e t = by_assoc_type (record { ident = i; generics = None; eq_token = e; ty = t })
+  assoc_type_parts i (Some l) e t =
+      by_assoc_type (record { ident = i; generics = Some l; eq_token = e; ty = t }) ∙ ap (λ r. p.ident i ++ (r ++ (p.mark e ++ ty px t))) (angle_shown as_written l)
+
+  pub prints_assoc_type : (x : AssocType X) → let f = out-AssocTypeOf (Attr X) (Expr X) x in assoc_type px x ≡ assoc_type_by px is_lifetime (argument px) (ty px) f.ident f.generics f.eq_token f.ty
+  prints_assoc_type x = let f = out-AssocTypeOf (Attr X) (Expr X) x in ap (assoc_type px) (sym (roll-out-AssocTypeOf (Attr X) (Expr X) x)) ∙ assoc_type_parts f.ident f.generics f.eq_token f.ty
+
+  -- by its parts
+  pub constraint_parts : (i : Ident) (l : Option (AngleBracketed X)) (c : Colon) (v : Many (TypeParamBound X) Plus)
+      → constraint px (constraint_of i l c v) ≡ constraint_by px is_lifetime (argument px) (bound px) i l c v
+  constraint_parts i None c v =
+      by_constraint (record { ident = i; generics = None; colon_token = c; bounds = v }) ∙ ap (λ r. p.ident i ++ (p.mark c ++ r)) (joined_mapped (bound px) v.0 v.1)
+  constraint_parts i (Some l) c v =
+      by_constraint (record { ident = i; generics = Some l; colon_token = c; bounds = v })
+      ∙ ap (λ r. p.ident i ++ (r ++ (p.mark c ++ joined (λ z. z) p.mark (map (bound px) v.0) v.1))) (angle_shown as_written l)
+      ∙ ap (λ r. p.ident i ++ (angle px as_written l ++ (p.mark c ++ r))) (joined_mapped (bound px) v.0 v.1)
+
+  pub prints_constraint : (x : Constraint X) → let f = out-ConstraintOf (Attr X) (Expr X) x in constraint px x ≡ constraint_by px is_lifetime (argument px) (bound px) f.ident f.generics f.colon_token f.bounds
+  prints_constraint x = let f = out-ConstraintOf (Attr X) (Expr X) x in ap (constraint px) (sym (roll-out-ConstraintOf (Attr X) (Expr X) x)) ∙ constraint_parts f.ident f.generics f.colon_token f.bounds
+
+  pub arguments-None : (style : PathStyle) → arguments px style pa.None ≡ []
+  arguments-None style = ap (arguments px style) (sym pa.rolls-None) ∙ ap (λ (k : PathStyle → Print). k style) (by_arguments o.None)
+
+  pub arguments-AngleBracketed : (style : PathStyle) (x : AngleBracketed X) → arguments px style (pa.AngleBracketed x) ≡ angle px style x
+  arguments-AngleBracketed style x = ap (arguments px style) (sym (pa.rolls-AngleBracketed x)) ∙ ap (λ (k : PathStyle → Print). k style) (by_arguments (o.AngleBracketed x)) ∙ angle_shown style x
+
+  -- ---- arguments whose types are printed
+
+  abbrev shown_named : NamedArg X → NamedArgOf Print (Attr X)
+  shown_named z = named_arg_of z.attrs z.name (ty px z.ty)
+
+  inputs_mapped : (v : Many (NamedArg X) Comma) → inputs_by px (λ z. z) (map shown_named v.0, v.1) ≡ inputs px v
+  inputs_mapped v = joined_map (named_arg_by px (λ z. z)) shown_named v.0 v.1
+
+  parens_parts : (style : PathStyle) (t : Paren) (v : Many (NamedArg X) Comma) (q : ReturnType X) → arguments px style (pa.Parenthesized (parens_of t v q)) ≡ parenthesized_start style ++ parenthesized px (parens_of t v q)
+  parens_parts style t v r.Default =
+      let x = parens_of t v r.Default in
+      ap (arguments px style) (sym (pa.rolls-Parenthesized x)) ∙ ap (λ (k : PathStyle → Print). k style) (by_arguments (o.Parenthesized x))
+      ∙ ap (λ z. parenthesized_start style ++ (p.group Parenthesis (stream_of_trees z) t.span ++ [])) (inputs_mapped v)
+  parens_parts style t v (r.«Type» h q) =
+      let x = parens_of t v (r.«Type» h q) in
+      ap (arguments px style) (sym (pa.rolls-Parenthesized x)) ∙ ap (λ (k : PathStyle → Print). k style) (by_arguments (o.Parenthesized x))
+      ∙ ap (λ z. parenthesized_start style ++ (p.group Parenthesis (stream_of_trees z) t.span ++ (p.mark h ++ ty px q))) (inputs_mapped v)
+
+  pub arguments-Parenthesized : (style : PathStyle) (x : Parenthesized X) → arguments px style (pa.Parenthesized x) ≡ parenthesized_start style ++ parenthesized px x
+  arguments-Parenthesized style x = parens_parts style x.paren_token x.inputs x.output
