@@ -1,5 +1,5 @@
 -- What is printed by prints of values is printed by them where they are mapped first.
-use Rattle.std.proofs.Common.{◌≡◌, ℕ, zero, suc, pred, min, length, Bool, List, [], ◌∷◌, ◌++◌, Option, Some, None, map, refl, ◌∙◌, ap}
+use Rattle.std.proofs.Common.{◌≡◌, ℕ, zero, suc, pred, min, length, Bool, List, [], ◌∷◌, ◌++◌, Option, map, refl, ◌∙◌, ap}
 use Rattle.std.proofs.lemmas.List.{length-map}
 use Rattle.token_core.specs.Lists.{joined}
 use Rattle.token_core.specs.Loops.{Many}
@@ -12,7 +12,6 @@ use Rattle.syn_mid.specs.declared.path.PathSegmentOf.{PathSegmentOf}
 use Rattle.syn_mid.specs.declared.path.PathStyle.{PathStyle}
 use Rattle.syn_mid.specs.declared.path.PathStyle.TheVariants.{Expr, AsWritten}
 use Rattle.syn_mid.specs.declared.path.QSelfOf.{QSelfOf}
-use Rattle.syn_mid.specs.generics.Members.{sorted}
 use Rattle.syn_mid.specs.generics.Params.{Colon}
 use Rattle.syn_mid.specs.generics.Shapes.{or_default, after_colon}
 use Rattle.syn_mid.specs.path.Paths.{Sep, segment_of, path_of, angle_of}

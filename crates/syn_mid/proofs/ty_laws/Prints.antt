@@ -1,5 +1,5 @@
 -- What each kind of type, of parameter and of bound prints.
-use Rattle.std.proofs.Common.{◌≡◌, Bool, List, [], ◌∷◌, ◌++◌, Option, Some, None, map, refl, sym, ◌∙◌, ap}
+use Rattle.std.proofs.Common.{◌≡◌, Bool, List, [], ◌++◌, Option, Some, None, map, refl, sym, ◌∙◌, ap}
 use Rattle.token_core.specs.Lifetimes as lifetimes
 use Rattle.token_core.specs.Lists.{joined}
 use Rattle.token_core.specs.Loops.{Many}
@@ -9,11 +9,12 @@ use Rattle.token_core.specs.Trees.{trees, stream_of_trees}
 use Rattle.token_core.specs.declared.lifetime.Lifetime.{Lifetime}
 use Rattle.token_core.specs.declared.mark.Mark.{Mark}
 use Rattle.token_core.specs.declared.token.Paren.{Paren}
+use Rattle.token_core.specs.declared.word.Word.{Word}
 use Rattle.token_core.specs.declared.tree.Delimiter.TheVariants.{Parenthesis}
 use Rattle.token_core.specs.declared.tree.Ident.{Ident}
 use Rattle.token_core.specs.declared.tree.TokenStream.{TokenStream}
 use Rattle.syn_mid.specs.Supplied.{Place}
-use Rattle.syn_mid.specs.declared.generics.GenericParamOf.TheFolds.{fold-roll-GenericParamOf, fold-roll-TypeParamBoundOf, fold-roll-GenericArgumentOf, fold-roll-PathArgumentsOf, fold-roll-TypeOf, fold-roll-TraitBoundOf, fold-roll-TypeParamOf, fold-roll-AssocTypeOf, fold-roll-ConstraintOf, fold-roll-TypeFnPtrOf, fold-roll-TypePathOf, map-GenericParamOf, map-TypeParamBoundOf, map-GenericArgumentOf, map-PathArgumentsOf, map-TypeOf, map-TraitBoundOf, map-TypeParamOf, map-AssocTypeOf, map-ConstraintOf, map-TypePathOf}
+use Rattle.syn_mid.specs.declared.generics.GenericParamOf.TheFolds.{fold-roll-GenericParamOf, fold-roll-TypeParamBoundOf, fold-roll-GenericArgumentOf, fold-roll-PathArgumentsOf, fold-roll-TypeOf, fold-roll-TraitBoundOf, fold-roll-TypeParamOf, fold-roll-AssocTypeOf, fold-roll-ConstraintOf, fold-roll-TypeFnPtrOf, fold-roll-TypePathOf, map-GenericParamOf, map-TypeParamBoundOf, map-GenericArgumentOf, map-PathArgumentsOf, map-TypeOf, map-TraitBoundOf, map-TypeParamOf, map-AssocTypeOf, map-ConstraintOf, map-TypeFnPtrOf, map-TypePathOf}
 use Rattle.syn_mid.specs.declared.generics.GenericParamOf.TheOpen as o
 use Rattle.syn_mid.specs.declared.generics.GenericParamOf.{roll-GenericParamOf}
 use Rattle.syn_mid.specs.declared.generics.GenericParamOf.TheVariants as g
@@ -32,8 +33,10 @@ use Rattle.syn_mid.specs.declared.path.PathArgumentsOf.{roll-PathArgumentsOf}
 use Rattle.syn_mid.specs.declared.path.PathArgumentsOf.TheVariants as pa
 use Rattle.syn_mid.specs.declared.path.PathStyle.{PathStyle}
 use Rattle.syn_mid.specs.declared.supplied.Expr.{Expr}
+use Rattle.syn_mid.specs.declared.ty.Abi.{Abi}
 use Rattle.syn_mid.specs.declared.ty.NamedArgOf.{NamedArgOf}
 use Rattle.syn_mid.specs.declared.ty.ReturnTypeOf.TheVariants as r
+use Rattle.syn_mid.specs.declared.ty.TypeFnPtrOf.{roll-TypeFnPtrOf, out-TypeFnPtrOf, roll-out-TypeFnPtrOf}
 use Rattle.syn_mid.specs.declared.ty.TypeOf.{roll-TypeOf}
 use Rattle.syn_mid.specs.declared.ty.TypeOf.TheVariants as v
 use Rattle.syn_mid.specs.declared.ty.TypePathOf.{roll-TypePathOf, out-TypePathOf, roll-out-TypePathOf}
@@ -41,10 +44,10 @@ use Rattle.syn_mid.specs.generics.Params.{Colon, Eq, trait_bound_of, type_param_
 use Rattle.syn_mid.specs.generics.Shapes.{optional, attrs, in_parens, capture, const_argument, lifetime_param, type_param_by, trait_bound_by}
 use Rattle.syn_mid.specs.path.Paths.{is_lifetime, lifetime_layer, assoc_type_of, assoc_const_of, constraint_of, parens_of}
 use Rattle.syn_mid.specs.path.Shapes.{as_written, path_by, angle_by, parenthesized_start}
-use Rattle.syn_mid.specs.ty.Types.{Comma, Plus, named_arg_of, qualified_with}
-use Rattle.syn_mid.specs.ty.Trees.{Family, LayerOf, Attr, Attrs, GenericParam, LifetimeParam, TypeParam, ConstParam, BoundLifetimes, TypeParamBound, TraitBound, PathArguments, Path, GenericArgument, AngleBracketed, Parenthesized, AssocType, AssocConst, Constraint, TypeTree, QSelf, TypeArray, TypeFnPtr, TypeGroup, TypeImplTrait, TypeInfer, TypeMacro, TypeNever, TypeParen, TypePath, TypePtr, TypeReference, TypeSlice, TypeTraitObject, TypeTuple, NamedArg, ReturnType}
-use Rattle.syn_mid.specs.ty.Printing.{Shown, infer, never, macro_type, optional_word, path_type, qpath, type_name, bare_trait, bound_lifetimes, const_param, named_arg_by, inputs_by, inputs, argument, angle, parenthesized, assoc_const, assoc_type_by, constraint_by, array, group, paren, ptr, reference, slice, impl_trait, trait_object, tuple, lone_comma, ty, fn_ptr, param, bound, type_param, trait_bound, argument_shown, arguments_shown, arguments, assoc_type, constraint, param_step, bound_step, argument_step, arguments_step, ty_step, trait_bound_step, type_param_step, assoc_type_step, constraint_step, fn_ptr_step, path_type_step}
-use Rattle.syn_mid.proofs.ty_laws.Mapped.{joined_map, angle_on, angle_mapped, joined_mapped, colon_mapped, path_on, lone_mapped, path_mapped, qualified_mapped}
+use Rattle.syn_mid.specs.ty.Types.{Comma, Plus, named_arg_of, qualified_with, fn_ptr_with}
+use Rattle.syn_mid.specs.ty.Trees.{Family, LayerOf, Attr, Attrs, LifetimeParam, TypeParam, ConstParam, BoundLifetimes, TypeParamBound, TraitBound, Path, GenericArgument, AngleBracketed, Parenthesized, AssocType, AssocConst, Constraint, TypeTree, QSelf, TypeArray, TypeFnPtr, TypeGroup, TypeImplTrait, TypeInfer, TypeMacro, TypeNever, TypeParen, TypePath, TypePtr, TypeReference, TypeSlice, TypeTraitObject, TypeTuple, NamedArg, FnPtrVariadic, ReturnType}
+use Rattle.syn_mid.specs.ty.Printing.{Shown, infer, never, macro_type, optional_word, path_type, comma_at, more, variadic, fn_head_by, fn_start_by, fn_ptr_by, fn_start, fn_params, fn_head, fn_arguments, fn_output, return_type, qpath, type_name, bare_trait, bound_lifetimes, const_param, named_arg_by, inputs_by, inputs, argument, angle, parenthesized, assoc_const, assoc_type_by, constraint_by, array, group, paren, ptr, reference, slice, impl_trait, trait_object, tuple, lone_comma, ty, fn_ptr, param, bound, type_param, trait_bound, argument_shown, arguments_shown, arguments as segment_arguments, assoc_type, constraint, param_step, bound_step, argument_step, arguments_step, ty_step, trait_bound_step, type_param_step, assoc_type_step, constraint_step, fn_ptr_step, path_type_step}
+use Rattle.syn_mid.proofs.ty_laws.Mapped.{joined_map, angle_on, angle_mapped, joined_mapped, last_mapped, colon_mapped, path_on, lone_mapped, path_mapped, qualified_mapped}
 
 module _ {X : Type 0} (px : Place → X → Print) where
   -- ---- one layer whose trees are printed
@@ -179,7 +182,7 @@ module _ {X : Type 0} (px : Place → X → Print) where
 
   -- by its parts
   pub trait_bound_parts : (t : Option Paren) (l : Option (BoundLifetimes X)) (m : TraitBoundModifiers) (q : Option (Mark 22 1)) (z : Path X)
-      → trait_bound px (trait_bound_of t l m q z) ≡ trait_bound_by (param px) (arguments px as_written) t l q z
+      → trait_bound px (trait_bound_of t l m q z) ≡ trait_bound_by (param px) (segment_arguments px as_written) t l q z
   trait_bound_parts t None m q z =
       by_trait_bound (record { paren_token = t; lifetimes = None; modifiers = m; maybe = q; path = z })
       ∙ ap (λ r. in_parens t (optional q ++ r)) (path_mapped (arguments_shown px) (λ k. k as_written) z)
@@ -279,11 +282,11 @@ module _ {X : Type 0} (px : Place → X → Print) where
   pub prints_constraint : (x : Constraint X) → let f = out-ConstraintOf (Attr X) (Expr X) x in constraint px x ≡ constraint_by px is_lifetime (argument px) (bound px) f.ident f.generics f.colon_token f.bounds
   prints_constraint x = let f = out-ConstraintOf (Attr X) (Expr X) x in ap (constraint px) (sym (roll-out-ConstraintOf (Attr X) (Expr X) x)) ∙ constraint_parts f.ident f.generics f.colon_token f.bounds
 
-  pub arguments-None : (style : PathStyle) → arguments px style pa.None ≡ []
-  arguments-None style = ap (arguments px style) (sym pa.rolls-None) ∙ ap (λ (k : PathStyle → Print). k style) (by_arguments o.None)
+  pub arguments-None : (style : PathStyle) → segment_arguments px style pa.None ≡ []
+  arguments-None style = ap (segment_arguments px style) (sym pa.rolls-None) ∙ ap (λ (k : PathStyle → Print). k style) (by_arguments o.None)
 
-  pub arguments-AngleBracketed : (style : PathStyle) (x : AngleBracketed X) → arguments px style (pa.AngleBracketed x) ≡ angle px style x
-  arguments-AngleBracketed style x = ap (arguments px style) (sym (pa.rolls-AngleBracketed x)) ∙ ap (λ (k : PathStyle → Print). k style) (by_arguments (o.AngleBracketed x)) ∙ angle_shown style x
+  pub arguments-AngleBracketed : (style : PathStyle) (x : AngleBracketed X) → segment_arguments px style (pa.AngleBracketed x) ≡ angle px style x
+  arguments-AngleBracketed style x = ap (segment_arguments px style) (sym (pa.rolls-AngleBracketed x)) ∙ ap (λ (k : PathStyle → Print). k style) (by_arguments (o.AngleBracketed x)) ∙ angle_shown style x
 
   -- ---- arguments whose types are printed
 
@@ -293,15 +296,61 @@ module _ {X : Type 0} (px : Place → X → Print) where
   inputs_mapped : (v : Many (NamedArg X) Comma) → inputs_by px (λ z. z) (map shown_named v.0, v.1) ≡ inputs px v
   inputs_mapped v = joined_map (named_arg_by px (λ z. z)) shown_named v.0 v.1
 
-  parens_parts : (style : PathStyle) (t : Paren) (v : Many (NamedArg X) Comma) (q : ReturnType X) → arguments px style (pa.Parenthesized (parens_of t v q)) ≡ parenthesized_start style ++ parenthesized px (parens_of t v q)
+  parens_parts : (style : PathStyle) (t : Paren) (v : Many (NamedArg X) Comma) (q : ReturnType X) → segment_arguments px style (pa.Parenthesized (parens_of t v q)) ≡ parenthesized_start style ++ parenthesized px (parens_of t v q)
   parens_parts style t v r.Default =
       let x = parens_of t v r.Default in
-      ap (arguments px style) (sym (pa.rolls-Parenthesized x)) ∙ ap (λ (k : PathStyle → Print). k style) (by_arguments (o.Parenthesized x))
+      ap (segment_arguments px style) (sym (pa.rolls-Parenthesized x)) ∙ ap (λ (k : PathStyle → Print). k style) (by_arguments (o.Parenthesized x))
       ∙ ap (λ z. parenthesized_start style ++ (p.group Parenthesis (stream_of_trees z) t.span ++ [])) (inputs_mapped v)
   parens_parts style t v (r.«Type» h q) =
       let x = parens_of t v (r.«Type» h q) in
-      ap (arguments px style) (sym (pa.rolls-Parenthesized x)) ∙ ap (λ (k : PathStyle → Print). k style) (by_arguments (o.Parenthesized x))
+      ap (segment_arguments px style) (sym (pa.rolls-Parenthesized x)) ∙ ap (λ (k : PathStyle → Print). k style) (by_arguments (o.Parenthesized x))
       ∙ ap (λ z. parenthesized_start style ++ (p.group Parenthesis (stream_of_trees z) t.span ++ (p.mark h ++ ty px q))) (inputs_mapped v)
 
-  pub arguments-Parenthesized : (style : PathStyle) (x : Parenthesized X) → arguments px style (pa.Parenthesized x) ≡ parenthesized_start style ++ parenthesized px x
+  pub arguments-Parenthesized : (style : PathStyle) (x : Parenthesized X) → segment_arguments px style (pa.Parenthesized x) ≡ parenthesized_start style ++ parenthesized px x
   arguments-Parenthesized style x = parens_parts style x.paren_token x.inputs x.output
+
+  -- ---- pointers to functions
+
+  by_fn_ptr : (y : LayerOf o.TypeFnPtrOf-F X) → fn_ptr px (roll-TypeFnPtrOf (Attr X) (Expr X) y) ≡ fn_ptr_step px (shown o.TypeFnPtrOf-F (map-TypeFnPtrOf (Attr X) (Expr X)) y)
+  unfolding param bound argument_shown arguments_shown ty trait_bound type_param assoc_type constraint fn_ptr path_type
+  by_fn_ptr y = fold-roll-TypeFnPtrOf (Attr X) (Expr X) _ _ _ _ _ _ _ _ _ _ _ (param_step px) (bound_step px) (argument_step px) (arguments_step px) (ty_step px) (trait_bound_step px) (type_param_step px) (assoc_type_step px) (constraint_step px) (fn_ptr_step px) (path_type_step px) y
+
+  pub more_mapped : {T U : Type 0} (f : T → U) (l : List T) (ms : List Comma) (q : Option (FnPtrVariadic X)) → more px (map f l, ms) q ≡ more px (l, ms) q
+  more_mapped f l ms None = refl
+  more_mapped f l ms (Some x) = ap (λ z. z ++ variadic px x) (last_mapped f (comma_at x.dots) l ms)
+
+  content_mapped : (v : Many (NamedArg X) Comma) (m : Option (FnPtrVariadic X)) → inputs_by px (λ z. z) (map shown_named v.0, v.1) ++ more px (map shown_named v.0, v.1) m ≡ inputs px v ++ more px v m
+  content_mapped v m = ap (λ z. z ++ more px (map shown_named v.0, v.1) m) (inputs_mapped v) ∙ ap (λ z. inputs px v ++ z) (more_mapped shown_named v.0 v.1 m)
+
+  -- with the binder and what is in parentheses as they are given
+  abbrev around : Attrs X → Print → Option (BoundLifetimes X) → Option (Word 16) → Option Abi → Word 9 → Paren → Print → ReturnType X → Print
+  around b l k u a w t z q = fn_start_by px b k ++ (l ++ (fn_head_by k u a w ++ (p.group Parenthesis (stream_of_trees z) t.span ++ return_type px q)))
+
+  pub fn_ptr_parts : (b : Attrs X) (l : Option (BoundLifetimes X)) (u : Option (Word 16)) (a : Option Abi) (w : Word 9) (t : Paren) (v : Many (NamedArg X) Comma) (m : Option (FnPtrVariadic X)) (q : ReturnType X)
+      → fn_ptr px (fn_ptr_with b l u a w t v m q) ≡ fn_ptr_by px (param px) (ty px) b l u a w t v m q
+  fn_ptr_parts b None u a w t v m r.Default =
+      by_fn_ptr (record { attrs = b; lifetimes = None; unsafety = u; abi = a; fn_token = w; paren_token = t; inputs = v; variadic = m; output = r.Default })
+      ∙ ap (λ z. around b [] None u a w t z r.Default) (content_mapped v m)
+  fn_ptr_parts b None u a w t v m (r.«Type» h x) =
+      by_fn_ptr (record { attrs = b; lifetimes = None; unsafety = u; abi = a; fn_token = w; paren_token = t; inputs = v; variadic = m; output = r.«Type» h x })
+      ∙ ap (λ z. around b [] None u a w t z (r.«Type» h x)) (content_mapped v m)
+  fn_ptr_parts b (Some l) u a w t v m r.Default =
+      by_fn_ptr (record { attrs = b; lifetimes = Some l; unsafety = u; abi = a; fn_token = w; paren_token = t; inputs = v; variadic = m; output = r.Default })
+      ∙ ap (λ z. around b (joined (λ y. y) p.mark (map (param px) l.lifetimes.0) l.lifetimes.1) (Some l) u a w t z r.Default) (content_mapped v m)
+      ∙ ap (λ y. around b y (Some l) u a w t (inputs px v ++ more px v m) r.Default) (joined_mapped (param px) l.lifetimes.0 l.lifetimes.1)
+  fn_ptr_parts b (Some l) u a w t v m (r.«Type» h x) =
+      by_fn_ptr (record { attrs = b; lifetimes = Some l; unsafety = u; abi = a; fn_token = w; paren_token = t; inputs = v; variadic = m; output = r.«Type» h x })
+      ∙ ap (λ z. around b (joined (λ y. y) p.mark (map (param px) l.lifetimes.0) l.lifetimes.1) (Some l) u a w t z (r.«Type» h x)) (content_mapped v m)
+      ∙ ap (λ y. around b y (Some l) u a w t (inputs px v ++ more px v m) (r.«Type» h x)) (joined_mapped (param px) l.lifetimes.0 l.lifetimes.1)
+
+  -- piece by piece
+  pub prints_fn_ptr : (x : TypeFnPtr X) → fn_ptr px x ≡ fn_start px x ++ (fn_params px x ++ (fn_head x ++ (fn_arguments px x ++ fn_output px x)))
+  prints_fn_ptr x =
+      let f = out-TypeFnPtrOf (Attr X) (Expr X) x in
+      ap (fn_ptr px) (sym (roll-out-TypeFnPtrOf (Attr X) (Expr X) x)) ∙ fn_ptr_parts f.attrs f.lifetimes f.unsafety f.abi f.fn_token f.paren_token f.inputs f.variadic f.output
+
+pub ruleset prints = (ty-Array, ty-FnPtr, ty-Group, ty-ImplTrait, ty-Infer, ty-Macro, ty-Never, ty-Paren, ty-Path, ty-Ptr, ty-Reference, ty-Slice, ty-TraitObject, ty-Tuple, ty-Verbatim)
+
+pub ruleset parts = (prints_path_type, prints_fn_ptr, param-Lifetime, param-Type, param-Const, prints_type_param, bound-Trait, bound-Lifetime, bound-PreciseCapture, bound-Verbatim, prints_trait_bound)
+
+pub ruleset arguments = (arguments-None, arguments-AngleBracketed, arguments-Parenthesized, argument-Lifetime, argument-Type, argument-Const, argument-AssocType, argument-AssocConst, argument-Constraint, prints_assoc_type, prints_constraint)

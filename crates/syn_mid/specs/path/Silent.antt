@@ -11,7 +11,7 @@ use Rattle.syn_mid.specs.declared.supplied.Expr.{Expr}
 use Rattle.syn_mid.specs.path.Paths.{no_arguments, is_none, none_layer}
 use Rattle.syn_mid.specs.path.Shapes.{as_written}
 use Rattle.syn_mid.specs.ty.Printing.{arguments, arguments_shown, param_step, bound_step, argument_step, arguments_step, ty_step, trait_bound_step, type_param_step, assoc_type_step, constraint_step, fn_ptr_step, path_type_step}
-use Rattle.syn_mid.specs.ty.Trees.{Attr, PathArguments}
+use Rattle.syn_mid.specs.ty.Trees.{Attr}
 
 -- they are none
 pub absent : (A E : Type 0) → is_none (no_arguments {A = A} {E = E}) ≡ true
