@@ -2,7 +2,6 @@
 use Rattle.std.proofs.Common.{◌≡◌, ℕ, zero, suc, pred, Bool, List, [], ◌∷◌, ◌++◌, Option, Some, None, map, length, option_map, refl, sym, ◌∙◌, ap, subst}
 use Rattle.std.specs.Prelude.{min}
 use Rattle.std.proofs.lemmas.List.{length-map}
-use Rattle.token_core.specs.declared.lifetime.Lifetime.{Lifetime}
 use Rattle.token_core.specs.declared.mark.Mark.{Mark}
 use Rattle.token_core.specs.declared.token.Paren.{Paren}
 use Rattle.token_core.specs.declared.tree.Delimiter.TheVariants as d
@@ -66,6 +65,7 @@ use Rattle.syn_mid.proofs.attr_laws.Normal.{outer_same, at_place_same}
 use Rattle.syn_mid.proofs.generics_laws.Consts.{const_argument_same}
 use Rattle.syn_mid.proofs.generics_laws.Members.{sort_prints, sorted_map, sorted_agrees}
 use Rattle.syn_mid.proofs.ty_laws.Each.{Each, each_held, each_of, joined_same}
+use Rattle.syn_mid.proofs.ty_laws.Mapped.{lone_mapped, segment_on}
 use Rattle.syn_mid.proofs.ty_laws.Normal.{normal-Array, normal-FnPtr, normal-Group, normal-ImplTrait, normal-Infer, normal-Macro, normal-Never, normal-Paren, normal-Path, normal-Ptr, normal-Reference, normal-Slice, normal-TraitObject, normal-Tuple, normal-Verbatim, path_type_normal, normal-Lifetime, normal-Type, normal-Const, type_param_normal, normal-Trait, normal-bound-Lifetime, normal-PreciseCapture, normal-bound-Verbatim, trait_bound_normal, normal-None, normal-AngleBracketed, normal-Parenthesized, normal-argument-Lifetime, normal-argument-Type, normal-argument-Const, normal-argument-AssocType, normal-argument-AssocConst, normal-argument-Constraint, assoc_type_normal, constraint_normal, fn_ptr_normal, argument_kept}
 use Rattle.syn_mid.proofs.ty_laws.Prints.{ty-Array, ty-FnPtr, ty-Group, ty-ImplTrait, ty-Infer, ty-Macro, ty-Never, ty-Paren, ty-Path, ty-Ptr, ty-Reference, ty-Slice, ty-TraitObject, ty-Tuple, path_type_parts, param-Lifetime, param-Type, param-Const, type_param_parts, bound-Trait, bound-PreciseCapture, trait_bound_parts, arguments-AngleBracketed, arguments-Parenthesized, argument-Type, argument-Const, argument-AssocType, argument-AssocConst, argument-Constraint, assoc_type_parts, constraint_parts, fn_ptr_parts, more_mapped}
 
@@ -88,41 +88,38 @@ module _ {A : Type 0} (n : A → A) (f : PathStyle → A → Print) where
   abbrev Kept : PathSegmentOf A → Type 0
   Kept s = (style : PathStyle) → f style (n s.arguments) ≡ f style s.arguments
 
-  abbrev formed : PathSegmentOf A → PathSegmentOf A
-  formed s = segment_of (n s.arguments) s.ident
-
-  segment_kept : (style : PathStyle) (s : PathSegmentOf A) → Kept s → segment_by (f style) (formed s) ≡ segment_by (f style) s
+  segment_kept : (style : PathStyle) (s : PathSegmentOf A) → Kept s → segment_by (f style) (segment_on n s) ≡ segment_by (f style) s
   segment_kept style s h = ap (λ z. p.ident s.ident ++ z) (h style)
 
-  segments_kept : (style : PathStyle) (l : List (PathSegmentOf A)) → Each Kept l → Each (λ s. segment_by (f style) (formed s) ≡ segment_by (f style) s) l
+  segments_kept : (style : PathStyle) (l : List (PathSegmentOf A)) → Each Kept l → Each (λ s. segment_by (f style) (segment_on n s) ≡ segment_by (f style) s) l
   segments_kept style [] h = tt
   segments_kept style (s ∷ l) h = (segment_kept style s h.0, segments_kept style l h.1)
 
-  path_kept : (style : PathStyle) (c : Option Sep) (l : List (PathSegmentOf A)) (ms : List Sep) → Each Kept l → path_by (f style) (path_of c (map formed l, ms)) ≡ path_by (f style) (path_of c (l, ms))
-  path_kept style c l ms h = ap (λ z. paths.colon c ++ z) (joined_same formed (segment_by (f style)) p.mark l ms (segments_kept style l h))
+  path_kept : (style : PathStyle) (c : Option Sep) (l : List (PathSegmentOf A)) (ms : List Sep) → Each Kept l → path_by (f style) (path_of c (map (segment_on n) l, ms)) ≡ path_by (f style) (path_of c (l, ms))
+  path_kept style c l ms h = ap (λ z. paths.colon c ++ z) (joined_same (segment_on n) (segment_by (f style)) p.mark l ms (segments_kept style l h))
 
-  closing_kept : (style : PathStyle) (gt : Mark 3 1) (m : ℕ) (s : PathSegmentOf A) → Kept s → closing_by f style gt m (formed s) ≡ closing_by f style gt m s
+  closing_kept : (style : PathStyle) (gt : Mark 3 1) (m : ℕ) (s : PathSegmentOf A) → Kept s → closing_by f style gt m (segment_on n s) ≡ closing_by f style gt m s
   closing_kept style gt zero s h = segment_kept style s h
   closing_kept style gt (suc zero) s h = ap (λ z. z ++ p.mark gt) (segment_kept as_written s h)
   closing_kept style gt (suc (suc m)) s h = segment_kept as_written s h
 
-  around_kept : (style : PathStyle) (gt : Mark 3 1) (m : ℕ) (l : List (PathSegmentOf A)) (ms : List Sep) → Each Kept l → around_by f style gt m (map formed l) ms ≡ around_by f style gt m l ms
+  around_kept : (style : PathStyle) (gt : Mark 3 1) (m : ℕ) (l : List (PathSegmentOf A)) (ms : List Sep) → Each Kept l → around_by f style gt m (map (segment_on n) l) ms ≡ around_by f style gt m l ms
   around_kept style gt m [] ms h = refl
   around_kept style gt m (s ∷ l) [] h =
-      ap (λ z. z ++ around_by f style gt (pred m) (map formed l) []) (closing_kept style gt m s h.0) ∙ ap (λ z. closing_by f style gt m s ++ z) (around_kept style gt (pred m) l [] h.1)
+      ap (λ z. z ++ around_by f style gt (pred m) (map (segment_on n) l) []) (closing_kept style gt m s h.0) ∙ ap (λ z. closing_by f style gt m s ++ z) (around_kept style gt (pred m) l [] h.1)
   around_kept style gt m (s ∷ l) (c ∷ ms) h =
-      ap (λ z. z ++ (p.mark c ++ around_by f style gt (pred m) (map formed l) ms)) (closing_kept style gt m s h.0)
+      ap (λ z. z ++ (p.mark c ++ around_by f style gt (pred m) (map (segment_on n) l) ms)) (closing_kept style gt m s h.0)
       ∙ ap (λ z. closing_by f style gt m s ++ (p.mark c ++ z)) (around_kept style gt (pred m) l ms h.1)
 
   -- `>` stands by the number of segments, which stays
   module _ {T U : Type 0} (t : T → U) (style : PathStyle) (q : QSelfOf T) (c : Option Sep) (l : List (PathSegmentOf A)) (ms : List Sep) (h : Each Kept l) where
-    at_kept : (m : ℕ) → qualified_at f style (qself_of q.lt_token (t q.ty) q.position q.as_token q.gt_token) (path_of c (map formed l, ms)) m ≡ qualified_at f style q (path_of c (l, ms)) m
+    at_kept : (m : ℕ) → qualified_at f style (qself_of q.lt_token (t q.ty) q.position q.as_token q.gt_token) (path_of c (map (segment_on n) l, ms)) m ≡ qualified_at f style q (path_of c (l, ms)) m
     at_kept zero = ap (λ z. p.mark q.gt_token ++ z) (path_kept style c l ms h)
     at_kept (suc m) = ap (λ z. as_or_default q.as_token ++ (paths.colon c ++ z)) (around_kept style q.gt_token (suc m) l ms h)
 
-    qualified_kept : qualified_by f style (qself_of q.lt_token (t q.ty) q.position q.as_token q.gt_token) (path_of c (map formed l, ms)) ≡ qualified_by f style q (path_of c (l, ms))
+    qualified_kept : qualified_by f style (qself_of q.lt_token (t q.ty) q.position q.as_token q.gt_token) (path_of c (map (segment_on n) l, ms)) ≡ qualified_by f style q (path_of c (l, ms))
     qualified_kept =
-        ap (λ m. qualified_at f style (qself_of q.lt_token (t q.ty) q.position q.as_token q.gt_token) (path_of c (map formed l, ms)) (min q.position m)) (length-map l formed)
+        ap (λ m. qualified_at f style (qself_of q.lt_token (t q.ty) q.position q.as_token q.gt_token) (path_of c (map (segment_on n) l, ms)) (min q.position m)) (length-map l (segment_on n))
         ∙ at_kept (min q.position (length l))
 
 -- ---- arguments between angle marks, each in a form of its kind that prints the same
@@ -131,7 +128,7 @@ module _ {G : Type 0} (is : G → Bool) (n : G → G) (keeps : (x : G) → is (n
   abbrev Alike : G → Type 0
   Alike x = f (n x) ≡ f x
 
-  sorted_kept : (l : List G) (ms : List Comma) → Each Alike l → sorted is f (sort is (map n l, ms)) ≡ sorted is f (l, ms)
+  pub sorted_kept : (l : List G) (ms : List Comma) → Each Alike l → sorted is f (sort is (map n l, ms)) ≡ sorted is f (l, ms)
   sorted_kept l ms h = sort_prints is (map n l, ms) f ∙ sorted_map n is is keeps (l, ms) f ∙ sorted_agrees (λ x. f (n x)) f is (l, ms) h
 
   abbrev ordered : AngleBracketedGenericArgumentsOf G → AngleBracketedGenericArgumentsOf G
@@ -442,12 +439,6 @@ module _ {X : Type 0} (nx : Place → X → X) (px : Place → X → Print) (sam
 
   -- ---- types
 
-  lone_same : (all : List (TypeTree X)) (cs : List Comma) → lone_comma (map (normal.ty nx) all) cs ≡ lone_comma all cs
-  lone_same [] cs = refl
-  lone_same (x ∷ []) [] = refl
-  lone_same (x ∷ []) (c ∷ cs) = refl
-  lone_same (x ∷ y ∷ all) cs = refl
-
   ty_layer : (y : Held o.TypeOf-F) → Same (roll-TypeOf (Attr X) (Expr X) (plain_ty y))
   ty_layer (o.Array y) =
       let x = array_with y.attrs y.bracket_token y.elem.0 y.semi_token y.len in
@@ -500,7 +491,7 @@ module _ {X : Type 0} (nx : Place → X → X) (px : Place → X → Print) (sam
       subst Same (sym (v.rolls-Tuple x))
       (ap (ty px) (normal-Tuple nx x) ∙ ty-Tuple px (normal.tuple nx x)
       ∙ behind y.attrs (ap (λ u. p.group Parenthesis (stream_of_trees (u ++ lone_comma (map (normal.ty nx) all) y.elems.1)) y.paren_token.span) (joined_same (normal.ty nx) (ty px) p.mark all y.elems.1 (each_held Same y.elems.0))
-      ∙ ap (λ u. p.group Parenthesis (stream_of_trees (printing.elements px (all, y.elems.1) ++ u)) y.paren_token.span) (lone_same all y.elems.1))
+      ∙ ap (λ u. p.group Parenthesis (stream_of_trees (printing.elements px (all, y.elems.1) ++ u)) y.paren_token.span) (lone_mapped (normal.ty nx) all y.elems.1))
       ∙ sym (ty-Tuple px x))
   ty_layer (o.TypeOf::Verbatim x) = subst Same (sym (v.rolls-Verbatim x)) (ap (ty px) (normal-Verbatim nx x))
 
