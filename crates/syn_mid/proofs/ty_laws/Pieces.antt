@@ -33,6 +33,6 @@ module _ {X : Type 0} (px : Place → X → Print) where
   put_bare x old new k h = put_param x [] old new new (ap (type_default_by px (ty px)) k) h (sym (append-nil new))
 
   -- a pointer to a function
-  pub put_fn_ptr : (x : TypeFnPtr X) (old a b c d new : Print) → a ≡ old ++ fn_start px x → b ≡ a ++ fn_params px x → c ≡ b ++ fn_head x → d ≡ c ++ fn_arguments px x → new ≡ d ++ fn_output px x → new ≡ old ++ fn_ptr px x
+  pub put_fn_ptr : (x : TypeFnPtr X) (old a b c d new : Print) → a ≡ old ++ fn_start x → b ≡ a ++ fn_params px x → c ≡ b ++ fn_head x → d ≡ c ++ fn_arguments px x → new ≡ d ++ fn_output px x → new ≡ old ++ fn_ptr px x
   put_fn_ptr x old a b c d new h i j k n =
       put_both old a new _ _ h (put_both a b new _ _ i (put_both b c new _ _ j (put_both c d new _ _ k n))) ∙ ap (λ z. old ++ z) (sym (prints_fn_ptr px x))

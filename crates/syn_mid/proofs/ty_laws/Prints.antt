@@ -41,12 +41,12 @@ use Rattle.syn_mid.specs.declared.ty.TypeOf.{roll-TypeOf}
 use Rattle.syn_mid.specs.declared.ty.TypeOf.TheVariants as v
 use Rattle.syn_mid.specs.declared.ty.TypePathOf.{roll-TypePathOf, out-TypePathOf, roll-out-TypePathOf}
 use Rattle.syn_mid.specs.generics.Params.{Colon, Eq, trait_bound_of, type_param_of}
-use Rattle.syn_mid.specs.generics.Shapes.{optional, attrs, in_parens, capture, const_argument, lifetime_param, type_param_by, trait_bound_by}
+use Rattle.syn_mid.specs.generics.Shapes.{optional, attrs, binder_start, in_parens, capture, const_argument, lifetime_param, type_param_by, trait_bound_by}
 use Rattle.syn_mid.specs.path.Paths.{is_lifetime, lifetime_layer, assoc_type_of, assoc_const_of, constraint_of, parens_of}
 use Rattle.syn_mid.specs.path.Shapes.{as_written, path_by, angle_by, parenthesized_start}
 use Rattle.syn_mid.specs.ty.Types.{Comma, Plus, named_arg_of, qualified_with, fn_ptr_with}
 use Rattle.syn_mid.specs.ty.Trees.{Family, LayerOf, Attr, Attrs, LifetimeParam, TypeParam, ConstParam, BoundLifetimes, TypeParamBound, TraitBound, Path, GenericArgument, AngleBracketed, Parenthesized, AssocType, AssocConst, Constraint, TypeTree, QSelf, TypeArray, TypeFnPtr, TypeGroup, TypeImplTrait, TypeInfer, TypeMacro, TypeNever, TypeParen, TypePath, TypePtr, TypeReference, TypeSlice, TypeTraitObject, TypeTuple, NamedArg, FnPtrVariadic, ReturnType}
-use Rattle.syn_mid.specs.ty.Printing.{Shown, infer, never, macro_type, optional_word, path_type, comma_at, more, variadic, fn_head_by, fn_start_by, fn_ptr_by, fn_start, fn_params, fn_head, fn_arguments, fn_output, return_type, qpath, type_name, bare_trait, bound_lifetimes, const_param, named_arg_by, inputs_by, inputs, argument, angle, parenthesized, assoc_const, assoc_type_by, constraint_by, array, group, paren, ptr, reference, slice, impl_trait, trait_object, tuple, lone_comma, ty, fn_ptr, param, bound, type_param, trait_bound, argument_shown, arguments_shown, arguments as segment_arguments, assoc_type, constraint, param_step, bound_step, argument_step, arguments_step, ty_step, trait_bound_step, type_param_step, assoc_type_step, constraint_step, fn_ptr_step, path_type_step}
+use Rattle.syn_mid.specs.ty.Printing.{Shown, infer, never, macro_type, optional_word, path_type, comma_at, more, variadic, fn_head_by, fn_ptr_by, fn_start, fn_params, fn_head, fn_arguments, fn_output, return_type, qpath, type_name, bare_trait, bound_lifetimes, const_param, named_arg_by, inputs_by, inputs, argument, angle, parenthesized, assoc_const, assoc_type_by, constraint_by, array, group, paren, ptr, reference, slice, impl_trait, trait_object, tuple, lone_comma, ty, fn_ptr, param, bound, type_param, trait_bound, argument_shown, arguments_shown, arguments as segment_arguments, assoc_type, constraint, param_step, bound_step, argument_step, arguments_step, ty_step, trait_bound_step, type_param_step, assoc_type_step, constraint_step, fn_ptr_step, path_type_step}
 use Rattle.syn_mid.proofs.ty_laws.Mapped.{joined_map, angle_on, angle_mapped, joined_mapped, last_mapped, colon_mapped, path_on, lone_mapped, path_mapped, qualified_mapped}
 
 module _ {X : Type 0} (px : Place → X → Print) where
@@ -77,13 +77,13 @@ module _ {X : Type 0} (px : Place → X → Print) where
   pub ty-Group : (x : TypeGroup X) → ty px (v.Group x) ≡ group px x
   ty-Group x = ap (ty px) (sym (v.rolls-Group x)) ∙ by_ty (o.Group x)
 
-  pub ty-Infer : (x : TypeInfer X) → ty px (v.Infer x) ≡ infer px x
+  pub ty-Infer : (x : TypeInfer X) → ty px (v.Infer x) ≡ infer x
   ty-Infer x = ap (ty px) (sym (v.rolls-Infer x)) ∙ by_ty (o.Infer x)
 
-  pub ty-Macro : (x : TypeMacro X) → ty px (v.Macro x) ≡ macro_type px x
+  pub ty-Macro : (x : TypeMacro X) → ty px (v.Macro x) ≡ macro_type x
   ty-Macro x = ap (ty px) (sym (v.rolls-Macro x)) ∙ by_ty (o.Macro x)
 
-  pub ty-Never : (x : TypeNever X) → ty px (v.Never x) ≡ never px x
+  pub ty-Never : (x : TypeNever X) → ty px (v.Never x) ≡ never x
   ty-Never x = ap (ty px) (sym (v.rolls-Never x)) ∙ by_ty (o.Never x)
 
   pub ty-Paren : (x : TypeParen X) → ty px (v.Paren x) ≡ paren px x
@@ -102,29 +102,29 @@ module _ {X : Type 0} (px : Place → X → Print) where
   ty-Slice x = ap (ty px) (sym (v.rolls-Slice x)) ∙ by_ty (o.Slice x)
 
   pub ty-ImplTrait : (x : TypeImplTrait X) → ty px (v.ImplTrait x) ≡ impl_trait px x
-  ty-ImplTrait x = ap (ty px) (sym (v.rolls-ImplTrait x)) ∙ by_ty (o.ImplTrait x) ∙ ap (λ r. attrs px x.attrs ++ (p.word x.impl_token ++ r)) (joined_mapped (bound px) x.bounds.0 x.bounds.1)
+  ty-ImplTrait x = ap (ty px) (sym (v.rolls-ImplTrait x)) ∙ by_ty (o.ImplTrait x) ∙ ap (λ r. p.word x.impl_token ++ r) (joined_mapped (bound px) x.bounds.0 x.bounds.1)
 
   pub ty-TraitObject : (x : TypeTraitObject X) → ty px (v.TraitObject x) ≡ trait_object px x
-  ty-TraitObject x = ap (ty px) (sym (v.rolls-TraitObject x)) ∙ by_ty (o.TraitObject x) ∙ ap (λ r. attrs px x.attrs ++ (optional_word x.dyn_token ++ r)) (joined_mapped (bound px) x.bounds.0 x.bounds.1)
+  ty-TraitObject x = ap (ty px) (sym (v.rolls-TraitObject x)) ∙ by_ty (o.TraitObject x) ∙ ap (λ r. optional_word x.dyn_token ++ r) (joined_mapped (bound px) x.bounds.0 x.bounds.1)
 
   pub ty-Tuple : (x : TypeTuple X) → ty px (v.Tuple x) ≡ tuple px x
   ty-Tuple x =
       ap (ty px) (sym (v.rolls-Tuple x)) ∙ by_ty (o.Tuple x)
-      ∙ ap (λ r. attrs px x.attrs ++ p.group Parenthesis (stream_of_trees (r ++ lone_comma (map (ty px) x.elems.0) x.elems.1)) x.paren_token.span) (joined_mapped (ty px) x.elems.0 x.elems.1)
-      ∙ ap (λ r. attrs px x.attrs ++ p.group Parenthesis (stream_of_trees (joined (ty px) p.mark x.elems.0 x.elems.1 ++ r)) x.paren_token.span) (lone_mapped (ty px) x.elems.0 x.elems.1)
+      ∙ ap (λ r. p.group Parenthesis (stream_of_trees (r ++ lone_comma (map (ty px) x.elems.0) x.elems.1)) x.paren_token.span) (joined_mapped (ty px) x.elems.0 x.elems.1)
+      ∙ ap (λ r. p.group Parenthesis (stream_of_trees (joined (ty px) p.mark x.elems.0 x.elems.1 ++ r)) x.paren_token.span) (lone_mapped (ty px) x.elems.0 x.elems.1)
 
   pub ty-Verbatim : (x : TokenStream) → ty px (v.Verbatim x) ≡ trees x
   ty-Verbatim x = ap (ty px) (sym (v.rolls-Verbatim x)) ∙ by_ty (o.TypeOf::Verbatim x)
 
   -- by its parts
-  pub path_type_parts : (a : Attrs X) (q : Option (QSelf X)) (z : Path X) → path_type px (qualified_with a q z) ≡ attrs px a ++ qpath px as_written q z
+  pub path_type_parts : (a : Attrs X) (q : Option (QSelf X)) (z : Path X) → path_type px (qualified_with a q z) ≡ qpath px as_written q z
   path_type_parts a None z =
-      by_path_type (record { attrs = a; qself = None; path = z }) ∙ ap (λ r. attrs px a ++ r) (path_mapped (arguments_shown px) (λ k. k as_written) z)
+      by_path_type (record { attrs = a; qself = None; path = z }) ∙ path_mapped (arguments_shown px) (λ k. k as_written) z
   path_type_parts a (Some q) z =
       by_path_type (record { attrs = a; qself = Some q; path = z })
-      ∙ ap (λ r. attrs px a ++ (p.mark q.lt_token ++ (ty px q.ty ++ r))) (qualified_mapped (arguments_shown px) (λ style k. k style) as_written q z)
+      ∙ ap (λ r. p.mark q.lt_token ++ (ty px q.ty ++ r)) (qualified_mapped (arguments_shown px) (λ style k. k style) as_written q z)
 
-  pub prints_path_type : (x : TypePath X) → path_type px x ≡ attrs px (out-TypePathOf (Attr X) (Expr X) x).attrs ++ type_name px x
+  pub prints_path_type : (x : TypePath X) → path_type px x ≡ type_name px x
   prints_path_type x = let f = out-TypePathOf (Attr X) (Expr X) x in ap (path_type px) (sym (roll-out-TypePathOf (Attr X) (Expr X) x)) ∙ path_type_parts f.attrs f.qself f.path
 
   -- ---- parameters and bounds
@@ -323,28 +323,28 @@ module _ {X : Type 0} (px : Place → X → Print) where
   content_mapped v m = ap (λ z. z ++ more px (map shown_named v.0, v.1) m) (inputs_mapped v) ∙ ap (λ z. inputs px v ++ z) (more_mapped shown_named v.0 v.1 m)
 
   -- with the binder and what is in parentheses as they are given
-  abbrev around : Attrs X → Print → Option (BoundLifetimes X) → Option (Word 16) → Option Abi → Word 9 → Paren → Print → ReturnType X → Print
-  around b l k u a w t z q = fn_start_by px b k ++ (l ++ (fn_head_by k u a w ++ (p.group Parenthesis (stream_of_trees z) t.span ++ return_type px q)))
+  abbrev around : Print → Option (BoundLifetimes X) → Option (Word 16) → Option Abi → Word 9 → Paren → Print → ReturnType X → Print
+  around l k u a w t z q = binder_start k ++ (l ++ (fn_head_by k u a w ++ (p.group Parenthesis (stream_of_trees z) t.span ++ return_type px q)))
 
   pub fn_ptr_parts : (b : Attrs X) (l : Option (BoundLifetimes X)) (u : Option (Word 16)) (a : Option Abi) (w : Word 9) (t : Paren) (v : Many (NamedArg X) Comma) (m : Option (FnPtrVariadic X)) (q : ReturnType X)
-      → fn_ptr px (fn_ptr_with b l u a w t v m q) ≡ fn_ptr_by px (param px) (ty px) b l u a w t v m q
+      → fn_ptr px (fn_ptr_with b l u a w t v m q) ≡ fn_ptr_by px (param px) (ty px) l u a w t v m q
   fn_ptr_parts b None u a w t v m r.Default =
       by_fn_ptr (record { attrs = b; lifetimes = None; unsafety = u; abi = a; fn_token = w; paren_token = t; inputs = v; variadic = m; output = r.Default })
-      ∙ ap (λ z. around b [] None u a w t z r.Default) (content_mapped v m)
+      ∙ ap (λ z. around [] None u a w t z r.Default) (content_mapped v m)
   fn_ptr_parts b None u a w t v m (r.«Type» h x) =
       by_fn_ptr (record { attrs = b; lifetimes = None; unsafety = u; abi = a; fn_token = w; paren_token = t; inputs = v; variadic = m; output = r.«Type» h x })
-      ∙ ap (λ z. around b [] None u a w t z (r.«Type» h x)) (content_mapped v m)
+      ∙ ap (λ z. around [] None u a w t z (r.«Type» h x)) (content_mapped v m)
   fn_ptr_parts b (Some l) u a w t v m r.Default =
       by_fn_ptr (record { attrs = b; lifetimes = Some l; unsafety = u; abi = a; fn_token = w; paren_token = t; inputs = v; variadic = m; output = r.Default })
-      ∙ ap (λ z. around b (joined (λ y. y) p.mark (map (param px) l.lifetimes.0) l.lifetimes.1) (Some l) u a w t z r.Default) (content_mapped v m)
-      ∙ ap (λ y. around b y (Some l) u a w t (inputs px v ++ more px v m) r.Default) (joined_mapped (param px) l.lifetimes.0 l.lifetimes.1)
+      ∙ ap (λ z. around (joined (λ y. y) p.mark (map (param px) l.lifetimes.0) l.lifetimes.1) (Some l) u a w t z r.Default) (content_mapped v m)
+      ∙ ap (λ y. around y (Some l) u a w t (inputs px v ++ more px v m) r.Default) (joined_mapped (param px) l.lifetimes.0 l.lifetimes.1)
   fn_ptr_parts b (Some l) u a w t v m (r.«Type» h x) =
       by_fn_ptr (record { attrs = b; lifetimes = Some l; unsafety = u; abi = a; fn_token = w; paren_token = t; inputs = v; variadic = m; output = r.«Type» h x })
-      ∙ ap (λ z. around b (joined (λ y. y) p.mark (map (param px) l.lifetimes.0) l.lifetimes.1) (Some l) u a w t z (r.«Type» h x)) (content_mapped v m)
-      ∙ ap (λ y. around b y (Some l) u a w t (inputs px v ++ more px v m) (r.«Type» h x)) (joined_mapped (param px) l.lifetimes.0 l.lifetimes.1)
+      ∙ ap (λ z. around (joined (λ y. y) p.mark (map (param px) l.lifetimes.0) l.lifetimes.1) (Some l) u a w t z (r.«Type» h x)) (content_mapped v m)
+      ∙ ap (λ y. around y (Some l) u a w t (inputs px v ++ more px v m) (r.«Type» h x)) (joined_mapped (param px) l.lifetimes.0 l.lifetimes.1)
 
   -- piece by piece
-  pub prints_fn_ptr : (x : TypeFnPtr X) → fn_ptr px x ≡ fn_start px x ++ (fn_params px x ++ (fn_head x ++ (fn_arguments px x ++ fn_output px x)))
+  pub prints_fn_ptr : (x : TypeFnPtr X) → fn_ptr px x ≡ fn_start x ++ (fn_params px x ++ (fn_head x ++ (fn_arguments px x ++ fn_output px x)))
   prints_fn_ptr x =
       let f = out-TypeFnPtrOf (Attr X) (Expr X) x in
       ap (fn_ptr px) (sym (roll-out-TypeFnPtrOf (Attr X) (Expr X) x)) ∙ fn_ptr_parts f.attrs f.lifetimes f.unsafety f.abi f.fn_token f.paren_token f.inputs f.variadic f.output
