@@ -52,13 +52,12 @@ use Rattle.syn_mid.specs.generics.NormalShapes.{colon}
 use Rattle.syn_mid.specs.generics.Params.{Colon, Eq, bound_lifetimes_of, const_param_of, trait_bound_of, type_param_of}
 use Rattle.syn_mid.specs.generics.Shapes as shapes
 use Rattle.syn_mid.specs.generics.Shapes.{or_default, after_colon, attrs, in_parens, optional, binder_by, binder_start, binder_joined, captured, is_captured_lifetime, type_default_by, const_argument}
-use Rattle.syn_mid.specs.mac.Printing.{mac}
 use Rattle.syn_mid.specs.path.Paths.{Sep, is_lifetime, segment_of, path_of, angle_of, parens_of, assoc_type_of, assoc_const_of, constraint_of}
 use Rattle.syn_mid.specs.path.Shapes as paths
-use Rattle.syn_mid.specs.path.Shapes.{as_written, colon_or_default, as_or_default, parenthesized_start, segment_by, segments_by, path_by, closing_by, around_by, qualified_at, qualified_by, angle_by, optional_angle_by}
+use Rattle.syn_mid.specs.path.Shapes.{as_written, colon_or_default, as_or_default, parenthesized_start, segment_by, path_by, closing_by, around_by, qualified_at, qualified_by, angle_by, optional_angle_by}
 use Rattle.syn_mid.specs.ty.Normal as normal
 use Rattle.syn_mid.specs.ty.Printing as printing
-use Rattle.syn_mid.specs.ty.Printing.{ty, fn_ptr, param, type_param, bound, trait_bound, argument, arguments, assoc_type, constraint, path_type, pointer, lifetime, optional_word, lone_comma, arg_name, name, fn_head_by, fn_start_by, return_type_by, joined_by}
+use Rattle.syn_mid.specs.ty.Printing.{ty, fn_ptr, param, type_param, bound, trait_bound, argument, arguments, assoc_type, constraint, path_type, pointer, lifetime, optional_word, lone_comma, arg_name, name, fn_head_by, return_type_by, joined_by}
 use Rattle.syn_mid.specs.ty.Trees.{Family, LayerOf, Attr, Attrs, GenericParam, LifetimeParam, TypeParam, ConstParam, BoundLifetimes, TypeParamBound, TraitBound, PathArguments, Path, PathSegment, GenericArgument, AngleBracketed, AssocType, AssocConst, Constraint, Parenthesized, TypeTree, QSelf, TypeFnPtr, TypePath, NamedArg, FnPtrVariadic, ReturnType}
 use Rattle.syn_mid.specs.ty.Types.{Comma, Plus, array_with, fn_ptr_with, group_with, impl_trait_with, named_arg_of, paren_with, ptr_with, qself_of, qualified_with, reference_with, slice_with, trait_object_with, tuple_with}
 use Rattle.syn_mid.proofs.attr_laws.Normal.{outer_same, at_place_same}
@@ -294,7 +293,7 @@ module _ {X : Type 0} (nx : Place → X → X) (px : Place → X → Print) (sam
 
   path_type_by : (l : Attrs X) (q : Option (QSelf X)) (z : Path X) → SameSelf q → Each SameSegment z.segments.0 → SamePathType (qualified_with l q z)
   path_type_by l q z h k =
-      ap (path_type px) (path_type_normal nx l q z) ∙ path_type_parts px (nshapes.attrs nx l) (normal.optional_qself nx q) (normal.path nx z) ∙ behind l (qpath_parts as_written q z h k)
+      ap (path_type px) (path_type_normal nx l q z) ∙ path_type_parts px (nshapes.attrs nx l) (normal.optional_qself nx q) (normal.path nx z) ∙ qpath_parts as_written q z h k
       ∙ sym (path_type_parts px l q z)
 
   abbrev plain_segment : PathSegmentOf HeldArguments → PathSegment X
@@ -444,54 +443,54 @@ module _ {X : Type 0} (nx : Place → X → X) (px : Place → X → Print) (sam
       let x = array_with y.attrs y.bracket_token y.elem.0 y.semi_token y.len in
       subst Same (sym (v.rolls-Array x))
       (ap (ty px) (normal-Array nx x) ∙ ty-Array px (normal.array nx x)
-      ∙ behind y.attrs (ap (λ u. p.group Bracket (stream_of_trees (u ++ (p.mark y.semi_token ++ printing.len px (normal.len nx y.len)))) y.bracket_token.span) y.elem.1
-      ∙ ap (λ u. p.group Bracket (stream_of_trees (ty px y.elem.0 ++ (p.mark y.semi_token ++ u))) y.bracket_token.span) (len_same y.len))
+      ∙ ap (λ u. p.group Bracket (stream_of_trees (u ++ (p.mark y.semi_token ++ printing.len px (normal.len nx y.len)))) y.bracket_token.span) y.elem.1
+      ∙ ap (λ u. p.group Bracket (stream_of_trees (ty px y.elem.0 ++ (p.mark y.semi_token ++ u))) y.bracket_token.span) (len_same y.len)
       ∙ sym (ty-Array px x))
   ty_layer (o.FnPtr y) = subst Same (sym (v.rolls-FnPtr y.0)) (ap (ty px) (normal-FnPtr nx y.0) ∙ ty-FnPtr px (normal.fn_ptr nx y.0) ∙ y.1 ∙ sym (ty-FnPtr px y.0))
   ty_layer (o.Group y) =
       let x = group_with y.attrs y.group_token y.elem.0 in
       subst Same (sym (v.rolls-Group x))
-      (ap (ty px) (normal-Group nx x) ∙ ty-Group px (normal.group nx x) ∙ behind y.attrs (ap (λ u. p.group d.None (stream_of_trees u) y.group_token.span) y.elem.1) ∙ sym (ty-Group px x))
+      (ap (ty px) (normal-Group nx x) ∙ ty-Group px (normal.group nx x) ∙ ap (λ u. p.group d.None (stream_of_trees u) y.group_token.span) y.elem.1 ∙ sym (ty-Group px x))
   ty_layer (o.ImplTrait y) =
       let all = map (λ (e : HeldBound). e.0) y.bounds.0 in
       let x = impl_trait_with y.attrs y.impl_token (all, y.bounds.1) in
       subst Same (sym (v.rolls-ImplTrait x))
       (ap (ty px) (normal-ImplTrait nx x) ∙ ty-ImplTrait px (normal.impl_trait nx x)
-      ∙ behind y.attrs (ap (λ u. p.word y.impl_token ++ u) (joined_same (normal.bound nx) (bound px) p.mark all y.bounds.1 (each_held SameBound y.bounds.0))) ∙ sym (ty-ImplTrait px x))
-  ty_layer (o.Infer x) = subst Same (sym (v.rolls-Infer x)) (ap (ty px) (normal-Infer nx x) ∙ ty-Infer px (normal.infer nx x) ∙ ap (λ z. z ++ p.word x.underscore_token) (attrs_same x.attrs) ∙ sym (ty-Infer px x))
-  ty_layer (o.Macro x) = subst Same (sym (v.rolls-Macro x)) (ap (ty px) (normal-Macro nx x) ∙ ty-Macro px (normal.macro_type nx x) ∙ ap (λ z. z ++ mac x.mac) (attrs_same x.attrs) ∙ sym (ty-Macro px x))
-  ty_layer (o.Never x) = subst Same (sym (v.rolls-Never x)) (ap (ty px) (normal-Never nx x) ∙ ty-Never px (normal.never nx x) ∙ ap (λ z. z ++ p.mark x.bang_token) (attrs_same x.attrs) ∙ sym (ty-Never px x))
+      ∙ ap (λ u. p.word y.impl_token ++ u) (joined_same (normal.bound nx) (bound px) p.mark all y.bounds.1 (each_held SameBound y.bounds.0)) ∙ sym (ty-ImplTrait px x))
+  ty_layer (o.Infer x) = subst Same (sym (v.rolls-Infer x)) (ap (ty px) (normal-Infer nx x) ∙ ty-Infer px (normal.infer nx x) ∙ sym (ty-Infer px x))
+  ty_layer (o.Macro x) = subst Same (sym (v.rolls-Macro x)) (ap (ty px) (normal-Macro nx x) ∙ ty-Macro px (normal.macro_type nx x) ∙ sym (ty-Macro px x))
+  ty_layer (o.Never x) = subst Same (sym (v.rolls-Never x)) (ap (ty px) (normal-Never nx x) ∙ ty-Never px (normal.never nx x) ∙ sym (ty-Never px x))
   ty_layer (o.Paren y) =
       let x = paren_with y.attrs y.paren_token y.elem.0 in
       subst Same (sym (v.rolls-Paren x))
-      (ap (ty px) (normal-Paren nx x) ∙ ty-Paren px (normal.paren nx x) ∙ behind y.attrs (ap (λ u. p.group Parenthesis (stream_of_trees u) y.paren_token.span) y.elem.1) ∙ sym (ty-Paren px x))
+      (ap (ty px) (normal-Paren nx x) ∙ ty-Paren px (normal.paren nx x) ∙ ap (λ u. p.group Parenthesis (stream_of_trees u) y.paren_token.span) y.elem.1 ∙ sym (ty-Paren px x))
   ty_layer (o.Path y) = subst Same (sym (v.rolls-Path y.0)) (ap (ty px) (normal-Path nx y.0) ∙ ty-Path px (normal.path_type nx y.0) ∙ y.1 ∙ sym (ty-Path px y.0))
   ty_layer (o.Ptr y) =
       let x = ptr_with y.attrs y.star_token y.mutability y.elem.0 in
       subst Same (sym (v.rolls-Ptr x))
-      (ap (ty px) (normal-Ptr nx x) ∙ ty-Ptr px (normal.ptr nx x) ∙ behind y.attrs (ap (λ u. p.mark y.star_token ++ (pointer y.mutability ++ u)) y.elem.1) ∙ sym (ty-Ptr px x))
+      (ap (ty px) (normal-Ptr nx x) ∙ ty-Ptr px (normal.ptr nx x) ∙ ap (λ u. p.mark y.star_token ++ (pointer y.mutability ++ u)) y.elem.1 ∙ sym (ty-Ptr px x))
   ty_layer (o.Reference y) =
       let x = reference_with y.attrs y.and_token y.lifetime y.mutability y.elem.0 in
       subst Same (sym (v.rolls-Reference x))
       (ap (ty px) (normal-Reference nx x) ∙ ty-Reference px (normal.reference nx x)
-      ∙ behind y.attrs (ap (λ u. p.mark y.and_token ++ (lifetime y.lifetime ++ (optional_word y.mutability ++ u))) y.elem.1) ∙ sym (ty-Reference px x))
+      ∙ ap (λ u. p.mark y.and_token ++ (lifetime y.lifetime ++ (optional_word y.mutability ++ u))) y.elem.1 ∙ sym (ty-Reference px x))
   ty_layer (o.Slice y) =
       let x = slice_with y.attrs y.bracket_token y.elem.0 in
       subst Same (sym (v.rolls-Slice x))
-      (ap (ty px) (normal-Slice nx x) ∙ ty-Slice px (normal.slice nx x) ∙ behind y.attrs (ap (λ u. p.group Bracket (stream_of_trees u) y.bracket_token.span) y.elem.1) ∙ sym (ty-Slice px x))
+      (ap (ty px) (normal-Slice nx x) ∙ ty-Slice px (normal.slice nx x) ∙ ap (λ u. p.group Bracket (stream_of_trees u) y.bracket_token.span) y.elem.1 ∙ sym (ty-Slice px x))
   ty_layer (o.TraitObject y) =
       let all = map (λ (e : HeldBound). e.0) y.bounds.0 in
       let x = trait_object_with y.attrs y.dyn_token (all, y.bounds.1) in
       subst Same (sym (v.rolls-TraitObject x))
       (ap (ty px) (normal-TraitObject nx x) ∙ ty-TraitObject px (normal.trait_object nx x)
-      ∙ behind y.attrs (ap (λ u. optional_word y.dyn_token ++ u) (joined_same (normal.bound nx) (bound px) p.mark all y.bounds.1 (each_held SameBound y.bounds.0))) ∙ sym (ty-TraitObject px x))
+      ∙ ap (λ u. optional_word y.dyn_token ++ u) (joined_same (normal.bound nx) (bound px) p.mark all y.bounds.1 (each_held SameBound y.bounds.0)) ∙ sym (ty-TraitObject px x))
   ty_layer (o.Tuple y) =
       let all = map (λ (e : HeldType). e.0) y.elems.0 in
       let x = tuple_with y.attrs y.paren_token (all, y.elems.1) in
       subst Same (sym (v.rolls-Tuple x))
       (ap (ty px) (normal-Tuple nx x) ∙ ty-Tuple px (normal.tuple nx x)
-      ∙ behind y.attrs (ap (λ u. p.group Parenthesis (stream_of_trees (u ++ lone_comma (map (normal.ty nx) all) y.elems.1)) y.paren_token.span) (joined_same (normal.ty nx) (ty px) p.mark all y.elems.1 (each_held Same y.elems.0))
-      ∙ ap (λ u. p.group Parenthesis (stream_of_trees (printing.elements px (all, y.elems.1) ++ u)) y.paren_token.span) (lone_mapped (normal.ty nx) all y.elems.1))
+      ∙ ap (λ u. p.group Parenthesis (stream_of_trees (u ++ lone_comma (map (normal.ty nx) all) y.elems.1)) y.paren_token.span) (joined_same (normal.ty nx) (ty px) p.mark all y.elems.1 (each_held Same y.elems.0))
+      ∙ ap (λ u. p.group Parenthesis (stream_of_trees (printing.elements px (all, y.elems.1) ++ u)) y.paren_token.span) (lone_mapped (normal.ty nx) all y.elems.1)
       ∙ sym (ty-Tuple px x))
   ty_layer (o.TypeOf::Verbatim x) = subst Same (sym (v.rolls-Verbatim x)) (ap (ty px) (normal-Verbatim nx x))
 
@@ -591,12 +590,12 @@ module _ {X : Type 0} (nx : Place → X → X) (px : Place → X → Print) (sam
       let s = normal.optional_variadic nx m in
       let y = return_type_by (ty px) (normal.return_type nx q) in
       ap (fn_ptr px) (fn_ptr_normal nx c l u b w t (e, ms) m q) ∙ fn_ptr_parts px (nshapes.attrs nx c) n u b w t (f, ms) s (normal.return_type nx q)
-      ∙ ap (λ z. z ++ (binder_joined (param px) n ++ (fn_head_by n u b w ++ (p.group Parenthesis (stream_of_trees (printing.inputs px (f, ms) ++ printing.more px (f, ms) s)) t.span ++ y)))) (behind c (start_same l))
-      ∙ ap (λ z. fn_start_by px c l ++ (z ++ (fn_head_by n u b w ++ (p.group Parenthesis (stream_of_trees (printing.inputs px (f, ms) ++ printing.more px (f, ms) s)) t.span ++ y)))) (params_same l hl)
-      ∙ ap (λ z. fn_start_by px c l ++ (binder_joined (param px) l ++ (z ++ (p.group Parenthesis (stream_of_trees (printing.inputs px (f, ms) ++ printing.more px (f, ms) s)) t.span ++ y)))) (head_same l u b w)
-      ∙ ap (λ z. fn_start_by px c l ++ (binder_joined (param px) l ++ (fn_head_by l u b w ++ (p.group Parenthesis (stream_of_trees (z ++ printing.more px (f, ms) s)) t.span ++ y)))) (inputs_same e ms he)
-      ∙ ap (λ z. fn_start_by px c l ++ (binder_joined (param px) l ++ (fn_head_by l u b w ++ (p.group Parenthesis (stream_of_trees (printing.inputs px (e, ms) ++ z)) t.span ++ y)))) (more_same (f, ms) m ∙ more_mapped px (normal.named_arg nx) e ms m)
-      ∙ ap (λ z. fn_start_by px c l ++ (binder_joined (param px) l ++ (fn_head_by l u b w ++ (p.group Parenthesis (stream_of_trees (printing.inputs px (e, ms) ++ printing.more px (e, ms) m)) t.span ++ z)))) (output_same q hq)
+      ∙ ap (λ z. z ++ (binder_joined (param px) n ++ (fn_head_by n u b w ++ (p.group Parenthesis (stream_of_trees (printing.inputs px (f, ms) ++ printing.more px (f, ms) s)) t.span ++ y)))) (start_same l)
+      ∙ ap (λ z. binder_start l ++ (z ++ (fn_head_by n u b w ++ (p.group Parenthesis (stream_of_trees (printing.inputs px (f, ms) ++ printing.more px (f, ms) s)) t.span ++ y)))) (params_same l hl)
+      ∙ ap (λ z. binder_start l ++ (binder_joined (param px) l ++ (z ++ (p.group Parenthesis (stream_of_trees (printing.inputs px (f, ms) ++ printing.more px (f, ms) s)) t.span ++ y)))) (head_same l u b w)
+      ∙ ap (λ z. binder_start l ++ (binder_joined (param px) l ++ (fn_head_by l u b w ++ (p.group Parenthesis (stream_of_trees (z ++ printing.more px (f, ms) s)) t.span ++ y)))) (inputs_same e ms he)
+      ∙ ap (λ z. binder_start l ++ (binder_joined (param px) l ++ (fn_head_by l u b w ++ (p.group Parenthesis (stream_of_trees (printing.inputs px (e, ms) ++ z)) t.span ++ y)))) (more_same (f, ms) m ∙ more_mapped px (normal.named_arg nx) e ms m)
+      ∙ ap (λ z. binder_start l ++ (binder_joined (param px) l ++ (fn_head_by l u b w ++ (p.group Parenthesis (stream_of_trees (printing.inputs px (e, ms) ++ printing.more px (e, ms) m)) t.span ++ z)))) (output_same q hq)
       ∙ sym (fn_ptr_parts px c l u b w t (e, ms) m q)
 
   fn_held : (c : Attrs X) (l : Option (BoundLifetimesOf HeldParam)) (u : Option (Word 16)) (b : Option Abi) (w : Word 9) (t : Paren) (e : Many (NamedArgOf HeldType (Attr X)) Comma)
