@@ -13,6 +13,9 @@ ghost use Rattle.syn_mid.specs.path.Grammars as grammars;
 ghost use Rattle.syn_mid.specs.path.Paths as spec;
 ghost use Rattle.syn_mid.specs.path.Printing as printing;
 ghost use Rattle.syn_mid.specs.path.Reading as reading;
+ghost use Rattle.syn_mid.specs.path.Shapes as shapes;
+ghost use Rattle.syn_mid.specs.path.Silent as silent;
+ghost use Rattle.syn_mid.specs.ty.Printing as types;
 ghost use Rattle.syn_mid.specs.path.Spelling.{IsModPath, is_mod_word, is_type_word};
 
 use crate::attr::Attribute;
@@ -237,9 +240,9 @@ impl<X: Subtree> Arguments for PathArguments<X> {
 
     ghost is_absent = { spec.is_none };
 
-    ghost shown = { printing.arguments printing.as_written };
+    ghost shown = { types.arguments X.prints shapes.as_written };
 
-    ghost silent = { refl };
+    ghost silent = { silent.silent X.prints };
 
     fn none() -> PathArguments<X> {
         PathArguments::None
@@ -651,7 +654,7 @@ impl<X: Subtree> ToTokens for Path<X> {
 }
 
 impl ToTokens for ModPath {
-    ghost print = { printing.mod_path };
+    ghost print = { shapes.mod_path };
 
     fn to_tokens(&self, alloc: Global, out: &mut TokenStream) -> Result<(), AllocError> {
         let before = out.len();
@@ -681,7 +684,7 @@ impl<X: Subtree> ToTokens for PathSegment<X> {
 }
 
 impl ToTokens for ModSegment {
-    ghost print = { printing.mod_segment };
+    ghost print = { shapes.mod_segment };
 
     fn to_tokens(&self, alloc: Global, out: &mut TokenStream) -> Result<(), AllocError> {
         self.ident.to_tokens(alloc, out)
@@ -710,7 +713,7 @@ pub(crate) fn print_mod_path(
     path: &ModPath,
     out: &mut TokenStream,
 ) -> Result<(), AllocError>
-    ensures ok { OnOk result (trees out.new ≡ trees out.old ++ printing.mod_path path.now) }
+    ensures ok { OnOk result (trees out.new ≡ trees out.old ++ shapes.mod_path path.now) }
     ensures err { OnErr result (Extends (trees out.old) (trees out.new)) }
 {
     print_colon(alloc, &path.leading_colon, out)?;
@@ -723,7 +726,7 @@ fn print_mod_segments(
     segments: &Punctuated<ModSegment, PathSep>,
     out: &mut TokenStream,
 ) -> Result<(), AllocError>
-    ensures ok { OnOk result (trees out.new ≡ trees out.old ++ printing.mod_segments segments.now) }
+    ensures ok { OnOk result (trees out.new ≡ trees out.old ++ shapes.mod_segments segments.now) }
     ensures err { OnErr result (Extends (trees out.old) (trees out.new)) }
 {
     let (pairs, last) = segments.parts();
@@ -743,7 +746,7 @@ fn print_mod_segment(
     segment: &ModSegment,
     out: &mut TokenStream,
 ) -> Result<(), AllocError>
-    ensures ok { OnOk result (trees out.new ≡ trees out.old ++ printing.mod_segment segment.now) }
+    ensures ok { OnOk result (trees out.new ≡ trees out.old ++ shapes.mod_segment segment.now) }
     ensures err { OnErr result (Extends (trees out.old) (trees out.new)) }
 {
     segment.ident.to_tokens(alloc, out)
@@ -1234,7 +1237,7 @@ fn print_colon(
     colon: &Option<PathSep>,
     out: &mut TokenStream,
 ) -> Result<(), AllocError>
-    ensures ok { OnOk result (trees out.new ≡ trees out.old ++ printing.colon colon.now) }
+    ensures ok { OnOk result (trees out.new ≡ trees out.old ++ shapes.colon colon.now) }
     ensures err { OnErr result (Extends (trees out.old) (trees out.new)) }
 {
     match colon {

@@ -16,21 +16,9 @@ use Rattle.syn_mid.specs.declared.mac.Macro as mac
 use Rattle.syn_mid.specs.declared.attr.Meta as meta
 use Rattle.syn_mid.specs.declared.attr.MetaList as meta_list
 use Rattle.syn_mid.specs.declared.attr.MetaNameValue as name_value
-use Rattle.syn_mid.specs.declared.supplied.Expr as expr
-use Rattle.syn_mid.specs.declared.generics.TypeParamBound as bound
-use Rattle.syn_mid.specs.declared.ty.Type as ty
-use Rattle.syn_mid.specs.declared.ty.TypeArrayOf as array
-use Rattle.syn_mid.specs.declared.ty.TypeInfer as infer
-use Rattle.syn_mid.specs.declared.ty.TypeMacro as macro_type
-use Rattle.syn_mid.specs.declared.ty.TypeNever as never
-use Rattle.syn_mid.specs.declared.ty.TypeParenOf as paren
-use Rattle.syn_mid.specs.declared.ty.TypePathOf as path_type
-use Rattle.syn_mid.specs.declared.ty.TypePtrOf as ptr
-use Rattle.syn_mid.specs.declared.ty.TypeReferenceOf as reference
-use Rattle.syn_mid.specs.declared.ty.TypeSliceOf as slice
-use Rattle.syn_mid.specs.declared.ty.TypeTupleOf as tuple
 use Rattle.syn_mid.specs.declared.ty.PointerMutability as mutability
 use Rattle.syn_mid.specs.ty.Grammars as types
+use Rattle.syn_mid.specs.ty.Trees as ty
 use Rattle.syn_mid.specs.attr.Attrs.{Attribute}
 use Rattle.syn_mid.specs.attr.Grammars as attrs
 use Rattle.syn_mid.specs.attr.Printing as printing
@@ -76,20 +64,20 @@ Tree MetaList = meta_list.MetaList
 Tree MetaNameValue = name_value.MetaNameValue Sample
 Tree Outer = List (Attribute Sample)
 Tree Inner = List (Attribute Sample)
-Tree AnyType = ty.«Type» Sample
-Tree WithoutPlus = ty.«Type» Sample
-Tree TypeArray = array.TypeArrayOf (ty.«Type» Sample) Sample
-Tree TypeInfer = infer.TypeInfer Sample
-Tree TypeMacro = macro_type.TypeMacro Sample
-Tree TypeNever = never.TypeNever Sample
-Tree TypeParen = paren.TypeParenOf (ty.«Type» Sample) Sample
-Tree TypePath = path_type.TypePathOf (ty.«Type» Sample) Sample
-Tree TypePtr = ptr.TypePtrOf (ty.«Type» Sample) Sample
-Tree TypeReference = reference.TypeReferenceOf (ty.«Type» Sample) Sample
-Tree TypeSlice = slice.TypeSliceOf (ty.«Type» Sample) Sample
-Tree TypeTuple = tuple.TypeTupleOf (ty.«Type» Sample) Sample
+Tree AnyType = ty.TypeTree Sample
+Tree WithoutPlus = ty.TypeTree Sample
+Tree TypeArray = ty.TypeArray Sample
+Tree TypeInfer = ty.TypeInfer Sample
+Tree TypeMacro = ty.TypeMacro Sample
+Tree TypeNever = ty.TypeNever Sample
+Tree TypeParen = ty.TypeParen Sample
+Tree TypePath = ty.TypePath Sample
+Tree TypePtr = ty.TypePtr Sample
+Tree TypeReference = ty.TypeReference Sample
+Tree TypeSlice = ty.TypeSlice Sample
+Tree TypeTuple = ty.TypeTuple Sample
 Tree PointerMutability = mutability.PointerMutability
-Tree TypeParamBound = bound.TypeParamBound Sample
+Tree TypeParamBound = ty.TypeParamBound Sample
 
 abbrev pub grammar : (r : Reader) → Grammar (Tree r)
 grammar Macro = macs.mac

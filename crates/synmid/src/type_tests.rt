@@ -9,9 +9,9 @@ use crate::sample::Sample;
 use std::alloc::Global;
 use std::fmt::Write;
 use syn_mid::{
-    Expr, ExprLit, Macro, ModStyle, ParseOuter, Place, PointerMutability, Subtree, Type, TypeArray,
-    TypeInfer, TypeMacro, TypeNever, TypeParen, TypePathOf, TypePtr, TypeReference, TypeSlice,
-    TypeTuple,
+    Expr, ExprLit, Macro, ModStyle, ParseOuter, PathArguments, Place, PointerMutability, Subtree,
+    Type, TypeArray, TypeInfer, TypeMacro, TypeNever, TypeParen, TypePathOf, TypePtr,
+    TypeReference, TypeSlice, TypeTuple,
 };
 use token_core::token::{And, Bracket, Comma, Const, Mut, Not, Paren, Semi, Star, Underscore};
 use token_core::{
@@ -24,7 +24,7 @@ type Ty = Type<Sample>;
 
 fn path(alloc: Global, text: &str) -> Result<Ty, Error> {
     let tokens = lex(alloc, text)?;
-    let path = read_all_with(alloc, ModStyle::new(), &tokens)?;
+    let path = read_all_with(alloc, ModStyle::<PathArguments<Sample>>::new(), &tokens)?;
     Ok(Type::from(TypePathOf {
         attrs: Items::new(alloc),
         qself: None,

@@ -25,7 +25,7 @@ use Rattle.syn_mid.specs.declared.supplied.ExprPathOf.{ExprPathOf}
 use Rattle.syn_mid.specs.declared.supplied.ExprRange.{ExprRange, roll-ExprRange, map-ExprRange}
 use Rattle.syn_mid.specs.mac.Printing.{mac}
 use Rattle.syn_mid.specs.path.Paths.{ModPath}
-use Rattle.syn_mid.specs.path.Printing.{mod_path}
+use Rattle.syn_mid.specs.path.Shapes.{mod_path}
 use Rattle.syn_mid.specs.attr.Attrs.{Attribute, name_value_of, range_of, lit_of, expr_path_of, const_of, expr_macro_of, block_of, attribute_of}
 use Rattle.syn_mid.specs.attr.Normal as normal
 use Rattle.syn_mid.specs.attr.Printing as printing

@@ -27,7 +27,7 @@ use Rattle.syn_mid.specs.declared.supplied.ExprPathOf.{ExprPathOf}
 use Rattle.syn_mid.specs.declared.supplied.ExprRange.{ExprRange, out-ExprRange, roll-out-ExprRange}
 use Rattle.syn_mid.specs.mac.Printing.{mac}
 use Rattle.syn_mid.specs.path.Paths.{ModPath}
-use Rattle.syn_mid.specs.path.Printing.{mod_path}
+use Rattle.syn_mid.specs.path.Shapes.{mod_path}
 use Rattle.syn_mid.specs.attr.Attrs.{Equals, Attribute, name_value_of, range_of, literal}
 use Rattle.syn_mid.specs.attr.Normal as normal
 use Rattle.syn_mid.specs.attr.Printing as printing

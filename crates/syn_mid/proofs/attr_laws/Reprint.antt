@@ -31,7 +31,7 @@ use Rattle.syn_mid.specs.declared.supplied.Expr.TheVariants as e
 use Rattle.syn_mid.specs.Supplied.{Place, Value, UsesUp, Reprints}
 use Rattle.syn_mid.specs.mac.Macros.{span_of, delimiter_of}
 use Rattle.syn_mid.specs.mac.Spelling.{Delimits}
-use Rattle.syn_mid.specs.path.Printing.{mod_path as print_path}
+use Rattle.syn_mid.specs.path.Shapes.{mod_path as print_path}
 use Rattle.syn_mid.specs.attr.Attrs.{Equals, Attribute, word_path, list_of, name_value_of, literal, attribute_of}
 use Rattle.syn_mid.specs.attr.Normal as normal
 use Rattle.syn_mid.specs.attr.Printing.{list, meta, value, name_value, attribute, attributes}

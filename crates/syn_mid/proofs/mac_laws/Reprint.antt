@@ -17,7 +17,7 @@ use Rattle.syn_mid.specs.mac.Macros.{span_of, delimiter_of, macro_of}
 use Rattle.syn_mid.specs.mac.Printing.{call, mac}
 use Rattle.syn_mid.specs.mac.Spelling.{bang_at, Delimits, in_paren, in_brace, in_bracket, IsCall, a_macro}
 use Rattle.syn_mid.specs.path.Paths.{nothing}
-use Rattle.syn_mid.specs.path.Printing.{mod_path}
+use Rattle.syn_mid.specs.path.Shapes.{mod_path}
 use Rattle.syn_mid.proofs.path_laws.Reprint.{alone, path_again}
 use Rattle.syn_mid.proofs.path_laws.Sound.{visible_path}
 use Rattle.syn_mid.proofs.path_laws.Laws.{whole_path}

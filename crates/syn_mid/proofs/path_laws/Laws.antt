@@ -15,7 +15,7 @@ use Rattle.syn_mid.specs.declared.path.PathSegmentOf.{PathSegmentOf}
 use Rattle.syn_mid.specs.path.Paths.{Sep}
 use Rattle.syn_mid.specs.path.Reading as reading
 use Rattle.syn_mid.specs.path.Reading.{sees_sep}
-use Rattle.syn_mid.specs.path.Printing.{path_by}
+use Rattle.syn_mid.specs.path.Shapes.{path_by}
 use Rattle.syn_mid.specs.path.Spelling.{IsLeading, no_leading, leading, AreSegments, last_segment, more_segments, IsBarePath, a_bare_path, IsModPath}
 use Rattle.syn_mid.specs.path.Grammars.{mod_style}
 use Rattle.syn_mid.proofs.path_laws.Sound.{path_sound, visible_path}

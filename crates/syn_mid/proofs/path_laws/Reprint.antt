@@ -14,7 +14,7 @@ use Rattle.token_core.proofs.Rows.{row-append}
 use Rattle.syn_mid.specs.declared.path.PathOf.{PathOf}
 use Rattle.syn_mid.specs.declared.path.PathSegmentOf.{PathSegmentOf}
 use Rattle.syn_mid.specs.path.Paths.{Sep, segment_of, path_of}
-use Rattle.syn_mid.specs.path.Printing.{colon, segment_by, segments_by, path_by}
+use Rattle.syn_mid.specs.path.Shapes.{colon, segment_by, segments_by, path_by}
 use Rattle.syn_mid.specs.path.Spelling.{sep_chars, sep_at, IsLeading, no_leading, leading, AreSegments, last_segment, more_segments, IsBarePath, a_bare_path}
 
 -- a printed mark stands alone, and so apart

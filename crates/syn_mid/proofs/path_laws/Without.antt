@@ -1,5 +1,5 @@
 -- A path with other arguments in place of none spells what it did.
-use Rattle.std.proofs.Common.{◌≡◌, Bool, List, [], ◌∷◌, map, refl, ap}
+use Rattle.std.proofs.Common.{◌≡◌, Bool, List, ◌∷◌, map, refl, ap}
 use Rattle.token_core.specs.Toks.{Bytes, Toks}
 use Rattle.syn_mid.specs.declared.path.PathOf.{PathOf}
 use Rattle.syn_mid.specs.declared.path.PathSegmentOf.{PathSegmentOf}

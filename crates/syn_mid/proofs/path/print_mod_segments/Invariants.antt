@@ -2,7 +2,7 @@ use Rattle.std.proofs.Common.{◌≡◌, ◌++◌, drop, option_map}
 use Rattle.token_core.specs.Trees.{trees}
 use Rattle.token_core.specs.Prints.{Extends}
 use Rattle.token_core.specs.Joined.{values_of, marks_of}
-use Rattle.syn_mid.specs.path.Printing.{mod_segments}
+use Rattle.syn_mid.specs.path.Shapes.{mod_segments}
 use Rattle.syn_mid.proofs.path.print_mod_segments.Given as goal
 
 abbrev pub invariant-loop-pair : goal.invariant-loop-pair
