@@ -15,20 +15,17 @@ use Rattle.token_core.specs.Toks.{Toks, done}
 use Rattle.token_core.specs.Trees.{row, stream_of_trees}
 use Rattle.token_core.proofs.Rows.{row-append}
 use Rattle.token_core.proofs.WordSpells.{lifetime_again, lifetime_visible, lifetime_whole}
-use Rattle.syn_mid.specs.declared.generics.BoundLifetimesOf.{BoundLifetimesOf}
-use Rattle.syn_mid.specs.declared.generics.GenericParam.{GenericParam}
-use Rattle.syn_mid.specs.declared.generics.GenericParam.TheVariants as g
-use Rattle.syn_mid.specs.declared.generics.TraitBoundOf.{TraitBoundOf}
-use Rattle.syn_mid.specs.declared.generics.TypeParamBound.{TypeParamBound}
-use Rattle.syn_mid.specs.declared.generics.TypeParamBound.TheVariants as b
+use Rattle.syn_mid.specs.declared.generics.GenericParamOf.TheVariants as g
+use Rattle.syn_mid.specs.declared.generics.TypeParamBoundOf.TheVariants as b
 use Rattle.syn_mid.specs.declared.path.PathStyle.TheVariants.{AsWritten}
+use Rattle.syn_mid.specs.ty.Trees.{Attr, GenericParam, BoundLifetimes, TypeParamBound, TraitBound, Path}
 use Rattle.syn_mid.specs.Supplied.{Place}
 use Rattle.syn_mid.specs.generics.NormalShapes as shapes
 use Rattle.syn_mid.specs.generics.NormalShapes.{many}
 use Rattle.syn_mid.specs.generics.Params.{bound_lifetimes_of, lone_lifetime, named_bound, held_bound}
 use Rattle.syn_mid.specs.generics.Shapes.{bare_trait_by, binder_by, bound_lifetimes_by, trait_bound_by}
 use Rattle.syn_mid.specs.generics.Spelling.{IsParam, a_lifetime, IsBinder, a_binder, IsBareBound, a_bound, with_question, IsTraitBound, bare, in_parens, IsBound, lifetime, a_trait}
-use Rattle.syn_mid.specs.path.Paths.{Path, no_arguments}
+use Rattle.syn_mid.specs.path.Paths.{no_arguments}
 use Rattle.syn_mid.specs.path.Printing.{path, arguments}
 use Rattle.syn_mid.specs.path.Spelling.{IsPlainPath}
 use Rattle.syn_mid.specs.ty.Normal as normal
@@ -61,7 +58,7 @@ module _ {X : Type 0} where
 module _ {X : Type 0} (normals : Place → X → X) (prints : Place → X → Print) where
   pub param_front : (x : GenericParam X) (l r : Toks) → IsParam x l r → AgainFront IsParam (normal.param normals) (printing.param prints) x l r
   param_front x l r (a_lifetime {x = y} i) =
-      variant_front IsLifetime IsParam (λ (z : Lifetime). z) lifetimes.print (normal.param normals) (printing.param prints) (λ (z : Lifetime). g.Lifetime (lone_lifetime {X = X} z))
+      variant_front IsLifetime IsParam (λ (z : Lifetime). z) lifetimes.print (normal.param normals) (printing.param prints) (λ (z : Lifetime). g.Lifetime (lone_lifetime {A = Attr X} z))
       (λ z. normal-Lifetime normals (lone_lifetime z)) (λ z. param-Lifetime prints (lone_lifetime z) ∙ append-nil (lifetimes.print z)) y l r (lifetime_front y l r i) (λ k h j. a_lifetime j)
 
 -- ---- by the parameters of binders
@@ -69,7 +66,7 @@ module _ {X : Type 0} (normals : Place → X → X) (prints : Place → X → Pr
 module _ {X : Type 0} (P Q : Relation (GenericParam X)) (np : GenericParam X → GenericParam X) (pp : GenericParam X → Print)
     (again : (x : GenericParam X) (l r : Toks) → P x l r → AgainFront Q np pp x l r) where
   abbrev Binder : Type 0
-  Binder = BoundLifetimesOf (GenericParam X)
+  Binder = BoundLifetimes X
 
   abbrev normal_binder : Binder → Binder
   normal_binder x = bound_lifetimes_of x.for_token x.lt_token (many np x.lifetimes) x.gt_token
@@ -100,7 +97,7 @@ module _ {X : Type 0} (P Q : Relation (GenericParam X)) (np : GenericParam X →
       let k = binder_front y l r i in
       record { spelt = λ h. present (k.spelt h); visible = λ h u w. k.visible h u w; seen = λ u. k.seen u; stays = ap (λ (z : Binder). Some z) k.stays; same = k.same }
 
-  bare_front : (x : TraitBoundOf (GenericParam X) X) (l r : Toks) → IsBareBound false P x l r → AgainFront (IsBareBound true Q) (shapes.trait_bound_by np) (bare_trait_by pp) x l r
+  bare_front : (x : TraitBound X) (l r : Toks) → IsBareBound false P x l r → AgainFront (IsBareBound true Q) (shapes.trait_bound_by np) (bare_trait_by pp) x l r
   bare_front x l r (a_bound {x = o} {p = y} {m = m} i j) =
       let k = optional_front o l m i in
       let d = path_front y m r j in
@@ -127,15 +124,15 @@ module _ {X : Type 0} (P Q : Relation (GenericParam X)) (np : GenericParam X →
       }
 
   -- without parentheses the whole is printed so
-  whole : (x : TraitBoundOf (GenericParam X) X) (l r : Toks) → IsBareBound false P x l r → trait_bound_by pp x ≡ bare_trait_by pp x
+  whole : (x : TraitBound X) (l r : Toks) → IsBareBound false P x l r → trait_bound_by pp x ≡ bare_trait_by pp x
   whole x l r (a_bound i j) = refl
   whole x l r (with_question i j) = refl
 
-  normal_whole : (x : TraitBoundOf (GenericParam X) X) (l r : Toks) → IsBareBound false P x l r → trait_bound_by pp (shapes.trait_bound_by np x) ≡ bare_trait_by pp (shapes.trait_bound_by np x)
+  normal_whole : (x : TraitBound X) (l r : Toks) → IsBareBound false P x l r → trait_bound_by pp (shapes.trait_bound_by np x) ≡ bare_trait_by pp (shapes.trait_bound_by np x)
   normal_whole x l r (a_bound i j) = refl
   normal_whole x l r (with_question i j) = refl
 
-  trait_front : (x : TraitBoundOf (GenericParam X) X) (l r : Toks) → IsTraitBound false P x l r → AgainFront (IsTraitBound true Q) (shapes.trait_bound_by np) (trait_bound_by pp) x l r
+  trait_front : (x : TraitBound X) (l r : Toks) → IsTraitBound false P x l r → AgainFront (IsTraitBound true Q) (shapes.trait_bound_by np) (trait_bound_by pp) x l r
   trait_front x l r (bare i) =
       let k = bare_front x l r i in
       let is = whole x l r i in
@@ -167,5 +164,5 @@ module _ {X : Type 0} (normals : Place → X → X) (prints : Place → X → Pr
       (normal-bound-Lifetime normals) (bound-Lifetime prints) y l r (lifetime_front y l r i) (λ k h j. lifetime j)
   bound_front x l r (a_trait {x = y} i) =
       variant_front (IsTraitBound true Q) (IsBound true Q) (shapes.trait_bound_by (normal.param normals)) (trait_bound_by (printing.param prints)) (normal.bound normals) (printing.bound prints)
-      (λ (z : TraitBoundOf (GenericParam X) X). b.Trait z) (normal-Trait normals) (bound-Trait prints) y l r
+      (λ (z : TraitBound X). b.Trait z) (normal-Trait normals) (bound-Trait prints) y l r
       (trait_front P Q (normal.param normals) (printing.param prints) again y l r i) (λ k h j. a_trait j)

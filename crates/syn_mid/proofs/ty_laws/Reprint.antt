@@ -24,18 +24,8 @@ use Rattle.syn_mid.specs.declared.path.PathStyle.TheVariants.{AsWritten}
 use Rattle.syn_mid.specs.declared.supplied.Expr.{Expr}
 use Rattle.syn_mid.specs.declared.supplied.Expr.TheVariants as e
 use Rattle.syn_mid.specs.declared.ty.PointerMutability.{PointerMutability}
-use Rattle.syn_mid.specs.declared.ty.Type.{«Type» as TypeTree}
-use Rattle.syn_mid.specs.declared.ty.Type.TheVariants as v
-use Rattle.syn_mid.specs.declared.ty.TypeArrayOf.{TypeArrayOf}
-use Rattle.syn_mid.specs.declared.ty.TypeInfer.{TypeInfer}
-use Rattle.syn_mid.specs.declared.ty.TypeMacro.{TypeMacro}
-use Rattle.syn_mid.specs.declared.ty.TypeNever.{TypeNever}
-use Rattle.syn_mid.specs.declared.ty.TypeParenOf.{TypeParenOf}
-use Rattle.syn_mid.specs.declared.ty.TypePathOf.{TypePathOf}
-use Rattle.syn_mid.specs.declared.ty.TypePtrOf.{TypePtrOf}
-use Rattle.syn_mid.specs.declared.ty.TypeReferenceOf.{TypeReferenceOf}
-use Rattle.syn_mid.specs.declared.ty.TypeSliceOf.{TypeSliceOf}
-use Rattle.syn_mid.specs.declared.ty.TypeTupleOf.{TypeTupleOf}
+use Rattle.syn_mid.specs.declared.ty.TypeOf.TheVariants as v
+use Rattle.syn_mid.specs.ty.Trees.{TypeTree, TypeArray, TypeInfer, TypeMacro, TypeNever, TypeParen, TypePath, TypePtr, TypeReference, TypeSlice, TypeTuple}
 use Rattle.syn_mid.specs.Supplied.{Place, ArrayLen, UsesUp, Reprints}
 use Rattle.syn_mid.specs.mac.Printing.{mac}
 use Rattle.syn_mid.specs.mac.Spelling.{IsCall}
@@ -118,7 +108,7 @@ call_front x l r i =
     }
 
 module _ {X : Type 0} where
-  pub path_type_again : (nx : Place → X → X) (px : Place → X → Print) (x : TypePathOf (TypeTree X) X) (l r : Toks) → IsPathType false x l r → AgainFront (IsPathType true) (normal.path_type nx) (printing.path_type px) x l r
+  pub path_type_again : (nx : Place → X → X) (px : Place → X → Print) (x : TypePath X) (l r : Toks) → IsPathType false x l r → AgainFront (IsPathType true) (normal.path_type nx) (printing.path_type px) x l r
   path_type_again nx px x l r (a_path_type {p = q} i) =
       let again = λ (h : Toks). path_again no_arguments (arguments AsWritten) refl false q l r h i in
       record {
@@ -210,7 +200,7 @@ module _ {X : Type 0} (reads : Place → Reader X) (spells : Place → X → Tok
       }
 
   module _ (T U : Bool → Relation (TypeTree X)) (again : (plus : Bool) (x : TypeTree X) (l r : Toks) → T plus x l r → AgainFront (U plus) nt pt x l r) where
-    pub paren_front : (plus : Bool) (x : TypeParenOf (TypeTree X) X) (l r : Toks) → IsParen spells false T plus x l r → AgainFront (IsParen spells true U plus) (normal.paren normals) (printing.paren prints) x l r
+    pub paren_front : (plus : Bool) (x : TypeParen X) (l r : Toks) → IsParen spells false T plus x l r → AgainFront (IsParen spells true U plus) (normal.paren normals) (printing.paren prints) x l r
     paren_front plus x l r (a_paren {s = s} {x = y} {c = c} i) =
         let k = again plus y c done i in
         let seen = λ (h : Toks). row-group Parenthesis s (pt y) h tt in
@@ -222,7 +212,7 @@ module _ {X : Type 0} (reads : Place → Reader X) (spells : Place → X → Tok
           same = ap (λ z. p.group Parenthesis (stream_of_trees z) s) k.same;
         }
 
-    pub slice_front : (x : TypeSliceOf (TypeTree X) X) (l r : Toks) → IsSlice spells false T x l r → AgainFront (IsSlice spells true U) (normal.slice normals) (printing.slice prints) x l r
+    pub slice_front : (x : TypeSlice X) (l r : Toks) → IsSlice spells false T x l r → AgainFront (IsSlice spells true U) (normal.slice normals) (printing.slice prints) x l r
     slice_front x l r (a_slice {s = s} {x = y} {c = c} i) =
         let k = again true y c done i in
         let seen = λ (h : Toks). row-group Bracket s (pt y) h tt in
@@ -234,7 +224,7 @@ module _ {X : Type 0} (reads : Place → Reader X) (spells : Place → X → Tok
           same = ap (λ z. p.group Bracket (stream_of_trees z) s) k.same;
         }
 
-    pub array_front : (x : TypeArrayOf (TypeTree X) X) (l r : Toks) → IsArray spells false T x l r → AgainFront (IsArray spells true U) (normal.array normals) (printing.array prints) x l r
+    pub array_front : (x : TypeArray X) (l r : Toks) → IsArray spells false T x l r → AgainFront (IsArray spells true U) (normal.array normals) (printing.array prints) x l r
     array_front x l r (an_array {s = s} {x = y} {q = q} {n = n} {c = c} {m = m} {k = o} i j g) =
         let k = again true y c m i in
         let d = mark_front q m o j in
@@ -256,7 +246,7 @@ module _ {X : Type 0} (reads : Place → Reader X) (spells : Place → X → Tok
               ∙ ap (λ z. p.group Bracket (stream_of_trees (pt y ++ (p.mark q ++ z))) s) (ap pl is ∙ w.same);
         }
 
-    pub ptr_front : (x : TypePtrOf (TypeTree X) X) (l r : Toks) → IsPtr spells false T x l r → AgainFront (IsPtr spells true U) (normal.ptr normals) (printing.ptr prints) x l r
+    pub ptr_front : (x : TypePtr X) (l r : Toks) → IsPtr spells false T x l r → AgainFront (IsPtr spells true U) (normal.ptr normals) (printing.ptr prints) x l r
     ptr_front x l r (a_ptr {s = s} {q = q} {x = y} {m = m} {k = o} i j g) =
         let d = mark_front s l m i in
         let w = mutability_again q m o j in
@@ -272,7 +262,7 @@ module _ {X : Type 0} (reads : Place → Reader X) (spells : Place → X → Tok
           same = ap (λ z. p.mark s ++ (printing.pointer q ++ z)) k.same;
         }
 
-    pub reference_front : (x : TypeReferenceOf (TypeTree X) X) (l r : Toks) → IsReference spells false T x l r → AgainFront (IsReference spells true U) (normal.reference normals) (printing.reference prints) x l r
+    pub reference_front : (x : TypeReference X) (l r : Toks) → IsReference spells false T x l r → AgainFront (IsReference spells true U) (normal.reference normals) (printing.reference prints) x l r
     reference_front x l r (a_reference {a = a} {o = o} {q = q} {x = y} {m = m} {n = n} {k = b} i j f g) =
         let d = mark_front a l m i in
         let c = maybe_lifetime o m n j in
@@ -316,7 +306,7 @@ module _ {X : Type 0} (reads : Place → Reader X) (spells : Place → X → Tok
           same = no_lone (nt x) c (map nt ys) ds ∙ k.same ∙ sym is;
         }
 
-    pub tuple_front : (x : TypeTupleOf (TypeTree X) X) (l r : Toks) → IsTuple spells false T x l r → AgainFront (IsTuple spells true U) (normal.tuple normals) (printing.tuple prints) x l r
+    pub tuple_front : (x : TypeTuple X) (l r : Toks) → IsTuple spells false T x l r → AgainFront (IsTuple spells true U) (normal.tuple normals) (printing.tuple prints) x l r
     tuple_front x l r (a_tuple {s = s} {xs = xs} {cs = cs} {c = c} i) =
         let k = elements_again xs cs c i in
         let seen = λ (h : Toks). row-group Parenthesis s (inside (xs, cs)) h tt in
@@ -335,7 +325,7 @@ module _ {X : Type 0} (reads : Place → Reader X) (spells : Place → X → Tok
         (x : A) (l r : Toks) → AgainFront S n pr x l r → ((k h : Toks) → S (n x) k h → IsType spells true U plus (made (n x)) k h) → AgainFront (IsType spells true U plus) nt pt (made x) l r
     variant plus S n pr made ni pi x l r k rule = variant_front S (IsType spells true U plus) n pr nt pt made ni pi x l r k rule
 
-    path_front : (plus : Bool) (y : TypePathOf (TypeTree X) X) (l r : Toks) → IsPathType false y l r → is_try_path y.path ≡ false → AgainFront (IsType spells true U plus) nt pt (v.Path y) l r
+    path_front : (plus : Bool) (y : TypePath X) (l r : Toks) → IsPathType false y l r → is_try_path y.path ≡ false → AgainFront (IsType spells true U plus) nt pt (v.Path y) l r
     path_front plus y l r i is =
         variant plus (IsPathType true) (normal.path_type normals) (printing.path_type prints) (λ z. v.Path z) (normal-Path normals) (ty-Path prints) y l r (path_type_again normals prints y l r i) (λ k h j. a_path j is)
 

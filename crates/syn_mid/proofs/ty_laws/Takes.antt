@@ -28,10 +28,8 @@ use Rattle.syn_mid.specs.declared.path.PathOf.{PathOf}
 use Rattle.syn_mid.specs.declared.path.SegmentStyle.TheVariants.{Plain}
 use Rattle.syn_mid.specs.declared.ty.PointerMutability.{PointerMutability}
 use Rattle.syn_mid.specs.declared.ty.PointerMutability.TheVariants as m
-use Rattle.syn_mid.specs.declared.ty.Type.{«Type» as TypeTree}
-use Rattle.syn_mid.specs.declared.ty.Type.TheVariants as v
-use Rattle.syn_mid.specs.declared.ty.TypePtrOf.{TypePtrOf}
-use Rattle.syn_mid.specs.declared.ty.TypeReferenceOf.{TypeReferenceOf}
+use Rattle.syn_mid.specs.declared.ty.TypeOf.TheVariants as v
+use Rattle.syn_mid.specs.ty.Trees.{TypeTree, TypePtr, TypeReference}
 use Rattle.syn_mid.specs.Supplied.{Place}
 use Rattle.syn_mid.specs.mac.Macros.{Held, macro_of}
 use Rattle.syn_mid.specs.mac.Reading.{bang, held, body, call_after}
@@ -157,7 +155,7 @@ module _ {X : Type 0} where
 -- ---- types, over those that they hold
 
 module _ {X : Type 0} (supplied : Place → Reader X) (typ : Bool → Reader (TypeTree X)) (takes : (p : Bool) (s t : Stream) (x : TypeTree X) → typ p s ≡ Ok (x, t) → size t.rest < size s.rest) where
-  ptr_takes : (s t : Stream) (x : TypePtrOf (TypeTree X) X) → ptr supplied typ s ≡ Ok (x, t) → Less s t
+  ptr_takes : (s t : Stream) (x : TypePtr X) → ptr supplied typ s ≡ Ok (x, t) → Less s t
   unfolding ptr
   ptr_takes s t x e =
       let c = chain (star s) _ x t e in
@@ -168,7 +166,7 @@ module _ {X : Type 0} (supplied : Place → Reader X) (typ : Bool → Reader (Ty
       let more = takes false f.rest t k.value k.was in
       omega (arith, less, le, more)
 
-  reference_takes : (s t : Stream) (x : TypeReferenceOf (TypeTree X) X) → reference supplied typ s ≡ Ok (x, t) → Less s t
+  reference_takes : (s t : Stream) (x : TypeReference X) → reference supplied typ s ≡ Ok (x, t) → Less s t
   unfolding reference
   reference_takes s t x e =
       let c = chain (and s) _ x t e in
