@@ -16,7 +16,7 @@ use Rattle.token_core.specs.Loops.{size}
 use Rattle.token_core.specs.Marks.{text_of}
 use Rattle.token_core.specs.Reads.{Reader, is_text, sees_mark, sees_word, sees_group}
 use Rattle.token_core.specs.Spans.{none}
-use Rattle.token_core.specs.Spellings.{last_char, IsMark, is_mark, IsWord, is_word, IsLifetime, is_lifetime}
+use Rattle.token_core.specs.Spellings.{last_char, IsMark, is_mark, IsWord, is_word, is_lifetime}
 use Rattle.token_core.specs.Stream.{Scope}
 use Rattle.token_core.specs.Toks.{Bytes, Toks, done, word, group}
 use Rattle.token_core.proofs.MarkSpells.{mark_complete, mark_seen, mark_size}

@@ -1,5 +1,5 @@
 -- Where a read of a bound answers, the answer spells what was taken, over the same law of the parameters of its binder.
-use Rattle.std.proofs.Common.{◌≡◌, Bool, true, false, not, Option, Some, None, Ok, inl, inr, refl, sym, ◌∙◌, ap, subst, arith}
+use Rattle.std.proofs.Common.{◌≡◌, Bool, true, false, not, Option, Some, None, Ok, inl, inr, refl, sym, ◌∙◌, subst, arith}
 use Rattle.token_core.specs.declared.lifetime.Lifetime.{Lifetime}
 use Rattle.token_core.specs.declared.mark.Mark.{Mark}
 use Rattle.token_core.specs.declared.span.DelimSpan.{DelimSpan}
@@ -12,8 +12,8 @@ use Rattle.token_core.specs.Marks as marks
 use Rattle.token_core.specs.Rebuilt.{Visible}
 use Rattle.token_core.specs.Spellings.{IsMark, IsLifetime}
 use Rattle.token_core.specs.Stream.{Stream}
-use Rattle.token_core.specs.Reads.{Reader, sees_group, leaves, in_group}
-use Rattle.token_core.specs.Toks.{Toks, done, group}
+use Rattle.token_core.specs.Reads.{Reader, sees_group, in_group}
+use Rattle.token_core.specs.Toks.{Toks, done}
 use Rattle.token_core.proofs.Listings.{listed_sound, listed_visible}
 use Rattle.token_core.proofs.MarkSpells.{mark_sound, mark_visible}
 use Rattle.token_core.proofs.Took.{branch, mapped}
@@ -24,7 +24,6 @@ use Rattle.syn_mid.specs.declared.generics.TypeParamBoundOf.TheVariants as b
 use Rattle.syn_mid.specs.declared.supplied.Expr.{Expr}
 use Rattle.syn_mid.specs.ty.Trees.{Attr, GenericParam, BoundLifetimes, TypeParamBound, TraitBound, Path}
 use Rattle.syn_mid.specs.generics.Params.{Comma, bound_lifetimes_of, lone_lifetime, named_bound, held_bound}
-use Rattle.syn_mid.specs.generics.Reading as reading
 use Rattle.syn_mid.specs.generics.Reading.{sees_gt, sees_question, sees_for, comma, lt, gt, for_word, question, param_step, asked, params, binder_after, binder, optional_binder, after_question, after_binder, bare_bound, trait_bound, bound_step}
 use Rattle.syn_mid.specs.generics.Spelling.{IsParam, a_lifetime, IsBinder, a_binder, IsBareBound, a_bound, with_question, IsTraitBound, bare, in_parens, IsBound, lifetime, a_trait}
 use Rattle.syn_mid.specs.path.Paths.{no_arguments}

@@ -10,7 +10,6 @@ use Rattle.token_core.specs.Stream.{Stream, Scope}
 use Rattle.token_core.specs.Toks.{Toks, group}
 use Rattle.token_core.proofs.Steps.{Reads_to}
 use Rattle.token_core.proofs.Took.{at}
-use Rattle.syn_mid.specs.declared.supplied.Expr.{Expr}
 use Rattle.syn_mid.specs.ty.Trees.{GenericParam, TypeTree, TypeArray, TypeParen, TypePtr, TypeReference, TypeSlice, TypeTuple}
 use Rattle.syn_mid.specs.Supplied.{Place, UsesUp}
 use Rattle.syn_mid.specs.ty.Knot.{ahead, below, below_if, Point, a_type, a_bound, a_param, Tree, read, reads_below, types, params}

@@ -26,7 +26,6 @@ use Rattle.token_core.proofs.Took.{branch, mapped, took_all}
 use Rattle.token_core.proofs.Turns.{chain, same_pair}
 use Rattle.token_core.proofs.WordSpells.{word_sound, word_visible, lifetime_sound, lifetime_visible}
 use Rattle.syn_mid.specs.declared.mac.Macro.{Macro}
-use Rattle.syn_mid.specs.declared.supplied.Expr.{Expr}
 use Rattle.syn_mid.specs.declared.supplied.Expr.TheVariants as expr
 use Rattle.syn_mid.specs.declared.ty.PointerMutability.{PointerMutability}
 use Rattle.syn_mid.specs.declared.ty.PointerMutability.TheVariants as pointer

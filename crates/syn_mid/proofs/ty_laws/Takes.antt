@@ -1,11 +1,9 @@
 -- A read of a type takes tokens, on every stream.
 use Rattle.std.proofs.Common.{◌≡◌, ℕ, zero, suc, ◌<◌, ◌≤◌, Bool, false, ◌&&◌, Option, Some, None, Ok, inl, inr, refl, subst, arith}
 use Rattle.token_core.specs.declared.lifetime.Lifetime.{Lifetime}
-use Rattle.token_core.specs.declared.word.Word.{Word}
 use Rattle.token_core.specs.declared.span.DelimSpan.{DelimSpan}
 use Rattle.token_core.specs.declared.tree.Delimiter.{Delimiter}
 use Rattle.token_core.specs.declared.tree.Delimiter.TheVariants as d
-use Rattle.token_core.specs.declared.tree.Ident.{Ident}
 use Rattle.token_core.specs.declared.tree.TokenStream.{TokenStream}
 use Rattle.token_core.specs.Toks.{Toks}
 use Rattle.token_core.specs.Front.{past_ends}
@@ -15,12 +13,12 @@ use Rattle.token_core.specs.Loops.{size}
 use Rattle.token_core.specs.Marks as marks
 use Rattle.token_core.specs.Stream.{Stream}
 use Rattle.token_core.specs.Rebuilt.{stream_of}
-use Rattle.token_core.specs.Reads.{Reader, Outcome, Body, as_group, bodied, delimited, past, sees_group, is_text, read_word, in_group}
+use Rattle.token_core.specs.Reads.{Reader, Outcome, Body, as_group, bodied, delimited, past, sees_group, in_group}
 use Rattle.token_core.proofs.lifetime_laws.{suffix_lifetime}
 use Rattle.token_core.proofs.Suffixes.{suffix_outside}
 use Rattle.token_core.proofs.Takes.{named_takes}
 use Rattle.token_core.proofs.Took.{branch, mapped}
-use Rattle.token_core.proofs.Turns.{chain, same_pair, size_suffix, word_takes}
+use Rattle.token_core.proofs.Turns.{chain, same_pair, size_suffix}
 use Rattle.token_core.proofs.WordSpells.{went_on}
 use Rattle.syn_mid.specs.declared.mac.Macro.{Macro}
 use Rattle.syn_mid.specs.declared.mac.MacroDelimiter.TheVariants as b

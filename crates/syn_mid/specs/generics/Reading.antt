@@ -1,5 +1,5 @@
 -- The reads of bounds and of the parameters of binders, as functions of the stream, over the reads of what they hold.
-use Rattle.std.specs.Prelude.{Bool, true, false, if◌then◌else◌, [], get_or, Option, Some, None, Err}
+use Rattle.std.specs.Prelude.{Bool, if◌then◌else◌, get_or, Option, Some, None, Err}
 use Rattle.token_core.specs.declared.error.ErrorKind.TheVariants.{BinderWithQuestion}
 use Rattle.token_core.specs.declared.mark.Mark.{Mark}
 use Rattle.token_core.specs.declared.tree.Delimiter.TheVariants.{Parenthesis}

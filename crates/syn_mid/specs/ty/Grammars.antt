@@ -4,7 +4,6 @@ use Rattle.token_core.specs.Headline.{Grammar}
 use Rattle.token_core.specs.Prints.{Print}
 use Rattle.token_core.specs.Reads.{Reader}
 use Rattle.token_core.specs.Toks.{Toks, done}
-use Rattle.syn_mid.specs.declared.supplied.Expr.{Expr}
 use Rattle.syn_mid.specs.declared.ty.PointerMutability.{PointerMutability}
 use Rattle.syn_mid.specs.ty.Trees.{TypeParamBound, TypeTree, TypeArray, TypeInfer, TypeMacro, TypeNever, TypeParen, TypePath, TypePtr, TypeReference, TypeSlice, TypeTuple}
 use Rattle.syn_mid.specs.Supplied.{Place}

@@ -10,7 +10,6 @@ use Rattle.token_core.specs.Refusal.{Refusal, fixed}
 use Rattle.token_core.specs.Stream.{Stream}
 use Rattle.token_core.specs.Reads.{Reader, Reads, Follows, refuse, refused}
 use Rattle.syn_mid.specs.Supplied.{Place}
-use Rattle.syn_mid.specs.declared.supplied.Expr.{Expr}
 use Rattle.syn_mid.specs.ty.Trees.{GenericParam, TypeParamBound, TypeTree, TypeArray, TypeParen, TypePtr, TypeReference, TypeSlice, TypeTuple}
 use Rattle.syn_mid.specs.generics.Reading.{param_step, bound_step}
 use Rattle.syn_mid.specs.ty.Reading.{type_step}

@@ -1,5 +1,5 @@
 -- Which lists an admitted type spells.
-use Rattle.std.specs.Prelude.{◌≡◌, ℕ, zero, suc, Bool, true, false, List, [], ◌∷◌, Option, Some, None}
+use Rattle.std.specs.Prelude.{◌≡◌, Bool, true, false, List, [], ◌∷◌, Option, Some, None}
 use Rattle.token_core.specs.declared.lifetime.Lifetime.{Lifetime}
 use Rattle.token_core.specs.declared.span.DelimSpan.{DelimSpan}
 use Rattle.token_core.specs.declared.tree.Delimiter.TheVariants.{Parenthesis, Bracket}
@@ -9,7 +9,6 @@ use Rattle.token_core.specs.Listed.{AreListed, Anywhere}
 use Rattle.token_core.specs.Spellings.{IsMark, IsWord, IsLifetime}
 use Rattle.token_core.specs.Toks.{Toks, done, group}
 use Rattle.syn_mid.specs.declared.mac.Macro.{Macro}
-use Rattle.syn_mid.specs.declared.supplied.Expr.{Expr}
 use Rattle.syn_mid.specs.declared.supplied.Expr.TheVariants as e
 use Rattle.syn_mid.specs.declared.ty.PointerMutability.{PointerMutability}
 use Rattle.syn_mid.specs.declared.ty.PointerMutability.TheVariants as m
