@@ -16,21 +16,18 @@ use Rattle.token_core.specs.Loops.{size}
 use Rattle.token_core.specs.Marks.{text_of}
 use Rattle.token_core.specs.Reads.{Reader, is_text, sees_mark, sees_word, sees_group}
 use Rattle.token_core.specs.Spans.{none}
-use Rattle.token_core.specs.Spellings.{last_char, IsMark, is_mark, IsWord, is_word, IsLifetime, is_lifetime}
+use Rattle.token_core.specs.Spellings.{last_char, IsMark, is_mark, IsWord, is_word, is_lifetime}
 use Rattle.token_core.specs.Stream.{Scope}
 use Rattle.token_core.specs.Toks.{Bytes, Toks, done, word, group}
 use Rattle.token_core.proofs.MarkSpells.{mark_complete, mark_seen, mark_size}
 use Rattle.token_core.proofs.Steps.{link, chosen, Reads_to}
 use Rattle.token_core.proofs.Took.{at, leaves_none}
 use Rattle.token_core.proofs.WordSpells.{word_complete, word_seen, lifetime_complete, lifetime_seen}
-use Rattle.syn_mid.specs.declared.generics.BoundLifetimesOf.{BoundLifetimesOf}
-use Rattle.syn_mid.specs.declared.generics.GenericParam.{GenericParam}
-use Rattle.syn_mid.specs.declared.generics.TraitBoundOf.{TraitBoundOf}
-use Rattle.syn_mid.specs.declared.generics.TypeParamBound.{TypeParamBound}
+use Rattle.syn_mid.specs.ty.Trees.{GenericParam, BoundLifetimes, TypeParamBound, TraitBound, Path, PathSegment}
 use Rattle.syn_mid.specs.generics.Params.{Comma}
 use Rattle.syn_mid.specs.generics.Reading.{sees_gt, sees_question, sees_for, comma, question, param_step, params, binder, optional_binder, after_question, bare_bound, trait_bound, bound_step}
 use Rattle.syn_mid.specs.generics.Spelling.{IsParam, a_lifetime, IsBinder, a_binder, IsBareBound, a_bound, with_question, IsTraitBound, bare, in_parens, IsBound, lifetime, a_trait, BoundEnds}
-use Rattle.syn_mid.specs.path.Paths.{Sep, Path, PathSegment, no_arguments}
+use Rattle.syn_mid.specs.path.Paths.{Sep, no_arguments}
 use Rattle.syn_mid.specs.path.Spelling.{is_type_word, no_leading, leading, AreSegments, last_segment, more_segments, a_bare_path, IsPlainPath}
 use Rattle.syn_mid.specs.ty.Knot.{ahead}
 use Rattle.syn_mid.specs.ty.Spelling.{Relation, IsOptional, absent, present}
@@ -159,7 +156,7 @@ module _ {X : Type 0} (P : Relation (GenericParam X)) (param : Reader (GenericPa
       true xs cs k r h j
       (record { follows = tt; over = ap not seen; stops_there = λ b may. seen }) f e
 
-  binder_complete : (x : BoundLifetimesOf (GenericParam X)) (l r : Toks) (f : Option Span) (e : Span) (sc : Scope) → ahead (at l f e sc) ≤ limit → IsBinder true P x l r → Reads_to (binder param) x l r f e sc
+  binder_complete : (x : BoundLifetimes X) (l r : Toks) (f : Option Span) (e : Span) (sc : Scope) → ahead (at l f e sc) ≤ limit → IsBinder true P x l r → Reads_to (binder param) x l r f e sc
   unfolding binder
   binder_complete x l r f e sc h (a_binder {f = w} {o = o} {xs = xs} {cs = cs} {c = c} {m = m} {n = n} {k = k} i j g q) =
       let a = word_complete {n = 10} w l m f e sc i in
@@ -170,10 +167,10 @@ module _ {X : Type 0} (P : Relation (GenericParam X)) (param : Reader (GenericPa
       let v = mark_complete true {n = 3} {k = 1} refl (omega arith) c k r f u.last sc q in
       record { last = v.last; reads = link _ a.reads (link _ d.reads (link _ u.reads (link _ v.reads refl))) }
 
-  binder_seen : (x : BoundLifetimesOf (GenericParam X)) (l r : Toks) → IsBinder true P x l r → sees_for l ≡ true
+  binder_seen : (x : BoundLifetimes X) (l r : Toks) → IsBinder true P x l r → sees_for l ≡ true
   binder_seen x l r (a_binder {f = w} {m = m} i j g q) = word_seen {n = 10} w l m i
 
-  optional_complete : (o : Option (BoundLifetimesOf (GenericParam X))) (l r : Toks) (f : Option Span) (e : Span) (sc : Scope) → ahead (at l f e sc) ≤ limit → IsOptional (IsBinder true P) o l r → sees_for r ≡ false →
+  optional_complete : (o : Option (BoundLifetimes X)) (l r : Toks) (f : Option Span) (e : Span) (sc : Scope) → ahead (at l f e sc) ≤ limit → IsOptional (IsBinder true P) o l r → sees_for r ≡ false →
       Reads_to (optional_binder param) o l r f e sc
   unfolding optional_binder
   optional_complete o l r f e sc h absent n = record { last = e; reads = chosen (sees_for l) false _ _ (at l f e sc) _ n refl }
@@ -181,7 +178,7 @@ module _ {X : Type 0} (P : Relation (GenericParam X)) (param : Reader (GenericPa
       let k = binder_complete x l r f e sc h i in
       record { last = k.last; reads = chosen (sees_for l) true _ _ (at l f e sc) _ (binder_seen x l r i) (link _ k.reads refl) }
 
-  bare_complete : (x : TraitBoundOf (GenericParam X) X) (l r : Toks) (f : Option Span) (e : Span) (sc : Scope) → ahead (at l f e sc) ≤ limit → IsBareBound true P x l r → BoundEnds r → Reads_to (bare_bound param) x l r f e sc
+  bare_complete : (x : TraitBound X) (l r : Toks) (f : Option Span) (e : Span) (sc : Scope) → ahead (at l f e sc) ≤ limit → IsBareBound true P x l r → BoundEnds r → Reads_to (bare_bound param) x l r f e sc
   unfolding bare_bound after_question
   bare_complete x l r f e sc h (a_bound {x = o} {p = p} {m = m} i j) n =
       let s = path_name p m r j in
@@ -199,7 +196,7 @@ module _ {X : Type 0} (P : Relation (GenericParam X)) (param : Reader (GenericPa
       let u = plain_complete no_arguments p m r f c.last sc j n.sep n.angle in
       record { last = u.last; reads = link _ a.reads (link _ w (link _ c.reads (link _ u.reads refl))) }
 
-  bare_begins : (x : TraitBoundOf (GenericParam X) X) (l r : Toks) → IsBareBound true P x l r → Bare l
+  bare_begins : (x : TraitBound X) (l r : Toks) → IsBareBound true P x l r → Bare l
   bare_begins x l r (a_bound {p = p} {m = m} absent j) = (path_name p m r j).on
   bare_begins x l r (a_bound (present (a_binder {f = w} {m = m} i g q o)) j) = for_bare w l m i
   bare_begins x l r (with_question {q = q} {m = m} i j) = question_bare q l m i
@@ -207,7 +204,7 @@ module _ {X : Type 0} (P : Relation (GenericParam X)) (param : Reader (GenericPa
   less_inside : (a : DelimSpan) (c r : Toks) (f : Option Span) (e : Span) (sc : Scope) → ahead (at (group Parenthesis a c r) f e sc) ≤ limit → ahead (content Parenthesis a c r f e sc) ≤ limit
   less_inside a c r f e sc h = let g = content_ahead Parenthesis groups.paren_name a c r f e sc in omega (arith, h, g)
 
-  trait_complete : (x : TraitBoundOf (GenericParam X) X) (l r : Toks) (f : Option Span) (e : Span) (sc : Scope) → ahead (at l f e sc) ≤ limit → IsTraitBound true P x l r → BoundEnds r → Reads_to (trait_bound param) x l r f e sc
+  trait_complete : (x : TraitBound X) (l r : Toks) (f : Option Span) (e : Span) (sc : Scope) → ahead (at l f e sc) ≤ limit → IsTraitBound true P x l r → BoundEnds r → Reads_to (trait_bound param) x l r f e sc
   unfolding trait_bound
   trait_complete x l r f e sc h (bare i) n =
       let k = bare_complete x l r f e sc h i n in
@@ -221,7 +218,7 @@ module _ {X : Type 0} (P : Relation (GenericParam X)) (param : Reader (GenericPa
             (link _ (reads_inside Parenthesis groups.paren_name (bare_bound param) y a c r (at done None u.last z.scope) f e sc u.reads (leaves_none None u.last z.scope refl)) refl);
       }
 
-  trait_begins : (x : TraitBoundOf (GenericParam X) X) (l r : Toks) → IsTraitBound true P x l r → sees_lifetime l ≡ false
+  trait_begins : (x : TraitBound X) (l r : Toks) → IsTraitBound true P x l r → sees_lifetime l ≡ false
   trait_begins x l r (bare i) = (bare_begins x l r i).no_lifetime
   trait_begins x l r (in_parens {s = a} {c = c} i) = no_life_group a c r
 

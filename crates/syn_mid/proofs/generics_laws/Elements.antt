@@ -3,7 +3,7 @@ use Rattle.std.proofs.Common.{◌≡◌, []}
 use Rattle.token_core.specs.Loops.{after, terminated}
 use Rattle.token_core.specs.Reads.{Reader}
 use Rattle.token_core.specs.Stream.{Stream}
-use Rattle.syn_mid.specs.declared.generics.GenericParam.{GenericParam}
+use Rattle.syn_mid.specs.ty.Trees.{GenericParam}
 use Rattle.syn_mid.specs.generics.Reading.{comma, sees_gt, params}
 use Rattle.syn_mid.proofs.ty_laws.Elements.{none_yet}
 

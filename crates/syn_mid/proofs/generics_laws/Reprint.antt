@@ -1,7 +1,8 @@
 -- The print of a bound spells its normal form clearly, where that of the parameters of its binder does.
-use Rattle.std.proofs.Common.{◌≡◌, Bool, true, false, List, [], ◌++◌, map, Option, Some, None, refl, sym, ◌∙◌, ap, subst, append-nil}
+use Rattle.std.proofs.Common.{◌≡◌, Bool, true, false, ◌++◌, map, Option, Some, None, refl, sym, ◌∙◌, ap, subst, append-nil}
 use Rattle.token_core.specs.declared.lifetime.Lifetime.{Lifetime}
 use Rattle.token_core.specs.declared.mark.Mark.{Mark}
+use Rattle.token_core.specs.declared.token.Paren.{Paren}
 use Rattle.token_core.specs.declared.tree.Delimiter.TheVariants.{Parenthesis}
 use Rattle.token_core.specs.Groups as groups
 use Rattle.token_core.specs.Lifetimes as lifetimes
@@ -10,37 +11,31 @@ use Rattle.token_core.specs.Lists.{joined}
 use Rattle.token_core.specs.Prints as p
 use Rattle.token_core.specs.Prints.{Print}
 use Rattle.token_core.specs.Rebuilt.{Visible}
-use Rattle.token_core.specs.Spellings.{IsMark, IsWord, IsLifetime}
+use Rattle.token_core.specs.Spellings.{IsMark, IsLifetime}
 use Rattle.token_core.specs.Toks.{Toks, done}
 use Rattle.token_core.specs.Trees.{row, stream_of_trees}
 use Rattle.token_core.proofs.Rows.{row-append}
 use Rattle.token_core.proofs.WordSpells.{lifetime_again, lifetime_visible, lifetime_whole}
-use Rattle.syn_mid.specs.declared.generics.BoundLifetimesOf.{BoundLifetimesOf}
-use Rattle.syn_mid.specs.declared.generics.GenericParam.{GenericParam}
-use Rattle.syn_mid.specs.declared.generics.GenericParam.TheVariants as g
-use Rattle.syn_mid.specs.declared.generics.TraitBoundOf.{TraitBoundOf}
-use Rattle.syn_mid.specs.declared.generics.TypeParamBound.{TypeParamBound}
-use Rattle.syn_mid.specs.declared.generics.TypeParamBound.TheVariants as b
+use Rattle.syn_mid.specs.declared.generics.GenericParamOf.TheVariants as g
+use Rattle.syn_mid.specs.declared.generics.TypeParamBoundOf.TheVariants as b
+use Rattle.syn_mid.specs.declared.generics.TraitBoundOf.{out-TraitBoundOf, roll-out-TraitBoundOf}
 use Rattle.syn_mid.specs.declared.path.PathStyle.TheVariants.{AsWritten}
+use Rattle.syn_mid.specs.declared.supplied.Expr.{Expr}
+use Rattle.syn_mid.specs.ty.Trees.{Attr, GenericParam, BoundLifetimes, TypeParamBound, TraitBound, Path}
 use Rattle.syn_mid.specs.Supplied.{Place}
 use Rattle.syn_mid.specs.generics.NormalShapes as shapes
 use Rattle.syn_mid.specs.generics.NormalShapes.{many}
 use Rattle.syn_mid.specs.generics.Params.{bound_lifetimes_of, lone_lifetime, named_bound, held_bound}
-use Rattle.syn_mid.specs.generics.Shapes.{bare_trait_by, binder_by, bound_lifetimes_by, trait_bound_by}
+use Rattle.syn_mid.specs.generics.Shapes.{binder_by, bound_lifetimes_by}
 use Rattle.syn_mid.specs.generics.Spelling.{IsParam, a_lifetime, IsBinder, a_binder, IsBareBound, a_bound, with_question, IsTraitBound, bare, in_parens, IsBound, lifetime, a_trait}
-use Rattle.syn_mid.specs.path.Paths.{Path, no_arguments}
-use Rattle.syn_mid.specs.path.Printing.{path, arguments}
-use Rattle.syn_mid.specs.path.Spelling.{IsPlainPath}
+use Rattle.syn_mid.specs.path.Printing.{path}
 use Rattle.syn_mid.specs.ty.Normal as normal
 use Rattle.syn_mid.specs.ty.Printing as printing
 use Rattle.syn_mid.specs.ty.Spelling.{Relation, IsOptional, absent, present}
 use Rattle.syn_mid.proofs.attr_laws.Reprint.{AgainFront, row-group}
-use Rattle.syn_mid.proofs.path_laws.Laws.{whole_path}
-use Rattle.syn_mid.proofs.path_laws.Reprint.{path_again}
-use Rattle.syn_mid.proofs.path_laws.Sound.{visible_path}
-use Rattle.syn_mid.proofs.ty_laws.Normal.{normal-Lifetime, normal-Trait, normal-bound-Lifetime}
-use Rattle.syn_mid.proofs.ty_laws.Prints.{param-Lifetime, bound-Trait, bound-Lifetime}
-use Rattle.syn_mid.proofs.ty_laws.Reprint.{mark_front, word_front, listed_front, variant_front}
+use Rattle.syn_mid.proofs.ty_laws.Normal.{normal-Lifetime, normal-Trait, normal-bound-Lifetime, trait_bound_normal}
+use Rattle.syn_mid.proofs.ty_laws.Prints.{param-Lifetime, bound-Trait, bound-Lifetime, prints_trait_bound}
+use Rattle.syn_mid.proofs.ty_laws.Reprint.{mark_front, word_front, path_front, listed_front, variant_front}
 
 lifetime_front : (x : Lifetime) (l r : Toks) → IsLifetime x l r → AgainFront IsLifetime (λ (z : Lifetime). z) lifetimes.print x l r
 lifetime_front x l r i =
@@ -52,16 +47,10 @@ lifetime_front x l r i =
       same = refl;
     }
 
-module _ {X : Type 0} where
-  path_front : (x : Path X) (l r : Toks) → IsPlainPath false no_arguments x l r → AgainFront (IsPlainPath true no_arguments) (λ (z : Path X). z) (path AsWritten) x l r
-  path_front x l r i =
-      let again = λ (h : Toks). path_again no_arguments (arguments AsWritten) refl false x l r h i in
-      record { spelt = λ h. again h; visible = λ h u w. whole_path true x (row (path AsWritten x) h) h (again h) w; seen = λ u. visible_path x l r i u; stays = refl; same = refl }
-
 module _ {X : Type 0} (normals : Place → X → X) (prints : Place → X → Print) where
   pub param_front : (x : GenericParam X) (l r : Toks) → IsParam x l r → AgainFront IsParam (normal.param normals) (printing.param prints) x l r
   param_front x l r (a_lifetime {x = y} i) =
-      variant_front IsLifetime IsParam (λ (z : Lifetime). z) lifetimes.print (normal.param normals) (printing.param prints) (λ (z : Lifetime). g.Lifetime (lone_lifetime {X = X} z))
+      variant_front IsLifetime IsParam (λ (z : Lifetime). z) lifetimes.print (normal.param normals) (printing.param prints) (λ (z : Lifetime). g.Lifetime (lone_lifetime {A = Attr X} z))
       (λ z. normal-Lifetime normals (lone_lifetime z)) (λ z. param-Lifetime prints (lone_lifetime z) ∙ append-nil (lifetimes.print z)) y l r (lifetime_front y l r i) (λ k h j. a_lifetime j)
 
 -- ---- by the parameters of binders
@@ -69,7 +58,7 @@ module _ {X : Type 0} (normals : Place → X → X) (prints : Place → X → Pr
 module _ {X : Type 0} (P Q : Relation (GenericParam X)) (np : GenericParam X → GenericParam X) (pp : GenericParam X → Print)
     (again : (x : GenericParam X) (l r : Toks) → P x l r → AgainFront Q np pp x l r) where
   abbrev Binder : Type 0
-  Binder = BoundLifetimesOf (GenericParam X)
+  Binder = BoundLifetimes X
 
   abbrev normal_binder : Binder → Binder
   normal_binder x = bound_lifetimes_of x.for_token x.lt_token (many np x.lifetimes) x.gt_token
@@ -100,72 +89,115 @@ module _ {X : Type 0} (P Q : Relation (GenericParam X)) (np : GenericParam X →
       let k = binder_front y l r i in
       record { spelt = λ h. present (k.spelt h); visible = λ h u w. k.visible h u w; seen = λ u. k.seen u; stays = ap (λ (z : Binder). Some z) k.stays; same = k.same }
 
-  bare_front : (x : TraitBoundOf (GenericParam X) X) (l r : Toks) → IsBareBound false P x l r → AgainFront (IsBareBound true Q) (shapes.trait_bound_by np) (bare_trait_by pp) x l r
+
+-- ---- a bound
+
+module _ {X : Type 0} (normals : Place → X → X) (prints : Place → X → Print) (P Q : Relation (GenericParam X))
+    (again : (x : GenericParam X) (l r : Toks) → P x l r → AgainFront Q (normal.param normals) (printing.param prints) x l r) where
+  abbrev np : GenericParam X → GenericParam X
+  np = normal.param normals
+
+  abbrev pp : GenericParam X → Print
+  pp = printing.param prints
+
+  abbrev nt : TraitBound X → TraitBound X
+  nt = normal.trait_bound normals
+
+  abbrev pt : TraitBound X → Print
+  pt = printing.trait_bound prints
+
+  -- without its parentheses
+  abbrev pb : TraitBound X → Print
+  pb = printing.bare_trait prints
+
+  abbrev words : Path X → Print
+  words = path prints AsWritten
+
+  named_normal : (o : Option (BoundLifetimes X)) (q : Option (Mark 22 1)) (y : Path X) → nt (named_bound o q y) ≡ named_bound (shapes.binder_by np o) q (normal.path normals y)
+  named_normal o q y = trait_bound_normal normals None o (record {}) q y
+
+  named_stays : (o : Option (BoundLifetimes X)) (q : Option (Mark 22 1)) (y : Path X) → shapes.binder_by np (shapes.binder_by np o) ≡ shapes.binder_by np o → normal.path normals (normal.path normals y) ≡ normal.path normals y →
+      nt (nt (named_bound o q y)) ≡ nt (named_bound o q y)
+  named_stays o q y h k =
+      ap nt (named_normal o q y) ∙ named_normal (shapes.binder_by np o) q (normal.path normals y)
+      ∙ ap (λ z. named_bound z q (normal.path normals (normal.path normals y))) h ∙ ap (named_bound (shapes.binder_by np o) q) k ∙ sym (named_normal o q y)
+
+  bare_front : (x : TraitBound X) (l r : Toks) → IsBareBound false P x l r → AgainFront (IsBareBound true Q) nt pb x l r
   bare_front x l r (a_bound {x = o} {p = y} {m = m} i j) =
-      let k = optional_front o l m i in
-      let d = path_front y m r j in
-      let last = λ (h : Toks). row (path AsWritten y) h in
-      let seen = λ (h : Toks). row-append (binder_by pp o) (path AsWritten y) h in
+      let k = optional_front P Q np pp again o l m i in
+      let d = path_front normals prints y m r j in
+      let is = named_normal o None y in
+      let last = λ (h : Toks). row (words y) h in
+      let seen = λ (h : Toks). row-append (binder_by pp o) (words y) h in
       record {
-        spelt = λ h. subst (λ z. IsBareBound true Q (named_bound (shapes.binder_by np o) None y) z h) (sym (seen h)) (a_bound (k.spelt (last h)) (d.spelt h));
+        spelt = λ h. subst (λ z. IsBareBound true Q z (row (pb (named_bound o None y)) h) h) (sym is)
+            (subst (λ z. IsBareBound true Q (named_bound (shapes.binder_by np o) None (normal.path normals y)) z h) (sym (seen h)) (a_bound (k.spelt (last h)) (d.spelt h)));
         visible = λ h u w. subst Visible (sym (seen h)) (k.visible (last h) u (d.visible h (k.seen u) w));
         seen = λ u. d.seen (k.seen u);
-        stays = ap (λ z. named_bound z None y) k.stays;
-        same = ap (λ z. z ++ path AsWritten y) k.same;
+        stays = named_stays o None y k.stays d.stays;
+        same = ap pb is ∙ ap (λ z. z ++ words (normal.path normals y)) k.same ∙ ap (λ z. binder_by pp o ++ z) d.same;
       }
   bare_front x l r (with_question {q = q} {p = y} {m = m} i j) =
       let k = mark_front q l m i in
-      let d = path_front y m r j in
-      let last = λ (h : Toks). row (path AsWritten y) h in
-      let seen = λ (h : Toks). row-append (p.mark q) (path AsWritten y) h in
+      let d = path_front normals prints y m r j in
+      let is = named_normal None (Some q) y in
+      let last = λ (h : Toks). row (words y) h in
+      let seen = λ (h : Toks). row-append (p.mark q) (words y) h in
       record {
-        spelt = λ h. subst (λ z. IsBareBound true Q (named_bound None (Some q) y) z h) (sym (seen h)) (with_question (k.spelt (last h)) (d.spelt h));
+        spelt = λ h. subst (λ z. IsBareBound true Q z (row (pb (named_bound None (Some q) y)) h) h) (sym is)
+            (subst (λ z. IsBareBound true Q (named_bound None (Some q) (normal.path normals y)) z h) (sym (seen h)) (with_question (k.spelt (last h)) (d.spelt h)));
         visible = λ h u w. subst Visible (sym (seen h)) (k.visible (last h) u (d.visible h (k.seen u) w));
         seen = λ u. d.seen (k.seen u);
-        stays = refl;
-        same = refl;
+        stays = named_stays None (Some q) y refl d.stays;
+        same = ap pb is ∙ ap (λ z. p.mark q ++ z) d.same;
       }
 
   -- without parentheses the whole is printed so
-  whole : (x : TraitBoundOf (GenericParam X) X) (l r : Toks) → IsBareBound false P x l r → trait_bound_by pp x ≡ bare_trait_by pp x
-  whole x l r (a_bound i j) = refl
-  whole x l r (with_question i j) = refl
+  whole : (x : TraitBound X) (l r : Toks) → IsBareBound false P x l r → pt x ≡ pb x
+  whole x l r (a_bound {x = o} {p = y} i j) = prints_trait_bound prints (named_bound o None y)
+  whole x l r (with_question {q = q} {p = y} i j) = prints_trait_bound prints (named_bound None (Some q) y)
 
-  normal_whole : (x : TraitBoundOf (GenericParam X) X) (l r : Toks) → IsBareBound false P x l r → trait_bound_by pp (shapes.trait_bound_by np x) ≡ bare_trait_by pp (shapes.trait_bound_by np x)
-  normal_whole x l r (a_bound i j) = refl
-  normal_whole x l r (with_question i j) = refl
+  named_whole : (o : Option (BoundLifetimes X)) (q : Option (Mark 22 1)) (y : Path X) → pt (nt (named_bound o q y)) ≡ pb (nt (named_bound o q y))
+  named_whole o q y = let is = named_normal o q y in ap pt is ∙ prints_trait_bound prints (named_bound (shapes.binder_by np o) q (normal.path normals y)) ∙ ap pb (sym is)
 
-  trait_front : (x : TraitBoundOf (GenericParam X) X) (l r : Toks) → IsTraitBound false P x l r → AgainFront (IsTraitBound true Q) (shapes.trait_bound_by np) (trait_bound_by pp) x l r
+  normal_whole : (x : TraitBound X) (l r : Toks) → IsBareBound false P x l r → pt (nt x) ≡ pb (nt x)
+  normal_whole x l r (a_bound {x = o} {p = y} i j) = named_whole o None y
+  normal_whole x l r (with_question {q = q} {p = y} i j) = named_whole None (Some q) y
+
+  held_normal : (t : Paren) (y : TraitBound X) → nt (held_bound t y) ≡ held_bound t (nt y)
+  held_normal t y =
+      let f = out-TraitBoundOf (Attr X) (Expr X) y in
+      trait_bound_normal normals (Some t) f.lifetimes f.modifiers f.maybe f.path ∙ ap (held_bound t) (sym (trait_bound_normal normals f.paren_token f.lifetimes f.modifiers f.maybe f.path))
+      ∙ ap (λ z. held_bound t (nt z)) (roll-out-TraitBoundOf (Attr X) (Expr X) y)
+
+  trait_front : (x : TraitBound X) (l r : Toks) → IsTraitBound false P x l r → AgainFront (IsTraitBound true Q) nt pt x l r
   trait_front x l r (bare i) =
       let k = bare_front x l r i in
       let is = whole x l r i in
       record {
-        spelt = λ h. subst (λ z. IsTraitBound true Q (shapes.trait_bound_by np x) (row z h) h) (sym is) (bare (k.spelt h));
+        spelt = λ h. subst (λ z. IsTraitBound true Q (nt x) (row z h) h) (sym is) (bare (k.spelt h));
         visible = λ h u w. subst (λ z. Visible (row z h)) (sym is) (k.visible h u w);
         seen = λ u. k.seen u;
         stays = k.stays;
         same = normal_whole x l r i ∙ k.same ∙ sym is;
       }
   trait_front x l r (in_parens {s = s} {x = y} {c = c} i) =
+      let t = groups.paren s in
       let k = bare_front y c done i in
-      let seen = λ (h : Toks). row-group Parenthesis s (bare_trait_by pp y) h tt in
-      record {
-        spelt = λ h. subst (λ z. IsTraitBound true Q (held_bound (groups.paren s) (shapes.trait_bound_by np y)) z h) (sym (seen h)) (in_parens (k.spelt done));
+      let seen = λ (h : Toks). row-group Parenthesis s (pb y) h tt in
+      variant_front (λ (z : TraitBound X) (a : Toks) (h : Toks). IsTraitBound true Q (held_bound t z) a h) (IsTraitBound true Q) nt (λ z. p.group Parenthesis (stream_of_trees (pb z)) s) nt pt (held_bound t) (held_normal t)
+      (λ z. prints_trait_bound prints (held_bound t z)) y l r (record {
+        spelt = λ h. subst (λ z. IsTraitBound true Q (held_bound t (nt y)) z h) (sym (seen h)) (in_parens (k.spelt done));
         visible = λ h u w. subst Visible (sym (seen h)) (tt, k.visible done u.1 tt, w);
         seen = λ u. u.2;
-        stays = ap (held_bound (groups.paren s)) k.stays;
+        stays = k.stays;
         same = ap (λ z. p.group Parenthesis (stream_of_trees z) s) k.same;
-      }
+      }) (λ a h j. j)
 
--- ---- a bound
-
-module _ {X : Type 0} (normals : Place → X → X) (prints : Place → X → Print) (P Q : Relation (GenericParam X))
-    (again : (x : GenericParam X) (l r : Toks) → P x l r → AgainFront Q (normal.param normals) (printing.param prints) x l r) where
   pub bound_front : (x : TypeParamBound X) (l r : Toks) → IsBound false P x l r → AgainFront (IsBound true Q) (normal.bound normals) (printing.bound prints) x l r
   bound_front x l r (lifetime {x = y} i) =
       variant_front IsLifetime (IsBound true Q) (λ (z : Lifetime). z) lifetimes.print (normal.bound normals) (printing.bound prints) (λ (z : Lifetime). b.Lifetime z)
       (normal-bound-Lifetime normals) (bound-Lifetime prints) y l r (lifetime_front y l r i) (λ k h j. lifetime j)
   bound_front x l r (a_trait {x = y} i) =
-      variant_front (IsTraitBound true Q) (IsBound true Q) (shapes.trait_bound_by (normal.param normals)) (trait_bound_by (printing.param prints)) (normal.bound normals) (printing.bound prints)
-      (λ (z : TraitBoundOf (GenericParam X) X). b.Trait z) (normal-Trait normals) (bound-Trait prints) y l r
-      (trait_front P Q (normal.param normals) (printing.param prints) again y l r i) (λ k h j. a_trait j)
+      variant_front (IsTraitBound true Q) (IsBound true Q) nt pt (normal.bound normals) (printing.bound prints) (λ (z : TraitBound X). b.Trait z) (normal-Trait normals) (bound-Trait prints) y l r
+      (trait_front y l r i) (λ k h j. a_trait j)

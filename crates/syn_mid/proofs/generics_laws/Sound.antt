@@ -1,5 +1,5 @@
 -- Where a read of a bound answers, the answer spells what was taken, over the same law of the parameters of its binder.
-use Rattle.std.proofs.Common.{◌≡◌, Bool, true, false, not, Option, Some, None, Ok, inl, inr, refl, sym, ◌∙◌, ap, subst, arith}
+use Rattle.std.proofs.Common.{◌≡◌, Bool, true, false, not, Option, Some, None, Ok, inl, inr, refl, sym, ◌∙◌, subst, arith}
 use Rattle.token_core.specs.declared.lifetime.Lifetime.{Lifetime}
 use Rattle.token_core.specs.declared.mark.Mark.{Mark}
 use Rattle.token_core.specs.declared.span.DelimSpan.{DelimSpan}
@@ -12,24 +12,21 @@ use Rattle.token_core.specs.Marks as marks
 use Rattle.token_core.specs.Rebuilt.{Visible}
 use Rattle.token_core.specs.Spellings.{IsMark, IsLifetime}
 use Rattle.token_core.specs.Stream.{Stream}
-use Rattle.token_core.specs.Reads.{Reader, sees_group, leaves, in_group}
-use Rattle.token_core.specs.Toks.{Toks, done, group}
+use Rattle.token_core.specs.Reads.{Reader, sees_group, in_group}
+use Rattle.token_core.specs.Toks.{Toks, done}
 use Rattle.token_core.proofs.Listings.{listed_sound, listed_visible}
 use Rattle.token_core.proofs.MarkSpells.{mark_sound, mark_visible}
 use Rattle.token_core.proofs.Took.{branch, mapped}
 use Rattle.token_core.proofs.Turns.{chain, same_pair}
 use Rattle.token_core.proofs.WordSpells.{word_sound, word_visible}
-use Rattle.syn_mid.specs.declared.generics.BoundLifetimesOf.{BoundLifetimesOf}
-use Rattle.syn_mid.specs.declared.generics.GenericParam.{GenericParam}
-use Rattle.syn_mid.specs.declared.generics.GenericParam.TheVariants as g
-use Rattle.syn_mid.specs.declared.generics.TraitBoundOf.{TraitBoundOf}
-use Rattle.syn_mid.specs.declared.generics.TypeParamBound.{TypeParamBound}
-use Rattle.syn_mid.specs.declared.generics.TypeParamBound.TheVariants as b
+use Rattle.syn_mid.specs.declared.generics.GenericParamOf.TheVariants as g
+use Rattle.syn_mid.specs.declared.generics.TypeParamBoundOf.TheVariants as b
+use Rattle.syn_mid.specs.declared.supplied.Expr.{Expr}
+use Rattle.syn_mid.specs.ty.Trees.{Attr, GenericParam, BoundLifetimes, TypeParamBound, TraitBound, Path}
 use Rattle.syn_mid.specs.generics.Params.{Comma, bound_lifetimes_of, lone_lifetime, named_bound, held_bound}
-use Rattle.syn_mid.specs.generics.Reading as reading
 use Rattle.syn_mid.specs.generics.Reading.{sees_gt, sees_question, sees_for, comma, lt, gt, for_word, question, param_step, asked, params, binder_after, binder, optional_binder, after_question, after_binder, bare_bound, trait_bound, bound_step}
 use Rattle.syn_mid.specs.generics.Spelling.{IsParam, a_lifetime, IsBinder, a_binder, IsBareBound, a_bound, with_question, IsTraitBound, bare, in_parens, IsBound, lifetime, a_trait}
-use Rattle.syn_mid.specs.path.Paths.{Path, no_arguments}
+use Rattle.syn_mid.specs.path.Paths.{no_arguments}
 use Rattle.syn_mid.specs.path.Reading.{plain_path}
 use Rattle.syn_mid.specs.path.Spelling.{IsPlainPath}
 use Rattle.syn_mid.specs.ty.Spelling.{Relation, IsOptional, absent, present}
@@ -41,8 +38,8 @@ module _ {X : Type 0} where
   pub param_took : (s t : Stream) (x : GenericParam X) → Visible s.rest → param_step s ≡ Ok (x, t) → TookOne IsParam s t x
   unfolding param_step
   param_took s t x v e =
-      let k = mapped (read_lifetime s) (λ (z : Lifetime). g.Lifetime (lone_lifetime {X = X} z)) x t e in
-      took_as {Is = IsLifetime} {Js = IsParam} (λ (z : Lifetime). g.Lifetime (lone_lifetime {X = X} z)) s t k.value x k.is (λ l r i. a_lifetime i) (life_sound s t k.value v k.was)
+      let k = mapped (read_lifetime s) (λ (z : Lifetime). g.Lifetime (lone_lifetime {A = Attr X} z)) x t e in
+      took_as {Is = IsLifetime} {Js = IsParam} (λ (z : Lifetime). g.Lifetime (lone_lifetime {A = Attr X} z)) s t k.value x k.is (λ l r i. a_lifetime i) (life_sound s t k.value v k.was)
 
 question_sound : (s t : Stream) (q : Option (Mark 22 1)) → Visible s.rest → question s ≡ Ok (q, t) → TookOne (IsOptional (IsMark false)) s t q
 question_sound s t q v e =
@@ -70,7 +67,7 @@ module _ {X : Type 0} (P : Relation (GenericParam X)) (param : Reader (GenericPa
       listed_visible (λ (_ : Bool). sees_gt) (λ (_ : Bool). param) (λ l. not (sees_gt l)) comma (λ (_ : Bool). P) (IsMark false) Anywhere (λ (z : Stream). z.left ≡ None)
       (λ c l k. tt) (λ c a d x u i. (took a d x u i).seen) comma_seen (λ c a d x u k i. value_took a d x u i) (λ a d x u k i. comma_took a d x u i) true s t w v e
 
-  binder_took : (s t : Stream) (x : BoundLifetimesOf (GenericParam X)) → Visible s.rest → binder param s ≡ Ok (x, t) → TookOne (IsBinder false P) s t x
+  binder_took : (s t : Stream) (x : BoundLifetimes X) → Visible s.rest → binder param s ≡ Ok (x, t) → TookOne (IsBinder false P) s t x
   unfolding binder
   binder_took s t x v e =
       let c = chain (for_word s) (binder_after param) x t e in
@@ -91,10 +88,10 @@ module _ {X : Type 0} (P : Relation (GenericParam X)) (param : Reader (GenericPa
       }))
 
   abbrev Binder : Type 0
-  Binder = BoundLifetimesOf (GenericParam X)
+  Binder = BoundLifetimes X
 
   abbrev Bound : Type 0
-  Bound = TraitBoundOf (GenericParam X) X
+  Bound = TraitBound X
 
   abbrev MaybeBinder : Relation (Option Binder)
   MaybeBinder = IsOptional (IsBinder false P)
@@ -128,11 +125,11 @@ module _ {X : Type 0} (P : Relation (GenericParam X)) (param : Reader (GenericPa
             let nd = ku.left nu in
             questioned q k.value s.rest c.rest d.rest u.rest t.rest (kc.spelt (kd.left nd)) (kd.spelt nd) (ku.spelt nu) w.spelt;
       })
-  asked_at q (Some y) s c d u t x kc kd ku e = let k = chain (plain_path (no_arguments {X = X}) u) _ x t e in cc (k.goes)
+  asked_at q (Some y) s c d u t x kc kd ku e = let k = chain (plain_path (no_arguments {A = Attr X} {E = Expr X}) u) _ x t e in cc (k.goes)
 
   no_asked : (q : Mark 22 1) (y : Binder) (s t : Stream) (x : Bound) → after_question param (Some y) q s ≡ Ok (x, t) → ⊥
   unfolding after_question
-  no_asked q y s t x e = let k = chain (plain_path (no_arguments {X = X}) s) _ x t e in cc (k.goes)
+  no_asked q y s t x e = let k = chain (plain_path (no_arguments {A = Attr X} {E = Expr X}) s) _ x t e in cc (k.goes)
 
   question_at : (q : Mark 22 1) (s c d t : Stream) (x : Bound) → TookOne MaybeBinder s c None → TookOne MaybeMark c d (Some q) → after_question param None q d ≡ Ok (x, t) → TookOne Bare s t x
   unfolding after_question

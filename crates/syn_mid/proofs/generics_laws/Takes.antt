@@ -14,8 +14,8 @@ use Rattle.token_core.proofs.Suffixes.{suffix_word}
 use Rattle.token_core.proofs.Took.{mapped}
 use Rattle.token_core.proofs.Turns.{size_suffix}
 use Rattle.token_core.proofs.WordSpells.{went_on}
-use Rattle.syn_mid.specs.declared.generics.GenericParam.{GenericParam}
-use Rattle.syn_mid.specs.declared.generics.GenericParam.TheVariants as g
+use Rattle.syn_mid.specs.declared.generics.GenericParamOf.TheVariants as g
+use Rattle.syn_mid.specs.ty.Trees.{GenericParam}
 use Rattle.syn_mid.specs.Supplied.{Place}
 use Rattle.syn_mid.specs.generics.Params.{lone_lifetime}
 use Rattle.syn_mid.specs.generics.Reading.{param_step}

@@ -26,25 +26,14 @@ use Rattle.token_core.proofs.Steps.{link, chosen, Reads_to}
 use Rattle.token_core.proofs.Took.{at, leaves_none}
 use Rattle.token_core.proofs.WordSpells.{word_complete, word_seen, lifetime_complete, lifetime_seen}
 use Rattle.syn_mid.specs.declared.mac.Macro.{Macro}
-use Rattle.syn_mid.specs.declared.supplied.Expr.{Expr}
 use Rattle.syn_mid.specs.declared.supplied.Expr.TheVariants as e
 use Rattle.syn_mid.specs.declared.ty.PointerMutability.{PointerMutability}
-use Rattle.syn_mid.specs.declared.ty.Type.{«Type» as TypeTree}
-use Rattle.syn_mid.specs.declared.ty.Type.TheVariants as t
-use Rattle.syn_mid.specs.declared.ty.TypeArrayOf.{TypeArrayOf}
-use Rattle.syn_mid.specs.declared.ty.TypeInfer.{TypeInfer}
-use Rattle.syn_mid.specs.declared.ty.TypeMacro.{TypeMacro}
-use Rattle.syn_mid.specs.declared.ty.TypeNever.{TypeNever}
-use Rattle.syn_mid.specs.declared.ty.TypeParenOf.{TypeParenOf}
-use Rattle.syn_mid.specs.declared.ty.TypePathOf.{TypePathOf}
-use Rattle.syn_mid.specs.declared.ty.TypePtrOf.{TypePtrOf}
-use Rattle.syn_mid.specs.declared.ty.TypeReferenceOf.{TypeReferenceOf}
-use Rattle.syn_mid.specs.declared.ty.TypeSliceOf.{TypeSliceOf}
-use Rattle.syn_mid.specs.declared.ty.TypeTupleOf.{TypeTupleOf}
+use Rattle.syn_mid.specs.declared.ty.TypeOf.TheVariants as t
+use Rattle.syn_mid.specs.ty.Trees.{Path, TypeTree, TypeArray, TypeInfer, TypeMacro, TypeNever, TypeParen, TypePath, TypePtr, TypeReference, TypeSlice, TypeTuple}
 use Rattle.syn_mid.specs.Supplied.{Place, ArrayLen, UsesUp}
 use Rattle.syn_mid.specs.mac.Spelling.{IsCall, a_macro}
 use Rattle.syn_mid.specs.mac.Reading.{call_after}
-use Rattle.syn_mid.specs.path.Paths.{Path, nothing, no_arguments, without}
+use Rattle.syn_mid.specs.path.Paths.{nothing, no_arguments, without}
 use Rattle.syn_mid.specs.path.Reading.{sees_sep, sees_angle}
 use Rattle.syn_mid.specs.path.Spelling.{is_type_word, IsPlainPath}
 use Rattle.syn_mid.specs.ty.Knot.{ahead}
@@ -198,7 +187,7 @@ pub macro_type_complete : {X : Type 0} (x : TypeMacro X) (l r : Toks) (f : Optio
 macro_type_complete x l r f e sc (a_macro_type {x = y} i) = let k = macro_complete y l r f e sc i in record { last = k.last; reads = link _ k.reads refl }
 
 module _ {X : Type 0} where
-  pub path_type_complete : (x : TypePathOf (TypeTree X) X) (l r : Toks) (f : Option Span) (e : Span) (sc : Scope) → IsPathType true x l r → sees_sep r ≡ false → sees_angle r ≡ false → Reads_to path_type x l r f e sc
+  pub path_type_complete : (x : TypePath X) (l r : Toks) (f : Option Span) (e : Span) (sc : Scope) → IsPathType true x l r → sees_sep r ≡ false → sees_angle r ≡ false → Reads_to path_type x l r f e sc
   path_type_complete x l r f e sc (a_path_type {p = p} i) h g = let k = plain_complete no_arguments p l r f e sc i h g in record { last = k.last; reads = link _ k.reads refl }
 
   ended_complete : (plus : Bool) (x : TypeTree X) (r : Toks) (f : Option Span) (e : Span) (sc : Scope) → Ends plus r → ended plus x (at r f e sc) ≡ Ok (x, at r f e sc)
@@ -362,35 +351,35 @@ module _ {X : Type 0} (supplied : Place → Reader X) (spells : Place → X → 
     less_inside : (d : Delimiter) (a : DelimSpan) (c r : Toks) (f : Option Span) (e : Span) (sc : Scope) → ahead (at (group d a c r) f e sc) ≤ limit → ahead (content d a c r f e sc) < limit
     less_inside d a c r f e sc h = let g = content_ahead d groups.paren_name a c r f e sc in omega (arith, h, g)
 
-    pub array_complete : (x : TypeArrayOf (TypeTree X) X) (l r : Toks) (f : Option Span) (e : Span) (sc : Scope) → ahead (at l f e sc) ≤ limit → IsArray spells true T x l r → Reads_to (reading.array supplied typ) x l r f e sc
+    pub array_complete : (x : TypeArray X) (l r : Toks) (f : Option Span) (e : Span) (sc : Scope) → ahead (at l f e sc) ≤ limit → IsArray spells true T x l r → Reads_to (reading.array supplied typ) x l r f e sc
     unfolding reading.array
     array_complete x l r f a sc h (an_array {s = b} {x = y} {q = q} {n = n} {c = c} {m = m} {k = k} i j g) =
         let z = content Bracket b c r f a sc in
         let u = array_content_complete y q n c m k None none z.scope (less_inside Bracket b c r f a sc h) i j g in
         record { last = b.closing; reads = link _ (reads_inside Bracket groups.bracket_name (array_content supplied typ) (y, (q, e.Other n)) b c r u.0 f a sc u.1 (uses_none z u.0 refl u.2)) refl }
 
-    pub slice_complete : (x : TypeSliceOf (TypeTree X) X) (l r : Toks) (f : Option Span) (e : Span) (sc : Scope) → ahead (at l f e sc) ≤ limit → IsSlice spells true T x l r → Reads_to (reading.slice supplied typ) x l r f e sc
+    pub slice_complete : (x : TypeSlice X) (l r : Toks) (f : Option Span) (e : Span) (sc : Scope) → ahead (at l f e sc) ≤ limit → IsSlice spells true T x l r → Reads_to (reading.slice supplied typ) x l r f e sc
     unfolding reading.slice
     slice_complete x l r f e sc h (a_slice {s = b} {x = y} {c = c} i) =
         let z = content Bracket b c r f e sc in
         let u = c_typ true y c done None none z.scope (less_inside Bracket b c r f e sc h) i (ends_done true) in
         record { last = b.closing; reads = link _ (reads_inside Bracket groups.bracket_name (typ true) y b c r (at done None u.last z.scope) f e sc u.reads (leaves_none None u.last z.scope refl)) refl }
 
-    pub paren_complete : (x : TypeParenOf (TypeTree X) X) (l r : Toks) (f : Option Span) (e : Span) (sc : Scope) → ahead (at l f e sc) ≤ limit → IsParen spells true T false x l r → Reads_to (reading.paren supplied typ) x l r f e sc
+    pub paren_complete : (x : TypeParen X) (l r : Toks) (f : Option Span) (e : Span) (sc : Scope) → ahead (at l f e sc) ≤ limit → IsParen spells true T false x l r → Reads_to (reading.paren supplied typ) x l r f e sc
     unfolding reading.paren
     paren_complete x l r f e sc h (a_paren {s = b} {x = y} {c = c} i) =
         let z = content Parenthesis b c r f e sc in
         let u = c_typ false y c done None none z.scope (less_inside Parenthesis b c r f e sc h) i (ends_done false) in
         record { last = b.closing; reads = link _ (reads_inside Parenthesis groups.paren_name (typ false) y b c r (at done None u.last z.scope) f e sc u.reads (leaves_none None u.last z.scope refl)) refl }
 
-    pub tuple_complete : (x : TypeTupleOf (TypeTree X) X) (l r : Toks) (f : Option Span) (e : Span) (sc : Scope) → ahead (at l f e sc) ≤ limit → IsTuple spells true T x l r → Reads_to (reading.tuple supplied typ) x l r f e sc
+    pub tuple_complete : (x : TypeTuple X) (l r : Toks) (f : Option Span) (e : Span) (sc : Scope) → ahead (at l f e sc) ≤ limit → IsTuple spells true T x l r → Reads_to (reading.tuple supplied typ) x l r f e sc
     unfolding reading.tuple
     tuple_complete x l r f e sc h (a_tuple {s = b} {xs = xs} {cs = cs} {c = c} i) =
         let z = content Parenthesis b c r f e sc in
         let u = tuple_content_complete xs cs c None none z.scope (less_inside Parenthesis b c r f e sc h) i in
         record { last = b.closing; reads = link _ (reads_inside Parenthesis groups.paren_name (tuple_content supplied typ) (xs, cs) b c r (at done None u.last z.scope) f e sc u.reads (leaves_none None u.last z.scope refl)) refl }
 
-    pub ptr_complete : (x : TypePtrOf (TypeTree X) X) (l r : Toks) (f : Option Span) (e : Span) (sc : Scope) → ahead (at l f e sc) ≤ limit → IsPtr spells true T x l r → Ends false r → Reads_to (reading.ptr supplied typ) x l r f e sc
+    pub ptr_complete : (x : TypePtr X) (l r : Toks) (f : Option Span) (e : Span) (sc : Scope) → ahead (at l f e sc) ≤ limit → IsPtr spells true T x l r → Ends false r → Reads_to (reading.ptr supplied typ) x l r f e sc
     unfolding reading.ptr
     ptr_complete x l r f e sc h (a_ptr {s = b} {q = q} {x = y} {m = m} {k = k} i j g) o =
         let w = mark_complete true {n = 26} {k = 1} refl (omega arith) b l m f e sc i in
@@ -400,7 +389,7 @@ module _ {X : Type 0} (supplied : Place → Reader X) (spells : Place → X → 
         let v = c_typ false y k r f u.last sc (later l k f f e u.last sc limit (omega (arith, less, le)) h) g o in
         record { last = v.last; reads = link _ w.reads (link _ u.reads (link _ v.reads refl)) }
 
-    pub reference_complete : (x : TypeReferenceOf (TypeTree X) X) (l r : Toks) (f : Option Span) (e : Span) (sc : Scope) → ahead (at l f e sc) ≤ limit → IsReference spells true T x l r → Ends false r →
+    pub reference_complete : (x : TypeReference X) (l r : Toks) (f : Option Span) (e : Span) (sc : Scope) → ahead (at l f e sc) ≤ limit → IsReference spells true T x l r → Ends false r →
         Reads_to (reading.reference supplied typ) x l r f e sc
     unfolding reading.reference
     reference_complete x l r f e sc h (a_reference {a = b} {o = life} {q = q} {x = y} {m = m} {n = n} {k = k} i j p g) o =
@@ -416,21 +405,21 @@ module _ {X : Type 0} (supplied : Place → Reader X) (spells : Place → X → 
 
     -- ---- a type
 
-    held_array : (x : TypeArrayOf (TypeTree X) X) (l r : Toks) (f : Option Span) (e : Span) (sc : Scope) → ahead (at l f e sc) ≤ limit → IsArray spells true T x l r → Reads_to (slice_or_array supplied typ) (t.Array x) l r f e sc
+    held_array : (x : TypeArray X) (l r : Toks) (f : Option Span) (e : Span) (sc : Scope) → ahead (at l f e sc) ≤ limit → IsArray spells true T x l r → Reads_to (slice_or_array supplied typ) (t.Array x) l r f e sc
     unfolding slice_or_array
     held_array x l r f a sc h (an_array {s = b} {x = y} {q = q} {n = n} {c = c} {m = m} {k = k} i j g) =
         let z = content Bracket b c r f a sc in
         let u = brackets_counted y q n c m k None none z.scope (less_inside Bracket b c r f a sc h) i j g in
         record { last = b.closing; reads = link _ (reads_inside Bracket groups.bracket_name (bracket_content supplied typ) (counted y (q, e.Other n)) b c r u.0 f a sc u.1 (uses_none z u.0 refl u.2)) refl }
 
-    held_slice : (x : TypeSliceOf (TypeTree X) X) (l r : Toks) (f : Option Span) (e : Span) (sc : Scope) → ahead (at l f e sc) ≤ limit → IsSlice spells true T x l r → Reads_to (slice_or_array supplied typ) (t.Slice x) l r f e sc
+    held_slice : (x : TypeSlice X) (l r : Toks) (f : Option Span) (e : Span) (sc : Scope) → ahead (at l f e sc) ≤ limit → IsSlice spells true T x l r → Reads_to (slice_or_array supplied typ) (t.Slice x) l r f e sc
     unfolding slice_or_array
     held_slice x l r f e sc h (a_slice {s = b} {x = y} {c = c} i) =
         let z = content Bracket b c r f e sc in
         let u = brackets_one y c None none z.scope (less_inside Bracket b c r f e sc h) i in
         record { last = b.closing; reads = link _ (reads_inside Bracket groups.bracket_name (bracket_content supplied typ) (element y) b c r (at done None u.last z.scope) f e sc u.reads (leaves_none None u.last z.scope refl)) refl }
 
-    held_paren : (plus : Bool) (x : TypeParenOf (TypeTree X) X) (l r : Toks) (f : Option Span) (e : Span) (sc : Scope) → ahead (at l f e sc) ≤ limit → IsParen spells true T true x l r → Ends plus r →
+    held_paren : (plus : Bool) (x : TypeParen X) (l r : Toks) (f : Option Span) (e : Span) (sc : Scope) → ahead (at l f e sc) ≤ limit → IsParen spells true T true x l r → Ends plus r →
         Reads_to (paren_or_tuple supplied typ plus) (t.Paren x) l r f e sc
     unfolding paren_or_tuple
     held_paren plus x l r f e sc h (a_paren {s = b} {x = y} {c = c} i) o =
@@ -442,7 +431,7 @@ module _ {X : Type 0} (supplied : Place → Reader X) (spells : Place → X → 
               (ended_complete plus (t.Paren (paren_of (groups.paren b) y)) r f b.closing sc o);
         }
 
-    held_tuple : (plus : Bool) (x : TypeTupleOf (TypeTree X) X) (l r : Toks) (f : Option Span) (e : Span) (sc : Scope) → ahead (at l f e sc) ≤ limit → IsTuple spells true T x l r → Reads_to (paren_or_tuple supplied typ plus) (t.Tuple x) l r f e sc
+    held_tuple : (plus : Bool) (x : TypeTuple X) (l r : Toks) (f : Option Span) (e : Span) (sc : Scope) → ahead (at l f e sc) ≤ limit → IsTuple spells true T x l r → Reads_to (paren_or_tuple supplied typ plus) (t.Tuple x) l r f e sc
     unfolding paren_or_tuple
     held_tuple plus x l r f e sc h (a_tuple {s = b} {xs = xs} {cs = cs} {c = c} i) =
         let z = content Parenthesis b c r f e sc in

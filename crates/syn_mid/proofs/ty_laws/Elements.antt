@@ -8,7 +8,7 @@ use Rattle.token_core.specs.Loops.{Many, size, after, listed, terminated}
 use Rattle.token_core.proofs.Steps.{link}
 use Rattle.token_core.proofs.Takes.{named_takes}
 use Rattle.token_core.proofs.Turns as turns
-use Rattle.syn_mid.specs.declared.ty.Type.{«Type» as TypeTree}
+use Rattle.syn_mid.specs.ty.Trees.{TypeTree}
 use Rattle.syn_mid.specs.Supplied.{Place}
 use Rattle.syn_mid.specs.ty.Types.{Comma}
 use Rattle.syn_mid.specs.ty.Reading.{comma, more_elements}

@@ -1,6 +1,6 @@
 -- How a spelling of a type begins, and that it takes tokens.
 use Rattle.std.proofs.lemmas.Slice.Eq.{bytes_eq-Decides}
-use Rattle.std.proofs.Common.{◌≡◌, ℕ, zero, suc, ◌<◌, ◌≤◌, Bool, true, false, ◌||◌, List, ◌∷◌, Option, Some, None, refl, sym, ◌∙◌, ap, arith}
+use Rattle.std.proofs.Common.{◌≡◌, ℕ, ◌<◌, ◌≤◌, Bool, true, false, ◌||◌, List, ◌∷◌, Option, Some, None, refl, sym, ◌∙◌, ap, arith}
 use Rattle.token_core.specs.declared.lifetime.Lifetime.{Lifetime}
 use Rattle.token_core.specs.declared.span.Span.{Span}
 use Rattle.token_core.specs.declared.span.DelimSpan.{DelimSpan}
@@ -23,7 +23,7 @@ use Rattle.syn_mid.specs.declared.mac.Macro.{Macro}
 use Rattle.syn_mid.specs.declared.path.PathOf.{PathOf}
 use Rattle.syn_mid.specs.declared.path.PathSegmentOf.{PathSegmentOf}
 use Rattle.syn_mid.specs.declared.ty.PointerMutability.{PointerMutability}
-use Rattle.syn_mid.specs.declared.ty.Type.{«Type» as TypeTree}
+use Rattle.syn_mid.specs.ty.Trees.{TypeTree}
 use Rattle.syn_mid.specs.Supplied.{Place}
 use Rattle.syn_mid.specs.mac.Spelling.{IsCall, a_macro}
 use Rattle.syn_mid.specs.path.Paths.{Sep}

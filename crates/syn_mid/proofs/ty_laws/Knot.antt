@@ -7,7 +7,7 @@ use Rattle.token_core.specs.Reads.{Reader}
 use Rattle.token_core.specs.Stream.{Stream}
 use Rattle.syn_mid.specs.Supplied.{Place}
 use Rattle.syn_mid.specs.generics.Reading.{param_step, bound_step}
-use Rattle.syn_mid.specs.ty.Knot.{ahead, below, below_if, Point, a_type, a_bound, a_param, Tree, Readers, step, read_at, read, reads_below, ty, bound, param, types, params}
+use Rattle.syn_mid.specs.ty.Knot.{ahead, below, below_if, Point, a_type, a_bound, a_param, Readers, step, read_at, read, reads_below, ty, bound, param, types, params}
 use Rattle.syn_mid.specs.ty.Reading.{type_step}
 
 below_at : {A : Type 0} (limit : ℕ) (p q : Reader A) (s : Stream) (b : Bool) → nat_lt (ahead s) limit ≡ b → (ahead s < limit → p s ≡ q s) → below_if b p s ≡ below_if b q s

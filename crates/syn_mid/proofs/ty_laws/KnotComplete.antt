@@ -10,15 +10,7 @@ use Rattle.token_core.specs.Stream.{Stream, Scope}
 use Rattle.token_core.specs.Toks.{Toks, group}
 use Rattle.token_core.proofs.Steps.{Reads_to}
 use Rattle.token_core.proofs.Took.{at}
-use Rattle.syn_mid.specs.declared.supplied.Expr.{Expr}
-use Rattle.syn_mid.specs.declared.generics.GenericParam.{GenericParam}
-use Rattle.syn_mid.specs.declared.ty.Type.{«Type» as TypeTree}
-use Rattle.syn_mid.specs.declared.ty.TypeArrayOf.{TypeArrayOf}
-use Rattle.syn_mid.specs.declared.ty.TypeParenOf.{TypeParenOf}
-use Rattle.syn_mid.specs.declared.ty.TypePtrOf.{TypePtrOf}
-use Rattle.syn_mid.specs.declared.ty.TypeReferenceOf.{TypeReferenceOf}
-use Rattle.syn_mid.specs.declared.ty.TypeSliceOf.{TypeSliceOf}
-use Rattle.syn_mid.specs.declared.ty.TypeTupleOf.{TypeTupleOf}
+use Rattle.syn_mid.specs.ty.Trees.{GenericParam, TypeTree, TypeArray, TypeParen, TypePtr, TypeReference, TypeSlice, TypeTuple}
 use Rattle.syn_mid.specs.Supplied.{Place, UsesUp}
 use Rattle.syn_mid.specs.ty.Knot.{ahead, below, below_if, Point, a_type, a_bound, a_param, Tree, read, reads_below, types, params}
 use Rattle.syn_mid.specs.ty.Knot as knot
@@ -101,42 +93,42 @@ module _ {X : Type 0} (reads : Place → Reader X) (spells : Place → X → Tok
 
   -- ---- the reads of single forms
 
-  pub array_complete : (x : TypeArrayOf (TypeTree X) X) (l r : Toks) (f : Option Span) (e : Span) (sc : Scope) → IsSomeArray spells true x l r → Reads_to (knot.array reads) x l r f e sc
+  pub array_complete : (x : TypeArray X) (l r : Toks) (f : Option Span) (e : Span) (sc : Scope) → IsSomeArray spells true x l r → Reads_to (knot.array reads) x l r f e sc
   unfolding knot.array
   array_complete x l r f e sc i =
       let limit = ahead (at l f e sc) in
       let k = laws.array_complete reads spells complete (types reads limit) (Types i.0) limit (typed i.0 limit) (begun i.0) (shorter i.0) (lighter i.0) x l r f e sc (omega arith) i.1 in
       record { last = k.last; reads = k.reads }
 
-  pub paren_complete : (x : TypeParenOf (TypeTree X) X) (l r : Toks) (f : Option Span) (e : Span) (sc : Scope) → IsSomeParen spells true x l r → Reads_to (knot.paren reads) x l r f e sc
+  pub paren_complete : (x : TypeParen X) (l r : Toks) (f : Option Span) (e : Span) (sc : Scope) → IsSomeParen spells true x l r → Reads_to (knot.paren reads) x l r f e sc
   unfolding knot.paren
   paren_complete x l r f e sc i =
       let limit = ahead (at l f e sc) in
       let k = laws.paren_complete reads spells complete (types reads limit) (Types i.0) limit (typed i.0 limit) (begun i.0) (shorter i.0) (lighter i.0) x l r f e sc (omega arith) i.1 in
       record { last = k.last; reads = k.reads }
 
-  pub ptr_complete : (x : TypePtrOf (TypeTree X) X) (l r : Toks) (f : Option Span) (e : Span) (sc : Scope) → IsSomePtr spells true x l r → Ends false r → Reads_to (knot.ptr reads) x l r f e sc
+  pub ptr_complete : (x : TypePtr X) (l r : Toks) (f : Option Span) (e : Span) (sc : Scope) → IsSomePtr spells true x l r → Ends false r → Reads_to (knot.ptr reads) x l r f e sc
   unfolding knot.ptr
   ptr_complete x l r f e sc i o =
       let limit = ahead (at l f e sc) in
       let k = laws.ptr_complete reads spells complete (types reads limit) (Types i.0) limit (typed i.0 limit) (begun i.0) (shorter i.0) (lighter i.0) x l r f e sc (omega arith) i.1 o in
       record { last = k.last; reads = k.reads }
 
-  pub reference_complete : (x : TypeReferenceOf (TypeTree X) X) (l r : Toks) (f : Option Span) (e : Span) (sc : Scope) → IsSomeReference spells true x l r → Ends false r → Reads_to (knot.reference reads) x l r f e sc
+  pub reference_complete : (x : TypeReference X) (l r : Toks) (f : Option Span) (e : Span) (sc : Scope) → IsSomeReference spells true x l r → Ends false r → Reads_to (knot.reference reads) x l r f e sc
   unfolding knot.reference
   reference_complete x l r f e sc i o =
       let limit = ahead (at l f e sc) in
       let k = laws.reference_complete reads spells complete (types reads limit) (Types i.0) limit (typed i.0 limit) (begun i.0) (shorter i.0) (lighter i.0) x l r f e sc (omega arith) i.1 o in
       record { last = k.last; reads = k.reads }
 
-  pub slice_complete : (x : TypeSliceOf (TypeTree X) X) (l r : Toks) (f : Option Span) (e : Span) (sc : Scope) → IsSomeSlice spells true x l r → Reads_to (knot.slice reads) x l r f e sc
+  pub slice_complete : (x : TypeSlice X) (l r : Toks) (f : Option Span) (e : Span) (sc : Scope) → IsSomeSlice spells true x l r → Reads_to (knot.slice reads) x l r f e sc
   unfolding knot.slice
   slice_complete x l r f e sc i =
       let limit = ahead (at l f e sc) in
       let k = laws.slice_complete reads spells complete (types reads limit) (Types i.0) limit (typed i.0 limit) (begun i.0) (shorter i.0) (lighter i.0) x l r f e sc (omega arith) i.1 in
       record { last = k.last; reads = k.reads }
 
-  pub tuple_complete : (x : TypeTupleOf (TypeTree X) X) (l r : Toks) (f : Option Span) (e : Span) (sc : Scope) → IsSomeTuple spells true x l r → Reads_to (knot.tuple reads) x l r f e sc
+  pub tuple_complete : (x : TypeTuple X) (l r : Toks) (f : Option Span) (e : Span) (sc : Scope) → IsSomeTuple spells true x l r → Reads_to (knot.tuple reads) x l r f e sc
   unfolding knot.tuple
   tuple_complete x l r f e sc i =
       let limit = ahead (at l f e sc) in

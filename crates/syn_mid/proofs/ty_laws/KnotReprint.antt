@@ -4,15 +4,7 @@ use Rattle.token_core.specs.Prints.{Print}
 use Rattle.token_core.specs.Reads.{Reader}
 use Rattle.token_core.specs.Stream.{Stream}
 use Rattle.token_core.specs.Toks.{Toks}
-use Rattle.syn_mid.specs.declared.supplied.Expr.{Expr}
-use Rattle.syn_mid.specs.declared.generics.TypeParamBound.{TypeParamBound}
-use Rattle.syn_mid.specs.declared.ty.Type.{«Type» as TypeTree}
-use Rattle.syn_mid.specs.declared.ty.TypeArrayOf.{TypeArrayOf}
-use Rattle.syn_mid.specs.declared.ty.TypeParenOf.{TypeParenOf}
-use Rattle.syn_mid.specs.declared.ty.TypePtrOf.{TypePtrOf}
-use Rattle.syn_mid.specs.declared.ty.TypeReferenceOf.{TypeReferenceOf}
-use Rattle.syn_mid.specs.declared.ty.TypeSliceOf.{TypeSliceOf}
-use Rattle.syn_mid.specs.declared.ty.TypeTupleOf.{TypeTupleOf}
+use Rattle.syn_mid.specs.ty.Trees.{TypeParamBound, TypeTree, TypeArray, TypeParen, TypePtr, TypeReference, TypeSlice, TypeTuple}
 use Rattle.syn_mid.specs.Supplied.{Place, UsesUp, Reprints}
 use Rattle.syn_mid.specs.ty.Knot.{Point, a_type, a_bound, a_param, Tree}
 use Rattle.syn_mid.specs.ty.Normal as normal
@@ -56,32 +48,32 @@ module _ {X : Type 0} (reads : Place → Reader X) (spells : Place → X → Tok
   pub bound_again : (x : TypeParamBound X) (l r : Toks) → IsSomeBound spells false x l r → AgainFront (IsSomeBound spells true) (normal.bound normals) (printing.bound prints) x l r
   bound_again x l r i = some_front (λ n. Below spells true n a_bound) (normal.bound normals) (printing.bound prints) i.0 x l r (again_at i.0 a_bound x l r i.1)
 
-  pub array_again : (x : TypeArrayOf (TypeTree X) X) (l r : Toks) → IsSomeArray spells false x l r → AgainFront (IsSomeArray spells true) (normal.array normals) (printing.array prints) x l r
+  pub array_again : (x : TypeArray X) (l r : Toks) → IsSomeArray spells false x l r → AgainFront (IsSomeArray spells true) (normal.array normals) (printing.array prints) x l r
   array_again x l r i =
       some_front (λ n. IsArray spells true (TypeBelow spells true n)) (normal.array normals) (printing.array prints) i.0 x l r
       (array_front reads spells normals prints complete reprint (TypeBelow spells false i.0) (TypeBelow spells true i.0) (below_again i.0) x l r i.1)
 
-  pub paren_again : (x : TypeParenOf (TypeTree X) X) (l r : Toks) → IsSomeParen spells false x l r → AgainFront (IsSomeParen spells true) (normal.paren normals) (printing.paren prints) x l r
+  pub paren_again : (x : TypeParen X) (l r : Toks) → IsSomeParen spells false x l r → AgainFront (IsSomeParen spells true) (normal.paren normals) (printing.paren prints) x l r
   paren_again x l r i =
       some_front (λ n. IsParen spells true (TypeBelow spells true n) false) (normal.paren normals) (printing.paren prints) i.0 x l r
       (paren_front reads spells normals prints complete reprint (TypeBelow spells false i.0) (TypeBelow spells true i.0) (below_again i.0) false x l r i.1)
 
-  pub ptr_again : (x : TypePtrOf (TypeTree X) X) (l r : Toks) → IsSomePtr spells false x l r → AgainFront (IsSomePtr spells true) (normal.ptr normals) (printing.ptr prints) x l r
+  pub ptr_again : (x : TypePtr X) (l r : Toks) → IsSomePtr spells false x l r → AgainFront (IsSomePtr spells true) (normal.ptr normals) (printing.ptr prints) x l r
   ptr_again x l r i =
       some_front (λ n. IsPtr spells true (TypeBelow spells true n)) (normal.ptr normals) (printing.ptr prints) i.0 x l r
       (ptr_front reads spells normals prints complete reprint (TypeBelow spells false i.0) (TypeBelow spells true i.0) (below_again i.0) x l r i.1)
 
-  pub reference_again : (x : TypeReferenceOf (TypeTree X) X) (l r : Toks) → IsSomeReference spells false x l r → AgainFront (IsSomeReference spells true) (normal.reference normals) (printing.reference prints) x l r
+  pub reference_again : (x : TypeReference X) (l r : Toks) → IsSomeReference spells false x l r → AgainFront (IsSomeReference spells true) (normal.reference normals) (printing.reference prints) x l r
   reference_again x l r i =
       some_front (λ n. IsReference spells true (TypeBelow spells true n)) (normal.reference normals) (printing.reference prints) i.0 x l r
       (reference_front reads spells normals prints complete reprint (TypeBelow spells false i.0) (TypeBelow spells true i.0) (below_again i.0) x l r i.1)
 
-  pub slice_again : (x : TypeSliceOf (TypeTree X) X) (l r : Toks) → IsSomeSlice spells false x l r → AgainFront (IsSomeSlice spells true) (normal.slice normals) (printing.slice prints) x l r
+  pub slice_again : (x : TypeSlice X) (l r : Toks) → IsSomeSlice spells false x l r → AgainFront (IsSomeSlice spells true) (normal.slice normals) (printing.slice prints) x l r
   slice_again x l r i =
       some_front (λ n. IsSlice spells true (TypeBelow spells true n)) (normal.slice normals) (printing.slice prints) i.0 x l r
       (slice_front reads spells normals prints complete reprint (TypeBelow spells false i.0) (TypeBelow spells true i.0) (below_again i.0) x l r i.1)
 
-  pub tuple_again : (x : TypeTupleOf (TypeTree X) X) (l r : Toks) → IsSomeTuple spells false x l r → AgainFront (IsSomeTuple spells true) (normal.tuple normals) (printing.tuple prints) x l r
+  pub tuple_again : (x : TypeTuple X) (l r : Toks) → IsSomeTuple spells false x l r → AgainFront (IsSomeTuple spells true) (normal.tuple normals) (printing.tuple prints) x l r
   tuple_again x l r i =
       some_front (λ n. IsTuple spells true (TypeBelow spells true n)) (normal.tuple normals) (printing.tuple prints) i.0 x l r
       (tuple_front reads spells normals prints complete reprint (TypeBelow spells false i.0) (TypeBelow spells true i.0) (below_again i.0) x l r i.1)

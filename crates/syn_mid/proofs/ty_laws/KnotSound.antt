@@ -4,14 +4,7 @@ use Rattle.token_core.specs.Toks.{Toks}
 use Rattle.token_core.specs.Rebuilt.{Visible}
 use Rattle.token_core.specs.Reads.{Reader, leaves}
 use Rattle.token_core.specs.Stream.{Stream}
-use Rattle.syn_mid.specs.declared.supplied.Expr.{Expr}
-use Rattle.syn_mid.specs.declared.ty.Type.{«Type» as TypeTree}
-use Rattle.syn_mid.specs.declared.ty.TypeArrayOf.{TypeArrayOf}
-use Rattle.syn_mid.specs.declared.ty.TypeParenOf.{TypeParenOf}
-use Rattle.syn_mid.specs.declared.ty.TypePtrOf.{TypePtrOf}
-use Rattle.syn_mid.specs.declared.ty.TypeReferenceOf.{TypeReferenceOf}
-use Rattle.syn_mid.specs.declared.ty.TypeSliceOf.{TypeSliceOf}
-use Rattle.syn_mid.specs.declared.ty.TypeTupleOf.{TypeTupleOf}
+use Rattle.syn_mid.specs.ty.Trees.{TypeTree, TypeArray, TypeParen, TypePtr, TypeReference, TypeSlice, TypeTuple}
 use Rattle.syn_mid.specs.Supplied.{Place, UsesUp}
 use Rattle.syn_mid.specs.ty.Knot as knot
 use Rattle.syn_mid.specs.ty.Knot.{ahead, Point, a_type, a_bound, a_param, Tree, types, params}
@@ -55,32 +48,32 @@ module _ {X : Type 0} (reads : Place → Reader X) (spells : Place → X → Tok
   pub some_sound : (q : Point) (s t : Stream) (x : Tree X q) → Visible s.rest → knot.read reads q s ≡ Ok (x, t) → TookOne (IsSome spells false q) s t x
   some_sound q s t x v e = at_height {Is = λ n. Below spells false n q} (suc (ahead s)) s t x (below_took (suc (ahead s)) q s t x (omega arith) v e)
 
-  pub array_sound : (s t : Stream) (x : TypeArrayOf (TypeTree X) X) → Visible s.rest → knot.array reads s ≡ Ok (x, t) → TookOne (IsSomeArray spells false) s t x
+  pub array_sound : (s t : Stream) (x : TypeArray X) → Visible s.rest → knot.array reads s ≡ Ok (x, t) → TookOne (IsSomeArray spells false) s t x
   unfolding knot.array
   array_sound s t x v e =
       at_height {Is = λ n. IsArray spells false (T n)} (ahead s) s t x (array_took reads spells sound complete (T (ahead s)) (types reads (ahead s)) (types_sound (ahead s)) s t x v e)
 
-  pub paren_sound : (s t : Stream) (x : TypeParenOf (TypeTree X) X) → Visible s.rest → knot.paren reads s ≡ Ok (x, t) → TookOne (IsSomeParen spells false) s t x
+  pub paren_sound : (s t : Stream) (x : TypeParen X) → Visible s.rest → knot.paren reads s ≡ Ok (x, t) → TookOne (IsSomeParen spells false) s t x
   unfolding knot.paren
   paren_sound s t x v e =
       at_height {Is = λ n. IsParen spells false (T n) false} (ahead s) s t x (paren_took reads spells sound complete (T (ahead s)) (types reads (ahead s)) (types_sound (ahead s)) s t x v e)
 
-  pub ptr_sound : (s t : Stream) (x : TypePtrOf (TypeTree X) X) → Visible s.rest → knot.ptr reads s ≡ Ok (x, t) → TookOne (IsSomePtr spells false) s t x
+  pub ptr_sound : (s t : Stream) (x : TypePtr X) → Visible s.rest → knot.ptr reads s ≡ Ok (x, t) → TookOne (IsSomePtr spells false) s t x
   unfolding knot.ptr
   ptr_sound s t x v e =
       at_height {Is = λ n. IsPtr spells false (T n)} (ahead s) s t x (ptr_took reads spells sound complete (T (ahead s)) (types reads (ahead s)) (types_sound (ahead s)) s t x v e)
 
-  pub reference_sound : (s t : Stream) (x : TypeReferenceOf (TypeTree X) X) → Visible s.rest → knot.reference reads s ≡ Ok (x, t) → TookOne (IsSomeReference spells false) s t x
+  pub reference_sound : (s t : Stream) (x : TypeReference X) → Visible s.rest → knot.reference reads s ≡ Ok (x, t) → TookOne (IsSomeReference spells false) s t x
   unfolding knot.reference
   reference_sound s t x v e =
       at_height {Is = λ n. IsReference spells false (T n)} (ahead s) s t x (reference_took reads spells sound complete (T (ahead s)) (types reads (ahead s)) (types_sound (ahead s)) s t x v e)
 
-  pub slice_sound : (s t : Stream) (x : TypeSliceOf (TypeTree X) X) → Visible s.rest → knot.slice reads s ≡ Ok (x, t) → TookOne (IsSomeSlice spells false) s t x
+  pub slice_sound : (s t : Stream) (x : TypeSlice X) → Visible s.rest → knot.slice reads s ≡ Ok (x, t) → TookOne (IsSomeSlice spells false) s t x
   unfolding knot.slice
   slice_sound s t x v e =
       at_height {Is = λ n. IsSlice spells false (T n)} (ahead s) s t x (slice_took reads spells sound complete (T (ahead s)) (types reads (ahead s)) (types_sound (ahead s)) s t x v e)
 
-  pub tuple_sound : (s t : Stream) (x : TypeTupleOf (TypeTree X) X) → Visible s.rest → knot.tuple reads s ≡ Ok (x, t) → TookOne (IsSomeTuple spells false) s t x
+  pub tuple_sound : (s t : Stream) (x : TypeTuple X) → Visible s.rest → knot.tuple reads s ≡ Ok (x, t) → TookOne (IsSomeTuple spells false) s t x
   unfolding knot.tuple
   tuple_sound s t x v e =
       at_height {Is = λ n. IsTuple spells false (T n)} (ahead s) s t x (tuple_took reads spells sound complete (T (ahead s)) (types reads (ahead s)) (types_sound (ahead s)) s t x v e)

@@ -10,20 +10,8 @@ use Rattle.token_core.specs.Stream.{Stream}
 use Rattle.token_core.specs.Toks.{Toks, done}
 use Rattle.token_core.proofs.Steps.{Reads_to}
 use Rattle.token_core.proofs.Took.{at, took_all, leaves_none}
-use Rattle.syn_mid.specs.declared.supplied.Expr.{Expr}
-use Rattle.syn_mid.specs.declared.generics.TypeParamBound.{TypeParamBound}
 use Rattle.syn_mid.specs.declared.ty.PointerMutability.{PointerMutability}
-use Rattle.syn_mid.specs.declared.ty.Type.{«Type» as TypeTree}
-use Rattle.syn_mid.specs.declared.ty.TypeArrayOf.{TypeArrayOf}
-use Rattle.syn_mid.specs.declared.ty.TypeInfer.{TypeInfer}
-use Rattle.syn_mid.specs.declared.ty.TypeMacro.{TypeMacro}
-use Rattle.syn_mid.specs.declared.ty.TypeNever.{TypeNever}
-use Rattle.syn_mid.specs.declared.ty.TypeParenOf.{TypeParenOf}
-use Rattle.syn_mid.specs.declared.ty.TypePathOf.{TypePathOf}
-use Rattle.syn_mid.specs.declared.ty.TypePtrOf.{TypePtrOf}
-use Rattle.syn_mid.specs.declared.ty.TypeReferenceOf.{TypeReferenceOf}
-use Rattle.syn_mid.specs.declared.ty.TypeSliceOf.{TypeSliceOf}
-use Rattle.syn_mid.specs.declared.ty.TypeTupleOf.{TypeTupleOf}
+use Rattle.syn_mid.specs.ty.Trees.{TypeParamBound, TypeTree, TypeArray, TypeInfer, TypeMacro, TypeNever, TypeParen, TypePath, TypePtr, TypeReference, TypeSlice, TypeTuple}
 use Rattle.syn_mid.specs.Supplied.{Place, UsesUp, Reprints}
 use Rattle.syn_mid.specs.ty.Grammars as grammars
 use Rattle.syn_mid.specs.ty.Reading as reading
@@ -98,7 +86,7 @@ module _ {X : Type 0} where
   pub path_type_lawful : (reads : Place → Reader X) (spells : Place → X → Toks → Type 0) (normals : Place → X → X) (prints : Place → X → Print) → Lawful (grammars.path_type reads spells normals prints)
   path_type_lawful reads spells normals prints = lawful_by (λ clear. IsPathType clear) (normal.path_type normals) (printing.path_type prints) reading.path_type (λ s t a v e. plainly {Is = IsPathType false} sound_parts.visible_path_type s t a v (sound_parts.path_type_sound s t a v e)) (λ s a h. complete_parts.path_type_complete a s.rest done s.left s.last s.scope h (ends_done false).sep (ends_done false).angle) (reprint_parts.path_type_again normals prints)
 
-  pub path_type_front : (s t : Stream) (q : Result (TypePathOf (TypeTree X) X) Refusal) → Reads (reading.path_type s) q t → Visible s.rest → IfOk q (λ x. IsPathType false x s.rest t.rest)
+  pub path_type_front : (s t : Stream) (q : Result (TypePath X) Refusal) → Reads (reading.path_type s) q t → Visible s.rest → IfOk q (λ x. IsPathType false x s.rest t.rest)
   path_type_front = taken_front {Is = IsPathType false} reading.path_type sound_parts.path_type_sound
 
 -- ---- types that hold types
@@ -125,40 +113,40 @@ module _ {X : Type 0} (reads : Place → Reader X) (spells : Place → X → Tok
   array_lawful = lawful_by (IsSomeArray spells) (normal.array normals) (printing.array prints) (knot.array reads) (o.array_sound reads spells sound complete)
       (λ s a h. c.array_complete reads spells complete a s.rest done s.left s.last s.scope h) (r.array_again reads spells normals prints complete reprint)
 
-  pub array_front : (s t : Stream) (q : Result (TypeArrayOf (TypeTree X) X) Refusal) → Reads (knot.array reads s) q t → Visible s.rest → t.left ≡ None → IfOk q (λ x. IsSomeArray spells false x s.rest t.rest)
+  pub array_front : (s t : Stream) (q : Result (TypeArray X) Refusal) → Reads (knot.array reads s) q t → Visible s.rest → t.left ≡ None → IfOk q (λ x. IsSomeArray spells false x s.rest t.rest)
   array_front = front_by (IsSomeArray spells) (normal.array normals) (printing.array prints) (knot.array reads) (o.array_sound reads spells sound complete)
 
   pub paren_lawful : Lawful (grammars.paren reads spells normals prints)
   paren_lawful = lawful_by (IsSomeParen spells) (normal.paren normals) (printing.paren prints) (knot.paren reads) (o.paren_sound reads spells sound complete)
       (λ s a h. c.paren_complete reads spells complete a s.rest done s.left s.last s.scope h) (r.paren_again reads spells normals prints complete reprint)
 
-  pub paren_front : (s t : Stream) (q : Result (TypeParenOf (TypeTree X) X) Refusal) → Reads (knot.paren reads s) q t → Visible s.rest → t.left ≡ None → IfOk q (λ x. IsSomeParen spells false x s.rest t.rest)
+  pub paren_front : (s t : Stream) (q : Result (TypeParen X) Refusal) → Reads (knot.paren reads s) q t → Visible s.rest → t.left ≡ None → IfOk q (λ x. IsSomeParen spells false x s.rest t.rest)
   paren_front = front_by (IsSomeParen spells) (normal.paren normals) (printing.paren prints) (knot.paren reads) (o.paren_sound reads spells sound complete)
 
   pub ptr_lawful : Lawful (grammars.ptr reads spells normals prints)
   ptr_lawful = lawful_by (IsSomePtr spells) (normal.ptr normals) (printing.ptr prints) (knot.ptr reads) (o.ptr_sound reads spells sound complete)
       (λ s a h. c.ptr_complete reads spells complete a s.rest done s.left s.last s.scope h (ends_done false)) (r.ptr_again reads spells normals prints complete reprint)
 
-  pub ptr_front : (s t : Stream) (q : Result (TypePtrOf (TypeTree X) X) Refusal) → Reads (knot.ptr reads s) q t → Visible s.rest → t.left ≡ None → IfOk q (λ x. IsSomePtr spells false x s.rest t.rest)
+  pub ptr_front : (s t : Stream) (q : Result (TypePtr X) Refusal) → Reads (knot.ptr reads s) q t → Visible s.rest → t.left ≡ None → IfOk q (λ x. IsSomePtr spells false x s.rest t.rest)
   ptr_front = front_by (IsSomePtr spells) (normal.ptr normals) (printing.ptr prints) (knot.ptr reads) (o.ptr_sound reads spells sound complete)
 
   pub reference_lawful : Lawful (grammars.reference reads spells normals prints)
   reference_lawful = lawful_by (IsSomeReference spells) (normal.reference normals) (printing.reference prints) (knot.reference reads) (o.reference_sound reads spells sound complete)
       (λ s a h. c.reference_complete reads spells complete a s.rest done s.left s.last s.scope h (ends_done false)) (r.reference_again reads spells normals prints complete reprint)
 
-  pub reference_front : (s t : Stream) (q : Result (TypeReferenceOf (TypeTree X) X) Refusal) → Reads (knot.reference reads s) q t → Visible s.rest → t.left ≡ None → IfOk q (λ x. IsSomeReference spells false x s.rest t.rest)
+  pub reference_front : (s t : Stream) (q : Result (TypeReference X) Refusal) → Reads (knot.reference reads s) q t → Visible s.rest → t.left ≡ None → IfOk q (λ x. IsSomeReference spells false x s.rest t.rest)
   reference_front = front_by (IsSomeReference spells) (normal.reference normals) (printing.reference prints) (knot.reference reads) (o.reference_sound reads spells sound complete)
 
   pub slice_lawful : Lawful (grammars.slice reads spells normals prints)
   slice_lawful = lawful_by (IsSomeSlice spells) (normal.slice normals) (printing.slice prints) (knot.slice reads) (o.slice_sound reads spells sound complete)
       (λ s a h. c.slice_complete reads spells complete a s.rest done s.left s.last s.scope h) (r.slice_again reads spells normals prints complete reprint)
 
-  pub slice_front : (s t : Stream) (q : Result (TypeSliceOf (TypeTree X) X) Refusal) → Reads (knot.slice reads s) q t → Visible s.rest → t.left ≡ None → IfOk q (λ x. IsSomeSlice spells false x s.rest t.rest)
+  pub slice_front : (s t : Stream) (q : Result (TypeSlice X) Refusal) → Reads (knot.slice reads s) q t → Visible s.rest → t.left ≡ None → IfOk q (λ x. IsSomeSlice spells false x s.rest t.rest)
   slice_front = front_by (IsSomeSlice spells) (normal.slice normals) (printing.slice prints) (knot.slice reads) (o.slice_sound reads spells sound complete)
 
   pub tuple_lawful : Lawful (grammars.tuple reads spells normals prints)
   tuple_lawful = lawful_by (IsSomeTuple spells) (normal.tuple normals) (printing.tuple prints) (knot.tuple reads) (o.tuple_sound reads spells sound complete)
       (λ s a h. c.tuple_complete reads spells complete a s.rest done s.left s.last s.scope h) (r.tuple_again reads spells normals prints complete reprint)
 
-  pub tuple_front : (s t : Stream) (q : Result (TypeTupleOf (TypeTree X) X) Refusal) → Reads (knot.tuple reads s) q t → Visible s.rest → t.left ≡ None → IfOk q (λ x. IsSomeTuple spells false x s.rest t.rest)
+  pub tuple_front : (s t : Stream) (q : Result (TypeTuple X) Refusal) → Reads (knot.tuple reads s) q t → Visible s.rest → t.left ≡ None → IfOk q (λ x. IsSomeTuple spells false x s.rest t.rest)
   tuple_front = front_by (IsSomeTuple spells) (normal.tuple normals) (printing.tuple prints) (knot.tuple reads) (o.tuple_sound reads spells sound complete)

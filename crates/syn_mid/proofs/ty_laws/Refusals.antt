@@ -10,7 +10,7 @@ use Rattle.token_core.specs.Toks.{Bytes}
 use Rattle.token_core.specs.Reads.{Reader, Outcome, and_then, pure, closing, in_group, open_group, is_done}
 use Rattle.token_core.proofs.Steps.{link, chosen}
 use Rattle.token_core.proofs.Turns.{same_pair}
-use Rattle.syn_mid.specs.declared.ty.Type.{«Type» as TypeTree}
+use Rattle.syn_mid.specs.ty.Trees.{TypeTree}
 use Rattle.syn_mid.specs.Supplied.{Place}
 use Rattle.syn_mid.specs.ty.Types.{array_of}
 use Rattle.syn_mid.specs.ty.Reading.{elements, counted, Length, length, more_elements, array, array_content, paren_content, bracket_content, paren_or_tuple, slice_or_array, held_in_parens, held_in_brackets, sees_comma, sees_semi}

@@ -1,8 +1,9 @@
 -- The print of a type spells its normal form clearly, where that of the types within does.
-use Rattle.std.proofs.Common.{◌≡◌, ℕ, Bool, true, false, List, [], ◌∷◌, ◌++◌, map, Option, Ok, refl, sym, ◌∙◌, ap, subst, append-nil}
+use Rattle.std.proofs.Common.{◌≡◌, ℕ, Bool, true, false, List, [], ◌∷◌, ◌++◌, map, Option, None, Ok, refl, sym, ◌∙◌, ap, subst, append-nil}
 use Rattle.token_core.specs.declared.lifetime.Lifetime.{Lifetime}
 use Rattle.token_core.specs.declared.mark.Mark.{Mark}
 use Rattle.token_core.specs.declared.tree.Delimiter.TheVariants.{Parenthesis, Bracket}
+use Rattle.token_core.specs.declared.tree.Ident.{Ident}
 use Rattle.token_core.specs.declared.word.Word.{Word}
 use Rattle.token_core.specs.Groups as groups
 use Rattle.token_core.specs.Listed.{AreListed, none_left, last_value, value_and_mark, Anywhere}
@@ -24,36 +25,27 @@ use Rattle.syn_mid.specs.declared.path.PathStyle.TheVariants.{AsWritten}
 use Rattle.syn_mid.specs.declared.supplied.Expr.{Expr}
 use Rattle.syn_mid.specs.declared.supplied.Expr.TheVariants as e
 use Rattle.syn_mid.specs.declared.ty.PointerMutability.{PointerMutability}
-use Rattle.syn_mid.specs.declared.ty.Type.{«Type» as TypeTree}
-use Rattle.syn_mid.specs.declared.ty.Type.TheVariants as v
-use Rattle.syn_mid.specs.declared.ty.TypeArrayOf.{TypeArrayOf}
-use Rattle.syn_mid.specs.declared.ty.TypeInfer.{TypeInfer}
-use Rattle.syn_mid.specs.declared.ty.TypeMacro.{TypeMacro}
-use Rattle.syn_mid.specs.declared.ty.TypeNever.{TypeNever}
-use Rattle.syn_mid.specs.declared.ty.TypeParenOf.{TypeParenOf}
-use Rattle.syn_mid.specs.declared.ty.TypePathOf.{TypePathOf}
-use Rattle.syn_mid.specs.declared.ty.TypePtrOf.{TypePtrOf}
-use Rattle.syn_mid.specs.declared.ty.TypeReferenceOf.{TypeReferenceOf}
-use Rattle.syn_mid.specs.declared.ty.TypeSliceOf.{TypeSliceOf}
-use Rattle.syn_mid.specs.declared.ty.TypeTupleOf.{TypeTupleOf}
+use Rattle.syn_mid.specs.declared.ty.TypeOf.TheVariants as v
+use Rattle.syn_mid.specs.ty.Trees.{Path, PathSegment, TypeTree, TypeArray, TypeInfer, TypeMacro, TypeNever, TypeParen, TypePath, TypePtr, TypeReference, TypeSlice, TypeTuple}
 use Rattle.syn_mid.specs.Supplied.{Place, ArrayLen, UsesUp, Reprints}
 use Rattle.syn_mid.specs.mac.Printing.{mac}
 use Rattle.syn_mid.specs.mac.Spelling.{IsCall}
-use Rattle.syn_mid.specs.path.Paths.{no_arguments}
-use Rattle.syn_mid.specs.path.Printing.{path, arguments}
+use Rattle.syn_mid.specs.path.Paths.{Sep, no_arguments, segment_of, path_of}
+use Rattle.syn_mid.specs.path.Printing.{path}
+use Rattle.syn_mid.specs.path.Spelling.{AreSegments, last_segment, more_segments, IsBarePath, a_bare_path, IsPlainPath}
 use Rattle.syn_mid.specs.ty.Normal as normal
 use Rattle.syn_mid.specs.ty.Printing as printing
-use Rattle.syn_mid.specs.ty.Printing.{lone_comma}
+use Rattle.syn_mid.specs.ty.Printing.{arguments, lone_comma}
 use Rattle.syn_mid.specs.ty.Spelling.{Relation, IsOptional, absent, present, IsMutability, a_const, a_mut, IsInfer, an_infer, IsNever, a_never, IsPathType, a_path_type, IsMacroType, a_macro_type, AreElements, no_elements, some_elements, IsTuple, a_tuple, IsParen, a_paren, IsSlice, a_slice, IsArray, an_array, IsPtr, a_ptr, IsReference, a_reference, IsType, array, infer, macro_call, never, paren, path as a_path, ptr, reference, slice, tuple}
-use Rattle.syn_mid.specs.ty.Types.{Comma, Mut, array_of, macro_type_of, paren_of, ptr_of, reference_of, slice_of, tuple_of, is_try_path}
+use Rattle.syn_mid.specs.ty.Types.{Comma, Mut, array_of, macro_type_of, paren_of, path_of_type, path_type_of, ptr_of, reference_of, slice_of, tuple_of, is_try_path}
 use Rattle.syn_mid.proofs.attr_laws.Reprint.{Again, AgainFront, row-group, supplied_stays}
 use Rattle.syn_mid.proofs.mac_laws.Reprint.{macro_again, whole_macro, held_visible}
 use Rattle.syn_mid.proofs.mac_laws.Sound.{visible_call}
 use Rattle.syn_mid.proofs.path_laws.Laws.{whole_path}
 use Rattle.syn_mid.proofs.path_laws.Reprint.{path_again}
 use Rattle.syn_mid.proofs.path_laws.Sound.{visible_path}
-use Rattle.syn_mid.proofs.ty_laws.Normal.{normal-Array, normal-Infer, normal-Macro, normal-Never, normal-Paren, normal-Path, normal-Ptr, normal-Reference, normal-Slice, normal-Tuple}
-use Rattle.syn_mid.proofs.ty_laws.Prints.{ty-Array, ty-Infer, ty-Macro, ty-Never, ty-Paren, ty-Path, ty-Ptr, ty-Reference, ty-Slice, ty-Tuple}
+use Rattle.syn_mid.proofs.ty_laws.Normal.{normal-None, path_type_normal, normal-Array, normal-Infer, normal-Macro, normal-Never, normal-Paren, normal-Path, normal-Ptr, normal-Reference, normal-Slice, normal-Tuple}
+use Rattle.syn_mid.proofs.ty_laws.Prints.{arguments-None, path_type_parts, ty-Array, ty-Infer, ty-Macro, ty-Never, ty-Paren, ty-Path, ty-Ptr, ty-Reference, ty-Slice, ty-Tuple}
 use Rattle.syn_mid.proofs.attr_laws.Prints.{place_other, normal_place}
 
 -- ---- marks, words and lifetimes, which are their own normal forms
@@ -117,18 +109,65 @@ call_front x l r i =
       same = refl;
     }
 
-module _ {X : Type 0} where
-  pub path_type_again : (nx : Place → X → X) (px : Place → X → Print) (x : TypePathOf (TypeTree X) X) (l r : Toks) → IsPathType false x l r → AgainFront (IsPathType true) (normal.path_type nx) (printing.path_type px) x l r
-  path_type_again nx px x l r (a_path_type {p = q} i) =
-      let again = λ (h : Toks). path_again no_arguments (arguments AsWritten) refl false q l r h i in
+-- where the normal form of a tree is itself, and its print is known
+module _ {A : Type 0} (S : A → Toks → Toks → Type 0) (n : A → A) (pr pq : A → Print) where
+  pub stays_front : (x : A) (l r : Toks) → n x ≡ x → pr x ≡ pq x → AgainFront S (λ (z : A). z) pq x l r → AgainFront S n pr x l r
+  stays_front x l r is prints k =
       record {
-        spelt = λ h. a_path_type (again h);
-        visible = λ h u w. whole_path true q (row (path AsWritten q) h) h (again h) w;
-        seen = λ u. visible_path q l r i u;
-        stays = refl;
-        same = refl;
+        spelt = λ h. subst (λ z. S z (row (pr x) h) h) (sym is) (subst (λ z. S x (row z h) h) (sym prints) (k.spelt h));
+        visible = λ h u w. subst (λ z. Visible (row z h)) (sym prints) (k.visible h u w);
+        seen = λ u. k.seen u;
+        stays = ap n is;
+        same = ap pr is;
       }
 
+-- ---- paths without arguments
+
+module _ {X : Type 0} (nx : Place → X → X) where
+  segment_stays : (i : Ident) → normal.segment nx (segment_of no_arguments i) ≡ segment_of no_arguments i
+  segment_stays i = ap (λ z. segment_of z i) (normal-None nx)
+
+  module _ {clear : Bool} {ok : Bytes → Bool} where
+    segments_stay : (all : List (PathSegment X)) (seps : List Sep) (l r : Toks) → AreSegments clear ok no_arguments all seps l r → map (normal.segment nx) all ≡ all
+    segments_stay all seps l r (last_segment {i = i} h) = ap (λ z. z ∷ []) (segment_stays i)
+    segments_stay all seps l r (more_segments {i = i} {all = xs} {seps = ps} {l = m} h a k) =
+        ap (λ z. z ∷ map (normal.segment nx) xs) (segment_stays i) ∙ ap (λ z. segment_of no_arguments i ∷ z) (segments_stay xs ps m r k)
+
+    -- such a path is its own normal form
+    pub path_stays : (x : Path X) (l r : Toks) → IsBarePath clear ok no_arguments x l r → normal.path nx x ≡ x
+    path_stays x l r (a_bare_path {o = o} {all = all} {seps = seps} {m = m} i k) = ap (λ z. path_of o (z, seps)) (segments_stay all seps m r k)
+
+module _ {X : Type 0} (nx : Place → X → X) (px : Place → X → Print) where
+  pub path_front : (x : Path X) (l r : Toks) → IsPlainPath false no_arguments x l r → AgainFront (IsPlainPath true no_arguments) (normal.path nx) (path px AsWritten) x l r
+  path_front x l r i =
+      let again = λ (h : Toks). path_again no_arguments (arguments px AsWritten) (arguments-None px AsWritten) false x l r h i in
+      stays_front (IsPlainPath true no_arguments) (normal.path nx) (path px AsWritten) (path px AsWritten) x l r (path_stays nx x l r i) refl (record {
+        spelt = λ h. again h;
+        visible = λ h u w. whole_path true x (row (path px AsWritten x) h) h (again h) w;
+        seen = λ u. visible_path x l r i u;
+        stays = refl;
+        same = refl;
+      })
+
+  -- the type of such a path is its own normal form too
+  pub path_type_stays : (x : TypePath X) (l r : Toks) → IsPathType false x l r → normal.path_type nx x ≡ x
+  path_type_stays x l r (a_path_type {p = q} i) = path_type_normal nx [] None q ∙ ap path_type_of (path_stays nx q l r i)
+
+  pub path_type_again : (x : TypePath X) (l r : Toks) → IsPathType false x l r → AgainFront (IsPathType true) (normal.path_type nx) (printing.path_type px) x l r
+  path_type_again x l r (a_path_type {p = q} i) =
+      let k = path_front q l r i in
+      let is = path_type_stays (path_type_of q) l r (a_path_type i) in
+      let prints = path_type_parts px [] None q in
+      record {
+        spelt = λ h. subst (λ z. IsPathType true z (row (printing.path_type px (path_type_of q)) h) h) (sym is)
+            (subst (λ z. IsPathType true (path_type_of q) (row z h) h) (sym prints) (a_path_type (subst (λ z. IsPlainPath true no_arguments z (row (path px AsWritten q) h) h) (path_stays nx q l r i) (k.spelt h))));
+        visible = λ h u w. subst (λ z. Visible (row z h)) (sym prints) (k.visible h u w);
+        seen = λ u. k.seen u;
+        stays = ap (normal.path_type nx) is;
+        same = ap (printing.path_type px) is;
+      }
+
+module _ {X : Type 0} where
   pub macro_type_again : (nx : Place → X → X) (px : Place → X → Print) (x : TypeMacro X) (l r : Toks) → IsMacroType false x l r → AgainFront (IsMacroType true) (normal.macro_type nx) (printing.macro_type px) x l r
   macro_type_again nx px x l r (a_macro_type {x = y} i) = let k = call_front y l r i in record { spelt = λ h. a_macro_type (k.spelt h); visible = λ h u w. k.visible h u w; seen = λ u. k.seen u; stays = refl; same = refl }
 
@@ -210,7 +249,7 @@ module _ {X : Type 0} (reads : Place → Reader X) (spells : Place → X → Tok
       }
 
   module _ (T U : Bool → Relation (TypeTree X)) (again : (plus : Bool) (x : TypeTree X) (l r : Toks) → T plus x l r → AgainFront (U plus) nt pt x l r) where
-    pub paren_front : (plus : Bool) (x : TypeParenOf (TypeTree X) X) (l r : Toks) → IsParen spells false T plus x l r → AgainFront (IsParen spells true U plus) (normal.paren normals) (printing.paren prints) x l r
+    pub paren_front : (plus : Bool) (x : TypeParen X) (l r : Toks) → IsParen spells false T plus x l r → AgainFront (IsParen spells true U plus) (normal.paren normals) (printing.paren prints) x l r
     paren_front plus x l r (a_paren {s = s} {x = y} {c = c} i) =
         let k = again plus y c done i in
         let seen = λ (h : Toks). row-group Parenthesis s (pt y) h tt in
@@ -222,7 +261,7 @@ module _ {X : Type 0} (reads : Place → Reader X) (spells : Place → X → Tok
           same = ap (λ z. p.group Parenthesis (stream_of_trees z) s) k.same;
         }
 
-    pub slice_front : (x : TypeSliceOf (TypeTree X) X) (l r : Toks) → IsSlice spells false T x l r → AgainFront (IsSlice spells true U) (normal.slice normals) (printing.slice prints) x l r
+    pub slice_front : (x : TypeSlice X) (l r : Toks) → IsSlice spells false T x l r → AgainFront (IsSlice spells true U) (normal.slice normals) (printing.slice prints) x l r
     slice_front x l r (a_slice {s = s} {x = y} {c = c} i) =
         let k = again true y c done i in
         let seen = λ (h : Toks). row-group Bracket s (pt y) h tt in
@@ -234,7 +273,7 @@ module _ {X : Type 0} (reads : Place → Reader X) (spells : Place → X → Tok
           same = ap (λ z. p.group Bracket (stream_of_trees z) s) k.same;
         }
 
-    pub array_front : (x : TypeArrayOf (TypeTree X) X) (l r : Toks) → IsArray spells false T x l r → AgainFront (IsArray spells true U) (normal.array normals) (printing.array prints) x l r
+    pub array_front : (x : TypeArray X) (l r : Toks) → IsArray spells false T x l r → AgainFront (IsArray spells true U) (normal.array normals) (printing.array prints) x l r
     array_front x l r (an_array {s = s} {x = y} {q = q} {n = n} {c = c} {m = m} {k = o} i j g) =
         let k = again true y c m i in
         let d = mark_front q m o j in
@@ -256,7 +295,7 @@ module _ {X : Type 0} (reads : Place → Reader X) (spells : Place → X → Tok
               ∙ ap (λ z. p.group Bracket (stream_of_trees (pt y ++ (p.mark q ++ z))) s) (ap pl is ∙ w.same);
         }
 
-    pub ptr_front : (x : TypePtrOf (TypeTree X) X) (l r : Toks) → IsPtr spells false T x l r → AgainFront (IsPtr spells true U) (normal.ptr normals) (printing.ptr prints) x l r
+    pub ptr_front : (x : TypePtr X) (l r : Toks) → IsPtr spells false T x l r → AgainFront (IsPtr spells true U) (normal.ptr normals) (printing.ptr prints) x l r
     ptr_front x l r (a_ptr {s = s} {q = q} {x = y} {m = m} {k = o} i j g) =
         let d = mark_front s l m i in
         let w = mutability_again q m o j in
@@ -272,7 +311,7 @@ module _ {X : Type 0} (reads : Place → Reader X) (spells : Place → X → Tok
           same = ap (λ z. p.mark s ++ (printing.pointer q ++ z)) k.same;
         }
 
-    pub reference_front : (x : TypeReferenceOf (TypeTree X) X) (l r : Toks) → IsReference spells false T x l r → AgainFront (IsReference spells true U) (normal.reference normals) (printing.reference prints) x l r
+    pub reference_front : (x : TypeReference X) (l r : Toks) → IsReference spells false T x l r → AgainFront (IsReference spells true U) (normal.reference normals) (printing.reference prints) x l r
     reference_front x l r (a_reference {a = a} {o = o} {q = q} {x = y} {m = m} {n = n} {k = b} i j f g) =
         let d = mark_front a l m i in
         let c = maybe_lifetime o m n j in
@@ -316,7 +355,7 @@ module _ {X : Type 0} (reads : Place → Reader X) (spells : Place → X → Tok
           same = no_lone (nt x) c (map nt ys) ds ∙ k.same ∙ sym is;
         }
 
-    pub tuple_front : (x : TypeTupleOf (TypeTree X) X) (l r : Toks) → IsTuple spells false T x l r → AgainFront (IsTuple spells true U) (normal.tuple normals) (printing.tuple prints) x l r
+    pub tuple_front : (x : TypeTuple X) (l r : Toks) → IsTuple spells false T x l r → AgainFront (IsTuple spells true U) (normal.tuple normals) (printing.tuple prints) x l r
     tuple_front x l r (a_tuple {s = s} {xs = xs} {cs = cs} {c = c} i) =
         let k = elements_again xs cs c i in
         let seen = λ (h : Toks). row-group Parenthesis s (inside (xs, cs)) h tt in
@@ -335,9 +374,10 @@ module _ {X : Type 0} (reads : Place → Reader X) (spells : Place → X → Tok
         (x : A) (l r : Toks) → AgainFront S n pr x l r → ((k h : Toks) → S (n x) k h → IsType spells true U plus (made (n x)) k h) → AgainFront (IsType spells true U plus) nt pt (made x) l r
     variant plus S n pr made ni pi x l r k rule = variant_front S (IsType spells true U plus) n pr nt pt made ni pi x l r k rule
 
-    path_front : (plus : Bool) (y : TypePathOf (TypeTree X) X) (l r : Toks) → IsPathType false y l r → is_try_path y.path ≡ false → AgainFront (IsType spells true U plus) nt pt (v.Path y) l r
-    path_front plus y l r i is =
-        variant plus (IsPathType true) (normal.path_type normals) (printing.path_type prints) (λ z. v.Path z) (normal-Path normals) (ty-Path prints) y l r (path_type_again normals prints y l r i) (λ k h j. a_path j is)
+    by_path : (plus : Bool) (y : TypePath X) (l r : Toks) → IsPathType false y l r → is_try_path (path_of_type y) ≡ false → AgainFront (IsType spells true U plus) nt pt (v.Path y) l r
+    by_path plus y l r i is =
+        variant plus (IsPathType true) (normal.path_type normals) (printing.path_type prints) (λ z. v.Path z) (normal-Path normals) (ty-Path prints) y l r (path_type_again normals prints y l r i)
+        (λ k h j. a_path j (ap (λ z. is_try_path (path_of_type z)) (path_type_stays normals prints y l r i) ∙ is))
 
     pub type_front : (plus : Bool) (x : TypeTree X) (l r : Toks) → IsType spells false T plus x l r → AgainFront (IsType spells true U plus) nt pt x l r
     type_front plus x l r (array {x = y} i) =
@@ -349,7 +389,7 @@ module _ {X : Type 0} (reads : Place → Reader X) (spells : Place → X → Tok
     type_front plus x l r (paren {x = y} i) =
         variant plus (IsParen spells true U true) (normal.paren normals) (printing.paren prints) (λ z. v.Paren z) (normal-Paren normals) (ty-Paren prints) y l r (paren_front true y l r i) (λ k h j. paren j)
     type_front plus x l r (a_path {x = y} i is) =
-        path_front plus y l r i is
+        by_path plus y l r i is
     type_front plus x l r (ptr {x = y} i) = variant plus (IsPtr spells true U) (normal.ptr normals) (printing.ptr prints) (λ z. v.Ptr z) (normal-Ptr normals) (ty-Ptr prints) y l r (ptr_front y l r i) (λ k h j. ptr j)
     type_front plus x l r (reference {x = y} i) =
         variant plus (IsReference spells true U) (normal.reference normals) (printing.reference prints) (λ z. v.Reference z) (normal-Reference normals) (ty-Reference prints) y l r (reference_front y l r i) (λ k h j. reference j)

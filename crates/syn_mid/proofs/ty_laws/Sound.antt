@@ -26,26 +26,15 @@ use Rattle.token_core.proofs.Took.{branch, mapped, took_all}
 use Rattle.token_core.proofs.Turns.{chain, same_pair}
 use Rattle.token_core.proofs.WordSpells.{word_sound, word_visible, lifetime_sound, lifetime_visible}
 use Rattle.syn_mid.specs.declared.mac.Macro.{Macro}
-use Rattle.syn_mid.specs.declared.supplied.Expr.{Expr}
 use Rattle.syn_mid.specs.declared.supplied.Expr.TheVariants as expr
 use Rattle.syn_mid.specs.declared.ty.PointerMutability.{PointerMutability}
 use Rattle.syn_mid.specs.declared.ty.PointerMutability.TheVariants as pointer
-use Rattle.syn_mid.specs.declared.ty.Type.{«Type» as TypeTree}
-use Rattle.syn_mid.specs.declared.ty.Type.TheVariants as variant
-use Rattle.syn_mid.specs.declared.ty.TypeArrayOf.{TypeArrayOf}
-use Rattle.syn_mid.specs.declared.ty.TypeInfer.{TypeInfer}
-use Rattle.syn_mid.specs.declared.ty.TypeMacro.{TypeMacro}
-use Rattle.syn_mid.specs.declared.ty.TypeNever.{TypeNever}
-use Rattle.syn_mid.specs.declared.ty.TypeParenOf.{TypeParenOf}
-use Rattle.syn_mid.specs.declared.ty.TypePathOf.{TypePathOf}
-use Rattle.syn_mid.specs.declared.ty.TypePtrOf.{TypePtrOf}
-use Rattle.syn_mid.specs.declared.ty.TypeReferenceOf.{TypeReferenceOf}
-use Rattle.syn_mid.specs.declared.ty.TypeSliceOf.{TypeSliceOf}
-use Rattle.syn_mid.specs.declared.ty.TypeTupleOf.{TypeTupleOf}
+use Rattle.syn_mid.specs.declared.ty.TypeOf.TheVariants as variant
+use Rattle.syn_mid.specs.ty.Trees.{Path, PathSegment, TypeTree, TypeArray, TypeInfer, TypeMacro, TypeNever, TypeParen, TypePath, TypePtr, TypeReference, TypeSlice, TypeTuple}
 use Rattle.syn_mid.specs.Supplied.{Place, ArrayLen, UsesUp}
 use Rattle.syn_mid.specs.mac.Reading as macs
 use Rattle.syn_mid.specs.mac.Reading.{call_after}
-use Rattle.syn_mid.specs.path.Paths.{Sep, Path, PathSegment, nothing, no_arguments, segment_of, without}
+use Rattle.syn_mid.specs.path.Paths.{Sep, nothing, no_arguments, segment_of, without}
 use Rattle.syn_mid.specs.path.Reading.{plain_path}
 use Rattle.syn_mid.specs.path.Spelling.{is_mod_word, is_type_word, no_leading, leading, AreSegments, last_segment, more_segments, a_bare_path, IsPlainPath}
 use Rattle.syn_mid.specs.ty.Reading as reading
@@ -180,13 +169,13 @@ pub visible_macro_type : {X : Type 0} (x : TypeMacro X) (l r : Toks) → IsMacro
 visible_macro_type x l r (a_macro_type {x = y} i) v = visible_call y l r i v
 
 module _ {X : Type 0} where
-  pub path_type_sound : (s t : Stream) (x : TypePathOf (TypeTree X) X) → Visible s.rest → reading.path_type s ≡ Ok (x, t) → Taken (IsPathType false) s t x
+  pub path_type_sound : (s t : Stream) (x : TypePath X) → Visible s.rest → reading.path_type s ≡ Ok (x, t) → Taken (IsPathType false) s t x
   path_type_sound s t x v e =
       let k = mapped (plain_path no_arguments s) path_type_of x t e in
       let w = plain_sound no_arguments s t k.value v k.was in
       taken_as {Is = IsPathType false} s t (path_type_of k.value) x k.is (a_path_type w.spelt) w.left
 
-  pub visible_path_type : (x : TypePathOf (TypeTree X) X) (l r : Toks) → IsPathType false x l r → Visible l → Visible r
+  pub visible_path_type : (x : TypePath X) (l r : Toks) → IsPathType false x l r → Visible l → Visible r
   visible_path_type x l r (a_path_type {p = p} i) v = visible_path p l r i v
 
   segments_begin : (all : List (PathSegment X)) (seps : List Sep) (l r : Toks) → AreSegments false is_type_word no_arguments all seps l r → begins_path l ≡ true → try_first None all ≡ false
@@ -408,41 +397,41 @@ module _ {X : Type 0} (reads : Place → Reader X) (spells : Place → X → Tok
       subst (λ z. IsArray spells false T (array_of (groups.bracket s) x n.0 n.1) z r) (sym h)
       (subst (λ z. IsArray spells false T (array_of (groups.bracket s) x n.0 z) (group Bracket s c r) r) i.2.is (an_array i.1 i.2.mark i.2.spelt))
 
-  pub array_took : (s t : Stream) (x : TypeArrayOf (TypeTree X) X) → Visible s.rest → reading.array reads typ s ≡ Ok (x, t) → TookOne (IsArray spells false T) s t x
+  pub array_took : (s t : Stream) (x : TypeArray X) → Visible s.rest → reading.array reads typ s ≡ Ok (x, t) → TookOne (IsArray spells false T) s t x
   unfolding reading.array
   array_took s t x v e =
-      let f : DelimSpan × (TypeTree X × Length X) → TypeArrayOf (TypeTree X) X = λ g. array_of (groups.bracket g.0) g.1.0 g.1.1.0 g.1.1.1 in
+      let f : DelimSpan × (TypeTree X × Length X) → TypeArray X = λ g. array_of (groups.bracket g.0) g.1.0 g.1.1.0 g.1.1.1 in
       let k = mapped (in_group Bracket groups.bracket_name (array_content reads typ) s) f x t e in
       took_as {Is = IsHeld Bracket HoldsCounted} {Js = IsArray spells false T} f s t k.value x k.is (λ l r i. array_at k.value.0 k.value.1.0 k.value.1.1 i.content l r i.is i.holds)
       (held_sound Bracket HoldsCounted groups.bracket_name (array_content reads typ) array_content_sound s t k.value v k.was)
 
-  pub slice_took : (s t : Stream) (x : TypeSliceOf (TypeTree X) X) → Visible s.rest → reading.slice reads typ s ≡ Ok (x, t) → TookOne (IsSlice spells false T) s t x
+  pub slice_took : (s t : Stream) (x : TypeSlice X) → Visible s.rest → reading.slice reads typ s ≡ Ok (x, t) → TookOne (IsSlice spells false T) s t x
   unfolding reading.slice
   slice_took s t x v e =
-      let f : DelimSpan × TypeTree X → TypeSliceOf (TypeTree X) X = λ g. slice_of (groups.bracket g.0) g.1 in
+      let f : DelimSpan × TypeTree X → TypeSlice X = λ g. slice_of (groups.bracket g.0) g.1 in
       let k = mapped (in_group Bracket groups.bracket_name (typ true) s) f x t e in
       took_as {Is = IsHeld Bracket (λ y c. T true y c done)} {Js = IsSlice spells false T} f s t k.value x k.is (λ l r i. slice_at k.value.0 k.value.1 i.content l r i.is i.holds)
       (held_sound Bracket (λ y c. T true y c done) groups.bracket_name (typ true) (alone true) s t k.value v k.was)
 
-  pub paren_took : (s t : Stream) (x : TypeParenOf (TypeTree X) X) → Visible s.rest → reading.paren reads typ s ≡ Ok (x, t) → TookOne (IsParen spells false T false) s t x
+  pub paren_took : (s t : Stream) (x : TypeParen X) → Visible s.rest → reading.paren reads typ s ≡ Ok (x, t) → TookOne (IsParen spells false T false) s t x
   unfolding reading.paren
   paren_took s t x v e =
-      let f : DelimSpan × TypeTree X → TypeParenOf (TypeTree X) X = λ g. paren_of (groups.paren g.0) g.1 in
+      let f : DelimSpan × TypeTree X → TypeParen X = λ g. paren_of (groups.paren g.0) g.1 in
       let k = mapped (in_group Parenthesis groups.paren_name (typ false) s) f x t e in
       took_as {Is = IsHeld Parenthesis (λ y c. T false y c done)} {Js = IsParen spells false T false} f s t k.value x k.is (λ l r i. paren_at false k.value.0 k.value.1 i.content l r i.is i.holds)
       (held_sound Parenthesis (λ y c. T false y c done) groups.paren_name (typ false) (alone false) s t k.value v k.was)
 
-  pub tuple_took : (s t : Stream) (x : TypeTupleOf (TypeTree X) X) → Visible s.rest → reading.tuple reads typ s ≡ Ok (x, t) → TookOne (IsTuple spells false T) s t x
+  pub tuple_took : (s t : Stream) (x : TypeTuple X) → Visible s.rest → reading.tuple reads typ s ≡ Ok (x, t) → TookOne (IsTuple spells false T) s t x
   unfolding reading.tuple
   tuple_took s t x v e =
-      let f : DelimSpan × Many (TypeTree X) Comma → TypeTupleOf (TypeTree X) X = λ g. tuple_of (groups.paren g.0) g.1 in
+      let f : DelimSpan × Many (TypeTree X) Comma → TypeTuple X = λ g. tuple_of (groups.paren g.0) g.1 in
       let k = mapped (in_group Parenthesis groups.paren_name (tuple_content reads typ) s) f x t e in
       took_as {Is = IsHeld Parenthesis Elements} {Js = IsTuple spells false T} f s t k.value x k.is (λ l r i. tuple_at k.value.0 k.value.1 i.content l r i.is i.holds)
       (held_sound Parenthesis Elements groups.paren_name (tuple_content reads typ) tuple_content_sound s t k.value v k.was)
 
   -- ---- pointers and references
 
-  pub ptr_took : (s t : Stream) (x : TypePtrOf (TypeTree X) X) → Visible s.rest → reading.ptr reads typ s ≡ Ok (x, t) → TookOne (IsPtr spells false T) s t x
+  pub ptr_took : (s t : Stream) (x : TypePtr X) → Visible s.rest → reading.ptr reads typ s ≡ Ok (x, t) → TookOne (IsPtr spells false T) s t x
   unfolding reading.ptr
   ptr_took s t x v e =
       let c = chain (reading.star s) _ x t e in
@@ -458,7 +447,7 @@ module _ {X : Type 0} (reads : Place → Reader X) (spells : Place → X → Tok
         spelt = λ h. subst (λ z. IsPtr spells false T z s.rest t.rest) g.is (a_ptr k.spelt q.spelt (w.spelt h));
       }
 
-  pub reference_took : (s t : Stream) (x : TypeReferenceOf (TypeTree X) X) → Visible s.rest → reading.reference reads typ s ≡ Ok (x, t) → TookOne (IsReference spells false T) s t x
+  pub reference_took : (s t : Stream) (x : TypeReference X) → Visible s.rest → reading.reference reads typ s ≡ Ok (x, t) → TookOne (IsReference spells false T) s t x
   unfolding reading.reference
   reference_took s t x v e =
       let c = chain (reading.and s) _ x t e in

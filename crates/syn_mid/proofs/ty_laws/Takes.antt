@@ -1,11 +1,9 @@
 -- A read of a type takes tokens, on every stream.
 use Rattle.std.proofs.Common.{◌≡◌, ℕ, zero, suc, ◌<◌, ◌≤◌, Bool, false, ◌&&◌, Option, Some, None, Ok, inl, inr, refl, subst, arith}
 use Rattle.token_core.specs.declared.lifetime.Lifetime.{Lifetime}
-use Rattle.token_core.specs.declared.word.Word.{Word}
 use Rattle.token_core.specs.declared.span.DelimSpan.{DelimSpan}
 use Rattle.token_core.specs.declared.tree.Delimiter.{Delimiter}
 use Rattle.token_core.specs.declared.tree.Delimiter.TheVariants as d
-use Rattle.token_core.specs.declared.tree.Ident.{Ident}
 use Rattle.token_core.specs.declared.tree.TokenStream.{TokenStream}
 use Rattle.token_core.specs.Toks.{Toks}
 use Rattle.token_core.specs.Front.{past_ends}
@@ -15,12 +13,12 @@ use Rattle.token_core.specs.Loops.{size}
 use Rattle.token_core.specs.Marks as marks
 use Rattle.token_core.specs.Stream.{Stream}
 use Rattle.token_core.specs.Rebuilt.{stream_of}
-use Rattle.token_core.specs.Reads.{Reader, Outcome, Body, as_group, bodied, delimited, past, sees_group, is_text, read_word, in_group}
+use Rattle.token_core.specs.Reads.{Reader, Outcome, Body, as_group, bodied, delimited, past, sees_group, in_group}
 use Rattle.token_core.proofs.lifetime_laws.{suffix_lifetime}
 use Rattle.token_core.proofs.Suffixes.{suffix_outside}
 use Rattle.token_core.proofs.Takes.{named_takes}
 use Rattle.token_core.proofs.Took.{branch, mapped}
-use Rattle.token_core.proofs.Turns.{chain, same_pair, size_suffix, word_takes}
+use Rattle.token_core.proofs.Turns.{chain, same_pair, size_suffix}
 use Rattle.token_core.proofs.WordSpells.{went_on}
 use Rattle.syn_mid.specs.declared.mac.Macro.{Macro}
 use Rattle.syn_mid.specs.declared.mac.MacroDelimiter.TheVariants as b
@@ -28,10 +26,8 @@ use Rattle.syn_mid.specs.declared.path.PathOf.{PathOf}
 use Rattle.syn_mid.specs.declared.path.SegmentStyle.TheVariants.{Plain}
 use Rattle.syn_mid.specs.declared.ty.PointerMutability.{PointerMutability}
 use Rattle.syn_mid.specs.declared.ty.PointerMutability.TheVariants as m
-use Rattle.syn_mid.specs.declared.ty.Type.{«Type» as TypeTree}
-use Rattle.syn_mid.specs.declared.ty.Type.TheVariants as v
-use Rattle.syn_mid.specs.declared.ty.TypePtrOf.{TypePtrOf}
-use Rattle.syn_mid.specs.declared.ty.TypeReferenceOf.{TypeReferenceOf}
+use Rattle.syn_mid.specs.declared.ty.TypeOf.TheVariants as v
+use Rattle.syn_mid.specs.ty.Trees.{TypeTree, TypePtr, TypeReference}
 use Rattle.syn_mid.specs.Supplied.{Place}
 use Rattle.syn_mid.specs.mac.Macros.{Held, macro_of}
 use Rattle.syn_mid.specs.mac.Reading.{bang, held, body, call_after}
@@ -157,7 +153,7 @@ module _ {X : Type 0} where
 -- ---- types, over those that they hold
 
 module _ {X : Type 0} (supplied : Place → Reader X) (typ : Bool → Reader (TypeTree X)) (takes : (p : Bool) (s t : Stream) (x : TypeTree X) → typ p s ≡ Ok (x, t) → size t.rest < size s.rest) where
-  ptr_takes : (s t : Stream) (x : TypePtrOf (TypeTree X) X) → ptr supplied typ s ≡ Ok (x, t) → Less s t
+  ptr_takes : (s t : Stream) (x : TypePtr X) → ptr supplied typ s ≡ Ok (x, t) → Less s t
   unfolding ptr
   ptr_takes s t x e =
       let c = chain (star s) _ x t e in
@@ -168,7 +164,7 @@ module _ {X : Type 0} (supplied : Place → Reader X) (typ : Bool → Reader (Ty
       let more = takes false f.rest t k.value k.was in
       omega (arith, less, le, more)
 
-  reference_takes : (s t : Stream) (x : TypeReferenceOf (TypeTree X) X) → reference supplied typ s ≡ Ok (x, t) → Less s t
+  reference_takes : (s t : Stream) (x : TypeReference X) → reference supplied typ s ≡ Ok (x, t) → Less s t
   unfolding reference
   reference_takes s t x e =
       let c = chain (and s) _ x t e in

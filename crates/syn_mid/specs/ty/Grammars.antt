@@ -4,20 +4,8 @@ use Rattle.token_core.specs.Headline.{Grammar}
 use Rattle.token_core.specs.Prints.{Print}
 use Rattle.token_core.specs.Reads.{Reader}
 use Rattle.token_core.specs.Toks.{Toks, done}
-use Rattle.syn_mid.specs.declared.supplied.Expr.{Expr}
-use Rattle.syn_mid.specs.declared.generics.TypeParamBound.{TypeParamBound}
 use Rattle.syn_mid.specs.declared.ty.PointerMutability.{PointerMutability}
-use Rattle.syn_mid.specs.declared.ty.Type.{«Type» as TypeTree}
-use Rattle.syn_mid.specs.declared.ty.TypeArrayOf.{TypeArrayOf}
-use Rattle.syn_mid.specs.declared.ty.TypeInfer.{TypeInfer}
-use Rattle.syn_mid.specs.declared.ty.TypeMacro.{TypeMacro}
-use Rattle.syn_mid.specs.declared.ty.TypeNever.{TypeNever}
-use Rattle.syn_mid.specs.declared.ty.TypeParenOf.{TypeParenOf}
-use Rattle.syn_mid.specs.declared.ty.TypePathOf.{TypePathOf}
-use Rattle.syn_mid.specs.declared.ty.TypePtrOf.{TypePtrOf}
-use Rattle.syn_mid.specs.declared.ty.TypeReferenceOf.{TypeReferenceOf}
-use Rattle.syn_mid.specs.declared.ty.TypeSliceOf.{TypeSliceOf}
-use Rattle.syn_mid.specs.declared.ty.TypeTupleOf.{TypeTupleOf}
+use Rattle.syn_mid.specs.ty.Trees.{TypeParamBound, TypeTree, TypeArray, TypeInfer, TypeMacro, TypeNever, TypeParen, TypePath, TypePtr, TypeReference, TypeSlice, TypeTuple}
 use Rattle.syn_mid.specs.Supplied.{Place}
 use Rattle.syn_mid.specs.ty.Knot as knot
 use Rattle.syn_mid.specs.ty.Normal as normal
@@ -48,23 +36,23 @@ module _ {X : Type 0} (reads : Place → Reader X) (spells : Place → X → Tok
   abbrev pub bound : Grammar (TypeParamBound X)
   bound = record { spells = λ clear x l. IsSomeBound spells clear x l done; normal = normal.bound normals; print = printing.bound prints; plain = λ x. Unit {0}; reader = knot.bound reads }
 
-  abbrev pub path_type : Grammar (TypePathOf (TypeTree X) X)
+  abbrev pub path_type : Grammar (TypePath X)
   path_type = record { spells = λ clear x l. IsPathType clear x l done; normal = normal.path_type normals; print = printing.path_type prints; plain = λ x. Unit {0}; reader = reading.path_type }
 
-  abbrev pub array : Grammar (TypeArrayOf (TypeTree X) X)
+  abbrev pub array : Grammar (TypeArray X)
   array = record { spells = λ clear x l. IsSomeArray spells clear x l done; normal = normal.array normals; print = printing.array prints; plain = λ x. Unit {0}; reader = knot.array reads }
 
-  abbrev pub paren : Grammar (TypeParenOf (TypeTree X) X)
+  abbrev pub paren : Grammar (TypeParen X)
   paren = record { spells = λ clear x l. IsSomeParen spells clear x l done; normal = normal.paren normals; print = printing.paren prints; plain = λ x. Unit {0}; reader = knot.paren reads }
 
-  abbrev pub ptr : Grammar (TypePtrOf (TypeTree X) X)
+  abbrev pub ptr : Grammar (TypePtr X)
   ptr = record { spells = λ clear x l. IsSomePtr spells clear x l done; normal = normal.ptr normals; print = printing.ptr prints; plain = λ x. Unit {0}; reader = knot.ptr reads }
 
-  abbrev pub reference : Grammar (TypeReferenceOf (TypeTree X) X)
+  abbrev pub reference : Grammar (TypeReference X)
   reference = record { spells = λ clear x l. IsSomeReference spells clear x l done; normal = normal.reference normals; print = printing.reference prints; plain = λ x. Unit {0}; reader = knot.reference reads }
 
-  abbrev pub slice : Grammar (TypeSliceOf (TypeTree X) X)
+  abbrev pub slice : Grammar (TypeSlice X)
   slice = record { spells = λ clear x l. IsSomeSlice spells clear x l done; normal = normal.slice normals; print = printing.slice prints; plain = λ x. Unit {0}; reader = knot.slice reads }
 
-  abbrev pub tuple : Grammar (TypeTupleOf (TypeTree X) X)
+  abbrev pub tuple : Grammar (TypeTuple X)
   tuple = record { spells = λ clear x l. IsSomeTuple spells clear x l done; normal = normal.tuple normals; print = printing.tuple prints; plain = λ x. Unit {0}; reader = knot.tuple reads }

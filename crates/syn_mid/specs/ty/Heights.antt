@@ -1,16 +1,7 @@
 -- Which lists trees of at most some height spell, at each point where the grammar goes back to itself.
-use Rattle.std.specs.Prelude.{ℕ, zero, suc, Bool, true, false}
+use Rattle.std.specs.Prelude.{ℕ, zero, suc, Bool, false}
 use Rattle.token_core.specs.Toks.{Toks}
-use Rattle.syn_mid.specs.declared.generics.GenericParam.{GenericParam}
-use Rattle.syn_mid.specs.declared.generics.TypeParamBound.{TypeParamBound}
-use Rattle.syn_mid.specs.declared.supplied.Expr.{Expr}
-use Rattle.syn_mid.specs.declared.ty.Type.{«Type» as TypeTree}
-use Rattle.syn_mid.specs.declared.ty.TypeArrayOf.{TypeArrayOf}
-use Rattle.syn_mid.specs.declared.ty.TypeParenOf.{TypeParenOf}
-use Rattle.syn_mid.specs.declared.ty.TypePtrOf.{TypePtrOf}
-use Rattle.syn_mid.specs.declared.ty.TypeReferenceOf.{TypeReferenceOf}
-use Rattle.syn_mid.specs.declared.ty.TypeSliceOf.{TypeSliceOf}
-use Rattle.syn_mid.specs.declared.ty.TypeTupleOf.{TypeTupleOf}
+use Rattle.syn_mid.specs.ty.Trees.{TypeParamBound, TypeTree, TypeArray, TypeParen, TypePtr, TypeReference, TypeSlice, TypeTuple}
 use Rattle.syn_mid.specs.Supplied.{Place}
 use Rattle.syn_mid.specs.generics.Spelling.{IsParam, IsBound}
 use Rattle.syn_mid.specs.ty.Knot.{Point, a_type, a_bound, a_param, Tree}
@@ -47,21 +38,21 @@ module _ {X : Type 0} (spells : Place → X → Toks → Type 0) (clear : Bool) 
   abbrev pub IsSomeBound : Relation (TypeParamBound X)
   IsSomeBound = IsSome a_bound
 
-  abbrev pub IsSomeArray : Relation (TypeArrayOf (TypeTree X) X)
+  abbrev pub IsSomeArray : Relation (TypeArray X)
   IsSomeArray x l r = (n : ℕ) × IsArray spells clear (TypeBelow spells clear n) x l r
 
   -- alone, its content stands without plus
-  abbrev pub IsSomeParen : Relation (TypeParenOf (TypeTree X) X)
+  abbrev pub IsSomeParen : Relation (TypeParen X)
   IsSomeParen x l r = (n : ℕ) × IsParen spells clear (TypeBelow spells clear n) false x l r
 
-  abbrev pub IsSomePtr : Relation (TypePtrOf (TypeTree X) X)
+  abbrev pub IsSomePtr : Relation (TypePtr X)
   IsSomePtr x l r = (n : ℕ) × IsPtr spells clear (TypeBelow spells clear n) x l r
 
-  abbrev pub IsSomeReference : Relation (TypeReferenceOf (TypeTree X) X)
+  abbrev pub IsSomeReference : Relation (TypeReference X)
   IsSomeReference x l r = (n : ℕ) × IsReference spells clear (TypeBelow spells clear n) x l r
 
-  abbrev pub IsSomeSlice : Relation (TypeSliceOf (TypeTree X) X)
+  abbrev pub IsSomeSlice : Relation (TypeSlice X)
   IsSomeSlice x l r = (n : ℕ) × IsSlice spells clear (TypeBelow spells clear n) x l r
 
-  abbrev pub IsSomeTuple : Relation (TypeTupleOf (TypeTree X) X)
+  abbrev pub IsSomeTuple : Relation (TypeTuple X)
   IsSomeTuple x l r = (n : ℕ) × IsTuple spells clear (TypeBelow spells clear n) x l r

@@ -9,17 +9,8 @@ use Rattle.token_core.specs.Positions.{items}
 use Rattle.token_core.specs.Refusal.{Refusal, fixed}
 use Rattle.token_core.specs.Stream.{Stream}
 use Rattle.token_core.specs.Reads.{Reader, Reads, Follows, refuse, refused}
-use Rattle.syn_mid.specs.declared.generics.GenericParam.{GenericParam}
-use Rattle.syn_mid.specs.declared.generics.TypeParamBound.{TypeParamBound}
-use Rattle.syn_mid.specs.declared.ty.Type.{«Type» as TypeTree}
 use Rattle.syn_mid.specs.Supplied.{Place}
-use Rattle.syn_mid.specs.declared.supplied.Expr.{Expr}
-use Rattle.syn_mid.specs.declared.ty.TypeArrayOf.{TypeArrayOf}
-use Rattle.syn_mid.specs.declared.ty.TypeParenOf.{TypeParenOf}
-use Rattle.syn_mid.specs.declared.ty.TypePtrOf.{TypePtrOf}
-use Rattle.syn_mid.specs.declared.ty.TypeReferenceOf.{TypeReferenceOf}
-use Rattle.syn_mid.specs.declared.ty.TypeSliceOf.{TypeSliceOf}
-use Rattle.syn_mid.specs.declared.ty.TypeTupleOf.{TypeTupleOf}
+use Rattle.syn_mid.specs.ty.Trees.{GenericParam, TypeParamBound, TypeTree, TypeArray, TypeParen, TypePtr, TypeReference, TypeSlice, TypeTuple}
 use Rattle.syn_mid.specs.generics.Reading.{param_step, bound_step}
 use Rattle.syn_mid.specs.ty.Reading.{type_step}
 use Rattle.syn_mid.specs.ty.Reading as reading
@@ -88,22 +79,22 @@ module _ {X : Type 0} (supplied : Place → Reader X) where
   params limit = reads_below limit a_param
 
   -- the reads of single forms
-  unfoldable pub array : Reader (TypeArrayOf (TypeTree X) X)
+  unfoldable pub array : Reader (TypeArray X)
   array s = reading.array supplied (types (ahead s)) s
 
-  unfoldable pub paren : Reader (TypeParenOf (TypeTree X) X)
+  unfoldable pub paren : Reader (TypeParen X)
   paren s = reading.paren supplied (types (ahead s)) s
 
-  unfoldable pub ptr : Reader (TypePtrOf (TypeTree X) X)
+  unfoldable pub ptr : Reader (TypePtr X)
   ptr s = reading.ptr supplied (types (ahead s)) s
 
-  unfoldable pub reference : Reader (TypeReferenceOf (TypeTree X) X)
+  unfoldable pub reference : Reader (TypeReference X)
   reference s = reading.reference supplied (types (ahead s)) s
 
-  unfoldable pub slice : Reader (TypeSliceOf (TypeTree X) X)
+  unfoldable pub slice : Reader (TypeSlice X)
   slice s = reading.slice supplied (types (ahead s)) s
 
-  unfoldable pub tuple : Reader (TypeTupleOf (TypeTree X) X)
+  unfoldable pub tuple : Reader (TypeTuple X)
   tuple s = reading.tuple supplied (types (ahead s)) s
 
 -- a function value that reads types where less than the limit is left

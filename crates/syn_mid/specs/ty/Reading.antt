@@ -13,18 +13,8 @@ use Rattle.syn_mid.specs.declared.supplied.Expr.{Expr}
 use Rattle.syn_mid.specs.declared.supplied.Expr.TheVariants as e
 use Rattle.syn_mid.specs.declared.ty.PointerMutability.{PointerMutability}
 use Rattle.syn_mid.specs.declared.ty.PointerMutability.TheVariants as m
-use Rattle.syn_mid.specs.declared.ty.Type.{«Type» as TypeTree}
-use Rattle.syn_mid.specs.declared.ty.Type.TheVariants as t
-use Rattle.syn_mid.specs.declared.ty.TypeArrayOf.{TypeArrayOf}
-use Rattle.syn_mid.specs.declared.ty.TypeInfer.{TypeInfer}
-use Rattle.syn_mid.specs.declared.ty.TypeMacro.{TypeMacro}
-use Rattle.syn_mid.specs.declared.ty.TypeNever.{TypeNever}
-use Rattle.syn_mid.specs.declared.ty.TypeParenOf.{TypeParenOf}
-use Rattle.syn_mid.specs.declared.ty.TypePathOf.{TypePathOf}
-use Rattle.syn_mid.specs.declared.ty.TypePtrOf.{TypePtrOf}
-use Rattle.syn_mid.specs.declared.ty.TypeReferenceOf.{TypeReferenceOf}
-use Rattle.syn_mid.specs.declared.ty.TypeSliceOf.{TypeSliceOf}
-use Rattle.syn_mid.specs.declared.ty.TypeTupleOf.{TypeTupleOf}
+use Rattle.syn_mid.specs.declared.ty.TypeOf.TheVariants as t
+use Rattle.syn_mid.specs.ty.Trees.{TypeTree, TypeArray, TypeInfer, TypeMacro, TypeNever, TypeParen, TypePath, TypePtr, TypeReference, TypeSlice, TypeTuple}
 use Rattle.syn_mid.specs.Supplied.{Place, ArrayLen}
 use Rattle.syn_mid.specs.mac.Reading as macs
 use Rattle.syn_mid.specs.path.Paths.{no_arguments, nothing, without}
@@ -104,7 +94,7 @@ abbrev pub macro_type : {X : Type 0} → Reader (TypeMacro X)
 macro_type = macro_type_of <$> macs.mac
 
 module _ {X : Type 0} where
-  abbrev pub path_type : Reader (TypePathOf (TypeTree X) X)
+  abbrev pub path_type : Reader (TypePath X)
   path_type = path_type_of <$> plain_path no_arguments
 
   -- a type after which, where a plus is allowed, none may stand: it would begin a trait object
@@ -177,26 +167,26 @@ module _ {X : Type 0} (supplied : Place → Reader X) (typ : Bool → Reader (Ty
 
   -- ---- the readers of single forms
 
-  unfoldable pub array : Reader (TypeArrayOf (TypeTree X) X)
+  unfoldable pub array : Reader (TypeArray X)
   array = (λ g. array_of (groups.bracket g.0) g.1.0 g.1.1.0 g.1.1.1) <$> in_group d.Bracket groups.bracket_name array_content
 
-  unfoldable pub slice : Reader (TypeSliceOf (TypeTree X) X)
+  unfoldable pub slice : Reader (TypeSlice X)
   slice = (λ g. slice_of (groups.bracket g.0) g.1) <$> in_group d.Bracket groups.bracket_name (typ true)
 
   -- its content is read without plus
-  unfoldable pub paren : Reader (TypeParenOf (TypeTree X) X)
+  unfoldable pub paren : Reader (TypeParen X)
   paren = (λ g. paren_of (groups.paren g.0) g.1) <$> in_group d.Parenthesis groups.paren_name (typ false)
 
-  unfoldable pub tuple : Reader (TypeTupleOf (TypeTree X) X)
+  unfoldable pub tuple : Reader (TypeTuple X)
   tuple = (λ g. tuple_of (groups.paren g.0) g.1) <$> in_group d.Parenthesis groups.paren_name tuple_content
 
-  unfoldable pub ptr : Reader (TypePtrOf (TypeTree X) X)
+  unfoldable pub ptr : Reader (TypePtr X)
   ptr = do
     s ← star
     q ← mutability
     ptr_of s q <$> typ false
 
-  unfoldable pub reference : Reader (TypeReferenceOf (TypeTree X) X)
+  unfoldable pub reference : Reader (TypeReference X)
   reference = do
     a ← and
     l ← read_optional_lifetime
