@@ -17,7 +17,7 @@ use Rattle.syn_mid.specs.declared.generics.TypeParamOf.{out-TypeParamOf}
 use Rattle.syn_mid.specs.declared.supplied.Expr.{Expr}
 use Rattle.syn_mid.specs.declared.generics.Style.TheVariants as styles
 use Rattle.syn_mid.specs.generics.Members.{Member, comma_of, lacks, some_left, adds, each, members, members_of, firsts, others, sorted}
-use Rattle.syn_mid.specs.generics.Params.{is_lifetime, is_lifetime_layer, type_param_of, const_param_of}
+use Rattle.syn_mid.specs.generics.Params.{is_lifetime, is_lifetime_layer, const_param_of}
 use Rattle.syn_mid.specs.generics.Printing.{generics}
 use Rattle.syn_mid.specs.generics.Shapes.{or_default, between, after_colon, attrs, lifetime_param}
 use Rattle.syn_mid.specs.ty.Printing.{type_head, const_head, param, bound}

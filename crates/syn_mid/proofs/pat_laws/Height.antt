@@ -10,7 +10,7 @@ use Rattle.syn_mid.specs.declared.pat.PatOf.TheFolds.{fold-PatOf, fold-roll-PatO
 use Rattle.syn_mid.specs.declared.pat.PatOf.TheOpen as o
 use Rattle.syn_mid.specs.declared.pat.PatOf.TheVariants as v
 use Rattle.syn_mid.specs.ty.Trees.{Attr, Attrs, Path, QSelf, TypeTree}
-use Rattle.syn_mid.specs.pat.Pats.{LayerOf, Pat, PatGuard, PatIdent, PatOr, PatParen, PatPath, PatReference, PatRest, PatSlice, PatStruct, PatTuple, PatTupleStruct, PatType, FieldPat, binding_of, field_of}
+use Rattle.syn_mid.specs.pat.Pats.{LayerOf, Pat, PatGuard, PatIdent, PatOr, PatParen, PatReference, PatSlice, PatStruct, PatTuple, PatTupleStruct, PatType, FieldPat, binding_of, field_of}
 
 -- a measure of what is already measured
 most_mapped : {T Q : Type 0} (f : T → Q) (g : Q → ℕ) (all : List T) → most g (map f all) ≡ most (λ x. g (f x)) all

@@ -5,7 +5,6 @@ use Rattle.token_core.specs.declared.word.Word.{Word}
 use Rattle.token_core.specs.declared.tree.Ident.{Ident}
 use Rattle.token_core.specs.declared.tree.TokenStream.{TokenStream}
 use Rattle.syn_mid.specs.Supplied.{Place}
-use Rattle.syn_mid.specs.declared.pat.FieldPatOf.{FieldPatOf}
 use Rattle.syn_mid.specs.declared.pat.PatOf.{out-PatOf, map-PatOf}
 use Rattle.syn_mid.specs.declared.pat.PatOf.TheFolds.{fold-roll-PatOf, fold_out-PatOf}
 use Rattle.syn_mid.specs.declared.pat.PatOf.TheOpen as o

@@ -2,7 +2,6 @@
 use Rattle.std.specs.Prelude.{ℕ, Bool, false, if◌then◌else◌, List, [], ◌∷◌, ◌++◌, Option, Some, None}
 use Rattle.token_core.specs.declared.mark.Mark.{Mark}
 use Rattle.token_core.specs.declared.member.Member.{Member}
-use Rattle.token_core.specs.declared.word.Word.{Word}
 use Rattle.token_core.specs.declared.tree.Delimiter.TheVariants.{Parenthesis, Brace, Bracket}
 use Rattle.token_core.specs.Lists.{joined}
 use Rattle.token_core.specs.Loops.{Many}
