@@ -10,6 +10,7 @@ pub mod ListedComplete
 pub mod Complete
 pub mod KnotComplete
 pub mod Normal
+pub mod Mapped
 pub mod Prints
 pub mod Each
 pub mod Stays

@@ -4,3 +4,4 @@ pub mod Spelling
 pub mod Reading
 pub mod Printing
 pub mod Grammars
+pub mod Silent
