@@ -5,12 +5,12 @@ use Rattle.token_core.specs.declared.word.Word.{Word}
 use Rattle.token_core.specs.Loops.{Many}
 use Rattle.syn_mid.specs.Supplied.{Place}
 use Rattle.syn_mid.specs.declared.generics.Generics.{Generics}
-use Rattle.syn_mid.specs.declared.generics.GenericParam.{GenericParam}
 use Rattle.syn_mid.specs.declared.generics.WhereClause.{WhereClause}
 use Rattle.syn_mid.specs.declared.generics.WherePredicate.{WherePredicate}
 use Rattle.syn_mid.specs.declared.generics.WherePredicate.TheVariants as w
 use Rattle.syn_mid.specs.declared.generics.PredicateLifetime.{PredicateLifetime}
 use Rattle.syn_mid.specs.declared.generics.PredicateType.{PredicateType}
+use Rattle.syn_mid.specs.ty.Trees.{GenericParam}
 use Rattle.syn_mid.specs.ty.Normal as types
 use Rattle.syn_mid.specs.ty.Normal.{param, bound}
 use Rattle.syn_mid.specs.generics.Members.{sort}

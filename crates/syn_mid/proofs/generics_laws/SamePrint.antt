@@ -1,5 +1,5 @@
 -- On every tree, the normal form of generics and where clauses prints the same, where that of a supplied subtree does.
-use Rattle.std.proofs.Common.{◌≡◌, true, false, List, [], ◌∷◌, ◌++◌, Option, Some, None, map, refl, sym, ◌∙◌, ap}
+use Rattle.std.proofs.Common.{◌≡◌, List, [], ◌∷◌, ◌++◌, Option, refl, sym, ◌∙◌, ap}
 use Rattle.token_core.specs.declared.mark.Mark.{Mark}
 use Rattle.token_core.specs.declared.word.Word.{Word}
 use Rattle.token_core.specs.Lifetimes as lifetimes
@@ -8,12 +8,12 @@ use Rattle.token_core.specs.Prints as p
 use Rattle.token_core.specs.Prints.{Print}
 use Rattle.syn_mid.specs.Supplied.{Place}
 use Rattle.syn_mid.specs.declared.generics.Generics.{Generics}
-use Rattle.syn_mid.specs.declared.generics.GenericParam.{GenericParam}
 use Rattle.syn_mid.specs.declared.generics.WhereClause.{WhereClause}
 use Rattle.syn_mid.specs.declared.generics.WherePredicate.{WherePredicate}
 use Rattle.syn_mid.specs.declared.generics.WherePredicate.TheVariants as w
 use Rattle.syn_mid.specs.declared.generics.PredicateLifetime.{PredicateLifetime}
 use Rattle.syn_mid.specs.declared.generics.PredicateType.{PredicateType}
+use Rattle.syn_mid.specs.ty.Trees.{GenericParam}
 use Rattle.syn_mid.specs.ty.Normal as types
 use Rattle.syn_mid.specs.ty.Printing as texts
 use Rattle.syn_mid.specs.ty.Printing.{param, bound}

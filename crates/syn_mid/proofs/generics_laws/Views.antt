@@ -9,22 +9,19 @@ use Rattle.token_core.specs.Spans.{none}
 use Rattle.syn_mid.specs.Supplied.{Place}
 use Rattle.syn_mid.specs.ty.Types.{Comma, comma}
 use Rattle.syn_mid.specs.ty.Printing as ty
-use Rattle.syn_mid.specs.declared.ty.TypeFnPtr.{TypeFnPtr}
 use Rattle.syn_mid.specs.declared.generics.Generics.{Generics}
-use Rattle.syn_mid.specs.declared.generics.GenericParam.{GenericParam, out-GenericParam}
-use Rattle.syn_mid.specs.declared.generics.GenericParam.TheOpen as g
-use Rattle.syn_mid.specs.declared.generics.GenericParam.TheVariants as v
-use Rattle.syn_mid.specs.declared.generics.LifetimeParam.{LifetimeParam}
-use Rattle.syn_mid.specs.declared.generics.TypeParam.{TypeParam, out-TypeParam}
-use Rattle.syn_mid.specs.declared.generics.ConstParamOf.{ConstParamOf}
-use Rattle.syn_mid.specs.declared.generics.TypeParamBound.{TypeParamBound}
+use Rattle.syn_mid.specs.declared.generics.GenericParamOf.{out-GenericParamOf}
+use Rattle.syn_mid.specs.declared.generics.GenericParamOf.TheOpen as g
+use Rattle.syn_mid.specs.declared.generics.GenericParamOf.TheVariants as v
+use Rattle.syn_mid.specs.declared.generics.TypeParamOf.{out-TypeParamOf}
+use Rattle.syn_mid.specs.declared.supplied.Expr.{Expr}
 use Rattle.syn_mid.specs.declared.generics.Style.TheVariants as styles
 use Rattle.syn_mid.specs.generics.Members.{Member, comma_of, lacks, some_left, adds, each, members, members_of, firsts, others, sorted}
-use Rattle.syn_mid.specs.generics.Params.{is_lifetime, is_lifetime_layer, type_param_of, const_param_of}
+use Rattle.syn_mid.specs.generics.Params.{is_lifetime, is_lifetime_layer, const_param_of}
 use Rattle.syn_mid.specs.generics.Printing.{generics}
 use Rattle.syn_mid.specs.generics.Shapes.{or_default, between, after_colon, attrs, lifetime_param}
 use Rattle.syn_mid.specs.ty.Printing.{type_head, const_head, param, bound}
-use Rattle.syn_mid.specs.declared.ty.Type.{«Type» as TypeTree}
+use Rattle.syn_mid.specs.ty.Trees.{LayerOf, Attr, GenericParam, LifetimeParam, TypeParam, ConstParam}
 use Rattle.syn_mid.specs.generics.Views.{strip, strip_type, strip_layer, stripped, name, name_layer, names, after_sep, turbofish, between_as}
 use Rattle.syn_mid.proofs.ty_laws.Prints.{param-Lifetime, param-Type, param-Const, type_param_parts}
 
@@ -35,26 +32,26 @@ module _ {X : Type 0} where
   pub is_lifetime-Type : (x : TypeParam X) → is_lifetime (v.«Type» x) ≡ false
   is_lifetime-Type x = ap is_lifetime_layer (v.outs-Type x)
 
-  pub is_lifetime-Const : (x : ConstParamOf (TypeTree X) X) → is_lifetime (v.Const x) ≡ false
+  pub is_lifetime-Const : (x : ConstParam X) → is_lifetime (v.Const x) ≡ false
   is_lifetime-Const x = ap is_lifetime_layer (v.outs-Const x)
 
   pub name-Lifetime : (x : LifetimeParam X) → name (v.Lifetime x) ≡ lifetimes.print x.lifetime
   name-Lifetime x = ap name_layer (v.outs-Lifetime x)
 
-  pub name-Type : (x : TypeParam X) → name (v.«Type» x) ≡ p.ident (out-TypeParam X x).ident
+  pub name-Type : (x : TypeParam X) → name (v.«Type» x) ≡ p.ident (out-TypeParamOf (Attr X) (Expr X) x).ident
   name-Type x = ap name_layer (v.outs-Type x)
 
-  pub name-Const : (x : ConstParamOf (TypeTree X) X) → name (v.Const x) ≡ p.ident x.ident
+  pub name-Const : (x : ConstParam X) → name (v.Const x) ≡ p.ident x.ident
   name-Const x = ap name_layer (v.outs-Const x)
 
   -- without its default a parameter is of the same kind
   strip_kind : (x : GenericParam X) → is_lifetime (strip x) ≡ is_lifetime x
-  strip_kind x = by (out-GenericParam X x)
+  strip_kind x = by (out-GenericParamOf (Attr X) (Expr X) x)
     where
-      by : (y : g.GenericParam-F X (GenericParam X) (TypeParamBound X) (TypeTree X) (TypeParam X) (TypeFnPtr X)) → is_lifetime (strip_layer y) ≡ is_lifetime_layer y
-      by (g.GenericParam::Lifetime z) = is_lifetime-Lifetime z
-      by (g.«Type» z) = is_lifetime-Type (strip_type z)
-      by (g.Const z) = is_lifetime-Const (const_param_of z.attrs z.const_token z.ident z.colon_token z.ty None)
+      by : (y : LayerOf g.GenericParamOf-F X) → is_lifetime (strip_layer y) ≡ is_lifetime_layer y
+      by (g.GenericParamOf::Lifetime z) = is_lifetime-Lifetime z
+      by (g.GenericParamOf::Type z) = is_lifetime-Type (strip_type z)
+      by (g.GenericParamOf::Const z) = is_lifetime-Const (const_param_of z.attrs z.const_token z.ident z.colon_token z.ty None)
 
 module _ {X : Type 0} (px : Place → X → Print) where
   pub head-Lifetime : (x : LifetimeParam X) → param px (strip (v.Lifetime x)) ≡ lifetime_param px x
@@ -62,11 +59,11 @@ module _ {X : Type 0} (px : Place → X → Print) where
 
   pub head-Type : (x : TypeParam X) → param px (strip (v.«Type» x)) ≡ type_head px x
   head-Type x =
-      let f = out-TypeParam X x in
+      let f = out-TypeParamOf (Attr X) (Expr X) x in
       ap (λ y. param px (strip_layer y)) (v.outs-Type x) ∙ param-Type px (strip_type x) ∙ type_param_parts px f.attrs f.ident f.colon_token f.bounds None
       ∙ ap (λ r. attrs px f.attrs ++ (p.ident f.ident ++ r)) (append-nil (after_colon (bound px) f.colon_token f.bounds))
 
-  pub head-Const : (x : ConstParamOf (TypeTree X) X) → param px (strip (v.Const x)) ≡ const_head px x
+  pub head-Const : (x : ConstParam X) → param px (strip (v.Const x)) ≡ const_head px x
   head-Const x =
       ap (λ y. param px (strip_layer y)) (v.outs-Const x) ∙ param-Const px (const_param_of x.attrs x.const_token x.ident x.colon_token x.ty None)
       ∙ ap (λ r. attrs px x.attrs ++ (p.word x.const_token ++ (p.ident x.ident ++ (p.mark x.colon_token ++ r)))) (append-nil (ty.ty px x.ty))
