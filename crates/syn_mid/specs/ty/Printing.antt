@@ -1,4 +1,4 @@
--- What types print.
+-- What types, arguments of paths, parameters and bounds print.
 use Rattle.std.specs.Prelude.{ℕ, Bool, true, false, get_or, List, [], ◌∷◌, ◌++◌, Option, Some, None}
 use Rattle.token_core.specs.declared.lifetime.Lifetime.{Lifetime}
 use Rattle.token_core.specs.declared.lit.LitStr.{LitStr}
@@ -45,14 +45,18 @@ use Rattle.syn_mid.specs.declared.generics.TraitBoundOf.{out-TraitBoundOf}
 use Rattle.syn_mid.specs.declared.generics.TypeParamOf.{out-TypeParamOf}
 use Rattle.syn_mid.specs.declared.path.AngleBracketedGenericArgumentsOf.{AngleBracketedGenericArgumentsOf}
 use Rattle.syn_mid.specs.declared.path.AssocConstOf.{AssocConstOf}
+use Rattle.syn_mid.specs.declared.path.ConstraintOf.{out-ConstraintOf}
 use Rattle.syn_mid.specs.declared.path.ParenthesizedGenericArgumentsOf.{ParenthesizedGenericArgumentsOf}
 use Rattle.syn_mid.specs.declared.path.PathOf.{PathOf}
 use Rattle.syn_mid.specs.declared.ty.TypeFnPtrOf.{out-TypeFnPtrOf}
+use Rattle.syn_mid.specs.declared.ty.TypeInferOf.{TypeInferOf}
+use Rattle.syn_mid.specs.declared.ty.TypeMacroOf.{TypeMacroOf}
+use Rattle.syn_mid.specs.declared.ty.TypeNeverOf.{TypeNeverOf}
 use Rattle.syn_mid.specs.declared.ty.TypePathOf.{out-TypePathOf}
 use Rattle.syn_mid.specs.generics.Shapes.{after_colon, attrs, bare_trait_by, binder_end, binder_joined, binder_start, bound_lifetimes_by, capture, const_argument, const_head_by, const_param_by, lifetime_param, named_trait_by, trait_bound_by, type_head_by, type_param_by}
 use Rattle.syn_mid.specs.path.Paths.{is_lifetime}
 use Rattle.syn_mid.specs.path.Shapes.{path_by, as_written, qualified_by, angle_by, optional_angle_by, parenthesized_start}
-use Rattle.syn_mid.specs.ty.Trees.{Family, Attr, Attrs, GenericParam, TypeParam, ConstParam, BoundLifetimes, TypeParamBound, TraitBound, PathArguments, Path, GenericArgument, AngleBracketed, AssocType, AssocConst, Constraint, Parenthesized, TypeTree, QSelf, TypeArray, TypeFnPtr, TypeGroup, TypeImplTrait, TypeInfer, TypeMacro, TypeNever, TypeParen, TypePath, TypePtr, TypeReference, TypeSlice, TypeTraitObject, TypeTuple, NamedArg, FnPtrVariadic, ReturnType}
+use Rattle.syn_mid.specs.ty.Trees.{Family, Attr, Attrs, GenericParam, TypeParam, ConstParam, BoundLifetimes, TypeParamBound, TraitBound, PathArguments, Path, GenericArgument, AngleBracketed, AssocType, AssocConst, Constraint, Parenthesized, TypeTree, QSelf, TypeArray, TypeFnPtr, TypeGroup, TypeImplTrait, TypeParen, TypePath, TypePtr, TypeReference, TypeSlice, TypeTraitObject, TypeTuple, NamedArg, FnPtrVariadic, ReturnType}
 
 -- the name of a convention, where it is written
 abbrev pub convention : Option LitStr → Print
@@ -102,7 +106,7 @@ last_comma c [] cs = []
 last_comma c (x ∷ all) [] = p.mark c
 last_comma c (x ∷ all) (d ∷ cs) = last_comma c all cs
 
--- ---- by the print of the types within, without attributes
+-- ---- by the print of the types within
 
 module _ {T : Type 0} (print : T → Print) where
   -- a path, which a type may qualify, by the print of its arguments
@@ -154,7 +158,16 @@ module _ {B : Type 0} (bound : B → Print) where
   abbrev pub trait_object_by : {A : Type 0} → TypeTraitObjectOf B A → Print
   trait_object_by x = optional_word x.dyn_token ++ joined_by x.bounds
 
--- ---- parts of trees
+-- ---- parts of trees. A type prints none of its own attributes.
+
+abbrev pub infer : {A : Type 0} → TypeInferOf A → Print
+infer x = p.word x.underscore_token
+
+abbrev pub never : {A : Type 0} → TypeNeverOf A → Print
+never x = p.mark x.bang_token
+
+abbrev pub macro_type : {A : Type 0} → TypeMacroOf A → Print
+macro_type x = mac x.mac
 
 module _ {X : Type 0} where
   -- the binder of a pointer to a function
@@ -163,6 +176,10 @@ module _ {X : Type 0} where
 
   abbrev pub inputs_of : TypeFnPtr X → Many (NamedArg X) Comma
   inputs_of x = (out-TypeFnPtrOf (Attr X) (Expr X) x).inputs
+
+  -- to the start of its binder
+  abbrev pub fn_start : TypeFnPtr X → Print
+  fn_start x = binder_start (fn_lifetimes x)
 
   -- from the end of its binder to `fn`
   abbrev pub fn_head : TypeFnPtr X → Print
@@ -206,21 +223,8 @@ module _ {X : Type 0} (prints : Place → X → Print) where
   abbrev pub fn_arguments_by : {T : Type 0} → (T → Print) → Paren → Many (NamedArgOf T (Attr X)) Comma → Option (FnPtrVariadic X) → Print
   fn_arguments_by type t v m = p.group Parenthesis (stream_of_trees (inputs_by type v ++ more v m)) t.span
 
-  -- to the start of its binder
-  abbrev pub fn_start_by : {G : Type 0} → Attrs X → Option (BoundLifetimesOf G) → Print
-  fn_start_by a l = attrs prints a ++ binder_start l
-
-  abbrev pub fn_ptr_by : {G T : Type 0} → (G → Print) → (T → Print) → Attrs X → Option (BoundLifetimesOf G) → Option (Word 16) → Option Abi → Word 9 → Paren → Many (NamedArgOf T (Attr X)) Comma → Option (FnPtrVariadic X) → ReturnTypeOf T → Print
-  fn_ptr_by param type b l u a w t v m r = fn_start_by b l ++ (binder_joined param l ++ (fn_head_by l u a w ++ (fn_arguments_by type t v m ++ return_type_by type r)))
-
-  abbrev pub infer : TypeInfer X → Print
-  infer x = attrs prints x.attrs ++ p.word x.underscore_token
-
-  abbrev pub never : TypeNever X → Print
-  never x = attrs prints x.attrs ++ p.mark x.bang_token
-
-  abbrev pub macro_type : TypeMacro X → Print
-  macro_type x = attrs prints x.attrs ++ mac x.mac
+  abbrev pub fn_ptr_by : {G T : Type 0} → (G → Print) → (T → Print) → Option (BoundLifetimesOf G) → Option (Word 16) → Option Abi → Word 9 → Paren → Many (NamedArgOf T (Attr X)) Comma → Option (FnPtrVariadic X) → ReturnTypeOf T → Print
+  fn_ptr_by param type l u a w t v m r = binder_start l ++ (binder_joined param l ++ (fn_head_by l u a w ++ (fn_arguments_by type t v m ++ return_type_by type r)))
 
   -- arguments of a path, by the print of types
   abbrev pub parenthesized_by : {T : Type 0} → (T → Print) → ParenthesizedGenericArgumentsOf T (Attr X) → Print
@@ -239,27 +243,27 @@ module _ {X : Type 0} (prints : Place → X → Print) where
     constraint_by bound i g c b = p.ident i ++ (optional_angle_by is argument g ++ (p.mark c ++ joined_by bound b))
 
   abbrev pub ty_step : Shown o.TypeOf-F X → Print
-  ty_step (o.Array x) = attrs prints x.attrs ++ array_by (λ z. z) len x
+  ty_step (o.Array x) = array_by (λ z. z) len x
   ty_step (o.FnPtr x) = x
-  ty_step (o.Group x) = attrs prints x.attrs ++ group_by (λ z. z) x
-  ty_step (o.ImplTrait x) = attrs prints x.attrs ++ impl_trait_by (λ z. z) x
+  ty_step (o.Group x) = group_by (λ z. z) x
+  ty_step (o.ImplTrait x) = impl_trait_by (λ z. z) x
   ty_step (o.Infer x) = infer x
   ty_step (o.Macro x) = macro_type x
   ty_step (o.Never x) = never x
-  ty_step (o.Paren x) = attrs prints x.attrs ++ paren_by (λ z. z) x
+  ty_step (o.Paren x) = paren_by (λ z. z) x
   ty_step (o.Path x) = x
-  ty_step (o.Ptr x) = attrs prints x.attrs ++ ptr_by (λ z. z) x
-  ty_step (o.Reference x) = attrs prints x.attrs ++ reference_by (λ z. z) x
-  ty_step (o.Slice x) = attrs prints x.attrs ++ slice_by (λ z. z) x
-  ty_step (o.TraitObject x) = attrs prints x.attrs ++ trait_object_by (λ z. z) x
-  ty_step (o.Tuple x) = attrs prints x.attrs ++ tuple_by (λ z. z) x
+  ty_step (o.Ptr x) = ptr_by (λ z. z) x
+  ty_step (o.Reference x) = reference_by (λ z. z) x
+  ty_step (o.Slice x) = slice_by (λ z. z) x
+  ty_step (o.TraitObject x) = trait_object_by (λ z. z) x
+  ty_step (o.Tuple x) = tuple_by (λ z. z) x
   ty_step (o.TypeOf::Verbatim x) = trees x
 
   abbrev pub fn_ptr_step : Shown o.TypeFnPtrOf-F X → Print
-  fn_ptr_step x = fn_ptr_by (λ z. z) (λ z. z) x.attrs x.lifetimes x.unsafety x.abi x.fn_token x.paren_token x.inputs x.variadic x.output
+  fn_ptr_step x = fn_ptr_by (λ z. z) (λ z. z) x.lifetimes x.unsafety x.abi x.fn_token x.paren_token x.inputs x.variadic x.output
 
   abbrev pub path_type_step : Shown o.TypePathOf-F X → Print
-  path_type_step x = attrs prints x.attrs ++ qpath_by (λ z. z) (λ style z. z style) as_written x.qself x.path
+  path_type_step x = qpath_by (λ z. z) (λ style z. z style) as_written x.qself x.path
 
   abbrev pub param_step : Shown o.GenericParamOf-F X → Print
   param_step (o.GenericParamOf::Lifetime x) = lifetime_param prints x
@@ -350,21 +354,20 @@ module _ {X : Type 0} (prints : Place → X → Print) where
   parenthesized = parenthesized_by ty
 
   abbrev pub array : TypeArray X → Print
-  array x = attrs prints x.attrs ++ array_by ty len x
+  array x = array_by ty len x
 
   -- a path, which a type may qualify
   abbrev pub qpath : PathStyle → Option (QSelf X) → Path X → Print
   qpath = qpath_by ty arguments
 
-  -- the path of a type without its attributes
   abbrev pub type_name : TypePath X → Print
   type_name x = let f = out-TypePathOf (Attr X) (Expr X) x in qpath as_written f.qself f.path
 
   abbrev pub impl_trait : TypeImplTrait X → Print
-  impl_trait x = attrs prints x.attrs ++ impl_trait_by bound x
+  impl_trait x = impl_trait_by bound x
 
   abbrev pub trait_object : TypeTraitObject X → Print
-  trait_object x = attrs prints x.attrs ++ trait_object_by bound x
+  trait_object x = trait_object_by bound x
 
   abbrev pub named_arg : NamedArg X → Print
   named_arg = named_arg_by ty
@@ -372,11 +375,7 @@ module _ {X : Type 0} (prints : Place → X → Print) where
   abbrev pub inputs : Many (NamedArg X) Comma → Print
   inputs = inputs_by ty
 
-  -- the parts of a pointer to a function: to the start of its binder
-  abbrev pub fn_start : TypeFnPtr X → Print
-  fn_start x = let f = out-TypeFnPtrOf (Attr X) (Expr X) x in fn_start_by f.attrs f.lifetimes
-
-  -- the parameters of its binder
+  -- the parts of a pointer to a function: the parameters of its binder
   abbrev pub fn_params : TypeFnPtr X → Print
   fn_params x = binder_joined param (fn_lifetimes x)
 
@@ -401,6 +400,10 @@ module _ {X : Type 0} (prints : Place → X → Print) where
 
   abbrev pub own_bounds : TypeParam X → Print
   own_bounds x = bounds_joined (out-TypeParamOf (Attr X) (Expr X) x).bounds
+
+  -- the bounds of an associated type
+  abbrev pub constraint_bounds : Constraint X → Print
+  constraint_bounds x = bounds_joined (out-ConstraintOf (Attr X) (Expr X) x).bounds
 
   -- a type parameter without its default
   abbrev pub type_head : TypeParam X → Print
@@ -432,25 +435,25 @@ module _ {X : Type 0} (prints : Place → X → Print) where
   bound_lifetimes = bound_lifetimes_by param
 
   abbrev pub group : TypeGroup X → Print
-  group x = attrs prints x.attrs ++ group_by ty x
+  group x = group_by ty x
 
   abbrev pub return_type : ReturnType X → Print
   return_type = return_type_by ty
 
   abbrev pub paren : TypeParen X → Print
-  paren x = attrs prints x.attrs ++ paren_by ty x
+  paren x = paren_by ty x
 
   abbrev pub ptr : TypePtr X → Print
-  ptr x = attrs prints x.attrs ++ ptr_by ty x
+  ptr x = ptr_by ty x
 
   abbrev pub reference : TypeReference X → Print
-  reference x = attrs prints x.attrs ++ reference_by ty x
+  reference x = reference_by ty x
 
   abbrev pub slice : TypeSlice X → Print
-  slice x = attrs prints x.attrs ++ slice_by ty x
+  slice x = slice_by ty x
 
   abbrev pub elements : Many (TypeTree X) Comma → Print
   elements = elements_by ty
 
   abbrev pub tuple : TypeTuple X → Print
-  tuple x = attrs prints x.attrs ++ tuple_by ty x
+  tuple x = tuple_by ty x
