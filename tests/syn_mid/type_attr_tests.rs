@@ -1,4 +1,4 @@
-//! What types print with attributes: those before a type, and no inner ones.
+//! A type holds attributes and prints none of them.
 
 use crate::fn_ptr_tests::whole as pointer;
 use crate::generics_tests::{literal, says, shown};
@@ -121,77 +121,48 @@ fn attributed(
 }
 
 #[test]
-fn outer_attributes_stand_before_types(rt: HostRuntime) {
+fn a_type_prints_none_of_its_attributes(rt: HostRuntime) {
     let alloc = rt.alloc();
-    for (text, wanted, behind) in [
-        ("_", "_", "# [b] # [c] _"),
-        ("!", "!", "# [b] # [c] !"),
-        ("(A)", "(A)", "# [b] # [c] (A)"),
-        ("a::B", "a :: B", "# [b] # [c] a :: B"),
-        ("*const A", "* const A", "# [b] # [c] * const A"),
-        ("&'a mut A", "& 'a mut A", "# [b] # [c] & 'a mut A"),
-        ("[A]", "[A]", "# [b] # [c] [A]"),
-        ("(A,)", "(A ,)", "# [b] # [c] (A ,)"),
-        ("m!{x}", "m ! { x }", "# [b] # [c] m ! { x }"),
+    for (text, wanted) in [
+        ("_", "_"),
+        ("!", "!"),
+        ("(A)", "(A)"),
+        ("a::B", "a :: B"),
+        ("*const A", "* const A"),
+        ("&'a mut A", "& 'a mut A"),
+        ("[A]", "[A]"),
+        ("(A,)", "(A ,)"),
+        ("m!{x}", "m ! { x }"),
     ] {
         says(&rt, shown(alloc, read(alloc, text)), wanted);
         let within = attributed(alloc, read(alloc, text), inner(alloc, "#![b]"));
         says(&rt, within, wanted);
         let before = attributed(alloc, read(alloc, text), outer(alloc, "#[b] #[c]"));
-        says(&rt, before, behind);
+        says(&rt, before, wanted);
     }
 }
 
-/// It prints the first text; with inner attributes too; and the second one behind an outer attribute.
+/// It prints this text, with an outer attribute too.
 fn prints(
     rt: &impl Abort,
     alloc: Global,
     plain: Result<Ty, Error>,
-    within: Result<Ty, Error>,
     before: Result<Ty, Error>,
-    (wanted, behind): (&str, &str),
+    wanted: &str,
 ) {
     says(rt, shown(alloc, plain), wanted);
-    says(rt, attributed(alloc, within, inner(alloc, "#![b]")), wanted);
-    says(rt, attributed(alloc, before, outer(alloc, "#[b]")), behind);
+    says(rt, attributed(alloc, before, outer(alloc, "#[b]")), wanted);
 }
 
 #[test]
-fn outer_attributes_stand_before_forms_made_by_hand(rt: HostRuntime) {
+fn a_form_made_by_hand_prints_none_of_its_attributes(rt: HostRuntime) {
     let alloc = rt.alloc();
-    let wanted = ("[A ; 2]", "# [b] [A ; 2]");
-    prints(&rt, alloc, array(alloc), array(alloc), array(alloc), wanted);
-    let wanted = ("\\(A\\)", "# [b] \\(A\\)");
-    prints(&rt, alloc, group(alloc), group(alloc), group(alloc), wanted);
-    let wanted = ("impl A + for < 'b > A", "# [b] impl A + for < 'b > A");
-    prints(
-        &rt,
-        alloc,
-        some_type(alloc),
-        some_type(alloc),
-        some_type(alloc),
-        wanted,
-    );
-    let wanted = ("dyn A + for < 'b > A", "# [b] dyn A + for < 'b > A");
-    let made = trait_object(alloc);
-    prints(
-        &rt,
-        alloc,
-        made,
-        trait_object(alloc),
-        trait_object(alloc),
-        wanted,
-    );
-    let wanted = (
-        "for < 'a > unsafe extern \"C\" fn (...) -> B",
-        "# [b] for < 'a > unsafe extern \"C\" fn (...) -> B",
-    );
-    prints(
-        &rt,
-        alloc,
-        fn_ptr(alloc),
-        fn_ptr(alloc),
-        fn_ptr(alloc),
-        wanted,
-    );
+    prints(&rt, alloc, array(alloc), array(alloc), "[A ; 2]");
+    prints(&rt, alloc, group(alloc), group(alloc), "\\(A\\)");
+    let wanted = "impl A + for < 'b > A";
+    prints(&rt, alloc, some_type(alloc), some_type(alloc), wanted);
+    let wanted = "dyn A + for < 'b > A";
+    prints(&rt, alloc, trait_object(alloc), trait_object(alloc), wanted);
+    let wanted = "for < 'a > unsafe extern \"C\" fn (...) -> B";
+    prints(&rt, alloc, fn_ptr(alloc), fn_ptr(alloc), wanted);
 }
