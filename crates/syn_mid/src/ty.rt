@@ -688,7 +688,7 @@ impl<X: Subtree> ToTokens for TypeGroup<X> {
     }
 }
 
-impl<A> ToTokens for TypeInferOf<A> {
+impl<X> ToTokens for TypeInfer<X> {
     ghost print = { printing.infer };
 
     fn to_tokens(&self, alloc: Global, out: &mut TokenStream) -> Result<(), AllocError> {
@@ -696,7 +696,7 @@ impl<A> ToTokens for TypeInferOf<A> {
     }
 }
 
-impl<A> ToTokens for TypeMacroOf<A> {
+impl<X> ToTokens for TypeMacro<X> {
     ghost print = { printing.macro_type };
 
     fn to_tokens(&self, alloc: Global, out: &mut TokenStream) -> Result<(), AllocError> {
@@ -704,7 +704,7 @@ impl<A> ToTokens for TypeMacroOf<A> {
     }
 }
 
-impl<A> ToTokens for TypeNeverOf<A> {
+impl<X> ToTokens for TypeNever<X> {
     ghost print = { printing.never };
 
     fn to_tokens(&self, alloc: Global, out: &mut TokenStream) -> Result<(), AllocError> {
