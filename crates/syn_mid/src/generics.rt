@@ -10,9 +10,9 @@ ghost use Rattle.token_core.specs.Prints.{Extends, Print};
 ghost use Rattle.token_core.specs.Reads.{Reads, Follows, Gives, Fails};
 ghost use Rattle.token_core.specs.Rebuilt.{Visible};
 ghost use Rattle.token_core.specs.Trees.{trees};
-ghost use Rattle.syn_mid.specs.declared.generics.GenericParam.TheVariants as params;
+ghost use Rattle.syn_mid.specs.declared.generics.GenericParamOf.TheVariants as params;
 ghost use Rattle.syn_mid.specs.declared.generics.Style as styles;
-ghost use Rattle.syn_mid.specs.declared.generics.TypeParamBound.TheVariants as bounds;
+ghost use Rattle.syn_mid.specs.declared.generics.TypeParamBoundOf.TheVariants as bounds;
 ghost use Rattle.syn_mid.specs.declared.generics.WherePredicate.TheVariants as predicates;
 ghost use Rattle.syn_mid.specs.generics.Kinds as kinds;
 ghost use Rattle.syn_mid.specs.generics.Lends.{lends_clause};
@@ -593,15 +593,18 @@ enum Style {
 }
 
 /// A member of a list that prints its lifetimes first.
-trait Member {
+pub(crate) trait Member {
     /// It is a lifetime.
     ghost first: { Self → Bool };
 
-    /// What is printed of it.
-    ghost shown: { styles.Style → Self → Print };
-
     fn is_lifetime(&self) -> bool
         ensures { result ≡ first self.now };
+}
+
+/// A member that is printed in a style.
+trait Styled: Member {
+    /// What is printed of it.
+    ghost shown: { styles.Style → Self → Print };
 
     /// Appends it; refused, what stood before is kept.
     fn print_as(&self, alloc: Global, style: Style, out: &mut TokenStream) -> Result<(), AllocError>
@@ -612,14 +615,16 @@ trait Member {
 impl Member for CapturedParam {
     ghost first = { shapes.is_captured_lifetime };
 
-    ghost shown = { λ style x. shapes.captured x };
-
     fn is_lifetime(&self) -> bool {
         match self {
             CapturedParam::Lifetime(_) => true,
             CapturedParam::Ident(_) => false,
         }
     }
+}
+
+impl Styled for CapturedParam {
+    ghost shown = { λ style x. shapes.captured x };
 
     #[tactic(auto, using(token_core::proofs::Puts::puts))]
     fn print_as(
@@ -675,7 +680,7 @@ fn print_capture(
 
 /// Lifetimes, each with its comma; a comma where the last has none and others follow; the others, each with its comma.
 #[tactic(auto, using(token_core::proofs::Puts::puts))]
-fn print_sorted<M: Member>(
+fn print_sorted<M: Styled>(
     alloc: Global,
     list: &Punctuated<M, Comma>,
     style: Style,
@@ -690,7 +695,7 @@ fn print_sorted<M: Member>(
 }
 
 #[tactic(auto, using(token_core::proofs::Puts::puts, crate::proofs::generics_laws::Sorted::kinds))]
-fn print_lifetime_members<M: Member>(
+fn print_lifetime_members<M: Styled>(
     alloc: Global,
     list: &Punctuated<M, Comma>,
     style: Style,
@@ -703,7 +708,7 @@ fn print_lifetime_members<M: Member>(
 }
 
 #[tactic(auto, using(token_core::proofs::Puts::puts, crate::proofs::generics_laws::Sorted::kinds))]
-fn print_other_members<M: Member>(
+fn print_other_members<M: Styled>(
     alloc: Global,
     list: &Punctuated<M, Comma>,
     style: Style,
@@ -717,7 +722,7 @@ fn print_other_members<M: Member>(
 
 /// The members that are lifetimes, or those that are not, each with its comma.
 #[tactic(auto, using(token_core::proofs::Puts::puts, crate::proofs::generics_laws::Sorted::kinds))]
-fn print_kind<M: Member>(
+fn print_kind<M: Styled>(
     alloc: Global,
     list: &Punctuated<M, Comma>,
     lifetimes: bool,
@@ -739,7 +744,7 @@ fn print_kind<M: Member>(
 
 /// A member with its comma, where it is of the kind.
 #[tactic(auto, using(token_core::proofs::Puts::puts, crate::proofs::generics_laws::Sorted::kinds))]
-fn print_member<M: Member>(
+fn print_member<M: Styled>(
     alloc: Global,
     member: &M,
     comma: Option<&Comma>,
@@ -761,7 +766,7 @@ fn print_member<M: Member>(
 }
 
 #[tactic(auto, using(token_core::proofs::Puts::puts))]
-fn print_added_comma<M: Member>(
+pub(crate) fn print_added_comma<M: Member>(
     alloc: Global,
     list: &Punctuated<M, Comma>,
     out: &mut TokenStream,
@@ -918,7 +923,7 @@ pub(crate) fn print_param<X: Subtree>(
 }
 
 #[cycle(print)]
-#[tactic(auto, using(token_core::proofs::Puts::puts, crate::proofs::ty_laws::Prints::prints))]
+#[tactic(auto, using(token_core::proofs::Puts::puts))]
 fn print_const_param<X: Subtree>(
     alloc: Global,
     param: &ConstParam<X>,
@@ -933,7 +938,7 @@ fn print_const_param<X: Subtree>(
 
 /// A const parameter without its default.
 #[cycle(print)]
-#[tactic(auto, using(token_core::proofs::Puts::puts, crate::proofs::ty_laws::Prints::prints))]
+#[tactic(auto, using(token_core::proofs::Puts::puts))]
 fn print_const_head<X: Subtree>(
     alloc: Global,
     param: &ConstParam<X>,
@@ -950,7 +955,7 @@ fn print_const_head<X: Subtree>(
 }
 
 #[cycle(print)]
-#[tactic(auto, using(token_core::proofs::Puts::puts, crate::proofs::ty_laws::Prints::prints))]
+#[tactic(auto, using(token_core::proofs::Puts::puts))]
 fn print_type_param<X: Subtree>(
     alloc: Global,
     param: &TypeParam<X>,
@@ -971,7 +976,7 @@ fn print_type_param<X: Subtree>(
 
 /// A type parameter without its default.
 #[cycle(print)]
-#[tactic(auto, using(token_core::proofs::Puts::puts, crate::proofs::ty_laws::Prints::parts))]
+#[tactic(auto, using(token_core::proofs::Puts::puts))]
 fn print_type_head<X: Subtree>(
     alloc: Global,
     param: &TypeParam<X>,
@@ -1004,7 +1009,7 @@ fn print_type_bounds<X: Subtree>(
 }
 
 #[cycle(print)]
-#[tactic(auto, using(token_core::proofs::Puts::puts, crate::proofs::ty_laws::Prints::parts))]
+#[tactic(auto, using(token_core::proofs::Puts::puts))]
 fn print_bounds<X: Subtree>(
     alloc: Global,
     param: &TypeParam<X>,
@@ -1044,7 +1049,7 @@ pub(crate) fn print_bound<X: Subtree>(
 }
 
 #[cycle(print)]
-#[tactic(auto, using(token_core::proofs::Puts::puts, crate::proofs::attr_laws::Prints::contents))]
+#[tactic(auto, using(token_core::proofs::Puts::puts, crate::proofs::ty_laws::Prints::parts))]
 fn print_trait_bound<X: Subtree>(
     alloc: Global,
     bound: &TraitBound<X>,
@@ -1071,7 +1076,7 @@ fn print_bare_trait<X: Subtree>(
     bound: &TraitBound<X>,
     out: &mut TokenStream,
 ) -> Result<(), AllocError>
-    ensures ok { OnOk result (trees out.new ≡ trees out.old ++ shapes.bare_trait_by (types.param X.prints) bound.now) }
+    ensures ok { OnOk result (trees out.new ≡ trees out.old ++ types.bare_trait X.prints bound.now) }
     ensures err { OnErr result (Extends (trees out.old) (trees out.new)) }
 {
     print_binder_start(alloc, &bound.lifetimes, out)?;
@@ -1082,13 +1087,13 @@ fn print_bare_trait<X: Subtree>(
 
 /// The parameters of a trait bound's binder.
 #[cycle(print)]
-#[tactic(auto, using(token_core::proofs::Puts::puts, crate::proofs::ty_laws::Prints::parts))]
+#[tactic(auto, using(token_core::proofs::Puts::puts))]
 fn print_trait_params<X: Subtree>(
     alloc: Global,
     bound: &TraitBound<X>,
     out: &mut TokenStream,
 ) -> Result<(), AllocError>
-    ensures ok { OnOk result (trees out.new ≡ trees out.old ++ shapes.binder_joined (types.param X.prints) bound.now.lifetimes) }
+    ensures ok { OnOk result (trees out.new ≡ trees out.old ++ types.trait_params X.prints bound.now) }
     ensures err { OnErr result (Extends (trees out.old) (trees out.new)) }
 {
     let (pairs, last) = binder_parts(bound);
@@ -1106,7 +1111,7 @@ fn print_trait_params<X: Subtree>(
 fn binder_parts<X>(
     bound: &TraitBound<X>,
 ) -> (&[Pair<GenericParam<X>, Comma>], Option<&GenericParam<X>>)
-    ensures { shapes.binder_params bound.now.lifetimes ≡ (values_of result.0.now (option_map (λ x. x.now) result.1), marks_of result.0.now) }
+    ensures { shapes.binder_params (types.trait_binder bound.now) ≡ (values_of result.0.now (option_map (λ x. x.now) result.1), marks_of result.0.now) }
 {
     match &bound.lifetimes {
         Some(binder) => binder.lifetimes.parts(),
@@ -1151,7 +1156,7 @@ pub(crate) fn print_binder_end<G>(
 
 /// A trait bound after its binder.
 #[cycle(print)]
-#[tactic(auto, using(token_core::proofs::Puts::puts, crate::proofs::ty_laws::Prints::prints))]
+#[tactic(auto, using(token_core::proofs::Puts::puts))]
 fn print_named_trait<X: Subtree>(
     alloc: Global,
     bound: &TraitBound<X>,
@@ -1477,10 +1482,8 @@ impl<'a, X> TypeGenerics<'a, X> {
     }
 }
 
-impl<X: Subtree> Member for GenericParam<X> {
+impl<X> Member for GenericParam<X> {
     ghost first = { spec.is_lifetime };
-
-    ghost shown = { views.shown X.prints };
 
     #[tactic(auto, using(crate::proofs::generics_laws::Views::views))]
     fn is_lifetime(&self) -> bool {
@@ -1489,6 +1492,10 @@ impl<X: Subtree> Member for GenericParam<X> {
             GenericParam::Type(_) | GenericParam::Const(_) => false,
         }
     }
+}
+
+impl<X: Subtree> Styled for GenericParam<X> {
+    ghost shown = { views.shown X.prints };
 
     #[tactic(auto, using(token_core::proofs::Puts::puts, crate::proofs::generics_laws::Views::views))]
     fn print_as(

@@ -1,25 +1,28 @@
 //! Paths.
 
-ghost use Rattle.std.specs.Prelude.{◌≡◌, refl, [], ◌++◌, ◌<◌, length, Bool, false, true, option_map, IfOk, IfErr, OnOk, OnErr};
+ghost use Rattle.std.specs.Prelude.{◌≡◌, refl, [], ◌∷◌, ◌++◌, ◌<◌, length, Bool, false, true, option_map, IfOk, IfErr, OnOk, OnErr};
 ghost use Rattle.token_core.specs.Rebuilt.{Visible};
 ghost use Rattle.token_core.specs.Refusal.{Made};
+ghost use Rattle.token_core.specs.Joined.{values_of, marks_of};
 ghost use Rattle.token_core.specs.Spans.{none};
 ghost use Rattle.token_core.specs.Trees.{trees};
-ghost use Rattle.token_core.specs.Prints as prints;
 ghost use Rattle.token_core.specs.Prints.{Print, Extends};
 ghost use Rattle.token_core.specs.Reads.{Reads, Follows, sees_word};
 ghost use Rattle.token_core.specs.Headline.{Heads};
+ghost use Rattle.syn_mid.specs.generics.Members as members;
 ghost use Rattle.syn_mid.specs.path.Grammars as grammars;
 ghost use Rattle.syn_mid.specs.path.Paths as spec;
 ghost use Rattle.syn_mid.specs.path.Printing as printing;
 ghost use Rattle.syn_mid.specs.path.Reading as reading;
 ghost use Rattle.syn_mid.specs.path.Shapes as shapes;
-ghost use Rattle.syn_mid.specs.path.Silent as silent;
-ghost use Rattle.syn_mid.specs.ty.Printing as types;
+ghost use Rattle.syn_mid.specs.path.Silent.{silent};
 ghost use Rattle.syn_mid.specs.path.Spelling.{IsModPath, is_mod_word, is_type_word};
+ghost use Rattle.syn_mid.specs.ty.Printing as types;
 
 use crate::attr::Attribute;
-use crate::generics::{TypeParamBoundOf, print_bound, print_const_argument};
+use crate::generics::{
+    Member, TypeParamBoundOf, print_added_comma, print_bound, print_const_argument,
+};
 use crate::supplied::{Expr, Subtree};
 use crate::ty::{
     NamedArg, NamedArgOf, ReturnTypeOf, Type, TypeOf, bound_parts, print_arg_name, print_type,
@@ -242,7 +245,7 @@ impl<X: Subtree> Arguments for PathArguments<X> {
 
     ghost shown = { types.arguments X.prints shapes.as_written };
 
-    ghost silent = { silent.silent X.prints };
+    ghost silent = { silent X.prints };
 
     fn none() -> PathArguments<X> {
         PathArguments::None
@@ -639,7 +642,7 @@ fn bare_segment<A>(alloc: Global, segment: &PathSegmentOf<A>) -> Result<ModSegme
 // ---- prints
 
 impl<X: Subtree> ToTokens for Path<X> {
-    ghost print = { printing.path X.prints printing.as_written };
+    ghost print = { printing.path X.prints shapes.as_written };
 
     fn to_tokens(&self, alloc: Global, out: &mut TokenStream) -> Result<(), AllocError> {
         let before = out.len();
@@ -669,7 +672,7 @@ impl ToTokens for ModPath {
 }
 
 impl<X: Subtree> ToTokens for PathSegment<X> {
-    ghost print = { printing.segment X.prints printing.as_written };
+    ghost print = { printing.segment X.prints shapes.as_written };
 
     fn to_tokens(&self, alloc: Global, out: &mut TokenStream) -> Result<(), AllocError> {
         let before = out.len();
@@ -692,7 +695,7 @@ impl ToTokens for ModSegment {
 }
 
 impl<X: Subtree> ToTokens for PathArguments<X> {
-    ghost print = { printing.arguments X.prints printing.as_written };
+    ghost print = { types.arguments X.prints shapes.as_written };
 
     fn to_tokens(&self, alloc: Global, out: &mut TokenStream) -> Result<(), AllocError> {
         let before = out.len();
@@ -754,7 +757,7 @@ fn print_mod_segment(
 
 /// Appends a path; refused, what stood before is kept.
 #[cycle(print)]
-#[tactic(auto, using(token_core::proofs::Puts::puts, crate::proofs::ty_laws::Prints::prints))]
+#[tactic(auto, using(token_core::proofs::Puts::puts))]
 pub(crate) fn print_path<X: Subtree>(
     alloc: Global,
     path: &Path<X>,
@@ -770,7 +773,7 @@ pub(crate) fn print_path<X: Subtree>(
 
 /// Each segment with its mark.
 #[cycle(print)]
-#[tactic(auto, using(token_core::proofs::Puts::puts, crate::proofs::ty_laws::Prints::prints))]
+#[tactic(auto, using(token_core::proofs::Puts::puts))]
 fn print_segments<X: Subtree>(
     alloc: Global,
     path: &Path<X>,
@@ -792,7 +795,7 @@ fn print_segments<X: Subtree>(
 }
 
 #[cycle(print)]
-#[tactic(auto, using(token_core::proofs::Puts::puts, crate::proofs::ty_laws::Prints::prints))]
+#[tactic(auto, using(token_core::proofs::Puts::puts))]
 fn print_segment<X: Subtree>(
     alloc: Global,
     segment: &PathSegment<X>,
@@ -807,24 +810,19 @@ fn print_segment<X: Subtree>(
 }
 
 #[cycle(print)]
-#[tactic(auto, using(token_core::proofs::Puts::puts, crate::proofs::ty_laws::Prints::prints))]
+#[tactic(auto, using(token_core::proofs::Puts::puts, crate::proofs::ty_laws::Prints::arguments))]
 fn print_arguments<X: Subtree>(
     alloc: Global,
     arguments: &PathArguments<X>,
     style: PathStyle,
     out: &mut TokenStream,
 ) -> Result<(), AllocError>
-    ensures ok { OnOk result (trees out.new ≡ trees out.old ++ printing.arguments X.prints style arguments.now) }
+    ensures ok { OnOk result (trees out.new ≡ trees out.old ++ types.arguments X.prints style arguments.now) }
     ensures err { OnErr result (Extends (trees out.old) (trees out.new)) }
 {
     match arguments {
         PathArguments::None => Ok(()),
-        PathArguments::AngleBracketed(arguments) => {
-            print_angle_start(alloc, arguments, style, out)?;
-            print_lifetimes(alloc, arguments, out)?;
-            print_others(alloc, arguments, out)?;
-            arguments.gt_token.to_tokens(alloc, out)
-        }
+        PathArguments::AngleBracketed(arguments) => print_angle(alloc, arguments, style, out),
         PathArguments::Parenthesized(arguments) => {
             print_parenthesized_start(alloc, style, out)?;
             print_parenthesized(alloc, arguments, out)
@@ -832,82 +830,78 @@ fn print_arguments<X: Subtree>(
     }
 }
 
-/// The lifetimes among arguments, each with its comma, which is added where there is none and another argument follows.
-#[tactic(auto, using(token_core::proofs::Puts::puts, crate::proofs::ty_laws::Prints::prints))]
-fn print_lifetimes<X: Subtree>(
+/// Arguments between angle marks: lifetimes, each with its comma; a comma where the last has none and others follow; the others, each with its comma.
+#[cycle(print)]
+#[tactic(auto, using(token_core::proofs::Puts::puts))]
+fn print_angle<X: Subtree>(
     alloc: Global,
     arguments: &AngleBracketedGenericArguments<X>,
+    style: PathStyle,
     out: &mut TokenStream,
 ) -> Result<(), AllocError>
-    ensures ok { OnOk result (trees out.new ≡ trees out.old ++ printing.lifetimes_first arguments.now) }
+    ensures ok { OnOk result (trees out.new ≡ trees out.old ++ types.angle X.prints style arguments.now) }
     ensures err { OnErr result (Extends (trees out.old) (trees out.new)) }
 {
-    let (pairs, last) = argument_parts(arguments);
-    for pair in pairs {
-        if let GenericArgument::Lifetime(lifetime) = &pair.value {
-            lifetime.to_tokens(alloc, out)?;
-            pair.mark.to_tokens(alloc, out)?;
-        }
-    }
-    match last {
-        Some(GenericArgument::Lifetime(lifetime)) => {
-            lifetime.to_tokens(alloc, out)?;
-            print_comma_after(alloc, pairs, out)
-        }
-        Some(_) | None => Ok(()),
-    }
+    print_angle_start(alloc, arguments, style, out)?;
+    print_argument_kind(alloc, arguments, true, out)?;
+    print_added_comma(alloc, &arguments.args, out)?;
+    print_argument_kind(alloc, arguments, false, out)?;
+    arguments.gt_token.to_tokens(alloc, out)
 }
 
-/// The other arguments, each with its comma.
+/// The arguments that are lifetimes, or those that are not, each with its comma.
 #[cycle(print)]
-#[tactic(auto, using(token_core::proofs::Puts::puts, crate::proofs::ty_laws::Prints::prints))]
-fn print_others<X: Subtree>(
+#[tactic(auto, using(token_core::proofs::Puts::puts, crate::proofs::generics_laws::Sorted::kinds))]
+fn print_argument_kind<X: Subtree>(
     alloc: Global,
     arguments: &AngleBracketedGenericArguments<X>,
+    lifetimes: bool,
     out: &mut TokenStream,
 ) -> Result<(), AllocError>
-    ensures ok { OnOk result (trees out.new ≡ trees out.old ++ printing.others X.prints arguments.now) }
+    ensures ok { OnOk result (trees out.new ≡ trees out.old ++ printing.kind X.prints lifetimes arguments.now) }
     ensures err { OnErr result (Extends (trees out.old) (trees out.new)) }
 {
     let (pairs, last) = argument_parts(arguments);
     for pair in pairs {
-        if !is_lifetime(&pair.value) {
-            print_argument(alloc, &pair.value, out)?;
-            pair.mark.to_tokens(alloc, out)?;
-        }
+        print_argument_member(alloc, &pair.value, Some(&pair.mark), lifetimes, out)?;
     }
     match last {
-        Some(argument) => print_argument_after_lifetimes(alloc, argument, out),
+        Some(argument) => print_argument_member(alloc, argument, None, lifetimes, out),
         None => Ok(()),
     }
 }
 
-/// An argument that is no lifetime.
+/// An argument with its comma, where it is of the kind.
 #[cycle(print)]
-#[tactic(auto, using(token_core::proofs::Puts::puts, crate::proofs::ty_laws::Prints::prints))]
-fn print_argument_after_lifetimes<X: Subtree>(
+#[tactic(auto, using(token_core::proofs::Puts::puts, crate::proofs::generics_laws::Sorted::kinds))]
+fn print_argument_member<X: Subtree>(
     alloc: Global,
     argument: &GenericArgument<X>,
+    comma: Option<&Comma>,
+    lifetimes: bool,
     out: &mut TokenStream,
 ) -> Result<(), AllocError>
-    ensures ok { OnOk result (trees out.new ≡ trees out.old ++ printing.unless_lifetime X.prints argument.now) }
+    ensures ok { OnOk result (trees out.new ≡ trees out.old ++ members.each (types.argument X.prints) (members.those spec.is_lifetime lifetimes ((argument.now, option_map (λ c. c.now) comma.entry) ∷ []))) }
     ensures err { OnErr result (Extends (trees out.old) (trees out.new)) }
 {
-    if is_lifetime(argument) {
-        Ok(())
-    } else {
-        print_argument(alloc, argument, out)
+    if argument.is_lifetime() != lifetimes {
+        return Ok(());
+    }
+    print_argument(alloc, argument, out)?;
+    match comma {
+        Some(comma) => comma.to_tokens(alloc, out),
+        None => Ok(()),
     }
 }
 
 #[cycle(print)]
-#[tactic(auto, using(token_core::proofs::Puts::puts, crate::proofs::ty_laws::Prints::prints))]
+#[tactic(auto, using(token_core::proofs::Puts::puts, crate::proofs::ty_laws::Prints::arguments))]
 pub(crate) fn print_argument<X: Subtree>(
     alloc: Global,
     argument: &GenericArgument<X>,
     out: &mut TokenStream,
 ) -> Result<(), AllocError>
-    ensures ok { OnOk result (trees out.new ≡ trees out.old ++ printing.argument X.prints argument.now) }
+    ensures ok { OnOk result (trees out.new ≡ trees out.old ++ types.argument X.prints argument.now) }
     ensures err { OnErr result (Extends (trees out.old) (trees out.new)) }
 {
     match argument {
@@ -922,34 +916,29 @@ pub(crate) fn print_argument<X: Subtree>(
 
 /// The arguments of the name of an associated item, where it has some, as they stand.
 #[cycle(print)]
-#[tactic(auto, using(token_core::proofs::Puts::puts, crate::proofs::ty_laws::Prints::prints))]
+#[tactic(auto, using(token_core::proofs::Puts::puts))]
 fn print_generics<X: Subtree>(
     alloc: Global,
     generics: &Option<AngleBracketedGenericArguments<X>>,
     out: &mut TokenStream,
 ) -> Result<(), AllocError>
-    ensures ok { OnOk result (trees out.new ≡ trees out.old ++ printing.optional_angle X.prints generics.now) }
+    ensures ok { OnOk result (trees out.new ≡ trees out.old ++ types.optional_angle X.prints generics.now) }
     ensures err { OnErr result (Extends (trees out.old) (trees out.new)) }
 {
     match generics {
-        Some(arguments) => {
-            print_angle_start(alloc, arguments, PathStyle::AsWritten, out)?;
-            print_lifetimes(alloc, arguments, out)?;
-            print_others(alloc, arguments, out)?;
-            arguments.gt_token.to_tokens(alloc, out)
-        }
+        Some(arguments) => print_angle(alloc, arguments, PathStyle::AsWritten, out),
         None => Ok(()),
     }
 }
 
 #[cycle(print)]
-#[tactic(auto, using(token_core::proofs::Puts::puts, crate::proofs::ty_laws::Prints::prints))]
+#[tactic(auto, using(token_core::proofs::Puts::puts, crate::proofs::ty_laws::Prints::arguments))]
 fn print_assoc_type<X: Subtree>(
     alloc: Global,
     assoc: &AssocType<X>,
     out: &mut TokenStream,
 ) -> Result<(), AllocError>
-    ensures ok { OnOk result (trees out.new ≡ trees out.old ++ printing.assoc_type X.prints assoc.now) }
+    ensures ok { OnOk result (trees out.new ≡ trees out.old ++ types.assoc_type X.prints assoc.now) }
     ensures err { OnErr result (Extends (trees out.old) (trees out.new)) }
 {
     assoc.ident.to_tokens(alloc, out)?;
@@ -959,13 +948,13 @@ fn print_assoc_type<X: Subtree>(
 }
 
 #[cycle(print)]
-#[tactic(auto, using(token_core::proofs::Puts::puts, crate::proofs::ty_laws::Prints::prints))]
+#[tactic(auto, using(token_core::proofs::Puts::puts))]
 fn print_assoc_const<X: Subtree>(
     alloc: Global,
     assoc: &AssocConst<X>,
     out: &mut TokenStream,
 ) -> Result<(), AllocError>
-    ensures ok { OnOk result (trees out.new ≡ trees out.old ++ printing.assoc_const X.prints assoc.now) }
+    ensures ok { OnOk result (trees out.new ≡ trees out.old ++ types.assoc_const X.prints assoc.now) }
     ensures err { OnErr result (Extends (trees out.old) (trees out.new)) }
 {
     assoc.ident.to_tokens(alloc, out)?;
@@ -976,13 +965,13 @@ fn print_assoc_const<X: Subtree>(
 
 /// The colon prints without bounds too.
 #[cycle(print)]
-#[tactic(auto, using(token_core::proofs::Puts::puts, crate::proofs::ty_laws::Prints::prints))]
+#[tactic(auto, using(token_core::proofs::Puts::puts, crate::proofs::ty_laws::Prints::arguments))]
 fn print_constraint<X: Subtree>(
     alloc: Global,
     constraint: &Constraint<X>,
     out: &mut TokenStream,
 ) -> Result<(), AllocError>
-    ensures ok { OnOk result (trees out.new ≡ trees out.old ++ printing.constraint X.prints constraint.now) }
+    ensures ok { OnOk result (trees out.new ≡ trees out.old ++ types.constraint X.prints constraint.now) }
     ensures err { OnErr result (Extends (trees out.old) (trees out.new)) }
 {
     constraint.ident.to_tokens(alloc, out)?;
@@ -993,13 +982,13 @@ fn print_constraint<X: Subtree>(
 
 /// Each bound of a constraint with its mark.
 #[cycle(print)]
-#[tactic(auto, using(token_core::proofs::Puts::puts, crate::proofs::ty_laws::Prints::prints))]
+#[tactic(auto, using(token_core::proofs::Puts::puts))]
 fn print_constraint_bounds<X: Subtree>(
     alloc: Global,
     constraint: &Constraint<X>,
     out: &mut TokenStream,
 ) -> Result<(), AllocError>
-    ensures ok { OnOk result (trees out.new ≡ trees out.old ++ printing.constraint_bounds X.prints constraint.now) }
+    ensures ok { OnOk result (trees out.new ≡ trees out.old ++ types.constraint_bounds X.prints constraint.now) }
     ensures err { OnErr result (Extends (trees out.old) (trees out.new)) }
 {
     let (pairs, last) = bound_parts(&constraint.bounds);
@@ -1015,13 +1004,13 @@ fn print_constraint_bounds<X: Subtree>(
 
 /// Arguments in their parentheses, and the output.
 #[cycle(print)]
-#[tactic(auto, using(token_core::proofs::Puts::puts, crate::proofs::ty_laws::Prints::prints))]
+#[tactic(auto, using(token_core::proofs::Puts::puts))]
 fn print_parenthesized<X: Subtree>(
     alloc: Global,
     arguments: &ParenthesizedGenericArguments<X>,
     out: &mut TokenStream,
 ) -> Result<(), AllocError>
-    ensures ok { OnOk result (trees out.new ≡ trees out.old ++ printing.parenthesized X.prints arguments.now) }
+    ensures ok { OnOk result (trees out.new ≡ trees out.old ++ types.parenthesized X.prints arguments.now) }
     ensures err { OnErr result (Extends (trees out.old) (trees out.new)) }
 {
     let mut content = TokenStream::new(alloc);
@@ -1038,13 +1027,13 @@ fn print_parenthesized<X: Subtree>(
 
 /// Each argument in parentheses with its comma.
 #[cycle(print)]
-#[tactic(auto, using(token_core::proofs::Puts::puts, crate::proofs::ty_laws::Prints::prints))]
+#[tactic(auto, using(token_core::proofs::Puts::puts))]
 fn print_parenthesized_inputs<X: Subtree>(
     alloc: Global,
     arguments: &ParenthesizedGenericArguments<X>,
     out: &mut TokenStream,
 ) -> Result<(), AllocError>
-    ensures ok { OnOk result (trees out.new ≡ trees out.old ++ printing.parenthesized_inputs X.prints arguments.now) }
+    ensures ok { OnOk result (trees out.new ≡ trees out.old ++ types.inputs X.prints arguments.now.inputs) }
     ensures err { OnErr result (Extends (trees out.old) (trees out.new)) }
 {
     let (pairs, last) = input_parts(arguments);
@@ -1065,7 +1054,7 @@ fn print_parenthesized_inputs<X: Subtree>(
 /// Appends what follows the type that qualifies a path: `as` and the segments up to `>`, and those after it. `>` stands after as many segments as
 /// `position` says, or as there are; where that is none, there is no `as`. A missing `as` is printed all the same.
 #[cycle(print)]
-#[tactic(auto, using(token_core::proofs::Puts::puts, crate::proofs::ty_laws::Prints::prints))]
+#[tactic(auto, using(token_core::proofs::Puts::puts, crate::proofs::path_laws::Around::qualifies))]
 pub(crate) fn print_qualified<X: Subtree>(
     alloc: Global,
     qself: &QSelf<X>,
@@ -1088,7 +1077,7 @@ pub(crate) fn print_qualified<X: Subtree>(
 
 /// The segments, with `>` after as many as are to stand before it; those print as they stand.
 #[cycle(print)]
-#[tactic(auto, using(token_core::proofs::Puts::puts, crate::proofs::ty_laws::Prints::prints))]
+#[tactic(auto, using(token_core::proofs::Puts::puts))]
 fn print_around<X: Subtree>(
     alloc: Global,
     path: &Path<X>,
@@ -1115,7 +1104,7 @@ fn print_around<X: Subtree>(
 
 /// A segment, and `>` after it where it is the last of those before.
 #[cycle(print)]
-#[tactic(auto, using(token_core::proofs::Puts::puts, crate::proofs::ty_laws::Prints::prints))]
+#[tactic(auto, using(token_core::proofs::Puts::puts, crate::proofs::path_laws::Around::closings))]
 fn print_closing<X: Subtree>(
     alloc: Global,
     segment: &PathSegment<X>,
@@ -1168,32 +1157,21 @@ fn input_parts<X>(
     arguments.inputs.parts()
 }
 
-/// Whether an argument is a lifetime: those print first.
-fn is_lifetime<X>(argument: &GenericArgument<X>) -> bool
-    ensures { result ≡ printing.is_lifetime argument.now }
-{
-    match argument {
-        GenericArgument::Lifetime(_) => true,
-        GenericArgument::Type(_)
-        | GenericArgument::Const(_)
-        | GenericArgument::AssocType(_)
-        | GenericArgument::AssocConst(_)
-        | GenericArgument::Constraint(_) => false,
-    }
-}
+/// An argument that is a lifetime prints first.
+impl<X> Member for GenericArgument<X> {
+    ghost first = { spec.is_lifetime };
 
-/// A comma after a last lifetime, where an argument that is none stands before it and so prints after it.
-fn print_comma_after<X>(
-    alloc: Global,
-    pairs: &[Pair<GenericArgument<X>, Comma>],
-    out: &mut TokenStream,
-) -> Result<(), AllocError> {
-    for pair in pairs {
-        if !is_lifetime(&pair.value) {
-            return Comma::default().to_tokens(alloc, out);
+    #[tactic(auto, using(crate::proofs::generics_laws::Prints::argument_kinds))]
+    fn is_lifetime(&self) -> bool {
+        match self {
+            GenericArgument::Lifetime(_) => true,
+            GenericArgument::Type(_)
+            | GenericArgument::Const(_)
+            | GenericArgument::AssocType(_)
+            | GenericArgument::AssocConst(_)
+            | GenericArgument::Constraint(_) => false,
         }
     }
-    Ok(())
 }
 
 /// The start of arguments between angle marks: in an expression after `::`, which is printed where it is missing.
@@ -1204,7 +1182,7 @@ fn print_angle_start<X>(
     style: PathStyle,
     out: &mut TokenStream,
 ) -> Result<(), AllocError>
-    ensures ok { OnOk result (trees out.new ≡ trees out.old ++ printing.angle_start style arguments.now) }
+    ensures ok { OnOk result (trees out.new ≡ trees out.old ++ shapes.angle_start style arguments.now) }
     ensures err { OnErr result (Extends (trees out.old) (trees out.new)) }
 {
     match (&arguments.colon2_token, style) {
@@ -1222,7 +1200,7 @@ fn print_parenthesized_start(
     style: PathStyle,
     out: &mut TokenStream,
 ) -> Result<(), AllocError>
-    ensures ok { OnOk result (trees out.new ≡ trees out.old ++ printing.parenthesized_start style) }
+    ensures ok { OnOk result (trees out.new ≡ trees out.old ++ shapes.parenthesized_start style) }
     ensures err { OnErr result (Extends (trees out.old) (trees out.new)) }
 {
     match style {
@@ -1249,7 +1227,7 @@ fn print_colon(
 /// `as`, or one that stands nowhere.
 #[tactic(auto, using(token_core::proofs::Puts::puts))]
 fn print_as(alloc: Global, as_token: &Option<As>, out: &mut TokenStream) -> Result<(), AllocError>
-    ensures ok { OnOk result (trees out.new ≡ trees out.old ++ printing.as_or_default as_token.now) }
+    ensures ok { OnOk result (trees out.new ≡ trees out.old ++ shapes.as_or_default as_token.now) }
     ensures err { OnErr result (Extends (trees out.old) (trees out.new)) }
 {
     match as_token {

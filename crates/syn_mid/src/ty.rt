@@ -7,7 +7,7 @@ ghost use Rattle.token_core.specs.Prints.{Extends};
 ghost use Rattle.token_core.specs.Reads.{Reads, Follows, Gives, Fails};
 ghost use Rattle.token_core.specs.Rebuilt.{Visible};
 ghost use Rattle.token_core.specs.Trees.{trees};
-ghost use Rattle.syn_mid.specs.declared.ty.Type.TheVariants as types;
+ghost use Rattle.syn_mid.specs.declared.ty.TypeOf.TheVariants as types;
 ghost use Rattle.syn_mid.specs.ty.Grammars as grammars;
 ghost use Rattle.syn_mid.specs.ty.Knot as knot;
 ghost use Rattle.syn_mid.specs.generics.Shapes as shapes;
@@ -688,48 +688,27 @@ impl<X: Subtree> ToTokens for TypeGroup<X> {
     }
 }
 
-impl<X: Subtree> ToTokens for TypeInfer<X> {
-    ghost print = { printing.infer X.prints };
+impl<X> ToTokens for TypeInfer<X> {
+    ghost print = { printing.infer };
 
     fn to_tokens(&self, alloc: Global, out: &mut TokenStream) -> Result<(), AllocError> {
-        let before = out.len();
-        match print_infer(alloc, self, out) {
-            Ok(()) => Ok(()),
-            Err(error) => {
-                out.truncate(before);
-                Err(error)
-            }
-        }
+        self.underscore_token.to_tokens(alloc, out)
     }
 }
 
-impl<X: Subtree> ToTokens for TypeMacro<X> {
-    ghost print = { printing.macro_type X.prints };
+impl<X> ToTokens for TypeMacro<X> {
+    ghost print = { printing.macro_type };
 
     fn to_tokens(&self, alloc: Global, out: &mut TokenStream) -> Result<(), AllocError> {
-        let before = out.len();
-        match print_macro_type(alloc, self, out) {
-            Ok(()) => Ok(()),
-            Err(error) => {
-                out.truncate(before);
-                Err(error)
-            }
-        }
+        self.mac.to_tokens(alloc, out)
     }
 }
 
-impl<X: Subtree> ToTokens for TypeNever<X> {
-    ghost print = { printing.never X.prints };
+impl<X> ToTokens for TypeNever<X> {
+    ghost print = { printing.never };
 
     fn to_tokens(&self, alloc: Global, out: &mut TokenStream) -> Result<(), AllocError> {
-        let before = out.len();
-        match print_never(alloc, self, out) {
-            Ok(()) => Ok(()),
-            Err(error) => {
-                out.truncate(before);
-                Err(error)
-            }
-        }
+        self.bang_token.to_tokens(alloc, out)
     }
 }
 
@@ -748,7 +727,7 @@ impl<X: Subtree> ToTokens for TypeParen<X> {
     }
 }
 
-/// Appends outer attributes, and a path as it stands; a qualified one between `<` and `>`, which stand after as many segments as its `position` says, or as there are.
+/// Appends a path as it stands; a qualified one between `<` and `>`, which stand after as many segments as its `position` says, or as there are.
 impl<X: Subtree> ToTokens for TypePath<X> {
     ghost print = { printing.path_type X.prints };
 
@@ -897,7 +876,7 @@ fn print_return_type<X: Subtree>(
     }
 }
 
-/// Appends outer attributes, the binder, `unsafe`, the convention, `fn`, in parentheses the arguments and `...` after a comma, and what is returned.
+/// Appends the binder, `unsafe`, the convention, `fn`, in parentheses the arguments and `...` after a comma, and what is returned.
 impl<X: Subtree> ToTokens for TypeFnPtr<X> {
     ghost print = { printing.fn_ptr X.prints };
 
@@ -991,9 +970,9 @@ pub(crate) fn print_type<X: Subtree>(
         Type::FnPtr(pointer) => print_fn_ptr(alloc, pointer, out),
         Type::Group(group) => print_group(alloc, group, out),
         Type::ImplTrait(opaque) => print_impl_trait(alloc, opaque, out),
-        Type::Infer(infer) => print_infer(alloc, infer, out),
-        Type::Macro(call) => print_macro_type(alloc, call, out),
-        Type::Never(never) => print_never(alloc, never, out),
+        Type::Infer(infer) => infer.to_tokens(alloc, out),
+        Type::Macro(call) => call.to_tokens(alloc, out),
+        Type::Never(never) => never.to_tokens(alloc, out),
         Type::Paren(paren) => print_paren(alloc, paren, out),
         Type::Path(path) => print_path_type(alloc, path, out),
         Type::Ptr(ptr) => print_ptr(alloc, ptr, out),
@@ -1006,7 +985,7 @@ pub(crate) fn print_type<X: Subtree>(
 }
 
 #[cycle(print)]
-#[tactic(auto, using(token_core::proofs::Puts::puts, crate::proofs::ty_laws::Prints::prints))]
+#[tactic(auto, using(token_core::proofs::Puts::puts))]
 fn print_array<X: Subtree>(
     alloc: Global,
     array: &TypeArray<X>,
@@ -1015,7 +994,6 @@ fn print_array<X: Subtree>(
     ensures ok { OnOk result (trees out.new ≡ trees out.old ++ printing.array X.prints array.now) }
     ensures err { OnErr result (Extends (trees out.old) (trees out.new)) }
 {
-    print_outer(alloc, &array.attrs, out)?;
     let mut content = TokenStream::new(alloc);
     print_type(alloc, array.elem.get(), &mut content)?;
     array.semi_token.to_tokens(alloc, &mut content)?;
@@ -1033,7 +1011,7 @@ fn print_fn_ptr<X: Subtree>(
     ensures ok { OnOk result (trees out.new ≡ trees out.old ++ printing.fn_ptr X.prints pointer.now) }
     ensures err { OnErr result (Extends (trees out.old) (trees out.new)) }
 {
-    print_fn_start(alloc, pointer, out)?;
+    print_binder_start(alloc, &pointer.lifetimes, out)?;
     print_fn_params(alloc, pointer, out)?;
     print_fn_head(alloc, pointer, out)?;
     print_arguments(alloc, pointer, out)?;
@@ -1042,7 +1020,7 @@ fn print_fn_ptr<X: Subtree>(
 
 /// The parameters of the binder of a pointer to a function.
 #[cycle(print)]
-#[tactic(auto, using(token_core::proofs::Puts::puts, crate::proofs::ty_laws::Prints::prints))]
+#[tactic(auto, using(token_core::proofs::Puts::puts))]
 fn print_fn_params<X: Subtree>(
     alloc: Global,
     pointer: &TypeFnPtr<X>,
@@ -1064,13 +1042,13 @@ fn print_fn_params<X: Subtree>(
 
 /// The arguments of a pointer to a function in their parentheses.
 #[cycle(print)]
-#[tactic(auto, using(token_core::proofs::Puts::puts, crate::proofs::ty_laws::Prints::prints))]
+#[tactic(auto, using(token_core::proofs::Puts::puts))]
 fn print_arguments<X: Subtree>(
     alloc: Global,
     pointer: &TypeFnPtr<X>,
     out: &mut TokenStream,
 ) -> Result<(), AllocError>
-    ensures ok { OnOk result (trees out.new ≡ trees out.old ++ printing.arguments X.prints pointer.now) }
+    ensures ok { OnOk result (trees out.new ≡ trees out.old ++ printing.fn_arguments X.prints pointer.now) }
     ensures err { OnErr result (Extends (trees out.old) (trees out.new)) }
 {
     let mut content = TokenStream::new(alloc);
@@ -1081,7 +1059,7 @@ fn print_arguments<X: Subtree>(
 
 /// Each argument of a pointer to a function with its comma.
 #[cycle(print)]
-#[tactic(auto, using(token_core::proofs::Puts::puts, crate::proofs::ty_laws::Prints::prints))]
+#[tactic(auto, using(token_core::proofs::Puts::puts))]
 fn print_inputs<X: Subtree>(
     alloc: Global,
     pointer: &TypeFnPtr<X>,
@@ -1107,7 +1085,7 @@ fn print_inputs<X: Subtree>(
 
 /// What a pointer to a function returns.
 #[cycle(print)]
-#[tactic(auto, using(token_core::proofs::Puts::puts, crate::proofs::ty_laws::Prints::prints))]
+#[tactic(auto, using(token_core::proofs::Puts::puts))]
 fn print_output<X: Subtree>(
     alloc: Global,
     pointer: &TypeFnPtr<X>,
@@ -1126,7 +1104,7 @@ fn print_output<X: Subtree>(
 }
 
 #[cycle(print)]
-#[tactic(auto, using(token_core::proofs::Puts::puts, crate::proofs::ty_laws::Prints::prints))]
+#[tactic(auto, using(token_core::proofs::Puts::puts))]
 fn print_group<X: Subtree>(
     alloc: Global,
     group: &TypeGroup<X>,
@@ -1135,14 +1113,13 @@ fn print_group<X: Subtree>(
     ensures ok { OnOk result (trees out.new ≡ trees out.old ++ printing.group X.prints group.now) }
     ensures err { OnErr result (Extends (trees out.old) (trees out.new)) }
 {
-    print_outer(alloc, &group.attrs, out)?;
     let mut content = TokenStream::new(alloc);
     print_type(alloc, group.elem.get(), &mut content)?;
     group.group_token.surround(content, out)
 }
 
 #[cycle(print)]
-#[tactic(auto, using(token_core::proofs::Puts::puts, crate::proofs::ty_laws::Prints::prints))]
+#[tactic(auto, using(token_core::proofs::Puts::puts))]
 fn print_impl_trait<X: Subtree>(
     alloc: Global,
     opaque: &TypeImplTrait<X>,
@@ -1151,7 +1128,6 @@ fn print_impl_trait<X: Subtree>(
     ensures ok { OnOk result (trees out.new ≡ trees out.old ++ printing.impl_trait X.prints opaque.now) }
     ensures err { OnErr result (Extends (trees out.old) (trees out.new)) }
 {
-    print_outer(alloc, &opaque.attrs, out)?;
     opaque.impl_token.to_tokens(alloc, out)?;
     let (pairs, last) = bound_parts(&opaque.bounds);
     for pair in pairs {
@@ -1165,7 +1141,7 @@ fn print_impl_trait<X: Subtree>(
 }
 
 #[cycle(print)]
-#[tactic(auto, using(token_core::proofs::Puts::puts, crate::proofs::ty_laws::Prints::prints))]
+#[tactic(auto, using(token_core::proofs::Puts::puts))]
 fn print_paren<X: Subtree>(
     alloc: Global,
     paren: &TypeParen<X>,
@@ -1174,35 +1150,19 @@ fn print_paren<X: Subtree>(
     ensures ok { OnOk result (trees out.new ≡ trees out.old ++ printing.paren X.prints paren.now) }
     ensures err { OnErr result (Extends (trees out.old) (trees out.new)) }
 {
-    print_outer(alloc, &paren.attrs, out)?;
     let mut content = TokenStream::new(alloc);
     print_type(alloc, paren.elem.get(), &mut content)?;
     paren.paren_token.surround(content, out)
 }
 
 #[cycle(print)]
-#[tactic(auto, using(token_core::proofs::Puts::puts, crate::proofs::ty_laws::Prints::prints))]
+#[tactic(auto, using(token_core::proofs::Puts::puts, crate::proofs::ty_laws::Prints::parts))]
 fn print_path_type<X: Subtree>(
     alloc: Global,
     path: &TypePath<X>,
     out: &mut TokenStream,
 ) -> Result<(), AllocError>
     ensures ok { OnOk result (trees out.new ≡ trees out.old ++ printing.path_type X.prints path.now) }
-    ensures err { OnErr result (Extends (trees out.old) (trees out.new)) }
-{
-    print_outer(alloc, &path.attrs, out)?;
-    print_type_name(alloc, path, out)
-}
-
-/// The path of a type, which a type may qualify, without the attributes.
-#[cycle(print)]
-#[tactic(auto, using(token_core::proofs::Puts::puts, crate::proofs::ty_laws::Prints::prints))]
-fn print_type_name<X: Subtree>(
-    alloc: Global,
-    path: &TypePath<X>,
-    out: &mut TokenStream,
-) -> Result<(), AllocError>
-    ensures ok { OnOk result (trees out.new ≡ trees out.old ++ printing.type_name X.prints path.now) }
     ensures err { OnErr result (Extends (trees out.old) (trees out.new)) }
 {
     match &path.qself {
@@ -1216,7 +1176,7 @@ fn print_type_name<X: Subtree>(
 }
 
 #[cycle(print)]
-#[tactic(auto, using(token_core::proofs::Puts::puts, crate::proofs::ty_laws::Prints::prints))]
+#[tactic(auto, using(token_core::proofs::Puts::puts))]
 fn print_ptr<X: Subtree>(
     alloc: Global,
     ptr: &TypePtr<X>,
@@ -1225,14 +1185,13 @@ fn print_ptr<X: Subtree>(
     ensures ok { OnOk result (trees out.new ≡ trees out.old ++ printing.ptr X.prints ptr.now) }
     ensures err { OnErr result (Extends (trees out.old) (trees out.new)) }
 {
-    print_outer(alloc, &ptr.attrs, out)?;
     ptr.star_token.to_tokens(alloc, out)?;
     ptr.mutability.to_tokens(alloc, out)?;
     print_type(alloc, ptr.elem.get(), out)
 }
 
 #[cycle(print)]
-#[tactic(auto, using(token_core::proofs::Puts::puts, crate::proofs::ty_laws::Prints::prints))]
+#[tactic(auto, using(token_core::proofs::Puts::puts))]
 fn print_reference<X: Subtree>(
     alloc: Global,
     reference: &TypeReference<X>,
@@ -1241,7 +1200,6 @@ fn print_reference<X: Subtree>(
     ensures ok { OnOk result (trees out.new ≡ trees out.old ++ printing.reference X.prints reference.now) }
     ensures err { OnErr result (Extends (trees out.old) (trees out.new)) }
 {
-    print_outer(alloc, &reference.attrs, out)?;
     reference.and_token.to_tokens(alloc, out)?;
     print_lifetime(alloc, &reference.lifetime, out)?;
     print_word(alloc, &reference.mutability, out)?;
@@ -1249,7 +1207,7 @@ fn print_reference<X: Subtree>(
 }
 
 #[cycle(print)]
-#[tactic(auto, using(token_core::proofs::Puts::puts, crate::proofs::ty_laws::Prints::prints))]
+#[tactic(auto, using(token_core::proofs::Puts::puts))]
 fn print_slice<X: Subtree>(
     alloc: Global,
     slice: &TypeSlice<X>,
@@ -1258,14 +1216,13 @@ fn print_slice<X: Subtree>(
     ensures ok { OnOk result (trees out.new ≡ trees out.old ++ printing.slice X.prints slice.now) }
     ensures err { OnErr result (Extends (trees out.old) (trees out.new)) }
 {
-    print_outer(alloc, &slice.attrs, out)?;
     let mut content = TokenStream::new(alloc);
     print_type(alloc, slice.elem.get(), &mut content)?;
     slice.bracket_token.surround(content, out)
 }
 
 #[cycle(print)]
-#[tactic(auto, using(token_core::proofs::Puts::puts, crate::proofs::ty_laws::Prints::prints))]
+#[tactic(auto, using(token_core::proofs::Puts::puts))]
 fn print_trait_object<X: Subtree>(
     alloc: Global,
     object: &TypeTraitObject<X>,
@@ -1274,7 +1231,6 @@ fn print_trait_object<X: Subtree>(
     ensures ok { OnOk result (trees out.new ≡ trees out.old ++ printing.trait_object X.prints object.now) }
     ensures err { OnErr result (Extends (trees out.old) (trees out.new)) }
 {
-    print_outer(alloc, &object.attrs, out)?;
     print_word(alloc, &object.dyn_token, out)?;
     let (pairs, last) = bound_parts(&object.bounds);
     for pair in pairs {
@@ -1288,7 +1244,7 @@ fn print_trait_object<X: Subtree>(
 }
 
 #[cycle(print)]
-#[tactic(auto, using(token_core::proofs::Puts::puts, crate::proofs::ty_laws::Prints::prints))]
+#[tactic(auto, using(token_core::proofs::Puts::puts))]
 fn print_tuple<X: Subtree>(
     alloc: Global,
     tuple: &TypeTuple<X>,
@@ -1297,7 +1253,6 @@ fn print_tuple<X: Subtree>(
     ensures ok { OnOk result (trees out.new ≡ trees out.old ++ printing.tuple X.prints tuple.now) }
     ensures err { OnErr result (Extends (trees out.old) (trees out.new)) }
 {
-    print_outer(alloc, &tuple.attrs, out)?;
     let mut content = TokenStream::new(alloc);
     print_elements(alloc, tuple, &mut content)?;
     print_lone_comma(alloc, &tuple.elems, &mut content)?;
@@ -1306,7 +1261,7 @@ fn print_tuple<X: Subtree>(
 
 /// Each element of a tuple with its comma.
 #[cycle(print)]
-#[tactic(auto, using(token_core::proofs::Puts::puts, crate::proofs::ty_laws::Prints::prints))]
+#[tactic(auto, using(token_core::proofs::Puts::puts))]
 fn print_elements<X: Subtree>(
     alloc: Global,
     tuple: &TypeTuple<X>,
@@ -1385,45 +1340,6 @@ pub(crate) fn print_verbatim(
         out.push(tree.copy(alloc)?)?;
     }
     Ok(())
-}
-
-#[tactic(auto, using(token_core::proofs::Puts::puts))]
-fn print_infer<X: Subtree>(
-    alloc: Global,
-    infer: &TypeInfer<X>,
-    out: &mut TokenStream,
-) -> Result<(), AllocError>
-    ensures ok { OnOk result (trees out.new ≡ trees out.old ++ printing.infer X.prints infer.now) }
-    ensures err { OnErr result (Extends (trees out.old) (trees out.new)) }
-{
-    print_outer(alloc, &infer.attrs, out)?;
-    infer.underscore_token.to_tokens(alloc, out)
-}
-
-#[tactic(auto, using(token_core::proofs::Puts::puts))]
-fn print_macro_type<X: Subtree>(
-    alloc: Global,
-    call: &TypeMacro<X>,
-    out: &mut TokenStream,
-) -> Result<(), AllocError>
-    ensures ok { OnOk result (trees out.new ≡ trees out.old ++ printing.macro_type X.prints call.now) }
-    ensures err { OnErr result (Extends (trees out.old) (trees out.new)) }
-{
-    print_outer(alloc, &call.attrs, out)?;
-    call.mac.to_tokens(alloc, out)
-}
-
-#[tactic(auto, using(token_core::proofs::Puts::puts))]
-fn print_never<X: Subtree>(
-    alloc: Global,
-    never: &TypeNever<X>,
-    out: &mut TokenStream,
-) -> Result<(), AllocError>
-    ensures ok { OnOk result (trees out.new ≡ trees out.old ++ printing.never X.prints never.now) }
-    ensures err { OnErr result (Extends (trees out.old) (trees out.new)) }
-{
-    print_outer(alloc, &never.attrs, out)?;
-    never.bang_token.to_tokens(alloc, out)
 }
 
 /// The length of an array: the supplied subtree in this place, and anything else as it prints as a value.
@@ -1508,20 +1424,6 @@ pub(crate) fn print_word<const N: u32>(
         Some(token) => token.to_tokens(alloc, out),
         None => Ok(()),
     }
-}
-
-/// A pointer to a function to the start of its binder.
-#[tactic(auto, using(token_core::proofs::Puts::puts))]
-fn print_fn_start<X: Subtree>(
-    alloc: Global,
-    pointer: &TypeFnPtr<X>,
-    out: &mut TokenStream,
-) -> Result<(), AllocError>
-    ensures ok { OnOk result (trees out.new ≡ trees out.old ++ printing.fn_start X.prints pointer.now) }
-    ensures err { OnErr result (Extends (trees out.old) (trees out.new)) }
-{
-    print_outer(alloc, &pointer.attrs, out)?;
-    print_binder_start(alloc, &pointer.lifetimes, out)
 }
 
 /// A pointer to a function from the end of its binder to `fn`.

@@ -29,24 +29,17 @@ use Rattle.syn_mid.proofs.+print.Goals as goal
 
 pub ty::print_ptr-returns-clause-err : goal.ty::print_ptr-returns-clause-err
 ty::print_ptr-returns-clause-err g t c =
-    on_err_weaker c.print_type.result (λ h. extends_on _ _ _ _ c.in_ok-print_outer.ensures.ok (extends_on _ _ _ _ c.in_ok-to_tokens.ensures.ok (extends_on _ _ _ _ c.in_ok-to_tokens-2.ensures.ok h))) c.print_type.ensures.err
-
-pub ty::print_reference-returns-in_err-print_lifetime-clause-err : goal.ty::print_reference-returns-in_err-print_lifetime-clause-err
-ty::print_reference-returns-in_err-print_lifetime-clause-err g t c =
-    let kept : Extends (trees c.args.out.now) (trees c.print_lifetime.new.out) =
-    extends_on _ _ _ _ c.in_ok-print_outer.ensures.ok (extends_on _ _ _ _ c.in_ok-to_tokens.ensures.ok c.in_err-print_lifetime.ensures.err) in
-    search rules
+    on_err_weaker c.print_type.result (λ h. extends_on _ _ _ _ c.in_ok-to_tokens.ensures.ok (extends_on _ _ _ _ c.in_ok-to_tokens-2.ensures.ok h)) c.print_type.ensures.err
 
 pub ty::print_reference-returns-in_err-print_word-clause-err : goal.ty::print_reference-returns-in_err-print_word-clause-err
 ty::print_reference-returns-in_err-print_word-clause-err g t c =
     let kept : Extends (trees c.args.out.now) (trees c.print_word.new.out) =
-    extends_on _ _ _ _ c.in_ok-print_outer.ensures.ok (extends_on _ _ _ _ c.in_ok-to_tokens.ensures.ok (extends_on _ _ _ _ c.in_ok-print_lifetime.ensures.ok c.in_err-print_word.ensures.err)) in
+    extends_on _ _ _ _ c.in_ok-to_tokens.ensures.ok (extends_on _ _ _ _ c.in_ok-print_lifetime.ensures.ok c.in_err-print_word.ensures.err) in
     search rules
 
 pub ty::print_reference-returns-clause-err : goal.ty::print_reference-returns-clause-err
 ty::print_reference-returns-clause-err g t c =
-    on_err_weaker c.print_type.result
-    (λ h. extends_on _ _ _ _ c.in_ok-print_outer.ensures.ok (extends_on _ _ _ _ c.in_ok-to_tokens.ensures.ok (extends_on _ _ _ _ c.in_ok-print_lifetime.ensures.ok (extends_on _ _ _ _ c.in_ok-print_word.ensures.ok h)))) c.print_type.ensures.err
+    on_err_weaker c.print_type.result (λ h. extends_on _ _ _ _ c.in_ok-to_tokens.ensures.ok (extends_on _ _ _ _ c.in_ok-print_lifetime.ensures.ok (extends_on _ _ _ _ c.in_ok-print_word.ensures.ok h))) c.print_type.ensures.err
 
 pub ty::print_elements-returns-in-Some-clause-err : goal.ty::print_elements-returns-in-Some-clause-err
 ty::print_elements-returns-in-Some-clause-err g t c =
@@ -245,15 +238,15 @@ ty::print_fn_params-returns-in-None-clause-ok g t c =
 pub ty::print_fn_ptr-returns-clause-ok : goal.ty::print_fn_ptr-returns-clause-ok
 ty::print_fn_ptr-returns-clause-ok g t c =
     on_ok_weaker c.print_output.result
-    (λ h. put_fn_ptr g.X.Subtree.prints c.args.pointer.now _ _ _ _ _ _ c.in_ok-print_fn_start.ensures.ok c.in_ok-print_fn_params.ensures.ok c.in_ok-print_fn_head.ensures.ok c.in_ok-print_arguments.ensures.ok h) c.print_output.ensures.ok
+    (λ h. put_fn_ptr g.X.Subtree.prints c.args.pointer.now _ _ _ _ _ _ c.in_ok-print_binder_start.ensures.ok c.in_ok-print_fn_params.ensures.ok c.in_ok-print_fn_head.ensures.ok c.in_ok-print_arguments.ensures.ok h) c.print_output.ensures.ok
 
 pub ty::print_fn_ptr-returns-clause-err : goal.ty::print_fn_ptr-returns-clause-err
 ty::print_fn_ptr-returns-clause-err g t c =
     on_err_weaker c.print_output.result
-    (λ h. extends_on _ _ _ _ c.in_ok-print_fn_start.ensures.ok (extends_on _ _ _ _ c.in_ok-print_fn_params.ensures.ok (extends_on _ _ _ _ c.in_ok-print_fn_head.ensures.ok (extends_on _ _ _ _ c.in_ok-print_arguments.ensures.ok h)))) c.print_output.ensures.err
+    (λ h. extends_on _ _ _ _ c.in_ok-print_binder_start.ensures.ok (extends_on _ _ _ _ c.in_ok-print_fn_params.ensures.ok (extends_on _ _ _ _ c.in_ok-print_fn_head.ensures.ok (extends_on _ _ _ _ c.in_ok-print_arguments.ensures.ok h)))) c.print_output.ensures.err
 
-pub ty::print_type_name-returns-in_ok-print_type-in-Some-clause-err : goal.ty::print_type_name-returns-in_ok-print_type-in-Some-clause-err
-ty::print_type_name-returns-in_ok-print_type-in-Some-clause-err g t c =
+pub ty::print_path_type-returns-in_ok-print_type-in-Some-clause-err : goal.ty::print_path_type-returns-in_ok-print_type-in-Some-clause-err
+ty::print_path_type-returns-in_ok-print_type-in-Some-clause-err g t c =
     on_err_weaker c.print_qualified.result (λ h. extends_on _ _ _ _ c.in_ok-to_tokens-in-Some.ensures.ok (extends_on _ _ _ _ c.in_ok-print_type-in-Some.ensures.ok h)) c.print_qualified.ensures.err
 
 pub ty::print_impl_trait-print_bound-requires : goal.ty::print_impl_trait-print_bound-requires
@@ -271,35 +264,25 @@ pub ty::print_impl_trait-returns-in-Some-clause-ok : goal.ty::print_impl_trait-r
 ty::print_impl_trait-returns-in-Some-clause-ok g t c =
     let k : option_map (λ x. x.now) c.bound_parts.result.1 ≡ Some c.in-Some.bound.now = ap (option_map (λ x. x.now)) c.in-Some.is in
     on_ok_weaker c.print_bound-in-Some.result
-    (λ h. put_both (trees c.args.out.now) (trees c.print_outer.new.out) (trees c.print_bound-in-Some.new.out) _ _ c.in_ok-print_outer.ensures.ok
-    (put_both (trees c.print_outer.new.out) (trees c.to_tokens.new.out) (trees c.print_bound-in-Some.new.out) _ _ c.in_ok-to_tokens.ensures.ok
+    (λ h. put_both (trees c.args.out.now) (trees c.to_tokens.new.out) (trees c.print_bound-in-Some.new.out) _ _ c.in_ok-to_tokens.ensures.ok
     (put_last (bound g.X.Subtree.prints) p.mark c.args.opaque.now.bounds c.bound_parts.result.0.now (option_map (λ x. x.now) c.bound_parts.result.1) c.in-Some.bound.now c.loop-pair.pair-index (trees c.to_tokens.new.out) (trees c.loop-pair.out)
-    (trees c.print_bound-in-Some.new.out) c.bound_parts.ensures k c.loop-pair-test.false c.loop-pair.invariant.told h))) c.print_bound-in-Some.ensures.ok
+    (trees c.print_bound-in-Some.new.out) c.bound_parts.ensures k c.loop-pair-test.false c.loop-pair.invariant.told h)) c.print_bound-in-Some.ensures.ok
 
 pub ty::print_impl_trait-returns-in-Some-clause-err : goal.ty::print_impl_trait-returns-in-Some-clause-err
 ty::print_impl_trait-returns-in-Some-clause-err g t c =
     let old = trees c.to_tokens.new.out in
     let mid = trees c.loop-pair.out in
     on_err_weaker c.print_bound-in-Some.result
-    (λ h. extends_on _ _ _ _ c.in_ok-print_outer.ensures.ok (extends_on _ _ _ _ c.in_ok-to_tokens.ensures.ok
-    (extends_on old (drop (length old) mid) mid _ (sym (take-append-drop (length old) mid) ∙ ap (λ z. z ++ drop (length old) mid) c.loop-pair.invariant.kept) h))) c.print_bound-in-Some.ensures.err
+    (λ h. extends_on _ _ _ _ c.in_ok-to_tokens.ensures.ok
+    (extends_on old (drop (length old) mid) mid _ (sym (take-append-drop (length old) mid) ∙ ap (λ z. z ++ drop (length old) mid) c.loop-pair.invariant.kept) h)) c.print_bound-in-Some.ensures.err
 
 pub ty::print_impl_trait-returns-in_err-print_bound-clause-err : goal.ty::print_impl_trait-returns-in_err-print_bound-clause-err
 ty::print_impl_trait-returns-in_err-print_bound-clause-err g t c =
     let old = trees c.to_tokens.new.out in
     let mid = trees c.loop-pair.out in
     let kept : Extends (trees c.args.out.now) (trees c.print_bound.new.out) =
-    extends_on _ _ _ _ c.in_ok-print_outer.ensures.ok (extends_on _ _ _ _ c.in_ok-to_tokens.ensures.ok
-    (extends_on old (drop (length old) mid) mid _ (sym (take-append-drop (length old) mid) ∙ ap (λ z. z ++ drop (length old) mid) c.loop-pair.invariant.kept) c.in_err-print_bound.ensures.err)) in
-    search rules
-
-pub ty::print_impl_trait-returns-in_err-to_tokens-2-clause-err : goal.ty::print_impl_trait-returns-in_err-to_tokens-2-clause-err
-ty::print_impl_trait-returns-in_err-to_tokens-2-clause-err g t c =
-    let old = trees c.to_tokens.new.out in
-    let mid = trees c.loop-pair.out in
-    let kept : Extends (trees c.args.out.now) (trees c.to_tokens-2.new.out) =
-    rw c.in_err-to_tokens-2.ensures.err (extends_on _ _ _ _ c.in_ok-print_outer.ensures.ok (extends_on _ _ _ _ c.in_ok-to_tokens.ensures.ok
-    (rw c.in_ok-print_bound.ensures.ok (extends_append old mid _ c.loop-pair.invariant.kept)))) in
+    extends_on _ _ _ _ c.in_ok-to_tokens.ensures.ok
+    (extends_on old (drop (length old) mid) mid _ (sym (take-append-drop (length old) mid) ∙ ap (λ z. z ++ drop (length old) mid) c.loop-pair.invariant.kept) c.in_err-print_bound.ensures.err) in
     search rules
 
 pub ty::print_trait_object-print_bound-requires : goal.ty::print_trait_object-print_bound-requires
@@ -317,18 +300,17 @@ pub ty::print_trait_object-returns-in-Some-clause-ok : goal.ty::print_trait_obje
 ty::print_trait_object-returns-in-Some-clause-ok g t c =
     let k : option_map (λ x. x.now) c.bound_parts.result.1 ≡ Some c.in-Some.bound.now = ap (option_map (λ x. x.now)) c.in-Some.is in
     on_ok_weaker c.print_bound-in-Some.result
-    (λ h. put_both (trees c.args.out.now) (trees c.print_outer.new.out) (trees c.print_bound-in-Some.new.out) _ _ c.in_ok-print_outer.ensures.ok
-    (put_both (trees c.print_outer.new.out) (trees c.print_word.new.out) (trees c.print_bound-in-Some.new.out) _ _ c.in_ok-print_word.ensures.ok
+    (λ h. put_both (trees c.args.out.now) (trees c.print_word.new.out) (trees c.print_bound-in-Some.new.out) _ _ c.in_ok-print_word.ensures.ok
     (put_last (bound g.X.Subtree.prints) p.mark c.args.object.now.bounds c.bound_parts.result.0.now (option_map (λ x. x.now) c.bound_parts.result.1) c.in-Some.bound.now c.loop-pair.pair-index (trees c.print_word.new.out) (trees c.loop-pair.out)
-    (trees c.print_bound-in-Some.new.out) c.bound_parts.ensures k c.loop-pair-test.false c.loop-pair.invariant.told h))) c.print_bound-in-Some.ensures.ok
+    (trees c.print_bound-in-Some.new.out) c.bound_parts.ensures k c.loop-pair-test.false c.loop-pair.invariant.told h)) c.print_bound-in-Some.ensures.ok
 
 pub ty::print_trait_object-returns-in-Some-clause-err : goal.ty::print_trait_object-returns-in-Some-clause-err
 ty::print_trait_object-returns-in-Some-clause-err g t c =
     let old = trees c.print_word.new.out in
     let mid = trees c.loop-pair.out in
     on_err_weaker c.print_bound-in-Some.result
-    (λ h. extends_on _ _ _ _ c.in_ok-print_outer.ensures.ok (extends_on _ _ _ _ c.in_ok-print_word.ensures.ok
-    (extends_on old (drop (length old) mid) mid _ (sym (take-append-drop (length old) mid) ∙ ap (λ z. z ++ drop (length old) mid) c.loop-pair.invariant.kept) h))) c.print_bound-in-Some.ensures.err
+    (λ h. extends_on _ _ _ _ c.in_ok-print_word.ensures.ok
+    (extends_on old (drop (length old) mid) mid _ (sym (take-append-drop (length old) mid) ∙ ap (λ z. z ++ drop (length old) mid) c.loop-pair.invariant.kept) h)) c.print_bound-in-Some.ensures.err
 
 -- an argument measures as much as its type
 abbrev arg_size : (g : Over) → NamedArgOf (TypeTree g.row.X.Denot) g.row.X.Denot → ℕ

@@ -1,5 +1,6 @@
--- What const arguments print, and lists of bounds, binders and predicates by their pieces.
+-- What const arguments print, which arguments of paths print first, and lists of bounds, binders and predicates by their pieces.
 use Rattle.std.proofs.Common.{◌≡◌, true, false, if◌then◌else◌, ℕ, List, [], ◌∷◌, ◌++◌, Option, Some, None, length, map, refl, sym, ◌∙◌, ap, append_assoc, arith}
+use Rattle.token_core.specs.declared.lifetime.Lifetime.{Lifetime}
 use Rattle.token_core.specs.declared.mark.Mark.{Mark}
 use Rattle.token_core.specs.declared.tree.Delimiter.TheVariants.{Brace}
 use Rattle.token_core.specs.Lists.{joined}
@@ -21,8 +22,14 @@ use Rattle.syn_mid.specs.declared.supplied.ExprPathOf.{ExprPathOf}
 use Rattle.syn_mid.specs.declared.supplied.ExprRange.{ExprRange}
 use Rattle.syn_mid.specs.declared.generics.BoundLifetimesOf.{BoundLifetimesOf}
 use Rattle.syn_mid.specs.declared.generics.WherePredicate.{WherePredicate}
+use Rattle.syn_mid.specs.declared.path.AssocConstOf.{AssocConstOf}
+use Rattle.syn_mid.specs.declared.path.AssocTypeOf.{AssocTypeOf}
+use Rattle.syn_mid.specs.declared.path.ConstraintOf.{ConstraintOf}
+use Rattle.syn_mid.specs.declared.path.GenericArgumentOf.{GenericArgumentOf}
+use Rattle.syn_mid.specs.declared.path.GenericArgumentOf.TheVariants as a
+use Rattle.syn_mid.specs.declared.ty.TypeOf.{TypeOf}
 use Rattle.syn_mid.specs.attr.Printing.{value}
-use Rattle.syn_mid.specs.path.Paths.{ModPath}
+use Rattle.syn_mid.specs.path.Paths.{ModPath, is_lifetime, lifetime_layer}
 use Rattle.syn_mid.specs.generics.Params.{Plus, Comma, Colon}
 use Rattle.syn_mid.specs.generics.Printing.{predicate, predicates_after}
 use Rattle.syn_mid.specs.generics.Shapes.{or_default, after_colon, binder_by, binder_start, binder_joined, binder_end, is_word, alone_layer, stands_alone, in_braces, const_argument}
@@ -59,6 +66,28 @@ module _ {X : Type 0} where
 pub ruleset alone = (alone-Lit, alone-Path, alone-Const, alone-Macro, alone-Range, alone-Block, alone-Other)
 
 pub ruleset consts = (const_alone, const_braced)
+
+-- which arguments are lifetimes
+module _ {A E : Type 0} where
+  pub kind-Lifetime : (x : Lifetime) → is_lifetime {A = A} {E = E} (a.Lifetime x) ≡ true
+  kind-Lifetime x = ap lifetime_layer (a.outs-Lifetime x)
+
+  pub kind-Type : (x : TypeOf A E) → is_lifetime (a.«Type» x) ≡ false
+  kind-Type x = ap lifetime_layer (a.outs-Type x)
+
+  pub kind-Const : (x : E) → is_lifetime {A = A} (a.Const x) ≡ false
+  kind-Const x = ap lifetime_layer (a.outs-Const x)
+
+  pub kind-AssocType : (x : AssocTypeOf A E) → is_lifetime (a.AssocType x) ≡ false
+  kind-AssocType x = ap lifetime_layer (a.outs-AssocType x)
+
+  pub kind-AssocConst : (x : AssocConstOf (GenericArgumentOf A E) E) → is_lifetime (a.AssocConst x) ≡ false
+  kind-AssocConst x = ap lifetime_layer (a.outs-AssocConst x)
+
+  pub kind-Constraint : (x : ConstraintOf A E) → is_lifetime (a.Constraint x) ≡ false
+  kind-Constraint x = ap lifetime_layer (a.outs-Constraint x)
+
+pub ruleset argument_kinds = (kind-Lifetime, kind-Type, kind-Const, kind-AssocType, kind-AssocConst, kind-Constraint)
 
 module _ {B : Type 0} where
   -- without bounds no colon

@@ -45,6 +45,7 @@ use Rattle.syn_mid.specs.declared.generics.TraitBoundOf.{out-TraitBoundOf}
 use Rattle.syn_mid.specs.declared.generics.TypeParamOf.{out-TypeParamOf}
 use Rattle.syn_mid.specs.declared.path.AngleBracketedGenericArgumentsOf.{AngleBracketedGenericArgumentsOf}
 use Rattle.syn_mid.specs.declared.path.AssocConstOf.{AssocConstOf}
+use Rattle.syn_mid.specs.declared.path.ConstraintOf.{out-ConstraintOf}
 use Rattle.syn_mid.specs.declared.path.ParenthesizedGenericArgumentsOf.{ParenthesizedGenericArgumentsOf}
 use Rattle.syn_mid.specs.declared.path.PathOf.{PathOf}
 use Rattle.syn_mid.specs.declared.ty.TypeFnPtrOf.{out-TypeFnPtrOf}
@@ -399,6 +400,10 @@ module _ {X : Type 0} (prints : Place → X → Print) where
 
   abbrev pub own_bounds : TypeParam X → Print
   own_bounds x = bounds_joined (out-TypeParamOf (Attr X) (Expr X) x).bounds
+
+  -- the bounds of an associated type
+  abbrev pub constraint_bounds : Constraint X → Print
+  constraint_bounds x = bounds_joined (out-ConstraintOf (Attr X) (Expr X) x).bounds
 
   -- a type parameter without its default
   abbrev pub type_head : TypeParam X → Print
