@@ -11,7 +11,7 @@ use Rattle.token_core.specs.Prints as p
 use Rattle.token_core.specs.Prints.{Print}
 use Rattle.token_core.specs.Spans.{none, delim_span}
 use Rattle.token_core.specs.Trees.{trees, stream_of_trees}
-use Rattle.syn_mid.specs.Supplied.{Place, Block}
+use Rattle.syn_mid.specs.Supplied.{Place, Block, ArrayLen}
 use Rattle.syn_mid.specs.declared.attr.Meta.{Meta}
 use Rattle.syn_mid.specs.declared.attr.Meta.TheOpen as o
 use Rattle.syn_mid.specs.declared.attr.MetaNameValue.{MetaNameValue}
@@ -22,7 +22,8 @@ use Rattle.syn_mid.specs.declared.generics.ConstParamOf.{ConstParamOf}
 use Rattle.token_core.specs.declared.tree.Ident.{Ident}
 use Rattle.syn_mid.specs.declared.generics.BoundLifetimesOf.{BoundLifetimesOf}
 use Rattle.syn_mid.specs.declared.path.PathOf.{PathOf}
-use Rattle.syn_mid.specs.ty.Trees.{Attr, Attrs, LifetimeParam}
+use Rattle.syn_mid.specs.ty.Trees.{Attr}
+use Rattle.syn_mid.specs.declared.generics.LifetimeParamOf.{LifetimeParamOf}
 use Rattle.syn_mid.specs.declared.generics.PreciseCapture.{PreciseCapture}
 use Rattle.syn_mid.specs.declared.generics.CapturedParam.{CapturedParam}
 use Rattle.syn_mid.specs.declared.generics.CapturedParam.TheVariants as c
@@ -139,25 +140,29 @@ alone_layer (o.Other x) = false
 abbrev pub stands_alone : {X : Type 0} → Expr X → Bool
 stands_alone {X = X} x = alone_layer (out-Expr X x)
 
--- what a supplied subtree prints in a place is given
 module _ {X : Type 0} (prints : Place → X → Print) where
-  abbrev pub attrs : Attrs X → Print
-  attrs = outer_by (meta prints)
-
-  -- what stands between the braces of a const argument
-  abbrev pub in_braces : Expr X → Print
-  in_braces = at_place prints Block
+  -- the outer attributes of a list
+  abbrev pub outer : List (Attr X) → Print
+  outer = outer_by (meta prints)
 
   -- a const argument: as it is where it stands alone, else in braces
   abbrev pub const_argument : Expr X → Print
-  const_argument x = if stands_alone x then value prints x else p.group Brace (stream_of_trees (in_braces x)) (delim_span none none)
+  const_argument x = if stands_alone x then value prints x else p.group Brace (stream_of_trees (at_place prints Block x)) (delim_span none none)
 
-  abbrev pub lifetime_param : LifetimeParam X → Print
+-- ---- over what is printed of attributes and of the expressions in types
+
+-- what an expression prints as the length of an array, and as a const argument
+pub record Values (E : Type 0) : Type 0 where
+  pub len : E → Print
+  pub const_argument : E → Print
+
+module _ {A E : Type 0} (attrs : List A → Print) (values : Values E) where
+  abbrev pub lifetime_param : LifetimeParamOf A → Print
   lifetime_param x = attrs x.attrs ++ (lifetimes.print x.lifetime ++ after_colon lifetimes.print x.colon_token x.bounds)
 
-  abbrev pub const_default : Option (Mark 11 1 × Expr X) → Print
+  abbrev pub const_default : Option (Mark 11 1 × E) → Print
   const_default None = []
-  const_default (Some d) = p.mark d.0 ++ const_argument d.1
+  const_default (Some d) = p.mark d.0 ++ values.const_argument d.1
 
   -- ---- by the print of types, and of bounds
 
@@ -167,15 +172,19 @@ module _ {X : Type 0} (prints : Place → X → Print) where
     type_default_by (Some d) = p.mark d.0 ++ type d.1
 
     -- without its default
-    abbrev pub const_head_by : ConstParamOf T (Attr X) (Expr X) → Print
+    abbrev pub const_head_by : ConstParamOf T A E → Print
     const_head_by x = attrs x.attrs ++ (p.word x.const_token ++ (p.ident x.ident ++ (p.mark x.colon_token ++ type x.ty)))
 
-    abbrev pub const_param_by : ConstParamOf T (Attr X) (Expr X) → Print
+    abbrev pub const_param_by : ConstParamOf T A E → Print
     const_param_by x = attrs x.attrs ++ (p.word x.const_token ++ (p.ident x.ident ++ (p.mark x.colon_token ++ (type x.ty ++ const_default x.default))))
 
   -- a type parameter by its parts, without its default
-  abbrev pub type_head_by : {B : Type 0} → (B → Print) → Attrs X → Ident → Option (Mark 7 1) → Many B Plus → Print
+  abbrev pub type_head_by : {B : Type 0} → (B → Print) → List A → Ident → Option (Mark 7 1) → Many B Plus → Print
   type_head_by bound a i c b = attrs a ++ (p.ident i ++ after_colon bound c b)
 
-  abbrev pub type_param_by : {B T : Type 0} → (B → Print) → (T → Print) → Attrs X → Ident → Option (Mark 7 1) → Many B Plus → Option (Mark 11 1 × T) → Print
+  abbrev pub type_param_by : {B T : Type 0} → (B → Print) → (T → Print) → List A → Ident → Option (Mark 7 1) → Many B Plus → Option (Mark 11 1 × T) → Print
   type_param_by bound type a i c b d = attrs a ++ (p.ident i ++ (after_colon bound c b ++ type_default_by type d))
+
+-- those of the expressions over a supplied subtree
+abbrev pub values_of : {X : Type 0} → (Place → X → Print) → Values (Expr X)
+values_of prints = record { len = at_place prints ArrayLen; const_argument = const_argument prints }
