@@ -43,12 +43,15 @@ use token_core::{
 
 /// The parameters of a declaration, and its where clause, which stands elsewhere in many of them.
 #[derive(Drop)]
-pub struct Generics<X> {
+pub struct GenericsOf<A, E> {
     pub lt_token: Option<Lt>,
-    pub params: Punctuated<GenericParam<X>, Comma>,
+    pub params: Punctuated<GenericParamOf<A, E>, Comma>,
     pub gt_token: Option<Gt>,
-    pub where_clause: Option<WhereClause<X>>,
+    pub where_clause: Option<WhereClauseOf<A, E>>,
 }
+
+/// The parameters of a declaration, and its where clause, which stands elsewhere in many of them.
+pub type Generics<X> = GenericsOf<Attribute<X>, Expr<X>>;
 
 /// A parameter of generics.
 #[cycle(types)]
@@ -172,38 +175,50 @@ pub enum CapturedParam {
 
 /// A where clause: `where T: A, 'a: 'b`.
 #[derive(Drop)]
-pub struct WhereClause<X> {
+pub struct WhereClauseOf<A, E> {
     pub where_token: Where,
-    pub predicates: Punctuated<WherePredicate<X>, Comma>,
+    pub predicates: Punctuated<WherePredicateOf<A, E>, Comma>,
 }
+
+/// A where clause: `where T: A, 'a: 'b`.
+pub type WhereClause<X> = WhereClauseOf<Attribute<X>, Expr<X>>;
 
 /// A predicate of a where clause.
 #[derive(Drop)]
-pub enum WherePredicate<X> {
+pub enum WherePredicateOf<A, E> {
     /// `'a: 'b + 'c`
-    Lifetime(PredicateLifetime<X>),
+    Lifetime(PredicateLifetimeOf<A>),
     /// `for<'a> T: A + B`
-    Type(PredicateType<X>),
+    Type(PredicateTypeOf<A, E>),
 }
+
+/// A predicate of a where clause.
+pub type WherePredicate<X> = WherePredicateOf<Attribute<X>, Expr<X>>;
 
 /// A predicate of a lifetime: `'a: 'b + 'c`.
 #[derive(Drop)]
-pub struct PredicateLifetime<X> {
-    pub attrs: Items<Attribute<X>>,
+pub struct PredicateLifetimeOf<A> {
+    pub attrs: Items<A>,
     pub lifetime: Lifetime,
     pub colon_token: Colon,
     pub bounds: Punctuated<Lifetime, Plus>,
 }
 
+/// A predicate of a lifetime: `'a: 'b + 'c`.
+pub type PredicateLifetime<X> = PredicateLifetimeOf<Attribute<X>>;
+
 /// A predicate of a type: `for<'a> T: A + B`.
 #[derive(Drop)]
-pub struct PredicateType<X> {
-    pub attrs: Items<Attribute<X>>,
-    pub lifetimes: Option<BoundLifetimes<X>>,
-    pub bounded_ty: Type<X>,
+pub struct PredicateTypeOf<A, E> {
+    pub attrs: Items<A>,
+    pub lifetimes: Option<BoundLifetimesOf<GenericParamOf<A, E>>>,
+    pub bounded_ty: TypeOf<A, E>,
     pub colon_token: Colon,
-    pub bounds: Punctuated<TypeParamBound<X>, Plus>,
+    pub bounds: Punctuated<TypeParamBoundOf<A, E>, Plus>,
 }
+
+/// A predicate of a type: `for<'a> T: A + B`.
+pub type PredicateType<X> = PredicateTypeOf<Attribute<X>, Expr<X>>;
 
 // ---- calls
 

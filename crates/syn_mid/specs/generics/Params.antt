@@ -7,15 +7,14 @@ use Rattle.token_core.specs.declared.tree.Ident.{Ident}
 use Rattle.token_core.specs.declared.token.Paren.{Paren}
 use Rattle.token_core.specs.Loops.{Many}
 use Rattle.token_core.specs.Spans.{none}
-use Rattle.syn_mid.specs.declared.supplied.Expr.{Expr}
-use Rattle.syn_mid.specs.declared.generics.Generics.{Generics}
+use Rattle.syn_mid.specs.declared.generics.GenericsOf.{GenericsOf}
 use Rattle.syn_mid.specs.declared.generics.TraitBoundModifiers.{TraitBoundModifiers}
 use Rattle.syn_mid.specs.declared.generics.PreciseCapture.{PreciseCapture}
 use Rattle.syn_mid.specs.declared.generics.CapturedParam.{CapturedParam}
-use Rattle.syn_mid.specs.declared.generics.WhereClause.{WhereClause}
-use Rattle.syn_mid.specs.declared.generics.WherePredicate.{WherePredicate}
-use Rattle.syn_mid.specs.declared.generics.PredicateLifetime.{PredicateLifetime}
-use Rattle.syn_mid.specs.declared.generics.PredicateType.{PredicateType}
+use Rattle.syn_mid.specs.declared.generics.WhereClauseOf.{WhereClauseOf}
+use Rattle.syn_mid.specs.declared.generics.WherePredicateOf.{WherePredicateOf}
+use Rattle.syn_mid.specs.declared.generics.PredicateLifetimeOf.{PredicateLifetimeOf}
+use Rattle.syn_mid.specs.declared.generics.PredicateTypeOf.{PredicateTypeOf}
 use Rattle.syn_mid.specs.declared.generics.BoundLifetimesOf.{BoundLifetimesOf}
 use Rattle.syn_mid.specs.declared.generics.ConstParamOf.{ConstParamOf}
 use Rattle.syn_mid.specs.declared.generics.GenericParamOf.{GenericParamOf, out-GenericParamOf}
@@ -27,7 +26,7 @@ use Rattle.syn_mid.specs.declared.generics.TypeParamOf.{TypeParamOf, roll-TypePa
 use Rattle.syn_mid.specs.declared.path.PathArgumentsOf.{PathArgumentsOf}
 use Rattle.syn_mid.specs.declared.path.PathOf.{PathOf}
 use Rattle.syn_mid.specs.declared.ty.TypeOf.{TypeOf}
-use Rattle.syn_mid.specs.ty.Trees.{Layer, LayerOf, Attr, Attrs, GenericParam, LifetimeParam, TypeParam, ConstParam, BoundLifetimes, TypeParamBound, TypeTree}
+use Rattle.syn_mid.specs.ty.Trees.{Layer, GenericParam, TypeParam, ConstParam, BoundLifetimes, TypeParamBound, TypeTree}
 
 abbrev pub Colon : Type 0
 Colon = Mark 7 1
@@ -81,64 +80,64 @@ lone_lifetime l = lifetime_param_of [] l None ([], [])
 abbrev pub capture_of : Word 17 → Mark 2 1 → Many CapturedParam Comma → Mark 3 1 → PreciseCapture
 capture_of u l v g = record { use_token = u; lt_token = l; params = v; gt_token = g }
 
-module _ {X : Type 0} where
-  abbrev pub where_clause_of : Word 18 → Many (WherePredicate X) Comma → WhereClause X
+abbrev pub predicate_lifetime_of : {A : Type 0} → List A → Lifetime → Colon → Many Lifetime Plus → PredicateLifetimeOf A
+predicate_lifetime_of a l c b = record { attrs = a; lifetime = l; colon_token = c; bounds = b }
+
+module _ {A E : Type 0} where
+  abbrev pub where_clause_of : Word 18 → Many (WherePredicateOf A E) Comma → WhereClauseOf A E
   where_clause_of w v = record { where_token = w; predicates = v }
 
-  abbrev pub predicate_lifetime_of : Attrs X → Lifetime → Colon → Many Lifetime Plus → PredicateLifetime X
-  predicate_lifetime_of a l c b = record { attrs = a; lifetime = l; colon_token = c; bounds = b }
-
-  abbrev pub predicate_type_of : Attrs X → Option (BoundLifetimes X) → TypeTree X → Colon → Many (TypeParamBound X) Plus → PredicateType X
+  abbrev pub predicate_type_of : List A → Option (BoundLifetimes A E) → TypeTree A E → Colon → Many (TypeParamBound A E) Plus → PredicateTypeOf A E
   predicate_type_of a l t c b = record { attrs = a; lifetimes = l; bounded_ty = t; colon_token = c; bounds = b }
 
-  abbrev pub generics_of : Option (Mark 2 1) → Many (GenericParam X) Comma → Option (Mark 3 1) → Option (WhereClause X) → Generics X
+  abbrev pub generics_of : Option (Mark 2 1) → Many (GenericParam A E) Comma → Option (Mark 3 1) → Option (WhereClauseOf A E) → GenericsOf A E
   generics_of l v g w = record { lt_token = l; params = v; gt_token = g; where_clause = w }
 
   -- no parameters and no where clause
-  abbrev pub empty : Generics X
+  abbrev pub empty : GenericsOf A E
   empty = generics_of None ([], []) None None
 
   -- a binder that stands nowhere, without parameters
-  abbrev pub empty_binder : BoundLifetimes X
+  abbrev pub empty_binder : BoundLifetimes A E
   empty_binder = bound_lifetimes_of word_nowhere nowhere ([], []) nowhere
 
   -- a where clause that stands nowhere, without predicates
-  abbrev pub empty_clause : WhereClause X
+  abbrev pub empty_clause : WhereClauseOf A E
   empty_clause = where_clause_of word_nowhere ([], [])
 
   -- ---- the parameters of one kind, in order
 
-  abbrev pub lifetime_layer : LayerOf g.GenericParamOf-F X → Option (LifetimeParam X)
+  abbrev pub lifetime_layer : Layer g.GenericParamOf-F A E → Option (LifetimeParamOf A)
   lifetime_layer (g.GenericParamOf::Lifetime x) = Some x
   lifetime_layer (g.GenericParamOf::Type x) = None
   lifetime_layer (g.GenericParamOf::Const x) = None
 
-  abbrev pub type_layer : LayerOf g.GenericParamOf-F X → Option (TypeParam X)
+  abbrev pub type_layer : Layer g.GenericParamOf-F A E → Option (TypeParam A E)
   type_layer (g.GenericParamOf::Lifetime x) = None
   type_layer (g.GenericParamOf::Type x) = Some x
   type_layer (g.GenericParamOf::Const x) = None
 
-  abbrev pub const_layer : LayerOf g.GenericParamOf-F X → Option (ConstParam X)
+  abbrev pub const_layer : Layer g.GenericParamOf-F A E → Option (ConstParam A E)
   const_layer (g.GenericParamOf::Lifetime x) = None
   const_layer (g.GenericParamOf::Type x) = None
   const_layer (g.GenericParamOf::Const x) = Some x
 
-  abbrev pub is_lifetime_layer : LayerOf g.GenericParamOf-F X → Bool
+  abbrev pub is_lifetime_layer : Layer g.GenericParamOf-F A E → Bool
   is_lifetime_layer (g.GenericParamOf::Lifetime x) = true
   is_lifetime_layer (g.GenericParamOf::Type x) = false
   is_lifetime_layer (g.GenericParamOf::Const x) = false
 
-  abbrev pub is_lifetime : GenericParam X → Bool
-  is_lifetime x = is_lifetime_layer (out-GenericParamOf (Attr X) (Expr X) x)
+  abbrev pub is_lifetime : GenericParam A E → Bool
+  is_lifetime x = is_lifetime_layer (out-GenericParamOf A E x)
 
-  abbrev pub as_lifetime : GenericParam X → Option (LifetimeParam X)
-  as_lifetime x = lifetime_layer (out-GenericParamOf (Attr X) (Expr X) x)
+  abbrev pub as_lifetime : GenericParam A E → Option (LifetimeParamOf A)
+  as_lifetime x = lifetime_layer (out-GenericParamOf A E x)
 
-  abbrev pub as_type : GenericParam X → Option (TypeParam X)
-  as_type x = type_layer (out-GenericParamOf (Attr X) (Expr X) x)
+  abbrev pub as_type : GenericParam A E → Option (TypeParam A E)
+  as_type x = type_layer (out-GenericParamOf A E x)
 
-  abbrev pub as_const : GenericParam X → Option (ConstParam X)
-  as_const x = const_layer (out-GenericParamOf (Attr X) (Expr X) x)
+  abbrev pub as_const : GenericParam A E → Option (ConstParam A E)
+  as_const x = const_layer (out-GenericParamOf A E x)
 
 -- what a test answers of each member of a list, where it answers something
 abbrev pub kept_by : {B : Type 0} → Option B → List B → List B

@@ -113,7 +113,7 @@ module _ {T : Type 0} (print : T → Print) where
   qpath_by arguments style (Some q) x = p.mark q.lt_token ++ (print q.ty ++ qualified_by arguments style q x)
 
   abbrev pub array_by : {A E : Type 0} → (E → Print) → TypeArrayOf T A E → Print
-  array_by len x = p.group Bracket (stream_of_trees (print x.elem ++ (p.mark x.semi_token ++ values.len x.len))) x.bracket_token.span
+  array_by len x = p.group Bracket (stream_of_trees (print x.elem ++ (p.mark x.semi_token ++ len x.len))) x.bracket_token.span
 
   abbrev pub group_by : {A : Type 0} → TypeGroupOf T A → Print
   group_by x = p.group d.None (stream_of_trees (print x.elem)) x.group_token.span
@@ -210,7 +210,7 @@ module _ {A E : Type 0} (attrs : List A → Print) (values : Values E) where
   inputs_by type v = joined (named_arg_by type) p.mark v.0 v.1
 
   -- `...` after a comma, which is added where the last argument has none
-  abbrev pub more : {A : Type 0} → Many A Comma → Option (FnPtrVariadicOf A) → Print
+  abbrev pub more : {N : Type 0} → Many N Comma → Option (FnPtrVariadicOf A) → Print
   more v None = []
   more v (Some x) = last_comma (comma_at x.dots) v.0 v.1 ++ variadic x
 
@@ -229,7 +229,7 @@ module _ {A E : Type 0} (attrs : List A → Print) (values : Values E) where
     abbrev pub assoc_type_by : {T : Type 0} → (T → Print) → Ident → Option (AngleBracketedGenericArgumentsOf G) → Mark 11 1 → T → Print
     assoc_type_by type i g e x = p.ident i ++ (optional_angle_by is argument g ++ (p.mark e ++ type x))
 
-    abbrev pub assoc_const_by : AssocConstOf G (E) → Print
+    abbrev pub assoc_const_by : AssocConstOf G E → Print
     assoc_const_by x = p.ident x.ident ++ (optional_angle_by is argument x.generics ++ (p.mark x.eq_token ++ values.const_argument x.value))
 
     -- the colon is kept
