@@ -1,4 +1,4 @@
--- On every tree of the cycle of types, the normal form prints the same, where that of a supplied subtree does.
+-- On every tree of the cycle of types, the normal form prints the same, where those of attributes and expressions do.
 use Rattle.std.proofs.Common.{◌≡◌, ℕ, zero, suc, pred, Bool, List, [], ◌∷◌, ◌++◌, Option, Some, None, map, length, option_map, refl, sym, ◌∙◌, ap, subst}
 use Rattle.std.specs.Prelude.{min}
 use Rattle.std.proofs.lemmas.List.{length-map}
@@ -36,7 +36,6 @@ use Rattle.syn_mid.specs.declared.path.PathSegmentOf.{PathSegmentOf}
 use Rattle.syn_mid.specs.declared.path.PathStyle.{PathStyle}
 use Rattle.syn_mid.specs.declared.path.PathStyle.TheVariants as styles
 use Rattle.syn_mid.specs.declared.path.QSelfOf.{QSelfOf}
-use Rattle.syn_mid.specs.declared.supplied.Expr.{Expr}
 use Rattle.syn_mid.specs.declared.ty.Abi.{Abi}
 use Rattle.syn_mid.specs.declared.ty.NamedArgOf.{NamedArgOf}
 use Rattle.syn_mid.specs.declared.ty.ReturnTypeOf.{ReturnTypeOf}
@@ -45,28 +44,27 @@ use Rattle.syn_mid.specs.declared.ty.TypeFnPtrOf.{roll-TypeFnPtrOf, map-TypeFnPt
 use Rattle.syn_mid.specs.declared.ty.TypeOf.{roll-TypeOf, map-TypeOf}
 use Rattle.syn_mid.specs.declared.ty.TypeOf.TheVariants as v
 use Rattle.syn_mid.specs.declared.ty.TypePathOf.{roll-TypePathOf, map-TypePathOf}
-use Rattle.syn_mid.specs.Supplied.{Place, ArrayLen}
 use Rattle.syn_mid.specs.generics.Members.{sort, sorted}
 use Rattle.syn_mid.specs.generics.NormalShapes as nshapes
-use Rattle.syn_mid.specs.generics.NormalShapes.{colon}
+use Rattle.syn_mid.specs.generics.NormalShapes.{colon, NormalValues, SameValues}
 use Rattle.syn_mid.specs.generics.Params.{Colon, Eq, bound_lifetimes_of, const_param_of, trait_bound_of, type_param_of}
 use Rattle.syn_mid.specs.generics.Shapes as shapes
-use Rattle.syn_mid.specs.generics.Shapes.{or_default, after_colon, attrs, in_parens, optional, binder_by, binder_start, binder_joined, captured, is_captured_lifetime, type_default_by, const_argument}
+use Rattle.syn_mid.specs.generics.Shapes.{or_default, after_colon, in_parens, optional, binder_by, binder_start, binder_joined, captured, is_captured_lifetime, type_default_by, Values}
 use Rattle.syn_mid.specs.path.Paths.{Sep, is_lifetime, segment_of, path_of, angle_of, parens_of, assoc_type_of, assoc_const_of, constraint_of}
 use Rattle.syn_mid.specs.path.Shapes as paths
 use Rattle.syn_mid.specs.path.Shapes.{as_written, colon_or_default, as_or_default, parenthesized_start, segment_by, path_by, closing_by, around_by, qualified_at, qualified_by, angle_by, optional_angle_by}
 use Rattle.syn_mid.specs.ty.Normal as normal
 use Rattle.syn_mid.specs.ty.Printing as printing
 use Rattle.syn_mid.specs.ty.Printing.{ty, fn_ptr, param, type_param, bound, trait_bound, argument, arguments, assoc_type, constraint, path_type, pointer, lifetime, optional_word, lone_comma, arg_name, name, fn_head_by, return_type_by, joined_by}
-use Rattle.syn_mid.specs.ty.Trees.{Family, LayerOf, Attr, Attrs, GenericParam, LifetimeParam, TypeParam, ConstParam, BoundLifetimes, TypeParamBound, TraitBound, PathArguments, Path, PathSegment, GenericArgument, AngleBracketed, AssocType, AssocConst, Constraint, Parenthesized, TypeTree, QSelf, TypeFnPtr, TypePath, NamedArg, FnPtrVariadic, ReturnType}
+use Rattle.syn_mid.specs.ty.Trees.{Family, GenericParam, TypeParam, ConstParam, BoundLifetimes, TypeParamBound, TraitBound, PathArguments, Path, PathSegment, GenericArgument, AngleBracketed, AssocType, AssocConst, Constraint, Parenthesized, TypeTree, QSelf, TypeFnPtr, TypePath, NamedArg, ReturnType, Layer}
 use Rattle.syn_mid.specs.ty.Types.{Comma, Plus, array_with, fn_ptr_with, group_with, impl_trait_with, named_arg_of, paren_with, ptr_with, qself_of, qualified_with, reference_with, slice_with, trait_object_with, tuple_with}
-use Rattle.syn_mid.proofs.attr_laws.Normal.{outer_same, at_place_same}
-use Rattle.syn_mid.proofs.generics_laws.Consts.{const_argument_same}
 use Rattle.syn_mid.proofs.generics_laws.Members.{sort_prints, sorted_map, sorted_agrees}
 use Rattle.syn_mid.proofs.ty_laws.Each.{Each, each_held, each_of, joined_same}
 use Rattle.syn_mid.proofs.ty_laws.Mapped.{lone_mapped, segment_on}
 use Rattle.syn_mid.proofs.ty_laws.Normal.{normal-Array, normal-FnPtr, normal-Group, normal-ImplTrait, normal-Infer, normal-Macro, normal-Never, normal-Paren, normal-Path, normal-Ptr, normal-Reference, normal-Slice, normal-TraitObject, normal-Tuple, normal-Verbatim, path_type_normal, normal-Lifetime, normal-Type, normal-Const, type_param_normal, normal-Trait, normal-bound-Lifetime, normal-PreciseCapture, normal-bound-Verbatim, trait_bound_normal, normal-None, normal-AngleBracketed, normal-Parenthesized, normal-argument-Lifetime, normal-argument-Type, normal-argument-Const, normal-argument-AssocType, normal-argument-AssocConst, normal-argument-Constraint, assoc_type_normal, constraint_normal, fn_ptr_normal, argument_kept}
 use Rattle.syn_mid.proofs.ty_laws.Prints.{ty-Array, ty-FnPtr, ty-Group, ty-ImplTrait, ty-Infer, ty-Macro, ty-Never, ty-Paren, ty-Path, ty-Ptr, ty-Reference, ty-Slice, ty-TraitObject, ty-Tuple, path_type_parts, param-Lifetime, param-Type, param-Const, type_param_parts, bound-Trait, bound-PreciseCapture, trait_bound_parts, arguments-AngleBracketed, arguments-Parenthesized, argument-Type, argument-Const, argument-AssocType, argument-AssocConst, argument-Constraint, assoc_type_parts, constraint_parts, fn_ptr_parts, more_mapped}
+use Rattle.syn_mid.specs.declared.generics.LifetimeParamOf.{LifetimeParamOf}
+use Rattle.syn_mid.specs.declared.ty.FnPtrVariadicOf.{FnPtrVariadicOf}
 
 -- a colon without bounds prints nothing
 colon_same : {B : Type 0} (f : B → Print) (c : Option Colon) (l : List B) (ms : List Plus) → after_colon f (colon c l) (l, ms) ≡ after_colon f c (l, ms)
@@ -145,694 +143,688 @@ module _ {G : Type 0} (is : G → Bool) (n : G → G) (keeps : (x : G) → is (n
   optional_kept None h = refl
   optional_kept (Some x) h = angle_kept as_written x h
 
-module _ {X : Type 0} (nx : Place → X → X) (px : Place → X → Print) (same : (w : Place) (x : X) → px w (nx w x) ≡ px w x) where
-  pub len_same : (x : Expr X) → printing.len px (normal.len nx x) ≡ printing.len px x
-  len_same x = at_place_same nx px same ArrayLen x
-
-  pub attrs_same : (l : Attrs X) → attrs px (nshapes.attrs nx l) ≡ attrs px l
-  attrs_same l = outer_same nx px same l
-
+module _ {A E : Type 0} (na : List A → List A) (ne : NormalValues E) (pa : List A → Print) (pe : Values E) (same_attrs : (l : List A) → pa (na l) ≡ pa l) (same_values : SameValues ne pe) where
   -- what stands behind attributes
-  behind : (a : Attrs X) {l m : Print} → l ≡ m → attrs px (nshapes.attrs nx a) ++ l ≡ attrs px a ++ m
-  behind a {m = m} h = ap (λ z. attrs px (nshapes.attrs nx a) ++ z) h ∙ ap (λ z. z ++ m) (attrs_same a)
+  behind : (a : List A) {l m : Print} → l ≡ m → pa (na a) ++ l ≡ pa a ++ m
+  behind a {m = m} h = ap (λ z. pa (na a) ++ z) h ∙ ap (λ z. z ++ m) (same_attrs a)
 
-  pub lifetime_param_same : (x : LifetimeParam X) → shapes.lifetime_param px (nshapes.lifetime_param nx x) ≡ shapes.lifetime_param px x
+  pub lifetime_param_same : (x : LifetimeParamOf A) → shapes.lifetime_param pa pe (nshapes.lifetime_param na ne x) ≡ shapes.lifetime_param pa pe x
   lifetime_param_same x = behind x.attrs (ap (λ z. lifetimes.print x.lifetime ++ z) (colon_same lifetimes.print x.colon_token x.bounds.0 x.bounds.1))
 
-  const_default_same : (x : Option (Eq × Expr X)) → shapes.const_default px (nshapes.const_default nx x) ≡ shapes.const_default px x
+  const_default_same : (x : Option (Eq × E)) → shapes.const_default pa pe (nshapes.const_default na ne x) ≡ shapes.const_default pa pe x
   const_default_same None = refl
-  const_default_same (Some d) = ap (λ z. p.mark d.0 ++ z) (const_argument_same nx px same d.1)
+  const_default_same (Some d) = ap (λ z. p.mark d.0 ++ z) (same_values.const_argument d.1)
 
   -- a name of an argument with its attributes
-  named_same : (l : Attrs X) (n : Option (Ident × Mark 7 1)) → arg_name px (nshapes.attrs nx l) n ≡ arg_name px l n
-  named_same l n = ap (λ z. z ++ name n) (attrs_same l)
+  named_same : (l : List A) (n : Option (Ident × Mark 7 1)) → arg_name pa pe (na l) n ≡ arg_name pa pe l n
+  named_same l n = ap (λ z. z ++ name n) (same_attrs l)
 
-  pub variadic_same : (x : FnPtrVariadic X) → printing.variadic px (normal.variadic nx x) ≡ printing.variadic px x
-  variadic_same x = ap (λ z. z ++ (p.mark x.dots ++ printing.optional_comma px x.comma)) (named_same x.attrs x.name)
+  pub variadic_same : (x : FnPtrVariadicOf A) → printing.variadic pa pe (normal.variadic na ne x) ≡ printing.variadic pa pe x
+  variadic_same x = ap (λ z. z ++ (p.mark x.dots ++ printing.optional_comma pa pe x.comma)) (named_same x.attrs x.name)
 
-  abbrev SameParam : GenericParam X → Type 0
-  SameParam x = printing.param px (normal.param nx x) ≡ printing.param px x
+  abbrev SameParam : GenericParam A E → Type 0
+  SameParam x = printing.param pa pe (normal.param na ne x) ≡ printing.param pa pe x
 
-  abbrev SameBound : TypeParamBound X → Type 0
-  SameBound x = printing.bound px (normal.bound nx x) ≡ printing.bound px x
+  abbrev SameBound : TypeParamBound A E → Type 0
+  SameBound x = printing.bound pa pe (normal.bound na ne x) ≡ printing.bound pa pe x
 
-  abbrev SameArgument : GenericArgument X → Type 0
-  SameArgument x = printing.argument px (normal.argument nx x) ≡ printing.argument px x
+  abbrev SameArgument : GenericArgument A E → Type 0
+  SameArgument x = printing.argument pa pe (normal.argument na ne x) ≡ printing.argument pa pe x
 
-  abbrev SameArguments : PathArguments X → Type 0
-  SameArguments x = (style : PathStyle) → printing.arguments px style (normal.arguments nx x) ≡ printing.arguments px style x
+  abbrev SameArguments : PathArguments A E → Type 0
+  SameArguments x = (style : PathStyle) → printing.arguments pa pe style (normal.arguments na ne x) ≡ printing.arguments pa pe style x
 
-  abbrev Same : TypeTree X → Type 0
-  Same x = printing.ty px (normal.ty nx x) ≡ printing.ty px x
+  abbrev Same : TypeTree A E → Type 0
+  Same x = printing.ty pa pe (normal.ty na ne x) ≡ printing.ty pa pe x
 
-  abbrev SameTraitBound : TraitBound X → Type 0
-  SameTraitBound x = printing.trait_bound px (normal.trait_bound nx x) ≡ printing.trait_bound px x
+  abbrev SameTraitBound : TraitBound A E → Type 0
+  SameTraitBound x = printing.trait_bound pa pe (normal.trait_bound na ne x) ≡ printing.trait_bound pa pe x
 
-  abbrev SameTypeParam : TypeParam X → Type 0
-  SameTypeParam x = printing.type_param px (normal.type_param nx x) ≡ printing.type_param px x
+  abbrev SameTypeParam : TypeParam A E → Type 0
+  SameTypeParam x = printing.type_param pa pe (normal.type_param na ne x) ≡ printing.type_param pa pe x
 
-  abbrev SameAssocType : AssocType X → Type 0
-  SameAssocType x = printing.assoc_type px (normal.assoc_type nx x) ≡ printing.assoc_type px x
+  abbrev SameAssocType : AssocType A E → Type 0
+  SameAssocType x = printing.assoc_type pa pe (normal.assoc_type na ne x) ≡ printing.assoc_type pa pe x
 
-  abbrev SameConstraint : Constraint X → Type 0
-  SameConstraint x = printing.constraint px (normal.constraint nx x) ≡ printing.constraint px x
+  abbrev SameConstraint : Constraint A E → Type 0
+  SameConstraint x = printing.constraint pa pe (normal.constraint na ne x) ≡ printing.constraint pa pe x
 
-  abbrev SameFnPtr : TypeFnPtr X → Type 0
-  SameFnPtr x = printing.fn_ptr px (normal.fn_ptr nx x) ≡ printing.fn_ptr px x
+  abbrev SameFnPtr : TypeFnPtr A E → Type 0
+  SameFnPtr x = printing.fn_ptr pa pe (normal.fn_ptr na ne x) ≡ printing.fn_ptr pa pe x
 
-  abbrev SamePathType : TypePath X → Type 0
-  SamePathType x = printing.path_type px (normal.path_type nx x) ≡ printing.path_type px x
+  abbrev SamePathType : TypePath A E → Type 0
+  SamePathType x = printing.path_type pa pe (normal.path_type na ne x) ≡ printing.path_type pa pe x
 
   abbrev HeldParam : Type 0
-  HeldParam = (x : GenericParam X) × SameParam x
+  HeldParam = (x : GenericParam A E) × SameParam x
 
   abbrev HeldBound : Type 0
-  HeldBound = (x : TypeParamBound X) × SameBound x
+  HeldBound = (x : TypeParamBound A E) × SameBound x
 
   abbrev HeldArgument : Type 0
-  HeldArgument = (x : GenericArgument X) × SameArgument x
+  HeldArgument = (x : GenericArgument A E) × SameArgument x
 
   abbrev HeldArguments : Type 0
-  HeldArguments = (x : PathArguments X) × SameArguments x
+  HeldArguments = (x : PathArguments A E) × SameArguments x
 
   abbrev HeldType : Type 0
-  HeldType = (x : TypeTree X) × Same x
+  HeldType = (x : TypeTree A E) × Same x
 
   abbrev HeldTraitBound : Type 0
-  HeldTraitBound = (x : TraitBound X) × SameTraitBound x
+  HeldTraitBound = (x : TraitBound A E) × SameTraitBound x
 
   abbrev HeldTypeParam : Type 0
-  HeldTypeParam = (x : TypeParam X) × SameTypeParam x
+  HeldTypeParam = (x : TypeParam A E) × SameTypeParam x
 
   abbrev HeldAssocType : Type 0
-  HeldAssocType = (x : AssocType X) × SameAssocType x
+  HeldAssocType = (x : AssocType A E) × SameAssocType x
 
   abbrev HeldConstraint : Type 0
-  HeldConstraint = (x : Constraint X) × SameConstraint x
+  HeldConstraint = (x : Constraint A E) × SameConstraint x
 
   abbrev HeldFnPtr : Type 0
-  HeldFnPtr = (x : TypeFnPtr X) × SameFnPtr x
+  HeldFnPtr = (x : TypeFnPtr A E) × SameFnPtr x
 
   abbrev HeldPathType : Type 0
-  HeldPathType = (x : TypePath X) × SamePathType x
+  HeldPathType = (x : TypePath A E) × SamePathType x
 
   -- one layer over trees with the fact beside each, and over the trees alone
   abbrev Held : Family → Type 0
-  Held F = F (Attr X) (Expr X) HeldParam HeldBound HeldArgument HeldArguments HeldType HeldTraitBound HeldTypeParam HeldAssocType HeldConstraint HeldFnPtr HeldPathType
+  Held F = F A E HeldParam HeldBound HeldArgument HeldArguments HeldType HeldTraitBound HeldTypeParam HeldAssocType HeldConstraint HeldFnPtr HeldPathType
 
-  abbrev plain_param : Held o.GenericParamOf-F → LayerOf o.GenericParamOf-F X
-  plain_param = map-GenericParamOf (Attr X) (Expr X) HeldParam HeldBound HeldArgument HeldArguments HeldType HeldTraitBound HeldTypeParam HeldAssocType HeldConstraint HeldFnPtr HeldPathType (GenericParam X) (TypeParamBound X) (GenericArgument X) (PathArguments X) (TypeTree X) (TraitBound X) (TypeParam X) (AssocType X) (Constraint X) (TypeFnPtr X) (TypePath X) (λ a. a.0) (λ a. a.0) (λ a. a.0) (λ a. a.0) (λ a. a.0) (λ a. a.0) (λ a. a.0) (λ a. a.0) (λ a. a.0) (λ a. a.0) (λ a. a.0)
+  abbrev plain_param : Held o.GenericParamOf-F → Layer o.GenericParamOf-F A E
+  plain_param = map-GenericParamOf A E HeldParam HeldBound HeldArgument HeldArguments HeldType HeldTraitBound HeldTypeParam HeldAssocType HeldConstraint HeldFnPtr HeldPathType (GenericParam A E) (TypeParamBound A E) (GenericArgument A E) (PathArguments A E) (TypeTree A E) (TraitBound A E) (TypeParam A E) (AssocType A E) (Constraint A E) (TypeFnPtr A E) (TypePath A E) (λ a. a.0) (λ a. a.0) (λ a. a.0) (λ a. a.0) (λ a. a.0) (λ a. a.0) (λ a. a.0) (λ a. a.0) (λ a. a.0) (λ a. a.0) (λ a. a.0)
 
-  abbrev plain_bound : Held o.TypeParamBoundOf-F → LayerOf o.TypeParamBoundOf-F X
-  plain_bound = map-TypeParamBoundOf (Attr X) (Expr X) HeldParam HeldBound HeldArgument HeldArguments HeldType HeldTraitBound HeldTypeParam HeldAssocType HeldConstraint HeldFnPtr HeldPathType (GenericParam X) (TypeParamBound X) (GenericArgument X) (PathArguments X) (TypeTree X) (TraitBound X) (TypeParam X) (AssocType X) (Constraint X) (TypeFnPtr X) (TypePath X) (λ a. a.0) (λ a. a.0) (λ a. a.0) (λ a. a.0) (λ a. a.0) (λ a. a.0) (λ a. a.0) (λ a. a.0) (λ a. a.0) (λ a. a.0) (λ a. a.0)
+  abbrev plain_bound : Held o.TypeParamBoundOf-F → Layer o.TypeParamBoundOf-F A E
+  plain_bound = map-TypeParamBoundOf A E HeldParam HeldBound HeldArgument HeldArguments HeldType HeldTraitBound HeldTypeParam HeldAssocType HeldConstraint HeldFnPtr HeldPathType (GenericParam A E) (TypeParamBound A E) (GenericArgument A E) (PathArguments A E) (TypeTree A E) (TraitBound A E) (TypeParam A E) (AssocType A E) (Constraint A E) (TypeFnPtr A E) (TypePath A E) (λ a. a.0) (λ a. a.0) (λ a. a.0) (λ a. a.0) (λ a. a.0) (λ a. a.0) (λ a. a.0) (λ a. a.0) (λ a. a.0) (λ a. a.0) (λ a. a.0)
 
-  abbrev plain_argument : Held o.GenericArgumentOf-F → LayerOf o.GenericArgumentOf-F X
-  plain_argument = map-GenericArgumentOf (Attr X) (Expr X) HeldParam HeldBound HeldArgument HeldArguments HeldType HeldTraitBound HeldTypeParam HeldAssocType HeldConstraint HeldFnPtr HeldPathType (GenericParam X) (TypeParamBound X) (GenericArgument X) (PathArguments X) (TypeTree X) (TraitBound X) (TypeParam X) (AssocType X) (Constraint X) (TypeFnPtr X) (TypePath X) (λ a. a.0) (λ a. a.0) (λ a. a.0) (λ a. a.0) (λ a. a.0) (λ a. a.0) (λ a. a.0) (λ a. a.0) (λ a. a.0) (λ a. a.0) (λ a. a.0)
+  abbrev plain_argument : Held o.GenericArgumentOf-F → Layer o.GenericArgumentOf-F A E
+  plain_argument = map-GenericArgumentOf A E HeldParam HeldBound HeldArgument HeldArguments HeldType HeldTraitBound HeldTypeParam HeldAssocType HeldConstraint HeldFnPtr HeldPathType (GenericParam A E) (TypeParamBound A E) (GenericArgument A E) (PathArguments A E) (TypeTree A E) (TraitBound A E) (TypeParam A E) (AssocType A E) (Constraint A E) (TypeFnPtr A E) (TypePath A E) (λ a. a.0) (λ a. a.0) (λ a. a.0) (λ a. a.0) (λ a. a.0) (λ a. a.0) (λ a. a.0) (λ a. a.0) (λ a. a.0) (λ a. a.0) (λ a. a.0)
 
-  abbrev plain_arguments : Held o.PathArgumentsOf-F → LayerOf o.PathArgumentsOf-F X
-  plain_arguments = map-PathArgumentsOf (Attr X) (Expr X) HeldParam HeldBound HeldArgument HeldArguments HeldType HeldTraitBound HeldTypeParam HeldAssocType HeldConstraint HeldFnPtr HeldPathType (GenericParam X) (TypeParamBound X) (GenericArgument X) (PathArguments X) (TypeTree X) (TraitBound X) (TypeParam X) (AssocType X) (Constraint X) (TypeFnPtr X) (TypePath X) (λ a. a.0) (λ a. a.0) (λ a. a.0) (λ a. a.0) (λ a. a.0) (λ a. a.0) (λ a. a.0) (λ a. a.0) (λ a. a.0) (λ a. a.0) (λ a. a.0)
+  abbrev plain_arguments : Held o.PathArgumentsOf-F → Layer o.PathArgumentsOf-F A E
+  plain_arguments = map-PathArgumentsOf A E HeldParam HeldBound HeldArgument HeldArguments HeldType HeldTraitBound HeldTypeParam HeldAssocType HeldConstraint HeldFnPtr HeldPathType (GenericParam A E) (TypeParamBound A E) (GenericArgument A E) (PathArguments A E) (TypeTree A E) (TraitBound A E) (TypeParam A E) (AssocType A E) (Constraint A E) (TypeFnPtr A E) (TypePath A E) (λ a. a.0) (λ a. a.0) (λ a. a.0) (λ a. a.0) (λ a. a.0) (λ a. a.0) (λ a. a.0) (λ a. a.0) (λ a. a.0) (λ a. a.0) (λ a. a.0)
 
-  abbrev plain_ty : Held o.TypeOf-F → LayerOf o.TypeOf-F X
-  plain_ty = map-TypeOf (Attr X) (Expr X) HeldParam HeldBound HeldArgument HeldArguments HeldType HeldTraitBound HeldTypeParam HeldAssocType HeldConstraint HeldFnPtr HeldPathType (GenericParam X) (TypeParamBound X) (GenericArgument X) (PathArguments X) (TypeTree X) (TraitBound X) (TypeParam X) (AssocType X) (Constraint X) (TypeFnPtr X) (TypePath X) (λ a. a.0) (λ a. a.0) (λ a. a.0) (λ a. a.0) (λ a. a.0) (λ a. a.0) (λ a. a.0) (λ a. a.0) (λ a. a.0) (λ a. a.0) (λ a. a.0)
+  abbrev plain_ty : Held o.TypeOf-F → Layer o.TypeOf-F A E
+  plain_ty = map-TypeOf A E HeldParam HeldBound HeldArgument HeldArguments HeldType HeldTraitBound HeldTypeParam HeldAssocType HeldConstraint HeldFnPtr HeldPathType (GenericParam A E) (TypeParamBound A E) (GenericArgument A E) (PathArguments A E) (TypeTree A E) (TraitBound A E) (TypeParam A E) (AssocType A E) (Constraint A E) (TypeFnPtr A E) (TypePath A E) (λ a. a.0) (λ a. a.0) (λ a. a.0) (λ a. a.0) (λ a. a.0) (λ a. a.0) (λ a. a.0) (λ a. a.0) (λ a. a.0) (λ a. a.0) (λ a. a.0)
 
-  abbrev plain_trait_bound : Held o.TraitBoundOf-F → LayerOf o.TraitBoundOf-F X
-  plain_trait_bound = map-TraitBoundOf (Attr X) (Expr X) HeldParam HeldBound HeldArgument HeldArguments HeldType HeldTraitBound HeldTypeParam HeldAssocType HeldConstraint HeldFnPtr HeldPathType (GenericParam X) (TypeParamBound X) (GenericArgument X) (PathArguments X) (TypeTree X) (TraitBound X) (TypeParam X) (AssocType X) (Constraint X) (TypeFnPtr X) (TypePath X) (λ a. a.0) (λ a. a.0) (λ a. a.0) (λ a. a.0) (λ a. a.0) (λ a. a.0) (λ a. a.0) (λ a. a.0) (λ a. a.0) (λ a. a.0) (λ a. a.0)
+  abbrev plain_trait_bound : Held o.TraitBoundOf-F → Layer o.TraitBoundOf-F A E
+  plain_trait_bound = map-TraitBoundOf A E HeldParam HeldBound HeldArgument HeldArguments HeldType HeldTraitBound HeldTypeParam HeldAssocType HeldConstraint HeldFnPtr HeldPathType (GenericParam A E) (TypeParamBound A E) (GenericArgument A E) (PathArguments A E) (TypeTree A E) (TraitBound A E) (TypeParam A E) (AssocType A E) (Constraint A E) (TypeFnPtr A E) (TypePath A E) (λ a. a.0) (λ a. a.0) (λ a. a.0) (λ a. a.0) (λ a. a.0) (λ a. a.0) (λ a. a.0) (λ a. a.0) (λ a. a.0) (λ a. a.0) (λ a. a.0)
 
-  abbrev plain_type_param : Held o.TypeParamOf-F → LayerOf o.TypeParamOf-F X
-  plain_type_param = map-TypeParamOf (Attr X) (Expr X) HeldParam HeldBound HeldArgument HeldArguments HeldType HeldTraitBound HeldTypeParam HeldAssocType HeldConstraint HeldFnPtr HeldPathType (GenericParam X) (TypeParamBound X) (GenericArgument X) (PathArguments X) (TypeTree X) (TraitBound X) (TypeParam X) (AssocType X) (Constraint X) (TypeFnPtr X) (TypePath X) (λ a. a.0) (λ a. a.0) (λ a. a.0) (λ a. a.0) (λ a. a.0) (λ a. a.0) (λ a. a.0) (λ a. a.0) (λ a. a.0) (λ a. a.0) (λ a. a.0)
+  abbrev plain_type_param : Held o.TypeParamOf-F → Layer o.TypeParamOf-F A E
+  plain_type_param = map-TypeParamOf A E HeldParam HeldBound HeldArgument HeldArguments HeldType HeldTraitBound HeldTypeParam HeldAssocType HeldConstraint HeldFnPtr HeldPathType (GenericParam A E) (TypeParamBound A E) (GenericArgument A E) (PathArguments A E) (TypeTree A E) (TraitBound A E) (TypeParam A E) (AssocType A E) (Constraint A E) (TypeFnPtr A E) (TypePath A E) (λ a. a.0) (λ a. a.0) (λ a. a.0) (λ a. a.0) (λ a. a.0) (λ a. a.0) (λ a. a.0) (λ a. a.0) (λ a. a.0) (λ a. a.0) (λ a. a.0)
 
-  abbrev plain_assoc_type : Held o.AssocTypeOf-F → LayerOf o.AssocTypeOf-F X
-  plain_assoc_type = map-AssocTypeOf (Attr X) (Expr X) HeldParam HeldBound HeldArgument HeldArguments HeldType HeldTraitBound HeldTypeParam HeldAssocType HeldConstraint HeldFnPtr HeldPathType (GenericParam X) (TypeParamBound X) (GenericArgument X) (PathArguments X) (TypeTree X) (TraitBound X) (TypeParam X) (AssocType X) (Constraint X) (TypeFnPtr X) (TypePath X) (λ a. a.0) (λ a. a.0) (λ a. a.0) (λ a. a.0) (λ a. a.0) (λ a. a.0) (λ a. a.0) (λ a. a.0) (λ a. a.0) (λ a. a.0) (λ a. a.0)
+  abbrev plain_assoc_type : Held o.AssocTypeOf-F → Layer o.AssocTypeOf-F A E
+  plain_assoc_type = map-AssocTypeOf A E HeldParam HeldBound HeldArgument HeldArguments HeldType HeldTraitBound HeldTypeParam HeldAssocType HeldConstraint HeldFnPtr HeldPathType (GenericParam A E) (TypeParamBound A E) (GenericArgument A E) (PathArguments A E) (TypeTree A E) (TraitBound A E) (TypeParam A E) (AssocType A E) (Constraint A E) (TypeFnPtr A E) (TypePath A E) (λ a. a.0) (λ a. a.0) (λ a. a.0) (λ a. a.0) (λ a. a.0) (λ a. a.0) (λ a. a.0) (λ a. a.0) (λ a. a.0) (λ a. a.0) (λ a. a.0)
 
-  abbrev plain_constraint : Held o.ConstraintOf-F → LayerOf o.ConstraintOf-F X
-  plain_constraint = map-ConstraintOf (Attr X) (Expr X) HeldParam HeldBound HeldArgument HeldArguments HeldType HeldTraitBound HeldTypeParam HeldAssocType HeldConstraint HeldFnPtr HeldPathType (GenericParam X) (TypeParamBound X) (GenericArgument X) (PathArguments X) (TypeTree X) (TraitBound X) (TypeParam X) (AssocType X) (Constraint X) (TypeFnPtr X) (TypePath X) (λ a. a.0) (λ a. a.0) (λ a. a.0) (λ a. a.0) (λ a. a.0) (λ a. a.0) (λ a. a.0) (λ a. a.0) (λ a. a.0) (λ a. a.0) (λ a. a.0)
+  abbrev plain_constraint : Held o.ConstraintOf-F → Layer o.ConstraintOf-F A E
+  plain_constraint = map-ConstraintOf A E HeldParam HeldBound HeldArgument HeldArguments HeldType HeldTraitBound HeldTypeParam HeldAssocType HeldConstraint HeldFnPtr HeldPathType (GenericParam A E) (TypeParamBound A E) (GenericArgument A E) (PathArguments A E) (TypeTree A E) (TraitBound A E) (TypeParam A E) (AssocType A E) (Constraint A E) (TypeFnPtr A E) (TypePath A E) (λ a. a.0) (λ a. a.0) (λ a. a.0) (λ a. a.0) (λ a. a.0) (λ a. a.0) (λ a. a.0) (λ a. a.0) (λ a. a.0) (λ a. a.0) (λ a. a.0)
 
-  abbrev plain_fn_ptr : Held o.TypeFnPtrOf-F → LayerOf o.TypeFnPtrOf-F X
-  plain_fn_ptr = map-TypeFnPtrOf (Attr X) (Expr X) HeldParam HeldBound HeldArgument HeldArguments HeldType HeldTraitBound HeldTypeParam HeldAssocType HeldConstraint HeldFnPtr HeldPathType (GenericParam X) (TypeParamBound X) (GenericArgument X) (PathArguments X) (TypeTree X) (TraitBound X) (TypeParam X) (AssocType X) (Constraint X) (TypeFnPtr X) (TypePath X) (λ a. a.0) (λ a. a.0) (λ a. a.0) (λ a. a.0) (λ a. a.0) (λ a. a.0) (λ a. a.0) (λ a. a.0) (λ a. a.0) (λ a. a.0) (λ a. a.0)
+  abbrev plain_fn_ptr : Held o.TypeFnPtrOf-F → Layer o.TypeFnPtrOf-F A E
+  plain_fn_ptr = map-TypeFnPtrOf A E HeldParam HeldBound HeldArgument HeldArguments HeldType HeldTraitBound HeldTypeParam HeldAssocType HeldConstraint HeldFnPtr HeldPathType (GenericParam A E) (TypeParamBound A E) (GenericArgument A E) (PathArguments A E) (TypeTree A E) (TraitBound A E) (TypeParam A E) (AssocType A E) (Constraint A E) (TypeFnPtr A E) (TypePath A E) (λ a. a.0) (λ a. a.0) (λ a. a.0) (λ a. a.0) (λ a. a.0) (λ a. a.0) (λ a. a.0) (λ a. a.0) (λ a. a.0) (λ a. a.0) (λ a. a.0)
 
-  abbrev plain_path_type : Held o.TypePathOf-F → LayerOf o.TypePathOf-F X
-  plain_path_type = map-TypePathOf (Attr X) (Expr X) HeldParam HeldBound HeldArgument HeldArguments HeldType HeldTraitBound HeldTypeParam HeldAssocType HeldConstraint HeldFnPtr HeldPathType (GenericParam X) (TypeParamBound X) (GenericArgument X) (PathArguments X) (TypeTree X) (TraitBound X) (TypeParam X) (AssocType X) (Constraint X) (TypeFnPtr X) (TypePath X) (λ a. a.0) (λ a. a.0) (λ a. a.0) (λ a. a.0) (λ a. a.0) (λ a. a.0) (λ a. a.0) (λ a. a.0) (λ a. a.0) (λ a. a.0) (λ a. a.0)
+  abbrev plain_path_type : Held o.TypePathOf-F → Layer o.TypePathOf-F A E
+  plain_path_type = map-TypePathOf A E HeldParam HeldBound HeldArgument HeldArguments HeldType HeldTraitBound HeldTypeParam HeldAssocType HeldConstraint HeldFnPtr HeldPathType (GenericParam A E) (TypeParamBound A E) (GenericArgument A E) (PathArguments A E) (TypeTree A E) (TraitBound A E) (TypeParam A E) (AssocType A E) (Constraint A E) (TypeFnPtr A E) (TypePath A E) (λ a. a.0) (λ a. a.0) (λ a. a.0) (λ a. a.0) (λ a. a.0) (λ a. a.0) (λ a. a.0) (λ a. a.0) (λ a. a.0) (λ a. a.0) (λ a. a.0)
 
   -- ---- paths
 
-  abbrev SameSegment : PathSegment X → Type 0
+  abbrev SameSegment : PathSegment A E → Type 0
   SameSegment s = SameArguments s.arguments
 
-  path_parts : (style : PathStyle) (z : Path X) → Each SameSegment z.segments.0 → path_by (arguments px style) (normal.path nx z) ≡ path_by (arguments px style) z
-  path_parts style z h = path_kept (normal.arguments nx) (arguments px) style z.leading_colon z.segments.0 z.segments.1 h
+  path_parts : (style : PathStyle) (z : Path A E) → Each SameSegment z.segments.0 → path_by (arguments pa pe style) (normal.path na ne z) ≡ path_by (arguments pa pe style) z
+  path_parts style z h = path_kept (normal.arguments na ne) (arguments pa pe) style z.leading_colon z.segments.0 z.segments.1 h
 
-  abbrev SameSelf : Option (QSelf X) → Type 0
+  abbrev SameSelf : Option (QSelf A E) → Type 0
   SameSelf None = Unit {0}
   SameSelf (Some q) = Same q.ty
 
-  qpath_parts : (style : PathStyle) (q : Option (QSelf X)) (z : Path X) → SameSelf q → Each SameSegment z.segments.0 → printing.qpath px style (normal.optional_qself nx q) (normal.path nx z) ≡ printing.qpath px style q z
+  qpath_parts : (style : PathStyle) (q : Option (QSelf A E)) (z : Path A E) → SameSelf q → Each SameSegment z.segments.0 → printing.qpath pa pe style (normal.optional_qself na ne q) (normal.path na ne z) ≡ printing.qpath pa pe style q z
   qpath_parts style None z h k = path_parts style z k
   qpath_parts style (Some q) z h k =
-      ap (λ u. p.mark q.lt_token ++ (u ++ qualified_by (arguments px) style (normal.qself nx q) (normal.path nx z))) h
-      ∙ ap (λ u. p.mark q.lt_token ++ (ty px q.ty ++ u)) (qualified_kept (normal.arguments nx) (arguments px) (normal.ty nx) style q z.leading_colon z.segments.0 z.segments.1 k)
+      ap (λ u. p.mark q.lt_token ++ (u ++ qualified_by (arguments pa pe) style (normal.qself na ne q) (normal.path na ne z))) h
+      ∙ ap (λ u. p.mark q.lt_token ++ (ty pa pe q.ty ++ u)) (qualified_kept (normal.arguments na ne) (arguments pa pe) (normal.ty na ne) style q z.leading_colon z.segments.0 z.segments.1 k)
 
-  path_type_by : (l : Attrs X) (q : Option (QSelf X)) (z : Path X) → SameSelf q → Each SameSegment z.segments.0 → SamePathType (qualified_with l q z)
+  path_type_by : (l : List A) (q : Option (QSelf A E)) (z : Path A E) → SameSelf q → Each SameSegment z.segments.0 → SamePathType (qualified_with l q z)
   path_type_by l q z h k =
-      ap (path_type px) (path_type_normal nx l q z) ∙ path_type_parts px (nshapes.attrs nx l) (normal.optional_qself nx q) (normal.path nx z) ∙ qpath_parts as_written q z h k
-      ∙ sym (path_type_parts px l q z)
+      ap (path_type pa pe) (path_type_normal na ne l q z) ∙ path_type_parts pa pe (na l) (normal.optional_qself na ne q) (normal.path na ne z) ∙ qpath_parts as_written q z h k
+      ∙ sym (path_type_parts pa pe l q z)
 
-  abbrev plain_segment : PathSegmentOf HeldArguments → PathSegment X
+  abbrev plain_segment : PathSegmentOf HeldArguments → PathSegment A E
   plain_segment s = segment_of s.arguments.0 s.ident
 
-  abbrev plain_path : PathOf HeldArguments → Path X
+  abbrev plain_path : PathOf HeldArguments → Path A E
   plain_path z = path_of z.leading_colon (map plain_segment z.segments.0, z.segments.1)
 
   segments_held : (l : List (PathSegmentOf HeldArguments)) → Each SameSegment (map plain_segment l)
   segments_held [] = tt
   segments_held (s ∷ l) = (s.arguments.1, segments_held l)
 
-  path_type_held : (l : Attrs X) (q : Option (QSelfOf HeldType)) (z : PathOf HeldArguments) → SamePathType (roll-TypePathOf (Attr X) (Expr X) (plain_path_type (record { attrs = l; qself = q; path = z })))
+  path_type_held : (l : List A) (q : Option (QSelfOf HeldType)) (z : PathOf HeldArguments) → SamePathType (roll-TypePathOf A E (plain_path_type (record { attrs = l; qself = q; path = z })))
   path_type_held l None z = path_type_by l None (plain_path z) tt (segments_held z.segments.0)
   path_type_held l (Some q) z = path_type_by l (Some (qself_of q.lt_token q.ty.0 q.position q.as_token q.gt_token)) (plain_path z) q.ty.1 (segments_held z.segments.0)
 
-  path_type_layer : (y : Held o.TypePathOf-F) → SamePathType (roll-TypePathOf (Attr X) (Expr X) (plain_path_type y))
+  path_type_layer : (y : Held o.TypePathOf-F) → SamePathType (roll-TypePathOf A E (plain_path_type y))
   path_type_layer y = path_type_held y.attrs y.qself y.path
 
   -- ---- arguments between angle marks
 
-  angle_parts : (style : PathStyle) (x : AngleBracketed X) → Each SameArgument x.args.0 → printing.angle px style (normal.angle nx x) ≡ printing.angle px style x
-  angle_parts style x h = angle_kept is_lifetime (normal.argument nx) (argument_kept nx) (argument px) style x h
+  angle_parts : (style : PathStyle) (x : AngleBracketed A E) → Each SameArgument x.args.0 → printing.angle pa pe style (normal.angle na ne x) ≡ printing.angle pa pe style x
+  angle_parts style x h = angle_kept is_lifetime (normal.argument na ne) (argument_kept na ne) (argument pa pe) style x h
 
-  abbrev SameAngle : Option (AngleBracketed X) → Type 0
+  abbrev SameAngle : Option (AngleBracketed A E) → Type 0
   SameAngle None = Unit {0}
   SameAngle (Some x) = Each SameArgument x.args.0
 
-  optional_parts : (x : Option (AngleBracketed X)) → SameAngle x → printing.optional_angle px (normal.optional_angle nx x) ≡ printing.optional_angle px x
+  optional_parts : (x : Option (AngleBracketed A E)) → SameAngle x → printing.optional_angle pa pe (normal.optional_angle na ne x) ≡ printing.optional_angle pa pe x
   optional_parts None h = refl
   optional_parts (Some x) h = angle_parts as_written x h
 
-  abbrev plain_angle : AngleBracketedGenericArgumentsOf HeldArgument → AngleBracketed X
+  abbrev plain_angle : AngleBracketedGenericArgumentsOf HeldArgument → AngleBracketed A E
   plain_angle x = angle_of x.colon2_token x.lt_token (map (λ (e : HeldArgument). e.0) x.args.0, x.args.1) x.gt_token
 
-  assoc_type_by : (i : Ident) (q : Option (AngleBracketed X)) (e : Mark 11 1) (x : TypeTree X) → SameAngle q → Same x → SameAssocType (assoc_type_of i q e x)
+  assoc_type_by : (i : Ident) (q : Option (AngleBracketed A E)) (e : Mark 11 1) (x : TypeTree A E) → SameAngle q → Same x → SameAssocType (assoc_type_of i q e x)
   assoc_type_by i q e x h s =
-      ap (assoc_type px) (assoc_type_normal nx i q e x) ∙ assoc_type_parts px i (normal.optional_angle nx q) e (normal.ty nx x)
-      ∙ ap (λ z. p.ident i ++ (z ++ (p.mark e ++ ty px (normal.ty nx x)))) (optional_parts q h)
-      ∙ ap (λ z. p.ident i ++ (printing.optional_angle px q ++ (p.mark e ++ z))) s ∙ sym (assoc_type_parts px i q e x)
+      ap (assoc_type pa pe) (assoc_type_normal na ne i q e x) ∙ assoc_type_parts pa pe i (normal.optional_angle na ne q) e (normal.ty na ne x)
+      ∙ ap (λ z. p.ident i ++ (z ++ (p.mark e ++ ty pa pe (normal.ty na ne x)))) (optional_parts q h)
+      ∙ ap (λ z. p.ident i ++ (printing.optional_angle pa pe q ++ (p.mark e ++ z))) s ∙ sym (assoc_type_parts pa pe i q e x)
 
   assoc_type_held : (i : Ident) (q : Option (AngleBracketedGenericArgumentsOf HeldArgument)) (e : Mark 11 1) (x : HeldType) →
-      SameAssocType (roll-AssocTypeOf (Attr X) (Expr X) (plain_assoc_type (record { ident = i; generics = q; eq_token = e; ty = x })))
+      SameAssocType (roll-AssocTypeOf A E (plain_assoc_type (record { ident = i; generics = q; eq_token = e; ty = x })))
   assoc_type_held i None e x = assoc_type_by i None e x.0 tt x.1
   assoc_type_held i (Some q) e x = assoc_type_by i (Some (plain_angle q)) e x.0 (each_held SameArgument q.args.0) x.1
 
-  assoc_type_layer : (y : Held o.AssocTypeOf-F) → SameAssocType (roll-AssocTypeOf (Attr X) (Expr X) (plain_assoc_type y))
+  assoc_type_layer : (y : Held o.AssocTypeOf-F) → SameAssocType (roll-AssocTypeOf A E (plain_assoc_type y))
   assoc_type_layer y = assoc_type_held y.ident y.generics y.eq_token y.ty
 
-  constraint_by : (i : Ident) (q : Option (AngleBracketed X)) (c : Mark 7 1) (l : List (TypeParamBound X)) (ms : List Plus) → SameAngle q → Each SameBound l → SameConstraint (constraint_of i q c (l, ms))
+  constraint_by : (i : Ident) (q : Option (AngleBracketed A E)) (c : Mark 7 1) (l : List (TypeParamBound A E)) (ms : List Plus) → SameAngle q → Each SameBound l → SameConstraint (constraint_of i q c (l, ms))
   constraint_by i q c l ms h s =
-      ap (constraint px) (constraint_normal nx i q c (l, ms)) ∙ constraint_parts px i (normal.optional_angle nx q) c (map (normal.bound nx) l, ms)
-      ∙ ap (λ z. p.ident i ++ (z ++ (p.mark c ++ joined_by (bound px) (map (normal.bound nx) l, ms)))) (optional_parts q h)
-      ∙ ap (λ z. p.ident i ++ (printing.optional_angle px q ++ (p.mark c ++ z))) (joined_same (normal.bound nx) (bound px) p.mark l ms s) ∙ sym (constraint_parts px i q c (l, ms))
+      ap (constraint pa pe) (constraint_normal na ne i q c (l, ms)) ∙ constraint_parts pa pe i (normal.optional_angle na ne q) c (map (normal.bound na ne) l, ms)
+      ∙ ap (λ z. p.ident i ++ (z ++ (p.mark c ++ joined_by (bound pa pe) (map (normal.bound na ne) l, ms)))) (optional_parts q h)
+      ∙ ap (λ z. p.ident i ++ (printing.optional_angle pa pe q ++ (p.mark c ++ z))) (joined_same (normal.bound na ne) (bound pa pe) p.mark l ms s) ∙ sym (constraint_parts pa pe i q c (l, ms))
 
   constraint_held : (i : Ident) (q : Option (AngleBracketedGenericArgumentsOf HeldArgument)) (c : Mark 7 1) (l : Many HeldBound Plus) →
-      SameConstraint (roll-ConstraintOf (Attr X) (Expr X) (plain_constraint (record { ident = i; generics = q; colon_token = c; bounds = l })))
+      SameConstraint (roll-ConstraintOf A E (plain_constraint (record { ident = i; generics = q; colon_token = c; bounds = l })))
   constraint_held i None c l = constraint_by i None c (map (λ (e : HeldBound). e.0) l.0) l.1 tt (each_held SameBound l.0)
   constraint_held i (Some q) c l = constraint_by i (Some (plain_angle q)) c (map (λ (e : HeldBound). e.0) l.0) l.1 (each_held SameArgument q.args.0) (each_held SameBound l.0)
 
-  constraint_layer : (y : Held o.ConstraintOf-F) → SameConstraint (roll-ConstraintOf (Attr X) (Expr X) (plain_constraint y))
+  constraint_layer : (y : Held o.ConstraintOf-F) → SameConstraint (roll-ConstraintOf A E (plain_constraint y))
   constraint_layer y = constraint_held y.ident y.generics y.colon_token y.bounds
 
-  const_parts : (x : AssocConst X) → SameAngle x.generics → printing.assoc_const px (normal.assoc_const nx x) ≡ printing.assoc_const px x
+  const_parts : (x : AssocConst A E) → SameAngle x.generics → printing.assoc_const pa pe (normal.assoc_const na ne x) ≡ printing.assoc_const pa pe x
   const_parts x h =
-      ap (λ z. p.ident x.ident ++ (z ++ (p.mark x.eq_token ++ const_argument px (nshapes.const_argument nx x.value)))) (optional_parts x.generics h)
-      ∙ ap (λ z. p.ident x.ident ++ (printing.optional_angle px x.generics ++ (p.mark x.eq_token ++ z))) (const_argument_same nx px same x.value)
+      ap (λ z. p.ident x.ident ++ (z ++ (p.mark x.eq_token ++ pe.const_argument (ne.const_argument x.value)))) (optional_parts x.generics h)
+      ∙ ap (λ z. p.ident x.ident ++ (printing.optional_angle pa pe x.generics ++ (p.mark x.eq_token ++ z))) (same_values.const_argument x.value)
 
-  const_by : (x : AssocConst X) → SameAngle x.generics → SameArgument (k.AssocConst x)
-  const_by x h = ap (argument px) (normal-argument-AssocConst nx x) ∙ argument-AssocConst px (normal.assoc_const nx x) ∙ const_parts x h ∙ sym (argument-AssocConst px x)
+  const_by : (x : AssocConst A E) → SameAngle x.generics → SameArgument (k.AssocConst x)
+  const_by x h = ap (argument pa pe) (normal-argument-AssocConst na ne x) ∙ argument-AssocConst pa pe (normal.assoc_const na ne x) ∙ const_parts x h ∙ sym (argument-AssocConst pa pe x)
 
-  const_held : (i : Ident) (q : Option (AngleBracketedGenericArgumentsOf HeldArgument)) (e : Mark 11 1) (x : Expr X) →
-      SameArgument (roll-GenericArgumentOf (Attr X) (Expr X) (plain_argument (o.AssocConst (assoc_const_of i q e x))))
+  const_held : (i : Ident) (q : Option (AngleBracketedGenericArgumentsOf HeldArgument)) (e : Mark 11 1) (x : E) →
+      SameArgument (roll-GenericArgumentOf A E (plain_argument (o.AssocConst (assoc_const_of i q e x))))
   const_held i None e x = let c = assoc_const_of i None e x in subst SameArgument (sym (k.rolls-AssocConst c)) (const_by c tt)
   const_held i (Some q) e x = let c = assoc_const_of i (Some (plain_angle q)) e x in subst SameArgument (sym (k.rolls-AssocConst c)) (const_by c (each_held SameArgument q.args.0))
 
-  argument_layer : (y : Held o.GenericArgumentOf-F) → SameArgument (roll-GenericArgumentOf (Attr X) (Expr X) (plain_argument y))
-  argument_layer (o.GenericArgumentOf::Lifetime x) = subst SameArgument (sym (k.rolls-Lifetime x)) (ap (argument px) (normal-argument-Lifetime nx x))
+  argument_layer : (y : Held o.GenericArgumentOf-F) → SameArgument (roll-GenericArgumentOf A E (plain_argument y))
+  argument_layer (o.GenericArgumentOf::Lifetime x) = subst SameArgument (sym (k.rolls-Lifetime x)) (ap (argument pa pe) (normal-argument-Lifetime na ne x))
   argument_layer (o.GenericArgumentOf::Type y) =
-      subst SameArgument (sym (k.rolls-Type y.0)) (ap (argument px) (normal-argument-Type nx y.0) ∙ argument-Type px (normal.ty nx y.0) ∙ y.1 ∙ sym (argument-Type px y.0))
+      subst SameArgument (sym (k.rolls-Type y.0)) (ap (argument pa pe) (normal-argument-Type na ne y.0) ∙ argument-Type pa pe (normal.ty na ne y.0) ∙ y.1 ∙ sym (argument-Type pa pe y.0))
   argument_layer (o.GenericArgumentOf::Const x) =
-      subst SameArgument (sym (k.rolls-Const x)) (ap (argument px) (normal-argument-Const nx x) ∙ argument-Const px (nshapes.const_argument nx x) ∙ const_argument_same nx px same x ∙ sym (argument-Const px x))
+      subst SameArgument (sym (k.rolls-Const x)) (ap (argument pa pe) (normal-argument-Const na ne x) ∙ argument-Const pa pe (ne.const_argument x) ∙ same_values.const_argument x ∙ sym (argument-Const pa pe x))
   argument_layer (o.AssocType y) =
-      subst SameArgument (sym (k.rolls-AssocType y.0)) (ap (argument px) (normal-argument-AssocType nx y.0) ∙ argument-AssocType px (normal.assoc_type nx y.0) ∙ y.1 ∙ sym (argument-AssocType px y.0))
+      subst SameArgument (sym (k.rolls-AssocType y.0)) (ap (argument pa pe) (normal-argument-AssocType na ne y.0) ∙ argument-AssocType pa pe (normal.assoc_type na ne y.0) ∙ y.1 ∙ sym (argument-AssocType pa pe y.0))
   argument_layer (o.AssocConst y) = const_held y.ident y.generics y.eq_token y.value
   argument_layer (o.Constraint y) =
-      subst SameArgument (sym (k.rolls-Constraint y.0)) (ap (argument px) (normal-argument-Constraint nx y.0) ∙ argument-Constraint px (normal.constraint nx y.0) ∙ y.1 ∙ sym (argument-Constraint px y.0))
+      subst SameArgument (sym (k.rolls-Constraint y.0)) (ap (argument pa pe) (normal-argument-Constraint na ne y.0) ∙ argument-Constraint pa pe (normal.constraint na ne y.0) ∙ y.1 ∙ sym (argument-Constraint pa pe y.0))
 
   -- ---- arguments with names, and what is returned
 
-  abbrev SameArg : NamedArg X → Type 0
+  abbrev SameArg : NamedArg A E → Type 0
   SameArg z = Same z.ty
 
-  inputs_same : (l : List (NamedArg X)) (ms : List Comma) → Each SameArg l → printing.inputs px (map (normal.named_arg nx) l, ms) ≡ printing.inputs px (l, ms)
-  inputs_same l ms h = joined_same (normal.named_arg nx) (printing.named_arg px) p.mark l ms (each_arg l h)
+  inputs_same : (l : List (NamedArg A E)) (ms : List Comma) → Each SameArg l → printing.inputs pa pe (map (normal.named_arg na ne) l, ms) ≡ printing.inputs pa pe (l, ms)
+  inputs_same l ms h = joined_same (normal.named_arg na ne) (printing.named_arg pa pe) p.mark l ms (each_arg l h)
     where
-      each_arg : (l : List (NamedArg X)) → Each SameArg l → Each (λ x. printing.named_arg px (normal.named_arg nx x) ≡ printing.named_arg px x) l
+      each_arg : (l : List (NamedArg A E)) → Each SameArg l → Each (λ x. printing.named_arg pa pe (normal.named_arg na ne x) ≡ printing.named_arg pa pe x) l
       each_arg [] h = tt
-      each_arg (x ∷ l) h = (ap (λ z. z ++ ty px (normal.ty nx x.ty)) (named_same x.attrs x.name) ∙ ap (λ z. arg_name px x.attrs x.name ++ z) h.0, each_arg l h.1)
+      each_arg (x ∷ l) h = (ap (λ z. z ++ ty pa pe (normal.ty na ne x.ty)) (named_same x.attrs x.name) ∙ ap (λ z. arg_name pa pe x.attrs x.name ++ z) h.0, each_arg l h.1)
 
-  more_same : {A : Type 0} (v : Many A Comma) (m : Option (FnPtrVariadic X)) → printing.more px v (normal.optional_variadic nx m) ≡ printing.more px v m
+  more_same : {N : Type 0} (v : Many N Comma) (m : Option (FnPtrVariadicOf A)) → printing.more pa pe v (normal.optional_variadic na ne m) ≡ printing.more pa pe v m
   more_same v None = refl
   more_same v (Some x) = ap (λ z. printing.last_comma (printing.comma_at x.dots) v.0 v.1 ++ z) (variadic_same x)
 
-  abbrev plain_arg : NamedArgOf HeldType (Attr X) → NamedArg X
+  abbrev plain_arg : NamedArgOf HeldType A → NamedArg A E
   plain_arg z = named_arg_of z.attrs z.name z.ty.0
 
-  args_held : (l : List (NamedArgOf HeldType (Attr X))) → Each SameArg (map plain_arg l)
+  args_held : (l : List (NamedArgOf HeldType A)) → Each SameArg (map plain_arg l)
   args_held [] = tt
   args_held (x ∷ l) = (x.ty.1, args_held l)
 
-  abbrev SameOutput : ReturnType X → Type 0
+  abbrev SameOutput : ReturnType A E → Type 0
   SameOutput r.Default = Unit {0}
   SameOutput (r.«Type» t x) = Same x
 
-  output_same : (q : ReturnType X) → SameOutput q → return_type_by (ty px) (normal.return_type nx q) ≡ return_type_by (ty px) q
+  output_same : (q : ReturnType A E) → SameOutput q → return_type_by (ty pa pe) (normal.return_type na ne q) ≡ return_type_by (ty pa pe) q
   output_same r.Default h = refl
   output_same (r.«Type» t x) h = ap (λ z. p.mark t ++ z) h
 
-  parens_parts : (x : Parenthesized X) → Each SameArg x.inputs.0 → SameOutput x.output → printing.parenthesized px (normal.parenthesized nx x) ≡ printing.parenthesized px x
+  parens_parts : (x : Parenthesized A E) → Each SameArg x.inputs.0 → SameOutput x.output → printing.parenthesized pa pe (normal.parenthesized na ne x) ≡ printing.parenthesized pa pe x
   parens_parts x h s =
-      ap (λ z. p.group Parenthesis (stream_of_trees z) x.paren_token.span ++ return_type_by (ty px) (normal.return_type nx x.output)) (inputs_same x.inputs.0 x.inputs.1 h)
-      ∙ ap (λ z. p.group Parenthesis (stream_of_trees (printing.inputs px x.inputs)) x.paren_token.span ++ z) (output_same x.output s)
+      ap (λ z. p.group Parenthesis (stream_of_trees z) x.paren_token.span ++ return_type_by (ty pa pe) (normal.return_type na ne x.output)) (inputs_same x.inputs.0 x.inputs.1 h)
+      ∙ ap (λ z. p.group Parenthesis (stream_of_trees (printing.inputs pa pe x.inputs)) x.paren_token.span ++ z) (output_same x.output s)
 
-  parens_by : (x : Parenthesized X) → Each SameArg x.inputs.0 → SameOutput x.output → SameArguments (a.Parenthesized x)
+  parens_by : (x : Parenthesized A E) → Each SameArg x.inputs.0 → SameOutput x.output → SameArguments (a.Parenthesized x)
   parens_by x h s style =
-      ap (arguments px style) (normal-Parenthesized nx x) ∙ arguments-Parenthesized px style (normal.parenthesized nx x) ∙ ap (λ z. parenthesized_start style ++ z) (parens_parts x h s)
-      ∙ sym (arguments-Parenthesized px style x)
+      ap (arguments pa pe style) (normal-Parenthesized na ne x) ∙ arguments-Parenthesized pa pe style (normal.parenthesized na ne x) ∙ ap (λ z. parenthesized_start style ++ z) (parens_parts x h s)
+      ∙ sym (arguments-Parenthesized pa pe style x)
 
-  parens_held : (t : Paren) (l : List (NamedArgOf HeldType (Attr X))) (ms : List Comma) (q : ReturnTypeOf HeldType) →
-      SameArguments (roll-PathArgumentsOf (Attr X) (Expr X) (plain_arguments (o.Parenthesized (parens_of t (l, ms) q))))
+  parens_held : (t : Paren) (l : List (NamedArgOf HeldType A)) (ms : List Comma) (q : ReturnTypeOf HeldType) →
+      SameArguments (roll-PathArgumentsOf A E (plain_arguments (o.Parenthesized (parens_of t (l, ms) q))))
   parens_held t l ms r.Default = let x = parens_of t (map plain_arg l, ms) r.Default in subst SameArguments (sym (a.rolls-Parenthesized x)) (parens_by x (args_held l) tt)
   parens_held t l ms (r.«Type» m y) = let x = parens_of t (map plain_arg l, ms) (r.«Type» m y.0) in subst SameArguments (sym (a.rolls-Parenthesized x)) (parens_by x (args_held l) y.1)
 
-  arguments_layer : (y : Held o.PathArgumentsOf-F) → SameArguments (roll-PathArgumentsOf (Attr X) (Expr X) (plain_arguments y))
-  arguments_layer o.None = subst SameArguments (sym a.rolls-None) (λ style. ap (arguments px style) (normal-None nx))
+  arguments_layer : (y : Held o.PathArgumentsOf-F) → SameArguments (roll-PathArgumentsOf A E (plain_arguments y))
+  arguments_layer o.None = subst SameArguments (sym a.rolls-None) (λ style. ap (arguments pa pe style) (normal-None na ne))
   arguments_layer (o.AngleBracketed y) =
       let x = plain_angle y in
       subst SameArguments (sym (a.rolls-AngleBracketed x))
-      (λ style. ap (arguments px style) (normal-AngleBracketed nx x) ∙ arguments-AngleBracketed px style (normal.angle nx x) ∙ angle_parts style x (each_held SameArgument y.args.0) ∙ sym (arguments-AngleBracketed px style x))
+      (λ style. ap (arguments pa pe style) (normal-AngleBracketed na ne x) ∙ arguments-AngleBracketed pa pe style (normal.angle na ne x) ∙ angle_parts style x (each_held SameArgument y.args.0) ∙ sym (arguments-AngleBracketed pa pe style x))
   arguments_layer (o.Parenthesized y) = parens_held y.paren_token y.inputs.0 y.inputs.1 y.output
 
   -- ---- types
 
-  ty_layer : (y : Held o.TypeOf-F) → Same (roll-TypeOf (Attr X) (Expr X) (plain_ty y))
+  ty_layer : (y : Held o.TypeOf-F) → Same (roll-TypeOf A E (plain_ty y))
   ty_layer (o.Array y) =
       let x = array_with y.attrs y.bracket_token y.elem.0 y.semi_token y.len in
       subst Same (sym (v.rolls-Array x))
-      (ap (ty px) (normal-Array nx x) ∙ ty-Array px (normal.array nx x)
-      ∙ ap (λ u. p.group Bracket (stream_of_trees (u ++ (p.mark y.semi_token ++ printing.len px (normal.len nx y.len)))) y.bracket_token.span) y.elem.1
-      ∙ ap (λ u. p.group Bracket (stream_of_trees (ty px y.elem.0 ++ (p.mark y.semi_token ++ u))) y.bracket_token.span) (len_same y.len)
-      ∙ sym (ty-Array px x))
-  ty_layer (o.FnPtr y) = subst Same (sym (v.rolls-FnPtr y.0)) (ap (ty px) (normal-FnPtr nx y.0) ∙ ty-FnPtr px (normal.fn_ptr nx y.0) ∙ y.1 ∙ sym (ty-FnPtr px y.0))
+      (ap (ty pa pe) (normal-Array na ne x) ∙ ty-Array pa pe (normal.array na ne x)
+      ∙ ap (λ u. p.group Bracket (stream_of_trees (u ++ (p.mark y.semi_token ++ pe.len (ne.len y.len)))) y.bracket_token.span) y.elem.1
+      ∙ ap (λ u. p.group Bracket (stream_of_trees (ty pa pe y.elem.0 ++ (p.mark y.semi_token ++ u))) y.bracket_token.span) (same_values.len y.len)
+      ∙ sym (ty-Array pa pe x))
+  ty_layer (o.FnPtr y) = subst Same (sym (v.rolls-FnPtr y.0)) (ap (ty pa pe) (normal-FnPtr na ne y.0) ∙ ty-FnPtr pa pe (normal.fn_ptr na ne y.0) ∙ y.1 ∙ sym (ty-FnPtr pa pe y.0))
   ty_layer (o.Group y) =
       let x = group_with y.attrs y.group_token y.elem.0 in
       subst Same (sym (v.rolls-Group x))
-      (ap (ty px) (normal-Group nx x) ∙ ty-Group px (normal.group nx x) ∙ ap (λ u. p.group d.None (stream_of_trees u) y.group_token.span) y.elem.1 ∙ sym (ty-Group px x))
+      (ap (ty pa pe) (normal-Group na ne x) ∙ ty-Group pa pe (normal.group na ne x) ∙ ap (λ u. p.group d.None (stream_of_trees u) y.group_token.span) y.elem.1 ∙ sym (ty-Group pa pe x))
   ty_layer (o.ImplTrait y) =
       let all = map (λ (e : HeldBound). e.0) y.bounds.0 in
       let x = impl_trait_with y.attrs y.impl_token (all, y.bounds.1) in
       subst Same (sym (v.rolls-ImplTrait x))
-      (ap (ty px) (normal-ImplTrait nx x) ∙ ty-ImplTrait px (normal.impl_trait nx x)
-      ∙ ap (λ u. p.word y.impl_token ++ u) (joined_same (normal.bound nx) (bound px) p.mark all y.bounds.1 (each_held SameBound y.bounds.0)) ∙ sym (ty-ImplTrait px x))
-  ty_layer (o.Infer x) = subst Same (sym (v.rolls-Infer x)) (ap (ty px) (normal-Infer nx x) ∙ ty-Infer px (normal.infer nx x) ∙ sym (ty-Infer px x))
-  ty_layer (o.Macro x) = subst Same (sym (v.rolls-Macro x)) (ap (ty px) (normal-Macro nx x) ∙ ty-Macro px (normal.macro_type nx x) ∙ sym (ty-Macro px x))
-  ty_layer (o.Never x) = subst Same (sym (v.rolls-Never x)) (ap (ty px) (normal-Never nx x) ∙ ty-Never px (normal.never nx x) ∙ sym (ty-Never px x))
+      (ap (ty pa pe) (normal-ImplTrait na ne x) ∙ ty-ImplTrait pa pe (normal.impl_trait na ne x)
+      ∙ ap (λ u. p.word y.impl_token ++ u) (joined_same (normal.bound na ne) (bound pa pe) p.mark all y.bounds.1 (each_held SameBound y.bounds.0)) ∙ sym (ty-ImplTrait pa pe x))
+  ty_layer (o.Infer x) = subst Same (sym (v.rolls-Infer x)) (ap (ty pa pe) (normal-Infer na ne x) ∙ ty-Infer pa pe (normal.infer na ne x) ∙ sym (ty-Infer pa pe x))
+  ty_layer (o.Macro x) = subst Same (sym (v.rolls-Macro x)) (ap (ty pa pe) (normal-Macro na ne x) ∙ ty-Macro pa pe (normal.macro_type na ne x) ∙ sym (ty-Macro pa pe x))
+  ty_layer (o.Never x) = subst Same (sym (v.rolls-Never x)) (ap (ty pa pe) (normal-Never na ne x) ∙ ty-Never pa pe (normal.never na ne x) ∙ sym (ty-Never pa pe x))
   ty_layer (o.Paren y) =
       let x = paren_with y.attrs y.paren_token y.elem.0 in
       subst Same (sym (v.rolls-Paren x))
-      (ap (ty px) (normal-Paren nx x) ∙ ty-Paren px (normal.paren nx x) ∙ ap (λ u. p.group Parenthesis (stream_of_trees u) y.paren_token.span) y.elem.1 ∙ sym (ty-Paren px x))
-  ty_layer (o.Path y) = subst Same (sym (v.rolls-Path y.0)) (ap (ty px) (normal-Path nx y.0) ∙ ty-Path px (normal.path_type nx y.0) ∙ y.1 ∙ sym (ty-Path px y.0))
+      (ap (ty pa pe) (normal-Paren na ne x) ∙ ty-Paren pa pe (normal.paren na ne x) ∙ ap (λ u. p.group Parenthesis (stream_of_trees u) y.paren_token.span) y.elem.1 ∙ sym (ty-Paren pa pe x))
+  ty_layer (o.Path y) = subst Same (sym (v.rolls-Path y.0)) (ap (ty pa pe) (normal-Path na ne y.0) ∙ ty-Path pa pe (normal.path_type na ne y.0) ∙ y.1 ∙ sym (ty-Path pa pe y.0))
   ty_layer (o.Ptr y) =
       let x = ptr_with y.attrs y.star_token y.mutability y.elem.0 in
       subst Same (sym (v.rolls-Ptr x))
-      (ap (ty px) (normal-Ptr nx x) ∙ ty-Ptr px (normal.ptr nx x) ∙ ap (λ u. p.mark y.star_token ++ (pointer y.mutability ++ u)) y.elem.1 ∙ sym (ty-Ptr px x))
+      (ap (ty pa pe) (normal-Ptr na ne x) ∙ ty-Ptr pa pe (normal.ptr na ne x) ∙ ap (λ u. p.mark y.star_token ++ (pointer y.mutability ++ u)) y.elem.1 ∙ sym (ty-Ptr pa pe x))
   ty_layer (o.Reference y) =
       let x = reference_with y.attrs y.and_token y.lifetime y.mutability y.elem.0 in
       subst Same (sym (v.rolls-Reference x))
-      (ap (ty px) (normal-Reference nx x) ∙ ty-Reference px (normal.reference nx x)
-      ∙ ap (λ u. p.mark y.and_token ++ (lifetime y.lifetime ++ (optional_word y.mutability ++ u))) y.elem.1 ∙ sym (ty-Reference px x))
+      (ap (ty pa pe) (normal-Reference na ne x) ∙ ty-Reference pa pe (normal.reference na ne x)
+      ∙ ap (λ u. p.mark y.and_token ++ (lifetime y.lifetime ++ (optional_word y.mutability ++ u))) y.elem.1 ∙ sym (ty-Reference pa pe x))
   ty_layer (o.Slice y) =
       let x = slice_with y.attrs y.bracket_token y.elem.0 in
       subst Same (sym (v.rolls-Slice x))
-      (ap (ty px) (normal-Slice nx x) ∙ ty-Slice px (normal.slice nx x) ∙ ap (λ u. p.group Bracket (stream_of_trees u) y.bracket_token.span) y.elem.1 ∙ sym (ty-Slice px x))
+      (ap (ty pa pe) (normal-Slice na ne x) ∙ ty-Slice pa pe (normal.slice na ne x) ∙ ap (λ u. p.group Bracket (stream_of_trees u) y.bracket_token.span) y.elem.1 ∙ sym (ty-Slice pa pe x))
   ty_layer (o.TraitObject y) =
       let all = map (λ (e : HeldBound). e.0) y.bounds.0 in
       let x = trait_object_with y.attrs y.dyn_token (all, y.bounds.1) in
       subst Same (sym (v.rolls-TraitObject x))
-      (ap (ty px) (normal-TraitObject nx x) ∙ ty-TraitObject px (normal.trait_object nx x)
-      ∙ ap (λ u. optional_word y.dyn_token ++ u) (joined_same (normal.bound nx) (bound px) p.mark all y.bounds.1 (each_held SameBound y.bounds.0)) ∙ sym (ty-TraitObject px x))
+      (ap (ty pa pe) (normal-TraitObject na ne x) ∙ ty-TraitObject pa pe (normal.trait_object na ne x)
+      ∙ ap (λ u. optional_word y.dyn_token ++ u) (joined_same (normal.bound na ne) (bound pa pe) p.mark all y.bounds.1 (each_held SameBound y.bounds.0)) ∙ sym (ty-TraitObject pa pe x))
   ty_layer (o.Tuple y) =
       let all = map (λ (e : HeldType). e.0) y.elems.0 in
       let x = tuple_with y.attrs y.paren_token (all, y.elems.1) in
       subst Same (sym (v.rolls-Tuple x))
-      (ap (ty px) (normal-Tuple nx x) ∙ ty-Tuple px (normal.tuple nx x)
-      ∙ ap (λ u. p.group Parenthesis (stream_of_trees (u ++ lone_comma (map (normal.ty nx) all) y.elems.1)) y.paren_token.span) (joined_same (normal.ty nx) (ty px) p.mark all y.elems.1 (each_held Same y.elems.0))
-      ∙ ap (λ u. p.group Parenthesis (stream_of_trees (printing.elements px (all, y.elems.1) ++ u)) y.paren_token.span) (lone_mapped (normal.ty nx) all y.elems.1)
-      ∙ sym (ty-Tuple px x))
-  ty_layer (o.TypeOf::Verbatim x) = subst Same (sym (v.rolls-Verbatim x)) (ap (ty px) (normal-Verbatim nx x))
+      (ap (ty pa pe) (normal-Tuple na ne x) ∙ ty-Tuple pa pe (normal.tuple na ne x)
+      ∙ ap (λ u. p.group Parenthesis (stream_of_trees (u ++ lone_comma (map (normal.ty na ne) all) y.elems.1)) y.paren_token.span) (joined_same (normal.ty na ne) (ty pa pe) p.mark all y.elems.1 (each_held Same y.elems.0))
+      ∙ ap (λ u. p.group Parenthesis (stream_of_trees (printing.elements pa pe (all, y.elems.1) ++ u)) y.paren_token.span) (lone_mapped (normal.ty na ne) all y.elems.1)
+      ∙ sym (ty-Tuple pa pe x))
+  ty_layer (o.TypeOf::Verbatim x) = subst Same (sym (v.rolls-Verbatim x)) (ap (ty pa pe) (normal-Verbatim na ne x))
 
   -- ---- parameters and bounds
 
-  abbrev EachOf : Option (BoundLifetimes X) → Type 0
+  abbrev EachOf : Option (BoundLifetimes A E) → Type 0
   EachOf None = Unit {0}
   EachOf (Some x) = Each SameParam x.lifetimes.0
 
-  pub binder_parts : (x : Option (BoundLifetimes X)) → EachOf x → binder_by (param px) (nshapes.binder_by (normal.param nx) x) ≡ binder_by (param px) x
+  pub binder_parts : (x : Option (BoundLifetimes A E)) → EachOf x → binder_by (param pa pe) (nshapes.binder_by (normal.param na ne) x) ≡ binder_by (param pa pe) x
   binder_parts None h = refl
-  binder_parts (Some x) h = ap (λ z. p.word x.for_token ++ (p.mark x.lt_token ++ (z ++ p.mark x.gt_token))) (joined_same (normal.param nx) (param px) p.mark x.lifetimes.0 x.lifetimes.1 h)
+  binder_parts (Some x) h = ap (λ z. p.word x.for_token ++ (p.mark x.lt_token ++ (z ++ p.mark x.gt_token))) (joined_same (normal.param na ne) (param pa pe) p.mark x.lifetimes.0 x.lifetimes.1 h)
 
-  abbrev plain_binder : BoundLifetimesOf HeldParam → BoundLifetimes X
+  abbrev plain_binder : BoundLifetimesOf HeldParam → BoundLifetimes A E
   plain_binder x = bound_lifetimes_of x.for_token x.lt_token (map (λ (e : HeldParam). e.0) x.lifetimes.0, x.lifetimes.1) x.gt_token
 
-  abbrev SameDefault : Option (Eq × TypeTree X) → Type 0
+  abbrev SameDefault : Option (Eq × TypeTree A E) → Type 0
   SameDefault None = Unit {0}
   SameDefault (Some d) = Same d.1
 
-  default_same : (x : Option (Eq × TypeTree X)) → SameDefault x → type_default_by px (ty px) (normal.type_default nx x) ≡ type_default_by px (ty px) x
+  default_same : (x : Option (Eq × TypeTree A E)) → SameDefault x → type_default_by pa pe (ty pa pe) (normal.type_default na ne x) ≡ type_default_by pa pe (ty pa pe) x
   default_same None h = refl
   default_same (Some d) h = ap (λ z. p.mark d.0 ++ z) h
 
-  type_parts : (l : Attrs X) (i : Ident) (c : Option Colon) (b : List (TypeParamBound X)) (ms : List Plus) (t : Option (Eq × TypeTree X)) → Each SameBound b → SameDefault t → SameTypeParam (type_param_of l i c (b, ms) t)
+  type_parts : (l : List A) (i : Ident) (c : Option Colon) (b : List (TypeParamBound A E)) (ms : List Plus) (t : Option (Eq × TypeTree A E)) → Each SameBound b → SameDefault t → SameTypeParam (type_param_of l i c (b, ms) t)
   type_parts l i c b ms t h s =
-      let n = map (normal.bound nx) b in
-      let e = normal.type_default nx t in
-      ap (type_param px) (type_param_normal nx l i c (b, ms) t) ∙ type_param_parts px (nshapes.attrs nx l) i (colon c b) (n, ms) e
-      ∙ behind l (ap (λ z. p.ident i ++ (z ++ type_default_by px (ty px) e)) (bounds_same (normal.bound nx) (bound px) c b ms h)
-      ∙ ap (λ z. p.ident i ++ (after_colon (bound px) c (b, ms) ++ z)) (default_same t s))
-      ∙ sym (type_param_parts px l i c (b, ms) t)
+      let n = map (normal.bound na ne) b in
+      let e = normal.type_default na ne t in
+      ap (type_param pa pe) (type_param_normal na ne l i c (b, ms) t) ∙ type_param_parts pa pe (na l) i (colon c b) (n, ms) e
+      ∙ behind l (ap (λ z. p.ident i ++ (z ++ type_default_by pa pe (ty pa pe) e)) (bounds_same (normal.bound na ne) (bound pa pe) c b ms h)
+      ∙ ap (λ z. p.ident i ++ (after_colon (bound pa pe) c (b, ms) ++ z)) (default_same t s))
+      ∙ sym (type_param_parts pa pe l i c (b, ms) t)
 
-  type_held : (l : Attrs X) (i : Ident) (c : Option Colon) (b : List HeldBound) (ms : List Plus) (t : Option (Eq × HeldType)) →
-      SameTypeParam (roll-TypeParamOf (Attr X) (Expr X) (plain_type_param (record { attrs = l; ident = i; colon_token = c; bounds = (b, ms); default = t })))
+  type_held : (l : List A) (i : Ident) (c : Option Colon) (b : List HeldBound) (ms : List Plus) (t : Option (Eq × HeldType)) →
+      SameTypeParam (roll-TypeParamOf A E (plain_type_param (record { attrs = l; ident = i; colon_token = c; bounds = (b, ms); default = t })))
   type_held l i c b ms None = type_parts l i c (map (λ (e : HeldBound). e.0) b) ms None (each_held SameBound b) tt
   type_held l i c b ms (Some d) = type_parts l i c (map (λ (e : HeldBound). e.0) b) ms (Some (d.0, d.1.0)) (each_held SameBound b) d.1.1
 
-  type_param_layer : (y : Held o.TypeParamOf-F) → SameTypeParam (roll-TypeParamOf (Attr X) (Expr X) (plain_type_param y))
+  type_param_layer : (y : Held o.TypeParamOf-F) → SameTypeParam (roll-TypeParamOf A E (plain_type_param y))
   type_param_layer y = type_held y.attrs y.ident y.colon_token y.bounds.0 y.bounds.1 y.default
 
-  param_parts : (x : ConstParam X) → Same x.ty → printing.const_param px (normal.const_param nx x) ≡ printing.const_param px x
+  param_parts : (x : ConstParam A E) → Same x.ty → printing.const_param pa pe (normal.const_param na ne x) ≡ printing.const_param pa pe x
   param_parts x h =
-      behind x.attrs (ap (λ z. p.word x.const_token ++ (p.ident x.ident ++ (p.mark x.colon_token ++ (z ++ shapes.const_default px (nshapes.const_default nx x.default))))) h
-      ∙ ap (λ z. p.word x.const_token ++ (p.ident x.ident ++ (p.mark x.colon_token ++ (ty px x.ty ++ z)))) (const_default_same x.default))
+      behind x.attrs (ap (λ z. p.word x.const_token ++ (p.ident x.ident ++ (p.mark x.colon_token ++ (z ++ shapes.const_default pa pe (nshapes.const_default na ne x.default))))) h
+      ∙ ap (λ z. p.word x.const_token ++ (p.ident x.ident ++ (p.mark x.colon_token ++ (ty pa pe x.ty ++ z)))) (const_default_same x.default))
 
-  param_layer : (y : Held o.GenericParamOf-F) → SameParam (roll-GenericParamOf (Attr X) (Expr X) (plain_param y))
+  param_layer : (y : Held o.GenericParamOf-F) → SameParam (roll-GenericParamOf A E (plain_param y))
   param_layer (o.GenericParamOf::Lifetime x) =
-      subst SameParam (sym (g.rolls-Lifetime x)) (ap (param px) (normal-Lifetime nx x) ∙ param-Lifetime px (nshapes.lifetime_param nx x) ∙ lifetime_param_same x ∙ sym (param-Lifetime px x))
-  param_layer (o.GenericParamOf::Type y) = subst SameParam (sym (g.rolls-Type y.0)) (ap (param px) (normal-Type nx y.0) ∙ param-Type px (normal.type_param nx y.0) ∙ y.1 ∙ sym (param-Type px y.0))
+      subst SameParam (sym (g.rolls-Lifetime x)) (ap (param pa pe) (normal-Lifetime na ne x) ∙ param-Lifetime pa pe (nshapes.lifetime_param na ne x) ∙ lifetime_param_same x ∙ sym (param-Lifetime pa pe x))
+  param_layer (o.GenericParamOf::Type y) = subst SameParam (sym (g.rolls-Type y.0)) (ap (param pa pe) (normal-Type na ne y.0) ∙ param-Type pa pe (normal.type_param na ne y.0) ∙ y.1 ∙ sym (param-Type pa pe y.0))
   param_layer (o.GenericParamOf::Const y) =
       let x = const_param_of y.attrs y.const_token y.ident y.colon_token y.ty.0 y.default in
-      subst SameParam (sym (g.rolls-Const x)) (ap (param px) (normal-Const nx x) ∙ param-Const px (normal.const_param nx x) ∙ param_parts x y.ty.1 ∙ sym (param-Const px x))
+      subst SameParam (sym (g.rolls-Const x)) (ap (param pa pe) (normal-Const na ne x) ∙ param-Const pa pe (normal.const_param na ne x) ∙ param_parts x y.ty.1 ∙ sym (param-Const pa pe x))
 
-  trait_parts : (t : Option Paren) (l : Option (BoundLifetimes X)) (m : TraitBoundModifiers) (q : Option (Mark 22 1)) (z : Path X) → EachOf l → Each SameSegment z.segments.0 → SameTraitBound (trait_bound_of t l m q z)
+  trait_parts : (t : Option Paren) (l : Option (BoundLifetimes A E)) (m : TraitBoundModifiers) (q : Option (Mark 22 1)) (z : Path A E) → EachOf l → Each SameSegment z.segments.0 → SameTraitBound (trait_bound_of t l m q z)
   trait_parts t l m q z h s =
-      ap (trait_bound px) (trait_bound_normal nx t l m q z) ∙ trait_bound_parts px t (nshapes.binder_by (normal.param nx) l) m q (normal.path nx z)
-      ∙ ap (λ u. in_parens t (u ++ (optional q ++ path_by (arguments px as_written) (normal.path nx z)))) (binder_parts l h)
-      ∙ ap (λ u. in_parens t (binder_by (param px) l ++ (optional q ++ u))) (path_parts as_written z s)
-      ∙ sym (trait_bound_parts px t l m q z)
+      ap (trait_bound pa pe) (trait_bound_normal na ne t l m q z) ∙ trait_bound_parts pa pe t (nshapes.binder_by (normal.param na ne) l) m q (normal.path na ne z)
+      ∙ ap (λ u. in_parens t (u ++ (optional q ++ path_by (arguments pa pe as_written) (normal.path na ne z)))) (binder_parts l h)
+      ∙ ap (λ u. in_parens t (binder_by (param pa pe) l ++ (optional q ++ u))) (path_parts as_written z s)
+      ∙ sym (trait_bound_parts pa pe t l m q z)
 
   trait_held : (t : Option Paren) (l : Option (BoundLifetimesOf HeldParam)) (m : TraitBoundModifiers) (q : Option (Mark 22 1)) (z : PathOf HeldArguments) →
-      SameTraitBound (roll-TraitBoundOf (Attr X) (Expr X) (plain_trait_bound (record { paren_token = t; lifetimes = l; modifiers = m; maybe = q; path = z })))
+      SameTraitBound (roll-TraitBoundOf A E (plain_trait_bound (record { paren_token = t; lifetimes = l; modifiers = m; maybe = q; path = z })))
   trait_held t None m q z = trait_parts t None m q (plain_path z) tt (segments_held z.segments.0)
   trait_held t (Some l) m q z = trait_parts t (Some (plain_binder l)) m q (plain_path z) (each_held SameParam l.lifetimes.0) (segments_held z.segments.0)
 
-  trait_bound_layer : (y : Held o.TraitBoundOf-F) → SameTraitBound (roll-TraitBoundOf (Attr X) (Expr X) (plain_trait_bound y))
+  trait_bound_layer : (y : Held o.TraitBoundOf-F) → SameTraitBound (roll-TraitBoundOf A E (plain_trait_bound y))
   trait_bound_layer y = trait_held y.paren_token y.lifetimes y.modifiers y.maybe y.path
 
-  bound_layer : (y : Held o.TypeParamBoundOf-F) → SameBound (roll-TypeParamBoundOf (Attr X) (Expr X) (plain_bound y))
-  bound_layer (o.Trait y) = subst SameBound (sym (b.rolls-Trait y.0)) (ap (bound px) (normal-Trait nx y.0) ∙ bound-Trait px (normal.trait_bound nx y.0) ∙ y.1 ∙ sym (bound-Trait px y.0))
-  bound_layer (o.TypeParamBoundOf::Lifetime x) = subst SameBound (sym (b.rolls-Lifetime x)) (ap (bound px) (normal-bound-Lifetime nx x))
+  bound_layer : (y : Held o.TypeParamBoundOf-F) → SameBound (roll-TypeParamBoundOf A E (plain_bound y))
+  bound_layer (o.Trait y) = subst SameBound (sym (b.rolls-Trait y.0)) (ap (bound pa pe) (normal-Trait na ne y.0) ∙ bound-Trait pa pe (normal.trait_bound na ne y.0) ∙ y.1 ∙ sym (bound-Trait pa pe y.0))
+  bound_layer (o.TypeParamBoundOf::Lifetime x) = subst SameBound (sym (b.rolls-Lifetime x)) (ap (bound pa pe) (normal-bound-Lifetime na ne x))
   bound_layer (o.PreciseCapture x) =
-      subst SameBound (sym (b.rolls-PreciseCapture x)) (ap (bound px) (normal-PreciseCapture nx x) ∙ bound-PreciseCapture px (nshapes.capture x) ∙ capture_same x ∙ sym (bound-PreciseCapture px x))
-  bound_layer (o.TypeParamBoundOf::Verbatim x) = subst SameBound (sym (b.rolls-Verbatim x)) (ap (bound px) (normal-bound-Verbatim nx x))
+      subst SameBound (sym (b.rolls-PreciseCapture x)) (ap (bound pa pe) (normal-PreciseCapture na ne x) ∙ bound-PreciseCapture pa pe (nshapes.capture x) ∙ capture_same x ∙ sym (bound-PreciseCapture pa pe x))
+  bound_layer (o.TypeParamBoundOf::Verbatim x) = subst SameBound (sym (b.rolls-Verbatim x)) (ap (bound pa pe) (normal-bound-Verbatim na ne x))
 
   -- ---- pointers to functions
 
   -- a binder's parameters, and the marks around them
-  params_same : (l : Option (BoundLifetimes X)) → EachOf l → binder_joined (param px) (nshapes.binder_by (normal.param nx) l) ≡ binder_joined (param px) l
+  params_same : (l : Option (BoundLifetimes A E)) → EachOf l → binder_joined (param pa pe) (nshapes.binder_by (normal.param na ne) l) ≡ binder_joined (param pa pe) l
   params_same None h = refl
-  params_same (Some x) h = joined_same (normal.param nx) (param px) p.mark x.lifetimes.0 x.lifetimes.1 h
+  params_same (Some x) h = joined_same (normal.param na ne) (param pa pe) p.mark x.lifetimes.0 x.lifetimes.1 h
 
-  start_same : (l : Option (BoundLifetimes X)) → binder_start (nshapes.binder_by (normal.param nx) l) ≡ binder_start l
+  start_same : (l : Option (BoundLifetimes A E)) → binder_start (nshapes.binder_by (normal.param na ne) l) ≡ binder_start l
   start_same None = refl
   start_same (Some x) = refl
 
-  head_same : (l : Option (BoundLifetimes X)) (u : Option (Word 16)) (b : Option Abi) (w : Word 9) → fn_head_by (nshapes.binder_by (normal.param nx) l) u b w ≡ fn_head_by l u b w
+  head_same : (l : Option (BoundLifetimes A E)) (u : Option (Word 16)) (b : Option Abi) (w : Word 9) → fn_head_by (nshapes.binder_by (normal.param na ne) l) u b w ≡ fn_head_by l u b w
   head_same None u b w = refl
   head_same (Some x) u b w = refl
 
-  fn_parts : (c : Attrs X) (l : Option (BoundLifetimes X)) (u : Option (Word 16)) (b : Option Abi) (w : Word 9) (t : Paren) (e : List (NamedArg X)) (ms : List Comma)
-      (m : Option (FnPtrVariadic X)) (q : ReturnType X) → EachOf l → Each SameArg e → SameOutput q → SameFnPtr (fn_ptr_with c l u b w t (e, ms) m q)
+  fn_parts : (c : List A) (l : Option (BoundLifetimes A E)) (u : Option (Word 16)) (b : Option Abi) (w : Word 9) (t : Paren) (e : List (NamedArg A E)) (ms : List Comma)
+      (m : Option (FnPtrVariadicOf A)) (q : ReturnType A E) → EachOf l → Each SameArg e → SameOutput q → SameFnPtr (fn_ptr_with c l u b w t (e, ms) m q)
   fn_parts c l u b w t e ms m q hl he hq =
-      let n = nshapes.binder_by (normal.param nx) l in
-      let f = map (normal.named_arg nx) e in
-      let s = normal.optional_variadic nx m in
-      let y = return_type_by (ty px) (normal.return_type nx q) in
-      ap (fn_ptr px) (fn_ptr_normal nx c l u b w t (e, ms) m q) ∙ fn_ptr_parts px (nshapes.attrs nx c) n u b w t (f, ms) s (normal.return_type nx q)
-      ∙ ap (λ z. z ++ (binder_joined (param px) n ++ (fn_head_by n u b w ++ (p.group Parenthesis (stream_of_trees (printing.inputs px (f, ms) ++ printing.more px (f, ms) s)) t.span ++ y)))) (start_same l)
-      ∙ ap (λ z. binder_start l ++ (z ++ (fn_head_by n u b w ++ (p.group Parenthesis (stream_of_trees (printing.inputs px (f, ms) ++ printing.more px (f, ms) s)) t.span ++ y)))) (params_same l hl)
-      ∙ ap (λ z. binder_start l ++ (binder_joined (param px) l ++ (z ++ (p.group Parenthesis (stream_of_trees (printing.inputs px (f, ms) ++ printing.more px (f, ms) s)) t.span ++ y)))) (head_same l u b w)
-      ∙ ap (λ z. binder_start l ++ (binder_joined (param px) l ++ (fn_head_by l u b w ++ (p.group Parenthesis (stream_of_trees (z ++ printing.more px (f, ms) s)) t.span ++ y)))) (inputs_same e ms he)
-      ∙ ap (λ z. binder_start l ++ (binder_joined (param px) l ++ (fn_head_by l u b w ++ (p.group Parenthesis (stream_of_trees (printing.inputs px (e, ms) ++ z)) t.span ++ y)))) (more_same (f, ms) m ∙ more_mapped px (normal.named_arg nx) e ms m)
-      ∙ ap (λ z. binder_start l ++ (binder_joined (param px) l ++ (fn_head_by l u b w ++ (p.group Parenthesis (stream_of_trees (printing.inputs px (e, ms) ++ printing.more px (e, ms) m)) t.span ++ z)))) (output_same q hq)
-      ∙ sym (fn_ptr_parts px c l u b w t (e, ms) m q)
+      let n = nshapes.binder_by (normal.param na ne) l in
+      let f = map (normal.named_arg na ne) e in
+      let s = normal.optional_variadic na ne m in
+      let y = return_type_by (ty pa pe) (normal.return_type na ne q) in
+      ap (fn_ptr pa pe) (fn_ptr_normal na ne c l u b w t (e, ms) m q) ∙ fn_ptr_parts pa pe (na c) n u b w t (f, ms) s (normal.return_type na ne q)
+      ∙ ap (λ z. z ++ (binder_joined (param pa pe) n ++ (fn_head_by n u b w ++ (p.group Parenthesis (stream_of_trees (printing.inputs pa pe (f, ms) ++ printing.more pa pe (f, ms) s)) t.span ++ y)))) (start_same l)
+      ∙ ap (λ z. binder_start l ++ (z ++ (fn_head_by n u b w ++ (p.group Parenthesis (stream_of_trees (printing.inputs pa pe (f, ms) ++ printing.more pa pe (f, ms) s)) t.span ++ y)))) (params_same l hl)
+      ∙ ap (λ z. binder_start l ++ (binder_joined (param pa pe) l ++ (z ++ (p.group Parenthesis (stream_of_trees (printing.inputs pa pe (f, ms) ++ printing.more pa pe (f, ms) s)) t.span ++ y)))) (head_same l u b w)
+      ∙ ap (λ z. binder_start l ++ (binder_joined (param pa pe) l ++ (fn_head_by l u b w ++ (p.group Parenthesis (stream_of_trees (z ++ printing.more pa pe (f, ms) s)) t.span ++ y)))) (inputs_same e ms he)
+      ∙ ap (λ z. binder_start l ++ (binder_joined (param pa pe) l ++ (fn_head_by l u b w ++ (p.group Parenthesis (stream_of_trees (printing.inputs pa pe (e, ms) ++ z)) t.span ++ y)))) (more_same (f, ms) m ∙ more_mapped pa pe (normal.named_arg na ne) e ms m)
+      ∙ ap (λ z. binder_start l ++ (binder_joined (param pa pe) l ++ (fn_head_by l u b w ++ (p.group Parenthesis (stream_of_trees (printing.inputs pa pe (e, ms) ++ printing.more pa pe (e, ms) m)) t.span ++ z)))) (output_same q hq)
+      ∙ sym (fn_ptr_parts pa pe c l u b w t (e, ms) m q)
 
-  fn_held : (c : Attrs X) (l : Option (BoundLifetimesOf HeldParam)) (u : Option (Word 16)) (b : Option Abi) (w : Word 9) (t : Paren) (e : Many (NamedArgOf HeldType (Attr X)) Comma)
-      (m : Option (FnPtrVariadic X)) (q : ReturnTypeOf HeldType) → SameFnPtr (roll-TypeFnPtrOf (Attr X) (Expr X) (plain_fn_ptr
+  fn_held : (c : List A) (l : Option (BoundLifetimesOf HeldParam)) (u : Option (Word 16)) (b : Option Abi) (w : Word 9) (t : Paren) (e : Many (NamedArgOf HeldType A) Comma)
+      (m : Option (FnPtrVariadicOf A)) (q : ReturnTypeOf HeldType) → SameFnPtr (roll-TypeFnPtrOf A E (plain_fn_ptr
       (record { attrs = c; lifetimes = l; unsafety = u; abi = b; fn_token = w; paren_token = t; inputs = e; variadic = m; output = q })))
   fn_held c None u b w t e m r.Default = fn_parts c None u b w t (map plain_arg e.0) e.1 m r.Default tt (args_held e.0) tt
   fn_held c None u b w t e m (r.«Type» h x) = fn_parts c None u b w t (map plain_arg e.0) e.1 m (r.«Type» h x.0) tt (args_held e.0) x.1
   fn_held c (Some l) u b w t e m r.Default = fn_parts c (Some (plain_binder l)) u b w t (map plain_arg e.0) e.1 m r.Default (each_held SameParam l.lifetimes.0) (args_held e.0) tt
   fn_held c (Some l) u b w t e m (r.«Type» h x) = fn_parts c (Some (plain_binder l)) u b w t (map plain_arg e.0) e.1 m (r.«Type» h x.0) (each_held SameParam l.lifetimes.0) (args_held e.0) x.1
 
-  fn_ptr_layer : (y : Held o.TypeFnPtrOf-F) → SameFnPtr (roll-TypeFnPtrOf (Attr X) (Expr X) (plain_fn_ptr y))
+  fn_ptr_layer : (y : Held o.TypeFnPtrOf-F) → SameFnPtr (roll-TypeFnPtrOf A E (plain_fn_ptr y))
   fn_ptr_layer y = fn_held y.attrs y.lifetimes y.unsafety y.abi y.fn_token y.paren_token y.inputs y.variadic y.output
 
   -- ---- every tree
 
-  pub param_same : (x : GenericParam X) → printing.param px (normal.param nx x) ≡ printing.param px x
+  pub param_same : (x : GenericParam A E) → printing.param pa pe (normal.param na ne x) ≡ printing.param pa pe x
   param_same =
-      ind-GenericParamOf (Attr X) (Expr X) SameParam SameBound SameArgument SameArguments Same SameTraitBound SameTypeParam SameAssocType SameConstraint SameFnPtr SamePathType
-      (λ x y is. subst (λ z. SameParam (roll-GenericParamOf (Attr X) (Expr X) z)) is (param_layer y))
-      (λ x y is. subst (λ z. SameBound (roll-TypeParamBoundOf (Attr X) (Expr X) z)) is (bound_layer y))
-      (λ x y is. subst (λ z. SameArgument (roll-GenericArgumentOf (Attr X) (Expr X) z)) is (argument_layer y))
-      (λ x y is. subst (λ z. SameArguments (roll-PathArgumentsOf (Attr X) (Expr X) z)) is (arguments_layer y))
-      (λ x y is. subst (λ z. Same (roll-TypeOf (Attr X) (Expr X) z)) is (ty_layer y))
-      (λ x y is. subst (λ z. SameTraitBound (roll-TraitBoundOf (Attr X) (Expr X) z)) is (trait_bound_layer y))
-      (λ x y is. subst (λ z. SameTypeParam (roll-TypeParamOf (Attr X) (Expr X) z)) is (type_param_layer y))
-      (λ x y is. subst (λ z. SameAssocType (roll-AssocTypeOf (Attr X) (Expr X) z)) is (assoc_type_layer y))
-      (λ x y is. subst (λ z. SameConstraint (roll-ConstraintOf (Attr X) (Expr X) z)) is (constraint_layer y))
-      (λ x y is. subst (λ z. SameFnPtr (roll-TypeFnPtrOf (Attr X) (Expr X) z)) is (fn_ptr_layer y))
-      (λ x y is. subst (λ z. SamePathType (roll-TypePathOf (Attr X) (Expr X) z)) is (path_type_layer y))
+      ind-GenericParamOf A E SameParam SameBound SameArgument SameArguments Same SameTraitBound SameTypeParam SameAssocType SameConstraint SameFnPtr SamePathType
+      (λ x y is. subst (λ z. SameParam (roll-GenericParamOf A E z)) is (param_layer y))
+      (λ x y is. subst (λ z. SameBound (roll-TypeParamBoundOf A E z)) is (bound_layer y))
+      (λ x y is. subst (λ z. SameArgument (roll-GenericArgumentOf A E z)) is (argument_layer y))
+      (λ x y is. subst (λ z. SameArguments (roll-PathArgumentsOf A E z)) is (arguments_layer y))
+      (λ x y is. subst (λ z. Same (roll-TypeOf A E z)) is (ty_layer y))
+      (λ x y is. subst (λ z. SameTraitBound (roll-TraitBoundOf A E z)) is (trait_bound_layer y))
+      (λ x y is. subst (λ z. SameTypeParam (roll-TypeParamOf A E z)) is (type_param_layer y))
+      (λ x y is. subst (λ z. SameAssocType (roll-AssocTypeOf A E z)) is (assoc_type_layer y))
+      (λ x y is. subst (λ z. SameConstraint (roll-ConstraintOf A E z)) is (constraint_layer y))
+      (λ x y is. subst (λ z. SameFnPtr (roll-TypeFnPtrOf A E z)) is (fn_ptr_layer y))
+      (λ x y is. subst (λ z. SamePathType (roll-TypePathOf A E z)) is (path_type_layer y))
 
-  pub bound_same : (x : TypeParamBound X) → printing.bound px (normal.bound nx x) ≡ printing.bound px x
+  pub bound_same : (x : TypeParamBound A E) → printing.bound pa pe (normal.bound na ne x) ≡ printing.bound pa pe x
   bound_same =
-      ind-TypeParamBoundOf (Attr X) (Expr X) SameParam SameBound SameArgument SameArguments Same SameTraitBound SameTypeParam SameAssocType SameConstraint SameFnPtr SamePathType
-      (λ x y is. subst (λ z. SameParam (roll-GenericParamOf (Attr X) (Expr X) z)) is (param_layer y))
-      (λ x y is. subst (λ z. SameBound (roll-TypeParamBoundOf (Attr X) (Expr X) z)) is (bound_layer y))
-      (λ x y is. subst (λ z. SameArgument (roll-GenericArgumentOf (Attr X) (Expr X) z)) is (argument_layer y))
-      (λ x y is. subst (λ z. SameArguments (roll-PathArgumentsOf (Attr X) (Expr X) z)) is (arguments_layer y))
-      (λ x y is. subst (λ z. Same (roll-TypeOf (Attr X) (Expr X) z)) is (ty_layer y))
-      (λ x y is. subst (λ z. SameTraitBound (roll-TraitBoundOf (Attr X) (Expr X) z)) is (trait_bound_layer y))
-      (λ x y is. subst (λ z. SameTypeParam (roll-TypeParamOf (Attr X) (Expr X) z)) is (type_param_layer y))
-      (λ x y is. subst (λ z. SameAssocType (roll-AssocTypeOf (Attr X) (Expr X) z)) is (assoc_type_layer y))
-      (λ x y is. subst (λ z. SameConstraint (roll-ConstraintOf (Attr X) (Expr X) z)) is (constraint_layer y))
-      (λ x y is. subst (λ z. SameFnPtr (roll-TypeFnPtrOf (Attr X) (Expr X) z)) is (fn_ptr_layer y))
-      (λ x y is. subst (λ z. SamePathType (roll-TypePathOf (Attr X) (Expr X) z)) is (path_type_layer y))
+      ind-TypeParamBoundOf A E SameParam SameBound SameArgument SameArguments Same SameTraitBound SameTypeParam SameAssocType SameConstraint SameFnPtr SamePathType
+      (λ x y is. subst (λ z. SameParam (roll-GenericParamOf A E z)) is (param_layer y))
+      (λ x y is. subst (λ z. SameBound (roll-TypeParamBoundOf A E z)) is (bound_layer y))
+      (λ x y is. subst (λ z. SameArgument (roll-GenericArgumentOf A E z)) is (argument_layer y))
+      (λ x y is. subst (λ z. SameArguments (roll-PathArgumentsOf A E z)) is (arguments_layer y))
+      (λ x y is. subst (λ z. Same (roll-TypeOf A E z)) is (ty_layer y))
+      (λ x y is. subst (λ z. SameTraitBound (roll-TraitBoundOf A E z)) is (trait_bound_layer y))
+      (λ x y is. subst (λ z. SameTypeParam (roll-TypeParamOf A E z)) is (type_param_layer y))
+      (λ x y is. subst (λ z. SameAssocType (roll-AssocTypeOf A E z)) is (assoc_type_layer y))
+      (λ x y is. subst (λ z. SameConstraint (roll-ConstraintOf A E z)) is (constraint_layer y))
+      (λ x y is. subst (λ z. SameFnPtr (roll-TypeFnPtrOf A E z)) is (fn_ptr_layer y))
+      (λ x y is. subst (λ z. SamePathType (roll-TypePathOf A E z)) is (path_type_layer y))
 
-  pub argument_same : (x : GenericArgument X) → printing.argument px (normal.argument nx x) ≡ printing.argument px x
+  pub argument_same : (x : GenericArgument A E) → printing.argument pa pe (normal.argument na ne x) ≡ printing.argument pa pe x
   argument_same =
-      ind-GenericArgumentOf (Attr X) (Expr X) SameParam SameBound SameArgument SameArguments Same SameTraitBound SameTypeParam SameAssocType SameConstraint SameFnPtr SamePathType
-      (λ x y is. subst (λ z. SameParam (roll-GenericParamOf (Attr X) (Expr X) z)) is (param_layer y))
-      (λ x y is. subst (λ z. SameBound (roll-TypeParamBoundOf (Attr X) (Expr X) z)) is (bound_layer y))
-      (λ x y is. subst (λ z. SameArgument (roll-GenericArgumentOf (Attr X) (Expr X) z)) is (argument_layer y))
-      (λ x y is. subst (λ z. SameArguments (roll-PathArgumentsOf (Attr X) (Expr X) z)) is (arguments_layer y))
-      (λ x y is. subst (λ z. Same (roll-TypeOf (Attr X) (Expr X) z)) is (ty_layer y))
-      (λ x y is. subst (λ z. SameTraitBound (roll-TraitBoundOf (Attr X) (Expr X) z)) is (trait_bound_layer y))
-      (λ x y is. subst (λ z. SameTypeParam (roll-TypeParamOf (Attr X) (Expr X) z)) is (type_param_layer y))
-      (λ x y is. subst (λ z. SameAssocType (roll-AssocTypeOf (Attr X) (Expr X) z)) is (assoc_type_layer y))
-      (λ x y is. subst (λ z. SameConstraint (roll-ConstraintOf (Attr X) (Expr X) z)) is (constraint_layer y))
-      (λ x y is. subst (λ z. SameFnPtr (roll-TypeFnPtrOf (Attr X) (Expr X) z)) is (fn_ptr_layer y))
-      (λ x y is. subst (λ z. SamePathType (roll-TypePathOf (Attr X) (Expr X) z)) is (path_type_layer y))
+      ind-GenericArgumentOf A E SameParam SameBound SameArgument SameArguments Same SameTraitBound SameTypeParam SameAssocType SameConstraint SameFnPtr SamePathType
+      (λ x y is. subst (λ z. SameParam (roll-GenericParamOf A E z)) is (param_layer y))
+      (λ x y is. subst (λ z. SameBound (roll-TypeParamBoundOf A E z)) is (bound_layer y))
+      (λ x y is. subst (λ z. SameArgument (roll-GenericArgumentOf A E z)) is (argument_layer y))
+      (λ x y is. subst (λ z. SameArguments (roll-PathArgumentsOf A E z)) is (arguments_layer y))
+      (λ x y is. subst (λ z. Same (roll-TypeOf A E z)) is (ty_layer y))
+      (λ x y is. subst (λ z. SameTraitBound (roll-TraitBoundOf A E z)) is (trait_bound_layer y))
+      (λ x y is. subst (λ z. SameTypeParam (roll-TypeParamOf A E z)) is (type_param_layer y))
+      (λ x y is. subst (λ z. SameAssocType (roll-AssocTypeOf A E z)) is (assoc_type_layer y))
+      (λ x y is. subst (λ z. SameConstraint (roll-ConstraintOf A E z)) is (constraint_layer y))
+      (λ x y is. subst (λ z. SameFnPtr (roll-TypeFnPtrOf A E z)) is (fn_ptr_layer y))
+      (λ x y is. subst (λ z. SamePathType (roll-TypePathOf A E z)) is (path_type_layer y))
 
-  arguments_each : (x : PathArguments X) → SameArguments x
+  arguments_each : (x : PathArguments A E) → SameArguments x
   arguments_each =
-      ind-PathArgumentsOf (Attr X) (Expr X) SameParam SameBound SameArgument SameArguments Same SameTraitBound SameTypeParam SameAssocType SameConstraint SameFnPtr SamePathType
-      (λ x y is. subst (λ z. SameParam (roll-GenericParamOf (Attr X) (Expr X) z)) is (param_layer y))
-      (λ x y is. subst (λ z. SameBound (roll-TypeParamBoundOf (Attr X) (Expr X) z)) is (bound_layer y))
-      (λ x y is. subst (λ z. SameArgument (roll-GenericArgumentOf (Attr X) (Expr X) z)) is (argument_layer y))
-      (λ x y is. subst (λ z. SameArguments (roll-PathArgumentsOf (Attr X) (Expr X) z)) is (arguments_layer y))
-      (λ x y is. subst (λ z. Same (roll-TypeOf (Attr X) (Expr X) z)) is (ty_layer y))
-      (λ x y is. subst (λ z. SameTraitBound (roll-TraitBoundOf (Attr X) (Expr X) z)) is (trait_bound_layer y))
-      (λ x y is. subst (λ z. SameTypeParam (roll-TypeParamOf (Attr X) (Expr X) z)) is (type_param_layer y))
-      (λ x y is. subst (λ z. SameAssocType (roll-AssocTypeOf (Attr X) (Expr X) z)) is (assoc_type_layer y))
-      (λ x y is. subst (λ z. SameConstraint (roll-ConstraintOf (Attr X) (Expr X) z)) is (constraint_layer y))
-      (λ x y is. subst (λ z. SameFnPtr (roll-TypeFnPtrOf (Attr X) (Expr X) z)) is (fn_ptr_layer y))
-      (λ x y is. subst (λ z. SamePathType (roll-TypePathOf (Attr X) (Expr X) z)) is (path_type_layer y))
+      ind-PathArgumentsOf A E SameParam SameBound SameArgument SameArguments Same SameTraitBound SameTypeParam SameAssocType SameConstraint SameFnPtr SamePathType
+      (λ x y is. subst (λ z. SameParam (roll-GenericParamOf A E z)) is (param_layer y))
+      (λ x y is. subst (λ z. SameBound (roll-TypeParamBoundOf A E z)) is (bound_layer y))
+      (λ x y is. subst (λ z. SameArgument (roll-GenericArgumentOf A E z)) is (argument_layer y))
+      (λ x y is. subst (λ z. SameArguments (roll-PathArgumentsOf A E z)) is (arguments_layer y))
+      (λ x y is. subst (λ z. Same (roll-TypeOf A E z)) is (ty_layer y))
+      (λ x y is. subst (λ z. SameTraitBound (roll-TraitBoundOf A E z)) is (trait_bound_layer y))
+      (λ x y is. subst (λ z. SameTypeParam (roll-TypeParamOf A E z)) is (type_param_layer y))
+      (λ x y is. subst (λ z. SameAssocType (roll-AssocTypeOf A E z)) is (assoc_type_layer y))
+      (λ x y is. subst (λ z. SameConstraint (roll-ConstraintOf A E z)) is (constraint_layer y))
+      (λ x y is. subst (λ z. SameFnPtr (roll-TypeFnPtrOf A E z)) is (fn_ptr_layer y))
+      (λ x y is. subst (λ z. SamePathType (roll-TypePathOf A E z)) is (path_type_layer y))
 
-  pub arguments_same : (style : PathStyle) (x : PathArguments X) → printing.arguments px style (normal.arguments nx x) ≡ printing.arguments px style x
+  pub arguments_same : (style : PathStyle) (x : PathArguments A E) → printing.arguments pa pe style (normal.arguments na ne x) ≡ printing.arguments pa pe style x
   arguments_same style x = arguments_each x style
 
-  pub ty_same : (x : TypeTree X) → printing.ty px (normal.ty nx x) ≡ printing.ty px x
+  pub ty_same : (x : TypeTree A E) → printing.ty pa pe (normal.ty na ne x) ≡ printing.ty pa pe x
   ty_same =
-      ind-TypeOf (Attr X) (Expr X) SameParam SameBound SameArgument SameArguments Same SameTraitBound SameTypeParam SameAssocType SameConstraint SameFnPtr SamePathType
-      (λ x y is. subst (λ z. SameParam (roll-GenericParamOf (Attr X) (Expr X) z)) is (param_layer y))
-      (λ x y is. subst (λ z. SameBound (roll-TypeParamBoundOf (Attr X) (Expr X) z)) is (bound_layer y))
-      (λ x y is. subst (λ z. SameArgument (roll-GenericArgumentOf (Attr X) (Expr X) z)) is (argument_layer y))
-      (λ x y is. subst (λ z. SameArguments (roll-PathArgumentsOf (Attr X) (Expr X) z)) is (arguments_layer y))
-      (λ x y is. subst (λ z. Same (roll-TypeOf (Attr X) (Expr X) z)) is (ty_layer y))
-      (λ x y is. subst (λ z. SameTraitBound (roll-TraitBoundOf (Attr X) (Expr X) z)) is (trait_bound_layer y))
-      (λ x y is. subst (λ z. SameTypeParam (roll-TypeParamOf (Attr X) (Expr X) z)) is (type_param_layer y))
-      (λ x y is. subst (λ z. SameAssocType (roll-AssocTypeOf (Attr X) (Expr X) z)) is (assoc_type_layer y))
-      (λ x y is. subst (λ z. SameConstraint (roll-ConstraintOf (Attr X) (Expr X) z)) is (constraint_layer y))
-      (λ x y is. subst (λ z. SameFnPtr (roll-TypeFnPtrOf (Attr X) (Expr X) z)) is (fn_ptr_layer y))
-      (λ x y is. subst (λ z. SamePathType (roll-TypePathOf (Attr X) (Expr X) z)) is (path_type_layer y))
+      ind-TypeOf A E SameParam SameBound SameArgument SameArguments Same SameTraitBound SameTypeParam SameAssocType SameConstraint SameFnPtr SamePathType
+      (λ x y is. subst (λ z. SameParam (roll-GenericParamOf A E z)) is (param_layer y))
+      (λ x y is. subst (λ z. SameBound (roll-TypeParamBoundOf A E z)) is (bound_layer y))
+      (λ x y is. subst (λ z. SameArgument (roll-GenericArgumentOf A E z)) is (argument_layer y))
+      (λ x y is. subst (λ z. SameArguments (roll-PathArgumentsOf A E z)) is (arguments_layer y))
+      (λ x y is. subst (λ z. Same (roll-TypeOf A E z)) is (ty_layer y))
+      (λ x y is. subst (λ z. SameTraitBound (roll-TraitBoundOf A E z)) is (trait_bound_layer y))
+      (λ x y is. subst (λ z. SameTypeParam (roll-TypeParamOf A E z)) is (type_param_layer y))
+      (λ x y is. subst (λ z. SameAssocType (roll-AssocTypeOf A E z)) is (assoc_type_layer y))
+      (λ x y is. subst (λ z. SameConstraint (roll-ConstraintOf A E z)) is (constraint_layer y))
+      (λ x y is. subst (λ z. SameFnPtr (roll-TypeFnPtrOf A E z)) is (fn_ptr_layer y))
+      (λ x y is. subst (λ z. SamePathType (roll-TypePathOf A E z)) is (path_type_layer y))
 
-  pub trait_bound_same : (x : TraitBound X) → printing.trait_bound px (normal.trait_bound nx x) ≡ printing.trait_bound px x
+  pub trait_bound_same : (x : TraitBound A E) → printing.trait_bound pa pe (normal.trait_bound na ne x) ≡ printing.trait_bound pa pe x
   trait_bound_same =
-      ind-TraitBoundOf (Attr X) (Expr X) SameParam SameBound SameArgument SameArguments Same SameTraitBound SameTypeParam SameAssocType SameConstraint SameFnPtr SamePathType
-      (λ x y is. subst (λ z. SameParam (roll-GenericParamOf (Attr X) (Expr X) z)) is (param_layer y))
-      (λ x y is. subst (λ z. SameBound (roll-TypeParamBoundOf (Attr X) (Expr X) z)) is (bound_layer y))
-      (λ x y is. subst (λ z. SameArgument (roll-GenericArgumentOf (Attr X) (Expr X) z)) is (argument_layer y))
-      (λ x y is. subst (λ z. SameArguments (roll-PathArgumentsOf (Attr X) (Expr X) z)) is (arguments_layer y))
-      (λ x y is. subst (λ z. Same (roll-TypeOf (Attr X) (Expr X) z)) is (ty_layer y))
-      (λ x y is. subst (λ z. SameTraitBound (roll-TraitBoundOf (Attr X) (Expr X) z)) is (trait_bound_layer y))
-      (λ x y is. subst (λ z. SameTypeParam (roll-TypeParamOf (Attr X) (Expr X) z)) is (type_param_layer y))
-      (λ x y is. subst (λ z. SameAssocType (roll-AssocTypeOf (Attr X) (Expr X) z)) is (assoc_type_layer y))
-      (λ x y is. subst (λ z. SameConstraint (roll-ConstraintOf (Attr X) (Expr X) z)) is (constraint_layer y))
-      (λ x y is. subst (λ z. SameFnPtr (roll-TypeFnPtrOf (Attr X) (Expr X) z)) is (fn_ptr_layer y))
-      (λ x y is. subst (λ z. SamePathType (roll-TypePathOf (Attr X) (Expr X) z)) is (path_type_layer y))
+      ind-TraitBoundOf A E SameParam SameBound SameArgument SameArguments Same SameTraitBound SameTypeParam SameAssocType SameConstraint SameFnPtr SamePathType
+      (λ x y is. subst (λ z. SameParam (roll-GenericParamOf A E z)) is (param_layer y))
+      (λ x y is. subst (λ z. SameBound (roll-TypeParamBoundOf A E z)) is (bound_layer y))
+      (λ x y is. subst (λ z. SameArgument (roll-GenericArgumentOf A E z)) is (argument_layer y))
+      (λ x y is. subst (λ z. SameArguments (roll-PathArgumentsOf A E z)) is (arguments_layer y))
+      (λ x y is. subst (λ z. Same (roll-TypeOf A E z)) is (ty_layer y))
+      (λ x y is. subst (λ z. SameTraitBound (roll-TraitBoundOf A E z)) is (trait_bound_layer y))
+      (λ x y is. subst (λ z. SameTypeParam (roll-TypeParamOf A E z)) is (type_param_layer y))
+      (λ x y is. subst (λ z. SameAssocType (roll-AssocTypeOf A E z)) is (assoc_type_layer y))
+      (λ x y is. subst (λ z. SameConstraint (roll-ConstraintOf A E z)) is (constraint_layer y))
+      (λ x y is. subst (λ z. SameFnPtr (roll-TypeFnPtrOf A E z)) is (fn_ptr_layer y))
+      (λ x y is. subst (λ z. SamePathType (roll-TypePathOf A E z)) is (path_type_layer y))
 
-  pub type_param_same : (x : TypeParam X) → printing.type_param px (normal.type_param nx x) ≡ printing.type_param px x
+  pub type_param_same : (x : TypeParam A E) → printing.type_param pa pe (normal.type_param na ne x) ≡ printing.type_param pa pe x
   type_param_same =
-      ind-TypeParamOf (Attr X) (Expr X) SameParam SameBound SameArgument SameArguments Same SameTraitBound SameTypeParam SameAssocType SameConstraint SameFnPtr SamePathType
-      (λ x y is. subst (λ z. SameParam (roll-GenericParamOf (Attr X) (Expr X) z)) is (param_layer y))
-      (λ x y is. subst (λ z. SameBound (roll-TypeParamBoundOf (Attr X) (Expr X) z)) is (bound_layer y))
-      (λ x y is. subst (λ z. SameArgument (roll-GenericArgumentOf (Attr X) (Expr X) z)) is (argument_layer y))
-      (λ x y is. subst (λ z. SameArguments (roll-PathArgumentsOf (Attr X) (Expr X) z)) is (arguments_layer y))
-      (λ x y is. subst (λ z. Same (roll-TypeOf (Attr X) (Expr X) z)) is (ty_layer y))
-      (λ x y is. subst (λ z. SameTraitBound (roll-TraitBoundOf (Attr X) (Expr X) z)) is (trait_bound_layer y))
-      (λ x y is. subst (λ z. SameTypeParam (roll-TypeParamOf (Attr X) (Expr X) z)) is (type_param_layer y))
-      (λ x y is. subst (λ z. SameAssocType (roll-AssocTypeOf (Attr X) (Expr X) z)) is (assoc_type_layer y))
-      (λ x y is. subst (λ z. SameConstraint (roll-ConstraintOf (Attr X) (Expr X) z)) is (constraint_layer y))
-      (λ x y is. subst (λ z. SameFnPtr (roll-TypeFnPtrOf (Attr X) (Expr X) z)) is (fn_ptr_layer y))
-      (λ x y is. subst (λ z. SamePathType (roll-TypePathOf (Attr X) (Expr X) z)) is (path_type_layer y))
+      ind-TypeParamOf A E SameParam SameBound SameArgument SameArguments Same SameTraitBound SameTypeParam SameAssocType SameConstraint SameFnPtr SamePathType
+      (λ x y is. subst (λ z. SameParam (roll-GenericParamOf A E z)) is (param_layer y))
+      (λ x y is. subst (λ z. SameBound (roll-TypeParamBoundOf A E z)) is (bound_layer y))
+      (λ x y is. subst (λ z. SameArgument (roll-GenericArgumentOf A E z)) is (argument_layer y))
+      (λ x y is. subst (λ z. SameArguments (roll-PathArgumentsOf A E z)) is (arguments_layer y))
+      (λ x y is. subst (λ z. Same (roll-TypeOf A E z)) is (ty_layer y))
+      (λ x y is. subst (λ z. SameTraitBound (roll-TraitBoundOf A E z)) is (trait_bound_layer y))
+      (λ x y is. subst (λ z. SameTypeParam (roll-TypeParamOf A E z)) is (type_param_layer y))
+      (λ x y is. subst (λ z. SameAssocType (roll-AssocTypeOf A E z)) is (assoc_type_layer y))
+      (λ x y is. subst (λ z. SameConstraint (roll-ConstraintOf A E z)) is (constraint_layer y))
+      (λ x y is. subst (λ z. SameFnPtr (roll-TypeFnPtrOf A E z)) is (fn_ptr_layer y))
+      (λ x y is. subst (λ z. SamePathType (roll-TypePathOf A E z)) is (path_type_layer y))
 
-  pub assoc_type_same : (x : AssocType X) → printing.assoc_type px (normal.assoc_type nx x) ≡ printing.assoc_type px x
+  pub assoc_type_same : (x : AssocType A E) → printing.assoc_type pa pe (normal.assoc_type na ne x) ≡ printing.assoc_type pa pe x
   assoc_type_same =
-      ind-AssocTypeOf (Attr X) (Expr X) SameParam SameBound SameArgument SameArguments Same SameTraitBound SameTypeParam SameAssocType SameConstraint SameFnPtr SamePathType
-      (λ x y is. subst (λ z. SameParam (roll-GenericParamOf (Attr X) (Expr X) z)) is (param_layer y))
-      (λ x y is. subst (λ z. SameBound (roll-TypeParamBoundOf (Attr X) (Expr X) z)) is (bound_layer y))
-      (λ x y is. subst (λ z. SameArgument (roll-GenericArgumentOf (Attr X) (Expr X) z)) is (argument_layer y))
-      (λ x y is. subst (λ z. SameArguments (roll-PathArgumentsOf (Attr X) (Expr X) z)) is (arguments_layer y))
-      (λ x y is. subst (λ z. Same (roll-TypeOf (Attr X) (Expr X) z)) is (ty_layer y))
-      (λ x y is. subst (λ z. SameTraitBound (roll-TraitBoundOf (Attr X) (Expr X) z)) is (trait_bound_layer y))
-      (λ x y is. subst (λ z. SameTypeParam (roll-TypeParamOf (Attr X) (Expr X) z)) is (type_param_layer y))
-      (λ x y is. subst (λ z. SameAssocType (roll-AssocTypeOf (Attr X) (Expr X) z)) is (assoc_type_layer y))
-      (λ x y is. subst (λ z. SameConstraint (roll-ConstraintOf (Attr X) (Expr X) z)) is (constraint_layer y))
-      (λ x y is. subst (λ z. SameFnPtr (roll-TypeFnPtrOf (Attr X) (Expr X) z)) is (fn_ptr_layer y))
-      (λ x y is. subst (λ z. SamePathType (roll-TypePathOf (Attr X) (Expr X) z)) is (path_type_layer y))
+      ind-AssocTypeOf A E SameParam SameBound SameArgument SameArguments Same SameTraitBound SameTypeParam SameAssocType SameConstraint SameFnPtr SamePathType
+      (λ x y is. subst (λ z. SameParam (roll-GenericParamOf A E z)) is (param_layer y))
+      (λ x y is. subst (λ z. SameBound (roll-TypeParamBoundOf A E z)) is (bound_layer y))
+      (λ x y is. subst (λ z. SameArgument (roll-GenericArgumentOf A E z)) is (argument_layer y))
+      (λ x y is. subst (λ z. SameArguments (roll-PathArgumentsOf A E z)) is (arguments_layer y))
+      (λ x y is. subst (λ z. Same (roll-TypeOf A E z)) is (ty_layer y))
+      (λ x y is. subst (λ z. SameTraitBound (roll-TraitBoundOf A E z)) is (trait_bound_layer y))
+      (λ x y is. subst (λ z. SameTypeParam (roll-TypeParamOf A E z)) is (type_param_layer y))
+      (λ x y is. subst (λ z. SameAssocType (roll-AssocTypeOf A E z)) is (assoc_type_layer y))
+      (λ x y is. subst (λ z. SameConstraint (roll-ConstraintOf A E z)) is (constraint_layer y))
+      (λ x y is. subst (λ z. SameFnPtr (roll-TypeFnPtrOf A E z)) is (fn_ptr_layer y))
+      (λ x y is. subst (λ z. SamePathType (roll-TypePathOf A E z)) is (path_type_layer y))
 
-  pub constraint_same : (x : Constraint X) → printing.constraint px (normal.constraint nx x) ≡ printing.constraint px x
+  pub constraint_same : (x : Constraint A E) → printing.constraint pa pe (normal.constraint na ne x) ≡ printing.constraint pa pe x
   constraint_same =
-      ind-ConstraintOf (Attr X) (Expr X) SameParam SameBound SameArgument SameArguments Same SameTraitBound SameTypeParam SameAssocType SameConstraint SameFnPtr SamePathType
-      (λ x y is. subst (λ z. SameParam (roll-GenericParamOf (Attr X) (Expr X) z)) is (param_layer y))
-      (λ x y is. subst (λ z. SameBound (roll-TypeParamBoundOf (Attr X) (Expr X) z)) is (bound_layer y))
-      (λ x y is. subst (λ z. SameArgument (roll-GenericArgumentOf (Attr X) (Expr X) z)) is (argument_layer y))
-      (λ x y is. subst (λ z. SameArguments (roll-PathArgumentsOf (Attr X) (Expr X) z)) is (arguments_layer y))
-      (λ x y is. subst (λ z. Same (roll-TypeOf (Attr X) (Expr X) z)) is (ty_layer y))
-      (λ x y is. subst (λ z. SameTraitBound (roll-TraitBoundOf (Attr X) (Expr X) z)) is (trait_bound_layer y))
-      (λ x y is. subst (λ z. SameTypeParam (roll-TypeParamOf (Attr X) (Expr X) z)) is (type_param_layer y))
-      (λ x y is. subst (λ z. SameAssocType (roll-AssocTypeOf (Attr X) (Expr X) z)) is (assoc_type_layer y))
-      (λ x y is. subst (λ z. SameConstraint (roll-ConstraintOf (Attr X) (Expr X) z)) is (constraint_layer y))
-      (λ x y is. subst (λ z. SameFnPtr (roll-TypeFnPtrOf (Attr X) (Expr X) z)) is (fn_ptr_layer y))
-      (λ x y is. subst (λ z. SamePathType (roll-TypePathOf (Attr X) (Expr X) z)) is (path_type_layer y))
+      ind-ConstraintOf A E SameParam SameBound SameArgument SameArguments Same SameTraitBound SameTypeParam SameAssocType SameConstraint SameFnPtr SamePathType
+      (λ x y is. subst (λ z. SameParam (roll-GenericParamOf A E z)) is (param_layer y))
+      (λ x y is. subst (λ z. SameBound (roll-TypeParamBoundOf A E z)) is (bound_layer y))
+      (λ x y is. subst (λ z. SameArgument (roll-GenericArgumentOf A E z)) is (argument_layer y))
+      (λ x y is. subst (λ z. SameArguments (roll-PathArgumentsOf A E z)) is (arguments_layer y))
+      (λ x y is. subst (λ z. Same (roll-TypeOf A E z)) is (ty_layer y))
+      (λ x y is. subst (λ z. SameTraitBound (roll-TraitBoundOf A E z)) is (trait_bound_layer y))
+      (λ x y is. subst (λ z. SameTypeParam (roll-TypeParamOf A E z)) is (type_param_layer y))
+      (λ x y is. subst (λ z. SameAssocType (roll-AssocTypeOf A E z)) is (assoc_type_layer y))
+      (λ x y is. subst (λ z. SameConstraint (roll-ConstraintOf A E z)) is (constraint_layer y))
+      (λ x y is. subst (λ z. SameFnPtr (roll-TypeFnPtrOf A E z)) is (fn_ptr_layer y))
+      (λ x y is. subst (λ z. SamePathType (roll-TypePathOf A E z)) is (path_type_layer y))
 
-  pub fn_ptr_same : (x : TypeFnPtr X) → printing.fn_ptr px (normal.fn_ptr nx x) ≡ printing.fn_ptr px x
+  pub fn_ptr_same : (x : TypeFnPtr A E) → printing.fn_ptr pa pe (normal.fn_ptr na ne x) ≡ printing.fn_ptr pa pe x
   fn_ptr_same =
-      ind-TypeFnPtrOf (Attr X) (Expr X) SameParam SameBound SameArgument SameArguments Same SameTraitBound SameTypeParam SameAssocType SameConstraint SameFnPtr SamePathType
-      (λ x y is. subst (λ z. SameParam (roll-GenericParamOf (Attr X) (Expr X) z)) is (param_layer y))
-      (λ x y is. subst (λ z. SameBound (roll-TypeParamBoundOf (Attr X) (Expr X) z)) is (bound_layer y))
-      (λ x y is. subst (λ z. SameArgument (roll-GenericArgumentOf (Attr X) (Expr X) z)) is (argument_layer y))
-      (λ x y is. subst (λ z. SameArguments (roll-PathArgumentsOf (Attr X) (Expr X) z)) is (arguments_layer y))
-      (λ x y is. subst (λ z. Same (roll-TypeOf (Attr X) (Expr X) z)) is (ty_layer y))
-      (λ x y is. subst (λ z. SameTraitBound (roll-TraitBoundOf (Attr X) (Expr X) z)) is (trait_bound_layer y))
-      (λ x y is. subst (λ z. SameTypeParam (roll-TypeParamOf (Attr X) (Expr X) z)) is (type_param_layer y))
-      (λ x y is. subst (λ z. SameAssocType (roll-AssocTypeOf (Attr X) (Expr X) z)) is (assoc_type_layer y))
-      (λ x y is. subst (λ z. SameConstraint (roll-ConstraintOf (Attr X) (Expr X) z)) is (constraint_layer y))
-      (λ x y is. subst (λ z. SameFnPtr (roll-TypeFnPtrOf (Attr X) (Expr X) z)) is (fn_ptr_layer y))
-      (λ x y is. subst (λ z. SamePathType (roll-TypePathOf (Attr X) (Expr X) z)) is (path_type_layer y))
+      ind-TypeFnPtrOf A E SameParam SameBound SameArgument SameArguments Same SameTraitBound SameTypeParam SameAssocType SameConstraint SameFnPtr SamePathType
+      (λ x y is. subst (λ z. SameParam (roll-GenericParamOf A E z)) is (param_layer y))
+      (λ x y is. subst (λ z. SameBound (roll-TypeParamBoundOf A E z)) is (bound_layer y))
+      (λ x y is. subst (λ z. SameArgument (roll-GenericArgumentOf A E z)) is (argument_layer y))
+      (λ x y is. subst (λ z. SameArguments (roll-PathArgumentsOf A E z)) is (arguments_layer y))
+      (λ x y is. subst (λ z. Same (roll-TypeOf A E z)) is (ty_layer y))
+      (λ x y is. subst (λ z. SameTraitBound (roll-TraitBoundOf A E z)) is (trait_bound_layer y))
+      (λ x y is. subst (λ z. SameTypeParam (roll-TypeParamOf A E z)) is (type_param_layer y))
+      (λ x y is. subst (λ z. SameAssocType (roll-AssocTypeOf A E z)) is (assoc_type_layer y))
+      (λ x y is. subst (λ z. SameConstraint (roll-ConstraintOf A E z)) is (constraint_layer y))
+      (λ x y is. subst (λ z. SameFnPtr (roll-TypeFnPtrOf A E z)) is (fn_ptr_layer y))
+      (λ x y is. subst (λ z. SamePathType (roll-TypePathOf A E z)) is (path_type_layer y))
 
-  pub path_type_same : (x : TypePath X) → printing.path_type px (normal.path_type nx x) ≡ printing.path_type px x
+  pub path_type_same : (x : TypePath A E) → printing.path_type pa pe (normal.path_type na ne x) ≡ printing.path_type pa pe x
   path_type_same =
-      ind-TypePathOf (Attr X) (Expr X) SameParam SameBound SameArgument SameArguments Same SameTraitBound SameTypeParam SameAssocType SameConstraint SameFnPtr SamePathType
-      (λ x y is. subst (λ z. SameParam (roll-GenericParamOf (Attr X) (Expr X) z)) is (param_layer y))
-      (λ x y is. subst (λ z. SameBound (roll-TypeParamBoundOf (Attr X) (Expr X) z)) is (bound_layer y))
-      (λ x y is. subst (λ z. SameArgument (roll-GenericArgumentOf (Attr X) (Expr X) z)) is (argument_layer y))
-      (λ x y is. subst (λ z. SameArguments (roll-PathArgumentsOf (Attr X) (Expr X) z)) is (arguments_layer y))
-      (λ x y is. subst (λ z. Same (roll-TypeOf (Attr X) (Expr X) z)) is (ty_layer y))
-      (λ x y is. subst (λ z. SameTraitBound (roll-TraitBoundOf (Attr X) (Expr X) z)) is (trait_bound_layer y))
-      (λ x y is. subst (λ z. SameTypeParam (roll-TypeParamOf (Attr X) (Expr X) z)) is (type_param_layer y))
-      (λ x y is. subst (λ z. SameAssocType (roll-AssocTypeOf (Attr X) (Expr X) z)) is (assoc_type_layer y))
-      (λ x y is. subst (λ z. SameConstraint (roll-ConstraintOf (Attr X) (Expr X) z)) is (constraint_layer y))
-      (λ x y is. subst (λ z. SameFnPtr (roll-TypeFnPtrOf (Attr X) (Expr X) z)) is (fn_ptr_layer y))
-      (λ x y is. subst (λ z. SamePathType (roll-TypePathOf (Attr X) (Expr X) z)) is (path_type_layer y))
+      ind-TypePathOf A E SameParam SameBound SameArgument SameArguments Same SameTraitBound SameTypeParam SameAssocType SameConstraint SameFnPtr SamePathType
+      (λ x y is. subst (λ z. SameParam (roll-GenericParamOf A E z)) is (param_layer y))
+      (λ x y is. subst (λ z. SameBound (roll-TypeParamBoundOf A E z)) is (bound_layer y))
+      (λ x y is. subst (λ z. SameArgument (roll-GenericArgumentOf A E z)) is (argument_layer y))
+      (λ x y is. subst (λ z. SameArguments (roll-PathArgumentsOf A E z)) is (arguments_layer y))
+      (λ x y is. subst (λ z. Same (roll-TypeOf A E z)) is (ty_layer y))
+      (λ x y is. subst (λ z. SameTraitBound (roll-TraitBoundOf A E z)) is (trait_bound_layer y))
+      (λ x y is. subst (λ z. SameTypeParam (roll-TypeParamOf A E z)) is (type_param_layer y))
+      (λ x y is. subst (λ z. SameAssocType (roll-AssocTypeOf A E z)) is (assoc_type_layer y))
+      (λ x y is. subst (λ z. SameConstraint (roll-ConstraintOf A E z)) is (constraint_layer y))
+      (λ x y is. subst (λ z. SameFnPtr (roll-TypeFnPtrOf A E z)) is (fn_ptr_layer y))
+      (λ x y is. subst (λ z. SamePathType (roll-TypePathOf A E z)) is (path_type_layer y))
 
   -- ---- what is made of them
 
-  segments_each : (l : List (PathSegment X)) → Each SameSegment l
+  segments_each : (l : List (PathSegment A E)) → Each SameSegment l
   segments_each l = each_of (λ s. arguments_each s.arguments) l
 
-  pub path_same : (style : PathStyle) (x : Path X) → path_by (arguments px style) (normal.path nx x) ≡ path_by (arguments px style) x
+  pub path_same : (style : PathStyle) (x : Path A E) → path_by (arguments pa pe style) (normal.path na ne x) ≡ path_by (arguments pa pe style) x
   path_same style x = path_parts style x (segments_each x.segments.0)
 
   -- whatever the form of the type that qualifies it
-  pub qualified_same : {T U : Type 0} (t : T → U) (style : PathStyle) (q : QSelfOf T) (x : Path X)
-      → qualified_by (arguments px) style (qself_of q.lt_token (t q.ty) q.position q.as_token q.gt_token) (normal.path nx x) ≡ qualified_by (arguments px) style q x
-  qualified_same t style q x = qualified_kept (normal.arguments nx) (arguments px) t style q x.leading_colon x.segments.0 x.segments.1 (segments_each x.segments.0)
+  pub qualified_same : {T U : Type 0} (t : T → U) (style : PathStyle) (q : QSelfOf T) (x : Path A E)
+      → qualified_by (arguments pa pe) style (qself_of q.lt_token (t q.ty) q.position q.as_token q.gt_token) (normal.path na ne x) ≡ qualified_by (arguments pa pe) style q x
+  qualified_same t style q x = qualified_kept (normal.arguments na ne) (arguments pa pe) t style q x.leading_colon x.segments.0 x.segments.1 (segments_each x.segments.0)
 
-  self_each : (q : Option (QSelf X)) → SameSelf q
+  self_each : (q : Option (QSelf A E)) → SameSelf q
   self_each None = tt
   self_each (Some q) = ty_same q.ty
 
-  pub qpath_same : (style : PathStyle) (q : Option (QSelf X)) (x : Path X) → printing.qpath px style (normal.optional_qself nx q) (normal.path nx x) ≡ printing.qpath px style q x
+  pub qpath_same : (style : PathStyle) (q : Option (QSelf A E)) (x : Path A E) → printing.qpath pa pe style (normal.optional_qself na ne q) (normal.path na ne x) ≡ printing.qpath pa pe style q x
   qpath_same style q x = qpath_parts style q x (self_each q) (segments_each x.segments.0)
 
-  pub angle_same : (style : PathStyle) (x : AngleBracketed X) → printing.angle px style (normal.angle nx x) ≡ printing.angle px style x
+  pub angle_same : (style : PathStyle) (x : AngleBracketed A E) → printing.angle pa pe style (normal.angle na ne x) ≡ printing.angle pa pe style x
   angle_same style x = angle_parts style x (each_of argument_same x.args.0)
 
-  angle_each : (x : Option (AngleBracketed X)) → SameAngle x
+  angle_each : (x : Option (AngleBracketed A E)) → SameAngle x
   angle_each None = tt
   angle_each (Some x) = each_of argument_same x.args.0
 
-  pub optional_angle_same : (x : Option (AngleBracketed X)) → printing.optional_angle px (normal.optional_angle nx x) ≡ printing.optional_angle px x
+  pub optional_angle_same : (x : Option (AngleBracketed A E)) → printing.optional_angle pa pe (normal.optional_angle na ne x) ≡ printing.optional_angle pa pe x
   optional_angle_same x = optional_parts x (angle_each x)
 
-  output_each : (q : ReturnType X) → SameOutput q
+  output_each : (q : ReturnType A E) → SameOutput q
   output_each r.Default = tt
   output_each (r.«Type» t x) = ty_same x
 
-  pub return_type_same : (x : ReturnType X) → printing.return_type px (normal.return_type nx x) ≡ printing.return_type px x
+  pub return_type_same : (x : ReturnType A E) → printing.return_type pa pe (normal.return_type na ne x) ≡ printing.return_type pa pe x
   return_type_same x = output_same x (output_each x)
 
-  pub parenthesized_same : (x : Parenthesized X) → printing.parenthesized px (normal.parenthesized nx x) ≡ printing.parenthesized px x
+  pub parenthesized_same : (x : Parenthesized A E) → printing.parenthesized pa pe (normal.parenthesized na ne x) ≡ printing.parenthesized pa pe x
   parenthesized_same x = parens_parts x (each_of (λ z. ty_same z.ty) x.inputs.0) (output_each x.output)
 
-  pub assoc_const_same : (x : AssocConst X) → printing.assoc_const px (normal.assoc_const nx x) ≡ printing.assoc_const px x
+  pub assoc_const_same : (x : AssocConst A E) → printing.assoc_const pa pe (normal.assoc_const na ne x) ≡ printing.assoc_const pa pe x
   assoc_const_same x = const_parts x (angle_each x.generics)
 
-  pub const_param_same : (x : ConstParam X) → printing.const_param px (normal.const_param nx x) ≡ printing.const_param px x
+  pub const_param_same : (x : ConstParam A E) → printing.const_param pa pe (normal.const_param na ne x) ≡ printing.const_param pa pe x
   const_param_same x = param_parts x (ty_same x.ty)
 
-  binder_each : (x : Option (BoundLifetimes X)) → EachOf x
+  binder_each : (x : Option (BoundLifetimes A E)) → EachOf x
   binder_each None = tt
   binder_each (Some x) = each_of param_same x.lifetimes.0
 
-  pub binder_same : (x : Option (BoundLifetimes X)) → binder_by (param px) (nshapes.binder_by (normal.param nx) x) ≡ binder_by (param px) x
+  pub binder_same : (x : Option (BoundLifetimes A E)) → binder_by (param pa pe) (nshapes.binder_by (normal.param na ne) x) ≡ binder_by (param pa pe) x
   binder_same x = binder_parts x (binder_each x)
 
-  pub bound_lifetimes_same : (x : BoundLifetimes X) → printing.bound_lifetimes px (normal.bound_lifetimes nx x) ≡ printing.bound_lifetimes px x
+  pub bound_lifetimes_same : (x : BoundLifetimes A E) → printing.bound_lifetimes pa pe (normal.bound_lifetimes na ne x) ≡ printing.bound_lifetimes pa pe x
   bound_lifetimes_same x = binder_parts (Some x) (each_of param_same x.lifetimes.0)
 
-pub ruleset laws = (len_same, ty_same, fn_ptr_same, path_type_same, param_same, type_param_same, const_param_same, lifetime_param_same, bound_same, trait_bound_same, bound_lifetimes_same, capture_same, variadic_same, arguments_same, argument_same, assoc_type_same, assoc_const_same, constraint_same, angle_same, parenthesized_same, return_type_same, path_same, qpath_same)
+pub ruleset laws = (ty_same, fn_ptr_same, path_type_same, param_same, type_param_same, const_param_same, lifetime_param_same, bound_same, trait_bound_same, bound_lifetimes_same, capture_same, variadic_same, arguments_same, argument_same, assoc_type_same, assoc_const_same, constraint_same, angle_same, parenthesized_same, return_type_same, path_same, qpath_same)
