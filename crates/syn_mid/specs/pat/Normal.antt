@@ -9,10 +9,10 @@ use Rattle.syn_mid.specs.declared.pat.PatWild.{PatWild}
 use Rattle.syn_mid.specs.declared.supplied.Expr.{Expr}
 use Rattle.syn_mid.specs.attr.Attrs.{expr_path_of}
 use Rattle.syn_mid.specs.attr.Normal as attr
-use Rattle.syn_mid.specs.generics.NormalShapes.{many}
-use Rattle.syn_mid.specs.pat.Pats.{LayerOf, Pat, PatGuard, PatIdent, PatOr, PatParen, PatPath, PatReference, PatRest, PatSlice, PatStruct, PatTuple, PatTupleStruct, PatType, FieldPat, guard_of, binding_of, or_of, paren_of, reference_of, slice_of, struct_of, tuple_of, tuple_struct_of, typed_of, field_of, rest_of, wild_of}
+use Rattle.syn_mid.specs.generics.NormalShapes.{many, normal_values_of}
+use Rattle.syn_mid.specs.pat.Pats.{Attrs, LayerOf, Pat, PatGuard, PatIdent, PatOr, PatParen, PatPath, PatReference, PatRest, PatSlice, PatStruct, PatTuple, PatTupleStruct, PatType, FieldPat, guard_of, binding_of, or_of, paren_of, reference_of, slice_of, struct_of, tuple_of, tuple_struct_of, typed_of, field_of, rest_of, wild_of}
 use Rattle.syn_mid.specs.ty.Normal as ty
-use Rattle.syn_mid.specs.ty.Trees.{Attr, Attrs, Path, QSelf, TypeTree}
+use Rattle.syn_mid.specs.ty.Trees.{Attr, Path, QSelf, TypeTree}
 
 module _ {X : Type 0} (normal : Place → X → X) where
   abbrev pub attrs : Attrs X → Attrs X
@@ -29,7 +29,7 @@ module _ {X : Type 0} (normal : Place → X → X) where
 
   -- by its path
   abbrev pub by_path : PatPath X → PatPath X
-  by_path x = expr_path_of (attrs x.attrs) (ty.path normal x.path)
+  by_path x = expr_path_of (attrs x.attrs) (ty.path attrs (normal_values_of normal) x.path)
 
   abbrev pub optional_rest : Option (PatRest X) → Option (PatRest X)
   optional_rest None = None
@@ -53,15 +53,15 @@ module _ {X : Type 0} (normal : Place → X → X) where
   pat_step (o.Reference x) = v.Reference (reference_of (attrs x.attrs) x.and_token x.mutability x.pat)
   pat_step (o.Rest x) = v.Rest (rest x)
   pat_step (o.Slice x) = v.Slice (slice_of (attrs x.attrs) x.bracket_token x.elems)
-  pat_step (o.Struct x) = v.Struct (struct_of (attrs x.attrs) (ty.optional_qself normal x.qself) (ty.path normal x.path) x.brace_token (many field_around x.fields) (optional_rest x.rest))
+  pat_step (o.Struct x) = v.Struct (struct_of (attrs x.attrs) (ty.optional_qself attrs (normal_values_of normal) x.qself) (ty.path attrs (normal_values_of normal) x.path) x.brace_token (many field_around x.fields) (optional_rest x.rest))
   pat_step (o.Tuple x) = v.Tuple (tuple_of (attrs x.attrs) x.paren_token x.elems)
-  pat_step (o.TupleStruct x) = v.TupleStruct (tuple_struct_of (attrs x.attrs) (ty.optional_qself normal x.qself) (ty.path normal x.path) x.paren_token x.elems)
-  pat_step (o.«Type» x) = v.«Type» (typed_of (attrs x.attrs) x.pat x.colon_token (ty.ty normal x.ty))
+  pat_step (o.TupleStruct x) = v.TupleStruct (tuple_struct_of (attrs x.attrs) (ty.optional_qself attrs (normal_values_of normal) x.qself) (ty.path attrs (normal_values_of normal) x.path) x.paren_token x.elems)
+  pat_step (o.«Type» x) = v.«Type» (typed_of (attrs x.attrs) x.pat x.colon_token (ty.ty attrs (normal_values_of normal) x.ty))
   pat_step (o.Verbatim x) = v.Verbatim x
   pat_step (o.Wild x) = v.Wild (wild x)
 
   unfoldable pub pat : Pat X → Pat X
-  pat = fold-PatOf (Attr X) (Path X) (QSelf X) (TypeTree X) X (Pat X) pat_step
+  pat = fold-PatOf (Attr X) (Path (Attr X) (Expr X)) (QSelf (Attr X) (Expr X)) (TypeTree (Attr X) (Expr X)) X (Pat X) pat_step
 
   abbrev pub subpattern : Option (Mark 6 1 × Pat X) → Option (Mark 6 1 × Pat X)
   subpattern None = None
@@ -89,13 +89,13 @@ module _ {X : Type 0} (normal : Place → X → X) where
   slice x = slice_of (attrs x.attrs) x.bracket_token (many pat x.elems)
 
   abbrev pub fielded : PatStruct X → PatStruct X
-  fielded x = struct_of (attrs x.attrs) (ty.optional_qself normal x.qself) (ty.path normal x.path) x.brace_token (many field x.fields) (optional_rest x.rest)
+  fielded x = struct_of (attrs x.attrs) (ty.optional_qself attrs (normal_values_of normal) x.qself) (ty.path attrs (normal_values_of normal) x.path) x.brace_token (many field x.fields) (optional_rest x.rest)
 
   abbrev pub tuple : PatTuple X → PatTuple X
   tuple x = tuple_of (attrs x.attrs) x.paren_token (many pat x.elems)
 
   abbrev pub tuple_struct : PatTupleStruct X → PatTupleStruct X
-  tuple_struct x = tuple_struct_of (attrs x.attrs) (ty.optional_qself normal x.qself) (ty.path normal x.path) x.paren_token (many pat x.elems)
+  tuple_struct x = tuple_struct_of (attrs x.attrs) (ty.optional_qself attrs (normal_values_of normal) x.qself) (ty.path attrs (normal_values_of normal) x.path) x.paren_token (many pat x.elems)
 
   abbrev pub typed : PatType X → PatType X
-  typed x = typed_of (attrs x.attrs) (pat x.pat) x.colon_token (ty.ty normal x.ty)
+  typed x = typed_of (attrs x.attrs) (pat x.pat) x.colon_token (ty.ty attrs (normal_values_of normal) x.ty)

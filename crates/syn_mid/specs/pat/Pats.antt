@@ -25,17 +25,20 @@ use Rattle.syn_mid.specs.declared.pat.PatTypeOf.{PatTypeOf}
 use Rattle.syn_mid.specs.declared.pat.PatWild.{PatWild}
 use Rattle.syn_mid.specs.declared.supplied.Expr.{Expr}
 use Rattle.syn_mid.specs.declared.supplied.ExprPathOf.{ExprPathOf}
-use Rattle.syn_mid.specs.ty.Trees.{Attr, Attrs, Path, QSelf, TypeTree}
+use Rattle.syn_mid.specs.ty.Trees.{Attr, Path, QSelf, TypeTree}
 use Rattle.syn_mid.specs.ty.Types.{Comma}
+
+abbrev pub Attrs : Type 0 → Type 0
+Attrs X = List (Attr X)
 
 -- ---- over a supplied subtree
 
 abbrev pub Pat : Type 0 → Type 0
-Pat X = PatOf (Attr X) (Path X) (QSelf X) (TypeTree X) X
+Pat X = PatOf (Attr X) (Path (Attr X) (Expr X)) (QSelf (Attr X) (Expr X)) (TypeTree (Attr X) (Expr X)) X
 
 -- one layer of a pattern, over what stands in the place of the patterns within
 abbrev pub LayerOf : Type 0 → Type 0 → Type 0
-LayerOf X = o.PatOf-F (Attr X) (Path X) (QSelf X) (TypeTree X) X
+LayerOf X = o.PatOf-F (Attr X) (Path (Attr X) (Expr X)) (QSelf (Attr X) (Expr X)) (TypeTree (Attr X) (Expr X)) X
 
 abbrev pub PatGuard : Type 0 → Type 0
 PatGuard X = PatGuardOf (Pat X) (Attr X) X
@@ -50,7 +53,7 @@ abbrev pub PatParen : Type 0 → Type 0
 PatParen X = PatParenOf (Pat X) (Attr X)
 
 abbrev pub PatPath : Type 0 → Type 0
-PatPath X = ExprPathOf (Attr X) (Path X)
+PatPath X = ExprPathOf (Attr X) (Path (Attr X) (Expr X))
 
 abbrev pub PatReference : Type 0 → Type 0
 PatReference X = PatReferenceOf (Pat X) (Attr X)
@@ -62,16 +65,16 @@ abbrev pub PatSlice : Type 0 → Type 0
 PatSlice X = PatSliceOf (Pat X) (Attr X)
 
 abbrev pub PatStruct : Type 0 → Type 0
-PatStruct X = PatStructOf (Pat X) (Attr X) (Path X) (QSelf X)
+PatStruct X = PatStructOf (Pat X) (Attr X) (Path (Attr X) (Expr X)) (QSelf (Attr X) (Expr X))
 
 abbrev pub PatTuple : Type 0 → Type 0
 PatTuple X = PatTupleOf (Pat X) (Attr X)
 
 abbrev pub PatTupleStruct : Type 0 → Type 0
-PatTupleStruct X = PatTupleStructOf (Pat X) (Attr X) (Path X) (QSelf X)
+PatTupleStruct X = PatTupleStructOf (Pat X) (Attr X) (Path (Attr X) (Expr X)) (QSelf (Attr X) (Expr X))
 
 abbrev pub PatType : Type 0 → Type 0
-PatType X = PatTypeOf (Pat X) (Attr X) (TypeTree X)
+PatType X = PatTypeOf (Pat X) (Attr X) (TypeTree (Attr X) (Expr X))
 
 abbrev pub FieldPat : Type 0 → Type 0
 FieldPat X = FieldPatOf (Pat X) (Attr X)
@@ -140,4 +143,4 @@ module _ {X : Type 0} where
 
   -- whether it is `..`
   abbrev pub is_rest : Pat X → Bool
-  is_rest x = is_rest_layer (out-PatOf (Attr X) (Path X) (QSelf X) (TypeTree X) X x)
+  is_rest x = is_rest_layer (out-PatOf (Attr X) (Path (Attr X) (Expr X)) (QSelf (Attr X) (Expr X)) (TypeTree (Attr X) (Expr X)) X x)

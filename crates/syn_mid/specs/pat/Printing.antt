@@ -26,12 +26,12 @@ use Rattle.syn_mid.specs.declared.pat.PatTupleStructOf.{PatTupleStructOf}
 use Rattle.syn_mid.specs.declared.pat.PatTypeOf.{PatTypeOf}
 use Rattle.syn_mid.specs.declared.pat.PatWild.{PatWild}
 use Rattle.syn_mid.specs.attr.Printing.{literal, expr_const, expr_macro, range, outer, at_place}
-use Rattle.syn_mid.specs.generics.Shapes.{optional}
-use Rattle.syn_mid.specs.pat.Pats.{LayerOf, Pat, PatGuard, PatIdent, PatOr, PatParen, PatPath, PatReference, PatRest, PatSlice, PatStruct, PatTuple, PatTupleStruct, PatType, FieldPat, is_rest, is_rest_layer}
+use Rattle.syn_mid.specs.generics.Shapes.{optional, values_of}
+use Rattle.syn_mid.specs.pat.Pats.{Attrs, LayerOf, Pat, PatGuard, PatIdent, PatOr, PatParen, PatPath, PatReference, PatRest, PatSlice, PatStruct, PatTuple, PatTupleStruct, PatType, FieldPat, is_rest, is_rest_layer}
 use Rattle.syn_mid.specs.path.Printing.{path}
 use Rattle.syn_mid.specs.path.Shapes.{expr_style}
 use Rattle.syn_mid.specs.ty.Printing as ty
-use Rattle.syn_mid.specs.ty.Trees.{Attr, Attrs, Path, QSelf, TypeTree}
+use Rattle.syn_mid.specs.ty.Trees.{Attr, Path, QSelf, TypeTree}
 use Rattle.syn_mid.specs.ty.Types.{Comma, comma}
 
 -- whether the first of them is so
@@ -63,7 +63,7 @@ module _ {X : Type 0} (prints : Place → X → Print) where
 
   -- by its path
   abbrev pub by_path : PatPath X → Print
-  by_path x = attrs x.attrs ++ path prints expr_style x.path
+  by_path x = attrs x.attrs ++ path (outer prints) (values_of prints) expr_style x.path
 
   -- the `..` of a struct's pattern
   abbrev pub optional_rest : Option (PatRest X) → Print
@@ -127,18 +127,18 @@ module _ {X : Type 0} (prints : Place → X → Print) where
     abbrev pub fields_by : Many (FieldPatOf P (Attr X)) Comma → Print
     fields_by v = joined field_by p.mark v.0 v.1
 
-    abbrev pub struct_by : PatStructOf P (Attr X) (Path X) (QSelf X) → Print
-    struct_by x = attrs x.attrs ++ (ty.qpath prints expr_style x.qself x.path ++ p.group Brace (stream_of_trees (fields_by x.fields ++ struct_rest x)) x.brace_token.span)
+    abbrev pub struct_by : PatStructOf P (Attr X) (Path (Attr X) (Expr X)) (QSelf (Attr X) (Expr X)) → Print
+    struct_by x = attrs x.attrs ++ (ty.qpath (outer prints) (values_of prints) expr_style x.qself x.path ++ p.group Brace (stream_of_trees (fields_by x.fields ++ struct_rest x)) x.brace_token.span)
 
     -- it is given which patterns are `..`
     abbrev pub tuple_by : (P → Bool) → PatTupleOf P (Attr X) → Print
     tuple_by rest x = attrs x.attrs ++ p.group Parenthesis (stream_of_trees (list_by x.elems ++ tuple_comma rest x.elems.0 x.elems.1)) x.paren_token.span
 
-    abbrev pub tuple_struct_by : PatTupleStructOf P (Attr X) (Path X) (QSelf X) → Print
-    tuple_struct_by x = attrs x.attrs ++ (ty.qpath prints expr_style x.qself x.path ++ p.group Parenthesis (stream_of_trees (list_by x.elems)) x.paren_token.span)
+    abbrev pub tuple_struct_by : PatTupleStructOf P (Attr X) (Path (Attr X) (Expr X)) (QSelf (Attr X) (Expr X)) → Print
+    tuple_struct_by x = attrs x.attrs ++ (ty.qpath (outer prints) (values_of prints) expr_style x.qself x.path ++ p.group Parenthesis (stream_of_trees (list_by x.elems)) x.paren_token.span)
 
-    abbrev pub typed_by : PatTypeOf P (Attr X) (TypeTree X) → Print
-    typed_by x = attrs x.attrs ++ (print x.pat ++ (p.mark x.colon_token ++ ty.ty prints x.ty))
+    abbrev pub typed_by : PatTypeOf P (Attr X) (TypeTree (Attr X) (Expr X)) → Print
+    typed_by x = attrs x.attrs ++ (print x.pat ++ (p.mark x.colon_token ++ ty.ty (outer prints) (values_of prints) x.ty))
 
   -- ---- trees
 
@@ -176,7 +176,7 @@ module _ {X : Type 0} (prints : Place → X → Print) where
   pat_step x = (pat_layer x, is_rest_layer x)
 
   unfoldable pub printed : Pat X → Printed
-  printed = fold-PatOf (Attr X) (Path X) (QSelf X) (TypeTree X) X Printed pat_step
+  printed = fold-PatOf (Attr X) (Path (Attr X) (Expr X)) (QSelf (Attr X) (Expr X)) (TypeTree (Attr X) (Expr X)) X Printed pat_step
 
   unfoldable pub pat : Pat X → Print
   pat x = (printed x).0
