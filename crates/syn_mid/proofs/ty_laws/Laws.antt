@@ -3,7 +3,7 @@ use Rattle.std.specs.Prelude.{IfOk}
 use Rattle.std.proofs.Common.{◌≡◌, Bool, true, false, List, [], None, Result, Ok, Err, subst}
 use Rattle.token_core.specs.Headline.{Grammar, Lawful}
 use Rattle.token_core.specs.Prints.{Print}
-use Rattle.token_core.specs.Reads.{Reader, Reads, leaves}
+use Rattle.token_core.specs.Reads.{Reader, Reads}
 use Rattle.token_core.specs.Rebuilt.{Visible}
 use Rattle.token_core.specs.Refusal.{Refusal}
 use Rattle.token_core.specs.Stream.{Stream}
