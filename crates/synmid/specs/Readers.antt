@@ -11,7 +11,7 @@ use Rattle.token_core.specs.Headline.{Grammar, Answered, whole}
 use Rattle.token_core.specs.Prints.{Print}
 use Rattle.token_core.specs.Spans.{none}
 use Rattle.token_core.specs.Stream.{Stream, started}
-use Rattle.token_core.specs.Reads.{Ends, Refuses}
+use Rattle.token_core.specs.Reads.{Ends, Refuses, Reader as R}
 use Rattle.syn_mid.specs.declared.mac.Macro as mac
 use Rattle.syn_mid.specs.declared.attr.Meta as meta
 use Rattle.syn_mid.specs.declared.attr.MetaList as meta_list
@@ -22,6 +22,14 @@ use Rattle.syn_mid.specs.ty.Trees as ty
 use Rattle.syn_mid.specs.attr.Attrs.{Attribute}
 use Rattle.syn_mid.specs.attr.Grammars as attrs
 use Rattle.syn_mid.specs.attr.Printing as printing
+use Rattle.syn_mid.specs.attr.Normal as normal
+use Rattle.syn_mid.specs.attr.Lengths.{lens, spells_len}
+use Rattle.syn_mid.specs.declared.supplied.Expr.{Expr}
+use Rattle.syn_mid.specs.declared.ty.TypeInferOf as infer
+use Rattle.syn_mid.specs.declared.ty.TypeMacroOf as macro
+use Rattle.syn_mid.specs.declared.ty.TypeNeverOf as never
+use Rattle.syn_mid.specs.generics.NormalShapes.{NormalValues, normal_values_of}
+use Rattle.syn_mid.specs.generics.Shapes.{Values, values_of}
 use Rattle.syn_mid.specs.mac.Grammars as macs
 use Rattle.syn_mid.specs.path.Grammars as paths
 use Rattle.syn_mid.specs.path.Paths as path
@@ -55,6 +63,25 @@ named name =
     else (if bytes_eq name (codes "TypeParamBound") then Some TypeParamBound
     else None))))))))))))))))))))
 
+-- what a type holds of attributes and of expressions, over the sample: the read of a length, what it spells, normal forms and prints
+abbrev pub lengths : R (Expr Sample)
+lengths = lens reads-value.it
+
+abbrev pub spells_lengths : Expr Sample → Toks → Type 0
+spells_lengths = spells_len spells-value.it
+
+abbrev pub normal_attrs : List (Attribute Sample) → List (Attribute Sample)
+normal_attrs = normal.attributes normal-value.it
+
+abbrev pub normal_values : NormalValues (Expr Sample)
+normal_values = normal_values_of normal-value.it
+
+abbrev pub outer_attrs : List (Attribute Sample) → Print
+outer_attrs = printing.outer prints-value.it
+
+abbrev pub values : Values (Expr Sample)
+values = values_of prints-value.it
+
 -- the trees of a reader
 abbrev pub Tree : Reader → Type 0
 Tree Macro = mac.Macro
@@ -64,20 +91,20 @@ Tree MetaList = meta_list.MetaList
 Tree MetaNameValue = name_value.MetaNameValue Sample
 Tree Outer = List (Attribute Sample)
 Tree Inner = List (Attribute Sample)
-Tree AnyType = ty.TypeTree Sample
-Tree WithoutPlus = ty.TypeTree Sample
-Tree TypeArray = ty.TypeArray Sample
-Tree TypeInfer = ty.TypeInfer Sample
-Tree TypeMacro = ty.TypeMacro Sample
-Tree TypeNever = ty.TypeNever Sample
-Tree TypeParen = ty.TypeParen Sample
-Tree TypePath = ty.TypePath Sample
-Tree TypePtr = ty.TypePtr Sample
-Tree TypeReference = ty.TypeReference Sample
-Tree TypeSlice = ty.TypeSlice Sample
-Tree TypeTuple = ty.TypeTuple Sample
+Tree AnyType = ty.TypeTree (ty.Attr Sample) (Expr Sample)
+Tree WithoutPlus = ty.TypeTree (ty.Attr Sample) (Expr Sample)
+Tree TypeArray = ty.TypeArray (ty.Attr Sample) (Expr Sample)
+Tree TypeInfer = infer.TypeInferOf (ty.Attr Sample)
+Tree TypeMacro = macro.TypeMacroOf (ty.Attr Sample)
+Tree TypeNever = never.TypeNeverOf (ty.Attr Sample)
+Tree TypeParen = ty.TypeParen (ty.Attr Sample) (Expr Sample)
+Tree TypePath = ty.TypePath (ty.Attr Sample) (Expr Sample)
+Tree TypePtr = ty.TypePtr (ty.Attr Sample) (Expr Sample)
+Tree TypeReference = ty.TypeReference (ty.Attr Sample) (Expr Sample)
+Tree TypeSlice = ty.TypeSlice (ty.Attr Sample) (Expr Sample)
+Tree TypeTuple = ty.TypeTuple (ty.Attr Sample) (Expr Sample)
 Tree PointerMutability = mutability.PointerMutability
-Tree TypeParamBound = ty.TypeParamBound Sample
+Tree TypeParamBound = ty.TypeParamBound (ty.Attr Sample) (Expr Sample)
 
 abbrev pub grammar : (r : Reader) → Grammar (Tree r)
 grammar Macro = macs.mac
@@ -87,20 +114,20 @@ grammar MetaList = attrs.list
 grammar MetaNameValue = attrs.name_value reads-value.it spells-value.it normal-value.it prints-value.it
 grammar Outer = attrs.outer reads-value.it spells-value.it normal-value.it prints-value.it
 grammar Inner = attrs.inner reads-value.it spells-value.it normal-value.it prints-value.it
-grammar AnyType = types.ty reads-value.it spells-value.it normal-value.it prints-value.it true
-grammar WithoutPlus = types.ty reads-value.it spells-value.it normal-value.it prints-value.it false
-grammar TypeArray = types.array reads-value.it spells-value.it normal-value.it prints-value.it
-grammar TypeInfer = types.infer normal-value.it prints-value.it
-grammar TypeMacro = types.macro_type normal-value.it prints-value.it
-grammar TypeNever = types.never normal-value.it prints-value.it
-grammar TypeParen = types.paren reads-value.it spells-value.it normal-value.it prints-value.it
-grammar TypePath = types.path_type reads-value.it spells-value.it normal-value.it prints-value.it
-grammar TypePtr = types.ptr reads-value.it spells-value.it normal-value.it prints-value.it
-grammar TypeReference = types.reference reads-value.it spells-value.it normal-value.it prints-value.it
-grammar TypeSlice = types.slice reads-value.it spells-value.it normal-value.it prints-value.it
-grammar TypeTuple = types.tuple reads-value.it spells-value.it normal-value.it prints-value.it
+grammar AnyType = types.ty lengths spells_lengths normal_attrs normal_values outer_attrs values true
+grammar WithoutPlus = types.ty lengths spells_lengths normal_attrs normal_values outer_attrs values false
+grammar TypeArray = types.array lengths spells_lengths normal_attrs normal_values outer_attrs values
+grammar TypeInfer = types.infer normal_attrs normal_values
+grammar TypeMacro = types.macro_type normal_attrs normal_values
+grammar TypeNever = types.never normal_attrs normal_values
+grammar TypeParen = types.paren lengths spells_lengths normal_attrs normal_values outer_attrs values
+grammar TypePath = types.path_type lengths spells_lengths normal_attrs normal_values outer_attrs values
+grammar TypePtr = types.ptr lengths spells_lengths normal_attrs normal_values outer_attrs values
+grammar TypeReference = types.reference lengths spells_lengths normal_attrs normal_values outer_attrs values
+grammar TypeSlice = types.slice lengths spells_lengths normal_attrs normal_values outer_attrs values
+grammar TypeTuple = types.tuple lengths spells_lengths normal_attrs normal_values outer_attrs values
 grammar PointerMutability = types.mutability
-grammar TypeParamBound = types.bound reads-value.it spells-value.it normal-value.it prints-value.it
+grammar TypeParamBound = types.bound lengths spells_lengths normal_attrs normal_values outer_attrs values
 
 -- what attributes print, one after the other
 abbrev pub attributes : List (Attribute Sample) → Print
