@@ -29,7 +29,7 @@ ghost use Rattle.syn_mid.specs.generics.Views as views;
 use crate::attr::{Attribute, print_outer, print_value};
 use crate::grammar::parse_bound;
 use crate::path::{PathArgumentsOf, PathOf, PathStyle, print_path};
-use crate::supplied::{Expr, Place, Subtree};
+use crate::supplied::{Attributes, Expr, Place, Subtree, Value};
 use crate::ty::{Type, TypeOf, bound_parts, print_type, print_verbatim};
 use std::alloc::{AllocError, Global};
 use std::marker::PhantomData;
@@ -222,12 +222,12 @@ pub type PredicateType<X> = PredicateTypeOf<Attribute<X>, Expr<X>>;
 
 // ---- calls
 
-impl<X> Generics<X> {
+impl<A, E> GenericsOf<A, E> {
     /// No parameters, and no where clause.
-    pub fn default(alloc: Global) -> Generics<X>
+    pub fn default(alloc: Global) -> GenericsOf<A, E>
         ensures { result ≡ spec.empty }
     {
-        Generics {
+        GenericsOf {
             lt_token: None,
             params: Punctuated::new(alloc),
             gt_token: None,
@@ -236,9 +236,9 @@ impl<X> Generics<X> {
     }
 }
 
-impl<X> BoundLifetimes<X> {
+impl<A, E> BoundLifetimesOf<GenericParamOf<A, E>> {
     /// A binder without parameters, whose marks stand nowhere.
-    pub fn default(alloc: Global) -> BoundLifetimes<X>
+    pub fn default(alloc: Global) -> BoundLifetimesOf<GenericParamOf<A, E>>
         ensures { result ≡ spec.empty_binder }
     {
         BoundLifetimesOf {
@@ -250,12 +250,12 @@ impl<X> BoundLifetimes<X> {
     }
 }
 
-impl<X> TypeParam<X> {
+impl<A, E> TypeParamOf<A, E> {
     /// A type parameter without attributes, bounds and default.
-    pub fn from_ident(alloc: Global, ident: Ident) -> TypeParam<X>
+    pub fn from_ident(alloc: Global, ident: Ident) -> TypeParamOf<A, E>
         ensures { result ≡ spec.type_param_of [] ident None ([], []) None }
     {
-        TypeParam {
+        TypeParamOf {
             attrs: Items::new(alloc),
             ident,
             colon_token: None,
@@ -265,12 +265,12 @@ impl<X> TypeParam<X> {
     }
 }
 
-impl<X> LifetimeParam<X> {
+impl<A> LifetimeParamOf<A> {
     /// A lifetime parameter without attributes and bounds.
-    pub fn new(alloc: Global, lifetime: Lifetime) -> LifetimeParam<X>
+    pub fn new(alloc: Global, lifetime: Lifetime) -> LifetimeParamOf<A>
         ensures { result ≡ spec.lifetime_param_of [] lifetime None ([], []) }
     {
-        LifetimeParam {
+        LifetimeParamOf {
             attrs: Items::new(alloc),
             lifetime,
             colon_token: None,
@@ -289,75 +289,75 @@ impl TraitBoundModifiers {
     }
 }
 
-impl<X> From<LifetimeParam<X>> for GenericParam<X> {
+impl<A, E> From<LifetimeParamOf<A>> for GenericParamOf<A, E> {
     ghost from_gives = { λ param made. made ≡ params.Lifetime param };
 
-    fn from(param: LifetimeParam<X>) -> GenericParam<X> {
-        GenericParam::Lifetime(param)
+    fn from(param: LifetimeParamOf<A>) -> GenericParamOf<A, E> {
+        GenericParamOf::Lifetime(param)
     }
 }
 
-impl<X> From<TypeParam<X>> for GenericParam<X> {
+impl<A, E> From<TypeParamOf<A, E>> for GenericParamOf<A, E> {
     ghost from_gives = { λ param made. made ≡ params.«Type» param };
 
-    fn from(param: TypeParam<X>) -> GenericParam<X> {
-        GenericParam::Type(param)
+    fn from(param: TypeParamOf<A, E>) -> GenericParamOf<A, E> {
+        GenericParamOf::Type(param)
     }
 }
 
-impl<X> From<ConstParam<X>> for GenericParam<X> {
+impl<A, E> From<ConstParamOf<TypeOf<A, E>, A, E>> for GenericParamOf<A, E> {
     ghost from_gives = { λ param made. made ≡ params.Const param };
 
-    fn from(param: ConstParam<X>) -> GenericParam<X> {
-        GenericParam::Const(param)
+    fn from(param: ConstParamOf<TypeOf<A, E>, A, E>) -> GenericParamOf<A, E> {
+        GenericParamOf::Const(param)
     }
 }
 
-impl<X> From<TraitBound<X>> for TypeParamBound<X> {
+impl<A, E> From<TraitBoundOf<A, E>> for TypeParamBoundOf<A, E> {
     ghost from_gives = { λ bound made. made ≡ bounds.Trait bound };
 
-    fn from(bound: TraitBound<X>) -> TypeParamBound<X> {
-        TypeParamBound::Trait(bound)
+    fn from(bound: TraitBoundOf<A, E>) -> TypeParamBoundOf<A, E> {
+        TypeParamBoundOf::Trait(bound)
     }
 }
 
-impl<X> From<Lifetime> for TypeParamBound<X> {
+impl<A, E> From<Lifetime> for TypeParamBoundOf<A, E> {
     ghost from_gives = { λ lifetime made. made ≡ bounds.Lifetime lifetime };
 
-    fn from(lifetime: Lifetime) -> TypeParamBound<X> {
-        TypeParamBound::Lifetime(lifetime)
+    fn from(lifetime: Lifetime) -> TypeParamBoundOf<A, E> {
+        TypeParamBoundOf::Lifetime(lifetime)
     }
 }
 
-impl<X> From<PreciseCapture> for TypeParamBound<X> {
+impl<A, E> From<PreciseCapture> for TypeParamBoundOf<A, E> {
     ghost from_gives = { λ capture made. made ≡ bounds.PreciseCapture capture };
 
-    fn from(capture: PreciseCapture) -> TypeParamBound<X> {
-        TypeParamBound::PreciseCapture(capture)
+    fn from(capture: PreciseCapture) -> TypeParamBoundOf<A, E> {
+        TypeParamBoundOf::PreciseCapture(capture)
     }
 }
 
-impl<X> From<PredicateLifetime<X>> for WherePredicate<X> {
+impl<A, E> From<PredicateLifetimeOf<A>> for WherePredicateOf<A, E> {
     ghost from_gives = { λ predicate made. made ≡ predicates.Lifetime predicate };
 
-    fn from(predicate: PredicateLifetime<X>) -> WherePredicate<X> {
-        WherePredicate::Lifetime(predicate)
+    fn from(predicate: PredicateLifetimeOf<A>) -> WherePredicateOf<A, E> {
+        WherePredicateOf::Lifetime(predicate)
     }
 }
 
-impl<X> From<PredicateType<X>> for WherePredicate<X> {
+impl<A, E> From<PredicateTypeOf<A, E>> for WherePredicateOf<A, E> {
     ghost from_gives = { λ predicate made. made ≡ predicates.«Type» predicate };
 
-    fn from(predicate: PredicateType<X>) -> WherePredicate<X> {
-        WherePredicate::Type(predicate)
+    fn from(predicate: PredicateTypeOf<A, E>) -> WherePredicateOf<A, E> {
+        WherePredicateOf::Type(predicate)
     }
 }
 
 // ---- the parameters of one kind
 
-impl<X> Generics<X> {
+impl<A, E> GenericsOf<A, E> {
     /// The lifetime parameters.
-    pub fn lifetimes(&self) -> Lifetimes<'_, X>
+    pub fn lifetimes(&self) -> Lifetimes<'_, A, E>
         ensures { kinds.lifetimes_left result ≡ spec.only spec.as_lifetime self.now.params.0 }
     {
         let params = self.params.iter();
@@ -365,7 +365,7 @@ impl<X> Generics<X> {
     }
 
     /// The lifetime parameters, for writing.
-    pub fn lifetimes_mut(&mut self) -> LifetimesMut<'_, X>
+    pub fn lifetimes_mut(&mut self) -> LifetimesMut<'_, A, E>
         ensures { kinds.lifetimes_mut_left result ≡ spec.only spec.as_lifetime self.old.params.0 }
     {
         let params = self.params.iter_mut();
@@ -373,7 +373,7 @@ impl<X> Generics<X> {
     }
 
     /// The type parameters.
-    pub fn type_params(&self) -> TypeParams<'_, X>
+    pub fn type_params(&self) -> TypeParams<'_, A, E>
         ensures { kinds.type_params_left result ≡ spec.only spec.as_type self.now.params.0 }
     {
         let params = self.params.iter();
@@ -381,7 +381,7 @@ impl<X> Generics<X> {
     }
 
     /// The type parameters, for writing.
-    pub fn type_params_mut(&mut self) -> TypeParamsMut<'_, X>
+    pub fn type_params_mut(&mut self) -> TypeParamsMut<'_, A, E>
         ensures { kinds.type_params_mut_left result ≡ spec.only spec.as_type self.old.params.0 }
     {
         let params = self.params.iter_mut();
@@ -389,7 +389,7 @@ impl<X> Generics<X> {
     }
 
     /// The const parameters.
-    pub fn const_params(&self) -> ConstParams<'_, X>
+    pub fn const_params(&self) -> ConstParams<'_, A, E>
         ensures { kinds.const_params_left result ≡ spec.only spec.as_const self.now.params.0 }
     {
         let params = self.params.iter();
@@ -397,7 +397,7 @@ impl<X> Generics<X> {
     }
 
     /// The const parameters, for writing.
-    pub fn const_params_mut(&mut self) -> ConstParamsMut<'_, X>
+    pub fn const_params_mut(&mut self) -> ConstParamsMut<'_, A, E>
         ensures { kinds.const_params_mut_left result ≡ spec.only spec.as_const self.old.params.0 }
     {
         let params = self.params.iter_mut();
@@ -407,20 +407,20 @@ impl<X> Generics<X> {
 
 /// The lifetime parameters of generics, in order.
 #[derive(Drop)]
-pub struct Lifetimes<'a, X> {
-    params: Iter<'a, GenericParam<X>, Comma>,
+pub struct Lifetimes<'a, A, E> {
+    params: Iter<'a, GenericParamOf<A, E>, Comma>,
 }
 
-impl<'a, X> Iterator for Lifetimes<'a, X> {
-    type Item = &'a LifetimeParam<X>;
+impl<'a, A, E> Iterator for Lifetimes<'a, A, E> {
+    type Item = &'a LifetimeParamOf<A>;
 
     ghost next_gives = { YieldsFirstRef kinds.lifetimes_left };
 
     ghost remaining = { item_count kinds.lifetimes_left };
 
-    fn next(&mut self) -> Option<&'a LifetimeParam<X>> {
+    fn next(&mut self) -> Option<&'a LifetimeParamOf<A>> {
         while let Some(param) = self.params.next() {
-            if let GenericParam::Lifetime(param) = param {
+            if let GenericParamOf::Lifetime(param) = param {
                 return Some(param);
             }
         }
@@ -430,20 +430,20 @@ impl<'a, X> Iterator for Lifetimes<'a, X> {
 
 /// The lifetime parameters of generics, in order, for writing.
 #[derive(Drop)]
-pub struct LifetimesMut<'a, X> {
-    params: IterMut<'a, GenericParam<X>, Comma>,
+pub struct LifetimesMut<'a, A, E> {
+    params: IterMut<'a, GenericParamOf<A, E>, Comma>,
 }
 
-impl<'a, X> Iterator for LifetimesMut<'a, X> {
-    type Item = &'a mut LifetimeParam<X>;
+impl<'a, A, E> Iterator for LifetimesMut<'a, A, E> {
+    type Item = &'a mut LifetimeParamOf<A>;
 
     ghost next_gives = { YieldsFirstMut kinds.lifetimes_mut_left };
 
     ghost remaining = { item_count kinds.lifetimes_mut_left };
 
-    fn next(&mut self) -> Option<&'a mut LifetimeParam<X>> {
+    fn next(&mut self) -> Option<&'a mut LifetimeParamOf<A>> {
         while let Some(param) = self.params.next() {
-            if let GenericParam::Lifetime(param) = param {
+            if let GenericParamOf::Lifetime(param) = param {
                 return Some(param);
             }
         }
@@ -453,20 +453,20 @@ impl<'a, X> Iterator for LifetimesMut<'a, X> {
 
 /// The type parameters of generics, in order.
 #[derive(Drop)]
-pub struct TypeParams<'a, X> {
-    params: Iter<'a, GenericParam<X>, Comma>,
+pub struct TypeParams<'a, A, E> {
+    params: Iter<'a, GenericParamOf<A, E>, Comma>,
 }
 
-impl<'a, X> Iterator for TypeParams<'a, X> {
-    type Item = &'a TypeParam<X>;
+impl<'a, A, E> Iterator for TypeParams<'a, A, E> {
+    type Item = &'a TypeParamOf<A, E>;
 
     ghost next_gives = { YieldsFirstRef kinds.type_params_left };
 
     ghost remaining = { item_count kinds.type_params_left };
 
-    fn next(&mut self) -> Option<&'a TypeParam<X>> {
+    fn next(&mut self) -> Option<&'a TypeParamOf<A, E>> {
         while let Some(param) = self.params.next() {
-            if let GenericParam::Type(param) = param {
+            if let GenericParamOf::Type(param) = param {
                 return Some(param);
             }
         }
@@ -476,20 +476,20 @@ impl<'a, X> Iterator for TypeParams<'a, X> {
 
 /// The type parameters of generics, in order, for writing.
 #[derive(Drop)]
-pub struct TypeParamsMut<'a, X> {
-    params: IterMut<'a, GenericParam<X>, Comma>,
+pub struct TypeParamsMut<'a, A, E> {
+    params: IterMut<'a, GenericParamOf<A, E>, Comma>,
 }
 
-impl<'a, X> Iterator for TypeParamsMut<'a, X> {
-    type Item = &'a mut TypeParam<X>;
+impl<'a, A, E> Iterator for TypeParamsMut<'a, A, E> {
+    type Item = &'a mut TypeParamOf<A, E>;
 
     ghost next_gives = { YieldsFirstMut kinds.type_params_mut_left };
 
     ghost remaining = { item_count kinds.type_params_mut_left };
 
-    fn next(&mut self) -> Option<&'a mut TypeParam<X>> {
+    fn next(&mut self) -> Option<&'a mut TypeParamOf<A, E>> {
         while let Some(param) = self.params.next() {
-            if let GenericParam::Type(param) = param {
+            if let GenericParamOf::Type(param) = param {
                 return Some(param);
             }
         }
@@ -499,20 +499,20 @@ impl<'a, X> Iterator for TypeParamsMut<'a, X> {
 
 /// The const parameters of generics, in order.
 #[derive(Drop)]
-pub struct ConstParams<'a, X> {
-    params: Iter<'a, GenericParam<X>, Comma>,
+pub struct ConstParams<'a, A, E> {
+    params: Iter<'a, GenericParamOf<A, E>, Comma>,
 }
 
-impl<'a, X> Iterator for ConstParams<'a, X> {
-    type Item = &'a ConstParam<X>;
+impl<'a, A, E> Iterator for ConstParams<'a, A, E> {
+    type Item = &'a ConstParamOf<TypeOf<A, E>, A, E>;
 
     ghost next_gives = { YieldsFirstRef kinds.const_params_left };
 
     ghost remaining = { item_count kinds.const_params_left };
 
-    fn next(&mut self) -> Option<&'a ConstParam<X>> {
+    fn next(&mut self) -> Option<&'a ConstParamOf<TypeOf<A, E>, A, E>> {
         while let Some(param) = self.params.next() {
-            if let GenericParam::Const(param) = param {
+            if let GenericParamOf::Const(param) = param {
                 return Some(param);
             }
         }
@@ -522,20 +522,20 @@ impl<'a, X> Iterator for ConstParams<'a, X> {
 
 /// The const parameters of generics, in order, for writing.
 #[derive(Drop)]
-pub struct ConstParamsMut<'a, X> {
-    params: IterMut<'a, GenericParam<X>, Comma>,
+pub struct ConstParamsMut<'a, A, E> {
+    params: IterMut<'a, GenericParamOf<A, E>, Comma>,
 }
 
-impl<'a, X> Iterator for ConstParamsMut<'a, X> {
-    type Item = &'a mut ConstParam<X>;
+impl<'a, A, E> Iterator for ConstParamsMut<'a, A, E> {
+    type Item = &'a mut ConstParamOf<TypeOf<A, E>, A, E>;
 
     ghost next_gives = { YieldsFirstMut kinds.const_params_mut_left };
 
     ghost remaining = { item_count kinds.const_params_mut_left };
 
-    fn next(&mut self) -> Option<&'a mut ConstParam<X>> {
+    fn next(&mut self) -> Option<&'a mut ConstParamOf<TypeOf<A, E>, A, E>> {
         while let Some(param) = self.params.next() {
-            if let GenericParam::Const(param) = param {
+            if let GenericParamOf::Const(param) = param {
                 return Some(param);
             }
         }
@@ -545,21 +545,21 @@ impl<'a, X> Iterator for ConstParamsMut<'a, X> {
 
 // ---- the where clause
 
-impl<X> WhereClause<X> {
+impl<A, E> WhereClauseOf<A, E> {
     /// A where clause that stands nowhere, without predicates.
-    fn empty(alloc: Global) -> WhereClause<X>
+    fn empty(alloc: Global) -> WhereClauseOf<A, E>
         ensures { result ≡ spec.empty_clause }
     {
-        WhereClause {
+        WhereClauseOf {
             where_token: Where::default(),
             predicates: Punctuated::new(alloc),
         }
     }
 }
 
-impl<X: Drop> Generics<X> {
+impl<A: Drop, E: Drop> GenericsOf<A, E> {
     /// Lends the where clause; where there is none, an empty one is put there first.
-    pub fn make_where_clause(&mut self, alloc: Global) -> &mut WhereClause<X>
+    pub fn make_where_clause(&mut self, alloc: Global) -> &mut WhereClauseOf<A, E>
         ensures* lends { sem 𝓛 (lends_clause X.row self.entry result) }
         ensures clause { result.now ≡ unwrap_or self.old.where_clause spec.empty_clause }
     {
@@ -580,18 +580,18 @@ impl<X: Drop> Generics<X> {
 /// It is refused where neither begins, where one of its parts is refused, where a binder stands beside a `?`
 /// (`BinderWithQuestion`, at the `?`), and where `<` follows the path, since arguments of paths are not read yet. Nor are
 /// `use<..>`, `const` and `[const]`, and parameters of binders other than lifetimes alone. As `syn::TypeParamBound`.
-impl<X: Subtree> Parse for TypeParamBound<X> {
-    ghost reads = { Gives (knot.bound X.reads) };
+impl<A: Attributes, E: Value> Parse for TypeParamBoundOf<A, E> {
+    ghost reads = { Gives (knot.bound E.reads) };
 
-    ghost refuses = { Fails (knot.bound X.reads) };
+    ghost refuses = { Fails (knot.bound E.reads) };
 
-    ghost promise = { Headline (grammars.bound X.reads X.spells X.normal X.prints) };
+    ghost promise = { Headline (grammars.bound E.reads E.spells A.normal E.normal A.shown E.values) };
 
-    fn parse(alloc: Global, input: &mut ParseStream<'_>) -> Result<TypeParamBound<X>, Error>
-        ensures reads { Reads (knot.bound X.reads input.old) result input.new }
+    fn parse(alloc: Global, input: &mut ParseStream<'_>) -> Result<TypeParamBoundOf<A, E>, Error>
+        ensures reads { Reads (knot.bound E.reads input.old) result input.new }
         ensures within { Follows input.old input.new }
-        ensures front { Visible input.old.rest → input.new.left ≡ None → IfOk result (λ x. IsSomeBound X.spells false x input.old.rest input.new.rest) }
-        ensures promise { Heads (grammars.bound X.reads X.spells X.normal X.prints) input.old result input.new }
+        ensures front { Visible input.old.rest → input.new.left ≡ None → IfOk result (λ x. IsSomeBound E.spells false x input.old.rest input.new.rest) }
+        ensures promise { Heads (grammars.bound E.reads E.spells A.normal E.normal A.shown E.values) input.old result input.new }
     {
         parse_bound(alloc, PhantomData, input)
     }
