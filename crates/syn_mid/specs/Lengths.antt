@@ -1,5 +1,5 @@
--- The laws of what types read, spell and print as the length of an array.
-use Rattle.std.specs.Prelude.{◌≡◌, Option, None, Ok}
+-- The laws of what types read, spell and print as the length of an array, and of attributes where there are none.
+use Rattle.std.specs.Prelude.{◌≡◌, List, [], Option, None, Ok}
 use Rattle.token_core.specs.Prints.{Print}
 use Rattle.token_core.specs.Reads.{Reader, leaves}
 use Rattle.token_core.specs.Stream.{Stream}
@@ -15,3 +15,8 @@ pub record LengthLaws {E : Type 0} (lens : Reader E) (spells : E → Toks → Ty
   pub complete : (s : Stream) (x : E) → spells x s.rest → (t : Stream) × (lens s ≡ Ok (x, t)) × UsesUp s t
   -- the print of a length that spells a list spells its normal form, and is the normal form's print
   pub reprint : (x : E) (l : Toks) → spells x l → Reprints spells normal print x l
+
+-- no attributes are their own normal form, and print nothing
+pub record BareLaws {A : Type 0} (normal : List A → List A) (print : List A → Print) : Type 0 where
+  pub stays : normal [] ≡ []
+  pub silent : print [] ≡ []

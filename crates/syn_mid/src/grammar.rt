@@ -221,20 +221,11 @@ pub(crate) fn parse_infer<A>(
     })
 }
 
-/// A type after which, where `+` is allowed, none may stand: it would begin a trait object, which is not read yet.
-#[tactic(auto, unfolding(crate::specs::ty::Reading::ended))]
-fn ended<A: Drop, E: Drop>(
-    alloc: Global,
-    input: &ParseStream<'_>,
-    plus: bool,
-    ty: TypeOf<A, E>,
-) -> Result<TypeOf<A, E>, Error>
-    ensures reads { Reads (reading.ended plus ty input.now) result input.now }
+/// Whether a `+` follows where one is allowed: it would begin a trait object, which is not read yet.
+fn goes_on(input: &ParseStream<'_>, plus: bool) -> bool
+    ensures { result ≡ reading.goes_on plus input.now.rest }
 {
-    if plus & input.peek::<Plus>() {
-        return Err(input.refuse(alloc, ErrorKind::Unexpected));
-    }
-    Ok(ty)
+    plus & input.peek::<Plus>()
 }
 
 /// A macro call in the place of a type.
@@ -276,7 +267,7 @@ pub(crate) fn parse_path_type<A: Attributes, E: Value>(
 }
 
 /// A path, or a macro call by its path.
-#[tactic(auto, using(token_core::proofs::Suffixes::follows), unfolding(crate::specs::ty::Reading::path_or_macro))]
+#[tactic(auto, using(token_core::proofs::Suffixes::follows), unfolding(crate::specs::ty::Reading::path_or_macro, crate::specs::ty::Reading::ended))]
 fn parse_path_or_macro<A: Attributes, E: Value>(
     alloc: Global,
     input: &mut ParseStream<'_>,
@@ -294,7 +285,10 @@ fn parse_path_or_macro<A: Attributes, E: Value>(
             mac,
         }));
     }
-    ended(alloc, input, plus, TypeOf::Path(bare_type(alloc, path)))
+    if goes_on(input, plus) {
+        return Err(input.refuse(alloc, ErrorKind::Unexpected));
+    }
+    Ok(TypeOf::Path(bare_type(alloc, path)))
 }
 
 /// A trait by its path, without parentheses.
@@ -380,6 +374,19 @@ impl<
         (self.typ)(self.alloc, PhantomData, input, plus)
     }
 
+    /// The same on the heap, so that one word is at hand and dropped where what follows is refused.
+    #[tactic(auto, using(token_core::proofs::Suffixes::follows))]
+    fn held(&self, input: &mut ParseStream<'_>, plus: bool) -> Result<Boxed<TypeOf<A, E>>, Error>
+        requires types { Nests (knot.ty E.reads) (length self.now.begin) (F.pre self.now.typ) (F.post self.now.typ) }
+        requires few { ahead input.old < length self.now.begin }
+        ensures reads { Reads (knot.types E.reads (length self.now.begin) plus input.old) result input.new }
+        ensures within { Follows input.old input.new }
+        ensures fewer { ahead input.new ≤ ahead input.old }
+    {
+        let ty = self.nested(input, plus)?;
+        Ok(Boxed::new(self.alloc, ty)?)
+    }
+
     /// A comma, and the elements of a tuple after the first one.
     #[tactic(auto, using(token_core::proofs::Suffixes::follows), unfolding(crate::specs::ty::Reading::more_elements))]
     fn more_elements(
@@ -418,12 +425,12 @@ impl<
     {
         let star_token = parse_star(self.alloc, input)?;
         let mutability = parse_mutability(self.alloc, input)?;
-        let elem = self.nested(input, false)?;
+        let elem = self.held(input, false)?;
         Ok(TypePtrOf {
             attrs: Items::new(self.alloc),
             star_token,
             mutability,
-            elem: Boxed::new(self.alloc, elem)?,
+            elem,
         })
     }
 
@@ -438,18 +445,18 @@ impl<
         let and_token = parse_and(self.alloc, input)?;
         let lifetime = parse_lifetime(self.alloc, input)?;
         let mutability = parse_mut(self.alloc, input)?;
-        let elem = self.nested(input, false)?;
+        let elem = self.held(input, false)?;
         Ok(TypeReferenceOf {
             attrs: Items::new(self.alloc),
             and_token,
             lifetime,
             mutability,
-            elem: Boxed::new(self.alloc, elem)?,
+            elem,
         })
     }
 
     /// A tuple, or a type in parentheses.
-    #[tactic(auto, using(token_core::proofs::Suffixes::follows), unfolding(crate::specs::ty::Reading::paren_or_tuple, crate::specs::ty::Reading::paren_content))]
+    #[tactic(auto, using(token_core::proofs::Suffixes::follows), unfolding(crate::specs::ty::Reading::paren_or_tuple, crate::specs::ty::Reading::paren_content, crate::specs::ty::Reading::ended))]
     fn paren_or_tuple(&self, input: &mut ParseStream<'_>, plus: bool) -> Result<TypeOf<A, E>, Error>
         requires types { Nests (knot.ty E.reads) (length self.now.begin) (F.pre self.now.typ) (F.post self.now.typ) }
         requires few { ahead input.old ≤ length self.now.begin }
@@ -478,16 +485,14 @@ impl<
         }
         input.finish(content);
         let elem = Boxed::new(self.alloc, first)?;
-        ended(
-            self.alloc,
-            input,
-            plus,
-            TypeOf::Paren(TypeParenOf {
-                attrs: Items::new(self.alloc),
-                paren_token,
-                elem,
-            }),
-        )
+        if goes_on(input, plus) {
+            return Err(input.refuse(self.alloc, ErrorKind::Unexpected));
+        }
+        Ok(TypeOf::Paren(TypeParenOf {
+            attrs: Items::new(self.alloc),
+            paren_token,
+            elem,
+        }))
     }
 
     /// A slice, or an array.
@@ -499,14 +504,14 @@ impl<
         ensures within { Follows input.old input.new }
     {
         let (bracket_token, mut content) = open_brackets(self.alloc, input)?;
-        let elem = self.nested(&mut content, true)?;
+        let elem = self.held(&mut content, true)?;
         if content.peek::<Semi>() {
             let (semi_token, len) = parse_length(self.alloc, &mut content)?;
             input.finish(content);
             return Ok(TypeOf::Array(TypeArrayOf {
                 attrs: Items::new(self.alloc),
                 bracket_token,
-                elem: Boxed::new(self.alloc, elem)?,
+                elem,
                 semi_token,
                 len,
             }));
@@ -515,7 +520,7 @@ impl<
         Ok(TypeOf::Slice(TypeSliceOf {
             attrs: Items::new(self.alloc),
             bracket_token,
-            elem: Boxed::new(self.alloc, elem)?,
+            elem,
         }))
     }
 
@@ -837,6 +842,23 @@ fn parse_nested<A: Attributes, E: Value>(
     parse_type(alloc, PhantomData, input, plus)
 }
 
+/// The same on the heap.
+#[tactic(auto, using(token_core::proofs::Suffixes::follows))]
+fn parse_held<A: Attributes, E: Value>(
+    alloc: Global,
+    begin: &Cursor<'_>,
+    input: &mut ParseStream<'_>,
+    plus: bool,
+) -> Result<Boxed<TypeOf<A, E>>, Error>
+    requires few { ahead input.old < length begin.now }
+    ensures reads { Reads (knot.types E.reads (length begin.now) plus input.old) result input.new }
+    ensures within { Follows input.old input.new }
+    ensures fewer { ahead input.new ≤ ahead input.old }
+{
+    let ty = parse_nested(alloc, begin, input, plus)?;
+    Ok(Boxed::new(alloc, ty)?)
+}
+
 #[tactic(auto, using(token_core::proofs::Suffixes::follows), unfolding(crate::specs::ty::Reading::slice))]
 fn parse_slice_from<A: Attributes, E: Value>(
     alloc: Global,
@@ -848,12 +870,12 @@ fn parse_slice_from<A: Attributes, E: Value>(
     ensures within { Follows input.old input.new }
 {
     let (bracket_token, mut content) = open_brackets(alloc, input)?;
-    let elem = parse_nested(alloc, begin, &mut content, true)?;
+    let elem = parse_held(alloc, begin, &mut content, true)?;
     input.finish(content);
     Ok(TypeSliceOf {
         attrs: Items::new(alloc),
         bracket_token,
-        elem: Boxed::new(alloc, elem)?,
+        elem,
     })
 }
 
@@ -868,13 +890,13 @@ fn parse_array_from<A: Attributes, E: Value>(
     ensures within { Follows input.old input.new }
 {
     let (bracket_token, mut content) = open_brackets(alloc, input)?;
-    let elem = parse_nested(alloc, begin, &mut content, true)?;
+    let elem = parse_held(alloc, begin, &mut content, true)?;
     let (semi_token, len) = parse_length(alloc, &mut content)?;
     input.finish(content);
     Ok(TypeArrayOf {
         attrs: Items::new(alloc),
         bracket_token,
-        elem: Boxed::new(alloc, elem)?,
+        elem,
         semi_token,
         len,
     })
@@ -891,12 +913,12 @@ fn parse_paren_from<A: Attributes, E: Value>(
     ensures within { Follows input.old input.new }
 {
     let (paren_token, mut content) = open_parens(alloc, input)?;
-    let elem = parse_nested(alloc, begin, &mut content, false)?;
+    let elem = parse_held(alloc, begin, &mut content, false)?;
     input.finish(content);
     Ok(TypeParenOf {
         attrs: Items::new(alloc),
         paren_token,
-        elem: Boxed::new(alloc, elem)?,
+        elem,
     })
 }
 
@@ -912,12 +934,12 @@ fn parse_ptr_from<A: Attributes, E: Value>(
 {
     let star_token = parse_star(alloc, input)?;
     let mutability = parse_mutability(alloc, input)?;
-    let elem = parse_nested(alloc, begin, input, false)?;
+    let elem = parse_held(alloc, begin, input, false)?;
     Ok(TypePtrOf {
         attrs: Items::new(alloc),
         star_token,
         mutability,
-        elem: Boxed::new(alloc, elem)?,
+        elem,
     })
 }
 
@@ -934,13 +956,13 @@ fn parse_reference_from<A: Attributes, E: Value>(
     let and_token = parse_and(alloc, input)?;
     let lifetime = parse_lifetime(alloc, input)?;
     let mutability = parse_mut(alloc, input)?;
-    let elem = parse_nested(alloc, begin, input, false)?;
+    let elem = parse_held(alloc, begin, input, false)?;
     Ok(TypeReferenceOf {
         attrs: Items::new(alloc),
         and_token,
         lifetime,
         mutability,
-        elem: Boxed::new(alloc, elem)?,
+        elem,
     })
 }
 

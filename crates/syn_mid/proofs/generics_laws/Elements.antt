@@ -7,6 +7,6 @@ use Rattle.syn_mid.specs.ty.Trees.{GenericParam}
 use Rattle.syn_mid.specs.generics.Reading.{comma, sees_gt, params}
 use Rattle.syn_mid.proofs.ty_laws.Elements.{none_yet}
 
-pub begun : {X : Type 0} (param : Reader (GenericParam X)) (s : Stream) → params param s ≡ after ([], []) (terminated sees_gt param comma s)
+pub begun : {A E : Type 0} (param : Reader (GenericParam A E)) (s : Stream) → params param s ≡ after ([], []) (terminated sees_gt param comma s)
 unfolding params
 begun param s = none_yet sees_gt param comma s

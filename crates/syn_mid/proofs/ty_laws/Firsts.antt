@@ -24,7 +24,6 @@ use Rattle.syn_mid.specs.declared.path.PathOf.{PathOf}
 use Rattle.syn_mid.specs.declared.path.PathSegmentOf.{PathSegmentOf}
 use Rattle.syn_mid.specs.declared.ty.PointerMutability.{PointerMutability}
 use Rattle.syn_mid.specs.ty.Trees.{TypeTree}
-use Rattle.syn_mid.specs.Supplied.{Place}
 use Rattle.syn_mid.specs.mac.Spelling.{IsCall, a_macro}
 use Rattle.syn_mid.specs.path.Paths.{Sep}
 use Rattle.syn_mid.specs.path.Spelling.{is_mod_word, is_type_word, IsLeading, no_leading, leading, AreSegments, last_segment, more_segments, IsBarePath, a_bare_path, IsPlainPath}
@@ -106,9 +105,9 @@ module _ (clear : Bool) {A : Type 0} {none : A} where
 
 -- ---- types
 
-module _ {X : Type 0} (spells : Place → X → Toks → Type 0) (clear : Bool) where
-  module _ (T : Bool → Relation (TypeTree X)) where
-    pub type_begins : (plus : Bool) (x : TypeTree X) (l r : Toks) → IsType spells clear T plus x l r → Begins l
+module _ {A E : Type 0} (spells : E → Toks → Type 0) (clear : Bool) where
+  module _ (T : Bool → Relation (TypeTree A E)) where
+    pub type_begins : (plus : Bool) (x : TypeTree A E) (l r : Toks) → IsType spells clear T plus x l r → Begins l
     type_begins plus x l r (s.array (an_array {s = a} {c = c} i j k)) = group_begins Bracket a c r
     type_begins plus x l r (s.infer (an_infer {w = w} i)) = infer_begins w l r i
     type_begins plus x l r (s.macro_call (a_macro {p = p} i h d k) e) = (path_first clear p l _ i e).begins
@@ -181,9 +180,9 @@ module _ (m : Toks → ℕ) (word_adds : (i : Ident) (k : Toks) → m k < m (wor
       let z = group_adds d b c r in
       omega (arith, w, y, z)
 
-  module _ {X : Type 0} (spells : Place → X → Toks → Type 0) where
-    module _ (T : Bool → Relation (TypeTree X)) (t_less : (plus : Bool) (x : TypeTree X) (l r : Toks) → T plus x l r → m r < m l) where
-      pub type_less : (plus : Bool) (x : TypeTree X) (l r : Toks) → IsType spells clear T plus x l r → m r < m l
+  module _ {A E : Type 0} (spells : E → Toks → Type 0) where
+    module _ (T : Bool → Relation (TypeTree A E)) (t_less : (plus : Bool) (x : TypeTree A E) (l r : Toks) → T plus x l r → m r < m l) where
+      pub type_less : (plus : Bool) (x : TypeTree A E) (l r : Toks) → IsType spells clear T plus x l r → m r < m l
       type_less plus x l r (s.array (an_array {s = a} {c = c} i j k)) = group_adds Bracket a c r
       type_less plus x l r (s.infer (an_infer {w = w} i)) = word_less w l r i
       type_less plus x l r (s.macro_call {x = y} i e) = call_less is_type_word y l r i

@@ -28,7 +28,6 @@ use Rattle.syn_mid.specs.declared.ty.PointerMutability.{PointerMutability}
 use Rattle.syn_mid.specs.declared.ty.PointerMutability.TheVariants as m
 use Rattle.syn_mid.specs.declared.ty.TypeOf.TheVariants as v
 use Rattle.syn_mid.specs.ty.Trees.{TypeTree, TypePtr, TypeReference}
-use Rattle.syn_mid.specs.Supplied.{Place}
 use Rattle.syn_mid.specs.mac.Macros.{Held, macro_of}
 use Rattle.syn_mid.specs.mac.Reading.{bang, held, body, call_after}
 use Rattle.syn_mid.specs.path.Paths.{ModPath, nothing, no_arguments, without}
@@ -129,8 +128,8 @@ call_keeps p s t x e =
     let over = stays (macro_of p c.value f.value) x f.rest t f.goes in
     omega (arith, less, le, over)
 
-module _ {X : Type 0} where
-  ended_keeps : (plus : Bool) (x y : TypeTree X) (s t : Stream) → ended plus x s ≡ Ok (y, t) → NoMore s t
+module _ {A E : Type 0} where
+  ended_keeps : (plus : Bool) (x y : TypeTree A E) (s t : Stream) → ended plus x s ≡ Ok (y, t) → NoMore s t
   unfolding ended
   ended_keeps plus x y s t e =
       elim (branch (plus && sees_plus s.rest) _ _ s (Ok (y, t)) e) [
@@ -138,7 +137,7 @@ module _ {X : Type 0} where
         | inr z ↦ stays x y s t z.1
       ]
 
-  path_or_macro_takes : (plus : Bool) (s t : Stream) (x : TypeTree X) → path_or_macro plus s ≡ Ok (x, t) → Less s t
+  path_or_macro_takes : (plus : Bool) (s t : Stream) (x : TypeTree A E) → path_or_macro plus s ≡ Ok (x, t) → Less s t
   unfolding path_or_macro
   path_or_macro_takes plus s t x e =
       let c = chain (plain_path no_arguments s) _ x t e in
@@ -152,8 +151,8 @@ module _ {X : Type 0} where
 
 -- ---- types, over those that they hold
 
-module _ {X : Type 0} (supplied : Place → Reader X) (typ : Bool → Reader (TypeTree X)) (takes : (p : Bool) (s t : Stream) (x : TypeTree X) → typ p s ≡ Ok (x, t) → size t.rest < size s.rest) where
-  ptr_takes : (s t : Stream) (x : TypePtr X) → ptr supplied typ s ≡ Ok (x, t) → Less s t
+module _ {A E : Type 0} (lens : Reader E) (typ : Bool → Reader (TypeTree A E)) (takes : (p : Bool) (s t : Stream) (x : TypeTree A E) → typ p s ≡ Ok (x, t) → size t.rest < size s.rest) where
+  ptr_takes : (s t : Stream) (x : TypePtr A E) → ptr lens typ s ≡ Ok (x, t) → Less s t
   unfolding ptr
   ptr_takes s t x e =
       let c = chain (star s) _ x t e in
@@ -164,7 +163,7 @@ module _ {X : Type 0} (supplied : Place → Reader X) (typ : Bool → Reader (Ty
       let more = takes false f.rest t k.value k.was in
       omega (arith, less, le, more)
 
-  reference_takes : (s t : Stream) (x : TypeReference X) → reference supplied typ s ≡ Ok (x, t) → Less s t
+  reference_takes : (s t : Stream) (x : TypeReference A E) → reference lens typ s ≡ Ok (x, t) → Less s t
   unfolding reference
   reference_takes s t x e =
       let c = chain (and s) _ x t e in
@@ -177,13 +176,13 @@ module _ {X : Type 0} (supplied : Place → Reader X) (typ : Bool → Reader (Ty
       let more = takes false f.rest t k.value k.was in
       omega (arith, less, le, also, more)
 
-  by_mark_takes : (s t : Stream) (x : TypeTree X) → by_mark supplied typ s ≡ Ok (x, t) → Less s t
+  by_mark_takes : (s t : Stream) (x : TypeTree A E) → by_mark lens typ s ≡ Ok (x, t) → Less s t
   unfolding by_mark
   by_mark_takes s t x e =
       elim (branch (sees_star s.rest) _ _ s (Ok (x, t)) e) [
-        | inl y ↦ let k = mapped (ptr supplied typ s) v.Ptr x t y.1 in ptr_takes s t k.value k.was
+        | inl y ↦ let k = mapped (ptr lens typ s) v.Ptr x t y.1 in ptr_takes s t k.value k.was
         | inr y ↦ elim (branch (sees_and s.rest) _ _ s (Ok (x, t)) y.1) [
-          | inl z ↦ let k = mapped (reference supplied typ s) v.Reference x t z.1 in reference_takes s t k.value k.was
+          | inl z ↦ let k = mapped (reference lens typ s) v.Reference x t z.1 in reference_takes s t k.value k.was
           | inr z ↦ elim (branch (sees_bang s.rest) _ _ s (Ok (x, t)) z.1) [
             | inl w ↦ let k = mapped (never s) v.Never x t w.1 in
                 let i = mapped (bang s) never_of k.value t k.was in
@@ -198,25 +197,25 @@ module _ {X : Type 0} (supplied : Place → Reader X) (typ : Bool → Reader (Ty
         ]
       ]
 
-  held_parens_keeps : (plus : Bool) (g : DelimSpan × InParens X) (s t : Stream) (x : TypeTree X) → held_in_parens supplied typ plus g s ≡ Ok (x, t) → NoMore s t
+  held_parens_keeps : (plus : Bool) (g : DelimSpan × InParens A E) (s t : Stream) (x : TypeTree A E) → held_in_parens lens typ plus g s ≡ Ok (x, t) → NoMore s t
   held_parens_keeps plus (a, one y) s t x e = ended_keeps plus (v.Paren (paren_of (groups.paren a) y)) x s t e
   held_parens_keeps plus (a, elements y) s t x e = stays (v.Tuple (tuple_of (groups.paren a) y)) x s t e
 
-  step_takes : (plus : Bool) (s t : Stream) (x : TypeTree X) → type_step supplied typ plus s ≡ Ok (x, t) → Less s t
+  step_takes : (plus : Bool) (s t : Stream) (x : TypeTree A E) → type_step lens typ plus s ≡ Ok (x, t) → Less s t
   unfolding type_step paren_or_tuple slice_or_array
   step_takes plus s t x e =
       elim (branch (groups.sees_invisible s.rest) _ _ s (Ok (x, t)) e) [
         | inl y ↦ cc (y.1)
         | inr y ↦ elim (branch (sees_group d.Parenthesis s.rest) _ _ s (Ok (x, t)) y.1) [
-          | inl z ↦ let c = chain (in_group d.Parenthesis groups.paren_name (paren_content supplied typ) s) (held_in_parens supplied typ plus) x t z.1 in
-              let less = group_takes d.Parenthesis groups.paren_name (paren_content supplied typ) s c.rest c.value c.was in
+          | inl z ↦ let c = chain (in_group d.Parenthesis groups.paren_name (paren_content lens typ) s) (held_in_parens lens typ plus) x t z.1 in
+              let less = group_takes d.Parenthesis groups.paren_name (paren_content lens typ) s c.rest c.value c.was in
               let le = held_parens_keeps plus c.value c.rest t x c.goes in
               omega (arith, less, le)
           | inr z ↦ elim (branch (begins_path s.rest) _ _ s (Ok (x, t)) z.1) [
             | inl w ↦ path_or_macro_takes plus s t x w.1
             | inr w ↦ elim (branch (sees_group d.Bracket s.rest) _ _ s (Ok (x, t)) w.1) [
-              | inl u ↦ let k = mapped (in_group d.Bracket groups.bracket_name (bracket_content supplied typ) s) (held_in_brackets supplied typ) x t u.1 in
-                  group_takes d.Bracket groups.bracket_name (bracket_content supplied typ) s t k.value k.was
+              | inl u ↦ let k = mapped (in_group d.Bracket groups.bracket_name (bracket_content lens typ) s) (held_in_brackets lens typ) x t u.1 in
+                  group_takes d.Bracket groups.bracket_name (bracket_content lens typ) s t k.value k.was
               | inr u ↦ by_mark_takes s t x u.1
             ]
           ]
@@ -225,16 +224,16 @@ module _ {X : Type 0} (supplied : Place → Reader X) (typ : Bool → Reader (Ty
 
 -- ---- at the knot
 
-module _ {X : Type 0} (supplied : Place → Reader X) where
-  at_takes : (n : ℕ) (p : Bool) (s t : Stream) (x : TypeTree X) → read_at supplied n (a_type p) s ≡ Ok (x, t) → size t.rest < size s.rest
+module _ {A E : Type 0} (lens : Reader E) where
+  at_takes : (n : ℕ) (p : Bool) (s t : Stream) (x : TypeTree A E) → read_at A lens n (a_type p) s ≡ Ok (x, t) → size t.rest < size s.rest
   at_takes zero p s t x e = cc
   at_takes (suc n) p s t x e =
-      step_takes supplied (λ q. below (ahead s) (read_at supplied n (a_type q))) (λ q u w y h. at_takes n q u w y (out (ahead s) (read_at supplied n (a_type q)) u w y h).was) p s t x e
+      step_takes lens (λ q. below (ahead s) (read_at A lens n (a_type q))) (λ q u w y h. at_takes n q u w y (out (ahead s) (read_at A lens n (a_type q)) u w y h).was) p s t x e
 
-  pub type_takes : (p : Bool) (s t : Stream) (x : TypeTree X) → ty supplied p s ≡ Ok (x, t) → size t.rest < size s.rest
+  pub type_takes : (p : Bool) (s t : Stream) (x : TypeTree A E) → ty lens p s ≡ Ok (x, t) → size t.rest < size s.rest
   unfolding read
   type_takes p s t x e = at_takes (suc (ahead s)) p s t x e
 
-  pub types_takes : (limit : ℕ) (p : Bool) (s t : Stream) (x : TypeTree X) → types supplied limit p s ≡ Ok (x, t) → size t.rest < size s.rest
+  pub types_takes : (limit : ℕ) (p : Bool) (s t : Stream) (x : TypeTree A E) → types lens limit p s ≡ Ok (x, t) → size t.rest < size s.rest
   unfolding types
-  types_takes limit p s t x e = type_takes p s t x (out limit (ty supplied p) s t x e).was
+  types_takes limit p s t x e = type_takes p s t x (out limit (ty lens p) s t x e).was

@@ -1,5 +1,5 @@
 -- The normal form of parts of generics, by that of what leads back.
-use Rattle.std.specs.Prelude.{List, [], ◌∷◌, Option, Some, None, map}
+use Rattle.std.specs.Prelude.{◌≡◌, List, [], ◌∷◌, Option, Some, None, map}
 use Rattle.token_core.specs.Loops.{Many}
 use Rattle.syn_mid.specs.Supplied.{Place, Block, ArrayLen}
 use Rattle.syn_mid.specs.declared.supplied.Expr.{Expr}
@@ -8,7 +8,7 @@ use Rattle.syn_mid.specs.declared.generics.PreciseCapture.{PreciseCapture}
 use Rattle.syn_mid.specs.attr.Normal as attr
 use Rattle.syn_mid.specs.generics.Members.{sort}
 use Rattle.syn_mid.specs.generics.Params.{Colon, Eq, bound_lifetimes_of, capture_of, lifetime_param_of}
-use Rattle.syn_mid.specs.generics.Shapes.{is_captured_lifetime}
+use Rattle.syn_mid.specs.generics.Shapes.{Values, is_captured_lifetime}
 use Rattle.syn_mid.specs.declared.generics.LifetimeParamOf.{LifetimeParamOf}
 
 -- the colon of a parameter, where a bound is there
@@ -36,6 +36,16 @@ module _ {X : Type 0} (normal : Place → X → X) where
 pub record NormalValues (E : Type 0) : Type 0 where
   pub len : E → E
   pub const_argument : E → E
+
+-- expressions whose normal form is its own
+pub record OwnValues {E : Type 0} (normal : NormalValues E) : Type 0 where
+  pub len : (x : E) → normal.len (normal.len x) ≡ normal.len x
+  pub const_argument : (x : E) → normal.const_argument (normal.const_argument x) ≡ normal.const_argument x
+
+-- expressions whose normal form prints the same
+pub record SameValues {E : Type 0} (normal : NormalValues E) (values : Values E) : Type 0 where
+  pub len : (x : E) → values.len (normal.len x) ≡ values.len x
+  pub const_argument : (x : E) → values.const_argument (normal.const_argument x) ≡ values.const_argument x
 
 -- that of the expressions over a supplied subtree
 abbrev pub normal_values_of : {X : Type 0} → (Place → X → X) → NormalValues (Expr X)
