@@ -1,5 +1,5 @@
 -- The laws of what types read, spell and print as the length of an array, and of attributes where there are none.
-use Rattle.std.specs.Prelude.{◌≡◌, List, [], Option, None, Ok}
+use Rattle.std.specs.Prelude.{◌≡◌, List, [], None, Ok}
 use Rattle.token_core.specs.Prints.{Print}
 use Rattle.token_core.specs.Reads.{Reader, leaves}
 use Rattle.token_core.specs.Stream.{Stream}

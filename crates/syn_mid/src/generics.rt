@@ -13,7 +13,7 @@ ghost use Rattle.token_core.specs.Trees.{trees};
 ghost use Rattle.syn_mid.specs.declared.generics.GenericParamOf.TheVariants as params;
 ghost use Rattle.syn_mid.specs.declared.generics.Style as styles;
 ghost use Rattle.syn_mid.specs.declared.generics.TypeParamBoundOf.TheVariants as bounds;
-ghost use Rattle.syn_mid.specs.declared.generics.WherePredicate.TheVariants as predicates;
+ghost use Rattle.syn_mid.specs.declared.generics.WherePredicateOf.TheVariants as predicates;
 ghost use Rattle.syn_mid.specs.generics.Kinds as kinds;
 ghost use Rattle.syn_mid.specs.generics.Lends.{lends_clause};
 ghost use Rattle.syn_mid.specs.generics.Members as members;

@@ -1,8 +1,7 @@
 -- The print of a type, a bound or a parameter of a binder spells its normal form clearly, by induction on the height.
-use Rattle.std.proofs.Common.{◌≡◌, ℕ, zero, suc, Bool, true, false, List}
+use Rattle.std.proofs.Common.{ℕ, zero, suc, Bool, true, false, List}
 use Rattle.token_core.specs.Prints.{Print}
 use Rattle.token_core.specs.Reads.{Reader}
-use Rattle.token_core.specs.Stream.{Stream}
 use Rattle.token_core.specs.Toks.{Toks}
 use Rattle.syn_mid.specs.ty.Trees.{TypeParamBound, TypeTree, TypeArray, TypeParen, TypePtr, TypeReference, TypeSlice, TypeTuple}
 use Rattle.syn_mid.specs.ty.Knot.{Point, a_type, a_bound, a_param, Tree}

@@ -1,5 +1,5 @@
 -- The print of a type spells its normal form clearly, where that of the types within does.
-use Rattle.std.proofs.Common.{◌≡◌, ℕ, Bool, true, false, List, [], ◌∷◌, ◌++◌, map, Option, None, Ok, refl, sym, ◌∙◌, ap, subst, append-nil}
+use Rattle.std.proofs.Common.{◌≡◌, ℕ, Bool, true, false, List, [], ◌∷◌, ◌++◌, map, Option, None, refl, sym, ◌∙◌, ap, subst, append-nil}
 use Rattle.token_core.specs.declared.lifetime.Lifetime.{Lifetime}
 use Rattle.token_core.specs.declared.mark.Mark.{Mark}
 use Rattle.token_core.specs.declared.tree.Delimiter.TheVariants.{Parenthesis, Bracket}
@@ -15,7 +15,7 @@ use Rattle.token_core.specs.Reads.{Reader}
 use Rattle.token_core.specs.Rebuilt.{Visible}
 use Rattle.token_core.specs.Spellings.{IsMark, IsWord, IsLifetime}
 use Rattle.token_core.specs.Spans.{none as no_span}
-use Rattle.token_core.specs.Stream.{Stream, started}
+use Rattle.token_core.specs.Stream.{started}
 use Rattle.token_core.specs.Toks.{Bytes, Toks, done, group}
 use Rattle.token_core.specs.Trees.{row, toks, stream_of_trees}
 use Rattle.token_core.proofs.MarkSpells.{mark_again, mark_visible, mark_whole}

@@ -1,5 +1,5 @@
 -- The lengths of arrays over a supplied subtree, which are its trees, and the attributes over it: they meet the laws of lengths and of no attributes.
-use Rattle.std.specs.Prelude.{◌≡◌, Option, None, Ok, Err, refl}
+use Rattle.std.specs.Prelude.{◌≡◌, None, Ok, Err, refl}
 use Rattle.std.proofs.Common.{sym, ◌∙◌, ap, subst}
 use Rattle.token_core.specs.Prints.{Print}
 use Rattle.token_core.specs.Reads.{Outcome, Reader, ◌<$>◌, and_then, pure, leaves}
