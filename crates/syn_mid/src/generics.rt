@@ -560,7 +560,7 @@ impl<A, E> WhereClauseOf<A, E> {
 impl<A: Drop, E: Drop> GenericsOf<A, E> {
     /// Lends the where clause; where there is none, an empty one is put there first.
     pub fn make_where_clause(&mut self, alloc: Global) -> &mut WhereClauseOf<A, E>
-        ensures* lends { sem 𝓛 (lends_clause X.row self.entry result) }
+        ensures* lends { sem 𝓛 (lends_clause A.row E.row self.entry result) }
         ensures clause { result.now ≡ unwrap_or self.old.where_clause spec.empty_clause }
     {
         self.where_clause.get_or_insert(WhereClause::empty(alloc))

@@ -159,10 +159,7 @@ fn parse_question(alloc: Global, input: &mut ParseStream<'_>) -> Result<Option<Q
 
 /// `;` and the length of an array.
 #[tactic(auto, using(token_core::proofs::Suffixes::follows), unfolding(crate::specs::ty::Reading::length))]
-fn parse_length<E: Value>(
-    alloc: Global,
-    input: &mut ParseStream<'_>,
-) -> Result<(Semi, E), Error>
+fn parse_length<E: Value>(alloc: Global, input: &mut ParseStream<'_>) -> Result<(Semi, E), Error>
     ensures reads { Reads (reading.length E.reads input.old) result input.new }
     ensures within { Follows input.old input.new }
 {
@@ -357,9 +354,14 @@ pub(crate) struct Grammar<'a, A, E, F, G, H> {
 
 impl<
     'a,
-    A: Attributes, E: Value,
+    A: Attributes,
+    E: Value,
     F: Fn(Global, PhantomData<(A, E)>, &mut ParseStream<'_>, bool) -> Result<TypeOf<A, E>, Error>,
-    G: Fn(Global, PhantomData<(A, E)>, &mut ParseStream<'_>) -> Result<TypeParamBoundOf<A, E>, Error>,
+    G: Fn(
+        Global,
+        PhantomData<(A, E)>,
+        &mut ParseStream<'_>,
+    ) -> Result<TypeParamBoundOf<A, E>, Error>,
     H: Fn(Global, PhantomData<(A, E)>, &mut ParseStream<'_>) -> Result<GenericParamOf<A, E>, Error>,
 > Grammar<'a, A, E, F, G, H> {
     /// A type that another one holds.
@@ -417,7 +419,10 @@ impl<
 
     /// `*const T`, `*mut T`
     #[tactic(auto, using(token_core::proofs::Suffixes::follows), unfolding(crate::specs::ty::Reading::ptr))]
-    pub(crate) fn ptr(&self, input: &mut ParseStream<'_>) -> Result<TypePtrOf<TypeOf<A, E>, A>, Error>
+    pub(crate) fn ptr(
+        &self,
+        input: &mut ParseStream<'_>,
+    ) -> Result<TypePtrOf<TypeOf<A, E>, A>, Error>
         requires types { Nests (knot.ty E.reads) (length self.now.begin) (F.pre self.now.typ) (F.post self.now.typ) }
         requires few { ahead input.old ≤ length self.now.begin }
         ensures reads { Reads (reading.ptr E.reads (knot.types E.reads (length self.now.begin)) input.old) result input.new }
@@ -436,7 +441,10 @@ impl<
 
     /// `&'a mut T`
     #[tactic(auto, using(token_core::proofs::Suffixes::follows), unfolding(crate::specs::ty::Reading::reference))]
-    pub(crate) fn reference(&self, input: &mut ParseStream<'_>) -> Result<TypeReferenceOf<TypeOf<A, E>, A>, Error>
+    pub(crate) fn reference(
+        &self,
+        input: &mut ParseStream<'_>,
+    ) -> Result<TypeReferenceOf<TypeOf<A, E>, A>, Error>
         requires types { Nests (knot.ty E.reads) (length self.now.begin) (F.pre self.now.typ) (F.post self.now.typ) }
         requires few { ahead input.old ≤ length self.now.begin }
         ensures reads { Reads (reading.reference E.reads (knot.types E.reads (length self.now.begin)) input.old) result input.new }
@@ -611,7 +619,10 @@ impl<
 
     /// `for<'a, 'b>`
     #[tactic(auto, using(token_core::proofs::Suffixes::follows), unfolding(crate::specs::generics::Reading::binder))]
-    fn binder(&self, input: &mut ParseStream<'_>) -> Result<BoundLifetimesOf<GenericParamOf<A, E>>, Error>
+    fn binder(
+        &self,
+        input: &mut ParseStream<'_>,
+    ) -> Result<BoundLifetimesOf<GenericParamOf<A, E>>, Error>
         requires params { NestsAlone (knot.param E.reads) (length self.now.begin) (H.pre self.now.param) (H.post self.now.param) }
         requires few { ahead input.old ≤ length self.now.begin }
         ensures reads { Reads (bounds.binder (knot.params E.reads (length self.now.begin)) input.old) result input.new }

@@ -336,7 +336,10 @@ impl<A: Attributes, E: Value> Parse for TypeSliceOf<TypeOf<A, E>, A> {
 
     ghost promise = { Headline (grammars.slice E.reads E.spells A.normal E.normal A.shown E.values) };
 
-    fn parse(alloc: Global, input: &mut ParseStream<'_>) -> Result<TypeSliceOf<TypeOf<A, E>, A>, Error>
+    fn parse(
+        alloc: Global,
+        input: &mut ParseStream<'_>,
+    ) -> Result<TypeSliceOf<TypeOf<A, E>, A>, Error>
         ensures reads { Reads (knot.slice E.reads input.old) result input.new }
         ensures within { Follows input.old input.new }
         ensures front { Visible input.old.rest → input.new.left ≡ Option.None → IfOk result (λ x. IsSomeSlice E.spells false x input.old.rest input.new.rest) }
@@ -354,7 +357,10 @@ impl<A: Attributes, E: Value> Parse for TypeArrayOf<TypeOf<A, E>, A, E> {
 
     ghost promise = { Headline (grammars.array E.reads E.spells A.normal E.normal A.shown E.values) };
 
-    fn parse(alloc: Global, input: &mut ParseStream<'_>) -> Result<TypeArrayOf<TypeOf<A, E>, A, E>, Error>
+    fn parse(
+        alloc: Global,
+        input: &mut ParseStream<'_>,
+    ) -> Result<TypeArrayOf<TypeOf<A, E>, A, E>, Error>
         ensures reads { Reads (knot.array E.reads input.old) result input.new }
         ensures within { Follows input.old input.new }
         ensures front { Visible input.old.rest → input.new.left ≡ Option.None → IfOk result (λ x. IsSomeArray E.spells false x input.old.rest input.new.rest) }
@@ -372,7 +378,10 @@ impl<A: Attributes, E: Value> Parse for TypePtrOf<TypeOf<A, E>, A> {
 
     ghost promise = { Headline (grammars.ptr E.reads E.spells A.normal E.normal A.shown E.values) };
 
-    fn parse(alloc: Global, input: &mut ParseStream<'_>) -> Result<TypePtrOf<TypeOf<A, E>, A>, Error>
+    fn parse(
+        alloc: Global,
+        input: &mut ParseStream<'_>,
+    ) -> Result<TypePtrOf<TypeOf<A, E>, A>, Error>
         ensures reads { Reads (knot.ptr E.reads input.old) result input.new }
         ensures within { Follows input.old input.new }
         ensures front { Visible input.old.rest → input.new.left ≡ Option.None → IfOk result (λ x. IsSomePtr E.spells false x input.old.rest input.new.rest) }
@@ -390,7 +399,10 @@ impl<A: Attributes, E: Value> Parse for TypeReferenceOf<TypeOf<A, E>, A> {
 
     ghost promise = { Headline (grammars.reference E.reads E.spells A.normal E.normal A.shown E.values) };
 
-    fn parse(alloc: Global, input: &mut ParseStream<'_>) -> Result<TypeReferenceOf<TypeOf<A, E>, A>, Error>
+    fn parse(
+        alloc: Global,
+        input: &mut ParseStream<'_>,
+    ) -> Result<TypeReferenceOf<TypeOf<A, E>, A>, Error>
         ensures reads { Reads (knot.reference E.reads input.old) result input.new }
         ensures within { Follows input.old input.new }
         ensures front { Visible input.old.rest → input.new.left ≡ Option.None → IfOk result (λ x. IsSomeReference E.spells false x input.old.rest input.new.rest) }
@@ -408,7 +420,10 @@ impl<A: Attributes, E: Value> Parse for TypeTupleOf<TypeOf<A, E>, A> {
 
     ghost promise = { Headline (grammars.tuple E.reads E.spells A.normal E.normal A.shown E.values) };
 
-    fn parse(alloc: Global, input: &mut ParseStream<'_>) -> Result<TypeTupleOf<TypeOf<A, E>, A>, Error>
+    fn parse(
+        alloc: Global,
+        input: &mut ParseStream<'_>,
+    ) -> Result<TypeTupleOf<TypeOf<A, E>, A>, Error>
         ensures reads { Reads (knot.tuple E.reads input.old) result input.new }
         ensures within { Follows input.old input.new }
         ensures front { Visible input.old.rest → input.new.left ≡ Option.None → IfOk result (λ x. IsSomeTuple E.spells false x input.old.rest input.new.rest) }
@@ -426,7 +441,10 @@ impl<A: Attributes, E: Value> Parse for TypeParenOf<TypeOf<A, E>, A> {
 
     ghost promise = { Headline (grammars.paren E.reads E.spells A.normal E.normal A.shown E.values) };
 
-    fn parse(alloc: Global, input: &mut ParseStream<'_>) -> Result<TypeParenOf<TypeOf<A, E>, A>, Error>
+    fn parse(
+        alloc: Global,
+        input: &mut ParseStream<'_>,
+    ) -> Result<TypeParenOf<TypeOf<A, E>, A>, Error>
         ensures reads { Reads (knot.paren E.reads input.old) result input.new }
         ensures within { Follows input.old input.new }
         ensures front { Visible input.old.rest → input.new.left ≡ Option.None → IfOk result (λ x. IsSomeParen E.spells false x input.old.rest input.new.rest) }

@@ -12,20 +12,20 @@ use Rattle.syn_mid.specs.ty.Trees.{TypeParam, ConstParam}
 use Rattle.syn_mid.specs.declared.generics.LifetimeParamOf.{LifetimeParamOf}
 
 module _ {A E : Type 0} where
-  abbrev pub lifetimes_left : Lifetimes X → List (LifetimeParamOf A)
+  abbrev pub lifetimes_left : Lifetimes A E → List (LifetimeParamOf A)
   lifetimes_left s = only as_lifetime s.params
 
-  abbrev pub lifetimes_mut_left : LifetimesMut X → List (LifetimeParamOf A)
+  abbrev pub lifetimes_mut_left : LifetimesMut A E → List (LifetimeParamOf A)
   lifetimes_mut_left s = only as_lifetime (values_left s.params)
 
-  abbrev pub type_params_left : TypeParams X → List (TypeParam A E)
+  abbrev pub type_params_left : TypeParams A E → List (TypeParam A E)
   type_params_left s = only as_type s.params
 
-  abbrev pub type_params_mut_left : TypeParamsMut X → List (TypeParam A E)
+  abbrev pub type_params_mut_left : TypeParamsMut A E → List (TypeParam A E)
   type_params_mut_left s = only as_type (values_left s.params)
 
-  abbrev pub const_params_left : ConstParams X → List (ConstParam A E)
+  abbrev pub const_params_left : ConstParams A E → List (ConstParam A E)
   const_params_left s = only as_const s.params
 
-  abbrev pub const_params_mut_left : ConstParamsMut X → List (ConstParam A E)
+  abbrev pub const_params_mut_left : ConstParamsMut A E → List (ConstParam A E)
   const_params_mut_left s = only as_const (values_left s.params)
