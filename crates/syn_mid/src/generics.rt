@@ -29,7 +29,7 @@ ghost use Rattle.syn_mid.specs.generics.Views as views;
 use crate::attr::{Attribute, print_outer, print_value};
 use crate::grammar::parse_bound;
 use crate::path::{PathArgumentsOf, PathOf, PathStyle, print_path};
-use crate::supplied::{Expr, Place, Subtree};
+use crate::supplied::{Attributes, Expr, Place, Subtree, Value};
 use crate::ty::{Type, TypeOf, bound_parts, print_type, print_verbatim};
 use std::alloc::{AllocError, Global};
 use std::marker::PhantomData;
@@ -580,18 +580,18 @@ impl<A: Drop, E: Drop> GenericsOf<A, E> {
 /// It is refused where neither begins, where one of its parts is refused, where a binder stands beside a `?`
 /// (`BinderWithQuestion`, at the `?`), and where `<` follows the path, since arguments of paths are not read yet. Nor are
 /// `use<..>`, `const` and `[const]`, and parameters of binders other than lifetimes alone. As `syn::TypeParamBound`.
-impl<X: Subtree> Parse for TypeParamBound<X> {
-    ghost reads = { Gives (knot.bound X.reads) };
+impl<A: Attributes, E: Value> Parse for TypeParamBoundOf<A, E> {
+    ghost reads = { Gives (knot.bound E.reads) };
 
-    ghost refuses = { Fails (knot.bound X.reads) };
+    ghost refuses = { Fails (knot.bound E.reads) };
 
-    ghost promise = { Headline (grammars.bound X.reads X.spells X.normal X.prints) };
+    ghost promise = { Headline (grammars.bound E.reads E.spells A.normal E.normal A.shown E.values) };
 
-    fn parse(alloc: Global, input: &mut ParseStream<'_>) -> Result<TypeParamBound<X>, Error>
-        ensures reads { Reads (knot.bound X.reads input.old) result input.new }
+    fn parse(alloc: Global, input: &mut ParseStream<'_>) -> Result<TypeParamBoundOf<A, E>, Error>
+        ensures reads { Reads (knot.bound E.reads input.old) result input.new }
         ensures within { Follows input.old input.new }
-        ensures front { Visible input.old.rest → input.new.left ≡ None → IfOk result (λ x. IsSomeBound X.spells false x input.old.rest input.new.rest) }
-        ensures promise { Heads (grammars.bound X.reads X.spells X.normal X.prints) input.old result input.new }
+        ensures front { Visible input.old.rest → input.new.left ≡ None → IfOk result (λ x. IsSomeBound E.spells false x input.old.rest input.new.rest) }
+        ensures promise { Heads (grammars.bound E.reads E.spells A.normal E.normal A.shown E.values) input.old result input.new }
     {
         parse_bound(alloc, PhantomData, input)
     }

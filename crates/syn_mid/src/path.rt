@@ -23,7 +23,7 @@ use crate::attr::Attribute;
 use crate::generics::{
     Member, TypeParamBoundOf, print_added_comma, print_bound, print_const_argument,
 };
-use crate::supplied::{Expr, Subtree};
+use crate::supplied::{Attributes, Expr, Subtree, Value};
 use crate::ty::{
     NamedArg, NamedArgOf, ReturnTypeOf, Type, TypeOf, bound_parts, print_arg_name, print_type,
 };
@@ -238,17 +238,17 @@ impl<A, E> PathArgumentsOf<A, E> {
     }
 }
 
-impl<X: Subtree> Arguments for PathArguments<X> {
+impl<A: Attributes, E: Value> Arguments for PathArgumentsOf<A, E> {
     ghost absent = { spec.no_arguments };
 
     ghost is_absent = { spec.is_none };
 
-    ghost shown = { types.arguments X.prints shapes.as_written };
+    ghost shown = { types.arguments A.shown E.values shapes.as_written };
 
-    ghost silent = { silent X.prints };
+    ghost silent = { silent A.shown E.values };
 
-    fn none() -> PathArguments<X> {
-        PathArguments::None
+    fn none() -> PathArgumentsOf<A, E> {
+        PathArgumentsOf::None
     }
 
     fn are_none(&self) -> bool {

@@ -29,7 +29,7 @@ use crate::mac::Macro;
 use crate::path::{
     Path, PathArgumentsOf, PathOf, PathStyle, QSelf, QSelfOf, print_path, print_qualified,
 };
-use crate::supplied::{Expr, Place, Subtree};
+use crate::supplied::{Attributes, Expr, Place, Subtree, Value};
 use std::alloc::{AllocError, Global};
 use std::marker::PhantomData;
 use token_core::token::{
@@ -296,13 +296,13 @@ pub type ReturnType<X> = ReturnTypeOf<Type<X>>;
 
 // ---- readers
 
-impl<X: Subtree> Type<X> {
+impl<A: Attributes, E: Value> TypeOf<A, E> {
     /// Reads a type where no `+` may follow it, as what a pointer or a reference points to (`Type::without_plus`).
-    pub fn without_plus(alloc: Global, input: &mut ParseStream<'_>) -> Result<Type<X>, Error>
-        ensures reads { Reads (knot.ty X.reads false input.old) result input.new }
+    pub fn without_plus(alloc: Global, input: &mut ParseStream<'_>) -> Result<TypeOf<A, E>, Error>
+        ensures reads { Reads (knot.ty E.reads false input.old) result input.new }
         ensures within { Follows input.old input.new }
-        ensures front { Visible input.old.rest → input.new.left ≡ Option.None → IfOk result (λ x. IsSomeType X.spells false false x input.old.rest input.new.rest) }
-        ensures headline { Heads (grammars.ty X.reads X.spells X.normal X.prints false) input.old result input.new }
+        ensures front { Visible input.old.rest → input.new.left ≡ Option.None → IfOk result (λ x. IsSomeType E.spells false false x input.old.rest input.new.rest) }
+        ensures headline { Heads (grammars.ty E.reads E.spells A.normal E.normal A.shown E.values false) input.old result input.new }
     {
         parse_type(alloc, PhantomData, input, false)
     }
@@ -311,180 +311,198 @@ impl<X: Subtree> Type<X> {
 /// Reads a type: a path, a macro call, a tuple, a type in parentheses, a slice, an array, a pointer, a reference, `!` or `_`.
 /// It is refused where none begins, where one of its parts is refused, and where what follows would go on with it in a
 /// form that is not read yet: `<` after a path, and `+` after a path or parentheses.
-impl<X: Subtree> Parse for Type<X> {
-    ghost reads = { Gives (knot.ty X.reads true) };
+impl<A: Attributes, E: Value> Parse for TypeOf<A, E> {
+    ghost reads = { Gives (knot.ty E.reads true) };
 
-    ghost refuses = { Fails (knot.ty X.reads true) };
+    ghost refuses = { Fails (knot.ty E.reads true) };
 
-    ghost promise = { Headline (grammars.ty X.reads X.spells X.normal X.prints true) };
+    ghost promise = { Headline (grammars.ty E.reads E.spells A.normal E.normal A.shown E.values true) };
 
-    fn parse(alloc: Global, input: &mut ParseStream<'_>) -> Result<Type<X>, Error>
-        ensures reads { Reads (knot.ty X.reads true input.old) result input.new }
+    fn parse(alloc: Global, input: &mut ParseStream<'_>) -> Result<TypeOf<A, E>, Error>
+        ensures reads { Reads (knot.ty E.reads true input.old) result input.new }
         ensures within { Follows input.old input.new }
-        ensures front { Visible input.old.rest → input.new.left ≡ Option.None → IfOk result (λ x. IsSomeType X.spells false true x input.old.rest input.new.rest) }
-        ensures promise { Heads (grammars.ty X.reads X.spells X.normal X.prints true) input.old result input.new }
+        ensures front { Visible input.old.rest → input.new.left ≡ Option.None → IfOk result (λ x. IsSomeType E.spells false true x input.old.rest input.new.rest) }
+        ensures promise { Heads (grammars.ty E.reads E.spells A.normal E.normal A.shown E.values true) input.old result input.new }
     {
         parse_type(alloc, PhantomData, input, true)
     }
 }
 
 /// Reads a slice: a type in brackets.
-impl<X: Subtree> Parse for TypeSlice<X> {
-    ghost reads = { Gives (knot.slice X.reads) };
+impl<A: Attributes, E: Value> Parse for TypeSliceOf<TypeOf<A, E>, A> {
+    ghost reads = { Gives (knot.slice E.reads) };
 
-    ghost refuses = { Fails (knot.slice X.reads) };
+    ghost refuses = { Fails (knot.slice E.reads) };
 
-    ghost promise = { Headline (grammars.slice X.reads X.spells X.normal X.prints) };
+    ghost promise = { Headline (grammars.slice E.reads E.spells A.normal E.normal A.shown E.values) };
 
-    fn parse(alloc: Global, input: &mut ParseStream<'_>) -> Result<TypeSlice<X>, Error>
-        ensures reads { Reads (knot.slice X.reads input.old) result input.new }
+    fn parse(
+        alloc: Global,
+        input: &mut ParseStream<'_>,
+    ) -> Result<TypeSliceOf<TypeOf<A, E>, A>, Error>
+        ensures reads { Reads (knot.slice E.reads input.old) result input.new }
         ensures within { Follows input.old input.new }
-        ensures front { Visible input.old.rest → input.new.left ≡ Option.None → IfOk result (λ x. IsSomeSlice X.spells false x input.old.rest input.new.rest) }
-        ensures promise { Heads (grammars.slice X.reads X.spells X.normal X.prints) input.old result input.new }
+        ensures front { Visible input.old.rest → input.new.left ≡ Option.None → IfOk result (λ x. IsSomeSlice E.spells false x input.old.rest input.new.rest) }
+        ensures promise { Heads (grammars.slice E.reads E.spells A.normal E.normal A.shown E.values) input.old result input.new }
     {
         parse_slice(alloc, input)
     }
 }
 
 /// Reads an array: in brackets a type, `;`, and a length, which the supplied subtree reads.
-impl<X: Subtree> Parse for TypeArray<X> {
-    ghost reads = { Gives (knot.array X.reads) };
+impl<A: Attributes, E: Value> Parse for TypeArrayOf<TypeOf<A, E>, A, E> {
+    ghost reads = { Gives (knot.array E.reads) };
 
-    ghost refuses = { Fails (knot.array X.reads) };
+    ghost refuses = { Fails (knot.array E.reads) };
 
-    ghost promise = { Headline (grammars.array X.reads X.spells X.normal X.prints) };
+    ghost promise = { Headline (grammars.array E.reads E.spells A.normal E.normal A.shown E.values) };
 
-    fn parse(alloc: Global, input: &mut ParseStream<'_>) -> Result<TypeArray<X>, Error>
-        ensures reads { Reads (knot.array X.reads input.old) result input.new }
+    fn parse(
+        alloc: Global,
+        input: &mut ParseStream<'_>,
+    ) -> Result<TypeArrayOf<TypeOf<A, E>, A, E>, Error>
+        ensures reads { Reads (knot.array E.reads input.old) result input.new }
         ensures within { Follows input.old input.new }
-        ensures front { Visible input.old.rest → input.new.left ≡ Option.None → IfOk result (λ x. IsSomeArray X.spells false x input.old.rest input.new.rest) }
-        ensures promise { Heads (grammars.array X.reads X.spells X.normal X.prints) input.old result input.new }
+        ensures front { Visible input.old.rest → input.new.left ≡ Option.None → IfOk result (λ x. IsSomeArray E.spells false x input.old.rest input.new.rest) }
+        ensures promise { Heads (grammars.array E.reads E.spells A.normal E.normal A.shown E.values) input.old result input.new }
     {
         parse_array(alloc, input)
     }
 }
 
 /// Reads a raw pointer: `*`, `const` or `mut`, and a type without plus.
-impl<X: Subtree> Parse for TypePtr<X> {
-    ghost reads = { Gives (knot.ptr X.reads) };
+impl<A: Attributes, E: Value> Parse for TypePtrOf<TypeOf<A, E>, A> {
+    ghost reads = { Gives (knot.ptr E.reads) };
 
-    ghost refuses = { Fails (knot.ptr X.reads) };
+    ghost refuses = { Fails (knot.ptr E.reads) };
 
-    ghost promise = { Headline (grammars.ptr X.reads X.spells X.normal X.prints) };
+    ghost promise = { Headline (grammars.ptr E.reads E.spells A.normal E.normal A.shown E.values) };
 
-    fn parse(alloc: Global, input: &mut ParseStream<'_>) -> Result<TypePtr<X>, Error>
-        ensures reads { Reads (knot.ptr X.reads input.old) result input.new }
+    fn parse(
+        alloc: Global,
+        input: &mut ParseStream<'_>,
+    ) -> Result<TypePtrOf<TypeOf<A, E>, A>, Error>
+        ensures reads { Reads (knot.ptr E.reads input.old) result input.new }
         ensures within { Follows input.old input.new }
-        ensures front { Visible input.old.rest → input.new.left ≡ Option.None → IfOk result (λ x. IsSomePtr X.spells false x input.old.rest input.new.rest) }
-        ensures promise { Heads (grammars.ptr X.reads X.spells X.normal X.prints) input.old result input.new }
+        ensures front { Visible input.old.rest → input.new.left ≡ Option.None → IfOk result (λ x. IsSomePtr E.spells false x input.old.rest input.new.rest) }
+        ensures promise { Heads (grammars.ptr E.reads E.spells A.normal E.normal A.shown E.values) input.old result input.new }
     {
         parse_ptr(alloc, input)
     }
 }
 
 /// Reads a reference: `&`, an optional lifetime, an optional `mut`, and a type without plus.
-impl<X: Subtree> Parse for TypeReference<X> {
-    ghost reads = { Gives (knot.reference X.reads) };
+impl<A: Attributes, E: Value> Parse for TypeReferenceOf<TypeOf<A, E>, A> {
+    ghost reads = { Gives (knot.reference E.reads) };
 
-    ghost refuses = { Fails (knot.reference X.reads) };
+    ghost refuses = { Fails (knot.reference E.reads) };
 
-    ghost promise = { Headline (grammars.reference X.reads X.spells X.normal X.prints) };
+    ghost promise = { Headline (grammars.reference E.reads E.spells A.normal E.normal A.shown E.values) };
 
-    fn parse(alloc: Global, input: &mut ParseStream<'_>) -> Result<TypeReference<X>, Error>
-        ensures reads { Reads (knot.reference X.reads input.old) result input.new }
+    fn parse(
+        alloc: Global,
+        input: &mut ParseStream<'_>,
+    ) -> Result<TypeReferenceOf<TypeOf<A, E>, A>, Error>
+        ensures reads { Reads (knot.reference E.reads input.old) result input.new }
         ensures within { Follows input.old input.new }
-        ensures front { Visible input.old.rest → input.new.left ≡ Option.None → IfOk result (λ x. IsSomeReference X.spells false x input.old.rest input.new.rest) }
-        ensures promise { Heads (grammars.reference X.reads X.spells X.normal X.prints) input.old result input.new }
+        ensures front { Visible input.old.rest → input.new.left ≡ Option.None → IfOk result (λ x. IsSomeReference E.spells false x input.old.rest input.new.rest) }
+        ensures promise { Heads (grammars.reference E.reads E.spells A.normal E.normal A.shown E.values) input.old result input.new }
     {
         parse_reference(alloc, input)
     }
 }
 
 /// Reads a tuple: in parentheses nothing, or types joined by commas, of which one follows the first.
-impl<X: Subtree> Parse for TypeTuple<X> {
-    ghost reads = { Gives (knot.tuple X.reads) };
+impl<A: Attributes, E: Value> Parse for TypeTupleOf<TypeOf<A, E>, A> {
+    ghost reads = { Gives (knot.tuple E.reads) };
 
-    ghost refuses = { Fails (knot.tuple X.reads) };
+    ghost refuses = { Fails (knot.tuple E.reads) };
 
-    ghost promise = { Headline (grammars.tuple X.reads X.spells X.normal X.prints) };
+    ghost promise = { Headline (grammars.tuple E.reads E.spells A.normal E.normal A.shown E.values) };
 
-    fn parse(alloc: Global, input: &mut ParseStream<'_>) -> Result<TypeTuple<X>, Error>
-        ensures reads { Reads (knot.tuple X.reads input.old) result input.new }
+    fn parse(
+        alloc: Global,
+        input: &mut ParseStream<'_>,
+    ) -> Result<TypeTupleOf<TypeOf<A, E>, A>, Error>
+        ensures reads { Reads (knot.tuple E.reads input.old) result input.new }
         ensures within { Follows input.old input.new }
-        ensures front { Visible input.old.rest → input.new.left ≡ Option.None → IfOk result (λ x. IsSomeTuple X.spells false x input.old.rest input.new.rest) }
-        ensures promise { Heads (grammars.tuple X.reads X.spells X.normal X.prints) input.old result input.new }
+        ensures front { Visible input.old.rest → input.new.left ≡ Option.None → IfOk result (λ x. IsSomeTuple E.spells false x input.old.rest input.new.rest) }
+        ensures promise { Heads (grammars.tuple E.reads E.spells A.normal E.normal A.shown E.values) input.old result input.new }
     {
         parse_tuple(alloc, input)
     }
 }
 
 /// Reads a type in parentheses; it is read without plus.
-impl<X: Subtree> Parse for TypeParen<X> {
-    ghost reads = { Gives (knot.paren X.reads) };
+impl<A: Attributes, E: Value> Parse for TypeParenOf<TypeOf<A, E>, A> {
+    ghost reads = { Gives (knot.paren E.reads) };
 
-    ghost refuses = { Fails (knot.paren X.reads) };
+    ghost refuses = { Fails (knot.paren E.reads) };
 
-    ghost promise = { Headline (grammars.paren X.reads X.spells X.normal X.prints) };
+    ghost promise = { Headline (grammars.paren E.reads E.spells A.normal E.normal A.shown E.values) };
 
-    fn parse(alloc: Global, input: &mut ParseStream<'_>) -> Result<TypeParen<X>, Error>
-        ensures reads { Reads (knot.paren X.reads input.old) result input.new }
+    fn parse(
+        alloc: Global,
+        input: &mut ParseStream<'_>,
+    ) -> Result<TypeParenOf<TypeOf<A, E>, A>, Error>
+        ensures reads { Reads (knot.paren E.reads input.old) result input.new }
         ensures within { Follows input.old input.new }
-        ensures front { Visible input.old.rest → input.new.left ≡ Option.None → IfOk result (λ x. IsSomeParen X.spells false x input.old.rest input.new.rest) }
-        ensures promise { Heads (grammars.paren X.reads X.spells X.normal X.prints) input.old result input.new }
+        ensures front { Visible input.old.rest → input.new.left ≡ Option.None → IfOk result (λ x. IsSomeParen E.spells false x input.old.rest input.new.rest) }
+        ensures promise { Heads (grammars.paren E.reads E.spells A.normal E.normal A.shown E.values) input.old result input.new }
     {
         parse_paren(alloc, input)
     }
 }
 
 /// Reads `!`.
-impl<X: Subtree> Parse for TypeNever<X> {
-    ghost reads = { Gives (reading.never {X = X}) };
+impl<A: Attributes> Parse for TypeNeverOf<A> {
+    ghost reads = { Gives (reading.never {A = A}) };
 
-    ghost refuses = { Fails (reading.never {X = X}) };
+    ghost refuses = { Fails (reading.never {A = A}) };
 
-    ghost promise = { Headline (grammars.never X.normal X.prints) };
+    ghost promise = { Headline (grammars.never A.normal) };
 
-    fn parse(alloc: Global, input: &mut ParseStream<'_>) -> Result<TypeNever<X>, Error>
+    fn parse(alloc: Global, input: &mut ParseStream<'_>) -> Result<TypeNeverOf<A>, Error>
         ensures reads { Reads (reading.never input.old) result input.new }
         ensures within { Follows input.old input.new }
         ensures front { Visible input.old.rest → IfOk result (λ x. IsNever false x input.old.rest input.new.rest) }
-        ensures promise { Heads (grammars.never X.normal X.prints) input.old result input.new }
+        ensures promise { Heads (grammars.never A.normal) input.old result input.new }
     {
         parse_never(alloc, input)
     }
 }
 
 /// Reads `_`.
-impl<X: Subtree> Parse for TypeInfer<X> {
-    ghost reads = { Gives (reading.infer {X = X}) };
+impl<A: Attributes> Parse for TypeInferOf<A> {
+    ghost reads = { Gives (reading.infer {A = A}) };
 
-    ghost refuses = { Fails (reading.infer {X = X}) };
+    ghost refuses = { Fails (reading.infer {A = A}) };
 
-    ghost promise = { Headline (grammars.infer X.normal X.prints) };
+    ghost promise = { Headline (grammars.infer A.normal) };
 
-    fn parse(alloc: Global, input: &mut ParseStream<'_>) -> Result<TypeInfer<X>, Error>
+    fn parse(alloc: Global, input: &mut ParseStream<'_>) -> Result<TypeInferOf<A>, Error>
         ensures reads { Reads (reading.infer input.old) result input.new }
         ensures within { Follows input.old input.new }
         ensures front { Visible input.old.rest → IfOk result (λ x. IsInfer x input.old.rest input.new.rest) }
-        ensures promise { Heads (grammars.infer X.normal X.prints) input.old result input.new }
+        ensures promise { Heads (grammars.infer A.normal) input.old result input.new }
     {
         parse_infer(alloc, input)
     }
 }
 
 /// Reads a macro call, as `Macro` does.
-impl<X: Subtree> Parse for TypeMacro<X> {
-    ghost reads = { Gives (reading.macro_type {X = X}) };
+impl<A: Attributes> Parse for TypeMacroOf<A> {
+    ghost reads = { Gives (reading.macro_type {A = A}) };
 
-    ghost refuses = { Fails (reading.macro_type {X = X}) };
+    ghost refuses = { Fails (reading.macro_type {A = A}) };
 
-    ghost promise = { Headline (grammars.macro_type X.normal X.prints) };
+    ghost promise = { Headline (grammars.macro_type A.normal) };
 
-    fn parse(alloc: Global, input: &mut ParseStream<'_>) -> Result<TypeMacro<X>, Error>
+    fn parse(alloc: Global, input: &mut ParseStream<'_>) -> Result<TypeMacroOf<A>, Error>
         ensures reads { Reads (reading.macro_type input.old) result input.new }
         ensures within { Follows input.old input.new }
         ensures front { Visible input.old.rest → IfOk result (λ x. IsMacroType false x input.old.rest input.new.rest) }
-        ensures promise { Heads (grammars.macro_type X.normal X.prints) input.old result input.new }
+        ensures promise { Heads (grammars.macro_type A.normal) input.old result input.new }
     {
         parse_macro_type(alloc, input)
     }
@@ -492,18 +510,18 @@ impl<X: Subtree> Parse for TypeMacro<X> {
 
 /// Reads a path without arguments: an optional `::`, and identifiers, `super`, `self`, `Self`, `crate` or `try` joined by `::`.
 /// A `<` after it is refused: arguments are not read yet.
-impl<X: Subtree> Parse for TypePath<X> {
-    ghost reads = { Gives (reading.path_type {X = X}) };
+impl<A: Attributes, E: Value> Parse for TypePathOf<A, E> {
+    ghost reads = { Gives (reading.path_type {A = A} {E = E}) };
 
-    ghost refuses = { Fails (reading.path_type {X = X}) };
+    ghost refuses = { Fails (reading.path_type {A = A} {E = E}) };
 
-    ghost promise = { Headline (grammars.path_type X.reads X.spells X.normal X.prints) };
+    ghost promise = { Headline (grammars.path_type E.reads E.spells A.normal E.normal A.shown E.values) };
 
-    fn parse(alloc: Global, input: &mut ParseStream<'_>) -> Result<TypePath<X>, Error>
+    fn parse(alloc: Global, input: &mut ParseStream<'_>) -> Result<TypePathOf<A, E>, Error>
         ensures reads { Reads (reading.path_type input.old) result input.new }
         ensures within { Follows input.old input.new }
         ensures front { Visible input.old.rest → IfOk result (λ x. IsPathType false x input.old.rest input.new.rest) }
-        ensures promise { Heads (grammars.path_type X.reads X.spells X.normal X.prints) input.old result input.new }
+        ensures promise { Heads (grammars.path_type E.reads E.spells A.normal E.normal A.shown E.values) input.old result input.new }
     {
         parse_path_type(alloc, input)
     }
@@ -529,115 +547,115 @@ impl Parse for PointerMutability {
 
 // ---- a form as a type
 
-impl<X> From<TypeArray<X>> for Type<X> {
+impl<A, E> From<TypeArrayOf<TypeOf<A, E>, A, E>> for TypeOf<A, E> {
     ghost from_gives = { λ form ty. ty ≡ types.Array form };
 
-    fn from(form: TypeArray<X>) -> Type<X> {
-        Type::Array(form)
+    fn from(form: TypeArrayOf<TypeOf<A, E>, A, E>) -> TypeOf<A, E> {
+        TypeOf::Array(form)
     }
 }
 
-impl<X> From<TypeFnPtr<X>> for Type<X> {
+impl<A, E> From<TypeFnPtrOf<A, E>> for TypeOf<A, E> {
     ghost from_gives = { λ form ty. ty ≡ types.FnPtr form };
 
-    fn from(form: TypeFnPtr<X>) -> Type<X> {
-        Type::FnPtr(form)
+    fn from(form: TypeFnPtrOf<A, E>) -> TypeOf<A, E> {
+        TypeOf::FnPtr(form)
     }
 }
 
-impl<X> From<TypeGroup<X>> for Type<X> {
+impl<A, E> From<TypeGroupOf<TypeOf<A, E>, A>> for TypeOf<A, E> {
     ghost from_gives = { λ form ty. ty ≡ types.Group form };
 
-    fn from(form: TypeGroup<X>) -> Type<X> {
-        Type::Group(form)
+    fn from(form: TypeGroupOf<TypeOf<A, E>, A>) -> TypeOf<A, E> {
+        TypeOf::Group(form)
     }
 }
 
-impl<X> From<TypeImplTrait<X>> for Type<X> {
+impl<A, E> From<TypeImplTraitOf<TypeParamBoundOf<A, E>, A>> for TypeOf<A, E> {
     ghost from_gives = { λ form ty. ty ≡ types.ImplTrait form };
 
-    fn from(form: TypeImplTrait<X>) -> Type<X> {
-        Type::ImplTrait(form)
+    fn from(form: TypeImplTraitOf<TypeParamBoundOf<A, E>, A>) -> TypeOf<A, E> {
+        TypeOf::ImplTrait(form)
     }
 }
 
-impl<X> From<TypeInfer<X>> for Type<X> {
+impl<A, E> From<TypeInferOf<A>> for TypeOf<A, E> {
     ghost from_gives = { λ form ty. ty ≡ types.Infer form };
 
-    fn from(form: TypeInfer<X>) -> Type<X> {
-        Type::Infer(form)
+    fn from(form: TypeInferOf<A>) -> TypeOf<A, E> {
+        TypeOf::Infer(form)
     }
 }
 
-impl<X> From<TypeMacro<X>> for Type<X> {
+impl<A, E> From<TypeMacroOf<A>> for TypeOf<A, E> {
     ghost from_gives = { λ form ty. ty ≡ types.Macro form };
 
-    fn from(form: TypeMacro<X>) -> Type<X> {
-        Type::Macro(form)
+    fn from(form: TypeMacroOf<A>) -> TypeOf<A, E> {
+        TypeOf::Macro(form)
     }
 }
 
-impl<X> From<TypeNever<X>> for Type<X> {
+impl<A, E> From<TypeNeverOf<A>> for TypeOf<A, E> {
     ghost from_gives = { λ form ty. ty ≡ types.Never form };
 
-    fn from(form: TypeNever<X>) -> Type<X> {
-        Type::Never(form)
+    fn from(form: TypeNeverOf<A>) -> TypeOf<A, E> {
+        TypeOf::Never(form)
     }
 }
 
-impl<X> From<TypeParen<X>> for Type<X> {
+impl<A, E> From<TypeParenOf<TypeOf<A, E>, A>> for TypeOf<A, E> {
     ghost from_gives = { λ form ty. ty ≡ types.Paren form };
 
-    fn from(form: TypeParen<X>) -> Type<X> {
-        Type::Paren(form)
+    fn from(form: TypeParenOf<TypeOf<A, E>, A>) -> TypeOf<A, E> {
+        TypeOf::Paren(form)
     }
 }
 
-impl<X> From<TypePath<X>> for Type<X> {
+impl<A, E> From<TypePathOf<A, E>> for TypeOf<A, E> {
     ghost from_gives = { λ form ty. ty ≡ types.Path form };
 
-    fn from(form: TypePath<X>) -> Type<X> {
-        Type::Path(form)
+    fn from(form: TypePathOf<A, E>) -> TypeOf<A, E> {
+        TypeOf::Path(form)
     }
 }
 
-impl<X> From<TypePtr<X>> for Type<X> {
+impl<A, E> From<TypePtrOf<TypeOf<A, E>, A>> for TypeOf<A, E> {
     ghost from_gives = { λ form ty. ty ≡ types.Ptr form };
 
-    fn from(form: TypePtr<X>) -> Type<X> {
-        Type::Ptr(form)
+    fn from(form: TypePtrOf<TypeOf<A, E>, A>) -> TypeOf<A, E> {
+        TypeOf::Ptr(form)
     }
 }
 
-impl<X> From<TypeReference<X>> for Type<X> {
+impl<A, E> From<TypeReferenceOf<TypeOf<A, E>, A>> for TypeOf<A, E> {
     ghost from_gives = { λ form ty. ty ≡ types.Reference form };
 
-    fn from(form: TypeReference<X>) -> Type<X> {
-        Type::Reference(form)
+    fn from(form: TypeReferenceOf<TypeOf<A, E>, A>) -> TypeOf<A, E> {
+        TypeOf::Reference(form)
     }
 }
 
-impl<X> From<TypeSlice<X>> for Type<X> {
+impl<A, E> From<TypeSliceOf<TypeOf<A, E>, A>> for TypeOf<A, E> {
     ghost from_gives = { λ form ty. ty ≡ types.Slice form };
 
-    fn from(form: TypeSlice<X>) -> Type<X> {
-        Type::Slice(form)
+    fn from(form: TypeSliceOf<TypeOf<A, E>, A>) -> TypeOf<A, E> {
+        TypeOf::Slice(form)
     }
 }
 
-impl<X> From<TypeTraitObject<X>> for Type<X> {
+impl<A, E> From<TypeTraitObjectOf<TypeParamBoundOf<A, E>, A>> for TypeOf<A, E> {
     ghost from_gives = { λ form ty. ty ≡ types.TraitObject form };
 
-    fn from(form: TypeTraitObject<X>) -> Type<X> {
-        Type::TraitObject(form)
+    fn from(form: TypeTraitObjectOf<TypeParamBoundOf<A, E>, A>) -> TypeOf<A, E> {
+        TypeOf::TraitObject(form)
     }
 }
 
-impl<X> From<TypeTuple<X>> for Type<X> {
+impl<A, E> From<TypeTupleOf<TypeOf<A, E>, A>> for TypeOf<A, E> {
     ghost from_gives = { λ form ty. ty ≡ types.Tuple form };
 
-    fn from(form: TypeTuple<X>) -> Type<X> {
-        Type::Tuple(form)
+    fn from(form: TypeTupleOf<TypeOf<A, E>, A>) -> TypeOf<A, E> {
+        TypeOf::Tuple(form)
     }
 }
 

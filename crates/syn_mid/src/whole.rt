@@ -12,8 +12,8 @@ ghost use Rattle.syn_mid.specs.ty.Knot as knot;
 
 use crate::attr::Attribute;
 use crate::path::{Arguments, PathOf};
-use crate::supplied::Subtree;
-use crate::ty::Type;
+use crate::supplied::{Attributes, Subtree, Value};
+use crate::ty::TypeOf;
 use std::alloc::Global;
 use std::marker::PhantomData;
 use token_core::{Error, Items, ParseStream, Parser};
@@ -118,30 +118,30 @@ impl<X: Subtree> Parser for ParseInner<X> {
 
 /// `Type::without_plus` as a parser.
 #[derive(Drop)]
-pub struct WithoutPlus<X> {
-    pub of: PhantomData<X>,
+pub struct WithoutPlus<A, E> {
+    pub of: PhantomData<(A, E)>,
 }
 
-impl<X> WithoutPlus<X> {
-    pub fn new() -> WithoutPlus<X>
+impl<A, E> WithoutPlus<A, E> {
+    pub fn new() -> WithoutPlus<A, E>
         ensures { result ≡ record { of = record {} } }
     {
         WithoutPlus { of: PhantomData }
     }
 }
 
-impl<X: Subtree> Parser for WithoutPlus<X> {
-    type Output = Type<X>;
+impl<A: Attributes, E: Value> Parser for WithoutPlus<A, E> {
+    type Output = TypeOf<A, E>;
 
     ghost can_parse = { λ _. Unit {0} };
 
-    ghost reads = { λ _. Gives (knot.ty X.reads false) };
+    ghost reads = { λ _. Gives (knot.ty E.reads false) };
 
-    ghost refuses = { λ _. Fails (knot.ty X.reads false) };
+    ghost refuses = { λ _. Fails (knot.ty E.reads false) };
 
-    ghost promise = { λ _. Headline (types.ty X.reads X.spells X.normal X.prints false) };
+    ghost promise = { λ _. Headline (types.ty E.reads E.spells A.normal E.normal A.shown E.values false) };
 
-    fn parse(self, alloc: Global, input: &mut ParseStream<'_>) -> Result<Type<X>, Error> {
-        Type::without_plus(alloc, input)
+    fn parse(self, alloc: Global, input: &mut ParseStream<'_>) -> Result<TypeOf<A, E>, Error> {
+        TypeOf::without_plus(alloc, input)
     }
 }

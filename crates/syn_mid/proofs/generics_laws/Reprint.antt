@@ -91,7 +91,6 @@ module _ {A E : Type 0} (P Q : Relation (GenericParam A E)) (np : GenericParam A
       let k = binder_front y l r i in
       record { spelt = λ h. present (k.spelt h); visible = λ h u w. k.visible h u w; seen = λ u. k.seen u; stays = ap (λ (z : Binder). Some z) k.stays; same = k.same }
 
-
 -- ---- a bound
 
 module _ {A E : Type 0} (na : List A → List A) (ne : NormalValues E) (pa : List A → Print) (pe : Values E) (P Q : Relation (GenericParam A E))

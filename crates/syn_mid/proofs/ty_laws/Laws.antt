@@ -69,14 +69,18 @@ mutability_lawful = lawful_by (λ clear. IsMutability) (λ (z : PointerMutabilit
 pub mutability_front : (s t : Stream) (q : Result (PointerMutability) Refusal) → Reads (reading.mutability s) q t → Visible s.rest → IfOk q (λ x. IsMutability x s.rest t.rest)
 mutability_front = taken_front {Is = IsMutability} reading.mutability sound_parts.mutability_sound
 
-pub infer_lawful : {A E : Type 0} (na : List A → List A) (ne : NormalValues E) → na [] ≡ [] → Lawful (grammars.infer na ne)
-infer_lawful na ne none = lawful_by (λ clear. IsInfer) (normal.infer na ne) printing.infer reading.infer (λ s t a v e. plainly {Is = IsInfer} sound_parts.visible_infer s t a v (sound_parts.infer_sound s t a v e)) (λ s a h. complete_parts.infer_complete a s.rest done s.left s.last s.scope h) (reprint_parts.infer_again na ne none)
+-- the normal form of types that hold no expression asks for none
+abbrev no_values : NormalValues (Unit {0})
+no_values = record { len = λ x. x; const_argument = λ x. x }
+
+pub infer_lawful : {A : Type 0} (na : List A → List A) → na [] ≡ [] → Lawful (grammars.infer na)
+infer_lawful na none = lawful_by (λ clear. IsInfer) (normal.infer na no_values) printing.infer reading.infer (λ s t a v e. plainly {Is = IsInfer} sound_parts.visible_infer s t a v (sound_parts.infer_sound s t a v e)) (λ s a h. complete_parts.infer_complete a s.rest done s.left s.last s.scope h) (reprint_parts.infer_again na no_values none)
 
 pub infer_front : {A : Type 0} (s t : Stream) (q : Result (TypeInferOf A) Refusal) → Reads (reading.infer s) q t → Visible s.rest → IfOk q (λ x. IsInfer x s.rest t.rest)
 infer_front = taken_front {Is = IsInfer} reading.infer sound_parts.infer_sound
 
-pub never_lawful : {A E : Type 0} (na : List A → List A) (ne : NormalValues E) → na [] ≡ [] → Lawful (grammars.never na ne)
-never_lawful na ne none = lawful_by (λ clear. IsNever clear) (normal.never na ne) printing.never reading.never (λ s t a v e. plainly {Is = IsNever false} sound_parts.visible_never s t a v (sound_parts.never_sound s t a v e)) (λ s a h. complete_parts.never_complete a s.rest done s.left s.last s.scope h) (reprint_parts.never_again na ne none)
+pub never_lawful : {A : Type 0} (na : List A → List A) → na [] ≡ [] → Lawful (grammars.never na)
+never_lawful na none = lawful_by (λ clear. IsNever clear) (normal.never na no_values) printing.never reading.never (λ s t a v e. plainly {Is = IsNever false} sound_parts.visible_never s t a v (sound_parts.never_sound s t a v e)) (λ s a h. complete_parts.never_complete a s.rest done s.left s.last s.scope h) (reprint_parts.never_again na no_values none)
 
 pub never_front : {A : Type 0} (s t : Stream) (q : Result (TypeNeverOf A) Refusal) → Reads (reading.never s) q t → Visible s.rest → IfOk q (λ x. IsNever false x s.rest t.rest)
 never_front = taken_front {Is = IsNever false} reading.never sound_parts.never_sound
@@ -84,10 +88,10 @@ never_front = taken_front {Is = IsNever false} reading.never sound_parts.never_s
 pub macro_type_front : {A : Type 0} (s t : Stream) (q : Result (TypeMacroOf A) Refusal) → Reads (reading.macro_type s) q t → Visible s.rest → IfOk q (λ x. IsMacroType false x s.rest t.rest)
 macro_type_front = taken_front {Is = IsMacroType false} reading.macro_type sound_parts.macro_type_sound
 
-module _ {A E : Type 0} where
-  pub macro_type_lawful : (na : List A → List A) (ne : NormalValues E) → na [] ≡ [] → Lawful (grammars.macro_type na ne)
-  macro_type_lawful na ne none = lawful_by (λ clear. IsMacroType clear) (normal.macro_type na ne) printing.macro_type reading.macro_type (λ s t a v e. plainly {Is = IsMacroType false} sound_parts.visible_macro_type s t a v (sound_parts.macro_type_sound s t a v e)) (λ s a h. complete_parts.macro_type_complete a s.rest done s.left s.last s.scope h) (reprint_parts.macro_type_again na ne none)
+pub macro_type_lawful : {A : Type 0} (na : List A → List A) → na [] ≡ [] → Lawful (grammars.macro_type na)
+macro_type_lawful na none = lawful_by (λ clear. IsMacroType clear) (normal.macro_type na no_values) printing.macro_type reading.macro_type (λ s t a v e. plainly {Is = IsMacroType false} sound_parts.visible_macro_type s t a v (sound_parts.macro_type_sound s t a v e)) (λ s a h. complete_parts.macro_type_complete a s.rest done s.left s.last s.scope h) (reprint_parts.macro_type_again na no_values none)
 
+module _ {A E : Type 0} where
   pub path_type_lawful : (lens : Reader E) (spells : E → Toks → Type 0) (na : List A → List A) (ne : NormalValues E) (pa : List A → Print) (pe : Values E) → na [] ≡ [] → Lawful (grammars.path_type lens spells na ne pa pe)
   path_type_lawful lens spells na ne pa pe none = lawful_by (λ clear. IsPathType clear) (normal.path_type na ne) (printing.path_type pa pe) reading.path_type (λ s t a v e. plainly {Is = IsPathType false} sound_parts.visible_path_type s t a v (sound_parts.path_type_sound s t a v e)) (λ s a h. complete_parts.path_type_complete a s.rest done s.left s.last s.scope h (ends_done false).sep (ends_done false).angle) (reprint_parts.path_type_again na ne pa pe none)
 

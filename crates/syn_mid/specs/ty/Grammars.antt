@@ -15,6 +15,7 @@ use Rattle.syn_mid.specs.ty.Knot as knot
 use Rattle.syn_mid.specs.ty.Normal as normal
 use Rattle.syn_mid.specs.ty.Printing as printing
 use Rattle.syn_mid.specs.ty.Reading as reading
+use Rattle.syn_mid.specs.ty.Types.{infer_with, macro_type_with, never_with}
 use Rattle.syn_mid.specs.ty.Heights.{IsSomeBound, IsSomeType, IsSomeArray, IsSomeParen, IsSomePtr, IsSomeReference, IsSomeSlice, IsSomeTuple}
 use Rattle.syn_mid.specs.ty.Spelling.{IsMutability, IsInfer, IsNever, IsMacroType, IsPathType}
 
@@ -22,15 +23,15 @@ use Rattle.syn_mid.specs.ty.Spelling.{IsMutability, IsInfer, IsNever, IsMacroTyp
 abbrev pub mutability : Grammar PointerMutability
 mutability = record { spells = λ clear x l. IsMutability x l done; normal = λ x. x; print = printing.pointer; plain = λ x. Unit {0}; reader = reading.mutability }
 
-module _ {A E : Type 0} (na : List A → List A) (ne : NormalValues E) where
+module _ {A : Type 0} (na : List A → List A) where
   abbrev pub infer : Grammar (TypeInferOf A)
-  infer = record { spells = λ clear x l. IsInfer x l done; normal = normal.infer na ne; print = printing.infer; plain = λ x. Unit {0}; reader = reading.infer }
+  infer = record { spells = λ clear x l. IsInfer x l done; normal = λ x. infer_with (na x.attrs) x.underscore_token; print = printing.infer; plain = λ x. Unit {0}; reader = reading.infer }
 
   abbrev pub never : Grammar (TypeNeverOf A)
-  never = record { spells = λ clear x l. IsNever clear x l done; normal = normal.never na ne; print = printing.never; plain = λ x. Unit {0}; reader = reading.never }
+  never = record { spells = λ clear x l. IsNever clear x l done; normal = λ x. never_with (na x.attrs) x.bang_token; print = printing.never; plain = λ x. Unit {0}; reader = reading.never }
 
   abbrev pub macro_type : Grammar (TypeMacroOf A)
-  macro_type = record { spells = λ clear x l. IsMacroType clear x l done; normal = normal.macro_type na ne; print = printing.macro_type; plain = λ x. Unit {0}; reader = reading.macro_type }
+  macro_type = record { spells = λ clear x l. IsMacroType clear x l done; normal = λ x. macro_type_with (na x.attrs) x.mac; print = printing.macro_type; plain = λ x. Unit {0}; reader = reading.macro_type }
 
 module _ {A E : Type 0} (lens : Reader E) (spells : E → Toks → Type 0) (na : List A → List A) (ne : NormalValues E) (pa : List A → Print) (pe : Values E) where
   -- a type in a place with plus or without plus

@@ -35,6 +35,10 @@ sees_call l = sees_mark (marks.chars_of 0) l && not (sees_mark (marks.chars_of 1
 abbrev pub sees_plus : Toks → Bool
 sees_plus = sees_mark (marks.chars_of 20)
 
+-- where a plus is allowed, it would go on with a type
+abbrev pub goes_on : Bool → Toks → Bool
+goes_on plus l = plus && sees_plus l
+
 abbrev pub sees_comma : Toks → Bool
 sees_comma = sees_mark (marks.chars_of 4)
 

@@ -4,7 +4,7 @@ use Rattle.syn_mid.proofs.ty_laws.Laws.{macro_type_lawful, macro_type_front}
 use Rattle.syn_mid.proofs.ty.TypeMacroParse.parse.Goals as goal
 
 pub returns-clause-promise : goal.returns-clause-promise
-returns-clause-promise g c = heads (grammars.macro_type g.X.Subtree.normal g.X.Subtree.prints) (macro_type_lawful g.X.Subtree.normal g.X.Subtree.prints) _ _ _ c.parse_macro_type.ensures.reads
+returns-clause-promise g c = heads (grammars.macro_type g.A.Attributes.normal) (macro_type_lawful g.A.Attributes.normal g.met.A.Attributes.bare.stays) _ _ _ c.parse_macro_type.ensures.reads
 
 pub returns-clause-front : goal.returns-clause-front
 returns-clause-front c = macro_type_front _ _ _ c.parse_macro_type.ensures.reads
