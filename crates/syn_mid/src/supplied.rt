@@ -1,16 +1,19 @@
 //! The supplied subtree: what stands where an expression may stand.
 
-ghost use Rattle.std.specs.Prelude.{◌≡◌, ◌++◌, OnOk, OnErr, Ok, Option};
+ghost use Rattle.std.specs.Prelude.{◌≡◌, ◌++◌, List, OnOk, OnErr, Ok, Option};
 ghost use Rattle.token_core.specs.Toks.{Toks};
 ghost use Rattle.token_core.specs.Trees.{trees};
-ghost use Rattle.token_core.specs.Prints.{Print};
+ghost use Rattle.token_core.specs.Prints.{Print, Extends};
 ghost use Rattle.token_core.specs.Stream.{Stream};
 ghost use Rattle.token_core.specs.Reads.{Reader, Reads, Follows, leaves};
 ghost use Rattle.syn_mid.specs.Supplied as spec;
+ghost use Rattle.syn_mid.specs.generics.Shapes.{Values, values_of, outer};
 
-use crate::attr::Attribute;
+use crate::attr::{Attribute, print_outer};
+use crate::generics::print_const_argument;
 use crate::mac::Macro;
 use crate::path::ModPath;
+use crate::ty::print_len;
 use std::alloc::{AllocError, Global};
 use token_core::token::{Brace, Const};
 use token_core::{Boxed, Error, Items, Lit, ParseStream, RangeLimits, TokenStream};
@@ -67,6 +70,61 @@ pub trait Subtree: Drop {
 
     /// As an attribute's value no tree spells a list that is one literal, or that begins with `#` and a bracket group.
     ghost apart: { (x : Self) (l : Toks) → spells spec.Value x l → spec.IsApart l };
+}
+
+/// An attribute as it stands in a type.
+pub trait Attributes: Drop {
+    /// What a list of them prints before the node that bears them.
+    ghost shown: { List Self → Print };
+
+    /// Appends their print; refused, what stood before is kept.
+    fn print_outer(
+        alloc: Global,
+        attrs: &Items<Self>,
+        out: &mut TokenStream,
+    ) -> Result<(), AllocError>
+        ensures ok { OnOk result (trees out.new ≡ trees out.old ++ shown attrs.now) }
+        ensures err { OnErr result (Extends (trees out.old) (trees out.new)) };
+}
+
+/// An expression as it stands in a type.
+pub trait Value: Drop {
+    /// What it prints as the length of an array, and as a const argument.
+    ghost values: { Values Self };
+
+    /// Appends its print as the length of an array; refused, what stood before is kept.
+    fn print_len(&self, alloc: Global, out: &mut TokenStream) -> Result<(), AllocError>
+        ensures ok { OnOk result (trees out.new ≡ trees out.old ++ values.len self.now) }
+        ensures err { OnErr result (Extends (trees out.old) (trees out.new)) };
+
+    /// Appends its print as a const argument; refused, what stood before is kept.
+    fn print_const_argument(&self, alloc: Global, out: &mut TokenStream) -> Result<(), AllocError>
+        ensures ok { OnOk result (trees out.new ≡ trees out.old ++ values.const_argument self.now) }
+        ensures err { OnErr result (Extends (trees out.old) (trees out.new)) };
+}
+
+impl<X: Subtree> Attributes for Attribute<X> {
+    ghost shown = { outer X.prints };
+
+    fn print_outer(
+        alloc: Global,
+        attrs: &Items<Attribute<X>>,
+        out: &mut TokenStream,
+    ) -> Result<(), AllocError> {
+        print_outer(alloc, attrs, out)
+    }
+}
+
+impl<X: Subtree> Value for Expr<X> {
+    ghost values = { values_of X.prints };
+
+    fn print_len(&self, alloc: Global, out: &mut TokenStream) -> Result<(), AllocError> {
+        print_len(alloc, self, out)
+    }
+
+    fn print_const_argument(&self, alloc: Global, out: &mut TokenStream) -> Result<(), AllocError> {
+        print_const_argument(alloc, self, out)
+    }
 }
 
 /// An expression, of which the cases that this layer knows are told apart.
