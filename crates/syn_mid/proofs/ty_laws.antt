@@ -24,3 +24,4 @@ pub mod Lone
 pub mod Laws
 pub mod Lasts
 pub mod Pieces
+pub mod Weights

@@ -13,85 +13,85 @@ use Rattle.syn_mid.proofs.+print.Given as goal
 
 abbrev pub invariant-generics::print_bounds-loop-pair : goal.invariant-generics::print_bounds-loop-pair
 invariant-generics::print_bounds-loop-pair g l = record {
-  told : trees l.out ++ bounds_joined g.X.Subtree.prints (values_of (drop l.pair-index l.pairs) (option_map (λ x. x.now) l.last), marks_of (drop l.pair-index l.pairs))
-      ≡ trees l.initial.out ++ bounds_joined g.X.Subtree.prints (values_of l.pairs (option_map (λ x. x.now) l.last), marks_of l.pairs);
+  told : trees l.out ++ bounds_joined g.A.Attributes.shown g.E.Value.values (values_of (drop l.pair-index l.pairs) (option_map (λ x. x.now) l.last), marks_of (drop l.pair-index l.pairs))
+      ≡ trees l.initial.out ++ bounds_joined g.A.Attributes.shown g.E.Value.values (values_of l.pairs (option_map (λ x. x.now) l.last), marks_of l.pairs);
   kept : Extends (trees l.initial.out) (trees l.out);
 }
 
 abbrev pub invariant-generics::print_trait_params-loop-pair : goal.invariant-generics::print_trait_params-loop-pair
 invariant-generics::print_trait_params-loop-pair g l = record {
-  told : trees l.out ++ joined (param g.X.Subtree.prints) p.mark (values_of (drop l.pair-index l.pairs) (option_map (λ x. x.now) l.last)) (marks_of (drop l.pair-index l.pairs))
-      ≡ trees l.initial.out ++ joined (param g.X.Subtree.prints) p.mark (values_of l.pairs (option_map (λ x. x.now) l.last)) (marks_of l.pairs);
+  told : trees l.out ++ joined (param g.A.Attributes.shown g.E.Value.values) p.mark (values_of (drop l.pair-index l.pairs) (option_map (λ x. x.now) l.last)) (marks_of (drop l.pair-index l.pairs))
+      ≡ trees l.initial.out ++ joined (param g.A.Attributes.shown g.E.Value.values) p.mark (values_of l.pairs (option_map (λ x. x.now) l.last)) (marks_of l.pairs);
   kept : Extends (trees l.initial.out) (trees l.out);
 }
 
 abbrev pub invariant-path::print_segments-loop-pair : goal.invariant-path::print_segments-loop-pair
 invariant-path::print_segments-loop-pair g l = record {
-  told : trees l.out ++ segments g.X.Subtree.prints l.style (values_of (drop l.pair-index l.pairs) (option_map (λ x. x.now) l.last), marks_of (drop l.pair-index l.pairs))
-      ≡ trees l.initial.out ++ segments g.X.Subtree.prints l.style (values_of l.pairs (option_map (λ x. x.now) l.last), marks_of l.pairs);
+  told : trees l.out ++ segments g.A.Attributes.shown g.E.Value.values l.style (values_of (drop l.pair-index l.pairs) (option_map (λ x. x.now) l.last), marks_of (drop l.pair-index l.pairs))
+      ≡ trees l.initial.out ++ segments g.A.Attributes.shown g.E.Value.values l.style (values_of l.pairs (option_map (λ x. x.now) l.last), marks_of l.pairs);
   kept : Extends (trees l.initial.out) (trees l.out);
 }
 
 abbrev pub invariant-path::print_argument_kind-loop-pair : goal.invariant-path::print_argument_kind-loop-pair
 invariant-path::print_argument_kind-loop-pair g l = record {
-  told : trees l.out ++ each (argument g.X.Subtree.prints) (those is_lifetime l.lifetimes (pairs_of (drop l.pair-index l.pairs) (option_map (λ x. x.now) l.last)))
-      ≡ trees l.initial.out ++ each (argument g.X.Subtree.prints) (those is_lifetime l.lifetimes (pairs_of l.pairs (option_map (λ x. x.now) l.last)));
+  told : trees l.out ++ each (argument g.A.Attributes.shown g.E.Value.values) (those is_lifetime l.lifetimes (pairs_of (drop l.pair-index l.pairs) (option_map (λ x. x.now) l.last)))
+      ≡ trees l.initial.out ++ each (argument g.A.Attributes.shown g.E.Value.values) (those is_lifetime l.lifetimes (pairs_of l.pairs (option_map (λ x. x.now) l.last)));
   kept : Extends (trees l.initial.out) (trees l.out);
 }
 
 abbrev pub invariant-path::print_constraint_bounds-loop-pair : goal.invariant-path::print_constraint_bounds-loop-pair
 invariant-path::print_constraint_bounds-loop-pair g l = record {
-  told : trees l.out ++ bounds_joined g.X.Subtree.prints (values_of (drop l.pair-index l.pairs) (option_map (λ x. x.now) l.last), marks_of (drop l.pair-index l.pairs))
-      ≡ trees l.initial.out ++ bounds_joined g.X.Subtree.prints (values_of l.pairs (option_map (λ x. x.now) l.last), marks_of l.pairs);
+  told : trees l.out ++ bounds_joined g.A.Attributes.shown g.E.Value.values (values_of (drop l.pair-index l.pairs) (option_map (λ x. x.now) l.last), marks_of (drop l.pair-index l.pairs))
+      ≡ trees l.initial.out ++ bounds_joined g.A.Attributes.shown g.E.Value.values (values_of l.pairs (option_map (λ x. x.now) l.last), marks_of l.pairs);
   kept : Extends (trees l.initial.out) (trees l.out);
 }
 
 abbrev pub invariant-path::print_parenthesized_inputs-loop-pair : goal.invariant-path::print_parenthesized_inputs-loop-pair
 invariant-path::print_parenthesized_inputs-loop-pair g l = record {
-  told : trees l.out ++ inputs g.X.Subtree.prints (values_of (drop l.pair-index l.pairs) (option_map (λ x. x.now) l.last), marks_of (drop l.pair-index l.pairs))
-      ≡ trees l.initial.out ++ inputs g.X.Subtree.prints (values_of l.pairs (option_map (λ x. x.now) l.last), marks_of l.pairs);
+  told : trees l.out ++ inputs g.A.Attributes.shown g.E.Value.values (values_of (drop l.pair-index l.pairs) (option_map (λ x. x.now) l.last), marks_of (drop l.pair-index l.pairs))
+      ≡ trees l.initial.out ++ inputs g.A.Attributes.shown g.E.Value.values (values_of l.pairs (option_map (λ x. x.now) l.last), marks_of l.pairs);
   kept : Extends (trees l.initial.out) (trees l.out);
 }
 
 abbrev pub invariant-path::print_around-loop-pair : goal.invariant-path::print_around-loop-pair
 invariant-path::print_around-loop-pair g l = record {
-  told : trees l.out ++ around g.X.Subtree.prints l.style l.gt_token l.before (values_of (drop l.pair-index l.pairs) (option_map (λ x. x.now) l.last)) (marks_of (drop l.pair-index l.pairs))
-      ≡ trees l.initial.out ++ around g.X.Subtree.prints l.style l.gt_token l.initial.before (values_of l.pairs (option_map (λ x. x.now) l.last)) (marks_of l.pairs);
+  told : trees l.out ++ around g.A.Attributes.shown g.E.Value.values l.style l.gt_token l.before (values_of (drop l.pair-index l.pairs) (option_map (λ x. x.now) l.last)) (marks_of (drop l.pair-index l.pairs))
+      ≡ trees l.initial.out ++ around g.A.Attributes.shown g.E.Value.values l.style l.gt_token l.initial.before (values_of l.pairs (option_map (λ x. x.now) l.last)) (marks_of l.pairs);
   kept : Extends (trees l.initial.out) (trees l.out);
 }
 
 abbrev pub invariant-ty::print_elements-loop-pair : goal.invariant-ty::print_elements-loop-pair
 invariant-ty::print_elements-loop-pair g l = record {
-  told : trees l.out ++ elements g.X.Subtree.prints (values_of (drop l.pair-index l.pairs) (option_map (λ x. x.now) l.last), marks_of (drop l.pair-index l.pairs))
-      ≡ trees l.initial.out ++ elements g.X.Subtree.prints (values_of l.pairs (option_map (λ x. x.now) l.last), marks_of l.pairs);
+  told : trees l.out ++ elements g.A.Attributes.shown g.E.Value.values (values_of (drop l.pair-index l.pairs) (option_map (λ x. x.now) l.last), marks_of (drop l.pair-index l.pairs))
+      ≡ trees l.initial.out ++ elements g.A.Attributes.shown g.E.Value.values (values_of l.pairs (option_map (λ x. x.now) l.last), marks_of l.pairs);
   kept : Extends (trees l.initial.out) (trees l.out);
 }
 
 abbrev pub invariant-ty::print_fn_params-loop-pair : goal.invariant-ty::print_fn_params-loop-pair
 invariant-ty::print_fn_params-loop-pair g l = record {
-  told : trees l.out ++ joined (param g.X.Subtree.prints) p.mark (values_of (drop l.pair-index l.pairs) (option_map (λ x. x.now) l.last)) (marks_of (drop l.pair-index l.pairs))
-      ≡ trees l.initial.out ++ joined (param g.X.Subtree.prints) p.mark (values_of l.pairs (option_map (λ x. x.now) l.last)) (marks_of l.pairs);
+  told : trees l.out ++ joined (param g.A.Attributes.shown g.E.Value.values) p.mark (values_of (drop l.pair-index l.pairs) (option_map (λ x. x.now) l.last)) (marks_of (drop l.pair-index l.pairs))
+      ≡ trees l.initial.out ++ joined (param g.A.Attributes.shown g.E.Value.values) p.mark (values_of l.pairs (option_map (λ x. x.now) l.last)) (marks_of l.pairs);
   kept : Extends (trees l.initial.out) (trees l.out);
 }
 
 abbrev pub invariant-ty::print_inputs-loop-pair : goal.invariant-ty::print_inputs-loop-pair
 invariant-ty::print_inputs-loop-pair g l = record {
-  told : trees l.out ++ inputs g.X.Subtree.prints (values_of (drop l.pair-index l.pairs) (option_map (λ x. x.now) l.last), marks_of (drop l.pair-index l.pairs))
-      ≡ trees l.initial.out ++ inputs g.X.Subtree.prints (values_of l.pairs (option_map (λ x. x.now) l.last), marks_of l.pairs);
+  told : trees l.out ++ inputs g.A.Attributes.shown g.E.Value.values (values_of (drop l.pair-index l.pairs) (option_map (λ x. x.now) l.last), marks_of (drop l.pair-index l.pairs))
+      ≡ trees l.initial.out ++ inputs g.A.Attributes.shown g.E.Value.values (values_of l.pairs (option_map (λ x. x.now) l.last), marks_of l.pairs);
   kept : Extends (trees l.initial.out) (trees l.out);
 }
 
 abbrev pub invariant-ty::print_impl_trait-loop-pair : goal.invariant-ty::print_impl_trait-loop-pair
 invariant-ty::print_impl_trait-loop-pair g l = record {
-  told : trees l.out ++ bounds_joined g.X.Subtree.prints (values_of (drop l.pair-index l.pairs) (option_map (λ x. x.now) l.last), marks_of (drop l.pair-index l.pairs))
-      ≡ trees l.initial.out ++ bounds_joined g.X.Subtree.prints (values_of l.pairs (option_map (λ x. x.now) l.last), marks_of l.pairs);
+  told : trees l.out ++ bounds_joined g.A.Attributes.shown g.E.Value.values (values_of (drop l.pair-index l.pairs) (option_map (λ x. x.now) l.last), marks_of (drop l.pair-index l.pairs))
+      ≡ trees l.initial.out ++ bounds_joined g.A.Attributes.shown g.E.Value.values (values_of l.pairs (option_map (λ x. x.now) l.last), marks_of l.pairs);
   kept : Extends (trees l.initial.out) (trees l.out);
 }
 
 abbrev pub invariant-ty::print_trait_object-loop-pair : goal.invariant-ty::print_trait_object-loop-pair
 invariant-ty::print_trait_object-loop-pair g l = record {
-  told : trees l.out ++ bounds_joined g.X.Subtree.prints (values_of (drop l.pair-index l.pairs) (option_map (λ x. x.now) l.last), marks_of (drop l.pair-index l.pairs))
-      ≡ trees l.initial.out ++ bounds_joined g.X.Subtree.prints (values_of l.pairs (option_map (λ x. x.now) l.last), marks_of l.pairs);
+  told : trees l.out ++ bounds_joined g.A.Attributes.shown g.E.Value.values (values_of (drop l.pair-index l.pairs) (option_map (λ x. x.now) l.last), marks_of (drop l.pair-index l.pairs))
+      ≡ trees l.initial.out ++ bounds_joined g.A.Attributes.shown g.E.Value.values (values_of l.pairs (option_map (λ x. x.now) l.last), marks_of l.pairs);
   kept : Extends (trees l.initial.out) (trees l.out);
 }
 
