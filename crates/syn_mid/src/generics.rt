@@ -224,12 +224,12 @@ pub type PredicateType<X> = PredicateTypeOf<Attribute<X>, Expr<X>>;
 
 // ---- calls
 
-impl<X> Generics<X> {
+impl<A, E> GenericsOf<A, E> {
     /// No parameters, and no where clause.
-    pub fn default(alloc: Global) -> Generics<X>
+    pub fn default(alloc: Global) -> GenericsOf<A, E>
         ensures { result ≡ spec.empty }
     {
-        Generics {
+        GenericsOf {
             lt_token: None,
             params: Punctuated::new(alloc),
             gt_token: None,
@@ -238,9 +238,9 @@ impl<X> Generics<X> {
     }
 }
 
-impl<X> BoundLifetimes<X> {
+impl<A, E> BoundLifetimesOf<GenericParamOf<A, E>> {
     /// A binder without parameters, whose marks stand nowhere.
-    pub fn default(alloc: Global) -> BoundLifetimes<X>
+    pub fn default(alloc: Global) -> BoundLifetimesOf<GenericParamOf<A, E>>
         ensures { result ≡ spec.empty_binder }
     {
         BoundLifetimesOf {
@@ -252,12 +252,12 @@ impl<X> BoundLifetimes<X> {
     }
 }
 
-impl<X> TypeParam<X> {
+impl<A, E> TypeParamOf<A, E> {
     /// A type parameter without attributes, bounds and default.
-    pub fn from_ident(alloc: Global, ident: Ident) -> TypeParam<X>
+    pub fn from_ident(alloc: Global, ident: Ident) -> TypeParamOf<A, E>
         ensures { result ≡ spec.type_param_of [] ident None ([], []) None }
     {
-        TypeParam {
+        TypeParamOf {
             attrs: Items::new(alloc),
             ident,
             colon_token: None,
@@ -267,12 +267,12 @@ impl<X> TypeParam<X> {
     }
 }
 
-impl<X> LifetimeParam<X> {
+impl<A> LifetimeParamOf<A> {
     /// A lifetime parameter without attributes and bounds.
-    pub fn new(alloc: Global, lifetime: Lifetime) -> LifetimeParam<X>
+    pub fn new(alloc: Global, lifetime: Lifetime) -> LifetimeParamOf<A>
         ensures { result ≡ spec.lifetime_param_of [] lifetime None ([], []) }
     {
-        LifetimeParam {
+        LifetimeParamOf {
             attrs: Items::new(alloc),
             lifetime,
             colon_token: None,
@@ -291,67 +291,67 @@ impl TraitBoundModifiers {
     }
 }
 
-impl<X> From<LifetimeParam<X>> for GenericParam<X> {
+impl<A, E> From<LifetimeParamOf<A>> for GenericParamOf<A, E> {
     ghost from_gives = { λ param made. made ≡ params.Lifetime param };
 
-    fn from(param: LifetimeParam<X>) -> GenericParam<X> {
-        GenericParam::Lifetime(param)
+    fn from(param: LifetimeParamOf<A>) -> GenericParamOf<A, E> {
+        GenericParamOf::Lifetime(param)
     }
 }
 
-impl<X> From<TypeParam<X>> for GenericParam<X> {
+impl<A, E> From<TypeParamOf<A, E>> for GenericParamOf<A, E> {
     ghost from_gives = { λ param made. made ≡ params.«Type» param };
 
-    fn from(param: TypeParam<X>) -> GenericParam<X> {
-        GenericParam::Type(param)
+    fn from(param: TypeParamOf<A, E>) -> GenericParamOf<A, E> {
+        GenericParamOf::Type(param)
     }
 }
 
-impl<X> From<ConstParam<X>> for GenericParam<X> {
+impl<A, E> From<ConstParamOf<TypeOf<A, E>, A, E>> for GenericParamOf<A, E> {
     ghost from_gives = { λ param made. made ≡ params.Const param };
 
-    fn from(param: ConstParam<X>) -> GenericParam<X> {
-        GenericParam::Const(param)
+    fn from(param: ConstParamOf<TypeOf<A, E>, A, E>) -> GenericParamOf<A, E> {
+        GenericParamOf::Const(param)
     }
 }
 
-impl<X> From<TraitBound<X>> for TypeParamBound<X> {
+impl<A, E> From<TraitBoundOf<A, E>> for TypeParamBoundOf<A, E> {
     ghost from_gives = { λ bound made. made ≡ bounds.Trait bound };
 
-    fn from(bound: TraitBound<X>) -> TypeParamBound<X> {
-        TypeParamBound::Trait(bound)
+    fn from(bound: TraitBoundOf<A, E>) -> TypeParamBoundOf<A, E> {
+        TypeParamBoundOf::Trait(bound)
     }
 }
 
-impl<X> From<Lifetime> for TypeParamBound<X> {
+impl<A, E> From<Lifetime> for TypeParamBoundOf<A, E> {
     ghost from_gives = { λ lifetime made. made ≡ bounds.Lifetime lifetime };
 
-    fn from(lifetime: Lifetime) -> TypeParamBound<X> {
-        TypeParamBound::Lifetime(lifetime)
+    fn from(lifetime: Lifetime) -> TypeParamBoundOf<A, E> {
+        TypeParamBoundOf::Lifetime(lifetime)
     }
 }
 
-impl<X> From<PreciseCapture> for TypeParamBound<X> {
+impl<A, E> From<PreciseCapture> for TypeParamBoundOf<A, E> {
     ghost from_gives = { λ capture made. made ≡ bounds.PreciseCapture capture };
 
-    fn from(capture: PreciseCapture) -> TypeParamBound<X> {
-        TypeParamBound::PreciseCapture(capture)
+    fn from(capture: PreciseCapture) -> TypeParamBoundOf<A, E> {
+        TypeParamBoundOf::PreciseCapture(capture)
     }
 }
 
-impl<X> From<PredicateLifetime<X>> for WherePredicate<X> {
+impl<A, E> From<PredicateLifetimeOf<A>> for WherePredicateOf<A, E> {
     ghost from_gives = { λ predicate made. made ≡ predicates.Lifetime predicate };
 
-    fn from(predicate: PredicateLifetime<X>) -> WherePredicate<X> {
-        WherePredicate::Lifetime(predicate)
+    fn from(predicate: PredicateLifetimeOf<A>) -> WherePredicateOf<A, E> {
+        WherePredicateOf::Lifetime(predicate)
     }
 }
 
-impl<X> From<PredicateType<X>> for WherePredicate<X> {
+impl<A, E> From<PredicateTypeOf<A, E>> for WherePredicateOf<A, E> {
     ghost from_gives = { λ predicate made. made ≡ predicates.«Type» predicate };
 
-    fn from(predicate: PredicateType<X>) -> WherePredicate<X> {
-        WherePredicate::Type(predicate)
+    fn from(predicate: PredicateTypeOf<A, E>) -> WherePredicateOf<A, E> {
+        WherePredicateOf::Type(predicate)
     }
 }
 
@@ -547,12 +547,12 @@ impl<'a, X> Iterator for ConstParamsMut<'a, X> {
 
 // ---- the where clause
 
-impl<X> WhereClause<X> {
+impl<A, E> WhereClauseOf<A, E> {
     /// A where clause that stands nowhere, without predicates.
-    fn empty(alloc: Global) -> WhereClause<X>
+    fn empty(alloc: Global) -> WhereClauseOf<A, E>
         ensures { result ≡ spec.empty_clause }
     {
-        WhereClause {
+        WhereClauseOf {
             where_token: Where::default(),
             predicates: Punctuated::new(alloc),
         }
@@ -1451,49 +1451,58 @@ impl<A: Attributes, E: Value> ToTokens for WhereClauseOf<A, E> {
 
 /// The head of an implementation: the parameters without their defaults.
 #[derive(Clone, Drop)]
-pub struct ImplGenerics<'a, X> {
-    generics: &'a Generics<X>,
+pub struct ImplGenericsOf<'a, A, E> {
+    generics: &'a GenericsOf<A, E>,
 }
+
+/// The head of an implementation: the parameters without their defaults.
+pub type ImplGenerics<'a, X> = ImplGenericsOf<'a, Attribute<X>, Expr<X>>;
 
 /// The parameters by their names.
 #[derive(Clone, Drop)]
-pub struct TypeGenerics<'a, X> {
-    generics: &'a Generics<X>,
+pub struct TypeGenericsOf<'a, A, E> {
+    generics: &'a GenericsOf<A, E>,
 }
+
+/// The parameters by their names.
+pub type TypeGenerics<'a, X> = TypeGenericsOf<'a, Attribute<X>, Expr<X>>;
 
 /// The parameters by their names, after `::`.
 #[derive(Clone, Drop)]
-pub struct Turbofish<'a, X> {
-    generics: &'a Generics<X>,
+pub struct TurbofishOf<'a, A, E> {
+    generics: &'a GenericsOf<A, E>,
 }
 
-impl<X> Generics<X> {
+/// The parameters by their names, after `::`.
+pub type Turbofish<'a, X> = TurbofishOf<'a, Attribute<X>, Expr<X>>;
+
+impl<A, E> GenericsOf<A, E> {
     /// The generics of an implementation for this declaration: its parameters without their defaults, their names, and its where clause.
     pub fn split_for_impl(
         &self,
     ) -> (
-        ImplGenerics<'_, X>,
-        TypeGenerics<'_, X>,
-        Option<&WhereClause<X>>,
+        ImplGenericsOf<'_, A, E>,
+        TypeGenericsOf<'_, A, E>,
+        Option<&WhereClauseOf<A, E>>,
     )
         ensures impls { result.0.generics.now ≡ self.now }
         ensures names { result.1.generics.now ≡ self.now }
         ensures clause { option_map (λ c. c.now) result.2 ≡ self.now.where_clause }
     {
         (
-            ImplGenerics { generics: self },
-            TypeGenerics { generics: self },
+            ImplGenericsOf { generics: self },
+            TypeGenericsOf { generics: self },
             self.where_clause.as_ref(),
         )
     }
 }
 
-impl<'a, X> TypeGenerics<'a, X> {
+impl<'a, A, E> TypeGenericsOf<'a, A, E> {
     /// The names after `::`, as in a call.
-    pub fn as_turbofish(&self) -> Turbofish<'a, X>
+    pub fn as_turbofish(&self) -> TurbofishOf<'a, A, E>
         ensures { result.generics.now ≡ self.now.generics.now }
     {
-        Turbofish {
+        TurbofishOf {
             generics: self.generics,
         }
     }
@@ -1615,8 +1624,8 @@ impl<A: Attributes, E: Value> ToTokens for GenericsOf<A, E> {
     }
 }
 
-impl<'a, X: Subtree> ToTokens for ImplGenerics<'a, X> {
-    ghost print = { λ view. printing.generics (shapes.outer X.prints) (shapes.values_of X.prints) (views.stripped view.generics.now) };
+impl<'a, A: Attributes, E: Value> ToTokens for ImplGenericsOf<'a, A, E> {
+    ghost print = { λ view. printing.generics A.shown E.values (views.stripped view.generics.now) };
 
     #[tactic(auto, using(crate::proofs::generics_laws::Views::showns))]
     fn to_tokens(&self, alloc: Global, out: &mut TokenStream) -> Result<(), AllocError> {
@@ -1631,7 +1640,7 @@ impl<'a, X: Subtree> ToTokens for ImplGenerics<'a, X> {
     }
 }
 
-impl<'a, X: Subtree> ToTokens for TypeGenerics<'a, X> {
+impl<'a, A: Attributes, E: Value> ToTokens for TypeGenericsOf<'a, A, E> {
     ghost print = { λ view. views.names view.generics.now };
 
     #[tactic(auto, using(crate::proofs::generics_laws::Views::showns))]
@@ -1647,7 +1656,7 @@ impl<'a, X: Subtree> ToTokens for TypeGenerics<'a, X> {
     }
 }
 
-impl<'a, X: Subtree> ToTokens for Turbofish<'a, X> {
+impl<'a, A: Attributes, E: Value> ToTokens for TurbofishOf<'a, A, E> {
     ghost print = { λ view. views.turbofish view.generics.now };
 
     fn to_tokens(&self, alloc: Global, out: &mut TokenStream) -> Result<(), AllocError> {

@@ -531,115 +531,115 @@ impl Parse for PointerMutability {
 
 // ---- a form as a type
 
-impl<X> From<TypeArray<X>> for Type<X> {
+impl<A, E> From<TypeArrayOf<TypeOf<A, E>, A, E>> for TypeOf<A, E> {
     ghost from_gives = { λ form ty. ty ≡ types.Array form };
 
-    fn from(form: TypeArray<X>) -> Type<X> {
-        Type::Array(form)
+    fn from(form: TypeArrayOf<TypeOf<A, E>, A, E>) -> TypeOf<A, E> {
+        TypeOf::Array(form)
     }
 }
 
-impl<X> From<TypeFnPtr<X>> for Type<X> {
+impl<A, E> From<TypeFnPtrOf<A, E>> for TypeOf<A, E> {
     ghost from_gives = { λ form ty. ty ≡ types.FnPtr form };
 
-    fn from(form: TypeFnPtr<X>) -> Type<X> {
-        Type::FnPtr(form)
+    fn from(form: TypeFnPtrOf<A, E>) -> TypeOf<A, E> {
+        TypeOf::FnPtr(form)
     }
 }
 
-impl<X> From<TypeGroup<X>> for Type<X> {
+impl<A, E> From<TypeGroupOf<TypeOf<A, E>, A>> for TypeOf<A, E> {
     ghost from_gives = { λ form ty. ty ≡ types.Group form };
 
-    fn from(form: TypeGroup<X>) -> Type<X> {
-        Type::Group(form)
+    fn from(form: TypeGroupOf<TypeOf<A, E>, A>) -> TypeOf<A, E> {
+        TypeOf::Group(form)
     }
 }
 
-impl<X> From<TypeImplTrait<X>> for Type<X> {
+impl<A, E> From<TypeImplTraitOf<TypeParamBoundOf<A, E>, A>> for TypeOf<A, E> {
     ghost from_gives = { λ form ty. ty ≡ types.ImplTrait form };
 
-    fn from(form: TypeImplTrait<X>) -> Type<X> {
-        Type::ImplTrait(form)
+    fn from(form: TypeImplTraitOf<TypeParamBoundOf<A, E>, A>) -> TypeOf<A, E> {
+        TypeOf::ImplTrait(form)
     }
 }
 
-impl<X> From<TypeInfer<X>> for Type<X> {
+impl<A, E> From<TypeInferOf<A>> for TypeOf<A, E> {
     ghost from_gives = { λ form ty. ty ≡ types.Infer form };
 
-    fn from(form: TypeInfer<X>) -> Type<X> {
-        Type::Infer(form)
+    fn from(form: TypeInferOf<A>) -> TypeOf<A, E> {
+        TypeOf::Infer(form)
     }
 }
 
-impl<X> From<TypeMacro<X>> for Type<X> {
+impl<A, E> From<TypeMacroOf<A>> for TypeOf<A, E> {
     ghost from_gives = { λ form ty. ty ≡ types.Macro form };
 
-    fn from(form: TypeMacro<X>) -> Type<X> {
-        Type::Macro(form)
+    fn from(form: TypeMacroOf<A>) -> TypeOf<A, E> {
+        TypeOf::Macro(form)
     }
 }
 
-impl<X> From<TypeNever<X>> for Type<X> {
+impl<A, E> From<TypeNeverOf<A>> for TypeOf<A, E> {
     ghost from_gives = { λ form ty. ty ≡ types.Never form };
 
-    fn from(form: TypeNever<X>) -> Type<X> {
-        Type::Never(form)
+    fn from(form: TypeNeverOf<A>) -> TypeOf<A, E> {
+        TypeOf::Never(form)
     }
 }
 
-impl<X> From<TypeParen<X>> for Type<X> {
+impl<A, E> From<TypeParenOf<TypeOf<A, E>, A>> for TypeOf<A, E> {
     ghost from_gives = { λ form ty. ty ≡ types.Paren form };
 
-    fn from(form: TypeParen<X>) -> Type<X> {
-        Type::Paren(form)
+    fn from(form: TypeParenOf<TypeOf<A, E>, A>) -> TypeOf<A, E> {
+        TypeOf::Paren(form)
     }
 }
 
-impl<X> From<TypePath<X>> for Type<X> {
+impl<A, E> From<TypePathOf<A, E>> for TypeOf<A, E> {
     ghost from_gives = { λ form ty. ty ≡ types.Path form };
 
-    fn from(form: TypePath<X>) -> Type<X> {
-        Type::Path(form)
+    fn from(form: TypePathOf<A, E>) -> TypeOf<A, E> {
+        TypeOf::Path(form)
     }
 }
 
-impl<X> From<TypePtr<X>> for Type<X> {
+impl<A, E> From<TypePtrOf<TypeOf<A, E>, A>> for TypeOf<A, E> {
     ghost from_gives = { λ form ty. ty ≡ types.Ptr form };
 
-    fn from(form: TypePtr<X>) -> Type<X> {
-        Type::Ptr(form)
+    fn from(form: TypePtrOf<TypeOf<A, E>, A>) -> TypeOf<A, E> {
+        TypeOf::Ptr(form)
     }
 }
 
-impl<X> From<TypeReference<X>> for Type<X> {
+impl<A, E> From<TypeReferenceOf<TypeOf<A, E>, A>> for TypeOf<A, E> {
     ghost from_gives = { λ form ty. ty ≡ types.Reference form };
 
-    fn from(form: TypeReference<X>) -> Type<X> {
-        Type::Reference(form)
+    fn from(form: TypeReferenceOf<TypeOf<A, E>, A>) -> TypeOf<A, E> {
+        TypeOf::Reference(form)
     }
 }
 
-impl<X> From<TypeSlice<X>> for Type<X> {
+impl<A, E> From<TypeSliceOf<TypeOf<A, E>, A>> for TypeOf<A, E> {
     ghost from_gives = { λ form ty. ty ≡ types.Slice form };
 
-    fn from(form: TypeSlice<X>) -> Type<X> {
-        Type::Slice(form)
+    fn from(form: TypeSliceOf<TypeOf<A, E>, A>) -> TypeOf<A, E> {
+        TypeOf::Slice(form)
     }
 }
 
-impl<X> From<TypeTraitObject<X>> for Type<X> {
+impl<A, E> From<TypeTraitObjectOf<TypeParamBoundOf<A, E>, A>> for TypeOf<A, E> {
     ghost from_gives = { λ form ty. ty ≡ types.TraitObject form };
 
-    fn from(form: TypeTraitObject<X>) -> Type<X> {
-        Type::TraitObject(form)
+    fn from(form: TypeTraitObjectOf<TypeParamBoundOf<A, E>, A>) -> TypeOf<A, E> {
+        TypeOf::TraitObject(form)
     }
 }
 
-impl<X> From<TypeTuple<X>> for Type<X> {
+impl<A, E> From<TypeTupleOf<TypeOf<A, E>, A>> for TypeOf<A, E> {
     ghost from_gives = { λ form ty. ty ≡ types.Tuple form };
 
-    fn from(form: TypeTuple<X>) -> Type<X> {
-        Type::Tuple(form)
+    fn from(form: TypeTupleOf<TypeOf<A, E>, A>) -> TypeOf<A, E> {
+        TypeOf::Tuple(form)
     }
 }
 
