@@ -17,11 +17,16 @@ use Rattle.syn_mid.specs.declared.path.AssocTypeOf.{out-AssocTypeOf, size_is-Ass
 use Rattle.syn_mid.specs.declared.ty.TypeOf.{size-TypeOf}
 use Rattle.syn_mid.specs.declared.ty.TypeFnPtrOf.{size_is-TypeFnPtrOf}
 use Rattle.syn_mid.specs.declared.ty.TypePathOf.{size_is-TypePathOf}
+use Rattle.syn_mid.specs.declared.path.GenericArgumentOf.{size-GenericArgumentOf}
 use Rattle.syn_mid.specs.generics.Shapes.{binder_params}
-use Rattle.syn_mid.specs.ty.Printing.{ty, param, bound, named_arg, inputs_of, fn_lifetimes, trait_binder}
+use Rattle.syn_mid.specs.path.Paths.{is_lifetime}
+use Rattle.syn_mid.specs.path.Printing.{segment}
+use Rattle.syn_mid.specs.ty.Printing.{ty, param, bound, named_arg, inputs_of, fn_lifetimes, trait_binder, argument, arguments}
 use Rattle.syn_mid.proofs.ty_laws.Parts.{in_list, last_in_list, put_last, put_next, put_none}
 use Rattle.syn_mid.proofs.ty_laws.Pieces.{put_both, put_default, put_bare, put_fn_ptr}
-use Rattle.syn_mid.proofs.ty_laws.Weights.{arg_size, binder_weighs, inputs_weigh}
+use Rattle.syn_mid.proofs.ty_laws.Weights.{arg_size, binder_weighs, inputs_weigh, seg_size, path_weighs, paren_weighs}
+use Rattle.syn_mid.proofs.generics_laws.Sorted.{put_last_member, put_no_member}
+use Rattle.syn_mid.proofs.path_laws.Closings.{around_last, around_none, around_next}
 use Rattle.syn_mid.proofs.+print.Goals as goal
 
 pub ty::print_ptr-returns-clause-err : goal.ty::print_ptr-returns-clause-err
@@ -346,3 +351,164 @@ ty::print_inputs-returns-in_ok-print_arg_name-in-Some-clause-err g t c =
     on_err_weaker c.print_type-in-Some.result
     (λ h. extends_on old (drop (length old) mid) mid _ (sym (take-append-drop (length old) mid) ∙ ap (λ z. z ++ drop (length old) mid) c.loop-pair.invariant.kept)
     (extends_on _ _ _ _ c.in_ok-print_arg_name-in-Some.ensures.ok h)) c.print_type-in-Some.ensures.err
+
+pub path::print_segments-print_segment-requires : goal.path::print_segments-print_segment-requires
+path::print_segments-print_segment-requires g t c κs within =
+    let h = in_list (seg_size g.row.A.Denot g.row.E.Denot) c.args.path.now.segments c.segment_parts.result.0.now (option_map (λ x. x.now) c.segment_parts.result.1) c.loop-pair.pair-index c.pair-item.result c.segment_parts.ensures c.loop-pair-test.true c.pair-item.is in
+    (omega (arith, c.decreases, h, path_weighs g.row.A.Denot g.row.E.Denot c.args.path.now), within)
+
+pub path::print_segments-print_segment-requires-in-Some : goal.path::print_segments-print_segment-requires-in-Some
+path::print_segments-print_segment-requires-in-Some g t c κs within =
+    let k : option_map (λ x. x.now) c.segment_parts.result.1 ≡ Some c.in-Some.segment.now = ap (option_map (λ x. x.now)) c.in-Some.is in
+    let h = last_in_list (seg_size g.row.A.Denot g.row.E.Denot) c.args.path.now.segments c.segment_parts.result.0.now (option_map (λ x. x.now) c.segment_parts.result.1) c.in-Some.segment.now c.segment_parts.ensures k in
+    (omega (arith, c.decreases, h, path_weighs g.row.A.Denot g.row.E.Denot c.args.path.now), within)
+
+pub path::print_segments-returns-in-Some-clause-ok : goal.path::print_segments-returns-in-Some-clause-ok
+path::print_segments-returns-in-Some-clause-ok g t c =
+    let k : option_map (λ x. x.now) c.segment_parts.result.1 ≡ Some c.in-Some.segment.now = ap (option_map (λ x. x.now)) c.in-Some.is in
+    on_ok_weaker c.print_segment-in-Some.result
+    (λ h. put_last (segment g.A.Attributes.shown g.E.Value.values c.args.style) p.mark c.args.path.now.segments c.segment_parts.result.0.now (option_map (λ x. x.now) c.segment_parts.result.1) c.in-Some.segment.now c.loop-pair.pair-index (trees c.args.out.now) (trees c.loop-pair.out)
+    (trees c.print_segment-in-Some.new.out) c.segment_parts.ensures k c.loop-pair-test.false c.loop-pair.invariant.told h) c.print_segment-in-Some.ensures.ok
+
+pub path::print_segments-returns-in-Some-clause-err : goal.path::print_segments-returns-in-Some-clause-err
+path::print_segments-returns-in-Some-clause-err g t c =
+    let old = trees c.args.out.now in
+    let mid = trees c.loop-pair.out in
+    on_err_weaker c.print_segment-in-Some.result
+    (λ h. extends_on old (drop (length old) mid) mid _ (sym (take-append-drop (length old) mid) ∙ ap (λ z. z ++ drop (length old) mid) c.loop-pair.invariant.kept) h) c.print_segment-in-Some.ensures.err
+
+pub path::print_constraint_bounds-print_bound-requires : goal.path::print_constraint_bounds-print_bound-requires
+path::print_constraint_bounds-print_bound-requires g t c κs within =
+    let h = in_list (size-TypeParamBoundOf g.row.A.Denot g.row.E.Denot) (out-ConstraintOf _ _ c.args.constraint.now).bounds c.bound_parts.result.0.now (option_map (λ x. x.now) c.bound_parts.result.1) c.loop-pair.pair-index c.pair-item.result c.bound_parts.ensures c.loop-pair-test.true c.pair-item.is in
+    (omega (arith, c.decreases, h, size_is-ConstraintOf g.row.A.Denot g.row.E.Denot c.args.constraint.now), within)
+
+pub path::print_constraint_bounds-print_bound-requires-in-Some : goal.path::print_constraint_bounds-print_bound-requires-in-Some
+path::print_constraint_bounds-print_bound-requires-in-Some g t c κs within =
+    let k : option_map (λ x. x.now) c.bound_parts.result.1 ≡ Some c.in-Some.bound.now = ap (option_map (λ x. x.now)) c.in-Some.is in
+    let h = last_in_list (size-TypeParamBoundOf g.row.A.Denot g.row.E.Denot) (out-ConstraintOf _ _ c.args.constraint.now).bounds c.bound_parts.result.0.now (option_map (λ x. x.now) c.bound_parts.result.1) c.in-Some.bound.now c.bound_parts.ensures k in
+    (omega (arith, c.decreases, h, size_is-ConstraintOf g.row.A.Denot g.row.E.Denot c.args.constraint.now), within)
+
+pub path::print_constraint_bounds-returns-in-Some-clause-ok : goal.path::print_constraint_bounds-returns-in-Some-clause-ok
+path::print_constraint_bounds-returns-in-Some-clause-ok g t c =
+    let k : option_map (λ x. x.now) c.bound_parts.result.1 ≡ Some c.in-Some.bound.now = ap (option_map (λ x. x.now)) c.in-Some.is in
+    on_ok_weaker c.print_bound-in-Some.result
+    (λ h. put_last (bound g.A.Attributes.shown g.E.Value.values) p.mark (out-ConstraintOf _ _ c.args.constraint.now).bounds c.bound_parts.result.0.now (option_map (λ x. x.now) c.bound_parts.result.1) c.in-Some.bound.now c.loop-pair.pair-index (trees c.args.out.now) (trees c.loop-pair.out)
+    (trees c.print_bound-in-Some.new.out) c.bound_parts.ensures k c.loop-pair-test.false c.loop-pair.invariant.told h) c.print_bound-in-Some.ensures.ok
+
+pub path::print_constraint_bounds-returns-in-Some-clause-err : goal.path::print_constraint_bounds-returns-in-Some-clause-err
+path::print_constraint_bounds-returns-in-Some-clause-err g t c =
+    let old = trees c.args.out.now in
+    let mid = trees c.loop-pair.out in
+    on_err_weaker c.print_bound-in-Some.result
+    (λ h. extends_on old (drop (length old) mid) mid _ (sym (take-append-drop (length old) mid) ∙ ap (λ z. z ++ drop (length old) mid) c.loop-pair.invariant.kept) h) c.print_bound-in-Some.ensures.err
+
+pub path::print_argument_kind-print_argument_member-requires : goal.path::print_argument_kind-print_argument_member-requires
+path::print_argument_kind-print_argument_member-requires g t c κs within =
+    let h = in_list (size-GenericArgumentOf g.row.A.Denot g.row.E.Denot) c.args.arguments.now.args c.argument_parts.result.0.now (option_map (λ x. x.now) c.argument_parts.result.1) c.loop-pair.pair-index c.pair-item.result c.argument_parts.ensures c.loop-pair-test.true c.pair-item.is in
+    (omega (arith, c.decreases, h), within)
+
+pub path::print_argument_kind-print_argument_member-requires-in-Some : goal.path::print_argument_kind-print_argument_member-requires-in-Some
+path::print_argument_kind-print_argument_member-requires-in-Some g t c κs within =
+    let k : option_map (λ x. x.now) c.argument_parts.result.1 ≡ Some c.in-Some.argument.now = ap (option_map (λ x. x.now)) c.in-Some.is in
+    let h = last_in_list (size-GenericArgumentOf g.row.A.Denot g.row.E.Denot) c.args.arguments.now.args c.argument_parts.result.0.now (option_map (λ x. x.now) c.argument_parts.result.1) c.in-Some.argument.now c.argument_parts.ensures k in
+    (omega (arith, c.decreases, h), within)
+
+pub path::print_argument_kind-returns-in-Some-clause-ok : goal.path::print_argument_kind-returns-in-Some-clause-ok
+path::print_argument_kind-returns-in-Some-clause-ok g t c =
+    let k : option_map (λ x. x.now) c.argument_parts.result.1 ≡ Some c.in-Some.argument.now = ap (option_map (λ x. x.now)) c.in-Some.is in
+    on_ok_weaker c.print_argument_member-in-Some.result
+    (λ h. put_last_member is_lifetime (argument g.A.Attributes.shown g.E.Value.values) c.args.lifetimes c.args.arguments.now.args c.argument_parts.result.0.now (option_map (λ x. x.now) c.argument_parts.result.1) c.in-Some.argument.now c.loop-pair.pair-index
+    (trees c.args.out.now) (trees c.loop-pair.out) (trees c.print_argument_member-in-Some.new.out) c.argument_parts.ensures k c.loop-pair-test.false c.loop-pair.invariant.told h) c.print_argument_member-in-Some.ensures.ok
+
+pub path::print_argument_kind-returns-in-None-clause-ok : goal.path::print_argument_kind-returns-in-None-clause-ok
+path::print_argument_kind-returns-in-None-clause-ok g t c =
+    put_no_member is_lifetime (argument g.A.Attributes.shown g.E.Value.values) c.args.lifetimes c.args.arguments.now.args c.argument_parts.result.0.now (option_map (λ x. x.now) c.argument_parts.result.1) c.loop-pair.pair-index
+    (trees c.args.out.now) (trees c.loop-pair.out) c.argument_parts.ensures (ap (option_map (λ x. x.now)) c.in-None.is) c.loop-pair-test.false c.loop-pair.invariant.told
+
+pub path::print_argument_kind-returns-in-Some-clause-err : goal.path::print_argument_kind-returns-in-Some-clause-err
+path::print_argument_kind-returns-in-Some-clause-err g t c =
+    let old = trees c.args.out.now in
+    let mid = trees c.loop-pair.out in
+    on_err_weaker c.print_argument_member-in-Some.result
+    (λ h. extends_on old (drop (length old) mid) mid _ (sym (take-append-drop (length old) mid) ∙ ap (λ z. z ++ drop (length old) mid) c.loop-pair.invariant.kept) h) c.print_argument_member-in-Some.ensures.err
+
+pub path::print_parenthesized_inputs-print_type-requires : goal.path::print_parenthesized_inputs-print_type-requires
+path::print_parenthesized_inputs-print_type-requires g t c κs within =
+    let h = in_list (arg_size g.row.A.Denot g.row.E.Denot) c.args.arguments.now.inputs c.input_parts.result.0.now (option_map (λ x. x.now) c.input_parts.result.1) c.loop-pair.pair-index c.pair-item.result c.input_parts.ensures c.loop-pair-test.true c.pair-item.is in
+    (omega (arith, c.decreases, h, paren_weighs g.row.A.Denot g.row.E.Denot c.args.arguments.now), within)
+
+pub path::print_parenthesized_inputs-print_type-requires-in-Some : goal.path::print_parenthesized_inputs-print_type-requires-in-Some
+path::print_parenthesized_inputs-print_type-requires-in-Some g t c κs within =
+    let k : option_map (λ x. x.now) c.input_parts.result.1 ≡ Some c.in-Some.arg.now = ap (option_map (λ x. x.now)) c.in-Some.is in
+    let h = last_in_list (arg_size g.row.A.Denot g.row.E.Denot) c.args.arguments.now.inputs c.input_parts.result.0.now (option_map (λ x. x.now) c.input_parts.result.1) c.in-Some.arg.now c.input_parts.ensures k in
+    (omega (arith, c.decreases, h, paren_weighs g.row.A.Denot g.row.E.Denot c.args.arguments.now), within)
+
+pub path::print_parenthesized_inputs-returns-in_err-print_type-clause-err : goal.path::print_parenthesized_inputs-returns-in_err-print_type-clause-err
+path::print_parenthesized_inputs-returns-in_err-print_type-clause-err g t c =
+    let old = trees c.args.out.now in
+    let mid = trees c.loop-pair.out in
+    let kept : Extends old (trees c.print_type.new.out) =
+    extends_on old (drop (length old) mid) mid _ (sym (take-append-drop (length old) mid) ∙ ap (λ z. z ++ drop (length old) mid) c.loop-pair.invariant.kept)
+    (extends_on _ _ _ _ c.in_ok-print_arg_name.ensures.ok c.in_err-print_type.ensures.err) in
+    search rules
+
+pub path::print_parenthesized_inputs-loop-pair-preserved : goal.path::print_parenthesized_inputs-loop-pair-preserved
+path::print_parenthesized_inputs-loop-pair-preserved g t c =
+    let old = trees c.args.out.now in
+    let mid = trees c.loop-pair.out in
+    let f = named_arg g.A.Attributes.shown g.E.Value.values in
+    let last = option_map (λ x. x.now) c.input_parts.result.1 in
+    let all = c.input_parts.result.0.now in
+    let one = put_both mid (trees c.print_arg_name.new.out) (trees c.print_type.new.out) _ _ c.in_ok-print_arg_name.ensures.ok c.in_ok-print_type.ensures.ok in
+    record {
+      told = put_next f p.mark all last c.loop-pair.pair-index c.pair-item.result old mid (trees c.print_type.new.out) (trees c.to_tokens.new.out) (joined f p.mark (values_of all last) (marks_of all))
+          c.loop-pair-test.true c.pair-item.is c.loop-pair.invariant.told one c.in_ok-to_tokens.ensures.ok;
+      kept = rw c.in_ok-to_tokens.ensures.ok (rw c.in_ok-print_type.ensures.ok (rw c.in_ok-print_arg_name.ensures.ok (extends_append old _ _ (extends_append old _ _ (extends_append old mid _ c.loop-pair.invariant.kept)))));
+    }
+
+pub path::print_parenthesized_inputs-returns-in_ok-print_arg_name-in-Some-clause-ok : goal.path::print_parenthesized_inputs-returns-in_ok-print_arg_name-in-Some-clause-ok
+path::print_parenthesized_inputs-returns-in_ok-print_arg_name-in-Some-clause-ok g t c =
+    let mid = trees c.loop-pair.out in
+    let k : option_map (λ x. x.now) c.input_parts.result.1 ≡ Some c.in-Some.arg.now = ap (option_map (λ x. x.now)) c.in-Some.is in
+    on_ok_weaker c.print_type-in-Some.result
+    (λ h. put_last (named_arg g.A.Attributes.shown g.E.Value.values) p.mark c.args.arguments.now.inputs c.input_parts.result.0.now (option_map (λ x. x.now) c.input_parts.result.1) c.in-Some.arg.now c.loop-pair.pair-index (trees c.args.out.now) mid
+    (trees c.print_type-in-Some.new.out) c.input_parts.ensures k c.loop-pair-test.false c.loop-pair.invariant.told
+    (put_both mid (trees c.print_arg_name-in-Some.new.out) (trees c.print_type-in-Some.new.out) _ _ c.in_ok-print_arg_name-in-Some.ensures.ok h)) c.print_type-in-Some.ensures.ok
+
+pub path::print_parenthesized_inputs-returns-in_ok-print_arg_name-in-Some-clause-err : goal.path::print_parenthesized_inputs-returns-in_ok-print_arg_name-in-Some-clause-err
+path::print_parenthesized_inputs-returns-in_ok-print_arg_name-in-Some-clause-err g t c =
+    let old = trees c.args.out.now in
+    let mid = trees c.loop-pair.out in
+    on_err_weaker c.print_type-in-Some.result
+    (λ h. extends_on old (drop (length old) mid) mid _ (sym (take-append-drop (length old) mid) ∙ ap (λ z. z ++ drop (length old) mid) c.loop-pair.invariant.kept)
+    (extends_on _ _ _ _ c.in_ok-print_arg_name-in-Some.ensures.ok h)) c.print_type-in-Some.ensures.err
+
+pub path::print_around-print_closing-requires : goal.path::print_around-print_closing-requires
+path::print_around-print_closing-requires g t c κs within =
+    let h = in_list (seg_size g.row.A.Denot g.row.E.Denot) c.args.path.now.segments c.segment_parts.result.0.now (option_map (λ x. x.now) c.segment_parts.result.1) c.loop-pair.pair-index c.pair-item.result c.segment_parts.ensures c.loop-pair-test.true c.pair-item.is in
+    (omega (arith, c.decreases, h, path_weighs g.row.A.Denot g.row.E.Denot c.args.path.now), within)
+
+pub path::print_around-print_closing-requires-in-Some : goal.path::print_around-print_closing-requires-in-Some
+path::print_around-print_closing-requires-in-Some g t c κs within =
+    let k : option_map (λ x. x.now) c.segment_parts.result.1 ≡ Some c.in-Some.segment.now = ap (option_map (λ x. x.now)) c.in-Some.is in
+    let h = last_in_list (seg_size g.row.A.Denot g.row.E.Denot) c.args.path.now.segments c.segment_parts.result.0.now (option_map (λ x. x.now) c.segment_parts.result.1) c.in-Some.segment.now c.segment_parts.ensures k in
+    (omega (arith, c.decreases, h, path_weighs g.row.A.Denot g.row.E.Denot c.args.path.now), within)
+
+pub path::print_around-returns-in-Some-clause-ok : goal.path::print_around-returns-in-Some-clause-ok
+path::print_around-returns-in-Some-clause-ok g t c =
+    let k : option_map (λ x. x.now) c.segment_parts.result.1 ≡ Some c.in-Some.segment.now = ap (option_map (λ x. x.now)) c.in-Some.is in
+    on_ok_weaker c.print_closing-in-Some.result
+    (λ h. around_last (arguments g.A.Attributes.shown g.E.Value.values) c.args.style c.args.gt_token.now c.args.path.now.segments c.segment_parts.result.0.now (option_map (λ x. x.now) c.segment_parts.result.1) c.in-Some.segment.now c.loop-pair.pair-index c.loop-pair.before c.args.before
+    (trees c.args.out.now) (trees c.loop-pair.out) (trees c.print_closing-in-Some.new.out) c.segment_parts.ensures k c.loop-pair-test.false c.loop-pair.invariant.told h) c.print_closing-in-Some.ensures.ok
+
+pub path::print_around-returns-in-None-clause-ok : goal.path::print_around-returns-in-None-clause-ok
+path::print_around-returns-in-None-clause-ok g t c =
+    around_none (arguments g.A.Attributes.shown g.E.Value.values) c.args.style c.args.gt_token.now c.args.path.now.segments c.segment_parts.result.0.now (option_map (λ x. x.now) c.segment_parts.result.1) c.loop-pair.pair-index c.loop-pair.before c.args.before
+    (trees c.args.out.now) (trees c.loop-pair.out) c.segment_parts.ensures (ap (option_map (λ x. x.now)) c.in-None.is) c.loop-pair-test.false c.loop-pair.invariant.told
+
+pub path::print_around-returns-in-Some-clause-err : goal.path::print_around-returns-in-Some-clause-err
+path::print_around-returns-in-Some-clause-err g t c =
+    let old = trees c.args.out.now in
+    let mid = trees c.loop-pair.out in
+    on_err_weaker c.print_closing-in-Some.result
+    (λ h. extends_on old (drop (length old) mid) mid _ (sym (take-append-drop (length old) mid) ∙ ap (λ z. z ++ drop (length old) mid) c.loop-pair.invariant.kept) h) c.print_closing-in-Some.ensures.err
