@@ -25,3 +25,4 @@ pub mod Laws
 pub mod Lasts
 pub mod Pieces
 pub mod Weights
+pub mod Puts

@@ -24,6 +24,7 @@ use Rattle.syn_mid.specs.path.Printing.{segment}
 use Rattle.syn_mid.specs.ty.Printing.{ty, param, bound, named_arg, inputs_of, fn_lifetimes, trait_binder, argument, arguments}
 use Rattle.syn_mid.proofs.ty_laws.Parts.{in_list, last_in_list, put_last, put_next, put_none}
 use Rattle.syn_mid.proofs.ty_laws.Pieces.{put_both, put_default, put_bare, put_fn_ptr}
+use Rattle.syn_mid.proofs.ty_laws.Puts.{put_next_member, put_parenthesized, put_assoc_type, put_constraint, put_qualified}
 use Rattle.syn_mid.proofs.ty_laws.Weights.{arg_size, binder_weighs, inputs_weigh, seg_size, path_weighs, paren_weighs}
 use Rattle.syn_mid.proofs.generics_laws.Sorted.{put_last_member, put_no_member}
 use Rattle.syn_mid.proofs.path_laws.Closings.{around_last, around_none, around_next}
@@ -512,3 +513,55 @@ path::print_around-returns-in-Some-clause-err g t c =
     let mid = trees c.loop-pair.out in
     on_err_weaker c.print_closing-in-Some.result
     (λ h. extends_on old (drop (length old) mid) mid _ (sym (take-append-drop (length old) mid) ∙ ap (λ z. z ++ drop (length old) mid) c.loop-pair.invariant.kept) h) c.print_closing-in-Some.ensures.err
+
+pub path::print_argument_kind-loop-pair-preserved : goal.path::print_argument_kind-loop-pair-preserved
+path::print_argument_kind-loop-pair-preserved g t c =
+    let old = trees c.args.out.now in
+    let mid = trees c.loop-pair.out in
+    let last = option_map (λ x. x.now) c.argument_parts.result.1 in
+    let all = c.argument_parts.result.0.now in
+    record {
+      told = put_next_member is_lifetime (argument g.A.Attributes.shown g.E.Value.values) c.args.lifetimes all last c.loop-pair.pair-index c.pair-item.result old mid (trees c.print_argument_member.new.out) _
+          c.loop-pair-test.true c.pair-item.is c.loop-pair.invariant.told c.in_ok-print_argument_member.ensures.ok;
+      kept = rw c.in_ok-print_argument_member.ensures.ok (extends_append old mid _ c.loop-pair.invariant.kept);
+    }
+
+pub path::print_arguments-returns-in_ok-print_parenthesized_start-in-Parenthesized-clause-ok : goal.path::print_arguments-returns-in_ok-print_parenthesized_start-in-Parenthesized-clause-ok
+path::print_arguments-returns-in_ok-print_parenthesized_start-in-Parenthesized-clause-ok g t c =
+    on_ok_weaker c.print_parenthesized.result
+    (λ h. put_parenthesized g.A.Attributes.shown g.E.Value.values c.args.style c.args.arguments.now _ _ _ _ c.in-Parenthesized.is c.in_ok-print_parenthesized_start-in-Parenthesized.ensures.ok h) c.print_parenthesized.ensures.ok
+
+pub path::print_assoc_const-returns-clause-err : goal.path::print_assoc_const-returns-clause-err
+path::print_assoc_const-returns-clause-err g t c =
+    on_err_weaker c.print_const_argument.result (λ h. extends_on _ _ _ _ c.in_ok-to_tokens.ensures.ok (extends_on _ _ _ _ c.in_ok-print_generics.ensures.ok (extends_on _ _ _ _ c.in_ok-to_tokens-2.ensures.ok h))) c.print_const_argument.ensures.err
+
+pub path::print_assoc_type-returns-clause-err : goal.path::print_assoc_type-returns-clause-err
+path::print_assoc_type-returns-clause-err g t c =
+    on_err_weaker c.print_type.result (λ h. extends_on _ _ _ _ c.in_ok-to_tokens.ensures.ok (extends_on _ _ _ _ c.in_ok-print_generics.ensures.ok (extends_on _ _ _ _ c.in_ok-to_tokens-2.ensures.ok h))) c.print_type.ensures.err
+
+pub path::print_constraint-returns-clause-err : goal.path::print_constraint-returns-clause-err
+path::print_constraint-returns-clause-err g t c =
+    on_err_weaker c.print_constraint_bounds.result (λ h. extends_on _ _ _ _ c.in_ok-to_tokens.ensures.ok (extends_on _ _ _ _ c.in_ok-print_generics.ensures.ok (extends_on _ _ _ _ c.in_ok-to_tokens-2.ensures.ok h))) c.print_constraint_bounds.ensures.err
+
+pub path::print_assoc_type-returns-clause-ok : goal.path::print_assoc_type-returns-clause-ok
+path::print_assoc_type-returns-clause-ok g t c =
+    on_ok_weaker c.print_type.result (λ h. put_assoc_type g.A.Attributes.shown g.E.Value.values c.args.assoc.now _ _ _ _ _ c.in_ok-to_tokens.ensures.ok c.in_ok-print_generics.ensures.ok c.in_ok-to_tokens-2.ensures.ok h) c.print_type.ensures.ok
+
+pub path::print_constraint-returns-clause-ok : goal.path::print_constraint-returns-clause-ok
+path::print_constraint-returns-clause-ok g t c =
+    on_ok_weaker c.print_constraint_bounds.result (λ h. put_constraint g.A.Attributes.shown g.E.Value.values c.args.constraint.now _ _ _ _ _ c.in_ok-to_tokens.ensures.ok c.in_ok-print_generics.ensures.ok c.in_ok-to_tokens-2.ensures.ok h) c.print_constraint_bounds.ensures.ok
+
+pub path::print_parenthesized-returns-in_ok-to_tokens-in-Type-clause-err : goal.path::print_parenthesized-returns-in_ok-to_tokens-in-Type-clause-err
+path::print_parenthesized-returns-in_ok-to_tokens-in-Type-clause-err g t c =
+    on_err_weaker c.print_type.result (λ h. extends_on _ _ _ _ c.in_ok-surround.ensures.ok (extends_on _ _ _ _ c.in_ok-to_tokens-in-Type.ensures.ok h)) c.print_type.ensures.err
+
+pub path::print_qualified-print_path-requires : goal.path::print_qualified-print_path-requires
+path::print_qualified-print_path-requires g t c κs within = (omega (arith, c.decreases), within)
+
+pub path::print_qualified-print_around-requires : goal.path::print_qualified-print_around-requires
+path::print_qualified-print_around-requires g t c κs within = (omega (arith, c.decreases), within)
+
+pub ty::print_path_type-returns-in_ok-print_type-in-Some-clause-ok : goal.ty::print_path_type-returns-in_ok-print_type-in-Some-clause-ok
+ty::print_path_type-returns-in_ok-print_type-in-Some-clause-ok g t c =
+    on_ok_weaker c.print_qualified.result
+    (λ h. put_qualified g.A.Attributes.shown g.E.Value.values c.args.path.now c.in-Some.qself _ _ _ _ c.in-Some.is c.in_ok-to_tokens-in-Some.ensures.ok (c.in_ok-print_type-in-Some.ensures.ok ∙ ap (λ z. trees c.to_tokens-in-Some.new.out ++ ty g.A.Attributes.shown g.E.Value.values z) c.get.ensures) h) c.print_qualified.ensures.ok
