@@ -564,4 +564,4 @@ path::print_qualified-print_around-requires g t c κs within = (omega (arith, c.
 pub ty::print_path_type-returns-in_ok-print_type-in-Some-clause-ok : goal.ty::print_path_type-returns-in_ok-print_type-in-Some-clause-ok
 ty::print_path_type-returns-in_ok-print_type-in-Some-clause-ok g t c =
     on_ok_weaker c.print_qualified.result
-    (λ h. put_qualified g.A.Attributes.shown g.E.Value.values c.args.path.now c.in-Some.qself _ _ _ _ c.in-Some.is c.in_ok-to_tokens-in-Some.ensures.ok (c.in_ok-print_type-in-Some.ensures.ok ∙ ap (λ z. trees c.to_tokens-in-Some.new.out ++ ty g.A.Attributes.shown g.E.Value.values z) c.get.ensures) h) c.print_qualified.ensures.ok
+    (λ h. put_qualified g.A.Attributes.shown g.E.Value.values c.args.path.now c.in-Some.qself _ _ _ _ c.in-Some.is c.in_ok-to_tokens-in-Some.ensures.ok (c.in_ok-print_type-in-Some.ensures.ok ∙ ap (λ z. trees c.to_tokens.new.out ++ ty g.A.Attributes.shown g.E.Value.values z) c.get.ensures) h) c.print_qualified.ensures.ok

@@ -5,6 +5,8 @@ use Rattle.token_core.specs.Lists.{joined}
 use Rattle.token_core.specs.Prints as p
 use Rattle.token_core.specs.Prints.{Extends}
 use Rattle.token_core.specs.Trees.{trees}
+use Rattle.syn_mid.specs.declared.generics.GenericParamOf.TheShapes as shapes
+use Rattle.syn_mid.specs.declared.path.PathArgumentsOf.{size-PathArgumentsOf}
 use Rattle.syn_mid.specs.generics.Members.{each, those}
 use Rattle.syn_mid.specs.path.Paths.{is_lifetime}
 use Rattle.syn_mid.specs.path.Printing.{segments, around}
@@ -177,7 +179,7 @@ abbrev pub decreases-path::print_parenthesized_inputs : goal.decreases-path::pri
 decreases-path::print_parenthesized_inputs g l = 8 * goal.size-path::print_parenthesized_inputs g l + 1
 
 abbrev pub decreases-path::print_qualified : goal.decreases-path::print_qualified
-decreases-path::print_qualified g l = 8 * goal.size-path::print_qualified g l + 4
+decreases-path::print_qualified g l = 8 * (shapes.weighed-TraitBoundOf-path g.row.A.Denot g.row.E.Denot).weight _ (size-PathArgumentsOf g.row.A.Denot g.row.E.Denot) l.path.now + 4
 
 abbrev pub decreases-path::print_around : goal.decreases-path::print_around
 decreases-path::print_around g l = 8 * goal.size-path::print_around g l + 3
