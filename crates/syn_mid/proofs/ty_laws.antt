@@ -24,3 +24,5 @@ pub mod Lone
 pub mod Laws
 pub mod Lasts
 pub mod Pieces
+pub mod Weights
+pub mod Puts

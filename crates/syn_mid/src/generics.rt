@@ -14,6 +14,8 @@ ghost use Rattle.syn_mid.specs.declared.generics.GenericParamOf.TheVariants as p
 ghost use Rattle.syn_mid.specs.declared.generics.Style as styles;
 ghost use Rattle.syn_mid.specs.declared.generics.TypeParamBoundOf.TheVariants as bounds;
 ghost use Rattle.syn_mid.specs.declared.generics.WherePredicateOf.TheVariants as predicates;
+ghost use Rattle.syn_mid.specs.Supplied.{Block};
+ghost use Rattle.syn_mid.specs.attr.Printing.{at_place};
 ghost use Rattle.syn_mid.specs.generics.Kinds as kinds;
 ghost use Rattle.syn_mid.specs.generics.Lends.{lends_clause};
 ghost use Rattle.syn_mid.specs.generics.Members as members;
@@ -26,7 +28,7 @@ ghost use Rattle.syn_mid.specs.ty.Knot as knot;
 ghost use Rattle.syn_mid.specs.ty.Printing as types;
 ghost use Rattle.syn_mid.specs.generics.Views as views;
 
-use crate::attr::{Attribute, print_outer, print_value};
+use crate::attr::{Attribute, print_value};
 use crate::grammar::parse_bound;
 use crate::path::{PathArgumentsOf, PathOf, PathStyle, print_path};
 use crate::supplied::{Attributes, Expr, Place, Subtree, Value};
@@ -822,24 +824,24 @@ fn has_other<M: Member>(pairs: &[Pair<M, Comma>]) -> bool
 }
 
 #[tactic(auto, using(token_core::proofs::Puts::puts))]
-fn print_lifetime_param<X: Subtree>(
+fn print_lifetime_param<A: Attributes>(
     alloc: Global,
-    param: &LifetimeParam<X>,
+    param: &LifetimeParamOf<A>,
     out: &mut TokenStream,
 ) -> Result<(), AllocError>
-    ensures ok { OnOk result (trees out.new ≡ trees out.old ++ shapes.lifetime_param X.prints param.now) }
+    ensures ok { OnOk result (trees out.new ≡ trees out.old ++ shapes.lifetime_param_by A.shown param.now) }
     ensures err { OnErr result (Extends (trees out.old) (trees out.new)) }
 {
-    print_outer(alloc, &param.attrs, out)?;
+    A::print_outer(alloc, &param.attrs, out)?;
     param.lifetime.to_tokens(alloc, out)?;
     print_lifetime_bounds(alloc, param, out)
 }
 
 /// The bounds of a lifetime parameter after their colon.
 #[tactic(auto, using(token_core::proofs::Puts::puts, crate::proofs::generics_laws::Prints::bounds))]
-fn print_lifetime_bounds<X>(
+fn print_lifetime_bounds<A>(
     alloc: Global,
-    param: &LifetimeParam<X>,
+    param: &LifetimeParamOf<A>,
     out: &mut TokenStream,
 ) -> Result<(), AllocError>
     ensures ok { OnOk result (trees out.new ≡ trees out.old ++ shapes.after_colon lifetimes.print param.now.colon_token param.now.bounds) }
@@ -853,18 +855,18 @@ fn print_lifetime_bounds<X>(
 }
 
 #[tactic(auto, using(token_core::proofs::Puts::puts))]
-fn print_const_default<X: Subtree>(
+fn print_const_default<E: Value>(
     alloc: Global,
-    default: &Option<(Eq, Expr<X>)>,
+    default: &Option<(Eq, E)>,
     out: &mut TokenStream,
 ) -> Result<(), AllocError>
-    ensures ok { OnOk result (trees out.new ≡ trees out.old ++ shapes.const_default X.prints default.now) }
+    ensures ok { OnOk result (trees out.new ≡ trees out.old ++ shapes.const_default_by E.values default.now) }
     ensures err { OnErr result (Extends (trees out.old) (trees out.new)) }
 {
     match default {
         Some((eq_token, value)) => {
             eq_token.to_tokens(alloc, out)?;
-            print_const_argument(alloc, value, out)
+            value.print_const_argument(alloc, out)
         }
         None => Ok(()),
     }
@@ -908,7 +910,7 @@ fn print_in_braces<X: Subtree>(
     value: &Expr<X>,
     out: &mut TokenStream,
 ) -> Result<(), AllocError>
-    ensures ok { OnOk result (trees out.new ≡ trees out.old ++ shapes.in_braces X.prints value.now) }
+    ensures ok { OnOk result (trees out.new ≡ trees out.old ++ at_place X.prints Block value.now) }
     ensures err { OnErr result (Extends (trees out.old) (trees out.new)) }
 {
     match value {
@@ -922,29 +924,29 @@ fn print_in_braces<X: Subtree>(
 /// Appends a parameter; refused, what stood before is kept.
 #[cycle(print)]
 #[tactic(auto, using(token_core::proofs::Puts::puts, crate::proofs::ty_laws::Prints::parts))]
-pub(crate) fn print_param<X: Subtree>(
+pub(crate) fn print_param<A: Attributes, E: Value>(
     alloc: Global,
-    param: &GenericParam<X>,
+    param: &GenericParamOf<A, E>,
     out: &mut TokenStream,
 ) -> Result<(), AllocError>
-    ensures ok { OnOk result (trees out.new ≡ trees out.old ++ types.param X.prints param.now) }
+    ensures ok { OnOk result (trees out.new ≡ trees out.old ++ types.param A.shown E.values param.now) }
     ensures err { OnErr result (Extends (trees out.old) (trees out.new)) }
 {
     match param {
-        GenericParam::Lifetime(param) => print_lifetime_param(alloc, param, out),
-        GenericParam::Type(param) => print_type_param(alloc, param, out),
-        GenericParam::Const(param) => print_const_param(alloc, param, out),
+        GenericParamOf::Lifetime(param) => print_lifetime_param(alloc, param, out),
+        GenericParamOf::Type(param) => print_type_param(alloc, param, out),
+        GenericParamOf::Const(param) => print_const_param(alloc, param, out),
     }
 }
 
 #[cycle(print)]
 #[tactic(auto, using(token_core::proofs::Puts::puts))]
-fn print_const_param<X: Subtree>(
+fn print_const_param<A: Attributes, E: Value>(
     alloc: Global,
-    param: &ConstParam<X>,
+    param: &ConstParamOf<TypeOf<A, E>, A, E>,
     out: &mut TokenStream,
 ) -> Result<(), AllocError>
-    ensures ok { OnOk result (trees out.new ≡ trees out.old ++ types.const_param X.prints param.now) }
+    ensures ok { OnOk result (trees out.new ≡ trees out.old ++ types.const_param A.shown E.values param.now) }
     ensures err { OnErr result (Extends (trees out.old) (trees out.new)) }
 {
     print_const_head(alloc, param, out)?;
@@ -954,15 +956,15 @@ fn print_const_param<X: Subtree>(
 /// A const parameter without its default.
 #[cycle(print)]
 #[tactic(auto, using(token_core::proofs::Puts::puts))]
-fn print_const_head<X: Subtree>(
+fn print_const_head<A: Attributes, E: Value>(
     alloc: Global,
-    param: &ConstParam<X>,
+    param: &ConstParamOf<TypeOf<A, E>, A, E>,
     out: &mut TokenStream,
 ) -> Result<(), AllocError>
-    ensures ok { OnOk result (trees out.new ≡ trees out.old ++ types.const_head X.prints param.now) }
+    ensures ok { OnOk result (trees out.new ≡ trees out.old ++ types.const_head A.shown E.values param.now) }
     ensures err { OnErr result (Extends (trees out.old) (trees out.new)) }
 {
-    print_outer(alloc, &param.attrs, out)?;
+    A::print_outer(alloc, &param.attrs, out)?;
     param.const_token.to_tokens(alloc, out)?;
     param.ident.to_tokens(alloc, out)?;
     param.colon_token.to_tokens(alloc, out)?;
@@ -971,12 +973,12 @@ fn print_const_head<X: Subtree>(
 
 #[cycle(print)]
 #[tactic(auto, using(token_core::proofs::Puts::puts))]
-fn print_type_param<X: Subtree>(
+fn print_type_param<A: Attributes, E: Value>(
     alloc: Global,
-    param: &TypeParam<X>,
+    param: &TypeParamOf<A, E>,
     out: &mut TokenStream,
 ) -> Result<(), AllocError>
-    ensures ok { OnOk result (trees out.new ≡ trees out.old ++ types.type_param X.prints param.now) }
+    ensures ok { OnOk result (trees out.new ≡ trees out.old ++ types.type_param A.shown E.values param.now) }
     ensures err { OnErr result (Extends (trees out.old) (trees out.new)) }
 {
     print_type_head(alloc, param, out)?;
@@ -992,15 +994,15 @@ fn print_type_param<X: Subtree>(
 /// A type parameter without its default.
 #[cycle(print)]
 #[tactic(auto, using(token_core::proofs::Puts::puts))]
-fn print_type_head<X: Subtree>(
+fn print_type_head<A: Attributes, E: Value>(
     alloc: Global,
-    param: &TypeParam<X>,
+    param: &TypeParamOf<A, E>,
     out: &mut TokenStream,
 ) -> Result<(), AllocError>
-    ensures ok { OnOk result (trees out.new ≡ trees out.old ++ types.type_head X.prints param.now) }
+    ensures ok { OnOk result (trees out.new ≡ trees out.old ++ types.type_head A.shown E.values param.now) }
     ensures err { OnErr result (Extends (trees out.old) (trees out.new)) }
 {
-    print_outer(alloc, &param.attrs, out)?;
+    A::print_outer(alloc, &param.attrs, out)?;
     param.ident.to_tokens(alloc, out)?;
     print_type_bounds(alloc, param, out)
 }
@@ -1008,12 +1010,12 @@ fn print_type_head<X: Subtree>(
 /// The bounds of a type parameter after their colon.
 #[cycle(print)]
 #[tactic(auto, using(token_core::proofs::Puts::puts, crate::proofs::generics_laws::Prints::bounds))]
-fn print_type_bounds<X: Subtree>(
+fn print_type_bounds<A: Attributes, E: Value>(
     alloc: Global,
-    param: &TypeParam<X>,
+    param: &TypeParamOf<A, E>,
     out: &mut TokenStream,
 ) -> Result<(), AllocError>
-    ensures ok { OnOk result (trees out.new ≡ trees out.old ++ types.type_bounds X.prints param.now) }
+    ensures ok { OnOk result (trees out.new ≡ trees out.old ++ types.type_bounds A.shown E.values param.now) }
     ensures err { OnErr result (Extends (trees out.old) (trees out.new)) }
 {
     if param.bounds.is_empty() {
@@ -1025,12 +1027,12 @@ fn print_type_bounds<X: Subtree>(
 
 #[cycle(print)]
 #[tactic(auto, using(token_core::proofs::Puts::puts))]
-fn print_bounds<X: Subtree>(
+fn print_bounds<A: Attributes, E: Value>(
     alloc: Global,
-    param: &TypeParam<X>,
+    param: &TypeParamOf<A, E>,
     out: &mut TokenStream,
 ) -> Result<(), AllocError>
-    ensures ok { OnOk result (trees out.new ≡ trees out.old ++ types.own_bounds X.prints param.now) }
+    ensures ok { OnOk result (trees out.new ≡ trees out.old ++ types.own_bounds A.shown E.values param.now) }
     ensures err { OnErr result (Extends (trees out.old) (trees out.new)) }
 {
     let (pairs, last) = bound_parts(&param.bounds);
@@ -1047,30 +1049,30 @@ fn print_bounds<X: Subtree>(
 /// Appends a bound; refused, what stood before is kept.
 #[cycle(print)]
 #[tactic(auto, using(token_core::proofs::Puts::puts, crate::proofs::ty_laws::Prints::parts))]
-pub(crate) fn print_bound<X: Subtree>(
+pub(crate) fn print_bound<A: Attributes, E: Value>(
     alloc: Global,
-    bound: &TypeParamBound<X>,
+    bound: &TypeParamBoundOf<A, E>,
     out: &mut TokenStream,
 ) -> Result<(), AllocError>
-    ensures ok { OnOk result (trees out.new ≡ trees out.old ++ types.bound X.prints bound.now) }
+    ensures ok { OnOk result (trees out.new ≡ trees out.old ++ types.bound A.shown E.values bound.now) }
     ensures err { OnErr result (Extends (trees out.old) (trees out.new)) }
 {
     match bound {
-        TypeParamBound::Trait(bound) => print_trait_bound(alloc, bound, out),
-        TypeParamBound::Lifetime(lifetime) => lifetime.to_tokens(alloc, out),
-        TypeParamBound::PreciseCapture(capture) => print_capture(alloc, capture, out),
-        TypeParamBound::Verbatim(tokens) => print_verbatim(alloc, tokens, out),
+        TypeParamBoundOf::Trait(bound) => print_trait_bound(alloc, bound, out),
+        TypeParamBoundOf::Lifetime(lifetime) => lifetime.to_tokens(alloc, out),
+        TypeParamBoundOf::PreciseCapture(capture) => print_capture(alloc, capture, out),
+        TypeParamBoundOf::Verbatim(tokens) => print_verbatim(alloc, tokens, out),
     }
 }
 
 #[cycle(print)]
 #[tactic(auto, using(token_core::proofs::Puts::puts, crate::proofs::ty_laws::Prints::parts))]
-fn print_trait_bound<X: Subtree>(
+fn print_trait_bound<A: Attributes, E: Value>(
     alloc: Global,
-    bound: &TraitBound<X>,
+    bound: &TraitBoundOf<A, E>,
     out: &mut TokenStream,
 ) -> Result<(), AllocError>
-    ensures ok { OnOk result (trees out.new ≡ trees out.old ++ types.trait_bound X.prints bound.now) }
+    ensures ok { OnOk result (trees out.new ≡ trees out.old ++ types.trait_bound A.shown E.values bound.now) }
     ensures err { OnErr result (Extends (trees out.old) (trees out.new)) }
 {
     match &bound.paren_token {
@@ -1086,12 +1088,12 @@ fn print_trait_bound<X: Subtree>(
 /// A trait bound without its parentheses.
 #[cycle(print)]
 #[tactic(auto, using(token_core::proofs::Puts::puts, crate::proofs::generics_laws::Prints::binders))]
-fn print_bare_trait<X: Subtree>(
+fn print_bare_trait<A: Attributes, E: Value>(
     alloc: Global,
-    bound: &TraitBound<X>,
+    bound: &TraitBoundOf<A, E>,
     out: &mut TokenStream,
 ) -> Result<(), AllocError>
-    ensures ok { OnOk result (trees out.new ≡ trees out.old ++ types.bare_trait X.prints bound.now) }
+    ensures ok { OnOk result (trees out.new ≡ trees out.old ++ types.bare_trait A.shown E.values bound.now) }
     ensures err { OnErr result (Extends (trees out.old) (trees out.new)) }
 {
     print_binder_start(alloc, &bound.lifetimes, out)?;
@@ -1103,12 +1105,12 @@ fn print_bare_trait<X: Subtree>(
 /// The parameters of a trait bound's binder.
 #[cycle(print)]
 #[tactic(auto, using(token_core::proofs::Puts::puts))]
-fn print_trait_params<X: Subtree>(
+fn print_trait_params<A: Attributes, E: Value>(
     alloc: Global,
-    bound: &TraitBound<X>,
+    bound: &TraitBoundOf<A, E>,
     out: &mut TokenStream,
 ) -> Result<(), AllocError>
-    ensures ok { OnOk result (trees out.new ≡ trees out.old ++ types.trait_params X.prints bound.now) }
+    ensures ok { OnOk result (trees out.new ≡ trees out.old ++ types.trait_params A.shown E.values bound.now) }
     ensures err { OnErr result (Extends (trees out.old) (trees out.new)) }
 {
     let (pairs, last) = binder_parts(bound);
@@ -1123,9 +1125,9 @@ fn print_trait_params<X: Subtree>(
 }
 
 /// The parameters of a trait bound's binder by their parts; none without a binder.
-fn binder_parts<X>(
-    bound: &TraitBound<X>,
-) -> (&[Pair<GenericParam<X>, Comma>], Option<&GenericParam<X>>)
+fn binder_parts<A, E>(
+    bound: &TraitBoundOf<A, E>,
+) -> (&[Pair<GenericParamOf<A, E>, Comma>], Option<&GenericParamOf<A, E>>)
     ensures { shapes.binder_params (types.trait_binder bound.now) ≡ (values_of result.0.now (option_map (λ x. x.now) result.1), marks_of result.0.now) }
 {
     match &bound.lifetimes {
@@ -1172,12 +1174,12 @@ pub(crate) fn print_binder_end<G>(
 /// A trait bound after its binder.
 #[cycle(print)]
 #[tactic(auto, using(token_core::proofs::Puts::puts))]
-fn print_named_trait<X: Subtree>(
+fn print_named_trait<A: Attributes, E: Value>(
     alloc: Global,
-    bound: &TraitBound<X>,
+    bound: &TraitBoundOf<A, E>,
     out: &mut TokenStream,
 ) -> Result<(), AllocError>
-    ensures ok { OnOk result (trees out.new ≡ trees out.old ++ types.named_trait X.prints bound.now) }
+    ensures ok { OnOk result (trees out.new ≡ trees out.old ++ types.named_trait A.shown E.values bound.now) }
     ensures err { OnErr result (Extends (trees out.old) (trees out.new)) }
 {
     match &bound.maybe {
@@ -1204,22 +1206,22 @@ fn print_or_default<const N: u32>(
 }
 
 #[tactic(auto, using(token_core::proofs::Puts::puts))]
-fn print_predicate_lifetime<X: Subtree>(
+fn print_predicate_lifetime<A: Attributes>(
     alloc: Global,
-    predicate: &PredicateLifetime<X>,
+    predicate: &PredicateLifetimeOf<A>,
     out: &mut TokenStream,
 ) -> Result<(), AllocError>
-    ensures ok { OnOk result (trees out.new ≡ trees out.old ++ printing.predicate_lifetime X.prints predicate.now) }
+    ensures ok { OnOk result (trees out.new ≡ trees out.old ++ printing.predicate_lifetime_by A.shown predicate.now) }
     ensures err { OnErr result (Extends (trees out.old) (trees out.new)) }
 {
-    print_outer(alloc, &predicate.attrs, out)?;
+    A::print_outer(alloc, &predicate.attrs, out)?;
     predicate.lifetime.to_tokens(alloc, out)?;
     predicate.colon_token.to_tokens(alloc, out)?;
     predicate.bounds.to_tokens(alloc, out)
 }
 
-impl<X: Subtree> ToTokens for LifetimeParam<X> {
-    ghost print = { shapes.lifetime_param X.prints };
+impl<A: Attributes> ToTokens for LifetimeParamOf<A> {
+    ghost print = { shapes.lifetime_param_by A.shown };
 
     fn to_tokens(&self, alloc: Global, out: &mut TokenStream) -> Result<(), AllocError> {
         let before = out.len();
@@ -1233,8 +1235,8 @@ impl<X: Subtree> ToTokens for LifetimeParam<X> {
     }
 }
 
-impl<X: Subtree> ToTokens for ConstParam<X> {
-    ghost print = { types.const_param X.prints };
+impl<A: Attributes, E: Value> ToTokens for ConstParamOf<TypeOf<A, E>, A, E> {
+    ghost print = { types.const_param A.shown E.values };
 
     fn to_tokens(&self, alloc: Global, out: &mut TokenStream) -> Result<(), AllocError> {
         let before = out.len();
@@ -1248,8 +1250,8 @@ impl<X: Subtree> ToTokens for ConstParam<X> {
     }
 }
 
-impl<X: Subtree> ToTokens for PredicateLifetime<X> {
-    ghost print = { printing.predicate_lifetime X.prints };
+impl<A: Attributes> ToTokens for PredicateLifetimeOf<A> {
+    ghost print = { printing.predicate_lifetime_by A.shown };
 
     fn to_tokens(&self, alloc: Global, out: &mut TokenStream) -> Result<(), AllocError> {
         let before = out.len();
@@ -1263,8 +1265,8 @@ impl<X: Subtree> ToTokens for PredicateLifetime<X> {
     }
 }
 
-impl<X: Subtree> ToTokens for GenericParam<X> {
-    ghost print = { types.param X.prints };
+impl<A: Attributes, E: Value> ToTokens for GenericParamOf<A, E> {
+    ghost print = { types.param A.shown E.values };
 
     fn to_tokens(&self, alloc: Global, out: &mut TokenStream) -> Result<(), AllocError> {
         let before = out.len();
@@ -1278,8 +1280,8 @@ impl<X: Subtree> ToTokens for GenericParam<X> {
     }
 }
 
-impl<X: Subtree> ToTokens for TypeParam<X> {
-    ghost print = { types.type_param X.prints };
+impl<A: Attributes, E: Value> ToTokens for TypeParamOf<A, E> {
+    ghost print = { types.type_param A.shown E.values };
 
     fn to_tokens(&self, alloc: Global, out: &mut TokenStream) -> Result<(), AllocError> {
         let before = out.len();
@@ -1293,8 +1295,8 @@ impl<X: Subtree> ToTokens for TypeParam<X> {
     }
 }
 
-impl<X: Subtree> ToTokens for TypeParamBound<X> {
-    ghost print = { types.bound X.prints };
+impl<A: Attributes, E: Value> ToTokens for TypeParamBoundOf<A, E> {
+    ghost print = { types.bound A.shown E.values };
 
     fn to_tokens(&self, alloc: Global, out: &mut TokenStream) -> Result<(), AllocError> {
         let before = out.len();
@@ -1308,8 +1310,8 @@ impl<X: Subtree> ToTokens for TypeParamBound<X> {
     }
 }
 
-impl<X: Subtree> ToTokens for TraitBound<X> {
-    ghost print = { types.trait_bound X.prints };
+impl<A: Attributes, E: Value> ToTokens for TraitBoundOf<A, E> {
+    ghost print = { types.trait_bound A.shown E.values };
 
     fn to_tokens(&self, alloc: Global, out: &mut TokenStream) -> Result<(), AllocError> {
         let before = out.len();
@@ -1326,12 +1328,12 @@ impl<X: Subtree> ToTokens for TraitBound<X> {
 // ---- where clauses
 
 #[tactic(auto, using(token_core::proofs::Puts::puts))]
-fn print_bound_lifetimes<X: Subtree>(
+fn print_bound_lifetimes<A: Attributes, E: Value>(
     alloc: Global,
-    binder: &BoundLifetimes<X>,
+    binder: &BoundLifetimesOf<GenericParamOf<A, E>>,
     out: &mut TokenStream,
 ) -> Result<(), AllocError>
-    ensures ok { OnOk result (trees out.new ≡ trees out.old ++ types.bound_lifetimes X.prints binder.now) }
+    ensures ok { OnOk result (trees out.new ≡ trees out.old ++ types.bound_lifetimes A.shown E.values binder.now) }
     ensures err { OnErr result (Extends (trees out.old) (trees out.new)) }
 {
     binder.for_token.to_tokens(alloc, out)?;
@@ -1341,15 +1343,15 @@ fn print_bound_lifetimes<X: Subtree>(
 }
 
 #[tactic(auto, using(token_core::proofs::Puts::puts))]
-fn print_predicate_type<X: Subtree>(
+fn print_predicate_type<A: Attributes, E: Value>(
     alloc: Global,
-    predicate: &PredicateType<X>,
+    predicate: &PredicateTypeOf<A, E>,
     out: &mut TokenStream,
 ) -> Result<(), AllocError>
-    ensures ok { OnOk result (trees out.new ≡ trees out.old ++ printing.predicate_type X.prints predicate.now) }
+    ensures ok { OnOk result (trees out.new ≡ trees out.old ++ printing.predicate_type A.shown E.values predicate.now) }
     ensures err { OnErr result (Extends (trees out.old) (trees out.new)) }
 {
-    print_outer(alloc, &predicate.attrs, out)?;
+    A::print_outer(alloc, &predicate.attrs, out)?;
     print_binder(alloc, &predicate.lifetimes, out)?;
     print_type(alloc, &predicate.bounded_ty, out)?;
     predicate.colon_token.to_tokens(alloc, out)?;
@@ -1358,12 +1360,12 @@ fn print_predicate_type<X: Subtree>(
 
 /// A binder; nothing without one.
 #[tactic(auto, using(token_core::proofs::Puts::puts))]
-fn print_binder<X: Subtree>(
+fn print_binder<A: Attributes, E: Value>(
     alloc: Global,
-    binder: &Option<BoundLifetimes<X>>,
+    binder: &Option<BoundLifetimesOf<GenericParamOf<A, E>>>,
     out: &mut TokenStream,
 ) -> Result<(), AllocError>
-    ensures ok { OnOk result (trees out.new ≡ trees out.old ++ shapes.binder_by (types.param X.prints) binder.now) }
+    ensures ok { OnOk result (trees out.new ≡ trees out.old ++ shapes.binder_by (types.param A.shown E.values) binder.now) }
     ensures err { OnErr result (Extends (trees out.old) (trees out.new)) }
 {
     match binder {
@@ -1374,12 +1376,12 @@ fn print_binder<X: Subtree>(
 
 /// `where` and the predicates; nothing without predicates.
 #[tactic(auto, using(token_core::proofs::Puts::puts, crate::proofs::generics_laws::Prints::clauses))]
-fn print_where<X: Subtree>(
+fn print_where<A: Attributes, E: Value>(
     alloc: Global,
-    clause: &WhereClause<X>,
+    clause: &WhereClauseOf<A, E>,
     out: &mut TokenStream,
 ) -> Result<(), AllocError>
-    ensures ok { OnOk result (trees out.new ≡ trees out.old ++ printing.where_clause X.prints clause.now) }
+    ensures ok { OnOk result (trees out.new ≡ trees out.old ++ printing.where_clause A.shown E.values clause.now) }
     ensures err { OnErr result (Extends (trees out.old) (trees out.new)) }
 {
     if clause.predicates.is_empty() {
@@ -1389,8 +1391,8 @@ fn print_where<X: Subtree>(
     clause.predicates.to_tokens(alloc, out)
 }
 
-impl<X: Subtree> ToTokens for BoundLifetimes<X> {
-    ghost print = { types.bound_lifetimes X.prints };
+impl<A: Attributes, E: Value> ToTokens for BoundLifetimesOf<GenericParamOf<A, E>> {
+    ghost print = { types.bound_lifetimes A.shown E.values };
 
     fn to_tokens(&self, alloc: Global, out: &mut TokenStream) -> Result<(), AllocError> {
         let before = out.len();
@@ -1404,8 +1406,8 @@ impl<X: Subtree> ToTokens for BoundLifetimes<X> {
     }
 }
 
-impl<X: Subtree> ToTokens for PredicateType<X> {
-    ghost print = { printing.predicate_type X.prints };
+impl<A: Attributes, E: Value> ToTokens for PredicateTypeOf<A, E> {
+    ghost print = { printing.predicate_type A.shown E.values };
 
     fn to_tokens(&self, alloc: Global, out: &mut TokenStream) -> Result<(), AllocError> {
         let before = out.len();
@@ -1419,19 +1421,19 @@ impl<X: Subtree> ToTokens for PredicateType<X> {
     }
 }
 
-impl<X: Subtree> ToTokens for WherePredicate<X> {
-    ghost print = { printing.predicate X.prints };
+impl<A: Attributes, E: Value> ToTokens for WherePredicateOf<A, E> {
+    ghost print = { printing.predicate A.shown E.values };
 
     fn to_tokens(&self, alloc: Global, out: &mut TokenStream) -> Result<(), AllocError> {
         match self {
-            WherePredicate::Lifetime(predicate) => predicate.to_tokens(alloc, out),
-            WherePredicate::Type(predicate) => predicate.to_tokens(alloc, out),
+            WherePredicateOf::Lifetime(predicate) => predicate.to_tokens(alloc, out),
+            WherePredicateOf::Type(predicate) => predicate.to_tokens(alloc, out),
         }
     }
 }
 
-impl<X: Subtree> ToTokens for WhereClause<X> {
-    ghost print = { printing.where_clause X.prints };
+impl<A: Attributes, E: Value> ToTokens for WhereClauseOf<A, E> {
+    ghost print = { printing.where_clause A.shown E.values };
 
     fn to_tokens(&self, alloc: Global, out: &mut TokenStream) -> Result<(), AllocError> {
         let before = out.len();
@@ -1449,68 +1451,77 @@ impl<X: Subtree> ToTokens for WhereClause<X> {
 
 /// The head of an implementation: the parameters without their defaults.
 #[derive(Clone, Drop)]
-pub struct ImplGenerics<'a, X> {
-    generics: &'a Generics<X>,
+pub struct ImplGenericsOf<'a, A, E> {
+    generics: &'a GenericsOf<A, E>,
 }
+
+/// The head of an implementation: the parameters without their defaults.
+pub type ImplGenerics<'a, X> = ImplGenericsOf<'a, Attribute<X>, Expr<X>>;
 
 /// The parameters by their names.
 #[derive(Clone, Drop)]
-pub struct TypeGenerics<'a, X> {
-    generics: &'a Generics<X>,
+pub struct TypeGenericsOf<'a, A, E> {
+    generics: &'a GenericsOf<A, E>,
 }
+
+/// The parameters by their names.
+pub type TypeGenerics<'a, X> = TypeGenericsOf<'a, Attribute<X>, Expr<X>>;
 
 /// The parameters by their names, after `::`.
 #[derive(Clone, Drop)]
-pub struct Turbofish<'a, X> {
-    generics: &'a Generics<X>,
+pub struct TurbofishOf<'a, A, E> {
+    generics: &'a GenericsOf<A, E>,
 }
 
-impl<X> Generics<X> {
+/// The parameters by their names, after `::`.
+pub type Turbofish<'a, X> = TurbofishOf<'a, Attribute<X>, Expr<X>>;
+
+impl<A, E> GenericsOf<A, E> {
     /// The generics of an implementation for this declaration: its parameters without their defaults, their names, and its where clause.
     pub fn split_for_impl(
         &self,
     ) -> (
-        ImplGenerics<'_, A, E>,
-        TypeGenerics<'_, A, E>,
-        Option<&WhereClause<X>>,
+        ImplGenericsOf<'_, A, E>,
+        TypeGenericsOf<'_, A, E>,
+        Option<&WhereClauseOf<A, E>>,
     )
         ensures impls { result.0.generics.now ≡ self.now }
         ensures names { result.1.generics.now ≡ self.now }
         ensures clause { option_map (λ c. c.now) result.2 ≡ self.now.where_clause }
     {
         (
-            ImplGenerics { generics: self },
-            TypeGenerics { generics: self },
+            ImplGenericsOf { generics: self },
+            TypeGenericsOf { generics: self },
             self.where_clause.as_ref(),
         )
     }
 }
 
-impl<'a, X> TypeGenerics<'a, X> {
+impl<'a, A, E> TypeGenericsOf<'a, A, E> {
     /// The names after `::`, as in a call.
-    pub fn as_turbofish(&self) -> Turbofish<'a, X>
+    pub fn as_turbofish(&self) -> TurbofishOf<'a, A, E>
         ensures { result.generics.now ≡ self.now.generics.now }
     {
-        Turbofish {
+        TurbofishOf {
             generics: self.generics,
         }
     }
 }
 
-impl<X> Member for GenericParam<X> {
+impl<A, E> Member for GenericParamOf<A, E> {
     ghost first = { spec.is_lifetime };
 
     #[tactic(auto, using(crate::proofs::generics_laws::Views::views))]
     fn is_lifetime(&self) -> bool {
         match self {
-            GenericParam::Lifetime(_) => true,
-            GenericParam::Type(_) | GenericParam::Const(_) => false,
+            GenericParamOf::Lifetime(_) => true,
+            GenericParamOf::Type(_) | GenericParamOf::Const(_) => false,
         }
     }
 }
 
-impl<X: Subtree> Styled for GenericParam<X> {
-    ghost shown = { views.shown X.prints };
+impl<A: Attributes, E: Value> Styled for GenericParamOf<A, E> {
+    ghost shown = { views.shown A.shown E.values };
 
     #[tactic(auto, using(token_core::proofs::Puts::puts, crate::proofs::generics_laws::Views::views))]
     fn print_as(
@@ -1529,47 +1540,47 @@ impl<X: Subtree> Styled for GenericParam<X> {
 
 /// A parameter without its default.
 #[tactic(auto, using(token_core::proofs::Puts::puts, crate::proofs::generics_laws::Views::views))]
-fn print_head<X: Subtree>(
+fn print_head<A: Attributes, E: Value>(
     alloc: Global,
-    param: &GenericParam<X>,
+    param: &GenericParamOf<A, E>,
     out: &mut TokenStream,
 ) -> Result<(), AllocError>
-    ensures ok { OnOk result (trees out.new ≡ trees out.old ++ types.param X.prints (views.strip param.now)) }
+    ensures ok { OnOk result (trees out.new ≡ trees out.old ++ types.param A.shown E.values (views.strip param.now)) }
     ensures err { OnErr result (Extends (trees out.old) (trees out.new)) }
 {
     match param {
-        GenericParam::Lifetime(param) => print_lifetime_param(alloc, param, out),
-        GenericParam::Type(param) => print_type_head(alloc, param, out),
-        GenericParam::Const(param) => print_const_head(alloc, param, out),
+        GenericParamOf::Lifetime(param) => print_lifetime_param(alloc, param, out),
+        GenericParamOf::Type(param) => print_type_head(alloc, param, out),
+        GenericParamOf::Const(param) => print_const_head(alloc, param, out),
     }
 }
 
 /// A parameter's name.
 #[tactic(auto, using(token_core::proofs::Puts::puts, crate::proofs::generics_laws::Views::views))]
-fn print_name<X>(
+fn print_name<A, E>(
     alloc: Global,
-    param: &GenericParam<X>,
+    param: &GenericParamOf<A, E>,
     out: &mut TokenStream,
 ) -> Result<(), AllocError>
     ensures ok { OnOk result (trees out.new ≡ trees out.old ++ views.name param.now) }
     ensures err { OnErr result (Extends (trees out.old) (trees out.new)) }
 {
     match param {
-        GenericParam::Lifetime(param) => param.lifetime.to_tokens(alloc, out),
-        GenericParam::Type(param) => param.ident.to_tokens(alloc, out),
-        GenericParam::Const(param) => param.ident.to_tokens(alloc, out),
+        GenericParamOf::Lifetime(param) => param.lifetime.to_tokens(alloc, out),
+        GenericParamOf::Type(param) => param.ident.to_tokens(alloc, out),
+        GenericParamOf::Const(param) => param.ident.to_tokens(alloc, out),
     }
 }
 
 /// The parameters between `<` and `>`, lifetimes first; nothing without parameters.
 #[tactic(auto, using(token_core::proofs::Puts::puts, crate::proofs::generics_laws::Views::betweens))]
-fn print_between<X: Subtree>(
+fn print_between<A: Attributes, E: Value>(
     alloc: Global,
-    generics: &Generics<X>,
+    generics: &GenericsOf<A, E>,
     style: Style,
     out: &mut TokenStream,
 ) -> Result<(), AllocError>
-    ensures ok { OnOk result (trees out.new ≡ trees out.old ++ views.between_as X.prints style generics.now) }
+    ensures ok { OnOk result (trees out.new ≡ trees out.old ++ views.between_as A.shown E.values style generics.now) }
     ensures err { OnErr result (Extends (trees out.old) (trees out.new)) }
 {
     if generics.params.is_empty() {
@@ -1582,9 +1593,9 @@ fn print_between<X: Subtree>(
 
 /// The names after `::`; nothing without parameters.
 #[tactic(auto, using(token_core::proofs::Puts::puts, crate::proofs::generics_laws::Views::after_seps, crate::proofs::generics_laws::Views::showns))]
-fn print_turbofish<X: Subtree>(
+fn print_turbofish<A: Attributes, E: Value>(
     alloc: Global,
-    generics: &Generics<X>,
+    generics: &GenericsOf<A, E>,
     out: &mut TokenStream,
 ) -> Result<(), AllocError>
     ensures ok { OnOk result (trees out.new ≡ trees out.old ++ views.turbofish generics.now) }
@@ -1597,8 +1608,8 @@ fn print_turbofish<X: Subtree>(
     print_between(alloc, generics, Style::Name, out)
 }
 
-impl<X: Subtree> ToTokens for Generics<X> {
-    ghost print = { printing.generics X.prints };
+impl<A: Attributes, E: Value> ToTokens for GenericsOf<A, E> {
+    ghost print = { printing.generics A.shown E.values };
 
     #[tactic(auto, using(crate::proofs::generics_laws::Views::showns))]
     fn to_tokens(&self, alloc: Global, out: &mut TokenStream) -> Result<(), AllocError> {
@@ -1613,8 +1624,8 @@ impl<X: Subtree> ToTokens for Generics<X> {
     }
 }
 
-impl<'a, X: Subtree> ToTokens for ImplGenerics<'a, X> {
-    ghost print = { λ view. printing.generics X.prints (views.stripped view.generics.now) };
+impl<'a, A: Attributes, E: Value> ToTokens for ImplGenericsOf<'a, A, E> {
+    ghost print = { λ view. printing.generics A.shown E.values (views.stripped view.generics.now) };
 
     #[tactic(auto, using(crate::proofs::generics_laws::Views::showns))]
     fn to_tokens(&self, alloc: Global, out: &mut TokenStream) -> Result<(), AllocError> {
@@ -1629,7 +1640,7 @@ impl<'a, X: Subtree> ToTokens for ImplGenerics<'a, X> {
     }
 }
 
-impl<'a, X: Subtree> ToTokens for TypeGenerics<'a, X> {
+impl<'a, A: Attributes, E: Value> ToTokens for TypeGenericsOf<'a, A, E> {
     ghost print = { λ view. views.names view.generics.now };
 
     #[tactic(auto, using(crate::proofs::generics_laws::Views::showns))]
@@ -1645,7 +1656,7 @@ impl<'a, X: Subtree> ToTokens for TypeGenerics<'a, X> {
     }
 }
 
-impl<'a, X: Subtree> ToTokens for Turbofish<'a, X> {
+impl<'a, A: Attributes, E: Value> ToTokens for TurbofishOf<'a, A, E> {
     ghost print = { λ view. views.turbofish view.generics.now };
 
     fn to_tokens(&self, alloc: Global, out: &mut TokenStream) -> Result<(), AllocError> {

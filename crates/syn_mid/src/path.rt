@@ -21,7 +21,7 @@ ghost use Rattle.syn_mid.specs.ty.Printing as types;
 
 use crate::attr::Attribute;
 use crate::generics::{
-    Member, TypeParamBoundOf, print_added_comma, print_bound, print_const_argument,
+    Member, TypeParamBoundOf, print_added_comma, print_bound,
 };
 use crate::supplied::{Attributes, Expr, Subtree, Value};
 use crate::ty::{
@@ -641,8 +641,8 @@ fn bare_segment<A>(alloc: Global, segment: &PathSegmentOf<A>) -> Result<ModSegme
 
 // ---- prints
 
-impl<X: Subtree> ToTokens for Path<X> {
-    ghost print = { printing.path X.prints shapes.as_written };
+impl<A: Attributes, E: Value> ToTokens for PathOf<PathArgumentsOf<A, E>> {
+    ghost print = { printing.path A.shown E.values shapes.as_written };
 
     fn to_tokens(&self, alloc: Global, out: &mut TokenStream) -> Result<(), AllocError> {
         let before = out.len();
@@ -671,8 +671,8 @@ impl ToTokens for ModPath {
     }
 }
 
-impl<X: Subtree> ToTokens for PathSegment<X> {
-    ghost print = { printing.segment X.prints shapes.as_written };
+impl<A: Attributes, E: Value> ToTokens for PathSegmentOf<PathArgumentsOf<A, E>> {
+    ghost print = { printing.segment A.shown E.values shapes.as_written };
 
     fn to_tokens(&self, alloc: Global, out: &mut TokenStream) -> Result<(), AllocError> {
         let before = out.len();
@@ -694,8 +694,8 @@ impl ToTokens for ModSegment {
     }
 }
 
-impl<X: Subtree> ToTokens for PathArguments<X> {
-    ghost print = { types.arguments X.prints shapes.as_written };
+impl<A: Attributes, E: Value> ToTokens for PathArgumentsOf<A, E> {
+    ghost print = { types.arguments A.shown E.values shapes.as_written };
 
     fn to_tokens(&self, alloc: Global, out: &mut TokenStream) -> Result<(), AllocError> {
         let before = out.len();
@@ -758,13 +758,13 @@ fn print_mod_segment(
 /// Appends a path; refused, what stood before is kept.
 #[cycle(print)]
 #[tactic(auto, using(token_core::proofs::Puts::puts))]
-pub(crate) fn print_path<X: Subtree>(
+pub(crate) fn print_path<A: Attributes, E: Value>(
     alloc: Global,
-    path: &Path<X>,
+    path: &PathOf<PathArgumentsOf<A, E>>,
     style: PathStyle,
     out: &mut TokenStream,
 ) -> Result<(), AllocError>
-    ensures ok { OnOk result (trees out.new ≡ trees out.old ++ printing.path X.prints style path.now) }
+    ensures ok { OnOk result (trees out.new ≡ trees out.old ++ printing.path A.shown E.values style path.now) }
     ensures err { OnErr result (Extends (trees out.old) (trees out.new)) }
 {
     print_colon(alloc, &path.leading_colon, out)?;
@@ -774,13 +774,13 @@ pub(crate) fn print_path<X: Subtree>(
 /// Each segment with its mark.
 #[cycle(print)]
 #[tactic(auto, using(token_core::proofs::Puts::puts))]
-fn print_segments<X: Subtree>(
+fn print_segments<A: Attributes, E: Value>(
     alloc: Global,
-    path: &Path<X>,
+    path: &PathOf<PathArgumentsOf<A, E>>,
     style: PathStyle,
     out: &mut TokenStream,
 ) -> Result<(), AllocError>
-    ensures ok { OnOk result (trees out.new ≡ trees out.old ++ printing.segments X.prints style path.now.segments) }
+    ensures ok { OnOk result (trees out.new ≡ trees out.old ++ printing.segments A.shown E.values style path.now.segments) }
     ensures err { OnErr result (Extends (trees out.old) (trees out.new)) }
 {
     let (pairs, last) = segment_parts(path);
@@ -796,13 +796,13 @@ fn print_segments<X: Subtree>(
 
 #[cycle(print)]
 #[tactic(auto, using(token_core::proofs::Puts::puts))]
-fn print_segment<X: Subtree>(
+fn print_segment<A: Attributes, E: Value>(
     alloc: Global,
-    segment: &PathSegment<X>,
+    segment: &PathSegmentOf<PathArgumentsOf<A, E>>,
     style: PathStyle,
     out: &mut TokenStream,
 ) -> Result<(), AllocError>
-    ensures ok { OnOk result (trees out.new ≡ trees out.old ++ printing.segment X.prints style segment.now) }
+    ensures ok { OnOk result (trees out.new ≡ trees out.old ++ printing.segment A.shown E.values style segment.now) }
     ensures err { OnErr result (Extends (trees out.old) (trees out.new)) }
 {
     segment.ident.to_tokens(alloc, out)?;
@@ -811,19 +811,19 @@ fn print_segment<X: Subtree>(
 
 #[cycle(print)]
 #[tactic(auto, using(token_core::proofs::Puts::puts, crate::proofs::ty_laws::Prints::arguments))]
-fn print_arguments<X: Subtree>(
+fn print_arguments<A: Attributes, E: Value>(
     alloc: Global,
-    arguments: &PathArguments<X>,
+    arguments: &PathArgumentsOf<A, E>,
     style: PathStyle,
     out: &mut TokenStream,
 ) -> Result<(), AllocError>
-    ensures ok { OnOk result (trees out.new ≡ trees out.old ++ types.arguments X.prints style arguments.now) }
+    ensures ok { OnOk result (trees out.new ≡ trees out.old ++ types.arguments A.shown E.values style arguments.now) }
     ensures err { OnErr result (Extends (trees out.old) (trees out.new)) }
 {
     match arguments {
-        PathArguments::None => Ok(()),
-        PathArguments::AngleBracketed(arguments) => print_angle(alloc, arguments, style, out),
-        PathArguments::Parenthesized(arguments) => {
+        PathArgumentsOf::None => Ok(()),
+        PathArgumentsOf::AngleBracketed(arguments) => print_angle(alloc, arguments, style, out),
+        PathArgumentsOf::Parenthesized(arguments) => {
             print_parenthesized_start(alloc, style, out)?;
             print_parenthesized(alloc, arguments, out)
         }
@@ -833,13 +833,13 @@ fn print_arguments<X: Subtree>(
 /// Arguments between angle marks: lifetimes, each with its comma; a comma where the last has none and others follow; the others, each with its comma.
 #[cycle(print)]
 #[tactic(auto, using(token_core::proofs::Puts::puts))]
-fn print_angle<X: Subtree>(
+fn print_angle<A: Attributes, E: Value>(
     alloc: Global,
-    arguments: &AngleBracketedGenericArguments<X>,
+    arguments: &AngleBracketedGenericArgumentsOf<GenericArgumentOf<A, E>>,
     style: PathStyle,
     out: &mut TokenStream,
 ) -> Result<(), AllocError>
-    ensures ok { OnOk result (trees out.new ≡ trees out.old ++ types.angle X.prints style arguments.now) }
+    ensures ok { OnOk result (trees out.new ≡ trees out.old ++ types.angle A.shown E.values style arguments.now) }
     ensures err { OnErr result (Extends (trees out.old) (trees out.new)) }
 {
     print_angle_start(alloc, arguments, style, out)?;
@@ -852,13 +852,13 @@ fn print_angle<X: Subtree>(
 /// The arguments that are lifetimes, or those that are not, each with its comma.
 #[cycle(print)]
 #[tactic(auto, using(token_core::proofs::Puts::puts, crate::proofs::generics_laws::Sorted::kinds))]
-fn print_argument_kind<X: Subtree>(
+fn print_argument_kind<A: Attributes, E: Value>(
     alloc: Global,
-    arguments: &AngleBracketedGenericArguments<X>,
+    arguments: &AngleBracketedGenericArgumentsOf<GenericArgumentOf<A, E>>,
     lifetimes: bool,
     out: &mut TokenStream,
 ) -> Result<(), AllocError>
-    ensures ok { OnOk result (trees out.new ≡ trees out.old ++ printing.kind X.prints lifetimes arguments.now) }
+    ensures ok { OnOk result (trees out.new ≡ trees out.old ++ printing.kind A.shown E.values lifetimes arguments.now) }
     ensures err { OnErr result (Extends (trees out.old) (trees out.new)) }
 {
     let (pairs, last) = argument_parts(arguments);
@@ -874,14 +874,14 @@ fn print_argument_kind<X: Subtree>(
 /// An argument with its comma, where it is of the kind.
 #[cycle(print)]
 #[tactic(auto, using(token_core::proofs::Puts::puts, crate::proofs::generics_laws::Sorted::kinds))]
-fn print_argument_member<X: Subtree>(
+fn print_argument_member<A: Attributes, E: Value>(
     alloc: Global,
-    argument: &GenericArgument<X>,
+    argument: &GenericArgumentOf<A, E>,
     comma: Option<&Comma>,
     lifetimes: bool,
     out: &mut TokenStream,
 ) -> Result<(), AllocError>
-    ensures ok { OnOk result (trees out.new ≡ trees out.old ++ members.each (types.argument X.prints) (members.those spec.is_lifetime lifetimes ((argument.now, option_map (λ c. c.now) comma.entry) ∷ []))) }
+    ensures ok { OnOk result (trees out.new ≡ trees out.old ++ members.each (types.argument A.shown E.values) (members.those spec.is_lifetime lifetimes ((argument.now, option_map (λ c. c.now) comma.entry) ∷ []))) }
     ensures err { OnErr result (Extends (trees out.old) (trees out.new)) }
 {
     if argument.is_lifetime() != lifetimes {
@@ -896,33 +896,33 @@ fn print_argument_member<X: Subtree>(
 
 #[cycle(print)]
 #[tactic(auto, using(token_core::proofs::Puts::puts, crate::proofs::ty_laws::Prints::arguments))]
-pub(crate) fn print_argument<X: Subtree>(
+pub(crate) fn print_argument<A: Attributes, E: Value>(
     alloc: Global,
-    argument: &GenericArgument<X>,
+    argument: &GenericArgumentOf<A, E>,
     out: &mut TokenStream,
 ) -> Result<(), AllocError>
-    ensures ok { OnOk result (trees out.new ≡ trees out.old ++ types.argument X.prints argument.now) }
+    ensures ok { OnOk result (trees out.new ≡ trees out.old ++ types.argument A.shown E.values argument.now) }
     ensures err { OnErr result (Extends (trees out.old) (trees out.new)) }
 {
     match argument {
-        GenericArgument::Lifetime(lifetime) => lifetime.to_tokens(alloc, out),
-        GenericArgument::Type(ty) => print_type(alloc, ty, out),
-        GenericArgument::Const(value) => print_const_argument(alloc, value, out),
-        GenericArgument::AssocType(assoc) => print_assoc_type(alloc, assoc, out),
-        GenericArgument::AssocConst(assoc) => print_assoc_const(alloc, assoc, out),
-        GenericArgument::Constraint(constraint) => print_constraint(alloc, constraint, out),
+        GenericArgumentOf::Lifetime(lifetime) => lifetime.to_tokens(alloc, out),
+        GenericArgumentOf::Type(ty) => print_type(alloc, ty, out),
+        GenericArgumentOf::Const(value) => value.print_const_argument(alloc, out),
+        GenericArgumentOf::AssocType(assoc) => print_assoc_type(alloc, assoc, out),
+        GenericArgumentOf::AssocConst(assoc) => print_assoc_const(alloc, assoc, out),
+        GenericArgumentOf::Constraint(constraint) => print_constraint(alloc, constraint, out),
     }
 }
 
 /// The arguments of the name of an associated item, where it has some, as they stand.
 #[cycle(print)]
 #[tactic(auto, using(token_core::proofs::Puts::puts))]
-fn print_generics<X: Subtree>(
+fn print_generics<A: Attributes, E: Value>(
     alloc: Global,
-    generics: &Option<AngleBracketedGenericArguments<X>>,
+    generics: &Option<AngleBracketedGenericArgumentsOf<GenericArgumentOf<A, E>>>,
     out: &mut TokenStream,
 ) -> Result<(), AllocError>
-    ensures ok { OnOk result (trees out.new ≡ trees out.old ++ types.optional_angle X.prints generics.now) }
+    ensures ok { OnOk result (trees out.new ≡ trees out.old ++ types.optional_angle A.shown E.values generics.now) }
     ensures err { OnErr result (Extends (trees out.old) (trees out.new)) }
 {
     match generics {
@@ -933,12 +933,12 @@ fn print_generics<X: Subtree>(
 
 #[cycle(print)]
 #[tactic(auto, using(token_core::proofs::Puts::puts, crate::proofs::ty_laws::Prints::arguments))]
-fn print_assoc_type<X: Subtree>(
+fn print_assoc_type<A: Attributes, E: Value>(
     alloc: Global,
-    assoc: &AssocType<X>,
+    assoc: &AssocTypeOf<A, E>,
     out: &mut TokenStream,
 ) -> Result<(), AllocError>
-    ensures ok { OnOk result (trees out.new ≡ trees out.old ++ types.assoc_type X.prints assoc.now) }
+    ensures ok { OnOk result (trees out.new ≡ trees out.old ++ types.assoc_type A.shown E.values assoc.now) }
     ensures err { OnErr result (Extends (trees out.old) (trees out.new)) }
 {
     assoc.ident.to_tokens(alloc, out)?;
@@ -949,29 +949,29 @@ fn print_assoc_type<X: Subtree>(
 
 #[cycle(print)]
 #[tactic(auto, using(token_core::proofs::Puts::puts))]
-fn print_assoc_const<X: Subtree>(
+fn print_assoc_const<A: Attributes, E: Value>(
     alloc: Global,
-    assoc: &AssocConst<X>,
+    assoc: &AssocConstOf<GenericArgumentOf<A, E>, E>,
     out: &mut TokenStream,
 ) -> Result<(), AllocError>
-    ensures ok { OnOk result (trees out.new ≡ trees out.old ++ types.assoc_const X.prints assoc.now) }
+    ensures ok { OnOk result (trees out.new ≡ trees out.old ++ types.assoc_const A.shown E.values assoc.now) }
     ensures err { OnErr result (Extends (trees out.old) (trees out.new)) }
 {
     assoc.ident.to_tokens(alloc, out)?;
     print_generics(alloc, &assoc.generics, out)?;
     assoc.eq_token.to_tokens(alloc, out)?;
-    print_const_argument(alloc, &assoc.value, out)
+    assoc.value.print_const_argument(alloc, out)
 }
 
 /// The colon prints without bounds too.
 #[cycle(print)]
 #[tactic(auto, using(token_core::proofs::Puts::puts, crate::proofs::ty_laws::Prints::arguments))]
-fn print_constraint<X: Subtree>(
+fn print_constraint<A: Attributes, E: Value>(
     alloc: Global,
-    constraint: &Constraint<X>,
+    constraint: &ConstraintOf<A, E>,
     out: &mut TokenStream,
 ) -> Result<(), AllocError>
-    ensures ok { OnOk result (trees out.new ≡ trees out.old ++ types.constraint X.prints constraint.now) }
+    ensures ok { OnOk result (trees out.new ≡ trees out.old ++ types.constraint A.shown E.values constraint.now) }
     ensures err { OnErr result (Extends (trees out.old) (trees out.new)) }
 {
     constraint.ident.to_tokens(alloc, out)?;
@@ -983,12 +983,12 @@ fn print_constraint<X: Subtree>(
 /// Each bound of a constraint with its mark.
 #[cycle(print)]
 #[tactic(auto, using(token_core::proofs::Puts::puts))]
-fn print_constraint_bounds<X: Subtree>(
+fn print_constraint_bounds<A: Attributes, E: Value>(
     alloc: Global,
-    constraint: &Constraint<X>,
+    constraint: &ConstraintOf<A, E>,
     out: &mut TokenStream,
 ) -> Result<(), AllocError>
-    ensures ok { OnOk result (trees out.new ≡ trees out.old ++ types.constraint_bounds X.prints constraint.now) }
+    ensures ok { OnOk result (trees out.new ≡ trees out.old ++ types.constraint_bounds A.shown E.values constraint.now) }
     ensures err { OnErr result (Extends (trees out.old) (trees out.new)) }
 {
     let (pairs, last) = bound_parts(&constraint.bounds);
@@ -1005,12 +1005,12 @@ fn print_constraint_bounds<X: Subtree>(
 /// Arguments in their parentheses, and the output.
 #[cycle(print)]
 #[tactic(auto, using(token_core::proofs::Puts::puts))]
-fn print_parenthesized<X: Subtree>(
+fn print_parenthesized<A: Attributes, E: Value>(
     alloc: Global,
-    arguments: &ParenthesizedGenericArguments<X>,
+    arguments: &ParenthesizedGenericArgumentsOf<TypeOf<A, E>, A>,
     out: &mut TokenStream,
 ) -> Result<(), AllocError>
-    ensures ok { OnOk result (trees out.new ≡ trees out.old ++ types.parenthesized X.prints arguments.now) }
+    ensures ok { OnOk result (trees out.new ≡ trees out.old ++ types.parenthesized A.shown E.values arguments.now) }
     ensures err { OnErr result (Extends (trees out.old) (trees out.new)) }
 {
     let mut content = TokenStream::new(alloc);
@@ -1028,12 +1028,12 @@ fn print_parenthesized<X: Subtree>(
 /// Each argument in parentheses with its comma.
 #[cycle(print)]
 #[tactic(auto, using(token_core::proofs::Puts::puts))]
-fn print_parenthesized_inputs<X: Subtree>(
+fn print_parenthesized_inputs<A: Attributes, E: Value>(
     alloc: Global,
-    arguments: &ParenthesizedGenericArguments<X>,
+    arguments: &ParenthesizedGenericArgumentsOf<TypeOf<A, E>, A>,
     out: &mut TokenStream,
 ) -> Result<(), AllocError>
-    ensures ok { OnOk result (trees out.new ≡ trees out.old ++ types.inputs X.prints arguments.now.inputs) }
+    ensures ok { OnOk result (trees out.new ≡ trees out.old ++ types.inputs A.shown E.values arguments.now.inputs) }
     ensures err { OnErr result (Extends (trees out.old) (trees out.new)) }
 {
     let (pairs, last) = input_parts(arguments);
@@ -1055,14 +1055,14 @@ fn print_parenthesized_inputs<X: Subtree>(
 /// `position` says, or as there are; where that is none, there is no `as`. A missing `as` is printed all the same.
 #[cycle(print)]
 #[tactic(auto, using(token_core::proofs::Puts::puts, crate::proofs::path_laws::Around::qualifies))]
-pub(crate) fn print_qualified<X: Subtree>(
+pub(crate) fn print_qualified<A: Attributes, E: Value>(
     alloc: Global,
-    qself: &QSelf<X>,
-    path: &Path<X>,
+    qself: &QSelfOf<TypeOf<A, E>>,
+    path: &PathOf<PathArgumentsOf<A, E>>,
     style: PathStyle,
     out: &mut TokenStream,
 ) -> Result<(), AllocError>
-    ensures ok { OnOk result (trees out.new ≡ trees out.old ++ printing.qualified X.prints style qself.now path.now) }
+    ensures ok { OnOk result (trees out.new ≡ trees out.old ++ printing.qualified A.shown E.values style qself.now path.now) }
     ensures err { OnErr result (Extends (trees out.old) (trees out.new)) }
 {
     let before = qself.position.min(path.segments.len());
@@ -1078,15 +1078,15 @@ pub(crate) fn print_qualified<X: Subtree>(
 /// The segments, with `>` after as many as are to stand before it; those print as they stand.
 #[cycle(print)]
 #[tactic(auto, using(token_core::proofs::Puts::puts))]
-fn print_around<X: Subtree>(
+fn print_around<A: Attributes, E: Value>(
     alloc: Global,
-    path: &Path<X>,
+    path: &PathOf<PathArgumentsOf<A, E>>,
     before: usize,
     gt_token: &Gt,
     style: PathStyle,
     out: &mut TokenStream,
 ) -> Result<(), AllocError>
-    ensures ok { OnOk result (trees out.new ≡ trees out.old ++ printing.around X.prints style gt_token.now before path.now.segments.0 path.now.segments.1) }
+    ensures ok { OnOk result (trees out.new ≡ trees out.old ++ printing.around A.shown E.values style gt_token.now before path.now.segments.0 path.now.segments.1) }
     ensures err { OnErr result (Extends (trees out.old) (trees out.new)) }
 {
     let (pairs, last) = segment_parts(path);
@@ -1105,15 +1105,15 @@ fn print_around<X: Subtree>(
 /// A segment, and `>` after it where it is the last of those before.
 #[cycle(print)]
 #[tactic(auto, using(token_core::proofs::Puts::puts, crate::proofs::path_laws::Around::closings))]
-fn print_closing<X: Subtree>(
+fn print_closing<A: Attributes, E: Value>(
     alloc: Global,
-    segment: &PathSegment<X>,
+    segment: &PathSegmentOf<PathArgumentsOf<A, E>>,
     before: usize,
     gt_token: &Gt,
     style: PathStyle,
     out: &mut TokenStream,
 ) -> Result<(), AllocError>
-    ensures ok { OnOk result (trees out.new ≡ trees out.old ++ printing.closing X.prints style gt_token.now before segment.now) }
+    ensures ok { OnOk result (trees out.new ≡ trees out.old ++ printing.closing A.shown E.values style gt_token.now before segment.now) }
     ensures err { OnErr result (Extends (trees out.old) (trees out.new)) }
 {
     if before == 0 {
@@ -1130,18 +1130,18 @@ fn print_closing<X: Subtree>(
 // ---- parts of paths that lead back to no type
 
 /// The segments of a path by their parts.
-fn segment_parts<X>(path: &Path<X>) -> (&[Pair<PathSegment<X>, PathSep>], Option<&PathSegment<X>>)
+fn segment_parts<A, E>(path: &PathOf<PathArgumentsOf<A, E>>) -> (&[Pair<PathSegmentOf<PathArgumentsOf<A, E>>, PathSep>], Option<&PathSegmentOf<PathArgumentsOf<A, E>>>)
     ensures { path.now.segments ≡ (values_of result.0.now (option_map (λ x. x.now) result.1), marks_of result.0.now) }
 {
     path.segments.parts()
 }
 
 /// Arguments between angle marks by their parts.
-fn argument_parts<X>(
-    arguments: &AngleBracketedGenericArguments<X>,
+fn argument_parts<A, E>(
+    arguments: &AngleBracketedGenericArgumentsOf<GenericArgumentOf<A, E>>,
 ) -> (
-    &[Pair<GenericArgument<X>, Comma>],
-    Option<&GenericArgument<X>>,
+    &[Pair<GenericArgumentOf<A, E>, Comma>],
+    Option<&GenericArgumentOf<A, E>>,
 )
     ensures { arguments.now.args ≡ (values_of result.0.now (option_map (λ x. x.now) result.1), marks_of result.0.now) }
 {
@@ -1149,36 +1149,36 @@ fn argument_parts<X>(
 }
 
 /// Arguments in parentheses by their parts.
-fn input_parts<X>(
-    arguments: &ParenthesizedGenericArguments<X>,
-) -> (&[Pair<NamedArg<X>, Comma>], Option<&NamedArg<X>>)
+fn input_parts<A, E>(
+    arguments: &ParenthesizedGenericArgumentsOf<TypeOf<A, E>, A>,
+) -> (&[Pair<NamedArgOf<TypeOf<A, E>, A>, Comma>], Option<&NamedArgOf<TypeOf<A, E>, A>>)
     ensures { arguments.now.inputs ≡ (values_of result.0.now (option_map (λ x. x.now) result.1), marks_of result.0.now) }
 {
     arguments.inputs.parts()
 }
 
 /// An argument that is a lifetime prints first.
-impl<X> Member for GenericArgument<X> {
+impl<A, E> Member for GenericArgumentOf<A, E> {
     ghost first = { spec.is_lifetime };
 
     #[tactic(auto, using(crate::proofs::generics_laws::Prints::argument_kinds))]
     fn is_lifetime(&self) -> bool {
         match self {
-            GenericArgument::Lifetime(_) => true,
-            GenericArgument::Type(_)
-            | GenericArgument::Const(_)
-            | GenericArgument::AssocType(_)
-            | GenericArgument::AssocConst(_)
-            | GenericArgument::Constraint(_) => false,
+            GenericArgumentOf::Lifetime(_) => true,
+            GenericArgumentOf::Type(_)
+            | GenericArgumentOf::Const(_)
+            | GenericArgumentOf::AssocType(_)
+            | GenericArgumentOf::AssocConst(_)
+            | GenericArgumentOf::Constraint(_) => false,
         }
     }
 }
 
 /// The start of arguments between angle marks: in an expression after `::`, which is printed where it is missing.
 #[tactic(auto, using(token_core::proofs::Puts::puts))]
-fn print_angle_start<X>(
+fn print_angle_start<A, E>(
     alloc: Global,
-    arguments: &AngleBracketedGenericArguments<X>,
+    arguments: &AngleBracketedGenericArgumentsOf<GenericArgumentOf<A, E>>,
     style: PathStyle,
     out: &mut TokenStream,
 ) -> Result<(), AllocError>

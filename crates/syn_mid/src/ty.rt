@@ -7,6 +7,8 @@ ghost use Rattle.token_core.specs.Prints.{Extends};
 ghost use Rattle.token_core.specs.Reads.{Reads, Follows, Gives, Fails};
 ghost use Rattle.token_core.specs.Rebuilt.{Visible};
 ghost use Rattle.token_core.specs.Trees.{trees};
+ghost use Rattle.syn_mid.specs.Supplied.{ArrayLen};
+ghost use Rattle.syn_mid.specs.attr.Printing.{at_place};
 ghost use Rattle.syn_mid.specs.declared.ty.TypeOf.TheVariants as types;
 ghost use Rattle.syn_mid.specs.ty.Grammars as grammars;
 ghost use Rattle.syn_mid.specs.ty.Knot as knot;
@@ -16,7 +18,7 @@ ghost use Rattle.syn_mid.specs.ty.Reading as reading;
 ghost use Rattle.syn_mid.specs.ty.Heights.{IsSomeType, IsSomeArray, IsSomeParen, IsSomePtr, IsSomeReference, IsSomeSlice, IsSomeTuple};
 ghost use Rattle.syn_mid.specs.ty.Spelling.{IsMutability, IsInfer, IsNever, IsMacroType, IsPathType};
 
-use crate::attr::{Attribute, print_outer, print_value};
+use crate::attr::{Attribute, print_value};
 use crate::generics::{
     BoundLifetimes, BoundLifetimesOf, GenericParam, GenericParamOf, TypeParamBound,
     TypeParamBoundOf, print_binder_end, print_binder_start, print_bound, print_param,
@@ -661,8 +663,8 @@ impl<A, E> From<TypeTupleOf<TypeOf<A, E>, A>> for TypeOf<A, E> {
 
 // ---- prints
 
-impl<X: Subtree> ToTokens for Type<X> {
-    ghost print = { printing.ty X.prints };
+impl<A: Attributes, E: Value> ToTokens for TypeOf<A, E> {
+    ghost print = { printing.ty A.shown E.values };
 
     fn to_tokens(&self, alloc: Global, out: &mut TokenStream) -> Result<(), AllocError> {
         let before = out.len();
@@ -676,8 +678,8 @@ impl<X: Subtree> ToTokens for Type<X> {
     }
 }
 
-impl<X: Subtree> ToTokens for TypeArray<X> {
-    ghost print = { printing.array X.prints };
+impl<A: Attributes, E: Value> ToTokens for TypeArrayOf<TypeOf<A, E>, A, E> {
+    ghost print = { printing.array A.shown E.values };
 
     fn to_tokens(&self, alloc: Global, out: &mut TokenStream) -> Result<(), AllocError> {
         let before = out.len();
@@ -691,8 +693,8 @@ impl<X: Subtree> ToTokens for TypeArray<X> {
     }
 }
 
-impl<X: Subtree> ToTokens for TypeGroup<X> {
-    ghost print = { printing.group X.prints };
+impl<A: Attributes, E: Value> ToTokens for TypeGroupOf<TypeOf<A, E>, A> {
+    ghost print = { printing.group A.shown E.values };
 
     fn to_tokens(&self, alloc: Global, out: &mut TokenStream) -> Result<(), AllocError> {
         let before = out.len();
@@ -706,7 +708,7 @@ impl<X: Subtree> ToTokens for TypeGroup<X> {
     }
 }
 
-impl<X> ToTokens for TypeInfer<X> {
+impl<A> ToTokens for TypeInferOf<A> {
     ghost print = { printing.infer };
 
     fn to_tokens(&self, alloc: Global, out: &mut TokenStream) -> Result<(), AllocError> {
@@ -714,7 +716,7 @@ impl<X> ToTokens for TypeInfer<X> {
     }
 }
 
-impl<X> ToTokens for TypeMacro<X> {
+impl<A> ToTokens for TypeMacroOf<A> {
     ghost print = { printing.macro_type };
 
     fn to_tokens(&self, alloc: Global, out: &mut TokenStream) -> Result<(), AllocError> {
@@ -722,7 +724,7 @@ impl<X> ToTokens for TypeMacro<X> {
     }
 }
 
-impl<X> ToTokens for TypeNever<X> {
+impl<A> ToTokens for TypeNeverOf<A> {
     ghost print = { printing.never };
 
     fn to_tokens(&self, alloc: Global, out: &mut TokenStream) -> Result<(), AllocError> {
@@ -730,8 +732,8 @@ impl<X> ToTokens for TypeNever<X> {
     }
 }
 
-impl<X: Subtree> ToTokens for TypeParen<X> {
-    ghost print = { printing.paren X.prints };
+impl<A: Attributes, E: Value> ToTokens for TypeParenOf<TypeOf<A, E>, A> {
+    ghost print = { printing.paren A.shown E.values };
 
     fn to_tokens(&self, alloc: Global, out: &mut TokenStream) -> Result<(), AllocError> {
         let before = out.len();
@@ -746,8 +748,8 @@ impl<X: Subtree> ToTokens for TypeParen<X> {
 }
 
 /// Appends a path as it stands; a qualified one between `<` and `>`, which stand after as many segments as its `position` says, or as there are.
-impl<X: Subtree> ToTokens for TypePath<X> {
-    ghost print = { printing.path_type X.prints };
+impl<A: Attributes, E: Value> ToTokens for TypePathOf<A, E> {
+    ghost print = { printing.path_type A.shown E.values };
 
     fn to_tokens(&self, alloc: Global, out: &mut TokenStream) -> Result<(), AllocError> {
         let before = out.len();
@@ -761,8 +763,8 @@ impl<X: Subtree> ToTokens for TypePath<X> {
     }
 }
 
-impl<X: Subtree> ToTokens for TypePtr<X> {
-    ghost print = { printing.ptr X.prints };
+impl<A: Attributes, E: Value> ToTokens for TypePtrOf<TypeOf<A, E>, A> {
+    ghost print = { printing.ptr A.shown E.values };
 
     fn to_tokens(&self, alloc: Global, out: &mut TokenStream) -> Result<(), AllocError> {
         let before = out.len();
@@ -776,8 +778,8 @@ impl<X: Subtree> ToTokens for TypePtr<X> {
     }
 }
 
-impl<X: Subtree> ToTokens for TypeReference<X> {
-    ghost print = { printing.reference X.prints };
+impl<A: Attributes, E: Value> ToTokens for TypeReferenceOf<TypeOf<A, E>, A> {
+    ghost print = { printing.reference A.shown E.values };
 
     fn to_tokens(&self, alloc: Global, out: &mut TokenStream) -> Result<(), AllocError> {
         let before = out.len();
@@ -791,8 +793,8 @@ impl<X: Subtree> ToTokens for TypeReference<X> {
     }
 }
 
-impl<X: Subtree> ToTokens for TypeSlice<X> {
-    ghost print = { printing.slice X.prints };
+impl<A: Attributes, E: Value> ToTokens for TypeSliceOf<TypeOf<A, E>, A> {
+    ghost print = { printing.slice A.shown E.values };
 
     fn to_tokens(&self, alloc: Global, out: &mut TokenStream) -> Result<(), AllocError> {
         let before = out.len();
@@ -806,8 +808,8 @@ impl<X: Subtree> ToTokens for TypeSlice<X> {
     }
 }
 
-impl<X: Subtree> ToTokens for TypeTuple<X> {
-    ghost print = { printing.tuple X.prints };
+impl<A: Attributes, E: Value> ToTokens for TypeTupleOf<TypeOf<A, E>, A> {
+    ghost print = { printing.tuple A.shown E.values };
 
     fn to_tokens(&self, alloc: Global, out: &mut TokenStream) -> Result<(), AllocError> {
         let before = out.len();
@@ -861,8 +863,8 @@ fn print_abi(alloc: Global, abi: &Abi, out: &mut TokenStream) -> Result<(), Allo
 }
 
 /// Appends nothing, or `->` and the type.
-impl<X: Subtree> ToTokens for ReturnType<X> {
-    ghost print = { printing.return_type X.prints };
+impl<A: Attributes, E: Value> ToTokens for ReturnTypeOf<TypeOf<A, E>> {
+    ghost print = { printing.return_type A.shown E.values };
 
     fn to_tokens(&self, alloc: Global, out: &mut TokenStream) -> Result<(), AllocError> {
         let before = out.len();
@@ -877,12 +879,12 @@ impl<X: Subtree> ToTokens for ReturnType<X> {
 }
 
 #[tactic(auto, using(token_core::proofs::Puts::puts))]
-fn print_return_type<X: Subtree>(
+fn print_return_type<A: Attributes, E: Value>(
     alloc: Global,
-    output: &ReturnType<X>,
+    output: &ReturnTypeOf<TypeOf<A, E>>,
     out: &mut TokenStream,
 ) -> Result<(), AllocError>
-    ensures ok { OnOk result (trees out.new ≡ trees out.old ++ printing.return_type X.prints output.now) }
+    ensures ok { OnOk result (trees out.new ≡ trees out.old ++ printing.return_type A.shown E.values output.now) }
     ensures err { OnErr result (Extends (trees out.old) (trees out.new)) }
 {
     match output {
@@ -895,8 +897,8 @@ fn print_return_type<X: Subtree>(
 }
 
 /// Appends the binder, `unsafe`, the convention, `fn`, in parentheses the arguments and `...` after a comma, and what is returned.
-impl<X: Subtree> ToTokens for TypeFnPtr<X> {
-    ghost print = { printing.fn_ptr X.prints };
+impl<A: Attributes, E: Value> ToTokens for TypeFnPtrOf<A, E> {
+    ghost print = { printing.fn_ptr A.shown E.values };
 
     fn to_tokens(&self, alloc: Global, out: &mut TokenStream) -> Result<(), AllocError> {
         let before = out.len();
@@ -910,8 +912,8 @@ impl<X: Subtree> ToTokens for TypeFnPtr<X> {
     }
 }
 
-impl<X: Subtree> ToTokens for TypeImplTrait<X> {
-    ghost print = { printing.impl_trait X.prints };
+impl<A: Attributes, E: Value> ToTokens for TypeImplTraitOf<TypeParamBoundOf<A, E>, A> {
+    ghost print = { printing.impl_trait A.shown E.values };
 
     fn to_tokens(&self, alloc: Global, out: &mut TokenStream) -> Result<(), AllocError> {
         let before = out.len();
@@ -925,8 +927,8 @@ impl<X: Subtree> ToTokens for TypeImplTrait<X> {
     }
 }
 
-impl<X: Subtree> ToTokens for TypeTraitObject<X> {
-    ghost print = { printing.trait_object X.prints };
+impl<A: Attributes, E: Value> ToTokens for TypeTraitObjectOf<TypeParamBoundOf<A, E>, A> {
+    ghost print = { printing.trait_object A.shown E.values };
 
     fn to_tokens(&self, alloc: Global, out: &mut TokenStream) -> Result<(), AllocError> {
         let before = out.len();
@@ -941,8 +943,8 @@ impl<X: Subtree> ToTokens for TypeTraitObject<X> {
 }
 
 /// Appends the outer attributes, the name and its colon, and the type.
-impl<X: Subtree> ToTokens for NamedArg<X> {
-    ghost print = { printing.named_arg X.prints };
+impl<A: Attributes, E: Value> ToTokens for NamedArgOf<TypeOf<A, E>, A> {
+    ghost print = { printing.named_arg A.shown E.values };
 
     fn to_tokens(&self, alloc: Global, out: &mut TokenStream) -> Result<(), AllocError> {
         let before = out.len();
@@ -957,8 +959,8 @@ impl<X: Subtree> ToTokens for NamedArg<X> {
 }
 
 /// Appends the outer attributes, the name and its colon, `...`, and the comma that it has.
-impl<X: Subtree> ToTokens for FnPtrVariadic<X> {
-    ghost print = { printing.variadic X.prints };
+impl<A: Attributes> ToTokens for FnPtrVariadicOf<A> {
+    ghost print = { printing.variadic_by A.shown };
 
     fn to_tokens(&self, alloc: Global, out: &mut TokenStream) -> Result<(), AllocError> {
         let before = out.len();
@@ -975,58 +977,58 @@ impl<X: Subtree> ToTokens for FnPtrVariadic<X> {
 /// Appends a type; refused, what stood before is kept.
 #[cycle(print)]
 #[tactic(auto, using(token_core::proofs::Puts::puts, crate::proofs::ty_laws::Prints::prints))]
-pub(crate) fn print_type<X: Subtree>(
+pub(crate) fn print_type<A: Attributes, E: Value>(
     alloc: Global,
-    ty: &Type<X>,
+    ty: &TypeOf<A, E>,
     out: &mut TokenStream,
 ) -> Result<(), AllocError>
-    ensures ok { OnOk result (trees out.new ≡ trees out.old ++ printing.ty X.prints ty.now) }
+    ensures ok { OnOk result (trees out.new ≡ trees out.old ++ printing.ty A.shown E.values ty.now) }
     ensures err { OnErr result (Extends (trees out.old) (trees out.new)) }
 {
     match ty {
-        Type::Array(array) => print_array(alloc, array, out),
-        Type::FnPtr(pointer) => print_fn_ptr(alloc, pointer, out),
-        Type::Group(group) => print_group(alloc, group, out),
-        Type::ImplTrait(opaque) => print_impl_trait(alloc, opaque, out),
-        Type::Infer(infer) => infer.to_tokens(alloc, out),
-        Type::Macro(call) => call.to_tokens(alloc, out),
-        Type::Never(never) => never.to_tokens(alloc, out),
-        Type::Paren(paren) => print_paren(alloc, paren, out),
-        Type::Path(path) => print_path_type(alloc, path, out),
-        Type::Ptr(ptr) => print_ptr(alloc, ptr, out),
-        Type::Reference(reference) => print_reference(alloc, reference, out),
-        Type::Slice(slice) => print_slice(alloc, slice, out),
-        Type::TraitObject(object) => print_trait_object(alloc, object, out),
-        Type::Tuple(tuple) => print_tuple(alloc, tuple, out),
-        Type::Verbatim(tokens) => print_verbatim(alloc, tokens, out),
+        TypeOf::Array(array) => print_array(alloc, array, out),
+        TypeOf::FnPtr(pointer) => print_fn_ptr(alloc, pointer, out),
+        TypeOf::Group(group) => print_group(alloc, group, out),
+        TypeOf::ImplTrait(opaque) => print_impl_trait(alloc, opaque, out),
+        TypeOf::Infer(infer) => infer.to_tokens(alloc, out),
+        TypeOf::Macro(call) => call.to_tokens(alloc, out),
+        TypeOf::Never(never) => never.to_tokens(alloc, out),
+        TypeOf::Paren(paren) => print_paren(alloc, paren, out),
+        TypeOf::Path(path) => print_path_type(alloc, path, out),
+        TypeOf::Ptr(ptr) => print_ptr(alloc, ptr, out),
+        TypeOf::Reference(reference) => print_reference(alloc, reference, out),
+        TypeOf::Slice(slice) => print_slice(alloc, slice, out),
+        TypeOf::TraitObject(object) => print_trait_object(alloc, object, out),
+        TypeOf::Tuple(tuple) => print_tuple(alloc, tuple, out),
+        TypeOf::Verbatim(tokens) => print_verbatim(alloc, tokens, out),
     }
 }
 
 #[cycle(print)]
 #[tactic(auto, using(token_core::proofs::Puts::puts))]
-fn print_array<X: Subtree>(
+fn print_array<A: Attributes, E: Value>(
     alloc: Global,
-    array: &TypeArray<X>,
+    array: &TypeArrayOf<TypeOf<A, E>, A, E>,
     out: &mut TokenStream,
 ) -> Result<(), AllocError>
-    ensures ok { OnOk result (trees out.new ≡ trees out.old ++ printing.array X.prints array.now) }
+    ensures ok { OnOk result (trees out.new ≡ trees out.old ++ printing.array A.shown E.values array.now) }
     ensures err { OnErr result (Extends (trees out.old) (trees out.new)) }
 {
     let mut content = TokenStream::new(alloc);
     print_type(alloc, array.elem.get(), &mut content)?;
     array.semi_token.to_tokens(alloc, &mut content)?;
-    print_len(alloc, &array.len, &mut content)?;
+    array.len.print_len(alloc, &mut content)?;
     array.bracket_token.surround(content, out)
 }
 
 #[cycle(print)]
 #[tactic(auto, using(token_core::proofs::Puts::puts, crate::proofs::ty_laws::Prints::parts))]
-fn print_fn_ptr<X: Subtree>(
+fn print_fn_ptr<A: Attributes, E: Value>(
     alloc: Global,
-    pointer: &TypeFnPtr<X>,
+    pointer: &TypeFnPtrOf<A, E>,
     out: &mut TokenStream,
 ) -> Result<(), AllocError>
-    ensures ok { OnOk result (trees out.new ≡ trees out.old ++ printing.fn_ptr X.prints pointer.now) }
+    ensures ok { OnOk result (trees out.new ≡ trees out.old ++ printing.fn_ptr A.shown E.values pointer.now) }
     ensures err { OnErr result (Extends (trees out.old) (trees out.new)) }
 {
     print_binder_start(alloc, &pointer.lifetimes, out)?;
@@ -1039,12 +1041,12 @@ fn print_fn_ptr<X: Subtree>(
 /// The parameters of the binder of a pointer to a function.
 #[cycle(print)]
 #[tactic(auto, using(token_core::proofs::Puts::puts))]
-fn print_fn_params<X: Subtree>(
+fn print_fn_params<A: Attributes, E: Value>(
     alloc: Global,
-    pointer: &TypeFnPtr<X>,
+    pointer: &TypeFnPtrOf<A, E>,
     out: &mut TokenStream,
 ) -> Result<(), AllocError>
-    ensures ok { OnOk result (trees out.new ≡ trees out.old ++ printing.fn_params X.prints pointer.now) }
+    ensures ok { OnOk result (trees out.new ≡ trees out.old ++ printing.fn_params A.shown E.values pointer.now) }
     ensures err { OnErr result (Extends (trees out.old) (trees out.new)) }
 {
     let (pairs, last) = pointer_params(pointer);
@@ -1061,12 +1063,12 @@ fn print_fn_params<X: Subtree>(
 /// The arguments of a pointer to a function in their parentheses.
 #[cycle(print)]
 #[tactic(auto, using(token_core::proofs::Puts::puts))]
-fn print_arguments<X: Subtree>(
+fn print_arguments<A: Attributes, E: Value>(
     alloc: Global,
-    pointer: &TypeFnPtr<X>,
+    pointer: &TypeFnPtrOf<A, E>,
     out: &mut TokenStream,
 ) -> Result<(), AllocError>
-    ensures ok { OnOk result (trees out.new ≡ trees out.old ++ printing.fn_arguments X.prints pointer.now) }
+    ensures ok { OnOk result (trees out.new ≡ trees out.old ++ printing.fn_arguments A.shown E.values pointer.now) }
     ensures err { OnErr result (Extends (trees out.old) (trees out.new)) }
 {
     let mut content = TokenStream::new(alloc);
@@ -1078,12 +1080,12 @@ fn print_arguments<X: Subtree>(
 /// Each argument of a pointer to a function with its comma.
 #[cycle(print)]
 #[tactic(auto, using(token_core::proofs::Puts::puts))]
-fn print_inputs<X: Subtree>(
+fn print_inputs<A: Attributes, E: Value>(
     alloc: Global,
-    pointer: &TypeFnPtr<X>,
+    pointer: &TypeFnPtrOf<A, E>,
     out: &mut TokenStream,
 ) -> Result<(), AllocError>
-    ensures ok { OnOk result (trees out.new ≡ trees out.old ++ printing.fn_inputs X.prints pointer.now) }
+    ensures ok { OnOk result (trees out.new ≡ trees out.old ++ printing.fn_inputs A.shown E.values pointer.now) }
     ensures err { OnErr result (Extends (trees out.old) (trees out.new)) }
 {
     let (pairs, last) = pointer_inputs(pointer);
@@ -1104,12 +1106,12 @@ fn print_inputs<X: Subtree>(
 /// What a pointer to a function returns.
 #[cycle(print)]
 #[tactic(auto, using(token_core::proofs::Puts::puts))]
-fn print_output<X: Subtree>(
+fn print_output<A: Attributes, E: Value>(
     alloc: Global,
-    pointer: &TypeFnPtr<X>,
+    pointer: &TypeFnPtrOf<A, E>,
     out: &mut TokenStream,
 ) -> Result<(), AllocError>
-    ensures ok { OnOk result (trees out.new ≡ trees out.old ++ printing.fn_output X.prints pointer.now) }
+    ensures ok { OnOk result (trees out.new ≡ trees out.old ++ printing.fn_output A.shown E.values pointer.now) }
     ensures err { OnErr result (Extends (trees out.old) (trees out.new)) }
 {
     match &pointer.output {
@@ -1123,12 +1125,12 @@ fn print_output<X: Subtree>(
 
 #[cycle(print)]
 #[tactic(auto, using(token_core::proofs::Puts::puts))]
-fn print_group<X: Subtree>(
+fn print_group<A: Attributes, E: Value>(
     alloc: Global,
-    group: &TypeGroup<X>,
+    group: &TypeGroupOf<TypeOf<A, E>, A>,
     out: &mut TokenStream,
 ) -> Result<(), AllocError>
-    ensures ok { OnOk result (trees out.new ≡ trees out.old ++ printing.group X.prints group.now) }
+    ensures ok { OnOk result (trees out.new ≡ trees out.old ++ printing.group A.shown E.values group.now) }
     ensures err { OnErr result (Extends (trees out.old) (trees out.new)) }
 {
     let mut content = TokenStream::new(alloc);
@@ -1138,12 +1140,12 @@ fn print_group<X: Subtree>(
 
 #[cycle(print)]
 #[tactic(auto, using(token_core::proofs::Puts::puts))]
-fn print_impl_trait<X: Subtree>(
+fn print_impl_trait<A: Attributes, E: Value>(
     alloc: Global,
-    opaque: &TypeImplTrait<X>,
+    opaque: &TypeImplTraitOf<TypeParamBoundOf<A, E>, A>,
     out: &mut TokenStream,
 ) -> Result<(), AllocError>
-    ensures ok { OnOk result (trees out.new ≡ trees out.old ++ printing.impl_trait X.prints opaque.now) }
+    ensures ok { OnOk result (trees out.new ≡ trees out.old ++ printing.impl_trait A.shown E.values opaque.now) }
     ensures err { OnErr result (Extends (trees out.old) (trees out.new)) }
 {
     opaque.impl_token.to_tokens(alloc, out)?;
@@ -1160,12 +1162,12 @@ fn print_impl_trait<X: Subtree>(
 
 #[cycle(print)]
 #[tactic(auto, using(token_core::proofs::Puts::puts))]
-fn print_paren<X: Subtree>(
+fn print_paren<A: Attributes, E: Value>(
     alloc: Global,
-    paren: &TypeParen<X>,
+    paren: &TypeParenOf<TypeOf<A, E>, A>,
     out: &mut TokenStream,
 ) -> Result<(), AllocError>
-    ensures ok { OnOk result (trees out.new ≡ trees out.old ++ printing.paren X.prints paren.now) }
+    ensures ok { OnOk result (trees out.new ≡ trees out.old ++ printing.paren A.shown E.values paren.now) }
     ensures err { OnErr result (Extends (trees out.old) (trees out.new)) }
 {
     let mut content = TokenStream::new(alloc);
@@ -1175,12 +1177,12 @@ fn print_paren<X: Subtree>(
 
 #[cycle(print)]
 #[tactic(auto, using(token_core::proofs::Puts::puts, crate::proofs::ty_laws::Prints::parts))]
-fn print_path_type<X: Subtree>(
+fn print_path_type<A: Attributes, E: Value>(
     alloc: Global,
-    path: &TypePath<X>,
+    path: &TypePathOf<A, E>,
     out: &mut TokenStream,
 ) -> Result<(), AllocError>
-    ensures ok { OnOk result (trees out.new ≡ trees out.old ++ printing.path_type X.prints path.now) }
+    ensures ok { OnOk result (trees out.new ≡ trees out.old ++ printing.path_type A.shown E.values path.now) }
     ensures err { OnErr result (Extends (trees out.old) (trees out.new)) }
 {
     match &path.qself {
@@ -1195,12 +1197,12 @@ fn print_path_type<X: Subtree>(
 
 #[cycle(print)]
 #[tactic(auto, using(token_core::proofs::Puts::puts))]
-fn print_ptr<X: Subtree>(
+fn print_ptr<A: Attributes, E: Value>(
     alloc: Global,
-    ptr: &TypePtr<X>,
+    ptr: &TypePtrOf<TypeOf<A, E>, A>,
     out: &mut TokenStream,
 ) -> Result<(), AllocError>
-    ensures ok { OnOk result (trees out.new ≡ trees out.old ++ printing.ptr X.prints ptr.now) }
+    ensures ok { OnOk result (trees out.new ≡ trees out.old ++ printing.ptr A.shown E.values ptr.now) }
     ensures err { OnErr result (Extends (trees out.old) (trees out.new)) }
 {
     ptr.star_token.to_tokens(alloc, out)?;
@@ -1210,12 +1212,12 @@ fn print_ptr<X: Subtree>(
 
 #[cycle(print)]
 #[tactic(auto, using(token_core::proofs::Puts::puts))]
-fn print_reference<X: Subtree>(
+fn print_reference<A: Attributes, E: Value>(
     alloc: Global,
-    reference: &TypeReference<X>,
+    reference: &TypeReferenceOf<TypeOf<A, E>, A>,
     out: &mut TokenStream,
 ) -> Result<(), AllocError>
-    ensures ok { OnOk result (trees out.new ≡ trees out.old ++ printing.reference X.prints reference.now) }
+    ensures ok { OnOk result (trees out.new ≡ trees out.old ++ printing.reference A.shown E.values reference.now) }
     ensures err { OnErr result (Extends (trees out.old) (trees out.new)) }
 {
     reference.and_token.to_tokens(alloc, out)?;
@@ -1226,12 +1228,12 @@ fn print_reference<X: Subtree>(
 
 #[cycle(print)]
 #[tactic(auto, using(token_core::proofs::Puts::puts))]
-fn print_slice<X: Subtree>(
+fn print_slice<A: Attributes, E: Value>(
     alloc: Global,
-    slice: &TypeSlice<X>,
+    slice: &TypeSliceOf<TypeOf<A, E>, A>,
     out: &mut TokenStream,
 ) -> Result<(), AllocError>
-    ensures ok { OnOk result (trees out.new ≡ trees out.old ++ printing.slice X.prints slice.now) }
+    ensures ok { OnOk result (trees out.new ≡ trees out.old ++ printing.slice A.shown E.values slice.now) }
     ensures err { OnErr result (Extends (trees out.old) (trees out.new)) }
 {
     let mut content = TokenStream::new(alloc);
@@ -1241,12 +1243,12 @@ fn print_slice<X: Subtree>(
 
 #[cycle(print)]
 #[tactic(auto, using(token_core::proofs::Puts::puts))]
-fn print_trait_object<X: Subtree>(
+fn print_trait_object<A: Attributes, E: Value>(
     alloc: Global,
-    object: &TypeTraitObject<X>,
+    object: &TypeTraitObjectOf<TypeParamBoundOf<A, E>, A>,
     out: &mut TokenStream,
 ) -> Result<(), AllocError>
-    ensures ok { OnOk result (trees out.new ≡ trees out.old ++ printing.trait_object X.prints object.now) }
+    ensures ok { OnOk result (trees out.new ≡ trees out.old ++ printing.trait_object A.shown E.values object.now) }
     ensures err { OnErr result (Extends (trees out.old) (trees out.new)) }
 {
     print_word(alloc, &object.dyn_token, out)?;
@@ -1263,12 +1265,12 @@ fn print_trait_object<X: Subtree>(
 
 #[cycle(print)]
 #[tactic(auto, using(token_core::proofs::Puts::puts))]
-fn print_tuple<X: Subtree>(
+fn print_tuple<A: Attributes, E: Value>(
     alloc: Global,
-    tuple: &TypeTuple<X>,
+    tuple: &TypeTupleOf<TypeOf<A, E>, A>,
     out: &mut TokenStream,
 ) -> Result<(), AllocError>
-    ensures ok { OnOk result (trees out.new ≡ trees out.old ++ printing.tuple X.prints tuple.now) }
+    ensures ok { OnOk result (trees out.new ≡ trees out.old ++ printing.tuple A.shown E.values tuple.now) }
     ensures err { OnErr result (Extends (trees out.old) (trees out.new)) }
 {
     let mut content = TokenStream::new(alloc);
@@ -1280,12 +1282,12 @@ fn print_tuple<X: Subtree>(
 /// Each element of a tuple with its comma.
 #[cycle(print)]
 #[tactic(auto, using(token_core::proofs::Puts::puts))]
-fn print_elements<X: Subtree>(
+fn print_elements<A: Attributes, E: Value>(
     alloc: Global,
-    tuple: &TypeTuple<X>,
+    tuple: &TypeTupleOf<TypeOf<A, E>, A>,
     out: &mut TokenStream,
 ) -> Result<(), AllocError>
-    ensures ok { OnOk result (trees out.new ≡ trees out.old ++ printing.elements X.prints tuple.now.elems) }
+    ensures ok { OnOk result (trees out.new ≡ trees out.old ++ printing.elements A.shown E.values tuple.now.elems) }
     ensures err { OnErr result (Extends (trees out.old) (trees out.new)) }
 {
     let (pairs, last) = element_parts(tuple);
@@ -1301,14 +1303,14 @@ fn print_elements<X: Subtree>(
 
 /// Appends a path, which a type may qualify; refused, what stood before is kept.
 #[tactic(auto, using(token_core::proofs::Puts::puts))]
-pub(crate) fn print_qpath<X: Subtree>(
+pub(crate) fn print_qpath<A: Attributes, E: Value>(
     alloc: Global,
-    qself: &Option<QSelf<X>>,
-    path: &Path<X>,
+    qself: &Option<QSelfOf<TypeOf<A, E>>>,
+    path: &PathOf<PathArgumentsOf<A, E>>,
     style: PathStyle,
     out: &mut TokenStream,
 ) -> Result<(), AllocError>
-    ensures ok { OnOk result (trees out.new ≡ trees out.old ++ printing.qpath X.prints style qself.now path.now) }
+    ensures ok { OnOk result (trees out.new ≡ trees out.old ++ printing.qpath A.shown E.values style qself.now path.now) }
     ensures err { OnErr result (Extends (trees out.old) (trees out.new)) }
 {
     match qself {
@@ -1362,12 +1364,12 @@ pub(crate) fn print_verbatim(
 
 /// The length of an array: the supplied subtree in this place, and anything else as it prints as a value.
 #[tactic(auto, using(token_core::proofs::Puts::puts, crate::proofs::attr_laws::Prints::places))]
-fn print_len<X: Subtree>(
+pub(crate) fn print_len<X: Subtree>(
     alloc: Global,
     len: &Expr<X>,
     out: &mut TokenStream,
 ) -> Result<(), AllocError>
-    ensures ok { OnOk result (trees out.new ≡ trees out.old ++ printing.len X.prints len.now) }
+    ensures ok { OnOk result (trees out.new ≡ trees out.old ++ at_place X.prints ArrayLen len.now) }
     ensures err { OnErr result (Extends (trees out.old) (trees out.new)) }
 {
     match len {
@@ -1394,16 +1396,16 @@ fn print_lifetime(
 // ---- parts of pointers to functions, trait objects and opaque types that lead back to no type
 
 /// The elements of a tuple by their parts.
-fn element_parts<X>(tuple: &TypeTuple<X>) -> (&[Pair<Type<X>, Comma>], Option<&Type<X>>)
+fn element_parts<A, E>(tuple: &TypeTupleOf<TypeOf<A, E>, A>) -> (&[Pair<TypeOf<A, E>, Comma>], Option<&TypeOf<A, E>>)
     ensures { tuple.now.elems ≡ (values_of result.0.now (option_map (λ x. x.now) result.1), marks_of result.0.now) }
 {
     tuple.elems.parts()
 }
 
 /// The parameters of the binder of a pointer to a function by their parts; none without a binder.
-fn pointer_params<X>(
-    pointer: &TypeFnPtr<X>,
-) -> (&[Pair<GenericParam<X>, Comma>], Option<&GenericParam<X>>)
+fn pointer_params<A, E>(
+    pointer: &TypeFnPtrOf<A, E>,
+) -> (&[Pair<GenericParamOf<A, E>, Comma>], Option<&GenericParamOf<A, E>>)
     ensures { shapes.binder_params (printing.fn_lifetimes pointer.now) ≡ (values_of result.0.now (option_map (λ x. x.now) result.1), marks_of result.0.now) }
 {
     match &pointer.lifetimes {
@@ -1413,16 +1415,16 @@ fn pointer_params<X>(
 }
 
 /// The arguments of a pointer to a function by their parts.
-fn pointer_inputs<X>(pointer: &TypeFnPtr<X>) -> (&[Pair<NamedArg<X>, Comma>], Option<&NamedArg<X>>)
+fn pointer_inputs<A, E>(pointer: &TypeFnPtrOf<A, E>) -> (&[Pair<NamedArgOf<TypeOf<A, E>, A>, Comma>], Option<&NamedArgOf<TypeOf<A, E>, A>>)
     ensures { printing.inputs_of pointer.now ≡ (values_of result.0.now (option_map (λ x. x.now) result.1), marks_of result.0.now) }
 {
     pointer.inputs.parts()
 }
 
 /// Bounds by their parts.
-pub(crate) fn bound_parts<X>(
-    bounds: &Punctuated<TypeParamBound<X>, Plus>,
-) -> (&[Pair<TypeParamBound<X>, Plus>], Option<&TypeParamBound<X>>)
+pub(crate) fn bound_parts<A, E>(
+    bounds: &Punctuated<TypeParamBoundOf<A, E>, Plus>,
+) -> (&[Pair<TypeParamBoundOf<A, E>, Plus>], Option<&TypeParamBoundOf<A, E>>)
     ensures { bounds.now ≡ (values_of result.0.now (option_map (λ x. x.now) result.1), marks_of result.0.now) }
 {
     bounds.parts()
@@ -1446,9 +1448,9 @@ pub(crate) fn print_word<const N: u32>(
 
 /// A pointer to a function from the end of its binder to `fn`.
 #[tactic(auto, using(token_core::proofs::Puts::puts))]
-fn print_fn_head<X>(
+fn print_fn_head<A, E>(
     alloc: Global,
-    pointer: &TypeFnPtr<X>,
+    pointer: &TypeFnPtrOf<A, E>,
     out: &mut TokenStream,
 ) -> Result<(), AllocError>
     ensures ok { OnOk result (trees out.new ≡ trees out.old ++ printing.fn_head pointer.now) }
@@ -1477,16 +1479,16 @@ fn print_convention(
 
 /// Outer attributes, and a name with its colon.
 #[tactic(auto, using(token_core::proofs::Puts::puts))]
-pub(crate) fn print_arg_name<X: Subtree>(
+pub(crate) fn print_arg_name<A: Attributes>(
     alloc: Global,
-    attrs: &Items<Attribute<X>>,
+    attrs: &Items<A>,
     name: &Option<(Ident, Colon)>,
     out: &mut TokenStream,
 ) -> Result<(), AllocError>
-    ensures ok { OnOk result (trees out.new ≡ trees out.old ++ printing.arg_name X.prints attrs.now name.now) }
+    ensures ok { OnOk result (trees out.new ≡ trees out.old ++ printing.arg_name_by A.shown attrs.now name.now) }
     ensures err { OnErr result (Extends (trees out.old) (trees out.new)) }
 {
-    print_outer(alloc, attrs, out)?;
+    A::print_outer(alloc, attrs, out)?;
     match name {
         Some((ident, colon)) => {
             ident.to_tokens(alloc, out)?;
@@ -1497,12 +1499,12 @@ pub(crate) fn print_arg_name<X: Subtree>(
 }
 
 #[tactic(auto, using(token_core::proofs::Puts::puts))]
-fn print_named_arg<X: Subtree>(
+fn print_named_arg<A: Attributes, E: Value>(
     alloc: Global,
-    arg: &NamedArg<X>,
+    arg: &NamedArgOf<TypeOf<A, E>, A>,
     out: &mut TokenStream,
 ) -> Result<(), AllocError>
-    ensures ok { OnOk result (trees out.new ≡ trees out.old ++ printing.named_arg X.prints arg.now) }
+    ensures ok { OnOk result (trees out.new ≡ trees out.old ++ printing.named_arg A.shown E.values arg.now) }
     ensures err { OnErr result (Extends (trees out.old) (trees out.new)) }
 {
     print_arg_name(alloc, &arg.attrs, &arg.name, out)?;
@@ -1510,12 +1512,12 @@ fn print_named_arg<X: Subtree>(
 }
 
 #[tactic(auto, using(token_core::proofs::Puts::puts))]
-fn print_variadic<X: Subtree>(
+fn print_variadic<A: Attributes>(
     alloc: Global,
-    variadic: &FnPtrVariadic<X>,
+    variadic: &FnPtrVariadicOf<A>,
     out: &mut TokenStream,
 ) -> Result<(), AllocError>
-    ensures ok { OnOk result (trees out.new ≡ trees out.old ++ printing.variadic X.prints variadic.now) }
+    ensures ok { OnOk result (trees out.new ≡ trees out.old ++ printing.variadic_by A.shown variadic.now) }
     ensures err { OnErr result (Extends (trees out.old) (trees out.new)) }
 {
     print_arg_name(alloc, &variadic.attrs, &variadic.name, out)?;
@@ -1528,12 +1530,12 @@ fn print_variadic<X: Subtree>(
 
 /// `...` of a pointer to a function, after a comma, which is added where the last argument has none.
 #[tactic(auto, using(token_core::proofs::Puts::puts))]
-fn print_more<X: Subtree>(
+fn print_more<A: Attributes, E: Value>(
     alloc: Global,
-    pointer: &TypeFnPtr<X>,
+    pointer: &TypeFnPtrOf<A, E>,
     out: &mut TokenStream,
 ) -> Result<(), AllocError>
-    ensures ok { OnOk result (trees out.new ≡ trees out.old ++ printing.fn_more X.prints pointer.now) }
+    ensures ok { OnOk result (trees out.new ≡ trees out.old ++ printing.fn_more A.shown E.values pointer.now) }
     ensures err { OnErr result (Extends (trees out.old) (trees out.new)) }
 {
     match &pointer.variadic {

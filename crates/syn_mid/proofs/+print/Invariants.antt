@@ -5,6 +5,8 @@ use Rattle.token_core.specs.Lists.{joined}
 use Rattle.token_core.specs.Prints as p
 use Rattle.token_core.specs.Prints.{Extends}
 use Rattle.token_core.specs.Trees.{trees}
+use Rattle.syn_mid.specs.declared.generics.GenericParamOf.TheShapes as shapes
+use Rattle.syn_mid.specs.declared.path.PathArgumentsOf.{size-PathArgumentsOf}
 use Rattle.syn_mid.specs.generics.Members.{each, those}
 use Rattle.syn_mid.specs.path.Paths.{is_lifetime}
 use Rattle.syn_mid.specs.path.Printing.{segments, around}
@@ -13,85 +15,85 @@ use Rattle.syn_mid.proofs.+print.Given as goal
 
 abbrev pub invariant-generics::print_bounds-loop-pair : goal.invariant-generics::print_bounds-loop-pair
 invariant-generics::print_bounds-loop-pair g l = record {
-  told : trees l.out ++ bounds_joined g.X.Subtree.prints (values_of (drop l.pair-index l.pairs) (option_map (λ x. x.now) l.last), marks_of (drop l.pair-index l.pairs))
-      ≡ trees l.initial.out ++ bounds_joined g.X.Subtree.prints (values_of l.pairs (option_map (λ x. x.now) l.last), marks_of l.pairs);
+  told : trees l.out ++ bounds_joined g.A.Attributes.shown g.E.Value.values (values_of (drop l.pair-index l.pairs) (option_map (λ x. x.now) l.last), marks_of (drop l.pair-index l.pairs))
+      ≡ trees l.initial.out ++ bounds_joined g.A.Attributes.shown g.E.Value.values (values_of l.pairs (option_map (λ x. x.now) l.last), marks_of l.pairs);
   kept : Extends (trees l.initial.out) (trees l.out);
 }
 
 abbrev pub invariant-generics::print_trait_params-loop-pair : goal.invariant-generics::print_trait_params-loop-pair
 invariant-generics::print_trait_params-loop-pair g l = record {
-  told : trees l.out ++ joined (param g.X.Subtree.prints) p.mark (values_of (drop l.pair-index l.pairs) (option_map (λ x. x.now) l.last)) (marks_of (drop l.pair-index l.pairs))
-      ≡ trees l.initial.out ++ joined (param g.X.Subtree.prints) p.mark (values_of l.pairs (option_map (λ x. x.now) l.last)) (marks_of l.pairs);
+  told : trees l.out ++ joined (param g.A.Attributes.shown g.E.Value.values) p.mark (values_of (drop l.pair-index l.pairs) (option_map (λ x. x.now) l.last)) (marks_of (drop l.pair-index l.pairs))
+      ≡ trees l.initial.out ++ joined (param g.A.Attributes.shown g.E.Value.values) p.mark (values_of l.pairs (option_map (λ x. x.now) l.last)) (marks_of l.pairs);
   kept : Extends (trees l.initial.out) (trees l.out);
 }
 
 abbrev pub invariant-path::print_segments-loop-pair : goal.invariant-path::print_segments-loop-pair
 invariant-path::print_segments-loop-pair g l = record {
-  told : trees l.out ++ segments g.X.Subtree.prints l.style (values_of (drop l.pair-index l.pairs) (option_map (λ x. x.now) l.last), marks_of (drop l.pair-index l.pairs))
-      ≡ trees l.initial.out ++ segments g.X.Subtree.prints l.style (values_of l.pairs (option_map (λ x. x.now) l.last), marks_of l.pairs);
+  told : trees l.out ++ segments g.A.Attributes.shown g.E.Value.values l.style (values_of (drop l.pair-index l.pairs) (option_map (λ x. x.now) l.last), marks_of (drop l.pair-index l.pairs))
+      ≡ trees l.initial.out ++ segments g.A.Attributes.shown g.E.Value.values l.style (values_of l.pairs (option_map (λ x. x.now) l.last), marks_of l.pairs);
   kept : Extends (trees l.initial.out) (trees l.out);
 }
 
 abbrev pub invariant-path::print_argument_kind-loop-pair : goal.invariant-path::print_argument_kind-loop-pair
 invariant-path::print_argument_kind-loop-pair g l = record {
-  told : trees l.out ++ each (argument g.X.Subtree.prints) (those is_lifetime l.lifetimes (pairs_of (drop l.pair-index l.pairs) (option_map (λ x. x.now) l.last)))
-      ≡ trees l.initial.out ++ each (argument g.X.Subtree.prints) (those is_lifetime l.lifetimes (pairs_of l.pairs (option_map (λ x. x.now) l.last)));
+  told : trees l.out ++ each (argument g.A.Attributes.shown g.E.Value.values) (those is_lifetime l.lifetimes (pairs_of (drop l.pair-index l.pairs) (option_map (λ x. x.now) l.last)))
+      ≡ trees l.initial.out ++ each (argument g.A.Attributes.shown g.E.Value.values) (those is_lifetime l.lifetimes (pairs_of l.pairs (option_map (λ x. x.now) l.last)));
   kept : Extends (trees l.initial.out) (trees l.out);
 }
 
 abbrev pub invariant-path::print_constraint_bounds-loop-pair : goal.invariant-path::print_constraint_bounds-loop-pair
 invariant-path::print_constraint_bounds-loop-pair g l = record {
-  told : trees l.out ++ bounds_joined g.X.Subtree.prints (values_of (drop l.pair-index l.pairs) (option_map (λ x. x.now) l.last), marks_of (drop l.pair-index l.pairs))
-      ≡ trees l.initial.out ++ bounds_joined g.X.Subtree.prints (values_of l.pairs (option_map (λ x. x.now) l.last), marks_of l.pairs);
+  told : trees l.out ++ bounds_joined g.A.Attributes.shown g.E.Value.values (values_of (drop l.pair-index l.pairs) (option_map (λ x. x.now) l.last), marks_of (drop l.pair-index l.pairs))
+      ≡ trees l.initial.out ++ bounds_joined g.A.Attributes.shown g.E.Value.values (values_of l.pairs (option_map (λ x. x.now) l.last), marks_of l.pairs);
   kept : Extends (trees l.initial.out) (trees l.out);
 }
 
 abbrev pub invariant-path::print_parenthesized_inputs-loop-pair : goal.invariant-path::print_parenthesized_inputs-loop-pair
 invariant-path::print_parenthesized_inputs-loop-pair g l = record {
-  told : trees l.out ++ inputs g.X.Subtree.prints (values_of (drop l.pair-index l.pairs) (option_map (λ x. x.now) l.last), marks_of (drop l.pair-index l.pairs))
-      ≡ trees l.initial.out ++ inputs g.X.Subtree.prints (values_of l.pairs (option_map (λ x. x.now) l.last), marks_of l.pairs);
+  told : trees l.out ++ inputs g.A.Attributes.shown g.E.Value.values (values_of (drop l.pair-index l.pairs) (option_map (λ x. x.now) l.last), marks_of (drop l.pair-index l.pairs))
+      ≡ trees l.initial.out ++ inputs g.A.Attributes.shown g.E.Value.values (values_of l.pairs (option_map (λ x. x.now) l.last), marks_of l.pairs);
   kept : Extends (trees l.initial.out) (trees l.out);
 }
 
 abbrev pub invariant-path::print_around-loop-pair : goal.invariant-path::print_around-loop-pair
 invariant-path::print_around-loop-pair g l = record {
-  told : trees l.out ++ around g.X.Subtree.prints l.style l.gt_token l.before (values_of (drop l.pair-index l.pairs) (option_map (λ x. x.now) l.last)) (marks_of (drop l.pair-index l.pairs))
-      ≡ trees l.initial.out ++ around g.X.Subtree.prints l.style l.gt_token l.initial.before (values_of l.pairs (option_map (λ x. x.now) l.last)) (marks_of l.pairs);
+  told : trees l.out ++ around g.A.Attributes.shown g.E.Value.values l.style l.gt_token l.before (values_of (drop l.pair-index l.pairs) (option_map (λ x. x.now) l.last)) (marks_of (drop l.pair-index l.pairs))
+      ≡ trees l.initial.out ++ around g.A.Attributes.shown g.E.Value.values l.style l.gt_token l.initial.before (values_of l.pairs (option_map (λ x. x.now) l.last)) (marks_of l.pairs);
   kept : Extends (trees l.initial.out) (trees l.out);
 }
 
 abbrev pub invariant-ty::print_elements-loop-pair : goal.invariant-ty::print_elements-loop-pair
 invariant-ty::print_elements-loop-pair g l = record {
-  told : trees l.out ++ elements g.X.Subtree.prints (values_of (drop l.pair-index l.pairs) (option_map (λ x. x.now) l.last), marks_of (drop l.pair-index l.pairs))
-      ≡ trees l.initial.out ++ elements g.X.Subtree.prints (values_of l.pairs (option_map (λ x. x.now) l.last), marks_of l.pairs);
+  told : trees l.out ++ elements g.A.Attributes.shown g.E.Value.values (values_of (drop l.pair-index l.pairs) (option_map (λ x. x.now) l.last), marks_of (drop l.pair-index l.pairs))
+      ≡ trees l.initial.out ++ elements g.A.Attributes.shown g.E.Value.values (values_of l.pairs (option_map (λ x. x.now) l.last), marks_of l.pairs);
   kept : Extends (trees l.initial.out) (trees l.out);
 }
 
 abbrev pub invariant-ty::print_fn_params-loop-pair : goal.invariant-ty::print_fn_params-loop-pair
 invariant-ty::print_fn_params-loop-pair g l = record {
-  told : trees l.out ++ joined (param g.X.Subtree.prints) p.mark (values_of (drop l.pair-index l.pairs) (option_map (λ x. x.now) l.last)) (marks_of (drop l.pair-index l.pairs))
-      ≡ trees l.initial.out ++ joined (param g.X.Subtree.prints) p.mark (values_of l.pairs (option_map (λ x. x.now) l.last)) (marks_of l.pairs);
+  told : trees l.out ++ joined (param g.A.Attributes.shown g.E.Value.values) p.mark (values_of (drop l.pair-index l.pairs) (option_map (λ x. x.now) l.last)) (marks_of (drop l.pair-index l.pairs))
+      ≡ trees l.initial.out ++ joined (param g.A.Attributes.shown g.E.Value.values) p.mark (values_of l.pairs (option_map (λ x. x.now) l.last)) (marks_of l.pairs);
   kept : Extends (trees l.initial.out) (trees l.out);
 }
 
 abbrev pub invariant-ty::print_inputs-loop-pair : goal.invariant-ty::print_inputs-loop-pair
 invariant-ty::print_inputs-loop-pair g l = record {
-  told : trees l.out ++ inputs g.X.Subtree.prints (values_of (drop l.pair-index l.pairs) (option_map (λ x. x.now) l.last), marks_of (drop l.pair-index l.pairs))
-      ≡ trees l.initial.out ++ inputs g.X.Subtree.prints (values_of l.pairs (option_map (λ x. x.now) l.last), marks_of l.pairs);
+  told : trees l.out ++ inputs g.A.Attributes.shown g.E.Value.values (values_of (drop l.pair-index l.pairs) (option_map (λ x. x.now) l.last), marks_of (drop l.pair-index l.pairs))
+      ≡ trees l.initial.out ++ inputs g.A.Attributes.shown g.E.Value.values (values_of l.pairs (option_map (λ x. x.now) l.last), marks_of l.pairs);
   kept : Extends (trees l.initial.out) (trees l.out);
 }
 
 abbrev pub invariant-ty::print_impl_trait-loop-pair : goal.invariant-ty::print_impl_trait-loop-pair
 invariant-ty::print_impl_trait-loop-pair g l = record {
-  told : trees l.out ++ bounds_joined g.X.Subtree.prints (values_of (drop l.pair-index l.pairs) (option_map (λ x. x.now) l.last), marks_of (drop l.pair-index l.pairs))
-      ≡ trees l.initial.out ++ bounds_joined g.X.Subtree.prints (values_of l.pairs (option_map (λ x. x.now) l.last), marks_of l.pairs);
+  told : trees l.out ++ bounds_joined g.A.Attributes.shown g.E.Value.values (values_of (drop l.pair-index l.pairs) (option_map (λ x. x.now) l.last), marks_of (drop l.pair-index l.pairs))
+      ≡ trees l.initial.out ++ bounds_joined g.A.Attributes.shown g.E.Value.values (values_of l.pairs (option_map (λ x. x.now) l.last), marks_of l.pairs);
   kept : Extends (trees l.initial.out) (trees l.out);
 }
 
 abbrev pub invariant-ty::print_trait_object-loop-pair : goal.invariant-ty::print_trait_object-loop-pair
 invariant-ty::print_trait_object-loop-pair g l = record {
-  told : trees l.out ++ bounds_joined g.X.Subtree.prints (values_of (drop l.pair-index l.pairs) (option_map (λ x. x.now) l.last), marks_of (drop l.pair-index l.pairs))
-      ≡ trees l.initial.out ++ bounds_joined g.X.Subtree.prints (values_of l.pairs (option_map (λ x. x.now) l.last), marks_of l.pairs);
+  told : trees l.out ++ bounds_joined g.A.Attributes.shown g.E.Value.values (values_of (drop l.pair-index l.pairs) (option_map (λ x. x.now) l.last), marks_of (drop l.pair-index l.pairs))
+      ≡ trees l.initial.out ++ bounds_joined g.A.Attributes.shown g.E.Value.values (values_of l.pairs (option_map (λ x. x.now) l.last), marks_of l.pairs);
   kept : Extends (trees l.initial.out) (trees l.out);
 }
 
@@ -177,7 +179,7 @@ abbrev pub decreases-path::print_parenthesized_inputs : goal.decreases-path::pri
 decreases-path::print_parenthesized_inputs g l = 8 * goal.size-path::print_parenthesized_inputs g l + 1
 
 abbrev pub decreases-path::print_qualified : goal.decreases-path::print_qualified
-decreases-path::print_qualified g l = 8 * goal.size-path::print_qualified g l + 4
+decreases-path::print_qualified g l = 8 * (shapes.weighed-TraitBoundOf-path g.row.A.Denot g.row.E.Denot).weight _ (size-PathArgumentsOf g.row.A.Denot g.row.E.Denot) l.path.now + 4
 
 abbrev pub decreases-path::print_around : goal.decreases-path::print_around
 decreases-path::print_around g l = 8 * goal.size-path::print_around g l + 3

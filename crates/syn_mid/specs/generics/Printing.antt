@@ -17,11 +17,14 @@ use Rattle.syn_mid.specs.generics.Members.{sorted}
 use Rattle.syn_mid.specs.generics.Params.{Comma, is_lifetime}
 use Rattle.syn_mid.specs.generics.Shapes.{Values, between, binder_by, lifetimes_joined}
 
+-- a colon is kept in predicates
+abbrev pub predicate_lifetime_by : {A : Type 0} → (List A → Print) → PredicateLifetimeOf A → Print
+predicate_lifetime_by attrs x = attrs x.attrs ++ (lifetimes.print x.lifetime ++ (p.mark x.colon_token ++ lifetimes_joined x.bounds))
+
 -- what attributes and expressions print is given
 module _ {A E : Type 0} (attrs : List A → Print) (values : Values E) where
-  -- a colon is kept in predicates
   abbrev pub predicate_lifetime : PredicateLifetimeOf A → Print
-  predicate_lifetime x = attrs x.attrs ++ (lifetimes.print x.lifetime ++ (p.mark x.colon_token ++ lifetimes_joined x.bounds))
+  predicate_lifetime = predicate_lifetime_by attrs
 
   abbrev pub predicate_type : PredicateTypeOf A E → Print
   predicate_type x = attrs x.attrs ++ (binder_by (param attrs values) x.lifetimes ++ (ty attrs values x.bounded_ty ++ (p.mark x.colon_token ++ bounds_joined attrs values x.bounds)))

@@ -156,13 +156,19 @@ pub record Values (E : Type 0) : Type 0 where
   pub len : E → Print
   pub const_argument : E → Print
 
+abbrev pub lifetime_param_by : {A : Type 0} → (List A → Print) → LifetimeParamOf A → Print
+lifetime_param_by attrs x = attrs x.attrs ++ (lifetimes.print x.lifetime ++ after_colon lifetimes.print x.colon_token x.bounds)
+
+abbrev pub const_default_by : {E : Type 0} → Values E → Option (Mark 11 1 × E) → Print
+const_default_by values None = []
+const_default_by values (Some d) = p.mark d.0 ++ values.const_argument d.1
+
 module _ {A E : Type 0} (attrs : List A → Print) (values : Values E) where
   abbrev pub lifetime_param : LifetimeParamOf A → Print
-  lifetime_param x = attrs x.attrs ++ (lifetimes.print x.lifetime ++ after_colon lifetimes.print x.colon_token x.bounds)
+  lifetime_param = lifetime_param_by attrs
 
   abbrev pub const_default : Option (Mark 11 1 × E) → Print
-  const_default None = []
-  const_default (Some d) = p.mark d.0 ++ values.const_argument d.1
+  const_default = const_default_by values
 
   -- ---- by the print of types, and of bounds
 

@@ -191,20 +191,28 @@ module _ {A E : Type 0} where
 abbrev pub Shown : Family → Type 0 → Type 0 → Type 0
 Shown F A E = F A E Print Print (Bool × Print) (PathStyle → Print) Print Print Print Print Print Print Print
 
+abbrev pub optional_comma : Option Comma → Print
+optional_comma None = []
+optional_comma (Some c) = p.mark c
+
+-- by what attributes print
+module _ {A : Type 0} (attrs : List A → Print) where
+  abbrev pub arg_name_by : List A → Option (Ident × Mark 7 1) → Print
+  arg_name_by a n = attrs a ++ name n
+
+  abbrev pub variadic_by : FnPtrVariadicOf A → Print
+  variadic_by x = arg_name_by x.attrs x.name ++ (p.mark x.dots ++ optional_comma x.comma)
+
 -- what attributes and expressions print is given
 module _ {A E : Type 0} (attrs : List A → Print) (values : Values E) where
   abbrev pub arg_name : List A → Option (Ident × Mark 7 1) → Print
-  arg_name a n = attrs a ++ name n
+  arg_name = arg_name_by attrs
 
   abbrev pub named_arg_by : {T : Type 0} → (T → Print) → NamedArgOf T A → Print
   named_arg_by type x = arg_name x.attrs x.name ++ type x.ty
 
-  abbrev pub optional_comma : Option Comma → Print
-  optional_comma None = []
-  optional_comma (Some c) = p.mark c
-
   abbrev pub variadic : FnPtrVariadicOf A → Print
-  variadic x = arg_name x.attrs x.name ++ (p.mark x.dots ++ optional_comma x.comma)
+  variadic = variadic_by attrs
 
   abbrev pub inputs_by : {T : Type 0} → (T → Print) → Many (NamedArgOf T A) Comma → Print
   inputs_by type v = joined (named_arg_by type) p.mark v.0 v.1
