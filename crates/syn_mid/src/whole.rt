@@ -137,7 +137,7 @@ impl<A: Attributes, E: Value> Parser for WithoutPlus<A, E> {
 
     ghost reads = { λ _. Gives (knot.ty E.reads false) };
 
-    ghost refuses = { λ _. Fails (knot.ty E.reads false) };
+    ghost refuses = { λ _. Fails (knot.ty {A = A} E.reads false) };
 
     ghost promise = { λ _. Headline (types.ty E.reads E.spells A.normal E.normal A.shown E.values false) };
 
