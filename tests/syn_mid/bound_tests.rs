@@ -81,13 +81,25 @@ fn a_binder_beside_a_question_mark_is_refused_at_the_mark(rt: HostRuntime) {
     refused(&rt, alloc, "? for<'a> A", wanted, 0);
     refused(&rt, alloc, "(for<'a> ?A)", wanted, 9);
     refused(&rt, alloc, "for<'a> ? for<'b> A", "expected identifier", 10);
-    refused(&rt, alloc, "for<'a> ?", "unexpected end of input, expected identifier", 0);
+    refused(
+        &rt,
+        alloc,
+        "for<'a> ?",
+        "unexpected end of input, expected identifier",
+        0,
+    );
 }
 
 #[test]
 fn what_is_no_bound_yet_is_refused(rt: HostRuntime) {
     let alloc = rt.alloc();
-    refused(&rt, alloc, "", "unexpected end of input, expected identifier", 0);
+    refused(
+        &rt,
+        alloc,
+        "",
+        "unexpected end of input, expected identifier",
+        0,
+    );
     refused(&rt, alloc, "A + B", "unexpected token", 2);
     refused(&rt, alloc, "A<B>", "unexpected token", 1);
     refused(&rt, alloc, "A(B)", "unexpected token", 1);
@@ -102,5 +114,11 @@ fn what_is_no_bound_yet_is_refused(rt: HostRuntime) {
     refused(&rt, alloc, "for<'a: 'b> A", "expected `,`", 6);
     refused(&rt, alloc, "for<'a 'b> A", "expected `,`", 7);
     refused(&rt, alloc, "for<'a, , 'b> A", "expected lifetime", 8);
-    refused(&rt, alloc, "for<'a", "unexpected end of input, expected `,`", 0);
+    refused(
+        &rt,
+        alloc,
+        "for<'a",
+        "unexpected end of input, expected `,`",
+        0,
+    );
 }

@@ -4,18 +4,14 @@ use crate::generics_tests::{const_param, ident, literal, path, printed, says, sh
 use crate::nothing::Nothing;
 use crate::pat_tests::{inner, outer};
 use std::alloc::Global;
-use std::marker::PhantomData;
-use syn_mid::{
-    AngleBracketedGenericArguments, Expr, ExprBlock, ExprConst, ExprLit, ExprMacro, ExprPath,
-    ExprRange, Macro, ParenthesizedGenericArguments, Path, PathArguments, PathSegment,
-};
-use token_core::token::{Brace, Const, DotDot, DotDotEq, Eq, Gt, Lt, Paren, PathSep};
+use syn_mid::{Expr, ExprBlock, ExprConst, ExprLit, ExprMacro, ExprPath, ExprRange, Macro};
+use token_core::token::{Brace, Const, DotDot, DotDotEq, Eq};
 use token_core::{Boxed, Error, Items, Lit, RangeLimits, read_all};
 use token_text::lex;
 
 type Form = Expr<Nothing>;
 
-fn name(alloc: Global, text: &str) -> Result<Form, Error> {
+pub(crate) fn name(alloc: Global, text: &str) -> Result<Form, Error> {
     Ok(Expr::Path(ExprPath {
         attrs: Items::new(alloc),
         path: path(alloc, text)?,
@@ -23,7 +19,7 @@ fn name(alloc: Global, text: &str) -> Result<Form, Error> {
 }
 
 /// `#[b] a`
-pub(crate) fn name_with_outer(alloc: Global) -> Result<ExprPath<Nothing>, Error> {
+fn name_with_outer(alloc: Global) -> Result<ExprPath<Nothing>, Error> {
     let attrs = outer(alloc, "#[b]")?;
     let path = path(alloc, "a")?;
     Ok(ExprPath { attrs, path })
@@ -34,38 +30,6 @@ fn literal_with_inner(alloc: Global) -> Result<ExprLit<Nothing>, Error> {
     let attrs = inner(alloc, "#![b]")?;
     let lit = read_all::<Lit>(alloc, &lex(alloc, "1")?)?;
     Ok(ExprLit { attrs, lit })
-}
-
-/// `a` with these arguments
-fn with_arguments(
-    alloc: Global,
-    arguments: PathArguments<Nothing>,
-) -> Result<ExprPath<Nothing>, Error> {
-    let ident = ident(alloc, "a")?;
-    Ok(ExprPath {
-        attrs: Items::new(alloc),
-        path: Path::from_segment(alloc, PathSegment { ident, arguments })?,
-    })
-}
-
-/// `a<>`, after `::` if so wanted
-fn generic(alloc: Global, colon: Option<PathSep>) -> Result<ExprPath<Nothing>, Error> {
-    let arguments = PathArguments::AngleBracketed(AngleBracketedGenericArguments {
-        colon2_token: colon,
-        lt_token: Lt::default(),
-        args: PhantomData,
-        gt_token: Gt::default(),
-    });
-    with_arguments(alloc, arguments)
-}
-
-/// `a()`
-fn parenthesized(alloc: Global) -> Result<ExprPath<Nothing>, Error> {
-    let arguments = PathArguments::Parenthesized(ParenthesizedGenericArguments {
-        paren_token: Paren::default(),
-        inputs: PhantomData,
-    });
-    with_arguments(alloc, arguments)
 }
 
 pub(crate) fn const_block(alloc: Global) -> Result<ExprConst<Nothing>, Error> {
@@ -87,7 +51,7 @@ fn block(alloc: Global) -> ExprBlock<Nothing> {
 
 pub(crate) fn call(alloc: Global) -> Result<ExprMacro<Nothing>, Error> {
     let attrs = outer(alloc, "#[b]")?;
-    let mac = read_all::<Macro<Nothing>>(alloc, &lex(alloc, "a::b!(c)")?)?;
+    let mac = read_all::<Macro>(alloc, &lex(alloc, "a::b!(c)")?)?;
     Ok(ExprMacro { attrs, mac })
 }
 
@@ -123,10 +87,6 @@ fn marked_argument(alloc: Global) -> Result<Form, Error> {
     Ok(Expr::Path(name_with_outer(alloc)?))
 }
 
-fn generic_argument(alloc: Global) -> Result<Form, Error> {
-    Ok(Expr::Path(generic(alloc, None)?))
-}
-
 fn range_argument(alloc: Global) -> Result<Form, Error> {
     Ok(Expr::Range(closed(alloc)?))
 }
@@ -136,13 +96,7 @@ fn expressions_print(rt: HostRuntime) {
     let alloc = rt.alloc();
     says(&rt, shown(alloc, name_with_outer(alloc)), "# [b] a");
     says(&rt, shown(alloc, literal_with_inner(alloc)), "1");
-    says(&rt, shown(alloc, generic(alloc, None)), "a :: < >");
-    says(
-        &rt,
-        shown(alloc, generic(alloc, Some(PathSep::default()))),
-        "a :: < >",
-    );
-    says(&rt, shown(alloc, parenthesized(alloc)), "a :: ()");
+    says(&rt, shown(alloc, name(alloc, "::a::b")), ":: a :: b");
     says(&rt, shown(alloc, const_block(alloc)), "# [b] const { }");
     says(&rt, shown(alloc, call(alloc)), "# [b] a :: b ! (c)");
     says(&rt, shown(alloc, closed(alloc)), "a ..= 1");
@@ -183,11 +137,6 @@ fn const_arguments_print(rt: HostRuntime) {
         &rt,
         argument(alloc, marked_argument(alloc)),
         "const N : usize = { # [b] a }",
-    );
-    says(
-        &rt,
-        argument(alloc, generic_argument(alloc)),
-        "const N : usize = { a :: < > }",
     );
     says(
         &rt,

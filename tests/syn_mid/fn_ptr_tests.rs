@@ -94,11 +94,13 @@ fn further_arguments_print(rt: HostRuntime) {
 
 /// `fn(..)`
 fn pointer(
+    alloc: Global,
     inputs: Result<Args, Error>,
     variadic: Result<Option<More>, Error>,
 ) -> Result<Type<Nothing>, Error> {
     let (inputs, variadic) = both(inputs, variadic)?;
     Ok(Type::from(TypeFnPtr {
+        attrs: Items::new(alloc),
         lifetimes: None,
         unsafety: None,
         abi: None,
@@ -111,12 +113,12 @@ fn pointer(
 }
 
 fn prints(alloc: Global, inputs: Result<Args, Error>) -> Result<String, Error> {
-    shown(alloc, pointer(inputs, Ok(None)))
+    shown(alloc, pointer(alloc, inputs, Ok(None)))
 }
 
 /// With `...` after these arguments.
 fn prints_more(alloc: Global, inputs: Result<Args, Error>) -> Result<String, Error> {
-    shown(alloc, pointer(inputs, Ok(Some(more(alloc)))))
+    shown(alloc, pointer(alloc, inputs, Ok(Some(more(alloc)))))
 }
 
 fn some<T: Drop>(made: Result<T, Error>) -> Result<Option<T>, Error> {
@@ -126,7 +128,7 @@ fn some<T: Drop>(made: Result<T, Error>) -> Result<Option<T>, Error> {
 /// With `#[b] y: ...,` after these arguments.
 fn prints_named(alloc: Global, inputs: Result<Args, Error>) -> Result<String, Error> {
     let more = named_more(alloc, outer(alloc, "#[b]"));
-    shown(alloc, pointer(inputs, some(more)))
+    shown(alloc, pointer(alloc, inputs, some(more)))
 }
 
 fn two(alloc: Global) -> Result<Args, Error> {
@@ -184,6 +186,7 @@ pub(crate) fn whole(alloc: Global, inputs: Result<Args, Error>) -> Result<Pointe
     let head = both(binder(alloc, "a"), convention(alloc));
     let ((binder, abi), (inputs, output)) = both(head, both(inputs, output(alloc)))?;
     Ok(TypeFnPtr {
+        attrs: Items::new(alloc),
         lifetimes: Some(binder),
         unsafety: Some(Unsafe::default()),
         abi: Some(abi),
@@ -217,6 +220,7 @@ fn nested(alloc: Global, times: u8) -> Result<Type<Nothing>, Error> {
     for _ in 0..times {
         let ty = boxed(alloc, Ok(inner))?;
         inner = Type::from(TypeFnPtr {
+            attrs: Items::new(alloc),
             lifetimes: None,
             unsafety: None,
             abi: None,

@@ -5,8 +5,8 @@ use std::alloc::Global;
 use std::fmt::Write;
 use std::process::Abort;
 use syn_mid::{
-    BoundLifetimes, CapturedParam, ConstParam, Expr, ExprLit, GenericParam, Generics,
-    LifetimeParam, ModStyle, ParseInner, ParseOuter, Path, PreciseCapture, PredicateLifetime,
+    Arguments, BoundLifetimes, CapturedParam, ConstParam, Expr, ExprLit, GenericParam, Generics,
+    LifetimeParam, ModStyle, ParseInner, ParseOuter, PathOf, PreciseCapture, PredicateLifetime,
     PredicateType, TraitBound, TraitBoundModifiers, Type, TypeParam, TypeParamBound, TypePathOf,
     WhereClause, WherePredicate,
 };
@@ -74,17 +74,18 @@ pub(crate) fn ident(alloc: Global, text: &str) -> Result<Ident, Error> {
     Ok(Ident::new(alloc, text, Span::none())?)
 }
 
-fn lifetime(alloc: Global, text: &str) -> Result<Lifetime, Error> {
+pub(crate) fn lifetime(alloc: Global, text: &str) -> Result<Lifetime, Error> {
     Ok(Lifetime::new(Span::none(), ident(alloc, text)?))
 }
 
-pub(crate) fn path(alloc: Global, text: &str) -> Result<Path<Nothing>, Error> {
+pub(crate) fn path<A: Arguments>(alloc: Global, text: &str) -> Result<PathOf<A>, Error> {
     let tokens = lex(alloc, text)?;
-    read_all_with(alloc, ModStyle::<Nothing>::new(), &tokens)
+    read_all_with(alloc, ModStyle::<A>::new(), &tokens)
 }
 
 pub(crate) fn ty(alloc: Global, text: &str) -> Result<Type<Nothing>, Error> {
     Ok(Type::Path(TypePathOf {
+        attrs: Items::new(alloc),
         qself: None,
         path: path(alloc, text)?,
     }))

@@ -1,12 +1,12 @@
 //! Large trees made by hand, and what an output holds after the print of one was refused.
 
 use crate::expr_tests::{call, const_block};
-use crate::fn_ptr_tests;
 use crate::generics_tests::{self, both, ident, lone, pair, path};
 use crate::nothing::Nothing;
 use crate::object_tests::{and, bound_with_binder, opaque};
 use crate::pat_tests::{self, boxed, outer, rest_after, two, two_fields, with_rest};
 use crate::qualified_tests::{qself, qualified};
+use crate::{argument_tests, fn_ptr_tests};
 use std::alloc::Global;
 use syn_mid::{
     Expr, ExprRange, NamedArg, NamedArgOf, Pat, Type, TypeFnPtr, TypeGroupOf, TypeParenOf,
@@ -29,6 +29,7 @@ pub(crate) enum Outcome {
 pub(crate) fn outcome(alloc: Global, name: &str, times: usize) -> Result<Outcome, Error> {
     match name {
         "type" => printed(alloc, times, pointer(alloc)),
+        "arguments" => printed(alloc, times, argument_tests::whole(alloc)),
         "generics" => printed(alloc, times, generics_tests::whole(alloc)),
         "clause" => printed(alloc, times, generics_tests::clause(alloc)),
         "pattern" => printed(alloc, times, pattern(alloc)),
@@ -70,10 +71,11 @@ fn take(alloc: Global, times: usize) -> Result<(), Error> {
 
 /// `(impl A + for<'b> A, <Self as A>::Q)`
 fn tuple(alloc: Global) -> Result<Type<Nothing>, Error> {
-    let first = opaque(and(alloc, bound_with_binder(alloc)));
+    let first = opaque(alloc, and(alloc, bound_with_binder(alloc)));
     let qself = qself(alloc, 1, Some(As::default()));
-    let (first, second) = both(first, qualified(qself, path(alloc, "A::Q")))?;
+    let (first, second) = both(first, qualified(alloc, qself, path(alloc, "A::Q")))?;
     Ok(Type::from(TypeTupleOf {
+        attrs: Items::new(alloc),
         paren_token: Paren::default(),
         elems: pair(alloc, first, second)?,
     }))
@@ -82,14 +84,17 @@ fn tuple(alloc: Global) -> Result<Type<Nothing>, Error> {
 /// `[((impl A + for<'b> A, <Self as A>::Q))]`, with an invisible group in the outer parentheses
 fn nested(alloc: Global) -> Result<Type<Nothing>, Error> {
     let group = Type::Group(TypeGroupOf {
+        attrs: Items::new(alloc),
         group_token: GroupToken::default(),
         elem: boxed(alloc, tuple(alloc))?,
     });
     let paren = Type::from(TypeParenOf {
+        attrs: Items::new(alloc),
         paren_token: Paren::default(),
         elem: Boxed::new(alloc, group)?,
     });
     Ok(Type::from(TypeSliceOf {
+        attrs: Items::new(alloc),
         bracket_token: Bracket::default(),
         elem: Boxed::new(alloc, paren)?,
     }))

@@ -2,6 +2,8 @@
 #![tactic(auto)]
 
 #[cfg(test)]
+mod argument_tests;
+#[cfg(test)]
 mod bound_tests;
 #[cfg(test)]
 mod expr_tests;
@@ -15,9 +17,12 @@ mod nothing;
 mod object_tests;
 #[cfg(test)]
 mod pat_tests;
+mod plain_type_tests;
 #[cfg(test)]
 mod qualified_tests;
 #[cfg(test)]
 mod tests;
+#[cfg(test)]
+mod type_attr_tests;
 #[cfg(test)]
 mod type_tests;

@@ -2,6 +2,7 @@
 //! for memory refused. Its status says what came of it.
 #![tactic(auto)]
 
+mod argument_tests;
 mod expr_tests;
 mod fn_ptr_tests;
 mod generics_tests;

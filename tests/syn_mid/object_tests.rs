@@ -7,7 +7,7 @@ use syn_mid::{
     TraitBoundModifiers, TraitBoundOf, Type, TypeImplTraitOf, TypeParamBound, TypeTraitObjectOf,
 };
 use token_core::token::{Dyn, Impl, Plus};
-use token_core::{Error, Punctuated};
+use token_core::{Error, Items, Punctuated};
 
 type Bound = TypeParamBound<Nothing>;
 
@@ -51,15 +51,21 @@ fn trailing(alloc: Global, bound: Result<Bound, Error>) -> Result<Bounds, Error>
     Ok(list)
 }
 
-pub(crate) fn opaque(bounds: Result<Bounds, Error>) -> Result<Type<Nothing>, Error> {
+pub(crate) fn opaque(alloc: Global, bounds: Result<Bounds, Error>) -> Result<Type<Nothing>, Error> {
     Ok(Type::from(TypeImplTraitOf {
+        attrs: Items::new(alloc),
         impl_token: Impl::default(),
         bounds: bounds?,
     }))
 }
 
-fn object(dyn_token: Option<Dyn>, bounds: Result<Bounds, Error>) -> Result<Type<Nothing>, Error> {
+pub(crate) fn object(
+    alloc: Global,
+    dyn_token: Option<Dyn>,
+    bounds: Result<Bounds, Error>,
+) -> Result<Type<Nothing>, Error> {
     Ok(Type::from(TypeTraitObjectOf {
+        attrs: Items::new(alloc),
         dyn_token,
         bounds: bounds?,
     }))
@@ -69,13 +75,13 @@ fn object(dyn_token: Option<Dyn>, bounds: Result<Bounds, Error>) -> Result<Type<
 fn opaque_types_print(rt: HostRuntime) {
     let alloc = rt.alloc();
     let one = lone(alloc, bound(alloc, "a::B"));
-    says(&rt, shown(alloc, opaque(one)), "impl a :: B");
+    says(&rt, shown(alloc, opaque(alloc, one)), "impl a :: B");
     let some = and(alloc, lifetime_bound(alloc));
-    says(&rt, shown(alloc, opaque(some)), "impl A + 'a");
+    says(&rt, shown(alloc, opaque(alloc, some)), "impl A + 'a");
     let marked = trailing(alloc, bound(alloc, "A"));
-    says(&rt, shown(alloc, opaque(marked)), "impl A +");
+    says(&rt, shown(alloc, opaque(alloc, marked)), "impl A +");
     let none = Ok(Punctuated::new(alloc));
-    says(&rt, shown(alloc, opaque(none)), "impl");
+    says(&rt, shown(alloc, opaque(alloc, none)), "impl");
 }
 
 #[test]
@@ -83,13 +89,17 @@ fn trait_objects_print(rt: HostRuntime) {
     let alloc = rt.alloc();
     let word = Some(Dyn::default());
     let one = lone(alloc, bound(alloc, "A"));
-    says(&rt, shown(alloc, object(word, one)), "dyn A");
+    says(&rt, shown(alloc, object(alloc, word, one)), "dyn A");
     let bound = lone(alloc, bound_with_binder(alloc));
-    says(&rt, shown(alloc, object(word, bound)), "dyn for < 'b > A");
+    says(
+        &rt,
+        shown(alloc, object(alloc, word, bound)),
+        "dyn for < 'b > A",
+    );
     let marked = trailing(alloc, bound_with_binder(alloc));
     says(
         &rt,
-        shown(alloc, object(word, marked)),
+        shown(alloc, object(alloc, word, marked)),
         "dyn for < 'b > A +",
     );
 }
@@ -98,9 +108,9 @@ fn trait_objects_print(rt: HostRuntime) {
 fn trait_objects_without_their_word_print(rt: HostRuntime) {
     let alloc = rt.alloc();
     let some = and(alloc, bound(alloc, "B"));
-    says(&rt, shown(alloc, object(None, some)), "A + B");
+    says(&rt, shown(alloc, object(alloc, None, some)), "A + B");
     let marked = trailing(alloc, bound(alloc, "A"));
-    says(&rt, shown(alloc, object(None, marked)), "A +");
+    says(&rt, shown(alloc, object(alloc, None, marked)), "A +");
     let none = Ok(Punctuated::new(alloc));
-    says(&rt, shown(alloc, object(None, none)), "");
+    says(&rt, shown(alloc, object(alloc, None, none)), "");
 }

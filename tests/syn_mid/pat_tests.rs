@@ -1,15 +1,15 @@
 //! What patterns made by hand print.
 
-use crate::expr_tests::{call, closed, const_block, name_with_outer};
+use crate::expr_tests::{call, closed, const_block};
 use crate::generics_tests::{both, ident, literal, lone, pair, path, printed, says, shown, ty};
 use crate::nothing::Nothing;
 use crate::qualified_tests::qself;
 use std::alloc::Global;
-use std::marker::PhantomData;
 use syn_mid::{
-    AngleBracketedGenericArguments, Attribute, FieldPat, ParseInner, ParseOuter, Pat, PatGuard,
-    PatIdent, PatLit, PatOr, PatParen, PatReference, PatRest, PatSlice, PatStruct, PatTuple,
-    PatTupleStruct, PatType, PatWild, Path, PathArguments, PathSegment, QSelf,
+    AngleBracketedGenericArguments, Attribute, FieldPat, ParenthesizedGenericArguments, ParseInner,
+    ParseOuter, Pat, PatGuard, PatIdent, PatLit, PatOr, PatParen, PatPath, PatReference, PatRest,
+    PatSlice, PatStruct, PatTuple, PatTupleStruct, PatType, PatWild, Path, PathArguments,
+    PathSegment, QSelf, ReturnTypeOf,
 };
 use token_core::token::{
     And, As, At, Brace, Bracket, Colon, Comma, DotDot, Gt, If, Lt, Mut, Or, Paren, PathSep, Ref,
@@ -139,8 +139,15 @@ fn macro_pat(alloc: Global) -> Result<Pattern, Error> {
     Ok(Pat::from(call(alloc)?))
 }
 
+/// `#[b] a`
 fn path_pat(alloc: Global) -> Result<Pattern, Error> {
-    Ok(Pat::from(name_with_outer(alloc)?))
+    let attrs = outer(alloc, "#[b]")?;
+    let path = path(alloc, "a")?;
+    Ok(Pat::from(PatPath {
+        attrs,
+        qself: None,
+        path,
+    }))
 }
 
 fn range_pat(alloc: Global) -> Result<Pattern, Error> {
@@ -395,7 +402,7 @@ fn angled_segment(alloc: Global, text: &str) -> Result<PathSegment<Nothing>, Err
         arguments: PathArguments::AngleBracketed(AngleBracketedGenericArguments {
             colon2_token: None,
             lt_token: Lt::default(),
-            args: PhantomData,
+            args: Punctuated::new(alloc),
             gt_token: Gt::default(),
         }),
     })
@@ -418,10 +425,48 @@ fn angled_struct(alloc: Global) -> Result<Pattern, Error> {
     }))
 }
 
+/// `A` with these arguments
+fn with_arguments(
+    alloc: Global,
+    arguments: PathArguments<Nothing>,
+) -> Result<PatPath<Nothing>, Error> {
+    let ident = ident(alloc, "A")?;
+    Ok(PatPath {
+        attrs: Items::new(alloc),
+        qself: None,
+        path: Path::from_segment(alloc, PathSegment { ident, arguments })?,
+    })
+}
+
+/// `A<>`, after `::` if so wanted
+fn generic(alloc: Global, colon: Option<PathSep>) -> Result<PatPath<Nothing>, Error> {
+    let arguments = PathArguments::AngleBracketed(AngleBracketedGenericArguments {
+        colon2_token: colon,
+        lt_token: Lt::default(),
+        args: Punctuated::new(alloc),
+        gt_token: Gt::default(),
+    });
+    with_arguments(alloc, arguments)
+}
+
+/// `A()`
+fn parenthesized(alloc: Global) -> Result<PatPath<Nothing>, Error> {
+    let arguments = PathArguments::Parenthesized(ParenthesizedGenericArguments {
+        paren_token: Paren::default(),
+        inputs: Punctuated::new(alloc),
+        output: ReturnTypeOf::Default,
+    });
+    with_arguments(alloc, arguments)
+}
+
 #[test]
 fn paths_print_as_in_an_expression(rt: HostRuntime) {
     let alloc = rt.alloc();
     says(&rt, shown(alloc, angled_struct(alloc)), "A :: < > ()");
+    says(&rt, shown(alloc, generic(alloc, None)), "A :: < >");
+    let colon = Some(PathSep::default());
+    says(&rt, shown(alloc, generic(alloc, colon)), "A :: < >");
+    says(&rt, shown(alloc, parenthesized(alloc)), "A :: ()");
 }
 
 // ---- qualified paths
@@ -479,12 +524,32 @@ fn of_a_trait(alloc: Global) -> Result<Pattern, Error> {
     qualified_tuple_struct(alloc, qself, angled_twice(alloc), none)
 }
 
+/// `#[b] <Self as A>::Q`
+fn qualified_path(alloc: Global) -> Result<Pattern, Error> {
+    let qself = qself(alloc, 1, Some(As::default()));
+    let (qself, path) = both(qself, path(alloc, "A::Q"))?;
+    Ok(Pat::from(PatPath {
+        attrs: outer(alloc, "#[b]")?,
+        qself: Some(qself),
+        path,
+    }))
+}
+
 #[test]
 fn qualified_paths_print(rt: HostRuntime) {
     let alloc = rt.alloc();
     let whole = "# [b] < Self as A > :: Q { x , .. }";
     says(&rt, shown(alloc, qualified_struct(alloc)), whole);
-    says(&rt, shown(alloc, of_a_type(alloc)), "< Self > :: Q (a , ..)");
+    says(
+        &rt,
+        shown(alloc, of_a_type(alloc)),
+        "< Self > :: Q (a , ..)",
+    );
     let arguments = "< Self as A < > > :: Q :: < > ()";
     says(&rt, shown(alloc, of_a_trait(alloc)), arguments);
+    says(
+        &rt,
+        shown(alloc, qualified_path(alloc)),
+        "# [b] < Self as A > :: Q",
+    );
 }

@@ -6,8 +6,8 @@ use crate::pat_tests::boxed;
 use std::alloc::Global;
 use std::fmt::Write;
 use syn_mid::{Path, QSelf, QSelfOf, Type, TypePathOf};
-use token_core::Error;
 use token_core::token::{As, Gt, Lt};
+use token_core::{Error, Items};
 
 /// A path without its last segments.
 fn popped(alloc: Global, text: &str, times: u8) -> Result<Path<Nothing>, Error> {
@@ -34,18 +34,21 @@ pub(crate) fn qself(
 }
 
 pub(crate) fn qualified(
+    alloc: Global,
     qself: Result<QSelf<Nothing>, Error>,
     path: Result<Path<Nothing>, Error>,
 ) -> Result<Type<Nothing>, Error> {
     let (qself, path) = both(qself, path)?;
     Ok(Type::from(TypePathOf {
+        attrs: Items::new(alloc),
         qself: Some(qself),
         path,
     }))
 }
 
-fn plain(path: Result<Path<Nothing>, Error>) -> Result<Type<Nothing>, Error> {
+fn plain(alloc: Global, path: Result<Path<Nothing>, Error>) -> Result<Type<Nothing>, Error> {
     Ok(Type::from(TypePathOf {
+        attrs: Items::new(alloc),
         qself: None,
         path: path?,
     }))
@@ -54,18 +57,21 @@ fn plain(path: Result<Path<Nothing>, Error>) -> Result<Type<Nothing>, Error> {
 /// `<Self as A>::Q` without its last segments
 fn of_a_trait(alloc: Global, times: u8) -> Result<String, Error> {
     let qself = qself(alloc, 1, Some(As::default()));
-    shown(alloc, qualified(qself, popped(alloc, "A::Q", times)))
+    shown(alloc, qualified(alloc, qself, popped(alloc, "A::Q", times)))
 }
 
 /// `<Self>::A::B` without its last segments
 fn of_a_type(alloc: Global, times: u8) -> Result<String, Error> {
     let qself = qself(alloc, 0, None);
-    shown(alloc, qualified(qself, popped(alloc, "::A::B", times)))
+    shown(
+        alloc,
+        qualified(alloc, qself, popped(alloc, "::A::B", times)),
+    )
 }
 
 /// `Self::A::B` without its last segments
 fn of_none(alloc: Global, times: u8) -> Result<String, Error> {
-    shown(alloc, plain(popped(alloc, "Self::A::B", times)))
+    shown(alloc, plain(alloc, popped(alloc, "Self::A::B", times)))
 }
 
 #[test]
@@ -96,7 +102,7 @@ fn plain_paths_print(rt: HostRuntime) {
 /// `<Self as ..>` with `>` after as many segments of this path, and `as` left to the print.
 fn at(alloc: Global, position: usize, text: &str) -> Result<String, Error> {
     let qself = qself(alloc, position, None);
-    shown(alloc, qualified(qself, path(alloc, text)))
+    shown(alloc, qualified(alloc, qself, path(alloc, text)))
 }
 
 #[test]
@@ -115,6 +121,7 @@ fn nested(alloc: Global, times: u8) -> Result<Type<Nothing>, Error> {
     for _ in 0..times {
         let (boxed, path) = both(boxed(alloc, Ok(inner)), path(alloc, "::A"))?;
         inner = Type::from(TypePathOf {
+            attrs: Items::new(alloc),
             qself: Some(QSelfOf {
                 lt_token: Lt::default(),
                 ty: boxed,

@@ -3,13 +3,12 @@
 use crate::nothing::Nothing;
 use std::alloc::{AllocError, Global};
 use std::fmt::Write;
-use std::marker::PhantomData;
 use std::process::Abort;
 use syn_mid::attr::{inner, outer};
 use syn_mid::{
-    AngleBracketedGenericArguments, AttrStyle, Attribute, Expr, Macro, MacroDelimiter, Meta,
-    MetaList, MetaNameValue, ModStyle, ParenthesizedGenericArguments, Path, PathArguments,
-    PathSegment,
+    AngleBracketedGenericArguments, Arguments, AttrStyle, Attribute, Expr, Macro, MacroDelimiter,
+    Meta, MetaList, MetaNameValue, ModPath, ModStyle, ParenthesizedGenericArguments, Path,
+    PathArguments, PathOf, PathSegment, PathSegmentOf, ReturnTypeOf,
 };
 use token_core::token::{Brace, Bracket, Eq, Gt, Lt, Not, Paren, PathSep, Pound};
 use token_core::{
@@ -170,17 +169,17 @@ fn show_sep(rt: &impl Abort, mark: &PathSep, out: &mut String) {
     put(rt, ";", out);
 }
 
-fn show_segment(rt: &impl Abort, segment: &PathSegment<Nothing>, out: &mut String) {
+fn show_segment<A: Arguments>(rt: &impl Abort, segment: &PathSegmentOf<A>, out: &mut String) {
     put(rt, segment.ident.text(), out);
     show_span(rt, segment.ident.span, out);
-    if !segment.arguments.is_none() {
+    if !segment.arguments.are_none() {
         put(rt, " with arguments", out);
     }
     put(rt, ";", out);
 }
 
 /// The parts of a path, each with its places.
-fn show_path(rt: &impl Abort, path: &Path<Nothing>, out: &mut String) {
+fn show_path<A: Arguments>(rt: &impl Abort, path: &PathOf<A>, out: &mut String) {
     match &path.leading_colon {
         Some(colon) => {
             put(rt, "leading", out);
@@ -236,7 +235,7 @@ fn show_error(rt: &impl Abort, error: &Error, out: &mut String) {
 
 fn path_read(rt: &impl Abort, alloc: Global, tokens: &TokenStream) -> String {
     let mut out = String::new(alloc);
-    match read_all_with(alloc, ModStyle::<Nothing>::new(), tokens) {
+    match read_all_with(alloc, ModStyle::<PathArguments<Nothing>>::new(), tokens) {
         Ok(path) => show_path(rt, &path, &mut out),
         Err(error) => show_error(rt, &error, &mut out),
     }
@@ -308,7 +307,7 @@ fn opens(delimiter: &MacroDelimiter) -> &'static str {
     }
 }
 
-fn show_macro(rt: &impl Abort, call: &Macro<Nothing>, out: &mut String) {
+fn show_macro(rt: &impl Abort, call: &Macro, out: &mut String) {
     show_path(rt, &call.path, out);
     put(rt, "!", out);
     show_span(rt, call.bang_token.spans[0], out);
@@ -332,7 +331,7 @@ fn show_print<T: ToTokens>(rt: &impl Abort, alloc: Global, tree: &T, out: &mut S
 /// What a list is read as, and what the call prints.
 fn macro_read(rt: &impl Abort, alloc: Global, tokens: &TokenStream) -> String {
     let mut out = String::new(alloc);
-    match read_all::<Macro<Nothing>>(alloc, tokens) {
+    match read_all::<Macro>(alloc, tokens) {
         Ok(call) => {
             show_macro(rt, &call, &mut out);
             put(rt, "=", &mut out);
@@ -403,18 +402,18 @@ fn refuses_macros_without_a_group(rt: HostRuntime) {
         macro_is(&rt, rt.alloc(), &tokens(&rt, rt.alloc(), text), want);
     }
     let tokens = with_group(&rt, rt.alloc(), "m !", Delimiter::None, "x");
-    let read = read_all::<Macro<Nothing>>(rt.alloc(), &tokens);
+    let read = read_all::<Macro>(rt.alloc(), &tokens);
     refused(&rt, read, ErrorKind::ExpectedDelimiter);
 }
 
 /// `<>`, after `::` if so wanted.
-fn angles(colon: Option<PathSep>) -> PathArguments<Nothing> {
+fn angles(alloc: Global, colon: Option<PathSep>) -> PathArguments<Nothing> {
     PathArguments::AngleBracketed(AngleBracketedGenericArguments {
         colon2_token: colon,
         lt_token: Lt {
             spans: [Span::new(7, 8)],
         },
-        args: PhantomData,
+        args: Punctuated::new(alloc),
         gt_token: Gt {
             spans: [Span::new(8, 9)],
         },
@@ -452,10 +451,11 @@ fn put_segment(
     made(rt, push_segment(alloc, segment, path));
 }
 
-fn parentheses() -> PathArguments<Nothing> {
+fn parentheses(alloc: Global) -> PathArguments<Nothing> {
     PathArguments::Parenthesized(ParenthesizedGenericArguments {
         paren_token: Paren { span: place() },
-        inputs: PhantomData,
+        inputs: Punctuated::new(alloc),
+        output: ReturnTypeOf::Default,
     })
 }
 
@@ -466,13 +466,13 @@ fn long_path(rt: &impl Abort, alloc: Global, segments: usize) -> Path<Nothing> {
         segments: Punctuated::new(alloc),
     };
     if segments > 0 {
-        put_segment(rt, alloc, "a", angles(None), &mut path);
+        put_segment(rt, alloc, "a", angles(alloc, None), &mut path);
     }
     if segments > 1 {
-        put_segment(rt, alloc, "b", angles(Some(separator())), &mut path);
+        put_segment(rt, alloc, "b", angles(alloc, Some(separator())), &mut path);
     }
     if segments > 2 {
-        put_segment(rt, alloc, "c", parentheses(), &mut path);
+        put_segment(rt, alloc, "c", parentheses(alloc), &mut path);
     }
     path
 }
@@ -499,20 +499,20 @@ fn prints_paths(rt: HostRuntime) {
 }
 
 #[test]
-fn prints_calls_without_arguments_of_paths(rt: HostRuntime) {
+fn prints_calls(rt: HostRuntime) {
     let call = Macro {
-        path: long_path(&rt, rt.alloc(), 2),
+        path: read_path(&rt, rt.alloc(), ":: a :: b"),
         bang_token: Not {
             spans: [Span::new(3, 4)],
         },
         delimiter: MacroDelimiter::Bracket(Bracket { span: place() }),
         tokens: tokens(&rt, rt.alloc(), "x"),
     };
-    let want = ":~ 5-6;: 6-7;a 1-2;:~ 5-6;: 6-7;b 1-2;:~ 5-6;: 6-7;! 3-4;[ 50-51;x 0-1;end 60-61;";
+    let want = ":~ 0-1;: 1-2;a 3-4;:~ 5-6;: 6-7;b 8-9;! 3-4;[ 50-51;x 0-1;end 60-61;";
     prints(&rt, rt.alloc(), &call, want);
 }
 
-fn ident_or_none(path: &Path<Nothing>) -> &str {
+fn ident_or_none<A: Arguments>(path: &PathOf<A>) -> &str {
     match path.get_ident() {
         Some(ident) => ident.text(),
         None => "none",
@@ -520,7 +520,7 @@ fn ident_or_none(path: &Path<Nothing>) -> &str {
 }
 
 /// The identifier that a path is, or the refusal of one that is none; whether it is `a`.
-fn identified(rt: &impl Abort, alloc: Global, path: &Path<Nothing>) -> String {
+fn identified<A: Arguments>(rt: &impl Abort, alloc: Global, path: &PathOf<A>) -> String {
     let mut out = String::new(alloc);
     put(rt, ident_or_none(path), &mut out);
     if path.is_ident("a") {
@@ -538,7 +538,13 @@ fn identified(rt: &impl Abort, alloc: Global, path: &Path<Nothing>) -> String {
 }
 
 /// It is identified so, and a refusal of it points so.
-fn identifies(rt: &impl Abort, alloc: Global, path: &Path<Nothing>, wanted: &str, points: &str) {
+fn identifies<A: Arguments>(
+    rt: &impl Abort,
+    alloc: Global,
+    path: &PathOf<A>,
+    wanted: &str,
+    points: &str,
+) {
     let mut all = String::new(alloc);
     put(rt, wanted, &mut all);
     put(rt, points, &mut all);
@@ -546,12 +552,9 @@ fn identifies(rt: &impl Abort, alloc: Global, path: &Path<Nothing>, wanted: &str
     text_is(rt, out.as_str(), all.as_str());
 }
 
-fn read_path(rt: &impl Abort, alloc: Global, text: &str) -> Path<Nothing> {
+fn read_path<A: Arguments>(rt: &impl Abort, alloc: Global, text: &str) -> PathOf<A> {
     let tokens = tokens(rt, alloc, text);
-    got(
-        rt,
-        read_all_with(alloc, ModStyle::<Nothing>::new(), &tokens),
-    )
+    got(rt, read_all_with(alloc, ModStyle::<A>::new(), &tokens))
 }
 
 #[test]
@@ -565,7 +568,9 @@ fn tells_identifiers(rt: HostRuntime) {
         ("a :: b", refused, " 0-1 5-6"),
         (":: a :: b :: cd", refused, " 3-4 13-15"),
     ] {
-        let path = read_path(&rt, rt.alloc(), text);
+        let path: Path<Nothing> = read_path(&rt, rt.alloc(), text);
+        identifies(&rt, rt.alloc(), &path, want, points);
+        let path: ModPath = read_path(&rt, rt.alloc(), text);
         identifies(&rt, rt.alloc(), &path, want, points);
     }
     let none = long_path(&rt, rt.alloc(), 0);
@@ -592,7 +597,7 @@ fn makes_paths(rt: HostRuntime) {
 fn makes_paths_of_segments(rt: HostRuntime) {
     let alloc = rt.alloc();
     let ident = made(&rt, Ident::new(alloc, "a", Span::new(3, 4)));
-    let arguments = angles(None);
+    let arguments = angles(alloc, None);
     let segment = PathSegment { ident, arguments };
     let path = made(&rt, Path::from_segment(alloc, segment));
     path_shows(&rt, alloc, &path, "a 3-4 with arguments;");
@@ -609,7 +614,7 @@ fn tells_braces(rt: HostRuntime) {
 }
 
 fn read_and_print(alloc: Global, tokens: &TokenStream, out: &mut TokenStream) -> Result<(), Error> {
-    let call = read_all::<Macro<Nothing>>(alloc, tokens)?;
+    let call = read_all::<Macro>(alloc, tokens)?;
     call.to_tokens(alloc, out)?;
     Ok(())
 }
@@ -676,7 +681,7 @@ fn told(rt: &impl Abort, error: &Error, out: &mut String) {
     show_span(rt, error.end(), out);
 }
 
-fn write_count(list: &MetaList<Nothing>, out: &mut String) -> Result<(), AllocError> {
+fn write_count(list: &MetaList, out: &mut String) -> Result<(), AllocError> {
     write!(out, "list of {}", list.tokens.len())?;
     Ok(())
 }

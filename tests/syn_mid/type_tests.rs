@@ -5,20 +5,22 @@ use crate::nothing::Nothing;
 use std::alloc::Global;
 use syn_mid::{Abi, ReturnType, ReturnTypeOf, Type, TypeGroupOf, TypeNever};
 use token_core::token::{Extern, GroupToken, Not, RArrow};
-use token_core::{Boxed, Error, LitStr, Span};
+use token_core::{Boxed, Error, Items, LitStr, Span};
 
 /// `!`
-fn never() -> Type<Nothing> {
+fn never(alloc: Global) -> Type<Nothing> {
     Type::Never(TypeNever {
+        attrs: Items::new(alloc),
         bang_token: Not::default(),
     })
 }
 
 /// A type in as many invisible groups.
 fn grouped(alloc: Global, groups: u8) -> Result<Type<Nothing>, Error> {
-    let mut ty = never();
+    let mut ty = never(alloc);
     for _ in 0..groups {
         ty = Type::Group(TypeGroupOf {
+            attrs: Items::new(alloc),
             group_token: GroupToken::default(),
             elem: Boxed::new(alloc, ty)?,
         });
@@ -42,7 +44,7 @@ fn prints_types_in_invisible_groups(rt: HostRuntime) {
 fn output(alloc: Global) -> Result<String, Error> {
     let output: ReturnType<Nothing> = ReturnTypeOf::Type(
         RArrow::default(),
-        Boxed::new(alloc, never())?,
+        Boxed::new(alloc, never(alloc))?,
     );
     printed(alloc, &output)
 }

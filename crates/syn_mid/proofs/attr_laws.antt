@@ -7,3 +7,4 @@ pub mod Prints
 pub mod Reprint
 pub mod Laws
 pub mod Normal
+pub mod Values

@@ -1,4 +1,5 @@
 pub mod Members
+pub mod Listed
 pub mod Sorted
 pub mod Prints
 pub mod Views

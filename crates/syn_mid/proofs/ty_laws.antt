@@ -10,6 +10,7 @@ pub mod ListedComplete
 pub mod Complete
 pub mod KnotComplete
 pub mod Normal
+pub mod Mapped
 pub mod Prints
 pub mod Each
 pub mod Stays
@@ -23,3 +24,5 @@ pub mod Lone
 pub mod Laws
 pub mod Lasts
 pub mod Pieces
+pub mod Weights
+pub mod Puts

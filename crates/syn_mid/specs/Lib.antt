@@ -1,4 +1,5 @@
 pub mod Supplied
+pub mod Lengths
 pub mod path
 pub mod mac
 pub mod attr

@@ -6,3 +6,4 @@ pub mod Normal
 pub mod Grammars
 pub mod Requirements
 pub mod Kinds
+pub mod Lengths

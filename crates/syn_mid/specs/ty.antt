@@ -1,3 +1,4 @@
+pub mod Trees
 pub mod Types
 pub mod Reading
 pub mod Knot

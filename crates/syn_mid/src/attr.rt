@@ -21,7 +21,7 @@ ghost use Rattle.syn_mid.specs.attr.Spelling.{AreAll, IsMetaList, IsOuter, IsInn
 
 use crate::mac::{MacroDelimiter, parse_body, print_held};
 use crate::meta::{ParseNestedMeta, read_properties};
-use crate::path::{Path, PathStyle, print_path, text_around};
+use crate::path::{ModPath, print_mod_path, text_around};
 use crate::supplied::{
     Expr, ExprBlock, ExprConst, ExprLit, ExprMacro, ExprPath, ExprRange, Place, Subtree,
 };
@@ -57,17 +57,17 @@ pub enum AttrStyle {
 #[derive(Drop)]
 pub enum Meta<X> {
     /// `test`
-    Path(Path<X>),
+    Path(ModPath),
     /// `derive(Copy)`
-    List(MetaList<X>),
+    List(MetaList),
     /// `path = "sys.rs"`
     NameValue(MetaNameValue<X>),
 }
 
 /// A path, and a group of tokens.
 #[derive(Drop)]
-pub struct MetaList<X> {
-    pub path: Path<X>,
+pub struct MetaList {
+    pub path: ModPath,
     pub delimiter: MacroDelimiter,
     pub tokens: TokenStream,
 }
@@ -76,7 +76,7 @@ pub struct MetaList<X> {
 #[cycle(trees)]
 #[derive(Drop)]
 pub struct MetaNameValue<X> {
-    pub path: Path<X>,
+    pub path: ModPath,
     pub eq_token: Eq,
     pub value: Expr<X>,
 }
@@ -140,15 +140,15 @@ fn parse_meta<X: Subtree>(alloc: Global, input: &mut ParseStream<'_>) -> Result<
 
 /// The outermost path of a meta: `unsafe` alone, or of mod style (`parse_outermost_meta_path`).
 #[tactic(auto, using(token_core::proofs::Suffixes::follows), unfolding(crate::specs::attr::Reading::meta_path))]
-fn parse_meta_path<X: Drop>(alloc: Global, input: &mut ParseStream<'_>) -> Result<Path<X>, Error>
+fn parse_meta_path(alloc: Global, input: &mut ParseStream<'_>) -> Result<ModPath, Error>
     ensures reads { Reads (reading.meta_path input.old) result input.new }
     ensures within { Follows input.old input.new }
 {
     if input.peek::<Unsafe>() {
         let ident = Ident::parse_any(alloc, input)?;
-        return Ok(Path::from_ident(alloc, ident)?);
+        return Ok(ModPath::from_ident(alloc, ident)?);
     }
-    Path::parse_mod_style(alloc, input)
+    ModPath::parse_mod_style(alloc, input)
 }
 
 /// Whether a group of tokens is at the front.
@@ -170,7 +170,7 @@ fn peek_equals(input: &ParseStream<'_>) -> bool
 #[tactic(auto, using(token_core::proofs::Suffixes::follows), unfolding(crate::specs::attr::Reading::meta_after))]
 fn parse_meta_after_path<X: Subtree>(
     alloc: Global,
-    path: Path<X>,
+    path: ModPath,
     input: &mut ParseStream<'_>,
 ) -> Result<Meta<X>, Error>
     ensures reads { Reads (reading.meta_after X.reads path input.old) result input.new }
@@ -186,11 +186,11 @@ fn parse_meta_after_path<X: Subtree>(
 }
 
 #[tactic(auto, using(token_core::proofs::Suffixes::follows), unfolding(crate::specs::attr::Reading::list_after))]
-fn parse_list_after_path<X: Drop>(
+fn parse_list_after_path(
     alloc: Global,
-    path: Path<X>,
+    path: ModPath,
     input: &mut ParseStream<'_>,
-) -> Result<MetaList<X>, Error>
+) -> Result<MetaList, Error>
     ensures reads { Reads (reading.list_after path input.old) result input.new }
     ensures within { Follows input.old input.new }
 {
@@ -205,7 +205,7 @@ fn parse_list_after_path<X: Drop>(
 #[tactic(auto, using(token_core::proofs::Suffixes::follows), unfolding(crate::specs::attr::Reading::name_value_after))]
 fn parse_name_value_after_path<X: Subtree>(
     alloc: Global,
-    path: Path<X>,
+    path: ModPath,
     input: &mut ParseStream<'_>,
 ) -> Result<MetaNameValue<X>, Error>
     ensures reads { Reads (reading.name_value_after X.reads path input.old) result input.new }
@@ -275,15 +275,15 @@ fn parse_other<X: Subtree>(alloc: Global, input: &mut ParseStream<'_>) -> Result
 }
 
 /// Reads a path and a group of tokens.
-impl<X: Subtree> Parse for MetaList<X> {
-    ghost reads = { Gives (reading.list {X = X}) };
+impl Parse for MetaList {
+    ghost reads = { Gives reading.list };
 
-    ghost refuses = { Fails (reading.list {X = X}) };
+    ghost refuses = { Fails reading.list };
 
-    ghost promise = { Headline (grammars.list {X = X}) };
+    ghost promise = { Headline grammars.list };
 
     /// On the front of a list without invisible groups it took what the list spells.
-    fn parse(alloc: Global, input: &mut ParseStream<'_>) -> Result<MetaList<X>, Error>
+    fn parse(alloc: Global, input: &mut ParseStream<'_>) -> Result<MetaList, Error>
         ensures reads { Reads (reading.list input.old) result input.new }
         ensures within { Follows input.old input.new }
         ensures front { Visible input.old.rest → IfOk result (λ x. IsMetaList false x input.old.rest input.new.rest) }
@@ -294,10 +294,7 @@ impl<X: Subtree> Parse for MetaList<X> {
 }
 
 #[tactic(auto, using(token_core::proofs::Suffixes::follows), unfolding(crate::specs::attr::Reading::list))]
-fn parse_meta_list<X: Drop>(
-    alloc: Global,
-    input: &mut ParseStream<'_>,
-) -> Result<MetaList<X>, Error>
+fn parse_meta_list(alloc: Global, input: &mut ParseStream<'_>) -> Result<MetaList, Error>
     ensures reads { Reads (reading.list input.old) result input.new }
     ensures within { Follows input.old input.new }
 {
@@ -489,7 +486,7 @@ impl<X: Subtree> ToTokens for Meta<X> {
     }
 }
 
-impl<X: Subtree> ToTokens for MetaList<X> {
+impl ToTokens for MetaList {
     ghost print = { printing.list };
 
     fn to_tokens(&self, alloc: Global, out: &mut TokenStream) -> Result<(), AllocError> {
@@ -636,7 +633,7 @@ fn print_meta<X: Subtree>(
     ensures err { OnErr result (Extends (trees out.old) (trees out.new)) }
 {
     match meta {
-        Meta::Path(path) => print_path(alloc, path, PathStyle::Mod, out),
+        Meta::Path(path) => print_mod_path(alloc, path, out),
         Meta::List(list) => print_list(alloc, list, out),
         Meta::NameValue(value) => print_name_value(alloc, value, out),
     }
@@ -652,7 +649,7 @@ fn print_name_value<X: Subtree>(
     ensures ok { OnOk result (trees out.new ≡ trees out.old ++ printing.name_value X.prints meta.now) }
     ensures err { OnErr result (Extends (trees out.old) (trees out.new)) }
 {
-    print_path(alloc, &meta.path, PathStyle::Mod, out)?;
+    print_mod_path(alloc, &meta.path, out)?;
     meta.eq_token.to_tokens(alloc, out)?;
     print_value(alloc, &meta.value, out)
 }
@@ -675,7 +672,7 @@ pub(crate) fn print_value<X: Subtree>(
         }
         Expr::Path(expr) => {
             print_outer(alloc, &expr.attrs, out)?;
-            print_path(alloc, &expr.path, PathStyle::Expr, out)
+            print_mod_path(alloc, &expr.path, out)
         }
         Expr::Const(expr) => {
             print_outer(alloc, &expr.attrs, out)?;
@@ -790,7 +787,7 @@ fn print_expr_path<X: Subtree>(
     ensures err { OnErr result (Extends (trees out.old) (trees out.new)) }
 {
     print_outer(alloc, &expr.attrs, out)?;
-    print_path(alloc, &expr.path, PathStyle::Expr, out)
+    print_mod_path(alloc, &expr.path, out)
 }
 
 #[tactic(auto, using(token_core::proofs::Puts::puts))]
@@ -890,28 +887,28 @@ fn print_style(alloc: Global, style: &AttrStyle, out: &mut TokenStream) -> Resul
 }
 
 #[tactic(auto, using(token_core::proofs::Puts::puts))]
-fn print_list<X>(alloc: Global, list: &MetaList<X>, out: &mut TokenStream) -> Result<(), AllocError>
+fn print_list(alloc: Global, list: &MetaList, out: &mut TokenStream) -> Result<(), AllocError>
     ensures ok { OnOk result (trees out.new ≡ trees out.old ++ printing.list list.now) }
     ensures err { OnErr result (Extends (trees out.old) (trees out.new)) }
 {
-    print_path(alloc, &list.path, PathStyle::Mod, out)?;
+    print_mod_path(alloc, &list.path, out)?;
     print_held(alloc, &list.delimiter, &list.tokens, out)
 }
 
 // ---- calls
 
-impl<X> From<Path<X>> for Meta<X> {
+impl<X> From<ModPath> for Meta<X> {
     ghost from_gives = { λ path meta. meta ≡ metas.Path path };
 
-    fn from(path: Path<X>) -> Meta<X> {
+    fn from(path: ModPath) -> Meta<X> {
         Meta::Path(path)
     }
 }
 
-impl<X> From<MetaList<X>> for Meta<X> {
+impl<X> From<MetaList> for Meta<X> {
     ghost from_gives = { λ list meta. meta ≡ metas.List list };
 
-    fn from(list: MetaList<X>) -> Meta<X> {
+    fn from(list: MetaList) -> Meta<X> {
         Meta::List(list)
     }
 }
@@ -925,13 +922,7 @@ impl<X> From<MetaNameValue<X>> for Meta<X> {
 }
 
 /// A refusal from the first segment of a path to the last, with the path's text between two texts.
-fn refuse_path<X>(
-    alloc: Global,
-    kind: ErrorKind,
-    before: &str,
-    path: &Path<X>,
-    after: &str,
-) -> Error
+fn refuse_path(alloc: Global, kind: ErrorKind, before: &str, path: &ModPath, after: &str) -> Error
     ensures { Made result (requirements.at_path kind before.now path.now after.now) }
 {
     match text_around(alloc, before, path, after) {
@@ -955,7 +946,7 @@ fn equals_span(token: &Eq) -> Span
 
 impl<X> Meta<X> {
     /// The path that the meta begins with.
-    pub fn path(&self) -> &Path<X>
+    pub fn path(&self) -> &ModPath
         ensures { result.now ≡ requirements.path_in self.now }
     {
         match self {
@@ -966,7 +957,7 @@ impl<X> Meta<X> {
     }
 
     /// The path of a meta that is one. Another meta is refused at its opening delimiter or its `=`.
-    pub fn require_path_only(&self, alloc: Global) -> Result<&Path<X>, Error>
+    pub fn require_path_only(&self, alloc: Global) -> Result<&ModPath, Error>
         ensures ok { IfOk result (λ p. requirements.path_only self.now ≡ Ok p.now) }
         ensures err { IfErr result (λ e. requirements.RefusedBy (requirements.path_only self.now) e) }
     {
@@ -986,7 +977,7 @@ impl<X> Meta<X> {
     }
 
     /// The list of a meta that is one. A path is refused from its first segment to its last, a name and value at its `=`.
-    pub fn require_list(&self, alloc: Global) -> Result<&MetaList<X>, Error>
+    pub fn require_list(&self, alloc: Global) -> Result<&MetaList, Error>
         requires { 0 < length (requirements.path_in self.now).segments.0 }
         ensures ok { IfOk result (λ l. requirements.list self.now ≡ Ok l.now) }
         ensures err { IfErr result (λ e. requirements.RefusedBy (requirements.list self.now) e) }
@@ -1032,7 +1023,7 @@ impl<X> Meta<X> {
     }
 }
 
-impl<X> MetaList<X> {
+impl MetaList {
     /// A whole read of the tokens; refusals at their end point at the closing delimiter.
     pub fn parse_args<T: Parse>(&self, alloc: Global) -> Result<T, Error>
         ensures reads { WholeRead T.reads T.refuses (held self.now.delimiter self.now.tokens) result }
@@ -1055,9 +1046,9 @@ impl<X> MetaList<X> {
     }
 }
 
-impl<X: Drop> MetaList<X> {
+impl MetaList {
     /// Reads the tokens as properties separated by commas, of which there may be none.
-    pub fn parse_nested_meta<F: FnMut(Global, &mut ParseNestedMeta<'_, X>) -> Result<(), Error>>(
+    pub fn parse_nested_meta<F: FnMut(Global, &mut ParseNestedMeta<'_>) -> Result<(), Error>>(
         &self,
         alloc: Global,
         logic: F,
@@ -1071,14 +1062,14 @@ impl<X: Drop> MetaList<X> {
 
 impl<X> Attribute<X> {
     /// The path that the attribute begins with.
-    pub fn path(&self) -> &Path<X>
+    pub fn path(&self) -> &ModPath
         ensures { result.now ≡ requirements.path_in self.now.meta }
     {
         self.meta.path()
     }
 
     /// The list of an attribute that has one. A path is refused from its first segment to its last, a name and value at its `=`.
-    fn arguments(&self, alloc: Global) -> Result<&MetaList<X>, Error>
+    fn arguments(&self, alloc: Global) -> Result<&MetaList, Error>
         ensures ok { IfOk result (λ l. requirements.arguments self.now ≡ Ok l.now) }
         ensures err { IfErr result (λ e. requirements.RefusedBy (requirements.arguments self.now) e) }
     {
@@ -1125,7 +1116,7 @@ impl<X> Attribute<X> {
 
 impl<X: Drop> Attribute<X> {
     /// Reads the arguments as properties separated by commas, of which there may be none.
-    pub fn parse_nested_meta<F: FnMut(Global, &mut ParseNestedMeta<'_, X>) -> Result<(), Error>>(
+    pub fn parse_nested_meta<F: FnMut(Global, &mut ParseNestedMeta<'_>) -> Result<(), Error>>(
         &self,
         alloc: Global,
         logic: F,

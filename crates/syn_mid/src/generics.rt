@@ -10,10 +10,12 @@ ghost use Rattle.token_core.specs.Prints.{Extends, Print};
 ghost use Rattle.token_core.specs.Reads.{Reads, Follows, Gives, Fails};
 ghost use Rattle.token_core.specs.Rebuilt.{Visible};
 ghost use Rattle.token_core.specs.Trees.{trees};
-ghost use Rattle.syn_mid.specs.declared.generics.GenericParam.TheVariants as params;
+ghost use Rattle.syn_mid.specs.declared.generics.GenericParamOf.TheVariants as params;
 ghost use Rattle.syn_mid.specs.declared.generics.Style as styles;
-ghost use Rattle.syn_mid.specs.declared.generics.TypeParamBound.TheVariants as bounds;
-ghost use Rattle.syn_mid.specs.declared.generics.WherePredicate.TheVariants as predicates;
+ghost use Rattle.syn_mid.specs.declared.generics.TypeParamBoundOf.TheVariants as bounds;
+ghost use Rattle.syn_mid.specs.declared.generics.WherePredicateOf.TheVariants as predicates;
+ghost use Rattle.syn_mid.specs.Supplied.{Block};
+ghost use Rattle.syn_mid.specs.attr.Printing.{at_place};
 ghost use Rattle.syn_mid.specs.generics.Kinds as kinds;
 ghost use Rattle.syn_mid.specs.generics.Lends.{lends_clause};
 ghost use Rattle.syn_mid.specs.generics.Members as members;
@@ -26,11 +28,11 @@ ghost use Rattle.syn_mid.specs.ty.Knot as knot;
 ghost use Rattle.syn_mid.specs.ty.Printing as types;
 ghost use Rattle.syn_mid.specs.generics.Views as views;
 
-use crate::attr::{Attribute, print_outer, print_value};
+use crate::attr::{Attribute, print_value};
 use crate::grammar::parse_bound;
-use crate::path::Path;
-use crate::supplied::{Expr, Place, Subtree};
-use crate::ty::{Type, bound_parts, print_type, print_verbatim};
+use crate::path::{PathArgumentsOf, PathOf, PathStyle, print_path};
+use crate::supplied::{Attributes, Expr, Place, Subtree, Value};
+use crate::ty::{Type, TypeOf, bound_parts, print_type, print_verbatim};
 use std::alloc::{AllocError, Global};
 use std::marker::PhantomData;
 use token_core::token::{
@@ -43,58 +45,70 @@ use token_core::{
 
 /// The parameters of a declaration, and its where clause, which stands elsewhere in many of them.
 #[derive(Drop)]
-pub struct Generics<X> {
+pub struct GenericsOf<A, E> {
     pub lt_token: Option<Lt>,
-    pub params: Punctuated<GenericParam<X>, Comma>,
+    pub params: Punctuated<GenericParamOf<A, E>, Comma>,
     pub gt_token: Option<Gt>,
-    pub where_clause: Option<WhereClause<X>>,
+    pub where_clause: Option<WhereClauseOf<A, E>>,
 }
+
+/// The parameters of a declaration, and its where clause, which stands elsewhere in many of them.
+pub type Generics<X> = GenericsOf<Attribute<X>, Expr<X>>;
 
 /// A parameter of generics.
 #[cycle(types)]
 #[derive(Drop)]
-pub enum GenericParam<X> {
+pub enum GenericParamOf<A, E> {
     /// `'a: 'b + 'c`
-    Lifetime(LifetimeParam<X>),
+    Lifetime(LifetimeParamOf<A>),
     /// `T: A + B = C`
-    Type(TypeParam<X>),
+    Type(TypeParamOf<A, E>),
     /// `const N: T = 1`
-    Const(ConstParam<X>),
+    Const(ConstParamOf<TypeOf<A, E>, A, E>),
 }
+
+/// A parameter of generics.
+pub type GenericParam<X> = GenericParamOf<Attribute<X>, Expr<X>>;
 
 /// A lifetime parameter: `'a: 'b + 'c`.
 #[derive(Drop)]
-pub struct LifetimeParam<X> {
-    pub attrs: Items<Attribute<X>>,
+pub struct LifetimeParamOf<A> {
+    pub attrs: Items<A>,
     pub lifetime: Lifetime,
     pub colon_token: Option<Colon>,
     pub bounds: Punctuated<Lifetime, Plus>,
 }
 
+/// A lifetime parameter: `'a: 'b + 'c`.
+pub type LifetimeParam<X> = LifetimeParamOf<Attribute<X>>;
+
 /// A type parameter: `T: A + B = C`.
 #[cycle(types)]
 #[derive(Drop)]
-pub struct TypeParam<X> {
-    pub attrs: Items<Attribute<X>>,
+pub struct TypeParamOf<A, E> {
+    pub attrs: Items<A>,
     pub ident: Ident,
     pub colon_token: Option<Colon>,
-    pub bounds: Punctuated<TypeParamBound<X>, Plus>,
-    pub default: Option<(Eq, Type<X>)>,
+    pub bounds: Punctuated<TypeParamBoundOf<A, E>, Plus>,
+    pub default: Option<(Eq, TypeOf<A, E>)>,
 }
+
+/// A type parameter: `T: A + B = C`.
+pub type TypeParam<X> = TypeParamOf<Attribute<X>, Expr<X>>;
 
 /// A const parameter, over its type.
 #[derive(Drop)]
-pub struct ConstParamOf<T, X> {
-    pub attrs: Items<Attribute<X>>,
+pub struct ConstParamOf<T, A, E> {
+    pub attrs: Items<A>,
     pub const_token: Const,
     pub ident: Ident,
     pub colon_token: Colon,
     pub ty: T,
-    pub default: Option<(Eq, Expr<X>)>,
+    pub default: Option<(Eq, E)>,
 }
 
 /// A const parameter: `const N: T = 1`.
-pub type ConstParam<X> = ConstParamOf<Type<X>, X>;
+pub type ConstParam<X> = ConstParamOf<Type<X>, Attribute<X>, Expr<X>>;
 
 /// A binder, over its parameters.
 #[derive(Drop)]
@@ -111,9 +125,9 @@ pub type BoundLifetimes<X> = BoundLifetimesOf<GenericParam<X>>;
 /// A bound.
 #[cycle(types)]
 #[derive(Drop)]
-pub enum TypeParamBound<X> {
+pub enum TypeParamBoundOf<A, E> {
     /// `for<'a> ?a::b`
-    Trait(TraitBound<X>),
+    Trait(TraitBoundOf<A, E>),
     /// `'a`
     Lifetime(Lifetime),
     /// `use<'a, T>`
@@ -122,18 +136,22 @@ pub enum TypeParamBound<X> {
     Verbatim(TokenStream),
 }
 
+/// A bound.
+pub type TypeParamBound<X> = TypeParamBoundOf<Attribute<X>, Expr<X>>;
+
 /// A trait as a bound, over the parameters of its binder.
+#[cycle(types)]
 #[derive(Drop)]
-pub struct TraitBoundOf<G, X> {
+pub struct TraitBoundOf<A, E> {
     pub paren_token: Option<Paren>,
-    pub lifetimes: Option<BoundLifetimesOf<G>>,
+    pub lifetimes: Option<BoundLifetimesOf<GenericParamOf<A, E>>>,
     pub modifiers: TraitBoundModifiers,
     pub maybe: Option<Question>,
-    pub path: Path<X>,
+    pub path: PathOf<PathArgumentsOf<A, E>>,
 }
 
 /// A trait as a bound: an optional binder, an optional `?`, a path; perhaps in parentheses.
-pub type TraitBound<X> = TraitBoundOf<GenericParam<X>, X>;
+pub type TraitBound<X> = TraitBoundOf<Attribute<X>, Expr<X>>;
 
 /// What stands between the binder of a trait bound and its `?`: nothing, today.
 #[derive(Clone, Copy, Default)]
@@ -159,47 +177,59 @@ pub enum CapturedParam {
 
 /// A where clause: `where T: A, 'a: 'b`.
 #[derive(Drop)]
-pub struct WhereClause<X> {
+pub struct WhereClauseOf<A, E> {
     pub where_token: Where,
-    pub predicates: Punctuated<WherePredicate<X>, Comma>,
+    pub predicates: Punctuated<WherePredicateOf<A, E>, Comma>,
 }
+
+/// A where clause: `where T: A, 'a: 'b`.
+pub type WhereClause<X> = WhereClauseOf<Attribute<X>, Expr<X>>;
 
 /// A predicate of a where clause.
 #[derive(Drop)]
-pub enum WherePredicate<X> {
+pub enum WherePredicateOf<A, E> {
     /// `'a: 'b + 'c`
-    Lifetime(PredicateLifetime<X>),
+    Lifetime(PredicateLifetimeOf<A>),
     /// `for<'a> T: A + B`
-    Type(PredicateType<X>),
+    Type(PredicateTypeOf<A, E>),
 }
+
+/// A predicate of a where clause.
+pub type WherePredicate<X> = WherePredicateOf<Attribute<X>, Expr<X>>;
 
 /// A predicate of a lifetime: `'a: 'b + 'c`.
 #[derive(Drop)]
-pub struct PredicateLifetime<X> {
-    pub attrs: Items<Attribute<X>>,
+pub struct PredicateLifetimeOf<A> {
+    pub attrs: Items<A>,
     pub lifetime: Lifetime,
     pub colon_token: Colon,
     pub bounds: Punctuated<Lifetime, Plus>,
 }
 
+/// A predicate of a lifetime: `'a: 'b + 'c`.
+pub type PredicateLifetime<X> = PredicateLifetimeOf<Attribute<X>>;
+
 /// A predicate of a type: `for<'a> T: A + B`.
 #[derive(Drop)]
-pub struct PredicateType<X> {
-    pub attrs: Items<Attribute<X>>,
-    pub lifetimes: Option<BoundLifetimes<X>>,
-    pub bounded_ty: Type<X>,
+pub struct PredicateTypeOf<A, E> {
+    pub attrs: Items<A>,
+    pub lifetimes: Option<BoundLifetimesOf<GenericParamOf<A, E>>>,
+    pub bounded_ty: TypeOf<A, E>,
     pub colon_token: Colon,
-    pub bounds: Punctuated<TypeParamBound<X>, Plus>,
+    pub bounds: Punctuated<TypeParamBoundOf<A, E>, Plus>,
 }
+
+/// A predicate of a type: `for<'a> T: A + B`.
+pub type PredicateType<X> = PredicateTypeOf<Attribute<X>, Expr<X>>;
 
 // ---- calls
 
-impl<X> Generics<X> {
+impl<A, E> GenericsOf<A, E> {
     /// No parameters, and no where clause.
-    pub fn default(alloc: Global) -> Generics<X>
+    pub fn default(alloc: Global) -> GenericsOf<A, E>
         ensures { result ≡ spec.empty }
     {
-        Generics {
+        GenericsOf {
             lt_token: None,
             params: Punctuated::new(alloc),
             gt_token: None,
@@ -208,9 +238,9 @@ impl<X> Generics<X> {
     }
 }
 
-impl<X> BoundLifetimes<X> {
+impl<A, E> BoundLifetimesOf<GenericParamOf<A, E>> {
     /// A binder without parameters, whose marks stand nowhere.
-    pub fn default(alloc: Global) -> BoundLifetimes<X>
+    pub fn default(alloc: Global) -> BoundLifetimesOf<GenericParamOf<A, E>>
         ensures { result ≡ spec.empty_binder }
     {
         BoundLifetimesOf {
@@ -222,12 +252,12 @@ impl<X> BoundLifetimes<X> {
     }
 }
 
-impl<X> TypeParam<X> {
+impl<A, E> TypeParamOf<A, E> {
     /// A type parameter without attributes, bounds and default.
-    pub fn from_ident(alloc: Global, ident: Ident) -> TypeParam<X>
+    pub fn from_ident(alloc: Global, ident: Ident) -> TypeParamOf<A, E>
         ensures { result ≡ spec.type_param_of [] ident None ([], []) None }
     {
-        TypeParam {
+        TypeParamOf {
             attrs: Items::new(alloc),
             ident,
             colon_token: None,
@@ -237,12 +267,12 @@ impl<X> TypeParam<X> {
     }
 }
 
-impl<X> LifetimeParam<X> {
+impl<A> LifetimeParamOf<A> {
     /// A lifetime parameter without attributes and bounds.
-    pub fn new(alloc: Global, lifetime: Lifetime) -> LifetimeParam<X>
+    pub fn new(alloc: Global, lifetime: Lifetime) -> LifetimeParamOf<A>
         ensures { result ≡ spec.lifetime_param_of [] lifetime None ([], []) }
     {
-        LifetimeParam {
+        LifetimeParamOf {
             attrs: Items::new(alloc),
             lifetime,
             colon_token: None,
@@ -261,75 +291,75 @@ impl TraitBoundModifiers {
     }
 }
 
-impl<X> From<LifetimeParam<X>> for GenericParam<X> {
+impl<A, E> From<LifetimeParamOf<A>> for GenericParamOf<A, E> {
     ghost from_gives = { λ param made. made ≡ params.Lifetime param };
 
-    fn from(param: LifetimeParam<X>) -> GenericParam<X> {
-        GenericParam::Lifetime(param)
+    fn from(param: LifetimeParamOf<A>) -> GenericParamOf<A, E> {
+        GenericParamOf::Lifetime(param)
     }
 }
 
-impl<X> From<TypeParam<X>> for GenericParam<X> {
+impl<A, E> From<TypeParamOf<A, E>> for GenericParamOf<A, E> {
     ghost from_gives = { λ param made. made ≡ params.«Type» param };
 
-    fn from(param: TypeParam<X>) -> GenericParam<X> {
-        GenericParam::Type(param)
+    fn from(param: TypeParamOf<A, E>) -> GenericParamOf<A, E> {
+        GenericParamOf::Type(param)
     }
 }
 
-impl<X> From<ConstParam<X>> for GenericParam<X> {
+impl<A, E> From<ConstParamOf<TypeOf<A, E>, A, E>> for GenericParamOf<A, E> {
     ghost from_gives = { λ param made. made ≡ params.Const param };
 
-    fn from(param: ConstParam<X>) -> GenericParam<X> {
-        GenericParam::Const(param)
+    fn from(param: ConstParamOf<TypeOf<A, E>, A, E>) -> GenericParamOf<A, E> {
+        GenericParamOf::Const(param)
     }
 }
 
-impl<X> From<TraitBound<X>> for TypeParamBound<X> {
+impl<A, E> From<TraitBoundOf<A, E>> for TypeParamBoundOf<A, E> {
     ghost from_gives = { λ bound made. made ≡ bounds.Trait bound };
 
-    fn from(bound: TraitBound<X>) -> TypeParamBound<X> {
-        TypeParamBound::Trait(bound)
+    fn from(bound: TraitBoundOf<A, E>) -> TypeParamBoundOf<A, E> {
+        TypeParamBoundOf::Trait(bound)
     }
 }
 
-impl<X> From<Lifetime> for TypeParamBound<X> {
+impl<A, E> From<Lifetime> for TypeParamBoundOf<A, E> {
     ghost from_gives = { λ lifetime made. made ≡ bounds.Lifetime lifetime };
 
-    fn from(lifetime: Lifetime) -> TypeParamBound<X> {
-        TypeParamBound::Lifetime(lifetime)
+    fn from(lifetime: Lifetime) -> TypeParamBoundOf<A, E> {
+        TypeParamBoundOf::Lifetime(lifetime)
     }
 }
 
-impl<X> From<PreciseCapture> for TypeParamBound<X> {
+impl<A, E> From<PreciseCapture> for TypeParamBoundOf<A, E> {
     ghost from_gives = { λ capture made. made ≡ bounds.PreciseCapture capture };
 
-    fn from(capture: PreciseCapture) -> TypeParamBound<X> {
-        TypeParamBound::PreciseCapture(capture)
+    fn from(capture: PreciseCapture) -> TypeParamBoundOf<A, E> {
+        TypeParamBoundOf::PreciseCapture(capture)
     }
 }
 
-impl<X> From<PredicateLifetime<X>> for WherePredicate<X> {
+impl<A, E> From<PredicateLifetimeOf<A>> for WherePredicateOf<A, E> {
     ghost from_gives = { λ predicate made. made ≡ predicates.Lifetime predicate };
 
-    fn from(predicate: PredicateLifetime<X>) -> WherePredicate<X> {
-        WherePredicate::Lifetime(predicate)
+    fn from(predicate: PredicateLifetimeOf<A>) -> WherePredicateOf<A, E> {
+        WherePredicateOf::Lifetime(predicate)
     }
 }
 
-impl<X> From<PredicateType<X>> for WherePredicate<X> {
+impl<A, E> From<PredicateTypeOf<A, E>> for WherePredicateOf<A, E> {
     ghost from_gives = { λ predicate made. made ≡ predicates.«Type» predicate };
 
-    fn from(predicate: PredicateType<X>) -> WherePredicate<X> {
-        WherePredicate::Type(predicate)
+    fn from(predicate: PredicateTypeOf<A, E>) -> WherePredicateOf<A, E> {
+        WherePredicateOf::Type(predicate)
     }
 }
 
 // ---- the parameters of one kind
 
-impl<X> Generics<X> {
+impl<A, E> GenericsOf<A, E> {
     /// The lifetime parameters.
-    pub fn lifetimes(&self) -> Lifetimes<'_, X>
+    pub fn lifetimes(&self) -> Lifetimes<'_, A, E>
         ensures { kinds.lifetimes_left result ≡ spec.only spec.as_lifetime self.now.params.0 }
     {
         let params = self.params.iter();
@@ -337,7 +367,7 @@ impl<X> Generics<X> {
     }
 
     /// The lifetime parameters, for writing.
-    pub fn lifetimes_mut(&mut self) -> LifetimesMut<'_, X>
+    pub fn lifetimes_mut(&mut self) -> LifetimesMut<'_, A, E>
         ensures { kinds.lifetimes_mut_left result ≡ spec.only spec.as_lifetime self.old.params.0 }
     {
         let params = self.params.iter_mut();
@@ -345,7 +375,7 @@ impl<X> Generics<X> {
     }
 
     /// The type parameters.
-    pub fn type_params(&self) -> TypeParams<'_, X>
+    pub fn type_params(&self) -> TypeParams<'_, A, E>
         ensures { kinds.type_params_left result ≡ spec.only spec.as_type self.now.params.0 }
     {
         let params = self.params.iter();
@@ -353,7 +383,7 @@ impl<X> Generics<X> {
     }
 
     /// The type parameters, for writing.
-    pub fn type_params_mut(&mut self) -> TypeParamsMut<'_, X>
+    pub fn type_params_mut(&mut self) -> TypeParamsMut<'_, A, E>
         ensures { kinds.type_params_mut_left result ≡ spec.only spec.as_type self.old.params.0 }
     {
         let params = self.params.iter_mut();
@@ -361,7 +391,7 @@ impl<X> Generics<X> {
     }
 
     /// The const parameters.
-    pub fn const_params(&self) -> ConstParams<'_, X>
+    pub fn const_params(&self) -> ConstParams<'_, A, E>
         ensures { kinds.const_params_left result ≡ spec.only spec.as_const self.now.params.0 }
     {
         let params = self.params.iter();
@@ -369,7 +399,7 @@ impl<X> Generics<X> {
     }
 
     /// The const parameters, for writing.
-    pub fn const_params_mut(&mut self) -> ConstParamsMut<'_, X>
+    pub fn const_params_mut(&mut self) -> ConstParamsMut<'_, A, E>
         ensures { kinds.const_params_mut_left result ≡ spec.only spec.as_const self.old.params.0 }
     {
         let params = self.params.iter_mut();
@@ -379,20 +409,20 @@ impl<X> Generics<X> {
 
 /// The lifetime parameters of generics, in order.
 #[derive(Drop)]
-pub struct Lifetimes<'a, X> {
-    params: Iter<'a, GenericParam<X>, Comma>,
+pub struct Lifetimes<'a, A, E> {
+    params: Iter<'a, GenericParamOf<A, E>, Comma>,
 }
 
-impl<'a, X> Iterator for Lifetimes<'a, X> {
-    type Item = &'a LifetimeParam<X>;
+impl<'a, A, E> Iterator for Lifetimes<'a, A, E> {
+    type Item = &'a LifetimeParamOf<A>;
 
     ghost next_gives = { YieldsFirstRef kinds.lifetimes_left };
 
     ghost remaining = { item_count kinds.lifetimes_left };
 
-    fn next(&mut self) -> Option<&'a LifetimeParam<X>> {
+    fn next(&mut self) -> Option<&'a LifetimeParamOf<A>> {
         while let Some(param) = self.params.next() {
-            if let GenericParam::Lifetime(param) = param {
+            if let GenericParamOf::Lifetime(param) = param {
                 return Some(param);
             }
         }
@@ -402,20 +432,20 @@ impl<'a, X> Iterator for Lifetimes<'a, X> {
 
 /// The lifetime parameters of generics, in order, for writing.
 #[derive(Drop)]
-pub struct LifetimesMut<'a, X> {
-    params: IterMut<'a, GenericParam<X>, Comma>,
+pub struct LifetimesMut<'a, A, E> {
+    params: IterMut<'a, GenericParamOf<A, E>, Comma>,
 }
 
-impl<'a, X> Iterator for LifetimesMut<'a, X> {
-    type Item = &'a mut LifetimeParam<X>;
+impl<'a, A, E> Iterator for LifetimesMut<'a, A, E> {
+    type Item = &'a mut LifetimeParamOf<A>;
 
     ghost next_gives = { YieldsFirstMut kinds.lifetimes_mut_left };
 
     ghost remaining = { item_count kinds.lifetimes_mut_left };
 
-    fn next(&mut self) -> Option<&'a mut LifetimeParam<X>> {
+    fn next(&mut self) -> Option<&'a mut LifetimeParamOf<A>> {
         while let Some(param) = self.params.next() {
-            if let GenericParam::Lifetime(param) = param {
+            if let GenericParamOf::Lifetime(param) = param {
                 return Some(param);
             }
         }
@@ -425,20 +455,20 @@ impl<'a, X> Iterator for LifetimesMut<'a, X> {
 
 /// The type parameters of generics, in order.
 #[derive(Drop)]
-pub struct TypeParams<'a, X> {
-    params: Iter<'a, GenericParam<X>, Comma>,
+pub struct TypeParams<'a, A, E> {
+    params: Iter<'a, GenericParamOf<A, E>, Comma>,
 }
 
-impl<'a, X> Iterator for TypeParams<'a, X> {
-    type Item = &'a TypeParam<X>;
+impl<'a, A, E> Iterator for TypeParams<'a, A, E> {
+    type Item = &'a TypeParamOf<A, E>;
 
     ghost next_gives = { YieldsFirstRef kinds.type_params_left };
 
     ghost remaining = { item_count kinds.type_params_left };
 
-    fn next(&mut self) -> Option<&'a TypeParam<X>> {
+    fn next(&mut self) -> Option<&'a TypeParamOf<A, E>> {
         while let Some(param) = self.params.next() {
-            if let GenericParam::Type(param) = param {
+            if let GenericParamOf::Type(param) = param {
                 return Some(param);
             }
         }
@@ -448,20 +478,20 @@ impl<'a, X> Iterator for TypeParams<'a, X> {
 
 /// The type parameters of generics, in order, for writing.
 #[derive(Drop)]
-pub struct TypeParamsMut<'a, X> {
-    params: IterMut<'a, GenericParam<X>, Comma>,
+pub struct TypeParamsMut<'a, A, E> {
+    params: IterMut<'a, GenericParamOf<A, E>, Comma>,
 }
 
-impl<'a, X> Iterator for TypeParamsMut<'a, X> {
-    type Item = &'a mut TypeParam<X>;
+impl<'a, A, E> Iterator for TypeParamsMut<'a, A, E> {
+    type Item = &'a mut TypeParamOf<A, E>;
 
     ghost next_gives = { YieldsFirstMut kinds.type_params_mut_left };
 
     ghost remaining = { item_count kinds.type_params_mut_left };
 
-    fn next(&mut self) -> Option<&'a mut TypeParam<X>> {
+    fn next(&mut self) -> Option<&'a mut TypeParamOf<A, E>> {
         while let Some(param) = self.params.next() {
-            if let GenericParam::Type(param) = param {
+            if let GenericParamOf::Type(param) = param {
                 return Some(param);
             }
         }
@@ -471,20 +501,20 @@ impl<'a, X> Iterator for TypeParamsMut<'a, X> {
 
 /// The const parameters of generics, in order.
 #[derive(Drop)]
-pub struct ConstParams<'a, X> {
-    params: Iter<'a, GenericParam<X>, Comma>,
+pub struct ConstParams<'a, A, E> {
+    params: Iter<'a, GenericParamOf<A, E>, Comma>,
 }
 
-impl<'a, X> Iterator for ConstParams<'a, X> {
-    type Item = &'a ConstParam<X>;
+impl<'a, A, E> Iterator for ConstParams<'a, A, E> {
+    type Item = &'a ConstParamOf<TypeOf<A, E>, A, E>;
 
     ghost next_gives = { YieldsFirstRef kinds.const_params_left };
 
     ghost remaining = { item_count kinds.const_params_left };
 
-    fn next(&mut self) -> Option<&'a ConstParam<X>> {
+    fn next(&mut self) -> Option<&'a ConstParamOf<TypeOf<A, E>, A, E>> {
         while let Some(param) = self.params.next() {
-            if let GenericParam::Const(param) = param {
+            if let GenericParamOf::Const(param) = param {
                 return Some(param);
             }
         }
@@ -494,20 +524,20 @@ impl<'a, X> Iterator for ConstParams<'a, X> {
 
 /// The const parameters of generics, in order, for writing.
 #[derive(Drop)]
-pub struct ConstParamsMut<'a, X> {
-    params: IterMut<'a, GenericParam<X>, Comma>,
+pub struct ConstParamsMut<'a, A, E> {
+    params: IterMut<'a, GenericParamOf<A, E>, Comma>,
 }
 
-impl<'a, X> Iterator for ConstParamsMut<'a, X> {
-    type Item = &'a mut ConstParam<X>;
+impl<'a, A, E> Iterator for ConstParamsMut<'a, A, E> {
+    type Item = &'a mut ConstParamOf<TypeOf<A, E>, A, E>;
 
     ghost next_gives = { YieldsFirstMut kinds.const_params_mut_left };
 
     ghost remaining = { item_count kinds.const_params_mut_left };
 
-    fn next(&mut self) -> Option<&'a mut ConstParam<X>> {
+    fn next(&mut self) -> Option<&'a mut ConstParamOf<TypeOf<A, E>, A, E>> {
         while let Some(param) = self.params.next() {
-            if let GenericParam::Const(param) = param {
+            if let GenericParamOf::Const(param) = param {
                 return Some(param);
             }
         }
@@ -517,25 +547,25 @@ impl<'a, X> Iterator for ConstParamsMut<'a, X> {
 
 // ---- the where clause
 
-impl<X> WhereClause<X> {
+impl<A, E> WhereClauseOf<A, E> {
     /// A where clause that stands nowhere, without predicates.
-    fn empty(alloc: Global) -> WhereClause<X>
+    fn empty(alloc: Global) -> WhereClauseOf<A, E>
         ensures { result ≡ spec.empty_clause }
     {
-        WhereClause {
+        WhereClauseOf {
             where_token: Where::default(),
             predicates: Punctuated::new(alloc),
         }
     }
 }
 
-impl<X: Drop> Generics<X> {
+impl<A: Drop, E: Drop> GenericsOf<A, E> {
     /// Lends the where clause; where there is none, an empty one is put there first.
-    pub fn make_where_clause(&mut self, alloc: Global) -> &mut WhereClause<X>
-        ensures* lends { sem 𝓛 (lends_clause X.row self.entry result) }
+    pub fn make_where_clause(&mut self, alloc: Global) -> &mut WhereClauseOf<A, E>
+        ensures* lends { sem 𝓛 (lends_clause A.row E.row self.entry result) }
         ensures clause { result.now ≡ unwrap_or self.old.where_clause spec.empty_clause }
     {
-        self.where_clause.get_or_insert(WhereClause::empty(alloc))
+        self.where_clause.get_or_insert(WhereClauseOf::empty(alloc))
     }
 }
 
@@ -552,18 +582,18 @@ impl<X: Drop> Generics<X> {
 /// It is refused where neither begins, where one of its parts is refused, where a binder stands beside a `?`
 /// (`BinderWithQuestion`, at the `?`), and where `<` follows the path, since arguments of paths are not read yet. Nor are
 /// `use<..>`, `const` and `[const]`, and parameters of binders other than lifetimes alone. As `syn::TypeParamBound`.
-impl<X: Subtree> Parse for TypeParamBound<X> {
-    ghost reads = { Gives (knot.bound X.reads) };
+impl<A: Attributes, E: Value> Parse for TypeParamBoundOf<A, E> {
+    ghost reads = { Gives (knot.bound E.reads) };
 
-    ghost refuses = { Fails (knot.bound X.reads) };
+    ghost refuses = { Fails (knot.bound {A = A} E.reads) };
 
-    ghost promise = { Headline (grammars.bound X.reads X.spells X.normal X.prints) };
+    ghost promise = { Headline (grammars.bound E.reads E.spells A.normal E.normal A.shown E.values) };
 
-    fn parse(alloc: Global, input: &mut ParseStream<'_>) -> Result<TypeParamBound<X>, Error>
-        ensures reads { Reads (knot.bound X.reads input.old) result input.new }
+    fn parse(alloc: Global, input: &mut ParseStream<'_>) -> Result<TypeParamBoundOf<A, E>, Error>
+        ensures reads { Reads (knot.bound E.reads input.old) result input.new }
         ensures within { Follows input.old input.new }
-        ensures front { Visible input.old.rest → input.new.left ≡ None → IfOk result (λ x. IsSomeBound X.spells false x input.old.rest input.new.rest) }
-        ensures promise { Heads (grammars.bound X.reads X.spells X.normal X.prints) input.old result input.new }
+        ensures front { Visible input.old.rest → input.new.left ≡ None → IfOk result (λ x. IsSomeBound E.spells false x input.old.rest input.new.rest) }
+        ensures promise { Heads (grammars.bound E.reads E.spells A.normal E.normal A.shown E.values) input.old result input.new }
     {
         parse_bound(alloc, PhantomData, input)
     }
@@ -580,15 +610,18 @@ enum Style {
 }
 
 /// A member of a list that prints its lifetimes first.
-trait Member {
+pub(crate) trait Member {
     /// It is a lifetime.
     ghost first: { Self → Bool };
 
-    /// What is printed of it.
-    ghost shown: { styles.Style → Self → Print };
-
     fn is_lifetime(&self) -> bool
         ensures { result ≡ first self.now };
+}
+
+/// A member that is printed in a style.
+trait Styled: Member {
+    /// What is printed of it.
+    ghost shown: { styles.Style → Self → Print };
 
     /// Appends it; refused, what stood before is kept.
     fn print_as(&self, alloc: Global, style: Style, out: &mut TokenStream) -> Result<(), AllocError>
@@ -599,14 +632,16 @@ trait Member {
 impl Member for CapturedParam {
     ghost first = { shapes.is_captured_lifetime };
 
-    ghost shown = { λ style x. shapes.captured x };
-
     fn is_lifetime(&self) -> bool {
         match self {
             CapturedParam::Lifetime(_) => true,
             CapturedParam::Ident(_) => false,
         }
     }
+}
+
+impl Styled for CapturedParam {
+    ghost shown = { λ style x. shapes.captured x };
 
     #[tactic(auto, using(token_core::proofs::Puts::puts))]
     fn print_as(
@@ -662,7 +697,7 @@ fn print_capture(
 
 /// Lifetimes, each with its comma; a comma where the last has none and others follow; the others, each with its comma.
 #[tactic(auto, using(token_core::proofs::Puts::puts))]
-fn print_sorted<M: Member>(
+fn print_sorted<M: Styled>(
     alloc: Global,
     list: &Punctuated<M, Comma>,
     style: Style,
@@ -677,7 +712,7 @@ fn print_sorted<M: Member>(
 }
 
 #[tactic(auto, using(token_core::proofs::Puts::puts, crate::proofs::generics_laws::Sorted::kinds))]
-fn print_lifetime_members<M: Member>(
+fn print_lifetime_members<M: Styled>(
     alloc: Global,
     list: &Punctuated<M, Comma>,
     style: Style,
@@ -690,7 +725,7 @@ fn print_lifetime_members<M: Member>(
 }
 
 #[tactic(auto, using(token_core::proofs::Puts::puts, crate::proofs::generics_laws::Sorted::kinds))]
-fn print_other_members<M: Member>(
+fn print_other_members<M: Styled>(
     alloc: Global,
     list: &Punctuated<M, Comma>,
     style: Style,
@@ -704,7 +739,7 @@ fn print_other_members<M: Member>(
 
 /// The members that are lifetimes, or those that are not, each with its comma.
 #[tactic(auto, using(token_core::proofs::Puts::puts, crate::proofs::generics_laws::Sorted::kinds))]
-fn print_kind<M: Member>(
+fn print_kind<M: Styled>(
     alloc: Global,
     list: &Punctuated<M, Comma>,
     lifetimes: bool,
@@ -726,7 +761,7 @@ fn print_kind<M: Member>(
 
 /// A member with its comma, where it is of the kind.
 #[tactic(auto, using(token_core::proofs::Puts::puts, crate::proofs::generics_laws::Sorted::kinds))]
-fn print_member<M: Member>(
+fn print_member<M: Styled>(
     alloc: Global,
     member: &M,
     comma: Option<&Comma>,
@@ -748,7 +783,7 @@ fn print_member<M: Member>(
 }
 
 #[tactic(auto, using(token_core::proofs::Puts::puts))]
-fn print_added_comma<M: Member>(
+pub(crate) fn print_added_comma<M: Member>(
     alloc: Global,
     list: &Punctuated<M, Comma>,
     out: &mut TokenStream,
@@ -789,24 +824,24 @@ fn has_other<M: Member>(pairs: &[Pair<M, Comma>]) -> bool
 }
 
 #[tactic(auto, using(token_core::proofs::Puts::puts))]
-fn print_lifetime_param<X: Subtree>(
+fn print_lifetime_param<A: Attributes>(
     alloc: Global,
-    param: &LifetimeParam<X>,
+    param: &LifetimeParamOf<A>,
     out: &mut TokenStream,
 ) -> Result<(), AllocError>
-    ensures ok { OnOk result (trees out.new ≡ trees out.old ++ shapes.lifetime_param X.prints param.now) }
+    ensures ok { OnOk result (trees out.new ≡ trees out.old ++ shapes.lifetime_param_by A.shown param.now) }
     ensures err { OnErr result (Extends (trees out.old) (trees out.new)) }
 {
-    print_outer(alloc, &param.attrs, out)?;
+    A::print_outer(alloc, &param.attrs, out)?;
     param.lifetime.to_tokens(alloc, out)?;
     print_lifetime_bounds(alloc, param, out)
 }
 
 /// The bounds of a lifetime parameter after their colon.
 #[tactic(auto, using(token_core::proofs::Puts::puts, crate::proofs::generics_laws::Prints::bounds))]
-fn print_lifetime_bounds<X>(
+fn print_lifetime_bounds<A>(
     alloc: Global,
-    param: &LifetimeParam<X>,
+    param: &LifetimeParamOf<A>,
     out: &mut TokenStream,
 ) -> Result<(), AllocError>
     ensures ok { OnOk result (trees out.new ≡ trees out.old ++ shapes.after_colon lifetimes.print param.now.colon_token param.now.bounds) }
@@ -820,18 +855,18 @@ fn print_lifetime_bounds<X>(
 }
 
 #[tactic(auto, using(token_core::proofs::Puts::puts))]
-fn print_const_default<X: Subtree>(
+fn print_const_default<E: Value>(
     alloc: Global,
-    default: &Option<(Eq, Expr<X>)>,
+    default: &Option<(Eq, E)>,
     out: &mut TokenStream,
 ) -> Result<(), AllocError>
-    ensures ok { OnOk result (trees out.new ≡ trees out.old ++ shapes.const_default X.prints default.now) }
+    ensures ok { OnOk result (trees out.new ≡ trees out.old ++ shapes.const_default_by E.values default.now) }
     ensures err { OnErr result (Extends (trees out.old) (trees out.new)) }
 {
     match default {
         Some((eq_token, value)) => {
             eq_token.to_tokens(alloc, out)?;
-            print_const_argument(alloc, value, out)
+            value.print_const_argument(alloc, out)
         }
         None => Ok(()),
     }
@@ -839,7 +874,7 @@ fn print_const_default<X: Subtree>(
 
 /// A const argument: a literal, a block or an identifier as it prints as a value, anything else in braces.
 #[tactic(auto, using(token_core::proofs::Puts::puts, crate::proofs::generics_laws::Prints::consts, crate::proofs::attr_laws::Prints::contents))]
-fn print_const_argument<X: Subtree>(
+pub(crate) fn print_const_argument<X: Subtree>(
     alloc: Global,
     value: &Expr<X>,
     out: &mut TokenStream,
@@ -875,7 +910,7 @@ fn print_in_braces<X: Subtree>(
     value: &Expr<X>,
     out: &mut TokenStream,
 ) -> Result<(), AllocError>
-    ensures ok { OnOk result (trees out.new ≡ trees out.old ++ shapes.in_braces X.prints value.now) }
+    ensures ok { OnOk result (trees out.new ≡ trees out.old ++ at_place X.prints Block value.now) }
     ensures err { OnErr result (Extends (trees out.old) (trees out.new)) }
 {
     match value {
@@ -889,29 +924,29 @@ fn print_in_braces<X: Subtree>(
 /// Appends a parameter; refused, what stood before is kept.
 #[cycle(print)]
 #[tactic(auto, using(token_core::proofs::Puts::puts, crate::proofs::ty_laws::Prints::parts))]
-pub(crate) fn print_param<X: Subtree>(
+pub(crate) fn print_param<A: Attributes, E: Value>(
     alloc: Global,
-    param: &GenericParam<X>,
+    param: &GenericParamOf<A, E>,
     out: &mut TokenStream,
 ) -> Result<(), AllocError>
-    ensures ok { OnOk result (trees out.new ≡ trees out.old ++ types.param X.prints param.now) }
+    ensures ok { OnOk result (trees out.new ≡ trees out.old ++ types.param A.shown E.values param.now) }
     ensures err { OnErr result (Extends (trees out.old) (trees out.new)) }
 {
     match param {
-        GenericParam::Lifetime(param) => print_lifetime_param(alloc, param, out),
-        GenericParam::Type(param) => print_type_param(alloc, param, out),
-        GenericParam::Const(param) => print_const_param(alloc, param, out),
+        GenericParamOf::Lifetime(param) => print_lifetime_param(alloc, param, out),
+        GenericParamOf::Type(param) => print_type_param(alloc, param, out),
+        GenericParamOf::Const(param) => print_const_param(alloc, param, out),
     }
 }
 
 #[cycle(print)]
-#[tactic(auto, using(token_core::proofs::Puts::puts, crate::proofs::ty_laws::Prints::prints))]
-fn print_const_param<X: Subtree>(
+#[tactic(auto, using(token_core::proofs::Puts::puts))]
+fn print_const_param<A: Attributes, E: Value>(
     alloc: Global,
-    param: &ConstParam<X>,
+    param: &ConstParamOf<TypeOf<A, E>, A, E>,
     out: &mut TokenStream,
 ) -> Result<(), AllocError>
-    ensures ok { OnOk result (trees out.new ≡ trees out.old ++ types.const_param X.prints param.now) }
+    ensures ok { OnOk result (trees out.new ≡ trees out.old ++ types.const_param A.shown E.values param.now) }
     ensures err { OnErr result (Extends (trees out.old) (trees out.new)) }
 {
     print_const_head(alloc, param, out)?;
@@ -920,16 +955,16 @@ fn print_const_param<X: Subtree>(
 
 /// A const parameter without its default.
 #[cycle(print)]
-#[tactic(auto, using(token_core::proofs::Puts::puts, crate::proofs::ty_laws::Prints::prints))]
-fn print_const_head<X: Subtree>(
+#[tactic(auto, using(token_core::proofs::Puts::puts))]
+fn print_const_head<A: Attributes, E: Value>(
     alloc: Global,
-    param: &ConstParam<X>,
+    param: &ConstParamOf<TypeOf<A, E>, A, E>,
     out: &mut TokenStream,
 ) -> Result<(), AllocError>
-    ensures ok { OnOk result (trees out.new ≡ trees out.old ++ types.const_head X.prints param.now) }
+    ensures ok { OnOk result (trees out.new ≡ trees out.old ++ types.const_head A.shown E.values param.now) }
     ensures err { OnErr result (Extends (trees out.old) (trees out.new)) }
 {
-    print_outer(alloc, &param.attrs, out)?;
+    A::print_outer(alloc, &param.attrs, out)?;
     param.const_token.to_tokens(alloc, out)?;
     param.ident.to_tokens(alloc, out)?;
     param.colon_token.to_tokens(alloc, out)?;
@@ -937,13 +972,13 @@ fn print_const_head<X: Subtree>(
 }
 
 #[cycle(print)]
-#[tactic(auto, using(token_core::proofs::Puts::puts, crate::proofs::ty_laws::Prints::prints))]
-fn print_type_param<X: Subtree>(
+#[tactic(auto, using(token_core::proofs::Puts::puts))]
+fn print_type_param<A: Attributes, E: Value>(
     alloc: Global,
-    param: &TypeParam<X>,
+    param: &TypeParamOf<A, E>,
     out: &mut TokenStream,
 ) -> Result<(), AllocError>
-    ensures ok { OnOk result (trees out.new ≡ trees out.old ++ types.type_param X.prints param.now) }
+    ensures ok { OnOk result (trees out.new ≡ trees out.old ++ types.type_param A.shown E.values param.now) }
     ensures err { OnErr result (Extends (trees out.old) (trees out.new)) }
 {
     print_type_head(alloc, param, out)?;
@@ -958,16 +993,16 @@ fn print_type_param<X: Subtree>(
 
 /// A type parameter without its default.
 #[cycle(print)]
-#[tactic(auto, using(token_core::proofs::Puts::puts, crate::proofs::ty_laws::Prints::parts))]
-fn print_type_head<X: Subtree>(
+#[tactic(auto, using(token_core::proofs::Puts::puts))]
+fn print_type_head<A: Attributes, E: Value>(
     alloc: Global,
-    param: &TypeParam<X>,
+    param: &TypeParamOf<A, E>,
     out: &mut TokenStream,
 ) -> Result<(), AllocError>
-    ensures ok { OnOk result (trees out.new ≡ trees out.old ++ types.type_head X.prints param.now) }
+    ensures ok { OnOk result (trees out.new ≡ trees out.old ++ types.type_head A.shown E.values param.now) }
     ensures err { OnErr result (Extends (trees out.old) (trees out.new)) }
 {
-    print_outer(alloc, &param.attrs, out)?;
+    A::print_outer(alloc, &param.attrs, out)?;
     param.ident.to_tokens(alloc, out)?;
     print_type_bounds(alloc, param, out)
 }
@@ -975,12 +1010,12 @@ fn print_type_head<X: Subtree>(
 /// The bounds of a type parameter after their colon.
 #[cycle(print)]
 #[tactic(auto, using(token_core::proofs::Puts::puts, crate::proofs::generics_laws::Prints::bounds))]
-fn print_type_bounds<X: Subtree>(
+fn print_type_bounds<A: Attributes, E: Value>(
     alloc: Global,
-    param: &TypeParam<X>,
+    param: &TypeParamOf<A, E>,
     out: &mut TokenStream,
 ) -> Result<(), AllocError>
-    ensures ok { OnOk result (trees out.new ≡ trees out.old ++ types.type_bounds X.prints param.now) }
+    ensures ok { OnOk result (trees out.new ≡ trees out.old ++ types.type_bounds A.shown E.values param.now) }
     ensures err { OnErr result (Extends (trees out.old) (trees out.new)) }
 {
     if param.bounds.is_empty() {
@@ -991,13 +1026,13 @@ fn print_type_bounds<X: Subtree>(
 }
 
 #[cycle(print)]
-#[tactic(auto, using(token_core::proofs::Puts::puts, crate::proofs::ty_laws::Prints::parts))]
-fn print_bounds<X: Subtree>(
+#[tactic(auto, using(token_core::proofs::Puts::puts))]
+fn print_bounds<A: Attributes, E: Value>(
     alloc: Global,
-    param: &TypeParam<X>,
+    param: &TypeParamOf<A, E>,
     out: &mut TokenStream,
 ) -> Result<(), AllocError>
-    ensures ok { OnOk result (trees out.new ≡ trees out.old ++ types.own_bounds X.prints param.now) }
+    ensures ok { OnOk result (trees out.new ≡ trees out.old ++ types.own_bounds A.shown E.values param.now) }
     ensures err { OnErr result (Extends (trees out.old) (trees out.new)) }
 {
     let (pairs, last) = bound_parts(&param.bounds);
@@ -1014,30 +1049,30 @@ fn print_bounds<X: Subtree>(
 /// Appends a bound; refused, what stood before is kept.
 #[cycle(print)]
 #[tactic(auto, using(token_core::proofs::Puts::puts, crate::proofs::ty_laws::Prints::parts))]
-pub(crate) fn print_bound<X: Subtree>(
+pub(crate) fn print_bound<A: Attributes, E: Value>(
     alloc: Global,
-    bound: &TypeParamBound<X>,
+    bound: &TypeParamBoundOf<A, E>,
     out: &mut TokenStream,
 ) -> Result<(), AllocError>
-    ensures ok { OnOk result (trees out.new ≡ trees out.old ++ types.bound X.prints bound.now) }
+    ensures ok { OnOk result (trees out.new ≡ trees out.old ++ types.bound A.shown E.values bound.now) }
     ensures err { OnErr result (Extends (trees out.old) (trees out.new)) }
 {
     match bound {
-        TypeParamBound::Trait(bound) => print_trait_bound(alloc, bound, out),
-        TypeParamBound::Lifetime(lifetime) => lifetime.to_tokens(alloc, out),
-        TypeParamBound::PreciseCapture(capture) => print_capture(alloc, capture, out),
-        TypeParamBound::Verbatim(tokens) => print_verbatim(alloc, tokens, out),
+        TypeParamBoundOf::Trait(bound) => print_trait_bound(alloc, bound, out),
+        TypeParamBoundOf::Lifetime(lifetime) => lifetime.to_tokens(alloc, out),
+        TypeParamBoundOf::PreciseCapture(capture) => print_capture(alloc, capture, out),
+        TypeParamBoundOf::Verbatim(tokens) => print_verbatim(alloc, tokens, out),
     }
 }
 
 #[cycle(print)]
-#[tactic(auto, using(token_core::proofs::Puts::puts, crate::proofs::attr_laws::Prints::contents))]
-fn print_trait_bound<X: Subtree>(
+#[tactic(auto, using(token_core::proofs::Puts::puts, crate::proofs::ty_laws::Prints::parts))]
+fn print_trait_bound<A: Attributes, E: Value>(
     alloc: Global,
-    bound: &TraitBound<X>,
+    bound: &TraitBoundOf<A, E>,
     out: &mut TokenStream,
 ) -> Result<(), AllocError>
-    ensures ok { OnOk result (trees out.new ≡ trees out.old ++ types.trait_bound X.prints bound.now) }
+    ensures ok { OnOk result (trees out.new ≡ trees out.old ++ types.trait_bound A.shown E.values bound.now) }
     ensures err { OnErr result (Extends (trees out.old) (trees out.new)) }
 {
     match &bound.paren_token {
@@ -1053,12 +1088,12 @@ fn print_trait_bound<X: Subtree>(
 /// A trait bound without its parentheses.
 #[cycle(print)]
 #[tactic(auto, using(token_core::proofs::Puts::puts, crate::proofs::generics_laws::Prints::binders))]
-fn print_bare_trait<X: Subtree>(
+fn print_bare_trait<A: Attributes, E: Value>(
     alloc: Global,
-    bound: &TraitBound<X>,
+    bound: &TraitBoundOf<A, E>,
     out: &mut TokenStream,
 ) -> Result<(), AllocError>
-    ensures ok { OnOk result (trees out.new ≡ trees out.old ++ shapes.bare_trait_by (types.param X.prints) bound.now) }
+    ensures ok { OnOk result (trees out.new ≡ trees out.old ++ types.bare_trait A.shown E.values bound.now) }
     ensures err { OnErr result (Extends (trees out.old) (trees out.new)) }
 {
     print_binder_start(alloc, &bound.lifetimes, out)?;
@@ -1069,13 +1104,13 @@ fn print_bare_trait<X: Subtree>(
 
 /// The parameters of a trait bound's binder.
 #[cycle(print)]
-#[tactic(auto, using(token_core::proofs::Puts::puts, crate::proofs::ty_laws::Prints::parts))]
-fn print_trait_params<X: Subtree>(
+#[tactic(auto, using(token_core::proofs::Puts::puts))]
+fn print_trait_params<A: Attributes, E: Value>(
     alloc: Global,
-    bound: &TraitBound<X>,
+    bound: &TraitBoundOf<A, E>,
     out: &mut TokenStream,
 ) -> Result<(), AllocError>
-    ensures ok { OnOk result (trees out.new ≡ trees out.old ++ shapes.binder_joined (types.param X.prints) bound.now.lifetimes) }
+    ensures ok { OnOk result (trees out.new ≡ trees out.old ++ types.trait_params A.shown E.values bound.now) }
     ensures err { OnErr result (Extends (trees out.old) (trees out.new)) }
 {
     let (pairs, last) = binder_parts(bound);
@@ -1090,10 +1125,13 @@ fn print_trait_params<X: Subtree>(
 }
 
 /// The parameters of a trait bound's binder by their parts; none without a binder.
-fn binder_parts<X>(
-    bound: &TraitBound<X>,
-) -> (&[Pair<GenericParam<X>, Comma>], Option<&GenericParam<X>>)
-    ensures { shapes.binder_params bound.now.lifetimes ≡ (values_of result.0.now (option_map (λ x. x.now) result.1), marks_of result.0.now) }
+fn binder_parts<A, E>(
+    bound: &TraitBoundOf<A, E>,
+) -> (
+    &[Pair<GenericParamOf<A, E>, Comma>],
+    Option<&GenericParamOf<A, E>>,
+)
+    ensures { shapes.binder_params (types.trait_binder bound.now) ≡ (values_of result.0.now (option_map (λ x. x.now) result.1), marks_of result.0.now) }
 {
     match &bound.lifetimes {
         Some(binder) => binder.lifetimes.parts(),
@@ -1137,20 +1175,21 @@ pub(crate) fn print_binder_end<G>(
 }
 
 /// A trait bound after its binder.
+#[cycle(print)]
 #[tactic(auto, using(token_core::proofs::Puts::puts))]
-fn print_named_trait<X>(
+fn print_named_trait<A: Attributes, E: Value>(
     alloc: Global,
-    bound: &TraitBound<X>,
+    bound: &TraitBoundOf<A, E>,
     out: &mut TokenStream,
 ) -> Result<(), AllocError>
-    ensures ok { OnOk result (trees out.new ≡ trees out.old ++ shapes.named_trait bound.now) }
+    ensures ok { OnOk result (trees out.new ≡ trees out.old ++ types.named_trait A.shown E.values bound.now) }
     ensures err { OnErr result (Extends (trees out.old) (trees out.new)) }
 {
     match &bound.maybe {
         Some(question) => question.to_tokens(alloc, out)?,
         None => {}
     }
-    bound.path.to_tokens(alloc, out)
+    print_path(alloc, &bound.path, PathStyle::AsWritten, out)
 }
 
 /// A mark of one character, or the same that stands nowhere.
@@ -1170,22 +1209,22 @@ fn print_or_default<const N: u32>(
 }
 
 #[tactic(auto, using(token_core::proofs::Puts::puts))]
-fn print_predicate_lifetime<X: Subtree>(
+fn print_predicate_lifetime<A: Attributes>(
     alloc: Global,
-    predicate: &PredicateLifetime<X>,
+    predicate: &PredicateLifetimeOf<A>,
     out: &mut TokenStream,
 ) -> Result<(), AllocError>
-    ensures ok { OnOk result (trees out.new ≡ trees out.old ++ printing.predicate_lifetime X.prints predicate.now) }
+    ensures ok { OnOk result (trees out.new ≡ trees out.old ++ printing.predicate_lifetime_by A.shown predicate.now) }
     ensures err { OnErr result (Extends (trees out.old) (trees out.new)) }
 {
-    print_outer(alloc, &predicate.attrs, out)?;
+    A::print_outer(alloc, &predicate.attrs, out)?;
     predicate.lifetime.to_tokens(alloc, out)?;
     predicate.colon_token.to_tokens(alloc, out)?;
     predicate.bounds.to_tokens(alloc, out)
 }
 
-impl<X: Subtree> ToTokens for LifetimeParam<X> {
-    ghost print = { shapes.lifetime_param X.prints };
+impl<A: Attributes> ToTokens for LifetimeParamOf<A> {
+    ghost print = { shapes.lifetime_param_by A.shown };
 
     fn to_tokens(&self, alloc: Global, out: &mut TokenStream) -> Result<(), AllocError> {
         let before = out.len();
@@ -1199,8 +1238,8 @@ impl<X: Subtree> ToTokens for LifetimeParam<X> {
     }
 }
 
-impl<X: Subtree> ToTokens for ConstParam<X> {
-    ghost print = { types.const_param X.prints };
+impl<A: Attributes, E: Value> ToTokens for ConstParamOf<TypeOf<A, E>, A, E> {
+    ghost print = { types.const_param A.shown E.values };
 
     fn to_tokens(&self, alloc: Global, out: &mut TokenStream) -> Result<(), AllocError> {
         let before = out.len();
@@ -1214,8 +1253,8 @@ impl<X: Subtree> ToTokens for ConstParam<X> {
     }
 }
 
-impl<X: Subtree> ToTokens for PredicateLifetime<X> {
-    ghost print = { printing.predicate_lifetime X.prints };
+impl<A: Attributes> ToTokens for PredicateLifetimeOf<A> {
+    ghost print = { printing.predicate_lifetime_by A.shown };
 
     fn to_tokens(&self, alloc: Global, out: &mut TokenStream) -> Result<(), AllocError> {
         let before = out.len();
@@ -1229,8 +1268,8 @@ impl<X: Subtree> ToTokens for PredicateLifetime<X> {
     }
 }
 
-impl<X: Subtree> ToTokens for GenericParam<X> {
-    ghost print = { types.param X.prints };
+impl<A: Attributes, E: Value> ToTokens for GenericParamOf<A, E> {
+    ghost print = { types.param A.shown E.values };
 
     fn to_tokens(&self, alloc: Global, out: &mut TokenStream) -> Result<(), AllocError> {
         let before = out.len();
@@ -1244,8 +1283,8 @@ impl<X: Subtree> ToTokens for GenericParam<X> {
     }
 }
 
-impl<X: Subtree> ToTokens for TypeParam<X> {
-    ghost print = { types.type_param X.prints };
+impl<A: Attributes, E: Value> ToTokens for TypeParamOf<A, E> {
+    ghost print = { types.type_param A.shown E.values };
 
     fn to_tokens(&self, alloc: Global, out: &mut TokenStream) -> Result<(), AllocError> {
         let before = out.len();
@@ -1259,8 +1298,8 @@ impl<X: Subtree> ToTokens for TypeParam<X> {
     }
 }
 
-impl<X: Subtree> ToTokens for TypeParamBound<X> {
-    ghost print = { types.bound X.prints };
+impl<A: Attributes, E: Value> ToTokens for TypeParamBoundOf<A, E> {
+    ghost print = { types.bound A.shown E.values };
 
     fn to_tokens(&self, alloc: Global, out: &mut TokenStream) -> Result<(), AllocError> {
         let before = out.len();
@@ -1274,8 +1313,8 @@ impl<X: Subtree> ToTokens for TypeParamBound<X> {
     }
 }
 
-impl<X: Subtree> ToTokens for TraitBound<X> {
-    ghost print = { types.trait_bound X.prints };
+impl<A: Attributes, E: Value> ToTokens for TraitBoundOf<A, E> {
+    ghost print = { types.trait_bound A.shown E.values };
 
     fn to_tokens(&self, alloc: Global, out: &mut TokenStream) -> Result<(), AllocError> {
         let before = out.len();
@@ -1292,12 +1331,12 @@ impl<X: Subtree> ToTokens for TraitBound<X> {
 // ---- where clauses
 
 #[tactic(auto, using(token_core::proofs::Puts::puts))]
-fn print_bound_lifetimes<X: Subtree>(
+fn print_bound_lifetimes<A: Attributes, E: Value>(
     alloc: Global,
-    binder: &BoundLifetimes<X>,
+    binder: &BoundLifetimesOf<GenericParamOf<A, E>>,
     out: &mut TokenStream,
 ) -> Result<(), AllocError>
-    ensures ok { OnOk result (trees out.new ≡ trees out.old ++ types.bound_lifetimes X.prints binder.now) }
+    ensures ok { OnOk result (trees out.new ≡ trees out.old ++ types.bound_lifetimes A.shown E.values binder.now) }
     ensures err { OnErr result (Extends (trees out.old) (trees out.new)) }
 {
     binder.for_token.to_tokens(alloc, out)?;
@@ -1307,15 +1346,15 @@ fn print_bound_lifetimes<X: Subtree>(
 }
 
 #[tactic(auto, using(token_core::proofs::Puts::puts))]
-fn print_predicate_type<X: Subtree>(
+fn print_predicate_type<A: Attributes, E: Value>(
     alloc: Global,
-    predicate: &PredicateType<X>,
+    predicate: &PredicateTypeOf<A, E>,
     out: &mut TokenStream,
 ) -> Result<(), AllocError>
-    ensures ok { OnOk result (trees out.new ≡ trees out.old ++ printing.predicate_type X.prints predicate.now) }
+    ensures ok { OnOk result (trees out.new ≡ trees out.old ++ printing.predicate_type A.shown E.values predicate.now) }
     ensures err { OnErr result (Extends (trees out.old) (trees out.new)) }
 {
-    print_outer(alloc, &predicate.attrs, out)?;
+    A::print_outer(alloc, &predicate.attrs, out)?;
     print_binder(alloc, &predicate.lifetimes, out)?;
     print_type(alloc, &predicate.bounded_ty, out)?;
     predicate.colon_token.to_tokens(alloc, out)?;
@@ -1324,12 +1363,12 @@ fn print_predicate_type<X: Subtree>(
 
 /// A binder; nothing without one.
 #[tactic(auto, using(token_core::proofs::Puts::puts))]
-fn print_binder<X: Subtree>(
+fn print_binder<A: Attributes, E: Value>(
     alloc: Global,
-    binder: &Option<BoundLifetimes<X>>,
+    binder: &Option<BoundLifetimesOf<GenericParamOf<A, E>>>,
     out: &mut TokenStream,
 ) -> Result<(), AllocError>
-    ensures ok { OnOk result (trees out.new ≡ trees out.old ++ shapes.binder_by (types.param X.prints) binder.now) }
+    ensures ok { OnOk result (trees out.new ≡ trees out.old ++ shapes.binder_by (types.param A.shown E.values) binder.now) }
     ensures err { OnErr result (Extends (trees out.old) (trees out.new)) }
 {
     match binder {
@@ -1340,12 +1379,12 @@ fn print_binder<X: Subtree>(
 
 /// `where` and the predicates; nothing without predicates.
 #[tactic(auto, using(token_core::proofs::Puts::puts, crate::proofs::generics_laws::Prints::clauses))]
-fn print_where<X: Subtree>(
+fn print_where<A: Attributes, E: Value>(
     alloc: Global,
-    clause: &WhereClause<X>,
+    clause: &WhereClauseOf<A, E>,
     out: &mut TokenStream,
 ) -> Result<(), AllocError>
-    ensures ok { OnOk result (trees out.new ≡ trees out.old ++ printing.where_clause X.prints clause.now) }
+    ensures ok { OnOk result (trees out.new ≡ trees out.old ++ printing.where_clause A.shown E.values clause.now) }
     ensures err { OnErr result (Extends (trees out.old) (trees out.new)) }
 {
     if clause.predicates.is_empty() {
@@ -1355,8 +1394,8 @@ fn print_where<X: Subtree>(
     clause.predicates.to_tokens(alloc, out)
 }
 
-impl<X: Subtree> ToTokens for BoundLifetimes<X> {
-    ghost print = { types.bound_lifetimes X.prints };
+impl<A: Attributes, E: Value> ToTokens for BoundLifetimesOf<GenericParamOf<A, E>> {
+    ghost print = { types.bound_lifetimes A.shown E.values };
 
     fn to_tokens(&self, alloc: Global, out: &mut TokenStream) -> Result<(), AllocError> {
         let before = out.len();
@@ -1370,8 +1409,8 @@ impl<X: Subtree> ToTokens for BoundLifetimes<X> {
     }
 }
 
-impl<X: Subtree> ToTokens for PredicateType<X> {
-    ghost print = { printing.predicate_type X.prints };
+impl<A: Attributes, E: Value> ToTokens for PredicateTypeOf<A, E> {
+    ghost print = { printing.predicate_type A.shown E.values };
 
     fn to_tokens(&self, alloc: Global, out: &mut TokenStream) -> Result<(), AllocError> {
         let before = out.len();
@@ -1385,19 +1424,19 @@ impl<X: Subtree> ToTokens for PredicateType<X> {
     }
 }
 
-impl<X: Subtree> ToTokens for WherePredicate<X> {
-    ghost print = { printing.predicate X.prints };
+impl<A: Attributes, E: Value> ToTokens for WherePredicateOf<A, E> {
+    ghost print = { printing.predicate A.shown E.values };
 
     fn to_tokens(&self, alloc: Global, out: &mut TokenStream) -> Result<(), AllocError> {
         match self {
-            WherePredicate::Lifetime(predicate) => predicate.to_tokens(alloc, out),
-            WherePredicate::Type(predicate) => predicate.to_tokens(alloc, out),
+            WherePredicateOf::Lifetime(predicate) => predicate.to_tokens(alloc, out),
+            WherePredicateOf::Type(predicate) => predicate.to_tokens(alloc, out),
         }
     }
 }
 
-impl<X: Subtree> ToTokens for WhereClause<X> {
-    ghost print = { printing.where_clause X.prints };
+impl<A: Attributes, E: Value> ToTokens for WhereClauseOf<A, E> {
+    ghost print = { printing.where_clause A.shown E.values };
 
     fn to_tokens(&self, alloc: Global, out: &mut TokenStream) -> Result<(), AllocError> {
         let before = out.len();
@@ -1415,66 +1454,77 @@ impl<X: Subtree> ToTokens for WhereClause<X> {
 
 /// The head of an implementation: the parameters without their defaults.
 #[derive(Clone, Drop)]
-pub struct ImplGenerics<'a, X> {
-    generics: &'a Generics<X>,
+pub struct ImplGenericsOf<'a, A, E> {
+    generics: &'a GenericsOf<A, E>,
 }
+
+/// The head of an implementation: the parameters without their defaults.
+pub type ImplGenerics<'a, X> = ImplGenericsOf<'a, Attribute<X>, Expr<X>>;
 
 /// The parameters by their names.
 #[derive(Clone, Drop)]
-pub struct TypeGenerics<'a, X> {
-    generics: &'a Generics<X>,
+pub struct TypeGenericsOf<'a, A, E> {
+    generics: &'a GenericsOf<A, E>,
 }
+
+/// The parameters by their names.
+pub type TypeGenerics<'a, X> = TypeGenericsOf<'a, Attribute<X>, Expr<X>>;
 
 /// The parameters by their names, after `::`.
 #[derive(Clone, Drop)]
-pub struct Turbofish<'a, X> {
-    generics: &'a Generics<X>,
+pub struct TurbofishOf<'a, A, E> {
+    generics: &'a GenericsOf<A, E>,
 }
 
-impl<X> Generics<X> {
+/// The parameters by their names, after `::`.
+pub type Turbofish<'a, X> = TurbofishOf<'a, Attribute<X>, Expr<X>>;
+
+impl<A, E> GenericsOf<A, E> {
     /// The generics of an implementation for this declaration: its parameters without their defaults, their names, and its where clause.
     pub fn split_for_impl(
         &self,
     ) -> (
-        ImplGenerics<'_, X>,
-        TypeGenerics<'_, X>,
-        Option<&WhereClause<X>>,
+        ImplGenericsOf<'_, A, E>,
+        TypeGenericsOf<'_, A, E>,
+        Option<&WhereClauseOf<A, E>>,
     )
         ensures impls { result.0.generics.now ≡ self.now }
         ensures names { result.1.generics.now ≡ self.now }
         ensures clause { option_map (λ c. c.now) result.2 ≡ self.now.where_clause }
     {
         (
-            ImplGenerics { generics: self },
-            TypeGenerics { generics: self },
+            ImplGenericsOf { generics: self },
+            TypeGenericsOf { generics: self },
             self.where_clause.as_ref(),
         )
     }
 }
 
-impl<'a, X> TypeGenerics<'a, X> {
+impl<'a, A, E> TypeGenericsOf<'a, A, E> {
     /// The names after `::`, as in a call.
-    pub fn as_turbofish(&self) -> Turbofish<'a, X>
+    pub fn as_turbofish(&self) -> TurbofishOf<'a, A, E>
         ensures { result.generics.now ≡ self.now.generics.now }
     {
-        Turbofish {
+        TurbofishOf {
             generics: self.generics,
         }
     }
 }
 
-impl<X: Subtree> Member for GenericParam<X> {
+impl<A, E> Member for GenericParamOf<A, E> {
     ghost first = { spec.is_lifetime };
-
-    ghost shown = { views.shown X.prints };
 
     #[tactic(auto, using(crate::proofs::generics_laws::Views::views))]
     fn is_lifetime(&self) -> bool {
         match self {
-            GenericParam::Lifetime(_) => true,
-            GenericParam::Type(_) | GenericParam::Const(_) => false,
+            GenericParamOf::Lifetime(_) => true,
+            GenericParamOf::Type(_) | GenericParamOf::Const(_) => false,
         }
     }
+}
+
+impl<A: Attributes, E: Value> Styled for GenericParamOf<A, E> {
+    ghost shown = { views.shown A.shown E.values };
 
     #[tactic(auto, using(token_core::proofs::Puts::puts, crate::proofs::generics_laws::Views::views))]
     fn print_as(
@@ -1493,47 +1543,47 @@ impl<X: Subtree> Member for GenericParam<X> {
 
 /// A parameter without its default.
 #[tactic(auto, using(token_core::proofs::Puts::puts, crate::proofs::generics_laws::Views::views))]
-fn print_head<X: Subtree>(
+fn print_head<A: Attributes, E: Value>(
     alloc: Global,
-    param: &GenericParam<X>,
+    param: &GenericParamOf<A, E>,
     out: &mut TokenStream,
 ) -> Result<(), AllocError>
-    ensures ok { OnOk result (trees out.new ≡ trees out.old ++ types.param X.prints (views.strip param.now)) }
+    ensures ok { OnOk result (trees out.new ≡ trees out.old ++ types.param A.shown E.values (views.strip param.now)) }
     ensures err { OnErr result (Extends (trees out.old) (trees out.new)) }
 {
     match param {
-        GenericParam::Lifetime(param) => print_lifetime_param(alloc, param, out),
-        GenericParam::Type(param) => print_type_head(alloc, param, out),
-        GenericParam::Const(param) => print_const_head(alloc, param, out),
+        GenericParamOf::Lifetime(param) => print_lifetime_param(alloc, param, out),
+        GenericParamOf::Type(param) => print_type_head(alloc, param, out),
+        GenericParamOf::Const(param) => print_const_head(alloc, param, out),
     }
 }
 
 /// A parameter's name.
 #[tactic(auto, using(token_core::proofs::Puts::puts, crate::proofs::generics_laws::Views::views))]
-fn print_name<X>(
+fn print_name<A, E>(
     alloc: Global,
-    param: &GenericParam<X>,
+    param: &GenericParamOf<A, E>,
     out: &mut TokenStream,
 ) -> Result<(), AllocError>
     ensures ok { OnOk result (trees out.new ≡ trees out.old ++ views.name param.now) }
     ensures err { OnErr result (Extends (trees out.old) (trees out.new)) }
 {
     match param {
-        GenericParam::Lifetime(param) => param.lifetime.to_tokens(alloc, out),
-        GenericParam::Type(param) => param.ident.to_tokens(alloc, out),
-        GenericParam::Const(param) => param.ident.to_tokens(alloc, out),
+        GenericParamOf::Lifetime(param) => param.lifetime.to_tokens(alloc, out),
+        GenericParamOf::Type(param) => param.ident.to_tokens(alloc, out),
+        GenericParamOf::Const(param) => param.ident.to_tokens(alloc, out),
     }
 }
 
 /// The parameters between `<` and `>`, lifetimes first; nothing without parameters.
 #[tactic(auto, using(token_core::proofs::Puts::puts, crate::proofs::generics_laws::Views::betweens))]
-fn print_between<X: Subtree>(
+fn print_between<A: Attributes, E: Value>(
     alloc: Global,
-    generics: &Generics<X>,
+    generics: &GenericsOf<A, E>,
     style: Style,
     out: &mut TokenStream,
 ) -> Result<(), AllocError>
-    ensures ok { OnOk result (trees out.new ≡ trees out.old ++ views.between_as X.prints style generics.now) }
+    ensures ok { OnOk result (trees out.new ≡ trees out.old ++ views.between_as A.shown E.values style generics.now) }
     ensures err { OnErr result (Extends (trees out.old) (trees out.new)) }
 {
     if generics.params.is_empty() {
@@ -1546,9 +1596,9 @@ fn print_between<X: Subtree>(
 
 /// The names after `::`; nothing without parameters.
 #[tactic(auto, using(token_core::proofs::Puts::puts, crate::proofs::generics_laws::Views::after_seps, crate::proofs::generics_laws::Views::showns))]
-fn print_turbofish<X: Subtree>(
+fn print_turbofish<A: Attributes, E: Value>(
     alloc: Global,
-    generics: &Generics<X>,
+    generics: &GenericsOf<A, E>,
     out: &mut TokenStream,
 ) -> Result<(), AllocError>
     ensures ok { OnOk result (trees out.new ≡ trees out.old ++ views.turbofish generics.now) }
@@ -1561,8 +1611,8 @@ fn print_turbofish<X: Subtree>(
     print_between(alloc, generics, Style::Name, out)
 }
 
-impl<X: Subtree> ToTokens for Generics<X> {
-    ghost print = { printing.generics X.prints };
+impl<A: Attributes, E: Value> ToTokens for GenericsOf<A, E> {
+    ghost print = { printing.generics A.shown E.values };
 
     #[tactic(auto, using(crate::proofs::generics_laws::Views::showns))]
     fn to_tokens(&self, alloc: Global, out: &mut TokenStream) -> Result<(), AllocError> {
@@ -1577,8 +1627,8 @@ impl<X: Subtree> ToTokens for Generics<X> {
     }
 }
 
-impl<'a, X: Subtree> ToTokens for ImplGenerics<'a, X> {
-    ghost print = { λ view. printing.generics X.prints (views.stripped view.generics.now) };
+impl<'a, A: Attributes, E: Value> ToTokens for ImplGenericsOf<'a, A, E> {
+    ghost print = { λ view. printing.generics A.shown E.values (views.stripped view.generics.now) };
 
     #[tactic(auto, using(crate::proofs::generics_laws::Views::showns))]
     fn to_tokens(&self, alloc: Global, out: &mut TokenStream) -> Result<(), AllocError> {
@@ -1593,7 +1643,7 @@ impl<'a, X: Subtree> ToTokens for ImplGenerics<'a, X> {
     }
 }
 
-impl<'a, X: Subtree> ToTokens for TypeGenerics<'a, X> {
+impl<'a, A: Attributes, E: Value> ToTokens for TypeGenericsOf<'a, A, E> {
     ghost print = { λ view. views.names view.generics.now };
 
     #[tactic(auto, using(crate::proofs::generics_laws::Views::showns))]
@@ -1609,7 +1659,7 @@ impl<'a, X: Subtree> ToTokens for TypeGenerics<'a, X> {
     }
 }
 
-impl<'a, X: Subtree> ToTokens for Turbofish<'a, X> {
+impl<'a, A: Attributes, E: Value> ToTokens for TurbofishOf<'a, A, E> {
     ghost print = { λ view. views.turbofish view.generics.now };
 
     fn to_tokens(&self, alloc: Global, out: &mut TokenStream) -> Result<(), AllocError> {

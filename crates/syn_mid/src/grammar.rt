@@ -15,18 +15,18 @@ ghost use Rattle.syn_mid.specs.generics.Reading as bounds;
 ghost use Rattle.syn_mid.specs.ty.Knot as knot;
 ghost use Rattle.syn_mid.specs.ty.Knot.{Nests, NestsAlone, ahead};
 ghost use Rattle.syn_mid.specs.ty.Reading as reading;
+ghost use Rattle.syn_mid.specs.ty.Types as types;
 
 use crate::generics::{
-    BoundLifetimes, BoundLifetimesOf, GenericParam, LifetimeParam, TraitBound, TraitBoundModifiers,
-    TraitBoundOf, TypeParamBound,
+    BoundLifetimesOf, GenericParamOf, LifetimeParamOf, TraitBoundModifiers, TraitBoundOf,
+    TypeParamBoundOf,
 };
 use crate::mac::{parse_call_after, parse_macro};
-use crate::path::{Path, parse_plain_path};
-use crate::supplied::{Expr, Place, Subtree};
+use crate::path::{PathArgumentsOf, PathOf, parse_plain_path, without_arguments};
+use crate::supplied::{Attributes, Value};
 use crate::ty::{
-    PointerMutability, Type, TypeArray, TypeArrayOf, TypeInfer, TypeMacro, TypeNever, TypeParen,
-    TypeParenOf, TypePath, TypePathOf, TypePtr, TypePtrOf, TypeReference, TypeReferenceOf,
-    TypeSlice, TypeSliceOf, TypeTuple, TypeTupleOf,
+    PointerMutability, TypeArrayOf, TypeInferOf, TypeMacroOf, TypeNeverOf, TypeOf, TypeParenOf,
+    TypePathOf, TypePtrOf, TypeReferenceOf, TypeSliceOf, TypeTupleOf,
 };
 use std::alloc::Global;
 use std::marker::PhantomData;
@@ -34,7 +34,9 @@ use token_core::token::{
     And, Bracket, Comma, Const, Crate, For, GroupToken, Gt, Lt, Mut, Ne, Not, Paren, PathSep, Plus,
     Question, SelfType, SelfValue, Semi, Star, Super, Underscore,
 };
-use token_core::{Boxed, Cursor, Error, ErrorKind, Ident, Lifetime, ParseStream, Punctuated};
+use token_core::{
+    Boxed, Cursor, Error, ErrorKind, Ident, Items, Lifetime, ParseStream, Punctuated,
+};
 
 // ---- what is read before a type that another one holds: a token is taken
 
@@ -157,16 +159,13 @@ fn parse_question(alloc: Global, input: &mut ParseStream<'_>) -> Result<Option<Q
 
 /// `;` and the length of an array.
 #[tactic(auto, using(token_core::proofs::Suffixes::follows), unfolding(crate::specs::ty::Reading::length))]
-fn parse_length<X: Subtree>(
-    alloc: Global,
-    input: &mut ParseStream<'_>,
-) -> Result<(Semi, Expr<X>), Error>
-    ensures reads { Reads (reading.length X.reads input.old) result input.new }
+fn parse_length<E: Value>(alloc: Global, input: &mut ParseStream<'_>) -> Result<(Semi, E), Error>
+    ensures reads { Reads (reading.length E.reads input.old) result input.new }
     ensures within { Follows input.old input.new }
 {
     let semi_token = input.parse::<Semi>(alloc)?;
-    let len = X::read(alloc, Place::ArrayLen, input)?;
-    Ok((semi_token, Expr::Other(len)))
+    let len = E::read_len(alloc, input)?;
+    Ok((semi_token, len))
 }
 
 /// Whether a path that a type may be begins here.
@@ -190,92 +189,111 @@ fn sees_call(input: &ParseStream<'_>) -> bool
 }
 
 /// `!`
-pub(crate) fn parse_never(alloc: Global, input: &mut ParseStream<'_>) -> Result<TypeNever, Error>
+pub(crate) fn parse_never<A>(
+    alloc: Global,
+    input: &mut ParseStream<'_>,
+) -> Result<TypeNeverOf<A>, Error>
     ensures reads { Reads (reading.never input.old) result input.new }
     ensures within { Follows input.old input.new }
 {
     let bang_token = input.parse::<Not>(alloc)?;
-    Ok(TypeNever { bang_token })
+    Ok(TypeNeverOf {
+        attrs: Items::new(alloc),
+        bang_token,
+    })
 }
 
 /// `_`
-pub(crate) fn parse_infer(alloc: Global, input: &mut ParseStream<'_>) -> Result<TypeInfer, Error>
+pub(crate) fn parse_infer<A>(
+    alloc: Global,
+    input: &mut ParseStream<'_>,
+) -> Result<TypeInferOf<A>, Error>
     ensures reads { Reads (reading.infer input.old) result input.new }
     ensures within { Follows input.old input.new }
 {
     let underscore_token = input.parse::<Underscore>(alloc)?;
-    Ok(TypeInfer { underscore_token })
+    Ok(TypeInferOf {
+        attrs: Items::new(alloc),
+        underscore_token,
+    })
 }
 
-/// A type after which, where `+` is allowed, none may stand: it would begin a trait object, which is not read yet.
-#[tactic(auto, unfolding(crate::specs::ty::Reading::ended))]
-fn ended<X: Drop>(
-    alloc: Global,
-    input: &ParseStream<'_>,
-    plus: bool,
-    ty: Type<X>,
-) -> Result<Type<X>, Error>
-    ensures reads { Reads (reading.ended plus ty input.now) result input.now }
+/// Whether a `+` follows where one is allowed: it would begin a trait object, which is not read yet.
+fn goes_on(input: &ParseStream<'_>, plus: bool) -> bool
+    ensures { result ≡ reading.goes_on plus input.now.rest }
 {
-    if plus & input.peek::<Plus>() {
-        return Err(input.refuse(alloc, ErrorKind::Unexpected));
-    }
-    Ok(ty)
+    plus & input.peek::<Plus>()
 }
 
 /// A macro call in the place of a type.
-pub(crate) fn parse_macro_type<X: Drop>(
+pub(crate) fn parse_macro_type<A>(
     alloc: Global,
     input: &mut ParseStream<'_>,
-) -> Result<TypeMacro<X>, Error>
+) -> Result<TypeMacroOf<A>, Error>
     ensures reads { Reads (reading.macro_type input.old) result input.new }
     ensures within { Follows input.old input.new }
 {
     let mac = parse_macro(alloc, input)?;
-    Ok(TypeMacro { mac })
+    Ok(TypeMacroOf {
+        attrs: Items::new(alloc),
+        mac,
+    })
+}
+
+/// The type of a path, without attributes, that no type qualifies.
+fn bare_type<A, E>(alloc: Global, path: PathOf<PathArgumentsOf<A, E>>) -> TypePathOf<A, E>
+    ensures { result ≡ types.path_type_of path }
+{
+    TypePathOf {
+        attrs: Items::new(alloc),
+        qself: None,
+        path,
+    }
 }
 
 /// A path as a type by itself.
-pub(crate) fn parse_path_type<X: Drop>(
+pub(crate) fn parse_path_type<A: Attributes, E: Value>(
     alloc: Global,
     input: &mut ParseStream<'_>,
-) -> Result<TypePath<X>, Error>
+) -> Result<TypePathOf<A, E>, Error>
     ensures reads { Reads (reading.path_type input.old) result input.new }
     ensures within { Follows input.old input.new }
 {
     let path = parse_plain_path(alloc, input)?;
-    Ok(TypePathOf { qself: None, path })
+    Ok(bare_type(alloc, path))
 }
 
 /// A path, or a macro call by its path.
-#[tactic(auto, using(token_core::proofs::Suffixes::follows), unfolding(crate::specs::ty::Reading::path_or_macro))]
-fn parse_path_or_macro<X: Drop>(
+#[tactic(auto, using(token_core::proofs::Suffixes::follows), unfolding(crate::specs::ty::Reading::path_or_macro, crate::specs::ty::Reading::ended))]
+fn parse_path_or_macro<A: Attributes, E: Value>(
     alloc: Global,
     input: &mut ParseStream<'_>,
     plus: bool,
-) -> Result<Type<X>, Error>
+) -> Result<TypeOf<A, E>, Error>
     ensures reads { Reads (reading.path_or_macro plus input.old) result input.new }
     ensures within { Follows input.old input.new }
 {
     let path = parse_plain_path(alloc, input)?;
     if sees_call(input) {
+        let path = without_arguments(alloc, &path)?;
         let mac = parse_call_after(alloc, input, path)?;
-        return Ok(Type::Macro(TypeMacro { mac }));
+        return Ok(TypeOf::Macro(TypeMacroOf {
+            attrs: Items::new(alloc),
+            mac,
+        }));
     }
-    ended(
-        alloc,
-        input,
-        plus,
-        Type::Path(TypePathOf { qself: None, path }),
-    )
+    if goes_on(input, plus) {
+        return Err(input.refuse(alloc, ErrorKind::Unexpected));
+    }
+    Ok(TypeOf::Path(bare_type(alloc, path)))
 }
 
 /// A trait by its path, without parentheses.
-fn named_bound<X>(
-    lifetimes: Option<BoundLifetimes<X>>,
+fn named_bound<A, E>(
+    lifetimes: Option<BoundLifetimesOf<GenericParamOf<A, E>>>,
     maybe: Option<Question>,
-    path: Path<X>,
-) -> TraitBound<X>
+    path: PathOf<PathArgumentsOf<A, E>>,
+) -> TraitBoundOf<A, E>
     ensures { result ≡ parts.named_bound lifetimes maybe path }
 {
     TraitBoundOf {
@@ -288,7 +306,7 @@ fn named_bound<X>(
 }
 
 /// A trait bound in parentheses.
-fn held_bound<X>(paren_token: Paren, bound: TraitBound<X>) -> TraitBound<X>
+fn held_bound<A, E>(paren_token: Paren, bound: TraitBoundOf<A, E>) -> TraitBoundOf<A, E>
     ensures { result ≡ parts.held_bound paren_token bound }
 {
     TraitBoundOf {
@@ -299,12 +317,12 @@ fn held_bound<X>(paren_token: Paren, bound: TraitBound<X>) -> TraitBound<X>
 
 /// The path of a bound after `?`. With a binder beside the `?` the bound is refused at the `?`.
 #[tactic(auto, using(token_core::proofs::Suffixes::follows))]
-fn parse_asked<X: Drop>(
+fn parse_asked<A: Attributes, E: Value>(
     alloc: Global,
     input: &mut ParseStream<'_>,
     question: Question,
-    lifetimes: Option<BoundLifetimes<X>>,
-) -> Result<TraitBound<X>, Error>
+    lifetimes: Option<BoundLifetimesOf<GenericParamOf<A, E>>>,
+) -> Result<TraitBoundOf<A, E>, Error>
     ensures reads { Reads (bounds.asked question lifetimes input.old) result input.new }
     ensures within { Follows input.old input.new }
 {
@@ -321,9 +339,9 @@ fn parse_asked<X: Drop>(
 
 /// One turn of the readers.
 #[derive(Drop)]
-pub(crate) struct Grammar<'a, X, F, G, H> {
+pub(crate) struct Grammar<'a, A, E, F, G, H> {
     pub(crate) alloc: Global,
-    pub(crate) of: PhantomData<X>,
+    pub(crate) of: PhantomData<(A, E)>,
     /// Where the turn began. The readers below are asked only further on, so that reading ends.
     pub(crate) begin: Cursor<'a>,
     /// The reader of types.
@@ -336,21 +354,39 @@ pub(crate) struct Grammar<'a, X, F, G, H> {
 
 impl<
     'a,
-    X: Subtree,
-    F: Fn(Global, PhantomData<X>, &mut ParseStream<'_>, bool) -> Result<Type<X>, Error>,
-    G: Fn(Global, PhantomData<X>, &mut ParseStream<'_>) -> Result<TypeParamBound<X>, Error>,
-    H: Fn(Global, PhantomData<X>, &mut ParseStream<'_>) -> Result<GenericParam<X>, Error>,
-> Grammar<'a, X, F, G, H> {
+    A: Attributes,
+    E: Value,
+    F: Fn(Global, PhantomData<(A, E)>, &mut ParseStream<'_>, bool) -> Result<TypeOf<A, E>, Error>,
+    G: Fn(
+        Global,
+        PhantomData<(A, E)>,
+        &mut ParseStream<'_>,
+    ) -> Result<TypeParamBoundOf<A, E>, Error>,
+    H: Fn(Global, PhantomData<(A, E)>, &mut ParseStream<'_>) -> Result<GenericParamOf<A, E>, Error>,
+> Grammar<'a, A, E, F, G, H> {
     /// A type that another one holds.
     #[tactic(auto, using(crate::proofs::ty_laws::Ahead::later), unfolding(crate::specs::ty::Knot::types))]
-    fn nested(&self, input: &mut ParseStream<'_>, plus: bool) -> Result<Type<X>, Error>
-        requires types { Nests (knot.ty X.reads) (length self.now.begin) (F.pre self.now.typ) (F.post self.now.typ) }
+    fn nested(&self, input: &mut ParseStream<'_>, plus: bool) -> Result<TypeOf<A, E>, Error>
+        requires types { Nests (knot.ty E.reads) (length self.now.begin) (F.pre self.now.typ) (F.post self.now.typ) }
         requires few { ahead input.old < length self.now.begin }
-        ensures reads { Reads (knot.types X.reads (length self.now.begin) plus input.old) result input.new }
+        ensures reads { Reads (knot.types E.reads (length self.now.begin) plus input.old) result input.new }
         ensures within { Follows input.old input.new }
         ensures fewer { ahead input.new ≤ ahead input.old }
     {
         (self.typ)(self.alloc, PhantomData, input, plus)
+    }
+
+    /// The same on the heap, so that one word is at hand and dropped where what follows is refused.
+    #[tactic(auto, using(token_core::proofs::Suffixes::follows))]
+    fn held(&self, input: &mut ParseStream<'_>, plus: bool) -> Result<Boxed<TypeOf<A, E>>, Error>
+        requires types { Nests (knot.ty E.reads) (length self.now.begin) (F.pre self.now.typ) (F.post self.now.typ) }
+        requires few { ahead input.old < length self.now.begin }
+        ensures reads { Reads (knot.types E.reads (length self.now.begin) plus input.old) result input.new }
+        ensures within { Follows input.old input.new }
+        ensures fewer { ahead input.new ≤ ahead input.old }
+    {
+        let ty = self.nested(input, plus)?;
+        Ok(Boxed::new(self.alloc, ty)?)
     }
 
     /// A comma, and the elements of a tuple after the first one.
@@ -358,11 +394,11 @@ impl<
     fn more_elements(
         &self,
         input: &mut ParseStream<'_>,
-        first: Type<X>,
-    ) -> Result<Punctuated<Type<X>, Comma>, Error>
-        requires types { Nests (knot.ty X.reads) (length self.now.begin) (F.pre self.now.typ) (F.post self.now.typ) }
+        first: TypeOf<A, E>,
+    ) -> Result<Punctuated<TypeOf<A, E>, Comma>, Error>
+        requires types { Nests (knot.ty E.reads) (length self.now.begin) (F.pre self.now.typ) (F.post self.now.typ) }
         requires few { ahead input.old ≤ length self.now.begin }
-        ensures reads { Reads (reading.more_elements X.reads (knot.types X.reads (length self.now.begin)) first input.old) result input.new }
+        ensures reads { Reads (reading.more_elements E.reads (knot.types E.reads (length self.now.begin)) first input.old) result input.new }
         ensures within { Follows input.old input.new }
     {
         let mut elems = Punctuated::new(self.alloc);
@@ -383,128 +419,148 @@ impl<
 
     /// `*const T`, `*mut T`
     #[tactic(auto, using(token_core::proofs::Suffixes::follows), unfolding(crate::specs::ty::Reading::ptr))]
-    pub(crate) fn ptr(&self, input: &mut ParseStream<'_>) -> Result<TypePtr<X>, Error>
-        requires types { Nests (knot.ty X.reads) (length self.now.begin) (F.pre self.now.typ) (F.post self.now.typ) }
+    pub(crate) fn ptr(
+        &self,
+        input: &mut ParseStream<'_>,
+    ) -> Result<TypePtrOf<TypeOf<A, E>, A>, Error>
+        requires types { Nests (knot.ty E.reads) (length self.now.begin) (F.pre self.now.typ) (F.post self.now.typ) }
         requires few { ahead input.old ≤ length self.now.begin }
-        ensures reads { Reads (reading.ptr X.reads (knot.types X.reads (length self.now.begin)) input.old) result input.new }
+        ensures reads { Reads (reading.ptr E.reads (knot.types E.reads (length self.now.begin)) input.old) result input.new }
         ensures within { Follows input.old input.new }
     {
         let star_token = parse_star(self.alloc, input)?;
         let mutability = parse_mutability(self.alloc, input)?;
-        let elem = self.nested(input, false)?;
+        let elem = self.held(input, false)?;
         Ok(TypePtrOf {
+            attrs: Items::new(self.alloc),
             star_token,
             mutability,
-            elem: Boxed::new(self.alloc, elem)?,
+            elem,
         })
     }
 
     /// `&'a mut T`
     #[tactic(auto, using(token_core::proofs::Suffixes::follows), unfolding(crate::specs::ty::Reading::reference))]
-    pub(crate) fn reference(&self, input: &mut ParseStream<'_>) -> Result<TypeReference<X>, Error>
-        requires types { Nests (knot.ty X.reads) (length self.now.begin) (F.pre self.now.typ) (F.post self.now.typ) }
+    pub(crate) fn reference(
+        &self,
+        input: &mut ParseStream<'_>,
+    ) -> Result<TypeReferenceOf<TypeOf<A, E>, A>, Error>
+        requires types { Nests (knot.ty E.reads) (length self.now.begin) (F.pre self.now.typ) (F.post self.now.typ) }
         requires few { ahead input.old ≤ length self.now.begin }
-        ensures reads { Reads (reading.reference X.reads (knot.types X.reads (length self.now.begin)) input.old) result input.new }
+        ensures reads { Reads (reading.reference E.reads (knot.types E.reads (length self.now.begin)) input.old) result input.new }
         ensures within { Follows input.old input.new }
     {
         let and_token = parse_and(self.alloc, input)?;
         let lifetime = parse_lifetime(self.alloc, input)?;
         let mutability = parse_mut(self.alloc, input)?;
-        let elem = self.nested(input, false)?;
+        let elem = self.held(input, false)?;
         Ok(TypeReferenceOf {
+            attrs: Items::new(self.alloc),
             and_token,
             lifetime,
             mutability,
-            elem: Boxed::new(self.alloc, elem)?,
+            elem,
         })
     }
 
     /// A tuple, or a type in parentheses.
-    #[tactic(auto, using(token_core::proofs::Suffixes::follows), unfolding(crate::specs::ty::Reading::paren_or_tuple, crate::specs::ty::Reading::paren_content))]
-    fn paren_or_tuple(&self, input: &mut ParseStream<'_>, plus: bool) -> Result<Type<X>, Error>
-        requires types { Nests (knot.ty X.reads) (length self.now.begin) (F.pre self.now.typ) (F.post self.now.typ) }
+    #[tactic(auto, using(token_core::proofs::Suffixes::follows), unfolding(crate::specs::ty::Reading::paren_or_tuple, crate::specs::ty::Reading::paren_content, crate::specs::ty::Reading::ended))]
+    fn paren_or_tuple(&self, input: &mut ParseStream<'_>, plus: bool) -> Result<TypeOf<A, E>, Error>
+        requires types { Nests (knot.ty E.reads) (length self.now.begin) (F.pre self.now.typ) (F.post self.now.typ) }
         requires few { ahead input.old ≤ length self.now.begin }
-        ensures reads { Reads (reading.paren_or_tuple X.reads (knot.types X.reads (length self.now.begin)) plus input.old) result input.new }
+        ensures reads { Reads (reading.paren_or_tuple E.reads (knot.types E.reads (length self.now.begin)) plus input.old) result input.new }
         ensures within { Follows input.old input.new }
     {
         let (paren_token, mut content) = open_parens(self.alloc, input)?;
         if content.is_empty() {
             input.finish(content);
             let elems = Punctuated::new(self.alloc);
-            return Ok(Type::Tuple(TypeTupleOf { paren_token, elems }));
+            return Ok(TypeOf::Tuple(TypeTupleOf {
+                attrs: Items::new(self.alloc),
+                paren_token,
+                elems,
+            }));
         }
         let first = self.nested(&mut content, true)?;
         if content.peek::<Comma>() {
             let elems = self.more_elements(&mut content, first)?;
             input.finish(content);
-            return Ok(Type::Tuple(TypeTupleOf { paren_token, elems }));
+            return Ok(TypeOf::Tuple(TypeTupleOf {
+                attrs: Items::new(self.alloc),
+                paren_token,
+                elems,
+            }));
         }
         input.finish(content);
         let elem = Boxed::new(self.alloc, first)?;
-        ended(
-            self.alloc,
-            input,
-            plus,
-            Type::Paren(TypeParenOf { paren_token, elem }),
-        )
+        if goes_on(input, plus) {
+            return Err(input.refuse(self.alloc, ErrorKind::Unexpected));
+        }
+        Ok(TypeOf::Paren(TypeParenOf {
+            attrs: Items::new(self.alloc),
+            paren_token,
+            elem,
+        }))
     }
 
     /// A slice, or an array.
     #[tactic(auto, using(token_core::proofs::Suffixes::follows), unfolding(crate::specs::ty::Reading::slice_or_array, crate::specs::ty::Reading::bracket_content))]
-    fn slice_or_array(&self, input: &mut ParseStream<'_>) -> Result<Type<X>, Error>
-        requires types { Nests (knot.ty X.reads) (length self.now.begin) (F.pre self.now.typ) (F.post self.now.typ) }
+    fn slice_or_array(&self, input: &mut ParseStream<'_>) -> Result<TypeOf<A, E>, Error>
+        requires types { Nests (knot.ty E.reads) (length self.now.begin) (F.pre self.now.typ) (F.post self.now.typ) }
         requires few { ahead input.old ≤ length self.now.begin }
-        ensures reads { Reads (reading.slice_or_array X.reads (knot.types X.reads (length self.now.begin)) input.old) result input.new }
+        ensures reads { Reads (reading.slice_or_array E.reads (knot.types E.reads (length self.now.begin)) input.old) result input.new }
         ensures within { Follows input.old input.new }
     {
         let (bracket_token, mut content) = open_brackets(self.alloc, input)?;
-        let elem = self.nested(&mut content, true)?;
+        let elem = self.held(&mut content, true)?;
         if content.peek::<Semi>() {
             let (semi_token, len) = parse_length(self.alloc, &mut content)?;
             input.finish(content);
-            return Ok(Type::Array(TypeArrayOf {
+            return Ok(TypeOf::Array(TypeArrayOf {
+                attrs: Items::new(self.alloc),
                 bracket_token,
-                elem: Boxed::new(self.alloc, elem)?,
+                elem,
                 semi_token,
                 len,
             }));
         }
         input.finish(content);
-        Ok(Type::Slice(TypeSliceOf {
+        Ok(TypeOf::Slice(TypeSliceOf {
+            attrs: Items::new(self.alloc),
             bracket_token,
-            elem: Boxed::new(self.alloc, elem)?,
+            elem,
         }))
     }
 
     /// A type that begins with a mark or `_`.
     #[tactic(auto, using(token_core::proofs::Suffixes::follows), unfolding(crate::specs::ty::Reading::by_mark))]
-    fn by_mark(&self, input: &mut ParseStream<'_>) -> Result<Type<X>, Error>
-        requires types { Nests (knot.ty X.reads) (length self.now.begin) (F.pre self.now.typ) (F.post self.now.typ) }
+    fn by_mark(&self, input: &mut ParseStream<'_>) -> Result<TypeOf<A, E>, Error>
+        requires types { Nests (knot.ty E.reads) (length self.now.begin) (F.pre self.now.typ) (F.post self.now.typ) }
         requires few { ahead input.old ≤ length self.now.begin }
-        ensures reads { Reads (reading.by_mark X.reads (knot.types X.reads (length self.now.begin)) input.old) result input.new }
+        ensures reads { Reads (reading.by_mark E.reads (knot.types E.reads (length self.now.begin)) input.old) result input.new }
         ensures within { Follows input.old input.new }
     {
         if input.peek::<Star>() {
-            return Ok(Type::Ptr(self.ptr(input)?));
+            return Ok(TypeOf::Ptr(self.ptr(input)?));
         }
         if input.peek::<And>() {
-            return Ok(Type::Reference(self.reference(input)?));
+            return Ok(TypeOf::Reference(self.reference(input)?));
         }
         if input.peek::<Not>() {
-            return Ok(Type::Never(parse_never(self.alloc, input)?));
+            return Ok(TypeOf::Never(parse_never(self.alloc, input)?));
         }
         if input.peek::<Underscore>() {
-            return Ok(Type::Infer(parse_infer(self.alloc, input)?));
+            return Ok(TypeOf::Infer(parse_infer(self.alloc, input)?));
         }
         Err(input.expected(self.alloc, "type"))
     }
 
     /// A type (`ambig_ty`), by its first token.
     #[tactic(auto, using(token_core::proofs::Suffixes::follows), unfolding(crate::specs::ty::Reading::type_step))]
-    fn type_step(&self, input: &mut ParseStream<'_>, plus: bool) -> Result<Type<X>, Error>
-        requires types { Nests (knot.ty X.reads) (length self.now.begin) (F.pre self.now.typ) (F.post self.now.typ) }
+    fn type_step(&self, input: &mut ParseStream<'_>, plus: bool) -> Result<TypeOf<A, E>, Error>
+        requires types { Nests (knot.ty E.reads) (length self.now.begin) (F.pre self.now.typ) (F.post self.now.typ) }
         requires few { ahead input.old ≤ length self.now.begin }
-        ensures reads { Reads (reading.type_step X.reads (knot.types X.reads (length self.now.begin)) plus input.old) result input.new }
+        ensures reads { Reads (reading.type_step E.reads (knot.types E.reads (length self.now.begin)) plus input.old) result input.new }
         ensures within { Follows input.old input.new }
     {
         if input.peek::<GroupToken>() {
@@ -526,10 +582,10 @@ impl<
 
     /// A parameter of a binder that a bound holds.
     #[tactic(auto, using(crate::proofs::ty_laws::Ahead::later), unfolding(crate::specs::ty::Knot::params))]
-    fn nested_param(&self, input: &mut ParseStream<'_>) -> Result<GenericParam<X>, Error>
-        requires params { NestsAlone (knot.param X.reads) (length self.now.begin) (H.pre self.now.param) (H.post self.now.param) }
+    fn nested_param(&self, input: &mut ParseStream<'_>) -> Result<GenericParamOf<A, E>, Error>
+        requires params { NestsAlone (knot.param E.reads) (length self.now.begin) (H.pre self.now.param) (H.post self.now.param) }
         requires few { ahead input.old < length self.now.begin }
-        ensures reads { Reads (knot.params X.reads (length self.now.begin) input.old) result input.new }
+        ensures reads { Reads (knot.params E.reads (length self.now.begin) input.old) result input.new }
         ensures within { Follows input.old input.new }
         ensures fewer { ahead input.new ≤ ahead input.old }
     {
@@ -541,10 +597,10 @@ impl<
     fn params(
         &self,
         input: &mut ParseStream<'_>,
-    ) -> Result<Punctuated<GenericParam<X>, Comma>, Error>
-        requires params { NestsAlone (knot.param X.reads) (length self.now.begin) (H.pre self.now.param) (H.post self.now.param) }
+    ) -> Result<Punctuated<GenericParamOf<A, E>, Comma>, Error>
+        requires params { NestsAlone (knot.param E.reads) (length self.now.begin) (H.pre self.now.param) (H.post self.now.param) }
         requires few { ahead input.old < length self.now.begin }
-        ensures reads { Reads (bounds.params (knot.params X.reads (length self.now.begin)) input.old) result input.new }
+        ensures reads { Reads (bounds.params (knot.params E.reads (length self.now.begin)) input.old) result input.new }
         ensures within { Follows input.old input.new }
     {
         let mut params = Punctuated::new(self.alloc);
@@ -563,10 +619,13 @@ impl<
 
     /// `for<'a, 'b>`
     #[tactic(auto, using(token_core::proofs::Suffixes::follows), unfolding(crate::specs::generics::Reading::binder))]
-    fn binder(&self, input: &mut ParseStream<'_>) -> Result<BoundLifetimes<X>, Error>
-        requires params { NestsAlone (knot.param X.reads) (length self.now.begin) (H.pre self.now.param) (H.post self.now.param) }
+    fn binder(
+        &self,
+        input: &mut ParseStream<'_>,
+    ) -> Result<BoundLifetimesOf<GenericParamOf<A, E>>, Error>
+        requires params { NestsAlone (knot.param E.reads) (length self.now.begin) (H.pre self.now.param) (H.post self.now.param) }
         requires few { ahead input.old ≤ length self.now.begin }
-        ensures reads { Reads (bounds.binder (knot.params X.reads (length self.now.begin)) input.old) result input.new }
+        ensures reads { Reads (bounds.binder (knot.params E.reads (length self.now.begin)) input.old) result input.new }
         ensures within { Follows input.old input.new }
     {
         let for_token = parse_for(self.alloc, input)?;
@@ -579,10 +638,10 @@ impl<
         &self,
         input: &mut ParseStream<'_>,
         for_token: For,
-    ) -> Result<BoundLifetimes<X>, Error>
-        requires params { NestsAlone (knot.param X.reads) (length self.now.begin) (H.pre self.now.param) (H.post self.now.param) }
+    ) -> Result<BoundLifetimesOf<GenericParamOf<A, E>>, Error>
+        requires params { NestsAlone (knot.param E.reads) (length self.now.begin) (H.pre self.now.param) (H.post self.now.param) }
         requires few { ahead input.old < length self.now.begin }
-        ensures reads { Reads (bounds.binder_after (knot.params X.reads (length self.now.begin)) for_token input.old) result input.new }
+        ensures reads { Reads (bounds.binder_after (knot.params E.reads (length self.now.begin)) for_token input.old) result input.new }
         ensures within { Follows input.old input.new }
     {
         let lt_token = parse_lt(self.alloc, input)?;
@@ -601,10 +660,10 @@ impl<
     fn optional_binder(
         &self,
         input: &mut ParseStream<'_>,
-    ) -> Result<Option<BoundLifetimes<X>>, Error>
-        requires params { NestsAlone (knot.param X.reads) (length self.now.begin) (H.pre self.now.param) (H.post self.now.param) }
+    ) -> Result<Option<BoundLifetimesOf<GenericParamOf<A, E>>>, Error>
+        requires params { NestsAlone (knot.param E.reads) (length self.now.begin) (H.pre self.now.param) (H.post self.now.param) }
         requires few { ahead input.old ≤ length self.now.begin }
-        ensures reads { Reads (bounds.optional_binder (knot.params X.reads (length self.now.begin)) input.old) result input.new }
+        ensures reads { Reads (bounds.optional_binder (knot.params E.reads (length self.now.begin)) input.old) result input.new }
         ensures within { Follows input.old input.new }
         ensures fewer { ahead input.new ≤ ahead input.old }
     {
@@ -619,12 +678,12 @@ impl<
     fn after_question(
         &self,
         input: &mut ParseStream<'_>,
-        lifetimes: Option<BoundLifetimes<X>>,
+        lifetimes: Option<BoundLifetimesOf<GenericParamOf<A, E>>>,
         question: Question,
-    ) -> Result<TraitBound<X>, Error>
-        requires params { NestsAlone (knot.param X.reads) (length self.now.begin) (H.pre self.now.param) (H.post self.now.param) }
+    ) -> Result<TraitBoundOf<A, E>, Error>
+        requires params { NestsAlone (knot.param E.reads) (length self.now.begin) (H.pre self.now.param) (H.post self.now.param) }
         requires few { ahead input.old ≤ length self.now.begin }
-        ensures reads { Reads (bounds.after_question (knot.params X.reads (length self.now.begin)) lifetimes question input.old) result input.new }
+        ensures reads { Reads (bounds.after_question (knot.params E.reads (length self.now.begin)) lifetimes question input.old) result input.new }
         ensures within { Follows input.old input.new }
     {
         if lifetimes.is_some() {
@@ -636,10 +695,10 @@ impl<
 
     /// A trait bound without parentheses.
     #[tactic(auto, using(token_core::proofs::Suffixes::follows), unfolding(crate::specs::generics::Reading::bare_bound))]
-    fn bare_bound(&self, input: &mut ParseStream<'_>) -> Result<TraitBound<X>, Error>
-        requires params { NestsAlone (knot.param X.reads) (length self.now.begin) (H.pre self.now.param) (H.post self.now.param) }
+    fn bare_bound(&self, input: &mut ParseStream<'_>) -> Result<TraitBoundOf<A, E>, Error>
+        requires params { NestsAlone (knot.param E.reads) (length self.now.begin) (H.pre self.now.param) (H.post self.now.param) }
         requires few { ahead input.old ≤ length self.now.begin }
-        ensures reads { Reads (bounds.bare_bound (knot.params X.reads (length self.now.begin)) input.old) result input.new }
+        ensures reads { Reads (bounds.bare_bound (knot.params E.reads (length self.now.begin)) input.old) result input.new }
         ensures within { Follows input.old input.new }
     {
         let lifetimes = self.optional_binder(input)?;
@@ -652,10 +711,10 @@ impl<
 
     /// A trait bound, which may stand in parentheses.
     #[tactic(auto, using(token_core::proofs::Suffixes::follows), unfolding(crate::specs::generics::Reading::trait_bound))]
-    fn trait_bound(&self, input: &mut ParseStream<'_>) -> Result<TraitBound<X>, Error>
-        requires params { NestsAlone (knot.param X.reads) (length self.now.begin) (H.pre self.now.param) (H.post self.now.param) }
+    fn trait_bound(&self, input: &mut ParseStream<'_>) -> Result<TraitBoundOf<A, E>, Error>
+        requires params { NestsAlone (knot.param E.reads) (length self.now.begin) (H.pre self.now.param) (H.post self.now.param) }
         requires few { ahead input.old ≤ length self.now.begin }
-        ensures reads { Reads (bounds.trait_bound (knot.params X.reads (length self.now.begin)) input.old) result input.new }
+        ensures reads { Reads (bounds.trait_bound (knot.params E.reads (length self.now.begin)) input.old) result input.new }
         ensures within { Follows input.old input.new }
     {
         if !input.peek::<Paren>() {
@@ -669,26 +728,26 @@ impl<
 
     /// A parameter of a binder: a lifetime. Types, constants, bounds and attributes of parameters are not read yet.
     #[tactic(auto, using(token_core::proofs::Suffixes::follows), unfolding(crate::specs::generics::Reading::param_step))]
-    fn param_step(&self, input: &mut ParseStream<'_>) -> Result<GenericParam<X>, Error>
+    fn param_step(&self, input: &mut ParseStream<'_>) -> Result<GenericParamOf<A, E>, Error>
         ensures reads { Reads (bounds.param_step input.old) result input.new }
         ensures within { Follows input.old input.new }
     {
         let lifetime = Lifetime::parse_any(self.alloc, input)?;
-        Ok(GenericParam::Lifetime(LifetimeParam::new(self.alloc, lifetime)))
+        Ok(GenericParamOf::Lifetime(LifetimeParamOf::new(self.alloc, lifetime)))
     }
 
     /// A bound: a lifetime or a trait.
     #[tactic(auto, using(token_core::proofs::Suffixes::follows), unfolding(crate::specs::generics::Reading::bound_step))]
-    fn bound_step(&self, input: &mut ParseStream<'_>) -> Result<TypeParamBound<X>, Error>
-        requires params { NestsAlone (knot.param X.reads) (length self.now.begin) (H.pre self.now.param) (H.post self.now.param) }
+    fn bound_step(&self, input: &mut ParseStream<'_>) -> Result<TypeParamBoundOf<A, E>, Error>
+        requires params { NestsAlone (knot.param E.reads) (length self.now.begin) (H.pre self.now.param) (H.post self.now.param) }
         requires few { ahead input.old ≤ length self.now.begin }
-        ensures reads { Reads (bounds.bound_step (knot.params X.reads (length self.now.begin)) input.old) result input.new }
+        ensures reads { Reads (bounds.bound_step (knot.params E.reads (length self.now.begin)) input.old) result input.new }
         ensures within { Follows input.old input.new }
     {
         if input.peek::<Lifetime>() {
-            return Ok(TypeParamBound::Lifetime(Lifetime::parse_any(self.alloc, input)?));
+            return Ok(TypeParamBoundOf::Lifetime(Lifetime::parse_any(self.alloc, input)?));
         }
-        Ok(TypeParamBound::Trait(self.trait_bound(input)?))
+        Ok(TypeParamBoundOf::Trait(self.trait_bound(input)?))
     }
 }
 
@@ -697,19 +756,19 @@ impl<
 /// Reads a type, where `+` may be allowed or not.
 #[cycle(knot)]
 #[tactic(auto, using(crate::proofs::ty_laws::Knot::turns))]
-pub(crate) fn parse_type<X: Subtree>(
+pub(crate) fn parse_type<A: Attributes, E: Value>(
     alloc: Global,
-    of: PhantomData<X>,
+    of: PhantomData<(A, E)>,
     input: &mut ParseStream<'_>,
     plus: bool,
-) -> Result<Type<X>, Error>
-    ensures reads { Reads (knot.ty X.reads plus input.old) result input.new }
+) -> Result<TypeOf<A, E>, Error>
+    ensures reads { Reads (knot.ty E.reads plus input.old) result input.new }
     ensures within { Follows input.old input.new }
 {
     let begin = input.cursor();
-    let typ = parse_type::<X>;
-    let bound = parse_bound::<X>;
-    let param = parse_param::<X>;
+    let typ = parse_type::<A, E>;
+    let bound = parse_bound::<A, E>;
+    let param = parse_param::<A, E>;
     Grammar {
         alloc,
         of,
@@ -724,18 +783,18 @@ pub(crate) fn parse_type<X: Subtree>(
 /// Reads a bound.
 #[cycle(knot)]
 #[tactic(auto, using(crate::proofs::ty_laws::Knot::turns))]
-pub(crate) fn parse_bound<X: Subtree>(
+pub(crate) fn parse_bound<A: Attributes, E: Value>(
     alloc: Global,
-    of: PhantomData<X>,
+    of: PhantomData<(A, E)>,
     input: &mut ParseStream<'_>,
-) -> Result<TypeParamBound<X>, Error>
-    ensures reads { Reads (knot.bound X.reads input.old) result input.new }
+) -> Result<TypeParamBoundOf<A, E>, Error>
+    ensures reads { Reads (knot.bound E.reads input.old) result input.new }
     ensures within { Follows input.old input.new }
 {
     let begin = input.cursor();
-    let typ = parse_type::<X>;
-    let bound = parse_bound::<X>;
-    let param = parse_param::<X>;
+    let typ = parse_type::<A, E>;
+    let bound = parse_bound::<A, E>;
+    let param = parse_param::<A, E>;
     Grammar {
         alloc,
         of,
@@ -750,18 +809,18 @@ pub(crate) fn parse_bound<X: Subtree>(
 /// Reads a parameter of a binder.
 #[cycle(knot)]
 #[tactic(auto, using(crate::proofs::ty_laws::Knot::turns))]
-fn parse_param<X: Subtree>(
+fn parse_param<A: Attributes, E: Value>(
     alloc: Global,
-    of: PhantomData<X>,
+    of: PhantomData<(A, E)>,
     input: &mut ParseStream<'_>,
-) -> Result<GenericParam<X>, Error>
-    ensures reads { Reads (knot.param X.reads input.old) result input.new }
+) -> Result<GenericParamOf<A, E>, Error>
+    ensures reads { Reads (knot.param E.reads input.old) result input.new }
     ensures within { Follows input.old input.new }
 {
     let begin = input.cursor();
-    let typ = parse_type::<X>;
-    let bound = parse_bound::<X>;
-    let param = parse_param::<X>;
+    let typ = parse_type::<A, E>;
+    let bound = parse_bound::<A, E>;
+    let param = parse_param::<A, E>;
     Grammar {
         alloc,
         of,
@@ -780,132 +839,154 @@ fn parse_param<X: Subtree>(
 
 /// A type that another one holds.
 #[tactic(auto, using(crate::proofs::ty_laws::Ahead::later), unfolding(crate::specs::ty::Knot::types))]
-fn parse_nested<X: Subtree>(
+fn parse_nested<A: Attributes, E: Value>(
     alloc: Global,
     begin: &Cursor<'_>,
     input: &mut ParseStream<'_>,
     plus: bool,
-) -> Result<Type<X>, Error>
+) -> Result<TypeOf<A, E>, Error>
     requires few { ahead input.old < length begin.now }
-    ensures reads { Reads (knot.types X.reads (length begin.now) plus input.old) result input.new }
+    ensures reads { Reads (knot.types E.reads (length begin.now) plus input.old) result input.new }
     ensures within { Follows input.old input.new }
     ensures fewer { ahead input.new ≤ ahead input.old }
 {
     parse_type(alloc, PhantomData, input, plus)
 }
 
-#[tactic(auto, using(token_core::proofs::Suffixes::follows), unfolding(crate::specs::ty::Reading::slice))]
-fn parse_slice_from<X: Subtree>(
+/// The same on the heap.
+#[tactic(auto, using(token_core::proofs::Suffixes::follows))]
+fn parse_held<A: Attributes, E: Value>(
     alloc: Global,
     begin: &Cursor<'_>,
     input: &mut ParseStream<'_>,
-) -> Result<TypeSlice<X>, Error>
+    plus: bool,
+) -> Result<Boxed<TypeOf<A, E>>, Error>
+    requires few { ahead input.old < length begin.now }
+    ensures reads { Reads (knot.types E.reads (length begin.now) plus input.old) result input.new }
+    ensures within { Follows input.old input.new }
+    ensures fewer { ahead input.new ≤ ahead input.old }
+{
+    let ty = parse_nested(alloc, begin, input, plus)?;
+    Ok(Boxed::new(alloc, ty)?)
+}
+
+#[tactic(auto, using(token_core::proofs::Suffixes::follows), unfolding(crate::specs::ty::Reading::slice))]
+fn parse_slice_from<A: Attributes, E: Value>(
+    alloc: Global,
+    begin: &Cursor<'_>,
+    input: &mut ParseStream<'_>,
+) -> Result<TypeSliceOf<TypeOf<A, E>, A>, Error>
     requires few { ahead input.old ≤ length begin.now }
-    ensures reads { Reads (reading.slice X.reads (knot.types X.reads (length begin.now)) input.old) result input.new }
+    ensures reads { Reads (reading.slice E.reads (knot.types E.reads (length begin.now)) input.old) result input.new }
     ensures within { Follows input.old input.new }
 {
     let (bracket_token, mut content) = open_brackets(alloc, input)?;
-    let elem = parse_nested(alloc, begin, &mut content, true)?;
+    let elem = parse_held(alloc, begin, &mut content, true)?;
     input.finish(content);
     Ok(TypeSliceOf {
+        attrs: Items::new(alloc),
         bracket_token,
-        elem: Boxed::new(alloc, elem)?,
+        elem,
     })
 }
 
 #[tactic(auto, using(token_core::proofs::Suffixes::follows), unfolding(crate::specs::ty::Reading::array, crate::specs::ty::Reading::array_content))]
-fn parse_array_from<X: Subtree>(
+fn parse_array_from<A: Attributes, E: Value>(
     alloc: Global,
     begin: &Cursor<'_>,
     input: &mut ParseStream<'_>,
-) -> Result<TypeArray<X>, Error>
+) -> Result<TypeArrayOf<TypeOf<A, E>, A, E>, Error>
     requires few { ahead input.old ≤ length begin.now }
-    ensures reads { Reads (reading.array X.reads (knot.types X.reads (length begin.now)) input.old) result input.new }
+    ensures reads { Reads (reading.array E.reads (knot.types E.reads (length begin.now)) input.old) result input.new }
     ensures within { Follows input.old input.new }
 {
     let (bracket_token, mut content) = open_brackets(alloc, input)?;
-    let elem = parse_nested(alloc, begin, &mut content, true)?;
+    let elem = parse_held(alloc, begin, &mut content, true)?;
     let (semi_token, len) = parse_length(alloc, &mut content)?;
     input.finish(content);
     Ok(TypeArrayOf {
+        attrs: Items::new(alloc),
         bracket_token,
-        elem: Boxed::new(alloc, elem)?,
+        elem,
         semi_token,
         len,
     })
 }
 
 #[tactic(auto, using(token_core::proofs::Suffixes::follows), unfolding(crate::specs::ty::Reading::paren))]
-fn parse_paren_from<X: Subtree>(
+fn parse_paren_from<A: Attributes, E: Value>(
     alloc: Global,
     begin: &Cursor<'_>,
     input: &mut ParseStream<'_>,
-) -> Result<TypeParen<X>, Error>
+) -> Result<TypeParenOf<TypeOf<A, E>, A>, Error>
     requires few { ahead input.old ≤ length begin.now }
-    ensures reads { Reads (reading.paren X.reads (knot.types X.reads (length begin.now)) input.old) result input.new }
+    ensures reads { Reads (reading.paren E.reads (knot.types E.reads (length begin.now)) input.old) result input.new }
     ensures within { Follows input.old input.new }
 {
     let (paren_token, mut content) = open_parens(alloc, input)?;
-    let elem = parse_nested(alloc, begin, &mut content, false)?;
+    let elem = parse_held(alloc, begin, &mut content, false)?;
     input.finish(content);
     Ok(TypeParenOf {
+        attrs: Items::new(alloc),
         paren_token,
-        elem: Boxed::new(alloc, elem)?,
+        elem,
     })
 }
 
 #[tactic(auto, using(token_core::proofs::Suffixes::follows), unfolding(crate::specs::ty::Reading::ptr))]
-fn parse_ptr_from<X: Subtree>(
+fn parse_ptr_from<A: Attributes, E: Value>(
     alloc: Global,
     begin: &Cursor<'_>,
     input: &mut ParseStream<'_>,
-) -> Result<TypePtr<X>, Error>
+) -> Result<TypePtrOf<TypeOf<A, E>, A>, Error>
     requires few { ahead input.old ≤ length begin.now }
-    ensures reads { Reads (reading.ptr X.reads (knot.types X.reads (length begin.now)) input.old) result input.new }
+    ensures reads { Reads (reading.ptr E.reads (knot.types E.reads (length begin.now)) input.old) result input.new }
     ensures within { Follows input.old input.new }
 {
     let star_token = parse_star(alloc, input)?;
     let mutability = parse_mutability(alloc, input)?;
-    let elem = parse_nested(alloc, begin, input, false)?;
+    let elem = parse_held(alloc, begin, input, false)?;
     Ok(TypePtrOf {
+        attrs: Items::new(alloc),
         star_token,
         mutability,
-        elem: Boxed::new(alloc, elem)?,
+        elem,
     })
 }
 
 #[tactic(auto, using(token_core::proofs::Suffixes::follows), unfolding(crate::specs::ty::Reading::reference))]
-fn parse_reference_from<X: Subtree>(
+fn parse_reference_from<A: Attributes, E: Value>(
     alloc: Global,
     begin: &Cursor<'_>,
     input: &mut ParseStream<'_>,
-) -> Result<TypeReference<X>, Error>
+) -> Result<TypeReferenceOf<TypeOf<A, E>, A>, Error>
     requires few { ahead input.old ≤ length begin.now }
-    ensures reads { Reads (reading.reference X.reads (knot.types X.reads (length begin.now)) input.old) result input.new }
+    ensures reads { Reads (reading.reference E.reads (knot.types E.reads (length begin.now)) input.old) result input.new }
     ensures within { Follows input.old input.new }
 {
     let and_token = parse_and(alloc, input)?;
     let lifetime = parse_lifetime(alloc, input)?;
     let mutability = parse_mut(alloc, input)?;
-    let elem = parse_nested(alloc, begin, input, false)?;
+    let elem = parse_held(alloc, begin, input, false)?;
     Ok(TypeReferenceOf {
+        attrs: Items::new(alloc),
         and_token,
         lifetime,
         mutability,
-        elem: Boxed::new(alloc, elem)?,
+        elem,
     })
 }
 
 /// A comma, and the elements of a tuple after the first one.
 #[tactic(auto, using(token_core::proofs::Suffixes::follows), unfolding(crate::specs::ty::Reading::more_elements))]
-fn parse_more_elements<X: Subtree>(
+fn parse_more_elements<A: Attributes, E: Value>(
     alloc: Global,
     begin: &Cursor<'_>,
     input: &mut ParseStream<'_>,
-    first: Type<X>,
-) -> Result<Punctuated<Type<X>, Comma>, Error>
+    first: TypeOf<A, E>,
+) -> Result<Punctuated<TypeOf<A, E>, Comma>, Error>
     requires few { ahead input.old ≤ length begin.now }
-    ensures reads { Reads (reading.more_elements X.reads (knot.types X.reads (length begin.now)) first input.old) result input.new }
+    ensures reads { Reads (reading.more_elements E.reads (knot.types E.reads (length begin.now)) first input.old) result input.new }
     ensures within { Follows input.old input.new }
 {
     let mut elems = Punctuated::new(alloc);
@@ -926,13 +1007,13 @@ fn parse_more_elements<X: Subtree>(
 
 /// What the parentheses of a tuple hold.
 #[tactic(auto, using(token_core::proofs::Suffixes::follows), unfolding(crate::specs::ty::Reading::tuple_content))]
-fn parse_tuple_content<X: Subtree>(
+fn parse_tuple_content<A: Attributes, E: Value>(
     alloc: Global,
     begin: &Cursor<'_>,
     input: &mut ParseStream<'_>,
-) -> Result<Punctuated<Type<X>, Comma>, Error>
+) -> Result<Punctuated<TypeOf<A, E>, Comma>, Error>
     requires few { ahead input.old < length begin.now }
-    ensures reads { Reads (reading.tuple_content X.reads (knot.types X.reads (length begin.now)) input.old) result input.new }
+    ensures reads { Reads (reading.tuple_content E.reads (knot.types E.reads (length begin.now)) input.old) result input.new }
     ensures within { Follows input.old input.new }
 {
     if input.is_empty() {
@@ -943,28 +1024,32 @@ fn parse_tuple_content<X: Subtree>(
 }
 
 #[tactic(auto, using(token_core::proofs::Suffixes::follows), unfolding(crate::specs::ty::Reading::tuple))]
-fn parse_tuple_from<X: Subtree>(
+fn parse_tuple_from<A: Attributes, E: Value>(
     alloc: Global,
     begin: &Cursor<'_>,
     input: &mut ParseStream<'_>,
-) -> Result<TypeTuple<X>, Error>
+) -> Result<TypeTupleOf<TypeOf<A, E>, A>, Error>
     requires few { ahead input.old ≤ length begin.now }
-    ensures reads { Reads (reading.tuple X.reads (knot.types X.reads (length begin.now)) input.old) result input.new }
+    ensures reads { Reads (reading.tuple E.reads (knot.types E.reads (length begin.now)) input.old) result input.new }
     ensures within { Follows input.old input.new }
 {
     let (paren_token, mut content) = open_parens(alloc, input)?;
     let elems = parse_tuple_content(alloc, begin, &mut content)?;
     input.finish(content);
-    Ok(TypeTupleOf { paren_token, elems })
+    Ok(TypeTupleOf {
+        attrs: Items::new(alloc),
+        paren_token,
+        elems,
+    })
 }
 
 /// `[T]`
 #[tactic(auto, unfolding(crate::specs::ty::Knot::slice))]
-pub(crate) fn parse_slice<X: Subtree>(
+pub(crate) fn parse_slice<A: Attributes, E: Value>(
     alloc: Global,
     input: &mut ParseStream<'_>,
-) -> Result<TypeSlice<X>, Error>
-    ensures reads { Reads (knot.slice X.reads input.old) result input.new }
+) -> Result<TypeSliceOf<TypeOf<A, E>, A>, Error>
+    ensures reads { Reads (knot.slice E.reads input.old) result input.new }
     ensures within { Follows input.old input.new }
 {
     let begin = input.cursor();
@@ -973,11 +1058,11 @@ pub(crate) fn parse_slice<X: Subtree>(
 
 /// `[T; n]`
 #[tactic(auto, unfolding(crate::specs::ty::Knot::array))]
-pub(crate) fn parse_array<X: Subtree>(
+pub(crate) fn parse_array<A: Attributes, E: Value>(
     alloc: Global,
     input: &mut ParseStream<'_>,
-) -> Result<TypeArray<X>, Error>
-    ensures reads { Reads (knot.array X.reads input.old) result input.new }
+) -> Result<TypeArrayOf<TypeOf<A, E>, A, E>, Error>
+    ensures reads { Reads (knot.array E.reads input.old) result input.new }
     ensures within { Follows input.old input.new }
 {
     let begin = input.cursor();
@@ -986,11 +1071,11 @@ pub(crate) fn parse_array<X: Subtree>(
 
 /// `*const T`, `*mut T`
 #[tactic(auto, unfolding(crate::specs::ty::Knot::ptr))]
-pub(crate) fn parse_ptr<X: Subtree>(
+pub(crate) fn parse_ptr<A: Attributes, E: Value>(
     alloc: Global,
     input: &mut ParseStream<'_>,
-) -> Result<TypePtr<X>, Error>
-    ensures reads { Reads (knot.ptr X.reads input.old) result input.new }
+) -> Result<TypePtrOf<TypeOf<A, E>, A>, Error>
+    ensures reads { Reads (knot.ptr E.reads input.old) result input.new }
     ensures within { Follows input.old input.new }
 {
     let begin = input.cursor();
@@ -999,11 +1084,11 @@ pub(crate) fn parse_ptr<X: Subtree>(
 
 /// `&'a mut T`
 #[tactic(auto, unfolding(crate::specs::ty::Knot::reference))]
-pub(crate) fn parse_reference<X: Subtree>(
+pub(crate) fn parse_reference<A: Attributes, E: Value>(
     alloc: Global,
     input: &mut ParseStream<'_>,
-) -> Result<TypeReference<X>, Error>
-    ensures reads { Reads (knot.reference X.reads input.old) result input.new }
+) -> Result<TypeReferenceOf<TypeOf<A, E>, A>, Error>
+    ensures reads { Reads (knot.reference E.reads input.old) result input.new }
     ensures within { Follows input.old input.new }
 {
     let begin = input.cursor();
@@ -1012,11 +1097,11 @@ pub(crate) fn parse_reference<X: Subtree>(
 
 /// `(A, B)`
 #[tactic(auto, unfolding(crate::specs::ty::Knot::tuple))]
-pub(crate) fn parse_tuple<X: Subtree>(
+pub(crate) fn parse_tuple<A: Attributes, E: Value>(
     alloc: Global,
     input: &mut ParseStream<'_>,
-) -> Result<TypeTuple<X>, Error>
-    ensures reads { Reads (knot.tuple X.reads input.old) result input.new }
+) -> Result<TypeTupleOf<TypeOf<A, E>, A>, Error>
+    ensures reads { Reads (knot.tuple E.reads input.old) result input.new }
     ensures within { Follows input.old input.new }
 {
     let begin = input.cursor();
@@ -1025,11 +1110,11 @@ pub(crate) fn parse_tuple<X: Subtree>(
 
 /// `(T)`, the type without plus
 #[tactic(auto, unfolding(crate::specs::ty::Knot::paren))]
-pub(crate) fn parse_paren<X: Subtree>(
+pub(crate) fn parse_paren<A: Attributes, E: Value>(
     alloc: Global,
     input: &mut ParseStream<'_>,
-) -> Result<TypeParen<X>, Error>
-    ensures reads { Reads (knot.paren X.reads input.old) result input.new }
+) -> Result<TypeParenOf<TypeOf<A, E>, A>, Error>
+    ensures reads { Reads (knot.paren E.reads input.old) result input.new }
     ensures within { Follows input.old input.new }
 {
     let begin = input.cursor();

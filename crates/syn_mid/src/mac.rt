@@ -13,8 +13,7 @@ ghost use Rattle.syn_mid.specs.mac.Macros as spec;
 ghost use Rattle.syn_mid.specs.mac.Printing as printing;
 ghost use Rattle.syn_mid.specs.mac.Reading as reading;
 
-use crate::path::{Path, PathStyle, print_path};
-use crate::supplied::Subtree;
+use crate::path::{ModPath, print_mod_path};
 use std::alloc::{AllocError, Global};
 use token_core::token::{Brace, Bracket, Not, Paren, surround};
 use token_core::{
@@ -24,8 +23,8 @@ use token_core::{
 
 /// A macro call: a path of mod style, `!`, and a group.
 #[derive(Drop)]
-pub struct Macro<X> {
-    pub path: Path<X>,
+pub struct Macro {
+    pub path: ModPath,
     pub bang_token: Not,
     pub delimiter: MacroDelimiter,
     pub tokens: TokenStream,
@@ -93,24 +92,21 @@ pub(crate) fn parse_body(
 }
 
 #[tactic(auto, using(token_core::proofs::Suffixes::follows), unfolding(crate::specs::mac::Reading::mac))]
-pub(crate) fn parse_macro<X: Drop>(
-    alloc: Global,
-    input: &mut ParseStream<'_>,
-) -> Result<Macro<X>, Error>
+pub(crate) fn parse_macro(alloc: Global, input: &mut ParseStream<'_>) -> Result<Macro, Error>
     ensures reads { Reads (reading.mac input.old) result input.new }
     ensures within { Follows input.old input.new }
 {
-    let path = Path::parse_mod_style(alloc, input)?;
+    let path = ModPath::parse_mod_style(alloc, input)?;
     parse_call_after(alloc, input, path)
 }
 
 /// What follows the path of a macro call: `!` and a group.
 #[tactic(auto, using(token_core::proofs::Suffixes::follows), unfolding(crate::specs::mac::Reading::call_after))]
-pub(crate) fn parse_call_after<X: Drop>(
+pub(crate) fn parse_call_after(
     alloc: Global,
     input: &mut ParseStream<'_>,
-    path: Path<X>,
-) -> Result<Macro<X>, Error>
+    path: ModPath,
+) -> Result<Macro, Error>
     ensures reads { Reads (reading.call_after path input.old) result input.new }
     ensures within { Follows input.old input.new }
 {
@@ -126,15 +122,15 @@ pub(crate) fn parse_call_after<X: Drop>(
 
 /// Reads a macro call: a path of mod style, `!`, and a group, which goes on after the end of an invisible group but
 /// not into one. It is refused as the path is, where no `!` follows, and where no group follows that.
-impl<X: Subtree> Parse for Macro<X> {
-    ghost reads = { Gives (reading.mac {X = X}) };
+impl Parse for Macro {
+    ghost reads = { Gives reading.mac };
 
-    ghost refuses = { Fails (reading.mac {X = X}) };
+    ghost refuses = { Fails reading.mac };
 
-    ghost promise = { Headline (grammars.mac {X = X}) };
+    ghost promise = { Headline grammars.mac };
 
     /// On the front of a list without invisible groups it took what the call spells.
-    fn parse(alloc: Global, input: &mut ParseStream<'_>) -> Result<Macro<X>, Error>
+    fn parse(alloc: Global, input: &mut ParseStream<'_>) -> Result<Macro, Error>
         ensures reads { Reads (reading.mac input.old) result input.new }
         ensures within { Follows input.old input.new }
         ensures front { Visible input.old.rest → IfOk result (λ m. IsMacro false m input.old.rest input.new.rest) }
@@ -144,7 +140,7 @@ impl<X: Subtree> Parse for Macro<X> {
     }
 }
 
-impl<X> Macro<X> {
+impl Macro {
     /// A whole read of the body; refusals at its end point at the closing delimiter.
     pub fn parse_body<T: Parse>(&self, alloc: Global) -> Result<T, Error>
         ensures reads { WholeRead T.reads T.refuses (spec.held self.now.delimiter self.now.tokens) result }
@@ -169,7 +165,7 @@ impl<X> Macro<X> {
 
 // ---- prints
 
-impl<X> ToTokens for Macro<X> {
+impl ToTokens for Macro {
     ghost print = { printing.mac };
 
     fn to_tokens(&self, alloc: Global, out: &mut TokenStream) -> Result<(), AllocError> {
@@ -186,16 +182,16 @@ impl<X> ToTokens for Macro<X> {
 
 /// Appends a macro call; refused, what stood before is kept.
 #[tactic(auto, using(token_core::proofs::Puts::puts))]
-fn print_macro<X>(alloc: Global, mac: &Macro<X>, out: &mut TokenStream) -> Result<(), AllocError>
+fn print_macro(alloc: Global, mac: &Macro, out: &mut TokenStream) -> Result<(), AllocError>
     ensures ok { OnOk result (trees out.new ≡ trees out.old ++ printing.mac mac.now) }
     ensures err { OnErr result (Extends (trees out.old) (trees out.new)) }
 {
-    print_path(alloc, &mac.path, PathStyle::Mod, out)?;
+    print_mod_path(alloc, &mac.path, out)?;
     print_call(alloc, mac, out)
 }
 
 #[tactic(auto, using(token_core::proofs::Puts::puts))]
-fn print_call<X>(alloc: Global, mac: &Macro<X>, out: &mut TokenStream) -> Result<(), AllocError>
+fn print_call(alloc: Global, mac: &Macro, out: &mut TokenStream) -> Result<(), AllocError>
     ensures ok { OnOk result (trees out.new ≡ trees out.old ++ printing.call mac.now) }
     ensures err { OnErr result (Extends (trees out.old) (trees out.new)) }
 {

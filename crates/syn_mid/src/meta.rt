@@ -10,22 +10,21 @@ ghost use Rattle.syn_mid.specs.path.Paths.{first_span};
 ghost use Rattle.syn_mid.specs.meta.Lends.{lends_input, lends_value};
 ghost use Rattle.syn_mid.specs.meta.Turns as spec;
 
-use crate::path::{Path, SegmentStyle, parse_bare_path};
+use crate::path::{ModPath, SegmentStyle, parse_bare_path};
 use std::alloc::Global;
-use std::marker::PhantomData;
 use token_core::token::{Comma, Eq};
 use token_core::{Error, Parse, ParseStream, Parser, Span, TokenStream, read_scoped};
 
 /// A property: its path, and the stream after it, from which a closure reads the rest of the property. It is generic in
 /// its stream, since a caller's proof follows a `&mut` to a field only where the field's type is a parameter.
 #[derive(Drop)]
-pub struct PropertyOf<X, S> {
-    pub path: Path<X>,
+pub struct PropertyOf<S> {
+    pub path: ModPath,
     pub input: S,
 }
 
 /// A property in a stream.
-pub type ParseNestedMeta<'a, X> = PropertyOf<X, ParseStream<'a>>;
+pub type ParseNestedMeta<'a> = PropertyOf<ParseStream<'a>>;
 
 /// What an `=` is read from: a stream.
 pub trait ReadEq {
@@ -46,7 +45,7 @@ impl ReadEq for ParseStream<'_> {
     }
 }
 
-impl<X: Drop, S> PropertyOf<X, S> {
+impl<S> PropertyOf<S> {
     fn into_input(self) -> S
         ensures { result ≡ self.input }
     {
@@ -54,19 +53,19 @@ impl<X: Drop, S> PropertyOf<X, S> {
     }
 }
 
-impl<X, S> PropertyOf<X, S> {
+impl<S> PropertyOf<S> {
     fn input_mut(&mut self) -> &mut S
-        ensures* lends { sem 𝓛 (lends_input X.row S.row self.entry result) }
+        ensures* lends { sem 𝓛 (lends_input S.row self.entry result) }
         ensures value { result.now ≡ self.old.input }
     {
         &mut self.input
     }
 }
 
-impl<X, S: ReadEq> PropertyOf<X, S> {
+impl<S: ReadEq> PropertyOf<S> {
     /// Reads `=`, and lends the stream after it for the value; refused, the stream is as before.
     pub fn value(&mut self, alloc: Global) -> Result<&mut S, Error>
-        ensures* lends { sem 𝓛 (lends_value X.row S.row self.entry result) }
+        ensures* lends { sem 𝓛 (lends_value S.row self.entry result) }
         ensures reads { IfOk result (λ s. S.reads self.old.input (Ok tt) s.now) }
         ensures refuses { IfErr result (λ e. S.reads self.old.input (Err e) self.old.input) }
     {
@@ -75,7 +74,7 @@ impl<X, S: ReadEq> PropertyOf<X, S> {
     }
 }
 
-impl<'a, X> ParseNestedMeta<'a, X> {
+impl<'a> ParseNestedMeta<'a> {
     /// The caller's own refusal, from the first segment of the path to the tree just before the stream's position.
     pub fn error(&self, alloc: Global, text: &str) -> Error
         requires { 0 < length self.now.path.segments.0 }
@@ -85,10 +84,10 @@ impl<'a, X> ParseNestedMeta<'a, X> {
     }
 }
 
-impl<'a, X: Drop> ParseNestedMeta<'a, X> {
+impl<'a> ParseNestedMeta<'a> {
     /// Reads the properties in the parentheses that follow, of which there is at least one.
     #[tactic(auto, using(token_core::proofs::Suffixes::follows))]
-    pub fn parse_nested_meta<F: FnMut(Global, &mut ParseNestedMeta<'_, X>) -> Result<(), Error>>(
+    pub fn parse_nested_meta<F: FnMut(Global, &mut ParseNestedMeta<'_>) -> Result<(), Error>>(
         &mut self,
         alloc: Global,
         logic: F,
@@ -107,24 +106,20 @@ impl<'a, X: Drop> ParseNestedMeta<'a, X> {
 
 /// The parser of nested properties by a closure.
 #[derive(Drop)]
-pub struct NestedMetaParser<F, X> {
+pub struct NestedMetaParser<F> {
     logic: F,
-    of: PhantomData<X>,
 }
 
 /// The parser of properties separated by commas, of which there may be none: the closure is called at each, in order, up
 /// to the first error, and reads what follows the path.
-pub fn parser<F, X>(logic: F) -> NestedMetaParser<F, X>
+pub fn parser<F>(logic: F) -> NestedMetaParser<F>
     ensures { result.logic ≡ logic }
 {
-    NestedMetaParser {
-        logic,
-        of: PhantomData,
-    }
+    NestedMetaParser { logic }
 }
 
-impl<X: Drop, F: FnMut(Global, &mut ParseNestedMeta<'_, X>) -> Result<(), Error>> Parser
-    for NestedMetaParser<F, X> {
+impl<F: FnMut(Global, &mut ParseNestedMeta<'_>) -> Result<(), Error>> Parser
+    for NestedMetaParser<F> {
     type Output = ();
 
     ghost can_parse = { λ _. spec.Careful F.pre F.step };
@@ -135,7 +130,7 @@ impl<X: Drop, F: FnMut(Global, &mut ParseNestedMeta<'_, X>) -> Result<(), Error>
 
     #[tactic(auto, using(token_core::specs::Reads::no_promise, token_core::proofs::Suffixes::follows))]
     fn parse(self, alloc: Global, input: &mut ParseStream<'_>) -> Result<(), Error> {
-        let NestedMetaParser { logic, of: _ } = self;
+        let NestedMetaParser { logic } = self;
         if input.is_empty() {
             return Ok(());
         }
@@ -144,10 +139,12 @@ impl<X: Drop, F: FnMut(Global, &mut ParseNestedMeta<'_, X>) -> Result<(), Error>
 }
 
 /// A whole read of these tokens as properties; refusals at their end point at the scope.
-pub(crate) fn read_properties<
-    X: Drop,
-    F: FnMut(Global, &mut ParseNestedMeta<'_, X>) -> Result<(), Error>,
->(alloc: Global, logic: F, scope: Span, tokens: &TokenStream) -> Result<(), Error>
+pub(crate) fn read_properties<F: FnMut(Global, &mut ParseNestedMeta<'_>) -> Result<(), Error>>(
+    alloc: Global,
+    logic: F,
+    scope: Span,
+    tokens: &TokenStream,
+) -> Result<(), Error>
     requires { spec.Careful F.pre F.step }
     ensures { spec.ReadsProperties F.step logic (started scope (toks tokens.now)) result }
 {
@@ -157,10 +154,11 @@ pub(crate) fn read_properties<
 /// Reads properties, separated by commas, up to the end: a path of any identifiers, and then what the closure reads.
 /// It stops at the first error.
 #[tactic(auto, using(token_core::proofs::Suffixes::forks))]
-pub(crate) fn parse_nested_meta<
-    X: Drop,
-    F: FnMut(Global, &mut ParseNestedMeta<'_, X>) -> Result<(), Error>,
->(alloc: Global, input: &mut ParseStream<'_>, mut logic: F) -> Result<(), Error>
+pub(crate) fn parse_nested_meta<F: FnMut(Global, &mut ParseNestedMeta<'_>) -> Result<(), Error>>(
+    alloc: Global,
+    input: &mut ParseStream<'_>,
+    mut logic: F,
+) -> Result<(), Error>
     requires { spec.Careful F.pre F.step }
     ensures turns { spec.Turned F.step logic input.old result input.new }
     ensures within { Follows input.old input.new }

@@ -12,8 +12,8 @@ ghost use Rattle.syn_mid.specs.pat.Printing as printing;
 use crate::attr::{Attribute, print_outer, print_value};
 use crate::path::{Path, PathStyle, QSelf};
 use crate::supplied::{
-    Expr, ExprConst, ExprConstOf, ExprLit, ExprLitOf, ExprMacro, ExprMacroOf, ExprPath, ExprPathOf,
-    ExprRange, Place, Subtree,
+    Expr, ExprConst, ExprConstOf, ExprLit, ExprLitOf, ExprMacro, ExprMacroOf, ExprRange, Place,
+    Subtree,
 };
 use crate::ty::{
     Type, print_last_comma, print_lone_comma, print_qpath, print_type, print_verbatim, print_word,
@@ -27,39 +27,39 @@ use token_core::{Boxed, Ident, Items, Member, Pair, Punctuated, ToTokens, TokenS
 /// A pattern, over its attributes and what qualifies its paths.
 #[cycle(pats)]
 #[derive(Drop)]
-pub enum PatOf<A, Q, X> {
+pub enum PatOf<A, P, Q, T, X> {
     /// `const { .. }`
     Const(ExprConstOf<A, X>),
     /// `a if b`
-    Guard(PatGuardOf<PatOf<A, Q, X>, A, X>),
+    Guard(PatGuardOf<PatOf<A, P, Q, T, X>, A, X>),
     /// `ref mut a @ b`
-    Ident(PatIdentOf<PatOf<A, Q, X>, A>),
+    Ident(PatIdentOf<PatOf<A, P, Q, T, X>, A>),
     /// `1`
     Lit(ExprLitOf<A>),
     /// `a!(b)`
-    Macro(ExprMacroOf<A, X>),
+    Macro(ExprMacroOf<A>),
     /// `a | b`
-    Or(PatOrOf<PatOf<A, Q, X>, A>),
+    Or(PatOrOf<PatOf<A, P, Q, T, X>, A>),
     /// `(a)`
-    Paren(PatParenOf<PatOf<A, Q, X>, A>),
+    Paren(PatParenOf<PatOf<A, P, Q, T, X>, A>),
     /// `a::b`
-    Path(ExprPathOf<A, X>),
+    Path(PatPathOf<A, P, Q>),
     /// `1..=2`
     Range(ExprRange<X>),
     /// `&mut a`
-    Reference(PatReferenceOf<PatOf<A, Q, X>, A>),
+    Reference(PatReferenceOf<PatOf<A, P, Q, T, X>, A>),
     /// `..`
-    Rest(PatRest<X>),
+    Rest(PatRestOf<A>),
     /// `[a, b, ..]`
-    Slice(PatSliceOf<PatOf<A, Q, X>, A>),
+    Slice(PatSliceOf<PatOf<A, P, Q, T, X>, A>),
     /// `A { x, y: b, .. }`
-    Struct(PatStructOf<PatOf<A, Q, X>, A, Q, X>),
+    Struct(PatStructOf<PatOf<A, P, Q, T, X>, A, P, Q>),
     /// `(a, b)`
-    Tuple(PatTupleOf<PatOf<A, Q, X>, A>),
+    Tuple(PatTupleOf<PatOf<A, P, Q, T, X>, A>),
     /// `A(b, ..)`
-    TupleStruct(PatTupleStructOf<PatOf<A, Q, X>, A, Q, X>),
+    TupleStruct(PatTupleStructOf<PatOf<A, P, Q, T, X>, A, P, Q>),
     /// `a: T`
-    Type(PatTypeOf<PatOf<A, Q, X>, A, X>),
+    Type(PatTypeOf<PatOf<A, P, Q, T, X>, A, T>),
     /// Tokens that no other case holds.
     Verbatim(TokenStream),
     /// `_`
@@ -67,7 +67,7 @@ pub enum PatOf<A, Q, X> {
 }
 
 /// A pattern.
-pub type Pat<X> = PatOf<Attribute<X>, QSelf<X>, X>;
+pub type Pat<X> = PatOf<Attribute<X>, Path<X>, QSelf<X>, Type<X>, X>;
 
 /// A const block as a pattern.
 pub type PatConst<X> = ExprConst<X>;
@@ -125,8 +125,16 @@ pub struct PatParenOf<P, A> {
 /// A pattern in parentheses.
 pub type PatParen<X> = PatParenOf<Pat<X>, Attribute<X>>;
 
-/// A path as a pattern.
-pub type PatPath<X> = ExprPath<X>;
+/// A path as a pattern, over the path and what qualifies it.
+#[derive(Drop)]
+pub struct PatPathOf<A, P, Q> {
+    pub attrs: Items<A>,
+    pub qself: Option<Q>,
+    pub path: P,
+}
+
+/// A path as a pattern, which a type may qualify.
+pub type PatPath<X> = PatPathOf<Attribute<X>, Path<X>, QSelf<X>>;
 
 /// A range as a pattern.
 pub type PatRange<X> = ExprRange<X>;
@@ -145,10 +153,13 @@ pub type PatReference<X> = PatReferenceOf<Pat<X>, Attribute<X>>;
 
 /// What is left over: `..`.
 #[derive(Drop)]
-pub struct PatRest<X> {
-    pub attrs: Items<Attribute<X>>,
+pub struct PatRestOf<A> {
+    pub attrs: Items<A>,
     pub dot2_token: DotDot,
 }
+
+/// The rest of a list of patterns: `..`.
+pub type PatRest<X> = PatRestOf<Attribute<X>>;
 
 /// A pattern of a slice, over its elements' pattern.
 #[derive(Drop)]
@@ -163,17 +174,17 @@ pub type PatSlice<X> = PatSliceOf<Pat<X>, Attribute<X>>;
 
 /// A pattern of a struct, over its fields' pattern and what qualifies its path.
 #[derive(Drop)]
-pub struct PatStructOf<P, A, Q, X> {
+pub struct PatStructOf<P, A, R, Q> {
     pub attrs: Items<A>,
     pub qself: Option<Q>,
-    pub path: Path<X>,
+    pub path: R,
     pub brace_token: Brace,
     pub fields: Punctuated<FieldPatOf<P, A>, Comma>,
-    pub rest: Option<PatRest<X>>,
+    pub rest: Option<PatRestOf<A>>,
 }
 
 /// A pattern of a struct: a path, perhaps a qualified one, and in braces fields joined by commas, perhaps `..` at the end.
-pub type PatStruct<X> = PatStructOf<Pat<X>, Attribute<X>, QSelf<X>, X>;
+pub type PatStruct<X> = PatStructOf<Pat<X>, Attribute<X>, Path<X>, QSelf<X>>;
 
 /// A pattern of a tuple, over its elements' pattern.
 #[derive(Drop)]
@@ -188,28 +199,28 @@ pub type PatTuple<X> = PatTupleOf<Pat<X>, Attribute<X>>;
 
 /// A pattern of a tuple struct, over its elements' pattern and what qualifies its path.
 #[derive(Drop)]
-pub struct PatTupleStructOf<P, A, Q, X> {
+pub struct PatTupleStructOf<P, A, R, Q> {
     pub attrs: Items<A>,
     pub qself: Option<Q>,
-    pub path: Path<X>,
+    pub path: R,
     pub paren_token: Paren,
     pub elems: Punctuated<P, Comma>,
 }
 
 /// A pattern of a tuple struct: a path, perhaps a qualified one, and patterns in parentheses, joined by commas.
-pub type PatTupleStruct<X> = PatTupleStructOf<Pat<X>, Attribute<X>, QSelf<X>, X>;
+pub type PatTupleStruct<X> = PatTupleStructOf<Pat<X>, Attribute<X>, Path<X>, QSelf<X>>;
 
 /// A pattern with its type, over that pattern.
 #[derive(Drop)]
-pub struct PatTypeOf<P, A, X> {
+pub struct PatTypeOf<P, A, T> {
     pub attrs: Items<A>,
     pub pat: Boxed<P>,
     pub colon_token: Colon,
-    pub ty: Boxed<Type<X>>,
+    pub ty: Boxed<T>,
 }
 
 /// A pattern with its type: a pattern, `:`, a type.
-pub type PatType<X> = PatTypeOf<Pat<X>, Attribute<X>, X>;
+pub type PatType<X> = PatTypeOf<Pat<X>, Attribute<X>, Type<X>>;
 
 /// A pattern of any value: `_`.
 #[derive(Drop)]
@@ -451,6 +462,21 @@ impl<X: Subtree> ToTokens for PatParen<X> {
     fn to_tokens(&self, alloc: Global, out: &mut TokenStream) -> Result<(), AllocError> {
         let before = out.len();
         match print_paren(alloc, self, out) {
+            Ok(()) => Ok(()),
+            Err(error) => {
+                out.truncate(before);
+                Err(error)
+            }
+        }
+    }
+}
+
+impl<X: Subtree> ToTokens for PatPath<X> {
+    ghost print = { printing.by_path X.prints };
+
+    fn to_tokens(&self, alloc: Global, out: &mut TokenStream) -> Result<(), AllocError> {
+        let before = out.len();
+        match print_by_path(alloc, self, out) {
             Ok(()) => Ok(()),
             Err(error) => {
                 out.truncate(before);
@@ -725,6 +751,19 @@ fn print_slice<X: Subtree>(
     let mut content = TokenStream::new(alloc);
     print_slice_elements(alloc, pat, &mut content)?;
     pat.bracket_token.surround(content, out)
+}
+
+#[tactic(auto, using(token_core::proofs::Puts::puts))]
+fn print_by_path<X: Subtree>(
+    alloc: Global,
+    pat: &PatPath<X>,
+    out: &mut TokenStream,
+) -> Result<(), AllocError>
+    ensures ok { OnOk result (trees out.new ≡ trees out.old ++ printing.by_path X.prints pat.now) }
+    ensures err { OnErr result (Extends (trees out.old) (trees out.new)) }
+{
+    print_outer(alloc, &pat.attrs, out)?;
+    print_qpath(alloc, &pat.qself, &pat.path, PathStyle::Expr, out)
 }
 
 #[cycle(print)]
@@ -1012,9 +1051,9 @@ fn print_field<X: Subtree>(
 
 /// The `..` of a struct's pattern, after a comma that sets it apart from the last field.
 #[tactic(auto, using(token_core::proofs::Puts::puts))]
-fn print_struct_rest<P, Q, X: Subtree>(
+fn print_struct_rest<P, Q, R, X: Subtree>(
     alloc: Global,
-    pat: &PatStructOf<P, Attribute<X>, Q, X>,
+    pat: &PatStructOf<P, Attribute<X>, R, Q>,
     out: &mut TokenStream,
 ) -> Result<(), AllocError>
     ensures ok { OnOk result (trees out.new ≡ trees out.old ++ printing.struct_rest X.prints pat.now) }

@@ -1,72 +1,186 @@
 //! Paths.
 
-ghost use Rattle.std.specs.Prelude.{◌≡◌, ◌++◌, ◌<◌, length, false, true, option_map, IfOk, IfErr, OnOk, OnErr};
+ghost use Rattle.std.specs.Prelude.{◌≡◌, refl, [], ◌∷◌, ◌++◌, ◌<◌, length, Bool, false, true, option_map, IfOk, IfErr, OnOk, OnErr};
 ghost use Rattle.token_core.specs.Rebuilt.{Visible};
 ghost use Rattle.token_core.specs.Refusal.{Made};
+ghost use Rattle.token_core.specs.Joined.{values_of, marks_of};
 ghost use Rattle.token_core.specs.Spans.{none};
 ghost use Rattle.token_core.specs.Trees.{trees};
-ghost use Rattle.token_core.specs.Prints as prints;
-ghost use Rattle.token_core.specs.Prints.{Extends};
+ghost use Rattle.token_core.specs.Prints.{Print, Extends};
 ghost use Rattle.token_core.specs.Reads.{Reads, Follows, sees_word};
 ghost use Rattle.token_core.specs.Headline.{Heads};
+ghost use Rattle.syn_mid.specs.generics.Members as members;
 ghost use Rattle.syn_mid.specs.path.Grammars as grammars;
 ghost use Rattle.syn_mid.specs.path.Paths as spec;
 ghost use Rattle.syn_mid.specs.path.Printing as printing;
 ghost use Rattle.syn_mid.specs.path.Reading as reading;
+ghost use Rattle.syn_mid.specs.path.Shapes as shapes;
+ghost use Rattle.syn_mid.specs.path.Silent.{silent};
 ghost use Rattle.syn_mid.specs.path.Spelling.{IsModPath, is_mod_word, is_type_word};
+ghost use Rattle.syn_mid.specs.ty.Printing as types;
 
-use crate::ty::Type;
+use crate::attr::Attribute;
+use crate::generics::{Member, TypeParamBoundOf, print_added_comma, print_bound};
+use crate::supplied::{Attributes, Expr, Subtree, Value};
+use crate::ty::{
+    NamedArg, NamedArgOf, ReturnTypeOf, Type, TypeOf, bound_parts, print_arg_name, print_type,
+};
 use std::alloc::{AllocError, Global};
-use std::marker::PhantomData;
 use token_core::token::{
-    As, Crate, Gt, Le, Lt, Paren, PathSep, SelfType, SelfValue, ShlEq, Super, Try,
+    As, Colon, Comma, Crate, Eq, Gt, Le, Lt, Paren, PathSep, Plus, RArrow, SelfType, SelfValue,
+    ShlEq, Super, Try,
 };
 use token_core::{
-    Boxed, Error, ErrorKind, Ident, Lit, ParseStream, Punctuated, Span, Text, ToTokens, Token,
-    TokenStream,
+    Boxed, Error, ErrorKind, Ident, Lifetime, Lit, Pair, ParseStream, Punctuated, Span, Text,
+    ToTokens, Token, TokenStream,
 };
 
-/// A path: an optional leading `::`, and segments joined by `::`.
+/// A path, over what stands in the place of its segments' arguments: an optional leading `::`, and segments joined by `::`.
 #[derive(Drop)]
-pub struct Path<X> {
+pub struct PathOf<A> {
     pub leading_colon: Option<PathSep>,
-    pub segments: Punctuated<PathSegment<X>, PathSep>,
+    pub segments: Punctuated<PathSegmentOf<A>, PathSep>,
 }
 
 /// A segment of a path: its identifier and its arguments.
 #[derive(Drop)]
-pub struct PathSegment<X> {
+pub struct PathSegmentOf<A> {
     pub ident: Ident,
-    pub arguments: PathArguments<X>,
+    pub arguments: A,
+}
+
+/// A path whose segments may have arguments, as in a type.
+pub type Path<X> = PathOf<PathArguments<X>>;
+
+/// A segment that may have arguments.
+pub type PathSegment<X> = PathSegmentOf<PathArguments<X>>;
+
+/// A path without arguments: of a macro, of an attribute, of an expression.
+pub type ModPath = PathOf<NoArguments>;
+
+/// A segment without arguments.
+pub type ModSegment = PathSegmentOf<NoArguments>;
+
+/// What may stand in the place of a segment's arguments.
+pub trait Arguments: Drop {
+    /// There are none.
+    ghost absent: { Self };
+
+    /// Whether there are none.
+    ghost is_absent: { Self → Bool };
+
+    /// What they print as they stand.
+    ghost shown: { Self → Print };
+
+    /// Where there are none, nothing is printed.
+    ghost silent: { shown absent ≡ [] };
+
+    fn none() -> Self
+        ensures { result ≡ absent };
+
+    fn are_none(&self) -> bool
+        ensures { result ≡ is_absent self.now };
+}
+
+/// The arguments of a segment that has none.
+#[derive(Clone, Copy, Default)]
+pub struct NoArguments {}
+
+/// The arguments of a segment, over the attributes and expressions in them.
+#[cycle(types)]
+#[derive(Drop)]
+pub enum PathArgumentsOf<A, E> {
+    None,
+    /// `<'a, T>`
+    AngleBracketed(AngleBracketedGenericArgumentsOf<GenericArgumentOf<A, E>>),
+    /// `(A, B) -> C`
+    Parenthesized(ParenthesizedGenericArgumentsOf<TypeOf<A, E>, A>),
 }
 
 /// The arguments of a segment.
-#[derive(Drop)]
-pub enum PathArguments<X> {
-    None,
-    /// `<'a, T>`
-    AngleBracketed(AngleBracketedGenericArguments<X>),
-    /// `(A, B) -> C`
-    Parenthesized(ParenthesizedGenericArguments<X>),
-}
+pub type PathArguments<X> = PathArgumentsOf<Attribute<X>, Expr<X>>;
 
-/// Arguments between angle marks. What stands between them comes with the types of arguments.
+/// Arguments between angle marks, over them.
 #[derive(Drop)]
-pub struct AngleBracketedGenericArguments<X> {
+pub struct AngleBracketedGenericArgumentsOf<G> {
     pub colon2_token: Option<PathSep>,
     pub lt_token: Lt,
-    /// In place of the arguments.
-    pub args: PhantomData<X>,
+    pub args: Punctuated<G, Comma>,
     pub gt_token: Gt,
 }
 
-/// Arguments in parentheses. What stands in them, and their output, come with the types.
+/// Arguments between angle marks: `<'a, T>`.
+pub type AngleBracketedGenericArguments<X> = AngleBracketedGenericArgumentsOf<GenericArgument<X>>;
+
+/// Arguments in parentheses and their output, over their types.
 #[derive(Drop)]
-pub struct ParenthesizedGenericArguments<X> {
+pub struct ParenthesizedGenericArgumentsOf<T, A> {
     pub paren_token: Paren,
-    /// In place of the inputs.
-    pub inputs: PhantomData<X>,
+    pub inputs: Punctuated<NamedArgOf<T, A>, Comma>,
+    pub output: ReturnTypeOf<T>,
 }
+
+/// Arguments in parentheses and their output: `(A, B) -> C`.
+pub type ParenthesizedGenericArguments<X> = ParenthesizedGenericArgumentsOf<Type<X>, Attribute<X>>;
+
+/// An argument between angle marks.
+#[cycle(types)]
+#[derive(Drop)]
+pub enum GenericArgumentOf<A, E> {
+    /// `'a`
+    Lifetime(Lifetime),
+    /// `T`
+    Type(TypeOf<A, E>),
+    /// `{ n + 1 }`
+    Const(E),
+    /// `Item = T`
+    AssocType(AssocTypeOf<A, E>),
+    /// `N = 1`
+    AssocConst(AssocConstOf<GenericArgumentOf<A, E>, E>),
+    /// `Item: A + B`
+    Constraint(ConstraintOf<A, E>),
+}
+
+/// An argument between angle marks.
+pub type GenericArgument<X> = GenericArgumentOf<Attribute<X>, Expr<X>>;
+
+/// What an associated type is: `Item = T`.
+#[cycle(types)]
+#[derive(Drop)]
+pub struct AssocTypeOf<A, E> {
+    pub ident: Ident,
+    pub generics: Option<AngleBracketedGenericArgumentsOf<GenericArgumentOf<A, E>>>,
+    pub eq_token: Eq,
+    pub ty: TypeOf<A, E>,
+}
+
+/// What an associated type is: `Item = T`.
+pub type AssocType<X> = AssocTypeOf<Attribute<X>, Expr<X>>;
+
+/// What an associated constant is, over the arguments of its name and its value: `N = 1`.
+#[derive(Drop)]
+pub struct AssocConstOf<G, E> {
+    pub ident: Ident,
+    pub generics: Option<AngleBracketedGenericArgumentsOf<G>>,
+    pub eq_token: Eq,
+    pub value: E,
+}
+
+/// What an associated constant is: `N = 1`.
+pub type AssocConst<X> = AssocConstOf<GenericArgument<X>, Expr<X>>;
+
+/// The bounds of an associated type: `Item: A + B`.
+#[cycle(types)]
+#[derive(Drop)]
+pub struct ConstraintOf<A, E> {
+    pub ident: Ident,
+    pub generics: Option<AngleBracketedGenericArgumentsOf<GenericArgumentOf<A, E>>>,
+    pub colon_token: Colon,
+    pub bounds: Punctuated<TypeParamBoundOf<A, E>, Plus>,
+}
+
+/// The bounds of an associated type: `Item: A + B`.
+pub type Constraint<X> = ConstraintOf<Attribute<X>, Expr<X>>;
 
 /// What qualifies a path, over that type: `<T as ..>` before it.
 #[derive(Drop)]
@@ -100,67 +214,110 @@ pub(crate) enum PathStyle {
     Expr,
     /// As they stand.
     AsWritten,
-    /// Not at all.
-    Mod,
 }
 
-impl<X> Default for PathArguments<X> {
+impl<A, E> Default for PathArgumentsOf<A, E> {
     ghost is_default = { λ a. a ≡ spec.no_arguments };
 
-    fn default() -> PathArguments<X> {
-        PathArguments::None
+    fn default() -> PathArgumentsOf<A, E> {
+        PathArgumentsOf::None
     }
 }
 
-impl<X> PathArguments<X> {
+impl<A, E> PathArgumentsOf<A, E> {
+    /// Whether no argument is there: in parentheses there may be none, and yet they are arguments.
+    pub fn is_empty(&self) -> bool
+        ensures { result ≡ spec.is_empty self.now }
+    {
+        match self {
+            PathArgumentsOf::None => true,
+            PathArgumentsOf::AngleBracketed(arguments) => arguments.args.is_empty(),
+            PathArgumentsOf::Parenthesized(_) => false,
+        }
+    }
+
     pub fn is_none(&self) -> bool
         ensures { result ≡ spec.is_none self.now }
     {
         match self {
-            PathArguments::None => true,
-            PathArguments::AngleBracketed(_) => false,
-            PathArguments::Parenthesized(_) => false,
+            PathArgumentsOf::None => true,
+            PathArgumentsOf::AngleBracketed(_) => false,
+            PathArgumentsOf::Parenthesized(_) => false,
         }
     }
 }
 
-impl<X> From<Ident> for PathSegment<X> {
-    ghost from_gives = { λ ident segment. segment ≡ spec.segment_of ident };
+impl<A: Attributes, E: Value> Arguments for PathArgumentsOf<A, E> {
+    ghost absent = { spec.no_arguments };
 
-    fn from(ident: Ident) -> PathSegment<X> {
-        PathSegment {
+    ghost is_absent = { spec.is_none };
+
+    ghost shown = { types.arguments A.shown E.values shapes.as_written };
+
+    ghost silent = { silent A.shown E.values };
+
+    fn none() -> PathArgumentsOf<A, E> {
+        PathArgumentsOf::None
+    }
+
+    fn are_none(&self) -> bool {
+        self.is_none()
+    }
+}
+
+impl Arguments for NoArguments {
+    ghost absent = { spec.nothing };
+
+    ghost is_absent = { λ a. true };
+
+    ghost shown = { λ a. [] };
+
+    ghost silent = { refl };
+
+    fn none() -> NoArguments {
+        NoArguments {}
+    }
+
+    fn are_none(&self) -> bool {
+        true
+    }
+}
+
+impl<A: Arguments> From<Ident> for PathSegmentOf<A> {
+    ghost from_gives = { λ ident segment. segment ≡ spec.segment_of A.absent ident };
+
+    fn from(ident: Ident) -> PathSegmentOf<A> {
+        PathSegmentOf {
             ident,
-            arguments: PathArguments::None,
+            arguments: A::none(),
         }
     }
 }
 
-impl<X: Drop> Path<X> {
+impl<A: Arguments> PathOf<A> {
     /// The path of one segment, without a leading colon.
-    pub fn from_segment(alloc: Global, segment: PathSegment<X>) -> Result<Path<X>, AllocError>
+    pub fn from_segment(alloc: Global, segment: PathSegmentOf<A>) -> Result<PathOf<A>, AllocError>
         ensures { IfOk result (λ p. p ≡ spec.lone segment) }
     {
         let mut segments = Punctuated::new(alloc);
         segments.push_value(alloc, segment)?;
-        Ok(Path {
+        Ok(PathOf {
             leading_colon: None,
             segments,
         })
     }
 
     /// The path of one identifier, without a leading colon.
-    pub fn from_ident(alloc: Global, ident: Ident) -> Result<Path<X>, AllocError>
-        ensures { IfOk result (λ p. p ≡ spec.lone (spec.segment_of ident)) }
+    pub fn from_ident(alloc: Global, ident: Ident) -> Result<PathOf<A>, AllocError>
+        ensures { IfOk result (λ p. p ≡ spec.lone (spec.segment_of A.absent ident)) }
     {
-        Path::from_segment(alloc, PathSegment::from(ident))
+        PathOf::from_segment(alloc, PathSegmentOf::from(ident))
     }
-}
 
-impl<X> Path<X> {
     /// The identifier of a path that is one: no leading colon, one segment, no arguments.
     #[tactic(auto, using(crate::specs::path::Paths::firsts))]
     pub fn get_ident(&self) -> Option<&Ident>
-        ensures { option_map (λ i. i.now) result ≡ spec.lone_ident self.now }
+        ensures { option_map (λ i. i.now) result ≡ spec.lone_ident A.is_absent self.now }
     {
         if self.leading_colon.is_some() || self.segments.value(1).is_some() {
             return None;
@@ -174,8 +331,8 @@ impl<X> Path<X> {
     /// The identifier of a path that is one. Another path is refused from its first to its last segment.
     pub fn require_ident(&self, alloc: Global) -> Result<&Ident, Error>
         requires { 0 < length self.now.segments.0 }
-        ensures ok { IfOk result (λ i. spec.lone_ident self.now ≡ Some i.now) }
-        ensures err { IfErr result (λ e. spec.lone_ident self.now ≡ None) }
+        ensures ok { IfOk result (λ i. spec.lone_ident A.is_absent self.now ≡ Some i.now) }
+        ensures err { IfErr result (λ e. spec.lone_ident A.is_absent self.now ≡ None) }
         ensures refusal { IfErr result (λ e. Made e (spec.no_ident self.now)) }
     {
         match self.get_ident() {
@@ -222,7 +379,7 @@ impl<X> Path<X> {
 
     /// Whether the path is this identifier.
     pub fn is_ident(&self, text: &str) -> bool
-        ensures { result ≡ spec.is_text text.now (spec.lone_ident self.now) }
+        ensures { result ≡ spec.is_text text.now (spec.lone_ident A.is_absent self.now) }
     {
         match self.get_ident() {
             Some(ident) => ident.text.is(text),
@@ -233,10 +390,10 @@ impl<X> Path<X> {
 
 /// A text with the path's identifiers in it, joined by `::`, after a leading `::` if the path has one.
 #[tactic(auto, using(crate::proofs::path_laws::Texts::texts))]
-pub(crate) fn text_around<X>(
+pub(crate) fn text_around<A>(
     alloc: Global,
     before: &str,
-    path: &Path<X>,
+    path: &PathOf<A>,
     after: &str,
 ) -> Result<Text, AllocError>
     ensures { IfOk result (λ t. t ≡ before.now ++ (spec.path_text path.now ++ after.now)) }
@@ -254,12 +411,12 @@ pub(crate) fn text_around<X>(
     Ok(text)
 }
 
-impl<X> PathSegment<X> {
+impl<A: Arguments> PathSegmentOf<A> {
     /// The identifier of a segment without arguments.
     fn ident_if_bare(&self) -> Option<&Ident>
-        ensures { option_map (λ i. i.now) result ≡ spec.bare self.now.ident self.now.arguments }
+        ensures { option_map (λ i. i.now) result ≡ spec.bare A.is_absent self.now }
     {
-        if self.arguments.is_none() {
+        if self.arguments.are_none() {
             Some(&self.ident)
         } else {
             None
@@ -267,17 +424,17 @@ impl<X> PathSegment<X> {
     }
 }
 
-impl<X: Drop> Path<X> {
+impl<A: Arguments> PathOf<A> {
     /// Reads a path of mod style: an optional `::`, and identifiers, `super`, `self`, `Self` or `crate` joined by `::`,
     /// without arguments. It is refused where no segment begins, and after a `::` that none follows.
     ///
     /// On the front of a list without invisible groups it took what the path spells. Where the stream has no left-over tree, a whole read that begins here keeps the promise of the grammar: it
     /// answers only a path that spells the list, the path that a list spells clearly, and its print is read again.
-    pub fn parse_mod_style(alloc: Global, input: &mut ParseStream<'_>) -> Result<Path<X>, Error>
-        ensures reads { Reads (reading.mod_style input.old) result input.new }
+    pub fn parse_mod_style(alloc: Global, input: &mut ParseStream<'_>) -> Result<PathOf<A>, Error>
+        ensures reads { Reads (reading.mod_style A.absent input.old) result input.new }
         ensures within { Follows input.old input.new }
-        ensures front { Visible input.old.rest → IfOk result (λ p. IsModPath false p input.old.rest input.new.rest) }
-        ensures headline { Heads grammars.mod_style input.old result input.new }
+        ensures front { Visible input.old.rest → IfOk result (λ p. IsModPath false A.absent p input.old.rest input.new.rest) }
+        ensures headline { Heads (grammars.mod_style A.absent A.shown) input.old result input.new }
     {
         parse_bare_path(alloc, input, SegmentStyle::Mod)
     }
@@ -285,17 +442,17 @@ impl<X: Drop> Path<X> {
 
 /// A path without arguments.
 #[tactic(auto, using(token_core::proofs::Suffixes::follows), unfolding(crate::specs::path::Reading::bare_path))]
-pub(crate) fn parse_bare_path<X: Drop>(
+pub(crate) fn parse_bare_path<A: Arguments>(
     alloc: Global,
     input: &mut ParseStream<'_>,
     style: SegmentStyle,
-) -> Result<Path<X>, Error>
-    ensures reads { Reads (reading.bare_path style input.old) result input.new }
+) -> Result<PathOf<A>, Error>
+    ensures reads { Reads (reading.bare_path A.absent style input.old) result input.new }
     ensures within { Follows input.old input.new }
 {
     let leading_colon = parse_leading(alloc, input)?;
     let segments = parse_bare_segments(alloc, input, style)?;
-    Ok(Path {
+    Ok(PathOf {
         leading_colon,
         segments,
     })
@@ -305,11 +462,11 @@ pub(crate) fn parse_bare_path<X: Drop>(
 /// joined by `::`, without arguments. It stops before a `::` and a parenthesis. It is refused where no segment begins, and
 /// where a `<` follows, since arguments between angle marks are not read yet.
 #[tactic(auto, using(token_core::proofs::Suffixes::follows), unfolding(crate::specs::path::Reading::plain_path))]
-pub(crate) fn parse_plain_path<X: Drop>(
+pub(crate) fn parse_plain_path<A: Arguments>(
     alloc: Global,
     input: &mut ParseStream<'_>,
-) -> Result<Path<X>, Error>
-    ensures reads { Reads (reading.plain_path input.old) result input.new }
+) -> Result<PathOf<A>, Error>
+    ensures reads { Reads (reading.plain_path A.absent input.old) result input.new }
     ensures within { Follows input.old input.new }
 {
     let path = parse_bare_path(alloc, input, SegmentStyle::Plain)?;
@@ -417,28 +574,28 @@ fn no_segment(alloc: Global, input: &ParseStream<'_>, style: SegmentStyle, is_fi
 
 /// A segment without arguments.
 #[tactic(auto, using(token_core::proofs::Suffixes::follows), unfolding(crate::specs::path::Reading::bare_segment))]
-fn parse_bare_segment<X>(
+fn parse_bare_segment<A: Arguments>(
     alloc: Global,
     input: &mut ParseStream<'_>,
     style: SegmentStyle,
     is_first: bool,
-) -> Result<PathSegment<X>, Error>
-    ensures reads { Reads (reading.bare_segment style is_first input.old) result input.new }
+) -> Result<PathSegmentOf<A>, Error>
+    ensures reads { Reads (reading.bare_segment A.absent style is_first input.old) result input.new }
     ensures within { Follows input.old input.new }
 {
     if begins_segment(input, style) {
-        return Ok(PathSegment::from(Ident::parse_any(alloc, input)?));
+        return Ok(PathSegmentOf::from(Ident::parse_any(alloc, input)?));
     }
     Err(no_segment(alloc, input, style, is_first))
 }
 
 #[tactic(auto, using(token_core::proofs::Suffixes::follows))]
-fn parse_bare_segments<X: Drop>(
+fn parse_bare_segments<A: Arguments>(
     alloc: Global,
     input: &mut ParseStream<'_>,
     style: SegmentStyle,
-) -> Result<Punctuated<PathSegment<X>, PathSep>, Error>
-    ensures reads { Reads (reading.bare_segments style true input.old) result input.new }
+) -> Result<Punctuated<PathSegmentOf<A>, PathSep>, Error>
+    ensures reads { Reads (reading.bare_segments A.absent style true input.old) result input.new }
     ensures within { Follows input.old input.new }
 {
     let mut segments = Punctuated::new(alloc);
@@ -452,10 +609,49 @@ fn parse_bare_segments<X: Drop>(
     }
 }
 
+/// The path without its arguments.
+pub(crate) fn without_arguments<A>(alloc: Global, path: &PathOf<A>) -> Result<ModPath, AllocError>
+    ensures { IfOk result (λ p. p ≡ spec.without spec.nothing path.now) }
+{
+    let segments = bare_segments(alloc, &path.segments)?;
+    Ok(PathOf {
+        leading_colon: path.leading_colon,
+        segments,
+    })
+}
+
+#[tactic(auto, using(crate::proofs::path_laws::Texts::texts))]
+fn bare_segments<A>(
+    alloc: Global,
+    segments: &Punctuated<PathSegmentOf<A>, PathSep>,
+) -> Result<Punctuated<ModSegment, PathSep>, AllocError>
+    ensures { IfOk result (λ v. v ≡ spec.segments_without spec.nothing segments.now) }
+{
+    let (pairs, last) = segments.parts();
+    let mut bare = Punctuated::new(alloc);
+    for pair in pairs {
+        bare.push_value(alloc, bare_segment(alloc, &pair.value)?)?;
+        bare.push_punct(pair.mark)?;
+    }
+    match last {
+        Some(segment) => {
+            bare.push_value(alloc, bare_segment(alloc, segment)?)?;
+            Ok(bare)
+        }
+        None => Ok(bare),
+    }
+}
+
+fn bare_segment<A>(alloc: Global, segment: &PathSegmentOf<A>) -> Result<ModSegment, AllocError>
+    ensures { IfOk result (λ s. s ≡ spec.segment_of spec.nothing segment.now.ident) }
+{
+    Ok(ModSegment::from(segment.ident.copy(alloc)?))
+}
+
 // ---- prints
 
-impl<X> ToTokens for Path<X> {
-    ghost print = { printing.path printing.as_written };
+impl<A: Attributes, E: Value> ToTokens for PathOf<PathArgumentsOf<A, E>> {
+    ghost print = { printing.path A.shown E.values shapes.as_written };
 
     fn to_tokens(&self, alloc: Global, out: &mut TokenStream) -> Result<(), AllocError> {
         let before = out.len();
@@ -469,8 +665,23 @@ impl<X> ToTokens for Path<X> {
     }
 }
 
-impl<X> ToTokens for PathSegment<X> {
-    ghost print = { printing.segment printing.as_written };
+impl ToTokens for ModPath {
+    ghost print = { shapes.mod_path };
+
+    fn to_tokens(&self, alloc: Global, out: &mut TokenStream) -> Result<(), AllocError> {
+        let before = out.len();
+        match print_mod_path(alloc, self, out) {
+            Ok(()) => Ok(()),
+            Err(error) => {
+                out.truncate(before);
+                Err(error)
+            }
+        }
+    }
+}
+
+impl<A: Attributes, E: Value> ToTokens for PathSegmentOf<PathArgumentsOf<A, E>> {
+    ghost print = { printing.segment A.shown E.values shapes.as_written };
 
     fn to_tokens(&self, alloc: Global, out: &mut TokenStream) -> Result<(), AllocError> {
         let before = out.len();
@@ -484,8 +695,16 @@ impl<X> ToTokens for PathSegment<X> {
     }
 }
 
-impl<X> ToTokens for PathArguments<X> {
-    ghost print = { printing.arguments printing.as_written };
+impl ToTokens for ModSegment {
+    ghost print = { shapes.mod_segment };
+
+    fn to_tokens(&self, alloc: Global, out: &mut TokenStream) -> Result<(), AllocError> {
+        self.ident.to_tokens(alloc, out)
+    }
+}
+
+impl<A: Attributes, E: Value> ToTokens for PathArgumentsOf<A, E> {
+    ghost print = { types.arguments A.shown E.values shapes.as_written };
 
     fn to_tokens(&self, alloc: Global, out: &mut TokenStream) -> Result<(), AllocError> {
         let before = out.len();
@@ -499,32 +718,175 @@ impl<X> ToTokens for PathArguments<X> {
     }
 }
 
-/// Appends a path; refused, what stood before is kept.
+/// Appends an argument; a const argument in braces, but for a literal, a block and an identifier alone.
+impl<A: Attributes, E: Value> ToTokens for GenericArgumentOf<A, E> {
+    ghost print = { types.argument A.shown E.values };
+
+    fn to_tokens(&self, alloc: Global, out: &mut TokenStream) -> Result<(), AllocError> {
+        let before = out.len();
+        match print_argument(alloc, self, out) {
+            Ok(()) => Ok(()),
+            Err(error) => {
+                out.truncate(before);
+                Err(error)
+            }
+        }
+    }
+}
+
+/// Appends the arguments between their marks, lifetimes first; a comma is added where the last lifetime has none and others follow.
+impl<A: Attributes, E: Value> ToTokens
+    for AngleBracketedGenericArgumentsOf<GenericArgumentOf<A, E>> {
+    ghost print = { types.angle A.shown E.values shapes.as_written };
+
+    fn to_tokens(&self, alloc: Global, out: &mut TokenStream) -> Result<(), AllocError> {
+        let before = out.len();
+        match print_angle(alloc, self, PathStyle::AsWritten, out) {
+            Ok(()) => Ok(()),
+            Err(error) => {
+                out.truncate(before);
+                Err(error)
+            }
+        }
+    }
+}
+
+impl<A: Attributes, E: Value> ToTokens for AssocTypeOf<A, E> {
+    ghost print = { types.assoc_type A.shown E.values };
+
+    fn to_tokens(&self, alloc: Global, out: &mut TokenStream) -> Result<(), AllocError> {
+        let before = out.len();
+        match print_assoc_type(alloc, self, out) {
+            Ok(()) => Ok(()),
+            Err(error) => {
+                out.truncate(before);
+                Err(error)
+            }
+        }
+    }
+}
+
+impl<A: Attributes, E: Value> ToTokens for AssocConstOf<GenericArgumentOf<A, E>, E> {
+    ghost print = { types.assoc_const A.shown E.values };
+
+    fn to_tokens(&self, alloc: Global, out: &mut TokenStream) -> Result<(), AllocError> {
+        let before = out.len();
+        match print_assoc_const(alloc, self, out) {
+            Ok(()) => Ok(()),
+            Err(error) => {
+                out.truncate(before);
+                Err(error)
+            }
+        }
+    }
+}
+
+/// Appends the name, the colon and the bounds; the colon without bounds too.
+impl<A: Attributes, E: Value> ToTokens for ConstraintOf<A, E> {
+    ghost print = { types.constraint A.shown E.values };
+
+    fn to_tokens(&self, alloc: Global, out: &mut TokenStream) -> Result<(), AllocError> {
+        let before = out.len();
+        match print_constraint(alloc, self, out) {
+            Ok(()) => Ok(()),
+            Err(error) => {
+                out.truncate(before);
+                Err(error)
+            }
+        }
+    }
+}
+
+impl<A: Attributes, E: Value> ToTokens for ParenthesizedGenericArgumentsOf<TypeOf<A, E>, A> {
+    ghost print = { types.parenthesized A.shown E.values };
+
+    fn to_tokens(&self, alloc: Global, out: &mut TokenStream) -> Result<(), AllocError> {
+        let before = out.len();
+        match print_parenthesized(alloc, self, out) {
+            Ok(()) => Ok(()),
+            Err(error) => {
+                out.truncate(before);
+                Err(error)
+            }
+        }
+    }
+}
+
+/// Appends a path without arguments; refused, what stood before is kept.
 #[tactic(auto, using(token_core::proofs::Puts::puts))]
-pub(crate) fn print_path<X>(
+pub(crate) fn print_mod_path(
     alloc: Global,
-    path: &Path<X>,
-    style: PathStyle,
+    path: &ModPath,
     out: &mut TokenStream,
 ) -> Result<(), AllocError>
-    ensures ok { OnOk result (trees out.new ≡ trees out.old ++ printing.path style path.now) }
+    ensures ok { OnOk result (trees out.new ≡ trees out.old ++ shapes.mod_path path.now) }
     ensures err { OnErr result (Extends (trees out.old) (trees out.new)) }
 {
     print_colon(alloc, &path.leading_colon, out)?;
-    print_segments(alloc, &path.segments, style, out)
+    print_mod_segments(alloc, &path.segments, out)
 }
 
 #[tactic(auto, using(token_core::proofs::Puts::puts))]
-fn print_segments<X>(
+fn print_mod_segments(
     alloc: Global,
-    segments: &Punctuated<PathSegment<X>, PathSep>,
-    style: PathStyle,
+    segments: &Punctuated<ModSegment, PathSep>,
     out: &mut TokenStream,
 ) -> Result<(), AllocError>
-    ensures ok { OnOk result (trees out.new ≡ trees out.old ++ printing.segments style segments.now) }
+    ensures ok { OnOk result (trees out.new ≡ trees out.old ++ shapes.mod_segments segments.now) }
     ensures err { OnErr result (Extends (trees out.old) (trees out.new)) }
 {
     let (pairs, last) = segments.parts();
+    for pair in pairs {
+        print_mod_segment(alloc, &pair.value, out)?;
+        pair.mark.to_tokens(alloc, out)?;
+    }
+    match last {
+        Some(segment) => print_mod_segment(alloc, segment, out),
+        None => Ok(()),
+    }
+}
+
+#[tactic(auto, using(token_core::proofs::Puts::puts))]
+fn print_mod_segment(
+    alloc: Global,
+    segment: &ModSegment,
+    out: &mut TokenStream,
+) -> Result<(), AllocError>
+    ensures ok { OnOk result (trees out.new ≡ trees out.old ++ shapes.mod_segment segment.now) }
+    ensures err { OnErr result (Extends (trees out.old) (trees out.new)) }
+{
+    segment.ident.to_tokens(alloc, out)
+}
+
+/// Appends a path; refused, what stood before is kept.
+#[cycle(print)]
+#[tactic(auto, using(token_core::proofs::Puts::puts))]
+pub(crate) fn print_path<A: Attributes, E: Value>(
+    alloc: Global,
+    path: &PathOf<PathArgumentsOf<A, E>>,
+    style: PathStyle,
+    out: &mut TokenStream,
+) -> Result<(), AllocError>
+    ensures ok { OnOk result (trees out.new ≡ trees out.old ++ printing.path A.shown E.values style path.now) }
+    ensures err { OnErr result (Extends (trees out.old) (trees out.new)) }
+{
+    print_colon(alloc, &path.leading_colon, out)?;
+    print_segments(alloc, path, style, out)
+}
+
+/// Each segment with its mark.
+#[cycle(print)]
+#[tactic(auto, using(token_core::proofs::Puts::puts))]
+fn print_segments<A: Attributes, E: Value>(
+    alloc: Global,
+    path: &PathOf<PathArgumentsOf<A, E>>,
+    style: PathStyle,
+    out: &mut TokenStream,
+) -> Result<(), AllocError>
+    ensures ok { OnOk result (trees out.new ≡ trees out.old ++ printing.segments A.shown E.values style path.now.segments) }
+    ensures err { OnErr result (Extends (trees out.old) (trees out.new)) }
+{
+    let (pairs, last) = segment_parts(path);
     for pair in pairs {
         print_segment(alloc, &pair.value, style, out)?;
         pair.mark.to_tokens(alloc, out)?;
@@ -535,123 +897,275 @@ fn print_segments<X>(
     }
 }
 
+#[cycle(print)]
 #[tactic(auto, using(token_core::proofs::Puts::puts))]
-fn print_segment<X>(
+fn print_segment<A: Attributes, E: Value>(
     alloc: Global,
-    segment: &PathSegment<X>,
+    segment: &PathSegmentOf<PathArgumentsOf<A, E>>,
     style: PathStyle,
     out: &mut TokenStream,
 ) -> Result<(), AllocError>
-    ensures ok { OnOk result (trees out.new ≡ trees out.old ++ printing.segment style segment.now) }
+    ensures ok { OnOk result (trees out.new ≡ trees out.old ++ printing.segment A.shown E.values style segment.now) }
     ensures err { OnErr result (Extends (trees out.old) (trees out.new)) }
 {
     segment.ident.to_tokens(alloc, out)?;
     print_arguments(alloc, &segment.arguments, style, out)
 }
 
-#[tactic(auto, using(token_core::proofs::Puts::puts))]
-fn print_arguments<X>(
+#[cycle(print)]
+#[tactic(auto, using(token_core::proofs::Puts::puts, crate::proofs::ty_laws::Prints::arguments))]
+fn print_arguments<A: Attributes, E: Value>(
     alloc: Global,
-    arguments: &PathArguments<X>,
+    arguments: &PathArgumentsOf<A, E>,
     style: PathStyle,
     out: &mut TokenStream,
 ) -> Result<(), AllocError>
-    ensures ok { OnOk result (trees out.new ≡ trees out.old ++ printing.arguments style arguments.now) }
+    ensures ok { OnOk result (trees out.new ≡ trees out.old ++ types.arguments A.shown E.values style arguments.now) }
     ensures err { OnErr result (Extends (trees out.old) (trees out.new)) }
 {
-    match style {
-        PathStyle::Mod => Ok(()),
-        PathStyle::AsWritten => match arguments {
-            PathArguments::None => Ok(()),
-            PathArguments::AngleBracketed(arguments) => print_angle_bracketed(
-                alloc, arguments, out,
-            ),
-            PathArguments::Parenthesized(arguments) => arguments
-                .paren_token
-                .surround(TokenStream::new(alloc), out),
-        },
-        PathStyle::Expr => match arguments {
-            PathArguments::None => Ok(()),
-            PathArguments::AngleBracketed(arguments) => print_turbofish(alloc, arguments, out),
-            PathArguments::Parenthesized(arguments) => print_parenthesized_turbofish(
-                alloc, arguments, out,
-            ),
-        },
+    match arguments {
+        PathArgumentsOf::None => Ok(()),
+        PathArgumentsOf::AngleBracketed(arguments) => print_angle(alloc, arguments, style, out),
+        PathArgumentsOf::Parenthesized(arguments) => {
+            print_parenthesized_start(alloc, style, out)?;
+            print_parenthesized(alloc, arguments, out)
+        }
     }
 }
 
+/// Arguments between angle marks: lifetimes, each with its comma; a comma where the last has none and others follow; the others, each with its comma.
+#[cycle(print)]
 #[tactic(auto, using(token_core::proofs::Puts::puts))]
-fn print_angle_bracketed<X>(
+fn print_angle<A: Attributes, E: Value>(
     alloc: Global,
-    arguments: &AngleBracketedGenericArguments<X>,
+    arguments: &AngleBracketedGenericArgumentsOf<GenericArgumentOf<A, E>>,
+    style: PathStyle,
     out: &mut TokenStream,
 ) -> Result<(), AllocError>
-    ensures ok { OnOk result (trees out.new ≡ trees out.old ++ printing.angle_bracketed arguments.now) }
+    ensures ok { OnOk result (trees out.new ≡ trees out.old ++ types.angle A.shown E.values style arguments.now) }
     ensures err { OnErr result (Extends (trees out.old) (trees out.new)) }
 {
-    print_colon(alloc, &arguments.colon2_token, out)?;
-    arguments.lt_token.to_tokens(alloc, out)?;
+    print_angle_start(alloc, arguments, style, out)?;
+    print_argument_kind(alloc, arguments, true, out)?;
+    print_added_comma(alloc, &arguments.args, out)?;
+    print_argument_kind(alloc, arguments, false, out)?;
     arguments.gt_token.to_tokens(alloc, out)
 }
 
-/// Arguments between angle marks after `::`, which is printed where it is missing.
-#[tactic(auto, using(token_core::proofs::Puts::puts))]
-fn print_turbofish<X>(
+/// The arguments that are lifetimes, or those that are not, each with its comma.
+#[cycle(print)]
+#[tactic(auto, using(token_core::proofs::Puts::puts, crate::proofs::generics_laws::Sorted::kinds))]
+fn print_argument_kind<A: Attributes, E: Value>(
     alloc: Global,
-    arguments: &AngleBracketedGenericArguments<X>,
+    arguments: &AngleBracketedGenericArgumentsOf<GenericArgumentOf<A, E>>,
+    lifetimes: bool,
     out: &mut TokenStream,
 ) -> Result<(), AllocError>
-    ensures ok { OnOk result (trees out.new ≡ trees out.old ++ printing.turbofish arguments.now) }
+    ensures ok { OnOk result (trees out.new ≡ trees out.old ++ printing.kind A.shown E.values lifetimes arguments.now) }
     ensures err { OnErr result (Extends (trees out.old) (trees out.new)) }
 {
-    match &arguments.colon2_token {
-        Some(colon) => colon.to_tokens(alloc, out)?,
-        None => PathSep::default().to_tokens(alloc, out)?,
+    let (pairs, last) = argument_parts(arguments);
+    for pair in pairs {
+        print_argument_member(alloc, &pair.value, Some(&pair.mark), lifetimes, out)?;
     }
-    arguments.lt_token.to_tokens(alloc, out)?;
-    arguments.gt_token.to_tokens(alloc, out)
+    match last {
+        Some(argument) => print_argument_member(alloc, argument, None, lifetimes, out),
+        None => Ok(()),
+    }
 }
 
-/// Arguments in parentheses after `::`.
-#[tactic(auto, using(token_core::proofs::Puts::puts))]
-fn print_parenthesized_turbofish<X>(
+/// An argument with its comma, where it is of the kind.
+#[cycle(print)]
+#[tactic(auto, using(token_core::proofs::Puts::puts, crate::proofs::generics_laws::Sorted::kinds))]
+fn print_argument_member<A: Attributes, E: Value>(
     alloc: Global,
-    arguments: &ParenthesizedGenericArguments<X>,
+    argument: &GenericArgumentOf<A, E>,
+    comma: Option<&Comma>,
+    lifetimes: bool,
     out: &mut TokenStream,
 ) -> Result<(), AllocError>
-    ensures ok { OnOk result (trees out.new ≡ trees out.old ++ printing.parenthesized_turbofish arguments.now) }
+    ensures ok { OnOk result (trees out.new ≡ trees out.old ++ members.each (types.argument A.shown E.values) (members.those spec.is_lifetime lifetimes ((argument.now, option_map (λ c. c.now) comma.entry) ∷ []))) }
     ensures err { OnErr result (Extends (trees out.old) (trees out.new)) }
 {
-    PathSep::default().to_tokens(alloc, out)?;
-    arguments.paren_token.surround(TokenStream::new(alloc), out)
+    if argument.is_lifetime() != lifetimes {
+        return Ok(());
+    }
+    print_argument(alloc, argument, out)?;
+    match comma {
+        Some(comma) => comma.to_tokens(alloc, out),
+        None => Ok(()),
+    }
 }
 
-#[tactic(auto, using(token_core::proofs::Puts::puts))]
-fn print_colon(
+#[cycle(print)]
+#[tactic(auto, using(token_core::proofs::Puts::puts, crate::proofs::ty_laws::Prints::arguments))]
+pub(crate) fn print_argument<A: Attributes, E: Value>(
     alloc: Global,
-    colon: &Option<PathSep>,
+    argument: &GenericArgumentOf<A, E>,
     out: &mut TokenStream,
 ) -> Result<(), AllocError>
-    ensures ok { OnOk result (trees out.new ≡ trees out.old ++ printing.colon colon.now) }
+    ensures ok { OnOk result (trees out.new ≡ trees out.old ++ types.argument A.shown E.values argument.now) }
     ensures err { OnErr result (Extends (trees out.old) (trees out.new)) }
 {
-    match colon {
-        Some(colon) => colon.to_tokens(alloc, out),
+    match argument {
+        GenericArgumentOf::Lifetime(lifetime) => lifetime.to_tokens(alloc, out),
+        GenericArgumentOf::Type(ty) => print_type(alloc, ty, out),
+        GenericArgumentOf::Const(value) => value.print_const_argument(alloc, out),
+        GenericArgumentOf::AssocType(assoc) => print_assoc_type(alloc, assoc, out),
+        GenericArgumentOf::AssocConst(assoc) => print_assoc_const(alloc, assoc, out),
+        GenericArgumentOf::Constraint(constraint) => print_constraint(alloc, constraint, out),
+    }
+}
+
+/// The arguments of the name of an associated item, where it has some, as they stand.
+#[cycle(print)]
+#[tactic(auto, using(token_core::proofs::Puts::puts))]
+fn print_generics<A: Attributes, E: Value>(
+    alloc: Global,
+    generics: &Option<AngleBracketedGenericArgumentsOf<GenericArgumentOf<A, E>>>,
+    out: &mut TokenStream,
+) -> Result<(), AllocError>
+    ensures ok { OnOk result (trees out.new ≡ trees out.old ++ types.optional_angle A.shown E.values generics.now) }
+    ensures err { OnErr result (Extends (trees out.old) (trees out.new)) }
+{
+    match generics {
+        Some(arguments) => print_angle(alloc, arguments, PathStyle::AsWritten, out),
+        None => Ok(()),
+    }
+}
+
+#[cycle(print)]
+#[tactic(auto, using(token_core::proofs::Puts::puts, crate::proofs::ty_laws::Prints::arguments))]
+fn print_assoc_type<A: Attributes, E: Value>(
+    alloc: Global,
+    assoc: &AssocTypeOf<A, E>,
+    out: &mut TokenStream,
+) -> Result<(), AllocError>
+    ensures ok { OnOk result (trees out.new ≡ trees out.old ++ types.assoc_type A.shown E.values assoc.now) }
+    ensures err { OnErr result (Extends (trees out.old) (trees out.new)) }
+{
+    assoc.ident.to_tokens(alloc, out)?;
+    print_generics(alloc, &assoc.generics, out)?;
+    assoc.eq_token.to_tokens(alloc, out)?;
+    print_type(alloc, &assoc.ty, out)
+}
+
+#[cycle(print)]
+#[tactic(auto, using(token_core::proofs::Puts::puts))]
+fn print_assoc_const<A: Attributes, E: Value>(
+    alloc: Global,
+    assoc: &AssocConstOf<GenericArgumentOf<A, E>, E>,
+    out: &mut TokenStream,
+) -> Result<(), AllocError>
+    ensures ok { OnOk result (trees out.new ≡ trees out.old ++ types.assoc_const A.shown E.values assoc.now) }
+    ensures err { OnErr result (Extends (trees out.old) (trees out.new)) }
+{
+    assoc.ident.to_tokens(alloc, out)?;
+    print_generics(alloc, &assoc.generics, out)?;
+    assoc.eq_token.to_tokens(alloc, out)?;
+    assoc.value.print_const_argument(alloc, out)
+}
+
+/// The colon prints without bounds too.
+#[cycle(print)]
+#[tactic(auto, using(token_core::proofs::Puts::puts, crate::proofs::ty_laws::Prints::arguments))]
+fn print_constraint<A: Attributes, E: Value>(
+    alloc: Global,
+    constraint: &ConstraintOf<A, E>,
+    out: &mut TokenStream,
+) -> Result<(), AllocError>
+    ensures ok { OnOk result (trees out.new ≡ trees out.old ++ types.constraint A.shown E.values constraint.now) }
+    ensures err { OnErr result (Extends (trees out.old) (trees out.new)) }
+{
+    constraint.ident.to_tokens(alloc, out)?;
+    print_generics(alloc, &constraint.generics, out)?;
+    constraint.colon_token.to_tokens(alloc, out)?;
+    print_constraint_bounds(alloc, constraint, out)
+}
+
+/// Each bound of a constraint with its mark.
+#[cycle(print)]
+#[tactic(auto, using(token_core::proofs::Puts::puts))]
+fn print_constraint_bounds<A: Attributes, E: Value>(
+    alloc: Global,
+    constraint: &ConstraintOf<A, E>,
+    out: &mut TokenStream,
+) -> Result<(), AllocError>
+    ensures ok { OnOk result (trees out.new ≡ trees out.old ++ types.constraint_bounds A.shown E.values constraint.now) }
+    ensures err { OnErr result (Extends (trees out.old) (trees out.new)) }
+{
+    let (pairs, last) = bound_parts(&constraint.bounds);
+    for pair in pairs {
+        print_bound(alloc, &pair.value, out)?;
+        pair.mark.to_tokens(alloc, out)?;
+    }
+    match last {
+        Some(bound) => print_bound(alloc, bound, out),
+        None => Ok(()),
+    }
+}
+
+/// Arguments in their parentheses, and the output.
+#[cycle(print)]
+#[tactic(auto, using(token_core::proofs::Puts::puts))]
+fn print_parenthesized<A: Attributes, E: Value>(
+    alloc: Global,
+    arguments: &ParenthesizedGenericArgumentsOf<TypeOf<A, E>, A>,
+    out: &mut TokenStream,
+) -> Result<(), AllocError>
+    ensures ok { OnOk result (trees out.new ≡ trees out.old ++ types.parenthesized A.shown E.values arguments.now) }
+    ensures err { OnErr result (Extends (trees out.old) (trees out.new)) }
+{
+    let mut content = TokenStream::new(alloc);
+    print_parenthesized_inputs(alloc, arguments, &mut content)?;
+    arguments.paren_token.surround(content, out)?;
+    match &arguments.output {
+        ReturnTypeOf::Default => Ok(()),
+        ReturnTypeOf::Type(arrow, ty) => {
+            arrow.to_tokens(alloc, out)?;
+            print_type(alloc, ty.get(), out)
+        }
+    }
+}
+
+/// Each argument in parentheses with its comma.
+#[cycle(print)]
+#[tactic(auto, using(token_core::proofs::Puts::puts))]
+fn print_parenthesized_inputs<A: Attributes, E: Value>(
+    alloc: Global,
+    arguments: &ParenthesizedGenericArgumentsOf<TypeOf<A, E>, A>,
+    out: &mut TokenStream,
+) -> Result<(), AllocError>
+    ensures ok { OnOk result (trees out.new ≡ trees out.old ++ types.inputs A.shown E.values arguments.now.inputs) }
+    ensures err { OnErr result (Extends (trees out.old) (trees out.new)) }
+{
+    let (pairs, last) = input_parts(arguments);
+    for pair in pairs {
+        print_arg_name(alloc, &pair.value.attrs, &pair.value.name, out)?;
+        print_type(alloc, &pair.value.ty, out)?;
+        pair.mark.to_tokens(alloc, out)?;
+    }
+    match last {
+        Some(arg) => {
+            print_arg_name(alloc, &arg.attrs, &arg.name, out)?;
+            print_type(alloc, &arg.ty, out)
+        }
         None => Ok(()),
     }
 }
 
 /// Appends what follows the type that qualifies a path: `as` and the segments up to `>`, and those after it. `>` stands after as many segments as
 /// `position` says, or as there are; where that is none, there is no `as`. A missing `as` is printed all the same.
+#[cycle(print)]
 #[tactic(auto, using(token_core::proofs::Puts::puts, crate::proofs::path_laws::Around::qualifies))]
-pub(crate) fn print_qualified<T, X>(
+pub(crate) fn print_qualified<A: Attributes, E: Value>(
     alloc: Global,
-    qself: &QSelfOf<T>,
-    path: &Path<X>,
+    qself: &QSelfOf<TypeOf<A, E>>,
+    path: &PathOf<PathArgumentsOf<A, E>>,
     style: PathStyle,
     out: &mut TokenStream,
 ) -> Result<(), AllocError>
-    ensures ok { OnOk result (trees out.new ≡ trees out.old ++ printing.qualified style qself.now path.now) }
+    ensures ok { OnOk result (trees out.new ≡ trees out.old ++ printing.qualified A.shown E.values style qself.now path.now) }
     ensures err { OnErr result (Extends (trees out.old) (trees out.new)) }
 {
     let before = qself.position.min(path.segments.len());
@@ -661,35 +1175,24 @@ pub(crate) fn print_qualified<T, X>(
     }
     print_as(alloc, &qself.as_token, out)?;
     print_colon(alloc, &path.leading_colon, out)?;
-    print_around(alloc, &path.segments, before, &qself.gt_token, style, out)
-}
-
-/// `as`, or one that stands nowhere.
-#[tactic(auto, using(token_core::proofs::Puts::puts))]
-fn print_as(alloc: Global, as_token: &Option<As>, out: &mut TokenStream) -> Result<(), AllocError>
-    ensures ok { OnOk result (trees out.new ≡ trees out.old ++ printing.as_or_default as_token.now) }
-    ensures err { OnErr result (Extends (trees out.old) (trees out.new)) }
-{
-    match as_token {
-        Some(token) => token.to_tokens(alloc, out),
-        None => As::default().to_tokens(alloc, out),
-    }
+    print_around(alloc, path, before, &qself.gt_token, style, out)
 }
 
 /// The segments, with `>` after as many as are to stand before it; those print as they stand.
+#[cycle(print)]
 #[tactic(auto, using(token_core::proofs::Puts::puts))]
-fn print_around<X>(
+fn print_around<A: Attributes, E: Value>(
     alloc: Global,
-    segments: &Punctuated<PathSegment<X>, PathSep>,
+    path: &PathOf<PathArgumentsOf<A, E>>,
     before: usize,
     gt_token: &Gt,
     style: PathStyle,
     out: &mut TokenStream,
 ) -> Result<(), AllocError>
-    ensures ok { OnOk result (trees out.new ≡ trees out.old ++ printing.around style gt_token.now before segments.now.0 segments.now.1) }
+    ensures ok { OnOk result (trees out.new ≡ trees out.old ++ printing.around A.shown E.values style gt_token.now before path.now.segments.0 path.now.segments.1) }
     ensures err { OnErr result (Extends (trees out.old) (trees out.new)) }
 {
-    let (pairs, last) = segments.parts();
+    let (pairs, last) = segment_parts(path);
     let mut before = before;
     for pair in pairs {
         print_closing(alloc, &pair.value, before, gt_token, style, out)?;
@@ -703,16 +1206,17 @@ fn print_around<X>(
 }
 
 /// A segment, and `>` after it where it is the last of those before.
+#[cycle(print)]
 #[tactic(auto, using(token_core::proofs::Puts::puts, crate::proofs::path_laws::Around::closings))]
-fn print_closing<X>(
+fn print_closing<A: Attributes, E: Value>(
     alloc: Global,
-    segment: &PathSegment<X>,
+    segment: &PathSegmentOf<PathArgumentsOf<A, E>>,
     before: usize,
     gt_token: &Gt,
     style: PathStyle,
     out: &mut TokenStream,
 ) -> Result<(), AllocError>
-    ensures ok { OnOk result (trees out.new ≡ trees out.old ++ printing.closing style gt_token.now before segment.now) }
+    ensures ok { OnOk result (trees out.new ≡ trees out.old ++ printing.closing A.shown E.values style gt_token.now before segment.now) }
     ensures err { OnErr result (Extends (trees out.old) (trees out.new)) }
 {
     if before == 0 {
@@ -723,5 +1227,122 @@ fn print_closing<X>(
         gt_token.to_tokens(alloc, out)
     } else {
         Ok(())
+    }
+}
+
+// ---- parts of paths that lead back to no type
+
+/// The segments of a path by their parts.
+fn segment_parts<A, E>(
+    path: &PathOf<PathArgumentsOf<A, E>>,
+) -> (
+    &[Pair<PathSegmentOf<PathArgumentsOf<A, E>>, PathSep>],
+    Option<&PathSegmentOf<PathArgumentsOf<A, E>>>,
+)
+    ensures { path.now.segments ≡ (values_of result.0.now (option_map (λ x. x.now) result.1), marks_of result.0.now) }
+{
+    path.segments.parts()
+}
+
+/// Arguments between angle marks by their parts.
+fn argument_parts<A, E>(
+    arguments: &AngleBracketedGenericArgumentsOf<GenericArgumentOf<A, E>>,
+) -> (
+    &[Pair<GenericArgumentOf<A, E>, Comma>],
+    Option<&GenericArgumentOf<A, E>>,
+)
+    ensures { arguments.now.args ≡ (values_of result.0.now (option_map (λ x. x.now) result.1), marks_of result.0.now) }
+{
+    arguments.args.parts()
+}
+
+/// Arguments in parentheses by their parts.
+fn input_parts<A, E>(
+    arguments: &ParenthesizedGenericArgumentsOf<TypeOf<A, E>, A>,
+) -> (
+    &[Pair<NamedArgOf<TypeOf<A, E>, A>, Comma>],
+    Option<&NamedArgOf<TypeOf<A, E>, A>>,
+)
+    ensures { arguments.now.inputs ≡ (values_of result.0.now (option_map (λ x. x.now) result.1), marks_of result.0.now) }
+{
+    arguments.inputs.parts()
+}
+
+/// An argument that is a lifetime prints first.
+impl<A, E> Member for GenericArgumentOf<A, E> {
+    ghost first = { spec.is_lifetime };
+
+    #[tactic(auto, using(crate::proofs::generics_laws::Prints::argument_kinds))]
+    fn is_lifetime(&self) -> bool {
+        match self {
+            GenericArgumentOf::Lifetime(_) => true,
+            GenericArgumentOf::Type(_)
+            | GenericArgumentOf::Const(_)
+            | GenericArgumentOf::AssocType(_)
+            | GenericArgumentOf::AssocConst(_)
+            | GenericArgumentOf::Constraint(_) => false,
+        }
+    }
+}
+
+/// The start of arguments between angle marks: in an expression after `::`, which is printed where it is missing.
+#[tactic(auto, using(token_core::proofs::Puts::puts))]
+fn print_angle_start<A, E>(
+    alloc: Global,
+    arguments: &AngleBracketedGenericArgumentsOf<GenericArgumentOf<A, E>>,
+    style: PathStyle,
+    out: &mut TokenStream,
+) -> Result<(), AllocError>
+    ensures ok { OnOk result (trees out.new ≡ trees out.old ++ shapes.angle_start style arguments.now) }
+    ensures err { OnErr result (Extends (trees out.old) (trees out.new)) }
+{
+    match (&arguments.colon2_token, style) {
+        (Some(colon), _) => colon.to_tokens(alloc, out)?,
+        (None, PathStyle::Expr) => PathSep::default().to_tokens(alloc, out)?,
+        (None, PathStyle::AsWritten) => {}
+    }
+    arguments.lt_token.to_tokens(alloc, out)
+}
+
+/// Before arguments in parentheses: `::` in an expression.
+#[tactic(auto, using(token_core::proofs::Puts::puts))]
+fn print_parenthesized_start(
+    alloc: Global,
+    style: PathStyle,
+    out: &mut TokenStream,
+) -> Result<(), AllocError>
+    ensures ok { OnOk result (trees out.new ≡ trees out.old ++ shapes.parenthesized_start style) }
+    ensures err { OnErr result (Extends (trees out.old) (trees out.new)) }
+{
+    match style {
+        PathStyle::Expr => PathSep::default().to_tokens(alloc, out),
+        PathStyle::AsWritten => Ok(()),
+    }
+}
+
+#[tactic(auto, using(token_core::proofs::Puts::puts))]
+fn print_colon(
+    alloc: Global,
+    colon: &Option<PathSep>,
+    out: &mut TokenStream,
+) -> Result<(), AllocError>
+    ensures ok { OnOk result (trees out.new ≡ trees out.old ++ shapes.colon colon.now) }
+    ensures err { OnErr result (Extends (trees out.old) (trees out.new)) }
+{
+    match colon {
+        Some(colon) => colon.to_tokens(alloc, out),
+        None => Ok(()),
+    }
+}
+
+/// `as`, or one that stands nowhere.
+#[tactic(auto, using(token_core::proofs::Puts::puts))]
+fn print_as(alloc: Global, as_token: &Option<As>, out: &mut TokenStream) -> Result<(), AllocError>
+    ensures ok { OnOk result (trees out.new ≡ trees out.old ++ shapes.as_or_default as_token.now) }
+    ensures err { OnErr result (Extends (trees out.old) (trees out.new)) }
+{
+    match as_token {
+        Some(token) => token.to_tokens(alloc, out),
+        None => As::default().to_tokens(alloc, out),
     }
 }

@@ -7,7 +7,9 @@ ghost use Rattle.token_core.specs.Prints.{Extends};
 ghost use Rattle.token_core.specs.Reads.{Reads, Follows, Gives, Fails};
 ghost use Rattle.token_core.specs.Rebuilt.{Visible};
 ghost use Rattle.token_core.specs.Trees.{trees};
-ghost use Rattle.syn_mid.specs.declared.ty.Type.TheVariants as types;
+ghost use Rattle.syn_mid.specs.Supplied.{ArrayLen};
+ghost use Rattle.syn_mid.specs.attr.Printing.{at_place};
+ghost use Rattle.syn_mid.specs.declared.ty.TypeOf.TheVariants as types;
 ghost use Rattle.syn_mid.specs.ty.Grammars as grammars;
 ghost use Rattle.syn_mid.specs.ty.Knot as knot;
 ghost use Rattle.syn_mid.specs.generics.Shapes as shapes;
@@ -16,18 +18,20 @@ ghost use Rattle.syn_mid.specs.ty.Reading as reading;
 ghost use Rattle.syn_mid.specs.ty.Heights.{IsSomeType, IsSomeArray, IsSomeParen, IsSomePtr, IsSomeReference, IsSomeSlice, IsSomeTuple};
 ghost use Rattle.syn_mid.specs.ty.Spelling.{IsMutability, IsInfer, IsNever, IsMacroType, IsPathType};
 
-use crate::attr::{Attribute, print_outer, print_value};
+use crate::attr::{Attribute, print_value};
 use crate::generics::{
-    BoundLifetimes, GenericParam, TypeParamBound, print_binder_end, print_binder_start,
-    print_bound, print_param,
+    BoundLifetimes, BoundLifetimesOf, GenericParam, GenericParamOf, TypeParamBound,
+    TypeParamBoundOf, print_binder_end, print_binder_start, print_bound, print_param,
 };
 use crate::grammar::{
     parse_array, parse_infer, parse_macro_type, parse_mutability, parse_never, parse_paren,
     parse_path_type, parse_ptr, parse_reference, parse_slice, parse_tuple, parse_type,
 };
 use crate::mac::Macro;
-use crate::path::{Path, PathStyle, QSelf, QSelfOf, print_path, print_qualified};
-use crate::supplied::{Expr, Place, Subtree};
+use crate::path::{
+    Path, PathArgumentsOf, PathOf, PathStyle, QSelf, QSelfOf, print_path, print_qualified,
+};
+use crate::supplied::{Attributes, Expr, Place, Subtree, Value};
 use std::alloc::{AllocError, Global};
 use std::marker::PhantomData;
 use token_core::token::{
@@ -39,45 +43,49 @@ use token_core::{
     TokenStream,
 };
 
-/// A type.
+/// A type, over its attributes and expressions: these lead back to no type.
 #[cycle(types)]
 #[derive(Drop)]
-pub enum Type<X> {
+pub enum TypeOf<A, E> {
     /// `[T; n]`
-    Array(TypeArray<X>),
+    Array(TypeArrayOf<TypeOf<A, E>, A, E>),
     /// `for<'a> unsafe extern "C" fn(a: A, ...) -> B`. No reader answers it yet.
-    FnPtr(TypeFnPtr<X>),
+    FnPtr(TypeFnPtrOf<A, E>),
     /// A type in an invisible group, as a macro hands it on. No reader answers it yet.
-    Group(TypeGroup<X>),
+    Group(TypeGroupOf<TypeOf<A, E>, A>),
     /// `impl A + 'a`. No reader answers it yet.
-    ImplTrait(TypeImplTrait<X>),
+    ImplTrait(TypeImplTraitOf<TypeParamBoundOf<A, E>, A>),
     /// `_`
-    Infer(TypeInfer),
+    Infer(TypeInferOf<A>),
     /// `a::b! { .. }`
-    Macro(TypeMacro<X>),
+    Macro(TypeMacroOf<A>),
     /// `!`
-    Never(TypeNever),
+    Never(TypeNeverOf<A>),
     /// `(T)`
-    Paren(TypeParen<X>),
+    Paren(TypeParenOf<TypeOf<A, E>, A>),
     /// `a::b`, `<T as a::b>::c`
-    Path(TypePath<X>),
+    Path(TypePathOf<A, E>),
     /// `*const T`, `*mut T`
-    Ptr(TypePtr<X>),
+    Ptr(TypePtrOf<TypeOf<A, E>, A>),
     /// `&'a mut T`
-    Reference(TypeReference<X>),
+    Reference(TypeReferenceOf<TypeOf<A, E>, A>),
     /// `[T]`
-    Slice(TypeSlice<X>),
+    Slice(TypeSliceOf<TypeOf<A, E>, A>),
     /// `dyn A + 'a`. No reader answers it yet.
-    TraitObject(TypeTraitObject<X>),
+    TraitObject(TypeTraitObjectOf<TypeParamBoundOf<A, E>, A>),
     /// `(A, B)`
-    Tuple(TypeTuple<X>),
+    Tuple(TypeTupleOf<TypeOf<A, E>, A>),
     /// Tokens that no other case holds. No reader answers it yet.
     Verbatim(TokenStream),
 }
 
+/// A type.
+pub type Type<X> = TypeOf<Attribute<X>, Expr<X>>;
+
 /// An array over its element's type and its length.
 #[derive(Drop)]
-pub struct TypeArrayOf<T, E> {
+pub struct TypeArrayOf<T, A, E> {
+    pub attrs: Items<A>,
     pub bracket_token: Bracket,
     pub elem: Boxed<T>,
     pub semi_token: Semi,
@@ -85,80 +93,101 @@ pub struct TypeArrayOf<T, E> {
 }
 
 /// An array: `[`, a type, `;`, a length, `]`.
-pub type TypeArray<X> = TypeArrayOf<Type<X>, Expr<X>>;
+pub type TypeArray<X> = TypeArrayOf<Type<X>, Attribute<X>, Expr<X>>;
 
 /// A pointer to a function: an optional binder, an optional `unsafe`, an optional calling convention, `fn`, in parentheses the
 /// arguments and an optional `...`, and what it returns.
 #[cycle(types)]
 #[derive(Drop)]
-pub struct TypeFnPtr<X> {
-    pub lifetimes: Option<BoundLifetimes<X>>,
+pub struct TypeFnPtrOf<A, E> {
+    pub attrs: Items<A>,
+    pub lifetimes: Option<BoundLifetimesOf<GenericParamOf<A, E>>>,
     pub unsafety: Option<Unsafe>,
     pub abi: Option<Abi>,
     pub fn_token: Fn,
     pub paren_token: Paren,
-    pub inputs: Punctuated<NamedArg<X>, Comma>,
-    pub variadic: Option<FnPtrVariadic<X>>,
-    pub output: ReturnType<X>,
+    pub inputs: Punctuated<NamedArgOf<TypeOf<A, E>, A>, Comma>,
+    pub variadic: Option<FnPtrVariadicOf<A>>,
+    pub output: ReturnTypeOf<TypeOf<A, E>>,
 }
+
+/// A pointer to a function.
+pub type TypeFnPtr<X> = TypeFnPtrOf<Attribute<X>, Expr<X>>;
 
 /// A type in an invisible group, over that type.
 #[derive(Drop)]
-pub struct TypeGroupOf<T> {
+pub struct TypeGroupOf<T, A> {
+    pub attrs: Items<A>,
     pub group_token: GroupToken,
     pub elem: Boxed<T>,
 }
 
 /// A type in an invisible group.
-pub type TypeGroup<X> = TypeGroupOf<Type<X>>;
+pub type TypeGroup<X> = TypeGroupOf<Type<X>, Attribute<X>>;
 
 /// A type that the function picks, over its bounds.
 #[derive(Drop)]
-pub struct TypeImplTraitOf<B> {
+pub struct TypeImplTraitOf<B, A> {
+    pub attrs: Items<A>,
     pub impl_token: Impl,
     pub bounds: Punctuated<B, Plus>,
 }
 
 /// A type that the function picks: `impl`, and bounds joined by `+`.
-pub type TypeImplTrait<X> = TypeImplTraitOf<TypeParamBound<X>>;
+pub type TypeImplTrait<X> = TypeImplTraitOf<TypeParamBound<X>, Attribute<X>>;
 
 /// A type to be found by the compiler: `_`.
-#[derive(Clone, Copy)]
-pub struct TypeInfer {
+#[derive(Drop)]
+pub struct TypeInferOf<A> {
+    pub attrs: Items<A>,
     pub underscore_token: Underscore,
 }
 
+/// A type to be found by the compiler: `_`.
+pub type TypeInfer<X> = TypeInferOf<Attribute<X>>;
+
 /// A macro call in the place of a type.
 #[derive(Drop)]
-pub struct TypeMacro<X> {
-    pub mac: Macro<X>,
+pub struct TypeMacroOf<A> {
+    pub attrs: Items<A>,
+    pub mac: Macro,
 }
 
+/// A macro call in the place of a type.
+pub type TypeMacro<X> = TypeMacroOf<Attribute<X>>;
+
 /// The type without a value: `!`.
-#[derive(Clone, Copy)]
-pub struct TypeNever {
+#[derive(Drop)]
+pub struct TypeNeverOf<A> {
+    pub attrs: Items<A>,
     pub bang_token: Not,
 }
 
+/// The type without a value: `!`.
+pub type TypeNever<X> = TypeNeverOf<Attribute<X>>;
+
 /// A type in parentheses, over that type.
 #[derive(Drop)]
-pub struct TypeParenOf<T> {
+pub struct TypeParenOf<T, A> {
+    pub attrs: Items<A>,
     pub paren_token: Paren,
     pub elem: Boxed<T>,
 }
 
 /// A type in parentheses.
-pub type TypeParen<X> = TypeParenOf<Type<X>>;
+pub type TypeParen<X> = TypeParenOf<Type<X>, Attribute<X>>;
 
 /// A type by its path, over the type that qualifies it.
+#[cycle(types)]
 #[derive(Drop)]
-pub struct TypePathOf<T, X> {
-    pub qself: Option<QSelfOf<T>>,
-    pub path: Path<X>,
+pub struct TypePathOf<A, E> {
+    pub attrs: Items<A>,
+    pub qself: Option<QSelfOf<TypeOf<A, E>>>,
+    pub path: PathOf<PathArgumentsOf<A, E>>,
 }
 
 /// A type by its path, which may be qualified.
-pub type TypePath<X> = TypePathOf<Type<X>, X>;
+pub type TypePath<X> = TypePathOf<Attribute<X>, Expr<X>>;
 
 /// What may be done by way of a raw pointer.
 #[derive(Clone, Copy)]
@@ -169,18 +198,20 @@ pub enum PointerMutability {
 
 /// A raw pointer over the type that it points to.
 #[derive(Drop)]
-pub struct TypePtrOf<T> {
+pub struct TypePtrOf<T, A> {
+    pub attrs: Items<A>,
     pub star_token: Star,
     pub mutability: PointerMutability,
     pub elem: Boxed<T>,
 }
 
 /// A raw pointer: `*`, `const` or `mut`, a type.
-pub type TypePtr<X> = TypePtrOf<Type<X>>;
+pub type TypePtr<X> = TypePtrOf<Type<X>, Attribute<X>>;
 
 /// A reference over the type that it points to.
 #[derive(Drop)]
-pub struct TypeReferenceOf<T> {
+pub struct TypeReferenceOf<T, A> {
+    pub attrs: Items<A>,
     pub and_token: And,
     pub lifetime: Option<Lifetime>,
     pub mutability: Option<Mut>,
@@ -188,37 +219,40 @@ pub struct TypeReferenceOf<T> {
 }
 
 /// A reference: `&`, an optional lifetime, an optional `mut`, a type.
-pub type TypeReference<X> = TypeReferenceOf<Type<X>>;
+pub type TypeReference<X> = TypeReferenceOf<Type<X>, Attribute<X>>;
 
 /// A slice over its element's type.
 #[derive(Drop)]
-pub struct TypeSliceOf<T> {
+pub struct TypeSliceOf<T, A> {
+    pub attrs: Items<A>,
     pub bracket_token: Bracket,
     pub elem: Boxed<T>,
 }
 
 /// A slice: a type in brackets.
-pub type TypeSlice<X> = TypeSliceOf<Type<X>>;
+pub type TypeSlice<X> = TypeSliceOf<Type<X>, Attribute<X>>;
 
 /// A trait object, over its bounds.
 #[derive(Drop)]
-pub struct TypeTraitObjectOf<B> {
+pub struct TypeTraitObjectOf<B, A> {
+    pub attrs: Items<A>,
     pub dyn_token: Option<Dyn>,
     pub bounds: Punctuated<B, Plus>,
 }
 
 /// A trait object: `dyn`, and bounds joined by `+`.
-pub type TypeTraitObject<X> = TypeTraitObjectOf<TypeParamBound<X>>;
+pub type TypeTraitObject<X> = TypeTraitObjectOf<TypeParamBound<X>, Attribute<X>>;
 
 /// A tuple over its elements' type.
 #[derive(Drop)]
-pub struct TypeTupleOf<T> {
+pub struct TypeTupleOf<T, A> {
+    pub attrs: Items<A>,
     pub paren_token: Paren,
     pub elems: Punctuated<T, Comma>,
 }
 
 /// A tuple: types in parentheses, joined by commas.
-pub type TypeTuple<X> = TypeTupleOf<Type<X>>;
+pub type TypeTuple<X> = TypeTupleOf<Type<X>, Attribute<X>>;
 
 /// The calling convention of a function: `extern "C"`.
 #[derive(Drop)]
@@ -229,23 +263,26 @@ pub struct Abi {
 
 /// An argument of a pointer to a function, over its type.
 #[derive(Drop)]
-pub struct NamedArgOf<T, X> {
-    pub attrs: Items<Attribute<X>>,
+pub struct NamedArgOf<T, A> {
+    pub attrs: Items<A>,
     pub name: Option<(Ident, Colon)>,
     pub ty: T,
 }
 
 /// An argument of a pointer to a function: attributes, an optional name, a type.
-pub type NamedArg<X> = NamedArgOf<Type<X>, X>;
+pub type NamedArg<X> = NamedArgOf<Type<X>, Attribute<X>>;
 
 /// What stands after the arguments of a function that takes any number of them: attributes, an optional name, `...`, an optional comma.
 #[derive(Drop)]
-pub struct FnPtrVariadic<X> {
-    pub attrs: Items<Attribute<X>>,
+pub struct FnPtrVariadicOf<A> {
+    pub attrs: Items<A>,
     pub name: Option<(Ident, Colon)>,
     pub dots: DotDotDot,
     pub comma: Option<Comma>,
 }
+
+/// What stands after the arguments of a function that takes any number of them.
+pub type FnPtrVariadic<X> = FnPtrVariadicOf<Attribute<X>>;
 
 /// What a function returns, over its type.
 #[derive(Drop)]
@@ -261,13 +298,13 @@ pub type ReturnType<X> = ReturnTypeOf<Type<X>>;
 
 // ---- readers
 
-impl<X: Subtree> Type<X> {
+impl<A: Attributes, E: Value> TypeOf<A, E> {
     /// Reads a type where no `+` may follow it, as what a pointer or a reference points to (`Type::without_plus`).
-    pub fn without_plus(alloc: Global, input: &mut ParseStream<'_>) -> Result<Type<X>, Error>
-        ensures reads { Reads (knot.ty X.reads false input.old) result input.new }
+    pub fn without_plus(alloc: Global, input: &mut ParseStream<'_>) -> Result<TypeOf<A, E>, Error>
+        ensures reads { Reads (knot.ty E.reads false input.old) result input.new }
         ensures within { Follows input.old input.new }
-        ensures front { Visible input.old.rest → input.new.left ≡ Option.None → IfOk result (λ x. IsSomeType X.spells false false x input.old.rest input.new.rest) }
-        ensures headline { Heads (grammars.ty X.reads X.spells X.normal X.prints false) input.old result input.new }
+        ensures front { Visible input.old.rest → input.new.left ≡ Option.None → IfOk result (λ x. IsSomeType E.spells false false x input.old.rest input.new.rest) }
+        ensures headline { Heads (grammars.ty E.reads E.spells A.normal E.normal A.shown E.values false) input.old result input.new }
     {
         parse_type(alloc, PhantomData, input, false)
     }
@@ -276,180 +313,198 @@ impl<X: Subtree> Type<X> {
 /// Reads a type: a path, a macro call, a tuple, a type in parentheses, a slice, an array, a pointer, a reference, `!` or `_`.
 /// It is refused where none begins, where one of its parts is refused, and where what follows would go on with it in a
 /// form that is not read yet: `<` after a path, and `+` after a path or parentheses.
-impl<X: Subtree> Parse for Type<X> {
-    ghost reads = { Gives (knot.ty X.reads true) };
+impl<A: Attributes, E: Value> Parse for TypeOf<A, E> {
+    ghost reads = { Gives (knot.ty E.reads true) };
 
-    ghost refuses = { Fails (knot.ty X.reads true) };
+    ghost refuses = { Fails (knot.ty {A = A} E.reads true) };
 
-    ghost promise = { Headline (grammars.ty X.reads X.spells X.normal X.prints true) };
+    ghost promise = { Headline (grammars.ty E.reads E.spells A.normal E.normal A.shown E.values true) };
 
-    fn parse(alloc: Global, input: &mut ParseStream<'_>) -> Result<Type<X>, Error>
-        ensures reads { Reads (knot.ty X.reads true input.old) result input.new }
+    fn parse(alloc: Global, input: &mut ParseStream<'_>) -> Result<TypeOf<A, E>, Error>
+        ensures reads { Reads (knot.ty E.reads true input.old) result input.new }
         ensures within { Follows input.old input.new }
-        ensures front { Visible input.old.rest → input.new.left ≡ Option.None → IfOk result (λ x. IsSomeType X.spells false true x input.old.rest input.new.rest) }
-        ensures promise { Heads (grammars.ty X.reads X.spells X.normal X.prints true) input.old result input.new }
+        ensures front { Visible input.old.rest → input.new.left ≡ Option.None → IfOk result (λ x. IsSomeType E.spells false true x input.old.rest input.new.rest) }
+        ensures promise { Heads (grammars.ty E.reads E.spells A.normal E.normal A.shown E.values true) input.old result input.new }
     {
         parse_type(alloc, PhantomData, input, true)
     }
 }
 
 /// Reads a slice: a type in brackets.
-impl<X: Subtree> Parse for TypeSlice<X> {
-    ghost reads = { Gives (knot.slice X.reads) };
+impl<A: Attributes, E: Value> Parse for TypeSliceOf<TypeOf<A, E>, A> {
+    ghost reads = { Gives (knot.slice E.reads) };
 
-    ghost refuses = { Fails (knot.slice X.reads) };
+    ghost refuses = { Fails (knot.slice {A = A} E.reads) };
 
-    ghost promise = { Headline (grammars.slice X.reads X.spells X.normal X.prints) };
+    ghost promise = { Headline (grammars.slice E.reads E.spells A.normal E.normal A.shown E.values) };
 
-    fn parse(alloc: Global, input: &mut ParseStream<'_>) -> Result<TypeSlice<X>, Error>
-        ensures reads { Reads (knot.slice X.reads input.old) result input.new }
+    fn parse(
+        alloc: Global,
+        input: &mut ParseStream<'_>,
+    ) -> Result<TypeSliceOf<TypeOf<A, E>, A>, Error>
+        ensures reads { Reads (knot.slice E.reads input.old) result input.new }
         ensures within { Follows input.old input.new }
-        ensures front { Visible input.old.rest → input.new.left ≡ Option.None → IfOk result (λ x. IsSomeSlice X.spells false x input.old.rest input.new.rest) }
-        ensures promise { Heads (grammars.slice X.reads X.spells X.normal X.prints) input.old result input.new }
+        ensures front { Visible input.old.rest → input.new.left ≡ Option.None → IfOk result (λ x. IsSomeSlice E.spells false x input.old.rest input.new.rest) }
+        ensures promise { Heads (grammars.slice E.reads E.spells A.normal E.normal A.shown E.values) input.old result input.new }
     {
         parse_slice(alloc, input)
     }
 }
 
 /// Reads an array: in brackets a type, `;`, and a length, which the supplied subtree reads.
-impl<X: Subtree> Parse for TypeArray<X> {
-    ghost reads = { Gives (knot.array X.reads) };
+impl<A: Attributes, E: Value> Parse for TypeArrayOf<TypeOf<A, E>, A, E> {
+    ghost reads = { Gives (knot.array E.reads) };
 
-    ghost refuses = { Fails (knot.array X.reads) };
+    ghost refuses = { Fails (knot.array {A = A} E.reads) };
 
-    ghost promise = { Headline (grammars.array X.reads X.spells X.normal X.prints) };
+    ghost promise = { Headline (grammars.array E.reads E.spells A.normal E.normal A.shown E.values) };
 
-    fn parse(alloc: Global, input: &mut ParseStream<'_>) -> Result<TypeArray<X>, Error>
-        ensures reads { Reads (knot.array X.reads input.old) result input.new }
+    fn parse(
+        alloc: Global,
+        input: &mut ParseStream<'_>,
+    ) -> Result<TypeArrayOf<TypeOf<A, E>, A, E>, Error>
+        ensures reads { Reads (knot.array E.reads input.old) result input.new }
         ensures within { Follows input.old input.new }
-        ensures front { Visible input.old.rest → input.new.left ≡ Option.None → IfOk result (λ x. IsSomeArray X.spells false x input.old.rest input.new.rest) }
-        ensures promise { Heads (grammars.array X.reads X.spells X.normal X.prints) input.old result input.new }
+        ensures front { Visible input.old.rest → input.new.left ≡ Option.None → IfOk result (λ x. IsSomeArray E.spells false x input.old.rest input.new.rest) }
+        ensures promise { Heads (grammars.array E.reads E.spells A.normal E.normal A.shown E.values) input.old result input.new }
     {
         parse_array(alloc, input)
     }
 }
 
 /// Reads a raw pointer: `*`, `const` or `mut`, and a type without plus.
-impl<X: Subtree> Parse for TypePtr<X> {
-    ghost reads = { Gives (knot.ptr X.reads) };
+impl<A: Attributes, E: Value> Parse for TypePtrOf<TypeOf<A, E>, A> {
+    ghost reads = { Gives (knot.ptr E.reads) };
 
-    ghost refuses = { Fails (knot.ptr X.reads) };
+    ghost refuses = { Fails (knot.ptr {A = A} E.reads) };
 
-    ghost promise = { Headline (grammars.ptr X.reads X.spells X.normal X.prints) };
+    ghost promise = { Headline (grammars.ptr E.reads E.spells A.normal E.normal A.shown E.values) };
 
-    fn parse(alloc: Global, input: &mut ParseStream<'_>) -> Result<TypePtr<X>, Error>
-        ensures reads { Reads (knot.ptr X.reads input.old) result input.new }
+    fn parse(
+        alloc: Global,
+        input: &mut ParseStream<'_>,
+    ) -> Result<TypePtrOf<TypeOf<A, E>, A>, Error>
+        ensures reads { Reads (knot.ptr E.reads input.old) result input.new }
         ensures within { Follows input.old input.new }
-        ensures front { Visible input.old.rest → input.new.left ≡ Option.None → IfOk result (λ x. IsSomePtr X.spells false x input.old.rest input.new.rest) }
-        ensures promise { Heads (grammars.ptr X.reads X.spells X.normal X.prints) input.old result input.new }
+        ensures front { Visible input.old.rest → input.new.left ≡ Option.None → IfOk result (λ x. IsSomePtr E.spells false x input.old.rest input.new.rest) }
+        ensures promise { Heads (grammars.ptr E.reads E.spells A.normal E.normal A.shown E.values) input.old result input.new }
     {
         parse_ptr(alloc, input)
     }
 }
 
 /// Reads a reference: `&`, an optional lifetime, an optional `mut`, and a type without plus.
-impl<X: Subtree> Parse for TypeReference<X> {
-    ghost reads = { Gives (knot.reference X.reads) };
+impl<A: Attributes, E: Value> Parse for TypeReferenceOf<TypeOf<A, E>, A> {
+    ghost reads = { Gives (knot.reference E.reads) };
 
-    ghost refuses = { Fails (knot.reference X.reads) };
+    ghost refuses = { Fails (knot.reference {A = A} E.reads) };
 
-    ghost promise = { Headline (grammars.reference X.reads X.spells X.normal X.prints) };
+    ghost promise = { Headline (grammars.reference E.reads E.spells A.normal E.normal A.shown E.values) };
 
-    fn parse(alloc: Global, input: &mut ParseStream<'_>) -> Result<TypeReference<X>, Error>
-        ensures reads { Reads (knot.reference X.reads input.old) result input.new }
+    fn parse(
+        alloc: Global,
+        input: &mut ParseStream<'_>,
+    ) -> Result<TypeReferenceOf<TypeOf<A, E>, A>, Error>
+        ensures reads { Reads (knot.reference E.reads input.old) result input.new }
         ensures within { Follows input.old input.new }
-        ensures front { Visible input.old.rest → input.new.left ≡ Option.None → IfOk result (λ x. IsSomeReference X.spells false x input.old.rest input.new.rest) }
-        ensures promise { Heads (grammars.reference X.reads X.spells X.normal X.prints) input.old result input.new }
+        ensures front { Visible input.old.rest → input.new.left ≡ Option.None → IfOk result (λ x. IsSomeReference E.spells false x input.old.rest input.new.rest) }
+        ensures promise { Heads (grammars.reference E.reads E.spells A.normal E.normal A.shown E.values) input.old result input.new }
     {
         parse_reference(alloc, input)
     }
 }
 
 /// Reads a tuple: in parentheses nothing, or types joined by commas, of which one follows the first.
-impl<X: Subtree> Parse for TypeTuple<X> {
-    ghost reads = { Gives (knot.tuple X.reads) };
+impl<A: Attributes, E: Value> Parse for TypeTupleOf<TypeOf<A, E>, A> {
+    ghost reads = { Gives (knot.tuple E.reads) };
 
-    ghost refuses = { Fails (knot.tuple X.reads) };
+    ghost refuses = { Fails (knot.tuple {A = A} E.reads) };
 
-    ghost promise = { Headline (grammars.tuple X.reads X.spells X.normal X.prints) };
+    ghost promise = { Headline (grammars.tuple E.reads E.spells A.normal E.normal A.shown E.values) };
 
-    fn parse(alloc: Global, input: &mut ParseStream<'_>) -> Result<TypeTuple<X>, Error>
-        ensures reads { Reads (knot.tuple X.reads input.old) result input.new }
+    fn parse(
+        alloc: Global,
+        input: &mut ParseStream<'_>,
+    ) -> Result<TypeTupleOf<TypeOf<A, E>, A>, Error>
+        ensures reads { Reads (knot.tuple E.reads input.old) result input.new }
         ensures within { Follows input.old input.new }
-        ensures front { Visible input.old.rest → input.new.left ≡ Option.None → IfOk result (λ x. IsSomeTuple X.spells false x input.old.rest input.new.rest) }
-        ensures promise { Heads (grammars.tuple X.reads X.spells X.normal X.prints) input.old result input.new }
+        ensures front { Visible input.old.rest → input.new.left ≡ Option.None → IfOk result (λ x. IsSomeTuple E.spells false x input.old.rest input.new.rest) }
+        ensures promise { Heads (grammars.tuple E.reads E.spells A.normal E.normal A.shown E.values) input.old result input.new }
     {
         parse_tuple(alloc, input)
     }
 }
 
 /// Reads a type in parentheses; it is read without plus.
-impl<X: Subtree> Parse for TypeParen<X> {
-    ghost reads = { Gives (knot.paren X.reads) };
+impl<A: Attributes, E: Value> Parse for TypeParenOf<TypeOf<A, E>, A> {
+    ghost reads = { Gives (knot.paren E.reads) };
 
-    ghost refuses = { Fails (knot.paren X.reads) };
+    ghost refuses = { Fails (knot.paren {A = A} E.reads) };
 
-    ghost promise = { Headline (grammars.paren X.reads X.spells X.normal X.prints) };
+    ghost promise = { Headline (grammars.paren E.reads E.spells A.normal E.normal A.shown E.values) };
 
-    fn parse(alloc: Global, input: &mut ParseStream<'_>) -> Result<TypeParen<X>, Error>
-        ensures reads { Reads (knot.paren X.reads input.old) result input.new }
+    fn parse(
+        alloc: Global,
+        input: &mut ParseStream<'_>,
+    ) -> Result<TypeParenOf<TypeOf<A, E>, A>, Error>
+        ensures reads { Reads (knot.paren E.reads input.old) result input.new }
         ensures within { Follows input.old input.new }
-        ensures front { Visible input.old.rest → input.new.left ≡ Option.None → IfOk result (λ x. IsSomeParen X.spells false x input.old.rest input.new.rest) }
-        ensures promise { Heads (grammars.paren X.reads X.spells X.normal X.prints) input.old result input.new }
+        ensures front { Visible input.old.rest → input.new.left ≡ Option.None → IfOk result (λ x. IsSomeParen E.spells false x input.old.rest input.new.rest) }
+        ensures promise { Heads (grammars.paren E.reads E.spells A.normal E.normal A.shown E.values) input.old result input.new }
     {
         parse_paren(alloc, input)
     }
 }
 
 /// Reads `!`.
-impl Parse for TypeNever {
-    ghost reads = { Gives reading.never };
+impl<A: Attributes> Parse for TypeNeverOf<A> {
+    ghost reads = { Gives (reading.never {A = A}) };
 
-    ghost refuses = { Fails reading.never };
+    ghost refuses = { Fails (reading.never {A = A}) };
 
-    ghost promise = { Headline grammars.never };
+    ghost promise = { Headline (grammars.never A.normal) };
 
-    fn parse(alloc: Global, input: &mut ParseStream<'_>) -> Result<TypeNever, Error>
+    fn parse(alloc: Global, input: &mut ParseStream<'_>) -> Result<TypeNeverOf<A>, Error>
         ensures reads { Reads (reading.never input.old) result input.new }
         ensures within { Follows input.old input.new }
         ensures front { Visible input.old.rest → IfOk result (λ x. IsNever false x input.old.rest input.new.rest) }
-        ensures promise { Heads grammars.never input.old result input.new }
+        ensures promise { Heads (grammars.never A.normal) input.old result input.new }
     {
         parse_never(alloc, input)
     }
 }
 
 /// Reads `_`.
-impl Parse for TypeInfer {
-    ghost reads = { Gives reading.infer };
+impl<A: Attributes> Parse for TypeInferOf<A> {
+    ghost reads = { Gives (reading.infer {A = A}) };
 
-    ghost refuses = { Fails reading.infer };
+    ghost refuses = { Fails (reading.infer {A = A}) };
 
-    ghost promise = { Headline grammars.infer };
+    ghost promise = { Headline (grammars.infer A.normal) };
 
-    fn parse(alloc: Global, input: &mut ParseStream<'_>) -> Result<TypeInfer, Error>
+    fn parse(alloc: Global, input: &mut ParseStream<'_>) -> Result<TypeInferOf<A>, Error>
         ensures reads { Reads (reading.infer input.old) result input.new }
         ensures within { Follows input.old input.new }
         ensures front { Visible input.old.rest → IfOk result (λ x. IsInfer x input.old.rest input.new.rest) }
-        ensures promise { Heads grammars.infer input.old result input.new }
+        ensures promise { Heads (grammars.infer A.normal) input.old result input.new }
     {
         parse_infer(alloc, input)
     }
 }
 
 /// Reads a macro call, as `Macro` does.
-impl<X: Subtree> Parse for TypeMacro<X> {
-    ghost reads = { Gives (reading.macro_type {X = X}) };
+impl<A: Attributes> Parse for TypeMacroOf<A> {
+    ghost reads = { Gives (reading.macro_type {A = A}) };
 
-    ghost refuses = { Fails (reading.macro_type {X = X}) };
+    ghost refuses = { Fails (reading.macro_type {A = A}) };
 
-    ghost promise = { Headline (grammars.macro_type {X = X}) };
+    ghost promise = { Headline (grammars.macro_type A.normal) };
 
-    fn parse(alloc: Global, input: &mut ParseStream<'_>) -> Result<TypeMacro<X>, Error>
+    fn parse(alloc: Global, input: &mut ParseStream<'_>) -> Result<TypeMacroOf<A>, Error>
         ensures reads { Reads (reading.macro_type input.old) result input.new }
         ensures within { Follows input.old input.new }
         ensures front { Visible input.old.rest → IfOk result (λ x. IsMacroType false x input.old.rest input.new.rest) }
-        ensures promise { Heads grammars.macro_type input.old result input.new }
+        ensures promise { Heads (grammars.macro_type A.normal) input.old result input.new }
     {
         parse_macro_type(alloc, input)
     }
@@ -457,18 +512,18 @@ impl<X: Subtree> Parse for TypeMacro<X> {
 
 /// Reads a path without arguments: an optional `::`, and identifiers, `super`, `self`, `Self`, `crate` or `try` joined by `::`.
 /// A `<` after it is refused: arguments are not read yet.
-impl<X: Subtree> Parse for TypePath<X> {
-    ghost reads = { Gives (reading.path_type {X = X}) };
+impl<A: Attributes, E: Value> Parse for TypePathOf<A, E> {
+    ghost reads = { Gives (reading.path_type {A = A} {E = E}) };
 
-    ghost refuses = { Fails (reading.path_type {X = X}) };
+    ghost refuses = { Fails (reading.path_type {A = A} {E = E}) };
 
-    ghost promise = { Headline (grammars.path_type X.reads X.spells X.normal X.prints) };
+    ghost promise = { Headline (grammars.path_type E.reads E.spells A.normal E.normal A.shown E.values) };
 
-    fn parse(alloc: Global, input: &mut ParseStream<'_>) -> Result<TypePath<X>, Error>
+    fn parse(alloc: Global, input: &mut ParseStream<'_>) -> Result<TypePathOf<A, E>, Error>
         ensures reads { Reads (reading.path_type input.old) result input.new }
         ensures within { Follows input.old input.new }
         ensures front { Visible input.old.rest → IfOk result (λ x. IsPathType false x input.old.rest input.new.rest) }
-        ensures promise { Heads (grammars.path_type X.reads X.spells X.normal X.prints) input.old result input.new }
+        ensures promise { Heads (grammars.path_type E.reads E.spells A.normal E.normal A.shown E.values) input.old result input.new }
     {
         parse_path_type(alloc, input)
     }
@@ -494,122 +549,122 @@ impl Parse for PointerMutability {
 
 // ---- a form as a type
 
-impl<X> From<TypeArray<X>> for Type<X> {
+impl<A, E> From<TypeArrayOf<TypeOf<A, E>, A, E>> for TypeOf<A, E> {
     ghost from_gives = { λ form ty. ty ≡ types.Array form };
 
-    fn from(form: TypeArray<X>) -> Type<X> {
-        Type::Array(form)
+    fn from(form: TypeArrayOf<TypeOf<A, E>, A, E>) -> TypeOf<A, E> {
+        TypeOf::Array(form)
     }
 }
 
-impl<X> From<TypeFnPtr<X>> for Type<X> {
+impl<A, E> From<TypeFnPtrOf<A, E>> for TypeOf<A, E> {
     ghost from_gives = { λ form ty. ty ≡ types.FnPtr form };
 
-    fn from(form: TypeFnPtr<X>) -> Type<X> {
-        Type::FnPtr(form)
+    fn from(form: TypeFnPtrOf<A, E>) -> TypeOf<A, E> {
+        TypeOf::FnPtr(form)
     }
 }
 
-impl<X> From<TypeGroup<X>> for Type<X> {
+impl<A, E> From<TypeGroupOf<TypeOf<A, E>, A>> for TypeOf<A, E> {
     ghost from_gives = { λ form ty. ty ≡ types.Group form };
 
-    fn from(form: TypeGroup<X>) -> Type<X> {
-        Type::Group(form)
+    fn from(form: TypeGroupOf<TypeOf<A, E>, A>) -> TypeOf<A, E> {
+        TypeOf::Group(form)
     }
 }
 
-impl<X> From<TypeImplTrait<X>> for Type<X> {
+impl<A, E> From<TypeImplTraitOf<TypeParamBoundOf<A, E>, A>> for TypeOf<A, E> {
     ghost from_gives = { λ form ty. ty ≡ types.ImplTrait form };
 
-    fn from(form: TypeImplTrait<X>) -> Type<X> {
-        Type::ImplTrait(form)
+    fn from(form: TypeImplTraitOf<TypeParamBoundOf<A, E>, A>) -> TypeOf<A, E> {
+        TypeOf::ImplTrait(form)
     }
 }
 
-impl<X> From<TypeInfer> for Type<X> {
+impl<A, E> From<TypeInferOf<A>> for TypeOf<A, E> {
     ghost from_gives = { λ form ty. ty ≡ types.Infer form };
 
-    fn from(form: TypeInfer) -> Type<X> {
-        Type::Infer(form)
+    fn from(form: TypeInferOf<A>) -> TypeOf<A, E> {
+        TypeOf::Infer(form)
     }
 }
 
-impl<X> From<TypeMacro<X>> for Type<X> {
+impl<A, E> From<TypeMacroOf<A>> for TypeOf<A, E> {
     ghost from_gives = { λ form ty. ty ≡ types.Macro form };
 
-    fn from(form: TypeMacro<X>) -> Type<X> {
-        Type::Macro(form)
+    fn from(form: TypeMacroOf<A>) -> TypeOf<A, E> {
+        TypeOf::Macro(form)
     }
 }
 
-impl<X> From<TypeNever> for Type<X> {
+impl<A, E> From<TypeNeverOf<A>> for TypeOf<A, E> {
     ghost from_gives = { λ form ty. ty ≡ types.Never form };
 
-    fn from(form: TypeNever) -> Type<X> {
-        Type::Never(form)
+    fn from(form: TypeNeverOf<A>) -> TypeOf<A, E> {
+        TypeOf::Never(form)
     }
 }
 
-impl<X> From<TypeParen<X>> for Type<X> {
+impl<A, E> From<TypeParenOf<TypeOf<A, E>, A>> for TypeOf<A, E> {
     ghost from_gives = { λ form ty. ty ≡ types.Paren form };
 
-    fn from(form: TypeParen<X>) -> Type<X> {
-        Type::Paren(form)
+    fn from(form: TypeParenOf<TypeOf<A, E>, A>) -> TypeOf<A, E> {
+        TypeOf::Paren(form)
     }
 }
 
-impl<X> From<TypePath<X>> for Type<X> {
+impl<A, E> From<TypePathOf<A, E>> for TypeOf<A, E> {
     ghost from_gives = { λ form ty. ty ≡ types.Path form };
 
-    fn from(form: TypePath<X>) -> Type<X> {
-        Type::Path(form)
+    fn from(form: TypePathOf<A, E>) -> TypeOf<A, E> {
+        TypeOf::Path(form)
     }
 }
 
-impl<X> From<TypePtr<X>> for Type<X> {
+impl<A, E> From<TypePtrOf<TypeOf<A, E>, A>> for TypeOf<A, E> {
     ghost from_gives = { λ form ty. ty ≡ types.Ptr form };
 
-    fn from(form: TypePtr<X>) -> Type<X> {
-        Type::Ptr(form)
+    fn from(form: TypePtrOf<TypeOf<A, E>, A>) -> TypeOf<A, E> {
+        TypeOf::Ptr(form)
     }
 }
 
-impl<X> From<TypeReference<X>> for Type<X> {
+impl<A, E> From<TypeReferenceOf<TypeOf<A, E>, A>> for TypeOf<A, E> {
     ghost from_gives = { λ form ty. ty ≡ types.Reference form };
 
-    fn from(form: TypeReference<X>) -> Type<X> {
-        Type::Reference(form)
+    fn from(form: TypeReferenceOf<TypeOf<A, E>, A>) -> TypeOf<A, E> {
+        TypeOf::Reference(form)
     }
 }
 
-impl<X> From<TypeSlice<X>> for Type<X> {
+impl<A, E> From<TypeSliceOf<TypeOf<A, E>, A>> for TypeOf<A, E> {
     ghost from_gives = { λ form ty. ty ≡ types.Slice form };
 
-    fn from(form: TypeSlice<X>) -> Type<X> {
-        Type::Slice(form)
+    fn from(form: TypeSliceOf<TypeOf<A, E>, A>) -> TypeOf<A, E> {
+        TypeOf::Slice(form)
     }
 }
 
-impl<X> From<TypeTraitObject<X>> for Type<X> {
+impl<A, E> From<TypeTraitObjectOf<TypeParamBoundOf<A, E>, A>> for TypeOf<A, E> {
     ghost from_gives = { λ form ty. ty ≡ types.TraitObject form };
 
-    fn from(form: TypeTraitObject<X>) -> Type<X> {
-        Type::TraitObject(form)
+    fn from(form: TypeTraitObjectOf<TypeParamBoundOf<A, E>, A>) -> TypeOf<A, E> {
+        TypeOf::TraitObject(form)
     }
 }
 
-impl<X> From<TypeTuple<X>> for Type<X> {
+impl<A, E> From<TypeTupleOf<TypeOf<A, E>, A>> for TypeOf<A, E> {
     ghost from_gives = { λ form ty. ty ≡ types.Tuple form };
 
-    fn from(form: TypeTuple<X>) -> Type<X> {
-        Type::Tuple(form)
+    fn from(form: TypeTupleOf<TypeOf<A, E>, A>) -> TypeOf<A, E> {
+        TypeOf::Tuple(form)
     }
 }
 
 // ---- prints
 
-impl<X: Subtree> ToTokens for Type<X> {
-    ghost print = { printing.ty X.prints };
+impl<A: Attributes, E: Value> ToTokens for TypeOf<A, E> {
+    ghost print = { printing.ty A.shown E.values };
 
     fn to_tokens(&self, alloc: Global, out: &mut TokenStream) -> Result<(), AllocError> {
         let before = out.len();
@@ -623,8 +678,8 @@ impl<X: Subtree> ToTokens for Type<X> {
     }
 }
 
-impl<X: Subtree> ToTokens for TypeArray<X> {
-    ghost print = { printing.array X.prints };
+impl<A: Attributes, E: Value> ToTokens for TypeArrayOf<TypeOf<A, E>, A, E> {
+    ghost print = { printing.array A.shown E.values };
 
     fn to_tokens(&self, alloc: Global, out: &mut TokenStream) -> Result<(), AllocError> {
         let before = out.len();
@@ -638,8 +693,8 @@ impl<X: Subtree> ToTokens for TypeArray<X> {
     }
 }
 
-impl<X: Subtree> ToTokens for TypeGroup<X> {
-    ghost print = { printing.group X.prints };
+impl<A: Attributes, E: Value> ToTokens for TypeGroupOf<TypeOf<A, E>, A> {
+    ghost print = { printing.group A.shown E.values };
 
     fn to_tokens(&self, alloc: Global, out: &mut TokenStream) -> Result<(), AllocError> {
         let before = out.len();
@@ -653,7 +708,7 @@ impl<X: Subtree> ToTokens for TypeGroup<X> {
     }
 }
 
-impl ToTokens for TypeInfer {
+impl<A> ToTokens for TypeInferOf<A> {
     ghost print = { printing.infer };
 
     fn to_tokens(&self, alloc: Global, out: &mut TokenStream) -> Result<(), AllocError> {
@@ -661,7 +716,7 @@ impl ToTokens for TypeInfer {
     }
 }
 
-impl<X> ToTokens for TypeMacro<X> {
+impl<A> ToTokens for TypeMacroOf<A> {
     ghost print = { printing.macro_type };
 
     fn to_tokens(&self, alloc: Global, out: &mut TokenStream) -> Result<(), AllocError> {
@@ -669,7 +724,7 @@ impl<X> ToTokens for TypeMacro<X> {
     }
 }
 
-impl ToTokens for TypeNever {
+impl<A> ToTokens for TypeNeverOf<A> {
     ghost print = { printing.never };
 
     fn to_tokens(&self, alloc: Global, out: &mut TokenStream) -> Result<(), AllocError> {
@@ -677,8 +732,8 @@ impl ToTokens for TypeNever {
     }
 }
 
-impl<X: Subtree> ToTokens for TypeParen<X> {
-    ghost print = { printing.paren X.prints };
+impl<A: Attributes, E: Value> ToTokens for TypeParenOf<TypeOf<A, E>, A> {
+    ghost print = { printing.paren A.shown E.values };
 
     fn to_tokens(&self, alloc: Global, out: &mut TokenStream) -> Result<(), AllocError> {
         let before = out.len();
@@ -693,8 +748,8 @@ impl<X: Subtree> ToTokens for TypeParen<X> {
 }
 
 /// Appends a path as it stands; a qualified one between `<` and `>`, which stand after as many segments as its `position` says, or as there are.
-impl<X: Subtree> ToTokens for TypePath<X> {
-    ghost print = { printing.path_type X.prints };
+impl<A: Attributes, E: Value> ToTokens for TypePathOf<A, E> {
+    ghost print = { printing.path_type A.shown E.values };
 
     fn to_tokens(&self, alloc: Global, out: &mut TokenStream) -> Result<(), AllocError> {
         let before = out.len();
@@ -708,8 +763,8 @@ impl<X: Subtree> ToTokens for TypePath<X> {
     }
 }
 
-impl<X: Subtree> ToTokens for TypePtr<X> {
-    ghost print = { printing.ptr X.prints };
+impl<A: Attributes, E: Value> ToTokens for TypePtrOf<TypeOf<A, E>, A> {
+    ghost print = { printing.ptr A.shown E.values };
 
     fn to_tokens(&self, alloc: Global, out: &mut TokenStream) -> Result<(), AllocError> {
         let before = out.len();
@@ -723,8 +778,8 @@ impl<X: Subtree> ToTokens for TypePtr<X> {
     }
 }
 
-impl<X: Subtree> ToTokens for TypeReference<X> {
-    ghost print = { printing.reference X.prints };
+impl<A: Attributes, E: Value> ToTokens for TypeReferenceOf<TypeOf<A, E>, A> {
+    ghost print = { printing.reference A.shown E.values };
 
     fn to_tokens(&self, alloc: Global, out: &mut TokenStream) -> Result<(), AllocError> {
         let before = out.len();
@@ -738,8 +793,8 @@ impl<X: Subtree> ToTokens for TypeReference<X> {
     }
 }
 
-impl<X: Subtree> ToTokens for TypeSlice<X> {
-    ghost print = { printing.slice X.prints };
+impl<A: Attributes, E: Value> ToTokens for TypeSliceOf<TypeOf<A, E>, A> {
+    ghost print = { printing.slice A.shown E.values };
 
     fn to_tokens(&self, alloc: Global, out: &mut TokenStream) -> Result<(), AllocError> {
         let before = out.len();
@@ -753,8 +808,8 @@ impl<X: Subtree> ToTokens for TypeSlice<X> {
     }
 }
 
-impl<X: Subtree> ToTokens for TypeTuple<X> {
-    ghost print = { printing.tuple X.prints };
+impl<A: Attributes, E: Value> ToTokens for TypeTupleOf<TypeOf<A, E>, A> {
+    ghost print = { printing.tuple A.shown E.values };
 
     fn to_tokens(&self, alloc: Global, out: &mut TokenStream) -> Result<(), AllocError> {
         let before = out.len();
@@ -808,8 +863,8 @@ fn print_abi(alloc: Global, abi: &Abi, out: &mut TokenStream) -> Result<(), Allo
 }
 
 /// Appends nothing, or `->` and the type.
-impl<X: Subtree> ToTokens for ReturnType<X> {
-    ghost print = { printing.return_type X.prints };
+impl<A: Attributes, E: Value> ToTokens for ReturnTypeOf<TypeOf<A, E>> {
+    ghost print = { printing.return_type A.shown E.values };
 
     fn to_tokens(&self, alloc: Global, out: &mut TokenStream) -> Result<(), AllocError> {
         let before = out.len();
@@ -824,12 +879,12 @@ impl<X: Subtree> ToTokens for ReturnType<X> {
 }
 
 #[tactic(auto, using(token_core::proofs::Puts::puts))]
-fn print_return_type<X: Subtree>(
+fn print_return_type<A: Attributes, E: Value>(
     alloc: Global,
-    output: &ReturnType<X>,
+    output: &ReturnTypeOf<TypeOf<A, E>>,
     out: &mut TokenStream,
 ) -> Result<(), AllocError>
-    ensures ok { OnOk result (trees out.new ≡ trees out.old ++ printing.return_type X.prints output.now) }
+    ensures ok { OnOk result (trees out.new ≡ trees out.old ++ printing.return_type A.shown E.values output.now) }
     ensures err { OnErr result (Extends (trees out.old) (trees out.new)) }
 {
     match output {
@@ -842,8 +897,8 @@ fn print_return_type<X: Subtree>(
 }
 
 /// Appends the binder, `unsafe`, the convention, `fn`, in parentheses the arguments and `...` after a comma, and what is returned.
-impl<X: Subtree> ToTokens for TypeFnPtr<X> {
-    ghost print = { printing.fn_ptr X.prints };
+impl<A: Attributes, E: Value> ToTokens for TypeFnPtrOf<A, E> {
+    ghost print = { printing.fn_ptr A.shown E.values };
 
     fn to_tokens(&self, alloc: Global, out: &mut TokenStream) -> Result<(), AllocError> {
         let before = out.len();
@@ -857,8 +912,8 @@ impl<X: Subtree> ToTokens for TypeFnPtr<X> {
     }
 }
 
-impl<X: Subtree> ToTokens for TypeImplTrait<X> {
-    ghost print = { printing.impl_trait X.prints };
+impl<A: Attributes, E: Value> ToTokens for TypeImplTraitOf<TypeParamBoundOf<A, E>, A> {
+    ghost print = { printing.impl_trait A.shown E.values };
 
     fn to_tokens(&self, alloc: Global, out: &mut TokenStream) -> Result<(), AllocError> {
         let before = out.len();
@@ -872,8 +927,8 @@ impl<X: Subtree> ToTokens for TypeImplTrait<X> {
     }
 }
 
-impl<X: Subtree> ToTokens for TypeTraitObject<X> {
-    ghost print = { printing.trait_object X.prints };
+impl<A: Attributes, E: Value> ToTokens for TypeTraitObjectOf<TypeParamBoundOf<A, E>, A> {
+    ghost print = { printing.trait_object A.shown E.values };
 
     fn to_tokens(&self, alloc: Global, out: &mut TokenStream) -> Result<(), AllocError> {
         let before = out.len();
@@ -888,8 +943,8 @@ impl<X: Subtree> ToTokens for TypeTraitObject<X> {
 }
 
 /// Appends the outer attributes, the name and its colon, and the type.
-impl<X: Subtree> ToTokens for NamedArg<X> {
-    ghost print = { printing.named_arg X.prints };
+impl<A: Attributes, E: Value> ToTokens for NamedArgOf<TypeOf<A, E>, A> {
+    ghost print = { printing.named_arg A.shown E.values };
 
     fn to_tokens(&self, alloc: Global, out: &mut TokenStream) -> Result<(), AllocError> {
         let before = out.len();
@@ -904,8 +959,8 @@ impl<X: Subtree> ToTokens for NamedArg<X> {
 }
 
 /// Appends the outer attributes, the name and its colon, `...`, and the comma that it has.
-impl<X: Subtree> ToTokens for FnPtrVariadic<X> {
-    ghost print = { printing.variadic X.prints };
+impl<A: Attributes> ToTokens for FnPtrVariadicOf<A> {
+    ghost print = { printing.variadic_by A.shown };
 
     fn to_tokens(&self, alloc: Global, out: &mut TokenStream) -> Result<(), AllocError> {
         let before = out.len();
@@ -922,58 +977,58 @@ impl<X: Subtree> ToTokens for FnPtrVariadic<X> {
 /// Appends a type; refused, what stood before is kept.
 #[cycle(print)]
 #[tactic(auto, using(token_core::proofs::Puts::puts, crate::proofs::ty_laws::Prints::prints))]
-pub(crate) fn print_type<X: Subtree>(
+pub(crate) fn print_type<A: Attributes, E: Value>(
     alloc: Global,
-    ty: &Type<X>,
+    ty: &TypeOf<A, E>,
     out: &mut TokenStream,
 ) -> Result<(), AllocError>
-    ensures ok { OnOk result (trees out.new ≡ trees out.old ++ printing.ty X.prints ty.now) }
+    ensures ok { OnOk result (trees out.new ≡ trees out.old ++ printing.ty A.shown E.values ty.now) }
     ensures err { OnErr result (Extends (trees out.old) (trees out.new)) }
 {
     match ty {
-        Type::Array(array) => print_array(alloc, array, out),
-        Type::FnPtr(pointer) => print_fn_ptr(alloc, pointer, out),
-        Type::Group(group) => print_group(alloc, group, out),
-        Type::ImplTrait(opaque) => print_impl_trait(alloc, opaque, out),
-        Type::Infer(infer) => infer.to_tokens(alloc, out),
-        Type::Macro(call) => call.to_tokens(alloc, out),
-        Type::Never(never) => never.to_tokens(alloc, out),
-        Type::Paren(paren) => print_paren(alloc, paren, out),
-        Type::Path(path) => print_path_type(alloc, path, out),
-        Type::Ptr(ptr) => print_ptr(alloc, ptr, out),
-        Type::Reference(reference) => print_reference(alloc, reference, out),
-        Type::Slice(slice) => print_slice(alloc, slice, out),
-        Type::TraitObject(object) => print_trait_object(alloc, object, out),
-        Type::Tuple(tuple) => print_tuple(alloc, tuple, out),
-        Type::Verbatim(tokens) => print_verbatim(alloc, tokens, out),
+        TypeOf::Array(array) => print_array(alloc, array, out),
+        TypeOf::FnPtr(pointer) => print_fn_ptr(alloc, pointer, out),
+        TypeOf::Group(group) => print_group(alloc, group, out),
+        TypeOf::ImplTrait(opaque) => print_impl_trait(alloc, opaque, out),
+        TypeOf::Infer(infer) => infer.to_tokens(alloc, out),
+        TypeOf::Macro(call) => call.to_tokens(alloc, out),
+        TypeOf::Never(never) => never.to_tokens(alloc, out),
+        TypeOf::Paren(paren) => print_paren(alloc, paren, out),
+        TypeOf::Path(path) => print_path_type(alloc, path, out),
+        TypeOf::Ptr(ptr) => print_ptr(alloc, ptr, out),
+        TypeOf::Reference(reference) => print_reference(alloc, reference, out),
+        TypeOf::Slice(slice) => print_slice(alloc, slice, out),
+        TypeOf::TraitObject(object) => print_trait_object(alloc, object, out),
+        TypeOf::Tuple(tuple) => print_tuple(alloc, tuple, out),
+        TypeOf::Verbatim(tokens) => print_verbatim(alloc, tokens, out),
     }
 }
 
 #[cycle(print)]
-#[tactic(auto, using(token_core::proofs::Puts::puts, crate::proofs::ty_laws::Prints::prints))]
-fn print_array<X: Subtree>(
+#[tactic(auto, using(token_core::proofs::Puts::puts))]
+fn print_array<A: Attributes, E: Value>(
     alloc: Global,
-    array: &TypeArray<X>,
+    array: &TypeArrayOf<TypeOf<A, E>, A, E>,
     out: &mut TokenStream,
 ) -> Result<(), AllocError>
-    ensures ok { OnOk result (trees out.new ≡ trees out.old ++ printing.array X.prints array.now) }
+    ensures ok { OnOk result (trees out.new ≡ trees out.old ++ printing.array A.shown E.values array.now) }
     ensures err { OnErr result (Extends (trees out.old) (trees out.new)) }
 {
     let mut content = TokenStream::new(alloc);
     print_type(alloc, array.elem.get(), &mut content)?;
     array.semi_token.to_tokens(alloc, &mut content)?;
-    print_len(alloc, &array.len, &mut content)?;
+    array.len.print_len(alloc, &mut content)?;
     array.bracket_token.surround(content, out)
 }
 
 #[cycle(print)]
 #[tactic(auto, using(token_core::proofs::Puts::puts, crate::proofs::ty_laws::Prints::parts))]
-fn print_fn_ptr<X: Subtree>(
+fn print_fn_ptr<A: Attributes, E: Value>(
     alloc: Global,
-    pointer: &TypeFnPtr<X>,
+    pointer: &TypeFnPtrOf<A, E>,
     out: &mut TokenStream,
 ) -> Result<(), AllocError>
-    ensures ok { OnOk result (trees out.new ≡ trees out.old ++ printing.fn_ptr X.prints pointer.now) }
+    ensures ok { OnOk result (trees out.new ≡ trees out.old ++ printing.fn_ptr A.shown E.values pointer.now) }
     ensures err { OnErr result (Extends (trees out.old) (trees out.new)) }
 {
     print_binder_start(alloc, &pointer.lifetimes, out)?;
@@ -985,13 +1040,13 @@ fn print_fn_ptr<X: Subtree>(
 
 /// The parameters of the binder of a pointer to a function.
 #[cycle(print)]
-#[tactic(auto, using(token_core::proofs::Puts::puts, crate::proofs::ty_laws::Prints::prints))]
-fn print_fn_params<X: Subtree>(
+#[tactic(auto, using(token_core::proofs::Puts::puts))]
+fn print_fn_params<A: Attributes, E: Value>(
     alloc: Global,
-    pointer: &TypeFnPtr<X>,
+    pointer: &TypeFnPtrOf<A, E>,
     out: &mut TokenStream,
 ) -> Result<(), AllocError>
-    ensures ok { OnOk result (trees out.new ≡ trees out.old ++ printing.fn_params X.prints pointer.now) }
+    ensures ok { OnOk result (trees out.new ≡ trees out.old ++ printing.fn_params A.shown E.values pointer.now) }
     ensures err { OnErr result (Extends (trees out.old) (trees out.new)) }
 {
     let (pairs, last) = pointer_params(pointer);
@@ -1007,13 +1062,13 @@ fn print_fn_params<X: Subtree>(
 
 /// The arguments of a pointer to a function in their parentheses.
 #[cycle(print)]
-#[tactic(auto, using(token_core::proofs::Puts::puts, crate::proofs::ty_laws::Prints::prints))]
-fn print_arguments<X: Subtree>(
+#[tactic(auto, using(token_core::proofs::Puts::puts))]
+fn print_arguments<A: Attributes, E: Value>(
     alloc: Global,
-    pointer: &TypeFnPtr<X>,
+    pointer: &TypeFnPtrOf<A, E>,
     out: &mut TokenStream,
 ) -> Result<(), AllocError>
-    ensures ok { OnOk result (trees out.new ≡ trees out.old ++ printing.arguments X.prints pointer.now) }
+    ensures ok { OnOk result (trees out.new ≡ trees out.old ++ printing.fn_arguments A.shown E.values pointer.now) }
     ensures err { OnErr result (Extends (trees out.old) (trees out.new)) }
 {
     let mut content = TokenStream::new(alloc);
@@ -1024,13 +1079,13 @@ fn print_arguments<X: Subtree>(
 
 /// Each argument of a pointer to a function with its comma.
 #[cycle(print)]
-#[tactic(auto, using(token_core::proofs::Puts::puts, crate::proofs::ty_laws::Prints::prints))]
-fn print_inputs<X: Subtree>(
+#[tactic(auto, using(token_core::proofs::Puts::puts))]
+fn print_inputs<A: Attributes, E: Value>(
     alloc: Global,
-    pointer: &TypeFnPtr<X>,
+    pointer: &TypeFnPtrOf<A, E>,
     out: &mut TokenStream,
 ) -> Result<(), AllocError>
-    ensures ok { OnOk result (trees out.new ≡ trees out.old ++ printing.fn_inputs X.prints pointer.now) }
+    ensures ok { OnOk result (trees out.new ≡ trees out.old ++ printing.fn_inputs A.shown E.values pointer.now) }
     ensures err { OnErr result (Extends (trees out.old) (trees out.new)) }
 {
     let (pairs, last) = pointer_inputs(pointer);
@@ -1050,13 +1105,13 @@ fn print_inputs<X: Subtree>(
 
 /// What a pointer to a function returns.
 #[cycle(print)]
-#[tactic(auto, using(token_core::proofs::Puts::puts, crate::proofs::ty_laws::Prints::prints))]
-fn print_output<X: Subtree>(
+#[tactic(auto, using(token_core::proofs::Puts::puts))]
+fn print_output<A: Attributes, E: Value>(
     alloc: Global,
-    pointer: &TypeFnPtr<X>,
+    pointer: &TypeFnPtrOf<A, E>,
     out: &mut TokenStream,
 ) -> Result<(), AllocError>
-    ensures ok { OnOk result (trees out.new ≡ trees out.old ++ printing.fn_output X.prints pointer.now) }
+    ensures ok { OnOk result (trees out.new ≡ trees out.old ++ printing.fn_output A.shown E.values pointer.now) }
     ensures err { OnErr result (Extends (trees out.old) (trees out.new)) }
 {
     match &pointer.output {
@@ -1069,13 +1124,13 @@ fn print_output<X: Subtree>(
 }
 
 #[cycle(print)]
-#[tactic(auto, using(token_core::proofs::Puts::puts, crate::proofs::ty_laws::Prints::prints))]
-fn print_group<X: Subtree>(
+#[tactic(auto, using(token_core::proofs::Puts::puts))]
+fn print_group<A: Attributes, E: Value>(
     alloc: Global,
-    group: &TypeGroup<X>,
+    group: &TypeGroupOf<TypeOf<A, E>, A>,
     out: &mut TokenStream,
 ) -> Result<(), AllocError>
-    ensures ok { OnOk result (trees out.new ≡ trees out.old ++ printing.group X.prints group.now) }
+    ensures ok { OnOk result (trees out.new ≡ trees out.old ++ printing.group A.shown E.values group.now) }
     ensures err { OnErr result (Extends (trees out.old) (trees out.new)) }
 {
     let mut content = TokenStream::new(alloc);
@@ -1084,13 +1139,13 @@ fn print_group<X: Subtree>(
 }
 
 #[cycle(print)]
-#[tactic(auto, using(token_core::proofs::Puts::puts, crate::proofs::ty_laws::Prints::prints))]
-fn print_impl_trait<X: Subtree>(
+#[tactic(auto, using(token_core::proofs::Puts::puts))]
+fn print_impl_trait<A: Attributes, E: Value>(
     alloc: Global,
-    opaque: &TypeImplTrait<X>,
+    opaque: &TypeImplTraitOf<TypeParamBoundOf<A, E>, A>,
     out: &mut TokenStream,
 ) -> Result<(), AllocError>
-    ensures ok { OnOk result (trees out.new ≡ trees out.old ++ printing.impl_trait X.prints opaque.now) }
+    ensures ok { OnOk result (trees out.new ≡ trees out.old ++ printing.impl_trait A.shown E.values opaque.now) }
     ensures err { OnErr result (Extends (trees out.old) (trees out.new)) }
 {
     opaque.impl_token.to_tokens(alloc, out)?;
@@ -1106,13 +1161,13 @@ fn print_impl_trait<X: Subtree>(
 }
 
 #[cycle(print)]
-#[tactic(auto, using(token_core::proofs::Puts::puts, crate::proofs::ty_laws::Prints::prints))]
-fn print_paren<X: Subtree>(
+#[tactic(auto, using(token_core::proofs::Puts::puts))]
+fn print_paren<A: Attributes, E: Value>(
     alloc: Global,
-    paren: &TypeParen<X>,
+    paren: &TypeParenOf<TypeOf<A, E>, A>,
     out: &mut TokenStream,
 ) -> Result<(), AllocError>
-    ensures ok { OnOk result (trees out.new ≡ trees out.old ++ printing.paren X.prints paren.now) }
+    ensures ok { OnOk result (trees out.new ≡ trees out.old ++ printing.paren A.shown E.values paren.now) }
     ensures err { OnErr result (Extends (trees out.old) (trees out.new)) }
 {
     let mut content = TokenStream::new(alloc);
@@ -1121,13 +1176,13 @@ fn print_paren<X: Subtree>(
 }
 
 #[cycle(print)]
-#[tactic(auto, using(token_core::proofs::Puts::puts, crate::proofs::ty_laws::Prints::prints))]
-fn print_path_type<X: Subtree>(
+#[tactic(auto, using(token_core::proofs::Puts::puts, crate::proofs::ty_laws::Prints::parts))]
+fn print_path_type<A: Attributes, E: Value>(
     alloc: Global,
-    path: &TypePath<X>,
+    path: &TypePathOf<A, E>,
     out: &mut TokenStream,
 ) -> Result<(), AllocError>
-    ensures ok { OnOk result (trees out.new ≡ trees out.old ++ printing.path_type X.prints path.now) }
+    ensures ok { OnOk result (trees out.new ≡ trees out.old ++ printing.path_type A.shown E.values path.now) }
     ensures err { OnErr result (Extends (trees out.old) (trees out.new)) }
 {
     match &path.qself {
@@ -1136,18 +1191,18 @@ fn print_path_type<X: Subtree>(
             print_type(alloc, qself.ty.get(), out)?;
             print_qualified(alloc, qself, &path.path, PathStyle::AsWritten, out)
         }
-        None => path.path.to_tokens(alloc, out),
+        None => print_path(alloc, &path.path, PathStyle::AsWritten, out),
     }
 }
 
 #[cycle(print)]
-#[tactic(auto, using(token_core::proofs::Puts::puts, crate::proofs::ty_laws::Prints::prints))]
-fn print_ptr<X: Subtree>(
+#[tactic(auto, using(token_core::proofs::Puts::puts))]
+fn print_ptr<A: Attributes, E: Value>(
     alloc: Global,
-    ptr: &TypePtr<X>,
+    ptr: &TypePtrOf<TypeOf<A, E>, A>,
     out: &mut TokenStream,
 ) -> Result<(), AllocError>
-    ensures ok { OnOk result (trees out.new ≡ trees out.old ++ printing.ptr X.prints ptr.now) }
+    ensures ok { OnOk result (trees out.new ≡ trees out.old ++ printing.ptr A.shown E.values ptr.now) }
     ensures err { OnErr result (Extends (trees out.old) (trees out.new)) }
 {
     ptr.star_token.to_tokens(alloc, out)?;
@@ -1156,13 +1211,13 @@ fn print_ptr<X: Subtree>(
 }
 
 #[cycle(print)]
-#[tactic(auto, using(token_core::proofs::Puts::puts, crate::proofs::ty_laws::Prints::prints))]
-fn print_reference<X: Subtree>(
+#[tactic(auto, using(token_core::proofs::Puts::puts))]
+fn print_reference<A: Attributes, E: Value>(
     alloc: Global,
-    reference: &TypeReference<X>,
+    reference: &TypeReferenceOf<TypeOf<A, E>, A>,
     out: &mut TokenStream,
 ) -> Result<(), AllocError>
-    ensures ok { OnOk result (trees out.new ≡ trees out.old ++ printing.reference X.prints reference.now) }
+    ensures ok { OnOk result (trees out.new ≡ trees out.old ++ printing.reference A.shown E.values reference.now) }
     ensures err { OnErr result (Extends (trees out.old) (trees out.new)) }
 {
     reference.and_token.to_tokens(alloc, out)?;
@@ -1172,13 +1227,13 @@ fn print_reference<X: Subtree>(
 }
 
 #[cycle(print)]
-#[tactic(auto, using(token_core::proofs::Puts::puts, crate::proofs::ty_laws::Prints::prints))]
-fn print_slice<X: Subtree>(
+#[tactic(auto, using(token_core::proofs::Puts::puts))]
+fn print_slice<A: Attributes, E: Value>(
     alloc: Global,
-    slice: &TypeSlice<X>,
+    slice: &TypeSliceOf<TypeOf<A, E>, A>,
     out: &mut TokenStream,
 ) -> Result<(), AllocError>
-    ensures ok { OnOk result (trees out.new ≡ trees out.old ++ printing.slice X.prints slice.now) }
+    ensures ok { OnOk result (trees out.new ≡ trees out.old ++ printing.slice A.shown E.values slice.now) }
     ensures err { OnErr result (Extends (trees out.old) (trees out.new)) }
 {
     let mut content = TokenStream::new(alloc);
@@ -1187,13 +1242,13 @@ fn print_slice<X: Subtree>(
 }
 
 #[cycle(print)]
-#[tactic(auto, using(token_core::proofs::Puts::puts, crate::proofs::ty_laws::Prints::prints))]
-fn print_trait_object<X: Subtree>(
+#[tactic(auto, using(token_core::proofs::Puts::puts))]
+fn print_trait_object<A: Attributes, E: Value>(
     alloc: Global,
-    object: &TypeTraitObject<X>,
+    object: &TypeTraitObjectOf<TypeParamBoundOf<A, E>, A>,
     out: &mut TokenStream,
 ) -> Result<(), AllocError>
-    ensures ok { OnOk result (trees out.new ≡ trees out.old ++ printing.trait_object X.prints object.now) }
+    ensures ok { OnOk result (trees out.new ≡ trees out.old ++ printing.trait_object A.shown E.values object.now) }
     ensures err { OnErr result (Extends (trees out.old) (trees out.new)) }
 {
     print_word(alloc, &object.dyn_token, out)?;
@@ -1209,13 +1264,13 @@ fn print_trait_object<X: Subtree>(
 }
 
 #[cycle(print)]
-#[tactic(auto, using(token_core::proofs::Puts::puts, crate::proofs::ty_laws::Prints::prints))]
-fn print_tuple<X: Subtree>(
+#[tactic(auto, using(token_core::proofs::Puts::puts))]
+fn print_tuple<A: Attributes, E: Value>(
     alloc: Global,
-    tuple: &TypeTuple<X>,
+    tuple: &TypeTupleOf<TypeOf<A, E>, A>,
     out: &mut TokenStream,
 ) -> Result<(), AllocError>
-    ensures ok { OnOk result (trees out.new ≡ trees out.old ++ printing.tuple X.prints tuple.now) }
+    ensures ok { OnOk result (trees out.new ≡ trees out.old ++ printing.tuple A.shown E.values tuple.now) }
     ensures err { OnErr result (Extends (trees out.old) (trees out.new)) }
 {
     let mut content = TokenStream::new(alloc);
@@ -1226,13 +1281,13 @@ fn print_tuple<X: Subtree>(
 
 /// Each element of a tuple with its comma.
 #[cycle(print)]
-#[tactic(auto, using(token_core::proofs::Puts::puts, crate::proofs::ty_laws::Prints::prints))]
-fn print_elements<X: Subtree>(
+#[tactic(auto, using(token_core::proofs::Puts::puts))]
+fn print_elements<A: Attributes, E: Value>(
     alloc: Global,
-    tuple: &TypeTuple<X>,
+    tuple: &TypeTupleOf<TypeOf<A, E>, A>,
     out: &mut TokenStream,
 ) -> Result<(), AllocError>
-    ensures ok { OnOk result (trees out.new ≡ trees out.old ++ printing.elements X.prints tuple.now.elems) }
+    ensures ok { OnOk result (trees out.new ≡ trees out.old ++ printing.elements A.shown E.values tuple.now.elems) }
     ensures err { OnErr result (Extends (trees out.old) (trees out.new)) }
 {
     let (pairs, last) = element_parts(tuple);
@@ -1248,14 +1303,14 @@ fn print_elements<X: Subtree>(
 
 /// Appends a path, which a type may qualify; refused, what stood before is kept.
 #[tactic(auto, using(token_core::proofs::Puts::puts))]
-pub(crate) fn print_qpath<X: Subtree>(
+pub(crate) fn print_qpath<A: Attributes, E: Value>(
     alloc: Global,
-    qself: &Option<QSelf<X>>,
-    path: &Path<X>,
+    qself: &Option<QSelfOf<TypeOf<A, E>>>,
+    path: &PathOf<PathArgumentsOf<A, E>>,
     style: PathStyle,
     out: &mut TokenStream,
 ) -> Result<(), AllocError>
-    ensures ok { OnOk result (trees out.new ≡ trees out.old ++ printing.qpath X.prints style qself.now path.now) }
+    ensures ok { OnOk result (trees out.new ≡ trees out.old ++ printing.qpath A.shown E.values style qself.now path.now) }
     ensures err { OnErr result (Extends (trees out.old) (trees out.new)) }
 {
     match qself {
@@ -1309,12 +1364,12 @@ pub(crate) fn print_verbatim(
 
 /// The length of an array: the supplied subtree in this place, and anything else as it prints as a value.
 #[tactic(auto, using(token_core::proofs::Puts::puts, crate::proofs::attr_laws::Prints::places))]
-fn print_len<X: Subtree>(
+pub(crate) fn print_len<X: Subtree>(
     alloc: Global,
     len: &Expr<X>,
     out: &mut TokenStream,
 ) -> Result<(), AllocError>
-    ensures ok { OnOk result (trees out.new ≡ trees out.old ++ printing.len X.prints len.now) }
+    ensures ok { OnOk result (trees out.new ≡ trees out.old ++ at_place X.prints ArrayLen len.now) }
     ensures err { OnErr result (Extends (trees out.old) (trees out.new)) }
 {
     match len {
@@ -1341,16 +1396,21 @@ fn print_lifetime(
 // ---- parts of pointers to functions, trait objects and opaque types that lead back to no type
 
 /// The elements of a tuple by their parts.
-fn element_parts<X>(tuple: &TypeTuple<X>) -> (&[Pair<Type<X>, Comma>], Option<&Type<X>>)
+fn element_parts<A, E>(
+    tuple: &TypeTupleOf<TypeOf<A, E>, A>,
+) -> (&[Pair<TypeOf<A, E>, Comma>], Option<&TypeOf<A, E>>)
     ensures { tuple.now.elems ≡ (values_of result.0.now (option_map (λ x. x.now) result.1), marks_of result.0.now) }
 {
     tuple.elems.parts()
 }
 
 /// The parameters of the binder of a pointer to a function by their parts; none without a binder.
-fn pointer_params<X>(
-    pointer: &TypeFnPtr<X>,
-) -> (&[Pair<GenericParam<X>, Comma>], Option<&GenericParam<X>>)
+fn pointer_params<A, E>(
+    pointer: &TypeFnPtrOf<A, E>,
+) -> (
+    &[Pair<GenericParamOf<A, E>, Comma>],
+    Option<&GenericParamOf<A, E>>,
+)
     ensures { shapes.binder_params (printing.fn_lifetimes pointer.now) ≡ (values_of result.0.now (option_map (λ x. x.now) result.1), marks_of result.0.now) }
 {
     match &pointer.lifetimes {
@@ -1360,16 +1420,24 @@ fn pointer_params<X>(
 }
 
 /// The arguments of a pointer to a function by their parts.
-fn pointer_inputs<X>(pointer: &TypeFnPtr<X>) -> (&[Pair<NamedArg<X>, Comma>], Option<&NamedArg<X>>)
+fn pointer_inputs<A, E>(
+    pointer: &TypeFnPtrOf<A, E>,
+) -> (
+    &[Pair<NamedArgOf<TypeOf<A, E>, A>, Comma>],
+    Option<&NamedArgOf<TypeOf<A, E>, A>>,
+)
     ensures { printing.inputs_of pointer.now ≡ (values_of result.0.now (option_map (λ x. x.now) result.1), marks_of result.0.now) }
 {
     pointer.inputs.parts()
 }
 
 /// Bounds by their parts.
-pub(crate) fn bound_parts<X>(
-    bounds: &Punctuated<TypeParamBound<X>, Plus>,
-) -> (&[Pair<TypeParamBound<X>, Plus>], Option<&TypeParamBound<X>>)
+pub(crate) fn bound_parts<A, E>(
+    bounds: &Punctuated<TypeParamBoundOf<A, E>, Plus>,
+) -> (
+    &[Pair<TypeParamBoundOf<A, E>, Plus>],
+    Option<&TypeParamBoundOf<A, E>>,
+)
     ensures { bounds.now ≡ (values_of result.0.now (option_map (λ x. x.now) result.1), marks_of result.0.now) }
 {
     bounds.parts()
@@ -1393,9 +1461,9 @@ pub(crate) fn print_word<const N: u32>(
 
 /// A pointer to a function from the end of its binder to `fn`.
 #[tactic(auto, using(token_core::proofs::Puts::puts))]
-fn print_fn_head<X>(
+fn print_fn_head<A, E>(
     alloc: Global,
-    pointer: &TypeFnPtr<X>,
+    pointer: &TypeFnPtrOf<A, E>,
     out: &mut TokenStream,
 ) -> Result<(), AllocError>
     ensures ok { OnOk result (trees out.new ≡ trees out.old ++ printing.fn_head pointer.now) }
@@ -1424,16 +1492,16 @@ fn print_convention(
 
 /// Outer attributes, and a name with its colon.
 #[tactic(auto, using(token_core::proofs::Puts::puts))]
-fn print_arg_name<X: Subtree>(
+pub(crate) fn print_arg_name<A: Attributes>(
     alloc: Global,
-    attrs: &Items<Attribute<X>>,
+    attrs: &Items<A>,
     name: &Option<(Ident, Colon)>,
     out: &mut TokenStream,
 ) -> Result<(), AllocError>
-    ensures ok { OnOk result (trees out.new ≡ trees out.old ++ printing.arg_name X.prints attrs.now name.now) }
+    ensures ok { OnOk result (trees out.new ≡ trees out.old ++ printing.arg_name_by A.shown attrs.now name.now) }
     ensures err { OnErr result (Extends (trees out.old) (trees out.new)) }
 {
-    print_outer(alloc, attrs, out)?;
+    A::print_outer(alloc, attrs, out)?;
     match name {
         Some((ident, colon)) => {
             ident.to_tokens(alloc, out)?;
@@ -1444,12 +1512,12 @@ fn print_arg_name<X: Subtree>(
 }
 
 #[tactic(auto, using(token_core::proofs::Puts::puts))]
-fn print_named_arg<X: Subtree>(
+fn print_named_arg<A: Attributes, E: Value>(
     alloc: Global,
-    arg: &NamedArg<X>,
+    arg: &NamedArgOf<TypeOf<A, E>, A>,
     out: &mut TokenStream,
 ) -> Result<(), AllocError>
-    ensures ok { OnOk result (trees out.new ≡ trees out.old ++ printing.named_arg X.prints arg.now) }
+    ensures ok { OnOk result (trees out.new ≡ trees out.old ++ printing.named_arg A.shown E.values arg.now) }
     ensures err { OnErr result (Extends (trees out.old) (trees out.new)) }
 {
     print_arg_name(alloc, &arg.attrs, &arg.name, out)?;
@@ -1457,12 +1525,12 @@ fn print_named_arg<X: Subtree>(
 }
 
 #[tactic(auto, using(token_core::proofs::Puts::puts))]
-fn print_variadic<X: Subtree>(
+fn print_variadic<A: Attributes>(
     alloc: Global,
-    variadic: &FnPtrVariadic<X>,
+    variadic: &FnPtrVariadicOf<A>,
     out: &mut TokenStream,
 ) -> Result<(), AllocError>
-    ensures ok { OnOk result (trees out.new ≡ trees out.old ++ printing.variadic X.prints variadic.now) }
+    ensures ok { OnOk result (trees out.new ≡ trees out.old ++ printing.variadic_by A.shown variadic.now) }
     ensures err { OnErr result (Extends (trees out.old) (trees out.new)) }
 {
     print_arg_name(alloc, &variadic.attrs, &variadic.name, out)?;
@@ -1475,12 +1543,12 @@ fn print_variadic<X: Subtree>(
 
 /// `...` of a pointer to a function, after a comma, which is added where the last argument has none.
 #[tactic(auto, using(token_core::proofs::Puts::puts))]
-fn print_more<X: Subtree>(
+fn print_more<A: Attributes, E: Value>(
     alloc: Global,
-    pointer: &TypeFnPtr<X>,
+    pointer: &TypeFnPtrOf<A, E>,
     out: &mut TokenStream,
 ) -> Result<(), AllocError>
-    ensures ok { OnOk result (trees out.new ≡ trees out.old ++ printing.fn_more X.prints pointer.now) }
+    ensures ok { OnOk result (trees out.new ≡ trees out.old ++ printing.fn_more A.shown E.values pointer.now) }
     ensures err { OnErr result (Extends (trees out.old) (trees out.new)) }
 {
     match &pointer.variadic {

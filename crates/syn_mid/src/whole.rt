@@ -11,40 +11,40 @@ ghost use Rattle.syn_mid.specs.ty.Grammars as types;
 ghost use Rattle.syn_mid.specs.ty.Knot as knot;
 
 use crate::attr::Attribute;
-use crate::path::Path;
-use crate::supplied::Subtree;
-use crate::ty::Type;
+use crate::path::{Arguments, PathOf};
+use crate::supplied::{Attributes, Expr, Subtree, Value};
+use crate::ty::TypeOf;
 use std::alloc::Global;
 use std::marker::PhantomData;
 use token_core::{Error, Items, ParseStream, Parser};
 
-/// `Path::parse_mod_style` as a parser, for `read_all_with`.
+/// `PathOf::parse_mod_style` as a parser, for `read_all_with`.
 #[derive(Drop)]
-pub struct ModStyle<X> {
-    pub of: PhantomData<X>,
+pub struct ModStyle<A> {
+    pub of: PhantomData<A>,
 }
 
-impl<X> ModStyle<X> {
-    pub fn new() -> ModStyle<X>
+impl<A> ModStyle<A> {
+    pub fn new() -> ModStyle<A>
         ensures { result ≡ record { of = record {} } }
     {
         ModStyle { of: PhantomData }
     }
 }
 
-impl<X: Drop> Parser for ModStyle<X> {
-    type Output = Path<X>;
+impl<A: Arguments> Parser for ModStyle<A> {
+    type Output = PathOf<A>;
 
     ghost can_parse = { λ _. Unit {0} };
 
-    ghost reads = { λ _. Gives (reading.mod_style {X = X}) };
+    ghost reads = { λ _. Gives (reading.mod_style A.absent) };
 
-    ghost refuses = { λ _. Fails (reading.mod_style {X = X}) };
+    ghost refuses = { λ _. Fails (reading.mod_style A.absent) };
 
-    ghost promise = { λ _. Headline (paths.mod_style {X = X}) };
+    ghost promise = { λ _. Headline (paths.mod_style A.absent A.shown) };
 
-    fn parse(self, alloc: Global, input: &mut ParseStream<'_>) -> Result<Path<X>, Error> {
-        Path::parse_mod_style(alloc, input)
+    fn parse(self, alloc: Global, input: &mut ParseStream<'_>) -> Result<PathOf<A>, Error> {
+        PathOf::parse_mod_style(alloc, input)
     }
 }
 
@@ -116,32 +116,35 @@ impl<X: Subtree> Parser for ParseInner<X> {
     }
 }
 
-/// `Type::without_plus` as a parser.
+/// `Type::without_plus` as a parser, over attributes and expressions.
 #[derive(Drop)]
-pub struct WithoutPlus<X> {
-    pub of: PhantomData<X>,
+pub struct WithoutPlusOf<A, E> {
+    pub of: PhantomData<(A, E)>,
 }
 
-impl<X> WithoutPlus<X> {
-    pub fn new() -> WithoutPlus<X>
+/// `Type::without_plus` as a parser.
+pub type WithoutPlus<X> = WithoutPlusOf<Attribute<X>, Expr<X>>;
+
+impl<A, E> WithoutPlusOf<A, E> {
+    pub fn new() -> WithoutPlusOf<A, E>
         ensures { result ≡ record { of = record {} } }
     {
-        WithoutPlus { of: PhantomData }
+        WithoutPlusOf { of: PhantomData }
     }
 }
 
-impl<X: Subtree> Parser for WithoutPlus<X> {
-    type Output = Type<X>;
+impl<A: Attributes, E: Value> Parser for WithoutPlusOf<A, E> {
+    type Output = TypeOf<A, E>;
 
     ghost can_parse = { λ _. Unit {0} };
 
-    ghost reads = { λ _. Gives (knot.ty X.reads false) };
+    ghost reads = { λ _. Gives (knot.ty E.reads false) };
 
-    ghost refuses = { λ _. Fails (knot.ty X.reads false) };
+    ghost refuses = { λ _. Fails (knot.ty {A = A} E.reads false) };
 
-    ghost promise = { λ _. Headline (types.ty X.reads X.spells X.normal X.prints false) };
+    ghost promise = { λ _. Headline (types.ty E.reads E.spells A.normal E.normal A.shown E.values false) };
 
-    fn parse(self, alloc: Global, input: &mut ParseStream<'_>) -> Result<Type<X>, Error> {
-        Type::without_plus(alloc, input)
+    fn parse(self, alloc: Global, input: &mut ParseStream<'_>) -> Result<TypeOf<A, E>, Error> {
+        TypeOf::without_plus(alloc, input)
     }
 }

@@ -228,7 +228,7 @@ fn metas_are_read(rt: HostRuntime) {
         ("a{ b }", "a { b }"),
         ("a", "unexpected end of input, expected delimiter 0-0 0-0"),
     ] {
-        let answer = reprinted::<MetaList<Sample>>(alloc, text);
+        let answer = reprinted::<MetaList>(alloc, text);
         says(&rt, alloc, answer, wanted);
     }
     for (text, wanted) in [
@@ -292,7 +292,7 @@ fn arms_are_read_in_turn(rt: HostRuntime) {
 fn properties(alloc: Global, does: Does, text: &str) -> Result<String, Error> {
     let attr = last(alloc, outers(alloc, text))?;
     let mut calls = String::new(alloc);
-    let logic = |alloc: Global, meta: &mut ParseNestedMeta<'_, Sample>| -> Result<(), Error>
+    let logic = |alloc: Global, meta: &mut ParseNestedMeta<'_>| -> Result<(), Error>
         ensures { Follows meta.old.input meta.new.input }
     {
         called(meta, &mut calls)?;

@@ -51,7 +51,7 @@ fn add_forms(alloc: Global, attrs: &[Attribute<Sample>], form: &mut Form) -> Res
 fn add_options(alloc: Global, attr: &Attribute<Sample>, form: &mut Form) -> Result<(), Error>
     requires { 0 < length (path_in attr.now.meta).segments.0 }
 {
-    let logic = |alloc: Global, meta: &mut ParseNestedMeta<'_, Sample>| -> Result<(), Error>
+    let logic = |alloc: Global, meta: &mut ParseNestedMeta<'_>| -> Result<(), Error>
         ensures { Follows meta.old.input meta.new.input }
     { parse_option(alloc, meta, form) };
     attr.parse_nested_meta(alloc, logic)
@@ -59,11 +59,7 @@ fn add_options(alloc: Global, attr: &Attribute<Sample>, form: &mut Form) -> Resu
 
 /// Reads one option: `min = ..`, `max = ..` or `rename(.., ..)`.
 #[tactic(auto, using(token_core::proofs::Suffixes::follows))]
-fn parse_option(
-    alloc: Global,
-    meta: &mut ParseNestedMeta<'_, Sample>,
-    form: &mut Form,
-) -> Result<(), Error>
+fn parse_option(alloc: Global, meta: &mut ParseNestedMeta<'_>, form: &mut Form) -> Result<(), Error>
     ensures { Follows meta.old.input meta.new.input }
 {
     if meta.path.is_ident("min") {
@@ -82,10 +78,7 @@ fn parse_option(
 
 /// Reads two string literals in parentheses, with a comma between them.
 #[tactic(auto, using(token_core::proofs::Suffixes::follows))]
-fn parse_rename(
-    alloc: Global,
-    meta: &mut ParseNestedMeta<'_, Sample>,
-) -> Result<(LitStr, LitStr), Error>
+fn parse_rename(alloc: Global, meta: &mut ParseNestedMeta<'_>) -> Result<(LitStr, LitStr), Error>
     ensures { Follows meta.old.input meta.new.input }
 {
     let (_, mut content) = meta.input.parenthesized(alloc)?;
@@ -96,7 +89,7 @@ fn parse_rename(
     Ok((from, to))
 }
 
-fn unknown_option(alloc: Global, meta: &ParseNestedMeta<'_, Sample>) -> Error {
+fn unknown_option(alloc: Global, meta: &ParseNestedMeta<'_>) -> Error {
     // the path of a property has a segment, but what a closure is called with doesn't say so
     if meta.path.segments.is_empty() {
         return meta.input.error(alloc, "unknown option");

@@ -21,8 +21,6 @@ mod sample_tests;
 mod tests;
 #[cfg(test)]
 mod type_read_tests;
-#[cfg(test)]
-mod type_tests;
 
 use channel::Plain;
 use fault::Fault;

@@ -31,7 +31,7 @@ pub(crate) enum Does {
 }
 
 #[tactic(auto, using(token_core::proofs::Suffixes::follows))]
-fn value(alloc: Global, meta: &mut ParseNestedMeta<'_, Sample>) -> Result<(), Error>
+fn value(alloc: Global, meta: &mut ParseNestedMeta<'_>) -> Result<(), Error>
     ensures { Follows meta.old.input meta.new.input }
 {
     if meta.input.peek::<Eq>() {
@@ -41,17 +41,17 @@ fn value(alloc: Global, meta: &mut ParseNestedMeta<'_, Sample>) -> Result<(), Er
 }
 
 #[tactic(auto, using(token_core::proofs::Suffixes::follows))]
-fn descend(alloc: Global, meta: &mut ParseNestedMeta<'_, Sample>) -> Result<(), Error>
+fn descend(alloc: Global, meta: &mut ParseNestedMeta<'_>) -> Result<(), Error>
     ensures { Follows meta.old.input meta.new.input }
 {
-    let logic = |alloc: Global, inner: &mut ParseNestedMeta<'_, Sample>| -> Result<(), Error>
+    let logic = |alloc: Global, inner: &mut ParseNestedMeta<'_>| -> Result<(), Error>
         ensures { Follows inner.old.input inner.new.input }
     { value(alloc, inner) };
     meta.parse_nested_meta(alloc, logic)
 }
 
 #[tactic(auto, using(token_core::proofs::Suffixes::follows))]
-fn everything(alloc: Global, meta: &mut ParseNestedMeta<'_, Sample>) -> Result<(), Error>
+fn everything(alloc: Global, meta: &mut ParseNestedMeta<'_>) -> Result<(), Error>
     ensures { Follows meta.old.input meta.new.input }
 {
     value(alloc, meta)?;
@@ -61,7 +61,7 @@ fn everything(alloc: Global, meta: &mut ParseNestedMeta<'_, Sample>) -> Result<(
 }
 
 #[tactic(auto, using(token_core::proofs::Suffixes::follows))]
-fn open(alloc: Global, meta: &mut ParseNestedMeta<'_, Sample>, finishes: bool) -> Result<(), Error>
+fn open(alloc: Global, meta: &mut ParseNestedMeta<'_>, finishes: bool) -> Result<(), Error>
     ensures { Follows meta.old.input meta.new.input }
 {
     let (_, content) = meta.input.parenthesized(alloc)?;
@@ -75,7 +75,7 @@ fn open(alloc: Global, meta: &mut ParseNestedMeta<'_, Sample>, finishes: bool) -
 pub(crate) fn at_property(
     alloc: Global,
     does: Does,
-    meta: &mut ParseNestedMeta<'_, Sample>,
+    meta: &mut ParseNestedMeta<'_>,
 ) -> Result<(), Error>
     ensures { Follows meta.old.input meta.new.input }
 {
@@ -94,7 +94,7 @@ pub(crate) fn at_property(
     }
 }
 
-fn refusal(alloc: Global, meta: &ParseNestedMeta<'_, Sample>) -> Error {
+fn refusal(alloc: Global, meta: &ParseNestedMeta<'_>) -> Error {
     // a property's path has a segment
     if meta.path.segments.is_empty() {
         return Error::out_of_memory();
@@ -122,10 +122,7 @@ pub(crate) fn show(answer: Result<(), Error>, out: &mut String) -> Result<(), Al
 }
 
 /// Appends the first identifier of a property's path.
-pub(crate) fn called(
-    meta: &ParseNestedMeta<'_, Sample>,
-    calls: &mut String,
-) -> Result<(), AllocError> {
+pub(crate) fn called(meta: &ParseNestedMeta<'_>, calls: &mut String) -> Result<(), AllocError> {
     if let Some(segment) = meta.path.segments.first() {
         write!(calls, "{} ", segment.ident.text())?;
     }
@@ -137,13 +134,13 @@ pub(crate) fn called(
 fn nested(alloc: Global, does: Does, text: &str) -> Result<String, Error> {
     let tokens = lex(alloc, text)?;
     let mut calls = String::new(alloc);
-    let logic = |alloc: Global, meta: &mut ParseNestedMeta<'_, Sample>| -> Result<(), Error>
+    let logic = |alloc: Global, meta: &mut ParseNestedMeta<'_>| -> Result<(), Error>
         ensures { Follows meta.old.input meta.new.input }
     {
         called(meta, &mut calls)?;
         at_property(alloc, does, meta)
     };
-    let answer = read_all_with(alloc, parser::<_, Sample>(logic), &tokens);
+    let answer = read_all_with(alloc, parser(logic), &tokens);
     show(answer, &mut calls)?;
     Ok(calls)
 }

@@ -7,9 +7,10 @@ ghost use Rattle.synmid.specs.Readers as spec;
 use crate::sample::Sample;
 use std::alloc::{AllocError, Global};
 use syn_mid::{
-    Attribute, Macro, Meta, MetaList, MetaNameValue, ModStyle, ParseInner, ParseOuter,
-    PointerMutability, Type, TypeArray, TypeInfer, TypeMacro, TypeNever, TypeParamBound, TypeParen,
-    TypePath, TypePtr, TypeReference, TypeSlice, TypeTuple, WithoutPlus,
+    Attribute, Attributes, Expr, Macro, Meta, MetaList, MetaNameValue, ModStyle, NoArguments,
+    ParseInner, ParseOuter, PointerMutability, TypeArrayOf, TypeInferOf, TypeMacroOf, TypeNeverOf,
+    TypeOf, TypeParamBoundOf, TypeParenOf, TypePathOf, TypePtrOf, TypeReferenceOf, TypeSliceOf,
+    TypeTupleOf, Value, WithoutPlusOf,
 };
 use token_core::{Error, Items, Parse, Parser, ToTokens, TokenStream, read_all, read_all_with};
 
@@ -23,20 +24,26 @@ pub enum Reader {
     MetaNameValue,
     Outer,
     Inner,
-    AnyType,
-    WithoutPlus,
-    TypeArray,
-    TypeInfer,
-    TypeMacro,
-    TypeNever,
-    TypeParen,
-    TypePath,
-    TypePtr,
-    TypeReference,
-    TypeSlice,
-    TypeTuple,
     PointerMutability,
-    TypeParamBound,
+    Types(TypeReader),
+}
+
+/// A reader of types, of a form of types, or of bounds.
+#[derive(Clone, Copy, PartialEq, Eq)]
+pub enum TypeReader {
+    Any,
+    WithoutPlus,
+    Array,
+    Infer,
+    Macro,
+    Never,
+    Paren,
+    Path,
+    Ptr,
+    Reference,
+    Slice,
+    Tuple,
+    Bound,
 }
 
 impl Reader {
@@ -51,21 +58,11 @@ impl Reader {
             "MetaNameValue" => Some(Reader::MetaNameValue),
             "Attribute::parse_outer" => Some(Reader::Outer),
             "Attribute::parse_inner" => Some(Reader::Inner),
-            "Type" => Some(Reader::AnyType),
-            "Type::without_plus" => Some(Reader::WithoutPlus),
-            "TypeArray" => Some(Reader::TypeArray),
-            "TypeInfer" => Some(Reader::TypeInfer),
-            "TypeMacro" => Some(Reader::TypeMacro),
-            "TypeNever" => Some(Reader::TypeNever),
-            "TypeParen" => Some(Reader::TypeParen),
-            "TypePath" => Some(Reader::TypePath),
-            "TypePtr" => Some(Reader::TypePtr),
-            "TypeReference" => Some(Reader::TypeReference),
-            "TypeSlice" => Some(Reader::TypeSlice),
-            "TypeTuple" => Some(Reader::TypeTuple),
             "PointerMutability" => Some(Reader::PointerMutability),
-            "TypeParamBound" => Some(Reader::TypeParamBound),
-            _ => None,
+            _ => match TypeReader::named(name) {
+                Some(reader) => Some(Reader::Types(reader)),
+                None => None,
+            },
         }
     }
 
@@ -74,27 +71,66 @@ impl Reader {
         ensures { spec.Reprints (spec.grammar self) (toks tokens.now) result }
     {
         match self {
-            Reader::Macro => reprint::<Macro<Sample>>(alloc, tokens),
-            Reader::ModStyle => reprint_with(alloc, ModStyle::<Sample>::new(), tokens),
+            Reader::Macro => reprint::<Macro>(alloc, tokens),
+            Reader::ModStyle => reprint_with(alloc, ModStyle::<NoArguments>::new(), tokens),
             Reader::Meta => reprint::<Meta<Sample>>(alloc, tokens),
-            Reader::MetaList => reprint::<MetaList<Sample>>(alloc, tokens),
+            Reader::MetaList => reprint::<MetaList>(alloc, tokens),
             Reader::MetaNameValue => reprint::<MetaNameValue<Sample>>(alloc, tokens),
             Reader::Outer => reprint_attributes(alloc, ParseOuter::<Sample>::new(), tokens),
             Reader::Inner => reprint_attributes(alloc, ParseInner::<Sample>::new(), tokens),
-            Reader::AnyType => reprint::<Type<Sample>>(alloc, tokens),
-            Reader::WithoutPlus => reprint_with(alloc, WithoutPlus::<Sample>::new(), tokens),
-            Reader::TypeArray => reprint::<TypeArray<Sample>>(alloc, tokens),
-            Reader::TypeInfer => reprint::<TypeInfer>(alloc, tokens),
-            Reader::TypeMacro => reprint::<TypeMacro<Sample>>(alloc, tokens),
-            Reader::TypeNever => reprint::<TypeNever>(alloc, tokens),
-            Reader::TypeParen => reprint::<TypeParen<Sample>>(alloc, tokens),
-            Reader::TypePath => reprint::<TypePath<Sample>>(alloc, tokens),
-            Reader::TypePtr => reprint::<TypePtr<Sample>>(alloc, tokens),
-            Reader::TypeReference => reprint::<TypeReference<Sample>>(alloc, tokens),
-            Reader::TypeSlice => reprint::<TypeSlice<Sample>>(alloc, tokens),
-            Reader::TypeTuple => reprint::<TypeTuple<Sample>>(alloc, tokens),
             Reader::PointerMutability => reprint::<PointerMutability>(alloc, tokens),
-            Reader::TypeParamBound => reprint::<TypeParamBound<Sample>>(alloc, tokens),
+            Reader::Types(reader) => {
+                reader.reprint_over::<Attribute<Sample>, Expr<Sample>>(alloc, tokens)
+            }
+        }
+    }
+}
+
+impl TypeReader {
+    fn named(name: &str) -> Option<TypeReader>
+        ensures { result ≡ spec.types_named name.now }
+    {
+        match name {
+            "Type" => Some(TypeReader::Any),
+            "Type::without_plus" => Some(TypeReader::WithoutPlus),
+            "TypeArray" => Some(TypeReader::Array),
+            "TypeInfer" => Some(TypeReader::Infer),
+            "TypeMacro" => Some(TypeReader::Macro),
+            "TypeNever" => Some(TypeReader::Never),
+            "TypeParen" => Some(TypeReader::Paren),
+            "TypePath" => Some(TypeReader::Path),
+            "TypePtr" => Some(TypeReader::Ptr),
+            "TypeReference" => Some(TypeReader::Reference),
+            "TypeSlice" => Some(TypeReader::Slice),
+            "TypeTuple" => Some(TypeReader::Tuple),
+            "TypeParamBound" => Some(TypeReader::Bound),
+            _ => None,
+        }
+    }
+
+    /// Reads all of a list, and prints what was read: over any attributes and expressions, since over those of the sample each
+    /// of these readers costs the prover much more.
+    fn reprint_over<A: Attributes, E: Value>(
+        self,
+        alloc: Global,
+        tokens: &TokenStream,
+    ) -> Result<TokenStream, Error>
+        ensures { spec.Reprints (spec.type_grammar E.reads E.spells A.normal E.normal A.shown E.values self) (toks tokens.now) result }
+    {
+        match self {
+            TypeReader::Any => reprint::<TypeOf<A, E>>(alloc, tokens),
+            TypeReader::WithoutPlus => reprint_with(alloc, WithoutPlusOf::<A, E>::new(), tokens),
+            TypeReader::Array => reprint::<TypeArrayOf<TypeOf<A, E>, A, E>>(alloc, tokens),
+            TypeReader::Infer => reprint::<TypeInferOf<A>>(alloc, tokens),
+            TypeReader::Macro => reprint::<TypeMacroOf<A>>(alloc, tokens),
+            TypeReader::Never => reprint::<TypeNeverOf<A>>(alloc, tokens),
+            TypeReader::Paren => reprint::<TypeParenOf<TypeOf<A, E>, A>>(alloc, tokens),
+            TypeReader::Path => reprint::<TypePathOf<A, E>>(alloc, tokens),
+            TypeReader::Ptr => reprint::<TypePtrOf<TypeOf<A, E>, A>>(alloc, tokens),
+            TypeReader::Reference => reprint::<TypeReferenceOf<TypeOf<A, E>, A>>(alloc, tokens),
+            TypeReader::Slice => reprint::<TypeSliceOf<TypeOf<A, E>, A>>(alloc, tokens),
+            TypeReader::Tuple => reprint::<TypeTupleOf<TypeOf<A, E>, A>>(alloc, tokens),
+            TypeReader::Bound => reprint::<TypeParamBoundOf<A, E>>(alloc, tokens),
         }
     }
 }

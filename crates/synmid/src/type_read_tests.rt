@@ -3,7 +3,7 @@
 //! A test calls and does not branch, as docs/GATE.md says.
 
 use crate::attr_tests::says;
-use crate::reader::Reader;
+use crate::reader::{Reader, TypeReader};
 use std::alloc::Global;
 use std::fmt::Write;
 use token_core::Error;
@@ -38,7 +38,12 @@ fn types_are_read(rt: HostRuntime) {
         ("&mut &'a A", "& mut & 'a A"),
         ("&&A", "& & A"),
     ] {
-        says(&rt, alloc, read(alloc, Reader::AnyType, text), wanted);
+        says(
+            &rt,
+            alloc,
+            read(alloc, Reader::Types(TypeReader::Any), text),
+            wanted,
+        );
     }
 }
 
@@ -57,7 +62,7 @@ fn bounds_are_read(rt: HostRuntime) {
         says(
             &rt,
             alloc,
-            read(alloc, Reader::TypeParamBound, text),
+            read(alloc, Reader::Types(TypeReader::Bound), text),
             wanted,
         );
     }
@@ -75,7 +80,12 @@ fn tuples_are_told_from_parentheses(rt: HostRuntime) {
         ("(A B)", "unexpected token 3-4 3-4"),
         ("(,)", "expected type 1-2 1-2"),
     ] {
-        says(&rt, alloc, read(alloc, Reader::AnyType, text), wanted);
+        says(
+            &rt,
+            alloc,
+            read(alloc, Reader::Types(TypeReader::Any), text),
+            wanted,
+        );
     }
     for (text, wanted) in [
         ("()", "()"),
@@ -83,14 +93,24 @@ fn tuples_are_told_from_parentheses(rt: HostRuntime) {
         ("(A)", "unexpected end of input, expected `,` 2-3 2-3"),
         ("(A B)", "expected `,` 3-4 3-4"),
     ] {
-        says(&rt, alloc, read(alloc, Reader::TypeTuple, text), wanted);
+        says(
+            &rt,
+            alloc,
+            read(alloc, Reader::Types(TypeReader::Tuple), text),
+            wanted,
+        );
     }
     for (text, wanted) in [
         ("(A)", "(A)"),
         ("(A,)", "unexpected token 2-3 2-3"),
         ("()", "unexpected end of input, expected type 1-2 1-2"),
     ] {
-        says(&rt, alloc, read(alloc, Reader::TypeParen, text), wanted);
+        says(
+            &rt,
+            alloc,
+            read(alloc, Reader::Types(TypeReader::Paren), text),
+            wanted,
+        );
     }
 }
 
@@ -102,7 +122,12 @@ fn slices_are_told_from_arrays(rt: HostRuntime) {
         ("[A; 1]", "unexpected token 2-3 2-3"),
         ("[]", "unexpected end of input, expected type 1-2 1-2"),
     ] {
-        says(&rt, alloc, read(alloc, Reader::TypeSlice, text), wanted);
+        says(
+            &rt,
+            alloc,
+            read(alloc, Reader::Types(TypeReader::Slice), text),
+            wanted,
+        );
     }
     for (text, wanted) in [
         ("[A; 1]", "[A ; 1]"),
@@ -113,7 +138,12 @@ fn slices_are_told_from_arrays(rt: HostRuntime) {
             "unexpected end of input, expected identifier 5-6 5-6",
         ),
     ] {
-        says(&rt, alloc, read(alloc, Reader::TypeArray, text), wanted);
+        says(
+            &rt,
+            alloc,
+            read(alloc, Reader::Types(TypeReader::Array), text),
+            wanted,
+        );
     }
 }
 
@@ -137,14 +167,24 @@ fn pointers_have_a_mutability(rt: HostRuntime) {
         ("*A", "expected `const` or `mut` 1-2 1-2"),
         ("&A", "expected `*` 0-1 0-1"),
     ] {
-        says(&rt, alloc, read(alloc, Reader::TypePtr, text), wanted);
+        says(
+            &rt,
+            alloc,
+            read(alloc, Reader::Types(TypeReader::Ptr), text),
+            wanted,
+        );
     }
     for (text, wanted) in [
         ("&A", "& A"),
         ("&'a A", "& 'a A"),
         ("*const A", "expected `&` 0-1 0-1"),
     ] {
-        says(&rt, alloc, read(alloc, Reader::TypeReference, text), wanted);
+        says(
+            &rt,
+            alloc,
+            read(alloc, Reader::Types(TypeReader::Reference), text),
+            wanted,
+        );
     }
 }
 
@@ -168,10 +208,20 @@ fn types_are_refused(rt: HostRuntime) {
             "unexpected end of input, expected identifier 5-6 5-6",
         ),
     ] {
-        says(&rt, alloc, read(alloc, Reader::AnyType, text), wanted);
+        says(
+            &rt,
+            alloc,
+            read(alloc, Reader::Types(TypeReader::Any), text),
+            wanted,
+        );
     }
     for (text, wanted) in [("A", "A"), ("A + B", "unexpected token 2-3 2-3")] {
-        says(&rt, alloc, read(alloc, Reader::WithoutPlus, text), wanted);
+        says(
+            &rt,
+            alloc,
+            read(alloc, Reader::Types(TypeReader::WithoutPlus), text),
+            wanted,
+        );
     }
 }
 
@@ -179,19 +229,35 @@ fn types_are_refused(rt: HostRuntime) {
 fn forms_are_read_alone(rt: HostRuntime) {
     let alloc = rt.alloc();
     for (reader, text, wanted) in [
-        (Reader::TypePath, "try::a", "try :: a"),
-        (Reader::TypePath, "A<B>", "unexpected token 1-2 1-2"),
-        (Reader::TypePath, "_", "expected identifier 0-1 0-1"),
-        (Reader::TypeMacro, "m!()", "m ! ()"),
+        (Reader::Types(TypeReader::Path), "try::a", "try :: a"),
         (
-            Reader::TypeMacro,
+            Reader::Types(TypeReader::Path),
+            "A<B>",
+            "unexpected token 1-2 1-2",
+        ),
+        (
+            Reader::Types(TypeReader::Path),
+            "_",
+            "expected identifier 0-1 0-1",
+        ),
+        (Reader::Types(TypeReader::Macro), "m!()", "m ! ()"),
+        (
+            Reader::Types(TypeReader::Macro),
             "m",
             "unexpected end of input, expected `!` 0-0 0-0",
         ),
-        (Reader::TypeNever, "!", "!"),
-        (Reader::TypeNever, "A", "expected `!` 0-1 0-1"),
-        (Reader::TypeInfer, "_", "_"),
-        (Reader::TypeInfer, "A", "expected `_` 0-1 0-1"),
+        (Reader::Types(TypeReader::Never), "!", "!"),
+        (
+            Reader::Types(TypeReader::Never),
+            "A",
+            "expected `!` 0-1 0-1",
+        ),
+        (Reader::Types(TypeReader::Infer), "_", "_"),
+        (
+            Reader::Types(TypeReader::Infer),
+            "A",
+            "expected `_` 0-1 0-1",
+        ),
     ] {
         says(&rt, alloc, read(alloc, reader, text), wanted);
     }
@@ -213,7 +279,7 @@ fn nested(alloc: Global, depth: usize) -> Result<String, Error> {
 /// Whether a nested type prints as it was read.
 fn is_kept(alloc: Global, depth: usize) -> Result<String, Error> {
     let text = nested(alloc, depth)?;
-    let print = read(alloc, Reader::AnyType, text.as_str())?;
+    let print = read(alloc, Reader::Types(TypeReader::Any), text.as_str())?;
     let mut out = String::new(alloc);
     write!(out, "{}", print.as_str() == text.as_str())?;
     Ok(out)

@@ -38,14 +38,12 @@ use Rattle.syn_mid.specs.declared.attr.Meta.{Meta}
 use Rattle.syn_mid.specs.declared.attr.MetaList.{MetaList}
 use Rattle.syn_mid.specs.declared.attr.MetaNameValue.{MetaNameValue}
 use Rattle.syn_mid.specs.declared.mac.MacroDelimiter.{MacroDelimiter}
-use Rattle.syn_mid.specs.declared.path.Path.{Path}
-use Rattle.syn_mid.specs.declared.path.PathSegment.{PathSegment}
 use Rattle.syn_mid.specs.declared.supplied.Expr.{Expr}
 use Rattle.syn_mid.specs.declared.supplied.Expr.TheVariants as e
 use Rattle.syn_mid.specs.Supplied.{Place, Value, UsesUp, IsApart, is_number, lone_number, lone_literal, attribute_ahead}
 use Rattle.syn_mid.specs.mac.Spelling.{Delimits, in_paren, in_brace, in_bracket}
 use Rattle.syn_mid.specs.path.Reading.{sees_sep}
-use Rattle.syn_mid.specs.path.Paths.{Sep}
+use Rattle.syn_mid.specs.path.Paths.{Sep, ModPath, ModSegment, nothing}
 use Rattle.syn_mid.specs.path.Spelling.{is_mod_word, IsLeading, no_leading, leading, AreModSegments, last_segment, more_segments, IsModPath}
 use Rattle.syn_mid.specs.path.Spelling as paths
 use Rattle.syn_mid.specs.attr.Attrs.{Pound, Equals, Attribute, list_of, name_value_of}
@@ -73,36 +71,35 @@ no_sep_group : (d : Delimiter) (s : DelimSpan) (c r : Toks) → sees_sep (group 
 unfolding sees_mark
 no_sep_group d s c r = refl
 
-module _ {X : Type 0} where
-  begins_segments : (clear : Bool) (all : List (PathSegment X)) (seps : List Sep) (l r : Toks) → AreModSegments clear all seps l r → sees_unsafe l ≡ false
-  begins_segments clear all seps l r (last_segment {i = i} h) = seen_word is_unsafe i r ∙ no_unsafe i.text (is_unsafe i.text) refl h
-  begins_segments clear all seps l r (more_segments {i = i} h a k) = seen_word is_unsafe i _ ∙ no_unsafe i.text (is_unsafe i.text) refl h
+begins_segments : (clear : Bool) (all : List ModSegment) (seps : List Sep) (l r : Toks) → AreModSegments clear nothing all seps l r → sees_unsafe l ≡ false
+begins_segments clear all seps l r (last_segment {i = i} h) = seen_word is_unsafe i r ∙ no_unsafe i.text (is_unsafe i.text) refl h
+begins_segments clear all seps l r (more_segments {i = i} h a k) = seen_word is_unsafe i _ ∙ no_unsafe i.text (is_unsafe i.text) refl h
 
-  begins_mod : (clear : Bool) (p : Path X) (l r : Toks) → IsModPath clear p l r → sees_unsafe l ≡ false
-  unfolding sees_word
-  begins_mod clear p l r (paths.a_bare_path {all = all} {seps = seps} {m = k} no_leading i) = begins_segments clear all seps k r i
-  begins_mod clear p l r (paths.a_bare_path (leading a) i) = refl
+begins_mod : (clear : Bool) (p : ModPath) (l r : Toks) → IsModPath clear nothing p l r → sees_unsafe l ≡ false
+unfolding sees_word
+begins_mod clear p l r (paths.a_bare_path {all = all} {seps = seps} {m = k} no_leading i) = begins_segments clear all seps k r i
+begins_mod clear p l r (paths.a_bare_path (leading a) i) = refl
 
-  pub meta_path_complete : (p : Path X) (l r : Toks) (f : Option Span) (e : Span) (sc : Scope) → IsMetaPath true p l r → sees_sep r ≡ false → Reads_to meta_path p l r f e sc
-  unfolding meta_path
-  meta_path_complete p l r f e sc (unsafe_path {i = i} h) s =
-      record { last = i.span; reads = chosen (sees_unsafe (word i r)) true _ _ (at (word i r) f e sc) _ (seen_word is_unsafe i r ∙ h) (link _ (reads_any i r f e sc) refl) }
-  meta_path_complete p l r f e sc (mod_path i) s =
-      let k = path_complete p l r f e sc i s in
-      record { last = k.last; reads = chosen (sees_unsafe l) false _ _ (at l f e sc) _ (begins_mod true p l r i) k.reads }
+pub meta_path_complete : (p : ModPath) (l r : Toks) (f : Option Span) (e : Span) (sc : Scope) → IsMetaPath true p l r → sees_sep r ≡ false → Reads_to meta_path p l r f e sc
+unfolding meta_path
+meta_path_complete p l r f e sc (unsafe_path {i = i} h) s =
+    record { last = i.span; reads = chosen (sees_unsafe (word i r)) true _ _ (at (word i r) f e sc) _ (seen_word is_unsafe i r ∙ h) (link _ (reads_any i r f e sc) refl) }
+meta_path_complete p l r f e sc (mod_path i) s =
+    let k = path_complete nothing p l r f e sc i s in
+    record { last = k.last; reads = chosen (sees_unsafe l) false _ _ (at l f e sc) _ (begins_mod true p l r i) k.reads }
 
-  -- ---- the list
+-- ---- the list
 
-  pub list_after_complete : (p : Path X) (e : MacroDelimiter) (d : Delimiter) (s : DelimSpan) (c r : Toks) (tokens : TokenStream) (f : Option Span) (a : Span) (sc : Scope) → Delimits e d s → c ≡ toks tokens →
-      list_after p (at (group d s c r) f a sc) ≡ Ok (list_of p (e, tokens), at r f s.closing sc)
-  unfolding list_after
-  list_after_complete p e d s c r tokens f a sc h k = link _ (reads_body e d s c r tokens f a sc h k) refl
+pub list_after_complete : (p : ModPath) (e : MacroDelimiter) (d : Delimiter) (s : DelimSpan) (c r : Toks) (tokens : TokenStream) (f : Option Span) (a : Span) (sc : Scope) → Delimits e d s → c ≡ toks tokens →
+    list_after p (at (group d s c r) f a sc) ≡ Ok (list_of p (e, tokens), at r f s.closing sc)
+unfolding list_after
+list_after_complete p e d s c r tokens f a sc h k = link _ (reads_body e d s c r tokens f a sc h k) refl
 
-  pub list_complete : (x : MetaList X) (l r : Toks) (f : Option Span) (e : Span) (sc : Scope) → IsMetaList true x l r → Reads_to list x l r f e sc
-  unfolding list
-  list_complete x l r f e sc (a_meta_list {p = p} {e = b} {d = d} {s = s} {c = c} {tokens = tokens} i h k) =
-      let q = meta_path_complete p l (group d s c r) f e sc i (no_sep_group d s c r) in
-      record { last = s.closing; reads = link _ q.reads (list_after_complete p b d s c r tokens f q.last sc h k) }
+pub list_complete : (x : MetaList) (l r : Toks) (f : Option Span) (e : Span) (sc : Scope) → IsMetaList true x l r → Reads_to list x l r f e sc
+unfolding list
+list_complete x l r f e sc (a_meta_list {p = p} {e = b} {d = d} {s = s} {c = c} {tokens = tokens} i h k) =
+    let q = meta_path_complete p l (group d s c r) f e sc i (no_sep_group d s c r) in
+    record { last = s.closing; reads = link _ q.reads (list_after_complete p b d s c r tokens f q.last sc h k) }
 
 -- ---- marks of one character
 
@@ -256,7 +253,7 @@ module _ {X : Type 0} (reads : Place → Reader X) (spells : Place → X → Tok
       let k = other_complete x s i in
       (k.0, link (value_or reads) (not_last s.rest s.left s.last s.scope (apart x s.rest i)) k.1, k.2)
 
-  name_value_after_complete : (p : Path X) (q : Equals) (v : Expr X) (l k : Toks) (f : Option Span) (a : Span) (sc : Scope) → IsMark true q l k → IsValue spells true v k → Uses (name_value_after reads p) (name_value_of p q v) (at l f a sc)
+  name_value_after_complete : (p : ModPath) (q : Equals) (v : Expr X) (l k : Toks) (f : Option Span) (a : Span) (sc : Scope) → IsMark true q l k → IsValue spells true v k → Uses (name_value_after reads p) (name_value_of p q v) (at l f a sc)
   unfolding name_value_after
   name_value_after_complete p q v l k f a sc i j =
       let w = mark_complete true {n = 11} {k = 1} refl (omega arith) q l k f a sc i in

@@ -28,21 +28,20 @@ no_inner_done : sees_inner done ≡ false
 unfolding sees_inner sees_mark
 no_inner_done = refl
 
-module _ {X : Type 0} where
-  pub list_lawful : Lawful (grammars.list {X = X})
-  list_lawful = record {
-    sound = λ s t a n v e c. let k = list_sound s t a v e in subst (λ z. IsMetaList false a s.rest z) (took_all t (visible_list a s.rest t.rest k.spelt v) c) k.spelt;
-    complete = λ s a n v h. let k = list_complete a s.rest done s.left s.last s.scope h in (at done s.left k.last s.scope, k.reads, leaves_none s.left k.last s.scope n);
-    spells = λ a l h v p. list_again false a l done done h;
-    visible = λ a l h v p. list_visible a l done done h v tt;
-    stays = λ a l h p. refl;
-    same = λ a l h p. refl;
-  }
+pub list_lawful : Lawful grammars.list
+list_lawful = record {
+  sound = λ s t a n v e c. let k = list_sound s t a v e in subst (λ z. IsMetaList false a s.rest z) (took_all t (visible_list a s.rest t.rest k.spelt v) c) k.spelt;
+  complete = λ s a n v h. let k = list_complete a s.rest done s.left s.last s.scope h in (at done s.left k.last s.scope, k.reads, leaves_none s.left k.last s.scope n);
+  spells = λ a l h v p. list_again false a l done done h;
+  visible = λ a l h v p. list_visible a l done done h v tt;
+  stays = λ a l h p. refl;
+  same = λ a l h p. refl;
+}
 
-  -- on the front of a list
-  pub list_front : (s t : Stream) (r : Result (MetaList X) Refusal) → Reads (reading.list s) r t → Visible s.rest → IfOk r (λ x. IsMetaList false x s.rest t.rest)
-  list_front s t (Ok a) h v = (list_sound s t a v h).spelt
-  list_front s t (Err e) h v = tt
+-- on the front of a list
+pub list_front : (s t : Stream) (r : Result MetaList Refusal) → Reads (reading.list s) r t → Visible s.rest → IfOk r (λ x. IsMetaList false x s.rest t.rest)
+list_front s t (Ok a) h v = (list_sound s t a v h).spelt
+list_front s t (Err e) h v = tt
 
 module _ {X : Type 0} (reads : Place → Reader X) (spells : Place → X → Toks → Type 0) (normals : Place → X → X) (prints : Place → X → Print)
     (sound : (p : Place) (s t : Stream) (x : X) → reads p s ≡ Ok (x, t) → leaves t ≡ None → spells p x s.rest)

@@ -15,8 +15,6 @@ use Rattle.syn_mid.specs.declared.attr.Meta.TheVariants as m
 use Rattle.syn_mid.specs.declared.attr.Meta.TheOpen as o
 use Rattle.syn_mid.specs.declared.attr.Meta.TheFolds.{ind-Meta, ind-Expr, ind-MetaNameValue, ind-ExprRange}
 use Rattle.syn_mid.specs.declared.attr.MetaNameValue.{MetaNameValue, roll-MetaNameValue, map-MetaNameValue}
-use Rattle.syn_mid.specs.declared.path.PathStyle.TheVariants as style
-use Rattle.syn_mid.specs.declared.path.PathStyle.TheVariants.{Mod}
 use Rattle.syn_mid.specs.declared.supplied.Expr.{Expr, out-Expr, roll-Expr, roll-out-Expr, map-Expr}
 use Rattle.syn_mid.specs.declared.supplied.Expr.TheVariants as e
 use Rattle.syn_mid.specs.declared.supplied.ExprBlockOf.{ExprBlockOf}
@@ -26,7 +24,8 @@ use Rattle.syn_mid.specs.declared.supplied.ExprMacroOf.{ExprMacroOf}
 use Rattle.syn_mid.specs.declared.supplied.ExprPathOf.{ExprPathOf}
 use Rattle.syn_mid.specs.declared.supplied.ExprRange.{ExprRange, roll-ExprRange, map-ExprRange}
 use Rattle.syn_mid.specs.mac.Printing.{mac}
-use Rattle.syn_mid.specs.path.Printing.{path}
+use Rattle.syn_mid.specs.path.Paths.{ModPath}
+use Rattle.syn_mid.specs.path.Shapes.{mod_path}
 use Rattle.syn_mid.specs.attr.Attrs.{Attribute, name_value_of, range_of, lit_of, expr_path_of, const_of, expr_macro_of, block_of, attribute_of}
 use Rattle.syn_mid.specs.attr.Normal as normal
 use Rattle.syn_mid.specs.attr.Printing as printing
@@ -182,13 +181,13 @@ module _ {X : Type 0} (nx : Place → X → X) (own : (w : Place) (x : X) → nx
       let at = λ (v : ExprLitOf (Attribute X)). ap (λ z. normal.place_layer nx w z (normal.value nx (e.Lit v))) (e.outs-Lit v) in
       subst (At w) (sym (e.rolls-Lit x)) (settled w (e.Lit x) (e.Lit (normal.literal nx x)) (normal-Lit nx x) (at x) (at (normal.literal nx x)))
   place_stays w (o.Expr::Path x) =
-      let at = λ (v : ExprPathOf (Attribute X) X). ap (λ z. normal.place_layer nx w z (normal.value nx (e.Path v))) (e.outs-Path v) in
+      let at = λ (v : ExprPathOf (Attribute X) ModPath). ap (λ z. normal.place_layer nx w z (normal.value nx (e.Path v))) (e.outs-Path v) in
       subst (At w) (sym (e.rolls-Path x)) (settled w (e.Path x) (e.Path (normal.expr_path nx x)) (normal-Path nx x) (at x) (at (normal.expr_path nx x)))
   place_stays w (o.Const x) =
       let at = λ (v : ExprConstOf (Attribute X) X). ap (λ z. normal.place_layer nx w z (normal.value nx (e.Const v))) (e.outs-Const v) in
       subst (At w) (sym (e.rolls-Const x)) (settled w (e.Const x) (e.Const (normal.expr_const nx x)) (normal-Const nx x) (at x) (at (normal.expr_const nx x)))
   place_stays w (o.Macro x) =
-      let at = λ (v : ExprMacroOf (Attribute X) X). ap (λ z. normal.place_layer nx w z (normal.value nx (e.Macro v))) (e.outs-Macro v) in
+      let at = λ (v : ExprMacroOf (Attribute X)). ap (λ z. normal.place_layer nx w z (normal.value nx (e.Macro v))) (e.outs-Macro v) in
       subst (At w) (sym (e.rolls-Macro x)) (settled w (e.Macro x) (e.Macro (normal.expr_macro nx x)) (normal-Macro nx x) (at x) (at (normal.expr_macro nx x)))
   place_stays w (o.Range x) =
       let at = λ (v : ExprRange X). ap (λ z. normal.place_layer nx w z (normal.value nx (e.Range v))) (e.outs-Range v) in
@@ -260,7 +259,7 @@ module _ {X : Type 0} (nx : Place → X → X) (px : Place → X → Print) (sam
   expr_shown (o.Expr::Path y) =
       let x = expr_path_of (shown_attrs y.attrs) y.path in
       subst SameExpr (sym (e.rolls-Path x))
-      (ap (printing.value px) (normal-Path nx x) ∙ prints_expr_path px (normal.expr_path nx x) ∙ ap (λ z. z ++ path style.Expr y.path) (outer_shown y.attrs) ∙ sym (prints_expr_path px x))
+      (ap (printing.value px) (normal-Path nx x) ∙ prints_expr_path px (normal.expr_path nx x) ∙ ap (λ z. z ++ mod_path y.path) (outer_shown y.attrs) ∙ sym (prints_expr_path px x))
   expr_shown (o.Const y) =
       let x = const_of (shown_attrs y.attrs) y.const_token y.brace_token y.body in
       subst SameExpr (sym (e.rolls-Const x))
@@ -285,7 +284,7 @@ module _ {X : Type 0} (nx : Place → X → X) (px : Place → X → Print) (sam
       SameFields (roll-MetaNameValue X (map-MetaNameValue X ShownMeta ShownExpr ShownFields ShownRange (Meta X) (Expr X) (MetaNameValue X) (ExprRange X) (λ a. a.0) (λ a. a.0) (λ a. a.0) (λ a. a.0) y))
   fields_shown y =
       ap (printing.name_value px) (normal_fields nx y.path y.eq_token y.value.0) ∙ prints_named px y.path y.eq_token (normal.value nx y.value.0)
-      ∙ ap (λ z. path Mod y.path ++ (p.mark y.eq_token ++ z)) y.value.1 ∙ sym (prints_named px y.path y.eq_token y.value.0)
+      ∙ ap (λ z. mod_path y.path ++ (p.mark y.eq_token ++ z)) y.value.1 ∙ sym (prints_named px y.path y.eq_token y.value.0)
 
   parts_same : (l : List (AttributeOf ShownMeta)) (a : Option ShownExpr) (t : RangeLimits) (b : Option ShownExpr) → SameRange (range_of (shown_attrs l) (shown_end a) t (shown_end b))
   parts_same l a t b =

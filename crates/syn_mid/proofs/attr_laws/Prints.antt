@@ -17,9 +17,6 @@ use Rattle.syn_mid.specs.declared.attr.Meta.TheOpen as o
 use Rattle.syn_mid.specs.declared.attr.Meta.TheFolds.{fold-roll-Meta, fold-roll-Expr, fold-roll-MetaNameValue, fold-roll-ExprRange, fold_out-MetaNameValue}
 use Rattle.syn_mid.specs.declared.attr.MetaList.{MetaList}
 use Rattle.syn_mid.specs.declared.attr.MetaNameValue.{MetaNameValue, out-MetaNameValue}
-use Rattle.syn_mid.specs.declared.path.Path.{Path}
-use Rattle.syn_mid.specs.declared.path.PathStyle.TheVariants.{Mod}
-use Rattle.syn_mid.specs.declared.path.PathStyle.TheVariants as style
 use Rattle.syn_mid.specs.declared.supplied.Expr.{Expr}
 use Rattle.syn_mid.specs.declared.supplied.Expr.TheVariants as e
 use Rattle.syn_mid.specs.declared.supplied.ExprBlockOf.{ExprBlockOf}
@@ -29,7 +26,8 @@ use Rattle.syn_mid.specs.declared.supplied.ExprMacroOf.{ExprMacroOf}
 use Rattle.syn_mid.specs.declared.supplied.ExprPathOf.{ExprPathOf}
 use Rattle.syn_mid.specs.declared.supplied.ExprRange.{ExprRange, out-ExprRange, roll-out-ExprRange}
 use Rattle.syn_mid.specs.mac.Printing.{mac}
-use Rattle.syn_mid.specs.path.Printing.{path}
+use Rattle.syn_mid.specs.path.Paths.{ModPath}
+use Rattle.syn_mid.specs.path.Shapes.{mod_path}
 use Rattle.syn_mid.specs.attr.Attrs.{Equals, Attribute, name_value_of, range_of, literal}
 use Rattle.syn_mid.specs.attr.Normal as normal
 use Rattle.syn_mid.specs.attr.Printing as printing
@@ -64,11 +62,11 @@ module _ {M : Type 0} (f : M → Print) where
   pass_inner x mid b = sym (append-nil mid) ∙ ap (λ (z : Bool). mid ++ (if z then attribute_by f x else [])) (sym b)
 
 module _ {X : Type 0} (px : Place → X → Print) where
-  pub prints_path : (x : Path X) → meta px (m.Path x) ≡ path Mod x
+  pub prints_path : (x : ModPath) → meta px (m.Path x) ≡ mod_path x
   unfolding meta
   prints_path x = ap (meta px) (sym (m.rolls-Path x)) ∙ fold-roll-Meta X Print Print Print Print (meta_step px) (expr_step px) (name_value_step px) (range_step px) (o.Meta::Path x)
 
-  pub prints_list : (x : MetaList X) → meta px (m.List x) ≡ list x
+  pub prints_list : (x : MetaList) → meta px (m.List x) ≡ list x
   unfolding meta
   prints_list x = ap (meta px) (sym (m.rolls-List x)) ∙ fold-roll-Meta X Print Print Print Print (meta_step px) (expr_step px) (name_value_step px) (range_step px) (o.List x)
 
@@ -76,7 +74,7 @@ module _ {X : Type 0} (px : Place → X → Print) where
   unfolding meta name_value
   prints_name_value x = ap (meta px) (sym (m.rolls-NameValue x)) ∙ fold-roll-Meta X Print Print Print Print (meta_step px) (expr_step px) (name_value_step px) (range_step px) (o.NameValue x)
 
-  pub prints_fields : (x : MetaNameValue X) → name_value px x ≡ path Mod (out-MetaNameValue X x).path ++ (p.mark (out-MetaNameValue X x).eq_token ++ value px (out-MetaNameValue X x).value)
+  pub prints_fields : (x : MetaNameValue X) → name_value px x ≡ mod_path (out-MetaNameValue X x).path ++ (p.mark (out-MetaNameValue X x).eq_token ++ value px (out-MetaNameValue X x).value)
   unfolding name_value value
   prints_fields x = fold_out-MetaNameValue X Print Print Print Print (meta_step px) (expr_step px) (name_value_step px) (range_step px) x
 
@@ -90,11 +88,11 @@ module _ {X : Type 0} (px : Place → X → Print) where
       ap (value px) (sym (e.rolls-Lit x)) ∙ fold-roll-Expr X Print Print Print Print (meta_step px) (expr_step px) (name_value_step px) (range_step px) (o.Lit x)
       ∙ ap (λ r. r ++ lits.print x.lit) (outer_mapped (meta px) x.attrs)
 
-  pub prints_expr_path : (x : ExprPathOf (Attribute X) X) → value px (e.Path x) ≡ printing.expr_path px x
+  pub prints_expr_path : (x : ExprPathOf (Attribute X) ModPath) → value px (e.Path x) ≡ printing.expr_path px x
   unfolding value meta
   prints_expr_path x =
       ap (value px) (sym (e.rolls-Path x)) ∙ fold-roll-Expr X Print Print Print Print (meta_step px) (expr_step px) (name_value_step px) (range_step px) (o.Expr::Path x)
-      ∙ ap (λ r. r ++ path style.Expr x.path) (outer_mapped (meta px) x.attrs)
+      ∙ ap (λ r. r ++ mod_path x.path) (outer_mapped (meta px) x.attrs)
 
   pub prints_const : (x : ExprConstOf (Attribute X) X) → value px (e.Const x) ≡ printing.expr_const px x
   unfolding value meta
@@ -102,7 +100,7 @@ module _ {X : Type 0} (px : Place → X → Print) where
       ap (value px) (sym (e.rolls-Const x)) ∙ fold-roll-Expr X Print Print Print Print (meta_step px) (expr_step px) (name_value_step px) (range_step px) (o.Const x)
       ∙ ap (λ r. r ++ (p.word x.const_token ++ body px x.brace_token x.body)) (outer_mapped (meta px) x.attrs)
 
-  pub prints_macro : (x : ExprMacroOf (Attribute X) X) → value px (e.Macro x) ≡ printing.expr_macro px x
+  pub prints_macro : (x : ExprMacroOf (Attribute X)) → value px (e.Macro x) ≡ printing.expr_macro px x
   unfolding value meta
   prints_macro x =
       ap (value px) (sym (e.rolls-Macro x)) ∙ fold-roll-Expr X Print Print Print Print (meta_step px) (expr_step px) (name_value_step px) (range_step px) (o.Macro x)
@@ -140,16 +138,16 @@ module _ {X : Type 0} (px : Place → X → Print) where
   pub prints_parts : (x : ExprRange X) → range px x ≡ parts (out-ExprRange X x).attrs (out-ExprRange X x).start (out-ExprRange X x).limits (out-ExprRange X x).end
   prints_parts x = let y = out-ExprRange X x in ap (range px) (sym (roll-out-ExprRange X x)) ∙ parts_mapped y.attrs y.start y.limits y.end
 
-  pub prints_named : (q : Path X) (t : Equals) (v : Expr X) → name_value px (name_value_of q t v) ≡ path Mod q ++ (p.mark t ++ value px v)
+  pub prints_named : (q : ModPath) (t : Equals) (v : Expr X) → name_value px (name_value_of q t v) ≡ mod_path q ++ (p.mark t ++ value px v)
   unfolding name_value value
   prints_named q t v = fold-roll-MetaNameValue X Print Print Print Print (meta_step px) (expr_step px) (name_value_step px) (range_step px) (record { path = q; eq_token = t; value = v })
 
   -- a name and value, piece by piece
-  pub put_name_value : (x : MetaNameValue X) (old a b new : Print) → a ≡ old ++ path Mod (out-MetaNameValue X x).path → b ≡ a ++ p.mark (out-MetaNameValue X x).eq_token → new ≡ b ++ value px (out-MetaNameValue X x).value → new ≡ old ++ name_value px x
+  pub put_name_value : (x : MetaNameValue X) (old a b new : Print) → a ≡ old ++ mod_path (out-MetaNameValue X x).path → b ≡ a ++ p.mark (out-MetaNameValue X x).eq_token → new ≡ b ++ value px (out-MetaNameValue X x).value → new ≡ old ++ name_value px x
   put_name_value x old a b new h k n =
       let f = out-MetaNameValue X x in
       n ∙ ap (λ z. z ++ value px f.value) (k ∙ ap (λ z. z ++ p.mark f.eq_token) h)
-      ∙ append_assoc (old ++ path Mod f.path) (p.mark f.eq_token) (value px f.value) ∙ append_assoc old (path Mod f.path) (p.mark f.eq_token ++ value px f.value)
+      ∙ append_assoc (old ++ mod_path f.path) (p.mark f.eq_token) (value px f.value) ∙ append_assoc old (mod_path f.path) (p.mark f.eq_token ++ value px f.value)
       ∙ ap (λ z. old ++ z) (sym (prints_fields x))
 
   -- a node: its attributes, and what follows them
@@ -177,13 +175,13 @@ module _ {X : Type 0} (px : Place → X → Print) where
   pub place_literal : (w : Place) (x : ExprLitOf (Attribute X)) → value px (e.Lit x) ≡ at_place px w (e.Lit x)
   place_literal w x = ap (λ z. place_layer px w z (value px (e.Lit x))) (sym (e.outs-Lit x))
 
-  pub place_path : (w : Place) (x : ExprPathOf (Attribute X) X) → value px (e.Path x) ≡ at_place px w (e.Path x)
+  pub place_path : (w : Place) (x : ExprPathOf (Attribute X) ModPath) → value px (e.Path x) ≡ at_place px w (e.Path x)
   place_path w x = ap (λ z. place_layer px w z (value px (e.Path x))) (sym (e.outs-Path x))
 
   pub place_const : (w : Place) (x : ExprConstOf (Attribute X) X) → value px (e.Const x) ≡ at_place px w (e.Const x)
   place_const w x = ap (λ z. place_layer px w z (value px (e.Const x))) (sym (e.outs-Const x))
 
-  pub place_macro : (w : Place) (x : ExprMacroOf (Attribute X) X) → value px (e.Macro x) ≡ at_place px w (e.Macro x)
+  pub place_macro : (w : Place) (x : ExprMacroOf (Attribute X)) → value px (e.Macro x) ≡ at_place px w (e.Macro x)
   place_macro w x = ap (λ z. place_layer px w z (value px (e.Macro x))) (sym (e.outs-Macro x))
 
   pub place_range : (w : Place) (x : ExprRange X) → value px (e.Range x) ≡ at_place px w (e.Range x)
@@ -203,7 +201,7 @@ module _ {X : Type 0} (nx : Place → X → X) where
       ap (normal.value nx) (sym (e.rolls-Lit x))
       ∙ fold-roll-Expr X (Meta X) (Expr X) (MetaNameValue X) (ExprRange X) (normal.meta_step nx) (normal.expr_step nx) (normal.name_value_step nx) (normal.range_step nx) (o.Lit x)
 
-  pub normal-Path : (x : ExprPathOf (Attribute X) X) → normal.value nx (e.Path x) ≡ e.Path (normal.expr_path nx x)
+  pub normal-Path : (x : ExprPathOf (Attribute X) ModPath) → normal.value nx (e.Path x) ≡ e.Path (normal.expr_path nx x)
   unfolding normal.value normal.meta
   normal-Path x =
       ap (normal.value nx) (sym (e.rolls-Path x))
@@ -215,7 +213,7 @@ module _ {X : Type 0} (nx : Place → X → X) where
       ap (normal.value nx) (sym (e.rolls-Const x))
       ∙ fold-roll-Expr X (Meta X) (Expr X) (MetaNameValue X) (ExprRange X) (normal.meta_step nx) (normal.expr_step nx) (normal.name_value_step nx) (normal.range_step nx) (o.Const x)
 
-  pub normal-Macro : (x : ExprMacroOf (Attribute X) X) → normal.value nx (e.Macro x) ≡ e.Macro (normal.expr_macro nx x)
+  pub normal-Macro : (x : ExprMacroOf (Attribute X)) → normal.value nx (e.Macro x) ≡ e.Macro (normal.expr_macro nx x)
   unfolding normal.value normal.meta
   normal-Macro x =
       ap (normal.value nx) (sym (e.rolls-Macro x))
@@ -254,18 +252,18 @@ module _ {X : Type 0} (nx : Place → X → X) where
   normal_range l (Some a) t (Some b) =
       fold-roll-ExprRange X (Meta X) (Expr X) (MetaNameValue X) (ExprRange X) (normal.meta_step nx) (normal.expr_step nx) (normal.name_value_step nx) (normal.range_step nx) (record { attrs = l; start = Some a; limits = t; end = Some b })
 
-  pub normal_fields : (q : Path X) (t : Equals) (v : Expr X) → normal.name_value nx (name_value_of q t v) ≡ name_value_of q t (normal.value nx v)
+  pub normal_fields : (q : ModPath) (t : Equals) (v : Expr X) → normal.name_value nx (name_value_of q t v) ≡ name_value_of q t (normal.value nx v)
   unfolding normal.name_value normal.value
   normal_fields q t v =
       fold-roll-MetaNameValue X (Meta X) (Expr X) (MetaNameValue X) (ExprRange X) (normal.meta_step nx) (normal.expr_step nx) (normal.name_value_step nx) (normal.range_step nx) (record { path = q; eq_token = t; value = v })
 
-  pub normal_path : (x : Path X) → normal.meta nx (m.Path x) ≡ m.Path x
+  pub normal_path : (x : ModPath) → normal.meta nx (m.Path x) ≡ m.Path x
   unfolding normal.meta
   normal_path x =
       ap (normal.meta nx) (sym (m.rolls-Path x))
       ∙ fold-roll-Meta X (Meta X) (Expr X) (MetaNameValue X) (ExprRange X) (normal.meta_step nx) (normal.expr_step nx) (normal.name_value_step nx) (normal.range_step nx) (o.Meta::Path x)
 
-  pub normal_list : (x : MetaList X) → normal.meta nx (m.List x) ≡ m.List x
+  pub normal_list : (x : MetaList) → normal.meta nx (m.List x) ≡ m.List x
   unfolding normal.meta
   normal_list x =
       ap (normal.meta nx) (sym (m.rolls-List x))

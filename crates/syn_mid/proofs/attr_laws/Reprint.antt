@@ -25,14 +25,13 @@ use Rattle.syn_mid.specs.declared.attr.Meta.TheVariants as m
 use Rattle.syn_mid.specs.declared.attr.MetaList.{MetaList}
 use Rattle.syn_mid.specs.declared.attr.MetaNameValue.{MetaNameValue}
 use Rattle.syn_mid.specs.declared.mac.MacroDelimiter.{MacroDelimiter}
-use Rattle.syn_mid.specs.declared.path.Path.{Path}
-use Rattle.syn_mid.specs.declared.path.PathStyle.TheVariants.{Mod}
+use Rattle.syn_mid.specs.path.Paths.{ModPath, nothing}
 use Rattle.syn_mid.specs.declared.supplied.Expr.{Expr}
 use Rattle.syn_mid.specs.declared.supplied.Expr.TheVariants as e
 use Rattle.syn_mid.specs.Supplied.{Place, Value, UsesUp, Reprints}
 use Rattle.syn_mid.specs.mac.Macros.{span_of, delimiter_of}
 use Rattle.syn_mid.specs.mac.Spelling.{Delimits}
-use Rattle.syn_mid.specs.path.Printing.{path}
+use Rattle.syn_mid.specs.path.Shapes.{mod_path as print_path}
 use Rattle.syn_mid.specs.attr.Attrs.{Equals, Attribute, word_path, list_of, name_value_of, literal, attribute_of}
 use Rattle.syn_mid.specs.attr.Normal as normal
 use Rattle.syn_mid.specs.attr.Printing.{list, meta, value, name_value, attribute, attributes}
@@ -62,27 +61,26 @@ pub record AgainFront {A : Type 0} (S : A → Toks → Toks → Type 0) (n : A �
 pub row-group : (d : Delimiter) (s : DelimSpan) (x : Print) (k : Toks) → IsVisible d → row (p.group d (stream_of_trees x) s) k ≡ group d s (row x done) k
 row-group d s x k v = visible-tree d (stream_of_trees x) s k v ∙ ap (λ z. group d s z k) (stream-trees x done)
 
-module _ {X : Type 0} where
-  meta_path_again : (clear : Bool) (x : Path X) (l r k : Toks) → IsMetaPath clear x l r → IsMetaPath true x (row (path Mod x) k) k
-  meta_path_again clear x l r k (unsafe_path {i = i} h) = subst (λ z. IsMetaPath true {X = X} (word_path i) z k) (sym (tree-ident i k)) (unsafe_path h)
-  meta_path_again clear x l r k (mod_path i) = mod_path (path_again Mod clear x l r k i)
+meta_path_again : (clear : Bool) (x : ModPath) (l r k : Toks) → IsMetaPath clear x l r → IsMetaPath true x (row (print_path x) k) k
+meta_path_again clear x l r k (unsafe_path {i = i} h) = subst (λ z. IsMetaPath true (word_path i) z k) (sym (tree-ident i k)) (unsafe_path h)
+meta_path_again clear x l r k (mod_path i) = mod_path (path_again nothing (λ a. []) refl clear x l r k i)
 
-  whole_meta_path : (clear : Bool) (x : Path X) (l r : Toks) → IsMetaPath clear x l r → Visible r → Visible l
-  whole_meta_path clear x l r (unsafe_path h) v = v
-  whole_meta_path clear x l r (mod_path i) v = whole_path clear x l r i v
+whole_meta_path : (clear : Bool) (x : ModPath) (l r : Toks) → IsMetaPath clear x l r → Visible r → Visible l
+whole_meta_path clear x l r (unsafe_path h) v = v
+whole_meta_path clear x l r (mod_path i) v = whole_path clear x l r i v
 
-  row-list : (q : Path X) (e : MacroDelimiter) (d : Delimiter) (s : DelimSpan) (tokens : TokenStream) (k : Toks) → Delimits e d s → row (list (list_of q (e, tokens))) k ≡ row (path Mod q) (group d s (toks tokens) k)
-  row-list q e d s tokens k h = row-append (path Mod q) (p.group (delimiter_of e) tokens (span_of e)) k ∙ ap (row (path Mod q)) (row-body e d s tokens k h)
+row-list : (q : ModPath) (e : MacroDelimiter) (d : Delimiter) (s : DelimSpan) (tokens : TokenStream) (k : Toks) → Delimits e d s → row (list (list_of q (e, tokens))) k ≡ row (print_path q) (group d s (toks tokens) k)
+row-list q e d s tokens k h = row-append (print_path q) (p.group (delimiter_of e) tokens (span_of e)) k ∙ ap (row (print_path q)) (row-body e d s tokens k h)
 
-  pub list_again : (clear : Bool) (x : MetaList X) (l r k : Toks) → IsMetaList clear x l r → IsMetaList true x (row (list x) k) k
-  list_again clear x l r k (a_meta_list {p = q} {e = e} {d = d} {s = s} {c = c} {tokens = tokens} i h g) =
-      subst (λ z. IsMetaList true (list_of q (e, tokens)) z k) (sym (row-list q e d s tokens k h)) (a_meta_list (meta_path_again clear q l (group d s c r) (group d s (toks tokens) k) i) h refl)
+pub list_again : (clear : Bool) (x : MetaList) (l r k : Toks) → IsMetaList clear x l r → IsMetaList true x (row (list x) k) k
+list_again clear x l r k (a_meta_list {p = q} {e = e} {d = d} {s = s} {c = c} {tokens = tokens} i h g) =
+    subst (λ z. IsMetaList true (list_of q (e, tokens)) z k) (sym (row-list q e d s tokens k h)) (a_meta_list (meta_path_again clear q l (group d s c r) (group d s (toks tokens) k) i) h refl)
 
-  pub list_visible : (x : MetaList X) (l r k : Toks) → IsMetaList false x l r → Visible l → Visible k → Visible (row (list x) k)
-  list_visible x l r k (a_meta_list {p = q} {e = e} {d = d} {s = s} {c = c} {tokens = tokens} i h g) v w =
-      let inside = subst Visible g (visible_meta_path q l (group d s c r) i v).1 in
-      let next = group d s (toks tokens) k in
-      subst Visible (sym (row-list q e d s tokens k h)) (whole_meta_path true q (row (path Mod q) next) next (meta_path_again false q l (group d s c r) next i) (delimits_visible e d s h, inside, w))
+pub list_visible : (x : MetaList) (l r k : Toks) → IsMetaList false x l r → Visible l → Visible k → Visible (row (list x) k)
+list_visible x l r k (a_meta_list {p = q} {e = e} {d = d} {s = s} {c = c} {tokens = tokens} i h g) v w =
+    let inside = subst Visible g (visible_meta_path q l (group d s c r) i v).1 in
+    let next = group d s (toks tokens) k in
+    subst Visible (sym (row-list q e d s tokens k h)) (whole_meta_path true q (row (print_path q) next) next (meta_path_again false q l (group d s c r) next i) (delimits_visible e d s h, inside, w))
 
 module _ {X : Type 0} (reads : Place → Reader X) (spells : Place → X → Toks → Type 0) (normals : Place → X → X) (prints : Place → X → Print)
     (complete : (p : Place) (s : Stream) (x : X) → spells p x s.rest → (t : Stream) × (reads p s ≡ Ok (x, t)) × UsesUp s t)
@@ -124,9 +122,9 @@ module _ {X : Type 0} (reads : Place → Reader X) (spells : Place → X → Tok
         same = ap (value px) n ∙ prints_other px (nx Value x) ∙ r.same ∙ sym pr;
       }
 
-  row-fields : (q : Path X) (t : Equals) (v : Expr X) → row (name_value px (name_value_of q t v)) done ≡ row (path Mod q) (row (p.mark t) (row (value px v) done))
+  row-fields : (q : ModPath) (t : Equals) (v : Expr X) → row (name_value px (name_value_of q t v)) done ≡ row (print_path q) (row (p.mark t) (row (value px v) done))
   row-fields q t v =
-      ap (λ z. row z done) (prints_named px q t v) ∙ row-append (path Mod q) (p.mark t ++ value px v) done ∙ ap (row (path Mod q)) (row-append (p.mark t) (value px v) done)
+      ap (λ z. row z done) (prints_named px q t v) ∙ row-append (print_path q) (p.mark t ++ value px v) done ∙ ap (row (print_path q)) (row-append (p.mark t) (value px v) done)
 
   pub name_value_again : (x : MetaNameValue X) (l : Toks) → IsNameValue spells false x l → Again (IsNameValue spells true) (normal.name_value nx) (name_value px) x l
   name_value_again x l (a_name_value {p = q} {q = t} {v = v} {m = n} {k = k} i j h) =
@@ -139,10 +137,10 @@ module _ {X : Type 0} (reads : Place → Reader X) (spells : Place → X → Tok
       record {
         spelt = subst (λ z. IsNameValue spells true z (row (name_value px (name_value_of q t v)) done)) (sym f)
             (subst (λ z. IsNameValue spells true (name_value_of q t (normal.value nx v)) z) (sym seen) (a_name_value first second w.spelt));
-        visible = λ u. subst Visible (sym seen) (whole_meta_path true q (row (path Mod q) (row (p.mark t) rest)) (row (p.mark t) rest) first
+        visible = λ u. subst Visible (sym seen) (whole_meta_path true q (row (print_path q) (row (p.mark t) rest)) (row (p.mark t) rest) first
             (mark_whole true {n = 11} {k = 1} t (row (p.mark t) rest) rest second (w.visible (mark_visible false {n = 11} {k = 1} t n k j (visible_meta_path q l n i u)))));
         stays = ap (normal.name_value nx) f ∙ normal_fields nx q t (normal.value nx v) ∙ ap (name_value_of q t) w.stays ∙ sym f;
-        same = ap (name_value px) f ∙ prints_named px q t (normal.value nx v) ∙ ap (λ z. path Mod q ++ (p.mark t ++ z)) w.same ∙ sym (prints_named px q t v);
+        same = ap (name_value px) f ∙ prints_named px q t (normal.value nx v) ∙ ap (λ z. print_path q ++ (p.mark t ++ z)) w.same ∙ sym (prints_named px q t v);
       }
 
   pub meta_again : (x : Meta X) (l : Toks) → IsMeta spells false x l → Again (IsMeta spells true) (normal.meta nx) (meta px) x l
@@ -152,7 +150,7 @@ module _ {X : Type 0} (reads : Place → Reader X) (spells : Place → X → Tok
       let first = meta_path_again false q l done done i in
       record {
         spelt = subst (λ z. IsMeta spells true z (row (meta px (m.Path q)) done)) (sym n) (subst (λ z. IsMeta spells true (m.Path q) (row z done)) (sym pr) (a_path first));
-        visible = λ u. subst (λ z. Visible (row z done)) (sym pr) (whole_meta_path true q (row (path Mod q) done) done first tt);
+        visible = λ u. subst (λ z. Visible (row z done)) (sym pr) (whole_meta_path true q (row (print_path q) done) done first tt);
         stays = ap (normal.meta nx) n;
         same = ap (meta px) n;
       }

@@ -23,7 +23,7 @@ use Rattle.syn_mid.specs.declared.attr.Meta.{Meta}
 use Rattle.syn_mid.specs.declared.attr.Meta.TheVariants as m
 use Rattle.syn_mid.specs.declared.attr.MetaList.{MetaList}
 use Rattle.syn_mid.specs.declared.attr.MetaNameValue.{MetaNameValue}
-use Rattle.syn_mid.specs.declared.path.Path.{Path}
+use Rattle.syn_mid.specs.path.Paths.{ModPath, nothing}
 use Rattle.syn_mid.specs.declared.supplied.Expr.{Expr}
 use Rattle.syn_mid.specs.declared.supplied.Expr.TheVariants as e
 use Rattle.syn_mid.specs.Supplied.{Place, Value}
@@ -53,42 +53,41 @@ first_parts (Some x) b h = cc
 
 -- ---- the path and the list
 
-module _ {X : Type 0} where
-  unsafe_at : (s t : Stream) (i : Ident) (p : Path X) → Word any_text s t i → is_unsafe i.text ≡ true → word_path i ≡ p → Taken (IsMetaPath false) s t p
-  unsafe_at s t i p w h g =
-      record { spelt = subst (λ z. IsMetaPath false {X = X} z s.rest t.rest) g (subst (λ z. IsMetaPath false {X = X} (word_path i) z t.rest) (sym w.is) (unsafe_path h)); left = w.left }
+unsafe_at : (s t : Stream) (i : Ident) (p : ModPath) → Word any_text s t i → is_unsafe i.text ≡ true → word_path i ≡ p → Taken (IsMetaPath false) s t p
+unsafe_at s t i p w h g =
+    record { spelt = subst (λ z. IsMetaPath false z s.rest t.rest) g (subst (λ z. IsMetaPath false (word_path i) z t.rest) (sym w.is) (unsafe_path h)); left = w.left }
 
-  pub meta_path_sound : (s t : Stream) (p : Path X) → Visible s.rest → meta_path s ≡ Ok (p, t) → Taken (IsMetaPath false) s t p
-  unfolding meta_path
-  meta_path_sound s t p v e =
-      elim (branch (sees_unsafe s.rest) _ _ s (Ok (p, t)) e) [
-        | inl b ↦ let k = mapped (read_word any_text ident_name s) word_path p t b.1 in
-            let w = took_word any_text ident_name s t k.value v k.was in
-            unsafe_at s t k.value p w (sym (seen_word is_unsafe k.value t.rest) ∙ ap sees_unsafe (sym w.is) ∙ b.0) k.is
-        | inr b ↦ let k = path_sound s t p v b.1 in record { spelt = mod_path k.spelt; left = k.left }
-      ]
+pub meta_path_sound : (s t : Stream) (p : ModPath) → Visible s.rest → meta_path s ≡ Ok (p, t) → Taken (IsMetaPath false) s t p
+unfolding meta_path
+meta_path_sound s t p v e =
+    elim (branch (sees_unsafe s.rest) _ _ s (Ok (p, t)) e) [
+      | inl b ↦ let k = mapped (read_word any_text ident_name s) word_path p t b.1 in
+          let w = took_word any_text ident_name s t k.value v k.was in
+          unsafe_at s t k.value p w (sym (seen_word is_unsafe k.value t.rest) ∙ ap sees_unsafe (sym w.is) ∙ b.0) k.is
+      | inr b ↦ let k = path_sound nothing s t p v b.1 in record { spelt = mod_path k.spelt; left = k.left }
+    ]
 
-  pub visible_meta_path : (p : Path X) (l r : Toks) → IsMetaPath false p l r → Visible l → Visible r
-  visible_meta_path p l r (unsafe_path h) v = v
-  visible_meta_path p l r (mod_path i) v = visible_path p l r i v
+pub visible_meta_path : (p : ModPath) (l r : Toks) → IsMetaPath false p l r → Visible l → Visible r
+visible_meta_path p l r (unsafe_path h) v = v
+visible_meta_path p l r (mod_path i) v = visible_path p l r i v
 
-  list_after_sound : (p : Path X) (l : Toks) (s t : Stream) (x : MetaList X) → IsMetaPath false p l s.rest → Visible s.rest → list_after p s ≡ Ok (x, t) → IsMetaList false x l t.rest × (t.left ≡ s.left)
-  unfolding list_after
-  list_after_sound p l s t x i v e =
-      let k = mapped (body s) (list_of p) x t e in
-      let w = took_body s t k.value v k.was in
-      (subst (λ z. IsMetaList false z l t.rest) k.is (a_meta_list (subst (λ z. IsMetaPath false p l z) w.is i) w.delimits w.tokens), w.left)
+list_after_sound : (p : ModPath) (l : Toks) (s t : Stream) (x : MetaList) → IsMetaPath false p l s.rest → Visible s.rest → list_after p s ≡ Ok (x, t) → IsMetaList false x l t.rest × (t.left ≡ s.left)
+unfolding list_after
+list_after_sound p l s t x i v e =
+    let k = mapped (body s) (list_of p) x t e in
+    let w = took_body s t k.value v k.was in
+    (subst (λ z. IsMetaList false z l t.rest) k.is (a_meta_list (subst (λ z. IsMetaPath false p l z) w.is i) w.delimits w.tokens), w.left)
 
-  pub list_sound : (s t : Stream) (x : MetaList X) → Visible s.rest → list s ≡ Ok (x, t) → Taken (IsMetaList false) s t x
-  unfolding list
-  list_sound s t x v e =
-      let c = chain (meta_path s) _ x t e in
-      let p = meta_path_sound s c.rest c.value v c.was in
-      let k = list_after_sound c.value s.rest c.rest t x p.spelt (visible_meta_path c.value s.rest c.rest.rest p.spelt v) c.goes in
-      record { spelt = k.0; left = k.1 ∙ p.left }
+pub list_sound : (s t : Stream) (x : MetaList) → Visible s.rest → list s ≡ Ok (x, t) → Taken (IsMetaList false) s t x
+unfolding list
+list_sound s t x v e =
+    let c = chain (meta_path s) _ x t e in
+    let p = meta_path_sound s c.rest c.value v c.was in
+    let k = list_after_sound c.value s.rest c.rest t x p.spelt (visible_meta_path c.value s.rest c.rest.rest p.spelt v) c.goes in
+    record { spelt = k.0; left = k.1 ∙ p.left }
 
-  pub visible_list : (x : MetaList X) (l r : Toks) → IsMetaList false x l r → Visible l → Visible r
-  visible_list x l r (a_meta_list {p = p} {d = d} {s = s} {c = c} i h k) v = (visible_meta_path p l (group d s c r) i v).2
+pub visible_list : (x : MetaList) (l r : Toks) → IsMetaList false x l r → Visible l → Visible r
+visible_list x l r (a_meta_list {p = p} {d = d} {s = s} {c = c} i h k) v = (visible_meta_path p l (group d s c r) i v).2
 
 -- ---- the literal that ends the stream
 
@@ -191,7 +190,7 @@ module _ {X : Type 0} (reads : Place → Reader X) (spells : Place → X → Tok
       let c = chain (last_literal s) _ v t e in
       value_at s t c.rest c.value v w (last_of s c.rest c.value c.was) c.goes n
 
-  name_value_after_sound : (p : Path X) (l : Toks) (s t : Stream) (x : MetaNameValue X) → IsMetaPath false p l s.rest → Visible s.rest → name_value_after reads p s ≡ Ok (x, t) → leaves t ≡ None → IsNameValue spells false x l
+  name_value_after_sound : (p : ModPath) (l : Toks) (s t : Stream) (x : MetaNameValue X) → IsMetaPath false p l s.rest → Visible s.rest → name_value_after reads p s ≡ Ok (x, t) → leaves t ≡ None → IsNameValue spells false x l
   unfolding name_value_after
   name_value_after_sound p l s t x i v e n =
       let c = chain (equals s) _ x t e in
@@ -208,10 +207,10 @@ module _ {X : Type 0} (reads : Place → Reader X) (spells : Place → X → Tok
       let p = meta_path_sound s c.rest c.value v c.was in
       name_value_after_sound c.value s.rest c.rest t x p.spelt (visible_meta_path c.value s.rest c.rest.rest p.spelt v) c.goes n
 
-  list_at : (l : Toks) (t : Stream) (z : MetaList X) (x : Meta X) → IsMetaList false z l t.rest → Visible l → leaves t ≡ None → m.List z ≡ x → IsMeta spells false x l
+  list_at : (l : Toks) (t : Stream) (z : MetaList) (x : Meta X) → IsMetaList false z l t.rest → Visible l → leaves t ≡ None → m.List z ≡ x → IsMeta spells false x l
   list_at l t z x i v n g = subst (λ q. IsMeta spells false q l) g (a_list (subst (λ q. IsMetaList false z l q) (took_all t (visible_list z l t.rest i v) n) i))
 
-  path_at : (l : Toks) (c t : Stream) (p : Path X) (x : Meta X) → IsMetaPath false p l c.rest → Visible c.rest → leaves t ≡ None → m.Path p ≡ x → c ≡ t → IsMeta spells false x l
+  path_at : (l : Toks) (c t : Stream) (p : ModPath) (x : Meta X) → IsMetaPath false p l c.rest → Visible c.rest → leaves t ≡ None → m.Path p ≡ x → c ≡ t → IsMeta spells false x l
   path_at l c t p x i v n g h = subst (λ q. IsMeta spells false q l) g (a_path (subst (λ q. IsMetaPath false p l q) (took_all c v (ap leaves h ∙ n)) i))
 
   pub meta_sound : (s t : Stream) (x : Meta X) → Visible s.rest → meta reads s ≡ Ok (x, t) → leaves t ≡ None → IsMeta spells false x s.rest

@@ -9,7 +9,7 @@ use Rattle.syn_mid.specs.Supplied.{Place, Block}
 use Rattle.syn_mid.specs.declared.attr.Meta.{Meta}
 use Rattle.syn_mid.specs.declared.attr.Meta.TheOpen as o
 use Rattle.syn_mid.specs.declared.attr.MetaNameValue.{MetaNameValue}
-use Rattle.syn_mid.specs.declared.path.Path.{Path}
+use Rattle.syn_mid.specs.path.Paths.{ModPath}
 use Rattle.syn_mid.specs.declared.supplied.Expr.{Expr, out-Expr, roll-Expr, roll-out-Expr}
 use Rattle.syn_mid.specs.declared.supplied.Expr.TheVariants as e
 use Rattle.syn_mid.specs.declared.supplied.ExprRange.{ExprRange}
@@ -25,7 +25,7 @@ use Rattle.syn_mid.proofs.generics_laws.Prints.{const_alone, const_braced, alone
 
 module _ {X : Type 0} (nx : Place → X → X) (px : Place → X → Print) (same : (w : Place) (x : X) → px w (nx w x) ≡ px w x) where
   -- what stands alone does so in its normal form
-  word_kept : (l : List (Attribute X)) (q : Path X) → is_word (expr_path_of (attr.attributes nx l) q) ≡ is_word (expr_path_of l q)
+  word_kept : (l : List (Attribute X)) (q : ModPath) → is_word (expr_path_of (attr.attributes nx l) q) ≡ is_word (expr_path_of l q)
   word_kept [] q = refl
   word_kept (a ∷ l) q = refl
 

@@ -1,5 +1,5 @@
 -- Where a read of a bound answers, the answer spells what was taken, over the same law of the parameters of its binder.
-use Rattle.std.proofs.Common.{◌≡◌, Bool, true, false, not, Option, Some, None, Ok, inl, inr, refl, sym, ◌∙◌, ap, subst, arith}
+use Rattle.std.proofs.Common.{◌≡◌, Bool, true, false, not, Option, Some, None, Ok, inl, inr, refl, sym, ◌∙◌, subst, arith}
 use Rattle.token_core.specs.declared.lifetime.Lifetime.{Lifetime}
 use Rattle.token_core.specs.declared.mark.Mark.{Mark}
 use Rattle.token_core.specs.declared.span.DelimSpan.{DelimSpan}
@@ -12,24 +12,20 @@ use Rattle.token_core.specs.Marks as marks
 use Rattle.token_core.specs.Rebuilt.{Visible}
 use Rattle.token_core.specs.Spellings.{IsMark, IsLifetime}
 use Rattle.token_core.specs.Stream.{Stream}
-use Rattle.token_core.specs.Reads.{Reader, sees_group, leaves, in_group}
-use Rattle.token_core.specs.Toks.{Toks, done, group}
+use Rattle.token_core.specs.Reads.{Reader, sees_group, in_group}
+use Rattle.token_core.specs.Toks.{Toks, done}
 use Rattle.token_core.proofs.Listings.{listed_sound, listed_visible}
 use Rattle.token_core.proofs.MarkSpells.{mark_sound, mark_visible}
 use Rattle.token_core.proofs.Took.{branch, mapped}
 use Rattle.token_core.proofs.Turns.{chain, same_pair}
 use Rattle.token_core.proofs.WordSpells.{word_sound, word_visible}
-use Rattle.syn_mid.specs.declared.generics.BoundLifetimesOf.{BoundLifetimesOf}
-use Rattle.syn_mid.specs.declared.generics.GenericParam.{GenericParam}
-use Rattle.syn_mid.specs.declared.generics.GenericParam.TheVariants as g
-use Rattle.syn_mid.specs.declared.generics.TraitBoundOf.{TraitBoundOf}
-use Rattle.syn_mid.specs.declared.generics.TypeParamBound.{TypeParamBound}
-use Rattle.syn_mid.specs.declared.generics.TypeParamBound.TheVariants as b
-use Rattle.syn_mid.specs.declared.path.Path.{Path}
+use Rattle.syn_mid.specs.declared.generics.GenericParamOf.TheVariants as g
+use Rattle.syn_mid.specs.declared.generics.TypeParamBoundOf.TheVariants as b
+use Rattle.syn_mid.specs.ty.Trees.{GenericParam, BoundLifetimes, TypeParamBound, TraitBound, Path}
 use Rattle.syn_mid.specs.generics.Params.{Comma, bound_lifetimes_of, lone_lifetime, named_bound, held_bound}
-use Rattle.syn_mid.specs.generics.Reading as reading
 use Rattle.syn_mid.specs.generics.Reading.{sees_gt, sees_question, sees_for, comma, lt, gt, for_word, question, param_step, asked, params, binder_after, binder, optional_binder, after_question, after_binder, bare_bound, trait_bound, bound_step}
 use Rattle.syn_mid.specs.generics.Spelling.{IsParam, a_lifetime, IsBinder, a_binder, IsBareBound, a_bound, with_question, IsTraitBound, bare, in_parens, IsBound, lifetime, a_trait}
+use Rattle.syn_mid.specs.path.Paths.{no_arguments}
 use Rattle.syn_mid.specs.path.Reading.{plain_path}
 use Rattle.syn_mid.specs.path.Spelling.{IsPlainPath}
 use Rattle.syn_mid.specs.ty.Spelling.{Relation, IsOptional, absent, present}
@@ -37,12 +33,12 @@ use Rattle.syn_mid.proofs.attr_laws.Sound.{TookOne}
 use Rattle.syn_mid.proofs.path_laws.Sound.{plain_sound, visible_path}
 use Rattle.syn_mid.proofs.ty_laws.Sound.{IsHeld, held_sound, took_as, took_whole, plainly, optional_sound, life_sound, comma_seen, comma_took}
 
-module _ {X : Type 0} where
-  pub param_took : (s t : Stream) (x : GenericParam X) → Visible s.rest → param_step s ≡ Ok (x, t) → TookOne IsParam s t x
+module _ {A E : Type 0} where
+  pub param_took : (s t : Stream) (x : GenericParam A E) → Visible s.rest → param_step s ≡ Ok (x, t) → TookOne IsParam s t x
   unfolding param_step
   param_took s t x v e =
-      let k = mapped (read_lifetime s) (λ (z : Lifetime). g.Lifetime (lone_lifetime {X = X} z)) x t e in
-      took_as {Is = IsLifetime} {Js = IsParam} (λ (z : Lifetime). g.Lifetime (lone_lifetime {X = X} z)) s t k.value x k.is (λ l r i. a_lifetime i) (life_sound s t k.value v k.was)
+      let k = mapped (read_lifetime s) (λ (z : Lifetime). g.Lifetime (lone_lifetime {A = A} z)) x t e in
+      took_as {Is = IsLifetime} {Js = IsParam} (λ (z : Lifetime). g.Lifetime (lone_lifetime {A = A} z)) s t k.value x k.is (λ l r i. a_lifetime i) (life_sound s t k.value v k.was)
 
 question_sound : (s t : Stream) (q : Option (Mark 22 1)) → Visible s.rest → question s ≡ Ok (q, t) → TookOne (IsOptional (IsMark false)) s t q
 question_sound s t q v e =
@@ -51,26 +47,26 @@ question_sound s t q v e =
 
 -- ---- over the parameters of binders
 
-module _ {X : Type 0} (P : Relation (GenericParam X)) (param : Reader (GenericParam X)) (took : (s t : Stream) (x : GenericParam X) → Visible s.rest → param s ≡ Ok (x, t) → TookOne P s t x) where
-  abbrev Parameters : Many (GenericParam X) Comma → Toks → Toks → Type 0
+module _ {A E : Type 0} (P : Relation (GenericParam A E)) (param : Reader (GenericParam A E)) (took : (s t : Stream) (x : GenericParam A E) → Visible s.rest → param s ≡ Ok (x, t) → TookOne P s t x) where
+  abbrev Parameters : Many (GenericParam A E) Comma → Toks → Toks → Type 0
   Parameters w l r = AreListed (λ (_ : Bool). P) (IsMark false) Anywhere true w.0 w.1 l r
 
-  value_took : (s t : Stream) (x : GenericParam X) → Visible s.rest → param s ≡ Ok (x, t) → t.left ≡ None → (s.left ≡ None) × P x s.rest t.rest
+  value_took : (s t : Stream) (x : GenericParam A E) → Visible s.rest → param s ≡ Ok (x, t) → t.left ≡ None → (s.left ≡ None) × P x s.rest t.rest
   value_took s t x v e h = let k = took s t x v e in (k.left h, k.spelt h)
 
-  params_sound : (s t : Stream) (w : Many (GenericParam X) Comma) → Visible s.rest → params param s ≡ Ok (w, t) → t.left ≡ None → (s.left ≡ None) × Parameters w s.rest t.rest
+  params_sound : (s t : Stream) (w : Many (GenericParam A E) Comma) → Visible s.rest → params param s ≡ Ok (w, t) → t.left ≡ None → (s.left ≡ None) × Parameters w s.rest t.rest
   unfolding params
   params_sound s t w v e h =
       listed_sound (λ (_ : Bool). sees_gt) (λ (_ : Bool). param) (λ l. not (sees_gt l)) comma (λ (_ : Bool). P) (IsMark false) Anywhere (λ (z : Stream). z.left ≡ None)
       (λ c l k. tt) (λ c a d x u i. (took a d x u i).seen) comma_seen (λ c a d x u k i. value_took a d x u i) (λ a d x u k i. comma_took a d x u i) true s t w v e h
 
-  params_seen : (s t : Stream) (w : Many (GenericParam X) Comma) → Visible s.rest → params param s ≡ Ok (w, t) → Visible t.rest
+  params_seen : (s t : Stream) (w : Many (GenericParam A E) Comma) → Visible s.rest → params param s ≡ Ok (w, t) → Visible t.rest
   unfolding params
   params_seen s t w v e =
       listed_visible (λ (_ : Bool). sees_gt) (λ (_ : Bool). param) (λ l. not (sees_gt l)) comma (λ (_ : Bool). P) (IsMark false) Anywhere (λ (z : Stream). z.left ≡ None)
       (λ c l k. tt) (λ c a d x u i. (took a d x u i).seen) comma_seen (λ c a d x u k i. value_took a d x u i) (λ a d x u k i. comma_took a d x u i) true s t w v e
 
-  binder_took : (s t : Stream) (x : BoundLifetimesOf (GenericParam X)) → Visible s.rest → binder param s ≡ Ok (x, t) → TookOne (IsBinder false P) s t x
+  binder_took : (s t : Stream) (x : BoundLifetimes A E) → Visible s.rest → binder param s ≡ Ok (x, t) → TookOne (IsBinder false P) s t x
   unfolding binder
   binder_took s t x v e =
       let c = chain (for_word s) (binder_after param) x t e in
@@ -91,10 +87,10 @@ module _ {X : Type 0} (P : Relation (GenericParam X)) (param : Reader (GenericPa
       }))
 
   abbrev Binder : Type 0
-  Binder = BoundLifetimesOf (GenericParam X)
+  Binder = BoundLifetimes A E
 
   abbrev Bound : Type 0
-  Bound = TraitBoundOf (GenericParam X) X
+  Bound = TraitBound A E
 
   abbrev MaybeBinder : Relation (Option Binder)
   MaybeBinder = IsOptional (IsBinder false P)
@@ -109,17 +105,17 @@ module _ {X : Type 0} (P : Relation (GenericParam X)) (param : Reader (GenericPa
   unfolding optional_binder
   optional_took s t o v e = optional_sound {Is = IsBinder false P} sees_for (binder param) binder_took s t o v e
 
-  named : (o : Option Binder) (p : Path X) (l m k r : Toks) → MaybeBinder o l m → MaybeMark None m k → IsPlainPath false p k r → Bare (named_bound o None p) l r
+  named : (o : Option Binder) (p : Path A E) (l m k r : Toks) → MaybeBinder o l m → MaybeMark None m k → IsPlainPath false no_arguments p k r → Bare (named_bound o None p) l r
   named o p l m k r i absent h = a_bound i h
 
-  questioned : (q : Mark 22 1) (p : Path X) (l m k n r : Toks) → MaybeBinder None l m → MaybeMark (Some q) m k → MaybeBinder None k n → IsPlainPath false p n r → Bare (named_bound None (Some q) p) l r
+  questioned : (q : Mark 22 1) (p : Path A E) (l m k n r : Toks) → MaybeBinder None l m → MaybeMark (Some q) m k → MaybeBinder None k n → IsPlainPath false no_arguments p n r → Bare (named_bound None (Some q) p) l r
   questioned q p l m k n r absent (present i) absent h = with_question i h
 
   -- after a `?` no binder was read
   asked_at : (q : Mark 22 1) (o : Option Binder) (s c d u t : Stream) (x : Bound) → TookOne MaybeBinder s c None → TookOne MaybeMark c d (Some q) → TookOne MaybeBinder d u o → asked q o u ≡ Ok (x, t) → TookOne Bare s t x
   asked_at q None s c d u t x kc kd ku e =
-      let k = mapped (plain_path u) (named_bound None (Some q)) x t e in
-      let w = plain_sound u t k.value ku.seen k.was in
+      let k = mapped (plain_path no_arguments u) (named_bound None (Some q)) x t e in
+      let w = plain_sound no_arguments u t k.value ku.seen k.was in
       subst (λ z. TookOne Bare s t z) k.is (record {
         left = λ n. kc.left (kd.left (ku.left (sym w.left ∙ n)));
         seen = visible_path k.value u.rest t.rest w.spelt ku.seen;
@@ -128,11 +124,11 @@ module _ {X : Type 0} (P : Relation (GenericParam X)) (param : Reader (GenericPa
             let nd = ku.left nu in
             questioned q k.value s.rest c.rest d.rest u.rest t.rest (kc.spelt (kd.left nd)) (kd.spelt nd) (ku.spelt nu) w.spelt;
       })
-  asked_at q (Some y) s c d u t x kc kd ku e = let k = chain (plain_path {X = X} u) _ x t e in cc (k.goes)
+  asked_at q (Some y) s c d u t x kc kd ku e = let k = chain (plain_path (no_arguments {A = A} {E = E}) u) _ x t e in cc (k.goes)
 
   no_asked : (q : Mark 22 1) (y : Binder) (s t : Stream) (x : Bound) → after_question param (Some y) q s ≡ Ok (x, t) → ⊥
   unfolding after_question
-  no_asked q y s t x e = let k = chain (plain_path {X = X} s) _ x t e in cc (k.goes)
+  no_asked q y s t x e = let k = chain (plain_path (no_arguments {A = A} {E = E}) s) _ x t e in cc (k.goes)
 
   question_at : (q : Mark 22 1) (s c d t : Stream) (x : Bound) → TookOne MaybeBinder s c None → TookOne MaybeMark c d (Some q) → after_question param None q d ≡ Ok (x, t) → TookOne Bare s t x
   unfolding after_question
@@ -142,8 +138,8 @@ module _ {X : Type 0} (P : Relation (GenericParam X)) (param : Reader (GenericPa
 
   after_at : (o : Option Binder) (q : Option (Mark 22 1)) (s c d t : Stream) (x : Bound) → TookOne MaybeBinder s c o → TookOne MaybeMark c d q → after_binder param o q d ≡ Ok (x, t) → TookOne Bare s t x
   after_at o None s c d t x kc kd e =
-      let k = mapped (plain_path d) (named_bound o None) x t e in
-      let w = plain_sound d t k.value kd.seen k.was in
+      let k = mapped (plain_path no_arguments d) (named_bound o None) x t e in
+      let w = plain_sound no_arguments d t k.value kd.seen k.was in
       subst (λ z. TookOne Bare s t z) k.is (record {
         left = λ n. kc.left (kd.left (sym w.left ∙ n));
         seen = visible_path k.value d.rest t.rest w.spelt kd.seen;
@@ -175,7 +171,7 @@ module _ {X : Type 0} (P : Relation (GenericParam X)) (param : Reader (GenericPa
         | inr y ↦ took_as {Is = Bare} {Js = IsTraitBound false P} (λ (z : Bound). z) s t x x refl (λ l r i. bare i) (bare_took s t x v y.1)
       ]
 
-  pub bound_took : (s t : Stream) (x : TypeParamBound X) → Visible s.rest → bound_step param s ≡ Ok (x, t) → TookOne (IsBound false P) s t x
+  pub bound_took : (s t : Stream) (x : TypeParamBound A E) → Visible s.rest → bound_step param s ≡ Ok (x, t) → TookOne (IsBound false P) s t x
   unfolding bound_step
   bound_took s t x v e =
       elim (branch (sees_lifetime s.rest) _ _ s (Ok (x, t)) e) [

@@ -14,9 +14,8 @@ use Rattle.token_core.proofs.Suffixes.{suffix_word}
 use Rattle.token_core.proofs.Took.{mapped}
 use Rattle.token_core.proofs.Turns.{size_suffix}
 use Rattle.token_core.proofs.WordSpells.{went_on}
-use Rattle.syn_mid.specs.declared.generics.GenericParam.{GenericParam}
-use Rattle.syn_mid.specs.declared.generics.GenericParam.TheVariants as g
-use Rattle.syn_mid.specs.Supplied.{Place}
+use Rattle.syn_mid.specs.declared.generics.GenericParamOf.TheVariants as g
+use Rattle.syn_mid.specs.ty.Trees.{GenericParam}
 use Rattle.syn_mid.specs.generics.Params.{lone_lifetime}
 use Rattle.syn_mid.specs.generics.Reading.{param_step}
 use Rattle.syn_mid.specs.ty.Knot.{param, params}
@@ -60,14 +59,14 @@ lifetime_takes s t x e =
     let w = went_on (λ (z : Lifetime). z.ident.span) _ s t x (past_lifetime s.rest) e in
     quote_at s.rest (x, t.rest) (as_punct (front s.rest)) (λ p f. quote_less s.rest p f) w.was
 
-module _ {X : Type 0} (supplied : Place → Reader X) where
-  param_takes : (s t : Stream) (x : GenericParam X) → param supplied s ≡ Ok (x, t) → size t.rest < size s.rest
+module _ {A E : Type 0} (lens : Reader E) where
+  param_takes : (s t : Stream) (x : GenericParam A E) → param lens s ≡ Ok (x, t) → size t.rest < size s.rest
   unfolding param_step
   param_takes s t x e =
-      let k = mapped (read_lifetime s) (λ (z : Lifetime). g.Lifetime (lone_lifetime z)) x t (sym (param-turn supplied s) ∙ e) in
+      let k = mapped (read_lifetime s) (λ (z : Lifetime). g.Lifetime (lone_lifetime z)) x t (sym (param-turn lens s) ∙ e) in
       lifetime_takes s t k.value k.was
 
   -- where less than the limit is left
-  pub params_takes : (limit : ℕ) (s t : Stream) (x : GenericParam X) → params supplied limit s ≡ Ok (x, t) → size t.rest < size s.rest
+  pub params_takes : (limit : ℕ) (s t : Stream) (x : GenericParam A E) → params lens limit s ≡ Ok (x, t) → size t.rest < size s.rest
   unfolding params
-  params_takes limit s t x e = param_takes s t x (out limit (param supplied) s t x e).was
+  params_takes limit s t x e = param_takes s t x (out limit (param lens) s t x e).was

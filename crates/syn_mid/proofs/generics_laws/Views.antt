@@ -6,70 +6,66 @@ use Rattle.token_core.specs.Loops.{Many}
 use Rattle.token_core.specs.Prints as p
 use Rattle.token_core.specs.Prints.{Print}
 use Rattle.token_core.specs.Spans.{none}
-use Rattle.syn_mid.specs.Supplied.{Place}
 use Rattle.syn_mid.specs.ty.Types.{Comma, comma}
 use Rattle.syn_mid.specs.ty.Printing as ty
-use Rattle.syn_mid.specs.declared.ty.TypeFnPtr.{TypeFnPtr}
-use Rattle.syn_mid.specs.declared.generics.Generics.{Generics}
-use Rattle.syn_mid.specs.declared.generics.GenericParam.{GenericParam, out-GenericParam}
-use Rattle.syn_mid.specs.declared.generics.GenericParam.TheOpen as g
-use Rattle.syn_mid.specs.declared.generics.GenericParam.TheVariants as v
-use Rattle.syn_mid.specs.declared.generics.LifetimeParam.{LifetimeParam}
-use Rattle.syn_mid.specs.declared.generics.TypeParam.{TypeParam, out-TypeParam}
-use Rattle.syn_mid.specs.declared.generics.ConstParamOf.{ConstParamOf}
-use Rattle.syn_mid.specs.declared.generics.TypeParamBound.{TypeParamBound}
+use Rattle.syn_mid.specs.declared.generics.GenericsOf.{GenericsOf}
+use Rattle.syn_mid.specs.declared.generics.GenericParamOf.{out-GenericParamOf}
+use Rattle.syn_mid.specs.declared.generics.GenericParamOf.TheOpen as g
+use Rattle.syn_mid.specs.declared.generics.GenericParamOf.TheVariants as v
+use Rattle.syn_mid.specs.declared.generics.TypeParamOf.{out-TypeParamOf}
 use Rattle.syn_mid.specs.declared.generics.Style.TheVariants as styles
 use Rattle.syn_mid.specs.generics.Members.{Member, comma_of, lacks, some_left, adds, each, members, members_of, firsts, others, sorted}
-use Rattle.syn_mid.specs.generics.Params.{is_lifetime, is_lifetime_layer, type_param_of, const_param_of}
+use Rattle.syn_mid.specs.generics.Params.{is_lifetime, is_lifetime_layer, const_param_of}
 use Rattle.syn_mid.specs.generics.Printing.{generics}
-use Rattle.syn_mid.specs.generics.Shapes.{or_default, between, after_colon, attrs, lifetime_param}
+use Rattle.syn_mid.specs.generics.Shapes.{or_default, between, after_colon, lifetime_param, Values}
 use Rattle.syn_mid.specs.ty.Printing.{type_head, const_head, param, bound}
-use Rattle.syn_mid.specs.declared.ty.Type.{«Type» as TypeTree}
+use Rattle.syn_mid.specs.ty.Trees.{GenericParam, TypeParam, ConstParam, Layer}
 use Rattle.syn_mid.specs.generics.Views.{strip, strip_type, strip_layer, stripped, name, name_layer, names, after_sep, turbofish, between_as}
 use Rattle.syn_mid.proofs.ty_laws.Prints.{param-Lifetime, param-Type, param-Const, type_param_parts}
+use Rattle.syn_mid.specs.declared.generics.LifetimeParamOf.{LifetimeParamOf}
 
-module _ {X : Type 0} where
-  pub is_lifetime-Lifetime : (x : LifetimeParam X) → is_lifetime (v.Lifetime x) ≡ true
-  is_lifetime-Lifetime x = ap is_lifetime_layer (v.outs-Lifetime x)
+pub is_lifetime-Lifetime : (E : Type 0) {A : Type 0} (x : LifetimeParamOf A) → is_lifetime {E = E} (v.Lifetime x) ≡ true
+is_lifetime-Lifetime E x = ap (is_lifetime_layer {E = E}) (v.outs-Lifetime x)
 
-  pub is_lifetime-Type : (x : TypeParam X) → is_lifetime (v.«Type» x) ≡ false
+pub name-Lifetime : (E : Type 0) {A : Type 0} (x : LifetimeParamOf A) → name {E = E} (v.Lifetime x) ≡ lifetimes.print x.lifetime
+name-Lifetime E x = ap (name_layer {E = E}) (v.outs-Lifetime x)
+
+module _ {A E : Type 0} where
+  pub is_lifetime-Type : (x : TypeParam A E) → is_lifetime (v.«Type» x) ≡ false
   is_lifetime-Type x = ap is_lifetime_layer (v.outs-Type x)
 
-  pub is_lifetime-Const : (x : ConstParamOf (TypeTree X) X) → is_lifetime (v.Const x) ≡ false
+  pub is_lifetime-Const : (x : ConstParam A E) → is_lifetime (v.Const x) ≡ false
   is_lifetime-Const x = ap is_lifetime_layer (v.outs-Const x)
 
-  pub name-Lifetime : (x : LifetimeParam X) → name (v.Lifetime x) ≡ lifetimes.print x.lifetime
-  name-Lifetime x = ap name_layer (v.outs-Lifetime x)
-
-  pub name-Type : (x : TypeParam X) → name (v.«Type» x) ≡ p.ident (out-TypeParam X x).ident
+  pub name-Type : (x : TypeParam A E) → name (v.«Type» x) ≡ p.ident (out-TypeParamOf A E x).ident
   name-Type x = ap name_layer (v.outs-Type x)
 
-  pub name-Const : (x : ConstParamOf (TypeTree X) X) → name (v.Const x) ≡ p.ident x.ident
+  pub name-Const : (x : ConstParam A E) → name (v.Const x) ≡ p.ident x.ident
   name-Const x = ap name_layer (v.outs-Const x)
 
   -- without its default a parameter is of the same kind
-  strip_kind : (x : GenericParam X) → is_lifetime (strip x) ≡ is_lifetime x
-  strip_kind x = by (out-GenericParam X x)
+  strip_kind : (x : GenericParam A E) → is_lifetime (strip x) ≡ is_lifetime x
+  strip_kind x = by (out-GenericParamOf A E x)
     where
-      by : (y : g.GenericParam-F X (GenericParam X) (TypeParamBound X) (TypeTree X) (TypeParam X) (TypeFnPtr X)) → is_lifetime (strip_layer y) ≡ is_lifetime_layer y
-      by (g.GenericParam::Lifetime z) = is_lifetime-Lifetime z
-      by (g.«Type» z) = is_lifetime-Type (strip_type z)
-      by (g.Const z) = is_lifetime-Const (const_param_of z.attrs z.const_token z.ident z.colon_token z.ty None)
+      by : (y : Layer g.GenericParamOf-F A E) → is_lifetime (strip_layer y) ≡ is_lifetime_layer y
+      by (g.GenericParamOf::Lifetime z) = is_lifetime-Lifetime E z
+      by (g.GenericParamOf::Type z) = is_lifetime-Type (strip_type z)
+      by (g.GenericParamOf::Const z) = is_lifetime-Const (const_param_of z.attrs z.const_token z.ident z.colon_token z.ty None)
 
-module _ {X : Type 0} (px : Place → X → Print) where
-  pub head-Lifetime : (x : LifetimeParam X) → param px (strip (v.Lifetime x)) ≡ lifetime_param px x
-  head-Lifetime x = ap (λ y. param px (strip_layer y)) (v.outs-Lifetime x) ∙ param-Lifetime px x
+module _ {A E : Type 0} (pa : List A → Print) (pe : Values E) where
+  pub head-Lifetime : (x : LifetimeParamOf A) → param pa pe (strip (v.Lifetime x)) ≡ lifetime_param pa pe x
+  head-Lifetime x = ap (λ y. param pa pe (strip_layer y)) (v.outs-Lifetime x) ∙ param-Lifetime pa pe x
 
-  pub head-Type : (x : TypeParam X) → param px (strip (v.«Type» x)) ≡ type_head px x
+  pub head-Type : (x : TypeParam A E) → param pa pe (strip (v.«Type» x)) ≡ type_head pa pe x
   head-Type x =
-      let f = out-TypeParam X x in
-      ap (λ y. param px (strip_layer y)) (v.outs-Type x) ∙ param-Type px (strip_type x) ∙ type_param_parts px f.attrs f.ident f.colon_token f.bounds None
-      ∙ ap (λ r. attrs px f.attrs ++ (p.ident f.ident ++ r)) (append-nil (after_colon (bound px) f.colon_token f.bounds))
+      let f = out-TypeParamOf A E x in
+      ap (λ y. param pa pe (strip_layer y)) (v.outs-Type x) ∙ param-Type pa pe (strip_type x) ∙ type_param_parts pa pe f.attrs f.ident f.colon_token f.bounds None
+      ∙ ap (λ r. pa f.attrs ++ (p.ident f.ident ++ r)) (append-nil (after_colon (bound pa pe) f.colon_token f.bounds))
 
-  pub head-Const : (x : ConstParamOf (TypeTree X) X) → param px (strip (v.Const x)) ≡ const_head px x
+  pub head-Const : (x : ConstParam A E) → param pa pe (strip (v.Const x)) ≡ const_head pa pe x
   head-Const x =
-      ap (λ y. param px (strip_layer y)) (v.outs-Const x) ∙ param-Const px (const_param_of x.attrs x.const_token x.ident x.colon_token x.ty None)
-      ∙ ap (λ r. attrs px x.attrs ++ (p.word x.const_token ++ (p.ident x.ident ++ (p.mark x.colon_token ++ r)))) (append-nil (ty.ty px x.ty))
+      ap (λ y. param pa pe (strip_layer y)) (v.outs-Const x) ∙ param-Const pa pe (const_param_of x.attrs x.const_token x.ident x.colon_token x.ty None)
+      ∙ ap (λ r. pa x.attrs ++ (p.word x.const_token ++ (p.ident x.ident ++ (p.mark x.colon_token ++ r)))) (append-nil (ty.ty pa pe x.ty))
 
 pub ruleset views = (is_lifetime-Lifetime, is_lifetime-Type, is_lifetime-Const, name-Lifetime, name-Type, name-Const, head-Lifetime, head-Type, head-Const, param-Lifetime, param-Type, param-Const)
 
@@ -137,33 +133,33 @@ module _ {A : Type 0} where
 
 pub ruleset betweens = (no_params, some_params)
 
-module _ {X : Type 0} where
-  pub no_names : (x : Generics X) → length x.params.0 ≡ 0 → turbofish x ≡ []
+module _ {A E : Type 0} where
+  pub no_names : (x : GenericsOf A E) → length x.params.0 ≡ 0 → turbofish x ≡ []
   no_names x h = by x.params.0 (names x) h
     where
-      by : (l : List (GenericParam X)) (r : Print) → length l ≡ 0 → after_sep l r ≡ []
+      by : (l : List (GenericParam A E)) (r : Print) → length l ≡ 0 → after_sep l r ≡ []
       by [] r h = refl
       by (x ∷ l) r h = absurd (omega (arith, h))
 
-  pub some_names : (x : Generics X) → ¬ (length x.params.0 ≡ 0) → turbofish x ≡ p.mark {n = 1} {l = 2} (record { spans = none ∷ none ∷ [] }) ++ names x
+  pub some_names : (x : GenericsOf A E) → ¬ (length x.params.0 ≡ 0) → turbofish x ≡ p.mark {n = 1} {l = 2} (record { spans = none ∷ none ∷ [] }) ++ names x
   some_names x h = by x.params.0 (names x) h
     where
-      by : (l : List (GenericParam X)) (r : Print) → ¬ (length l ≡ 0) → after_sep l r ≡ p.mark {n = 1} {l = 2} (record { spans = none ∷ none ∷ [] }) ++ r
+      by : (l : List (GenericParam A E)) (r : Print) → ¬ (length l ≡ 0) → after_sep l r ≡ p.mark {n = 1} {l = 2} (record { spans = none ∷ none ∷ [] }) ++ r
       by [] r h = absurd (h refl)
       by (x ∷ l) r h = refl
 
 pub ruleset after_seps = (no_names, some_names)
 
-module _ {X : Type 0} (px : Place → X → Print) where
-  pub shown_whole : (x : Generics X) → between_as px styles.Whole x ≡ generics px x
+module _ {A E : Type 0} (pa : List A → Print) (pe : Values E) where
+  pub shown_whole : (x : GenericsOf A E) → between_as pa pe styles.Whole x ≡ generics pa pe x
   shown_whole x = refl
 
-  pub shown_stripped : (x : Generics X) → between_as px styles.NoDefault x ≡ generics px (stripped x)
+  pub shown_stripped : (x : GenericsOf A E) → between_as pa pe styles.NoDefault x ≡ generics pa pe (stripped x)
   shown_stripped x =
-      sym (between_changed strip x.lt_token x.gt_token x.params.0 (sorted is_lifetime (param px) (map strip x.params.0, x.params.1))
-      ∙ ap (between x.lt_token x.gt_token x.params.0) (sorted_changed strip is_lifetime (param px) x.params strip_kind))
+      sym (between_changed strip x.lt_token x.gt_token x.params.0 (sorted is_lifetime (param pa pe) (map strip x.params.0, x.params.1))
+      ∙ ap (between x.lt_token x.gt_token x.params.0) (sorted_changed strip is_lifetime (param pa pe) x.params strip_kind))
 
-  pub shown_names : (x : Generics X) → between_as px styles.Name x ≡ names x
+  pub shown_names : (x : GenericsOf A E) → between_as pa pe styles.Name x ≡ names x
   shown_names x = refl
 
 pub ruleset showns = (shown_whole, shown_stripped, shown_names)

@@ -12,7 +12,7 @@ use Rattle.token_core.specs.Reads.{sees_mark, read_mark, delimited}
 use Rattle.token_core.specs.Stream.{Scope}
 use Rattle.token_core.proofs.Rebuilds.{stream_of-toks}
 use Rattle.token_core.proofs.Took.{at}
-use Rattle.syn_mid.specs.declared.path.Path.{Path}
+use Rattle.syn_mid.specs.path.Paths.{ModPath, nothing}
 use Rattle.syn_mid.specs.declared.mac.Macro.{Macro}
 use Rattle.syn_mid.specs.declared.mac.MacroDelimiter.{MacroDelimiter}
 use Rattle.syn_mid.specs.mac.Macros.{macro_of}
@@ -46,15 +46,14 @@ reads_body e d p c r tokens f l sc h k =
     link _ (reads_group d p c r f l sc) (held_is e d p (stream_of c) r f sc h)
     ∙ ap (λ z. Ok ((e, z), at r f p.closing sc)) (ap stream_of k ∙ stream_of-toks tokens)
 
-module _ {X : Type 0} where
-  -- what follows a path
-  pub call_after_complete : (p : Path X) (a : Span) (j : Spacing) (e : MacroDelimiter) (d : Delimiter) (s : DelimSpan) (c r : Toks) (tokens : TokenStream) (f : Option Span) (l : Span) (sc : Scope) →
-      Delimits e d s → c ≡ toks tokens → call_after p (at (mark (punct 33 j a) (group d s c r)) f l sc) ≡ Ok (macro_of p (bang_at a) (e, tokens), at r f s.closing sc)
-  unfolding call_after
-  call_after_complete p a j e d s c r tokens f l sc h k = link _ (reads_bang a j (group d s c r) f l sc) (link _ (reads_body e d s c r tokens f a sc h k) refl)
+-- what follows a path
+pub call_after_complete : (p : ModPath) (a : Span) (j : Spacing) (e : MacroDelimiter) (d : Delimiter) (s : DelimSpan) (c r : Toks) (tokens : TokenStream) (f : Option Span) (l : Span) (sc : Scope) →
+    Delimits e d s → c ≡ toks tokens → call_after p (at (mark (punct 33 j a) (group d s c r)) f l sc) ≡ Ok (macro_of p (bang_at a) (e, tokens), at r f s.closing sc)
+unfolding call_after
+call_after_complete p a j e d s c r tokens f l sc h k = link _ (reads_bang a j (group d s c r) f l sc) (link _ (reads_body e d s c r tokens f a sc h k) refl)
 
-  pub macro_complete : (x : Macro X) (l r : Toks) (f : Option Span) (e : Span) (sc : Scope) → IsMacro true x l r → Reads_to mac x l r f e sc
-  unfolding mac
-  macro_complete x l r f e sc (a_macro {p = p} {a = a} {j = j} {e = brackets} {d = d} {s = s} {c = c} {tokens = tokens} i apart h k) =
-      let q = path_complete p l (mark (punct 33 j a) (group d s c r)) f e sc i (no_sep a j (group d s c r)) in
-      record { last = s.closing; reads = link _ q.reads (call_after_complete p a j brackets d s c r tokens f q.last sc h k) }
+pub macro_complete : (x : Macro) (l r : Toks) (f : Option Span) (e : Span) (sc : Scope) → IsMacro true x l r → Reads_to mac x l r f e sc
+unfolding mac
+macro_complete x l r f e sc (a_macro {p = p} {a = a} {j = j} {e = brackets} {d = d} {s = s} {c = c} {tokens = tokens} i apart h k) =
+    let q = path_complete nothing p l (mark (punct 33 j a) (group d s c r)) f e sc i (no_sep a j (group d s c r)) in
+    record { last = s.closing; reads = link _ q.reads (call_after_complete p a j brackets d s c r tokens f q.last sc h k) }

@@ -17,7 +17,7 @@ use Rattle.token_core.proofs.Rebuilds.{toks-stream_of}
 use Rattle.token_core.proofs.Turns.{chain, same_pair}
 use Rattle.token_core.proofs.Took.{mapped, took_mark1, took_group}
 use Rattle.syn_mid.specs.declared.mac.Macro.{Macro}
-use Rattle.syn_mid.specs.declared.path.Path.{Path}
+use Rattle.syn_mid.specs.path.Paths.{ModPath, nothing}
 use Rattle.syn_mid.specs.declared.mac.MacroDelimiter.TheVariants as m
 use Rattle.syn_mid.specs.mac.Macros.{Bang, Held, macro_of}
 use Rattle.syn_mid.specs.mac.Reading.{bang, held, body, call_after, mac}
@@ -74,17 +74,17 @@ took_body s t h v e =
       left = ap (λ (z : Stream). z.left) (sym k.2) ∙ g.left;
     }
 
-module _ (ok : Bytes → Bool) {X : Type 0} where
-  call_at : (p : Path X) (l m n r : Toks) (a : Span) (j : Spacing) (d : Delimiter) (s : DelimSpan) (c : Toks) (h : Held) → IsBarePath false ok p l m → m ≡ mark (punct 33 j a) n → n ≡ group d s c r →
+module _ (ok : Bytes → Bool) where
+  call_at : (p : ModPath) (l m n r : Toks) (a : Span) (j : Spacing) (d : Delimiter) (s : DelimSpan) (c : Toks) (h : Held) → IsBarePath false ok nothing p l m → m ≡ mark (punct 33 j a) n → n ≡ group d s c r →
       Delimits h.0 d s → c ≡ toks h.1 → IsCall false ok (macro_of p (bang_at a) h) l r
-  call_at p l m n r a j d s c h i e g k t = a_macro (subst (λ z. IsBarePath false ok p l z) (e ∙ ap (mark (punct 33 j a)) g) i) (λ e j. no_claim e) k t
+  call_at p l m n r a j d s c h i e g k t = a_macro (subst (λ z. IsBarePath false ok nothing p l z) (e ∙ ap (mark (punct 33 j a)) g) i) (λ e j. no_claim e) k t
 
-  ends_at : (p : Path X) (b a : Bang) (h : Held) (x : Macro X) (l : Toks) (u t : Stream) → a ≡ b → macro_of p b h ≡ x → u ≡ t → IsCall false ok (macro_of p a h) l u.rest → IsCall false ok x l t.rest
+  ends_at : (p : ModPath) (b a : Bang) (h : Held) (x : Macro) (l : Toks) (u t : Stream) → a ≡ b → macro_of p b h ≡ x → u ≡ t → IsCall false ok (macro_of p a h) l u.rest → IsCall false ok x l t.rest
   ends_at p b a h x l u t e f g i =
       subst (λ z. IsCall false ok z l t.rest) f (subst (λ (z : Stream). IsCall false ok (macro_of p b h) l z.rest) g (subst (λ z. IsCall false ok (macro_of p z h) l u.rest) e i))
 
   -- what follows a path that spells the tokens before
-  pub call_sound : (p : Path X) (l : Toks) (s t : Stream) (x : Macro X) → IsBarePath false ok p l s.rest → Visible s.rest → call_after p s ≡ Ok (x, t) → IsCall false ok x l t.rest × (t.left ≡ s.left)
+  pub call_sound : (p : ModPath) (l : Toks) (s t : Stream) (x : Macro) → IsBarePath false ok nothing p l s.rest → Visible s.rest → call_after p s ≡ Ok (x, t) → IsCall false ok x l t.rest × (t.left ≡ s.left)
   unfolding call_after
   call_sound p l s t x i v e =
       let d = chain (bang s) _ x t e in
@@ -96,16 +96,15 @@ module _ (ok : Bytes → Bool) {X : Type 0} where
       let call = call_at p l s.rest d.rest.rest f.rest.rest b.span b.spacing h.delimiter h.span h.content f.value i b.is h.is h.delimits h.tokens in
       (ends_at p d.value (bang_at b.span) f.value x l f.rest t b.mark_is g.0 g.1 call, ap (λ (z : Stream). z.left) (sym g.1) ∙ h.left ∙ b.left)
 
-module _ {X : Type 0} where
-  pub macro_sound : (s t : Stream) (x : Macro X) → Visible s.rest → mac s ≡ Ok (x, t) → Taken (IsMacro false) s t x
-  unfolding mac
-  macro_sound s t x v e =
-      let c = chain (mod_style s) _ x t e in
-      let p = path_sound s c.rest c.value v c.was in
-      let k = call_sound is_mod_word c.value s.rest c.rest t x p.spelt (visible_path c.value s.rest c.rest.rest p.spelt v) c.goes in
-      record { spelt = k.0; left = k.1 ∙ p.left }
+pub macro_sound : (s t : Stream) (x : Macro) → Visible s.rest → mac s ≡ Ok (x, t) → Taken (IsMacro false) s t x
+unfolding mac
+macro_sound s t x v e =
+    let c = chain (mod_style nothing s) _ x t e in
+    let p = path_sound nothing s c.rest c.value v c.was in
+    let k = call_sound is_mod_word c.value s.rest c.rest t x p.spelt (visible_path c.value s.rest c.rest.rest p.spelt v) c.goes in
+    record { spelt = k.0; left = k.1 ∙ p.left }
 
 -- what follows a call holds no invisible group
-pub visible_call : {ok : Bytes → Bool} {X : Type 0} (x : Macro X) (l r : Toks) → IsCall false ok x l r → Visible l → Visible r
+pub visible_call : {ok : Bytes → Bool} (x : Macro) (l r : Toks) → IsCall false ok x l r → Visible l → Visible r
 visible_call x l r (a_macro {p = p} {a = a} {j = j} {d = d} {s = s} {c = c} i ap h k) v =
     (visible_path p l (mark (punct 33 j a) (group d s c r)) i v).2

@@ -9,17 +9,9 @@ use Rattle.syn_mid.specs.declared.pat.FieldPatOf.{FieldPatOf}
 use Rattle.syn_mid.specs.declared.pat.PatOf.TheFolds.{fold-PatOf, fold-roll-PatOf}
 use Rattle.syn_mid.specs.declared.pat.PatOf.TheOpen as o
 use Rattle.syn_mid.specs.declared.pat.PatOf.TheVariants as v
-use Rattle.syn_mid.specs.declared.pat.PatGuardOf.{PatGuardOf}
-use Rattle.syn_mid.specs.declared.pat.PatIdentOf.{PatIdentOf}
-use Rattle.syn_mid.specs.declared.pat.PatOrOf.{PatOrOf}
-use Rattle.syn_mid.specs.declared.pat.PatParenOf.{PatParenOf}
-use Rattle.syn_mid.specs.declared.pat.PatReferenceOf.{PatReferenceOf}
-use Rattle.syn_mid.specs.declared.pat.PatSliceOf.{PatSliceOf}
-use Rattle.syn_mid.specs.declared.pat.PatStructOf.{PatStructOf}
-use Rattle.syn_mid.specs.declared.pat.PatTupleOf.{PatTupleOf}
-use Rattle.syn_mid.specs.declared.pat.PatTupleStructOf.{PatTupleStructOf}
-use Rattle.syn_mid.specs.declared.pat.PatTypeOf.{PatTypeOf}
-use Rattle.syn_mid.specs.pat.Pats.{Pat, Attr, Qual, Attrs, binding_of, field_of}
+use Rattle.syn_mid.specs.ty.Trees.{Attr, Path, QSelf, TypeTree}
+use Rattle.syn_mid.specs.declared.supplied.Expr.{Expr}
+use Rattle.syn_mid.specs.pat.Pats.{Attrs, LayerOf, Pat, PatGuard, PatIdent, PatOr, PatParen, PatReference, PatSlice, PatStruct, PatTuple, PatTupleStruct, PatType, FieldPat, binding_of, field_of}
 
 -- a measure of what is already measured
 most_mapped : {T Q : Type 0} (f : T → Q) (g : Q → ℕ) (all : List T) → most g (map f all) ≡ most (λ x. g (f x)) all
@@ -36,7 +28,7 @@ module _ {P : Type 0} (f : P → ℕ) where
   field_by x = f x.pat
 
 module _ {X : Type 0} where
-  abbrev layer : o.PatOf-F (Attr X) (Qual X) X ℕ → ℕ
+  abbrev layer : LayerOf X ℕ → ℕ
   layer (o.Const x) = 0
   layer (o.Guard x) = suc x.pat
   layer (o.Ident x) = suc (sub_by (λ z. z) x.subpat)
@@ -57,51 +49,51 @@ module _ {X : Type 0} where
   layer (o.Wild x) = 0
 
   unfoldable pub height : Pat X → ℕ
-  height = fold-PatOf (Attr X) (Qual X) X ℕ layer
+  height = fold-PatOf (Attr X) (Path (Attr X) (Expr X)) (QSelf (Attr X) (Expr X)) (TypeTree (Attr X) (Expr X)) X ℕ layer
 
-  abbrev inside : FieldPatOf (Pat X) (Attr X) → FieldPatOf ℕ (Attr X)
+  abbrev inside : FieldPat X → FieldPatOf ℕ (Attr X)
   inside x = field_of x.attrs x.member x.colon_token (height x.pat)
 
-  pub height-Guard : (x : PatGuardOf (Pat X) (Attr X) X) → height (v.Guard x) ≡ suc (height x.pat)
+  pub height-Guard : (x : PatGuard X) → height (v.Guard x) ≡ suc (height x.pat)
   unfolding height
-  height-Guard x = ap height (sym (v.rolls-Guard x)) ∙ fold-roll-PatOf (Attr X) (Qual X) X ℕ layer (o.Guard x)
+  height-Guard x = ap height (sym (v.rolls-Guard x)) ∙ fold-roll-PatOf (Attr X) (Path (Attr X) (Expr X)) (QSelf (Attr X) (Expr X)) (TypeTree (Attr X) (Expr X)) X ℕ layer (o.Guard x)
 
   binding_by : (a : Attrs X) (r : Option (Word 14)) (m : Option (Word 13)) (i : Ident) (z : Option (Mark 6 1 × Pat X)) → height (v.Ident (binding_of a r m i z)) ≡ suc (sub_by height z)
   unfolding height
-  binding_by a r m i None = ap height (sym (v.rolls-Ident (binding_of a r m i None))) ∙ fold-roll-PatOf (Attr X) (Qual X) X ℕ layer (o.Ident (binding_of a r m i None))
-  binding_by a r m i (Some z) = ap height (sym (v.rolls-Ident (binding_of a r m i (Some z)))) ∙ fold-roll-PatOf (Attr X) (Qual X) X ℕ layer (o.Ident (binding_of a r m i (Some z)))
+  binding_by a r m i None = ap height (sym (v.rolls-Ident (binding_of a r m i None))) ∙ fold-roll-PatOf (Attr X) (Path (Attr X) (Expr X)) (QSelf (Attr X) (Expr X)) (TypeTree (Attr X) (Expr X)) X ℕ layer (o.Ident (binding_of a r m i None))
+  binding_by a r m i (Some z) = ap height (sym (v.rolls-Ident (binding_of a r m i (Some z)))) ∙ fold-roll-PatOf (Attr X) (Path (Attr X) (Expr X)) (QSelf (Attr X) (Expr X)) (TypeTree (Attr X) (Expr X)) X ℕ layer (o.Ident (binding_of a r m i (Some z)))
 
-  pub height-Ident : (x : PatIdentOf (Pat X) (Attr X)) → height (v.Ident x) ≡ suc (sub_by height x.subpat)
+  pub height-Ident : (x : PatIdent X) → height (v.Ident x) ≡ suc (sub_by height x.subpat)
   height-Ident x = binding_by x.attrs x.by_ref x.mutability x.ident x.subpat
 
-  pub height-Or : (x : PatOrOf (Pat X) (Attr X)) → height (v.Or x) ≡ suc (most height x.cases.0)
+  pub height-Or : (x : PatOr X) → height (v.Or x) ≡ suc (most height x.cases.0)
   unfolding height
-  height-Or x = ap height (sym (v.rolls-Or x)) ∙ fold-roll-PatOf (Attr X) (Qual X) X ℕ layer (o.Or x) ∙ ap suc (most_mapped height (λ z. z) x.cases.0)
+  height-Or x = ap height (sym (v.rolls-Or x)) ∙ fold-roll-PatOf (Attr X) (Path (Attr X) (Expr X)) (QSelf (Attr X) (Expr X)) (TypeTree (Attr X) (Expr X)) X ℕ layer (o.Or x) ∙ ap suc (most_mapped height (λ z. z) x.cases.0)
 
-  pub height-Paren : (x : PatParenOf (Pat X) (Attr X)) → height (v.Paren x) ≡ suc (height x.pat)
+  pub height-Paren : (x : PatParen X) → height (v.Paren x) ≡ suc (height x.pat)
   unfolding height
-  height-Paren x = ap height (sym (v.rolls-Paren x)) ∙ fold-roll-PatOf (Attr X) (Qual X) X ℕ layer (o.Paren x)
+  height-Paren x = ap height (sym (v.rolls-Paren x)) ∙ fold-roll-PatOf (Attr X) (Path (Attr X) (Expr X)) (QSelf (Attr X) (Expr X)) (TypeTree (Attr X) (Expr X)) X ℕ layer (o.Paren x)
 
-  pub height-Reference : (x : PatReferenceOf (Pat X) (Attr X)) → height (v.Reference x) ≡ suc (height x.pat)
+  pub height-Reference : (x : PatReference X) → height (v.Reference x) ≡ suc (height x.pat)
   unfolding height
-  height-Reference x = ap height (sym (v.rolls-Reference x)) ∙ fold-roll-PatOf (Attr X) (Qual X) X ℕ layer (o.Reference x)
+  height-Reference x = ap height (sym (v.rolls-Reference x)) ∙ fold-roll-PatOf (Attr X) (Path (Attr X) (Expr X)) (QSelf (Attr X) (Expr X)) (TypeTree (Attr X) (Expr X)) X ℕ layer (o.Reference x)
 
-  pub height-Slice : (x : PatSliceOf (Pat X) (Attr X)) → height (v.Slice x) ≡ suc (most height x.elems.0)
+  pub height-Slice : (x : PatSlice X) → height (v.Slice x) ≡ suc (most height x.elems.0)
   unfolding height
-  height-Slice x = ap height (sym (v.rolls-Slice x)) ∙ fold-roll-PatOf (Attr X) (Qual X) X ℕ layer (o.Slice x) ∙ ap suc (most_mapped height (λ z. z) x.elems.0)
+  height-Slice x = ap height (sym (v.rolls-Slice x)) ∙ fold-roll-PatOf (Attr X) (Path (Attr X) (Expr X)) (QSelf (Attr X) (Expr X)) (TypeTree (Attr X) (Expr X)) X ℕ layer (o.Slice x) ∙ ap suc (most_mapped height (λ z. z) x.elems.0)
 
-  pub height-Struct : (x : PatStructOf (Pat X) (Attr X) (Qual X) X) → height (v.Struct x) ≡ suc (most (field_by height) x.fields.0)
+  pub height-Struct : (x : PatStruct X) → height (v.Struct x) ≡ suc (most (field_by height) x.fields.0)
   unfolding height
-  height-Struct x = ap height (sym (v.rolls-Struct x)) ∙ fold-roll-PatOf (Attr X) (Qual X) X ℕ layer (o.Struct x) ∙ ap suc (most_mapped inside (field_by (λ z. z)) x.fields.0)
+  height-Struct x = ap height (sym (v.rolls-Struct x)) ∙ fold-roll-PatOf (Attr X) (Path (Attr X) (Expr X)) (QSelf (Attr X) (Expr X)) (TypeTree (Attr X) (Expr X)) X ℕ layer (o.Struct x) ∙ ap suc (most_mapped inside (field_by (λ z. z)) x.fields.0)
 
-  pub height-Tuple : (x : PatTupleOf (Pat X) (Attr X)) → height (v.Tuple x) ≡ suc (most height x.elems.0)
+  pub height-Tuple : (x : PatTuple X) → height (v.Tuple x) ≡ suc (most height x.elems.0)
   unfolding height
-  height-Tuple x = ap height (sym (v.rolls-Tuple x)) ∙ fold-roll-PatOf (Attr X) (Qual X) X ℕ layer (o.Tuple x) ∙ ap suc (most_mapped height (λ z. z) x.elems.0)
+  height-Tuple x = ap height (sym (v.rolls-Tuple x)) ∙ fold-roll-PatOf (Attr X) (Path (Attr X) (Expr X)) (QSelf (Attr X) (Expr X)) (TypeTree (Attr X) (Expr X)) X ℕ layer (o.Tuple x) ∙ ap suc (most_mapped height (λ z. z) x.elems.0)
 
-  pub height-TupleStruct : (x : PatTupleStructOf (Pat X) (Attr X) (Qual X) X) → height (v.TupleStruct x) ≡ suc (most height x.elems.0)
+  pub height-TupleStruct : (x : PatTupleStruct X) → height (v.TupleStruct x) ≡ suc (most height x.elems.0)
   unfolding height
-  height-TupleStruct x = ap height (sym (v.rolls-TupleStruct x)) ∙ fold-roll-PatOf (Attr X) (Qual X) X ℕ layer (o.TupleStruct x) ∙ ap suc (most_mapped height (λ z. z) x.elems.0)
+  height-TupleStruct x = ap height (sym (v.rolls-TupleStruct x)) ∙ fold-roll-PatOf (Attr X) (Path (Attr X) (Expr X)) (QSelf (Attr X) (Expr X)) (TypeTree (Attr X) (Expr X)) X ℕ layer (o.TupleStruct x) ∙ ap suc (most_mapped height (λ z. z) x.elems.0)
 
-  pub height-Type : (x : PatTypeOf (Pat X) (Attr X) X) → height (v.«Type» x) ≡ suc (height x.pat)
+  pub height-Type : (x : PatType X) → height (v.«Type» x) ≡ suc (height x.pat)
   unfolding height
-  height-Type x = ap height (sym (v.rolls-Type x)) ∙ fold-roll-PatOf (Attr X) (Qual X) X ℕ layer (o.«Type» x)
+  height-Type x = ap height (sym (v.rolls-Type x)) ∙ fold-roll-PatOf (Attr X) (Path (Attr X) (Expr X)) (QSelf (Attr X) (Expr X)) (TypeTree (Attr X) (Expr X)) X ℕ layer (o.«Type» x)

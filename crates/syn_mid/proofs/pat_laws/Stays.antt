@@ -8,25 +8,22 @@ use Rattle.token_core.specs.declared.tree.Delimiter.TheVariants.{Parenthesis, Br
 use Rattle.token_core.specs.declared.tree.Ident.{Ident}
 use Rattle.token_core.specs.declared.word.Word.{Word}
 use Rattle.syn_mid.specs.Supplied.{Place, Guard, Block}
-use Rattle.syn_mid.specs.declared.attr.AttributeOf.{AttributeOf}
-use Rattle.syn_mid.specs.declared.attr.Meta.{Meta}
 use Rattle.syn_mid.specs.declared.pat.FieldPatOf.{FieldPatOf}
 use Rattle.syn_mid.specs.declared.pat.PatOf.{roll-PatOf, map-PatOf}
 use Rattle.syn_mid.specs.declared.pat.PatOf.TheFolds.{ind-PatOf}
 use Rattle.syn_mid.specs.declared.pat.PatOf.TheOpen as o
 use Rattle.syn_mid.specs.declared.pat.PatOf.TheVariants as v
-use Rattle.syn_mid.specs.declared.pat.PatRest.{PatRest}
 use Rattle.syn_mid.specs.declared.pat.PatWild.{PatWild}
 use Rattle.syn_mid.specs.declared.supplied.Expr.{Expr}
 use Rattle.syn_mid.specs.declared.supplied.ExprConstOf.{ExprConstOf}
 use Rattle.syn_mid.specs.declared.supplied.ExprLitOf.{ExprLitOf}
 use Rattle.syn_mid.specs.declared.supplied.ExprMacroOf.{ExprMacroOf}
-use Rattle.syn_mid.specs.declared.supplied.ExprPathOf.{ExprPathOf}
-use Rattle.syn_mid.specs.attr.Attrs.{lit_of, const_of, expr_macro_of, expr_path_of}
+use Rattle.syn_mid.specs.attr.Attrs.{lit_of, const_of, expr_macro_of}
 use Rattle.syn_mid.specs.attr.Normal as attr
 use Rattle.syn_mid.specs.attr.Printing as expr
 use Rattle.syn_mid.specs.mac.Printing.{mac}
-use Rattle.syn_mid.specs.pat.Pats.{Pat, Attr, Qual, Attrs, is_rest, guard_of, binding_of, or_of, paren_of, reference_of, slice_of, struct_of, tuple_of, tuple_struct_of, typed_of, field_of, rest_of, wild_of}
+use Rattle.syn_mid.specs.ty.Trees.{Attr, Path, QSelf, TypeTree}
+use Rattle.syn_mid.specs.pat.Pats.{Attrs, LayerOf, Pat, PatPath, PatRest, FieldPat, is_rest, guard_of, binding_of, or_of, paren_of, reference_of, slice_of, struct_of, tuple_of, tuple_struct_of, typed_of, field_of, rest_of, wild_of, path_pat_of}
 use Rattle.syn_mid.specs.ty.Normal as types
 use Rattle.syn_mid.specs.ty.Types.{Comma}
 use Rattle.syn_mid.specs.generics.Shapes.{optional}
@@ -34,15 +31,19 @@ use Rattle.syn_mid.specs.pat.Normal as n
 use Rattle.syn_mid.specs.pat.Printing as s
 use Rattle.syn_mid.specs.pat.Printing.{tuple_comma}
 use Rattle.syn_mid.specs.ty.Printing.{optional_word}
-use Rattle.syn_mid.specs.path.Printing.{path, expr_style}
+use Rattle.syn_mid.specs.path.Printing.{path}
+use Rattle.syn_mid.specs.path.Shapes.{expr_style}
 use Rattle.syn_mid.specs.ty.Printing as texts
 use Rattle.token_core.specs.Lits as lits
 use Rattle.syn_mid.proofs.attr_laws.Normal.{attributes_stay, at_place_stays, range_stays, outer_same, at_place_same, range_same}
 use Rattle.syn_mid.proofs.ty_laws.Each.{Each, each_held, map_stays, joined_same}
 use Rattle.syn_mid.proofs.ty_laws.SamePrint.{qpath_same, ty_same}
-use Rattle.syn_mid.proofs.ty_laws.Stays.{qself_stays, ty_stays}
+use Rattle.syn_mid.proofs.ty_laws.Stays.{path_stays, qself_stays, ty_stays}
 use Rattle.syn_mid.proofs.pat_laws.Normal.{normal-Const, normal-Guard, normal-Ident, normal-Lit, normal-Macro, normal-Or, normal-Paren, normal-Path, normal-Range, normal-Reference, normal-Rest, normal-Slice, normal-Struct, normal-Tuple, normal-TupleStruct, normal-Type, normal-Verbatim, normal-Wild, kind_kept}
 use Rattle.syn_mid.proofs.pat_laws.Prints.{pat-Const, pat-Guard, pat-Ident, pat-Lit, pat-Macro, pat-Or, pat-Paren, pat-Path, pat-Range, pat-Reference, pat-Rest, pat-Slice, pat-Struct, pat-Tuple, pat-TupleStruct, pat-Type, pat-Wild, last_mapped, tuple_mapped, tuple_same}
+use Rattle.syn_mid.proofs.attr_laws.Values.{values_stay, values_same}
+use Rattle.syn_mid.specs.generics.NormalShapes.{normal_values_of}
+use Rattle.syn_mid.specs.generics.Shapes.{values_of}
 
 module _ {X : Type 0} (nx : Place → X → X) (own : (w : Place) (x : X) → nx w (nx w x) ≡ nx w x) where
   attrs_stay : (l : Attrs X) → n.attrs nx (n.attrs nx l) ≡ n.attrs nx l
@@ -51,18 +52,21 @@ module _ {X : Type 0} (nx : Place → X → X) (own : (w : Place) (x : X) → nx
   pub guard_stays : (x : Expr X) → n.guard nx (n.guard nx x) ≡ n.guard nx x
   guard_stays x = at_place_stays nx own Guard x
 
-  const_stays : (x : ExprConstOf (AttributeOf (Meta X)) X) → attr.expr_const nx (attr.expr_const nx x) ≡ attr.expr_const nx x
+  const_stays : (x : ExprConstOf (Attr X) X) → attr.expr_const nx (attr.expr_const nx x) ≡ attr.expr_const nx x
   const_stays x =
       ap (λ z. const_of z x.const_token x.brace_token (nx Block (nx Block x.body))) (attrs_stay x.attrs)
       ∙ ap (λ z. const_of (n.attrs nx x.attrs) x.const_token x.brace_token z) (own Block x.body)
 
-  macro_stays : (x : ExprMacroOf (AttributeOf (Meta X)) X) → attr.expr_macro nx (attr.expr_macro nx x) ≡ attr.expr_macro nx x
+  macro_stays : (x : ExprMacroOf (Attr X)) → attr.expr_macro nx (attr.expr_macro nx x) ≡ attr.expr_macro nx x
   macro_stays x = ap (λ z. expr_macro_of z x.mac) (attrs_stay x.attrs)
 
-  path_stays : (x : ExprPathOf (AttributeOf (Meta X)) X) → attr.expr_path nx (attr.expr_path nx x) ≡ attr.expr_path nx x
-  path_stays x = ap (λ z. expr_path_of z x.path) (attrs_stay x.attrs)
+  by_path_stays : (x : PatPath X) → n.by_path nx (n.by_path nx x) ≡ n.by_path nx x
+  by_path_stays x =
+      ap (λ z. path_pat_of z (types.optional_qself (n.attrs nx) (normal_values_of nx) (types.optional_qself (n.attrs nx) (normal_values_of nx) x.qself)) (types.path (n.attrs nx) (normal_values_of nx) (types.path (n.attrs nx) (normal_values_of nx) x.path))) (attrs_stay x.attrs)
+      ∙ ap (λ z. path_pat_of (n.attrs nx x.attrs) z (types.path (n.attrs nx) (normal_values_of nx) (types.path (n.attrs nx) (normal_values_of nx) x.path))) (qself_stays (n.attrs nx) (normal_values_of nx) attrs_stay (values_stay nx own) x.qself)
+      ∙ ap (path_pat_of (n.attrs nx x.attrs) (types.optional_qself (n.attrs nx) (normal_values_of nx) x.qself)) (path_stays (n.attrs nx) (normal_values_of nx) attrs_stay (values_stay nx own) x.path)
 
-  lit_stays : (x : ExprLitOf (AttributeOf (Meta X))) → attr.literal nx (attr.literal nx x) ≡ attr.literal nx x
+  lit_stays : (x : ExprLitOf (Attr X)) → attr.literal nx (attr.literal nx x) ≡ attr.literal nx x
   lit_stays x = ap (λ z. lit_of z x.lit) (attrs_stay x.attrs)
 
   rest_stays : (x : PatRest X) → n.rest nx (n.rest nx x) ≡ n.rest nx x
@@ -85,10 +89,10 @@ module _ {X : Type 0} (nx : Place → X → X) (own : (w : Place) (x : X) → nx
   by_form : (x y : Pat X) → n.pat nx x ≡ y → n.pat nx y ≡ y → Own x
   by_form x y h k = ap (n.pat nx) h ∙ k ∙ sym h
 
-  abbrev OwnField : FieldPatOf (Pat X) (Attr X) → Type 0
+  abbrev OwnField : FieldPat X → Type 0
   OwnField x = n.field nx (n.field nx x) ≡ n.field nx x
 
-  abbrev within : FieldPatOf Held (Attr X) → FieldPatOf (Pat X) (Attr X)
+  abbrev within : FieldPatOf Held (Attr X) → FieldPat X
   within x = field_of x.attrs x.member x.colon_token x.pat.0
 
   fields_own : (l : List (FieldPatOf Held (Attr X))) → Each OwnField (map within l)
@@ -99,7 +103,7 @@ module _ {X : Type 0} (nx : Place → X → X) (own : (w : Place) (x : X) → nx
     fields_own l,
   )
 
-  binding_held : (a : Attrs X) (r : Option (Word 14)) (m : Option (Word 13)) (i : Ident) (l : Option (Mark 6 1 × Held)) → Own (roll-PatOf (Attr X) (Qual X) X (map-PatOf (Attr X) (Qual X) X Held (Pat X) (λ c. c.0) (o.Ident (binding_of a r m i l))))
+  binding_held : (a : Attrs X) (r : Option (Word 14)) (m : Option (Word 13)) (i : Ident) (l : Option (Mark 6 1 × Held)) → Own (roll-PatOf (Attr X) (Path (Attr X) (Expr X)) (QSelf (Attr X) (Expr X)) (TypeTree (Attr X) (Expr X)) X (map-PatOf (Attr X) (Path (Attr X) (Expr X)) (QSelf (Attr X) (Expr X)) (TypeTree (Attr X) (Expr X)) X Held (Pat X) (λ c. c.0) (o.Ident (binding_of a r m i l))))
   binding_held a r m i None =
       let x = binding_of a r m i None in
       let z = n.binding nx x in
@@ -112,7 +116,7 @@ module _ {X : Type 0} (nx : Place → X → X) (own : (w : Place) (x : X) → nx
       (by_form (v.Ident x) (v.Ident z) (normal-Ident nx x) (normal-Ident nx z ∙ ap (λ z. v.Ident (binding_of z r m i (Some (s.0, n.pat nx (n.pat nx s.1.0))))) (attrs_stay a)
       ∙ ap (λ z. v.Ident (binding_of (n.attrs nx a) r m i (Some (s.0, z)))) s.1.1))
 
-  layer_stays : (y : o.PatOf-F (Attr X) (Qual X) X Held) → Own (roll-PatOf (Attr X) (Qual X) X (map-PatOf (Attr X) (Qual X) X Held (Pat X) (λ a. a.0) y))
+  layer_stays : (y : LayerOf X Held) → Own (roll-PatOf (Attr X) (Path (Attr X) (Expr X)) (QSelf (Attr X) (Expr X)) (TypeTree (Attr X) (Expr X)) X (map-PatOf (Attr X) (Path (Attr X) (Expr X)) (QSelf (Attr X) (Expr X)) (TypeTree (Attr X) (Expr X)) X Held (Pat X) (λ a. a.0) y))
   layer_stays (o.Const x) = subst Own (sym (v.rolls-Const x)) (by_form (v.Const x) (v.Const (attr.expr_const nx x)) (normal-Const nx x) (normal-Const nx (attr.expr_const nx x) ∙ ap v.Const (const_stays x)))
   layer_stays (o.Guard y) =
       let x = guard_of y.attrs y.pat.0 y.if_token y.guard in
@@ -143,7 +147,7 @@ module _ {X : Type 0} (nx : Place → X → X) (own : (w : Place) (x : X) → nx
       (normal-Paren nx z
       ∙ ap (λ z. v.Paren (paren_of z y.paren_token (n.pat nx (n.pat nx y.pat.0)))) (attrs_stay y.attrs)
       ∙ ap (λ z. v.Paren (paren_of (n.attrs nx y.attrs) y.paren_token z)) (y.pat.1)))
-  layer_stays (o.Path x) = subst Own (sym (v.rolls-Path x)) (by_form (v.Path x) (v.Path (attr.expr_path nx x)) (normal-Path nx x) (normal-Path nx (attr.expr_path nx x) ∙ ap v.Path (path_stays x)))
+  layer_stays (o.Path x) = subst Own (sym (v.rolls-Path x)) (by_form (v.Path x) (v.Path (n.by_path nx x)) (normal-Path nx x) (normal-Path nx (n.by_path nx x) ∙ ap v.Path (by_path_stays x)))
   layer_stays (o.Range x) = subst Own (sym (v.rolls-Range x)) (by_form (v.Range x) (v.Range (attr.range nx x)) (normal-Range nx x) (normal-Range nx (attr.range nx x) ∙ ap v.Range (range_stays nx own x)))
   layer_stays (o.Reference y) =
       let x = reference_of y.attrs y.and_token y.mutability y.pat.0 in
@@ -170,10 +174,11 @@ module _ {X : Type 0} (nx : Place → X → X) (own : (w : Place) (x : X) → nx
       subst Own (sym (v.rolls-Struct x))
       (by_form (v.Struct x) (v.Struct z) (normal-Struct nx x)
       (normal-Struct nx z
-      ∙ ap (λ z. v.Struct (struct_of z (types.optional_qself nx (types.optional_qself nx y.qself)) y.path y.brace_token (map (n.field nx) (map (n.field nx) all), y.fields.1) (n.optional_rest nx (n.optional_rest nx y.rest)))) (attrs_stay y.attrs)
-      ∙ ap (λ z. v.Struct (struct_of (n.attrs nx y.attrs) z y.path y.brace_token (map (n.field nx) (map (n.field nx) all), y.fields.1) (n.optional_rest nx (n.optional_rest nx y.rest)))) (qself_stays nx own y.qself)
-      ∙ ap (λ z. v.Struct (struct_of (n.attrs nx y.attrs) (types.optional_qself nx y.qself) y.path y.brace_token z (n.optional_rest nx (n.optional_rest nx y.rest)))) (ap (λ u. (u, y.fields.1)) (map_stays (n.field nx) all (fields_own y.fields.0)))
-      ∙ ap (λ z. v.Struct (struct_of (n.attrs nx y.attrs) (types.optional_qself nx y.qself) y.path y.brace_token (map (n.field nx) all, y.fields.1) z)) (optional_rest_stays y.rest)))
+      ∙ ap (λ z. v.Struct (struct_of z (types.optional_qself (n.attrs nx) (normal_values_of nx) (types.optional_qself (n.attrs nx) (normal_values_of nx) y.qself)) (types.path (n.attrs nx) (normal_values_of nx) (types.path (n.attrs nx) (normal_values_of nx) y.path)) y.brace_token (map (n.field nx) (map (n.field nx) all), y.fields.1) (n.optional_rest nx (n.optional_rest nx y.rest)))) (attrs_stay y.attrs)
+      ∙ ap (λ z. v.Struct (struct_of (n.attrs nx y.attrs) z (types.path (n.attrs nx) (normal_values_of nx) (types.path (n.attrs nx) (normal_values_of nx) y.path)) y.brace_token (map (n.field nx) (map (n.field nx) all), y.fields.1) (n.optional_rest nx (n.optional_rest nx y.rest)))) (qself_stays (n.attrs nx) (normal_values_of nx) attrs_stay (values_stay nx own) y.qself)
+      ∙ ap (λ z. v.Struct (struct_of (n.attrs nx y.attrs) (types.optional_qself (n.attrs nx) (normal_values_of nx) y.qself) z y.brace_token (map (n.field nx) (map (n.field nx) all), y.fields.1) (n.optional_rest nx (n.optional_rest nx y.rest)))) (path_stays (n.attrs nx) (normal_values_of nx) attrs_stay (values_stay nx own) y.path)
+      ∙ ap (λ z. v.Struct (struct_of (n.attrs nx y.attrs) (types.optional_qself (n.attrs nx) (normal_values_of nx) y.qself) (types.path (n.attrs nx) (normal_values_of nx) y.path) y.brace_token z (n.optional_rest nx (n.optional_rest nx y.rest)))) (ap (λ u. (u, y.fields.1)) (map_stays (n.field nx) all (fields_own y.fields.0)))
+      ∙ ap (λ z. v.Struct (struct_of (n.attrs nx y.attrs) (types.optional_qself (n.attrs nx) (normal_values_of nx) y.qself) (types.path (n.attrs nx) (normal_values_of nx) y.path) y.brace_token (map (n.field nx) all, y.fields.1) z)) (optional_rest_stays y.rest)))
   layer_stays (o.Tuple y) =
       let all = map (λ (a : Held). a.0) y.elems.0 in
       let x = tuple_of y.attrs y.paren_token (all, y.elems.1) in
@@ -190,23 +195,24 @@ module _ {X : Type 0} (nx : Place → X → X) (own : (w : Place) (x : X) → nx
       subst Own (sym (v.rolls-TupleStruct x))
       (by_form (v.TupleStruct x) (v.TupleStruct z) (normal-TupleStruct nx x)
       (normal-TupleStruct nx z
-      ∙ ap (λ z. v.TupleStruct (tuple_struct_of z (types.optional_qself nx (types.optional_qself nx y.qself)) y.path y.paren_token (map (n.pat nx) (map (n.pat nx) all), y.elems.1))) (attrs_stay y.attrs)
-      ∙ ap (λ z. v.TupleStruct (tuple_struct_of (n.attrs nx y.attrs) z y.path y.paren_token (map (n.pat nx) (map (n.pat nx) all), y.elems.1))) (qself_stays nx own y.qself)
-      ∙ ap (λ z. v.TupleStruct (tuple_struct_of (n.attrs nx y.attrs) (types.optional_qself nx y.qself) y.path y.paren_token z)) (ap (λ u. (u, y.elems.1)) (map_stays (n.pat nx) all (each_held Own y.elems.0)))))
+      ∙ ap (λ z. v.TupleStruct (tuple_struct_of z (types.optional_qself (n.attrs nx) (normal_values_of nx) (types.optional_qself (n.attrs nx) (normal_values_of nx) y.qself)) (types.path (n.attrs nx) (normal_values_of nx) (types.path (n.attrs nx) (normal_values_of nx) y.path)) y.paren_token (map (n.pat nx) (map (n.pat nx) all), y.elems.1))) (attrs_stay y.attrs)
+      ∙ ap (λ z. v.TupleStruct (tuple_struct_of (n.attrs nx y.attrs) z (types.path (n.attrs nx) (normal_values_of nx) (types.path (n.attrs nx) (normal_values_of nx) y.path)) y.paren_token (map (n.pat nx) (map (n.pat nx) all), y.elems.1))) (qself_stays (n.attrs nx) (normal_values_of nx) attrs_stay (values_stay nx own) y.qself)
+      ∙ ap (λ z. v.TupleStruct (tuple_struct_of (n.attrs nx y.attrs) (types.optional_qself (n.attrs nx) (normal_values_of nx) y.qself) z y.paren_token (map (n.pat nx) (map (n.pat nx) all), y.elems.1))) (path_stays (n.attrs nx) (normal_values_of nx) attrs_stay (values_stay nx own) y.path)
+      ∙ ap (λ z. v.TupleStruct (tuple_struct_of (n.attrs nx y.attrs) (types.optional_qself (n.attrs nx) (normal_values_of nx) y.qself) (types.path (n.attrs nx) (normal_values_of nx) y.path) y.paren_token z)) (ap (λ u. (u, y.elems.1)) (map_stays (n.pat nx) all (each_held Own y.elems.0)))))
   layer_stays (o.«Type» y) =
       let x = typed_of y.attrs y.pat.0 y.colon_token y.ty in
       let z = n.typed nx x in
       subst Own (sym (v.rolls-Type x))
       (by_form (v.«Type» x) (v.«Type» z) (normal-Type nx x)
       (normal-Type nx z
-      ∙ ap (λ z. v.«Type» (typed_of z (n.pat nx (n.pat nx y.pat.0)) y.colon_token (types.ty nx (types.ty nx y.ty)))) (attrs_stay y.attrs)
-      ∙ ap (λ z. v.«Type» (typed_of (n.attrs nx y.attrs) z y.colon_token (types.ty nx (types.ty nx y.ty)))) (y.pat.1)
-      ∙ ap (λ z. v.«Type» (typed_of (n.attrs nx y.attrs) (n.pat nx y.pat.0) y.colon_token z)) (ty_stays nx own y.ty)))
+      ∙ ap (λ z. v.«Type» (typed_of z (n.pat nx (n.pat nx y.pat.0)) y.colon_token (types.ty (n.attrs nx) (normal_values_of nx) (types.ty (n.attrs nx) (normal_values_of nx) y.ty)))) (attrs_stay y.attrs)
+      ∙ ap (λ z. v.«Type» (typed_of (n.attrs nx y.attrs) z y.colon_token (types.ty (n.attrs nx) (normal_values_of nx) (types.ty (n.attrs nx) (normal_values_of nx) y.ty)))) (y.pat.1)
+      ∙ ap (λ z. v.«Type» (typed_of (n.attrs nx y.attrs) (n.pat nx y.pat.0) y.colon_token z)) (ty_stays (n.attrs nx) (normal_values_of nx) attrs_stay (values_stay nx own) y.ty)))
   layer_stays (o.Verbatim x) = subst Own (sym (v.rolls-Verbatim x)) (by_form (v.Verbatim x) (v.Verbatim x) (normal-Verbatim nx x) (normal-Verbatim nx x))
   layer_stays (o.Wild x) = subst Own (sym (v.rolls-Wild x)) (by_form (v.Wild x) (v.Wild (n.wild nx x)) (normal-Wild nx x) (normal-Wild nx (n.wild nx x) ∙ ap v.Wild (wild_stays x)))
 
   pub pat_stays : (x : Pat X) → n.pat nx (n.pat nx x) ≡ n.pat nx x
-  pat_stays = ind-PatOf (Attr X) (Qual X) X Own (λ x y is. subst (λ z. Own (roll-PatOf (Attr X) (Qual X) X z)) is (layer_stays y))
+  pat_stays = ind-PatOf (Attr X) (Path (Attr X) (Expr X)) (QSelf (Attr X) (Expr X)) (TypeTree (Attr X) (Expr X)) X Own (λ x y is. subst (λ z. Own (roll-PatOf (Attr X) (Path (Attr X) (Expr X)) (QSelf (Attr X) (Expr X)) (TypeTree (Attr X) (Expr X)) X z)) is (layer_stays y))
 
 module _ {X : Type 0} (nx : Place → X → X) (px : Place → X → Print) (same : (w : Place) (x : X) → px w (nx w x) ≡ px w x) where
   attrs_same : (l : Attrs X) → s.attrs px (n.attrs nx l) ≡ s.attrs px l
@@ -215,18 +221,20 @@ module _ {X : Type 0} (nx : Place → X → X) (px : Place → X → Print) (sam
   pub guard_same : (x : Expr X) → s.guard px (n.guard nx x) ≡ s.guard px x
   guard_same x = at_place_same nx px same Guard x
 
-  const_same : (x : ExprConstOf (AttributeOf (Meta X)) X) → expr.expr_const px (attr.expr_const nx x) ≡ expr.expr_const px x
+  const_same : (x : ExprConstOf (Attr X) X) → expr.expr_const px (attr.expr_const nx x) ≡ expr.expr_const px x
   const_same x =
       ap (λ z. z ++ (p.word x.const_token ++ p.group Brace (stream_of_trees (px Block (nx Block x.body))) x.brace_token.span)) (attrs_same x.attrs)
       ∙ ap (λ z. s.attrs px x.attrs ++ (p.word x.const_token ++ p.group Brace (stream_of_trees z) x.brace_token.span)) (same Block x.body)
 
-  macro_same : (x : ExprMacroOf (AttributeOf (Meta X)) X) → expr.expr_macro px (attr.expr_macro nx x) ≡ expr.expr_macro px x
+  macro_same : (x : ExprMacroOf (Attr X)) → expr.expr_macro px (attr.expr_macro nx x) ≡ expr.expr_macro px x
   macro_same x = ap (λ z. z ++ mac x.mac) (attrs_same x.attrs)
 
-  path_same : (x : ExprPathOf (AttributeOf (Meta X)) X) → expr.expr_path px (attr.expr_path nx x) ≡ expr.expr_path px x
-  path_same x = ap (λ z. z ++ path expr_style x.path) (attrs_same x.attrs)
+  by_path_same : (x : PatPath X) → s.by_path px (n.by_path nx x) ≡ s.by_path px x
+  by_path_same x =
+      ap (λ z. z ++ texts.qpath (s.attrs px) (values_of px) expr_style (types.optional_qself (n.attrs nx) (normal_values_of nx) x.qself) (types.path (n.attrs nx) (normal_values_of nx) x.path)) (attrs_same x.attrs)
+      ∙ ap (λ z. s.attrs px x.attrs ++ z) (qpath_same (n.attrs nx) (normal_values_of nx) (s.attrs px) (values_of px) attrs_same (values_same nx px same) expr_style x.qself x.path)
 
-  lit_same : (x : ExprLitOf (AttributeOf (Meta X))) → expr.literal px (attr.literal nx x) ≡ expr.literal px x
+  lit_same : (x : ExprLitOf (Attr X)) → expr.literal px (attr.literal nx x) ≡ expr.literal px x
   lit_same x = ap (λ z. z ++ lits.print x.lit) (attrs_same x.attrs)
 
   rest_same : (x : PatRest X) → s.rest px (n.rest nx x) ≡ s.rest px x
@@ -250,10 +258,10 @@ module _ {X : Type 0} (nx : Place → X → X) (px : Place → X → Print) (sam
   abbrev Shown : Type 0
   Shown = (x : Pat X) × Same x
 
-  abbrev SameField : FieldPatOf (Pat X) (Attr X) → Type 0
+  abbrev SameField : FieldPat X → Type 0
   SameField x = s.field px (n.field nx x) ≡ s.field px x
 
-  abbrev shown_within : FieldPatOf Shown (Attr X) → FieldPatOf (Pat X) (Attr X)
+  abbrev shown_within : FieldPatOf Shown (Attr X) → FieldPat X
   shown_within x = field_of x.attrs x.member x.colon_token x.pat.0
 
   fields_same : (l : List (FieldPatOf Shown (Attr X))) → Each SameField (map shown_within l)
@@ -264,7 +272,7 @@ module _ {X : Type 0} (nx : Place → X → X) (px : Place → X → Print) (sam
     fields_same l,
   )
 
-  binding_shown : (a : Attrs X) (r : Option (Word 14)) (m : Option (Word 13)) (i : Ident) (l : Option (Mark 6 1 × Shown)) → Same (roll-PatOf (Attr X) (Qual X) X (map-PatOf (Attr X) (Qual X) X Shown (Pat X) (λ c. c.0) (o.Ident (binding_of a r m i l))))
+  binding_shown : (a : Attrs X) (r : Option (Word 14)) (m : Option (Word 13)) (i : Ident) (l : Option (Mark 6 1 × Shown)) → Same (roll-PatOf (Attr X) (Path (Attr X) (Expr X)) (QSelf (Attr X) (Expr X)) (TypeTree (Attr X) (Expr X)) X (map-PatOf (Attr X) (Path (Attr X) (Expr X)) (QSelf (Attr X) (Expr X)) (TypeTree (Attr X) (Expr X)) X Shown (Pat X) (λ c. c.0) (o.Ident (binding_of a r m i l))))
   binding_shown a r m i None =
       let x = binding_of a r m i None in
       subst Same (sym (v.rolls-Ident x))
@@ -279,7 +287,7 @@ module _ {X : Type 0} (nx : Place → X → X) (px : Place → X → Print) (sam
       ∙ ap (λ z. (s.attrs px a ++ (optional_word r ++ (optional_word m ++ p.ident i))) ++ (p.mark w.0 ++ z)) w.1.1
       ∙ sym (pat-Ident px x))
 
-  layer_same : (y : o.PatOf-F (Attr X) (Qual X) X Shown) → Same (roll-PatOf (Attr X) (Qual X) X (map-PatOf (Attr X) (Qual X) X Shown (Pat X) (λ a. a.0) y))
+  layer_same : (y : LayerOf X Shown) → Same (roll-PatOf (Attr X) (Path (Attr X) (Expr X)) (QSelf (Attr X) (Expr X)) (TypeTree (Attr X) (Expr X)) X (map-PatOf (Attr X) (Path (Attr X) (Expr X)) (QSelf (Attr X) (Expr X)) (TypeTree (Attr X) (Expr X)) X Shown (Pat X) (λ a. a.0) y))
   layer_same (o.Const x) = subst Same (sym (v.rolls-Const x)) (ap (s.pat px) (normal-Const nx x) ∙ pat-Const px (attr.expr_const nx x) ∙ const_same x ∙ sym (pat-Const px x))
   layer_same (o.Guard y) =
       let x = guard_of y.attrs y.pat.0 y.if_token y.guard in
@@ -307,7 +315,7 @@ module _ {X : Type 0} (nx : Place → X → X) (px : Place → X → Print) (sam
       ∙ ap (λ z. z ++ p.group Parenthesis (stream_of_trees (s.pat px (n.pat nx y.pat.0))) y.paren_token.span) (attrs_same y.attrs)
       ∙ ap (λ z. s.attrs px y.attrs ++ p.group Parenthesis (stream_of_trees (z)) y.paren_token.span) (y.pat.1)
       ∙ sym (pat-Paren px x))
-  layer_same (o.Path x) = subst Same (sym (v.rolls-Path x)) (ap (s.pat px) (normal-Path nx x) ∙ pat-Path px (attr.expr_path nx x) ∙ path_same x ∙ sym (pat-Path px x))
+  layer_same (o.Path x) = subst Same (sym (v.rolls-Path x)) (ap (s.pat px) (normal-Path nx x) ∙ pat-Path px (n.by_path nx x) ∙ by_path_same x ∙ sym (pat-Path px x))
   layer_same (o.Range x) = subst Same (sym (v.rolls-Range x)) (ap (s.pat px) (normal-Range nx x) ∙ pat-Range px (attr.range nx x) ∙ range_same nx px same x ∙ sym (pat-Range px x))
   layer_same (o.Reference y) =
       let x = reference_of y.attrs y.and_token y.mutability y.pat.0 in
@@ -330,11 +338,11 @@ module _ {X : Type 0} (nx : Place → X → X) (px : Place → X → Print) (sam
       let x = struct_of y.attrs y.qself y.path y.brace_token (all, y.fields.1) y.rest in
       subst Same (sym (v.rolls-Struct x))
       (ap (s.pat px) (normal-Struct nx x) ∙ pat-Struct px (n.fielded nx x)
-      ∙ ap (λ z. z ++ (texts.qpath px expr_style (types.optional_qself nx y.qself) y.path ++ p.group Brace (stream_of_trees ((s.fields px (map (n.field nx) all, y.fields.1)) ++ ((s.rest_comma px (n.optional_rest nx y.rest) (map (n.field nx) all, y.fields.1)) ++ s.optional_rest px (n.optional_rest nx y.rest)))) y.brace_token.span)) (attrs_same y.attrs)
-      ∙ ap (λ z. s.attrs px y.attrs ++ (z ++ p.group Brace (stream_of_trees ((s.fields px (map (n.field nx) all, y.fields.1)) ++ ((s.rest_comma px (n.optional_rest nx y.rest) (map (n.field nx) all, y.fields.1)) ++ s.optional_rest px (n.optional_rest nx y.rest)))) y.brace_token.span)) (qpath_same nx px same expr_style y.qself y.path)
-      ∙ ap (λ z. s.attrs px y.attrs ++ (texts.qpath px expr_style y.qself y.path ++ p.group Brace (stream_of_trees ((z) ++ ((s.rest_comma px (n.optional_rest nx y.rest) (map (n.field nx) all, y.fields.1)) ++ s.optional_rest px (n.optional_rest nx y.rest)))) y.brace_token.span)) (joined_same (n.field nx) (s.field px) p.mark all y.fields.1 (fields_same y.fields.0))
-      ∙ ap (λ z. s.attrs px y.attrs ++ (texts.qpath px expr_style y.qself y.path ++ p.group Brace (stream_of_trees ((s.fields px (all, y.fields.1)) ++ ((z) ++ s.optional_rest px (n.optional_rest nx y.rest)))) y.brace_token.span)) (rest_comma_same (n.field nx) y.rest all y.fields.1)
-      ∙ ap (λ z. s.attrs px y.attrs ++ (texts.qpath px expr_style y.qself y.path ++ p.group Brace (stream_of_trees ((s.fields px (all, y.fields.1)) ++ ((s.rest_comma px y.rest (all, y.fields.1)) ++ z))) y.brace_token.span)) (optional_rest_same y.rest)
+      ∙ ap (λ z. z ++ (texts.qpath (s.attrs px) (values_of px) expr_style (types.optional_qself (n.attrs nx) (normal_values_of nx) y.qself) (types.path (n.attrs nx) (normal_values_of nx) y.path) ++ p.group Brace (stream_of_trees ((s.fields px (map (n.field nx) all, y.fields.1)) ++ ((s.rest_comma px (n.optional_rest nx y.rest) (map (n.field nx) all, y.fields.1)) ++ s.optional_rest px (n.optional_rest nx y.rest)))) y.brace_token.span)) (attrs_same y.attrs)
+      ∙ ap (λ z. s.attrs px y.attrs ++ (z ++ p.group Brace (stream_of_trees ((s.fields px (map (n.field nx) all, y.fields.1)) ++ ((s.rest_comma px (n.optional_rest nx y.rest) (map (n.field nx) all, y.fields.1)) ++ s.optional_rest px (n.optional_rest nx y.rest)))) y.brace_token.span)) (qpath_same (n.attrs nx) (normal_values_of nx) (s.attrs px) (values_of px) attrs_same (values_same nx px same) expr_style y.qself y.path)
+      ∙ ap (λ z. s.attrs px y.attrs ++ (texts.qpath (s.attrs px) (values_of px) expr_style y.qself y.path ++ p.group Brace (stream_of_trees ((z) ++ ((s.rest_comma px (n.optional_rest nx y.rest) (map (n.field nx) all, y.fields.1)) ++ s.optional_rest px (n.optional_rest nx y.rest)))) y.brace_token.span)) (joined_same (n.field nx) (s.field px) p.mark all y.fields.1 (fields_same y.fields.0))
+      ∙ ap (λ z. s.attrs px y.attrs ++ (texts.qpath (s.attrs px) (values_of px) expr_style y.qself y.path ++ p.group Brace (stream_of_trees ((s.fields px (all, y.fields.1)) ++ ((z) ++ s.optional_rest px (n.optional_rest nx y.rest)))) y.brace_token.span)) (rest_comma_same (n.field nx) y.rest all y.fields.1)
+      ∙ ap (λ z. s.attrs px y.attrs ++ (texts.qpath (s.attrs px) (values_of px) expr_style y.qself y.path ++ p.group Brace (stream_of_trees ((s.fields px (all, y.fields.1)) ++ ((s.rest_comma px y.rest (all, y.fields.1)) ++ z))) y.brace_token.span)) (optional_rest_same y.rest)
       ∙ sym (pat-Struct px x))
   layer_same (o.Tuple y) =
       let all = map (λ (a : Shown). a.0) y.elems.0 in
@@ -350,22 +358,22 @@ module _ {X : Type 0} (nx : Place → X → X) (px : Place → X → Print) (sam
       let x = tuple_struct_of y.attrs y.qself y.path y.paren_token (all, y.elems.1) in
       subst Same (sym (v.rolls-TupleStruct x))
       (ap (s.pat px) (normal-TupleStruct nx x) ∙ pat-TupleStruct px (n.tuple_struct nx x)
-      ∙ ap (λ z. z ++ (texts.qpath px expr_style (types.optional_qself nx y.qself) y.path ++ p.group Parenthesis (stream_of_trees (s.list px {n = 4} (map (n.pat nx) all, y.elems.1))) y.paren_token.span)) (attrs_same y.attrs)
-      ∙ ap (λ z. s.attrs px y.attrs ++ (z ++ p.group Parenthesis (stream_of_trees (s.list px {n = 4} (map (n.pat nx) all, y.elems.1))) y.paren_token.span)) (qpath_same nx px same expr_style y.qself y.path)
-      ∙ ap (λ z. s.attrs px y.attrs ++ (texts.qpath px expr_style y.qself y.path ++ p.group Parenthesis (stream_of_trees (z)) y.paren_token.span)) (joined_same (n.pat nx) (s.pat px) p.mark all y.elems.1 (each_held Same y.elems.0))
+      ∙ ap (λ z. z ++ (texts.qpath (s.attrs px) (values_of px) expr_style (types.optional_qself (n.attrs nx) (normal_values_of nx) y.qself) (types.path (n.attrs nx) (normal_values_of nx) y.path) ++ p.group Parenthesis (stream_of_trees (s.list px {n = 4} (map (n.pat nx) all, y.elems.1))) y.paren_token.span)) (attrs_same y.attrs)
+      ∙ ap (λ z. s.attrs px y.attrs ++ (z ++ p.group Parenthesis (stream_of_trees (s.list px {n = 4} (map (n.pat nx) all, y.elems.1))) y.paren_token.span)) (qpath_same (n.attrs nx) (normal_values_of nx) (s.attrs px) (values_of px) attrs_same (values_same nx px same) expr_style y.qself y.path)
+      ∙ ap (λ z. s.attrs px y.attrs ++ (texts.qpath (s.attrs px) (values_of px) expr_style y.qself y.path ++ p.group Parenthesis (stream_of_trees (z)) y.paren_token.span)) (joined_same (n.pat nx) (s.pat px) p.mark all y.elems.1 (each_held Same y.elems.0))
       ∙ sym (pat-TupleStruct px x))
   layer_same (o.«Type» y) =
       let x = typed_of y.attrs y.pat.0 y.colon_token y.ty in
       subst Same (sym (v.rolls-Type x))
       (ap (s.pat px) (normal-Type nx x) ∙ pat-Type px (n.typed nx x)
-      ∙ ap (λ z. z ++ (s.pat px (n.pat nx y.pat.0) ++ (p.mark y.colon_token ++ texts.ty px (types.ty nx y.ty)))) (attrs_same y.attrs)
-      ∙ ap (λ z. s.attrs px y.attrs ++ (z ++ (p.mark y.colon_token ++ texts.ty px (types.ty nx y.ty)))) (y.pat.1)
-      ∙ ap (λ z. s.attrs px y.attrs ++ (s.pat px y.pat.0 ++ (p.mark y.colon_token ++ z))) (ty_same nx px same y.ty)
+      ∙ ap (λ z. z ++ (s.pat px (n.pat nx y.pat.0) ++ (p.mark y.colon_token ++ texts.ty (s.attrs px) (values_of px) (types.ty (n.attrs nx) (normal_values_of nx) y.ty)))) (attrs_same y.attrs)
+      ∙ ap (λ z. s.attrs px y.attrs ++ (z ++ (p.mark y.colon_token ++ texts.ty (s.attrs px) (values_of px) (types.ty (n.attrs nx) (normal_values_of nx) y.ty)))) (y.pat.1)
+      ∙ ap (λ z. s.attrs px y.attrs ++ (s.pat px y.pat.0 ++ (p.mark y.colon_token ++ z))) (ty_same (n.attrs nx) (normal_values_of nx) (s.attrs px) (values_of px) attrs_same (values_same nx px same) y.ty)
       ∙ sym (pat-Type px x))
   layer_same (o.Verbatim x) = subst Same (sym (v.rolls-Verbatim x)) (ap (s.pat px) (normal-Verbatim nx x))
   layer_same (o.Wild x) = subst Same (sym (v.rolls-Wild x)) (ap (s.pat px) (normal-Wild nx x) ∙ pat-Wild px (n.wild nx x) ∙ wild_same x ∙ sym (pat-Wild px x))
 
   pub pat_same : (x : Pat X) → s.pat px (n.pat nx x) ≡ s.pat px x
-  pat_same = ind-PatOf (Attr X) (Qual X) X Same (λ x y is. subst (λ z. Same (roll-PatOf (Attr X) (Qual X) X z)) is (layer_same y))
+  pat_same = ind-PatOf (Attr X) (Path (Attr X) (Expr X)) (QSelf (Attr X) (Expr X)) (TypeTree (Attr X) (Expr X)) X Same (λ x y is. subst (λ z. Same (roll-PatOf (Attr X) (Path (Attr X) (Expr X)) (QSelf (Attr X) (Expr X)) (TypeTree (Attr X) (Expr X)) X z)) is (layer_same y))
 
 pub ruleset normals = (guard_stays, pat_stays, guard_same, pat_same)

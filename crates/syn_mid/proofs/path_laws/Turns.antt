@@ -14,9 +14,9 @@ use Rattle.token_core.specs.Reads.{Reads, Outcome, as_word, sees_word, word_meet
 use Rattle.token_core.proofs.Turns as turns
 use Rattle.token_core.proofs.Turns.{word_takes, mark_keeps, chain, same_pair}
 use Rattle.token_core.proofs.Took.{branch, mapped, joined_takes}
-use Rattle.syn_mid.specs.declared.path.PathSegment.{PathSegment}
+use Rattle.syn_mid.specs.declared.path.PathSegmentOf.{PathSegmentOf}
 use Rattle.syn_mid.specs.declared.path.SegmentStyle.{SegmentStyle}
-use Rattle.syn_mid.specs.declared.path.Path.{Path}
+use Rattle.syn_mid.specs.declared.path.PathOf.{PathOf}
 use Rattle.syn_mid.specs.path.Paths.{Sep, segment_of, path_of}
 use Rattle.syn_mid.specs.path.Reading.{sees_sep, sep, leading, begins, goes_on, bare_segment, bare_segments, bare_path}
 use Rattle.syn_mid.specs.path.Spelling.{is_mod_word, is_type_word}
@@ -46,35 +46,35 @@ sees-type l = sees-or is_mod_word (is_text (text_of 15)) l
 
 pub ruleset or_try = (sees-type)
 
-module _ {X : Type 0} where
-  pub segment_takes : (style : SegmentStyle) (b : Bool) (s t : Stream) (x : PathSegment X) → bare_segment style b s ≡ Ok (x, t) → size t.rest < size s.rest
+module _ {A : Type 0} (none : A) where
+  pub segment_takes : (style : SegmentStyle) (b : Bool) (s t : Stream) (x : PathSegmentOf A) → bare_segment none style b s ≡ Ok (x, t) → size t.rest < size s.rest
   unfolding bare_segment
   segment_takes style b s t x e =
       elim (branch (begins style s.rest) _ _ s (Ok (x, t)) e) [
-        | inl y ↦ let m = mapped (read_word any_text ident_name s) segment_of x t y.1 in word_takes any_text ident_name s t m.value m.was
+        | inl y ↦ let m = mapped (read_word any_text ident_name s) (segment_of none) x t y.1 in word_takes any_text ident_name s t m.value m.was
         | inr y ↦ cc (y.1)
       ]
 
 pub sep_keeps : (s t : Stream) (p : Sep) → sep s ≡ Ok (p, t) → size t.rest ≤ size s.rest
 sep_keeps s t p e = let m = mapped (read_mark (marks.chars_of 1) (marks.mark_name 1) s) (marks.mark_of 1 2) p t e in mark_keeps _ _ s t m.value m.was
 
-module _ {X : Type 0} (style : SegmentStyle) where
-  pub turn_refused : (v : Many (PathSegment X) Sep) (b : Bool) (s : Stream) (e : Refusal) → bare_segment {X = X} style b s ≡ Err e → after v (bare_segments style b s) ≡ Err e
+module _ {A : Type 0} (none : A) (style : SegmentStyle) where
+  pub turn_refused : (v : Many (PathSegmentOf A) Sep) (b : Bool) (s : Stream) (e : Refusal) → bare_segment none style b s ≡ Err e → after v (bare_segments none style b s) ≡ Err e
   unfolding bare_segments
-  turn_refused v b s e h = turns.turn_refused never (bare_segment style) (goes_on style) sep v b s e refl h
+  turn_refused v b s e h = turns.turn_refused never (bare_segment none style) (goes_on style) sep v b s e refl h
 
-  pub turn_last : (v : Many (PathSegment X) Sep) (b : Bool) (s t : Stream) (x : PathSegment X) → bare_segment style b s ≡ Ok (x, t) → goes_on style t.rest ≡ false → after v (bare_segments style b s) ≡ Ok ((v.0 ++ x ∷ [], v.1), t)
+  pub turn_last : (v : Many (PathSegmentOf A) Sep) (b : Bool) (s t : Stream) (x : PathSegmentOf A) → bare_segment none style b s ≡ Ok (x, t) → goes_on style t.rest ≡ false → after v (bare_segments none style b s) ≡ Ok ((v.0 ++ x ∷ [], v.1), t)
   unfolding bare_segments
-  turn_last v b s t x h k = turns.turn_last never (bare_segment style) (goes_on style) sep v b s t x refl h k
+  turn_last v b s t x h k = turns.turn_last never (bare_segment none style) (goes_on style) sep v b s t x refl h k
 
-  pub turn_stuck : (v : Many (PathSegment X) Sep) (b : Bool) (s t : Stream) (x : PathSegment X) (e : Refusal) → bare_segment style b s ≡ Ok (x, t) → goes_on style t.rest ≡ true → sep t ≡ Err e → after v (bare_segments style b s) ≡ Err e
+  pub turn_stuck : (v : Many (PathSegmentOf A) Sep) (b : Bool) (s t : Stream) (x : PathSegmentOf A) (e : Refusal) → bare_segment none style b s ≡ Ok (x, t) → goes_on style t.rest ≡ true → sep t ≡ Err e → after v (bare_segments none style b s) ≡ Err e
   unfolding bare_segments
-  turn_stuck v b s t x e h k g = turns.turn_stuck never (bare_segment style) (goes_on style) sep v b s t x e refl h k g
+  turn_stuck v b s t x e h k g = turns.turn_stuck never (bare_segment none style) (goes_on style) sep v b s t x e refl h k g
 
-  pub turn_on : (v : Many (PathSegment X) Sep) (b : Bool) (s t u : Stream) (x : PathSegment X) (p : Sep) → bare_segment style b s ≡ Ok (x, t) → goes_on style t.rest ≡ true → sep t ≡ Ok (p, u) →
-      after v (bare_segments style b s) ≡ after (v.0 ++ x ∷ [], v.1 ++ p ∷ []) (bare_segments style false u)
+  pub turn_on : (v : Many (PathSegmentOf A) Sep) (b : Bool) (s t u : Stream) (x : PathSegmentOf A) (p : Sep) → bare_segment none style b s ≡ Ok (x, t) → goes_on style t.rest ≡ true → sep t ≡ Ok (p, u) →
+      after v (bare_segments none style b s) ≡ after (v.0 ++ x ∷ [], v.1 ++ p ∷ []) (bare_segments none style false u)
   unfolding bare_segments
-  turn_on v b s t u x p h k g = turns.turn_on never (bare_segment style) (goes_on style) sep (segment_takes style) sep_keeps v b s t u x p refl h k g
+  turn_on v b s t u x p h k g = turns.turn_on never (bare_segment none style) (goes_on style) sep (segment_takes none style) sep_keeps v b s t u x p refl h k g
 
 leading_keeps : (s t : Stream) (o : Option Sep) → leading s ≡ Ok (o, t) → size t.rest ≤ size s.rest
 unfolding leading
@@ -85,13 +85,13 @@ leading_keeps s t o e =
     ]
 
 -- a path takes a token
-pub path_takes : {X : Type 0} (style : SegmentStyle) (s t : Stream) (p : Path X) → bare_path style s ≡ Ok (p, t) → size t.rest < size s.rest
+pub path_takes : {A : Type 0} (none : A) (style : SegmentStyle) (s t : Stream) (p : PathOf A) → bare_path none style s ≡ Ok (p, t) → size t.rest < size s.rest
 unfolding bare_path bare_segments
-path_takes style s t p e =
+path_takes none style s t p e =
     let c = chain (leading s) _ p t e in
     let le = leading_keeps s c.rest c.value c.was in
-    let d = chain (bare_segments style true c.rest) _ p t c.goes in
-    let less = joined_takes (bare_segment style) (goes_on style) sep (segment_takes style) sep_keeps true c.rest d.rest d.value d.was in
+    let d = chain (bare_segments none style true c.rest) _ p t c.goes in
+    let less = joined_takes (bare_segment none style) (goes_on style) sep (segment_takes none style) sep_keeps true c.rest d.rest d.value d.was in
     let g = same_pair (path_of c.value d.value) p d.rest t d.goes in
     subst (λ (z : Stream). size z.rest < size s.rest) g.1 (omega (arith, le, less))
 

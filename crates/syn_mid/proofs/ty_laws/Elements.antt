@@ -8,8 +8,7 @@ use Rattle.token_core.specs.Loops.{Many, size, after, listed, terminated}
 use Rattle.token_core.proofs.Steps.{link}
 use Rattle.token_core.proofs.Takes.{named_takes}
 use Rattle.token_core.proofs.Turns as turns
-use Rattle.syn_mid.specs.declared.ty.Type.{«Type» as TypeTree}
-use Rattle.syn_mid.specs.Supplied.{Place}
+use Rattle.syn_mid.specs.ty.Trees.{TypeTree}
 use Rattle.syn_mid.specs.ty.Types.{Comma}
 use Rattle.syn_mid.specs.ty.Reading.{comma, more_elements}
 
@@ -50,17 +49,17 @@ module _ {A P : Type 0} (ends : Toks → Bool) (value : Reader A) (joint : Reade
   pub none_yet : (s : Stream) → All s ≡ after ([], []) (All s)
   none_yet s = none_yet_at (All s)
 
-module _ {X : Type 0} (supplied : Place → Reader X) (typ : Bool → Reader (TypeTree X)) where
-  begun_at : (x : TypeTree X) (c : Comma) (o : Outcome (Many (TypeTree X) Comma)) → and_then o (λ rest. pure (x ∷ rest.0, c ∷ rest.1)) ≡ after (x ∷ [], c ∷ []) o
+module _ {A E : Type 0} (lens : Reader E) (typ : Bool → Reader (TypeTree A E)) where
+  begun_at : (x : TypeTree A E) (c : Comma) (o : Outcome (Many (TypeTree A E) Comma)) → and_then o (λ rest. pure (x ∷ rest.0, c ∷ rest.1)) ≡ after (x ∷ [], c ∷ []) o
   begun_at x c (Ok p) = refl
   begun_at x c (Err e) = refl
 
   -- the comma after the first element
-  pub begun : (x : TypeTree X) (c : Comma) (s u : Stream) → comma s ≡ Ok (c, u) → more_elements supplied typ x s ≡ after (x ∷ [], c ∷ []) (terminated is_done (typ true) comma u)
+  pub begun : (x : TypeTree A E) (c : Comma) (s u : Stream) → comma s ≡ Ok (c, u) → more_elements lens typ x s ≡ after (x ∷ [], c ∷ []) (terminated is_done (typ true) comma u)
   unfolding more_elements
   begun x c s u e = link _ e (begun_at x c (terminated is_done (typ true) comma u))
 
-  pub not_begun : (x : TypeTree X) (s : Stream) (r : Refusal) → comma s ≡ Err r → more_elements supplied typ x s ≡ Err r
+  pub not_begun : (x : TypeTree A E) (s : Stream) (r : Refusal) → comma s ≡ Err r → more_elements lens typ x s ≡ Err r
   unfolding more_elements
   not_begun x s r e = ap (λ z. and_then z (λ c. λ t. and_then (terminated is_done (typ true) comma t) (λ rest. pure (x ∷ rest.0, c ∷ rest.1)))) e
 

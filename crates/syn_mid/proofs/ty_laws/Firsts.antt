@@ -1,6 +1,6 @@
 -- How a spelling of a type begins, and that it takes tokens.
 use Rattle.std.proofs.lemmas.Slice.Eq.{bytes_eq-Decides}
-use Rattle.std.proofs.Common.{◌≡◌, ℕ, zero, suc, ◌<◌, ◌≤◌, Bool, true, false, ◌||◌, List, ◌∷◌, Option, Some, None, refl, sym, ◌∙◌, ap, arith}
+use Rattle.std.proofs.Common.{◌≡◌, ℕ, ◌<◌, ◌≤◌, Bool, true, false, ◌||◌, List, ◌∷◌, Option, Some, None, refl, sym, ◌∙◌, ap, arith}
 use Rattle.token_core.specs.declared.lifetime.Lifetime.{Lifetime}
 use Rattle.token_core.specs.declared.span.Span.{Span}
 use Rattle.token_core.specs.declared.span.DelimSpan.{DelimSpan}
@@ -20,11 +20,10 @@ use Rattle.token_core.specs.Spellings.{AreChars, no_char, last_char, more_chars,
 use Rattle.token_core.specs.Toks.{Bytes, Toks, word, mark, group}
 use Rattle.token_core.specs.Trees.{punct}
 use Rattle.syn_mid.specs.declared.mac.Macro.{Macro}
-use Rattle.syn_mid.specs.declared.path.Path.{Path}
-use Rattle.syn_mid.specs.declared.path.PathSegment.{PathSegment}
+use Rattle.syn_mid.specs.declared.path.PathOf.{PathOf}
+use Rattle.syn_mid.specs.declared.path.PathSegmentOf.{PathSegmentOf}
 use Rattle.syn_mid.specs.declared.ty.PointerMutability.{PointerMutability}
-use Rattle.syn_mid.specs.declared.ty.Type.{«Type» as TypeTree}
-use Rattle.syn_mid.specs.Supplied.{Place}
+use Rattle.syn_mid.specs.ty.Trees.{TypeTree}
 use Rattle.syn_mid.specs.mac.Spelling.{IsCall, a_macro}
 use Rattle.syn_mid.specs.path.Paths.{Sep}
 use Rattle.syn_mid.specs.path.Spelling.{is_mod_word, is_type_word, IsLeading, no_leading, leading, AreSegments, last_segment, more_segments, IsBarePath, a_bare_path, IsPlainPath}
@@ -94,21 +93,21 @@ leading_path : (clear : Bool) (o : Sep) (l m : Toks) → IsLeading clear (Some o
 unfolding is_done sees_lifetime sees_word sees_invisible sees_group begins_path sees_mark
 leading_path clear o l m (leading a) = record { begins = record { there = refl; no_lifetime = refl; no_mut = refl }; visible = refl; no_paren = refl; path = refl }
 
-module _ (clear : Bool) {X : Type 0} where
-  segments_path : (all : List (PathSegment X)) (seps : List Sep) (l r : Toks) → AreSegments clear is_type_word all seps l r → try_first None all ≡ false → OnPath l
+module _ (clear : Bool) {A : Type 0} {none : A} where
+  segments_path : (all : List (PathSegmentOf A)) (seps : List Sep) (l r : Toks) → AreSegments clear is_type_word none all seps l r → try_first None all ≡ false → OnPath l
   segments_path all seps l r (last_segment {i = i} h) e = word_path i r (first_of_two (is_mod_word i.text) (is_text (text_of 15) i.text) h e)
   segments_path all seps l r (more_segments {i = i} h a k) e = word_path i _ (first_of_two (is_mod_word i.text) (is_text (text_of 15) i.text) h e)
 
   -- a path that doesn't begin with `try`
-  pub path_first : (p : Path X) (l r : Toks) → IsPlainPath clear p l r → is_try_path p ≡ false → OnPath l
+  pub path_first : (p : PathOf A) (l r : Toks) → IsPlainPath clear none p l r → is_try_path p ≡ false → OnPath l
   path_first p l r (a_bare_path {all = all} {seps = seps} {m = m} no_leading k) e = segments_path all seps m r k e
   path_first p l r (a_bare_path {o = Some o} {m = m} (leading a) k) e = leading_path clear o l m (leading a)
 
 -- ---- types
 
-module _ {X : Type 0} (spells : Place → X → Toks → Type 0) (clear : Bool) where
-  module _ (T : Bool → Relation (TypeTree X)) where
-    pub type_begins : (plus : Bool) (x : TypeTree X) (l r : Toks) → IsType spells clear T plus x l r → Begins l
+module _ {A E : Type 0} (spells : E → Toks → Type 0) (clear : Bool) where
+  module _ (T : Bool → Relation (TypeTree A E)) where
+    pub type_begins : (plus : Bool) (x : TypeTree A E) (l r : Toks) → IsType spells clear T plus x l r → Begins l
     type_begins plus x l r (s.array (an_array {s = a} {c = c} i j k)) = group_begins Bracket a c r
     type_begins plus x l r (s.infer (an_infer {w = w} i)) = infer_begins w l r i
     type_begins plus x l r (s.macro_call (a_macro {p = p} i h d k) e) = (path_first clear p l _ i e).begins
@@ -158,8 +157,8 @@ module _ (m : Toks → ℕ) (word_adds : (i : Ident) (k : Toks) → m k < m (wor
       let g = mark_adds (punct 58 j b) r in
       omega (arith, h, g)
 
-  module _ {X : Type 0} where
-    segments_less : (ok : Bytes → Bool) (all : List (PathSegment X)) (seps : List Sep) (l r : Toks) → AreSegments clear ok all seps l r → m r < m l
+  module _ {A : Type 0} {none : A} where
+    segments_less : (ok : Bytes → Bool) (all : List (PathSegmentOf A)) (seps : List Sep) (l r : Toks) → AreSegments clear ok none all seps l r → m r < m l
     segments_less ok all seps l r (last_segment {i = i} h) = word_adds i r
     segments_less ok all seps l r (more_segments {i = i} {a = a} {b = b} {j = j} {all = xs} {seps = ps} {l = k} h c n) =
         let w = word_adds i (mark (punct 58 Joint a) (mark (punct 58 j b) k)) in
@@ -168,22 +167,22 @@ module _ (m : Toks → ℕ) (word_adds : (i : Ident) (k : Toks) → m k < m (wor
         let z = segments_less ok xs ps k r n in
         omega (arith, w, x, y, z)
 
-    path_less : (ok : Bytes → Bool) (p : Path X) (l r : Toks) → IsBarePath clear ok p l r → m r < m l
+    path_less : (ok : Bytes → Bool) (p : PathOf A) (l r : Toks) → IsBarePath clear ok none p l r → m r < m l
     path_less ok p l r (a_bare_path {o = o} {all = all} {seps = seps} {m = k} i n) =
         let h = leading_keeps o l k i in
         let g = segments_less ok all seps k r n in
         omega (arith, h, g)
 
-    call_less : (ok : Bytes → Bool) (x : Macro X) (l r : Toks) → IsCall clear ok x l r → m r < m l
-    call_less ok x l r (a_macro {p = p} {a = a} {j = j} {d = d} {s = b} {c = c} i h e k) =
-        let w = path_less ok p l (mark (punct 33 j a) (group d b c r)) i in
-        let y = mark_adds (punct 33 j a) (group d b c r) in
-        let z = group_adds d b c r in
-        omega (arith, w, y, z)
+  call_less : (ok : Bytes → Bool) (x : Macro) (l r : Toks) → IsCall clear ok x l r → m r < m l
+  call_less ok x l r (a_macro {p = p} {a = a} {j = j} {d = d} {s = b} {c = c} i h e k) =
+      let w = path_less ok p l (mark (punct 33 j a) (group d b c r)) i in
+      let y = mark_adds (punct 33 j a) (group d b c r) in
+      let z = group_adds d b c r in
+      omega (arith, w, y, z)
 
-  module _ {X : Type 0} (spells : Place → X → Toks → Type 0) where
-    module _ (T : Bool → Relation (TypeTree X)) (t_less : (plus : Bool) (x : TypeTree X) (l r : Toks) → T plus x l r → m r < m l) where
-      pub type_less : (plus : Bool) (x : TypeTree X) (l r : Toks) → IsType spells clear T plus x l r → m r < m l
+  module _ {A E : Type 0} (spells : E → Toks → Type 0) where
+    module _ (T : Bool → Relation (TypeTree A E)) (t_less : (plus : Bool) (x : TypeTree A E) (l r : Toks) → T plus x l r → m r < m l) where
+      pub type_less : (plus : Bool) (x : TypeTree A E) (l r : Toks) → IsType spells clear T plus x l r → m r < m l
       type_less plus x l r (s.array (an_array {s = a} {c = c} i j k)) = group_adds Bracket a c r
       type_less plus x l r (s.infer (an_infer {w = w} i)) = word_less w l r i
       type_less plus x l r (s.macro_call {x = y} i e) = call_less is_type_word y l r i

@@ -1,34 +1,27 @@
 -- The reads of types and of bounds meet the laws of their grammars.
 use Rattle.std.specs.Prelude.{IfOk}
-use Rattle.std.proofs.Common.{◌≡◌, Bool, true, false, None, Result, Ok, Err, subst}
+use Rattle.std.proofs.Common.{◌≡◌, Bool, true, false, List, [], None, Result, Ok, Err, subst}
 use Rattle.token_core.specs.Headline.{Grammar, Lawful}
 use Rattle.token_core.specs.Prints.{Print}
-use Rattle.token_core.specs.Reads.{Reader, Reads, leaves}
+use Rattle.token_core.specs.Reads.{Reader, Reads}
 use Rattle.token_core.specs.Rebuilt.{Visible}
 use Rattle.token_core.specs.Refusal.{Refusal}
 use Rattle.token_core.specs.Stream.{Stream}
 use Rattle.token_core.specs.Toks.{Toks, done}
 use Rattle.token_core.proofs.Steps.{Reads_to}
 use Rattle.token_core.proofs.Took.{at, took_all, leaves_none}
-use Rattle.syn_mid.specs.declared.supplied.Expr.{Expr}
-use Rattle.syn_mid.specs.declared.generics.TypeParamBound.{TypeParamBound}
+use Rattle.syn_mid.specs.declared.ty.TypeInferOf.{TypeInferOf}
+use Rattle.syn_mid.specs.declared.ty.TypeMacroOf.{TypeMacroOf}
+use Rattle.syn_mid.specs.declared.ty.TypeNeverOf.{TypeNeverOf}
 use Rattle.syn_mid.specs.declared.ty.PointerMutability.{PointerMutability}
-use Rattle.syn_mid.specs.declared.ty.Type.{«Type» as TypeTree}
-use Rattle.syn_mid.specs.declared.ty.TypeArrayOf.{TypeArrayOf}
-use Rattle.syn_mid.specs.declared.ty.TypeInfer.{TypeInfer}
-use Rattle.syn_mid.specs.declared.ty.TypeMacro.{TypeMacro}
-use Rattle.syn_mid.specs.declared.ty.TypeNever.{TypeNever}
-use Rattle.syn_mid.specs.declared.ty.TypeParenOf.{TypeParenOf}
-use Rattle.syn_mid.specs.declared.ty.TypePathOf.{TypePathOf}
-use Rattle.syn_mid.specs.declared.ty.TypePtrOf.{TypePtrOf}
-use Rattle.syn_mid.specs.declared.ty.TypeReferenceOf.{TypeReferenceOf}
-use Rattle.syn_mid.specs.declared.ty.TypeSliceOf.{TypeSliceOf}
-use Rattle.syn_mid.specs.declared.ty.TypeTupleOf.{TypeTupleOf}
-use Rattle.syn_mid.specs.Supplied.{Place, UsesUp, Reprints}
+use Rattle.syn_mid.specs.ty.Trees.{TypeParamBound, TypeTree, TypeArray, TypeParen, TypePath, TypePtr, TypeReference, TypeSlice, TypeTuple}
 use Rattle.syn_mid.specs.ty.Grammars as grammars
 use Rattle.syn_mid.specs.ty.Reading as reading
 use Rattle.syn_mid.specs.ty.Knot as knot
 use Rattle.syn_mid.specs.ty.Knot.{a_type, a_bound}
+use Rattle.syn_mid.specs.Lengths.{LengthLaws, BareLaws}
+use Rattle.syn_mid.specs.generics.NormalShapes.{NormalValues}
+use Rattle.syn_mid.specs.generics.Shapes.{Values}
 use Rattle.syn_mid.specs.ty.Normal as normal
 use Rattle.syn_mid.specs.ty.Printing as printing
 use Rattle.syn_mid.specs.ty.Heights.{IsSomeBound, IsSomeType, IsSomeArray, IsSomeParen, IsSomePtr, IsSomeReference, IsSomeSlice, IsSomeTuple}
@@ -76,89 +69,91 @@ mutability_lawful = lawful_by (λ clear. IsMutability) (λ (z : PointerMutabilit
 pub mutability_front : (s t : Stream) (q : Result (PointerMutability) Refusal) → Reads (reading.mutability s) q t → Visible s.rest → IfOk q (λ x. IsMutability x s.rest t.rest)
 mutability_front = taken_front {Is = IsMutability} reading.mutability sound_parts.mutability_sound
 
-pub infer_lawful : Lawful grammars.infer
-infer_lawful = lawful_by (λ clear. IsInfer) (λ (z : TypeInfer). z) printing.infer reading.infer (λ s t a v e. plainly {Is = IsInfer} sound_parts.visible_infer s t a v (sound_parts.infer_sound s t a v e)) (λ s a h. complete_parts.infer_complete a s.rest done s.left s.last s.scope h) reprint_parts.infer_again
+-- the normal form of types that hold no expression asks for none
+abbrev no_values : NormalValues (Unit {0})
+no_values = record { len = λ x. x; const_argument = λ x. x }
 
-pub infer_front : (s t : Stream) (q : Result (TypeInfer) Refusal) → Reads (reading.infer s) q t → Visible s.rest → IfOk q (λ x. IsInfer x s.rest t.rest)
+pub infer_lawful : {A : Type 0} (na : List A → List A) → na [] ≡ [] → Lawful (grammars.infer na)
+infer_lawful na none = lawful_by (λ clear. IsInfer) (normal.infer na no_values) printing.infer reading.infer (λ s t a v e. plainly {Is = IsInfer} sound_parts.visible_infer s t a v (sound_parts.infer_sound s t a v e)) (λ s a h. complete_parts.infer_complete a s.rest done s.left s.last s.scope h) (reprint_parts.infer_again na no_values none)
+
+pub infer_front : {A : Type 0} (s t : Stream) (q : Result (TypeInferOf A) Refusal) → Reads (reading.infer s) q t → Visible s.rest → IfOk q (λ x. IsInfer x s.rest t.rest)
 infer_front = taken_front {Is = IsInfer} reading.infer sound_parts.infer_sound
 
-pub never_lawful : Lawful grammars.never
-never_lawful = lawful_by (IsNever) (λ (z : TypeNever). z) printing.never reading.never (λ s t a v e. plainly {Is = IsNever false} sound_parts.visible_never s t a v (sound_parts.never_sound s t a v e)) (λ s a h. complete_parts.never_complete a s.rest done s.left s.last s.scope h) reprint_parts.never_again
+pub never_lawful : {A : Type 0} (na : List A → List A) → na [] ≡ [] → Lawful (grammars.never na)
+never_lawful na none = lawful_by (λ clear. IsNever clear) (normal.never na no_values) printing.never reading.never (λ s t a v e. plainly {Is = IsNever false} sound_parts.visible_never s t a v (sound_parts.never_sound s t a v e)) (λ s a h. complete_parts.never_complete a s.rest done s.left s.last s.scope h) (reprint_parts.never_again na no_values none)
 
-pub never_front : (s t : Stream) (q : Result (TypeNever) Refusal) → Reads (reading.never s) q t → Visible s.rest → IfOk q (λ x. IsNever false x s.rest t.rest)
+pub never_front : {A : Type 0} (s t : Stream) (q : Result (TypeNeverOf A) Refusal) → Reads (reading.never s) q t → Visible s.rest → IfOk q (λ x. IsNever false x s.rest t.rest)
 never_front = taken_front {Is = IsNever false} reading.never sound_parts.never_sound
 
-module _ {X : Type 0} where
-  pub macro_type_lawful : Lawful (grammars.macro_type {X = X})
-  macro_type_lawful = lawful_by (λ clear. IsMacroType clear) (λ (z : TypeMacro X). z) printing.macro_type reading.macro_type (λ s t a v e. plainly {Is = IsMacroType false} sound_parts.visible_macro_type s t a v (sound_parts.macro_type_sound s t a v e)) (λ s a h. complete_parts.macro_type_complete a s.rest done s.left s.last s.scope h) reprint_parts.macro_type_again
+pub macro_type_front : {A : Type 0} (s t : Stream) (q : Result (TypeMacroOf A) Refusal) → Reads (reading.macro_type s) q t → Visible s.rest → IfOk q (λ x. IsMacroType false x s.rest t.rest)
+macro_type_front = taken_front {Is = IsMacroType false} reading.macro_type sound_parts.macro_type_sound
 
-  pub macro_type_front : (s t : Stream) (q : Result (TypeMacro X) Refusal) → Reads (reading.macro_type s) q t → Visible s.rest → IfOk q (λ x. IsMacroType false x s.rest t.rest)
-  macro_type_front = taken_front {Is = IsMacroType false} reading.macro_type sound_parts.macro_type_sound
+pub macro_type_lawful : {A : Type 0} (na : List A → List A) → na [] ≡ [] → Lawful (grammars.macro_type na)
+macro_type_lawful na none = lawful_by (λ clear. IsMacroType clear) (normal.macro_type na no_values) printing.macro_type reading.macro_type (λ s t a v e. plainly {Is = IsMacroType false} sound_parts.visible_macro_type s t a v (sound_parts.macro_type_sound s t a v e)) (λ s a h. complete_parts.macro_type_complete a s.rest done s.left s.last s.scope h) (reprint_parts.macro_type_again na no_values none)
 
-  pub path_type_lawful : (reads : Place → Reader X) (spells : Place → X → Toks → Type 0) (normals : Place → X → X) (prints : Place → X → Print) → Lawful (grammars.path_type reads spells normals prints)
-  path_type_lawful reads spells normals prints = lawful_by (λ clear. IsPathType clear) (normal.path_type normals) (printing.path_type prints) reading.path_type (λ s t a v e. plainly {Is = IsPathType false} sound_parts.visible_path_type s t a v (sound_parts.path_type_sound s t a v e)) (λ s a h. complete_parts.path_type_complete a s.rest done s.left s.last s.scope h (ends_done false).sep (ends_done false).angle) (reprint_parts.path_type_again normals prints)
+module _ {A E : Type 0} where
+  pub path_type_lawful : (lens : Reader E) (spells : E → Toks → Type 0) (na : List A → List A) (ne : NormalValues E) (pa : List A → Print) (pe : Values E) → na [] ≡ [] → Lawful (grammars.path_type lens spells na ne pa pe)
+  path_type_lawful lens spells na ne pa pe none = lawful_by (λ clear. IsPathType clear) (normal.path_type na ne) (printing.path_type pa pe) reading.path_type (λ s t a v e. plainly {Is = IsPathType false} sound_parts.visible_path_type s t a v (sound_parts.path_type_sound s t a v e)) (λ s a h. complete_parts.path_type_complete a s.rest done s.left s.last s.scope h (ends_done false).sep (ends_done false).angle) (reprint_parts.path_type_again na ne pa pe none)
 
-  pub path_type_front : (s t : Stream) (q : Result (TypePathOf (TypeTree X) X) Refusal) → Reads (reading.path_type s) q t → Visible s.rest → IfOk q (λ x. IsPathType false x s.rest t.rest)
+  pub path_type_front : (s t : Stream) (q : Result (TypePath A E) Refusal) → Reads (reading.path_type s) q t → Visible s.rest → IfOk q (λ x. IsPathType false x s.rest t.rest)
   path_type_front = taken_front {Is = IsPathType false} reading.path_type sound_parts.path_type_sound
 
 -- ---- types that hold types
 
-module _ {X : Type 0} (reads : Place → Reader X) (spells : Place → X → Toks → Type 0) (normals : Place → X → X) (prints : Place → X → Print)
-    (sound : (p : Place) (s t : Stream) (x : X) → reads p s ≡ Ok (x, t) → leaves t ≡ None → spells p x s.rest)
-    (complete : (p : Place) (s : Stream) (x : X) → spells p x s.rest → (t : Stream) × (reads p s ≡ Ok (x, t)) × UsesUp s t)
-    (reprint : (p : Place) (x : X) (l : Toks) → spells p x l → Reprints (spells p) (normals p) (prints p) x l) where
-  pub ty_lawful : (plus : Bool) → Lawful (grammars.ty reads spells normals prints plus)
-  ty_lawful plus = lawful_by (λ clear. IsSomeType spells clear plus) (normal.ty normals) (printing.ty prints) (knot.ty reads plus) (o.some_sound reads spells sound complete (a_type plus))
-      (λ s a h. c.some_complete reads spells complete (a_type plus) a s.rest done s.left s.last s.scope h (ends_done plus)) (r.ty_again reads spells normals prints complete reprint plus)
+module _ {A E : Type 0} (lens : Reader E) (spells : E → Toks → Type 0) (na : List A → List A) (ne : NormalValues E) (pa : List A → Print) (pe : Values E)
+    (laws : LengthLaws lens spells ne.len pe.len) (bare : BareLaws na pa) where
+  pub ty_lawful : (plus : Bool) → Lawful (grammars.ty lens spells na ne pa pe plus)
+  ty_lawful plus = lawful_by (λ clear. IsSomeType spells clear plus) (normal.ty na ne) (printing.ty pa pe) (knot.ty lens plus) (o.some_sound A lens spells laws.sound laws.complete (a_type plus))
+      (λ s a h. c.some_complete A lens spells laws.complete (a_type plus) a s.rest done s.left s.last s.scope h (ends_done plus)) (r.ty_again lens spells na ne pa pe laws bare plus)
 
-  pub ty_front : (plus : Bool) (s t : Stream) (q : Result (TypeTree X) Refusal) → Reads (knot.ty reads plus s) q t → Visible s.rest → t.left ≡ None → IfOk q (λ x. IsSomeType spells false plus x s.rest t.rest)
-  ty_front plus = front_by (λ clear. IsSomeType spells clear plus) (normal.ty normals) (printing.ty prints) (knot.ty reads plus) (o.some_sound reads spells sound complete (a_type plus))
+  pub ty_front : (plus : Bool) (s t : Stream) (q : Result (TypeTree A E) Refusal) → Reads (knot.ty lens plus s) q t → Visible s.rest → t.left ≡ None → IfOk q (λ x. IsSomeType spells false plus x s.rest t.rest)
+  ty_front plus = front_by (λ clear. IsSomeType spells clear plus) (normal.ty na ne) (printing.ty pa pe) (knot.ty lens plus) (o.some_sound A lens spells laws.sound laws.complete (a_type plus))
 
-  pub bound_lawful : Lawful (grammars.bound reads spells normals prints)
-  bound_lawful = lawful_by (IsSomeBound spells) (normal.bound normals) (printing.bound prints) (knot.bound reads) (o.some_sound reads spells sound complete a_bound)
-      (λ s a h. c.some_complete reads spells complete a_bound a s.rest done s.left s.last s.scope h bounds.ends_done) (r.bound_again reads spells normals prints complete reprint)
+  pub bound_lawful : Lawful (grammars.bound lens spells na ne pa pe)
+  bound_lawful = lawful_by (IsSomeBound spells) (normal.bound na ne) (printing.bound pa pe) (knot.bound lens) (o.some_sound A lens spells laws.sound laws.complete a_bound)
+      (λ s a h. c.some_complete A lens spells laws.complete a_bound a s.rest done s.left s.last s.scope h bounds.ends_done) (r.bound_again lens spells na ne pa pe laws bare)
 
-  pub bound_front : (s t : Stream) (q : Result (TypeParamBound X) Refusal) → Reads (knot.bound reads s) q t → Visible s.rest → t.left ≡ None → IfOk q (λ x. IsSomeBound spells false x s.rest t.rest)
-  bound_front = front_by (IsSomeBound spells) (normal.bound normals) (printing.bound prints) (knot.bound reads) (o.some_sound reads spells sound complete a_bound)
+  pub bound_front : (s t : Stream) (q : Result (TypeParamBound A E) Refusal) → Reads (knot.bound lens s) q t → Visible s.rest → t.left ≡ None → IfOk q (λ x. IsSomeBound spells false x s.rest t.rest)
+  bound_front = front_by (IsSomeBound spells) (normal.bound na ne) (printing.bound pa pe) (knot.bound lens) (o.some_sound A lens spells laws.sound laws.complete a_bound)
 
-  pub array_lawful : Lawful (grammars.array reads spells normals prints)
-  array_lawful = lawful_by (IsSomeArray spells) (normal.array normals) (printing.array prints) (knot.array reads) (o.array_sound reads spells sound complete)
-      (λ s a h. c.array_complete reads spells complete a s.rest done s.left s.last s.scope h) (r.array_again reads spells normals prints complete reprint)
+  pub array_lawful : Lawful (grammars.array lens spells na ne pa pe)
+  array_lawful = lawful_by (IsSomeArray spells) (normal.array na ne) (printing.array pa pe) (knot.array lens) (o.array_sound A lens spells laws.sound laws.complete)
+      (λ s a h. c.array_complete A lens spells laws.complete a s.rest done s.left s.last s.scope h) (r.array_again lens spells na ne pa pe laws bare)
 
-  pub array_front : (s t : Stream) (q : Result (TypeArrayOf (TypeTree X) (Expr X)) Refusal) → Reads (knot.array reads s) q t → Visible s.rest → t.left ≡ None → IfOk q (λ x. IsSomeArray spells false x s.rest t.rest)
-  array_front = front_by (IsSomeArray spells) (normal.array normals) (printing.array prints) (knot.array reads) (o.array_sound reads spells sound complete)
+  pub array_front : (s t : Stream) (q : Result (TypeArray A E) Refusal) → Reads (knot.array lens s) q t → Visible s.rest → t.left ≡ None → IfOk q (λ x. IsSomeArray spells false x s.rest t.rest)
+  array_front = front_by (IsSomeArray spells) (normal.array na ne) (printing.array pa pe) (knot.array lens) (o.array_sound A lens spells laws.sound laws.complete)
 
-  pub paren_lawful : Lawful (grammars.paren reads spells normals prints)
-  paren_lawful = lawful_by (IsSomeParen spells) (normal.paren normals) (printing.paren prints) (knot.paren reads) (o.paren_sound reads spells sound complete)
-      (λ s a h. c.paren_complete reads spells complete a s.rest done s.left s.last s.scope h) (r.paren_again reads spells normals prints complete reprint)
+  pub paren_lawful : Lawful (grammars.paren lens spells na ne pa pe)
+  paren_lawful = lawful_by (IsSomeParen spells) (normal.paren na ne) (printing.paren pa pe) (knot.paren lens) (o.paren_sound A lens spells laws.sound laws.complete)
+      (λ s a h. c.paren_complete A lens spells laws.complete a s.rest done s.left s.last s.scope h) (r.paren_again lens spells na ne pa pe laws bare)
 
-  pub paren_front : (s t : Stream) (q : Result (TypeParenOf (TypeTree X)) Refusal) → Reads (knot.paren reads s) q t → Visible s.rest → t.left ≡ None → IfOk q (λ x. IsSomeParen spells false x s.rest t.rest)
-  paren_front = front_by (IsSomeParen spells) (normal.paren normals) (printing.paren prints) (knot.paren reads) (o.paren_sound reads spells sound complete)
+  pub paren_front : (s t : Stream) (q : Result (TypeParen A E) Refusal) → Reads (knot.paren lens s) q t → Visible s.rest → t.left ≡ None → IfOk q (λ x. IsSomeParen spells false x s.rest t.rest)
+  paren_front = front_by (IsSomeParen spells) (normal.paren na ne) (printing.paren pa pe) (knot.paren lens) (o.paren_sound A lens spells laws.sound laws.complete)
 
-  pub ptr_lawful : Lawful (grammars.ptr reads spells normals prints)
-  ptr_lawful = lawful_by (IsSomePtr spells) (normal.ptr normals) (printing.ptr prints) (knot.ptr reads) (o.ptr_sound reads spells sound complete)
-      (λ s a h. c.ptr_complete reads spells complete a s.rest done s.left s.last s.scope h (ends_done false)) (r.ptr_again reads spells normals prints complete reprint)
+  pub ptr_lawful : Lawful (grammars.ptr lens spells na ne pa pe)
+  ptr_lawful = lawful_by (IsSomePtr spells) (normal.ptr na ne) (printing.ptr pa pe) (knot.ptr lens) (o.ptr_sound A lens spells laws.sound laws.complete)
+      (λ s a h. c.ptr_complete A lens spells laws.complete a s.rest done s.left s.last s.scope h (ends_done false)) (r.ptr_again lens spells na ne pa pe laws bare)
 
-  pub ptr_front : (s t : Stream) (q : Result (TypePtrOf (TypeTree X)) Refusal) → Reads (knot.ptr reads s) q t → Visible s.rest → t.left ≡ None → IfOk q (λ x. IsSomePtr spells false x s.rest t.rest)
-  ptr_front = front_by (IsSomePtr spells) (normal.ptr normals) (printing.ptr prints) (knot.ptr reads) (o.ptr_sound reads spells sound complete)
+  pub ptr_front : (s t : Stream) (q : Result (TypePtr A E) Refusal) → Reads (knot.ptr lens s) q t → Visible s.rest → t.left ≡ None → IfOk q (λ x. IsSomePtr spells false x s.rest t.rest)
+  ptr_front = front_by (IsSomePtr spells) (normal.ptr na ne) (printing.ptr pa pe) (knot.ptr lens) (o.ptr_sound A lens spells laws.sound laws.complete)
 
-  pub reference_lawful : Lawful (grammars.reference reads spells normals prints)
-  reference_lawful = lawful_by (IsSomeReference spells) (normal.reference normals) (printing.reference prints) (knot.reference reads) (o.reference_sound reads spells sound complete)
-      (λ s a h. c.reference_complete reads spells complete a s.rest done s.left s.last s.scope h (ends_done false)) (r.reference_again reads spells normals prints complete reprint)
+  pub reference_lawful : Lawful (grammars.reference lens spells na ne pa pe)
+  reference_lawful = lawful_by (IsSomeReference spells) (normal.reference na ne) (printing.reference pa pe) (knot.reference lens) (o.reference_sound A lens spells laws.sound laws.complete)
+      (λ s a h. c.reference_complete A lens spells laws.complete a s.rest done s.left s.last s.scope h (ends_done false)) (r.reference_again lens spells na ne pa pe laws bare)
 
-  pub reference_front : (s t : Stream) (q : Result (TypeReferenceOf (TypeTree X)) Refusal) → Reads (knot.reference reads s) q t → Visible s.rest → t.left ≡ None → IfOk q (λ x. IsSomeReference spells false x s.rest t.rest)
-  reference_front = front_by (IsSomeReference spells) (normal.reference normals) (printing.reference prints) (knot.reference reads) (o.reference_sound reads spells sound complete)
+  pub reference_front : (s t : Stream) (q : Result (TypeReference A E) Refusal) → Reads (knot.reference lens s) q t → Visible s.rest → t.left ≡ None → IfOk q (λ x. IsSomeReference spells false x s.rest t.rest)
+  reference_front = front_by (IsSomeReference spells) (normal.reference na ne) (printing.reference pa pe) (knot.reference lens) (o.reference_sound A lens spells laws.sound laws.complete)
 
-  pub slice_lawful : Lawful (grammars.slice reads spells normals prints)
-  slice_lawful = lawful_by (IsSomeSlice spells) (normal.slice normals) (printing.slice prints) (knot.slice reads) (o.slice_sound reads spells sound complete)
-      (λ s a h. c.slice_complete reads spells complete a s.rest done s.left s.last s.scope h) (r.slice_again reads spells normals prints complete reprint)
+  pub slice_lawful : Lawful (grammars.slice lens spells na ne pa pe)
+  slice_lawful = lawful_by (IsSomeSlice spells) (normal.slice na ne) (printing.slice pa pe) (knot.slice lens) (o.slice_sound A lens spells laws.sound laws.complete)
+      (λ s a h. c.slice_complete A lens spells laws.complete a s.rest done s.left s.last s.scope h) (r.slice_again lens spells na ne pa pe laws bare)
 
-  pub slice_front : (s t : Stream) (q : Result (TypeSliceOf (TypeTree X)) Refusal) → Reads (knot.slice reads s) q t → Visible s.rest → t.left ≡ None → IfOk q (λ x. IsSomeSlice spells false x s.rest t.rest)
-  slice_front = front_by (IsSomeSlice spells) (normal.slice normals) (printing.slice prints) (knot.slice reads) (o.slice_sound reads spells sound complete)
+  pub slice_front : (s t : Stream) (q : Result (TypeSlice A E) Refusal) → Reads (knot.slice lens s) q t → Visible s.rest → t.left ≡ None → IfOk q (λ x. IsSomeSlice spells false x s.rest t.rest)
+  slice_front = front_by (IsSomeSlice spells) (normal.slice na ne) (printing.slice pa pe) (knot.slice lens) (o.slice_sound A lens spells laws.sound laws.complete)
 
-  pub tuple_lawful : Lawful (grammars.tuple reads spells normals prints)
-  tuple_lawful = lawful_by (IsSomeTuple spells) (normal.tuple normals) (printing.tuple prints) (knot.tuple reads) (o.tuple_sound reads spells sound complete)
-      (λ s a h. c.tuple_complete reads spells complete a s.rest done s.left s.last s.scope h) (r.tuple_again reads spells normals prints complete reprint)
+  pub tuple_lawful : Lawful (grammars.tuple lens spells na ne pa pe)
+  tuple_lawful = lawful_by (IsSomeTuple spells) (normal.tuple na ne) (printing.tuple pa pe) (knot.tuple lens) (o.tuple_sound A lens spells laws.sound laws.complete)
+      (λ s a h. c.tuple_complete A lens spells laws.complete a s.rest done s.left s.last s.scope h) (r.tuple_again lens spells na ne pa pe laws bare)
 
-  pub tuple_front : (s t : Stream) (q : Result (TypeTupleOf (TypeTree X)) Refusal) → Reads (knot.tuple reads s) q t → Visible s.rest → t.left ≡ None → IfOk q (λ x. IsSomeTuple spells false x s.rest t.rest)
-  tuple_front = front_by (IsSomeTuple spells) (normal.tuple normals) (printing.tuple prints) (knot.tuple reads) (o.tuple_sound reads spells sound complete)
+  pub tuple_front : (s t : Stream) (q : Result (TypeTuple A E) Refusal) → Reads (knot.tuple lens s) q t → Visible s.rest → t.left ≡ None → IfOk q (λ x. IsSomeTuple spells false x s.rest t.rest)
+  tuple_front = front_by (IsSomeTuple spells) (normal.tuple na ne) (printing.tuple pa pe) (knot.tuple lens) (o.tuple_sound A lens spells laws.sound laws.complete)

@@ -10,8 +10,7 @@ use Rattle.token_core.specs.Toks.{Bytes}
 use Rattle.token_core.specs.Reads.{Reader, Outcome, and_then, pure, closing, in_group, open_group, is_done}
 use Rattle.token_core.proofs.Steps.{link, chosen}
 use Rattle.token_core.proofs.Turns.{same_pair}
-use Rattle.syn_mid.specs.declared.ty.Type.{«Type» as TypeTree}
-use Rattle.syn_mid.specs.Supplied.{Place}
+use Rattle.syn_mid.specs.ty.Trees.{TypeTree}
 use Rattle.syn_mid.specs.ty.Types.{array_of}
 use Rattle.syn_mid.specs.ty.Reading.{elements, counted, Length, length, more_elements, array, array_content, paren_content, bracket_content, paren_or_tuple, slice_or_array, held_in_parens, held_in_brackets, sees_comma, sees_semi}
 
@@ -29,32 +28,32 @@ group_refused {A} {T} f x name p s t g e h k = by_outcome (open_group x name s) 
         ap (λ (z : T × Stream). closing q.0.0 q.1 (p z.1)) w.0 ∙ ap (closing q.0.0 q.1) k
     by_outcome (Err r) h = cc
 
-module _ {X : Type 0} (supplied : Place → Reader X) (typ : Bool → Reader (TypeTree X)) where
+module _ {A E : Type 0} (lens : Reader E) (typ : Bool → Reader (TypeTree A E)) where
   abbrev Held : Type 0
-  Held = TypeTree X × Length X
+  Held = TypeTree A E × Length E
 
   -- the length of an array
-  pub length_refused : {T : Type 0} (f : DelimSpan → T) (s t u : Stream) (g : T × Stream) (x : TypeTree X) (e : Refusal) → groups.opened f (open_group d.Bracket groups.bracket_name s) ≡ Ok (g, t) →
-      typ true g.1 ≡ Ok (x, u) → sees_semi u.rest ≡ true → length supplied u ≡ Err e → slice_or_array supplied typ s ≡ Err e
+  pub length_refused : {T : Type 0} (f : DelimSpan → T) (s t u : Stream) (g : T × Stream) (x : TypeTree A E) (e : Refusal) → groups.opened f (open_group d.Bracket groups.bracket_name s) ≡ Ok (g, t) →
+      typ true g.1 ≡ Ok (x, u) → sees_semi u.rest ≡ true → length lens u ≡ Err e → slice_or_array lens typ s ≡ Err e
   unfolding slice_or_array bracket_content
   length_refused f s t u g x e h i b k =
-      mapped_refused _ (held_in_brackets supplied typ) e
-      (group_refused f d.Bracket groups.bracket_name (bracket_content supplied typ) s t g e h
-      (link _ i (chosen (sees_semi u.rest) true _ _ u _ b (mapped_refused (length supplied u) (counted x) e k))))
+      mapped_refused _ (held_in_brackets lens typ) e
+      (group_refused f d.Bracket groups.bracket_name (bracket_content lens typ) s t g e h
+      (link _ i (chosen (sees_semi u.rest) true _ _ u _ b (mapped_refused (length lens u) (counted x) e k))))
 
   -- the same, of the reader of arrays
-  pub counted_refused : {T : Type 0} (f : DelimSpan → T) (s t u : Stream) (g : T × Stream) (x : TypeTree X) (e : Refusal) → groups.opened f (open_group d.Bracket groups.bracket_name s) ≡ Ok (g, t) →
-      typ true g.1 ≡ Ok (x, u) → length supplied u ≡ Err e → array supplied typ s ≡ Err e
+  pub counted_refused : {T : Type 0} (f : DelimSpan → T) (s t u : Stream) (g : T × Stream) (x : TypeTree A E) (e : Refusal) → groups.opened f (open_group d.Bracket groups.bracket_name s) ≡ Ok (g, t) →
+      typ true g.1 ≡ Ok (x, u) → length lens u ≡ Err e → array lens typ s ≡ Err e
   unfolding array array_content
   counted_refused f s t u g x e h i k =
-      let content : array_content supplied typ g.1 ≡ Err e = link _ i (mapped_refused (length supplied u) (λ (n : Length X). (x, n)) e k) in
-      mapped_refused (in_group d.Bracket groups.bracket_name (array_content supplied typ) s) (λ (q : DelimSpan × Held). array_of (groups.bracket q.0) q.1.0 q.1.1.0 q.1.1.1) e (group_refused f d.Bracket groups.bracket_name (array_content supplied typ) s t g e h content)
+      let content : array_content lens typ g.1 ≡ Err e = link _ i (mapped_refused (length lens u) (λ (n : Length E). (x, n)) e k) in
+      mapped_refused (in_group d.Bracket groups.bracket_name (array_content lens typ) s) (λ (q : DelimSpan × Held). array_of (groups.bracket q.0) q.1.0 q.1.1.0 q.1.1.1) e (group_refused f d.Bracket groups.bracket_name (array_content lens typ) s t g e h content)
 
   -- the further elements of a tuple
-  pub elements_refused : {T : Type 0} (f : DelimSpan → T) (plus : Bool) (s t u : Stream) (g : T × Stream) (x : TypeTree X) (e : Refusal) → groups.opened f (open_group d.Parenthesis groups.paren_name s) ≡ Ok (g, t) →
-      is_done g.1.rest ≡ false → typ true g.1 ≡ Ok (x, u) → sees_comma u.rest ≡ true → more_elements supplied typ x u ≡ Err e → paren_or_tuple supplied typ plus s ≡ Err e
+  pub elements_refused : {T : Type 0} (f : DelimSpan → T) (plus : Bool) (s t u : Stream) (g : T × Stream) (x : TypeTree A E) (e : Refusal) → groups.opened f (open_group d.Parenthesis groups.paren_name s) ≡ Ok (g, t) →
+      is_done g.1.rest ≡ false → typ true g.1 ≡ Ok (x, u) → sees_comma u.rest ≡ true → more_elements lens typ x u ≡ Err e → paren_or_tuple lens typ plus s ≡ Err e
   unfolding paren_or_tuple paren_content
   elements_refused f plus s t u g x e h a i b k =
-      ap (λ z. and_then z (held_in_parens supplied typ plus))
-      (group_refused f d.Parenthesis groups.paren_name (paren_content supplied typ) s t g e h
-      (chosen (is_done g.1.rest) false _ _ g.1 _ a (link _ i (chosen (sees_comma u.rest) true _ _ u _ b (mapped_refused (more_elements supplied typ x u) elements e k)))))
+      ap (λ z. and_then z (held_in_parens lens typ plus))
+      (group_refused f d.Parenthesis groups.paren_name (paren_content lens typ) s t g e h
+      (chosen (is_done g.1.rest) false _ _ g.1 _ a (link _ i (chosen (sees_comma u.rest) true _ _ u _ b (mapped_refused (more_elements lens typ x u) elements e k)))))

@@ -1,11 +1,9 @@
 -- A read of a type takes tokens, on every stream.
 use Rattle.std.proofs.Common.{◌≡◌, ℕ, zero, suc, ◌<◌, ◌≤◌, Bool, false, ◌&&◌, Option, Some, None, Ok, inl, inr, refl, subst, arith}
 use Rattle.token_core.specs.declared.lifetime.Lifetime.{Lifetime}
-use Rattle.token_core.specs.declared.word.Word.{Word}
 use Rattle.token_core.specs.declared.span.DelimSpan.{DelimSpan}
 use Rattle.token_core.specs.declared.tree.Delimiter.{Delimiter}
 use Rattle.token_core.specs.declared.tree.Delimiter.TheVariants as d
-use Rattle.token_core.specs.declared.tree.Ident.{Ident}
 use Rattle.token_core.specs.declared.tree.TokenStream.{TokenStream}
 use Rattle.token_core.specs.Toks.{Toks}
 use Rattle.token_core.specs.Front.{past_ends}
@@ -15,26 +13,24 @@ use Rattle.token_core.specs.Loops.{size}
 use Rattle.token_core.specs.Marks as marks
 use Rattle.token_core.specs.Stream.{Stream}
 use Rattle.token_core.specs.Rebuilt.{stream_of}
-use Rattle.token_core.specs.Reads.{Reader, Outcome, Body, as_group, bodied, delimited, past, sees_group, is_text, read_word, in_group}
+use Rattle.token_core.specs.Reads.{Reader, Outcome, Body, as_group, bodied, delimited, past, sees_group, in_group}
 use Rattle.token_core.proofs.lifetime_laws.{suffix_lifetime}
 use Rattle.token_core.proofs.Suffixes.{suffix_outside}
 use Rattle.token_core.proofs.Takes.{named_takes}
 use Rattle.token_core.proofs.Took.{branch, mapped}
-use Rattle.token_core.proofs.Turns.{chain, same_pair, size_suffix, word_takes}
+use Rattle.token_core.proofs.Turns.{chain, same_pair, size_suffix}
 use Rattle.token_core.proofs.WordSpells.{went_on}
 use Rattle.syn_mid.specs.declared.mac.Macro.{Macro}
 use Rattle.syn_mid.specs.declared.mac.MacroDelimiter.TheVariants as b
-use Rattle.syn_mid.specs.declared.path.Path.{Path}
+use Rattle.syn_mid.specs.declared.path.PathOf.{PathOf}
 use Rattle.syn_mid.specs.declared.path.SegmentStyle.TheVariants.{Plain}
 use Rattle.syn_mid.specs.declared.ty.PointerMutability.{PointerMutability}
 use Rattle.syn_mid.specs.declared.ty.PointerMutability.TheVariants as m
-use Rattle.syn_mid.specs.declared.ty.Type.{«Type» as TypeTree}
-use Rattle.syn_mid.specs.declared.ty.Type.TheVariants as v
-use Rattle.syn_mid.specs.declared.ty.TypePtrOf.{TypePtrOf}
-use Rattle.syn_mid.specs.declared.ty.TypeReferenceOf.{TypeReferenceOf}
-use Rattle.syn_mid.specs.Supplied.{Place}
+use Rattle.syn_mid.specs.declared.ty.TypeOf.TheVariants as v
+use Rattle.syn_mid.specs.ty.Trees.{TypeTree, TypePtr, TypeReference}
 use Rattle.syn_mid.specs.mac.Macros.{Held, macro_of}
 use Rattle.syn_mid.specs.mac.Reading.{bang, held, body, call_after}
+use Rattle.syn_mid.specs.path.Paths.{ModPath, nothing, no_arguments, without}
 use Rattle.syn_mid.specs.path.Reading.{bare_path, plain_path, sees_angle}
 use Rattle.syn_mid.specs.ty.Knot.{ahead, below, a_type, read_at, read, ty, types}
 use Rattle.syn_mid.specs.ty.Reading.{InParens, one, elements, sees_plus, sees_star, sees_and, sees_bang, sees_named, sees_call, begins_path, star, and, mutable, mutability, infer, never, ended, path_or_macro, paren_content, bracket_content, held_in_parens, held_in_brackets, ptr, reference, paren_or_tuple, slice_or_array, by_mark, type_step}
@@ -89,12 +85,12 @@ lifetime_keeps s t q e =
 
 -- ---- paths and macro calls
 
-module _ {X : Type 0} where
-  plain_takes : (s t : Stream) (p : Path X) → plain_path s ≡ Ok (p, t) → Less s t
+module _ {A : Type 0} (none : A) where
+  plain_takes : (s t : Stream) (p : PathOf A) → plain_path none s ≡ Ok (p, t) → Less s t
   unfolding plain_path
   plain_takes s t p e =
-      let c = chain (bare_path Plain s) _ p t e in
-      let less = path_takes Plain s c.rest c.value c.was in
+      let c = chain (bare_path none Plain s) _ p t e in
+      let less = path_takes none Plain s c.rest c.value c.was in
       elim (branch (sees_angle c.rest.rest) _ _ c.rest (Ok (p, t)) c.goes) [
         | inl y ↦ cc (y.1)
         | inr y ↦ let g = same_pair c.value p c.rest t y.1 in subst (λ (z : Stream). Less s z) g.1 less
@@ -122,18 +118,18 @@ body_keeps s t h e =
     let more = held_keeps c.value.0 c.value.1 c.value.2 c.rest t h c.goes in
     omega (arith, le, more)
 
-module _ {X : Type 0} where
-  call_keeps : (p : Path X) (s t : Stream) (x : Macro X) → call_after p s ≡ Ok (x, t) → NoMore s t
-  unfolding call_after
-  call_keeps p s t x e =
-      let c = chain (bang s) _ x t e in
-      let less = named_takes 0 1 _ _ refl s c.value c.rest c.was in
-      let f = chain (body c.rest) _ x t c.goes in
-      let le = body_keeps c.rest f.rest f.value f.was in
-      let over = stays (macro_of p c.value f.value) x f.rest t f.goes in
-      omega (arith, less, le, over)
+call_keeps : (p : ModPath) (s t : Stream) (x : Macro) → call_after p s ≡ Ok (x, t) → NoMore s t
+unfolding call_after
+call_keeps p s t x e =
+    let c = chain (bang s) _ x t e in
+    let less = named_takes 0 1 _ _ refl s c.value c.rest c.was in
+    let f = chain (body c.rest) _ x t c.goes in
+    let le = body_keeps c.rest f.rest f.value f.was in
+    let over = stays (macro_of p c.value f.value) x f.rest t f.goes in
+    omega (arith, less, le, over)
 
-  ended_keeps : (plus : Bool) (x y : TypeTree X) (s t : Stream) → ended plus x s ≡ Ok (y, t) → NoMore s t
+module _ {A E : Type 0} where
+  ended_keeps : (plus : Bool) (x y : TypeTree A E) (s t : Stream) → ended plus x s ≡ Ok (y, t) → NoMore s t
   unfolding ended
   ended_keeps plus x y s t e =
       elim (branch (plus && sees_plus s.rest) _ _ s (Ok (y, t)) e) [
@@ -141,22 +137,22 @@ module _ {X : Type 0} where
         | inr z ↦ stays x y s t z.1
       ]
 
-  path_or_macro_takes : (plus : Bool) (s t : Stream) (x : TypeTree X) → path_or_macro plus s ≡ Ok (x, t) → Less s t
+  path_or_macro_takes : (plus : Bool) (s t : Stream) (x : TypeTree A E) → path_or_macro plus s ≡ Ok (x, t) → Less s t
   unfolding path_or_macro
   path_or_macro_takes plus s t x e =
-      let c = chain (plain_path s) _ x t e in
-      let less = plain_takes s c.rest c.value c.was in
+      let c = chain (plain_path no_arguments s) _ x t e in
+      let less = plain_takes no_arguments s c.rest c.value c.was in
       elim (branch (sees_call c.rest.rest) _ _ c.rest (Ok (x, t)) c.goes) [
-        | inl y ↦ let k = mapped (call_after c.value c.rest) (λ (z : Macro X). v.Macro (macro_type_of z)) x t y.1 in
-            let le = call_keeps c.value c.rest t k.value k.was in
+        | inl y ↦ let k = mapped (call_after (without nothing c.value) c.rest) (λ (z : Macro). v.Macro (macro_type_of z)) x t y.1 in
+            let le = call_keeps (without nothing c.value) c.rest t k.value k.was in
             omega (arith, less, le)
         | inr y ↦ let le = ended_keeps plus (v.Path (path_type_of c.value)) x c.rest t y.1 in omega (arith, less, le)
       ]
 
 -- ---- types, over those that they hold
 
-module _ {X : Type 0} (supplied : Place → Reader X) (typ : Bool → Reader (TypeTree X)) (takes : (p : Bool) (s t : Stream) (x : TypeTree X) → typ p s ≡ Ok (x, t) → size t.rest < size s.rest) where
-  ptr_takes : (s t : Stream) (x : TypePtrOf (TypeTree X)) → ptr supplied typ s ≡ Ok (x, t) → Less s t
+module _ {A E : Type 0} (lens : Reader E) (typ : Bool → Reader (TypeTree A E)) (takes : (p : Bool) (s t : Stream) (x : TypeTree A E) → typ p s ≡ Ok (x, t) → size t.rest < size s.rest) where
+  ptr_takes : (s t : Stream) (x : TypePtr A E) → ptr lens typ s ≡ Ok (x, t) → Less s t
   unfolding ptr
   ptr_takes s t x e =
       let c = chain (star s) _ x t e in
@@ -167,7 +163,7 @@ module _ {X : Type 0} (supplied : Place → Reader X) (typ : Bool → Reader (Ty
       let more = takes false f.rest t k.value k.was in
       omega (arith, less, le, more)
 
-  reference_takes : (s t : Stream) (x : TypeReferenceOf (TypeTree X)) → reference supplied typ s ≡ Ok (x, t) → Less s t
+  reference_takes : (s t : Stream) (x : TypeReference A E) → reference lens typ s ≡ Ok (x, t) → Less s t
   unfolding reference
   reference_takes s t x e =
       let c = chain (and s) _ x t e in
@@ -180,13 +176,13 @@ module _ {X : Type 0} (supplied : Place → Reader X) (typ : Bool → Reader (Ty
       let more = takes false f.rest t k.value k.was in
       omega (arith, less, le, also, more)
 
-  by_mark_takes : (s t : Stream) (x : TypeTree X) → by_mark supplied typ s ≡ Ok (x, t) → Less s t
+  by_mark_takes : (s t : Stream) (x : TypeTree A E) → by_mark lens typ s ≡ Ok (x, t) → Less s t
   unfolding by_mark
   by_mark_takes s t x e =
       elim (branch (sees_star s.rest) _ _ s (Ok (x, t)) e) [
-        | inl y ↦ let k = mapped (ptr supplied typ s) v.Ptr x t y.1 in ptr_takes s t k.value k.was
+        | inl y ↦ let k = mapped (ptr lens typ s) v.Ptr x t y.1 in ptr_takes s t k.value k.was
         | inr y ↦ elim (branch (sees_and s.rest) _ _ s (Ok (x, t)) y.1) [
-          | inl z ↦ let k = mapped (reference supplied typ s) v.Reference x t z.1 in reference_takes s t k.value k.was
+          | inl z ↦ let k = mapped (reference lens typ s) v.Reference x t z.1 in reference_takes s t k.value k.was
           | inr z ↦ elim (branch (sees_bang s.rest) _ _ s (Ok (x, t)) z.1) [
             | inl w ↦ let k = mapped (never s) v.Never x t w.1 in
                 let i = mapped (bang s) never_of k.value t k.was in
@@ -201,25 +197,25 @@ module _ {X : Type 0} (supplied : Place → Reader X) (typ : Bool → Reader (Ty
         ]
       ]
 
-  held_parens_keeps : (plus : Bool) (g : DelimSpan × InParens X) (s t : Stream) (x : TypeTree X) → held_in_parens supplied typ plus g s ≡ Ok (x, t) → NoMore s t
+  held_parens_keeps : (plus : Bool) (g : DelimSpan × InParens A E) (s t : Stream) (x : TypeTree A E) → held_in_parens lens typ plus g s ≡ Ok (x, t) → NoMore s t
   held_parens_keeps plus (a, one y) s t x e = ended_keeps plus (v.Paren (paren_of (groups.paren a) y)) x s t e
   held_parens_keeps plus (a, elements y) s t x e = stays (v.Tuple (tuple_of (groups.paren a) y)) x s t e
 
-  step_takes : (plus : Bool) (s t : Stream) (x : TypeTree X) → type_step supplied typ plus s ≡ Ok (x, t) → Less s t
+  step_takes : (plus : Bool) (s t : Stream) (x : TypeTree A E) → type_step lens typ plus s ≡ Ok (x, t) → Less s t
   unfolding type_step paren_or_tuple slice_or_array
   step_takes plus s t x e =
       elim (branch (groups.sees_invisible s.rest) _ _ s (Ok (x, t)) e) [
         | inl y ↦ cc (y.1)
         | inr y ↦ elim (branch (sees_group d.Parenthesis s.rest) _ _ s (Ok (x, t)) y.1) [
-          | inl z ↦ let c = chain (in_group d.Parenthesis groups.paren_name (paren_content supplied typ) s) (held_in_parens supplied typ plus) x t z.1 in
-              let less = group_takes d.Parenthesis groups.paren_name (paren_content supplied typ) s c.rest c.value c.was in
+          | inl z ↦ let c = chain (in_group d.Parenthesis groups.paren_name (paren_content lens typ) s) (held_in_parens lens typ plus) x t z.1 in
+              let less = group_takes d.Parenthesis groups.paren_name (paren_content lens typ) s c.rest c.value c.was in
               let le = held_parens_keeps plus c.value c.rest t x c.goes in
               omega (arith, less, le)
           | inr z ↦ elim (branch (begins_path s.rest) _ _ s (Ok (x, t)) z.1) [
             | inl w ↦ path_or_macro_takes plus s t x w.1
             | inr w ↦ elim (branch (sees_group d.Bracket s.rest) _ _ s (Ok (x, t)) w.1) [
-              | inl u ↦ let k = mapped (in_group d.Bracket groups.bracket_name (bracket_content supplied typ) s) (held_in_brackets supplied typ) x t u.1 in
-                  group_takes d.Bracket groups.bracket_name (bracket_content supplied typ) s t k.value k.was
+              | inl u ↦ let k = mapped (in_group d.Bracket groups.bracket_name (bracket_content lens typ) s) (held_in_brackets lens typ) x t u.1 in
+                  group_takes d.Bracket groups.bracket_name (bracket_content lens typ) s t k.value k.was
               | inr u ↦ by_mark_takes s t x u.1
             ]
           ]
@@ -228,16 +224,16 @@ module _ {X : Type 0} (supplied : Place → Reader X) (typ : Bool → Reader (Ty
 
 -- ---- at the knot
 
-module _ {X : Type 0} (supplied : Place → Reader X) where
-  at_takes : (n : ℕ) (p : Bool) (s t : Stream) (x : TypeTree X) → read_at supplied n (a_type p) s ≡ Ok (x, t) → size t.rest < size s.rest
+module _ {A E : Type 0} (lens : Reader E) where
+  at_takes : (n : ℕ) (p : Bool) (s t : Stream) (x : TypeTree A E) → read_at A lens n (a_type p) s ≡ Ok (x, t) → size t.rest < size s.rest
   at_takes zero p s t x e = cc
   at_takes (suc n) p s t x e =
-      step_takes supplied (λ q. below (ahead s) (read_at supplied n (a_type q))) (λ q u w y h. at_takes n q u w y (out (ahead s) (read_at supplied n (a_type q)) u w y h).was) p s t x e
+      step_takes lens (λ q. below (ahead s) (read_at A lens n (a_type q))) (λ q u w y h. at_takes n q u w y (out (ahead s) (read_at A lens n (a_type q)) u w y h).was) p s t x e
 
-  pub type_takes : (p : Bool) (s t : Stream) (x : TypeTree X) → ty supplied p s ≡ Ok (x, t) → size t.rest < size s.rest
+  pub type_takes : (p : Bool) (s t : Stream) (x : TypeTree A E) → ty lens p s ≡ Ok (x, t) → size t.rest < size s.rest
   unfolding read
   type_takes p s t x e = at_takes (suc (ahead s)) p s t x e
 
-  pub types_takes : (limit : ℕ) (p : Bool) (s t : Stream) (x : TypeTree X) → types supplied limit p s ≡ Ok (x, t) → size t.rest < size s.rest
+  pub types_takes : (limit : ℕ) (p : Bool) (s t : Stream) (x : TypeTree A E) → types lens limit p s ≡ Ok (x, t) → size t.rest < size s.rest
   unfolding types
-  types_takes limit p s t x e = type_takes p s t x (out limit (ty supplied p) s t x e).was
+  types_takes limit p s t x e = type_takes p s t x (out limit (ty lens p) s t x e).was

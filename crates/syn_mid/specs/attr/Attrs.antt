@@ -13,7 +13,6 @@ use Rattle.syn_mid.specs.declared.attr.Meta.{Meta}
 use Rattle.syn_mid.specs.declared.attr.MetaList.{MetaList}
 use Rattle.syn_mid.specs.declared.attr.MetaNameValue.{MetaNameValue, roll-MetaNameValue}
 use Rattle.syn_mid.specs.declared.mac.Macro.{Macro}
-use Rattle.syn_mid.specs.declared.path.Path.{Path}
 use Rattle.syn_mid.specs.declared.supplied.Expr.{Expr}
 use Rattle.syn_mid.specs.declared.supplied.Expr.TheVariants as e
 use Rattle.syn_mid.specs.declared.supplied.ExprBlockOf.{ExprBlockOf}
@@ -23,7 +22,7 @@ use Rattle.syn_mid.specs.declared.supplied.ExprMacroOf.{ExprMacroOf}
 use Rattle.syn_mid.specs.declared.supplied.ExprPathOf.{ExprPathOf}
 use Rattle.syn_mid.specs.declared.supplied.ExprRange.{ExprRange, roll-ExprRange}
 use Rattle.syn_mid.specs.mac.Macros.{Held}
-use Rattle.syn_mid.specs.path.Paths.{lone, segment_of}
+use Rattle.syn_mid.specs.path.Paths.{ModPath, nothing, lone, segment_of}
 
 abbrev pub Pound : Type 0
 Pound = Mark 21 1
@@ -37,26 +36,26 @@ Attribute X = AttributeOf (Meta X)
 abbrev pub lit_of : {A : Type 0} → List A → Lit → ExprLitOf A
 lit_of l x = record { attrs = l; lit = x }
 
+-- the path of a lone identifier
+abbrev pub word_path : Ident → ModPath
+word_path i = lone (segment_of nothing i)
+
+abbrev pub list_of : ModPath → Held → MetaList
+list_of p h = record { path = p; delimiter = h.0; tokens = h.1 }
+
+abbrev pub expr_path_of : {A P : Type 0} → List A → P → ExprPathOf A P
+expr_path_of l x = record { attrs = l; path = x }
+
+abbrev pub expr_macro_of : {A : Type 0} → List A → Macro → ExprMacroOf A
+expr_macro_of l x = record { attrs = l; mac = x }
+
 module _ {X : Type 0} where
-  -- the path of a lone identifier
-  abbrev pub word_path : Ident → Path X
-  word_path i = lone (segment_of i)
-
-  abbrev pub list_of : Path X → Held → MetaList X
-  list_of p h = record { path = p; delimiter = h.0; tokens = h.1 }
-
-  abbrev pub name_value_of : Path X → Equals → Expr X → MetaNameValue X
+  abbrev pub name_value_of : ModPath → Equals → Expr X → MetaNameValue X
   name_value_of p q v = roll-MetaNameValue X (record { path = p; eq_token = q; value = v })
 
   -- a literal without attributes
   abbrev pub literal : Lit → Expr X
   literal x = e.Lit (record { attrs = []; lit = x })
-
-  abbrev pub expr_path_of : {A : Type 0} → List A → Path X → ExprPathOf A X
-  expr_path_of l x = record { attrs = l; path = x }
-
-  abbrev pub expr_macro_of : {A : Type 0} → List A → Macro X → ExprMacroOf A X
-  expr_macro_of l x = record { attrs = l; mac = x }
 
   abbrev pub const_of : {A : Type 0} → List A → Word 6 → Brace → X → ExprConstOf A X
   const_of l w b x = record { attrs = l; const_token = w; brace_token = b; body = x }

@@ -15,7 +15,7 @@ use Rattle.syn_mid.specs.attr.Reading as reading
 use Rattle.syn_mid.specs.attr.Spelling.{SpellsMetaList, IsNameValue, IsMeta, SpellOuter, SpellInner}
 
 -- A list of tokens is its own normal form. No tree here has a verbatim part.
-abbrev pub list : {X : Type 0} → Grammar (MetaList X)
+abbrev pub list : Grammar MetaList
 list = record { spells = SpellsMetaList; normal = λ x. x; print = printing.list; plain = λ x. Unit {0}; reader = reading.list }
 
 module _ {X : Type 0} (reads : Place → Reader X) (spells : Place → X → Toks → Type 0) (normals : Place → X → X) (prints : Place → X → Print) where

@@ -72,13 +72,13 @@ module _ {X : Type 0} (normal : Place → X → X) where
   abbrev pub literal : ExprLitOf (Attribute X) → ExprLitOf (Attribute X)
   literal x = lit_of (attributes x.attrs) x.lit
 
-  abbrev pub expr_path : ExprPathOf (Attribute X) X → ExprPathOf (Attribute X) X
+  abbrev pub expr_path : {P : Type 0} → ExprPathOf (Attribute X) P → ExprPathOf (Attribute X) P
   expr_path x = expr_path_of (attributes x.attrs) x.path
 
   abbrev pub expr_const : ExprConstOf (Attribute X) X → ExprConstOf (Attribute X) X
   expr_const x = const_of (attributes x.attrs) x.const_token x.brace_token (normal Block x.body)
 
-  abbrev pub expr_macro : ExprMacroOf (Attribute X) X → ExprMacroOf (Attribute X) X
+  abbrev pub expr_macro : ExprMacroOf (Attribute X) → ExprMacroOf (Attribute X)
   expr_macro x = expr_macro_of (attributes x.attrs) x.mac
 
   abbrev pub block : ExprBlockOf (Attribute X) X → ExprBlockOf (Attribute X) X

@@ -1,4 +1,4 @@
--- What attributes and expressions print: paths of attributes without arguments, and of the attributes of an expression those before it.
+-- What attributes and expressions print: of the attributes of an expression those before it.
 use Rattle.std.specs.Prelude.{Bool, true, false, if◌then◌else◌, List, [], ◌∷◌, ◌++◌, Option, Some, None}
 use Rattle.token_core.specs.declared.token.Brace.{Brace as BraceToken}
 use Rattle.token_core.specs.declared.tree.Delimiter.TheVariants.{Bracket, Brace}
@@ -17,8 +17,6 @@ use Rattle.syn_mid.specs.declared.attr.Meta.TheOpen as o
 use Rattle.syn_mid.specs.declared.attr.Meta.TheFolds.{fold-Meta, fold-Expr, fold-ExprRange, fold-MetaNameValue}
 use Rattle.syn_mid.specs.declared.attr.MetaList.{MetaList}
 use Rattle.syn_mid.specs.declared.attr.MetaNameValue.{MetaNameValue}
-use Rattle.syn_mid.specs.declared.path.PathStyle.TheVariants as s
-use Rattle.syn_mid.specs.declared.path.PathStyle.TheVariants.{Mod}
 use Rattle.syn_mid.specs.declared.supplied.Expr.{Expr, out-Expr}
 use Rattle.syn_mid.specs.declared.supplied.ExprBlockOf.{ExprBlockOf}
 use Rattle.syn_mid.specs.declared.supplied.ExprConstOf.{ExprConstOf}
@@ -28,7 +26,8 @@ use Rattle.syn_mid.specs.declared.supplied.ExprPathOf.{ExprPathOf}
 use Rattle.syn_mid.specs.declared.supplied.ExprRange.{ExprRange, out-ExprRange}
 use Rattle.syn_mid.specs.mac.Macros.{span_of, delimiter_of}
 use Rattle.syn_mid.specs.mac.Printing.{mac}
-use Rattle.syn_mid.specs.path.Printing.{path}
+use Rattle.syn_mid.specs.path.Paths.{ModPath}
+use Rattle.syn_mid.specs.path.Shapes.{mod_path}
 
 abbrev pub is_outer : AttrStyle → Bool
 is_outer y.Outer = true
@@ -63,10 +62,10 @@ module _ {M : Type 0} (meta : M → Print) where
   abbrev pub literal_by : ExprLitOf (AttributeOf M) → Print
   literal_by x = outer_by x.attrs ++ lits.print x.lit
 
-  abbrev pub expr_path_by : {X : Type 0} → ExprPathOf (AttributeOf M) X → Print
-  expr_path_by x = outer_by x.attrs ++ path s.Expr x.path
+  abbrev pub expr_path_by : ExprPathOf (AttributeOf M) ModPath → Print
+  expr_path_by x = outer_by x.attrs ++ mod_path x.path
 
-  abbrev pub expr_macro_by : {X : Type 0} → ExprMacroOf (AttributeOf M) X → Print
+  abbrev pub expr_macro_by : ExprMacroOf (AttributeOf M) → Print
   expr_macro_by x = outer_by x.attrs ++ mac x.mac
 
 -- the end of a range that is there
@@ -76,8 +75,8 @@ end_by value (Some x) = value x
 
 -- ---- trees
 
-abbrev pub list : {X : Type 0} → MetaList X → Print
-list x = path Mod x.path ++ p.group (delimiter_of x.delimiter) x.tokens (span_of x.delimiter)
+abbrev pub list : MetaList → Print
+list x = mod_path x.path ++ p.group (delimiter_of x.delimiter) x.tokens (span_of x.delimiter)
 
 -- what a supplied subtree prints in a place is given
 module _ {X : Type 0} (prints : Place → X → Print) where
@@ -96,7 +95,7 @@ module _ {X : Type 0} (prints : Place → X → Print) where
   block_by meta x = outer_by meta x.attrs ++ body x.brace_token x.body
 
   abbrev pub meta_step : o.Meta-F X Print Print Print Print → Print
-  meta_step (o.Meta::Path x) = path Mod x
+  meta_step (o.Meta::Path x) = mod_path x
   meta_step (o.List x) = list x
   meta_step (o.NameValue x) = x
 
@@ -114,7 +113,7 @@ module _ {X : Type 0} (prints : Place → X → Print) where
   range_step x = outer_by (λ z. z) x.attrs ++ (end_by (λ z. z) x.start ++ (ranges.print x.limits ++ end_by (λ z. z) x.end))
 
   abbrev pub name_value_step : o.MetaNameValue-F X Print Print Print Print → Print
-  name_value_step x = path Mod x.path ++ (p.mark x.eq_token ++ x.value)
+  name_value_step x = mod_path x.path ++ (p.mark x.eq_token ++ x.value)
 
   unfoldable pub meta : Meta X → Print
   meta = fold-Meta X Print Print Print Print meta_step expr_step name_value_step range_step
@@ -144,13 +143,13 @@ module _ {X : Type 0} (prints : Place → X → Print) where
   abbrev pub literal : ExprLitOf (AttributeOf (Meta X)) → Print
   literal = literal_by meta
 
-  abbrev pub expr_path : ExprPathOf (AttributeOf (Meta X)) X → Print
+  abbrev pub expr_path : ExprPathOf (AttributeOf (Meta X)) ModPath → Print
   expr_path = expr_path_by meta
 
   abbrev pub expr_const : ExprConstOf (AttributeOf (Meta X)) X → Print
   expr_const = expr_const_by meta
 
-  abbrev pub expr_macro : ExprMacroOf (AttributeOf (Meta X)) X → Print
+  abbrev pub expr_macro : ExprMacroOf (AttributeOf (Meta X)) → Print
   expr_macro = expr_macro_by meta
 
   abbrev pub block : ExprBlockOf (AttributeOf (Meta X)) X → Print

@@ -16,11 +16,11 @@ use Rattle.syn_mid.specs.declared.attr.Meta.TheVariants as m
 use Rattle.syn_mid.specs.declared.attr.MetaList.{MetaList}
 use Rattle.syn_mid.specs.declared.attr.MetaNameValue.{MetaNameValue}
 use Rattle.syn_mid.specs.declared.attr.AttrStyle.TheVariants as y
-use Rattle.syn_mid.specs.declared.path.Path.{Path}
 use Rattle.syn_mid.specs.declared.supplied.Expr.{Expr}
 use Rattle.syn_mid.specs.declared.supplied.Expr.TheVariants as e
 use Rattle.syn_mid.specs.Supplied.{Place, Value}
 use Rattle.syn_mid.specs.mac.Reading.{bang, body}
+use Rattle.syn_mid.specs.path.Paths.{ModPath, nothing}
 use Rattle.syn_mid.specs.path.Reading.{mod_style}
 use Rattle.syn_mid.specs.attr.Attrs.{Pound, Equals, Attribute, word_path, list_of, name_value_of, literal, attribute_of}
 
@@ -80,18 +80,17 @@ module _ {A : Type 0} (goes : Toks → Bool) (one : Reader A) where
   unfoldable pub many : Reader (List A)
   many s = many_from (suc (size s.rest)) s
 
-module _ {X : Type 0} where
-  -- the outermost path of a meta: `unsafe`, or of mod style
-  unfoldable pub meta_path : Reader (Path X)
-  meta_path = do
-    here ← peek sees_unsafe
-    if here then word_path <$> read_word any_text ident_name else mod_style
+-- the outermost path of a meta: `unsafe`, or of mod style
+unfoldable pub meta_path : Reader ModPath
+meta_path = do
+  here ← peek sees_unsafe
+  if here then word_path <$> read_word any_text ident_name else mod_style nothing
 
-  unfoldable pub list_after : Path X → Reader (MetaList X)
-  list_after p = list_of p <$> body
+unfoldable pub list_after : ModPath → Reader MetaList
+list_after p = list_of p <$> body
 
-  unfoldable pub list : Reader (MetaList X)
-  list = meta_path >>= list_after
+unfoldable pub list : Reader MetaList
+list = meta_path >>= list_after
 
 module _ {X : Type 0} (supplied : Place → Reader X) where
   -- a value that is no literal
@@ -107,7 +106,7 @@ module _ {X : Type 0} (supplied : Place → Reader X) where
   unfoldable pub value : Reader (Expr X)
   value = last_literal >>= value_or
 
-  unfoldable pub name_value_after : Path X → Reader (MetaNameValue X)
+  unfoldable pub name_value_after : ModPath → Reader (MetaNameValue X)
   name_value_after p = do
     q ← equals
     v ← value
@@ -116,7 +115,7 @@ module _ {X : Type 0} (supplied : Place → Reader X) where
   unfoldable pub name_value : Reader (MetaNameValue X)
   name_value = meta_path >>= name_value_after
 
-  unfoldable pub meta_after : Path X → Reader (Meta X)
+  unfoldable pub meta_after : ModPath → Reader (Meta X)
   meta_after p = do
     group ← peek sees_body
     if group then m.List <$> list_after p else (do

@@ -12,11 +12,10 @@ use Rattle.syn_mid.specs.declared.attr.Meta.{Meta, out-Meta}
 use Rattle.syn_mid.specs.declared.attr.Meta.TheOpen as o
 use Rattle.syn_mid.specs.declared.attr.MetaList.{MetaList}
 use Rattle.syn_mid.specs.declared.attr.MetaNameValue.{MetaNameValue, out-MetaNameValue}
-use Rattle.syn_mid.specs.declared.path.Path.{Path}
 use Rattle.syn_mid.specs.declared.supplied.Expr.{Expr}
 use Rattle.syn_mid.specs.declared.supplied.ExprRange.{ExprRange}
 use Rattle.syn_mid.specs.mac.Macros.{span_of}
-use Rattle.syn_mid.specs.path.Paths.{path_text, first_span, last_span}
+use Rattle.syn_mid.specs.path.Paths.{ModPath, path_text, first_span, last_span}
 use Rattle.syn_mid.specs.attr.Attrs.{Attribute}
 
 -- where a mark begins
@@ -35,46 +34,46 @@ parentheses_text (y.Inner b) = codes "expected parentheses: #!["
 abbrev pub Layer : Type 0 → Type 0
 Layer X = o.Meta-F X (Meta X) (Expr X) (MetaNameValue X) (ExprRange X)
 
+-- the text of a path between two texts
+abbrev pub around : Bytes → ModPath → Bytes → Bytes
+around before p after = before ++ (path_text p ++ after)
+
+-- a refusal from the first segment of a path to the last
+abbrev pub at_path : ErrorKind → Bytes → ModPath → Bytes → Refusal
+at_path k before p after = refusal k (around before p after) (first_span p.segments.0) (last_span p.segments.0 none)
+
+abbrev pub opens : MetaList → Span
+opens x = (span_of x.delimiter).opening
+
 module _ {X : Type 0} where
-  abbrev pub path_at : Layer X → Path X
+  abbrev pub path_at : Layer X → ModPath
   path_at (o.Meta::Path x) = x
   path_at (o.List x) = x.path
   path_at (o.NameValue x) = (out-MetaNameValue X x).path
 
   -- the path that a meta begins with
-  abbrev pub path_in : Meta X → Path X
+  abbrev pub path_in : Meta X → ModPath
   path_in x = path_at (out-Meta X x)
-
-  -- the text of a path between two texts
-  abbrev pub around : Bytes → Path X → Bytes → Bytes
-  around before p after = before ++ (path_text p ++ after)
-
-  -- a refusal from the first segment of a path to the last
-  abbrev pub at_path : ErrorKind → Bytes → Path X → Bytes → Refusal
-  at_path k before p after = refusal k (around before p after) (first_span p.segments.0) (last_span p.segments.0 none)
-
-  abbrev pub opens : MetaList X → Span
-  opens x = (span_of x.delimiter).opening
 
   abbrev pub equals_at : MetaNameValue X → Span
   equals_at x = begins (out-MetaNameValue X x).eq_token.spans
 
-  abbrev pub path_only_at : Layer X → Result (Path X) Refusal
+  abbrev pub path_only_at : Layer X → Result ModPath Refusal
   path_only_at (o.Meta::Path x) = Ok x
   path_only_at (o.List x) = Err (named TokenInAttribute (opens x))
   path_only_at (o.NameValue x) = Err (named TokenInAttribute (equals_at x))
 
   -- a meta that is a path
-  abbrev pub path_only : Meta X → Result (Path X) Refusal
+  abbrev pub path_only : Meta X → Result ModPath Refusal
   path_only x = path_only_at (out-Meta X x)
 
-  abbrev pub list_at : Layer X → Result (MetaList X) Refusal
+  abbrev pub list_at : Layer X → Result MetaList Refusal
   list_at (o.Meta::Path x) = Err (at_path ExpectedMetaArguments (codes "expected attribute arguments in parentheses: `") x (codes "(...)`"))
   list_at (o.List x) = Ok x
   list_at (o.NameValue x) = Err (named ExpectedParenthesis (equals_at x))
 
   -- a meta that is a list
-  abbrev pub list : Meta X → Result (MetaList X) Refusal
+  abbrev pub list : Meta X → Result MetaList Refusal
   list x = list_at (out-Meta X x)
 
   abbrev pub name_value_at : Layer X → Result (MetaNameValue X) Refusal
@@ -90,13 +89,13 @@ module _ {X : Type 0} where
   abbrev pub no_parentheses : Bytes → MetaNameValue X → Refusal
   no_parentheses before x = refusal ExpectedParentheses (around before (out-MetaNameValue X x).path (codes "(...)]")) (equals_at x) (equals_at x)
 
-  abbrev pub arguments_at : AttrStyle → Layer X → Result (MetaList X) Refusal
+  abbrev pub arguments_at : AttrStyle → Layer X → Result MetaList Refusal
   arguments_at s (o.Meta::Path x) = Err (at_path ExpectedAttributeArguments (arguments_text s) x (codes "(...)]"))
   arguments_at s (o.List x) = Ok x
   arguments_at s (o.NameValue x) = Err (no_parentheses (parentheses_text s) x)
 
   -- an attribute with arguments
-  abbrev pub arguments : Attribute X → Result (MetaList X) Refusal
+  abbrev pub arguments : Attribute X → Result MetaList Refusal
   arguments a = arguments_at a.style (out-Meta X a.meta)
 
 -- the refusal where it isn't so

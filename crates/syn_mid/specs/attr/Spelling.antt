@@ -18,10 +18,10 @@ use Rattle.syn_mid.specs.declared.attr.Meta.TheVariants as m
 use Rattle.syn_mid.specs.declared.attr.MetaList.{MetaList}
 use Rattle.syn_mid.specs.declared.attr.MetaNameValue.{MetaNameValue}
 use Rattle.syn_mid.specs.declared.mac.MacroDelimiter.{MacroDelimiter}
-use Rattle.syn_mid.specs.declared.path.Path.{Path}
 use Rattle.syn_mid.specs.declared.supplied.Expr.{Expr}
 use Rattle.syn_mid.specs.declared.supplied.Expr.TheVariants as e
 use Rattle.syn_mid.specs.Supplied.{Place, Value}
+use Rattle.syn_mid.specs.path.Paths.{ModPath, nothing}
 use Rattle.syn_mid.specs.path.Spelling.{IsModPath}
 use Rattle.syn_mid.specs.mac.Macros.{Bang}
 use Rattle.syn_mid.specs.mac.Spelling.{Delimits}
@@ -36,15 +36,15 @@ module _ {A : Type 0} (Is : A → Toks → Toks → Type 0) where
     no_more : {r : Toks} → AreAll [] r r
     one_more : {a : A} {all : List A} {l m r : Toks} → Is a l m → AreAll all m r → AreAll (a ∷ all) l r
 
-module _ (clear : Bool) {X : Type 0} where
+module _ (clear : Bool) where
   -- the outermost path: `unsafe` alone, or of mod style
-  pub data IsMetaPath : Path X → Toks → Toks → Type 0 where
+  pub data IsMetaPath : ModPath → Toks → Toks → Type 0 where
     unsafe_path : {i : Ident} {r : Toks} → is_unsafe i.text ≡ true → IsMetaPath (word_path i) (word i r) r
-    mod_path : {p : Path X} {l r : Toks} → IsModPath clear p l r → IsMetaPath p l r
+    mod_path : {p : ModPath} {l r : Toks} → IsModPath clear nothing p l r → IsMetaPath p l r
 
   -- a path, and a group of the tokens that the list holds
-  pub data IsMetaList : MetaList X → Toks → Toks → Type 0 where
-    a_meta_list : {p : Path X} {e : MacroDelimiter} {d : Delimiter} {s : DelimSpan} {l c r : Toks} {tokens : TokenStream} →
+  pub data IsMetaList : MetaList → Toks → Toks → Type 0 where
+    a_meta_list : {p : ModPath} {e : MacroDelimiter} {d : Delimiter} {s : DelimSpan} {l c r : Toks} {tokens : TokenStream} →
         IsMetaPath p l (group d s c r) → Delimits e d s → c ≡ toks tokens → IsMetaList (list_of p (e, tokens)) l r
 
 -- What a supplied subtree spells in a place is told by the first relation. A value, and so a meta, spells all of a list.
@@ -56,11 +56,11 @@ module _ {X : Type 0} (spells : Place → X → Toks → Type 0) (clear : Bool) 
 
   -- a path, `=`, and a value
   pub data IsNameValue : MetaNameValue X → Toks → Type 0 where
-    a_name_value : {p : Path X} {q : Equals} {v : Expr X} {l m k : Toks} → IsMetaPath clear p l m → IsMark clear q m k → IsValue v k → IsNameValue (name_value_of p q v) l
+    a_name_value : {p : ModPath} {q : Equals} {v : Expr X} {l m k : Toks} → IsMetaPath clear p l m → IsMark clear q m k → IsValue v k → IsNameValue (name_value_of p q v) l
 
   pub data IsMeta : Meta X → Toks → Type 0 where
-    a_path : {p : Path X} {l : Toks} → IsMetaPath clear p l done → IsMeta (m.Path p) l
-    a_list : {x : MetaList X} {l : Toks} → IsMetaList clear x l done → IsMeta (m.List x) l
+    a_path : {p : ModPath} {l : Toks} → IsMetaPath clear p l done → IsMeta (m.Path p) l
+    a_list : {x : MetaList} {l : Toks} → IsMetaList clear x l done → IsMeta (m.List x) l
     a_value : {x : MetaNameValue X} {l : Toks} → IsNameValue x l → IsMeta (m.NameValue x) l
 
   -- `#`, and a meta in brackets
@@ -73,7 +73,7 @@ module _ {X : Type 0} (spells : Place → X → Toks → Type 0) (clear : Bool) 
         IsInner (attribute_of p (y.Inner b) (groups.bracket s) x) l r
 
 -- all of a list
-abbrev pub SpellsMetaList : {X : Type 0} → Bool → MetaList X → Toks → Type 0
+abbrev pub SpellsMetaList : Bool → MetaList → Toks → Type 0
 SpellsMetaList clear x l = IsMetaList clear x l done
 
 abbrev pub SpellOuter : {X : Type 0} → (Place → X → Toks → Type 0) → Bool → List (Attribute X) → Toks → Type 0

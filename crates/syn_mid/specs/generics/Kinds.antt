@@ -7,28 +7,25 @@ use Rattle.syn_mid.specs.declared.generics.TypeParams.{TypeParams}
 use Rattle.syn_mid.specs.declared.generics.TypeParamsMut.{TypeParamsMut}
 use Rattle.syn_mid.specs.declared.generics.ConstParams.{ConstParams}
 use Rattle.syn_mid.specs.declared.generics.ConstParamsMut.{ConstParamsMut}
-use Rattle.syn_mid.specs.declared.generics.LifetimeParam.{LifetimeParam}
-use Rattle.syn_mid.specs.declared.generics.TypeParam.{TypeParam}
-use Rattle.syn_mid.specs.declared.generics.TypeParamBound.{TypeParamBound}
-use Rattle.syn_mid.specs.declared.generics.ConstParamOf.{ConstParamOf}
-use Rattle.syn_mid.specs.declared.ty.Type.{«Type» as TypeTree}
 use Rattle.syn_mid.specs.generics.Params.{only, as_lifetime, as_type, as_const}
+use Rattle.syn_mid.specs.ty.Trees.{TypeParam, ConstParam}
+use Rattle.syn_mid.specs.declared.generics.LifetimeParamOf.{LifetimeParamOf}
 
-module _ {X : Type 0} where
-  abbrev pub lifetimes_left : Lifetimes X → List (LifetimeParam X)
+module _ {A E : Type 0} where
+  abbrev pub lifetimes_left : Lifetimes A E → List (LifetimeParamOf A)
   lifetimes_left s = only as_lifetime s.params
 
-  abbrev pub lifetimes_mut_left : LifetimesMut X → List (LifetimeParam X)
+  abbrev pub lifetimes_mut_left : LifetimesMut A E → List (LifetimeParamOf A)
   lifetimes_mut_left s = only as_lifetime (values_left s.params)
 
-  abbrev pub type_params_left : TypeParams X → List (TypeParam X)
+  abbrev pub type_params_left : TypeParams A E → List (TypeParam A E)
   type_params_left s = only as_type s.params
 
-  abbrev pub type_params_mut_left : TypeParamsMut X → List (TypeParam X)
+  abbrev pub type_params_mut_left : TypeParamsMut A E → List (TypeParam A E)
   type_params_mut_left s = only as_type (values_left s.params)
 
-  abbrev pub const_params_left : ConstParams X → List (ConstParamOf (TypeTree X) X)
+  abbrev pub const_params_left : ConstParams A E → List (ConstParam A E)
   const_params_left s = only as_const s.params
 
-  abbrev pub const_params_mut_left : ConstParamsMut X → List (ConstParamOf (TypeTree X) X)
+  abbrev pub const_params_mut_left : ConstParamsMut A E → List (ConstParam A E)
   const_params_mut_left s = only as_const (values_left s.params)

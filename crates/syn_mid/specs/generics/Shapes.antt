@@ -11,25 +11,25 @@ use Rattle.token_core.specs.Prints as p
 use Rattle.token_core.specs.Prints.{Print}
 use Rattle.token_core.specs.Spans.{none, delim_span}
 use Rattle.token_core.specs.Trees.{trees, stream_of_trees}
-use Rattle.syn_mid.specs.Supplied.{Place, Block}
-use Rattle.syn_mid.specs.declared.attr.AttributeOf.{AttributeOf}
+use Rattle.syn_mid.specs.Supplied.{Place, Block, ArrayLen}
 use Rattle.syn_mid.specs.declared.attr.Meta.{Meta}
 use Rattle.syn_mid.specs.declared.attr.Meta.TheOpen as o
 use Rattle.syn_mid.specs.declared.attr.MetaNameValue.{MetaNameValue}
 use Rattle.syn_mid.specs.declared.supplied.Expr.{Expr, out-Expr}
 use Rattle.syn_mid.specs.declared.supplied.ExprPathOf.{ExprPathOf}
 use Rattle.syn_mid.specs.declared.supplied.ExprRange.{ExprRange}
-use Rattle.syn_mid.specs.declared.generics.LifetimeParam.{LifetimeParam}
 use Rattle.syn_mid.specs.declared.generics.ConstParamOf.{ConstParamOf}
 use Rattle.token_core.specs.declared.tree.Ident.{Ident}
 use Rattle.syn_mid.specs.declared.generics.BoundLifetimesOf.{BoundLifetimesOf}
-use Rattle.syn_mid.specs.declared.generics.TraitBoundOf.{TraitBoundOf}
+use Rattle.syn_mid.specs.declared.path.PathOf.{PathOf}
+use Rattle.syn_mid.specs.ty.Trees.{Attr}
+use Rattle.syn_mid.specs.declared.generics.LifetimeParamOf.{LifetimeParamOf}
 use Rattle.syn_mid.specs.declared.generics.PreciseCapture.{PreciseCapture}
 use Rattle.syn_mid.specs.declared.generics.CapturedParam.{CapturedParam}
 use Rattle.syn_mid.specs.declared.generics.CapturedParam.TheVariants as c
 use Rattle.syn_mid.specs.attr.Printing.{meta, value, outer_by, at_place}
-use Rattle.syn_mid.specs.path.Paths.{lone_ident}
-use Rattle.syn_mid.specs.path.Printing.{path, as_written}
+use Rattle.syn_mid.specs.path.Paths.{ModPath, lone_ident}
+use Rattle.syn_mid.specs.path.Shapes.{path_by}
 use Rattle.syn_mid.specs.generics.Members.{sorted}
 
 abbrev pub Plus : Type 0
@@ -92,9 +92,9 @@ abbrev pub binder_params : {G : Type 0} → Option (BoundLifetimesOf G) → Many
 binder_params None = ([], [])
 binder_params (Some x) = x.lifetimes
 
--- a bound without its binder
-abbrev pub named_trait : {G X : Type 0} → TraitBoundOf G X → Print
-named_trait x = optional x.maybe ++ path as_written x.path
+-- a bound without its binder, by the print of the arguments of its path
+abbrev pub named_trait_by : {A : Type 0} → (A → Print) → Option (Mark 22 1) → PathOf A → Print
+named_trait_by arguments q p = optional q ++ path_by arguments p
 
 -- ---- by the print of the parameters of a binder, and of bounds
 
@@ -111,11 +111,11 @@ module _ {G : Type 0} (param : G → Print) where
   binder_joined x = joined param p.mark (binder_params x).0 (binder_params x).1
 
   -- without its parentheses
-  abbrev pub bare_trait_by : {X : Type 0} → TraitBoundOf G X → Print
-  bare_trait_by x = binder_by x.lifetimes ++ named_trait x
+  abbrev pub bare_trait_by : {A : Type 0} → (A → Print) → Option (BoundLifetimesOf G) → Option (Mark 22 1) → PathOf A → Print
+  bare_trait_by arguments l q p = binder_by l ++ named_trait_by arguments q p
 
-  abbrev pub trait_bound_by : {X : Type 0} → TraitBoundOf G X → Print
-  trait_bound_by x = in_parens x.paren_token (bare_trait_by x)
+  abbrev pub trait_bound_by : {A : Type 0} → (A → Print) → Option Paren → Option (BoundLifetimesOf G) → Option (Mark 22 1) → PathOf A → Print
+  trait_bound_by arguments t l q p = in_parens t (bare_trait_by arguments l q p)
 
 -- ---- const arguments
 
@@ -124,8 +124,8 @@ is_empty [] = true
 is_empty (x ∷ all) = false
 
 -- a path without attributes that is one identifier
-abbrev pub is_word : {A X : Type 0} → ExprPathOf A X → Bool
-is_word x = is_empty x.attrs && is_some (lone_ident x.path)
+abbrev pub is_word : {A : Type 0} → ExprPathOf A ModPath → Bool
+is_word x = is_empty x.attrs && is_some (lone_ident (λ a. true) x.path)
 
 abbrev pub alone_layer : {X : Type 0} → o.Expr-F X (Meta X) (Expr X) (MetaNameValue X) (ExprRange X) → Bool
 alone_layer (o.Lit x) = true
@@ -140,25 +140,35 @@ alone_layer (o.Other x) = false
 abbrev pub stands_alone : {X : Type 0} → Expr X → Bool
 stands_alone {X = X} x = alone_layer (out-Expr X x)
 
--- what a supplied subtree prints in a place is given
 module _ {X : Type 0} (prints : Place → X → Print) where
-  abbrev pub attrs : List (AttributeOf (Meta X)) → Print
-  attrs = outer_by (meta prints)
-
-  -- what stands between the braces of a const argument
-  abbrev pub in_braces : Expr X → Print
-  in_braces = at_place prints Block
+  -- the outer attributes of a list
+  abbrev pub outer : List (Attr X) → Print
+  outer = outer_by (meta prints)
 
   -- a const argument: as it is where it stands alone, else in braces
   abbrev pub const_argument : Expr X → Print
-  const_argument x = if stands_alone x then value prints x else p.group Brace (stream_of_trees (in_braces x)) (delim_span none none)
+  const_argument x = if stands_alone x then value prints x else p.group Brace (stream_of_trees (at_place prints Block x)) (delim_span none none)
 
-  abbrev pub lifetime_param : LifetimeParam X → Print
-  lifetime_param x = attrs x.attrs ++ (lifetimes.print x.lifetime ++ after_colon lifetimes.print x.colon_token x.bounds)
+-- ---- over what is printed of attributes and of the expressions in types
 
-  abbrev pub const_default : Option (Mark 11 1 × Expr X) → Print
-  const_default None = []
-  const_default (Some d) = p.mark d.0 ++ const_argument d.1
+-- what an expression prints as the length of an array, and as a const argument
+pub record Values (E : Type 0) : Type 0 where
+  pub len : E → Print
+  pub const_argument : E → Print
+
+abbrev pub lifetime_param_by : {A : Type 0} → (List A → Print) → LifetimeParamOf A → Print
+lifetime_param_by attrs x = attrs x.attrs ++ (lifetimes.print x.lifetime ++ after_colon lifetimes.print x.colon_token x.bounds)
+
+abbrev pub const_default_by : {E : Type 0} → Values E → Option (Mark 11 1 × E) → Print
+const_default_by values None = []
+const_default_by values (Some d) = p.mark d.0 ++ values.const_argument d.1
+
+module _ {A E : Type 0} (attrs : List A → Print) (values : Values E) where
+  abbrev pub lifetime_param : LifetimeParamOf A → Print
+  lifetime_param = lifetime_param_by attrs
+
+  abbrev pub const_default : Option (Mark 11 1 × E) → Print
+  const_default = const_default_by values
 
   -- ---- by the print of types, and of bounds
 
@@ -168,15 +178,19 @@ module _ {X : Type 0} (prints : Place → X → Print) where
     type_default_by (Some d) = p.mark d.0 ++ type d.1
 
     -- without its default
-    abbrev pub const_head_by : ConstParamOf T X → Print
+    abbrev pub const_head_by : ConstParamOf T A E → Print
     const_head_by x = attrs x.attrs ++ (p.word x.const_token ++ (p.ident x.ident ++ (p.mark x.colon_token ++ type x.ty)))
 
-    abbrev pub const_param_by : ConstParamOf T X → Print
+    abbrev pub const_param_by : ConstParamOf T A E → Print
     const_param_by x = attrs x.attrs ++ (p.word x.const_token ++ (p.ident x.ident ++ (p.mark x.colon_token ++ (type x.ty ++ const_default x.default))))
 
   -- a type parameter by its parts, without its default
-  abbrev pub type_head_by : {B : Type 0} → (B → Print) → List (AttributeOf (Meta X)) → Ident → Option (Mark 7 1) → Many B Plus → Print
+  abbrev pub type_head_by : {B : Type 0} → (B → Print) → List A → Ident → Option (Mark 7 1) → Many B Plus → Print
   type_head_by bound a i c b = attrs a ++ (p.ident i ++ after_colon bound c b)
 
-  abbrev pub type_param_by : {B T : Type 0} → (B → Print) → (T → Print) → List (AttributeOf (Meta X)) → Ident → Option (Mark 7 1) → Many B Plus → Option (Mark 11 1 × T) → Print
+  abbrev pub type_param_by : {B T : Type 0} → (B → Print) → (T → Print) → List A → Ident → Option (Mark 7 1) → Many B Plus → Option (Mark 11 1 × T) → Print
   type_param_by bound type a i c b d = attrs a ++ (p.ident i ++ (after_colon bound c b ++ type_default_by type d))
+
+-- those of the expressions over a supplied subtree
+abbrev pub values_of : {X : Type 0} → (Place → X → Print) → Values (Expr X)
+values_of prints = record { len = at_place prints ArrayLen; const_argument = const_argument prints }

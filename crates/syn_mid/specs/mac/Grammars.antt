@@ -6,5 +6,5 @@ use Rattle.syn_mid.specs.mac.Reading as reading
 use Rattle.syn_mid.specs.mac.Printing as printing
 
 -- A macro call is its own normal form, and has no verbatim part.
-abbrev pub mac : {X : Type 0} → Grammar (Macro X)
+abbrev pub mac : Grammar Macro
 mac = record { spells = SpellsMacro; normal = λ m. m; print = printing.mac; plain = λ m. Unit {0}; reader = reading.mac }

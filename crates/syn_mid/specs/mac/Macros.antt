@@ -7,10 +7,10 @@ use Rattle.token_core.specs.declared.tree.Delimiter.TheVariants.{Parenthesis, Br
 use Rattle.token_core.specs.declared.tree.TokenStream.{TokenStream}
 use Rattle.token_core.specs.Stream.{Stream, started}
 use Rattle.token_core.specs.Trees.{toks}
-use Rattle.syn_mid.specs.declared.path.Path.{Path}
 use Rattle.syn_mid.specs.declared.mac.Macro.{Macro}
 use Rattle.syn_mid.specs.declared.mac.MacroDelimiter.{MacroDelimiter}
 use Rattle.syn_mid.specs.declared.mac.MacroDelimiter.TheVariants as m
+use Rattle.syn_mid.specs.path.Paths.{ModPath}
 
 abbrev pub Bang : Type 0
 Bang = Mark 0 1
@@ -33,7 +33,7 @@ delimiter_of (m.Bracket t) = Bracket
 abbrev pub Held : Type 0
 Held = MacroDelimiter × TokenStream
 
-abbrev pub macro_of : {X : Type 0} → Path X → Bang → Held → Macro X
+abbrev pub macro_of : ModPath → Bang → Held → Macro
 macro_of p b h = record { path = p; bang_token = b; delimiter = h.0; tokens = h.1 }
 
 -- the stream of a held list: refusals at its end point at the closing delimiter

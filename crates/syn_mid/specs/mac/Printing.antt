@@ -1,15 +1,14 @@
--- What macro calls print: their path without arguments, `!`, and the tokens that they hold, in their brackets.
+-- What macro calls print: their path, `!`, and the tokens that they hold, in their brackets.
 use Rattle.std.specs.Prelude.{◌++◌}
 use Rattle.token_core.specs.Prints as p
 use Rattle.token_core.specs.Prints.{Print}
 use Rattle.syn_mid.specs.declared.mac.Macro.{Macro}
-use Rattle.syn_mid.specs.declared.path.PathStyle.TheVariants.{Mod}
-use Rattle.syn_mid.specs.path.Printing.{path}
+use Rattle.syn_mid.specs.path.Shapes.{mod_path}
 use Rattle.syn_mid.specs.mac.Macros.{span_of, delimiter_of}
 
 -- the `!` and the body
-abbrev pub call : {X : Type 0} → Macro X → Print
+abbrev pub call : Macro → Print
 call x = p.mark x.bang_token ++ p.group (delimiter_of x.delimiter) x.tokens (span_of x.delimiter)
 
-abbrev pub mac : {X : Type 0} → Macro X → Print
-mac x = path Mod x.path ++ call x
+abbrev pub mac : Macro → Print
+mac x = mod_path x.path ++ call x

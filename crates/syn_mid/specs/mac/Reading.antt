@@ -7,10 +7,10 @@ use Rattle.token_core.specs.declared.tree.TokenStream.{TokenStream}
 use Rattle.token_core.specs.Groups as groups
 use Rattle.token_core.specs.Marks as marks
 use Rattle.token_core.specs.Reads.{Reader, ◌>>=◌, pure, refuse, delimited}
-use Rattle.syn_mid.specs.declared.path.Path.{Path}
 use Rattle.syn_mid.specs.declared.mac.Macro.{Macro}
 use Rattle.syn_mid.specs.declared.mac.MacroDelimiter.TheVariants as m
 use Rattle.syn_mid.specs.mac.Macros.{Bang, Held, macro_of}
+use Rattle.syn_mid.specs.path.Paths.{ModPath, nothing}
 use Rattle.syn_mid.specs.path.Reading.{mod_style}
 
 abbrev pub bang : Reader Bang
@@ -27,13 +27,12 @@ body = do
   b ← delimited
   held b.0 b.1 b.2
 
-module _ {X : Type 0} where
-  -- what follows the path of a call
-  unfoldable pub call_after : Path X → Reader (Macro X)
-  call_after p = do
-    b ← bang
-    h ← body
-    pure (macro_of p b h)
+-- what follows the path of a call
+unfoldable pub call_after : ModPath → Reader Macro
+call_after p = do
+  b ← bang
+  h ← body
+  pure (macro_of p b h)
 
-  unfoldable pub mac : Reader (Macro X)
-  mac = mod_style >>= call_after
+unfoldable pub mac : Reader Macro
+mac = mod_style nothing >>= call_after

@@ -10,10 +10,10 @@ use Rattle.token_core.specs.Toks.{Bytes, Toks, done, mark, group}
 use Rattle.token_core.specs.Trees.{punct, toks}
 use Rattle.token_core.specs.Groups as groups
 use Rattle.token_core.specs.Clear.{Apart}
-use Rattle.syn_mid.specs.declared.path.Path.{Path}
 use Rattle.syn_mid.specs.declared.mac.Macro.{Macro}
 use Rattle.syn_mid.specs.declared.mac.MacroDelimiter.{MacroDelimiter}
 use Rattle.syn_mid.specs.declared.mac.MacroDelimiter.TheVariants as m
+use Rattle.syn_mid.specs.path.Paths.{ModPath, nothing}
 use Rattle.syn_mid.specs.path.Spelling.{is_mod_word, IsBarePath}
 use Rattle.syn_mid.specs.mac.Macros.{Bang, macro_of}
 
@@ -28,17 +28,17 @@ pub data Delimits : MacroDelimiter → Delimiter → DelimSpan → Type 0 where
   in_bracket : {s : DelimSpan} → Delimits (m.Bracket (groups.bracket s)) Bracket s
 
 module _ (clear : Bool) where
-  module _ (ok : Bytes → Bool) {X : Type 0} where
+  module _ (ok : Bytes → Bool) where
     -- A path whose words `ok` admits, `!`, and a group of the tokens that the call holds: the first tokens are that, and then the second.
-    pub data IsCall : Macro X → Toks → Toks → Type 0 where
-      a_macro : {p : Path X} {a : Span} {j : Spacing} {e : MacroDelimiter} {d : Delimiter} {s : DelimSpan} {c r l : Toks} {tokens : TokenStream} →
-          IsBarePath clear ok p l (mark (punct 33 j a) (group d s c r)) → Apart clear (33 ∷ []) j (group d s c r) → Delimits e d s → c ≡ toks tokens →
+    pub data IsCall : Macro → Toks → Toks → Type 0 where
+      a_macro : {p : ModPath} {a : Span} {j : Spacing} {e : MacroDelimiter} {d : Delimiter} {s : DelimSpan} {c r l : Toks} {tokens : TokenStream} →
+          IsBarePath clear ok nothing p l (mark (punct 33 j a) (group d s c r)) → Apart clear (33 ∷ []) j (group d s c r) → Delimits e d s → c ≡ toks tokens →
           IsCall (macro_of p (bang_at a) (e, tokens)) l r
 
   -- by a path of mod style
-  abbrev pub IsMacro : {X : Type 0} → Macro X → Toks → Toks → Type 0
+  abbrev pub IsMacro : Macro → Toks → Toks → Type 0
   IsMacro = IsCall is_mod_word
 
 -- all of a list
-abbrev pub SpellsMacro : {X : Type 0} → Bool → Macro X → Toks → Type 0
+abbrev pub SpellsMacro : Bool → Macro → Toks → Type 0
 SpellsMacro clear x l = IsMacro clear x l done

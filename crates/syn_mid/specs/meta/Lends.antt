@@ -6,9 +6,9 @@ use Rattle.syn_mid.specs.declared.meta.PropertyOf.{PropertyOf}
 use Rattle.syn_mid.specs.contracts.meta.PropertyOf.{the_row}
 
 -- the property ends with what is left of that stream
-abbrev pub lends_input : (X S : RattleType) → MutBor (PropertyOf X.Denot S.Denot) → MutBor S.Denot → Fml
-lends_input X S s r = Lends (the_row X S) S s r (λ w. record s.now { input = w })
+abbrev pub lends_input : (S : RattleType) → MutBor (PropertyOf S.Denot) → MutBor S.Denot → Fml
+lends_input S s r = Lends (the_row S) S s r (λ w. record s.now { input = w })
 
 -- the same, and after a refusal it is as it was
-abbrev pub lends_value : (X S : RattleType) → MutBor (PropertyOf X.Denot S.Denot) → Result (MutBor S.Denot) Refusal → Fml
-lends_value X S s r = LendsIfOk (the_row X S) S s r (λ w. record s.now { input = w }) s.now
+abbrev pub lends_value : (S : RattleType) → MutBor (PropertyOf S.Denot) → Result (MutBor S.Denot) Refusal → Fml
+lends_value S s r = LendsIfOk (the_row S) S s r (λ w. record s.now { input = w }) s.now

@@ -11,13 +11,13 @@ use Rattle.token_core.specs.Reads.{Reader, Outcome, ◌<$>◌, Follows, WholeRea
 use Rattle.token_core.specs.declared.tree.Delimiter.TheVariants.{Parenthesis}
 use Rattle.token_core.specs.declared.token.Paren.{Paren}
 use Rattle.token_core.specs.Groups.{paren, paren_name, opened}
-use Rattle.syn_mid.specs.declared.path.Path.{Path}
 use Rattle.syn_mid.specs.declared.meta.PropertyOf.{PropertyOf}
+use Rattle.syn_mid.specs.path.Paths.{ModPath}
 use Rattle.syn_mid.specs.path.Reading as paths
 
 -- a property in a stream
-abbrev pub ParseNestedMeta : Type 0 → Type 0
-ParseNestedMeta X = PropertyOf X Stream
+abbrev pub ParseNestedMeta : Type 0
+ParseNestedMeta = PropertyOf Stream
 
 -- ---- a closure
 
@@ -25,23 +25,23 @@ abbrev pub Answer : Type 0
 Answer = Result (Unit {0}) Refusal
 
 -- from a state and a property it may answer this, leaving the property and itself so
-abbrev pub Step : Type 0 → Type 0 → Type 1
-Step X F = F → Global → MutBor (ParseNestedMeta X) → Answer → MutBor (ParseNestedMeta X) → F → Type 0
+abbrev pub Step : Type 0 → Type 1
+Step F = F → Global → MutBor ParseNestedMeta → Answer → MutBor ParseNestedMeta → F → Type 0
 
 -- what it may be called with
-abbrev pub Pre : Type 0 → Type 0 → Type 1
-Pre X F = F → Global → MutBor (ParseNestedMeta X) → Type 0
+abbrev pub Pre : Type 0 → Type 1
+Pre F = F → Global → MutBor ParseNestedMeta → Type 0
 
 -- it may be called in every state, and leaves the stream at a suffix of what it got, with the left-over token that it had
-pub record Careful {X F : Type 0} (pre : Pre X F) (step : Step X F) : Type 0 where
-  pub callable : (f : F) (alloc : Global) (meta : MutBor (ParseNestedMeta X)) → pre f alloc meta
-  pub follows : (f : F) (alloc : Global) (old : MutBor (ParseNestedMeta X)) (answer : Answer) (new : MutBor (ParseNestedMeta X)) (g : F) → step f alloc old answer new g → Follows old.now.input new.now.input
+pub record Careful {F : Type 0} (pre : Pre F) (step : Step F) : Type 0 where
+  pub callable : (f : F) (alloc : Global) (meta : MutBor ParseNestedMeta) → pre f alloc meta
+  pub follows : (f : F) (alloc : Global) (old : MutBor ParseNestedMeta) (answer : Answer) (new : MutBor ParseNestedMeta) (g : F) → step f alloc old answer new g → Follows old.now.input new.now.input
 
 -- a call at a property of this path, before this stream, which it leaves so
-pub record Called {X F : Type 0} (step : Step X F) (f : F) (p : Path X) (s : Stream) (answer : Answer) (t : Stream) (g : F) : Type 0 where
+pub record Called {F : Type 0} (step : Step F) (f : F) (p : ModPath) (s : Stream) (answer : Answer) (t : Stream) (g : F) : Type 0 where
   pub alloc : Global
-  pub before : MutBor (ParseNestedMeta X)
-  pub after : MutBor (ParseNestedMeta X)
+  pub before : MutBor ParseNestedMeta
+  pub after : MutBor ParseNestedMeta
   pub path : before.now.path ≡ p
   pub begins : before.now.input ≡ s
   pub ends : after.now.input ≡ t
@@ -60,8 +60,8 @@ abbrev pub comma : Reader Comma
 comma = marks.read 4 1
 
 -- a turn: a path at the front, and the call at it, which leaves the stream there
-pub record Turn {X F : Type 0} (step : Step X F) (f : F) (s : Stream) (answer : Answer) (t : Stream) (g : F) : Type 0 where
-  pub path : Path X
+pub record Turn {F : Type 0} (step : Step F) (f : F) (s : Stream) (answer : Answer) (t : Stream) (g : F) : Type 0 where
+  pub path : ModPath
   pub before : Stream
   pub after : Stream
   pub reads : paths.nested s ≡ Ok (path, before)
@@ -69,9 +69,9 @@ pub record Turn {X F : Type 0} (step : Step X F) (f : F) (s : Stream) (answer : 
   pub stands : t ≡ advanced before after
 
 -- The turns from a stream on: after one that answered Ok nothing is left, or a comma follows, and then nothing or the next turn. An error is the last.
-pub data Turns {X F : Type 0} (step : Step X F) : F → Stream → Answer → Stream → F → Type 0 where
+pub data Turns {F : Type 0} (step : Step F) : F → Stream → Answer → Stream → F → Type 0 where
   -- where a property should begin there is none
-  no_path : {f : F} {s t : Stream} {e : Refusal} → Refused (paths.nested {X = X} s) e → Turns step f s (Err e) t f
+  no_path : {f : F} {s t : Stream} {e : Refusal} → Refused (paths.nested s) e → Turns step f s (Err e) t f
   -- the call answers an error
   stopped : {f g : F} {s t : Stream} {e : Refusal} → Turn step f s (Err e) t g → Turns step f s (Err e) t g
   -- nothing is left after it
@@ -85,24 +85,24 @@ pub data Turns {X F : Type 0} (step : Step X F) : F → Stream → Answer → St
       Turns step g b r t h → Turns step f s r t h
 
 -- the calls lead the closure, one after the other, on from the state in which it was handed in
-abbrev pub Turned : {X F : Type 0} → Step X F → F → Stream → Answer → Stream → Type 0
-Turned {X = X} {F = F} step f s r t = (g : F) × Turns step f s r t g
+abbrev pub Turned : {F : Type 0} → Step F → F → Stream → Answer → Stream → Type 0
+Turned {F = F} step f s r t = (g : F) × Turns step f s r t g
 
 -- ---- lists of properties
 
 -- of which there may be none
-abbrev pub Properties : {X F : Type 0} → Step X F → F → Stream → Answer → Stream → Type 0
-Properties {X = X} {F = F} step f s r t = ((is_done s.rest ≡ true) × (r ≡ Ok tt) × (t ≡ s)) ⊎ ((is_done s.rest ≡ false) × Turned step f s r t)
+abbrev pub Properties : {F : Type 0} → Step F → F → Stream → Answer → Stream → Type 0
+Properties {F = F} step f s r t = ((is_done s.rest ≡ true) × (r ≡ Ok tt) × (t ≡ s)) ⊎ ((is_done s.rest ≡ false) × Turned step f s r t)
 
 -- a whole read of them
-abbrev pub ReadsProperties : {X F : Type 0} → Step X F → F → Stream → Answer → Type 0
+abbrev pub ReadsProperties : {F : Type 0} → Step F → F → Stream → Answer → Type 0
 ReadsProperties step f s r = WholeRead (λ old a new. Properties step f old (Ok a) new) (λ old e. (new : Stream) × Properties step f old (Err e) new) s r
 
 abbrev pub opening : Reader (Paren × Stream)
 opening = λ s. opened paren (open_group Parenthesis paren_name s)
 
 -- in parentheses, of which there is at least one: a child stream of its own, which is finished after the last
-pub data Descends {X F : Type 0} (step : Step X F) (f : F) : Stream → Answer → Stream → Type 0 where
+pub data Descends {F : Type 0} (step : Step F) (f : F) : Stream → Answer → Stream → Type 0 where
   no_parentheses : {s t : Stream} {e : Refusal} → Refused (opening s) e → Descends step f s (Err e) t
   refused_inside : {s a t : Stream} {c : Paren × Stream} {e : Refusal} → opening s ≡ Ok (c, a) → Turned step f c.1 (Err e) t → Descends step f s (Err e) a
   all_inside : {s a t : Stream} {c : Paren × Stream} → opening s ≡ Ok (c, a) → Turned step f c.1 (Ok tt) t → Descends step f s (Ok tt) (finished t a)

@@ -2,7 +2,6 @@
 use Rattle.std.specs.Prelude.{ℕ, Bool, false, if◌then◌else◌, List, [], ◌∷◌, ◌++◌, Option, Some, None}
 use Rattle.token_core.specs.declared.mark.Mark.{Mark}
 use Rattle.token_core.specs.declared.member.Member.{Member}
-use Rattle.token_core.specs.declared.word.Word.{Word}
 use Rattle.token_core.specs.declared.tree.Delimiter.TheVariants.{Parenthesis, Brace, Bracket}
 use Rattle.token_core.specs.Lists.{joined}
 use Rattle.token_core.specs.Loops.{Many}
@@ -11,8 +10,6 @@ use Rattle.token_core.specs.Prints as p
 use Rattle.token_core.specs.Prints.{Print}
 use Rattle.token_core.specs.Trees.{trees, stream_of_trees}
 use Rattle.syn_mid.specs.Supplied.{Place, Guard}
-use Rattle.syn_mid.specs.declared.attr.AttributeOf.{AttributeOf}
-use Rattle.syn_mid.specs.declared.attr.Meta.{Meta}
 use Rattle.syn_mid.specs.declared.supplied.Expr.{Expr}
 use Rattle.syn_mid.specs.declared.pat.FieldPatOf.{FieldPatOf}
 use Rattle.syn_mid.specs.declared.pat.PatOf.TheOpen as o
@@ -22,18 +19,19 @@ use Rattle.syn_mid.specs.declared.pat.PatIdentOf.{PatIdentOf}
 use Rattle.syn_mid.specs.declared.pat.PatOrOf.{PatOrOf}
 use Rattle.syn_mid.specs.declared.pat.PatParenOf.{PatParenOf}
 use Rattle.syn_mid.specs.declared.pat.PatReferenceOf.{PatReferenceOf}
-use Rattle.syn_mid.specs.declared.pat.PatRest.{PatRest}
 use Rattle.syn_mid.specs.declared.pat.PatSliceOf.{PatSliceOf}
 use Rattle.syn_mid.specs.declared.pat.PatStructOf.{PatStructOf}
 use Rattle.syn_mid.specs.declared.pat.PatTupleOf.{PatTupleOf}
 use Rattle.syn_mid.specs.declared.pat.PatTupleStructOf.{PatTupleStructOf}
 use Rattle.syn_mid.specs.declared.pat.PatTypeOf.{PatTypeOf}
 use Rattle.syn_mid.specs.declared.pat.PatWild.{PatWild}
-use Rattle.syn_mid.specs.attr.Printing.{literal, expr_const, expr_macro, expr_path, range, outer, at_place}
-use Rattle.syn_mid.specs.generics.Shapes.{optional}
-use Rattle.syn_mid.specs.pat.Pats.{Pat, Attr, Qual, is_rest, is_rest_layer}
-use Rattle.syn_mid.specs.path.Printing.{expr_style}
+use Rattle.syn_mid.specs.attr.Printing.{literal, expr_const, expr_macro, range, outer, at_place}
+use Rattle.syn_mid.specs.generics.Shapes.{optional, values_of}
+use Rattle.syn_mid.specs.pat.Pats.{Attrs, LayerOf, Pat, PatGuard, PatIdent, PatOr, PatParen, PatPath, PatReference, PatRest, PatSlice, PatStruct, PatTuple, PatTupleStruct, PatType, FieldPat, is_rest, is_rest_layer}
+use Rattle.syn_mid.specs.path.Printing.{path}
+use Rattle.syn_mid.specs.path.Shapes.{expr_style}
 use Rattle.syn_mid.specs.ty.Printing as ty
+use Rattle.syn_mid.specs.ty.Trees.{Attr, Path, QSelf, TypeTree}
 use Rattle.syn_mid.specs.ty.Types.{Comma, comma}
 
 -- whether the first of them is so
@@ -51,7 +49,7 @@ tuple_comma rest all cs = comma_unless (begins rest all) all cs
 
 -- what a supplied subtree prints in a place is given
 module _ {X : Type 0} (prints : Place → X → Print) where
-  abbrev pub attrs : List (AttributeOf (Meta X)) → Print
+  abbrev pub attrs : Attrs X → Print
   attrs = outer prints
 
   abbrev pub guard : Expr X → Print
@@ -63,6 +61,10 @@ module _ {X : Type 0} (prints : Place → X → Print) where
   abbrev pub wild : PatWild X → Print
   wild x = attrs x.attrs ++ p.word x.underscore_token
 
+  -- by its path
+  abbrev pub by_path : PatPath X → Print
+  by_path x = attrs x.attrs ++ ty.qpath (outer prints) (values_of prints) expr_style x.qself x.path
+
   -- the `..` of a struct's pattern
   abbrev pub optional_rest : Option (PatRest X) → Print
   optional_rest None = []
@@ -73,7 +75,7 @@ module _ {X : Type 0} (prints : Place → X → Print) where
   rest_comma None v = []
   rest_comma (Some x) v = ty.last_comma comma v.0 v.1
 
-  abbrev pub struct_rest : {P Q : Type 0} → PatStructOf P (Attr X) Q X → Print
+  abbrev pub struct_rest : {P R Q : Type 0} → PatStructOf P (Attr X) R Q → Print
   struct_rest x = rest_comma x.rest x.fields ++ optional_rest x.rest
 
   -- a binding before its `@`
@@ -125,18 +127,18 @@ module _ {X : Type 0} (prints : Place → X → Print) where
     abbrev pub fields_by : Many (FieldPatOf P (Attr X)) Comma → Print
     fields_by v = joined field_by p.mark v.0 v.1
 
-    abbrev pub struct_by : PatStructOf P (Attr X) (Qual X) X → Print
-    struct_by x = attrs x.attrs ++ (ty.qpath prints expr_style x.qself x.path ++ p.group Brace (stream_of_trees (fields_by x.fields ++ struct_rest x)) x.brace_token.span)
+    abbrev pub struct_by : PatStructOf P (Attr X) (Path (Attr X) (Expr X)) (QSelf (Attr X) (Expr X)) → Print
+    struct_by x = attrs x.attrs ++ (ty.qpath (outer prints) (values_of prints) expr_style x.qself x.path ++ p.group Brace (stream_of_trees (fields_by x.fields ++ struct_rest x)) x.brace_token.span)
 
     -- it is given which patterns are `..`
     abbrev pub tuple_by : (P → Bool) → PatTupleOf P (Attr X) → Print
     tuple_by rest x = attrs x.attrs ++ p.group Parenthesis (stream_of_trees (list_by x.elems ++ tuple_comma rest x.elems.0 x.elems.1)) x.paren_token.span
 
-    abbrev pub tuple_struct_by : PatTupleStructOf P (Attr X) (Qual X) X → Print
-    tuple_struct_by x = attrs x.attrs ++ (ty.qpath prints expr_style x.qself x.path ++ p.group Parenthesis (stream_of_trees (list_by x.elems)) x.paren_token.span)
+    abbrev pub tuple_struct_by : PatTupleStructOf P (Attr X) (Path (Attr X) (Expr X)) (QSelf (Attr X) (Expr X)) → Print
+    tuple_struct_by x = attrs x.attrs ++ (ty.qpath (outer prints) (values_of prints) expr_style x.qself x.path ++ p.group Parenthesis (stream_of_trees (list_by x.elems)) x.paren_token.span)
 
-    abbrev pub typed_by : PatTypeOf P (Attr X) X → Print
-    typed_by x = attrs x.attrs ++ (print x.pat ++ (p.mark x.colon_token ++ ty.ty prints x.ty))
+    abbrev pub typed_by : PatTypeOf P (Attr X) (TypeTree (Attr X) (Expr X)) → Print
+    typed_by x = attrs x.attrs ++ (print x.pat ++ (p.mark x.colon_token ++ ty.ty (outer prints) (values_of prints) x.ty))
 
   -- ---- trees
 
@@ -150,7 +152,7 @@ module _ {X : Type 0} (prints : Place → X → Print) where
   abbrev pub rest_of : Printed → Bool
   rest_of z = z.1
 
-  abbrev pub pat_layer : o.PatOf-F (Attr X) (Qual X) X Printed → Print
+  abbrev pub pat_layer : LayerOf X Printed → Print
   pat_layer (o.Const x) = expr_const prints x
   pat_layer (o.Guard x) = guarded_by print_of x
   pat_layer (o.Ident x) = binding_by print_of x
@@ -158,7 +160,7 @@ module _ {X : Type 0} (prints : Place → X → Print) where
   pat_layer (o.Macro x) = expr_macro prints x
   pat_layer (o.Or x) = alternatives_by print_of x
   pat_layer (o.Paren x) = paren_by print_of x
-  pat_layer (o.Path x) = expr_path prints x
+  pat_layer (o.Path x) = by_path x
   pat_layer (o.Range x) = range prints x
   pat_layer (o.Reference x) = reference_by print_of x
   pat_layer (o.Rest x) = rest x
@@ -170,50 +172,50 @@ module _ {X : Type 0} (prints : Place → X → Print) where
   pat_layer (o.Verbatim x) = trees x
   pat_layer (o.Wild x) = wild x
 
-  abbrev pub pat_step : o.PatOf-F (Attr X) (Qual X) X Printed → Printed
+  abbrev pub pat_step : LayerOf X Printed → Printed
   pat_step x = (pat_layer x, is_rest_layer x)
 
   unfoldable pub printed : Pat X → Printed
-  printed = fold-PatOf (Attr X) (Qual X) X Printed pat_step
+  printed = fold-PatOf (Attr X) (Path (Attr X) (Expr X)) (QSelf (Attr X) (Expr X)) (TypeTree (Attr X) (Expr X)) X Printed pat_step
 
   unfoldable pub pat : Pat X → Print
   pat x = (printed x).0
 
-  abbrev pub guarded : PatGuardOf (Pat X) (Attr X) X → Print
+  abbrev pub guarded : PatGuard X → Print
   guarded = guarded_by pat
 
-  abbrev pub binding : PatIdentOf (Pat X) (Attr X) → Print
+  abbrev pub binding : PatIdent X → Print
   binding = binding_by pat
 
   abbrev pub list : {n : ℕ} → Many (Pat X) (Mark n 1) → Print
   list = list_by pat
 
-  abbrev pub alternatives : PatOrOf (Pat X) (Attr X) → Print
+  abbrev pub alternatives : PatOr X → Print
   alternatives = alternatives_by pat
 
-  abbrev pub paren : PatParenOf (Pat X) (Attr X) → Print
+  abbrev pub paren : PatParen X → Print
   paren = paren_by pat
 
-  abbrev pub reference : PatReferenceOf (Pat X) (Attr X) → Print
+  abbrev pub reference : PatReference X → Print
   reference = reference_by pat
 
-  abbrev pub slice : PatSliceOf (Pat X) (Attr X) → Print
+  abbrev pub slice : PatSlice X → Print
   slice = slice_by pat
 
-  abbrev pub field : FieldPatOf (Pat X) (Attr X) → Print
+  abbrev pub field : FieldPat X → Print
   field = field_by pat
 
-  abbrev pub fields : Many (FieldPatOf (Pat X) (Attr X)) Comma → Print
+  abbrev pub fields : Many (FieldPat X) Comma → Print
   fields = fields_by pat
 
-  abbrev pub fielded : PatStructOf (Pat X) (Attr X) (Qual X) X → Print
+  abbrev pub fielded : PatStruct X → Print
   fielded = struct_by pat
 
-  abbrev pub tuple : PatTupleOf (Pat X) (Attr X) → Print
+  abbrev pub tuple : PatTuple X → Print
   tuple = tuple_by pat is_rest
 
-  abbrev pub tuple_struct : PatTupleStructOf (Pat X) (Attr X) (Qual X) X → Print
+  abbrev pub tuple_struct : PatTupleStruct X → Print
   tuple_struct = tuple_struct_by pat
 
-  abbrev pub typed : PatTypeOf (Pat X) (Attr X) X → Print
+  abbrev pub typed : PatType X → Print
   typed = typed_by pat

@@ -9,11 +9,11 @@ use Rattle.token_core.specs.Reads.{Reader, ◌>>=◌, ◌<$>◌, pure, peek, ref
 use Rattle.token_core.specs.Marks as marks
 use Rattle.token_core.specs.Lits.{sees_lit}
 use Rattle.token_core.specs.Loops.{Many, joined}
-use Rattle.syn_mid.specs.declared.path.Path.{Path}
-use Rattle.syn_mid.specs.declared.path.PathSegment.{PathSegment}
+use Rattle.syn_mid.specs.declared.path.PathOf.{PathOf}
+use Rattle.syn_mid.specs.declared.path.PathSegmentOf.{PathSegmentOf}
 use Rattle.syn_mid.specs.declared.path.SegmentStyle.{SegmentStyle}
 use Rattle.syn_mid.specs.declared.path.SegmentStyle.TheVariants.{Mod, Nested, Plain}
-use Rattle.syn_mid.specs.path.Paths.{Sep, segment_of, path_of}
+use Rattle.syn_mid.specs.path.Paths.{Sep, ModPath, nothing, segment_of, path_of}
 use Rattle.syn_mid.specs.path.Spelling.{is_mod_word, is_type_word}
 
 -- `::`
@@ -64,32 +64,34 @@ goes_on Plain l = sees_sep l && not (third (sees_group Parenthesis) l)
 abbrev pub sees_angle : Toks → Bool
 sees_angle l = sees_mark (marks.chars_of 2) l && (not (sees_mark (marks.chars_of 14) l) && not (sees_mark (marks.chars_of 25) l))
 
-module _ {X : Type 0} where
+-- what stands for no arguments is given
+module _ {A : Type 0} (none : A) where
   -- a segment without arguments
-  unfoldable pub bare_segment : SegmentStyle → Bool → Reader (PathSegment X)
+  unfoldable pub bare_segment : SegmentStyle → Bool → Reader (PathSegmentOf A)
   bare_segment style first = do
     here ← peek (begins style)
-    if here then segment_of <$> read_word any_text ident_name else (λ s. Err (no_segment style first s))
+    if here then segment_of none <$> read_word any_text ident_name else (λ s. Err (no_segment style first s))
 
-  unfoldable pub bare_segments : SegmentStyle → Bool → Reader (Many (PathSegment X) Sep)
+  unfoldable pub bare_segments : SegmentStyle → Bool → Reader (Many (PathSegmentOf A) Sep)
   bare_segments style first = joined (bare_segment style) (goes_on style) sep first
 
-  unfoldable pub bare_path : SegmentStyle → Reader (Path X)
+  unfoldable pub bare_path : SegmentStyle → Reader (PathOf A)
   bare_path style = do
     colon ← leading
     all ← bare_segments style true
     pure (path_of colon all)
 
-  -- a path of mod style, and that of a nested property
-  abbrev pub mod_style : Reader (Path X)
+  -- a path of mod style
+  abbrev pub mod_style : Reader (PathOf A)
   mod_style = bare_path Mod
 
-  abbrev pub nested : Reader (Path X)
-  nested = bare_path Nested
-
   -- a plain path; angle arguments are not read yet
-  unfoldable pub plain_path : Reader (Path X)
+  unfoldable pub plain_path : Reader (PathOf A)
   plain_path = do
     path ← bare_path Plain
     angle ← peek sees_angle
     if angle then refuse Unexpected else pure path
+
+-- that of a nested property
+abbrev pub nested : Reader ModPath
+nested = bare_path nothing Nested

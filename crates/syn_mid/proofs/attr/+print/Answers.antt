@@ -9,11 +9,11 @@ use Rattle.syn_mid.proofs.attr.+print.Goals as goal
 
 pub print_name_value-returns-clause-ok : goal.print_name_value-returns-clause-ok
 print_name_value-returns-clause-ok g m c =
-    on_ok_weaker c.print_value.result (λ h. put_name_value g.X.Subtree.prints c.args.meta.now _ _ _ _ c.in_ok-print_path.ensures.ok c.in_ok-to_tokens.ensures.ok h) c.print_value.ensures.ok
+    on_ok_weaker c.print_value.result (λ h. put_name_value g.X.Subtree.prints c.args.meta.now _ _ _ _ c.in_ok-print_mod_path.ensures.ok c.in_ok-to_tokens.ensures.ok h) c.print_value.ensures.ok
 
 pub print_name_value-returns-clause-err : goal.print_name_value-returns-clause-err
 print_name_value-returns-clause-err g m c =
-    on_err_weaker c.print_value.result (λ h. extends_on _ _ _ _ c.in_ok-print_path.ensures.ok (extends_on _ _ _ _ c.in_ok-to_tokens.ensures.ok h)) c.print_value.ensures.err
+    on_err_weaker c.print_value.result (λ h. extends_on _ _ _ _ c.in_ok-print_mod_path.ensures.ok (extends_on _ _ _ _ c.in_ok-to_tokens.ensures.ok h)) c.print_value.ensures.err
 
 pub print_value-returns-in_ok-print_outer-in-Lit-clause-ok : goal.print_value-returns-in_ok-print_outer-in-Lit-clause-ok
 print_value-returns-in_ok-print_outer-in-Lit-clause-ok g t c =
@@ -24,8 +24,8 @@ print_value-returns-in_ok-print_outer-in-Lit-clause-ok g t c =
 pub print_value-returns-in_ok-print_outer-in-Path-clause-ok : goal.print_value-returns-in_ok-print_outer-in-Path-clause-ok
 print_value-returns-in_ok-print_outer-in-Path-clause-ok g t c =
     let px = g.X.Subtree.prints in
-    on_ok_weaker c.print_path.result
-    (λ h. put_node px c.args.value.now _ _ _ _ _ (ap (value px) c.in-Path.is ∙ prints_expr_path px c.in-Path.expr) c.in_ok-print_outer-in-Path.ensures.ok h) c.print_path.ensures.ok
+    on_ok_weaker c.print_mod_path.result
+    (λ h. put_node px c.args.value.now _ _ _ _ _ (ap (value px) c.in-Path.is ∙ prints_expr_path px c.in-Path.expr) c.in_ok-print_outer-in-Path.ensures.ok h) c.print_mod_path.ensures.ok
 
 pub print_value-returns-in_ok-print_outer-in-Const-clause-ok : goal.print_value-returns-in_ok-print_outer-in-Const-clause-ok
 print_value-returns-in_ok-print_outer-in-Const-clause-ok g t c =

@@ -7,7 +7,7 @@ use Rattle.syn_mid.proofs.generics.print_kind.Given as goal
 
 abbrev pub invariant-loop-pair : goal.invariant-loop-pair
 invariant-loop-pair g l = record {
-  told : trees l.out ++ each (g.M.Member.shown l.style) (those g.M.Member.first l.lifetimes (pairs_of (drop l.pair-index l.pairs) (option_map (λ x. x.now) l.last)))
-      ≡ trees l.initial.out ++ each (g.M.Member.shown l.style) (those g.M.Member.first l.lifetimes (pairs_of l.pairs (option_map (λ x. x.now) l.last)));
+  told : trees l.out ++ each (g.M.Styled.shown l.style) (those g.M.Member.first l.lifetimes (pairs_of (drop l.pair-index l.pairs) (option_map (λ x. x.now) l.last)))
+      ≡ trees l.initial.out ++ each (g.M.Styled.shown l.style) (those g.M.Member.first l.lifetimes (pairs_of l.pairs (option_map (λ x. x.now) l.last)));
   kept : Extends (trees l.initial.out) (trees l.out);
 }

@@ -12,5 +12,5 @@ returns-in_err-semi_token-clause-reads g c =
     let was : c.parse_length.result ≡ Err e = first_of (search rules, grind (arith, common_steps)) in
     let back : c.from_residual-in_err-semi_token.result ≡ Err e = first_of (search rules, grind (arith, common_steps)) in
     refused_by _ _ _ _ _ _ e was back c.parse_length.ensures.reads
-    (λ h. counted_refused g.X.Subtree.reads (types g.X.Subtree.reads (length c.args.begin.now)) groups.bracket c.args.input.now c.open_brackets.new.input c.parse_nested.new.input
+    (λ h. counted_refused g.E.Value.reads (types g.E.Value.reads (length c.args.begin.now)) groups.bracket c.args.input.now c.open_brackets.new.input c.parse_held.new.input
     (c.in_ok-bracket_token.bracket_token, c.in_ok-bracket_token.content) c.in_ok-elem.elem e c.in_ok-bracket_token.ensures.reads c.in_ok-elem.ensures.reads h)

@@ -3,4 +3,4 @@ use Rattle.token_core.proofs.Puts.{extends_on}
 use Rattle.syn_mid.proofs.mac.print_macro.Goals as goal
 
 pub returns-clause-err : goal.returns-clause-err
-returns-clause-err g c = on_err_weaker c.print_call.result (extends_on _ _ _ _ c.in_ok-print_path.ensures.ok) c.print_call.ensures.err
+returns-clause-err c = on_err_weaker c.print_call.result (extends_on _ _ _ _ c.in_ok-print_mod_path.ensures.ok) c.print_call.ensures.err

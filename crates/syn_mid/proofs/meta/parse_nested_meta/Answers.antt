@@ -1,7 +1,7 @@
 use Rattle.std.proofs.Common.{◌≡◌, true, false, Ok, Err, refl, sym, subst, rules, arith}
 use Rattle.std.proofs.lemmas.Grind.{common_steps}
 use Rattle.token_core.specs.Reads.{is_done}
-use Rattle.token_core.proofs.Suffixes.{follows}
+use Rattle.token_core.proofs.Suffixes.{follows, follows_trans}
 use Rattle.syn_mid.specs.meta.Turns.{Turn, no_path, stopped, last, no_comma, last_comma, next}
 use Rattle.token_core.proofs.Turns.{size_suffix}
 use Rattle.syn_mid.proofs.path_laws.Turns.{path_takes}
@@ -22,6 +22,9 @@ returns-in_err-answer-clause-turns g c =
     let one : Turn (goal.F-step g) c.turn.logic c.turn.input c.logic-answer.result c.advance_to.new.self c.logic-answer.new.self =
     turn _ _ _ c.in_ok-path.ensures.reads refl c.fork.ensures (sym c.into_input.ensures) c.advance_to.ensures.advanced c.logic-answer.ensures in
     rw (back) (c.turn.invariant.told (Err e) c.advance_to.new.self (c.logic-answer.new.self, stopped (subst (λ r. Turn (goal.F-step g) c.turn.logic c.turn.input r c.advance_to.new.self c.logic-answer.new.self) was one)))
+
+pub returns-in_err-answer-clause-within : goal.returns-in_err-answer-clause-within
+returns-in_err-answer-clause-within g c = follows_trans _ _ _ (follows_trans _ _ _ c.turn.invariant.within c.parse_bare_path.ensures.within) c.advance_to.ensures.within
 
 pub returns-then-is_empty-clause-turns : goal.returns-then-is_empty-clause-turns
 returns-then-is_empty-clause-turns g c =
@@ -72,7 +75,7 @@ turn-preserved g c =
 
 pub turn-smaller : goal.turn-smaller
 turn-smaller g c =
-    let a = path_takes _ c.turn.input c.parse_bare_path.new.input c.in_ok-path.path c.in_ok-path.ensures.reads in
+    let a = path_takes _ _ c.turn.input c.parse_bare_path.new.input c.in_ok-path.path c.in_ok-path.ensures.reads in
     let b = size_suffix c.advance_to.ensures.within.suffix in
     let d = size_suffix c.parse.ensures.within.suffix in
     omega (arith, a, b, d)

@@ -4,7 +4,7 @@ use Rattle.syn_mid.proofs.attr_laws.Laws.{list_lawful, list_front}
 use Rattle.syn_mid.proofs.attr.MetaListParse.parse.Goals as goal
 
 pub returns-clause-promise : goal.returns-clause-promise
-returns-clause-promise g c = heads grammars.list list_lawful _ _ _ c.parse_meta_list.ensures.reads
+returns-clause-promise c = heads grammars.list list_lawful _ _ _ c.parse_meta_list.ensures.reads
 
 pub returns-clause-front : goal.returns-clause-front
-returns-clause-front g c = list_front _ _ _ c.parse_meta_list.ensures.reads
+returns-clause-front c = list_front _ _ _ c.parse_meta_list.ensures.reads

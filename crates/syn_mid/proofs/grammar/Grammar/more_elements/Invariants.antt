@@ -8,7 +8,7 @@ use Rattle.syn_mid.proofs.grammar.Grammar.more_elements.Given as goal
 
 abbrev pub invariant-turn : goal.invariant-turn
 invariant-turn g l = record {
-  told : more_elements g.X.Subtree.reads (knot.types g.X.Subtree.reads (length l.fn.self.begin)) l.fn.first l.fn.input ≡ after l.elems (terminated is_done (knot.types g.X.Subtree.reads (length l.fn.self.begin) true) comma l.input);
+  told : more_elements g.E.Value.reads (knot.types g.E.Value.reads (length l.fn.self.begin)) l.fn.first l.fn.input ≡ after l.elems (terminated is_done (knot.types g.E.Value.reads (length l.fn.self.begin) true) comma l.input);
   whole : length l.elems.0 ≡ length l.elems.1;
   few : ahead l.input < length l.fn.self.begin;
   within : Follows l.fn.input l.input;

@@ -8,7 +8,7 @@ use Rattle.syn_mid.proofs.grammar.Grammar.params.Given as goal
 
 abbrev pub invariant-turn : goal.invariant-turn
 invariant-turn g l = record {
-  told : params (knot.params g.X.Subtree.reads (length l.fn.self.begin)) l.fn.input ≡ after l.params (terminated sees_gt (knot.params g.X.Subtree.reads (length l.fn.self.begin)) comma l.input);
+  told : params (knot.params g.E.Value.reads (length l.fn.self.begin)) l.fn.input ≡ after l.params (terminated sees_gt (knot.params g.E.Value.reads (length l.fn.self.begin)) comma l.input);
   whole : length l.params.0 ≡ length l.params.1;
   few : ahead l.input < length l.fn.self.begin;
   within : Follows l.fn.input l.input;

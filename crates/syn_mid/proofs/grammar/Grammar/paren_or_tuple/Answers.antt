@@ -16,5 +16,5 @@ returns-in_err-elems-clause-reads g c =
     let a : is_done c.in_ok-paren_token.content.rest ≡ false = first_of (search rules, grind (arith, common_steps)) in
     let p : sees_comma c.nested.new.input.rest ≡ true = first_of (search rules, grind (arith, common_steps)) in
     refused_by _ _ _ _ _ _ e was back c.more_elements.ensures.reads
-    (λ h. elements_refused g.X.Subtree.reads (types g.X.Subtree.reads (length c.args.self.now.begin)) groups.paren c.args.plus c.args.input.now c.open_parens.new.input c.nested.new.input
+    (λ h. elements_refused g.E.Value.reads (types g.E.Value.reads (length c.args.self.now.begin)) groups.paren c.args.plus c.args.input.now c.open_parens.new.input c.nested.new.input
     (c.in_ok-paren_token.paren_token, c.in_ok-paren_token.content) c.in_ok-first.first e c.in_ok-paren_token.ensures.reads a c.in_ok-first.ensures.reads p h)

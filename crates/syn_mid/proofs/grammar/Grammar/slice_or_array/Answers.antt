@@ -12,7 +12,7 @@ returns-in_err-semi_token-clause-reads g c =
     let e = c.in_err-semi_token.field-0.0 in
     let was : c.parse_length.result ≡ Err e = first_of (search rules, grind (arith, common_steps)) in
     let back : c.from_residual-in_err-semi_token.result ≡ Err e = first_of (search rules, grind (arith, common_steps)) in
-    let p : sees_semi c.nested.new.input.rest ≡ true = first_of (search rules, grind (arith, common_steps)) in
+    let p : sees_semi c.held.new.input.rest ≡ true = first_of (search rules, grind (arith, common_steps)) in
     refused_by _ _ _ _ _ _ e was back c.parse_length.ensures.reads
-    (λ h. length_refused g.X.Subtree.reads (types g.X.Subtree.reads (length c.args.self.now.begin)) groups.bracket c.args.input.now c.open_brackets.new.input c.nested.new.input
+    (λ h. length_refused g.E.Value.reads (types g.E.Value.reads (length c.args.self.now.begin)) groups.bracket c.args.input.now c.open_brackets.new.input c.held.new.input
     (c.in_ok-bracket_token.bracket_token, c.in_ok-bracket_token.content) c.in_ok-elem.elem e c.in_ok-bracket_token.ensures.reads c.in_ok-elem.ensures.reads p h)

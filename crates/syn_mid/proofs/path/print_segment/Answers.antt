@@ -1,6 +1,0 @@
-use Rattle.std.proofs.lemmas.Result.{on_err_weaker}
-use Rattle.token_core.proofs.Puts.{extends_on}
-use Rattle.syn_mid.proofs.path.print_segment.Goals as goal
-
-pub returns-clause-err : goal.returns-clause-err
-returns-clause-err g c = on_err_weaker c.print_arguments.result (extends_on _ _ _ _ c.in_ok-to_tokens.ensures.ok) c.print_arguments.ensures.err
