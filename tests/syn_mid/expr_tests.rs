@@ -56,7 +56,7 @@ pub(crate) fn call(alloc: Global) -> Result<ExprMacro<Nothing>, Error> {
 }
 
 /// `a ..= 1`
-pub(crate) fn closed(alloc: Global) -> Result<ExprRange<Nothing>, Error> {
+fn closed(alloc: Global) -> Result<ExprRange<Nothing>, Error> {
     let start = Boxed::new(alloc, name(alloc, "a")?)?;
     let end = Boxed::new(alloc, literal(alloc, "1")?)?;
     Ok(ExprRange {

@@ -1,22 +1,22 @@
 //! What patterns made by hand print.
 
-use crate::expr_tests::{call, closed, const_block};
+use crate::expr_tests::{call, const_block};
 use crate::generics_tests::{both, ident, literal, lone, pair, path, printed, says, shown, ty};
 use crate::nothing::Nothing;
 use crate::qualified_tests::qself;
 use std::alloc::Global;
 use syn_mid::{
     AngleBracketedGenericArguments, Attribute, FieldPat, ParenthesizedGenericArguments, ParseInner,
-    ParseOuter, Pat, PatGuard, PatIdent, PatLit, PatOr, PatParen, PatPath, PatReference, PatRest,
-    PatSlice, PatStruct, PatTuple, PatTupleStruct, PatType, PatWild, Path, PathArguments,
+    ParseOuter, Pat, PatGuard, PatIdent, PatLit, PatOr, PatParen, PatPath, PatRange, PatRangeBound,
+    PatReference, PatRest, PatSlice, PatStruct, PatTuple, PatTupleStruct, PatType, PatWild, Path, PathArguments,
     PathSegment, QSelf, ReturnTypeOf,
 };
 use token_core::token::{
-    And, As, At, Brace, Bracket, Colon, Comma, DotDot, Gt, If, Lt, Mut, Or, Paren, PathSep, Ref,
+    And, As, At, Brace, Bracket, Colon, Comma, DotDot, DotDotEq, Gt, If, Lt, Mut, Or, Paren, PathSep, Ref,
     Underscore,
 };
 use token_core::{
-    Boxed, Error, Index, Items, Lit, Member, Punctuated, Span, read_all, read_all_with,
+    Boxed, Error, Index, Items, Lit, Member, Punctuated, RangeLimits, Span, read_all, read_all_with,
 };
 use token_text::lex;
 
@@ -57,12 +57,16 @@ fn wild(alloc: Global) -> Result<Pattern, Error> {
     }))
 }
 
-fn lit(alloc: Global, text: &str) -> Result<Pattern, Error> {
+fn literal_pat(alloc: Global, text: &str) -> Result<PatLit<Nothing>, Error> {
     let lit = read_all::<Lit>(alloc, &lex(alloc, text)?)?;
-    Ok(Pat::from(PatLit {
+    Ok(PatLit {
         attrs: Items::new(alloc),
         lit,
-    }))
+    })
+}
+
+fn lit(alloc: Global, text: &str) -> Result<Pattern, Error> {
+    Ok(Pat::from(literal_pat(alloc, text)?))
 }
 
 fn verbatim(alloc: Global, text: &str) -> Result<Pattern, Error> {
@@ -150,17 +154,12 @@ fn path_pat(alloc: Global) -> Result<Pattern, Error> {
     }))
 }
 
-fn range_pat(alloc: Global) -> Result<Pattern, Error> {
-    Ok(Pat::from(closed(alloc)?))
-}
-
 #[test]
 fn patterns_that_are_expressions_print(rt: HostRuntime) {
     let alloc = rt.alloc();
     says(&rt, shown(alloc, const_pat(alloc)), "# [b] const { }");
     says(&rt, shown(alloc, macro_pat(alloc)), "# [b] a :: b ! (c)");
     says(&rt, shown(alloc, path_pat(alloc)), "# [b] a");
-    says(&rt, shown(alloc, range_pat(alloc)), "a ..= 1");
 }
 
 #[test]
@@ -552,4 +551,83 @@ fn qualified_paths_print(rt: HostRuntime) {
         shown(alloc, qualified_path(alloc)),
         "# [b] < Self as A > :: Q",
     );
+}
+
+// ---- ranges
+
+type Bound = PatRangeBound<Nothing>;
+
+fn literal_bound(alloc: Global, text: &str) -> Result<Bound, Error> {
+    Ok(PatRangeBound::Lit(literal_pat(alloc, text)?))
+}
+
+fn const_bound(alloc: Global) -> Result<Bound, Error> {
+    Ok(PatRangeBound::Const(const_block(alloc)?))
+}
+
+fn path_bound(alloc: Global, text: &str) -> Result<Bound, Error> {
+    Ok(PatRangeBound::Path(PatPath {
+        attrs: Items::new(alloc),
+        qself: None,
+        path: path(alloc, text)?,
+    }))
+}
+
+/// `<Self>::X`
+fn qualified_bound(alloc: Global) -> Result<Bound, Error> {
+    let (qself, path) = both(qself(alloc, 0, None), path(alloc, "::X"))?;
+    Ok(PatRangeBound::Path(PatPath {
+        attrs: Items::new(alloc),
+        qself: Some(qself),
+        path,
+    }))
+}
+
+/// `#[b] ..= end`
+fn up_to(alloc: Global, end: Result<Bound, Error>) -> Result<Pattern, Error> {
+    Ok(Pat::from(PatRange {
+        attrs: outer(alloc, "#[b]")?,
+        start: None,
+        limits: RangeLimits::Closed(DotDotEq::default()),
+        end: Some(boxed(alloc, end)?),
+    }))
+}
+
+/// `start ..`
+fn onwards(alloc: Global, start: Result<Bound, Error>) -> Result<Pattern, Error> {
+    Ok(Pat::from(PatRange {
+        attrs: Items::new(alloc),
+        start: Some(boxed(alloc, start)?),
+        limits: RangeLimits::HalfOpen(DotDot::default()),
+        end: None,
+    }))
+}
+
+fn between(
+    alloc: Global,
+    start: Result<Bound, Error>,
+    end: Result<Bound, Error>,
+) -> Result<Pattern, Error> {
+    let (start, end) = both(boxed(alloc, start), boxed(alloc, end))?;
+    Ok(Pat::from(PatRange {
+        attrs: Items::new(alloc),
+        start: Some(start),
+        limits: RangeLimits::Closed(DotDotEq::default()),
+        end: Some(end),
+    }))
+}
+
+#[test]
+fn ranges_print(rt: HostRuntime) {
+    let alloc = rt.alloc();
+    let both = between(alloc, path_bound(alloc, "a"), literal_bound(alloc, "1"));
+    says(&rt, shown(alloc, both), "a ..= 1");
+    let both = between(alloc, qualified_bound(alloc), literal_bound(alloc, "5"));
+    says(&rt, shown(alloc, both), "< Self > :: X ..= 5");
+    let end = up_to(alloc, const_bound(alloc));
+    says(&rt, shown(alloc, end), "# [b] ..= # [b] const { }");
+    let end = up_to(alloc, qualified_bound(alloc));
+    says(&rt, shown(alloc, end), "# [b] ..= < Self > :: X");
+    let start = onwards(alloc, literal_bound(alloc, "-1"));
+    says(&rt, shown(alloc, start), "- 1 ..");
 }

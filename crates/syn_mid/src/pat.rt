@@ -12,8 +12,7 @@ ghost use Rattle.syn_mid.specs.pat.Printing as printing;
 use crate::attr::{Attribute, print_outer, print_value};
 use crate::path::{Path, PathStyle, QSelf};
 use crate::supplied::{
-    Expr, ExprConst, ExprConstOf, ExprLit, ExprLitOf, ExprMacro, ExprMacroOf, ExprRange, Place,
-    Subtree,
+    Expr, ExprConst, ExprConstOf, ExprLit, ExprLitOf, ExprMacro, ExprMacroOf, Place, Subtree,
 };
 use crate::ty::{
     Type, print_last_comma, print_lone_comma, print_qpath, print_type, print_verbatim, print_word,
@@ -22,7 +21,9 @@ use std::alloc::{AllocError, Global};
 use token_core::token::{
     And, At, Brace, Bracket, Colon, Comma, DotDot, If, Mark, Mut, Or, Paren, Ref, Underscore, Word,
 };
-use token_core::{Boxed, Ident, Items, Member, Pair, Punctuated, ToTokens, TokenStream};
+use token_core::{
+    Boxed, Ident, Items, Member, Pair, Punctuated, RangeLimits, ToTokens, TokenStream,
+};
 
 /// A pattern, over its attributes and what qualifies its paths.
 #[cycle(pats)]
@@ -45,7 +46,7 @@ pub enum PatOf<A, P, Q, T, X> {
     /// `a::b`
     Path(PatPathOf<A, P, Q>),
     /// `1..=2`
-    Range(ExprRange<X>),
+    Range(PatRangeOf<A, P, Q, X>),
     /// `&mut a`
     Reference(PatReferenceOf<PatOf<A, P, Q, T, X>, A>),
     /// `..`
@@ -136,8 +137,31 @@ pub struct PatPathOf<A, P, Q> {
 /// A path as a pattern, which a type may qualify.
 pub type PatPath<X> = PatPathOf<Attribute<X>, Path<X>, QSelf<X>>;
 
-/// A range as a pattern.
-pub type PatRange<X> = ExprRange<X>;
+/// A range as a pattern, over its attributes and what qualifies the paths of its bounds.
+#[derive(Drop)]
+pub struct PatRangeOf<A, P, Q, X> {
+    pub attrs: Items<A>,
+    pub start: Option<Boxed<PatRangeBoundOf<A, P, Q, X>>>,
+    pub limits: RangeLimits,
+    pub end: Option<Boxed<PatRangeBoundOf<A, P, Q, X>>>,
+}
+
+/// A range as a pattern: an optional bound, `..=` or `..`, an optional bound.
+pub type PatRange<X> = PatRangeOf<Attribute<X>, Path<X>, QSelf<X>, X>;
+
+/// A bound of a range, over its attributes and what qualifies its path.
+#[derive(Drop)]
+pub enum PatRangeBoundOf<A, P, Q, X> {
+    /// `const { .. }`
+    Const(ExprConstOf<A, X>),
+    /// `1`
+    Lit(ExprLitOf<A>),
+    /// `a::b`
+    Path(PatPathOf<A, P, Q>),
+}
+
+/// A bound of a range as a pattern: a const block, a literal or a path, which a type may qualify.
+pub type PatRangeBound<X> = PatRangeBoundOf<Attribute<X>, Path<X>, QSelf<X>, X>;
 
 /// A pattern of a reference, over the pattern of what it points to.
 #[derive(Drop)]
@@ -486,6 +510,33 @@ impl<X: Subtree> ToTokens for PatPath<X> {
     }
 }
 
+impl<X: Subtree> ToTokens for PatRange<X> {
+    ghost print = { printing.range X.prints };
+
+    fn to_tokens(&self, alloc: Global, out: &mut TokenStream) -> Result<(), AllocError> {
+        let before = out.len();
+        match print_range(alloc, self, out) {
+            Ok(()) => Ok(()),
+            Err(error) => {
+                out.truncate(before);
+                Err(error)
+            }
+        }
+    }
+}
+
+impl<X: Subtree> ToTokens for PatRangeBound<X> {
+    ghost print = { printing.range_bound X.prints };
+
+    fn to_tokens(&self, alloc: Global, out: &mut TokenStream) -> Result<(), AllocError> {
+        match self {
+            PatRangeBoundOf::Const(bound) => bound.to_tokens(alloc, out),
+            PatRangeBoundOf::Lit(bound) => bound.to_tokens(alloc, out),
+            PatRangeBoundOf::Path(bound) => bound.to_tokens(alloc, out),
+        }
+    }
+}
+
 impl<X: Subtree> ToTokens for PatReference<X> {
     ghost print = { printing.reference X.prints };
 
@@ -764,6 +815,37 @@ fn print_by_path<X: Subtree>(
 {
     print_outer(alloc, &pat.attrs, out)?;
     print_qpath(alloc, &pat.qself, &pat.path, PathStyle::Expr, out)
+}
+
+#[tactic(auto, using(token_core::proofs::Puts::puts))]
+fn print_range<X: Subtree>(
+    alloc: Global,
+    pat: &PatRange<X>,
+    out: &mut TokenStream,
+) -> Result<(), AllocError>
+    ensures ok { OnOk result (trees out.new ≡ trees out.old ++ printing.range X.prints pat.now) }
+    ensures err { OnErr result (Extends (trees out.old) (trees out.new)) }
+{
+    print_outer(alloc, &pat.attrs, out)?;
+    print_bound(alloc, &pat.start, out)?;
+    pat.limits.to_tokens(alloc, out)?;
+    print_bound(alloc, &pat.end, out)
+}
+
+/// A bound that is there.
+#[tactic(auto, using(token_core::proofs::Puts::puts))]
+fn print_bound<X: Subtree>(
+    alloc: Global,
+    bound: &Option<Boxed<PatRangeBound<X>>>,
+    out: &mut TokenStream,
+) -> Result<(), AllocError>
+    ensures ok { OnOk result (trees out.new ≡ trees out.old ++ printing.optional_bound X.prints bound.now) }
+    ensures err { OnErr result (Extends (trees out.old) (trees out.new)) }
+{
+    match bound {
+        Some(bound) => bound.get().to_tokens(alloc, out),
+        None => Ok(()),
+    }
 }
 
 #[cycle(print)]

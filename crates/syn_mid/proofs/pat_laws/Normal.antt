@@ -13,11 +13,10 @@ use Rattle.syn_mid.specs.declared.pat.PatWild.{PatWild}
 use Rattle.syn_mid.specs.declared.supplied.ExprConstOf.{ExprConstOf}
 use Rattle.syn_mid.specs.declared.supplied.ExprLitOf.{ExprLitOf}
 use Rattle.syn_mid.specs.declared.supplied.ExprMacroOf.{ExprMacroOf}
-use Rattle.syn_mid.specs.declared.supplied.ExprRange.{ExprRange}
 use Rattle.syn_mid.specs.attr.Normal as attr
 use Rattle.syn_mid.specs.ty.Trees.{Attr, Path, QSelf, TypeTree}
 use Rattle.syn_mid.specs.declared.supplied.Expr.{Expr}
-use Rattle.syn_mid.specs.pat.Pats.{Attrs, LayerOf, Pat, PatGuard, PatIdent, PatOr, PatParen, PatPath, PatReference, PatRest, PatSlice, PatStruct, PatTuple, PatTupleStruct, PatType, FieldPat, is_rest, is_rest_layer, binding_of, struct_of, field_of}
+use Rattle.syn_mid.specs.pat.Pats.{Attrs, LayerOf, Pat, PatGuard, PatIdent, PatOr, PatParen, PatPath, PatRange, PatReference, PatRest, PatSlice, PatStruct, PatTuple, PatTupleStruct, PatType, FieldPat, is_rest, is_rest_layer, binding_of, struct_of, field_of}
 use Rattle.syn_mid.specs.pat.Normal as n
 use Rattle.syn_mid.specs.ty.Normal as types
 use Rattle.syn_mid.specs.pat.Normal.{pat, pat_step}
@@ -69,7 +68,7 @@ module _ {X : Type 0} (nx : Place → X → X) where
   unfolding pat
   normal-Path x = ap (pat nx) (sym (v.rolls-Path x)) ∙ fold-roll-PatOf (Attr X) (Path (Attr X) (Expr X)) (QSelf (Attr X) (Expr X)) (TypeTree (Attr X) (Expr X)) X (Pat X) (pat_step nx) (o.Path x)
 
-  pub normal-Range : (x : ExprRange X) → pat nx (v.Range x) ≡ v.Range (attr.range nx x)
+  pub normal-Range : (x : PatRange X) → pat nx (v.Range x) ≡ v.Range (n.range nx x)
   unfolding pat
   normal-Range x = ap (pat nx) (sym (v.rolls-Range x)) ∙ fold-roll-PatOf (Attr X) (Path (Attr X) (Expr X)) (QSelf (Attr X) (Expr X)) (TypeTree (Attr X) (Expr X)) X (Pat X) (pat_step nx) (o.Range x)
 

@@ -13,7 +13,6 @@ use Rattle.syn_mid.specs.Supplied.{Place}
 use Rattle.syn_mid.specs.declared.supplied.ExprConstOf.{ExprConstOf}
 use Rattle.syn_mid.specs.declared.supplied.ExprLitOf.{ExprLitOf}
 use Rattle.syn_mid.specs.declared.supplied.ExprMacroOf.{ExprMacroOf}
-use Rattle.syn_mid.specs.declared.supplied.ExprRange.{ExprRange}
 use Rattle.syn_mid.specs.declared.pat.FieldPatOf.{FieldPatOf}
 use Rattle.syn_mid.specs.declared.pat.PatOf.{out-PatOf, map-PatOf}
 use Rattle.syn_mid.specs.declared.pat.PatOf.TheFolds.{fold-roll-PatOf, fold_out-PatOf}
@@ -24,7 +23,7 @@ use Rattle.syn_mid.specs.attr.Printing as attr
 use Rattle.syn_mid.specs.generics.Shapes.{optional}
 use Rattle.syn_mid.specs.ty.Trees.{Attr, Path, QSelf, TypeTree}
 use Rattle.syn_mid.specs.declared.supplied.Expr.{Expr}
-use Rattle.syn_mid.specs.pat.Pats.{Attrs, LayerOf, Pat, PatGuard, PatIdent, PatOr, PatParen, PatPath, PatReference, PatRest, PatSlice, PatStruct, PatTuple, PatTupleStruct, PatType, FieldPat, binding_of, field_of, is_rest, is_rest_layer}
+use Rattle.syn_mid.specs.pat.Pats.{Attrs, LayerOf, Pat, PatGuard, PatIdent, PatOr, PatParen, PatPath, PatRange, PatReference, PatRest, PatSlice, PatStruct, PatTuple, PatTupleStruct, PatType, FieldPat, binding_of, field_of, is_rest, is_rest_layer}
 use Rattle.syn_mid.specs.pat.Printing as s
 use Rattle.syn_mid.specs.pat.Printing.{pat, printed, pat_step}
 use Rattle.syn_mid.specs.path.Shapes.{expr_style}
@@ -99,7 +98,7 @@ module _ {X : Type 0} (px : Place → X → Print) where
   unfolding pat printed
   pat-Path x = ap (pat px) (sym (v.rolls-Path x)) ∙ ap (λ z. z.0) (fold-roll-PatOf (Attr X) (Path (Attr X) (Expr X)) (QSelf (Attr X) (Expr X)) (TypeTree (Attr X) (Expr X)) X (s.Printed px) (pat_step px) (o.Path x))
 
-  pub pat-Range : (x : ExprRange X) → pat px (v.Range x) ≡ attr.range px x
+  pub pat-Range : (x : PatRange X) → pat px (v.Range x) ≡ s.range px x
   unfolding pat printed
   pat-Range x = ap (pat px) (sym (v.rolls-Range x)) ∙ ap (λ z. z.0) (fold-roll-PatOf (Attr X) (Path (Attr X) (Expr X)) (QSelf (Attr X) (Expr X)) (TypeTree (Attr X) (Expr X)) X (s.Printed px) (pat_step px) (o.Range x))
 

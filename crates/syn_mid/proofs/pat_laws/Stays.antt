@@ -13,6 +13,7 @@ use Rattle.syn_mid.specs.declared.pat.PatOf.{roll-PatOf, map-PatOf}
 use Rattle.syn_mid.specs.declared.pat.PatOf.TheFolds.{ind-PatOf}
 use Rattle.syn_mid.specs.declared.pat.PatOf.TheOpen as o
 use Rattle.syn_mid.specs.declared.pat.PatOf.TheVariants as v
+use Rattle.syn_mid.specs.declared.pat.PatRangeBoundOf.TheVariants as bound
 use Rattle.syn_mid.specs.declared.pat.PatWild.{PatWild}
 use Rattle.syn_mid.specs.declared.supplied.Expr.{Expr}
 use Rattle.syn_mid.specs.declared.supplied.ExprConstOf.{ExprConstOf}
@@ -23,7 +24,7 @@ use Rattle.syn_mid.specs.attr.Normal as attr
 use Rattle.syn_mid.specs.attr.Printing as expr
 use Rattle.syn_mid.specs.mac.Printing.{mac}
 use Rattle.syn_mid.specs.ty.Trees.{Attr, Path, QSelf, TypeTree}
-use Rattle.syn_mid.specs.pat.Pats.{Attrs, LayerOf, Pat, PatPath, PatRest, FieldPat, is_rest, guard_of, binding_of, or_of, paren_of, reference_of, slice_of, struct_of, tuple_of, tuple_struct_of, typed_of, field_of, rest_of, wild_of, path_pat_of}
+use Rattle.syn_mid.specs.pat.Pats.{Attrs, LayerOf, Pat, PatPath, PatRange, PatRangeBound, PatRest, FieldPat, is_rest, guard_of, binding_of, or_of, paren_of, reference_of, slice_of, struct_of, tuple_of, tuple_struct_of, typed_of, field_of, rest_of, wild_of, path_pat_of, pat_range_of}
 use Rattle.syn_mid.specs.ty.Normal as types
 use Rattle.syn_mid.specs.ty.Types.{Comma}
 use Rattle.syn_mid.specs.generics.Shapes.{optional}
@@ -35,7 +36,8 @@ use Rattle.syn_mid.specs.path.Printing.{path}
 use Rattle.syn_mid.specs.path.Shapes.{expr_style}
 use Rattle.syn_mid.specs.ty.Printing as texts
 use Rattle.token_core.specs.Lits as lits
-use Rattle.syn_mid.proofs.attr_laws.Normal.{attributes_stay, at_place_stays, range_stays, outer_same, at_place_same, range_same}
+use Rattle.token_core.specs.Ranges as ranges
+use Rattle.syn_mid.proofs.attr_laws.Normal.{attributes_stay, at_place_stays, outer_same, at_place_same}
 use Rattle.syn_mid.proofs.ty_laws.Each.{Each, each_held, map_stays, joined_same}
 use Rattle.syn_mid.proofs.ty_laws.SamePrint.{qpath_same, ty_same}
 use Rattle.syn_mid.proofs.ty_laws.Stays.{path_stays, qself_stays, ty_stays}
@@ -68,6 +70,21 @@ module _ {X : Type 0} (nx : Place → X → X) (own : (w : Place) (x : X) → nx
 
   lit_stays : (x : ExprLitOf (Attr X)) → attr.literal nx (attr.literal nx x) ≡ attr.literal nx x
   lit_stays x = ap (λ z. lit_of z x.lit) (attrs_stay x.attrs)
+
+  bound_stays : (x : PatRangeBound X) → n.range_bound nx (n.range_bound nx x) ≡ n.range_bound nx x
+  bound_stays (bound.Const x) = ap bound.Const (const_stays x)
+  bound_stays (bound.Lit x) = ap bound.Lit (lit_stays x)
+  bound_stays (bound.Path x) = ap bound.Path (by_path_stays x)
+
+  optional_bound_stays : (x : Option (PatRangeBound X)) → n.optional_bound nx (n.optional_bound nx x) ≡ n.optional_bound nx x
+  optional_bound_stays None = refl
+  optional_bound_stays (Some x) = ap Some (bound_stays x)
+
+  range_stays : (x : PatRange X) → n.range nx (n.range nx x) ≡ n.range nx x
+  range_stays x =
+      ap (λ z. pat_range_of z (n.optional_bound nx (n.optional_bound nx x.start)) x.limits (n.optional_bound nx (n.optional_bound nx x.end))) (attrs_stay x.attrs)
+      ∙ ap (λ z. pat_range_of (n.attrs nx x.attrs) z x.limits (n.optional_bound nx (n.optional_bound nx x.end))) (optional_bound_stays x.start)
+      ∙ ap (pat_range_of (n.attrs nx x.attrs) (n.optional_bound nx x.start) x.limits) (optional_bound_stays x.end)
 
   rest_stays : (x : PatRest X) → n.rest nx (n.rest nx x) ≡ n.rest nx x
   rest_stays x = ap (λ z. rest_of z x.dot2_token) (attrs_stay x.attrs)
@@ -148,7 +165,7 @@ module _ {X : Type 0} (nx : Place → X → X) (own : (w : Place) (x : X) → nx
       ∙ ap (λ z. v.Paren (paren_of z y.paren_token (n.pat nx (n.pat nx y.pat.0)))) (attrs_stay y.attrs)
       ∙ ap (λ z. v.Paren (paren_of (n.attrs nx y.attrs) y.paren_token z)) (y.pat.1)))
   layer_stays (o.Path x) = subst Own (sym (v.rolls-Path x)) (by_form (v.Path x) (v.Path (n.by_path nx x)) (normal-Path nx x) (normal-Path nx (n.by_path nx x) ∙ ap v.Path (by_path_stays x)))
-  layer_stays (o.Range x) = subst Own (sym (v.rolls-Range x)) (by_form (v.Range x) (v.Range (attr.range nx x)) (normal-Range nx x) (normal-Range nx (attr.range nx x) ∙ ap v.Range (range_stays nx own x)))
+  layer_stays (o.Range x) = subst Own (sym (v.rolls-Range x)) (by_form (v.Range x) (v.Range (n.range nx x)) (normal-Range nx x) (normal-Range nx (n.range nx x) ∙ ap v.Range (range_stays x)))
   layer_stays (o.Reference y) =
       let x = reference_of y.attrs y.and_token y.mutability y.pat.0 in
       let z = n.reference nx x in
@@ -237,6 +254,21 @@ module _ {X : Type 0} (nx : Place → X → X) (px : Place → X → Print) (sam
   lit_same : (x : ExprLitOf (Attr X)) → expr.literal px (attr.literal nx x) ≡ expr.literal px x
   lit_same x = ap (λ z. z ++ lits.print x.lit) (attrs_same x.attrs)
 
+  bound_same : (x : PatRangeBound X) → s.range_bound px (n.range_bound nx x) ≡ s.range_bound px x
+  bound_same (bound.Const x) = const_same x
+  bound_same (bound.Lit x) = lit_same x
+  bound_same (bound.Path x) = by_path_same x
+
+  optional_bound_same : (x : Option (PatRangeBound X)) → s.optional_bound px (n.optional_bound nx x) ≡ s.optional_bound px x
+  optional_bound_same None = refl
+  optional_bound_same (Some x) = bound_same x
+
+  range_same : (x : PatRange X) → s.range px (n.range nx x) ≡ s.range px x
+  range_same x =
+      ap (λ z. z ++ (s.optional_bound px (n.optional_bound nx x.start) ++ (ranges.print x.limits ++ s.optional_bound px (n.optional_bound nx x.end)))) (attrs_same x.attrs)
+      ∙ ap (λ z. s.attrs px x.attrs ++ (z ++ (ranges.print x.limits ++ s.optional_bound px (n.optional_bound nx x.end)))) (optional_bound_same x.start)
+      ∙ ap (λ z. s.attrs px x.attrs ++ (s.optional_bound px x.start ++ (ranges.print x.limits ++ z))) (optional_bound_same x.end)
+
   rest_same : (x : PatRest X) → s.rest px (n.rest nx x) ≡ s.rest px x
   rest_same x = ap (λ z. z ++ p.mark x.dot2_token) (attrs_same x.attrs)
 
@@ -316,7 +348,7 @@ module _ {X : Type 0} (nx : Place → X → X) (px : Place → X → Print) (sam
       ∙ ap (λ z. s.attrs px y.attrs ++ p.group Parenthesis (stream_of_trees (z)) y.paren_token.span) (y.pat.1)
       ∙ sym (pat-Paren px x))
   layer_same (o.Path x) = subst Same (sym (v.rolls-Path x)) (ap (s.pat px) (normal-Path nx x) ∙ pat-Path px (n.by_path nx x) ∙ by_path_same x ∙ sym (pat-Path px x))
-  layer_same (o.Range x) = subst Same (sym (v.rolls-Range x)) (ap (s.pat px) (normal-Range nx x) ∙ pat-Range px (attr.range nx x) ∙ range_same nx px same x ∙ sym (pat-Range px x))
+  layer_same (o.Range x) = subst Same (sym (v.rolls-Range x)) (ap (s.pat px) (normal-Range nx x) ∙ pat-Range px (n.range nx x) ∙ range_same x ∙ sym (pat-Range px x))
   layer_same (o.Reference y) =
       let x = reference_of y.attrs y.and_token y.mutability y.pat.0 in
       subst Same (sym (v.rolls-Reference x))

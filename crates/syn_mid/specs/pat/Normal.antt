@@ -5,11 +5,12 @@ use Rattle.syn_mid.specs.Supplied.{Place, Guard}
 use Rattle.syn_mid.specs.declared.pat.PatOf.TheFolds.{fold-PatOf}
 use Rattle.syn_mid.specs.declared.pat.PatOf.TheOpen as o
 use Rattle.syn_mid.specs.declared.pat.PatOf.TheVariants as v
+use Rattle.syn_mid.specs.declared.pat.PatRangeBoundOf.TheVariants as bound
 use Rattle.syn_mid.specs.declared.pat.PatWild.{PatWild}
 use Rattle.syn_mid.specs.declared.supplied.Expr.{Expr}
 use Rattle.syn_mid.specs.attr.Normal as attr
 use Rattle.syn_mid.specs.generics.NormalShapes.{many, normal_values_of}
-use Rattle.syn_mid.specs.pat.Pats.{Attrs, LayerOf, Pat, PatGuard, PatIdent, PatOr, PatParen, PatPath, PatReference, PatRest, PatSlice, PatStruct, PatTuple, PatTupleStruct, PatType, FieldPat, guard_of, binding_of, or_of, paren_of, reference_of, slice_of, struct_of, tuple_of, tuple_struct_of, path_pat_of, typed_of, field_of, rest_of, wild_of}
+use Rattle.syn_mid.specs.pat.Pats.{Attrs, LayerOf, Pat, PatGuard, PatIdent, PatOr, PatParen, PatPath, PatRange, PatRangeBound, PatReference, PatRest, PatSlice, PatStruct, PatTuple, PatTupleStruct, PatType, FieldPat, guard_of, binding_of, or_of, paren_of, reference_of, slice_of, struct_of, tuple_of, tuple_struct_of, path_pat_of, pat_range_of, typed_of, field_of, rest_of, wild_of}
 use Rattle.syn_mid.specs.ty.Normal as ty
 use Rattle.syn_mid.specs.ty.Trees.{Attr, Path, QSelf, TypeTree}
 
@@ -30,6 +31,18 @@ module _ {X : Type 0} (normal : Place → X → X) where
   abbrev pub by_path : PatPath X → PatPath X
   by_path x = path_pat_of (attrs x.attrs) (ty.optional_qself attrs (normal_values_of normal) x.qself) (ty.path attrs (normal_values_of normal) x.path)
 
+  abbrev pub range_bound : PatRangeBound X → PatRangeBound X
+  range_bound (bound.Const x) = bound.Const (attr.expr_const normal x)
+  range_bound (bound.Lit x) = bound.Lit (attr.literal normal x)
+  range_bound (bound.Path x) = bound.Path (by_path x)
+
+  abbrev pub optional_bound : Option (PatRangeBound X) → Option (PatRangeBound X)
+  optional_bound None = None
+  optional_bound (Some x) = Some (range_bound x)
+
+  abbrev pub range : PatRange X → PatRange X
+  range x = pat_range_of (attrs x.attrs) (optional_bound x.start) x.limits (optional_bound x.end)
+
   abbrev pub optional_rest : Option (PatRest X) → Option (PatRest X)
   optional_rest None = None
   optional_rest (Some x) = Some (rest x)
@@ -48,7 +61,7 @@ module _ {X : Type 0} (normal : Place → X → X) where
   pat_step (o.Or x) = v.Or (or_of (attrs x.attrs) x.leading_vert x.cases)
   pat_step (o.Paren x) = v.Paren (paren_of (attrs x.attrs) x.paren_token x.pat)
   pat_step (o.Path x) = v.Path (by_path x)
-  pat_step (o.Range x) = v.Range (attr.range normal x)
+  pat_step (o.Range x) = v.Range (range x)
   pat_step (o.Reference x) = v.Reference (reference_of (attrs x.attrs) x.and_token x.mutability x.pat)
   pat_step (o.Rest x) = v.Rest (rest x)
   pat_step (o.Slice x) = v.Slice (slice_of (attrs x.attrs) x.bracket_token x.elems)

@@ -2,6 +2,7 @@
 use Rattle.std.specs.Prelude.{Bool, true, false, List, Option}
 use Rattle.token_core.specs.declared.mark.Mark.{Mark}
 use Rattle.token_core.specs.declared.member.Member.{Member}
+use Rattle.token_core.specs.declared.range.RangeLimits.{RangeLimits}
 use Rattle.token_core.specs.declared.tree.Ident.{Ident}
 use Rattle.token_core.specs.declared.token.Brace.{Brace}
 use Rattle.token_core.specs.declared.token.Bracket.{Bracket}
@@ -15,6 +16,8 @@ use Rattle.syn_mid.specs.declared.pat.PatGuardOf.{PatGuardOf}
 use Rattle.syn_mid.specs.declared.pat.PatIdentOf.{PatIdentOf}
 use Rattle.syn_mid.specs.declared.pat.PatOrOf.{PatOrOf}
 use Rattle.syn_mid.specs.declared.pat.PatParenOf.{PatParenOf}
+use Rattle.syn_mid.specs.declared.pat.PatRangeBoundOf.{PatRangeBoundOf}
+use Rattle.syn_mid.specs.declared.pat.PatRangeOf.{PatRangeOf}
 use Rattle.syn_mid.specs.declared.pat.PatReferenceOf.{PatReferenceOf}
 use Rattle.syn_mid.specs.declared.pat.PatRestOf.{PatRestOf}
 use Rattle.syn_mid.specs.declared.pat.PatSliceOf.{PatSliceOf}
@@ -55,6 +58,12 @@ PatParen X = PatParenOf (Pat X) (Attr X)
 abbrev pub PatPath : Type 0 → Type 0
 PatPath X = PatPathOf (Attr X) (Path (Attr X) (Expr X)) (QSelf (Attr X) (Expr X))
 
+abbrev pub PatRange : Type 0 → Type 0
+PatRange X = PatRangeOf (Attr X) (Path (Attr X) (Expr X)) (QSelf (Attr X) (Expr X)) X
+
+abbrev pub PatRangeBound : Type 0 → Type 0
+PatRangeBound X = PatRangeBoundOf (Attr X) (Path (Attr X) (Expr X)) (QSelf (Attr X) (Expr X)) X
+
 abbrev pub PatReference : Type 0 → Type 0
 PatReference X = PatReferenceOf (Pat X) (Attr X)
 
@@ -92,6 +101,9 @@ or_of a b c = record { attrs = a; leading_vert = b; cases = c }
 
 abbrev pub paren_of : {P A : Type 0} → List A → Paren → P → PatParenOf P A
 paren_of a b c = record { attrs = a; paren_token = b; pat = c }
+
+abbrev pub pat_range_of : {A R Q X : Type 0} → List A → Option (PatRangeBoundOf A R Q X) → RangeLimits → Option (PatRangeBoundOf A R Q X) → PatRangeOf A R Q X
+pat_range_of a b c d = record { attrs = a; start = b; limits = c; end = d }
 
 abbrev pub reference_of : {P A : Type 0} → List A → Mark 5 1 → Option (Word 13) → P → PatReferenceOf P A
 reference_of a b c d = record { attrs = a; and_token = b; mutability = c; pat = d }

@@ -8,6 +8,7 @@ use Rattle.token_core.specs.Loops.{Many}
 use Rattle.token_core.specs.Members as members
 use Rattle.token_core.specs.Prints as p
 use Rattle.token_core.specs.Prints.{Print}
+use Rattle.token_core.specs.Ranges as ranges
 use Rattle.token_core.specs.Trees.{trees, stream_of_trees}
 use Rattle.syn_mid.specs.Supplied.{Place, Guard}
 use Rattle.syn_mid.specs.declared.supplied.Expr.{Expr}
@@ -18,6 +19,7 @@ use Rattle.syn_mid.specs.declared.pat.PatGuardOf.{PatGuardOf}
 use Rattle.syn_mid.specs.declared.pat.PatIdentOf.{PatIdentOf}
 use Rattle.syn_mid.specs.declared.pat.PatOrOf.{PatOrOf}
 use Rattle.syn_mid.specs.declared.pat.PatParenOf.{PatParenOf}
+use Rattle.syn_mid.specs.declared.pat.PatRangeBoundOf.TheVariants as bound
 use Rattle.syn_mid.specs.declared.pat.PatReferenceOf.{PatReferenceOf}
 use Rattle.syn_mid.specs.declared.pat.PatSliceOf.{PatSliceOf}
 use Rattle.syn_mid.specs.declared.pat.PatStructOf.{PatStructOf}
@@ -25,9 +27,9 @@ use Rattle.syn_mid.specs.declared.pat.PatTupleOf.{PatTupleOf}
 use Rattle.syn_mid.specs.declared.pat.PatTupleStructOf.{PatTupleStructOf}
 use Rattle.syn_mid.specs.declared.pat.PatTypeOf.{PatTypeOf}
 use Rattle.syn_mid.specs.declared.pat.PatWild.{PatWild}
-use Rattle.syn_mid.specs.attr.Printing.{literal, expr_const, expr_macro, range, outer, at_place}
+use Rattle.syn_mid.specs.attr.Printing.{literal, expr_const, expr_macro, outer, at_place}
 use Rattle.syn_mid.specs.generics.Shapes.{optional, values_of}
-use Rattle.syn_mid.specs.pat.Pats.{Attrs, LayerOf, Pat, PatGuard, PatIdent, PatOr, PatParen, PatPath, PatReference, PatRest, PatSlice, PatStruct, PatTuple, PatTupleStruct, PatType, FieldPat, is_rest, is_rest_layer}
+use Rattle.syn_mid.specs.pat.Pats.{Attrs, LayerOf, Pat, PatGuard, PatIdent, PatOr, PatParen, PatPath, PatRange, PatRangeBound, PatReference, PatRest, PatSlice, PatStruct, PatTuple, PatTupleStruct, PatType, FieldPat, is_rest, is_rest_layer}
 use Rattle.syn_mid.specs.path.Printing.{path}
 use Rattle.syn_mid.specs.path.Shapes.{expr_style}
 use Rattle.syn_mid.specs.ty.Printing as ty
@@ -64,6 +66,18 @@ module _ {X : Type 0} (prints : Place → X → Print) where
   -- by its path
   abbrev pub by_path : PatPath X → Print
   by_path x = attrs x.attrs ++ ty.qpath (outer prints) (values_of prints) expr_style x.qself x.path
+
+  abbrev pub range_bound : PatRangeBound X → Print
+  range_bound (bound.Const x) = expr_const prints x
+  range_bound (bound.Lit x) = literal prints x
+  range_bound (bound.Path x) = by_path x
+
+  abbrev pub optional_bound : Option (PatRangeBound X) → Print
+  optional_bound None = []
+  optional_bound (Some x) = range_bound x
+
+  abbrev pub range : PatRange X → Print
+  range x = attrs x.attrs ++ (optional_bound x.start ++ (ranges.print x.limits ++ optional_bound x.end))
 
   -- the `..` of a struct's pattern
   abbrev pub optional_rest : Option (PatRest X) → Print
@@ -161,7 +175,7 @@ module _ {X : Type 0} (prints : Place → X → Print) where
   pat_layer (o.Or x) = alternatives_by print_of x
   pat_layer (o.Paren x) = paren_by print_of x
   pat_layer (o.Path x) = by_path x
-  pat_layer (o.Range x) = range prints x
+  pat_layer (o.Range x) = range x
   pat_layer (o.Reference x) = reference_by print_of x
   pat_layer (o.Rest x) = rest x
   pat_layer (o.Slice x) = slice_by print_of x
