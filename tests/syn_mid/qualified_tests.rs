@@ -7,7 +7,7 @@ use std::alloc::Global;
 use std::fmt::Write;
 use syn_mid::{Path, QSelf, QSelfOf, Type, TypePathOf};
 use token_core::token::{As, Gt, Lt};
-use token_core::{Error, Items};
+use token_core::{Error, Items, Span, Spanned};
 
 /// A path without its last segments.
 fn popped(alloc: Global, text: &str, times: u8) -> Result<Path<Nothing>, Error> {
@@ -97,6 +97,20 @@ fn plain_paths_print(rt: HostRuntime) {
     says(&rt, of_none(alloc, 1), "Self :: A ::");
     says(&rt, of_none(alloc, 2), "Self ::");
     says(&rt, of_none(alloc, 3), "");
+}
+
+/// Where `<Self>` stands, its `<` at 3 and its `>` at 8.
+fn stands(alloc: Global) -> Result<bool, Error> {
+    let mut qself = qself(alloc, 0, None)?;
+    qself.lt_token.spans = [Span::new(3, 4)];
+    qself.gt_token.spans = [Span::new(8, 9)];
+    Ok(qself.span() == Span::new(3, 9))
+}
+
+#[test]
+fn a_qualifying_type_stands_from_mark_to_mark(rt: HostRuntime) {
+    let alloc = rt.alloc();
+    holds(&rt, stands(alloc));
 }
 
 /// `<Self as ..>` with `>` after as many segments of this path, and `as` left to the print.

@@ -21,7 +21,7 @@ ghost use Rattle.syn_mid.specs.attr.Spelling.{AreAll, IsMetaList, IsOuter, IsInn
 
 use crate::mac::{MacroDelimiter, parse_body, print_held};
 use crate::meta::{ParseNestedMeta, read_properties};
-use crate::path::{ModPath, print_mod_path, text_around};
+use crate::path::{ModPath, mark_span, print_mod_path, text_around};
 use crate::supplied::{
     Expr, ExprBlock, ExprConst, ExprLit, ExprMacro, ExprPath, ExprRange, Place, Subtree,
 };
@@ -937,13 +937,6 @@ fn refuse_path(alloc: Global, kind: ErrorKind, before: &str, path: &ModPath, aft
     }
 }
 
-fn equals_span(token: &Eq) -> Span
-    ensures { result ≡ requirements.begins token.now.spans }
-{
-    let [span] = token.spans;
-    span
-}
-
 impl<X> Meta<X> {
     /// The path that the meta begins with.
     pub fn path(&self) -> &ModPath
@@ -971,7 +964,7 @@ impl<X> Meta<X> {
             Meta::NameValue(meta) => Err(Error::named(
                 alloc,
                 ErrorKind::TokenInAttribute,
-                equals_span(&meta.eq_token),
+                mark_span(&meta.eq_token),
             )),
         }
     }
@@ -994,7 +987,7 @@ impl<X> Meta<X> {
             Meta::NameValue(meta) => Err(Error::named(
                 alloc,
                 ErrorKind::ExpectedParenthesis,
-                equals_span(&meta.eq_token),
+                mark_span(&meta.eq_token),
             )),
         }
     }
@@ -1136,7 +1129,7 @@ impl<X: Drop> Attribute<X> {
 fn refuse_equals<X>(alloc: Global, before: &str, meta: &MetaNameValue<X>) -> Error
     ensures { Made result (requirements.no_parentheses before.now meta.now) }
 {
-    let span = equals_span(&meta.eq_token);
+    let span = mark_span(&meta.eq_token);
     match text_around(alloc, before, &meta.path, "(...)]") {
         Ok(text) => Error::of(
             alloc,

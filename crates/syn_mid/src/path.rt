@@ -27,12 +27,12 @@ use crate::ty::{
 };
 use std::alloc::{AllocError, Global};
 use token_core::token::{
-    As, Colon, Comma, Crate, Eq, Gt, Le, Lt, Paren, PathSep, Plus, RArrow, SelfType, SelfValue,
+    As, Colon, Comma, Crate, Eq, Gt, Le, Lt, Mark, Paren, PathSep, Plus, RArrow, SelfType, SelfValue,
     ShlEq, Super, Try,
 };
 use token_core::{
-    Boxed, Error, ErrorKind, Ident, Lifetime, Lit, Pair, ParseStream, Punctuated, Span, Text,
-    ToTokens, Token, TokenStream,
+    Boxed, Error, ErrorKind, Ident, Lifetime, Lit, Pair, ParseStream, Punctuated, Span, Spanned,
+    Text, ToTokens, Token, TokenStream,
 };
 
 /// A path, over what stands in the place of its segments' arguments: an optional leading `::`, and segments joined by `::`.
@@ -195,6 +195,22 @@ pub struct QSelfOf<T> {
 
 /// What qualifies a path: a type, and how many of its segments name the trait.
 pub type QSelf<X> = QSelfOf<Type<X>>;
+
+impl<T> Spanned for QSelfOf<T> {
+    ghost stands = { spec.qself_span };
+
+    fn span(&self) -> Span {
+        Span::new(mark_span(&self.lt_token).lo, mark_span(&self.gt_token).hi)
+    }
+}
+
+/// The span of a mark of one character.
+pub(crate) fn mark_span<const N: u32>(mark: &Mark<N, 1>) -> Span
+    ensures { result ≡ spec.mark_span mark.now.spans }
+{
+    let [span] = mark.spans;
+    span
+}
 
 /// What the segments of a path without arguments may be.
 #[derive(Clone, Copy, PartialEq, Eq)]

@@ -15,13 +15,8 @@ use Rattle.syn_mid.specs.declared.attr.MetaNameValue.{MetaNameValue, out-MetaNam
 use Rattle.syn_mid.specs.declared.supplied.Expr.{Expr}
 use Rattle.syn_mid.specs.declared.supplied.ExprRange.{ExprRange}
 use Rattle.syn_mid.specs.mac.Macros.{span_of}
-use Rattle.syn_mid.specs.path.Paths.{ModPath, path_text, first_span, last_span}
+use Rattle.syn_mid.specs.path.Paths.{ModPath, path_text, first_span, last_span, mark_span}
 use Rattle.syn_mid.specs.attr.Attrs.{Attribute}
-
--- where a mark begins
-abbrev pub begins : List Span → Span
-begins [] = none
-begins (a ∷ l) = a
 
 abbrev pub arguments_text : AttrStyle → Bytes
 arguments_text y.Outer = codes "expected attribute arguments in parentheses: #["
@@ -56,7 +51,7 @@ module _ {X : Type 0} where
   path_in x = path_at (out-Meta X x)
 
   abbrev pub equals_at : MetaNameValue X → Span
-  equals_at x = begins (out-MetaNameValue X x).eq_token.spans
+  equals_at x = mark_span (out-MetaNameValue X x).eq_token.spans
 
   abbrev pub path_only_at : Layer X → Result ModPath Refusal
   path_only_at (o.Meta::Path x) = Ok x

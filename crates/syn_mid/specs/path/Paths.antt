@@ -6,7 +6,7 @@ use Rattle.token_core.specs.declared.span.Span.{Span}
 use Rattle.token_core.specs.declared.mark.Mark.{Mark}
 use Rattle.token_core.specs.Toks.{Bytes}
 use Rattle.token_core.specs.Loops.{Many}
-use Rattle.token_core.specs.Spans.{none}
+use Rattle.token_core.specs.Spans.{none, span}
 use Rattle.token_core.specs.Refusal.{Refusal, refusal, fixed}
 use Rattle.token_core.specs.declared.error.ErrorKind.TheVariants.{ExpectedPathIdent}
 use Rattle.syn_mid.specs.declared.path.NoArguments.{NoArguments}
@@ -20,6 +20,7 @@ use Rattle.syn_mid.specs.declared.path.AssocTypeOf.{AssocTypeOf, roll-AssocTypeO
 use Rattle.syn_mid.specs.declared.path.ConstraintOf.{ConstraintOf, roll-ConstraintOf}
 use Rattle.syn_mid.specs.declared.path.GenericArgumentOf.{GenericArgumentOf, out-GenericArgumentOf}
 use Rattle.syn_mid.specs.declared.path.ParenthesizedGenericArgumentsOf.{ParenthesizedGenericArgumentsOf}
+use Rattle.syn_mid.specs.declared.path.QSelfOf.{QSelfOf}
 use Rattle.syn_mid.specs.declared.generics.GenericParamOf.TheOpen as o
 use Rattle.syn_mid.specs.declared.generics.TypeParamBoundOf.{TypeParamBoundOf}
 use Rattle.syn_mid.specs.declared.ty.NamedArgOf.{NamedArgOf}
@@ -40,6 +41,15 @@ ModSegment = PathSegmentOf NoArguments
 
 abbrev pub nothing : NoArguments
 nothing = record {}
+
+-- the span of a mark of one character
+abbrev pub mark_span : List Span → Span
+mark_span [] = none
+mark_span (a ∷ l) = a
+
+-- from `<` to `>`
+abbrev pub qself_span : {T : Type 0} → QSelfOf T → Span
+qself_span x = span (mark_span x.lt_token.spans).lo (mark_span x.gt_token.spans).hi
 
 -- whether the identifier is there and has this text
 abbrev pub is_text : Bytes → Option Ident → Bool
