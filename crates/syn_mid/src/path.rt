@@ -27,8 +27,8 @@ use crate::ty::{
 };
 use std::alloc::{AllocError, Global};
 use token_core::token::{
-    As, Colon, Comma, Crate, Eq, Gt, Le, Lt, Mark, Paren, PathSep, Plus, RArrow, SelfType, SelfValue,
-    ShlEq, Super, Try,
+    As, Colon, Comma, Crate, Eq, Gt, Le, Lt, Mark, Paren, PathSep, Plus, RArrow, SelfType,
+    SelfValue, ShlEq, Super, Try,
 };
 use token_core::{
     Boxed, Error, ErrorKind, Ident, Lifetime, Lit, Pair, ParseStream, Punctuated, Span, Spanned,
