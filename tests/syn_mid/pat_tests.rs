@@ -8,12 +8,12 @@ use std::alloc::Global;
 use syn_mid::{
     AngleBracketedGenericArguments, Attribute, FieldPat, ParenthesizedGenericArguments, ParseInner,
     ParseOuter, Pat, PatGuard, PatIdent, PatLit, PatOr, PatParen, PatPath, PatRange, PatRangeBound,
-    PatReference, PatRest, PatSlice, PatStruct, PatTuple, PatTupleStruct, PatType, PatWild, Path, PathArguments,
-    PathSegment, QSelf, ReturnTypeOf,
+    PatReference, PatRest, PatSlice, PatStruct, PatTuple, PatTupleStruct, PatType, PatWild, Path,
+    PathArguments, PathSegment, QSelf, ReturnTypeOf,
 };
 use token_core::token::{
-    And, As, At, Brace, Bracket, Colon, Comma, DotDot, DotDotEq, Gt, If, Lt, Mut, Or, Paren, PathSep, Ref,
-    Underscore,
+    And, As, At, Brace, Bracket, Colon, Comma, DotDot, DotDotEq, Gt, If, Lt, Mut, Or, Paren,
+    PathSep, Ref, Underscore,
 };
 use token_core::{
     Boxed, Error, Index, Items, Lit, Member, Punctuated, RangeLimits, Span, read_all, read_all_with,
