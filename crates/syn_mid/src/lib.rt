@@ -3,7 +3,6 @@
 
 pub mod attr;
 pub mod generics;
-mod grammar;
 pub mod mac;
 pub mod meta;
 pub mod pat;

@@ -3,19 +3,20 @@
 ghost use Rattle.std.specs.Prelude.{◌≡◌, false};
 ghost use Rattle.token_core.specs.Reads.{Gives, Fails};
 ghost use Rattle.token_core.specs.Headline.{Headline};
-ghost use Rattle.syn_mid.specs.attr.Grammars as grammars;
-ghost use Rattle.syn_mid.specs.attr.Reading as attrs;
-ghost use Rattle.syn_mid.specs.path.Grammars as paths;
-ghost use Rattle.syn_mid.specs.path.Reading as reading;
-ghost use Rattle.syn_mid.specs.ty.Grammars as types;
-ghost use Rattle.syn_mid.specs.ty.Knot as knot;
+ghost use Rattle.syn_attr.specs.attr.Grammars as grammars;
+ghost use Rattle.syn_attr.specs.attr.Reading as attrs;
+ghost use Rattle.syn_path.specs.path.Grammars as paths;
+ghost use Rattle.syn_path.specs.path.Reading as reading;
+ghost use Rattle.syn_ty.specs.ty.Grammars as types;
+ghost use Rattle.syn_ty.specs.ty.Knot as knot;
 
-use crate::attr::Attribute;
-use crate::path::{Arguments, PathOf};
-use crate::supplied::{Attributes, Expr, Subtree, Value};
-use crate::ty::TypeOf;
 use std::alloc::Global;
 use std::marker::PhantomData;
+use syn_attr::attr::Attribute;
+use syn_attr::expr::Expr;
+use syn_path::path::{Arguments, PathOf};
+use syn_path::supplied::{Attributes, Subtree, Value};
+use syn_ty::ty::TypeOf;
 use token_core::{Error, Items, ParseStream, Parser};
 
 /// `PathOf::parse_mod_style` as a parser, for `read_all_with`.

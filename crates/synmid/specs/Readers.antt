@@ -12,27 +12,29 @@ use Rattle.token_core.specs.Prints.{Print}
 use Rattle.token_core.specs.Spans.{none}
 use Rattle.token_core.specs.Stream.{Stream, started}
 use Rattle.token_core.specs.Reads.{Ends, Refuses, Reader as R}
-use Rattle.syn_mid.specs.declared.mac.Macro as mac
-use Rattle.syn_mid.specs.declared.attr.Meta as meta
-use Rattle.syn_mid.specs.declared.attr.MetaList as meta_list
-use Rattle.syn_mid.specs.declared.attr.MetaNameValue as name_value
-use Rattle.syn_mid.specs.declared.ty.PointerMutability as mutability
-use Rattle.syn_mid.specs.ty.Grammars as types
-use Rattle.syn_mid.specs.ty.Trees as ty
-use Rattle.syn_mid.specs.attr.Attrs.{Attribute}
-use Rattle.syn_mid.specs.attr.Grammars as attrs
-use Rattle.syn_mid.specs.attr.Printing as printing
-use Rattle.syn_mid.specs.attr.Normal as normal
-use Rattle.syn_mid.specs.attr.Lengths.{lens, spells_len}
-use Rattle.syn_mid.specs.declared.supplied.Expr.{Expr}
-use Rattle.syn_mid.specs.declared.ty.TypeInferOf as infer
-use Rattle.syn_mid.specs.declared.ty.TypeMacroOf as macro
-use Rattle.syn_mid.specs.declared.ty.TypeNeverOf as never
-use Rattle.syn_mid.specs.generics.NormalShapes.{NormalValues, normal_values_of}
-use Rattle.syn_mid.specs.generics.Shapes.{Values, values_of, outer}
-use Rattle.syn_mid.specs.mac.Grammars as macs
-use Rattle.syn_mid.specs.path.Grammars as paths
-use Rattle.syn_mid.specs.path.Paths as path
+use Rattle.syn_path.specs.declared.mac.Macro as mac
+use Rattle.syn_attr.specs.declared.attr.Meta as meta
+use Rattle.syn_attr.specs.declared.attr.MetaList as meta_list
+use Rattle.syn_attr.specs.declared.attr.MetaNameValue as name_value
+use Rattle.syn_ty.specs.declared.ty.PointerMutability as mutability
+use Rattle.syn_ty.specs.ty.Grammars as types
+use Rattle.syn_ty.specs.ty.Trees as ty
+use Rattle.syn_attr.specs.attr.Attrs.{Attribute}
+use Rattle.syn_attr.specs.attr.Grammars as attrs
+use Rattle.syn_attr.specs.attr.Printing as printing
+use Rattle.syn_attr.specs.attr.Normal as normal
+use Rattle.syn_attr.specs.attr.Lengths.{lens, spells_len}
+use Rattle.syn_attr.specs.declared.expr.Expr.{Expr}
+use Rattle.syn_ty.specs.declared.ty.TypeInferOf as infer
+use Rattle.syn_ty.specs.declared.ty.TypeMacroOf as macro
+use Rattle.syn_ty.specs.declared.ty.TypeNeverOf as never
+use Rattle.syn_path.specs.Values.{NormalValues}
+use Rattle.syn_attr.specs.attr.Consts.{normal_values_of}
+use Rattle.syn_path.specs.Values.{Values}
+use Rattle.syn_attr.specs.attr.Consts.{values_of, outer}
+use Rattle.syn_path.specs.mac.Grammars as macs
+use Rattle.syn_path.specs.path.Grammars as paths
+use Rattle.syn_ty.specs.path.Paths as path
 use Rattle.synmid.specs.contracts.sample.SampleSubtree.TheImpl.{reads-value, spells-value, normal-value, prints-value}
 use Rattle.synmid.specs.declared.sample.Sample.{Sample}
 use Rattle.synmid.specs.declared.reader.Reader.{Reader}

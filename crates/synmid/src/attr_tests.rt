@@ -4,7 +4,7 @@
 
 ghost use Rattle.std.specs.Prelude.{◌<◌, length, IfOk};
 ghost use Rattle.token_core.specs.Reads.{Follows};
-ghost use Rattle.syn_mid.specs.attr.Requirements.{path_in};
+ghost use Rattle.syn_attr.specs.attr.Requirements.{path_in};
 
 use crate::nested_tests::{Does, at_property, called, show};
 use crate::sample::Sample;

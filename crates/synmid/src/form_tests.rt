@@ -2,7 +2,7 @@
 
 ghost use Rattle.std.specs.Prelude.{◌<◌, length};
 ghost use Rattle.token_core.specs.Reads.{Follows};
-ghost use Rattle.syn_mid.specs.attr.Requirements.{path_in};
+ghost use Rattle.syn_attr.specs.attr.Requirements.{path_in};
 
 use crate::attr_tests::says;
 use crate::sample::Sample;

@@ -5,7 +5,7 @@ ghost use Rattle.std.specs.Prelude.{◌≡◌, ◌++◌, OnOk, OnErr};
 ghost use Rattle.token_core.specs.Trees.{trees};
 ghost use Rattle.token_core.specs.Prints.{Extends};
 ghost use Rattle.token_core.specs.Reads.{Reads, Follows, sees_word};
-ghost use Rattle.syn_mid.specs.path.Spelling.{is_mod_word};
+ghost use Rattle.syn_path.specs.path.Spelling.{is_mod_word};
 ghost use Rattle.synmid.specs.sample.Parts as spec;
 ghost use Rattle.synmid.specs.sample.Reading as reading;
 ghost use Rattle.synmid.specs.sample.Printing as printing;
@@ -42,7 +42,7 @@ pub struct ModPath {
 // ---- reads
 
 /// Whether an identifier of a path is here.
-#[tactic(auto, using(syn_mid::proofs::path_laws::Turns::or_words))]
+#[tactic(auto, using(syn_path::proofs::path_laws::Turns::or_words))]
 fn begins_segment(input: &ParseStream<'_>) -> bool
     ensures { result ≡ sees_word is_mod_word input.now.rest }
 {

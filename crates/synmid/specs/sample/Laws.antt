@@ -36,10 +36,10 @@ use Rattle.token_core.proofs.MarkSpells.{mark_sound, mark_complete, mark_seen, m
 use Rattle.token_core.proofs.Rebuilds.{tree-ident, visible-tree, stream-trees}
 use Rattle.token_core.proofs.Rows.{row-append}
 use Rattle.token_core.proofs.Unseen.{no_mark-done, no_mark-word, no_mark-other}
-use Rattle.syn_mid.specs.declared.supplied.Place.{Place}
-use Rattle.syn_mid.specs.declared.supplied.Place.TheVariants.{ArrayLen, Value, Guard, Block}
-use Rattle.syn_mid.specs.Supplied.{SameOutcome, UsesUp, Reprints, IsApart, lone_literal, lone_number, is_number, is_truth, attribute_ahead}
-use Rattle.syn_mid.specs.path.Spelling.{is_mod_word}
+use Rattle.syn_path.specs.declared.supplied.Place.{Place}
+use Rattle.syn_path.specs.declared.supplied.Place.TheVariants.{ArrayLen, Value, Guard, Block}
+use Rattle.syn_path.specs.Supplied.{SameOutcome, UsesUp, Reprints, IsApart, lone_literal, lone_number, is_number, is_truth, attribute_ahead}
+use Rattle.syn_path.specs.path.Spelling.{is_mod_word}
 use Rattle.synmid.specs.declared.sample.Sample.{Sample}
 use Rattle.synmid.specs.declared.sample.Atom.{Atom}
 use Rattle.synmid.specs.declared.sample.Atom.TheVariants as a

@@ -10,9 +10,9 @@ use Rattle.token_core.specs.Groups.{paren_name}
 use Rattle.token_core.specs.Marks as marks
 use Rattle.token_core.specs.Lits.{sees_lit, read_lit}
 use Rattle.token_core.specs.Loops.{Many, joined}
-use Rattle.syn_mid.specs.path.Spelling.{is_mod_word}
-use Rattle.syn_mid.specs.declared.supplied.Place.{Place}
-use Rattle.syn_mid.specs.declared.supplied.Place.TheVariants.{ArrayLen, Value, Guard, Block}
+use Rattle.syn_path.specs.path.Spelling.{is_mod_word}
+use Rattle.syn_path.specs.declared.supplied.Place.{Place}
+use Rattle.syn_path.specs.declared.supplied.Place.TheVariants.{ArrayLen, Value, Guard, Block}
 use Rattle.synmid.specs.declared.sample.Sample.{Sample}
 use Rattle.synmid.specs.declared.sample.Atom.{Atom}
 use Rattle.synmid.specs.declared.sample.Atom.TheVariants as a

@@ -24,7 +24,7 @@ use Rattle.token_core.proofs.Took as took
 use Rattle.token_core.proofs.Turns.{chain, same_pair, word_takes, size_suffix, after_value, after_mark}
 use Rattle.token_core.proofs.lit_laws.{suffix_literal}
 use Rattle.token_core.proofs.WordSpells.{went_on}
-use Rattle.syn_mid.specs.path.Spelling.{is_mod_word}
+use Rattle.syn_path.specs.path.Spelling.{is_mod_word}
 use Rattle.synmid.specs.declared.sample.Atom.{Atom}
 use Rattle.synmid.specs.declared.sample.Atom.TheVariants as a
 use Rattle.synmid.specs.declared.sample.ModPath.{ModPath}

@@ -5,7 +5,7 @@ use Rattle.token_core.specs.Reads.{sees_mark}
 use Rattle.token_core.specs.Loops.{size, never, after}
 use Rattle.token_core.proofs.Suffixes.{follows}
 use Rattle.token_core.proofs.Turns.{turn_refused, turn_last, turn_stuck, turn_on}
-use Rattle.syn_mid.proofs.path_laws.Turns.{refused_by, stuck_by}
+use Rattle.syn_path.proofs.path_laws.Turns.{refused_by, stuck_by}
 use Rattle.synmid.specs.sample.Reading.{joined_by, segment}
 use Rattle.synmid.specs.sample.Joins.{joint_keeps}
 use Rattle.synmid.specs.sample.Reads.{segment-takes}

@@ -1,5 +1,5 @@
 use Rattle.token_core.specs.Trees.{toks}
-use Rattle.syn_mid.specs.mac.Grammars as macs
+use Rattle.syn_path.specs.mac.Grammars as macs
 use Rattle.synmid.proofs.Whole.{prints-reprints}
 use Rattle.synmid.specs.Readers.{grammar}
 use Rattle.synmid.specs.declared.reader.Reader.TheVariants as r

@@ -1,4 +1,0 @@
-pub mod Sound
-pub mod Complete
-pub mod Reprint
-pub mod Laws

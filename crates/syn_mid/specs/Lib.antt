@@ -1,9 +1,0 @@
-pub mod Supplied
-pub mod Lengths
-pub mod path
-pub mod mac
-pub mod attr
-pub mod meta
-pub mod ty
-pub mod generics
-pub mod pat

@@ -1,5 +1,0 @@
-pub mod Macros
-pub mod Reading
-pub mod Spelling
-pub mod Printing
-pub mod Grammars

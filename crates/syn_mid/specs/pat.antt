@@ -1,3 +1,0 @@
-pub mod Pats
-pub mod Printing
-pub mod Normal

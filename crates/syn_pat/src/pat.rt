@@ -1,0 +1,1212 @@
+//! Patterns.
+
+ghost use Rattle.std.specs.Prelude.{◌≡◌, ◌++◌, OnOk, OnErr, option_map};
+ghost use Rattle.token_core.specs.Joined.{values_of, marks_of};
+ghost use Rattle.token_core.specs.Prints.{Extends};
+ghost use Rattle.token_core.specs.Trees.{trees};
+ghost use Rattle.syn_pat.specs.declared.pat.PatOf.TheVariants as pats;
+ghost use Rattle.syn_ty.specs.generics.Shapes as generics;
+ghost use Rattle.syn_pat.specs.pat.Pats as spec;
+ghost use Rattle.syn_pat.specs.pat.Printing as printing;
+
+use std::alloc::{AllocError, Global};
+use syn_attr::attr::{Attribute, print_outer, print_value};
+use syn_attr::expr::{Expr, ExprConst, ExprConstOf, ExprLit, ExprLitOf, ExprMacro, ExprMacroOf};
+use syn_names::{Path, QSelf, Type};
+use syn_path::path::PathStyle;
+use syn_path::supplied::{Place, Subtree};
+use syn_ty::ty::{
+    print_last_comma, print_lone_comma, print_qpath, print_type, print_verbatim, print_word,
+};
+use token_core::token::{
+    And, At, Brace, Bracket, Colon, Comma, DotDot, If, Mark, Mut, Or, Paren, Ref, Underscore, Word,
+};
+use token_core::{
+    Boxed, Ident, Items, Member, Pair, Punctuated, RangeLimits, ToTokens, TokenStream,
+};
+
+/// A pattern, over its attributes and what qualifies its paths.
+#[cycle(pats)]
+#[derive(Drop)]
+pub enum PatOf<A, P, Q, T, X> {
+    /// `const { .. }`
+    Const(ExprConstOf<A, X>),
+    /// `a if b`
+    Guard(PatGuardOf<PatOf<A, P, Q, T, X>, A, X>),
+    /// `ref mut a @ b`
+    Ident(PatIdentOf<PatOf<A, P, Q, T, X>, A>),
+    /// `1`
+    Lit(ExprLitOf<A>),
+    /// `a!(b)`
+    Macro(ExprMacroOf<A>),
+    /// `a | b`
+    Or(PatOrOf<PatOf<A, P, Q, T, X>, A>),
+    /// `(a)`
+    Paren(PatParenOf<PatOf<A, P, Q, T, X>, A>),
+    /// `a::b`
+    Path(PatPathOf<A, P, Q>),
+    /// `1..=2`
+    Range(PatRangeOf<A, P, Q, X>),
+    /// `&mut a`
+    Reference(PatReferenceOf<PatOf<A, P, Q, T, X>, A>),
+    /// `..`
+    Rest(PatRestOf<A>),
+    /// `[a, b, ..]`
+    Slice(PatSliceOf<PatOf<A, P, Q, T, X>, A>),
+    /// `A { x, y: b, .. }`
+    Struct(PatStructOf<PatOf<A, P, Q, T, X>, A, P, Q>),
+    /// `(a, b)`
+    Tuple(PatTupleOf<PatOf<A, P, Q, T, X>, A>),
+    /// `A(b, ..)`
+    TupleStruct(PatTupleStructOf<PatOf<A, P, Q, T, X>, A, P, Q>),
+    /// `a: T`
+    Type(PatTypeOf<PatOf<A, P, Q, T, X>, A, T>),
+    /// Tokens that no other case holds.
+    Verbatim(TokenStream),
+    /// `_`
+    Wild(PatWild<X>),
+}
+
+/// A pattern.
+pub type Pat<X> = PatOf<Attribute<X>, Path<X>, QSelf<X>, Type<X>, X>;
+
+/// A const block as a pattern.
+pub type PatConst<X> = ExprConst<X>;
+
+/// A pattern with a guard, over that pattern.
+#[derive(Drop)]
+pub struct PatGuardOf<P, A, X> {
+    pub attrs: Items<A>,
+    pub pat: Boxed<P>,
+    pub if_token: If,
+    pub guard: Boxed<Expr<X>>,
+}
+
+/// A pattern with a guard: a pattern, `if`, an expression.
+pub type PatGuard<X> = PatGuardOf<Pat<X>, Attribute<X>, X>;
+
+/// A binding, over the pattern after its `@`.
+#[derive(Drop)]
+pub struct PatIdentOf<P, A> {
+    pub attrs: Items<A>,
+    pub by_ref: Option<Ref>,
+    pub mutability: Option<Mut>,
+    pub ident: Ident,
+    pub subpat: Option<(At, Boxed<P>)>,
+}
+
+/// A binding: an optional `ref`, an optional `mut`, a name, perhaps `@` and a pattern.
+pub type PatIdent<X> = PatIdentOf<Pat<X>, Attribute<X>>;
+
+/// A literal as a pattern.
+pub type PatLit<X> = ExprLit<X>;
+
+/// A macro call as a pattern.
+pub type PatMacro<X> = ExprMacro<X>;
+
+/// Alternatives, over their pattern.
+#[derive(Drop)]
+pub struct PatOrOf<P, A> {
+    pub attrs: Items<A>,
+    pub leading_vert: Option<Or>,
+    pub cases: Punctuated<P, Or>,
+}
+
+/// Alternatives: an optional `|`, patterns joined by `|`.
+pub type PatOr<X> = PatOrOf<Pat<X>, Attribute<X>>;
+
+/// A pattern in parentheses, over that pattern.
+#[derive(Drop)]
+pub struct PatParenOf<P, A> {
+    pub attrs: Items<A>,
+    pub paren_token: Paren,
+    pub pat: Boxed<P>,
+}
+
+/// A pattern in parentheses.
+pub type PatParen<X> = PatParenOf<Pat<X>, Attribute<X>>;
+
+/// A path as a pattern, over the path and what qualifies it.
+#[derive(Drop)]
+pub struct PatPathOf<A, P, Q> {
+    pub attrs: Items<A>,
+    pub qself: Option<Q>,
+    pub path: P,
+}
+
+/// A path as a pattern, which a type may qualify.
+pub type PatPath<X> = PatPathOf<Attribute<X>, Path<X>, QSelf<X>>;
+
+/// A range as a pattern, over its attributes and what qualifies the paths of its bounds.
+#[derive(Drop)]
+pub struct PatRangeOf<A, P, Q, X> {
+    pub attrs: Items<A>,
+    pub start: Option<Boxed<PatRangeBoundOf<A, P, Q, X>>>,
+    pub limits: RangeLimits,
+    pub end: Option<Boxed<PatRangeBoundOf<A, P, Q, X>>>,
+}
+
+/// A range as a pattern: an optional bound, `..=` or `..`, an optional bound.
+pub type PatRange<X> = PatRangeOf<Attribute<X>, Path<X>, QSelf<X>, X>;
+
+/// A bound of a range, over its attributes and what qualifies its path.
+#[derive(Drop)]
+pub enum PatRangeBoundOf<A, P, Q, X> {
+    /// `const { .. }`
+    Const(ExprConstOf<A, X>),
+    /// `1`
+    Lit(ExprLitOf<A>),
+    /// `a::b`
+    Path(PatPathOf<A, P, Q>),
+}
+
+/// A bound of a range as a pattern: a const block, a literal or a path, which a type may qualify.
+pub type PatRangeBound<X> = PatRangeBoundOf<Attribute<X>, Path<X>, QSelf<X>, X>;
+
+/// A pattern of a reference, over the pattern of what it points to.
+#[derive(Drop)]
+pub struct PatReferenceOf<P, A> {
+    pub attrs: Items<A>,
+    pub and_token: And,
+    pub mutability: Option<Mut>,
+    pub pat: Boxed<P>,
+}
+
+/// A pattern of a reference: `&`, an optional `mut`, a pattern.
+pub type PatReference<X> = PatReferenceOf<Pat<X>, Attribute<X>>;
+
+/// What is left over: `..`.
+#[derive(Drop)]
+pub struct PatRestOf<A> {
+    pub attrs: Items<A>,
+    pub dot2_token: DotDot,
+}
+
+/// The rest of a list of patterns: `..`.
+pub type PatRest<X> = PatRestOf<Attribute<X>>;
+
+/// A pattern of a slice, over its elements' pattern.
+#[derive(Drop)]
+pub struct PatSliceOf<P, A> {
+    pub attrs: Items<A>,
+    pub bracket_token: Bracket,
+    pub elems: Punctuated<P, Comma>,
+}
+
+/// A pattern of a slice: patterns in brackets, joined by commas.
+pub type PatSlice<X> = PatSliceOf<Pat<X>, Attribute<X>>;
+
+/// A pattern of a struct, over its fields' pattern and what qualifies its path.
+#[derive(Drop)]
+pub struct PatStructOf<P, A, R, Q> {
+    pub attrs: Items<A>,
+    pub qself: Option<Q>,
+    pub path: R,
+    pub brace_token: Brace,
+    pub fields: Punctuated<FieldPatOf<P, A>, Comma>,
+    pub rest: Option<PatRestOf<A>>,
+}
+
+/// A pattern of a struct: a path, perhaps a qualified one, and in braces fields joined by commas, perhaps `..` at the end.
+pub type PatStruct<X> = PatStructOf<Pat<X>, Attribute<X>, Path<X>, QSelf<X>>;
+
+/// A pattern of a tuple, over its elements' pattern.
+#[derive(Drop)]
+pub struct PatTupleOf<P, A> {
+    pub attrs: Items<A>,
+    pub paren_token: Paren,
+    pub elems: Punctuated<P, Comma>,
+}
+
+/// A pattern of a tuple: patterns in parentheses, joined by commas.
+pub type PatTuple<X> = PatTupleOf<Pat<X>, Attribute<X>>;
+
+/// A pattern of a tuple struct, over its elements' pattern and what qualifies its path.
+#[derive(Drop)]
+pub struct PatTupleStructOf<P, A, R, Q> {
+    pub attrs: Items<A>,
+    pub qself: Option<Q>,
+    pub path: R,
+    pub paren_token: Paren,
+    pub elems: Punctuated<P, Comma>,
+}
+
+/// A pattern of a tuple struct: a path, perhaps a qualified one, and patterns in parentheses, joined by commas.
+pub type PatTupleStruct<X> = PatTupleStructOf<Pat<X>, Attribute<X>, Path<X>, QSelf<X>>;
+
+/// A pattern with its type, over that pattern.
+#[derive(Drop)]
+pub struct PatTypeOf<P, A, T> {
+    pub attrs: Items<A>,
+    pub pat: Boxed<P>,
+    pub colon_token: Colon,
+    pub ty: Boxed<T>,
+}
+
+/// A pattern with its type: a pattern, `:`, a type.
+pub type PatType<X> = PatTypeOf<Pat<X>, Attribute<X>, Type<X>>;
+
+/// A pattern of any value: `_`.
+#[derive(Drop)]
+pub struct PatWild<X> {
+    pub attrs: Items<Attribute<X>>,
+    pub underscore_token: Underscore,
+}
+
+/// A field of a struct's pattern, over its pattern.
+#[derive(Drop)]
+pub struct FieldPatOf<P, A> {
+    pub attrs: Items<A>,
+    pub member: Member,
+    pub colon_token: Option<Colon>,
+    pub pat: Boxed<P>,
+}
+
+/// A field of a struct's pattern: a member, `:`, a pattern; or a pattern alone, which binds the member of its name.
+pub type FieldPat<X> = FieldPatOf<Pat<X>, Attribute<X>>;
+
+impl<X> Pat<X> {
+    /// Whether it is `..`.
+    fn is_rest(&self) -> bool
+        ensures { result ≡ spec.is_rest self.now }
+    {
+        match self {
+            Pat::Rest(_) => true,
+            Pat::Const(_) | Pat::Guard(_) | Pat::Ident(_) | Pat::Lit(_) | Pat::Macro(_) => false,
+            Pat::Or(_) | Pat::Paren(_) | Pat::Path(_) | Pat::Range(_) => false,
+            Pat::Reference(_) | Pat::Slice(_) | Pat::Struct(_) | Pat::Tuple(_) => false,
+            Pat::TupleStruct(_) | Pat::Type(_) | Pat::Verbatim(_) | Pat::Wild(_) => false,
+        }
+    }
+}
+
+// ---- a form as a pattern
+
+impl<X> From<PatConst<X>> for Pat<X> {
+    ghost from_gives = { λ form pat. pat ≡ pats.Const form };
+
+    fn from(form: PatConst<X>) -> Pat<X> {
+        Pat::Const(form)
+    }
+}
+
+impl<X> From<PatGuard<X>> for Pat<X> {
+    ghost from_gives = { λ form pat. pat ≡ pats.Guard form };
+
+    fn from(form: PatGuard<X>) -> Pat<X> {
+        Pat::Guard(form)
+    }
+}
+
+impl<X> From<PatIdent<X>> for Pat<X> {
+    ghost from_gives = { λ form pat. pat ≡ pats.Ident form };
+
+    fn from(form: PatIdent<X>) -> Pat<X> {
+        Pat::Ident(form)
+    }
+}
+
+impl<X> From<PatLit<X>> for Pat<X> {
+    ghost from_gives = { λ form pat. pat ≡ pats.Lit form };
+
+    fn from(form: PatLit<X>) -> Pat<X> {
+        Pat::Lit(form)
+    }
+}
+
+impl<X> From<PatMacro<X>> for Pat<X> {
+    ghost from_gives = { λ form pat. pat ≡ pats.Macro form };
+
+    fn from(form: PatMacro<X>) -> Pat<X> {
+        Pat::Macro(form)
+    }
+}
+
+impl<X> From<PatOr<X>> for Pat<X> {
+    ghost from_gives = { λ form pat. pat ≡ pats.Or form };
+
+    fn from(form: PatOr<X>) -> Pat<X> {
+        Pat::Or(form)
+    }
+}
+
+impl<X> From<PatParen<X>> for Pat<X> {
+    ghost from_gives = { λ form pat. pat ≡ pats.Paren form };
+
+    fn from(form: PatParen<X>) -> Pat<X> {
+        Pat::Paren(form)
+    }
+}
+
+impl<X> From<PatPath<X>> for Pat<X> {
+    ghost from_gives = { λ form pat. pat ≡ pats.Path form };
+
+    fn from(form: PatPath<X>) -> Pat<X> {
+        Pat::Path(form)
+    }
+}
+
+impl<X> From<PatRange<X>> for Pat<X> {
+    ghost from_gives = { λ form pat. pat ≡ pats.Range form };
+
+    fn from(form: PatRange<X>) -> Pat<X> {
+        Pat::Range(form)
+    }
+}
+
+impl<X> From<PatReference<X>> for Pat<X> {
+    ghost from_gives = { λ form pat. pat ≡ pats.Reference form };
+
+    fn from(form: PatReference<X>) -> Pat<X> {
+        Pat::Reference(form)
+    }
+}
+
+impl<X> From<PatRest<X>> for Pat<X> {
+    ghost from_gives = { λ form pat. pat ≡ pats.Rest form };
+
+    fn from(form: PatRest<X>) -> Pat<X> {
+        Pat::Rest(form)
+    }
+}
+
+impl<X> From<PatSlice<X>> for Pat<X> {
+    ghost from_gives = { λ form pat. pat ≡ pats.Slice form };
+
+    fn from(form: PatSlice<X>) -> Pat<X> {
+        Pat::Slice(form)
+    }
+}
+
+impl<X> From<PatStruct<X>> for Pat<X> {
+    ghost from_gives = { λ form pat. pat ≡ pats.Struct form };
+
+    fn from(form: PatStruct<X>) -> Pat<X> {
+        Pat::Struct(form)
+    }
+}
+
+impl<X> From<PatTuple<X>> for Pat<X> {
+    ghost from_gives = { λ form pat. pat ≡ pats.Tuple form };
+
+    fn from(form: PatTuple<X>) -> Pat<X> {
+        Pat::Tuple(form)
+    }
+}
+
+impl<X> From<PatTupleStruct<X>> for Pat<X> {
+    ghost from_gives = { λ form pat. pat ≡ pats.TupleStruct form };
+
+    fn from(form: PatTupleStruct<X>) -> Pat<X> {
+        Pat::TupleStruct(form)
+    }
+}
+
+impl<X> From<PatType<X>> for Pat<X> {
+    ghost from_gives = { λ form pat. pat ≡ pats.«Type» form };
+
+    fn from(form: PatType<X>) -> Pat<X> {
+        Pat::Type(form)
+    }
+}
+
+impl<X> From<PatWild<X>> for Pat<X> {
+    ghost from_gives = { λ form pat. pat ≡ pats.Wild form };
+
+    fn from(form: PatWild<X>) -> Pat<X> {
+        Pat::Wild(form)
+    }
+}
+
+// ---- prints
+
+impl<X: Subtree> ToTokens for Pat<X> {
+    ghost print = { printing.pat X.prints };
+
+    fn to_tokens(&self, alloc: Global, out: &mut TokenStream) -> Result<(), AllocError> {
+        let before = out.len();
+        match print_pat(alloc, self, out) {
+            Ok(()) => Ok(()),
+            Err(error) => {
+                out.truncate(before);
+                Err(error)
+            }
+        }
+    }
+}
+
+impl<X: Subtree> ToTokens for PatGuard<X> {
+    ghost print = { printing.guarded X.prints };
+
+    fn to_tokens(&self, alloc: Global, out: &mut TokenStream) -> Result<(), AllocError> {
+        let before = out.len();
+        match print_guarded(alloc, self, out) {
+            Ok(()) => Ok(()),
+            Err(error) => {
+                out.truncate(before);
+                Err(error)
+            }
+        }
+    }
+}
+
+impl<X: Subtree> ToTokens for PatIdent<X> {
+    ghost print = { printing.binding X.prints };
+
+    fn to_tokens(&self, alloc: Global, out: &mut TokenStream) -> Result<(), AllocError> {
+        let before = out.len();
+        match print_binding(alloc, self, out) {
+            Ok(()) => Ok(()),
+            Err(error) => {
+                out.truncate(before);
+                Err(error)
+            }
+        }
+    }
+}
+
+impl<X: Subtree> ToTokens for PatOr<X> {
+    ghost print = { printing.alternatives X.prints };
+
+    fn to_tokens(&self, alloc: Global, out: &mut TokenStream) -> Result<(), AllocError> {
+        let before = out.len();
+        match print_alternatives(alloc, self, out) {
+            Ok(()) => Ok(()),
+            Err(error) => {
+                out.truncate(before);
+                Err(error)
+            }
+        }
+    }
+}
+
+impl<X: Subtree> ToTokens for PatParen<X> {
+    ghost print = { printing.paren X.prints };
+
+    fn to_tokens(&self, alloc: Global, out: &mut TokenStream) -> Result<(), AllocError> {
+        let before = out.len();
+        match print_paren(alloc, self, out) {
+            Ok(()) => Ok(()),
+            Err(error) => {
+                out.truncate(before);
+                Err(error)
+            }
+        }
+    }
+}
+
+impl<X: Subtree> ToTokens for PatPath<X> {
+    ghost print = { printing.by_path X.prints };
+
+    fn to_tokens(&self, alloc: Global, out: &mut TokenStream) -> Result<(), AllocError> {
+        let before = out.len();
+        match print_by_path(alloc, self, out) {
+            Ok(()) => Ok(()),
+            Err(error) => {
+                out.truncate(before);
+                Err(error)
+            }
+        }
+    }
+}
+
+impl<X: Subtree> ToTokens for PatRange<X> {
+    ghost print = { printing.range X.prints };
+
+    fn to_tokens(&self, alloc: Global, out: &mut TokenStream) -> Result<(), AllocError> {
+        let before = out.len();
+        match print_range(alloc, self, out) {
+            Ok(()) => Ok(()),
+            Err(error) => {
+                out.truncate(before);
+                Err(error)
+            }
+        }
+    }
+}
+
+impl<X: Subtree> ToTokens for PatRangeBound<X> {
+    ghost print = { printing.range_bound X.prints };
+
+    fn to_tokens(&self, alloc: Global, out: &mut TokenStream) -> Result<(), AllocError> {
+        match self {
+            PatRangeBoundOf::Const(bound) => bound.to_tokens(alloc, out),
+            PatRangeBoundOf::Lit(bound) => bound.to_tokens(alloc, out),
+            PatRangeBoundOf::Path(bound) => bound.to_tokens(alloc, out),
+        }
+    }
+}
+
+impl<X: Subtree> ToTokens for PatReference<X> {
+    ghost print = { printing.reference X.prints };
+
+    fn to_tokens(&self, alloc: Global, out: &mut TokenStream) -> Result<(), AllocError> {
+        let before = out.len();
+        match print_reference(alloc, self, out) {
+            Ok(()) => Ok(()),
+            Err(error) => {
+                out.truncate(before);
+                Err(error)
+            }
+        }
+    }
+}
+
+impl<X: Subtree> ToTokens for PatRest<X> {
+    ghost print = { printing.rest X.prints };
+
+    fn to_tokens(&self, alloc: Global, out: &mut TokenStream) -> Result<(), AllocError> {
+        let before = out.len();
+        match print_rest(alloc, self, out) {
+            Ok(()) => Ok(()),
+            Err(error) => {
+                out.truncate(before);
+                Err(error)
+            }
+        }
+    }
+}
+
+impl<X: Subtree> ToTokens for PatSlice<X> {
+    ghost print = { printing.slice X.prints };
+
+    fn to_tokens(&self, alloc: Global, out: &mut TokenStream) -> Result<(), AllocError> {
+        let before = out.len();
+        match print_slice(alloc, self, out) {
+            Ok(()) => Ok(()),
+            Err(error) => {
+                out.truncate(before);
+                Err(error)
+            }
+        }
+    }
+}
+
+impl<X: Subtree> ToTokens for PatStruct<X> {
+    ghost print = { printing.fielded X.prints };
+
+    fn to_tokens(&self, alloc: Global, out: &mut TokenStream) -> Result<(), AllocError> {
+        let before = out.len();
+        match print_struct(alloc, self, out) {
+            Ok(()) => Ok(()),
+            Err(error) => {
+                out.truncate(before);
+                Err(error)
+            }
+        }
+    }
+}
+
+impl<X: Subtree> ToTokens for PatTuple<X> {
+    ghost print = { printing.tuple X.prints };
+
+    fn to_tokens(&self, alloc: Global, out: &mut TokenStream) -> Result<(), AllocError> {
+        let before = out.len();
+        match print_tuple(alloc, self, out) {
+            Ok(()) => Ok(()),
+            Err(error) => {
+                out.truncate(before);
+                Err(error)
+            }
+        }
+    }
+}
+
+impl<X: Subtree> ToTokens for PatTupleStruct<X> {
+    ghost print = { printing.tuple_struct X.prints };
+
+    fn to_tokens(&self, alloc: Global, out: &mut TokenStream) -> Result<(), AllocError> {
+        let before = out.len();
+        match print_tuple_struct(alloc, self, out) {
+            Ok(()) => Ok(()),
+            Err(error) => {
+                out.truncate(before);
+                Err(error)
+            }
+        }
+    }
+}
+
+impl<X: Subtree> ToTokens for PatType<X> {
+    ghost print = { printing.typed X.prints };
+
+    fn to_tokens(&self, alloc: Global, out: &mut TokenStream) -> Result<(), AllocError> {
+        let before = out.len();
+        match print_typed(alloc, self, out) {
+            Ok(()) => Ok(()),
+            Err(error) => {
+                out.truncate(before);
+                Err(error)
+            }
+        }
+    }
+}
+
+impl<X: Subtree> ToTokens for PatWild<X> {
+    ghost print = { printing.wild X.prints };
+
+    fn to_tokens(&self, alloc: Global, out: &mut TokenStream) -> Result<(), AllocError> {
+        let before = out.len();
+        match print_wild(alloc, self, out) {
+            Ok(()) => Ok(()),
+            Err(error) => {
+                out.truncate(before);
+                Err(error)
+            }
+        }
+    }
+}
+
+impl<X: Subtree> ToTokens for FieldPat<X> {
+    ghost print = { printing.field X.prints };
+
+    fn to_tokens(&self, alloc: Global, out: &mut TokenStream) -> Result<(), AllocError> {
+        let before = out.len();
+        match print_field(alloc, self, out) {
+            Ok(()) => Ok(()),
+            Err(error) => {
+                out.truncate(before);
+                Err(error)
+            }
+        }
+    }
+}
+
+/// Appends a pattern; refused, what stood before is kept.
+#[cycle(print)]
+#[tactic(auto, using(token_core::proofs::Puts::puts, crate::proofs::pat_laws::Prints::prints))]
+pub fn print_pat<X: Subtree>(
+    alloc: Global,
+    pat: &Pat<X>,
+    out: &mut TokenStream,
+) -> Result<(), AllocError>
+    ensures ok { OnOk result (trees out.new ≡ trees out.old ++ printing.pat X.prints pat.now) }
+    ensures err { OnErr result (Extends (trees out.old) (trees out.new)) }
+{
+    match pat {
+        Pat::Const(pat) => pat.to_tokens(alloc, out),
+        Pat::Guard(pat) => print_guarded(alloc, pat, out),
+        Pat::Ident(pat) => print_binding(alloc, pat, out),
+        Pat::Lit(pat) => pat.to_tokens(alloc, out),
+        Pat::Macro(pat) => pat.to_tokens(alloc, out),
+        Pat::Or(pat) => print_alternatives(alloc, pat, out),
+        Pat::Paren(pat) => print_paren(alloc, pat, out),
+        Pat::Path(pat) => pat.to_tokens(alloc, out),
+        Pat::Range(pat) => pat.to_tokens(alloc, out),
+        Pat::Reference(pat) => print_reference(alloc, pat, out),
+        Pat::Rest(pat) => print_rest(alloc, pat, out),
+        Pat::Slice(pat) => print_slice(alloc, pat, out),
+        Pat::Struct(pat) => print_struct(alloc, pat, out),
+        Pat::Tuple(pat) => print_tuple(alloc, pat, out),
+        Pat::TupleStruct(pat) => print_tuple_struct(alloc, pat, out),
+        Pat::Type(pat) => print_typed(alloc, pat, out),
+        Pat::Verbatim(tokens) => print_verbatim(alloc, tokens, out),
+        Pat::Wild(pat) => print_wild(alloc, pat, out),
+    }
+}
+
+#[cycle(print)]
+#[tactic(auto, using(token_core::proofs::Puts::puts, crate::proofs::pat_laws::Prints::prints))]
+fn print_guarded<X: Subtree>(
+    alloc: Global,
+    pat: &PatGuard<X>,
+    out: &mut TokenStream,
+) -> Result<(), AllocError>
+    ensures ok { OnOk result (trees out.new ≡ trees out.old ++ printing.guarded X.prints pat.now) }
+    ensures err { OnErr result (Extends (trees out.old) (trees out.new)) }
+{
+    print_outer(alloc, &pat.attrs, out)?;
+    print_pat(alloc, pat.pat.get(), out)?;
+    pat.if_token.to_tokens(alloc, out)?;
+    print_guard(alloc, pat.guard.get(), out)
+}
+
+#[cycle(print)]
+#[tactic(auto, using(token_core::proofs::Puts::puts, crate::proofs::pat_laws::Prints::prints))]
+fn print_binding<X: Subtree>(
+    alloc: Global,
+    pat: &PatIdent<X>,
+    out: &mut TokenStream,
+) -> Result<(), AllocError>
+    ensures ok { OnOk result (trees out.new ≡ trees out.old ++ printing.binding X.prints pat.now) }
+    ensures err { OnErr result (Extends (trees out.old) (trees out.new)) }
+{
+    print_name(alloc, pat, out)?;
+    match &pat.subpat {
+        Some((at_token, subpat)) => {
+            at_token.to_tokens(alloc, out)?;
+            print_pat(alloc, subpat.get(), out)
+        }
+        None => Ok(()),
+    }
+}
+
+#[cycle(print)]
+#[tactic(auto, using(token_core::proofs::Puts::puts, crate::proofs::pat_laws::Prints::prints))]
+fn print_alternatives<X: Subtree>(
+    alloc: Global,
+    pat: &PatOr<X>,
+    out: &mut TokenStream,
+) -> Result<(), AllocError>
+    ensures ok { OnOk result (trees out.new ≡ trees out.old ++ printing.alternatives X.prints pat.now) }
+    ensures err { OnErr result (Extends (trees out.old) (trees out.new)) }
+{
+    print_outer(alloc, &pat.attrs, out)?;
+    print_mark(alloc, &pat.leading_vert, out)?;
+    print_cases(alloc, pat, out)
+}
+
+#[cycle(print)]
+#[tactic(auto, using(token_core::proofs::Puts::puts, crate::proofs::pat_laws::Prints::prints))]
+fn print_paren<X: Subtree>(
+    alloc: Global,
+    pat: &PatParen<X>,
+    out: &mut TokenStream,
+) -> Result<(), AllocError>
+    ensures ok { OnOk result (trees out.new ≡ trees out.old ++ printing.paren X.prints pat.now) }
+    ensures err { OnErr result (Extends (trees out.old) (trees out.new)) }
+{
+    print_outer(alloc, &pat.attrs, out)?;
+    let mut content = TokenStream::new(alloc);
+    print_pat(alloc, pat.pat.get(), &mut content)?;
+    pat.paren_token.surround(content, out)
+}
+
+#[cycle(print)]
+#[tactic(auto, using(token_core::proofs::Puts::puts, crate::proofs::pat_laws::Prints::prints))]
+fn print_reference<X: Subtree>(
+    alloc: Global,
+    pat: &PatReference<X>,
+    out: &mut TokenStream,
+) -> Result<(), AllocError>
+    ensures ok { OnOk result (trees out.new ≡ trees out.old ++ printing.reference X.prints pat.now) }
+    ensures err { OnErr result (Extends (trees out.old) (trees out.new)) }
+{
+    print_outer(alloc, &pat.attrs, out)?;
+    pat.and_token.to_tokens(alloc, out)?;
+    print_word(alloc, &pat.mutability, out)?;
+    print_pat(alloc, pat.pat.get(), out)
+}
+
+#[cycle(print)]
+#[tactic(auto, using(token_core::proofs::Puts::puts, crate::proofs::pat_laws::Prints::prints))]
+fn print_slice<X: Subtree>(
+    alloc: Global,
+    pat: &PatSlice<X>,
+    out: &mut TokenStream,
+) -> Result<(), AllocError>
+    ensures ok { OnOk result (trees out.new ≡ trees out.old ++ printing.slice X.prints pat.now) }
+    ensures err { OnErr result (Extends (trees out.old) (trees out.new)) }
+{
+    print_outer(alloc, &pat.attrs, out)?;
+    let mut content = TokenStream::new(alloc);
+    print_slice_elements(alloc, pat, &mut content)?;
+    pat.bracket_token.surround(content, out)
+}
+
+#[tactic(auto, using(token_core::proofs::Puts::puts))]
+fn print_by_path<X: Subtree>(
+    alloc: Global,
+    pat: &PatPath<X>,
+    out: &mut TokenStream,
+) -> Result<(), AllocError>
+    ensures ok { OnOk result (trees out.new ≡ trees out.old ++ printing.by_path X.prints pat.now) }
+    ensures err { OnErr result (Extends (trees out.old) (trees out.new)) }
+{
+    print_outer(alloc, &pat.attrs, out)?;
+    print_qpath(alloc, &pat.qself, &pat.path, PathStyle::Expr, out)
+}
+
+#[tactic(auto, using(token_core::proofs::Puts::puts))]
+fn print_range<X: Subtree>(
+    alloc: Global,
+    pat: &PatRange<X>,
+    out: &mut TokenStream,
+) -> Result<(), AllocError>
+    ensures ok { OnOk result (trees out.new ≡ trees out.old ++ printing.range X.prints pat.now) }
+    ensures err { OnErr result (Extends (trees out.old) (trees out.new)) }
+{
+    print_outer(alloc, &pat.attrs, out)?;
+    print_bound(alloc, &pat.start, out)?;
+    pat.limits.to_tokens(alloc, out)?;
+    print_bound(alloc, &pat.end, out)
+}
+
+/// A bound that is there.
+#[tactic(auto, using(token_core::proofs::Puts::puts))]
+fn print_bound<X: Subtree>(
+    alloc: Global,
+    bound: &Option<Boxed<PatRangeBound<X>>>,
+    out: &mut TokenStream,
+) -> Result<(), AllocError>
+    ensures ok { OnOk result (trees out.new ≡ trees out.old ++ printing.optional_bound X.prints bound.now) }
+    ensures err { OnErr result (Extends (trees out.old) (trees out.new)) }
+{
+    match bound {
+        Some(bound) => bound.get().to_tokens(alloc, out),
+        None => Ok(()),
+    }
+}
+
+#[cycle(print)]
+#[tactic(auto, using(token_core::proofs::Puts::puts, crate::proofs::pat_laws::Prints::prints))]
+fn print_struct<X: Subtree>(
+    alloc: Global,
+    pat: &PatStruct<X>,
+    out: &mut TokenStream,
+) -> Result<(), AllocError>
+    ensures ok { OnOk result (trees out.new ≡ trees out.old ++ printing.fielded X.prints pat.now) }
+    ensures err { OnErr result (Extends (trees out.old) (trees out.new)) }
+{
+    print_outer(alloc, &pat.attrs, out)?;
+    print_qpath(alloc, &pat.qself, &pat.path, PathStyle::Expr, out)?;
+    let mut content = TokenStream::new(alloc);
+    print_fields(alloc, pat, &mut content)?;
+    print_struct_rest(alloc, pat, &mut content)?;
+    pat.brace_token.surround(content, out)
+}
+
+/// Each field of a struct's pattern with its comma.
+#[cycle(print)]
+#[tactic(auto, using(token_core::proofs::Puts::puts, crate::proofs::pat_laws::Prints::prints))]
+fn print_fields<X: Subtree>(
+    alloc: Global,
+    pat: &PatStruct<X>,
+    out: &mut TokenStream,
+) -> Result<(), AllocError>
+    ensures ok { OnOk result (trees out.new ≡ trees out.old ++ printing.fields X.prints pat.now.fields) }
+    ensures err { OnErr result (Extends (trees out.old) (trees out.new)) }
+{
+    let (pairs, last) = field_parts(pat);
+    for pair in pairs {
+        print_member(alloc, &pair.value, out)?;
+        print_pat(alloc, pair.value.pat.get(), out)?;
+        pair.mark.to_tokens(alloc, out)?;
+    }
+    match last {
+        Some(field) => {
+            print_member(alloc, field, out)?;
+            print_pat(alloc, field.pat.get(), out)
+        }
+        None => Ok(()),
+    }
+}
+
+#[cycle(print)]
+#[tactic(auto, using(token_core::proofs::Puts::puts, crate::proofs::pat_laws::Prints::prints))]
+fn print_tuple<X: Subtree>(
+    alloc: Global,
+    pat: &PatTuple<X>,
+    out: &mut TokenStream,
+) -> Result<(), AllocError>
+    ensures ok { OnOk result (trees out.new ≡ trees out.old ++ printing.tuple X.prints pat.now) }
+    ensures err { OnErr result (Extends (trees out.old) (trees out.new)) }
+{
+    print_outer(alloc, &pat.attrs, out)?;
+    let mut content = TokenStream::new(alloc);
+    print_tuple_elements(alloc, pat, &mut content)?;
+    let is_rest = begins_with_rest(&pat.elems);
+    print_tuple_comma(alloc, &pat.elems, is_rest, &mut content)?;
+    pat.paren_token.surround(content, out)
+}
+
+#[cycle(print)]
+#[tactic(auto, using(token_core::proofs::Puts::puts, crate::proofs::pat_laws::Prints::prints))]
+fn print_tuple_struct<X: Subtree>(
+    alloc: Global,
+    pat: &PatTupleStruct<X>,
+    out: &mut TokenStream,
+) -> Result<(), AllocError>
+    ensures ok { OnOk result (trees out.new ≡ trees out.old ++ printing.tuple_struct X.prints pat.now) }
+    ensures err { OnErr result (Extends (trees out.old) (trees out.new)) }
+{
+    print_outer(alloc, &pat.attrs, out)?;
+    print_qpath(alloc, &pat.qself, &pat.path, PathStyle::Expr, out)?;
+    let mut content = TokenStream::new(alloc);
+    print_tuple_struct_elements(alloc, pat, &mut content)?;
+    pat.paren_token.surround(content, out)
+}
+
+#[cycle(print)]
+#[tactic(auto, using(token_core::proofs::Puts::puts, crate::proofs::pat_laws::Prints::prints))]
+fn print_typed<X: Subtree>(
+    alloc: Global,
+    pat: &PatType<X>,
+    out: &mut TokenStream,
+) -> Result<(), AllocError>
+    ensures ok { OnOk result (trees out.new ≡ trees out.old ++ printing.typed X.prints pat.now) }
+    ensures err { OnErr result (Extends (trees out.old) (trees out.new)) }
+{
+    print_outer(alloc, &pat.attrs, out)?;
+    print_pat(alloc, pat.pat.get(), out)?;
+    pat.colon_token.to_tokens(alloc, out)?;
+    print_type(alloc, pat.ty.get(), out)
+}
+
+/// Each element with its comma.
+#[cycle(print)]
+#[tactic(auto, using(token_core::proofs::Puts::puts, crate::proofs::pat_laws::Prints::prints))]
+fn print_slice_elements<X: Subtree>(
+    alloc: Global,
+    pat: &PatSlice<X>,
+    out: &mut TokenStream,
+) -> Result<(), AllocError>
+    ensures ok { OnOk result (trees out.new ≡ trees out.old ++ printing.list X.prints pat.now.elems) }
+    ensures err { OnErr result (Extends (trees out.old) (trees out.new)) }
+{
+    let (pairs, last) = element_parts(&pat.elems);
+    for pair in pairs {
+        print_pat(alloc, &pair.value, out)?;
+        pair.mark.to_tokens(alloc, out)?;
+    }
+    match last {
+        Some(element) => print_pat(alloc, element, out),
+        None => Ok(()),
+    }
+}
+
+/// Each element with its comma.
+#[cycle(print)]
+#[tactic(auto, using(token_core::proofs::Puts::puts, crate::proofs::pat_laws::Prints::prints))]
+fn print_tuple_elements<X: Subtree>(
+    alloc: Global,
+    pat: &PatTuple<X>,
+    out: &mut TokenStream,
+) -> Result<(), AllocError>
+    ensures ok { OnOk result (trees out.new ≡ trees out.old ++ printing.list X.prints pat.now.elems) }
+    ensures err { OnErr result (Extends (trees out.old) (trees out.new)) }
+{
+    let (pairs, last) = element_parts(&pat.elems);
+    for pair in pairs {
+        print_pat(alloc, &pair.value, out)?;
+        pair.mark.to_tokens(alloc, out)?;
+    }
+    match last {
+        Some(element) => print_pat(alloc, element, out),
+        None => Ok(()),
+    }
+}
+
+/// Each element with its comma.
+#[cycle(print)]
+#[tactic(auto, using(token_core::proofs::Puts::puts, crate::proofs::pat_laws::Prints::prints))]
+fn print_tuple_struct_elements<X: Subtree>(
+    alloc: Global,
+    pat: &PatTupleStruct<X>,
+    out: &mut TokenStream,
+) -> Result<(), AllocError>
+    ensures ok { OnOk result (trees out.new ≡ trees out.old ++ printing.list X.prints pat.now.elems) }
+    ensures err { OnErr result (Extends (trees out.old) (trees out.new)) }
+{
+    let (pairs, last) = element_parts(&pat.elems);
+    for pair in pairs {
+        print_pat(alloc, &pair.value, out)?;
+        pair.mark.to_tokens(alloc, out)?;
+    }
+    match last {
+        Some(element) => print_pat(alloc, element, out),
+        None => Ok(()),
+    }
+}
+
+/// Each of the alternatives with its `|`.
+#[cycle(print)]
+#[tactic(auto, using(token_core::proofs::Puts::puts, crate::proofs::pat_laws::Prints::prints))]
+fn print_cases<X: Subtree>(
+    alloc: Global,
+    pat: &PatOr<X>,
+    out: &mut TokenStream,
+) -> Result<(), AllocError>
+    ensures ok { OnOk result (trees out.new ≡ trees out.old ++ printing.list X.prints pat.now.cases) }
+    ensures err { OnErr result (Extends (trees out.old) (trees out.new)) }
+{
+    let (pairs, last) = case_parts(pat);
+    for pair in pairs {
+        print_pat(alloc, &pair.value, out)?;
+        pair.mark.to_tokens(alloc, out)?;
+    }
+    match last {
+        Some(case) => print_pat(alloc, case, out),
+        None => Ok(()),
+    }
+}
+
+// ---- lists by their parts
+
+/// Elements by their parts.
+fn element_parts<X>(elems: &Punctuated<Pat<X>, Comma>) -> (&[Pair<Pat<X>, Comma>], Option<&Pat<X>>)
+    ensures { elems.now ≡ (values_of result.0.now (option_map (λ x. x.now) result.1), marks_of result.0.now) }
+{
+    elems.parts()
+}
+
+/// Alternatives by their parts.
+fn case_parts<X>(pat: &PatOr<X>) -> (&[Pair<Pat<X>, Or>], Option<&Pat<X>>)
+    ensures { pat.now.cases ≡ (values_of result.0.now (option_map (λ x. x.now) result.1), marks_of result.0.now) }
+{
+    pat.cases.parts()
+}
+
+/// The fields of a struct's pattern by their parts.
+fn field_parts<X>(pat: &PatStruct<X>) -> (&[Pair<FieldPat<X>, Comma>], Option<&FieldPat<X>>)
+    ensures { pat.now.fields ≡ (values_of result.0.now (option_map (λ x. x.now) result.1), marks_of result.0.now) }
+{
+    pat.fields.parts()
+}
+
+// ---- prints of the parts that hold no pattern
+
+#[tactic(auto, using(token_core::proofs::Puts::puts))]
+fn print_rest<X: Subtree>(
+    alloc: Global,
+    pat: &PatRest<X>,
+    out: &mut TokenStream,
+) -> Result<(), AllocError>
+    ensures ok { OnOk result (trees out.new ≡ trees out.old ++ printing.rest X.prints pat.now) }
+    ensures err { OnErr result (Extends (trees out.old) (trees out.new)) }
+{
+    print_outer(alloc, &pat.attrs, out)?;
+    pat.dot2_token.to_tokens(alloc, out)
+}
+
+#[tactic(auto, using(token_core::proofs::Puts::puts))]
+fn print_wild<X: Subtree>(
+    alloc: Global,
+    pat: &PatWild<X>,
+    out: &mut TokenStream,
+) -> Result<(), AllocError>
+    ensures ok { OnOk result (trees out.new ≡ trees out.old ++ printing.wild X.prints pat.now) }
+    ensures err { OnErr result (Extends (trees out.old) (trees out.new)) }
+{
+    print_outer(alloc, &pat.attrs, out)?;
+    pat.underscore_token.to_tokens(alloc, out)
+}
+
+/// A binding before its `@`.
+#[tactic(auto, using(token_core::proofs::Puts::puts))]
+fn print_name<P, X: Subtree>(
+    alloc: Global,
+    pat: &PatIdentOf<P, Attribute<X>>,
+    out: &mut TokenStream,
+) -> Result<(), AllocError>
+    ensures ok { OnOk result (trees out.new ≡ trees out.old ++ printing.name X.prints pat.now) }
+    ensures err { OnErr result (Extends (trees out.old) (trees out.new)) }
+{
+    print_outer(alloc, &pat.attrs, out)?;
+    print_word(alloc, &pat.by_ref, out)?;
+    print_word(alloc, &pat.mutability, out)?;
+    pat.ident.to_tokens(alloc, out)
+}
+
+/// A field before its pattern: its member and colon, if it has a colon.
+#[tactic(auto, using(token_core::proofs::Puts::puts))]
+fn print_member<P, X: Subtree>(
+    alloc: Global,
+    field: &FieldPatOf<P, Attribute<X>>,
+    out: &mut TokenStream,
+) -> Result<(), AllocError>
+    ensures ok { OnOk result (trees out.new ≡ trees out.old ++ printing.member X.prints field.now) }
+    ensures err { OnErr result (Extends (trees out.old) (trees out.new)) }
+{
+    print_outer(alloc, &field.attrs, out)?;
+    match &field.colon_token {
+        Some(colon) => {
+            field.member.to_tokens(alloc, out)?;
+            colon.to_tokens(alloc, out)
+        }
+        None => Ok(()),
+    }
+}
+
+#[tactic(auto, using(token_core::proofs::Puts::puts))]
+fn print_field<X: Subtree>(
+    alloc: Global,
+    field: &FieldPat<X>,
+    out: &mut TokenStream,
+) -> Result<(), AllocError>
+    ensures ok { OnOk result (trees out.new ≡ trees out.old ++ printing.field X.prints field.now) }
+    ensures err { OnErr result (Extends (trees out.old) (trees out.new)) }
+{
+    print_member(alloc, field, out)?;
+    print_pat(alloc, field.pat.get(), out)
+}
+
+/// The `..` of a struct's pattern, after a comma that sets it apart from the last field.
+#[tactic(auto, using(token_core::proofs::Puts::puts))]
+fn print_struct_rest<P, Q, R, X: Subtree>(
+    alloc: Global,
+    pat: &PatStructOf<P, Attribute<X>, R, Q>,
+    out: &mut TokenStream,
+) -> Result<(), AllocError>
+    ensures ok { OnOk result (trees out.new ≡ trees out.old ++ printing.struct_rest X.prints pat.now) }
+    ensures err { OnErr result (Extends (trees out.old) (trees out.new)) }
+{
+    match &pat.rest {
+        Some(rest) => {
+            print_last_comma(alloc, &pat.fields, Comma::default(), out)?;
+            print_rest(alloc, rest, out)
+        }
+        None => Ok(()),
+    }
+}
+
+/// Whether the first element is `..`.
+#[tactic(auto, using(crate::proofs::pat_laws::Commas::firsts))]
+fn begins_with_rest<X>(elems: &Punctuated<Pat<X>, Comma>) -> bool
+    ensures { result ≡ printing.begins spec.is_rest elems.now.0 }
+{
+    match elems.first() {
+        Some(pat) => pat.is_rest(),
+        None => false,
+    }
+}
+
+/// A comma after a lone element that has none, which sets the tuple apart from a pattern in parentheses; `(..)` is a tuple
+/// without one.
+#[tactic(auto, using(token_core::proofs::Puts::puts))]
+fn print_tuple_comma<T>(
+    alloc: Global,
+    elems: &Punctuated<T, Comma>,
+    is_rest: bool,
+    out: &mut TokenStream,
+) -> Result<(), AllocError>
+    ensures ok { OnOk result (trees out.new ≡ trees out.old ++ printing.comma_unless is_rest elems.now.0 elems.now.1) }
+    ensures err { OnErr result (Extends (trees out.old) (trees out.new)) }
+{
+    if is_rest {
+        Ok(())
+    } else {
+        print_lone_comma(alloc, elems, out)
+    }
+}
+
+/// The guard of a pattern: the supplied subtree in this place, and anything else as it prints as a value.
+#[tactic(auto, using(token_core::proofs::Puts::puts, syn_attr::proofs::attr_laws::Prints::places))]
+fn print_guard<X: Subtree>(
+    alloc: Global,
+    guard: &Expr<X>,
+    out: &mut TokenStream,
+) -> Result<(), AllocError>
+    ensures ok { OnOk result (trees out.new ≡ trees out.old ++ printing.guard X.prints guard.now) }
+    ensures err { OnErr result (Extends (trees out.old) (trees out.new)) }
+{
+    match guard {
+        Expr::Other(tree) => tree.print(alloc, Place::Guard, out),
+        _ => print_value(alloc, guard, out),
+    }
+}
+
+#[tactic(auto, using(token_core::proofs::Puts::puts))]
+fn print_mark<const N: u32>(
+    alloc: Global,
+    mark: &Option<Mark<N, 1>>,
+    out: &mut TokenStream,
+) -> Result<(), AllocError>
+    ensures ok { OnOk result (trees out.new ≡ trees out.old ++ generics.optional mark.now) }
+    ensures err { OnErr result (Extends (trees out.old) (trees out.new)) }
+{
+    match mark {
+        Some(token) => token.to_tokens(alloc, out),
+        None => Ok(()),
+    }
+}
