@@ -1,8 +1,11 @@
-//! The tests of `syn_mid`, which are run and not proved (docs/GATE.md): `checks/tests` runs them.
+//! The tests of `syn_mid` and of the crates that it is the face of, which are run and not proved (docs/GATE.md): `checks/tests` runs them.
+//! A file stands in the folder of the crate that it tests, and names all by the face, as users do.
 #![tactic(auto)]
 
 #[cfg(test)]
 mod argument_tests;
+#[cfg(test)]
+mod attr_tests;
 #[cfg(test)]
 mod bound_tests;
 #[cfg(test)]
@@ -12,16 +15,20 @@ mod fn_ptr_tests;
 #[cfg(test)]
 mod generics_tests;
 #[cfg(test)]
+mod lists;
+#[cfg(test)]
+mod mac_tests;
+#[cfg(test)]
 mod nothing;
 #[cfg(test)]
 mod object_tests;
 #[cfg(test)]
 mod pat_tests;
+#[cfg(test)]
+mod path_tests;
 mod plain_type_tests;
 #[cfg(test)]
 mod qualified_tests;
-#[cfg(test)]
-mod tests;
 #[cfg(test)]
 mod type_attr_tests;
 #[cfg(test)]
