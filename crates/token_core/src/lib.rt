@@ -42,6 +42,6 @@ pub use punctuated::{Iter, IterMut, Pair, Pairs, Punctuated};
 pub use range::RangeLimits;
 pub use span::{DelimSpan, Span};
 pub use text::Text;
-pub use to_tokens::{Spanned, ToTokens};
+pub use to_tokens::{DefaultToken, Spanned, ToTokens, TokensOrDefault};
 pub use tree::{Delimiter, Group, Ident, LitKind, Literal, Punct, Spacing, TokenStream, TokenTree};
 pub use word::Word;

@@ -389,15 +389,8 @@ impl<T: Parse, P: Parse> Punctuated<T, P> {
 impl<T: ToTokens, P: ToTokens> ToTokens for Punctuated<T, P> {
     ghost print = { λ v. spec.joined T.print P.print v.0 v.1 };
 
-    fn to_tokens(&self, alloc: Global, out: &mut TokenStream) -> Result<(), AllocError> {
-        let before = out.len();
-        match put_parts(alloc, self, out) {
-            Ok(()) => Ok(()),
-            Err(error) => {
-                out.truncate(before);
-                Err(error)
-            }
-        }
+    fn append_tokens(&self, alloc: Global, out: &mut TokenStream) -> Result<(), AllocError> {
+        put_parts(alloc, self, out)
     }
 }
 
@@ -413,11 +406,11 @@ fn put_parts<T: ToTokens, P: ToTokens>(
 {
     let (pairs, last) = list.parts();
     for pair in pairs {
-        pair.value.to_tokens(alloc, out)?;
-        pair.mark.to_tokens(alloc, out)?;
+        pair.value.append_tokens(alloc, out)?;
+        pair.mark.append_tokens(alloc, out)?;
     }
     match last {
-        Some(value) => value.to_tokens(alloc, out),
+        Some(value) => value.append_tokens(alloc, out),
         None => Ok(()),
     }
 }
