@@ -182,7 +182,7 @@ impl<A: Arguments> PathOf<A> {
         ensures { IfOk result (λ p. p ≡ spec.lone segment) }
     {
         let mut segments = Punctuated::new(alloc);
-        segments.push_value(alloc, segment)?;
+        segments.push_value(segment)?;
         Ok(PathOf {
             leading_colon: None,
             segments,
@@ -483,7 +483,7 @@ fn parse_bare_segments<A: Arguments>(
     let mut segments = Punctuated::new(alloc);
     'turn: loop {
         let segment = parse_bare_segment(alloc, input, style, segments.is_empty())?;
-        segments.push_value(alloc, segment)?;
+        segments.push_value(segment)?;
         if !goes_on(input, style) {
             return Ok(segments);
         }
@@ -512,12 +512,12 @@ fn bare_segments<A>(
     let (pairs, last) = segments.parts();
     let mut bare = Punctuated::new(alloc);
     for pair in pairs {
-        bare.push_value(alloc, bare_segment(alloc, &pair.value)?)?;
+        bare.push_value(bare_segment(alloc, &pair.value)?)?;
         bare.push_punct(pair.mark)?;
     }
     match last {
         Some(segment) => {
-            bare.push_value(alloc, bare_segment(alloc, segment)?)?;
+            bare.push_value(bare_segment(alloc, segment)?)?;
             Ok(bare)
         }
         None => Ok(bare),
@@ -533,30 +533,16 @@ fn bare_segment<A>(alloc: Global, segment: &PathSegmentOf<A>) -> Result<ModSegme
 impl<A: Arguments> ToTokens for PathOf<A> {
     ghost print = { shapes.path_by A.shown };
 
-    fn to_tokens(&self, alloc: Global, out: &mut TokenStream) -> Result<(), AllocError> {
-        let before = out.len();
-        match A::print_path(alloc, self, out) {
-            Ok(()) => Ok(()),
-            Err(error) => {
-                out.truncate(before);
-                Err(error)
-            }
-        }
+    fn append_tokens(&self, alloc: Global, out: &mut TokenStream) -> Result<(), AllocError> {
+        A::print_path(alloc, self, out)
     }
 }
 
 impl<A: Arguments> ToTokens for PathSegmentOf<A> {
     ghost print = { shapes.segment_by A.shown };
 
-    fn to_tokens(&self, alloc: Global, out: &mut TokenStream) -> Result<(), AllocError> {
-        let before = out.len();
-        match A::print_segment(alloc, self, out) {
-            Ok(()) => Ok(()),
-            Err(error) => {
-                out.truncate(before);
-                Err(error)
-            }
-        }
+    fn append_tokens(&self, alloc: Global, out: &mut TokenStream) -> Result<(), AllocError> {
+        A::print_segment(alloc, self, out)
     }
 }
 

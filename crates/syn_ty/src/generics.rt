@@ -620,10 +620,10 @@ impl Styled for CapturedParam {
 impl ToTokens for CapturedParam {
     ghost print = { shapes.captured };
 
-    fn to_tokens(&self, alloc: Global, out: &mut TokenStream) -> Result<(), AllocError> {
+    fn append_tokens(&self, alloc: Global, out: &mut TokenStream) -> Result<(), AllocError> {
         match self {
-            CapturedParam::Lifetime(lifetime) => lifetime.to_tokens(alloc, out),
-            CapturedParam::Ident(ident) => ident.to_tokens(alloc, out),
+            CapturedParam::Lifetime(lifetime) => lifetime.append_tokens(alloc, out),
+            CapturedParam::Ident(ident) => ident.append_tokens(alloc, out),
         }
     }
 }
@@ -631,15 +631,8 @@ impl ToTokens for CapturedParam {
 impl ToTokens for PreciseCapture {
     ghost print = { shapes.capture };
 
-    fn to_tokens(&self, alloc: Global, out: &mut TokenStream) -> Result<(), AllocError> {
-        let before = out.len();
-        match print_capture(alloc, self, out) {
-            Ok(()) => Ok(()),
-            Err(error) => {
-                out.truncate(before);
-                Err(error)
-            }
-        }
+    fn append_tokens(&self, alloc: Global, out: &mut TokenStream) -> Result<(), AllocError> {
+        print_capture(alloc, self, out)
     }
 }
 
@@ -1142,105 +1135,56 @@ fn print_predicate_lifetime<A: Attributes>(
 impl<A: Attributes> ToTokens for LifetimeParamOf<A> {
     ghost print = { shapes.lifetime_param_by A.shown };
 
-    fn to_tokens(&self, alloc: Global, out: &mut TokenStream) -> Result<(), AllocError> {
-        let before = out.len();
-        match print_lifetime_param(alloc, self, out) {
-            Ok(()) => Ok(()),
-            Err(error) => {
-                out.truncate(before);
-                Err(error)
-            }
-        }
+    fn append_tokens(&self, alloc: Global, out: &mut TokenStream) -> Result<(), AllocError> {
+        print_lifetime_param(alloc, self, out)
     }
 }
 
 impl<A: Attributes, E: Value> ToTokens for ConstParamOf<TypeOf<A, E>, A, E> {
     ghost print = { types.const_param A.shown E.values };
 
-    fn to_tokens(&self, alloc: Global, out: &mut TokenStream) -> Result<(), AllocError> {
-        let before = out.len();
-        match print_const_param(alloc, self, out) {
-            Ok(()) => Ok(()),
-            Err(error) => {
-                out.truncate(before);
-                Err(error)
-            }
-        }
+    fn append_tokens(&self, alloc: Global, out: &mut TokenStream) -> Result<(), AllocError> {
+        print_const_param(alloc, self, out)
     }
 }
 
 impl<A: Attributes> ToTokens for PredicateLifetimeOf<A> {
     ghost print = { printing.predicate_lifetime_by A.shown };
 
-    fn to_tokens(&self, alloc: Global, out: &mut TokenStream) -> Result<(), AllocError> {
-        let before = out.len();
-        match print_predicate_lifetime(alloc, self, out) {
-            Ok(()) => Ok(()),
-            Err(error) => {
-                out.truncate(before);
-                Err(error)
-            }
-        }
+    fn append_tokens(&self, alloc: Global, out: &mut TokenStream) -> Result<(), AllocError> {
+        print_predicate_lifetime(alloc, self, out)
     }
 }
 
 impl<A: Attributes, E: Value> ToTokens for GenericParamOf<A, E> {
     ghost print = { types.param A.shown E.values };
 
-    fn to_tokens(&self, alloc: Global, out: &mut TokenStream) -> Result<(), AllocError> {
-        let before = out.len();
-        match print_param(alloc, self, out) {
-            Ok(()) => Ok(()),
-            Err(error) => {
-                out.truncate(before);
-                Err(error)
-            }
-        }
+    fn append_tokens(&self, alloc: Global, out: &mut TokenStream) -> Result<(), AllocError> {
+        print_param(alloc, self, out)
     }
 }
 
 impl<A: Attributes, E: Value> ToTokens for TypeParamOf<A, E> {
     ghost print = { types.type_param A.shown E.values };
 
-    fn to_tokens(&self, alloc: Global, out: &mut TokenStream) -> Result<(), AllocError> {
-        let before = out.len();
-        match print_type_param(alloc, self, out) {
-            Ok(()) => Ok(()),
-            Err(error) => {
-                out.truncate(before);
-                Err(error)
-            }
-        }
+    fn append_tokens(&self, alloc: Global, out: &mut TokenStream) -> Result<(), AllocError> {
+        print_type_param(alloc, self, out)
     }
 }
 
 impl<A: Attributes, E: Value> ToTokens for TypeParamBoundOf<A, E> {
     ghost print = { types.bound A.shown E.values };
 
-    fn to_tokens(&self, alloc: Global, out: &mut TokenStream) -> Result<(), AllocError> {
-        let before = out.len();
-        match print_bound(alloc, self, out) {
-            Ok(()) => Ok(()),
-            Err(error) => {
-                out.truncate(before);
-                Err(error)
-            }
-        }
+    fn append_tokens(&self, alloc: Global, out: &mut TokenStream) -> Result<(), AllocError> {
+        print_bound(alloc, self, out)
     }
 }
 
 impl<A: Attributes, E: Value> ToTokens for TraitBoundOf<A, E> {
     ghost print = { types.trait_bound A.shown E.values };
 
-    fn to_tokens(&self, alloc: Global, out: &mut TokenStream) -> Result<(), AllocError> {
-        let before = out.len();
-        match print_trait_bound(alloc, self, out) {
-            Ok(()) => Ok(()),
-            Err(error) => {
-                out.truncate(before);
-                Err(error)
-            }
-        }
+    fn append_tokens(&self, alloc: Global, out: &mut TokenStream) -> Result<(), AllocError> {
+        print_trait_bound(alloc, self, out)
     }
 }
 
@@ -1313,40 +1257,26 @@ fn print_where<A: Attributes, E: Value>(
 impl<A: Attributes, E: Value> ToTokens for BoundLifetimesOf<GenericParamOf<A, E>> {
     ghost print = { types.bound_lifetimes A.shown E.values };
 
-    fn to_tokens(&self, alloc: Global, out: &mut TokenStream) -> Result<(), AllocError> {
-        let before = out.len();
-        match print_bound_lifetimes(alloc, self, out) {
-            Ok(()) => Ok(()),
-            Err(error) => {
-                out.truncate(before);
-                Err(error)
-            }
-        }
+    fn append_tokens(&self, alloc: Global, out: &mut TokenStream) -> Result<(), AllocError> {
+        print_bound_lifetimes(alloc, self, out)
     }
 }
 
 impl<A: Attributes, E: Value> ToTokens for PredicateTypeOf<A, E> {
     ghost print = { printing.predicate_type A.shown E.values };
 
-    fn to_tokens(&self, alloc: Global, out: &mut TokenStream) -> Result<(), AllocError> {
-        let before = out.len();
-        match print_predicate_type(alloc, self, out) {
-            Ok(()) => Ok(()),
-            Err(error) => {
-                out.truncate(before);
-                Err(error)
-            }
-        }
+    fn append_tokens(&self, alloc: Global, out: &mut TokenStream) -> Result<(), AllocError> {
+        print_predicate_type(alloc, self, out)
     }
 }
 
 impl<A: Attributes, E: Value> ToTokens for WherePredicateOf<A, E> {
     ghost print = { printing.predicate A.shown E.values };
 
-    fn to_tokens(&self, alloc: Global, out: &mut TokenStream) -> Result<(), AllocError> {
+    fn append_tokens(&self, alloc: Global, out: &mut TokenStream) -> Result<(), AllocError> {
         match self {
-            WherePredicateOf::Lifetime(predicate) => predicate.to_tokens(alloc, out),
-            WherePredicateOf::Type(predicate) => predicate.to_tokens(alloc, out),
+            WherePredicateOf::Lifetime(predicate) => predicate.append_tokens(alloc, out),
+            WherePredicateOf::Type(predicate) => predicate.append_tokens(alloc, out),
         }
     }
 }
@@ -1354,15 +1284,8 @@ impl<A: Attributes, E: Value> ToTokens for WherePredicateOf<A, E> {
 impl<A: Attributes, E: Value> ToTokens for WhereClauseOf<A, E> {
     ghost print = { printing.where_clause A.shown E.values };
 
-    fn to_tokens(&self, alloc: Global, out: &mut TokenStream) -> Result<(), AllocError> {
-        let before = out.len();
-        match print_where(alloc, self, out) {
-            Ok(()) => Ok(()),
-            Err(error) => {
-                out.truncate(before);
-                Err(error)
-            }
-        }
+    fn append_tokens(&self, alloc: Global, out: &mut TokenStream) -> Result<(), AllocError> {
+        print_where(alloc, self, out)
     }
 }
 
@@ -1522,15 +1445,8 @@ impl<A: Attributes, E: Value> ToTokens for GenericsOf<A, E> {
     ghost print = { printing.generics A.shown E.values };
 
     #[tactic(auto, using(crate::proofs::generics_laws::Views::showns))]
-    fn to_tokens(&self, alloc: Global, out: &mut TokenStream) -> Result<(), AllocError> {
-        let before = out.len();
-        match print_between(alloc, self, Style::Whole, out) {
-            Ok(()) => Ok(()),
-            Err(error) => {
-                out.truncate(before);
-                Err(error)
-            }
-        }
+    fn append_tokens(&self, alloc: Global, out: &mut TokenStream) -> Result<(), AllocError> {
+        print_between(alloc, self, Style::Whole, out)
     }
 }
 
@@ -1538,15 +1454,8 @@ impl<'a, A: Attributes, E: Value> ToTokens for ImplGenericsOf<'a, A, E> {
     ghost print = { λ view. printing.generics A.shown E.values (views.stripped view.generics.now) };
 
     #[tactic(auto, using(crate::proofs::generics_laws::Views::showns))]
-    fn to_tokens(&self, alloc: Global, out: &mut TokenStream) -> Result<(), AllocError> {
-        let before = out.len();
-        match print_between(alloc, self.generics, Style::NoDefault, out) {
-            Ok(()) => Ok(()),
-            Err(error) => {
-                out.truncate(before);
-                Err(error)
-            }
-        }
+    fn append_tokens(&self, alloc: Global, out: &mut TokenStream) -> Result<(), AllocError> {
+        print_between(alloc, self.generics, Style::NoDefault, out)
     }
 }
 
@@ -1554,29 +1463,15 @@ impl<'a, A: Attributes, E: Value> ToTokens for TypeGenericsOf<'a, A, E> {
     ghost print = { λ view. views.names view.generics.now };
 
     #[tactic(auto, using(crate::proofs::generics_laws::Views::showns))]
-    fn to_tokens(&self, alloc: Global, out: &mut TokenStream) -> Result<(), AllocError> {
-        let before = out.len();
-        match print_between(alloc, self.generics, Style::Name, out) {
-            Ok(()) => Ok(()),
-            Err(error) => {
-                out.truncate(before);
-                Err(error)
-            }
-        }
+    fn append_tokens(&self, alloc: Global, out: &mut TokenStream) -> Result<(), AllocError> {
+        print_between(alloc, self.generics, Style::Name, out)
     }
 }
 
 impl<'a, A: Attributes, E: Value> ToTokens for TurbofishOf<'a, A, E> {
     ghost print = { λ view. views.turbofish view.generics.now };
 
-    fn to_tokens(&self, alloc: Global, out: &mut TokenStream) -> Result<(), AllocError> {
-        let before = out.len();
-        match print_turbofish(alloc, self.generics, out) {
-            Ok(()) => Ok(()),
-            Err(error) => {
-                out.truncate(before);
-                Err(error)
-            }
-        }
+    fn append_tokens(&self, alloc: Global, out: &mut TokenStream) -> Result<(), AllocError> {
+        print_turbofish(alloc, self.generics, out)
     }
 }

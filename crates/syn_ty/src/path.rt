@@ -178,15 +178,8 @@ impl<A: Attributes, E: Value> Arguments for PathArgumentsOf<A, E> {
 impl<A: Attributes, E: Value> ToTokens for PathArgumentsOf<A, E> {
     ghost print = { types.arguments A.shown E.values shapes.as_written };
 
-    fn to_tokens(&self, alloc: Global, out: &mut TokenStream) -> Result<(), AllocError> {
-        let before = out.len();
-        match print_arguments(alloc, self, PathStyle::AsWritten, out) {
-            Ok(()) => Ok(()),
-            Err(error) => {
-                out.truncate(before);
-                Err(error)
-            }
-        }
+    fn append_tokens(&self, alloc: Global, out: &mut TokenStream) -> Result<(), AllocError> {
+        print_arguments(alloc, self, PathStyle::AsWritten, out)
     }
 }
 
@@ -194,15 +187,8 @@ impl<A: Attributes, E: Value> ToTokens for PathArgumentsOf<A, E> {
 impl<A: Attributes, E: Value> ToTokens for GenericArgumentOf<A, E> {
     ghost print = { types.argument A.shown E.values };
 
-    fn to_tokens(&self, alloc: Global, out: &mut TokenStream) -> Result<(), AllocError> {
-        let before = out.len();
-        match print_argument(alloc, self, out) {
-            Ok(()) => Ok(()),
-            Err(error) => {
-                out.truncate(before);
-                Err(error)
-            }
-        }
+    fn append_tokens(&self, alloc: Global, out: &mut TokenStream) -> Result<(), AllocError> {
+        print_argument(alloc, self, out)
     }
 }
 
@@ -211,45 +197,24 @@ impl<A: Attributes, E: Value> ToTokens
     for AngleBracketedGenericArgumentsOf<GenericArgumentOf<A, E>> {
     ghost print = { types.angle A.shown E.values shapes.as_written };
 
-    fn to_tokens(&self, alloc: Global, out: &mut TokenStream) -> Result<(), AllocError> {
-        let before = out.len();
-        match print_angle(alloc, self, PathStyle::AsWritten, out) {
-            Ok(()) => Ok(()),
-            Err(error) => {
-                out.truncate(before);
-                Err(error)
-            }
-        }
+    fn append_tokens(&self, alloc: Global, out: &mut TokenStream) -> Result<(), AllocError> {
+        print_angle(alloc, self, PathStyle::AsWritten, out)
     }
 }
 
 impl<A: Attributes, E: Value> ToTokens for AssocTypeOf<A, E> {
     ghost print = { types.assoc_type A.shown E.values };
 
-    fn to_tokens(&self, alloc: Global, out: &mut TokenStream) -> Result<(), AllocError> {
-        let before = out.len();
-        match print_assoc_type(alloc, self, out) {
-            Ok(()) => Ok(()),
-            Err(error) => {
-                out.truncate(before);
-                Err(error)
-            }
-        }
+    fn append_tokens(&self, alloc: Global, out: &mut TokenStream) -> Result<(), AllocError> {
+        print_assoc_type(alloc, self, out)
     }
 }
 
 impl<A: Attributes, E: Value> ToTokens for AssocConstOf<GenericArgumentOf<A, E>, E> {
     ghost print = { types.assoc_const A.shown E.values };
 
-    fn to_tokens(&self, alloc: Global, out: &mut TokenStream) -> Result<(), AllocError> {
-        let before = out.len();
-        match print_assoc_const(alloc, self, out) {
-            Ok(()) => Ok(()),
-            Err(error) => {
-                out.truncate(before);
-                Err(error)
-            }
-        }
+    fn append_tokens(&self, alloc: Global, out: &mut TokenStream) -> Result<(), AllocError> {
+        print_assoc_const(alloc, self, out)
     }
 }
 
@@ -257,30 +222,16 @@ impl<A: Attributes, E: Value> ToTokens for AssocConstOf<GenericArgumentOf<A, E>,
 impl<A: Attributes, E: Value> ToTokens for ConstraintOf<A, E> {
     ghost print = { types.constraint A.shown E.values };
 
-    fn to_tokens(&self, alloc: Global, out: &mut TokenStream) -> Result<(), AllocError> {
-        let before = out.len();
-        match print_constraint(alloc, self, out) {
-            Ok(()) => Ok(()),
-            Err(error) => {
-                out.truncate(before);
-                Err(error)
-            }
-        }
+    fn append_tokens(&self, alloc: Global, out: &mut TokenStream) -> Result<(), AllocError> {
+        print_constraint(alloc, self, out)
     }
 }
 
 impl<A: Attributes, E: Value> ToTokens for ParenthesizedGenericArgumentsOf<TypeOf<A, E>, A> {
     ghost print = { types.parenthesized A.shown E.values };
 
-    fn to_tokens(&self, alloc: Global, out: &mut TokenStream) -> Result<(), AllocError> {
-        let before = out.len();
-        match print_parenthesized(alloc, self, out) {
-            Ok(()) => Ok(()),
-            Err(error) => {
-                out.truncate(before);
-                Err(error)
-            }
-        }
+    fn append_tokens(&self, alloc: Global, out: &mut TokenStream) -> Result<(), AllocError> {
+        print_parenthesized(alloc, self, out)
     }
 }
 

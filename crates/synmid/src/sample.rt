@@ -76,7 +76,7 @@ fn read_segments(
     let mut segments = Punctuated::new(alloc);
     'turn: loop {
         let segment = read_segment(alloc, input)?;
-        segments.push_value(alloc, segment)?;
+        segments.push_value(segment)?;
         if !input.peek::<PathSep>() {
             return Ok(segments);
         }
@@ -145,7 +145,7 @@ fn read_atoms(alloc: Global, input: &mut ParseStream<'_>) -> Result<Punctuated<A
     let mut atoms = Punctuated::new(alloc);
     'turn: loop {
         let atom = read_atom(alloc, input)?;
-        atoms.push_value(alloc, atom)?;
+        atoms.push_value(atom)?;
         if !input.peek::<Plus>() {
             return Ok(atoms);
         }
@@ -295,30 +295,16 @@ fn print_atom(alloc: Global, atom: &Atom, out: &mut TokenStream) -> Result<(), A
 impl ToTokens for Atom {
     ghost print = { printing.atom };
 
-    fn to_tokens(&self, alloc: Global, out: &mut TokenStream) -> Result<(), AllocError> {
-        let before = out.len();
-        match print_atom(alloc, self, out) {
-            Ok(()) => Ok(()),
-            Err(error) => {
-                out.truncate(before);
-                Err(error)
-            }
-        }
+    fn append_tokens(&self, alloc: Global, out: &mut TokenStream) -> Result<(), AllocError> {
+        print_atom(alloc, self, out)
     }
 }
 
 impl ToTokens for Sample {
     ghost print = { printing.sum };
 
-    fn to_tokens(&self, alloc: Global, out: &mut TokenStream) -> Result<(), AllocError> {
-        let before = out.len();
-        match print_atoms(alloc, &self.atoms, out) {
-            Ok(()) => Ok(()),
-            Err(error) => {
-                out.truncate(before);
-                Err(error)
-            }
-        }
+    fn append_tokens(&self, alloc: Global, out: &mut TokenStream) -> Result<(), AllocError> {
+        print_atoms(alloc, &self.atoms, out)
     }
 }
 

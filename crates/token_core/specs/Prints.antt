@@ -52,6 +52,10 @@ abbrev pub each : {T A : Type 0} → (T → List A) → List T → List A
 each f [] = []
 each f (x ∷ xs) = f x ++ each f xs
 
+-- a value with its mark, if it has one
+abbrev pub marked : {T P A : Type 0} → (T → List A) → (P → List A) → T × Option P → List A
+marked f g x = f x.0 ++ optional g x.1
+
 -- what stood before is kept
 abbrev pub Extends : Print → Print → Type 0
 Extends old new = take (length old) new ≡ old

@@ -42,9 +42,18 @@ impl<T: ToTokens> ToTokens for Option<T> {
 
     fn append_tokens(&self, alloc: Global, out: &mut TokenStream) -> Result<(), AllocError> {
         match self {
-            Some(token) => token.append_tokens(alloc, out),
+            Some(value) => value.append_tokens(alloc, out),
             None => Ok(()),
         }
+    }
+}
+
+/// What is lent prints itself.
+impl<'a, T: ToTokens> ToTokens for &'a T {
+    ghost print = { λ x. T.print x.now };
+
+    fn append_tokens(&self, alloc: Global, out: &mut TokenStream) -> Result<(), AllocError> {
+        T::append_tokens(*self, alloc, out)
     }
 }
 
