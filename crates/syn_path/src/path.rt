@@ -21,8 +21,8 @@ use token_core::token::{
     SelfValue, ShlEq, Super, Try,
 };
 use token_core::{
-    Boxed, Error, ErrorKind, Ident, Lifetime, Lit, Pair, ParseStream, Punctuated, Span, Spanned,
-    Text, ToTokens, Token, TokenStream,
+    Boxed, Error, ErrorKind, Ident, Lifetime, Lit, ParseStream, Punctuated, Span, Spanned, Text,
+    ToTokens, Token, TokenStream,
 };
 
 /// A path, over what stands in the place of its segments' arguments: an optional leading `::`, and segments joined by `::`.
@@ -247,15 +247,9 @@ impl<A: Arguments> PathOf<A> {
     pub fn last_span(&self) -> Span
         ensures { result ≡ spec.last_span self.now.segments.0 none }
     {
-        let (pairs, last) = self.segments.parts();
-        match last {
+        match self.segments.last() {
             Some(segment) => segment.ident.span,
-            None => {
-                if pairs.len() == 0 {
-                    return Span::none();
-                }
-                pairs[pairs.len() - 1].value.ident.span
-            }
+            None => Span::none(),
         }
     }
 
@@ -556,11 +550,11 @@ pub fn print_mod_path(
     ensures ok { OnOk result (trees out.new ≡ trees out.old ++ shapes.mod_path path.now) }
     ensures err { OnErr result (Extends (trees out.old) (trees out.new)) }
 {
-    print_colon(alloc, &path.leading_colon, out)?;
+    path.leading_colon.append_tokens(alloc, out)?;
     print_mod_segments(alloc, &path.segments, out)
 }
 
-#[tactic(auto, using(token_core::proofs::Puts::puts))]
+#[tactic(auto, using(token_core::proofs::Puts::by_pairs))]
 fn print_mod_segments(
     alloc: Global,
     segments: &Punctuated<ModSegment, PathSep>,
@@ -569,15 +563,11 @@ fn print_mod_segments(
     ensures ok { OnOk result (trees out.new ≡ trees out.old ++ shapes.mod_segments segments.now) }
     ensures err { OnErr result (Extends (trees out.old) (trees out.new)) }
 {
-    let (pairs, last) = segments.parts();
-    for pair in pairs {
-        print_mod_segment(alloc, &pair.value, out)?;
-        pair.mark.to_tokens(alloc, out)?;
+    for (segment, mark) in segments.pairs() {
+        print_mod_segment(alloc, segment, out)?;
+        mark.append_tokens(alloc, out)?;
     }
-    match last {
-        Some(segment) => print_mod_segment(alloc, segment, out),
-        None => Ok(()),
-    }
+    Ok(())
 }
 
 #[tactic(auto, using(token_core::proofs::Puts::puts))]
@@ -590,19 +580,4 @@ fn print_mod_segment(
     ensures err { OnErr result (Extends (trees out.old) (trees out.new)) }
 {
     segment.ident.to_tokens(alloc, out)
-}
-
-#[tactic(auto, using(token_core::proofs::Puts::puts))]
-pub fn print_colon(
-    alloc: Global,
-    colon: &Option<PathSep>,
-    out: &mut TokenStream,
-) -> Result<(), AllocError>
-    ensures ok { OnOk result (trees out.new ≡ trees out.old ++ shapes.colon colon.now) }
-    ensures err { OnErr result (Extends (trees out.old) (trees out.new)) }
-{
-    match colon {
-        Some(colon) => colon.to_tokens(alloc, out),
-        None => Ok(()),
-    }
 }
