@@ -16,7 +16,7 @@ use syn_names::{Path, QSelf, Type};
 use syn_path::path::PathStyle;
 use syn_path::supplied::{Place, Subtree};
 use syn_ty::ty::{
-    print_last_comma, print_lone_comma, print_qpath, print_type, print_verbatim, print_word,
+    print_last_comma, print_lone_comma, print_qpath, print_type, print_verbatim,
 };
 use token_core::token::{
     And, At, Brace, Bracket, Colon, Comma, DotDot, If, Mark, Mut, Or, Paren, Ref, Underscore, Word,
@@ -640,7 +640,7 @@ fn print_alternatives<X: Subtree>(
     ensures err { OnErr result (Extends (trees out.old) (trees out.new)) }
 {
     print_outer(alloc, &pat.attrs, out)?;
-    print_mark(alloc, &pat.leading_vert, out)?;
+    pat.leading_vert.append_tokens(alloc, out)?;
     print_cases(alloc, pat, out)
 }
 
@@ -672,7 +672,7 @@ fn print_reference<X: Subtree>(
 {
     print_outer(alloc, &pat.attrs, out)?;
     pat.and_token.to_tokens(alloc, out)?;
-    print_word(alloc, &pat.mutability, out)?;
+    pat.mutability.append_tokens(alloc, out)?;
     print_pat(alloc, pat.pat.get(), out)
 }
 
@@ -981,8 +981,8 @@ fn print_name<P, X: Subtree>(
     ensures err { OnErr result (Extends (trees out.old) (trees out.new)) }
 {
     print_outer(alloc, &pat.attrs, out)?;
-    print_word(alloc, &pat.by_ref, out)?;
-    print_word(alloc, &pat.mutability, out)?;
+    pat.by_ref.append_tokens(alloc, out)?;
+    pat.mutability.append_tokens(alloc, out)?;
     pat.ident.to_tokens(alloc, out)
 }
 
@@ -1081,20 +1081,5 @@ fn print_guard<X: Subtree>(
     match guard {
         Expr::Other(tree) => tree.print(alloc, Place::Guard, out),
         _ => print_value(alloc, guard, out),
-    }
-}
-
-#[tactic(auto, using(token_core::proofs::Puts::puts))]
-fn print_mark<const N: u32>(
-    alloc: Global,
-    mark: &Option<Mark<N, 1>>,
-    out: &mut TokenStream,
-) -> Result<(), AllocError>
-    ensures ok { OnOk result (trees out.new ≡ trees out.old ++ generics.optional mark.now) }
-    ensures err { OnErr result (Extends (trees out.old) (trees out.new)) }
-{
-    match mark {
-        Some(token) => token.to_tokens(alloc, out),
-        None => Ok(()),
     }
 }

@@ -39,7 +39,7 @@ use token_core::token::{
 };
 use token_core::{
     Error, Ident, Items, Iter, IterMut, Lifetime, Pair, Parse, ParseStream, Punctuated, ToTokens,
-    TokenStream,
+    TokenStream, TokensOrDefault,
 };
 
 /// The parameters of a declaration, and its where clause, which stands elsewhere in many of them.
@@ -806,7 +806,7 @@ fn print_lifetime_bounds<A>(
     if param.bounds.is_empty() {
         return Ok(());
     }
-    print_or_default(alloc, &param.colon_token, out)?;
+    TokensOrDefault(&param.colon_token).append_tokens(alloc, out)?;
     param.bounds.to_tokens(alloc, out)
 }
 
@@ -930,7 +930,7 @@ fn print_type_bounds<A: Attributes, E: Value>(
     if param.bounds.is_empty() {
         return Ok(());
     }
-    print_or_default(alloc, &param.colon_token, out)?;
+    TokensOrDefault(&param.colon_token).append_tokens(alloc, out)?;
     print_bounds(alloc, param, out)
 }
 
@@ -1094,27 +1094,8 @@ fn print_named_trait<A: Attributes, E: Value>(
     ensures ok { OnOk result (trees out.new ≡ trees out.old ++ types.named_trait A.shown E.values bound.now) }
     ensures err { OnErr result (Extends (trees out.old) (trees out.new)) }
 {
-    match &bound.maybe {
-        Some(question) => question.to_tokens(alloc, out)?,
-        None => {}
-    }
+    bound.maybe.append_tokens(alloc, out)?;
     print_path(alloc, &bound.path, PathStyle::AsWritten, out)
-}
-
-/// A mark of one character, or the same that stands nowhere.
-#[tactic(auto, using(token_core::proofs::Puts::puts))]
-fn print_or_default<const N: u32>(
-    alloc: Global,
-    mark: &Option<Mark<N, 1>>,
-    out: &mut TokenStream,
-) -> Result<(), AllocError>
-    ensures ok { OnOk result (trees out.new ≡ trees out.old ++ shapes.or_default mark.now) }
-    ensures err { OnErr result (Extends (trees out.old) (trees out.new)) }
-{
-    match mark {
-        Some(token) => token.to_tokens(alloc, out),
-        None => Mark::<N, 1>::default().to_tokens(alloc, out),
-    }
 }
 
 #[tactic(auto, using(token_core::proofs::Puts::puts))]
@@ -1419,9 +1400,9 @@ fn print_between<A: Attributes, E: Value>(
     if generics.params.is_empty() {
         return Ok(());
     }
-    print_or_default(alloc, &generics.lt_token, out)?;
+    TokensOrDefault(&generics.lt_token).append_tokens(alloc, out)?;
     print_sorted(alloc, &generics.params, style, out)?;
-    print_or_default(alloc, &generics.gt_token, out)
+    TokensOrDefault(&generics.gt_token).append_tokens(alloc, out)
 }
 
 /// The names after `::`; nothing without parameters.

@@ -729,10 +729,7 @@ fn print_abi(alloc: Global, abi: &Abi, out: &mut TokenStream) -> Result<(), Allo
     ensures err { OnErr result (Extends (trees out.old) (trees out.new)) }
 {
     abi.extern_token.to_tokens(alloc, out)?;
-    match &abi.name {
-        Some(name) => name.to_tokens(alloc, out),
-        None => Ok(()),
-    }
+    abi.name.append_tokens(alloc, out)
 }
 
 /// Appends nothing, or `->` and the type.
@@ -1052,8 +1049,8 @@ fn print_reference<A: Attributes, E: Value>(
     ensures err { OnErr result (Extends (trees out.old) (trees out.new)) }
 {
     reference.and_token.to_tokens(alloc, out)?;
-    print_lifetime(alloc, &reference.lifetime, out)?;
-    print_word(alloc, &reference.mutability, out)?;
+    reference.lifetime.append_tokens(alloc, out)?;
+    reference.mutability.append_tokens(alloc, out)?;
     print_type(alloc, reference.elem.get(), out)
 }
 
@@ -1082,7 +1079,7 @@ fn print_trait_object<A: Attributes, E: Value>(
     ensures ok { OnOk result (trees out.new ≡ trees out.old ++ printing.trait_object A.shown E.values object.now) }
     ensures err { OnErr result (Extends (trees out.old) (trees out.new)) }
 {
-    print_word(alloc, &object.dyn_token, out)?;
+    object.dyn_token.append_tokens(alloc, out)?;
     let (pairs, last) = bound_parts(&object.bounds);
     for pair in pairs {
         print_bound(alloc, &pair.value, out)?;
@@ -1193,21 +1190,6 @@ pub fn print_verbatim(
     Ok(())
 }
 
-#[tactic(auto, using(token_core::proofs::Puts::puts))]
-fn print_lifetime(
-    alloc: Global,
-    lifetime: &Option<Lifetime>,
-    out: &mut TokenStream,
-) -> Result<(), AllocError>
-    ensures ok { OnOk result (trees out.new ≡ trees out.old ++ printing.lifetime lifetime.now) }
-    ensures err { OnErr result (Extends (trees out.old) (trees out.new)) }
-{
-    match lifetime {
-        Some(lifetime) => lifetime.to_tokens(alloc, out),
-        None => Ok(()),
-    }
-}
-
 // ---- parts of pointers to functions, trait objects and opaque types that lead back to no type
 
 /// The elements of a tuple by their parts.
@@ -1258,22 +1240,6 @@ pub fn bound_parts<A, E>(
     bounds.parts()
 }
 
-/// A word, where there is one.
-#[tactic(auto, using(token_core::proofs::Puts::puts))]
-pub fn print_word<const N: u32>(
-    alloc: Global,
-    word: &Option<Word<N>>,
-    out: &mut TokenStream,
-) -> Result<(), AllocError>
-    ensures ok { OnOk result (trees out.new ≡ trees out.old ++ printing.optional_word word.now) }
-    ensures err { OnErr result (Extends (trees out.old) (trees out.new)) }
-{
-    match word {
-        Some(token) => token.to_tokens(alloc, out),
-        None => Ok(()),
-    }
-}
-
 /// A pointer to a function from the end of its binder to `fn`.
 #[tactic(auto, using(token_core::proofs::Puts::puts))]
 fn print_fn_head<A, E>(
@@ -1285,24 +1251,9 @@ fn print_fn_head<A, E>(
     ensures err { OnErr result (Extends (trees out.old) (trees out.new)) }
 {
     print_binder_end(alloc, &pointer.lifetimes, out)?;
-    print_word(alloc, &pointer.unsafety, out)?;
-    print_convention(alloc, &pointer.abi, out)?;
+    pointer.unsafety.append_tokens(alloc, out)?;
+    pointer.abi.append_tokens(alloc, out)?;
     pointer.fn_token.to_tokens(alloc, out)
-}
-
-#[tactic(auto, using(token_core::proofs::Puts::puts))]
-fn print_convention(
-    alloc: Global,
-    abi: &Option<Abi>,
-    out: &mut TokenStream,
-) -> Result<(), AllocError>
-    ensures ok { OnOk result (trees out.new ≡ trees out.old ++ printing.optional_abi abi.now) }
-    ensures err { OnErr result (Extends (trees out.old) (trees out.new)) }
-{
-    match abi {
-        Some(abi) => print_abi(alloc, abi, out),
-        None => Ok(()),
-    }
 }
 
 /// Outer attributes, and a name with its colon.

@@ -208,48 +208,12 @@ impl Sample {
 // ---- prints
 
 #[tactic(auto, using(token_core::proofs::Puts::puts))]
-fn print_colon(
-    alloc: Global,
-    colon: &Option<PathSep>,
-    out: &mut TokenStream,
-) -> Result<(), AllocError>
-    ensures ok { OnOk result (trees out.new ≡ trees out.old ++ printing.colon colon.now) }
-    ensures err { OnErr result (Extends (trees out.old) (trees out.new)) }
-{
-    match colon {
-        Some(colon) => colon.to_tokens(alloc, out),
-        None => Ok(()),
-    }
-}
-
-/// Appends identifiers and their marks; refused, what stood before is kept.
-#[tactic(auto, using(token_core::proofs::Puts::puts))]
-fn print_segments(
-    alloc: Global,
-    segments: &Punctuated<Ident, PathSep>,
-    out: &mut TokenStream,
-) -> Result<(), AllocError>
-    ensures ok { OnOk result (trees out.new ≡ trees out.old ++ printing.segments segments.now) }
-    ensures err { OnErr result (Extends (trees out.old) (trees out.new)) }
-{
-    let (pairs, last) = segments.parts();
-    for pair in pairs {
-        pair.value.to_tokens(alloc, out)?;
-        pair.mark.to_tokens(alloc, out)?;
-    }
-    match last {
-        Some(segment) => segment.to_tokens(alloc, out),
-        None => Ok(()),
-    }
-}
-
-#[tactic(auto, using(token_core::proofs::Puts::puts))]
 fn print_path(alloc: Global, path: &ModPath, out: &mut TokenStream) -> Result<(), AllocError>
     ensures ok { OnOk result (trees out.new ≡ trees out.old ++ printing.path path.now) }
     ensures err { OnErr result (Extends (trees out.old) (trees out.new)) }
 {
-    print_colon(alloc, &path.leading_colon, out)?;
-    print_segments(alloc, &path.segments, out)
+    path.leading_colon.append_tokens(alloc, out)?;
+    path.segments.append_tokens(alloc, out)
 }
 
 /// Appends atoms and their marks; refused, what stood before is kept.
