@@ -16,7 +16,7 @@ use syn_names::{Path, QSelf, Type};
 use syn_path::path::PathStyle;
 use syn_path::supplied::{Place, Subtree};
 use syn_ty::ty::{
-    print_last_comma, print_lone_comma, print_qpath, print_type, print_verbatim, print_word,
+    print_last_comma, print_lone_comma, print_qpath, print_type, print_verbatim,
 };
 use token_core::token::{
     And, At, Brace, Bracket, Colon, Comma, DotDot, If, Mark, Mut, Or, Paren, Ref, Underscore, Word,
@@ -423,116 +423,67 @@ impl<X> From<PatWild<X>> for Pat<X> {
 impl<X: Subtree> ToTokens for Pat<X> {
     ghost print = { printing.pat X.prints };
 
-    fn to_tokens(&self, alloc: Global, out: &mut TokenStream) -> Result<(), AllocError> {
-        let before = out.len();
-        match print_pat(alloc, self, out) {
-            Ok(()) => Ok(()),
-            Err(error) => {
-                out.truncate(before);
-                Err(error)
-            }
-        }
+    fn append_tokens(&self, alloc: Global, out: &mut TokenStream) -> Result<(), AllocError> {
+        print_pat(alloc, self, out)
     }
 }
 
 impl<X: Subtree> ToTokens for PatGuard<X> {
     ghost print = { printing.guarded X.prints };
 
-    fn to_tokens(&self, alloc: Global, out: &mut TokenStream) -> Result<(), AllocError> {
-        let before = out.len();
-        match print_guarded(alloc, self, out) {
-            Ok(()) => Ok(()),
-            Err(error) => {
-                out.truncate(before);
-                Err(error)
-            }
-        }
+    fn append_tokens(&self, alloc: Global, out: &mut TokenStream) -> Result<(), AllocError> {
+        print_guarded(alloc, self, out)
     }
 }
 
 impl<X: Subtree> ToTokens for PatIdent<X> {
     ghost print = { printing.binding X.prints };
 
-    fn to_tokens(&self, alloc: Global, out: &mut TokenStream) -> Result<(), AllocError> {
-        let before = out.len();
-        match print_binding(alloc, self, out) {
-            Ok(()) => Ok(()),
-            Err(error) => {
-                out.truncate(before);
-                Err(error)
-            }
-        }
+    fn append_tokens(&self, alloc: Global, out: &mut TokenStream) -> Result<(), AllocError> {
+        print_binding(alloc, self, out)
     }
 }
 
 impl<X: Subtree> ToTokens for PatOr<X> {
     ghost print = { printing.alternatives X.prints };
 
-    fn to_tokens(&self, alloc: Global, out: &mut TokenStream) -> Result<(), AllocError> {
-        let before = out.len();
-        match print_alternatives(alloc, self, out) {
-            Ok(()) => Ok(()),
-            Err(error) => {
-                out.truncate(before);
-                Err(error)
-            }
-        }
+    fn append_tokens(&self, alloc: Global, out: &mut TokenStream) -> Result<(), AllocError> {
+        print_alternatives(alloc, self, out)
     }
 }
 
 impl<X: Subtree> ToTokens for PatParen<X> {
     ghost print = { printing.paren X.prints };
 
-    fn to_tokens(&self, alloc: Global, out: &mut TokenStream) -> Result<(), AllocError> {
-        let before = out.len();
-        match print_paren(alloc, self, out) {
-            Ok(()) => Ok(()),
-            Err(error) => {
-                out.truncate(before);
-                Err(error)
-            }
-        }
+    fn append_tokens(&self, alloc: Global, out: &mut TokenStream) -> Result<(), AllocError> {
+        print_paren(alloc, self, out)
     }
 }
 
 impl<X: Subtree> ToTokens for PatPath<X> {
     ghost print = { printing.by_path X.prints };
 
-    fn to_tokens(&self, alloc: Global, out: &mut TokenStream) -> Result<(), AllocError> {
-        let before = out.len();
-        match print_by_path(alloc, self, out) {
-            Ok(()) => Ok(()),
-            Err(error) => {
-                out.truncate(before);
-                Err(error)
-            }
-        }
+    fn append_tokens(&self, alloc: Global, out: &mut TokenStream) -> Result<(), AllocError> {
+        print_by_path(alloc, self, out)
     }
 }
 
 impl<X: Subtree> ToTokens for PatRange<X> {
     ghost print = { printing.range X.prints };
 
-    fn to_tokens(&self, alloc: Global, out: &mut TokenStream) -> Result<(), AllocError> {
-        let before = out.len();
-        match print_range(alloc, self, out) {
-            Ok(()) => Ok(()),
-            Err(error) => {
-                out.truncate(before);
-                Err(error)
-            }
-        }
+    fn append_tokens(&self, alloc: Global, out: &mut TokenStream) -> Result<(), AllocError> {
+        print_range(alloc, self, out)
     }
 }
 
 impl<X: Subtree> ToTokens for PatRangeBound<X> {
     ghost print = { printing.range_bound X.prints };
 
-    fn to_tokens(&self, alloc: Global, out: &mut TokenStream) -> Result<(), AllocError> {
+    fn append_tokens(&self, alloc: Global, out: &mut TokenStream) -> Result<(), AllocError> {
         match self {
-            PatRangeBoundOf::Const(bound) => bound.to_tokens(alloc, out),
-            PatRangeBoundOf::Lit(bound) => bound.to_tokens(alloc, out),
-            PatRangeBoundOf::Path(bound) => bound.to_tokens(alloc, out),
+            PatRangeBoundOf::Const(bound) => bound.append_tokens(alloc, out),
+            PatRangeBoundOf::Lit(bound) => bound.append_tokens(alloc, out),
+            PatRangeBoundOf::Path(bound) => bound.append_tokens(alloc, out),
         }
     }
 }
@@ -540,135 +491,72 @@ impl<X: Subtree> ToTokens for PatRangeBound<X> {
 impl<X: Subtree> ToTokens for PatReference<X> {
     ghost print = { printing.reference X.prints };
 
-    fn to_tokens(&self, alloc: Global, out: &mut TokenStream) -> Result<(), AllocError> {
-        let before = out.len();
-        match print_reference(alloc, self, out) {
-            Ok(()) => Ok(()),
-            Err(error) => {
-                out.truncate(before);
-                Err(error)
-            }
-        }
+    fn append_tokens(&self, alloc: Global, out: &mut TokenStream) -> Result<(), AllocError> {
+        print_reference(alloc, self, out)
     }
 }
 
 impl<X: Subtree> ToTokens for PatRest<X> {
     ghost print = { printing.rest X.prints };
 
-    fn to_tokens(&self, alloc: Global, out: &mut TokenStream) -> Result<(), AllocError> {
-        let before = out.len();
-        match print_rest(alloc, self, out) {
-            Ok(()) => Ok(()),
-            Err(error) => {
-                out.truncate(before);
-                Err(error)
-            }
-        }
+    fn append_tokens(&self, alloc: Global, out: &mut TokenStream) -> Result<(), AllocError> {
+        print_rest(alloc, self, out)
     }
 }
 
 impl<X: Subtree> ToTokens for PatSlice<X> {
     ghost print = { printing.slice X.prints };
 
-    fn to_tokens(&self, alloc: Global, out: &mut TokenStream) -> Result<(), AllocError> {
-        let before = out.len();
-        match print_slice(alloc, self, out) {
-            Ok(()) => Ok(()),
-            Err(error) => {
-                out.truncate(before);
-                Err(error)
-            }
-        }
+    fn append_tokens(&self, alloc: Global, out: &mut TokenStream) -> Result<(), AllocError> {
+        print_slice(alloc, self, out)
     }
 }
 
 impl<X: Subtree> ToTokens for PatStruct<X> {
     ghost print = { printing.fielded X.prints };
 
-    fn to_tokens(&self, alloc: Global, out: &mut TokenStream) -> Result<(), AllocError> {
-        let before = out.len();
-        match print_struct(alloc, self, out) {
-            Ok(()) => Ok(()),
-            Err(error) => {
-                out.truncate(before);
-                Err(error)
-            }
-        }
+    fn append_tokens(&self, alloc: Global, out: &mut TokenStream) -> Result<(), AllocError> {
+        print_struct(alloc, self, out)
     }
 }
 
 impl<X: Subtree> ToTokens for PatTuple<X> {
     ghost print = { printing.tuple X.prints };
 
-    fn to_tokens(&self, alloc: Global, out: &mut TokenStream) -> Result<(), AllocError> {
-        let before = out.len();
-        match print_tuple(alloc, self, out) {
-            Ok(()) => Ok(()),
-            Err(error) => {
-                out.truncate(before);
-                Err(error)
-            }
-        }
+    fn append_tokens(&self, alloc: Global, out: &mut TokenStream) -> Result<(), AllocError> {
+        print_tuple(alloc, self, out)
     }
 }
 
 impl<X: Subtree> ToTokens for PatTupleStruct<X> {
     ghost print = { printing.tuple_struct X.prints };
 
-    fn to_tokens(&self, alloc: Global, out: &mut TokenStream) -> Result<(), AllocError> {
-        let before = out.len();
-        match print_tuple_struct(alloc, self, out) {
-            Ok(()) => Ok(()),
-            Err(error) => {
-                out.truncate(before);
-                Err(error)
-            }
-        }
+    fn append_tokens(&self, alloc: Global, out: &mut TokenStream) -> Result<(), AllocError> {
+        print_tuple_struct(alloc, self, out)
     }
 }
 
 impl<X: Subtree> ToTokens for PatType<X> {
     ghost print = { printing.typed X.prints };
 
-    fn to_tokens(&self, alloc: Global, out: &mut TokenStream) -> Result<(), AllocError> {
-        let before = out.len();
-        match print_typed(alloc, self, out) {
-            Ok(()) => Ok(()),
-            Err(error) => {
-                out.truncate(before);
-                Err(error)
-            }
-        }
+    fn append_tokens(&self, alloc: Global, out: &mut TokenStream) -> Result<(), AllocError> {
+        print_typed(alloc, self, out)
     }
 }
 
 impl<X: Subtree> ToTokens for PatWild<X> {
     ghost print = { printing.wild X.prints };
 
-    fn to_tokens(&self, alloc: Global, out: &mut TokenStream) -> Result<(), AllocError> {
-        let before = out.len();
-        match print_wild(alloc, self, out) {
-            Ok(()) => Ok(()),
-            Err(error) => {
-                out.truncate(before);
-                Err(error)
-            }
-        }
+    fn append_tokens(&self, alloc: Global, out: &mut TokenStream) -> Result<(), AllocError> {
+        print_wild(alloc, self, out)
     }
 }
 
 impl<X: Subtree> ToTokens for FieldPat<X> {
     ghost print = { printing.field X.prints };
 
-    fn to_tokens(&self, alloc: Global, out: &mut TokenStream) -> Result<(), AllocError> {
-        let before = out.len();
-        match print_field(alloc, self, out) {
-            Ok(()) => Ok(()),
-            Err(error) => {
-                out.truncate(before);
-                Err(error)
-            }
-        }
+    fn append_tokens(&self, alloc: Global, out: &mut TokenStream) -> Result<(), AllocError> {
+        print_field(alloc, self, out)
     }
 }
 
@@ -752,7 +640,7 @@ fn print_alternatives<X: Subtree>(
     ensures err { OnErr result (Extends (trees out.old) (trees out.new)) }
 {
     print_outer(alloc, &pat.attrs, out)?;
-    print_mark(alloc, &pat.leading_vert, out)?;
+    pat.leading_vert.append_tokens(alloc, out)?;
     print_cases(alloc, pat, out)
 }
 
@@ -784,7 +672,7 @@ fn print_reference<X: Subtree>(
 {
     print_outer(alloc, &pat.attrs, out)?;
     pat.and_token.to_tokens(alloc, out)?;
-    print_word(alloc, &pat.mutability, out)?;
+    pat.mutability.append_tokens(alloc, out)?;
     print_pat(alloc, pat.pat.get(), out)
 }
 
@@ -1093,8 +981,8 @@ fn print_name<P, X: Subtree>(
     ensures err { OnErr result (Extends (trees out.old) (trees out.new)) }
 {
     print_outer(alloc, &pat.attrs, out)?;
-    print_word(alloc, &pat.by_ref, out)?;
-    print_word(alloc, &pat.mutability, out)?;
+    pat.by_ref.append_tokens(alloc, out)?;
+    pat.mutability.append_tokens(alloc, out)?;
     pat.ident.to_tokens(alloc, out)
 }
 
@@ -1193,20 +1081,5 @@ fn print_guard<X: Subtree>(
     match guard {
         Expr::Other(tree) => tree.print(alloc, Place::Guard, out),
         _ => print_value(alloc, guard, out),
-    }
-}
-
-#[tactic(auto, using(token_core::proofs::Puts::puts))]
-fn print_mark<const N: u32>(
-    alloc: Global,
-    mark: &Option<Mark<N, 1>>,
-    out: &mut TokenStream,
-) -> Result<(), AllocError>
-    ensures ok { OnOk result (trees out.new ≡ trees out.old ++ generics.optional mark.now) }
-    ensures err { OnErr result (Extends (trees out.old) (trees out.new)) }
-{
-    match mark {
-        Some(token) => token.to_tokens(alloc, out),
-        None => Ok(()),
     }
 }

@@ -39,7 +39,7 @@ use token_core::token::{
 };
 use token_core::{
     Error, Ident, Items, Iter, IterMut, Lifetime, Pair, Parse, ParseStream, Punctuated, ToTokens,
-    TokenStream,
+    TokenStream, TokensOrDefault,
 };
 
 /// The parameters of a declaration, and its where clause, which stands elsewhere in many of them.
@@ -620,10 +620,10 @@ impl Styled for CapturedParam {
 impl ToTokens for CapturedParam {
     ghost print = { shapes.captured };
 
-    fn to_tokens(&self, alloc: Global, out: &mut TokenStream) -> Result<(), AllocError> {
+    fn append_tokens(&self, alloc: Global, out: &mut TokenStream) -> Result<(), AllocError> {
         match self {
-            CapturedParam::Lifetime(lifetime) => lifetime.to_tokens(alloc, out),
-            CapturedParam::Ident(ident) => ident.to_tokens(alloc, out),
+            CapturedParam::Lifetime(lifetime) => lifetime.append_tokens(alloc, out),
+            CapturedParam::Ident(ident) => ident.append_tokens(alloc, out),
         }
     }
 }
@@ -631,15 +631,8 @@ impl ToTokens for CapturedParam {
 impl ToTokens for PreciseCapture {
     ghost print = { shapes.capture };
 
-    fn to_tokens(&self, alloc: Global, out: &mut TokenStream) -> Result<(), AllocError> {
-        let before = out.len();
-        match print_capture(alloc, self, out) {
-            Ok(()) => Ok(()),
-            Err(error) => {
-                out.truncate(before);
-                Err(error)
-            }
-        }
+    fn append_tokens(&self, alloc: Global, out: &mut TokenStream) -> Result<(), AllocError> {
+        print_capture(alloc, self, out)
     }
 }
 
@@ -813,7 +806,7 @@ fn print_lifetime_bounds<A>(
     if param.bounds.is_empty() {
         return Ok(());
     }
-    print_or_default(alloc, &param.colon_token, out)?;
+    TokensOrDefault(&param.colon_token).append_tokens(alloc, out)?;
     param.bounds.to_tokens(alloc, out)
 }
 
@@ -937,7 +930,7 @@ fn print_type_bounds<A: Attributes, E: Value>(
     if param.bounds.is_empty() {
         return Ok(());
     }
-    print_or_default(alloc, &param.colon_token, out)?;
+    TokensOrDefault(&param.colon_token).append_tokens(alloc, out)?;
     print_bounds(alloc, param, out)
 }
 
@@ -1101,27 +1094,8 @@ fn print_named_trait<A: Attributes, E: Value>(
     ensures ok { OnOk result (trees out.new ≡ trees out.old ++ types.named_trait A.shown E.values bound.now) }
     ensures err { OnErr result (Extends (trees out.old) (trees out.new)) }
 {
-    match &bound.maybe {
-        Some(question) => question.to_tokens(alloc, out)?,
-        None => {}
-    }
+    bound.maybe.append_tokens(alloc, out)?;
     print_path(alloc, &bound.path, PathStyle::AsWritten, out)
-}
-
-/// A mark of one character, or the same that stands nowhere.
-#[tactic(auto, using(token_core::proofs::Puts::puts))]
-fn print_or_default<const N: u32>(
-    alloc: Global,
-    mark: &Option<Mark<N, 1>>,
-    out: &mut TokenStream,
-) -> Result<(), AllocError>
-    ensures ok { OnOk result (trees out.new ≡ trees out.old ++ shapes.or_default mark.now) }
-    ensures err { OnErr result (Extends (trees out.old) (trees out.new)) }
-{
-    match mark {
-        Some(token) => token.to_tokens(alloc, out),
-        None => Mark::<N, 1>::default().to_tokens(alloc, out),
-    }
 }
 
 #[tactic(auto, using(token_core::proofs::Puts::puts))]
@@ -1142,105 +1116,56 @@ fn print_predicate_lifetime<A: Attributes>(
 impl<A: Attributes> ToTokens for LifetimeParamOf<A> {
     ghost print = { shapes.lifetime_param_by A.shown };
 
-    fn to_tokens(&self, alloc: Global, out: &mut TokenStream) -> Result<(), AllocError> {
-        let before = out.len();
-        match print_lifetime_param(alloc, self, out) {
-            Ok(()) => Ok(()),
-            Err(error) => {
-                out.truncate(before);
-                Err(error)
-            }
-        }
+    fn append_tokens(&self, alloc: Global, out: &mut TokenStream) -> Result<(), AllocError> {
+        print_lifetime_param(alloc, self, out)
     }
 }
 
 impl<A: Attributes, E: Value> ToTokens for ConstParamOf<TypeOf<A, E>, A, E> {
     ghost print = { types.const_param A.shown E.values };
 
-    fn to_tokens(&self, alloc: Global, out: &mut TokenStream) -> Result<(), AllocError> {
-        let before = out.len();
-        match print_const_param(alloc, self, out) {
-            Ok(()) => Ok(()),
-            Err(error) => {
-                out.truncate(before);
-                Err(error)
-            }
-        }
+    fn append_tokens(&self, alloc: Global, out: &mut TokenStream) -> Result<(), AllocError> {
+        print_const_param(alloc, self, out)
     }
 }
 
 impl<A: Attributes> ToTokens for PredicateLifetimeOf<A> {
     ghost print = { printing.predicate_lifetime_by A.shown };
 
-    fn to_tokens(&self, alloc: Global, out: &mut TokenStream) -> Result<(), AllocError> {
-        let before = out.len();
-        match print_predicate_lifetime(alloc, self, out) {
-            Ok(()) => Ok(()),
-            Err(error) => {
-                out.truncate(before);
-                Err(error)
-            }
-        }
+    fn append_tokens(&self, alloc: Global, out: &mut TokenStream) -> Result<(), AllocError> {
+        print_predicate_lifetime(alloc, self, out)
     }
 }
 
 impl<A: Attributes, E: Value> ToTokens for GenericParamOf<A, E> {
     ghost print = { types.param A.shown E.values };
 
-    fn to_tokens(&self, alloc: Global, out: &mut TokenStream) -> Result<(), AllocError> {
-        let before = out.len();
-        match print_param(alloc, self, out) {
-            Ok(()) => Ok(()),
-            Err(error) => {
-                out.truncate(before);
-                Err(error)
-            }
-        }
+    fn append_tokens(&self, alloc: Global, out: &mut TokenStream) -> Result<(), AllocError> {
+        print_param(alloc, self, out)
     }
 }
 
 impl<A: Attributes, E: Value> ToTokens for TypeParamOf<A, E> {
     ghost print = { types.type_param A.shown E.values };
 
-    fn to_tokens(&self, alloc: Global, out: &mut TokenStream) -> Result<(), AllocError> {
-        let before = out.len();
-        match print_type_param(alloc, self, out) {
-            Ok(()) => Ok(()),
-            Err(error) => {
-                out.truncate(before);
-                Err(error)
-            }
-        }
+    fn append_tokens(&self, alloc: Global, out: &mut TokenStream) -> Result<(), AllocError> {
+        print_type_param(alloc, self, out)
     }
 }
 
 impl<A: Attributes, E: Value> ToTokens for TypeParamBoundOf<A, E> {
     ghost print = { types.bound A.shown E.values };
 
-    fn to_tokens(&self, alloc: Global, out: &mut TokenStream) -> Result<(), AllocError> {
-        let before = out.len();
-        match print_bound(alloc, self, out) {
-            Ok(()) => Ok(()),
-            Err(error) => {
-                out.truncate(before);
-                Err(error)
-            }
-        }
+    fn append_tokens(&self, alloc: Global, out: &mut TokenStream) -> Result<(), AllocError> {
+        print_bound(alloc, self, out)
     }
 }
 
 impl<A: Attributes, E: Value> ToTokens for TraitBoundOf<A, E> {
     ghost print = { types.trait_bound A.shown E.values };
 
-    fn to_tokens(&self, alloc: Global, out: &mut TokenStream) -> Result<(), AllocError> {
-        let before = out.len();
-        match print_trait_bound(alloc, self, out) {
-            Ok(()) => Ok(()),
-            Err(error) => {
-                out.truncate(before);
-                Err(error)
-            }
-        }
+    fn append_tokens(&self, alloc: Global, out: &mut TokenStream) -> Result<(), AllocError> {
+        print_trait_bound(alloc, self, out)
     }
 }
 
@@ -1313,40 +1238,26 @@ fn print_where<A: Attributes, E: Value>(
 impl<A: Attributes, E: Value> ToTokens for BoundLifetimesOf<GenericParamOf<A, E>> {
     ghost print = { types.bound_lifetimes A.shown E.values };
 
-    fn to_tokens(&self, alloc: Global, out: &mut TokenStream) -> Result<(), AllocError> {
-        let before = out.len();
-        match print_bound_lifetimes(alloc, self, out) {
-            Ok(()) => Ok(()),
-            Err(error) => {
-                out.truncate(before);
-                Err(error)
-            }
-        }
+    fn append_tokens(&self, alloc: Global, out: &mut TokenStream) -> Result<(), AllocError> {
+        print_bound_lifetimes(alloc, self, out)
     }
 }
 
 impl<A: Attributes, E: Value> ToTokens for PredicateTypeOf<A, E> {
     ghost print = { printing.predicate_type A.shown E.values };
 
-    fn to_tokens(&self, alloc: Global, out: &mut TokenStream) -> Result<(), AllocError> {
-        let before = out.len();
-        match print_predicate_type(alloc, self, out) {
-            Ok(()) => Ok(()),
-            Err(error) => {
-                out.truncate(before);
-                Err(error)
-            }
-        }
+    fn append_tokens(&self, alloc: Global, out: &mut TokenStream) -> Result<(), AllocError> {
+        print_predicate_type(alloc, self, out)
     }
 }
 
 impl<A: Attributes, E: Value> ToTokens for WherePredicateOf<A, E> {
     ghost print = { printing.predicate A.shown E.values };
 
-    fn to_tokens(&self, alloc: Global, out: &mut TokenStream) -> Result<(), AllocError> {
+    fn append_tokens(&self, alloc: Global, out: &mut TokenStream) -> Result<(), AllocError> {
         match self {
-            WherePredicateOf::Lifetime(predicate) => predicate.to_tokens(alloc, out),
-            WherePredicateOf::Type(predicate) => predicate.to_tokens(alloc, out),
+            WherePredicateOf::Lifetime(predicate) => predicate.append_tokens(alloc, out),
+            WherePredicateOf::Type(predicate) => predicate.append_tokens(alloc, out),
         }
     }
 }
@@ -1354,15 +1265,8 @@ impl<A: Attributes, E: Value> ToTokens for WherePredicateOf<A, E> {
 impl<A: Attributes, E: Value> ToTokens for WhereClauseOf<A, E> {
     ghost print = { printing.where_clause A.shown E.values };
 
-    fn to_tokens(&self, alloc: Global, out: &mut TokenStream) -> Result<(), AllocError> {
-        let before = out.len();
-        match print_where(alloc, self, out) {
-            Ok(()) => Ok(()),
-            Err(error) => {
-                out.truncate(before);
-                Err(error)
-            }
-        }
+    fn append_tokens(&self, alloc: Global, out: &mut TokenStream) -> Result<(), AllocError> {
+        print_where(alloc, self, out)
     }
 }
 
@@ -1496,9 +1400,9 @@ fn print_between<A: Attributes, E: Value>(
     if generics.params.is_empty() {
         return Ok(());
     }
-    print_or_default(alloc, &generics.lt_token, out)?;
+    TokensOrDefault(&generics.lt_token).append_tokens(alloc, out)?;
     print_sorted(alloc, &generics.params, style, out)?;
-    print_or_default(alloc, &generics.gt_token, out)
+    TokensOrDefault(&generics.gt_token).append_tokens(alloc, out)
 }
 
 /// The names after `::`; nothing without parameters.
@@ -1522,15 +1426,8 @@ impl<A: Attributes, E: Value> ToTokens for GenericsOf<A, E> {
     ghost print = { printing.generics A.shown E.values };
 
     #[tactic(auto, using(crate::proofs::generics_laws::Views::showns))]
-    fn to_tokens(&self, alloc: Global, out: &mut TokenStream) -> Result<(), AllocError> {
-        let before = out.len();
-        match print_between(alloc, self, Style::Whole, out) {
-            Ok(()) => Ok(()),
-            Err(error) => {
-                out.truncate(before);
-                Err(error)
-            }
-        }
+    fn append_tokens(&self, alloc: Global, out: &mut TokenStream) -> Result<(), AllocError> {
+        print_between(alloc, self, Style::Whole, out)
     }
 }
 
@@ -1538,15 +1435,8 @@ impl<'a, A: Attributes, E: Value> ToTokens for ImplGenericsOf<'a, A, E> {
     ghost print = { λ view. printing.generics A.shown E.values (views.stripped view.generics.now) };
 
     #[tactic(auto, using(crate::proofs::generics_laws::Views::showns))]
-    fn to_tokens(&self, alloc: Global, out: &mut TokenStream) -> Result<(), AllocError> {
-        let before = out.len();
-        match print_between(alloc, self.generics, Style::NoDefault, out) {
-            Ok(()) => Ok(()),
-            Err(error) => {
-                out.truncate(before);
-                Err(error)
-            }
-        }
+    fn append_tokens(&self, alloc: Global, out: &mut TokenStream) -> Result<(), AllocError> {
+        print_between(alloc, self.generics, Style::NoDefault, out)
     }
 }
 
@@ -1554,29 +1444,15 @@ impl<'a, A: Attributes, E: Value> ToTokens for TypeGenericsOf<'a, A, E> {
     ghost print = { λ view. views.names view.generics.now };
 
     #[tactic(auto, using(crate::proofs::generics_laws::Views::showns))]
-    fn to_tokens(&self, alloc: Global, out: &mut TokenStream) -> Result<(), AllocError> {
-        let before = out.len();
-        match print_between(alloc, self.generics, Style::Name, out) {
-            Ok(()) => Ok(()),
-            Err(error) => {
-                out.truncate(before);
-                Err(error)
-            }
-        }
+    fn append_tokens(&self, alloc: Global, out: &mut TokenStream) -> Result<(), AllocError> {
+        print_between(alloc, self.generics, Style::Name, out)
     }
 }
 
 impl<'a, A: Attributes, E: Value> ToTokens for TurbofishOf<'a, A, E> {
     ghost print = { λ view. views.turbofish view.generics.now };
 
-    fn to_tokens(&self, alloc: Global, out: &mut TokenStream) -> Result<(), AllocError> {
-        let before = out.len();
-        match print_turbofish(alloc, self.generics, out) {
-            Ok(()) => Ok(()),
-            Err(error) => {
-                out.truncate(before);
-                Err(error)
-            }
-        }
+    fn append_tokens(&self, alloc: Global, out: &mut TokenStream) -> Result<(), AllocError> {
+        print_turbofish(alloc, self.generics, out)
     }
 }

@@ -397,14 +397,14 @@ impl<
         ensures within { Follows input.old input.new }
     {
         let mut elems = Punctuated::new(self.alloc);
-        elems.push_value(self.alloc, first)?;
+        elems.push_value(first)?;
         elems.push_punct(parse_comma(self.alloc, input)?)?;
         'turn: loop {
             if input.is_empty() {
                 return Ok(elems);
             }
             let elem = self.nested(input, true)?;
-            elems.push_value(self.alloc, elem)?;
+            elems.push_value(elem)?;
             if input.is_empty() {
                 return Ok(elems);
             }
@@ -601,7 +601,7 @@ impl<
                 return Ok(params);
             }
             let param = self.nested_param(input)?;
-            params.push_value(self.alloc, param)?;
+            params.push_value(param)?;
             if input.peek::<Gt>() {
                 return Ok(params);
             }
@@ -982,14 +982,14 @@ fn parse_more_elements<A: Attributes, E: Value>(
     ensures within { Follows input.old input.new }
 {
     let mut elems = Punctuated::new(alloc);
-    elems.push_value(alloc, first)?;
+    elems.push_value(first)?;
     elems.push_punct(parse_comma(alloc, input)?)?;
     'turn: loop {
         if input.is_empty() {
             return Ok(elems);
         }
         let elem = parse_nested(alloc, begin, input, true)?;
-        elems.push_value(alloc, elem)?;
+        elems.push_value(elem)?;
         if input.is_empty() {
             return Ok(elems);
         }

@@ -22,7 +22,7 @@ ghost use Rattle.syn_ty.specs.ty.Printing as types;
 use crate::generics::{Member, TypeParamBoundOf, print_added_comma, print_bound};
 use crate::ty::{NamedArgOf, ReturnTypeOf, TypeOf, bound_parts, print_arg_name, print_type};
 use std::alloc::{AllocError, Global};
-use syn_path::path::{Arguments, PathOf, PathSegmentOf, PathStyle, QSelfOf, print_colon};
+use syn_path::path::{Arguments, PathOf, PathSegmentOf, PathStyle, QSelfOf};
 use syn_path::supplied::{Attributes, Subtree, Value};
 use token_core::token::{
     As, Colon, Comma, Crate, Eq, Gt, Le, Lt, Mark, Paren, PathSep, Plus, RArrow, SelfType,
@@ -30,7 +30,7 @@ use token_core::token::{
 };
 use token_core::{
     Boxed, Error, ErrorKind, Ident, Lifetime, Lit, Pair, ParseStream, Punctuated, Span, Spanned,
-    Text, ToTokens, Token, TokenStream,
+    Text, ToTokens, Token, TokenStream, TokensOrDefault,
 };
 
 /// The arguments of a segment, over the attributes and expressions in them.
@@ -178,15 +178,8 @@ impl<A: Attributes, E: Value> Arguments for PathArgumentsOf<A, E> {
 impl<A: Attributes, E: Value> ToTokens for PathArgumentsOf<A, E> {
     ghost print = { types.arguments A.shown E.values shapes.as_written };
 
-    fn to_tokens(&self, alloc: Global, out: &mut TokenStream) -> Result<(), AllocError> {
-        let before = out.len();
-        match print_arguments(alloc, self, PathStyle::AsWritten, out) {
-            Ok(()) => Ok(()),
-            Err(error) => {
-                out.truncate(before);
-                Err(error)
-            }
-        }
+    fn append_tokens(&self, alloc: Global, out: &mut TokenStream) -> Result<(), AllocError> {
+        print_arguments(alloc, self, PathStyle::AsWritten, out)
     }
 }
 
@@ -194,15 +187,8 @@ impl<A: Attributes, E: Value> ToTokens for PathArgumentsOf<A, E> {
 impl<A: Attributes, E: Value> ToTokens for GenericArgumentOf<A, E> {
     ghost print = { types.argument A.shown E.values };
 
-    fn to_tokens(&self, alloc: Global, out: &mut TokenStream) -> Result<(), AllocError> {
-        let before = out.len();
-        match print_argument(alloc, self, out) {
-            Ok(()) => Ok(()),
-            Err(error) => {
-                out.truncate(before);
-                Err(error)
-            }
-        }
+    fn append_tokens(&self, alloc: Global, out: &mut TokenStream) -> Result<(), AllocError> {
+        print_argument(alloc, self, out)
     }
 }
 
@@ -211,45 +197,24 @@ impl<A: Attributes, E: Value> ToTokens
     for AngleBracketedGenericArgumentsOf<GenericArgumentOf<A, E>> {
     ghost print = { types.angle A.shown E.values shapes.as_written };
 
-    fn to_tokens(&self, alloc: Global, out: &mut TokenStream) -> Result<(), AllocError> {
-        let before = out.len();
-        match print_angle(alloc, self, PathStyle::AsWritten, out) {
-            Ok(()) => Ok(()),
-            Err(error) => {
-                out.truncate(before);
-                Err(error)
-            }
-        }
+    fn append_tokens(&self, alloc: Global, out: &mut TokenStream) -> Result<(), AllocError> {
+        print_angle(alloc, self, PathStyle::AsWritten, out)
     }
 }
 
 impl<A: Attributes, E: Value> ToTokens for AssocTypeOf<A, E> {
     ghost print = { types.assoc_type A.shown E.values };
 
-    fn to_tokens(&self, alloc: Global, out: &mut TokenStream) -> Result<(), AllocError> {
-        let before = out.len();
-        match print_assoc_type(alloc, self, out) {
-            Ok(()) => Ok(()),
-            Err(error) => {
-                out.truncate(before);
-                Err(error)
-            }
-        }
+    fn append_tokens(&self, alloc: Global, out: &mut TokenStream) -> Result<(), AllocError> {
+        print_assoc_type(alloc, self, out)
     }
 }
 
 impl<A: Attributes, E: Value> ToTokens for AssocConstOf<GenericArgumentOf<A, E>, E> {
     ghost print = { types.assoc_const A.shown E.values };
 
-    fn to_tokens(&self, alloc: Global, out: &mut TokenStream) -> Result<(), AllocError> {
-        let before = out.len();
-        match print_assoc_const(alloc, self, out) {
-            Ok(()) => Ok(()),
-            Err(error) => {
-                out.truncate(before);
-                Err(error)
-            }
-        }
+    fn append_tokens(&self, alloc: Global, out: &mut TokenStream) -> Result<(), AllocError> {
+        print_assoc_const(alloc, self, out)
     }
 }
 
@@ -257,30 +222,16 @@ impl<A: Attributes, E: Value> ToTokens for AssocConstOf<GenericArgumentOf<A, E>,
 impl<A: Attributes, E: Value> ToTokens for ConstraintOf<A, E> {
     ghost print = { types.constraint A.shown E.values };
 
-    fn to_tokens(&self, alloc: Global, out: &mut TokenStream) -> Result<(), AllocError> {
-        let before = out.len();
-        match print_constraint(alloc, self, out) {
-            Ok(()) => Ok(()),
-            Err(error) => {
-                out.truncate(before);
-                Err(error)
-            }
-        }
+    fn append_tokens(&self, alloc: Global, out: &mut TokenStream) -> Result<(), AllocError> {
+        print_constraint(alloc, self, out)
     }
 }
 
 impl<A: Attributes, E: Value> ToTokens for ParenthesizedGenericArgumentsOf<TypeOf<A, E>, A> {
     ghost print = { types.parenthesized A.shown E.values };
 
-    fn to_tokens(&self, alloc: Global, out: &mut TokenStream) -> Result<(), AllocError> {
-        let before = out.len();
-        match print_parenthesized(alloc, self, out) {
-            Ok(()) => Ok(()),
-            Err(error) => {
-                out.truncate(before);
-                Err(error)
-            }
-        }
+    fn append_tokens(&self, alloc: Global, out: &mut TokenStream) -> Result<(), AllocError> {
+        print_parenthesized(alloc, self, out)
     }
 }
 
@@ -296,7 +247,7 @@ pub fn print_path<A: Attributes, E: Value>(
     ensures ok { OnOk result (trees out.new ≡ trees out.old ++ printing.path A.shown E.values style path.now) }
     ensures err { OnErr result (Extends (trees out.old) (trees out.new)) }
 {
-    print_colon(alloc, &path.leading_colon, out)?;
+    path.leading_colon.append_tokens(alloc, out)?;
     print_segments(alloc, path, style, out)
 }
 
@@ -599,8 +550,8 @@ pub fn print_qualified<A: Attributes, E: Value>(
         qself.gt_token.to_tokens(alloc, out)?;
         return print_path(alloc, path, style, out);
     }
-    print_as(alloc, &qself.as_token, out)?;
-    print_colon(alloc, &path.leading_colon, out)?;
+    TokensOrDefault(&qself.as_token).append_tokens(alloc, out)?;
+    path.leading_colon.append_tokens(alloc, out)?;
     print_around(alloc, path, before, &qself.gt_token, style, out)
 }
 
@@ -722,10 +673,9 @@ fn print_angle_start<A, E>(
     ensures ok { OnOk result (trees out.new ≡ trees out.old ++ shapes.angle_start style arguments.now) }
     ensures err { OnErr result (Extends (trees out.old) (trees out.new)) }
 {
-    match (&arguments.colon2_token, style) {
-        (Some(colon), _) => colon.to_tokens(alloc, out)?,
-        (None, PathStyle::Expr) => PathSep::default().to_tokens(alloc, out)?,
-        (None, PathStyle::AsWritten) => {}
+    match style {
+        PathStyle::Expr => TokensOrDefault(&arguments.colon2_token).append_tokens(alloc, out)?,
+        PathStyle::AsWritten => arguments.colon2_token.append_tokens(alloc, out)?,
     }
     arguments.lt_token.to_tokens(alloc, out)
 }
@@ -743,17 +693,5 @@ fn print_parenthesized_start(
     match style {
         PathStyle::Expr => PathSep::default().to_tokens(alloc, out),
         PathStyle::AsWritten => Ok(()),
-    }
-}
-
-/// `as`, or one that stands nowhere.
-#[tactic(auto, using(token_core::proofs::Puts::puts))]
-fn print_as(alloc: Global, as_token: &Option<As>, out: &mut TokenStream) -> Result<(), AllocError>
-    ensures ok { OnOk result (trees out.new ≡ trees out.old ++ shapes.as_or_default as_token.now) }
-    ensures err { OnErr result (Extends (trees out.old) (trees out.new)) }
-{
-    match as_token {
-        Some(token) => token.to_tokens(alloc, out),
-        None => As::default().to_tokens(alloc, out),
     }
 }

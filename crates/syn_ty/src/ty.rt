@@ -609,84 +609,56 @@ impl<A, E> From<TypeTupleOf<TypeOf<A, E>, A>> for TypeOf<A, E> {
 impl<A: Attributes, E: Value> ToTokens for TypeOf<A, E> {
     ghost print = { printing.ty A.shown E.values };
 
-    fn to_tokens(&self, alloc: Global, out: &mut TokenStream) -> Result<(), AllocError> {
-        let before = out.len();
-        match print_type(alloc, self, out) {
-            Ok(()) => Ok(()),
-            Err(error) => {
-                out.truncate(before);
-                Err(error)
-            }
-        }
+    fn append_tokens(&self, alloc: Global, out: &mut TokenStream) -> Result<(), AllocError> {
+        print_type(alloc, self, out)
     }
 }
 
 impl<A: Attributes, E: Value> ToTokens for TypeArrayOf<TypeOf<A, E>, A, E> {
     ghost print = { printing.array A.shown E.values };
 
-    fn to_tokens(&self, alloc: Global, out: &mut TokenStream) -> Result<(), AllocError> {
-        let before = out.len();
-        match print_array(alloc, self, out) {
-            Ok(()) => Ok(()),
-            Err(error) => {
-                out.truncate(before);
-                Err(error)
-            }
-        }
+    fn append_tokens(&self, alloc: Global, out: &mut TokenStream) -> Result<(), AllocError> {
+        print_array(alloc, self, out)
     }
 }
 
 impl<A: Attributes, E: Value> ToTokens for TypeGroupOf<TypeOf<A, E>, A> {
     ghost print = { printing.group A.shown E.values };
 
-    fn to_tokens(&self, alloc: Global, out: &mut TokenStream) -> Result<(), AllocError> {
-        let before = out.len();
-        match print_group(alloc, self, out) {
-            Ok(()) => Ok(()),
-            Err(error) => {
-                out.truncate(before);
-                Err(error)
-            }
-        }
+    fn append_tokens(&self, alloc: Global, out: &mut TokenStream) -> Result<(), AllocError> {
+        print_group(alloc, self, out)
     }
 }
 
 impl<A> ToTokens for TypeInferOf<A> {
     ghost print = { printing.infer };
 
-    fn to_tokens(&self, alloc: Global, out: &mut TokenStream) -> Result<(), AllocError> {
-        self.underscore_token.to_tokens(alloc, out)
+    fn append_tokens(&self, alloc: Global, out: &mut TokenStream) -> Result<(), AllocError> {
+        self.underscore_token.append_tokens(alloc, out)
     }
 }
 
 impl<A> ToTokens for TypeMacroOf<A> {
     ghost print = { printing.macro_type };
 
-    fn to_tokens(&self, alloc: Global, out: &mut TokenStream) -> Result<(), AllocError> {
-        self.mac.to_tokens(alloc, out)
+    fn append_tokens(&self, alloc: Global, out: &mut TokenStream) -> Result<(), AllocError> {
+        self.mac.append_tokens(alloc, out)
     }
 }
 
 impl<A> ToTokens for TypeNeverOf<A> {
     ghost print = { printing.never };
 
-    fn to_tokens(&self, alloc: Global, out: &mut TokenStream) -> Result<(), AllocError> {
-        self.bang_token.to_tokens(alloc, out)
+    fn append_tokens(&self, alloc: Global, out: &mut TokenStream) -> Result<(), AllocError> {
+        self.bang_token.append_tokens(alloc, out)
     }
 }
 
 impl<A: Attributes, E: Value> ToTokens for TypeParenOf<TypeOf<A, E>, A> {
     ghost print = { printing.paren A.shown E.values };
 
-    fn to_tokens(&self, alloc: Global, out: &mut TokenStream) -> Result<(), AllocError> {
-        let before = out.len();
-        match print_paren(alloc, self, out) {
-            Ok(()) => Ok(()),
-            Err(error) => {
-                out.truncate(before);
-                Err(error)
-            }
-        }
+    fn append_tokens(&self, alloc: Global, out: &mut TokenStream) -> Result<(), AllocError> {
+        print_paren(alloc, self, out)
     }
 }
 
@@ -694,85 +666,50 @@ impl<A: Attributes, E: Value> ToTokens for TypeParenOf<TypeOf<A, E>, A> {
 impl<A: Attributes, E: Value> ToTokens for TypePathOf<A, E> {
     ghost print = { printing.path_type A.shown E.values };
 
-    fn to_tokens(&self, alloc: Global, out: &mut TokenStream) -> Result<(), AllocError> {
-        let before = out.len();
-        match print_path_type(alloc, self, out) {
-            Ok(()) => Ok(()),
-            Err(error) => {
-                out.truncate(before);
-                Err(error)
-            }
-        }
+    fn append_tokens(&self, alloc: Global, out: &mut TokenStream) -> Result<(), AllocError> {
+        print_path_type(alloc, self, out)
     }
 }
 
 impl<A: Attributes, E: Value> ToTokens for TypePtrOf<TypeOf<A, E>, A> {
     ghost print = { printing.ptr A.shown E.values };
 
-    fn to_tokens(&self, alloc: Global, out: &mut TokenStream) -> Result<(), AllocError> {
-        let before = out.len();
-        match print_ptr(alloc, self, out) {
-            Ok(()) => Ok(()),
-            Err(error) => {
-                out.truncate(before);
-                Err(error)
-            }
-        }
+    fn append_tokens(&self, alloc: Global, out: &mut TokenStream) -> Result<(), AllocError> {
+        print_ptr(alloc, self, out)
     }
 }
 
 impl<A: Attributes, E: Value> ToTokens for TypeReferenceOf<TypeOf<A, E>, A> {
     ghost print = { printing.reference A.shown E.values };
 
-    fn to_tokens(&self, alloc: Global, out: &mut TokenStream) -> Result<(), AllocError> {
-        let before = out.len();
-        match print_reference(alloc, self, out) {
-            Ok(()) => Ok(()),
-            Err(error) => {
-                out.truncate(before);
-                Err(error)
-            }
-        }
+    fn append_tokens(&self, alloc: Global, out: &mut TokenStream) -> Result<(), AllocError> {
+        print_reference(alloc, self, out)
     }
 }
 
 impl<A: Attributes, E: Value> ToTokens for TypeSliceOf<TypeOf<A, E>, A> {
     ghost print = { printing.slice A.shown E.values };
 
-    fn to_tokens(&self, alloc: Global, out: &mut TokenStream) -> Result<(), AllocError> {
-        let before = out.len();
-        match print_slice(alloc, self, out) {
-            Ok(()) => Ok(()),
-            Err(error) => {
-                out.truncate(before);
-                Err(error)
-            }
-        }
+    fn append_tokens(&self, alloc: Global, out: &mut TokenStream) -> Result<(), AllocError> {
+        print_slice(alloc, self, out)
     }
 }
 
 impl<A: Attributes, E: Value> ToTokens for TypeTupleOf<TypeOf<A, E>, A> {
     ghost print = { printing.tuple A.shown E.values };
 
-    fn to_tokens(&self, alloc: Global, out: &mut TokenStream) -> Result<(), AllocError> {
-        let before = out.len();
-        match print_tuple(alloc, self, out) {
-            Ok(()) => Ok(()),
-            Err(error) => {
-                out.truncate(before);
-                Err(error)
-            }
-        }
+    fn append_tokens(&self, alloc: Global, out: &mut TokenStream) -> Result<(), AllocError> {
+        print_tuple(alloc, self, out)
     }
 }
 
 impl ToTokens for PointerMutability {
     ghost print = { printing.pointer };
 
-    fn to_tokens(&self, alloc: Global, out: &mut TokenStream) -> Result<(), AllocError> {
+    fn append_tokens(&self, alloc: Global, out: &mut TokenStream) -> Result<(), AllocError> {
         match self {
-            PointerMutability::Const(token) => token.to_tokens(alloc, out),
-            PointerMutability::Mut(token) => token.to_tokens(alloc, out),
+            PointerMutability::Const(token) => token.append_tokens(alloc, out),
+            PointerMutability::Mut(token) => token.append_tokens(alloc, out),
         }
     }
 }
@@ -781,15 +718,8 @@ impl ToTokens for PointerMutability {
 impl ToTokens for Abi {
     ghost print = { printing.abi };
 
-    fn to_tokens(&self, alloc: Global, out: &mut TokenStream) -> Result<(), AllocError> {
-        let before = out.len();
-        match print_abi(alloc, self, out) {
-            Ok(()) => Ok(()),
-            Err(error) => {
-                out.truncate(before);
-                Err(error)
-            }
-        }
+    fn append_tokens(&self, alloc: Global, out: &mut TokenStream) -> Result<(), AllocError> {
+        print_abi(alloc, self, out)
     }
 }
 
@@ -799,25 +729,15 @@ fn print_abi(alloc: Global, abi: &Abi, out: &mut TokenStream) -> Result<(), Allo
     ensures err { OnErr result (Extends (trees out.old) (trees out.new)) }
 {
     abi.extern_token.to_tokens(alloc, out)?;
-    match &abi.name {
-        Some(name) => name.to_tokens(alloc, out),
-        None => Ok(()),
-    }
+    abi.name.append_tokens(alloc, out)
 }
 
 /// Appends nothing, or `->` and the type.
 impl<A: Attributes, E: Value> ToTokens for ReturnTypeOf<TypeOf<A, E>> {
     ghost print = { printing.return_type A.shown E.values };
 
-    fn to_tokens(&self, alloc: Global, out: &mut TokenStream) -> Result<(), AllocError> {
-        let before = out.len();
-        match print_return_type(alloc, self, out) {
-            Ok(()) => Ok(()),
-            Err(error) => {
-                out.truncate(before);
-                Err(error)
-            }
-        }
+    fn append_tokens(&self, alloc: Global, out: &mut TokenStream) -> Result<(), AllocError> {
+        print_return_type(alloc, self, out)
     }
 }
 
@@ -843,45 +763,24 @@ fn print_return_type<A: Attributes, E: Value>(
 impl<A: Attributes, E: Value> ToTokens for TypeFnPtrOf<A, E> {
     ghost print = { printing.fn_ptr A.shown E.values };
 
-    fn to_tokens(&self, alloc: Global, out: &mut TokenStream) -> Result<(), AllocError> {
-        let before = out.len();
-        match print_fn_ptr(alloc, self, out) {
-            Ok(()) => Ok(()),
-            Err(error) => {
-                out.truncate(before);
-                Err(error)
-            }
-        }
+    fn append_tokens(&self, alloc: Global, out: &mut TokenStream) -> Result<(), AllocError> {
+        print_fn_ptr(alloc, self, out)
     }
 }
 
 impl<A: Attributes, E: Value> ToTokens for TypeImplTraitOf<TypeParamBoundOf<A, E>, A> {
     ghost print = { printing.impl_trait A.shown E.values };
 
-    fn to_tokens(&self, alloc: Global, out: &mut TokenStream) -> Result<(), AllocError> {
-        let before = out.len();
-        match print_impl_trait(alloc, self, out) {
-            Ok(()) => Ok(()),
-            Err(error) => {
-                out.truncate(before);
-                Err(error)
-            }
-        }
+    fn append_tokens(&self, alloc: Global, out: &mut TokenStream) -> Result<(), AllocError> {
+        print_impl_trait(alloc, self, out)
     }
 }
 
 impl<A: Attributes, E: Value> ToTokens for TypeTraitObjectOf<TypeParamBoundOf<A, E>, A> {
     ghost print = { printing.trait_object A.shown E.values };
 
-    fn to_tokens(&self, alloc: Global, out: &mut TokenStream) -> Result<(), AllocError> {
-        let before = out.len();
-        match print_trait_object(alloc, self, out) {
-            Ok(()) => Ok(()),
-            Err(error) => {
-                out.truncate(before);
-                Err(error)
-            }
-        }
+    fn append_tokens(&self, alloc: Global, out: &mut TokenStream) -> Result<(), AllocError> {
+        print_trait_object(alloc, self, out)
     }
 }
 
@@ -889,15 +788,8 @@ impl<A: Attributes, E: Value> ToTokens for TypeTraitObjectOf<TypeParamBoundOf<A,
 impl<A: Attributes, E: Value> ToTokens for NamedArgOf<TypeOf<A, E>, A> {
     ghost print = { printing.named_arg A.shown E.values };
 
-    fn to_tokens(&self, alloc: Global, out: &mut TokenStream) -> Result<(), AllocError> {
-        let before = out.len();
-        match print_named_arg(alloc, self, out) {
-            Ok(()) => Ok(()),
-            Err(error) => {
-                out.truncate(before);
-                Err(error)
-            }
-        }
+    fn append_tokens(&self, alloc: Global, out: &mut TokenStream) -> Result<(), AllocError> {
+        print_named_arg(alloc, self, out)
     }
 }
 
@@ -905,15 +797,8 @@ impl<A: Attributes, E: Value> ToTokens for NamedArgOf<TypeOf<A, E>, A> {
 impl<A: Attributes> ToTokens for FnPtrVariadicOf<A> {
     ghost print = { printing.variadic_by A.shown };
 
-    fn to_tokens(&self, alloc: Global, out: &mut TokenStream) -> Result<(), AllocError> {
-        let before = out.len();
-        match print_variadic(alloc, self, out) {
-            Ok(()) => Ok(()),
-            Err(error) => {
-                out.truncate(before);
-                Err(error)
-            }
-        }
+    fn append_tokens(&self, alloc: Global, out: &mut TokenStream) -> Result<(), AllocError> {
+        print_variadic(alloc, self, out)
     }
 }
 
@@ -1164,8 +1049,8 @@ fn print_reference<A: Attributes, E: Value>(
     ensures err { OnErr result (Extends (trees out.old) (trees out.new)) }
 {
     reference.and_token.to_tokens(alloc, out)?;
-    print_lifetime(alloc, &reference.lifetime, out)?;
-    print_word(alloc, &reference.mutability, out)?;
+    reference.lifetime.append_tokens(alloc, out)?;
+    reference.mutability.append_tokens(alloc, out)?;
     print_type(alloc, reference.elem.get(), out)
 }
 
@@ -1194,7 +1079,7 @@ fn print_trait_object<A: Attributes, E: Value>(
     ensures ok { OnOk result (trees out.new ≡ trees out.old ++ printing.trait_object A.shown E.values object.now) }
     ensures err { OnErr result (Extends (trees out.old) (trees out.new)) }
 {
-    print_word(alloc, &object.dyn_token, out)?;
+    object.dyn_token.append_tokens(alloc, out)?;
     let (pairs, last) = bound_parts(&object.bounds);
     for pair in pairs {
         print_bound(alloc, &pair.value, out)?;
@@ -1305,21 +1190,6 @@ pub fn print_verbatim(
     Ok(())
 }
 
-#[tactic(auto, using(token_core::proofs::Puts::puts))]
-fn print_lifetime(
-    alloc: Global,
-    lifetime: &Option<Lifetime>,
-    out: &mut TokenStream,
-) -> Result<(), AllocError>
-    ensures ok { OnOk result (trees out.new ≡ trees out.old ++ printing.lifetime lifetime.now) }
-    ensures err { OnErr result (Extends (trees out.old) (trees out.new)) }
-{
-    match lifetime {
-        Some(lifetime) => lifetime.to_tokens(alloc, out),
-        None => Ok(()),
-    }
-}
-
 // ---- parts of pointers to functions, trait objects and opaque types that lead back to no type
 
 /// The elements of a tuple by their parts.
@@ -1370,22 +1240,6 @@ pub fn bound_parts<A, E>(
     bounds.parts()
 }
 
-/// A word, where there is one.
-#[tactic(auto, using(token_core::proofs::Puts::puts))]
-pub fn print_word<const N: u32>(
-    alloc: Global,
-    word: &Option<Word<N>>,
-    out: &mut TokenStream,
-) -> Result<(), AllocError>
-    ensures ok { OnOk result (trees out.new ≡ trees out.old ++ printing.optional_word word.now) }
-    ensures err { OnErr result (Extends (trees out.old) (trees out.new)) }
-{
-    match word {
-        Some(token) => token.to_tokens(alloc, out),
-        None => Ok(()),
-    }
-}
-
 /// A pointer to a function from the end of its binder to `fn`.
 #[tactic(auto, using(token_core::proofs::Puts::puts))]
 fn print_fn_head<A, E>(
@@ -1397,24 +1251,9 @@ fn print_fn_head<A, E>(
     ensures err { OnErr result (Extends (trees out.old) (trees out.new)) }
 {
     print_binder_end(alloc, &pointer.lifetimes, out)?;
-    print_word(alloc, &pointer.unsafety, out)?;
-    print_convention(alloc, &pointer.abi, out)?;
+    pointer.unsafety.append_tokens(alloc, out)?;
+    pointer.abi.append_tokens(alloc, out)?;
     pointer.fn_token.to_tokens(alloc, out)
-}
-
-#[tactic(auto, using(token_core::proofs::Puts::puts))]
-fn print_convention(
-    alloc: Global,
-    abi: &Option<Abi>,
-    out: &mut TokenStream,
-) -> Result<(), AllocError>
-    ensures ok { OnOk result (trees out.new ≡ trees out.old ++ printing.optional_abi abi.now) }
-    ensures err { OnErr result (Extends (trees out.old) (trees out.new)) }
-{
-    match abi {
-        Some(abi) => print_abi(alloc, abi, out),
-        None => Ok(()),
-    }
 }
 
 /// Outer attributes, and a name with its colon.
