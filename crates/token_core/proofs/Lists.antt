@@ -84,6 +84,13 @@ last-whole (y ∷ z ∷ xs) (suc i) x h e = last-whole (z ∷ xs) i x (omega (ar
 
 pub ruleset lists = (length_whole, length_open, length_marks, values_open, values_more, marks_more)
 
+pub not_there : {T : Type 0} (xs : List T) (i : ℕ) → None ≡ slice_get xs i → i < length xs → ⊥
+not_there [] i e h = absurd (omega (arith, h))
+not_there (x ∷ xs) zero e h = cc e
+not_there (x ∷ xs) (suc i) e h = not_there xs i e (omega (arith, h))
+
+pub ruleset there = (not_there)
+
 pub ruleset shapes = (shaped, length_whole, length_open, length_marks)
 
 pub ruleset places = (length_whole, length_open, length_marks, value_at, mark_at, no_mark, last_at, past_last, past_whole)

@@ -1,6 +1,6 @@
 //! Values with marks between them.
 
-ghost use Rattle.std.specs.Prelude.{◌≡◌, ◌++◌, ◌∷◌, [], ◌<◌, length, OnOk, OnErr, IsTrue, ◌↔◌, ◌+◌, option_map, slice_get, min, ◌^◌, ◌-◌, MatchOption, Ok, Err, IsFalse};
+ghost use Rattle.std.specs.Prelude.{◌≡◌, ◌++◌, ◌∷◌, [], ◌<◌, length, OnOk, OnErr, IsTrue, ◌↔◌, ◌+◌, option_map, slice_get, min, ◌^◌, ◌-◌, MatchOption, Ok, Err, IsFalse, Some};
 ghost use Rattle.token_core.specs.Lists as spec;
 ghost use Rattle.token_core.specs.Joined.{values_of, marks_of};
 ghost use Rattle.token_core.specs.Prints.{Extends};
@@ -19,6 +19,7 @@ use crate::to_tokens::ToTokens;
 use crate::tree::TokenStream;
 use std::alloc::{AllocError, Global};
 use std::marker::Model;
+use std::ops::Index;
 use std::slice;
 
 /// A value and the mark after it, as `parts` shows them.
@@ -320,6 +321,35 @@ impl<'a, T, P> Iterator for Iter<'a, T, P> {
                 Some(&pair.value)
             }
             None => self.last.take(),
+        }
+    }
+}
+
+impl<'a, T, P> IntoIterator for &'a Punctuated<T, P> {
+    type Item = &'a T;
+
+    type IntoIter = Iter<'a, T, P>;
+
+    ghost into_iter_gives = { λ list it. it ≡ list.now.0 };
+
+    fn into_iter(self) -> Iter<'a, T, P> {
+        self.iter()
+    }
+}
+
+/// `list[i]`, the `i`th value.
+impl<T, P> Index<usize> for Punctuated<T, P> {
+    type Output = T;
+
+    ghost can_index = { λ list i. i < length list.0 };
+
+    ghost index_gives = { λ list i x. slice_get list.0 i ≡ Some x };
+
+    #[tactic(auto, using(crate::proofs::Lists::there))]
+    fn index(&self, i: usize) -> &T {
+        match self.value(i) {
+            Some(value) => value,
+            None => unreachable!(),
         }
     }
 }

@@ -22,8 +22,8 @@ pub trait ToTokens {
         ensures ok { OnOk result (trees out.new ≡ trees out.old ++ print self.now) }
         ensures err { OnErr result (Extends (trees out.old) (trees out.new)) };
 
-    /// Appends its print; refused for want of memory alone, and then the list is as before.
-    fn to_tokens(&self, alloc: Global, out: &mut TokenStream) -> Result<(), AllocError>
+    /// Appends its print; refused for want of memory alone, and then the list is as before. No impl gives another.
+    final fn to_tokens(&self, alloc: Global, out: &mut TokenStream) -> Result<(), AllocError>
         ensures ok { OnOk result (trees out.new ≡ trees out.old ++ print self.now) }
         ensures err { OnErr result (trees out.new ≡ trees out.old) }
     {

@@ -1,10 +1,10 @@
 //! Lists and boxes, what they and options print, and the text of refusals, at types of their own.
 
-use crate::tests::{is, made, nth};
+use crate::tests::{is, made, nth, numbers};
 use std::alloc::{AllocError, Global};
 use std::test::Fail;
 use token_core::token::{Comma, Crate, PathSep, SelfType, SelfValue};
-use token_core::{Boxed, Error, Items, ToTokens, TokenStream, TokensOrDefault};
+use token_core::{Boxed, Error, Items, Punctuated, ToTokens, TokenStream, TokensOrDefault};
 
 fn seven_eight(alloc: Global) -> Result<Items<u8>, AllocError> {
     Ok(Items::from_vec(vec![in alloc; 7, 8]?))
@@ -44,6 +44,25 @@ fn lists_are_made_of_vectors_and_gone_over(rt: HostRuntime) {
     is(&rt, mixed_out(items) == 15, "each once, taken");
 }
 
+fn second_of(list: &Punctuated<u8, Comma>) -> u8 {
+    if list.len() > 1 { list[1] } else { 0 }
+}
+
+fn mixed_values(list: &Punctuated<u8, Comma>) -> u8 {
+    let mut all = 0;
+    for x in list {
+        all ^= *x;
+    }
+    all
+}
+
+#[test]
+fn punctuated_lists_are_gone_over(rt: HostRuntime) {
+    let list = made(&rt, numbers(rt.alloc(), 4, 3, false));
+    is(&rt, second_of(&list) == 5, "5 is the second");
+    is(&rt, mixed_values(&list) == 7, "4, 5 and 6, each once");
+}
+
 /// The allocator of a list that is made with this one.
 fn items_allocator(alloc: Global) -> Global {
     let items: Items<u8> = Items::new(alloc);
@@ -62,7 +81,11 @@ fn boxes_show_what_they_hold(rt: HostRuntime) {
     is(&rt, boxed.span == nth(4), "written by its field");
     boxed.as_mut().span = nth(5);
     let boxed = Boxed::from_box(boxed.into_box());
-    is(&rt, boxed.into_inner().span == nth(5), "through a box of std");
+    is(
+        &rt,
+        boxed.into_inner().span == nth(5),
+        "through a box of std",
+    );
 }
 
 fn print_of<T: ToTokens>(
@@ -103,7 +126,15 @@ fn what_holds_tokens_prints_them(rt: HostRuntime) {
 fn refusals_show_their_text(rt: HostRuntime) -> Result<(), Fail> {
     let alloc = rt.alloc();
     let error = Error::new(alloc, nth(1), "no such option");
-    is(&rt, error.to_string(alloc)?.as_str() == "no such option", "its text");
-    is(&rt, Error::out_of_memory().to_string(alloc)?.as_str() == "out of memory", "memory");
+    is(
+        &rt,
+        error.to_string(alloc)?.as_str() == "no such option",
+        "its text",
+    );
+    is(
+        &rt,
+        Error::out_of_memory().to_string(alloc)?.as_str() == "out of memory",
+        "memory",
+    );
     Ok(())
 }
