@@ -12,8 +12,8 @@ ghost use Rattle.syn_ty.specs.ty.Knot as knot;
 
 use std::alloc::Global;
 use std::marker::PhantomData;
-use syn_attr::attr::Attribute;
-use syn_attr::expr::Expr;
+use syn_attr::attr::{Attribute};
+use syn_attr::expr::{Expr};
 use syn_path::path::{Arguments, PathOf};
 use syn_path::supplied::{Attributes, Subtree, Value};
 use syn_ty::ty::TypeOf;

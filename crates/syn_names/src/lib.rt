@@ -1,8 +1,8 @@
 //! The trees over a supplied subtree, by their names: over its attributes and its expressions.
 #![tactic(auto)]
 
-use syn_attr::attr::Attribute;
-use syn_attr::expr::Expr;
+use syn_attr::attr::{Attribute};
+use syn_attr::expr::{Expr};
 use syn_path::path::{PathOf, PathSegmentOf, QSelfOf};
 use syn_ty::generics::{
     BoundLifetimesOf, ConstParamOf, GenericParamOf, GenericsOf, ImplGenericsOf, LifetimeParamOf,
