@@ -3,10 +3,10 @@
 pub mod print;
 pub mod read;
 
-ghost use Rattle.std.specs.Prelude.{◌≡◌, ◌<◌, length, false, None, Ok, IfOk, IfErr};
-ghost use Rattle.token_core.specs.Reads.{Reads, WholeRead, Promised};
+ghost use Rattle.std.specs.Prelude.{◌≡◌, ◌<◌, length, Ok, IfOk, IfErr};
+ghost use Rattle.token_core.specs.Reads.{WholeRead, Promised};
 ghost use Rattle.token_core.specs.Refusal.{Made};
-ghost use Rattle.token_core.specs.Trees.{trees, toks};
+ghost use Rattle.token_core.specs.Trees.{toks};
 ghost use Rattle.syn_path.specs.declared.supplied.Place.TheVariants.{Value};
 ghost use Rattle.syn_attr.specs.declared.attr.Meta.TheVariants as metas;
 ghost use Rattle.syn_path.specs.mac.Macros.{held};

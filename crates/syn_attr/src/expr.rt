@@ -3,12 +3,9 @@
 pub mod print;
 pub mod read;
 
-ghost use Rattle.std.specs.Prelude.{Ok, Option};
-ghost use Rattle.token_core.specs.Trees.{trees};
 ghost use Rattle.syn_attr.specs.attr.Lengths.{lens, spells_len, length_laws, bare_laws};
 ghost use Rattle.syn_attr.specs.attr.Normal.{attributes};
 ghost use Rattle.syn_attr.specs.attr.Consts.{normal_values_of, values_of, outer};
-ghost use Rattle.syn_path.specs.declared.supplied.Place.TheVariants.{ArrayLen, Block};
 
 use crate::attr::Attribute;
 use crate::attr::print::print_outer;

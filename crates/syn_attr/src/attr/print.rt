@@ -1,6 +1,6 @@
 //! Attributes, metas and expressions are printed.
 
-ghost use Rattle.std.specs.Prelude.{◌≡◌, ◌++◌, ◌<◌, Ok, OnOk, OnErr};
+ghost use Rattle.std.specs.Prelude.{◌≡◌, ◌++◌, OnOk, OnErr};
 ghost use Rattle.token_core.specs.Prints.{Extends};
 ghost use Rattle.token_core.specs.Trees.{trees};
 ghost use Rattle.syn_attr.specs.attr.Printing as printing;

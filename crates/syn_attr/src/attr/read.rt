@@ -1,6 +1,6 @@
 //! Attributes and metas are read.
 
-ghost use Rattle.std.specs.Prelude.{◌≡◌, ◌<◌, false, None, Ok, IfOk};
+ghost use Rattle.std.specs.Prelude.{◌≡◌, false, None, IfOk};
 ghost use Rattle.token_core.specs.Headline.{Headline, Heads};
 ghost use Rattle.token_core.specs.Reads.{Reads, Follows, Gives, Fails};
 ghost use Rattle.token_core.specs.Rebuilt.{Visible};

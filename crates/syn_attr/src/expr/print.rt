@@ -1,11 +1,10 @@
 //! Expressions are printed.
 
-ghost use Rattle.std.specs.Prelude.{◌≡◌, ◌++◌, ◌<◌, None, Ok, OnOk, OnErr};
+ghost use Rattle.std.specs.Prelude.{◌≡◌, ◌++◌, OnOk, OnErr};
 ghost use Rattle.token_core.specs.Prints.{Extends};
 ghost use Rattle.token_core.specs.Trees.{trees};
-ghost use Rattle.syn_path.specs.declared.supplied.Place.TheVariants.{Value, ArrayLen, Block};
+ghost use Rattle.syn_path.specs.declared.supplied.Place.TheVariants.{ArrayLen, Block};
 ghost use Rattle.syn_attr.specs.attr.Printing as printing;
-ghost use Rattle.syn_attr.specs.attr.Normal.{attributes};
 ghost use Rattle.syn_attr.specs.attr.Consts as consts;
 ghost use Rattle.syn_attr.specs.attr.Printing.{at_place};
 

@@ -1,8 +1,7 @@
 //! Values are read.
 
-ghost use Rattle.std.specs.Prelude.{◌≡◌, ◌<◌, None, Ok};
+ghost use Rattle.std.specs.Prelude.{◌≡◌};
 ghost use Rattle.token_core.specs.Reads.{Reads, Follows};
-ghost use Rattle.syn_path.specs.declared.supplied.Place.TheVariants.{Value};
 ghost use Rattle.syn_attr.specs.attr.Reading as reading;
 
 use crate::expr::{Expr, ExprLit};
