@@ -1,0 +1,3 @@
+pub mod lists_laws
+pub mod nested_laws
+pub mod tokens_laws
