@@ -6,7 +6,7 @@ ghost use Rattle.syn_forms.specs.groups.Reading as reading;
 ghost use Rattle.syn_forms.specs.nested.Below as below;
 ghost use Rattle.syn_forms.specs.nested.Below.{Nests, ahead};
 
-use crate::nested::{Held, Nested, Tree};
+use crate::nested::{Nested, Tree};
 use crate::tokens::{open_brackets, open_parens};
 use std::alloc::Global;
 use std::marker::PhantomData;
@@ -118,9 +118,9 @@ impl<
         ensures within { Follows input.old input.new }
     {
         let (paren_token, mut content) = open_parens(self.alloc, input)?;
-        let elem = self.boxed(&mut content, place)?;
+        let tree = self.boxed(&mut content, place)?;
         input.finish(content);
-        Ok((paren_token, elem))
+        Ok((paren_token, tree))
     }
 
     /// The elements of a tuple: none, or a comma follows the first.
@@ -175,11 +175,11 @@ impl<
         if input.is_empty() {
             return Ok(InParens::Elements(Punctuated::new(self.alloc)));
         }
-        let first = self.value(input, place)?;
+        let value = self.value(input, place)?;
         if input.peek::<Comma>() {
-            return Ok(InParens::Elements(self.more_elements(input, place, first)?));
+            return Ok(InParens::Elements(self.more_elements(input, place, value)?));
         }
-        Ok(InParens::One(Boxed::new(self.alloc, first)?))
+        Ok(InParens::One(Boxed::new(self.alloc, value)?))
     }
 
     /// A tree or the elements of a tuple, in parentheses.
