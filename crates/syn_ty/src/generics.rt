@@ -27,7 +27,7 @@ ghost use Rattle.syn_ty.specs.ty.Knot as knot;
 ghost use Rattle.syn_ty.specs.ty.Printing as types;
 ghost use Rattle.syn_ty.specs.generics.Views as views;
 
-use crate::grammar::parse_bound;
+use crate::knot::parse_bound;
 use crate::path::{PathArgumentsOf, print_path};
 use crate::ty::{TypeOf, bound_parts, print_type, print_verbatim};
 use std::alloc::{AllocError, Global};
@@ -558,7 +558,7 @@ impl<A: Attributes, E: Value> Parse for TypeParamBoundOf<A, E> {
         ensures front { Visible input.old.rest → input.new.left ≡ None → IfOk result (λ x. IsSomeBound E.spells false x input.old.rest input.new.rest) }
         ensures promise { Heads (grammars.bound E.reads E.spells A.normal E.normal A.shown E.values) input.old result input.new }
     {
-        parse_bound(alloc, PhantomData, input)
+        parse_bound(alloc, PhantomData, input, ())
     }
 }
 

@@ -15,24 +15,26 @@ ghost use Rattle.syn_ty.specs.generics.Shapes as shapes;
 ghost use Rattle.syn_ty.specs.ty.Printing as printing;
 ghost use Rattle.syn_ty.specs.ty.Reading as reading;
 ghost use Rattle.syn_ty.specs.ty.Heights.{IsSomeType, IsSomeArray, IsSomeParen, IsSomePtr, IsSomeReference, IsSomeSlice, IsSomeTuple};
-ghost use Rattle.syn_ty.specs.ty.Spelling.{IsMutability, IsInfer, IsNever, IsMacroType, IsPathType};
+ghost use Rattle.syn_ty.specs.ty.Spelling.{IsInfer, IsNever, IsMacroType, IsPathType};
 
 use crate::generics::{
     BoundLifetimesOf, GenericParamOf, TypeParamBoundOf, print_binder_end, print_binder_start,
     print_bound, print_param,
 };
 use crate::grammar::{
-    parse_array, parse_infer, parse_macro_type, parse_mutability, parse_never, parse_paren,
-    parse_path_type, parse_ptr, parse_reference, parse_slice, parse_tuple, parse_type,
+    parse_array, parse_infer, parse_macro_type, parse_never, parse_paren, parse_path_type,
+    parse_ptr, parse_reference, parse_slice, parse_tuple,
 };
+use crate::knot::parse_type;
 use crate::path::{PathArgumentsOf, print_path, print_qualified};
 use std::alloc::{AllocError, Global};
 use std::marker::PhantomData;
+pub use syn_forms::tokens::PointerMutability;
 use syn_path::mac::Macro;
 use syn_path::path::{PathOf, PathStyle, QSelfOf};
 use syn_path::supplied::{Attributes, Place, Subtree, Value};
 use token_core::token::{
-    And, Bracket, Colon, Comma, Const, DotDotDot, Dyn, Extern, Fn, GroupToken, Impl, Mark, Mut,
+    And, Bracket, Colon, Comma, DotDotDot, Dyn, Extern, Fn, GroupToken, Impl, Mark, Mut,
     Not, Paren, Plus, RArrow, Semi, Star, Underscore, Unsafe, Word,
 };
 use token_core::{
@@ -154,13 +156,6 @@ pub struct TypePathOf<A, E> {
     pub attrs: Items<A>,
     pub qself: Option<QSelfOf<TypeOf<A, E>>>,
     pub path: PathOf<PathArgumentsOf<A, E>>,
-}
-
-/// What may be done by way of a raw pointer.
-#[derive(Clone, Copy)]
-pub enum PointerMutability {
-    Const(Const),
-    Mut(Mut),
 }
 
 /// A raw pointer over the type that it points to.
@@ -472,24 +467,6 @@ impl<A: Attributes, E: Value> Parse for TypePathOf<A, E> {
     }
 }
 
-/// Reads `const` or `mut`.
-impl Parse for PointerMutability {
-    ghost reads = { Gives reading.mutability };
-
-    ghost refuses = { Fails reading.mutability };
-
-    ghost promise = { Headline grammars.mutability };
-
-    fn parse(alloc: Global, input: &mut ParseStream<'_>) -> Result<PointerMutability, Error>
-        ensures reads { Reads (reading.mutability input.old) result input.new }
-        ensures within { Follows input.old input.new }
-        ensures front { Visible input.old.rest → IfOk result (λ x. IsMutability x input.old.rest input.new.rest) }
-        ensures promise { Heads grammars.mutability input.old result input.new }
-    {
-        parse_mutability(alloc, input)
-    }
-}
-
 // ---- a form as a type
 
 impl<A, E> From<TypeArrayOf<TypeOf<A, E>, A, E>> for TypeOf<A, E> {
@@ -700,17 +677,6 @@ impl<A: Attributes, E: Value> ToTokens for TypeTupleOf<TypeOf<A, E>, A> {
 
     fn append_tokens(&self, alloc: Global, out: &mut TokenStream) -> Result<(), AllocError> {
         print_tuple(alloc, self, out)
-    }
-}
-
-impl ToTokens for PointerMutability {
-    ghost print = { printing.pointer };
-
-    fn append_tokens(&self, alloc: Global, out: &mut TokenStream) -> Result<(), AllocError> {
-        match self {
-            PointerMutability::Const(token) => token.append_tokens(alloc, out),
-            PointerMutability::Mut(token) => token.append_tokens(alloc, out),
-        }
     }
 }
 
