@@ -1,16 +1,15 @@
 -- Forms that look into nothing that they hold, over the read of it.
 use Rattle.std.specs.Prelude.{Option}
 use Rattle.token_core.specs.declared.lifetime.Lifetime.{Lifetime}
-use Rattle.token_core.specs.declared.mark.Mark.{Mark}
-use Rattle.token_core.specs.declared.word.Word.{Word}
 use Rattle.token_core.specs.Lifetimes.{read_optional_lifetime}
 use Rattle.token_core.specs.Reads.{Reader, ◌>>=◌, pure}
 use Rattle.syn_forms.specs.declared.tokens.PointerMutability.{PointerMutability}
 use Rattle.syn_forms.specs.tokens.Reading.{and, star, mutable, mutability}
+use Rattle.token_core.specs.Tokens as token
 
 module _ {A : Type 0} (value : Reader A) where
   -- `*const T`, `*mut T`
-  unfoldable pub ptr : Reader (Mark 26 1 × PointerMutability × A)
+  unfoldable pub ptr : Reader (token.Star × PointerMutability × A)
   ptr = do
     s ← star
     q ← mutability
@@ -18,7 +17,7 @@ module _ {A : Type 0} (value : Reader A) where
     pure (s, q, x)
 
   -- `&'a mut T`
-  unfoldable pub reference : Reader (Mark 5 1 × Option Lifetime × Option (Word 13) × A)
+  unfoldable pub reference : Reader (token.And × Option Lifetime × Option token.Mut × A)
   reference = do
     a ← and
     l ← read_optional_lifetime

@@ -1,6 +1,5 @@
 -- What parentheses and brackets hold, over the read of the tree that they hold.
 use Rattle.std.specs.Prelude.{Bool, true, false, if◌then◌else◌, [], ◌∷◌}
-use Rattle.token_core.specs.declared.mark.Mark.{Mark}
 use Rattle.token_core.specs.declared.span.DelimSpan.{DelimSpan}
 use Rattle.token_core.specs.declared.token.Bracket.{Bracket}
 use Rattle.token_core.specs.declared.token.Paren.{Paren}
@@ -14,6 +13,7 @@ use Rattle.syn_forms.specs.declared.groups.InParens.{InParens}
 use Rattle.syn_forms.specs.declared.groups.InParens.TheVariants.{One, Elements}
 use Rattle.syn_forms.specs.lists.Reading.{more_elements}
 use Rattle.syn_forms.specs.tokens.Reading.{semi, sees_comma, sees_semi}
+use Rattle.token_core.specs.Tokens as token
 
 -- a group by its token, and what is read in it
 abbrev pub in_parens : {A : Type 0} → Reader A → Reader (Paren × A)
@@ -24,7 +24,7 @@ in_brackets p = (λ g. (groups.bracket g.0, g.1)) <$> in_group d.Bracket groups.
 
 -- `;` and the length of an array
 abbrev pub Length : Type 0 → Type 0
-Length E = Mark 24 1 × E
+Length E = token.Semi × E
 
 module _ {E : Type 0} (lens : Reader E) where
   unfoldable pub length : Reader (Length E)
@@ -35,7 +35,7 @@ module _ {E : Type 0} (lens : Reader E) where
 
 module _ {A : Type 0} (value : Reader A) where
   -- the elements of a tuple: none, or a comma follows the first
-  unfoldable pub tuple_content : Reader (Many A (Mark 4 1))
+  unfoldable pub tuple_content : Reader (Many A token.Comma)
   tuple_content = do
     over ← peek is_done
     if over then pure ([], []) else (value >>= more_elements value)

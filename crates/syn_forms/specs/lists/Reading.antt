@@ -1,10 +1,10 @@
 -- Values joined by marks.
 use Rattle.std.specs.Prelude.{Bool, true, not, ◌∷◌}
-use Rattle.token_core.specs.declared.mark.Mark.{Mark}
 use Rattle.token_core.specs.Loops.{Many, listed, terminated}
 use Rattle.token_core.specs.Toks.{Toks}
 use Rattle.token_core.specs.Reads.{Reader, ◌>>=◌, pure, is_done}
 use Rattle.syn_forms.specs.tokens.Reading.{comma, sees_gt}
+use Rattle.token_core.specs.Tokens as token
 
 -- Where a list ends: at the end of its group, or before a `>`. There no value follows, and no mark is needed.
 abbrev pub at_end : Toks → Bool
@@ -25,7 +25,7 @@ list stops value more joint = listed stops (λ first. value) more joint
 
 module _ {A : Type 0} (value : Reader A) where
   -- a comma, and further elements
-  unfoldable pub more_elements : A → Reader (Many A (Mark 4 1))
+  unfoldable pub more_elements : A → Reader (Many A token.Comma)
   more_elements x = do
     c ← comma
     rest ← terminated is_done value comma
