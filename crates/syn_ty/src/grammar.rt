@@ -4,7 +4,7 @@
 //! readers of what may lead back as parameters: of types, of bounds and of the parameters of binders. `parse_type`,
 //! `parse_bound` and `parse_param` tie them together.
 
-ghost use Rattle.std.specs.Prelude.{◌≡◌, ◌≤◌, length, false, true};
+ghost use Rattle.std.specs.Prelude.{◌≡◌, ◌≤◌, length};
 ghost use Rattle.token_core.specs.Reads.{Reads, Follows};
 ghost use Rattle.syn_forms.specs.nested.Below.{Nests, ahead};
 ghost use Rattle.syn_ty.specs.generics.Params as parts;
@@ -128,10 +128,7 @@ fn bare_slice<T, A>(alloc: Global, parts: (Bracket, Boxed<T>)) -> TypeSliceOf<T,
     }
 }
 
-fn bare_array<T, A, E>(
-    alloc: Global,
-    parts: (Bracket, Boxed<T>, (Semi, E)),
-) -> TypeArrayOf<T, A, E>
+fn bare_array<T, A, E>(alloc: Global, parts: (Bracket, Boxed<T>, (Semi, E))) -> TypeArrayOf<T, A, E>
     ensures { result ≡ types.array_of parts.0 parts.1 parts.2.0 parts.2.1 }
 {
     let (bracket_token, elem, (semi_token, len)) = parts;
@@ -166,10 +163,7 @@ fn bare_tuple<T, A>(alloc: Global, parts: (Paren, Punctuated<T, Comma>)) -> Type
     }
 }
 
-fn bare_ptr<T, A>(
-    alloc: Global,
-    parts: (Star, PointerMutability, Boxed<T>),
-) -> TypePtrOf<T, A>
+fn bare_ptr<T, A>(alloc: Global, parts: (Star, PointerMutability, Boxed<T>)) -> TypePtrOf<T, A>
     ensures { result ≡ types.ptr_of parts.0 parts.1 parts.2 }
 {
     let (star_token, mutability, elem) = parts;
@@ -351,7 +345,12 @@ impl<
     'a,
     A: Attributes,
     E: Value,
-    F: Fn(Global, PhantomData<TypeOf<A, E>>, &mut ParseStream<'_>, bool) -> Result<TypeOf<A, E>, Error>,
+    F: Fn(
+        Global,
+        PhantomData<TypeOf<A, E>>,
+        &mut ParseStream<'_>,
+        bool,
+    ) -> Result<TypeOf<A, E>, Error>,
     G: Fn(
         Global,
         PhantomData<TypeParamBoundOf<A, E>>,
