@@ -10,6 +10,7 @@ ghost use Rattle.syn_ty.specs.path.Printing as printing;
 ghost use Rattle.syn_ty.specs.path.Shapes as shapes;
 ghost use Rattle.syn_ty.specs.ty.Printing as types;
 
+use crate::generics::Member;
 use crate::generics::print::{print_added_comma, print_bound};
 use crate::path::{
     AngleBracketedGenericArgumentsOf, AssocConstOf, AssocTypeOf, ConstraintOf, GenericArgumentOf,
