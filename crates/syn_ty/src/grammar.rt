@@ -397,10 +397,12 @@ impl<
         ensures within { Follows input.old input.new }
     {
         if input.peek::<Star>() {
+            // `*const` binds tighter than `+`, as `&` does
             let parts = self.types.ptr(input, false)?;
             return Ok(TypeOf::Ptr(bare_ptr(self.alloc, parts)));
         }
         if input.peek::<And>() {
+            // `&` binds tighter than `+`
             let parts = self.types.reference(input, false)?;
             return Ok(TypeOf::Reference(bare_reference(self.alloc, parts)));
         }
