@@ -105,7 +105,7 @@ module _ {A E : Type 0} (lengths : R E) (spells : E → Toks → Type 0) (na : L
   type_grammar t.Bound = types.bound lengths spells na ne pa pe
 
 -- what a type holds of attributes and of expressions, over the sample: the read of a length, what it spells, normal forms and prints
-abbrev pub sample_types : (r : TypeReader) → Grammar (TypesTree (ty.Attr Sample) (Expr Sample) r)
+abbrev pub sample_types : (r : TypeReader) → Grammar (TypesTree (Attribute Sample) (Expr Sample) r)
 sample_types = type_grammar (lens reads-value.it) (spells_len spells-value.it) (normal.attributes normal-value.it) (normal_values_of normal-value.it) (outer prints-value.it) (values_of prints-value.it)
 
 -- the trees of a reader
@@ -118,7 +118,7 @@ Tree MetaNameValue = name_value.MetaNameValue Sample
 Tree Outer = List (Attribute Sample)
 Tree Inner = List (Attribute Sample)
 Tree PointerMutability = mutability.PointerMutability
-Tree (Types r) = TypesTree (ty.Attr Sample) (Expr Sample) r
+Tree (Types r) = TypesTree (Attribute Sample) (Expr Sample) r
 
 abbrev pub grammar : (r : Reader) → Grammar (Tree r)
 grammar Macro = macs.mac
