@@ -51,11 +51,7 @@ impl<
 > Nested<'a, P, T, F> {
     /// A tree in brackets.
     #[tactic(auto, using(token_core::proofs::Suffixes::follows))]
-    pub fn slice(
-        &self,
-        input: &mut ParseStream<'_>,
-        place: P,
-    ) -> Result<(Bracket, Boxed<T>), Error>
+    pub fn slice(&self, input: &mut ParseStream<'_>, place: P) -> Result<(Bracket, Boxed<T>), Error>
         requires nests { Nests T.read (length self.now.begin) (F.pre self.now.read) (F.post self.now.read) }
         requires few { ahead input.old ≤ length self.now.begin }
         ensures reads { Reads (reading.in_brackets (below.held T.read (length self.now.begin) place) input.old) result input.new }
@@ -162,11 +158,7 @@ impl<
 
     /// What parentheses hold: a tree, or the elements of a tuple.
     #[tactic(auto, using(token_core::proofs::Suffixes::follows), unfolding(crate::specs::groups::Reading::paren_content))]
-    fn paren_content(
-        &self,
-        input: &mut ParseStream<'_>,
-        place: P,
-    ) -> Result<InParens<T>, Error>
+    fn paren_content(&self, input: &mut ParseStream<'_>, place: P) -> Result<InParens<T>, Error>
         requires nests { Nests T.read (length self.now.begin) (F.pre self.now.read) (F.post self.now.read) }
         requires few { ahead input.old < length self.now.begin }
         ensures reads { Reads (reading.paren_content (below.held T.read (length self.now.begin) place) input.old) result input.new }

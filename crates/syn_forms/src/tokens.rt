@@ -15,7 +15,9 @@ ghost use Rattle.syn_forms.specs.tokens.Reading as reading;
 ghost use Rattle.syn_forms.specs.tokens.Spelling.{IsMutability};
 
 use std::alloc::{AllocError, Global};
-use token_core::token::{And, Bracket, Comma, Const, For, Gt, Lt, Mut, Paren, Plus, Question, Star};
+use token_core::token::{
+    And, Bracket, Comma, Const, For, Gt, Lt, Mut, Paren, Plus, Question, Star,
+};
 use token_core::{Error, Lifetime, Parse, ParseStream, ToTokens, TokenStream};
 
 /// What may be done by way of a raw pointer.
@@ -175,10 +177,7 @@ pub fn parse_mutability(
 
 /// A lifetime that may be there.
 #[tactic(auto, using(crate::proofs::nested_laws::Ahead::later))]
-pub fn parse_lifetime(
-    alloc: Global,
-    input: &mut ParseStream<'_>,
-) -> Result<Option<Lifetime>, Error>
+pub fn parse_lifetime(alloc: Global, input: &mut ParseStream<'_>) -> Result<Option<Lifetime>, Error>
     ensures reads { Reads (read_optional_lifetime input.old) result input.new }
     ensures within { Follows input.old input.new }
     ensures fewer { ahead input.new ≤ ahead input.old }
