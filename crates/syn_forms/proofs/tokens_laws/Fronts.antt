@@ -17,7 +17,7 @@ abbrev Relation : Type 0 → Type 1
 Relation A = A → Toks → Toks → Type 0
 
 -- where nothing is left over in the end
-nothing_left : (t : Stream) → leaves t ≡ None → t.left ≡ None
+pub nothing_left : (t : Stream) → leaves t ≡ None → t.left ≡ None
 nothing_left t h = (first_parts t.left (left_here t) h).0
 
 -- ---- what was taken, as another tree
