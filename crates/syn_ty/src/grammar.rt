@@ -314,19 +314,6 @@ fn parse_asked<A: Attributes, E: Value>(
     Ok(named_bound(None, Some(question), path))
 }
 
-/// A parameter of a binder: a lifetime. Types, constants, bounds and attributes of parameters are not read yet.
-#[tactic(auto, using(token_core::proofs::Suffixes::follows), unfolding(crate::specs::generics::Reading::param_step))]
-pub fn param_step<A: Attributes, E: Value>(
-    alloc: Global,
-    input: &mut ParseStream<'_>,
-) -> Result<GenericParamOf<A, E>, Error>
-    ensures reads { Reads (bounds.param_step input.old) result input.new }
-    ensures within { Follows input.old input.new }
-{
-    let lifetime = Lifetime::parse_any(alloc, input)?;
-    Ok(GenericParamOf::Lifetime(LifetimeParamOf::new(alloc, lifetime)))
-}
-
 // ---- over the readers of what they hold
 
 /// One turn of the readers.
@@ -515,6 +502,16 @@ impl<
         let bound = self.bare_bound(&mut content)?;
         input.finish(content);
         Ok(held_bound(paren_token, bound))
+    }
+
+    /// A parameter of a binder: a lifetime. Types, constants, bounds and attributes of parameters are not read yet.
+    #[tactic(auto, using(token_core::proofs::Suffixes::follows), unfolding(crate::specs::generics::Reading::param_step))]
+    pub fn param_step(&self, input: &mut ParseStream<'_>) -> Result<GenericParamOf<A, E>, Error>
+        ensures reads { Reads (bounds.param_step input.old) result input.new }
+        ensures within { Follows input.old input.new }
+    {
+        let lifetime = Lifetime::parse_any(self.alloc, input)?;
+        Ok(GenericParamOf::Lifetime(LifetimeParamOf::new(self.alloc, lifetime)))
     }
 
     /// A bound: a lifetime or a trait.
