@@ -116,7 +116,8 @@ pub fn parse_bound<A: Attributes, E: Value>(
     .bound_step(input)
 }
 
-/// Reads a parameter of a binder. It has one place.
+/// Reads a parameter of a binder. It has one place. It makes a `Grammar` too, so that it stands in the cycle: the function
+/// value of a function outside it passes the prover's step limit.
 #[cycle(knot)]
 #[tactic(auto, using(crate::proofs::ty_laws::Knot::turns))]
 fn parse_param<A: Attributes, E: Value>(
