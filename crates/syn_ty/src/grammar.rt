@@ -128,10 +128,7 @@ fn bare_slice<T, A>(alloc: Global, parts: (Bracket, Boxed<T>)) -> TypeSliceOf<T,
     }
 }
 
-fn bare_array<T, A, E>(
-    alloc: Global,
-    parts: (Bracket, Boxed<T>, (Semi, E)),
-) -> TypeArrayOf<T, A, E>
+fn bare_array<T, A, E>(alloc: Global, parts: (Bracket, Boxed<T>, (Semi, E))) -> TypeArrayOf<T, A, E>
     ensures { result ≡ types.array_of parts.0 parts.1 parts.2.0 parts.2.1 }
 {
     let (bracket_token, elem, (semi_token, len)) = parts;
@@ -166,10 +163,7 @@ fn bare_tuple<T, A>(alloc: Global, parts: (Paren, Punctuated<T, Comma>)) -> Type
     }
 }
 
-fn bare_ptr<T, A>(
-    alloc: Global,
-    parts: (Star, PointerMutability, Boxed<T>),
-) -> TypePtrOf<T, A>
+fn bare_ptr<T, A>(alloc: Global, parts: (Star, PointerMutability, Boxed<T>)) -> TypePtrOf<T, A>
     ensures { result ≡ types.ptr_of parts.0 parts.1 parts.2 }
 {
     let (star_token, mutability, elem) = parts;
@@ -320,19 +314,6 @@ fn parse_asked<A: Attributes, E: Value>(
     Ok(named_bound(None, Some(question), path))
 }
 
-/// A parameter of a binder: a lifetime. Types, constants, bounds and attributes of parameters are not read yet.
-#[tactic(auto, using(token_core::proofs::Suffixes::follows), unfolding(crate::specs::generics::Reading::param_step))]
-pub fn param_step<A: Attributes, E: Value>(
-    alloc: Global,
-    input: &mut ParseStream<'_>,
-) -> Result<GenericParamOf<A, E>, Error>
-    ensures reads { Reads (bounds.param_step input.old) result input.new }
-    ensures within { Follows input.old input.new }
-{
-    let lifetime = Lifetime::parse_any(alloc, input)?;
-    Ok(GenericParamOf::Lifetime(LifetimeParamOf::new(alloc, lifetime)))
-}
-
 // ---- over the readers of what they hold
 
 /// One turn of the readers.
@@ -351,7 +332,12 @@ impl<
     'a,
     A: Attributes,
     E: Value,
-    F: Fn(Global, PhantomData<TypeOf<A, E>>, &mut ParseStream<'_>, bool) -> Result<TypeOf<A, E>, Error>,
+    F: Fn(
+        Global,
+        PhantomData<TypeOf<A, E>>,
+        &mut ParseStream<'_>,
+        bool,
+    ) -> Result<TypeOf<A, E>, Error>,
     G: Fn(
         Global,
         PhantomData<TypeParamBoundOf<A, E>>,
@@ -528,6 +514,16 @@ impl<
             return Ok(TypeParamBoundOf::Lifetime(Lifetime::parse_any(self.alloc, input)?));
         }
         Ok(TypeParamBoundOf::Trait(self.trait_bound(input)?))
+    }
+
+    /// A parameter of a binder: a lifetime. Types, constants, bounds and attributes of parameters are not read yet.
+    #[tactic(auto, using(token_core::proofs::Suffixes::follows), unfolding(crate::specs::generics::Reading::param_step))]
+    pub fn param_step(&self, input: &mut ParseStream<'_>) -> Result<GenericParamOf<A, E>, Error>
+        ensures reads { Reads (bounds.param_step input.old) result input.new }
+        ensures within { Follows input.old input.new }
+    {
+        let lifetime = Lifetime::parse_any(self.alloc, input)?;
+        Ok(GenericParamOf::Lifetime(LifetimeParamOf::new(self.alloc, lifetime)))
     }
 }
 

@@ -4,7 +4,7 @@ ghost use Rattle.token_core.specs.Reads.{Reads, Follows};
 ghost use Rattle.syn_ty.specs.ty.Knot as knot;
 
 use crate::generics::{GenericParamOf, TypeParamBoundOf};
-use crate::grammar::{Grammar, param_step};
+use crate::grammar::Grammar;
 use crate::ty::TypeOf;
 use std::alloc::Global;
 use std::marker::PhantomData;
@@ -116,7 +116,9 @@ pub fn parse_bound<A: Attributes, E: Value>(
     .bound_step(input)
 }
 
-/// Reads a parameter of a binder. It has one place.
+/// Reads a parameter of a binder. It has one place. It makes a `Grammar` too, so that it stands in the cycle: the function
+/// value of a function outside it passes the prover's step limit.
+#[cycle(knot)]
 #[tactic(auto, using(crate::proofs::ty_laws::Knot::turns))]
 fn parse_param<A: Attributes, E: Value>(
     alloc: Global,
@@ -127,5 +129,29 @@ fn parse_param<A: Attributes, E: Value>(
     ensures reads { Reads (knot.param E.reads input.old) result input.new }
     ensures within { Follows input.old input.new }
 {
-    param_step(alloc, input)
+    let types = Nested {
+        alloc,
+        of: PhantomData,
+        begin: input.cursor(),
+        read: parse_type::<A, E>,
+    };
+    let bounds = Nested {
+        alloc,
+        of: PhantomData,
+        begin: input.cursor(),
+        read: parse_bound::<A, E>,
+    };
+    let params = Nested {
+        alloc,
+        of: PhantomData,
+        begin: input.cursor(),
+        read: parse_param::<A, E>,
+    };
+    Grammar {
+        alloc,
+        types,
+        bounds,
+        params,
+    }
+    .param_step(input)
 }

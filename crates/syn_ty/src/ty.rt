@@ -34,8 +34,8 @@ use syn_path::mac::Macro;
 use syn_path::path::{PathOf, PathStyle, QSelfOf};
 use syn_path::supplied::{Attributes, Place, Subtree, Value};
 use token_core::token::{
-    And, Bracket, Colon, Comma, DotDotDot, Dyn, Extern, Fn, GroupToken, Impl, Mark, Mut,
-    Not, Paren, Plus, RArrow, Semi, Star, Underscore, Unsafe, Word,
+    And, Bracket, Colon, Comma, DotDotDot, Dyn, Extern, Fn, GroupToken, Impl, Mark, Mut, Not,
+    Paren, Plus, RArrow, Semi, Star, Underscore, Unsafe, Word,
 };
 use token_core::{
     Boxed, Error, Ident, Items, Lifetime, LitStr, Pair, Parse, ParseStream, Punctuated, ToTokens,
