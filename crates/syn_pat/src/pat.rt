@@ -15,9 +15,7 @@ use syn_attr::expr::{Expr, ExprConst, ExprConstOf, ExprLit, ExprLitOf, ExprMacro
 use syn_names::{Path, QSelf, Type};
 use syn_path::path::PathStyle;
 use syn_path::supplied::{Place, Subtree};
-use syn_ty::ty::{
-    print_last_comma, print_lone_comma, print_qpath, print_type, print_verbatim,
-};
+use syn_ty::ty::{print_last_comma, print_lone_comma, print_qpath, print_type, print_verbatim};
 use token_core::token::{
     And, At, Brace, Bracket, Colon, Comma, DotDot, If, Mark, Mut, Or, Paren, Ref, Underscore, Word,
 };
