@@ -5,4 +5,10 @@ pub use syn_names::{
     PredicateLifetime, PredicateType, TraitBound, Turbofish, TypeGenerics, TypeParam,
     TypeParamBound, WhereClause, WherePredicate,
 };
-pub use syn_ty::generics::{BoundLifetimesOf, CapturedParam, ConstParamOf, ConstParams, ConstParamsMut, GenericParamOf, GenericsOf, ImplGenericsOf, LifetimeParamOf, Lifetimes, LifetimesMut, PreciseCapture, PredicateLifetimeOf, PredicateTypeOf, TraitBoundModifiers, TraitBoundOf, TurbofishOf, TypeGenericsOf, TypeParamBoundOf, TypeParamOf, TypeParams, TypeParamsMut, WhereClauseOf, WherePredicateOf};
+pub use syn_ty::generics::{
+    BoundLifetimesOf, CapturedParam, ConstParamOf, ConstParams, ConstParamsMut, GenericParamOf,
+    GenericsOf, ImplGenericsOf, LifetimeParamOf, Lifetimes, LifetimesMut, PreciseCapture,
+    PredicateLifetimeOf, PredicateTypeOf, TraitBoundModifiers, TraitBoundOf, TurbofishOf,
+    TypeGenericsOf, TypeParamBoundOf, TypeParamOf, TypeParams, TypeParamsMut, WhereClauseOf,
+    WherePredicateOf,
+};

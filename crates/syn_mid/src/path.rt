@@ -7,4 +7,7 @@ pub use syn_names::{
 pub use syn_path::path::{
     Arguments, ModPath, ModSegment, NoArguments, PathOf, PathSegmentOf, QSelfOf,
 };
-pub use syn_ty::path::{AngleBracketedGenericArgumentsOf, AssocConstOf, AssocTypeOf, ConstraintOf, GenericArgumentOf, ParenthesizedGenericArgumentsOf, PathArgumentsOf};
+pub use syn_ty::path::{
+    AngleBracketedGenericArgumentsOf, AssocConstOf, AssocTypeOf, ConstraintOf, GenericArgumentOf,
+    ParenthesizedGenericArgumentsOf, PathArgumentsOf,
+};

@@ -5,4 +5,8 @@ pub use syn_names::{
     TypeInfer, TypeMacro, TypeNever, TypeParen, TypePath, TypePtr, TypeReference, TypeSlice,
     TypeTraitObject, TypeTuple,
 };
-pub use syn_ty::ty::{Abi, FnPtrVariadicOf, NamedArgOf, PointerMutability, ReturnTypeOf, TypeArrayOf, TypeFnPtrOf, TypeGroupOf, TypeImplTraitOf, TypeInferOf, TypeMacroOf, TypeNeverOf, TypeOf, TypeParenOf, TypePathOf, TypePtrOf, TypeReferenceOf, TypeSliceOf, TypeTraitObjectOf, TypeTupleOf};
+pub use syn_ty::ty::{
+    Abi, FnPtrVariadicOf, NamedArgOf, PointerMutability, ReturnTypeOf, TypeArrayOf, TypeFnPtrOf,
+    TypeGroupOf, TypeImplTraitOf, TypeInferOf, TypeMacroOf, TypeNeverOf, TypeOf, TypeParenOf,
+    TypePathOf, TypePtrOf, TypeReferenceOf, TypeSliceOf, TypeTraitObjectOf, TypeTupleOf,
+};

@@ -12,11 +12,11 @@ ghost use Rattle.syn_ty.specs.ty.Knot as knot;
 
 use std::alloc::Global;
 use std::marker::PhantomData;
-use syn_attr::attr::{Attribute};
-use syn_attr::expr::{Expr};
+use syn_attr::attr::Attribute;
+use syn_attr::expr::Expr;
 use syn_path::path::{Arguments, PathOf};
 use syn_path::supplied::{Attributes, Subtree, Value};
-use syn_ty::ty::{TypeOf};
+use syn_ty::ty::TypeOf;
 use token_core::{Error, Items, ParseStream, Parser};
 
 /// `PathOf::parse_mod_style` as a parser, for `read_all_with`.

@@ -1,12 +1,23 @@
 //! The trees over a supplied subtree, by their names: over its attributes and its expressions.
 #![tactic(auto)]
 
-use syn_attr::attr::{Attribute};
-use syn_attr::expr::{Expr};
+use syn_attr::attr::Attribute;
+use syn_attr::expr::Expr;
 use syn_path::path::{PathOf, PathSegmentOf, QSelfOf};
-use syn_ty::generics::{BoundLifetimesOf, ConstParamOf, GenericParamOf, GenericsOf, ImplGenericsOf, LifetimeParamOf, PredicateLifetimeOf, PredicateTypeOf, TraitBoundOf, TurbofishOf, TypeGenericsOf, TypeParamBoundOf, TypeParamOf, WhereClauseOf, WherePredicateOf};
-use syn_ty::path::{AngleBracketedGenericArgumentsOf, AssocConstOf, AssocTypeOf, ConstraintOf, GenericArgumentOf, ParenthesizedGenericArgumentsOf, PathArgumentsOf};
-use syn_ty::ty::{FnPtrVariadicOf, NamedArgOf, ReturnTypeOf, TypeArrayOf, TypeFnPtrOf, TypeGroupOf, TypeImplTraitOf, TypeInferOf, TypeMacroOf, TypeNeverOf, TypeOf, TypeParenOf, TypePathOf, TypePtrOf, TypeReferenceOf, TypeSliceOf, TypeTraitObjectOf, TypeTupleOf};
+use syn_ty::generics::{
+    BoundLifetimesOf, ConstParamOf, GenericParamOf, GenericsOf, ImplGenericsOf, LifetimeParamOf,
+    PredicateLifetimeOf, PredicateTypeOf, TraitBoundOf, TurbofishOf, TypeGenericsOf,
+    TypeParamBoundOf, TypeParamOf, WhereClauseOf, WherePredicateOf,
+};
+use syn_ty::path::{
+    AngleBracketedGenericArgumentsOf, AssocConstOf, AssocTypeOf, ConstraintOf, GenericArgumentOf,
+    ParenthesizedGenericArgumentsOf, PathArgumentsOf,
+};
+use syn_ty::ty::{
+    FnPtrVariadicOf, NamedArgOf, ReturnTypeOf, TypeArrayOf, TypeFnPtrOf, TypeGroupOf,
+    TypeImplTraitOf, TypeInferOf, TypeMacroOf, TypeNeverOf, TypeOf, TypeParenOf, TypePathOf,
+    TypePtrOf, TypeReferenceOf, TypeSliceOf, TypeTraitObjectOf, TypeTupleOf,
+};
 
 /// A path whose segments may have arguments, as in a type.
 pub type Path<X> = PathOf<PathArguments<X>>;

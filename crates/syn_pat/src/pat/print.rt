@@ -19,7 +19,9 @@ use syn_attr::expr::Expr;
 use syn_attr::expr::print::print_value;
 use syn_path::path::PathStyle;
 use syn_path::supplied::{Place, Subtree};
-use syn_ty::ty::print::{print_last_comma, print_lone_comma, print_qpath, print_type, print_verbatim};
+use syn_ty::ty::print::{
+    print_last_comma, print_lone_comma, print_qpath, print_type, print_verbatim,
+};
 use token_core::token::{Comma, Or};
 use token_core::{Boxed, Pair, Punctuated, ToTokens, TokenStream};
 
