@@ -576,8 +576,9 @@ fn list_is(rt: &impl Abort, list: &Punctuated<u8, Comma>, count: u8, trailing: b
     is(rt, list.empty_or_trailing() == ends, "empty_or_trailing");
     is(rt, list.first().is_some() != is_empty, "first");
     let marks = if ends { count } else { count.saturating_sub(1) };
-    let marked = list.pairs().filter(|(_, mark)| mark.is_some()).count();
-    is(rt, marked == marks as usize, "pairs");
+    let (pairs, last) = list.parts();
+    is(rt, pairs.len() == marks as usize, "pairs");
+    is(rt, last.is_none() == ends, "last");
     for i in 0..3u8 {
         place_is(rt, list, i, i < count, i < marks);
     }
