@@ -125,9 +125,9 @@ pub(crate) fn alternatives(
 ) -> Result<Pattern, Error> {
     let (first, second) = both(first, second)?;
     let mut cases = Punctuated::new(alloc);
-    cases.push_value(alloc, first)?;
+    cases.push_value(first)?;
     cases.push_punct(Or::default())?;
-    cases.push_value(alloc, second)?;
+    cases.push_value(second)?;
     Ok(Pat::from(PatOr {
         attrs: Items::new(alloc),
         leading_vert: Some(Or::default()),
@@ -225,7 +225,7 @@ pub(crate) fn marked<T: Drop>(
 ) -> Result<Punctuated<T, Comma>, Error> {
     let element = element?;
     let mut list = Punctuated::new(alloc);
-    list.push_value(alloc, element)?;
+    list.push_value(element)?;
     list.push_punct(Comma::default())?;
     Ok(list)
 }
@@ -512,7 +512,7 @@ fn of_a_type(alloc: Global) -> Result<Pattern, Error> {
 fn angled_twice(alloc: Global) -> Result<Path<Nothing>, Error> {
     let (mut path, last) = both(angled(alloc), angled_segment(alloc, "Q"))?;
     path.segments.push_punct(PathSep::default())?;
-    path.segments.push_value(alloc, last)?;
+    path.segments.push_value(last)?;
     Ok(path)
 }
 

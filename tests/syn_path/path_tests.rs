@@ -105,7 +105,7 @@ fn push_segment(
     path: &mut Path<Nothing>,
 ) -> Result<(), AllocError> {
     if path.segments.empty_or_trailing() {
-        path.segments.push_value(alloc, segment)?;
+        path.segments.push_value(segment)?;
         path.segments.push_punct(separator())?;
     }
     Ok(())

@@ -60,7 +60,7 @@ pub(crate) fn lone<T: Drop, P: Drop>(
 ) -> Result<Punctuated<T, P>, Error> {
     let value = value?;
     let mut list = Punctuated::new(alloc);
-    list.push_value(alloc, value)?;
+    list.push_value(value)?;
     Ok(list)
 }
 
@@ -106,9 +106,9 @@ pub(crate) fn two<T: Drop>(
     second: T,
 ) -> Result<Punctuated<T, Plus>, Error> {
     let mut list = Punctuated::new(alloc);
-    list.push_value(alloc, first)?;
+    list.push_value(first)?;
     list.push_punct(Plus::default())?;
-    list.push_value(alloc, second)?;
+    list.push_value(second)?;
     Ok(list)
 }
 
@@ -118,9 +118,9 @@ pub(crate) fn pair<T: Drop>(
     second: T,
 ) -> Result<Punctuated<T, Comma>, Error> {
     let mut list = Punctuated::new(alloc);
-    list.push_value(alloc, first)?;
+    list.push_value(first)?;
     list.push_punct(Comma::default())?;
-    list.push_value(alloc, second)?;
+    list.push_value(second)?;
     Ok(list)
 }
 
@@ -131,11 +131,11 @@ fn three<T: Drop>(
     third: T,
 ) -> Result<Punctuated<T, Comma>, Error> {
     let mut list = Punctuated::new(alloc);
-    list.push_value(alloc, first)?;
+    list.push_value(first)?;
     list.push_punct(Comma::default())?;
-    list.push_value(alloc, second)?;
+    list.push_value(second)?;
     list.push_punct(Comma::default())?;
-    list.push_value(alloc, third)?;
+    list.push_value(third)?;
     Ok(list)
 }
 
@@ -477,9 +477,9 @@ fn mixed(alloc: Global) -> Result<Generics<Nothing>, Error> {
         Param::from(const_param(alloc, None)?),
     )?;
     params.push_punct(Comma::default())?;
-    params.push_value(alloc, Param::from(named(alloc, "U")?))?;
+    params.push_value(Param::from(named(alloc, "U")?))?;
     params.push_punct(Comma::default())?;
-    params.push_value(alloc, lifetime_param(alloc, "b")?)?;
+    params.push_value(lifetime_param(alloc, "b")?)?;
     generics.params = params;
     Ok(generics)
 }

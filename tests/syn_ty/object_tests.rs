@@ -46,7 +46,7 @@ pub(crate) fn and(alloc: Global, second: Result<Bound, Error>) -> Result<Bounds,
 fn trailing(alloc: Global, bound: Result<Bound, Error>) -> Result<Bounds, Error> {
     let bound = bound?;
     let mut list = Punctuated::new(alloc);
-    list.push_value(alloc, bound)?;
+    list.push_value(bound)?;
     list.push_punct(Plus::default())?;
     Ok(list)
 }

@@ -198,22 +198,22 @@ fn pointers_and_references(rt: HostRuntime) {
 
 fn one(alloc: Global) -> Result<Ty, Error> {
     let mut elems = Punctuated::new(alloc);
-    elems.push_value(alloc, path(alloc, "A")?)?;
+    elems.push_value(path(alloc, "A")?)?;
     Ok(tuple(alloc, elems))
 }
 
 fn one_and_comma(alloc: Global) -> Result<Ty, Error> {
     let mut elems = Punctuated::new(alloc);
-    elems.push_value(alloc, path(alloc, "A")?)?;
+    elems.push_value(path(alloc, "A")?)?;
     elems.push_punct(Comma::default())?;
     Ok(tuple(alloc, elems))
 }
 
 fn two(alloc: Global) -> Result<Ty, Error> {
     let mut elems = Punctuated::new(alloc);
-    elems.push_value(alloc, path(alloc, "A")?)?;
+    elems.push_value(path(alloc, "A")?)?;
     elems.push_punct(Comma::default())?;
-    elems.push_value(alloc, path(alloc, "B")?)?;
+    elems.push_value(path(alloc, "B")?)?;
     Ok(tuple(alloc, elems))
 }
 

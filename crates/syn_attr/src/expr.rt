@@ -1,29 +1,21 @@
 //! Expressions, of which some cases are told apart.
 
-ghost use Rattle.std.specs.Prelude.{◌≡◌, ◌++◌, List, OnOk, OnErr, Ok, Option};
-ghost use Rattle.token_core.specs.Toks.{Toks};
-ghost use Rattle.token_core.specs.Trees.{trees};
-ghost use Rattle.token_core.specs.Prints.{Print, Extends};
-ghost use Rattle.token_core.specs.Stream.{Stream};
-ghost use Rattle.token_core.specs.Reads.{Reader, Reads, Follows, leaves};
-ghost use Rattle.syn_path.specs.Supplied as spec;
+pub mod print;
+pub mod read;
+
 ghost use Rattle.syn_attr.specs.attr.Lengths.{lens, spells_len, length_laws, bare_laws};
 ghost use Rattle.syn_attr.specs.attr.Normal.{attributes};
-ghost use Rattle.syn_path.specs.Values.{NormalValues};
-ghost use Rattle.syn_attr.specs.attr.Consts.{normal_values_of};
-ghost use Rattle.syn_path.specs.Values.{Values};
-ghost use Rattle.syn_attr.specs.attr.Consts.{values_of, outer};
-ghost use Rattle.syn_attr.specs.attr.Consts as consts;
-ghost use Rattle.syn_attr.specs.attr.Printing.{at_place};
-ghost use Rattle.syn_path.specs.declared.supplied.Place.TheVariants.{ArrayLen, Block};
+ghost use Rattle.syn_attr.specs.attr.Consts.{normal_values_of, values_of, outer};
 
-use crate::attr::{Attribute, print_outer, print_value};
+use crate::attr::Attribute;
+use crate::attr::print::print_outer;
+use crate::expr::print::{print_const_argument, print_len};
 use std::alloc::{AllocError, Global};
 use syn_path::mac::Macro;
 use syn_path::path::ModPath;
 use syn_path::supplied::{Attributes, Place, Subtree, Value};
 use token_core::token::{Brace, Const};
-use token_core::{Boxed, Error, Items, Lit, ParseStream, RangeLimits, ToTokens, TokenStream};
+use token_core::{Boxed, Error, Items, Lit, ParseStream, RangeLimits, TokenStream};
 
 impl<X: Subtree> Attributes for Attribute<X> {
     ghost shown = { outer X.prints };
@@ -148,66 +140,3 @@ pub struct ExprBlockOf<A, X> {
 
 /// A block as an expression: a body in braces.
 pub type ExprBlock<X> = ExprBlockOf<Attribute<X>, X>;
-
-/// The length of an array: the supplied subtree in this place, and anything else as it prints as a value.
-#[tactic(auto, using(token_core::proofs::Puts::puts, crate::proofs::attr_laws::Prints::places))]
-pub fn print_len<X: Subtree>(
-    alloc: Global,
-    len: &Expr<X>,
-    out: &mut TokenStream,
-) -> Result<(), AllocError>
-    ensures ok { OnOk result (trees out.new ≡ trees out.old ++ at_place X.prints ArrayLen len.now) }
-    ensures err { OnErr result (Extends (trees out.old) (trees out.new)) }
-{
-    match len {
-        Expr::Other(tree) => tree.print(alloc, Place::ArrayLen, out),
-        _ => print_value(alloc, len, out),
-    }
-}
-
-/// A const argument: a literal, a block or an identifier as it prints as a value, anything else in braces.
-#[tactic(auto, using(token_core::proofs::Puts::puts, crate::proofs::attr_laws::Consts::consts, crate::proofs::attr_laws::Prints::contents))]
-pub fn print_const_argument<X: Subtree>(
-    alloc: Global,
-    value: &Expr<X>,
-    out: &mut TokenStream,
-) -> Result<(), AllocError>
-    ensures ok { OnOk result (trees out.new ≡ trees out.old ++ consts.const_argument X.prints value.now) }
-    ensures err { OnErr result (Extends (trees out.old) (trees out.new)) }
-{
-    if stands_alone(value) {
-        return print_value(alloc, value, out);
-    }
-    let mut content = TokenStream::new(alloc);
-    print_in_braces(alloc, value, &mut content)?;
-    Brace::default().surround(content, out)
-}
-
-/// Whether a const argument needs no braces: a literal, a block, or an identifier without attributes.
-#[tactic(auto, using(crate::proofs::attr_laws::Consts::alone))]
-fn stands_alone<X>(value: &Expr<X>) -> bool
-    ensures { result ≡ consts.stands_alone value.now }
-{
-    match value {
-        Expr::Lit(_) => true,
-        Expr::Block(_) => true,
-        Expr::Path(expr) => expr.attrs.len() == 0 && expr.path.get_ident().is_some(),
-        _ => false,
-    }
-}
-
-/// What stands between the braces of a const argument.
-#[tactic(auto, using(token_core::proofs::Puts::puts, crate::proofs::attr_laws::Prints::places))]
-fn print_in_braces<X: Subtree>(
-    alloc: Global,
-    value: &Expr<X>,
-    out: &mut TokenStream,
-) -> Result<(), AllocError>
-    ensures ok { OnOk result (trees out.new ≡ trees out.old ++ at_place X.prints Block value.now) }
-    ensures err { OnErr result (Extends (trees out.old) (trees out.new)) }
-{
-    match value {
-        Expr::Other(tree) => tree.print(alloc, Place::Block, out),
-        _ => print_value(alloc, value, out),
-    }
-}

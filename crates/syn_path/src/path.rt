@@ -21,8 +21,8 @@ use token_core::token::{
     SelfValue, ShlEq, Super, Try,
 };
 use token_core::{
-    Boxed, Error, ErrorKind, Ident, Lifetime, Lit, Pair, ParseStream, Punctuated, Span, Spanned,
-    Text, ToTokens, Token, TokenStream,
+    Boxed, Error, ErrorKind, Ident, Lifetime, Lit, ParseStream, Punctuated, Span, Spanned, Text,
+    ToTokens, Token, TokenStream,
 };
 
 /// A path, over what stands in the place of its segments' arguments: an optional leading `::`, and segments joined by `::`.
@@ -182,7 +182,7 @@ impl<A: Arguments> PathOf<A> {
         ensures { IfOk result (λ p. p ≡ spec.lone segment) }
     {
         let mut segments = Punctuated::new(alloc);
-        segments.push_value(alloc, segment)?;
+        segments.push_value(segment)?;
         Ok(PathOf {
             leading_colon: None,
             segments,
@@ -247,15 +247,9 @@ impl<A: Arguments> PathOf<A> {
     pub fn last_span(&self) -> Span
         ensures { result ≡ spec.last_span self.now.segments.0 none }
     {
-        let (pairs, last) = self.segments.parts();
-        match last {
+        match self.segments.last() {
             Some(segment) => segment.ident.span,
-            None => {
-                if pairs.len() == 0 {
-                    return Span::none();
-                }
-                pairs[pairs.len() - 1].value.ident.span
-            }
+            None => Span::none(),
         }
     }
 
@@ -483,7 +477,7 @@ fn parse_bare_segments<A: Arguments>(
     let mut segments = Punctuated::new(alloc);
     'turn: loop {
         let segment = parse_bare_segment(alloc, input, style, segments.is_empty())?;
-        segments.push_value(alloc, segment)?;
+        segments.push_value(segment)?;
         if !goes_on(input, style) {
             return Ok(segments);
         }
@@ -512,12 +506,12 @@ fn bare_segments<A>(
     let (pairs, last) = segments.parts();
     let mut bare = Punctuated::new(alloc);
     for pair in pairs {
-        bare.push_value(alloc, bare_segment(alloc, &pair.value)?)?;
+        bare.push_value(bare_segment(alloc, &pair.value)?)?;
         bare.push_punct(pair.mark)?;
     }
     match last {
         Some(segment) => {
-            bare.push_value(alloc, bare_segment(alloc, segment)?)?;
+            bare.push_value(bare_segment(alloc, segment)?)?;
             Ok(bare)
         }
         None => Ok(bare),
@@ -533,30 +527,16 @@ fn bare_segment<A>(alloc: Global, segment: &PathSegmentOf<A>) -> Result<ModSegme
 impl<A: Arguments> ToTokens for PathOf<A> {
     ghost print = { shapes.path_by A.shown };
 
-    fn to_tokens(&self, alloc: Global, out: &mut TokenStream) -> Result<(), AllocError> {
-        let before = out.len();
-        match A::print_path(alloc, self, out) {
-            Ok(()) => Ok(()),
-            Err(error) => {
-                out.truncate(before);
-                Err(error)
-            }
-        }
+    fn append_tokens(&self, alloc: Global, out: &mut TokenStream) -> Result<(), AllocError> {
+        A::print_path(alloc, self, out)
     }
 }
 
 impl<A: Arguments> ToTokens for PathSegmentOf<A> {
     ghost print = { shapes.segment_by A.shown };
 
-    fn to_tokens(&self, alloc: Global, out: &mut TokenStream) -> Result<(), AllocError> {
-        let before = out.len();
-        match A::print_segment(alloc, self, out) {
-            Ok(()) => Ok(()),
-            Err(error) => {
-                out.truncate(before);
-                Err(error)
-            }
-        }
+    fn append_tokens(&self, alloc: Global, out: &mut TokenStream) -> Result<(), AllocError> {
+        A::print_segment(alloc, self, out)
     }
 }
 
@@ -570,11 +550,11 @@ pub fn print_mod_path(
     ensures ok { OnOk result (trees out.new ≡ trees out.old ++ shapes.mod_path path.now) }
     ensures err { OnErr result (Extends (trees out.old) (trees out.new)) }
 {
-    print_colon(alloc, &path.leading_colon, out)?;
+    path.leading_colon.append_tokens(alloc, out)?;
     print_mod_segments(alloc, &path.segments, out)
 }
 
-#[tactic(auto, using(token_core::proofs::Puts::puts))]
+#[tactic(auto, using(token_core::proofs::Puts::by_pairs))]
 fn print_mod_segments(
     alloc: Global,
     segments: &Punctuated<ModSegment, PathSep>,
@@ -583,15 +563,11 @@ fn print_mod_segments(
     ensures ok { OnOk result (trees out.new ≡ trees out.old ++ shapes.mod_segments segments.now) }
     ensures err { OnErr result (Extends (trees out.old) (trees out.new)) }
 {
-    let (pairs, last) = segments.parts();
-    for pair in pairs {
-        print_mod_segment(alloc, &pair.value, out)?;
-        pair.mark.to_tokens(alloc, out)?;
+    for (segment, mark) in segments.pairs() {
+        print_mod_segment(alloc, segment, out)?;
+        mark.append_tokens(alloc, out)?;
     }
-    match last {
-        Some(segment) => print_mod_segment(alloc, segment, out),
-        None => Ok(()),
-    }
+    Ok(())
 }
 
 #[tactic(auto, using(token_core::proofs::Puts::puts))]
@@ -604,19 +580,4 @@ fn print_mod_segment(
     ensures err { OnErr result (Extends (trees out.old) (trees out.new)) }
 {
     segment.ident.to_tokens(alloc, out)
-}
-
-#[tactic(auto, using(token_core::proofs::Puts::puts))]
-pub fn print_colon(
-    alloc: Global,
-    colon: &Option<PathSep>,
-    out: &mut TokenStream,
-) -> Result<(), AllocError>
-    ensures ok { OnOk result (trees out.new ≡ trees out.old ++ shapes.colon colon.now) }
-    ensures err { OnErr result (Extends (trees out.old) (trees out.new)) }
-{
-    match colon {
-        Some(colon) => colon.to_tokens(alloc, out),
-        None => Ok(()),
-    }
 }

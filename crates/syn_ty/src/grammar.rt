@@ -4,16 +4,12 @@
 //! readers of what may lead back as parameters: of types, of bounds and of the parameters of binders. `parse_type`,
 //! `parse_bound` and `parse_param` tie them together.
 
-ghost use Rattle.std.specs.Prelude.{◌≡◌, ◌<◌, ◌≤◌, length, IfOk};
-ghost use Rattle.token_core.specs.declared.tree.Delimiter.TheVariants as delimiter;
-ghost use Rattle.token_core.specs.Groups as groups;
-ghost use Rattle.token_core.specs.Lifetimes.{read_optional_lifetime};
-ghost use Rattle.token_core.specs.Reads as spec;
+ghost use Rattle.std.specs.Prelude.{◌≡◌, ◌≤◌, length};
 ghost use Rattle.token_core.specs.Reads.{Reads, Follows};
+ghost use Rattle.syn_forms.specs.nested.Below.{Nests, ahead};
 ghost use Rattle.syn_ty.specs.generics.Params as parts;
 ghost use Rattle.syn_ty.specs.generics.Reading as bounds;
 ghost use Rattle.syn_ty.specs.ty.Knot as knot;
-ghost use Rattle.syn_ty.specs.ty.Knot.{Nests, NestsAlone, ahead};
 ghost use Rattle.syn_ty.specs.ty.Reading as reading;
 ghost use Rattle.syn_ty.specs.ty.Types as types;
 
@@ -23,151 +19,25 @@ use crate::generics::{
 };
 use crate::path::PathArgumentsOf;
 use crate::ty::{
-    PointerMutability, TypeArrayOf, TypeInferOf, TypeMacroOf, TypeNeverOf, TypeOf, TypeParenOf,
-    TypePathOf, TypePtrOf, TypeReferenceOf, TypeSliceOf, TypeTupleOf,
+    TypeArrayOf, TypeInferOf, TypeMacroOf, TypeNeverOf, TypeOf, TypeParenOf, TypePathOf, TypePtrOf,
+    TypeReferenceOf, TypeSliceOf, TypeTupleOf,
 };
 use std::alloc::Global;
 use std::marker::PhantomData;
+use syn_forms::forms;
+use syn_forms::groups::{InBrackets, InParens};
+use syn_forms::nested::Nested;
+use syn_forms::tokens::{PointerMutability, open_parens, parse_question};
 use syn_path::mac::{parse_call_after, parse_macro};
 use syn_path::path::{PathOf, parse_plain_path, without_arguments};
 use syn_path::supplied::{Attributes, Value};
 use token_core::token::{
-    And, Bracket, Comma, Const, Crate, For, GroupToken, Gt, Lt, Mut, Ne, Not, Paren, PathSep, Plus,
-    Question, SelfType, SelfValue, Semi, Star, Super, Underscore,
+    And, Bracket, Comma, Crate, For, GroupToken, Mut, Ne, Not, Paren, PathSep, Plus, Question,
+    SelfType, SelfValue, Semi, Star, Super, Underscore,
 };
-use token_core::{
-    Boxed, Cursor, Error, ErrorKind, Ident, Items, Lifetime, ParseStream, Punctuated,
-};
-
-// ---- what is read before a type that another one holds: a token is taken
-
-#[tactic(auto, using(crate::proofs::ty_laws::Ahead::inside_groups))]
-fn open_parens<'a>(
-    alloc: Global,
-    input: &mut ParseStream<'a>,
-) -> Result<(Paren, ParseStream<'a>), Error>
-    ensures reads { Reads (groups.opened groups.paren (spec.open_group delimiter.Parenthesis groups.paren_name input.old)) result input.new }
-    ensures within { Follows input.old input.new }
-    ensures inside { IfOk result (λ p. ahead p.1 < ahead input.old) }
-{
-    input.parenthesized(alloc)
-}
-
-#[tactic(auto, using(crate::proofs::ty_laws::Ahead::inside_groups))]
-fn open_brackets<'a>(
-    alloc: Global,
-    input: &mut ParseStream<'a>,
-) -> Result<(Bracket, ParseStream<'a>), Error>
-    ensures reads { Reads (groups.opened groups.bracket (spec.open_group delimiter.Bracket groups.bracket_name input.old)) result input.new }
-    ensures within { Follows input.old input.new }
-    ensures inside { IfOk result (λ p. ahead p.1 < ahead input.old) }
-{
-    input.bracketed(alloc)
-}
-
-#[tactic(auto, using(crate::proofs::ty_laws::Ahead::past_marks))]
-fn parse_comma(alloc: Global, input: &mut ParseStream<'_>) -> Result<Comma, Error>
-    ensures reads { Reads (reading.comma input.old) result input.new }
-    ensures within { Follows input.old input.new }
-    ensures taken { IfOk result (λ _. ahead input.new < ahead input.old) }
-{
-    input.parse::<Comma>(alloc)
-}
-
-#[tactic(auto, using(crate::proofs::ty_laws::Ahead::past_marks))]
-fn parse_star(alloc: Global, input: &mut ParseStream<'_>) -> Result<Star, Error>
-    ensures reads { Reads (reading.star input.old) result input.new }
-    ensures within { Follows input.old input.new }
-    ensures taken { IfOk result (λ _. ahead input.new < ahead input.old) }
-{
-    input.parse::<Star>(alloc)
-}
-
-#[tactic(auto, using(crate::proofs::ty_laws::Ahead::past_marks))]
-fn parse_and(alloc: Global, input: &mut ParseStream<'_>) -> Result<And, Error>
-    ensures reads { Reads (reading.and input.old) result input.new }
-    ensures within { Follows input.old input.new }
-    ensures taken { IfOk result (λ _. ahead input.new < ahead input.old) }
-{
-    input.parse::<And>(alloc)
-}
-
-#[tactic(auto, using(crate::proofs::ty_laws::Ahead::past_marks))]
-fn parse_lt(alloc: Global, input: &mut ParseStream<'_>) -> Result<Lt, Error>
-    ensures reads { Reads (bounds.lt input.old) result input.new }
-    ensures within { Follows input.old input.new }
-    ensures taken { IfOk result (λ _. ahead input.new < ahead input.old) }
-{
-    input.parse::<Lt>(alloc)
-}
-
-#[tactic(auto, using(crate::proofs::ty_laws::Ahead::past_marks))]
-fn parse_for(alloc: Global, input: &mut ParseStream<'_>) -> Result<For, Error>
-    ensures reads { Reads (bounds.for_word input.old) result input.new }
-    ensures within { Follows input.old input.new }
-    ensures taken { IfOk result (λ _. ahead input.new < ahead input.old) }
-{
-    input.parse::<For>(alloc)
-}
+use token_core::{Boxed, Error, ErrorKind, Ident, Items, Lifetime, ParseStream, Punctuated};
 
 // ---- parts that hold no type
-
-/// `const` or `mut`.
-#[tactic(auto, using(token_core::proofs::Suffixes::follows, crate::proofs::ty_laws::Ahead::later), unfolding(crate::specs::ty::Reading::mutability))]
-pub fn parse_mutability(
-    alloc: Global,
-    input: &mut ParseStream<'_>,
-) -> Result<PointerMutability, Error>
-    ensures reads { Reads (reading.mutability input.old) result input.new }
-    ensures within { Follows input.old input.new }
-    ensures fewer { ahead input.new ≤ ahead input.old }
-{
-    if input.peek::<Const>() {
-        return Ok(PointerMutability::Const(input.parse::<Const>(alloc)?));
-    }
-    if input.peek::<Mut>() {
-        return Ok(PointerMutability::Mut(input.parse::<Mut>(alloc)?));
-    }
-    Err(input.expected(alloc, "`const` or `mut`"))
-}
-
-#[tactic(auto, using(crate::proofs::ty_laws::Ahead::later))]
-fn parse_lifetime(alloc: Global, input: &mut ParseStream<'_>) -> Result<Option<Lifetime>, Error>
-    ensures reads { Reads (read_optional_lifetime input.old) result input.new }
-    ensures within { Follows input.old input.new }
-    ensures fewer { ahead input.new ≤ ahead input.old }
-{
-    Lifetime::parse_optional_any(alloc, input)
-}
-
-#[tactic(auto, using(crate::proofs::ty_laws::Ahead::later))]
-fn parse_mut(alloc: Global, input: &mut ParseStream<'_>) -> Result<Option<Mut>, Error>
-    ensures reads { Reads (reading.mutable input.old) result input.new }
-    ensures within { Follows input.old input.new }
-    ensures fewer { ahead input.new ≤ ahead input.old }
-{
-    input.parse_option::<Mut>(alloc)
-}
-
-#[tactic(auto, using(crate::proofs::ty_laws::Ahead::later))]
-fn parse_question(alloc: Global, input: &mut ParseStream<'_>) -> Result<Option<Question>, Error>
-    ensures reads { Reads (bounds.question input.old) result input.new }
-    ensures within { Follows input.old input.new }
-    ensures fewer { ahead input.new ≤ ahead input.old }
-{
-    input.parse_option::<Question>(alloc)
-}
-
-/// `;` and the length of an array.
-#[tactic(auto, using(token_core::proofs::Suffixes::follows), unfolding(crate::specs::ty::Reading::length))]
-fn parse_length<E: Value>(alloc: Global, input: &mut ParseStream<'_>) -> Result<(Semi, E), Error>
-    ensures reads { Reads (reading.length E.reads input.old) result input.new }
-    ensures within { Follows input.old input.new }
-{
-    let semi_token = input.parse::<Semi>(alloc)?;
-    let len = E::read_len(alloc, input)?;
-    Ok((semi_token, len))
-}
 
 /// Whether a path that a type may be begins here.
 #[tactic(auto, using(syn_path::proofs::path_laws::Turns::or_words), unfolding(crate::specs::ty::Reading::begins_path))]
@@ -243,6 +113,120 @@ fn bare_type<A, E>(alloc: Global, path: PathOf<PathArgumentsOf<A, E>>) -> TypePa
         attrs: Items::new(alloc),
         qself: None,
         path,
+    }
+}
+
+/// Forms by their parts, without attributes.
+fn bare_slice<T, A>(alloc: Global, parts: (Bracket, Boxed<T>)) -> TypeSliceOf<T, A>
+    ensures { result ≡ types.slice_of parts.0 parts.1 }
+{
+    let (bracket_token, elem) = parts;
+    TypeSliceOf {
+        attrs: Items::new(alloc),
+        bracket_token,
+        elem,
+    }
+}
+
+fn bare_array<T, A, E>(alloc: Global, parts: (Bracket, Boxed<T>, (Semi, E))) -> TypeArrayOf<T, A, E>
+    ensures { result ≡ types.array_of parts.0 parts.1 parts.2.0 parts.2.1 }
+{
+    let (bracket_token, elem, (semi_token, len)) = parts;
+    TypeArrayOf {
+        attrs: Items::new(alloc),
+        bracket_token,
+        elem,
+        semi_token,
+        len,
+    }
+}
+
+fn bare_paren<T, A>(alloc: Global, parts: (Paren, Boxed<T>)) -> TypeParenOf<T, A>
+    ensures { result ≡ types.paren_of parts.0 parts.1 }
+{
+    let (paren_token, elem) = parts;
+    TypeParenOf {
+        attrs: Items::new(alloc),
+        paren_token,
+        elem,
+    }
+}
+
+fn bare_tuple<T, A>(alloc: Global, parts: (Paren, Punctuated<T, Comma>)) -> TypeTupleOf<T, A>
+    ensures { result ≡ types.tuple_of parts.0 parts.1 }
+{
+    let (paren_token, elems) = parts;
+    TypeTupleOf {
+        attrs: Items::new(alloc),
+        paren_token,
+        elems,
+    }
+}
+
+fn bare_ptr<T, A>(alloc: Global, parts: (Star, PointerMutability, Boxed<T>)) -> TypePtrOf<T, A>
+    ensures { result ≡ types.ptr_of parts.0 parts.1 parts.2 }
+{
+    let (star_token, mutability, elem) = parts;
+    TypePtrOf {
+        attrs: Items::new(alloc),
+        star_token,
+        mutability,
+        elem,
+    }
+}
+
+fn bare_reference<T, A>(
+    alloc: Global,
+    parts: (And, Option<Lifetime>, Option<Mut>, Boxed<T>),
+) -> TypeReferenceOf<T, A>
+    ensures { result ≡ types.reference_of parts.0 parts.1 parts.2 parts.3 }
+{
+    let (and_token, lifetime, mutability, elem) = parts;
+    TypeReferenceOf {
+        attrs: Items::new(alloc),
+        and_token,
+        lifetime,
+        mutability,
+        elem,
+    }
+}
+
+/// The type of what brackets held.
+fn of_brackets<A, E>(
+    alloc: Global,
+    bracket_token: Bracket,
+    held: InBrackets<TypeOf<A, E>, E>,
+) -> TypeOf<A, E>
+    ensures { result ≡ reading.bracketed bracket_token held }
+{
+    match held {
+        InBrackets::Element(elem) => TypeOf::Slice(bare_slice(alloc, (bracket_token, elem))),
+        InBrackets::Counted(elem, length) => {
+            TypeOf::Array(bare_array(alloc, (bracket_token, elem, length)))
+        }
+    }
+}
+
+/// The type of what parentheses held. After a type in parentheses no `+` may stand where one is allowed.
+#[tactic(auto, using(token_core::proofs::Suffixes::follows), unfolding(crate::specs::ty::Reading::ended))]
+fn of_parens<A: Attributes, E: Value>(
+    alloc: Global,
+    input: &mut ParseStream<'_>,
+    plus: bool,
+    paren_token: Paren,
+    held: InParens<TypeOf<A, E>>,
+) -> Result<TypeOf<A, E>, Error>
+    ensures reads { Reads (reading.parenthesized plus paren_token held input.old) result input.new }
+    ensures within { Follows input.old input.new }
+{
+    match held {
+        InParens::Elements(elems) => Ok(TypeOf::Tuple(bare_tuple(alloc, (paren_token, elems)))),
+        InParens::One(elem) => {
+            if goes_on(input, plus) {
+                return Err(input.refuse(alloc, ErrorKind::Unexpected));
+            }
+            Ok(TypeOf::Paren(bare_paren(alloc, (paren_token, elem))))
+        }
     }
 }
 
@@ -330,213 +314,84 @@ fn parse_asked<A: Attributes, E: Value>(
     Ok(named_bound(None, Some(question), path))
 }
 
-// ---- types over the reader of the types that they hold
+// ---- over the readers of what they hold
 
 /// One turn of the readers.
 #[derive(Drop)]
 pub struct Grammar<'a, A, E, F, G, H> {
     pub alloc: Global,
-    pub of: PhantomData<(A, E)>,
-    /// Where the turn began. The readers below are asked only further on, so that reading ends.
-    pub begin: Cursor<'a>,
-    /// The reader of types.
-    pub typ: F,
-    /// The reader of bounds.
-    pub bound: G,
-    /// The reader of parameters of binders.
-    pub param: H,
+    /// The types that are held.
+    pub types: Nested<'a, bool, TypeOf<A, E>, F>,
+    /// The bounds that are held.
+    pub bounds: Nested<'a, (), TypeParamBoundOf<A, E>, G>,
+    /// The parameters of binders.
+    pub params: Nested<'a, (), GenericParamOf<A, E>, H>,
 }
 
 impl<
     'a,
     A: Attributes,
     E: Value,
-    F: Fn(Global, PhantomData<(A, E)>, &mut ParseStream<'_>, bool) -> Result<TypeOf<A, E>, Error>,
+    F: Fn(
+        Global,
+        PhantomData<TypeOf<A, E>>,
+        &mut ParseStream<'_>,
+        bool,
+    ) -> Result<TypeOf<A, E>, Error>,
     G: Fn(
         Global,
-        PhantomData<(A, E)>,
+        PhantomData<TypeParamBoundOf<A, E>>,
         &mut ParseStream<'_>,
+        (),
     ) -> Result<TypeParamBoundOf<A, E>, Error>,
-    H: Fn(Global, PhantomData<(A, E)>, &mut ParseStream<'_>) -> Result<GenericParamOf<A, E>, Error>,
+    H: Fn(
+        Global,
+        PhantomData<GenericParamOf<A, E>>,
+        &mut ParseStream<'_>,
+        (),
+    ) -> Result<GenericParamOf<A, E>, Error>,
 > Grammar<'a, A, E, F, G, H> {
-    /// A type that another one holds.
-    #[tactic(auto, using(crate::proofs::ty_laws::Ahead::later), unfolding(crate::specs::ty::Knot::types))]
-    fn nested(&self, input: &mut ParseStream<'_>, plus: bool) -> Result<TypeOf<A, E>, Error>
-        requires types { Nests (knot.ty E.reads) (length self.now.begin) (F.pre self.now.typ) (F.post self.now.typ) }
-        requires few { ahead input.old < length self.now.begin }
-        ensures reads { Reads (knot.types E.reads (length self.now.begin) plus input.old) result input.new }
-        ensures within { Follows input.old input.new }
-        ensures fewer { ahead input.new ≤ ahead input.old }
-    {
-        (self.typ)(self.alloc, PhantomData, input, plus)
-    }
-
-    /// The same on the heap, so that one word is at hand and dropped where what follows is refused.
-    #[tactic(auto, using(token_core::proofs::Suffixes::follows))]
-    fn held(&self, input: &mut ParseStream<'_>, plus: bool) -> Result<Boxed<TypeOf<A, E>>, Error>
-        requires types { Nests (knot.ty E.reads) (length self.now.begin) (F.pre self.now.typ) (F.post self.now.typ) }
-        requires few { ahead input.old < length self.now.begin }
-        ensures reads { Reads (knot.types E.reads (length self.now.begin) plus input.old) result input.new }
-        ensures within { Follows input.old input.new }
-        ensures fewer { ahead input.new ≤ ahead input.old }
-    {
-        let ty = self.nested(input, plus)?;
-        Ok(Boxed::new(self.alloc, ty)?)
-    }
-
-    /// A comma, and the elements of a tuple after the first one.
-    #[tactic(auto, using(token_core::proofs::Suffixes::follows), unfolding(crate::specs::ty::Reading::more_elements))]
-    fn more_elements(
-        &self,
-        input: &mut ParseStream<'_>,
-        first: TypeOf<A, E>,
-    ) -> Result<Punctuated<TypeOf<A, E>, Comma>, Error>
-        requires types { Nests (knot.ty E.reads) (length self.now.begin) (F.pre self.now.typ) (F.post self.now.typ) }
-        requires few { ahead input.old ≤ length self.now.begin }
-        ensures reads { Reads (reading.more_elements E.reads (knot.types E.reads (length self.now.begin)) first input.old) result input.new }
-        ensures within { Follows input.old input.new }
-    {
-        let mut elems = Punctuated::new(self.alloc);
-        elems.push_value(self.alloc, first)?;
-        elems.push_punct(parse_comma(self.alloc, input)?)?;
-        'turn: loop {
-            if input.is_empty() {
-                return Ok(elems);
-            }
-            let elem = self.nested(input, true)?;
-            elems.push_value(self.alloc, elem)?;
-            if input.is_empty() {
-                return Ok(elems);
-            }
-            elems.push_punct(parse_comma(self.alloc, input)?)?;
-        }
-    }
-
-    /// `*const T`, `*mut T`
-    #[tactic(auto, using(token_core::proofs::Suffixes::follows), unfolding(crate::specs::ty::Reading::ptr))]
-    pub fn ptr(&self, input: &mut ParseStream<'_>) -> Result<TypePtrOf<TypeOf<A, E>, A>, Error>
-        requires types { Nests (knot.ty E.reads) (length self.now.begin) (F.pre self.now.typ) (F.post self.now.typ) }
-        requires few { ahead input.old ≤ length self.now.begin }
-        ensures reads { Reads (reading.ptr E.reads (knot.types E.reads (length self.now.begin)) input.old) result input.new }
-        ensures within { Follows input.old input.new }
-    {
-        let star_token = parse_star(self.alloc, input)?;
-        let mutability = parse_mutability(self.alloc, input)?;
-        let elem = self.held(input, false)?;
-        Ok(TypePtrOf {
-            attrs: Items::new(self.alloc),
-            star_token,
-            mutability,
-            elem,
-        })
-    }
-
-    /// `&'a mut T`
-    #[tactic(auto, using(token_core::proofs::Suffixes::follows), unfolding(crate::specs::ty::Reading::reference))]
-    pub fn reference(
-        &self,
-        input: &mut ParseStream<'_>,
-    ) -> Result<TypeReferenceOf<TypeOf<A, E>, A>, Error>
-        requires types { Nests (knot.ty E.reads) (length self.now.begin) (F.pre self.now.typ) (F.post self.now.typ) }
-        requires few { ahead input.old ≤ length self.now.begin }
-        ensures reads { Reads (reading.reference E.reads (knot.types E.reads (length self.now.begin)) input.old) result input.new }
-        ensures within { Follows input.old input.new }
-    {
-        let and_token = parse_and(self.alloc, input)?;
-        let lifetime = parse_lifetime(self.alloc, input)?;
-        let mutability = parse_mut(self.alloc, input)?;
-        let elem = self.held(input, false)?;
-        Ok(TypeReferenceOf {
-            attrs: Items::new(self.alloc),
-            and_token,
-            lifetime,
-            mutability,
-            elem,
-        })
-    }
-
     /// A tuple, or a type in parentheses.
-    #[tactic(auto, using(token_core::proofs::Suffixes::follows), unfolding(crate::specs::ty::Reading::paren_or_tuple, crate::specs::ty::Reading::paren_content, crate::specs::ty::Reading::ended))]
+    #[tactic(auto, using(token_core::proofs::Suffixes::follows), unfolding(crate::specs::ty::Reading::paren_or_tuple))]
     fn paren_or_tuple(&self, input: &mut ParseStream<'_>, plus: bool) -> Result<TypeOf<A, E>, Error>
-        requires types { Nests (knot.ty E.reads) (length self.now.begin) (F.pre self.now.typ) (F.post self.now.typ) }
-        requires few { ahead input.old ≤ length self.now.begin }
-        ensures reads { Reads (reading.paren_or_tuple E.reads (knot.types E.reads (length self.now.begin)) plus input.old) result input.new }
+        requires types { Nests (knot.ty E.reads) (length self.now.types.begin) (F.pre self.now.types.read) (F.post self.now.types.read) }
+        requires few { ahead input.old ≤ length self.now.types.begin }
+        ensures reads { Reads (reading.paren_or_tuple E.reads (knot.types E.reads (length self.now.types.begin)) plus input.old) result input.new }
         ensures within { Follows input.old input.new }
     {
-        let (paren_token, mut content) = open_parens(self.alloc, input)?;
-        if content.is_empty() {
-            input.finish(content);
-            let elems = Punctuated::new(self.alloc);
-            return Ok(TypeOf::Tuple(TypeTupleOf {
-                attrs: Items::new(self.alloc),
-                paren_token,
-                elems,
-            }));
-        }
-        let first = self.nested(&mut content, true)?;
-        if content.peek::<Comma>() {
-            let elems = self.more_elements(&mut content, first)?;
-            input.finish(content);
-            return Ok(TypeOf::Tuple(TypeTupleOf {
-                attrs: Items::new(self.alloc),
-                paren_token,
-                elems,
-            }));
-        }
-        input.finish(content);
-        let elem = Boxed::new(self.alloc, first)?;
-        if goes_on(input, plus) {
-            return Err(input.refuse(self.alloc, ErrorKind::Unexpected));
-        }
-        Ok(TypeOf::Paren(TypeParenOf {
-            attrs: Items::new(self.alloc),
-            paren_token,
-            elem,
-        }))
+        let (paren_token, held) = self.types.paren_or_tuple(input, true)?;
+        of_parens(self.alloc, input, plus, paren_token, held)
     }
 
     /// A slice, or an array.
-    #[tactic(auto, using(token_core::proofs::Suffixes::follows), unfolding(crate::specs::ty::Reading::slice_or_array, crate::specs::ty::Reading::bracket_content))]
+    #[tactic(auto, using(token_core::proofs::Suffixes::follows), unfolding(crate::specs::ty::Reading::slice_or_array))]
     fn slice_or_array(&self, input: &mut ParseStream<'_>) -> Result<TypeOf<A, E>, Error>
-        requires types { Nests (knot.ty E.reads) (length self.now.begin) (F.pre self.now.typ) (F.post self.now.typ) }
-        requires few { ahead input.old ≤ length self.now.begin }
-        ensures reads { Reads (reading.slice_or_array E.reads (knot.types E.reads (length self.now.begin)) input.old) result input.new }
+        requires types { Nests (knot.ty E.reads) (length self.now.types.begin) (F.pre self.now.types.read) (F.post self.now.types.read) }
+        requires few { ahead input.old ≤ length self.now.types.begin }
+        ensures reads { Reads (reading.slice_or_array E.reads (knot.types E.reads (length self.now.types.begin)) input.old) result input.new }
         ensures within { Follows input.old input.new }
     {
-        let (bracket_token, mut content) = open_brackets(self.alloc, input)?;
-        let elem = self.held(&mut content, true)?;
-        if content.peek::<Semi>() {
-            let (semi_token, len) = parse_length(self.alloc, &mut content)?;
-            input.finish(content);
-            return Ok(TypeOf::Array(TypeArrayOf {
-                attrs: Items::new(self.alloc),
-                bracket_token,
-                elem,
-                semi_token,
-                len,
-            }));
-        }
-        input.finish(content);
-        Ok(TypeOf::Slice(TypeSliceOf {
-            attrs: Items::new(self.alloc),
-            bracket_token,
-            elem,
-        }))
+        let (bracket_token, held) = self.types.slice_or_array::<E>(input, true)?;
+        Ok(of_brackets(self.alloc, bracket_token, held))
     }
 
-    /// A type that begins with a mark or `_`.
-    #[tactic(auto, using(token_core::proofs::Suffixes::follows), unfolding(crate::specs::ty::Reading::by_mark))]
+    /// A type that begins with a mark or `_`. `&` and `*` bind tighter than `+`.
+    #[tactic(auto, using(token_core::proofs::Suffixes::follows), unfolding(crate::specs::ty::Reading::by_mark, crate::specs::ty::Reading::ptr, crate::specs::ty::Reading::reference))]
     fn by_mark(&self, input: &mut ParseStream<'_>) -> Result<TypeOf<A, E>, Error>
-        requires types { Nests (knot.ty E.reads) (length self.now.begin) (F.pre self.now.typ) (F.post self.now.typ) }
-        requires few { ahead input.old ≤ length self.now.begin }
-        ensures reads { Reads (reading.by_mark E.reads (knot.types E.reads (length self.now.begin)) input.old) result input.new }
+        requires types { Nests (knot.ty E.reads) (length self.now.types.begin) (F.pre self.now.types.read) (F.post self.now.types.read) }
+        requires few { ahead input.old ≤ length self.now.types.begin }
+        ensures reads { Reads (reading.by_mark E.reads (knot.types E.reads (length self.now.types.begin)) input.old) result input.new }
         ensures within { Follows input.old input.new }
     {
         if input.peek::<Star>() {
-            return Ok(TypeOf::Ptr(self.ptr(input)?));
+            // `*const` binds tighter than `+`, as `&` does
+            let parts = self.types.ptr(input, false)?;
+            return Ok(TypeOf::Ptr(bare_ptr(self.alloc, parts)));
         }
         if input.peek::<And>() {
-            return Ok(TypeOf::Reference(self.reference(input)?));
+            // `&` binds tighter than `+`
+            let parts = self.types.reference(input, false)?;
+            return Ok(TypeOf::Reference(bare_reference(self.alloc, parts)));
         }
         if input.peek::<Not>() {
             return Ok(TypeOf::Never(parse_never(self.alloc, input)?));
@@ -549,10 +404,10 @@ impl<
 
     /// A type (`ambig_ty`), by its first token.
     #[tactic(auto, using(token_core::proofs::Suffixes::follows), unfolding(crate::specs::ty::Reading::type_step))]
-    fn type_step(&self, input: &mut ParseStream<'_>, plus: bool) -> Result<TypeOf<A, E>, Error>
-        requires types { Nests (knot.ty E.reads) (length self.now.begin) (F.pre self.now.typ) (F.post self.now.typ) }
-        requires few { ahead input.old ≤ length self.now.begin }
-        ensures reads { Reads (reading.type_step E.reads (knot.types E.reads (length self.now.begin)) plus input.old) result input.new }
+    pub fn type_step(&self, input: &mut ParseStream<'_>, plus: bool) -> Result<TypeOf<A, E>, Error>
+        requires types { Nests (knot.ty E.reads) (length self.now.types.begin) (F.pre self.now.types.read) (F.post self.now.types.read) }
+        requires few { ahead input.old ≤ length self.now.types.begin }
+        ensures reads { Reads (reading.type_step E.reads (knot.types E.reads (length self.now.types.begin)) plus input.old) result input.new }
         ensures within { Follows input.old input.new }
     {
         if input.peek::<GroupToken>() {
@@ -572,95 +427,26 @@ impl<
 
     // ---- bounds, over the reader of the parameters of their binders
 
-    /// A parameter of a binder that a bound holds.
-    #[tactic(auto, using(crate::proofs::ty_laws::Ahead::later), unfolding(crate::specs::ty::Knot::params))]
-    fn nested_param(&self, input: &mut ParseStream<'_>) -> Result<GenericParamOf<A, E>, Error>
-        requires params { NestsAlone (knot.param E.reads) (length self.now.begin) (H.pre self.now.param) (H.post self.now.param) }
-        requires few { ahead input.old < length self.now.begin }
-        ensures reads { Reads (knot.params E.reads (length self.now.begin) input.old) result input.new }
-        ensures within { Follows input.old input.new }
-        ensures fewer { ahead input.new ≤ ahead input.old }
-    {
-        (self.param)(self.alloc, PhantomData, input)
-    }
-
-    /// The parameters of a binder, up to a `>`.
-    #[tactic(auto, using(token_core::proofs::Suffixes::follows), unfolding(crate::specs::generics::Reading::params))]
-    fn params(
-        &self,
-        input: &mut ParseStream<'_>,
-    ) -> Result<Punctuated<GenericParamOf<A, E>, Comma>, Error>
-        requires params { NestsAlone (knot.param E.reads) (length self.now.begin) (H.pre self.now.param) (H.post self.now.param) }
-        requires few { ahead input.old < length self.now.begin }
-        ensures reads { Reads (bounds.params (knot.params E.reads (length self.now.begin)) input.old) result input.new }
-        ensures within { Follows input.old input.new }
-    {
-        let mut params = Punctuated::new(self.alloc);
-        'turn: loop {
-            if input.peek::<Gt>() {
-                return Ok(params);
-            }
-            let param = self.nested_param(input)?;
-            params.push_value(self.alloc, param)?;
-            if input.peek::<Gt>() {
-                return Ok(params);
-            }
-            params.push_punct(parse_comma(self.alloc, input)?)?;
-        }
-    }
-
-    /// `for<'a, 'b>`
-    #[tactic(auto, using(token_core::proofs::Suffixes::follows), unfolding(crate::specs::generics::Reading::binder))]
-    fn binder(
-        &self,
-        input: &mut ParseStream<'_>,
-    ) -> Result<BoundLifetimesOf<GenericParamOf<A, E>>, Error>
-        requires params { NestsAlone (knot.param E.reads) (length self.now.begin) (H.pre self.now.param) (H.post self.now.param) }
-        requires few { ahead input.old ≤ length self.now.begin }
-        ensures reads { Reads (bounds.binder (knot.params E.reads (length self.now.begin)) input.old) result input.new }
-        ensures within { Follows input.old input.new }
-    {
-        let for_token = parse_for(self.alloc, input)?;
-        self.binder_after(input, for_token)
-    }
-
-    /// What follows the `for` of a binder.
-    #[tactic(auto, using(token_core::proofs::Suffixes::follows))]
-    fn binder_after(
-        &self,
-        input: &mut ParseStream<'_>,
-        for_token: For,
-    ) -> Result<BoundLifetimesOf<GenericParamOf<A, E>>, Error>
-        requires params { NestsAlone (knot.param E.reads) (length self.now.begin) (H.pre self.now.param) (H.post self.now.param) }
-        requires few { ahead input.old < length self.now.begin }
-        ensures reads { Reads (bounds.binder_after (knot.params E.reads (length self.now.begin)) for_token input.old) result input.new }
-        ensures within { Follows input.old input.new }
-    {
-        let lt_token = parse_lt(self.alloc, input)?;
-        let lifetimes = self.params(input)?;
-        let gt_token = input.parse::<Gt>(self.alloc)?;
-        Ok(BoundLifetimesOf {
-            for_token,
-            lt_token,
-            lifetimes,
-            gt_token,
-        })
-    }
-
-    /// A binder that may be there.
-    #[tactic(auto, using(token_core::proofs::Suffixes::follows, crate::proofs::ty_laws::Ahead::later), unfolding(crate::specs::generics::Reading::optional_binder))]
+    /// A binder that may be there: `for<'a, 'b>`.
+    #[tactic(auto, using(token_core::proofs::Suffixes::follows, syn_forms::proofs::nested_laws::Ahead::later), unfolding(crate::specs::generics::Reading::optional_binder, crate::specs::generics::Reading::binder))]
     fn optional_binder(
         &self,
         input: &mut ParseStream<'_>,
     ) -> Result<Option<BoundLifetimesOf<GenericParamOf<A, E>>>, Error>
-        requires params { NestsAlone (knot.param E.reads) (length self.now.begin) (H.pre self.now.param) (H.post self.now.param) }
-        requires few { ahead input.old ≤ length self.now.begin }
-        ensures reads { Reads (bounds.optional_binder (knot.params E.reads (length self.now.begin)) input.old) result input.new }
+        requires params { Nests (knot.in_one_place E.reads) (length self.now.params.begin) (H.pre self.now.params.read) (H.post self.now.params.read) }
+        requires few { ahead input.old ≤ length self.now.params.begin }
+        ensures reads { Reads (bounds.optional_binder (knot.params E.reads (length self.now.params.begin)) input.old) result input.new }
         ensures within { Follows input.old input.new }
         ensures fewer { ahead input.new ≤ ahead input.old }
     {
         if input.peek::<For>() {
-            return Ok(Some(self.binder(input)?));
+            let (for_token, (lt_token, lifetimes, gt_token)) = self.params.binder(input, ())?;
+            return Ok(Some(BoundLifetimesOf {
+                for_token,
+                lt_token,
+                lifetimes,
+                gt_token,
+            }));
         }
         Ok(None)
     }
@@ -673,9 +459,9 @@ impl<
         lifetimes: Option<BoundLifetimesOf<GenericParamOf<A, E>>>,
         question: Question,
     ) -> Result<TraitBoundOf<A, E>, Error>
-        requires params { NestsAlone (knot.param E.reads) (length self.now.begin) (H.pre self.now.param) (H.post self.now.param) }
-        requires few { ahead input.old ≤ length self.now.begin }
-        ensures reads { Reads (bounds.after_question (knot.params E.reads (length self.now.begin)) lifetimes question input.old) result input.new }
+        requires params { Nests (knot.in_one_place E.reads) (length self.now.params.begin) (H.pre self.now.params.read) (H.post self.now.params.read) }
+        requires few { ahead input.old ≤ length self.now.params.begin }
+        ensures reads { Reads (bounds.after_question (knot.params E.reads (length self.now.params.begin)) lifetimes question input.old) result input.new }
         ensures within { Follows input.old input.new }
     {
         if lifetimes.is_some() {
@@ -688,9 +474,9 @@ impl<
     /// A trait bound without parentheses.
     #[tactic(auto, using(token_core::proofs::Suffixes::follows), unfolding(crate::specs::generics::Reading::bare_bound))]
     fn bare_bound(&self, input: &mut ParseStream<'_>) -> Result<TraitBoundOf<A, E>, Error>
-        requires params { NestsAlone (knot.param E.reads) (length self.now.begin) (H.pre self.now.param) (H.post self.now.param) }
-        requires few { ahead input.old ≤ length self.now.begin }
-        ensures reads { Reads (bounds.bare_bound (knot.params E.reads (length self.now.begin)) input.old) result input.new }
+        requires params { Nests (knot.in_one_place E.reads) (length self.now.params.begin) (H.pre self.now.params.read) (H.post self.now.params.read) }
+        requires few { ahead input.old ≤ length self.now.params.begin }
+        ensures reads { Reads (bounds.bare_bound (knot.params E.reads (length self.now.params.begin)) input.old) result input.new }
         ensures within { Follows input.old input.new }
     {
         let lifetimes = self.optional_binder(input)?;
@@ -704,9 +490,9 @@ impl<
     /// A trait bound, which may stand in parentheses.
     #[tactic(auto, using(token_core::proofs::Suffixes::follows), unfolding(crate::specs::generics::Reading::trait_bound))]
     fn trait_bound(&self, input: &mut ParseStream<'_>) -> Result<TraitBoundOf<A, E>, Error>
-        requires params { NestsAlone (knot.param E.reads) (length self.now.begin) (H.pre self.now.param) (H.post self.now.param) }
-        requires few { ahead input.old ≤ length self.now.begin }
-        ensures reads { Reads (bounds.trait_bound (knot.params E.reads (length self.now.begin)) input.old) result input.new }
+        requires params { Nests (knot.in_one_place E.reads) (length self.now.params.begin) (H.pre self.now.params.read) (H.post self.now.params.read) }
+        requires few { ahead input.old ≤ length self.now.params.begin }
+        ensures reads { Reads (bounds.trait_bound (knot.params E.reads (length self.now.params.begin)) input.old) result input.new }
         ensures within { Follows input.old input.new }
     {
         if !input.peek::<Paren>() {
@@ -720,7 +506,7 @@ impl<
 
     /// A parameter of a binder: a lifetime. Types, constants, bounds and attributes of parameters are not read yet.
     #[tactic(auto, using(token_core::proofs::Suffixes::follows), unfolding(crate::specs::generics::Reading::param_step))]
-    fn param_step(&self, input: &mut ParseStream<'_>) -> Result<GenericParamOf<A, E>, Error>
+    pub fn param_step(&self, input: &mut ParseStream<'_>) -> Result<GenericParamOf<A, E>, Error>
         ensures reads { Reads (bounds.param_step input.old) result input.new }
         ensures within { Follows input.old input.new }
     {
@@ -730,10 +516,10 @@ impl<
 
     /// A bound: a lifetime or a trait.
     #[tactic(auto, using(token_core::proofs::Suffixes::follows), unfolding(crate::specs::generics::Reading::bound_step))]
-    fn bound_step(&self, input: &mut ParseStream<'_>) -> Result<TypeParamBoundOf<A, E>, Error>
-        requires params { NestsAlone (knot.param E.reads) (length self.now.begin) (H.pre self.now.param) (H.post self.now.param) }
-        requires few { ahead input.old ≤ length self.now.begin }
-        ensures reads { Reads (bounds.bound_step (knot.params E.reads (length self.now.begin)) input.old) result input.new }
+    pub fn bound_step(&self, input: &mut ParseStream<'_>) -> Result<TypeParamBoundOf<A, E>, Error>
+        requires params { Nests (knot.in_one_place E.reads) (length self.now.params.begin) (H.pre self.now.params.read) (H.post self.now.params.read) }
+        requires few { ahead input.old ≤ length self.now.params.begin }
+        ensures reads { Reads (bounds.bound_step (knot.params E.reads (length self.now.params.begin)) input.old) result input.new }
         ensures within { Follows input.old input.new }
     {
         if input.peek::<Lifetime>() {
@@ -743,300 +529,10 @@ impl<
     }
 }
 
-// ---- the knot
-
-/// Reads a type, where `+` may be allowed or not.
-#[cycle(knot)]
-#[tactic(auto, using(crate::proofs::ty_laws::Knot::turns))]
-pub fn parse_type<A: Attributes, E: Value>(
-    alloc: Global,
-    of: PhantomData<(A, E)>,
-    input: &mut ParseStream<'_>,
-    plus: bool,
-) -> Result<TypeOf<A, E>, Error>
-    ensures reads { Reads (knot.ty E.reads plus input.old) result input.new }
-    ensures within { Follows input.old input.new }
-{
-    let begin = input.cursor();
-    let typ = parse_type::<A, E>;
-    let bound = parse_bound::<A, E>;
-    let param = parse_param::<A, E>;
-    Grammar {
-        alloc,
-        of,
-        begin,
-        typ,
-        bound,
-        param,
-    }
-    .type_step(input, plus)
-}
-
-/// Reads a bound.
-#[cycle(knot)]
-#[tactic(auto, using(crate::proofs::ty_laws::Knot::turns))]
-pub fn parse_bound<A: Attributes, E: Value>(
-    alloc: Global,
-    of: PhantomData<(A, E)>,
-    input: &mut ParseStream<'_>,
-) -> Result<TypeParamBoundOf<A, E>, Error>
-    ensures reads { Reads (knot.bound E.reads input.old) result input.new }
-    ensures within { Follows input.old input.new }
-{
-    let begin = input.cursor();
-    let typ = parse_type::<A, E>;
-    let bound = parse_bound::<A, E>;
-    let param = parse_param::<A, E>;
-    Grammar {
-        alloc,
-        of,
-        begin,
-        typ,
-        bound,
-        param,
-    }
-    .bound_step(input)
-}
-
-/// Reads a parameter of a binder.
-#[cycle(knot)]
-#[tactic(auto, using(crate::proofs::ty_laws::Knot::turns))]
-fn parse_param<A: Attributes, E: Value>(
-    alloc: Global,
-    of: PhantomData<(A, E)>,
-    input: &mut ParseStream<'_>,
-) -> Result<GenericParamOf<A, E>, Error>
-    ensures reads { Reads (knot.param E.reads input.old) result input.new }
-    ensures within { Follows input.old input.new }
-{
-    let begin = input.cursor();
-    let typ = parse_type::<A, E>;
-    let bound = parse_bound::<A, E>;
-    let param = parse_param::<A, E>;
-    Grammar {
-        alloc,
-        of,
-        begin,
-        typ,
-        bound,
-        param,
-    }
-    .param_step(input)
-}
-
-// ---- single forms
-
-// They ask the reader of types itself, further on than they begin: a function value that is made outside the knot, as a
-// turn takes one, passes the prover's step limit.
-
-/// A type that another one holds.
-#[tactic(auto, using(crate::proofs::ty_laws::Ahead::later), unfolding(crate::specs::ty::Knot::types))]
-fn parse_nested<A: Attributes, E: Value>(
-    alloc: Global,
-    begin: &Cursor<'_>,
-    input: &mut ParseStream<'_>,
-    plus: bool,
-) -> Result<TypeOf<A, E>, Error>
-    requires few { ahead input.old < length begin.now }
-    ensures reads { Reads (knot.types E.reads (length begin.now) plus input.old) result input.new }
-    ensures within { Follows input.old input.new }
-    ensures fewer { ahead input.new ≤ ahead input.old }
-{
-    parse_type(alloc, PhantomData, input, plus)
-}
-
-/// The same on the heap.
-#[tactic(auto, using(token_core::proofs::Suffixes::follows))]
-fn parse_held<A: Attributes, E: Value>(
-    alloc: Global,
-    begin: &Cursor<'_>,
-    input: &mut ParseStream<'_>,
-    plus: bool,
-) -> Result<Boxed<TypeOf<A, E>>, Error>
-    requires few { ahead input.old < length begin.now }
-    ensures reads { Reads (knot.types E.reads (length begin.now) plus input.old) result input.new }
-    ensures within { Follows input.old input.new }
-    ensures fewer { ahead input.new ≤ ahead input.old }
-{
-    let ty = parse_nested(alloc, begin, input, plus)?;
-    Ok(Boxed::new(alloc, ty)?)
-}
-
-#[tactic(auto, using(token_core::proofs::Suffixes::follows), unfolding(crate::specs::ty::Reading::slice))]
-fn parse_slice_from<A: Attributes, E: Value>(
-    alloc: Global,
-    begin: &Cursor<'_>,
-    input: &mut ParseStream<'_>,
-) -> Result<TypeSliceOf<TypeOf<A, E>, A>, Error>
-    requires few { ahead input.old ≤ length begin.now }
-    ensures reads { Reads (reading.slice E.reads (knot.types E.reads (length begin.now)) input.old) result input.new }
-    ensures within { Follows input.old input.new }
-{
-    let (bracket_token, mut content) = open_brackets(alloc, input)?;
-    let elem = parse_held(alloc, begin, &mut content, true)?;
-    input.finish(content);
-    Ok(TypeSliceOf {
-        attrs: Items::new(alloc),
-        bracket_token,
-        elem,
-    })
-}
-
-#[tactic(auto, using(token_core::proofs::Suffixes::follows), unfolding(crate::specs::ty::Reading::array, crate::specs::ty::Reading::array_content))]
-fn parse_array_from<A: Attributes, E: Value>(
-    alloc: Global,
-    begin: &Cursor<'_>,
-    input: &mut ParseStream<'_>,
-) -> Result<TypeArrayOf<TypeOf<A, E>, A, E>, Error>
-    requires few { ahead input.old ≤ length begin.now }
-    ensures reads { Reads (reading.array E.reads (knot.types E.reads (length begin.now)) input.old) result input.new }
-    ensures within { Follows input.old input.new }
-{
-    let (bracket_token, mut content) = open_brackets(alloc, input)?;
-    let elem = parse_held(alloc, begin, &mut content, true)?;
-    let (semi_token, len) = parse_length(alloc, &mut content)?;
-    input.finish(content);
-    Ok(TypeArrayOf {
-        attrs: Items::new(alloc),
-        bracket_token,
-        elem,
-        semi_token,
-        len,
-    })
-}
-
-#[tactic(auto, using(token_core::proofs::Suffixes::follows), unfolding(crate::specs::ty::Reading::paren))]
-fn parse_paren_from<A: Attributes, E: Value>(
-    alloc: Global,
-    begin: &Cursor<'_>,
-    input: &mut ParseStream<'_>,
-) -> Result<TypeParenOf<TypeOf<A, E>, A>, Error>
-    requires few { ahead input.old ≤ length begin.now }
-    ensures reads { Reads (reading.paren E.reads (knot.types E.reads (length begin.now)) input.old) result input.new }
-    ensures within { Follows input.old input.new }
-{
-    let (paren_token, mut content) = open_parens(alloc, input)?;
-    let elem = parse_held(alloc, begin, &mut content, false)?;
-    input.finish(content);
-    Ok(TypeParenOf {
-        attrs: Items::new(alloc),
-        paren_token,
-        elem,
-    })
-}
-
-#[tactic(auto, using(token_core::proofs::Suffixes::follows), unfolding(crate::specs::ty::Reading::ptr))]
-fn parse_ptr_from<A: Attributes, E: Value>(
-    alloc: Global,
-    begin: &Cursor<'_>,
-    input: &mut ParseStream<'_>,
-) -> Result<TypePtrOf<TypeOf<A, E>, A>, Error>
-    requires few { ahead input.old ≤ length begin.now }
-    ensures reads { Reads (reading.ptr E.reads (knot.types E.reads (length begin.now)) input.old) result input.new }
-    ensures within { Follows input.old input.new }
-{
-    let star_token = parse_star(alloc, input)?;
-    let mutability = parse_mutability(alloc, input)?;
-    let elem = parse_held(alloc, begin, input, false)?;
-    Ok(TypePtrOf {
-        attrs: Items::new(alloc),
-        star_token,
-        mutability,
-        elem,
-    })
-}
-
-#[tactic(auto, using(token_core::proofs::Suffixes::follows), unfolding(crate::specs::ty::Reading::reference))]
-fn parse_reference_from<A: Attributes, E: Value>(
-    alloc: Global,
-    begin: &Cursor<'_>,
-    input: &mut ParseStream<'_>,
-) -> Result<TypeReferenceOf<TypeOf<A, E>, A>, Error>
-    requires few { ahead input.old ≤ length begin.now }
-    ensures reads { Reads (reading.reference E.reads (knot.types E.reads (length begin.now)) input.old) result input.new }
-    ensures within { Follows input.old input.new }
-{
-    let and_token = parse_and(alloc, input)?;
-    let lifetime = parse_lifetime(alloc, input)?;
-    let mutability = parse_mut(alloc, input)?;
-    let elem = parse_held(alloc, begin, input, false)?;
-    Ok(TypeReferenceOf {
-        attrs: Items::new(alloc),
-        and_token,
-        lifetime,
-        mutability,
-        elem,
-    })
-}
-
-/// A comma, and the elements of a tuple after the first one.
-#[tactic(auto, using(token_core::proofs::Suffixes::follows), unfolding(crate::specs::ty::Reading::more_elements))]
-fn parse_more_elements<A: Attributes, E: Value>(
-    alloc: Global,
-    begin: &Cursor<'_>,
-    input: &mut ParseStream<'_>,
-    first: TypeOf<A, E>,
-) -> Result<Punctuated<TypeOf<A, E>, Comma>, Error>
-    requires few { ahead input.old ≤ length begin.now }
-    ensures reads { Reads (reading.more_elements E.reads (knot.types E.reads (length begin.now)) first input.old) result input.new }
-    ensures within { Follows input.old input.new }
-{
-    let mut elems = Punctuated::new(alloc);
-    elems.push_value(alloc, first)?;
-    elems.push_punct(parse_comma(alloc, input)?)?;
-    'turn: loop {
-        if input.is_empty() {
-            return Ok(elems);
-        }
-        let elem = parse_nested(alloc, begin, input, true)?;
-        elems.push_value(alloc, elem)?;
-        if input.is_empty() {
-            return Ok(elems);
-        }
-        elems.push_punct(parse_comma(alloc, input)?)?;
-    }
-}
-
-/// What the parentheses of a tuple hold.
-#[tactic(auto, using(token_core::proofs::Suffixes::follows), unfolding(crate::specs::ty::Reading::tuple_content))]
-fn parse_tuple_content<A: Attributes, E: Value>(
-    alloc: Global,
-    begin: &Cursor<'_>,
-    input: &mut ParseStream<'_>,
-) -> Result<Punctuated<TypeOf<A, E>, Comma>, Error>
-    requires few { ahead input.old < length begin.now }
-    ensures reads { Reads (reading.tuple_content E.reads (knot.types E.reads (length begin.now)) input.old) result input.new }
-    ensures within { Follows input.old input.new }
-{
-    if input.is_empty() {
-        return Ok(Punctuated::new(alloc));
-    }
-    let first = parse_nested(alloc, begin, input, true)?;
-    parse_more_elements(alloc, begin, input, first)
-}
-
-#[tactic(auto, using(token_core::proofs::Suffixes::follows), unfolding(crate::specs::ty::Reading::tuple))]
-fn parse_tuple_from<A: Attributes, E: Value>(
-    alloc: Global,
-    begin: &Cursor<'_>,
-    input: &mut ParseStream<'_>,
-) -> Result<TypeTupleOf<TypeOf<A, E>, A>, Error>
-    requires few { ahead input.old ≤ length begin.now }
-    ensures reads { Reads (reading.tuple E.reads (knot.types E.reads (length begin.now)) input.old) result input.new }
-    ensures within { Follows input.old input.new }
-{
-    let (paren_token, mut content) = open_parens(alloc, input)?;
-    let elems = parse_tuple_content(alloc, begin, &mut content)?;
-    input.finish(content);
-    Ok(TypeTupleOf {
-        attrs: Items::new(alloc),
-        paren_token,
-        elems,
-    })
-}
+// ---- forms by themselves
 
 /// `[T]`
-#[tactic(auto, unfolding(crate::specs::ty::Knot::slice))]
+#[tactic(auto, using(token_core::proofs::Suffixes::follows), unfolding(crate::specs::ty::Knot::slice, crate::specs::ty::Reading::slice))]
 pub fn parse_slice<A: Attributes, E: Value>(
     alloc: Global,
     input: &mut ParseStream<'_>,
@@ -1044,12 +540,12 @@ pub fn parse_slice<A: Attributes, E: Value>(
     ensures reads { Reads (knot.slice E.reads input.old) result input.new }
     ensures within { Follows input.old input.new }
 {
-    let begin = input.cursor();
-    parse_slice_from(alloc, &begin, input)
+    let parts = forms::parse_slice::<bool, TypeOf<A, E>>(alloc, input, true)?;
+    Ok(bare_slice(alloc, parts))
 }
 
 /// `[T; n]`
-#[tactic(auto, unfolding(crate::specs::ty::Knot::array))]
+#[tactic(auto, using(token_core::proofs::Suffixes::follows), unfolding(crate::specs::ty::Knot::array, crate::specs::ty::Reading::array))]
 pub fn parse_array<A: Attributes, E: Value>(
     alloc: Global,
     input: &mut ParseStream<'_>,
@@ -1057,12 +553,12 @@ pub fn parse_array<A: Attributes, E: Value>(
     ensures reads { Reads (knot.array E.reads input.old) result input.new }
     ensures within { Follows input.old input.new }
 {
-    let begin = input.cursor();
-    parse_array_from(alloc, &begin, input)
+    let parts = forms::parse_array::<bool, TypeOf<A, E>, E>(alloc, input, true)?;
+    Ok(bare_array(alloc, parts))
 }
 
 /// `*const T`, `*mut T`
-#[tactic(auto, unfolding(crate::specs::ty::Knot::ptr))]
+#[tactic(auto, using(token_core::proofs::Suffixes::follows), unfolding(crate::specs::ty::Knot::ptr, crate::specs::ty::Reading::ptr))]
 pub fn parse_ptr<A: Attributes, E: Value>(
     alloc: Global,
     input: &mut ParseStream<'_>,
@@ -1070,12 +566,12 @@ pub fn parse_ptr<A: Attributes, E: Value>(
     ensures reads { Reads (knot.ptr E.reads input.old) result input.new }
     ensures within { Follows input.old input.new }
 {
-    let begin = input.cursor();
-    parse_ptr_from(alloc, &begin, input)
+    let parts = forms::parse_ptr::<bool, TypeOf<A, E>>(alloc, input, false)?;
+    Ok(bare_ptr(alloc, parts))
 }
 
 /// `&'a mut T`
-#[tactic(auto, unfolding(crate::specs::ty::Knot::reference))]
+#[tactic(auto, using(token_core::proofs::Suffixes::follows), unfolding(crate::specs::ty::Knot::reference, crate::specs::ty::Reading::reference))]
 pub fn parse_reference<A: Attributes, E: Value>(
     alloc: Global,
     input: &mut ParseStream<'_>,
@@ -1083,12 +579,12 @@ pub fn parse_reference<A: Attributes, E: Value>(
     ensures reads { Reads (knot.reference E.reads input.old) result input.new }
     ensures within { Follows input.old input.new }
 {
-    let begin = input.cursor();
-    parse_reference_from(alloc, &begin, input)
+    let parts = forms::parse_reference::<bool, TypeOf<A, E>>(alloc, input, false)?;
+    Ok(bare_reference(alloc, parts))
 }
 
 /// `(A, B)`
-#[tactic(auto, unfolding(crate::specs::ty::Knot::tuple))]
+#[tactic(auto, using(token_core::proofs::Suffixes::follows), unfolding(crate::specs::ty::Knot::tuple, crate::specs::ty::Reading::tuple))]
 pub fn parse_tuple<A: Attributes, E: Value>(
     alloc: Global,
     input: &mut ParseStream<'_>,
@@ -1096,12 +592,12 @@ pub fn parse_tuple<A: Attributes, E: Value>(
     ensures reads { Reads (knot.tuple E.reads input.old) result input.new }
     ensures within { Follows input.old input.new }
 {
-    let begin = input.cursor();
-    parse_tuple_from(alloc, &begin, input)
+    let parts = forms::parse_tuple::<bool, TypeOf<A, E>>(alloc, input, true)?;
+    Ok(bare_tuple(alloc, parts))
 }
 
 /// `(T)`, the type without plus
-#[tactic(auto, unfolding(crate::specs::ty::Knot::paren))]
+#[tactic(auto, using(token_core::proofs::Suffixes::follows), unfolding(crate::specs::ty::Knot::paren, crate::specs::ty::Reading::paren))]
 pub fn parse_paren<A: Attributes, E: Value>(
     alloc: Global,
     input: &mut ParseStream<'_>,
@@ -1109,6 +605,6 @@ pub fn parse_paren<A: Attributes, E: Value>(
     ensures reads { Reads (knot.paren E.reads input.old) result input.new }
     ensures within { Follows input.old input.new }
 {
-    let begin = input.cursor();
-    parse_paren_from(alloc, &begin, input)
+    let parts = forms::parse_paren::<bool, TypeOf<A, E>>(alloc, input, false)?;
+    Ok(bare_paren(alloc, parts))
 }

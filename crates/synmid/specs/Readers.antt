@@ -16,7 +16,8 @@ use Rattle.syn_path.specs.declared.mac.Macro as mac
 use Rattle.syn_attr.specs.declared.attr.Meta as meta
 use Rattle.syn_attr.specs.declared.attr.MetaList as meta_list
 use Rattle.syn_attr.specs.declared.attr.MetaNameValue as name_value
-use Rattle.syn_ty.specs.declared.ty.PointerMutability as mutability
+use Rattle.syn_forms.specs.declared.tokens.PointerMutability as mutability
+use Rattle.syn_forms.specs.tokens.Grammars as tokens
 use Rattle.syn_ty.specs.ty.Grammars as types
 use Rattle.syn_ty.specs.ty.Trees as ty
 use Rattle.syn_attr.specs.attr.Attrs.{Attribute}
@@ -127,7 +128,7 @@ grammar MetaList = attrs.list
 grammar MetaNameValue = attrs.name_value reads-value.it spells-value.it normal-value.it prints-value.it
 grammar Outer = attrs.outer reads-value.it spells-value.it normal-value.it prints-value.it
 grammar Inner = attrs.inner reads-value.it spells-value.it normal-value.it prints-value.it
-grammar PointerMutability = types.mutability
+grammar PointerMutability = tokens.mutability
 grammar (Types r) = sample_types r
 
 -- what attributes print, one after the other

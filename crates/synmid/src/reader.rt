@@ -168,21 +168,7 @@ fn reprint_attributes<P: Parser<Output = Items<Attribute<Sample>>> + Drop>(
     ensures { spec.Prints (P.reads parser) (P.refuses parser) (P.promise parser) spec.attributes (toks tokens.now) result }
 {
     let attrs = read_all_with(alloc, parser, tokens)?;
-    Ok(print_attributes(alloc, &attrs)?)
-}
-
-#[tactic(auto, using(token_core::proofs::Puts::puts))]
-fn print_attributes(
-    alloc: Global,
-    attrs: &Items<Attribute<Sample>>,
-) -> Result<TokenStream, AllocError>
-    ensures { IfOk result (λ s. trees s ≡ spec.attributes attrs.now) }
-{
-    let mut out = TokenStream::new(alloc);
-    for attr in attrs.as_slice() {
-        attr.to_tokens(alloc, &mut out)?;
-    }
-    Ok(out)
+    Ok(print_of(alloc, &attrs)?)
 }
 
 fn print_of<T: ToTokens>(alloc: Global, tree: &T) -> Result<TokenStream, AllocError>

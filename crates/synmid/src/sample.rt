@@ -76,7 +76,7 @@ fn read_segments(
     let mut segments = Punctuated::new(alloc);
     'turn: loop {
         let segment = read_segment(alloc, input)?;
-        segments.push_value(alloc, segment)?;
+        segments.push_value(segment)?;
         if !input.peek::<PathSep>() {
             return Ok(segments);
         }
@@ -145,7 +145,7 @@ fn read_atoms(alloc: Global, input: &mut ParseStream<'_>) -> Result<Punctuated<A
     let mut atoms = Punctuated::new(alloc);
     'turn: loop {
         let atom = read_atom(alloc, input)?;
-        atoms.push_value(alloc, atom)?;
+        atoms.push_value(atom)?;
         if !input.peek::<Plus>() {
             return Ok(atoms);
         }
@@ -208,48 +208,12 @@ impl Sample {
 // ---- prints
 
 #[tactic(auto, using(token_core::proofs::Puts::puts))]
-fn print_colon(
-    alloc: Global,
-    colon: &Option<PathSep>,
-    out: &mut TokenStream,
-) -> Result<(), AllocError>
-    ensures ok { OnOk result (trees out.new ≡ trees out.old ++ printing.colon colon.now) }
-    ensures err { OnErr result (Extends (trees out.old) (trees out.new)) }
-{
-    match colon {
-        Some(colon) => colon.to_tokens(alloc, out),
-        None => Ok(()),
-    }
-}
-
-/// Appends identifiers and their marks; refused, what stood before is kept.
-#[tactic(auto, using(token_core::proofs::Puts::puts))]
-fn print_segments(
-    alloc: Global,
-    segments: &Punctuated<Ident, PathSep>,
-    out: &mut TokenStream,
-) -> Result<(), AllocError>
-    ensures ok { OnOk result (trees out.new ≡ trees out.old ++ printing.segments segments.now) }
-    ensures err { OnErr result (Extends (trees out.old) (trees out.new)) }
-{
-    let (pairs, last) = segments.parts();
-    for pair in pairs {
-        pair.value.to_tokens(alloc, out)?;
-        pair.mark.to_tokens(alloc, out)?;
-    }
-    match last {
-        Some(segment) => segment.to_tokens(alloc, out),
-        None => Ok(()),
-    }
-}
-
-#[tactic(auto, using(token_core::proofs::Puts::puts))]
 fn print_path(alloc: Global, path: &ModPath, out: &mut TokenStream) -> Result<(), AllocError>
     ensures ok { OnOk result (trees out.new ≡ trees out.old ++ printing.path path.now) }
     ensures err { OnErr result (Extends (trees out.old) (trees out.new)) }
 {
-    print_colon(alloc, &path.leading_colon, out)?;
-    print_segments(alloc, &path.segments, out)
+    path.leading_colon.append_tokens(alloc, out)?;
+    path.segments.append_tokens(alloc, out)
 }
 
 /// Appends atoms and their marks; refused, what stood before is kept.
@@ -295,30 +259,16 @@ fn print_atom(alloc: Global, atom: &Atom, out: &mut TokenStream) -> Result<(), A
 impl ToTokens for Atom {
     ghost print = { printing.atom };
 
-    fn to_tokens(&self, alloc: Global, out: &mut TokenStream) -> Result<(), AllocError> {
-        let before = out.len();
-        match print_atom(alloc, self, out) {
-            Ok(()) => Ok(()),
-            Err(error) => {
-                out.truncate(before);
-                Err(error)
-            }
-        }
+    fn append_tokens(&self, alloc: Global, out: &mut TokenStream) -> Result<(), AllocError> {
+        print_atom(alloc, self, out)
     }
 }
 
 impl ToTokens for Sample {
     ghost print = { printing.sum };
 
-    fn to_tokens(&self, alloc: Global, out: &mut TokenStream) -> Result<(), AllocError> {
-        let before = out.len();
-        match print_atoms(alloc, &self.atoms, out) {
-            Ok(()) => Ok(()),
-            Err(error) => {
-                out.truncate(before);
-                Err(error)
-            }
-        }
+    fn append_tokens(&self, alloc: Global, out: &mut TokenStream) -> Result<(), AllocError> {
+        print_atoms(alloc, &self.atoms, out)
     }
 }
 

@@ -1,9 +1,9 @@
 -- The values and the marks of a punctuated list, as it grows.
 use Rattle.std.specs.Prelude.{slice_get}
-use Rattle.std.proofs.Common.{◌≡◌, ℕ, zero, suc, ◌+◌, ◌<◌, ◌≤◌, get_or, List, [], ◌∷◌, ◌++◌, length, Option, Some, None, refl, sym, ap, append-nil, arith}
+use Rattle.std.proofs.Common.{◌≡◌, ℕ, zero, suc, ◌+◌, ◌<◌, ◌≤◌, inl, inr, get_or, List, [], ◌∷◌, ◌++◌, length, Option, Some, None, refl, sym, ap, append-nil, arith}
 use Rattle.token_core.specs.declared.punctuated.Pair.{Pair}
 use Rattle.token_core.specs.Joined.{values_of, marks_of, pairs_of}
-use Rattle.token_core.specs.Lists.{last, pairs}
+use Rattle.token_core.specs.Lists.{last, pairs, IsShaped}
 
 pub length_whole : {T P : Type 0} (xs : List (Pair T P)) → length (values_of xs None) ≡ length (marks_of xs)
 length_whole [] = refl
@@ -12,6 +12,10 @@ length_whole (x ∷ xs) = let h = length_whole xs in omega (arith, h)
 pub length_open : {T P : Type 0} (xs : List (Pair T P)) (t : T) → length (values_of xs (Some t)) ≡ length (marks_of xs) + 1
 length_open [] t = refl
 length_open (x ∷ xs) t = let h = length_open xs t in omega (arith, h)
+
+pub shaped : {T P : Type 0} (xs : List (Pair T P)) (last : Option T) → IsShaped (values_of xs last, marks_of xs)
+shaped xs None = inl (length_whole xs)
+shaped xs (Some t) = inr (length_open xs t)
 
 pub values_open : {T P : Type 0} (xs : List (Pair T P)) (t : T) → values_of xs (Some t) ≡ values_of xs None ++ t ∷ []
 values_open [] t = refl
@@ -79,6 +83,15 @@ last-whole (y ∷ z ∷ xs) zero x h e = absurd (omega (arith, h))
 last-whole (y ∷ z ∷ xs) (suc i) x h e = last-whole (z ∷ xs) i x (omega (arith, h)) e
 
 pub ruleset lists = (length_whole, length_open, length_marks, values_open, values_more, marks_more)
+
+pub not_there : {T : Type 0} (xs : List T) (i : ℕ) → None ≡ slice_get xs i → i < length xs → ⊥
+not_there [] i e h = absurd (omega (arith, h))
+not_there (x ∷ xs) zero e h = cc e
+not_there (x ∷ xs) (suc i) e h = not_there xs i e (omega (arith, h))
+
+pub ruleset there = (not_there)
+
+pub ruleset shapes = (shaped, length_whole, length_open, length_marks)
 
 pub ruleset places = (length_whole, length_open, length_marks, value_at, mark_at, no_mark, last_at, past_last, past_whole)
 

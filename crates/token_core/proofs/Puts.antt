@@ -1,7 +1,8 @@
 -- What is printed, piece by piece.
-use Rattle.std.proofs.Common.{◌≡◌, ℕ, zero, suc, ◌+◌, ◌<◌, ◌≤◌, List, [], ◌∷◌, ◌++◌, length, take, drop, get_or, refl, sym, ap, ◌∙◌, append_assoc, append-nil, arith}
+use Rattle.std.proofs.Common.{◌≡◌, ℕ, zero, suc, ◌+◌, ◌<◌, ◌≤◌, List, [], ◌∷◌, ◌++◌, length, take, drop, get_or, Some, None, refl, sym, ap, ◌∙◌, append_assoc, append-nil, arith}
 use Rattle.std.proofs.lemmas.List.{length-take, length-append, take-append-le}
-use Rattle.token_core.specs.Prints.{Print, Extends}
+use Rattle.token_core.specs.Prints.{Print, Extends, each, optional, marked}
+use Rattle.token_core.specs.Lists.{joined, pairs}
 
 pub extends_append : (a b c : Print) → Extends a b → Extends a (b ++ c)
 extends_append a b c h =
@@ -27,4 +28,12 @@ extends_on a x b c e h =
     take-take-le : (p q l : Print) → length p ≤ length q → take (length q) l ≡ q → take (length p) l ≡ take (length p) q
     take-take-le p q l n h = sym (take-take (length p) (length q) l n) ∙ ap (take (length p)) h
 
+-- a list printed by its pairs
+pub joined-pairs : {T P A : Type 0} (f : T → List A) (g : P → List A) (xs : List T) (ps : List P) → joined f g xs ps ≡ each (marked f g) (pairs xs ps)
+joined-pairs f g [] ps = refl
+joined-pairs f g (x ∷ xs) [] = ap (λ l. f x ++ l) (joined-pairs f g xs []) ∙ ap (λ l. l ++ each (marked f g) (pairs xs [])) (sym (append-nil (f x)))
+joined-pairs f g (x ∷ xs) (p ∷ ps) = ap (λ l. f x ++ (g p ++ l)) (joined-pairs f g xs ps) ∙ sym (append_assoc (f x) (g p) (each (marked f g) (pairs xs ps)))
+
 pub ruleset puts = (extends_append, extends_on, append-nil)
+
+pub ruleset by_pairs = (extends_append, extends_on, append-nil, append_assoc, joined-pairs)

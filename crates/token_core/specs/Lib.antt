@@ -14,6 +14,7 @@ pub mod Same
 pub mod Keywords
 pub mod Reads
 pub mod Marks
+pub mod Tokens
 pub mod Prints
 pub mod ByFns
 pub mod Joined

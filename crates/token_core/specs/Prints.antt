@@ -1,5 +1,5 @@
 -- What tokens print: a printed mark ends Alone.
-use Rattle.std.specs.Prelude.{◌≡◌, ℕ, List, [], ◌∷◌, take, length}
+use Rattle.std.specs.Prelude.{◌≡◌, ℕ, List, [], ◌∷◌, ◌++◌, take, length, Option, Some, None}
 use Rattle.token_core.specs.declared.span.Span.{Span}
 use Rattle.token_core.specs.declared.span.DelimSpan.{DelimSpan}
 use Rattle.token_core.specs.declared.mark.Mark.{Mark}
@@ -36,6 +36,25 @@ word {n = n} w = t.Ident (s.ident (text_of n) w.span) ∷ []
 
 abbrev pub group : Delimiter → TokenStream → DelimSpan → Print
 group d c p = t.Group (s.group_of d c p) ∷ []
+
+-- what is there, if it is there
+abbrev pub optional : {T A : Type 0} → (T → List A) → Option T → List A
+optional f None = []
+optional f (Some x) = f x
+
+-- what is there, or something in its place
+abbrev pub or_default : {T A : Type 0} → (T → List A) → T → Option T → List A
+or_default f d None = f d
+or_default f d (Some x) = f x
+
+-- one after the other
+abbrev pub each : {T A : Type 0} → (T → List A) → List T → List A
+each f [] = []
+each f (x ∷ xs) = f x ++ each f xs
+
+-- a value with its mark, if it has one
+abbrev pub marked : {T P A : Type 0} → (T → List A) → (P → List A) → T × Option P → List A
+marked f g x = f x.0 ++ optional g x.1
 
 -- what stood before is kept
 abbrev pub Extends : Print → Print → Type 0

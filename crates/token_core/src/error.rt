@@ -1,11 +1,12 @@
 //! Refusals.
 
-ghost use Rattle.std.specs.Prelude.{◌≡◌, IfOk, OnErr};
+ghost use Rattle.std.specs.Prelude.{◌≡◌, IfOk, OnErr, Option};
 ghost use Rattle.token_core.specs.Refusal as spec;
 
 use crate::span::Span;
 use crate::text::Text;
 use std::alloc::{AllocError, Global};
+use std::fmt;
 use std::marker::Model;
 
 /// What a refusal says. The kinds that name a token, a path or the caller's own text have several texts, the others one.
@@ -210,6 +211,15 @@ impl Error {
         ensures { result ≡ self.now.end }
     {
         self.end
+    }
+}
+
+/// Its text.
+impl fmt::Display for Error {
+    ghost output = { λ e. Option.Some e.text };
+
+    fn fmt<W: fmt::Write>(&self, f: &mut fmt::Formatter<W>) -> fmt::Result {
+        f.write_str(self.text())
     }
 }
 

@@ -38,10 +38,13 @@ pub use mark::{Mark, Spans};
 pub use member::{Index, Member};
 pub use parse::{ByFn, ByParse, Parse, Parser, Token, read_all, read_all_with, read_scoped};
 pub use parse_stream::ParseStream;
-pub use punctuated::{Iter, IterMut, Pair, Pairs, Punctuated};
+// no part of the face: see `Punctuated::parts`
+#[doc(hidden)]
+pub use punctuated::Pair;
+pub use punctuated::{Iter, IterMut, Pairs, Punctuated};
 pub use range::RangeLimits;
 pub use span::{DelimSpan, Span};
 pub use text::Text;
-pub use to_tokens::{Spanned, ToTokens};
+pub use to_tokens::{DefaultToken, Spanned, ToTokens, TokensOrDefault};
 pub use tree::{Delimiter, Group, Ident, LitKind, Literal, Punct, Spacing, TokenStream, TokenTree};
 pub use word::Word;

@@ -120,15 +120,8 @@ impl Token for Lifetime {
 impl ToTokens for Lifetime {
     ghost print = { spec.print };
 
-    fn to_tokens(&self, alloc: Global, out: &mut TokenStream) -> Result<(), AllocError> {
-        let before = out.len();
-        match put_lifetime(alloc, self, out) {
-            Ok(()) => Ok(()),
-            Err(error) => {
-                out.truncate(before);
-                Err(error)
-            }
-        }
+    fn append_tokens(&self, alloc: Global, out: &mut TokenStream) -> Result<(), AllocError> {
+        put_lifetime(alloc, self, out)
     }
 }
 
@@ -139,5 +132,5 @@ fn put_lifetime(alloc: Global, lifetime: &Lifetime, out: &mut TokenStream) -> Re
     ensures err { OnErr result (Extends (trees out.old) (trees out.new)) }
 {
     out.push(TokenTree::Punct(Punct::new('\'', Spacing::Joint, lifetime.apostrophe)))?;
-    lifetime.ident.to_tokens(alloc, out)
+    lifetime.ident.append_tokens(alloc, out)
 }

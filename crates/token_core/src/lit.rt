@@ -462,15 +462,8 @@ impl Parse for LitStr {
 impl ToTokens for Lit {
     ghost print = { spec.print };
 
-    fn to_tokens(&self, alloc: Global, out: &mut TokenStream) -> Result<(), AllocError> {
-        let before = out.len();
-        match put_lit(alloc, self, out) {
-            Ok(()) => Ok(()),
-            Err(error) => {
-                out.truncate(before);
-                Err(error)
-            }
-        }
+    fn append_tokens(&self, alloc: Global, out: &mut TokenStream) -> Result<(), AllocError> {
+        put_lit(alloc, self, out)
     }
 }
 
@@ -500,7 +493,7 @@ fn put_lit(alloc: Global, lit: &Lit, out: &mut TokenStream) -> Result<(), AllocE
 impl ToTokens for LitStr {
     ghost print = { spec.print_str };
 
-    fn to_tokens(&self, alloc: Global, out: &mut TokenStream) -> Result<(), AllocError> {
+    fn append_tokens(&self, alloc: Global, out: &mut TokenStream) -> Result<(), AllocError> {
         let literal = Literal::new(alloc, LitKind::Str, self.text(), self.span)?;
         out.push(TokenTree::Literal(literal))
     }

@@ -205,7 +205,7 @@ impl Member {
 impl ToTokens for Index {
     ghost print = { spec.print_index };
 
-    fn to_tokens(&self, alloc: Global, out: &mut TokenStream) -> Result<(), AllocError> {
+    fn append_tokens(&self, alloc: Global, out: &mut TokenStream) -> Result<(), AllocError> {
         let text = self.index.to_string(alloc)?;
         let literal = Literal::new(alloc, LitKind::Int, text.as_str(), self.span)?;
         out.push(TokenTree::Literal(literal))
@@ -215,10 +215,10 @@ impl ToTokens for Index {
 impl ToTokens for Member {
     ghost print = { spec.print };
 
-    fn to_tokens(&self, alloc: Global, out: &mut TokenStream) -> Result<(), AllocError> {
+    fn append_tokens(&self, alloc: Global, out: &mut TokenStream) -> Result<(), AllocError> {
         match self {
-            Member::Named(ident) => ident.to_tokens(alloc, out),
-            Member::Unnamed(index) => index.to_tokens(alloc, out),
+            Member::Named(ident) => ident.append_tokens(alloc, out),
+            Member::Unnamed(index) => index.append_tokens(alloc, out),
         }
     }
 }

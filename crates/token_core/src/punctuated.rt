@@ -1,6 +1,6 @@
 //! Values with marks between them.
 
-ghost use Rattle.std.specs.Prelude.{◌≡◌, ◌++◌, ◌∷◌, [], ◌<◌, length, OnOk, OnErr, IsTrue, ◌↔◌, ◌+◌, option_map, slice_get, min, ◌^◌, ◌-◌, MatchOption, Ok, Err};
+ghost use Rattle.std.specs.Prelude.{◌≡◌, ◌++◌, ◌∷◌, [], ◌<◌, length, OnOk, OnErr, IsTrue, ◌↔◌, ◌+◌, option_map, slice_get, min, ◌^◌, ◌-◌, MatchOption, Ok, Err, IsFalse, Some};
 ghost use Rattle.token_core.specs.Lists as spec;
 ghost use Rattle.token_core.specs.Joined.{values_of, marks_of};
 ghost use Rattle.token_core.specs.Prints.{Extends};
@@ -19,9 +19,11 @@ use crate::to_tokens::ToTokens;
 use crate::tree::TokenStream;
 use std::alloc::{AllocError, Global};
 use std::marker::Model;
+use std::ops::Index;
 use std::slice;
 
-/// A value and the mark after it.
+/// A value and the mark after it, as `parts` shows them.
+#[doc(hidden)]
 #[derive(Drop)]
 pub struct Pair<T, P> {
     pub value: T,
@@ -29,7 +31,7 @@ pub struct Pair<T, P> {
 }
 
 /// Values with marks between them, and perhaps one after the last. Contracts see a list of values and a list of marks,
-/// which are as many or one fewer.
+/// which are as many or one fewer: `empty_or_trailing` says which.
 pub struct Punctuated<T, P> {
     inner: Items<Pair<T, P>>,
     last: Option<Boxed<T>>,
@@ -68,9 +70,12 @@ impl<T, P> Punctuated<T, P> {
         }
     }
 
-    /// Whether a value may be put at the end.
+    /// Whether a value may be put at the end, and no mark; else a mark may, and no value.
+    #[tactic(auto, using(crate::proofs::Lists::shapes))]
     pub fn empty_or_trailing(&self) -> bool
-        ensures { IsTrue result ↔ (length self.now.0 ≡ length self.now.1) }
+        ensures value { IsTrue result ↔ (length self.now.0 ≡ length self.now.1) }
+        ensures mark { IsFalse result ↔ (length self.now.0 ≡ length self.now.1 + 1) }
+        ensures shape { spec.IsShaped self.now }
     {
         self.last.is_none()
     }
@@ -169,7 +174,9 @@ impl<T, P> Punctuated<T, P> {
         }
     }
 
-    /// The values that have a mark, with it, and the last value, where none stands after it.
+    /// The values that have a mark, with it, and the last value, where none stands after it. It is no part of the face (`pairs` is):
+    /// the prints of trees that hold themselves need it, since the check sees of what a slice holds that it is smaller than its tree.
+    #[doc(hidden)]
     pub fn parts(&self) -> (&[Pair<T, P>], Option<&T>)
         ensures { self.now ≡ (values_of result.0.now (option_map (λ x. x.now) result.1), marks_of result.0.now) }
     {
@@ -218,12 +225,12 @@ impl<T, P> Punctuated<T, P> {
 #[tactic(auto, using(crate::proofs::Lists::lists))]
 impl<T: Drop, P: Drop> Punctuated<T, P> {
     /// Puts a value at the end; refused, it changes nothing and drops the value.
-    pub fn push_value(&mut self, alloc: Global, value: T) -> Result<(), AllocError>
+    pub fn push_value(&mut self, value: T) -> Result<(), AllocError>
         requires { length self.old.0 ≡ length self.old.1 }
         ensures ok { OnOk result (self.new ≡ (self.old.0 ++ value ∷ [], self.old.1)) }
         ensures err { OnErr result (self.new ≡ self.old) }
     {
-        let value = Boxed::new(alloc, value)?;
+        let value = Boxed::new(self.inner.allocator(), value)?;
         self.last = Some(value);
         Ok(())
     }
@@ -318,6 +325,35 @@ impl<'a, T, P> Iterator for Iter<'a, T, P> {
     }
 }
 
+impl<'a, T, P> IntoIterator for &'a Punctuated<T, P> {
+    type Item = &'a T;
+
+    type IntoIter = Iter<'a, T, P>;
+
+    ghost into_iter_gives = { λ list it. it ≡ list.now.0 };
+
+    fn into_iter(self) -> Iter<'a, T, P> {
+        self.iter()
+    }
+}
+
+/// `list[i]`, the `i`th value.
+impl<T, P> Index<usize> for Punctuated<T, P> {
+    type Output = T;
+
+    ghost can_index = { λ list i. i < length list.0 };
+
+    ghost index_gives = { λ list i x. slice_get list.0 i ≡ Some x };
+
+    #[tactic(auto, using(crate::proofs::Lists::there))]
+    fn index(&self, i: usize) -> &T {
+        match self.value(i) {
+            Some(value) => value,
+            None => unreachable!(),
+        }
+    }
+}
+
 fn lend<'a, T, P>(
     pairs: &'a mut Items<Pair<T, P>>,
     last: &'a mut Option<Boxed<T>>,
@@ -370,7 +406,7 @@ impl<T: Parse, P: Parse> Punctuated<T, P> {
         let mut list = Punctuated::new(alloc);
         'turn: while !input.is_empty() {
             let begin = input.cursor();
-            list.push_value(alloc, T::parse(alloc, input)?)?;
+            list.push_value(T::parse(alloc, input)?)?;
             if input.is_empty() {
                 return Ok(list);
             }
@@ -389,15 +425,8 @@ impl<T: Parse, P: Parse> Punctuated<T, P> {
 impl<T: ToTokens, P: ToTokens> ToTokens for Punctuated<T, P> {
     ghost print = { λ v. spec.joined T.print P.print v.0 v.1 };
 
-    fn to_tokens(&self, alloc: Global, out: &mut TokenStream) -> Result<(), AllocError> {
-        let before = out.len();
-        match put_parts(alloc, self, out) {
-            Ok(()) => Ok(()),
-            Err(error) => {
-                out.truncate(before);
-                Err(error)
-            }
-        }
+    fn append_tokens(&self, alloc: Global, out: &mut TokenStream) -> Result<(), AllocError> {
+        put_parts(alloc, self, out)
     }
 }
 
@@ -413,11 +442,11 @@ fn put_parts<T: ToTokens, P: ToTokens>(
 {
     let (pairs, last) = list.parts();
     for pair in pairs {
-        pair.value.to_tokens(alloc, out)?;
-        pair.mark.to_tokens(alloc, out)?;
+        pair.value.append_tokens(alloc, out)?;
+        pair.mark.append_tokens(alloc, out)?;
     }
     match last {
-        Some(value) => value.to_tokens(alloc, out),
+        Some(value) => value.append_tokens(alloc, out),
         None => Ok(()),
     }
 }

@@ -70,10 +70,10 @@ impl RangeLimits {
 impl ToTokens for RangeLimits {
     ghost print = { spec.print };
 
-    fn to_tokens(&self, alloc: Global, out: &mut TokenStream) -> Result<(), AllocError> {
+    fn append_tokens(&self, alloc: Global, out: &mut TokenStream) -> Result<(), AllocError> {
         match self {
-            RangeLimits::HalfOpen(dots) => dots.to_tokens(alloc, out),
-            RangeLimits::Closed(dots) => dots.to_tokens(alloc, out),
+            RangeLimits::HalfOpen(dots) => dots.append_tokens(alloc, out),
+            RangeLimits::Closed(dots) => dots.append_tokens(alloc, out),
         }
     }
 }

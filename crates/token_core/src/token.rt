@@ -17,7 +17,7 @@ use crate::mark::{mark_chars, mark_name, spread};
 use crate::parse::{Parse, Token};
 use crate::parse_stream::ParseStream;
 use crate::span::{DelimSpan, Span};
-use crate::to_tokens::ToTokens;
+use crate::to_tokens::{DefaultToken, ToTokens};
 use crate::token_names::{mark_number, word_number};
 use crate::tree::{Delimiter, Group, Ident, Punct, Spacing, TokenStream, TokenTree};
 pub use crate::word::Word;
@@ -179,6 +179,12 @@ impl<const N: u32, const LEN: usize> Default for Mark<N, LEN> {
     }
 }
 
+impl<const N: u32, const LEN: usize> DefaultToken for Mark<N, LEN> {
+    ghost bare = { marks.mark_of N LEN (spec.three spans.none spans.none spans.none) };
+
+    ghost only = { λ m e. e };
+}
+
 impl<const N: u32, const LEN: usize> Token for Mark<N, LEN> {
     ghost sees = { spec.sees_mark (marks.chars_of N) };
 
@@ -226,6 +232,12 @@ impl<const N: u32> Default for Word<N> {
     fn default() -> Word<N> {
         Word { span: Span::none() }
     }
+}
+
+impl<const N: u32> DefaultToken for Word<N> {
+    ghost bare = { marks.word_of N spans.none };
+
+    ghost only = { λ w e. e };
 }
 
 impl<const N: u32> Token for Word<N> {
@@ -287,7 +299,7 @@ impl Parse for Ident {
 impl ToTokens for Ident {
     ghost print = { prints.ident };
 
-    fn to_tokens(&self, alloc: Global, out: &mut TokenStream) -> Result<(), AllocError> {
+    fn append_tokens(&self, alloc: Global, out: &mut TokenStream) -> Result<(), AllocError> {
         let copy = self.copy(alloc)?;
         out.push(TokenTree::Ident(copy))
     }
@@ -296,7 +308,7 @@ impl ToTokens for Ident {
 impl<const N: u32> ToTokens for Word<N> {
     ghost print = { prints.word };
 
-    fn to_tokens(&self, alloc: Global, out: &mut TokenStream) -> Result<(), AllocError> {
+    fn append_tokens(&self, alloc: Global, out: &mut TokenStream) -> Result<(), AllocError> {
         let ident = Ident::new(alloc, word_text(N), self.span)?;
         out.push(TokenTree::Ident(ident))
     }
@@ -305,15 +317,8 @@ impl<const N: u32> ToTokens for Word<N> {
 impl<const N: u32, const LEN: usize> ToTokens for Mark<N, LEN> {
     ghost print = { prints.mark };
 
-    fn to_tokens(&self, _alloc: Global, out: &mut TokenStream) -> Result<(), AllocError> {
-        let before = out.len();
-        match put_puncts(mark_chars(N), &self.spans, out) {
-            Ok(()) => Ok(()),
-            Err(error) => {
-                out.truncate(before);
-                Err(error)
-            }
-        }
+    fn append_tokens(&self, _alloc: Global, out: &mut TokenStream) -> Result<(), AllocError> {
+        put_puncts(mark_chars(N), &self.spans, out)
     }
 }
 

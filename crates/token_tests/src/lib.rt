@@ -2,6 +2,8 @@
 #![tactic(auto)]
 
 #[cfg(test)]
+mod container_tests;
+#[cfg(test)]
 mod cursor_tests;
 #[cfg(test)]
 mod look_tests;

@@ -558,7 +558,7 @@ pub(crate) fn numbers(
     let mut list: Punctuated<u8, Comma> = Punctuated::new(alloc);
     for i in 0..count {
         if list.empty_or_trailing() {
-            list.push_value(alloc, from.saturating_add(i))?;
+            list.push_value(from.saturating_add(i))?;
             if i.saturating_add(1) < count || trailing {
                 list.push_punct(Comma::default())?;
             }

@@ -20,7 +20,6 @@ use Rattle.token_core.specs.Front.{front}
 use Rattle.token_core.specs.Groups.{paren, paren_name}
 use Rattle.token_core.specs.Stream.{Scope, Stream}
 use Rattle.token_core.specs.Rebuilt.{Visible, IsVisible}
-use Rattle.token_core.specs.Marks as marks
 use Rattle.token_core.specs.Loops.{Many, size}
 use Rattle.token_core.specs.Listed.{AreListed, none_left, last_value, value_and_mark, Nowhere}
 use Rattle.token_core.specs.Spellings.{IsMark, is_mark, AreChars, last_char, more_chars, IsLit, a_literal, a_bool, a_negative}
@@ -53,6 +52,7 @@ use Rattle.synmid.specs.sample.Groups.{took_inside, first-none, reads_inside}
 use Rattle.synmid.specs.sample.Steady as st
 use Rattle.synmid.specs.sample.Joins.{mark_weaker, joined_sound, joined_visible, joined_seen, joined_weaker, joined_complete, joined_size, joined_whole, joined_again}
 use Rattle.synmid.specs.sample.Reads.{Any, path_steady, atoms_steady, any_count}
+use Rattle.token_core.specs.Tokens as token
 
 -- ---- the same tokens at the front
 
@@ -110,7 +110,7 @@ after_leading : (s m u : Stream) (o : Option Sep) (w : Many Ident Sep) → Visib
 unfolding leading
 after_leading s m u o w h e j =
     elim (branch (sees_sep s.rest) _ _ s (Ok (o, m)) e) [
-      | inl y ↦ let q = mapped (marks.read 1 2 s) (λ (z : Sep). Some z) o m y.1 in
+      | inl y ↦ let q = mapped (token.path_sep s) (λ (z : Sep). Some z) o m y.1 in
           let k = (mark_sound refl short2 s m q.value h q.was).spelt in
           subst (λ z. IsPath (path_of z w) s.rest u.rest) q.is (a_global_path k (j (mark_visible false q.value s.rest m.rest k h)))
       | inr y ↦ let g = same_pair None o s m y.1 in
@@ -223,11 +223,11 @@ first_char : (c : ℕ) (cs all : List ℕ) (ss : List Span) (l r : Toks) → Are
 first_char c cs all ss l r (last_char {a = b} {j = j} x) = (punct c j b, r, refl, refl)
 first_char c cs all ss l r (more_chars {a = b} {l = m} x) = (punct c Joint b, m, refl, refl)
 
-sep_first : (m : Sep) (l r : Toks) → IsMark false m l r → (p : Punct) × (k : Toks) × (l ≡ mark p k) × (p.ch ≡ 58)
-sep_first m l r (is_mark {ss = ss} i) = first_char 58 (58 ∷ []) (marks.chars_of 1) ss l r i
+sep_first : (m : Sep) (l r : Toks) → IsMark false m l r → (p : Punct) × (k : Toks) × (l ≡ mark p k) × (p.ch ≡ token.colon_char)
+sep_first m l r (is_mark {ss = ss} i) = first_char token.colon_char (token.colon_char ∷ []) token.path_sep_chars ss l r i
 
-plus_first : (m : Plus) (l r : Toks) → IsMark false m l r → (p : Punct) × (k : Toks) × (l ≡ mark p k) × (p.ch ≡ 43)
-plus_first m l r (is_mark {ss = ss} i) = first_char 43 [] (marks.chars_of 20) ss l r i
+plus_first : (m : Plus) (l r : Toks) → IsMark false m l r → (p : Punct) × (k : Toks) × (l ≡ mark p k) × (p.ch ≡ token.plus_char)
+plus_first m l r (is_mark {ss = ss} i) = first_char token.plus_char [] token.plus_chars ss l r i
 
 segments_first : (v : Many Ident Sep) (l r : Toks) → AreJoined 1 2 IsSegment v l r → (i : Ident) × (k : Toks) × (l ≡ word i k) × (is_mod_word i.text ≡ true)
 segments_first v l r h = from v.0 v.1 l r h
@@ -267,7 +267,7 @@ no_lit-word i r h = by_tests (bytes_eq i.text lits.true_text) (bytes_eq i.text l
     by_tests false true e g = cc
     by_tests false false e g = refl
 
-no_lit-mark : (p : Punct) (r : Toks) → p.ch ≡ 58 → sees_lit (mark p r) ≡ false
+no_lit-mark : (p : Punct) (r : Toks) → p.ch ≡ token.colon_char → sees_lit (mark p r) ≡ false
 unfolding sees_lit
 no_lit-mark p r h = ap (λ c. is_some (if c == 45 then lits.past_number p.span (lits.next_lit r) else None)) h
 
@@ -315,7 +315,7 @@ unfolding path leading
 path_complete x l r (a_path {v = w} i) h f e sc =
     let b = segments_first w l r i in
     let q = segments_complete w l r i h f e sc in
-    record { last = q.last; reads = link _ (chosen (sees_sep l) false _ _ (at l f e sc) _ (ap sees_sep b.2 ∙ no_mark-word 58 (58 ∷ []) b.0 b.1) refl) (link _ q.reads refl) }
+    record { last = q.last; reads = link _ (chosen (sees_sep l) false _ _ (at l f e sc) _ (ap sees_sep b.2 ∙ no_mark-word 58 (token.colon_char ∷ []) b.0 b.1) refl) (link _ q.reads refl) }
 path_complete x l r (a_global_path {m = m} {v = w} {k = k} i j) h f e sc =
     let c = mark_complete false refl short2 m l k f e sc i in
     let q = segments_complete w k r j h f c.last sc in
@@ -346,13 +346,13 @@ module _ (inner : Reader Atoms) (Inside : Atoms → Toks → Type 0) (content : 
       }
 
 plus_no_sep : (m : Plus) (l r : Toks) → IsMark false m l r → sees_sep l ≡ false
-plus_no_sep m l r i = let f = plus_first m l r i in ap sees_sep f.2 ∙ no_mark-other 58 (58 ∷ []) f.0 f.1 (ap (λ c. c == 58) f.3)
+plus_no_sep m l r i = let f = plus_first m l r i in ap sees_sep f.2 ∙ no_mark-other 58 (token.colon_char ∷ []) f.0 f.1 (ap (λ c. c == 58) f.3)
 
 atoms_complete : (n : ℕ) (w : Atoms) (l : Toks) → AreAtoms n w l done → (f : Option Span) (e : Span) (sc : Scope) → Reads_to (atoms_at n) w l done f e sc
 atoms_complete zero w l i f e sc = absurd i
 atoms_complete (suc n) w l i f e sc =
     let q = joined_complete 20 1 refl short1 (atom_by (group_by (atoms_at n))) (IsAtom (Content n)) (λ z. sees_sep z ≡ false) (λ y m k. atom_complete (atoms_at n) (Content n) (atoms_complete n) y m k) plus_no_sep (atom_size (Content n)) w l done i
-    (no_mark-done 58 (58 ∷ [])) (no_mark-done 43 []) f e sc in
+    (no_mark-done 58 (token.colon_char ∷ [])) (no_mark-done 43 []) f e sc in
     record { last = q.last; reads = q.reads }
 
 -- the same in more groups
@@ -665,7 +665,7 @@ number_alike x y (st.both_other q w) = refl
 lone_alike : (x y : Toks) → st.Fronts Shown Kept x y → lone_literal x ≡ lone_literal y
 lone_alike x y st.both_done = refl
 lone_alike x y (st.both_word {i = i} {k = k} {n = n} q) = ap (λ b. is_truth i.text && b) (st.done_steady Shown Kept fronts_at k n q)
-lone_alike x y (st.both_mark {p = m} {k = k} {n = n} q) = ap (λ b. if m.ch == 45 then b else false) (number_alike (front k) (front n) (fronts_at k n q))
+lone_alike x y (st.both_mark {p = m} {k = k} {n = n} q) = ap (λ b. if m.ch == token.minus_char then b else false) (number_alike (front k) (front n) (fronts_at k n q))
 lone_alike x y (st.both_lit {k = k} {n = n} q) = st.done_steady Shown Kept fronts_at k n q
 lone_alike x y (st.both_paren q w) = refl
 lone_alike x y (st.both_other q w) = refl
@@ -674,7 +674,7 @@ lone_alike x y (st.both_other q w) = refl
 abbrev NoPound : Toks → Type 0
 NoPound done = Unit {0}
 NoPound (word i k) = Unit {0}
-NoPound (mark m k) = (m.ch == 35) ≡ false
+NoPound (mark m k) = (m.ch == token.pound_char) ≡ false
 NoPound (lit x k) = Unit {0}
 NoPound (group b s c k) = Unit {0}
 NoPound (enter s k) = Unit {0}

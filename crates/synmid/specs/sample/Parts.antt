@@ -4,7 +4,6 @@ use Rattle.std.proofs.Common.{ap}
 use Rattle.token_core.specs.declared.span.DelimSpan.{DelimSpan}
 use Rattle.token_core.specs.declared.token.Paren.{Paren}
 use Rattle.token_core.specs.declared.lit.Lit.{Lit}
-use Rattle.token_core.specs.declared.mark.Mark.{Mark}
 use Rattle.token_core.specs.declared.tree.Ident.{Ident}
 use Rattle.token_core.specs.Toks.{Toks, done, word, mark, lit, group, enter, leave}
 use Rattle.token_core.specs.Groups.{paren}
@@ -14,13 +13,12 @@ use Rattle.synmid.specs.declared.sample.Atom.{Atom, out-Atom}
 use Rattle.synmid.specs.declared.sample.Atom.TheOpen as o
 use Rattle.synmid.specs.declared.sample.Atom.TheVariants as a
 use Rattle.synmid.specs.declared.sample.ModPath.{ModPath}
+pub use Rattle.token_core.specs.Tokens.{Plus}
+use Rattle.token_core.specs.Tokens as token
 
 -- `::` and `+`
 abbrev pub Sep : Type 0
-Sep = Mark 1 2
-
-abbrev pub Plus : Type 0
-Plus = Mark 20 1
+Sep = token.PathSep
 
 abbrev pub path_of : Option Sep → Many Ident Sep → ModPath
 path_of o v = record { leading_colon = o; segments = v }

@@ -16,8 +16,7 @@ use Rattle.synmid.specs.declared.sample.ModPath.{ModPath}
 use Rattle.synmid.specs.sample.Parts.{Sep, Plus, Atoms}
 
 abbrev pub colon : Option Sep → Print
-colon None = []
-colon (Some m) = p.mark m
+colon c = p.optional p.mark c
 
 abbrev pub segments : Many Ident Sep → Print
 segments v = joined p.ident p.mark v.0 v.1

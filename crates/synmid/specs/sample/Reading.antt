@@ -18,13 +18,14 @@ use Rattle.synmid.specs.declared.sample.Atom.{Atom}
 use Rattle.synmid.specs.declared.sample.Atom.TheVariants as a
 use Rattle.synmid.specs.declared.sample.ModPath.{ModPath}
 use Rattle.synmid.specs.sample.Parts.{Sep, Atoms, path_of, group_of, sum_of, lone, groups}
+use Rattle.token_core.specs.Tokens as token
 
 -- values joined by a mark, at least one; the first is as the others
 abbrev pub joined_by : {A : Type 0} → (n k : ℕ) → Reader A → Reader (Many A (Mark n k))
 joined_by n k value = joined (λ first. value) (sees_mark (marks.chars_of n)) (marks.read n k) false
 
 abbrev pub sees_sep : Toks → Bool
-sees_sep = sees_mark (marks.chars_of 1)
+sees_sep = token.sees_path_sep
 
 -- an identifier of a path
 unfoldable pub segment : Reader Ident
@@ -34,7 +35,7 @@ segment = do
 
 -- a `::` that may be there
 unfoldable pub leading : Reader (Option Sep)
-leading = optional sees_sep (marks.read 1 2)
+leading = optional sees_sep token.path_sep
 
 unfoldable pub path : Reader ModPath
 path = do

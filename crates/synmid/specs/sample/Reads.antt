@@ -14,11 +14,10 @@ use Rattle.token_core.specs.Toks.{Toks, done, word, mark, lit, group, enter, lea
 use Rattle.token_core.specs.Front.{front}
 use Rattle.token_core.specs.Groups.{paren_name}
 use Rattle.token_core.specs.Stream.{Stream}
-use Rattle.token_core.specs.Marks as marks
 use Rattle.token_core.specs.Loops.{Many, size, never, listed, listed_from}
 use Rattle.token_core.specs.Lits.{sees_lit, read_lit}
 use Rattle.token_core.specs.Lits as lits
-use Rattle.token_core.specs.Reads.{Outcome, Reader, and_then, ◌>>=◌, ◌<$>◌, pure, first_of, expected, sees_mark, sees_word, sees_group, in_group, any_text, ident_name}
+use Rattle.token_core.specs.Reads.{Outcome, Reader, and_then, ◌>>=◌, ◌<$>◌, pure, first_of, expected, sees_word, sees_group, in_group, any_text, ident_name}
 use Rattle.token_core.proofs.Took.{branch, mapped}
 use Rattle.token_core.proofs.Took as took
 use Rattle.token_core.proofs.Turns.{chain, same_pair, word_takes, size_suffix, after_value, after_mark}
@@ -33,6 +32,8 @@ use Rattle.synmid.specs.sample.Reading.{joined_by, sees_sep, segment, leading, p
 use Rattle.synmid.specs.sample.Groups.{inside_takes, inside_same}
 use Rattle.synmid.specs.sample.Steady as st
 use Rattle.synmid.specs.sample.Joins.{joint_keeps}
+pub use Rattle.token_core.specs.Tokens.{sees_plus}
+use Rattle.token_core.specs.Tokens as token
 
 -- ---- each read takes a token
 
@@ -48,7 +49,7 @@ leading_keeps : (s t : Stream) (o : Option Sep) → leading s ≡ Ok (o, t) → 
 unfolding leading
 leading_keeps s t o e =
     elim (branch (sees_sep s.rest) _ _ s (Ok (o, t)) e) [
-      | inl y ↦ let m = mapped (marks.read 1 2 s) (λ (q : Sep). Some q) o t y.1 in joint_keeps 1 2 s t m.value m.was
+      | inl y ↦ let m = mapped (token.path_sep s) (λ (q : Sep). Some q) o t y.1 in joint_keeps 1 2 s t m.value m.was
       | inr y ↦ let g = same_pair None o s t y.1 in subst (λ (z : Stream). size z.rest ≤ size s.rest) g.1 (omega arith)
     ]
 
@@ -58,7 +59,7 @@ path_takes s t x e =
     let c = chain (leading s) _ x t e in
     let le = leading_keeps s c.rest c.value c.was in
     let d = chain (joined_by 1 2 segment c.rest) _ x t c.goes in
-    let less = took.joined_takes (λ b. segment) sees_sep (marks.read 1 2) (λ b. segment-takes) (joint_keeps 1 2) false c.rest d.rest d.value d.was in
+    let less = took.joined_takes (λ b. segment) sees_sep token.path_sep (λ b. segment-takes) (joint_keeps 1 2) false c.rest d.rest d.value d.was in
     let g = same_pair (path_of c.value d.value) x d.rest t d.goes in
     subst (λ (z : Stream). size z.rest < size s.rest) g.1 (omega (arith, le, less))
 
@@ -84,7 +85,7 @@ minus_less false a k q e = cc
 past_less : (l : Toks) (q : Lit × Toks) → lits.past_lit l ≡ Some q → size q.1 < size l
 past_less done q e = cc
 past_less (word i k) q e = let h = bool_less (bytes_eq i.text lits.true_text) (bytes_eq i.text lits.false_text) (v.Bool (lits.lit_bool true i.span)) (v.Bool (lits.lit_bool false i.span)) k q e in omega (arith, h)
-past_less (mark p k) q e = let h = minus_less (p.ch == 45) p.span k q e in omega (arith, h)
+past_less (mark p k) q e = let h = minus_less (p.ch == token.minus_char) p.span k q e in omega (arith, h)
 past_less (lit x k) q e = let f : ◌≡◌ {A = Lit × Toks} (v.Literal x, k) q = cc in subst (λ (z : Lit × Toks). size z.1 < suc (size k)) f (omega arith)
 past_less (group d s c k) q e = cc
 past_less (enter s k) q e = let h = past_less k q e in omega (arith, h)
@@ -115,9 +116,6 @@ atom-takes s t x e = takes_by atoms s t x e
 
 -- ---- each read goes alike on alike streams
 
-abbrev pub sees_plus : Toks → Bool
-sees_plus = sees_mark (marks.chars_of 20)
-
 module _ (K : Toks → Toks → Type 0) (M : Option Span → Option Span → Type 0) (fronts : (l m : Toks) → K l m → st.Fronts K M (front l) (front m)) where
   segment_steady : st.Steady K M segment
   unfolding segment
@@ -125,13 +123,13 @@ module _ (K : Toks → Toks → Type 0) (M : Option Span → Option Span → Typ
 
   leading_steady : st.Steady K M leading
   unfolding leading
-  leading_steady = st.choose K M sees_sep _ _ (st.sees_mark_steady K M fronts (marks.chars_of 1)) (st.bind K M (marks.read 1 2) _ (st.mark_steady K M fronts 1 2) (λ x. st.stays K M (Some x))) (st.stays K M None)
+  leading_steady = st.choose K M sees_sep _ _ (st.sees_mark_steady K M fronts token.path_sep_chars) (st.bind K M token.path_sep _ (st.mark_steady K M fronts 1 2) (λ x. st.stays K M (Some x))) (st.stays K M None)
 
   pub path_steady : st.Steady K M path
   unfolding path
   path_steady =
       st.bind K M leading _ leading_steady (λ o. st.bind K M (joined_by 1 2 segment) _
-      (st.joined_steady K M (λ b. segment) sees_sep (marks.read 1 2) (λ b. segment_steady) (st.sees_mark_steady K M fronts (marks.chars_of 1)) (st.mark_steady K M fronts 1 2) (λ b. segment-takes) (joint_keeps 1 2) false)
+      (st.joined_steady K M (λ b. segment) sees_sep token.path_sep (λ b. segment_steady) (st.sees_mark_steady K M fronts token.path_sep_chars) (st.mark_steady K M fronts 1 2) (λ b. segment-takes) (joint_keeps 1 2) false)
       (λ w. st.stays K M (path_of o w)))
 
   module _ (both : (f : Option Span) → M f f) (joins : (f g h i : Option Span) → M f g → M h i → M (first_of f h) (first_of g i)) where
@@ -146,8 +144,8 @@ module _ (K : Toks → Toks → Type 0) (M : Option Span → Option Span → Typ
     pub steady_at : (n : ℕ) → st.Steady K M (atoms_at n)
     steady_at zero = λ s t k. tt
     steady_at (suc n) =
-        st.joined_steady K M (λ b. atom_by (group_by (atoms_at n))) sees_plus (marks.read 20 1) (λ b. steady_by (atoms_at n) (steady_at n))
-        (st.sees_mark_steady K M fronts (marks.chars_of 20)) (st.mark_steady K M fronts 20 1) (λ b. takes_by (atoms_at n)) (joint_keeps 20 1) false
+        st.joined_steady K M (λ b. atom_by (group_by (atoms_at n))) sees_plus token.plus (λ b. steady_by (atoms_at n) (steady_at n))
+        (st.sees_mark_steady K M fronts token.plus_chars) (st.mark_steady K M fronts 20 1) (λ b. takes_by (atoms_at n)) (joint_keeps 20 1) false
 
     pub atoms_steady : ((l m : Toks) → K l m → groups l ≡ groups m) → st.Steady K M atoms
     unfolding atoms
@@ -190,8 +188,8 @@ module _ (n : ℕ) where
   atom_within : (m : ℕ) (s t : Stream) (x : Atom) → groups s.rest ≤ n → atom_by (group_by (atoms_at m)) s ≡ Ok (x, t) → groups t.rest ≤ n
   atom_within m = stays_within (atom_by (group_by (atoms_at m))) (steady_by (Within n) Any within_fronts (λ f. tt) (λ f g h i y z. tt) (atoms_at m) (steady_at (Within n) Any within_fronts (λ f. tt) (λ f g h i y z. tt) m))
 
-  plus_within : (s t : Stream) (x : Plus) → groups s.rest ≤ n → marks.read 20 1 s ≡ Ok (x, t) → groups t.rest ≤ n
-  plus_within = stays_within (marks.read 20 1) (st.mark_steady (Within n) Any within_fronts 20 1)
+  plus_within : (s t : Stream) (x : Plus) → groups s.rest ≤ n → token.plus s ≡ Ok (x, t) → groups t.rest ≤ n
+  plus_within = stays_within token.plus (st.mark_steady (Within n) Any within_fronts 20 1)
 
 -- ---- values joined by marks: two reads of a value that answer the same where D holds, which is kept
 
@@ -248,7 +246,7 @@ pub any_count : (n m : ℕ) (s : Stream) → groups s.rest < n → groups s.rest
 any_count zero m s h k = absurd (omega (arith, h))
 any_count (suc n) zero s h k = absurd (omega (arith, k))
 any_count (suc n) (suc m) s h k =
-    same_joined (λ l. groups l ≤ groups s.rest) (atom_by (group_by (atoms_at n))) (atom_by (group_by (atoms_at m))) sees_plus (marks.read 20 1)
+    same_joined (λ l. groups l ≤ groups s.rest) (atom_by (group_by (atoms_at n))) (atom_by (group_by (atoms_at m))) sees_plus token.plus
     (λ t i. same_atom (group_by (atoms_at n)) (group_by (atoms_at m)) t (same_group (atoms_at n) (atoms_at m) t (λ u less. any_count n m u (omega (arith, h, i, less)) (omega (arith, k, i, less)))))
     (atom_within (groups s.rest) n) (plus_within (groups s.rest)) s (omega arith)
 
@@ -256,6 +254,6 @@ any_count (suc n) (suc m) s h k =
 pub atoms-joined : (s : Stream) → atoms s ≡ joined_by 20 1 atom s
 unfolding atoms grouped atom
 atoms-joined s =
-    same_joined (λ l. groups l ≤ groups s.rest) (atom_by (group_by (atoms_at (groups s.rest)))) (atom_by (group_by atoms)) sees_plus (marks.read 20 1)
+    same_joined (λ l. groups l ≤ groups s.rest) (atom_by (group_by (atoms_at (groups s.rest)))) (atom_by (group_by atoms)) sees_plus token.plus
     (λ t i. same_atom (group_by (atoms_at (groups s.rest))) (group_by atoms) t (same_group (atoms_at (groups s.rest)) atoms t (λ u less. any_count (groups s.rest) (suc (groups u.rest)) u (omega (arith, i, less)) (omega arith))))
     (atom_within (groups s.rest) (groups s.rest)) (plus_within (groups s.rest)) s (omega arith)

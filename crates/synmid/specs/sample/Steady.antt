@@ -21,6 +21,7 @@ use Rattle.token_core.specs.Reads.{Outcome, Reader, and_then, ◌>>=◌, pure, p
 use Rattle.token_core.specs.Lits.{sees_lit, read_lit, past_lit, lit_at, past_number, next_lit, lit_bool, negative, is_number, true_text, false_text}
 use Rattle.token_core.specs.Loops.{size, never, listed, listed_from}
 use Rattle.token_core.proofs.Turns.{enough, after_value, after_mark}
+use Rattle.token_core.specs.Tokens as token
 
 module _ (K : Toks → Toks → Type 0) (M : Option Span → Option Span → Type 0) where
   -- the same token stands at the front of both, or a group in parentheses or in others of each
@@ -203,7 +204,7 @@ module _ (K : Toks → Toks → Type 0) (M : Option Span → Option Span → Typ
     literal_at : (x y : Toks) → Fronts x y → OnRest (lit_at x) (lit_at y)
     literal_at x y both_done = tt
     literal_at x y (both_word {i = i} {k = k} {n = n} q) = bool_at (bytes_eq i.text true_text) (bytes_eq i.text false_text) (v.Bool (lit_bool true i.span)) (v.Bool (lit_bool false i.span)) k n q
-    literal_at x y (both_mark {p = p} {k = k} {n = n} q) = minus_at (p.ch == 45) (past_number p.span (next_lit k)) (past_number p.span (next_lit n)) (number_at p.span (front k) (front n) (fronts k n q))
+    literal_at x y (both_mark {p = p} {k = k} {n = n} q) = minus_at (p.ch == token.minus_char) (past_number p.span (next_lit k)) (past_number p.span (next_lit n)) (number_at p.span (front k) (front n) (fronts k n q))
     literal_at x y (both_lit q) = (refl, q)
     literal_at x y (both_paren q w) = tt
     literal_at x y (both_other q w) = tt

@@ -1,0 +1,43 @@
+use Rattle.std.proofs.Common.{◌≡◌, ◌++◌, ◌∷◌, [], true, false, Err, sym, ap, ◌∙◌, rules, arith}
+use Rattle.std.proofs.lemmas.Grind.{common_steps}
+use Rattle.token_core.proofs.Suffixes.{follows, follows_self}
+use Rattle.syn_attr.specs.attr.Reading.{sees_inner, one_inner, inner}
+use Rattle.syn_path.proofs.path_laws.Turns.{stuck_by}
+use Rattle.syn_attr.proofs.attr_laws.Many.{before, before_nothing, turn_none, turn_refused, turn_on}
+use Rattle.syn_attr.proofs.attr_laws.Takes.{inner_takes}
+use Rattle.syn_attr.proofs.attr.read.parse_inners.Goals as goal
+
+pub turn-init : goal.turn-init
+turn-init g c =
+    let v : c.new-attrs.result ≡ [] = first_of (search rules, grind (arith, common_steps)) in
+    record {
+      told = before_nothing (inner g.X.Subtree.reads c.args.input.now) ∙ ap (λ z. before z (inner g.X.Subtree.reads c.args.input.now)) (sym v);
+      within = follows_self c.args.input.now;
+    }
+
+pub returns-clause-reads : goal.returns-clause-reads
+returns-clause-reads g c =
+    let here : sees_inner c.turn.input.rest ≡ false = first_of (search rules, grind (arith, common_steps)) in
+    c.turn.invariant.told ∙ turn_none sees_inner (one_inner g.X.Subtree.reads) c.turn.attrs c.turn.input here
+
+pub returns-in_err-single_parse_inner-clause-reads : goal.returns-in_err-single_parse_inner-clause-reads
+returns-in_err-single_parse_inner-clause-reads g c =
+    let here : sees_inner c.turn.input.rest ≡ true = first_of (search rules, grind (arith, common_steps)) in
+    let e = c.in_err-single_parse_inner.field-0.0 in
+    let back : c.from_residual.result ≡ Err e = first_of (search rules, grind (arith, common_steps)) in
+    stuck_by (one_inner g.X.Subtree.reads c.turn.input) _ _ _ e back c.in_err-single_parse_inner.ensures.reads
+    (λ h. c.turn.invariant.told ∙ turn_refused sees_inner (one_inner g.X.Subtree.reads) c.turn.attrs c.turn.input e here h)
+
+pub turn-smaller : goal.turn-smaller
+turn-smaller g c = inner_takes g.X.Subtree.reads c.turn.input c.single_parse_inner.new.input c.in_ok-single_parse_inner.field-0 c.in_ok-single_parse_inner.ensures.reads
+
+pub turn-preserved : goal.turn-preserved
+turn-preserved g c =
+    let here : sees_inner c.turn.input.rest ≡ true = first_of (search rules, grind (arith, common_steps)) in
+    let v : c.push.new.self ≡ c.turn.attrs ++ c.in_ok-single_parse_inner.field-0 ∷ [] = first_of (search rules, grind (arith, common_steps)) in
+    record {
+      told = c.turn.invariant.told
+          ∙ turn_on sees_inner (one_inner g.X.Subtree.reads) (inner_takes g.X.Subtree.reads) c.turn.attrs c.turn.input c.single_parse_inner.new.input c.in_ok-single_parse_inner.field-0 here c.in_ok-single_parse_inner.ensures.reads
+          ∙ ap (λ z. before z (inner g.X.Subtree.reads c.single_parse_inner.new.input)) (sym v);
+      within = grind (arith, follows);
+    }

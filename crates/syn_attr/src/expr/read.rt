@@ -1,0 +1,68 @@
+//! Values are read.
+
+ghost use Rattle.std.specs.Prelude.{◌≡◌};
+ghost use Rattle.token_core.specs.Reads.{Reads, Follows};
+ghost use Rattle.syn_attr.specs.attr.Reading as reading;
+
+use crate::expr::{Expr, ExprLit};
+use std::alloc::Global;
+use syn_path::supplied::{Place, Subtree};
+use token_core::token::{Bracket, Pound};
+use token_core::{Error, ErrorKind, Items, Lit, ParseStream};
+
+/// The value of an attribute: a literal that ends the stream, or what the supplied subtree reads.
+#[tactic(auto, using(token_core::proofs::Suffixes::follows), unfolding(crate::specs::attr::Reading::value))]
+pub(crate) fn parse_value<X: Subtree>(
+    alloc: Global,
+    input: &mut ParseStream<'_>,
+) -> Result<Expr<X>, Error>
+    ensures reads { Reads (reading.value X.reads input.old) result input.new }
+    ensures within { Follows input.old input.new }
+{
+    match parse_last_literal(alloc, input)? {
+        Some(lit) => Ok(Expr::Lit(ExprLit {
+            attrs: Items::new(alloc),
+            lit,
+        })),
+        None => parse_other(alloc, input),
+    }
+}
+
+/// The literal that ends the stream, if one does; else the stream stays where it is.
+#[tactic(auto, using(token_core::proofs::Suffixes::forks), unfolding(crate::specs::attr::Reading::last_literal))]
+fn parse_last_literal(alloc: Global, input: &mut ParseStream<'_>) -> Result<Option<Lit>, Error>
+    ensures reads { Reads (reading.last_literal input.old) result input.new }
+    ensures within { Follows input.old input.new }
+{
+    let mut ahead = input.fork();
+    match ahead.parse_option::<Lit>(alloc)? {
+        Some(lit) => {
+            if ahead.is_empty() {
+                input.advance_to(ahead);
+                Ok(Some(lit))
+            } else {
+                Ok(None)
+            }
+        }
+        None => Ok(None),
+    }
+}
+
+/// Whether an attribute is at the front: `#` and brackets.
+#[tactic(auto, unfolding(crate::specs::attr::Reading::sees_attribute))]
+fn peek_attribute(input: &ParseStream<'_>) -> bool
+    ensures { result ≡ reading.sees_attribute input.now.rest }
+{
+    input.peek::<Pound>() & input.peek2::<Bracket>()
+}
+
+#[tactic(auto, using(token_core::proofs::Suffixes::follows), unfolding(crate::specs::attr::Reading::other))]
+fn parse_other<X: Subtree>(alloc: Global, input: &mut ParseStream<'_>) -> Result<Expr<X>, Error>
+    ensures reads { Reads (reading.other X.reads input.old) result input.new }
+    ensures within { Follows input.old input.new }
+{
+    if peek_attribute(input) {
+        return Err(input.refuse(alloc, ErrorKind::AttributeInAttribute));
+    }
+    Ok(Expr::Other(X::read(alloc, Place::Value, input)?))
+}

@@ -1,0 +1,4 @@
+pub mod groups_laws
+pub mod lists_laws
+pub mod nested_laws
+pub mod tokens_laws

@@ -1,0 +1,68 @@
+-- What parentheses and brackets hold, over the read of the tree that they hold.
+use Rattle.std.specs.Prelude.{Bool, true, false, if◌then◌else◌, [], ◌∷◌}
+use Rattle.token_core.specs.declared.span.DelimSpan.{DelimSpan}
+use Rattle.token_core.specs.declared.token.Bracket.{Bracket}
+use Rattle.token_core.specs.declared.token.Paren.{Paren}
+use Rattle.token_core.specs.declared.tree.Delimiter.TheVariants as d
+use Rattle.token_core.specs.Groups as groups
+use Rattle.token_core.specs.Loops.{Many}
+use Rattle.token_core.specs.Reads.{Reader, ◌>>=◌, ◌<$>◌, pure, peek, is_done, in_group}
+use Rattle.syn_forms.specs.declared.groups.InBrackets.{InBrackets}
+use Rattle.syn_forms.specs.declared.groups.InBrackets.TheVariants.{Element, Counted}
+use Rattle.syn_forms.specs.declared.groups.InParens.{InParens}
+use Rattle.syn_forms.specs.declared.groups.InParens.TheVariants.{One, Elements}
+use Rattle.syn_forms.specs.lists.Reading.{more_elements}
+use Rattle.syn_forms.specs.tokens.Reading.{semi, sees_comma, sees_semi}
+use Rattle.token_core.specs.Tokens as token
+
+-- a group by its token, and what is read in it
+abbrev pub in_parens : {A : Type 0} → Reader A → Reader (Paren × A)
+in_parens p = (λ g. (groups.paren g.0, g.1)) <$> in_group d.Parenthesis groups.paren_name p
+
+abbrev pub in_brackets : {A : Type 0} → Reader A → Reader (Bracket × A)
+in_brackets p = (λ g. (groups.bracket g.0, g.1)) <$> in_group d.Bracket groups.bracket_name p
+
+-- `;` and the length of an array
+abbrev pub Length : Type 0 → Type 0
+Length E = token.Semi × E
+
+module _ {E : Type 0} (lens : Reader E) where
+  unfoldable pub length : Reader (Length E)
+  length = do
+    s ← semi
+    n ← lens
+    pure (s, n)
+
+module _ {A : Type 0} (value : Reader A) where
+  -- the elements of a tuple: none, or a comma follows the first
+  unfoldable pub tuple_content : Reader (Many A token.Comma)
+  tuple_content = do
+    over ← peek is_done
+    if over then pure ([], []) else (value >>= more_elements value)
+
+  -- a tree, or the elements of a tuple
+  unfoldable pub paren_content : Reader (InParens A)
+  paren_content = do
+    over ← peek is_done
+    if over then pure (Elements ([], [])) else (do
+      x ← value
+      goes ← peek sees_comma
+      if goes then Elements <$> more_elements value x else pure (One x))
+
+module _ {A E : Type 0} (lens : Reader E) (value : Reader A) where
+  -- a tree, and perhaps a length
+  unfoldable pub bracket_content : Reader (InBrackets A E)
+  bracket_content = do
+    x ← value
+    goes ← peek sees_semi
+    if goes then Counted x <$> length lens else pure (Element x)
+
+  -- a tree and a length
+  unfoldable pub array_content : Reader (A × Length E)
+  array_content = do
+    x ← value
+    n ← length lens
+    pure (x, n)
+
+  abbrev pub array : Reader (Bracket × A × Length E)
+  array = (λ g. (groups.bracket g.0, g.1.0, g.1.1)) <$> in_group d.Bracket groups.bracket_name array_content

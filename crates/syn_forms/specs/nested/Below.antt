@@ -1,0 +1,36 @@
+-- Reads that are asked only further on: where less of the buffer is left.
+use Rattle.std.specs.Prelude.{ℕ, ◌<◌, Bool, true, false, nat_lt, ◌++◌, length, Err, Result}
+use Rattle.std.specs.declared.alloc.Global.{Global}
+use denote.Ref.{MutBor}
+use Rattle.token_core.specs.declared.error.ErrorKind.TheVariants.{Unexpected}
+use Rattle.token_core.specs.Positions.{items}
+use Rattle.token_core.specs.Refusal.{Refusal, fixed}
+use Rattle.token_core.specs.Stream.{Stream}
+use Rattle.token_core.specs.Reads.{Reader, Reads, Follows, refused}
+
+-- how much of the whole buffer is left
+abbrev pub ahead : Stream → ℕ
+ahead s = length (items s.rest ++ s.scope.after)
+
+abbrev pub below_if : {A : Type 0} → Bool → Reader A → Reader A
+below_if true p s = p s
+below_if false p s = Err (refused Unexpected (fixed Unexpected) s)
+
+-- a read that is asked only where less than the limit is left
+abbrev pub below : {A : Type 0} → ℕ → Reader A → Reader A
+below limit p s = below_if (nat_lt (ahead s) limit) p s
+
+-- the same of a read in a place: what a form holds there
+unfoldable pub held : {P A : Type 0} → (P → Reader A) → ℕ → P → Reader A
+held r limit place = below limit (r place)
+
+-- a form by itself: what it holds is read further on
+abbrev pub alone : {P A B : Type 0} → (Reader A → Reader B) → (P → Reader A) → P → Reader B
+alone form r place s = form (held r (ahead s) place) s
+
+-- a function value that reads in a place where less than the limit is left; its second argument tells what it reads
+pub record Nests {W P A : Type 0} (reader : P → Reader A) (limit : ℕ) (pre : Global → W → MutBor Stream → P → Type 0)
+    (post : Global → W → MutBor Stream → P → Result A Refusal → MutBor Stream → Type 0) : Type 0 where
+  pub callable : (alloc : Global) (of : W) (old : MutBor Stream) (place : P) → ahead old.now < limit → pre alloc of old place
+  pub reads : (alloc : Global) (of : W) (old new : MutBor Stream) (place : P) (r : Result A Refusal) → post alloc of old place r new → Reads (reader place old.now) r new.now
+  pub within : (alloc : Global) (of : W) (old new : MutBor Stream) (place : P) (r : Result A Refusal) → post alloc of old place r new → Follows old.now new.now

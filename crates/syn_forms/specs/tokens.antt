@@ -1,0 +1,4 @@
+pub mod Grammars
+pub mod Printing
+pub mod Reading
+pub mod Spelling

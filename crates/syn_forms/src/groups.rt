@@ -1,0 +1,194 @@
+//! Groups: what parentheses and brackets hold.
+
+ghost use Rattle.std.specs.Prelude.{◌<◌, ◌≤◌, length};
+ghost use Rattle.token_core.specs.Reads.{Reads, Follows};
+ghost use Rattle.syn_forms.specs.groups.Reading as reading;
+ghost use Rattle.syn_forms.specs.nested.Below as below;
+ghost use Rattle.syn_forms.specs.nested.Below.{Nests, ahead};
+
+use crate::nested::{Nested, Tree};
+use crate::tokens::{open_brackets, open_parens};
+use std::alloc::Global;
+use std::marker::PhantomData;
+use syn_path::supplied::Value;
+use token_core::token::{Bracket, Comma, Paren, Semi};
+use token_core::{Boxed, Error, ParseStream, Punctuated};
+
+/// What parentheses hold.
+#[derive(Drop)]
+pub enum InParens<T> {
+    /// A tree alone.
+    One(Boxed<T>),
+    /// The elements of a tuple.
+    Elements(Punctuated<T, Comma>),
+}
+
+/// What brackets hold.
+#[derive(Drop)]
+pub enum InBrackets<T, E> {
+    /// The element of a slice.
+    Element(Boxed<T>),
+    /// The element of an array, and its length.
+    Counted(Boxed<T>, (Semi, E)),
+}
+
+/// `;` and the length of an array.
+#[tactic(auto, using(token_core::proofs::Suffixes::follows), unfolding(crate::specs::groups::Reading::length))]
+fn parse_length<E: Value>(alloc: Global, input: &mut ParseStream<'_>) -> Result<(Semi, E), Error>
+    ensures reads { Reads (reading.length E.reads input.old) result input.new }
+    ensures within { Follows input.old input.new }
+{
+    let semi_token = input.parse::<Semi>(alloc)?;
+    let len = E::read_len(alloc, input)?;
+    Ok((semi_token, len))
+}
+
+impl<
+    'a,
+    P: Copy,
+    T: Tree<P>,
+    F: Fn(Global, PhantomData<T>, &mut ParseStream<'_>, P) -> Result<T, Error>,
+> Nested<'a, P, T, F> {
+    /// A tree in brackets.
+    #[tactic(auto, using(token_core::proofs::Suffixes::follows))]
+    pub fn slice(&self, input: &mut ParseStream<'_>, place: P) -> Result<(Bracket, Boxed<T>), Error>
+        requires nests { Nests T.read (length self.now.begin) (F.pre self.now.read) (F.post self.now.read) }
+        requires few { ahead input.old ≤ length self.now.begin }
+        ensures reads { Reads (reading.in_brackets (below.held T.read (length self.now.begin) place) input.old) result input.new }
+        ensures within { Follows input.old input.new }
+    {
+        let (bracket_token, mut content) = open_brackets(self.alloc, input)?;
+        let elem = self.boxed(&mut content, place)?;
+        input.finish(content);
+        Ok((bracket_token, elem))
+    }
+
+    /// A tree, `;` and a length, in brackets.
+    #[tactic(auto, using(token_core::proofs::Suffixes::follows), unfolding(crate::specs::groups::Reading::array_content))]
+    pub fn array<E: Value>(
+        &self,
+        input: &mut ParseStream<'_>,
+        place: P,
+    ) -> Result<(Bracket, Boxed<T>, (Semi, E)), Error>
+        requires nests { Nests T.read (length self.now.begin) (F.pre self.now.read) (F.post self.now.read) }
+        requires few { ahead input.old ≤ length self.now.begin }
+        ensures reads { Reads (reading.array E.reads (below.held T.read (length self.now.begin) place) input.old) result input.new }
+        ensures within { Follows input.old input.new }
+    {
+        let (bracket_token, mut content) = open_brackets(self.alloc, input)?;
+        let elem = self.boxed(&mut content, place)?;
+        let length = parse_length(self.alloc, &mut content)?;
+        input.finish(content);
+        Ok((bracket_token, elem, length))
+    }
+
+    /// A tree in brackets, that a length may follow.
+    #[tactic(auto, using(token_core::proofs::Suffixes::follows), unfolding(crate::specs::groups::Reading::bracket_content))]
+    pub fn slice_or_array<E: Value>(
+        &self,
+        input: &mut ParseStream<'_>,
+        place: P,
+    ) -> Result<(Bracket, InBrackets<T, E>), Error>
+        requires nests { Nests T.read (length self.now.begin) (F.pre self.now.read) (F.post self.now.read) }
+        requires few { ahead input.old ≤ length self.now.begin }
+        ensures reads { Reads (reading.in_brackets (reading.bracket_content E.reads (below.held T.read (length self.now.begin) place)) input.old) result input.new }
+        ensures within { Follows input.old input.new }
+    {
+        let (bracket_token, mut content) = open_brackets(self.alloc, input)?;
+        let elem = self.boxed(&mut content, place)?;
+        if content.peek::<Semi>() {
+            let length = parse_length(self.alloc, &mut content)?;
+            input.finish(content);
+            return Ok((bracket_token, InBrackets::Counted(elem, length)));
+        }
+        input.finish(content);
+        Ok((bracket_token, InBrackets::Element(elem)))
+    }
+
+    /// A tree in parentheses.
+    #[tactic(auto, using(token_core::proofs::Suffixes::follows))]
+    pub fn paren(&self, input: &mut ParseStream<'_>, place: P) -> Result<(Paren, Boxed<T>), Error>
+        requires nests { Nests T.read (length self.now.begin) (F.pre self.now.read) (F.post self.now.read) }
+        requires few { ahead input.old ≤ length self.now.begin }
+        ensures reads { Reads (reading.in_parens (below.held T.read (length self.now.begin) place) input.old) result input.new }
+        ensures within { Follows input.old input.new }
+    {
+        let (paren_token, mut content) = open_parens(self.alloc, input)?;
+        let tree = self.boxed(&mut content, place)?;
+        input.finish(content);
+        Ok((paren_token, tree))
+    }
+
+    /// The elements of a tuple: none, or a comma follows the first.
+    #[tactic(auto, using(token_core::proofs::Suffixes::follows), unfolding(crate::specs::groups::Reading::tuple_content))]
+    fn tuple_content(
+        &self,
+        input: &mut ParseStream<'_>,
+        place: P,
+    ) -> Result<Punctuated<T, Comma>, Error>
+        requires nests { Nests T.read (length self.now.begin) (F.pre self.now.read) (F.post self.now.read) }
+        requires few { ahead input.old < length self.now.begin }
+        ensures reads { Reads (reading.tuple_content (below.held T.read (length self.now.begin) place) input.old) result input.new }
+        ensures within { Follows input.old input.new }
+    {
+        if input.is_empty() {
+            return Ok(Punctuated::new(self.alloc));
+        }
+        let first = self.value(input, place)?;
+        self.more_elements(input, place, first)
+    }
+
+    /// The elements of a tuple in parentheses.
+    #[tactic(auto, using(token_core::proofs::Suffixes::follows))]
+    pub fn tuple(
+        &self,
+        input: &mut ParseStream<'_>,
+        place: P,
+    ) -> Result<(Paren, Punctuated<T, Comma>), Error>
+        requires nests { Nests T.read (length self.now.begin) (F.pre self.now.read) (F.post self.now.read) }
+        requires few { ahead input.old ≤ length self.now.begin }
+        ensures reads { Reads (reading.in_parens (reading.tuple_content (below.held T.read (length self.now.begin) place)) input.old) result input.new }
+        ensures within { Follows input.old input.new }
+    {
+        let (paren_token, mut content) = open_parens(self.alloc, input)?;
+        let elems = self.tuple_content(&mut content, place)?;
+        input.finish(content);
+        Ok((paren_token, elems))
+    }
+
+    /// What parentheses hold: a tree, or the elements of a tuple.
+    #[tactic(auto, using(token_core::proofs::Suffixes::follows), unfolding(crate::specs::groups::Reading::paren_content))]
+    fn paren_content(&self, input: &mut ParseStream<'_>, place: P) -> Result<InParens<T>, Error>
+        requires nests { Nests T.read (length self.now.begin) (F.pre self.now.read) (F.post self.now.read) }
+        requires few { ahead input.old < length self.now.begin }
+        ensures reads { Reads (reading.paren_content (below.held T.read (length self.now.begin) place) input.old) result input.new }
+        ensures within { Follows input.old input.new }
+    {
+        if input.is_empty() {
+            return Ok(InParens::Elements(Punctuated::new(self.alloc)));
+        }
+        let value = self.value(input, place)?;
+        if input.peek::<Comma>() {
+            return Ok(InParens::Elements(self.more_elements(input, place, value)?));
+        }
+        Ok(InParens::One(Boxed::new(self.alloc, value)?))
+    }
+
+    /// A tree or the elements of a tuple, in parentheses.
+    #[tactic(auto, using(token_core::proofs::Suffixes::follows))]
+    pub fn paren_or_tuple(
+        &self,
+        input: &mut ParseStream<'_>,
+        place: P,
+    ) -> Result<(Paren, InParens<T>), Error>
+        requires nests { Nests T.read (length self.now.begin) (F.pre self.now.read) (F.post self.now.read) }
+        requires few { ahead input.old ≤ length self.now.begin }
+        ensures reads { Reads (reading.in_parens (reading.paren_content (below.held T.read (length self.now.begin) place)) input.old) result input.new }
+        ensures within { Follows input.old input.new }
+    {
+        let (paren_token, mut content) = open_parens(self.alloc, input)?;
+        let held = self.paren_content(&mut content, place)?;
+        input.finish(content);
+        Ok((paren_token, held))
+    }
+}

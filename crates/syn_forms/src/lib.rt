@@ -1,0 +1,11 @@
+//! Readers over what they hold: lists, groups, heads and the forms made of them, for trees of any kind.
+//!
+//! None of them knows what it holds. The tree that it holds is read by a function value, further on than the form began.
+#![tactic(auto)]
+
+pub mod forms;
+pub mod groups;
+pub mod heads;
+pub mod lists;
+pub mod nested;
+pub mod tokens;

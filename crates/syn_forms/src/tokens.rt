@@ -1,0 +1,206 @@
+//! Tokens before what a form holds: each read says that something was taken, or that nothing was given back.
+
+ghost use Rattle.std.specs.Prelude.{◌<◌, ◌≤◌, IfOk};
+ghost use Rattle.token_core.specs.declared.tree.Delimiter.TheVariants as delimiter;
+ghost use Rattle.token_core.specs.Groups as groups;
+ghost use Rattle.token_core.specs.Headline.{Headline, Heads};
+ghost use Rattle.token_core.specs.Lifetimes.{read_optional_lifetime};
+ghost use Rattle.token_core.specs.Reads as spec;
+ghost use Rattle.token_core.specs.Reads.{Reads, Follows, Gives, Fails};
+ghost use Rattle.token_core.specs.Rebuilt.{Visible};
+ghost use Rattle.syn_forms.specs.nested.Below.{ahead};
+ghost use Rattle.syn_forms.specs.tokens.Grammars as grammars;
+ghost use Rattle.syn_forms.specs.tokens.Printing as printing;
+ghost use Rattle.syn_forms.specs.tokens.Reading as reading;
+ghost use Rattle.syn_forms.specs.tokens.Spelling.{IsMutability};
+
+use std::alloc::{AllocError, Global};
+use token_core::token::{
+    And, Bracket, Comma, Const, For, Gt, Lt, Mut, Paren, Plus, Question, Star,
+};
+use token_core::{Error, Lifetime, Parse, ParseStream, ToTokens, TokenStream};
+
+/// What may be done by way of a raw pointer.
+#[derive(Clone, Copy)]
+pub enum PointerMutability {
+    Const(Const),
+    Mut(Mut),
+}
+
+/// Reads `const` or `mut`.
+impl Parse for PointerMutability {
+    ghost reads = { Gives reading.mutability };
+
+    ghost refuses = { Fails reading.mutability };
+
+    ghost promise = { Headline grammars.mutability };
+
+    fn parse(alloc: Global, input: &mut ParseStream<'_>) -> Result<PointerMutability, Error>
+        ensures reads { Reads (reading.mutability input.old) result input.new }
+        ensures within { Follows input.old input.new }
+        ensures front { Visible input.old.rest → IfOk result (λ x. IsMutability x input.old.rest input.new.rest) }
+        ensures promise { Heads grammars.mutability input.old result input.new }
+    {
+        parse_mutability(alloc, input)
+    }
+}
+
+impl ToTokens for PointerMutability {
+    ghost print = { printing.pointer };
+
+    fn append_tokens(&self, alloc: Global, out: &mut TokenStream) -> Result<(), AllocError> {
+        match self {
+            PointerMutability::Const(token) => token.append_tokens(alloc, out),
+            PointerMutability::Mut(token) => token.append_tokens(alloc, out),
+        }
+    }
+}
+
+// ---- a token is taken
+
+/// Opens parentheses: the stream that it answers is of what they hold.
+#[tactic(auto, using(crate::proofs::nested_laws::Ahead::inside_groups))]
+pub fn open_parens<'a>(
+    alloc: Global,
+    input: &mut ParseStream<'a>,
+) -> Result<(Paren, ParseStream<'a>), Error>
+    ensures reads { Reads (groups.opened groups.paren (spec.open_group delimiter.Parenthesis groups.paren_name input.old)) result input.new }
+    ensures within { Follows input.old input.new }
+    ensures inside { IfOk result (λ p. ahead p.1 < ahead input.old) }
+{
+    input.parenthesized(alloc)
+}
+
+/// Opens brackets: the stream that it answers is of what they hold.
+#[tactic(auto, using(crate::proofs::nested_laws::Ahead::inside_groups))]
+pub fn open_brackets<'a>(
+    alloc: Global,
+    input: &mut ParseStream<'a>,
+) -> Result<(Bracket, ParseStream<'a>), Error>
+    ensures reads { Reads (groups.opened groups.bracket (spec.open_group delimiter.Bracket groups.bracket_name input.old)) result input.new }
+    ensures within { Follows input.old input.new }
+    ensures inside { IfOk result (λ p. ahead p.1 < ahead input.old) }
+{
+    input.bracketed(alloc)
+}
+
+/// `,`
+#[tactic(auto, using(crate::proofs::nested_laws::Ahead::past_tokens))]
+pub fn parse_comma(alloc: Global, input: &mut ParseStream<'_>) -> Result<Comma, Error>
+    ensures reads { Reads (reading.comma input.old) result input.new }
+    ensures within { Follows input.old input.new }
+    ensures taken { IfOk result (λ _. ahead input.new < ahead input.old) }
+{
+    input.parse::<Comma>(alloc)
+}
+
+/// `+`
+#[tactic(auto, using(crate::proofs::nested_laws::Ahead::past_tokens))]
+pub fn parse_plus(alloc: Global, input: &mut ParseStream<'_>) -> Result<Plus, Error>
+    ensures reads { Reads (reading.plus input.old) result input.new }
+    ensures within { Follows input.old input.new }
+    ensures taken { IfOk result (λ _. ahead input.new < ahead input.old) }
+{
+    input.parse::<Plus>(alloc)
+}
+
+/// `*`
+#[tactic(auto, using(crate::proofs::nested_laws::Ahead::past_tokens))]
+pub fn parse_star(alloc: Global, input: &mut ParseStream<'_>) -> Result<Star, Error>
+    ensures reads { Reads (reading.star input.old) result input.new }
+    ensures within { Follows input.old input.new }
+    ensures taken { IfOk result (λ _. ahead input.new < ahead input.old) }
+{
+    input.parse::<Star>(alloc)
+}
+
+/// `&`
+#[tactic(auto, using(crate::proofs::nested_laws::Ahead::past_tokens))]
+pub fn parse_and(alloc: Global, input: &mut ParseStream<'_>) -> Result<And, Error>
+    ensures reads { Reads (reading.and input.old) result input.new }
+    ensures within { Follows input.old input.new }
+    ensures taken { IfOk result (λ _. ahead input.new < ahead input.old) }
+{
+    input.parse::<And>(alloc)
+}
+
+/// `<`
+#[tactic(auto, using(crate::proofs::nested_laws::Ahead::past_tokens))]
+pub fn parse_lt(alloc: Global, input: &mut ParseStream<'_>) -> Result<Lt, Error>
+    ensures reads { Reads (reading.lt input.old) result input.new }
+    ensures within { Follows input.old input.new }
+    ensures taken { IfOk result (λ _. ahead input.new < ahead input.old) }
+{
+    input.parse::<Lt>(alloc)
+}
+
+/// `>`
+#[tactic(auto, using(crate::proofs::nested_laws::Ahead::past_tokens))]
+pub fn parse_gt(alloc: Global, input: &mut ParseStream<'_>) -> Result<Gt, Error>
+    ensures reads { Reads (reading.gt input.old) result input.new }
+    ensures within { Follows input.old input.new }
+    ensures taken { IfOk result (λ _. ahead input.new < ahead input.old) }
+{
+    input.parse::<Gt>(alloc)
+}
+
+/// `for`
+#[tactic(auto, using(crate::proofs::nested_laws::Ahead::past_tokens))]
+pub fn parse_for(alloc: Global, input: &mut ParseStream<'_>) -> Result<For, Error>
+    ensures reads { Reads (reading.for_word input.old) result input.new }
+    ensures within { Follows input.old input.new }
+    ensures taken { IfOk result (λ _. ahead input.new < ahead input.old) }
+{
+    input.parse::<For>(alloc)
+}
+
+// ---- nothing is given back
+
+/// `const` or `mut`.
+#[tactic(auto, using(token_core::proofs::Suffixes::follows, crate::proofs::nested_laws::Ahead::later), unfolding(crate::specs::tokens::Reading::mutability))]
+pub fn parse_mutability(
+    alloc: Global,
+    input: &mut ParseStream<'_>,
+) -> Result<PointerMutability, Error>
+    ensures reads { Reads (reading.mutability input.old) result input.new }
+    ensures within { Follows input.old input.new }
+    ensures fewer { ahead input.new ≤ ahead input.old }
+{
+    if input.peek::<Const>() {
+        return Ok(PointerMutability::Const(input.parse::<Const>(alloc)?));
+    }
+    if input.peek::<Mut>() {
+        return Ok(PointerMutability::Mut(input.parse::<Mut>(alloc)?));
+    }
+    Err(input.expected(alloc, "`const` or `mut`"))
+}
+
+/// A lifetime that may be there.
+#[tactic(auto, using(crate::proofs::nested_laws::Ahead::later))]
+pub fn parse_lifetime(alloc: Global, input: &mut ParseStream<'_>) -> Result<Option<Lifetime>, Error>
+    ensures reads { Reads (read_optional_lifetime input.old) result input.new }
+    ensures within { Follows input.old input.new }
+    ensures fewer { ahead input.new ≤ ahead input.old }
+{
+    Lifetime::parse_optional_any(alloc, input)
+}
+
+/// `mut` that may be there.
+#[tactic(auto, using(crate::proofs::nested_laws::Ahead::later))]
+pub fn parse_mut(alloc: Global, input: &mut ParseStream<'_>) -> Result<Option<Mut>, Error>
+    ensures reads { Reads (reading.mutable input.old) result input.new }
+    ensures within { Follows input.old input.new }
+    ensures fewer { ahead input.new ≤ ahead input.old }
+{
+    input.parse_option::<Mut>(alloc)
+}
+
+/// `?` that may be there.
+#[tactic(auto, using(crate::proofs::nested_laws::Ahead::later))]
+pub fn parse_question(alloc: Global, input: &mut ParseStream<'_>) -> Result<Option<Question>, Error>
+    ensures reads { Reads (reading.question input.old) result input.new }
+    ensures within { Follows input.old input.new }
+    ensures fewer { ahead input.new ≤ ahead input.old }
+{
+    input.parse_option::<Question>(alloc)
+}

@@ -1,0 +1,93 @@
+use denote.Param.Weighed.{most}
+use Rattle.std.proofs.Common.{◌≡◌, ◌+◌, ◌++◌, drop, option_map}
+use Rattle.token_core.specs.Joined.{values_of, marks_of}
+use Rattle.token_core.specs.Prints.{Extends}
+use Rattle.token_core.specs.Trees.{trees}
+use Rattle.syn_pat.specs.pat.Printing.{list, fields}
+use Rattle.syn_pat.proofs.pat_laws.Height.{height, sub_by, field_by}
+use Rattle.syn_pat.proofs.pat.print.+print.Given as goal
+
+abbrev pub invariant-print_slice_elements-loop-pair : goal.invariant-print_slice_elements-loop-pair
+invariant-print_slice_elements-loop-pair g l = record {
+  told : trees l.out ++ list g.X.Subtree.prints (values_of (drop l.pair-index l.pairs) (option_map (λ x. x.now) l.last), marks_of (drop l.pair-index l.pairs))
+      ≡ trees l.initial.out ++ list g.X.Subtree.prints (values_of l.pairs (option_map (λ x. x.now) l.last), marks_of l.pairs);
+  kept : Extends (trees l.initial.out) (trees l.out);
+}
+
+abbrev pub invariant-print_tuple_elements-loop-pair : goal.invariant-print_tuple_elements-loop-pair
+invariant-print_tuple_elements-loop-pair g l = record {
+  told : trees l.out ++ list g.X.Subtree.prints (values_of (drop l.pair-index l.pairs) (option_map (λ x. x.now) l.last), marks_of (drop l.pair-index l.pairs))
+      ≡ trees l.initial.out ++ list g.X.Subtree.prints (values_of l.pairs (option_map (λ x. x.now) l.last), marks_of l.pairs);
+  kept : Extends (trees l.initial.out) (trees l.out);
+}
+
+abbrev pub invariant-print_tuple_struct_elements-loop-pair : goal.invariant-print_tuple_struct_elements-loop-pair
+invariant-print_tuple_struct_elements-loop-pair g l = record {
+  told : trees l.out ++ list g.X.Subtree.prints (values_of (drop l.pair-index l.pairs) (option_map (λ x. x.now) l.last), marks_of (drop l.pair-index l.pairs))
+      ≡ trees l.initial.out ++ list g.X.Subtree.prints (values_of l.pairs (option_map (λ x. x.now) l.last), marks_of l.pairs);
+  kept : Extends (trees l.initial.out) (trees l.out);
+}
+
+abbrev pub invariant-print_cases-loop-pair : goal.invariant-print_cases-loop-pair
+invariant-print_cases-loop-pair g l = record {
+  told : trees l.out ++ list g.X.Subtree.prints (values_of (drop l.pair-index l.pairs) (option_map (λ x. x.now) l.last), marks_of (drop l.pair-index l.pairs))
+      ≡ trees l.initial.out ++ list g.X.Subtree.prints (values_of l.pairs (option_map (λ x. x.now) l.last), marks_of l.pairs);
+  kept : Extends (trees l.initial.out) (trees l.out);
+}
+
+abbrev pub invariant-print_fields-loop-pair : goal.invariant-print_fields-loop-pair
+invariant-print_fields-loop-pair g l = record {
+  told : trees l.out ++ fields g.X.Subtree.prints (values_of (drop l.pair-index l.pairs) (option_map (λ x. x.now) l.last), marks_of (drop l.pair-index l.pairs))
+      ≡ trees l.initial.out ++ fields g.X.Subtree.prints (values_of l.pairs (option_map (λ x. x.now) l.last), marks_of l.pairs);
+  kept : Extends (trees l.initial.out) (trees l.out);
+}
+
+-- three for each level: a pattern, a form of it, and the list within that form
+
+abbrev pub decreases-print_pat : goal.decreases-print_pat
+decreases-print_pat g l = let h = height l.pat.now in h + (h + h)
+
+abbrev pub decreases-print_guarded : goal.decreases-print_guarded
+decreases-print_guarded g l = let h = height l.pat.now.pat in h + (h + h) + 2
+
+abbrev pub decreases-print_paren : goal.decreases-print_paren
+decreases-print_paren g l = let h = height l.pat.now.pat in h + (h + h) + 2
+
+abbrev pub decreases-print_reference : goal.decreases-print_reference
+decreases-print_reference g l = let h = height l.pat.now.pat in h + (h + h) + 2
+
+abbrev pub decreases-print_typed : goal.decreases-print_typed
+decreases-print_typed g l = let h = height l.pat.now.pat in h + (h + h) + 2
+
+abbrev pub decreases-print_binding : goal.decreases-print_binding
+decreases-print_binding g l = let h = sub_by height l.pat.now.subpat in h + (h + h) + 2
+
+abbrev pub decreases-print_alternatives : goal.decreases-print_alternatives
+decreases-print_alternatives g l = let h = most height l.pat.now.cases.0 in h + (h + h) + 2
+
+abbrev pub decreases-print_cases : goal.decreases-print_cases
+decreases-print_cases g l = let h = most height l.pat.now.cases.0 in h + (h + h) + 1
+
+abbrev pub decreases-print_slice : goal.decreases-print_slice
+decreases-print_slice g l = let h = most height l.pat.now.elems.0 in h + (h + h) + 2
+
+abbrev pub decreases-print_slice_elements : goal.decreases-print_slice_elements
+decreases-print_slice_elements g l = let h = most height l.pat.now.elems.0 in h + (h + h) + 1
+
+abbrev pub decreases-print_struct : goal.decreases-print_struct
+decreases-print_struct g l = let h = most (field_by height) l.pat.now.fields.0 in h + (h + h) + 2
+
+abbrev pub decreases-print_fields : goal.decreases-print_fields
+decreases-print_fields g l = let h = most (field_by height) l.pat.now.fields.0 in h + (h + h) + 1
+
+abbrev pub decreases-print_tuple : goal.decreases-print_tuple
+decreases-print_tuple g l = let h = most height l.pat.now.elems.0 in h + (h + h) + 2
+
+abbrev pub decreases-print_tuple_elements : goal.decreases-print_tuple_elements
+decreases-print_tuple_elements g l = let h = most height l.pat.now.elems.0 in h + (h + h) + 1
+
+abbrev pub decreases-print_tuple_struct : goal.decreases-print_tuple_struct
+decreases-print_tuple_struct g l = let h = most height l.pat.now.elems.0 in h + (h + h) + 2
+
+abbrev pub decreases-print_tuple_struct_elements : goal.decreases-print_tuple_struct_elements
+decreases-print_tuple_struct_elements g l = let h = most height l.pat.now.elems.0 in h + (h + h) + 1

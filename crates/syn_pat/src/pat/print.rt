@@ -1,0 +1,686 @@
+//! Patterns are printed.
+
+ghost use Rattle.std.specs.Prelude.{◌≡◌, ◌++◌, OnOk, OnErr, option_map};
+ghost use Rattle.token_core.specs.Joined.{values_of, marks_of};
+ghost use Rattle.token_core.specs.Prints.{Extends};
+ghost use Rattle.token_core.specs.Trees.{trees};
+ghost use Rattle.syn_pat.specs.pat.Pats as spec;
+ghost use Rattle.syn_pat.specs.pat.Printing as printing;
+
+use crate::pat::{
+    FieldPat, FieldPatOf, Pat, PatGuard, PatIdent, PatIdentOf, PatOr, PatParen, PatPath, PatRange,
+    PatRangeBound, PatRangeBoundOf, PatReference, PatRest, PatSlice, PatStruct, PatStructOf,
+    PatTuple, PatTupleStruct, PatType, PatWild,
+};
+use std::alloc::{AllocError, Global};
+use syn_attr::attr::Attribute;
+use syn_attr::attr::print::print_outer;
+use syn_attr::expr::Expr;
+use syn_attr::expr::print::print_value;
+use syn_path::path::PathStyle;
+use syn_path::supplied::{Place, Subtree};
+use syn_ty::ty::print::{
+    print_last_comma, print_lone_comma, print_qpath, print_type, print_verbatim,
+};
+use token_core::token::{Comma, Or};
+use token_core::{Boxed, Pair, Punctuated, ToTokens, TokenStream};
+
+impl<X: Subtree> ToTokens for Pat<X> {
+    ghost print = { printing.pat X.prints };
+
+    fn append_tokens(&self, alloc: Global, out: &mut TokenStream) -> Result<(), AllocError> {
+        print_pat(alloc, self, out)
+    }
+}
+
+impl<X: Subtree> ToTokens for PatGuard<X> {
+    ghost print = { printing.guarded X.prints };
+
+    fn append_tokens(&self, alloc: Global, out: &mut TokenStream) -> Result<(), AllocError> {
+        print_guarded(alloc, self, out)
+    }
+}
+
+impl<X: Subtree> ToTokens for PatIdent<X> {
+    ghost print = { printing.binding X.prints };
+
+    fn append_tokens(&self, alloc: Global, out: &mut TokenStream) -> Result<(), AllocError> {
+        print_binding(alloc, self, out)
+    }
+}
+
+impl<X: Subtree> ToTokens for PatOr<X> {
+    ghost print = { printing.alternatives X.prints };
+
+    fn append_tokens(&self, alloc: Global, out: &mut TokenStream) -> Result<(), AllocError> {
+        print_alternatives(alloc, self, out)
+    }
+}
+
+impl<X: Subtree> ToTokens for PatParen<X> {
+    ghost print = { printing.paren X.prints };
+
+    fn append_tokens(&self, alloc: Global, out: &mut TokenStream) -> Result<(), AllocError> {
+        print_paren(alloc, self, out)
+    }
+}
+
+impl<X: Subtree> ToTokens for PatPath<X> {
+    ghost print = { printing.by_path X.prints };
+
+    fn append_tokens(&self, alloc: Global, out: &mut TokenStream) -> Result<(), AllocError> {
+        print_by_path(alloc, self, out)
+    }
+}
+
+impl<X: Subtree> ToTokens for PatRange<X> {
+    ghost print = { printing.range X.prints };
+
+    fn append_tokens(&self, alloc: Global, out: &mut TokenStream) -> Result<(), AllocError> {
+        print_range(alloc, self, out)
+    }
+}
+
+impl<X: Subtree> ToTokens for PatRangeBound<X> {
+    ghost print = { printing.range_bound X.prints };
+
+    fn append_tokens(&self, alloc: Global, out: &mut TokenStream) -> Result<(), AllocError> {
+        match self {
+            PatRangeBoundOf::Const(bound) => bound.append_tokens(alloc, out),
+            PatRangeBoundOf::Lit(bound) => bound.append_tokens(alloc, out),
+            PatRangeBoundOf::Path(bound) => bound.append_tokens(alloc, out),
+        }
+    }
+}
+
+impl<X: Subtree> ToTokens for PatReference<X> {
+    ghost print = { printing.reference X.prints };
+
+    fn append_tokens(&self, alloc: Global, out: &mut TokenStream) -> Result<(), AllocError> {
+        print_reference(alloc, self, out)
+    }
+}
+
+impl<X: Subtree> ToTokens for PatRest<X> {
+    ghost print = { printing.rest X.prints };
+
+    fn append_tokens(&self, alloc: Global, out: &mut TokenStream) -> Result<(), AllocError> {
+        print_rest(alloc, self, out)
+    }
+}
+
+impl<X: Subtree> ToTokens for PatSlice<X> {
+    ghost print = { printing.slice X.prints };
+
+    fn append_tokens(&self, alloc: Global, out: &mut TokenStream) -> Result<(), AllocError> {
+        print_slice(alloc, self, out)
+    }
+}
+
+impl<X: Subtree> ToTokens for PatStruct<X> {
+    ghost print = { printing.fielded X.prints };
+
+    fn append_tokens(&self, alloc: Global, out: &mut TokenStream) -> Result<(), AllocError> {
+        print_struct(alloc, self, out)
+    }
+}
+
+impl<X: Subtree> ToTokens for PatTuple<X> {
+    ghost print = { printing.tuple X.prints };
+
+    fn append_tokens(&self, alloc: Global, out: &mut TokenStream) -> Result<(), AllocError> {
+        print_tuple(alloc, self, out)
+    }
+}
+
+impl<X: Subtree> ToTokens for PatTupleStruct<X> {
+    ghost print = { printing.tuple_struct X.prints };
+
+    fn append_tokens(&self, alloc: Global, out: &mut TokenStream) -> Result<(), AllocError> {
+        print_tuple_struct(alloc, self, out)
+    }
+}
+
+impl<X: Subtree> ToTokens for PatType<X> {
+    ghost print = { printing.typed X.prints };
+
+    fn append_tokens(&self, alloc: Global, out: &mut TokenStream) -> Result<(), AllocError> {
+        print_typed(alloc, self, out)
+    }
+}
+
+impl<X: Subtree> ToTokens for PatWild<X> {
+    ghost print = { printing.wild X.prints };
+
+    fn append_tokens(&self, alloc: Global, out: &mut TokenStream) -> Result<(), AllocError> {
+        print_wild(alloc, self, out)
+    }
+}
+
+impl<X: Subtree> ToTokens for FieldPat<X> {
+    ghost print = { printing.field X.prints };
+
+    fn append_tokens(&self, alloc: Global, out: &mut TokenStream) -> Result<(), AllocError> {
+        print_field(alloc, self, out)
+    }
+}
+
+/// Appends a pattern; refused, what stood before is kept.
+#[cycle(print)]
+#[tactic(auto, using(token_core::proofs::Puts::puts, crate::proofs::pat_laws::Prints::prints))]
+pub fn print_pat<X: Subtree>(
+    alloc: Global,
+    pat: &Pat<X>,
+    out: &mut TokenStream,
+) -> Result<(), AllocError>
+    ensures ok { OnOk result (trees out.new ≡ trees out.old ++ printing.pat X.prints pat.now) }
+    ensures err { OnErr result (Extends (trees out.old) (trees out.new)) }
+{
+    match pat {
+        Pat::Const(pat) => pat.to_tokens(alloc, out),
+        Pat::Guard(pat) => print_guarded(alloc, pat, out),
+        Pat::Ident(pat) => print_binding(alloc, pat, out),
+        Pat::Lit(pat) => pat.to_tokens(alloc, out),
+        Pat::Macro(pat) => pat.to_tokens(alloc, out),
+        Pat::Or(pat) => print_alternatives(alloc, pat, out),
+        Pat::Paren(pat) => print_paren(alloc, pat, out),
+        Pat::Path(pat) => pat.to_tokens(alloc, out),
+        Pat::Range(pat) => pat.to_tokens(alloc, out),
+        Pat::Reference(pat) => print_reference(alloc, pat, out),
+        Pat::Rest(pat) => print_rest(alloc, pat, out),
+        Pat::Slice(pat) => print_slice(alloc, pat, out),
+        Pat::Struct(pat) => print_struct(alloc, pat, out),
+        Pat::Tuple(pat) => print_tuple(alloc, pat, out),
+        Pat::TupleStruct(pat) => print_tuple_struct(alloc, pat, out),
+        Pat::Type(pat) => print_typed(alloc, pat, out),
+        Pat::Verbatim(tokens) => print_verbatim(alloc, tokens, out),
+        Pat::Wild(pat) => print_wild(alloc, pat, out),
+    }
+}
+
+#[cycle(print)]
+#[tactic(auto, using(token_core::proofs::Puts::puts, crate::proofs::pat_laws::Prints::prints))]
+fn print_guarded<X: Subtree>(
+    alloc: Global,
+    pat: &PatGuard<X>,
+    out: &mut TokenStream,
+) -> Result<(), AllocError>
+    ensures ok { OnOk result (trees out.new ≡ trees out.old ++ printing.guarded X.prints pat.now) }
+    ensures err { OnErr result (Extends (trees out.old) (trees out.new)) }
+{
+    print_outer(alloc, &pat.attrs, out)?;
+    print_pat(alloc, pat.pat.get(), out)?;
+    pat.if_token.to_tokens(alloc, out)?;
+    print_guard(alloc, pat.guard.get(), out)
+}
+
+#[cycle(print)]
+#[tactic(auto, using(token_core::proofs::Puts::puts, crate::proofs::pat_laws::Prints::prints))]
+fn print_binding<X: Subtree>(
+    alloc: Global,
+    pat: &PatIdent<X>,
+    out: &mut TokenStream,
+) -> Result<(), AllocError>
+    ensures ok { OnOk result (trees out.new ≡ trees out.old ++ printing.binding X.prints pat.now) }
+    ensures err { OnErr result (Extends (trees out.old) (trees out.new)) }
+{
+    print_name(alloc, pat, out)?;
+    match &pat.subpat {
+        Some((at_token, subpat)) => {
+            at_token.to_tokens(alloc, out)?;
+            print_pat(alloc, subpat.get(), out)
+        }
+        None => Ok(()),
+    }
+}
+
+#[cycle(print)]
+#[tactic(auto, using(token_core::proofs::Puts::puts, crate::proofs::pat_laws::Prints::prints))]
+fn print_alternatives<X: Subtree>(
+    alloc: Global,
+    pat: &PatOr<X>,
+    out: &mut TokenStream,
+) -> Result<(), AllocError>
+    ensures ok { OnOk result (trees out.new ≡ trees out.old ++ printing.alternatives X.prints pat.now) }
+    ensures err { OnErr result (Extends (trees out.old) (trees out.new)) }
+{
+    print_outer(alloc, &pat.attrs, out)?;
+    pat.leading_vert.append_tokens(alloc, out)?;
+    print_cases(alloc, pat, out)
+}
+
+#[cycle(print)]
+#[tactic(auto, using(token_core::proofs::Puts::puts, crate::proofs::pat_laws::Prints::prints))]
+fn print_paren<X: Subtree>(
+    alloc: Global,
+    pat: &PatParen<X>,
+    out: &mut TokenStream,
+) -> Result<(), AllocError>
+    ensures ok { OnOk result (trees out.new ≡ trees out.old ++ printing.paren X.prints pat.now) }
+    ensures err { OnErr result (Extends (trees out.old) (trees out.new)) }
+{
+    print_outer(alloc, &pat.attrs, out)?;
+    let mut content = TokenStream::new(alloc);
+    print_pat(alloc, pat.pat.get(), &mut content)?;
+    pat.paren_token.surround(content, out)
+}
+
+#[cycle(print)]
+#[tactic(auto, using(token_core::proofs::Puts::puts, crate::proofs::pat_laws::Prints::prints))]
+fn print_reference<X: Subtree>(
+    alloc: Global,
+    pat: &PatReference<X>,
+    out: &mut TokenStream,
+) -> Result<(), AllocError>
+    ensures ok { OnOk result (trees out.new ≡ trees out.old ++ printing.reference X.prints pat.now) }
+    ensures err { OnErr result (Extends (trees out.old) (trees out.new)) }
+{
+    print_outer(alloc, &pat.attrs, out)?;
+    pat.and_token.to_tokens(alloc, out)?;
+    pat.mutability.append_tokens(alloc, out)?;
+    print_pat(alloc, pat.pat.get(), out)
+}
+
+#[cycle(print)]
+#[tactic(auto, using(token_core::proofs::Puts::puts, crate::proofs::pat_laws::Prints::prints))]
+fn print_slice<X: Subtree>(
+    alloc: Global,
+    pat: &PatSlice<X>,
+    out: &mut TokenStream,
+) -> Result<(), AllocError>
+    ensures ok { OnOk result (trees out.new ≡ trees out.old ++ printing.slice X.prints pat.now) }
+    ensures err { OnErr result (Extends (trees out.old) (trees out.new)) }
+{
+    print_outer(alloc, &pat.attrs, out)?;
+    let mut content = TokenStream::new(alloc);
+    print_slice_elements(alloc, pat, &mut content)?;
+    pat.bracket_token.surround(content, out)
+}
+
+#[tactic(auto, using(token_core::proofs::Puts::puts))]
+fn print_by_path<X: Subtree>(
+    alloc: Global,
+    pat: &PatPath<X>,
+    out: &mut TokenStream,
+) -> Result<(), AllocError>
+    ensures ok { OnOk result (trees out.new ≡ trees out.old ++ printing.by_path X.prints pat.now) }
+    ensures err { OnErr result (Extends (trees out.old) (trees out.new)) }
+{
+    print_outer(alloc, &pat.attrs, out)?;
+    print_qpath(alloc, &pat.qself, &pat.path, PathStyle::Expr, out)
+}
+
+#[tactic(auto, using(token_core::proofs::Puts::puts))]
+fn print_range<X: Subtree>(
+    alloc: Global,
+    pat: &PatRange<X>,
+    out: &mut TokenStream,
+) -> Result<(), AllocError>
+    ensures ok { OnOk result (trees out.new ≡ trees out.old ++ printing.range X.prints pat.now) }
+    ensures err { OnErr result (Extends (trees out.old) (trees out.new)) }
+{
+    print_outer(alloc, &pat.attrs, out)?;
+    print_bound(alloc, &pat.start, out)?;
+    pat.limits.to_tokens(alloc, out)?;
+    print_bound(alloc, &pat.end, out)
+}
+
+/// A bound that is there.
+#[tactic(auto, using(token_core::proofs::Puts::puts))]
+fn print_bound<X: Subtree>(
+    alloc: Global,
+    bound: &Option<Boxed<PatRangeBound<X>>>,
+    out: &mut TokenStream,
+) -> Result<(), AllocError>
+    ensures ok { OnOk result (trees out.new ≡ trees out.old ++ printing.optional_bound X.prints bound.now) }
+    ensures err { OnErr result (Extends (trees out.old) (trees out.new)) }
+{
+    match bound {
+        Some(bound) => bound.get().to_tokens(alloc, out),
+        None => Ok(()),
+    }
+}
+
+#[cycle(print)]
+#[tactic(auto, using(token_core::proofs::Puts::puts, crate::proofs::pat_laws::Prints::prints))]
+fn print_struct<X: Subtree>(
+    alloc: Global,
+    pat: &PatStruct<X>,
+    out: &mut TokenStream,
+) -> Result<(), AllocError>
+    ensures ok { OnOk result (trees out.new ≡ trees out.old ++ printing.fielded X.prints pat.now) }
+    ensures err { OnErr result (Extends (trees out.old) (trees out.new)) }
+{
+    print_outer(alloc, &pat.attrs, out)?;
+    print_qpath(alloc, &pat.qself, &pat.path, PathStyle::Expr, out)?;
+    let mut content = TokenStream::new(alloc);
+    print_fields(alloc, pat, &mut content)?;
+    print_struct_rest(alloc, pat, &mut content)?;
+    pat.brace_token.surround(content, out)
+}
+
+/// Each field of a struct's pattern with its comma.
+#[cycle(print)]
+#[tactic(auto, using(token_core::proofs::Puts::puts, crate::proofs::pat_laws::Prints::prints))]
+fn print_fields<X: Subtree>(
+    alloc: Global,
+    pat: &PatStruct<X>,
+    out: &mut TokenStream,
+) -> Result<(), AllocError>
+    ensures ok { OnOk result (trees out.new ≡ trees out.old ++ printing.fields X.prints pat.now.fields) }
+    ensures err { OnErr result (Extends (trees out.old) (trees out.new)) }
+{
+    let (pairs, last) = field_parts(pat);
+    for pair in pairs {
+        print_member(alloc, &pair.value, out)?;
+        print_pat(alloc, pair.value.pat.get(), out)?;
+        pair.mark.to_tokens(alloc, out)?;
+    }
+    match last {
+        Some(field) => {
+            print_member(alloc, field, out)?;
+            print_pat(alloc, field.pat.get(), out)
+        }
+        None => Ok(()),
+    }
+}
+
+#[cycle(print)]
+#[tactic(auto, using(token_core::proofs::Puts::puts, crate::proofs::pat_laws::Prints::prints))]
+fn print_tuple<X: Subtree>(
+    alloc: Global,
+    pat: &PatTuple<X>,
+    out: &mut TokenStream,
+) -> Result<(), AllocError>
+    ensures ok { OnOk result (trees out.new ≡ trees out.old ++ printing.tuple X.prints pat.now) }
+    ensures err { OnErr result (Extends (trees out.old) (trees out.new)) }
+{
+    print_outer(alloc, &pat.attrs, out)?;
+    let mut content = TokenStream::new(alloc);
+    print_tuple_elements(alloc, pat, &mut content)?;
+    let is_rest = begins_with_rest(&pat.elems);
+    print_tuple_comma(alloc, &pat.elems, is_rest, &mut content)?;
+    pat.paren_token.surround(content, out)
+}
+
+#[cycle(print)]
+#[tactic(auto, using(token_core::proofs::Puts::puts, crate::proofs::pat_laws::Prints::prints))]
+fn print_tuple_struct<X: Subtree>(
+    alloc: Global,
+    pat: &PatTupleStruct<X>,
+    out: &mut TokenStream,
+) -> Result<(), AllocError>
+    ensures ok { OnOk result (trees out.new ≡ trees out.old ++ printing.tuple_struct X.prints pat.now) }
+    ensures err { OnErr result (Extends (trees out.old) (trees out.new)) }
+{
+    print_outer(alloc, &pat.attrs, out)?;
+    print_qpath(alloc, &pat.qself, &pat.path, PathStyle::Expr, out)?;
+    let mut content = TokenStream::new(alloc);
+    print_tuple_struct_elements(alloc, pat, &mut content)?;
+    pat.paren_token.surround(content, out)
+}
+
+#[cycle(print)]
+#[tactic(auto, using(token_core::proofs::Puts::puts, crate::proofs::pat_laws::Prints::prints))]
+fn print_typed<X: Subtree>(
+    alloc: Global,
+    pat: &PatType<X>,
+    out: &mut TokenStream,
+) -> Result<(), AllocError>
+    ensures ok { OnOk result (trees out.new ≡ trees out.old ++ printing.typed X.prints pat.now) }
+    ensures err { OnErr result (Extends (trees out.old) (trees out.new)) }
+{
+    print_outer(alloc, &pat.attrs, out)?;
+    print_pat(alloc, pat.pat.get(), out)?;
+    pat.colon_token.to_tokens(alloc, out)?;
+    print_type(alloc, pat.ty.get(), out)
+}
+
+/// Each element with its comma.
+#[cycle(print)]
+#[tactic(auto, using(token_core::proofs::Puts::puts, crate::proofs::pat_laws::Prints::prints))]
+fn print_slice_elements<X: Subtree>(
+    alloc: Global,
+    pat: &PatSlice<X>,
+    out: &mut TokenStream,
+) -> Result<(), AllocError>
+    ensures ok { OnOk result (trees out.new ≡ trees out.old ++ printing.list X.prints pat.now.elems) }
+    ensures err { OnErr result (Extends (trees out.old) (trees out.new)) }
+{
+    let (pairs, last) = element_parts(&pat.elems);
+    for pair in pairs {
+        print_pat(alloc, &pair.value, out)?;
+        pair.mark.to_tokens(alloc, out)?;
+    }
+    match last {
+        Some(element) => print_pat(alloc, element, out),
+        None => Ok(()),
+    }
+}
+
+/// Each element with its comma.
+#[cycle(print)]
+#[tactic(auto, using(token_core::proofs::Puts::puts, crate::proofs::pat_laws::Prints::prints))]
+fn print_tuple_elements<X: Subtree>(
+    alloc: Global,
+    pat: &PatTuple<X>,
+    out: &mut TokenStream,
+) -> Result<(), AllocError>
+    ensures ok { OnOk result (trees out.new ≡ trees out.old ++ printing.list X.prints pat.now.elems) }
+    ensures err { OnErr result (Extends (trees out.old) (trees out.new)) }
+{
+    let (pairs, last) = element_parts(&pat.elems);
+    for pair in pairs {
+        print_pat(alloc, &pair.value, out)?;
+        pair.mark.to_tokens(alloc, out)?;
+    }
+    match last {
+        Some(element) => print_pat(alloc, element, out),
+        None => Ok(()),
+    }
+}
+
+/// Each element with its comma.
+#[cycle(print)]
+#[tactic(auto, using(token_core::proofs::Puts::puts, crate::proofs::pat_laws::Prints::prints))]
+fn print_tuple_struct_elements<X: Subtree>(
+    alloc: Global,
+    pat: &PatTupleStruct<X>,
+    out: &mut TokenStream,
+) -> Result<(), AllocError>
+    ensures ok { OnOk result (trees out.new ≡ trees out.old ++ printing.list X.prints pat.now.elems) }
+    ensures err { OnErr result (Extends (trees out.old) (trees out.new)) }
+{
+    let (pairs, last) = element_parts(&pat.elems);
+    for pair in pairs {
+        print_pat(alloc, &pair.value, out)?;
+        pair.mark.to_tokens(alloc, out)?;
+    }
+    match last {
+        Some(element) => print_pat(alloc, element, out),
+        None => Ok(()),
+    }
+}
+
+/// Each of the alternatives with its `|`.
+#[cycle(print)]
+#[tactic(auto, using(token_core::proofs::Puts::puts, crate::proofs::pat_laws::Prints::prints))]
+fn print_cases<X: Subtree>(
+    alloc: Global,
+    pat: &PatOr<X>,
+    out: &mut TokenStream,
+) -> Result<(), AllocError>
+    ensures ok { OnOk result (trees out.new ≡ trees out.old ++ printing.list X.prints pat.now.cases) }
+    ensures err { OnErr result (Extends (trees out.old) (trees out.new)) }
+{
+    let (pairs, last) = case_parts(pat);
+    for pair in pairs {
+        print_pat(alloc, &pair.value, out)?;
+        pair.mark.to_tokens(alloc, out)?;
+    }
+    match last {
+        Some(case) => print_pat(alloc, case, out),
+        None => Ok(()),
+    }
+}
+
+/// Elements by their parts.
+fn element_parts<X>(elems: &Punctuated<Pat<X>, Comma>) -> (&[Pair<Pat<X>, Comma>], Option<&Pat<X>>)
+    ensures { elems.now ≡ (values_of result.0.now (option_map (λ x. x.now) result.1), marks_of result.0.now) }
+{
+    elems.parts()
+}
+
+/// Alternatives by their parts.
+fn case_parts<X>(pat: &PatOr<X>) -> (&[Pair<Pat<X>, Or>], Option<&Pat<X>>)
+    ensures { pat.now.cases ≡ (values_of result.0.now (option_map (λ x. x.now) result.1), marks_of result.0.now) }
+{
+    pat.cases.parts()
+}
+
+/// The fields of a struct's pattern by their parts.
+fn field_parts<X>(pat: &PatStruct<X>) -> (&[Pair<FieldPat<X>, Comma>], Option<&FieldPat<X>>)
+    ensures { pat.now.fields ≡ (values_of result.0.now (option_map (λ x. x.now) result.1), marks_of result.0.now) }
+{
+    pat.fields.parts()
+}
+
+#[tactic(auto, using(token_core::proofs::Puts::puts))]
+fn print_rest<X: Subtree>(
+    alloc: Global,
+    pat: &PatRest<X>,
+    out: &mut TokenStream,
+) -> Result<(), AllocError>
+    ensures ok { OnOk result (trees out.new ≡ trees out.old ++ printing.rest X.prints pat.now) }
+    ensures err { OnErr result (Extends (trees out.old) (trees out.new)) }
+{
+    print_outer(alloc, &pat.attrs, out)?;
+    pat.dot2_token.to_tokens(alloc, out)
+}
+
+#[tactic(auto, using(token_core::proofs::Puts::puts))]
+fn print_wild<X: Subtree>(
+    alloc: Global,
+    pat: &PatWild<X>,
+    out: &mut TokenStream,
+) -> Result<(), AllocError>
+    ensures ok { OnOk result (trees out.new ≡ trees out.old ++ printing.wild X.prints pat.now) }
+    ensures err { OnErr result (Extends (trees out.old) (trees out.new)) }
+{
+    print_outer(alloc, &pat.attrs, out)?;
+    pat.underscore_token.to_tokens(alloc, out)
+}
+
+/// A binding before its `@`.
+#[tactic(auto, using(token_core::proofs::Puts::puts))]
+fn print_name<P, X: Subtree>(
+    alloc: Global,
+    pat: &PatIdentOf<P, Attribute<X>>,
+    out: &mut TokenStream,
+) -> Result<(), AllocError>
+    ensures ok { OnOk result (trees out.new ≡ trees out.old ++ printing.name X.prints pat.now) }
+    ensures err { OnErr result (Extends (trees out.old) (trees out.new)) }
+{
+    print_outer(alloc, &pat.attrs, out)?;
+    pat.by_ref.append_tokens(alloc, out)?;
+    pat.mutability.append_tokens(alloc, out)?;
+    pat.ident.to_tokens(alloc, out)
+}
+
+/// A field before its pattern: its member and colon, if it has a colon.
+#[tactic(auto, using(token_core::proofs::Puts::puts))]
+fn print_member<P, X: Subtree>(
+    alloc: Global,
+    field: &FieldPatOf<P, Attribute<X>>,
+    out: &mut TokenStream,
+) -> Result<(), AllocError>
+    ensures ok { OnOk result (trees out.new ≡ trees out.old ++ printing.member X.prints field.now) }
+    ensures err { OnErr result (Extends (trees out.old) (trees out.new)) }
+{
+    print_outer(alloc, &field.attrs, out)?;
+    match &field.colon_token {
+        Some(colon) => {
+            field.member.to_tokens(alloc, out)?;
+            colon.to_tokens(alloc, out)
+        }
+        None => Ok(()),
+    }
+}
+
+#[tactic(auto, using(token_core::proofs::Puts::puts))]
+fn print_field<X: Subtree>(
+    alloc: Global,
+    field: &FieldPat<X>,
+    out: &mut TokenStream,
+) -> Result<(), AllocError>
+    ensures ok { OnOk result (trees out.new ≡ trees out.old ++ printing.field X.prints field.now) }
+    ensures err { OnErr result (Extends (trees out.old) (trees out.new)) }
+{
+    print_member(alloc, field, out)?;
+    print_pat(alloc, field.pat.get(), out)
+}
+
+/// The `..` of a struct's pattern, after a comma that sets it apart from the last field.
+#[tactic(auto, using(token_core::proofs::Puts::puts))]
+fn print_struct_rest<P, Q, R, X: Subtree>(
+    alloc: Global,
+    pat: &PatStructOf<P, Attribute<X>, R, Q>,
+    out: &mut TokenStream,
+) -> Result<(), AllocError>
+    ensures ok { OnOk result (trees out.new ≡ trees out.old ++ printing.struct_rest X.prints pat.now) }
+    ensures err { OnErr result (Extends (trees out.old) (trees out.new)) }
+{
+    match &pat.rest {
+        Some(rest) => {
+            print_last_comma(alloc, &pat.fields, Comma::default(), out)?;
+            print_rest(alloc, rest, out)
+        }
+        None => Ok(()),
+    }
+}
+
+/// Whether the first element is `..`.
+#[tactic(auto, using(crate::proofs::pat_laws::Commas::firsts))]
+fn begins_with_rest<X>(elems: &Punctuated<Pat<X>, Comma>) -> bool
+    ensures { result ≡ printing.begins spec.is_rest elems.now.0 }
+{
+    match elems.first() {
+        Some(pat) => pat.is_rest(),
+        None => false,
+    }
+}
+
+/// A comma after a lone element that has none, which sets the tuple apart from a pattern in parentheses; `(..)` is a tuple
+/// without one.
+#[tactic(auto, using(token_core::proofs::Puts::puts))]
+fn print_tuple_comma<T>(
+    alloc: Global,
+    elems: &Punctuated<T, Comma>,
+    is_rest: bool,
+    out: &mut TokenStream,
+) -> Result<(), AllocError>
+    ensures ok { OnOk result (trees out.new ≡ trees out.old ++ printing.comma_unless is_rest elems.now.0 elems.now.1) }
+    ensures err { OnErr result (Extends (trees out.old) (trees out.new)) }
+{
+    if is_rest {
+        Ok(())
+    } else {
+        print_lone_comma(alloc, elems, out)
+    }
+}
+
+/// The guard of a pattern: the supplied subtree in this place, and anything else as it prints as a value.
+#[tactic(auto, using(token_core::proofs::Puts::puts, syn_attr::proofs::attr_laws::Prints::places))]
+fn print_guard<X: Subtree>(
+    alloc: Global,
+    guard: &Expr<X>,
+    out: &mut TokenStream,
+) -> Result<(), AllocError>
+    ensures ok { OnOk result (trees out.new ≡ trees out.old ++ printing.guard X.prints guard.now) }
+    ensures err { OnErr result (Extends (trees out.old) (trees out.new)) }
+{
+    match guard {
+        Expr::Other(tree) => tree.print(alloc, Place::Guard, out),
+        _ => print_value(alloc, guard, out),
+    }
+}

@@ -1,0 +1,782 @@
+//! Parameters, bounds, where clauses and the views of generics are printed.
+
+ghost use Rattle.std.specs.Prelude.{◌≡◌, ◌++◌, ◌∷◌, [], false, None, OnOk, OnErr, option_map};
+ghost use Rattle.token_core.specs.Joined.{values_of, marks_of, pairs_of};
+ghost use Rattle.token_core.specs.Lifetimes as lifetimes;
+ghost use Rattle.token_core.specs.Prints.{Extends};
+ghost use Rattle.token_core.specs.Trees.{trees};
+ghost use Rattle.syn_ty.specs.declared.generics.TypeParamBoundOf.TheVariants as bounds;
+ghost use Rattle.syn_ty.specs.generics.Members as members;
+ghost use Rattle.syn_ty.specs.generics.Printing as printing;
+ghost use Rattle.syn_ty.specs.generics.Shapes as shapes;
+ghost use Rattle.syn_ty.specs.ty.Printing as types;
+ghost use Rattle.syn_ty.specs.generics.Views as views;
+
+use crate::generics::{
+    BoundLifetimesOf, CapturedParam, ConstParamOf, GenericParamOf, GenericsOf, ImplGenericsOf,
+    LifetimeParamOf, Member, PreciseCapture, PredicateLifetimeOf, PredicateTypeOf, Style, Styled,
+    TraitBoundOf, TurbofishOf, TypeGenericsOf, TypeParamBoundOf, TypeParamOf, WhereClauseOf,
+    WherePredicateOf,
+};
+use crate::path::print::print_path;
+use crate::ty::TypeOf;
+use crate::ty::print::{bound_parts, print_type, print_verbatim};
+use std::alloc::{AllocError, Global};
+use syn_path::path::PathStyle;
+use syn_path::supplied::{Attributes, Value};
+use token_core::token::{Comma, Eq, PathSep};
+use token_core::{Pair, Punctuated, ToTokens, TokenStream, TokensOrDefault};
+
+impl ToTokens for CapturedParam {
+    ghost print = { shapes.captured };
+
+    fn append_tokens(&self, alloc: Global, out: &mut TokenStream) -> Result<(), AllocError> {
+        match self {
+            CapturedParam::Lifetime(lifetime) => lifetime.append_tokens(alloc, out),
+            CapturedParam::Ident(ident) => ident.append_tokens(alloc, out),
+        }
+    }
+}
+
+impl ToTokens for PreciseCapture {
+    ghost print = { shapes.capture };
+
+    fn append_tokens(&self, alloc: Global, out: &mut TokenStream) -> Result<(), AllocError> {
+        print_capture(alloc, self, out)
+    }
+}
+
+#[tactic(auto, using(token_core::proofs::Puts::puts))]
+fn print_capture(
+    alloc: Global,
+    capture: &PreciseCapture,
+    out: &mut TokenStream,
+) -> Result<(), AllocError>
+    ensures ok { OnOk result (trees out.new ≡ trees out.old ++ shapes.capture capture.now) }
+    ensures err { OnErr result (Extends (trees out.old) (trees out.new)) }
+{
+    capture.use_token.to_tokens(alloc, out)?;
+    capture.lt_token.to_tokens(alloc, out)?;
+    print_sorted(alloc, &capture.params, Style::Whole, out)?;
+    capture.gt_token.to_tokens(alloc, out)
+}
+
+/// Lifetimes, each with its comma; a comma where the last has none and others follow; the others, each with its comma.
+#[tactic(auto, using(token_core::proofs::Puts::puts))]
+fn print_sorted<M: Styled>(
+    alloc: Global,
+    list: &Punctuated<M, Comma>,
+    style: Style,
+    out: &mut TokenStream,
+) -> Result<(), AllocError>
+    ensures ok { OnOk result (trees out.new ≡ trees out.old ++ members.sorted M.first (M.shown style) list.now) }
+    ensures err { OnErr result (Extends (trees out.old) (trees out.new)) }
+{
+    print_lifetime_members(alloc, list, style, out)?;
+    print_added_comma(alloc, list, out)?;
+    print_other_members(alloc, list, style, out)
+}
+
+#[tactic(auto, using(token_core::proofs::Puts::puts, crate::proofs::generics_laws::Sorted::kinds))]
+fn print_lifetime_members<M: Styled>(
+    alloc: Global,
+    list: &Punctuated<M, Comma>,
+    style: Style,
+    out: &mut TokenStream,
+) -> Result<(), AllocError>
+    ensures ok { OnOk result (trees out.new ≡ trees out.old ++ members.each (M.shown style) (members.firsts M.first list.now)) }
+    ensures err { OnErr result (Extends (trees out.old) (trees out.new)) }
+{
+    print_kind(alloc, list, true, style, out)
+}
+
+#[tactic(auto, using(token_core::proofs::Puts::puts, crate::proofs::generics_laws::Sorted::kinds))]
+fn print_other_members<M: Styled>(
+    alloc: Global,
+    list: &Punctuated<M, Comma>,
+    style: Style,
+    out: &mut TokenStream,
+) -> Result<(), AllocError>
+    ensures ok { OnOk result (trees out.new ≡ trees out.old ++ members.each (M.shown style) (members.others M.first list.now)) }
+    ensures err { OnErr result (Extends (trees out.old) (trees out.new)) }
+{
+    print_kind(alloc, list, false, style, out)
+}
+
+/// The members that are lifetimes, or those that are not, each with its comma.
+#[tactic(auto, using(token_core::proofs::Puts::puts, crate::proofs::generics_laws::Sorted::kinds))]
+fn print_kind<M: Styled>(
+    alloc: Global,
+    list: &Punctuated<M, Comma>,
+    lifetimes: bool,
+    style: Style,
+    out: &mut TokenStream,
+) -> Result<(), AllocError>
+    ensures ok { OnOk result (trees out.new ≡ trees out.old ++ members.each (M.shown style) (members.those M.first lifetimes (members.members_of list.now))) }
+    ensures err { OnErr result (Extends (trees out.old) (trees out.new)) }
+{
+    let (pairs, last) = list.parts();
+    for pair in pairs {
+        print_member(alloc, &pair.value, Some(&pair.mark), lifetimes, style, out)?;
+    }
+    match last {
+        Some(member) => print_member(alloc, member, None, lifetimes, style, out),
+        None => Ok(()),
+    }
+}
+
+/// A member with its comma, where it is of the kind.
+#[tactic(auto, using(token_core::proofs::Puts::puts, crate::proofs::generics_laws::Sorted::kinds))]
+fn print_member<M: Styled>(
+    alloc: Global,
+    member: &M,
+    comma: Option<&Comma>,
+    lifetimes: bool,
+    style: Style,
+    out: &mut TokenStream,
+) -> Result<(), AllocError>
+    ensures ok { OnOk result (trees out.new ≡ trees out.old ++ members.each (M.shown style) (members.those M.first lifetimes ((member.now, option_map (λ c. c.now) comma.entry) ∷ []))) }
+    ensures err { OnErr result (Extends (trees out.old) (trees out.new)) }
+{
+    if member.is_lifetime() != lifetimes {
+        return Ok(());
+    }
+    member.print_as(alloc, style, out)?;
+    match comma {
+        Some(comma) => comma.to_tokens(alloc, out),
+        None => Ok(()),
+    }
+}
+
+#[tactic(auto, using(token_core::proofs::Puts::puts))]
+pub fn print_added_comma<M: Member>(
+    alloc: Global,
+    list: &Punctuated<M, Comma>,
+    out: &mut TokenStream,
+) -> Result<(), AllocError>
+    ensures ok { OnOk result (trees out.new ≡ trees out.old ++ members.added M.first list.now) }
+    ensures err { OnErr result (Extends (trees out.old) (trees out.new)) }
+{
+    if lacks_comma(list) {
+        Comma::default().to_tokens(alloc, out)
+    } else {
+        Ok(())
+    }
+}
+
+/// Whether a comma is to be added after the lifetimes. Only the last member may have none: it is a lifetime, and another member is there.
+#[tactic(auto, using(crate::proofs::generics_laws::Sorted::commas))]
+fn lacks_comma<M: Member>(list: &Punctuated<M, Comma>) -> bool
+    ensures { result ≡ members.adds (members.firsts M.first list.now) (members.others M.first list.now) }
+{
+    let (pairs, last) = list.parts();
+    match last {
+        Some(member) => member.is_lifetime() && has_other(pairs),
+        None => false,
+    }
+}
+
+/// Whether a member is there that is no lifetime.
+#[tactic(auto, using(crate::proofs::generics_laws::Sorted::commas))]
+fn has_other<M: Member>(pairs: &[Pair<M, Comma>]) -> bool
+    ensures { result ≡ members.some_left (members.those M.first false (pairs_of pairs.now None)) }
+{
+    for pair in pairs {
+        if !pair.value.is_lifetime() {
+            return true;
+        }
+    }
+    false
+}
+
+#[tactic(auto, using(token_core::proofs::Puts::puts))]
+fn print_lifetime_param<A: Attributes>(
+    alloc: Global,
+    param: &LifetimeParamOf<A>,
+    out: &mut TokenStream,
+) -> Result<(), AllocError>
+    ensures ok { OnOk result (trees out.new ≡ trees out.old ++ shapes.lifetime_param_by A.shown param.now) }
+    ensures err { OnErr result (Extends (trees out.old) (trees out.new)) }
+{
+    A::print_outer(alloc, &param.attrs, out)?;
+    param.lifetime.to_tokens(alloc, out)?;
+    print_lifetime_bounds(alloc, param, out)
+}
+
+/// The bounds of a lifetime parameter after their colon.
+#[tactic(auto, using(token_core::proofs::Puts::puts, crate::proofs::generics_laws::Prints::bounds))]
+fn print_lifetime_bounds<A>(
+    alloc: Global,
+    param: &LifetimeParamOf<A>,
+    out: &mut TokenStream,
+) -> Result<(), AllocError>
+    ensures ok { OnOk result (trees out.new ≡ trees out.old ++ shapes.after_colon lifetimes.print param.now.colon_token param.now.bounds) }
+    ensures err { OnErr result (Extends (trees out.old) (trees out.new)) }
+{
+    if param.bounds.is_empty() {
+        return Ok(());
+    }
+    TokensOrDefault(&param.colon_token).append_tokens(alloc, out)?;
+    param.bounds.to_tokens(alloc, out)
+}
+
+#[tactic(auto, using(token_core::proofs::Puts::puts))]
+fn print_const_default<E: Value>(
+    alloc: Global,
+    default: &Option<(Eq, E)>,
+    out: &mut TokenStream,
+) -> Result<(), AllocError>
+    ensures ok { OnOk result (trees out.new ≡ trees out.old ++ shapes.const_default_by E.values default.now) }
+    ensures err { OnErr result (Extends (trees out.old) (trees out.new)) }
+{
+    match default {
+        Some((eq_token, value)) => {
+            eq_token.to_tokens(alloc, out)?;
+            value.print_const_argument(alloc, out)
+        }
+        None => Ok(()),
+    }
+}
+
+/// Appends a parameter; refused, what stood before is kept.
+#[cycle(print)]
+#[tactic(auto, using(token_core::proofs::Puts::puts, crate::proofs::ty_laws::Prints::parts))]
+pub fn print_param<A: Attributes, E: Value>(
+    alloc: Global,
+    param: &GenericParamOf<A, E>,
+    out: &mut TokenStream,
+) -> Result<(), AllocError>
+    ensures ok { OnOk result (trees out.new ≡ trees out.old ++ types.param A.shown E.values param.now) }
+    ensures err { OnErr result (Extends (trees out.old) (trees out.new)) }
+{
+    match param {
+        GenericParamOf::Lifetime(param) => print_lifetime_param(alloc, param, out),
+        GenericParamOf::Type(param) => print_type_param(alloc, param, out),
+        GenericParamOf::Const(param) => print_const_param(alloc, param, out),
+    }
+}
+
+#[cycle(print)]
+#[tactic(auto, using(token_core::proofs::Puts::puts))]
+fn print_const_param<A: Attributes, E: Value>(
+    alloc: Global,
+    param: &ConstParamOf<TypeOf<A, E>, A, E>,
+    out: &mut TokenStream,
+) -> Result<(), AllocError>
+    ensures ok { OnOk result (trees out.new ≡ trees out.old ++ types.const_param A.shown E.values param.now) }
+    ensures err { OnErr result (Extends (trees out.old) (trees out.new)) }
+{
+    print_const_head(alloc, param, out)?;
+    print_const_default(alloc, &param.default, out)
+}
+
+/// A const parameter without its default.
+#[cycle(print)]
+#[tactic(auto, using(token_core::proofs::Puts::puts))]
+fn print_const_head<A: Attributes, E: Value>(
+    alloc: Global,
+    param: &ConstParamOf<TypeOf<A, E>, A, E>,
+    out: &mut TokenStream,
+) -> Result<(), AllocError>
+    ensures ok { OnOk result (trees out.new ≡ trees out.old ++ types.const_head A.shown E.values param.now) }
+    ensures err { OnErr result (Extends (trees out.old) (trees out.new)) }
+{
+    A::print_outer(alloc, &param.attrs, out)?;
+    param.const_token.to_tokens(alloc, out)?;
+    param.ident.to_tokens(alloc, out)?;
+    param.colon_token.to_tokens(alloc, out)?;
+    print_type(alloc, &param.ty, out)
+}
+
+#[cycle(print)]
+#[tactic(auto, using(token_core::proofs::Puts::puts))]
+fn print_type_param<A: Attributes, E: Value>(
+    alloc: Global,
+    param: &TypeParamOf<A, E>,
+    out: &mut TokenStream,
+) -> Result<(), AllocError>
+    ensures ok { OnOk result (trees out.new ≡ trees out.old ++ types.type_param A.shown E.values param.now) }
+    ensures err { OnErr result (Extends (trees out.old) (trees out.new)) }
+{
+    print_type_head(alloc, param, out)?;
+    match &param.default {
+        Some((eq_token, ty)) => {
+            eq_token.to_tokens(alloc, out)?;
+            print_type(alloc, ty, out)
+        }
+        None => Ok(()),
+    }
+}
+
+/// A type parameter without its default.
+#[cycle(print)]
+#[tactic(auto, using(token_core::proofs::Puts::puts))]
+fn print_type_head<A: Attributes, E: Value>(
+    alloc: Global,
+    param: &TypeParamOf<A, E>,
+    out: &mut TokenStream,
+) -> Result<(), AllocError>
+    ensures ok { OnOk result (trees out.new ≡ trees out.old ++ types.type_head A.shown E.values param.now) }
+    ensures err { OnErr result (Extends (trees out.old) (trees out.new)) }
+{
+    A::print_outer(alloc, &param.attrs, out)?;
+    param.ident.to_tokens(alloc, out)?;
+    print_type_bounds(alloc, param, out)
+}
+
+/// The bounds of a type parameter after their colon.
+#[cycle(print)]
+#[tactic(auto, using(token_core::proofs::Puts::puts, crate::proofs::generics_laws::Prints::bounds))]
+fn print_type_bounds<A: Attributes, E: Value>(
+    alloc: Global,
+    param: &TypeParamOf<A, E>,
+    out: &mut TokenStream,
+) -> Result<(), AllocError>
+    ensures ok { OnOk result (trees out.new ≡ trees out.old ++ types.type_bounds A.shown E.values param.now) }
+    ensures err { OnErr result (Extends (trees out.old) (trees out.new)) }
+{
+    if param.bounds.is_empty() {
+        return Ok(());
+    }
+    TokensOrDefault(&param.colon_token).append_tokens(alloc, out)?;
+    print_bounds(alloc, param, out)
+}
+
+#[cycle(print)]
+#[tactic(auto, using(token_core::proofs::Puts::puts))]
+fn print_bounds<A: Attributes, E: Value>(
+    alloc: Global,
+    param: &TypeParamOf<A, E>,
+    out: &mut TokenStream,
+) -> Result<(), AllocError>
+    ensures ok { OnOk result (trees out.new ≡ trees out.old ++ types.own_bounds A.shown E.values param.now) }
+    ensures err { OnErr result (Extends (trees out.old) (trees out.new)) }
+{
+    let (pairs, last) = bound_parts(&param.bounds);
+    for pair in pairs {
+        print_bound(alloc, &pair.value, out)?;
+        pair.mark.to_tokens(alloc, out)?;
+    }
+    match last {
+        Some(bound) => print_bound(alloc, bound, out),
+        None => Ok(()),
+    }
+}
+
+/// Appends a bound; refused, what stood before is kept.
+#[cycle(print)]
+#[tactic(auto, using(token_core::proofs::Puts::puts, crate::proofs::ty_laws::Prints::parts))]
+pub fn print_bound<A: Attributes, E: Value>(
+    alloc: Global,
+    bound: &TypeParamBoundOf<A, E>,
+    out: &mut TokenStream,
+) -> Result<(), AllocError>
+    ensures ok { OnOk result (trees out.new ≡ trees out.old ++ types.bound A.shown E.values bound.now) }
+    ensures err { OnErr result (Extends (trees out.old) (trees out.new)) }
+{
+    match bound {
+        TypeParamBoundOf::Trait(bound) => print_trait_bound(alloc, bound, out),
+        TypeParamBoundOf::Lifetime(lifetime) => lifetime.to_tokens(alloc, out),
+        TypeParamBoundOf::PreciseCapture(capture) => print_capture(alloc, capture, out),
+        TypeParamBoundOf::Verbatim(tokens) => print_verbatim(alloc, tokens, out),
+    }
+}
+
+#[cycle(print)]
+#[tactic(auto, using(token_core::proofs::Puts::puts, crate::proofs::ty_laws::Prints::parts))]
+fn print_trait_bound<A: Attributes, E: Value>(
+    alloc: Global,
+    bound: &TraitBoundOf<A, E>,
+    out: &mut TokenStream,
+) -> Result<(), AllocError>
+    ensures ok { OnOk result (trees out.new ≡ trees out.old ++ types.trait_bound A.shown E.values bound.now) }
+    ensures err { OnErr result (Extends (trees out.old) (trees out.new)) }
+{
+    match &bound.paren_token {
+        Some(paren) => {
+            let mut content = TokenStream::new(alloc);
+            print_bare_trait(alloc, bound, &mut content)?;
+            paren.surround(content, out)
+        }
+        None => print_bare_trait(alloc, bound, out),
+    }
+}
+
+/// A trait bound without its parentheses.
+#[cycle(print)]
+#[tactic(auto, using(token_core::proofs::Puts::puts, crate::proofs::generics_laws::Prints::binders))]
+fn print_bare_trait<A: Attributes, E: Value>(
+    alloc: Global,
+    bound: &TraitBoundOf<A, E>,
+    out: &mut TokenStream,
+) -> Result<(), AllocError>
+    ensures ok { OnOk result (trees out.new ≡ trees out.old ++ types.bare_trait A.shown E.values bound.now) }
+    ensures err { OnErr result (Extends (trees out.old) (trees out.new)) }
+{
+    print_binder_start(alloc, &bound.lifetimes, out)?;
+    print_trait_params(alloc, bound, out)?;
+    print_binder_end(alloc, &bound.lifetimes, out)?;
+    print_named_trait(alloc, bound, out)
+}
+
+/// The parameters of a trait bound's binder.
+#[cycle(print)]
+#[tactic(auto, using(token_core::proofs::Puts::puts))]
+fn print_trait_params<A: Attributes, E: Value>(
+    alloc: Global,
+    bound: &TraitBoundOf<A, E>,
+    out: &mut TokenStream,
+) -> Result<(), AllocError>
+    ensures ok { OnOk result (trees out.new ≡ trees out.old ++ types.trait_params A.shown E.values bound.now) }
+    ensures err { OnErr result (Extends (trees out.old) (trees out.new)) }
+{
+    let (pairs, last) = binder_parts(bound);
+    for pair in pairs {
+        print_param(alloc, &pair.value, out)?;
+        pair.mark.to_tokens(alloc, out)?;
+    }
+    match last {
+        Some(param) => print_param(alloc, param, out),
+        None => Ok(()),
+    }
+}
+
+/// The parameters of a trait bound's binder by their parts; none without a binder.
+fn binder_parts<A, E>(
+    bound: &TraitBoundOf<A, E>,
+) -> (
+    &[Pair<GenericParamOf<A, E>, Comma>],
+    Option<&GenericParamOf<A, E>>,
+)
+    ensures { shapes.binder_params (types.trait_binder bound.now) ≡ (values_of result.0.now (option_map (λ x. x.now) result.1), marks_of result.0.now) }
+{
+    match &bound.lifetimes {
+        Some(binder) => binder.lifetimes.parts(),
+        None => (&[], None),
+    }
+}
+
+/// A binder before its parameters; nothing without one.
+#[tactic(auto, using(token_core::proofs::Puts::puts))]
+pub fn print_binder_start<G>(
+    alloc: Global,
+    binder: &Option<BoundLifetimesOf<G>>,
+    out: &mut TokenStream,
+) -> Result<(), AllocError>
+    ensures ok { OnOk result (trees out.new ≡ trees out.old ++ shapes.binder_start binder.now) }
+    ensures err { OnErr result (Extends (trees out.old) (trees out.new)) }
+{
+    match binder {
+        Some(binder) => {
+            binder.for_token.to_tokens(alloc, out)?;
+            binder.lt_token.to_tokens(alloc, out)
+        }
+        None => Ok(()),
+    }
+}
+
+/// A binder after its parameters; nothing without one.
+#[tactic(auto, using(token_core::proofs::Puts::puts))]
+pub fn print_binder_end<G>(
+    alloc: Global,
+    binder: &Option<BoundLifetimesOf<G>>,
+    out: &mut TokenStream,
+) -> Result<(), AllocError>
+    ensures ok { OnOk result (trees out.new ≡ trees out.old ++ shapes.binder_end binder.now) }
+    ensures err { OnErr result (Extends (trees out.old) (trees out.new)) }
+{
+    match binder {
+        Some(binder) => binder.gt_token.to_tokens(alloc, out),
+        None => Ok(()),
+    }
+}
+
+/// A trait bound after its binder.
+#[cycle(print)]
+#[tactic(auto, using(token_core::proofs::Puts::puts))]
+fn print_named_trait<A: Attributes, E: Value>(
+    alloc: Global,
+    bound: &TraitBoundOf<A, E>,
+    out: &mut TokenStream,
+) -> Result<(), AllocError>
+    ensures ok { OnOk result (trees out.new ≡ trees out.old ++ types.named_trait A.shown E.values bound.now) }
+    ensures err { OnErr result (Extends (trees out.old) (trees out.new)) }
+{
+    bound.maybe.append_tokens(alloc, out)?;
+    print_path(alloc, &bound.path, PathStyle::AsWritten, out)
+}
+
+#[tactic(auto, using(token_core::proofs::Puts::puts))]
+fn print_predicate_lifetime<A: Attributes>(
+    alloc: Global,
+    predicate: &PredicateLifetimeOf<A>,
+    out: &mut TokenStream,
+) -> Result<(), AllocError>
+    ensures ok { OnOk result (trees out.new ≡ trees out.old ++ printing.predicate_lifetime_by A.shown predicate.now) }
+    ensures err { OnErr result (Extends (trees out.old) (trees out.new)) }
+{
+    A::print_outer(alloc, &predicate.attrs, out)?;
+    predicate.lifetime.to_tokens(alloc, out)?;
+    predicate.colon_token.to_tokens(alloc, out)?;
+    predicate.bounds.to_tokens(alloc, out)
+}
+
+impl<A: Attributes> ToTokens for LifetimeParamOf<A> {
+    ghost print = { shapes.lifetime_param_by A.shown };
+
+    fn append_tokens(&self, alloc: Global, out: &mut TokenStream) -> Result<(), AllocError> {
+        print_lifetime_param(alloc, self, out)
+    }
+}
+
+impl<A: Attributes, E: Value> ToTokens for ConstParamOf<TypeOf<A, E>, A, E> {
+    ghost print = { types.const_param A.shown E.values };
+
+    fn append_tokens(&self, alloc: Global, out: &mut TokenStream) -> Result<(), AllocError> {
+        print_const_param(alloc, self, out)
+    }
+}
+
+impl<A: Attributes> ToTokens for PredicateLifetimeOf<A> {
+    ghost print = { printing.predicate_lifetime_by A.shown };
+
+    fn append_tokens(&self, alloc: Global, out: &mut TokenStream) -> Result<(), AllocError> {
+        print_predicate_lifetime(alloc, self, out)
+    }
+}
+
+impl<A: Attributes, E: Value> ToTokens for GenericParamOf<A, E> {
+    ghost print = { types.param A.shown E.values };
+
+    fn append_tokens(&self, alloc: Global, out: &mut TokenStream) -> Result<(), AllocError> {
+        print_param(alloc, self, out)
+    }
+}
+
+impl<A: Attributes, E: Value> ToTokens for TypeParamOf<A, E> {
+    ghost print = { types.type_param A.shown E.values };
+
+    fn append_tokens(&self, alloc: Global, out: &mut TokenStream) -> Result<(), AllocError> {
+        print_type_param(alloc, self, out)
+    }
+}
+
+impl<A: Attributes, E: Value> ToTokens for TypeParamBoundOf<A, E> {
+    ghost print = { types.bound A.shown E.values };
+
+    fn append_tokens(&self, alloc: Global, out: &mut TokenStream) -> Result<(), AllocError> {
+        print_bound(alloc, self, out)
+    }
+}
+
+impl<A: Attributes, E: Value> ToTokens for TraitBoundOf<A, E> {
+    ghost print = { types.trait_bound A.shown E.values };
+
+    fn append_tokens(&self, alloc: Global, out: &mut TokenStream) -> Result<(), AllocError> {
+        print_trait_bound(alloc, self, out)
+    }
+}
+
+#[tactic(auto, using(token_core::proofs::Puts::puts))]
+fn print_bound_lifetimes<A: Attributes, E: Value>(
+    alloc: Global,
+    binder: &BoundLifetimesOf<GenericParamOf<A, E>>,
+    out: &mut TokenStream,
+) -> Result<(), AllocError>
+    ensures ok { OnOk result (trees out.new ≡ trees out.old ++ types.bound_lifetimes A.shown E.values binder.now) }
+    ensures err { OnErr result (Extends (trees out.old) (trees out.new)) }
+{
+    binder.for_token.to_tokens(alloc, out)?;
+    binder.lt_token.to_tokens(alloc, out)?;
+    binder.lifetimes.to_tokens(alloc, out)?;
+    binder.gt_token.to_tokens(alloc, out)
+}
+
+#[tactic(auto, using(token_core::proofs::Puts::puts))]
+fn print_predicate_type<A: Attributes, E: Value>(
+    alloc: Global,
+    predicate: &PredicateTypeOf<A, E>,
+    out: &mut TokenStream,
+) -> Result<(), AllocError>
+    ensures ok { OnOk result (trees out.new ≡ trees out.old ++ printing.predicate_type A.shown E.values predicate.now) }
+    ensures err { OnErr result (Extends (trees out.old) (trees out.new)) }
+{
+    A::print_outer(alloc, &predicate.attrs, out)?;
+    print_binder(alloc, &predicate.lifetimes, out)?;
+    print_type(alloc, &predicate.bounded_ty, out)?;
+    predicate.colon_token.to_tokens(alloc, out)?;
+    predicate.bounds.to_tokens(alloc, out)
+}
+
+/// A binder; nothing without one.
+#[tactic(auto, using(token_core::proofs::Puts::puts))]
+fn print_binder<A: Attributes, E: Value>(
+    alloc: Global,
+    binder: &Option<BoundLifetimesOf<GenericParamOf<A, E>>>,
+    out: &mut TokenStream,
+) -> Result<(), AllocError>
+    ensures ok { OnOk result (trees out.new ≡ trees out.old ++ shapes.binder_by (types.param A.shown E.values) binder.now) }
+    ensures err { OnErr result (Extends (trees out.old) (trees out.new)) }
+{
+    match binder {
+        Some(binder) => print_bound_lifetimes(alloc, binder, out),
+        None => Ok(()),
+    }
+}
+
+/// `where` and the predicates; nothing without predicates.
+#[tactic(auto, using(token_core::proofs::Puts::puts, crate::proofs::generics_laws::Prints::clauses))]
+fn print_where<A: Attributes, E: Value>(
+    alloc: Global,
+    clause: &WhereClauseOf<A, E>,
+    out: &mut TokenStream,
+) -> Result<(), AllocError>
+    ensures ok { OnOk result (trees out.new ≡ trees out.old ++ printing.where_clause A.shown E.values clause.now) }
+    ensures err { OnErr result (Extends (trees out.old) (trees out.new)) }
+{
+    if clause.predicates.is_empty() {
+        return Ok(());
+    }
+    clause.where_token.to_tokens(alloc, out)?;
+    clause.predicates.to_tokens(alloc, out)
+}
+
+impl<A: Attributes, E: Value> ToTokens for BoundLifetimesOf<GenericParamOf<A, E>> {
+    ghost print = { types.bound_lifetimes A.shown E.values };
+
+    fn append_tokens(&self, alloc: Global, out: &mut TokenStream) -> Result<(), AllocError> {
+        print_bound_lifetimes(alloc, self, out)
+    }
+}
+
+impl<A: Attributes, E: Value> ToTokens for PredicateTypeOf<A, E> {
+    ghost print = { printing.predicate_type A.shown E.values };
+
+    fn append_tokens(&self, alloc: Global, out: &mut TokenStream) -> Result<(), AllocError> {
+        print_predicate_type(alloc, self, out)
+    }
+}
+
+impl<A: Attributes, E: Value> ToTokens for WherePredicateOf<A, E> {
+    ghost print = { printing.predicate A.shown E.values };
+
+    fn append_tokens(&self, alloc: Global, out: &mut TokenStream) -> Result<(), AllocError> {
+        match self {
+            WherePredicateOf::Lifetime(predicate) => predicate.append_tokens(alloc, out),
+            WherePredicateOf::Type(predicate) => predicate.append_tokens(alloc, out),
+        }
+    }
+}
+
+impl<A: Attributes, E: Value> ToTokens for WhereClauseOf<A, E> {
+    ghost print = { printing.where_clause A.shown E.values };
+
+    fn append_tokens(&self, alloc: Global, out: &mut TokenStream) -> Result<(), AllocError> {
+        print_where(alloc, self, out)
+    }
+}
+
+/// A parameter without its default.
+#[tactic(auto, using(token_core::proofs::Puts::puts, crate::proofs::generics_laws::Views::views))]
+pub(crate) fn print_head<A: Attributes, E: Value>(
+    alloc: Global,
+    param: &GenericParamOf<A, E>,
+    out: &mut TokenStream,
+) -> Result<(), AllocError>
+    ensures ok { OnOk result (trees out.new ≡ trees out.old ++ types.param A.shown E.values (views.strip param.now)) }
+    ensures err { OnErr result (Extends (trees out.old) (trees out.new)) }
+{
+    match param {
+        GenericParamOf::Lifetime(param) => print_lifetime_param(alloc, param, out),
+        GenericParamOf::Type(param) => print_type_head(alloc, param, out),
+        GenericParamOf::Const(param) => print_const_head(alloc, param, out),
+    }
+}
+
+/// A parameter's name.
+#[tactic(auto, using(token_core::proofs::Puts::puts, crate::proofs::generics_laws::Views::views))]
+pub(crate) fn print_name<A, E>(
+    alloc: Global,
+    param: &GenericParamOf<A, E>,
+    out: &mut TokenStream,
+) -> Result<(), AllocError>
+    ensures ok { OnOk result (trees out.new ≡ trees out.old ++ views.name param.now) }
+    ensures err { OnErr result (Extends (trees out.old) (trees out.new)) }
+{
+    match param {
+        GenericParamOf::Lifetime(param) => param.lifetime.to_tokens(alloc, out),
+        GenericParamOf::Type(param) => param.ident.to_tokens(alloc, out),
+        GenericParamOf::Const(param) => param.ident.to_tokens(alloc, out),
+    }
+}
+
+/// The parameters between `<` and `>`, lifetimes first; nothing without parameters.
+#[tactic(auto, using(token_core::proofs::Puts::puts, crate::proofs::generics_laws::Views::betweens))]
+fn print_between<A: Attributes, E: Value>(
+    alloc: Global,
+    generics: &GenericsOf<A, E>,
+    style: Style,
+    out: &mut TokenStream,
+) -> Result<(), AllocError>
+    ensures ok { OnOk result (trees out.new ≡ trees out.old ++ views.between_as A.shown E.values style generics.now) }
+    ensures err { OnErr result (Extends (trees out.old) (trees out.new)) }
+{
+    if generics.params.is_empty() {
+        return Ok(());
+    }
+    TokensOrDefault(&generics.lt_token).append_tokens(alloc, out)?;
+    print_sorted(alloc, &generics.params, style, out)?;
+    TokensOrDefault(&generics.gt_token).append_tokens(alloc, out)
+}
+
+/// The names after `::`; nothing without parameters.
+#[tactic(auto, using(token_core::proofs::Puts::puts, crate::proofs::generics_laws::Views::after_seps, crate::proofs::generics_laws::Views::showns))]
+fn print_turbofish<A: Attributes, E: Value>(
+    alloc: Global,
+    generics: &GenericsOf<A, E>,
+    out: &mut TokenStream,
+) -> Result<(), AllocError>
+    ensures ok { OnOk result (trees out.new ≡ trees out.old ++ views.turbofish generics.now) }
+    ensures err { OnErr result (Extends (trees out.old) (trees out.new)) }
+{
+    if generics.params.is_empty() {
+        return Ok(());
+    }
+    PathSep::default().to_tokens(alloc, out)?;
+    print_between(alloc, generics, Style::Name, out)
+}
+
+impl<A: Attributes, E: Value> ToTokens for GenericsOf<A, E> {
+    ghost print = { printing.generics A.shown E.values };
+
+    #[tactic(auto, using(crate::proofs::generics_laws::Views::showns))]
+    fn append_tokens(&self, alloc: Global, out: &mut TokenStream) -> Result<(), AllocError> {
+        print_between(alloc, self, Style::Whole, out)
+    }
+}
+
+impl<'a, A: Attributes, E: Value> ToTokens for ImplGenericsOf<'a, A, E> {
+    ghost print = { λ view. printing.generics A.shown E.values (views.stripped view.generics.now) };
+
+    #[tactic(auto, using(crate::proofs::generics_laws::Views::showns))]
+    fn append_tokens(&self, alloc: Global, out: &mut TokenStream) -> Result<(), AllocError> {
+        print_between(alloc, self.generics, Style::NoDefault, out)
+    }
+}
+
+impl<'a, A: Attributes, E: Value> ToTokens for TypeGenericsOf<'a, A, E> {
+    ghost print = { λ view. views.names view.generics.now };
+
+    #[tactic(auto, using(crate::proofs::generics_laws::Views::showns))]
+    fn append_tokens(&self, alloc: Global, out: &mut TokenStream) -> Result<(), AllocError> {
+        print_between(alloc, self.generics, Style::Name, out)
+    }
+}
+
+impl<'a, A: Attributes, E: Value> ToTokens for TurbofishOf<'a, A, E> {
+    ghost print = { λ view. views.turbofish view.generics.now };
+
+    fn append_tokens(&self, alloc: Global, out: &mut TokenStream) -> Result<(), AllocError> {
+        print_turbofish(alloc, self.generics, out)
+    }
+}
