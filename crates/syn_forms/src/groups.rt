@@ -23,6 +23,19 @@ pub enum InParens<T> {
     Elements(Punctuated<T, Comma>),
 }
 
+/// What parentheses in the place of a type hold, over a type, the bounds of a trait object, and a trait bound. No reader answers it yet.
+#[derive(Drop)]
+pub enum ParenContent<T, O, Q> {
+    /// The elements of a tuple.
+    Elements(Punctuated<T, Comma>),
+    /// A trait object that begins with a lifetime.
+    Object(O),
+    /// A trait bound that begins with `?`.
+    Asked(Q),
+    /// A tree alone.
+    One(Boxed<T>),
+}
+
 /// What brackets hold.
 #[derive(Drop)]
 pub enum InBrackets<T, E> {
