@@ -1,5 +1,5 @@
 -- What stands before a form, over the read of what it holds.
-use Rattle.std.specs.Prelude.{Bool, not, Option}
+use Rattle.std.specs.Prelude.{Option}
 use Rattle.token_core.specs.declared.lit.LitStr.{LitStr}
 use Rattle.token_core.specs.Lits.{sees_str, read_str}
 use Rattle.token_core.specs.Loops.{Many, terminated}

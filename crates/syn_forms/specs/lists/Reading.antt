@@ -1,12 +1,10 @@
 -- Values joined by marks.
 use Rattle.std.specs.Prelude.{Bool, true, false, not, ◌&&◌, ◌||◌, if◌then◌else◌, [], ◌∷◌}
-use Rattle.syn_forms.specs.declared.places.BoundPlace.{BoundPlace}
 use Rattle.token_core.specs.declared.tree.Delimiter.TheVariants as d
 use Rattle.token_core.specs.Lifetimes.{sees_lifetime}
 use Rattle.token_core.specs.Loops.{Many, listed, never, terminated}
 use Rattle.token_core.specs.Toks.{Toks}
 use Rattle.token_core.specs.Reads.{Reader, ◌>>=◌, pure, peek, is_done, any_text, sees_group, sees_word}
-use Rattle.syn_forms.specs.places.Reading.{allows_const}
 use Rattle.syn_forms.specs.tokens.Reading.{comma, sees_gt}
 use Rattle.token_core.specs.Tokens as token
 

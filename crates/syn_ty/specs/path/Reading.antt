@@ -1,12 +1,11 @@
 -- The reads of paths and their arguments, over the reads of what they hold.
-use Rattle.std.specs.Prelude.{Bool, true, false, not, ◌&&◌, ◌||◌, ◌==◌, if◌then◌else◌, List, [], ◌∷◌, length, map, Option, Some, None}
+use Rattle.std.specs.Prelude.{Bool, not, ◌&&◌, ◌||◌, if◌then◌else◌, List, [], ◌∷◌, map, Option, Some, None}
 use Rattle.std.specs.List.{list_all}
 use Rattle.syn_forms.specs.declared.places.BoundPlace.TheVariants.{Parameter}
 use Rattle.syn_forms.specs.declared.places.TypePlace.TheVariants.{Plus, NoPlus}
 use Rattle.syn_forms.specs.heads.Reading as heads
 use Rattle.syn_forms.specs.inputs.Reading.{signature}
 use Rattle.syn_forms.specs.lists.Reading.{bounds_to}
-use Rattle.syn_forms.specs.params.Reading.{given}
 use Rattle.syn_forms.specs.paths.Reading as paths
 use Rattle.syn_path.specs.declared.path.PathStyle.{PathStyle}
 use Rattle.syn_path.specs.declared.path.PathStyle.TheVariants.{AsWritten}
@@ -22,7 +21,7 @@ use Rattle.syn_ty.specs.declared.ty.TypeOf.{out-TypeOf}
 use Rattle.syn_ty.specs.declared.ty.TypePathOf.{out-TypePathOf}
 use Rattle.syn_ty.specs.path.Paths.{Sep, angle_of, assoc_const_of, assoc_type_of, constraint_of, is_empty, is_none, no_arguments, parens_of}
 use Rattle.syn_ty.specs.ty.Points.{Readers, a_bound, a_type, an_argument, some_arguments}
-use Rattle.syn_ty.specs.ty.Trees.{AngleBracketed, GenericArgument, Layer, NamedArg, Parenthesized, Path, PathArguments, PathSegment, QSelf, ReturnType, TypePath, TypeTree}
+use Rattle.syn_ty.specs.ty.Trees.{AngleBracketed, GenericArgument, Layer, Parenthesized, Path, PathArguments, PathSegment, QSelf, TypePath, TypeTree}
 use Rattle.syn_ty.specs.ty.Types.{named_arg_of, qualified_with}
 use Rattle.token_core.specs.declared.tree.Delimiter.TheVariants as d
 use Rattle.token_core.specs.declared.tree.Ident.{Ident}

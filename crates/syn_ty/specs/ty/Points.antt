@@ -1,5 +1,4 @@
 -- The points of the knot: what a read may go back to, each in its place.
-use Rattle.std.specs.Prelude.{ℕ}
 use Rattle.syn_forms.specs.declared.places.BoundPlace.{BoundPlace}
 use Rattle.syn_forms.specs.declared.places.ParamPlace.{ParamPlace}
 use Rattle.syn_forms.specs.declared.places.TypePlace.{TypePlace}

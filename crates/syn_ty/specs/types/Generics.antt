@@ -1,7 +1,7 @@
 -- The reads of bounds, binders and parameters, over the reads of what they hold.
-use Rattle.std.specs.Prelude.{Bool, true, false, not, ◌||◌, if◌then◌else◌, get_or, List, [], ◌∷◌, Option, Some, None, is_some, Err}
+use Rattle.std.specs.Prelude.{Bool, true, false, not, ◌||◌, if◌then◌else◌, get_or, List, [], ◌∷◌, Option, Some, None}
 use Rattle.syn_forms.specs.declared.places.BoundPlace.{BoundPlace}
-use Rattle.syn_forms.specs.declared.places.BoundPlace.TheVariants.{Object, Parameter, Opaque}
+use Rattle.syn_forms.specs.declared.places.BoundPlace.TheVariants.{Parameter}
 use Rattle.syn_forms.specs.declared.places.ParamPlace.{ParamPlace}
 use Rattle.syn_forms.specs.declared.places.ParamPlace.TheVariants as p
 use Rattle.syn_forms.specs.declared.places.TypePlace.TheVariants.{Plus}
@@ -28,9 +28,7 @@ use Rattle.syn_ty.specs.ty.Trees.{BoundLifetimes, ConstParam, GenericParam, Path
 use Rattle.token_core.specs.declared.error.ErrorKind.TheVariants.{BinderWithQuestion, CaptureNotAllowed, ConditionalConstNotAllowed, ConstNotAllowed}
 use Rattle.token_core.specs.declared.token.Paren.{Paren}
 use Rattle.token_core.specs.declared.tree.Delimiter.TheVariants as d
-use Rattle.token_core.specs.declared.tree.Ident.{Ident}
 use Rattle.token_core.specs.Lifetimes.{read_lifetime, sees_lifetime}
-use Rattle.token_core.specs.Loops.{Many}
 use Rattle.token_core.specs.Positions.{Item}
 use Rattle.token_core.specs.Reads.{Reader, ◌>>=◌, ◌<$>◌, any_text, ident_name, is_ident, optional, peek, pure, read_word, sees_group, sees_word}
 use Rattle.token_core.specs.Spans.{none}

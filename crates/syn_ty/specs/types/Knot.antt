@@ -2,17 +2,15 @@
 -- much is left is turns enough.
 use Rattle.std.specs.Prelude.{ℕ, zero, suc, Bool, List, Option}
 use Rattle.syn_forms.specs.declared.places.BoundPlace.{BoundPlace}
-use Rattle.syn_forms.specs.declared.places.BoundPlace.TheVariants.{Object, Opaque}
 use Rattle.syn_forms.specs.declared.places.ParamPlace.{ParamPlace}
-use Rattle.syn_forms.specs.declared.places.ParamPlace.TheVariants.{Binder}
 use Rattle.syn_forms.specs.declared.places.TypePlace.{TypePlace}
-use Rattle.syn_forms.specs.declared.places.TypePlace.TheVariants.{Plus, NoPlus}
+use Rattle.syn_forms.specs.declared.places.TypePlace.TheVariants.{Plus}
 use Rattle.syn_forms.specs.nested.Below.{ahead, below}
 use Rattle.syn_path.specs.declared.path.PathStyle.{PathStyle}
 use Rattle.syn_path.specs.declared.path.PathStyle.TheVariants.{AsWritten}
 use Rattle.syn_path.specs.Values.{ReadValues}
 use Rattle.syn_ty.specs.path.Reading as paths
-use Rattle.syn_ty.specs.ty.Points.{Point, Readers, Tree, a_bound, a_param, a_type, an_argument, some_arguments}
+use Rattle.syn_ty.specs.ty.Points.{Readers, a_bound, a_param, a_type, an_argument, some_arguments}
 use Rattle.syn_ty.specs.ty.Trees.{AngleBracketed, BoundLifetimes, ConstParam, GenericArgument, GenericParam, NamedArg, Parenthesized, Path, PathArguments, PathSegment, ReturnType, TraitBound, TypeArray, TypeFnPtr, TypeGroup, TypeImplTrait, TypeParam, TypeParamBound, TypeParen, TypePath, TypePtr, TypeReference, TypeSlice, TypeTraitObject, TypeTree, TypeTuple}
 use Rattle.syn_ty.specs.types.Generics as generics
 use Rattle.syn_ty.specs.types.Reading as reading

@@ -27,7 +27,6 @@ use Rattle.syn_path.specs.Values.{ReadValues}
 use Rattle.syn_ty.specs.declared.generics.GenericParamOf.TheOpen as o
 use Rattle.syn_ty.specs.declared.generics.TypeParamBoundOf.{out-TypeParamBoundOf}
 use Rattle.syn_ty.specs.declared.generics.TypeParamBoundOf.TheVariants as b
-use Rattle.syn_ty.specs.declared.path.PathArgumentsOf.TheVariants as a
 use Rattle.syn_ty.specs.declared.ty.Abi.{Abi}
 use Rattle.syn_ty.specs.declared.ty.FnPtrVariadicOf.{FnPtrVariadicOf}
 use Rattle.syn_ty.specs.declared.ty.TypeInferOf.{TypeInferOf}
@@ -35,10 +34,10 @@ use Rattle.syn_ty.specs.declared.ty.TypeMacroOf.{TypeMacroOf}
 use Rattle.syn_ty.specs.declared.ty.TypeNeverOf.{TypeNeverOf}
 use Rattle.syn_ty.specs.declared.ty.TypeOf.{out-TypeOf}
 use Rattle.syn_ty.specs.declared.ty.TypeOf.TheVariants as t
-use Rattle.syn_ty.specs.declared.ty.TypePathOf.{out-TypePathOf, roll-TypePathOf}
+use Rattle.syn_ty.specs.declared.ty.TypePathOf.{out-TypePathOf}
 use Rattle.syn_ty.specs.generics.Params.{held_bound, named_bound}
 use Rattle.syn_ty.specs.path.Paths.{is_none, no_arguments, nothing, without}
-use Rattle.syn_ty.specs.path.Reading.{angle_bracketed, is_mod_style, maybe_qualified, path, rest, return_of}
+use Rattle.syn_ty.specs.path.Reading.{is_mod_style, maybe_qualified, path, rest, return_of}
 use Rattle.syn_ty.specs.ty.Points.{Readers, a_bound, a_type, some_arguments}
 use Rattle.syn_ty.specs.ty.Trees.{BoundLifetimes, Layer, NamedArg, Path, QSelf, ReturnType, TraitBound, TypeArray, TypeFnPtr, TypeGroup, TypeImplTrait, TypeParamBound, TypeParen, TypePath, TypePtr, TypeReference, TypeSlice, TypeTraitObject, TypeTree, TypeTuple}
 use Rattle.syn_ty.specs.ty.Types.{array_of, fn_ptr_with, group_with, impl_trait_with, infer_of, macro_type_of, named_arg_of, never_of, paren_of, path_type_of, ptr_of, qself_of, qualified_with, reference_of, slice_of, trait_object_with, tuple_of, variadic_of}
@@ -50,14 +49,12 @@ use Rattle.token_core.specs.declared.token.Bracket.{Bracket}
 use Rattle.token_core.specs.declared.token.GroupToken.{GroupToken}
 use Rattle.token_core.specs.declared.token.Paren.{Paren}
 use Rattle.token_core.specs.declared.tree.Delimiter.TheVariants as d
-use Rattle.token_core.specs.declared.tree.Ident.{Ident}
-use Rattle.token_core.specs.declared.tree.TokenStream.{TokenStream}
 use Rattle.token_core.specs.Groups.{paren_name, sees_invisible}
 use Rattle.token_core.specs.Lifetimes.{read_lifetime, sees_lifetime}
 use Rattle.token_core.specs.Loops.{Many}
 use Rattle.token_core.specs.Positions.{Item}
 use Rattle.token_core.specs.Reads.{Reader, ◌>>=◌, ◌<$>◌, any_text, builtin_text, ident_name, is_ident, is_text, open_group, optional, peek, pure, read_word, second, sees_group, sees_word, third}
-use Rattle.token_core.specs.Toks.{Bytes, Toks}
+use Rattle.token_core.specs.Toks.{Toks}
 use Rattle.token_core.specs.Tokens as token
 
 -- ---- tests
