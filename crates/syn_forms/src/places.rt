@@ -1,5 +1,8 @@
 //! Where a tree stands: what its reader may take there.
 
+ghost use Rattle.std.specs.Prelude.{◌≡◌};
+ghost use Rattle.syn_forms.specs.places.Reading as spec;
+
 /// Where a type stands.
 #[derive(Clone, Copy, PartialEq, Eq)]
 pub enum TypePlace {
@@ -11,6 +14,19 @@ pub enum TypePlace {
     Bounded,
 }
 
+impl TypePlace {
+    /// Whether a `+` after the type goes on with it.
+    pub fn allows_plus(self) -> bool
+        ensures { result ≡ spec.allows_plus self }
+    {
+        match self {
+            TypePlace::Plus => true,
+            TypePlace::NoPlus => false,
+            TypePlace::Bounded => true,
+        }
+    }
+}
+
 /// Where a bound stands.
 #[derive(Clone, Copy, PartialEq, Eq)]
 pub enum BoundPlace {
@@ -20,6 +36,30 @@ pub enum BoundPlace {
     Parameter,
     /// In `impl`, and a bound by itself: `const` forms and `use<..>`.
     Opaque,
+}
+
+impl BoundPlace {
+    /// Whether the bound may be `const` or `[const]`.
+    pub fn allows_const(self) -> bool
+        ensures { result ≡ spec.allows_const self }
+    {
+        match self {
+            BoundPlace::Object => false,
+            BoundPlace::Parameter => true,
+            BoundPlace::Opaque => true,
+        }
+    }
+
+    /// Whether the bound may be `use<..>`.
+    pub fn allows_capture(self) -> bool
+        ensures { result ≡ spec.allows_capture self }
+    {
+        match self {
+            BoundPlace::Object => false,
+            BoundPlace::Parameter => false,
+            BoundPlace::Opaque => true,
+        }
+    }
 }
 
 /// Where a parameter stands.

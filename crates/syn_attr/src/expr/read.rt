@@ -4,11 +4,12 @@ ghost use Rattle.std.specs.Prelude.{◌≡◌};
 ghost use Rattle.token_core.specs.Reads.{Reads, Follows};
 ghost use Rattle.syn_attr.specs.attr.Reading as reading;
 
-use crate::expr::{Expr, ExprLit};
+use crate::expr::{Expr, ExprBlock, ExprLit, ExprPath};
 use std::alloc::Global;
+use syn_path::path::ModPath;
 use syn_path::supplied::{Place, Subtree};
-use token_core::token::{Bracket, Pound};
-use token_core::{Error, ErrorKind, Items, Lit, ParseStream};
+use token_core::token::{Brace, Bracket, Pound};
+use token_core::{Error, ErrorKind, Ident, Items, Lit, ParseStream};
 
 /// The value of an attribute: a literal that ends the stream, or what the supplied subtree reads.
 #[tactic(auto, using(token_core::proofs::Suffixes::follows), unfolding(crate::specs::attr::Reading::value))]
@@ -65,4 +66,50 @@ fn parse_other<X: Subtree>(alloc: Global, input: &mut ParseStream<'_>) -> Result
         return Err(input.refuse(alloc, ErrorKind::AttributeInAttribute));
     }
     Ok(Expr::Other(X::read(alloc, Place::Value, input)?))
+}
+
+/// A body in braces.
+#[tactic(auto, using(token_core::proofs::Suffixes::follows), unfolding(crate::specs::attr::Reading::block))]
+fn parse_block<X: Subtree>(alloc: Global, input: &mut ParseStream<'_>) -> Result<Expr<X>, Error>
+    ensures reads { Reads (reading.block X.reads input.old) result input.new }
+    ensures within { Follows input.old input.new }
+{
+    let (brace_token, mut content) = input.braced(alloc)?;
+    let body = X::read(alloc, Place::Block, &mut content)?;
+    input.finish(content);
+    Ok(Expr::Block(ExprBlock {
+        attrs: Items::new(alloc),
+        brace_token,
+        body,
+    }))
+}
+
+/// A const argument, or the default of a const parameter: a literal, an identifier or a block (`const_argument`).
+#[tactic(auto, using(token_core::proofs::Suffixes::follows), unfolding(crate::specs::attr::Reading::const_argument))]
+pub(crate) fn parse_const_argument<X: Subtree>(
+    alloc: Global,
+    input: &mut ParseStream<'_>,
+) -> Result<Expr<X>, Error>
+    ensures reads { Reads (reading.const_argument X.reads input.old) result input.new }
+    ensures within { Follows input.old input.new }
+{
+    if input.peek::<Lit>() {
+        let lit = input.parse::<Lit>(alloc)?;
+        return Ok(Expr::Lit(ExprLit {
+            attrs: Items::new(alloc),
+            lit,
+        }));
+    }
+    if input.peek::<Ident>() {
+        let ident = input.parse::<Ident>(alloc)?;
+        let path = ModPath::from_ident(alloc, ident)?;
+        return Ok(Expr::Path(ExprPath {
+            attrs: Items::new(alloc),
+            path,
+        }));
+    }
+    if input.peek::<Brace>() {
+        return parse_block(alloc, input);
+    }
+    Err(input.lookahead1().error(alloc))
 }
