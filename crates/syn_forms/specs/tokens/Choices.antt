@@ -1,8 +1,8 @@
 -- Choices of tokens: what a refusal names where none of them follows.
-use Rattle.std.specs.Prelude.{ℕ, List, map, Err}
-use Rattle.token_core.specs.Looks.{unmet_at}
-use Rattle.token_core.specs.Reads.{Reader}
-use Rattle.token_core.specs.TokenNames.{name_of, mark_number, word_number}
+use Rattle.std.specs.Prelude.{ℕ, List, Err}
+use Rattle.token_core.specs.Looks.{unmet}
+use Rattle.token_core.specs.Reads.{Reader, forked}
+use Rattle.token_core.specs.TokenNames.{mark_number, word_number}
 
 -- ---- tokens by their numbers
 
@@ -79,4 +79,4 @@ a_bracket = 53
 
 -- none of these follows
 abbrev pub none_of : {A : Type 0} → List ℕ → Reader A
-none_of ns = λ s. Err (unmet_at (map name_of ns) s)
+none_of ns = λ s. Err (unmet (record { input = forked s; missing = ns }))

@@ -89,6 +89,27 @@ no_const_form = do
 
 -- ---- bounds
 
+module _ {A E : Type 0} where
+  -- A binder and a `?` refuse each other, at the `?`, once the path is read.
+  abbrev pub trait_of : Option (BoundLifetimes A E) → Option token.Question → Path A E → Reader (TraitBound A E)
+  trait_of (Some x) (Some q) p = refuse_at BinderWithQuestion (get_or q.spans 0 none)
+  trait_of (Some x) None p = pure (named_bound (Some x) None p)
+  trait_of None q p = pure (named_bound None q p)
+
+  -- a trait bound, where no `const` form stood before it
+  abbrev pub unless : Bool → TraitBound A E → Option (TraitBound A E)
+  unless true x = None
+  unless false x = Some x
+
+  -- a trait, or its tokens as they were written
+  abbrev pub kept : List Item → Option (TraitBound A E) → Reader (TypeParamBound A E)
+  kept from (Some x) = pure (b.Trait x)
+  kept from None = b.Verbatim <$> since from
+
+  abbrev pub kept_in_parens : List Item → Paren × Option (TraitBound A E) → Reader (TypeParamBound A E)
+  kept_in_parens from (t, Some x) = kept from (Some (held_bound t x))
+  kept_in_parens from (t, None) = kept from None
+
 module _ {A E : Type 0} (r : Readers A E) where
   unfoldable pub binder : Reader (BoundLifetimes A E)
   binder = (λ p. bound_lifetimes_of p.0 p.1.0 p.1.1 p.1.2) <$> heads.binder (r (a_param p.Binder))
@@ -101,12 +122,6 @@ module _ {A E : Type 0} (r : Readers A E) where
   binder_after None (Some q) = optional_binder
   binder_after None None = pure None
   binder_after (Some x) q = pure (Some x)
-
-  -- A binder and a `?` refuse each other, at the `?`, once the path is read.
-  abbrev pub trait_of : Option (BoundLifetimes A E) → Option token.Question → Path A E → Reader (TraitBound A E)
-  trait_of (Some x) (Some q) p = refuse_at BinderWithQuestion (get_or q.spans 0 none)
-  trait_of (Some x) None p = pure (named_bound (Some x) None p)
-  trait_of None q p = pure (named_bound None q p)
 
   -- what follows the first binder and a `const` form: `?`, a binder behind it, a path in the style of types, a signature
   unfoldable pub trait_after : Option (BoundLifetimes A E) → Reader (TraitBound A E)
@@ -124,10 +139,6 @@ module _ {A E : Type 0} (r : Readers A E) where
     k ← no_const_form
     trait_after x
 
-  abbrev pub unless : Bool → TraitBound A E → Option (TraitBound A E)
-  unless true x = None
-  unless false x = Some x
-
   -- the same where `const` forms may stand: with one there is no tree for it
   unfoldable pub trait_or_const : Reader (Option (TraitBound A E))
   trait_or_const = do
@@ -139,15 +150,6 @@ module _ {A E : Type 0} (r : Readers A E) where
   abbrev pub trait_in : Bool → Reader (Option (TraitBound A E))
   trait_in true = trait_or_const
   trait_in false = Some <$> trait_bound
-
-  -- a trait, or its tokens as they were written
-  abbrev pub kept : List Item → Option (TraitBound A E) → Reader (TypeParamBound A E)
-  kept from (Some x) = pure (b.Trait x)
-  kept from None = b.Verbatim <$> since from
-
-  abbrev pub kept_in_parens : List Item → Paren × Option (TraitBound A E) → Reader (TypeParamBound A E)
-  kept_in_parens from (t, Some x) = kept from (Some (held_bound t x))
-  kept_in_parens from (t, None) = kept from None
 
   -- a bound that is neither a lifetime nor a capture
   unfoldable pub trait_in_place : BoundPlace → Reader (TypeParamBound A E)
@@ -173,6 +175,14 @@ module _ {A E : Type 0} (r : Readers A E) where
 
 -- ---- parameters, after their attributes and by themselves
 
+abbrev pub sees_ident : Toks → Bool
+sees_ident = sees_word is_ident
+
+module _ {A E : Type 0} where
+  -- a bare `_`, without bounds and default
+  abbrev pub underscore_after : List A → Reader (GenericParam A E)
+  underscore_after a = (λ i. g.«Type» (type_param_of a i None ([], []) None)) <$> read_word any_text ident_name
+
 module _ {A : Type 0} (attrs : Reader (List A)) where
   abbrev pub lifetime_after : List A → Reader (LifetimeParamOf A)
   lifetime_after a = (λ p. lifetime_param_of a p.0 p.1 p.2) <$> lifetime_parts
@@ -192,13 +202,6 @@ module _ {A E : Type 0} (attrs : Reader (List A)) (values : ReadValues E) (r : R
 
   unfoldable pub const_param : Reader (ConstParam A E)
   const_param = attrs >>= const_after
-
-  -- a bare `_`, without bounds and default
-  abbrev pub underscore_after : List A → Reader (GenericParam A E)
-  underscore_after a = (λ i. g.«Type» (type_param_of a i None ([], []) None)) <$> read_word any_text ident_name
-
-  abbrev pub sees_ident : Toks → Bool
-  sees_ident = sees_word is_ident
 
   -- in a binder: identifier, lifetime, `const`
   unfoldable pub in_binder : List A → Reader (GenericParam A E)

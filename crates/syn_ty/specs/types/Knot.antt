@@ -90,7 +90,7 @@ module _ {A E : Type 0} (attrs : Reader (List A)) (values : ReadValues E) where
   const_param = single (generics.const_param attrs values)
 
   unfoldable pub array : Reader (TypeArray A E)
-  array = single (reading.array attrs values)
+  array = single (reading.array values)
 
   unfoldable pub fn_ptr : Reader (TypeFnPtr A E)
   fn_ptr = single (reading.fn_ptr attrs values)

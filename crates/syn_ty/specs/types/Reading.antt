@@ -242,6 +242,15 @@ module _ {A E : Type 0} where
   bracketed p (Element x) = t.Slice (slice_of p x)
   bracketed p (Counted x n) = t.Array (array_of p x n.0 n.1)
 
+  -- `dyn *` has no case of its own
+  abbrev pub dyn_of : List Item → token.Dyn → Option token.Star → Many (TypeParamBound A E) token.Plus → Reader (TypeTree A E)
+  dyn_of from w None v = pure (t.TraitObject (trait_object_with [] (Some w) v))
+  dyn_of from w (Some s) v = t.Verbatim <$> since from
+
+  -- what `builtin #` begins is held as it was written, from a position on
+  abbrev pub builtin_type : List Item → Reader (TypeTree A E)
+  builtin_type from = builtin >>= (λ u. t.Verbatim <$> since from)
+
 -- the place of a type that ends the type which holds it
 abbrev pub last_place : TypePlace → TypePlace
 last_place Plus = Plus
@@ -293,11 +302,6 @@ module _ {A E : Type 0} (r : Readers A E) where
     x ← bound_step r Object
     v ← object_bounds from plus x
     pure (trait_object_with [] w v)
-
-  -- `dyn *` has no case of its own
-  abbrev pub dyn_of : List Item → token.Dyn → Option token.Star → Many (TypeParamBound A E) token.Plus → Reader (TypeTree A E)
-  dyn_of from w None v = pure (t.TraitObject (trait_object_with [] (Some w) v))
-  dyn_of from w (Some s) v = t.Verbatim <$> since from
 
   unfoldable pub dyn_type : Bool → Reader (TypeTree A E)
   dyn_type plus = do
@@ -388,18 +392,18 @@ module _ {A E : Type 0} (r : Readers A E) where
     x ← r (a_type (last_place place))
     t.Verbatim <$> since from
 
-  abbrev pub builtin_type : List Item → Reader (TypeTree A E)
-  builtin_type from = builtin >>= (λ u. t.Verbatim <$> since from)
+-- ---- arrays
 
--- ---- a type
-
-module _ {A E : Type 0} (attrs : Reader (List A)) (values : ReadValues E) (r : Readers A E) where
+module _ {A E : Type 0} (values : ReadValues E) (r : Readers A E) where
   unfoldable pub array : Reader (TypeArray A E)
   array = (λ g. array_of g.0 g.1.0 g.1.1.0 g.1.1.1) <$> in_brackets (content.array_content values.len (r (a_type Plus)))
 
   unfoldable pub slice_or_array : Reader (TypeTree A E)
   slice_or_array = (λ g. bracketed g.0 g.1) <$> in_brackets (content.bracket_content values.len (r (a_type Plus)))
 
+-- ---- a type
+
+module _ {A E : Type 0} (attrs : Reader (List A)) (values : ReadValues E) (r : Readers A E) where
   -- `fn`, with what may stand before it, after the binder
   unfoldable pub fn_ptr_after : Option (BoundLifetimes A E) → Reader (TypeFnPtr A E)
   fn_ptr_after l = do
@@ -419,7 +423,7 @@ module _ {A E : Type 0} (attrs : Reader (List A)) (values : ReadValues E) (r : R
       is_fn_ptr ← peek sees_fn_ptr
       if is_fn_ptr then t.FnPtr <$> fn_ptr_after l else (do
         is_builtin ← peek sees_builtin
-        if is_builtin then builtin_type r from else (maybe_qualified r AsWritten >>= path_or_object r (allows_plus place) l)))
+        if is_builtin then builtin_type from else (maybe_qualified r AsWritten >>= path_or_object r (allows_plus place) l)))
 
   -- after a binder
   unfoldable pub bound_type : TypePlace → List Item → Reader (TypeTree A E)
@@ -446,7 +450,7 @@ module _ {A E : Type 0} (attrs : Reader (List A)) (values : ReadValues E) (r : R
     is_dyn ← peek token.sees_dyn
     if is_dyn then dyn_type r plus else (do
       is_bracket ← peek (sees_group d.Bracket)
-      if is_bracket then slice_or_array else (do
+      if is_bracket then slice_or_array values r else (do
         is_ptr ← peek token.sees_star
         if is_ptr then t.Ptr <$> ptr r else (do
           is_reference ← peek token.sees_and
