@@ -69,10 +69,7 @@ impl<X: Subtree> Value for Expr<X> {
         Ok(Expr::Other(len))
     }
 
-    fn read_const_argument(
-        alloc: Global,
-        input: &mut ParseStream<'_>,
-    ) -> Result<Expr<X>, Error> {
+    fn read_const_argument(alloc: Global, input: &mut ParseStream<'_>) -> Result<Expr<X>, Error> {
         parse_const_argument(alloc, input)
     }
 

@@ -117,8 +117,7 @@ impl ErrorKind {
                 "`use<...>` precise capturing syntax is not allowed here",
             ErrorKind::ConditionalConstNotAllowed => "`[const]` is not allowed here",
             ErrorKind::ConstNotAllowed => "`const` is not allowed here",
-            ErrorKind::NoTraitInObject =>
-                "at least one trait is required for an object type",
+            ErrorKind::NoTraitInObject => "at least one trait is required for an object type",
             ErrorKind::NoTraitInImpl => "at least one trait must be specified",
         }
     }

@@ -71,9 +71,9 @@ module _ {A : Type 0} (value : Reader A) (verbatim : TokenStream → A) where
       x ← value
       t ← since from
       pure (None, verbatim t)) else (do
-      w ← token.self_value
-      t ← since from
-      pure (None, verbatim t))
+        w ← token.self_value
+        t ← since from
+        pure (None, verbatim t))
 
   -- `x: mut self` is held as it was written too; `self: T` has a name
   unfoldable pub named_argument : Reader (Name × A)
@@ -86,8 +86,8 @@ module _ {A : Type 0} (value : Reader A) (verbatim : TokenStream → A) where
       w ← token.self_value
       t ← since from
       pure (None, verbatim t)) else (do
-      x ← value
-      pure (n, x))
+        x ← value
+        pure (n, x))
 
   -- the first argument of a pointer to a function
   unfoldable pub first_argument : Reader (Name × A)
