@@ -6,7 +6,7 @@ ghost use Rattle.token_core.specs.Groups as groups;
 ghost use Rattle.token_core.specs.Headline.{Headline, Heads};
 ghost use Rattle.token_core.specs.Lifetimes.{read_optional_lifetime};
 ghost use Rattle.token_core.specs.Reads as spec;
-ghost use Rattle.token_core.specs.Reads.{Reads, Follows, Gives, Fails};
+ghost use Rattle.token_core.specs.Reads.{Reads, Follows, Gives, Fails, Parses};
 ghost use Rattle.token_core.specs.Rebuilt.{Visible};
 ghost use Rattle.syn_forms.specs.nested.Below.{ahead};
 ghost use Rattle.syn_forms.specs.tokens.Grammars as grammars;
@@ -64,8 +64,7 @@ pub fn open_parens<'a>(
     alloc: Global,
     input: &mut ParseStream<'a>,
 ) -> Result<(Paren, ParseStream<'a>), Error>
-    ensures reads { Reads (groups.opened groups.paren (spec.open_group delimiter.Parenthesis groups.paren_name input.old)) result input.new }
-    ensures within { Follows input.old input.new }
+    ensures parses { Parses (λ s. groups.opened groups.paren (spec.open_group delimiter.Parenthesis groups.paren_name s)) result input.old input.new }
     ensures inside { IfOk result (λ p. ahead p.1 < ahead input.old) }
 {
     input.parenthesized(alloc)
@@ -77,8 +76,7 @@ pub fn open_brackets<'a>(
     alloc: Global,
     input: &mut ParseStream<'a>,
 ) -> Result<(Bracket, ParseStream<'a>), Error>
-    ensures reads { Reads (groups.opened groups.bracket (spec.open_group delimiter.Bracket groups.bracket_name input.old)) result input.new }
-    ensures within { Follows input.old input.new }
+    ensures parses { Parses (λ s. groups.opened groups.bracket (spec.open_group delimiter.Bracket groups.bracket_name s)) result input.old input.new }
     ensures inside { IfOk result (λ p. ahead p.1 < ahead input.old) }
 {
     input.bracketed(alloc)
@@ -87,8 +85,7 @@ pub fn open_brackets<'a>(
 /// `,`
 #[tactic(auto, using(crate::proofs::nested_laws::Ahead::past_tokens))]
 pub fn parse_comma(alloc: Global, input: &mut ParseStream<'_>) -> Result<Comma, Error>
-    ensures reads { Reads (reading.comma input.old) result input.new }
-    ensures within { Follows input.old input.new }
+    ensures parses { Parses reading.comma result input.old input.new }
     ensures taken { IfOk result (λ _. ahead input.new < ahead input.old) }
 {
     input.parse::<Comma>(alloc)
@@ -97,8 +94,7 @@ pub fn parse_comma(alloc: Global, input: &mut ParseStream<'_>) -> Result<Comma, 
 /// `+`
 #[tactic(auto, using(crate::proofs::nested_laws::Ahead::past_tokens))]
 pub fn parse_plus(alloc: Global, input: &mut ParseStream<'_>) -> Result<Plus, Error>
-    ensures reads { Reads (reading.plus input.old) result input.new }
-    ensures within { Follows input.old input.new }
+    ensures parses { Parses reading.plus result input.old input.new }
     ensures taken { IfOk result (λ _. ahead input.new < ahead input.old) }
 {
     input.parse::<Plus>(alloc)
@@ -107,8 +103,7 @@ pub fn parse_plus(alloc: Global, input: &mut ParseStream<'_>) -> Result<Plus, Er
 /// `*`
 #[tactic(auto, using(crate::proofs::nested_laws::Ahead::past_tokens))]
 pub fn parse_star(alloc: Global, input: &mut ParseStream<'_>) -> Result<Star, Error>
-    ensures reads { Reads (reading.star input.old) result input.new }
-    ensures within { Follows input.old input.new }
+    ensures parses { Parses reading.star result input.old input.new }
     ensures taken { IfOk result (λ _. ahead input.new < ahead input.old) }
 {
     input.parse::<Star>(alloc)
@@ -117,8 +112,7 @@ pub fn parse_star(alloc: Global, input: &mut ParseStream<'_>) -> Result<Star, Er
 /// `&`
 #[tactic(auto, using(crate::proofs::nested_laws::Ahead::past_tokens))]
 pub fn parse_and(alloc: Global, input: &mut ParseStream<'_>) -> Result<And, Error>
-    ensures reads { Reads (reading.and input.old) result input.new }
-    ensures within { Follows input.old input.new }
+    ensures parses { Parses reading.and result input.old input.new }
     ensures taken { IfOk result (λ _. ahead input.new < ahead input.old) }
 {
     input.parse::<And>(alloc)
@@ -127,8 +121,7 @@ pub fn parse_and(alloc: Global, input: &mut ParseStream<'_>) -> Result<And, Erro
 /// `<`
 #[tactic(auto, using(crate::proofs::nested_laws::Ahead::past_tokens))]
 pub fn parse_lt(alloc: Global, input: &mut ParseStream<'_>) -> Result<Lt, Error>
-    ensures reads { Reads (reading.lt input.old) result input.new }
-    ensures within { Follows input.old input.new }
+    ensures parses { Parses reading.lt result input.old input.new }
     ensures taken { IfOk result (λ _. ahead input.new < ahead input.old) }
 {
     input.parse::<Lt>(alloc)
@@ -137,8 +130,7 @@ pub fn parse_lt(alloc: Global, input: &mut ParseStream<'_>) -> Result<Lt, Error>
 /// `>`
 #[tactic(auto, using(crate::proofs::nested_laws::Ahead::past_tokens))]
 pub fn parse_gt(alloc: Global, input: &mut ParseStream<'_>) -> Result<Gt, Error>
-    ensures reads { Reads (reading.gt input.old) result input.new }
-    ensures within { Follows input.old input.new }
+    ensures parses { Parses reading.gt result input.old input.new }
     ensures taken { IfOk result (λ _. ahead input.new < ahead input.old) }
 {
     input.parse::<Gt>(alloc)
@@ -147,8 +139,7 @@ pub fn parse_gt(alloc: Global, input: &mut ParseStream<'_>) -> Result<Gt, Error>
 /// `for`
 #[tactic(auto, using(crate::proofs::nested_laws::Ahead::past_tokens))]
 pub fn parse_for(alloc: Global, input: &mut ParseStream<'_>) -> Result<For, Error>
-    ensures reads { Reads (reading.for_word input.old) result input.new }
-    ensures within { Follows input.old input.new }
+    ensures parses { Parses reading.for_word result input.old input.new }
     ensures taken { IfOk result (λ _. ahead input.new < ahead input.old) }
 {
     input.parse::<For>(alloc)
@@ -162,8 +153,7 @@ pub fn parse_mutability(
     alloc: Global,
     input: &mut ParseStream<'_>,
 ) -> Result<PointerMutability, Error>
-    ensures reads { Reads (reading.mutability input.old) result input.new }
-    ensures within { Follows input.old input.new }
+    ensures parses { Parses reading.mutability result input.old input.new }
     ensures fewer { ahead input.new ≤ ahead input.old }
 {
     if input.peek::<Const>() {
@@ -178,8 +168,7 @@ pub fn parse_mutability(
 /// A lifetime that may be there.
 #[tactic(auto, using(crate::proofs::nested_laws::Ahead::later))]
 pub fn parse_lifetime(alloc: Global, input: &mut ParseStream<'_>) -> Result<Option<Lifetime>, Error>
-    ensures reads { Reads (read_optional_lifetime input.old) result input.new }
-    ensures within { Follows input.old input.new }
+    ensures parses { Parses read_optional_lifetime result input.old input.new }
     ensures fewer { ahead input.new ≤ ahead input.old }
 {
     Lifetime::parse_optional_any(alloc, input)
@@ -188,8 +177,7 @@ pub fn parse_lifetime(alloc: Global, input: &mut ParseStream<'_>) -> Result<Opti
 /// `mut` that may be there.
 #[tactic(auto, using(crate::proofs::nested_laws::Ahead::later))]
 pub fn parse_mut(alloc: Global, input: &mut ParseStream<'_>) -> Result<Option<Mut>, Error>
-    ensures reads { Reads (reading.mutable input.old) result input.new }
-    ensures within { Follows input.old input.new }
+    ensures parses { Parses reading.mutable result input.old input.new }
     ensures fewer { ahead input.new ≤ ahead input.old }
 {
     input.parse_option::<Mut>(alloc)
@@ -198,8 +186,7 @@ pub fn parse_mut(alloc: Global, input: &mut ParseStream<'_>) -> Result<Option<Mu
 /// `?` that may be there.
 #[tactic(auto, using(crate::proofs::nested_laws::Ahead::later))]
 pub fn parse_question(alloc: Global, input: &mut ParseStream<'_>) -> Result<Option<Question>, Error>
-    ensures reads { Reads (reading.question input.old) result input.new }
-    ensures within { Follows input.old input.new }
+    ensures parses { Parses reading.question result input.old input.new }
     ensures fewer { ahead input.new ≤ ahead input.old }
 {
     input.parse_option::<Question>(alloc)

@@ -1,6 +1,5 @@
 -- What parentheses and brackets hold, over the read of the tree that they hold.
-use Rattle.std.specs.Prelude.{Bool, true, false, if◌then◌else◌, [], ◌∷◌}
-use Rattle.token_core.specs.declared.span.DelimSpan.{DelimSpan}
+use Rattle.std.specs.Prelude.{if◌then◌else◌, []}
 use Rattle.token_core.specs.declared.token.Bracket.{Bracket}
 use Rattle.token_core.specs.declared.token.Paren.{Paren}
 use Rattle.token_core.specs.declared.tree.Delimiter.TheVariants as d

@@ -1,5 +1,4 @@
 -- What stands before a form, over the read of what it holds.
-use Rattle.std.specs.Prelude.{Bool, not}
 use Rattle.token_core.specs.Loops.{Many, terminated}
 use Rattle.token_core.specs.Reads.{Reader, ◌>>=◌, pure}
 use Rattle.syn_forms.specs.tokens.Reading.{comma, lt, gt, for_word, sees_gt}

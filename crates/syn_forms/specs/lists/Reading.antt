@@ -1,5 +1,5 @@
 -- Values joined by marks.
-use Rattle.std.specs.Prelude.{Bool, true, not, ◌∷◌}
+use Rattle.std.specs.Prelude.{Bool, not, ◌∷◌}
 use Rattle.token_core.specs.Loops.{Many, listed, terminated}
 use Rattle.token_core.specs.Toks.{Toks}
 use Rattle.token_core.specs.Reads.{Reader, ◌>>=◌, pure, is_done}
