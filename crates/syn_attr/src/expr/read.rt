@@ -1,7 +1,7 @@
 //! Values are read.
 
 ghost use Rattle.std.specs.Prelude.{◌≡◌};
-ghost use Rattle.token_core.specs.Reads.{Reads, Follows};
+ghost use Rattle.token_core.specs.Reads.{Parses};
 ghost use Rattle.syn_attr.specs.attr.Reading as reading;
 
 use crate::expr::{Expr, ExprLit};
@@ -16,8 +16,7 @@ pub(crate) fn parse_value<X: Subtree>(
     alloc: Global,
     input: &mut ParseStream<'_>,
 ) -> Result<Expr<X>, Error>
-    ensures reads { Reads (reading.value X.reads input.old) result input.new }
-    ensures within { Follows input.old input.new }
+    ensures parses { Parses (reading.value X.reads) result input.old input.new }
 {
     match parse_last_literal(alloc, input)? {
         Some(lit) => Ok(Expr::Lit(ExprLit {
@@ -31,8 +30,7 @@ pub(crate) fn parse_value<X: Subtree>(
 /// The literal that ends the stream, if one does; else the stream stays where it is.
 #[tactic(auto, using(token_core::proofs::Suffixes::forks), unfolding(crate::specs::attr::Reading::last_literal))]
 fn parse_last_literal(alloc: Global, input: &mut ParseStream<'_>) -> Result<Option<Lit>, Error>
-    ensures reads { Reads (reading.last_literal input.old) result input.new }
-    ensures within { Follows input.old input.new }
+    ensures parses { Parses reading.last_literal result input.old input.new }
 {
     let mut ahead = input.fork();
     match ahead.parse_option::<Lit>(alloc)? {
@@ -58,8 +56,7 @@ fn peek_attribute(input: &ParseStream<'_>) -> bool
 
 #[tactic(auto, using(token_core::proofs::Suffixes::follows), unfolding(crate::specs::attr::Reading::other))]
 fn parse_other<X: Subtree>(alloc: Global, input: &mut ParseStream<'_>) -> Result<Expr<X>, Error>
-    ensures reads { Reads (reading.other X.reads input.old) result input.new }
-    ensures within { Follows input.old input.new }
+    ensures parses { Parses (reading.other X.reads) result input.old input.new }
 {
     if peek_attribute(input) {
         return Err(input.refuse(alloc, ErrorKind::AttributeInAttribute));
