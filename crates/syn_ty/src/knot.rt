@@ -1,6 +1,6 @@
 //! The knot: the readers that go back to themselves, each of which hands the readers of what is held to one turn.
 
-ghost use Rattle.token_core.specs.Reads.{Reads, Follows};
+ghost use Rattle.token_core.specs.Reads.{Reads, Follows, Parses};
 ghost use Rattle.syn_ty.specs.ty.Knot as knot;
 
 use crate::generics::{GenericParamOf, TypeParamBoundOf};
@@ -47,8 +47,7 @@ pub fn parse_type<A: Attributes, E: Value>(
     input: &mut ParseStream<'_>,
     plus: bool,
 ) -> Result<TypeOf<A, E>, Error>
-    ensures reads { Reads (knot.ty E.reads plus input.old) result input.new }
-    ensures within { Follows input.old input.new }
+    ensures parses { Parses (knot.ty E.reads plus) result input.old input.new }
 {
     let types = Nested {
         alloc,
@@ -86,8 +85,7 @@ pub fn parse_bound<A: Attributes, E: Value>(
     input: &mut ParseStream<'_>,
     place: (),
 ) -> Result<TypeParamBoundOf<A, E>, Error>
-    ensures reads { Reads (knot.bound E.reads input.old) result input.new }
-    ensures within { Follows input.old input.new }
+    ensures parses { Parses (knot.bound E.reads) result input.old input.new }
 {
     let types = Nested {
         alloc,
@@ -124,8 +122,7 @@ fn parse_param<A: Attributes, E: Value>(
     input: &mut ParseStream<'_>,
     place: (),
 ) -> Result<GenericParamOf<A, E>, Error>
-    ensures reads { Reads (knot.param E.reads input.old) result input.new }
-    ensures within { Follows input.old input.new }
+    ensures parses { Parses (knot.param E.reads) result input.old input.new }
 {
     param_step(alloc, input)
 }

@@ -2,7 +2,7 @@
 
 ghost use Rattle.std.specs.Prelude.{◌≡◌, false, true, IfOk, Option};
 ghost use Rattle.token_core.specs.Headline.{Headline, Heads};
-ghost use Rattle.token_core.specs.Reads.{Reads, Follows, Gives, Fails};
+ghost use Rattle.token_core.specs.Reads.{Reads, Follows, Gives, Fails, Parses};
 ghost use Rattle.token_core.specs.Rebuilt.{Visible};
 ghost use Rattle.syn_ty.specs.ty.Grammars as grammars;
 ghost use Rattle.syn_ty.specs.ty.Knot as knot;
@@ -28,8 +28,7 @@ use token_core::{Error, Parse, ParseStream};
 impl<A: Attributes, E: Value> TypeOf<A, E> {
     /// Reads a type where no `+` may follow it, as what a pointer or a reference points to (`Type::without_plus`).
     pub fn without_plus(alloc: Global, input: &mut ParseStream<'_>) -> Result<TypeOf<A, E>, Error>
-        ensures reads { Reads (knot.ty E.reads false input.old) result input.new }
-        ensures within { Follows input.old input.new }
+        ensures parses { Parses (knot.ty E.reads false) result input.old input.new }
         ensures front { Visible input.old.rest → input.new.left ≡ Option.None → IfOk result (λ x. IsSomeType E.spells false false x input.old.rest input.new.rest) }
         ensures headline { Heads (grammars.ty E.reads E.spells A.normal E.normal A.shown E.values false) input.old result input.new }
     {
