@@ -6,10 +6,13 @@ pub mod read;
 ghost use Rattle.syn_attr.specs.attr.Lengths.{lens, spells_len, length_laws, bare_laws};
 ghost use Rattle.syn_attr.specs.attr.Normal.{attributes};
 ghost use Rattle.syn_attr.specs.attr.Consts.{normal_values_of, values_of, outer};
+ghost use Rattle.syn_attr.specs.attr.Reading as reading;
+ghost use Rattle.syn_attr.specs.attr.Spelling.{AreAll, IsOuter, IsConst, IsConstDefault};
 
 use crate::attr::Attribute;
 use crate::attr::print::print_outer;
 use crate::expr::print::{print_const_argument, print_len};
+use crate::expr::read::parse_const_argument;
 use std::alloc::{AllocError, Global};
 use syn_path::mac::Macro;
 use syn_path::path::ModPath;
@@ -22,7 +25,18 @@ impl<X: Subtree> Attributes for Attribute<X> {
 
     ghost normal = { attributes X.normal };
 
+    ghost reads = { reading.outer X.reads };
+
+    ghost spells = { λ clear. AreAll (IsOuter X.spells clear) };
+
     ghost bare = { bare_laws X.normal X.prints };
+
+    fn read_outer(
+        alloc: Global,
+        input: &mut ParseStream<'_>,
+    ) -> Result<Items<Attribute<X>>, Error> {
+        Attribute::parse_outer(alloc, input)
+    }
 
     fn print_outer(
         alloc: Global,
@@ -34,9 +48,9 @@ impl<X: Subtree> Attributes for Attribute<X> {
 }
 
 impl<X: Subtree> Value for Expr<X> {
-    ghost reads = { lens X.reads };
+    ghost reads = { record { len = lens X.reads; const_argument = reading.const_argument X.reads } };
 
-    ghost spells = { spells_len X.spells };
+    ghost spells = { record { len = spells_len X.spells; const_argument = λ clear. IsConst X.spells; const_default = λ clear. IsConstDefault X.spells } };
 
     ghost normal = { normal_values_of X.normal };
 
@@ -47,6 +61,10 @@ impl<X: Subtree> Value for Expr<X> {
     fn read_len(alloc: Global, input: &mut ParseStream<'_>) -> Result<Expr<X>, Error> {
         let len = X::read(alloc, Place::ArrayLen, input)?;
         Ok(Expr::Other(len))
+    }
+
+    fn read_const_argument(alloc: Global, input: &mut ParseStream<'_>) -> Result<Expr<X>, Error> {
+        parse_const_argument(alloc, input)
     }
 
     fn print_len(&self, alloc: Global, out: &mut TokenStream) -> Result<(), AllocError> {

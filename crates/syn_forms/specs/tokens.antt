@@ -1,3 +1,4 @@
+pub mod Choices
 pub mod Grammars
 pub mod Printing
 pub mod Reading

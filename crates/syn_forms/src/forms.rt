@@ -1,7 +1,7 @@
 //! Forms that look into nothing that they hold.
 
 ghost use Rattle.std.specs.Prelude.{◌<◌, ◌≤◌, length};
-ghost use Rattle.token_core.specs.Reads.{Reads, Follows};
+ghost use Rattle.token_core.specs.Reads.{Parses};
 ghost use Rattle.syn_forms.specs.forms.Reading as reading;
 ghost use Rattle.syn_forms.specs.groups.Reading as groups;
 ghost use Rattle.syn_forms.specs.nested.Below as below;
@@ -32,8 +32,7 @@ impl<
     ) -> Result<(Star, PointerMutability, Boxed<T>), Error>
         requires nests { Nests T.read (length self.now.begin) (F.pre self.now.read) (F.post self.now.read) }
         requires few { ahead input.old ≤ length self.now.begin }
-        ensures reads { Reads (reading.ptr (below.held T.read (length self.now.begin) place) input.old) result input.new }
-        ensures within { Follows input.old input.new }
+        ensures parses { Parses (reading.ptr (below.held T.read (length self.now.begin) place)) result input.old input.new }
     {
         let star_token = parse_star(self.alloc, input)?;
         let mutability = parse_mutability(self.alloc, input)?;
@@ -50,8 +49,7 @@ impl<
     ) -> Result<(And, Option<Lifetime>, Option<Mut>, Boxed<T>), Error>
         requires nests { Nests T.read (length self.now.begin) (F.pre self.now.read) (F.post self.now.read) }
         requires few { ahead input.old ≤ length self.now.begin }
-        ensures reads { Reads (reading.reference (below.held T.read (length self.now.begin) place) input.old) result input.new }
-        ensures within { Follows input.old input.new }
+        ensures parses { Parses (reading.reference (below.held T.read (length self.now.begin) place)) result input.old input.new }
     {
         let and_token = parse_and(self.alloc, input)?;
         let lifetime = parse_lifetime(self.alloc, input)?;
@@ -69,8 +67,7 @@ pub fn parse_ptr<P: Copy, T: Held<P>>(
     input: &mut ParseStream<'_>,
     place: P,
 ) -> Result<(Star, PointerMutability, Boxed<T>), Error>
-    ensures reads { Reads (alone reading.ptr T.read place input.old) result input.new }
-    ensures within { Follows input.old input.new }
+    ensures parses { Parses (alone reading.ptr T.read place) result input.old input.new }
 {
     let begin = input.cursor();
     let read = T::parse_held;
@@ -89,8 +86,7 @@ pub fn parse_reference<P: Copy, T: Held<P>>(
     input: &mut ParseStream<'_>,
     place: P,
 ) -> Result<(And, Option<Lifetime>, Option<Mut>, Boxed<T>), Error>
-    ensures reads { Reads (alone reading.reference T.read place input.old) result input.new }
-    ensures within { Follows input.old input.new }
+    ensures parses { Parses (alone reading.reference T.read place) result input.old input.new }
 {
     let begin = input.cursor();
     let read = T::parse_held;
@@ -109,8 +105,7 @@ pub fn parse_slice<P: Copy, T: Held<P>>(
     input: &mut ParseStream<'_>,
     place: P,
 ) -> Result<(Bracket, Boxed<T>), Error>
-    ensures reads { Reads (alone groups.in_brackets T.read place input.old) result input.new }
-    ensures within { Follows input.old input.new }
+    ensures parses { Parses (alone groups.in_brackets T.read place) result input.old input.new }
 {
     let begin = input.cursor();
     let read = T::parse_held;
@@ -129,8 +124,7 @@ pub fn parse_array<P: Copy, T: Held<P>, E: Value>(
     input: &mut ParseStream<'_>,
     place: P,
 ) -> Result<(Bracket, Boxed<T>, (Semi, E)), Error>
-    ensures reads { Reads (alone (groups.array E.reads) T.read place input.old) result input.new }
-    ensures within { Follows input.old input.new }
+    ensures parses { Parses (alone (groups.array E.reads.len) T.read place) result input.old input.new }
 {
     let begin = input.cursor();
     let read = T::parse_held;
@@ -149,8 +143,7 @@ pub fn parse_paren<P: Copy, T: Held<P>>(
     input: &mut ParseStream<'_>,
     place: P,
 ) -> Result<(Paren, Boxed<T>), Error>
-    ensures reads { Reads (alone groups.in_parens T.read place input.old) result input.new }
-    ensures within { Follows input.old input.new }
+    ensures parses { Parses (alone groups.in_parens T.read place) result input.old input.new }
 {
     let begin = input.cursor();
     let read = T::parse_held;
@@ -169,8 +162,7 @@ pub fn parse_tuple<P: Copy, T: Held<P>>(
     input: &mut ParseStream<'_>,
     place: P,
 ) -> Result<(Paren, Punctuated<T, Comma>), Error>
-    ensures reads { Reads (alone (λ value. groups.in_parens (groups.tuple_content value)) T.read place input.old) result input.new }
-    ensures within { Follows input.old input.new }
+    ensures parses { Parses (alone (λ value. groups.in_parens (groups.tuple_content value)) T.read place) result input.old input.new }
 {
     let begin = input.cursor();
     let read = T::parse_held;

@@ -1,7 +1,7 @@
 //! Groups: what parentheses and brackets hold.
 
 ghost use Rattle.std.specs.Prelude.{◌<◌, ◌≤◌, length};
-ghost use Rattle.token_core.specs.Reads.{Reads, Follows};
+ghost use Rattle.token_core.specs.Reads.{Parses};
 ghost use Rattle.syn_forms.specs.groups.Reading as reading;
 ghost use Rattle.syn_forms.specs.nested.Below as below;
 ghost use Rattle.syn_forms.specs.nested.Below.{Nests, ahead};
@@ -23,6 +23,19 @@ pub enum InParens<T> {
     Elements(Punctuated<T, Comma>),
 }
 
+/// What parentheses in the place of a type hold, over a type, the bounds of a trait object, and a trait bound. No reader answers it yet.
+#[derive(Drop)]
+pub enum ParenContent<T, O, Q> {
+    /// The elements of a tuple.
+    Elements(Punctuated<T, Comma>),
+    /// A trait object that begins with a lifetime.
+    Object(O),
+    /// A trait bound that begins with `?`.
+    Asked(Q),
+    /// A tree alone.
+    One(Boxed<T>),
+}
+
 /// What brackets hold.
 #[derive(Drop)]
 pub enum InBrackets<T, E> {
@@ -35,8 +48,7 @@ pub enum InBrackets<T, E> {
 /// `;` and the length of an array.
 #[tactic(auto, using(token_core::proofs::Suffixes::follows), unfolding(crate::specs::groups::Reading::length))]
 fn parse_length<E: Value>(alloc: Global, input: &mut ParseStream<'_>) -> Result<(Semi, E), Error>
-    ensures reads { Reads (reading.length E.reads input.old) result input.new }
-    ensures within { Follows input.old input.new }
+    ensures parses { Parses (reading.length E.reads.len) result input.old input.new }
 {
     let semi_token = input.parse::<Semi>(alloc)?;
     let len = E::read_len(alloc, input)?;
@@ -54,8 +66,7 @@ impl<
     pub fn slice(&self, input: &mut ParseStream<'_>, place: P) -> Result<(Bracket, Boxed<T>), Error>
         requires nests { Nests T.read (length self.now.begin) (F.pre self.now.read) (F.post self.now.read) }
         requires few { ahead input.old ≤ length self.now.begin }
-        ensures reads { Reads (reading.in_brackets (below.held T.read (length self.now.begin) place) input.old) result input.new }
-        ensures within { Follows input.old input.new }
+        ensures parses { Parses (reading.in_brackets (below.held T.read (length self.now.begin) place)) result input.old input.new }
     {
         let (bracket_token, mut content) = open_brackets(self.alloc, input)?;
         let elem = self.boxed(&mut content, place)?;
@@ -72,8 +83,7 @@ impl<
     ) -> Result<(Bracket, Boxed<T>, (Semi, E)), Error>
         requires nests { Nests T.read (length self.now.begin) (F.pre self.now.read) (F.post self.now.read) }
         requires few { ahead input.old ≤ length self.now.begin }
-        ensures reads { Reads (reading.array E.reads (below.held T.read (length self.now.begin) place) input.old) result input.new }
-        ensures within { Follows input.old input.new }
+        ensures parses { Parses (reading.array E.reads.len (below.held T.read (length self.now.begin) place)) result input.old input.new }
     {
         let (bracket_token, mut content) = open_brackets(self.alloc, input)?;
         let elem = self.boxed(&mut content, place)?;
@@ -91,8 +101,7 @@ impl<
     ) -> Result<(Bracket, InBrackets<T, E>), Error>
         requires nests { Nests T.read (length self.now.begin) (F.pre self.now.read) (F.post self.now.read) }
         requires few { ahead input.old ≤ length self.now.begin }
-        ensures reads { Reads (reading.in_brackets (reading.bracket_content E.reads (below.held T.read (length self.now.begin) place)) input.old) result input.new }
-        ensures within { Follows input.old input.new }
+        ensures parses { Parses (reading.in_brackets (reading.bracket_content E.reads.len (below.held T.read (length self.now.begin) place))) result input.old input.new }
     {
         let (bracket_token, mut content) = open_brackets(self.alloc, input)?;
         let elem = self.boxed(&mut content, place)?;
@@ -110,8 +119,7 @@ impl<
     pub fn paren(&self, input: &mut ParseStream<'_>, place: P) -> Result<(Paren, Boxed<T>), Error>
         requires nests { Nests T.read (length self.now.begin) (F.pre self.now.read) (F.post self.now.read) }
         requires few { ahead input.old ≤ length self.now.begin }
-        ensures reads { Reads (reading.in_parens (below.held T.read (length self.now.begin) place) input.old) result input.new }
-        ensures within { Follows input.old input.new }
+        ensures parses { Parses (reading.in_parens (below.held T.read (length self.now.begin) place)) result input.old input.new }
     {
         let (paren_token, mut content) = open_parens(self.alloc, input)?;
         let tree = self.boxed(&mut content, place)?;
@@ -128,8 +136,7 @@ impl<
     ) -> Result<Punctuated<T, Comma>, Error>
         requires nests { Nests T.read (length self.now.begin) (F.pre self.now.read) (F.post self.now.read) }
         requires few { ahead input.old < length self.now.begin }
-        ensures reads { Reads (reading.tuple_content (below.held T.read (length self.now.begin) place) input.old) result input.new }
-        ensures within { Follows input.old input.new }
+        ensures parses { Parses (reading.tuple_content (below.held T.read (length self.now.begin) place)) result input.old input.new }
     {
         if input.is_empty() {
             return Ok(Punctuated::new(self.alloc));
@@ -147,8 +154,7 @@ impl<
     ) -> Result<(Paren, Punctuated<T, Comma>), Error>
         requires nests { Nests T.read (length self.now.begin) (F.pre self.now.read) (F.post self.now.read) }
         requires few { ahead input.old ≤ length self.now.begin }
-        ensures reads { Reads (reading.in_parens (reading.tuple_content (below.held T.read (length self.now.begin) place)) input.old) result input.new }
-        ensures within { Follows input.old input.new }
+        ensures parses { Parses (reading.in_parens (reading.tuple_content (below.held T.read (length self.now.begin) place))) result input.old input.new }
     {
         let (paren_token, mut content) = open_parens(self.alloc, input)?;
         let elems = self.tuple_content(&mut content, place)?;
@@ -161,8 +167,7 @@ impl<
     fn paren_content(&self, input: &mut ParseStream<'_>, place: P) -> Result<InParens<T>, Error>
         requires nests { Nests T.read (length self.now.begin) (F.pre self.now.read) (F.post self.now.read) }
         requires few { ahead input.old < length self.now.begin }
-        ensures reads { Reads (reading.paren_content (below.held T.read (length self.now.begin) place) input.old) result input.new }
-        ensures within { Follows input.old input.new }
+        ensures parses { Parses (reading.paren_content (below.held T.read (length self.now.begin) place)) result input.old input.new }
     {
         if input.is_empty() {
             return Ok(InParens::Elements(Punctuated::new(self.alloc)));
@@ -183,8 +188,7 @@ impl<
     ) -> Result<(Paren, InParens<T>), Error>
         requires nests { Nests T.read (length self.now.begin) (F.pre self.now.read) (F.post self.now.read) }
         requires few { ahead input.old ≤ length self.now.begin }
-        ensures reads { Reads (reading.in_parens (reading.paren_content (below.held T.read (length self.now.begin) place)) input.old) result input.new }
-        ensures within { Follows input.old input.new }
+        ensures parses { Parses (reading.in_parens (reading.paren_content (below.held T.read (length self.now.begin) place))) result input.old input.new }
     {
         let (paren_token, mut content) = open_parens(self.alloc, input)?;
         let held = self.paren_content(&mut content, place)?;

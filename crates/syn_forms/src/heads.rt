@@ -1,7 +1,7 @@
 //! Heads: what stands before a form.
 
 ghost use Rattle.std.specs.Prelude.{◌<◌, ◌≤◌, length};
-ghost use Rattle.token_core.specs.Reads.{Reads, Follows};
+ghost use Rattle.token_core.specs.Reads.{Parses};
 ghost use Rattle.syn_forms.specs.heads.Reading as reading;
 ghost use Rattle.syn_forms.specs.nested.Below as below;
 ghost use Rattle.syn_forms.specs.nested.Below.{Nests, ahead};
@@ -29,8 +29,7 @@ impl<
     ) -> Result<(Lt, Punctuated<T, Comma>, Gt), Error>
         requires nests { Nests T.read (length self.now.begin) (F.pre self.now.read) (F.post self.now.read) }
         requires few { ahead input.old ≤ length self.now.begin }
-        ensures reads { Reads (reading.angled (below.held T.read (length self.now.begin) place) input.old) result input.new }
-        ensures within { Follows input.old input.new }
+        ensures parses { Parses (reading.angled (below.held T.read (length self.now.begin) place)) result input.old input.new }
     {
         let lt_token = parse_lt(self.alloc, input)?;
         let values = self.list(input, place, ToGt)?;
@@ -47,8 +46,7 @@ impl<
     ) -> Result<(For, (Lt, Punctuated<T, Comma>, Gt)), Error>
         requires nests { Nests T.read (length self.now.begin) (F.pre self.now.read) (F.post self.now.read) }
         requires few { ahead input.old ≤ length self.now.begin }
-        ensures reads { Reads (reading.binder (below.held T.read (length self.now.begin) place) input.old) result input.new }
-        ensures within { Follows input.old input.new }
+        ensures parses { Parses (reading.binder (below.held T.read (length self.now.begin) place)) result input.old input.new }
     {
         let for_token = parse_for(self.alloc, input)?;
         let params = self.angled(input, place)?;

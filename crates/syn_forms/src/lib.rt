@@ -8,4 +8,5 @@ pub mod groups;
 pub mod heads;
 pub mod lists;
 pub mod nested;
+pub mod places;
 pub mod tokens;

@@ -3,7 +3,7 @@
 ghost use Rattle.std.specs.Prelude.{◌≡◌, ◌<◌, ◌≤◌, length, true, Bool, IfOk};
 ghost use Rattle.token_core.specs.Loops.{after};
 ghost use Rattle.token_core.specs.Toks.{Toks};
-ghost use Rattle.token_core.specs.Reads.{Reader, Reads, Follows};
+ghost use Rattle.token_core.specs.Reads.{Reader, Reads, Follows, Parses};
 ghost use Rattle.syn_forms.specs.lists.Reading as reading;
 ghost use Rattle.syn_forms.specs.tokens.Reading as tokens;
 ghost use Rattle.syn_forms.specs.nested.Below as below;
@@ -116,8 +116,7 @@ impl<
         requires nests { Nests T.read (length self.now.begin) (F.pre self.now.read) (F.post self.now.read) }
         requires few { ahead input.old < length self.now.begin }
         requires whole { length list.0 ≡ length list.1 }
-        ensures reads { Reads (after list (reading.list (S.stops end) (below.held T.read (length self.now.begin) place) (S.more end) M.mark first input.old)) result input.new }
-        ensures within { Follows input.old input.new }
+        ensures parses { Parses (λ s. after list (reading.list (S.stops end) (below.held T.read (length self.now.begin) place) (S.more end) M.mark first s)) result input.old input.new }
     {
         'turn: loop {
             if end.is_over(input, first) {
@@ -143,8 +142,7 @@ impl<
     ) -> Result<Punctuated<T, M>, Error>
         requires nests { Nests T.read (length self.now.begin) (F.pre self.now.read) (F.post self.now.read) }
         requires few { ahead input.old < length self.now.begin }
-        ensures reads { Reads (reading.list (S.stops end) (below.held T.read (length self.now.begin) place) (S.more end) M.mark true input.old) result input.new }
-        ensures within { Follows input.old input.new }
+        ensures parses { Parses (reading.list (S.stops end) (below.held T.read (length self.now.begin) place) (S.more end) M.mark true) result input.old input.new }
     {
         self.list_after(input, place, end, Punctuated::new(self.alloc), true)
     }
@@ -159,8 +157,7 @@ impl<
     ) -> Result<Punctuated<T, Comma>, Error>
         requires nests { Nests T.read (length self.now.begin) (F.pre self.now.read) (F.post self.now.read) }
         requires few { ahead input.old < length self.now.begin }
-        ensures reads { Reads (reading.more_elements (below.held T.read (length self.now.begin) place) first input.old) result input.new }
-        ensures within { Follows input.old input.new }
+        ensures parses { Parses (reading.more_elements (below.held T.read (length self.now.begin) place) first) result input.old input.new }
     {
         let mut elems = Punctuated::new(self.alloc);
         elems.push_value(first)?;

@@ -1,7 +1,7 @@
 //! What a form holds: trees that are read further on than the form began.
 
 ghost use Rattle.std.specs.Prelude.{◌<◌, ◌≤◌, length};
-ghost use Rattle.token_core.specs.Reads.{Reader, Reads, Follows};
+ghost use Rattle.token_core.specs.Reads.{Reader, Reads, Follows, Parses};
 ghost use Rattle.syn_forms.specs.nested.Below as below;
 ghost use Rattle.syn_forms.specs.nested.Below.{Nests, ahead};
 
@@ -51,8 +51,7 @@ impl<
     pub fn value(&self, input: &mut ParseStream<'_>, place: P) -> Result<T, Error>
         requires nests { Nests T.read (length self.now.begin) (F.pre self.now.read) (F.post self.now.read) }
         requires few { ahead input.old < length self.now.begin }
-        ensures reads { Reads (below.held T.read (length self.now.begin) place input.old) result input.new }
-        ensures within { Follows input.old input.new }
+        ensures parses { Parses (below.held T.read (length self.now.begin) place) result input.old input.new }
         ensures fewer { ahead input.new ≤ ahead input.old }
     {
         (self.read)(self.alloc, PhantomData, input, place)
@@ -63,8 +62,7 @@ impl<
     pub fn boxed(&self, input: &mut ParseStream<'_>, place: P) -> Result<Boxed<T>, Error>
         requires nests { Nests T.read (length self.now.begin) (F.pre self.now.read) (F.post self.now.read) }
         requires few { ahead input.old < length self.now.begin }
-        ensures reads { Reads (below.held T.read (length self.now.begin) place input.old) result input.new }
-        ensures within { Follows input.old input.new }
+        ensures parses { Parses (below.held T.read (length self.now.begin) place) result input.old input.new }
         ensures fewer { ahead input.new ≤ ahead input.old }
     {
         let value = self.value(input, place)?;

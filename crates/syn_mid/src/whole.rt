@@ -139,11 +139,11 @@ impl<A: Attributes, E: Value> Parser for WithoutPlusOf<A, E> {
 
     ghost can_parse = { λ _. Unit {0} };
 
-    ghost reads = { λ _. Gives (knot.ty E.reads false) };
+    ghost reads = { λ _. Gives (knot.ty E.reads.len false) };
 
-    ghost refuses = { λ _. Fails (knot.ty {A = A} E.reads false) };
+    ghost refuses = { λ _. Fails (knot.ty {A = A} E.reads.len false) };
 
-    ghost promise = { λ _. Headline (types.ty E.reads E.spells A.normal E.normal A.shown E.values false) };
+    ghost promise = { λ _. Headline (types.ty E.reads.len E.spells.len A.normal E.normal A.shown E.values false) };
 
     fn parse(self, alloc: Global, input: &mut ParseStream<'_>) -> Result<TypeOf<A, E>, Error> {
         TypeOf::without_plus(alloc, input)

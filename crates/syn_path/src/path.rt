@@ -6,8 +6,8 @@ ghost use Rattle.token_core.specs.Refusal.{Made};
 ghost use Rattle.token_core.specs.Joined.{values_of, marks_of};
 ghost use Rattle.token_core.specs.Spans.{none};
 ghost use Rattle.token_core.specs.Trees.{trees};
-ghost use Rattle.token_core.specs.Prints.{Print, Extends};
-ghost use Rattle.token_core.specs.Reads.{Reads, Follows, sees_word};
+ghost use Rattle.token_core.specs.Prints.{Print, Extends, Appends};
+ghost use Rattle.token_core.specs.Reads.{Reads, sees_word, Parses};
 ghost use Rattle.token_core.specs.Headline.{Heads};
 ghost use Rattle.syn_path.specs.path.Grammars as grammars;
 ghost use Rattle.syn_path.specs.path.Paths as spec;
@@ -307,8 +307,7 @@ impl<A: Arguments> PathOf<A> {
     /// On the front of a list without invisible groups it took what the path spells. Where the stream has no left-over tree, a whole read that begins here keeps the promise of the grammar: it
     /// answers only a path that spells the list, the path that a list spells clearly, and its print is read again.
     pub fn parse_mod_style(alloc: Global, input: &mut ParseStream<'_>) -> Result<PathOf<A>, Error>
-        ensures reads { Reads (reading.mod_style A.absent input.old) result input.new }
-        ensures within { Follows input.old input.new }
+        ensures parses { Parses (reading.mod_style A.absent) result input.old input.new }
         ensures front { Visible input.old.rest → IfOk result (λ p. IsModPath false A.absent p input.old.rest input.new.rest) }
         ensures headline { Heads (grammars.mod_style A.absent A.shown) input.old result input.new }
     {
@@ -323,8 +322,7 @@ pub fn parse_bare_path<A: Arguments>(
     input: &mut ParseStream<'_>,
     style: SegmentStyle,
 ) -> Result<PathOf<A>, Error>
-    ensures reads { Reads (reading.bare_path A.absent style input.old) result input.new }
-    ensures within { Follows input.old input.new }
+    ensures parses { Parses (reading.bare_path A.absent style) result input.old input.new }
 {
     let leading_colon = parse_leading(alloc, input)?;
     let segments = parse_bare_segments(alloc, input, style)?;
@@ -342,8 +340,7 @@ pub fn parse_plain_path<A: Arguments>(
     alloc: Global,
     input: &mut ParseStream<'_>,
 ) -> Result<PathOf<A>, Error>
-    ensures reads { Reads (reading.plain_path A.absent input.old) result input.new }
-    ensures within { Follows input.old input.new }
+    ensures parses { Parses (reading.plain_path A.absent) result input.old input.new }
 {
     let path = parse_bare_path(alloc, input, SegmentStyle::Plain)?;
     if peek_angle(input) {
@@ -362,8 +359,7 @@ fn peek_angle(input: &ParseStream<'_>) -> bool
 
 #[tactic(auto, unfolding(crate::specs::path::Reading::leading))]
 fn parse_leading(alloc: Global, input: &mut ParseStream<'_>) -> Result<Option<PathSep>, Error>
-    ensures reads { Reads (reading.leading input.old) result input.new }
-    ensures within { Follows input.old input.new }
+    ensures parses { Parses reading.leading result input.old input.new }
 {
     input.parse_option::<PathSep>(alloc)
 }
@@ -456,8 +452,7 @@ fn parse_bare_segment<A: Arguments>(
     style: SegmentStyle,
     is_first: bool,
 ) -> Result<PathSegmentOf<A>, Error>
-    ensures reads { Reads (reading.bare_segment A.absent style is_first input.old) result input.new }
-    ensures within { Follows input.old input.new }
+    ensures parses { Parses (reading.bare_segment A.absent style is_first) result input.old input.new }
 {
     if begins_segment(input, style) {
         return Ok(PathSegmentOf::from(Ident::parse_any(alloc, input)?));
@@ -471,8 +466,7 @@ fn parse_bare_segments<A: Arguments>(
     input: &mut ParseStream<'_>,
     style: SegmentStyle,
 ) -> Result<Punctuated<PathSegmentOf<A>, PathSep>, Error>
-    ensures reads { Reads (reading.bare_segments A.absent style true input.old) result input.new }
-    ensures within { Follows input.old input.new }
+    ensures parses { Parses (reading.bare_segments A.absent style true) result input.old input.new }
 {
     let mut segments = Punctuated::new(alloc);
     'turn: loop {
@@ -547,8 +541,7 @@ pub fn print_mod_path(
     path: &ModPath,
     out: &mut TokenStream,
 ) -> Result<(), AllocError>
-    ensures ok { OnOk result (trees out.new ≡ trees out.old ++ shapes.mod_path path.now) }
-    ensures err { OnErr result (Extends (trees out.old) (trees out.new)) }
+    ensures appends { Appends (shapes.mod_path path.now) result out.old out.new }
 {
     path.leading_colon.append_tokens(alloc, out)?;
     print_mod_segments(alloc, &path.segments, out)
@@ -560,8 +553,7 @@ fn print_mod_segments(
     segments: &Punctuated<ModSegment, PathSep>,
     out: &mut TokenStream,
 ) -> Result<(), AllocError>
-    ensures ok { OnOk result (trees out.new ≡ trees out.old ++ shapes.mod_segments segments.now) }
-    ensures err { OnErr result (Extends (trees out.old) (trees out.new)) }
+    ensures appends { Appends (shapes.mod_segments segments.now) result out.old out.new }
 {
     for (segment, mark) in segments.pairs() {
         print_mod_segment(alloc, segment, out)?;
@@ -576,8 +568,7 @@ fn print_mod_segment(
     segment: &ModSegment,
     out: &mut TokenStream,
 ) -> Result<(), AllocError>
-    ensures ok { OnOk result (trees out.new ≡ trees out.old ++ shapes.mod_segment segment.now) }
-    ensures err { OnErr result (Extends (trees out.old) (trees out.new)) }
+    ensures appends { Appends (shapes.mod_segment segment.now) result out.old out.new }
 {
     segment.ident.to_tokens(alloc, out)
 }

@@ -5,7 +5,7 @@
 //! `parse_bound` and `parse_param` tie them together.
 
 ghost use Rattle.std.specs.Prelude.{◌≡◌, ◌≤◌, length};
-ghost use Rattle.token_core.specs.Reads.{Reads, Follows};
+ghost use Rattle.token_core.specs.Reads.{Parses};
 ghost use Rattle.syn_forms.specs.nested.Below.{Nests, ahead};
 ghost use Rattle.syn_ty.specs.generics.Params as parts;
 ghost use Rattle.syn_ty.specs.generics.Reading as bounds;
@@ -61,8 +61,7 @@ fn sees_call(input: &ParseStream<'_>) -> bool
 
 /// `!`
 pub fn parse_never<A>(alloc: Global, input: &mut ParseStream<'_>) -> Result<TypeNeverOf<A>, Error>
-    ensures reads { Reads (reading.never input.old) result input.new }
-    ensures within { Follows input.old input.new }
+    ensures parses { Parses reading.never result input.old input.new }
 {
     let bang_token = input.parse::<Not>(alloc)?;
     Ok(TypeNeverOf {
@@ -73,8 +72,7 @@ pub fn parse_never<A>(alloc: Global, input: &mut ParseStream<'_>) -> Result<Type
 
 /// `_`
 pub fn parse_infer<A>(alloc: Global, input: &mut ParseStream<'_>) -> Result<TypeInferOf<A>, Error>
-    ensures reads { Reads (reading.infer input.old) result input.new }
-    ensures within { Follows input.old input.new }
+    ensures parses { Parses reading.infer result input.old input.new }
 {
     let underscore_token = input.parse::<Underscore>(alloc)?;
     Ok(TypeInferOf {
@@ -95,8 +93,7 @@ pub fn parse_macro_type<A>(
     alloc: Global,
     input: &mut ParseStream<'_>,
 ) -> Result<TypeMacroOf<A>, Error>
-    ensures reads { Reads (reading.macro_type input.old) result input.new }
-    ensures within { Follows input.old input.new }
+    ensures parses { Parses reading.macro_type result input.old input.new }
 {
     let mac = parse_macro(alloc, input)?;
     Ok(TypeMacroOf {
@@ -216,8 +213,7 @@ fn of_parens<A: Attributes, E: Value>(
     paren_token: Paren,
     held: InParens<TypeOf<A, E>>,
 ) -> Result<TypeOf<A, E>, Error>
-    ensures reads { Reads (reading.parenthesized plus paren_token held input.old) result input.new }
-    ensures within { Follows input.old input.new }
+    ensures parses { Parses (reading.parenthesized plus paren_token held) result input.old input.new }
 {
     match held {
         InParens::Elements(elems) => Ok(TypeOf::Tuple(bare_tuple(alloc, (paren_token, elems)))),
@@ -235,8 +231,7 @@ pub fn parse_path_type<A: Attributes, E: Value>(
     alloc: Global,
     input: &mut ParseStream<'_>,
 ) -> Result<TypePathOf<A, E>, Error>
-    ensures reads { Reads (reading.path_type input.old) result input.new }
-    ensures within { Follows input.old input.new }
+    ensures parses { Parses reading.path_type result input.old input.new }
 {
     let path = parse_plain_path(alloc, input)?;
     Ok(bare_type(alloc, path))
@@ -249,8 +244,7 @@ fn parse_path_or_macro<A: Attributes, E: Value>(
     input: &mut ParseStream<'_>,
     plus: bool,
 ) -> Result<TypeOf<A, E>, Error>
-    ensures reads { Reads (reading.path_or_macro plus input.old) result input.new }
-    ensures within { Follows input.old input.new }
+    ensures parses { Parses (reading.path_or_macro plus) result input.old input.new }
 {
     let path = parse_plain_path(alloc, input)?;
     if sees_call(input) {
@@ -302,8 +296,7 @@ fn parse_asked<A: Attributes, E: Value>(
     question: Question,
     lifetimes: Option<BoundLifetimesOf<GenericParamOf<A, E>>>,
 ) -> Result<TraitBoundOf<A, E>, Error>
-    ensures reads { Reads (bounds.asked question lifetimes input.old) result input.new }
-    ensures within { Follows input.old input.new }
+    ensures parses { Parses (bounds.asked question lifetimes) result input.old input.new }
 {
     let path = parse_plain_path(alloc, input)?;
     if lifetimes.is_some() {
@@ -354,10 +347,9 @@ impl<
     /// A tuple, or a type in parentheses.
     #[tactic(auto, using(token_core::proofs::Suffixes::follows), unfolding(crate::specs::ty::Reading::paren_or_tuple))]
     fn paren_or_tuple(&self, input: &mut ParseStream<'_>, plus: bool) -> Result<TypeOf<A, E>, Error>
-        requires types { Nests (knot.ty E.reads) (length self.now.types.begin) (F.pre self.now.types.read) (F.post self.now.types.read) }
+        requires types { Nests (knot.ty E.reads.len) (length self.now.types.begin) (F.pre self.now.types.read) (F.post self.now.types.read) }
         requires few { ahead input.old ≤ length self.now.types.begin }
-        ensures reads { Reads (reading.paren_or_tuple E.reads (knot.types E.reads (length self.now.types.begin)) plus input.old) result input.new }
-        ensures within { Follows input.old input.new }
+        ensures parses { Parses (reading.paren_or_tuple E.reads.len (knot.types E.reads.len (length self.now.types.begin)) plus) result input.old input.new }
     {
         let (paren_token, held) = self.types.paren_or_tuple(input, true)?;
         of_parens(self.alloc, input, plus, paren_token, held)
@@ -366,10 +358,9 @@ impl<
     /// A slice, or an array.
     #[tactic(auto, using(token_core::proofs::Suffixes::follows), unfolding(crate::specs::ty::Reading::slice_or_array))]
     fn slice_or_array(&self, input: &mut ParseStream<'_>) -> Result<TypeOf<A, E>, Error>
-        requires types { Nests (knot.ty E.reads) (length self.now.types.begin) (F.pre self.now.types.read) (F.post self.now.types.read) }
+        requires types { Nests (knot.ty E.reads.len) (length self.now.types.begin) (F.pre self.now.types.read) (F.post self.now.types.read) }
         requires few { ahead input.old ≤ length self.now.types.begin }
-        ensures reads { Reads (reading.slice_or_array E.reads (knot.types E.reads (length self.now.types.begin)) input.old) result input.new }
-        ensures within { Follows input.old input.new }
+        ensures parses { Parses (reading.slice_or_array E.reads.len (knot.types E.reads.len (length self.now.types.begin))) result input.old input.new }
     {
         let (bracket_token, held) = self.types.slice_or_array::<E>(input, true)?;
         Ok(of_brackets(self.alloc, bracket_token, held))
@@ -378,10 +369,9 @@ impl<
     /// A type that begins with a mark or `_`. `&` and `*` bind tighter than `+`.
     #[tactic(auto, using(token_core::proofs::Suffixes::follows), unfolding(crate::specs::ty::Reading::by_mark, crate::specs::ty::Reading::ptr, crate::specs::ty::Reading::reference))]
     fn by_mark(&self, input: &mut ParseStream<'_>) -> Result<TypeOf<A, E>, Error>
-        requires types { Nests (knot.ty E.reads) (length self.now.types.begin) (F.pre self.now.types.read) (F.post self.now.types.read) }
+        requires types { Nests (knot.ty E.reads.len) (length self.now.types.begin) (F.pre self.now.types.read) (F.post self.now.types.read) }
         requires few { ahead input.old ≤ length self.now.types.begin }
-        ensures reads { Reads (reading.by_mark E.reads (knot.types E.reads (length self.now.types.begin)) input.old) result input.new }
-        ensures within { Follows input.old input.new }
+        ensures parses { Parses (reading.by_mark E.reads.len (knot.types E.reads.len (length self.now.types.begin))) result input.old input.new }
     {
         if input.peek::<Star>() {
             // `*const` binds tighter than `+`, as `&` does
@@ -405,10 +395,9 @@ impl<
     /// A type (`ambig_ty`), by its first token.
     #[tactic(auto, using(token_core::proofs::Suffixes::follows), unfolding(crate::specs::ty::Reading::type_step))]
     pub fn type_step(&self, input: &mut ParseStream<'_>, plus: bool) -> Result<TypeOf<A, E>, Error>
-        requires types { Nests (knot.ty E.reads) (length self.now.types.begin) (F.pre self.now.types.read) (F.post self.now.types.read) }
+        requires types { Nests (knot.ty E.reads.len) (length self.now.types.begin) (F.pre self.now.types.read) (F.post self.now.types.read) }
         requires few { ahead input.old ≤ length self.now.types.begin }
-        ensures reads { Reads (reading.type_step E.reads (knot.types E.reads (length self.now.types.begin)) plus input.old) result input.new }
-        ensures within { Follows input.old input.new }
+        ensures parses { Parses (reading.type_step E.reads.len (knot.types E.reads.len (length self.now.types.begin)) plus) result input.old input.new }
     {
         if input.peek::<GroupToken>() {
             return Err(input.expected(self.alloc, "type"));
@@ -433,10 +422,9 @@ impl<
         &self,
         input: &mut ParseStream<'_>,
     ) -> Result<Option<BoundLifetimesOf<GenericParamOf<A, E>>>, Error>
-        requires params { Nests (knot.in_one_place E.reads) (length self.now.params.begin) (H.pre self.now.params.read) (H.post self.now.params.read) }
+        requires params { Nests (knot.in_one_place E.reads.len) (length self.now.params.begin) (H.pre self.now.params.read) (H.post self.now.params.read) }
         requires few { ahead input.old ≤ length self.now.params.begin }
-        ensures reads { Reads (bounds.optional_binder (knot.params E.reads (length self.now.params.begin)) input.old) result input.new }
-        ensures within { Follows input.old input.new }
+        ensures parses { Parses (bounds.optional_binder (knot.params E.reads.len (length self.now.params.begin))) result input.old input.new }
         ensures fewer { ahead input.new ≤ ahead input.old }
     {
         if input.peek::<For>() {
@@ -459,10 +447,9 @@ impl<
         lifetimes: Option<BoundLifetimesOf<GenericParamOf<A, E>>>,
         question: Question,
     ) -> Result<TraitBoundOf<A, E>, Error>
-        requires params { Nests (knot.in_one_place E.reads) (length self.now.params.begin) (H.pre self.now.params.read) (H.post self.now.params.read) }
+        requires params { Nests (knot.in_one_place E.reads.len) (length self.now.params.begin) (H.pre self.now.params.read) (H.post self.now.params.read) }
         requires few { ahead input.old ≤ length self.now.params.begin }
-        ensures reads { Reads (bounds.after_question (knot.params E.reads (length self.now.params.begin)) lifetimes question input.old) result input.new }
-        ensures within { Follows input.old input.new }
+        ensures parses { Parses (bounds.after_question (knot.params E.reads.len (length self.now.params.begin)) lifetimes question) result input.old input.new }
     {
         if lifetimes.is_some() {
             return parse_asked(self.alloc, input, question, lifetimes);
@@ -474,10 +461,9 @@ impl<
     /// A trait bound without parentheses.
     #[tactic(auto, using(token_core::proofs::Suffixes::follows), unfolding(crate::specs::generics::Reading::bare_bound))]
     fn bare_bound(&self, input: &mut ParseStream<'_>) -> Result<TraitBoundOf<A, E>, Error>
-        requires params { Nests (knot.in_one_place E.reads) (length self.now.params.begin) (H.pre self.now.params.read) (H.post self.now.params.read) }
+        requires params { Nests (knot.in_one_place E.reads.len) (length self.now.params.begin) (H.pre self.now.params.read) (H.post self.now.params.read) }
         requires few { ahead input.old ≤ length self.now.params.begin }
-        ensures reads { Reads (bounds.bare_bound (knot.params E.reads (length self.now.params.begin)) input.old) result input.new }
-        ensures within { Follows input.old input.new }
+        ensures parses { Parses (bounds.bare_bound (knot.params E.reads.len (length self.now.params.begin))) result input.old input.new }
     {
         let lifetimes = self.optional_binder(input)?;
         if let Some(question) = parse_question(self.alloc, input)? {
@@ -490,10 +476,9 @@ impl<
     /// A trait bound, which may stand in parentheses.
     #[tactic(auto, using(token_core::proofs::Suffixes::follows), unfolding(crate::specs::generics::Reading::trait_bound))]
     fn trait_bound(&self, input: &mut ParseStream<'_>) -> Result<TraitBoundOf<A, E>, Error>
-        requires params { Nests (knot.in_one_place E.reads) (length self.now.params.begin) (H.pre self.now.params.read) (H.post self.now.params.read) }
+        requires params { Nests (knot.in_one_place E.reads.len) (length self.now.params.begin) (H.pre self.now.params.read) (H.post self.now.params.read) }
         requires few { ahead input.old ≤ length self.now.params.begin }
-        ensures reads { Reads (bounds.trait_bound (knot.params E.reads (length self.now.params.begin)) input.old) result input.new }
-        ensures within { Follows input.old input.new }
+        ensures parses { Parses (bounds.trait_bound (knot.params E.reads.len (length self.now.params.begin))) result input.old input.new }
     {
         if !input.peek::<Paren>() {
             return self.bare_bound(input);
@@ -507,8 +492,7 @@ impl<
     /// A parameter of a binder: a lifetime. Types, constants, bounds and attributes of parameters are not read yet.
     #[tactic(auto, using(token_core::proofs::Suffixes::follows), unfolding(crate::specs::generics::Reading::param_step))]
     pub fn param_step(&self, input: &mut ParseStream<'_>) -> Result<GenericParamOf<A, E>, Error>
-        ensures reads { Reads (bounds.param_step input.old) result input.new }
-        ensures within { Follows input.old input.new }
+        ensures parses { Parses bounds.param_step result input.old input.new }
     {
         let lifetime = Lifetime::parse_any(self.alloc, input)?;
         Ok(GenericParamOf::Lifetime(LifetimeParamOf::new(self.alloc, lifetime)))
@@ -517,10 +501,9 @@ impl<
     /// A bound: a lifetime or a trait.
     #[tactic(auto, using(token_core::proofs::Suffixes::follows), unfolding(crate::specs::generics::Reading::bound_step))]
     pub fn bound_step(&self, input: &mut ParseStream<'_>) -> Result<TypeParamBoundOf<A, E>, Error>
-        requires params { Nests (knot.in_one_place E.reads) (length self.now.params.begin) (H.pre self.now.params.read) (H.post self.now.params.read) }
+        requires params { Nests (knot.in_one_place E.reads.len) (length self.now.params.begin) (H.pre self.now.params.read) (H.post self.now.params.read) }
         requires few { ahead input.old ≤ length self.now.params.begin }
-        ensures reads { Reads (bounds.bound_step (knot.params E.reads (length self.now.params.begin)) input.old) result input.new }
-        ensures within { Follows input.old input.new }
+        ensures parses { Parses (bounds.bound_step (knot.params E.reads.len (length self.now.params.begin))) result input.old input.new }
     {
         if input.peek::<Lifetime>() {
             return Ok(TypeParamBoundOf::Lifetime(Lifetime::parse_any(self.alloc, input)?));
@@ -537,8 +520,7 @@ pub fn parse_slice<A: Attributes, E: Value>(
     alloc: Global,
     input: &mut ParseStream<'_>,
 ) -> Result<TypeSliceOf<TypeOf<A, E>, A>, Error>
-    ensures reads { Reads (knot.slice E.reads input.old) result input.new }
-    ensures within { Follows input.old input.new }
+    ensures parses { Parses (knot.slice E.reads.len) result input.old input.new }
 {
     let parts = forms::parse_slice::<bool, TypeOf<A, E>>(alloc, input, true)?;
     Ok(bare_slice(alloc, parts))
@@ -550,8 +532,7 @@ pub fn parse_array<A: Attributes, E: Value>(
     alloc: Global,
     input: &mut ParseStream<'_>,
 ) -> Result<TypeArrayOf<TypeOf<A, E>, A, E>, Error>
-    ensures reads { Reads (knot.array E.reads input.old) result input.new }
-    ensures within { Follows input.old input.new }
+    ensures parses { Parses (knot.array E.reads.len) result input.old input.new }
 {
     let parts = forms::parse_array::<bool, TypeOf<A, E>, E>(alloc, input, true)?;
     Ok(bare_array(alloc, parts))
@@ -563,8 +544,7 @@ pub fn parse_ptr<A: Attributes, E: Value>(
     alloc: Global,
     input: &mut ParseStream<'_>,
 ) -> Result<TypePtrOf<TypeOf<A, E>, A>, Error>
-    ensures reads { Reads (knot.ptr E.reads input.old) result input.new }
-    ensures within { Follows input.old input.new }
+    ensures parses { Parses (knot.ptr E.reads.len) result input.old input.new }
 {
     let parts = forms::parse_ptr::<bool, TypeOf<A, E>>(alloc, input, false)?;
     Ok(bare_ptr(alloc, parts))
@@ -576,8 +556,7 @@ pub fn parse_reference<A: Attributes, E: Value>(
     alloc: Global,
     input: &mut ParseStream<'_>,
 ) -> Result<TypeReferenceOf<TypeOf<A, E>, A>, Error>
-    ensures reads { Reads (knot.reference E.reads input.old) result input.new }
-    ensures within { Follows input.old input.new }
+    ensures parses { Parses (knot.reference E.reads.len) result input.old input.new }
 {
     let parts = forms::parse_reference::<bool, TypeOf<A, E>>(alloc, input, false)?;
     Ok(bare_reference(alloc, parts))
@@ -589,8 +568,7 @@ pub fn parse_tuple<A: Attributes, E: Value>(
     alloc: Global,
     input: &mut ParseStream<'_>,
 ) -> Result<TypeTupleOf<TypeOf<A, E>, A>, Error>
-    ensures reads { Reads (knot.tuple E.reads input.old) result input.new }
-    ensures within { Follows input.old input.new }
+    ensures parses { Parses (knot.tuple E.reads.len) result input.old input.new }
 {
     let parts = forms::parse_tuple::<bool, TypeOf<A, E>>(alloc, input, true)?;
     Ok(bare_tuple(alloc, parts))
@@ -602,8 +580,7 @@ pub fn parse_paren<A: Attributes, E: Value>(
     alloc: Global,
     input: &mut ParseStream<'_>,
 ) -> Result<TypeParenOf<TypeOf<A, E>, A>, Error>
-    ensures reads { Reads (knot.paren E.reads input.old) result input.new }
-    ensures within { Follows input.old input.new }
+    ensures parses { Parses (knot.paren E.reads.len) result input.old input.new }
 {
     let parts = forms::parse_paren::<bool, TypeOf<A, E>>(alloc, input, false)?;
     Ok(bare_paren(alloc, parts))

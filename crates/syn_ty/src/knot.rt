@@ -1,6 +1,6 @@
 //! The knot: the readers that go back to themselves, each of which hands the readers of what is held to one turn.
 
-ghost use Rattle.token_core.specs.Reads.{Reads, Follows};
+ghost use Rattle.token_core.specs.Reads.{Reads, Follows, Parses};
 ghost use Rattle.syn_ty.specs.ty.Knot as knot;
 
 use crate::generics::{GenericParamOf, TypeParamBoundOf};
@@ -13,15 +13,15 @@ use syn_path::supplied::{Attributes, Value};
 use token_core::{Error, ParseStream};
 
 impl<A: Attributes, E: Value> Tree<bool> for TypeOf<A, E> {
-    ghost read = { knot.ty E.reads };
+    ghost read = { knot.ty E.reads.len };
 }
 
 impl<A: Attributes, E: Value> Tree<()> for TypeParamBoundOf<A, E> {
-    ghost read = { λ place. knot.bound E.reads };
+    ghost read = { λ place. knot.bound E.reads.len };
 }
 
 impl<A: Attributes, E: Value> Tree<()> for GenericParamOf<A, E> {
-    ghost read = { knot.in_one_place E.reads };
+    ghost read = { knot.in_one_place E.reads.len };
 }
 
 impl<A: Attributes, E: Value> Held<bool> for TypeOf<A, E> {
@@ -31,7 +31,7 @@ impl<A: Attributes, E: Value> Held<bool> for TypeOf<A, E> {
         input: &mut ParseStream<'_>,
         place: bool,
     ) -> Result<TypeOf<A, E>, Error>
-        ensures reads { Reads (knot.ty E.reads place input.old) result input.new }
+        ensures reads { Reads (knot.ty E.reads.len place input.old) result input.new }
         ensures within { Follows input.old input.new }
     {
         parse_type(alloc, of, input, place)
@@ -47,8 +47,7 @@ pub fn parse_type<A: Attributes, E: Value>(
     input: &mut ParseStream<'_>,
     plus: bool,
 ) -> Result<TypeOf<A, E>, Error>
-    ensures reads { Reads (knot.ty E.reads plus input.old) result input.new }
-    ensures within { Follows input.old input.new }
+    ensures parses { Parses (knot.ty E.reads.len plus) result input.old input.new }
 {
     let types = Nested {
         alloc,
@@ -86,8 +85,7 @@ pub fn parse_bound<A: Attributes, E: Value>(
     input: &mut ParseStream<'_>,
     place: (),
 ) -> Result<TypeParamBoundOf<A, E>, Error>
-    ensures reads { Reads (knot.bound E.reads input.old) result input.new }
-    ensures within { Follows input.old input.new }
+    ensures parses { Parses (knot.bound E.reads.len) result input.old input.new }
 {
     let types = Nested {
         alloc,
@@ -126,8 +124,7 @@ fn parse_param<A: Attributes, E: Value>(
     input: &mut ParseStream<'_>,
     place: (),
 ) -> Result<GenericParamOf<A, E>, Error>
-    ensures reads { Reads (knot.param E.reads input.old) result input.new }
-    ensures within { Follows input.old input.new }
+    ensures parses { Parses (knot.param E.reads.len) result input.old input.new }
 {
     let types = Nested {
         alloc,

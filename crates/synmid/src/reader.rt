@@ -115,7 +115,7 @@ impl TypeReader {
         alloc: Global,
         tokens: &TokenStream,
     ) -> Result<TokenStream, Error>
-        ensures { spec.Reprints (spec.type_grammar E.reads E.spells A.normal E.normal A.shown E.values self) (toks tokens.now) result }
+        ensures { spec.Reprints (spec.type_grammar E.reads.len E.spells.len A.normal E.normal A.shown E.values self) (toks tokens.now) result }
     {
         match self {
             TypeReader::Any => reprint::<TypeOf<A, E>>(alloc, tokens),

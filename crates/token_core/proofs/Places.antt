@@ -55,7 +55,7 @@ module _ (x : TokenTree) (g : Group) (n : ℕ) (more after : List Entry) (e : x 
 -- ---- a group that is left in a scope
 
 later : (x : Item) (t k c m : Toks) → items t ≡ x ∷ items k → Holds k c m → Holds t c m
-later x t k c m e h = record { before = x ∷ h.before; is = e ∙ ap (λ z. x ∷ z) h.is }
+later x t k c m e h = record { before = x ∷ h.before; begun = omega arith; is = e ∙ ap (λ z. x ∷ z) h.is }
 
 pub holds_group : (t : Toks) (p : Delimiter × DelimSpan × Toks × Toks) → as_group (front t) ≡ Some p → Holds t p.2 p.3
 holds_group done p e = cc
@@ -64,7 +64,7 @@ holds_group (mark c r) p e = cc
 holds_group (lit v r) p e = cc
 holds_group (group g z y r) p e =
     let f : ◌≡◌ {A = Delimiter × DelimSpan × Toks × Toks} (g, z, y, r) p = cc in
-    subst (λ (q : Delimiter × DelimSpan × Toks × Toks). Holds (group g z y r) q.2 q.3) f (record { before = a_beginning g z ∷ []; is = refl })
+    subst (λ (q : Delimiter × DelimSpan × Toks × Toks). Holds (group g z y r) q.2 q.3) f (record { before = a_beginning g z ∷ []; begun = omega arith; is = refl })
 holds_group (enter s r) p e = later (a_beginning d.None s) (enter s r) r p.2 p.3 refl (holds_group r p e)
 holds_group (leave r) p e = later an_end (leave r) r p.2 p.3 refl (holds_group r p e)
 
@@ -82,6 +82,7 @@ module _ (p : DelimSpan) (c : TokenStream) (n : ℕ) where
   holds_invisible d.None l x y e f g h =
       record {
         before = a_beginning d.None p ∷ [];
+        begun = omega arith;
         is = ap items (view-enter p c n l) ∙ ap (λ z. a_beginning d.None p ∷ z)
             (parts_seen c n l h.0 h.1 ∙ ap (λ z. items z ++ an_end ∷ items (view (drop (n + 1) l))) (sym f) ∙ ap (λ z. items x ++ an_end ∷ items z) (sym g));
       }

@@ -1,7 +1,7 @@
 -- What is printed, piece by piece.
-use Rattle.std.proofs.Common.{◌≡◌, ℕ, zero, suc, ◌+◌, ◌<◌, ◌≤◌, List, [], ◌∷◌, ◌++◌, length, take, drop, get_or, Some, None, refl, sym, ap, ◌∙◌, append_assoc, append-nil, arith}
+use Rattle.std.proofs.Common.{◌≡◌, ℕ, zero, suc, ◌+◌, ◌<◌, ◌≤◌, List, [], ◌∷◌, ◌++◌, length, take, drop, get_or, Some, None, refl, sym, ap, ◌∙◌, append_assoc, append-nil, arith, Result, Ok, Err, OnOk, OnErr}
 use Rattle.std.proofs.lemmas.List.{length-take, length-append, take-append-le}
-use Rattle.token_core.specs.Prints.{Print, Extends, each, optional, marked}
+use Rattle.token_core.specs.Prints.{Print, Extends, each, marked}
 use Rattle.token_core.specs.Lists.{joined, pairs}
 
 pub extends_append : (a b c : Print) → Extends a b → Extends a (b ++ c)
@@ -28,12 +28,21 @@ extends_on a x b c e h =
     take-take-le : (p q l : Print) → length p ≤ length q → take (length q) l ≡ q → take (length p) l ≡ take (length p) q
     take-take-le p q l n h = sym (take-take (length p) (length q) l n) ∙ ap (take (length p)) h
 
+-- what is printed last, by a call that may be refused
+pub ok_on : {A E : Type 0} (r : Result A E) (a x b y z c : Print) → b ≡ a ++ x → z ≡ x ++ y → OnOk r (c ≡ b ++ y) → OnOk r (c ≡ a ++ z)
+ok_on (Ok v) a x b y z c e d h = h ∙ ap (λ l. l ++ y) e ∙ append_assoc a x y ∙ ap (λ l. a ++ l) (sym d)
+ok_on (Err v) a x b y z c e d h = h
+
+pub err_on : {A E : Type 0} (r : Result A E) (a x b c : Print) → b ≡ a ++ x → OnErr r (Extends b c) → OnErr r (Extends a c)
+err_on (Ok v) a x b c e h = h
+err_on (Err v) a x b c e h = extends_on a x b c e h
+
 -- a list printed by its pairs
 pub joined-pairs : {T P A : Type 0} (f : T → List A) (g : P → List A) (xs : List T) (ps : List P) → joined f g xs ps ≡ each (marked f g) (pairs xs ps)
 joined-pairs f g [] ps = refl
 joined-pairs f g (x ∷ xs) [] = ap (λ l. f x ++ l) (joined-pairs f g xs []) ∙ ap (λ l. l ++ each (marked f g) (pairs xs [])) (sym (append-nil (f x)))
 joined-pairs f g (x ∷ xs) (p ∷ ps) = ap (λ l. f x ++ (g p ++ l)) (joined-pairs f g xs ps) ∙ sym (append_assoc (f x) (g p) (each (marked f g) (pairs xs ps)))
 
-pub ruleset puts = (extends_append, extends_on, append-nil)
+pub ruleset puts = (extends_append, extends_on, err_on, append-nil)
 
 pub ruleset by_pairs = (extends_append, extends_on, append-nil, append_assoc, joined-pairs)

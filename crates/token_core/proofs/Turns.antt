@@ -19,7 +19,7 @@ size_suffix (past_group d s c p) = let h = size_suffix p in omega (arith, h)
 size_suffix (past_enter s p) = let h = size_suffix p in omega (arith, h)
 size_suffix (past_leave p) = let h = size_suffix p in omega (arith, h)
 
-size_word : (t : Toks) (p : Ident × Toks) → as_word (front t) ≡ Some p → size p.1 < size t
+pub size_word : (t : Toks) (p : Ident × Toks) → as_word (front t) ≡ Some p → size p.1 < size t
 size_word done p e = cc
 size_word (word v r) p e =
     let f : ◌≡◌ {A = Ident × Toks} (v, r) p = cc in

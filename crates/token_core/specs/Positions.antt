@@ -1,5 +1,5 @@
 -- Positions in a buffer: what is left of the whole buffer from there on, one item an entry.
-use Rattle.std.specs.Prelude.{Bool, true, false, ◌≡◌, ◌⊎◌, Option, Some, None, List, [], ◌∷◌, ◌++◌, length, map, nat_lt, refl}
+use Rattle.std.specs.Prelude.{Bool, true, false, ◌≡◌, ◌⊎◌, Option, Some, None, List, [], ◌∷◌, ◌++◌, ◌<◌, length, map, nat_lt, refl}
 use Rattle.std.proofs.Common.{inl, inr}
 use Rattle.std.specs.Coded.{Coded, code_by, coded×, coded⊎, coded_bool, coded_list}
 use Rattle.token_core.specs.declared.buffer.Entry.{Entry}
@@ -103,9 +103,10 @@ pub record Placed : Type 0 where
   pub rest : Toks
   pub after : List Item
 
--- the tokens of a group's content and of what follows the group, where these are left
+-- the tokens of a group's content and of what follows the group, where these are left, and the group's beginning before them
 pub record Holds (rest content more : Toks) : Type 0 where
   pub before : List Item
+  pub begun : 0 < length before
   pub is : items rest ≡ before ++ (items content ++ an_end ∷ items more)
 
 -- ---- codes

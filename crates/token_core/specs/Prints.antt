@@ -1,5 +1,5 @@
 -- What tokens print: a printed mark ends Alone.
-use Rattle.std.specs.Prelude.{◌≡◌, ℕ, List, [], ◌∷◌, ◌++◌, take, length, Option, Some, None}
+use Rattle.std.specs.Prelude.{◌≡◌, ℕ, List, [], ◌∷◌, ◌++◌, take, length, Option, Some, None, Result, OnOk, OnErr}
 use Rattle.token_core.specs.declared.span.Span.{Span}
 use Rattle.token_core.specs.declared.span.DelimSpan.{DelimSpan}
 use Rattle.token_core.specs.declared.mark.Mark.{Mark}
@@ -59,3 +59,7 @@ marked f g x = f x.0 ++ optional g x.1
 -- what stood before is kept
 abbrev pub Extends : Print → Print → Type 0
 Extends old new = take (length old) new ≡ old
+
+-- what a function that prints ensures: these trees are appended; refused, what stood before is kept
+abbrev pub Appends : {A E : Type 0} → Print → Result A E → TokenStream → TokenStream → Type 0
+Appends p result old new = OnOk result (s.trees new ≡ s.trees old ++ p) × OnErr result (Extends (s.trees old) (s.trees new))

@@ -342,6 +342,10 @@ pub record Follows (old new : Stream) : Type 0 where
   pub kept : first_of old.left new.left ≡ new.left
   pub scope : new.scope ≡ old.scope
 
+-- a function that reads as this reader does, and leaves the stream in a later state
+abbrev pub Parses : {A : Type 0} → Reader A → Result A Refusal → Stream → Stream → Type 0
+Parses p result old new = Reads (p old) result new × Follows old new
+
 -- ---- relations of what a read may answer, for reads whose outcome is not one function
 
 abbrev pub Parsed : {A : Type 0} → (A → Stream → Type 0) → (Refusal → Type 0) → Result A Refusal → Stream → Type 0

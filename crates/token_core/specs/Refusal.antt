@@ -2,7 +2,7 @@
 use Rattle.std.specs.Prelude.{◌≡◌, ◌≢◌, ◌⊎◌, ℕ, ◌==◌, if◌then◌else◌, [], Option, Some, None, refl, codes}
 use Rattle.std.specs.Coded.{Coded, code_by, coded×, coded_ℕ}
 use Rattle.token_core.specs.declared.error.ErrorKind.{ErrorKind}
-use Rattle.token_core.specs.declared.error.ErrorKind.TheVariants.{OutOfMemory, Expected, Unexpected, Custom, ExpectedDelimiter, ExpectedPathSegment, ExpectedPathIdent, ExpectedAttributeArguments, ExpectedParentheses, TokenInAttribute, ExpectedMetaArguments, ExpectedParenthesis, ExpectedMetaValue, ExpectedEquals, AttributeInAttribute, ExpectedNestedAttribute, LiteralInNestedAttribute, TokenInNestedAttribute, UnclosedDelimiter, UnexpectedClosingDelimiter, UnknownToken, UnterminatedToken, DocComment, MalformedNumber, BinderWithQuestion}
+use Rattle.token_core.specs.declared.error.ErrorKind.TheVariants.{OutOfMemory, Expected, Unexpected, Custom, ExpectedDelimiter, ExpectedPathSegment, ExpectedPathIdent, ExpectedAttributeArguments, ExpectedParentheses, TokenInAttribute, ExpectedMetaArguments, ExpectedParenthesis, ExpectedMetaValue, ExpectedEquals, AttributeInAttribute, ExpectedNestedAttribute, LiteralInNestedAttribute, TokenInNestedAttribute, UnclosedDelimiter, UnexpectedClosingDelimiter, UnknownToken, UnterminatedToken, DocComment, MalformedNumber, BinderWithQuestion, GenericsOnWhere, CaptureNotAllowed, ConditionalConstNotAllowed, ConstNotAllowed, NoTraitInObject, NoTraitInImpl}
 use Rattle.token_core.specs.declared.span.Span.{Span}
 use Rattle.token_core.specs.Toks.{Bytes}
 use Rattle.token_core.specs.Spans.{none}
@@ -41,6 +41,12 @@ fixed UnterminatedToken = codes "unterminated literal or comment"
 fixed DocComment = codes "documentation comments are not supported"
 fixed MalformedNumber = codes "malformed number"
 fixed BinderWithQuestion = codes "`for<...>` binder not allowed with `?` trait polarity modifier"
+fixed GenericsOnWhere = codes "generic parameters on `where` clauses are reserved for future use"
+fixed CaptureNotAllowed = codes "`use<...>` precise capturing syntax is not allowed here"
+fixed ConditionalConstNotAllowed = codes "`[const]` is not allowed here"
+fixed ConstNotAllowed = codes "`const` is not allowed here"
+fixed NoTraitInObject = codes "at least one trait is required for an object type"
+fixed NoTraitInImpl = codes "at least one trait must be specified"
 
 abbrev pub text_or : Option Bytes → Bytes
 text_or None = fixed OutOfMemory
@@ -94,6 +100,12 @@ kind_number UnterminatedToken = 21
 kind_number DocComment = 22
 kind_number MalformedNumber = 23
 kind_number BinderWithQuestion = 24
+kind_number GenericsOnWhere = 25
+kind_number CaptureNotAllowed = 26
+kind_number ConditionalConstNotAllowed = 27
+kind_number ConstNotAllowed = 28
+kind_number NoTraitInObject = 29
+kind_number NoTraitInImpl = 30
 
 abbrev number_kind : ℕ → ErrorKind
 number_kind n =
@@ -121,7 +133,13 @@ number_kind n =
     if n == 21 then UnterminatedToken else (
     if n == 22 then DocComment else (
     if n == 23 then MalformedNumber else (
-    BinderWithQuestion))))))))))))))))))))))))
+    if n == 24 then BinderWithQuestion else (
+    if n == 25 then GenericsOnWhere else (
+    if n == 26 then CaptureNotAllowed else (
+    if n == 27 then ConditionalConstNotAllowed else (
+    if n == 28 then ConstNotAllowed else (
+    if n == 29 then NoTraitInObject else (
+    NoTraitInImpl))))))))))))))))))))))))))))))
 
 pub kind_back : (k : ErrorKind) → number_kind (kind_number k) ≡ k
 kind_back OutOfMemory = refl
@@ -149,6 +167,12 @@ kind_back UnterminatedToken = refl
 kind_back DocComment = refl
 kind_back MalformedNumber = refl
 kind_back BinderWithQuestion = refl
+kind_back GenericsOnWhere = refl
+kind_back CaptureNotAllowed = refl
+kind_back ConditionalConstNotAllowed = refl
+kind_back ConstNotAllowed = refl
+kind_back NoTraitInObject = refl
+kind_back NoTraitInImpl = refl
 
 abbrev pub kind_code : Coded ErrorKind
 kind_code = code_by ℕ coded_ℕ kind_number number_kind kind_back

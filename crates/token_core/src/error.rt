@@ -62,6 +62,18 @@ pub enum ErrorKind {
     MalformedNumber,
     /// A trait bound has both `for<..>` and `?`.
     BinderWithQuestion,
+    /// A where clause goes on as generics do.
+    GenericsOnWhere,
+    /// A bound is `use<..>` where none may be.
+    CaptureNotAllowed,
+    /// A bound is `[const]` where none may be.
+    ConditionalConstNotAllowed,
+    /// A bound is `const` where none may be.
+    ConstNotAllowed,
+    /// A trait object has lifetimes alone.
+    NoTraitInObject,
+    /// The bounds after `impl` name no trait.
+    NoTraitInImpl,
 }
 
 impl ErrorKind {
@@ -99,6 +111,14 @@ impl ErrorKind {
             ErrorKind::MalformedNumber => "malformed number",
             ErrorKind::BinderWithQuestion =>
                 "`for<...>` binder not allowed with `?` trait polarity modifier",
+            ErrorKind::GenericsOnWhere =>
+                "generic parameters on `where` clauses are reserved for future use",
+            ErrorKind::CaptureNotAllowed =>
+                "`use<...>` precise capturing syntax is not allowed here",
+            ErrorKind::ConditionalConstNotAllowed => "`[const]` is not allowed here",
+            ErrorKind::ConstNotAllowed => "`const` is not allowed here",
+            ErrorKind::NoTraitInObject => "at least one trait is required for an object type",
+            ErrorKind::NoTraitInImpl => "at least one trait must be specified",
         }
     }
 }

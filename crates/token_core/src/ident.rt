@@ -4,7 +4,7 @@ ghost use Rattle.std.specs.Prelude.{◌≡◌, not, option_map, map, OnErr};
 ghost use Rattle.std.specs.Str.{bytes_eq};
 ghost use Rattle.token_core.specs.Keywords as keywords;
 ghost use Rattle.token_core.specs.Reads as spec;
-ghost use Rattle.token_core.specs.Reads.{Reads, Follows, lent};
+ghost use Rattle.token_core.specs.Reads.{Reads, lent, Parses};
 
 use crate::error::Error;
 use crate::parse_stream::ParseStream;
@@ -43,8 +43,7 @@ impl<'a> ParseStream<'a> {
     /// Lends the identifier at the front, keywords and `_` too.
     #[tactic(auto, using(crate::proofs::Suffixes::words), unfolding(crate::specs::Reads::read_word))]
     pub fn read_any_ident(&mut self, alloc: Global) -> Result<&'a Ident, Error>
-        ensures reads { Reads (spec.read_word spec.any_text spec.ident_name self.old) (lent result) self.new }
-        ensures within { Follows self.old self.new }
+        ensures parses { Parses (spec.read_word spec.any_text spec.ident_name) (lent result) self.old self.new }
         ensures same { OnErr result (self.new ≡ self.old) }
     {
         match self.next_ident() {
@@ -59,8 +58,7 @@ impl<'a> ParseStream<'a> {
     /// Lends the identifier at the front, if it is no keyword.
     #[tactic(auto, using(crate::proofs::Suffixes::words), unfolding(crate::specs::Reads::read_word))]
     pub fn read_ident(&mut self, alloc: Global) -> Result<&'a Ident, Error>
-        ensures reads { Reads (spec.read_word spec.is_ident spec.ident_name self.old) (lent result) self.new }
-        ensures within { Follows self.old self.new }
+        ensures parses { Parses (spec.read_word spec.is_ident spec.ident_name) (lent result) self.old self.new }
         ensures same { OnErr result (self.new ≡ self.old) }
     {
         match self.next_ident() {
@@ -78,8 +76,7 @@ impl<'a> ParseStream<'a> {
     /// Lends the identifier of this text at the front, which refusals name so.
     #[tactic(auto, using(crate::proofs::Suffixes::words), unfolding(crate::specs::Reads::read_word))]
     pub fn read_word(&mut self, alloc: Global, text: &str, name: &str) -> Result<&'a Ident, Error>
-        ensures reads { Reads (spec.read_word (spec.is_text text.now) name.now self.old) (lent result) self.new }
-        ensures within { Follows self.old self.new }
+        ensures parses { Parses (spec.read_word (spec.is_text text.now) name.now) (lent result) self.old self.new }
         ensures same { OnErr result (self.new ≡ self.old) }
     {
         match self.next_ident() {

@@ -1,11 +1,10 @@
 //! Lifetimes.
 
-ghost use Rattle.std.specs.Prelude.{◌≡◌, ◌++◌, option_map, IfOk, OnOk, OnErr};
+ghost use Rattle.std.specs.Prelude.{◌≡◌, option_map, IfOk, OnErr};
 ghost use Rattle.token_core.specs.Lifetimes as spec;
 ghost use Rattle.token_core.specs.Prints as prints;
-ghost use Rattle.token_core.specs.Prints.{Extends};
-ghost use Rattle.token_core.specs.Reads.{Reads, Follows};
-ghost use Rattle.token_core.specs.Trees.{trees};
+ghost use Rattle.token_core.specs.Prints.{Appends};
+ghost use Rattle.token_core.specs.Reads.{Reads, Parses};
 
 use crate::error::Error;
 use crate::parse::Token;
@@ -58,8 +57,7 @@ impl Lifetime {
     /// Reads a lifetime, a keyword's too; it is refused where none is at the front.
     #[tactic(auto, using(crate::proofs::Suffixes::follows_self), unfolding(crate::specs::Lifetimes::read_lifetime))]
     pub fn parse_any(alloc: Global, input: &mut ParseStream<'_>) -> Result<Lifetime, Error>
-        ensures reads { Reads (spec.read_lifetime input.old) result input.new }
-        ensures within { Follows input.old input.new }
+        ensures parses { Parses spec.read_lifetime result input.old input.new }
         ensures same { OnErr result (input.new ≡ input.old) }
     {
         match past_lifetime(input.place()) {
@@ -78,8 +76,7 @@ impl Lifetime {
         alloc: Global,
         input: &mut ParseStream<'_>,
     ) -> Result<Option<Lifetime>, Error>
-        ensures reads { Reads (spec.read_optional_lifetime input.old) result input.new }
-        ensures within { Follows input.old input.new }
+        ensures parses { Parses spec.read_optional_lifetime result input.old input.new }
         ensures same { OnErr result (input.new ≡ input.old) }
     {
         if Lifetime::peek(input) {
@@ -128,8 +125,7 @@ impl ToTokens for Lifetime {
 /// Appends a lifetime; refused, what stood before is kept.
 #[tactic(auto, using(crate::proofs::Puts::puts))]
 fn put_lifetime(alloc: Global, lifetime: &Lifetime, out: &mut TokenStream) -> Result<(), AllocError>
-    ensures ok { OnOk result (trees out.new ≡ trees out.old ++ spec.print lifetime.now) }
-    ensures err { OnErr result (Extends (trees out.old) (trees out.new)) }
+    ensures appends { Appends (spec.print lifetime.now) result out.old out.new }
 {
     out.push(TokenTree::Punct(Punct::new('\'', Spacing::Joint, lifetime.apostrophe)))?;
     lifetime.ident.append_tokens(alloc, out)

@@ -1,10 +1,10 @@
 //! Literals as values: literal trees, `true` and `false`, and numbers after a minus.
 
-ghost use Rattle.std.specs.Prelude.{◌≡◌, ◌++◌, ◌∷◌, option_map, IfOk, OnOk, OnErr};
+ghost use Rattle.std.specs.Prelude.{◌≡◌, ◌∷◌, option_map, IfOk, OnErr};
 ghost use Rattle.token_core.specs.Lits as spec;
 ghost use Rattle.token_core.specs.declared.lit.Lit.TheVariants as variant;
-ghost use Rattle.token_core.specs.Prints.{Extends};
-ghost use Rattle.token_core.specs.Reads.{Reads, Follows, Gives, Fails, as_lit};
+ghost use Rattle.token_core.specs.Prints.{Appends};
+ghost use Rattle.token_core.specs.Reads.{Reads, Gives, Fails, as_lit, Parses};
 ghost use Rattle.token_core.specs.Front.{shows};
 ghost use Rattle.token_core.specs.Trees.{trees};
 
@@ -308,8 +308,7 @@ impl<'a> Found<'a> {
 
 #[tactic(auto, using(crate::proofs::Suffixes::follows_self), unfolding(crate::specs::Lits::read_lit))]
 fn parse_lit(alloc: Global, input: &mut ParseStream<'_>) -> Result<Lit, Error>
-    ensures reads { Reads (spec.read_lit input.old) result input.new }
-    ensures within { Follows input.old input.new }
+    ensures parses { Parses spec.read_lit result input.old input.new }
     ensures same { OnErr result (input.new ≡ input.old) }
 {
     match past_lit(input.place()) {
@@ -383,8 +382,7 @@ fn past_str<'a>(at: Place<'a>) -> Option<(&'a Literal, Place<'a>)>
 
 #[tactic(auto, using(crate::proofs::Suffixes::follows_self), unfolding(crate::specs::Lits::read_str))]
 fn parse_str(alloc: Global, input: &mut ParseStream<'_>) -> Result<LitStr, Error>
-    ensures reads { Reads (spec.read_str input.old) result input.new }
-    ensures within { Follows input.old input.new }
+    ensures parses { Parses spec.read_str result input.old input.new }
     ensures same { OnErr result (input.new ≡ input.old) }
 {
     match past_str(input.place()) {
@@ -470,8 +468,7 @@ impl ToTokens for Lit {
 /// Appends a literal; refused, what stood before is kept.
 #[tactic(auto, using(crate::proofs::Puts::puts))]
 fn put_lit(alloc: Global, lit: &Lit, out: &mut TokenStream) -> Result<(), AllocError>
-    ensures ok { OnOk result (trees out.new ≡ trees out.old ++ spec.print lit.now) }
-    ensures err { OnErr result (Extends (trees out.old) (trees out.new)) }
+    ensures appends { Appends (spec.print lit.now) result out.old out.new }
 {
     match lit {
         Lit::Literal(literal) => {

@@ -1,6 +1,6 @@
 //! A choice of tokens that a stream may begin with.
 
-ghost use Rattle.std.specs.Prelude.{◌≡◌, ◌<◌, ◌++◌, [], map, IfOk, OnOk};
+ghost use Rattle.std.specs.Prelude.{false, ◌≡◌, ◌<◌, ◌++◌, [], map, IfOk, OnOk};
 ghost use Rattle.token_core.specs.Looks as spec;
 ghost use Rattle.token_core.specs.Refusal.{Made};
 ghost use Rattle.token_core.specs.TokenNames.{name_of, token_count};
@@ -58,11 +58,18 @@ impl<'a> Lookahead<'a> {
         if T::peek(&self.input) {
             return true;
         }
-        self.note(T::number());
+        self.note::<T>();
         false
     }
 
-    fn note(&mut self, number: u8)
+    /// The refusal will name the token, which is not at the front.
+    pub fn note<T: Token>(&mut self)
+        ensures { self.new ≡ spec.tested false T.number self.old }
+    {
+        self.note_number(T::number());
+    }
+
+    fn note_number(&mut self, number: u8)
         requires known { number < token_count }
         ensures input { self.new.input ≡ self.old.input }
         ensures missing { self.new.missing ≡ spec.noted self.old.missing number }

@@ -1,10 +1,8 @@
 //! Members of structs and of tuples.
 
-ghost use Rattle.std.specs.Prelude.{◌≡◌, ◌≤◌, ◌++◌, IfOk, OnOk, OnErr};
+ghost use Rattle.std.specs.Prelude.{◌≡◌, ◌≤◌, IfOk, OnErr};
 ghost use Rattle.token_core.specs.Members as spec;
-ghost use Rattle.token_core.specs.Prints.{Extends};
-ghost use Rattle.token_core.specs.Reads.{Reads, Follows, Gives, Fails};
-ghost use Rattle.token_core.specs.Trees.{trees};
+ghost use Rattle.token_core.specs.Reads.{Reads, Gives, Fails, Parses};
 
 use crate::error::Error;
 use crate::lit::as_literal;
@@ -116,8 +114,7 @@ fn is_int(kind: LitKind) -> bool
 
 #[tactic(auto, using(crate::proofs::Suffixes::follows_self), unfolding(crate::specs::Members::read_index))]
 fn parse_index(alloc: Global, input: &mut ParseStream<'_>) -> Result<Index, Error>
-    ensures reads { Reads (spec.read_index input.old) result input.new }
-    ensures within { Follows input.old input.new }
+    ensures parses { Parses spec.read_index result input.old input.new }
     ensures same { OnErr result (input.new ≡ input.old) }
 {
     match as_literal(input.place().next()) {
@@ -162,8 +159,7 @@ fn peek_int(input: &ParseStream<'_>) -> bool
 
 #[tactic(auto, using(crate::proofs::Suffixes::follows_self), unfolding(crate::specs::Members::read_member))]
 fn parse_member(alloc: Global, input: &mut ParseStream<'_>) -> Result<Member, Error>
-    ensures reads { Reads (spec.read_member input.old) result input.new }
-    ensures within { Follows input.old input.new }
+    ensures parses { Parses spec.read_member result input.old input.new }
 {
     if input.peek_ident() {
         return Ok(Member::Named(input.parse::<Ident>(alloc)?));

@@ -2,7 +2,7 @@
 
 ghost use Rattle.std.specs.Prelude.{◌≡◌, ◌≤◌, ◌++◌, drop, length, option_map, IfSome, OnErr};
 ghost use Rattle.token_core.specs.Reads as spec;
-ghost use Rattle.token_core.specs.Reads.{Reads, Follows};
+ghost use Rattle.token_core.specs.Reads.{Reads, Follows, Parses};
 ghost use Rattle.token_core.specs.Positions.{items, Holds};
 ghost use Rattle.token_core.specs.Refusal.{Made, fixed};
 ghost use Rattle.token_core.specs.Stream.{started};
@@ -343,8 +343,7 @@ impl<'a> ParseStream<'a> {
     /// Reads a mark of these characters, which refusals name so.
     #[tactic(auto, using(crate::proofs::Suffixes::follows_self), unfolding(crate::specs::Reads::read_mark))]
     pub fn read_mark(&mut self, alloc: Global, marks: &[char], name: &str) -> Result<Spans, Error>
-        ensures reads { Reads (spec.read_mark marks.now name.now self.old) result self.new }
-        ensures within { Follows self.old self.new }
+        ensures parses { Parses (spec.read_mark marks.now name.now) result self.old self.new }
         ensures same { OnErr result (self.new ≡ self.old) }
     {
         match past_mark(self.place(), marks, 0) {
@@ -390,8 +389,7 @@ impl<'a> ParseStream<'a> {
         delimiter: Delimiter,
         name: &str,
     ) -> Result<(DelimSpan, ParseStream<'a>), Error>
-        ensures reads { Reads (spec.open_group delimiter name.now self.old) result self.new }
-        ensures within { Follows self.old self.new }
+        ensures parses { Parses (spec.open_group delimiter name.now) result self.old self.new }
         ensures same { OnErr result (self.new ≡ self.old) }
     {
         match as_group(self.place().next()) {
@@ -412,8 +410,7 @@ impl<'a> ParseStream<'a> {
     /// It goes on after the end of an invisible group but not into one.
     #[tactic(auto, using(crate::proofs::Suffixes::follows_self), unfolding(crate::specs::Reads::delimited))]
     pub fn delimited(&mut self, alloc: Global) -> Result<(Delimiter, DelimSpan, TokenStream), Error>
-        ensures reads { Reads (spec.delimited self.old) result self.new }
-        ensures within { Follows self.old self.new }
+        ensures parses { Parses spec.delimited result self.old self.new }
         ensures same { OnErr result (self.new ≡ self.old) }
     {
         match as_group(self.place().next_outside()) {

@@ -3,7 +3,7 @@
 ghost use Rattle.std.specs.Prelude.{◌≡◌, ◌++◌, ◌∷◌, [], ◌<◌, length, OnOk, OnErr, IsTrue, ◌↔◌, ◌+◌, option_map, slice_get, min, ◌^◌, ◌-◌, MatchOption, Ok, Err, IsFalse, Some};
 ghost use Rattle.token_core.specs.Lists as spec;
 ghost use Rattle.token_core.specs.Joined.{values_of, marks_of};
-ghost use Rattle.token_core.specs.Prints.{Extends};
+ghost use Rattle.token_core.specs.Prints.{Appends};
 ghost use Rattle.token_core.specs.Reads.{Parsed, Follows};
 ghost use Rattle.token_core.specs.Terminated as terminated;
 ghost use Rattle.token_core.specs.Trees.{trees};
@@ -437,8 +437,7 @@ fn put_parts<T: ToTokens, P: ToTokens>(
     list: &Punctuated<T, P>,
     out: &mut TokenStream,
 ) -> Result<(), AllocError>
-    ensures ok { OnOk result (trees out.new ≡ trees out.old ++ spec.joined T.print P.print list.now.0 list.now.1) }
-    ensures err { OnErr result (Extends (trees out.old) (trees out.new)) }
+    ensures appends { Appends (spec.joined T.print P.print list.now.0 list.now.1) result out.old out.new }
 {
     let (pairs, last) = list.parts();
     for pair in pairs {

@@ -1,9 +1,7 @@
 //! The marks of ranges.
 
-ghost use Rattle.std.specs.Prelude.{◌≡◌, ◌++◌, OnOk, OnErr};
 ghost use Rattle.token_core.specs.Ranges as spec;
-ghost use Rattle.token_core.specs.Reads.{Reads, Follows, Gives, Fails};
-ghost use Rattle.token_core.specs.Trees.{trees};
+ghost use Rattle.token_core.specs.Reads.{Reads, Gives, Fails, Parses};
 
 use crate::error::Error;
 use crate::parse::Parse;
@@ -24,8 +22,7 @@ pub enum RangeLimits {
 
 #[tactic(auto, using(crate::proofs::Suffixes::follows_self), unfolding(crate::specs::Ranges::read))]
 fn parse_limits(alloc: Global, input: &mut ParseStream<'_>) -> Result<RangeLimits, Error>
-    ensures reads { Reads (spec.read input.old) result input.new }
-    ensures within { Follows input.old input.new }
+    ensures parses { Parses spec.read result input.old input.new }
 {
     if input.peek::<DotDotEq>() {
         return Ok(RangeLimits::Closed(input.parse::<DotDotEq>(alloc)?));
@@ -54,8 +51,7 @@ impl RangeLimits {
     /// Reads `..=`, `..`, or `...`, which is kept as `..=`.
     #[tactic(auto, using(crate::proofs::Suffixes::follows_self), unfolding(crate::specs::Ranges::read_obsolete))]
     pub fn parse_obsolete(alloc: Global, input: &mut ParseStream<'_>) -> Result<RangeLimits, Error>
-        ensures reads { Reads (spec.read_obsolete input.old) result input.new }
-        ensures within { Follows input.old input.new }
+        ensures parses { Parses spec.read_obsolete result input.old input.new }
     {
         if input.peek::<DotDotDot>() {
             let dots = input.parse::<DotDotDot>(alloc)?;

@@ -3,7 +3,7 @@
 ghost use Rattle.std.specs.Prelude.{◌≡◌, ◌++◌, List, OnOk, OnErr};
 ghost use Rattle.token_core.specs.declared.tree.TokenTree.{TokenTree};
 ghost use Rattle.token_core.specs.declared.span.Span as spans;
-ghost use Rattle.token_core.specs.Prints.{Extends, optional, or_default, each};
+ghost use Rattle.token_core.specs.Prints.{Extends, optional, or_default, each, Appends};
 ghost use Rattle.token_core.specs.Trees.{trees};
 
 use crate::boxed::Boxed;
@@ -73,8 +73,7 @@ fn put_each<T: ToTokens>(
     items: &[T],
     out: &mut TokenStream,
 ) -> Result<(), AllocError>
-    ensures ok { OnOk result (trees out.new ≡ trees out.old ++ each T.print items.now) }
-    ensures err { OnErr result (Extends (trees out.old) (trees out.new)) }
+    ensures appends { Appends (each T.print items.now) result out.old out.new }
 {
     for item in items {
         item.append_tokens(alloc, out)?;

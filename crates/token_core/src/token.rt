@@ -1,15 +1,17 @@
 //! Named marks and words, and the tokens of groups. They stand in a module of their own, since some bear names of the prelude.
 
-ghost use Rattle.std.specs.Prelude.{◌≡◌, ◌++◌, OnOk, OnErr};
+ghost use Rattle.std.specs.Prelude.{◌≡◌, ◌++◌, IfOk, OnOk, OnErr};
 ghost use Rattle.token_core.specs.Trees.{trees};
 ghost use Rattle.token_core.specs.declared.tree.Delimiter.TheVariants as delimiter;
 ghost use Rattle.token_core.specs.Groups as groups;
 ghost use Rattle.token_core.specs.Marks as marks;
+ghost use Rattle.token_core.specs.Positions.{Holds};
 ghost use Rattle.token_core.specs.Prints as prints;
 ghost use Rattle.token_core.specs.Reads as spec;
-ghost use Rattle.token_core.specs.Reads.{Reads, Parsed, Keeps, Follows, Gives, Fails};
+ghost use Rattle.token_core.specs.Reads.{Reads, Parsed, Keeps, Follows, Gives, Fails, Parses};
 ghost use Rattle.token_core.specs.Spans as spans;
 ghost use Rattle.token_core.specs.TokenNames as names;
+ghost use Rattle.token_core.specs.Prints.{Appends};
 
 use crate::error::Error;
 pub use crate::mark::Mark;
@@ -325,8 +327,7 @@ impl<const N: u32, const LEN: usize> ToTokens for Mark<N, LEN> {
 /// Mark characters with their spans, each but the last Joint; refused, what stood before is kept.
 #[tactic(auto, using(crate::proofs::Puts::puts))]
 fn put_puncts(chars: &[char], spans: &[Span], out: &mut TokenStream) -> Result<(), AllocError>
-    ensures ok { OnOk result (trees out.new ≡ trees out.old ++ prints.puncts chars.now spans.now) }
-    ensures err { OnErr result (prints.Extends (trees out.old) (trees out.new)) }
+    ensures appends { Appends (prints.puncts chars.now spans.now) result out.old out.new }
 {
     let mut at = 0;
     'chars: while at < chars.len() {
@@ -538,8 +539,7 @@ impl Ident {
 
     /// Reads an identifier, keywords and `_` too.
     pub fn parse_any(alloc: Global, input: &mut ParseStream<'_>) -> Result<Ident, Error>
-        ensures reads { Reads (spec.read_word spec.any_text spec.ident_name input.old) result input.new }
-        ensures within { Follows input.old input.new }
+        ensures parses { Parses (spec.read_word spec.any_text spec.ident_name) result input.old input.new }
     {
         Ok(input.read_any_ident(alloc)?.copy(alloc)?)
     }
@@ -596,8 +596,7 @@ impl<'a> ParseStream<'a> {
 
     /// The parentheses at the front, and a stream of what they hold.
     pub fn parenthesized(&mut self, alloc: Global) -> Result<(Paren, ParseStream<'a>), Error>
-        ensures reads { Reads (groups.opened groups.paren (spec.open_group delimiter.Parenthesis groups.paren_name self.old)) result self.new }
-        ensures within { Follows self.old self.new }
+        ensures parses { Parses (λ s. groups.opened groups.paren (spec.open_group delimiter.Parenthesis groups.paren_name s)) result self.old self.new }
         ensures same { OnErr result (self.new ≡ self.old) }
     {
         let (span, inside) = self.open_group(alloc, Delimiter::Parenthesis, Paren::display())?;
@@ -606,8 +605,7 @@ impl<'a> ParseStream<'a> {
 
     /// The braces at the front, and a stream of what they hold.
     pub fn braced(&mut self, alloc: Global) -> Result<(Brace, ParseStream<'a>), Error>
-        ensures reads { Reads (groups.opened groups.brace (spec.open_group delimiter.Brace groups.brace_name self.old)) result self.new }
-        ensures within { Follows self.old self.new }
+        ensures parses { Parses (λ s. groups.opened groups.brace (spec.open_group delimiter.Brace groups.brace_name s)) result self.old self.new }
         ensures same { OnErr result (self.new ≡ self.old) }
     {
         let (span, inside) = self.open_group(alloc, Delimiter::Brace, Brace::display())?;
@@ -618,8 +616,8 @@ impl<'a> ParseStream<'a> {
     /// invisible group, but into none.
     #[tactic(auto, using(crate::proofs::Suffixes::follows_self), unfolding(crate::specs::Groups::open_invisible))]
     pub fn invisible(&mut self, alloc: Global) -> Result<(GroupToken, ParseStream<'a>), Error>
-        ensures reads { Reads (groups.opened groups.group_token (groups.open_invisible self.old)) result self.new }
-        ensures within { Follows self.old self.new }
+        ensures parses { Parses (λ s. groups.opened groups.group_token (groups.open_invisible s)) result self.old self.new }
+        ensures held { IfOk result (λ p. Holds self.old.rest p.1.rest self.new.rest) }
         ensures same { OnErr result (self.new ≡ self.old) }
     {
         match self.place().next_invisible() {
@@ -635,8 +633,7 @@ impl<'a> ParseStream<'a> {
 
     /// The brackets at the front, and a stream of what they hold.
     pub fn bracketed(&mut self, alloc: Global) -> Result<(Bracket, ParseStream<'a>), Error>
-        ensures reads { Reads (groups.opened groups.bracket (spec.open_group delimiter.Bracket groups.bracket_name self.old)) result self.new }
-        ensures within { Follows self.old self.new }
+        ensures parses { Parses (λ s. groups.opened groups.bracket (spec.open_group delimiter.Bracket groups.bracket_name s)) result self.old self.new }
         ensures same { OnErr result (self.new ≡ self.old) }
     {
         let (span, inside) = self.open_group(alloc, Delimiter::Bracket, Bracket::display())?;

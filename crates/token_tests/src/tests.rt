@@ -188,6 +188,27 @@ fn refusals_have_their_texts(rt: HostRuntime) {
             ErrorKind::BinderWithQuestion,
             "`for<...>` binder not allowed with `?` trait polarity modifier",
         ),
+        (
+            ErrorKind::GenericsOnWhere,
+            "generic parameters on `where` clauses are reserved for future use",
+        ),
+        (
+            ErrorKind::CaptureNotAllowed,
+            "`use<...>` precise capturing syntax is not allowed here",
+        ),
+        (
+            ErrorKind::ConditionalConstNotAllowed,
+            "`[const]` is not allowed here",
+        ),
+        (ErrorKind::ConstNotAllowed, "`const` is not allowed here"),
+        (
+            ErrorKind::NoTraitInObject,
+            "at least one trait is required for an object type",
+        ),
+        (
+            ErrorKind::NoTraitInImpl,
+            "at least one trait must be specified",
+        ),
     ] {
         kind_says(&rt, alloc, kind, text);
     }

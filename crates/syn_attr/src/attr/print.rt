@@ -1,8 +1,6 @@
 //! Attributes, metas and expressions are printed.
 
-ghost use Rattle.std.specs.Prelude.{◌≡◌, ◌++◌, OnOk, OnErr};
-ghost use Rattle.token_core.specs.Prints.{Extends};
-ghost use Rattle.token_core.specs.Trees.{trees};
+ghost use Rattle.token_core.specs.Prints.{Appends};
 ghost use Rattle.syn_attr.specs.attr.Printing as printing;
 
 use crate::attr::{AttrStyle, Attribute, AttributeOf, Meta, MetaList, MetaNameValue};
@@ -53,8 +51,7 @@ fn print_meta<X: Subtree>(
     meta: &Meta<X>,
     out: &mut TokenStream,
 ) -> Result<(), AllocError>
-    ensures ok { OnOk result (trees out.new ≡ trees out.old ++ printing.meta X.prints meta.now) }
-    ensures err { OnErr result (Extends (trees out.old) (trees out.new)) }
+    ensures appends { Appends (printing.meta X.prints meta.now) result out.old out.new }
 {
     match meta {
         Meta::Path(path) => print_mod_path(alloc, path, out),
@@ -70,8 +67,7 @@ fn print_name_value<X: Subtree>(
     meta: &MetaNameValue<X>,
     out: &mut TokenStream,
 ) -> Result<(), AllocError>
-    ensures ok { OnOk result (trees out.new ≡ trees out.old ++ printing.name_value X.prints meta.now) }
-    ensures err { OnErr result (Extends (trees out.old) (trees out.new)) }
+    ensures appends { Appends (printing.name_value X.prints meta.now) result out.old out.new }
 {
     print_mod_path(alloc, &meta.path, out)?;
     meta.eq_token.to_tokens(alloc, out)?;
@@ -86,8 +82,7 @@ pub fn print_outer<X: Subtree>(
     attrs: &Items<Attribute<X>>,
     out: &mut TokenStream,
 ) -> Result<(), AllocError>
-    ensures ok { OnOk result (trees out.new ≡ trees out.old ++ printing.outer_by (printing.meta X.prints) attrs.now) }
-    ensures err { OnErr result (Extends (trees out.old) (trees out.new)) }
+    ensures appends { Appends (printing.outer_by (printing.meta X.prints) attrs.now) result out.old out.new }
 {
     for attr in attrs.as_slice() {
         if attr.style.is_outer() {
@@ -105,8 +100,7 @@ fn print_attribute<X: Subtree>(
     attr: &Attribute<X>,
     out: &mut TokenStream,
 ) -> Result<(), AllocError>
-    ensures ok { OnOk result (trees out.new ≡ trees out.old ++ printing.attribute X.prints attr.now) }
-    ensures err { OnErr result (Extends (trees out.old) (trees out.new)) }
+    ensures appends { Appends (printing.attribute X.prints attr.now) result out.old out.new }
 {
     let mut content = TokenStream::new(alloc);
     print_meta(alloc, &attr.meta, &mut content)?;
@@ -121,8 +115,7 @@ fn print_around<M>(
     content: TokenStream,
     out: &mut TokenStream,
 ) -> Result<(), AllocError>
-    ensures ok { OnOk result (trees out.new ≡ trees out.old ++ printing.around attr.now content) }
-    ensures err { OnErr result (Extends (trees out.old) (trees out.new)) }
+    ensures appends { Appends (printing.around attr.now content) result out.old out.new }
 {
     attr.pound_token.to_tokens(alloc, out)?;
     print_style(alloc, &attr.style, out)?;
@@ -131,8 +124,7 @@ fn print_around<M>(
 
 #[tactic(auto, using(token_core::proofs::Puts::puts))]
 fn print_style(alloc: Global, style: &AttrStyle, out: &mut TokenStream) -> Result<(), AllocError>
-    ensures ok { OnOk result (trees out.new ≡ trees out.old ++ printing.style style.now) }
-    ensures err { OnErr result (Extends (trees out.old) (trees out.new)) }
+    ensures appends { Appends (printing.style style.now) result out.old out.new }
 {
     match style {
         AttrStyle::Outer => Ok(()),
@@ -142,8 +134,7 @@ fn print_style(alloc: Global, style: &AttrStyle, out: &mut TokenStream) -> Resul
 
 #[tactic(auto, using(token_core::proofs::Puts::puts))]
 fn print_list(alloc: Global, list: &MetaList, out: &mut TokenStream) -> Result<(), AllocError>
-    ensures ok { OnOk result (trees out.new ≡ trees out.old ++ printing.list list.now) }
-    ensures err { OnErr result (Extends (trees out.old) (trees out.new)) }
+    ensures appends { Appends (printing.list list.now) result out.old out.new }
 {
     print_mod_path(alloc, &list.path, out)?;
     print_held(alloc, &list.delimiter, &list.tokens, out)

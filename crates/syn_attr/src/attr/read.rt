@@ -2,7 +2,7 @@
 
 ghost use Rattle.std.specs.Prelude.{◌≡◌, false, None, IfOk};
 ghost use Rattle.token_core.specs.Headline.{Headline, Heads};
-ghost use Rattle.token_core.specs.Reads.{Reads, Follows, Gives, Fails};
+ghost use Rattle.token_core.specs.Reads.{Reads, Follows, Gives, Fails, Parses};
 ghost use Rattle.token_core.specs.Rebuilt.{Visible};
 ghost use Rattle.syn_attr.specs.attr.Grammars as grammars;
 ghost use Rattle.syn_attr.specs.attr.Reading as reading;
@@ -36,8 +36,7 @@ impl<X: Subtree> Parse for Meta<X> {
 
 #[tactic(auto, using(token_core::proofs::Suffixes::follows), unfolding(crate::specs::attr::Reading::meta))]
 fn parse_meta<X: Subtree>(alloc: Global, input: &mut ParseStream<'_>) -> Result<Meta<X>, Error>
-    ensures reads { Reads (reading.meta X.reads input.old) result input.new }
-    ensures within { Follows input.old input.new }
+    ensures parses { Parses (reading.meta X.reads) result input.old input.new }
 {
     let path = parse_meta_path(alloc, input)?;
     parse_meta_after_path(alloc, path, input)
@@ -46,8 +45,7 @@ fn parse_meta<X: Subtree>(alloc: Global, input: &mut ParseStream<'_>) -> Result<
 /// The outermost path of a meta: `unsafe` alone, or of mod style (`parse_outermost_meta_path`).
 #[tactic(auto, using(token_core::proofs::Suffixes::follows), unfolding(crate::specs::attr::Reading::meta_path))]
 fn parse_meta_path(alloc: Global, input: &mut ParseStream<'_>) -> Result<ModPath, Error>
-    ensures reads { Reads (reading.meta_path input.old) result input.new }
-    ensures within { Follows input.old input.new }
+    ensures parses { Parses reading.meta_path result input.old input.new }
 {
     if input.peek::<Unsafe>() {
         let ident = Ident::parse_any(alloc, input)?;
@@ -78,8 +76,7 @@ fn parse_meta_after_path<X: Subtree>(
     path: ModPath,
     input: &mut ParseStream<'_>,
 ) -> Result<Meta<X>, Error>
-    ensures reads { Reads (reading.meta_after X.reads path input.old) result input.new }
-    ensures within { Follows input.old input.new }
+    ensures parses { Parses (reading.meta_after X.reads path) result input.old input.new }
 {
     if peek_body(input) {
         Ok(Meta::List(parse_list_after_path(alloc, path, input)?))
@@ -96,8 +93,7 @@ fn parse_list_after_path(
     path: ModPath,
     input: &mut ParseStream<'_>,
 ) -> Result<MetaList, Error>
-    ensures reads { Reads (reading.list_after path input.old) result input.new }
-    ensures within { Follows input.old input.new }
+    ensures parses { Parses (reading.list_after path) result input.old input.new }
 {
     let (delimiter, tokens) = parse_body(alloc, input)?;
     Ok(MetaList {
@@ -113,8 +109,7 @@ fn parse_name_value_after_path<X: Subtree>(
     path: ModPath,
     input: &mut ParseStream<'_>,
 ) -> Result<MetaNameValue<X>, Error>
-    ensures reads { Reads (reading.name_value_after X.reads path input.old) result input.new }
-    ensures within { Follows input.old input.new }
+    ensures parses { Parses (reading.name_value_after X.reads path) result input.old input.new }
 {
     let eq_token = input.parse::<Eq>(alloc)?;
     let value = parse_value(alloc, input)?;
@@ -146,8 +141,7 @@ impl Parse for MetaList {
 
 #[tactic(auto, using(token_core::proofs::Suffixes::follows), unfolding(crate::specs::attr::Reading::list))]
 fn parse_meta_list(alloc: Global, input: &mut ParseStream<'_>) -> Result<MetaList, Error>
-    ensures reads { Reads (reading.list input.old) result input.new }
-    ensures within { Follows input.old input.new }
+    ensures parses { Parses reading.list result input.old input.new }
 {
     let path = parse_meta_path(alloc, input)?;
     parse_list_after_path(alloc, path, input)
@@ -175,8 +169,7 @@ fn parse_meta_name_value<X: Subtree>(
     alloc: Global,
     input: &mut ParseStream<'_>,
 ) -> Result<MetaNameValue<X>, Error>
-    ensures reads { Reads (reading.name_value X.reads input.old) result input.new }
-    ensures within { Follows input.old input.new }
+    ensures parses { Parses (reading.name_value X.reads) result input.old input.new }
 {
     let path = parse_meta_path(alloc, input)?;
     parse_name_value_after_path(alloc, path, input)
@@ -188,8 +181,7 @@ fn parse_content<X: Subtree>(
     alloc: Global,
     input: &mut ParseStream<'_>,
 ) -> Result<(Bracket, Meta<X>), Error>
-    ensures reads { Reads (reading.content X.reads input.old) result input.new }
-    ensures within { Follows input.old input.new }
+    ensures parses { Parses (reading.content X.reads) result input.old input.new }
 {
     let (bracket_token, mut content) = input.bracketed(alloc)?;
     let meta = parse_meta(alloc, &mut content)?;
@@ -202,8 +194,7 @@ fn single_parse_outer<X: Subtree>(
     alloc: Global,
     input: &mut ParseStream<'_>,
 ) -> Result<Attribute<X>, Error>
-    ensures reads { Reads (reading.one_outer X.reads input.old) result input.new }
-    ensures within { Follows input.old input.new }
+    ensures parses { Parses (reading.one_outer X.reads) result input.old input.new }
 {
     let pound_token = input.parse::<Pound>(alloc)?;
     let (bracket_token, meta) = parse_content(alloc, input)?;
@@ -220,8 +211,7 @@ fn single_parse_inner<X: Subtree>(
     alloc: Global,
     input: &mut ParseStream<'_>,
 ) -> Result<Attribute<X>, Error>
-    ensures reads { Reads (reading.one_inner X.reads input.old) result input.new }
-    ensures within { Follows input.old input.new }
+    ensures parses { Parses (reading.one_inner X.reads) result input.old input.new }
 {
     let pound_token = input.parse::<Pound>(alloc)?;
     let style = AttrStyle::Inner(input.parse::<Not>(alloc)?);
@@ -248,8 +238,7 @@ fn parse_outers<X: Subtree>(
     alloc: Global,
     input: &mut ParseStream<'_>,
 ) -> Result<Items<Attribute<X>>, Error>
-    ensures reads { Reads (reading.outer X.reads input.old) result input.new }
-    ensures within { Follows input.old input.new }
+    ensures parses { Parses (reading.outer X.reads) result input.old input.new }
 {
     let mut attrs = Items::new(alloc);
     'turn: while input.peek::<Pound>() {
@@ -264,8 +253,7 @@ fn parse_inners<X: Subtree>(
     alloc: Global,
     input: &mut ParseStream<'_>,
 ) -> Result<Items<Attribute<X>>, Error>
-    ensures reads { Reads (reading.inner X.reads input.old) result input.new }
-    ensures within { Follows input.old input.new }
+    ensures parses { Parses (reading.inner X.reads) result input.old input.new }
 {
     let mut attrs = Items::new(alloc);
     'turn: while peek_inner(input) {
@@ -283,8 +271,7 @@ impl<X: Subtree> Attribute<X> {
         alloc: Global,
         input: &mut ParseStream<'_>,
     ) -> Result<Items<Attribute<X>>, Error>
-        ensures reads { Reads (reading.outer X.reads input.old) result input.new }
-        ensures within { Follows input.old input.new }
+        ensures parses { Parses (reading.outer X.reads) result input.old input.new }
         ensures front { Visible input.old.rest → input.new.left ≡ None → IfOk result (λ all. AreAll (IsOuter X.spells false) all input.old.rest input.new.rest) }
         ensures headline { Heads (grammars.outer X.reads X.spells X.normal X.prints) input.old result input.new }
     {
@@ -296,8 +283,7 @@ impl<X: Subtree> Attribute<X> {
         alloc: Global,
         input: &mut ParseStream<'_>,
     ) -> Result<Items<Attribute<X>>, Error>
-        ensures reads { Reads (reading.inner X.reads input.old) result input.new }
-        ensures within { Follows input.old input.new }
+        ensures parses { Parses (reading.inner X.reads) result input.old input.new }
         ensures front { Visible input.old.rest → input.new.left ≡ None → IfOk result (λ all. AreAll (IsInner X.spells false) all input.old.rest input.new.rest) }
         ensures headline { Heads (grammars.inner X.reads X.spells X.normal X.prints) input.old result input.new }
     {

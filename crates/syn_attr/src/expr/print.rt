@@ -1,8 +1,7 @@
 //! Expressions are printed.
 
-ghost use Rattle.std.specs.Prelude.{◌≡◌, ◌++◌, OnOk, OnErr};
-ghost use Rattle.token_core.specs.Prints.{Extends};
-ghost use Rattle.token_core.specs.Trees.{trees};
+ghost use Rattle.std.specs.Prelude.{◌≡◌};
+ghost use Rattle.token_core.specs.Prints.{Appends};
 ghost use Rattle.syn_path.specs.declared.supplied.Place.TheVariants.{ArrayLen, Block};
 ghost use Rattle.syn_attr.specs.attr.Printing as printing;
 ghost use Rattle.syn_attr.specs.attr.Consts as consts;
@@ -80,8 +79,7 @@ pub fn print_value<X: Subtree>(
     value: &Expr<X>,
     out: &mut TokenStream,
 ) -> Result<(), AllocError>
-    ensures ok { OnOk result (trees out.new ≡ trees out.old ++ printing.value X.prints value.now) }
-    ensures err { OnErr result (Extends (trees out.old) (trees out.new)) }
+    ensures appends { Appends (printing.value X.prints value.now) result out.old out.new }
 {
     match value {
         Expr::Lit(expr) => {
@@ -116,8 +114,7 @@ fn print_range<X: Subtree>(
     expr: &ExprRange<X>,
     out: &mut TokenStream,
 ) -> Result<(), AllocError>
-    ensures ok { OnOk result (trees out.new ≡ trees out.old ++ printing.range X.prints expr.now) }
-    ensures err { OnErr result (Extends (trees out.old) (trees out.new)) }
+    ensures appends { Appends (printing.range X.prints expr.now) result out.old out.new }
 {
     print_outer(alloc, &expr.attrs, out)?;
     match &expr.start {
@@ -137,8 +134,7 @@ fn print_range_end<X: Subtree>(
     expr: &ExprRange<X>,
     out: &mut TokenStream,
 ) -> Result<(), AllocError>
-    ensures ok { OnOk result (trees out.new ≡ trees out.old ++ printing.range_end X.prints expr.now) }
-    ensures err { OnErr result (Extends (trees out.old) (trees out.new)) }
+    ensures appends { Appends (printing.range_end X.prints expr.now) result out.old out.new }
 {
     expr.limits.to_tokens(alloc, out)?;
     match &expr.end {
@@ -153,8 +149,7 @@ fn print_literal<X: Subtree>(
     expr: &ExprLit<X>,
     out: &mut TokenStream,
 ) -> Result<(), AllocError>
-    ensures ok { OnOk result (trees out.new ≡ trees out.old ++ printing.literal X.prints expr.now) }
-    ensures err { OnErr result (Extends (trees out.old) (trees out.new)) }
+    ensures appends { Appends (printing.literal X.prints expr.now) result out.old out.new }
 {
     print_outer(alloc, &expr.attrs, out)?;
     expr.lit.to_tokens(alloc, out)
@@ -166,8 +161,7 @@ fn print_expr_path<X: Subtree>(
     expr: &ExprPath<X>,
     out: &mut TokenStream,
 ) -> Result<(), AllocError>
-    ensures ok { OnOk result (trees out.new ≡ trees out.old ++ printing.expr_path X.prints expr.now) }
-    ensures err { OnErr result (Extends (trees out.old) (trees out.new)) }
+    ensures appends { Appends (printing.expr_path X.prints expr.now) result out.old out.new }
 {
     print_outer(alloc, &expr.attrs, out)?;
     print_mod_path(alloc, &expr.path, out)
@@ -179,8 +173,7 @@ fn print_expr_const<X: Subtree>(
     expr: &ExprConst<X>,
     out: &mut TokenStream,
 ) -> Result<(), AllocError>
-    ensures ok { OnOk result (trees out.new ≡ trees out.old ++ printing.expr_const X.prints expr.now) }
-    ensures err { OnErr result (Extends (trees out.old) (trees out.new)) }
+    ensures appends { Appends (printing.expr_const X.prints expr.now) result out.old out.new }
 {
     print_outer(alloc, &expr.attrs, out)?;
     print_const_block(alloc, expr, out)
@@ -193,8 +186,7 @@ fn print_const_block<X: Subtree>(
     expr: &ExprConst<X>,
     out: &mut TokenStream,
 ) -> Result<(), AllocError>
-    ensures ok { OnOk result (trees out.new ≡ trees out.old ++ printing.const_block X.prints expr.now) }
-    ensures err { OnErr result (Extends (trees out.old) (trees out.new)) }
+    ensures appends { Appends (printing.const_block X.prints expr.now) result out.old out.new }
 {
     expr.const_token.to_tokens(alloc, out)?;
     print_body(alloc, &expr.body, &expr.brace_token, out)
@@ -206,8 +198,7 @@ fn print_expr_macro<X: Subtree>(
     expr: &ExprMacro<X>,
     out: &mut TokenStream,
 ) -> Result<(), AllocError>
-    ensures ok { OnOk result (trees out.new ≡ trees out.old ++ printing.expr_macro X.prints expr.now) }
-    ensures err { OnErr result (Extends (trees out.old) (trees out.new)) }
+    ensures appends { Appends (printing.expr_macro X.prints expr.now) result out.old out.new }
 {
     print_outer(alloc, &expr.attrs, out)?;
     expr.mac.to_tokens(alloc, out)
@@ -219,8 +210,7 @@ fn print_block<X: Subtree>(
     expr: &ExprBlock<X>,
     out: &mut TokenStream,
 ) -> Result<(), AllocError>
-    ensures ok { OnOk result (trees out.new ≡ trees out.old ++ printing.block X.prints expr.now) }
-    ensures err { OnErr result (Extends (trees out.old) (trees out.new)) }
+    ensures appends { Appends (printing.block X.prints expr.now) result out.old out.new }
 {
     print_outer(alloc, &expr.attrs, out)?;
     print_body(alloc, &expr.body, &expr.brace_token, out)
@@ -234,8 +224,7 @@ fn print_body<X: Subtree>(
     brace_token: &Brace,
     out: &mut TokenStream,
 ) -> Result<(), AllocError>
-    ensures ok { OnOk result (trees out.new ≡ trees out.old ++ printing.body X.prints brace_token.now body.now) }
-    ensures err { OnErr result (Extends (trees out.old) (trees out.new)) }
+    ensures appends { Appends (printing.body X.prints brace_token.now body.now) result out.old out.new }
 {
     let mut content = TokenStream::new(alloc);
     body.print(alloc, Place::Block, &mut content)?;
@@ -249,8 +238,7 @@ pub fn print_len<X: Subtree>(
     len: &Expr<X>,
     out: &mut TokenStream,
 ) -> Result<(), AllocError>
-    ensures ok { OnOk result (trees out.new ≡ trees out.old ++ at_place X.prints ArrayLen len.now) }
-    ensures err { OnErr result (Extends (trees out.old) (trees out.new)) }
+    ensures appends { Appends (at_place X.prints ArrayLen len.now) result out.old out.new }
 {
     match len {
         Expr::Other(tree) => tree.print(alloc, Place::ArrayLen, out),
@@ -265,8 +253,7 @@ pub fn print_const_argument<X: Subtree>(
     value: &Expr<X>,
     out: &mut TokenStream,
 ) -> Result<(), AllocError>
-    ensures ok { OnOk result (trees out.new ≡ trees out.old ++ consts.const_argument X.prints value.now) }
-    ensures err { OnErr result (Extends (trees out.old) (trees out.new)) }
+    ensures appends { Appends (consts.const_argument X.prints value.now) result out.old out.new }
 {
     if stands_alone(value) {
         return print_value(alloc, value, out);
@@ -296,8 +283,7 @@ fn print_in_braces<X: Subtree>(
     value: &Expr<X>,
     out: &mut TokenStream,
 ) -> Result<(), AllocError>
-    ensures ok { OnOk result (trees out.new ≡ trees out.old ++ at_place X.prints Block value.now) }
-    ensures err { OnErr result (Extends (trees out.old) (trees out.new)) }
+    ensures appends { Appends (at_place X.prints Block value.now) result out.old out.new }
 {
     match value {
         Expr::Other(tree) => tree.print(alloc, Place::Block, out),

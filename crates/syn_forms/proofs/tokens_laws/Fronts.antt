@@ -1,6 +1,6 @@
 -- A grammar of a relation on the front of a list: what is read, where it is read, and what prints spell.
 use Rattle.std.specs.Prelude.{IfOk}
-use Rattle.std.proofs.Common.{◌≡◌, Bool, true, false, None, Result, Ok, Err, subst, sym, ◌∙◌, ap}
+use Rattle.std.proofs.Common.{◌≡◌, Bool, true, false, None, Result, Ok, Err, subst, sym, ◌∙◌}
 use Rattle.token_core.specs.Headline.{Grammar, Lawful}
 use Rattle.token_core.specs.Prints.{Print}
 use Rattle.token_core.specs.Reads.{Reader, Reads, leaves, left_here}

@@ -1,8 +1,8 @@
 -- The reads of tokens before what a form holds.
-use Rattle.std.specs.Prelude.{ℕ, Bool, true, false, if◌then◌else◌, Option, Err, codes}
+use Rattle.std.specs.Prelude.{ℕ, Bool, if◌then◌else◌, Option, Err, codes}
 use Rattle.token_core.specs.Marks as marks
 use Rattle.token_core.specs.Toks.{Bytes, Toks}
-use Rattle.token_core.specs.Reads.{Reader, ◌>>=◌, ◌<$>◌, pure, peek, optional, expected, is_text, sees_word}
+use Rattle.token_core.specs.Reads.{Reader, ◌>>=◌, ◌<$>◌, peek, optional, expected, is_text, sees_word}
 use Rattle.syn_forms.specs.declared.tokens.PointerMutability.{PointerMutability}
 use Rattle.syn_forms.specs.declared.tokens.PointerMutability.TheVariants as m
 pub use Rattle.token_core.specs.Tokens.{sees_comma, sees_semi, sees_gt, sees_question, and, star, comma, plus, semi, lt, gt, for_word}

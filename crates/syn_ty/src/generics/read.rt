@@ -27,17 +27,17 @@ use token_core::{Error, Parse, ParseStream};
 /// (`BinderWithQuestion`, at the `?`), and where `<` follows the path, since arguments of paths are not read yet. Nor are
 /// `use<..>`, `const` and `[const]`, and parameters of binders other than lifetimes alone. As `syn::TypeParamBound`.
 impl<A: Attributes, E: Value> Parse for TypeParamBoundOf<A, E> {
-    ghost reads = { Gives (knot.bound E.reads) };
+    ghost reads = { Gives (knot.bound E.reads.len) };
 
-    ghost refuses = { Fails (knot.bound {A = A} E.reads) };
+    ghost refuses = { Fails (knot.bound {A = A} E.reads.len) };
 
-    ghost promise = { Headline (grammars.bound E.reads E.spells A.normal E.normal A.shown E.values) };
+    ghost promise = { Headline (grammars.bound E.reads.len E.spells.len A.normal E.normal A.shown E.values) };
 
     fn parse(alloc: Global, input: &mut ParseStream<'_>) -> Result<TypeParamBoundOf<A, E>, Error>
-        ensures reads { Reads (knot.bound E.reads input.old) result input.new }
+        ensures reads { Reads (knot.bound E.reads.len input.old) result input.new }
         ensures within { Follows input.old input.new }
-        ensures front { Visible input.old.rest → input.new.left ≡ None → IfOk result (λ x. IsSomeBound E.spells false x input.old.rest input.new.rest) }
-        ensures promise { Heads (grammars.bound E.reads E.spells A.normal E.normal A.shown E.values) input.old result input.new }
+        ensures front { Visible input.old.rest → input.new.left ≡ None → IfOk result (λ x. IsSomeBound E.spells.len false x input.old.rest input.new.rest) }
+        ensures promise { Heads (grammars.bound E.reads.len E.spells.len A.normal E.normal A.shown E.values) input.old result input.new }
     {
         parse_bound(alloc, PhantomData, input, ())
     }

@@ -70,6 +70,6 @@ pub read_group-read_atoms-requires : goal.read_group-read_atoms-requires
 read_group-read_atoms-requires m c =
     let is : 3 * groups c.args.input.now.rest ≡ m = c.decreases in
     let few : groups c.in_ok-paren_token.content.rest < groups c.args.input.now.rest =
-    paren_fewer (open_group Parenthesis paren_name c.args.input.now) c.args.input.now c.parenthesized.new.self (c.in_ok-paren_token.paren_token, c.in_ok-paren_token.content) refl c.in_ok-paren_token.ensures.reads in
+    paren_fewer (open_group Parenthesis paren_name c.args.input.now) c.args.input.now c.parenthesized.new.self (c.in_ok-paren_token.paren_token, c.in_ok-paren_token.content) refl c.in_ok-paren_token.ensures.parses.0 in
     let less : 3 * groups c.in_ok-paren_token.content.rest + 2 < m = omega (arith, is, few) in
     (less, tt)

@@ -15,21 +15,26 @@ turn-init g c =
       within = follows_self c.args.input.now;
     }
 
-pub returns-clause-reads : goal.returns-clause-reads
-returns-clause-reads g c =
+pub returns : goal.returns
+returns g c =
     let here : sees_inner c.turn.input.rest ≡ false = first_of (search rules, grind (arith, common_steps)) in
-    c.turn.invariant.told ∙ turn_none sees_inner (one_inner g.X.Subtree.reads) c.turn.attrs c.turn.input here
+    record { parses = (c.turn.invariant.told ∙ turn_none sees_inner (one_inner g.X.Subtree.reads) c.turn.attrs c.turn.input here, grind (arith, follows)) }
 
-pub returns-in_err-single_parse_inner-clause-reads : goal.returns-in_err-single_parse_inner-clause-reads
-returns-in_err-single_parse_inner-clause-reads g c =
+pub returns-in_err-single_parse_inner : goal.returns-in_err-single_parse_inner
+returns-in_err-single_parse_inner g c =
     let here : sees_inner c.turn.input.rest ≡ true = first_of (search rules, grind (arith, common_steps)) in
     let e = c.in_err-single_parse_inner.field-0.0 in
     let back : c.from_residual.result ≡ Err e = first_of (search rules, grind (arith, common_steps)) in
-    stuck_by (one_inner g.X.Subtree.reads c.turn.input) _ _ _ e back c.in_err-single_parse_inner.ensures.reads
-    (λ h. c.turn.invariant.told ∙ turn_refused sees_inner (one_inner g.X.Subtree.reads) c.turn.attrs c.turn.input e here h)
+    record {
+      parses = (
+        stuck_by (one_inner g.X.Subtree.reads c.turn.input) _ _ _ e back c.in_err-single_parse_inner.ensures.parses.0
+            (λ h. c.turn.invariant.told ∙ turn_refused sees_inner (one_inner g.X.Subtree.reads) c.turn.attrs c.turn.input e here h),
+        grind (arith, follows),
+      );
+    }
 
 pub turn-smaller : goal.turn-smaller
-turn-smaller g c = inner_takes g.X.Subtree.reads c.turn.input c.single_parse_inner.new.input c.in_ok-single_parse_inner.field-0 c.in_ok-single_parse_inner.ensures.reads
+turn-smaller g c = inner_takes g.X.Subtree.reads c.turn.input c.single_parse_inner.new.input c.in_ok-single_parse_inner.field-0 c.in_ok-single_parse_inner.ensures.parses.0
 
 pub turn-preserved : goal.turn-preserved
 turn-preserved g c =
@@ -37,7 +42,7 @@ turn-preserved g c =
     let v : c.push.new.self ≡ c.turn.attrs ++ c.in_ok-single_parse_inner.field-0 ∷ [] = first_of (search rules, grind (arith, common_steps)) in
     record {
       told = c.turn.invariant.told
-          ∙ turn_on sees_inner (one_inner g.X.Subtree.reads) (inner_takes g.X.Subtree.reads) c.turn.attrs c.turn.input c.single_parse_inner.new.input c.in_ok-single_parse_inner.field-0 here c.in_ok-single_parse_inner.ensures.reads
+          ∙ turn_on sees_inner (one_inner g.X.Subtree.reads) (inner_takes g.X.Subtree.reads) c.turn.attrs c.turn.input c.single_parse_inner.new.input c.in_ok-single_parse_inner.field-0 here c.in_ok-single_parse_inner.ensures.parses.0
           ∙ ap (λ z. before z (inner g.X.Subtree.reads c.single_parse_inner.new.input)) (sym v);
       within = grind (arith, follows);
     }

@@ -4,7 +4,7 @@ use Rattle.syn_forms.proofs.tokens_laws.Mutability.{mutability_lawful, mutabilit
 use Rattle.syn_forms.proofs.tokens.PointerMutabilityParse.parse.Goals as goal
 
 pub returns-clause-promise : goal.returns-clause-promise
-returns-clause-promise c = heads (grammars.mutability) (mutability_lawful) _ _ _ c.parse_mutability.ensures.reads
+returns-clause-promise c = heads (grammars.mutability) (mutability_lawful) _ _ _ c.parse_mutability.ensures.parses.0
 
 pub returns-clause-front : goal.returns-clause-front
-returns-clause-front c = mutability_front _ _ _ c.parse_mutability.ensures.reads
+returns-clause-front c = mutability_front _ _ _ c.parse_mutability.ensures.parses.0

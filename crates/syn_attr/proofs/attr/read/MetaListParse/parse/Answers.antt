@@ -4,7 +4,7 @@ use Rattle.syn_attr.proofs.attr_laws.Laws.{list_lawful, list_front}
 use Rattle.syn_attr.proofs.attr.read.MetaListParse.parse.Goals as goal
 
 pub returns-clause-promise : goal.returns-clause-promise
-returns-clause-promise c = heads grammars.list list_lawful _ _ _ c.parse_meta_list.ensures.reads
+returns-clause-promise c = heads grammars.list list_lawful _ _ _ c.parse_meta_list.ensures.parses.0
 
 pub returns-clause-front : goal.returns-clause-front
-returns-clause-front c = list_front _ _ _ c.parse_meta_list.ensures.reads
+returns-clause-front c = list_front _ _ _ c.parse_meta_list.ensures.parses.0

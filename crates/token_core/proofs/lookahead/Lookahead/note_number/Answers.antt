@@ -1,7 +1,7 @@
 use Rattle.std.proofs.Common.{◌≡◌, ◌++◌, [], ◌∷◌, false, if◌then◌else◌, take, sym, ap, ◌∙◌, arith}
 use Rattle.token_core.specs.Looks.{Looks, is_noted, noted}
 use Rattle.token_core.proofs.Choices.{take_set, known_more, has_place}
-use Rattle.token_core.proofs.lookahead.Lookahead.note.Goals as goal
+use Rattle.token_core.proofs.lookahead.Lookahead.note_number.Goals as goal
 
 pub bounds-self-inside-self-inside : goal.bounds-self-inside-self-inside
 bounds-self-inside-self-inside c =

@@ -1,0 +1,3 @@
+pub mod Generics
+pub mod Knot
+pub mod Reading
