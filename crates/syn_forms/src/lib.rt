@@ -9,5 +9,6 @@ pub mod heads;
 pub mod lists;
 pub mod nested;
 pub mod params;
+pub mod paths;
 pub mod places;
 pub mod tokens;
