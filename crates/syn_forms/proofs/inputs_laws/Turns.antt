@@ -1,5 +1,5 @@
 -- The arguments of a pointer to a function are read turn by turn, of any number of turns that are left.
-use Rattle.std.proofs.Common.{◌≡◌, ℕ, zero, suc, ◌<◌, ◌≤◌, Bool, true, false, List, [], ◌∷◌, ◌++◌, Option, Some, None, Ok, Err, refl, sym, ◌∙◌, ap, arith, if◌then◌else◌, append_assoc, append-nil}
+use Rattle.std.proofs.Common.{◌≡◌, ℕ, zero, suc, ◌<◌, ◌≤◌, Bool, true, false, List, [], ◌∷◌, ◌++◌, Option, Some, None, Ok, Err, refl, sym, ◌∙◌, ap, subst, arith, if◌then◌else◌, append_assoc, append-nil}
 use Rattle.token_core.specs.declared.tree.TokenStream.{TokenStream}
 use Rattle.token_core.specs.Refusal.{Refusal}
 use Rattle.token_core.specs.Stream.{Stream}
@@ -42,14 +42,6 @@ module _ {B A I : Type 0} (make : List B → Name → A → I) (attrs : Reader (
   abbrev turn : ℕ → Bool → Bool → Reader (Inputs B I)
   turn n b over = if over then pure (no_inputs None) else (attrs >>= after_attrs n b)
 
-  -- nothing more
-  pub over : (n : ℕ) (v : Many I token.Comma) (b : Bool) (s : Stream) → is_done s.rest ≡ true → begun v (Goes (suc n) b s) ≡ Ok ((v, None), s)
-  over n v b s h = ap (λ (z : Bool). begun v (turn n b z s)) h ∙ begun-none v None s
-
-  -- attributes that are refused
-  pub refused : (n : ℕ) (v : Many I token.Comma) (b : Bool) (s : Stream) (e : Refusal) → is_done s.rest ≡ false → attrs s ≡ Err e → begun v (Goes (suc n) b s) ≡ Err e
-  refused n v b s e o h = ap (λ (z : Bool). begun v (turn n b z s)) o ∙ ap (λ (z : Outcome (List B)). begun v (and_then z (after_attrs n b))) h
-
   -- attributes
   pub record Borne (s t : Stream) (a : List B) : Type 0 where
     pub goes : is_done s.rest ≡ false
@@ -64,20 +56,12 @@ module _ {B A I : Type 0} (make : List B → Name → A → I) (attrs : Reader (
   dotted : (n : ℕ) (v : Many I token.Comma) (b : Bool) (s t : Stream) (a : List B) → Borne s t a → sees_dots t.rest ≡ true → begun v (Goes (suc n) b s) ≡ begun v (and_then (dots t) (λ d. pure (no_inputs (Some (a, d)))))
   dotted n v b s t a h k = borne n v b s t a h ∙ ap (λ (z : Bool). begun v (chosen n b a z t)) k
 
-  -- `...` that is refused
-  pub refused_dots : (n : ℕ) (v : Many I token.Comma) (b : Bool) (s t : Stream) (a : List B) (e : Refusal) → Borne s t a → sees_dots t.rest ≡ true → dots t ≡ Err e → begun v (Goes (suc n) b s) ≡ Err e
-  refused_dots n v b s t a e h k g = dotted n v b s t a h k ∙ ap (λ (z : Outcome Dots). begun v (and_then z (λ d. pure (no_inputs (Some (a, d)))))) g
-
   -- `...`
-  pub ended : (n : ℕ) (v : Many I token.Comma) (b : Bool) (s t u : Stream) (a : List B) (d : Dots) → Borne s t a → sees_dots t.rest ≡ true → dots t ≡ Ok (d, u) → begun v (Goes (suc n) b s) ≡ Ok ((v, Some (a, d)), u)
+  ended : (n : ℕ) (v : Many I token.Comma) (b : Bool) (s t u : Stream) (a : List B) (d : Dots) → Borne s t a → sees_dots t.rest ≡ true → dots t ≡ Ok (d, u) → begun v (Goes (suc n) b s) ≡ Ok ((v, Some (a, d)), u)
   ended n v b s t u a d h k g = dotted n v b s t a h k ∙ ap (λ (z : Outcome Dots). begun v (and_then z (λ d. pure (no_inputs (Some (a, d)))))) g ∙ begun-none v (Some (a, d)) u
 
   undotted : (n : ℕ) (v : Many I token.Comma) (b : Bool) (s t : Stream) (a : List B) → Borne s t a → sees_dots t.rest ≡ false → begun v (Goes (suc n) b s) ≡ begun v (and_then (argument value verbatim b t) (after_argument n a))
   undotted n v b s t a h k = borne n v b s t a h ∙ ap (λ (z : Bool). begun v (chosen n b a z t)) k
-
-  -- an argument that is refused
-  pub refused_argument : (n : ℕ) (v : Many I token.Comma) (b : Bool) (s t : Stream) (a : List B) (e : Refusal) → Borne s t a → sees_dots t.rest ≡ false → argument value verbatim b t ≡ Err e → begun v (Goes (suc n) b s) ≡ Err e
-  refused_argument n v b s t a e h k g = undotted n v b s t a h k ∙ ap (λ (z : Outcome (Name × A)). begun v (and_then z (after_argument n a))) g
 
   -- an argument with its attributes
   pub record Argued (b : Bool) (s t u : Stream) (a : List B) (x : Name × A) : Type 0 where
@@ -92,18 +76,14 @@ module _ {B A I : Type 0} (make : List B → Name → A → I) (attrs : Reader (
   followed n y ends = if ends then pure (one_input y) else (token.comma >>= after_comma n y)
 
   -- the last argument
-  pub last : (n : ℕ) (v : Many I token.Comma) (b : Bool) (s t u : Stream) (a : List B) (x : Name × A) → Argued b s t u a x → is_done u.rest ≡ true → begun v (Goes (suc n) b s) ≡ Ok (((v.0 ++ make a x.0 x.1 ∷ [], v.1), None), u)
+  last : (n : ℕ) (v : Many I token.Comma) (b : Bool) (s t u : Stream) (a : List B) (x : Name × A) → Argued b s t u a x → is_done u.rest ≡ true → begun v (Goes (suc n) b s) ≡ Ok (((v.0 ++ make a x.0 x.1 ∷ [], v.1), None), u)
   last n v b s t u a x h k = argued n v b s t u a x h ∙ ap (λ (z : Bool). begun v (followed n (make a x.0 x.1) z u)) k ∙ ap (λ z. Ok (((v.0 ++ make a x.0 x.1 ∷ [], z), None), u)) (append-nil v.1)
 
   marked : (n : ℕ) (v : Many I token.Comma) (b : Bool) (s t u : Stream) (a : List B) (x : Name × A) → Argued b s t u a x → is_done u.rest ≡ false → begun v (Goes (suc n) b s) ≡ begun v (and_then (token.comma u) (after_comma n (make a x.0 x.1)))
   marked n v b s t u a x h k = argued n v b s t u a x h ∙ ap (λ (z : Bool). begun v (followed n (make a x.0 x.1) z u)) k
 
-  -- an argument, and a comma that is refused
-  pub stuck : (n : ℕ) (v : Many I token.Comma) (b : Bool) (s t u : Stream) (a : List B) (x : Name × A) (e : Refusal) → Argued b s t u a x → is_done u.rest ≡ false → token.comma u ≡ Err e → begun v (Goes (suc n) b s) ≡ Err e
-  stuck n v b s t u a x e h k g = marked n v b s t u a x h k ∙ ap (λ (z : Outcome token.Comma). begun v (and_then z (after_comma n (make a x.0 x.1)))) g
-
   -- an argument and a comma
-  pub on : (n : ℕ) (v : Many I token.Comma) (b : Bool) (s t u w : Stream) (a : List B) (x : Name × A) (c : token.Comma) → Argued b s t u a x → is_done u.rest ≡ false → token.comma u ≡ Ok (c, w) →
+  on : (n : ℕ) (v : Many I token.Comma) (b : Bool) (s t u w : Stream) (a : List B) (x : Name × A) (c : token.Comma) → Argued b s t u a x → is_done u.rest ≡ false → token.comma u ≡ Ok (c, w) →
       begun v (Goes (suc n) b s) ≡ begun (v.0 ++ make a x.0 x.1 ∷ [], v.1 ++ c ∷ []) (Goes n false w)
   on n v b s t u w a x c h k g = marked n v b s t u a x h k ∙ ap (λ (z : Outcome token.Comma). begun v (and_then z (after_comma n (make a x.0 x.1)))) g ∙ begun-put v (make a x.0 x.1) c (Goes n false w)
 
@@ -124,6 +104,14 @@ module _ {B A I : Type 0} (make : List B → Name → A → I) (attrs : Reader (
   next_at (suc n) o v b s t u w a x c le e h k g less = record { turns = n; enough = omega (arith, le, less); told = e ∙ on (suc n) v b s t u w a x c h k g }
 
   -- after one turn more
-  pub next : (o : Outcome (Inputs B I)) (v : Many I token.Comma) (b : Bool) (s t u w : Stream) (a : List B) (x : Name × A) (c : token.Comma) → Told o v b s → Argued b s t u a x → is_done u.rest ≡ false → token.comma u ≡ Ok (c, w) → size w.rest < size s.rest →
-      Told o (v.0 ++ make a x.0 x.1 ∷ [], v.1 ++ c ∷ []) false w
-  next o v b s t u w a x c i = next_at i.turns o v b s t u w a x c i.enough i.told
+  pub next : (o : Outcome (Inputs B I)) (v y : Many I token.Comma) (b : Bool) (s t u w : Stream) (a : List B) (x : Name × A) (c : token.Comma) → Told o v b s → Argued b s t u a x → is_done u.rest ≡ false → token.comma u ≡ Ok (c, w) → size w.rest < size s.rest →
+      y ≡ (v.0 ++ make a x.0 x.1 ∷ [], v.1 ++ c ∷ []) → Told o y false w
+  next o v y b s t u w a x c i h k g less e = subst (λ z. Told o z false w) (sym e) (next_at i.turns o v b s t u w a x c i.enough i.told h k g less)
+
+  -- the arguments end in `...`
+  pub told_ended : (o : Outcome (Inputs B I)) (v : Many I token.Comma) (b : Bool) (s t u : Stream) (a : List B) (d : Dots) → Told o v b s → Borne s t a → sees_dots t.rest ≡ true → dots t ≡ Ok (d, u) → o ≡ Ok ((v, Some (a, d)), u)
+  told_ended o v b s t u a d i h k g = i.told ∙ ended i.turns v b s t u a d h k g
+
+  -- the arguments end in one without a comma
+  pub told_last : (o : Outcome (Inputs B I)) (v w : Many I token.Comma) (b : Bool) (s t u : Stream) (a : List B) (x : Name × A) → Told o v b s → Argued b s t u a x → is_done u.rest ≡ true → w ≡ (v.0 ++ make a x.0 x.1 ∷ [], v.1) → o ≡ Ok ((w, None), u)
+  told_last o v w b s t u a x i h k e = i.told ∙ last i.turns v b s t u a x h k ∙ ap (λ z. Ok ((z, None), u)) (sym e)
