@@ -2,7 +2,10 @@
 
 ghost use Rattle.std.specs.Prelude.{◌≡◌, ◌<◌, ◌≤◌, length, List};
 ghost use Rattle.token_core.specs.declared.tree.TokenStream.{TokenStream};
-ghost use Rattle.token_core.specs.Reads.{Parses, optional};
+ghost use Rattle.token_core.specs.Loops.{terminated};
+ghost use Rattle.token_core.specs.Reads.{Parses, optional, is_done, ◌<$>◌};
+ghost use Rattle.token_core.specs.Tokens as token;
+ghost use Rattle.syn_forms.specs.groups.Reading.{in_parens};
 ghost use Rattle.syn_forms.specs.inputs.Reading as reading;
 ghost use Rattle.syn_forms.specs.nested.Below as below;
 ghost use Rattle.syn_forms.specs.nested.Below.{Nests, ahead};
@@ -294,6 +297,25 @@ impl<
 
     // ---- the arguments of a function type
 
+    /// What is made of each type, in parentheses and joined by commas.
+    #[tactic(auto, using(token_core::proofs::Suffixes::follows, crate::proofs::nested_laws::Ahead::later))]
+    fn made_in_parens<V: Drop, K: Make<T, V>>(
+        &self,
+        input: &mut ParseStream<'_>,
+        place: P,
+        make: K,
+    ) -> Result<(Paren, Punctuated<V, Comma>), Error>
+        requires nests { Nests T.read (length self.now.begin) (F.pre self.now.read) (F.post self.now.read) }
+        requires few { ahead input.old ≤ length self.now.begin }
+        ensures parses { Parses (in_parens (terminated is_done (K.make make <$> below.held T.read (length self.now.begin) place) token.comma)) result input.old input.new }
+        ensures fewer { ahead input.new ≤ ahead input.old }
+    {
+        let (paren_token, mut content) = open_parens(self.alloc, input)?;
+        let values = self.made_list(&mut content, place, make)?;
+        input.finish(content);
+        Ok((paren_token, values))
+    }
+
     /// Arguments in parentheses, joined by commas, of which each is made of its type, and the output after `->`, where it
     /// stands: `(A, B) -> C` (syn's `ParenthesizedGenericArguments`).
     #[tactic(auto, using(token_core::proofs::Suffixes::follows, crate::proofs::nested_laws::Ahead::later), unfolding(crate::specs::inputs::Reading::signature))]
@@ -309,9 +331,7 @@ impl<
         ensures parses { Parses (reading.signature (K.make make) (below.held T.read (length self.now.begin) value_place) (below.held T.read (length self.now.begin) output_place)) result input.old input.new }
         ensures fewer { ahead input.new ≤ ahead input.old }
     {
-        let (paren_token, mut content) = open_parens(self.alloc, input)?;
-        let inputs = self.made_list(&mut content, value_place, make)?;
-        input.finish(content);
+        let (paren_token, inputs) = self.made_in_parens(input, value_place, make)?;
         let output = self.returned(input, output_place)?;
         Ok((paren_token, inputs, output))
     }
