@@ -2,9 +2,7 @@
 
 ghost use Rattle.std.specs.Prelude.{◌≡◌, ◌<◌, ◌≤◌, length, List};
 ghost use Rattle.token_core.specs.declared.tree.TokenStream.{TokenStream};
-ghost use Rattle.token_core.specs.Loops.{terminated};
-ghost use Rattle.token_core.specs.Reads.{Parses, optional, is_done, ◌<$>◌};
-ghost use Rattle.token_core.specs.Tokens as token;
+ghost use Rattle.token_core.specs.Reads.{Parses, optional};
 ghost use Rattle.syn_forms.specs.groups.Reading.{in_parens};
 ghost use Rattle.syn_forms.specs.inputs.Reading as reading;
 ghost use Rattle.syn_forms.specs.nested.Below as below;
@@ -307,7 +305,7 @@ impl<
     ) -> Result<(Paren, Punctuated<V, Comma>), Error>
         requires nests { Nests T.read (length self.now.begin) (F.pre self.now.read) (F.post self.now.read) }
         requires few { ahead input.old ≤ length self.now.begin }
-        ensures parses { Parses (in_parens (terminated is_done (K.make make <$> below.held T.read (length self.now.begin) place) token.comma)) result input.old input.new }
+        ensures parses { Parses (in_parens (reading.made_inputs (K.make make) (below.held T.read (length self.now.begin) place))) result input.old input.new }
         ensures fewer { ahead input.new ≤ ahead input.old }
     {
         let (paren_token, mut content) = open_parens(self.alloc, input)?;
