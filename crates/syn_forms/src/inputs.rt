@@ -84,8 +84,7 @@ fn sees_dots(input: &ParseStream<'_>) -> bool
     ensures { result ≡ reading.sees_dots input.now.rest }
 {
     input.peek::<DotDotDot>()
-        | (sees_ident_or_underscore(input)
-            & (input.peek2::<Colon>() & input.peek3::<DotDotDot>()))
+        | (sees_ident_or_underscore(input) & (input.peek2::<Colon>() & input.peek3::<DotDotDot>()))
 }
 
 /// Whether a name is not `self`, or none is there.
@@ -111,11 +110,7 @@ fn parse_name(alloc: Global, input: &mut ParseStream<'_>) -> Result<(Ident, Colo
 
 /// A name that may be there.
 #[tactic(auto, using(token_core::proofs::Suffixes::follows, crate::proofs::nested_laws::Ahead::later))]
-fn parse_optional_name(
-    alloc: Global,
-    input: &mut ParseStream<'_>,
-    own: bool,
-) -> Result<Name, Error>
+fn parse_optional_name(alloc: Global, input: &mut ParseStream<'_>, own: bool) -> Result<Name, Error>
     ensures parses { Parses (optional (reading.sees_name own) reading.name) result input.old input.new }
     ensures fewer { ahead input.new ≤ ahead input.old }
 {
@@ -151,11 +146,7 @@ impl<
 
     /// A type, and a name before it that may be there.
     #[tactic(auto, using(token_core::proofs::Suffixes::follows, crate::proofs::nested_laws::Ahead::later), unfolding(crate::specs::inputs::Reading::plain_argument))]
-    pub fn plain_argument(
-        &self,
-        input: &mut ParseStream<'_>,
-        place: P,
-    ) -> Result<(Name, T), Error>
+    pub fn plain_argument(&self, input: &mut ParseStream<'_>, place: P) -> Result<(Name, T), Error>
         requires nests { Nests T.read (length self.now.begin) (F.pre self.now.read) (F.post self.now.read) }
         requires few { ahead input.old < length self.now.begin }
         ensures parses { Parses (reading.plain_argument (below.held T.read (length self.now.begin) place)) result input.old input.new }
