@@ -1,5 +1,5 @@
 -- The sample meets the laws of a supplied subtree.
-use Rattle.std.specs.Prelude.{◌≡◌, ℕ, zero, suc, ◌+◌, ◌<◌, ◌≤◌, Bool, true, false, ◌&&◌, ◌||◌, ◌==◌, if◌then◌else◌, List, [], ◌∷◌, Option, Some, None, is_some, Ok, Err, refl, codes}
+use Rattle.std.specs.Prelude.{◌≡◌, ℕ, zero, suc, ◌+◌, ◌<◌, ◌≤◌, Bool, true, false, not, ◌&&◌, ◌||◌, ◌==◌, if◌then◌else◌, List, [], ◌∷◌, Option, Some, None, is_some, Ok, Err, refl, codes}
 use Rattle.std.proofs.Common.{◌⊎◌, inl, inr, sym, ◌∙◌, ap, subst, arith}
 use Rattle.std.specs.Str.{bytes_eq}
 use Rattle.std.proofs.lemmas.Slice.Eq.{bytes_eq-Decides}
@@ -21,7 +21,7 @@ use Rattle.token_core.specs.Groups.{paren, paren_name}
 use Rattle.token_core.specs.Stream.{Scope, Stream}
 use Rattle.token_core.specs.Rebuilt.{Visible, IsVisible}
 use Rattle.token_core.specs.Loops.{Many, size}
-use Rattle.token_core.specs.Listed.{AreListed, none_left, last_value, value_and_mark, Nowhere}
+use Rattle.token_core.specs.Listed.{AreListed, none_left, last_value, value_and_mark, Anywhere, Nowhere}
 use Rattle.token_core.specs.Spellings.{IsMark, is_mark, AreChars, last_char, more_chars, IsLit, a_literal, a_bool, a_negative}
 use Rattle.token_core.specs.Lits.{sees_lit, read_lit}
 use Rattle.token_core.specs.Lits as lits
@@ -30,6 +30,7 @@ use Rattle.token_core.specs.Keywords.{is_keyword}
 use Rattle.token_core.proofs.Steps.{link, chosen, Reads_to}
 use Rattle.token_core.proofs.Took.{at, branch, mapped, took_word, took_all, leaves_none, seen_word}
 use Rattle.token_core.proofs.Turns.{chain, same_pair}
+use Rattle.token_core.proofs.Listings.{listed_sound, listed_visible, listed_complete}
 use Rattle.token_core.proofs.LitSpells.{lit_sound, lit_complete, lit_seen, lit_again, lit_visible, lit_whole, lit_size}
 use Rattle.token_core.proofs.MarkSpells.{mark_sound, mark_complete, mark_seen, mark_again, mark_visible, mark_whole, mark_size}
 use Rattle.token_core.proofs.Rebuilds.{tree-ident, visible-tree, stream-trees}
@@ -40,18 +41,19 @@ use Rattle.syn_path.specs.declared.supplied.Place.TheVariants.{ArrayLen, Value, 
 use Rattle.syn_path.specs.Supplied.{SameOutcome, UsesUp, Reprints, IsApart, lone_literal, lone_number, is_number, is_truth, attribute_ahead}
 use Rattle.syn_path.specs.path.Spelling.{is_mod_word}
 use Rattle.synmid.specs.declared.sample.Sample.{Sample}
+use Rattle.synmid.specs.declared.sample.Sample.TheVariants.{Sum, Statements}
 use Rattle.synmid.specs.declared.sample.Atom.{Atom}
 use Rattle.synmid.specs.declared.sample.Atom.TheVariants as a
 use Rattle.synmid.specs.declared.sample.ModPath.{ModPath}
-use Rattle.synmid.specs.sample.Parts.{Sep, Plus, Atoms, path_of, group_of, sum_of, is_lit, lit-is_lit, lone, groups}
-use Rattle.synmid.specs.sample.Reading.{joined_by, sees_sep, segment, leading, path, group_by, atom_by, atoms_at, atoms, sum, value, at_place}
+use Rattle.synmid.specs.sample.Parts.{Sep, Plus, Semi, Atoms, path_of, group_of, is_lit, lit-is_lit, lone, groups}
+use Rattle.synmid.specs.sample.Reading.{joined_by, sees_sep, segment, leading, path, group_by, atom_by, atoms_at, atoms, sum, value, statements, block, at_place}
 use Rattle.synmid.specs.sample.Printing as printing
 use Rattle.synmid.specs.sample.Prints.{prints_lit, prints_path, prints_group}
-use Rattle.synmid.specs.sample.Spelling.{seen_delimiter, shown, AreJoined, IsSegment, a_segment, IsPath, a_path, a_global_path, IsAtom, an_atom_lit, an_atom_path, an_atom_group, AreAtoms, IsSum, spells}
+use Rattle.synmid.specs.sample.Spelling.{seen_delimiter, shown, AreJoined, IsSegment, a_segment, IsPath, a_path, a_global_path, IsAtom, an_atom_lit, an_atom_path, an_atom_group, AreAtoms, AreSummed, AreStatements, IsSum, IsValue, IsBlock, IsAt, spells}
 use Rattle.synmid.specs.sample.Groups.{took_inside, first-none, reads_inside}
 use Rattle.synmid.specs.sample.Steady as st
-use Rattle.synmid.specs.sample.Joins.{mark_weaker, joined_sound, joined_visible, joined_seen, joined_weaker, joined_complete, joined_size, joined_whole, joined_again}
-use Rattle.synmid.specs.sample.Reads.{Any, path_steady, atoms_steady, any_count}
+use Rattle.synmid.specs.sample.Joins.{joint_keeps, listed_whole, printed_again, mark_weaker, joined_sound, joined_visible, joined_seen, joined_weaker, joined_complete, joined_size, joined_whole, joined_again}
+use Rattle.synmid.specs.sample.Reads.{Any, sees_plus, path_steady, atoms_steady, atoms-takes, any_count}
 use Rattle.token_core.specs.Tokens as token
 
 -- ---- the same tokens at the front
@@ -229,6 +231,9 @@ sep_first m l r (is_mark {ss = ss} i) = first_char token.colon_char (token.colon
 plus_first : (m : Plus) (l r : Toks) → IsMark false m l r → (p : Punct) × (k : Toks) × (l ≡ mark p k) × (p.ch ≡ token.plus_char)
 plus_first m l r (is_mark {ss = ss} i) = first_char token.plus_char [] token.plus_chars ss l r i
 
+semi_first : (m : Semi) (l r : Toks) → IsMark false m l r → (p : Punct) × (k : Toks) × (l ≡ mark p k) × (p.ch ≡ token.semi_char)
+semi_first m l r (is_mark {ss = ss} i) = first_char token.semi_char [] token.semi_chars ss l r i
+
 segments_first : (v : Many Ident Sep) (l r : Toks) → AreJoined 1 2 IsSegment v l r → (i : Ident) × (k : Toks) × (l ≡ word i k) × (is_mod_word i.text ≡ true)
 segments_first v l r h = from v.0 v.1 l r h
   where
@@ -239,6 +244,23 @@ segments_first v l r h = from v.0 v.1 l r h
     from xs ps l r (none_left may) = absurd may
     from xs ps l r (last_value {x = x} q) = of_one x l r q
     from xs ps l r (value_and_mark {x = x} {m = m} q w j) = of_one x l m q
+
+path_begins : (x : ModPath) (l r : Toks) → IsPath x l r → is_done l ≡ false
+unfolding is_done
+path_begins x l r (a_path {v = w} i) = let f = segments_first w l r i in ap is_done f.2
+path_begins x l r (a_global_path {m = m} {k = k} i j) = let f = sep_first m l k i in ap is_done f.2
+
+lit_begins : (x : Lit) (l r : Toks) → IsLit x l r → is_done l ≡ false
+unfolding is_done
+lit_begins x l r a_literal = refl
+lit_begins x l r a_bool = refl
+lit_begins x l r (a_negative n) = refl
+
+atom_begins : (S : Atoms → Toks → Type 0) (x : Atom) (l r : Toks) → IsAtom S x l r → is_done l ≡ false
+unfolding is_done
+atom_begins S x l r (an_atom_lit {x = y} i) = lit_begins y l r i
+atom_begins S x l r (an_atom_path {p = y} i) = path_begins y l r i
+atom_begins S x l r (an_atom_group i) = refl
 
 true_false : true ≡ false → ⊥
 true_false z = absurd (cc)
@@ -348,11 +370,18 @@ module _ (inner : Reader Atoms) (Inside : Atoms → Toks → Type 0) (content : 
 plus_no_sep : (m : Plus) (l r : Toks) → IsMark false m l r → sees_sep l ≡ false
 plus_no_sep m l r i = let f = plus_first m l r i in ap sees_sep f.2 ∙ no_mark-other 58 (token.colon_char ∷ []) f.0 f.1 (ap (λ c. c == 58) f.3)
 
-atoms_complete : (n : ℕ) (w : Atoms) (l : Toks) → AreAtoms n w l done → (f : Option Span) (e : Span) (sc : Scope) → Reads_to (atoms_at n) w l done f e sc
-atoms_complete zero w l i f e sc = absurd i
-atoms_complete (suc n) w l i f e sc =
-    let q = joined_complete 20 1 refl short1 (atom_by (group_by (atoms_at n))) (IsAtom (Content n)) (λ z. sees_sep z ≡ false) (λ y m k. atom_complete (atoms_at n) (Content n) (atoms_complete n) y m k) plus_no_sep (atom_size (Content n)) w l done i
-    (no_mark-done 58 (token.colon_char ∷ [])) (no_mark-done 43 []) f e sc in
+-- neither `::` nor `+` stands there
+abbrev NoJoint : Toks → Type 0
+NoJoint r = (sees_sep r ≡ false) × (sees_plus r ≡ false)
+
+no_joint-done : NoJoint done
+no_joint-done = (no_mark-done 58 (token.colon_char ∷ []), no_mark-done 43 [])
+
+atoms_complete : (n : ℕ) (w : Atoms) (l r : Toks) → AreAtoms n w l r → NoJoint r → (f : Option Span) (e : Span) (sc : Scope) → Reads_to (atoms_at n) w l r f e sc
+atoms_complete zero w l r i h f e sc = absurd i
+atoms_complete (suc n) w l r i h f e sc =
+    let q = joined_complete 20 1 refl short1 (atom_by (group_by (atoms_at n))) (IsAtom (Content n)) (λ z. sees_sep z ≡ false)
+    (λ y m k. atom_complete (atoms_at n) (Content n) (λ v c j. atoms_complete n v c done j no_joint-done) y m k) plus_no_sep (atom_size (Content n)) w l r i h.0 h.1 f e sc in
     record { last = q.last; reads = q.reads }
 
 -- the same in more groups
@@ -368,13 +397,6 @@ one_more (suc n) w l r i = joined_weaker 20 1 (IsAtom (Content n)) (IsAtom (Cont
 above : (m n : ℕ) (w : Atoms) (l r : Toks) → AreAtoms n w l r → (k : ℕ) × (m < k) × AreAtoms k w l r
 above zero n w l r i = (suc n, omega arith, one_more n w l r i)
 above (suc m) n w l r i = let h = above m n w l r i in let less = h.1 in (suc h.0, omega (arith, less), one_more h.0 w l r h.2)
-
-sum_complete : (x : Sample) (l : Toks) → IsSum x l → (f : Option Span) (e : Span) (sc : Scope) → Reads_to sum x l done f e sc
-unfolding sum atoms
-sum_complete x l i f e sc =
-    let h = above (groups l) i.0 x.atoms l done i.1 in
-    let q = atoms_complete h.0 x.atoms l h.2 f e sc in
-    record { last = q.last; reads = link _ (any_count (suc (groups l)) h.0 (at l f e sc) (omega arith) h.1 ∙ q.reads) refl }
 
 -- ---- what is printed is spelt
 
@@ -401,13 +423,10 @@ atom_again S again x l r h (an_atom_lit {x = y} i) = subst (λ z. IsAtom S (a.Li
 atom_again S again x l r h (an_atom_path {p = y} i) = subst (λ z. IsAtom S (a.Path y) (row z h) h) (sym (prints_path y)) (an_atom_path (path_again y l r h i))
 atom_again S again x l r h (an_atom_group {s = b} {v = w} {c = c} i) = subst (λ z. IsAtom S (group_of b w) z h) (sym (row-group b w h)) (an_atom_group (again w c i))
 
-atoms_again : (n : ℕ) (w : Atoms) (l : Toks) → AreAtoms n w l done → AreAtoms n w (row (printing.atoms w) done) done
-atoms_again zero w l i = absurd i
-atoms_again (suc n) w l i =
-    joined_again 20 1 refl short1 (atom_by (group_by (atoms_at n))) (IsAtom (Content n)) printing.atom (atom_again (Content n) (λ v c. atoms_again n v c)) w l done done i
-
-sum_again : (x : Sample) (l : Toks) → IsSum x l → IsSum x (row (printing.sum x) done)
-sum_again x l i = (i.0, atoms_again i.0 x.atoms l i.1)
+atoms_again : (n : ℕ) (w : Atoms) (l r h : Toks) → AreAtoms n w l r → AreAtoms n w (row (printing.atoms w) h) h
+atoms_again zero w l r h i = absurd i
+atoms_again (suc n) w l r h i =
+    joined_again 20 1 refl short1 (atom_by (group_by (atoms_at n))) (IsAtom (Content n)) printing.atom (atom_again (Content n) (λ v c. atoms_again n v c done done)) w l r h i
 
 -- no invisible group stands in what is spelt
 atom_whole : (S : Atoms → Toks → Type 0) → ((w : Atoms) (c : Toks) → S w c → Visible c) → (x : Atom) (l r : Toks) → IsAtom S x l r → Visible r → Visible l
@@ -415,10 +434,102 @@ atom_whole S whole x l r (an_atom_lit {x = y} i) h = lit_whole y l r i h
 atom_whole S whole x l r (an_atom_path {p = y} i) h = path_whole y l r i h
 atom_whole S whole x l r (an_atom_group {v = w} {c = c} i) h = (tt, whole w c i, h)
 
-atoms_whole : (n : ℕ) (w : Atoms) (l : Toks) → AreAtoms n w l done → Visible l
-atoms_whole zero w l i = absurd i
-atoms_whole (suc n) w l i =
-    joined_whole 20 1 refl short1 (atom_by (group_by (atoms_at n))) (IsAtom (Content n)) (atom_whole (Content n) (λ v c. atoms_whole n v c)) w l done i tt
+atoms_whole : (n : ℕ) (w : Atoms) (l r : Toks) → AreAtoms n w l r → Visible r → Visible l
+atoms_whole zero w l r i h = absurd i
+atoms_whole (suc n) w l r i h =
+    joined_whole 20 1 refl short1 (atom_by (group_by (atoms_at n))) (IsAtom (Content n)) (atom_whole (Content n) (λ v c j. atoms_whole n v c done j tt)) w l r i h
+
+atoms_size : (n : ℕ) (w : Atoms) (l r : Toks) → AreAtoms n w l r → size r < size l
+atoms_size zero w l r i = absurd i
+atoms_size (suc n) w l r i = joined_size 20 1 refl short1 (atom_by (group_by (atoms_at n))) (IsAtom (Content n)) (atom_size (Content n)) w l r i
+
+atoms_begin : (n : ℕ) (w : Atoms) (l r : Toks) → AreAtoms n w l r → is_done l ≡ false
+atoms_begin zero w l r i = absurd i
+atoms_begin (suc n) w l r i = from w.0 w.1 i
+  where
+    from : (xs : List Atom) (ps : List Plus) → AreListed (λ b. IsAtom (Content n)) (IsMark false) Nowhere false xs ps l r → is_done l ≡ false
+    from xs ps (none_left may) = absurd may
+    from xs ps (last_value {x = x} q) = atom_begins (Content n) x l r q
+    from xs ps (value_and_mark {x = x} {m = m} q w j) = atom_begins (Content n) x l m q
+
+-- ---- sums, in any number of groups
+
+summed_seen : (s t : Stream) (w : Atoms) → Visible s.rest → atoms s ≡ Ok (w, t) → Visible t.rest
+unfolding atoms
+summed_seen s t w h e = atoms_seen (suc (groups s.rest)) s t w h e
+
+summed_sound : (s t : Stream) (w : Atoms) → Visible s.rest → atoms s ≡ Ok (w, t) → Clean t.left → Clean s.left × AreSummed w s.rest t.rest
+unfolding atoms
+summed_sound s t w h e c = let k = atoms_sound (suc (groups s.rest)) s t w h e c in (k.0, suc (groups s.rest), k.1)
+
+summed_complete : (w : Atoms) (l r : Toks) → AreSummed w l r → NoJoint r → (f : Option Span) (e : Span) (sc : Scope) → Reads_to atoms w l r f e sc
+unfolding atoms
+summed_complete w l r i h f e sc =
+    let k = above (groups l) i.0 w l r i.1 in
+    let q = atoms_complete k.0 w l r k.2 h f e sc in
+    record { last = q.last; reads = any_count (suc (groups l)) k.0 (at l f e sc) (omega arith) k.1 ∙ q.reads }
+
+summed_again : (w : Atoms) (l r h : Toks) → AreSummed w l r → AreSummed w (row (printing.atoms w) h) h
+summed_again w l r h i = (i.0, atoms_again i.0 w l r h i.1)
+
+summed_whole : (w : Atoms) (l r : Toks) → AreSummed w l r → Visible r → Visible l
+summed_whole w l r i h = atoms_whole i.0 w l r i.1 h
+
+summed_size : (w : Atoms) (l r : Toks) → AreSummed w l r → size r < size l
+summed_size w l r i = atoms_size i.0 w l r i.1
+
+summed_begins : (w : Atoms) (l r : Toks) → AreSummed w l r → is_done l ≡ false
+summed_begins w l r i = atoms_begin i.0 w l r i.1
+
+-- ---- statements
+
+done_over : is_done done ≡ true
+unfolding is_done
+done_over = refl
+
+semi_no_joint : (m : Semi) (l r : Toks) → IsMark false m l r → NoJoint l
+semi_no_joint m l r i =
+    let f = semi_first m l r i in
+    (ap sees_sep f.2 ∙ no_mark-other 58 (token.colon_char ∷ []) f.0 f.1 (ap (λ c. c == 58) f.3), ap sees_plus f.2 ∙ no_mark-other 43 [] f.0 f.1 (ap (λ c. c == 43) f.3))
+
+semi_goes_on : (m : Semi) (l r : Toks) → IsMark false m l r → not (is_done l) ≡ true
+unfolding is_done
+semi_goes_on m l r i = let f = semi_first m l r i in ap (λ z. not (is_done z)) f.2
+
+statements_seen : (s t : Stream) (v : Many Atoms Semi) → Visible s.rest → statements s ≡ Ok (v, t) → Visible t.rest
+unfolding statements
+statements_seen s t v h e =
+    listed_visible (λ b. is_done) (λ b. atoms) (λ l. not (is_done l)) token.semi (λ b w l r. Unit {0}) (IsMark false) Anywhere (λ z. Unit {0})
+    (λ b l q. tt)
+    (λ b. summed_seen)
+    (λ i j m g q. mark_visible false m i.rest j.rest (mark_sound refl short1 i j m g q).spelt g)
+    (λ b i j w g o q c. (tt, tt))
+    (λ i j m g o q c. (tt, (mark_sound refl short1 i j m g q).spelt))
+    true s t v h e
+
+statements_sound : (s t : Stream) (v : Many Atoms Semi) → Visible s.rest → statements s ≡ Ok (v, t) → Clean t.left → Clean s.left × AreStatements v s.rest t.rest
+unfolding statements
+statements_sound s t v h e =
+    listed_sound (λ b. is_done) (λ b. atoms) (λ l. not (is_done l)) token.semi (λ b. AreSummed) (IsMark false) Anywhere (λ z. Clean z.left)
+    (λ b l q. tt)
+    (λ b. summed_seen)
+    (λ i j m g q. mark_visible false m i.rest j.rest (mark_sound refl short1 i j m g q).spelt g)
+    (λ b i j w g o q c. summed_sound i j w g q c)
+    (λ i j m g o q c. let w = mark_sound refl short1 i j m g q in (subst Clean w.left c, w.spelt))
+    true s t v h e
+
+statements_complete : (v : Many Atoms Semi) (l : Toks) → AreStatements v l done → (f : Option Span) (e : Span) (sc : Scope) → Reads_to statements v l done f e sc
+unfolding statements
+statements_complete v l i f e sc =
+    let q = listed_complete (λ b. is_done) (λ b. atoms) (λ r. not (is_done r)) token.semi (λ b. AreSummed) (IsMark false) Anywhere NoJoint (suc (size l))
+    (λ b w a c less j g f e sc. summed_complete w a c j g f e sc)
+    (λ m a c j f e sc. mark_complete false refl short1 m a c f e sc j)
+    (λ m a c j. (semi_no_joint m a c j, semi_goes_on m a c j))
+    (λ b. summed_begins)
+    (λ b. summed_size)
+    (mark_size false)
+    true v.0 v.1 l done (omega arith) i (record { follows = no_joint-done; over = ap not done_over; stops_there = λ b j. done_over }) f e sc in
+    record { last = q.last; reads = q.reads }
 
 -- ---- the tokens as they stand in invisible groups
 
@@ -452,34 +563,37 @@ shown-same (group b s c k) h = ap (λ z. group z s (shown c) (shown k)) (delimit
 shown-same (enter s k) h = absurd h
 shown-same (leave k) h = absurd h
 
-shown-done : (l : Toks) → is_done l ≡ true → shown l ≡ done
-unfolding is_done
-shown-done done e = refl
-shown-done (word i k) e = cc
-shown-done (mark x k) e = cc
-shown-done (lit x k) e = cc
-shown-done (group b s c k) e = cc
-shown-done (enter s k) e = shown-done k e
-shown-done (leave k) e = shown-done k e
-
 -- ---- each place's read goes alike on alike streams
 
 module _ (K : Toks → Toks → Type 0) (M : Option Span → Option Span → Type 0) (fronts : (l m : Toks) → K l m → st.Fronts K M (front l) (front m))
     (both : (f : Option Span) → M f f) (joins : (f g h i : Option Span) → M f g → M h i → M (first_of f h) (first_of g i)) (counts : (l m : Toks) → K l m → groups l ≡ groups m) where
+  summed_steady : st.Steady K M atoms
+  summed_steady = atoms_steady K M fronts both joins counts
+
   sum_steady : st.Steady K M sum
   unfolding sum
-  sum_steady = st.bind K M atoms _ (atoms_steady K M fronts both joins counts) (λ w. st.stays K M (sum_of w))
+  sum_steady = st.bind K M atoms _ summed_steady (λ w. st.stays K M (Sum w))
 
   value_steady : st.Steady K M value
   unfolding value
   value_steady =
-      st.bind K M sum _ sum_steady (λ x. st.choose K M (λ l. lone x.atoms.0 && is_done l) _ _ (λ l m k. ap (λ b. lone x.atoms.0 && b) (st.done_steady K M fronts l m k)) (st.refuses K M Sample (expected (codes "`+`"))) (st.stays K M x))
+      st.bind K M atoms _ summed_steady (λ w. st.choose K M (λ l. lone w.0 && is_done l) _ _ (λ l m k. ap (λ b. lone w.0 && b) (st.done_steady K M fronts l m k)) (st.refuses K M Sample (expected (codes "`+`"))) (st.stays K M (Sum w)))
+
+  statements_steady : st.Steady K M statements
+  unfolding statements
+  statements_steady =
+      st.listed_steady K M (λ b. is_done) (λ b. atoms) (λ l. not (is_done l)) token.semi (λ b. st.done_steady K M fronts) (λ b. summed_steady) (λ l m k. ap not (st.done_steady K M fronts l m k))
+      (st.mark_steady K M fronts 24 1) (λ b. atoms-takes) (joint_keeps 24 1) true
+
+  block_steady : st.Steady K M block
+  unfolding block
+  block_steady = st.bind K M statements _ statements_steady (λ v. st.stays K M (Statements v))
 
   place_steady : (q : Place) → st.Steady K M (at_place q)
   place_steady ArrayLen = sum_steady
   place_steady Value = value_steady
   place_steady Guard = sum_steady
-  place_steady Block = st.refuses K M Sample (expected (codes "sample"))
+  place_steady Block = block_steady
 
 -- ---- the same tokens
 
@@ -535,9 +649,9 @@ groups-shown (group b s c k) = ap (λ z. suc (z + groups (shown k))) (groups-sho
 groups-shown (enter s k) = groups-shown k
 groups-shown (leave k) = groups-shown k
 
-alike : (s : Stream) → st.Same Shown Kept (sum s) (sum (unveiled s))
-alike s =
-    sum_steady Shown Kept fronts_at (λ f. refl) kept_both (λ l m k. sym (groups-shown l) ∙ ap groups k) s (unveiled s) (record { rest = refl; left = refl })
+alike : (q : Place) (s : Stream) → st.Same Shown Kept (at_place q s) (at_place q (unveiled s))
+alike q s =
+    place_steady Shown Kept fronts_at (λ f. refl) kept_both (λ l m k. sym (groups-shown l) ∙ ap groups k) q s (unveiled s) (record { rest = refl; left = refl })
 
 record Told (o : Outcome Sample) (x : Sample) (t : Stream) : Type 0 where
   end : Stream
@@ -565,40 +679,30 @@ back o (Err f) x w e h = cc
 
 -- ---- sound
 
-nothing_left : (f : Option Span) (b : Bool) (x : Span) → first_of f (if b then None else Some x) ≡ None → b ≡ true
-nothing_left None true x e = refl
-nothing_left None false x e = cc
-nothing_left (Some y) true x e = refl
-nothing_left (Some y) false x e = cc
+sum_sound : (s t : Stream) (w : Atoms) → Visible s.rest → atoms s ≡ Ok (w, t) → leaves t ≡ None → AreSummed w s.rest done
+sum_sound s t w h e k =
+    let f = first-none t.left (left_here t) k in
+    subst (λ z. AreSummed w s.rest z) (took_all t (summed_seen s t w h e) k) (summed_sound s t w h e f.0).1
 
-over : (t : Stream) → leaves t ≡ None → is_done t.rest ≡ true
-over t e = nothing_left t.left (is_done t.rest) (here t) e
+block_sound : (s t : Stream) (v : Many Atoms Semi) → Visible s.rest → statements s ≡ Ok (v, t) → leaves t ≡ None → AreStatements v s.rest done
+block_sound s t v h e k =
+    let f = first-none t.left (left_here t) k in
+    subst (λ z. AreStatements v s.rest z) (took_all t (statements_seen s t v h e) k) (statements_sound s t v h e f.0).1
 
-sum_was : (s t : Stream) (x : Sample) → sum s ≡ Ok (x, t) → atoms s ≡ Ok (x.atoms, t)
-unfolding sum
-sum_was s t x e = let q = mapped (atoms s) sum_of x t e in subst (λ (z : Sample). atoms s ≡ Ok (z.atoms, t)) q.is q.was
+record Valued (s t : Stream) (y : Sample) : Type 0 where
+  value : Atoms
+  is : Sum value ≡ y
+  was : atoms s ≡ Ok (value, t)
+  apart : (lone value.0 && is_done t.rest) ≡ false
 
-sum_sound : (s t : Stream) (x : Sample) → Visible s.rest → sum s ≡ Ok (x, t) → Clean t.left → AreAtoms (suc (groups s.rest)) x.atoms s.rest t.rest
-unfolding atoms
-sum_sound s t x h e c = (atoms_sound (suc (groups s.rest)) s t x.atoms h (sum_was s t x e) c).1
-
-sum_spells : (s t : Stream) (x : Sample) → sum s ≡ Ok (x, t) → leaves t ≡ None → IsSum x (shown s.rest)
-sum_spells s t x e h =
-    let y = forth (sum s) (sum (unveiled s)) x t e (alike s) in
-    let f = first-none t.left (left_here t) h in
-    let i = sum_sound (unveiled s) y.end x (shown-visible s.rest) y.was (sym y.like.left ∙ f.0) in
-    (suc (groups (shown s.rest)), subst (λ z. AreAtoms (suc (groups (shown s.rest))) x.atoms (shown s.rest) z) (sym y.like.rest ∙ shown-done t.rest (over t h)) i)
-
-value_was : (s t : Stream) (x : Sample) → value s ≡ Ok (x, t) → (sum s ≡ Ok (x, t)) × ((lone x.atoms.0 && is_done t.rest) ≡ false)
+value_was : (s t : Stream) (y : Sample) → value s ≡ Ok (y, t) → Valued s t y
 unfolding value
-value_was s t x e =
-    let c = chain (sum s) _ x t e in
-    elim (branch (lone c.value.atoms.0 && is_done c.rest.rest) _ _ c.rest (Ok (x, t)) c.goes) [
-      | inl y ↦ cc (y.1)
-      | inr y ↦ let g = same_pair c.value x c.rest t y.1 in (
-        c.was ∙ ap (λ z. Ok (z, c.rest)) g.0 ∙ ap (λ z. Ok (x, z)) g.1,
-        subst (λ (z : Stream). (lone x.atoms.0 && is_done z.rest) ≡ false) g.1 (subst (λ (z : Sample). (lone z.atoms.0 && is_done c.rest.rest) ≡ false) g.0 y.0),
-      )
+value_was s t y e =
+    let c = chain (atoms s) _ y t e in
+    elim (branch (lone c.value.0 && is_done c.rest.rest) _ _ c.rest (Ok (y, t)) c.goes) [
+      | inl z ↦ cc (z.1)
+      | inr z ↦ let g = same_pair (Sum c.value) y c.rest t z.1 in
+          record { value = c.value; is = g.0; was = c.was ∙ ap (λ u. Ok (c.value, u)) g.1; apart = subst (λ (u : Stream). (lone c.value.0 && is_done u.rest) ≡ false) g.1 z.0 }
     ]
 
 and_left : (b c : Bool) → c ≡ true → (b && c) ≡ false → b ≡ false
@@ -606,47 +710,77 @@ and_left false c h e = refl
 and_left true true h e = cc
 and_left true false h e = cc
 
-pub sound : (q : Place) (s t : Stream) (x : Sample) → at_place q s ≡ Ok (x, t) → leaves t ≡ None → spells q x s.rest
-sound ArrayLen s t x e h = sum_spells s t x e h
-sound Value s t x e h = let w = value_was s t x e in (sum_spells s t x w.0 h, and_left (lone x.atoms.0) (is_done t.rest) (over t h) w.1)
-sound Guard s t x e h = sum_spells s t x e h
-sound Block s t x e h = absurd (cc)
+place_sound : (q : Place) (s t : Stream) (y : Sample) → Visible s.rest → at_place q s ≡ Ok (y, t) → leaves t ≡ None → IsAt q y s.rest
+unfolding sum block
+place_sound ArrayLen s t y h e k = let m = mapped (atoms s) Sum y t e in subst (λ z. IsSum z s.rest) m.is (sum_sound s t m.value h m.was k)
+place_sound Value s t y h e k =
+    let w = value_was s t y e in
+    let over : is_done t.rest ≡ true = ap is_done (took_all t (summed_seen s t w.value h w.was) k) ∙ done_over in
+    subst (λ z. IsValue z s.rest) w.is (sum_sound s t w.value h w.was k, and_left (lone w.value.0) (is_done t.rest) over w.apart)
+place_sound Guard s t y h e k = let m = mapped (atoms s) Sum y t e in subst (λ z. IsSum z s.rest) m.is (sum_sound s t m.value h m.was k)
+place_sound Block s t y h e k = let m = mapped (statements s) Statements y t e in subst (λ z. IsBlock z s.rest) m.is (block_sound s t m.value h m.was k)
+
+pub sound : (q : Place) (s t : Stream) (y : Sample) → at_place q s ≡ Ok (y, t) → leaves t ≡ None → spells q y s.rest
+sound q s t y e h =
+    let g = forth (at_place q s) (at_place q (unveiled s)) y t e (alike q s) in
+    let k = st.leaves_alike Shown Kept fronts_at (λ f. refl) kept_both t g.end g.like in
+    place_sound q (unveiled s) g.end y (shown-visible s.rest) g.was (sym k ∙ h)
 
 -- ---- complete
+
+value_read : (s t : Stream) (w : Atoms) → lone w.0 ≡ false → atoms s ≡ Ok (w, t) → value s ≡ Ok (Sum w, t)
+unfolding value
+value_read s t w h e = link _ e (chosen (lone w.0 && is_done t.rest) false _ _ t _ (ap (λ b. b && is_done t.rest) h) refl)
+
+place_complete : (q : Place) (y : Sample) (l : Toks) → IsAt q y l → (f : Option Span) (e : Span) (sc : Scope) → Reads_to (at_place q) y l done f e sc
+unfolding sum block
+place_complete ArrayLen (Sum w) l i f e sc = let q = summed_complete w l done i no_joint-done f e sc in record { last = q.last; reads = link _ q.reads refl }
+place_complete ArrayLen (Statements v) l i f e sc = absurd i
+place_complete Value (Sum w) l i f e sc = let q = summed_complete w l done i.0 no_joint-done f e sc in record { last = q.last; reads = value_read (at l f e sc) (at done f q.last sc) w i.1 q.reads }
+place_complete Value (Statements v) l i f e sc = absurd i
+place_complete Guard (Sum w) l i f e sc = let q = summed_complete w l done i no_joint-done f e sc in record { last = q.last; reads = link _ q.reads refl }
+place_complete Guard (Statements v) l i f e sc = absurd i
+place_complete Block (Sum w) l i f e sc = absurd i
+place_complete Block (Statements v) l i f e sc = let q = statements_complete v l i f e sc in record { last = q.last; reads = link _ q.reads refl }
 
 shown_over : (t : Stream) → shown t.rest ≡ done → is_done t.rest ≡ true
 unfolding is_done
 shown_over t e = st.done_steady Shown Kept fronts_at t.rest done e
 
-sum_read : (s : Stream) (x : Sample) → IsSum x (shown s.rest) → (t : Stream) × (sum s ≡ Ok (x, t)) × UsesUp s t
-sum_read s x i =
-    let q = sum_complete x (shown s.rest) i s.left s.last s.scope in
-    let y = back (sum s) (sum (unveiled s)) x (at done s.left q.last s.scope) q.reads (alike s) in
-    (y.end, y.was, record { ends = shown_over y.end y.like.rest; left = y.like.left })
-
-value_read : (s t : Stream) (x : Sample) → lone x.atoms.0 ≡ false → sum s ≡ Ok (x, t) → value s ≡ Ok (x, t)
-unfolding value
-value_read s t x h e = link _ e (chosen (lone x.atoms.0 && is_done t.rest) false _ _ t _ (ap (λ b. b && is_done t.rest) h) refl)
-
-pub complete : (q : Place) (s : Stream) (x : Sample) → spells q x s.rest → (t : Stream) × (at_place q s ≡ Ok (x, t)) × UsesUp s t
-complete ArrayLen s x i = sum_read s x i
-complete Value s x i = let r = sum_read s x i.0 in (r.0, value_read s r.0 x i.1 r.1, r.2)
-complete Guard s x i = sum_read s x i
-complete Block s x i = absurd i
+pub complete : (q : Place) (s : Stream) (y : Sample) → spells q y s.rest → (t : Stream) × (at_place q s ≡ Ok (y, t)) × UsesUp s t
+complete q s y i =
+    let r = place_complete q y (shown s.rest) i s.left s.last s.scope in
+    let g = back (at_place q s) (at_place q (unveiled s)) y (at done s.left r.last s.scope) r.reads (alike q s) in
+    (g.end, g.was, record { ends = shown_over g.end g.like.rest; left = g.like.left })
 
 -- ---- reprint
 
-sum_visible : (x : Sample) (l : Toks) → IsSum x l → Visible (row (printing.sum x) done)
-sum_visible x l i = atoms_whole i.0 x.atoms (row (printing.sum x) done) (atoms_again i.0 x.atoms l i.1)
+place_again : (q : Place) (y : Sample) (l : Toks) → IsAt q y l → IsAt q y (row (printing.sample y) done)
+place_again ArrayLen (Sum w) l i = summed_again w l done done i
+place_again ArrayLen (Statements v) l i = absurd i
+place_again Value (Sum w) l i = (summed_again w l done done i.0, i.1)
+place_again Value (Statements v) l i = absurd i
+place_again Guard (Sum w) l i = summed_again w l done done i
+place_again Guard (Statements v) l i = absurd i
+place_again Block (Sum w) l i = absurd i
+place_again Block (Statements v) l i = printed_again AreSummed Anywhere printing.atoms summed_again true v.0 v.1 l done done i
 
-sum_reprint : (x : Sample) (l : Toks) → IsSum x l → IsSum x (shown (row (printing.sum x) done))
-sum_reprint x l i = subst (λ z. IsSum x z) (sym (shown-same (row (printing.sum x) done) (sum_visible x l i))) (sum_again x l i)
+place_whole : (q : Place) (y : Sample) (l : Toks) → IsAt q y l → Visible l
+place_whole ArrayLen (Sum w) l i = summed_whole w l done i tt
+place_whole ArrayLen (Statements v) l i = absurd i
+place_whole Value (Sum w) l i = summed_whole w l done i.0 tt
+place_whole Value (Statements v) l i = absurd i
+place_whole Guard (Sum w) l i = summed_whole w l done i tt
+place_whole Guard (Statements v) l i = absurd i
+place_whole Block (Sum w) l i = absurd i
+place_whole Block (Statements v) l i = listed_whole AreSummed Anywhere summed_whole true v.0 v.1 l done i tt
 
-pub reprint : (q : Place) (x : Sample) (l : Toks) → spells q x l → Reprints (spells q) (λ z. z) printing.sum x l
-reprint ArrayLen x l i = record { again = sum_reprint x (shown l) i; same = refl; visible = λ v. sum_visible x (shown l) i }
-reprint Value x l i = record { again = (sum_reprint x (shown l) i.0, i.1); same = refl; visible = λ v. sum_visible x (shown l) i.0 }
-reprint Guard x l i = record { again = sum_reprint x (shown l) i; same = refl; visible = λ v. sum_visible x (shown l) i }
-reprint Block x l i = absurd i
+pub reprint : (q : Place) (y : Sample) (l : Toks) → spells q y l → Reprints (spells q) (λ z. z) printing.sample y l
+reprint q y l i =
+    let printed = row (printing.sample y) done in
+    let again = place_again q y (shown l) i in
+    let whole = place_whole q y printed again in
+    record { again = subst (λ z. IsAt q y z) (sym (shown-same printed whole)) again; same = refl; visible = λ v. whole }
 
 -- ---- apart
 
@@ -723,8 +857,9 @@ atoms_apart : (n : ℕ) (w : Atoms) (l : Toks) → AreAtoms n w l done → lone 
 atoms_apart zero w l i h = absurd i
 atoms_apart (suc n) w l i h = sum_apart (Content n) w.0 w.1 l i h
 
-pub apart : (x : Sample) (l : Toks) → spells Value x l → IsApart l
-apart x l i =
-    let h = atoms_apart i.0.0 x.atoms (shown l) i.0.1 i.1 in
+pub apart : (y : Sample) (l : Toks) → spells Value y l → IsApart l
+apart (Sum w) l i =
+    let h = atoms_apart i.0.0 w (shown l) i.0.1 i.1 in
     let f = fronts_shown l in
     record { literal = lone_alike (front l) (front (shown l)) f ∙ h.0; attribute = no_attribute (front l) (front (shown l)) f h.1 }
+apart (Statements v) l i = absurd i
