@@ -445,12 +445,12 @@ atoms_size (suc n) w l r i = joined_size 20 1 refl short1 (atom_by (group_by (at
 
 atoms_begin : (n : ℕ) (w : Atoms) (l r : Toks) → AreAtoms n w l r → is_done l ≡ false
 atoms_begin zero w l r i = absurd i
-atoms_begin (suc n) w l r i = from w.0 w.1 i
+atoms_begin (suc n) w l r i = from w.0 w.1 l r i
   where
-    from : (xs : List Atom) (ps : List Plus) → AreListed (λ b. IsAtom (Content n)) (IsMark false) Nowhere false xs ps l r → is_done l ≡ false
-    from xs ps (none_left may) = absurd may
-    from xs ps (last_value {x = x} q) = atom_begins (Content n) x l r q
-    from xs ps (value_and_mark {x = x} {m = m} q w j) = atom_begins (Content n) x l m q
+    from : (xs : List Atom) (ps : List Plus) (l r : Toks) → AreListed (λ b. IsAtom (Content n)) (IsMark false) Nowhere false xs ps l r → is_done l ≡ false
+    from xs ps l r (none_left may) = absurd may
+    from xs ps l r (last_value {x = x} q) = atom_begins (Content n) x l r q
+    from xs ps l r (value_and_mark {x = x} {m = m} q w j) = atom_begins (Content n) x l m q
 
 -- ---- sums, in any number of groups
 
@@ -460,7 +460,7 @@ summed_seen s t w h e = atoms_seen (suc (groups s.rest)) s t w h e
 
 summed_sound : (s t : Stream) (w : Atoms) → Visible s.rest → atoms s ≡ Ok (w, t) → Clean t.left → Clean s.left × AreSummed w s.rest t.rest
 unfolding atoms
-summed_sound s t w h e c = let k = atoms_sound (suc (groups s.rest)) s t w h e c in (k.0, suc (groups s.rest), k.1)
+summed_sound s t w h e c = let k = atoms_sound (suc (groups s.rest)) s t w h e c in (k.0, (suc (groups s.rest), k.1))
 
 summed_complete : (w : Atoms) (l r : Toks) → AreSummed w l r → NoJoint r → (f : Option Span) (e : Span) (sc : Scope) → Reads_to atoms w l r f e sc
 unfolding atoms
