@@ -144,7 +144,7 @@ fn read_group(alloc: Global, input: &mut ParseStream<'_>) -> Result<Atom, Error>
 /// Atoms joined by `+`, at least one.
 #[cycle(atoms)]
 #[tactic(auto, using(token_core::proofs::Suffixes::follows))]
-fn read_atoms(alloc: Global, input: &mut ParseStream<'_>) -> Result<Punctuated<Atom, Plus>, Error>
+fn read_atoms(alloc: Global, input: &mut ParseStream<'_>) -> Result<Sum, Error>
     ensures reads { Reads (reading.atoms input.old) result input.new }
     ensures within { Follows input.old input.new }
 {
@@ -254,7 +254,7 @@ fn print_path(alloc: Global, path: &ModPath, out: &mut TokenStream) -> Result<()
 #[tactic(auto, using(token_core::proofs::Puts::puts, crate::specs::sample::Prints::prints))]
 fn print_atoms(
     alloc: Global,
-    atoms: &Punctuated<Atom, Plus>,
+    atoms: &Sum,
     out: &mut TokenStream,
 ) -> Result<(), AllocError>
     ensures ok { OnOk result (trees out.new ≡ trees out.old ++ printing.atoms atoms.now) }
