@@ -252,11 +252,7 @@ fn print_path(alloc: Global, path: &ModPath, out: &mut TokenStream) -> Result<()
 /// Appends atoms and their marks; refused, what stood before is kept.
 #[cycle(print)]
 #[tactic(auto, using(token_core::proofs::Puts::puts, crate::specs::sample::Prints::prints))]
-fn print_atoms(
-    alloc: Global,
-    atoms: &Sum,
-    out: &mut TokenStream,
-) -> Result<(), AllocError>
+fn print_atoms(alloc: Global, atoms: &Sum, out: &mut TokenStream) -> Result<(), AllocError>
     ensures ok { OnOk result (trees out.new ≡ trees out.old ++ printing.atoms atoms.now) }
     ensures err { OnErr result (Extends (trees out.old) (trees out.new)) }
 {

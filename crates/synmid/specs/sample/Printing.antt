@@ -1,5 +1,5 @@
 -- What the sample prints.
-use Rattle.std.specs.Prelude.{[], ◌++◌, Option, Some, None}
+use Rattle.std.specs.Prelude.{◌++◌, Option}
 use Rattle.token_core.specs.declared.tree.Delimiter.TheVariants.{Parenthesis}
 use Rattle.token_core.specs.declared.tree.Ident.{Ident}
 use Rattle.token_core.specs.Prints as p

@@ -86,7 +86,7 @@ abbrev pub IsBlock : Sample → Toks → Type 0
 IsBlock (Sum v) l = ⊥
 IsBlock (Statements v) l = AreStatements v l done
 
--- a list without invisible groups
+-- of a list without invisible groups
 abbrev pub IsAt : Place → Sample → Toks → Type 0
 IsAt ArrayLen = IsSum
 IsAt Value = IsValue
