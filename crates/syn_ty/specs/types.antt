@@ -1,3 +1,0 @@
-pub mod Generics
-pub mod Knot
-pub mod Reading

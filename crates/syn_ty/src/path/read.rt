@@ -1,0 +1,1 @@
+//! Paths and their arguments are read.
