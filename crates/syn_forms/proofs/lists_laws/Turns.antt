@@ -1,9 +1,10 @@
 -- Values joined by marks are read turn by turn, of any number of turns that are left.
 use Rattle.std.proofs.Common.{◌≡◌, ℕ, zero, suc, ◌<◌, ◌≤◌, Bool, true, false, [], ◌∷◌, ◌++◌, Ok, Err, refl, sym, ◌∙◌, ap, arith, if◌then◌else◌, append_assoc, append-nil}
+use Rattle.std.proofs.Math.Path.{fun_ext}
 use Rattle.token_core.specs.Refusal.{Refusal}
 use Rattle.token_core.specs.Stream.{Stream}
 use Rattle.token_core.specs.Toks.{Toks}
-use Rattle.token_core.specs.Reads.{Reader, Outcome, and_then, ◌>>=◌, pure}
+use Rattle.token_core.specs.Reads.{Reader, Outcome, and_then, ◌>>=◌, ◌<$>◌, pure}
 use Rattle.token_core.specs.Loops.{size, Many, listed_from, listed, none, one, put, after}
 
 after-after : {A P : Type 0} (v : Many A P) (x : A) (p : P) (o : Outcome (Many A P)) → after v (and_then o (λ rest. pure (x ∷ rest.0, p ∷ rest.1))) ≡ after (v.0 ++ x ∷ [], v.1 ++ p ∷ []) o
@@ -12,6 +13,14 @@ after-after v x p (Ok q) = ap (λ z. Ok ((z, v.1 ++ p ∷ q.0.1), q.1)) (sym (ap
 
 after-none : {A P : Type 0} (v : Many A P) (s : Stream) → after v (Ok (([], []), s)) ≡ Ok (v, s)
 after-none v s = ap (λ z. Ok ((z, v.1 ++ []), s)) (append-nil v.0) ∙ ap (λ z. Ok ((v.0, z), s)) (append-nil v.1)
+
+-- the value as it is
+itself_at : {A : Type 0} (o : Outcome A) → and_then o pure ≡ o
+itself_at (Ok p) = refl
+itself_at (Err e) = refl
+
+pub itself : {A : Type 0} (p : Reader A) → (λ x. x) <$> p ≡ p
+itself p = fun_ext (λ s. itself_at (p s))
 
 -- before the first value
 pub none_yet_at : {A P : Type 0} (o : Outcome (Many A P)) → after ([], []) o ≡ o
@@ -28,13 +37,13 @@ one_yet_at x p (Err e) = refl
 pub ruleset begun_lists = (one_yet_at)
 
 module _ {A P : Type 0} (stops : Bool → Toks → Bool) (value : Reader A) (more : Toks → Bool) (joint : Reader P) where
-  abbrev Goes : ℕ → Bool → Reader (Many A P)
+  abbrev pub Goes : ℕ → Bool → Reader (Many A P)
   Goes = listed_from stops (λ first. value) more joint
 
-  abbrev after_mark : ℕ → A → P → Reader (Many A P)
+  abbrev pub after_mark : ℕ → A → P → Reader (Many A P)
   after_mark n x p = Goes n false >>= (λ rest. pure (put stops (λ first. value) more joint x p rest))
 
-  abbrev after_value : ℕ → A → Reader (Many A P)
+  abbrev pub after_value : ℕ → A → Reader (Many A P)
   after_value n x = λ t. (if more t.rest then (joint >>= after_mark n x) else pure (one stops (λ first. value) more joint x)) t
 
   begun : (n : ℕ) (v : Many A P) (b : Bool) (s : Stream) → stops b s.rest ≡ false → after v (Goes (suc n) b s) ≡ after v ((value >>= after_value n) s)
