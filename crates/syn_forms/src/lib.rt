@@ -10,6 +10,7 @@ pub mod inputs;
 pub mod lists;
 pub mod nested;
 pub mod params;
+pub mod paths;
 pub mod places;
 pub mod tokens;
 pub mod verbatim;
