@@ -13,7 +13,7 @@ pub returns-then-is_over : goal.returns-then-is_over
 returns-then-is_over g c =
     let i = c.turn.invariant.told in
     let d : g.S.End.stops c.args.end c.turn.first c.turn.input.rest ≡ true = first_of (search rules, grind (arith, common_steps)) in
-    record { parses = (i.told ∙ over (g.S.End.stops c.args.end) (held g.T.Tree.read (length c.args.self.now.begin) c.args.place) (g.S.End.more c.args.end) g.M.Joint.mark i.turns c.turn.list c.turn.first c.turn.input d, grind (arith, follows)) }
+    record { parses = (i.told ∙ over (g.S.End.stops c.args.end) (held g.T.Tree.read (length c.args.self.now.begin) c.args.place) (g.S.End.more c.args.end) (g.S.End.joint c.args.end) i.turns c.turn.list c.turn.first c.turn.input d, grind (arith, follows)) }
 
 pub returns-in_err-value : goal.returns-in_err-value
 returns-in_err-value g c =
@@ -25,7 +25,7 @@ returns-in_err-value g c =
     record {
       parses = (
         refused_by _ _ _ _ _ _ e was back c.value.ensures.parses.0
-            (λ h. i.told ∙ refused (g.S.End.stops c.args.end) (held g.T.Tree.read (length c.args.self.now.begin) c.args.place) (g.S.End.more c.args.end) g.M.Joint.mark i.turns c.turn.list c.turn.first c.turn.input e d h),
+            (λ h. i.told ∙ refused (g.S.End.stops c.args.end) (held g.T.Tree.read (length c.args.self.now.begin) c.args.place) (g.S.End.more c.args.end) (g.S.End.joint c.args.end) i.turns c.turn.list c.turn.first c.turn.input e d h),
         grind (arith, follows),
       );
     }
@@ -39,7 +39,7 @@ returns-then-not-goes_on g c =
     record {
       parses = (
         i.told
-            ∙ last (g.S.End.stops c.args.end) (held g.T.Tree.read (length c.args.self.now.begin) c.args.place) (g.S.End.more c.args.end) g.M.Joint.mark i.turns c.turn.list c.turn.first c.turn.input c.value.new.input c.in_ok-value.value d c.in_ok-value.ensures.parses.0 n
+            ∙ last (g.S.End.stops c.args.end) (held g.T.Tree.read (length c.args.self.now.begin) c.args.place) (g.S.End.more c.args.end) (g.S.End.joint c.args.end) i.turns c.turn.list c.turn.first c.turn.input c.value.new.input c.in_ok-value.value d c.in_ok-value.ensures.parses.0 n
             ∙ ap (λ z. Ok (z, c.value.new.input)) (sym v),
         grind (arith, follows),
       );
@@ -55,8 +55,8 @@ returns-in_err-parse_joint g c =
     let back : c.from_residual-in_err-parse_joint.result ≡ Err e = first_of (search rules, grind (arith, common_steps)) in
     record {
       parses = (
-        refused_by _ _ _ _ _ _ e was back c.parse_joint.ensures.reads
-            (λ h. i.told ∙ stuck (g.S.End.stops c.args.end) (held g.T.Tree.read (length c.args.self.now.begin) c.args.place) (g.S.End.more c.args.end) g.M.Joint.mark i.turns c.turn.list c.turn.first c.turn.input c.value.new.input c.in_ok-value.value e d c.in_ok-value.ensures.parses.0 n h),
+        refused_by _ _ _ _ _ _ e was back c.parse_joint.ensures.parses.0
+            (λ h. i.told ∙ stuck (g.S.End.stops c.args.end) (held g.T.Tree.read (length c.args.self.now.begin) c.args.place) (g.S.End.more c.args.end) (g.S.End.joint c.args.end) i.turns c.turn.list c.turn.first c.turn.input c.value.new.input c.in_ok-value.value e d c.in_ok-value.ensures.parses.0 n h),
         grind (arith, follows),
       );
     }
@@ -64,7 +64,7 @@ returns-in_err-parse_joint g c =
 pub turn-init : goal.turn-init
 turn-init g c =
     record {
-      told = start (g.S.End.stops c.args.end) (held g.T.Tree.read (length c.args.self.now.begin) c.args.place) (g.S.End.more c.args.end) g.M.Joint.mark c.args.list c.args.first c.args.input.now;
+      told = start (g.S.End.stops c.args.end) (held g.T.Tree.read (length c.args.self.now.begin) c.args.place) (g.S.End.more c.args.end) (g.S.End.joint c.args.end) c.args.list c.args.first c.args.input.now;
       whole = c.requires.whole;
       few = c.requires.few;
       within = grind (arith, follows);
@@ -75,14 +75,14 @@ turn-preserved g c =
     let d : g.S.End.stops c.args.end c.turn.first c.turn.input.rest ≡ false = first_of (search rules, grind (arith, common_steps)) in
     let n : g.S.End.more c.args.end c.value.new.input.rest ≡ true = first_of (search rules, grind (arith, common_steps)) in
     let v : c.push_punct.new.self ≡ (c.turn.list.0 ++ c.in_ok-value.value ∷ [], c.turn.list.1 ++ c.in_ok-parse_joint.field-0 ∷ []) = first_of (search rules, grind (arith, common_steps)) in
-    let less : size c.parse_joint.new.input.rest < size c.turn.input.rest = fewer_tokens c.turn.input c.value.new.input c.parse_joint.new.input c.value.ensures.parses.1 c.parse_joint.ensures.within c.in_ok-parse_joint.ensures.taken in
+    let less : size c.parse_joint.new.input.rest < size c.turn.input.rest = fewer_tokens c.turn.input c.value.new.input c.parse_joint.new.input c.value.ensures.parses.1 c.parse_joint.ensures.parses.1 c.in_ok-parse_joint.ensures.taken in
     let stops = g.S.End.stops c.args.end in
     let value = held g.T.Tree.read (length c.args.self.now.begin) c.args.place in
     let more = g.S.End.more c.args.end in
-    let whole = after c.args.list (list stops value more g.M.Joint.mark c.args.first c.args.input.now) in
+    let whole = after c.args.list (list stops value more (g.S.End.joint c.args.end) c.args.first c.args.input.now) in
     record {
-      told = subst (λ z. Told stops value more g.M.Joint.mark whole z false c.parse_joint.new.input) (sym v)
-          (next stops value more g.M.Joint.mark whole c.turn.list c.turn.first c.turn.input c.value.new.input c.parse_joint.new.input c.in_ok-value.value c.in_ok-parse_joint.field-0 c.turn.invariant.told d c.in_ok-value.ensures.parses.0 n c.in_ok-parse_joint.ensures.reads less);
+      told = subst (λ z. Told stops value more (g.S.End.joint c.args.end) whole z false c.parse_joint.new.input) (sym v)
+          (next stops value more (g.S.End.joint c.args.end) whole c.turn.list c.turn.first c.turn.input c.value.new.input c.parse_joint.new.input c.in_ok-value.value c.in_ok-parse_joint.field-0 c.turn.invariant.told d c.in_ok-value.ensures.parses.0 n c.in_ok-parse_joint.ensures.parses.0 less);
       whole = grind (arith, common_steps);
       few = first_of (grind (arith, common_steps), search rules);
       within = grind (arith, follows);

@@ -8,8 +8,8 @@ use Rattle.syn_forms.proofs.nested.Nested.list_after.Given as goal
 
 abbrev pub invariant-turn : goal.invariant-turn
 invariant-turn g l = record {
-  told : Told (g.S.End.stops l.fn.end) (held g.T.Tree.read (length l.fn.self.begin) l.fn.place) (g.S.End.more l.fn.end) g.M.Joint.mark
-      (after l.fn.list (list (g.S.End.stops l.fn.end) (held g.T.Tree.read (length l.fn.self.begin) l.fn.place) (g.S.End.more l.fn.end) g.M.Joint.mark l.fn.first l.fn.input)) l.list l.first l.input;
+  told : Told (g.S.End.stops l.fn.end) (held g.T.Tree.read (length l.fn.self.begin) l.fn.place) (g.S.End.more l.fn.end) (g.S.End.joint l.fn.end)
+      (after l.fn.list (list (g.S.End.stops l.fn.end) (held g.T.Tree.read (length l.fn.self.begin) l.fn.place) (g.S.End.more l.fn.end) (g.S.End.joint l.fn.end) l.fn.first l.fn.input)) l.list l.first l.input;
   whole : length l.list.0 ≡ length l.list.1;
   few : ahead l.input < length l.fn.self.begin;
   within : Follows l.fn.input l.input;
