@@ -546,6 +546,41 @@ impl<A: Arguments> PathOf<A> {
         true
     }
 
+    /// The segment of a path that is one, with its arguments: no leading colon, and no other segment.
+    #[tactic(auto, using(crate::proofs::path_laws::Lone::firsts))]
+    pub fn lone_segment(&self) -> Option<&PathSegmentOf<A>>
+        ensures { option_map (λ s. s.now) result ≡ spec.lone_segment self.now }
+    {
+        if self.leading_colon.is_some() || self.segments.value(1).is_some() {
+            return None;
+        }
+        self.segments.value(0)
+    }
+
+    /// The same, taken out of the path.
+    #[tactic(auto, using(crate::proofs::path_laws::Lone::lasts))]
+    pub fn into_lone_segment(self) -> Option<PathSegmentOf<A>>
+        ensures { result ≡ spec.lone_segment self }
+    {
+        let PathOf {
+            leading_colon,
+            mut segments,
+        } = self;
+        if leading_colon.is_some() {
+            return None;
+        }
+        match segments.pop() {
+            Some((segment, _)) => {
+                if segments.is_empty() {
+                    Some(segment)
+                } else {
+                    None
+                }
+            }
+            None => None,
+        }
+    }
+
     /// The path as one that can have no arguments, as those of macros and attributes are. There is none where a segment has
     /// arguments. Refused for want of memory alone.
     pub fn to_mod_path(&self, alloc: Global) -> Result<Option<ModPath>, AllocError>
