@@ -8,5 +8,6 @@ pub mod groups;
 pub mod heads;
 pub mod lists;
 pub mod nested;
+pub mod paths;
 pub mod places;
 pub mod tokens;

@@ -402,15 +402,16 @@ pub fn parse_plain_path<A: Arguments>(
 }
 
 /// Whether a `<` is at the front that begins neither `<=` nor `<<=`.
-fn peek_angle(input: &ParseStream<'_>) -> bool
+pub fn peek_angle(input: &ParseStream<'_>) -> bool
     ensures { result ≡ reading.sees_angle input.now.rest }
 {
     // all tested, so that the answer is one value
     input.peek::<Lt>() & (!input.peek::<Le>() & !input.peek::<ShlEq>())
 }
 
+/// A `::` that may stand before a path.
 #[tactic(auto, unfolding(crate::specs::path::Reading::leading))]
-fn parse_leading(alloc: Global, input: &mut ParseStream<'_>) -> Result<Option<PathSep>, Error>
+pub fn parse_leading(alloc: Global, input: &mut ParseStream<'_>) -> Result<Option<PathSep>, Error>
     ensures parses { Parses reading.leading result input.old input.new }
 {
     input.parse_option::<PathSep>(alloc)
