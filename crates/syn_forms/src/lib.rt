@@ -6,8 +6,10 @@
 pub mod forms;
 pub mod groups;
 pub mod heads;
+pub mod inputs;
 pub mod lists;
 pub mod nested;
 pub mod paths;
 pub mod places;
 pub mod tokens;
+pub mod verbatim;

@@ -1,10 +1,12 @@
 //! Lists: values joined by marks, up to where a test says that the list ends.
 
 ghost use Rattle.std.specs.Prelude.{◌≡◌, ◌<◌, ◌≤◌, length, true, Bool, IfOk};
-ghost use Rattle.token_core.specs.Loops.{after};
+ghost use Rattle.token_core.specs.Loops.{after, never, terminated};
+ghost use Rattle.token_core.specs.Tokens as token;
 ghost use Rattle.token_core.specs.Toks.{Toks};
-ghost use Rattle.token_core.specs.Reads.{Reader, Reads, Follows, Parses};
+ghost use Rattle.token_core.specs.Reads.{Reader, Parses, ◌<$>◌, is_done};
 ghost use Rattle.syn_forms.specs.lists.Reading as reading;
+ghost use Rattle.syn_forms.specs.params.Reading as params;
 ghost use Rattle.syn_forms.specs.tokens.Reading as tokens;
 ghost use Rattle.syn_forms.specs.nested.Below as below;
 ghost use Rattle.syn_forms.specs.nested.Below.{Nests, ahead};
@@ -13,44 +15,19 @@ use crate::nested::{Nested, Tree};
 use crate::tokens::{parse_comma, parse_plus};
 use std::alloc::Global;
 use std::marker::PhantomData;
-use token_core::token::{Comma, Gt, Plus};
-use token_core::{Error, ParseStream, Punctuated};
+use token_core::token::{Bracket, Comma, Eq, Gt, Paren, PathSep, Plus, Question};
+use token_core::{Error, Lifetime, ParseStream, Punctuated};
 
-/// A mark that joins values.
-pub trait Joint: Drop {
-    /// The read of it, a function of the stream.
-    ghost mark: { Reader Self };
-
-    /// Reads the mark.
-    fn parse_joint(alloc: Global, input: &mut ParseStream<'_>) -> Result<Self, Error>
-        ensures reads { Reads (mark input.old) result input.new }
-        ensures within { Follows input.old input.new }
-        ensures taken { IfOk result (λ _. ahead input.new < ahead input.old) };
-}
-
-impl Joint for Comma {
-    ghost mark = { tokens.comma };
-
-    fn parse_joint(alloc: Global, input: &mut ParseStream<'_>) -> Result<Comma, Error> {
-        parse_comma(alloc, input)
-    }
-}
-
-impl Joint for Plus {
-    ghost mark = { tokens.plus };
-
-    fn parse_joint(alloc: Global, input: &mut ParseStream<'_>) -> Result<Plus, Error> {
-        parse_plus(alloc, input)
-    }
-}
-
-/// Where a list ends.
-pub trait End: Copy {
+/// Where a list ends, and the mark that joins its values.
+pub trait End<M>: Copy {
     /// Whether no value follows: of the first one, and of those after a mark.
     ghost stops: { Self → Bool → Toks → Bool };
 
     /// Whether a mark follows a value.
     ghost more: { Self → Toks → Bool };
+
+    /// The read of the mark, a function of the stream.
+    ghost joint: { Self → Reader M };
 
     /// Whether the list is over before a value.
     fn is_over(self, input: &ParseStream<'_>, first: bool) -> bool
@@ -59,16 +36,23 @@ pub trait End: Copy {
     /// Whether the list goes on after a value.
     fn goes_on(self, input: &ParseStream<'_>) -> bool
         ensures { result ≡ more self input.now.rest };
+
+    /// Reads the mark.
+    fn parse_joint(self, alloc: Global, input: &mut ParseStream<'_>) -> Result<M, Error>
+        ensures parses { Parses (joint self) result input.old input.new }
+        ensures taken { IfOk result (λ _. ahead input.new < ahead input.old) };
 }
 
-/// A list that fills its group.
+/// Values up to the end of their group: a comma is needed between them, and may follow the last.
 #[derive(Clone, Copy)]
 pub struct ToEnd;
 
-impl End for ToEnd {
+impl End<Comma> for ToEnd {
     ghost stops = { λ end first. reading.at_end };
 
     ghost more = { λ end. reading.before_end };
+
+    ghost joint = { λ end. tokens.comma };
 
     fn is_over(self, input: &ParseStream<'_>, first: bool) -> bool {
         input.is_empty()
@@ -77,16 +61,22 @@ impl End for ToEnd {
     fn goes_on(self, input: &ParseStream<'_>) -> bool {
         !input.is_empty()
     }
+
+    fn parse_joint(self, alloc: Global, input: &mut ParseStream<'_>) -> Result<Comma, Error> {
+        parse_comma(alloc, input)
+    }
 }
 
-/// A list up to a `>`.
+/// Values up to a `>`: a comma is needed between them, and may follow the last.
 #[derive(Clone, Copy)]
 pub struct ToGt;
 
-impl End for ToGt {
+impl End<Comma> for ToGt {
     ghost stops = { λ end first. reading.at_gt };
 
     ghost more = { λ end. reading.before_gt };
+
+    ghost joint = { λ end. tokens.comma };
 
     fn is_over(self, input: &ParseStream<'_>, first: bool) -> bool {
         input.peek::<Gt>()
@@ -95,7 +85,156 @@ impl End for ToGt {
     fn goes_on(self, input: &ParseStream<'_>) -> bool {
         !input.peek::<Gt>()
     }
+
+    fn parse_joint(self, alloc: Global, input: &mut ParseStream<'_>) -> Result<Comma, Error> {
+        parse_comma(alloc, input)
+    }
 }
+
+// ---- what is made of the values
+
+/// What becomes of a value in the list that holds it.
+pub trait Make<T, V>: Copy {
+    /// What is made of it.
+    ghost make: { Self → T → V };
+
+    /// Makes it.
+    fn make(self, alloc: Global, value: T) -> V
+        ensures { result ≡ make self value };
+}
+
+/// The value as it is.
+#[derive(Clone, Copy)]
+struct Itself;
+
+impl<T: Drop> Make<T, T> for Itself {
+    ghost make = { λ this value. value };
+
+    fn make(self, alloc: Global, value: T) -> T {
+        value
+    }
+}
+
+// ---- bounds
+
+/// Whether a further bound begins here: with an identifier, `::`, `?`, a lifetime or parentheses, and where `const` forms may
+/// stand with brackets too.
+#[tactic(auto, unfolding(crate::specs::lists::Reading::sees_bound))]
+fn sees_bound(input: &ParseStream<'_>, consts: bool) -> bool
+    ensures { result ≡ reading.sees_bound consts input.now.rest }
+{
+    input.peek_any_ident()
+        | input.peek::<PathSep>()
+        | input.peek::<Question>()
+        | input.peek::<Lifetime>()
+        | input.peek::<Paren>()
+        | (consts & input.peek::<Bracket>())
+}
+
+/// Bounds of which the first is needed; after a `+` the list may be over.
+#[derive(Clone, Copy)]
+pub struct Bounds {
+    /// Whether a bound may begin with brackets, as `[const] Trait` does.
+    pub consts: bool,
+    /// Whether a `+` goes on with the list.
+    pub plus: bool,
+}
+
+impl End<Plus> for Bounds {
+    ghost stops = { λ end. reading.stops_bound end.consts };
+
+    ghost more = { λ end. reading.plus_follows end.plus };
+
+    ghost joint = { λ end. tokens.plus };
+
+    fn is_over(self, input: &ParseStream<'_>, first: bool) -> bool {
+        !first & !sees_bound(input, self.consts)
+    }
+
+    fn goes_on(self, input: &ParseStream<'_>) -> bool {
+        self.plus & input.peek::<Plus>()
+    }
+
+    fn parse_joint(self, alloc: Global, input: &mut ParseStream<'_>) -> Result<Plus, Error> {
+        parse_plus(alloc, input)
+    }
+}
+
+/// Bounds, each of them needed: the first one and one after each `+`.
+#[derive(Clone, Copy)]
+pub struct EachBound;
+
+impl End<Plus> for EachBound {
+    ghost stops = { λ end. never };
+
+    ghost more = { λ end. token.sees_plus };
+
+    ghost joint = { λ end. tokens.plus };
+
+    fn is_over(self, input: &ParseStream<'_>, first: bool) -> bool {
+        false
+    }
+
+    fn goes_on(self, input: &ParseStream<'_>) -> bool {
+        input.peek::<Plus>()
+    }
+
+    fn parse_joint(self, alloc: Global, input: &mut ParseStream<'_>) -> Result<Plus, Error> {
+        parse_plus(alloc, input)
+    }
+}
+
+/// The bounds of a type parameter: they end before `,`, `>` and `=`, and a `+` may stand there.
+#[derive(Clone, Copy)]
+pub struct ToTypeParamEnd;
+
+impl End<Plus> for ToTypeParamEnd {
+    ghost stops = { λ end first. params.ends_type };
+
+    ghost more = { λ end. token.sees_plus };
+
+    ghost joint = { λ end. tokens.plus };
+
+    #[tactic(auto, unfolding(crate::specs::params::Reading::ends_type))]
+    fn is_over(self, input: &ParseStream<'_>, first: bool) -> bool {
+        input.is_empty() | input.peek::<Comma>() | input.peek::<Gt>() | input.peek::<Eq>()
+    }
+
+    fn goes_on(self, input: &ParseStream<'_>) -> bool {
+        input.peek::<Plus>()
+    }
+
+    fn parse_joint(self, alloc: Global, input: &mut ParseStream<'_>) -> Result<Plus, Error> {
+        parse_plus(alloc, input)
+    }
+}
+
+/// The bounds of a lifetime parameter: they end before `,` and `>`, and a `+` may stand there.
+#[derive(Clone, Copy)]
+pub struct ToLifetimeParamEnd;
+
+impl End<Plus> for ToLifetimeParamEnd {
+    ghost stops = { λ end first. params.ends_lifetime };
+
+    ghost more = { λ end. token.sees_plus };
+
+    ghost joint = { λ end. tokens.plus };
+
+    #[tactic(auto, unfolding(crate::specs::params::Reading::ends_lifetime))]
+    fn is_over(self, input: &ParseStream<'_>, first: bool) -> bool {
+        input.is_empty() | input.peek::<Comma>() | input.peek::<Gt>()
+    }
+
+    fn goes_on(self, input: &ParseStream<'_>) -> bool {
+        input.peek::<Plus>()
+    }
+
+    fn parse_joint(self, alloc: Global, input: &mut ParseStream<'_>) -> Result<Plus, Error> {
+        parse_plus(alloc, input)
+    }
+}
+
+// ---- lists
 
 impl<
     'a,
@@ -103,38 +242,75 @@ impl<
     T: Tree<P>,
     F: Fn(Global, PhantomData<T>, &mut ParseStream<'_>, P) -> Result<T, Error>,
 > Nested<'a, P, T, F> {
-    /// What follows the values and marks that were found: values joined by marks.
+    /// What is made of a tree that the form holds.
     #[tactic(auto, using(token_core::proofs::Suffixes::follows))]
-    fn list_after<M: Joint, S: End>(
+    fn made<V: Drop, K: Make<T, V>>(
         &self,
         input: &mut ParseStream<'_>,
         place: P,
+        make: K,
+    ) -> Result<V, Error>
+        requires nests { Nests T.read (length self.now.begin) (F.pre self.now.read) (F.post self.now.read) }
+        requires few { ahead input.old < length self.now.begin }
+        ensures parses { Parses (K.make make <$> below.held T.read (length self.now.begin) place) result input.old input.new }
+        ensures fewer { ahead input.new ≤ ahead input.old }
+    {
+        let value = self.value(input, place)?;
+        Ok(make.make(self.alloc, value))
+    }
+
+    /// What follows the values and marks that were found: what is made of each value, joined by marks.
+    #[tactic(auto, using(token_core::proofs::Suffixes::follows))]
+    fn made_after<V: Drop, K: Make<T, V>, M: Drop, S: End<M>>(
+        &self,
+        input: &mut ParseStream<'_>,
+        place: P,
+        make: K,
         end: S,
-        mut list: Punctuated<T, M>,
+        mut list: Punctuated<V, M>,
         mut first: bool,
-    ) -> Result<Punctuated<T, M>, Error>
+    ) -> Result<Punctuated<V, M>, Error>
         requires nests { Nests T.read (length self.now.begin) (F.pre self.now.read) (F.post self.now.read) }
         requires few { ahead input.old < length self.now.begin }
         requires whole { length list.0 ≡ length list.1 }
-        ensures parses { Parses (λ s. after list (reading.list (S.stops end) (below.held T.read (length self.now.begin) place) (S.more end) M.mark first s)) result input.old input.new }
+        ensures parses { Parses (λ s. after list (reading.list (S.stops end) (K.make make <$> below.held T.read (length self.now.begin) place) (S.more end) (S.joint end) first s)) result input.old input.new }
     {
         'turn: loop {
             if end.is_over(input, first) {
                 return Ok(list);
             }
-            let value = self.value(input, place)?;
+            let value = self.made(input, place, make)?;
             list.push_value(value)?;
             if !end.goes_on(input) {
                 return Ok(list);
             }
-            list.push_punct(M::parse_joint(self.alloc, input)?)?;
+            list.push_punct(end.parse_joint(self.alloc, input)?)?;
             first = false;
         }
     }
 
+    /// The same of the values themselves.
+    #[tactic(auto, using(crate::proofs::nested_laws::Ahead::later))]
+    fn list_after<M: Drop, S: End<M>>(
+        &self,
+        input: &mut ParseStream<'_>,
+        place: P,
+        end: S,
+        list: Punctuated<T, M>,
+        first: bool,
+    ) -> Result<Punctuated<T, M>, Error>
+        requires nests { Nests T.read (length self.now.begin) (F.pre self.now.read) (F.post self.now.read) }
+        requires few { ahead input.old < length self.now.begin }
+        requires whole { length list.0 ≡ length list.1 }
+        ensures parses { Parses (λ s. after list (reading.list (S.stops end) (below.held T.read (length self.now.begin) place) (S.more end) (S.joint end) first s)) result input.old input.new }
+        ensures fewer { ahead input.new ≤ ahead input.old }
+    {
+        self.made_after(input, place, Itself, end, list, first)
+    }
+
     /// Values joined by marks: before each value the list may be over, and after it the list goes on with a mark or is over.
     #[tactic(auto, using(token_core::proofs::Suffixes::follows, crate::proofs::lists_laws::Turns::none_yet))]
-    pub fn list<M: Joint, S: End>(
+    pub fn list<M: Drop, S: End<M>>(
         &self,
         input: &mut ParseStream<'_>,
         place: P,
@@ -142,9 +318,49 @@ impl<
     ) -> Result<Punctuated<T, M>, Error>
         requires nests { Nests T.read (length self.now.begin) (F.pre self.now.read) (F.post self.now.read) }
         requires few { ahead input.old < length self.now.begin }
-        ensures parses { Parses (reading.list (S.stops end) (below.held T.read (length self.now.begin) place) (S.more end) M.mark true) result input.old input.new }
+        ensures parses { Parses (reading.list (S.stops end) (below.held T.read (length self.now.begin) place) (S.more end) (S.joint end) true) result input.old input.new }
+        ensures fewer { ahead input.new ≤ ahead input.old }
     {
         self.list_after(input, place, end, Punctuated::new(self.alloc), true)
+    }
+
+    /// The same, after the first value was read.
+    #[tactic(auto, using(token_core::proofs::Suffixes::follows, crate::proofs::lists_laws::Turns::begun_lists, crate::proofs::nested_laws::Ahead::later), unfolding(crate::specs::lists::Reading::list_from))]
+    pub fn list_from<M: Drop, S: End<M>>(
+        &self,
+        input: &mut ParseStream<'_>,
+        place: P,
+        end: S,
+        first: T,
+    ) -> Result<Punctuated<T, M>, Error>
+        requires nests { Nests T.read (length self.now.begin) (F.pre self.now.read) (F.post self.now.read) }
+        requires few { ahead input.old < length self.now.begin }
+        ensures parses { Parses (reading.list_from (S.stops end) (below.held T.read (length self.now.begin) place) (S.more end) (S.joint end) first) result input.old input.new }
+        ensures fewer { ahead input.new ≤ ahead input.old }
+    {
+        let mut list = Punctuated::new(self.alloc);
+        list.push_value(first)?;
+        if !end.goes_on(input) {
+            return Ok(list);
+        }
+        list.push_punct(end.parse_joint(self.alloc, input)?)?;
+        self.list_after(input, place, end, list, false)
+    }
+
+    /// What is made of each value, up to the end of the group: a comma is needed between them, and may follow the last.
+    #[tactic(auto, using(token_core::proofs::Suffixes::follows, crate::proofs::lists_laws::Turns::none_yet, crate::proofs::nested_laws::Ahead::later))]
+    pub fn made_list<V: Drop, K: Make<T, V>>(
+        &self,
+        input: &mut ParseStream<'_>,
+        place: P,
+        make: K,
+    ) -> Result<Punctuated<V, Comma>, Error>
+        requires nests { Nests T.read (length self.now.begin) (F.pre self.now.read) (F.post self.now.read) }
+        requires few { ahead input.old < length self.now.begin }
+        ensures parses { Parses (terminated is_done (K.make make <$> below.held T.read (length self.now.begin) place) tokens.comma) result input.old input.new }
+        ensures fewer { ahead input.new ≤ ahead input.old }
+    {
+        self.made_after(input, place, make, ToEnd, Punctuated::new(self.alloc), true)
     }
 
     /// A comma, and the elements of a tuple after the first one.

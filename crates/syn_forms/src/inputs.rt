@@ -1,0 +1,287 @@
+//! Arguments: of pointers to functions, and what they share with the arguments of function types.
+
+ghost use Rattle.std.specs.Prelude.{◌≡◌, ◌<◌, ◌≤◌, length, List, Option, IfOk};
+ghost use Rattle.token_core.specs.declared.tree.TokenStream.{TokenStream};
+ghost use Rattle.token_core.specs.Positions.{IsReached};
+ghost use Rattle.token_core.specs.Reads.{Reads, Follows, Parses, optional};
+ghost use Rattle.syn_forms.specs.inputs.Reading as reading;
+ghost use Rattle.syn_forms.specs.nested.Below as below;
+ghost use Rattle.syn_forms.specs.nested.Below.{Nests, ahead};
+ghost use Rattle.syn_forms.specs.verbatim.Reading as verbatim;
+
+use crate::nested::{Nested, Tree};
+use crate::tokens::{parse_any_ident, parse_colon, parse_comma};
+use crate::verbatim::since;
+use std::alloc::Global;
+use std::marker::PhantomData;
+use syn_path::supplied::Attributes;
+use token_core::token::{Colon, Comma, DotDotDot, Mut, PathSep, SelfValue, Underscore};
+use token_core::{Cursor, Error, Ident, Items, ParseStream, Punctuated, TokenStream};
+
+/// The name before an argument, if it has one: `x:`.
+pub type Name = Option<(Ident, Colon)>;
+
+/// `...` after the arguments: its name, if it has one, the dots, and a comma, if one stands there.
+pub type Dots = (Option<(Ident, Colon)>, DotDotDot, Option<Comma>);
+
+/// How an argument is made.
+pub trait Argument<B, T, I>: Copy {
+    /// The argument of its attributes, its name and its type.
+    ghost make: { Self → List B → reading.Name → T → I };
+
+    /// Makes it.
+    fn make(self, attrs: Items<B>, name: Option<(Ident, Colon)>, ty: T) -> I
+        ensures { result ≡ make self attrs name ty };
+}
+
+/// How tokens are held as they were written.
+pub trait Verbatim<T>: Copy {
+    /// The tree that holds these tokens.
+    ghost verbatim: { Self → TokenStream → T };
+
+    /// Makes it.
+    fn verbatim(self, tokens: TokenStream) -> T
+        ensures { result ≡ verbatim self tokens };
+}
+
+// ---- names and dots
+
+/// Whether an identifier or `_` is at the front.
+fn sees_ident_or_underscore(input: &ParseStream<'_>) -> bool
+    ensures { result ≡ reading.sees_ident_or_underscore input.now.rest }
+{
+    input.peek::<Ident>() | input.peek::<Underscore>()
+}
+
+/// Whether a name is at the front: an identifier or `_`, and where `own` says so `self`, before a `:` that is not `::`.
+#[tactic(auto, unfolding(crate::specs::inputs::Reading::sees_name))]
+fn sees_name(input: &ParseStream<'_>, own: bool) -> bool
+    ensures { result ≡ reading.sees_name own input.now.rest }
+{
+    (sees_ident_or_underscore(input) | (own & input.peek::<SelfValue>()))
+        & (input.peek2::<Colon>() & !input.peek2::<PathSep>())
+}
+
+/// Whether `mut self` is at the front.
+#[tactic(auto, unfolding(crate::specs::inputs::Reading::sees_mut_self))]
+fn sees_mut_self(input: &ParseStream<'_>) -> bool
+    ensures { result ≡ reading.sees_mut_self input.now.rest }
+{
+    input.peek::<Mut>() & input.peek2::<SelfValue>()
+}
+
+/// Whether `...` is at the front, or a name before it.
+#[tactic(auto, unfolding(crate::specs::inputs::Reading::sees_dots))]
+fn sees_dots(input: &ParseStream<'_>) -> bool
+    ensures { result ≡ reading.sees_dots input.now.rest }
+{
+    input.peek::<DotDotDot>()
+        | (sees_ident_or_underscore(input)
+            & (input.peek2::<Colon>() & input.peek3::<DotDotDot>()))
+}
+
+/// Whether a name is not `self`, or none is there.
+fn is_other(name: &Option<(Ident, Colon)>) -> bool
+    ensures { result ≡ reading.is_other name.now }
+{
+    match name {
+        Some((ident, _)) => !(ident.text() == "self"),
+        None => true,
+    }
+}
+
+/// `x:`
+#[tactic(auto, using(token_core::proofs::Suffixes::follows, crate::proofs::nested_laws::Ahead::later), unfolding(crate::specs::inputs::Reading::name))]
+fn parse_name(alloc: Global, input: &mut ParseStream<'_>) -> Result<(Ident, Colon), Error>
+    ensures parses { Parses reading.name result input.old input.new }
+    ensures fewer { ahead input.new ≤ ahead input.old }
+{
+    let ident = parse_any_ident(alloc, input)?;
+    let colon_token = parse_colon(alloc, input)?;
+    Ok((ident, colon_token))
+}
+
+/// A name that may be there.
+#[tactic(auto, using(token_core::proofs::Suffixes::follows, crate::proofs::nested_laws::Ahead::later))]
+fn parse_optional_name(
+    alloc: Global,
+    input: &mut ParseStream<'_>,
+    own: bool,
+) -> Result<Option<(Ident, Colon)>, Error>
+    ensures parses { Parses (optional (reading.sees_name own) reading.name) result input.old input.new }
+    ensures fewer { ahead input.new ≤ ahead input.old }
+{
+    if sees_name(input, own) {
+        return Ok(Some(parse_name(alloc, input)?));
+    }
+    Ok(None)
+}
+
+/// `...` after the arguments, with an optional name before it and an optional comma after it: `args: ...,`. Refused where
+/// the name has no `:`, and where no `...` follows (syn's `parse_bare_variadic`).
+#[tactic(auto, using(token_core::proofs::Suffixes::follows), unfolding(crate::specs::inputs::Reading::dots))]
+pub fn parse_dots(alloc: Global, input: &mut ParseStream<'_>) -> Result<Dots, Error>
+    ensures parses { Parses reading.dots result input.old input.new }
+{
+    let name = if sees_ident_or_underscore(input) {
+        Some(parse_name(alloc, input)?)
+    } else {
+        None
+    };
+    let dots = input.parse::<DotDotDot>(alloc)?;
+    let comma = input.parse_option::<Comma>(alloc)?;
+    Ok((name, dots, comma))
+}
+
+impl<
+    'a,
+    P: Copy,
+    T: Tree<P>,
+    F: Fn(Global, PhantomData<T>, &mut ParseStream<'_>, P) -> Result<T, Error>,
+> Nested<'a, P, T, F> {
+    // ---- an argument after its attributes
+
+    /// A type, and a name before it that may be there.
+    #[tactic(auto, using(token_core::proofs::Suffixes::follows, crate::proofs::nested_laws::Ahead::later), unfolding(crate::specs::inputs::Reading::plain_argument))]
+    pub fn plain_argument(
+        &self,
+        input: &mut ParseStream<'_>,
+        place: P,
+    ) -> Result<(Option<(Ident, Colon)>, T), Error>
+        requires nests { Nests T.read (length self.now.begin) (F.pre self.now.read) (F.post self.now.read) }
+        requires few { ahead input.old < length self.now.begin }
+        ensures parses { Parses (reading.plain_argument (below.held T.read (length self.now.begin) place)) result input.old input.new }
+        ensures fewer { ahead input.new ≤ ahead input.old }
+    {
+        let name = parse_optional_name(self.alloc, input, false)?;
+        let ty = self.value(input, place)?;
+        Ok((name, ty))
+    }
+
+    /// `mut self`, `mut self: T`: held as they were written, without a name.
+    #[tactic(auto, using(token_core::proofs::Suffixes::follows, token_core::proofs::Places::positions, crate::proofs::nested_laws::Ahead::later), unfolding(crate::specs::inputs::Reading::mut_self))]
+    fn mut_self<V: Verbatim<T>>(
+        &self,
+        input: &mut ParseStream<'_>,
+        place: P,
+        verbatim: V,
+    ) -> Result<(Option<(Ident, Colon)>, T), Error>
+        requires nests { Nests T.read (length self.now.begin) (F.pre self.now.read) (F.post self.now.read) }
+        requires few { ahead input.old < length self.now.begin }
+        ensures parses { Parses (reading.mut_self (below.held T.read (length self.now.begin) place) (V.verbatim verbatim)) result input.old input.new }
+        ensures fewer { ahead input.new ≤ ahead input.old }
+    {
+        let from = input.cursor();
+        input.parse::<Mut>(self.alloc)?;
+        if sees_name(input, true) {
+            parse_name(self.alloc, input)?;
+            self.value(input, place)?;
+        } else {
+            input.parse::<SelfValue>(self.alloc)?;
+        }
+        let tokens = since(self.alloc, &from, input)?;
+        Ok((None, verbatim.verbatim(tokens)))
+    }
+
+    /// A type, and a name before it that may be there and be `self`; `x: mut self` is held as it was written, without a name.
+    #[tactic(auto, using(token_core::proofs::Suffixes::follows, token_core::proofs::Places::positions, crate::proofs::nested_laws::Ahead::later), unfolding(crate::specs::inputs::Reading::named_argument))]
+    fn named_argument<V: Verbatim<T>>(
+        &self,
+        input: &mut ParseStream<'_>,
+        place: P,
+        verbatim: V,
+    ) -> Result<(Option<(Ident, Colon)>, T), Error>
+        requires nests { Nests T.read (length self.now.begin) (F.pre self.now.read) (F.post self.now.read) }
+        requires few { ahead input.old < length self.now.begin }
+        ensures parses { Parses (reading.named_argument (below.held T.read (length self.now.begin) place) (V.verbatim verbatim)) result input.old input.new }
+        ensures fewer { ahead input.new ≤ ahead input.old }
+    {
+        let from = input.cursor();
+        let name = parse_optional_name(self.alloc, input, true)?;
+        if is_other(&name) & sees_mut_self(input) {
+            input.parse::<Mut>(self.alloc)?;
+            input.parse::<SelfValue>(self.alloc)?;
+            let tokens = since(self.alloc, &from, input)?;
+            return Ok((None, verbatim.verbatim(tokens)));
+        }
+        let ty = self.value(input, place)?;
+        Ok((name, ty))
+    }
+
+    /// The first argument of a pointer to a function, which may be about `self`.
+    #[tactic(auto, using(token_core::proofs::Suffixes::follows), unfolding(crate::specs::inputs::Reading::first_argument))]
+    fn first_argument<V: Verbatim<T>>(
+        &self,
+        input: &mut ParseStream<'_>,
+        place: P,
+        verbatim: V,
+    ) -> Result<(Option<(Ident, Colon)>, T), Error>
+        requires nests { Nests T.read (length self.now.begin) (F.pre self.now.read) (F.post self.now.read) }
+        requires few { ahead input.old < length self.now.begin }
+        ensures parses { Parses (reading.first_argument (below.held T.read (length self.now.begin) place) (V.verbatim verbatim)) result input.old input.new }
+        ensures fewer { ahead input.new ≤ ahead input.old }
+    {
+        if sees_mut_self(input) {
+            return self.mut_self(input, place, verbatim);
+        }
+        self.named_argument(input, place, verbatim)
+    }
+
+    /// An argument of a pointer to a function after its attributes, the first one or a later one (syn's `parse_bare_fn_arg`).
+    pub fn argument<V: Verbatim<T>>(
+        &self,
+        input: &mut ParseStream<'_>,
+        place: P,
+        verbatim: V,
+        first: bool,
+    ) -> Result<(Option<(Ident, Colon)>, T), Error>
+        requires nests { Nests T.read (length self.now.begin) (F.pre self.now.read) (F.post self.now.read) }
+        requires few { ahead input.old < length self.now.begin }
+        ensures parses { Parses (reading.argument (below.held T.read (length self.now.begin) place) (V.verbatim verbatim) first) result input.old input.new }
+        ensures fewer { ahead input.new ≤ ahead input.old }
+    {
+        if first {
+            self.first_argument(input, place, verbatim)
+        } else {
+            self.plain_argument(input, place)
+        }
+    }
+
+    // ---- the arguments
+
+    /// The arguments of a pointer to a function, each with its attributes, joined by commas up to the end of the group: an
+    /// argument is made of its attributes, its name and its type, and the first one may be about `self`. A `...` ends them,
+    /// with its attributes, and nothing is read after it (the content of the parentheses in syn's `TypeBareFn`).
+    #[tactic(auto, using(token_core::proofs::Suffixes::follows))]
+    pub fn inputs<B: Attributes, I: Drop, K: Argument<B, T, I>, V: Verbatim<T>>(
+        &self,
+        input: &mut ParseStream<'_>,
+        place: P,
+        make: K,
+        verbatim: V,
+    ) -> Result<(Punctuated<I, Comma>, Option<(Items<B>, Dots)>), Error>
+        requires nests { Nests T.read (length self.now.begin) (F.pre self.now.read) (F.post self.now.read) }
+        requires few { ahead input.old < length self.now.begin }
+        ensures parses { Parses (reading.inputs (K.make make) B.reads (below.held T.read (length self.now.begin) place) (V.verbatim verbatim)) result input.old input.new }
+    {
+        let mut list = Punctuated::new(self.alloc);
+        let mut first = true;
+        'turn: loop {
+            if input.is_empty() {
+                return Ok((list, None));
+            }
+            let attrs = B::read_outer(self.alloc, input)?;
+            if sees_dots(input) {
+                let dots = parse_dots(self.alloc, input)?;
+                return Ok((list, Some((attrs, dots))));
+            }
+            let (name, ty) = self.argument(input, place, verbatim, first)?;
+            list.push_value(make.make(attrs, name, ty))?;
+            if input.is_empty() {
+                return Ok((list, None));
+            }
+            list.push_punct(parse_comma(self.alloc, input)?)?;
+            first = false;
+        }
+    }
+}
