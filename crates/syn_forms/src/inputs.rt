@@ -132,3 +132,118 @@ pub fn parse_dots(alloc: Global, input: &mut ParseStream<'_>) -> Result<Dots, Er
     let comma = input.parse_option::<Comma>(alloc)?;
     Ok((name, dots, comma))
 }
+
+impl<
+    'a,
+    P: Copy,
+    T: Tree<P>,
+    F: Fn(Global, PhantomData<T>, &mut ParseStream<'_>, P) -> Result<T, Error>,
+> Nested<'a, P, T, F> {
+    // ---- an argument after its attributes
+
+    /// A type, and a name before it that may be there.
+    #[tactic(auto, using(token_core::proofs::Suffixes::follows, crate::proofs::nested_laws::Ahead::later), unfolding(crate::specs::inputs::Reading::plain_argument))]
+    pub fn plain_argument(
+        &self,
+        input: &mut ParseStream<'_>,
+        place: P,
+    ) -> Result<(Option<(Ident, Colon)>, T), Error>
+        requires nests { Nests T.read (length self.now.begin) (F.pre self.now.read) (F.post self.now.read) }
+        requires few { ahead input.old < length self.now.begin }
+        ensures parses { Parses (reading.plain_argument (below.held T.read (length self.now.begin) place)) result input.old input.new }
+        ensures fewer { ahead input.new ≤ ahead input.old }
+    {
+        let name = parse_optional_name(self.alloc, input, false)?;
+        let ty = self.value(input, place)?;
+        Ok((name, ty))
+    }
+
+    /// `mut self`, `mut self: T`: held as they were written, without a name.
+    #[tactic(auto, using(token_core::proofs::Suffixes::follows, token_core::proofs::Places::positions, crate::proofs::nested_laws::Ahead::later), unfolding(crate::specs::inputs::Reading::mut_self))]
+    fn mut_self<V: Verbatim<T>>(
+        &self,
+        input: &mut ParseStream<'_>,
+        place: P,
+        verbatim: V,
+    ) -> Result<(Option<(Ident, Colon)>, T), Error>
+        requires nests { Nests T.read (length self.now.begin) (F.pre self.now.read) (F.post self.now.read) }
+        requires few { ahead input.old < length self.now.begin }
+        ensures parses { Parses (reading.mut_self (below.held T.read (length self.now.begin) place) (V.verbatim verbatim)) result input.old input.new }
+        ensures fewer { ahead input.new ≤ ahead input.old }
+    {
+        let from = input.cursor();
+        input.parse::<Mut>(self.alloc)?;
+        if sees_name(input, true) {
+            parse_name(self.alloc, input)?;
+            self.value(input, place)?;
+        } else {
+            input.parse::<SelfValue>(self.alloc)?;
+        }
+        let tokens = since(self.alloc, &from, input)?;
+        Ok((None, verbatim.verbatim(tokens)))
+    }
+
+    /// A type, and a name before it that may be there and be `self`; `x: mut self` is held as it was written, without a name.
+    #[tactic(auto, using(token_core::proofs::Suffixes::follows, token_core::proofs::Places::positions, crate::proofs::nested_laws::Ahead::later), unfolding(crate::specs::inputs::Reading::named_argument))]
+    fn named_argument<V: Verbatim<T>>(
+        &self,
+        input: &mut ParseStream<'_>,
+        place: P,
+        verbatim: V,
+    ) -> Result<(Option<(Ident, Colon)>, T), Error>
+        requires nests { Nests T.read (length self.now.begin) (F.pre self.now.read) (F.post self.now.read) }
+        requires few { ahead input.old < length self.now.begin }
+        ensures parses { Parses (reading.named_argument (below.held T.read (length self.now.begin) place) (V.verbatim verbatim)) result input.old input.new }
+        ensures fewer { ahead input.new ≤ ahead input.old }
+    {
+        let from = input.cursor();
+        let name = parse_optional_name(self.alloc, input, true)?;
+        if is_other(&name) & sees_mut_self(input) {
+            input.parse::<Mut>(self.alloc)?;
+            input.parse::<SelfValue>(self.alloc)?;
+            let tokens = since(self.alloc, &from, input)?;
+            return Ok((None, verbatim.verbatim(tokens)));
+        }
+        let ty = self.value(input, place)?;
+        Ok((name, ty))
+    }
+
+    /// The first argument of a pointer to a function, which may be about `self`.
+    #[tactic(auto, using(token_core::proofs::Suffixes::follows), unfolding(crate::specs::inputs::Reading::first_argument))]
+    fn first_argument<V: Verbatim<T>>(
+        &self,
+        input: &mut ParseStream<'_>,
+        place: P,
+        verbatim: V,
+    ) -> Result<(Option<(Ident, Colon)>, T), Error>
+        requires nests { Nests T.read (length self.now.begin) (F.pre self.now.read) (F.post self.now.read) }
+        requires few { ahead input.old < length self.now.begin }
+        ensures parses { Parses (reading.first_argument (below.held T.read (length self.now.begin) place) (V.verbatim verbatim)) result input.old input.new }
+        ensures fewer { ahead input.new ≤ ahead input.old }
+    {
+        if sees_mut_self(input) {
+            return self.mut_self(input, place, verbatim);
+        }
+        self.named_argument(input, place, verbatim)
+    }
+
+    /// An argument of a pointer to a function after its attributes, the first one or a later one (syn's `parse_bare_fn_arg`).
+    pub fn argument<V: Verbatim<T>>(
+        &self,
+        input: &mut ParseStream<'_>,
+        place: P,
+        verbatim: V,
+        first: bool,
+    ) -> Result<(Option<(Ident, Colon)>, T), Error>
+        requires nests { Nests T.read (length self.now.begin) (F.pre self.now.read) (F.post self.now.read) }
+        requires few { ahead input.old < length self.now.begin }
+        ensures parses { Parses (reading.argument (below.held T.read (length self.now.begin) place) (V.verbatim verbatim) first) result input.old input.new }
+        ensures fewer { ahead input.new ≤ ahead input.old }
+    {
+        if first {
+            self.first_argument(input, place, verbatim)
+        } else {
+            self.plain_argument(input, place)
+        }
+    }
+}
