@@ -1,10 +1,10 @@
 //! Lists: values joined by marks, up to where a test says that the list ends.
 
 ghost use Rattle.std.specs.Prelude.{◌≡◌, ◌<◌, ◌≤◌, length, true, Bool, IfOk};
-ghost use Rattle.token_core.specs.Loops.{after, never};
+ghost use Rattle.token_core.specs.Loops.{after, never, terminated};
 ghost use Rattle.token_core.specs.Tokens as token;
 ghost use Rattle.token_core.specs.Toks.{Toks};
-ghost use Rattle.token_core.specs.Reads.{Reader, Parses};
+ghost use Rattle.token_core.specs.Reads.{Reader, Parses, ◌<$>◌, is_done};
 ghost use Rattle.syn_forms.specs.lists.Reading as reading;
 ghost use Rattle.syn_forms.specs.params.Reading as params;
 ghost use Rattle.syn_forms.specs.tokens.Reading as tokens;
@@ -88,6 +88,30 @@ impl End<Comma> for ToGt {
 
     fn parse_joint(self, alloc: Global, input: &mut ParseStream<'_>) -> Result<Comma, Error> {
         parse_comma(alloc, input)
+    }
+}
+
+// ---- what is made of the values
+
+/// What becomes of a value in the list that holds it.
+pub trait Make<T, V>: Copy {
+    /// What is made of it.
+    ghost make: { Self → T → V };
+
+    /// Makes it.
+    fn make(self, alloc: Global, value: T) -> V
+        ensures { result ≡ make self value };
+}
+
+/// The value as it is.
+#[derive(Clone, Copy)]
+struct Itself;
+
+impl<T: Drop> Make<T, T> for Itself {
+    ghost make = { λ this value. value };
+
+    fn make(self, alloc: Global, value: T) -> T {
+        value
     }
 }
 
@@ -210,32 +234,52 @@ impl End<Plus> for ToLifetimeParamEnd {
     }
 }
 
+// ---- lists
+
 impl<
     'a,
     P: Copy,
     T: Tree<P>,
     F: Fn(Global, PhantomData<T>, &mut ParseStream<'_>, P) -> Result<T, Error>,
 > Nested<'a, P, T, F> {
-    /// What follows the values and marks that were found: values joined by marks.
+    /// What is made of a tree that the form holds.
     #[tactic(auto, using(token_core::proofs::Suffixes::follows))]
-    fn list_after<M: Drop, S: End<M>>(
+    fn made<V: Drop, K: Make<T, V>>(
         &self,
         input: &mut ParseStream<'_>,
         place: P,
+        make: K,
+    ) -> Result<V, Error>
+        requires nests { Nests T.read (length self.now.begin) (F.pre self.now.read) (F.post self.now.read) }
+        requires few { ahead input.old < length self.now.begin }
+        ensures parses { Parses (K.make make <$> below.held T.read (length self.now.begin) place) result input.old input.new }
+        ensures fewer { ahead input.new ≤ ahead input.old }
+    {
+        let value = self.value(input, place)?;
+        Ok(make.make(self.alloc, value))
+    }
+
+    /// What follows the values and marks that were found: what is made of each value, joined by marks.
+    #[tactic(auto, using(token_core::proofs::Suffixes::follows))]
+    fn made_after<V: Drop, K: Make<T, V>, M: Drop, S: End<M>>(
+        &self,
+        input: &mut ParseStream<'_>,
+        place: P,
+        make: K,
         end: S,
-        mut list: Punctuated<T, M>,
+        mut list: Punctuated<V, M>,
         mut first: bool,
-    ) -> Result<Punctuated<T, M>, Error>
+    ) -> Result<Punctuated<V, M>, Error>
         requires nests { Nests T.read (length self.now.begin) (F.pre self.now.read) (F.post self.now.read) }
         requires few { ahead input.old < length self.now.begin }
         requires whole { length list.0 ≡ length list.1 }
-        ensures parses { Parses (λ s. after list (reading.list (S.stops end) (below.held T.read (length self.now.begin) place) (S.more end) (S.joint end) first s)) result input.old input.new }
+        ensures parses { Parses (λ s. after list (reading.list (S.stops end) (K.make make <$> below.held T.read (length self.now.begin) place) (S.more end) (S.joint end) first s)) result input.old input.new }
     {
         'turn: loop {
             if end.is_over(input, first) {
                 return Ok(list);
             }
-            let value = self.value(input, place)?;
+            let value = self.made(input, place, make)?;
             list.push_value(value)?;
             if !end.goes_on(input) {
                 return Ok(list);
@@ -243,6 +287,25 @@ impl<
             list.push_punct(end.parse_joint(self.alloc, input)?)?;
             first = false;
         }
+    }
+
+    /// The same of the values themselves.
+    #[tactic(auto, using(crate::proofs::nested_laws::Ahead::later))]
+    fn list_after<M: Drop, S: End<M>>(
+        &self,
+        input: &mut ParseStream<'_>,
+        place: P,
+        end: S,
+        list: Punctuated<T, M>,
+        first: bool,
+    ) -> Result<Punctuated<T, M>, Error>
+        requires nests { Nests T.read (length self.now.begin) (F.pre self.now.read) (F.post self.now.read) }
+        requires few { ahead input.old < length self.now.begin }
+        requires whole { length list.0 ≡ length list.1 }
+        ensures parses { Parses (λ s. after list (reading.list (S.stops end) (below.held T.read (length self.now.begin) place) (S.more end) (S.joint end) first s)) result input.old input.new }
+        ensures fewer { ahead input.new ≤ ahead input.old }
+    {
+        self.made_after(input, place, Itself, end, list, first)
     }
 
     /// Values joined by marks: before each value the list may be over, and after it the list goes on with a mark or is over.
@@ -256,8 +319,48 @@ impl<
         requires nests { Nests T.read (length self.now.begin) (F.pre self.now.read) (F.post self.now.read) }
         requires few { ahead input.old < length self.now.begin }
         ensures parses { Parses (reading.list (S.stops end) (below.held T.read (length self.now.begin) place) (S.more end) (S.joint end) true) result input.old input.new }
+        ensures fewer { ahead input.new ≤ ahead input.old }
     {
         self.list_after(input, place, end, Punctuated::new(self.alloc), true)
+    }
+
+    /// The same, after the first value was read.
+    #[tactic(auto, using(token_core::proofs::Suffixes::follows, crate::proofs::lists_laws::Turns::begun_lists, crate::proofs::nested_laws::Ahead::later), unfolding(crate::specs::lists::Reading::list_from))]
+    pub fn list_from<M: Drop, S: End<M>>(
+        &self,
+        input: &mut ParseStream<'_>,
+        place: P,
+        end: S,
+        first: T,
+    ) -> Result<Punctuated<T, M>, Error>
+        requires nests { Nests T.read (length self.now.begin) (F.pre self.now.read) (F.post self.now.read) }
+        requires few { ahead input.old < length self.now.begin }
+        ensures parses { Parses (reading.list_from (S.stops end) (below.held T.read (length self.now.begin) place) (S.more end) (S.joint end) first) result input.old input.new }
+        ensures fewer { ahead input.new ≤ ahead input.old }
+    {
+        let mut list = Punctuated::new(self.alloc);
+        list.push_value(first)?;
+        if !end.goes_on(input) {
+            return Ok(list);
+        }
+        list.push_punct(end.parse_joint(self.alloc, input)?)?;
+        self.list_after(input, place, end, list, false)
+    }
+
+    /// What is made of each value, up to the end of the group: a comma is needed between them, and may follow the last.
+    #[tactic(auto, using(token_core::proofs::Suffixes::follows, crate::proofs::lists_laws::Turns::none_yet, crate::proofs::nested_laws::Ahead::later))]
+    pub fn made_list<V: Drop, K: Make<T, V>>(
+        &self,
+        input: &mut ParseStream<'_>,
+        place: P,
+        make: K,
+    ) -> Result<Punctuated<V, Comma>, Error>
+        requires nests { Nests T.read (length self.now.begin) (F.pre self.now.read) (F.post self.now.read) }
+        requires few { ahead input.old < length self.now.begin }
+        ensures parses { Parses (terminated is_done (K.make make <$> below.held T.read (length self.now.begin) place) tokens.comma) result input.old input.new }
+        ensures fewer { ahead input.new ≤ ahead input.old }
+    {
+        self.made_after(input, place, make, ToEnd, Punctuated::new(self.alloc), true)
     }
 
     /// A comma, and the elements of a tuple after the first one.

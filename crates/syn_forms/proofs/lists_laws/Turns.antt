@@ -1,9 +1,10 @@
 -- Values joined by marks are read turn by turn, of any number of turns that are left.
 use Rattle.std.proofs.Common.{◌≡◌, ℕ, zero, suc, ◌<◌, ◌≤◌, Bool, true, false, [], ◌∷◌, ◌++◌, Ok, Err, refl, sym, ◌∙◌, ap, arith, if◌then◌else◌, append_assoc, append-nil}
+use Rattle.std.proofs.Math.Path.{fun_ext}
 use Rattle.token_core.specs.Refusal.{Refusal}
 use Rattle.token_core.specs.Stream.{Stream}
 use Rattle.token_core.specs.Toks.{Toks}
-use Rattle.token_core.specs.Reads.{Reader, Outcome, and_then, ◌>>=◌, pure}
+use Rattle.token_core.specs.Reads.{Reader, Outcome, and_then, ◌>>=◌, ◌<$>◌, pure}
 use Rattle.token_core.specs.Loops.{size, Many, listed_from, listed, none, one, put, after}
 
 after-after : {A P : Type 0} (v : Many A P) (x : A) (p : P) (o : Outcome (Many A P)) → after v (and_then o (λ rest. pure (x ∷ rest.0, p ∷ rest.1))) ≡ after (v.0 ++ x ∷ [], v.1 ++ p ∷ []) o
@@ -12,6 +13,14 @@ after-after v x p (Ok q) = ap (λ z. Ok ((z, v.1 ++ p ∷ q.0.1), q.1)) (sym (ap
 
 after-none : {A P : Type 0} (v : Many A P) (s : Stream) → after v (Ok (([], []), s)) ≡ Ok (v, s)
 after-none v s = ap (λ z. Ok ((z, v.1 ++ []), s)) (append-nil v.0) ∙ ap (λ z. Ok ((v.0, z), s)) (append-nil v.1)
+
+-- the value as it is
+itself_at : {A : Type 0} (o : Outcome A) → and_then o pure ≡ o
+itself_at (Ok p) = refl
+itself_at (Err e) = refl
+
+pub itself : {A : Type 0} (p : Reader A) → (λ x. x) <$> p ≡ p
+itself p = fun_ext (λ s. itself_at (p s))
 
 -- before the first value
 pub none_yet_at : {A P : Type 0} (o : Outcome (Many A P)) → after ([], []) o ≡ o
