@@ -1,4 +1,5 @@
 pub mod groups_laws
+pub mod inputs_laws
 pub mod lists_laws
 pub mod nested_laws
 pub mod paths_laws

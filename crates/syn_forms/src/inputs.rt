@@ -246,4 +246,42 @@ impl<
             self.plain_argument(input, place)
         }
     }
+
+    // ---- the arguments
+
+    /// The arguments of a pointer to a function, each with its attributes, joined by commas up to the end of the group: an
+    /// argument is made of its attributes, its name and its type, and the first one may be about `self`. A `...` ends them,
+    /// with its attributes, and nothing is read after it (the content of the parentheses in syn's `TypeBareFn`).
+    #[tactic(auto, using(token_core::proofs::Suffixes::follows))]
+    pub fn inputs<B: Attributes, I: Drop, K: Argument<B, T, I>, V: Verbatim<T>>(
+        &self,
+        input: &mut ParseStream<'_>,
+        place: P,
+        make: K,
+        verbatim: V,
+    ) -> Result<(Punctuated<I, Comma>, Option<(Items<B>, Dots)>), Error>
+        requires nests { Nests T.read (length self.now.begin) (F.pre self.now.read) (F.post self.now.read) }
+        requires few { ahead input.old < length self.now.begin }
+        ensures parses { Parses (reading.inputs (K.make make) B.reads (below.held T.read (length self.now.begin) place) (V.verbatim verbatim)) result input.old input.new }
+    {
+        let mut list = Punctuated::new(self.alloc);
+        let mut first = true;
+        'turn: loop {
+            if input.is_empty() {
+                return Ok((list, None));
+            }
+            let attrs = B::read_outer(self.alloc, input)?;
+            if sees_dots(input) {
+                let dots = parse_dots(self.alloc, input)?;
+                return Ok((list, Some((attrs, dots))));
+            }
+            let (name, ty) = self.argument(input, place, verbatim, first)?;
+            list.push_value(make.make(attrs, name, ty))?;
+            if input.is_empty() {
+                return Ok((list, None));
+            }
+            list.push_punct(parse_comma(self.alloc, input)?)?;
+            first = false;
+        }
+    }
 }

@@ -1,6 +1,7 @@
 -- Segments after those that were found.
 use Rattle.std.specs.Prelude.{IsTrue, ◌↔◌, nat_eq}
 use Rattle.std.proofs.Common.{◌≡◌, ℕ, Bool, true, false, List, [], ◌∷◌, ◌++◌, length, Option, Some, None, Ok, Err, refl, sym, ◌∙◌, ap, append_assoc}
+use Rattle.std.proofs.lemmas.Bool.{eq-eqb, eqb-true}
 use Rattle.token_core.specs.Loops.{Many, after, onto}
 use Rattle.token_core.specs.Reads.{Outcome, and_then, pure}
 use Rattle.token_core.specs.Refusal.{Refusal}
@@ -23,3 +24,14 @@ after_as f xs ps c (Ok q) w t h =
 pub after_refused : {A P : Type 0} (v : Many A P) (o : Outcome (Many A P)) (e : Refusal) → after v o ≡ Err e → o ≡ Err e
 after_refused v (Ok q) e h = cc
 after_refused v (Err r) e h = h
+
+-- as many marks as values, by a test
+pub counted-is : (b : Bool) (n m : ℕ) → (IsTrue b ↔ (n ≡ m)) → b ≡ nat_eq n m
+counted-is true n m h = sym (eq-eqb n m (h.0 refl))
+counted-is false n m h = by_test (nat_eq n m) refl
+  where
+    by_test : (c : Bool) → nat_eq n m ≡ c → false ≡ c
+    by_test true e = sym (sym (h.1 (eqb-true n m e)))
+    by_test false e = refl
+
+pub ruleset counted = (counted-is)

@@ -1,1 +1,606 @@
 //! Paths and their arguments are read.
+
+ghost use Rattle.std.specs.Prelude.{◌≡◌, ◌<◌, ◌≤◌, length, Bool, Some, is_some};
+ghost use Rattle.syn_forms.specs.nested.Below.{Nests, ahead};
+ghost use Rattle.syn_ty.specs.declared.path.GenericArgumentOf.TheVariants as arguments;
+ghost use Rattle.syn_ty.specs.declared.path.PathArgumentsOf.{out-PathArgumentsOf};
+ghost use Rattle.syn_ty.specs.declared.ty.TypePathOf.{out-TypePathOf};
+ghost use Rattle.syn_ty.specs.path.Paths as spec;
+ghost use Rattle.syn_ty.specs.path.Reading as reading;
+ghost use Rattle.syn_ty.specs.ty.Knot as knot;
+ghost use Rattle.syn_ty.specs.ty.Reading as types;
+ghost use Rattle.syn_ty.specs.ty.Types as parts;
+ghost use Rattle.token_core.specs.Reads.{Reads, Follows, Gives, Fails, Parses, ◌>>=◌};
+ghost use Rattle.token_core.specs.Tokens as token;
+
+use crate::generics::{GenericParamOf, TypeParamBoundOf};
+use crate::grammar::{Grammar, Points};
+use crate::knot::Knot;
+use crate::path::{
+    AngleBracketedGenericArgumentsOf, AssocConstOf, AssocTypeOf, ConstraintOf, GenericArgumentOf,
+    ParenthesizedGenericArgumentsOf, PathArgumentsOf,
+};
+use crate::ty::{NamedArgOf, ReturnTypeOf, TypeOf, TypePathOf};
+use std::alloc::Global;
+use std::marker::PhantomData;
+use syn_forms::inputs::Make;
+use syn_forms::lists::End;
+use syn_forms::paths::{last_arguments, with_last_arguments};
+use syn_forms::places::{BoundPlace, ParamPlace, TypePlace};
+use syn_forms::tokens::{
+    parse_any_lifetime, parse_colon, parse_eq, parse_path_sep, parse_plus,
+};
+use syn_path::path::{PathOf, PathSegmentOf, PathStyle, QSelfOf, ReadArguments};
+use syn_path::supplied::{Attributes, Value};
+use token_core::token::{Brace, Colon, Comma, Eq, Gt, Paren, PathSep, Plus, RArrow};
+use token_core::{
+    Boxed, Error, Ident, Items, Lifetime, Lit, Parse, ParseStream, Punctuated,
+};
+
+// ---- tests
+
+/// Whether a literal or braces are at the front: what a const argument begins with.
+#[tactic(auto, unfolding(crate::specs::path::Reading::sees_const))]
+fn peek_const(input: &ParseStream<'_>) -> bool
+    ensures { result ≡ reading.sees_const input.now.rest }
+{
+    input.peek::<Lit>() | input.peek::<Brace>()
+}
+
+/// Whether a lifetime is at the front that no `+` follows: with one it begins a trait object.
+#[tactic(auto, unfolding(crate::specs::path::Reading::sees_lone_lifetime))]
+fn peek_lone_lifetime(input: &ParseStream<'_>) -> bool
+    ensures { result ≡ reading.sees_lone_lifetime input.now.rest }
+{
+    input.peek::<Lifetime>() & !input.peek2::<Plus>()
+}
+
+/// Whether parentheses are at the front, or `::` and parentheses.
+#[tactic(auto, unfolding(crate::specs::path::Reading::sees_signature))]
+fn peek_signature(input: &ParseStream<'_>) -> bool
+    ensures { result ≡ reading.sees_signature input.now.rest }
+{
+    input.peek::<Paren>() | (input.peek::<PathSep>() & input.peek3::<Paren>())
+}
+
+/// The bounds of an associated type: they end before `,` and `>`, and a `+` may stand there.
+#[derive(Clone, Copy)]
+pub struct ToConstraintEnd;
+
+impl End<Plus> for ToConstraintEnd {
+    ghost stops = { λ end first. reading.ends_constraint };
+
+    ghost more = { λ end. token.sees_plus };
+
+    ghost joint = { λ end. token.plus };
+
+    #[tactic(auto, unfolding(crate::specs::path::Reading::ends_constraint))]
+    fn is_over(self, input: &ParseStream<'_>, first: bool) -> bool {
+        input.peek::<Comma>() | input.peek::<Gt>()
+    }
+
+    fn goes_on(self, input: &ParseStream<'_>) -> bool {
+        input.peek::<Plus>()
+    }
+
+    fn parse_joint(self, alloc: Global, input: &mut ParseStream<'_>) -> Result<Plus, Error> {
+        parse_plus(alloc, input)
+    }
+}
+
+// ---- questions about trees that were read
+
+/// Whether arguments may follow the name of an associated item: none or some in angle brackets, but none in parentheses.
+fn may_follow_item<A, E>(arguments: &PathArgumentsOf<A, E>) -> bool
+    ensures { result ≡ is_some (reading.generics_layer (out-PathArgumentsOf A E arguments.now)) }
+{
+    match arguments {
+        PathArgumentsOf::None => true,
+        PathArgumentsOf::AngleBracketed(_) => true,
+        PathArgumentsOf::Parenthesized(_) => false,
+    }
+}
+
+/// Whether a path is the name of an associated item, with its arguments: one segment, without leading colon or a type
+/// before it.
+#[tactic(auto, using(crate::proofs::path_laws::Items::items))]
+fn path_names_item<A: Attributes, E: Value>(ty: &TypePathOf<A, E>) -> bool
+    ensures { result ≡ is_some (reading.item_of_path_layer (out-TypePathOf A E ty.now)) }
+{
+    if ty.qself.is_some() {
+        return false;
+    }
+    match ty.path.lone_segment() {
+        Some(segment) => may_follow_item(&segment.arguments),
+        None => false,
+    }
+}
+
+/// Whether a type is the name of an associated item, with its arguments: what may stand before `=` and `:`.
+pub fn names_item<A: Attributes, E: Value>(ty: &TypeOf<A, E>) -> bool
+    ensures { result ≡ is_some (reading.item_of ty.now) }
+{
+    match ty {
+        TypeOf::Path(path) => path_names_item(path),
+        TypeOf::Array(_)
+        | TypeOf::FnPtr(_)
+        | TypeOf::Group(_)
+        | TypeOf::ImplTrait(_)
+        | TypeOf::Infer(_)
+        | TypeOf::Macro(_)
+        | TypeOf::Never(_)
+        | TypeOf::Paren(_)
+        | TypeOf::Ptr(_)
+        | TypeOf::Reference(_)
+        | TypeOf::Slice(_)
+        | TypeOf::TraitObject(_)
+        | TypeOf::Tuple(_)
+        | TypeOf::Verbatim(_) => false,
+    }
+}
+
+/// Whether a signature may follow a path: its last segment has no arguments, or none between its angle brackets.
+pub fn takes_signature<A: Attributes, E: Value>(path: &PathOf<PathArgumentsOf<A, E>>) -> bool
+    ensures { result ≡ reading.takes_signature path.now }
+{
+    match last_arguments(path) {
+        Some(arguments) => arguments.is_empty(),
+        None => true,
+    }
+}
+
+// ---- trees that were read are taken apart
+
+/// The name of an associated item, and its arguments.
+type Item<A, E> = (
+    Ident,
+    Option<AngleBracketedGenericArgumentsOf<GenericArgumentOf<A, E>>>,
+);
+
+/// The arguments after the name of an associated item.
+fn into_generics<A, E>(
+    arguments: PathArgumentsOf<A, E>,
+) -> Option<Option<AngleBracketedGenericArgumentsOf<GenericArgumentOf<A, E>>>>
+    ensures { result ≡ reading.generics_layer (out-PathArgumentsOf A E arguments) }
+{
+    match arguments {
+        PathArgumentsOf::None => Some(None),
+        PathArgumentsOf::AngleBracketed(arguments) => Some(Some(arguments)),
+        PathArgumentsOf::Parenthesized(_) => None,
+    }
+}
+
+/// The name that a segment is, and its arguments.
+fn segment_into_item<A, E>(segment: PathSegmentOf<PathArgumentsOf<A, E>>) -> Option<Item<A, E>>
+    ensures { result ≡ reading.with_name segment.ident (reading.generics_layer (out-PathArgumentsOf A E segment.arguments)) }
+{
+    let PathSegmentOf { ident, arguments } = segment;
+    match into_generics(arguments) {
+        Some(generics) => Some((ident, generics)),
+        None => None,
+    }
+}
+
+/// The name of an associated item that a path is, and its arguments.
+#[tactic(auto, using(crate::proofs::path_laws::Items::items))]
+fn path_into_item<A: Attributes, E: Value>(ty: TypePathOf<A, E>) -> Option<Item<A, E>>
+    ensures { result ≡ reading.item_of_path_layer (out-TypePathOf A E ty) }
+{
+    let TypePathOf {
+        attrs: _,
+        qself,
+        path,
+    } = ty;
+    if qself.is_some() {
+        return None;
+    }
+    match path.into_lone_segment() {
+        Some(segment) => segment_into_item(segment),
+        None => None,
+    }
+}
+
+/// The name of an associated item that a type is, and its arguments.
+fn into_item<A: Attributes, E: Value>(ty: TypeOf<A, E>) -> Option<Item<A, E>>
+    ensures { result ≡ reading.item_of ty }
+{
+    match ty {
+        TypeOf::Path(path) => path_into_item(path),
+        TypeOf::Array(_)
+        | TypeOf::FnPtr(_)
+        | TypeOf::Group(_)
+        | TypeOf::ImplTrait(_)
+        | TypeOf::Infer(_)
+        | TypeOf::Macro(_)
+        | TypeOf::Never(_)
+        | TypeOf::Paren(_)
+        | TypeOf::Ptr(_)
+        | TypeOf::Reference(_)
+        | TypeOf::Slice(_)
+        | TypeOf::TraitObject(_)
+        | TypeOf::Tuple(_)
+        | TypeOf::Verbatim(_) => None,
+    }
+}
+
+// ---- trees by their parts
+
+/// An argument without attributes and a name, by its type.
+#[derive(Clone, Copy)]
+pub struct UnnamedArg;
+
+impl<A, E> Make<TypeOf<A, E>, NamedArgOf<TypeOf<A, E>, A>> for UnnamedArg {
+    ghost make = { λ make ty. parts.named_arg_of [] None ty };
+
+    fn make(self, alloc: Global, ty: TypeOf<A, E>) -> NamedArgOf<TypeOf<A, E>, A> {
+        NamedArgOf {
+            attrs: Items::new(alloc),
+            name: None,
+            ty,
+        }
+    }
+}
+
+/// What is returned, by its parts.
+pub fn return_of<T>(returned: Option<(RArrow, Boxed<T>)>) -> ReturnTypeOf<T>
+    ensures { result ≡ reading.return_of returned }
+{
+    match returned {
+        Some((arrow, ty)) => ReturnTypeOf::Type(arrow, ty),
+        None => ReturnTypeOf::Default,
+    }
+}
+
+/// The type of a path that another type may qualify, without attributes.
+pub fn bare_path_type<A, E>(
+    alloc: Global,
+    qself: Option<QSelfOf<TypeOf<A, E>>>,
+    path: PathOf<PathArgumentsOf<A, E>>,
+) -> TypePathOf<A, E>
+    ensures { result ≡ parts.qualified_with [] qself path }
+{
+    TypePathOf {
+        attrs: Items::new(alloc),
+        qself,
+        path,
+    }
+}
+
+/// `Item = T`
+fn assoc_type<A, E>(item: Item<A, E>, eq_token: Eq, ty: TypeOf<A, E>) -> GenericArgumentOf<A, E>
+    ensures { result ≡ arguments.AssocType (spec.assoc_type_of item.0 item.1 eq_token ty) }
+{
+    let (ident, generics) = item;
+    GenericArgumentOf::AssocType(AssocTypeOf {
+        ident,
+        generics,
+        eq_token,
+        ty,
+    })
+}
+
+/// `N = 1`
+fn assoc_const<A, E>(item: Item<A, E>, eq_token: Eq, value: E) -> GenericArgumentOf<A, E>
+    ensures { result ≡ arguments.AssocConst (spec.assoc_const_of item.0 item.1 eq_token value) }
+{
+    let (ident, generics) = item;
+    GenericArgumentOf::AssocConst(AssocConstOf {
+        ident,
+        generics,
+        eq_token,
+        value,
+    })
+}
+
+/// `Item: A + B`
+fn constraint_of<A, E>(
+    item: Item<A, E>,
+    colon_token: Colon,
+    bounds: Punctuated<TypeParamBoundOf<A, E>, Plus>,
+) -> GenericArgumentOf<A, E>
+    ensures { result ≡ arguments.Constraint (spec.constraint_of item.0 item.1 colon_token bounds) }
+{
+    let (ident, generics) = item;
+    GenericArgumentOf::Constraint(ConstraintOf {
+        ident,
+        generics,
+        colon_token,
+        bounds,
+    })
+}
+
+impl<
+    'a,
+    A: Attributes,
+    E: Value,
+    F: Fn(Global, PhantomData<TypeOf<A, E>>, &mut ParseStream<'_>, TypePlace) -> Result<TypeOf<A, E>, Error> + Copy,
+    G: Fn(Global, PhantomData<TypeParamBoundOf<A, E>>, &mut ParseStream<'_>, BoundPlace) -> Result<TypeParamBoundOf<A, E>, Error> + Copy,
+    H: Fn(Global, PhantomData<GenericParamOf<A, E>>, &mut ParseStream<'_>, ParamPlace) -> Result<GenericParamOf<A, E>, Error> + Copy,
+    I: Fn(Global, PhantomData<GenericArgumentOf<A, E>>, &mut ParseStream<'_>, ()) -> Result<GenericArgumentOf<A, E>, Error> + Copy,
+    J: Fn(Global, PhantomData<PathArgumentsOf<A, E>>, &mut ParseStream<'_>, ()) -> Result<PathArgumentsOf<A, E>, Error> + Copy,
+> Grammar<'a, A, E, F, G, H, I, J> {
+    // ---- arguments in angle brackets
+
+    /// Arguments in angle brackets, after a `::` that may have been there: `<'a, T>`.
+    #[tactic(auto, using(token_core::proofs::Suffixes::follows, syn_forms::proofs::nested_laws::Ahead::later))]
+    fn arguments_after(
+        &self,
+        input: &mut ParseStream<'_>,
+        colon2_token: Option<PathSep>,
+    ) -> Result<AngleBracketedGenericArgumentsOf<GenericArgumentOf<A, E>>, Error>
+        requires args { Nests (knot.argument_in A.reads E.reads) (length self.now.begin) (I.pre self.now.args) (I.post self.now.args) }
+        requires few { ahead input.old ≤ length self.now.begin }
+        ensures parses { Parses (reading.arguments_after (knot.reads_below A.reads E.reads (length self.now.begin)) colon2_token) result input.old input.new }
+        ensures fewer { ahead input.new ≤ ahead input.old }
+    {
+        let (lt_token, args, gt_token) = self.args().angled(input, ())?;
+        Ok(AngleBracketedGenericArgumentsOf {
+            colon2_token,
+            lt_token,
+            args,
+            gt_token,
+        })
+    }
+
+    /// Arguments in angle brackets, with a `::` before them or without: `::<'a, T>`.
+    #[tactic(auto, using(token_core::proofs::Suffixes::follows, syn_forms::proofs::nested_laws::Ahead::later), unfolding(crate::specs::path::Reading::angle_bracketed))]
+    pub fn angle_bracketed(
+        &self,
+        input: &mut ParseStream<'_>,
+    ) -> Result<AngleBracketedGenericArgumentsOf<GenericArgumentOf<A, E>>, Error>
+        requires args { Nests (knot.argument_in A.reads E.reads) (length self.now.begin) (I.pre self.now.args) (I.post self.now.args) }
+        requires few { ahead input.old ≤ length self.now.begin }
+        ensures parses { Parses (reading.angle_bracketed (knot.reads_below A.reads E.reads (length self.now.begin))) result input.old input.new }
+        ensures fewer { ahead input.new ≤ ahead input.old }
+    {
+        let colon2_token = input.parse_option::<PathSep>(self.alloc)?;
+        self.arguments_after(input, colon2_token)
+    }
+
+    /// Arguments in angle brackets, after a `::`.
+    #[tactic(auto, using(token_core::proofs::Suffixes::follows, syn_forms::proofs::nested_laws::Ahead::later), unfolding(crate::specs::path::Reading::turbofish))]
+    pub fn turbofish(
+        &self,
+        input: &mut ParseStream<'_>,
+    ) -> Result<AngleBracketedGenericArgumentsOf<GenericArgumentOf<A, E>>, Error>
+        requires args { Nests (knot.argument_in A.reads E.reads) (length self.now.begin) (I.pre self.now.args) (I.post self.now.args) }
+        requires few { ahead input.old ≤ length self.now.begin }
+        ensures parses { Parses (reading.turbofish (knot.reads_below A.reads E.reads (length self.now.begin))) result input.old input.new }
+        ensures fewer { ahead input.new ≤ ahead input.old }
+    {
+        let sep = input.parse::<PathSep>(self.alloc)?;
+        self.arguments_after(input, Some(sep))
+    }
+
+    /// One turn: the arguments of a segment, in angle brackets.
+    #[tactic(auto, using(token_core::proofs::Suffixes::follows), unfolding(crate::specs::path::Reading::arguments_step))]
+    pub fn arguments_step(
+        &self,
+        input: &mut ParseStream<'_>,
+    ) -> Result<PathArgumentsOf<A, E>, Error>
+        requires args { Nests (knot.argument_in A.reads E.reads) (length self.now.begin) (I.pre self.now.args) (I.post self.now.args) }
+        requires few { ahead input.old ≤ length self.now.begin }
+        ensures parses { Parses (reading.arguments_step (knot.reads_below A.reads E.reads (length self.now.begin))) result input.old input.new }
+    {
+        Ok(PathArgumentsOf::AngleBracketed(self.angle_bracketed(input)?))
+    }
+
+    // ---- paths
+
+    /// A segment of a path, in this style.
+    #[tactic(auto, using(token_core::proofs::Suffixes::follows, syn_forms::proofs::nested_laws::Ahead::later))]
+    pub fn segment(
+        &self,
+        input: &mut ParseStream<'_>,
+        style: PathStyle,
+    ) -> Result<PathSegmentOf<PathArgumentsOf<A, E>>, Error>
+        requires segments { Nests (knot.arguments_in A.reads E.reads) (length self.now.begin) (J.pre self.now.segments) (J.post self.now.segments) }
+        requires few { ahead input.old ≤ length self.now.begin }
+        ensures parses { Parses (reading.segment (knot.reads_below A.reads E.reads (length self.now.begin)) style) result input.old input.new }
+        ensures fewer { ahead input.new ≤ ahead input.old }
+    {
+        self.segments().segment(input, style)
+    }
+
+    /// A path, in this style.
+    #[tactic(auto, using(token_core::proofs::Suffixes::follows, syn_forms::proofs::nested_laws::Ahead::later))]
+    pub fn path(
+        &self,
+        input: &mut ParseStream<'_>,
+        style: PathStyle,
+    ) -> Result<PathOf<PathArgumentsOf<A, E>>, Error>
+        requires segments { Nests (knot.arguments_in A.reads E.reads) (length self.now.begin) (J.pre self.now.segments) (J.post self.now.segments) }
+        requires few { ahead input.old ≤ length self.now.begin }
+        ensures parses { Parses (reading.path (knot.reads_below A.reads E.reads (length self.now.begin)) style) result input.old input.new }
+        ensures fewer { ahead input.new ≤ ahead input.old }
+    {
+        self.segments().path(input, style)
+    }
+
+    /// What goes on with the path of a type: `::` and further segments.
+    #[tactic(auto, using(token_core::proofs::Suffixes::follows, syn_forms::proofs::nested_laws::Ahead::later))]
+    pub fn rest(
+        &self,
+        input: &mut ParseStream<'_>,
+        path: PathOf<PathArgumentsOf<A, E>>,
+    ) -> Result<PathOf<PathArgumentsOf<A, E>>, Error>
+        requires segments { Nests (knot.arguments_in A.reads E.reads) (length self.now.begin) (J.pre self.now.segments) (J.post self.now.segments) }
+        requires few { ahead input.old ≤ length self.now.begin }
+        ensures parses { Parses (reading.rest (knot.reads_below A.reads E.reads (length self.now.begin)) path) result input.old input.new }
+        ensures fewer { ahead input.new ≤ ahead input.old }
+    {
+        self.segments().rest(input, PathStyle::AsWritten, path)
+    }
+
+    /// A path, in this style, that a type in `<..>` may qualify.
+    #[tactic(auto, using(token_core::proofs::Suffixes::follows, syn_forms::proofs::nested_laws::Ahead::later))]
+    pub fn maybe_qualified(
+        &self,
+        input: &mut ParseStream<'_>,
+        style: PathStyle,
+    ) -> Result<(Option<QSelfOf<TypeOf<A, E>>>, PathOf<PathArgumentsOf<A, E>>), Error>
+        requires types { Nests (knot.ty A.reads E.reads) (length self.now.begin) (F.pre self.now.types) (F.post self.now.types) }
+        requires segments { Nests (knot.arguments_in A.reads E.reads) (length self.now.begin) (J.pre self.now.segments) (J.post self.now.segments) }
+        requires few { ahead input.old ≤ length self.now.begin }
+        ensures parses { Parses (reading.maybe_qualified (knot.reads_below A.reads E.reads (length self.now.begin)) style) result input.old input.new }
+        ensures fewer { ahead input.new ≤ ahead input.old }
+    {
+        self.segments()
+            .maybe_qualified(&self.types(), input, TypePlace::Plus, style)
+    }
+
+    /// The type of a path, which a type in `<..>` may qualify.
+    #[tactic(auto, using(token_core::proofs::Suffixes::follows, syn_forms::proofs::nested_laws::Ahead::later), unfolding(crate::specs::path::Reading::path_type))]
+    pub fn path_type(&self, input: &mut ParseStream<'_>) -> Result<TypePathOf<A, E>, Error>
+        requires types { Nests (knot.ty A.reads E.reads) (length self.now.begin) (F.pre self.now.types) (F.post self.now.types) }
+        requires segments { Nests (knot.arguments_in A.reads E.reads) (length self.now.begin) (J.pre self.now.segments) (J.post self.now.segments) }
+        requires few { ahead input.old ≤ length self.now.begin }
+        ensures parses { Parses (reading.path_type (knot.reads_below A.reads E.reads (length self.now.begin))) result input.old input.new }
+        ensures fewer { ahead input.new ≤ ahead input.old }
+    {
+        let (qself, path) = self.maybe_qualified(input, PathStyle::AsWritten)?;
+        Ok(bare_path_type(self.alloc, qself, path))
+    }
+
+    // ---- signatures of traits
+
+    /// Arguments in parentheses and their output: `(A, B) -> C`. The output is read without plus.
+    #[tactic(auto, using(token_core::proofs::Suffixes::follows, syn_forms::proofs::nested_laws::Ahead::later), unfolding(crate::specs::path::Reading::parenthesized))]
+    pub fn parenthesized(
+        &self,
+        input: &mut ParseStream<'_>,
+    ) -> Result<ParenthesizedGenericArgumentsOf<TypeOf<A, E>, A>, Error>
+        requires types { Nests (knot.ty A.reads E.reads) (length self.now.begin) (F.pre self.now.types) (F.post self.now.types) }
+        requires few { ahead input.old ≤ length self.now.begin }
+        ensures parses { Parses (reading.parenthesized (knot.reads_below A.reads E.reads (length self.now.begin))) result input.old input.new }
+        ensures fewer { ahead input.new ≤ ahead input.old }
+    {
+        let (paren_token, inputs, returned) =
+            self.types()
+                .signature(input, TypePlace::Plus, TypePlace::NoPlus, UnnamedArg)?;
+        Ok(ParenthesizedGenericArgumentsOf {
+            paren_token,
+            inputs,
+            output: return_of(returned),
+        })
+    }
+
+    /// The path of a trait with the signature that may follow it: `Fn(A) -> B`, `Fn::(A) -> B`. The signature takes the place
+    /// of an empty `<>`, and the `::` before it is not kept.
+    #[tactic(auto, using(token_core::proofs::Suffixes::follows, syn_forms::proofs::nested_laws::Ahead::later), unfolding(crate::specs::path::Reading::signed))]
+    pub fn signed(
+        &self,
+        input: &mut ParseStream<'_>,
+        path: PathOf<PathArgumentsOf<A, E>>,
+    ) -> Result<PathOf<PathArgumentsOf<A, E>>, Error>
+        requires types { Nests (knot.ty A.reads E.reads) (length self.now.begin) (F.pre self.now.types) (F.post self.now.types) }
+        requires few { ahead input.old ≤ length self.now.begin }
+        ensures parses { Parses (reading.signed (knot.reads_below A.reads E.reads (length self.now.begin)) path) result input.old input.new }
+        ensures fewer { ahead input.new ≤ ahead input.old }
+    {
+        // both tested, so that the answer is one value
+        if !(takes_signature(&path) & peek_signature(input)) {
+            return Ok(path);
+        }
+        input.parse_option::<PathSep>(self.alloc)?;
+        let signature = self.parenthesized(input)?;
+        Ok(with_last_arguments(path, PathArgumentsOf::Parenthesized(signature))?)
+    }
+
+    // ---- an argument in angle brackets
+
+    /// What an associated item is: `Item = T`, `N = 1`. A literal or braces after `=` are a constant.
+    #[tactic(auto, using(token_core::proofs::Suffixes::follows))]
+    fn assoc(
+        &self,
+        input: &mut ParseStream<'_>,
+        item: Item<A, E>,
+    ) -> Result<GenericArgumentOf<A, E>, Error>
+        requires types { Nests (knot.ty A.reads E.reads) (length self.now.begin) (F.pre self.now.types) (F.post self.now.types) }
+        requires few { ahead input.old ≤ length self.now.begin }
+        ensures parses { Parses (token.equals >>= reading.assoc E.reads (knot.reads_below A.reads E.reads (length self.now.begin)) item.0 item.1) result input.old input.new }
+    {
+        let eq_token = parse_eq(self.alloc, input)?;
+        if peek_const(input) {
+            let value = E::read_const_argument(self.alloc, input)?;
+            return Ok(assoc_const(item, eq_token, value));
+        }
+        let ty = self.types().value(input, TypePlace::Plus)?;
+        Ok(assoc_type(item, eq_token, ty))
+    }
+
+    /// The bounds of an associated type: `Item: A + B`. There may be none.
+    #[tactic(auto, using(token_core::proofs::Suffixes::follows))]
+    fn constraint(
+        &self,
+        input: &mut ParseStream<'_>,
+        item: Item<A, E>,
+    ) -> Result<GenericArgumentOf<A, E>, Error>
+        requires bounds { Nests (knot.bound A.reads E.reads) (length self.now.begin) (G.pre self.now.bounds) (G.post self.now.bounds) }
+        requires few { ahead input.old ≤ length self.now.begin }
+        ensures parses { Parses (token.colon >>= reading.constraint E.reads (knot.reads_below A.reads E.reads (length self.now.begin)) item.0 item.1) result input.old input.new }
+    {
+        let colon_token = parse_colon(self.alloc, input)?;
+        let bounds = self
+            .bounds()
+            .list(input, BoundPlace::Parameter, ToConstraintEnd)?;
+        Ok(constraint_of(item, colon_token, bounds))
+    }
+
+    /// What begins with a type that was read: the type itself, or what is said of the associated item that it names.
+    #[tactic(auto, using(token_core::proofs::Suffixes::follows, crate::proofs::path_laws::Items::nameless), unfolding(crate::specs::path::Reading::after_item))]
+    fn after_type(
+        &self,
+        input: &mut ParseStream<'_>,
+        ty: TypeOf<A, E>,
+    ) -> Result<GenericArgumentOf<A, E>, Error>
+        requires types { Nests (knot.ty A.reads E.reads) (length self.now.begin) (F.pre self.now.types) (F.post self.now.types) }
+        requires bounds { Nests (knot.bound A.reads E.reads) (length self.now.begin) (G.pre self.now.bounds) (G.post self.now.bounds) }
+        requires few { ahead input.old ≤ length self.now.begin }
+        ensures parses { Parses (reading.after_type E.reads (knot.reads_below A.reads E.reads (length self.now.begin)) ty (reading.item_of ty)) result input.old input.new }
+    {
+        if !names_item(&ty) {
+            return Ok(GenericArgumentOf::Type(ty));
+        }
+        if input.peek::<Eq>() {
+            return match into_item(ty) {
+                Some(item) => self.assoc(input, item),
+                None => unreachable!(),
+            };
+        }
+        if input.peek::<Colon>() {
+            return match into_item(ty) {
+                Some(item) => self.constraint(input, item),
+                None => unreachable!(),
+            };
+        }
+        Ok(GenericArgumentOf::Type(ty))
+    }
+
+    /// One turn: an argument in angle brackets. It is a lifetime that no `+` follows, a constant where a literal or braces
+    /// stand, or begins with a type (syn's `GenericArgument::parse`).
+    #[tactic(auto, using(token_core::proofs::Suffixes::follows, syn_forms::proofs::nested_laws::Ahead::later), unfolding(crate::specs::path::Reading::argument_step))]
+    pub fn argument_step(
+        &self,
+        input: &mut ParseStream<'_>,
+    ) -> Result<GenericArgumentOf<A, E>, Error>
+        requires types { Nests (knot.ty A.reads E.reads) (length self.now.begin) (F.pre self.now.types) (F.post self.now.types) }
+        requires bounds { Nests (knot.bound A.reads E.reads) (length self.now.begin) (G.pre self.now.bounds) (G.post self.now.bounds) }
+        requires params { Nests (knot.param A.reads E.reads) (length self.now.begin) (H.pre self.now.params) (H.post self.now.params) }
+        requires args { Nests (knot.argument_in A.reads E.reads) (length self.now.begin) (I.pre self.now.args) (I.post self.now.args) }
+        requires segments { Nests (knot.arguments_in A.reads E.reads) (length self.now.begin) (J.pre self.now.segments) (J.post self.now.segments) }
+        requires few { ahead input.old ≤ length self.now.begin }
+        ensures parses { Parses (reading.argument_step E.reads (knot.reads_below A.reads E.reads (length self.now.begin)) (types.type_step A.reads E.reads (knot.reads_below A.reads E.reads (length self.now.begin)) places.Plus)) result input.old input.new }
+    {
+        if peek_lone_lifetime(input) {
+            let lifetime = parse_any_lifetime(self.alloc, input)?;
+            return Ok(GenericArgumentOf::Lifetime(lifetime));
+        }
+        if peek_const(input) {
+            let value = E::read_const_argument(self.alloc, input)?;
+            return Ok(GenericArgumentOf::Const(value));
+        }
+        let ty = self.type_step(input, TypePlace::Plus)?;
+        self.after_type(input, ty)
+    }
+}
