@@ -103,7 +103,7 @@ fn parse_name(alloc: Global, input: &mut ParseStream<'_>) -> Result<(Ident, Colo
 
 /// A name that may be there.
 #[tactic(auto, using(token_core::proofs::Suffixes::follows, crate::proofs::nested_laws::Ahead::later))]
-fn parse_optional_name(
+pub fn parse_optional_name(
     alloc: Global,
     input: &mut ParseStream<'_>,
     own: bool,

@@ -8,10 +8,11 @@ ghost use Rattle.token_core.specs.Reads.{Parses};
 
 use crate::generics::{GenericParamOf, TypeParamBoundOf};
 use crate::grammar::Grammar;
+use crate::path::read::return_of;
 use crate::path::{GenericArgumentOf, PathArgumentsOf};
 use crate::ty::read::parts::{
     bare_array, bare_group, bare_paren, bare_ptr, bare_reference, bare_slice, bare_tuple,
-    of_brackets, return_of,
+    of_brackets,
 };
 use crate::ty::{
     ReturnTypeOf, TypeArrayOf, TypeGroupOf, TypeOf, TypeParenOf, TypePtrOf, TypeReferenceOf,

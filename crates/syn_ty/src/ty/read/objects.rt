@@ -15,11 +15,11 @@ ghost use Rattle.token_core.specs.Positions.{IsReached};
 ghost use Rattle.token_core.specs.Reads.{Reads, ◌<$>◌};
 
 use crate::generics::{GenericParamOf, TraitBoundOf, TypeParamBoundOf};
+use crate::generics::read::held_bound;
 use crate::grammar::Grammar;
 use crate::path::{GenericArgumentOf, PathArgumentsOf};
 use crate::ty::read::parts::{
-    any_trait, bare_impl_trait, bare_paren, bare_trait_object, bare_tuple, first_bound, held_bound,
-    object_of,
+    any_trait, bare_impl_trait, bare_paren, bare_trait_object, bare_tuple, first_bound, object_of,
 };
 use crate::ty::read::tokens::plus_follows;
 use crate::ty::{TypeImplTraitOf, TypeOf, TypeTraitObjectOf};

@@ -6,20 +6,16 @@ ghost use Rattle.syn_forms.specs.verbatim.Reading.{join};
 ghost use Rattle.syn_ty.specs.declared.generics.TypeParamBoundOf.{out-TypeParamBoundOf};
 ghost use Rattle.syn_ty.specs.declared.ty.TypeOf.TheVariants as variants;
 ghost use Rattle.syn_ty.specs.declared.ty.TypePathOf.{out-TypePathOf};
-ghost use Rattle.syn_ty.specs.generics.Params as bounds;
-ghost use Rattle.syn_ty.specs.path.Reading as paths;
 ghost use Rattle.syn_ty.specs.ty.Reading as reading;
 ghost use Rattle.syn_ty.specs.ty.Types as types;
 ghost use Rattle.token_core.specs.declared.token.Paren as token;
 
-use crate::generics::{
-    BoundLifetimesOf, GenericParamOf, TraitBoundModifiers, TraitBoundOf, TypeParamBoundOf,
-};
+use crate::generics::TypeParamBoundOf;
+use crate::generics::read::{held_bound, named_bound};
 use crate::path::PathArgumentsOf;
 use crate::ty::{
-    FnPtrVariadicOf, NamedArgOf, ReturnTypeOf, TypeArrayOf, TypeGroupOf, TypeImplTraitOf, TypeOf,
-    TypeParenOf, TypePathOf, TypePtrOf, TypeReferenceOf, TypeSliceOf, TypeTraitObjectOf,
-    TypeTupleOf,
+    FnPtrVariadicOf, NamedArgOf, TypeArrayOf, TypeGroupOf, TypeImplTraitOf, TypeOf, TypeParenOf,
+    TypePathOf, TypePtrOf, TypeReferenceOf, TypeSliceOf, TypeTraitObjectOf, TypeTupleOf,
 };
 use std::alloc::{AllocError, Global};
 use syn_forms::groups::InBrackets;
@@ -29,8 +25,7 @@ use syn_forms::tokens::PointerMutability;
 use syn_path::path::{PathOf, QSelfOf};
 use syn_path::supplied::{Attributes, Value};
 use token_core::token::{
-    And, Bracket, Colon, Comma, Dyn, Gt, GroupToken, Impl, Lt, Mut, Paren, Plus, Question, RArrow,
-    Semi, Star,
+    And, Bracket, Colon, Comma, Dyn, Gt, GroupToken, Impl, Lt, Mut, Paren, Plus, Semi, Star,
 };
 use token_core::{Boxed, Ident, Items, Lifetime, Punctuated, TokenStream};
 
@@ -168,21 +163,6 @@ pub(crate) fn object_of<A, E>(
     TypeOf::TraitObject(bare_trait_object(alloc, None, bounds))
 }
 
-/// The type of a path, which a type may qualify.
-pub(crate) fn bare_path<A, E>(
-    alloc: Global,
-    qself: Option<QSelfOf<TypeOf<A, E>>>,
-    path: PathOf<PathArgumentsOf<A, E>>,
-) -> TypePathOf<A, E>
-    ensures { result ≡ types.qualified_with [] qself path }
-{
-    TypePathOf {
-        attrs: Items::new(alloc),
-        qself,
-        path,
-    }
-}
-
 /// The type of what brackets held.
 pub(crate) fn of_brackets<A, E>(
     alloc: Global,
@@ -196,16 +176,6 @@ pub(crate) fn of_brackets<A, E>(
         InBrackets::Counted(elem, length) => {
             TypeOf::Array(bare_array(alloc, (bracket_token, elem, length)))
         }
-    }
-}
-
-/// What a function returns, by what stands after its arguments.
-pub(crate) fn return_of<T>(parts: Option<(RArrow, Boxed<T>)>) -> ReturnTypeOf<T>
-    ensures { result ≡ paths.return_of parts }
-{
-    match parts {
-        Some((r_arrow_token, ty)) => ReturnTypeOf::Type(r_arrow_token, ty),
-        None => ReturnTypeOf::Default,
     }
 }
 
@@ -249,36 +219,6 @@ impl<A, E> Verbatim<TypeOf<A, E>> for TypeTokens {
 }
 
 // ---- bounds
-
-/// A trait by its path, without parentheses.
-pub(crate) fn named_bound<A, E>(
-    lifetimes: Option<BoundLifetimesOf<GenericParamOf<A, E>>>,
-    maybe: Option<Question>,
-    path: PathOf<PathArgumentsOf<A, E>>,
-) -> TraitBoundOf<A, E>
-    ensures { result ≡ bounds.named_bound lifetimes maybe path }
-{
-    TraitBoundOf {
-        paren_token: None,
-        lifetimes,
-        modifiers: TraitBoundModifiers {},
-        maybe,
-        path,
-    }
-}
-
-/// A trait bound in parentheses.
-pub(crate) fn held_bound<A, E>(
-    paren_token: Paren,
-    bound: TraitBoundOf<A, E>,
-) -> TraitBoundOf<A, E>
-    ensures { result ≡ bounds.held_bound paren_token bound }
-{
-    TraitBoundOf {
-        paren_token: Some(paren_token),
-        ..bound
-    }
-}
 
 /// Whether a bound names a trait; tokens that are held as they were written do where `consts` says so.
 #[tactic(auto, using(crate::proofs::ty_laws::Kinds::bound_kinds))]

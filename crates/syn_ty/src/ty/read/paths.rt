@@ -19,11 +19,12 @@ ghost use Rattle.syn_ty.specs.ty.Types as types;
 ghost use Rattle.token_core.specs.Reads.{pure, ◌<$>◌, ◌>>=◌};
 
 use crate::generics::{BoundLifetimesOf, GenericParamOf, TypeParamBoundOf};
+use crate::generics::read::named_bound;
 use crate::grammar::Grammar;
-use crate::path::read::is_mod_style;
+use crate::path::read::bare_path_type;
 use crate::path::{GenericArgumentOf, PathArgumentsOf};
 use crate::ty::read::parts::{
-    as_path, bare_group, bare_path, has_arguments, named_bound, object_of, qself_in,
+    as_path, bare_group, has_arguments, object_of, qself_in,
 };
 use crate::ty::read::tokens::{
     plus_follows, sees_call, sees_further_arguments, sees_further_segment,
@@ -104,13 +105,13 @@ impl<
         ensures parses { Parses (reading.after_path (knot.reads_below A.reads E.reads (length self.now.begin)) plus lifetimes path) result input.old input.new }
         ensures fewer { ahead input.new ≤ ahead input.old }
     {
-        if sees_call(input) & is_mod_style(&path) {
+        if sees_call(input) & path.is_mod_style() {
             return self.call_after(input, &path);
         }
         if lifetimes.is_some() | plus_follows(input, plus) {
             return self.object_after(input, plus, lifetimes, path);
         }
-        Ok(TypeOf::Path(bare_path(self.alloc, None, path)))
+        Ok(TypeOf::Path(bare_path_type(self.alloc, None, path)))
     }
 
     /// After a path: one that a type qualifies is the type.
@@ -129,7 +130,7 @@ impl<
     {
         let (qself, path) = parts;
         match qself {
-            Some(qself) => Ok(TypeOf::Path(bare_path(self.alloc, Some(qself), path))),
+            Some(qself) => Ok(TypeOf::Path(bare_path_type(self.alloc, Some(qself), path))),
             None => self.after_path(input, plus, lifetimes, path),
         }
     }
@@ -158,7 +159,7 @@ impl<
             Err(ty) => {
                 let qself = qself_in(self.alloc, group_token, ty)?;
                 let path = self.path(input, PathStyle::AsWritten)?;
-                Ok(TypeOf::Path(bare_path(self.alloc, Some(qself), path)))
+                Ok(TypeOf::Path(bare_path_type(self.alloc, Some(qself), path)))
             }
         }
     }
