@@ -4,15 +4,10 @@ ghost use Rattle.std.specs.Prelude.{◌<◌, ◌≤◌, length};
 ghost use Rattle.syn_forms.specs.nested.Below.{Nests, ahead};
 ghost use Rattle.syn_ty.specs.ty.Knot as knot;
 ghost use Rattle.syn_ty.specs.ty.Reading as reading;
-ghost use Rattle.token_core.specs.Reads.{Parses};
-ghost use Rattle.std.specs.List.{list_any};
-ghost use Rattle.syn_forms.specs.declared.places.BoundPlace.TheVariants.{Object};
-ghost use Rattle.syn_forms.specs.lists.Reading.{each_bound_from};
 ghost use Rattle.syn_forms.specs.verbatim.Reading as verbatim;
 ghost use Rattle.syn_ty.specs.declared.generics.TypeParamBoundOf.{out-TypeParamBoundOf};
-ghost use Rattle.syn_ty.specs.ty.Points.{a_bound};
 ghost use Rattle.token_core.specs.Positions.{IsReached};
-ghost use Rattle.token_core.specs.Reads.{Reads, ◌<$>◌};
+ghost use Rattle.token_core.specs.Reads.{Parses, Reads};
 
 use crate::generics::{GenericParamOf, TraitBoundOf, TypeParamBoundOf};
 use crate::generics::read::held_bound;
@@ -222,7 +217,7 @@ impl<
     ) -> Result<TypeOf<A, E>, Error>
         requires bounds { Nests (knot.bound A.reads E.reads) (length self.now.begin) (G.pre self.now.bounds) (G.post self.now.bounds) }
         requires few { ahead input.old ≤ length self.now.begin }
-        ensures parses { Parses (reading.object_of <$> each_bound_from ((knot.reads_below A.reads E.reads (length self.now.begin)) (a_bound Object)) first) result input.old input.new }
+        ensures parses { Parses (reading.each_object_from (knot.reads_below A.reads E.reads (length self.now.begin)) first) result input.old input.new }
         ensures fewer { ahead input.new ≤ ahead input.old }
     {
         let bounds = self.bounds().list_from(input, BoundPlace::Object, EachBound, first)?;

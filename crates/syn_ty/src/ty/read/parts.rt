@@ -264,7 +264,6 @@ fn held_in<A, E>(paren_token: Paren, bound: TypeParamBoundOf<A, E>) -> TypeParam
 // ---- a type in parentheses as the first bound of a trait object
 
 /// Of a path: an unqualified one. Another one is given back.
-#[tactic(auto, using(crate::proofs::ty_laws::Kinds::path_kinds))]
 fn unqualified<A, E>(
     paren_token: Paren,
     ty: TypePathOf<A, E>,
@@ -292,7 +291,7 @@ fn is_lone<A, E>(object: &TypeTraitObjectOf<TypeParamBoundOf<A, E>, A>) -> bool
     ensures { (paren : token.Paren) → result ≡ is_some (reading.lone_bound paren object.now.dyn_token object.now.bounds) }
 {
     let (pairs, last) = object.bounds.parts();
-    object.dyn_token.is_none() & (pairs.len() == 0) & last.is_some()
+    object.dyn_token.is_none() & ((pairs.len() == 0) & last.is_some())
 }
 
 /// Of a trait object: one without `dyn`, of one bound and without a plus. Another one is given back.

@@ -1,22 +1,10 @@
 //! Types that begin with a path or an invisible group, and what goes on after them.
 
-ghost use Rattle.std.specs.Prelude.{◌<◌, ◌≤◌, length, false, None};
+ghost use Rattle.std.specs.Prelude.{◌<◌, ◌≤◌, length};
 ghost use Rattle.syn_forms.specs.nested.Below.{Nests, ahead};
 ghost use Rattle.syn_ty.specs.ty.Knot as knot;
 ghost use Rattle.syn_ty.specs.ty.Reading as reading;
 ghost use Rattle.token_core.specs.Reads.{Parses};
-ghost use Rattle.syn_forms.specs.declared.places.BoundPlace.TheVariants.{Object};
-ghost use Rattle.syn_forms.specs.lists.Reading.{bounds_from};
-ghost use Rattle.syn_forms.specs.paths.Reading as segments;
-ghost use Rattle.syn_path.specs.mac.Reading as macs;
-ghost use Rattle.syn_ty.specs.declared.generics.TypeParamBoundOf.TheVariants as bounds;
-ghost use Rattle.syn_ty.specs.declared.ty.TypeOf.TheVariants as variants;
-ghost use Rattle.syn_ty.specs.generics.Params.{named_bound};
-ghost use Rattle.syn_ty.specs.path.Paths as paths;
-ghost use Rattle.syn_ty.specs.path.Reading.{rest};
-ghost use Rattle.syn_ty.specs.ty.Points.{a_bound, some_arguments};
-ghost use Rattle.syn_ty.specs.ty.Types as types;
-ghost use Rattle.token_core.specs.Reads.{pure, ◌<$>◌, ◌>>=◌};
 
 use crate::generics::{BoundLifetimesOf, GenericParamOf, TypeParamBoundOf};
 use crate::generics::read::named_bound;
@@ -41,6 +29,23 @@ use syn_path::supplied::{Attributes, Value};
 use token_core::token::GroupToken;
 use token_core::{Boxed, Error, Items, ParseStream};
 
+/// A macro call by a path that was read, which has no arguments.
+#[tactic(auto, using(token_core::proofs::Suffixes::follows))]
+fn macro_after<A: Attributes, E: Value>(
+    alloc: Global,
+    input: &mut ParseStream<'_>,
+    path: &PathOf<PathArgumentsOf<A, E>>,
+) -> Result<TypeOf<A, E>, Error>
+    ensures parses { Parses (reading.macro_after path.now) result input.old input.new }
+{
+    let path = without_arguments(alloc, path)?;
+    let mac = parse_call_after(alloc, input, path)?;
+    Ok(TypeOf::Macro(TypeMacroOf {
+        attrs: Items::new(alloc),
+        mac,
+    }))
+}
+
 impl<
     'a,
     A: Attributes,
@@ -51,26 +56,9 @@ impl<
     I: Fn(Global, PhantomData<GenericArgumentOf<A, E>>, &mut ParseStream<'_>, ()) -> Result<GenericArgumentOf<A, E>, Error> + Copy,
     J: Fn(Global, PhantomData<PathArgumentsOf<A, E>>, &mut ParseStream<'_>, ()) -> Result<PathArgumentsOf<A, E>, Error> + Copy,
 > Grammar<'a, A, E, F, G, H, I, J> {
-    /// A macro call by a path that was read: its binder is dropped.
-    #[tactic(auto, using(token_core::proofs::Suffixes::follows, syn_forms::proofs::nested_laws::Ahead::later))]
-    pub(crate) fn call_after(
-        &self,
-        input: &mut ParseStream<'_>,
-        path: &PathOf<PathArgumentsOf<A, E>>,
-    ) -> Result<TypeOf<A, E>, Error>
-        ensures parses { Parses (λ s. ((λ m. variants.Macro (types.macro_type_of m)) <$> macs.call_after (paths.without paths.nothing path.now)) s) result input.old input.new }
-    {
-        let path = without_arguments(self.alloc, path)?;
-        let mac = parse_call_after(self.alloc, input, path)?;
-        Ok(TypeOf::Macro(TypeMacroOf {
-            attrs: Items::new(self.alloc),
-            mac,
-        }))
-    }
-
     /// A trait object that begins with a path, after a binder that may stand before it.
     #[tactic(auto, using(token_core::proofs::Suffixes::follows, syn_forms::proofs::nested_laws::Ahead::later))]
-    pub(crate) fn object_after(
+    pub(crate) fn path_object(
         &self,
         input: &mut ParseStream<'_>,
         plus: bool,
@@ -79,7 +67,7 @@ impl<
     ) -> Result<TypeOf<A, E>, Error>
         requires bounds { Nests (knot.bound A.reads E.reads) (length self.now.begin) (G.pre self.now.bounds) (G.post self.now.bounds) }
         requires few { ahead input.old ≤ length self.now.begin }
-        ensures parses { Parses (reading.object_of <$> bounds_from ((knot.reads_below A.reads E.reads (length self.now.begin)) (a_bound Object)) false plus (bounds.Trait (named_bound lifetimes None path))) result input.old input.new }
+        ensures parses { Parses (reading.path_object (knot.reads_below A.reads E.reads (length self.now.begin)) plus lifetimes path) result input.old input.new }
         ensures fewer { ahead input.new ≤ ahead input.old }
     {
         let first = TypeParamBoundOf::Trait(named_bound(lifetimes, None, path));
@@ -106,10 +94,10 @@ impl<
         ensures fewer { ahead input.new ≤ ahead input.old }
     {
         if sees_call(input) & path.is_mod_style() {
-            return self.call_after(input, &path);
+            return macro_after(self.alloc, input, &path);
         }
         if lifetimes.is_some() | plus_follows(input, plus) {
-            return self.object_after(input, plus, lifetimes, path);
+            return self.path_object(input, plus, lifetimes, path);
         }
         Ok(TypeOf::Path(bare_path_type(self.alloc, None, path)))
     }
@@ -138,7 +126,7 @@ impl<
     // ---- invisible groups
 
     /// After an invisible group that `::` and an identifier follow: a path goes on with them, and another type qualifies the path after it.
-    #[tactic(auto, using(token_core::proofs::Suffixes::follows, syn_forms::proofs::nested_laws::Ahead::later, crate::proofs::ty_laws::Kinds::groups))]
+    #[tactic(auto, using(token_core::proofs::Suffixes::follows, syn_forms::proofs::nested_laws::Ahead::later))]
     pub(crate) fn group_with_segments(
         &self,
         input: &mut ParseStream<'_>,
@@ -165,7 +153,7 @@ impl<
     }
 
     /// The type of a path whose last segment takes the arguments that follow, and which goes on after them.
-    #[tactic(auto, using(token_core::proofs::Suffixes::follows, syn_forms::proofs::nested_laws::Ahead::later, crate::proofs::ty_laws::Kinds::groups))]
+    #[tactic(auto, using(token_core::proofs::Suffixes::follows, syn_forms::proofs::nested_laws::Ahead::later))]
     pub(crate) fn with_arguments(
         &self,
         input: &mut ParseStream<'_>,
@@ -173,7 +161,7 @@ impl<
     ) -> Result<TypeOf<A, E>, Error>
         requires segments { Nests (knot.arguments_in A.reads E.reads) (length self.now.begin) (J.pre self.now.segments) (J.post self.now.segments) }
         requires few { ahead input.old < length self.now.begin }
-        ensures parses { Parses (λ s. ((knot.reads_below A.reads E.reads (length self.now.begin)) some_arguments >>= (λ a. rest (knot.reads_below A.reads E.reads (length self.now.begin)) (segments.path_with a (reading.path_within ty)) >>= (λ q. pure (variants.Path (reading.with_path ty q))))) s) result input.old input.new }
+        ensures parses { Parses (reading.with_arguments (knot.reads_below A.reads E.reads (length self.now.begin)) ty) result input.old input.new }
         ensures fewer { ahead input.new ≤ ahead input.old }
     {
         let TypePathOf { attrs, qself, path } = ty;
@@ -184,7 +172,7 @@ impl<
     }
 
     /// After an invisible group that `<`, or `::` and `<`, follow: a path whose last segment has no arguments takes them and goes on; another type is left as it is.
-    #[tactic(auto, using(token_core::proofs::Suffixes::follows, syn_forms::proofs::nested_laws::Ahead::later, crate::proofs::ty_laws::Kinds::groups))]
+    #[tactic(auto, using(token_core::proofs::Suffixes::follows, syn_forms::proofs::nested_laws::Ahead::later))]
     pub(crate) fn group_with_arguments(
         &self,
         input: &mut ParseStream<'_>,
