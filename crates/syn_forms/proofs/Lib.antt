@@ -2,5 +2,9 @@ pub mod groups_laws
 pub mod inputs_laws
 pub mod lists_laws
 pub mod nested_laws
+<<<<<<< HEAD
 pub mod paths_laws
+=======
+pub mod params_laws
+>>>>>>> lists
 pub mod tokens_laws

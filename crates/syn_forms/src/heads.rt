@@ -1,24 +1,18 @@
 //! Heads: what stands before a form.
 
 ghost use Rattle.std.specs.Prelude.{◌<◌, ◌≤◌, length, IfOk};
-ghost use Rattle.token_core.specs.Lifetimes.{read_lifetime};
-ghost use Rattle.token_core.specs.Loops.{terminated};
 ghost use Rattle.token_core.specs.Reads.{Parses};
 ghost use Rattle.syn_forms.specs.heads.Reading as reading;
 ghost use Rattle.syn_forms.specs.nested.Below as below;
 ghost use Rattle.syn_forms.specs.nested.Below.{Nests, ahead};
-ghost use Rattle.syn_forms.specs.tokens.Reading.{comma, sees_gt};
 
 use crate::lists::ToGt;
 use crate::nested::{Nested, Tree};
-use crate::tokens::{
-    parse_any_lifetime, parse_comma, parse_extern, parse_fn, parse_for, parse_gt, parse_lt,
-    parse_r_arrow,
-};
+use crate::tokens::{parse_extern, parse_fn, parse_for, parse_gt, parse_lt, parse_r_arrow};
 use std::alloc::Global;
 use std::marker::PhantomData;
 use token_core::token::{self, Comma, Extern, For, Gt, Lt, RArrow, Unsafe};
-use token_core::{Boxed, Error, Lifetime, LitStr, ParseStream, Punctuated};
+use token_core::{Boxed, Error, LitStr, ParseStream, Punctuated};
 
 impl<
     'a,
@@ -128,44 +122,4 @@ pub fn parse_fn_head(
     let abi = parse_optional_abi(alloc, input)?;
     let fn_token = parse_fn(alloc, input)?;
     Ok((unsafety, abi, fn_token))
-}
-
-/// Lifetimes up to a `>`: a comma is needed between them, and may follow the last.
-#[tactic(auto, using(token_core::proofs::Suffixes::follows))]
-fn parse_lifetimes(
-    alloc: Global,
-    input: &mut ParseStream<'_>,
-) -> Result<Punctuated<Lifetime, Comma>, Error>
-    ensures parses { Parses (terminated sees_gt read_lifetime comma) result input.old input.new }
-{
-    let mut lifetimes = Punctuated::new(alloc);
-    'turn: loop {
-        if input.peek::<Gt>() {
-            return Ok(lifetimes);
-        }
-        let lifetime = parse_any_lifetime(alloc, input)?;
-        lifetimes.push_value(lifetime)?;
-        if input.peek::<Gt>() {
-            return Ok(lifetimes);
-        }
-        let comma = parse_comma(alloc, input)?;
-        lifetimes.push_punct(comma)?;
-    }
-}
-
-/// `<'a, 'b>`
-///
-/// Refused is what is no lifetime, and two of them without a comma between them.
-#[tactic(auto, using(token_core::proofs::Suffixes::follows, crate::proofs::nested_laws::Ahead::later), unfolding(crate::specs::heads::Reading::angled))]
-pub fn parse_angled_lifetimes(
-    alloc: Global,
-    input: &mut ParseStream<'_>,
-) -> Result<(Lt, Punctuated<Lifetime, Comma>, Gt), Error>
-    ensures parses { Parses (reading.angled read_lifetime) result input.old input.new }
-    ensures taken { IfOk result (λ _. ahead input.new < ahead input.old) }
-{
-    let lt_token = parse_lt(alloc, input)?;
-    let lifetimes = parse_lifetimes(alloc, input)?;
-    let gt_token = parse_gt(alloc, input)?;
-    Ok((lt_token, lifetimes, gt_token))
 }

@@ -25,8 +25,9 @@ use crate::ty::read::tokens::{
 use crate::ty::{NamedArgOf, TypeFnPtrOf, TypeOf};
 use std::alloc::Global;
 use std::marker::PhantomData;
-use syn_forms::heads::{parse_angled_lifetimes, parse_fn_head};
+use syn_forms::heads::parse_fn_head;
 use syn_forms::inputs::Dots;
+use syn_forms::params::parse_angled_lifetimes;
 use syn_forms::places::{BoundPlace, ParamPlace, TypePlace};
 use syn_forms::tokens::{open_parens, parse_unsafe};
 use syn_forms::verbatim::since;
