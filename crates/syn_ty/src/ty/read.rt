@@ -11,9 +11,13 @@ pub mod tokens;
 
 ghost use Rattle.std.specs.Prelude.{false, true, IfOk};
 ghost use Rattle.syn_forms.specs.declared.places.TypePlace.TheVariants.{NoPlus, Plus};
+ghost use Rattle.syn_ty.specs.ty.Grammars as grammars;
 ghost use Rattle.syn_ty.specs.ty.Knot as knot;
 ghost use Rattle.syn_ty.specs.ty.Reading as reading;
+ghost use Rattle.syn_ty.specs.ty.Spelling.{IsInfer, IsMacroType, IsNever};
+ghost use Rattle.token_core.specs.Headline.{Heads, Headline};
 ghost use Rattle.token_core.specs.Reads.{Fails, Follows, Gives, Keeps, Parses, Reads};
+ghost use Rattle.token_core.specs.Rebuilt.{Visible};
 
 use crate::generics::TypeParamBoundOf;
 use crate::grammar::Points;
@@ -316,11 +320,13 @@ impl<A: Attributes> Parse for TypeNeverOf<A> {
 
     ghost refuses = { Fails (reading.never {A = A}) };
 
-    #[tactic(auto, using(token_core::specs::Reads::no_promise))]
+    ghost promise = { Headline (grammars.never A.normal) };
+
     fn parse(alloc: Global, input: &mut ParseStream<'_>) -> Result<TypeNeverOf<A>, Error>
         ensures reads { Reads (reading.never input.old) result input.new }
         ensures within { Follows input.old input.new }
-        ensures promise { Keeps (λ _ _. Unit {0}) input.old result input.new }
+        ensures front { Visible input.old.rest → IfOk result (λ x. IsNever false x input.old.rest input.new.rest) }
+        ensures promise { Heads (grammars.never A.normal) input.old result input.new }
     {
         parse_never(alloc, input)
     }
@@ -332,11 +338,13 @@ impl<A: Attributes> Parse for TypeInferOf<A> {
 
     ghost refuses = { Fails (reading.infer {A = A}) };
 
-    #[tactic(auto, using(token_core::specs::Reads::no_promise))]
+    ghost promise = { Headline (grammars.infer A.normal) };
+
     fn parse(alloc: Global, input: &mut ParseStream<'_>) -> Result<TypeInferOf<A>, Error>
         ensures reads { Reads (reading.infer input.old) result input.new }
         ensures within { Follows input.old input.new }
-        ensures promise { Keeps (λ _ _. Unit {0}) input.old result input.new }
+        ensures front { Visible input.old.rest → IfOk result (λ x. IsInfer x input.old.rest input.new.rest) }
+        ensures promise { Heads (grammars.infer A.normal) input.old result input.new }
     {
         parse_infer(alloc, input)
     }
@@ -348,11 +356,13 @@ impl<A: Attributes> Parse for TypeMacroOf<A> {
 
     ghost refuses = { Fails (reading.macro_type {A = A}) };
 
-    #[tactic(auto, using(token_core::specs::Reads::no_promise))]
+    ghost promise = { Headline (grammars.macro_type A.normal) };
+
     fn parse(alloc: Global, input: &mut ParseStream<'_>) -> Result<TypeMacroOf<A>, Error>
         ensures reads { Reads (reading.macro_type input.old) result input.new }
         ensures within { Follows input.old input.new }
-        ensures promise { Keeps (λ _ _. Unit {0}) input.old result input.new }
+        ensures front { Visible input.old.rest → IfOk result (λ x. IsMacroType false x input.old.rest input.new.rest) }
+        ensures promise { Heads (grammars.macro_type A.normal) input.old result input.new }
     {
         parse_macro_type(alloc, input)
     }
