@@ -2,9 +2,6 @@ pub mod groups_laws
 pub mod inputs_laws
 pub mod lists_laws
 pub mod nested_laws
-<<<<<<< HEAD
-pub mod paths_laws
-=======
 pub mod params_laws
->>>>>>> lists
+pub mod paths_laws
 pub mod tokens_laws
