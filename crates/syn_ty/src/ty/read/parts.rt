@@ -387,7 +387,7 @@ pub(crate) fn has_arguments<A: Attributes, E: Value>(
 }
 
 /// The type of an invisible group as the one that qualifies the path after it: the marks stand where the group does.
-pub(crate) fn qself_in<A, E>(
+pub(crate) fn qself_in<A: Attributes, E: Value>(
     alloc: Global,
     group_token: GroupToken,
     ty: TypeOf<A, E>,
