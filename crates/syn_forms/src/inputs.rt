@@ -1,28 +1,36 @@
 //! Arguments: of pointers to functions, and what they share with the arguments of function types.
 
-ghost use Rattle.std.specs.Prelude.{◌≡◌, ◌<◌, ◌≤◌, length, List, Option, IfOk};
+ghost use Rattle.std.specs.Prelude.{◌≡◌, ◌<◌, ◌≤◌, length, List};
 ghost use Rattle.token_core.specs.declared.tree.TokenStream.{TokenStream};
-ghost use Rattle.token_core.specs.Positions.{IsReached};
-ghost use Rattle.token_core.specs.Reads.{Reads, Follows, Parses, optional};
+ghost use Rattle.token_core.specs.Reads.{Parses, optional};
+ghost use Rattle.syn_forms.specs.groups.Reading.{in_parens};
 ghost use Rattle.syn_forms.specs.inputs.Reading as reading;
 ghost use Rattle.syn_forms.specs.nested.Below as below;
 ghost use Rattle.syn_forms.specs.nested.Below.{Nests, ahead};
-ghost use Rattle.syn_forms.specs.verbatim.Reading as verbatim;
 
+use crate::lists::Make;
 use crate::nested::{Nested, Tree};
-use crate::tokens::{parse_any_ident, parse_colon, parse_comma};
+use crate::tokens::{open_parens, parse_any_ident, parse_colon, parse_comma};
 use crate::verbatim::since;
 use std::alloc::Global;
 use std::marker::PhantomData;
 use syn_path::supplied::Attributes;
-use token_core::token::{Colon, Comma, DotDotDot, Mut, PathSep, SelfValue, Underscore};
-use token_core::{Cursor, Error, Ident, Items, ParseStream, Punctuated, TokenStream};
+use token_core::token::{
+    Colon, Comma, DotDotDot, Mut, Paren, PathSep, RArrow, SelfValue, Underscore,
+};
+use token_core::{Boxed, Error, Ident, Items, ParseStream, Punctuated, TokenStream};
 
 /// The name before an argument, if it has one: `x:`.
 pub type Name = Option<(Ident, Colon)>;
 
 /// `...` after the arguments: its name, if it has one, the dots, and a comma, if one stands there.
-pub type Dots = (Option<(Ident, Colon)>, DotDotDot, Option<Comma>);
+pub type Dots = (Name, DotDotDot, Option<Comma>);
+
+/// The arguments of a pointer to a function, and the `...` at their end with its attributes, if it stands there.
+pub type Inputs<B, I> = (Punctuated<I, Comma>, Option<(Items<B>, Dots)>);
+
+/// Arguments in parentheses, and the output after `->`, if it stands there.
+pub type Signature<T, I> = (Paren, Punctuated<I, Comma>, Option<(RArrow, Boxed<T>)>);
 
 /// How an argument is made.
 pub trait Argument<B, T, I>: Copy {
@@ -30,7 +38,7 @@ pub trait Argument<B, T, I>: Copy {
     ghost make: { Self → List B → reading.Name → T → I };
 
     /// Makes it.
-    fn make(self, attrs: Items<B>, name: Option<(Ident, Colon)>, ty: T) -> I
+    fn make(self, attrs: Items<B>, name: Name, ty: T) -> I
         ensures { result ≡ make self attrs name ty };
 }
 
@@ -81,11 +89,11 @@ fn sees_dots(input: &ParseStream<'_>) -> bool
 }
 
 /// Whether a name is not `self`, or none is there.
-fn is_other(name: &Option<(Ident, Colon)>) -> bool
+fn is_other(name: &Name) -> bool
     ensures { result ≡ reading.is_other name.now }
 {
     match name {
-        Some((ident, _)) => !(ident.text() == "self"),
+        Some((ident, _)) => ident.text() != "self",
         None => true,
     }
 }
@@ -107,7 +115,7 @@ pub fn parse_optional_name(
     alloc: Global,
     input: &mut ParseStream<'_>,
     own: bool,
-) -> Result<Option<(Ident, Colon)>, Error>
+) -> Result<Name, Error>
     ensures parses { Parses (optional (reading.sees_name own) reading.name) result input.old input.new }
     ensures fewer { ahead input.new ≤ ahead input.old }
 {
@@ -147,7 +155,7 @@ impl<
         &self,
         input: &mut ParseStream<'_>,
         place: P,
-    ) -> Result<(Option<(Ident, Colon)>, T), Error>
+    ) -> Result<(Name, T), Error>
         requires nests { Nests T.read (length self.now.begin) (F.pre self.now.read) (F.post self.now.read) }
         requires few { ahead input.old < length self.now.begin }
         ensures parses { Parses (reading.plain_argument (below.held T.read (length self.now.begin) place)) result input.old input.new }
@@ -165,7 +173,7 @@ impl<
         input: &mut ParseStream<'_>,
         place: P,
         verbatim: V,
-    ) -> Result<(Option<(Ident, Colon)>, T), Error>
+    ) -> Result<(Name, T), Error>
         requires nests { Nests T.read (length self.now.begin) (F.pre self.now.read) (F.post self.now.read) }
         requires few { ahead input.old < length self.now.begin }
         ensures parses { Parses (reading.mut_self (below.held T.read (length self.now.begin) place) (V.verbatim verbatim)) result input.old input.new }
@@ -190,7 +198,7 @@ impl<
         input: &mut ParseStream<'_>,
         place: P,
         verbatim: V,
-    ) -> Result<(Option<(Ident, Colon)>, T), Error>
+    ) -> Result<(Name, T), Error>
         requires nests { Nests T.read (length self.now.begin) (F.pre self.now.read) (F.post self.now.read) }
         requires few { ahead input.old < length self.now.begin }
         ensures parses { Parses (reading.named_argument (below.held T.read (length self.now.begin) place) (V.verbatim verbatim)) result input.old input.new }
@@ -215,7 +223,7 @@ impl<
         input: &mut ParseStream<'_>,
         place: P,
         verbatim: V,
-    ) -> Result<(Option<(Ident, Colon)>, T), Error>
+    ) -> Result<(Name, T), Error>
         requires nests { Nests T.read (length self.now.begin) (F.pre self.now.read) (F.post self.now.read) }
         requires few { ahead input.old < length self.now.begin }
         ensures parses { Parses (reading.first_argument (below.held T.read (length self.now.begin) place) (V.verbatim verbatim)) result input.old input.new }
@@ -234,7 +242,7 @@ impl<
         place: P,
         verbatim: V,
         first: bool,
-    ) -> Result<(Option<(Ident, Colon)>, T), Error>
+    ) -> Result<(Name, T), Error>
         requires nests { Nests T.read (length self.now.begin) (F.pre self.now.read) (F.post self.now.read) }
         requires few { ahead input.old < length self.now.begin }
         ensures parses { Parses (reading.argument (below.held T.read (length self.now.begin) place) (V.verbatim verbatim) first) result input.old input.new }
@@ -259,7 +267,7 @@ impl<
         place: P,
         make: K,
         verbatim: V,
-    ) -> Result<(Punctuated<I, Comma>, Option<(Items<B>, Dots)>), Error>
+    ) -> Result<Inputs<B, I>, Error>
         requires nests { Nests T.read (length self.now.begin) (F.pre self.now.read) (F.post self.now.read) }
         requires few { ahead input.old < length self.now.begin }
         ensures parses { Parses (reading.inputs (K.make make) B.reads (below.held T.read (length self.now.begin) place) (V.verbatim verbatim)) result input.old input.new }
@@ -283,5 +291,46 @@ impl<
             list.push_punct(parse_comma(self.alloc, input)?)?;
             first = false;
         }
+    }
+
+    // ---- the arguments of a function type
+
+    /// What is made of each type, in parentheses and joined by commas.
+    #[tactic(auto, using(token_core::proofs::Suffixes::follows, crate::proofs::nested_laws::Ahead::later))]
+    fn made_in_parens<V: Drop, K: Make<T, V>>(
+        &self,
+        input: &mut ParseStream<'_>,
+        place: P,
+        make: K,
+    ) -> Result<(Paren, Punctuated<V, Comma>), Error>
+        requires nests { Nests T.read (length self.now.begin) (F.pre self.now.read) (F.post self.now.read) }
+        requires few { ahead input.old ≤ length self.now.begin }
+        ensures parses { Parses (in_parens (reading.made_inputs (K.make make) (below.held T.read (length self.now.begin) place))) result input.old input.new }
+        ensures fewer { ahead input.new ≤ ahead input.old }
+    {
+        let (paren_token, mut content) = open_parens(self.alloc, input)?;
+        let values = self.made_list(&mut content, place, make)?;
+        input.finish(content);
+        Ok((paren_token, values))
+    }
+
+    /// Arguments in parentheses, joined by commas, of which each is made of its type, and the output after `->`, where it
+    /// stands: `(A, B) -> C` (syn's `ParenthesizedGenericArguments`).
+    #[tactic(auto, using(token_core::proofs::Suffixes::follows, crate::proofs::nested_laws::Ahead::later), unfolding(crate::specs::inputs::Reading::signature))]
+    pub fn signature<V: Drop, K: Make<T, V>>(
+        &self,
+        input: &mut ParseStream<'_>,
+        value_place: P,
+        output_place: P,
+        make: K,
+    ) -> Result<Signature<T, V>, Error>
+        requires nests { Nests T.read (length self.now.begin) (F.pre self.now.read) (F.post self.now.read) }
+        requires few { ahead input.old ≤ length self.now.begin }
+        ensures parses { Parses (reading.signature (K.make make) (below.held T.read (length self.now.begin) value_place) (below.held T.read (length self.now.begin) output_place)) result input.old input.new }
+        ensures fewer { ahead input.new ≤ ahead input.old }
+    {
+        let (paren_token, inputs) = self.made_in_parens(input, value_place, make)?;
+        let output = self.returned(input, output_place)?;
+        Ok((paren_token, inputs, output))
     }
 }

@@ -1,7 +1,9 @@
 //! Paths and their arguments are read.
 
-ghost use Rattle.std.specs.Prelude.{◌≡◌, ◌<◌, ◌≤◌, length, Bool, Some, is_some};
+ghost use Rattle.std.specs.Prelude.{◌≡◌, ◌<◌, ◌≤◌, length, [], None, is_some};
+ghost use Rattle.syn_forms.specs.declared.places.TypePlace.TheVariants as places;
 ghost use Rattle.syn_forms.specs.nested.Below.{Nests, ahead};
+ghost use Rattle.syn_path.specs.declared.path.PathStyle.TheVariants as styles;
 ghost use Rattle.syn_ty.specs.declared.path.GenericArgumentOf.TheVariants as arguments;
 ghost use Rattle.syn_ty.specs.declared.path.PathArgumentsOf.{out-PathArgumentsOf};
 ghost use Rattle.syn_ty.specs.declared.ty.TypePathOf.{out-TypePathOf};
@@ -23,8 +25,7 @@ use crate::path::{
 use crate::ty::{NamedArgOf, ReturnTypeOf, TypeOf, TypePathOf};
 use std::alloc::Global;
 use std::marker::PhantomData;
-use syn_forms::inputs::Make;
-use syn_forms::lists::End;
+use syn_forms::lists::{End, Make};
 use syn_forms::paths::{last_arguments, with_last_arguments};
 use syn_forms::places::{BoundPlace, ParamPlace, TypePlace};
 use syn_forms::tokens::{
@@ -137,6 +138,13 @@ pub fn names_item<A: Attributes, E: Value>(ty: &TypeOf<A, E>) -> bool
         | TypeOf::Tuple(_)
         | TypeOf::Verbatim(_) => false,
     }
+}
+
+/// Whether no segment of a path has arguments: so is the path of a macro.
+pub fn is_mod_style<A: Attributes, E: Value>(path: &PathOf<PathArgumentsOf<A, E>>) -> bool
+    ensures { result ≡ reading.is_mod_style path.now }
+{
+    path.is_mod_style()
 }
 
 /// Whether a signature may follow a path: its last segment has no arguments, or none between its angle brackets.
@@ -548,7 +556,7 @@ impl<
     }
 
     /// What begins with a type that was read: the type itself, or what is said of the associated item that it names.
-    #[tactic(auto, using(token_core::proofs::Suffixes::follows, crate::proofs::path_laws::Items::nameless), unfolding(crate::specs::path::Reading::after_item))]
+    #[tactic(auto, using(token_core::proofs::Suffixes::follows, crate::proofs::path_laws::Items::nameless_types), unfolding(crate::specs::path::Reading::after_item))]
     fn after_type(
         &self,
         input: &mut ParseStream<'_>,
@@ -602,5 +610,248 @@ impl<
         }
         let ty = self.type_step(input, TypePlace::Plus)?;
         self.after_type(input, ty)
+    }
+}
+
+// ---- forms by themselves: what they hold is read by the knot
+
+/// A path by itself, in this style.
+#[tactic(auto, unfolding(crate::specs::ty::Knot::path))]
+fn parse_path<A: Attributes, E: Value, K: Points<A, E>>(
+    alloc: Global,
+    input: &mut ParseStream<'_>,
+    style: PathStyle,
+) -> Result<PathOf<PathArgumentsOf<A, E>>, Error>
+    ensures parses { Parses (knot.path A.reads E.reads style) result input.old input.new }
+{
+    Grammar {
+        alloc,
+        of: PhantomData,
+        begin: input.cursor(),
+        types: K::read_type,
+        bounds: K::read_bound,
+        params: K::read_param,
+        args: K::read_argument,
+        segments: K::read_arguments,
+    }
+    .path(input, style)
+}
+
+/// A segment by itself.
+#[tactic(auto, unfolding(crate::specs::ty::Knot::segment))]
+fn parse_segment<A: Attributes, E: Value, K: Points<A, E>>(
+    alloc: Global,
+    input: &mut ParseStream<'_>,
+) -> Result<PathSegmentOf<PathArgumentsOf<A, E>>, Error>
+    ensures parses { Parses (knot.segment A.reads E.reads) result input.old input.new }
+{
+    Grammar {
+        alloc,
+        of: PhantomData,
+        begin: input.cursor(),
+        types: K::read_type,
+        bounds: K::read_bound,
+        params: K::read_param,
+        args: K::read_argument,
+        segments: K::read_arguments,
+    }
+    .segment(input, PathStyle::AsWritten)
+}
+
+/// Arguments in angle brackets by themselves.
+#[tactic(auto, unfolding(crate::specs::ty::Knot::angle_bracketed))]
+fn parse_angle_bracketed<A: Attributes, E: Value, K: Points<A, E>>(
+    alloc: Global,
+    input: &mut ParseStream<'_>,
+) -> Result<AngleBracketedGenericArgumentsOf<GenericArgumentOf<A, E>>, Error>
+    ensures parses { Parses (knot.angle_bracketed A.reads E.reads) result input.old input.new }
+{
+    Grammar {
+        alloc,
+        of: PhantomData,
+        begin: input.cursor(),
+        types: K::read_type,
+        bounds: K::read_bound,
+        params: K::read_param,
+        args: K::read_argument,
+        segments: K::read_arguments,
+    }
+    .angle_bracketed(input)
+}
+
+/// Arguments in angle brackets by themselves, after a `::`.
+#[tactic(auto, unfolding(crate::specs::ty::Knot::turbofish))]
+fn parse_turbofish<A: Attributes, E: Value, K: Points<A, E>>(
+    alloc: Global,
+    input: &mut ParseStream<'_>,
+) -> Result<AngleBracketedGenericArgumentsOf<GenericArgumentOf<A, E>>, Error>
+    ensures parses { Parses (knot.turbofish A.reads E.reads) result input.old input.new }
+{
+    Grammar {
+        alloc,
+        of: PhantomData,
+        begin: input.cursor(),
+        types: K::read_type,
+        bounds: K::read_bound,
+        params: K::read_param,
+        args: K::read_argument,
+        segments: K::read_arguments,
+    }
+    .turbofish(input)
+}
+
+/// Arguments in parentheses by themselves.
+#[tactic(auto, unfolding(crate::specs::ty::Knot::parenthesized))]
+fn parse_parenthesized<A: Attributes, E: Value, K: Points<A, E>>(
+    alloc: Global,
+    input: &mut ParseStream<'_>,
+) -> Result<ParenthesizedGenericArgumentsOf<TypeOf<A, E>, A>, Error>
+    ensures parses { Parses (knot.parenthesized A.reads E.reads) result input.old input.new }
+{
+    Grammar {
+        alloc,
+        of: PhantomData,
+        begin: input.cursor(),
+        types: K::read_type,
+        bounds: K::read_bound,
+        params: K::read_param,
+        args: K::read_argument,
+        segments: K::read_arguments,
+    }
+    .parenthesized(input)
+}
+
+/// An argument in angle brackets by itself.
+fn parse_argument<A: Attributes, E: Value, K: Points<A, E>>(
+    alloc: Global,
+    input: &mut ParseStream<'_>,
+) -> Result<GenericArgumentOf<A, E>, Error>
+    ensures parses { Parses (knot.argument A.reads E.reads) result input.old input.new }
+{
+    K::read_argument(alloc, PhantomData, input, ())
+}
+
+/// Reads paths and segments as they stand in types.
+///
+/// ```text
+/// path    = ['::'] segment {'::' segment}
+/// segment = 'super' | 'self' | 'crate' | 'try' | (ident | 'Self') [['::'] '<' arguments '>']
+/// ```
+///
+/// A path stops before a `::` and parentheses, and a segment before a `<=` and a `<<=`. It is refused where no segment begins,
+/// after a `::` that none follows, and where an argument is refused. As `syn::Path` and `syn::PathSegment`.
+impl<A: Attributes, E: Value> ReadArguments for PathArgumentsOf<A, E> {
+    ghost reads_path = { knot.path A.reads E.reads styles.AsWritten };
+
+    ghost reads_segment = { knot.segment A.reads E.reads };
+
+    fn parse_path(
+        alloc: Global,
+        input: &mut ParseStream<'_>,
+    ) -> Result<PathOf<PathArgumentsOf<A, E>>, Error> {
+        parse_path::<A, E, Knot>(alloc, input, PathStyle::AsWritten)
+    }
+
+    fn parse_segment(
+        alloc: Global,
+        input: &mut ParseStream<'_>,
+    ) -> Result<PathSegmentOf<PathArgumentsOf<A, E>>, Error> {
+        parse_segment::<A, E, Knot>(alloc, input)
+    }
+}
+
+/// Reads an argument in angle brackets.
+///
+/// ```text
+/// argument   = lifetime | literal | block | type | item '=' (const-argument | type) | item ':' [bound {'+' bound} ['+']]
+/// item       = ident ['::'] ['<' arguments '>']
+/// ```
+///
+/// A lifetime before a `+` begins a type. A type that is a path of one segment, whose arguments are none or in angle brackets,
+/// is the name of an associated item where `=` or `:` follows: then a literal or braces after `=` are a constant, and the bounds
+/// after `:` end before `,` and `>`. It is refused where one of the parts is. As `syn::GenericArgument`.
+impl<A: Attributes, E: Value> Parse for GenericArgumentOf<A, E> {
+    ghost reads = { Gives (knot.argument A.reads E.reads) };
+
+    ghost refuses = { Fails (knot.argument A.reads E.reads) };
+
+    #[tactic(auto, using(token_core::specs::Reads::no_promise))]
+    fn parse(
+        alloc: Global,
+        input: &mut ParseStream<'_>,
+    ) -> Result<GenericArgumentOf<A, E>, Error>
+        ensures reads { Reads (knot.argument A.reads E.reads input.old) result input.new }
+        ensures within { Follows input.old input.new }
+    {
+        parse_argument::<A, E, Knot>(alloc, input)
+    }
+}
+
+/// Reads arguments in angle brackets.
+///
+/// ```text
+/// ['::'] '<' [argument {',' argument} [',']] '>'
+/// ```
+///
+/// It is refused where no `<` follows, where neither `,` nor `>` follows an argument, and where an argument is refused. As
+/// `syn::AngleBracketedGenericArguments`.
+impl<A: Attributes, E: Value> Parse for AngleBracketedGenericArgumentsOf<GenericArgumentOf<A, E>> {
+    ghost reads = { Gives (knot.angle_bracketed A.reads E.reads) };
+
+    ghost refuses = { Fails (knot.angle_bracketed A.reads E.reads) };
+
+    #[tactic(auto, using(token_core::specs::Reads::no_promise))]
+    fn parse(
+        alloc: Global,
+        input: &mut ParseStream<'_>,
+    ) -> Result<AngleBracketedGenericArgumentsOf<GenericArgumentOf<A, E>>, Error>
+        ensures reads { Reads (knot.angle_bracketed A.reads E.reads input.old) result input.new }
+        ensures within { Follows input.old input.new }
+    {
+        parse_angle_bracketed::<A, E, Knot>(alloc, input)
+    }
+}
+
+impl<A: Attributes, E: Value> AngleBracketedGenericArgumentsOf<GenericArgumentOf<A, E>> {
+    /// Reads arguments in angle brackets after a `::`, as in the path of an expression.
+    ///
+    /// ```text
+    /// '::' '<' [argument {',' argument} [',']] '>'
+    /// ```
+    ///
+    /// It is refused where no `::` follows, and where those without it are. As
+    /// `syn::AngleBracketedGenericArguments::parse_turbofish`.
+    pub fn parse_turbofish(
+        alloc: Global,
+        input: &mut ParseStream<'_>,
+    ) -> Result<AngleBracketedGenericArgumentsOf<GenericArgumentOf<A, E>>, Error>
+        ensures parses { Parses (knot.turbofish A.reads E.reads) result input.old input.new }
+    {
+        parse_turbofish::<A, E, Knot>(alloc, input)
+    }
+}
+
+/// Reads arguments in parentheses, and their output.
+///
+/// ```text
+/// '(' [type {',' type} [',']] ')' ['->' type]
+/// ```
+///
+/// The output is read without plus. It is refused where no parentheses follow, where no comma follows a type and the parentheses
+/// hold more, and where a type is refused. As `syn::ParenthesizedGenericArguments`.
+impl<A: Attributes, E: Value> Parse for ParenthesizedGenericArgumentsOf<TypeOf<A, E>, A> {
+    ghost reads = { Gives (knot.parenthesized A.reads E.reads) };
+
+    ghost refuses = { Fails (knot.parenthesized A.reads E.reads) };
+
+    #[tactic(auto, using(token_core::specs::Reads::no_promise))]
+    fn parse(
+        alloc: Global,
+        input: &mut ParseStream<'_>,
+    ) -> Result<ParenthesizedGenericArgumentsOf<TypeOf<A, E>, A>, Error>
+        ensures reads { Reads (knot.parenthesized A.reads E.reads input.old) result input.new }
+        ensures within { Follows input.old input.new }
+    {
+        parse_parenthesized::<A, E, Knot>(alloc, input)
     }
 }
