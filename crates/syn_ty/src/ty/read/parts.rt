@@ -264,7 +264,7 @@ fn held_in<A, E>(paren_token: Paren, bound: TypeParamBoundOf<A, E>) -> TypeParam
 // ---- a type in parentheses as the first bound of a trait object
 
 /// Of a path: an unqualified one. Another one is given back.
-fn unqualified<A, E>(
+fn unqualified<A: Attributes, E: Value>(
     paren_token: Paren,
     ty: TypePathOf<A, E>,
 ) -> Result<TypeParamBoundOf<A, E>, TypePathOf<A, E>>
@@ -287,7 +287,7 @@ fn unqualified<A, E>(
 
 /// Whether a trait object has one bound, without `dyn` before it and without a plus after it.
 #[tactic(auto, using(crate::proofs::ty_laws::Kinds::lone_bounds))]
-fn is_lone<A, E>(object: &TypeTraitObjectOf<TypeParamBoundOf<A, E>, A>) -> bool
+fn is_lone<A: Attributes, E: Value>(object: &TypeTraitObjectOf<TypeParamBoundOf<A, E>, A>) -> bool
     ensures { (paren : token.Paren) → result ≡ is_some (reading.lone_bound paren object.now.dyn_token object.now.bounds) }
 {
     let (pairs, last) = object.bounds.parts();
@@ -296,7 +296,7 @@ fn is_lone<A, E>(object: &TypeTraitObjectOf<TypeParamBoundOf<A, E>, A>) -> bool
 
 /// Of a trait object: one without `dyn`, of one bound and without a plus. Another one is given back.
 #[tactic(auto, using(crate::proofs::ty_laws::Kinds::lone_bounds))]
-fn lone_bound<A, E>(
+fn lone_bound<A: Attributes, E: Value>(
     paren_token: Paren,
     object: TypeTraitObjectOf<TypeParamBoundOf<A, E>, A>,
 ) -> Result<TypeParamBoundOf<A, E>, TypeTraitObjectOf<TypeParamBoundOf<A, E>, A>>
@@ -315,7 +315,7 @@ fn lone_bound<A, E>(
 
 /// The bound that a type in parentheses is: a path, or a trait object of one bound. Another type is given back.
 #[tactic(auto, using(crate::proofs::ty_laws::Kinds::first_bounds))]
-pub(crate) fn first_bound<A, E>(
+pub(crate) fn first_bound<A: Attributes, E: Value>(
     paren_token: Paren,
     ty: TypeOf<A, E>,
 ) -> Result<TypeParamBoundOf<A, E>, TypeOf<A, E>>
@@ -351,7 +351,7 @@ pub(crate) fn first_bound<A, E>(
 
 /// The path that a type is. Another type is given back.
 #[tactic(auto, using(crate::proofs::ty_laws::Kinds::type_paths))]
-pub(crate) fn as_path<A, E>(ty: TypeOf<A, E>) -> Result<TypePathOf<A, E>, TypeOf<A, E>>
+pub(crate) fn as_path<A: Attributes, E: Value>(ty: TypeOf<A, E>) -> Result<TypePathOf<A, E>, TypeOf<A, E>>
     ensures ok { IfOk result (λ path. (reading.as_path ty ≡ Some path) × (variants.Path path ≡ ty)) }
     ensures err { IfErr result (λ back. (reading.as_path ty ≡ None) × (back ≡ ty)) }
 {
