@@ -1,6 +1,6 @@
 //! Groups: what parentheses and brackets hold.
 
-ghost use Rattle.std.specs.Prelude.{◌<◌, ◌≤◌, length};
+ghost use Rattle.std.specs.Prelude.{◌<◌, ◌≤◌, length, IfOk};
 ghost use Rattle.token_core.specs.Reads.{Parses};
 ghost use Rattle.syn_forms.specs.groups.Reading as reading;
 ghost use Rattle.syn_forms.specs.nested.Below as below;
@@ -208,7 +208,7 @@ impl<
         requires nests { Nests T.read (length self.now.begin) (F.pre self.now.read) (F.post self.now.read) }
         requires few { ahead input.old ≤ length self.now.begin }
         ensures parses { Parses (reading.in_invisible (below.held T.read (length self.now.begin) place)) result input.old input.new }
-        ensures fewer { ahead input.new ≤ ahead input.old }
+        ensures taken { IfOk result (λ _. ahead input.new < ahead input.old) }
     {
         let (group_token, mut content) = open_invisible(self.alloc, input)?;
         let held = self.boxed(&mut content, place)?;

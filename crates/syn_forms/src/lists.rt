@@ -334,7 +334,7 @@ impl<
         first: T,
     ) -> Result<Punctuated<T, M>, Error>
         requires nests { Nests T.read (length self.now.begin) (F.pre self.now.read) (F.post self.now.read) }
-        requires few { ahead input.old < length self.now.begin }
+        requires few { ahead input.old ≤ length self.now.begin }
         ensures parses { Parses (reading.list_from (S.stops end) (below.held T.read (length self.now.begin) place) (S.more end) (S.joint end) first) result input.old input.new }
         ensures fewer { ahead input.new ≤ ahead input.old }
     {

@@ -230,7 +230,7 @@ fn no_const_form(alloc: Global, input: &mut ParseStream<'_>) -> Result<(), Error
 // ---- traits by their parts
 
 /// A trait by its path, without parentheses.
-fn named_bound<A, E>(
+pub(crate) fn named_bound<A, E>(
     lifetimes: Option<BoundLifetimesOf<GenericParamOf<A, E>>>,
     maybe: Option<Question>,
     path: PathOf<PathArgumentsOf<A, E>>,
@@ -247,7 +247,7 @@ fn named_bound<A, E>(
 }
 
 /// A trait bound in parentheses.
-fn held_bound<A, E>(paren_token: Paren, bound: TraitBoundOf<A, E>) -> TraitBoundOf<A, E>
+pub(crate) fn held_bound<A, E>(paren_token: Paren, bound: TraitBoundOf<A, E>) -> TraitBoundOf<A, E>
     ensures { result ≡ parts.held_bound paren_token bound }
 {
     TraitBoundOf {

@@ -166,7 +166,7 @@ type Item<A, E> = (
 );
 
 /// The arguments after the name of an associated item.
-fn into_generics<A, E>(
+fn into_generics<A: Attributes, E: Value>(
     arguments: PathArgumentsOf<A, E>,
 ) -> Option<Option<AngleBracketedGenericArgumentsOf<GenericArgumentOf<A, E>>>>
     ensures { result ≡ reading.generics_layer (out-PathArgumentsOf A E arguments) }
@@ -179,7 +179,7 @@ fn into_generics<A, E>(
 }
 
 /// The name that a segment is, and its arguments.
-fn segment_into_item<A, E>(segment: PathSegmentOf<PathArgumentsOf<A, E>>) -> Option<Item<A, E>>
+fn segment_into_item<A: Attributes, E: Value>(segment: PathSegmentOf<PathArgumentsOf<A, E>>) -> Option<Item<A, E>>
     ensures { result ≡ reading.with_name segment.ident (reading.generics_layer (out-PathArgumentsOf A E segment.arguments)) }
 {
     let PathSegmentOf { ident, arguments } = segment;

@@ -1,0 +1,10 @@
+use Rattle.token_core.proofs.Headlines.{heads}
+use Rattle.syn_ty.specs.ty.Grammars as grammars
+use Rattle.syn_ty.proofs.ty_laws.Laws.{never_lawful, never_front}
+use Rattle.syn_ty.proofs.ty.read.TypeNeverOfParse.parse.Goals as goal
+
+pub returns-clause-promise : goal.returns-clause-promise
+returns-clause-promise g c = heads (grammars.never g.A.Attributes.normal) (never_lawful g.A.Attributes.normal g.met.A.Attributes.bare.stays) _ _ _ c.parse_never.ensures.parses.0
+
+pub returns-clause-front : goal.returns-clause-front
+returns-clause-front g c = never_front _ _ _ c.parse_never.ensures.parses.0
