@@ -4,7 +4,7 @@ ghost use Rattle.std.specs.Prelude.{◌≡◌, ◌<◌, ◌≤◌, length, true,
 ghost use Rattle.token_core.specs.Loops.{after, never, terminated};
 ghost use Rattle.token_core.specs.Tokens as token;
 ghost use Rattle.token_core.specs.Toks.{Toks};
-ghost use Rattle.token_core.specs.Reads.{Reader, Parses, ◌<$>◌, is_done};
+ghost use Rattle.token_core.specs.Reads.{Reader, Parses, is_done};
 ghost use Rattle.syn_forms.specs.lists.Reading as reading;
 ghost use Rattle.syn_forms.specs.params.Reading as params;
 ghost use Rattle.syn_forms.specs.tokens.Reading as tokens;
@@ -252,7 +252,7 @@ impl<
     ) -> Result<V, Error>
         requires nests { Nests T.read (length self.now.begin) (F.pre self.now.read) (F.post self.now.read) }
         requires few { ahead input.old < length self.now.begin }
-        ensures parses { Parses (K.make make <$> below.held T.read (length self.now.begin) place) result input.old input.new }
+        ensures parses { Parses (reading.made (K.make make) (below.held T.read (length self.now.begin) place)) result input.old input.new }
         ensures fewer { ahead input.new ≤ ahead input.old }
     {
         let value = self.value(input, place)?;
@@ -273,7 +273,7 @@ impl<
         requires nests { Nests T.read (length self.now.begin) (F.pre self.now.read) (F.post self.now.read) }
         requires few { ahead input.old < length self.now.begin }
         requires whole { length list.0 ≡ length list.1 }
-        ensures parses { Parses (λ s. after list (reading.list (S.stops end) (K.make make <$> below.held T.read (length self.now.begin) place) (S.more end) (S.joint end) first s)) result input.old input.new }
+        ensures parses { Parses (λ s. after list (reading.list (S.stops end) (reading.made (K.make make) (below.held T.read (length self.now.begin) place)) (S.more end) (S.joint end) first s)) result input.old input.new }
     {
         'turn: loop {
             if end.is_over(input, first) {
@@ -357,7 +357,7 @@ impl<
     ) -> Result<Punctuated<V, Comma>, Error>
         requires nests { Nests T.read (length self.now.begin) (F.pre self.now.read) (F.post self.now.read) }
         requires few { ahead input.old < length self.now.begin }
-        ensures parses { Parses (terminated is_done (K.make make <$> below.held T.read (length self.now.begin) place) tokens.comma) result input.old input.new }
+        ensures parses { Parses (terminated is_done (reading.made (K.make make) (below.held T.read (length self.now.begin) place)) tokens.comma) result input.old input.new }
         ensures fewer { ahead input.new ≤ ahead input.old }
     {
         self.made_after(input, place, make, ToEnd, Punctuated::new(self.alloc), true)

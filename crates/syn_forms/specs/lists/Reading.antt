@@ -4,7 +4,7 @@ use Rattle.token_core.specs.declared.tree.Delimiter.TheVariants as d
 use Rattle.token_core.specs.Lifetimes.{sees_lifetime}
 use Rattle.token_core.specs.Loops.{Many, listed, never, terminated}
 use Rattle.token_core.specs.Toks.{Toks}
-use Rattle.token_core.specs.Reads.{Reader, ◌>>=◌, pure, peek, is_done, any_text, sees_group, sees_word}
+use Rattle.token_core.specs.Reads.{Reader, ◌>>=◌, ◌<$>◌, pure, peek, is_done, any_text, sees_group, sees_word}
 use Rattle.syn_forms.specs.tokens.Reading.{comma, sees_gt}
 use Rattle.token_core.specs.Tokens as token
 
@@ -24,6 +24,10 @@ before_gt l = not (sees_gt l)
 -- the values are read alike, at first and after a mark
 abbrev pub list : {A M : Type 0} → (Bool → Toks → Bool) → Reader A → (Toks → Bool) → Reader M → Bool → Reader (Many A M)
 list stops value more joint = listed stops (λ first. value) more joint
+
+-- what is made of each value
+abbrev pub made : {A B : Type 0} → (A → B) → Reader A → Reader B
+made make value = make <$> value
 
 module _ {A : Type 0} (value : Reader A) where
   -- a comma, and further elements
