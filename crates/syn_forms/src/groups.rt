@@ -7,11 +7,11 @@ ghost use Rattle.syn_forms.specs.nested.Below as below;
 ghost use Rattle.syn_forms.specs.nested.Below.{Nests, ahead};
 
 use crate::nested::{Nested, Tree};
-use crate::tokens::{open_brackets, open_parens};
+use crate::tokens::{open_brackets, open_invisible, open_parens};
 use std::alloc::Global;
 use std::marker::PhantomData;
 use syn_path::supplied::Value;
-use token_core::token::{Bracket, Comma, Paren, Semi};
+use token_core::token::{Bracket, Comma, GroupToken, Paren, Semi};
 use token_core::{Boxed, Error, ParseStream, Punctuated};
 
 /// What parentheses hold.
@@ -23,7 +23,7 @@ pub enum InParens<T> {
     Elements(Punctuated<T, Comma>),
 }
 
-/// What parentheses in the place of a type hold, over a type, the bounds of a trait object, and a trait bound. No reader answers it yet.
+/// What parentheses in the place of a type hold, over a type, the bounds of a trait object, and a trait bound.
 #[derive(Drop)]
 pub enum ParenContent<T, O, Q> {
     /// The elements of a tuple.
@@ -194,5 +194,45 @@ impl<
         let held = self.paren_content(&mut content, place)?;
         input.finish(content);
         Ok((paren_token, held))
+    }
+
+    /// A tree in an invisible group: syn's `TypeGroup`.
+    ///
+    /// Refused is what does not begin with an invisible group, and what the tree refuses; what is left in the group after the tree is left over.
+    #[tactic(auto, using(token_core::proofs::Suffixes::follows, crate::proofs::nested_laws::Ahead::later))]
+    pub fn in_invisible(
+        &self,
+        input: &mut ParseStream<'_>,
+        place: P,
+    ) -> Result<(GroupToken, Boxed<T>), Error>
+        requires nests { Nests T.read (length self.now.begin) (F.pre self.now.read) (F.post self.now.read) }
+        requires few { ahead input.old ≤ length self.now.begin }
+        ensures parses { Parses (reading.in_invisible (below.held T.read (length self.now.begin) place)) result input.old input.new }
+        ensures fewer { ahead input.new ≤ ahead input.old }
+    {
+        let (group_token, mut content) = open_invisible(self.alloc, input)?;
+        let tree = self.boxed(&mut content, place)?;
+        input.finish(content);
+        Ok((group_token, tree))
+    }
+
+    /// What parentheses in the place of a type hold where they begin with a type: `T`, or the elements of a tuple, `T,` and `T, U`.
+    ///
+    /// Refused is what the tree refuses, and two elements without a comma between them.
+    #[tactic(auto, using(token_core::proofs::Suffixes::follows))]
+    pub fn type_or_elements<O, Q>(
+        &self,
+        input: &mut ParseStream<'_>,
+        place: P,
+    ) -> Result<ParenContent<T, O, Q>, Error>
+        requires nests { Nests T.read (length self.now.begin) (F.pre self.now.read) (F.post self.now.read) }
+        requires few { ahead input.old < length self.now.begin }
+        ensures parses { Parses (reading.type_or_elements (below.held T.read (length self.now.begin) place)) result input.old input.new }
+    {
+        let value = self.value(input, place)?;
+        if input.peek::<Comma>() {
+            return Ok(ParenContent::Elements(self.more_elements(input, place, value)?));
+        }
+        Ok(ParenContent::One(Boxed::new(self.alloc, value)?))
     }
 }

@@ -1,28 +1,36 @@
 //! Arguments: of pointers to functions, and what they share with the arguments of function types.
 
-ghost use Rattle.std.specs.Prelude.{◌≡◌, ◌<◌, ◌≤◌, length, List, Option, IfOk};
+ghost use Rattle.std.specs.Prelude.{◌≡◌, ◌<◌, ◌≤◌, length, List};
 ghost use Rattle.token_core.specs.declared.tree.TokenStream.{TokenStream};
-ghost use Rattle.token_core.specs.Positions.{IsReached};
-ghost use Rattle.token_core.specs.Reads.{Reads, Follows, Parses, optional};
+ghost use Rattle.token_core.specs.Reads.{Parses, optional};
+ghost use Rattle.syn_forms.specs.groups.Reading.{in_parens};
 ghost use Rattle.syn_forms.specs.inputs.Reading as reading;
 ghost use Rattle.syn_forms.specs.nested.Below as below;
 ghost use Rattle.syn_forms.specs.nested.Below.{Nests, ahead};
-ghost use Rattle.syn_forms.specs.verbatim.Reading as verbatim;
 
+use crate::lists::Make;
 use crate::nested::{Nested, Tree};
-use crate::tokens::{parse_any_ident, parse_colon, parse_comma};
+use crate::tokens::{open_parens, parse_any_ident, parse_colon, parse_comma};
 use crate::verbatim::since;
 use std::alloc::Global;
 use std::marker::PhantomData;
 use syn_path::supplied::Attributes;
-use token_core::token::{Colon, Comma, DotDotDot, Mut, PathSep, SelfValue, Underscore};
-use token_core::{Cursor, Error, Ident, Items, ParseStream, Punctuated, TokenStream};
+use token_core::token::{
+    Colon, Comma, DotDotDot, Mut, Paren, PathSep, RArrow, SelfValue, Underscore,
+};
+use token_core::{Boxed, Error, Ident, Items, ParseStream, Punctuated, TokenStream};
 
 /// The name before an argument, if it has one: `x:`.
 pub type Name = Option<(Ident, Colon)>;
 
 /// `...` after the arguments: its name, if it has one, the dots, and a comma, if one stands there.
-pub type Dots = (Option<(Ident, Colon)>, DotDotDot, Option<Comma>);
+pub type Dots = (Name, DotDotDot, Option<Comma>);
+
+/// The arguments of a pointer to a function, and the `...` at their end with its attributes, if it stands there.
+pub type Inputs<B, I> = (Punctuated<I, Comma>, Option<(Items<B>, Dots)>);
+
+/// Arguments in parentheses, and the output after `->`, if it stands there.
+pub type Signature<T, I> = (Paren, Punctuated<I, Comma>, Option<(RArrow, Boxed<T>)>);
 
 /// How an argument is made.
 pub trait Argument<B, T, I>: Copy {
@@ -30,7 +38,7 @@ pub trait Argument<B, T, I>: Copy {
     ghost make: { Self → List B → reading.Name → T → I };
 
     /// Makes it.
-    fn make(self, attrs: Items<B>, name: Option<(Ident, Colon)>, ty: T) -> I
+    fn make(self, attrs: Items<B>, name: Name, ty: T) -> I
         ensures { result ≡ make self attrs name ty };
 }
 
@@ -81,11 +89,11 @@ fn sees_dots(input: &ParseStream<'_>) -> bool
 }
 
 /// Whether a name is not `self`, or none is there.
-fn is_other(name: &Option<(Ident, Colon)>) -> bool
+fn is_other(name: &Name) -> bool
     ensures { result ≡ reading.is_other name.now }
 {
     match name {
-        Some((ident, _)) => !(ident.text() == "self"),
+        Some((ident, _)) => ident.text() != "self",
         None => true,
     }
 }
@@ -107,7 +115,7 @@ fn parse_optional_name(
     alloc: Global,
     input: &mut ParseStream<'_>,
     own: bool,
-) -> Result<Option<(Ident, Colon)>, Error>
+) -> Result<Name, Error>
     ensures parses { Parses (optional (reading.sees_name own) reading.name) result input.old input.new }
     ensures fewer { ahead input.new ≤ ahead input.old }
 {
@@ -131,4 +139,198 @@ pub fn parse_dots(alloc: Global, input: &mut ParseStream<'_>) -> Result<Dots, Er
     let dots = input.parse::<DotDotDot>(alloc)?;
     let comma = input.parse_option::<Comma>(alloc)?;
     Ok((name, dots, comma))
+}
+
+impl<
+    'a,
+    P: Copy,
+    T: Tree<P>,
+    F: Fn(Global, PhantomData<T>, &mut ParseStream<'_>, P) -> Result<T, Error>,
+> Nested<'a, P, T, F> {
+    // ---- an argument after its attributes
+
+    /// A type, and a name before it that may be there.
+    #[tactic(auto, using(token_core::proofs::Suffixes::follows, crate::proofs::nested_laws::Ahead::later), unfolding(crate::specs::inputs::Reading::plain_argument))]
+    pub fn plain_argument(
+        &self,
+        input: &mut ParseStream<'_>,
+        place: P,
+    ) -> Result<(Name, T), Error>
+        requires nests { Nests T.read (length self.now.begin) (F.pre self.now.read) (F.post self.now.read) }
+        requires few { ahead input.old < length self.now.begin }
+        ensures parses { Parses (reading.plain_argument (below.held T.read (length self.now.begin) place)) result input.old input.new }
+        ensures fewer { ahead input.new ≤ ahead input.old }
+    {
+        let name = parse_optional_name(self.alloc, input, false)?;
+        let ty = self.value(input, place)?;
+        Ok((name, ty))
+    }
+
+    /// `mut self`, `mut self: T`: held as they were written, without a name.
+    #[tactic(auto, using(token_core::proofs::Suffixes::follows, token_core::proofs::Places::positions, crate::proofs::nested_laws::Ahead::later), unfolding(crate::specs::inputs::Reading::mut_self))]
+    fn mut_self<V: Verbatim<T>>(
+        &self,
+        input: &mut ParseStream<'_>,
+        place: P,
+        verbatim: V,
+    ) -> Result<(Name, T), Error>
+        requires nests { Nests T.read (length self.now.begin) (F.pre self.now.read) (F.post self.now.read) }
+        requires few { ahead input.old < length self.now.begin }
+        ensures parses { Parses (reading.mut_self (below.held T.read (length self.now.begin) place) (V.verbatim verbatim)) result input.old input.new }
+        ensures fewer { ahead input.new ≤ ahead input.old }
+    {
+        let from = input.cursor();
+        input.parse::<Mut>(self.alloc)?;
+        if sees_name(input, true) {
+            parse_name(self.alloc, input)?;
+            self.value(input, place)?;
+        } else {
+            input.parse::<SelfValue>(self.alloc)?;
+        }
+        let tokens = since(self.alloc, &from, input)?;
+        Ok((None, verbatim.verbatim(tokens)))
+    }
+
+    /// A type, and a name before it that may be there and be `self`; `x: mut self` is held as it was written, without a name.
+    #[tactic(auto, using(token_core::proofs::Suffixes::follows, token_core::proofs::Places::positions, crate::proofs::nested_laws::Ahead::later), unfolding(crate::specs::inputs::Reading::named_argument))]
+    fn named_argument<V: Verbatim<T>>(
+        &self,
+        input: &mut ParseStream<'_>,
+        place: P,
+        verbatim: V,
+    ) -> Result<(Name, T), Error>
+        requires nests { Nests T.read (length self.now.begin) (F.pre self.now.read) (F.post self.now.read) }
+        requires few { ahead input.old < length self.now.begin }
+        ensures parses { Parses (reading.named_argument (below.held T.read (length self.now.begin) place) (V.verbatim verbatim)) result input.old input.new }
+        ensures fewer { ahead input.new ≤ ahead input.old }
+    {
+        let from = input.cursor();
+        let name = parse_optional_name(self.alloc, input, true)?;
+        if is_other(&name) & sees_mut_self(input) {
+            input.parse::<Mut>(self.alloc)?;
+            input.parse::<SelfValue>(self.alloc)?;
+            let tokens = since(self.alloc, &from, input)?;
+            return Ok((None, verbatim.verbatim(tokens)));
+        }
+        let ty = self.value(input, place)?;
+        Ok((name, ty))
+    }
+
+    /// The first argument of a pointer to a function, which may be about `self`.
+    #[tactic(auto, using(token_core::proofs::Suffixes::follows), unfolding(crate::specs::inputs::Reading::first_argument))]
+    fn first_argument<V: Verbatim<T>>(
+        &self,
+        input: &mut ParseStream<'_>,
+        place: P,
+        verbatim: V,
+    ) -> Result<(Name, T), Error>
+        requires nests { Nests T.read (length self.now.begin) (F.pre self.now.read) (F.post self.now.read) }
+        requires few { ahead input.old < length self.now.begin }
+        ensures parses { Parses (reading.first_argument (below.held T.read (length self.now.begin) place) (V.verbatim verbatim)) result input.old input.new }
+        ensures fewer { ahead input.new ≤ ahead input.old }
+    {
+        if sees_mut_self(input) {
+            return self.mut_self(input, place, verbatim);
+        }
+        self.named_argument(input, place, verbatim)
+    }
+
+    /// An argument of a pointer to a function after its attributes, the first one or a later one (syn's `parse_bare_fn_arg`).
+    pub fn argument<V: Verbatim<T>>(
+        &self,
+        input: &mut ParseStream<'_>,
+        place: P,
+        verbatim: V,
+        first: bool,
+    ) -> Result<(Name, T), Error>
+        requires nests { Nests T.read (length self.now.begin) (F.pre self.now.read) (F.post self.now.read) }
+        requires few { ahead input.old < length self.now.begin }
+        ensures parses { Parses (reading.argument (below.held T.read (length self.now.begin) place) (V.verbatim verbatim) first) result input.old input.new }
+        ensures fewer { ahead input.new ≤ ahead input.old }
+    {
+        if first {
+            self.first_argument(input, place, verbatim)
+        } else {
+            self.plain_argument(input, place)
+        }
+    }
+
+    // ---- the arguments
+
+    /// The arguments of a pointer to a function, each with its attributes, joined by commas up to the end of the group: an
+    /// argument is made of its attributes, its name and its type, and the first one may be about `self`. A `...` ends them,
+    /// with its attributes, and nothing is read after it (the content of the parentheses in syn's `TypeBareFn`).
+    #[tactic(auto, using(token_core::proofs::Suffixes::follows))]
+    pub fn inputs<B: Attributes, I: Drop, K: Argument<B, T, I>, V: Verbatim<T>>(
+        &self,
+        input: &mut ParseStream<'_>,
+        place: P,
+        make: K,
+        verbatim: V,
+    ) -> Result<Inputs<B, I>, Error>
+        requires nests { Nests T.read (length self.now.begin) (F.pre self.now.read) (F.post self.now.read) }
+        requires few { ahead input.old < length self.now.begin }
+        ensures parses { Parses (reading.inputs (K.make make) B.reads (below.held T.read (length self.now.begin) place) (V.verbatim verbatim)) result input.old input.new }
+    {
+        let mut list = Punctuated::new(self.alloc);
+        let mut first = true;
+        'turn: loop {
+            if input.is_empty() {
+                return Ok((list, None));
+            }
+            let attrs = B::read_outer(self.alloc, input)?;
+            if sees_dots(input) {
+                let dots = parse_dots(self.alloc, input)?;
+                return Ok((list, Some((attrs, dots))));
+            }
+            let (name, ty) = self.argument(input, place, verbatim, first)?;
+            list.push_value(make.make(attrs, name, ty))?;
+            if input.is_empty() {
+                return Ok((list, None));
+            }
+            list.push_punct(parse_comma(self.alloc, input)?)?;
+            first = false;
+        }
+    }
+
+    // ---- the arguments of a function type
+
+    /// What is made of each type, in parentheses and joined by commas.
+    #[tactic(auto, using(token_core::proofs::Suffixes::follows, crate::proofs::nested_laws::Ahead::later))]
+    fn made_in_parens<V: Drop, K: Make<T, V>>(
+        &self,
+        input: &mut ParseStream<'_>,
+        place: P,
+        make: K,
+    ) -> Result<(Paren, Punctuated<V, Comma>), Error>
+        requires nests { Nests T.read (length self.now.begin) (F.pre self.now.read) (F.post self.now.read) }
+        requires few { ahead input.old ≤ length self.now.begin }
+        ensures parses { Parses (in_parens (reading.made_inputs (K.make make) (below.held T.read (length self.now.begin) place))) result input.old input.new }
+        ensures fewer { ahead input.new ≤ ahead input.old }
+    {
+        let (paren_token, mut content) = open_parens(self.alloc, input)?;
+        let values = self.made_list(&mut content, place, make)?;
+        input.finish(content);
+        Ok((paren_token, values))
+    }
+
+    /// Arguments in parentheses, joined by commas, of which each is made of its type, and the output after `->`, where it
+    /// stands: `(A, B) -> C` (syn's `ParenthesizedGenericArguments`).
+    #[tactic(auto, using(token_core::proofs::Suffixes::follows, crate::proofs::nested_laws::Ahead::later), unfolding(crate::specs::inputs::Reading::signature))]
+    pub fn signature<V: Drop, K: Make<T, V>>(
+        &self,
+        input: &mut ParseStream<'_>,
+        value_place: P,
+        output_place: P,
+        make: K,
+    ) -> Result<Signature<T, V>, Error>
+        requires nests { Nests T.read (length self.now.begin) (F.pre self.now.read) (F.post self.now.read) }
+        requires few { ahead input.old ≤ length self.now.begin }
+        ensures parses { Parses (reading.signature (K.make make) (below.held T.read (length self.now.begin) value_place) (below.held T.read (length self.now.begin) output_place)) result input.old input.new }
+        ensures fewer { ahead input.new ≤ ahead input.old }
+    {
+        let (paren_token, inputs) = self.made_in_parens(input, value_place, make)?;
+        let output = self.returned(input, output_place)?;
+        Ok((paren_token, inputs, output))
+    }
 }

@@ -9,6 +9,7 @@ pub mod heads;
 pub mod inputs;
 pub mod lists;
 pub mod nested;
+pub mod params;
 pub mod paths;
 pub mod places;
 pub mod tokens;

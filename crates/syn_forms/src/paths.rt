@@ -1,9 +1,9 @@
 //! Paths, over the arguments of their segments and over the type that qualifies them.
 
-ghost use Rattle.std.specs.Prelude.{◌≡◌, ◌<◌, ◌≤◌, ◌+◌, ◌↔◌, length, Bool, IsFalse, IfOk, IfSome, MatchOption, option_map};
-ghost use Rattle.token_core.specs.Lists.{last};
+ghost use Rattle.std.specs.Prelude.{◌≡◌, ◌<◌, ◌≤◌, ◌+◌, ◌↔◌, length, Bool, IsFalse, IfOk, IfSome, OnOk, MatchOption, option_map};
+ghost use Rattle.token_core.specs.Lists.{last, put_last};
 ghost use Rattle.token_core.specs.Loops.{after};
-ghost use Rattle.token_core.specs.Reads.{Parses, sees_word, read_word, ident_name};
+ghost use Rattle.token_core.specs.Reads.{Parses, and_then, pure, sees_word, read_word, ident_name};
 ghost use Rattle.token_core.specs.Toks.{Toks};
 ghost use Rattle.syn_path.specs.path.Reading.{sees_sep};
 ghost use Rattle.syn_forms.specs.nested.Below as below;
@@ -199,6 +199,33 @@ impl<
         })
     }
 
+    /// The segments after a path that ends in a segment and a `::` that goes on with it.
+    #[tactic(auto, using(token_core::proofs::Suffixes::follows, crate::proofs::paths_laws::Longer::longer_paths))]
+    fn longer<S: Further>(
+        &self,
+        input: &mut ParseStream<'_>,
+        style: PathStyle,
+        further: S,
+        path: PathOf<G>,
+        sep: PathSep,
+    ) -> Result<PathOf<G>, Error>
+        requires nests { Nests G.read (length self.now.begin) (F.pre self.now.read) (F.post self.now.read) }
+        requires few { ahead input.old ≤ length self.now.begin }
+        requires ended { length path.segments.0 ≡ length path.segments.1 + 1 }
+        ensures parses { Parses (λ s. and_then (reading.segments G.absent (below.held G.read (length self.now.begin) tt) (S.more further) style s) (λ all. pure (reading.longer path sep all))) result input.old input.new }
+    {
+        let PathOf {
+            leading_colon,
+            mut segments,
+        } = path;
+        segments.push_punct(sep)?;
+        let segments = self.segments_after(input, style, further, segments)?;
+        Ok(PathOf {
+            leading_colon,
+            segments,
+        })
+    }
+
     /// A `::` and further segments, where they go on with a path: with one that stood in an invisible group, for one.
     ///
     /// A path that ends in a mark goes on with nothing. It is that of syn's `Path::parse_rest`.
@@ -217,16 +244,8 @@ impl<
         if ends_in_mark(&path) | !goes_on(input) {
             return Ok(path);
         }
-        let PathOf {
-            leading_colon,
-            mut segments,
-        } = path;
-        segments.push_punct(parse_path_sep(self.alloc, input)?)?;
-        let segments = self.segments_after(input, style, BeforeParens, segments)?;
-        Ok(PathOf {
-            leading_colon,
-            segments,
-        })
+        let sep = parse_path_sep(self.alloc, input)?;
+        self.longer(input, style, BeforeParens, path, sep)
     }
 
     /// `as` and a path, that may be there.
@@ -249,7 +268,7 @@ impl<
     ///
     /// The position of the type is the number of segments between `as` and `>`. Where there is no `as`, the `::` after `>` is
     /// the path's leading colon. The segments after it don't stop before parentheses. It is that of syn's `path::parsing::qpath`, where a `<` stands.
-    #[tactic(auto, using(token_core::proofs::Suffixes::follows, crate::proofs::nested_laws::Ahead::later, crate::proofs::lists_laws::Turns::none_yet), unfolding(crate::specs::paths::Reading::qualified))]
+    #[tactic(auto, using(token_core::proofs::Suffixes::follows, crate::proofs::nested_laws::Ahead::later, crate::proofs::lists_laws::Turns::none_yet, crate::proofs::paths_laws::Longer::behind_paths), unfolding(crate::specs::paths::Reading::qualified))]
     pub fn qualified<
         P: Copy,
         T: Tree<P>,
@@ -273,18 +292,36 @@ impl<
         let trait_path = self.as_path(input)?;
         let gt_token = parse_gt(self.alloc, input)?;
         let sep = parse_path_sep(self.alloc, input)?;
-        let (position, as_token, leading_colon, segments) = match trait_path {
-            None => (0, None, Some(sep), Punctuated::new(self.alloc)),
+        match trait_path {
+            None => {
+                let segments =
+                    self.segments_after(input, style, AtSep, Punctuated::new(self.alloc))?;
+                let qself = QSelfOf {
+                    lt_token,
+                    ty,
+                    position: 0,
+                    as_token: None,
+                    gt_token,
+                };
+                let path = PathOf {
+                    leading_colon: Some(sep),
+                    segments,
+                };
+                Ok((qself, path))
+            }
             Some((as_token, path)) => {
                 let position = count_segments(&path)?;
-                let PathOf { leading_colon, mut segments } = path;
-                segments.push_punct(sep)?;
-                (position, Some(as_token), leading_colon, segments)
+                let path = self.longer(input, style, AtSep, path, sep)?;
+                let qself = QSelfOf {
+                    lt_token,
+                    ty,
+                    position,
+                    as_token: Some(as_token),
+                    gt_token,
+                };
+                Ok((qself, path))
             }
-        };
-        let segments = self.segments_after(input, style, AtSep, segments)?;
-        let qself = QSelfOf { lt_token, ty, position, as_token, gt_token };
-        Ok((qself, PathOf { leading_colon, segments }))
+        }
     }
 
     /// A path, qualified by a type where a `<` stands.
@@ -360,15 +397,34 @@ pub fn with_last_arguments<G: Drop>(path: PathOf<G>, arguments: G) -> Result<Pat
         leading_colon,
         mut segments,
     } = path;
-    if let Some((segment, mark)) = segments.pop() {
-        let ident = segment.ident;
-        segments.push_value(PathSegmentOf { ident, arguments })?;
-        if let Some(mark) = mark {
-            segments.push_punct(mark)?;
+    match segments.pop() {
+        None => Ok(PathOf {
+            leading_colon,
+            segments,
+        }),
+        Some((segment, mark)) => {
+            let ident = segment.ident;
+            push_last(&mut segments, PathSegmentOf { ident, arguments }, mark)?;
+            Ok(PathOf {
+                leading_colon,
+                segments,
+            })
         }
     }
-    Ok(PathOf {
-        leading_colon,
-        segments,
-    })
+}
+
+/// Puts a value at the end, and its mark if it has one.
+fn push_last<T: Drop, P: Drop>(
+    list: &mut Punctuated<T, P>,
+    value: T,
+    mark: Option<P>,
+) -> Result<(), AllocError>
+    requires { length list.old.0 ≡ length list.old.1 }
+    ensures { OnOk result (list.new ≡ put_last list.old (value, mark)) }
+{
+    list.push_value(value)?;
+    match mark {
+        Some(mark) => list.push_punct(mark),
+        None => Ok(()),
+    }
 }

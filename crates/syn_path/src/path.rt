@@ -7,8 +7,10 @@ ghost use Rattle.token_core.specs.Joined.{values_of, marks_of};
 ghost use Rattle.token_core.specs.Spans.{none};
 ghost use Rattle.token_core.specs.Trees.{trees};
 ghost use Rattle.token_core.specs.Prints.{Print, Extends, Appends};
-ghost use Rattle.token_core.specs.Reads.{Reads, sees_word, Parses};
+ghost use Rattle.token_core.specs.Reads.{Reader, Reads, Follows, Gives, Fails, sees_word, Parses};
 ghost use Rattle.token_core.specs.Headline.{Heads};
+ghost use Rattle.syn_path.specs.declared.path.PathOf.{PathOf};
+ghost use Rattle.syn_path.specs.declared.path.PathSegmentOf.{PathSegmentOf};
 ghost use Rattle.syn_path.specs.path.Grammars as grammars;
 ghost use Rattle.syn_path.specs.path.Paths as spec;
 ghost use Rattle.syn_path.specs.path.Reading as reading;
@@ -21,8 +23,8 @@ use token_core::token::{
     SelfValue, ShlEq, Super, Try,
 };
 use token_core::{
-    Boxed, Error, ErrorKind, Ident, Lifetime, Lit, ParseStream, Punctuated, Span, Spanned, Text,
-    ToTokens, Token, TokenStream,
+    Boxed, Error, ErrorKind, Ident, Lifetime, Lit, Parse, ParseStream, Punctuated, Span, Spanned,
+    Text, ToTokens, Token, TokenStream,
 };
 
 /// A path, over what stands in the place of its segments' arguments: an optional leading `::`, and segments joined by `::`.
@@ -82,6 +84,26 @@ pub trait Arguments: Drop {
     ) -> Result<(), AllocError>
         ensures ok { OnOk result (trees out.new ≡ trees out.old ++ shapes.segment_by shown segment.now) }
         ensures err { OnErr result (Extends (trees out.old) (trees out.new)) };
+}
+
+/// Arguments with which paths are read.
+pub trait ReadArguments: Arguments {
+    /// The read of a path with such arguments, a function of the stream.
+    ghost reads_path: { Reader (PathOf Self) };
+
+    /// The read of a segment with such arguments, a function of the stream.
+    ghost reads_segment: { Reader (PathSegmentOf Self) };
+
+    /// Reads a path.
+    fn parse_path(alloc: Global, input: &mut ParseStream<'_>) -> Result<PathOf<Self>, Error>
+        ensures parses { Parses reads_path result input.old input.new };
+
+    /// Reads a segment.
+    fn parse_segment(
+        alloc: Global,
+        input: &mut ParseStream<'_>,
+    ) -> Result<PathSegmentOf<Self>, Error>
+        ensures parses { Parses reads_segment result input.old input.new };
 }
 
 /// The arguments of a segment that has none.
@@ -315,6 +337,36 @@ impl<A: Arguments> PathOf<A> {
     }
 }
 
+/// Reads a path with the arguments that its segments may have.
+impl<A: ReadArguments> Parse for PathOf<A> {
+    ghost reads = { Gives A.reads_path };
+
+    ghost refuses = { Fails A.reads_path };
+
+    #[tactic(auto, using(token_core::specs::Reads::no_promise))]
+    fn parse(alloc: Global, input: &mut ParseStream<'_>) -> Result<PathOf<A>, Error>
+        ensures reads { Reads (A.reads_path input.old) result input.new }
+        ensures within { Follows input.old input.new }
+    {
+        A::parse_path(alloc, input)
+    }
+}
+
+/// Reads a segment of a path with the arguments that it may have.
+impl<A: ReadArguments> Parse for PathSegmentOf<A> {
+    ghost reads = { Gives A.reads_segment };
+
+    ghost refuses = { Fails A.reads_segment };
+
+    #[tactic(auto, using(token_core::specs::Reads::no_promise))]
+    fn parse(alloc: Global, input: &mut ParseStream<'_>) -> Result<PathSegmentOf<A>, Error>
+        ensures reads { Reads (A.reads_segment input.old) result input.new }
+        ensures within { Follows input.old input.new }
+    {
+        A::parse_segment(alloc, input)
+    }
+}
+
 /// A path without arguments.
 #[tactic(auto, using(token_core::proofs::Suffixes::follows), unfolding(crate::specs::path::Reading::bare_path))]
 pub fn parse_bare_path<A: Arguments>(
@@ -480,9 +532,85 @@ fn parse_bare_segments<A: Arguments>(
     }
 }
 
+// ---- paths without arguments, and paths that may have some
+
+impl<A: Arguments> PathOf<A> {
+    /// Whether no segment has arguments (syn's `Path::is_mod_style`).
+    pub fn is_mod_style(&self) -> bool
+        ensures { result ≡ spec.is_mod_style A.is_absent self.now }
+    {
+        for segment in self.segments.iter() {
+            if !segment.arguments.are_none() {
+                return false;
+            }
+        }
+        true
+    }
+
+    /// The segment of a path that is one, with its arguments: no leading colon, and no other segment.
+    #[tactic(auto, using(crate::proofs::path_laws::Lone::firsts))]
+    pub fn lone_segment(&self) -> Option<&PathSegmentOf<A>>
+        ensures { option_map (λ s. s.now) result ≡ spec.lone_segment self.now }
+    {
+        if self.leading_colon.is_some() || self.segments.value(1).is_some() {
+            return None;
+        }
+        self.segments.value(0)
+    }
+
+    /// The same, taken out of the path.
+    #[tactic(auto, using(crate::proofs::path_laws::Lone::lasts))]
+    pub fn into_lone_segment(self) -> Option<PathSegmentOf<A>>
+        ensures { result ≡ spec.lone_segment self }
+    {
+        let PathOf {
+            leading_colon,
+            mut segments,
+        } = self;
+        if leading_colon.is_some() {
+            return None;
+        }
+        match segments.pop() {
+            Some((segment, _)) => {
+                if segments.is_empty() {
+                    Some(segment)
+                } else {
+                    None
+                }
+            }
+            None => None,
+        }
+    }
+
+    /// The path as one that can have no arguments, as those of macros and attributes are. There is none where a segment has
+    /// arguments. Refused for want of memory alone.
+    pub fn to_mod_path(&self, alloc: Global) -> Result<Option<ModPath>, AllocError>
+        ensures { IfOk result (λ o. o ≡ spec.to_mod_path A.is_absent self.now) }
+    {
+        if self.is_mod_style() {
+            return Ok(Some(without_arguments(alloc, self)?));
+        }
+        Ok(None)
+    }
+
+    /// A path without arguments as one whose segments may have some, as those of types do. Refused for want of memory alone.
+    pub fn from_mod_path(alloc: Global, path: &ModPath) -> Result<PathOf<A>, AllocError>
+        ensures { IfOk result (λ p. p ≡ spec.without A.absent path.now) }
+    {
+        bare_path(alloc, path)
+    }
+}
+
 /// The path without its arguments.
 pub fn without_arguments<A>(alloc: Global, path: &PathOf<A>) -> Result<ModPath, AllocError>
     ensures { IfOk result (λ p. p ≡ spec.without spec.nothing path.now) }
+{
+    bare_path(alloc, path)
+}
+
+/// The leading colon, identifiers and marks of a path, with no arguments of another kind.
+fn bare_path<A, B: Arguments>(alloc: Global, path: &PathOf<A>) -> Result<PathOf<B>, AllocError>
+    ensures { IfOk result (λ p. p ≡ spec.without B.absent path.now) }
 {
     let segments = bare_segments(alloc, &path.segments)?;
     Ok(PathOf {
@@ -492,11 +620,11 @@ pub fn without_arguments<A>(alloc: Global, path: &PathOf<A>) -> Result<ModPath, 
 }
 
 #[tactic(auto, using(crate::proofs::path_laws::Texts::texts))]
-fn bare_segments<A>(
+fn bare_segments<A, B: Arguments>(
     alloc: Global,
     segments: &Punctuated<PathSegmentOf<A>, PathSep>,
-) -> Result<Punctuated<ModSegment, PathSep>, AllocError>
-    ensures { IfOk result (λ v. v ≡ spec.segments_without spec.nothing segments.now) }
+) -> Result<Punctuated<PathSegmentOf<B>, PathSep>, AllocError>
+    ensures { IfOk result (λ v. v ≡ spec.segments_without B.absent segments.now) }
 {
     let (pairs, last) = segments.parts();
     let mut bare = Punctuated::new(alloc);
@@ -513,10 +641,13 @@ fn bare_segments<A>(
     }
 }
 
-fn bare_segment<A>(alloc: Global, segment: &PathSegmentOf<A>) -> Result<ModSegment, AllocError>
-    ensures { IfOk result (λ s. s ≡ spec.segment_of spec.nothing segment.now.ident) }
+fn bare_segment<A, B: Arguments>(
+    alloc: Global,
+    segment: &PathSegmentOf<A>,
+) -> Result<PathSegmentOf<B>, AllocError>
+    ensures { IfOk result (λ s. s ≡ spec.segment_of B.absent segment.now.ident) }
 {
-    Ok(ModSegment::from(segment.ident.copy(alloc)?))
+    Ok(PathSegmentOf::from(segment.ident.copy(alloc)?))
 }
 
 impl<A: Arguments> ToTokens for PathOf<A> {

@@ -37,13 +37,13 @@ one_yet_at x p (Err e) = refl
 pub ruleset begun_lists = (one_yet_at)
 
 module _ {A P : Type 0} (stops : Bool → Toks → Bool) (value : Reader A) (more : Toks → Bool) (joint : Reader P) where
-  abbrev Goes : ℕ → Bool → Reader (Many A P)
+  abbrev pub Goes : ℕ → Bool → Reader (Many A P)
   Goes = listed_from stops (λ first. value) more joint
 
-  abbrev after_mark : ℕ → A → P → Reader (Many A P)
+  abbrev pub after_mark : ℕ → A → P → Reader (Many A P)
   after_mark n x p = Goes n false >>= (λ rest. pure (put stops (λ first. value) more joint x p rest))
 
-  abbrev after_value : ℕ → A → Reader (Many A P)
+  abbrev pub after_value : ℕ → A → Reader (Many A P)
   after_value n x = λ t. (if more t.rest then (joint >>= after_mark n x) else pure (one stops (λ first. value) more joint x)) t
 
   begun : (n : ℕ) (v : Many A P) (b : Bool) (s : Stream) → stops b s.rest ≡ false → after v (Goes (suc n) b s) ≡ after v ((value >>= after_value n) s)

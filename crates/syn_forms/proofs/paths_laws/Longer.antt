@@ -1,6 +1,7 @@
 -- Segments after those that were found.
 use Rattle.std.specs.Prelude.{IsTrue, ◌↔◌, nat_eq}
 use Rattle.std.proofs.Common.{◌≡◌, ℕ, Bool, true, false, List, [], ◌∷◌, ◌++◌, length, Option, Some, None, Ok, Err, refl, sym, ◌∙◌, ap, append_assoc}
+use Rattle.std.proofs.lemmas.Bool.{eq-eqb, eqb-true}
 use Rattle.token_core.specs.Loops.{Many, after, onto}
 use Rattle.token_core.specs.Reads.{Outcome, and_then, pure}
 use Rattle.token_core.specs.Refusal.{Refusal}
@@ -23,3 +24,32 @@ after_as f xs ps c (Ok q) w t h =
 pub after_refused : {A P : Type 0} (v : Many A P) (o : Outcome (Many A P)) (e : Refusal) → after v o ≡ Err e → o ≡ Err e
 after_refused v (Ok q) e h = cc
 after_refused v (Err r) e h = h
+
+-- a path with what was found and further segments
+pub longer_read : {G : Type 0} (p : PathOf G) (c : Sep) (o : Outcome (Many (PathSegmentOf G) Sep)) (w : Many (PathSegmentOf G) Sep) (t : Stream) → after (p.segments.0, p.segments.1 ++ c ∷ []) o ≡ Ok (w, t) →
+    and_then o (λ all. pure (longer p c all)) ≡ Ok (path_of p.leading_colon w, t)
+longer_read p c o w t h = after_as (path_of p.leading_colon) p.segments.0 p.segments.1 c o w t h
+
+pub ruleset longer_paths = (longer_read, after_refused)
+
+-- what is answered beside what was read
+pub beside_read : {A B C : Type 0} (y : B) (f : A → C) (o : Outcome A) (z : C) (t : Stream) → and_then o (λ x. pure (f x)) ≡ Ok (z, t) → and_then {B = B × C} o (λ x. pure (y, f x)) ≡ Ok ((y, z), t)
+beside_read y f (Err e) z t h = cc
+beside_read y f (Ok q) z t h = let g = same_pair (f q.0) z q.1 t h in ap (λ a. Ok ((y, a), q.1)) g.0 ∙ ap (λ b. Ok ((y, z), b)) g.1
+
+pub longer_refused : {G : Type 0} (p : PathOf G) (c : Sep) (o : Outcome (Many (PathSegmentOf G) Sep)) (e : Refusal) → and_then o (λ all. pure (longer p c all)) ≡ Err e → o ≡ Err e
+longer_refused p c (Ok q) e h = cc
+longer_refused p c (Err r) e h = ap (λ a. Err a) (cc)
+
+pub ruleset behind_paths = (beside_read, longer_refused)
+
+-- as many marks as values, by a test
+pub counted-is : (b : Bool) (n m : ℕ) → (IsTrue b ↔ (n ≡ m)) → b ≡ nat_eq n m
+counted-is true n m h = sym (eq-eqb n m (h.0 refl))
+counted-is false n m h = by_test (nat_eq n m) refl
+  where
+    by_test : (c : Bool) → nat_eq n m ≡ c → false ≡ c
+    by_test true e = sym (sym (h.1 (eqb-true n m e)))
+    by_test false e = refl
+
+pub ruleset counted = (counted-is)

@@ -56,8 +56,8 @@ module _ {A : Type 0} (value : Reader A) where
       goes ← peek sees_comma
       if goes then Elements <$> more_elements value x else pure (One x))
 
--- In the place of a type: over the reads of a type, of a trait object that begins with a lifetime, and of a trait bound.
-module _ {A O Q : Type 0} (value : Reader A) (object : Reader O) (asked : Reader Q) where
+-- In the place of a type:
+module _ {A O Q : Type 0} (value : Reader A) where
   -- a type, or the elements of a tuple after the first
   abbrev pub type_or_elements : Reader (ParenContent A O Q)
   type_or_elements = do
@@ -65,6 +65,8 @@ module _ {A O Q : Type 0} (value : Reader A) (object : Reader O) (asked : Reader
     goes ← peek sees_comma
     if goes then c.Elements <$> more_elements value x else pure (c.One x)
 
+-- over the reads of a type, of a trait object that begins with a lifetime, and of a trait bound
+module _ {A O Q : Type 0} (value : Reader A) (object : Reader O) (asked : Reader Q) where
   -- nothing is an empty tuple; a lifetime begins a trait object and a `?` a trait bound, before a type is tried
   unfoldable pub type_paren_content : Reader (ParenContent A O Q)
   type_paren_content = do
@@ -73,7 +75,7 @@ module _ {A O Q : Type 0} (value : Reader A) (object : Reader O) (asked : Reader
       lifetime ← peek sees_lifetime
       if lifetime then c.Object <$> object else (do
         question ← peek token.sees_question
-        if question then c.Asked <$> asked else type_or_elements))
+        if question then c.Asked <$> asked else type_or_elements value))
 
 module _ {A E : Type 0} (lens : Reader E) (value : Reader A) where
   -- a tree, and perhaps a length

@@ -18,10 +18,13 @@ abbrev pub Signature : Type 0 → Type 0 → Type 0
 Signature A I = Paren × Many I token.Comma × Option (token.RArrow × A)
 
 -- each argument is made of its type
+abbrev pub made_inputs : {A I : Type 0} → (A → I) → Reader A → Reader (Many I token.Comma)
+made_inputs make value = terminated is_done (make <$> value) token.comma
+
 module _ {A I : Type 0} (make : A → I) (value output : Reader A) where
   unfoldable pub signature : Reader (Signature A I)
   signature = do
-    g ← in_parens (terminated is_done (make <$> value) token.comma)
+    g ← in_parens (made_inputs make value)
     r ← returned output
     pure (g.0, g.1, r)
 

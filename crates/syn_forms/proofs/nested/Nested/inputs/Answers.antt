@@ -1,0 +1,90 @@
+use Rattle.std.proofs.Common.{◌≡◌, ◌<◌, true, false, ◌++◌, ◌∷◌, [], length, sym, subst, rules, arith}
+use Rattle.std.proofs.lemmas.Grind.{common_steps}
+use Rattle.token_core.specs.Loops.{size}
+use Rattle.token_core.specs.Reads.{is_done, Follows}
+use Rattle.token_core.proofs.Suffixes.{follows, follows_trans}
+use Rattle.syn_forms.specs.inputs.Reading.{inputs, sees_dots}
+use Rattle.syn_forms.specs.nested.Below.{held}
+use Rattle.syn_forms.proofs.inputs_laws.Turns.{Told, start, told_ended, told_last, next}
+use Rattle.syn_forms.proofs.nested_laws.Ahead.{ahead_follows, fewer_tokens}
+use Rattle.syn_forms.proofs.nested.Nested.inputs.Goals as goal
+
+pub turn-init : goal.turn-init
+turn-init g c =
+    let make = g.K.Argument.make c.args.make in
+    let value = held g.T.Tree.read (length c.args.self.now.begin) c.args.place in
+    let verbatim = g.V.Verbatim.verbatim c.args.verbatim in
+    let s = c.args.input.now in
+    record {
+      told = subst (λ z. Told make g.B.Attributes.reads value verbatim (inputs make g.B.Attributes.reads value verbatim s) z true s) (sym c.new-list.ensures) (start make g.B.Attributes.reads value verbatim s);
+      whole = grind (arith, common_steps);
+      few = c.requires.few;
+      within = grind (arith, follows);
+    }
+
+pub returns-then-sees_dots : goal.returns-then-sees_dots
+returns-then-sees_dots g c =
+    let make = g.K.Argument.make c.args.make in
+    let value = held g.T.Tree.read (length c.args.self.now.begin) c.args.place in
+    let verbatim = g.V.Verbatim.verbatim c.args.verbatim in
+    let goes : is_done c.turn.input.rest ≡ false = first_of (search rules, grind (arith, common_steps)) in
+    let dotted : sees_dots c.read_outer.new.input.rest ≡ true = first_of (search rules, grind (arith, common_steps)) in
+    record {
+      parses = (
+        told_ended make g.B.Attributes.reads value verbatim (inputs make g.B.Attributes.reads value verbatim c.args.input.now) c.turn.list c.turn.first c.turn.input c.read_outer.new.input c.parse_dots.new.input c.in_ok-attrs.attrs c.in_ok-dots.dots
+            c.turn.invariant.told (record { goes = goes; reads = c.in_ok-attrs.ensures.reads }) dotted c.in_ok-dots.ensures.parses.0,
+        grind (arith, follows),
+      );
+    }
+
+pub argument-requires-clause-few : goal.argument-requires-clause-few
+argument-requires-clause-few g c =
+    let few = c.turn.invariant.few in
+    let le = ahead_follows c.turn.input c.read_outer.new.input c.read_outer.ensures.within in
+    omega (arith, few, le)
+
+pub returns-then-is_empty-2 : goal.returns-then-is_empty-2
+returns-then-is_empty-2 g c =
+    let make = g.K.Argument.make c.args.make in
+    let value = held g.T.Tree.read (length c.args.self.now.begin) c.args.place in
+    let verbatim = g.V.Verbatim.verbatim c.args.verbatim in
+    let goes : is_done c.turn.input.rest ≡ false = first_of (search rules, grind (arith, common_steps)) in
+    let undotted : sees_dots c.read_outer.new.input.rest ≡ false = first_of (search rules, grind (arith, common_steps)) in
+    let over : is_done c.argument.new.input.rest ≡ true = first_of (search rules, grind (arith, common_steps)) in
+    let pushed : c.push_value.new.self ≡ (c.turn.list.0 ++ make c.in_ok-attrs.attrs c.in_ok-name.name c.in_ok-name.ty ∷ [], c.turn.list.1) = first_of (search rules, grind (arith, common_steps)) in
+    record {
+      parses = (
+        told_last make g.B.Attributes.reads value verbatim (inputs make g.B.Attributes.reads value verbatim c.args.input.now) c.turn.list c.push_value.new.self c.turn.first c.turn.input c.read_outer.new.input c.argument.new.input c.in_ok-attrs.attrs (c.in_ok-name.name, c.in_ok-name.ty)
+            c.turn.invariant.told (record { bears = record { goes = goes; reads = c.in_ok-attrs.ensures.reads }; no_dots = undotted; reads = c.in_ok-name.ensures.parses.0 }) over pushed,
+        grind (arith, follows),
+      );
+    }
+
+pub turn-smaller : goal.turn-smaller
+turn-smaller g c =
+    let le = ahead_follows c.turn.input c.read_outer.new.input c.read_outer.ensures.within in
+    let fewer = c.argument.ensures.fewer in
+    let less = c.in_ok-parse_comma.ensures.taken in
+    omega (arith, le, fewer, less)
+
+pub turn-preserved : goal.turn-preserved
+turn-preserved g c =
+    let make = g.K.Argument.make c.args.make in
+    let value = held g.T.Tree.read (length c.args.self.now.begin) c.args.place in
+    let verbatim = g.V.Verbatim.verbatim c.args.verbatim in
+    let goes : is_done c.turn.input.rest ≡ false = first_of (search rules, grind (arith, common_steps)) in
+    let undotted : sees_dots c.read_outer.new.input.rest ≡ false = first_of (search rules, grind (arith, common_steps)) in
+    let more : is_done c.argument.new.input.rest ≡ false = first_of (search rules, grind (arith, common_steps)) in
+    let pushed : c.push_punct.new.self ≡ (c.turn.list.0 ++ make c.in_ok-attrs.attrs c.in_ok-name.name c.in_ok-name.ty ∷ [], c.turn.list.1 ++ c.in_ok-parse_comma.field-0 ∷ []) = first_of (search rules, grind (arith, common_steps)) in
+    let before : Follows c.turn.input c.argument.new.input = follows_trans c.turn.input c.read_outer.new.input c.argument.new.input c.read_outer.ensures.within c.argument.ensures.parses.1 in
+    let taken = c.in_ok-parse_comma.ensures.taken in
+    let less : size c.parse_comma.new.input.rest < size c.turn.input.rest = fewer_tokens c.turn.input c.argument.new.input c.parse_comma.new.input before c.parse_comma.ensures.parses.1 taken in
+    let few = c.turn.invariant.few in
+    let le = ahead_follows c.turn.input c.argument.new.input before in
+    record {
+      told = next make g.B.Attributes.reads value verbatim (inputs make g.B.Attributes.reads value verbatim c.args.input.now) c.turn.list c.push_punct.new.self c.turn.first c.turn.input c.read_outer.new.input c.argument.new.input c.parse_comma.new.input c.in_ok-attrs.attrs (c.in_ok-name.name, c.in_ok-name.ty) c.in_ok-parse_comma.field-0
+          c.turn.invariant.told (record { bears = record { goes = goes; reads = c.in_ok-attrs.ensures.reads }; no_dots = undotted; reads = c.in_ok-name.ensures.parses.0 }) more c.in_ok-parse_comma.ensures.parses.0 less pushed;
+      whole = grind (arith, common_steps);
+      few = omega (arith, few, le, taken);
+      within = grind (arith, follows);
+    }
