@@ -400,12 +400,10 @@ impl<
     {
         match lifetimes {
             Some(lifetimes) => Ok(Some(lifetimes)),
-            None => {
-                if maybe.is_some() {
-                    return self.optional_binder(input);
-                }
-                Ok(None)
-            }
+            None => match maybe {
+                Some(_) => self.optional_binder(input),
+                None => Ok(None),
+            },
         }
     }
 
@@ -487,10 +485,12 @@ impl<
         requires few { ahead input.old ≤ length self.now.begin }
         ensures parses { Parses (reading.trait_in (knot.reads_below A.reads E.reads (length self.now.begin)) consts) result input.old input.new }
     {
-        if consts {
-            return self.trait_or_const(input);
-        }
-        Ok(Some(self.trait_bound(input)?))
+        let bound = if consts {
+            self.trait_or_const(input)?
+        } else {
+            Some(self.trait_bound(input)?)
+        };
+        Ok(bound)
     }
 
     /// The same in parentheses.
@@ -713,10 +713,11 @@ impl<
         ensures parses { Parses (reading.param_step A.reads E.reads (knot.reads_below A.reads E.reads (length self.now.begin)) place) result input.old input.new }
     {
         let attrs = A::read_outer(self.alloc, input)?;
-        match place {
-            ParamPlace::Binder => self.in_binder(input, attrs),
-            ParamPlace::Generics => self.in_generics(input, attrs),
-        }
+        let param = match place {
+            ParamPlace::Binder => self.in_binder(input, attrs)?,
+            ParamPlace::Generics => self.in_generics(input, attrs)?,
+        };
+        Ok(param)
     }
 }
 
