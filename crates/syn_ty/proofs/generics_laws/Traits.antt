@@ -12,12 +12,12 @@ use Rattle.syn_ty.specs.ty.Trees.{BoundLifetimes, Path, TraitBound}
 
 module _ {A E : Type 0} where
   -- without a `?` any binder may stand
-  unasked : (x : Option (BoundLifetimes A E)) (p : Path A E) (s : Stream) → trait_of x None p s ≡ pure (named_bound x None p) s
+  pub unasked : (x : Option (BoundLifetimes A E)) (p : Path A E) (s : Stream) → trait_of x None p s ≡ pure (named_bound x None p) s
   unasked (Some x) p s = refl
   unasked None p s = refl
 
   -- what parentheses held is kept as what stands without them
-  in_parens : (from : List Item) (t : Paren) (x : Option (TraitBound A E)) (s : Stream) → kept_in_parens from (t, x) s ≡ kept from (option_map (λ y. held_bound t y) x) s
+  pub in_parens : (from : List Item) (t : Paren) (x : Option (TraitBound A E)) (s : Stream) → kept_in_parens from (t, x) s ≡ kept from (option_map (λ y. held_bound t y) x) s
   in_parens from t (Some x) s = refl
   in_parens from t None s = refl
 
