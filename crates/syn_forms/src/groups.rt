@@ -211,9 +211,9 @@ impl<
         ensures fewer { ahead input.new ≤ ahead input.old }
     {
         let (group_token, mut content) = open_invisible(self.alloc, input)?;
-        let tree = self.boxed(&mut content, place)?;
+        let held = self.boxed(&mut content, place)?;
         input.finish(content);
-        Ok((group_token, tree))
+        Ok((group_token, held))
     }
 
     /// What parentheses in the place of a type hold where they begin with a type: `T`, or the elements of a tuple, `T,` and `T, U`.

@@ -84,8 +84,7 @@ fn sees_dots(input: &ParseStream<'_>) -> bool
     ensures { result ≡ reading.sees_dots input.now.rest }
 {
     input.peek::<DotDotDot>()
-        | (sees_ident_or_underscore(input)
-            & (input.peek2::<Colon>() & input.peek3::<DotDotDot>()))
+        | (sees_ident_or_underscore(input) & (input.peek2::<Colon>() & input.peek3::<DotDotDot>()))
 }
 
 /// Whether a name is not `self`, or none is there.
@@ -111,11 +110,7 @@ fn parse_name(alloc: Global, input: &mut ParseStream<'_>) -> Result<(Ident, Colo
 
 /// A name that may be there.
 #[tactic(auto, using(token_core::proofs::Suffixes::follows, crate::proofs::nested_laws::Ahead::later))]
-fn parse_optional_name(
-    alloc: Global,
-    input: &mut ParseStream<'_>,
-    own: bool,
-) -> Result<Name, Error>
+fn parse_optional_name(alloc: Global, input: &mut ParseStream<'_>, own: bool) -> Result<Name, Error>
     ensures parses { Parses (optional (reading.sees_name own) reading.name) result input.old input.new }
     ensures fewer { ahead input.new ≤ ahead input.old }
 {
@@ -125,8 +120,10 @@ fn parse_optional_name(
     Ok(None)
 }
 
-/// `...` after the arguments, with an optional name before it and an optional comma after it: `args: ...,`. Refused where
-/// the name has no `:`, and where no `...` follows (syn's `parse_bare_variadic`).
+/// `...` after the arguments, with an optional name before it and an optional comma after it: `args: ...,`, as in syn's
+/// `parse_fn_ptr_variadic`.
+///
+/// Refused are a name without `:`, and what is no `...`.
 #[tactic(auto, using(token_core::proofs::Suffixes::follows), unfolding(crate::specs::inputs::Reading::dots))]
 pub fn parse_dots(alloc: Global, input: &mut ParseStream<'_>) -> Result<Dots, Error>
     ensures parses { Parses reading.dots result input.old input.new }
@@ -149,13 +146,11 @@ impl<
 > Nested<'a, P, T, F> {
     // ---- an argument after its attributes
 
-    /// A type, and a name before it that may be there.
+    /// A type, and a name before it that may be there: `x: T`, as in syn's `NamedArg` without its attributes.
+    ///
+    /// A name is an identifier or `_` before a `:` that is not `::`. Refused is what the type refuses.
     #[tactic(auto, using(token_core::proofs::Suffixes::follows, crate::proofs::nested_laws::Ahead::later), unfolding(crate::specs::inputs::Reading::plain_argument))]
-    pub fn plain_argument(
-        &self,
-        input: &mut ParseStream<'_>,
-        place: P,
-    ) -> Result<(Name, T), Error>
+    pub fn plain_argument(&self, input: &mut ParseStream<'_>, place: P) -> Result<(Name, T), Error>
         requires nests { Nests T.read (length self.now.begin) (F.pre self.now.read) (F.post self.now.read) }
         requires few { ahead input.old < length self.now.begin }
         ensures parses { Parses (reading.plain_argument (below.held T.read (length self.now.begin) place)) result input.old input.new }
@@ -235,7 +230,11 @@ impl<
         self.named_argument(input, place, verbatim)
     }
 
-    /// An argument of a pointer to a function after its attributes, the first one or a later one (syn's `parse_bare_fn_arg`).
+    /// An argument of a pointer to a function after its attributes, the first one or a later one, as in syn's
+    /// `parse_fn_ptr_arg`.
+    ///
+    /// The first one may be about `self`: `self: T` has a name, and `mut self`, `mut self: T` and `x: mut self` are held as
+    /// they were written. Refused are what the type refuses, and what follows `mut` and is no `self`.
     pub fn argument<V: Verbatim<T>>(
         &self,
         input: &mut ParseStream<'_>,
@@ -257,9 +256,11 @@ impl<
 
     // ---- the arguments
 
-    /// The arguments of a pointer to a function, each with its attributes, joined by commas up to the end of the group: an
-    /// argument is made of its attributes, its name and its type, and the first one may be about `self`. A `...` ends them,
-    /// with its attributes, and nothing is read after it (the content of the parentheses in syn's `TypeBareFn`).
+    /// The arguments of a pointer to a function, each with its attributes, joined by commas up to the end of the group, as
+    /// in syn's `TypeFnPtr`: `self: A, x: B, ...`. There may be none, and a comma may follow the last.
+    ///
+    /// A `...` ends them, with its attributes, and nothing is read after it. Refused are what attributes, an argument or
+    /// `...` refuses, and what follows an argument and is no comma.
     #[tactic(auto, using(token_core::proofs::Suffixes::follows))]
     pub fn inputs<B: Attributes, I: Drop, K: Argument<B, T, I>, V: Verbatim<T>>(
         &self,
@@ -314,8 +315,10 @@ impl<
         Ok((paren_token, values))
     }
 
-    /// Arguments in parentheses, joined by commas, of which each is made of its type, and the output after `->`, where it
-    /// stands: `(A, B) -> C` (syn's `ParenthesizedGenericArguments`).
+    /// Arguments in parentheses, joined by commas, each made of its type, and the output after `->`, where it stands, as in
+    /// syn's `ParenthesizedGenericArguments`: `(A, B) -> C`. A comma may follow the last argument.
+    ///
+    /// Refused are what are no parentheses, what a type refuses, and what follows an argument and is no comma.
     #[tactic(auto, using(token_core::proofs::Suffixes::follows, crate::proofs::nested_laws::Ahead::later), unfolding(crate::specs::inputs::Reading::signature))]
     pub fn signature<V: Drop, K: Make<T, V>>(
         &self,

@@ -32,9 +32,9 @@ fn peek_bare_word(input: &ParseStream<'_>) -> bool
         | (input.peek::<SelfValue>() | (input.peek::<Crate>() | input.peek::<Try>()))
 }
 
-/// Whether `::` and `<` are at the front.
+/// Whether `::` and `<` are at the front: arguments that may follow a segment in both styles.
 #[tactic(auto, unfolding(crate::specs::paths::Reading::sees_turbofish))]
-fn peek_turbofish(input: &ParseStream<'_>) -> bool
+pub fn peek_turbofish(input: &ParseStream<'_>) -> bool
     ensures { result ≡ reading.sees_turbofish input.now.rest }
 {
     input.peek::<PathSep>() & input.peek3::<Lt>()
@@ -59,7 +59,7 @@ fn goes_on(input: &ParseStream<'_>) -> bool
 }
 
 /// Where segments go on after one.
-pub trait Further: Copy {
+trait Further: Copy {
     /// Whether a `::` and a further segment follow.
     ghost more: { Self → Toks → Bool };
 
@@ -70,7 +70,7 @@ pub trait Further: Copy {
 
 /// At each `::`: behind a type that qualifies them.
 #[derive(Clone, Copy)]
-pub struct AtSep;
+struct AtSep;
 
 impl Further for AtSep {
     ghost more = { λ further. sees_sep };
@@ -82,9 +82,9 @@ impl Further for AtSep {
 
 /// At a `::` that no parentheses follow: in a path.
 #[derive(Clone, Copy)]
-pub struct BeforeParens;
+struct UnlessParens;
 
-impl Further for BeforeParens {
+impl Further for UnlessParens {
     ghost more = { λ further. reading.goes_on };
 
     fn goes_on(self, input: &ParseStream<'_>) -> bool {
@@ -133,8 +133,9 @@ impl<
 
     /// A segment: `super`, `self`, `crate` or `try`, or an identifier that is no keyword or `Self` with its arguments.
     ///
-    /// In the style of types the arguments are `<..>` or `::<..>`, in that of expressions `::<..>` alone. It is refused where
-    /// no such word stands. It is that of syn's `PathSegment::parse_helper`.
+    /// In the style of types arguments begin with `<` or `::<`, in that of expressions with `::<` alone; a `<` of `<=` or `<<=`
+    /// begins none. It is refused where no such word stands, and where the arguments are. This is syn's
+    /// `PathSegment::parse_helper`.
     #[tactic(auto, using(token_core::proofs::Suffixes::follows), unfolding(crate::specs::paths::Reading::segment))]
     pub fn segment(
         &self,
@@ -180,8 +181,8 @@ impl<
 
     /// A path: an optional `::`, and segments joined by `::`. It stops before a `::` and parentheses.
     ///
-    /// It is refused where no segment begins, and after a `::` that none follows. It is that of syn's `Path::parse` in the
-    /// style of types, and of `Path::parse_helper` in that of expressions.
+    /// It is refused where no segment begins, and after a `::` that none follows. This is syn's `Path::parse_helper`, in the
+    /// style of types its `Path::parse`.
     #[tactic(auto, using(token_core::proofs::Suffixes::follows, crate::proofs::nested_laws::Ahead::later, crate::proofs::lists_laws::Turns::none_yet), unfolding(crate::specs::paths::Reading::path))]
     pub fn path(&self, input: &mut ParseStream<'_>, style: PathStyle) -> Result<PathOf<G>, Error>
         requires nests { Nests G.read (length self.now.begin) (F.pre self.now.read) (F.post self.now.read) }
@@ -191,8 +192,12 @@ impl<
         ensures ended { IfOk result (λ p. length p.segments.0 ≡ length p.segments.1 + 1) }
     {
         let leading_colon = parse_leading(self.alloc, input)?;
-        let segments =
-            self.segments_after(input, style, BeforeParens, Punctuated::new(self.alloc))?;
+        let segments = self.segments_after(
+            input,
+            style,
+            UnlessParens,
+            Punctuated::new(self.alloc),
+        )?;
         Ok(PathOf {
             leading_colon,
             segments,
@@ -228,7 +233,8 @@ impl<
 
     /// A `::` and further segments, where they go on with a path: with one that stood in an invisible group, for one.
     ///
-    /// A path that ends in a mark goes on with nothing. It is that of syn's `Path::parse_rest`.
+    /// A path that ends in a mark goes on with nothing. It is refused after a `::` that no segment follows. This is syn's
+    /// `Path::parse_rest`.
     #[tactic(auto, using(token_core::proofs::Suffixes::follows, crate::proofs::nested_laws::Ahead::later), unfolding(crate::specs::paths::Reading::rest))]
     pub fn rest(
         &self,
@@ -245,7 +251,7 @@ impl<
             return Ok(path);
         }
         let sep = parse_path_sep(self.alloc, input)?;
-        self.longer(input, style, BeforeParens, path, sep)
+        self.longer(input, style, UnlessParens, path, sep)
     }
 
     /// `as` and a path, that may be there.
@@ -266,8 +272,9 @@ impl<
 
     /// A path behind the type that qualifies it: `<T>::f`, `<T as a::B>::C`.
     ///
-    /// The position of the type is the number of segments between `as` and `>`. Where there is no `as`, the `::` after `>` is
-    /// the path's leading colon. The segments after it don't stop before parentheses. It is that of syn's `path::parsing::qpath`, where a `<` stands.
+    /// Its position is the number of segments between `as` and `>`. Where there is no `as` it is 0, and the `::` after `>` is the
+    /// path's leading colon. The segments after `>` don't stop before parentheses. It is refused where one of `<`, the type,
+    /// the path behind `as`, `>`, `::` and a segment isn't there. This is syn's `path::parsing::qpath` at a `<`.
     #[tactic(auto, using(token_core::proofs::Suffixes::follows, crate::proofs::nested_laws::Ahead::later, crate::proofs::lists_laws::Turns::none_yet, crate::proofs::paths_laws::Longer::behind_paths), unfolding(crate::specs::paths::Reading::qualified))]
     pub fn qualified<
         P: Copy,
@@ -294,8 +301,12 @@ impl<
         let sep = parse_path_sep(self.alloc, input)?;
         match trait_path {
             None => {
-                let segments =
-                    self.segments_after(input, style, AtSep, Punctuated::new(self.alloc))?;
+                let segments = self.segments_after(
+                    input,
+                    style,
+                    AtSep,
+                    Punctuated::new(self.alloc),
+                )?;
                 let qself = QSelfOf {
                     lt_token,
                     ty,
@@ -324,9 +335,9 @@ impl<
         }
     }
 
-    /// A path, qualified by a type where a `<` stands.
+    /// A path, behind a type that qualifies it where a `<` stands: `a::B<C>`, `<T as a::B>::C`.
     ///
-    /// It is that of syn's `path::parsing::qpath`.
+    /// It is refused as the path is, or the qualified path. This is syn's `path::parsing::qpath`.
     #[tactic(auto, using(token_core::proofs::Suffixes::follows), unfolding(crate::specs::paths::Reading::maybe_qualified))]
     pub fn maybe_qualified<
         P: Copy,

@@ -9,8 +9,8 @@ use std::alloc::Global;
 use token_core::verbatim::between;
 use token_core::{Cursor, Error, ErrorKind, ParseStream, Span, TokenStream};
 
-/// A copy of the trees from a position up to where the stream stands (syn's `verbatim::between`). It is refused for want
-/// of memory alone.
+/// A copy of the trees from a position up to where the stream stands, as in syn's `verbatim::between`. A group that ends
+/// further on is entered and not kept. It is refused for want of memory alone.
 #[tactic(auto, unfolding(crate::specs::verbatim::Reading::since))]
 pub fn since(
     alloc: Global,
@@ -23,14 +23,14 @@ pub fn since(
     Ok(between(alloc, from, &input.cursor())?)
 }
 
-/// A refusal of a kind that has one text, at a token that was read (syn's `Error::new`).
+/// A refusal of a kind that has one text, at a token that was read, as by syn's `Error::new`.
 pub fn refuse_at(alloc: Global, kind: ErrorKind, span: Span) -> Error
     ensures made { Made result (refusal kind (fixed kind) span span) }
 {
     Error::named(alloc, kind, span)
 }
 
-/// A refusal of a kind that has one text, from a token on up to where the stream stands (syn's `Error::new2`).
+/// A refusal of a kind that has one text, from a token on up to the last one that was read, as by syn's `Error::new2`.
 pub fn refuse_since(alloc: Global, kind: ErrorKind, from: Span, input: &ParseStream<'_>) -> Error
     ensures made { Made result (refusal kind (fixed kind) from input.now.last) }
 {

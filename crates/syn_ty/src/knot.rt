@@ -4,12 +4,12 @@ ghost use Rattle.token_core.specs.Reads.{Reads, Follows, Parses};
 ghost use Rattle.syn_ty.specs.ty.Knot as knot;
 
 use crate::generics::{GenericParamOf, TypeParamBoundOf};
-use crate::grammar::Grammar;
+use crate::grammar::{Grammar, Points};
 use crate::path::{GenericArgumentOf, PathArgumentsOf};
 use crate::ty::TypeOf;
 use std::alloc::Global;
 use std::marker::PhantomData;
-use syn_forms::nested::{Held, Tree};
+use syn_forms::nested::Tree;
 use syn_forms::places::{BoundPlace, ParamPlace, TypePlace};
 use syn_path::supplied::{Attributes, Value};
 use token_core::{Error, ParseStream};
@@ -32,4 +32,175 @@ impl<A: Attributes, E: Value> Tree<()> for GenericArgumentOf<A, E> {
 
 impl<A: Attributes, E: Value> Tree<()> for PathArgumentsOf<A, E> {
     ghost read = { knot.arguments_in A.reads E.reads };
+}
+
+/// Reads a type in its place.
+#[cycle(knot)]
+#[tactic(auto, using(crate::proofs::ty_laws::Knot::turns))]
+pub fn parse_type<A: Attributes, E: Value>(
+    alloc: Global,
+    of: PhantomData<TypeOf<A, E>>,
+    input: &mut ParseStream<'_>,
+    place: TypePlace,
+) -> Result<TypeOf<A, E>, Error>
+    ensures parses { Parses (knot.ty A.reads E.reads place) result input.old input.new }
+{
+    Grammar {
+        alloc,
+        of: PhantomData,
+        begin: input.cursor(),
+        types: parse_type::<A, E>,
+        bounds: parse_bound::<A, E>,
+        params: parse_param::<A, E>,
+        args: parse_argument::<A, E>,
+        segments: parse_arguments::<A, E>,
+    }
+    .type_step(input, place)
+}
+
+/// Reads a bound in its place.
+#[cycle(knot)]
+#[tactic(auto, using(crate::proofs::ty_laws::Knot::turns))]
+pub fn parse_bound<A: Attributes, E: Value>(
+    alloc: Global,
+    of: PhantomData<TypeParamBoundOf<A, E>>,
+    input: &mut ParseStream<'_>,
+    place: BoundPlace,
+) -> Result<TypeParamBoundOf<A, E>, Error>
+    ensures parses { Parses (knot.bound A.reads E.reads place) result input.old input.new }
+{
+    Grammar {
+        alloc,
+        of: PhantomData,
+        begin: input.cursor(),
+        types: parse_type::<A, E>,
+        bounds: parse_bound::<A, E>,
+        params: parse_param::<A, E>,
+        args: parse_argument::<A, E>,
+        segments: parse_arguments::<A, E>,
+    }
+    .bound_step(input, place)
+}
+
+/// Reads a parameter in its place.
+#[cycle(knot)]
+#[tactic(auto, using(crate::proofs::ty_laws::Knot::turns))]
+pub fn parse_param<A: Attributes, E: Value>(
+    alloc: Global,
+    of: PhantomData<GenericParamOf<A, E>>,
+    input: &mut ParseStream<'_>,
+    place: ParamPlace,
+) -> Result<GenericParamOf<A, E>, Error>
+    ensures parses { Parses (knot.param A.reads E.reads place) result input.old input.new }
+{
+    Grammar {
+        alloc,
+        of: PhantomData,
+        begin: input.cursor(),
+        types: parse_type::<A, E>,
+        bounds: parse_bound::<A, E>,
+        params: parse_param::<A, E>,
+        args: parse_argument::<A, E>,
+        segments: parse_arguments::<A, E>,
+    }
+    .param_step(input, place)
+}
+
+/// Reads an argument in angle brackets. It has one place.
+#[cycle(knot)]
+#[tactic(auto, using(crate::proofs::ty_laws::Knot::turns))]
+pub fn parse_argument<A: Attributes, E: Value>(
+    alloc: Global,
+    of: PhantomData<GenericArgumentOf<A, E>>,
+    input: &mut ParseStream<'_>,
+    place: (),
+) -> Result<GenericArgumentOf<A, E>, Error>
+    ensures parses { Parses (knot.argument A.reads E.reads) result input.old input.new }
+{
+    Grammar {
+        alloc,
+        of: PhantomData,
+        begin: input.cursor(),
+        types: parse_type::<A, E>,
+        bounds: parse_bound::<A, E>,
+        params: parse_param::<A, E>,
+        args: parse_argument::<A, E>,
+        segments: parse_arguments::<A, E>,
+    }
+    .argument_step(input)
+}
+
+/// Reads the arguments of a segment, in angle brackets. They have one place.
+#[cycle(knot)]
+#[tactic(auto, using(crate::proofs::ty_laws::Knot::turns))]
+pub fn parse_arguments<A: Attributes, E: Value>(
+    alloc: Global,
+    of: PhantomData<PathArgumentsOf<A, E>>,
+    input: &mut ParseStream<'_>,
+    place: (),
+) -> Result<PathArgumentsOf<A, E>, Error>
+    ensures parses { Parses (knot.arguments A.reads E.reads) result input.old input.new }
+{
+    Grammar {
+        alloc,
+        of: PhantomData,
+        begin: input.cursor(),
+        types: parse_type::<A, E>,
+        bounds: parse_bound::<A, E>,
+        params: parse_param::<A, E>,
+        args: parse_argument::<A, E>,
+        segments: parse_arguments::<A, E>,
+    }
+    .arguments_step(input)
+}
+
+/// The knot, for forms by themselves: what they hold is read by its functions.
+#[derive(Drop)]
+pub struct Knot {}
+
+impl<A: Attributes, E: Value> Points<A, E> for Knot {
+    fn read_type(
+        alloc: Global,
+        of: PhantomData<TypeOf<A, E>>,
+        input: &mut ParseStream<'_>,
+        place: TypePlace,
+    ) -> Result<TypeOf<A, E>, Error> {
+        parse_type(alloc, of, input, place)
+    }
+
+    fn read_bound(
+        alloc: Global,
+        of: PhantomData<TypeParamBoundOf<A, E>>,
+        input: &mut ParseStream<'_>,
+        place: BoundPlace,
+    ) -> Result<TypeParamBoundOf<A, E>, Error> {
+        parse_bound(alloc, of, input, place)
+    }
+
+    fn read_param(
+        alloc: Global,
+        of: PhantomData<GenericParamOf<A, E>>,
+        input: &mut ParseStream<'_>,
+        place: ParamPlace,
+    ) -> Result<GenericParamOf<A, E>, Error> {
+        parse_param(alloc, of, input, place)
+    }
+
+    fn read_argument(
+        alloc: Global,
+        of: PhantomData<GenericArgumentOf<A, E>>,
+        input: &mut ParseStream<'_>,
+        place: (),
+    ) -> Result<GenericArgumentOf<A, E>, Error> {
+        parse_argument(alloc, of, input, place)
+    }
+
+    fn read_arguments(
+        alloc: Global,
+        of: PhantomData<PathArgumentsOf<A, E>>,
+        input: &mut ParseStream<'_>,
+        place: (),
+    ) -> Result<PathArgumentsOf<A, E>, Error> {
+        parse_arguments(alloc, of, input, place)
+    }
 }

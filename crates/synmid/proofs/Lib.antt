@@ -3,3 +3,4 @@ pub mod Whole
 pub mod Said
 pub mod Idents
 pub mod Weights
+pub mod Statements

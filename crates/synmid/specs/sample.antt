@@ -7,4 +7,5 @@ pub mod Groups
 pub mod Steady
 pub mod Joins
 pub mod Reads
+pub mod Sums
 pub mod Laws

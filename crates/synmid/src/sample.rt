@@ -1,5 +1,5 @@
-//! A supplied subtree to run with: literals, paths and parenthesis groups of the same, joined by `+`. In a block nothing
-//! is read yet: there the read refuses, and no list is spelt.
+//! A supplied subtree to run with: literals, paths and parenthesis groups of the same, joined by `+`. In a block such sums
+//! stand as statements, each ended by `;`.
 
 ghost use Rattle.std.specs.Prelude.{◌≡◌, ◌++◌, OnOk, OnErr};
 ghost use Rattle.token_core.specs.Trees.{trees};
@@ -14,14 +14,20 @@ ghost use Rattle.synmid.specs.sample.Laws as laws;
 
 use std::alloc::{AllocError, Global};
 use syn_mid::{Place, Subtree};
-use token_core::token::{Crate, Paren, PathSep, Plus, SelfType, SelfValue, Super};
+use token_core::token::{Crate, Paren, PathSep, Plus, SelfType, SelfValue, Semi, Super};
 use token_core::{Error, Ident, Lit, Parse, ParseStream, Punctuated, ToTokens, Token, TokenStream};
 
-/// Atoms, joined by `+`.
+/// What stands where an expression may stand.
 #[derive(Drop)]
-pub struct Sample {
-    pub atoms: Punctuated<Atom, Plus>,
+pub enum Sample {
+    /// An expression: atoms, joined by `+`.
+    Sum(Sum),
+    /// What a block holds: expressions, each ended by `;`, which the last may lack.
+    Statements(Punctuated<Sum, Semi>),
 }
+
+/// Atoms, joined by `+`.
+pub type Sum = Punctuated<Atom, Plus>;
 
 /// What stands between `+`.
 #[derive(Drop)]
@@ -29,7 +35,7 @@ pub enum Atom {
     Lit(Lit),
     Path(ModPath),
     /// Atoms in parentheses, joined by `+`.
-    Group(Paren, Punctuated<Atom, Plus>),
+    Group(Paren, Sum),
 }
 
 /// A path of mod style, held over tokens alone: a `Path` of the sample would be a cycle.
@@ -138,7 +144,7 @@ fn read_group(alloc: Global, input: &mut ParseStream<'_>) -> Result<Atom, Error>
 /// Atoms joined by `+`, at least one.
 #[cycle(atoms)]
 #[tactic(auto, using(token_core::proofs::Suffixes::follows))]
-fn read_atoms(alloc: Global, input: &mut ParseStream<'_>) -> Result<Punctuated<Atom, Plus>, Error>
+fn read_atoms(alloc: Global, input: &mut ParseStream<'_>) -> Result<Sum, Error>
     ensures reads { Reads (reading.atoms input.old) result input.new }
     ensures within { Follows input.old input.new }
 {
@@ -159,8 +165,7 @@ fn read_sum(alloc: Global, input: &mut ParseStream<'_>) -> Result<Sample, Error>
     ensures reads { Reads (reading.sum input.old) result input.new }
     ensures within { Follows input.old input.new }
 {
-    let atoms = read_atoms(alloc, input)?;
-    Ok(Sample { atoms })
+    Ok(Sample::Sum(read_atoms(alloc, input)?))
 }
 
 /// The same, but no literal that ends the stream: after it a `+` is needed.
@@ -169,11 +174,41 @@ fn read_value(alloc: Global, input: &mut ParseStream<'_>) -> Result<Sample, Erro
     ensures reads { Reads (reading.value input.old) result input.new }
     ensures within { Follows input.old input.new }
 {
-    let sample = read_sum(alloc, input)?;
-    if sample.is_lone_literal() & input.is_empty() {
+    let atoms = read_atoms(alloc, input)?;
+    if is_lone_literal(&atoms) & input.is_empty() {
         return Err(input.expected(alloc, "`+`"));
     }
-    Ok(sample)
+    Ok(Sample::Sum(atoms))
+}
+
+/// Sums up to the end of the stream, each ended by `;`; the last may lack it, and there may be none.
+#[tactic(auto, using(token_core::proofs::Suffixes::follows))]
+fn read_statements(
+    alloc: Global,
+    input: &mut ParseStream<'_>,
+) -> Result<Punctuated<Sum, Semi>, Error>
+    ensures reads { Reads (reading.statements input.old) result input.new }
+    ensures within { Follows input.old input.new }
+{
+    let mut statements = Punctuated::new(alloc);
+    'turn: while !input.is_empty() {
+        let sum = read_atoms(alloc, input)?;
+        statements.push_value(sum)?;
+        if input.is_empty() {
+            return Ok(statements);
+        }
+        statements.push_punct(input.parse::<Semi>(alloc)?)?;
+    }
+    Ok(statements)
+}
+
+/// The same as what a block holds.
+#[tactic(auto, using(token_core::proofs::Suffixes::follows), unfolding(crate::specs::sample::Reading::block))]
+fn read_block(alloc: Global, input: &mut ParseStream<'_>) -> Result<Sample, Error>
+    ensures reads { Reads (reading.block input.old) result input.new }
+    ensures within { Follows input.old input.new }
+{
+    Ok(Sample::Statements(read_statements(alloc, input)?))
 }
 
 impl Atom {
@@ -189,19 +224,17 @@ impl Atom {
     }
 }
 
-impl Sample {
-    /// Whether it is one literal.
-    #[tactic(auto, using(crate::specs::sample::Parts::firsts))]
-    fn is_lone_literal(&self) -> bool
-        ensures { result ≡ spec.lone self.now.atoms.0 }
-    {
-        if self.atoms.value(1).is_some() {
-            return false;
-        }
-        match self.atoms.value(0) {
-            Some(atom) => atom.is_lit(),
-            None => false,
-        }
+/// Whether the sum is one literal.
+#[tactic(auto, using(crate::specs::sample::Parts::firsts))]
+fn is_lone_literal(sum: &Sum) -> bool
+    ensures { result ≡ spec.lone sum.now.0 }
+{
+    if sum.value(1).is_some() {
+        return false;
+    }
+    match sum.value(0) {
+        Some(atom) => atom.is_lit(),
+        None => false,
     }
 }
 
@@ -219,11 +252,7 @@ fn print_path(alloc: Global, path: &ModPath, out: &mut TokenStream) -> Result<()
 /// Appends atoms and their marks; refused, what stood before is kept.
 #[cycle(print)]
 #[tactic(auto, using(token_core::proofs::Puts::puts, crate::specs::sample::Prints::prints))]
-fn print_atoms(
-    alloc: Global,
-    atoms: &Punctuated<Atom, Plus>,
-    out: &mut TokenStream,
-) -> Result<(), AllocError>
+fn print_atoms(alloc: Global, atoms: &Sum, out: &mut TokenStream) -> Result<(), AllocError>
     ensures ok { OnOk result (trees out.new ≡ trees out.old ++ printing.atoms atoms.now) }
     ensures err { OnErr result (Extends (trees out.old) (trees out.new)) }
 {
@@ -265,10 +294,13 @@ impl ToTokens for Atom {
 }
 
 impl ToTokens for Sample {
-    ghost print = { printing.sum };
+    ghost print = { printing.sample };
 
     fn append_tokens(&self, alloc: Global, out: &mut TokenStream) -> Result<(), AllocError> {
-        print_atoms(alloc, &self.atoms, out)
+        match self {
+            Sample::Sum(atoms) => print_atoms(alloc, atoms, out),
+            Sample::Statements(sums) => sums.append_tokens(alloc, out),
+        }
     }
 }
 
@@ -281,7 +313,7 @@ impl Subtree for Sample {
 
     ghost normal = { λ _ x. x };
 
-    ghost prints = { λ _. printing.sum };
+    ghost prints = { λ _. printing.sample };
 
     ghost steady = { laws.steady };
 
@@ -299,7 +331,7 @@ impl Subtree for Sample {
             Place::ArrayLen => read_sum(alloc, input),
             Place::Value => read_value(alloc, input),
             Place::Guard => read_sum(alloc, input),
-            Place::Block => Err(input.expected(alloc, "sample")),
+            Place::Block => read_block(alloc, input),
         }
     }
 

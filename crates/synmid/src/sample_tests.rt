@@ -124,9 +124,43 @@ fn lengths_may_be_literals(rt: HostRuntime) {
 }
 
 #[test]
-fn blocks_are_refused(rt: HostRuntime) {
+fn blocks_are_statements(rt: HostRuntime) {
     let alloc = rt.alloc();
-    says(&rt, alloc, block(alloc, "a;"), "expected sample 0-1 0-1");
+    for (text, wanted) in [
+        ("", ""),
+        ("a", "a"),
+        ("a;", "a ;"),
+        ("1; 2", "1 ; 2"),
+        ("1;-2;true;", "1 ; - 2 ; true ;"),
+        (
+            "a::b+1; ::c; (d + (1 + e)) + f;",
+            "a :: b + 1 ; :: c ; (d + (1 + e)) + f ;",
+        ),
+        ("\\(a;\\) \\(\\) b", "a ; b"),
+    ] {
+        says(&rt, alloc, block(alloc, text), wanted);
+    }
+}
+
+#[test]
+fn other_blocks_are_refused(rt: HostRuntime) {
+    let alloc = rt.alloc();
+    for (text, wanted) in [
+        (";", "expected identifier 0-1 0-1"),
+        ("a;;", "expected identifier 2-3 2-3"),
+        ("a b", "expected `;` 2-3 2-3"),
+        ("a; 1, b", "expected `;` 4-5 4-5"),
+        ("a; b + ;", "expected identifier 7-8 7-8"),
+        ("(a;)", "unexpected token 2-3 2-3"),
+        ("(a b); c", "unexpected token 3-4 3-4"),
+        (
+            "();",
+            "unexpected end of input, expected identifier 1-2 1-2",
+        ),
+        ("let", "expected identifier 0-3 0-3"),
+    ] {
+        says(&rt, alloc, block(alloc, text), wanted);
+    }
 }
 
 /// An expression in 50 groups.

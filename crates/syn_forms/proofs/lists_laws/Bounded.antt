@@ -1,5 +1,5 @@
 -- Values that are asked only where less than a limit is left, in a list that begins there and goes on with less.
-use Rattle.std.proofs.Common.{◌≡◌, ℕ, zero, suc, ◌<◌, ◌≤◌, Bool, true, false, Ok, Err, refl, ap, ◌∙◌, sym, arith, if◌then◌else◌, ◌∷◌}
+use Rattle.std.proofs.Common.{◌≡◌, ℕ, zero, suc, ◌<◌, ◌≤◌, Bool, true, false, Ok, Err, refl, ap, ◌∙◌, arith, if◌then◌else◌, ◌∷◌}
 use Rattle.std.proofs.lemmas.Bool.{lt-ltb}
 use Rattle.token_core.specs.Stream.{Stream}
 use Rattle.token_core.specs.Toks.{Toks}

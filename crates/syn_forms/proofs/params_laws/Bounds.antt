@@ -1,10 +1,9 @@
 -- A default that is refused after the bounds of a type parameter.
-use Rattle.std.proofs.Common.{◌≡◌, Bool, Option, Ok, Err, ap}
+use Rattle.std.proofs.Common.{◌≡◌, Option, Ok, Err, ap}
 use Rattle.token_core.specs.declared.tree.Ident.{Ident}
 use Rattle.token_core.specs.Loops.{Many}
 use Rattle.token_core.specs.Refusal.{Refusal}
 use Rattle.token_core.specs.Stream.{Stream}
-use Rattle.token_core.specs.Toks.{Toks}
 use Rattle.token_core.specs.Reads.{Reader, and_then, optional, is_ident, ident_name, read_word, pure}
 use Rattle.token_core.specs.Tokens as token
 use Rattle.token_core.proofs.Steps.{link}

@@ -1,5 +1,5 @@
 -- The arguments of the last segment.
-use Rattle.std.proofs.Common.{◌≡◌, List, [], ◌∷◌, ◌++◌, Option, Some, None, refl, ap}
+use Rattle.std.proofs.Common.{◌≡◌, List, [], ◌∷◌, ◌++◌, Some, None, refl, ap}
 use Rattle.token_core.specs.Lists.{last}
 use Rattle.syn_path.specs.declared.path.PathSegmentOf.{PathSegmentOf}
 use Rattle.syn_forms.specs.paths.Reading.{last_arguments, last_with, with_arguments}

@@ -1,17 +1,20 @@
 -- Segments after those that were found.
 use Rattle.std.specs.Prelude.{IsTrue, ◌↔◌, nat_eq}
-use Rattle.std.proofs.Common.{◌≡◌, ℕ, Bool, true, false, List, [], ◌∷◌, ◌++◌, length, Option, Some, None, Ok, Err, refl, sym, ◌∙◌, ap, append_assoc}
+use Rattle.std.proofs.Common.{◌≡◌, ℕ, Bool, true, false, List, [], ◌∷◌, ◌++◌, length, Some, Ok, Err, refl, sym, ◌∙◌, ap, append_assoc}
 use Rattle.std.proofs.lemmas.Bool.{eq-eqb, eqb-true}
 use Rattle.token_core.specs.Loops.{Many, after, onto}
-use Rattle.token_core.specs.Reads.{Outcome, and_then, pure}
+use Rattle.token_core.specs.Reads.{Outcome, Reader, and_then, pure}
 use Rattle.token_core.specs.Refusal.{Refusal}
 use Rattle.token_core.specs.Stream.{Stream}
 use Rattle.token_core.specs.Tokens as token
+use Rattle.token_core.proofs.Steps.{link}
 use Rattle.token_core.proofs.Turns.{same_pair}
 use Rattle.syn_path.specs.declared.path.PathOf.{PathOf}
 use Rattle.syn_path.specs.declared.path.PathSegmentOf.{PathSegmentOf}
+use Rattle.syn_path.specs.declared.path.PathStyle.{PathStyle}
 use Rattle.syn_path.specs.path.Paths.{Sep, path_of}
-use Rattle.syn_forms.specs.paths.Reading.{longer}
+use Rattle.syn_path.specs.path.Reading.{sees_sep, sep}
+use Rattle.syn_forms.specs.paths.Reading.{as_path, longer, qself_of, qualified, segments}
 
 -- what is made of the values and marks that were found, a mark, and those that follow
 pub after_as : {A P B : Type 0} (f : Many A P → B) (xs : List A) (ps : List P) (c : P) (o : Outcome (Many A P)) (w : Many A P) (t : Stream) → after (xs, ps ++ c ∷ []) o ≡ Ok (w, t) →
@@ -37,11 +40,19 @@ pub beside_read : {A B C : Type 0} (y : B) (f : A → C) (o : Outcome A) (z : C)
 beside_read y f (Err e) z t h = cc
 beside_read y f (Ok q) z t h = let g = same_pair (f q.0) z q.1 t h in ap (λ a. Ok ((y, a), q.1)) g.0 ∙ ap (λ b. Ok ((y, z), b)) g.1
 
-pub longer_refused : {G : Type 0} (p : PathOf G) (c : Sep) (o : Outcome (Many (PathSegmentOf G) Sep)) (e : Refusal) → and_then o (λ all. pure (longer p c all)) ≡ Err e → o ≡ Err e
-longer_refused p c (Ok q) e h = cc
-longer_refused p c (Err r) e h = ap (λ a. Err a) (cc)
+pub beside_refused : {A B C : Type 0} (y : B) (f : A → C) (o : Outcome A) (e : Refusal) → and_then o (λ x. pure (f x)) ≡ Err e → and_then {B = B × C} o (λ x. pure (y, f x)) ≡ Err e
+beside_refused y f (Ok q) e h = cc
+beside_refused y f (Err r) e h = cc
 
-pub ruleset behind_paths = (beside_read, longer_refused)
+-- no segment behind a type and the path after its `as`
+pub qualified_refused : {T G : Type 0} (typ : Reader T) (none : G) (arguments : Reader G) (style : PathStyle) (s a b d f g : Stream) (l : token.Lt) (x : T) (w : token.As) (p : PathOf G) (k : token.Gt) (c : Sep) (e : Refusal) →
+    token.lt s ≡ Ok (l, a) → typ a ≡ Ok (x, b) → as_path none arguments b ≡ Ok (Some (w, p), d) → token.gt d ≡ Ok (k, f) → sep f ≡ Ok (c, g) →
+    and_then (segments none arguments sees_sep style g) (λ all. pure (longer p c all)) ≡ Err e → qualified typ none arguments style s ≡ Err e
+unfolding qualified
+qualified_refused typ none arguments style s a b d f g l x w p k c e hl hx hw hk hc h =
+    link _ hl (link _ hx (link _ hw (link _ hk (link _ hc (beside_refused (qself_of l x (length p.segments.0) (Some w) k) (longer p c) (segments none arguments sees_sep style g) e h)))))
+
+pub ruleset behind_paths = (beside_read)
 
 -- as many marks as values, by a test
 pub counted-is : (b : Bool) (n m : ℕ) → (IsTrue b ↔ (n ≡ m)) → b ≡ nat_eq n m
@@ -49,7 +60,7 @@ counted-is true n m h = sym (eq-eqb n m (h.0 refl))
 counted-is false n m h = by_test (nat_eq n m) refl
   where
     by_test : (c : Bool) → nat_eq n m ≡ c → false ≡ c
-    by_test true e = sym (sym (h.1 (eqb-true n m e)))
+    by_test true e = h.1 (eqb-true n m e)
     by_test false e = refl
 
 pub ruleset counted = (counted-is)

@@ -1,11 +1,11 @@
 -- The words of a path's segments.
-use Rattle.std.proofs.Common.{◌≡◌, Bool, true, false, ◌||◌, if◌then◌else◌, Option, Some, None, Result, Ok, Err, refl, sym, ◌∙◌, ap, subst}
+use Rattle.std.proofs.Common.{◌≡◌, Bool, true, false, ◌||◌, if◌then◌else◌, Option, Some, None, Ok, Err, refl, ◌∙◌, ap}
 use Rattle.token_core.specs.declared.tree.Ident.{Ident}
 use Rattle.token_core.specs.Front.{front}
 use Rattle.token_core.specs.Refusal.{Refusal}
 use Rattle.token_core.specs.Stream.{Stream}
 use Rattle.token_core.specs.Toks.{Bytes, Toks}
-use Rattle.token_core.specs.Reads.{Outcome, Reads, Follows, Parsed, Gives, Fails, Parses, as_word, any_text, is_ident, is_text, next_word, read_word, sees_word, word_if, word_meets, word_past, expected, past}
+use Rattle.token_core.specs.Reads.{Outcome, as_word, any_text, is_ident, is_text, next_word, read_word, sees_word, word_if, word_meets, word_past, expected, past}
 use Rattle.token_core.specs.Tokens as token
 use Rattle.syn_path.proofs.path_laws.Turns.{sees-or}
 use Rattle.syn_forms.specs.paths.Reading.{is_bare_word, is_named_word}

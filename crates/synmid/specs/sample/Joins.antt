@@ -1,4 +1,4 @@
--- Values joined by a mark, at least one: what their read takes, and what they print.
+-- Values joined by a mark: what their read takes, and what they print.
 use Rattle.std.specs.Prelude.{◌≡◌, ℕ, suc, ◌<◌, ◌≤◌, Bool, true, false, List, ◌∷◌, length, Option, Ok, refl}
 use Rattle.std.proofs.Common.{subst, arith}
 use Rattle.std.proofs.lemmas.List.{map-id}
@@ -36,6 +36,28 @@ chars_weaker clear all cs ss l r (more_chars {d = d} {cs = ds} {ss = ts} {l = m}
 
 pub mark_weaker : {n k : ℕ} (clear : Bool) (m : Mark n k) (l r : Toks) → IsMark clear m l r → IsMark false m l r
 mark_weaker {n = n} clear m l r (is_mark {ss = ss} i) = is_mark (chars_weaker clear (marks.chars_of n) (marks.chars_of n) ss l r i)
+
+-- ---- lists with any ends
+
+module _ {A : Type 0} {n k : ℕ} (V : A → Toks → Toks → Type 0) (Ends : Bool → Type 0) where
+  abbrev Spelt : Bool → List A → List (Mark n k) → Toks → Toks → Type 0
+  Spelt = AreListed (λ b. V) (IsMark false) Ends
+
+  -- no invisible group stands in what is spelt
+  pub listed_whole : ((x : A) (l r : Toks) → V x l r → Visible r → Visible l) → (b : Bool) (xs : List A) (ps : List (Mark n k)) (l r : Toks) → Spelt b xs ps l r → Visible r → Visible l
+  listed_whole whole b xs ps l r (none_left may) h = h
+  listed_whole whole b xs ps l r (last_value {x = x} q) h = whole x l r q h
+  listed_whole whole b xs ps l r (value_and_mark {x = x} {p = m} {xs = ys} {ps = qs} {m = a} {k = c} q w j) h = whole x l a q (mark_whole false m a c w (listed_whole whole false ys qs c r j h))
+
+  -- what is printed is spelt
+  pub printed_again : (print : A → Print) → ((x : A) (l r h : Toks) → V x l r → V x (row (print x) h) h) → (b : Bool) (xs : List A) (ps : List (Mark n k)) (l r h : Toks) → Spelt b xs ps l r →
+      Spelt b xs ps (row (lists.joined print p.mark xs ps) h) h
+  printed_again print again b xs ps l r h i =
+      subst (λ z. Spelt b z ps (row (lists.joined print p.mark z ps) h) h) (map-id xs)
+      (listed_again (λ b. V) (IsMark false) Ends (λ b. V) (IsMark false) (λ x. x) print p.mark
+      (λ b x a c q w. again x a c q w) (λ m a c q w. mark_weaker true m (row (p.mark m) q) q (mark_again false m a c q w)) b xs ps l r h i)
+
+-- ---- lists with a value at the end
 
 module _ {A : Type 0} (n k : ℕ) (fits : length (marks.chars_of n) ≡ k) (short : k ≤ 3) (value : Reader A) (V : A → Toks → Toks → Type 0) where
   -- ---- sound
@@ -101,19 +123,11 @@ module _ {A : Type 0} (n k : ℕ) (fits : length (marks.chars_of n) ≡ k) (shor
           omega (arith, g, h, o)
 
   pub joined_whole : ((x : A) (l r : Toks) → V x l r → Visible r → Visible l) → (v : Many A (Mark n k)) (l r : Toks) → AreJoined n k V v l r → Visible r → Visible l
-  joined_whole whole v l r i h = from false v.0 v.1 l r i h
-    where
-      from : (b : Bool) (xs : List A) (ps : List (Mark n k)) (l r : Toks) → AreListed (λ b. V) (IsMark false) Nowhere b xs ps l r → Visible r → Visible l
-      from b xs ps l r (none_left may) h = absurd may
-      from b xs ps l r (last_value {x = x} q) h = whole x l r q h
-      from b xs ps l r (value_and_mark {x = x} {p = m} {xs = ys} {ps = qs} {m = a} {k = c} q w j) h = whole x l a q (mark_whole false m a c w (from false ys qs c r j h))
+  joined_whole whole v l r i h = listed_whole V Nowhere whole false v.0 v.1 l r i h
 
   pub joined_again : (print : A → Print) → ((x : A) (l r h : Toks) → V x l r → V x (row (print x) h) h) → (v : Many A (Mark n k)) (l r h : Toks) → AreJoined n k V v l r →
       AreJoined n k V v (row (lists.joined print p.mark v.0 v.1) h) h
-  joined_again print again v l r h i =
-      subst (λ z. AreListed (λ b. V) (IsMark false) Nowhere false z v.1 (row (lists.joined print p.mark z v.1) h) h) (map-id v.0)
-      (listed_again (λ b. V) (IsMark false) Nowhere (λ b. V) (IsMark false) (λ x. x) print p.mark
-      (λ b x a c q w. again x a c q w) (λ m a c q w. mark_weaker true m (row (p.mark m) q) q (mark_again false m a c q w)) false v.0 v.1 l r h i)
+  joined_again print again v l r h i = printed_again V Nowhere print again false v.0 v.1 l r h i
 
 -- what spells each value another way spells them all
 pub joined_weaker : {A : Type 0} (n k : ℕ) (V W : A → Toks → Toks → Type 0) → ((x : A) (l r : Toks) → V x l r → W x l r) → (v : Many A (Mark n k)) (l r : Toks) → AreJoined n k V v l r → AreJoined n k W v l r

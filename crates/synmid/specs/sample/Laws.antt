@@ -1,424 +1,45 @@
 -- The sample meets the laws of a supplied subtree.
-use Rattle.std.specs.Prelude.{◌≡◌, ℕ, zero, suc, ◌+◌, ◌<◌, ◌≤◌, Bool, true, false, ◌&&◌, ◌||◌, ◌==◌, if◌then◌else◌, List, [], ◌∷◌, Option, Some, None, is_some, Ok, Err, refl, codes}
-use Rattle.std.proofs.Common.{◌⊎◌, inl, inr, sym, ◌∙◌, ap, subst, arith}
+use Rattle.std.specs.Prelude.{◌≡◌, ℕ, zero, suc, ◌+◌, Bool, true, false, not, ◌&&◌, ◌||◌, ◌==◌, if◌then◌else◌, List, Option, None, Ok, Err, refl, codes}
+use Rattle.std.proofs.Common.{◌⊎◌, inl, inr, sym, ◌∙◌, ap, subst}
 use Rattle.std.specs.Str.{bytes_eq}
-use Rattle.std.proofs.lemmas.Slice.Eq.{bytes_eq-Decides}
 use Rattle.token_core.specs.declared.span.Span.{Span}
 use Rattle.token_core.specs.declared.span.DelimSpan.{DelimSpan}
 use Rattle.token_core.specs.declared.tree.Ident.{Ident}
-use Rattle.token_core.specs.declared.tree.Spacing.TheVariants.{Joint}
 use Rattle.token_core.specs.declared.tree.Delimiter.{Delimiter}
 use Rattle.token_core.specs.declared.tree.Delimiter.TheVariants as d
-use Rattle.token_core.specs.declared.tree.Punct.{Punct}
 use Rattle.token_core.specs.declared.lit.Lit.{Lit}
-use Rattle.token_core.specs.declared.lit.Lit.TheVariants as v
-use Rattle.token_core.specs.Toks.{Bytes, Toks, done, word, mark, lit, group, enter, leave}
-use Rattle.token_core.specs.Trees.{punct, row, stream_of_trees}
-use Rattle.token_core.specs.Prints as p
-use Rattle.token_core.specs.Lists as lists
+use Rattle.token_core.specs.Toks.{Toks, done, word, mark, lit, group, enter, leave}
+use Rattle.token_core.specs.Trees.{row}
 use Rattle.token_core.specs.Front.{front}
-use Rattle.token_core.specs.Groups.{paren, paren_name}
 use Rattle.token_core.specs.Stream.{Scope, Stream}
 use Rattle.token_core.specs.Rebuilt.{Visible, IsVisible}
-use Rattle.token_core.specs.Loops.{Many, size}
-use Rattle.token_core.specs.Listed.{AreListed, none_left, last_value, value_and_mark, Nowhere}
-use Rattle.token_core.specs.Spellings.{IsMark, is_mark, AreChars, last_char, more_chars, IsLit, a_literal, a_bool, a_negative}
+use Rattle.token_core.specs.Loops.{Many}
+use Rattle.token_core.specs.Listed.{AreListed, none_left, last_value, value_and_mark, Anywhere, Nowhere}
+use Rattle.token_core.specs.Spellings.{IsMark, IsLit, a_literal, a_bool, a_negative}
 use Rattle.token_core.specs.Lits.{sees_lit, read_lit}
 use Rattle.token_core.specs.Lits as lits
-use Rattle.token_core.specs.Reads.{Outcome, Reader, leaves, left_here, here, first_of, in_group, inside, sees_group, is_done, expected, sees_word, read_word, next_word, any_text, ident_name}
-use Rattle.token_core.specs.Keywords.{is_keyword}
+use Rattle.token_core.specs.Reads.{Outcome, leaves, left_here, first_of, sees_group, is_done, expected}
 use Rattle.token_core.proofs.Steps.{link, chosen, Reads_to}
-use Rattle.token_core.proofs.Took.{at, branch, mapped, took_word, took_all, leaves_none, seen_word}
+use Rattle.token_core.proofs.Took.{at, branch, mapped, took_all}
 use Rattle.token_core.proofs.Turns.{chain, same_pair}
-use Rattle.token_core.proofs.LitSpells.{lit_sound, lit_complete, lit_seen, lit_again, lit_visible, lit_whole, lit_size}
-use Rattle.token_core.proofs.MarkSpells.{mark_sound, mark_complete, mark_seen, mark_again, mark_visible, mark_whole, mark_size}
-use Rattle.token_core.proofs.Rebuilds.{tree-ident, visible-tree, stream-trees}
-use Rattle.token_core.proofs.Rows.{row-append}
-use Rattle.token_core.proofs.Unseen.{no_mark-done, no_mark-word, no_mark-other}
 use Rattle.syn_path.specs.declared.supplied.Place.{Place}
 use Rattle.syn_path.specs.declared.supplied.Place.TheVariants.{ArrayLen, Value, Guard, Block}
 use Rattle.syn_path.specs.Supplied.{SameOutcome, UsesUp, Reprints, IsApart, lone_literal, lone_number, is_number, is_truth, attribute_ahead}
 use Rattle.syn_path.specs.path.Spelling.{is_mod_word}
 use Rattle.synmid.specs.declared.sample.Sample.{Sample}
+use Rattle.synmid.specs.declared.sample.Sample.TheVariants.{Sum, Statements}
 use Rattle.synmid.specs.declared.sample.Atom.{Atom}
-use Rattle.synmid.specs.declared.sample.Atom.TheVariants as a
 use Rattle.synmid.specs.declared.sample.ModPath.{ModPath}
-use Rattle.synmid.specs.sample.Parts.{Sep, Plus, Atoms, path_of, group_of, sum_of, is_lit, lit-is_lit, lone, groups}
-use Rattle.synmid.specs.sample.Reading.{joined_by, sees_sep, segment, leading, path, group_by, atom_by, atoms_at, atoms, sum, value, at_place}
+use Rattle.synmid.specs.sample.Parts.{Plus, Semi, Atoms, is_lit, lit-is_lit, lone, groups}
+use Rattle.synmid.specs.sample.Reading.{atoms, sum, value, statements, block, at_place}
 use Rattle.synmid.specs.sample.Printing as printing
-use Rattle.synmid.specs.sample.Prints.{prints_lit, prints_path, prints_group}
-use Rattle.synmid.specs.sample.Spelling.{seen_delimiter, shown, AreJoined, IsSegment, a_segment, IsPath, a_path, a_global_path, IsAtom, an_atom_lit, an_atom_path, an_atom_group, AreAtoms, IsSum, spells}
-use Rattle.synmid.specs.sample.Groups.{took_inside, first-none, reads_inside}
+use Rattle.synmid.specs.sample.Spelling.{seen_delimiter, shown, IsPath, a_path, a_global_path, IsAtom, an_atom_lit, an_atom_path, an_atom_group, AreAtoms, AreSummed, AreStatements, IsSum, IsValue, IsBlock, IsAt, spells}
+use Rattle.synmid.specs.sample.Groups.{first-none}
 use Rattle.synmid.specs.sample.Steady as st
-use Rattle.synmid.specs.sample.Joins.{mark_weaker, joined_sound, joined_visible, joined_seen, joined_weaker, joined_complete, joined_size, joined_whole, joined_again}
-use Rattle.synmid.specs.sample.Reads.{Any, path_steady, atoms_steady, any_count}
+use Rattle.synmid.specs.sample.Joins.{joint_keeps, listed_whole, printed_again}
+use Rattle.synmid.specs.sample.Sums.{Equal, fronts_equal, Content, sep_first, plus_first, segments_first, other_word, true_no_word, false_no_word, no_joint-done, summed_seen, summed_sound, summed_complete, summed_again, summed_whole, done_over, statements_seen, statements_sound, statements_complete, true_false}
+use Rattle.synmid.specs.sample.Reads.{Any, atoms_steady, atoms-takes}
 use Rattle.token_core.specs.Tokens as token
-
--- ---- the same tokens at the front
-
-abbrev Equal : Toks → Toks → Type 0
-Equal l m = l ≡ m
-
-module _ (M : Option Span → Option Span → Type 0) where
-  group_equal : (b : Delimiter) (s : DelimSpan) (c k : Toks) → st.Fronts Equal M (group b s c k) (group b s c k)
-  group_equal d.Parenthesis s c k = st.both_paren refl refl
-  group_equal d.Brace s c k = st.both_other refl refl
-  group_equal d.Bracket s c k = st.both_other refl refl
-  group_equal d.None s c k = st.both_other refl refl
-
-  fronts_equal : (l : Toks) → st.Fronts Equal M (front l) (front l)
-  fronts_equal done = st.both_done
-  fronts_equal (word i k) = st.both_word refl
-  fronts_equal (mark x k) = st.both_mark refl
-  fronts_equal (lit x k) = st.both_lit refl
-  fronts_equal (group b s c k) = group_equal b s c k
-  fronts_equal (enter s k) = fronts_equal k
-  fronts_equal (leave k) = fronts_equal k
-
--- ---- on a list without invisible groups: what is read is spelt
-
-short1 : 1 ≤ 3
-short1 = omega arith
-
-short2 : 2 ≤ 3
-short2 = omega arith
-
-segment_sound : (s t : Stream) (x : Ident) → Visible s.rest → segment s ≡ Ok (x, t) → IsSegment x s.rest t.rest
-unfolding segment
-segment_sound s t x h e =
-    elim (branch (sees_word is_mod_word s.rest) _ _ s (Ok (x, t)) e) [
-      | inl y ↦ let w = took_word any_text ident_name s t x h y.1 in
-          let m : is_mod_word x.text ≡ true = sym (ap (sees_word is_mod_word) w.is ∙ seen_word is_mod_word x t.rest) ∙ y.0 in
-          subst (λ z. IsSegment x z t.rest) (sym w.is) (a_segment m)
-      | inr y ↦ cc (y.1)
-    ]
-
-segment_seen : (x : Ident) (l r : Toks) → IsSegment x l r → Visible l → Visible r
-segment_seen x l r (a_segment m) h = h
-
-segment_whole : (x : Ident) (l r : Toks) → IsSegment x l r → Visible r → Visible l
-segment_whole x l r (a_segment m) h = h
-
-segment_size : (x : Ident) (l r : Toks) → IsSegment x l r → size r < size l
-segment_size x l r (a_segment m) = omega arith
-
-segments_sound : (s t : Stream) (v : Many Ident Sep) → Visible s.rest → joined_by 1 2 segment s ≡ Ok (v, t) → AreJoined 1 2 IsSegment v s.rest t.rest
-segments_sound s t v h e =
-    (joined_sound 1 2 refl short2 segment IsSegment (λ z. Unit {0}) (λ i j x g q. segment_seen x i.rest j.rest (segment_sound i j x g q) g) (λ i j x g q c. (tt, segment_sound i j x g q)) s t v h e tt).1
-
-after_leading : (s m u : Stream) (o : Option Sep) (w : Many Ident Sep) → Visible s.rest → leading s ≡ Ok (o, m) → (Visible m.rest → AreJoined 1 2 IsSegment w m.rest u.rest) → IsPath (path_of o w) s.rest u.rest
-unfolding leading
-after_leading s m u o w h e j =
-    elim (branch (sees_sep s.rest) _ _ s (Ok (o, m)) e) [
-      | inl y ↦ let q = mapped (token.path_sep s) (λ (z : Sep). Some z) o m y.1 in
-          let k = (mark_sound refl short2 s m q.value h q.was).spelt in
-          subst (λ z. IsPath (path_of z w) s.rest u.rest) q.is (a_global_path k (j (mark_visible false q.value s.rest m.rest k h)))
-      | inr y ↦ let g = same_pair None o s m y.1 in
-          subst (λ z. IsPath (path_of z w) s.rest u.rest) g.0
-          (a_path (subst (λ (z : Stream). AreJoined 1 2 IsSegment w z.rest u.rest) (sym g.1) (j (subst (λ (z : Stream). Visible z.rest) g.1 h))))
-    ]
-
-path_sound : (s t : Stream) (x : ModPath) → Visible s.rest → path s ≡ Ok (x, t) → IsPath x s.rest t.rest
-unfolding path
-path_sound s t x h e =
-    let c = chain (leading s) _ x t e in
-    let d = chain (joined_by 1 2 segment c.rest) _ x t c.goes in
-    let g = same_pair (path_of c.value d.value) x d.rest t d.goes in
-    subst (λ z. IsPath z s.rest t.rest) g.0 (subst (λ (z : Stream). IsPath (path_of c.value d.value) s.rest z.rest) g.1
-    (after_leading s c.rest d.rest c.value d.value h c.was (λ k. segments_sound c.rest d.rest d.value k d.was)))
-
-path_seen : (x : ModPath) (l r : Toks) → IsPath x l r → Visible l → Visible r
-path_seen x l r (a_path {v = w} i) h = joined_seen 1 2 refl short2 segment IsSegment segment_seen w l r i h
-path_seen x l r (a_global_path {m = m} {v = w} {k = k} i j) h = joined_seen 1 2 refl short2 segment IsSegment segment_seen w k r j (mark_visible false m l k i h)
-
-path_whole : (x : ModPath) (l r : Toks) → IsPath x l r → Visible r → Visible l
-path_whole x l r (a_path {v = w} i) h = joined_whole 1 2 refl short2 segment IsSegment segment_whole w l r i h
-path_whole x l r (a_global_path {m = m} {v = w} {k = k} i j) h = mark_whole false m l k i (joined_whole 1 2 refl short2 segment IsSegment segment_whole w k r j h)
-
-path_size : (x : ModPath) (l r : Toks) → IsPath x l r → size r < size l
-path_size x l r (a_path {v = w} i) = joined_size 1 2 refl short2 segment IsSegment segment_size w l r i
-path_size x l r (a_global_path {m = m} {v = w} {k = k} i j) =
-    let g = mark_size false m l k i in
-    let h = joined_size 1 2 refl short2 segment IsSegment segment_size w k r j in
-    omega (arith, g, h)
-
--- what a read leaves as it was
-abbrev Is : Option Span → Option Span → Option Span → Type 0
-Is o f g = f ≡ o
-
-path_left : (s t : Stream) (x : ModPath) → path s ≡ Ok (x, t) → t.left ≡ s.left
-path_left s t x e =
-    let h = path_steady Equal (Is s.left) (λ l m k. subst (λ z. st.Fronts Equal (Is s.left) (front l) (front z)) k (fronts_equal (Is s.left) l)) s s (record { rest = refl; left = refl }) in
-    let q : st.Same Equal (Is s.left) (Ok (x, t)) (Ok (x, t)) = subst (λ (o : Outcome ModPath). st.Same Equal (Is s.left) o o) e h in
-    q.1.left
-
--- nothing is left over
-abbrev Clean : Option Span → Type 0
-Clean f = f ≡ None
-
-module _ (inner : Reader Atoms) where
-  group_seen : (s t : Stream) (x : Atom) → Visible s.rest → group_by inner s ≡ Ok (x, t) → Visible t.rest
-  group_seen s t x h e =
-      let m = mapped (in_group d.Parenthesis paren_name inner s) (λ (g : DelimSpan × Atoms). group_of g.0 g.1) x t e in
-      let i = took_inside paren_name inner s t m.value h m.was in
-      let w : Visible (group d.Parenthesis m.value.0 i.content t.rest) = subst Visible i.is h in
-      w.2
-
-  atom_seen : (s t : Stream) (x : Atom) → Visible s.rest → atom_by (group_by inner) s ≡ Ok (x, t) → Visible t.rest
-  atom_seen s t x h e =
-      elim (branch (sees_lit s.rest) _ _ s (Ok (x, t)) e) [
-        | inl y ↦ let q = mapped (read_lit s) a.Lit x t y.1 in lit_visible q.value s.rest t.rest (lit_sound s t q.value h q.was).spelt h
-        | inr y ↦ elim (branch (sees_group d.Parenthesis s.rest) _ _ s (Ok (x, t)) y.1) [
-          | inl z ↦ group_seen s t x h z.1
-          | inr z ↦ let q = mapped (path s) a.Path x t z.1 in path_seen q.value s.rest t.rest (path_sound s t q.value h q.was) h
-        ]
-      ]
-
-  -- of the content of a group it is known that what is read is spelt
-  module _ (Inside : Atoms → Toks → Type 0) (content : (s t : Stream) (w : Atoms) → Visible s.rest → inner s ≡ Ok (w, t) → leaves t ≡ None → Inside w s.rest) where
-    group_sound : (s t : Stream) (x : Atom) → Visible s.rest → group_by inner s ≡ Ok (x, t) → Clean t.left → Clean s.left × IsAtom Inside x s.rest t.rest
-    group_sound s t x h e c =
-        let m = mapped (in_group d.Parenthesis paren_name inner s) (λ (g : DelimSpan × Atoms). group_of g.0 g.1) x t e in
-        let i = took_inside paren_name inner s t m.value h m.was in
-        let w : Visible (group d.Parenthesis m.value.0 i.content t.rest) = subst Visible i.is h in
-        let n = first-none s.left (leaves i.ends) (sym i.left ∙ c) in
-        let k = content (inside s m.value.0 i.content t.rest) i.ends m.value.1 w.1 i.reads n.1 in
-        (n.0, subst (λ z. IsAtom Inside z s.rest t.rest) m.is (subst (λ z. IsAtom Inside (group_of m.value.0 m.value.1) z t.rest) (sym i.is) (an_atom_group k)))
-
-    atom_sound : (s t : Stream) (x : Atom) → Visible s.rest → atom_by (group_by inner) s ≡ Ok (x, t) → Clean t.left → Clean s.left × IsAtom Inside x s.rest t.rest
-    atom_sound s t x h e c =
-        elim (branch (sees_lit s.rest) _ _ s (Ok (x, t)) e) [
-          | inl y ↦ let q = mapped (read_lit s) a.Lit x t y.1 in
-              let k = lit_sound s t q.value h q.was in
-              (sym k.left ∙ c, subst (λ z. IsAtom Inside z s.rest t.rest) q.is (an_atom_lit k.spelt))
-          | inr y ↦ elim (branch (sees_group d.Parenthesis s.rest) _ _ s (Ok (x, t)) y.1) [
-            | inl z ↦ group_sound s t x h z.1 c
-            | inr z ↦ let q = mapped (path s) a.Path x t z.1 in
-                (sym (path_left s t q.value q.was) ∙ c, subst (λ z. IsAtom Inside z s.rest t.rest) q.is (an_atom_path (path_sound s t q.value h q.was)))
-          ]
-        ]
-
-atoms_seen : (n : ℕ) (s t : Stream) (w : Atoms) → Visible s.rest → atoms_at n s ≡ Ok (w, t) → Visible t.rest
-atoms_seen zero s t w h e = cc
-atoms_seen (suc n) s t w h e = joined_visible 20 1 refl short1 (atom_by (group_by (atoms_at n))) (λ x l r. Unit {0}) (atom_seen (atoms_at n)) s t w h e
-
-abbrev Content : ℕ → Atoms → Toks → Type 0
-Content n w c = AreAtoms n w c done
-
-atoms_sound : (n : ℕ) (s t : Stream) (w : Atoms) → Visible s.rest → atoms_at n s ≡ Ok (w, t) → Clean t.left → Clean s.left × AreAtoms n w s.rest t.rest
-atoms_sound zero s t w h e c = cc
-atoms_sound (suc n) s t w h e c =
-    joined_sound 20 1 refl short1 (atom_by (group_by (atoms_at n))) (IsAtom (Content n)) Clean (atom_seen (atoms_at n)) (atom_sound (atoms_at n) (Content n) (λ i j v g q k.
-    let f = first-none j.left (left_here j) k in
-    subst (λ z. AreAtoms n v i.rest z) (took_all j (atoms_seen n i j v g q) k) (atoms_sound n i j v g q f.0).1)) s t w h e c
-
-atom_size : (Inside : Atoms → Toks → Type 0) (x : Atom) (l r : Toks) → IsAtom Inside x l r → size r < size l
-atom_size S x l r (an_atom_lit {x = y} i) = lit_size y l r i
-atom_size S x l r (an_atom_path {p = y} i) = path_size y l r i
-atom_size S x l r (an_atom_group i) = omega arith
-
--- ---- what stands at the front of a spelling
-
-first_char : (c : ℕ) (cs all : List ℕ) (ss : List Span) (l r : Toks) → AreChars false all (c ∷ cs) ss l r → (p : Punct) × (k : Toks) × (l ≡ mark p k) × (p.ch ≡ c)
-first_char c cs all ss l r (last_char {a = b} {j = j} x) = (punct c j b, r, refl, refl)
-first_char c cs all ss l r (more_chars {a = b} {l = m} x) = (punct c Joint b, m, refl, refl)
-
-sep_first : (m : Sep) (l r : Toks) → IsMark false m l r → (p : Punct) × (k : Toks) × (l ≡ mark p k) × (p.ch ≡ token.colon_char)
-sep_first m l r (is_mark {ss = ss} i) = first_char token.colon_char (token.colon_char ∷ []) token.path_sep_chars ss l r i
-
-plus_first : (m : Plus) (l r : Toks) → IsMark false m l r → (p : Punct) × (k : Toks) × (l ≡ mark p k) × (p.ch ≡ token.plus_char)
-plus_first m l r (is_mark {ss = ss} i) = first_char token.plus_char [] token.plus_chars ss l r i
-
-segments_first : (v : Many Ident Sep) (l r : Toks) → AreJoined 1 2 IsSegment v l r → (i : Ident) × (k : Toks) × (l ≡ word i k) × (is_mod_word i.text ≡ true)
-segments_first v l r h = from v.0 v.1 l r h
-  where
-    of_one : (x : Ident) (l k : Toks) → IsSegment x l k → (i : Ident) × (n : Toks) × (l ≡ word i n) × (is_mod_word i.text ≡ true)
-    of_one x l k (a_segment m) = (x, k, refl, m)
-
-    from : (xs : List Ident) (ps : List Sep) (l r : Toks) → AreListed (λ b. IsSegment) (IsMark false) Nowhere false xs ps l r → (i : Ident) × (k : Toks) × (l ≡ word i k) × (is_mod_word i.text ≡ true)
-    from xs ps l r (none_left may) = absurd may
-    from xs ps l r (last_value {x = x} q) = of_one x l r q
-    from xs ps l r (value_and_mark {x = x} {m = m} q w j) = of_one x l m q
-
-true_false : true ≡ false → ⊥
-true_false z = absurd (cc)
-
-other_word : (t w : Bytes) → is_mod_word t ≡ true → is_mod_word w ≡ false → bytes_eq t w ≡ false
-other_word t w h k = by_test (bytes_eq t w) refl
-  where
-    by_test : (b : Bool) → bytes_eq t w ≡ b → b ≡ false
-    by_test true e = let g : is_mod_word t ≡ is_mod_word w = ap is_mod_word ((bytes_eq-Decides t w).0 e) in absurd (true_false (sym h ∙ g ∙ k))
-    by_test false e = refl
-
-true_no_word : is_mod_word lits.true_text ≡ false
-unfolding is_keyword
-true_no_word = refl
-
-false_no_word : is_mod_word lits.false_text ≡ false
-unfolding is_keyword
-false_no_word = refl
-
-no_lit-word : (i : Ident) (r : Toks) → is_mod_word i.text ≡ true → sees_lit (word i r) ≡ false
-unfolding sees_lit
-no_lit-word i r h = by_tests (bytes_eq i.text lits.true_text) (bytes_eq i.text lits.false_text) (other_word i.text lits.true_text h true_no_word) (other_word i.text lits.false_text h false_no_word)
-  where
-    by_tests : (b c : Bool) → b ≡ false → c ≡ false → let o : Option (Lit × Toks) = if b then Some (v.Bool (lits.lit_bool true i.span), r) else (if c then Some (v.Bool (lits.lit_bool false i.span), r) else None) in is_some o ≡ false
-    by_tests true c e g = cc
-    by_tests false true e g = cc
-    by_tests false false e g = refl
-
-no_lit-mark : (p : Punct) (r : Toks) → p.ch ≡ token.colon_char → sees_lit (mark p r) ≡ false
-unfolding sees_lit
-no_lit-mark p r h = ap (λ c. is_some (if c == 45 then lits.past_number p.span (lits.next_lit r) else None)) h
-
-path_no_lit : (x : ModPath) (l r : Toks) → IsPath x l r → sees_lit l ≡ false
-path_no_lit x l r (a_path {v = w} i) = let f = segments_first w l r i in ap sees_lit f.2 ∙ no_lit-word f.0 f.1 f.3
-path_no_lit x l r (a_global_path {m = m} {k = k} i j) = let f = sep_first m l k i in ap sees_lit f.2 ∙ no_lit-mark f.0 f.1 f.3
-
-no_lit-group : (b : Delimiter) (s : DelimSpan) (c r : Toks) → sees_lit (group b s c r) ≡ false
-unfolding sees_lit
-no_lit-group b s c r = refl
-
-no_group-word : (i : Ident) (r : Toks) → sees_group d.Parenthesis (word i r) ≡ false
-unfolding sees_group
-no_group-word i r = refl
-
-no_group-mark : (p : Punct) (r : Toks) → sees_group d.Parenthesis (mark p r) ≡ false
-unfolding sees_group
-no_group-mark p r = refl
-
-group_there : (s : DelimSpan) (c r : Toks) → sees_group d.Parenthesis (group d.Parenthesis s c r) ≡ true
-unfolding sees_group
-group_there s c r = refl
-
-path_no_group : (x : ModPath) (l r : Toks) → IsPath x l r → sees_group d.Parenthesis l ≡ false
-path_no_group x l r (a_path {v = w} i) = let f = segments_first w l r i in ap (sees_group d.Parenthesis) f.2 ∙ no_group-word f.0 f.1
-path_no_group x l r (a_global_path {m = m} {k = k} i j) = let f = sep_first m l k i in ap (sees_group d.Parenthesis) f.2 ∙ no_group-mark f.0 f.1
-
--- ---- where it is spelt, it is read
-
-reads_any : (i : Ident) (r : Toks) (f : Option Span) (e : Span) (sc : Scope) → read_word any_text ident_name (at (word i r) f e sc) ≡ Ok (i, at r f i.span sc)
-unfolding read_word next_word
-reads_any i r f e sc = refl
-
-segment_complete : (x : Ident) (l r : Toks) → IsSegment x l r → (f : Option Span) (e : Span) (sc : Scope) → Reads_to segment x l r f e sc
-unfolding segment
-segment_complete x l r (a_segment h) f e sc =
-    record { last = x.span; reads = chosen (sees_word is_mod_word l) true _ _ (at l f e sc) _ (seen_word is_mod_word x r ∙ h) (reads_any x r f e sc) }
-
-segments_complete : (v : Many Ident Sep) (l r : Toks) → AreJoined 1 2 IsSegment v l r → sees_sep r ≡ false → (f : Option Span) (e : Span) (sc : Scope) → Reads_to (joined_by 1 2 segment) v l r f e sc
-segments_complete v l r i h f e sc =
-    joined_complete 1 2 refl short2 segment IsSegment (λ z. Unit {0}) (λ x m k q g. segment_complete x m k q) (λ m k n q. tt) segment_size v l r i tt h f e sc
-
-path_complete : (x : ModPath) (l r : Toks) → IsPath x l r → sees_sep r ≡ false → (f : Option Span) (e : Span) (sc : Scope) → Reads_to path x l r f e sc
-unfolding path leading
-path_complete x l r (a_path {v = w} i) h f e sc =
-    let b = segments_first w l r i in
-    let q = segments_complete w l r i h f e sc in
-    record { last = q.last; reads = link _ (chosen (sees_sep l) false _ _ (at l f e sc) _ (ap sees_sep b.2 ∙ no_mark-word 58 (token.colon_char ∷ []) b.0 b.1) refl) (link _ q.reads refl) }
-path_complete x l r (a_global_path {m = m} {v = w} {k = k} i j) h f e sc =
-    let c = mark_complete false refl short2 m l k f e sc i in
-    let q = segments_complete w k r j h f c.last sc in
-    record { last = q.last; reads = link _ (chosen (sees_sep l) true _ _ (at l f e sc) _ (mark_seen false m l k i) (link _ c.reads refl)) (link _ q.reads refl) }
-
-module _ (inner : Reader Atoms) (Inside : Atoms → Toks → Type 0) (content : (w : Atoms) (c : Toks) → Inside w c → (f : Option Span) (e : Span) (sc : Scope) → Reads_to inner w c done f e sc) where
-  group_complete : (b : DelimSpan) (w : Atoms) (c r : Toks) → Inside w c → (f : Option Span) (e : Span) (sc : Scope) → Reads_to (group_by inner) (group_of b w) (group d.Parenthesis b c r) r f e sc
-  group_complete b w c r i f e sc =
-      let u = inside (at (group d.Parenthesis b c r) f e sc) b c r in
-      let q = content w c i u.left u.last u.scope in
-      record { last = b.closing; reads = link _ (reads_inside paren_name inner w b c r (at done u.left q.last u.scope) f e sc q.reads (leaves_none u.left q.last u.scope refl)) refl }
-
-  atom_complete : (x : Atom) (l r : Toks) → IsAtom Inside x l r → sees_sep r ≡ false → (f : Option Span) (e : Span) (sc : Scope) → Reads_to (atom_by (group_by inner)) x l r f e sc
-  atom_complete x l r (an_atom_lit {x = y} i) h f e sc =
-      let q = lit_complete y l r f e sc i in
-      record { last = q.last; reads = chosen (sees_lit l) true _ _ (at l f e sc) _ (lit_seen y l r i) (link _ q.reads refl) }
-  atom_complete x l r (an_atom_path {p = y} i) h f e sc =
-      let q = path_complete y l r i h f e sc in
-      record {
-        last = q.last;
-        reads = chosen (sees_lit l) false _ _ (at l f e sc) _ (path_no_lit y l r i) (chosen (sees_group d.Parenthesis l) false _ _ (at l f e sc) _ (path_no_group y l r i) (link _ q.reads refl));
-      }
-  atom_complete x l r (an_atom_group {s = b} {v = w} {c = c} i) h f e sc =
-      let q = group_complete b w c r i f e sc in
-      record {
-        last = q.last;
-        reads = chosen (sees_lit l) false _ _ (at l f e sc) _ (no_lit-group d.Parenthesis b c r) (chosen (sees_group d.Parenthesis l) true _ _ (at l f e sc) _ (group_there b c r) q.reads);
-      }
-
-plus_no_sep : (m : Plus) (l r : Toks) → IsMark false m l r → sees_sep l ≡ false
-plus_no_sep m l r i = let f = plus_first m l r i in ap sees_sep f.2 ∙ no_mark-other 58 (token.colon_char ∷ []) f.0 f.1 (ap (λ c. c == 58) f.3)
-
-atoms_complete : (n : ℕ) (w : Atoms) (l : Toks) → AreAtoms n w l done → (f : Option Span) (e : Span) (sc : Scope) → Reads_to (atoms_at n) w l done f e sc
-atoms_complete zero w l i f e sc = absurd i
-atoms_complete (suc n) w l i f e sc =
-    let q = joined_complete 20 1 refl short1 (atom_by (group_by (atoms_at n))) (IsAtom (Content n)) (λ z. sees_sep z ≡ false) (λ y m k. atom_complete (atoms_at n) (Content n) (atoms_complete n) y m k) plus_no_sep (atom_size (Content n)) w l done i
-    (no_mark-done 58 (token.colon_char ∷ [])) (no_mark-done 43 []) f e sc in
-    record { last = q.last; reads = q.reads }
-
--- the same in more groups
-atom_weaker : (S T : Atoms → Toks → Type 0) → ((w : Atoms) (c : Toks) → S w c → T w c) → (x : Atom) (l r : Toks) → IsAtom S x l r → IsAtom T x l r
-atom_weaker S T h x l r (an_atom_lit i) = an_atom_lit i
-atom_weaker S T h x l r (an_atom_path i) = an_atom_path i
-atom_weaker S T h x l r (an_atom_group {v = w} {c = c} i) = an_atom_group (h w c i)
-
-one_more : (n : ℕ) (w : Atoms) (l r : Toks) → AreAtoms n w l r → AreAtoms (suc n) w l r
-one_more zero w l r i = absurd i
-one_more (suc n) w l r i = joined_weaker 20 1 (IsAtom (Content n)) (IsAtom (Content (suc n))) (atom_weaker (Content n) (Content (suc n)) (λ v c. one_more n v c done)) w l r i
-
-above : (m n : ℕ) (w : Atoms) (l r : Toks) → AreAtoms n w l r → (k : ℕ) × (m < k) × AreAtoms k w l r
-above zero n w l r i = (suc n, omega arith, one_more n w l r i)
-above (suc m) n w l r i = let h = above m n w l r i in let less = h.1 in (suc h.0, omega (arith, less), one_more h.0 w l r h.2)
-
-sum_complete : (x : Sample) (l : Toks) → IsSum x l → (f : Option Span) (e : Span) (sc : Scope) → Reads_to sum x l done f e sc
-unfolding sum atoms
-sum_complete x l i f e sc =
-    let h = above (groups l) i.0 x.atoms l done i.1 in
-    let q = atoms_complete h.0 x.atoms l h.2 f e sc in
-    record { last = q.last; reads = link _ (any_count (suc (groups l)) h.0 (at l f e sc) (omega arith) h.1 ∙ q.reads) refl }
-
--- ---- what is printed is spelt
-
-segment_again : (x : Ident) (l r h : Toks) → IsSegment x l r → IsSegment x (row (p.ident x) h) h
-segment_again x l r h (a_segment m) = subst (λ z. IsSegment x z h) (sym (tree-ident x h)) (a_segment m)
-
-segments_again : (w : Many Ident Sep) (l r h : Toks) → AreJoined 1 2 IsSegment w l r → AreJoined 1 2 IsSegment w (row (lists.joined p.ident p.mark w.0 w.1) h) h
-segments_again w l r h i = joined_again 1 2 refl short2 segment IsSegment p.ident segment_again w l r h i
-
-path_again : (x : ModPath) (l r h : Toks) → IsPath x l r → IsPath x (row (printing.path x) h) h
-path_again x l r h (a_path {v = w} i) = a_path (segments_again w l r h i)
-path_again x l r h (a_global_path {m = m} {v = w} {k = k} i j) =
-    let rest = row (lists.joined p.ident p.mark w.0 w.1) h in
-    subst (λ z. IsPath (path_of (Some m) w) z h) (sym (row-append (p.mark m) (lists.joined p.ident p.mark w.0 w.1) h))
-    (a_global_path (mark_weaker true m (row (p.mark m) rest) rest (mark_again false m l k rest i)) (segments_again w k r h j))
-
-row-group : (b : DelimSpan) (w : Atoms) (h : Toks) → row (printing.atom (group_of b w)) h ≡ group d.Parenthesis b (row (printing.atoms w) done) h
-row-group b w h =
-    ap (λ z. row z h) (prints_group (paren b) w) ∙ visible-tree d.Parenthesis (stream_of_trees (printing.atoms w)) b h tt
-    ∙ ap (λ z. group d.Parenthesis b z h) (stream-trees (printing.atoms w) done)
-
-atom_again : (S : Atoms → Toks → Type 0) → ((w : Atoms) (c : Toks) → S w c → S w (row (printing.atoms w) done)) → (x : Atom) (l r h : Toks) → IsAtom S x l r → IsAtom S x (row (printing.atom x) h) h
-atom_again S again x l r h (an_atom_lit {x = y} i) = subst (λ z. IsAtom S (a.Lit y) (row z h) h) (sym (prints_lit y)) (an_atom_lit (lit_again y l r h i))
-atom_again S again x l r h (an_atom_path {p = y} i) = subst (λ z. IsAtom S (a.Path y) (row z h) h) (sym (prints_path y)) (an_atom_path (path_again y l r h i))
-atom_again S again x l r h (an_atom_group {s = b} {v = w} {c = c} i) = subst (λ z. IsAtom S (group_of b w) z h) (sym (row-group b w h)) (an_atom_group (again w c i))
-
-atoms_again : (n : ℕ) (w : Atoms) (l : Toks) → AreAtoms n w l done → AreAtoms n w (row (printing.atoms w) done) done
-atoms_again zero w l i = absurd i
-atoms_again (suc n) w l i =
-    joined_again 20 1 refl short1 (atom_by (group_by (atoms_at n))) (IsAtom (Content n)) printing.atom (atom_again (Content n) (λ v c. atoms_again n v c)) w l done done i
-
-sum_again : (x : Sample) (l : Toks) → IsSum x l → IsSum x (row (printing.sum x) done)
-sum_again x l i = (i.0, atoms_again i.0 x.atoms l i.1)
-
--- no invisible group stands in what is spelt
-atom_whole : (S : Atoms → Toks → Type 0) → ((w : Atoms) (c : Toks) → S w c → Visible c) → (x : Atom) (l r : Toks) → IsAtom S x l r → Visible r → Visible l
-atom_whole S whole x l r (an_atom_lit {x = y} i) h = lit_whole y l r i h
-atom_whole S whole x l r (an_atom_path {p = y} i) h = path_whole y l r i h
-atom_whole S whole x l r (an_atom_group {v = w} {c = c} i) h = (tt, whole w c i, h)
-
-atoms_whole : (n : ℕ) (w : Atoms) (l : Toks) → AreAtoms n w l done → Visible l
-atoms_whole zero w l i = absurd i
-atoms_whole (suc n) w l i =
-    joined_whole 20 1 refl short1 (atom_by (group_by (atoms_at n))) (IsAtom (Content n)) (atom_whole (Content n) (λ v c. atoms_whole n v c)) w l done i tt
 
 -- ---- the tokens as they stand in invisible groups
 
@@ -452,34 +73,37 @@ shown-same (group b s c k) h = ap (λ z. group z s (shown c) (shown k)) (delimit
 shown-same (enter s k) h = absurd h
 shown-same (leave k) h = absurd h
 
-shown-done : (l : Toks) → is_done l ≡ true → shown l ≡ done
-unfolding is_done
-shown-done done e = refl
-shown-done (word i k) e = cc
-shown-done (mark x k) e = cc
-shown-done (lit x k) e = cc
-shown-done (group b s c k) e = cc
-shown-done (enter s k) e = shown-done k e
-shown-done (leave k) e = shown-done k e
-
 -- ---- each place's read goes alike on alike streams
 
 module _ (K : Toks → Toks → Type 0) (M : Option Span → Option Span → Type 0) (fronts : (l m : Toks) → K l m → st.Fronts K M (front l) (front m))
     (both : (f : Option Span) → M f f) (joins : (f g h i : Option Span) → M f g → M h i → M (first_of f h) (first_of g i)) (counts : (l m : Toks) → K l m → groups l ≡ groups m) where
+  summed_steady : st.Steady K M atoms
+  summed_steady = atoms_steady K M fronts both joins counts
+
   sum_steady : st.Steady K M sum
   unfolding sum
-  sum_steady = st.bind K M atoms _ (atoms_steady K M fronts both joins counts) (λ w. st.stays K M (sum_of w))
+  sum_steady = st.bind K M atoms _ summed_steady (λ w. st.stays K M (Sum w))
 
   value_steady : st.Steady K M value
   unfolding value
   value_steady =
-      st.bind K M sum _ sum_steady (λ x. st.choose K M (λ l. lone x.atoms.0 && is_done l) _ _ (λ l m k. ap (λ b. lone x.atoms.0 && b) (st.done_steady K M fronts l m k)) (st.refuses K M Sample (expected (codes "`+`"))) (st.stays K M x))
+      st.bind K M atoms _ summed_steady (λ w. st.choose K M (λ l. lone w.0 && is_done l) _ _ (λ l m k. ap (λ b. lone w.0 && b) (st.done_steady K M fronts l m k)) (st.refuses K M Sample (expected (codes "`+`"))) (st.stays K M (Sum w)))
+
+  statements_steady : st.Steady K M statements
+  unfolding statements
+  statements_steady =
+      st.listed_steady K M (λ b. is_done) (λ b. atoms) (λ l. not (is_done l)) token.semi (λ b. st.done_steady K M fronts) (λ b. summed_steady) (λ l m k. ap not (st.done_steady K M fronts l m k))
+      (st.mark_steady K M fronts 24 1) (λ b. atoms-takes) (joint_keeps 24 1) true
+
+  block_steady : st.Steady K M block
+  unfolding block
+  block_steady = st.bind K M statements _ statements_steady (λ v. st.stays K M (Statements v))
 
   place_steady : (q : Place) → st.Steady K M (at_place q)
   place_steady ArrayLen = sum_steady
   place_steady Value = value_steady
   place_steady Guard = sum_steady
-  place_steady Block = st.refuses K M Sample (expected (codes "sample"))
+  place_steady Block = block_steady
 
 -- ---- the same tokens
 
@@ -535,9 +159,9 @@ groups-shown (group b s c k) = ap (λ z. suc (z + groups (shown k))) (groups-sho
 groups-shown (enter s k) = groups-shown k
 groups-shown (leave k) = groups-shown k
 
-alike : (s : Stream) → st.Same Shown Kept (sum s) (sum (unveiled s))
-alike s =
-    sum_steady Shown Kept fronts_at (λ f. refl) kept_both (λ l m k. sym (groups-shown l) ∙ ap groups k) s (unveiled s) (record { rest = refl; left = refl })
+alike : (q : Place) (s : Stream) → st.Same Shown Kept (at_place q s) (at_place q (unveiled s))
+alike q s =
+    place_steady Shown Kept fronts_at (λ f. refl) kept_both (λ l m k. sym (groups-shown l) ∙ ap groups k) q s (unveiled s) (record { rest = refl; left = refl })
 
 record Told (o : Outcome Sample) (x : Sample) (t : Stream) : Type 0 where
   end : Stream
@@ -565,40 +189,31 @@ back o (Err f) x w e h = cc
 
 -- ---- sound
 
-nothing_left : (f : Option Span) (b : Bool) (x : Span) → first_of f (if b then None else Some x) ≡ None → b ≡ true
-nothing_left None true x e = refl
-nothing_left None false x e = cc
-nothing_left (Some y) true x e = refl
-nothing_left (Some y) false x e = cc
+sum_sound : (s t : Stream) (w : Atoms) → Visible s.rest → atoms s ≡ Ok (w, t) → leaves t ≡ None → AreSummed w s.rest done
+sum_sound s t w h e k =
+    let f = first-none t.left (left_here t) k in
+    subst (λ z. AreSummed w s.rest z) (took_all t (summed_seen s t w h e) k) (summed_sound s t w h e f.0).1
 
-over : (t : Stream) → leaves t ≡ None → is_done t.rest ≡ true
-over t e = nothing_left t.left (is_done t.rest) (here t) e
+block_sound : (s t : Stream) (v : Many Atoms Semi) → Visible s.rest → statements s ≡ Ok (v, t) → leaves t ≡ None → AreStatements v s.rest done
+block_sound s t v h e k =
+    let f = first-none t.left (left_here t) k in
+    subst (λ z. AreStatements v s.rest z) (took_all t (statements_seen s t v h e) k) (statements_sound s t v h e f.0).1
 
-sum_was : (s t : Stream) (x : Sample) → sum s ≡ Ok (x, t) → atoms s ≡ Ok (x.atoms, t)
-unfolding sum
-sum_was s t x e = let q = mapped (atoms s) sum_of x t e in subst (λ (z : Sample). atoms s ≡ Ok (z.atoms, t)) q.is q.was
+-- the atoms of a value that was read
+record Valued (s t : Stream) (y : Sample) : Type 0 where
+  held : Atoms
+  is : Sum held ≡ y
+  was : atoms s ≡ Ok (held, t)
+  no_literal : (lone held.0 && is_done t.rest) ≡ false
 
-sum_sound : (s t : Stream) (x : Sample) → Visible s.rest → sum s ≡ Ok (x, t) → Clean t.left → AreAtoms (suc (groups s.rest)) x.atoms s.rest t.rest
-unfolding atoms
-sum_sound s t x h e c = (atoms_sound (suc (groups s.rest)) s t x.atoms h (sum_was s t x e) c).1
-
-sum_spells : (s t : Stream) (x : Sample) → sum s ≡ Ok (x, t) → leaves t ≡ None → IsSum x (shown s.rest)
-sum_spells s t x e h =
-    let y = forth (sum s) (sum (unveiled s)) x t e (alike s) in
-    let f = first-none t.left (left_here t) h in
-    let i = sum_sound (unveiled s) y.end x (shown-visible s.rest) y.was (sym y.like.left ∙ f.0) in
-    (suc (groups (shown s.rest)), subst (λ z. AreAtoms (suc (groups (shown s.rest))) x.atoms (shown s.rest) z) (sym y.like.rest ∙ shown-done t.rest (over t h)) i)
-
-value_was : (s t : Stream) (x : Sample) → value s ≡ Ok (x, t) → (sum s ≡ Ok (x, t)) × ((lone x.atoms.0 && is_done t.rest) ≡ false)
+value_was : (s t : Stream) (y : Sample) → value s ≡ Ok (y, t) → Valued s t y
 unfolding value
-value_was s t x e =
-    let c = chain (sum s) _ x t e in
-    elim (branch (lone c.value.atoms.0 && is_done c.rest.rest) _ _ c.rest (Ok (x, t)) c.goes) [
-      | inl y ↦ cc (y.1)
-      | inr y ↦ let g = same_pair c.value x c.rest t y.1 in (
-        c.was ∙ ap (λ z. Ok (z, c.rest)) g.0 ∙ ap (λ z. Ok (x, z)) g.1,
-        subst (λ (z : Stream). (lone x.atoms.0 && is_done z.rest) ≡ false) g.1 (subst (λ (z : Sample). (lone z.atoms.0 && is_done c.rest.rest) ≡ false) g.0 y.0),
-      )
+value_was s t y e =
+    let c = chain (atoms s) _ y t e in
+    elim (branch (lone c.value.0 && is_done c.rest.rest) _ _ c.rest (Ok (y, t)) c.goes) [
+      | inl z ↦ cc (z.1)
+      | inr z ↦ let g = same_pair (Sum c.value) y c.rest t z.1 in
+          record { held = c.value; is = g.0; was = c.was ∙ ap (λ u. Ok (c.value, u)) g.1; no_literal = subst (λ (u : Stream). (lone c.value.0 && is_done u.rest) ≡ false) g.1 z.0 }
     ]
 
 and_left : (b c : Bool) → c ≡ true → (b && c) ≡ false → b ≡ false
@@ -606,47 +221,77 @@ and_left false c h e = refl
 and_left true true h e = cc
 and_left true false h e = cc
 
-pub sound : (q : Place) (s t : Stream) (x : Sample) → at_place q s ≡ Ok (x, t) → leaves t ≡ None → spells q x s.rest
-sound ArrayLen s t x e h = sum_spells s t x e h
-sound Value s t x e h = let w = value_was s t x e in (sum_spells s t x w.0 h, and_left (lone x.atoms.0) (is_done t.rest) (over t h) w.1)
-sound Guard s t x e h = sum_spells s t x e h
-sound Block s t x e h = absurd (cc)
+place_sound : (q : Place) (s t : Stream) (y : Sample) → Visible s.rest → at_place q s ≡ Ok (y, t) → leaves t ≡ None → IsAt q y s.rest
+unfolding sum block
+place_sound ArrayLen s t y h e k = let m = mapped (atoms s) Sum y t e in subst (λ z. IsSum z s.rest) m.is (sum_sound s t m.value h m.was k)
+place_sound Value s t y h e k =
+    let w = value_was s t y e in
+    let over : is_done t.rest ≡ true = ap is_done (took_all t (summed_seen s t w.held h w.was) k) ∙ done_over in
+    subst (λ z. IsValue z s.rest) w.is (sum_sound s t w.held h w.was k, and_left (lone w.held.0) (is_done t.rest) over w.no_literal)
+place_sound Guard s t y h e k = let m = mapped (atoms s) Sum y t e in subst (λ z. IsSum z s.rest) m.is (sum_sound s t m.value h m.was k)
+place_sound Block s t y h e k = let m = mapped (statements s) Statements y t e in subst (λ z. IsBlock z s.rest) m.is (block_sound s t m.value h m.was k)
+
+pub sound : (q : Place) (s t : Stream) (y : Sample) → at_place q s ≡ Ok (y, t) → leaves t ≡ None → spells q y s.rest
+sound q s t y e h =
+    let g = forth (at_place q s) (at_place q (unveiled s)) y t e (alike q s) in
+    let k = st.leaves_alike Shown Kept fronts_at (λ f. refl) kept_both t g.end g.like in
+    place_sound q (unveiled s) g.end y (shown-visible s.rest) g.was (sym k ∙ h)
 
 -- ---- complete
+
+value_read : (s t : Stream) (w : Atoms) → lone w.0 ≡ false → atoms s ≡ Ok (w, t) → value s ≡ Ok (Sum w, t)
+unfolding value
+value_read s t w h e = link _ e (chosen (lone w.0 && is_done t.rest) false _ _ t _ (ap (λ b. b && is_done t.rest) h) refl)
+
+place_complete : (q : Place) (y : Sample) (l : Toks) → IsAt q y l → (f : Option Span) (e : Span) (sc : Scope) → Reads_to (at_place q) y l done f e sc
+unfolding sum block
+place_complete ArrayLen (Sum w) l i f e sc = let q = summed_complete w l done i no_joint-done f e sc in record { last = q.last; reads = link _ q.reads refl }
+place_complete ArrayLen (Statements v) l i f e sc = absurd i
+place_complete Value (Sum w) l i f e sc = let q = summed_complete w l done i.0 no_joint-done f e sc in record { last = q.last; reads = value_read (at l f e sc) (at done f q.last sc) w i.1 q.reads }
+place_complete Value (Statements v) l i f e sc = absurd i
+place_complete Guard (Sum w) l i f e sc = let q = summed_complete w l done i no_joint-done f e sc in record { last = q.last; reads = link _ q.reads refl }
+place_complete Guard (Statements v) l i f e sc = absurd i
+place_complete Block (Sum w) l i f e sc = absurd i
+place_complete Block (Statements v) l i f e sc = let q = statements_complete v l i f e sc in record { last = q.last; reads = link _ q.reads refl }
 
 shown_over : (t : Stream) → shown t.rest ≡ done → is_done t.rest ≡ true
 unfolding is_done
 shown_over t e = st.done_steady Shown Kept fronts_at t.rest done e
 
-sum_read : (s : Stream) (x : Sample) → IsSum x (shown s.rest) → (t : Stream) × (sum s ≡ Ok (x, t)) × UsesUp s t
-sum_read s x i =
-    let q = sum_complete x (shown s.rest) i s.left s.last s.scope in
-    let y = back (sum s) (sum (unveiled s)) x (at done s.left q.last s.scope) q.reads (alike s) in
-    (y.end, y.was, record { ends = shown_over y.end y.like.rest; left = y.like.left })
-
-value_read : (s t : Stream) (x : Sample) → lone x.atoms.0 ≡ false → sum s ≡ Ok (x, t) → value s ≡ Ok (x, t)
-unfolding value
-value_read s t x h e = link _ e (chosen (lone x.atoms.0 && is_done t.rest) false _ _ t _ (ap (λ b. b && is_done t.rest) h) refl)
-
-pub complete : (q : Place) (s : Stream) (x : Sample) → spells q x s.rest → (t : Stream) × (at_place q s ≡ Ok (x, t)) × UsesUp s t
-complete ArrayLen s x i = sum_read s x i
-complete Value s x i = let r = sum_read s x i.0 in (r.0, value_read s r.0 x i.1 r.1, r.2)
-complete Guard s x i = sum_read s x i
-complete Block s x i = absurd i
+pub complete : (q : Place) (s : Stream) (y : Sample) → spells q y s.rest → (t : Stream) × (at_place q s ≡ Ok (y, t)) × UsesUp s t
+complete q s y i =
+    let r = place_complete q y (shown s.rest) i s.left s.last s.scope in
+    let g = back (at_place q s) (at_place q (unveiled s)) y (at done s.left r.last s.scope) r.reads (alike q s) in
+    (g.end, g.was, record { ends = shown_over g.end g.like.rest; left = g.like.left })
 
 -- ---- reprint
 
-sum_visible : (x : Sample) (l : Toks) → IsSum x l → Visible (row (printing.sum x) done)
-sum_visible x l i = atoms_whole i.0 x.atoms (row (printing.sum x) done) (atoms_again i.0 x.atoms l i.1)
+place_again : (q : Place) (y : Sample) (l : Toks) → IsAt q y l → IsAt q y (row (printing.sample y) done)
+place_again ArrayLen (Sum w) l i = summed_again w l done done i
+place_again ArrayLen (Statements v) l i = absurd i
+place_again Value (Sum w) l i = (summed_again w l done done i.0, i.1)
+place_again Value (Statements v) l i = absurd i
+place_again Guard (Sum w) l i = summed_again w l done done i
+place_again Guard (Statements v) l i = absurd i
+place_again Block (Sum w) l i = absurd i
+place_again Block (Statements v) l i = printed_again AreSummed Anywhere printing.atoms summed_again true v.0 v.1 l done done i
 
-sum_reprint : (x : Sample) (l : Toks) → IsSum x l → IsSum x (shown (row (printing.sum x) done))
-sum_reprint x l i = subst (λ z. IsSum x z) (sym (shown-same (row (printing.sum x) done) (sum_visible x l i))) (sum_again x l i)
+place_whole : (q : Place) (y : Sample) (l : Toks) → IsAt q y l → Visible l
+place_whole ArrayLen (Sum w) l i = summed_whole w l done i tt
+place_whole ArrayLen (Statements v) l i = absurd i
+place_whole Value (Sum w) l i = summed_whole w l done i.0 tt
+place_whole Value (Statements v) l i = absurd i
+place_whole Guard (Sum w) l i = summed_whole w l done i tt
+place_whole Guard (Statements v) l i = absurd i
+place_whole Block (Sum w) l i = absurd i
+place_whole Block (Statements v) l i = listed_whole AreSummed Anywhere summed_whole true v.0 v.1 l done i tt
 
-pub reprint : (q : Place) (x : Sample) (l : Toks) → spells q x l → Reprints (spells q) (λ z. z) printing.sum x l
-reprint ArrayLen x l i = record { again = sum_reprint x (shown l) i; same = refl; visible = λ v. sum_visible x (shown l) i }
-reprint Value x l i = record { again = (sum_reprint x (shown l) i.0, i.1); same = refl; visible = λ v. sum_visible x (shown l) i.0 }
-reprint Guard x l i = record { again = sum_reprint x (shown l) i; same = refl; visible = λ v. sum_visible x (shown l) i }
-reprint Block x l i = absurd i
+pub reprint : (q : Place) (y : Sample) (l : Toks) → spells q y l → Reprints (spells q) (λ z. z) printing.sample y l
+reprint q y l i =
+    let printed = row (printing.sample y) done in
+    let again = place_again q y (shown l) i in
+    let whole = place_whole q y printed again in
+    record { again = subst (λ z. IsAt q y z) (sym (shown-same printed whole)) again; same = refl; visible = λ v. whole }
 
 -- ---- apart
 
@@ -723,8 +368,9 @@ atoms_apart : (n : ℕ) (w : Atoms) (l : Toks) → AreAtoms n w l done → lone 
 atoms_apart zero w l i h = absurd i
 atoms_apart (suc n) w l i h = sum_apart (Content n) w.0 w.1 l i h
 
-pub apart : (x : Sample) (l : Toks) → spells Value x l → IsApart l
-apart x l i =
-    let h = atoms_apart i.0.0 x.atoms (shown l) i.0.1 i.1 in
+pub apart : (y : Sample) (l : Toks) → spells Value y l → IsApart l
+apart (Sum w) l i =
+    let h = atoms_apart i.0.0 w (shown l) i.0.1 i.1 in
     let f = fronts_shown l in
     record { literal = lone_alike (front l) (front (shown l)) f ∙ h.0; attribute = no_attribute (front l) (front (shown l)) f h.1 }
+apart (Statements v) l i = absurd i

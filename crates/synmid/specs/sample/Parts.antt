@@ -8,15 +8,14 @@ use Rattle.token_core.specs.declared.tree.Ident.{Ident}
 use Rattle.token_core.specs.Toks.{Toks, done, word, mark, lit, group, enter, leave}
 use Rattle.token_core.specs.Groups.{paren}
 use Rattle.token_core.specs.Loops.{Many}
-use Rattle.synmid.specs.declared.sample.Sample.{Sample}
 use Rattle.synmid.specs.declared.sample.Atom.{Atom, out-Atom}
 use Rattle.synmid.specs.declared.sample.Atom.TheOpen as o
 use Rattle.synmid.specs.declared.sample.Atom.TheVariants as a
 use Rattle.synmid.specs.declared.sample.ModPath.{ModPath}
-pub use Rattle.token_core.specs.Tokens.{Plus}
+pub use Rattle.token_core.specs.Tokens.{Plus, Semi}
 use Rattle.token_core.specs.Tokens as token
 
--- `::` and `+`
+-- `::`, beside `+` and `;`
 abbrev pub Sep : Type 0
 Sep = token.PathSep
 
@@ -30,9 +29,6 @@ Atoms = Many Atom Plus
 -- atoms in parentheses
 abbrev pub group_of : DelimSpan → Atoms → Atom
 group_of s v = a.Group (paren s) v
-
-abbrev pub sum_of : Atoms → Sample
-sum_of v = record { atoms = v }
 
 -- ---- a literal
 

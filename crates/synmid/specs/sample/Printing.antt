@@ -1,5 +1,5 @@
 -- What the sample prints.
-use Rattle.std.specs.Prelude.{[], ◌++◌, Option, Some, None}
+use Rattle.std.specs.Prelude.{◌++◌, Option}
 use Rattle.token_core.specs.declared.tree.Delimiter.TheVariants.{Parenthesis}
 use Rattle.token_core.specs.declared.tree.Ident.{Ident}
 use Rattle.token_core.specs.Prints as p
@@ -9,11 +9,12 @@ use Rattle.token_core.specs.Lits as lits
 use Rattle.token_core.specs.Loops.{Many}
 use Rattle.token_core.specs.Trees.{stream_of_trees}
 use Rattle.synmid.specs.declared.sample.Sample.{Sample}
+use Rattle.synmid.specs.declared.sample.Sample.TheVariants.{Sum, Statements}
 use Rattle.synmid.specs.declared.sample.Atom.{Atom}
 use Rattle.synmid.specs.declared.sample.Atom.TheFolds.{fold-Atom}
 use Rattle.synmid.specs.declared.sample.Atom.TheOpen as o
 use Rattle.synmid.specs.declared.sample.ModPath.{ModPath}
-use Rattle.synmid.specs.sample.Parts.{Sep, Plus, Atoms}
+use Rattle.synmid.specs.sample.Parts.{Sep, Plus, Semi, Atoms}
 
 abbrev pub colon : Option Sep → Print
 colon c = p.optional p.mark c
@@ -39,5 +40,10 @@ atom = fold-Atom Print atom_step
 abbrev pub atoms : Atoms → Print
 atoms = atoms_by atom
 
-abbrev pub sum : Sample → Print
-sum x = atoms x.atoms
+-- sums with their `;`
+abbrev pub statements : Many Atoms Semi → Print
+statements v = joined atoms p.mark v.0 v.1
+
+abbrev pub sample : Sample → Print
+sample (Sum v) = atoms v
+sample (Statements v) = statements v

@@ -9,15 +9,16 @@ use Rattle.token_core.specs.Reads.{Reader, ◌>>=◌, ◌<$>◌, pure, peek, opt
 use Rattle.token_core.specs.Groups.{paren_name}
 use Rattle.token_core.specs.Marks as marks
 use Rattle.token_core.specs.Lits.{sees_lit, read_lit}
-use Rattle.token_core.specs.Loops.{Many, joined}
+use Rattle.token_core.specs.Loops.{Many, joined, terminated}
 use Rattle.syn_path.specs.path.Spelling.{is_mod_word}
 use Rattle.syn_path.specs.declared.supplied.Place.{Place}
 use Rattle.syn_path.specs.declared.supplied.Place.TheVariants.{ArrayLen, Value, Guard, Block}
 use Rattle.synmid.specs.declared.sample.Sample.{Sample}
+use Rattle.synmid.specs.declared.sample.Sample.TheVariants.{Sum, Statements}
 use Rattle.synmid.specs.declared.sample.Atom.{Atom}
 use Rattle.synmid.specs.declared.sample.Atom.TheVariants as a
 use Rattle.synmid.specs.declared.sample.ModPath.{ModPath}
-use Rattle.synmid.specs.sample.Parts.{Sep, Atoms, path_of, group_of, sum_of, lone, groups}
+use Rattle.synmid.specs.sample.Parts.{Sep, Semi, Atoms, path_of, group_of, lone, groups}
 use Rattle.token_core.specs.Tokens as token
 
 -- values joined by a mark, at least one; the first is as the others
@@ -71,18 +72,24 @@ unfoldable pub atom : Reader Atom
 atom = atom_by grouped
 
 unfoldable pub sum : Reader Sample
-sum = sum_of <$> atoms
+sum = Sum <$> atoms
 
 -- not a literal that ends the stream
 unfoldable pub value : Reader Sample
 value = do
-  x ← sum
+  v ← atoms
   over ← peek is_done
-  if lone x.atoms.0 && over then (λ s. Err (expected (codes "`+`") s)) else pure x
+  if lone v.0 && over then (λ s. Err (expected (codes "`+`") s)) else pure (Sum v)
 
--- no expression is read in a block
+-- sums up to the end of the stream, each ended by `;`, which the last may lack
+unfoldable pub statements : Reader (Many Atoms Semi)
+statements = terminated is_done atoms token.semi
+
+unfoldable pub block : Reader Sample
+block = Statements <$> statements
+
 abbrev pub at_place : Place → Reader Sample
 at_place ArrayLen = sum
 at_place Value = value
 at_place Guard = sum
-at_place Block = λ s. Err (expected (codes "sample") s)
+at_place Block = block

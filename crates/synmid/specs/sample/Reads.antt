@@ -1,6 +1,6 @@
 -- The reads of atoms: they take tokens, they go alike on alike streams, and they don't turn on how many groups are counted.
 use Rattle.std.specs.Prelude.{◌≡◌, ℕ, zero, suc, ◌<◌, ◌≤◌, Bool, true, false, ◌==◌, if◌then◌else◌, [], ◌∷◌, Option, Some, None, Ok, Err, refl}
-use Rattle.std.proofs.Common.{inl, inr, ◌∙◌, ap, subst, arith}
+use Rattle.std.proofs.Common.{inl, inr, sym, ◌∙◌, ap, subst, arith}
 use Rattle.std.specs.Str.{bytes_eq}
 use Rattle.token_core.specs.declared.span.Span.{Span}
 use Rattle.token_core.specs.declared.span.DelimSpan.{DelimSpan}
@@ -257,3 +257,6 @@ atoms-joined s =
     same_joined (λ l. groups l ≤ groups s.rest) (atom_by (group_by (atoms_at (groups s.rest)))) (atom_by (group_by atoms)) sees_plus token.plus
     (λ t i. same_atom (group_by (atoms_at (groups s.rest))) (group_by atoms) t (same_group (atoms_at (groups s.rest)) atoms t (λ u less. any_count (groups s.rest) (suc (groups u.rest)) u (omega (arith, i, less)) (omega arith))))
     (atom_within (groups s.rest) (groups s.rest)) (plus_within (groups s.rest)) s (omega arith)
+
+pub atoms-takes : (s t : Stream) (v : Atoms) → atoms s ≡ Ok (v, t) → size t.rest < size s.rest
+atoms-takes s t v e = took.joined_takes (λ b. atom) sees_plus token.plus (λ b. atom-takes) (joint_keeps 20 1) false s t v (sym (atoms-joined s) ∙ e)

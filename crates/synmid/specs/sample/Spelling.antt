@@ -8,16 +8,17 @@ use Rattle.token_core.specs.declared.mark.Mark.{Mark}
 use Rattle.token_core.specs.declared.lit.Lit.{Lit}
 use Rattle.token_core.specs.Toks.{Toks, done, word, mark, lit, group, enter, leave}
 use Rattle.token_core.specs.Loops.{Many}
-use Rattle.token_core.specs.Listed.{AreListed, Nowhere}
+use Rattle.token_core.specs.Listed.{AreListed, Anywhere, Nowhere}
 use Rattle.token_core.specs.Spellings.{IsMark, IsLit}
 use Rattle.syn_path.specs.path.Spelling.{is_mod_word}
 use Rattle.syn_path.specs.declared.supplied.Place.{Place}
 use Rattle.syn_path.specs.declared.supplied.Place.TheVariants.{ArrayLen, Value, Guard, Block}
 use Rattle.synmid.specs.declared.sample.Sample.{Sample}
+use Rattle.synmid.specs.declared.sample.Sample.TheVariants.{Sum, Statements}
 use Rattle.synmid.specs.declared.sample.Atom.{Atom}
 use Rattle.synmid.specs.declared.sample.Atom.TheVariants as a
 use Rattle.synmid.specs.declared.sample.ModPath.{ModPath}
-use Rattle.synmid.specs.sample.Parts.{Sep, Atoms, path_of, group_of, lone}
+use Rattle.synmid.specs.sample.Parts.{Sep, Semi, Atoms, path_of, group_of, lone}
 
 -- ---- the tokens of a list, as they stand in its invisible groups
 
@@ -63,13 +64,34 @@ AreAtoms zero v l r = ⊥
 AreAtoms (suc n) v l r = AreJoined 20 1 (IsAtom (λ w c. AreAtoms n w c done)) v l r
 
 -- in any number of groups
-abbrev pub IsSum : Sample → Toks → Type 0
-IsSum x l = (n : ℕ) × AreAtoms n x.atoms l done
+abbrev pub AreSummed : Atoms → Toks → Toks → Type 0
+AreSummed v l r = (n : ℕ) × AreAtoms n v l r
+
+-- sums, each ended by `;`, which the last may lack; there may be none
+abbrev pub AreStatements : Many Atoms Semi → Toks → Toks → Type 0
+AreStatements v l r = AreListed (λ first. AreSummed) (IsMark false) Anywhere true v.0 v.1 l r
 
 -- ---- all of a list, by its place
 
+abbrev pub IsSum : Sample → Toks → Type 0
+IsSum (Sum v) l = AreSummed v l done
+IsSum (Statements v) l = ⊥
+
+-- no lone literal
+abbrev pub IsValue : Sample → Toks → Type 0
+IsValue (Sum v) l = AreSummed v l done × (lone v.0 ≡ false)
+IsValue (Statements v) l = ⊥
+
+abbrev pub IsBlock : Sample → Toks → Type 0
+IsBlock (Sum v) l = ⊥
+IsBlock (Statements v) l = AreStatements v l done
+
+-- of a list without invisible groups
+abbrev pub IsAt : Place → Sample → Toks → Type 0
+IsAt ArrayLen = IsSum
+IsAt Value = IsValue
+IsAt Guard = IsSum
+IsAt Block = IsBlock
+
 abbrev pub spells : Place → Sample → Toks → Type 0
-spells ArrayLen x l = IsSum x (shown l)
-spells Value x l = IsSum x (shown l) × (lone x.atoms.0 ≡ false)
-spells Guard x l = IsSum x (shown l)
-spells Block x l = ⊥
+spells q x l = IsAt q x (shown l)

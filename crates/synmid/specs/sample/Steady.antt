@@ -245,7 +245,7 @@ module _ (K : Toks → Toks → Type 0) (M : Option Span → Option Span → Typ
 
     -- what is left over in a group is handed on alike
     module _ (both : (f : Option Span) → M f f) (joins : (a b c e : Option Span) → M a b → M c e → M (first_of a c) (first_of b e)) where
-      leaves_alike : (s t : Stream) → Alike s t → M (leaves s) (leaves t)
+      pub leaves_alike : (s t : Stream) → Alike s t → M (leaves s) (leaves t)
       leaves_alike s t k = joins s.left t.left (left_here s) (left_here t) k.left (subst (M (left_here s)) (left_here_same s t k) (both (left_here s)))
 
       closed_at : {A : Type 0} (g : DelimSpan) (s t : Stream) (o u : Outcome A) → Alike s t → Same o u → Same (closing g s o) (closing g t u)
@@ -282,23 +282,31 @@ module _ (K : Toks → Toks → Type 0) (M : Option Span → Option Span → Typ
 
   -- ---- values joined by marks
 
-  module _ {A P : Type 0} (value : Bool → Reader A) (more : Toks → Bool) (joint : Reader P) (value_steady : (b : Bool) → Steady (value b)) (more_steady : SteadyTest more) (joint_steady : Steady joint) where
-    from_steady : (n : ℕ) (b : Bool) → Steady (listed_from never value more joint n b)
+  module _ {A P : Type 0} (stops : Bool → Toks → Bool) (value : Bool → Reader A) (more : Toks → Bool) (joint : Reader P)
+      (stops_steady : (b : Bool) → SteadyTest (stops b)) (value_steady : (b : Bool) → Steady (value b)) (more_steady : SteadyTest more) (joint_steady : Steady joint) where
+    from_steady : (n : ℕ) (b : Bool) → Steady (listed_from stops value more joint n b)
     from_steady zero b = λ s t k. tt
     from_steady (suc n) b =
-        choose (never b) (pure ([], [])) (value b >>= after_value never value more joint n) (λ l m k. refl) (stays ([], []))
-        (bind (value b) (after_value never value more joint n) (value_steady b) (λ x.
-        choose more (joint >>= after_mark never value more joint n x) (pure (x ∷ [], [])) more_steady
-        (bind joint (after_mark never value more joint n x) joint_steady (λ p.
-        bind (listed_from never value more joint n false) (λ rest. pure (x ∷ rest.0, p ∷ rest.1)) (from_steady n false) (λ rest. stays (x ∷ rest.0, p ∷ rest.1))))
+        choose (stops b) (pure ([], [])) (value b >>= after_value stops value more joint n) (stops_steady b) (stays ([], []))
+        (bind (value b) (after_value stops value more joint n) (value_steady b) (λ x.
+        choose more (joint >>= after_mark stops value more joint n x) (pure (x ∷ [], [])) more_steady
+        (bind joint (after_mark stops value more joint n x) joint_steady (λ p.
+        bind (listed_from stops value more joint n false) (λ rest. pure (x ∷ rest.0, p ∷ rest.1)) (from_steady n false) (λ rest. stays (x ∷ rest.0, p ∷ rest.1))))
         (stays (x ∷ [], []))))
 
     module _ (takes : (b : Bool) (s t : Stream) (x : A) → value b s ≡ Ok (x, t) → size t.rest < size s.rest)
         (keeps : (s t : Stream) (p : P) → joint s ≡ Ok (p, t) → size t.rest ≤ size s.rest) where
-      pub joined_steady : (b : Bool) → Steady (listed never value more joint b)
+      pub listed_steady : (b : Bool) → Steady (listed stops value more joint b)
       unfolding listed
-      joined_steady b s t k =
+      listed_steady b s t k =
           let n = suc (size s.rest + size t.rest) in
-          let p = enough never value more joint takes keeps n (suc (size s.rest)) b s (omega arith) (omega arith) in
-          let q = enough never value more joint takes keeps n (suc (size t.rest)) b t (omega arith) (omega arith) in
-          subst (λ z. Same z (listed_from never value more joint (suc (size t.rest)) b t)) p (subst (λ z. Same (listed_from never value more joint n b s) z) q (from_steady n b s t k))
+          let p = enough stops value more joint takes keeps n (suc (size s.rest)) b s (omega arith) (omega arith) in
+          let q = enough stops value more joint takes keeps n (suc (size t.rest)) b t (omega arith) (omega arith) in
+          subst (λ z. Same z (listed_from stops value more joint (suc (size t.rest)) b t)) p (subst (λ z. Same (listed_from stops value more joint n b s) z) q (from_steady n b s t k))
+
+  -- lists that don't stop before a value
+  module _ {A P : Type 0} (value : Bool → Reader A) (more : Toks → Bool) (joint : Reader P) (value_steady : (b : Bool) → Steady (value b)) (more_steady : SteadyTest more) (joint_steady : Steady joint)
+      (takes : (b : Bool) (s t : Stream) (x : A) → value b s ≡ Ok (x, t) → size t.rest < size s.rest)
+      (keeps : (s t : Stream) (p : P) → joint s ≡ Ok (p, t) → size t.rest ≤ size s.rest) where
+    pub joined_steady : (b : Bool) → Steady (listed never value more joint b)
+    joined_steady = listed_steady never value more joint (λ b l m k. refl) value_steady more_steady joint_steady takes keeps

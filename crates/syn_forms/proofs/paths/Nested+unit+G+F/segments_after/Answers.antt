@@ -1,9 +1,9 @@
-use Rattle.std.proofs.Common.{◌≡◌, ◌<◌, ◌≤◌, true, false, ◌++◌, ◌∷◌, [], Ok, length, refl, sym, ap, subst, ◌∙◌, rules, arith}
+use Rattle.std.proofs.Common.{◌≡◌, ◌<◌, true, false, ◌++◌, ◌∷◌, [], Ok, length, refl, sym, ap, subst, ◌∙◌, rules, arith}
 use Rattle.std.proofs.lemmas.Grind.{common_steps}
 use Rattle.token_core.specs.Loops.{after, never, size}
 use Rattle.token_core.proofs.Suffixes.{follows}
 use Rattle.syn_path.specs.path.Reading.{sep}
-use Rattle.syn_forms.specs.nested.Below.{ahead, held}
+use Rattle.syn_forms.specs.nested.Below.{held}
 use Rattle.syn_forms.specs.paths.Reading.{segment, segments}
 use Rattle.syn_forms.proofs.lists_laws.Turns.{Told, start, last, next}
 use Rattle.syn_forms.proofs.nested_laws.Ahead.{fewer_tokens}
@@ -22,8 +22,7 @@ pub returns-then-not-goes_on-clause-parses : goal.returns-then-not-goes_on-claus
 returns-then-not-goes_on-clause-parses g c =
     let i = c.turn.invariant.told in
     let n : g.S.Further.more c.args.further c.segment.new.input.rest ≡ false = first_of (search rules, grind (arith, common_steps)) in
-    let v : c.push_value.new.self ≡ (c.turn.segments.0 ++ c.in_ok-segment.segment ∷ [], c.turn.segments.1) = first_of (search rules, grind (arith, common_steps)) in
-    (
+    let v : c.push_value.new.self ≡ (c.turn.segments.0 ++ c.in_ok-segment.segment ∷ [], c.turn.segments.1) = first_of (search rules, grind (arith, common_steps)) in (
       i.told
           ∙ last never (segment g.G.Arguments.absent (held g.G.Tree.read (length c.args.self.now.begin) tt) c.args.style) (g.S.Further.more c.args.further) sep i.turns c.turn.segments true c.turn.input c.segment.new.input c.in_ok-segment.segment refl c.in_ok-segment.ensures.parses.0 n
           ∙ ap (λ z. Ok (z, c.segment.new.input)) (sym v),
