@@ -552,7 +552,7 @@ impl<A: Arguments> PathOf<A> {
     pub fn lone_segment(&self) -> Option<&PathSegmentOf<A>>
         ensures { option_map (λ s. s.now) result ≡ spec.lone_segment self.now }
     {
-        if self.leading_colon.is_some() || self.segments.value(1).is_some() {
+        if self.segments.value(1).is_some() || self.leading_colon.is_some() {
             return None;
         }
         self.segments.value(0)

@@ -33,7 +33,6 @@ module _ {A E : Type 0} where
   nameless values r t None s h = refl
   nameless values r t (Some n) s h = cc
 
-
 pub ruleset items = (item-lone)
 
 pub ruleset nameless_types = (nameless)

@@ -28,15 +28,11 @@ use std::marker::PhantomData;
 use syn_forms::lists::{End, Make};
 use syn_forms::paths::{last_arguments, with_last_arguments};
 use syn_forms::places::{BoundPlace, ParamPlace, TypePlace};
-use syn_forms::tokens::{
-    parse_any_lifetime, parse_colon, parse_eq, parse_path_sep, parse_plus,
-};
+use syn_forms::tokens::{parse_any_lifetime, parse_colon, parse_eq, parse_plus};
 use syn_path::path::{PathOf, PathSegmentOf, PathStyle, QSelfOf, ReadArguments};
 use syn_path::supplied::{Attributes, Value};
 use token_core::token::{Brace, Colon, Comma, Eq, Gt, Paren, PathSep, Plus, RArrow};
-use token_core::{
-    Boxed, Error, Ident, Items, Lifetime, Lit, Parse, ParseStream, Punctuated,
-};
+use token_core::{Boxed, Error, Ident, Items, Lifetime, Lit, Parse, ParseStream, Punctuated};
 
 // ---- tests
 
@@ -118,7 +114,7 @@ fn path_names_item<A: Attributes, E: Value>(ty: &TypePathOf<A, E>) -> bool
 }
 
 /// Whether a type is the name of an associated item, with its arguments: what may stand before `=` and `:`.
-pub fn names_item<A: Attributes, E: Value>(ty: &TypeOf<A, E>) -> bool
+fn names_item<A: Attributes, E: Value>(ty: &TypeOf<A, E>) -> bool
     ensures { result ≡ is_some (reading.item_of ty.now) }
 {
     match ty {
@@ -321,11 +317,41 @@ impl<
     'a,
     A: Attributes,
     E: Value,
-    F: Fn(Global, PhantomData<TypeOf<A, E>>, &mut ParseStream<'_>, TypePlace) -> Result<TypeOf<A, E>, Error> + Copy,
-    G: Fn(Global, PhantomData<TypeParamBoundOf<A, E>>, &mut ParseStream<'_>, BoundPlace) -> Result<TypeParamBoundOf<A, E>, Error> + Copy,
-    H: Fn(Global, PhantomData<GenericParamOf<A, E>>, &mut ParseStream<'_>, ParamPlace) -> Result<GenericParamOf<A, E>, Error> + Copy,
-    I: Fn(Global, PhantomData<GenericArgumentOf<A, E>>, &mut ParseStream<'_>, ()) -> Result<GenericArgumentOf<A, E>, Error> + Copy,
-    J: Fn(Global, PhantomData<PathArgumentsOf<A, E>>, &mut ParseStream<'_>, ()) -> Result<PathArgumentsOf<A, E>, Error> + Copy,
+    F: Fn(
+        Global,
+        PhantomData<TypeOf<A, E>>,
+        &mut ParseStream<'_>,
+        TypePlace,
+    ) -> Result<TypeOf<A, E>, Error>
+        + Copy,
+    G: Fn(
+        Global,
+        PhantomData<TypeParamBoundOf<A, E>>,
+        &mut ParseStream<'_>,
+        BoundPlace,
+    ) -> Result<TypeParamBoundOf<A, E>, Error>
+        + Copy,
+    H: Fn(
+        Global,
+        PhantomData<GenericParamOf<A, E>>,
+        &mut ParseStream<'_>,
+        ParamPlace,
+    ) -> Result<GenericParamOf<A, E>, Error>
+        + Copy,
+    I: Fn(
+        Global,
+        PhantomData<GenericArgumentOf<A, E>>,
+        &mut ParseStream<'_>,
+        (),
+    ) -> Result<GenericArgumentOf<A, E>, Error>
+        + Copy,
+    J: Fn(
+        Global,
+        PhantomData<PathArgumentsOf<A, E>>,
+        &mut ParseStream<'_>,
+        (),
+    ) -> Result<PathArgumentsOf<A, E>, Error>
+        + Copy,
 > Grammar<'a, A, E, F, G, H, I, J> {
     // ---- arguments in angle brackets
 
@@ -483,9 +509,9 @@ impl<
         ensures parses { Parses (reading.parenthesized (knot.reads_below A.reads E.reads (length self.now.begin))) result input.old input.new }
         ensures fewer { ahead input.new ≤ ahead input.old }
     {
-        let (paren_token, inputs, returned) =
-            self.types()
-                .signature(input, TypePlace::Plus, TypePlace::NoPlus, UnnamedArg)?;
+        let (paren_token, inputs, returned) = self
+            .types()
+            .signature(input, TypePlace::Plus, TypePlace::NoPlus, UnnamedArg)?;
         Ok(ParenthesizedGenericArgumentsOf {
             paren_token,
             inputs,
@@ -776,10 +802,7 @@ impl<A: Attributes, E: Value> Parse for GenericArgumentOf<A, E> {
     ghost refuses = { Fails (knot.argument A.reads E.reads) };
 
     #[tactic(auto, using(token_core::specs::Reads::no_promise))]
-    fn parse(
-        alloc: Global,
-        input: &mut ParseStream<'_>,
-    ) -> Result<GenericArgumentOf<A, E>, Error>
+    fn parse(alloc: Global, input: &mut ParseStream<'_>) -> Result<GenericArgumentOf<A, E>, Error>
         ensures reads { Reads (knot.argument A.reads E.reads input.old) result input.new }
         ensures within { Follows input.old input.new }
     {
