@@ -5,5 +5,5 @@ use Rattle.syn_forms.proofs.params.parse_angled_lifetimes.Goals as goal
 
 pub returns-clause-parses : goal.returns-clause-parses
 returns-clause-parses c =
-    let same = angled_lifetimes (length c.cursor.result) c.args.input.now c.angled.requires.few in
+    let same = angled_lifetimes (length c.cursor-begin.result) c.args.input.now c.angled.requires.few in
     subst (λ o. Reads o c.angled.result c.angled.new.input × Follows c.args.input.now c.angled.new.input) same c.angled.ensures.parses
