@@ -88,7 +88,10 @@ impl<A: Attributes, E: Value> Parse for ReturnTypeOf<TypeOf<A, E>> {
     ghost refuses = { Fails (knot.return_type A.reads E.reads Plus) };
 
     #[tactic(auto, using(token_core::specs::Reads::no_promise))]
-    fn parse(alloc: Global, input: &mut ParseStream<'_>) -> Result<ReturnTypeOf<TypeOf<A, E>>, Error>
+    fn parse(
+        alloc: Global,
+        input: &mut ParseStream<'_>,
+    ) -> Result<ReturnTypeOf<TypeOf<A, E>>, Error>
         ensures reads { Reads (knot.return_type A.reads E.reads Plus input.old) result input.new }
         ensures within { Follows input.old input.new }
         ensures promise { Keeps (λ _ _. Unit {0}) input.old result input.new }
@@ -116,7 +119,10 @@ impl<A: Attributes, E: Value> Parse for TypeTraitObjectOf<TypeParamBoundOf<A, E>
     ghost refuses = { Fails (knot.trait_object A.reads E.reads true) };
 
     #[tactic(auto, using(token_core::specs::Reads::no_promise))]
-    fn parse(alloc: Global, input: &mut ParseStream<'_>) -> Result<TypeTraitObjectOf<TypeParamBoundOf<A, E>, A>, Error>
+    fn parse(
+        alloc: Global,
+        input: &mut ParseStream<'_>,
+    ) -> Result<TypeTraitObjectOf<TypeParamBoundOf<A, E>, A>, Error>
         ensures reads { Reads (knot.trait_object A.reads E.reads true input.old) result input.new }
         ensures within { Follows input.old input.new }
         ensures promise { Keeps (λ _ _. Unit {0}) input.old result input.new }
@@ -144,7 +150,10 @@ impl<A: Attributes, E: Value> Parse for TypeImplTraitOf<TypeParamBoundOf<A, E>, 
     ghost refuses = { Fails (knot.impl_trait A.reads E.reads true) };
 
     #[tactic(auto, using(token_core::specs::Reads::no_promise))]
-    fn parse(alloc: Global, input: &mut ParseStream<'_>) -> Result<TypeImplTraitOf<TypeParamBoundOf<A, E>, A>, Error>
+    fn parse(
+        alloc: Global,
+        input: &mut ParseStream<'_>,
+    ) -> Result<TypeImplTraitOf<TypeParamBoundOf<A, E>, A>, Error>
         ensures reads { Reads (knot.impl_trait A.reads E.reads true input.old) result input.new }
         ensures within { Follows input.old input.new }
         ensures promise { Keeps (λ _ _. Unit {0}) input.old result input.new }
@@ -160,7 +169,10 @@ impl<A: Attributes, E: Value> Parse for TypeArrayOf<TypeOf<A, E>, A, E> {
     ghost refuses = { Fails (knot.array A.reads E.reads) };
 
     #[tactic(auto, using(token_core::specs::Reads::no_promise))]
-    fn parse(alloc: Global, input: &mut ParseStream<'_>) -> Result<TypeArrayOf<TypeOf<A, E>, A, E>, Error>
+    fn parse(
+        alloc: Global,
+        input: &mut ParseStream<'_>,
+    ) -> Result<TypeArrayOf<TypeOf<A, E>, A, E>, Error>
         ensures reads { Reads (knot.array A.reads E.reads input.old) result input.new }
         ensures within { Follows input.old input.new }
         ensures promise { Keeps (λ _ _. Unit {0}) input.old result input.new }
@@ -193,7 +205,10 @@ impl<A: Attributes, E: Value> Parse for TypeGroupOf<TypeOf<A, E>, A> {
     ghost refuses = { Fails (knot.group A.reads E.reads) };
 
     #[tactic(auto, using(token_core::specs::Reads::no_promise))]
-    fn parse(alloc: Global, input: &mut ParseStream<'_>) -> Result<TypeGroupOf<TypeOf<A, E>, A>, Error>
+    fn parse(
+        alloc: Global,
+        input: &mut ParseStream<'_>,
+    ) -> Result<TypeGroupOf<TypeOf<A, E>, A>, Error>
         ensures reads { Reads (knot.group A.reads E.reads input.old) result input.new }
         ensures within { Follows input.old input.new }
         ensures promise { Keeps (λ _ _. Unit {0}) input.old result input.new }
@@ -209,7 +224,10 @@ impl<A: Attributes, E: Value> Parse for TypeParenOf<TypeOf<A, E>, A> {
     ghost refuses = { Fails (knot.paren A.reads E.reads) };
 
     #[tactic(auto, using(token_core::specs::Reads::no_promise))]
-    fn parse(alloc: Global, input: &mut ParseStream<'_>) -> Result<TypeParenOf<TypeOf<A, E>, A>, Error>
+    fn parse(
+        alloc: Global,
+        input: &mut ParseStream<'_>,
+    ) -> Result<TypeParenOf<TypeOf<A, E>, A>, Error>
         ensures reads { Reads (knot.paren A.reads E.reads input.old) result input.new }
         ensures within { Follows input.old input.new }
         ensures promise { Keeps (λ _ _. Unit {0}) input.old result input.new }
@@ -241,7 +259,10 @@ impl<A: Attributes, E: Value> Parse for TypePtrOf<TypeOf<A, E>, A> {
     ghost refuses = { Fails (knot.ptr A.reads E.reads) };
 
     #[tactic(auto, using(token_core::specs::Reads::no_promise))]
-    fn parse(alloc: Global, input: &mut ParseStream<'_>) -> Result<TypePtrOf<TypeOf<A, E>, A>, Error>
+    fn parse(
+        alloc: Global,
+        input: &mut ParseStream<'_>,
+    ) -> Result<TypePtrOf<TypeOf<A, E>, A>, Error>
         ensures reads { Reads (knot.ptr A.reads E.reads input.old) result input.new }
         ensures within { Follows input.old input.new }
         ensures promise { Keeps (λ _ _. Unit {0}) input.old result input.new }
@@ -257,7 +278,10 @@ impl<A: Attributes, E: Value> Parse for TypeReferenceOf<TypeOf<A, E>, A> {
     ghost refuses = { Fails (knot.reference A.reads E.reads) };
 
     #[tactic(auto, using(token_core::specs::Reads::no_promise))]
-    fn parse(alloc: Global, input: &mut ParseStream<'_>) -> Result<TypeReferenceOf<TypeOf<A, E>, A>, Error>
+    fn parse(
+        alloc: Global,
+        input: &mut ParseStream<'_>,
+    ) -> Result<TypeReferenceOf<TypeOf<A, E>, A>, Error>
         ensures reads { Reads (knot.reference A.reads E.reads input.old) result input.new }
         ensures within { Follows input.old input.new }
         ensures promise { Keeps (λ _ _. Unit {0}) input.old result input.new }
@@ -273,7 +297,10 @@ impl<A: Attributes, E: Value> Parse for TypeSliceOf<TypeOf<A, E>, A> {
     ghost refuses = { Fails (knot.slice A.reads E.reads) };
 
     #[tactic(auto, using(token_core::specs::Reads::no_promise))]
-    fn parse(alloc: Global, input: &mut ParseStream<'_>) -> Result<TypeSliceOf<TypeOf<A, E>, A>, Error>
+    fn parse(
+        alloc: Global,
+        input: &mut ParseStream<'_>,
+    ) -> Result<TypeSliceOf<TypeOf<A, E>, A>, Error>
         ensures reads { Reads (knot.slice A.reads E.reads input.old) result input.new }
         ensures within { Follows input.old input.new }
         ensures promise { Keeps (λ _ _. Unit {0}) input.old result input.new }
@@ -289,7 +316,10 @@ impl<A: Attributes, E: Value> Parse for TypeTupleOf<TypeOf<A, E>, A> {
     ghost refuses = { Fails (knot.tuple A.reads E.reads) };
 
     #[tactic(auto, using(token_core::specs::Reads::no_promise))]
-    fn parse(alloc: Global, input: &mut ParseStream<'_>) -> Result<TypeTupleOf<TypeOf<A, E>, A>, Error>
+    fn parse(
+        alloc: Global,
+        input: &mut ParseStream<'_>,
+    ) -> Result<TypeTupleOf<TypeOf<A, E>, A>, Error>
         ensures reads { Reads (knot.tuple A.reads E.reads input.old) result input.new }
         ensures within { Follows input.old input.new }
         ensures promise { Keeps (λ _ _. Unit {0}) input.old result input.new }
@@ -305,7 +335,10 @@ impl<A: Attributes, E: Value> Parse for NamedArgOf<TypeOf<A, E>, A> {
     ghost refuses = { Fails (knot.named_arg A.reads E.reads) };
 
     #[tactic(auto, using(token_core::specs::Reads::no_promise))]
-    fn parse(alloc: Global, input: &mut ParseStream<'_>) -> Result<NamedArgOf<TypeOf<A, E>, A>, Error>
+    fn parse(
+        alloc: Global,
+        input: &mut ParseStream<'_>,
+    ) -> Result<NamedArgOf<TypeOf<A, E>, A>, Error>
         ensures reads { Reads (knot.named_arg A.reads E.reads input.old) result input.new }
         ensures within { Follows input.old input.new }
         ensures promise { Keeps (λ _ _. Unit {0}) input.old result input.new }
