@@ -12,7 +12,7 @@ ghost use Rattle.syn_ty.specs.path.Reading as reading;
 ghost use Rattle.syn_ty.specs.ty.Knot as knot;
 ghost use Rattle.syn_ty.specs.ty.Reading as types;
 ghost use Rattle.syn_ty.specs.ty.Types as parts;
-ghost use Rattle.token_core.specs.Reads.{Reads, Follows, Gives, Fails, Parses, ◌>>=◌};
+ghost use Rattle.token_core.specs.Reads.{Reads, Follows, Gives, Fails, Parses};
 ghost use Rattle.token_core.specs.Tokens as token;
 
 use crate::generics::{GenericParamOf, TypeParamBoundOf};
@@ -179,7 +179,9 @@ fn into_generics<A: Attributes, E: Value>(
 }
 
 /// The name that a segment is, and its arguments.
-fn segment_into_item<A: Attributes, E: Value>(segment: PathSegmentOf<PathArgumentsOf<A, E>>) -> Option<Item<A, E>>
+fn segment_into_item<A: Attributes, E: Value>(
+    segment: PathSegmentOf<PathArgumentsOf<A, E>>,
+) -> Option<Item<A, E>>
     ensures { result ≡ reading.with_name segment.ident (reading.generics_layer (out-PathArgumentsOf A E segment.arguments)) }
 {
     let PathSegmentOf { ident, arguments } = segment;
@@ -517,18 +519,18 @@ impl<
 
     // ---- an argument in angle brackets
 
-    /// What an associated item is: `Item = T`, `N = 1`. A literal or braces after `=` are a constant.
+    /// What an associated item is, after the `=`: `Item = T`, `N = 1`. A literal or braces are a constant.
     #[tactic(auto, using(token_core::proofs::Suffixes::follows))]
     fn assoc(
         &self,
         input: &mut ParseStream<'_>,
         item: Item<A, E>,
+        eq_token: Eq,
     ) -> Result<GenericArgumentOf<A, E>, Error>
         requires types { Nests (knot.ty A.reads E.reads) (length self.now.begin) (F.pre self.now.types) (F.post self.now.types) }
-        requires few { ahead input.old ≤ length self.now.begin }
-        ensures parses { Parses (token.equals >>= reading.assoc E.reads (knot.reads_below A.reads E.reads (length self.now.begin)) item.0 item.1) result input.old input.new }
+        requires few { ahead input.old < length self.now.begin }
+        ensures parses { Parses (reading.assoc E.reads (knot.reads_below A.reads E.reads (length self.now.begin)) item.0 item.1 eq_token) result input.old input.new }
     {
-        let eq_token = parse_eq(self.alloc, input)?;
         if peek_const(input) {
             let value = E::read_const_argument(self.alloc, input)?;
             return Ok(assoc_const(item, eq_token, value));
@@ -537,18 +539,18 @@ impl<
         Ok(assoc_type(item, eq_token, ty))
     }
 
-    /// The bounds of an associated type: `Item: A + B`. There may be none.
+    /// The bounds of an associated type, after the `:`: `Item: A + B`. There may be none.
     #[tactic(auto, using(token_core::proofs::Suffixes::follows))]
     fn constraint(
         &self,
         input: &mut ParseStream<'_>,
         item: Item<A, E>,
+        colon_token: Colon,
     ) -> Result<GenericArgumentOf<A, E>, Error>
         requires bounds { Nests (knot.bound A.reads E.reads) (length self.now.begin) (G.pre self.now.bounds) (G.post self.now.bounds) }
-        requires few { ahead input.old ≤ length self.now.begin }
-        ensures parses { Parses (token.colon >>= reading.constraint E.reads (knot.reads_below A.reads E.reads (length self.now.begin)) item.0 item.1) result input.old input.new }
+        requires few { ahead input.old < length self.now.begin }
+        ensures parses { Parses (reading.constraint E.reads (knot.reads_below A.reads E.reads (length self.now.begin)) item.0 item.1 colon_token) result input.old input.new }
     {
-        let colon_token = parse_colon(self.alloc, input)?;
         let bounds = self
             .bounds()
             .list(input, BoundPlace::Parameter, ToConstraintEnd)?;
@@ -571,14 +573,16 @@ impl<
             return Ok(GenericArgumentOf::Type(ty));
         }
         if input.peek::<Eq>() {
+            let eq_token = parse_eq(self.alloc, input)?;
             return match into_item(ty) {
-                Some(item) => self.assoc(input, item),
+                Some(item) => self.assoc(input, item, eq_token),
                 None => unreachable!(),
             };
         }
         if input.peek::<Colon>() {
+            let colon_token = parse_colon(self.alloc, input)?;
             return match into_item(ty) {
-                Some(item) => self.constraint(input, item),
+                Some(item) => self.constraint(input, item, colon_token),
                 None => unreachable!(),
             };
         }
