@@ -22,12 +22,12 @@ use crate::generics::{
     BoundLifetimesOf, CapturedParam, ConstParamOf, GenericParamOf, LifetimeParamOf, PreciseCapture,
     TraitBoundModifiers, TraitBoundOf, TypeParamBoundOf, TypeParamOf,
 };
-use crate::grammar::{Grammar, Points};
-use crate::knot::Knot;
+use crate::grammar::Grammar;
 use crate::path::{GenericArgumentOf, PathArgumentsOf};
 use crate::ty::TypeOf;
 use std::alloc::Global;
 use std::marker::PhantomData;
+use syn_forms::nested::Held;
 use syn_forms::params::{const_parts, parse_lifetime_parts, type_parts};
 use syn_forms::places::{BoundPlace, ParamPlace, TypePlace};
 use syn_forms::tokens::{
@@ -160,23 +160,6 @@ fn parse_capture(alloc: Global, input: &mut ParseStream<'_>) -> Result<PreciseCa
         params,
         gt_token,
     })
-}
-
-/// A capture as a bound; where none may stand it is refused once it is read, from `use` to `>`.
-#[tactic(auto, using(token_core::proofs::Suffixes::follows), unfolding(crate::specs::generics::Reading::capture_in_place))]
-fn capture_in_place<A: Attributes, E: Value>(
-    alloc: Global,
-    input: &mut ParseStream<'_>,
-    place: BoundPlace,
-) -> Result<TypeParamBoundOf<A, E>, Error>
-    ensures parses { Parses (reading.capture_in_place place) result input.old input.new }
-{
-    let from = input.span();
-    let capture = parse_capture(alloc, input)?;
-    if place.allows_capture() {
-        return Ok(TypeParamBoundOf::PreciseCapture(capture));
-    }
-    Err(refuse_since(alloc, ErrorKind::CaptureNotAllowed, from, input))
 }
 
 // ---- `const` and `[const]` before the path of a trait
@@ -529,6 +512,23 @@ impl<
         Ok((paren_token, bound))
     }
 
+    /// A capture as a bound; where none may stand it is refused once it is read, from `use` to `>`.
+    #[tactic(auto, using(token_core::proofs::Suffixes::follows), unfolding(crate::specs::generics::Reading::capture_in_place))]
+    fn capture_in_place(
+        &self,
+        input: &mut ParseStream<'_>,
+        place: BoundPlace,
+    ) -> Result<TypeParamBoundOf<A, E>, Error>
+        ensures parses { Parses (reading.capture_in_place (knot.reads_below A.reads E.reads (length self.now.begin)) place) result input.old input.new }
+    {
+        let from = input.span();
+        let capture = parse_capture(self.alloc, input)?;
+        if place.allows_capture() {
+            return Ok(TypeParamBoundOf::PreciseCapture(capture));
+        }
+        Err(refuse_since(self.alloc, ErrorKind::CaptureNotAllowed, from, input))
+    }
+
     /// A bound that is neither a lifetime nor a capture: a trait, which may stand in parentheses, or its tokens where a `const`
     /// form stands before it.
     #[tactic(auto, using(token_core::proofs::Suffixes::follows, token_core::proofs::Places::positions, crate::proofs::generics_laws::Traits::traits), unfolding(crate::specs::generics::Reading::trait_in_place))]
@@ -571,7 +571,7 @@ impl<
             return Ok(TypeParamBoundOf::Lifetime(lifetime));
         }
         if input.peek::<Use>() {
-            return capture_in_place(self.alloc, input, place);
+            return self.capture_in_place(input, place);
         }
         self.trait_in_place(input, place)
     }
@@ -724,7 +724,7 @@ impl<
 
 /// A binder by itself.
 #[tactic(auto, unfolding(crate::specs::ty::Knot::binder))]
-fn parse_binder<A: Attributes, E: Value, K: Points<A, E>>(
+fn parse_binder<A: Attributes, E: Value>(
     alloc: Global,
     input: &mut ParseStream<'_>,
 ) -> Result<BoundLifetimesOf<GenericParamOf<A, E>>, Error>
@@ -734,18 +734,18 @@ fn parse_binder<A: Attributes, E: Value, K: Points<A, E>>(
         alloc,
         of: PhantomData,
         begin: input.cursor(),
-        types: K::read_type,
-        bounds: K::read_bound,
-        params: K::read_param,
-        args: K::read_argument,
-        segments: K::read_arguments,
+        types: <TypeOf<A, E> as Held<TypePlace>>::parse_held,
+        bounds: <TypeParamBoundOf<A, E> as Held<BoundPlace>>::parse_held,
+        params: <GenericParamOf<A, E> as Held<ParamPlace>>::parse_held,
+        args: <GenericArgumentOf<A, E> as Held<()>>::parse_held,
+        segments: <PathArgumentsOf<A, E> as Held<()>>::parse_held,
     }
     .binder(input)
 }
 
 /// A binder by itself that may be there.
 #[tactic(auto, unfolding(crate::specs::ty::Knot::optional_binder))]
-fn parse_optional_binder<A: Attributes, E: Value, K: Points<A, E>>(
+fn parse_optional_binder<A: Attributes, E: Value>(
     alloc: Global,
     input: &mut ParseStream<'_>,
 ) -> Result<Option<BoundLifetimesOf<GenericParamOf<A, E>>>, Error>
@@ -755,18 +755,18 @@ fn parse_optional_binder<A: Attributes, E: Value, K: Points<A, E>>(
         alloc,
         of: PhantomData,
         begin: input.cursor(),
-        types: K::read_type,
-        bounds: K::read_bound,
-        params: K::read_param,
-        args: K::read_argument,
-        segments: K::read_arguments,
+        types: <TypeOf<A, E> as Held<TypePlace>>::parse_held,
+        bounds: <TypeParamBoundOf<A, E> as Held<BoundPlace>>::parse_held,
+        params: <GenericParamOf<A, E> as Held<ParamPlace>>::parse_held,
+        args: <GenericArgumentOf<A, E> as Held<()>>::parse_held,
+        segments: <PathArgumentsOf<A, E> as Held<()>>::parse_held,
     }
     .optional_binder(input)
 }
 
 /// A trait bound by itself.
 #[tactic(auto, unfolding(crate::specs::ty::Knot::trait_bound))]
-fn parse_trait_bound<A: Attributes, E: Value, K: Points<A, E>>(
+fn parse_trait_bound<A: Attributes, E: Value>(
     alloc: Global,
     input: &mut ParseStream<'_>,
 ) -> Result<TraitBoundOf<A, E>, Error>
@@ -776,18 +776,18 @@ fn parse_trait_bound<A: Attributes, E: Value, K: Points<A, E>>(
         alloc,
         of: PhantomData,
         begin: input.cursor(),
-        types: K::read_type,
-        bounds: K::read_bound,
-        params: K::read_param,
-        args: K::read_argument,
-        segments: K::read_arguments,
+        types: <TypeOf<A, E> as Held<TypePlace>>::parse_held,
+        bounds: <TypeParamBoundOf<A, E> as Held<BoundPlace>>::parse_held,
+        params: <GenericParamOf<A, E> as Held<ParamPlace>>::parse_held,
+        args: <GenericArgumentOf<A, E> as Held<()>>::parse_held,
+        segments: <PathArgumentsOf<A, E> as Held<()>>::parse_held,
     }
     .trait_bound(input)
 }
 
 /// A type parameter by itself.
 #[tactic(auto, unfolding(crate::specs::ty::Knot::type_param))]
-fn parse_type_param<A: Attributes, E: Value, K: Points<A, E>>(
+fn parse_type_param<A: Attributes, E: Value>(
     alloc: Global,
     input: &mut ParseStream<'_>,
 ) -> Result<TypeParamOf<A, E>, Error>
@@ -797,18 +797,18 @@ fn parse_type_param<A: Attributes, E: Value, K: Points<A, E>>(
         alloc,
         of: PhantomData,
         begin: input.cursor(),
-        types: K::read_type,
-        bounds: K::read_bound,
-        params: K::read_param,
-        args: K::read_argument,
-        segments: K::read_arguments,
+        types: <TypeOf<A, E> as Held<TypePlace>>::parse_held,
+        bounds: <TypeParamBoundOf<A, E> as Held<BoundPlace>>::parse_held,
+        params: <GenericParamOf<A, E> as Held<ParamPlace>>::parse_held,
+        args: <GenericArgumentOf<A, E> as Held<()>>::parse_held,
+        segments: <PathArgumentsOf<A, E> as Held<()>>::parse_held,
     }
     .type_param(input)
 }
 
 /// A const parameter by itself.
 #[tactic(auto, unfolding(crate::specs::ty::Knot::const_param))]
-fn parse_const_param<A: Attributes, E: Value, K: Points<A, E>>(
+fn parse_const_param<A: Attributes, E: Value>(
     alloc: Global,
     input: &mut ParseStream<'_>,
 ) -> Result<ConstParamOf<TypeOf<A, E>, A, E>, Error>
@@ -818,11 +818,11 @@ fn parse_const_param<A: Attributes, E: Value, K: Points<A, E>>(
         alloc,
         of: PhantomData,
         begin: input.cursor(),
-        types: K::read_type,
-        bounds: K::read_bound,
-        params: K::read_param,
-        args: K::read_argument,
-        segments: K::read_arguments,
+        types: <TypeOf<A, E> as Held<TypePlace>>::parse_held,
+        bounds: <TypeParamBoundOf<A, E> as Held<BoundPlace>>::parse_held,
+        params: <GenericParamOf<A, E> as Held<ParamPlace>>::parse_held,
+        args: <GenericArgumentOf<A, E> as Held<()>>::parse_held,
+        segments: <PathArgumentsOf<A, E> as Held<()>>::parse_held,
     }
     .const_param(input)
 }
@@ -890,7 +890,7 @@ impl<A: Attributes, E: Value> Parse for BoundLifetimesOf<GenericParamOf<A, E>> {
         ensures reads { Reads (knot.binder A.reads E.reads input.old) result input.new }
         ensures within { Follows input.old input.new }
     {
-        parse_binder::<A, E, Knot>(alloc, input)
+        parse_binder(alloc, input)
     }
 }
 
@@ -903,7 +903,7 @@ impl<A: Attributes, E: Value> BoundLifetimesOf<GenericParamOf<A, E>> {
     ) -> Result<Option<BoundLifetimesOf<GenericParamOf<A, E>>>, Error>
         ensures parses { Parses (knot.optional_binder A.reads E.reads) result input.old input.new }
     {
-        parse_optional_binder::<A, E, Knot>(alloc, input)
+        parse_optional_binder(alloc, input)
     }
 }
 
@@ -927,7 +927,7 @@ impl<A: Attributes, E: Value> Parse for TypeParamBoundOf<A, E> {
         ensures reads { Reads (knot.bound A.reads E.reads bound_places.Opaque input.old) result input.new }
         ensures within { Follows input.old input.new }
     {
-        Knot::read_bound(alloc, PhantomData, input, BoundPlace::Opaque)
+        TypeParamBoundOf::parse_held(alloc, PhantomData, input, BoundPlace::Opaque)
     }
 }
 
@@ -949,7 +949,7 @@ impl<A: Attributes, E: Value> Parse for TraitBoundOf<A, E> {
         ensures reads { Reads (knot.trait_bound A.reads E.reads input.old) result input.new }
         ensures within { Follows input.old input.new }
     {
-        parse_trait_bound::<A, E, Knot>(alloc, input)
+        parse_trait_bound(alloc, input)
     }
 }
 
@@ -971,7 +971,7 @@ impl<A: Attributes, E: Value> Parse for GenericParamOf<A, E> {
         ensures reads { Reads (knot.param A.reads E.reads param_places.Binder input.old) result input.new }
         ensures within { Follows input.old input.new }
     {
-        Knot::read_param(alloc, PhantomData, input, ParamPlace::Binder)
+        GenericParamOf::parse_held(alloc, PhantomData, input, ParamPlace::Binder)
     }
 }
 
@@ -1013,7 +1013,7 @@ impl<A: Attributes, E: Value> Parse for TypeParamOf<A, E> {
         ensures reads { Reads (knot.type_param A.reads E.reads input.old) result input.new }
         ensures within { Follows input.old input.new }
     {
-        parse_type_param::<A, E, Knot>(alloc, input)
+        parse_type_param(alloc, input)
     }
 }
 
@@ -1037,6 +1037,6 @@ impl<A: Attributes, E: Value> Parse for ConstParamOf<TypeOf<A, E>, A, E> {
         ensures reads { Reads (knot.const_param A.reads E.reads input.old) result input.new }
         ensures within { Follows input.old input.new }
     {
-        parse_const_param::<A, E, Knot>(alloc, input)
+        parse_const_param(alloc, input)
     }
 }
