@@ -201,7 +201,9 @@ pub(crate) struct NamedArgs;
 impl<T, A> Argument<A, T, NamedArgOf<T, A>> for NamedArgs {
     ghost make = { λ args. types.named_arg_of };
 
-    fn make(self, attrs: Items<A>, name: Option<(Ident, Colon)>, ty: T) -> NamedArgOf<T, A> {
+    fn make(self, attrs: Items<A>, name: Option<(Ident, Colon)>, ty: T) -> NamedArgOf<T, A>
+        ensures { result ≡ types.named_arg_of attrs name ty }
+    {
         NamedArgOf { attrs, name, ty }
     }
 }
