@@ -104,6 +104,7 @@ pub fn parse_lifetime_parts(
 /// `<'a, 'b>`: lifetimes in angle brackets, any ones. A comma is needed between them, and may follow the last.
 ///
 /// Refused is what is no lifetime, and two of them without a comma between them.
+#[tactic(auto, using(crate::proofs::nested_laws::Ahead::later))]
 pub fn parse_angled_lifetimes(
     alloc: Global,
     input: &mut ParseStream<'_>,

@@ -20,8 +20,6 @@ ghost use Rattle.token_core.specs.Reads.{Fails, Follows, Gives, Keeps, Parses, R
 ghost use Rattle.token_core.specs.Rebuilt.{Visible};
 
 use crate::generics::TypeParamBoundOf;
-use crate::grammar::Points;
-use crate::knot::Knot;
 use crate::ty::read::alone::{
     parse_array, parse_fn_ptr, parse_group, parse_impl_trait, parse_named_arg, parse_paren,
     parse_path_type, parse_ptr, parse_reference, parse_return_type, parse_slice,
@@ -37,6 +35,7 @@ use crate::ty::{
 };
 use std::alloc::Global;
 use std::marker::PhantomData;
+use syn_forms::nested::Held;
 use syn_forms::places::TypePlace;
 use syn_path::supplied::{Attributes, Value};
 use token_core::{Error, Parse, ParseStream};
@@ -46,7 +45,7 @@ impl<A: Attributes, E: Value> TypeOf<A, E> {
     pub fn without_plus(alloc: Global, input: &mut ParseStream<'_>) -> Result<TypeOf<A, E>, Error>
         ensures parses { Parses (knot.ty A.reads E.reads NoPlus) result input.old input.new }
     {
-        <Knot as Points<A, E>>::read_type(alloc, PhantomData, input, TypePlace::NoPlus)
+        <TypeOf<A, E> as Held<TypePlace>>::parse_held(alloc, PhantomData, input, TypePlace::NoPlus)
     }
 }
 
@@ -65,7 +64,7 @@ impl<A: Attributes, E: Value> Parse for TypeOf<A, E> {
         ensures within { Follows input.old input.new }
         ensures promise { Keeps (λ _ _. Unit {0}) input.old result input.new }
     {
-        <Knot as Points<A, E>>::read_type(alloc, PhantomData, input, TypePlace::Plus)
+        <TypeOf<A, E> as Held<TypePlace>>::parse_held(alloc, PhantomData, input, TypePlace::Plus)
     }
 }
 
@@ -77,7 +76,7 @@ impl<A: Attributes, E: Value> ReturnTypeOf<TypeOf<A, E>> {
     ) -> Result<ReturnTypeOf<TypeOf<A, E>>, Error>
         ensures parses { Parses (knot.return_type A.reads E.reads NoPlus) result input.old input.new }
     {
-        parse_return_type::<A, E, Knot>(alloc, input, TypePlace::NoPlus)
+        parse_return_type(alloc, input, TypePlace::NoPlus)
     }
 }
 
@@ -88,12 +87,15 @@ impl<A: Attributes, E: Value> Parse for ReturnTypeOf<TypeOf<A, E>> {
     ghost refuses = { Fails (knot.return_type A.reads E.reads Plus) };
 
     #[tactic(auto, using(token_core::specs::Reads::no_promise))]
-    fn parse(alloc: Global, input: &mut ParseStream<'_>) -> Result<ReturnTypeOf<TypeOf<A, E>>, Error>
+    fn parse(
+        alloc: Global,
+        input: &mut ParseStream<'_>,
+    ) -> Result<ReturnTypeOf<TypeOf<A, E>>, Error>
         ensures reads { Reads (knot.return_type A.reads E.reads Plus input.old) result input.new }
         ensures within { Follows input.old input.new }
         ensures promise { Keeps (λ _ _. Unit {0}) input.old result input.new }
     {
-        parse_return_type::<A, E, Knot>(alloc, input, TypePlace::Plus)
+        parse_return_type(alloc, input, TypePlace::Plus)
     }
 }
 
@@ -105,7 +107,7 @@ impl<A: Attributes, E: Value> TypeTraitObjectOf<TypeParamBoundOf<A, E>, A> {
     ) -> Result<TypeTraitObjectOf<TypeParamBoundOf<A, E>, A>, Error>
         ensures parses { Parses (knot.trait_object A.reads E.reads false) result input.old input.new }
     {
-        parse_trait_object::<A, E, Knot>(alloc, input, false)
+        parse_trait_object(alloc, input, false)
     }
 }
 
@@ -116,12 +118,15 @@ impl<A: Attributes, E: Value> Parse for TypeTraitObjectOf<TypeParamBoundOf<A, E>
     ghost refuses = { Fails (knot.trait_object A.reads E.reads true) };
 
     #[tactic(auto, using(token_core::specs::Reads::no_promise))]
-    fn parse(alloc: Global, input: &mut ParseStream<'_>) -> Result<TypeTraitObjectOf<TypeParamBoundOf<A, E>, A>, Error>
+    fn parse(
+        alloc: Global,
+        input: &mut ParseStream<'_>,
+    ) -> Result<TypeTraitObjectOf<TypeParamBoundOf<A, E>, A>, Error>
         ensures reads { Reads (knot.trait_object A.reads E.reads true input.old) result input.new }
         ensures within { Follows input.old input.new }
         ensures promise { Keeps (λ _ _. Unit {0}) input.old result input.new }
     {
-        parse_trait_object::<A, E, Knot>(alloc, input, true)
+        parse_trait_object(alloc, input, true)
     }
 }
 
@@ -133,7 +138,7 @@ impl<A: Attributes, E: Value> TypeImplTraitOf<TypeParamBoundOf<A, E>, A> {
     ) -> Result<TypeImplTraitOf<TypeParamBoundOf<A, E>, A>, Error>
         ensures parses { Parses (knot.impl_trait A.reads E.reads false) result input.old input.new }
     {
-        parse_impl_trait::<A, E, Knot>(alloc, input, false)
+        parse_impl_trait(alloc, input, false)
     }
 }
 
@@ -144,12 +149,15 @@ impl<A: Attributes, E: Value> Parse for TypeImplTraitOf<TypeParamBoundOf<A, E>, 
     ghost refuses = { Fails (knot.impl_trait A.reads E.reads true) };
 
     #[tactic(auto, using(token_core::specs::Reads::no_promise))]
-    fn parse(alloc: Global, input: &mut ParseStream<'_>) -> Result<TypeImplTraitOf<TypeParamBoundOf<A, E>, A>, Error>
+    fn parse(
+        alloc: Global,
+        input: &mut ParseStream<'_>,
+    ) -> Result<TypeImplTraitOf<TypeParamBoundOf<A, E>, A>, Error>
         ensures reads { Reads (knot.impl_trait A.reads E.reads true input.old) result input.new }
         ensures within { Follows input.old input.new }
         ensures promise { Keeps (λ _ _. Unit {0}) input.old result input.new }
     {
-        parse_impl_trait::<A, E, Knot>(alloc, input, true)
+        parse_impl_trait(alloc, input, true)
     }
 }
 
@@ -160,12 +168,15 @@ impl<A: Attributes, E: Value> Parse for TypeArrayOf<TypeOf<A, E>, A, E> {
     ghost refuses = { Fails (knot.array A.reads E.reads) };
 
     #[tactic(auto, using(token_core::specs::Reads::no_promise))]
-    fn parse(alloc: Global, input: &mut ParseStream<'_>) -> Result<TypeArrayOf<TypeOf<A, E>, A, E>, Error>
+    fn parse(
+        alloc: Global,
+        input: &mut ParseStream<'_>,
+    ) -> Result<TypeArrayOf<TypeOf<A, E>, A, E>, Error>
         ensures reads { Reads (knot.array A.reads E.reads input.old) result input.new }
         ensures within { Follows input.old input.new }
         ensures promise { Keeps (λ _ _. Unit {0}) input.old result input.new }
     {
-        parse_array::<A, E, Knot>(alloc, input)
+        parse_array(alloc, input)
     }
 }
 
@@ -182,7 +193,7 @@ impl<A: Attributes, E: Value> Parse for TypeFnPtrOf<A, E> {
         ensures within { Follows input.old input.new }
         ensures promise { Keeps (λ _ _. Unit {0}) input.old result input.new }
     {
-        parse_fn_ptr::<A, E, Knot>(alloc, input)
+        parse_fn_ptr(alloc, input)
     }
 }
 
@@ -193,12 +204,15 @@ impl<A: Attributes, E: Value> Parse for TypeGroupOf<TypeOf<A, E>, A> {
     ghost refuses = { Fails (knot.group A.reads E.reads) };
 
     #[tactic(auto, using(token_core::specs::Reads::no_promise))]
-    fn parse(alloc: Global, input: &mut ParseStream<'_>) -> Result<TypeGroupOf<TypeOf<A, E>, A>, Error>
+    fn parse(
+        alloc: Global,
+        input: &mut ParseStream<'_>,
+    ) -> Result<TypeGroupOf<TypeOf<A, E>, A>, Error>
         ensures reads { Reads (knot.group A.reads E.reads input.old) result input.new }
         ensures within { Follows input.old input.new }
         ensures promise { Keeps (λ _ _. Unit {0}) input.old result input.new }
     {
-        parse_group::<A, E, Knot>(alloc, input)
+        parse_group(alloc, input)
     }
 }
 
@@ -209,12 +223,15 @@ impl<A: Attributes, E: Value> Parse for TypeParenOf<TypeOf<A, E>, A> {
     ghost refuses = { Fails (knot.paren A.reads E.reads) };
 
     #[tactic(auto, using(token_core::specs::Reads::no_promise))]
-    fn parse(alloc: Global, input: &mut ParseStream<'_>) -> Result<TypeParenOf<TypeOf<A, E>, A>, Error>
+    fn parse(
+        alloc: Global,
+        input: &mut ParseStream<'_>,
+    ) -> Result<TypeParenOf<TypeOf<A, E>, A>, Error>
         ensures reads { Reads (knot.paren A.reads E.reads input.old) result input.new }
         ensures within { Follows input.old input.new }
         ensures promise { Keeps (λ _ _. Unit {0}) input.old result input.new }
     {
-        parse_paren::<A, E, Knot>(alloc, input)
+        parse_paren(alloc, input)
     }
 }
 
@@ -230,7 +247,7 @@ impl<A: Attributes, E: Value> Parse for TypePathOf<A, E> {
         ensures within { Follows input.old input.new }
         ensures promise { Keeps (λ _ _. Unit {0}) input.old result input.new }
     {
-        parse_path_type::<A, E, Knot>(alloc, input)
+        parse_path_type(alloc, input)
     }
 }
 
@@ -241,12 +258,15 @@ impl<A: Attributes, E: Value> Parse for TypePtrOf<TypeOf<A, E>, A> {
     ghost refuses = { Fails (knot.ptr A.reads E.reads) };
 
     #[tactic(auto, using(token_core::specs::Reads::no_promise))]
-    fn parse(alloc: Global, input: &mut ParseStream<'_>) -> Result<TypePtrOf<TypeOf<A, E>, A>, Error>
+    fn parse(
+        alloc: Global,
+        input: &mut ParseStream<'_>,
+    ) -> Result<TypePtrOf<TypeOf<A, E>, A>, Error>
         ensures reads { Reads (knot.ptr A.reads E.reads input.old) result input.new }
         ensures within { Follows input.old input.new }
         ensures promise { Keeps (λ _ _. Unit {0}) input.old result input.new }
     {
-        parse_ptr::<A, E, Knot>(alloc, input)
+        parse_ptr(alloc, input)
     }
 }
 
@@ -257,12 +277,15 @@ impl<A: Attributes, E: Value> Parse for TypeReferenceOf<TypeOf<A, E>, A> {
     ghost refuses = { Fails (knot.reference A.reads E.reads) };
 
     #[tactic(auto, using(token_core::specs::Reads::no_promise))]
-    fn parse(alloc: Global, input: &mut ParseStream<'_>) -> Result<TypeReferenceOf<TypeOf<A, E>, A>, Error>
+    fn parse(
+        alloc: Global,
+        input: &mut ParseStream<'_>,
+    ) -> Result<TypeReferenceOf<TypeOf<A, E>, A>, Error>
         ensures reads { Reads (knot.reference A.reads E.reads input.old) result input.new }
         ensures within { Follows input.old input.new }
         ensures promise { Keeps (λ _ _. Unit {0}) input.old result input.new }
     {
-        parse_reference::<A, E, Knot>(alloc, input)
+        parse_reference(alloc, input)
     }
 }
 
@@ -273,12 +296,15 @@ impl<A: Attributes, E: Value> Parse for TypeSliceOf<TypeOf<A, E>, A> {
     ghost refuses = { Fails (knot.slice A.reads E.reads) };
 
     #[tactic(auto, using(token_core::specs::Reads::no_promise))]
-    fn parse(alloc: Global, input: &mut ParseStream<'_>) -> Result<TypeSliceOf<TypeOf<A, E>, A>, Error>
+    fn parse(
+        alloc: Global,
+        input: &mut ParseStream<'_>,
+    ) -> Result<TypeSliceOf<TypeOf<A, E>, A>, Error>
         ensures reads { Reads (knot.slice A.reads E.reads input.old) result input.new }
         ensures within { Follows input.old input.new }
         ensures promise { Keeps (λ _ _. Unit {0}) input.old result input.new }
     {
-        parse_slice::<A, E, Knot>(alloc, input)
+        parse_slice(alloc, input)
     }
 }
 
@@ -289,12 +315,15 @@ impl<A: Attributes, E: Value> Parse for TypeTupleOf<TypeOf<A, E>, A> {
     ghost refuses = { Fails (knot.tuple A.reads E.reads) };
 
     #[tactic(auto, using(token_core::specs::Reads::no_promise))]
-    fn parse(alloc: Global, input: &mut ParseStream<'_>) -> Result<TypeTupleOf<TypeOf<A, E>, A>, Error>
+    fn parse(
+        alloc: Global,
+        input: &mut ParseStream<'_>,
+    ) -> Result<TypeTupleOf<TypeOf<A, E>, A>, Error>
         ensures reads { Reads (knot.tuple A.reads E.reads input.old) result input.new }
         ensures within { Follows input.old input.new }
         ensures promise { Keeps (λ _ _. Unit {0}) input.old result input.new }
     {
-        parse_tuple::<A, E, Knot>(alloc, input)
+        parse_tuple(alloc, input)
     }
 }
 
@@ -305,12 +334,15 @@ impl<A: Attributes, E: Value> Parse for NamedArgOf<TypeOf<A, E>, A> {
     ghost refuses = { Fails (knot.named_arg A.reads E.reads) };
 
     #[tactic(auto, using(token_core::specs::Reads::no_promise))]
-    fn parse(alloc: Global, input: &mut ParseStream<'_>) -> Result<NamedArgOf<TypeOf<A, E>, A>, Error>
+    fn parse(
+        alloc: Global,
+        input: &mut ParseStream<'_>,
+    ) -> Result<NamedArgOf<TypeOf<A, E>, A>, Error>
         ensures reads { Reads (knot.named_arg A.reads E.reads input.old) result input.new }
         ensures within { Follows input.old input.new }
         ensures promise { Keeps (λ _ _. Unit {0}) input.old result input.new }
     {
-        parse_named_arg::<A, E, Knot>(alloc, input)
+        parse_named_arg(alloc, input)
     }
 }
 

@@ -3,8 +3,9 @@
 ghost use Rattle.syn_ty.specs.ty.Knot as knot;
 ghost use Rattle.token_core.specs.Reads.{Parses};
 
-use crate::generics::TypeParamBoundOf;
-use crate::grammar::{Grammar, Points};
+use crate::generics::{GenericParamOf, TypeParamBoundOf};
+use crate::grammar::Grammar;
+use crate::path::{GenericArgumentOf, PathArgumentsOf};
 use crate::ty::{
     NamedArgOf, ReturnTypeOf, TypeArrayOf, TypeFnPtrOf, TypeGroupOf, TypeImplTraitOf, TypeOf,
     TypeParenOf, TypePathOf, TypePtrOf, TypeReferenceOf, TypeSliceOf, TypeTraitObjectOf,
@@ -12,13 +13,14 @@ use crate::ty::{
 };
 use std::alloc::Global;
 use std::marker::PhantomData;
-use syn_forms::places::TypePlace;
+use syn_forms::nested::Held;
+use syn_forms::places::{BoundPlace, ParamPlace, TypePlace};
 use syn_path::supplied::{Attributes, Value};
 use token_core::{Error, ParseStream};
 
 /// `[T; n]`
 #[tactic(auto, unfolding(crate::specs::ty::Knot::array))]
-pub(crate) fn parse_array<A: Attributes, E: Value, K: Points<A, E>>(
+pub(crate) fn parse_array<A: Attributes, E: Value>(
     alloc: Global,
     input: &mut ParseStream<'_>,
 ) -> Result<TypeArrayOf<TypeOf<A, E>, A, E>, Error>
@@ -28,18 +30,18 @@ pub(crate) fn parse_array<A: Attributes, E: Value, K: Points<A, E>>(
         alloc,
         of: PhantomData,
         begin: input.cursor(),
-        types: K::read_type,
-        bounds: K::read_bound,
-        params: K::read_param,
-        args: K::read_argument,
-        segments: K::read_arguments,
+        types: <TypeOf<A, E> as Held<TypePlace>>::parse_held,
+        bounds: <TypeParamBoundOf<A, E> as Held<BoundPlace>>::parse_held,
+        params: <GenericParamOf<A, E> as Held<ParamPlace>>::parse_held,
+        args: <GenericArgumentOf<A, E> as Held<()>>::parse_held,
+        segments: <PathArgumentsOf<A, E> as Held<()>>::parse_held,
     }
     .array(input)
 }
 
 /// `for<'a> unsafe extern "C" fn(a: A, ...) -> B`
 #[tactic(auto, unfolding(crate::specs::ty::Knot::fn_ptr))]
-pub(crate) fn parse_fn_ptr<A: Attributes, E: Value, K: Points<A, E>>(
+pub(crate) fn parse_fn_ptr<A: Attributes, E: Value>(
     alloc: Global,
     input: &mut ParseStream<'_>,
 ) -> Result<TypeFnPtrOf<A, E>, Error>
@@ -49,18 +51,18 @@ pub(crate) fn parse_fn_ptr<A: Attributes, E: Value, K: Points<A, E>>(
         alloc,
         of: PhantomData,
         begin: input.cursor(),
-        types: K::read_type,
-        bounds: K::read_bound,
-        params: K::read_param,
-        args: K::read_argument,
-        segments: K::read_arguments,
+        types: <TypeOf<A, E> as Held<TypePlace>>::parse_held,
+        bounds: <TypeParamBoundOf<A, E> as Held<BoundPlace>>::parse_held,
+        params: <GenericParamOf<A, E> as Held<ParamPlace>>::parse_held,
+        args: <GenericArgumentOf<A, E> as Held<()>>::parse_held,
+        segments: <PathArgumentsOf<A, E> as Held<()>>::parse_held,
     }
     .fn_ptr(input)
 }
 
 /// A type in an invisible group.
 #[tactic(auto, unfolding(crate::specs::ty::Knot::group))]
-pub(crate) fn parse_group<A: Attributes, E: Value, K: Points<A, E>>(
+pub(crate) fn parse_group<A: Attributes, E: Value>(
     alloc: Global,
     input: &mut ParseStream<'_>,
 ) -> Result<TypeGroupOf<TypeOf<A, E>, A>, Error>
@@ -70,18 +72,18 @@ pub(crate) fn parse_group<A: Attributes, E: Value, K: Points<A, E>>(
         alloc,
         of: PhantomData,
         begin: input.cursor(),
-        types: K::read_type,
-        bounds: K::read_bound,
-        params: K::read_param,
-        args: K::read_argument,
-        segments: K::read_arguments,
+        types: <TypeOf<A, E> as Held<TypePlace>>::parse_held,
+        bounds: <TypeParamBoundOf<A, E> as Held<BoundPlace>>::parse_held,
+        params: <GenericParamOf<A, E> as Held<ParamPlace>>::parse_held,
+        args: <GenericArgumentOf<A, E> as Held<()>>::parse_held,
+        segments: <PathArgumentsOf<A, E> as Held<()>>::parse_held,
     }
     .group(input)
 }
 
 /// `impl A + 'a`
 #[tactic(auto, unfolding(crate::specs::ty::Knot::impl_trait))]
-pub(crate) fn parse_impl_trait<A: Attributes, E: Value, K: Points<A, E>>(
+pub(crate) fn parse_impl_trait<A: Attributes, E: Value>(
     alloc: Global,
     input: &mut ParseStream<'_>,
     plus: bool,
@@ -92,18 +94,18 @@ pub(crate) fn parse_impl_trait<A: Attributes, E: Value, K: Points<A, E>>(
         alloc,
         of: PhantomData,
         begin: input.cursor(),
-        types: K::read_type,
-        bounds: K::read_bound,
-        params: K::read_param,
-        args: K::read_argument,
-        segments: K::read_arguments,
+        types: <TypeOf<A, E> as Held<TypePlace>>::parse_held,
+        bounds: <TypeParamBoundOf<A, E> as Held<BoundPlace>>::parse_held,
+        params: <GenericParamOf<A, E> as Held<ParamPlace>>::parse_held,
+        args: <GenericArgumentOf<A, E> as Held<()>>::parse_held,
+        segments: <PathArgumentsOf<A, E> as Held<()>>::parse_held,
     }
     .impl_trait(input, plus)
 }
 
 /// `(T)`, the type without plus
 #[tactic(auto, unfolding(crate::specs::ty::Knot::paren))]
-pub(crate) fn parse_paren<A: Attributes, E: Value, K: Points<A, E>>(
+pub(crate) fn parse_paren<A: Attributes, E: Value>(
     alloc: Global,
     input: &mut ParseStream<'_>,
 ) -> Result<TypeParenOf<TypeOf<A, E>, A>, Error>
@@ -113,18 +115,18 @@ pub(crate) fn parse_paren<A: Attributes, E: Value, K: Points<A, E>>(
         alloc,
         of: PhantomData,
         begin: input.cursor(),
-        types: K::read_type,
-        bounds: K::read_bound,
-        params: K::read_param,
-        args: K::read_argument,
-        segments: K::read_arguments,
+        types: <TypeOf<A, E> as Held<TypePlace>>::parse_held,
+        bounds: <TypeParamBoundOf<A, E> as Held<BoundPlace>>::parse_held,
+        params: <GenericParamOf<A, E> as Held<ParamPlace>>::parse_held,
+        args: <GenericArgumentOf<A, E> as Held<()>>::parse_held,
+        segments: <PathArgumentsOf<A, E> as Held<()>>::parse_held,
     }
     .paren(input)
 }
 
 /// `a::b<T>`, `<T as a::b>::c`
 #[tactic(auto, unfolding(crate::specs::ty::Knot::path_type))]
-pub(crate) fn parse_path_type<A: Attributes, E: Value, K: Points<A, E>>(
+pub(crate) fn parse_path_type<A: Attributes, E: Value>(
     alloc: Global,
     input: &mut ParseStream<'_>,
 ) -> Result<TypePathOf<A, E>, Error>
@@ -134,18 +136,18 @@ pub(crate) fn parse_path_type<A: Attributes, E: Value, K: Points<A, E>>(
         alloc,
         of: PhantomData,
         begin: input.cursor(),
-        types: K::read_type,
-        bounds: K::read_bound,
-        params: K::read_param,
-        args: K::read_argument,
-        segments: K::read_arguments,
+        types: <TypeOf<A, E> as Held<TypePlace>>::parse_held,
+        bounds: <TypeParamBoundOf<A, E> as Held<BoundPlace>>::parse_held,
+        params: <GenericParamOf<A, E> as Held<ParamPlace>>::parse_held,
+        args: <GenericArgumentOf<A, E> as Held<()>>::parse_held,
+        segments: <PathArgumentsOf<A, E> as Held<()>>::parse_held,
     }
     .path_type(input)
 }
 
 /// `*const T`, `*mut T`
 #[tactic(auto, unfolding(crate::specs::ty::Knot::ptr))]
-pub(crate) fn parse_ptr<A: Attributes, E: Value, K: Points<A, E>>(
+pub(crate) fn parse_ptr<A: Attributes, E: Value>(
     alloc: Global,
     input: &mut ParseStream<'_>,
 ) -> Result<TypePtrOf<TypeOf<A, E>, A>, Error>
@@ -155,18 +157,18 @@ pub(crate) fn parse_ptr<A: Attributes, E: Value, K: Points<A, E>>(
         alloc,
         of: PhantomData,
         begin: input.cursor(),
-        types: K::read_type,
-        bounds: K::read_bound,
-        params: K::read_param,
-        args: K::read_argument,
-        segments: K::read_arguments,
+        types: <TypeOf<A, E> as Held<TypePlace>>::parse_held,
+        bounds: <TypeParamBoundOf<A, E> as Held<BoundPlace>>::parse_held,
+        params: <GenericParamOf<A, E> as Held<ParamPlace>>::parse_held,
+        args: <GenericArgumentOf<A, E> as Held<()>>::parse_held,
+        segments: <PathArgumentsOf<A, E> as Held<()>>::parse_held,
     }
     .ptr(input)
 }
 
 /// `&'a mut T`
 #[tactic(auto, unfolding(crate::specs::ty::Knot::reference))]
-pub(crate) fn parse_reference<A: Attributes, E: Value, K: Points<A, E>>(
+pub(crate) fn parse_reference<A: Attributes, E: Value>(
     alloc: Global,
     input: &mut ParseStream<'_>,
 ) -> Result<TypeReferenceOf<TypeOf<A, E>, A>, Error>
@@ -176,18 +178,18 @@ pub(crate) fn parse_reference<A: Attributes, E: Value, K: Points<A, E>>(
         alloc,
         of: PhantomData,
         begin: input.cursor(),
-        types: K::read_type,
-        bounds: K::read_bound,
-        params: K::read_param,
-        args: K::read_argument,
-        segments: K::read_arguments,
+        types: <TypeOf<A, E> as Held<TypePlace>>::parse_held,
+        bounds: <TypeParamBoundOf<A, E> as Held<BoundPlace>>::parse_held,
+        params: <GenericParamOf<A, E> as Held<ParamPlace>>::parse_held,
+        args: <GenericArgumentOf<A, E> as Held<()>>::parse_held,
+        segments: <PathArgumentsOf<A, E> as Held<()>>::parse_held,
     }
     .reference(input)
 }
 
 /// `[T]`
 #[tactic(auto, unfolding(crate::specs::ty::Knot::slice))]
-pub(crate) fn parse_slice<A: Attributes, E: Value, K: Points<A, E>>(
+pub(crate) fn parse_slice<A: Attributes, E: Value>(
     alloc: Global,
     input: &mut ParseStream<'_>,
 ) -> Result<TypeSliceOf<TypeOf<A, E>, A>, Error>
@@ -197,18 +199,18 @@ pub(crate) fn parse_slice<A: Attributes, E: Value, K: Points<A, E>>(
         alloc,
         of: PhantomData,
         begin: input.cursor(),
-        types: K::read_type,
-        bounds: K::read_bound,
-        params: K::read_param,
-        args: K::read_argument,
-        segments: K::read_arguments,
+        types: <TypeOf<A, E> as Held<TypePlace>>::parse_held,
+        bounds: <TypeParamBoundOf<A, E> as Held<BoundPlace>>::parse_held,
+        params: <GenericParamOf<A, E> as Held<ParamPlace>>::parse_held,
+        args: <GenericArgumentOf<A, E> as Held<()>>::parse_held,
+        segments: <PathArgumentsOf<A, E> as Held<()>>::parse_held,
     }
     .slice(input)
 }
 
 /// `dyn A + 'a`, `A + 'a`
 #[tactic(auto, unfolding(crate::specs::ty::Knot::trait_object))]
-pub(crate) fn parse_trait_object<A: Attributes, E: Value, K: Points<A, E>>(
+pub(crate) fn parse_trait_object<A: Attributes, E: Value>(
     alloc: Global,
     input: &mut ParseStream<'_>,
     plus: bool,
@@ -219,18 +221,18 @@ pub(crate) fn parse_trait_object<A: Attributes, E: Value, K: Points<A, E>>(
         alloc,
         of: PhantomData,
         begin: input.cursor(),
-        types: K::read_type,
-        bounds: K::read_bound,
-        params: K::read_param,
-        args: K::read_argument,
-        segments: K::read_arguments,
+        types: <TypeOf<A, E> as Held<TypePlace>>::parse_held,
+        bounds: <TypeParamBoundOf<A, E> as Held<BoundPlace>>::parse_held,
+        params: <GenericParamOf<A, E> as Held<ParamPlace>>::parse_held,
+        args: <GenericArgumentOf<A, E> as Held<()>>::parse_held,
+        segments: <PathArgumentsOf<A, E> as Held<()>>::parse_held,
     }
     .trait_object(input, plus)
 }
 
 /// `(A, B)`
 #[tactic(auto, unfolding(crate::specs::ty::Knot::tuple))]
-pub(crate) fn parse_tuple<A: Attributes, E: Value, K: Points<A, E>>(
+pub(crate) fn parse_tuple<A: Attributes, E: Value>(
     alloc: Global,
     input: &mut ParseStream<'_>,
 ) -> Result<TypeTupleOf<TypeOf<A, E>, A>, Error>
@@ -240,18 +242,18 @@ pub(crate) fn parse_tuple<A: Attributes, E: Value, K: Points<A, E>>(
         alloc,
         of: PhantomData,
         begin: input.cursor(),
-        types: K::read_type,
-        bounds: K::read_bound,
-        params: K::read_param,
-        args: K::read_argument,
-        segments: K::read_arguments,
+        types: <TypeOf<A, E> as Held<TypePlace>>::parse_held,
+        bounds: <TypeParamBoundOf<A, E> as Held<BoundPlace>>::parse_held,
+        params: <GenericParamOf<A, E> as Held<ParamPlace>>::parse_held,
+        args: <GenericArgumentOf<A, E> as Held<()>>::parse_held,
+        segments: <PathArgumentsOf<A, E> as Held<()>>::parse_held,
     }
     .tuple(input)
 }
 
 /// Nothing, or `-> T`
 #[tactic(auto, unfolding(crate::specs::ty::Knot::return_type))]
-pub(crate) fn parse_return_type<A: Attributes, E: Value, K: Points<A, E>>(
+pub(crate) fn parse_return_type<A: Attributes, E: Value>(
     alloc: Global,
     input: &mut ParseStream<'_>,
     place: TypePlace,
@@ -262,18 +264,18 @@ pub(crate) fn parse_return_type<A: Attributes, E: Value, K: Points<A, E>>(
         alloc,
         of: PhantomData,
         begin: input.cursor(),
-        types: K::read_type,
-        bounds: K::read_bound,
-        params: K::read_param,
-        args: K::read_argument,
-        segments: K::read_arguments,
+        types: <TypeOf<A, E> as Held<TypePlace>>::parse_held,
+        bounds: <TypeParamBoundOf<A, E> as Held<BoundPlace>>::parse_held,
+        params: <GenericParamOf<A, E> as Held<ParamPlace>>::parse_held,
+        args: <GenericArgumentOf<A, E> as Held<()>>::parse_held,
+        segments: <PathArgumentsOf<A, E> as Held<()>>::parse_held,
     }
     .return_type(input, place)
 }
 
 /// `a: T`
 #[tactic(auto, unfolding(crate::specs::ty::Knot::named_arg))]
-pub(crate) fn parse_named_arg<A: Attributes, E: Value, K: Points<A, E>>(
+pub(crate) fn parse_named_arg<A: Attributes, E: Value>(
     alloc: Global,
     input: &mut ParseStream<'_>,
 ) -> Result<NamedArgOf<TypeOf<A, E>, A>, Error>
@@ -283,11 +285,11 @@ pub(crate) fn parse_named_arg<A: Attributes, E: Value, K: Points<A, E>>(
         alloc,
         of: PhantomData,
         begin: input.cursor(),
-        types: K::read_type,
-        bounds: K::read_bound,
-        params: K::read_param,
-        args: K::read_argument,
-        segments: K::read_arguments,
+        types: <TypeOf<A, E> as Held<TypePlace>>::parse_held,
+        bounds: <TypeParamBoundOf<A, E> as Held<BoundPlace>>::parse_held,
+        params: <GenericParamOf<A, E> as Held<ParamPlace>>::parse_held,
+        args: <GenericArgumentOf<A, E> as Held<()>>::parse_held,
+        segments: <PathArgumentsOf<A, E> as Held<()>>::parse_held,
     }
     .named_arg(input)
 }

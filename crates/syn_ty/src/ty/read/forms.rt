@@ -28,11 +28,41 @@ impl<
     'a,
     A: Attributes,
     E: Value,
-    F: Fn(Global, PhantomData<TypeOf<A, E>>, &mut ParseStream<'_>, TypePlace) -> Result<TypeOf<A, E>, Error> + Copy,
-    G: Fn(Global, PhantomData<TypeParamBoundOf<A, E>>, &mut ParseStream<'_>, BoundPlace) -> Result<TypeParamBoundOf<A, E>, Error> + Copy,
-    H: Fn(Global, PhantomData<GenericParamOf<A, E>>, &mut ParseStream<'_>, ParamPlace) -> Result<GenericParamOf<A, E>, Error> + Copy,
-    I: Fn(Global, PhantomData<GenericArgumentOf<A, E>>, &mut ParseStream<'_>, ()) -> Result<GenericArgumentOf<A, E>, Error> + Copy,
-    J: Fn(Global, PhantomData<PathArgumentsOf<A, E>>, &mut ParseStream<'_>, ()) -> Result<PathArgumentsOf<A, E>, Error> + Copy,
+    F: Fn(
+        Global,
+        PhantomData<TypeOf<A, E>>,
+        &mut ParseStream<'_>,
+        TypePlace,
+    ) -> Result<TypeOf<A, E>, Error>
+        + Copy,
+    G: Fn(
+        Global,
+        PhantomData<TypeParamBoundOf<A, E>>,
+        &mut ParseStream<'_>,
+        BoundPlace,
+    ) -> Result<TypeParamBoundOf<A, E>, Error>
+        + Copy,
+    H: Fn(
+        Global,
+        PhantomData<GenericParamOf<A, E>>,
+        &mut ParseStream<'_>,
+        ParamPlace,
+    ) -> Result<GenericParamOf<A, E>, Error>
+        + Copy,
+    I: Fn(
+        Global,
+        PhantomData<GenericArgumentOf<A, E>>,
+        &mut ParseStream<'_>,
+        (),
+    ) -> Result<GenericArgumentOf<A, E>, Error>
+        + Copy,
+    J: Fn(
+        Global,
+        PhantomData<PathArgumentsOf<A, E>>,
+        &mut ParseStream<'_>,
+        (),
+    ) -> Result<PathArgumentsOf<A, E>, Error>
+        + Copy,
 > Grammar<'a, A, E, F, G, H, I, J> {
     /// `(T)`, the type without plus. It is that of syn's `TypeParen::parse`.
     #[tactic(auto, using(token_core::proofs::Suffixes::follows, syn_forms::proofs::nested_laws::Ahead::later), unfolding(crate::specs::ty::Reading::paren))]

@@ -9,8 +9,8 @@ ghost use Rattle.syn_ty.specs.declared.generics.TypeParamBoundOf.{out-TypeParamB
 ghost use Rattle.token_core.specs.Positions.{IsReached};
 ghost use Rattle.token_core.specs.Reads.{Parses, Reads};
 
-use crate::generics::{GenericParamOf, TraitBoundOf, TypeParamBoundOf};
 use crate::generics::read::held_bound;
+use crate::generics::{GenericParamOf, TraitBoundOf, TypeParamBoundOf};
 use crate::grammar::Grammar;
 use crate::path::{GenericArgumentOf, PathArgumentsOf};
 use crate::ty::read::parts::{
@@ -74,11 +74,41 @@ impl<
     'a,
     A: Attributes,
     E: Value,
-    F: Fn(Global, PhantomData<TypeOf<A, E>>, &mut ParseStream<'_>, TypePlace) -> Result<TypeOf<A, E>, Error> + Copy,
-    G: Fn(Global, PhantomData<TypeParamBoundOf<A, E>>, &mut ParseStream<'_>, BoundPlace) -> Result<TypeParamBoundOf<A, E>, Error> + Copy,
-    H: Fn(Global, PhantomData<GenericParamOf<A, E>>, &mut ParseStream<'_>, ParamPlace) -> Result<GenericParamOf<A, E>, Error> + Copy,
-    I: Fn(Global, PhantomData<GenericArgumentOf<A, E>>, &mut ParseStream<'_>, ()) -> Result<GenericArgumentOf<A, E>, Error> + Copy,
-    J: Fn(Global, PhantomData<PathArgumentsOf<A, E>>, &mut ParseStream<'_>, ()) -> Result<PathArgumentsOf<A, E>, Error> + Copy,
+    F: Fn(
+        Global,
+        PhantomData<TypeOf<A, E>>,
+        &mut ParseStream<'_>,
+        TypePlace,
+    ) -> Result<TypeOf<A, E>, Error>
+        + Copy,
+    G: Fn(
+        Global,
+        PhantomData<TypeParamBoundOf<A, E>>,
+        &mut ParseStream<'_>,
+        BoundPlace,
+    ) -> Result<TypeParamBoundOf<A, E>, Error>
+        + Copy,
+    H: Fn(
+        Global,
+        PhantomData<GenericParamOf<A, E>>,
+        &mut ParseStream<'_>,
+        ParamPlace,
+    ) -> Result<GenericParamOf<A, E>, Error>
+        + Copy,
+    I: Fn(
+        Global,
+        PhantomData<GenericArgumentOf<A, E>>,
+        &mut ParseStream<'_>,
+        (),
+    ) -> Result<GenericArgumentOf<A, E>, Error>
+        + Copy,
+    J: Fn(
+        Global,
+        PhantomData<PathArgumentsOf<A, E>>,
+        &mut ParseStream<'_>,
+        (),
+    ) -> Result<PathArgumentsOf<A, E>, Error>
+        + Copy,
 > Grammar<'a, A, E, F, G, H, I, J> {
     /// The bounds of a trait object after the first, of which one has to be a trait: else they are refused from its start on.
     #[tactic(auto, using(token_core::proofs::Suffixes::follows, syn_forms::proofs::nested_laws::Ahead::later), unfolding(crate::specs::ty::Reading::object_bounds))]
@@ -98,8 +128,17 @@ impl<
             consts: false,
             plus,
         };
-        let bounds = self.bounds().list_from(input, BoundPlace::Object, end, first)?;
-        needs_trait(self.alloc, input, bounds, false, ErrorKind::NoTraitInObject, from)
+        let bounds = self
+            .bounds()
+            .list_from(input, BoundPlace::Object, end, first)?;
+        needs_trait(
+            self.alloc,
+            input,
+            bounds,
+            false,
+            ErrorKind::NoTraitInObject,
+            from,
+        )
     }
 
     /// The bounds of a trait object that begins with a lifetime: several in every place.
@@ -177,7 +216,14 @@ impl<
         let impl_token = parse_impl(self.alloc, input)?;
         let end = Bounds { consts: true, plus };
         let bounds = self.bounds().list(input, BoundPlace::Opaque, end)?;
-        let bounds = needs_trait(self.alloc, input, bounds, true, ErrorKind::NoTraitInImpl, from)?;
+        let bounds = needs_trait(
+            self.alloc,
+            input,
+            bounds,
+            true,
+            ErrorKind::NoTraitInImpl,
+            from,
+        )?;
         Ok(bare_impl_trait(self.alloc, impl_token, bounds))
     }
 
@@ -188,7 +234,10 @@ impl<
     pub(crate) fn paren_content(
         &self,
         input: &mut ParseStream<'_>,
-    ) -> Result<ParenContent<TypeOf<A, E>, Punctuated<TypeParamBoundOf<A, E>, Plus>, TraitBoundOf<A, E>>, Error>
+    ) -> Result<
+        ParenContent<TypeOf<A, E>, Punctuated<TypeParamBoundOf<A, E>, Plus>, TraitBoundOf<A, E>>,
+        Error,
+    >
         requires types { Nests (knot.ty A.reads E.reads) (length self.now.begin) (F.pre self.now.types) (F.post self.now.types) }
         requires bounds { Nests (knot.bound A.reads E.reads) (length self.now.begin) (G.pre self.now.bounds) (G.post self.now.bounds) }
         requires params { Nests (knot.param A.reads E.reads) (length self.now.begin) (H.pre self.now.params) (H.post self.now.params) }
@@ -220,7 +269,9 @@ impl<
         ensures parses { Parses (reading.each_object_from (knot.reads_below A.reads E.reads (length self.now.begin)) first) result input.old input.new }
         ensures fewer { ahead input.new ≤ ahead input.old }
     {
-        let bounds = self.bounds().list_from(input, BoundPlace::Object, EachBound, first)?;
+        let bounds = self
+            .bounds()
+            .list_from(input, BoundPlace::Object, EachBound, first)?;
         Ok(object_of(self.alloc, bounds))
     }
 
@@ -257,7 +308,11 @@ impl<
         input: &mut ParseStream<'_>,
         plus: bool,
         paren_token: Paren,
-        held: ParenContent<TypeOf<A, E>, Punctuated<TypeParamBoundOf<A, E>, Plus>, TraitBoundOf<A, E>>,
+        held: ParenContent<
+            TypeOf<A, E>,
+            Punctuated<TypeParamBoundOf<A, E>, Plus>,
+            TraitBoundOf<A, E>,
+        >,
     ) -> Result<TypeOf<A, E>, Error>
         requires bounds { Nests (knot.bound A.reads E.reads) (length self.now.begin) (G.pre self.now.bounds) (G.post self.now.bounds) }
         requires few { ahead input.old ≤ length self.now.begin }

@@ -25,7 +25,7 @@ use syn_forms::tokens::PointerMutability;
 use syn_path::path::{PathOf, QSelfOf};
 use syn_path::supplied::{Attributes, Value};
 use token_core::token::{
-    And, Bracket, Colon, Comma, Dyn, Gt, GroupToken, Impl, Lt, Mut, Paren, Plus, Semi, Star,
+    And, Bracket, Colon, Comma, Dyn, GroupToken, Gt, Impl, Lt, Mut, Paren, Plus, Semi, Star,
 };
 use token_core::{Boxed, Ident, Items, Lifetime, Punctuated, TokenStream};
 
@@ -201,7 +201,9 @@ pub(crate) struct NamedArgs;
 impl<T, A> Argument<A, T, NamedArgOf<T, A>> for NamedArgs {
     ghost make = { λ args. types.named_arg_of };
 
-    fn make(self, attrs: Items<A>, name: Option<(Ident, Colon)>, ty: T) -> NamedArgOf<T, A> {
+    fn make(self, attrs: Items<A>, name: Option<(Ident, Colon)>, ty: T) -> NamedArgOf<T, A>
+        ensures { result ≡ types.named_arg_of attrs name ty }
+    {
         NamedArgOf { attrs, name, ty }
     }
 }
@@ -351,7 +353,9 @@ pub(crate) fn first_bound<A: Attributes, E: Value>(
 
 /// The path that a type is. Another type is given back.
 #[tactic(auto, using(crate::proofs::ty_laws::Kinds::type_paths))]
-pub(crate) fn as_path<A: Attributes, E: Value>(ty: TypeOf<A, E>) -> Result<TypePathOf<A, E>, TypeOf<A, E>>
+pub(crate) fn as_path<A: Attributes, E: Value>(
+    ty: TypeOf<A, E>,
+) -> Result<TypePathOf<A, E>, TypeOf<A, E>>
     ensures ok { IfOk result (λ path. (reading.as_path ty ≡ Some path) × (variants.Path path ≡ ty)) }
     ensures err { IfErr result (λ back. (reading.as_path ty ≡ None) × (back ≡ ty)) }
 {
@@ -375,9 +379,7 @@ pub(crate) fn as_path<A: Attributes, E: Value>(ty: TypeOf<A, E>) -> Result<TypeP
 }
 
 /// Whether the last segment of a path has arguments.
-pub(crate) fn has_arguments<A: Attributes, E: Value>(
-    path: &PathOf<PathArgumentsOf<A, E>>,
-) -> bool
+pub(crate) fn has_arguments<A: Attributes, E: Value>(path: &PathOf<PathArgumentsOf<A, E>>) -> bool
     ensures { result ≡ reading.has_arguments path.now }
 {
     match last_arguments(path) {

@@ -6,14 +6,12 @@ ghost use Rattle.syn_ty.specs.ty.Knot as knot;
 ghost use Rattle.syn_ty.specs.ty.Reading as reading;
 ghost use Rattle.token_core.specs.Reads.{Parses};
 
-use crate::generics::{BoundLifetimesOf, GenericParamOf, TypeParamBoundOf};
 use crate::generics::read::named_bound;
+use crate::generics::{BoundLifetimesOf, GenericParamOf, TypeParamBoundOf};
 use crate::grammar::Grammar;
 use crate::path::read::bare_path_type;
 use crate::path::{GenericArgumentOf, PathArgumentsOf};
-use crate::ty::read::parts::{
-    as_path, bare_group, has_arguments, object_of, qself_in,
-};
+use crate::ty::read::parts::{as_path, bare_group, has_arguments, object_of, qself_in};
 use crate::ty::read::tokens::{
     plus_follows, sees_call, sees_further_arguments, sees_further_segment,
 };
@@ -50,11 +48,41 @@ impl<
     'a,
     A: Attributes,
     E: Value,
-    F: Fn(Global, PhantomData<TypeOf<A, E>>, &mut ParseStream<'_>, TypePlace) -> Result<TypeOf<A, E>, Error> + Copy,
-    G: Fn(Global, PhantomData<TypeParamBoundOf<A, E>>, &mut ParseStream<'_>, BoundPlace) -> Result<TypeParamBoundOf<A, E>, Error> + Copy,
-    H: Fn(Global, PhantomData<GenericParamOf<A, E>>, &mut ParseStream<'_>, ParamPlace) -> Result<GenericParamOf<A, E>, Error> + Copy,
-    I: Fn(Global, PhantomData<GenericArgumentOf<A, E>>, &mut ParseStream<'_>, ()) -> Result<GenericArgumentOf<A, E>, Error> + Copy,
-    J: Fn(Global, PhantomData<PathArgumentsOf<A, E>>, &mut ParseStream<'_>, ()) -> Result<PathArgumentsOf<A, E>, Error> + Copy,
+    F: Fn(
+        Global,
+        PhantomData<TypeOf<A, E>>,
+        &mut ParseStream<'_>,
+        TypePlace,
+    ) -> Result<TypeOf<A, E>, Error>
+        + Copy,
+    G: Fn(
+        Global,
+        PhantomData<TypeParamBoundOf<A, E>>,
+        &mut ParseStream<'_>,
+        BoundPlace,
+    ) -> Result<TypeParamBoundOf<A, E>, Error>
+        + Copy,
+    H: Fn(
+        Global,
+        PhantomData<GenericParamOf<A, E>>,
+        &mut ParseStream<'_>,
+        ParamPlace,
+    ) -> Result<GenericParamOf<A, E>, Error>
+        + Copy,
+    I: Fn(
+        Global,
+        PhantomData<GenericArgumentOf<A, E>>,
+        &mut ParseStream<'_>,
+        (),
+    ) -> Result<GenericArgumentOf<A, E>, Error>
+        + Copy,
+    J: Fn(
+        Global,
+        PhantomData<PathArgumentsOf<A, E>>,
+        &mut ParseStream<'_>,
+        (),
+    ) -> Result<PathArgumentsOf<A, E>, Error>
+        + Copy,
 > Grammar<'a, A, E, F, G, H, I, J> {
     /// A trait object that begins with a path, after a binder that may stand before it.
     #[tactic(auto, using(token_core::proofs::Suffixes::follows, syn_forms::proofs::nested_laws::Ahead::later))]
@@ -75,7 +103,9 @@ impl<
             consts: false,
             plus,
         };
-        let bounds = self.bounds().list_from(input, BoundPlace::Object, end, first)?;
+        let bounds = self
+            .bounds()
+            .list_from(input, BoundPlace::Object, end, first)?;
         Ok(object_of(self.alloc, bounds))
     }
 

@@ -189,10 +189,7 @@ pub fn parse_abi(alloc: Global, input: &mut ParseStream<'_>) -> Result<Abi, Erro
 }
 
 /// A calling convention where `extern` follows.
-pub fn parse_optional_abi(
-    alloc: Global,
-    input: &mut ParseStream<'_>,
-) -> Result<Option<Abi>, Error>
+pub fn parse_optional_abi(alloc: Global, input: &mut ParseStream<'_>) -> Result<Option<Abi>, Error>
     ensures parses { Parses reading.optional_abi result input.old input.new }
 {
     if input.peek::<Extern>() {
