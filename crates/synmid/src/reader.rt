@@ -6,7 +6,17 @@ ghost use Rattle.synmid.specs.Readers as spec;
 
 use crate::sample::Sample;
 use std::alloc::{AllocError, Global};
-use syn_mid::{Abi, AngleBracketedGenericArgumentsOf, Attribute, Attributes, BoundLifetimesOf, CapturedParam, ConstParamOf, Expr, GenericArgumentOf, GenericParamOf, ImplWithoutPlusOf, LifetimeParamOf, Macro, Meta, MetaList, MetaNameValue, ModStyle, NamedArgOf, NoArguments, ObjectWithoutPlusOf, ParenthesizedGenericArgumentsOf, ParseInner, ParseOptionalAbi, ParseOptionalLifetimesOf, ParseOuter, ParseTurbofishOf, PathArgumentsOf, PathOf, PathSegmentOf, PointerMutability, PreciseCapture, ReturnTypeOf, ReturnWithoutPlusOf, TraitBoundOf, TypeArrayOf, TypeFnPtrOf, TypeGroupOf, TypeImplTraitOf, TypeInferOf, TypeMacroOf, TypeNeverOf, TypeOf, TypeParamBoundOf, TypeParamOf, TypeParenOf, TypePathOf, TypePtrOf, TypeReferenceOf, TypeSliceOf, TypeTraitObjectOf, TypeTupleOf, Value, WithoutPlusOf};
+use syn_mid::{
+    Abi, AngleBracketedGenericArgumentsOf, Attribute, Attributes, BoundLifetimesOf, CapturedParam,
+    ConstParamOf, Expr, GenericArgumentOf, GenericParamOf, ImplWithoutPlusOf, LifetimeParamOf,
+    Macro, Meta, MetaList, MetaNameValue, ModStyle, NamedArgOf, NoArguments, ObjectWithoutPlusOf,
+    ParenthesizedGenericArgumentsOf, ParseInner, ParseOptionalAbi, ParseOptionalLifetimesOf,
+    ParseOuter, ParseTurbofishOf, PathArgumentsOf, PathOf, PathSegmentOf, PointerMutability,
+    PreciseCapture, ReturnTypeOf, ReturnWithoutPlusOf, TraitBoundOf, TypeArrayOf, TypeFnPtrOf,
+    TypeGroupOf, TypeImplTraitOf, TypeInferOf, TypeMacroOf, TypeNeverOf, TypeOf, TypeParamBoundOf,
+    TypeParamOf, TypeParenOf, TypePathOf, TypePtrOf, TypeReferenceOf, TypeSliceOf,
+    TypeTraitObjectOf, TypeTupleOf, Value, WithoutPlusOf,
+};
 use token_core::{Error, Items, Parse, Parser, ToTokens, TokenStream, read_all, read_all_with};
 
 /// A reader that a run knows by name.
@@ -185,8 +195,14 @@ impl TypeReader {
             TypeReader::Array => reprint::<TypeArrayOf<TypeOf<A, E>, A, E>>(alloc, tokens),
             TypeReader::FnPtr => reprint::<TypeFnPtrOf<A, E>>(alloc, tokens),
             TypeReader::Group => reprint::<TypeGroupOf<TypeOf<A, E>, A>>(alloc, tokens),
-            TypeReader::ImplTrait => reprint::<TypeImplTraitOf<TypeParamBoundOf<A, E>, A>>(alloc, tokens),
-            TypeReader::ImplWithoutPlus => reprint_with(alloc, ImplWithoutPlusOf::<A, E>::new(), tokens),
+            TypeReader::ImplTrait => reprint::<TypeImplTraitOf<TypeParamBoundOf<A, E>, A>>(
+                alloc, tokens,
+            ),
+            TypeReader::ImplWithoutPlus => reprint_with(
+                alloc,
+                ImplWithoutPlusOf::<A, E>::new(),
+                tokens,
+            ),
             TypeReader::Infer => reprint::<TypeInferOf<A>>(alloc, tokens),
             TypeReader::Macro => reprint::<TypeMacroOf<A>>(alloc, tokens),
             TypeReader::Never => reprint::<TypeNeverOf<A>>(alloc, tokens),
@@ -195,11 +211,21 @@ impl TypeReader {
             TypeReader::Ptr => reprint::<TypePtrOf<TypeOf<A, E>, A>>(alloc, tokens),
             TypeReader::Reference => reprint::<TypeReferenceOf<TypeOf<A, E>, A>>(alloc, tokens),
             TypeReader::Slice => reprint::<TypeSliceOf<TypeOf<A, E>, A>>(alloc, tokens),
-            TypeReader::TraitObject => reprint::<TypeTraitObjectOf<TypeParamBoundOf<A, E>, A>>(alloc, tokens),
-            TypeReader::ObjectWithoutPlus => reprint_with(alloc, ObjectWithoutPlusOf::<A, E>::new(), tokens),
+            TypeReader::TraitObject => reprint::<TypeTraitObjectOf<TypeParamBoundOf<A, E>, A>>(
+                alloc, tokens,
+            ),
+            TypeReader::ObjectWithoutPlus => reprint_with(
+                alloc,
+                ObjectWithoutPlusOf::<A, E>::new(),
+                tokens,
+            ),
             TypeReader::Tuple => reprint::<TypeTupleOf<TypeOf<A, E>, A>>(alloc, tokens),
             TypeReader::Return => reprint::<ReturnTypeOf<TypeOf<A, E>>>(alloc, tokens),
-            TypeReader::ReturnWithoutPlus => reprint_with(alloc, ReturnWithoutPlusOf::<A, E>::new(), tokens),
+            TypeReader::ReturnWithoutPlus => reprint_with(
+                alloc,
+                ReturnWithoutPlusOf::<A, E>::new(),
+                tokens,
+            ),
             TypeReader::NamedArg => reprint::<NamedArgOf<TypeOf<A, E>, A>>(alloc, tokens),
             TypeReader::Abi => reprint::<Abi>(alloc, tokens),
             TypeReader::OptionalAbi => reprint_with(alloc, ParseOptionalAbi::new(), tokens),
@@ -234,9 +260,17 @@ impl PathReader {
             PathReader::Whole => reprint::<PathOf<PathArgumentsOf<A, E>>>(alloc, tokens),
             PathReader::Segment => reprint::<PathSegmentOf<PathArgumentsOf<A, E>>>(alloc, tokens),
             PathReader::Argument => reprint::<GenericArgumentOf<A, E>>(alloc, tokens),
-            PathReader::AngleBracketed => reprint::<AngleBracketedGenericArgumentsOf<GenericArgumentOf<A, E>>>(alloc, tokens),
-            PathReader::ParseTurbofish => reprint_with(alloc, ParseTurbofishOf::<A, E>::new(), tokens),
-            PathReader::Parenthesized => reprint::<ParenthesizedGenericArgumentsOf<TypeOf<A, E>, A>>(alloc, tokens),
+            PathReader::AngleBracketed => reprint::<
+                AngleBracketedGenericArgumentsOf<GenericArgumentOf<A, E>>,
+            >(alloc, tokens),
+            PathReader::ParseTurbofish => reprint_with(
+                alloc,
+                ParseTurbofishOf::<A, E>::new(),
+                tokens,
+            ),
+            PathReader::Parenthesized => reprint::<
+                ParenthesizedGenericArgumentsOf<TypeOf<A, E>, A>,
+            >(alloc, tokens),
         }
     }
 }
@@ -272,9 +306,17 @@ impl GenericsReader {
             GenericsReader::Param => reprint::<GenericParamOf<A, E>>(alloc, tokens),
             GenericsReader::LifetimeParam => reprint::<LifetimeParamOf<A>>(alloc, tokens),
             GenericsReader::TypeParam => reprint::<TypeParamOf<A, E>>(alloc, tokens),
-            GenericsReader::ConstParam => reprint::<ConstParamOf<TypeOf<A, E>, A, E>>(alloc, tokens),
-            GenericsReader::BoundLifetimes => reprint::<BoundLifetimesOf<GenericParamOf<A, E>>>(alloc, tokens),
-            GenericsReader::OptionalBoundLifetimes => reprint_with(alloc, ParseOptionalLifetimesOf::<A, E>::new(), tokens),
+            GenericsReader::ConstParam => reprint::<ConstParamOf<TypeOf<A, E>, A, E>>(
+                alloc, tokens,
+            ),
+            GenericsReader::BoundLifetimes => reprint::<BoundLifetimesOf<GenericParamOf<A, E>>>(
+                alloc, tokens,
+            ),
+            GenericsReader::OptionalBoundLifetimes => reprint_with(
+                alloc,
+                ParseOptionalLifetimesOf::<A, E>::new(),
+                tokens,
+            ),
             GenericsReader::Bound => reprint::<TypeParamBoundOf<A, E>>(alloc, tokens),
             GenericsReader::TraitBound => reprint::<TraitBoundOf<A, E>>(alloc, tokens),
             GenericsReader::Capture => reprint::<PreciseCapture>(alloc, tokens),

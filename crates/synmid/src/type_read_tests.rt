@@ -39,18 +39,30 @@ fn types_are_read(rt: HostRuntime) {
         ("&&A", "& & A"),
         ("Vec<T>", "Vec < T >"),
         ("Vec<Vec<T>>", "Vec < Vec < T > >"),
-        ("Map<'a, K, 3, { 4 }, Item = V, N = 1, It: A + B>", "Map < 'a , K , 3 , { 4 } , Item = V , N = 1 , It : A + B >"),
+        (
+            "Map<'a, K, 3, { 4 }, Item = V, N = 1, It: A + B>",
+            "Map < 'a , K , 3 , { 4 } , Item = V , N = 1 , It : A + B >",
+        ),
         ("a::<B>::c", "a :: < B > :: c"),
-        ("try::a", "TODO"),
+        (
+            "try::a",
+            "expected one of: `for`, parentheses, `unsafe`, `fn`, `extern`, identifier, `::`, `<`, `dyn`, square brackets, `*`, `&`, `!`, `impl`, `_`, lifetime 0-3 0-3",
+        ),
         ("self::A", "self :: A"),
         ("super::A<B>", "super :: A < B >"),
         ("crate::A", "crate :: A"),
         ("<A as b::C>::D", "< A as b :: C > :: D"),
         ("<A>::B::C", "< A > :: B :: C"),
-        ("Fn(A)", "TODO"),
-        ("A!=B", "TODO"),
-        ("1", "TODO"),
-        ("", "TODO"),
+        ("Fn(A)", "unexpected token 2-3 2-3"),
+        ("A!=B", "unexpected token 1-2 1-2"),
+        (
+            "1",
+            "expected one of: `for`, parentheses, `unsafe`, `fn`, `extern`, identifier, `::`, `<`, `dyn`, square brackets, `*`, `&`, `!`, `impl`, `_`, lifetime 0-1 0-1",
+        ),
+        (
+            "",
+            "unexpected end of input, expected one of: `for`, parentheses, `unsafe`, `fn`, `extern`, identifier, `::`, `<`, `dyn`, square brackets, `*`, `&`, `!`, `impl`, `_`, lifetime 0-0 0-0",
+        ),
     ] {
         says(
             &rt,
@@ -62,7 +74,7 @@ fn types_are_read(rt: HostRuntime) {
 }
 
 #[test]
-fn objects_are_read(rt: HostRuntime) {
+fn trait_objects_are_read(rt: HostRuntime) {
     let alloc = rt.alloc();
     for (text, wanted) in [
         ("dyn A", "dyn A"),
@@ -72,7 +84,10 @@ fn objects_are_read(rt: HostRuntime) {
         ("'a + A", "'a + A"),
         ("for<'a> A<'a>", "for < 'a > A < 'a >"),
         ("for<'a> A + B", "for < 'a > A + B"),
-        ("dyn for<'a> Fn(&'a A) -> B + C", "dyn for < 'a > Fn (& 'a A) -> B + C"),
+        (
+            "dyn for<'a> Fn(&'a A) -> B + C",
+            "dyn for < 'a > Fn (& 'a A) -> B + C",
+        ),
         ("dyn ?A", "dyn ? A"),
         ("(A) + B", "(A) + B"),
         ("(?A)", "(? A)"),
@@ -81,12 +96,12 @@ fn objects_are_read(rt: HostRuntime) {
         ("('a + A)", "('a + A)"),
         ("dyn A +", "dyn A +"),
         ("A + B +", "A + B +"),
-        ("(A + B) + C", "TODO"),
-        ("&A + B", "TODO"),
-        ("*const A + B", "TODO"),
-        ("&dyn A + B", "TODO"),
+        ("(A + B) + C", "unexpected token 8-9 8-9"),
+        ("&A + B", "unexpected token 3-4 3-4"),
+        ("*const A + B", "unexpected token 9-10 9-10"),
+        ("&dyn A + B", "unexpected token 7-8 7-8"),
         ("&(A + B)", "& (A + B)"),
-        ("A<>(B)", "TODO"),
+        ("A<>(B)", "unexpected token 3-4 3-4"),
         ("dyn A<>(B)", "dyn A (B)"),
         ("dyn A::(B) -> C", "dyn A (B) -> C"),
         ("dyn (A) + B", "dyn (A) + B"),
@@ -102,17 +117,61 @@ fn objects_are_read(rt: HostRuntime) {
 }
 
 #[test]
-fn impls_are_read(rt: HostRuntime) {
+fn trait_objects_are_refused(rt: HostRuntime) {
     let alloc = rt.alloc();
     for (text, wanted) in [
-        ("impl A", "impl A"),
-        ("impl A + 'a + use<'b, T, Self>", "impl A + 'a + use < 'b , T , Self >"),
-        ("impl ?A + B", "impl ? A + B"),
-        ("impl const A", "impl const A"),
-        ("impl [const] A + B", "impl [const] A + B"),
-        ("impl for<'a> A", "impl for < 'a > A"),
-        ("impl (for<'a> A)", "impl (for < 'a > A)"),
-        ("impl A +", "impl A +"),
+        (
+            "dyn",
+            "unexpected end of input, expected identifier 0-0 0-0",
+        ),
+        (
+            "dyn 'a",
+            "at least one trait is required for an object type 0-3 5-6",
+        ),
+        (
+            "dyn 'a + 'b",
+            "at least one trait is required for an object type 0-3 10-11",
+        ),
+        (
+            "'a + 'b",
+            "at least one trait is required for an object type 0-1 6-7",
+        ),
+        ("impl 'a", "at least one trait must be specified 0-4 6-7"),
+        (
+            "impl 'a + 'b",
+            "at least one trait must be specified 0-4 11-12",
+        ),
+        (
+            "impl use<'a>",
+            "at least one trait must be specified 0-4 11-12",
+        ),
+        (
+            "dyn use<'a>",
+            "`use<...>` precise capturing syntax is not allowed here 4-7 10-11",
+        ),
+        (
+            "dyn A + use<'a, T>",
+            "`use<...>` precise capturing syntax is not allowed here 8-11 17-18",
+        ),
+        ("dyn const A", "`const` is not allowed here 4-9 4-9"),
+        ("dyn [const] A", "`[const]` is not allowed here 4-11 4-11"),
+        (
+            "dyn for<'a> ?A",
+            "`for<...>` binder not allowed with `?` trait polarity modifier 12-13 12-13",
+        ),
+        (
+            "dyn ?for<'a> A",
+            "`for<...>` binder not allowed with `?` trait polarity modifier 4-5 4-5",
+        ),
+        (
+            "for<'a> [A]",
+            "expected one of: identifier, `fn`, `unsafe`, `extern`, `super`, `self`, `Self`, `crate` 8-9 8-9",
+        ),
+        (
+            "for<'a> _",
+            "expected one of: identifier, `fn`, `unsafe`, `extern`, `super`, `self`, `Self`, `crate` 8-9 8-9",
+        ),
+        ("fn A", "expected parentheses 3-4 3-4"),
     ] {
         says(
             &rt,
@@ -124,155 +183,294 @@ fn impls_are_read(rt: HostRuntime) {
 }
 
 #[test]
-fn objects_are_refused(rt: HostRuntime) {
+fn impl_types_are_read(rt: HostRuntime) {
     let alloc = rt.alloc();
-    for (text, wanted) in [
-        ("dyn", "TODO"),
-        ("dyn 'a", "TODO"),
-        ("dyn 'a + 'b", "TODO"),
-        ("'a + 'b", "TODO"),
-        ("impl 'a", "TODO"),
-        ("impl 'a + 'b", "TODO"),
-        ("impl use<'a>", "TODO"),
-        ("dyn use<'a>", "TODO"),
-        ("dyn A + use<'a, T>", "TODO"),
-        ("dyn const A", "TODO"),
-        ("dyn [const] A", "TODO"),
-        ("dyn for<'a> ?A", "TODO"),
-        ("dyn ?for<'a> A", "TODO"),
-        ("for<'a> [A]", "TODO"),
-        ("for<'a> _", "TODO"),
-        ("fn A", "TODO"),
+    for (reader, text, wanted) in [
+        (Reader::Types(TypeReader::Any), "impl A", "impl A"),
+        (
+            Reader::Types(TypeReader::Any),
+            "impl A + 'a + use<'b, T, Self>",
+            "impl A + 'a + use < 'b , T , Self >",
+        ),
+        (
+            Reader::Types(TypeReader::Any),
+            "impl ?A + B",
+            "impl ? A + B",
+        ),
+        (
+            Reader::Types(TypeReader::Any),
+            "impl const A",
+            "impl const A",
+        ),
+        (
+            Reader::Types(TypeReader::Any),
+            "impl [const] A + B",
+            "impl [const] A + B",
+        ),
+        (
+            Reader::Types(TypeReader::Any),
+            "impl for<'a> A",
+            "impl for < 'a > A",
+        ),
+        (
+            Reader::Types(TypeReader::Any),
+            "impl (for<'a> A)",
+            "impl (for < 'a > A)",
+        ),
+        (Reader::Types(TypeReader::Any), "impl A +", "impl A +"),
+        (
+            Reader::Types(TypeReader::ImplTrait),
+            "impl A + B",
+            "impl A + B",
+        ),
+        (
+            Reader::Types(TypeReader::ImplTrait),
+            "A",
+            "expected `impl` 0-1 0-1",
+        ),
+        (
+            Reader::Types(TypeReader::ImplWithoutPlus),
+            "impl A",
+            "impl A",
+        ),
+        (
+            Reader::Types(TypeReader::ImplWithoutPlus),
+            "impl A + B",
+            "unexpected token 7-8 7-8",
+        ),
     ] {
-        says(
-            &rt,
-            alloc,
-            read(alloc, Reader::Types(TypeReader::Any), text),
-            wanted,
-        );
+        says(&rt, alloc, read(alloc, reader, text), wanted);
     }
 }
 
 #[test]
 fn plus_is_left(rt: HostRuntime) {
     let alloc = rt.alloc();
-    for (text, wanted) in [
-        ("A", "A"),
-        ("A + B", "TODO"),
-        ("dyn A", "dyn A"),
-        ("dyn A + B", "TODO"),
-        ("impl A + B", "TODO"),
-        ("'a + A", "'a + A"),
-        ("(?A) + B", "(? A) + B"),
-        ("(A) + B", "TODO"),
+    for (reader, text, wanted) in [
+        (Reader::Types(TypeReader::WithoutPlus), "A", "A"),
+        (
+            Reader::Types(TypeReader::WithoutPlus),
+            "A + B",
+            "unexpected token 2-3 2-3",
+        ),
+        (Reader::Types(TypeReader::WithoutPlus), "dyn A", "dyn A"),
+        (
+            Reader::Types(TypeReader::WithoutPlus),
+            "dyn A + B",
+            "unexpected token 6-7 6-7",
+        ),
+        (
+            Reader::Types(TypeReader::WithoutPlus),
+            "impl A + B",
+            "unexpected token 7-8 7-8",
+        ),
+        (Reader::Types(TypeReader::WithoutPlus), "'a + A", "'a + A"),
+        (
+            Reader::Types(TypeReader::WithoutPlus),
+            "(?A) + B",
+            "(? A) + B",
+        ),
+        (
+            Reader::Types(TypeReader::WithoutPlus),
+            "(A) + B",
+            "unexpected token 4-5 4-5",
+        ),
+        (
+            Reader::Types(TypeReader::TraitObject),
+            "dyn A + B",
+            "dyn A + B",
+        ),
+        (Reader::Types(TypeReader::TraitObject), "A + 'a", "A + 'a"),
+        (Reader::Types(TypeReader::TraitObject), "'a + A", "'a + A"),
+        (Reader::Types(TypeReader::TraitObject), "(A) + B", "(A) + B"),
+        (
+            Reader::Types(TypeReader::TraitObject),
+            "'a",
+            "at least one trait is required for an object type 0-1 1-2",
+        ),
+        (
+            Reader::Types(TypeReader::TraitObject),
+            "1",
+            "expected identifier 0-1 0-1",
+        ),
+        (
+            Reader::Types(TypeReader::ObjectWithoutPlus),
+            "dyn A",
+            "dyn A",
+        ),
+        (
+            Reader::Types(TypeReader::ObjectWithoutPlus),
+            "dyn A + B",
+            "unexpected token 6-7 6-7",
+        ),
+        (Reader::Types(TypeReader::ReturnWithoutPlus), "-> A", "-> A"),
+        (
+            Reader::Types(TypeReader::ReturnWithoutPlus),
+            "-> A + B",
+            "unexpected token 5-6 5-6",
+        ),
     ] {
-        says(
-            &rt,
-            alloc,
-            read(alloc, Reader::Types(TypeReader::WithoutPlus), text),
-            wanted,
-        );
-    }
-}
-
-#[test]
-fn single_objects_are_read(rt: HostRuntime) {
-    let alloc = rt.alloc();
-    for (text, wanted) in [
-        ("dyn A + B", "dyn A + B"),
-        ("A + 'a", "A + 'a"),
-        ("'a + A", "'a + A"),
-        ("(A) + B", "(A) + B"),
-        ("'a", "TODO"),
-        ("1", "TODO"),
-    ] {
-        says(
-            &rt,
-            alloc,
-            read(alloc, Reader::Types(TypeReader::TraitObject), text),
-            wanted,
-        );
-    }
-}
-
-#[test]
-fn single_objects_without_plus(rt: HostRuntime) {
-    let alloc = rt.alloc();
-    for (text, wanted) in [
-        ("dyn A", "dyn A"),
-        ("dyn A + B", "TODO"),
-    ] {
-        says(
-            &rt,
-            alloc,
-            read(alloc, Reader::Types(TypeReader::ObjectWithoutPlus), text),
-            wanted,
-        );
-    }
-}
-
-#[test]
-fn single_impls_are_read(rt: HostRuntime) {
-    let alloc = rt.alloc();
-    for (text, wanted) in [
-        ("impl A + B", "impl A + B"),
-        ("A", "TODO"),
-    ] {
-        says(
-            &rt,
-            alloc,
-            read(alloc, Reader::Types(TypeReader::ImplTrait), text),
-            wanted,
-        );
-    }
-}
-
-#[test]
-fn single_impls_without_plus(rt: HostRuntime) {
-    let alloc = rt.alloc();
-    for (text, wanted) in [
-        ("impl A", "impl A"),
-        ("impl A + B", "TODO"),
-    ] {
-        says(
-            &rt,
-            alloc,
-            read(alloc, Reader::Types(TypeReader::ImplWithoutPlus), text),
-            wanted,
-        );
+        says(&rt, alloc, read(alloc, reader, text), wanted);
     }
 }
 
 #[test]
 fn functions_are_read(rt: HostRuntime) {
     let alloc = rt.alloc();
-    for (text, wanted) in [
-        ("fn()", "fn ()"),
-        ("fn(A, B) -> C", "fn (A , B) -> C"),
-        ("unsafe extern \"C\" fn(a: A, _: B)", "unsafe extern \"C\" fn (a : A , _ : B)"),
-        ("extern fn()", "extern fn ()"),
-        ("for<'a> fn(&'a A) -> &'a B", "for < 'a > fn (& 'a A) -> & 'a B"),
-        ("fn(self: A)", "fn (self : A)"),
-        ("fn(mut self)", "fn (mut self)"),
-        ("fn(mut self: A, B)", "fn (mut self : A , B)"),
-        ("fn(x: mut self)", "fn (x : mut self)"),
-        ("fn(...)", "fn (...)"),
-        ("fn(A, ...)", "fn (A , ...)"),
-        ("fn(A, x: ..., )", "fn (A , x : ... ,)"),
-        ("fn(#[a] x: A, #[b] ...) -> !", "fn (# [a] x : A , # [b] ...) -> !"),
-        ("fn() -> A + B", "TODO"),
-        ("fn(self: A, self: B)", "TODO"),
-        ("fn(a: ..., b: C)", "TODO"),
-        ("fn", "TODO"),
-        ("unsafe", "TODO"),
-        ("extern \"C\"", "TODO"),
+    for (reader, text, wanted) in [
+        (Reader::Types(TypeReader::Any), "fn()", "fn ()"),
+        (
+            Reader::Types(TypeReader::Any),
+            "fn(A, B) -> C",
+            "fn (A , B) -> C",
+        ),
+        (
+            Reader::Types(TypeReader::Any),
+            "unsafe extern \"C\" fn(a: A, _: B)",
+            "unsafe extern \"C\" fn (a : A , _ : B)",
+        ),
+        (
+            Reader::Types(TypeReader::Any),
+            "extern fn()",
+            "extern fn ()",
+        ),
+        (
+            Reader::Types(TypeReader::Any),
+            "for<'a> fn(&'a A) -> &'a B",
+            "for < 'a > fn (& 'a A) -> & 'a B",
+        ),
+        (
+            Reader::Types(TypeReader::Any),
+            "fn(self: A)",
+            "fn (self : A)",
+        ),
+        (
+            Reader::Types(TypeReader::Any),
+            "fn(mut self)",
+            "fn (mut self)",
+        ),
+        (
+            Reader::Types(TypeReader::Any),
+            "fn(mut self: A, B)",
+            "fn (mut self : A , B)",
+        ),
+        (
+            Reader::Types(TypeReader::Any),
+            "fn(x: mut self)",
+            "fn (x : mut self)",
+        ),
+        (Reader::Types(TypeReader::Any), "fn(...)", "fn (...)"),
+        (Reader::Types(TypeReader::Any), "fn(A, ...)", "fn (A , ...)"),
+        (
+            Reader::Types(TypeReader::Any),
+            "fn(A, x: ..., )",
+            "fn (A , x : ... ,)",
+        ),
+        (
+            Reader::Types(TypeReader::Any),
+            "fn(#[a] x: A, #[b] ...) -> !",
+            "fn (# [a] x : A , # [b] ...) -> !",
+        ),
+        (
+            Reader::Types(TypeReader::Any),
+            "fn() -> A + B",
+            "unexpected token 10-11 10-11",
+        ),
+        (
+            Reader::Types(TypeReader::Any),
+            "fn(self: A, self: B)",
+            "expected `,` 16-17 16-17",
+        ),
+        (
+            Reader::Types(TypeReader::Any),
+            "fn(a: ..., b: C)",
+            "unexpected token 11-12 11-12",
+        ),
+        (
+            Reader::Types(TypeReader::Any),
+            "fn",
+            "unexpected end of input, expected parentheses 0-0 0-0",
+        ),
+        (
+            Reader::Types(TypeReader::Any),
+            "unsafe",
+            "unexpected end of input, expected `fn` 0-0 0-0",
+        ),
+        (
+            Reader::Types(TypeReader::Any),
+            "extern \"C\"",
+            "unexpected end of input, expected `fn` 0-0 0-0",
+        ),
+        (Reader::Types(TypeReader::FnPtr), "fn()", "fn ()"),
+        (
+            Reader::Types(TypeReader::FnPtr),
+            "for<'a> unsafe fn(A)",
+            "for < 'a > unsafe fn (A)",
+        ),
+        (
+            Reader::Types(TypeReader::FnPtr),
+            "A",
+            "expected `fn` 0-1 0-1",
+        ),
+        (Reader::Types(TypeReader::Abi), "extern", "extern"),
+        (
+            Reader::Types(TypeReader::Abi),
+            "extern \"C\"",
+            "extern \"C\"",
+        ),
+        (
+            Reader::Types(TypeReader::Abi),
+            "\"C\"",
+            "expected `extern` 0-3 0-3",
+        ),
+        (Reader::Types(TypeReader::OptionalAbi), "", ""),
+        (
+            Reader::Types(TypeReader::OptionalAbi),
+            "extern \"C\"",
+            "extern \"C\"",
+        ),
     ] {
-        says(
-            &rt,
-            alloc,
-            read(alloc, Reader::Types(TypeReader::Any), text),
-            wanted,
-        );
+        says(&rt, alloc, read(alloc, reader, text), wanted);
+    }
+}
+
+#[test]
+fn arguments_and_outputs_are_read(rt: HostRuntime) {
+    let alloc = rt.alloc();
+    for (reader, text, wanted) in [
+        (Reader::Types(TypeReader::NamedArg), "A", "A"),
+        (Reader::Types(TypeReader::NamedArg), "x: A", "x : A"),
+        (Reader::Types(TypeReader::NamedArg), "_: A", "_ : A"),
+        (
+            Reader::Types(TypeReader::NamedArg),
+            "#[a] x: A",
+            "# [a] x : A",
+        ),
+        (
+            Reader::Types(TypeReader::NamedArg),
+            "self: A",
+            "unexpected token 4-5 4-5",
+        ),
+        (
+            Reader::Types(TypeReader::NamedArg),
+            "mut self",
+            "expected one of: `for`, parentheses, `unsafe`, `fn`, `extern`, identifier, `::`, `<`, `dyn`, square brackets, `*`, `&`, `!`, `impl`, `_`, lifetime 0-3 0-3",
+        ),
+        (Reader::Types(TypeReader::Return), "", ""),
+        (Reader::Types(TypeReader::Return), "-> A", "-> A"),
+        (Reader::Types(TypeReader::Return), "-> A + B", "-> A + B"),
+        (
+            Reader::Types(TypeReader::Return),
+            "->",
+            "unexpected end of input, expected one of: `for`, parentheses, `unsafe`, `fn`, `extern`, identifier, `::`, `<`, `dyn`, square brackets, `*`, `&`, `!`, `impl`, `_`, lifetime 0-0 0-0",
+        ),
+        (
+            Reader::Types(TypeReader::Return),
+            "A",
+            "unexpected token 0-1 0-1",
+        ),
+    ] {
+        says(&rt, alloc, read(alloc, reader, text), wanted);
     }
 }
 
@@ -285,117 +483,15 @@ fn verbatim_types_are_read(rt: HostRuntime) {
         ("builtin # x(y z)", "builtin # x (y z)"),
         ("for<'a> builtin # x()", "for < 'a > builtin # x ()"),
         ("builtin", "builtin"),
-        ("builtin # x", "TODO"),
+        (
+            "builtin # x",
+            "unexpected end of input, expected parentheses 0-0 0-0",
+        ),
     ] {
         says(
             &rt,
             alloc,
             read(alloc, Reader::Types(TypeReader::Any), text),
-            wanted,
-        );
-    }
-}
-
-#[test]
-fn named_arguments_are_read(rt: HostRuntime) {
-    let alloc = rt.alloc();
-    for (text, wanted) in [
-        ("A", "A"),
-        ("x: A", "x : A"),
-        ("_: A", "_ : A"),
-        ("#[a] x: A", "# [a] x : A"),
-        ("self: A", "TODO"),
-        ("mut self", "TODO"),
-    ] {
-        says(
-            &rt,
-            alloc,
-            read(alloc, Reader::Types(TypeReader::NamedArg), text),
-            wanted,
-        );
-    }
-}
-
-#[test]
-fn outputs_are_read(rt: HostRuntime) {
-    let alloc = rt.alloc();
-    for (text, wanted) in [
-        ("", ""),
-        ("-> A", "-> A"),
-        ("-> A + B", "-> A + B"),
-        ("->", "TODO"),
-        ("A", "TODO"),
-    ] {
-        says(
-            &rt,
-            alloc,
-            read(alloc, Reader::Types(TypeReader::Return), text),
-            wanted,
-        );
-    }
-}
-
-#[test]
-fn outputs_without_plus(rt: HostRuntime) {
-    let alloc = rt.alloc();
-    for (text, wanted) in [
-        ("-> A", "-> A"),
-        ("-> A + B", "TODO"),
-    ] {
-        says(
-            &rt,
-            alloc,
-            read(alloc, Reader::Types(TypeReader::ReturnWithoutPlus), text),
-            wanted,
-        );
-    }
-}
-
-#[test]
-fn abis_are_read(rt: HostRuntime) {
-    let alloc = rt.alloc();
-    for (text, wanted) in [
-        ("extern", "extern"),
-        ("extern \"C\"", "extern \"C\""),
-        ("\"C\"", "TODO"),
-    ] {
-        says(
-            &rt,
-            alloc,
-            read(alloc, Reader::Types(TypeReader::Abi), text),
-            wanted,
-        );
-    }
-}
-
-#[test]
-fn optional_abis_are_read(rt: HostRuntime) {
-    let alloc = rt.alloc();
-    for (text, wanted) in [
-        ("", ""),
-        ("extern \"C\"", "extern \"C\""),
-    ] {
-        says(
-            &rt,
-            alloc,
-            read(alloc, Reader::Types(TypeReader::OptionalAbi), text),
-            wanted,
-        );
-    }
-}
-
-#[test]
-fn function_pointers_are_read(rt: HostRuntime) {
-    let alloc = rt.alloc();
-    for (text, wanted) in [
-        ("fn()", "fn ()"),
-        ("for<'a> unsafe fn(A)", "for < 'a > unsafe fn (A)"),
-        ("A", "TODO"),
-    ] {
-        says(
-            &rt,
-            alloc,
-            read(alloc, Reader::Types(TypeReader::FnPtr), text),
             wanted,
         );
     }
@@ -404,260 +500,229 @@ fn function_pointers_are_read(rt: HostRuntime) {
 #[test]
 fn tuples_are_told_from_parentheses(rt: HostRuntime) {
     let alloc = rt.alloc();
-    for (text, wanted) in [
-        ("()", "()"),
-        ("(A)", "(A)"),
-        ("(A,)", "(A ,)"),
-        ("(A, B,)", "(A , B ,)"),
-        ("((A, B), !, _)", "((A , B) , ! , _)"),
-        ("(A B)", "TODO"),
-        ("(,)", "TODO"),
-        ("('a + A, B)", "TODO"),
+    for (reader, text, wanted) in [
+        (Reader::Types(TypeReader::Any), "()", "()"),
+        (Reader::Types(TypeReader::Any), "(A)", "(A)"),
+        (Reader::Types(TypeReader::Any), "(A,)", "(A ,)"),
+        (Reader::Types(TypeReader::Any), "(A, B,)", "(A , B ,)"),
+        (
+            Reader::Types(TypeReader::Any),
+            "((A, B), !, _)",
+            "((A , B) , ! , _)",
+        ),
+        (
+            Reader::Types(TypeReader::Any),
+            "(A B)",
+            "unexpected token 3-4 3-4",
+        ),
+        (
+            Reader::Types(TypeReader::Any),
+            "(,)",
+            "expected one of: `for`, parentheses, `unsafe`, `fn`, `extern`, identifier, `::`, `<`, `dyn`, square brackets, `*`, `&`, `!`, `impl`, `_`, lifetime 1-2 1-2",
+        ),
+        (
+            Reader::Types(TypeReader::Any),
+            "('a + A, B)",
+            "unexpected token 7-8 7-8",
+        ),
+        (Reader::Types(TypeReader::Tuple), "()", "()"),
+        (Reader::Types(TypeReader::Tuple), "(A,)", "(A ,)"),
+        (
+            Reader::Types(TypeReader::Tuple),
+            "('a + A, B)",
+            "('a + A , B)",
+        ),
+        (
+            Reader::Types(TypeReader::Tuple),
+            "(A)",
+            "unexpected end of input, expected `,` 2-3 2-3",
+        ),
+        (
+            Reader::Types(TypeReader::Tuple),
+            "(A B)",
+            "expected `,` 3-4 3-4",
+        ),
+        (Reader::Types(TypeReader::Paren), "(A)", "(A)"),
+        (
+            Reader::Types(TypeReader::Paren),
+            "(A + B)",
+            "unexpected token 3-4 3-4",
+        ),
+        (
+            Reader::Types(TypeReader::Paren),
+            "(A,)",
+            "unexpected token 2-3 2-3",
+        ),
+        (
+            Reader::Types(TypeReader::Paren),
+            "()",
+            "unexpected end of input, expected one of: `for`, parentheses, `unsafe`, `fn`, `extern`, identifier, `::`, `<`, `dyn`, square brackets, `*`, `&`, `!`, `impl`, `_`, lifetime 1-2 1-2",
+        ),
     ] {
-        says(
-            &rt,
-            alloc,
-            read(alloc, Reader::Types(TypeReader::Any), text),
-            wanted,
-        );
+        says(&rt, alloc, read(alloc, reader, text), wanted);
     }
 }
 
 #[test]
-fn single_tuples_are_read(rt: HostRuntime) {
+fn slices_are_told_from_arrays(rt: HostRuntime) {
     let alloc = rt.alloc();
-    for (text, wanted) in [
-        ("()", "()"),
-        ("(A,)", "(A ,)"),
-        ("('a + A, B)", "('a + A , B)"),
-        ("(A)", "TODO"),
-        ("(A B)", "TODO"),
+    for (reader, text, wanted) in [
+        (Reader::Types(TypeReader::Slice), "[A]", "[A]"),
+        (Reader::Types(TypeReader::Slice), "[A + B]", "[A + B]"),
+        (
+            Reader::Types(TypeReader::Slice),
+            "[A; 1]",
+            "unexpected token 2-3 2-3",
+        ),
+        (
+            Reader::Types(TypeReader::Slice),
+            "[]",
+            "unexpected end of input, expected one of: `for`, parentheses, `unsafe`, `fn`, `extern`, identifier, `::`, `<`, `dyn`, square brackets, `*`, `&`, `!`, `impl`, `_`, lifetime 1-2 1-2",
+        ),
+        (Reader::Types(TypeReader::Array), "[A; 1]", "[A ; 1]"),
+        (
+            Reader::Types(TypeReader::Array),
+            "[A]",
+            "unexpected end of input, expected `;` 2-3 2-3",
+        ),
+        (
+            Reader::Types(TypeReader::Array),
+            "[A; 1 2]",
+            "unexpected token 6-7 6-7",
+        ),
+        (
+            Reader::Types(TypeReader::Array),
+            "[u8; ]",
+            "unexpected end of input, expected identifier 5-6 5-6",
+        ),
     ] {
-        says(
-            &rt,
-            alloc,
-            read(alloc, Reader::Types(TypeReader::Tuple), text),
-            wanted,
-        );
+        says(&rt, alloc, read(alloc, reader, text), wanted);
     }
 }
 
 #[test]
-fn single_parentheses_are_read(rt: HostRuntime) {
+fn pointers_have_a_mutability(rt: HostRuntime) {
     let alloc = rt.alloc();
-    for (text, wanted) in [
-        ("(A)", "(A)"),
-        ("(A + B)", "TODO"),
-        ("(A,)", "TODO"),
-        ("()", "TODO"),
+    for (reader, text, wanted) in [
+        (Reader::PointerMutability, "const", "const"),
+        (Reader::PointerMutability, "mut", "mut"),
+        (
+            Reader::PointerMutability,
+            "A",
+            "expected `const` or `mut` 0-1 0-1",
+        ),
+        (Reader::Types(TypeReader::Ptr), "*const A", "* const A"),
+        (
+            Reader::Types(TypeReader::Ptr),
+            "*A",
+            "expected `const` or `mut` 1-2 1-2",
+        ),
+        (Reader::Types(TypeReader::Ptr), "&A", "expected `*` 0-1 0-1"),
+        (Reader::Types(TypeReader::Reference), "&A", "& A"),
+        (Reader::Types(TypeReader::Reference), "&'a A", "& 'a A"),
+        (
+            Reader::Types(TypeReader::Reference),
+            "*const A",
+            "expected `&` 0-1 0-1",
+        ),
     ] {
-        says(
-            &rt,
-            alloc,
-            read(alloc, Reader::Types(TypeReader::Paren), text),
-            wanted,
-        );
+        says(&rt, alloc, read(alloc, reader, text), wanted);
     }
 }
 
 #[test]
-fn single_slices_are_read(rt: HostRuntime) {
+fn forms_are_read_alone(rt: HostRuntime) {
     let alloc = rt.alloc();
-    for (text, wanted) in [
-        ("[A]", "[A]"),
-        ("[A + B]", "[A + B]"),
-        ("[A; 1]", "TODO"),
-        ("[]", "TODO"),
+    for (reader, text, wanted) in [
+        (Reader::Types(TypeReader::Path), "try::a", "try :: a"),
+        (Reader::Types(TypeReader::Path), "A<B>", "A < B >"),
+        (
+            Reader::Types(TypeReader::Path),
+            "<A as B>::C",
+            "< A as B > :: C",
+        ),
+        (Reader::Types(TypeReader::Path), "<A>::B", "< A > :: B"),
+        (
+            Reader::Types(TypeReader::Path),
+            "_",
+            "expected identifier 0-1 0-1",
+        ),
+        (
+            Reader::Types(TypeReader::Path),
+            "<A>",
+            "unexpected end of input, expected `::` 0-0 0-0",
+        ),
+        (Reader::Types(TypeReader::Macro), "m!()", "m ! ()"),
+        (
+            Reader::Types(TypeReader::Macro),
+            "m",
+            "unexpected end of input, expected `!` 0-0 0-0",
+        ),
+        (Reader::Types(TypeReader::Never), "!", "!"),
+        (
+            Reader::Types(TypeReader::Never),
+            "A",
+            "expected `!` 0-1 0-1",
+        ),
+        (Reader::Types(TypeReader::Infer), "_", "_"),
+        (
+            Reader::Types(TypeReader::Infer),
+            "A",
+            "expected `_` 0-1 0-1",
+        ),
     ] {
-        says(
-            &rt,
-            alloc,
-            read(alloc, Reader::Types(TypeReader::Slice), text),
-            wanted,
-        );
-    }
-}
-
-#[test]
-fn single_arrays_are_read(rt: HostRuntime) {
-    let alloc = rt.alloc();
-    for (text, wanted) in [
-        ("[A; 1]", "[A ; 1]"),
-        ("[A]", "TODO"),
-        ("[A; 1 2]", "TODO"),
-        ("[u8; ]", "TODO"),
-    ] {
-        says(
-            &rt,
-            alloc,
-            read(alloc, Reader::Types(TypeReader::Array), text),
-            wanted,
-        );
-    }
-}
-
-#[test]
-fn single_pointers_are_read(rt: HostRuntime) {
-    let alloc = rt.alloc();
-    for (text, wanted) in [
-        ("*const A", "* const A"),
-        ("*A", "TODO"),
-        ("&A", "TODO"),
-    ] {
-        says(
-            &rt,
-            alloc,
-            read(alloc, Reader::Types(TypeReader::Ptr), text),
-            wanted,
-        );
-    }
-}
-
-#[test]
-fn single_references_are_read(rt: HostRuntime) {
-    let alloc = rt.alloc();
-    for (text, wanted) in [
-        ("&A", "& A"),
-        ("&'a A", "& 'a A"),
-        ("*const A", "TODO"),
-    ] {
-        says(
-            &rt,
-            alloc,
-            read(alloc, Reader::Types(TypeReader::Reference), text),
-            wanted,
-        );
-    }
-}
-
-#[test]
-fn mutabilities_are_read(rt: HostRuntime) {
-    let alloc = rt.alloc();
-    for (text, wanted) in [
-        ("const", "const"),
-        ("mut", "mut"),
-        ("A", "TODO"),
-    ] {
-        says(
-            &rt,
-            alloc,
-            read(alloc, Reader::PointerMutability, text),
-            wanted,
-        );
-    }
-}
-
-#[test]
-fn paths_of_types_are_read(rt: HostRuntime) {
-    let alloc = rt.alloc();
-    for (text, wanted) in [
-        ("try::a", "try :: a"),
-        ("A<B>", "A < B >"),
-        ("<A as B>::C", "< A as B > :: C"),
-        ("<A>::B", "< A > :: B"),
-        ("_", "TODO"),
-        ("<A>", "TODO"),
-    ] {
-        says(
-            &rt,
-            alloc,
-            read(alloc, Reader::Types(TypeReader::Path), text),
-            wanted,
-        );
-    }
-}
-
-#[test]
-fn other_single_types_are_read(rt: HostRuntime) {
-    let alloc = rt.alloc();
-    for (text, wanted) in [
-        ("m!()", "m ! ()"),
-        ("m", "TODO"),
-    ] {
-        says(
-            &rt,
-            alloc,
-            read(alloc, Reader::Types(TypeReader::Macro), text),
-            wanted,
-        );
-    }
-}
-
-#[test]
-fn nevers_are_read(rt: HostRuntime) {
-    let alloc = rt.alloc();
-    for (text, wanted) in [
-        ("!", "!"),
-        ("A", "TODO"),
-    ] {
-        says(
-            &rt,
-            alloc,
-            read(alloc, Reader::Types(TypeReader::Never), text),
-            wanted,
-        );
-    }
-}
-
-#[test]
-fn infers_are_read(rt: HostRuntime) {
-    let alloc = rt.alloc();
-    for (text, wanted) in [
-        ("_", "_"),
-        ("A", "TODO"),
-    ] {
-        says(
-            &rt,
-            alloc,
-            read(alloc, Reader::Types(TypeReader::Infer), text),
-            wanted,
-        );
+        says(&rt, alloc, read(alloc, reader, text), wanted);
     }
 }
 
 #[test]
 fn paths_are_read(rt: HostRuntime) {
     let alloc = rt.alloc();
-    for (text, wanted) in [
-        ("a", "a"),
-        ("::a::b", ":: a :: b"),
-        ("a::<B>::c<D>", "a :: < B > :: c < D >"),
-        ("a<B>", "a < B >"),
-        ("a::", "TODO"),
-        ("<A>::B", "TODO"),
-        ("Fn(A)", "TODO"),
+    for (reader, text, wanted) in [
+        (Reader::Paths(PathReader::Whole), "a", "a"),
+        (Reader::Paths(PathReader::Whole), "::a::b", ":: a :: b"),
+        (
+            Reader::Paths(PathReader::Whole),
+            "a::<B>::c<D>",
+            "a :: < B > :: c < D >",
+        ),
+        (Reader::Paths(PathReader::Whole), "a<B>", "a < B >"),
+        (
+            Reader::Paths(PathReader::Whole),
+            "a::",
+            "unexpected end of input, expected identifier 0-0 0-0",
+        ),
+        (
+            Reader::Paths(PathReader::Whole),
+            "<A>::B",
+            "expected identifier 0-1 0-1",
+        ),
+        (
+            Reader::Paths(PathReader::Whole),
+            "Fn(A)",
+            "unexpected token 2-3 2-3",
+        ),
+        (Reader::Paths(PathReader::Segment), "a", "a"),
+        (Reader::Paths(PathReader::Segment), "a<B>", "a < B >"),
+        (Reader::Paths(PathReader::Segment), "a::<B>", "a :: < B >"),
+        (Reader::Paths(PathReader::Segment), "Self", "Self"),
+        (
+            Reader::Paths(PathReader::Segment),
+            "super<A>",
+            "unexpected token 5-6 5-6",
+        ),
+        (
+            Reader::Paths(PathReader::Segment),
+            "1",
+            "expected identifier 0-1 0-1",
+        ),
     ] {
-        says(
-            &rt,
-            alloc,
-            read(alloc, Reader::Paths(PathReader::Whole), text),
-            wanted,
-        );
+        says(&rt, alloc, read(alloc, reader, text), wanted);
     }
 }
 
 #[test]
-fn segments_are_read(rt: HostRuntime) {
-    let alloc = rt.alloc();
-    for (text, wanted) in [
-        ("a", "a"),
-        ("a<B>", "a < B >"),
-        ("a::<B>", "a :: < B >"),
-        ("Self", "Self"),
-        ("super<A>", "TODO"),
-        ("1", "TODO"),
-    ] {
-        says(
-            &rt,
-            alloc,
-            read(alloc, Reader::Paths(PathReader::Segment), text),
-            wanted,
-        );
-    }
-}
-
-#[test]
-fn arguments_are_read(rt: HostRuntime) {
+fn generic_arguments_are_read(rt: HostRuntime) {
     let alloc = rt.alloc();
     for (text, wanted) in [
         ("'a", "'a"),
@@ -671,11 +736,20 @@ fn arguments_are_read(rt: HostRuntime) {
         ("N = 1", "N = 1"),
         ("N = { 2 }", "N = { 2 }"),
         ("Item: A + 'b", "Item : A + 'b"),
-        ("Item:", "TODO"),
-        ("a::Item = A", "TODO"),
-        ("Item = 'a", "TODO"),
-        ("=", "TODO"),
-        ("Fn(A) = B", "TODO"),
+        (
+            "Item:",
+            "unexpected end of input, expected identifier 0-0 0-0",
+        ),
+        ("a::Item = A", "unexpected token 8-9 8-9"),
+        (
+            "Item = 'a",
+            "at least one trait is required for an object type 7-8 8-9",
+        ),
+        (
+            "=",
+            "expected one of: `for`, parentheses, `unsafe`, `fn`, `extern`, identifier, `::`, `<`, `dyn`, square brackets, `*`, `&`, `!`, `impl`, `_`, lifetime 0-1 0-1",
+        ),
+        ("Fn(A) = B", "unexpected token 2-3 2-3"),
     ] {
         says(
             &rt,
@@ -687,271 +761,398 @@ fn arguments_are_read(rt: HostRuntime) {
 }
 
 #[test]
-fn angle_brackets_are_read(rt: HostRuntime) {
+fn lists_of_arguments_are_read(rt: HostRuntime) {
     let alloc = rt.alloc();
-    for (text, wanted) in [
-        ("<>", "< >"),
-        ("<A>", "< A >"),
-        ("::<A, B,>", ":: < A , B , >"),
-        ("<A B>", "TODO"),
-        ("<A", "TODO"),
-        ("<Item:>", "< Item : >"),
-        ("<Item: A, B>", "< Item : A , B >"),
-        ("A", "TODO"),
+    for (reader, text, wanted) in [
+        (Reader::Paths(PathReader::AngleBracketed), "<>", "< >"),
+        (Reader::Paths(PathReader::AngleBracketed), "<A>", "< A >"),
+        (
+            Reader::Paths(PathReader::AngleBracketed),
+            "::<A, B,>",
+            ":: < A , B , >",
+        ),
+        (
+            Reader::Paths(PathReader::AngleBracketed),
+            "<A B>",
+            "expected `,` 3-4 3-4",
+        ),
+        (
+            Reader::Paths(PathReader::AngleBracketed),
+            "<A",
+            "unexpected end of input, expected `,` 0-0 0-0",
+        ),
+        (
+            Reader::Paths(PathReader::AngleBracketed),
+            "<Item:>",
+            "< Item : >",
+        ),
+        (
+            Reader::Paths(PathReader::AngleBracketed),
+            "<Item: A, B>",
+            "< Item : A , B >",
+        ),
+        (
+            Reader::Paths(PathReader::AngleBracketed),
+            "A",
+            "expected `<` 0-1 0-1",
+        ),
+        (
+            Reader::Paths(PathReader::ParseTurbofish),
+            "::<A>",
+            ":: < A >",
+        ),
+        (
+            Reader::Paths(PathReader::ParseTurbofish),
+            "<A>",
+            "expected `::` 0-1 0-1",
+        ),
+        (Reader::Paths(PathReader::Parenthesized), "()", "()"),
+        (
+            Reader::Paths(PathReader::Parenthesized),
+            "(A, B) -> C",
+            "(A , B) -> C",
+        ),
+        (
+            Reader::Paths(PathReader::Parenthesized),
+            "(A) -> B + C",
+            "unexpected token 9-10 9-10",
+        ),
+        (
+            Reader::Paths(PathReader::Parenthesized),
+            "(x: A)",
+            "expected `,` 2-3 2-3",
+        ),
+        (
+            Reader::Paths(PathReader::Parenthesized),
+            "A",
+            "expected parentheses 0-1 0-1",
+        ),
     ] {
-        says(
-            &rt,
-            alloc,
-            read(alloc, Reader::Paths(PathReader::AngleBracketed), text),
-            wanted,
-        );
-    }
-}
-
-#[test]
-fn turbofishes_are_read(rt: HostRuntime) {
-    let alloc = rt.alloc();
-    for (text, wanted) in [
-        ("::<A>", ":: < A >"),
-        ("<A>", "TODO"),
-    ] {
-        says(
-            &rt,
-            alloc,
-            read(alloc, Reader::Paths(PathReader::ParseTurbofish), text),
-            wanted,
-        );
-    }
-}
-
-#[test]
-fn parenthesized_arguments_are_read(rt: HostRuntime) {
-    let alloc = rt.alloc();
-    for (text, wanted) in [
-        ("()", "()"),
-        ("(A, B) -> C", "(A , B) -> C"),
-        ("(A) -> B + C", "TODO"),
-        ("(x: A)", "TODO"),
-        ("A", "TODO"),
-    ] {
-        says(
-            &rt,
-            alloc,
-            read(alloc, Reader::Paths(PathReader::Parenthesized), text),
-            wanted,
-        );
+        says(&rt, alloc, read(alloc, reader, text), wanted);
     }
 }
 
 #[test]
 fn bounds_are_read(rt: HostRuntime) {
     let alloc = rt.alloc();
-    for (text, wanted) in [
-        ("'a", "'a"),
-        ("A", "A"),
-        ("?A", "? A"),
-        ("(A)", "(A)"),
-        ("(?A)", "(? A)"),
-        ("for<'a, 'b> ::A", "for < 'a , 'b > :: A"),
-        ("const A", "const A"),
-        ("[const] A", "[const] A"),
-        ("(const A)", "(const A)"),
-        ("use<'a, T, Self,>", "use < 'a , T , Self , >"),
-        ("A(B) -> C", "A (B) -> C"),
-        ("A<>(B)", "A (B)"),
-        ("A<C>(B)", "TODO"),
-        ("for<'a> ?A", "TODO"),
-        ("?for<'a> A", "TODO"),
-        ("use<1>", "TODO"),
-        ("use<'a b>", "TODO"),
-        ("1", "TODO"),
+    for (reader, text, wanted) in [
+        (Reader::Generics(GenericsReader::Bound), "'a", "'a"),
+        (Reader::Generics(GenericsReader::Bound), "A", "A"),
+        (Reader::Generics(GenericsReader::Bound), "?A", "? A"),
+        (Reader::Generics(GenericsReader::Bound), "(A)", "(A)"),
+        (Reader::Generics(GenericsReader::Bound), "(?A)", "(? A)"),
+        (
+            Reader::Generics(GenericsReader::Bound),
+            "for<'a, 'b> ::A",
+            "for < 'a , 'b > :: A",
+        ),
+        (
+            Reader::Generics(GenericsReader::Bound),
+            "const A",
+            "const A",
+        ),
+        (
+            Reader::Generics(GenericsReader::Bound),
+            "[const] A",
+            "[const] A",
+        ),
+        (
+            Reader::Generics(GenericsReader::Bound),
+            "(const A)",
+            "(const A)",
+        ),
+        (
+            Reader::Generics(GenericsReader::Bound),
+            "use<'a, T, Self,>",
+            "use < 'a , T , Self , >",
+        ),
+        (
+            Reader::Generics(GenericsReader::Bound),
+            "A(B) -> C",
+            "A (B) -> C",
+        ),
+        (Reader::Generics(GenericsReader::Bound), "A<>(B)", "A (B)"),
+        (
+            Reader::Generics(GenericsReader::Bound),
+            "A<C>(B)",
+            "unexpected token 4-5 4-5",
+        ),
+        (
+            Reader::Generics(GenericsReader::Bound),
+            "for<'a> ?A",
+            "`for<...>` binder not allowed with `?` trait polarity modifier 8-9 8-9",
+        ),
+        (
+            Reader::Generics(GenericsReader::Bound),
+            "?for<'a> A",
+            "`for<...>` binder not allowed with `?` trait polarity modifier 0-1 0-1",
+        ),
+        (
+            Reader::Generics(GenericsReader::Bound),
+            "use<1>",
+            "expected one of: lifetime, identifier, `>` 4-5 4-5",
+        ),
+        (
+            Reader::Generics(GenericsReader::Bound),
+            "use<'a b>",
+            "expected `,` or `>` 7-8 7-8",
+        ),
+        (
+            Reader::Generics(GenericsReader::Bound),
+            "1",
+            "expected identifier 0-1 0-1",
+        ),
+        (Reader::Generics(GenericsReader::TraitBound), "A", "A"),
+        (Reader::Generics(GenericsReader::TraitBound), "?A", "? A"),
+        (
+            Reader::Generics(GenericsReader::TraitBound),
+            "for<'a> A<'a>",
+            "for < 'a > A < 'a >",
+        ),
+        (
+            Reader::Generics(GenericsReader::TraitBound),
+            "const A",
+            "`const` is not allowed here 0-5 0-5",
+        ),
+        (
+            Reader::Generics(GenericsReader::TraitBound),
+            "[const] A",
+            "`[const]` is not allowed here 0-7 0-7",
+        ),
+        (
+            Reader::Generics(GenericsReader::TraitBound),
+            "(A)",
+            "expected identifier 0-1 0-1",
+        ),
+        (
+            Reader::Generics(GenericsReader::TraitBound),
+            "'a",
+            "expected identifier 0-1 0-1",
+        ),
     ] {
-        says(
-            &rt,
-            alloc,
-            read(alloc, Reader::Generics(GenericsReader::Bound), text),
-            wanted,
-        );
-    }
-}
-
-#[test]
-fn trait_bounds_are_read(rt: HostRuntime) {
-    let alloc = rt.alloc();
-    for (text, wanted) in [
-        ("A", "A"),
-        ("?A", "? A"),
-        ("for<'a> A<'a>", "for < 'a > A < 'a >"),
-        ("const A", "TODO"),
-        ("[const] A", "TODO"),
-        ("(A)", "TODO"),
-        ("'a", "TODO"),
-    ] {
-        says(
-            &rt,
-            alloc,
-            read(alloc, Reader::Generics(GenericsReader::TraitBound), text),
-            wanted,
-        );
+        says(&rt, alloc, read(alloc, reader, text), wanted);
     }
 }
 
 #[test]
 fn parameters_are_read(rt: HostRuntime) {
     let alloc = rt.alloc();
-    for (text, wanted) in [
-        ("'a", "'a"),
-        ("'a: 'b + 'c", "'a : 'b + 'c"),
-        ("T", "T"),
-        ("T: A + 'a = B", "T : A + 'a = B"),
-        ("const N: usize", "const N : usize"),
-        ("const N: A = 1", "const N : A = 1"),
-        ("const N: A = { 2 }", "const N : A = { 2 }"),
-        ("#[a] T", "# [a] T"),
-        ("T:", "T"),
-        ("'a:", "'a"),
-        ("T = A + B", "T = A + B"),
-        ("T: A B", "TODO"),
-        ("_", "TODO"),
-        ("fn", "TODO"),
-        ("'a: A", "TODO"),
-        ("const N", "TODO"),
+    for (reader, text, wanted) in [
+        (Reader::Generics(GenericsReader::Param), "'a", "'a"),
+        (
+            Reader::Generics(GenericsReader::Param),
+            "'a: 'b + 'c",
+            "'a : 'b + 'c",
+        ),
+        (Reader::Generics(GenericsReader::Param), "T", "T"),
+        (
+            Reader::Generics(GenericsReader::Param),
+            "T: A + 'a = B",
+            "T : A + 'a = B",
+        ),
+        (
+            Reader::Generics(GenericsReader::Param),
+            "const N: usize",
+            "const N : usize",
+        ),
+        (
+            Reader::Generics(GenericsReader::Param),
+            "const N: A = 1",
+            "const N : A = 1",
+        ),
+        (
+            Reader::Generics(GenericsReader::Param),
+            "const N: A = { 2 }",
+            "const N : A = { 2 }",
+        ),
+        (Reader::Generics(GenericsReader::Param), "#[a] T", "# [a] T"),
+        (Reader::Generics(GenericsReader::Param), "T:", "T"),
+        (Reader::Generics(GenericsReader::Param), "'a:", "'a"),
+        (
+            Reader::Generics(GenericsReader::Param),
+            "T = A + B",
+            "T = A + B",
+        ),
+        (
+            Reader::Generics(GenericsReader::Param),
+            "T: A B",
+            "unexpected token 5-6 5-6",
+        ),
+        (
+            Reader::Generics(GenericsReader::Param),
+            "_",
+            "expected one of: identifier, lifetime, `const` 0-1 0-1",
+        ),
+        (
+            Reader::Generics(GenericsReader::Param),
+            "fn",
+            "expected one of: identifier, lifetime, `const` 0-2 0-2",
+        ),
+        (
+            Reader::Generics(GenericsReader::Param),
+            "'a: A",
+            "expected lifetime 4-5 4-5",
+        ),
+        (
+            Reader::Generics(GenericsReader::Param),
+            "const N",
+            "unexpected end of input, expected `:` 0-0 0-0",
+        ),
+        (Reader::Generics(GenericsReader::LifetimeParam), "'a", "'a"),
+        (
+            Reader::Generics(GenericsReader::LifetimeParam),
+            "#[x] 'a: 'b +",
+            "# [x] 'a : 'b +",
+        ),
+        (
+            Reader::Generics(GenericsReader::LifetimeParam),
+            "T",
+            "expected lifetime 0-1 0-1",
+        ),
     ] {
-        says(
-            &rt,
-            alloc,
-            read(alloc, Reader::Generics(GenericsReader::Param), text),
-            wanted,
-        );
+        says(&rt, alloc, read(alloc, reader, text), wanted);
     }
 }
 
 #[test]
-fn lifetime_parameters_are_read(rt: HostRuntime) {
+fn type_and_const_parameters_are_read(rt: HostRuntime) {
     let alloc = rt.alloc();
-    for (text, wanted) in [
-        ("'a", "'a"),
-        ("#[x] 'a: 'b +", "# [x] 'a : 'b +"),
-        ("T", "TODO"),
+    for (reader, text, wanted) in [
+        (Reader::Generics(GenericsReader::TypeParam), "T", "T"),
+        (
+            Reader::Generics(GenericsReader::TypeParam),
+            "T: ?A + const B",
+            "T : ? A + const B",
+        ),
+        (
+            Reader::Generics(GenericsReader::TypeParam),
+            "T: use<'a>",
+            "`use<...>` precise capturing syntax is not allowed here 3-6 9-10",
+        ),
+        (
+            Reader::Generics(GenericsReader::TypeParam),
+            "'a",
+            "expected identifier 0-1 0-1",
+        ),
+        (
+            Reader::Generics(GenericsReader::TypeParam),
+            "fn",
+            "expected identifier 0-2 0-2",
+        ),
+        (
+            Reader::Generics(GenericsReader::ConstParam),
+            "const N: A",
+            "const N : A",
+        ),
+        (
+            Reader::Generics(GenericsReader::ConstParam),
+            "const N: A = -1",
+            "const N : A = - 1",
+        ),
+        (
+            Reader::Generics(GenericsReader::ConstParam),
+            "const N: A = B",
+            "const N : A = B",
+        ),
+        (
+            Reader::Generics(GenericsReader::ConstParam),
+            "T",
+            "expected `const` 0-1 0-1",
+        ),
     ] {
-        says(
-            &rt,
-            alloc,
-            read(alloc, Reader::Generics(GenericsReader::LifetimeParam), text),
-            wanted,
-        );
+        says(&rt, alloc, read(alloc, reader, text), wanted);
     }
 }
 
 #[test]
-fn type_parameters_are_read(rt: HostRuntime) {
+fn binders_and_captures_are_read(rt: HostRuntime) {
     let alloc = rt.alloc();
-    for (text, wanted) in [
-        ("T", "T"),
-        ("T: ?A + const B", "T : ? A + const B"),
-        ("T: use<'a>", "TODO"),
-        ("'a", "TODO"),
-        ("fn", "TODO"),
+    for (reader, text, wanted) in [
+        (
+            Reader::Generics(GenericsReader::BoundLifetimes),
+            "for<>",
+            "for < >",
+        ),
+        (
+            Reader::Generics(GenericsReader::BoundLifetimes),
+            "for<'a, 'b,>",
+            "for < 'a , 'b , >",
+        ),
+        (
+            Reader::Generics(GenericsReader::BoundLifetimes),
+            "for<T, const N: A>",
+            "for < T , const N : A >",
+        ),
+        (
+            Reader::Generics(GenericsReader::BoundLifetimes),
+            "for<_>",
+            "expected one of: identifier, lifetime, `const` 4-5 4-5",
+        ),
+        (
+            Reader::Generics(GenericsReader::BoundLifetimes),
+            "for",
+            "unexpected end of input, expected `<` 0-0 0-0",
+        ),
+        (
+            Reader::Generics(GenericsReader::BoundLifetimes),
+            "'a",
+            "expected `for` 0-1 0-1",
+        ),
+        (
+            Reader::Generics(GenericsReader::OptionalBoundLifetimes),
+            "",
+            "",
+        ),
+        (
+            Reader::Generics(GenericsReader::OptionalBoundLifetimes),
+            "for<'a>",
+            "for < 'a >",
+        ),
+        (
+            Reader::Generics(GenericsReader::Capture),
+            "use<>",
+            "use < >",
+        ),
+        (
+            Reader::Generics(GenericsReader::Capture),
+            "use<'a, T>",
+            "use < 'a , T >",
+        ),
+        (
+            Reader::Generics(GenericsReader::Capture),
+            "use<Self,>",
+            "use < Self , >",
+        ),
+        (
+            Reader::Generics(GenericsReader::Capture),
+            "use<1>",
+            "expected one of: lifetime, identifier, `>` 4-5 4-5",
+        ),
+        (
+            Reader::Generics(GenericsReader::Capture),
+            "use<'a b>",
+            "expected `,` or `>` 7-8 7-8",
+        ),
+        (
+            Reader::Generics(GenericsReader::Capture),
+            "use",
+            "unexpected end of input, expected `<` 0-0 0-0",
+        ),
+        (Reader::Generics(GenericsReader::Captured), "'a", "'a"),
+        (Reader::Generics(GenericsReader::Captured), "T", "T"),
+        (Reader::Generics(GenericsReader::Captured), "Self", "Self"),
+        (
+            Reader::Generics(GenericsReader::Captured),
+            "1",
+            "expected lifetime or identifier 0-1 0-1",
+        ),
+        (
+            Reader::Generics(GenericsReader::Captured),
+            "self",
+            "expected lifetime or identifier 0-4 0-4",
+        ),
     ] {
-        says(
-            &rt,
-            alloc,
-            read(alloc, Reader::Generics(GenericsReader::TypeParam), text),
-            wanted,
-        );
-    }
-}
-
-#[test]
-fn const_parameters_are_read(rt: HostRuntime) {
-    let alloc = rt.alloc();
-    for (text, wanted) in [
-        ("const N: A", "const N : A"),
-        ("const N: A = -1", "const N : A = - 1"),
-        ("const N: A = B", "const N : A = B"),
-        ("T", "TODO"),
-    ] {
-        says(
-            &rt,
-            alloc,
-            read(alloc, Reader::Generics(GenericsReader::ConstParam), text),
-            wanted,
-        );
-    }
-}
-
-#[test]
-fn binders_are_read(rt: HostRuntime) {
-    let alloc = rt.alloc();
-    for (text, wanted) in [
-        ("for<>", "for < >"),
-        ("for<'a, 'b,>", "for < 'a , 'b , >"),
-        ("for<T, const N: A>", "for < T , const N : A >"),
-        ("for<_>", "TODO"),
-        ("for", "TODO"),
-        ("'a", "TODO"),
-    ] {
-        says(
-            &rt,
-            alloc,
-            read(alloc, Reader::Generics(GenericsReader::BoundLifetimes), text),
-            wanted,
-        );
-    }
-}
-
-#[test]
-fn optional_binders_are_read(rt: HostRuntime) {
-    let alloc = rt.alloc();
-    for (text, wanted) in [
-        ("", ""),
-        ("for<'a>", "for < 'a >"),
-    ] {
-        says(
-            &rt,
-            alloc,
-            read(alloc, Reader::Generics(GenericsReader::OptionalBoundLifetimes), text),
-            wanted,
-        );
-    }
-}
-
-#[test]
-fn captures_are_read(rt: HostRuntime) {
-    let alloc = rt.alloc();
-    for (text, wanted) in [
-        ("use<>", "use < >"),
-        ("use<'a, T>", "use < 'a , T >"),
-        ("use<Self,>", "use < Self , >"),
-        ("use<1>", "TODO"),
-        ("use<'a b>", "TODO"),
-        ("use", "TODO"),
-    ] {
-        says(
-            &rt,
-            alloc,
-            read(alloc, Reader::Generics(GenericsReader::Capture), text),
-            wanted,
-        );
-    }
-}
-
-#[test]
-fn captured_parameters_are_read(rt: HostRuntime) {
-    let alloc = rt.alloc();
-    for (text, wanted) in [
-        ("'a", "'a"),
-        ("T", "T"),
-        ("Self", "Self"),
-        ("1", "TODO"),
-        ("self", "TODO"),
-    ] {
-        says(
-            &rt,
-            alloc,
-            read(alloc, Reader::Generics(GenericsReader::Captured), text),
-            wanted,
-        );
+        says(&rt, alloc, read(alloc, reader, text), wanted);
     }
 }
 
