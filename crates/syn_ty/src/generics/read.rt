@@ -344,22 +344,56 @@ impl<
     'a,
     A: Attributes,
     E: Value,
-    F: Fn(Global, PhantomData<TypeOf<A, E>>, &mut ParseStream<'_>, TypePlace) -> Result<TypeOf<A, E>, Error> + Copy,
-    G: Fn(Global, PhantomData<TypeParamBoundOf<A, E>>, &mut ParseStream<'_>, BoundPlace) -> Result<TypeParamBoundOf<A, E>, Error> + Copy,
-    H: Fn(Global, PhantomData<GenericParamOf<A, E>>, &mut ParseStream<'_>, ParamPlace) -> Result<GenericParamOf<A, E>, Error> + Copy,
-    I: Fn(Global, PhantomData<GenericArgumentOf<A, E>>, &mut ParseStream<'_>, ()) -> Result<GenericArgumentOf<A, E>, Error> + Copy,
-    J: Fn(Global, PhantomData<PathArgumentsOf<A, E>>, &mut ParseStream<'_>, ()) -> Result<PathArgumentsOf<A, E>, Error> + Copy,
+    F: Fn(
+        Global,
+        PhantomData<TypeOf<A, E>>,
+        &mut ParseStream<'_>,
+        TypePlace,
+    ) -> Result<TypeOf<A, E>, Error>
+        + Copy,
+    G: Fn(
+        Global,
+        PhantomData<TypeParamBoundOf<A, E>>,
+        &mut ParseStream<'_>,
+        BoundPlace,
+    ) -> Result<TypeParamBoundOf<A, E>, Error>
+        + Copy,
+    H: Fn(
+        Global,
+        PhantomData<GenericParamOf<A, E>>,
+        &mut ParseStream<'_>,
+        ParamPlace,
+    ) -> Result<GenericParamOf<A, E>, Error>
+        + Copy,
+    I: Fn(
+        Global,
+        PhantomData<GenericArgumentOf<A, E>>,
+        &mut ParseStream<'_>,
+        (),
+    ) -> Result<GenericArgumentOf<A, E>, Error>
+        + Copy,
+    J: Fn(
+        Global,
+        PhantomData<PathArgumentsOf<A, E>>,
+        &mut ParseStream<'_>,
+        (),
+    ) -> Result<PathArgumentsOf<A, E>, Error>
+        + Copy,
 > Grammar<'a, A, E, F, G, H, I, J> {
     /// A binder: `for<'a, 'b>`.
     #[tactic(auto, using(token_core::proofs::Suffixes::follows, syn_forms::proofs::nested_laws::Ahead::later), unfolding(crate::specs::generics::Reading::binder))]
-    pub fn binder(&self, input: &mut ParseStream<'_>) -> Result<BoundLifetimesOf<GenericParamOf<A, E>>, Error>
+    pub fn binder(
+        &self,
+        input: &mut ParseStream<'_>,
+    ) -> Result<BoundLifetimesOf<GenericParamOf<A, E>>, Error>
         requires params { Nests (knot.param A.reads E.reads) (length self.now.begin) (H.pre self.now.params) (H.post self.now.params) }
         requires few { ahead input.old ≤ length self.now.begin }
         ensures parses { Parses (reading.binder (knot.reads_below A.reads E.reads (length self.now.begin))) result input.old input.new }
         ensures fewer { ahead input.new ≤ ahead input.old }
     {
-        let (for_token, (lt_token, lifetimes, gt_token)) =
-            self.params().binder(input, ParamPlace::Binder)?;
+        let (for_token, (lt_token, lifetimes, gt_token)) = self
+            .params()
+            .binder(input, ParamPlace::Binder)?;
         Ok(BoundLifetimesOf {
             for_token,
             lt_token,
@@ -589,8 +623,13 @@ impl<
         ensures parses { Parses (reading.type_after A.reads E.reads (knot.reads_below A.reads E.reads (length self.now.begin)) attrs) result input.old input.new }
     {
         let (bounds, types) = (self.bounds(), self.types());
-        let (ident, colon_token, bounds, default) =
-            type_parts(&bounds, &types, input, BoundPlace::Parameter, TypePlace::Plus)?;
+        let (ident, colon_token, bounds, default) = type_parts(
+            &bounds,
+            &types,
+            input,
+            BoundPlace::Parameter,
+            TypePlace::Plus,
+        )?;
         Ok(TypeParamOf {
             attrs,
             ident,
@@ -623,8 +662,11 @@ impl<
         requires few { ahead input.old ≤ length self.now.begin }
         ensures parses { Parses (reading.const_after A.reads E.reads (knot.reads_below A.reads E.reads (length self.now.begin)) attrs) result input.old input.new }
     {
-        let (const_token, ident, colon_token, ty, default) =
-            const_parts(&self.types(), input, TypePlace::Plus)?;
+        let (const_token, ident, colon_token, ty, default) = const_parts(
+            &self.types(),
+            input,
+            TypePlace::Plus,
+        )?;
         Ok(ConstParamOf {
             attrs,
             const_token,
