@@ -9,7 +9,7 @@ use crate::path::{GenericArgumentOf, PathArgumentsOf};
 use crate::ty::TypeOf;
 use std::alloc::Global;
 use std::marker::PhantomData;
-use syn_forms::nested::Tree;
+use syn_forms::nested::{Held, Tree};
 use syn_forms::places::{BoundPlace, ParamPlace, TypePlace};
 use syn_path::supplied::{Attributes, Value};
 use token_core::{Error, ParseStream};
@@ -152,6 +152,78 @@ pub fn parse_arguments<A: Attributes, E: Value>(
         segments: parse_arguments::<A, E>,
     }
     .arguments_step(input)
+}
+
+// ---- for forms by themselves: what they hold is read by the knot
+
+impl<A: Attributes, E: Value> Held<TypePlace> for TypeOf<A, E> {
+    fn parse_held(
+        alloc: Global,
+        of: PhantomData<TypeOf<A, E>>,
+        input: &mut ParseStream<'_>,
+        place: TypePlace,
+    ) -> Result<TypeOf<A, E>, Error>
+        ensures reads { Reads (knot.ty A.reads E.reads place input.old) result input.new }
+        ensures within { Follows input.old input.new }
+    {
+        parse_type(alloc, of, input, place)
+    }
+}
+
+impl<A: Attributes, E: Value> Held<BoundPlace> for TypeParamBoundOf<A, E> {
+    fn parse_held(
+        alloc: Global,
+        of: PhantomData<TypeParamBoundOf<A, E>>,
+        input: &mut ParseStream<'_>,
+        place: BoundPlace,
+    ) -> Result<TypeParamBoundOf<A, E>, Error>
+        ensures reads { Reads (knot.bound A.reads E.reads place input.old) result input.new }
+        ensures within { Follows input.old input.new }
+    {
+        parse_bound(alloc, of, input, place)
+    }
+}
+
+impl<A: Attributes, E: Value> Held<ParamPlace> for GenericParamOf<A, E> {
+    fn parse_held(
+        alloc: Global,
+        of: PhantomData<GenericParamOf<A, E>>,
+        input: &mut ParseStream<'_>,
+        place: ParamPlace,
+    ) -> Result<GenericParamOf<A, E>, Error>
+        ensures reads { Reads (knot.param A.reads E.reads place input.old) result input.new }
+        ensures within { Follows input.old input.new }
+    {
+        parse_param(alloc, of, input, place)
+    }
+}
+
+impl<A: Attributes, E: Value> Held<()> for GenericArgumentOf<A, E> {
+    fn parse_held(
+        alloc: Global,
+        of: PhantomData<GenericArgumentOf<A, E>>,
+        input: &mut ParseStream<'_>,
+        place: (),
+    ) -> Result<GenericArgumentOf<A, E>, Error>
+        ensures reads { Reads (knot.argument A.reads E.reads input.old) result input.new }
+        ensures within { Follows input.old input.new }
+    {
+        parse_argument(alloc, of, input, place)
+    }
+}
+
+impl<A: Attributes, E: Value> Held<()> for PathArgumentsOf<A, E> {
+    fn parse_held(
+        alloc: Global,
+        of: PhantomData<PathArgumentsOf<A, E>>,
+        input: &mut ParseStream<'_>,
+        place: (),
+    ) -> Result<PathArgumentsOf<A, E>, Error>
+        ensures reads { Reads (knot.arguments A.reads E.reads input.old) result input.new }
+        ensures within { Follows input.old input.new }
+    {
+        parse_arguments(alloc, of, input, place)
+    }
 }
 
 /// The knot, for forms by themselves: what they hold is read by its functions.
