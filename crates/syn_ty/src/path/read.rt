@@ -1,7 +1,9 @@
 //! Paths and their arguments are read.
 
 ghost use Rattle.std.specs.Prelude.{◌≡◌, ◌<◌, ◌≤◌, length, [], None, is_some};
+ghost use Rattle.syn_forms.specs.declared.places.BoundPlace.TheVariants as bound_places;
 ghost use Rattle.syn_forms.specs.declared.places.TypePlace.TheVariants as places;
+ghost use Rattle.syn_forms.specs.lists.Reading.{bounds_to};
 ghost use Rattle.syn_forms.specs.nested.Below.{Nests, ahead};
 ghost use Rattle.syn_path.specs.declared.path.PathStyle.TheVariants as styles;
 ghost use Rattle.syn_ty.specs.declared.path.GenericArgumentOf.TheVariants as arguments;
@@ -10,6 +12,7 @@ ghost use Rattle.syn_ty.specs.declared.ty.TypePathOf.{out-TypePathOf};
 ghost use Rattle.syn_ty.specs.path.Paths as spec;
 ghost use Rattle.syn_ty.specs.path.Reading as reading;
 ghost use Rattle.syn_ty.specs.ty.Knot as knot;
+ghost use Rattle.syn_ty.specs.ty.Points.{a_bound};
 ghost use Rattle.syn_ty.specs.ty.Reading as types;
 ghost use Rattle.syn_ty.specs.ty.Types as parts;
 ghost use Rattle.token_core.specs.Reads.{Reads, Follows, Gives, Fails, Parses};
@@ -523,7 +526,7 @@ impl<
 
     /// The path of a trait with the signature that may follow it: `Fn(A) -> B`, `Fn::(A) -> B`. The signature takes the place
     /// of an empty `<>`, and the `::` before it is not kept.
-    #[tactic(auto, using(token_core::proofs::Suffixes::follows, syn_forms::proofs::nested_laws::Ahead::later), unfolding(crate::specs::path::Reading::signed))]
+    #[tactic(auto, using(token_core::proofs::Suffixes::follows, syn_forms::proofs::nested_laws::Ahead::later, crate::proofs::path_laws::Signed::steps), unfolding(crate::specs::path::Reading::signed))]
     pub fn signed(
         &self,
         input: &mut ParseStream<'_>,
@@ -565,6 +568,19 @@ impl<
         Ok(assoc_type(item, eq_token, ty))
     }
 
+    /// Bounds up to `,` or `>`. There may be none.
+    fn constraint_bounds(
+        &self,
+        input: &mut ParseStream<'_>,
+    ) -> Result<Punctuated<TypeParamBoundOf<A, E>, Plus>, Error>
+        requires bounds { Nests (knot.bound A.reads E.reads) (length self.now.begin) (G.pre self.now.bounds) (G.post self.now.bounds) }
+        requires few { ahead input.old < length self.now.begin }
+        ensures parses { Parses (bounds_to (knot.reads_below A.reads E.reads (length self.now.begin) (a_bound bound_places.Parameter)) reading.ends_constraint) result input.old input.new }
+    {
+        self.bounds()
+            .list(input, BoundPlace::Parameter, ToConstraintEnd)
+    }
+
     /// The bounds of an associated type, after the `:`: `Item: A + B`. There may be none.
     #[tactic(auto, using(token_core::proofs::Suffixes::follows))]
     fn constraint(
@@ -577,9 +593,7 @@ impl<
         requires few { ahead input.old < length self.now.begin }
         ensures parses { Parses (reading.constraint E.reads (knot.reads_below A.reads E.reads (length self.now.begin)) item.0 item.1 colon_token) result input.old input.new }
     {
-        let bounds = self
-            .bounds()
-            .list(input, BoundPlace::Parameter, ToConstraintEnd)?;
+        let bounds = self.constraint_bounds(input)?;
         Ok(constraint_of(item, colon_token, bounds))
     }
 
