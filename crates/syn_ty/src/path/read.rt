@@ -1,7 +1,9 @@
 //! Paths and their arguments are read.
 
 ghost use Rattle.std.specs.Prelude.{◌≡◌, ◌<◌, ◌≤◌, length, [], None, is_some};
+ghost use Rattle.syn_forms.specs.declared.places.BoundPlace.TheVariants as bound_places;
 ghost use Rattle.syn_forms.specs.declared.places.TypePlace.TheVariants as places;
+ghost use Rattle.syn_forms.specs.lists.Reading.{bounds_to};
 ghost use Rattle.syn_forms.specs.nested.Below.{Nests, ahead};
 ghost use Rattle.syn_path.specs.declared.path.PathStyle.TheVariants as styles;
 ghost use Rattle.syn_ty.specs.declared.path.GenericArgumentOf.TheVariants as arguments;
@@ -10,14 +12,14 @@ ghost use Rattle.syn_ty.specs.declared.ty.TypePathOf.{out-TypePathOf};
 ghost use Rattle.syn_ty.specs.path.Paths as spec;
 ghost use Rattle.syn_ty.specs.path.Reading as reading;
 ghost use Rattle.syn_ty.specs.ty.Knot as knot;
+ghost use Rattle.syn_ty.specs.ty.Points.{a_bound};
 ghost use Rattle.syn_ty.specs.ty.Reading as types;
 ghost use Rattle.syn_ty.specs.ty.Types as parts;
-ghost use Rattle.token_core.specs.Reads.{Reads, Follows, Gives, Fails, Parses, ◌>>=◌};
+ghost use Rattle.token_core.specs.Reads.{Reads, Follows, Gives, Fails, Parses};
 ghost use Rattle.token_core.specs.Tokens as token;
 
 use crate::generics::{GenericParamOf, TypeParamBoundOf};
-use crate::grammar::{Grammar, Points};
-use crate::knot::Knot;
+use crate::grammar::Grammar;
 use crate::path::{
     AngleBracketedGenericArgumentsOf, AssocConstOf, AssocTypeOf, ConstraintOf, GenericArgumentOf,
     ParenthesizedGenericArgumentsOf, PathArgumentsOf,
@@ -27,6 +29,7 @@ use std::alloc::Global;
 use std::marker::PhantomData;
 use syn_forms::lists::{End, Make};
 use syn_forms::paths::{last_arguments, with_last_arguments};
+use syn_forms::nested::Held;
 use syn_forms::places::{BoundPlace, ParamPlace, TypePlace};
 use syn_forms::tokens::{parse_any_lifetime, parse_colon, parse_eq, parse_plus};
 use syn_path::path::{PathOf, PathSegmentOf, PathStyle, QSelfOf, ReadArguments};
@@ -175,7 +178,9 @@ fn into_generics<A: Attributes, E: Value>(
 }
 
 /// The name that a segment is, and its arguments.
-fn segment_into_item<A: Attributes, E: Value>(segment: PathSegmentOf<PathArgumentsOf<A, E>>) -> Option<Item<A, E>>
+fn segment_into_item<A: Attributes, E: Value>(
+    segment: PathSegmentOf<PathArgumentsOf<A, E>>,
+) -> Option<Item<A, E>>
     ensures { result ≡ reading.with_name segment.ident (reading.generics_layer (out-PathArgumentsOf A E segment.arguments)) }
 {
     let PathSegmentOf { ident, arguments } = segment;
@@ -521,7 +526,7 @@ impl<
 
     /// The path of a trait with the signature that may follow it: `Fn(A) -> B`, `Fn::(A) -> B`. The signature takes the place
     /// of an empty `<>`, and the `::` before it is not kept.
-    #[tactic(auto, using(token_core::proofs::Suffixes::follows, syn_forms::proofs::nested_laws::Ahead::later), unfolding(crate::specs::path::Reading::signed))]
+    #[tactic(auto, using(token_core::proofs::Suffixes::follows, syn_forms::proofs::nested_laws::Ahead::later, crate::proofs::path_laws::Signed::steps), unfolding(crate::specs::path::Reading::signed))]
     pub fn signed(
         &self,
         input: &mut ParseStream<'_>,
@@ -543,18 +548,18 @@ impl<
 
     // ---- an argument in angle brackets
 
-    /// What an associated item is: `Item = T`, `N = 1`. A literal or braces after `=` are a constant.
+    /// What an associated item is, after the `=`: `Item = T`, `N = 1`. A literal or braces are a constant.
     #[tactic(auto, using(token_core::proofs::Suffixes::follows))]
     fn assoc(
         &self,
         input: &mut ParseStream<'_>,
         item: Item<A, E>,
+        eq_token: Eq,
     ) -> Result<GenericArgumentOf<A, E>, Error>
         requires types { Nests (knot.ty A.reads E.reads) (length self.now.begin) (F.pre self.now.types) (F.post self.now.types) }
-        requires few { ahead input.old ≤ length self.now.begin }
-        ensures parses { Parses (token.equals >>= reading.assoc E.reads (knot.reads_below A.reads E.reads (length self.now.begin)) item.0 item.1) result input.old input.new }
+        requires few { ahead input.old < length self.now.begin }
+        ensures parses { Parses (reading.assoc E.reads (knot.reads_below A.reads E.reads (length self.now.begin)) item.0 item.1 eq_token) result input.old input.new }
     {
-        let eq_token = parse_eq(self.alloc, input)?;
         if peek_const(input) {
             let value = E::read_const_argument(self.alloc, input)?;
             return Ok(assoc_const(item, eq_token, value));
@@ -563,21 +568,32 @@ impl<
         Ok(assoc_type(item, eq_token, ty))
     }
 
-    /// The bounds of an associated type: `Item: A + B`. There may be none.
+    /// Bounds up to `,` or `>`. There may be none.
+    fn constraint_bounds(
+        &self,
+        input: &mut ParseStream<'_>,
+    ) -> Result<Punctuated<TypeParamBoundOf<A, E>, Plus>, Error>
+        requires bounds { Nests (knot.bound A.reads E.reads) (length self.now.begin) (G.pre self.now.bounds) (G.post self.now.bounds) }
+        requires few { ahead input.old < length self.now.begin }
+        ensures parses { Parses (bounds_to (knot.reads_below A.reads E.reads (length self.now.begin) (a_bound bound_places.Parameter)) reading.ends_constraint) result input.old input.new }
+    {
+        self.bounds()
+            .list(input, BoundPlace::Parameter, ToConstraintEnd)
+    }
+
+    /// The bounds of an associated type, after the `:`: `Item: A + B`. There may be none.
     #[tactic(auto, using(token_core::proofs::Suffixes::follows))]
     fn constraint(
         &self,
         input: &mut ParseStream<'_>,
         item: Item<A, E>,
+        colon_token: Colon,
     ) -> Result<GenericArgumentOf<A, E>, Error>
         requires bounds { Nests (knot.bound A.reads E.reads) (length self.now.begin) (G.pre self.now.bounds) (G.post self.now.bounds) }
-        requires few { ahead input.old ≤ length self.now.begin }
-        ensures parses { Parses (token.colon >>= reading.constraint E.reads (knot.reads_below A.reads E.reads (length self.now.begin)) item.0 item.1) result input.old input.new }
+        requires few { ahead input.old < length self.now.begin }
+        ensures parses { Parses (reading.constraint E.reads (knot.reads_below A.reads E.reads (length self.now.begin)) item.0 item.1 colon_token) result input.old input.new }
     {
-        let colon_token = parse_colon(self.alloc, input)?;
-        let bounds = self
-            .bounds()
-            .list(input, BoundPlace::Parameter, ToConstraintEnd)?;
+        let bounds = self.constraint_bounds(input)?;
         Ok(constraint_of(item, colon_token, bounds))
     }
 
@@ -597,14 +613,16 @@ impl<
             return Ok(GenericArgumentOf::Type(ty));
         }
         if input.peek::<Eq>() {
+            let eq_token = parse_eq(self.alloc, input)?;
             return match into_item(ty) {
-                Some(item) => self.assoc(input, item),
+                Some(item) => self.assoc(input, item, eq_token),
                 None => unreachable!(),
             };
         }
         if input.peek::<Colon>() {
+            let colon_token = parse_colon(self.alloc, input)?;
             return match into_item(ty) {
-                Some(item) => self.constraint(input, item),
+                Some(item) => self.constraint(input, item, colon_token),
                 None => unreachable!(),
             };
         }
@@ -643,7 +661,7 @@ impl<
 
 /// A path by itself, in this style.
 #[tactic(auto, unfolding(crate::specs::ty::Knot::path))]
-fn parse_path<A: Attributes, E: Value, K: Points<A, E>>(
+fn parse_path<A: Attributes, E: Value>(
     alloc: Global,
     input: &mut ParseStream<'_>,
     style: PathStyle,
@@ -654,18 +672,18 @@ fn parse_path<A: Attributes, E: Value, K: Points<A, E>>(
         alloc,
         of: PhantomData,
         begin: input.cursor(),
-        types: K::read_type,
-        bounds: K::read_bound,
-        params: K::read_param,
-        args: K::read_argument,
-        segments: K::read_arguments,
+        types: <TypeOf<A, E> as Held<TypePlace>>::parse_held,
+        bounds: <TypeParamBoundOf<A, E> as Held<BoundPlace>>::parse_held,
+        params: <GenericParamOf<A, E> as Held<ParamPlace>>::parse_held,
+        args: <GenericArgumentOf<A, E> as Held<()>>::parse_held,
+        segments: <PathArgumentsOf<A, E> as Held<()>>::parse_held,
     }
     .path(input, style)
 }
 
 /// A segment by itself.
 #[tactic(auto, unfolding(crate::specs::ty::Knot::segment))]
-fn parse_segment<A: Attributes, E: Value, K: Points<A, E>>(
+fn parse_segment<A: Attributes, E: Value>(
     alloc: Global,
     input: &mut ParseStream<'_>,
 ) -> Result<PathSegmentOf<PathArgumentsOf<A, E>>, Error>
@@ -675,18 +693,18 @@ fn parse_segment<A: Attributes, E: Value, K: Points<A, E>>(
         alloc,
         of: PhantomData,
         begin: input.cursor(),
-        types: K::read_type,
-        bounds: K::read_bound,
-        params: K::read_param,
-        args: K::read_argument,
-        segments: K::read_arguments,
+        types: <TypeOf<A, E> as Held<TypePlace>>::parse_held,
+        bounds: <TypeParamBoundOf<A, E> as Held<BoundPlace>>::parse_held,
+        params: <GenericParamOf<A, E> as Held<ParamPlace>>::parse_held,
+        args: <GenericArgumentOf<A, E> as Held<()>>::parse_held,
+        segments: <PathArgumentsOf<A, E> as Held<()>>::parse_held,
     }
     .segment(input, PathStyle::AsWritten)
 }
 
 /// Arguments in angle brackets by themselves.
 #[tactic(auto, unfolding(crate::specs::ty::Knot::angle_bracketed))]
-fn parse_angle_bracketed<A: Attributes, E: Value, K: Points<A, E>>(
+fn parse_angle_bracketed<A: Attributes, E: Value>(
     alloc: Global,
     input: &mut ParseStream<'_>,
 ) -> Result<AngleBracketedGenericArgumentsOf<GenericArgumentOf<A, E>>, Error>
@@ -696,18 +714,18 @@ fn parse_angle_bracketed<A: Attributes, E: Value, K: Points<A, E>>(
         alloc,
         of: PhantomData,
         begin: input.cursor(),
-        types: K::read_type,
-        bounds: K::read_bound,
-        params: K::read_param,
-        args: K::read_argument,
-        segments: K::read_arguments,
+        types: <TypeOf<A, E> as Held<TypePlace>>::parse_held,
+        bounds: <TypeParamBoundOf<A, E> as Held<BoundPlace>>::parse_held,
+        params: <GenericParamOf<A, E> as Held<ParamPlace>>::parse_held,
+        args: <GenericArgumentOf<A, E> as Held<()>>::parse_held,
+        segments: <PathArgumentsOf<A, E> as Held<()>>::parse_held,
     }
     .angle_bracketed(input)
 }
 
 /// Arguments in angle brackets by themselves, after a `::`.
 #[tactic(auto, unfolding(crate::specs::ty::Knot::turbofish))]
-fn parse_turbofish<A: Attributes, E: Value, K: Points<A, E>>(
+fn parse_turbofish<A: Attributes, E: Value>(
     alloc: Global,
     input: &mut ParseStream<'_>,
 ) -> Result<AngleBracketedGenericArgumentsOf<GenericArgumentOf<A, E>>, Error>
@@ -717,18 +735,18 @@ fn parse_turbofish<A: Attributes, E: Value, K: Points<A, E>>(
         alloc,
         of: PhantomData,
         begin: input.cursor(),
-        types: K::read_type,
-        bounds: K::read_bound,
-        params: K::read_param,
-        args: K::read_argument,
-        segments: K::read_arguments,
+        types: <TypeOf<A, E> as Held<TypePlace>>::parse_held,
+        bounds: <TypeParamBoundOf<A, E> as Held<BoundPlace>>::parse_held,
+        params: <GenericParamOf<A, E> as Held<ParamPlace>>::parse_held,
+        args: <GenericArgumentOf<A, E> as Held<()>>::parse_held,
+        segments: <PathArgumentsOf<A, E> as Held<()>>::parse_held,
     }
     .turbofish(input)
 }
 
 /// Arguments in parentheses by themselves.
 #[tactic(auto, unfolding(crate::specs::ty::Knot::parenthesized))]
-fn parse_parenthesized<A: Attributes, E: Value, K: Points<A, E>>(
+fn parse_parenthesized<A: Attributes, E: Value>(
     alloc: Global,
     input: &mut ParseStream<'_>,
 ) -> Result<ParenthesizedGenericArgumentsOf<TypeOf<A, E>, A>, Error>
@@ -738,23 +756,23 @@ fn parse_parenthesized<A: Attributes, E: Value, K: Points<A, E>>(
         alloc,
         of: PhantomData,
         begin: input.cursor(),
-        types: K::read_type,
-        bounds: K::read_bound,
-        params: K::read_param,
-        args: K::read_argument,
-        segments: K::read_arguments,
+        types: <TypeOf<A, E> as Held<TypePlace>>::parse_held,
+        bounds: <TypeParamBoundOf<A, E> as Held<BoundPlace>>::parse_held,
+        params: <GenericParamOf<A, E> as Held<ParamPlace>>::parse_held,
+        args: <GenericArgumentOf<A, E> as Held<()>>::parse_held,
+        segments: <PathArgumentsOf<A, E> as Held<()>>::parse_held,
     }
     .parenthesized(input)
 }
 
 /// An argument in angle brackets by itself.
-fn parse_argument<A: Attributes, E: Value, K: Points<A, E>>(
+fn parse_argument<A: Attributes, E: Value>(
     alloc: Global,
     input: &mut ParseStream<'_>,
 ) -> Result<GenericArgumentOf<A, E>, Error>
     ensures parses { Parses (knot.argument A.reads E.reads) result input.old input.new }
 {
-    K::read_argument(alloc, PhantomData, input, ())
+    <GenericArgumentOf<A, E> as Held<()>>::parse_held(alloc, PhantomData, input, ())
 }
 
 /// Reads paths and segments as they stand in types.
@@ -775,14 +793,14 @@ impl<A: Attributes, E: Value> ReadArguments for PathArgumentsOf<A, E> {
         alloc: Global,
         input: &mut ParseStream<'_>,
     ) -> Result<PathOf<PathArgumentsOf<A, E>>, Error> {
-        parse_path::<A, E, Knot>(alloc, input, PathStyle::AsWritten)
+        parse_path::<A, E>(alloc, input, PathStyle::AsWritten)
     }
 
     fn parse_segment(
         alloc: Global,
         input: &mut ParseStream<'_>,
     ) -> Result<PathSegmentOf<PathArgumentsOf<A, E>>, Error> {
-        parse_segment::<A, E, Knot>(alloc, input)
+        parse_segment::<A, E>(alloc, input)
     }
 }
 
@@ -806,7 +824,7 @@ impl<A: Attributes, E: Value> Parse for GenericArgumentOf<A, E> {
         ensures reads { Reads (knot.argument A.reads E.reads input.old) result input.new }
         ensures within { Follows input.old input.new }
     {
-        parse_argument::<A, E, Knot>(alloc, input)
+        parse_argument::<A, E>(alloc, input)
     }
 }
 
@@ -831,7 +849,7 @@ impl<A: Attributes, E: Value> Parse for AngleBracketedGenericArgumentsOf<Generic
         ensures reads { Reads (knot.angle_bracketed A.reads E.reads input.old) result input.new }
         ensures within { Follows input.old input.new }
     {
-        parse_angle_bracketed::<A, E, Knot>(alloc, input)
+        parse_angle_bracketed::<A, E>(alloc, input)
     }
 }
 
@@ -850,7 +868,7 @@ impl<A: Attributes, E: Value> AngleBracketedGenericArgumentsOf<GenericArgumentOf
     ) -> Result<AngleBracketedGenericArgumentsOf<GenericArgumentOf<A, E>>, Error>
         ensures parses { Parses (knot.turbofish A.reads E.reads) result input.old input.new }
     {
-        parse_turbofish::<A, E, Knot>(alloc, input)
+        parse_turbofish::<A, E>(alloc, input)
     }
 }
 
@@ -875,6 +893,6 @@ impl<A: Attributes, E: Value> Parse for ParenthesizedGenericArgumentsOf<TypeOf<A
         ensures reads { Reads (knot.parenthesized A.reads E.reads input.old) result input.new }
         ensures within { Follows input.old input.new }
     {
-        parse_parenthesized::<A, E, Knot>(alloc, input)
+        parse_parenthesized::<A, E>(alloc, input)
     }
 }
