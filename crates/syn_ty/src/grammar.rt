@@ -5,8 +5,6 @@
 //! began. `knot` ties them together. The readers stand with their forms: `path::read`, `generics::read`, `ty::read`.
 
 ghost use Rattle.std.specs.Prelude.{◌≡◌};
-ghost use Rattle.syn_ty.specs.ty.Knot as knot;
-ghost use Rattle.token_core.specs.Reads.{Parses};
 
 use crate::generics::{GenericParamOf, TypeParamBoundOf};
 use crate::path::{GenericArgumentOf, PathArgumentsOf};
@@ -15,8 +13,7 @@ use std::alloc::Global;
 use std::marker::PhantomData;
 use syn_forms::nested::Nested;
 use syn_forms::places::{BoundPlace, ParamPlace, TypePlace};
-use syn_path::supplied::{Attributes, Value};
-use token_core::{Cursor, Error, ParseStream};
+use token_core::Cursor;
 
 /// One turn of the readers.
 #[derive(Drop)]
@@ -102,47 +99,4 @@ impl<'a, A, E, F: Copy, G: Copy, H: Copy, I: Copy, J: Copy> Grammar<'a, A, E, F,
             read: self.segments,
         }
     }
-}
-
-/// The readers of the knot, as a form by itself hands them on: its function values are of this trait's methods.
-pub trait Points<A: Attributes, E: Value>: Drop {
-    fn read_type(
-        alloc: Global,
-        of: PhantomData<TypeOf<A, E>>,
-        input: &mut ParseStream<'_>,
-        place: TypePlace,
-    ) -> Result<TypeOf<A, E>, Error>
-        ensures parses { Parses (knot.ty A.reads E.reads place) result input.old input.new };
-
-    fn read_bound(
-        alloc: Global,
-        of: PhantomData<TypeParamBoundOf<A, E>>,
-        input: &mut ParseStream<'_>,
-        place: BoundPlace,
-    ) -> Result<TypeParamBoundOf<A, E>, Error>
-        ensures parses { Parses (knot.bound A.reads E.reads place) result input.old input.new };
-
-    fn read_param(
-        alloc: Global,
-        of: PhantomData<GenericParamOf<A, E>>,
-        input: &mut ParseStream<'_>,
-        place: ParamPlace,
-    ) -> Result<GenericParamOf<A, E>, Error>
-        ensures parses { Parses (knot.param A.reads E.reads place) result input.old input.new };
-
-    fn read_argument(
-        alloc: Global,
-        of: PhantomData<GenericArgumentOf<A, E>>,
-        input: &mut ParseStream<'_>,
-        place: (),
-    ) -> Result<GenericArgumentOf<A, E>, Error>
-        ensures parses { Parses (knot.argument A.reads E.reads) result input.old input.new };
-
-    fn read_arguments(
-        alloc: Global,
-        of: PhantomData<PathArgumentsOf<A, E>>,
-        input: &mut ParseStream<'_>,
-        place: (),
-    ) -> Result<PathArgumentsOf<A, E>, Error>
-        ensures parses { Parses (knot.arguments A.reads E.reads) result input.old input.new };
 }

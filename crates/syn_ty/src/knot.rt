@@ -4,7 +4,7 @@ ghost use Rattle.token_core.specs.Reads.{Reads, Follows, Parses};
 ghost use Rattle.syn_ty.specs.ty.Knot as knot;
 
 use crate::generics::{GenericParamOf, TypeParamBoundOf};
-use crate::grammar::{Grammar, Points};
+use crate::grammar::Grammar;
 use crate::path::{GenericArgumentOf, PathArgumentsOf};
 use crate::ty::TypeOf;
 use std::alloc::Global;
@@ -222,57 +222,6 @@ impl<A: Attributes, E: Value> Held<()> for PathArgumentsOf<A, E> {
         ensures reads { Reads (knot.arguments A.reads E.reads input.old) result input.new }
         ensures within { Follows input.old input.new }
     {
-        parse_arguments(alloc, of, input, place)
-    }
-}
-
-/// The knot, for forms by themselves: what they hold is read by its functions.
-#[derive(Drop)]
-pub struct Knot {}
-
-impl<A: Attributes, E: Value> Points<A, E> for Knot {
-    fn read_type(
-        alloc: Global,
-        of: PhantomData<TypeOf<A, E>>,
-        input: &mut ParseStream<'_>,
-        place: TypePlace,
-    ) -> Result<TypeOf<A, E>, Error> {
-        parse_type(alloc, of, input, place)
-    }
-
-    fn read_bound(
-        alloc: Global,
-        of: PhantomData<TypeParamBoundOf<A, E>>,
-        input: &mut ParseStream<'_>,
-        place: BoundPlace,
-    ) -> Result<TypeParamBoundOf<A, E>, Error> {
-        parse_bound(alloc, of, input, place)
-    }
-
-    fn read_param(
-        alloc: Global,
-        of: PhantomData<GenericParamOf<A, E>>,
-        input: &mut ParseStream<'_>,
-        place: ParamPlace,
-    ) -> Result<GenericParamOf<A, E>, Error> {
-        parse_param(alloc, of, input, place)
-    }
-
-    fn read_argument(
-        alloc: Global,
-        of: PhantomData<GenericArgumentOf<A, E>>,
-        input: &mut ParseStream<'_>,
-        place: (),
-    ) -> Result<GenericArgumentOf<A, E>, Error> {
-        parse_argument(alloc, of, input, place)
-    }
-
-    fn read_arguments(
-        alloc: Global,
-        of: PhantomData<PathArgumentsOf<A, E>>,
-        input: &mut ParseStream<'_>,
-        place: (),
-    ) -> Result<PathArgumentsOf<A, E>, Error> {
         parse_arguments(alloc, of, input, place)
     }
 }
