@@ -15,13 +15,10 @@ ghost use Rattle.syn_path.specs.path.Grammars as grammars;
 ghost use Rattle.syn_path.specs.path.Paths as spec;
 ghost use Rattle.syn_path.specs.path.Reading as reading;
 ghost use Rattle.syn_path.specs.path.Shapes as shapes;
-ghost use Rattle.syn_path.specs.path.Spelling.{IsModPath, is_mod_word, is_type_word};
+ghost use Rattle.syn_path.specs.path.Spelling.{IsModPath, is_mod_word};
 
 use std::alloc::{AllocError, Global};
-use token_core::token::{
-    As, Colon, Comma, Crate, Eq, Gt, Le, Lt, Mark, Paren, PathSep, Plus, RArrow, SelfType,
-    SelfValue, ShlEq, Super, Try,
-};
+use token_core::token::{As, Crate, Eq, Gt, Le, Lt, Mark, PathSep, SelfType, SelfValue, ShlEq, Super};
 use token_core::{
     Boxed, Error, ErrorKind, Ident, Lifetime, Lit, Parse, ParseStream, Punctuated, Span, Spanned,
     Text, ToTokens, Token, TokenStream,
@@ -144,8 +141,6 @@ pub enum SegmentStyle {
     Mod,
     /// Any identifier, as in the path of a nested property.
     Nested,
-    /// In a type: an identifier that is no keyword, `super`, `self`, `Self`, `crate` or `try`.
-    Plain,
 }
 
 /// How the arguments of a path's segments print.
@@ -384,23 +379,6 @@ pub fn parse_bare_path<A: Arguments>(
     })
 }
 
-/// Reads a plain path, as it stands in a type: an optional `::`, and identifiers, `super`, `self`, `Self`, `crate` or `try`
-/// joined by `::`, without arguments. It stops before a `::` and a parenthesis. It is refused where no segment begins, and
-/// where a `<` follows, since arguments between angle marks are not read yet.
-#[tactic(auto, using(token_core::proofs::Suffixes::follows), unfolding(crate::specs::path::Reading::plain_path))]
-pub fn parse_plain_path<A: Arguments>(
-    alloc: Global,
-    input: &mut ParseStream<'_>,
-) -> Result<PathOf<A>, Error>
-    ensures parses { Parses (reading.plain_path A.absent) result input.old input.new }
-{
-    let path = parse_bare_path(alloc, input, SegmentStyle::Plain)?;
-    if peek_angle(input) {
-        return Err(input.refuse(alloc, ErrorKind::Unexpected));
-    }
-    Ok(path)
-}
-
 /// Whether a `<` is at the front that begins neither `<=` nor `<<=`.
 pub fn peek_angle(input: &ParseStream<'_>) -> bool
     ensures { result ≡ reading.sees_angle input.now.rest }
@@ -428,14 +406,6 @@ fn begins_mod_segment(input: &ParseStream<'_>) -> bool
             | (input.peek::<SelfValue>() | (input.peek::<SelfType>() | input.peek::<Crate>())))
 }
 
-/// Whether a segment of a plain path begins here.
-#[tactic(auto, using(crate::proofs::path_laws::Turns::or_try))]
-fn begins_plain_segment(input: &ParseStream<'_>) -> bool
-    ensures { result ≡ sees_word is_type_word input.now.rest }
-{
-    begins_mod_segment(input) | input.peek::<Try>()
-}
-
 /// Whether a segment of this style begins here.
 fn begins_segment(input: &ParseStream<'_>, style: SegmentStyle) -> bool
     ensures { result ≡ reading.begins style input.now.rest }
@@ -443,18 +413,16 @@ fn begins_segment(input: &ParseStream<'_>, style: SegmentStyle) -> bool
     match style {
         SegmentStyle::Mod => begins_mod_segment(input),
         SegmentStyle::Nested => Ident::peek_any(input),
-        SegmentStyle::Plain => begins_plain_segment(input),
     }
 }
 
-/// Whether a path of this style goes on with a `::`. A plain one stops before a `::` and a parenthesis.
+/// Whether a path of this style goes on with a `::`.
 fn goes_on(input: &ParseStream<'_>, style: SegmentStyle) -> bool
     ensures { result ≡ reading.goes_on style input.now.rest }
 {
     match style {
         SegmentStyle::Mod => input.peek::<PathSep>(),
         SegmentStyle::Nested => input.peek::<PathSep>(),
-        SegmentStyle::Plain => input.peek::<PathSep>() & !input.peek3::<Paren>(),
     }
 }
 
@@ -493,7 +461,6 @@ fn no_segment(alloc: Global, input: &ParseStream<'_>, style: SegmentStyle, is_fi
                 input.expected(alloc, Ident::display())
             }
         }
-        SegmentStyle::Plain => input.expected(alloc, Ident::display()),
     }
 }
 
