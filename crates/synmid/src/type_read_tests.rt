@@ -1156,30 +1156,51 @@ fn binders_and_captures_are_read(rt: HostRuntime) {
     }
 }
 
-/// `A` in as many parentheses.
-fn nested(alloc: Global, depth: usize) -> Result<String, Error> {
+/// `A` within as many of what opens and what closes.
+fn nested(alloc: Global, open: &str, close: &str, depth: usize) -> Result<String, Error> {
     let mut text = String::new(alloc);
     for _ in 0..depth {
-        text.push_str("(")?;
+        text.push_str(open)?;
     }
     text.push_str("A")?;
     for _ in 0..depth {
-        text.push_str(")")?;
+        text.push_str(close)?;
     }
     Ok(text)
 }
 
-/// Whether a nested type prints as it was read.
-fn is_kept(alloc: Global, depth: usize) -> Result<String, Error> {
-    let text = nested(alloc, depth)?;
+/// Whether what a nested type prints is read again, and prints the same.
+fn is_kept(alloc: Global, open: &str, close: &str, depth: usize) -> Result<String, Error> {
+    let text = nested(alloc, open, close, depth)?;
     let print = read(alloc, Reader::Types(TypeReader::Any), text.as_str())?;
+    let again = read(alloc, Reader::Types(TypeReader::Any), print.as_str())?;
     let mut out = String::new(alloc);
-    write!(out, "{}", print.as_str() == text.as_str())?;
+    write!(out, "{}", again.as_str() == print.as_str())?;
     Ok(out)
 }
 
 #[test]
 fn deep_types_are_read(rt: HostRuntime) {
     let alloc = rt.alloc();
-    says(&rt, alloc, is_kept(alloc, 200), "true");
+    for (open, close, depth) in [
+        ("(", ")", 200),
+        ("[", "]", 200),
+        ("&", "", 200),
+        ("*const ", "", 200),
+        ("<", ">::B", 200),
+        ("fn() -> ", "", 200),
+        ("A<", ">", 50),
+        ("dyn Fn(", ")", 50),
+        ("impl A<B = ", ">", 50),
+    ] {
+        says(&rt, alloc, is_kept(alloc, open, close, depth), "true");
+    }
+}
+
+#[test]
+fn long_lists_are_read(rt: HostRuntime) {
+    let alloc = rt.alloc();
+    for (open, close) in [("a::", ""), ("", "::b"), ("", " + 'a")] {
+        says(&rt, alloc, is_kept(alloc, open, close, 10000), "true");
+    }
 }
