@@ -1,6 +1,7 @@
 -- Questions about bounds and types that were read, case by case.
 use Rattle.std.proofs.Common.{◌≡◌, ◌==◌, ◌&&◌, not, if◌then◌else◌, Bool, true, false, List, [], ◌∷◌, ◌++◌, Option, Some, None, Ok, is_some, refl, sym, ◌∙◌, ap, length, arith}
 use Rattle.syn_forms.specs.lists.Reading.{plus_follows}
+use Rattle.syn_forms.specs.verbatim.Reading.{position}
 use Rattle.syn_path.specs.declared.mac.Macro.{Macro}
 use Rattle.syn_path.specs.declared.path.PathOf.{PathOf}
 use Rattle.syn_path.specs.declared.path.QSelfOf.{QSelfOf}
@@ -37,7 +38,9 @@ use Rattle.token_core.specs.declared.punctuated.Pair.{Pair}
 use Rattle.token_core.specs.Joined.{marks_of, values_of}
 use Rattle.token_core.specs.Lists.{put_last}
 use Rattle.token_core.specs.Loops.{Many}
-use Rattle.token_core.specs.Reads.{pure}
+use Rattle.token_core.proofs.Places.{reached_follows, reached_trans}
+use Rattle.token_core.specs.Positions.{IsReached, Item, there}
+use Rattle.token_core.specs.Reads.{Follows, pure}
 use Rattle.token_core.specs.Stream.{Stream}
 use Rattle.token_core.specs.Tokens as token
 
@@ -95,17 +98,20 @@ module _ {A E : Type 0} (p : Paren) where
       no_more [] z g = cc
       no_more (v ∷ vs) z g = cc
 
-module _ {A E : Type 0} where
+module _ {A E : Type 0} (p : Paren) where
   -- by the pairs and the last value
-  pub lone_is : (p : Paren) (d : Option token.Dyn) (l : List (Pair (TypeParamBound A E) token.Plus)) (o : Option (TypeParamBound A E)) → is_some (lone_bound p d (values_of l o, marks_of l)) ≡ (not (is_some d) && ((length l == 0) && is_some o))
-  lone_is p (Some w) l o = refl
-  lone_is p None [] None = refl
-  lone_is p None [] (Some x) = refl
-  lone_is p None (q ∷ []) None = refl
-  lone_is p None (q ∷ []) (Some x) = refl
-  lone_is p None (q ∷ r ∷ l) o = refl
+  pub lone_last : (d : Option token.Dyn) (o : Option (TypeParamBound A E)) → is_some (lone_bound p d (values_of [] o, [])) ≡ (not (is_some d) && is_some o)
+  lone_last (Some w) o = refl
+  lone_last None None = refl
+  lone_last None (Some x) = refl
 
-pub ruleset lone_bounds = (lone_popped, lone_is)
+  pub lone_more : (d : Option token.Dyn) (q : Pair (TypeParamBound A E) token.Plus) (l : List (Pair (TypeParamBound A E) token.Plus)) (o : Option (TypeParamBound A E)) → is_some (lone_bound p d (values_of (q ∷ l) o, marks_of (q ∷ l))) ≡ false
+  lone_more (Some w) q l o = refl
+  lone_more None q [] None = refl
+  lone_more None q [] (Some x) = refl
+  lone_more None q (r ∷ l) o = refl
+
+pub ruleset lone_bounds = (lone_popped, lone_last, lone_more)
 
 -- ---- types
 
@@ -212,3 +218,11 @@ no_plus r plus p x None s h = refl
 no_plus r plus p x (Some y) s h = ap (λ (goes : Bool). (if goes then each_object_from r y else pure (t.Paren (paren_of p x))) s) h
 
 pub ruleset parens = (no_plus)
+
+-- ---- positions
+
+-- what is reached from a position is reached from it further on
+pub reached_later : (from : List Item) (s t : Stream) → IsReached (position s) from → Follows s t → IsReached (position t) from
+reached_later from s t r f = reached_trans (position t) (position s) from (reached_follows s t f) r
+
+pub ruleset later = (reached_later, reached_follows, there)

@@ -1,10 +1,13 @@
 //! Trait objects, types that a function picks, and what begins with parentheses.
 
-ghost use Rattle.std.specs.Prelude.{◌<◌, ◌≤◌, length};
+ghost use Rattle.std.specs.Prelude.{◌<◌, ◌≤◌, length, false};
 ghost use Rattle.syn_forms.specs.nested.Below.{Nests, ahead};
 ghost use Rattle.syn_ty.specs.ty.Knot as knot;
 ghost use Rattle.syn_ty.specs.ty.Reading as reading;
+ghost use Rattle.syn_forms.specs.declared.places.BoundPlace.TheVariants.{Object};
+ghost use Rattle.syn_forms.specs.lists.Reading.{bounds_from};
 ghost use Rattle.syn_forms.specs.verbatim.Reading as verbatim;
+ghost use Rattle.syn_ty.specs.ty.Points.{a_bound};
 ghost use Rattle.syn_ty.specs.declared.generics.TypeParamBoundOf.{out-TypeParamBoundOf};
 ghost use Rattle.token_core.specs.Positions.{IsReached};
 ghost use Rattle.token_core.specs.Reads.{Parses, Reads};
@@ -110,6 +113,27 @@ impl<
     ) -> Result<PathArgumentsOf<A, E>, Error>
         + Copy,
 > Grammar<'a, A, E, F, G, H, I, J> {
+    /// The bounds of a trait object after the first: several where a `+` may follow.
+    #[tactic(auto, using(token_core::proofs::Suffixes::follows, syn_forms::proofs::nested_laws::Ahead::later))]
+    pub(crate) fn more_bounds(
+        &self,
+        input: &mut ParseStream<'_>,
+        plus: bool,
+        first: TypeParamBoundOf<A, E>,
+    ) -> Result<Punctuated<TypeParamBoundOf<A, E>, Plus>, Error>
+        requires bounds { Nests (knot.bound A.reads E.reads) (length self.now.begin) (G.pre self.now.bounds) (G.post self.now.bounds) }
+        requires few { ahead input.old ≤ length self.now.begin }
+        ensures parses { Parses (bounds_from (knot.reads_below A.reads E.reads (length self.now.begin) (a_bound Object)) false plus first) result input.old input.new }
+        ensures fewer { ahead input.new ≤ ahead input.old }
+    {
+        let end = Bounds {
+            consts: false,
+            plus,
+        };
+        self.bounds()
+            .list_from(input, BoundPlace::Object, end, first)
+    }
+
     /// The bounds of a trait object after the first, of which one has to be a trait: else they are refused from its start on.
     #[tactic(auto, using(token_core::proofs::Suffixes::follows, syn_forms::proofs::nested_laws::Ahead::later), unfolding(crate::specs::ty::Reading::object_bounds))]
     pub(crate) fn object_bounds(
@@ -180,7 +204,7 @@ impl<
     }
 
     /// `dyn A + 'a`. A `*` after `dyn` has no case of its own: such a type is held as it was written.
-    #[tactic(auto, using(token_core::proofs::Suffixes::follows, syn_forms::proofs::nested_laws::Ahead::later, token_core::proofs::Places::positions), unfolding(crate::specs::ty::Reading::dyn_type))]
+    #[tactic(auto, using(token_core::proofs::Suffixes::follows, syn_forms::proofs::nested_laws::Ahead::later, crate::proofs::ty_laws::Kinds::later), unfolding(crate::specs::ty::Reading::dyn_type))]
     pub(crate) fn dyn_type(
         &self,
         input: &mut ParseStream<'_>,

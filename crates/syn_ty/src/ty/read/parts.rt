@@ -293,7 +293,10 @@ fn is_lone<A: Attributes, E: Value>(object: &TypeTraitObjectOf<TypeParamBoundOf<
     ensures { (paren : token.Paren) → result ≡ is_some (reading.lone_bound paren object.now.dyn_token object.now.bounds) }
 {
     let (pairs, last) = object.bounds.parts();
-    object.dyn_token.is_none() & ((pairs.len() == 0) & last.is_some())
+    match pairs {
+        [] => object.dyn_token.is_none() & last.is_some(),
+        [_, ..] => false,
+    }
 }
 
 /// Of a trait object: one without `dyn`, of one bound and without a plus. Another one is given back.

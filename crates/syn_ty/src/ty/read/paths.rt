@@ -18,7 +18,6 @@ use crate::ty::read::tokens::{
 use crate::ty::{TypeMacroOf, TypeOf, TypePathOf};
 use std::alloc::Global;
 use std::marker::PhantomData;
-use syn_forms::lists::Bounds;
 use syn_forms::paths::with_last_arguments;
 use syn_forms::places::{BoundPlace, ParamPlace, TypePlace};
 use syn_path::mac::parse_call_after;
@@ -99,13 +98,7 @@ impl<
         ensures fewer { ahead input.new ≤ ahead input.old }
     {
         let first = TypeParamBoundOf::Trait(named_bound(lifetimes, None, path));
-        let end = Bounds {
-            consts: false,
-            plus,
-        };
-        let bounds = self
-            .bounds()
-            .list_from(input, BoundPlace::Object, end, first)?;
+        let bounds = self.more_bounds(input, plus, first)?;
         Ok(object_of(self.alloc, bounds))
     }
 

@@ -189,6 +189,7 @@ pub fn parse_abi(alloc: Global, input: &mut ParseStream<'_>) -> Result<Abi, Erro
 }
 
 /// A calling convention where `extern` follows.
+#[tactic(auto, using(token_core::proofs::Suffixes::follows))]
 pub fn parse_optional_abi(alloc: Global, input: &mut ParseStream<'_>) -> Result<Option<Abi>, Error>
     ensures parses { Parses reading.optional_abi result input.old input.new }
 {
@@ -211,7 +212,7 @@ fn parse_builtin(alloc: Global, input: &mut ParseStream<'_>) -> Result<(), Error
 }
 
 /// What `builtin #` begins, held as it was written from a position on.
-#[tactic(auto, using(token_core::proofs::Suffixes::follows, token_core::proofs::Places::positions))]
+#[tactic(auto, using(token_core::proofs::Suffixes::follows, crate::proofs::ty_laws::Kinds::later))]
 pub(crate) fn parse_builtin_type<A, E>(
     alloc: Global,
     input: &mut ParseStream<'_>,
