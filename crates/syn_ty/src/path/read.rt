@@ -6,6 +6,7 @@ ghost use Rattle.syn_forms.specs.declared.places.TypePlace.TheVariants as places
 ghost use Rattle.syn_forms.specs.lists.Reading.{bounds_to};
 ghost use Rattle.syn_forms.specs.nested.Below.{Nests, ahead};
 ghost use Rattle.syn_path.specs.declared.path.PathStyle.TheVariants as styles;
+ghost use Rattle.syn_path.specs.path.Reading.{sees_sep, sep};
 ghost use Rattle.syn_ty.specs.declared.path.GenericArgumentOf.TheVariants as arguments;
 ghost use Rattle.syn_ty.specs.declared.path.PathArgumentsOf.{out-PathArgumentsOf};
 ghost use Rattle.syn_ty.specs.declared.ty.TypePathOf.{out-TypePathOf};
@@ -15,7 +16,7 @@ ghost use Rattle.syn_ty.specs.ty.Knot as knot;
 ghost use Rattle.syn_ty.specs.ty.Points.{a_bound};
 ghost use Rattle.syn_ty.specs.ty.Reading as types;
 ghost use Rattle.syn_ty.specs.ty.Types as parts;
-ghost use Rattle.token_core.specs.Reads.{Reads, Follows, Gives, Fails, Parses};
+ghost use Rattle.token_core.specs.Reads.{Reads, Follows, Gives, Fails, Parses, and_then, optional};
 ghost use Rattle.token_core.specs.Tokens as token;
 
 use crate::generics::{GenericParamOf, TypeParamBoundOf};
@@ -524,6 +525,21 @@ impl<
         })
     }
 
+    /// A signature, with a `::` before it or without, which is not kept.
+    #[tactic(auto, using(token_core::proofs::Suffixes::follows, syn_forms::proofs::nested_laws::Ahead::later))]
+    fn signature_after(
+        &self,
+        input: &mut ParseStream<'_>,
+    ) -> Result<ParenthesizedGenericArgumentsOf<TypeOf<A, E>, A>, Error>
+        requires types { Nests (knot.ty A.reads E.reads) (length self.now.begin) (F.pre self.now.types) (F.post self.now.types) }
+        requires few { ahead input.old ≤ length self.now.begin }
+        ensures parses { Parses (λ s. and_then (optional sees_sep sep s) (λ c. reading.parenthesized (knot.reads_below A.reads E.reads (length self.now.begin)))) result input.old input.new }
+        ensures fewer { ahead input.new ≤ ahead input.old }
+    {
+        input.parse_option::<PathSep>(self.alloc)?;
+        self.parenthesized(input)
+    }
+
     /// The path of a trait with the signature that may follow it: `Fn(A) -> B`, `Fn::(A) -> B`. The signature takes the place
     /// of an empty `<>`, and the `::` before it is not kept.
     #[tactic(auto, using(token_core::proofs::Suffixes::follows, syn_forms::proofs::nested_laws::Ahead::later, crate::proofs::path_laws::Signed::steps), unfolding(crate::specs::path::Reading::signed))]
@@ -541,8 +557,7 @@ impl<
         if !(takes_signature(&path) & peek_signature(input)) {
             return Ok(path);
         }
-        input.parse_option::<PathSep>(self.alloc)?;
-        let signature = self.parenthesized(input)?;
+        let signature = self.signature_after(input)?;
         Ok(with_last_arguments(path, PathArgumentsOf::Parenthesized(signature))?)
     }
 
