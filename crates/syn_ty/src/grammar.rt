@@ -13,7 +13,7 @@ use crate::path::{GenericArgumentOf, PathArgumentsOf};
 use crate::ty::TypeOf;
 use std::alloc::Global;
 use std::marker::PhantomData;
-use syn_forms::nested::Nested;
+use syn_forms::nested::{Held, Nested};
 use syn_forms::places::{BoundPlace, ParamPlace, TypePlace};
 use syn_path::supplied::{Attributes, Value};
 use token_core::{Cursor, Error, ParseStream};
@@ -145,4 +145,67 @@ pub trait Points<A: Attributes, E: Value>: Drop {
         place: (),
     ) -> Result<PathArgumentsOf<A, E>, Error>
         ensures parses { Parses (knot.arguments A.reads E.reads) result input.old input.new };
+}
+
+// ---- the readers at hand, as a form by itself hands them on: plain functions, since the value of a trait's method over two
+// parameters can't be passed
+
+/// A type.
+pub fn read_type<A: Attributes, E: Value>(
+    alloc: Global,
+    of: PhantomData<TypeOf<A, E>>,
+    input: &mut ParseStream<'_>,
+    place: TypePlace,
+) -> Result<TypeOf<A, E>, Error>
+    ensures parses { Parses (knot.ty A.reads E.reads place) result input.old input.new }
+{
+    <TypeOf<A, E> as Held<TypePlace>>::parse_held(alloc, of, input, place)
+}
+
+/// A bound.
+pub fn read_bound<A: Attributes, E: Value>(
+    alloc: Global,
+    of: PhantomData<TypeParamBoundOf<A, E>>,
+    input: &mut ParseStream<'_>,
+    place: BoundPlace,
+) -> Result<TypeParamBoundOf<A, E>, Error>
+    ensures parses { Parses (knot.bound A.reads E.reads place) result input.old input.new }
+{
+    <TypeParamBoundOf<A, E> as Held<BoundPlace>>::parse_held(alloc, of, input, place)
+}
+
+/// A parameter.
+pub fn read_param<A: Attributes, E: Value>(
+    alloc: Global,
+    of: PhantomData<GenericParamOf<A, E>>,
+    input: &mut ParseStream<'_>,
+    place: ParamPlace,
+) -> Result<GenericParamOf<A, E>, Error>
+    ensures parses { Parses (knot.param A.reads E.reads place) result input.old input.new }
+{
+    <GenericParamOf<A, E> as Held<ParamPlace>>::parse_held(alloc, of, input, place)
+}
+
+/// An argument in angle brackets.
+pub fn read_argument<A: Attributes, E: Value>(
+    alloc: Global,
+    of: PhantomData<GenericArgumentOf<A, E>>,
+    input: &mut ParseStream<'_>,
+    place: (),
+) -> Result<GenericArgumentOf<A, E>, Error>
+    ensures parses { Parses (knot.argument_in A.reads E.reads place) result input.old input.new }
+{
+    <GenericArgumentOf<A, E> as Held<()>>::parse_held(alloc, of, input, place)
+}
+
+/// The arguments of a segment.
+pub fn read_arguments<A: Attributes, E: Value>(
+    alloc: Global,
+    of: PhantomData<PathArgumentsOf<A, E>>,
+    input: &mut ParseStream<'_>,
+    place: (),
+) -> Result<PathArgumentsOf<A, E>, Error>
+    ensures parses { Parses (knot.arguments_in A.reads E.reads place) result input.old input.new }
+{
+    <PathArgumentsOf<A, E> as Held<()>>::parse_held(alloc, of, input, place)
 }

@@ -22,7 +22,9 @@ use crate::generics::{
     BoundLifetimesOf, CapturedParam, ConstParamOf, GenericParamOf, LifetimeParamOf, PreciseCapture,
     TraitBoundModifiers, TraitBoundOf, TypeParamBoundOf, TypeParamOf,
 };
-use crate::grammar::Grammar;
+use crate::grammar::{
+    Grammar, read_argument, read_arguments, read_bound, read_param, read_type,
+};
 use crate::path::{GenericArgumentOf, PathArgumentsOf};
 use crate::ty::TypeOf;
 use std::alloc::Global;
@@ -783,11 +785,11 @@ fn parse_binder<A: Attributes, E: Value>(
         alloc,
         of: PhantomData,
         begin: input.cursor(),
-        types: <TypeOf<A, E> as Held<TypePlace>>::parse_held,
-        bounds: <TypeParamBoundOf<A, E> as Held<BoundPlace>>::parse_held,
-        params: <GenericParamOf<A, E> as Held<ParamPlace>>::parse_held,
-        args: <GenericArgumentOf<A, E> as Held<()>>::parse_held,
-        segments: <PathArgumentsOf<A, E> as Held<()>>::parse_held,
+        types: read_type::<A, E>,
+        bounds: read_bound::<A, E>,
+        params: read_param::<A, E>,
+        args: read_argument::<A, E>,
+        segments: read_arguments::<A, E>,
     }
     .binder(input)
 }
@@ -804,11 +806,11 @@ fn parse_optional_binder<A: Attributes, E: Value>(
         alloc,
         of: PhantomData,
         begin: input.cursor(),
-        types: <TypeOf<A, E> as Held<TypePlace>>::parse_held,
-        bounds: <TypeParamBoundOf<A, E> as Held<BoundPlace>>::parse_held,
-        params: <GenericParamOf<A, E> as Held<ParamPlace>>::parse_held,
-        args: <GenericArgumentOf<A, E> as Held<()>>::parse_held,
-        segments: <PathArgumentsOf<A, E> as Held<()>>::parse_held,
+        types: read_type::<A, E>,
+        bounds: read_bound::<A, E>,
+        params: read_param::<A, E>,
+        args: read_argument::<A, E>,
+        segments: read_arguments::<A, E>,
     }
     .optional_binder(input)
 }
@@ -825,11 +827,11 @@ fn parse_trait_bound<A: Attributes, E: Value>(
         alloc,
         of: PhantomData,
         begin: input.cursor(),
-        types: <TypeOf<A, E> as Held<TypePlace>>::parse_held,
-        bounds: <TypeParamBoundOf<A, E> as Held<BoundPlace>>::parse_held,
-        params: <GenericParamOf<A, E> as Held<ParamPlace>>::parse_held,
-        args: <GenericArgumentOf<A, E> as Held<()>>::parse_held,
-        segments: <PathArgumentsOf<A, E> as Held<()>>::parse_held,
+        types: read_type::<A, E>,
+        bounds: read_bound::<A, E>,
+        params: read_param::<A, E>,
+        args: read_argument::<A, E>,
+        segments: read_arguments::<A, E>,
     }
     .trait_bound(input)
 }
@@ -846,11 +848,11 @@ fn parse_type_param<A: Attributes, E: Value>(
         alloc,
         of: PhantomData,
         begin: input.cursor(),
-        types: <TypeOf<A, E> as Held<TypePlace>>::parse_held,
-        bounds: <TypeParamBoundOf<A, E> as Held<BoundPlace>>::parse_held,
-        params: <GenericParamOf<A, E> as Held<ParamPlace>>::parse_held,
-        args: <GenericArgumentOf<A, E> as Held<()>>::parse_held,
-        segments: <PathArgumentsOf<A, E> as Held<()>>::parse_held,
+        types: read_type::<A, E>,
+        bounds: read_bound::<A, E>,
+        params: read_param::<A, E>,
+        args: read_argument::<A, E>,
+        segments: read_arguments::<A, E>,
     }
     .type_param(input)
 }
@@ -867,11 +869,11 @@ fn parse_const_param<A: Attributes, E: Value>(
         alloc,
         of: PhantomData,
         begin: input.cursor(),
-        types: <TypeOf<A, E> as Held<TypePlace>>::parse_held,
-        bounds: <TypeParamBoundOf<A, E> as Held<BoundPlace>>::parse_held,
-        params: <GenericParamOf<A, E> as Held<ParamPlace>>::parse_held,
-        args: <GenericArgumentOf<A, E> as Held<()>>::parse_held,
-        segments: <PathArgumentsOf<A, E> as Held<()>>::parse_held,
+        types: read_type::<A, E>,
+        bounds: read_bound::<A, E>,
+        params: read_param::<A, E>,
+        args: read_argument::<A, E>,
+        segments: read_arguments::<A, E>,
     }
     .const_param(input)
 }
