@@ -5,15 +5,18 @@
 //! began. `knot` ties them together. The readers stand with their forms: `path::read`, `generics::read`, `ty::read`.
 
 ghost use Rattle.std.specs.Prelude.{◌≡◌};
+ghost use Rattle.syn_ty.specs.ty.Knot as knot;
+ghost use Rattle.token_core.specs.Reads.{Parses};
 
 use crate::generics::{GenericParamOf, TypeParamBoundOf};
 use crate::path::{GenericArgumentOf, PathArgumentsOf};
 use crate::ty::TypeOf;
 use std::alloc::Global;
 use std::marker::PhantomData;
-use syn_forms::nested::Nested;
+use syn_forms::nested::{Held, Nested};
 use syn_forms::places::{BoundPlace, ParamPlace, TypePlace};
-use token_core::Cursor;
+use syn_path::supplied::{Attributes, Value};
+use token_core::{Cursor, Error, ParseStream};
 
 /// One turn of the readers.
 #[derive(Drop)]
@@ -99,4 +102,67 @@ impl<'a, A, E, F: Copy, G: Copy, H: Copy, I: Copy, J: Copy> Grammar<'a, A, E, F,
             read: self.segments,
         }
     }
+}
+
+// ---- the readers at hand, as a form by itself hands them on: plain functions, since the value of a trait's method over two
+// parameters can't be passed
+
+/// A type.
+pub fn read_type<A: Attributes, E: Value>(
+    alloc: Global,
+    of: PhantomData<TypeOf<A, E>>,
+    input: &mut ParseStream<'_>,
+    place: TypePlace,
+) -> Result<TypeOf<A, E>, Error>
+    ensures parses { Parses (knot.ty A.reads E.reads place) result input.old input.new }
+{
+    <TypeOf<A, E> as Held<TypePlace>>::parse_held(alloc, of, input, place)
+}
+
+/// A bound.
+pub fn read_bound<A: Attributes, E: Value>(
+    alloc: Global,
+    of: PhantomData<TypeParamBoundOf<A, E>>,
+    input: &mut ParseStream<'_>,
+    place: BoundPlace,
+) -> Result<TypeParamBoundOf<A, E>, Error>
+    ensures parses { Parses (knot.bound A.reads E.reads place) result input.old input.new }
+{
+    <TypeParamBoundOf<A, E> as Held<BoundPlace>>::parse_held(alloc, of, input, place)
+}
+
+/// A parameter.
+pub fn read_param<A: Attributes, E: Value>(
+    alloc: Global,
+    of: PhantomData<GenericParamOf<A, E>>,
+    input: &mut ParseStream<'_>,
+    place: ParamPlace,
+) -> Result<GenericParamOf<A, E>, Error>
+    ensures parses { Parses (knot.param A.reads E.reads place) result input.old input.new }
+{
+    <GenericParamOf<A, E> as Held<ParamPlace>>::parse_held(alloc, of, input, place)
+}
+
+/// An argument in angle brackets.
+pub fn read_argument<A: Attributes, E: Value>(
+    alloc: Global,
+    of: PhantomData<GenericArgumentOf<A, E>>,
+    input: &mut ParseStream<'_>,
+    place: (),
+) -> Result<GenericArgumentOf<A, E>, Error>
+    ensures parses { Parses (knot.argument_in A.reads E.reads place) result input.old input.new }
+{
+    <GenericArgumentOf<A, E> as Held<()>>::parse_held(alloc, of, input, place)
+}
+
+/// The arguments of a segment.
+pub fn read_arguments<A: Attributes, E: Value>(
+    alloc: Global,
+    of: PhantomData<PathArgumentsOf<A, E>>,
+    input: &mut ParseStream<'_>,
+    place: (),
+) -> Result<PathArgumentsOf<A, E>, Error>
+    ensures parses { Parses (knot.arguments_in A.reads E.reads place) result input.old input.new }
+{
+    <PathArgumentsOf<A, E> as Held<()>>::parse_held(alloc, of, input, place)
 }

@@ -1,6 +1,6 @@
 //! Captures, bounds, binders and parameters are read.
 
-ghost use Rattle.std.specs.Prelude.{◌≡◌, ◌<◌, ◌≤◌, length, true, not, [], ◌∷◌, IfOk, option_map};
+ghost use Rattle.std.specs.Prelude.{◌≡◌, ◌<◌, ◌≤◌, length, true, not, [], ◌∷◌, IfOk};
 ghost use Rattle.syn_forms.specs.declared.places.BoundPlace.TheVariants as bound_places;
 ghost use Rattle.syn_forms.specs.declared.places.ParamPlace.TheVariants as param_places;
 ghost use Rattle.syn_forms.specs.groups.Reading as groups;
@@ -22,7 +22,9 @@ use crate::generics::{
     BoundLifetimesOf, CapturedParam, ConstParamOf, GenericParamOf, LifetimeParamOf, PreciseCapture,
     TraitBoundModifiers, TraitBoundOf, TypeParamBoundOf, TypeParamOf,
 };
-use crate::grammar::Grammar;
+use crate::grammar::{
+    Grammar, read_argument, read_arguments, read_bound, read_param, read_type,
+};
 use crate::path::{GenericArgumentOf, PathArgumentsOf};
 use crate::ty::TypeOf;
 use std::alloc::Global;
@@ -67,13 +69,14 @@ fn no_captured(alloc: Global, input: &ParseStream<'_>, listed: bool) -> Error
 }
 
 /// A lifetime, an identifier or `Self`, by itself or in a list.
-#[tactic(auto, using(token_core::proofs::Suffixes::follows))]
+#[tactic(auto, using(token_core::proofs::Suffixes::follows, syn_forms::proofs::nested_laws::Ahead::later))]
 fn captured_or(
     alloc: Global,
     input: &mut ParseStream<'_>,
     listed: bool,
 ) -> Result<CapturedParam, Error>
     ensures parses { Parses (reading.captured_or (none_of (reading.captured_names listed))) result input.old input.new }
+    ensures fewer { ahead input.new ≤ ahead input.old }
 {
     if input.peek::<Lifetime>() {
         return Ok(CapturedParam::Lifetime(parse_any_lifetime(alloc, input)?));
@@ -96,6 +99,7 @@ fn parse_captured(alloc: Global, input: &mut ParseStream<'_>) -> Result<Captured
 #[tactic(auto, unfolding(crate::specs::generics::Reading::listed_captured))]
 fn parse_listed(alloc: Global, input: &mut ParseStream<'_>) -> Result<CapturedParam, Error>
     ensures parses { Parses reading.listed_captured result input.old input.new }
+    ensures fewer { ahead input.new ≤ ahead input.old }
 {
     captured_or(alloc, input, true)
 }
@@ -239,16 +243,6 @@ pub(crate) fn held_bound<A, E>(paren_token: Paren, bound: TraitBoundOf<A, E>) ->
     }
 }
 
-/// What parentheses held: a trait bound, or nothing that a tree holds.
-fn held<A, E>(paren_token: Paren, bound: Option<TraitBoundOf<A, E>>) -> Option<TraitBoundOf<A, E>>
-    ensures { result ≡ option_map (λ x. parts.held_bound paren_token x) bound }
-{
-    match bound {
-        Some(bound) => Some(held_bound(paren_token, bound)),
-        None => None,
-    }
-}
-
 /// A trait as a bound, or its tokens as they were written.
 fn kept<A: Attributes, E: Value>(
     alloc: Global,
@@ -261,6 +255,23 @@ fn kept<A: Attributes, E: Value>(
 {
     match bound {
         Some(bound) => Ok(TypeParamBoundOf::Trait(bound)),
+        None => Ok(TypeParamBoundOf::Verbatim(since(alloc, from, input)?)),
+    }
+}
+
+/// The same of what parentheses held.
+fn kept_in_parens<A: Attributes, E: Value>(
+    alloc: Global,
+    from: &Cursor<'_>,
+    input: &ParseStream<'_>,
+    paren_token: Paren,
+    bound: Option<TraitBoundOf<A, E>>,
+) -> Result<TypeParamBoundOf<A, E>, Error>
+    requires reached { IsReached (position input.now) from.now }
+    ensures reads { Reads (reading.kept_in_parens from.now (paren_token, bound) input.now) result input.now }
+{
+    match bound {
+        Some(bound) => Ok(TypeParamBoundOf::Trait(held_bound(paren_token, bound))),
         None => Ok(TypeParamBoundOf::Verbatim(since(alloc, from, input)?)),
     }
 }
@@ -519,12 +530,10 @@ impl<
         requires few { ahead input.old ≤ length self.now.begin }
         ensures parses { Parses (reading.trait_in (knot.reads_below A.reads E.reads (length self.now.begin)) consts) result input.old input.new }
     {
-        let bound = if consts {
-            self.trait_or_const(input)?
-        } else {
-            Some(self.trait_bound(input)?)
-        };
-        Ok(bound)
+        if consts {
+            return self.trait_or_const(input);
+        }
+        Ok(Some(self.trait_bound(input)?))
     }
 
     /// The same in parentheses.
@@ -581,7 +590,7 @@ impl<
         let consts = place.allows_const();
         if input.peek::<Paren>() {
             let (paren_token, bound) = self.trait_in_parens(input, consts)?;
-            return kept(self.alloc, &from, input, held(paren_token, bound));
+            return kept_in_parens(self.alloc, &from, input, paren_token, bound);
         }
         let bound = self.trait_in(input, consts)?;
         kept(self.alloc, &from, input, bound)
@@ -755,11 +764,10 @@ impl<
         ensures parses { Parses (reading.param_step A.reads E.reads (knot.reads_below A.reads E.reads (length self.now.begin)) place) result input.old input.new }
     {
         let attrs = A::read_outer(self.alloc, input)?;
-        let param = match place {
-            ParamPlace::Binder => self.in_binder(input, attrs)?,
-            ParamPlace::Generics => self.in_generics(input, attrs)?,
-        };
-        Ok(param)
+        match place {
+            ParamPlace::Binder => self.in_binder(input, attrs),
+            ParamPlace::Generics => self.in_generics(input, attrs),
+        }
     }
 }
 
@@ -777,11 +785,11 @@ fn parse_binder<A: Attributes, E: Value>(
         alloc,
         of: PhantomData,
         begin: input.cursor(),
-        types: <TypeOf<A, E> as Held<TypePlace>>::parse_held,
-        bounds: <TypeParamBoundOf<A, E> as Held<BoundPlace>>::parse_held,
-        params: <GenericParamOf<A, E> as Held<ParamPlace>>::parse_held,
-        args: <GenericArgumentOf<A, E> as Held<()>>::parse_held,
-        segments: <PathArgumentsOf<A, E> as Held<()>>::parse_held,
+        types: read_type::<A, E>,
+        bounds: read_bound::<A, E>,
+        params: read_param::<A, E>,
+        args: read_argument::<A, E>,
+        segments: read_arguments::<A, E>,
     }
     .binder(input)
 }
@@ -798,11 +806,11 @@ fn parse_optional_binder<A: Attributes, E: Value>(
         alloc,
         of: PhantomData,
         begin: input.cursor(),
-        types: <TypeOf<A, E> as Held<TypePlace>>::parse_held,
-        bounds: <TypeParamBoundOf<A, E> as Held<BoundPlace>>::parse_held,
-        params: <GenericParamOf<A, E> as Held<ParamPlace>>::parse_held,
-        args: <GenericArgumentOf<A, E> as Held<()>>::parse_held,
-        segments: <PathArgumentsOf<A, E> as Held<()>>::parse_held,
+        types: read_type::<A, E>,
+        bounds: read_bound::<A, E>,
+        params: read_param::<A, E>,
+        args: read_argument::<A, E>,
+        segments: read_arguments::<A, E>,
     }
     .optional_binder(input)
 }
@@ -819,11 +827,11 @@ fn parse_trait_bound<A: Attributes, E: Value>(
         alloc,
         of: PhantomData,
         begin: input.cursor(),
-        types: <TypeOf<A, E> as Held<TypePlace>>::parse_held,
-        bounds: <TypeParamBoundOf<A, E> as Held<BoundPlace>>::parse_held,
-        params: <GenericParamOf<A, E> as Held<ParamPlace>>::parse_held,
-        args: <GenericArgumentOf<A, E> as Held<()>>::parse_held,
-        segments: <PathArgumentsOf<A, E> as Held<()>>::parse_held,
+        types: read_type::<A, E>,
+        bounds: read_bound::<A, E>,
+        params: read_param::<A, E>,
+        args: read_argument::<A, E>,
+        segments: read_arguments::<A, E>,
     }
     .trait_bound(input)
 }
@@ -840,11 +848,11 @@ fn parse_type_param<A: Attributes, E: Value>(
         alloc,
         of: PhantomData,
         begin: input.cursor(),
-        types: <TypeOf<A, E> as Held<TypePlace>>::parse_held,
-        bounds: <TypeParamBoundOf<A, E> as Held<BoundPlace>>::parse_held,
-        params: <GenericParamOf<A, E> as Held<ParamPlace>>::parse_held,
-        args: <GenericArgumentOf<A, E> as Held<()>>::parse_held,
-        segments: <PathArgumentsOf<A, E> as Held<()>>::parse_held,
+        types: read_type::<A, E>,
+        bounds: read_bound::<A, E>,
+        params: read_param::<A, E>,
+        args: read_argument::<A, E>,
+        segments: read_arguments::<A, E>,
     }
     .type_param(input)
 }
@@ -861,11 +869,11 @@ fn parse_const_param<A: Attributes, E: Value>(
         alloc,
         of: PhantomData,
         begin: input.cursor(),
-        types: <TypeOf<A, E> as Held<TypePlace>>::parse_held,
-        bounds: <TypeParamBoundOf<A, E> as Held<BoundPlace>>::parse_held,
-        params: <GenericParamOf<A, E> as Held<ParamPlace>>::parse_held,
-        args: <GenericArgumentOf<A, E> as Held<()>>::parse_held,
-        segments: <PathArgumentsOf<A, E> as Held<()>>::parse_held,
+        types: read_type::<A, E>,
+        bounds: read_bound::<A, E>,
+        params: read_param::<A, E>,
+        args: read_argument::<A, E>,
+        segments: read_arguments::<A, E>,
     }
     .const_param(input)
 }

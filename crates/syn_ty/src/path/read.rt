@@ -20,7 +20,7 @@ ghost use Rattle.token_core.specs.Reads.{Reads, Follows, Gives, Fails, Parses, a
 ghost use Rattle.token_core.specs.Tokens as token;
 
 use crate::generics::{GenericParamOf, TypeParamBoundOf};
-use crate::grammar::Grammar;
+use crate::grammar::{Grammar, read_argument, read_arguments, read_bound, read_param, read_type};
 use crate::path::{
     AngleBracketedGenericArgumentsOf, AssocConstOf, AssocTypeOf, ConstraintOf, GenericArgumentOf,
     ParenthesizedGenericArgumentsOf, PathArgumentsOf,
@@ -687,11 +687,11 @@ fn parse_path<A: Attributes, E: Value>(
         alloc,
         of: PhantomData,
         begin: input.cursor(),
-        types: <TypeOf<A, E> as Held<TypePlace>>::parse_held,
-        bounds: <TypeParamBoundOf<A, E> as Held<BoundPlace>>::parse_held,
-        params: <GenericParamOf<A, E> as Held<ParamPlace>>::parse_held,
-        args: <GenericArgumentOf<A, E> as Held<()>>::parse_held,
-        segments: <PathArgumentsOf<A, E> as Held<()>>::parse_held,
+        types: read_type::<A, E>,
+        bounds: read_bound::<A, E>,
+        params: read_param::<A, E>,
+        args: read_argument::<A, E>,
+        segments: read_arguments::<A, E>,
     }
     .path(input, style)
 }
@@ -708,11 +708,11 @@ fn parse_segment<A: Attributes, E: Value>(
         alloc,
         of: PhantomData,
         begin: input.cursor(),
-        types: <TypeOf<A, E> as Held<TypePlace>>::parse_held,
-        bounds: <TypeParamBoundOf<A, E> as Held<BoundPlace>>::parse_held,
-        params: <GenericParamOf<A, E> as Held<ParamPlace>>::parse_held,
-        args: <GenericArgumentOf<A, E> as Held<()>>::parse_held,
-        segments: <PathArgumentsOf<A, E> as Held<()>>::parse_held,
+        types: read_type::<A, E>,
+        bounds: read_bound::<A, E>,
+        params: read_param::<A, E>,
+        args: read_argument::<A, E>,
+        segments: read_arguments::<A, E>,
     }
     .segment(input, PathStyle::AsWritten)
 }
@@ -729,11 +729,11 @@ fn parse_angle_bracketed<A: Attributes, E: Value>(
         alloc,
         of: PhantomData,
         begin: input.cursor(),
-        types: <TypeOf<A, E> as Held<TypePlace>>::parse_held,
-        bounds: <TypeParamBoundOf<A, E> as Held<BoundPlace>>::parse_held,
-        params: <GenericParamOf<A, E> as Held<ParamPlace>>::parse_held,
-        args: <GenericArgumentOf<A, E> as Held<()>>::parse_held,
-        segments: <PathArgumentsOf<A, E> as Held<()>>::parse_held,
+        types: read_type::<A, E>,
+        bounds: read_bound::<A, E>,
+        params: read_param::<A, E>,
+        args: read_argument::<A, E>,
+        segments: read_arguments::<A, E>,
     }
     .angle_bracketed(input)
 }
@@ -750,11 +750,11 @@ fn parse_turbofish<A: Attributes, E: Value>(
         alloc,
         of: PhantomData,
         begin: input.cursor(),
-        types: <TypeOf<A, E> as Held<TypePlace>>::parse_held,
-        bounds: <TypeParamBoundOf<A, E> as Held<BoundPlace>>::parse_held,
-        params: <GenericParamOf<A, E> as Held<ParamPlace>>::parse_held,
-        args: <GenericArgumentOf<A, E> as Held<()>>::parse_held,
-        segments: <PathArgumentsOf<A, E> as Held<()>>::parse_held,
+        types: read_type::<A, E>,
+        bounds: read_bound::<A, E>,
+        params: read_param::<A, E>,
+        args: read_argument::<A, E>,
+        segments: read_arguments::<A, E>,
     }
     .turbofish(input)
 }
@@ -771,11 +771,11 @@ fn parse_parenthesized<A: Attributes, E: Value>(
         alloc,
         of: PhantomData,
         begin: input.cursor(),
-        types: <TypeOf<A, E> as Held<TypePlace>>::parse_held,
-        bounds: <TypeParamBoundOf<A, E> as Held<BoundPlace>>::parse_held,
-        params: <GenericParamOf<A, E> as Held<ParamPlace>>::parse_held,
-        args: <GenericArgumentOf<A, E> as Held<()>>::parse_held,
-        segments: <PathArgumentsOf<A, E> as Held<()>>::parse_held,
+        types: read_type::<A, E>,
+        bounds: read_bound::<A, E>,
+        params: read_param::<A, E>,
+        args: read_argument::<A, E>,
+        segments: read_arguments::<A, E>,
     }
     .parenthesized(input)
 }

@@ -4,7 +4,7 @@ ghost use Rattle.syn_ty.specs.ty.Knot as knot;
 ghost use Rattle.token_core.specs.Reads.{Parses};
 
 use crate::generics::{GenericParamOf, TypeParamBoundOf};
-use crate::grammar::Grammar;
+use crate::grammar::{Grammar, read_argument, read_arguments, read_bound, read_param, read_type};
 use crate::path::{GenericArgumentOf, PathArgumentsOf};
 use crate::ty::{
     NamedArgOf, ReturnTypeOf, TypeArrayOf, TypeFnPtrOf, TypeGroupOf, TypeImplTraitOf, TypeOf,
@@ -13,7 +13,6 @@ use crate::ty::{
 };
 use std::alloc::Global;
 use std::marker::PhantomData;
-use syn_forms::nested::Held;
 use syn_forms::places::{BoundPlace, ParamPlace, TypePlace};
 use syn_path::supplied::{Attributes, Value};
 use token_core::{Error, ParseStream};
@@ -30,11 +29,11 @@ pub(crate) fn parse_array<A: Attributes, E: Value>(
         alloc,
         of: PhantomData,
         begin: input.cursor(),
-        types: <TypeOf<A, E> as Held<TypePlace>>::parse_held,
-        bounds: <TypeParamBoundOf<A, E> as Held<BoundPlace>>::parse_held,
-        params: <GenericParamOf<A, E> as Held<ParamPlace>>::parse_held,
-        args: <GenericArgumentOf<A, E> as Held<()>>::parse_held,
-        segments: <PathArgumentsOf<A, E> as Held<()>>::parse_held,
+        types: read_type::<A, E>,
+        bounds: read_bound::<A, E>,
+        params: read_param::<A, E>,
+        args: read_argument::<A, E>,
+        segments: read_arguments::<A, E>,
     }
     .array(input)
 }
@@ -51,11 +50,11 @@ pub(crate) fn parse_fn_ptr<A: Attributes, E: Value>(
         alloc,
         of: PhantomData,
         begin: input.cursor(),
-        types: <TypeOf<A, E> as Held<TypePlace>>::parse_held,
-        bounds: <TypeParamBoundOf<A, E> as Held<BoundPlace>>::parse_held,
-        params: <GenericParamOf<A, E> as Held<ParamPlace>>::parse_held,
-        args: <GenericArgumentOf<A, E> as Held<()>>::parse_held,
-        segments: <PathArgumentsOf<A, E> as Held<()>>::parse_held,
+        types: read_type::<A, E>,
+        bounds: read_bound::<A, E>,
+        params: read_param::<A, E>,
+        args: read_argument::<A, E>,
+        segments: read_arguments::<A, E>,
     }
     .fn_ptr(input)
 }
@@ -72,11 +71,11 @@ pub(crate) fn parse_group<A: Attributes, E: Value>(
         alloc,
         of: PhantomData,
         begin: input.cursor(),
-        types: <TypeOf<A, E> as Held<TypePlace>>::parse_held,
-        bounds: <TypeParamBoundOf<A, E> as Held<BoundPlace>>::parse_held,
-        params: <GenericParamOf<A, E> as Held<ParamPlace>>::parse_held,
-        args: <GenericArgumentOf<A, E> as Held<()>>::parse_held,
-        segments: <PathArgumentsOf<A, E> as Held<()>>::parse_held,
+        types: read_type::<A, E>,
+        bounds: read_bound::<A, E>,
+        params: read_param::<A, E>,
+        args: read_argument::<A, E>,
+        segments: read_arguments::<A, E>,
     }
     .group(input)
 }
@@ -94,11 +93,11 @@ pub(crate) fn parse_impl_trait<A: Attributes, E: Value>(
         alloc,
         of: PhantomData,
         begin: input.cursor(),
-        types: <TypeOf<A, E> as Held<TypePlace>>::parse_held,
-        bounds: <TypeParamBoundOf<A, E> as Held<BoundPlace>>::parse_held,
-        params: <GenericParamOf<A, E> as Held<ParamPlace>>::parse_held,
-        args: <GenericArgumentOf<A, E> as Held<()>>::parse_held,
-        segments: <PathArgumentsOf<A, E> as Held<()>>::parse_held,
+        types: read_type::<A, E>,
+        bounds: read_bound::<A, E>,
+        params: read_param::<A, E>,
+        args: read_argument::<A, E>,
+        segments: read_arguments::<A, E>,
     }
     .impl_trait(input, plus)
 }
@@ -115,11 +114,11 @@ pub(crate) fn parse_paren<A: Attributes, E: Value>(
         alloc,
         of: PhantomData,
         begin: input.cursor(),
-        types: <TypeOf<A, E> as Held<TypePlace>>::parse_held,
-        bounds: <TypeParamBoundOf<A, E> as Held<BoundPlace>>::parse_held,
-        params: <GenericParamOf<A, E> as Held<ParamPlace>>::parse_held,
-        args: <GenericArgumentOf<A, E> as Held<()>>::parse_held,
-        segments: <PathArgumentsOf<A, E> as Held<()>>::parse_held,
+        types: read_type::<A, E>,
+        bounds: read_bound::<A, E>,
+        params: read_param::<A, E>,
+        args: read_argument::<A, E>,
+        segments: read_arguments::<A, E>,
     }
     .paren(input)
 }
@@ -136,11 +135,11 @@ pub(crate) fn parse_path_type<A: Attributes, E: Value>(
         alloc,
         of: PhantomData,
         begin: input.cursor(),
-        types: <TypeOf<A, E> as Held<TypePlace>>::parse_held,
-        bounds: <TypeParamBoundOf<A, E> as Held<BoundPlace>>::parse_held,
-        params: <GenericParamOf<A, E> as Held<ParamPlace>>::parse_held,
-        args: <GenericArgumentOf<A, E> as Held<()>>::parse_held,
-        segments: <PathArgumentsOf<A, E> as Held<()>>::parse_held,
+        types: read_type::<A, E>,
+        bounds: read_bound::<A, E>,
+        params: read_param::<A, E>,
+        args: read_argument::<A, E>,
+        segments: read_arguments::<A, E>,
     }
     .path_type(input)
 }
@@ -157,11 +156,11 @@ pub(crate) fn parse_ptr<A: Attributes, E: Value>(
         alloc,
         of: PhantomData,
         begin: input.cursor(),
-        types: <TypeOf<A, E> as Held<TypePlace>>::parse_held,
-        bounds: <TypeParamBoundOf<A, E> as Held<BoundPlace>>::parse_held,
-        params: <GenericParamOf<A, E> as Held<ParamPlace>>::parse_held,
-        args: <GenericArgumentOf<A, E> as Held<()>>::parse_held,
-        segments: <PathArgumentsOf<A, E> as Held<()>>::parse_held,
+        types: read_type::<A, E>,
+        bounds: read_bound::<A, E>,
+        params: read_param::<A, E>,
+        args: read_argument::<A, E>,
+        segments: read_arguments::<A, E>,
     }
     .ptr(input)
 }
@@ -178,11 +177,11 @@ pub(crate) fn parse_reference<A: Attributes, E: Value>(
         alloc,
         of: PhantomData,
         begin: input.cursor(),
-        types: <TypeOf<A, E> as Held<TypePlace>>::parse_held,
-        bounds: <TypeParamBoundOf<A, E> as Held<BoundPlace>>::parse_held,
-        params: <GenericParamOf<A, E> as Held<ParamPlace>>::parse_held,
-        args: <GenericArgumentOf<A, E> as Held<()>>::parse_held,
-        segments: <PathArgumentsOf<A, E> as Held<()>>::parse_held,
+        types: read_type::<A, E>,
+        bounds: read_bound::<A, E>,
+        params: read_param::<A, E>,
+        args: read_argument::<A, E>,
+        segments: read_arguments::<A, E>,
     }
     .reference(input)
 }
@@ -199,11 +198,11 @@ pub(crate) fn parse_slice<A: Attributes, E: Value>(
         alloc,
         of: PhantomData,
         begin: input.cursor(),
-        types: <TypeOf<A, E> as Held<TypePlace>>::parse_held,
-        bounds: <TypeParamBoundOf<A, E> as Held<BoundPlace>>::parse_held,
-        params: <GenericParamOf<A, E> as Held<ParamPlace>>::parse_held,
-        args: <GenericArgumentOf<A, E> as Held<()>>::parse_held,
-        segments: <PathArgumentsOf<A, E> as Held<()>>::parse_held,
+        types: read_type::<A, E>,
+        bounds: read_bound::<A, E>,
+        params: read_param::<A, E>,
+        args: read_argument::<A, E>,
+        segments: read_arguments::<A, E>,
     }
     .slice(input)
 }
@@ -221,11 +220,11 @@ pub(crate) fn parse_trait_object<A: Attributes, E: Value>(
         alloc,
         of: PhantomData,
         begin: input.cursor(),
-        types: <TypeOf<A, E> as Held<TypePlace>>::parse_held,
-        bounds: <TypeParamBoundOf<A, E> as Held<BoundPlace>>::parse_held,
-        params: <GenericParamOf<A, E> as Held<ParamPlace>>::parse_held,
-        args: <GenericArgumentOf<A, E> as Held<()>>::parse_held,
-        segments: <PathArgumentsOf<A, E> as Held<()>>::parse_held,
+        types: read_type::<A, E>,
+        bounds: read_bound::<A, E>,
+        params: read_param::<A, E>,
+        args: read_argument::<A, E>,
+        segments: read_arguments::<A, E>,
     }
     .trait_object(input, plus)
 }
@@ -242,11 +241,11 @@ pub(crate) fn parse_tuple<A: Attributes, E: Value>(
         alloc,
         of: PhantomData,
         begin: input.cursor(),
-        types: <TypeOf<A, E> as Held<TypePlace>>::parse_held,
-        bounds: <TypeParamBoundOf<A, E> as Held<BoundPlace>>::parse_held,
-        params: <GenericParamOf<A, E> as Held<ParamPlace>>::parse_held,
-        args: <GenericArgumentOf<A, E> as Held<()>>::parse_held,
-        segments: <PathArgumentsOf<A, E> as Held<()>>::parse_held,
+        types: read_type::<A, E>,
+        bounds: read_bound::<A, E>,
+        params: read_param::<A, E>,
+        args: read_argument::<A, E>,
+        segments: read_arguments::<A, E>,
     }
     .tuple(input)
 }
@@ -264,11 +263,11 @@ pub(crate) fn parse_return_type<A: Attributes, E: Value>(
         alloc,
         of: PhantomData,
         begin: input.cursor(),
-        types: <TypeOf<A, E> as Held<TypePlace>>::parse_held,
-        bounds: <TypeParamBoundOf<A, E> as Held<BoundPlace>>::parse_held,
-        params: <GenericParamOf<A, E> as Held<ParamPlace>>::parse_held,
-        args: <GenericArgumentOf<A, E> as Held<()>>::parse_held,
-        segments: <PathArgumentsOf<A, E> as Held<()>>::parse_held,
+        types: read_type::<A, E>,
+        bounds: read_bound::<A, E>,
+        params: read_param::<A, E>,
+        args: read_argument::<A, E>,
+        segments: read_arguments::<A, E>,
     }
     .return_type(input, place)
 }
@@ -285,11 +284,11 @@ pub(crate) fn parse_named_arg<A: Attributes, E: Value>(
         alloc,
         of: PhantomData,
         begin: input.cursor(),
-        types: <TypeOf<A, E> as Held<TypePlace>>::parse_held,
-        bounds: <TypeParamBoundOf<A, E> as Held<BoundPlace>>::parse_held,
-        params: <GenericParamOf<A, E> as Held<ParamPlace>>::parse_held,
-        args: <GenericArgumentOf<A, E> as Held<()>>::parse_held,
-        segments: <PathArgumentsOf<A, E> as Held<()>>::parse_held,
+        types: read_type::<A, E>,
+        bounds: read_bound::<A, E>,
+        params: read_param::<A, E>,
+        args: read_argument::<A, E>,
+        segments: read_arguments::<A, E>,
     }
     .named_arg(input)
 }

@@ -18,7 +18,7 @@ returns-in_err-param c =
     let e = c.in_err-param.field-0.0 in
     let d : token.sees_gt c.turn.input.rest ≡ false = first_of (search rules, grind (arith, common_steps)) in
     let was : c.parse_listed.result ≡ Err e = first_of (search rules, grind (arith, common_steps)) in
-    let back : c.from_residual-in_err-param.result ≡ Err e = first_of (search rules, grind (arith, common_steps)) in
+    let back : c.from_residual.result ≡ Err e = first_of (search rules, grind (arith, common_steps)) in
     record {
       parses = (
         refused_by _ _ _ _ _ _ e was back c.parse_listed.ensures.parses.0 (λ h. refused c.args.input.now c.turn.input c.turn.params e c.turn.invariant.told d h),
@@ -30,10 +30,10 @@ pub returns-then-peek-2 : goal.returns-then-peek-2
 returns-then-peek-2 c =
     let d : token.sees_gt c.turn.input.rest ≡ false = first_of (search rules, grind (arith, common_steps)) in
     let n : token.sees_gt c.parse_listed.new.input.rest ≡ true = first_of (search rules, grind (arith, common_steps)) in
-    let v : c.push_value.new.self ≡ (c.turn.params.0 ++ c.in_ok-param.value ∷ [], c.turn.params.1) = first_of (search rules, grind (arith, common_steps)) in
+    let v : c.push_value.new.self ≡ (c.turn.params.0 ++ c.in_ok-param.param ∷ [], c.turn.params.1) = first_of (search rules, grind (arith, common_steps)) in
     record {
       parses = (
-        last c.args.input.now c.turn.input c.parse_listed.new.input c.turn.params c.in_ok-param.value c.turn.invariant.told d c.in_ok-param.ensures.parses.0 n
+        last c.args.input.now c.turn.input c.parse_listed.new.input c.turn.params c.in_ok-param.param c.turn.invariant.told d c.in_ok-param.ensures.parses.0 n
             ∙ ap (λ z. Ok (z, c.parse_listed.new.input)) (sym v),
         grind (arith, follows),
       );
@@ -49,23 +49,25 @@ returns-in_err-comma c =
     record {
       parses = (
         refused_by _ _ _ _ _ _ e was back c.parse_captured_comma.ensures.parses.0
-            (λ h. stuck c.args.input.now c.turn.input c.parse_listed.new.input c.turn.params c.in_ok-param.value e c.turn.invariant.told d c.in_ok-param.ensures.parses.0 n h),
+            (λ h. stuck c.args.input.now c.turn.input c.parse_listed.new.input c.turn.params c.in_ok-param.param e c.turn.invariant.told d c.in_ok-param.ensures.parses.0 n h),
         grind (arith, follows),
       );
     }
 
 pub turn-init : goal.turn-init
-turn-init c = record { told = start c.args.input.now; whole = grind (arith, common_steps); within = grind (arith, follows) }
+turn-init c =
+    let none : c.new-params.result ≡ ([], []) = first_of (search rules, grind (arith, common_steps)) in
+    record { told = subst (λ z. Told c.args.input.now z c.args.input.now) (sym none) (start c.args.input.now); whole = grind (arith, common_steps); within = grind (arith, follows) }
 
 pub turn-preserved : goal.turn-preserved
 turn-preserved c =
     let d : token.sees_gt c.turn.input.rest ≡ false = first_of (search rules, grind (arith, common_steps)) in
     let n : token.sees_gt c.parse_listed.new.input.rest ≡ false = first_of (search rules, grind (arith, common_steps)) in
-    let v : c.push_punct.new.self ≡ (c.turn.params.0 ++ c.in_ok-param.value ∷ [], c.turn.params.1 ++ c.in_ok-comma.field-0 ∷ []) = first_of (search rules, grind (arith, common_steps)) in
+    let v : c.push_punct.new.self ≡ (c.turn.params.0 ++ c.in_ok-param.param ∷ [], c.turn.params.1 ++ c.in_ok-comma.comma ∷ []) = first_of (search rules, grind (arith, common_steps)) in
     let less : size c.parse_captured_comma.new.input.rest < size c.turn.input.rest = fewer_tokens c.turn.input c.parse_listed.new.input c.parse_captured_comma.new.input c.parse_listed.ensures.parses.1 c.parse_captured_comma.ensures.parses.1 c.in_ok-comma.ensures.taken in
     record {
       told = subst (λ z. Told c.args.input.now z c.parse_captured_comma.new.input) (sym v)
-          (next c.args.input.now c.turn.input c.parse_listed.new.input c.parse_captured_comma.new.input c.turn.params c.in_ok-param.value c.in_ok-comma.field-0 c.turn.invariant.told d c.in_ok-param.ensures.parses.0 n c.in_ok-comma.ensures.parses.0 less);
+          (next c.args.input.now c.turn.input c.parse_listed.new.input c.parse_captured_comma.new.input c.turn.params c.in_ok-param.param c.in_ok-comma.comma c.turn.invariant.told d c.in_ok-param.ensures.parses.0 n c.in_ok-comma.ensures.parses.0 less);
       whole = grind (arith, common_steps);
       within = grind (arith, follows);
     }
