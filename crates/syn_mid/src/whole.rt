@@ -177,7 +177,11 @@ impl<A: Attributes, E: Value> Parser for ReturnWithoutPlusOf<A, E> {
 
     ghost refuses = { λ _. Fails (knot.return_type A.reads E.reads NoPlus) };
 
-    fn parse(self, alloc: Global, input: &mut ParseStream<'_>) -> Result<ReturnTypeOf<TypeOf<A, E>>, Error> {
+    fn parse(
+        self,
+        alloc: Global,
+        input: &mut ParseStream<'_>,
+    ) -> Result<ReturnTypeOf<TypeOf<A, E>>, Error> {
         ReturnTypeOf::without_plus(alloc, input)
     }
 }
@@ -208,7 +212,11 @@ impl<A: Attributes, E: Value> Parser for ObjectWithoutPlusOf<A, E> {
 
     ghost refuses = { λ _. Fails (knot.trait_object A.reads E.reads false) };
 
-    fn parse(self, alloc: Global, input: &mut ParseStream<'_>) -> Result<TypeTraitObjectOf<TypeParamBoundOf<A, E>, A>, Error> {
+    fn parse(
+        self,
+        alloc: Global,
+        input: &mut ParseStream<'_>,
+    ) -> Result<TypeTraitObjectOf<TypeParamBoundOf<A, E>, A>, Error> {
         TypeTraitObjectOf::without_plus(alloc, input)
     }
 }
@@ -239,7 +247,11 @@ impl<A: Attributes, E: Value> Parser for ImplWithoutPlusOf<A, E> {
 
     ghost refuses = { λ _. Fails (knot.impl_trait A.reads E.reads false) };
 
-    fn parse(self, alloc: Global, input: &mut ParseStream<'_>) -> Result<TypeImplTraitOf<TypeParamBoundOf<A, E>, A>, Error> {
+    fn parse(
+        self,
+        alloc: Global,
+        input: &mut ParseStream<'_>,
+    ) -> Result<TypeImplTraitOf<TypeParamBoundOf<A, E>, A>, Error> {
         TypeImplTraitOf::without_plus(alloc, input)
     }
 }
@@ -270,7 +282,11 @@ impl<A: Attributes, E: Value> Parser for ParseTurbofishOf<A, E> {
 
     ghost refuses = { λ _. Fails (knot.turbofish A.reads E.reads) };
 
-    fn parse(self, alloc: Global, input: &mut ParseStream<'_>) -> Result<AngleBracketedGenericArgumentsOf<GenericArgumentOf<A, E>>, Error> {
+    fn parse(
+        self,
+        alloc: Global,
+        input: &mut ParseStream<'_>,
+    ) -> Result<AngleBracketedGenericArgumentsOf<GenericArgumentOf<A, E>>, Error> {
         AngleBracketedGenericArgumentsOf::parse_turbofish(alloc, input)
     }
 }
@@ -301,7 +317,11 @@ impl<A: Attributes, E: Value> Parser for ParseOptionalLifetimesOf<A, E> {
 
     ghost refuses = { λ _. Fails (knot.optional_binder A.reads E.reads) };
 
-    fn parse(self, alloc: Global, input: &mut ParseStream<'_>) -> Result<Option<BoundLifetimesOf<GenericParamOf<A, E>>>, Error> {
+    fn parse(
+        self,
+        alloc: Global,
+        input: &mut ParseStream<'_>,
+    ) -> Result<Option<BoundLifetimesOf<GenericParamOf<A, E>>>, Error> {
         BoundLifetimesOf::parse_optional(alloc, input)
     }
 }

@@ -18,7 +18,9 @@ ghost use Rattle.syn_path.specs.path.Shapes as shapes;
 ghost use Rattle.syn_path.specs.path.Spelling.{IsModPath, is_mod_word};
 
 use std::alloc::{AllocError, Global};
-use token_core::token::{As, Crate, Eq, Gt, Le, Lt, Mark, PathSep, SelfType, SelfValue, ShlEq, Super};
+use token_core::token::{
+    As, Crate, Eq, Gt, Le, Lt, Mark, PathSep, SelfType, SelfValue, ShlEq, Super,
+};
 use token_core::{
     Boxed, Error, ErrorKind, Ident, Lifetime, Lit, Parse, ParseStream, Punctuated, Span, Spanned,
     Text, ToTokens, Token, TokenStream,

@@ -87,6 +87,7 @@ angled_lifetimes limit s h = by_lt (token.lt s) refl
   where
     closed : token.Lt → Outcome (Many Lifetime token.Comma) → Outcome (Angled Lifetime)
     closed l o = and_then o (λ v. token.gt >>= (λ r. pure (l, v, r)))
+
     by_lt : (o : Outcome token.Lt) → token.lt s ≡ o →
         and_then o (λ l. λ t. closed l (terminated token.sees_gt (below limit read_lifetime) token.comma t)) ≡ and_then o (λ l. λ t. closed l (terminated token.sees_gt read_lifetime token.comma t))
     by_lt (Err e) g = refl
