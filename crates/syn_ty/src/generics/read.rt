@@ -22,9 +22,7 @@ use crate::generics::{
     BoundLifetimesOf, CapturedParam, ConstParamOf, GenericParamOf, LifetimeParamOf, PreciseCapture,
     TraitBoundModifiers, TraitBoundOf, TypeParamBoundOf, TypeParamOf,
 };
-use crate::grammar::{
-    Grammar, read_argument, read_arguments, read_bound, read_param, read_type,
-};
+use crate::grammar::{Grammar, read_argument, read_arguments, read_bound, read_param, read_type};
 use crate::path::{GenericArgumentOf, PathArgumentsOf};
 use crate::ty::TypeOf;
 use std::alloc::Global;
