@@ -15,23 +15,23 @@ use Rattle.syn_pat.proofs.pat.print.+print.Goals as goal
 pub print_guarded-returns-clause-err : goal.print_guarded-returns-clause-err
 print_guarded-returns-clause-err g t c =
     on_err_weaker c.print_guard.result
-    (λ h. extends_on _ _ _ _ c.in_ok-print_outer.ensures.ok (extends_on _ _ _ _ c.in_ok-print_pat.ensures.ok (extends_on _ _ _ _ c.in_ok-to_tokens.ensures.ok h))) c.print_guard.ensures.err
+    (λ h. extends_on _ _ _ _ c.in_ok-print_outer.ensures.appends.0 (extends_on _ _ _ _ c.in_ok-print_pat.ensures.ok (extends_on _ _ _ _ c.in_ok-to_tokens.ensures.ok h))) c.print_guard.ensures.err
 
 pub print_typed-returns-clause-err : goal.print_typed-returns-clause-err
 print_typed-returns-clause-err g t c =
     on_err_weaker c.print_type.result
-    (λ h. extends_on _ _ _ _ c.in_ok-print_outer.ensures.ok (extends_on _ _ _ _ c.in_ok-print_pat.ensures.ok (extends_on _ _ _ _ c.in_ok-to_tokens.ensures.ok h))) c.print_type.ensures.err
+    (λ h. extends_on _ _ _ _ c.in_ok-print_outer.ensures.appends.0 (extends_on _ _ _ _ c.in_ok-print_pat.ensures.ok (extends_on _ _ _ _ c.in_ok-to_tokens.ensures.ok h))) c.print_type.ensures.err
 
 pub print_reference-returns-in_err-append_tokens-clause-err : goal.print_reference-returns-in_err-append_tokens-clause-err
 print_reference-returns-in_err-append_tokens-clause-err g t c =
     let kept : Extends (trees c.args.out.now) (trees c.append_tokens.new.out) =
-    extends_on _ _ _ _ c.in_ok-print_outer.ensures.ok (extends_on _ _ _ _ c.in_ok-to_tokens.ensures.ok c.in_err-append_tokens.ensures.err) in
+    extends_on _ _ _ _ c.in_ok-print_outer.ensures.appends.0 (extends_on _ _ _ _ c.in_ok-to_tokens.ensures.ok c.in_err-append_tokens.ensures.err) in
     search rules
 
 pub print_reference-returns-clause-err : goal.print_reference-returns-clause-err
 print_reference-returns-clause-err g t c =
     on_err_weaker c.print_pat.result
-    (λ h. extends_on _ _ _ _ c.in_ok-print_outer.ensures.ok (extends_on _ _ _ _ c.in_ok-to_tokens.ensures.ok (extends_on _ _ _ _ c.in_ok-append_tokens.ensures.ok h))) c.print_pat.ensures.err
+    (λ h. extends_on _ _ _ _ c.in_ok-print_outer.ensures.appends.0 (extends_on _ _ _ _ c.in_ok-to_tokens.ensures.ok (extends_on _ _ _ _ c.in_ok-append_tokens.ensures.ok h))) c.print_pat.ensures.err
 
 pub print_binding-returns-in_ok-to_tokens-in-Some-clause-err : goal.print_binding-returns-in_ok-to_tokens-in-Some-clause-err
 print_binding-returns-in_ok-to_tokens-in-Some-clause-err g t c =
