@@ -37,4 +37,4 @@ module _ {X : Type 0} (supplied : Place → Reader X) where
   unfolding pat
   turn place s = ap (λ r. pat_step supplied r place s) (here (ahead s))
 
-pub ruleset turns = (turn,)
+pub ruleset turns = (turn)

@@ -1,5 +1,5 @@
 -- The reads of patterns, over the reads of the patterns that they hold.
-use Rattle.std.specs.Prelude.{ℕ, zero, suc, Bool, true, false, not, ◌&&◌, ◌||◌, if◌then◌else◌, List, [], ◌∷◌, get_or, Option, Some, None, is_none, is_some, Ok, Err}
+use Rattle.std.specs.Prelude.{ℕ, zero, suc, Bool, true, false, not, ◌&&◌, ◌||◌, if◌then◌else◌, List, [], ◌∷◌, get_or, Option, Some, None, is_some, Ok, Err}
 use Rattle.syn_attr.specs.attr.Attrs.{Attribute as Attr, const_of, expr_macro_of, lit_of}
 use Rattle.syn_attr.specs.attr.Lengths.{lens}
 use Rattle.syn_attr.specs.attr.Reading.{const_argument, outer}
@@ -132,7 +132,7 @@ limits_span (l.Closed d) = (get_or d.spans 0 none, get_or d.spans 2 none)
 module _ {X : Type 0} where
   -- the limits of a range that lacks a bound
   abbrev pub open_limits : PatRange X → Option (Span × Span)
-  open_limits x = if is_none x.start || is_none x.end then Some (limits_span x.limits) else None
+  open_limits x = if not (is_some x.start) || not (is_some x.end) then Some (limits_span x.limits) else None
 
   abbrev pub open_range_layer : {T : Type 0} → LayerOf X T → Option (Span × Span)
   open_range_layer (o.Range x) = open_limits x
@@ -419,7 +419,7 @@ module _ {X : Type 0} (supplied : Place → Reader X) (r : Readers X) where
   -- a macro call after an unqualified path without arguments; a struct, a tuple struct, a range, or the path alone
   unfoldable pub after_path : Option (QSelf (Attr X) (Expr X)) → Path (Attr X) (Expr X) → Reader (Pat X)
   after_path q p = do
-    call ← peek (λ l. is_none q && (sees_call l && is_mod_style p))
+    call ← peek (λ l. not (is_some q) && (sees_call l && is_mod_style p))
     if call then macro_after p else (do
       brace ← peek (sees_group d.Brace)
       if brace then v.Struct <$> struct_after supplied r q p else (do
