@@ -35,9 +35,9 @@ use Rattle.syn_ty.specs.ty.Trees.{Path, QSelf, TypeTree}
 use Rattle.syn_ty.specs.ty.Types.{Comma}
 use Rattle.token_core.specs.declared.error.ErrorKind.TheVariants.{OpenRangeInSlice, RangeWithoutEnd, Unexpected}
 use Rattle.token_core.specs.declared.member.Member.{Member}
-use Rattle.token_core.specs.declared.member.Member.TheVariants as m
+use Rattle.token_core.specs.declared.member.Member.TheVariants as member
 use Rattle.token_core.specs.declared.range.RangeLimits.{RangeLimits}
-use Rattle.token_core.specs.declared.range.RangeLimits.TheVariants as l
+use Rattle.token_core.specs.declared.range.RangeLimits.TheVariants as limits
 use Rattle.token_core.specs.declared.span.Span.{Span}
 use Rattle.token_core.specs.declared.token.Paren.{Paren}
 use Rattle.token_core.specs.declared.tree.Delimiter.TheVariants as d
@@ -126,8 +126,8 @@ missing_bound = a_literal ∷ k.an_ident ∷ k.a_sep ∷ k.a_lt ∷ k.a_self_val
 
 -- the first and the last span of a range's limits
 abbrev pub limits_span : RangeLimits → Span × Span
-limits_span (l.HalfOpen d) = (get_or d.spans 0 none, get_or d.spans 1 none)
-limits_span (l.Closed d) = (get_or d.spans 0 none, get_or d.spans 2 none)
+limits_span (limits.HalfOpen w) = (get_or w.spans 0 none, get_or w.spans 1 none)
+limits_span (limits.Closed w) = (get_or w.spans 0 none, get_or w.spans 2 none)
 
 module _ {X : Type 0} where
   -- the limits of a range that lacks a bound
@@ -181,15 +181,15 @@ module _ {X : Type 0} where
 
   -- `..=` needs an end
   abbrev pub ended : Option (PatRangeBound X) → RangeLimits → Option (PatRangeBound X) → Reader (Pat X)
-  ended s (l.HalfOpen d) e = pure (range s (l.HalfOpen d) e)
-  ended s (l.Closed d) (Some e) = pure (range s (l.Closed d) (Some e))
-  ended s (l.Closed d) None = refuse RangeWithoutEnd
+  ended s (limits.HalfOpen w) e = pure (range s (limits.HalfOpen w) e)
+  ended s (limits.Closed w) (Some e) = pure (range s (limits.Closed w) (Some e))
+  ended s (limits.Closed w) None = refuse RangeWithoutEnd
 
   -- without a start, a `..` alone is what is left over
   abbrev pub half_of : RangeLimits → Option (PatRangeBound X) → Reader (Pat X)
   half_of t (Some e) = ended None t (Some e)
-  half_of (l.HalfOpen d) None = pure (v.Rest (rest_of [] d))
-  half_of (l.Closed d) None = refuse RangeWithoutEnd
+  half_of (limits.HalfOpen w) None = pure (v.Rest (rest_of [] w))
+  half_of (limits.Closed w) None = refuse RangeWithoutEnd
 
 module _ {X : Type 0} (supplied : Place → Reader X) where
   -- what expressions read in the place of a length and of a const argument
@@ -295,10 +295,10 @@ module _ {X : Type 0} where
   binds from (None, f, u) i = pure (v.Ident (binding_of [] f u i None))
 
   abbrev pub bound_field : List Item → Attrs X → Modes → Ident → Reader (FieldPat X)
-  bound_field from a n i = (λ x. field_of a (m.Named i) None x) <$> binds from n i
+  bound_field from a n i = (λ x. field_of a (member.Named i) None x) <$> binds from n i
 
   abbrev pub no_fields : Option (PatRest X) → Fields X
-  no_fields d = (([], []), d)
+  no_fields rest = (([], []), rest)
 
   abbrev pub one_field : FieldPat X → Fields X
   one_field x = ((x ∷ [], []), None)
@@ -374,10 +374,10 @@ module _ {X : Type 0} (r : Readers X) where
 
   -- an index needs a pattern; a name without one binds itself
   abbrev pub plain_field : List Item → Attrs X → Member → Reader (FieldPat X)
-  plain_field from a (m.Unnamed i) = member_field a (m.Unnamed i)
-  plain_field from a (m.Named i) = do
+  plain_field from a (member.Unnamed i) = member_field a (member.Unnamed i)
+  plain_field from a (member.Named i) = do
     goes ← peek token.sees_colon
-    if goes then member_field a (m.Named i) else bound_field from a (None, None, None) i
+    if goes then member_field a (member.Named i) else bound_field from a (None, None, None) i
 
   -- a field after its attributes; after `box`, `ref` or `mut` a name follows
   unfoldable pub field : Attrs X → Reader (FieldPat X)
@@ -395,7 +395,7 @@ module _ {X : Type 0} (supplied : Place → Reader X) (r : Readers X) where
     if over then pure (no_fields None) else (do
       a ← outer supplied
       last ← peek token.sees_dot_dot
-      if last then (λ d. no_fields (Some (rest_of a d))) <$> token.dot_dot else (do
+      if last then (λ w. no_fields (Some (rest_of a w))) <$> token.dot_dot else (do
         x ← field r a
         ends ← peek is_done
         if ends then pure (one_field x) else (do

@@ -1,6 +1,6 @@
 //! Ranges, and what may be a bound of one: literals, paths and const blocks.
 
-ghost use Rattle.std.specs.Prelude.{◌≡◌};
+ghost use Rattle.std.specs.Prelude.{◌≡◌, [], IfOk};
 ghost use Rattle.syn_pat.specs.declared.pat.PatOf.TheVariants as variants;
 ghost use Rattle.syn_pat.specs.pat.Pats as pats;
 ghost use Rattle.syn_pat.specs.pat.Reading as reading;
