@@ -39,6 +39,7 @@ use Rattle.token_core.specs.declared.member.Member.TheVariants as member
 use Rattle.token_core.specs.declared.range.RangeLimits.{RangeLimits}
 use Rattle.token_core.specs.declared.range.RangeLimits.TheVariants as limits
 use Rattle.token_core.specs.declared.span.Span.{Span}
+use Rattle.token_core.specs.declared.token.Brace.{Brace}
 use Rattle.token_core.specs.declared.token.Paren.{Paren}
 use Rattle.token_core.specs.declared.tree.Delimiter.TheVariants as d
 use Rattle.token_core.specs.declared.tree.Ident.{Ident}
@@ -200,12 +201,16 @@ module _ {X : Type 0} (supplied : Place → Reader X) where
   abbrev pub qpath : Reader (Option (QSelf (Attr X) (Expr X)) × Path (Attr X) (Expr X))
   qpath = maybe_qualified (outer supplied) values styles.Expr
 
+  -- a body in braces
+  abbrev pub body : Reader (Brace × X)
+  body = (λ g. (groups.brace g.0, g.1)) <$> in_group d.Brace groups.brace_name (supplied Block)
+
   -- `const { .. }`
   unfoldable pub const_block : Reader (ExprConstOf (Attr X) X)
   const_block = do
     w ← token.const_word
-    g ← in_group d.Brace groups.brace_name (supplied Block)
-    pure (const_of [] w (groups.brace g.0) g.1)
+    g ← body
+    pure (const_of [] w g.0 g.1)
 
   unfoldable pub bound : Reader (PatRangeBound X)
   bound = do
@@ -250,10 +255,14 @@ bound_name = do
   own ← peek token.sees_self_value
   if own then read_word any_text ident_name else read_word is_ident ident_name
 
+-- `ref` that may be there
+abbrev pub by_ref : Reader (Option token.Ref)
+by_ref = optional token.sees_ref token.ref_word
+
 unfoldable pub bound_head : Reader (Option token.Ref × Option token.Mut × Ident)
 bound_head = do
-  f ← optional token.sees_ref token.ref_word
-  u ← optional token.sees_mut token.mut_word
+  f ← by_ref
+  u ← mutable
   i ← bound_name
   pure (f, u, i)
 
@@ -277,8 +286,8 @@ Modes = Option token.Box × Option token.Ref × Option token.Mut
 unfoldable pub modes : Reader Modes
 modes = do
   x ← optional token.sees_box token.box_word
-  f ← optional token.sees_ref token.ref_word
-  u ← optional token.sees_mut token.mut_word
+  f ← by_ref
+  u ← mutable
   pure (x, f, u)
 
 abbrev pub has_mode : Modes → Bool

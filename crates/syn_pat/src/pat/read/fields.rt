@@ -9,12 +9,14 @@ ghost use Rattle.token_core.specs.Positions.{IsReached};
 ghost use Rattle.token_core.specs.Reads.{Parses};
 
 use crate::grammar::Patterns;
+use crate::pat::read::forms::parse_ref;
+use crate::pat::read::tokens::parse_dot_dot;
 use crate::pat::{FieldPat, FieldPatOf, Pat, PatIdentOf, PatRest, PatRestOf};
 use crate::place::PatPlace;
 use std::alloc::Global;
 use std::marker::PhantomData;
 use syn_attr::attr::Attribute;
-use syn_forms::tokens::{parse_colon, parse_comma};
+use syn_forms::tokens::{parse_colon, parse_comma, parse_mut};
 use syn_forms::verbatim::since;
 use syn_path::supplied::Subtree;
 use token_core::token::{Box, Colon, Comma, DotDot, Mut, Ref};
@@ -33,8 +35,8 @@ fn parse_modes(alloc: Global, input: &mut ParseStream<'_>) -> Result<Modes, Erro
     ensures fewer { ahead input.new ≤ ahead input.old }
 {
     let boxed = input.parse_option::<Box>(alloc)?;
-    let by_ref = input.parse_option::<Ref>(alloc)?;
-    let mutability = input.parse_option::<Mut>(alloc)?;
+    let by_ref = parse_ref(alloc, input)?;
+    let mutability = parse_mut(alloc, input)?;
     Ok((boxed, by_ref, mutability))
 }
 
@@ -184,7 +186,7 @@ impl<
             }
             let attrs = Attribute::parse_outer(self.alloc, input)?;
             if input.peek::<DotDot>() {
-                let dot2_token = input.parse::<DotDot>(self.alloc)?;
+                let dot2_token = parse_dot_dot(self.alloc, input)?;
                 return Ok((list, Some(PatRestOf { attrs, dot2_token })));
             }
             let field = self.field(input, attrs)?;

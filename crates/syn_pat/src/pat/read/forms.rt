@@ -20,6 +20,7 @@ use token_core::token::{At, Mut, Ref, SelfValue};
 use token_core::{Boxed, Error, Ident, Items, ParseStream};
 
 /// The name of a binding: an identifier that is no keyword, or `self`.
+#[tactic(auto, using(token_core::proofs::Suffixes::follows), unfolding(crate::specs::pat::Reading::bound_name))]
 fn parse_bound_name(alloc: Global, input: &mut ParseStream<'_>) -> Result<Ident, Error>
     ensures parses { Parses reading.bound_name result input.old input.new }
 {
@@ -27,6 +28,15 @@ fn parse_bound_name(alloc: Global, input: &mut ParseStream<'_>) -> Result<Ident,
         return Ident::parse_any(alloc, input);
     }
     input.parse::<Ident>(alloc)
+}
+
+/// `ref` that may be there.
+#[tactic(auto, using(syn_forms::proofs::nested_laws::Ahead::later))]
+pub(crate) fn parse_ref(alloc: Global, input: &mut ParseStream<'_>) -> Result<Option<Ref>, Error>
+    ensures parses { Parses reading.by_ref result input.old input.new }
+    ensures fewer { ahead input.new ≤ ahead input.old }
+{
+    input.parse_option::<Ref>(alloc)
 }
 
 /// `ref` and `mut`, which may be there, and a name.
@@ -38,14 +48,14 @@ fn parse_bound_head(
     ensures parses { Parses reading.bound_head result input.old input.new }
     ensures fewer { ahead input.new ≤ ahead input.old }
 {
-    let by_ref = input.parse_option::<Ref>(alloc)?;
-    let mutability = input.parse_option::<Mut>(alloc)?;
+    let by_ref = parse_ref(alloc, input)?;
+    let mutability = parse_mut(alloc, input)?;
     let ident = parse_bound_name(alloc, input)?;
     Ok((by_ref, mutability, ident))
 }
 
 /// `@`
-#[tactic(auto, using(syn_forms::proofs::nested_laws::Ahead::past_tokens))]
+#[tactic(auto, using(crate::proofs::pat_laws::Taken::past_tokens))]
 fn parse_at(alloc: Global, input: &mut ParseStream<'_>) -> Result<At, Error>
     ensures parses { Parses token.at result input.old input.new }
     ensures taken { IfOk result (λ _. ahead input.new < ahead input.old) }

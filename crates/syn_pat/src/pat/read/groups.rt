@@ -52,6 +52,19 @@ impl<
     F: Fn(Global, PhantomData<Pat<X>>, &mut ParseStream<'_>, PatPlace) -> Result<Pat<X>, Error>
         + Copy,
 > Patterns<'a, X, F> {
+    /// Patterns in a place up to the end of their group, joined by commas; one may follow the last.
+    fn elements(
+        &self,
+        input: &mut ParseStream<'_>,
+        place: PatPlace,
+    ) -> Result<Punctuated<Pat<X>, Comma>, Error>
+        requires patterns { Nests (knot.pat X.reads) (length self.now.begin) (F.pre self.now.patterns) (F.post self.now.patterns) }
+        requires few { ahead input.old < length self.now.begin }
+        ensures parses { Parses (reading.elements (knot.pats_below X.reads (length self.now.begin)) place) result input.old input.new }
+    {
+        self.patterns().list(input, place, ToEnd)
+    }
+
     /// Patterns in parentheses, joined by commas.
     #[tactic(auto, using(token_core::proofs::Suffixes::follows, syn_forms::proofs::nested_laws::Ahead::later))]
     pub(crate) fn in_parens(
@@ -63,9 +76,7 @@ impl<
         ensures parses { Parses (in_parens (reading.elements (knot.pats_below X.reads (length self.now.begin)) LeadingVert)) result input.old input.new }
     {
         let (paren_token, mut content) = open_parens(self.alloc, input)?;
-        let elems = self
-            .patterns()
-            .list(&mut content, PatPlace::LeadingVert, ToEnd)?;
+        let elems = self.elements(&mut content, PatPlace::LeadingVert)?;
         input.finish(content);
         Ok((paren_token, elems))
     }
@@ -78,9 +89,7 @@ impl<
         ensures parses { Parses (reading.slice (knot.pats_below X.reads (length self.now.begin))) result input.old input.new }
     {
         let (bracket_token, mut content) = open_brackets(self.alloc, input)?;
-        let elems = self
-            .patterns()
-            .list(&mut content, PatPlace::Element, ToEnd)?;
+        let elems = self.elements(&mut content, PatPlace::Element)?;
         input.finish(content);
         Ok(PatSliceOf {
             attrs: Items::new(self.alloc),

@@ -18,7 +18,7 @@ use syn_path::path::PathStyle;
 use syn_path::supplied::{Place, Subtree};
 use syn_ty::path::alone::parse_maybe_qualified;
 use token_core::token::{
-    Colon, Comma, Const, Crate, DotDot, Eq, If, Lt, Or, PathSep, SelfType, SelfValue, Semi, Super,
+    Brace, Colon, Comma, Const, Crate, DotDot, Eq, If, Lt, Or, PathSep, SelfType, SelfValue, Semi, Super,
 };
 use token_core::{Boxed, Error, ErrorKind, Ident, Items, Lit, ParseStream, RangeLimits};
 
@@ -133,6 +133,20 @@ pub(crate) fn parse_qpath<X: Subtree>(
     parse_maybe_qualified::<Attribute<X>, Expr<X>>(alloc, input, PathStyle::Expr)
 }
 
+/// A body in braces, which the supplied subtree reads.
+#[tactic(auto, using(token_core::proofs::Suffixes::follows))]
+fn parse_body<X: Subtree>(
+    alloc: Global,
+    input: &mut ParseStream<'_>,
+) -> Result<(Brace, X), Error>
+    ensures parses { Parses (reading.body X.reads) result input.old input.new }
+{
+    let (brace_token, mut content) = input.braced(alloc)?;
+    let body = X::read(alloc, Place::Block, &mut content)?;
+    input.finish(content);
+    Ok((brace_token, body))
+}
+
 /// `const { .. }`, of which the supplied subtree reads the body.
 #[tactic(auto, using(token_core::proofs::Suffixes::follows), unfolding(crate::specs::pat::Reading::const_block))]
 fn parse_const_block<X: Subtree>(
@@ -142,9 +156,7 @@ fn parse_const_block<X: Subtree>(
     ensures parses { Parses (reading.const_block X.reads) result input.old input.new }
 {
     let const_token = input.parse::<Const>(alloc)?;
-    let (brace_token, mut content) = input.braced(alloc)?;
-    let body = X::read(alloc, Place::Block, &mut content)?;
-    input.finish(content);
+    let (brace_token, body) = parse_body(alloc, input)?;
     Ok(ExprConstOf {
         attrs: Items::new(alloc),
         const_token,

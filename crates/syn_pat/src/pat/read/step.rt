@@ -76,6 +76,7 @@ fn open_range<X: Subtree>(pat: &Pat<X>) -> Option<(Span, Span)>
 }
 
 /// An element of a slice: a range that lacks a bound is refused, from the first to the last character of its limits.
+#[tactic(auto, using(token_core::proofs::Suffixes::follows))]
 fn as_element<X: Subtree>(
     alloc: Global,
     input: &mut ParseStream<'_>,

@@ -97,7 +97,7 @@ pub(crate) fn sees_call(input: &ParseStream<'_>) -> bool
 // ---- tokens: each read says that something was taken
 
 /// `|`
-#[tactic(auto, using(syn_forms::proofs::nested_laws::Ahead::past_tokens))]
+#[tactic(auto, using(crate::proofs::pat_laws::Taken::past_tokens))]
 pub(crate) fn parse_vert(alloc: Global, input: &mut ParseStream<'_>) -> Result<Or, Error>
     ensures parses { Parses token.bar result input.old input.new }
     ensures taken { IfOk result (λ _. ahead input.new < ahead input.old) }
@@ -106,12 +106,20 @@ pub(crate) fn parse_vert(alloc: Global, input: &mut ParseStream<'_>) -> Result<O
 }
 
 /// `box`
-#[tactic(auto, using(syn_forms::proofs::nested_laws::Ahead::past_tokens))]
+#[tactic(auto, using(crate::proofs::pat_laws::Taken::past_tokens))]
 pub(crate) fn parse_box(alloc: Global, input: &mut ParseStream<'_>) -> Result<Box, Error>
     ensures parses { Parses token.box_word result input.old input.new }
     ensures taken { IfOk result (λ _. ahead input.new < ahead input.old) }
 {
     input.parse::<Box>(alloc)
+}
+
+/// `..`
+#[tactic(auto, using(token_core::proofs::Suffixes::follows))]
+pub(crate) fn parse_dot_dot(alloc: Global, input: &mut ParseStream<'_>) -> Result<DotDot, Error>
+    ensures parses { Parses token.dot_dot result input.old input.new }
+{
+    input.parse::<DotDot>(alloc)
 }
 
 /// Opens braces: the stream that it answers is of what they hold.

@@ -42,8 +42,8 @@ returns-then-peek g c =
     let dotted : sees_dot_dot c.parse_outer.new.input.rest ≡ true = first_of (search rules, grind (arith, common_steps)) in
     record {
       parses = (
-        told_ended supplied r (fields supplied r c.args.input.now) c.turn.list c.turn.input c.parse_outer.new.input c.parse.new.input c.in_ok-attrs.attrs c.in_ok-dot2_token.dot2_token
-            c.turn.invariant.told (record { goes = goes; reads = c.parse_outer.ensures.parses.0 }) dotted c.parse.ensures.reads,
+        told_ended supplied r (fields supplied r c.args.input.now) c.turn.list c.turn.input c.parse_outer.new.input c.parse_dot_dot.new.input c.in_ok-attrs.attrs c.in_ok-dot2_token.dot2_token
+            c.turn.invariant.told (record { goes = goes; reads = c.in_ok-attrs.ensures.parses.0 }) dotted c.in_ok-dot2_token.ensures.parses.0,
         grind (arith, follows),
       );
     }
@@ -65,7 +65,7 @@ returns-then-is_empty-2 g c =
     record {
       parses = (
         told_last supplied r (fields supplied r c.args.input.now) c.turn.list c.push_value.new.self c.turn.input c.parse_outer.new.input c.field.new.input c.in_ok-attrs.attrs c.in_ok-field.field
-            c.turn.invariant.told (record { bears = record { goes = goes; reads = c.parse_outer.ensures.parses.0 }; no_dots = undotted; reads = c.field.ensures.parses.0 }) over pushed,
+            c.turn.invariant.told (record { bears = record { goes = goes; reads = c.in_ok-attrs.ensures.parses.0 }; no_dots = undotted; reads = c.in_ok-field.ensures.parses.0 }) over pushed,
         grind (arith, follows),
       );
     }
@@ -92,7 +92,7 @@ turn-preserved g c =
     let le = ahead_follows c.turn.input c.field.new.input before in
     record {
       told = next supplied r (fields supplied r c.args.input.now) c.turn.list c.push_punct.new.self c.turn.input c.parse_outer.new.input c.field.new.input c.parse_comma.new.input c.in_ok-attrs.attrs c.in_ok-field.field c.in_ok-parse_comma.field-0
-          c.turn.invariant.told (record { bears = record { goes = goes; reads = c.parse_outer.ensures.parses.0 }; no_dots = undotted; reads = c.field.ensures.parses.0 }) more c.in_ok-parse_comma.ensures.parses.0 less pushed;
+          c.turn.invariant.told (record { bears = record { goes = goes; reads = c.in_ok-attrs.ensures.parses.0 }; no_dots = undotted; reads = c.in_ok-field.ensures.parses.0 }) more c.in_ok-parse_comma.ensures.parses.0 less pushed;
       whole = grind (arith, common_steps);
       few = omega (arith, few, le, taken);
       within = grind (arith, follows);
