@@ -176,7 +176,7 @@ fn tuples_and_slices_are_read(rt: HostRuntime) {
         ("[..1]", "range pattern is not allowed unparenthesized inside slice pattern 1-2 2-3"),
         ("[..=1]", "range pattern is not allowed unparenthesized inside slice pattern 1-2 3-4"),
         ("[a, ..1]", "range pattern is not allowed unparenthesized inside slice pattern 4-5 5-6"),
-        ("[1.. b]", "expected `,` 5-6 5-6"),
+        ("[1.. b]", "[1 .. b]"),
     ] {
         says(&rt, alloc, read(alloc, PatternReader::Single, text), wanted);
     }
@@ -225,7 +225,7 @@ fn alternatives_are_read(rt: HostRuntime) {
         ("a", "a"),
         ("a | b", "a | b"),
         ("Some(false) | None", "Some (false) | None"),
-        ("1... | 2", "x"),
+        ("1... | 2", "expected range upper bound 5-6 5-6"),
         ("a || b", "unexpected token 2-3 2-3"),
         ("a |= b", "unexpected token 2-3 2-3"),
         (
