@@ -175,6 +175,8 @@ pub use whole::ParseInner;
 pub use whole::ParseOptionalAbi;
 pub use whole::ParseOptionalLifetimes;
 pub use whole::ParseOptionalLifetimesOf;
+pub use whole::ParseOptionalWhere;
+pub use whole::ParseOptionalWhereOf;
 pub use whole::ParseOuter;
 pub use whole::ParseTurbofish;
 pub use whole::ParseTurbofishOf;
