@@ -11,6 +11,8 @@ mod fault;
 #[cfg(test)]
 mod form_tests;
 #[cfg(test)]
+mod generics_read_tests;
+#[cfg(test)]
 mod nested_tests;
 mod reader;
 mod run;
