@@ -30,7 +30,7 @@ module _ {A E : Type 0} (r : Readers A E) where
   unfoldable pub generics : Reader (GenericsOf A E)
   generics = do
     there ← peek token.sees_lt
-    if there then (λ p. generics_of (Some p.0) p.1.0 (Some p.1.1) None) <$> angled (r (a_param p.Generics)) else pure empty
+    if there then (λ p. generics_of (Some p.0) p.1 (Some p.2) None) <$> angled (r (a_param p.Generics)) else pure empty
 
 -- ---- predicates
 

@@ -271,7 +271,7 @@ fn parse_predicates<'a, A: Attributes, E: Value>(
     input: &mut ParseStream<'a>,
 ) -> Result<Punctuated<WherePredicateOf<A, E>, Comma>, Error>
     requires few { ahead input.old < length begin }
-    ensures parses { Parses (predicates.predicates_to (below.held (alone.predicate_in A.reads E.reads) (length begin) tt)) result input.old input.new }
+    ensures parses { Parses (predicates.predicates_to (below.held (alone.predicate_in A.reads E.reads) (length begin.entry) tt)) result input.old input.new }
 {
     let read = parse_predicate::<A, E>;
     Nested {
