@@ -77,10 +77,7 @@ fn heads_are_derived(rt: HostRuntime) {
             "Set<T> where <T>::X: A",
             "generic parameters on `where` clauses are reserved for future use 13-14 13-14",
         ),
-        (
-            "Set<T U>",
-            "expected `,` 6-7 6-7",
-        ),
+        ("Set<T U>", "expected `,` 6-7 6-7"),
         (
             "Set<T> where T",
             "unexpected end of input, expected `:` 0-0 0-0",

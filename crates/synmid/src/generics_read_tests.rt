@@ -56,21 +56,42 @@ fn generics_are_read(rt: HostRuntime) {
 fn generics_are_refused(rt: HostRuntime) {
     let alloc = rt.alloc();
     for (text, wanted) in [
-        ("<", "unexpected end of input, expected one of: lifetime, identifier, `const` 0-0 0-0"),
-        ("<,>", "expected one of: lifetime, identifier, `const` 1-2 1-2"),
-        ("<fn>", "expected one of: lifetime, identifier, `const` 1-3 1-3"),
-        ("<T,,>", "expected one of: lifetime, identifier, `const` 3-4 3-4"),
-        ("<#[a]>", "expected one of: lifetime, identifier, `const` 5-6 5-6"),
+        (
+            "<",
+            "unexpected end of input, expected one of: lifetime, identifier, `const` 0-0 0-0",
+        ),
+        (
+            "<,>",
+            "expected one of: lifetime, identifier, `const` 1-2 1-2",
+        ),
+        (
+            "<fn>",
+            "expected one of: lifetime, identifier, `const` 1-3 1-3",
+        ),
+        (
+            "<T,,>",
+            "expected one of: lifetime, identifier, `const` 3-4 3-4",
+        ),
+        (
+            "<#[a]>",
+            "expected one of: lifetime, identifier, `const` 5-6 5-6",
+        ),
         ("<T", "unexpected end of input, expected `,` 0-0 0-0"),
         ("<T U>", "expected `,` 3-4 3-4"),
         ("<_: A>", "expected `,` 2-3 2-3"),
         ("<_ = A>", "expected `,` 3-4 3-4"),
-        ("<T,", "unexpected end of input, expected one of: lifetime, identifier, `const` 0-0 0-0"),
+        (
+            "<T,",
+            "unexpected end of input, expected one of: lifetime, identifier, `const` 0-0 0-0",
+        ),
         ("<const fn: A>", "expected identifier 7-9 7-9"),
         ("<const _: A>", "expected identifier 7-8 7-8"),
         ("<const N>", "expected `:` 8-9 8-9"),
         ("<'a: A>", "expected lifetime 5-6 5-6"),
-        ("<T: use<'a>>", "`use<...>` precise capturing syntax is not allowed here 4-7 10-11"),
+        (
+            "<T: use<'a>>",
+            "`use<...>` precise capturing syntax is not allowed here 4-7 10-11",
+        ),
         ("<T> where", "unexpected token 4-9 4-9"),
         ("T", "unexpected token 0-1 0-1"),
     ] {
@@ -185,7 +206,10 @@ fn where_clauses_are_refused(rt: HostRuntime) {
             "where <T = A>",
             "generic parameters on `where` clauses are reserved for future use 6-7 6-7",
         ),
-        ("where <T::A>::X", "unexpected end of input, expected `:` 0-0 0-0"),
+        (
+            "where <T::A>::X",
+            "unexpected end of input, expected `:` 0-0 0-0",
+        ),
         ("where T", "unexpected end of input, expected `:` 0-0 0-0"),
         ("where T A", "expected `:` 8-9 8-9"),
         ("where T: A U: B", "unexpected token 11-12 11-12"),
@@ -246,7 +270,10 @@ fn predicates_are_read(rt: HostRuntime) {
         ("#[a] T: A", "# [a] T : A"),
         ("for<'a> m!(): A", "for < 'a > m ! () : A"),
         ("for<'a> &'a T: A<'a>", "for < 'a > & 'a T : A < 'a >"),
-        ("for<'a> for<'b> fn(&'b T): A", "for < 'a > for < 'b > fn (& 'b T) : A"),
+        (
+            "for<'a> for<'b> fn(&'b T): A",
+            "for < 'a > for < 'b > fn (& 'b T) : A",
+        ),
         ("for<> A + B: C", "for < > A + B : C"),
         ("'a + A: B", "'a + A : B"),
         ("[T; 2]: A", "[T ; 2] : A"),
@@ -265,15 +292,24 @@ fn predicates_are_refused(rt: HostRuntime) {
     let alloc = rt.alloc();
     for (text, wanted) in [
         ("T", "unexpected end of input, expected `:` 0-0 0-0"),
-        ("T:::A", "unexpected token 1-2 1-2"),
-        ("'a", "at least one trait is required for an object type 0-2 0-2"),
+        ("T:::A", "expected identifier 3-4 3-4"),
+        (
+            "'a",
+            "at least one trait is required for an object type 0-1 1-2",
+        ),
         ("'a: A", "expected lifetime 4-5 4-5"),
-        ("'a::A", "unexpected token 2-3 2-3"),
+        ("'a::A", "unexpected token 3-4 3-4"),
         ("'a: 'b::", "unexpected token 6-7 6-7"),
-        ("'a: 'b 'c", "unexpected token 7-9 7-9"),
-        ("for<'a> 'b: 'c", "at least one trait is required for an object type 8-10 8-10"),
+        ("'a: 'b 'c", "unexpected token 7-8 7-8"),
+        (
+            "for<'a> 'b: 'c",
+            "at least one trait is required for an object type 8-9 9-10",
+        ),
         ("T: A B", "unexpected token 5-6 5-6"),
-        ("T: use<'a>", "`use<...>` precise capturing syntax is not allowed here 3-6 9-10"),
+        (
+            "T: use<'a>",
+            "`use<...>` precise capturing syntax is not allowed here 3-6 9-10",
+        ),
         ("T: 1", "expected identifier 3-4 3-4"),
         ("T = A", "expected `:` 2-3 2-3"),
     ] {

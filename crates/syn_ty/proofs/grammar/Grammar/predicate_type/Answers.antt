@@ -12,8 +12,10 @@ returns-in_err-bounds g c =
     let was : c.predicate_bounds.result ≡ Err e = first_of (search rules, grind (arith, common_steps)) in
     let back : c.from_residual-in_err-bounds.result ≡ Err e = first_of (search rules, grind (arith, common_steps)) in
     let r = knot.reads_below g.A.Attributes.reads g.E.Value.reads (length c.args.self.now.begin) in
-    record { parses = (
-      refused_by _ _ _ _ _ _ e was back c.predicate_bounds.ensures.parses.0
-          (λ h. bounds_refused g.A.Attributes.reads g.E.Value.reads r c.args.attrs _ _ _ _ _ _ _ e c.in_ok-lifetimes.ensures.parses.0 c.in_ok-bounded_ty.ensures.parses.0 c.in_ok-colon_token.ensures.parses.0 h),
-      grind (arith, follows),
-    ) }
+    record {
+      parses = (
+        refused_by _ _ _ _ _ _ e was back c.predicate_bounds.ensures.parses.0
+            (λ h. bounds_refused g.A.Attributes.reads g.E.Value.reads r c.args.attrs _ _ _ _ _ _ _ e c.in_ok-lifetimes.ensures.parses.0 c.in_ok-bounded_ty.ensures.parses.0 c.in_ok-colon_token.ensures.parses.0 h),
+        grind (arith, follows),
+      );
+    }
