@@ -10,8 +10,8 @@ use token_core::verbatim::between;
 use token_core::{Cursor, Error, ErrorKind, ParseStream, Span, TokenStream};
 
 /// A copy of the trees from a position up to where the stream stands, as in syn's `verbatim::between`. A group that ends
-/// further on is entered and not kept. It is refused for want of memory alone.
-#[tactic(auto, unfolding(crate::specs::verbatim::Reading::since))]
+/// further on is entered and not kept; an invisible group that was read to its end is kept. It is refused for want of memory alone.
+#[tactic(auto, using(token_core::proofs::Places::reached_outside), unfolding(crate::specs::verbatim::Reading::since))]
 pub fn since(
     alloc: Global,
     from: &Cursor<'_>,
@@ -20,7 +20,7 @@ pub fn since(
     requires reached { IsReached (reading.position input.now) from.now }
     ensures reads { Reads (reading.since from.now input.now) result input.now }
 {
-    Ok(between(alloc, from, &input.cursor())?)
+    Ok(between(alloc, from, &input.outside())?)
 }
 
 /// A refusal of a kind that has one text, at a token that was read, as by syn's `Error::new`.

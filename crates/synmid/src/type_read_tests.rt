@@ -498,6 +498,31 @@ fn verbatim_types_are_read(rt: HostRuntime) {
 }
 
 #[test]
+fn tokens_as_written_keep_the_invisible_groups_that_were_read(rt: HostRuntime) {
+    let alloc = rt.alloc();
+    for (text, wanted) in [
+        ("dyn *\\(A\\)", "dyn * \\(A\\)"),
+        ("dyn \\(*A\\)", "dyn \\(* A\\)"),
+        ("(dyn *\\(\\(A\\)\\))", "(dyn * \\(\\(A\\)\\))"),
+        ("builtin # x \\((y)\\)", "builtin # x \\((y)\\)"),
+        ("unsafe<'a> \\(A\\)", "unsafe < 'a > \\(A\\)"),
+        ("impl const \\(A\\)", "impl const \\(A\\)"),
+        ("impl \\((const A)\\)", "impl \\((const A)\\)"),
+        ("fn(mut \\(self\\))", "fn (mut \\(self\\))"),
+        // one that goes on is entered, and not kept
+        ("impl \\(const\\) A + B", "impl \\(const\\) A + B"),
+        ("impl \\(const A + B\\)", "impl const A + B"),
+    ] {
+        says(
+            &rt,
+            alloc,
+            read(alloc, Reader::Types(TypeReader::Any), text),
+            wanted,
+        );
+    }
+}
+
+#[test]
 fn tuples_are_told_from_parentheses(rt: HostRuntime) {
     let alloc = rt.alloc();
     for (reader, text, wanted) in [
@@ -657,6 +682,16 @@ fn forms_are_read_alone(rt: HostRuntime) {
             Reader::Types(TypeReader::Macro),
             "m",
             "unexpected end of input, expected `!` 0-0 0-0",
+        ),
+        (
+            Reader::Types(TypeReader::Macro),
+            "m! a",
+            "expected delimiter 3-4 3-4",
+        ),
+        (
+            Reader::Types(TypeReader::Macro),
+            "m::! a",
+            "expected path segment after `::` 3-4 3-4",
         ),
         (Reader::Types(TypeReader::Never), "!", "!"),
         (

@@ -259,6 +259,16 @@ reached_follows s u f =
     (subst (λ z. IsReached (items u.rest ++ s.scope.after) z) (sym (append_assoc h.before (items u.rest) s.scope.after) ∙ ap (λ z. z ++ s.scope.after) (sym h.is))
     (reached_after h.before (items u.rest ++ s.scope.after)))
 
+-- after the ends of invisible groups a later position stands
+pub reached_outside : (r : Toks) (after from : List Item) → IsReached (items r ++ after) from → IsReached (items (past_ends r) ++ after) from
+reached_outside done after from p = p
+reached_outside (word i k) after from p = p
+reached_outside (mark m k) after from p = p
+reached_outside (lit l k) after from p = p
+reached_outside (group d s c k) after from p = p
+reached_outside (enter s k) after from p = p
+reached_outside (leave k) after from p = reached_outside k after from (reached_trans (items k ++ after) (an_end ∷ (items k ++ after)) from (past an_end there) p)
+
 -- ---- each move goes forward
 
 pub reached_tree : (x : TokenTree) (v r : List Item) → v ≡ tree_items x ++ r → IsReached r v

@@ -51,6 +51,16 @@ suffix_front (group d s c k) = all_of
 suffix_front (enter s k) = past_enter s (suffix_front k)
 suffix_front (leave k) = past_leave (suffix_front k)
 
+-- after the ends of invisible groups
+pub suffix_past_ends : (t : Toks) → IsSuffix (past_ends t) t
+suffix_past_ends done = all_of
+suffix_past_ends (word i k) = all_of
+suffix_past_ends (mark p k) = all_of
+suffix_past_ends (lit l k) = all_of
+suffix_past_ends (group d s c k) = all_of
+suffix_past_ends (enter s k) = all_of
+suffix_past_ends (leave k) = past_leave (suffix_past_ends k)
+
 -- what follows the token at the front
 pub suffix_past : (t x k : Toks) → front t ≡ x → IsSuffix k x → IsSuffix k t
 suffix_past t x k e p = suffix_trans (subst (λ z. IsSuffix k z) (sym e) p) (suffix_front t)

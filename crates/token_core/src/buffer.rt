@@ -209,6 +209,15 @@ impl<'a> Place<'a> {
         settled(past_ends(self.entries))
     }
 
+    /// After the ends of invisible groups, but not within one.
+    pub(crate) fn past_ends(&self) -> Place<'a>
+        ensures { result ≡ spec.past_ends self.now }
+    {
+        Place {
+            entries: past_ends(self.entries),
+        }
+    }
+
     /// The invisible group at the front, after the ends of others, with its content and what follows it.
     pub(crate) fn next_invisible(&self) -> Option<(&'a Group, Place<'a>, Place<'a>)>
         ensures shown { option_map (λ p. (span_of p.0.now, p.1, p.2)) result ≡ groups.next_invisible self.now }

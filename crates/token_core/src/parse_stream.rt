@@ -142,6 +142,14 @@ impl<'a> ParseStream<'a> {
         self.placed.cursor()
     }
 
+    /// The position in the whole buffer after the ends of invisible groups that were read to their end: syn's cursor stands there.
+    #[tactic(auto, using(crate::proofs::Suffixes::suffix_past_ends))]
+    pub fn outside(&self) -> Cursor<'a>
+        ensures { result ≡ items (past_ends self.now.rest) ++ self.now.scope.after }
+    {
+        self.placed.at(self.place().past_ends()).cursor()
+    }
+
     /// The place in its scope.
     pub(crate) fn place(&self) -> Place<'a>
         ensures { result ≡ self.now.rest }

@@ -5,6 +5,7 @@ use Rattle.token_core.specs.declared.span.DelimSpan.{DelimSpan}
 use Rattle.token_core.specs.declared.span.Span.{Span}
 use Rattle.token_core.specs.declared.tree.TokenStream.{TokenStream}
 use Rattle.token_core.specs.Cut.{between}
+use Rattle.token_core.specs.Front.{past_ends}
 use Rattle.token_core.specs.Positions.{Item, items}
 use Rattle.token_core.specs.Reads.{Reader, here}
 use Rattle.token_core.specs.Refusal.{refusal, fixed}
@@ -19,13 +20,17 @@ position s = items s.rest ++ s.scope.after
 abbrev pub begin : Reader (List Item)
 begin = λ s. Ok (position s, s)
 
+-- after the ends of invisible groups that were read to their end: such a group was read as a whole
+abbrev pub outside : Stream → List Item
+outside s = items (past_ends s.rest) ++ s.scope.after
+
 -- the token at the front
 abbrev pub start : Reader Span
 start = λ s. Ok (here s, s)
 
 -- the trees from a position up to where the stream stands
 unfoldable pub since : List Item → Reader TokenStream
-since from s = Ok (between from (position s), s)
+since from s = Ok (between from (outside s), s)
 
 -- from its opening to its closing delimiter
 abbrev pub join : DelimSpan → Span
