@@ -56,6 +56,7 @@ module _ {A E : Type 0} (r : Readers A E) (g : GroupToken) (x : TypeTree A E) (s
 
   with_more : sees_further_segment s.rest ≡ false → sees_further_arguments s.rest ≡ true → (o : Option (TypePath A E)) → as_path x ≡ o →
       group_with_arguments r g x o s ≡ Ok (y, t) → GoesOn r g x s y t
+  unfolding group_with_arguments
   with_more h j None k e = by_itself h (takes_none k refl) e
   with_more h j (Some p) k e =
       elim (branch (has_arguments (path_within p)) _ _ s (Ok (y, t)) e) [

@@ -1,5 +1,5 @@
 -- Questions about bounds and types that were read, case by case.
-use Rattle.std.proofs.Common.{◌≡◌, ◌==◌, ◌&&◌, not, if◌then◌else◌, Bool, true, false, List, [], ◌∷◌, ◌++◌, Option, Some, None, Ok, is_some, refl, sym, ◌∙◌, ap, length, arith}
+use Rattle.std.proofs.Common.{◌≡◌, ◌==◌, ◌&&◌, not, if◌then◌else◌, Bool, true, false, List, [], ◌∷◌, ◌++◌, Option, Some, None, Ok, is_some, option_map, refl, sym, ◌∙◌, ap, length, arith}
 use Rattle.syn_forms.specs.lists.Reading.{plus_follows}
 use Rattle.syn_forms.specs.verbatim.Reading.{position}
 use Rattle.syn_path.specs.declared.mac.Macro.{Macro}
@@ -28,7 +28,7 @@ use Rattle.syn_ty.specs.declared.ty.TypeTraitObjectOf.{TypeTraitObjectOf}
 use Rattle.syn_ty.specs.declared.ty.TypeTupleOf.{TypeTupleOf}
 use Rattle.syn_ty.specs.generics.Params.{held_bound}
 use Rattle.syn_ty.specs.ty.Points.{Readers}
-use Rattle.syn_ty.specs.ty.Reading.{as_path, each_object_from, first_bound, first_bound_layer, held_in, held_layer, lone_bound, paren_or_object, path_layer, trait_layer, unqualified_layer}
+use Rattle.syn_ty.specs.ty.Reading.{as_path, each_object_from, first_bound, first_bound_layer, held_in, held_layer, is_lone, lone_bound, paren_or_object, path_layer, trait_layer, unqualified_layer}
 use Rattle.syn_ty.specs.ty.Trees.{TypeParamBound, TypePath, TypeTree}
 use Rattle.syn_ty.specs.ty.Types.{paren_of}
 use Rattle.token_core.specs.declared.lifetime.Lifetime.{Lifetime}
@@ -78,9 +78,27 @@ pub ruleset held_kinds = (held-Trait, held-Lifetime, held-PreciseCapture, held-V
 
 -- ---- a lone bound
 
+module _ {A E : Type 0} where
+  pub lone_last : (d : Option token.Dyn) (o : Option (TypeParamBound A E)) → is_lone d (values_of [] o, []) ≡ (not (is_some d) && is_some o)
+  lone_last (Some w) o = refl
+  lone_last None None = refl
+  lone_last None (Some x) = refl
+
+  -- by what is lent of it
+  pub lone_lent : {T : Type 0} (f : T → TypeParamBound A E) (d : Option token.Dyn) (o : Option T) → is_lone d (values_of [] (option_map f o), []) ≡ (not (is_some d) && is_some o)
+  lone_lent f (Some w) o = refl
+  lone_lent f None None = refl
+  lone_lent f None (Some x) = refl
+
+  pub lone_more : (d : Option token.Dyn) (q : Pair (TypeParamBound A E) token.Plus) (l : List (Pair (TypeParamBound A E) token.Plus)) (o : Option (TypeParamBound A E)) → is_lone d (values_of (q ∷ l) o, marks_of (q ∷ l)) ≡ false
+  lone_more (Some w) q l o = refl
+  lone_more None q [] None = refl
+  lone_more None q [] (Some x) = refl
+  lone_more None q (r ∷ l) o = refl
+
 module _ {A E : Type 0} (p : Paren) where
   -- it is the last one
-  pub lone_popped : (d : Option token.Dyn) (v w : Many (TypeParamBound A E) token.Plus) (x : TypeParamBound A E × Option token.Plus) → is_some (lone_bound p d v) ≡ true → v ≡ put_last w x → lone_bound p d v ≡ Some (held_in p x.0)
+  pub lone_popped : (d : Option token.Dyn) (v w : Many (TypeParamBound A E) token.Plus) (x : TypeParamBound A E × Option token.Plus) → is_lone d v ≡ true → v ≡ put_last w x → lone_bound p d v ≡ Some (held_in p x.0)
   lone_popped (Some k) v w x h e = cc
   lone_popped None ([], ms) w x h e = cc
   lone_popped None (y ∷ z ∷ l, ms) w x h e = cc
@@ -98,20 +116,14 @@ module _ {A E : Type 0} (p : Paren) where
       no_more [] z g = cc
       no_more (v ∷ vs) z g = cc
 
-module _ {A E : Type 0} (p : Paren) where
-  -- by the pairs and the last value
-  pub lone_last : (d : Option token.Dyn) (o : Option (TypeParamBound A E)) → is_some (lone_bound p d (values_of [] o, [])) ≡ (not (is_some d) && is_some o)
-  lone_last (Some w) o = refl
-  lone_last None None = refl
-  lone_last None (Some x) = refl
+  pub not_lone : (d : Option token.Dyn) (v : Many (TypeParamBound A E) token.Plus) → is_lone d v ≡ false → lone_bound p d v ≡ None
+  not_lone (Some k) v h = refl
+  not_lone None ([], ms) h = refl
+  not_lone None (y ∷ z ∷ l, ms) h = refl
+  not_lone None (y ∷ [], m ∷ ms) h = refl
+  not_lone None (y ∷ [], []) h = cc
 
-  pub lone_more : (d : Option token.Dyn) (q : Pair (TypeParamBound A E) token.Plus) (l : List (Pair (TypeParamBound A E) token.Plus)) (o : Option (TypeParamBound A E)) → is_some (lone_bound p d (values_of (q ∷ l) o, marks_of (q ∷ l))) ≡ false
-  lone_more (Some w) q l o = refl
-  lone_more None q [] None = refl
-  lone_more None q [] (Some x) = refl
-  lone_more None q (r ∷ l) o = refl
-
-pub ruleset lone_bounds = (lone_popped, lone_last, lone_more)
+pub ruleset lone_bounds = (lone_popped, not_lone, lone_last, lone_lent, lone_more)
 
 -- ---- types
 

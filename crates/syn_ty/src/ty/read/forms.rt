@@ -155,7 +155,7 @@ impl<
     }
 
     /// `[T; n]`
-    #[tactic(auto, using(token_core::proofs::Suffixes::follows, syn_forms::proofs::nested_laws::Ahead::later), unfolding(crate::specs::ty::Reading::array, syn_forms::specs::groups::Reading::array_content))]
+    #[tactic(auto, using(token_core::proofs::Suffixes::follows, syn_forms::proofs::nested_laws::Ahead::later), unfolding(crate::specs::ty::Reading::array))]
     pub(crate) fn array(
         &self,
         input: &mut ParseStream<'_>,

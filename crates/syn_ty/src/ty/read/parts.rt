@@ -1,6 +1,6 @@
 //! Types by their parts, without attributes, and questions about trees that were read.
 
-ghost use Rattle.std.specs.Prelude.{◌≡◌, ◌∷◌, [], IfErr, IfOk, None, Some, is_some, option_map};
+ghost use Rattle.std.specs.Prelude.{◌≡◌, ◌∷◌, [], IfErr, IfOk, None, Some, option_map};
 ghost use Rattle.std.specs.List.{list_any};
 ghost use Rattle.syn_forms.specs.verbatim.Reading.{join};
 ghost use Rattle.syn_ty.specs.declared.generics.TypeParamBoundOf.{out-TypeParamBoundOf};
@@ -8,7 +8,6 @@ ghost use Rattle.syn_ty.specs.declared.ty.TypeOf.TheVariants as variants;
 ghost use Rattle.syn_ty.specs.declared.ty.TypePathOf.{out-TypePathOf};
 ghost use Rattle.syn_ty.specs.ty.Reading as reading;
 ghost use Rattle.syn_ty.specs.ty.Types as types;
-ghost use Rattle.token_core.specs.declared.token.Paren as token;
 
 use crate::generics::TypeParamBoundOf;
 use crate::generics::read::{held_bound, named_bound};
@@ -290,7 +289,7 @@ fn unqualified<A: Attributes, E: Value>(
 /// Whether a trait object has one bound, without `dyn` before it and without a plus after it.
 #[tactic(auto, using(crate::proofs::ty_laws::Kinds::lone_bounds))]
 fn is_lone<A: Attributes, E: Value>(object: &TypeTraitObjectOf<TypeParamBoundOf<A, E>, A>) -> bool
-    ensures { (paren : token.Paren) → result ≡ is_some (reading.lone_bound paren object.now.dyn_token object.now.bounds) }
+    ensures { result ≡ reading.is_lone object.now.dyn_token object.now.bounds }
 {
     let (pairs, last) = object.bounds.parts();
     match pairs {

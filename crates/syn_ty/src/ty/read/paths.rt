@@ -195,7 +195,7 @@ impl<
     }
 
     /// After an invisible group that `<`, or `::` and `<`, follow: a path whose last segment has no arguments takes them and goes on; another type is left as it is.
-    #[tactic(auto, using(token_core::proofs::Suffixes::follows, syn_forms::proofs::nested_laws::Ahead::later))]
+    #[tactic(auto, using(token_core::proofs::Suffixes::follows, syn_forms::proofs::nested_laws::Ahead::later), unfolding(crate::specs::ty::Reading::group_with_arguments))]
     pub(crate) fn group_with_arguments(
         &self,
         input: &mut ParseStream<'_>,
