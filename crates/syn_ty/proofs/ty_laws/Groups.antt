@@ -69,9 +69,9 @@ module _ {A E : Type 0} (r : Readers A E) (g : GroupToken) (x : TypeTree A E) (s
       elim (branch (sees_further_segment s.rest) _ _ s (Ok (y, t)) e) [
         | inl h ↦ with_segments h.0 (as_path x) refl h.1
         | inr h ↦ elim (branch (sees_further_arguments s.rest) _ _ s (Ok (y, t)) h.1) [
-            | inl j ↦ with_more h.0 j.0 (as_path x) refl j.1
-            | inr j ↦ by_itself h.0 (ap (λ z. z && takes_arguments r (as_path x)) j.0) j.1
-          ]
+          | inl j ↦ with_more h.0 j.0 (as_path x) refl j.1
+          | inr j ↦ by_itself h.0 (ap (λ z. z && takes_arguments r (as_path x)) j.0) j.1
+        ]
       ]
 
 pub group_read : {A E : Type 0} (r : Readers A E) (s t : Stream) (y : TypeTree A E) → group_type r s ≡ Ok (y, t) → IsGrouped r s y t

@@ -17,24 +17,21 @@ ghost use Rattle.token_core.specs.Positions.{IsReached};
 use crate::generics::{BoundLifetimesOf, GenericParamOf, TypeParamBoundOf};
 use crate::grammar::Grammar;
 use crate::path::{GenericArgumentOf, PathArgumentsOf};
-use crate::ty::read::parts::{NamedArgs, TypeTokens, variadic_of};
+use crate::ty::read::parts::{FnInputs, NamedArgs, TypeTokens, bare_fn_ptr};
 use crate::ty::read::tokens::{
-    no_bound_type, optional_abi_of, parse_builtin_type, sees_bindable, sees_builtin, sees_fn_ptr,
-    sees_unsafe_binder,
+    no_bound_type, parse_builtin_type, sees_bindable, sees_builtin, sees_fn_ptr, sees_unsafe_binder,
 };
-use crate::ty::{NamedArgOf, TypeFnPtrOf, TypeOf};
+use crate::ty::{TypeFnPtrOf, TypeOf};
 use std::alloc::Global;
 use std::marker::PhantomData;
 use syn_forms::heads::parse_fn_head;
-use syn_forms::inputs::Dots;
 use syn_forms::params::parse_angled_lifetimes;
 use syn_forms::places::{BoundPlace, ParamPlace, TypePlace};
 use syn_forms::tokens::{open_parens, parse_unsafe};
 use syn_forms::verbatim::since;
 use syn_path::path::PathStyle;
 use syn_path::supplied::{Attributes, Value};
-use token_core::token::{Comma, Paren};
-use token_core::{Cursor, Error, Items, ParseStream, Punctuated};
+use token_core::{Cursor, Error, ParseStream};
 
 /// The place of a type that ends the type which holds it.
 fn last_place(place: TypePlace) -> TypePlace
@@ -89,19 +86,7 @@ impl<
 > Grammar<'a, A, E, F, G, H, I, J> {
     /// The arguments of a pointer to a function, in parentheses.
     #[tactic(auto, using(token_core::proofs::Suffixes::follows, syn_forms::proofs::nested_laws::Ahead::later))]
-    pub(crate) fn fn_ptr_inputs(
-        &self,
-        input: &mut ParseStream<'_>,
-    ) -> Result<
-        (
-            Paren,
-            (
-                Punctuated<NamedArgOf<TypeOf<A, E>, A>, Comma>,
-                Option<(Items<A>, Dots)>,
-            ),
-        ),
-        Error,
-    >
+    pub(crate) fn fn_ptr_inputs(&self, input: &mut ParseStream<'_>) -> Result<FnInputs<A, E>, Error>
         requires types { Nests (knot.ty A.reads E.reads) (length self.now.begin) (F.pre self.now.types) (F.post self.now.types) }
         requires few { ahead input.old ≤ length self.now.begin }
         ensures parses { Parses (in_parens (inputs.inputs types.named_arg_of A.reads ((knot.reads_below A.reads E.reads (length self.now.begin)) (a_type Plus)) variants.Verbatim)) result input.old input.new }
@@ -127,20 +112,10 @@ impl<
         ensures parses { Parses (reading.fn_ptr_after A.reads E.reads (knot.reads_below A.reads E.reads (length self.now.begin)) lifetimes) result input.old input.new }
         ensures fewer { ahead input.new ≤ ahead input.old }
     {
-        let (unsafety, abi, fn_token) = parse_fn_head(self.alloc, input)?;
-        let (paren_token, (inputs, variadic)) = self.fn_ptr_inputs(input)?;
+        let head = parse_fn_head(self.alloc, input)?;
+        let inputs = self.fn_ptr_inputs(input)?;
         let output = self.return_type(input, TypePlace::NoPlus)?;
-        Ok(TypeFnPtrOf {
-            attrs: Items::new(self.alloc),
-            lifetimes,
-            unsafety,
-            abi: optional_abi_of(abi),
-            fn_token,
-            paren_token,
-            inputs,
-            variadic: variadic_of(variadic),
-            output,
-        })
+        Ok(bare_fn_ptr(self.alloc, lifetimes, head, inputs, output))
     }
 
     /// A pointer to a function by itself.
@@ -202,8 +177,8 @@ impl<
         if sees_builtin(input) {
             return parse_builtin_type(self.alloc, input, from);
         }
-        let parts = self.maybe_qualified(input, PathStyle::AsWritten)?;
-        self.path_or_object(input, place.allows_plus(), lifetimes, parts)
+        let (qself, path) = self.maybe_qualified(input, PathStyle::AsWritten)?;
+        self.path_or_object(input, place.allows_plus(), lifetimes, qself, path)
     }
 
     /// A type after its binder: a pointer to a function, or a trait object that begins with a path.

@@ -9,12 +9,14 @@ ghost use Rattle.syn_ty.specs.declared.ty.TypePathOf.{out-TypePathOf};
 ghost use Rattle.syn_ty.specs.ty.Reading as reading;
 ghost use Rattle.syn_ty.specs.ty.Types as types;
 
-use crate::generics::TypeParamBoundOf;
 use crate::generics::read::{held_bound, named_bound};
+use crate::generics::{BoundLifetimesOf, GenericParamOf, TypeParamBoundOf};
 use crate::path::PathArgumentsOf;
+use crate::ty::read::tokens::optional_abi_of;
 use crate::ty::{
-    FnPtrVariadicOf, NamedArgOf, TypeArrayOf, TypeGroupOf, TypeImplTraitOf, TypeOf, TypeParenOf,
-    TypePathOf, TypePtrOf, TypeReferenceOf, TypeSliceOf, TypeTraitObjectOf, TypeTupleOf,
+    FnPtrVariadicOf, NamedArgOf, ReturnTypeOf, TypeArrayOf, TypeFnPtrOf, TypeGroupOf,
+    TypeImplTraitOf, TypeOf, TypeParenOf, TypePathOf, TypePtrOf, TypeReferenceOf, TypeSliceOf,
+    TypeTraitObjectOf, TypeTupleOf,
 };
 use std::alloc::{AllocError, Global};
 use syn_forms::groups::InBrackets;
@@ -24,9 +26,10 @@ use syn_forms::tokens::PointerMutability;
 use syn_path::path::{PathOf, QSelfOf};
 use syn_path::supplied::{Attributes, Value};
 use token_core::token::{
-    And, Bracket, Colon, Comma, Dyn, GroupToken, Gt, Impl, Lt, Mut, Paren, Plus, Semi, Star,
+    And, Bracket, Colon, Comma, Dyn, Extern, Fn, GroupToken, Gt, Impl, Lt, Mut, Paren, Plus, Semi,
+    Star, Unsafe,
 };
-use token_core::{Boxed, Ident, Items, Lifetime, Punctuated, TokenStream};
+use token_core::{Boxed, Ident, Items, Lifetime, LitStr, Punctuated, TokenStream};
 
 // ---- forms by their parts, without attributes
 
@@ -179,7 +182,7 @@ pub(crate) fn of_brackets<A, E>(
 }
 
 /// `...` with its attributes, at the end of the arguments.
-pub(crate) fn variadic_of<A>(parts: Option<(Items<A>, Dots)>) -> Option<FnPtrVariadicOf<A>>
+fn variadic_of<A>(parts: Option<(Items<A>, Dots)>) -> Option<FnPtrVariadicOf<A>>
     ensures { result ≡ option_map reading.dots_of parts }
 {
     match parts {
@@ -190,6 +193,42 @@ pub(crate) fn variadic_of<A>(parts: Option<(Items<A>, Dots)>) -> Option<FnPtrVar
             comma,
         }),
         None => None,
+    }
+}
+
+/// What begins a pointer to a function: `unsafe`, a calling convention, `fn`.
+type FnHead = (Option<Unsafe>, Option<(Extern, Option<LitStr>)>, Fn);
+
+/// The arguments of a pointer to a function in their parentheses, and `...` after them.
+pub(crate) type FnInputs<A, E> = (
+    Paren,
+    (
+        Punctuated<NamedArgOf<TypeOf<A, E>, A>, Comma>,
+        Option<(Items<A>, Dots)>,
+    ),
+);
+
+pub(crate) fn bare_fn_ptr<A, E>(
+    alloc: Global,
+    lifetimes: Option<BoundLifetimesOf<GenericParamOf<A, E>>>,
+    head: FnHead,
+    inputs: FnInputs<A, E>,
+    output: ReturnTypeOf<TypeOf<A, E>>,
+) -> TypeFnPtrOf<A, E>
+    ensures { result ≡ types.fn_ptr_with [] lifetimes head.0 (option_map reading.abi_of head.1) head.2 inputs.0 inputs.1.0 (option_map reading.dots_of inputs.1.1) output }
+{
+    let (unsafety, abi, fn_token) = head;
+    let (paren_token, (inputs, variadic)) = inputs;
+    TypeFnPtrOf {
+        attrs: Items::new(alloc),
+        lifetimes,
+        unsafety,
+        abi: optional_abi_of(abi),
+        fn_token,
+        paren_token,
+        inputs,
+        variadic: variadic_of(variadic),
+        output,
     }
 }
 

@@ -132,14 +132,14 @@ impl<
         input: &mut ParseStream<'_>,
         plus: bool,
         lifetimes: Option<BoundLifetimesOf<GenericParamOf<A, E>>>,
-        parts: (Option<QSelfOf<TypeOf<A, E>>>, PathOf<PathArgumentsOf<A, E>>),
+        qself: Option<QSelfOf<TypeOf<A, E>>>,
+        path: PathOf<PathArgumentsOf<A, E>>,
     ) -> Result<TypeOf<A, E>, Error>
         requires bounds { Nests (knot.bound A.reads E.reads) (length self.now.begin) (G.pre self.now.bounds) (G.post self.now.bounds) }
         requires few { ahead input.old ≤ length self.now.begin }
-        ensures parses { Parses (reading.path_or_object (knot.reads_below A.reads E.reads (length self.now.begin)) plus lifetimes parts) result input.old input.new }
+        ensures parses { Parses (reading.path_or_object (knot.reads_below A.reads E.reads (length self.now.begin)) plus lifetimes (qself, path)) result input.old input.new }
         ensures fewer { ahead input.new ≤ ahead input.old }
     {
-        let (qself, path) = parts;
         match qself {
             Some(qself) => Ok(TypeOf::Path(bare_path_type(self.alloc, Some(qself), path))),
             None => self.after_path(input, plus, lifetimes, path),
