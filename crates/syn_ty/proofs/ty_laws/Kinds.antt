@@ -1,5 +1,6 @@
 -- Questions about bounds and types that were read, case by case.
-use Rattle.std.proofs.Common.{◌≡◌, ◌==◌, ◌&&◌, not, if◌then◌else◌, Bool, true, false, List, [], ◌∷◌, ◌++◌, Option, Some, None, Ok, is_some, option_map, refl, sym, ◌∙◌, ap, length, arith}
+use Rattle.std.proofs.Common.{◌≡◌, ◌==◌, ◌&&◌, not, if◌then◌else◌, Bool, true, false, List, [], ◌∷◌, ◌++◌, Option, Some, None, Ok, is_some, refl, sym, ◌∙◌, ap, length, arith}
+use Rattle.std.specs.Prelude.{slice_get}
 use Rattle.syn_forms.specs.lists.Reading.{plus_follows}
 use Rattle.syn_forms.specs.verbatim.Reading.{position}
 use Rattle.syn_path.specs.declared.mac.Macro.{Macro}
@@ -34,8 +35,6 @@ use Rattle.syn_ty.specs.ty.Types.{paren_of}
 use Rattle.token_core.specs.declared.lifetime.Lifetime.{Lifetime}
 use Rattle.token_core.specs.declared.token.Paren.{Paren}
 use Rattle.token_core.specs.declared.tree.TokenStream.{TokenStream}
-use Rattle.token_core.specs.declared.punctuated.Pair.{Pair}
-use Rattle.token_core.specs.Joined.{marks_of, values_of}
 use Rattle.token_core.specs.Lists.{put_last}
 use Rattle.token_core.specs.Loops.{Many}
 use Rattle.token_core.proofs.Places.{reached_follows, reached_trans}
@@ -79,22 +78,22 @@ pub ruleset held_kinds = (held-Trait, held-Lifetime, held-PreciseCapture, held-V
 -- ---- a lone bound
 
 module _ {A E : Type 0} where
-  pub lone_last : (d : Option token.Dyn) (o : Option (TypeParamBound A E)) → is_lone d (values_of [] o, []) ≡ (not (is_some d) && is_some o)
-  lone_last (Some w) o = refl
-  lone_last None None = refl
-  lone_last None (Some x) = refl
+  -- by the first value, the second one and the first mark
+  abbrev pub lone_by : Option token.Dyn → Option (TypeParamBound A E) → Option (TypeParamBound A E) → Option token.Plus → Bool
+  lone_by None (Some x) None None = true
+  lone_by None (Some x) None (Some m) = false
+  lone_by None (Some x) (Some y) m = false
+  lone_by None None y m = false
+  lone_by (Some w) x y m = false
 
-  -- by what is lent of it
-  pub lone_lent : {T : Type 0} (f : T → TypeParamBound A E) (d : Option token.Dyn) (o : Option T) → is_lone d (values_of [] (option_map f o), []) ≡ (not (is_some d) && is_some o)
-  lone_lent f (Some w) o = refl
-  lone_lent f None None = refl
-  lone_lent f None (Some x) = refl
+  pub lone_parts : (d : Option token.Dyn) (v : Many (TypeParamBound A E) token.Plus) → is_lone d v ≡ lone_by d (slice_get v.0 0) (slice_get v.0 1) (slice_get v.1 0)
+  lone_parts (Some w) v = refl
+  lone_parts None ([], ms) = refl
+  lone_parts None (x ∷ [], []) = refl
+  lone_parts None (x ∷ [], m ∷ ms) = refl
+  lone_parts None (x ∷ y ∷ l, ms) = refl
 
-  pub lone_more : (d : Option token.Dyn) (q : Pair (TypeParamBound A E) token.Plus) (l : List (Pair (TypeParamBound A E) token.Plus)) (o : Option (TypeParamBound A E)) → is_lone d (values_of (q ∷ l) o, marks_of (q ∷ l)) ≡ false
-  lone_more (Some w) q l o = refl
-  lone_more None q [] None = refl
-  lone_more None q [] (Some x) = refl
-  lone_more None q (r ∷ l) o = refl
+pub ruleset lone_kinds = (lone_parts)
 
 module _ {A E : Type 0} (p : Paren) where
   -- it is the last one
@@ -123,7 +122,7 @@ module _ {A E : Type 0} (p : Paren) where
   not_lone None (y ∷ [], m ∷ ms) h = refl
   not_lone None (y ∷ [], []) h = cc
 
-pub ruleset lone_bounds = (lone_popped, not_lone, lone_last, lone_lent, lone_more)
+pub ruleset lone_bounds = (lone_popped, not_lone)
 
 -- ---- types
 

@@ -326,14 +326,19 @@ fn unqualified<A: Attributes, E: Value>(
 }
 
 /// Whether a trait object has one bound, without `dyn` before it and without a plus after it.
-#[tactic(auto, using(crate::proofs::ty_laws::Kinds::lone_bounds))]
+#[tactic(auto, using(crate::proofs::ty_laws::Kinds::lone_kinds))]
 fn is_lone<A: Attributes, E: Value>(object: &TypeTraitObjectOf<TypeParamBoundOf<A, E>, A>) -> bool
     ensures { result ≡ reading.is_lone object.now.dyn_token object.now.bounds }
 {
-    let (pairs, last) = object.bounds.parts();
-    match pairs {
-        [] => object.dyn_token.is_none() & last.is_some(),
-        [_, ..] => false,
+    let bounds = &object.bounds;
+    match (
+        &object.dyn_token,
+        bounds.value(0),
+        bounds.value(1),
+        bounds.mark(0),
+    ) {
+        (None, Some(_), None, None) => true,
+        _ => false,
     }
 }
 

@@ -220,6 +220,25 @@ impl<
         Ok(TypeOf::Group(bare_group(self.alloc, (group_token, elem))))
     }
 
+    /// After an invisible group that no segment follows: arguments may, else it is a type of its own.
+    #[tactic(auto, using(token_core::proofs::Suffixes::follows, syn_forms::proofs::nested_laws::Ahead::later), unfolding(crate::specs::ty::Reading::group_without_segments))]
+    pub(crate) fn group_without_segments(
+        &self,
+        input: &mut ParseStream<'_>,
+        group_token: GroupToken,
+        elem: Boxed<TypeOf<A, E>>,
+    ) -> Result<TypeOf<A, E>, Error>
+        requires segments { Nests (knot.arguments_in A.reads E.reads) (length self.now.begin) (J.pre self.now.segments) (J.post self.now.segments) }
+        requires few { ahead input.old < length self.now.begin }
+        ensures parses { Parses (reading.group_without_segments (knot.reads_below A.reads E.reads (length self.now.begin)) group_token elem) result input.old input.new }
+        ensures fewer { ahead input.new ≤ ahead input.old }
+    {
+        if sees_further_arguments(input) {
+            return self.group_with_arguments(input, group_token, elem.into_inner());
+        }
+        Ok(TypeOf::Group(bare_group(self.alloc, (group_token, elem))))
+    }
+
     /// What follows an invisible group may go on with the type that it holds.
     #[tactic(auto, using(token_core::proofs::Suffixes::follows, syn_forms::proofs::nested_laws::Ahead::later))]
     pub(crate) fn after_group(
@@ -236,10 +255,7 @@ impl<
         if sees_further_segment(input) {
             return self.group_with_segments(input, group_token, elem.into_inner());
         }
-        if sees_further_arguments(input) {
-            return self.group_with_arguments(input, group_token, elem.into_inner());
-        }
-        Ok(TypeOf::Group(bare_group(self.alloc, (group_token, elem))))
+        self.group_without_segments(input, group_token, elem)
     }
 
     /// A type in an invisible group, and what goes on with it (syn's `ambig_ty` at a group).
