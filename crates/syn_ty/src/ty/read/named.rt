@@ -5,13 +5,7 @@ ghost use Rattle.syn_forms.specs.nested.Below.{Nests, ahead};
 ghost use Rattle.syn_ty.specs.ty.Knot as knot;
 ghost use Rattle.syn_ty.specs.ty.Reading as reading;
 ghost use Rattle.token_core.specs.Reads.{Parses};
-ghost use Rattle.syn_forms.specs.declared.places.TypePlace.TheVariants.{Plus};
-ghost use Rattle.syn_forms.specs.groups.Reading.{in_parens};
-ghost use Rattle.syn_forms.specs.inputs.Reading as inputs;
 ghost use Rattle.syn_forms.specs.verbatim.Reading as verbatim;
-ghost use Rattle.syn_ty.specs.declared.ty.TypeOf.TheVariants as variants;
-ghost use Rattle.syn_ty.specs.ty.Points.{a_type};
-ghost use Rattle.syn_ty.specs.ty.Types as types;
 ghost use Rattle.token_core.specs.Positions.{IsReached};
 
 use crate::generics::{BoundLifetimesOf, GenericParamOf, TypeParamBoundOf};
@@ -85,11 +79,11 @@ impl<
         + Copy,
 > Grammar<'a, A, E, F, G, H, I, J> {
     /// The arguments of a pointer to a function, in parentheses.
-    #[tactic(auto, using(token_core::proofs::Suffixes::follows, syn_forms::proofs::nested_laws::Ahead::later))]
+    #[tactic(auto, using(token_core::proofs::Suffixes::follows, syn_forms::proofs::nested_laws::Ahead::later), unfolding(crate::specs::ty::Reading::fn_inputs))]
     pub(crate) fn fn_ptr_inputs(&self, input: &mut ParseStream<'_>) -> Result<FnInputs<A, E>, Error>
         requires types { Nests (knot.ty A.reads E.reads) (length self.now.begin) (F.pre self.now.types) (F.post self.now.types) }
         requires few { ahead input.old ≤ length self.now.begin }
-        ensures parses { Parses (in_parens (inputs.inputs types.named_arg_of A.reads ((knot.reads_below A.reads E.reads (length self.now.begin)) (a_type Plus)) variants.Verbatim)) result input.old input.new }
+        ensures parses { Parses (reading.fn_inputs A.reads E.reads (knot.reads_below A.reads E.reads (length self.now.begin))) result input.old input.new }
         ensures fewer { ahead input.new ≤ ahead input.old }
     {
         let (paren_token, mut content) = open_parens(self.alloc, input)?;
@@ -152,7 +146,7 @@ impl<
     }
 
     /// A pointer to a function, a path, or tokens that no case holds.
-    #[tactic(auto, using(token_core::proofs::Suffixes::follows, syn_forms::proofs::nested_laws::Ahead::later), unfolding(crate::specs::ty::Reading::named_type))]
+    #[tactic(auto, using(crate::proofs::ty_laws::Tails::tails, token_core::proofs::Suffixes::follows, syn_forms::proofs::nested_laws::Ahead::later), unfolding(crate::specs::ty::Reading::named_type))]
     pub(crate) fn named_type(
         &self,
         input: &mut ParseStream<'_>,
@@ -182,7 +176,7 @@ impl<
     }
 
     /// A type after its binder: a pointer to a function, or a trait object that begins with a path.
-    #[tactic(auto, using(token_core::proofs::Suffixes::follows, syn_forms::proofs::nested_laws::Ahead::later, crate::proofs::ty_laws::Kinds::later), unfolding(crate::specs::ty::Reading::bound_type))]
+    #[tactic(auto, using(crate::proofs::ty_laws::Tails::tails, token_core::proofs::Suffixes::follows, syn_forms::proofs::nested_laws::Ahead::later, crate::proofs::ty_laws::Kinds::later), unfolding(crate::specs::ty::Reading::bound_type))]
     pub(crate) fn bound_type(
         &self,
         input: &mut ParseStream<'_>,

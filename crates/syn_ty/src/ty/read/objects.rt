@@ -4,8 +4,8 @@ ghost use Rattle.std.specs.Prelude.{◌<◌, ◌≤◌, length, false};
 ghost use Rattle.syn_forms.specs.nested.Below.{Nests, ahead};
 ghost use Rattle.syn_ty.specs.ty.Knot as knot;
 ghost use Rattle.syn_ty.specs.ty.Reading as reading;
-ghost use Rattle.syn_forms.specs.declared.places.BoundPlace.TheVariants.{Object};
-ghost use Rattle.syn_forms.specs.lists.Reading.{bounds_from};
+ghost use Rattle.syn_forms.specs.declared.places.BoundPlace.TheVariants.{Object, Opaque};
+ghost use Rattle.syn_forms.specs.lists.Reading.{bounds, bounds_from};
 ghost use Rattle.syn_forms.specs.verbatim.Reading as verbatim;
 ghost use Rattle.syn_ty.specs.ty.Points.{a_bound};
 ghost use Rattle.syn_ty.specs.declared.generics.TypeParamBoundOf.{out-TypeParamBoundOf};
@@ -36,6 +36,7 @@ use token_core::{Boxed, Cursor, Error, ErrorKind, Lifetime, ParseStream, Punctua
 
 /// Bounds of which one names a trait: else they are refused, from a token on up to where the stream stands. Tokens that are held
 /// as they were written name one where `consts` says so.
+#[tactic(auto, unfolding(crate::specs::ty::Reading::needs))]
 fn needs_trait<A: Attributes, E: Value>(
     alloc: Global,
     input: &ParseStream<'_>,
@@ -53,6 +54,7 @@ fn needs_trait<A: Attributes, E: Value>(
 }
 
 /// A trait object after `dyn`; with a `*` it is held as it was written, from a position on.
+#[tactic(auto, unfolding(crate::specs::ty::Reading::dyn_of))]
 fn dyn_of<A: Attributes, E: Value>(
     alloc: Global,
     input: &ParseStream<'_>,
@@ -148,13 +150,7 @@ impl<
         ensures parses { Parses (reading.object_bounds (knot.reads_below A.reads E.reads (length self.now.begin)) from plus first) result input.old input.new }
         ensures fewer { ahead input.new ≤ ahead input.old }
     {
-        let end = Bounds {
-            consts: false,
-            plus,
-        };
-        let bounds = self
-            .bounds()
-            .list_from(input, BoundPlace::Object, end, first)?;
+        let bounds = self.more_bounds(input, plus, first)?;
         needs_trait(
             self.alloc,
             input,
@@ -224,6 +220,22 @@ impl<
         dyn_of(self.alloc, input, &at, dyn_token, star, bounds)
     }
 
+    /// The bounds after `impl`.
+    #[tactic(auto, using(token_core::proofs::Suffixes::follows, syn_forms::proofs::nested_laws::Ahead::later))]
+    fn opaque_bounds(
+        &self,
+        input: &mut ParseStream<'_>,
+        plus: bool,
+    ) -> Result<Punctuated<TypeParamBoundOf<A, E>, Plus>, Error>
+        requires bounds { Nests (knot.bound A.reads E.reads) (length self.now.begin) (G.pre self.now.bounds) (G.post self.now.bounds) }
+        requires few { ahead input.old ≤ length self.now.begin }
+        ensures parses { Parses (bounds (knot.reads_below A.reads E.reads (length self.now.begin) (a_bound Opaque)) true plus) result input.old input.new }
+        ensures fewer { ahead input.new ≤ ahead input.old }
+    {
+        let end = Bounds { consts: true, plus };
+        self.bounds().list(input, BoundPlace::Opaque, end)
+    }
+
     /// `impl A + 'a`: bounds, of which one has to name a trait.
     #[tactic(auto, using(token_core::proofs::Suffixes::follows, syn_forms::proofs::nested_laws::Ahead::later), unfolding(crate::specs::ty::Reading::impl_trait))]
     pub(crate) fn impl_trait(
@@ -238,8 +250,7 @@ impl<
     {
         let from = input.span();
         let impl_token = parse_impl(self.alloc, input)?;
-        let end = Bounds { consts: true, plus };
-        let bounds = self.bounds().list(input, BoundPlace::Opaque, end)?;
+        let bounds = self.opaque_bounds(input, plus)?;
         let bounds = needs_trait(
             self.alloc,
             input,
@@ -326,7 +337,7 @@ impl<
     }
 
     /// The type of what parentheses held. After `(?..)` each `+` needs a bound in every place.
-    #[tactic(auto, using(token_core::proofs::Suffixes::follows, syn_forms::proofs::nested_laws::Ahead::later))]
+    #[tactic(auto, using(token_core::proofs::Suffixes::follows, syn_forms::proofs::nested_laws::Ahead::later), unfolding(crate::specs::ty::Reading::of_parens))]
     pub(crate) fn of_parens(
         &self,
         input: &mut ParseStream<'_>,
