@@ -9,12 +9,15 @@ pub mod paths;
 pub mod step;
 pub mod tokens;
 
-ghost use Rattle.std.specs.Prelude.{false, true, IfOk};
+ghost use Rattle.std.specs.Prelude.{◌≡◌, false, true, IfOk};
 ghost use Rattle.syn_forms.specs.declared.places.TypePlace.TheVariants.{NoPlus, Plus};
+ghost use Rattle.syn_forms.specs.nested.Below.{ahead};
 ghost use Rattle.syn_ty.specs.ty.Grammars as grammars;
+ghost use Rattle.syn_ty.specs.ty.Groups.{IsGrouped};
 ghost use Rattle.syn_ty.specs.ty.Knot as knot;
 ghost use Rattle.syn_ty.specs.ty.Reading as reading;
 ghost use Rattle.syn_ty.specs.ty.Spelling.{IsInfer, IsMacroType, IsNever};
+ghost use Rattle.token_core.specs.Groups.{sees_invisible};
 ghost use Rattle.token_core.specs.Headline.{Heads, Headline};
 ghost use Rattle.token_core.specs.Reads.{Fails, Follows, Gives, Keeps, Parses, Reads};
 ghost use Rattle.token_core.specs.Rebuilt.{Visible};
@@ -42,8 +45,10 @@ use token_core::{Error, Parse, ParseStream};
 
 impl<A: Attributes, E: Value> TypeOf<A, E> {
     /// Reads a type where a `+` that follows is left, as what a pointer or a reference points to (`Type::without_plus`).
+    #[tactic(auto, using(crate::proofs::ty_laws::Groups::groups))]
     pub fn without_plus(alloc: Global, input: &mut ParseStream<'_>) -> Result<TypeOf<A, E>, Error>
         ensures parses { Parses (knot.ty A.reads E.reads NoPlus) result input.old input.new }
+        ensures group { sees_invisible input.old.rest ≡ true → IfOk result (λ x. IsGrouped (knot.reads_below A.reads E.reads (ahead input.old)) input.old x input.new) }
     {
         <TypeOf<A, E> as Held<TypePlace>>::parse_held(alloc, PhantomData, input, TypePlace::NoPlus)
     }
@@ -58,11 +63,12 @@ impl<A: Attributes, E: Value> Parse for TypeOf<A, E> {
 
     ghost refuses = { Fails (knot.ty A.reads E.reads Plus) };
 
-    #[tactic(auto, using(token_core::specs::Reads::no_promise))]
+    #[tactic(auto, using(token_core::specs::Reads::no_promise, crate::proofs::ty_laws::Groups::groups))]
     fn parse(alloc: Global, input: &mut ParseStream<'_>) -> Result<TypeOf<A, E>, Error>
         ensures reads { Reads (knot.ty A.reads E.reads Plus input.old) result input.new }
         ensures within { Follows input.old input.new }
         ensures promise { Keeps (λ _ _. Unit {0}) input.old result input.new }
+        ensures group { sees_invisible input.old.rest ≡ true → IfOk result (λ x. IsGrouped (knot.reads_below A.reads E.reads (ahead input.old)) input.old x input.new) }
     {
         <TypeOf<A, E> as Held<TypePlace>>::parse_held(alloc, PhantomData, input, TypePlace::Plus)
     }

@@ -1,6 +1,6 @@
 //! Trait objects, types that a function picks, and what begins with parentheses.
 
-ghost use Rattle.std.specs.Prelude.{◌<◌, ◌≤◌, length, false};
+ghost use Rattle.std.specs.Prelude.{◌<◌, ◌≤◌, length, false, true};
 ghost use Rattle.syn_forms.specs.nested.Below.{Nests, ahead};
 ghost use Rattle.syn_ty.specs.ty.Knot as knot;
 ghost use Rattle.syn_ty.specs.ty.Reading as reading;
