@@ -36,7 +36,7 @@ impl<A: Attributes, E: Value> Tree<()> for PathArgumentsOf<A, E> {
 
 /// Reads a type in its place.
 #[cycle(knot)]
-#[tactic(auto, using(crate::proofs::ty_laws::Tails::tails, crate::proofs::ty_laws::Knot::turns))]
+#[tactic(auto, using(crate::proofs::ty_laws::Knot::turns))]
 pub fn parse_type<A: Attributes, E: Value>(
     alloc: Global,
     of: PhantomData<TypeOf<A, E>>,
@@ -60,7 +60,7 @@ pub fn parse_type<A: Attributes, E: Value>(
 
 /// Reads a bound in its place.
 #[cycle(knot)]
-#[tactic(auto, using(crate::proofs::ty_laws::Tails::tails, crate::proofs::ty_laws::Knot::turns))]
+#[tactic(auto, using(crate::proofs::ty_laws::Knot::turns))]
 pub fn parse_bound<A: Attributes, E: Value>(
     alloc: Global,
     of: PhantomData<TypeParamBoundOf<A, E>>,
@@ -84,7 +84,7 @@ pub fn parse_bound<A: Attributes, E: Value>(
 
 /// Reads a parameter in its place.
 #[cycle(knot)]
-#[tactic(auto, using(crate::proofs::ty_laws::Tails::tails, crate::proofs::ty_laws::Knot::turns))]
+#[tactic(auto, using(crate::proofs::ty_laws::Knot::turns))]
 pub fn parse_param<A: Attributes, E: Value>(
     alloc: Global,
     of: PhantomData<GenericParamOf<A, E>>,
@@ -108,7 +108,7 @@ pub fn parse_param<A: Attributes, E: Value>(
 
 /// Reads an argument in angle brackets. It has one place.
 #[cycle(knot)]
-#[tactic(auto, using(crate::proofs::ty_laws::Tails::tails, crate::proofs::ty_laws::Knot::turns))]
+#[tactic(auto, using(crate::proofs::ty_laws::Knot::turns))]
 pub fn parse_argument<A: Attributes, E: Value>(
     alloc: Global,
     of: PhantomData<GenericArgumentOf<A, E>>,
@@ -132,7 +132,7 @@ pub fn parse_argument<A: Attributes, E: Value>(
 
 /// Reads the arguments of a segment, in angle brackets. They have one place.
 #[cycle(knot)]
-#[tactic(auto, using(crate::proofs::ty_laws::Tails::tails, crate::proofs::ty_laws::Knot::turns))]
+#[tactic(auto, using(crate::proofs::ty_laws::Knot::turns))]
 pub fn parse_arguments<A: Attributes, E: Value>(
     alloc: Global,
     of: PhantomData<PathArgumentsOf<A, E>>,

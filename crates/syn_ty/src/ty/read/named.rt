@@ -146,7 +146,7 @@ impl<
     }
 
     /// A pointer to a function, a path, or tokens that no case holds.
-    #[tactic(auto, using(crate::proofs::ty_laws::Tails::tails, token_core::proofs::Suffixes::follows, syn_forms::proofs::nested_laws::Ahead::later), unfolding(crate::specs::ty::Reading::named_type))]
+    #[tactic(auto, using(token_core::proofs::Suffixes::follows, syn_forms::proofs::nested_laws::Ahead::later), unfolding(crate::specs::ty::Reading::named_type))]
     pub(crate) fn named_type(
         &self,
         input: &mut ParseStream<'_>,
@@ -176,7 +176,7 @@ impl<
     }
 
     /// A type after its binder: a pointer to a function, or a trait object that begins with a path.
-    #[tactic(auto, using(crate::proofs::ty_laws::Tails::tails, token_core::proofs::Suffixes::follows, syn_forms::proofs::nested_laws::Ahead::later, crate::proofs::ty_laws::Kinds::later), unfolding(crate::specs::ty::Reading::bound_type))]
+    #[tactic(auto, using(token_core::proofs::Suffixes::follows, syn_forms::proofs::nested_laws::Ahead::later, crate::proofs::ty_laws::Kinds::later), unfolding(crate::specs::ty::Reading::bound_type))]
     pub(crate) fn bound_type(
         &self,
         input: &mut ParseStream<'_>,

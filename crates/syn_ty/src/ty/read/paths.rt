@@ -126,7 +126,7 @@ impl<
     }
 
     /// After a path: one that a type qualifies is the type.
-    #[tactic(auto, using(crate::proofs::ty_laws::Tails::tails, token_core::proofs::Suffixes::follows, syn_forms::proofs::nested_laws::Ahead::later), unfolding(crate::specs::ty::Reading::path_or_object))]
+    #[tactic(auto, using(token_core::proofs::Suffixes::follows, syn_forms::proofs::nested_laws::Ahead::later), unfolding(crate::specs::ty::Reading::path_or_object))]
     pub(crate) fn path_or_object(
         &self,
         input: &mut ParseStream<'_>,
@@ -221,7 +221,7 @@ impl<
     }
 
     /// After an invisible group that no segment follows: arguments may, else it is a type of its own.
-    #[tactic(auto, using(crate::proofs::ty_laws::Tails::tails, token_core::proofs::Suffixes::follows, syn_forms::proofs::nested_laws::Ahead::later), unfolding(crate::specs::ty::Reading::group_without_segments))]
+    #[tactic(auto, using(token_core::proofs::Suffixes::follows, syn_forms::proofs::nested_laws::Ahead::later), unfolding(crate::specs::ty::Reading::group_without_segments))]
     pub(crate) fn group_without_segments(
         &self,
         input: &mut ParseStream<'_>,
@@ -240,7 +240,7 @@ impl<
     }
 
     /// What follows an invisible group may go on with the type that it holds.
-    #[tactic(auto, using(crate::proofs::ty_laws::Tails::tails, token_core::proofs::Suffixes::follows, syn_forms::proofs::nested_laws::Ahead::later))]
+    #[tactic(auto, using(token_core::proofs::Suffixes::follows, syn_forms::proofs::nested_laws::Ahead::later))]
     pub(crate) fn after_group(
         &self,
         input: &mut ParseStream<'_>,

@@ -91,7 +91,7 @@ impl<
     }
 
     /// A type that begins with `dyn`, brackets, `*` or `&`, or as `by_last_tokens` reads it.
-    #[tactic(auto, using(crate::proofs::ty_laws::Tails::tails, token_core::proofs::Suffixes::follows, syn_forms::proofs::nested_laws::Ahead::later), unfolding(crate::specs::ty::Reading::by_token))]
+    #[tactic(auto, using(token_core::proofs::Suffixes::follows, syn_forms::proofs::nested_laws::Ahead::later), unfolding(crate::specs::ty::Reading::by_token))]
     pub(crate) fn by_token(
         &self,
         input: &mut ParseStream<'_>,
@@ -119,7 +119,7 @@ impl<
     }
 
     /// A type without a binder.
-    #[tactic(auto, using(crate::proofs::ty_laws::Tails::tails, token_core::proofs::Suffixes::follows, syn_forms::proofs::nested_laws::Ahead::later), unfolding(crate::specs::ty::Reading::unbound_type))]
+    #[tactic(auto, using(token_core::proofs::Suffixes::follows, syn_forms::proofs::nested_laws::Ahead::later), unfolding(crate::specs::ty::Reading::unbound_type))]
     pub(crate) fn unbound_type(
         &self,
         input: &mut ParseStream<'_>,
@@ -149,7 +149,7 @@ impl<
     ///
     /// In an invisible group it is the type that the group holds, with what goes on after the group. After a binder it is a pointer to
     /// a function or a trait object; else it is what its first token says. It is refused where none begins, and as its parts are.
-    #[tactic(auto, using(crate::proofs::ty_laws::Tails::tails, token_core::proofs::Suffixes::follows, syn_forms::proofs::nested_laws::Ahead::later, crate::proofs::ty_laws::Kinds::later), unfolding(crate::specs::ty::Reading::type_step))]
+    #[tactic(auto, using(token_core::proofs::Suffixes::follows, syn_forms::proofs::nested_laws::Ahead::later, crate::proofs::ty_laws::Kinds::later), unfolding(crate::specs::ty::Reading::type_step))]
     pub fn type_step(
         &self,
         input: &mut ParseStream<'_>,
