@@ -228,7 +228,7 @@ impl<
         plus: bool,
     ) -> Result<Punctuated<TypeParamBoundOf<A, E>, Plus>, Error>
         requires bounds { Nests (knot.bound A.reads E.reads) (length self.now.begin) (G.pre self.now.bounds) (G.post self.now.bounds) }
-        requires few { ahead input.old ≤ length self.now.begin }
+        requires few { ahead input.old < length self.now.begin }
         ensures parses { Parses (bounds (knot.reads_below A.reads E.reads (length self.now.begin) (a_bound Opaque)) true plus) result input.old input.new }
         ensures fewer { ahead input.new ≤ ahead input.old }
     {
