@@ -281,6 +281,7 @@ pub fn open_invisible<'a>(
 ) -> Result<(GroupToken, ParseStream<'a>), Error>
     ensures parses { Parses (λ s. groups.opened groups.group_token (groups.open_invisible s)) result input.old input.new }
     ensures inside { IfOk result (λ p. ahead p.1 < ahead input.old) }
+    ensures taken { IfOk result (λ p. ahead input.new < ahead input.old) }
 {
     input.invisible(alloc)
 }

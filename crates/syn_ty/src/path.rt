@@ -1,6 +1,7 @@
 //! Arguments of paths.
 
 pub mod print;
+pub mod read;
 
 ghost use Rattle.std.specs.Prelude.{◌≡◌};
 ghost use Rattle.syn_ty.specs.path.Paths as spec;

@@ -7,10 +7,15 @@ ghost use Rattle.synmid.specs.Readers as spec;
 use crate::sample::Sample;
 use std::alloc::{AllocError, Global};
 use syn_mid::{
-    Attribute, Attributes, Expr, Macro, Meta, MetaList, MetaNameValue, ModStyle, NoArguments,
-    ParseInner, ParseOuter, PointerMutability, TypeArrayOf, TypeInferOf, TypeMacroOf, TypeNeverOf,
-    TypeOf, TypeParamBoundOf, TypeParenOf, TypePathOf, TypePtrOf, TypeReferenceOf, TypeSliceOf,
-    TypeTupleOf, Value, WithoutPlusOf,
+    Abi, AngleBracketedGenericArgumentsOf, Attribute, Attributes, BoundLifetimesOf, CapturedParam,
+    ConstParamOf, Expr, GenericArgumentOf, GenericParamOf, ImplWithoutPlusOf, LifetimeParamOf,
+    Macro, Meta, MetaList, MetaNameValue, ModStyle, NamedArgOf, NoArguments, ObjectWithoutPlusOf,
+    ParenthesizedGenericArgumentsOf, ParseInner, ParseOptionalAbi, ParseOptionalLifetimesOf,
+    ParseOuter, ParseTurbofishOf, PathArgumentsOf, PathOf, PathSegmentOf, PointerMutability,
+    PreciseCapture, ReturnTypeOf, ReturnWithoutPlusOf, TraitBoundOf, TypeArrayOf, TypeFnPtrOf,
+    TypeGroupOf, TypeImplTraitOf, TypeInferOf, TypeMacroOf, TypeNeverOf, TypeOf, TypeParamBoundOf,
+    TypeParamOf, TypeParenOf, TypePathOf, TypePtrOf, TypeReferenceOf, TypeSliceOf,
+    TypeTraitObjectOf, TypeTupleOf, Value, WithoutPlusOf,
 };
 use token_core::{Error, Items, Parse, Parser, ToTokens, TokenStream, read_all, read_all_with};
 
@@ -26,14 +31,20 @@ pub enum Reader {
     Inner,
     PointerMutability,
     Types(TypeReader),
+    Paths(PathReader),
+    Generics(GenericsReader),
 }
 
-/// A reader of types, of a form of types, or of bounds.
+/// A reader of types, or of a form of types.
 #[derive(Clone, Copy, PartialEq, Eq)]
 pub enum TypeReader {
     Any,
     WithoutPlus,
     Array,
+    FnPtr,
+    Group,
+    ImplTrait,
+    ImplWithoutPlus,
     Infer,
     Macro,
     Never,
@@ -42,8 +53,40 @@ pub enum TypeReader {
     Ptr,
     Reference,
     Slice,
+    TraitObject,
+    ObjectWithoutPlus,
     Tuple,
+    Return,
+    ReturnWithoutPlus,
+    NamedArg,
+    Abi,
+    OptionalAbi,
+}
+
+/// A reader of paths or of their arguments.
+#[derive(Clone, Copy, PartialEq, Eq)]
+pub enum PathReader {
+    Whole,
+    Segment,
+    Argument,
+    AngleBracketed,
+    ParseTurbofish,
+    Parenthesized,
+}
+
+/// A reader of parameters, binders, bounds or captures.
+#[derive(Clone, Copy, PartialEq, Eq)]
+pub enum GenericsReader {
+    Param,
+    LifetimeParam,
+    TypeParam,
+    ConstParam,
+    BoundLifetimes,
+    OptionalBoundLifetimes,
     Bound,
+    TraitBound,
+    Capture,
+    Captured,
 }
 
 impl Reader {
@@ -59,16 +102,29 @@ impl Reader {
             "Attribute::parse_outer" => Some(Reader::Outer),
             "Attribute::parse_inner" => Some(Reader::Inner),
             "PointerMutability" => Some(Reader::PointerMutability),
-            _ => match TypeReader::named(name) {
-                Some(reader) => Some(Reader::Types(reader)),
-                None => None,
-            },
+            _ => Reader::of_types(name),
+        }
+    }
+
+    /// Of the readers of types, paths and generics, the one of this name.
+    fn of_types(name: &str) -> Option<Reader>
+        ensures { result ≡ spec.of_types name.now }
+    {
+        if let Some(reader) = TypeReader::named(name) {
+            return Some(Reader::Types(reader));
+        }
+        if let Some(reader) = PathReader::named(name) {
+            return Some(Reader::Paths(reader));
+        }
+        match GenericsReader::named(name) {
+            Some(reader) => Some(Reader::Generics(reader)),
+            None => None,
         }
     }
 
     /// Reads all of a list, and prints what was read.
     pub fn reprint(self, alloc: Global, tokens: &TokenStream) -> Result<TokenStream, Error>
-        ensures { spec.Reprints (spec.grammar self) (toks tokens.now) result }
+        ensures { spec.Reprints (spec.category self) (toks tokens.now) result }
     {
         match self {
             Reader::Macro => reprint::<Macro>(alloc, tokens),
@@ -80,6 +136,12 @@ impl Reader {
             Reader::Inner => reprint_attributes(alloc, ParseInner::<Sample>::new(), tokens),
             Reader::PointerMutability => reprint::<PointerMutability>(alloc, tokens),
             Reader::Types(reader) => {
+                reader.reprint_over::<Attribute<Sample>, Expr<Sample>>(alloc, tokens)
+            }
+            Reader::Paths(reader) => {
+                reader.reprint_over::<Attribute<Sample>, Expr<Sample>>(alloc, tokens)
+            }
+            Reader::Generics(reader) => {
                 reader.reprint_over::<Attribute<Sample>, Expr<Sample>>(alloc, tokens)
             }
         }
@@ -94,6 +156,10 @@ impl TypeReader {
             "Type" => Some(TypeReader::Any),
             "Type::without_plus" => Some(TypeReader::WithoutPlus),
             "TypeArray" => Some(TypeReader::Array),
+            "TypeFnPtr" => Some(TypeReader::FnPtr),
+            "TypeGroup" => Some(TypeReader::Group),
+            "TypeImplTrait" => Some(TypeReader::ImplTrait),
+            "TypeImplTrait::without_plus" => Some(TypeReader::ImplWithoutPlus),
             "TypeInfer" => Some(TypeReader::Infer),
             "TypeMacro" => Some(TypeReader::Macro),
             "TypeNever" => Some(TypeReader::Never),
@@ -102,8 +168,14 @@ impl TypeReader {
             "TypePtr" => Some(TypeReader::Ptr),
             "TypeReference" => Some(TypeReader::Reference),
             "TypeSlice" => Some(TypeReader::Slice),
+            "TypeTraitObject" => Some(TypeReader::TraitObject),
+            "TypeTraitObject::without_plus" => Some(TypeReader::ObjectWithoutPlus),
             "TypeTuple" => Some(TypeReader::Tuple),
-            "TypeParamBound" => Some(TypeReader::Bound),
+            "ReturnType" => Some(TypeReader::Return),
+            "ReturnType::without_plus" => Some(TypeReader::ReturnWithoutPlus),
+            "NamedArg" => Some(TypeReader::NamedArg),
+            "Abi" => Some(TypeReader::Abi),
+            "Abi::parse_optional" => Some(TypeReader::OptionalAbi),
             _ => None,
         }
     }
@@ -115,12 +187,22 @@ impl TypeReader {
         alloc: Global,
         tokens: &TokenStream,
     ) -> Result<TokenStream, Error>
-        ensures { spec.Reprints (spec.type_grammar E.reads.len E.spells.len A.normal E.normal A.shown E.values self) (toks tokens.now) result }
+        ensures { spec.Reprints (spec.types_category A.reads E.reads A.normal A.shown E.values self) (toks tokens.now) result }
     {
         match self {
             TypeReader::Any => reprint::<TypeOf<A, E>>(alloc, tokens),
             TypeReader::WithoutPlus => reprint_with(alloc, WithoutPlusOf::<A, E>::new(), tokens),
             TypeReader::Array => reprint::<TypeArrayOf<TypeOf<A, E>, A, E>>(alloc, tokens),
+            TypeReader::FnPtr => reprint::<TypeFnPtrOf<A, E>>(alloc, tokens),
+            TypeReader::Group => reprint::<TypeGroupOf<TypeOf<A, E>, A>>(alloc, tokens),
+            TypeReader::ImplTrait => reprint::<TypeImplTraitOf<TypeParamBoundOf<A, E>, A>>(
+                alloc, tokens,
+            ),
+            TypeReader::ImplWithoutPlus => reprint_with(
+                alloc,
+                ImplWithoutPlusOf::<A, E>::new(),
+                tokens,
+            ),
             TypeReader::Infer => reprint::<TypeInferOf<A>>(alloc, tokens),
             TypeReader::Macro => reprint::<TypeMacroOf<A>>(alloc, tokens),
             TypeReader::Never => reprint::<TypeNeverOf<A>>(alloc, tokens),
@@ -129,8 +211,116 @@ impl TypeReader {
             TypeReader::Ptr => reprint::<TypePtrOf<TypeOf<A, E>, A>>(alloc, tokens),
             TypeReader::Reference => reprint::<TypeReferenceOf<TypeOf<A, E>, A>>(alloc, tokens),
             TypeReader::Slice => reprint::<TypeSliceOf<TypeOf<A, E>, A>>(alloc, tokens),
+            TypeReader::TraitObject => reprint::<TypeTraitObjectOf<TypeParamBoundOf<A, E>, A>>(
+                alloc, tokens,
+            ),
+            TypeReader::ObjectWithoutPlus => reprint_with(
+                alloc,
+                ObjectWithoutPlusOf::<A, E>::new(),
+                tokens,
+            ),
             TypeReader::Tuple => reprint::<TypeTupleOf<TypeOf<A, E>, A>>(alloc, tokens),
-            TypeReader::Bound => reprint::<TypeParamBoundOf<A, E>>(alloc, tokens),
+            TypeReader::Return => reprint::<ReturnTypeOf<TypeOf<A, E>>>(alloc, tokens),
+            TypeReader::ReturnWithoutPlus => reprint_with(
+                alloc,
+                ReturnWithoutPlusOf::<A, E>::new(),
+                tokens,
+            ),
+            TypeReader::NamedArg => reprint::<NamedArgOf<TypeOf<A, E>, A>>(alloc, tokens),
+            TypeReader::Abi => reprint::<Abi>(alloc, tokens),
+            TypeReader::OptionalAbi => reprint_with(alloc, ParseOptionalAbi::new(), tokens),
+        }
+    }
+}
+
+impl PathReader {
+    fn named(name: &str) -> Option<PathReader>
+        ensures { result ≡ spec.paths_named name.now }
+    {
+        match name {
+            "Path" => Some(PathReader::Whole),
+            "PathSegment" => Some(PathReader::Segment),
+            "GenericArgument" => Some(PathReader::Argument),
+            "AngleBracketedGenericArguments" => Some(PathReader::AngleBracketed),
+            "AngleBracketedGenericArguments::parse_turbofish" => Some(PathReader::ParseTurbofish),
+            "ParenthesizedGenericArguments" => Some(PathReader::Parenthesized),
+            _ => None,
+        }
+    }
+
+    /// Reads all of a list, and prints what was read, over any attributes and expressions.
+    fn reprint_over<A: Attributes, E: Value>(
+        self,
+        alloc: Global,
+        tokens: &TokenStream,
+    ) -> Result<TokenStream, Error>
+        ensures { spec.Reprints (spec.paths_category A.reads E.reads A.normal A.shown E.values self) (toks tokens.now) result }
+    {
+        match self {
+            PathReader::Whole => reprint::<PathOf<PathArgumentsOf<A, E>>>(alloc, tokens),
+            PathReader::Segment => reprint::<PathSegmentOf<PathArgumentsOf<A, E>>>(alloc, tokens),
+            PathReader::Argument => reprint::<GenericArgumentOf<A, E>>(alloc, tokens),
+            PathReader::AngleBracketed => reprint::<
+                AngleBracketedGenericArgumentsOf<GenericArgumentOf<A, E>>,
+            >(alloc, tokens),
+            PathReader::ParseTurbofish => reprint_with(
+                alloc,
+                ParseTurbofishOf::<A, E>::new(),
+                tokens,
+            ),
+            PathReader::Parenthesized => reprint::<
+                ParenthesizedGenericArgumentsOf<TypeOf<A, E>, A>,
+            >(alloc, tokens),
+        }
+    }
+}
+
+impl GenericsReader {
+    fn named(name: &str) -> Option<GenericsReader>
+        ensures { result ≡ spec.generics_named name.now }
+    {
+        match name {
+            "GenericParam" => Some(GenericsReader::Param),
+            "LifetimeParam" => Some(GenericsReader::LifetimeParam),
+            "TypeParam" => Some(GenericsReader::TypeParam),
+            "ConstParam" => Some(GenericsReader::ConstParam),
+            "BoundLifetimes" => Some(GenericsReader::BoundLifetimes),
+            "BoundLifetimes::parse_optional" => Some(GenericsReader::OptionalBoundLifetimes),
+            "TypeParamBound" => Some(GenericsReader::Bound),
+            "TraitBound" => Some(GenericsReader::TraitBound),
+            "PreciseCapture" => Some(GenericsReader::Capture),
+            "CapturedParam" => Some(GenericsReader::Captured),
+            _ => None,
+        }
+    }
+
+    /// Reads all of a list, and prints what was read, over any attributes and expressions.
+    fn reprint_over<A: Attributes, E: Value>(
+        self,
+        alloc: Global,
+        tokens: &TokenStream,
+    ) -> Result<TokenStream, Error>
+        ensures { spec.Reprints (spec.generics_category A.reads E.reads A.normal A.shown E.values self) (toks tokens.now) result }
+    {
+        match self {
+            GenericsReader::Param => reprint::<GenericParamOf<A, E>>(alloc, tokens),
+            GenericsReader::LifetimeParam => reprint::<LifetimeParamOf<A>>(alloc, tokens),
+            GenericsReader::TypeParam => reprint::<TypeParamOf<A, E>>(alloc, tokens),
+            GenericsReader::ConstParam => reprint::<ConstParamOf<TypeOf<A, E>, A, E>>(
+                alloc, tokens,
+            ),
+            GenericsReader::BoundLifetimes => reprint::<BoundLifetimesOf<GenericParamOf<A, E>>>(
+                alloc, tokens,
+            ),
+            GenericsReader::OptionalBoundLifetimes => reprint_with(
+                alloc,
+                ParseOptionalLifetimesOf::<A, E>::new(),
+                tokens,
+            ),
+            GenericsReader::Bound => reprint::<TypeParamBoundOf<A, E>>(alloc, tokens),
+            GenericsReader::TraitBound => reprint::<TraitBoundOf<A, E>>(alloc, tokens),
+            GenericsReader::Capture => reprint::<PreciseCapture>(alloc, tokens),
+            GenericsReader::Captured => reprint::<CapturedParam>(alloc, tokens),
         }
     }
 }

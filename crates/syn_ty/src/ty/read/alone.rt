@@ -1,0 +1,294 @@
+//! Types and parts of types by themselves: what each holds is read by the knot, further on than it began.
+
+ghost use Rattle.syn_ty.specs.ty.Knot as knot;
+ghost use Rattle.token_core.specs.Reads.{Parses};
+
+use crate::generics::{GenericParamOf, TypeParamBoundOf};
+use crate::grammar::{Grammar, read_argument, read_arguments, read_bound, read_param, read_type};
+use crate::path::{GenericArgumentOf, PathArgumentsOf};
+use crate::ty::{
+    NamedArgOf, ReturnTypeOf, TypeArrayOf, TypeFnPtrOf, TypeGroupOf, TypeImplTraitOf, TypeOf,
+    TypeParenOf, TypePathOf, TypePtrOf, TypeReferenceOf, TypeSliceOf, TypeTraitObjectOf,
+    TypeTupleOf,
+};
+use std::alloc::Global;
+use std::marker::PhantomData;
+use syn_forms::places::{BoundPlace, ParamPlace, TypePlace};
+use syn_path::supplied::{Attributes, Value};
+use token_core::{Error, ParseStream};
+
+/// `[T; n]`
+#[tactic(auto, unfolding(crate::specs::ty::Knot::array))]
+pub(crate) fn parse_array<A: Attributes, E: Value>(
+    alloc: Global,
+    input: &mut ParseStream<'_>,
+) -> Result<TypeArrayOf<TypeOf<A, E>, A, E>, Error>
+    ensures parses { Parses (knot.array A.reads E.reads) result input.old input.new }
+{
+    Grammar {
+        alloc,
+        of: PhantomData,
+        begin: input.cursor(),
+        types: read_type::<A, E>,
+        bounds: read_bound::<A, E>,
+        params: read_param::<A, E>,
+        args: read_argument::<A, E>,
+        segments: read_arguments::<A, E>,
+    }
+    .array(input)
+}
+
+/// `for<'a> unsafe extern "C" fn(a: A, ...) -> B`
+#[tactic(auto, unfolding(crate::specs::ty::Knot::fn_ptr))]
+pub(crate) fn parse_fn_ptr<A: Attributes, E: Value>(
+    alloc: Global,
+    input: &mut ParseStream<'_>,
+) -> Result<TypeFnPtrOf<A, E>, Error>
+    ensures parses { Parses (knot.fn_ptr A.reads E.reads) result input.old input.new }
+{
+    Grammar {
+        alloc,
+        of: PhantomData,
+        begin: input.cursor(),
+        types: read_type::<A, E>,
+        bounds: read_bound::<A, E>,
+        params: read_param::<A, E>,
+        args: read_argument::<A, E>,
+        segments: read_arguments::<A, E>,
+    }
+    .fn_ptr(input)
+}
+
+/// A type in an invisible group.
+#[tactic(auto, unfolding(crate::specs::ty::Knot::group))]
+pub(crate) fn parse_group<A: Attributes, E: Value>(
+    alloc: Global,
+    input: &mut ParseStream<'_>,
+) -> Result<TypeGroupOf<TypeOf<A, E>, A>, Error>
+    ensures parses { Parses (knot.group A.reads E.reads) result input.old input.new }
+{
+    Grammar {
+        alloc,
+        of: PhantomData,
+        begin: input.cursor(),
+        types: read_type::<A, E>,
+        bounds: read_bound::<A, E>,
+        params: read_param::<A, E>,
+        args: read_argument::<A, E>,
+        segments: read_arguments::<A, E>,
+    }
+    .group(input)
+}
+
+/// `impl A + 'a`
+#[tactic(auto, unfolding(crate::specs::ty::Knot::impl_trait))]
+pub(crate) fn parse_impl_trait<A: Attributes, E: Value>(
+    alloc: Global,
+    input: &mut ParseStream<'_>,
+    plus: bool,
+) -> Result<TypeImplTraitOf<TypeParamBoundOf<A, E>, A>, Error>
+    ensures parses { Parses (knot.impl_trait A.reads E.reads plus) result input.old input.new }
+{
+    Grammar {
+        alloc,
+        of: PhantomData,
+        begin: input.cursor(),
+        types: read_type::<A, E>,
+        bounds: read_bound::<A, E>,
+        params: read_param::<A, E>,
+        args: read_argument::<A, E>,
+        segments: read_arguments::<A, E>,
+    }
+    .impl_trait(input, plus)
+}
+
+/// `(T)`, the type without plus
+#[tactic(auto, unfolding(crate::specs::ty::Knot::paren))]
+pub(crate) fn parse_paren<A: Attributes, E: Value>(
+    alloc: Global,
+    input: &mut ParseStream<'_>,
+) -> Result<TypeParenOf<TypeOf<A, E>, A>, Error>
+    ensures parses { Parses (knot.paren A.reads E.reads) result input.old input.new }
+{
+    Grammar {
+        alloc,
+        of: PhantomData,
+        begin: input.cursor(),
+        types: read_type::<A, E>,
+        bounds: read_bound::<A, E>,
+        params: read_param::<A, E>,
+        args: read_argument::<A, E>,
+        segments: read_arguments::<A, E>,
+    }
+    .paren(input)
+}
+
+/// `a::b<T>`, `<T as a::b>::c`
+#[tactic(auto, unfolding(crate::specs::ty::Knot::path_type))]
+pub(crate) fn parse_path_type<A: Attributes, E: Value>(
+    alloc: Global,
+    input: &mut ParseStream<'_>,
+) -> Result<TypePathOf<A, E>, Error>
+    ensures parses { Parses (knot.path_type A.reads E.reads) result input.old input.new }
+{
+    Grammar {
+        alloc,
+        of: PhantomData,
+        begin: input.cursor(),
+        types: read_type::<A, E>,
+        bounds: read_bound::<A, E>,
+        params: read_param::<A, E>,
+        args: read_argument::<A, E>,
+        segments: read_arguments::<A, E>,
+    }
+    .path_type(input)
+}
+
+/// `*const T`, `*mut T`
+#[tactic(auto, unfolding(crate::specs::ty::Knot::ptr))]
+pub(crate) fn parse_ptr<A: Attributes, E: Value>(
+    alloc: Global,
+    input: &mut ParseStream<'_>,
+) -> Result<TypePtrOf<TypeOf<A, E>, A>, Error>
+    ensures parses { Parses (knot.ptr A.reads E.reads) result input.old input.new }
+{
+    Grammar {
+        alloc,
+        of: PhantomData,
+        begin: input.cursor(),
+        types: read_type::<A, E>,
+        bounds: read_bound::<A, E>,
+        params: read_param::<A, E>,
+        args: read_argument::<A, E>,
+        segments: read_arguments::<A, E>,
+    }
+    .ptr(input)
+}
+
+/// `&'a mut T`
+#[tactic(auto, unfolding(crate::specs::ty::Knot::reference))]
+pub(crate) fn parse_reference<A: Attributes, E: Value>(
+    alloc: Global,
+    input: &mut ParseStream<'_>,
+) -> Result<TypeReferenceOf<TypeOf<A, E>, A>, Error>
+    ensures parses { Parses (knot.reference A.reads E.reads) result input.old input.new }
+{
+    Grammar {
+        alloc,
+        of: PhantomData,
+        begin: input.cursor(),
+        types: read_type::<A, E>,
+        bounds: read_bound::<A, E>,
+        params: read_param::<A, E>,
+        args: read_argument::<A, E>,
+        segments: read_arguments::<A, E>,
+    }
+    .reference(input)
+}
+
+/// `[T]`
+#[tactic(auto, unfolding(crate::specs::ty::Knot::slice))]
+pub(crate) fn parse_slice<A: Attributes, E: Value>(
+    alloc: Global,
+    input: &mut ParseStream<'_>,
+) -> Result<TypeSliceOf<TypeOf<A, E>, A>, Error>
+    ensures parses { Parses (knot.slice A.reads E.reads) result input.old input.new }
+{
+    Grammar {
+        alloc,
+        of: PhantomData,
+        begin: input.cursor(),
+        types: read_type::<A, E>,
+        bounds: read_bound::<A, E>,
+        params: read_param::<A, E>,
+        args: read_argument::<A, E>,
+        segments: read_arguments::<A, E>,
+    }
+    .slice(input)
+}
+
+/// `dyn A + 'a`, `A + 'a`
+#[tactic(auto, unfolding(crate::specs::ty::Knot::trait_object))]
+pub(crate) fn parse_trait_object<A: Attributes, E: Value>(
+    alloc: Global,
+    input: &mut ParseStream<'_>,
+    plus: bool,
+) -> Result<TypeTraitObjectOf<TypeParamBoundOf<A, E>, A>, Error>
+    ensures parses { Parses (knot.trait_object A.reads E.reads plus) result input.old input.new }
+{
+    Grammar {
+        alloc,
+        of: PhantomData,
+        begin: input.cursor(),
+        types: read_type::<A, E>,
+        bounds: read_bound::<A, E>,
+        params: read_param::<A, E>,
+        args: read_argument::<A, E>,
+        segments: read_arguments::<A, E>,
+    }
+    .trait_object(input, plus)
+}
+
+/// `(A, B)`
+#[tactic(auto, unfolding(crate::specs::ty::Knot::tuple))]
+pub(crate) fn parse_tuple<A: Attributes, E: Value>(
+    alloc: Global,
+    input: &mut ParseStream<'_>,
+) -> Result<TypeTupleOf<TypeOf<A, E>, A>, Error>
+    ensures parses { Parses (knot.tuple A.reads E.reads) result input.old input.new }
+{
+    Grammar {
+        alloc,
+        of: PhantomData,
+        begin: input.cursor(),
+        types: read_type::<A, E>,
+        bounds: read_bound::<A, E>,
+        params: read_param::<A, E>,
+        args: read_argument::<A, E>,
+        segments: read_arguments::<A, E>,
+    }
+    .tuple(input)
+}
+
+/// Nothing, or `-> T`
+#[tactic(auto, unfolding(crate::specs::ty::Knot::return_type))]
+pub(crate) fn parse_return_type<A: Attributes, E: Value>(
+    alloc: Global,
+    input: &mut ParseStream<'_>,
+    place: TypePlace,
+) -> Result<ReturnTypeOf<TypeOf<A, E>>, Error>
+    ensures parses { Parses (knot.return_type A.reads E.reads place) result input.old input.new }
+{
+    Grammar {
+        alloc,
+        of: PhantomData,
+        begin: input.cursor(),
+        types: read_type::<A, E>,
+        bounds: read_bound::<A, E>,
+        params: read_param::<A, E>,
+        args: read_argument::<A, E>,
+        segments: read_arguments::<A, E>,
+    }
+    .return_type(input, place)
+}
+
+/// `a: T`
+#[tactic(auto, unfolding(crate::specs::ty::Knot::named_arg))]
+pub(crate) fn parse_named_arg<A: Attributes, E: Value>(
+    alloc: Global,
+    input: &mut ParseStream<'_>,
+) -> Result<NamedArgOf<TypeOf<A, E>, A>, Error>
+    ensures parses { Parses (knot.named_arg A.reads E.reads) result input.old input.new }
+{
+    Grammar {
+        alloc,
+        of: PhantomData,
+        begin: input.cursor(),
+        types: read_type::<A, E>,
+        bounds: read_bound::<A, E>,
+        params: read_param::<A, E>,
+        args: read_argument::<A, E>,
+        segments: read_arguments::<A, E>,
+    }
+    .named_arg(input)
+}
