@@ -37,7 +37,7 @@ pub struct Grammar<'a, A, E, F, G, H, I, J> {
     pub segments: J,
 }
 
-impl<'a, A, E, F: Copy, G: Copy, H: Copy, I: Copy, J: Copy> Grammar<'a, A, E, F, G, H, I, J> {
+impl<'a, A, E, F: Copy, G, H, I, J> Grammar<'a, A, E, F, G, H, I, J> {
     /// The types that are held.
     pub fn types(&self) -> Nested<'a, TypePlace, TypeOf<A, E>, F>
         ensures begin { result.begin ≡ self.now.begin }
@@ -50,7 +50,9 @@ impl<'a, A, E, F: Copy, G: Copy, H: Copy, I: Copy, J: Copy> Grammar<'a, A, E, F,
             read: self.types,
         }
     }
+}
 
+impl<'a, A, E, F, G: Copy, H, I, J> Grammar<'a, A, E, F, G, H, I, J> {
     /// The bounds that are held.
     pub fn bounds(&self) -> Nested<'a, BoundPlace, TypeParamBoundOf<A, E>, G>
         ensures begin { result.begin ≡ self.now.begin }
@@ -63,7 +65,9 @@ impl<'a, A, E, F: Copy, G: Copy, H: Copy, I: Copy, J: Copy> Grammar<'a, A, E, F,
             read: self.bounds,
         }
     }
+}
 
+impl<'a, A, E, F, G, H: Copy, I, J> Grammar<'a, A, E, F, G, H, I, J> {
     /// The parameters that are held.
     pub fn params(&self) -> Nested<'a, ParamPlace, GenericParamOf<A, E>, H>
         ensures begin { result.begin ≡ self.now.begin }
@@ -76,7 +80,9 @@ impl<'a, A, E, F: Copy, G: Copy, H: Copy, I: Copy, J: Copy> Grammar<'a, A, E, F,
             read: self.params,
         }
     }
+}
 
+impl<'a, A, E, F, G, H, I: Copy, J> Grammar<'a, A, E, F, G, H, I, J> {
     /// The arguments in angle brackets.
     pub fn args(&self) -> Nested<'a, (), GenericArgumentOf<A, E>, I>
         ensures begin { result.begin ≡ self.now.begin }
@@ -89,7 +95,9 @@ impl<'a, A, E, F: Copy, G: Copy, H: Copy, I: Copy, J: Copy> Grammar<'a, A, E, F,
             read: self.args,
         }
     }
+}
 
+impl<'a, A, E, F, G, H, I, J: Copy> Grammar<'a, A, E, F, G, H, I, J> {
     /// The arguments of segments.
     pub fn segments(&self) -> Nested<'a, (), PathArgumentsOf<A, E>, J>
         ensures begin { result.begin ≡ self.now.begin }

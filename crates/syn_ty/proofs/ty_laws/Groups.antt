@@ -74,6 +74,7 @@ module _ {A E : Type 0} (r : Readers A E) (g : GroupToken) (x : TypeTree A E) (s
       ]
 
   goes_on : after_group r (g, x) s ≡ Ok (y, t) → GoesOn r g x s y t
+  unfolding after_group
   goes_on e =
       elim (branch (sees_further_segment s.rest) _ _ s (Ok (y, t)) e) [
         | inl h ↦ with_segments h.0 (as_path x) refl h.1

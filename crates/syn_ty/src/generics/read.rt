@@ -22,8 +22,8 @@ use crate::generics::{
     BoundLifetimesOf, CapturedParam, ConstParamOf, GenericParamOf, LifetimeParamOf, PreciseCapture,
     TraitBoundModifiers, TraitBoundOf, TypeParamBoundOf, TypeParamOf,
 };
-use crate::grammar::{Grammar, read_argument, read_arguments, read_bound, read_param, read_type};
-use crate::path::{GenericArgumentOf, PathArgumentsOf};
+use crate::grammar::{Grammar, read_arguments, read_bound, read_param, read_type};
+use crate::path::PathArgumentsOf;
 use crate::ty::TypeOf;
 use std::alloc::Global;
 use std::marker::PhantomData;
@@ -349,16 +349,7 @@ fn no_generics_param(alloc: Global, input: &ParseStream<'_>) -> Error
 
 // ---- over the readers of what they hold
 
-impl<
-    'a,
-    A: Attributes,
-    E: Value,
-    F,
-    G,
-    H,
-    I,
-    J,
-> Grammar<'a, A, E, F, G, H, I, J> {
+impl<'a, A: Attributes, E: Value, F, G, H, I, J> Grammar<'a, A, E, F, G, H, I, J> {
     /// A capture as a bound; where none may stand it is refused once it is read, from `use` to `>`.
     #[tactic(auto, using(token_core::proofs::Suffixes::follows), unfolding(crate::specs::generics::Reading::capture_in_place))]
     fn capture_in_place(
@@ -839,11 +830,11 @@ fn parse_binder<A: Attributes, E: Value>(
         alloc,
         of: PhantomData,
         begin: input.cursor(),
-        types: read_type::<A, E>,
-        bounds: read_bound::<A, E>,
+        types: (),
+        bounds: (),
         params: read_param::<A, E>,
-        args: read_argument::<A, E>,
-        segments: read_arguments::<A, E>,
+        args: (),
+        segments: (),
     }
     .binder(input)
 }
@@ -860,11 +851,11 @@ fn parse_optional_binder<A: Attributes, E: Value>(
         alloc,
         of: PhantomData,
         begin: input.cursor(),
-        types: read_type::<A, E>,
-        bounds: read_bound::<A, E>,
+        types: (),
+        bounds: (),
         params: read_param::<A, E>,
-        args: read_argument::<A, E>,
-        segments: read_arguments::<A, E>,
+        args: (),
+        segments: (),
     }
     .optional_binder(input)
 }
@@ -882,9 +873,9 @@ fn parse_trait_bound<A: Attributes, E: Value>(
         of: PhantomData,
         begin: input.cursor(),
         types: read_type::<A, E>,
-        bounds: read_bound::<A, E>,
+        bounds: (),
         params: read_param::<A, E>,
-        args: read_argument::<A, E>,
+        args: (),
         segments: read_arguments::<A, E>,
     }
     .trait_bound(input)
@@ -904,9 +895,9 @@ fn parse_type_param<A: Attributes, E: Value>(
         begin: input.cursor(),
         types: read_type::<A, E>,
         bounds: read_bound::<A, E>,
-        params: read_param::<A, E>,
-        args: read_argument::<A, E>,
-        segments: read_arguments::<A, E>,
+        params: (),
+        args: (),
+        segments: (),
     }
     .type_param(input)
 }
@@ -924,10 +915,10 @@ fn parse_const_param<A: Attributes, E: Value>(
         of: PhantomData,
         begin: input.cursor(),
         types: read_type::<A, E>,
-        bounds: read_bound::<A, E>,
-        params: read_param::<A, E>,
-        args: read_argument::<A, E>,
-        segments: read_arguments::<A, E>,
+        bounds: (),
+        params: (),
+        args: (),
+        segments: (),
     }
     .const_param(input)
 }

@@ -20,7 +20,7 @@ ghost use Rattle.token_core.specs.Reads.{Reads, Follows, Gives, Fails, Parses, a
 ghost use Rattle.token_core.specs.Tokens as token;
 
 use crate::generics::{GenericParamOf, TypeParamBoundOf};
-use crate::grammar::{Grammar, read_argument, read_arguments, read_bound, read_param, read_type};
+use crate::grammar::{Grammar, read_argument, read_arguments, read_type};
 use crate::path::{
     AngleBracketedGenericArgumentsOf, AssocConstOf, AssocTypeOf, ConstraintOf, GenericArgumentOf,
     ParenthesizedGenericArgumentsOf, PathArgumentsOf,
@@ -801,10 +801,10 @@ fn parse_path<A: Attributes, E: Value>(
         alloc,
         of: PhantomData,
         begin: input.cursor(),
-        types: read_type::<A, E>,
-        bounds: read_bound::<A, E>,
-        params: read_param::<A, E>,
-        args: read_argument::<A, E>,
+        types: (),
+        bounds: (),
+        params: (),
+        args: (),
         segments: read_arguments::<A, E>,
     }
     .path(input, style)
@@ -822,10 +822,10 @@ fn parse_segment<A: Attributes, E: Value>(
         alloc,
         of: PhantomData,
         begin: input.cursor(),
-        types: read_type::<A, E>,
-        bounds: read_bound::<A, E>,
-        params: read_param::<A, E>,
-        args: read_argument::<A, E>,
+        types: (),
+        bounds: (),
+        params: (),
+        args: (),
         segments: read_arguments::<A, E>,
     }
     .segment(input, PathStyle::AsWritten)
@@ -843,11 +843,11 @@ fn parse_angle_bracketed<A: Attributes, E: Value>(
         alloc,
         of: PhantomData,
         begin: input.cursor(),
-        types: read_type::<A, E>,
-        bounds: read_bound::<A, E>,
-        params: read_param::<A, E>,
+        types: (),
+        bounds: (),
+        params: (),
         args: read_argument::<A, E>,
-        segments: read_arguments::<A, E>,
+        segments: (),
     }
     .angle_bracketed(input)
 }
@@ -864,11 +864,11 @@ fn parse_turbofish<A: Attributes, E: Value>(
         alloc,
         of: PhantomData,
         begin: input.cursor(),
-        types: read_type::<A, E>,
-        bounds: read_bound::<A, E>,
-        params: read_param::<A, E>,
+        types: (),
+        bounds: (),
+        params: (),
         args: read_argument::<A, E>,
-        segments: read_arguments::<A, E>,
+        segments: (),
     }
     .turbofish(input)
 }
@@ -886,10 +886,10 @@ fn parse_parenthesized<A: Attributes, E: Value>(
         of: PhantomData,
         begin: input.cursor(),
         types: read_type::<A, E>,
-        bounds: read_bound::<A, E>,
-        params: read_param::<A, E>,
-        args: read_argument::<A, E>,
-        segments: read_arguments::<A, E>,
+        bounds: (),
+        params: (),
+        args: (),
+        segments: (),
     }
     .parenthesized(input)
 }

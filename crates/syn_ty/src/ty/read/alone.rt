@@ -3,9 +3,9 @@
 ghost use Rattle.syn_ty.specs.ty.Knot as knot;
 ghost use Rattle.token_core.specs.Reads.{Parses};
 
-use crate::generics::{GenericParamOf, TypeParamBoundOf};
-use crate::grammar::{Grammar, read_argument, read_arguments, read_bound, read_param, read_type};
-use crate::path::{GenericArgumentOf, PathArgumentsOf};
+use crate::generics::TypeParamBoundOf;
+use crate::grammar::{Grammar, read_arguments, read_bound, read_param, read_type};
+use crate::ty::read::parts::bare_trait_object;
 use crate::ty::{
     NamedArgOf, ReturnTypeOf, TypeArrayOf, TypeFnPtrOf, TypeGroupOf, TypeImplTraitOf, TypeOf,
     TypeParenOf, TypePathOf, TypePtrOf, TypeReferenceOf, TypeSliceOf, TypeTraitObjectOf,
@@ -13,8 +13,10 @@ use crate::ty::{
 };
 use std::alloc::Global;
 use std::marker::PhantomData;
-use syn_forms::places::{BoundPlace, ParamPlace, TypePlace};
+use syn_forms::inputs::parse_optional_name;
+use syn_forms::places::{BoundPlace, TypePlace};
 use syn_path::supplied::{Attributes, Value};
+use token_core::token::Dyn;
 use token_core::{Error, ParseStream};
 
 /// `[T; n]`
@@ -30,10 +32,10 @@ pub(crate) fn parse_array<A: Attributes, E: Value>(
         of: PhantomData,
         begin: input.cursor(),
         types: read_type::<A, E>,
-        bounds: read_bound::<A, E>,
-        params: read_param::<A, E>,
-        args: read_argument::<A, E>,
-        segments: read_arguments::<A, E>,
+        bounds: (),
+        params: (),
+        args: (),
+        segments: (),
     }
     .array(input)
 }
@@ -51,10 +53,10 @@ pub(crate) fn parse_fn_ptr<A: Attributes, E: Value>(
         of: PhantomData,
         begin: input.cursor(),
         types: read_type::<A, E>,
-        bounds: read_bound::<A, E>,
+        bounds: (),
         params: read_param::<A, E>,
-        args: read_argument::<A, E>,
-        segments: read_arguments::<A, E>,
+        args: (),
+        segments: (),
     }
     .fn_ptr(input)
 }
@@ -72,10 +74,10 @@ pub(crate) fn parse_group<A: Attributes, E: Value>(
         of: PhantomData,
         begin: input.cursor(),
         types: read_type::<A, E>,
-        bounds: read_bound::<A, E>,
-        params: read_param::<A, E>,
-        args: read_argument::<A, E>,
-        segments: read_arguments::<A, E>,
+        bounds: (),
+        params: (),
+        args: (),
+        segments: (),
     }
     .group(input)
 }
@@ -93,11 +95,11 @@ pub(crate) fn parse_impl_trait<A: Attributes, E: Value>(
         alloc,
         of: PhantomData,
         begin: input.cursor(),
-        types: read_type::<A, E>,
+        types: (),
         bounds: read_bound::<A, E>,
-        params: read_param::<A, E>,
-        args: read_argument::<A, E>,
-        segments: read_arguments::<A, E>,
+        params: (),
+        args: (),
+        segments: (),
     }
     .impl_trait(input, plus)
 }
@@ -115,10 +117,10 @@ pub(crate) fn parse_paren<A: Attributes, E: Value>(
         of: PhantomData,
         begin: input.cursor(),
         types: read_type::<A, E>,
-        bounds: read_bound::<A, E>,
-        params: read_param::<A, E>,
-        args: read_argument::<A, E>,
-        segments: read_arguments::<A, E>,
+        bounds: (),
+        params: (),
+        args: (),
+        segments: (),
     }
     .paren(input)
 }
@@ -136,9 +138,9 @@ pub(crate) fn parse_path_type<A: Attributes, E: Value>(
         of: PhantomData,
         begin: input.cursor(),
         types: read_type::<A, E>,
-        bounds: read_bound::<A, E>,
-        params: read_param::<A, E>,
-        args: read_argument::<A, E>,
+        bounds: (),
+        params: (),
+        args: (),
         segments: read_arguments::<A, E>,
     }
     .path_type(input)
@@ -157,10 +159,10 @@ pub(crate) fn parse_ptr<A: Attributes, E: Value>(
         of: PhantomData,
         begin: input.cursor(),
         types: read_type::<A, E>,
-        bounds: read_bound::<A, E>,
-        params: read_param::<A, E>,
-        args: read_argument::<A, E>,
-        segments: read_arguments::<A, E>,
+        bounds: (),
+        params: (),
+        args: (),
+        segments: (),
     }
     .ptr(input)
 }
@@ -178,10 +180,10 @@ pub(crate) fn parse_reference<A: Attributes, E: Value>(
         of: PhantomData,
         begin: input.cursor(),
         types: read_type::<A, E>,
-        bounds: read_bound::<A, E>,
-        params: read_param::<A, E>,
-        args: read_argument::<A, E>,
-        segments: read_arguments::<A, E>,
+        bounds: (),
+        params: (),
+        args: (),
+        segments: (),
     }
     .reference(input)
 }
@@ -199,16 +201,16 @@ pub(crate) fn parse_slice<A: Attributes, E: Value>(
         of: PhantomData,
         begin: input.cursor(),
         types: read_type::<A, E>,
-        bounds: read_bound::<A, E>,
-        params: read_param::<A, E>,
-        args: read_argument::<A, E>,
-        segments: read_arguments::<A, E>,
+        bounds: (),
+        params: (),
+        args: (),
+        segments: (),
     }
     .slice(input)
 }
 
-/// `dyn A + 'a`, `A + 'a`
-#[tactic(auto, unfolding(crate::specs::ty::Knot::trait_object))]
+/// `dyn A + 'a`, `A + 'a` (syn's `TypeTraitObject::parse`)
+#[tactic(auto, using(token_core::proofs::Suffixes::follows, syn_forms::proofs::nested_laws::Ahead::later), unfolding(crate::specs::ty::Knot::trait_object, crate::specs::ty::Reading::trait_object))]
 pub(crate) fn parse_trait_object<A: Attributes, E: Value>(
     alloc: Global,
     input: &mut ParseStream<'_>,
@@ -216,17 +218,21 @@ pub(crate) fn parse_trait_object<A: Attributes, E: Value>(
 ) -> Result<TypeTraitObjectOf<TypeParamBoundOf<A, E>, A>, Error>
     ensures parses { Parses (knot.trait_object A.reads E.reads plus) result input.old input.new }
 {
-    Grammar {
+    let grammar = Grammar {
         alloc,
         of: PhantomData,
         begin: input.cursor(),
-        types: read_type::<A, E>,
+        types: (),
         bounds: read_bound::<A, E>,
-        params: read_param::<A, E>,
-        args: read_argument::<A, E>,
-        segments: read_arguments::<A, E>,
-    }
-    .trait_object(input, plus)
+        params: (),
+        args: (),
+        segments: (),
+    };
+    let from = input.span();
+    let dyn_token = input.parse_option::<Dyn>(alloc)?;
+    let first = read_bound::<A, E>(alloc, PhantomData, input, BoundPlace::Object)?;
+    let bounds = grammar.object_bounds(input, from, plus, first)?;
+    Ok(bare_trait_object(alloc, dyn_token, bounds))
 }
 
 /// `(A, B)`
@@ -242,10 +248,10 @@ pub(crate) fn parse_tuple<A: Attributes, E: Value>(
         of: PhantomData,
         begin: input.cursor(),
         types: read_type::<A, E>,
-        bounds: read_bound::<A, E>,
-        params: read_param::<A, E>,
-        args: read_argument::<A, E>,
-        segments: read_arguments::<A, E>,
+        bounds: (),
+        params: (),
+        args: (),
+        segments: (),
     }
     .tuple(input)
 }
@@ -264,31 +270,24 @@ pub(crate) fn parse_return_type<A: Attributes, E: Value>(
         of: PhantomData,
         begin: input.cursor(),
         types: read_type::<A, E>,
-        bounds: read_bound::<A, E>,
-        params: read_param::<A, E>,
-        args: read_argument::<A, E>,
-        segments: read_arguments::<A, E>,
+        bounds: (),
+        params: (),
+        args: (),
+        segments: (),
     }
     .return_type(input, place)
 }
 
 /// `a: T`
-#[tactic(auto, unfolding(crate::specs::ty::Knot::named_arg))]
+#[tactic(auto, using(token_core::proofs::Suffixes::follows), unfolding(crate::specs::ty::Knot::named_arg, crate::specs::ty::Reading::named_arg, syn_forms::specs::inputs::Reading::plain_argument))]
 pub(crate) fn parse_named_arg<A: Attributes, E: Value>(
     alloc: Global,
     input: &mut ParseStream<'_>,
 ) -> Result<NamedArgOf<TypeOf<A, E>, A>, Error>
     ensures parses { Parses (knot.named_arg A.reads E.reads) result input.old input.new }
 {
-    Grammar {
-        alloc,
-        of: PhantomData,
-        begin: input.cursor(),
-        types: read_type::<A, E>,
-        bounds: read_bound::<A, E>,
-        params: read_param::<A, E>,
-        args: read_argument::<A, E>,
-        segments: read_arguments::<A, E>,
-    }
-    .named_arg(input)
+    let attrs = A::read_outer(alloc, input)?;
+    let name = parse_optional_name(alloc, input, false)?;
+    let ty = read_type::<A, E>(alloc, PhantomData, input, TypePlace::Plus)?;
+    Ok(NamedArgOf { attrs, name, ty })
 }

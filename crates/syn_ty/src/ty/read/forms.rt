@@ -6,10 +6,8 @@ ghost use Rattle.syn_ty.specs.ty.Knot as knot;
 ghost use Rattle.syn_ty.specs.ty.Reading as reading;
 ghost use Rattle.token_core.specs.Reads.{Parses};
 
-use crate::generics::{GenericParamOf, TypeParamBoundOf};
 use crate::grammar::Grammar;
 use crate::path::read::return_of;
-use crate::path::{GenericArgumentOf, PathArgumentsOf};
 use crate::ty::read::parts::{
     bare_array, bare_group, bare_paren, bare_ptr, bare_reference, bare_slice, bare_tuple,
     of_brackets,
@@ -20,7 +18,7 @@ use crate::ty::{
 };
 use std::alloc::Global;
 use std::marker::PhantomData;
-use syn_forms::places::{BoundPlace, ParamPlace, TypePlace};
+use syn_forms::places::TypePlace;
 use syn_path::supplied::{Attributes, Value};
 use token_core::{Error, ParseStream};
 

@@ -10,7 +10,7 @@ ghost use Rattle.token_core.specs.Positions.{IsReached};
 
 use crate::generics::{BoundLifetimesOf, GenericParamOf, TypeParamBoundOf};
 use crate::grammar::Grammar;
-use crate::path::{GenericArgumentOf, PathArgumentsOf};
+use crate::path::PathArgumentsOf;
 use crate::ty::read::parts::{FnInputs, NamedArgs, TypeTokens, bare_fn_ptr};
 use crate::ty::read::tokens::{
     no_bound_type, parse_builtin_type, sees_bindable, sees_builtin, sees_fn_ptr, sees_unsafe_binder,
@@ -25,7 +25,7 @@ use syn_forms::tokens::{open_parens, parse_unsafe};
 use syn_forms::verbatim::since;
 use syn_path::path::PathStyle;
 use syn_path::supplied::{Attributes, Value};
-use token_core::{Cursor, Error, ParseStream};
+use token_core::{Boxed, Cursor, Error, ParseStream};
 
 /// The place of a type that ends the type which holds it.
 fn last_place(place: TypePlace) -> TypePlace
@@ -82,10 +82,17 @@ impl<
         ensures parses { Parses (reading.fn_ptr_after A.reads E.reads (knot.reads_below A.reads E.reads (length self.now.begin)) lifetimes) result input.old input.new }
         ensures fewer { ahead input.new ≤ ahead input.old }
     {
-        let head = parse_fn_head(self.alloc, input)?;
-        let inputs = self.fn_ptr_inputs(input)?;
+        // boxed: a refusal then drops each by one call, where its options would be taken apart
+        let head = Boxed::new(self.alloc, parse_fn_head(self.alloc, input)?)?;
+        let inputs = Boxed::new(self.alloc, self.fn_ptr_inputs(input)?)?;
         let output = self.return_type(input, TypePlace::NoPlus)?;
-        Ok(bare_fn_ptr(self.alloc, lifetimes, head, inputs, output))
+        Ok(bare_fn_ptr(
+            self.alloc,
+            lifetimes,
+            head.into_inner(),
+            inputs.into_inner(),
+            output,
+        ))
     }
 
     /// `unsafe<'a> T`: no case holds it, so that it is held as it was written, from a position on.

@@ -15,12 +15,12 @@ ghost use Rattle.token_core.specs.Reads.{Parses, Reads};
 use crate::generics::read::held_bound;
 use crate::generics::{GenericParamOf, TraitBoundOf, TypeParamBoundOf};
 use crate::grammar::Grammar;
-use crate::path::{GenericArgumentOf, PathArgumentsOf};
+use crate::path::PathArgumentsOf;
 use crate::ty::read::parts::{
     any_trait, bare_impl_trait, bare_paren, bare_trait_object, bare_tuple, first_bound, object_of,
 };
 use crate::ty::read::tokens::plus_follows;
-use crate::ty::{TypeImplTraitOf, TypeOf, TypeTraitObjectOf};
+use crate::ty::{TypeImplTraitOf, TypeOf};
 use std::alloc::Global;
 use std::marker::PhantomData;
 use syn_forms::groups::ParenContent;
@@ -175,7 +175,7 @@ impl<
     }
 
     /// The bounds after `impl`.
-    #[tactic(auto, using(token_core::proofs::Suffixes::follows, syn_forms::proofs::nested_laws::Ahead::later))]
+    #[tactic(auto, using(token_core::proofs::Suffixes::follows, syn_forms::proofs::nested_laws::Ahead::later), unfolding(crate::specs::ty::Reading::opaque_bounds))]
     fn opaque_bounds(
         &self,
         input: &mut ParseStream<'_>,
@@ -183,7 +183,7 @@ impl<
     ) -> Result<Punctuated<TypeParamBoundOf<A, E>, Plus>, Error>
         requires bounds { Nests (knot.bound A.reads E.reads) (length self.now.begin) (G.pre self.now.bounds) (G.post self.now.bounds) }
         requires few { ahead input.old < length self.now.begin }
-        ensures parses { Parses (bounds (knot.reads_below A.reads E.reads (length self.now.begin) (a_bound Opaque)) true plus) result input.old input.new }
+        ensures parses { Parses (reading.opaque_bounds (knot.reads_below A.reads E.reads (length self.now.begin)) plus) result input.old input.new }
         ensures fewer { ahead input.new ≤ ahead input.old }
     {
         let end = Bounds { consts: true, plus };
@@ -329,28 +329,6 @@ impl<
     ) -> Result<PathArgumentsOf<A, E>, Error>
         + Copy,
 > Grammar<'a, A, E, F, G, H, I, J> {
-    /// A trait object by itself, with `dyn` or without (syn's `TypeTraitObject::parse`).
-    #[tactic(auto, using(token_core::proofs::Suffixes::follows, syn_forms::proofs::nested_laws::Ahead::later), unfolding(crate::specs::ty::Reading::trait_object))]
-    pub(crate) fn trait_object(
-        &self,
-        input: &mut ParseStream<'_>,
-        plus: bool,
-    ) -> Result<TypeTraitObjectOf<TypeParamBoundOf<A, E>, A>, Error>
-        requires types { Nests (knot.ty A.reads E.reads) (length self.now.begin) (F.pre self.now.types) (F.post self.now.types) }
-        requires bounds { Nests (knot.bound A.reads E.reads) (length self.now.begin) (G.pre self.now.bounds) (G.post self.now.bounds) }
-        requires params { Nests (knot.param A.reads E.reads) (length self.now.begin) (H.pre self.now.params) (H.post self.now.params) }
-        requires segments { Nests (knot.arguments_in A.reads E.reads) (length self.now.begin) (J.pre self.now.segments) (J.post self.now.segments) }
-        requires few { ahead input.old ≤ length self.now.begin }
-        ensures parses { Parses (reading.trait_object (knot.reads_below A.reads E.reads (length self.now.begin)) plus) result input.old input.new }
-        ensures fewer { ahead input.new ≤ ahead input.old }
-    {
-        let from = input.span();
-        let dyn_token = input.parse_option::<Dyn>(self.alloc)?;
-        let first = self.bound_step(input, BoundPlace::Object)?;
-        let bounds = self.object_bounds(input, from, plus, first)?;
-        Ok(bare_trait_object(self.alloc, dyn_token, bounds))
-    }
-
     // ---- parentheses
 
     /// What parentheses hold: a trait object that begins with a lifetime, a trait bound that begins with `?`, a type, or the elements of a tuple.
@@ -381,6 +359,36 @@ impl<
         Ok(self.types().type_or_elements(input, TypePlace::Plus)?)
     }
 
+    /// Parentheses, and what they hold.
+    #[tactic(auto, using(token_core::proofs::Suffixes::follows, syn_forms::proofs::nested_laws::Ahead::later), unfolding(crate::specs::ty::Reading::parens))]
+    fn parens(
+        &self,
+        input: &mut ParseStream<'_>,
+    ) -> Result<
+        (
+            Paren,
+            ParenContent<
+                TypeOf<A, E>,
+                Punctuated<TypeParamBoundOf<A, E>, Plus>,
+                TraitBoundOf<A, E>,
+            >,
+        ),
+        Error,
+    >
+        requires types { Nests (knot.ty A.reads E.reads) (length self.now.begin) (F.pre self.now.types) (F.post self.now.types) }
+        requires bounds { Nests (knot.bound A.reads E.reads) (length self.now.begin) (G.pre self.now.bounds) (G.post self.now.bounds) }
+        requires params { Nests (knot.param A.reads E.reads) (length self.now.begin) (H.pre self.now.params) (H.post self.now.params) }
+        requires segments { Nests (knot.arguments_in A.reads E.reads) (length self.now.begin) (J.pre self.now.segments) (J.post self.now.segments) }
+        requires few { ahead input.old ≤ length self.now.begin }
+        ensures parses { Parses (reading.parens (knot.reads_below A.reads E.reads (length self.now.begin))) result input.old input.new }
+        ensures fewer { ahead input.new ≤ ahead input.old }
+    {
+        let (paren_token, mut content) = open_parens(self.alloc, input)?;
+        let held = self.paren_content(&mut content)?;
+        input.finish(content);
+        Ok((paren_token, held))
+    }
+
     /// A tuple, a type in parentheses, or a trait object that begins with parentheses (syn's `ambig_ty` at `(`).
     #[tactic(auto, using(token_core::proofs::Suffixes::follows, syn_forms::proofs::nested_laws::Ahead::later), unfolding(crate::specs::ty::Reading::paren_type))]
     pub(crate) fn paren_type(
@@ -396,9 +404,7 @@ impl<
         ensures parses { Parses (reading.paren_type (knot.reads_below A.reads E.reads (length self.now.begin)) plus) result input.old input.new }
         ensures fewer { ahead input.new ≤ ahead input.old }
     {
-        let (paren_token, mut content) = open_parens(self.alloc, input)?;
-        let held = self.paren_content(&mut content)?;
-        input.finish(content);
+        let (paren_token, held) = self.parens(input)?;
         Ok(self.of_parens(input, plus, paren_token, held)?)
     }
 }

@@ -9,8 +9,8 @@ ghost use Rattle.token_core.specs.Reads.{Parses};
 use crate::generics::read::named_bound;
 use crate::generics::{BoundLifetimesOf, GenericParamOf, TypeParamBoundOf};
 use crate::grammar::Grammar;
+use crate::path::PathArgumentsOf;
 use crate::path::read::bare_path_type;
-use crate::path::{GenericArgumentOf, PathArgumentsOf};
 use crate::ty::read::parts::{as_path, bare_group, has_arguments, object_of, qself_in};
 use crate::ty::read::tokens::{
     plus_follows, sees_call, sees_further_arguments, sees_further_segment,
@@ -19,7 +19,7 @@ use crate::ty::{TypeMacroOf, TypeOf, TypePathOf};
 use std::alloc::Global;
 use std::marker::PhantomData;
 use syn_forms::paths::with_last_arguments;
-use syn_forms::places::{BoundPlace, ParamPlace, TypePlace};
+use syn_forms::places::{BoundPlace, TypePlace};
 use syn_path::mac::parse_call_after;
 use syn_path::path::{PathOf, PathStyle, QSelfOf, without_arguments};
 use syn_path::supplied::{Attributes, Value};
@@ -233,7 +233,7 @@ impl<
     }
 
     /// What follows an invisible group may go on with the type that it holds.
-    #[tactic(auto, using(token_core::proofs::Suffixes::follows, syn_forms::proofs::nested_laws::Ahead::later))]
+    #[tactic(auto, using(token_core::proofs::Suffixes::follows, syn_forms::proofs::nested_laws::Ahead::later), unfolding(crate::specs::ty::Reading::after_group))]
     pub(crate) fn after_group(
         &self,
         input: &mut ParseStream<'_>,

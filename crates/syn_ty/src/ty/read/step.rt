@@ -1,4 +1,4 @@
-//! One turn of the reader of types, and of an argument by itself.
+//! One turn of the reader of types.
 
 ghost use Rattle.std.specs.Prelude.{◌<◌, ◌≤◌, length};
 ghost use Rattle.syn_forms.specs.nested.Below.{Nests, ahead};
@@ -10,13 +10,12 @@ ghost use Rattle.token_core.specs.Positions.{IsReached};
 
 use crate::generics::{GenericParamOf, TypeParamBoundOf};
 use crate::grammar::Grammar;
-use crate::path::{GenericArgumentOf, PathArgumentsOf};
+use crate::path::PathArgumentsOf;
+use crate::ty::TypeOf;
 use crate::ty::read::parts::object_of;
 use crate::ty::read::tokens::{begins_named, no_type, parse_infer, parse_never};
-use crate::ty::{NamedArgOf, TypeOf};
 use std::alloc::Global;
 use std::marker::PhantomData;
-use syn_forms::inputs::parse_optional_name;
 use syn_forms::places::{BoundPlace, ParamPlace, TypePlace};
 use syn_path::supplied::{Attributes, Value};
 use token_core::token::{And, Bracket, Dyn, For, GroupToken, Impl, Not, Paren, Star, Underscore};
@@ -205,25 +204,5 @@ impl<
             return Ok(self.bound_type(input, place, &from)?);
         }
         Ok(self.unbound_type(input, place, &from)?)
-    }
-
-    /// An argument of a pointer to a function by itself: attributes, an optional name, and a type. `self` has no place there.
-    #[tactic(auto, using(token_core::proofs::Suffixes::follows, syn_forms::proofs::nested_laws::Ahead::later), unfolding(crate::specs::ty::Reading::named_arg, syn_forms::specs::inputs::Reading::plain_argument))]
-    pub fn named_arg(
-        &self,
-        input: &mut ParseStream<'_>,
-    ) -> Result<NamedArgOf<TypeOf<A, E>, A>, Error>
-        requires types { Nests (knot.ty A.reads E.reads) (length self.now.begin) (F.pre self.now.types) (F.post self.now.types) }
-        requires bounds { Nests (knot.bound A.reads E.reads) (length self.now.begin) (G.pre self.now.bounds) (G.post self.now.bounds) }
-        requires params { Nests (knot.param A.reads E.reads) (length self.now.begin) (H.pre self.now.params) (H.post self.now.params) }
-        requires segments { Nests (knot.arguments_in A.reads E.reads) (length self.now.begin) (J.pre self.now.segments) (J.post self.now.segments) }
-        requires few { ahead input.old ≤ length self.now.begin }
-        ensures parses { Parses (reading.named_arg A.reads E.reads (knot.reads_below A.reads E.reads (length self.now.begin))) result input.old input.new }
-        ensures fewer { ahead input.new ≤ ahead input.old }
-    {
-        let attrs = A::read_outer(self.alloc, input)?;
-        let name = parse_optional_name(self.alloc, input, false)?;
-        let ty = self.type_step(input, TypePlace::Plus)?;
-        Ok(NamedArgOf { attrs, name, ty })
     }
 }
