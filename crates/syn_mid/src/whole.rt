@@ -8,6 +8,8 @@ ghost use Rattle.syn_attr.specs.attr.Reading as attrs;
 ghost use Rattle.syn_path.specs.path.Grammars as paths;
 ghost use Rattle.syn_path.specs.path.Reading as reading;
 ghost use Rattle.syn_forms.specs.declared.places.TypePlace.TheVariants.{NoPlus};
+ghost use Rattle.syn_pat.specs.declared.place.PatPlace.TheVariants.{LeadingVert, Multi, Single};
+ghost use Rattle.syn_pat.specs.pat.Knot as pats;
 ghost use Rattle.syn_ty.specs.ty.Reading as types;
 ghost use Rattle.syn_ty.specs.ty.Knot as knot;
 
@@ -15,6 +17,7 @@ use std::alloc::Global;
 use std::marker::PhantomData;
 use syn_attr::attr::Attribute;
 use syn_attr::expr::Expr;
+use syn_pat::pat::Pat;
 use syn_path::path::{Arguments, PathOf};
 use syn_path::supplied::{Attributes, Subtree, Value};
 use syn_ty::generics::{BoundLifetimesOf, GenericParamOf, TypeParamBoundOf};
@@ -349,5 +352,117 @@ impl Parser for ParseOptionalAbi {
 
     fn parse(self, alloc: Global, input: &mut ParseStream<'_>) -> Result<Option<Abi>, Error> {
         Abi::parse_optional(alloc, input)
+    }
+}
+
+/// `Pat::parse_single` as a parser.
+#[derive(Drop)]
+pub struct ParseSingle<X> {
+    pub of: PhantomData<X>,
+}
+
+impl<X> ParseSingle<X> {
+    pub fn new() -> ParseSingle<X>
+        ensures { result ≡ record { of = record {} } }
+    {
+        ParseSingle { of: PhantomData }
+    }
+}
+
+impl<X: Subtree> Parser for ParseSingle<X> {
+    type Output = Pat<X>;
+
+    ghost can_parse = { λ _. Unit {0} };
+
+    ghost reads = { λ _. Gives (pats.pat X.reads Single) };
+
+    ghost refuses = { λ _. Fails (pats.pat X.reads Single) };
+
+    fn parse(self, alloc: Global, input: &mut ParseStream<'_>) -> Result<Pat<X>, Error> {
+        Pat::parse_single(alloc, input)
+    }
+}
+
+/// `Pat::parse_multi` as a parser.
+#[derive(Drop)]
+pub struct ParseMulti<X> {
+    pub of: PhantomData<X>,
+}
+
+impl<X> ParseMulti<X> {
+    pub fn new() -> ParseMulti<X>
+        ensures { result ≡ record { of = record {} } }
+    {
+        ParseMulti { of: PhantomData }
+    }
+}
+
+impl<X: Subtree> Parser for ParseMulti<X> {
+    type Output = Pat<X>;
+
+    ghost can_parse = { λ _. Unit {0} };
+
+    ghost reads = { λ _. Gives (pats.pat X.reads Multi) };
+
+    ghost refuses = { λ _. Fails (pats.pat X.reads Multi) };
+
+    fn parse(self, alloc: Global, input: &mut ParseStream<'_>) -> Result<Pat<X>, Error> {
+        Pat::parse_multi(alloc, input)
+    }
+}
+
+/// `Pat::parse_multi_with_leading_vert` as a parser.
+#[derive(Drop)]
+pub struct ParseMultiWithLeadingVert<X> {
+    pub of: PhantomData<X>,
+}
+
+impl<X> ParseMultiWithLeadingVert<X> {
+    pub fn new() -> ParseMultiWithLeadingVert<X>
+        ensures { result ≡ record { of = record {} } }
+    {
+        ParseMultiWithLeadingVert { of: PhantomData }
+    }
+}
+
+impl<X: Subtree> Parser for ParseMultiWithLeadingVert<X> {
+    type Output = Pat<X>;
+
+    ghost can_parse = { λ _. Unit {0} };
+
+    ghost reads = { λ _. Gives (pats.pat X.reads LeadingVert) };
+
+    ghost refuses = { λ _. Fails (pats.pat X.reads LeadingVert) };
+
+    fn parse(self, alloc: Global, input: &mut ParseStream<'_>) -> Result<Pat<X>, Error> {
+        Pat::parse_multi_with_leading_vert(alloc, input)
+    }
+}
+
+/// `Pat::parse_multi_with_leading_vert_and_guard` as a parser.
+#[derive(Drop)]
+pub struct ParseMultiWithLeadingVertAndGuard<X> {
+    pub of: PhantomData<X>,
+}
+
+impl<X> ParseMultiWithLeadingVertAndGuard<X> {
+    pub fn new() -> ParseMultiWithLeadingVertAndGuard<X>
+        ensures { result ≡ record { of = record {} } }
+    {
+        ParseMultiWithLeadingVertAndGuard { of: PhantomData }
+    }
+}
+
+impl<X: Subtree> Parser for ParseMultiWithLeadingVertAndGuard<X> {
+    type Output = Pat<X>;
+
+    ghost can_parse = { λ _. Unit {0} };
+
+    ghost reads = { λ _. Gives (pats.guarded X.reads) };
+
+    ghost refuses = { λ _. Fails (pats.guarded X.reads) };
+
+    fn parse(self, alloc: Global, input: &mut ParseStream<'_>) -> Result<Pat<X>, Error> {
+        Pat::parse_multi_with_leading_vert_and_guard(alloc, input)
     }
 }

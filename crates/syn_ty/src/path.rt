@@ -1,5 +1,6 @@
 //! Arguments of paths.
 
+pub mod alone;
 pub mod print;
 pub mod read;
 

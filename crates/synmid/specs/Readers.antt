@@ -12,7 +12,12 @@ use Rattle.token_core.specs.Prints.{Print, optional}
 use Rattle.token_core.specs.Spans.{none}
 use Rattle.token_core.specs.Stream.{Stream, started}
 use Rattle.token_core.specs.Reads.{Ends, Refuses, Reader as R}
+use Rattle.syn_pat.specs.declared.place.PatPlace.TheVariants.{LeadingVert, Multi, Single}
+use Rattle.syn_pat.specs.pat.Knot as pat_knot
+use Rattle.syn_pat.specs.pat.Pats as pats
+use Rattle.syn_pat.specs.pat.Printing as pat_printing
 use Rattle.syn_path.specs.declared.mac.Macro as mac
+use Rattle.syn_path.specs.declared.supplied.Place.{Place}
 use Rattle.syn_attr.specs.declared.attr.Meta as meta
 use Rattle.syn_attr.specs.declared.attr.MetaList as meta_list
 use Rattle.syn_attr.specs.declared.attr.MetaNameValue as name_value
@@ -54,13 +59,15 @@ use Rattle.syn_ty.specs.path.Paths as path
 use Rattle.synmid.specs.contracts.sample.SampleSubtree.TheImpl.{reads-value, spells-value, normal-value, prints-value}
 use Rattle.synmid.specs.declared.sample.Sample.{Sample}
 use Rattle.synmid.specs.declared.reader.Reader.{Reader}
-use Rattle.synmid.specs.declared.reader.Reader.TheVariants.{Macro, ModStyle, Meta, MetaList, MetaNameValue, Outer, Inner, PointerMutability, Types, Paths, Generics}
+use Rattle.synmid.specs.declared.reader.Reader.TheVariants.{Macro, ModStyle, Meta, MetaList, MetaNameValue, Outer, Inner, PointerMutability, Types, Paths, Generics, Patterns}
 use Rattle.synmid.specs.declared.reader.TypeReader.{TypeReader}
 use Rattle.synmid.specs.declared.reader.TypeReader.TheVariants as t
 use Rattle.synmid.specs.declared.reader.PathReader.{PathReader}
 use Rattle.synmid.specs.declared.reader.PathReader.TheVariants as p
 use Rattle.synmid.specs.declared.reader.GenericsReader.{GenericsReader}
 use Rattle.synmid.specs.declared.reader.GenericsReader.TheVariants as g
+use Rattle.synmid.specs.declared.reader.PatternReader.{PatternReader}
+use Rattle.synmid.specs.declared.reader.PatternReader.TheVariants as q
 
 abbrev pub types_named : Bytes → Option TypeReader
 types_named name =
@@ -113,13 +120,26 @@ generics_named name =
     else (if bytes_eq name (codes "CapturedParam") then Some g.Captured
     else None)))))))))
 
--- of the readers of types, paths and generics, the one of this name
-abbrev pub generics_reader : Option GenericsReader → Option Reader
-generics_reader = option_map Generics
+abbrev pub patterns_named : Bytes → Option PatternReader
+patterns_named name =
+    if bytes_eq name (codes "Pat::parse_single") then Some q.Single
+    else (if bytes_eq name (codes "Pat::parse_multi") then Some q.Multi
+    else (if bytes_eq name (codes "Pat::parse_multi_with_leading_vert") then Some q.LeadingVert
+    else (if bytes_eq name (codes "Pat::parse_multi_with_leading_vert_and_guard") then Some q.Guarded
+    else (if bytes_eq name (codes "PatType") then Some q.Typed
+    else None))))
+
+-- of the readers of types, paths, generics and patterns, the one of this name
+abbrev pub patterns_reader : Option PatternReader → Option Reader
+patterns_reader = option_map Patterns
+
+abbrev pub or_patterns : Bytes → Option GenericsReader → Option Reader
+or_patterns name (Some r) = Some (Generics r)
+or_patterns name None = patterns_reader (patterns_named name)
 
 abbrev pub or_generics : Bytes → Option PathReader → Option Reader
 or_generics name (Some r) = Some (Paths r)
-or_generics name None = generics_reader (generics_named name)
+or_generics name None = or_patterns name (generics_named name)
 
 abbrev pub or_paths : Bytes → Option TypeReader → Option Reader
 or_paths name (Some r) = Some (Types r)
@@ -210,6 +230,14 @@ GenericsTree A E g.TraitBound = ty.TraitBound A E
 GenericsTree A E g.Capture = capture.PreciseCapture
 GenericsTree A E g.Captured = captured.CapturedParam
 
+-- of patterns, over a supplied subtree
+abbrev pub PatternsTree : Type 0 → PatternReader → Type 0
+PatternsTree X q.Single = pats.Pat X
+PatternsTree X q.Multi = pats.Pat X
+PatternsTree X q.LeadingVert = pats.Pat X
+PatternsTree X q.Guarded = pats.Pat X
+PatternsTree X q.Typed = pats.PatType X
+
 module _ {A E : Type 0} (attrs : R (List A)) (values : ReadValues E) (na : List A → List A) (pa : List A → Print) (pe : Values E) where
   abbrev pub types_category : (r : TypeReader) → Category (TypesTree A E r)
   types_category t.Any = of_reader (knot.ty attrs values Plus) (printing.ty pa pe)
@@ -256,6 +284,14 @@ module _ {A E : Type 0} (attrs : R (List A)) (values : ReadValues E) (na : List 
   generics_category g.Capture = of_reader (generics.capture) shapes.capture
   generics_category g.Captured = of_reader (generics.captured) shapes.captured
 
+module _ {X : Type 0} (supplied : Place → R X) (prints : Place → X → Print) where
+  abbrev pub patterns_category : (r : PatternReader) → Category (PatternsTree X r)
+  patterns_category q.Single = of_reader (pat_knot.pat supplied Single) (pat_printing.pat prints)
+  patterns_category q.Multi = of_reader (pat_knot.pat supplied Multi) (pat_printing.pat prints)
+  patterns_category q.LeadingVert = of_reader (pat_knot.pat supplied LeadingVert) (pat_printing.pat prints)
+  patterns_category q.Guarded = of_reader (pat_knot.guarded supplied) (pat_printing.pat prints)
+  patterns_category q.Typed = of_reader (pat_knot.typed supplied) (pat_printing.typed prints)
+
 -- what attributes and expressions of the sample read
 abbrev pub sample_attributes : R (List (Attribute Sample))
 sample_attributes = attr_reading.outer reads-value.it
@@ -276,6 +312,7 @@ Tree PointerMutability = mutability.PointerMutability
 Tree (Types r) = TypesTree (Attribute Sample) (Expr Sample) r
 Tree (Paths r) = PathsTree (Attribute Sample) (Expr Sample) r
 Tree (Generics r) = GenericsTree (Attribute Sample) (Expr Sample) r
+Tree (Patterns r) = PatternsTree Sample r
 
 abbrev pub category : (r : Reader) → Category (Tree r)
 category Macro = of_grammar macs.mac
@@ -289,6 +326,7 @@ category PointerMutability = of_grammar tokens.mutability
 category (Types r) = types_category sample_attributes sample_values (normal.attributes normal-value.it) (outer prints-value.it) (values_of prints-value.it) r
 category (Paths r) = paths_category sample_attributes sample_values (normal.attributes normal-value.it) (outer prints-value.it) (values_of prints-value.it) r
 category (Generics r) = generics_category sample_attributes sample_values (normal.attributes normal-value.it) (outer prints-value.it) (values_of prints-value.it) r
+category (Patterns r) = patterns_category reads-value.it prints-value.it r
 
 -- what attributes print, one after the other
 abbrev pub attributes : List (Attribute Sample) → Print

@@ -12,6 +12,8 @@ mod fault;
 mod form_tests;
 #[cfg(test)]
 mod nested_tests;
+#[cfg(test)]
+mod pat_read_tests;
 mod reader;
 mod run;
 mod sample;

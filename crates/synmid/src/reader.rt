@@ -10,12 +10,13 @@ use syn_mid::{
     Abi, AngleBracketedGenericArgumentsOf, Attribute, Attributes, BoundLifetimesOf, CapturedParam,
     ConstParamOf, Expr, GenericArgumentOf, GenericParamOf, ImplWithoutPlusOf, LifetimeParamOf,
     Macro, Meta, MetaList, MetaNameValue, ModStyle, NamedArgOf, NoArguments, ObjectWithoutPlusOf,
-    ParenthesizedGenericArgumentsOf, ParseInner, ParseOptionalAbi, ParseOptionalLifetimesOf,
-    ParseOuter, ParseTurbofishOf, PathArgumentsOf, PathOf, PathSegmentOf, PointerMutability,
-    PreciseCapture, ReturnTypeOf, ReturnWithoutPlusOf, TraitBoundOf, TypeArrayOf, TypeFnPtrOf,
-    TypeGroupOf, TypeImplTraitOf, TypeInferOf, TypeMacroOf, TypeNeverOf, TypeOf, TypeParamBoundOf,
-    TypeParamOf, TypeParenOf, TypePathOf, TypePtrOf, TypeReferenceOf, TypeSliceOf,
-    TypeTraitObjectOf, TypeTupleOf, Value, WithoutPlusOf,
+    ParenthesizedGenericArgumentsOf, ParseInner, ParseMulti, ParseMultiWithLeadingVert,
+    ParseMultiWithLeadingVertAndGuard, ParseOptionalAbi, ParseOptionalLifetimesOf, ParseOuter,
+    ParseSingle, ParseTurbofishOf, PatType, PathArgumentsOf, PathOf, PathSegmentOf,
+    PointerMutability, PreciseCapture, ReturnTypeOf, ReturnWithoutPlusOf, Subtree, TraitBoundOf,
+    TypeArrayOf, TypeFnPtrOf, TypeGroupOf, TypeImplTraitOf, TypeInferOf, TypeMacroOf, TypeNeverOf,
+    TypeOf, TypeParamBoundOf, TypeParamOf, TypeParenOf, TypePathOf, TypePtrOf, TypeReferenceOf,
+    TypeSliceOf, TypeTraitObjectOf, TypeTupleOf, Value, WithoutPlusOf,
 };
 use token_core::{Error, Items, Parse, Parser, ToTokens, TokenStream, read_all, read_all_with};
 
@@ -33,6 +34,7 @@ pub enum Reader {
     Types(TypeReader),
     Paths(PathReader),
     Generics(GenericsReader),
+    Patterns(PatternReader),
 }
 
 /// A reader of types, or of a form of types.
@@ -89,6 +91,16 @@ pub enum GenericsReader {
     Captured,
 }
 
+/// A reader of patterns.
+#[derive(Clone, Copy, PartialEq, Eq)]
+pub enum PatternReader {
+    Single,
+    Multi,
+    LeadingVert,
+    Guarded,
+    Typed,
+}
+
 impl Reader {
     pub fn named(name: &str) -> Option<Reader>
         ensures { result ≡ spec.named name.now }
@@ -106,7 +118,7 @@ impl Reader {
         }
     }
 
-    /// Of the readers of types, paths and generics, the one of this name.
+    /// Of the readers of types, paths, generics and patterns, the one of this name.
     fn of_types(name: &str) -> Option<Reader>
         ensures { result ≡ spec.of_types name.now }
     {
@@ -116,8 +128,11 @@ impl Reader {
         if let Some(reader) = PathReader::named(name) {
             return Some(Reader::Paths(reader));
         }
-        match GenericsReader::named(name) {
-            Some(reader) => Some(Reader::Generics(reader)),
+        if let Some(reader) = GenericsReader::named(name) {
+            return Some(Reader::Generics(reader));
+        }
+        match PatternReader::named(name) {
+            Some(reader) => Some(Reader::Patterns(reader)),
             None => None,
         }
     }
@@ -144,6 +159,7 @@ impl Reader {
             Reader::Generics(reader) => {
                 reader.reprint_over::<Attribute<Sample>, Expr<Sample>>(alloc, tokens)
             }
+            Reader::Patterns(reader) => reader.reprint_over::<Sample>(alloc, tokens),
         }
     }
 }
@@ -321,6 +337,46 @@ impl GenericsReader {
             GenericsReader::TraitBound => reprint::<TraitBoundOf<A, E>>(alloc, tokens),
             GenericsReader::Capture => reprint::<PreciseCapture>(alloc, tokens),
             GenericsReader::Captured => reprint::<CapturedParam>(alloc, tokens),
+        }
+    }
+}
+
+impl PatternReader {
+    fn named(name: &str) -> Option<PatternReader>
+        ensures { result ≡ spec.patterns_named name.now }
+    {
+        match name {
+            "Pat::parse_single" => Some(PatternReader::Single),
+            "Pat::parse_multi" => Some(PatternReader::Multi),
+            "Pat::parse_multi_with_leading_vert" => Some(PatternReader::LeadingVert),
+            "Pat::parse_multi_with_leading_vert_and_guard" => Some(PatternReader::Guarded),
+            "PatType" => Some(PatternReader::Typed),
+            _ => None,
+        }
+    }
+
+    /// Reads all of a list, and prints what was read, over any supplied subtree.
+    fn reprint_over<X: Subtree>(
+        self,
+        alloc: Global,
+        tokens: &TokenStream,
+    ) -> Result<TokenStream, Error>
+        ensures { spec.Reprints (spec.patterns_category X.reads X.prints self) (toks tokens.now) result }
+    {
+        match self {
+            PatternReader::Single => reprint_with(alloc, ParseSingle::<X>::new(), tokens),
+            PatternReader::Multi => reprint_with(alloc, ParseMulti::<X>::new(), tokens),
+            PatternReader::LeadingVert => reprint_with(
+                alloc,
+                ParseMultiWithLeadingVert::<X>::new(),
+                tokens,
+            ),
+            PatternReader::Guarded => reprint_with(
+                alloc,
+                ParseMultiWithLeadingVertAndGuard::<X>::new(),
+                tokens,
+            ),
+            PatternReader::Typed => reprint::<PatType<X>>(alloc, tokens),
         }
     }
 }

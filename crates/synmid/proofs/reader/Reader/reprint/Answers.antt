@@ -36,3 +36,6 @@ returns-in-Paths c = rw c.in-Paths.is c.reprint_over-in-Paths.ensures
 
 pub returns-in-Generics : goal.returns-in-Generics
 returns-in-Generics c = rw c.in-Generics.is c.reprint_over-in-Generics.ensures
+
+pub returns-in-Patterns : goal.returns-in-Patterns
+returns-in-Patterns c = rw c.in-Patterns.is c.reprint_over-in-Patterns.ensures
