@@ -35,7 +35,7 @@ impl Tree<()> for Lifetime {
     ghost read = { λ place. read_lifetime };
 }
 
-fn parse_held_lifetime(
+pub(crate) fn parse_held_lifetime(
     alloc: Global,
     of: PhantomData<Lifetime>,
     input: &mut ParseStream<'_>,

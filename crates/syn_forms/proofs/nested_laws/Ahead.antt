@@ -250,6 +250,9 @@ unsafe_taken = word_taken 16
 pub use_taken : (s t : Stream) (r : Result (Word 17) Refusal) → Parsed (Gives (read_named 17) s) (Fails (read_named 17) s) r t → Follows s t → IfOk r (λ _. ahead t < ahead s)
 use_taken = word_taken 17
 
+pub where_taken : (s t : Stream) (r : Result (Word 18) Refusal) → Parsed (Gives (read_named 18) s) (Fails (read_named 18) s) r t → Follows s t → IfOk r (λ _. ahead t < ahead s)
+where_taken = word_taken 18
+
 pub any_ident_taken : (test : Bytes → Bool) (name : Bytes) (s t : Stream) (r : Result Ident Refusal) → Reads (read_word test name s) r t → Follows s t → IfOk r (λ _. ahead t < ahead s)
 any_ident_taken test name s t (Ok w) e f = ahead_less s t f (word_takes test name s t w e)
 any_ident_taken test name s t (Err x) e f = tt
@@ -271,4 +274,4 @@ pub ruleset inside_invisible = (invisible_ahead, holds_taken)
 
 pub ruleset past_lifetimes = (lifetime_taken)
 
-pub ruleset past_tokens = (comma_taken, plus_taken, and_taken, star_taken, lt_taken, gt_taken, sep_taken, equals_taken, colon_taken, arrow_taken, const_taken, dyn_taken, extern_taken, fn_taken, for_taken, impl_taken, unsafe_taken, use_taken, ident_taken, any_ident_taken)
+pub ruleset past_tokens = (comma_taken, plus_taken, and_taken, star_taken, lt_taken, gt_taken, sep_taken, equals_taken, colon_taken, arrow_taken, const_taken, dyn_taken, extern_taken, fn_taken, for_taken, impl_taken, unsafe_taken, use_taken, where_taken, ident_taken, any_ident_taken)

@@ -1,4 +1,4 @@
--- The bounds of a lifetime parameter are read as a list is that asks its values below a limit.
+-- The bounds of a lifetime, up to an end, are read as a list is that asks its values below a limit.
 use Rattle.std.proofs.Common.{◌≡◌, ℕ, ◌<◌, ◌≤◌, Bool, true, false, not, ◌==◌, if◌then◌else◌, [], Option, Some, None, Ok, Err, refl, ap, subst, arith}
 use Rattle.token_core.specs.declared.lifetime.Lifetime.{Lifetime}
 use Rattle.token_core.specs.declared.mark.Spans.{Spans}
@@ -20,7 +20,6 @@ use Rattle.token_core.proofs.Turns.{same_pair}
 use Rattle.syn_forms.specs.heads.Reading.{Angled, angled}
 use Rattle.syn_forms.specs.lists.Reading.{bounds_to, list}
 use Rattle.syn_forms.specs.nested.Below.{ahead, below, held}
-use Rattle.syn_forms.specs.params.Reading.{ends_lifetime}
 use Rattle.syn_forms.proofs.lists_laws.Bounded.{same_list}
 use Rattle.syn_forms.proofs.nested_laws.Ahead.{ahead_follows, mark_ahead}
 
@@ -61,9 +60,9 @@ plus_later s t p e =
     let m = mapped (read_mark (chars_of 20) (mark_name 20) s) (mark_of 20 1) p t e in
     mark_later (mark_name 20) 20 s t m.value m.was
 
-pub lifetimes : (limit : ℕ) (s : Stream) → ahead s < limit → list (λ first. ends_lifetime) (held (λ (place : Unit {0}). read_lifetime) limit tt) token.sees_plus token.plus true s ≡ bounds_to read_lifetime ends_lifetime s
+pub lifetimes : (ends : Toks → Bool) (limit : ℕ) (s : Stream) → ahead s < limit → list (λ first. ends) (held (λ (place : Unit {0}). read_lifetime) limit tt) token.sees_plus token.plus true s ≡ bounds_to read_lifetime ends s
 unfolding held
-lifetimes limit s h = same_list (λ first. ends_lifetime) read_lifetime token.sees_plus token.plus limit lifetime_later plus_later true s h
+lifetimes ends limit s h = same_list (λ first. ends) read_lifetime token.sees_plus token.plus limit lifetime_later plus_later true s h
 
 went_follows : {A : Type 0} (end : A → Span) (e : Refusal) (s t : Stream) (x : A) (o : Option (A × Toks)) → ((p : A × Toks) → o ≡ Some p → IsSuffix p.1 s.rest) → goes_on end e s o ≡ Ok (x, t) → Follows s t
 went_follows end e s t x None h k = cc
