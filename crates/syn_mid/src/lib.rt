@@ -178,6 +178,8 @@ pub use whole::ParseMultiWithLeadingVertAndGuard;
 pub use whole::ParseOptionalAbi;
 pub use whole::ParseOptionalLifetimes;
 pub use whole::ParseOptionalLifetimesOf;
+pub use whole::ParseOptionalWhere;
+pub use whole::ParseOptionalWhereOf;
 pub use whole::ParseOuter;
 pub use whole::ParseSingle;
 pub use whole::ParseTurbofish;

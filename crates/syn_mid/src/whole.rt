@@ -12,6 +12,7 @@ ghost use Rattle.syn_pat.specs.declared.place.PatPlace.TheVariants.{LeadingVert,
 ghost use Rattle.syn_pat.specs.pat.Knot as pats;
 ghost use Rattle.syn_ty.specs.ty.Reading as types;
 ghost use Rattle.syn_ty.specs.ty.Knot as knot;
+ghost use Rattle.syn_ty.specs.generics.Alone as alone;
 
 use std::alloc::Global;
 use std::marker::PhantomData;
@@ -20,7 +21,7 @@ use syn_attr::expr::Expr;
 use syn_pat::pat::Pat;
 use syn_path::path::{Arguments, PathOf};
 use syn_path::supplied::{Attributes, Subtree, Value};
-use syn_ty::generics::{BoundLifetimesOf, GenericParamOf, TypeParamBoundOf};
+use syn_ty::generics::{BoundLifetimesOf, GenericParamOf, TypeParamBoundOf, WhereClauseOf};
 use syn_ty::path::{AngleBracketedGenericArgumentsOf, GenericArgumentOf};
 use syn_ty::ty::{Abi, ReturnTypeOf, TypeImplTraitOf, TypeOf, TypeTraitObjectOf};
 use token_core::{Error, Items, ParseStream, Parser};
@@ -326,6 +327,41 @@ impl<A: Attributes, E: Value> Parser for ParseOptionalLifetimesOf<A, E> {
         input: &mut ParseStream<'_>,
     ) -> Result<Option<BoundLifetimesOf<GenericParamOf<A, E>>>, Error> {
         BoundLifetimesOf::parse_optional(alloc, input)
+    }
+}
+
+/// `WhereClause::parse_optional` as a parser, over attributes and expressions.
+#[derive(Drop)]
+pub struct ParseOptionalWhereOf<A, E> {
+    pub of: PhantomData<(A, E)>,
+}
+
+/// `WhereClause::parse_optional` as a parser.
+pub type ParseOptionalWhere<X> = ParseOptionalWhereOf<Attribute<X>, Expr<X>>;
+
+impl<A, E> ParseOptionalWhereOf<A, E> {
+    pub fn new() -> ParseOptionalWhereOf<A, E>
+        ensures { result ≡ record { of = record {} } }
+    {
+        ParseOptionalWhereOf { of: PhantomData }
+    }
+}
+
+impl<A: Attributes, E: Value> Parser for ParseOptionalWhereOf<A, E> {
+    type Output = Option<WhereClauseOf<A, E>>;
+
+    ghost can_parse = { λ _. Unit {0} };
+
+    ghost reads = { λ _. Gives (alone.optional_where_clause A.reads E.reads) };
+
+    ghost refuses = { λ _. Fails (alone.optional_where_clause A.reads E.reads) };
+
+    fn parse(
+        self,
+        alloc: Global,
+        input: &mut ParseStream<'_>,
+    ) -> Result<Option<WhereClauseOf<A, E>>, Error> {
+        WhereClauseOf::parse_optional(alloc, input)
     }
 }
 

@@ -28,13 +28,19 @@ use Rattle.syn_ty.specs.ty.Trees as ty
 use Rattle.syn_ty.specs.ty.Knot as knot
 use Rattle.syn_ty.specs.ty.Printing as printing
 use Rattle.syn_ty.specs.ty.Reading as reading
+use Rattle.syn_ty.specs.generics.Alone as alone
+use Rattle.syn_ty.specs.generics.Printing as generics_printing
 use Rattle.syn_ty.specs.generics.Reading as generics
 use Rattle.syn_ty.specs.generics.Shapes as shapes
 use Rattle.syn_ty.specs.generics.Shapes.{lifetime_param_by}
+use Rattle.syn_ty.specs.generics.Views as views
 use Rattle.syn_ty.specs.path.Shapes.{as_written}
 use Rattle.syn_ty.specs.declared.generics.CapturedParam as captured
+use Rattle.syn_ty.specs.declared.generics.GenericsOf.{GenericsOf}
 use Rattle.syn_ty.specs.declared.generics.LifetimeParamOf as lifetime
 use Rattle.syn_ty.specs.declared.generics.PreciseCapture as capture
+use Rattle.syn_ty.specs.declared.generics.WhereClauseOf.{WhereClauseOf}
+use Rattle.syn_ty.specs.declared.generics.WherePredicateOf.{WherePredicateOf}
 use Rattle.syn_ty.specs.declared.ty.Abi as abi
 use Rattle.syn_forms.specs.declared.places.BoundPlace.TheVariants.{Opaque}
 use Rattle.syn_forms.specs.declared.places.ParamPlace.TheVariants.{Binder}
@@ -118,7 +124,14 @@ generics_named name =
     else (if bytes_eq name (codes "TraitBound") then Some g.TraitBound
     else (if bytes_eq name (codes "PreciseCapture") then Some g.Capture
     else (if bytes_eq name (codes "CapturedParam") then Some g.Captured
-    else None)))))))))
+    else (if bytes_eq name (codes "Generics") then Some g.Declared
+    else (if bytes_eq name (codes "ImplGenerics") then Some g.ImplGenerics
+    else (if bytes_eq name (codes "TypeGenerics") then Some g.TypeGenerics
+    else (if bytes_eq name (codes "Turbofish") then Some g.Turbofish
+    else (if bytes_eq name (codes "WhereClause") then Some g.WhereClause
+    else (if bytes_eq name (codes "WhereClause::parse_optional") then Some g.OptionalWhereClause
+    else (if bytes_eq name (codes "WherePredicate") then Some g.Predicate
+    else None))))))))))))))))
 
 abbrev pub patterns_named : Bytes → Option PatternReader
 patterns_named name =
@@ -182,6 +195,10 @@ of_reader f p = record { reader = f; print = p; promise = λ l a. Unit {0}; clea
 abbrev pub shown : {A E : Type 0} → (List A → Print) → Values E → ty.PathArguments A E → Print
 shown pa pe = printing.arguments pa pe as_written
 
+-- what generics print for an implementation
+abbrev pub impl_generics : {A E : Type 0} → (List A → Print) → Values E → GenericsOf A E → Print
+impl_generics pa pe x = generics_printing.generics pa pe (views.stripped x)
+
 -- the trees of a reader of types, over attributes and expressions
 abbrev pub TypesTree : Type 0 → Type 0 → TypeReader → Type 0
 TypesTree A E t.Any = ty.TypeTree A E
@@ -229,6 +246,13 @@ GenericsTree A E g.Bound = ty.TypeParamBound A E
 GenericsTree A E g.TraitBound = ty.TraitBound A E
 GenericsTree A E g.Capture = capture.PreciseCapture
 GenericsTree A E g.Captured = captured.CapturedParam
+GenericsTree A E g.Declared = GenericsOf A E
+GenericsTree A E g.ImplGenerics = GenericsOf A E
+GenericsTree A E g.TypeGenerics = GenericsOf A E
+GenericsTree A E g.Turbofish = GenericsOf A E
+GenericsTree A E g.WhereClause = WhereClauseOf A E
+GenericsTree A E g.OptionalWhereClause = Option (WhereClauseOf A E)
+GenericsTree A E g.Predicate = WherePredicateOf A E
 
 -- of patterns, over a supplied subtree
 abbrev pub PatternsTree : Type 0 → PatternReader → Type 0
@@ -283,6 +307,13 @@ module _ {A E : Type 0} (attrs : R (List A)) (values : ReadValues E) (na : List 
   generics_category g.TraitBound = of_reader (knot.trait_bound attrs values) (printing.trait_bound pa pe)
   generics_category g.Capture = of_reader (generics.capture) shapes.capture
   generics_category g.Captured = of_reader (generics.captured) shapes.captured
+  generics_category g.Declared = of_reader (alone.generics attrs values) (generics_printing.generics pa pe)
+  generics_category g.ImplGenerics = of_reader (alone.generics attrs values) (impl_generics pa pe)
+  generics_category g.TypeGenerics = of_reader (alone.generics attrs values) views.names
+  generics_category g.Turbofish = of_reader (alone.generics attrs values) views.turbofish
+  generics_category g.WhereClause = of_reader (alone.where_clause attrs values) (generics_printing.where_clause pa pe)
+  generics_category g.OptionalWhereClause = of_reader (alone.optional_where_clause attrs values) (optional (generics_printing.where_clause pa pe))
+  generics_category g.Predicate = of_reader (alone.predicate attrs values) (generics_printing.predicate pa pe)
 
 module _ {X : Type 0} (supplied : Place → R X) (prints : Place → X → Print) where
   abbrev pub patterns_category : (r : PatternReader) → Category (PatternsTree X r)

@@ -7,9 +7,13 @@ ghost use Rattle.synmid.specs.declared.fault.Fault.{Fault};
 #[cfg(test)]
 mod attr_tests;
 mod channel;
+#[cfg(test)]
+mod derive_tests;
 mod fault;
 #[cfg(test)]
 mod form_tests;
+#[cfg(test)]
+mod generics_read_tests;
 #[cfg(test)]
 mod nested_tests;
 #[cfg(test)]

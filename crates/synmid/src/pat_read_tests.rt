@@ -137,14 +137,29 @@ fn ranges_are_read(rt: HostRuntime) {
             "1..+",
             "expected one of: literal, identifier, `::`, `<`, `self`, `Self`, `super`, `crate`, `const` 3-4 3-4",
         ),
-        ("1..=", "unexpected end of input, expected range upper bound 0-0 0-0"),
-        ("1...", "unexpected end of input, expected range upper bound 0-0 0-0"),
-        ("..=", "unexpected end of input, expected range upper bound 0-0 0-0"),
-        ("A..=", "unexpected end of input, expected range upper bound 0-0 0-0"),
+        (
+            "1..=",
+            "unexpected end of input, expected range upper bound 0-0 0-0",
+        ),
+        (
+            "1...",
+            "unexpected end of input, expected range upper bound 0-0 0-0",
+        ),
+        (
+            "..=",
+            "unexpected end of input, expected range upper bound 0-0 0-0",
+        ),
+        (
+            "A..=",
+            "unexpected end of input, expected range upper bound 0-0 0-0",
+        ),
         ("(1..=, a)", "expected range upper bound 5-6 5-6"),
         ("..=if", "expected range upper bound 3-5 3-5"),
         ("1..: a", "unexpected token 3-4 3-4"),
-        ("const", "unexpected end of input, expected curly braces 0-0 0-0"),
+        (
+            "const",
+            "unexpected end of input, expected curly braces 0-0 0-0",
+        ),
         ("const a", "expected curly braces 6-7 6-7"),
     ] {
         says(&rt, alloc, read(alloc, PatternReader::Single, text), wanted);
@@ -172,10 +187,22 @@ fn tuples_and_slices_are_read(rt: HostRuntime) {
         ("[a | 1..]", "[a | 1 ..]"),
         ("(a b)", "expected `,` 3-4 3-4"),
         ("[a b]", "expected `,` 3-4 3-4"),
-        ("[1..]", "range pattern is not allowed unparenthesized inside slice pattern 2-3 3-4"),
-        ("[..1]", "range pattern is not allowed unparenthesized inside slice pattern 1-2 2-3"),
-        ("[..=1]", "range pattern is not allowed unparenthesized inside slice pattern 1-2 3-4"),
-        ("[a, ..1]", "range pattern is not allowed unparenthesized inside slice pattern 4-5 5-6"),
+        (
+            "[1..]",
+            "range pattern is not allowed unparenthesized inside slice pattern 2-3 3-4",
+        ),
+        (
+            "[..1]",
+            "range pattern is not allowed unparenthesized inside slice pattern 1-2 2-3",
+        ),
+        (
+            "[..=1]",
+            "range pattern is not allowed unparenthesized inside slice pattern 1-2 3-4",
+        ),
+        (
+            "[a, ..1]",
+            "range pattern is not allowed unparenthesized inside slice pattern 4-5 5-6",
+        ),
         ("[1.. b]", "[1 .. b]"),
     ] {
         says(&rt, alloc, read(alloc, PatternReader::Single, text), wanted);
@@ -211,7 +238,10 @@ fn structs_are_read(rt: HostRuntime) {
         ("A{ref 0}", "expected identifier 6-7 6-7"),
         ("A{a b}", "expected `,` 4-5 4-5"),
         ("A{...}", "unexpected token 4-5 4-5"),
-        ("A{1u8: a}", "expected unsuffixed integer of at most 32 bits 2-5 2-5"),
+        (
+            "A{1u8: a}",
+            "expected unsuffixed integer of at most 32 bits 2-5 2-5",
+        ),
         ("A{1.0: a}", "expected identifier or integer 2-5 2-5"),
     ] {
         says(&rt, alloc, read(alloc, PatternReader::Single, text), wanted);
@@ -260,7 +290,12 @@ fn a_leading_vert_is_read(rt: HostRuntime) {
             "unexpected end of input, expected one of: identifier, `::`, `<`, `_`, literal, `const`, `ref`, `mut`, `&`, parentheses, square brackets, `..` 0-0 0-0",
         ),
     ] {
-        says(&rt, alloc, read(alloc, PatternReader::LeadingVert, text), wanted);
+        says(
+            &rt,
+            alloc,
+            read(alloc, PatternReader::LeadingVert, text),
+            wanted,
+        );
     }
 }
 
@@ -272,10 +307,18 @@ fn guards_are_read(rt: HostRuntime) {
         ("a if b", "a if b"),
         ("| x if a + 1", "| x if a + 1"),
         ("a | b if c", "a | b if c"),
-        ("a if", "unexpected end of input, expected identifier 0-0 0-0"),
+        (
+            "a if",
+            "unexpected end of input, expected identifier 0-0 0-0",
+        ),
         ("a if b c", "unexpected token 7-8 7-8"),
     ] {
-        says(&rt, alloc, read(alloc, PatternReader::Guarded, text), wanted);
+        says(
+            &rt,
+            alloc,
+            read(alloc, PatternReader::Guarded, text),
+            wanted,
+        );
     }
 }
 

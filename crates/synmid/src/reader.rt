@@ -1,6 +1,9 @@
 //! The readers that a run knows by name.
 
 ghost use Rattle.std.specs.Prelude.{◌≡◌, IfOk};
+ghost use Rattle.syn_ty.specs.generics.Alone as alone;
+ghost use Rattle.syn_ty.specs.generics.Views as views;
+ghost use Rattle.token_core.specs.Reads.{Fails, Gives};
 ghost use Rattle.token_core.specs.Trees.{toks, trees};
 ghost use Rattle.synmid.specs.Readers as spec;
 
@@ -8,15 +11,16 @@ use crate::sample::Sample;
 use std::alloc::{AllocError, Global};
 use syn_mid::{
     Abi, AngleBracketedGenericArgumentsOf, Attribute, Attributes, BoundLifetimesOf, CapturedParam,
-    ConstParamOf, Expr, GenericArgumentOf, GenericParamOf, ImplWithoutPlusOf, LifetimeParamOf,
-    Macro, Meta, MetaList, MetaNameValue, ModStyle, NamedArgOf, NoArguments, ObjectWithoutPlusOf,
-    ParenthesizedGenericArgumentsOf, ParseInner, ParseMulti, ParseMultiWithLeadingVert,
-    ParseMultiWithLeadingVertAndGuard, ParseOptionalAbi, ParseOptionalLifetimesOf, ParseOuter,
-    ParseSingle, ParseTurbofishOf, PatType, PathArgumentsOf, PathOf, PathSegmentOf,
-    PointerMutability, PreciseCapture, ReturnTypeOf, ReturnWithoutPlusOf, Subtree, TraitBoundOf,
-    TypeArrayOf, TypeFnPtrOf, TypeGroupOf, TypeImplTraitOf, TypeInferOf, TypeMacroOf, TypeNeverOf,
-    TypeOf, TypeParamBoundOf, TypeParamOf, TypeParenOf, TypePathOf, TypePtrOf, TypeReferenceOf,
-    TypeSliceOf, TypeTraitObjectOf, TypeTupleOf, Value, WithoutPlusOf,
+    ConstParamOf, Expr, GenericArgumentOf, GenericParamOf, GenericsOf, ImplWithoutPlusOf,
+    LifetimeParamOf, Macro, Meta, MetaList, MetaNameValue, ModStyle, NamedArgOf, NoArguments,
+    ObjectWithoutPlusOf, ParenthesizedGenericArgumentsOf, ParseInner, ParseMulti,
+    ParseMultiWithLeadingVert, ParseMultiWithLeadingVertAndGuard, ParseOptionalAbi,
+    ParseOptionalLifetimesOf, ParseOptionalWhereOf, ParseOuter, ParseSingle, ParseTurbofishOf,
+    PatType, PathArgumentsOf, PathOf, PathSegmentOf, PointerMutability, PreciseCapture,
+    ReturnTypeOf, ReturnWithoutPlusOf, Subtree, TraitBoundOf, TypeArrayOf, TypeFnPtrOf,
+    TypeGroupOf, TypeImplTraitOf, TypeInferOf, TypeMacroOf, TypeNeverOf, TypeOf, TypeParamBoundOf,
+    TypeParamOf, TypeParenOf, TypePathOf, TypePtrOf, TypeReferenceOf, TypeSliceOf,
+    TypeTraitObjectOf, TypeTupleOf, Value, WhereClauseOf, WherePredicateOf, WithoutPlusOf,
 };
 use token_core::{Error, Items, Parse, Parser, ToTokens, TokenStream, read_all, read_all_with};
 
@@ -76,7 +80,7 @@ pub enum PathReader {
     Parenthesized,
 }
 
-/// A reader of parameters, binders, bounds or captures.
+/// A reader of generics, parameters, binders, bounds, captures or where clauses, or one that prints a view of generics.
 #[derive(Clone, Copy, PartialEq, Eq)]
 pub enum GenericsReader {
     Param,
@@ -89,6 +93,13 @@ pub enum GenericsReader {
     TraitBound,
     Capture,
     Captured,
+    Declared,
+    ImplGenerics,
+    TypeGenerics,
+    Turbofish,
+    WhereClause,
+    OptionalWhereClause,
+    Predicate,
 }
 
 /// A reader of patterns.
@@ -306,6 +317,13 @@ impl GenericsReader {
             "TraitBound" => Some(GenericsReader::TraitBound),
             "PreciseCapture" => Some(GenericsReader::Capture),
             "CapturedParam" => Some(GenericsReader::Captured),
+            "Generics" => Some(GenericsReader::Declared),
+            "ImplGenerics" => Some(GenericsReader::ImplGenerics),
+            "TypeGenerics" => Some(GenericsReader::TypeGenerics),
+            "Turbofish" => Some(GenericsReader::Turbofish),
+            "WhereClause" => Some(GenericsReader::WhereClause),
+            "WhereClause::parse_optional" => Some(GenericsReader::OptionalWhereClause),
+            "WherePredicate" => Some(GenericsReader::Predicate),
             _ => None,
         }
     }
@@ -337,6 +355,17 @@ impl GenericsReader {
             GenericsReader::TraitBound => reprint::<TraitBoundOf<A, E>>(alloc, tokens),
             GenericsReader::Capture => reprint::<PreciseCapture>(alloc, tokens),
             GenericsReader::Captured => reprint::<CapturedParam>(alloc, tokens),
+            GenericsReader::Declared => reprint::<GenericsOf<A, E>>(alloc, tokens),
+            GenericsReader::ImplGenerics => reprint_impl_generics::<A, E>(alloc, tokens),
+            GenericsReader::TypeGenerics => reprint_type_generics::<A, E>(alloc, tokens),
+            GenericsReader::Turbofish => reprint_turbofish::<A, E>(alloc, tokens),
+            GenericsReader::WhereClause => reprint::<WhereClauseOf<A, E>>(alloc, tokens),
+            GenericsReader::OptionalWhereClause => reprint_with(
+                alloc,
+                ParseOptionalWhereOf::<A, E>::new(),
+                tokens,
+            ),
+            GenericsReader::Predicate => reprint::<WherePredicateOf<A, E>>(alloc, tokens),
         }
     }
 }
@@ -415,6 +444,42 @@ fn reprint_attributes<P: Parser<Output = Items<Attribute<Sample>>> + Drop>(
 {
     let attrs = read_all_with(alloc, parser, tokens)?;
     Ok(print_of(alloc, &attrs)?)
+}
+
+/// Reads all of a list as generics, and prints those of an implementation.
+fn reprint_impl_generics<A: Attributes, E: Value>(
+    alloc: Global,
+    tokens: &TokenStream,
+) -> Result<TokenStream, Error>
+    ensures { spec.Prints (Gives (alone.generics A.reads E.reads)) (Fails (alone.generics A.reads E.reads)) (λ _ _. Unit {0}) (spec.impl_generics A.shown E.values) (toks tokens.now) result }
+{
+    let generics = read_all::<GenericsOf<A, E>>(alloc, tokens)?;
+    let (impl_generics, _, _) = generics.split_for_impl();
+    Ok(print_of(alloc, &impl_generics)?)
+}
+
+/// Reads all of a list as generics, and prints the names of the parameters.
+fn reprint_type_generics<A: Attributes, E: Value>(
+    alloc: Global,
+    tokens: &TokenStream,
+) -> Result<TokenStream, Error>
+    ensures { spec.Prints (Gives (alone.generics A.reads E.reads)) (Fails (alone.generics A.reads E.reads)) (λ _ _. Unit {0}) views.names (toks tokens.now) result }
+{
+    let generics = read_all::<GenericsOf<A, E>>(alloc, tokens)?;
+    let (_, type_generics, _) = generics.split_for_impl();
+    Ok(print_of(alloc, &type_generics)?)
+}
+
+/// Reads all of a list as generics, and prints the names of the parameters after `::`.
+fn reprint_turbofish<A: Attributes, E: Value>(
+    alloc: Global,
+    tokens: &TokenStream,
+) -> Result<TokenStream, Error>
+    ensures { spec.Prints (Gives (alone.generics A.reads E.reads)) (Fails (alone.generics A.reads E.reads)) (λ _ _. Unit {0}) views.turbofish (toks tokens.now) result }
+{
+    let generics = read_all::<GenericsOf<A, E>>(alloc, tokens)?;
+    let (_, type_generics, _) = generics.split_for_impl();
+    Ok(print_of(alloc, &type_generics.as_turbofish())?)
 }
 
 fn print_of<T: ToTokens>(alloc: Global, tree: &T) -> Result<TokenStream, AllocError>

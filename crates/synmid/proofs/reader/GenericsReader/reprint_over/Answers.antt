@@ -53,3 +53,38 @@ pub returns-in-Captured : goal.returns-in-Captured
 returns-in-Captured g c =
     let C = generics_category g.A.Attributes.reads g.E.Value.reads g.A.Attributes.normal g.A.Attributes.shown g.E.Value.values r.Captured in
     rw c.in-Captured.is (prints-reprints C (toks c.args.tokens.now) c.reprint-in-Captured.result c.reprint-in-Captured.ensures)
+
+pub returns-in-Declared : goal.returns-in-Declared
+returns-in-Declared g c =
+    let C = generics_category g.A.Attributes.reads g.E.Value.reads g.A.Attributes.normal g.A.Attributes.shown g.E.Value.values r.Declared in
+    rw c.in-Declared.is (prints-reprints C (toks c.args.tokens.now) c.reprint-in-Declared.result c.reprint-in-Declared.ensures)
+
+pub returns-in-ImplGenerics : goal.returns-in-ImplGenerics
+returns-in-ImplGenerics g c =
+    let C = generics_category g.A.Attributes.reads g.E.Value.reads g.A.Attributes.normal g.A.Attributes.shown g.E.Value.values r.ImplGenerics in
+    rw c.in-ImplGenerics.is (prints-reprints C (toks c.args.tokens.now) c.reprint_impl_generics.result c.reprint_impl_generics.ensures)
+
+pub returns-in-TypeGenerics : goal.returns-in-TypeGenerics
+returns-in-TypeGenerics g c =
+    let C = generics_category g.A.Attributes.reads g.E.Value.reads g.A.Attributes.normal g.A.Attributes.shown g.E.Value.values r.TypeGenerics in
+    rw c.in-TypeGenerics.is (prints-reprints C (toks c.args.tokens.now) c.reprint_type_generics.result c.reprint_type_generics.ensures)
+
+pub returns-in-Turbofish : goal.returns-in-Turbofish
+returns-in-Turbofish g c =
+    let C = generics_category g.A.Attributes.reads g.E.Value.reads g.A.Attributes.normal g.A.Attributes.shown g.E.Value.values r.Turbofish in
+    rw c.in-Turbofish.is (prints-reprints C (toks c.args.tokens.now) c.reprint_turbofish.result c.reprint_turbofish.ensures)
+
+pub returns-in-WhereClause : goal.returns-in-WhereClause
+returns-in-WhereClause g c =
+    let C = generics_category g.A.Attributes.reads g.E.Value.reads g.A.Attributes.normal g.A.Attributes.shown g.E.Value.values r.WhereClause in
+    rw c.in-WhereClause.is (prints-reprints C (toks c.args.tokens.now) c.reprint-in-WhereClause.result c.reprint-in-WhereClause.ensures)
+
+pub returns-in-OptionalWhereClause : goal.returns-in-OptionalWhereClause
+returns-in-OptionalWhereClause g c =
+    let C = generics_category g.A.Attributes.reads g.E.Value.reads g.A.Attributes.normal g.A.Attributes.shown g.E.Value.values r.OptionalWhereClause in
+    rw c.in-OptionalWhereClause.is (prints-reprints C (toks c.args.tokens.now) c.reprint_with-in-OptionalWhereClause.result c.reprint_with-in-OptionalWhereClause.ensures)
+
+pub returns-in-Predicate : goal.returns-in-Predicate
+returns-in-Predicate g c =
+    let C = generics_category g.A.Attributes.reads g.E.Value.reads g.A.Attributes.normal g.A.Attributes.shown g.E.Value.values r.Predicate in
+    rw c.in-Predicate.is (prints-reprints C (toks c.args.tokens.now) c.reprint-in-Predicate.result c.reprint-in-Predicate.ensures)
