@@ -7,7 +7,7 @@ use Rattle.syn_forms.specs.nested.Below.{ahead}
 use Rattle.syn_forms.specs.paths.Reading as paths
 use Rattle.syn_path.specs.Values.{ReadValues}
 use Rattle.syn_path.specs.declared.path.PathStyle.TheVariants.{AsWritten}
-use Rattle.syn_ty.specs.declared.ty.TypeOf.TheVariants as t
+use Rattle.syn_ty.specs.declared.ty.TypeOf.TheVariants as v
 use Rattle.syn_ty.specs.path.Reading.{path, rest}
 use Rattle.syn_ty.specs.ty.Groups.{GoesOn, IsGrouped, alone, arguments, grouped, qualifies, segments, takes_arguments}
 use Rattle.syn_ty.specs.ty.Knot.{reads_below, ty}
@@ -26,26 +26,26 @@ use Rattle.syn_ty.proofs.ty_laws.Knot.{ty-turn}
 module _ {A E : Type 0} (r : Readers A E) (g : GroupToken) (x : TypeTree A E) (s t : Stream) (y : TypeTree A E) where
   -- the group by itself
   by_itself : sees_further_segment s.rest ≡ false → (sees_further_arguments s.rest && takes_arguments r (as_path x)) ≡ false →
-      pure (t.Group (group_with [] g x)) s ≡ Ok (y, t) → GoesOn r g x s y t
+      pure (v.Group (group_with [] g x)) s ≡ Ok (y, t) → GoesOn r g x s y t
   by_itself h k e =
-      let w = same_pair (t.Group (group_with [] g x)) y s t e in
-      subst (λ z. GoesOn r g x s z t) w.0 (subst (λ z. GoesOn r g x s (t.Group (group_with [] g x)) z) w.1 (alone h k))
+      let w = same_pair (v.Group (group_with [] g x)) y s t e in
+      subst (λ z. GoesOn r g x s z t) w.0 (subst (λ z. GoesOn r g x s (v.Group (group_with [] g x)) z) w.1 (alone h k))
 
   with_segments : sees_further_segment s.rest ≡ true → (o : Option (TypePath A E)) → as_path x ≡ o → group_with_segments r g x o s ≡ Ok (y, t) → GoesOn r g x s y t
   unfolding group_with_segments
   with_segments h (Some p) k e =
-      let w = mapped (rest r (path_within p) s) (λ q. t.Path (with_path p q)) y t e in
+      let w = mapped (rest r (path_within p) s) (λ q. v.Path (with_path p q)) y t e in
       subst (λ z. GoesOn r g x s z t) w.is (segments h k w.was)
   with_segments h None k e =
-      let w = mapped (path r AsWritten s) (λ q. t.Path (qualified_with [] (Some (qself_in g x)) q)) y t e in
+      let w = mapped (path r AsWritten s) (λ q. v.Path (qualified_with [] (Some (qself_in g x)) q)) y t e in
       subst (λ z. GoesOn r g x s z t) w.is (qualifies h k w.was)
 
   takes : (p : TypePath A E) → sees_further_segment s.rest ≡ false → sees_further_arguments s.rest ≡ true → as_path x ≡ Some p → has_arguments (path_within p) ≡ false →
       with_arguments r p s ≡ Ok (y, t) → GoesOn r g x s y t
   takes p h j k n e =
       let a = chain (r some_arguments s) _ y t e in
-      let w = chain (rest r (paths.path_with a.value (path_within p)) a.rest) (λ q. pure (t.Path (with_path p q))) y t a.goes in
-      let f = same_pair (t.Path (with_path p w.value)) y w.rest t w.goes in
+      let w = chain (rest r (paths.path_with a.value (path_within p)) a.rest) (λ q. pure (v.Path (with_path p q))) y t a.goes in
+      let f = same_pair (v.Path (with_path p w.value)) y w.rest t w.goes in
       subst (λ z. GoesOn r g x s z t) f.0 (arguments h j k n a.was (w.was ∙ ap (λ (z : Stream). Ok (w.value, z)) f.1))
 
   takes_none : {o : Option (TypePath A E)} → as_path x ≡ o → takes_arguments r o ≡ false → (sees_further_arguments s.rest && takes_arguments r (as_path x)) ≡ false

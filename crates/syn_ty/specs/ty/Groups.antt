@@ -4,7 +4,7 @@ use Rattle.syn_forms.specs.declared.places.TypePlace.TheVariants.{Plus}
 use Rattle.syn_forms.specs.groups.Reading.{in_invisible}
 use Rattle.syn_forms.specs.paths.Reading as paths
 use Rattle.syn_path.specs.declared.path.PathStyle.TheVariants.{AsWritten}
-use Rattle.syn_ty.specs.declared.ty.TypeOf.TheVariants as t
+use Rattle.syn_ty.specs.declared.ty.TypeOf.TheVariants as v
 use Rattle.syn_ty.specs.path.Reading.{path, rest}
 use Rattle.syn_ty.specs.ty.Points.{Readers, a_type, some_arguments}
 use Rattle.syn_ty.specs.ty.Reading.{as_path, has_arguments, path_within, qself_in, sees_further_arguments, sees_further_segment, with_path}
@@ -23,16 +23,16 @@ module _ {A E : Type 0} (r : Readers A E) where
   pub data GoesOn (g : GroupToken) (x : TypeTree A E) (s : Stream) : TypeTree A E → Stream → Type 0 where
     -- `::` and an identifier follow a path: it goes on with these segments
     segments : {p : TypePath A E} {q : Path A E} {t : Stream} → sees_further_segment s.rest ≡ true → as_path x ≡ Some p →
-        rest r (path_within p) s ≡ Ok (q, t) → GoesOn g x s (t.Path (with_path p q)) t
+        rest r (path_within p) s ≡ Ok (q, t) → GoesOn g x s (v.Path (with_path p q)) t
     -- they follow another type: it qualifies the path which they begin
     qualifies : {q : Path A E} {t : Stream} → sees_further_segment s.rest ≡ true → as_path x ≡ None →
-        path r AsWritten s ≡ Ok (q, t) → GoesOn g x s (t.Path (qualified_with [] (Some (qself_in g x)) q)) t
+        path r AsWritten s ≡ Ok (q, t) → GoesOn g x s (v.Path (qualified_with [] (Some (qself_in g x)) q)) t
     -- `<`, or `::` and `<`, follow a path whose last segment has no arguments: it takes them, and goes on
     arguments : {p : TypePath A E} {a : PathArguments A E} {q : Path A E} {m t : Stream} → sees_further_segment s.rest ≡ false → sees_further_arguments s.rest ≡ true →
         as_path x ≡ Some p → has_arguments (path_within p) ≡ false → r some_arguments s ≡ Ok (a, m) → rest r (paths.path_with a (path_within p)) m ≡ Ok (q, t) →
-        GoesOn g x s (t.Path (with_path p q)) t
+        GoesOn g x s (v.Path (with_path p q)) t
     -- else the group is a type of its own
-    alone : sees_further_segment s.rest ≡ false → (sees_further_arguments s.rest && takes_arguments (as_path x)) ≡ false → GoesOn g x s (t.Group (group_with [] g x)) s
+    alone : sees_further_segment s.rest ≡ false → (sees_further_arguments s.rest && takes_arguments (as_path x)) ≡ false → GoesOn g x s (v.Group (group_with [] g x)) s
 
   -- A type read at an invisible group: the type that the group holds goes on.
   pub data IsGrouped (s : Stream) : TypeTree A E → Stream → Type 0 where

@@ -1,8 +1,11 @@
 //! Types that are taken apart at their tokens alone.
 
 ghost use Rattle.std.specs.Prelude.{◌<◌, ◌≤◌, length};
+ghost use Rattle.syn_forms.specs.declared.places.TypePlace.TheVariants.{Plus};
+ghost use Rattle.syn_forms.specs.groups.Reading as content;
 ghost use Rattle.syn_forms.specs.nested.Below.{Nests, ahead};
 ghost use Rattle.syn_ty.specs.ty.Knot as knot;
+ghost use Rattle.syn_ty.specs.ty.Points.{a_type};
 ghost use Rattle.syn_ty.specs.ty.Reading as reading;
 ghost use Rattle.token_core.specs.Reads.{Parses};
 
@@ -18,6 +21,7 @@ use crate::ty::{
 };
 use std::alloc::Global;
 use std::marker::PhantomData;
+use syn_forms::groups::ParenContent;
 use syn_forms::places::TypePlace;
 use syn_path::supplied::{Attributes, Value};
 use token_core::{Error, ParseStream};
@@ -153,6 +157,19 @@ impl<
     {
         let (bracket_token, held) = self.types().slice_or_array::<E>(input, TypePlace::Plus)?;
         Ok(of_brackets(self.alloc, bracket_token, held))
+    }
+
+    /// What parentheses hold that begin with a type.
+    #[tactic(auto, using(token_core::proofs::Suffixes::follows))]
+    pub(crate) fn type_or_elements<O, Q>(
+        &self,
+        input: &mut ParseStream<'_>,
+    ) -> Result<ParenContent<TypeOf<A, E>, O, Q>, Error>
+        requires types { Nests (knot.ty A.reads E.reads) (length self.now.begin) (F.pre self.now.types) (F.post self.now.types) }
+        requires few { ahead input.old < length self.now.begin }
+        ensures parses { Parses (content.type_or_elements (knot.reads_below A.reads E.reads (length self.now.begin) (a_type Plus))) result input.old input.new }
+    {
+        self.types().type_or_elements(input, TypePlace::Plus)
     }
 
     /// What a function returns: nothing, or `->` and a type.

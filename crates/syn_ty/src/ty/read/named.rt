@@ -11,7 +11,7 @@ ghost use Rattle.token_core.specs.Positions.{IsReached};
 use crate::generics::{BoundLifetimesOf, GenericParamOf, TypeParamBoundOf};
 use crate::grammar::Grammar;
 use crate::path::PathArgumentsOf;
-use crate::ty::read::parts::{FnInputs, NamedArgs, TypeTokens, bare_fn_ptr};
+use crate::ty::read::parts::{FnInputs, FnPtrParts, NamedArgs, TypeTokens, bare_fn_ptr};
 use crate::ty::read::tokens::{
     no_bound_type, parse_builtin_type, sees_bindable, sees_builtin, sees_fn_ptr, sees_unsafe_binder,
 };
@@ -70,6 +70,21 @@ impl<
         Ok((paren_token, held))
     }
 
+    /// A pointer to a function by its parts, after its binder.
+    #[tactic(auto, using(token_core::proofs::Suffixes::follows, syn_forms::proofs::nested_laws::Ahead::later), unfolding(crate::specs::ty::Reading::fn_ptr_parts))]
+    fn fn_ptr_parts(&self, input: &mut ParseStream<'_>) -> Result<FnPtrParts<A, E>, Error>
+        requires types { Nests (knot.ty A.reads E.reads) (length self.now.begin) (F.pre self.now.types) (F.post self.now.types) }
+        requires few { ahead input.old ≤ length self.now.begin }
+        ensures parses { Parses (reading.fn_ptr_parts A.reads E.reads (knot.reads_below A.reads E.reads (length self.now.begin))) result input.old input.new }
+        ensures fewer { ahead input.new ≤ ahead input.old }
+    {
+        // boxed: a refusal then drops each by one call, where its options would be taken apart
+        let head = Boxed::new(self.alloc, parse_fn_head(self.alloc, input)?)?;
+        let inputs = Boxed::new(self.alloc, self.fn_ptr_inputs(input)?)?;
+        let output = self.return_type(input, TypePlace::NoPlus)?;
+        Ok((head.into_inner(), inputs.into_inner(), output))
+    }
+
     /// A pointer to a function after its binder: `unsafe extern "C" fn(a: A, ...) -> B` (syn's `TypeBareFn`).
     #[tactic(auto, using(token_core::proofs::Suffixes::follows, syn_forms::proofs::nested_laws::Ahead::later), unfolding(crate::specs::ty::Reading::fn_ptr_after))]
     pub(crate) fn fn_ptr_after(
@@ -82,17 +97,8 @@ impl<
         ensures parses { Parses (reading.fn_ptr_after A.reads E.reads (knot.reads_below A.reads E.reads (length self.now.begin)) lifetimes) result input.old input.new }
         ensures fewer { ahead input.new ≤ ahead input.old }
     {
-        // boxed: a refusal then drops each by one call, where its options would be taken apart
-        let head = Boxed::new(self.alloc, parse_fn_head(self.alloc, input)?)?;
-        let inputs = Boxed::new(self.alloc, self.fn_ptr_inputs(input)?)?;
-        let output = self.return_type(input, TypePlace::NoPlus)?;
-        Ok(bare_fn_ptr(
-            self.alloc,
-            lifetimes,
-            head.into_inner(),
-            inputs.into_inner(),
-            output,
-        ))
+        let parts = self.fn_ptr_parts(input)?;
+        Ok(bare_fn_ptr(self.alloc, lifetimes, parts))
     }
 
     /// `unsafe<'a> T`: no case holds it, so that it is held as it was written, from a position on.
@@ -198,16 +204,16 @@ impl<
         ensures fewer { ahead input.new ≤ ahead input.old }
     {
         if sees_unsafe_binder(input) {
-            return Ok(self.unsafe_binder(input, from, place)?);
+            return self.unsafe_binder(input, from, place);
         }
         if sees_fn_ptr(input) {
             return Ok(TypeOf::FnPtr(self.fn_ptr_after(input, lifetimes)?));
         }
         if sees_builtin(input) {
-            return Ok(parse_builtin_type(self.alloc, input, from)?);
+            return parse_builtin_type(self.alloc, input, from);
         }
         let (qself, path) = self.maybe_qualified(input, PathStyle::AsWritten)?;
-        Ok(self.path_or_object(input, place.allows_plus(), lifetimes, qself, path)?)
+        self.path_or_object(input, place.allows_plus(), lifetimes, qself, path)
     }
 }
 
@@ -264,7 +270,7 @@ impl<
     {
         let lifetimes = self.binder(input)?;
         if sees_bindable(input) {
-            return Ok(self.named_type(input, place, from, Some(lifetimes))?);
+            return self.named_type(input, place, from, Some(lifetimes));
         }
         Err(no_bound_type(self.alloc, input))
     }

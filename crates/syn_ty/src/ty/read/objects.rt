@@ -91,6 +91,17 @@ impl<
     I,
     J,
 > Grammar<'a, A, E, F, G, H, I, J> {
+    /// A bound of a trait object.
+    #[tactic(auto, using(token_core::proofs::Suffixes::follows, syn_forms::proofs::nested_laws::Ahead::later))]
+    fn object_bound(&self, input: &mut ParseStream<'_>) -> Result<TypeParamBoundOf<A, E>, Error>
+        requires bounds { Nests (knot.bound A.reads E.reads) (length self.now.begin) (G.pre self.now.bounds) (G.post self.now.bounds) }
+        requires few { ahead input.old < length self.now.begin }
+        ensures parses { Parses (knot.reads_below A.reads E.reads (length self.now.begin) (a_bound Object)) result input.old input.new }
+        ensures fewer { ahead input.new ≤ ahead input.old }
+    {
+        self.bounds().value(input, BoundPlace::Object)
+    }
+
     /// The bounds of a trait object after the first: several where a `+` may follow.
     #[tactic(auto, using(token_core::proofs::Suffixes::follows, syn_forms::proofs::nested_laws::Ahead::later))]
     pub(crate) fn more_bounds(
@@ -169,9 +180,9 @@ impl<
         let from = input.span();
         let dyn_token = parse_dyn(self.alloc, input)?;
         let star = input.parse_option::<Star>(self.alloc)?;
-        let first = self.bounds().value(input, BoundPlace::Object)?;
+        let first = self.object_bound(input)?;
         let bounds = self.object_bounds(input, from, plus, first)?;
-        Ok(dyn_of(self.alloc, input, &at, dyn_token, star, bounds)?)
+        dyn_of(self.alloc, input, &at, dyn_token, star, bounds)
     }
 
     /// The bounds after `impl`.
@@ -190,6 +201,30 @@ impl<
         self.bounds().list(input, BoundPlace::Opaque, end)
     }
 
+    /// The bounds after `impl`, of which one has to name a trait: else they are refused from `impl` on.
+    #[tactic(auto, using(token_core::proofs::Suffixes::follows, syn_forms::proofs::nested_laws::Ahead::later), unfolding(crate::specs::ty::Reading::impl_bounds))]
+    fn impl_bounds(
+        &self,
+        input: &mut ParseStream<'_>,
+        from: Span,
+        plus: bool,
+    ) -> Result<Punctuated<TypeParamBoundOf<A, E>, Plus>, Error>
+        requires bounds { Nests (knot.bound A.reads E.reads) (length self.now.begin) (G.pre self.now.bounds) (G.post self.now.bounds) }
+        requires few { ahead input.old < length self.now.begin }
+        ensures parses { Parses (reading.impl_bounds (knot.reads_below A.reads E.reads (length self.now.begin)) from plus) result input.old input.new }
+        ensures fewer { ahead input.new ≤ ahead input.old }
+    {
+        let bounds = self.opaque_bounds(input, plus)?;
+        needs_trait(
+            self.alloc,
+            input,
+            bounds,
+            true,
+            ErrorKind::NoTraitInImpl,
+            from,
+        )
+    }
+
     /// `impl A + 'a`: bounds, of which one has to name a trait.
     #[tactic(auto, using(token_core::proofs::Suffixes::follows, syn_forms::proofs::nested_laws::Ahead::later), unfolding(crate::specs::ty::Reading::impl_trait))]
     pub(crate) fn impl_trait(
@@ -204,15 +239,7 @@ impl<
     {
         let from = input.span();
         let impl_token = parse_impl(self.alloc, input)?;
-        let bounds = self.opaque_bounds(input, plus)?;
-        let bounds = needs_trait(
-            self.alloc,
-            input,
-            bounds,
-            true,
-            ErrorKind::NoTraitInImpl,
-            from,
-        )?;
+        let bounds = self.impl_bounds(input, from, plus)?;
         Ok(bare_impl_trait(self.alloc, impl_token, bounds))
     }
 
@@ -356,7 +383,7 @@ impl<
         if input.peek::<Question>() {
             return Ok(ParenContent::Asked(self.trait_bound(input)?));
         }
-        Ok(self.types().type_or_elements(input, TypePlace::Plus)?)
+        self.type_or_elements(input)
     }
 
     /// Parentheses, and what they hold.

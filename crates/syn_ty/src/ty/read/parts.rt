@@ -208,15 +208,17 @@ pub(crate) type FnInputs<A, E> = (
     ),
 );
 
+/// How a pointer to a function begins, its arguments, and what it returns.
+pub(crate) type FnPtrParts<A, E> = (FnHead, FnInputs<A, E>, ReturnTypeOf<TypeOf<A, E>>);
+
 pub(crate) fn bare_fn_ptr<A, E>(
     alloc: Global,
     lifetimes: Option<BoundLifetimesOf<GenericParamOf<A, E>>>,
-    head: FnHead,
-    inputs: FnInputs<A, E>,
-    output: ReturnTypeOf<TypeOf<A, E>>,
+    parts: FnPtrParts<A, E>,
 ) -> TypeFnPtrOf<A, E>
-    ensures { result ≡ types.fn_ptr_with [] lifetimes head.0 (option_map reading.abi_of head.1) head.2 inputs.0 inputs.1.0 (option_map reading.dots_of inputs.1.1) output }
+    ensures { result ≡ reading.fn_ptr_by lifetimes parts }
 {
+    let (head, inputs, output) = parts;
     let (unsafety, abi, fn_token) = head;
     let (paren_token, (inputs, variadic)) = inputs;
     TypeFnPtrOf {

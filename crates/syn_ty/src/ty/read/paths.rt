@@ -227,7 +227,7 @@ impl<
         ensures fewer { ahead input.new ≤ ahead input.old }
     {
         if sees_further_arguments(input) {
-            return Ok(self.group_with_arguments(input, group_token, elem.into_inner())?);
+            return self.group_with_arguments(input, group_token, elem.into_inner());
         }
         Ok(TypeOf::Group(bare_group(self.alloc, (group_token, elem))))
     }
@@ -246,9 +246,9 @@ impl<
         ensures fewer { ahead input.new ≤ ahead input.old }
     {
         if sees_further_segment(input) {
-            return Ok(self.group_with_segments(input, group_token, elem.into_inner())?);
+            return self.group_with_segments(input, group_token, elem.into_inner());
         }
-        Ok(self.group_without_segments(input, group_token, elem)?)
+        self.group_without_segments(input, group_token, elem)
     }
 }
 

@@ -102,10 +102,10 @@ impl<
         ensures fewer { ahead input.new ≤ ahead input.old }
     {
         if input.peek::<Dyn>() {
-            return Ok(self.dyn_type(input, plus)?);
+            return self.dyn_type(input, plus);
         }
         if input.peek::<Bracket>() {
-            return Ok(self.slice_or_array(input)?);
+            return self.slice_or_array(input);
         }
         if input.peek::<Star>() {
             return Ok(TypeOf::Ptr(self.ptr(input)?));
@@ -113,7 +113,7 @@ impl<
         if input.peek::<And>() {
             return Ok(TypeOf::Reference(self.reference(input)?));
         }
-        Ok(self.by_last_tokens(input, plus)?)
+        self.by_last_tokens(input, plus)
     }
 }
 
@@ -170,12 +170,12 @@ impl<
     {
         let plus = place.allows_plus();
         if input.peek::<Paren>() {
-            return Ok(self.paren_type(input, plus)?);
+            return self.paren_type(input, plus);
         }
         if begins_named(input) {
-            return Ok(self.named_type(input, place, from, None)?);
+            return self.named_type(input, place, from, None);
         }
-        Ok(self.by_token(input, plus)?)
+        self.by_token(input, plus)
     }
 
     /// A type in its place, by its first token (syn's `ambig_ty`).
@@ -197,12 +197,12 @@ impl<
         ensures fewer { ahead input.new ≤ ahead input.old }
     {
         if input.peek::<GroupToken>() {
-            return Ok(self.group_type(input)?);
+            return self.group_type(input);
         }
         let from = input.cursor();
         if input.peek::<For>() {
-            return Ok(self.bound_type(input, place, &from)?);
+            return self.bound_type(input, place, &from);
         }
-        Ok(self.unbound_type(input, place, &from)?)
+        self.unbound_type(input, place, &from)
     }
 }
