@@ -63,8 +63,8 @@ module _ {A E : Type 0} (attrs : Reader (List A)) (values : ReadValues E) (r : R
     unfolding by_token
     token_last h b p f =
         chosen (token.sees_dyn s.rest) false _ _ s _ h
-            (chosen (sees_group d.Bracket s.rest) false _ _ s _ b
-              (chosen (token.sees_star s.rest) false _ _ s _ p (chosen (token.sees_and s.rest) false _ _ s _ f refl)))
+        (chosen (sees_group d.Bracket s.rest) false _ _ s _ b
+        (chosen (token.sees_star s.rest) false _ _ s _ p (chosen (token.sees_and s.rest) false _ _ s _ f refl)))
 
   module _ (place : TypePlace) (from : List Item) where
     pub unbound_paren : (plus : Bool) → sees_group d.Parenthesis s.rest ≡ true → plus ≡ allows_plus place → unbound_type attrs values r place from s ≡ paren_type r plus s
@@ -115,8 +115,8 @@ module _ {A E : Type 0} (attrs : Reader (List A)) (values : ReadValues E) (r : R
     unfolding named_type
     named_path l plus q p t h f b e k =
         chosen (sees_unsafe_binder s.rest) false _ _ s _ h
-            (chosen (sees_fn_ptr s.rest) false _ _ s _ f
-              (chosen (sees_builtin s.rest) false _ _ s _ b (link (path_or_object r (allows_plus place) l) e (ap (λ z. path_or_object r z l (q, p) t) (sym k)))))
+        (chosen (sees_fn_ptr s.rest) false _ _ s _ f
+        (chosen (sees_builtin s.rest) false _ _ s _ b (link (path_or_object r (allows_plus place) l) e (ap (λ z. path_or_object r z l (q, p) t) (sym k)))))
 
     -- ---- after a binder
 

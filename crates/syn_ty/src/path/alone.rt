@@ -3,7 +3,7 @@
 ghost use Rattle.syn_ty.specs.path.Alone as alone;
 ghost use Rattle.token_core.specs.Reads.{Parses};
 
-use crate::grammar::{Grammar, read_argument, read_arguments, read_bound, read_param, read_type};
+use crate::grammar::{Grammar, read_arguments, read_type};
 use crate::path::PathArgumentsOf;
 use crate::ty::TypeOf;
 use std::alloc::Global;
@@ -32,9 +32,9 @@ pub fn parse_maybe_qualified<A: Attributes, E: Value>(
         of: PhantomData,
         begin: input.cursor(),
         types: read_type::<A, E>,
-        bounds: read_bound::<A, E>,
-        params: read_param::<A, E>,
-        args: read_argument::<A, E>,
+        bounds: (),
+        params: (),
+        args: (),
         segments: read_arguments::<A, E>,
     }
     .maybe_qualified(input, style)
