@@ -1,23 +1,30 @@
 -- Types by what begins them: a read that ends in another one is that one.
-use Rattle.std.proofs.Common.{◌≡◌, Bool, true, false, List, Option, Some, None, Result, Ok, refl, sym, ap, subst, ◌∙◌}
+use Rattle.std.proofs.Common.{◌≡◌, ℕ, Bool, true, false, List, [], Option, Some, None, Result, Ok, Err, refl, sym, ap, subst, ◌∙◌}
+use Rattle.syn_forms.specs.declared.places.BoundPlace.TheVariants.{Object}
 use Rattle.syn_forms.specs.declared.places.TypePlace.{TypePlace}
 use Rattle.syn_forms.specs.declared.places.TypePlace.TheVariants.{Plus}
 use Rattle.syn_forms.specs.groups.Reading as content
+use Rattle.syn_forms.specs.nested.Below.{ahead}
 use Rattle.syn_forms.specs.places.Reading.{allows_plus}
 use Rattle.syn_forms.specs.verbatim.Reading.{position}
 use Rattle.syn_path.specs.Values.{ReadValues}
 use Rattle.syn_path.specs.declared.path.PathStyle.TheVariants.{AsWritten}
-use Rattle.syn_ty.specs.generics.Reading.{binder, trait_bound}
+use Rattle.syn_ty.specs.generics.Reading.{binder}
 use Rattle.syn_ty.specs.path.Reading.{maybe_qualified}
-use Rattle.syn_ty.specs.ty.Points.{Readers, a_type}
-use Rattle.syn_ty.specs.ty.Reading.{after_group, as_path, begins_named, bound_type, builtin_type, by_last_tokens, by_token, dyn_type, group_type, group_with_arguments, group_with_segments, group_without_segments, lifetime_object, named_type, paren_content, paren_type, path_or_object, sees_bindable, sees_builtin, sees_fn_ptr, sees_further_arguments, sees_further_segment, sees_unsafe_binder, slice_or_array, type_step, unbound_type, unsafe_binder}
-use Rattle.syn_ty.specs.ty.Trees.{BoundLifetimes, Path, QSelf, TypeTree}
+use Rattle.syn_ty.specs.ty.Knot as knot
+use Rattle.syn_ty.specs.ty.Knot.{bound, reads_below}
+use Rattle.syn_ty.specs.ty.Points.{Readers, a_bound, a_type}
+use Rattle.syn_ty.specs.ty.Reading.{after_group, as_path, begins_named, bound_type, builtin_type, by_last_tokens, by_token, dyn_of, dyn_type, group_type, group_with_arguments, group_with_segments, group_without_segments, impl_bounds, impl_trait, named_type, object_bounds, optional_dyn, optional_star, paren_content, paren_type, path_or_object, sees_bindable, sees_builtin, sees_fn_ptr, sees_further_arguments, sees_further_segment, sees_unsafe_binder, slice_or_array, trait_object, type_step, unbound_type, unsafe_binder}
+use Rattle.syn_ty.specs.ty.Trees.{BoundLifetimes, Path, QSelf, TypeParamBound, TypeTraitObject, TypeTree}
+use Rattle.syn_ty.specs.ty.Types.{impl_trait_with, trait_object_with}
+use Rattle.token_core.specs.declared.span.Span.{Span}
 use Rattle.token_core.specs.declared.token.GroupToken.{GroupToken}
 use Rattle.token_core.specs.declared.tree.Delimiter.TheVariants as d
 use Rattle.token_core.specs.Groups.{sees_invisible}
 use Rattle.token_core.specs.Lifetimes.{sees_lifetime}
 use Rattle.token_core.specs.Positions.{Item}
-use Rattle.token_core.specs.Reads.{Follows, Outcome, Reader, Reads, is_done, sees_group}
+use Rattle.token_core.specs.Loops.{Many}
+use Rattle.token_core.specs.Reads.{Follows, Outcome, Reader, Reads, and_then, here, is_done, pure, sees_group}
 use Rattle.token_core.specs.Refusal.{Refusal}
 use Rattle.token_core.specs.Stream.{Stream}
 use Rattle.token_core.specs.Tokens as token
@@ -124,3 +131,39 @@ module _ {A E : Type 0} (attrs : Reader (List A)) (values : ReadValues E) (r : R
         bound_type attrs values r place from s ≡ named_type attrs values r place from (Some l) t
     unfolding bound_type
     bound_named l t e h = link _ e (chosen (sees_bindable t.rest) true _ _ t _ h refl)
+
+-- ---- bounds that are refused from a token on
+
+module _ {A E : Type 0} (r : Readers A E) (plus : Bool) (from : Span) (s t : Stream) (w : token.Impl) (h : from ≡ here s) (e : token.impl_word s ≡ Ok (w, t)) where
+  pub impl_told : (u : Stream) (v : Many (TypeParamBound A E) token.Plus) → impl_bounds r from plus t ≡ Ok (v, u) → impl_trait r plus s ≡ Ok (impl_trait_with [] w v, u)
+  unfolding impl_trait
+  impl_told u v k = link _ e (ap (λ o. and_then o (λ x. pure (impl_trait_with [] w x))) (ap (λ z. impl_bounds r z plus t) (sym h) ∙ k))
+
+  pub impl_refused : (k : Refusal) → impl_bounds r from plus t ≡ Err k → impl_trait r plus s ≡ Err k
+  unfolding impl_trait
+  impl_refused k b = link _ e (ap (λ o. and_then o (λ x. pure (impl_trait_with [] w x))) (ap (λ z. impl_bounds r z plus t) (sym h) ∙ b))
+
+module _ {A E : Type 0} (r : Readers A E) (plus : Bool) (from : Span) (s t u v : Stream) (w : token.Dyn) (q : Option token.Star) (x : TypeParamBound A E) (h : from ≡ here s) (e : token.dyn_word s ≡ Ok (w, t)) (f : optional_star t ≡ Ok (q, u)) (g : r (a_bound Object) u ≡ Ok (x, v)) where
+  pub dyn_told : (at : List Item) (b : Many (TypeParamBound A E) token.Plus) (k : Stream) → at ≡ position s → object_bounds r from plus x v ≡ Ok (b, k) → dyn_type r plus s ≡ dyn_of at w q b k
+  unfolding dyn_type
+  dyn_told at b k i j = link _ e (link _ f (link _ g (link (dyn_of (position s) w q) (ap (λ z. object_bounds r z plus x v) (sym h) ∙ j) (ap (λ z. dyn_of z w q b k) (sym i)))))
+
+  pub dyn_refused : (k : Refusal) → object_bounds r from plus x v ≡ Err k → dyn_type r plus s ≡ Err k
+  unfolding dyn_type
+  dyn_refused k b = link _ e (link _ f (link _ g (ap (λ o. and_then o (dyn_of (position s) w q)) (ap (λ z. object_bounds r z plus x v) (sym h) ∙ b))))
+
+-- a trait object by itself, whose first bound is read by the knot
+module _ {A E : Type 0} (attrs : Reader (List A)) (values : ReadValues E) (plus : Bool) (n : ℕ) (from : Span) (s t u : Stream) (w : Option token.Dyn) (x : TypeParamBound A E) (i : n ≡ ahead s) (h : from ≡ here s) (e : optional_dyn s ≡ Ok (w, t)) (f : bound attrs values Object t ≡ Ok (x, u)) where
+  abbrev after : Outcome (Many (TypeParamBound A E) token.Plus) → Outcome (TypeTraitObject A E)
+  after o = and_then o (λ b. pure (trait_object_with [] w b))
+
+  same_bounds : object_bounds (reads_below attrs values (ahead s)) (here s) plus x u ≡ object_bounds (reads_below attrs values n) from plus x u
+  same_bounds = ap (λ z. object_bounds (reads_below attrs values z) (here s) plus x u) (sym i) ∙ ap (λ z. object_bounds (reads_below attrs values n) z plus x u) (sym h)
+
+  pub object_told : (b : Many (TypeParamBound A E) token.Plus) (k : Stream) → object_bounds (reads_below attrs values n) from plus x u ≡ Ok (b, k) → knot.trait_object attrs values plus s ≡ Ok (trait_object_with [] w b, k)
+  unfolding knot.trait_object trait_object
+  object_told b k j = link _ e (link _ f (ap after (same_bounds ∙ j)))
+
+  pub object_refused : (k : Refusal) → object_bounds (reads_below attrs values n) from plus x u ≡ Err k → knot.trait_object attrs values plus s ≡ Err k
+  unfolding knot.trait_object trait_object
+  object_refused k b = link _ e (link _ f (ap after (same_bounds ∙ b)))

@@ -6,6 +6,7 @@ ghost use Rattle.token_core.specs.Reads.{Parses};
 use crate::generics::TypeParamBoundOf;
 use crate::grammar::{Grammar, read_arguments, read_bound, read_param, read_type};
 use crate::ty::read::parts::bare_trait_object;
+use crate::ty::read::tokens::parse_optional_dyn;
 use crate::ty::{
     NamedArgOf, ReturnTypeOf, TypeArrayOf, TypeFnPtrOf, TypeGroupOf, TypeImplTraitOf, TypeOf,
     TypeParenOf, TypePathOf, TypePtrOf, TypeReferenceOf, TypeSliceOf, TypeTraitObjectOf,
@@ -16,7 +17,6 @@ use std::marker::PhantomData;
 use syn_forms::inputs::parse_optional_name;
 use syn_forms::places::{BoundPlace, TypePlace};
 use syn_path::supplied::{Attributes, Value};
-use token_core::token::Dyn;
 use token_core::{Error, ParseStream};
 
 /// `[T; n]`
@@ -229,7 +229,7 @@ pub(crate) fn parse_trait_object<A: Attributes, E: Value>(
         segments: (),
     };
     let from = input.span();
-    let dyn_token = input.parse_option::<Dyn>(alloc)?;
+    let dyn_token = parse_optional_dyn(alloc, input)?;
     let first = read_bound::<A, E>(alloc, PhantomData, input, BoundPlace::Object)?;
     let bounds = grammar.object_bounds(input, from, plus, first)?;
     Ok(bare_trait_object(alloc, dyn_token, bounds))

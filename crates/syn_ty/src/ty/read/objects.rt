@@ -19,7 +19,7 @@ use crate::path::PathArgumentsOf;
 use crate::ty::read::parts::{
     any_trait, bare_impl_trait, bare_paren, bare_trait_object, bare_tuple, first_bound, object_of,
 };
-use crate::ty::read::tokens::plus_follows;
+use crate::ty::read::tokens::{parse_optional_star, plus_follows};
 use crate::ty::{TypeImplTraitOf, TypeOf};
 use std::alloc::Global;
 use std::marker::PhantomData;
@@ -179,7 +179,7 @@ impl<
         let at = input.cursor();
         let from = input.span();
         let dyn_token = parse_dyn(self.alloc, input)?;
-        let star = input.parse_option::<Star>(self.alloc)?;
+        let star = parse_optional_star(self.alloc, input)?;
         let first = self.object_bound(input)?;
         let bounds = self.object_bounds(input, from, plus, first)?;
         dyn_of(self.alloc, input, &at, dyn_token, star, bounds)
