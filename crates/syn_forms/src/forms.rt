@@ -3,17 +3,24 @@
 ghost use Rattle.std.specs.Prelude.{◌<◌, ◌≤◌, length};
 ghost use Rattle.token_core.specs.Reads.{Parses};
 ghost use Rattle.syn_forms.specs.forms.Reading as reading;
+ghost use Rattle.syn_forms.specs.heads.Reading as heads;
+ghost use Rattle.syn_forms.specs.lists.Reading as lists;
 ghost use Rattle.syn_forms.specs.nested.Below as below;
 ghost use Rattle.syn_forms.specs.nested.Below.{Nests, ahead};
+ghost use Rattle.syn_forms.specs.params.Reading as params;
+ghost use Rattle.syn_forms.specs.paths.Reading as paths;
 
-use crate::nested::{Nested, Tree};
+use crate::lists::End;
+use crate::nested::{Held, Nested, Tree};
+use crate::params::type_parts;
 use crate::tokens::{
     PointerMutability, parse_and, parse_lifetime, parse_mut, parse_mutability, parse_star,
 };
 use std::alloc::Global;
 use std::marker::PhantomData;
-use token_core::token::{And, Mut, Star};
-use token_core::{Boxed, Error, Lifetime, ParseStream};
+use syn_path::path::{Arguments, PathOf, PathSegmentOf, PathStyle, QSelfOf};
+use token_core::token::{And, Colon, Comma, Eq, For, Gt, Lt, Mut, Plus, Star};
+use token_core::{Boxed, Cursor, Error, Ident, Lifetime, ParseStream, Punctuated};
 
 impl<
     'a,
@@ -55,4 +62,163 @@ impl<
         let elem = self.boxed(input, place)?;
         Ok((and_token, lifetime, mutability, elem))
     }
+}
+
+// ---- parts of forms by themselves, from a position on: what they hold is read by its own reader
+
+/// `<`, values joined by commas, and `>`.
+pub fn parse_angled<P: Copy, T: Held<P>>(
+    alloc: Global,
+    begin: Cursor<'_>,
+    input: &mut ParseStream<'_>,
+    place: P,
+) -> Result<(Lt, Punctuated<T, Comma>, Gt), Error>
+    requires few { ahead input.old ≤ length begin }
+    ensures parses { Parses (heads.angled (below.held T.read (length begin.entry) place)) result input.old input.new }
+{
+    let read = T::parse_held;
+    Nested {
+        alloc,
+        of: PhantomData,
+        begin,
+        read,
+    }
+    .angled(input, place)
+}
+
+/// `for` and its parameters.
+pub fn parse_binder<P: Copy, T: Held<P>>(
+    alloc: Global,
+    begin: Cursor<'_>,
+    input: &mut ParseStream<'_>,
+    place: P,
+) -> Result<(For, (Lt, Punctuated<T, Comma>, Gt)), Error>
+    requires few { ahead input.old ≤ length begin }
+    ensures parses { Parses (heads.binder (below.held T.read (length begin.entry) place)) result input.old input.new }
+{
+    let read = T::parse_held;
+    Nested {
+        alloc,
+        of: PhantomData,
+        begin,
+        read,
+    }
+    .binder(input, place)
+}
+
+/// A path, in this style.
+pub fn parse_path<G: Held<()> + Arguments>(
+    alloc: Global,
+    begin: Cursor<'_>,
+    input: &mut ParseStream<'_>,
+    style: PathStyle,
+) -> Result<PathOf<G>, Error>
+    requires few { ahead input.old ≤ length begin }
+    ensures parses { Parses (paths.path G.absent (below.held G.read (length begin.entry) tt) style) result input.old input.new }
+{
+    let read = G::parse_held;
+    Nested {
+        alloc,
+        of: PhantomData,
+        begin,
+        read,
+    }
+    .path(input, style)
+}
+
+/// A segment, in this style.
+pub fn parse_segment<G: Held<()> + Arguments>(
+    alloc: Global,
+    begin: Cursor<'_>,
+    input: &mut ParseStream<'_>,
+    style: PathStyle,
+) -> Result<PathSegmentOf<G>, Error>
+    requires few { ahead input.old ≤ length begin }
+    ensures parses { Parses (paths.segment G.absent (below.held G.read (length begin.entry) tt) style) result input.old input.new }
+{
+    let read = G::parse_held;
+    Nested {
+        alloc,
+        of: PhantomData,
+        begin,
+        read,
+    }
+    .segment(input, style)
+}
+
+/// A path, behind a type that qualifies it where a `<` stands.
+pub fn parse_maybe_qualified<P: Copy, T: Held<P>, G: Held<()> + Arguments>(
+    alloc: Global,
+    begin: Cursor<'_>,
+    input: &mut ParseStream<'_>,
+    place: P,
+    style: PathStyle,
+) -> Result<(Option<QSelfOf<T>>, PathOf<G>), Error>
+    requires few { ahead input.old ≤ length begin }
+    ensures parses { Parses (paths.maybe_qualified (below.held T.read (length begin.entry) place) G.absent (below.held G.read (length begin.entry) tt) style) result input.old input.new }
+{
+    let read_type = T::parse_held;
+    let types = Nested {
+        alloc,
+        of: PhantomData,
+        begin: begin.again(),
+        read: read_type,
+    };
+    let read = G::parse_held;
+    Nested {
+        alloc,
+        of: PhantomData,
+        begin,
+        read,
+    }
+    .maybe_qualified(&types, input, place, style)
+}
+
+/// `T: A + B = C`, after its attributes.
+pub fn parse_type_parts<PB: Copy, B: Held<PB>, PT: Copy, T: Held<PT>>(
+    alloc: Global,
+    begin: Cursor<'_>,
+    input: &mut ParseStream<'_>,
+    bound_place: PB,
+    type_place: PT,
+) -> Result<(Ident, Option<Colon>, Punctuated<B, Plus>, Option<(Eq, T)>), Error>
+    requires few { ahead input.old ≤ length begin }
+    ensures parses { Parses (params.type_parts (below.held B.read (length begin.entry) bound_place) (below.held T.read (length begin.entry) type_place)) result input.old input.new }
+{
+    let read_bound = B::parse_held;
+    let bounds = Nested {
+        alloc,
+        of: PhantomData,
+        begin: begin.again(),
+        read: read_bound,
+    };
+    let read_type = T::parse_held;
+    let types = Nested {
+        alloc,
+        of: PhantomData,
+        begin,
+        read: read_type,
+    };
+    type_parts(&bounds, &types, input, bound_place, type_place)
+}
+
+/// Values joined by a mark, up to an end.
+pub fn parse_list<P: Copy, T: Held<P>, M: Drop, S: End<M>>(
+    alloc: Global,
+    begin: Cursor<'_>,
+    input: &mut ParseStream<'_>,
+    place: P,
+    end: S,
+) -> Result<Punctuated<T, M>, Error>
+    requires few { ahead input.old < length begin }
+    ensures parses { Parses (lists.list (S.stops end) (below.held T.read (length begin.entry) place) (S.more end) (S.joint end) true) result input.old input.new }
+{
+    let read = T::parse_held;
+    Nested {
+        alloc,
+        of: PhantomData,
+        begin,
+        read,
+    }
+    .list(input, place, end)
 }

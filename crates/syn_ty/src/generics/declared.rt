@@ -2,7 +2,7 @@
 
 ghost use Rattle.std.specs.Prelude.{◌≡◌, ◌<◌, ◌≤◌, length};
 ghost use Rattle.syn_forms.specs.nested.Below as below;
-ghost use Rattle.syn_forms.specs.nested.Below.{Nests, ahead};
+ghost use Rattle.syn_forms.specs.nested.Below.{ahead};
 ghost use Rattle.syn_forms.specs.declared.places.TypePlace.TheVariants as type_places;
 ghost use Rattle.syn_forms.specs.predicates.Reading as predicates;
 ghost use Rattle.syn_ty.specs.generics.Alone as alone;
@@ -10,14 +10,16 @@ ghost use Rattle.syn_ty.specs.generics.Declared as reading;
 ghost use Rattle.syn_ty.specs.ty.Knot as knot;
 ghost use Rattle.token_core.specs.Reads.{Fails, Follows, Gives, Parses, Reads};
 
+use crate::generics::read::optional_binder_from;
 use crate::generics::{
     GenericParamOf, GenericsOf, PredicateLifetimeOf, PredicateTypeOf, TypeParamBoundOf,
     WhereClauseOf, WherePredicateOf,
 };
-use crate::grammar::{Grammar, read_bound, read_param, read_type};
+use crate::grammar::read_type;
 use std::alloc::Global;
 use std::marker::PhantomData;
-use syn_forms::nested::{Nested, Tree};
+use syn_forms::forms;
+use syn_forms::nested::{Held, Tree};
 use syn_forms::places::{BoundPlace, ParamPlace, TypePlace};
 use syn_forms::predicates::{ToClauseEnd, ToPredicateEnd, parse_lifetime_predicate};
 use syn_forms::tokens::{parse_colon, parse_where};
@@ -91,136 +93,93 @@ fn lifetime_after<A: Attributes>(
     })
 }
 
-// ---- over the readers of what they hold
+// ---- from a position on
 
-impl<
-    'a,
-    A: Attributes,
-    E: Value,
-    F,
-    G,
-    H: Fn(
-        Global,
-        PhantomData<GenericParamOf<A, E>>,
-        &mut ParseStream<'_>,
-        ParamPlace,
-    ) -> Result<GenericParamOf<A, E>, Error>
-        + Copy,
-    I,
-    J,
-> Grammar<'a, A, E, F, G, H, I, J> {
-    /// The generics of a declaration: parameters in angle brackets, or none where no `<` stands.
-    #[tactic(auto, using(token_core::proofs::Suffixes::follows), unfolding(crate::specs::generics::Declared::generics))]
-    fn generics(&self, input: &mut ParseStream<'_>) -> Result<GenericsOf<A, E>, Error>
-        requires params { Nests (knot.param A.reads E.reads) (length self.now.begin) (H.pre self.now.params) (H.post self.now.params) }
-        requires few { ahead input.old ≤ length self.now.begin }
-        ensures parses { Parses (reading.generics (knot.reads_below A.reads E.reads (length self.now.begin))) result input.old input.new }
-    {
-        if !input.peek::<Lt>() {
-            return Ok(GenericsOf::default(self.alloc));
-        }
-        let (lt_token, params, gt_token) = self.params().angled(input, ParamPlace::Generics)?;
-        Ok(GenericsOf {
-            lt_token: Some(lt_token),
-            params,
-            gt_token: Some(gt_token),
-            where_clause: None,
-        })
+/// The generics of a declaration: parameters in angle brackets, or none where no `<` stands.
+#[tactic(auto, using(token_core::proofs::Suffixes::follows), unfolding(crate::specs::generics::Declared::generics))]
+fn generics_from<A: Attributes, E: Value>(
+    alloc: Global,
+    begin: Cursor<'_>,
+    input: &mut ParseStream<'_>,
+) -> Result<GenericsOf<A, E>, Error>
+    requires few { ahead input.old ≤ length begin }
+    ensures parses { Parses (reading.generics (knot.reads_below A.reads E.reads (length begin.entry))) result input.old input.new }
+{
+    if !input.peek::<Lt>() {
+        return Ok(GenericsOf::default(alloc));
     }
+    let (lt_token, params, gt_token) = forms::parse_angled::<ParamPlace, GenericParamOf<A, E>>(
+        alloc,
+        begin,
+        input,
+        ParamPlace::Generics,
+    )?;
+    Ok(GenericsOf {
+        lt_token: Some(lt_token),
+        params,
+        gt_token: Some(gt_token),
+        where_clause: None,
+    })
 }
 
-impl<
-    'a,
-    A: Attributes,
-    E: Value,
-    F,
-    G: Fn(
-        Global,
-        PhantomData<TypeParamBoundOf<A, E>>,
-        &mut ParseStream<'_>,
-        BoundPlace,
-    ) -> Result<TypeParamBoundOf<A, E>, Error>
-        + Copy,
-    H,
-    I,
-    J,
-> Grammar<'a, A, E, F, G, H, I, J> {
-    /// The bounds of a predicate, after the `:`. There may be none.
-    #[tactic(auto, using(token_core::proofs::Suffixes::follows), unfolding(crate::specs::generics::Declared::predicate_bounds))]
-    fn predicate_bounds(
-        &self,
-        input: &mut ParseStream<'_>,
-    ) -> Result<Punctuated<TypeParamBoundOf<A, E>, Plus>, Error>
-        requires bounds { Nests (knot.bound A.reads E.reads) (length self.now.begin) (G.pre self.now.bounds) (G.post self.now.bounds) }
-        requires few { ahead input.old < length self.now.begin }
-        ensures parses { Parses (reading.predicate_bounds (knot.reads_below A.reads E.reads (length self.now.begin))) result input.old input.new }
-    {
-        self.bounds()
-            .list(input, BoundPlace::Parameter, ToPredicateEnd)
-    }
+/// The bounds of a predicate, after the `:`. There may be none.
+#[tactic(auto, using(token_core::proofs::Suffixes::follows), unfolding(crate::specs::generics::Declared::predicate_bounds))]
+fn predicate_bounds<A: Attributes, E: Value>(
+    alloc: Global,
+    begin: Cursor<'_>,
+    input: &mut ParseStream<'_>,
+) -> Result<Punctuated<TypeParamBoundOf<A, E>, Plus>, Error>
+    requires few { ahead input.old < length begin }
+    ensures parses { Parses (reading.predicate_bounds (knot.reads_below A.reads E.reads (length begin.entry))) result input.old input.new }
+{
+    forms::parse_list::<BoundPlace, TypeParamBoundOf<A, E>, Plus, ToPredicateEnd>(
+        alloc,
+        begin,
+        input,
+        BoundPlace::Parameter,
+        ToPredicateEnd,
+    )
 }
 
-impl<
-    'a,
-    A: Attributes,
-    E: Value,
-    F,
-    G: Fn(
-        Global,
-        PhantomData<TypeParamBoundOf<A, E>>,
-        &mut ParseStream<'_>,
-        BoundPlace,
-    ) -> Result<TypeParamBoundOf<A, E>, Error>
-        + Copy,
-    H: Fn(
-        Global,
-        PhantomData<GenericParamOf<A, E>>,
-        &mut ParseStream<'_>,
-        ParamPlace,
-    ) -> Result<GenericParamOf<A, E>, Error>
-        + Copy,
-    I,
-    J,
-> Grammar<'a, A, E, F, G, H, I, J> {
-    /// A predicate of a type after its attributes. The first binder is the predicate's own.
-    #[tactic(auto, using(token_core::proofs::Suffixes::follows, syn_forms::proofs::nested_laws::Ahead::later), unfolding(crate::specs::generics::Declared::type_after))]
-    fn predicate_type(
-        &self,
-        input: &mut ParseStream<'_>,
-        attrs: Items<A>,
-    ) -> Result<PredicateTypeOf<A, E>, Error>
-        requires bounds { Nests (knot.bound A.reads E.reads) (length self.now.begin) (G.pre self.now.bounds) (G.post self.now.bounds) }
-        requires params { Nests (knot.param A.reads E.reads) (length self.now.begin) (H.pre self.now.params) (H.post self.now.params) }
-        requires few { ahead input.old ≤ length self.now.begin }
-        ensures parses { Parses (reading.type_after (knot.ty A.reads E.reads type_places.Bounded) (knot.reads_below A.reads E.reads (length self.now.begin)) attrs) result input.old input.new }
-    {
-        let lifetimes = self.optional_binder(input)?;
-        let bounded_ty = read_type::<A, E>(self.alloc, PhantomData, input, TypePlace::Bounded)?;
-        let colon_token = parse_colon(self.alloc, input)?;
-        let bounds = self.predicate_bounds(input)?;
-        Ok(PredicateTypeOf {
-            attrs,
-            lifetimes,
-            bounded_ty,
-            colon_token,
-            bounds,
-        })
-    }
+/// A predicate of a type after its attributes. The first binder is the predicate's own.
+#[tactic(auto, using(token_core::proofs::Suffixes::follows, syn_forms::proofs::nested_laws::Ahead::later), unfolding(crate::specs::generics::Declared::type_after))]
+fn type_after<A: Attributes, E: Value>(
+    alloc: Global,
+    begin: Cursor<'_>,
+    input: &mut ParseStream<'_>,
+    attrs: Items<A>,
+) -> Result<PredicateTypeOf<A, E>, Error>
+    requires few { ahead input.old ≤ length begin }
+    ensures parses { Parses (reading.type_after (knot.ty A.reads E.reads type_places.Bounded) (knot.reads_below A.reads E.reads (length begin.entry)) attrs) result input.old input.new }
+{
+    let lifetimes = optional_binder_from::<A, E>(alloc, begin.again(), input)?;
+    let bounded_ty = read_type::<A, E>(alloc, PhantomData, input, TypePlace::Bounded)?;
+    let colon_token = parse_colon(alloc, input)?;
+    let bounds = predicate_bounds::<A, E>(alloc, begin, input)?;
+    Ok(PredicateTypeOf {
+        attrs,
+        lifetimes,
+        bounded_ty,
+        colon_token,
+        bounds,
+    })
+}
 
-    /// A predicate: attributes, and what is said of a lifetime or of a type.
-    #[tactic(auto, using(token_core::proofs::Suffixes::follows, syn_forms::proofs::nested_laws::Ahead::later), unfolding(crate::specs::generics::Declared::predicate, crate::specs::generics::Declared::predicate_after))]
-    fn predicate(&self, input: &mut ParseStream<'_>) -> Result<WherePredicateOf<A, E>, Error>
-        requires bounds { Nests (knot.bound A.reads E.reads) (length self.now.begin) (G.pre self.now.bounds) (G.post self.now.bounds) }
-        requires params { Nests (knot.param A.reads E.reads) (length self.now.begin) (H.pre self.now.params) (H.post self.now.params) }
-        requires few { ahead input.old ≤ length self.now.begin }
-        ensures parses { Parses (reading.predicate A.reads (knot.ty A.reads E.reads type_places.Bounded) (knot.reads_below A.reads E.reads (length self.now.begin))) result input.old input.new }
-    {
-        let attrs = A::read_outer(self.alloc, input)?;
-        if sees_lifetime_predicate(input) {
-            return Ok(WherePredicateOf::Lifetime(lifetime_after(self.alloc, input, attrs)?));
-        }
-        Ok(WherePredicateOf::Type(self.predicate_type(input, attrs)?))
+/// A predicate: attributes, and what is said of a lifetime or of a type.
+#[tactic(auto, using(token_core::proofs::Suffixes::follows, syn_forms::proofs::nested_laws::Ahead::later), unfolding(crate::specs::generics::Declared::predicate, crate::specs::generics::Declared::predicate_after))]
+fn predicate_from<A: Attributes, E: Value>(
+    alloc: Global,
+    begin: Cursor<'_>,
+    input: &mut ParseStream<'_>,
+) -> Result<WherePredicateOf<A, E>, Error>
+    requires few { ahead input.old ≤ length begin }
+    ensures parses { Parses (reading.predicate A.reads (knot.ty A.reads E.reads type_places.Bounded) (knot.reads_below A.reads E.reads (length begin.entry))) result input.old input.new }
+{
+    let attrs = A::read_outer(alloc, input)?;
+    if sees_lifetime_predicate(input) {
+        return Ok(WherePredicateOf::Lifetime(lifetime_after(alloc, input, attrs)?));
     }
+    Ok(WherePredicateOf::Type(type_after::<A, E>(alloc, begin, input, attrs)?))
 }
 
 // ---- by themselves: what they hold is read by the knot
@@ -233,17 +192,8 @@ fn parse_generics<A: Attributes, E: Value>(
 ) -> Result<GenericsOf<A, E>, Error>
     ensures parses { Parses (alone.generics A.reads E.reads) result input.old input.new }
 {
-    Grammar {
-        alloc,
-        of: PhantomData,
-        begin: input.cursor(),
-        types: (),
-        bounds: (),
-        params: read_param::<A, E>,
-        args: (),
-        segments: (),
-    }
-    .generics(input)
+    let begin = input.cursor();
+    generics_from::<A, E>(alloc, begin, input)
 }
 
 impl<A: Attributes, E: Value> Tree<()> for WherePredicateOf<A, E> {
@@ -254,42 +204,44 @@ impl<A: Attributes, E: Value> Tree<()> for WherePredicateOf<A, E> {
 #[tactic(auto, unfolding(crate::specs::generics::Alone::predicate))]
 fn parse_predicate<A: Attributes, E: Value>(
     alloc: Global,
-    of: PhantomData<WherePredicateOf<A, E>>,
     input: &mut ParseStream<'_>,
-    place: (),
 ) -> Result<WherePredicateOf<A, E>, Error>
     ensures parses { Parses (alone.predicate A.reads E.reads) result input.old input.new }
 {
-    Grammar {
-        alloc,
-        of: PhantomData,
-        begin: input.cursor(),
-        types: (),
-        bounds: read_bound::<A, E>,
-        params: read_param::<A, E>,
-        args: (),
-        segments: (),
+    let begin = input.cursor();
+    predicate_from::<A, E>(alloc, begin, input)
+}
+
+impl<A: Attributes, E: Value> Held<()> for WherePredicateOf<A, E> {
+    fn parse_held(
+        alloc: Global,
+        of: PhantomData<WherePredicateOf<A, E>>,
+        input: &mut ParseStream<'_>,
+        place: (),
+    ) -> Result<WherePredicateOf<A, E>, Error>
+        ensures reads { Reads (alone.predicate A.reads E.reads input.old) result input.new }
+        ensures within { Follows input.old input.new }
+    {
+        parse_predicate(alloc, input)
     }
-    .predicate(input)
 }
 
 /// The predicates of a where clause, further on than the clause began.
-fn parse_predicates<'a, A: Attributes, E: Value>(
+fn parse_predicates<A: Attributes, E: Value>(
     alloc: Global,
-    begin: Cursor<'a>,
-    input: &mut ParseStream<'a>,
+    begin: Cursor<'_>,
+    input: &mut ParseStream<'_>,
 ) -> Result<Punctuated<WherePredicateOf<A, E>, Comma>, Error>
     requires few { ahead input.old < length begin }
     ensures parses { Parses (predicates.predicates_to (below.held (alone.predicate_in A.reads E.reads) (length begin.entry) tt)) result input.old input.new }
 {
-    let read = parse_predicate::<A, E>;
-    Nested {
+    forms::parse_list::<(), WherePredicateOf<A, E>, Comma, ToClauseEnd>(
         alloc,
-        of: PhantomData,
         begin,
-        read,
-    }
-    .list(input, (), ToClauseEnd)
+        input,
+        (),
+        ToClauseEnd,
+    )
 }
 
 /// A where clause.
@@ -394,6 +346,6 @@ impl<A: Attributes, E: Value> Parse for WherePredicateOf<A, E> {
         ensures reads { Reads (alone.predicate A.reads E.reads input.old) result input.new }
         ensures within { Follows input.old input.new }
     {
-        parse_predicate(alloc, PhantomData, input, ())
+        parse_predicate(alloc, input)
     }
 }

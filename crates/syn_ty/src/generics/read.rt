@@ -22,11 +22,13 @@ use crate::generics::{
     BoundLifetimesOf, CapturedParam, ConstParamOf, GenericParamOf, LifetimeParamOf, PreciseCapture,
     TraitBoundModifiers, TraitBoundOf, TypeParamBoundOf, TypeParamOf,
 };
-use crate::grammar::{Grammar, read_arguments, read_bound, read_param, read_type};
+use crate::grammar::{Grammar, read_type};
 use crate::path::PathArgumentsOf;
+use crate::path::read::{path_from, signed_from};
 use crate::ty::TypeOf;
 use std::alloc::Global;
 use std::marker::PhantomData;
+use syn_forms::forms;
 use syn_forms::nested::Held;
 use syn_forms::params::{const_parts, parse_lifetime_parts, type_parts};
 use syn_forms::places::{BoundPlace, ParamPlace, TypePlace};
@@ -733,18 +735,6 @@ impl<
         })
     }
 
-    /// `T: A + B = C`, after attributes.
-    #[tactic(auto, using(token_core::proofs::Suffixes::follows, syn_forms::proofs::nested_laws::Ahead::later), unfolding(crate::specs::generics::Reading::type_param))]
-    pub fn type_param(&self, input: &mut ParseStream<'_>) -> Result<TypeParamOf<A, E>, Error>
-        requires types { Nests (knot.ty A.reads E.reads) (length self.now.begin) (F.pre self.now.types) (F.post self.now.types) }
-        requires bounds { Nests (knot.bound A.reads E.reads) (length self.now.begin) (G.pre self.now.bounds) (G.post self.now.bounds) }
-        requires few { ahead input.old ≤ length self.now.begin }
-        ensures parses { Parses (reading.type_param A.reads E.reads (knot.reads_below A.reads E.reads (length self.now.begin))) result input.old input.new }
-    {
-        let attrs = A::read_outer(self.alloc, input)?;
-        self.type_after(input, attrs)
-    }
-
     /// A parameter of a binder after its attributes: an identifier, a lifetime or `const`.
     #[tactic(auto, using(token_core::proofs::Suffixes::follows), unfolding(crate::specs::generics::Reading::in_binder))]
     fn in_binder(
@@ -816,6 +806,151 @@ impl<
     }
 }
 
+// ---- from a position on: parameters are read by their own reader, since a function value of it is too much for the prover
+
+/// A binder.
+#[tactic(auto, using(token_core::proofs::Suffixes::follows), unfolding(crate::specs::generics::Reading::binder))]
+fn binder_from<A: Attributes, E: Value>(
+    alloc: Global,
+    begin: Cursor<'_>,
+    input: &mut ParseStream<'_>,
+) -> Result<BoundLifetimesOf<GenericParamOf<A, E>>, Error>
+    requires few { ahead input.old ≤ length begin }
+    ensures parses { Parses (reading.binder (knot.reads_below A.reads E.reads (length begin.entry))) result input.old input.new }
+{
+    let (for_token, (lt_token, lifetimes, gt_token)) = forms::parse_binder::<
+        ParamPlace,
+        GenericParamOf<A, E>,
+    >(alloc, begin, input, ParamPlace::Binder)?;
+    Ok(BoundLifetimesOf {
+        for_token,
+        lt_token,
+        lifetimes,
+        gt_token,
+    })
+}
+
+/// A binder where `for` stands.
+#[tactic(auto, using(token_core::proofs::Suffixes::follows, syn_forms::proofs::nested_laws::Ahead::later), unfolding(crate::specs::generics::Reading::optional_binder))]
+pub(crate) fn optional_binder_from<A: Attributes, E: Value>(
+    alloc: Global,
+    begin: Cursor<'_>,
+    input: &mut ParseStream<'_>,
+) -> Result<Option<BoundLifetimesOf<GenericParamOf<A, E>>>, Error>
+    requires few { ahead input.old ≤ length begin }
+    ensures parses { Parses (reading.optional_binder (knot.reads_below A.reads E.reads (length begin.entry))) result input.old input.new }
+    ensures fewer { ahead input.new ≤ ahead input.old }
+{
+    if input.peek::<For>() {
+        return Ok(Some(binder_from::<A, E>(alloc, begin, input)?));
+    }
+    Ok(None)
+}
+
+/// A binder that may stand behind a `?`.
+#[tactic(auto, using(token_core::proofs::Suffixes::follows, syn_forms::proofs::nested_laws::Ahead::later))]
+fn binder_after_from<A: Attributes, E: Value>(
+    alloc: Global,
+    begin: Cursor<'_>,
+    input: &mut ParseStream<'_>,
+    lifetimes: Option<BoundLifetimesOf<GenericParamOf<A, E>>>,
+    maybe: &Option<Question>,
+) -> Result<Option<BoundLifetimesOf<GenericParamOf<A, E>>>, Error>
+    requires few { ahead input.old ≤ length begin }
+    ensures parses { Parses (reading.binder_after (knot.reads_below A.reads E.reads (length begin.entry)) lifetimes maybe.now) result input.old input.new }
+    ensures fewer { ahead input.new ≤ ahead input.old }
+{
+    match lifetimes {
+        Some(lifetimes) => Ok(Some(lifetimes)),
+        None => match maybe {
+            Some(_) => optional_binder_from::<A, E>(alloc, begin, input),
+            None => Ok(None),
+        },
+    }
+}
+
+/// What follows the first binder of a trait bound and a `const` form.
+#[tactic(auto, using(token_core::proofs::Suffixes::follows, syn_forms::proofs::nested_laws::Ahead::later, crate::proofs::generics_laws::Traits::traits), unfolding(crate::specs::generics::Reading::trait_after))]
+fn trait_after_from<A: Attributes, E: Value>(
+    alloc: Global,
+    begin: Cursor<'_>,
+    input: &mut ParseStream<'_>,
+    lifetimes: Option<BoundLifetimesOf<GenericParamOf<A, E>>>,
+) -> Result<TraitBoundOf<A, E>, Error>
+    requires few { ahead input.old ≤ length begin }
+    ensures parses { Parses (reading.trait_after (knot.reads_below A.reads E.reads (length begin.entry)) lifetimes) result input.old input.new }
+{
+    let maybe = parse_question(alloc, input)?;
+    let lifetimes = binder_after_from::<A, E>(alloc, begin.again(), input, lifetimes, &maybe)?;
+    let path = path_from::<A, E>(alloc, begin.again(), input, PathStyle::AsWritten)?;
+    let path = signed_from::<A, E>(alloc, begin, input, path)?;
+    match maybe {
+        None => Ok(named_bound(lifetimes, None, path)),
+        Some(question) => {
+            if lifetimes.is_some() {
+                let at = question.spans[0];
+                return Err(refuse_at(alloc, ErrorKind::BinderWithQuestion, at));
+            }
+            Ok(named_bound(None, Some(question), path))
+        }
+    }
+}
+
+/// A trait bound.
+#[tactic(auto, using(token_core::proofs::Suffixes::follows, syn_forms::proofs::nested_laws::Ahead::later), unfolding(crate::specs::generics::Reading::trait_bound))]
+fn trait_bound_from<A: Attributes, E: Value>(
+    alloc: Global,
+    begin: Cursor<'_>,
+    input: &mut ParseStream<'_>,
+) -> Result<TraitBoundOf<A, E>, Error>
+    requires few { ahead input.old ≤ length begin }
+    ensures parses { Parses (reading.trait_bound (knot.reads_below A.reads E.reads (length begin.entry))) result input.old input.new }
+{
+    let lifetimes = optional_binder_from::<A, E>(alloc, begin.again(), input)?;
+    no_const_form(alloc, input)?;
+    trait_after_from(alloc, begin, input, lifetimes)
+}
+
+/// A type parameter after its attributes.
+#[tactic(auto, using(token_core::proofs::Suffixes::follows))]
+fn type_after_from<A: Attributes, E: Value>(
+    alloc: Global,
+    begin: Cursor<'_>,
+    input: &mut ParseStream<'_>,
+    attrs: Items<A>,
+) -> Result<TypeParamOf<A, E>, Error>
+    requires few { ahead input.old ≤ length begin }
+    ensures parses { Parses (reading.type_after A.reads E.reads (knot.reads_below A.reads E.reads (length begin.entry)) attrs) result input.old input.new }
+{
+    let (ident, colon_token, bounds, default) = forms::parse_type_parts::<
+        BoundPlace,
+        TypeParamBoundOf<A, E>,
+        TypePlace,
+        TypeOf<A, E>,
+    >(alloc, begin, input, BoundPlace::Parameter, TypePlace::Plus)?;
+    Ok(TypeParamOf {
+        attrs,
+        ident,
+        colon_token,
+        bounds,
+        default,
+    })
+}
+
+/// A type parameter.
+#[tactic(auto, using(token_core::proofs::Suffixes::follows, syn_forms::proofs::nested_laws::Ahead::later), unfolding(crate::specs::generics::Reading::type_param))]
+fn type_param_from<A: Attributes, E: Value>(
+    alloc: Global,
+    begin: Cursor<'_>,
+    input: &mut ParseStream<'_>,
+) -> Result<TypeParamOf<A, E>, Error>
+    requires few { ahead input.old ≤ length begin }
+    ensures parses { Parses (reading.type_param A.reads E.reads (knot.reads_below A.reads E.reads (length begin.entry))) result input.old input.new }
+{
+    let attrs = A::read_outer(alloc, input)?;
+    type_after_from(alloc, begin, input, attrs)
+}
+
 // ---- forms by themselves: what they hold is read by the knot
 
 /// A binder by itself.
@@ -826,20 +961,11 @@ fn parse_binder<A: Attributes, E: Value>(
 ) -> Result<BoundLifetimesOf<GenericParamOf<A, E>>, Error>
     ensures parses { Parses (knot.binder A.reads E.reads) result input.old input.new }
 {
-    Grammar {
-        alloc,
-        of: PhantomData,
-        begin: input.cursor(),
-        types: (),
-        bounds: (),
-        params: read_param::<A, E>,
-        args: (),
-        segments: (),
-    }
-    .binder(input)
+    let begin = input.cursor();
+    binder_from::<A, E>(alloc, begin, input)
 }
 
-/// A binder by itself that may be there.
+/// A binder by itself, where `for` stands.
 #[tactic(auto, unfolding(crate::specs::ty::Knot::optional_binder))]
 fn parse_optional_binder<A: Attributes, E: Value>(
     alloc: Global,
@@ -847,17 +973,8 @@ fn parse_optional_binder<A: Attributes, E: Value>(
 ) -> Result<Option<BoundLifetimesOf<GenericParamOf<A, E>>>, Error>
     ensures parses { Parses (knot.optional_binder A.reads E.reads) result input.old input.new }
 {
-    Grammar {
-        alloc,
-        of: PhantomData,
-        begin: input.cursor(),
-        types: (),
-        bounds: (),
-        params: read_param::<A, E>,
-        args: (),
-        segments: (),
-    }
-    .optional_binder(input)
+    let begin = input.cursor();
+    optional_binder_from::<A, E>(alloc, begin, input)
 }
 
 /// A trait bound by itself.
@@ -868,17 +985,8 @@ fn parse_trait_bound<A: Attributes, E: Value>(
 ) -> Result<TraitBoundOf<A, E>, Error>
     ensures parses { Parses (knot.trait_bound A.reads E.reads) result input.old input.new }
 {
-    Grammar {
-        alloc,
-        of: PhantomData,
-        begin: input.cursor(),
-        types: read_type::<A, E>,
-        bounds: (),
-        params: read_param::<A, E>,
-        args: (),
-        segments: read_arguments::<A, E>,
-    }
-    .trait_bound(input)
+    let begin = input.cursor();
+    trait_bound_from::<A, E>(alloc, begin, input)
 }
 
 /// A type parameter by itself.
@@ -889,17 +997,8 @@ fn parse_type_param<A: Attributes, E: Value>(
 ) -> Result<TypeParamOf<A, E>, Error>
     ensures parses { Parses (knot.type_param A.reads E.reads) result input.old input.new }
 {
-    Grammar {
-        alloc,
-        of: PhantomData,
-        begin: input.cursor(),
-        types: read_type::<A, E>,
-        bounds: read_bound::<A, E>,
-        params: (),
-        args: (),
-        segments: (),
-    }
-    .type_param(input)
+    let begin = input.cursor();
+    type_param_from::<A, E>(alloc, begin, input)
 }
 
 /// A const parameter by itself.

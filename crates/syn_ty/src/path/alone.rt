@@ -3,11 +3,10 @@
 ghost use Rattle.syn_ty.specs.path.Alone as alone;
 ghost use Rattle.token_core.specs.Reads.{Parses};
 
-use crate::grammar::{Grammar, read_arguments, read_type};
 use crate::path::PathArgumentsOf;
+use crate::path::read::maybe_qualified_from;
 use crate::ty::TypeOf;
 use std::alloc::Global;
-use std::marker::PhantomData;
 use syn_path::path::{PathOf, PathStyle, QSelfOf};
 use syn_path::supplied::{Attributes, Value};
 use token_core::{Error, ParseStream};
@@ -27,15 +26,6 @@ pub fn parse_maybe_qualified<A: Attributes, E: Value>(
 ) -> Result<(Option<QSelfOf<TypeOf<A, E>>>, PathOf<PathArgumentsOf<A, E>>), Error>
     ensures parses { Parses (alone.maybe_qualified A.reads E.reads style) result input.old input.new }
 {
-    Grammar {
-        alloc,
-        of: PhantomData,
-        begin: input.cursor(),
-        types: read_type::<A, E>,
-        bounds: (),
-        params: (),
-        args: (),
-        segments: read_arguments::<A, E>,
-    }
-    .maybe_qualified(input, style)
+    let begin = input.cursor();
+    maybe_qualified_from::<A, E>(alloc, begin, input, style)
 }

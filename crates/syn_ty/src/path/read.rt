@@ -20,7 +20,7 @@ ghost use Rattle.token_core.specs.Reads.{Reads, Follows, Gives, Fails, Parses, a
 ghost use Rattle.token_core.specs.Tokens as token;
 
 use crate::generics::{GenericParamOf, TypeParamBoundOf};
-use crate::grammar::{Grammar, read_argument, read_arguments, read_type};
+use crate::grammar::{Grammar, read_arguments, read_type};
 use crate::path::{
     AngleBracketedGenericArgumentsOf, AssocConstOf, AssocTypeOf, ConstraintOf, GenericArgumentOf,
     ParenthesizedGenericArgumentsOf, PathArgumentsOf,
@@ -28,6 +28,7 @@ use crate::path::{
 use crate::ty::{NamedArgOf, ReturnTypeOf, TypeOf, TypePathOf};
 use std::alloc::Global;
 use std::marker::PhantomData;
+use syn_forms::forms;
 use syn_forms::lists::{End, Make};
 use syn_forms::nested::Held;
 use syn_forms::paths::{last_arguments, with_last_arguments};
@@ -504,19 +505,6 @@ impl<
         self.segments()
             .maybe_qualified(&self.types(), input, TypePlace::Plus, style)
     }
-
-    /// The type of a path, which a type in `<..>` may qualify.
-    #[tactic(auto, using(token_core::proofs::Suffixes::follows, syn_forms::proofs::nested_laws::Ahead::later), unfolding(crate::specs::path::Reading::path_type))]
-    pub fn path_type(&self, input: &mut ParseStream<'_>) -> Result<TypePathOf<A, E>, Error>
-        requires types { Nests (knot.ty A.reads E.reads) (length self.now.begin) (F.pre self.now.types) (F.post self.now.types) }
-        requires segments { Nests (knot.arguments_in A.reads E.reads) (length self.now.begin) (J.pre self.now.segments) (J.post self.now.segments) }
-        requires few { ahead input.old ≤ length self.now.begin }
-        ensures parses { Parses (reading.path_type (knot.reads_below A.reads E.reads (length self.now.begin))) result input.old input.new }
-        ensures fewer { ahead input.new ≤ ahead input.old }
-    {
-        let (qself, path) = self.maybe_qualified(input, PathStyle::AsWritten)?;
-        Ok(bare_path_type(self.alloc, qself, path))
-    }
 }
 
 impl<
@@ -786,6 +774,142 @@ impl<
     }
 }
 
+// ---- from a position on: arguments are read by their own reader, since a function value of it is too much for the prover
+
+/// Arguments in angle brackets after a `::` that may stand before them.
+#[tactic(auto, using(token_core::proofs::Suffixes::follows))]
+fn arguments_from<A: Attributes, E: Value>(
+    alloc: Global,
+    begin: Cursor<'_>,
+    input: &mut ParseStream<'_>,
+    colon2_token: Option<PathSep>,
+) -> Result<AngleBracketedGenericArgumentsOf<GenericArgumentOf<A, E>>, Error>
+    requires few { ahead input.old ≤ length begin }
+    ensures parses { Parses (reading.arguments_after (knot.reads_below A.reads E.reads (length begin.entry)) colon2_token) result input.old input.new }
+{
+    let (lt_token, args, gt_token) = forms::parse_angled::<(), GenericArgumentOf<A, E>>(
+        alloc,
+        begin,
+        input,
+        (),
+    )?;
+    Ok(AngleBracketedGenericArgumentsOf {
+        colon2_token,
+        lt_token,
+        args,
+        gt_token,
+    })
+}
+
+/// Arguments in angle brackets.
+#[tactic(auto, using(token_core::proofs::Suffixes::follows, syn_forms::proofs::nested_laws::Ahead::later), unfolding(crate::specs::path::Reading::angle_bracketed))]
+fn angle_bracketed_from<A: Attributes, E: Value>(
+    alloc: Global,
+    begin: Cursor<'_>,
+    input: &mut ParseStream<'_>,
+) -> Result<AngleBracketedGenericArgumentsOf<GenericArgumentOf<A, E>>, Error>
+    requires few { ahead input.old ≤ length begin }
+    ensures parses { Parses (reading.angle_bracketed (knot.reads_below A.reads E.reads (length begin.entry))) result input.old input.new }
+{
+    let colon2_token = input.parse_option::<PathSep>(alloc)?;
+    arguments_from::<A, E>(alloc, begin, input, colon2_token)
+}
+
+/// Arguments in angle brackets after a `::`.
+#[tactic(auto, using(token_core::proofs::Suffixes::follows, syn_forms::proofs::nested_laws::Ahead::later), unfolding(crate::specs::path::Reading::turbofish))]
+fn turbofish_from<A: Attributes, E: Value>(
+    alloc: Global,
+    begin: Cursor<'_>,
+    input: &mut ParseStream<'_>,
+) -> Result<AngleBracketedGenericArgumentsOf<GenericArgumentOf<A, E>>, Error>
+    requires few { ahead input.old ≤ length begin }
+    ensures parses { Parses (reading.turbofish (knot.reads_below A.reads E.reads (length begin.entry))) result input.old input.new }
+{
+    let sep = input.parse::<PathSep>(alloc)?;
+    arguments_from::<A, E>(alloc, begin, input, Some(sep))
+}
+
+/// A path, in this style.
+pub(crate) fn path_from<A: Attributes, E: Value>(
+    alloc: Global,
+    begin: Cursor<'_>,
+    input: &mut ParseStream<'_>,
+    style: PathStyle,
+) -> Result<PathOf<PathArgumentsOf<A, E>>, Error>
+    requires few { ahead input.old ≤ length begin }
+    ensures parses { Parses (reading.path (knot.reads_below A.reads E.reads (length begin.entry)) style) result input.old input.new }
+    ensures fewer { ahead input.new ≤ ahead input.old }
+{
+    Grammar {
+        alloc,
+        of: PhantomData,
+        begin,
+        types: (),
+        bounds: (),
+        params: (),
+        args: (),
+        segments: read_arguments::<A, E>,
+    }
+    .path(input, style)
+}
+
+/// A path whose last segment may take arguments in parentheses.
+pub(crate) fn signed_from<A: Attributes, E: Value>(
+    alloc: Global,
+    begin: Cursor<'_>,
+    input: &mut ParseStream<'_>,
+    path: PathOf<PathArgumentsOf<A, E>>,
+) -> Result<PathOf<PathArgumentsOf<A, E>>, Error>
+    requires few { ahead input.old ≤ length begin }
+    ensures parses { Parses (reading.signed (knot.reads_below A.reads E.reads (length begin.entry)) path) result input.old input.new }
+{
+    Grammar {
+        alloc,
+        of: PhantomData,
+        begin,
+        types: read_type::<A, E>,
+        bounds: (),
+        params: (),
+        args: (),
+        segments: (),
+    }
+    .signed(input, path)
+}
+
+/// A path, behind a type that qualifies it where a `<` stands.
+#[tactic(auto, using(token_core::proofs::Suffixes::follows))]
+pub(crate) fn maybe_qualified_from<A: Attributes, E: Value>(
+    alloc: Global,
+    begin: Cursor<'_>,
+    input: &mut ParseStream<'_>,
+    style: PathStyle,
+) -> Result<(Option<QSelfOf<TypeOf<A, E>>>, PathOf<PathArgumentsOf<A, E>>), Error>
+    requires few { ahead input.old ≤ length begin }
+    ensures parses { Parses (reading.maybe_qualified (knot.reads_below A.reads E.reads (length begin.entry)) style) result input.old input.new }
+{
+    forms::parse_maybe_qualified::<TypePlace, TypeOf<A, E>, PathArgumentsOf<A, E>>(
+        alloc,
+        begin,
+        input,
+        TypePlace::Plus,
+        style,
+    )
+}
+
+/// The type that a path is.
+#[tactic(auto, using(token_core::proofs::Suffixes::follows), unfolding(crate::specs::path::Reading::path_type))]
+pub(crate) fn path_type_from<A: Attributes, E: Value>(
+    alloc: Global,
+    begin: Cursor<'_>,
+    input: &mut ParseStream<'_>,
+) -> Result<TypePathOf<A, E>, Error>
+    requires few { ahead input.old ≤ length begin }
+    ensures parses { Parses (reading.path_type (knot.reads_below A.reads E.reads (length begin.entry))) result input.old input.new }
+{
+    let (qself, path) = maybe_qualified_from::<A, E>(alloc, begin, input, PathStyle::AsWritten)?;
+    Ok(bare_path_type(alloc, qself, path))
+}
+
 // ---- forms by themselves: what they hold is read by the knot
 
 /// A path by itself, in this style.
@@ -839,17 +963,8 @@ fn parse_angle_bracketed<A: Attributes, E: Value>(
 ) -> Result<AngleBracketedGenericArgumentsOf<GenericArgumentOf<A, E>>, Error>
     ensures parses { Parses (knot.angle_bracketed A.reads E.reads) result input.old input.new }
 {
-    Grammar {
-        alloc,
-        of: PhantomData,
-        begin: input.cursor(),
-        types: (),
-        bounds: (),
-        params: (),
-        args: read_argument::<A, E>,
-        segments: (),
-    }
-    .angle_bracketed(input)
+    let begin = input.cursor();
+    angle_bracketed_from::<A, E>(alloc, begin, input)
 }
 
 /// Arguments in angle brackets by themselves, after a `::`.
@@ -860,17 +975,8 @@ fn parse_turbofish<A: Attributes, E: Value>(
 ) -> Result<AngleBracketedGenericArgumentsOf<GenericArgumentOf<A, E>>, Error>
     ensures parses { Parses (knot.turbofish A.reads E.reads) result input.old input.new }
 {
-    Grammar {
-        alloc,
-        of: PhantomData,
-        begin: input.cursor(),
-        types: (),
-        bounds: (),
-        params: (),
-        args: read_argument::<A, E>,
-        segments: (),
-    }
-    .turbofish(input)
+    let begin = input.cursor();
+    turbofish_from::<A, E>(alloc, begin, input)
 }
 
 /// Arguments in parentheses by themselves.

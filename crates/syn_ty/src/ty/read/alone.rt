@@ -4,7 +4,9 @@ ghost use Rattle.syn_ty.specs.ty.Knot as knot;
 ghost use Rattle.token_core.specs.Reads.{Parses};
 
 use crate::generics::TypeParamBoundOf;
-use crate::grammar::{Grammar, read_arguments, read_bound, read_param, read_type};
+use crate::generics::read::optional_binder_from;
+use crate::grammar::{Grammar, read_bound, read_type};
+use crate::path::read::path_type_from;
 use crate::ty::read::parts::bare_trait_object;
 use crate::ty::read::tokens::parse_optional_dyn;
 use crate::ty::{
@@ -41,24 +43,26 @@ pub(crate) fn parse_array<A: Attributes, E: Value>(
 }
 
 /// `for<'a> unsafe extern "C" fn(a: A, ...) -> B`
-#[tactic(auto, unfolding(crate::specs::ty::Knot::fn_ptr))]
+#[tactic(auto, using(token_core::proofs::Suffixes::follows, syn_forms::proofs::nested_laws::Ahead::later), unfolding(crate::specs::ty::Knot::fn_ptr, crate::specs::ty::Reading::fn_ptr))]
 pub(crate) fn parse_fn_ptr<A: Attributes, E: Value>(
     alloc: Global,
     input: &mut ParseStream<'_>,
 ) -> Result<TypeFnPtrOf<A, E>, Error>
     ensures parses { Parses (knot.fn_ptr A.reads E.reads) result input.old input.new }
 {
+    let begin = input.cursor();
+    let lifetimes = optional_binder_from::<A, E>(alloc, begin.again(), input)?;
     Grammar {
         alloc,
         of: PhantomData,
-        begin: input.cursor(),
+        begin,
         types: read_type::<A, E>,
         bounds: (),
-        params: read_param::<A, E>,
+        params: (),
         args: (),
         segments: (),
     }
-    .fn_ptr(input)
+    .fn_ptr_after(input, lifetimes)
 }
 
 /// A type in an invisible group.
@@ -133,17 +137,8 @@ pub(crate) fn parse_path_type<A: Attributes, E: Value>(
 ) -> Result<TypePathOf<A, E>, Error>
     ensures parses { Parses (knot.path_type A.reads E.reads) result input.old input.new }
 {
-    Grammar {
-        alloc,
-        of: PhantomData,
-        begin: input.cursor(),
-        types: read_type::<A, E>,
-        bounds: (),
-        params: (),
-        args: (),
-        segments: read_arguments::<A, E>,
-    }
-    .path_type(input)
+    let begin = input.cursor();
+    path_type_from::<A, E>(alloc, begin, input)
 }
 
 /// `*const T`, `*mut T`

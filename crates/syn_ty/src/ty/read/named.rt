@@ -133,42 +133,6 @@ impl<
         TypePlace,
     ) -> Result<TypeOf<A, E>, Error>
         + Copy,
-    G,
-    H: Fn(
-        Global,
-        PhantomData<GenericParamOf<A, E>>,
-        &mut ParseStream<'_>,
-        ParamPlace,
-    ) -> Result<GenericParamOf<A, E>, Error>
-        + Copy,
-    I,
-    J,
-> Grammar<'a, A, E, F, G, H, I, J> {
-    /// A pointer to a function by itself.
-    #[tactic(auto, using(token_core::proofs::Suffixes::follows, syn_forms::proofs::nested_laws::Ahead::later), unfolding(crate::specs::ty::Reading::fn_ptr))]
-    pub(crate) fn fn_ptr(&self, input: &mut ParseStream<'_>) -> Result<TypeFnPtrOf<A, E>, Error>
-        requires types { Nests (knot.ty A.reads E.reads) (length self.now.begin) (F.pre self.now.types) (F.post self.now.types) }
-        requires params { Nests (knot.param A.reads E.reads) (length self.now.begin) (H.pre self.now.params) (H.post self.now.params) }
-        requires few { ahead input.old ≤ length self.now.begin }
-        ensures parses { Parses (reading.fn_ptr A.reads E.reads (knot.reads_below A.reads E.reads (length self.now.begin))) result input.old input.new }
-        ensures fewer { ahead input.new ≤ ahead input.old }
-    {
-        let lifetimes = self.optional_binder(input)?;
-        Ok(self.fn_ptr_after(input, lifetimes)?)
-    }
-}
-
-impl<
-    'a,
-    A: Attributes,
-    E: Value,
-    F: Fn(
-        Global,
-        PhantomData<TypeOf<A, E>>,
-        &mut ParseStream<'_>,
-        TypePlace,
-    ) -> Result<TypeOf<A, E>, Error>
-        + Copy,
     G: Fn(
         Global,
         PhantomData<TypeParamBoundOf<A, E>>,

@@ -5,14 +5,14 @@ use Rattle.syn_forms.specs.declared.places.TypePlace.TheVariants.{Bounded}
 use Rattle.syn_path.proofs.path_laws.Turns.{refused_by}
 use Rattle.syn_ty.specs.ty.Knot as knot
 use Rattle.syn_ty.proofs.generics_laws.Clauses.{bounds_refused}
-use Rattle.syn_ty.proofs.grammar.Grammar.predicate_type.Goals as goal
+use Rattle.syn_ty.proofs.generics.declared.type_after.Goals as goal
 
 pub returns-in_err-bounds : goal.returns-in_err-bounds
 returns-in_err-bounds g c =
     let e = c.in_err-bounds.field-0.0 in
     let was : c.predicate_bounds.result ≡ Err e = first_of (search rules, grind (arith, common_steps)) in
     let back : c.from_residual-in_err-bounds.result ≡ Err e = first_of (search rules, grind (arith, common_steps)) in
-    let r = knot.reads_below g.A.Attributes.reads g.E.Value.reads (length c.args.self.now.begin) in
+    let r = knot.reads_below g.A.Attributes.reads g.E.Value.reads (length c.args.begin) in
     let typ = knot.ty g.A.Attributes.reads g.E.Value.reads Bounded in
     record {
       parses = (
