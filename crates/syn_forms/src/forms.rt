@@ -1,6 +1,6 @@
 //! Forms that look into nothing that they hold.
 
-ghost use Rattle.std.specs.Prelude.{◌<◌, ◌≤◌, length};
+ghost use Rattle.std.specs.Prelude.{◌<◌, ◌≤◌, length, true};
 ghost use Rattle.token_core.specs.Reads.{Parses};
 ghost use Rattle.syn_forms.specs.forms.Reading as reading;
 ghost use Rattle.syn_forms.specs.heads.Reading as heads;
