@@ -12,7 +12,7 @@ pub returns-in_err-paren_token : goal.returns-in_err-paren_token
 returns-in_err-paren_token g c =
     let e = c.in_err-paren_token.field-0.0 in
     let was : c.trait_in_parens.result ≡ Err e = first_of (search rules, grind (arith, common_steps)) in
-    let back : c.from_residual-in_err-paren_token.result ≡ Err e = first_of (search rules, grind (arith, common_steps)) in
+    let back : c.from_residual.result ≡ Err e = first_of (search rules, grind (arith, common_steps)) in
     let h : sees_group d.Parenthesis c.args.input.now.rest ≡ true = first_of (search rules, grind (arith, common_steps)) in
     let r = knot.reads_below g.A.Attributes.reads g.E.Value.reads (length c.args.self.now.begin) in
     record {
