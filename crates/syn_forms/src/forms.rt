@@ -69,18 +69,18 @@ impl<
 /// `<`, values joined by commas, and `>`.
 pub fn parse_angled<P: Copy, T: Held<P>>(
     alloc: Global,
-    begin: Cursor<'_>,
+    begin: &Cursor<'_>,
     input: &mut ParseStream<'_>,
     place: P,
 ) -> Result<(Lt, Punctuated<T, Comma>, Gt), Error>
-    requires few { ahead input.old ≤ length begin }
-    ensures parses { Parses (heads.angled (below.held T.read (length begin.entry) place)) result input.old input.new }
+    requires few { ahead input.old ≤ length begin.now }
+    ensures parses { Parses (heads.angled (below.held T.read (length begin.now) place)) result input.old input.new }
 {
     let read = T::parse_held;
     Nested {
         alloc,
         of: PhantomData,
-        begin,
+        begin: begin.again(),
         read,
     }
     .angled(input, place)
@@ -89,18 +89,18 @@ pub fn parse_angled<P: Copy, T: Held<P>>(
 /// `for` and its parameters.
 pub fn parse_binder<P: Copy, T: Held<P>>(
     alloc: Global,
-    begin: Cursor<'_>,
+    begin: &Cursor<'_>,
     input: &mut ParseStream<'_>,
     place: P,
 ) -> Result<(For, (Lt, Punctuated<T, Comma>, Gt)), Error>
-    requires few { ahead input.old ≤ length begin }
-    ensures parses { Parses (heads.binder (below.held T.read (length begin.entry) place)) result input.old input.new }
+    requires few { ahead input.old ≤ length begin.now }
+    ensures parses { Parses (heads.binder (below.held T.read (length begin.now) place)) result input.old input.new }
 {
     let read = T::parse_held;
     Nested {
         alloc,
         of: PhantomData,
-        begin,
+        begin: begin.again(),
         read,
     }
     .binder(input, place)
@@ -109,18 +109,18 @@ pub fn parse_binder<P: Copy, T: Held<P>>(
 /// A path, in this style.
 pub fn parse_path<G: Held<()> + Arguments>(
     alloc: Global,
-    begin: Cursor<'_>,
+    begin: &Cursor<'_>,
     input: &mut ParseStream<'_>,
     style: PathStyle,
 ) -> Result<PathOf<G>, Error>
-    requires few { ahead input.old ≤ length begin }
-    ensures parses { Parses (paths.path G.absent (below.held G.read (length begin.entry) tt) style) result input.old input.new }
+    requires few { ahead input.old ≤ length begin.now }
+    ensures parses { Parses (paths.path G.absent (below.held G.read (length begin.now) tt) style) result input.old input.new }
 {
     let read = G::parse_held;
     Nested {
         alloc,
         of: PhantomData,
-        begin,
+        begin: begin.again(),
         read,
     }
     .path(input, style)
@@ -129,18 +129,18 @@ pub fn parse_path<G: Held<()> + Arguments>(
 /// A segment, in this style.
 pub fn parse_segment<G: Held<()> + Arguments>(
     alloc: Global,
-    begin: Cursor<'_>,
+    begin: &Cursor<'_>,
     input: &mut ParseStream<'_>,
     style: PathStyle,
 ) -> Result<PathSegmentOf<G>, Error>
-    requires few { ahead input.old ≤ length begin }
-    ensures parses { Parses (paths.segment G.absent (below.held G.read (length begin.entry) tt) style) result input.old input.new }
+    requires few { ahead input.old ≤ length begin.now }
+    ensures parses { Parses (paths.segment G.absent (below.held G.read (length begin.now) tt) style) result input.old input.new }
 {
     let read = G::parse_held;
     Nested {
         alloc,
         of: PhantomData,
-        begin,
+        begin: begin.again(),
         read,
     }
     .segment(input, style)
@@ -149,13 +149,13 @@ pub fn parse_segment<G: Held<()> + Arguments>(
 /// A path, behind a type that qualifies it where a `<` stands.
 pub fn parse_maybe_qualified<P: Copy, T: Held<P>, G: Held<()> + Arguments>(
     alloc: Global,
-    begin: Cursor<'_>,
+    begin: &Cursor<'_>,
     input: &mut ParseStream<'_>,
     place: P,
     style: PathStyle,
 ) -> Result<(Option<QSelfOf<T>>, PathOf<G>), Error>
-    requires few { ahead input.old ≤ length begin }
-    ensures parses { Parses (paths.maybe_qualified (below.held T.read (length begin.entry) place) G.absent (below.held G.read (length begin.entry) tt) style) result input.old input.new }
+    requires few { ahead input.old ≤ length begin.now }
+    ensures parses { Parses (paths.maybe_qualified (below.held T.read (length begin.now) place) G.absent (below.held G.read (length begin.now) tt) style) result input.old input.new }
 {
     let read_type = T::parse_held;
     let types = Nested {
@@ -168,7 +168,7 @@ pub fn parse_maybe_qualified<P: Copy, T: Held<P>, G: Held<()> + Arguments>(
     Nested {
         alloc,
         of: PhantomData,
-        begin,
+        begin: begin.again(),
         read,
     }
     .maybe_qualified(&types, input, place, style)
@@ -177,13 +177,13 @@ pub fn parse_maybe_qualified<P: Copy, T: Held<P>, G: Held<()> + Arguments>(
 /// `T: A + B = C`, after its attributes.
 pub fn parse_type_parts<PB: Copy, B: Held<PB>, PT: Copy, T: Held<PT>>(
     alloc: Global,
-    begin: Cursor<'_>,
+    begin: &Cursor<'_>,
     input: &mut ParseStream<'_>,
     bound_place: PB,
     type_place: PT,
 ) -> Result<(Ident, Option<Colon>, Punctuated<B, Plus>, Option<(Eq, T)>), Error>
-    requires few { ahead input.old ≤ length begin }
-    ensures parses { Parses (params.type_parts (below.held B.read (length begin.entry) bound_place) (below.held T.read (length begin.entry) type_place)) result input.old input.new }
+    requires few { ahead input.old ≤ length begin.now }
+    ensures parses { Parses (params.type_parts (below.held B.read (length begin.now) bound_place) (below.held T.read (length begin.now) type_place)) result input.old input.new }
 {
     let read_bound = B::parse_held;
     let bounds = Nested {
@@ -196,7 +196,7 @@ pub fn parse_type_parts<PB: Copy, B: Held<PB>, PT: Copy, T: Held<PT>>(
     let types = Nested {
         alloc,
         of: PhantomData,
-        begin,
+        begin: begin.again(),
         read: read_type,
     };
     type_parts(&bounds, &types, input, bound_place, type_place)
@@ -205,19 +205,19 @@ pub fn parse_type_parts<PB: Copy, B: Held<PB>, PT: Copy, T: Held<PT>>(
 /// Values joined by a mark, up to an end.
 pub fn parse_list<P: Copy, T: Held<P>, M: Drop, S: End<M>>(
     alloc: Global,
-    begin: Cursor<'_>,
+    begin: &Cursor<'_>,
     input: &mut ParseStream<'_>,
     place: P,
     end: S,
 ) -> Result<Punctuated<T, M>, Error>
-    requires few { ahead input.old < length begin }
-    ensures parses { Parses (lists.list (S.stops end) (below.held T.read (length begin.entry) place) (S.more end) (S.joint end) true) result input.old input.new }
+    requires few { ahead input.old < length begin.now }
+    ensures parses { Parses (lists.list (S.stops end) (below.held T.read (length begin.now) place) (S.more end) (S.joint end) true) result input.old input.new }
 {
     let read = T::parse_held;
     Nested {
         alloc,
         of: PhantomData,
-        begin,
+        begin: begin.again(),
         read,
     }
     .list(input, place, end)

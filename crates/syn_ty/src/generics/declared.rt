@@ -99,11 +99,11 @@ fn lifetime_after<A: Attributes>(
 #[tactic(auto, using(token_core::proofs::Suffixes::follows), unfolding(crate::specs::generics::Declared::generics))]
 fn generics_from<A: Attributes, E: Value>(
     alloc: Global,
-    begin: Cursor<'_>,
+    begin: &Cursor<'_>,
     input: &mut ParseStream<'_>,
 ) -> Result<GenericsOf<A, E>, Error>
-    requires few { ahead input.old ≤ length begin }
-    ensures parses { Parses (reading.generics (knot.reads_below A.reads E.reads (length begin.entry))) result input.old input.new }
+    requires few { ahead input.old ≤ length begin.now }
+    ensures parses { Parses (reading.generics (knot.reads_below A.reads E.reads (length begin.now))) result input.old input.new }
 {
     if !input.peek::<Lt>() {
         return Ok(GenericsOf::default(alloc));
@@ -126,11 +126,11 @@ fn generics_from<A: Attributes, E: Value>(
 #[tactic(auto, using(token_core::proofs::Suffixes::follows), unfolding(crate::specs::generics::Declared::predicate_bounds))]
 fn predicate_bounds<A: Attributes, E: Value>(
     alloc: Global,
-    begin: Cursor<'_>,
+    begin: &Cursor<'_>,
     input: &mut ParseStream<'_>,
 ) -> Result<Punctuated<TypeParamBoundOf<A, E>, Plus>, Error>
-    requires few { ahead input.old < length begin }
-    ensures parses { Parses (reading.predicate_bounds (knot.reads_below A.reads E.reads (length begin.entry))) result input.old input.new }
+    requires few { ahead input.old < length begin.now }
+    ensures parses { Parses (reading.predicate_bounds (knot.reads_below A.reads E.reads (length begin.now))) result input.old input.new }
 {
     forms::parse_list::<BoundPlace, TypeParamBoundOf<A, E>, Plus, ToPredicateEnd>(
         alloc,
@@ -145,14 +145,14 @@ fn predicate_bounds<A: Attributes, E: Value>(
 #[tactic(auto, using(token_core::proofs::Suffixes::follows, syn_forms::proofs::nested_laws::Ahead::later), unfolding(crate::specs::generics::Declared::type_after))]
 fn type_after<A: Attributes, E: Value>(
     alloc: Global,
-    begin: Cursor<'_>,
+    begin: &Cursor<'_>,
     input: &mut ParseStream<'_>,
     attrs: Items<A>,
 ) -> Result<PredicateTypeOf<A, E>, Error>
-    requires few { ahead input.old ≤ length begin }
-    ensures parses { Parses (reading.type_after (knot.ty A.reads E.reads type_places.Bounded) (knot.reads_below A.reads E.reads (length begin.entry)) attrs) result input.old input.new }
+    requires few { ahead input.old ≤ length begin.now }
+    ensures parses { Parses (reading.type_after (knot.ty A.reads E.reads type_places.Bounded) (knot.reads_below A.reads E.reads (length begin.now)) attrs) result input.old input.new }
 {
-    let lifetimes = optional_binder_from::<A, E>(alloc, begin.again(), input)?;
+    let lifetimes = optional_binder_from::<A, E>(alloc, begin, input)?;
     let bounded_ty = read_type::<A, E>(alloc, PhantomData, input, TypePlace::Bounded)?;
     let colon_token = parse_colon(alloc, input)?;
     let bounds = predicate_bounds::<A, E>(alloc, begin, input)?;
@@ -169,11 +169,11 @@ fn type_after<A: Attributes, E: Value>(
 #[tactic(auto, using(token_core::proofs::Suffixes::follows, syn_forms::proofs::nested_laws::Ahead::later), unfolding(crate::specs::generics::Declared::predicate, crate::specs::generics::Declared::predicate_after))]
 fn predicate_from<A: Attributes, E: Value>(
     alloc: Global,
-    begin: Cursor<'_>,
+    begin: &Cursor<'_>,
     input: &mut ParseStream<'_>,
 ) -> Result<WherePredicateOf<A, E>, Error>
-    requires few { ahead input.old ≤ length begin }
-    ensures parses { Parses (reading.predicate A.reads (knot.ty A.reads E.reads type_places.Bounded) (knot.reads_below A.reads E.reads (length begin.entry))) result input.old input.new }
+    requires few { ahead input.old ≤ length begin.now }
+    ensures parses { Parses (reading.predicate A.reads (knot.ty A.reads E.reads type_places.Bounded) (knot.reads_below A.reads E.reads (length begin.now))) result input.old input.new }
 {
     let attrs = A::read_outer(alloc, input)?;
     if sees_lifetime_predicate(input) {
@@ -193,7 +193,7 @@ fn parse_generics<A: Attributes, E: Value>(
     ensures parses { Parses (alone.generics A.reads E.reads) result input.old input.new }
 {
     let begin = input.cursor();
-    generics_from::<A, E>(alloc, begin, input)
+    generics_from::<A, E>(alloc, &begin, input)
 }
 
 impl<A: Attributes, E: Value> Tree<()> for WherePredicateOf<A, E> {
@@ -209,7 +209,7 @@ fn parse_predicate<A: Attributes, E: Value>(
     ensures parses { Parses (alone.predicate A.reads E.reads) result input.old input.new }
 {
     let begin = input.cursor();
-    predicate_from::<A, E>(alloc, begin, input)
+    predicate_from::<A, E>(alloc, &begin, input)
 }
 
 impl<A: Attributes, E: Value> Held<()> for WherePredicateOf<A, E> {
@@ -229,11 +229,11 @@ impl<A: Attributes, E: Value> Held<()> for WherePredicateOf<A, E> {
 /// The predicates of a where clause, further on than the clause began.
 fn parse_predicates<A: Attributes, E: Value>(
     alloc: Global,
-    begin: Cursor<'_>,
+    begin: &Cursor<'_>,
     input: &mut ParseStream<'_>,
 ) -> Result<Punctuated<WherePredicateOf<A, E>, Comma>, Error>
-    requires few { ahead input.old < length begin }
-    ensures parses { Parses (predicates.predicates_to (below.held (alone.predicate_in A.reads E.reads) (length begin.entry) tt)) result input.old input.new }
+    requires few { ahead input.old < length begin.now }
+    ensures parses { Parses (predicates.predicates_to (below.held (alone.predicate_in A.reads E.reads) (length begin.now) tt)) result input.old input.new }
 {
     forms::parse_list::<(), WherePredicateOf<A, E>, Comma, ToClauseEnd>(
         alloc,
@@ -255,7 +255,7 @@ fn parse_where_clause<A: Attributes, E: Value>(
     let begin = input.cursor();
     let where_token = parse_where(alloc, input)?;
     no_generics(alloc, input)?;
-    let predicates = parse_predicates(alloc, begin, input)?;
+    let predicates = parse_predicates(alloc, &begin, input)?;
     Ok(WhereClauseOf {
         where_token,
         predicates,

@@ -812,11 +812,11 @@ impl<
 #[tactic(auto, using(token_core::proofs::Suffixes::follows), unfolding(crate::specs::generics::Reading::binder))]
 fn binder_from<A: Attributes, E: Value>(
     alloc: Global,
-    begin: Cursor<'_>,
+    begin: &Cursor<'_>,
     input: &mut ParseStream<'_>,
 ) -> Result<BoundLifetimesOf<GenericParamOf<A, E>>, Error>
-    requires few { ahead input.old ≤ length begin }
-    ensures parses { Parses (reading.binder (knot.reads_below A.reads E.reads (length begin.entry))) result input.old input.new }
+    requires few { ahead input.old ≤ length begin.now }
+    ensures parses { Parses (reading.binder (knot.reads_below A.reads E.reads (length begin.now))) result input.old input.new }
 {
     let (for_token, (lt_token, lifetimes, gt_token)) = forms::parse_binder::<
         ParamPlace,
@@ -834,11 +834,11 @@ fn binder_from<A: Attributes, E: Value>(
 #[tactic(auto, using(token_core::proofs::Suffixes::follows, syn_forms::proofs::nested_laws::Ahead::later), unfolding(crate::specs::generics::Reading::optional_binder))]
 pub(crate) fn optional_binder_from<A: Attributes, E: Value>(
     alloc: Global,
-    begin: Cursor<'_>,
+    begin: &Cursor<'_>,
     input: &mut ParseStream<'_>,
 ) -> Result<Option<BoundLifetimesOf<GenericParamOf<A, E>>>, Error>
-    requires few { ahead input.old ≤ length begin }
-    ensures parses { Parses (reading.optional_binder (knot.reads_below A.reads E.reads (length begin.entry))) result input.old input.new }
+    requires few { ahead input.old ≤ length begin.now }
+    ensures parses { Parses (reading.optional_binder (knot.reads_below A.reads E.reads (length begin.now))) result input.old input.new }
     ensures fewer { ahead input.new ≤ ahead input.old }
 {
     if input.peek::<For>() {
@@ -851,13 +851,13 @@ pub(crate) fn optional_binder_from<A: Attributes, E: Value>(
 #[tactic(auto, using(token_core::proofs::Suffixes::follows, syn_forms::proofs::nested_laws::Ahead::later))]
 fn binder_after_from<A: Attributes, E: Value>(
     alloc: Global,
-    begin: Cursor<'_>,
+    begin: &Cursor<'_>,
     input: &mut ParseStream<'_>,
     lifetimes: Option<BoundLifetimesOf<GenericParamOf<A, E>>>,
     maybe: &Option<Question>,
 ) -> Result<Option<BoundLifetimesOf<GenericParamOf<A, E>>>, Error>
-    requires few { ahead input.old ≤ length begin }
-    ensures parses { Parses (reading.binder_after (knot.reads_below A.reads E.reads (length begin.entry)) lifetimes maybe.now) result input.old input.new }
+    requires few { ahead input.old ≤ length begin.now }
+    ensures parses { Parses (reading.binder_after (knot.reads_below A.reads E.reads (length begin.now)) lifetimes maybe.now) result input.old input.new }
     ensures fewer { ahead input.new ≤ ahead input.old }
 {
     match lifetimes {
@@ -873,16 +873,16 @@ fn binder_after_from<A: Attributes, E: Value>(
 #[tactic(auto, using(token_core::proofs::Suffixes::follows, syn_forms::proofs::nested_laws::Ahead::later, crate::proofs::generics_laws::Traits::traits), unfolding(crate::specs::generics::Reading::trait_after))]
 fn trait_after_from<A: Attributes, E: Value>(
     alloc: Global,
-    begin: Cursor<'_>,
+    begin: &Cursor<'_>,
     input: &mut ParseStream<'_>,
     lifetimes: Option<BoundLifetimesOf<GenericParamOf<A, E>>>,
 ) -> Result<TraitBoundOf<A, E>, Error>
-    requires few { ahead input.old ≤ length begin }
-    ensures parses { Parses (reading.trait_after (knot.reads_below A.reads E.reads (length begin.entry)) lifetimes) result input.old input.new }
+    requires few { ahead input.old ≤ length begin.now }
+    ensures parses { Parses (reading.trait_after (knot.reads_below A.reads E.reads (length begin.now)) lifetimes) result input.old input.new }
 {
     let maybe = parse_question(alloc, input)?;
-    let lifetimes = binder_after_from::<A, E>(alloc, begin.again(), input, lifetimes, &maybe)?;
-    let path = path_from::<A, E>(alloc, begin.again(), input, PathStyle::AsWritten)?;
+    let lifetimes = binder_after_from::<A, E>(alloc, begin, input, lifetimes, &maybe)?;
+    let path = path_from::<A, E>(alloc, begin, input, PathStyle::AsWritten)?;
     let path = signed_from::<A, E>(alloc, begin, input, path)?;
     match maybe {
         None => Ok(named_bound(lifetimes, None, path)),
@@ -900,13 +900,13 @@ fn trait_after_from<A: Attributes, E: Value>(
 #[tactic(auto, using(token_core::proofs::Suffixes::follows, syn_forms::proofs::nested_laws::Ahead::later), unfolding(crate::specs::generics::Reading::trait_bound))]
 fn trait_bound_from<A: Attributes, E: Value>(
     alloc: Global,
-    begin: Cursor<'_>,
+    begin: &Cursor<'_>,
     input: &mut ParseStream<'_>,
 ) -> Result<TraitBoundOf<A, E>, Error>
-    requires few { ahead input.old ≤ length begin }
-    ensures parses { Parses (reading.trait_bound (knot.reads_below A.reads E.reads (length begin.entry))) result input.old input.new }
+    requires few { ahead input.old ≤ length begin.now }
+    ensures parses { Parses (reading.trait_bound (knot.reads_below A.reads E.reads (length begin.now))) result input.old input.new }
 {
-    let lifetimes = optional_binder_from::<A, E>(alloc, begin.again(), input)?;
+    let lifetimes = optional_binder_from::<A, E>(alloc, begin, input)?;
     no_const_form(alloc, input)?;
     trait_after_from(alloc, begin, input, lifetimes)
 }
@@ -915,12 +915,12 @@ fn trait_bound_from<A: Attributes, E: Value>(
 #[tactic(auto, using(token_core::proofs::Suffixes::follows))]
 fn type_after_from<A: Attributes, E: Value>(
     alloc: Global,
-    begin: Cursor<'_>,
+    begin: &Cursor<'_>,
     input: &mut ParseStream<'_>,
     attrs: Items<A>,
 ) -> Result<TypeParamOf<A, E>, Error>
-    requires few { ahead input.old ≤ length begin }
-    ensures parses { Parses (reading.type_after A.reads E.reads (knot.reads_below A.reads E.reads (length begin.entry)) attrs) result input.old input.new }
+    requires few { ahead input.old ≤ length begin.now }
+    ensures parses { Parses (reading.type_after A.reads E.reads (knot.reads_below A.reads E.reads (length begin.now)) attrs) result input.old input.new }
 {
     let (ident, colon_token, bounds, default) = forms::parse_type_parts::<
         BoundPlace,
@@ -941,11 +941,11 @@ fn type_after_from<A: Attributes, E: Value>(
 #[tactic(auto, using(token_core::proofs::Suffixes::follows, syn_forms::proofs::nested_laws::Ahead::later), unfolding(crate::specs::generics::Reading::type_param))]
 fn type_param_from<A: Attributes, E: Value>(
     alloc: Global,
-    begin: Cursor<'_>,
+    begin: &Cursor<'_>,
     input: &mut ParseStream<'_>,
 ) -> Result<TypeParamOf<A, E>, Error>
-    requires few { ahead input.old ≤ length begin }
-    ensures parses { Parses (reading.type_param A.reads E.reads (knot.reads_below A.reads E.reads (length begin.entry))) result input.old input.new }
+    requires few { ahead input.old ≤ length begin.now }
+    ensures parses { Parses (reading.type_param A.reads E.reads (knot.reads_below A.reads E.reads (length begin.now))) result input.old input.new }
 {
     let attrs = A::read_outer(alloc, input)?;
     type_after_from(alloc, begin, input, attrs)
@@ -962,7 +962,7 @@ fn parse_binder<A: Attributes, E: Value>(
     ensures parses { Parses (knot.binder A.reads E.reads) result input.old input.new }
 {
     let begin = input.cursor();
-    binder_from::<A, E>(alloc, begin, input)
+    binder_from::<A, E>(alloc, &begin, input)
 }
 
 /// A binder by itself, where `for` stands.
@@ -974,7 +974,7 @@ fn parse_optional_binder<A: Attributes, E: Value>(
     ensures parses { Parses (knot.optional_binder A.reads E.reads) result input.old input.new }
 {
     let begin = input.cursor();
-    optional_binder_from::<A, E>(alloc, begin, input)
+    optional_binder_from::<A, E>(alloc, &begin, input)
 }
 
 /// A trait bound by itself.
@@ -986,7 +986,7 @@ fn parse_trait_bound<A: Attributes, E: Value>(
     ensures parses { Parses (knot.trait_bound A.reads E.reads) result input.old input.new }
 {
     let begin = input.cursor();
-    trait_bound_from::<A, E>(alloc, begin, input)
+    trait_bound_from::<A, E>(alloc, &begin, input)
 }
 
 /// A type parameter by itself.
@@ -998,7 +998,7 @@ fn parse_type_param<A: Attributes, E: Value>(
     ensures parses { Parses (knot.type_param A.reads E.reads) result input.old input.new }
 {
     let begin = input.cursor();
-    type_param_from::<A, E>(alloc, begin, input)
+    type_param_from::<A, E>(alloc, &begin, input)
 }
 
 /// A const parameter by itself.

@@ -27,5 +27,5 @@ pub fn parse_maybe_qualified<A: Attributes, E: Value>(
     ensures parses { Parses (alone.maybe_qualified A.reads E.reads style) result input.old input.new }
 {
     let begin = input.cursor();
-    maybe_qualified_from::<A, E>(alloc, begin, input, style)
+    maybe_qualified_from::<A, E>(alloc, &begin, input, style)
 }

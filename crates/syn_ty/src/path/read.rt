@@ -782,12 +782,12 @@ impl<
 #[tactic(auto, using(token_core::proofs::Suffixes::follows))]
 fn arguments_from<A: Attributes, E: Value>(
     alloc: Global,
-    begin: Cursor<'_>,
+    begin: &Cursor<'_>,
     input: &mut ParseStream<'_>,
     colon2_token: Option<PathSep>,
 ) -> Result<AngleBracketedGenericArgumentsOf<GenericArgumentOf<A, E>>, Error>
-    requires few { ahead input.old ≤ length begin }
-    ensures parses { Parses (reading.arguments_after (knot.reads_below A.reads E.reads (length begin.entry)) colon2_token) result input.old input.new }
+    requires few { ahead input.old ≤ length begin.now }
+    ensures parses { Parses (reading.arguments_after (knot.reads_below A.reads E.reads (length begin.now)) colon2_token) result input.old input.new }
 {
     let (lt_token, args, gt_token) = forms::parse_angled::<(), GenericArgumentOf<A, E>>(
         alloc,
@@ -807,11 +807,11 @@ fn arguments_from<A: Attributes, E: Value>(
 #[tactic(auto, using(token_core::proofs::Suffixes::follows, syn_forms::proofs::nested_laws::Ahead::later), unfolding(crate::specs::path::Reading::angle_bracketed))]
 fn angle_bracketed_from<A: Attributes, E: Value>(
     alloc: Global,
-    begin: Cursor<'_>,
+    begin: &Cursor<'_>,
     input: &mut ParseStream<'_>,
 ) -> Result<AngleBracketedGenericArgumentsOf<GenericArgumentOf<A, E>>, Error>
-    requires few { ahead input.old ≤ length begin }
-    ensures parses { Parses (reading.angle_bracketed (knot.reads_below A.reads E.reads (length begin.entry))) result input.old input.new }
+    requires few { ahead input.old ≤ length begin.now }
+    ensures parses { Parses (reading.angle_bracketed (knot.reads_below A.reads E.reads (length begin.now))) result input.old input.new }
 {
     let colon2_token = input.parse_option::<PathSep>(alloc)?;
     arguments_from::<A, E>(alloc, begin, input, colon2_token)
@@ -821,11 +821,11 @@ fn angle_bracketed_from<A: Attributes, E: Value>(
 #[tactic(auto, using(token_core::proofs::Suffixes::follows, syn_forms::proofs::nested_laws::Ahead::later), unfolding(crate::specs::path::Reading::turbofish))]
 fn turbofish_from<A: Attributes, E: Value>(
     alloc: Global,
-    begin: Cursor<'_>,
+    begin: &Cursor<'_>,
     input: &mut ParseStream<'_>,
 ) -> Result<AngleBracketedGenericArgumentsOf<GenericArgumentOf<A, E>>, Error>
-    requires few { ahead input.old ≤ length begin }
-    ensures parses { Parses (reading.turbofish (knot.reads_below A.reads E.reads (length begin.entry))) result input.old input.new }
+    requires few { ahead input.old ≤ length begin.now }
+    ensures parses { Parses (reading.turbofish (knot.reads_below A.reads E.reads (length begin.now))) result input.old input.new }
 {
     let sep = input.parse::<PathSep>(alloc)?;
     arguments_from::<A, E>(alloc, begin, input, Some(sep))
@@ -834,18 +834,18 @@ fn turbofish_from<A: Attributes, E: Value>(
 /// A path, in this style.
 pub(crate) fn path_from<A: Attributes, E: Value>(
     alloc: Global,
-    begin: Cursor<'_>,
+    begin: &Cursor<'_>,
     input: &mut ParseStream<'_>,
     style: PathStyle,
 ) -> Result<PathOf<PathArgumentsOf<A, E>>, Error>
-    requires few { ahead input.old ≤ length begin }
-    ensures parses { Parses (reading.path (knot.reads_below A.reads E.reads (length begin.entry)) style) result input.old input.new }
+    requires few { ahead input.old ≤ length begin.now }
+    ensures parses { Parses (reading.path (knot.reads_below A.reads E.reads (length begin.now)) style) result input.old input.new }
     ensures fewer { ahead input.new ≤ ahead input.old }
 {
     Grammar {
         alloc,
         of: PhantomData,
-        begin,
+        begin: begin.again(),
         types: (),
         bounds: (),
         params: (),
@@ -858,17 +858,17 @@ pub(crate) fn path_from<A: Attributes, E: Value>(
 /// A path whose last segment may take arguments in parentheses.
 pub(crate) fn signed_from<A: Attributes, E: Value>(
     alloc: Global,
-    begin: Cursor<'_>,
+    begin: &Cursor<'_>,
     input: &mut ParseStream<'_>,
     path: PathOf<PathArgumentsOf<A, E>>,
 ) -> Result<PathOf<PathArgumentsOf<A, E>>, Error>
-    requires few { ahead input.old ≤ length begin }
-    ensures parses { Parses (reading.signed (knot.reads_below A.reads E.reads (length begin.entry)) path) result input.old input.new }
+    requires few { ahead input.old ≤ length begin.now }
+    ensures parses { Parses (reading.signed (knot.reads_below A.reads E.reads (length begin.now)) path) result input.old input.new }
 {
     Grammar {
         alloc,
         of: PhantomData,
-        begin,
+        begin: begin.again(),
         types: read_type::<A, E>,
         bounds: (),
         params: (),
@@ -882,12 +882,12 @@ pub(crate) fn signed_from<A: Attributes, E: Value>(
 #[tactic(auto, using(token_core::proofs::Suffixes::follows))]
 pub(crate) fn maybe_qualified_from<A: Attributes, E: Value>(
     alloc: Global,
-    begin: Cursor<'_>,
+    begin: &Cursor<'_>,
     input: &mut ParseStream<'_>,
     style: PathStyle,
 ) -> Result<(Option<QSelfOf<TypeOf<A, E>>>, PathOf<PathArgumentsOf<A, E>>), Error>
-    requires few { ahead input.old ≤ length begin }
-    ensures parses { Parses (reading.maybe_qualified (knot.reads_below A.reads E.reads (length begin.entry)) style) result input.old input.new }
+    requires few { ahead input.old ≤ length begin.now }
+    ensures parses { Parses (reading.maybe_qualified (knot.reads_below A.reads E.reads (length begin.now)) style) result input.old input.new }
 {
     forms::parse_maybe_qualified::<TypePlace, TypeOf<A, E>, PathArgumentsOf<A, E>>(
         alloc,
@@ -902,11 +902,11 @@ pub(crate) fn maybe_qualified_from<A: Attributes, E: Value>(
 #[tactic(auto, using(token_core::proofs::Suffixes::follows), unfolding(crate::specs::path::Reading::path_type))]
 pub(crate) fn path_type_from<A: Attributes, E: Value>(
     alloc: Global,
-    begin: Cursor<'_>,
+    begin: &Cursor<'_>,
     input: &mut ParseStream<'_>,
 ) -> Result<TypePathOf<A, E>, Error>
-    requires few { ahead input.old ≤ length begin }
-    ensures parses { Parses (reading.path_type (knot.reads_below A.reads E.reads (length begin.entry))) result input.old input.new }
+    requires few { ahead input.old ≤ length begin.now }
+    ensures parses { Parses (reading.path_type (knot.reads_below A.reads E.reads (length begin.now))) result input.old input.new }
 {
     let (qself, path) = maybe_qualified_from::<A, E>(alloc, begin, input, PathStyle::AsWritten)?;
     Ok(bare_path_type(alloc, qself, path))
@@ -966,7 +966,7 @@ fn parse_angle_bracketed<A: Attributes, E: Value>(
     ensures parses { Parses (knot.angle_bracketed A.reads E.reads) result input.old input.new }
 {
     let begin = input.cursor();
-    angle_bracketed_from::<A, E>(alloc, begin, input)
+    angle_bracketed_from::<A, E>(alloc, &begin, input)
 }
 
 /// Arguments in angle brackets by themselves, after a `::`.
@@ -978,7 +978,7 @@ fn parse_turbofish<A: Attributes, E: Value>(
     ensures parses { Parses (knot.turbofish A.reads E.reads) result input.old input.new }
 {
     let begin = input.cursor();
-    turbofish_from::<A, E>(alloc, begin, input)
+    turbofish_from::<A, E>(alloc, &begin, input)
 }
 
 /// Arguments in parentheses by themselves.

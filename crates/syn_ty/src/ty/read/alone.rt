@@ -51,7 +51,7 @@ pub(crate) fn parse_fn_ptr<A: Attributes, E: Value>(
     ensures parses { Parses (knot.fn_ptr A.reads E.reads) result input.old input.new }
 {
     let begin = input.cursor();
-    let lifetimes = optional_binder_from::<A, E>(alloc, begin.again(), input)?;
+    let lifetimes = optional_binder_from::<A, E>(alloc, &begin, input)?;
     Grammar {
         alloc,
         of: PhantomData,
@@ -138,7 +138,7 @@ pub(crate) fn parse_path_type<A: Attributes, E: Value>(
     ensures parses { Parses (knot.path_type A.reads E.reads) result input.old input.new }
 {
     let begin = input.cursor();
-    path_type_from::<A, E>(alloc, begin, input)
+    path_type_from::<A, E>(alloc, &begin, input)
 }
 
 /// `*const T`, `*mut T`

@@ -3,7 +3,6 @@ use Rattle.std.proofs.lemmas.Grind.{common_steps}
 use Rattle.token_core.proofs.Suffixes.{follows}
 use Rattle.syn_forms.specs.declared.places.TypePlace.TheVariants.{Bounded}
 use Rattle.syn_path.proofs.path_laws.Turns.{refused_by}
-use Rattle.syn_ty.specs.generics.Reading.{optional_binder}
 use Rattle.syn_ty.specs.ty.Knot as knot
 use Rattle.syn_ty.proofs.generics_laws.Clauses.{bounds_refused}
 use Rattle.syn_ty.proofs.generics.declared.type_after.Goals as goal
@@ -13,9 +12,8 @@ returns-in_err-bounds g c =
     let e = c.in_err-bounds.field-0.0 in
     let was : c.predicate_bounds.result ≡ Err e = first_of (search rules, grind (arith, common_steps)) in
     let back : c.from_residual-in_err-bounds.result ≡ Err e = first_of (search rules, grind (arith, common_steps)) in
-    let r = knot.reads_below g.A.Attributes.reads g.E.Value.reads (length c.args.begin) in
-    let binder =
-      subst (λ z. optional_binder (knot.reads_below g.A.Attributes.reads g.E.Value.reads (length z)) c.args.input.now ≡ Ok (c.in_ok-lifetimes.lifetimes, c.optional_binder_from.new.input)) c.again.ensures c.in_ok-lifetimes.ensures.parses.0 in
+    let r = knot.reads_below g.A.Attributes.reads g.E.Value.reads (length c.args.begin.now) in
+    let binder = c.in_ok-lifetimes.ensures.parses.0 in
     let typ = knot.ty g.A.Attributes.reads g.E.Value.reads Bounded in
     record {
       parses = (
