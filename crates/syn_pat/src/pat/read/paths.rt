@@ -9,9 +9,7 @@ ghost use Rattle.token_core.specs.Reads.{Parses};
 use crate::grammar::Patterns;
 use crate::pat::read::ranges::{bare_path, parse_after_bound, parse_qpath};
 use crate::pat::read::tokens::{open_braces, sees_call};
-use crate::pat::{
-    Pat, PatRangeBoundOf, PatStruct, PatStructOf, PatTupleStruct, PatTupleStructOf,
-};
+use crate::pat::{Pat, PatRangeBoundOf, PatStruct, PatStructOf, PatTupleStruct, PatTupleStructOf};
 use crate::place::PatPlace;
 use std::alloc::Global;
 use std::marker::PhantomData;

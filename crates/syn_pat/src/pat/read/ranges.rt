@@ -18,7 +18,8 @@ use syn_path::path::PathStyle;
 use syn_path::supplied::{Place, Subtree};
 use syn_ty::path::alone::parse_maybe_qualified;
 use token_core::token::{
-    Brace, Colon, Comma, Const, Crate, DotDot, Eq, If, Lt, Or, PathSep, SelfType, SelfValue, Semi, Super,
+    Brace, Colon, Comma, Const, Crate, DotDot, Eq, If, Lt, Or, PathSep, SelfType, SelfValue, Semi,
+    Super,
 };
 use token_core::{Boxed, Error, ErrorKind, Ident, Items, Lit, ParseStream, RangeLimits};
 
@@ -135,10 +136,7 @@ pub(crate) fn parse_qpath<X: Subtree>(
 
 /// A body in braces, which the supplied subtree reads.
 #[tactic(auto, using(token_core::proofs::Suffixes::follows))]
-fn parse_body<X: Subtree>(
-    alloc: Global,
-    input: &mut ParseStream<'_>,
-) -> Result<(Brace, X), Error>
+fn parse_body<X: Subtree>(alloc: Global, input: &mut ParseStream<'_>) -> Result<(Brace, X), Error>
     ensures parses { Parses (reading.body X.reads) result input.old input.new }
 {
     let (brace_token, mut content) = input.braced(alloc)?;
@@ -222,9 +220,7 @@ fn ended<X: Subtree>(
             Ok(range_of(alloc, start, RangeLimits::HalfOpen(dots), end)?)
         }
         RangeLimits::Closed(dots) => match end {
-            Some(end) => {
-                Ok(range_of(alloc, start, RangeLimits::Closed(dots), Some(end))?)
-            }
+            Some(end) => { Ok(range_of(alloc, start, RangeLimits::Closed(dots), Some(end))?) }
             None => Err(input.refuse(alloc, ErrorKind::RangeWithoutEnd)),
         },
     }

@@ -50,7 +50,8 @@ pub(crate) fn begins_path(input: &ParseStream<'_>) -> bool
         | (sees_self_path(input)
             | (input.peek::<PathSep>()
                 | (input.peek::<Lt>()
-                    | (input.peek::<SelfType>() | (input.peek::<Super>() | input.peek::<Crate>())))))
+                    | (input.peek::<SelfType>()
+                        | (input.peek::<Super>() | input.peek::<Crate>())))))
 }
 
 /// Whether a literal, perhaps after `-`, or a const block begins here.
