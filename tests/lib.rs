@@ -30,6 +30,8 @@ mod plain_type_tests;
 #[cfg(test)]
 mod qualified_tests;
 #[cfg(test)]
+mod signature_tests;
+#[cfg(test)]
 mod type_attr_tests;
 #[cfg(test)]
 mod type_tests;

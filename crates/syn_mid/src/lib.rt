@@ -1,4 +1,4 @@
-//! Paths, macro calls, attributes and plain types of Rust, read from token lists into syntax trees and printed back.
+//! Paths, macro calls, attributes, types, generics and patterns of Rust, read from token lists into syntax trees and printed back.
 #![tactic(auto)]
 
 pub mod attr;
