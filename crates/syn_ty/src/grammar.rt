@@ -139,6 +139,30 @@ pub fn read_bound<A: Attributes, E: Value>(
     <TypeParamBoundOf<A, E> as Held<BoundPlace>>::parse_held(alloc, of, input, place)
 }
 
+/// A parameter.
+pub fn read_param<A: Attributes, E: Value>(
+    alloc: Global,
+    of: PhantomData<GenericParamOf<A, E>>,
+    input: &mut ParseStream<'_>,
+    place: ParamPlace,
+) -> Result<GenericParamOf<A, E>, Error>
+    ensures parses { Parses (knot.param A.reads E.reads place) result input.old input.new }
+{
+    <GenericParamOf<A, E> as Held<ParamPlace>>::parse_held(alloc, of, input, place)
+}
+
+/// An argument in angle brackets.
+pub fn read_argument<A: Attributes, E: Value>(
+    alloc: Global,
+    of: PhantomData<GenericArgumentOf<A, E>>,
+    input: &mut ParseStream<'_>,
+    place: (),
+) -> Result<GenericArgumentOf<A, E>, Error>
+    ensures parses { Parses (knot.argument_in A.reads E.reads place) result input.old input.new }
+{
+    <GenericArgumentOf<A, E> as Held<()>>::parse_held(alloc, of, input, place)
+}
+
 /// The arguments of a segment.
 pub fn read_arguments<A: Attributes, E: Value>(
     alloc: Global,

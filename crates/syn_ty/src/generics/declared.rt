@@ -51,8 +51,7 @@ fn sees_first_param(input: &ParseStream<'_>) -> bool
             | input.peek3::<Eq>())
 }
 
-/// Whether generics begin here, and no qualified type (syn's `choose_generics_over_qpath`). `<`, an identifier and `>` may begin
-/// either, and are taken for generics, which they almost always are.
+/// Whether generics begin here, and no qualified type (syn's `choose_generics_over_qpath`).
 #[tactic(auto, unfolding(crate::specs::generics::Declared::sees_generics))]
 fn sees_generics(input: &ParseStream<'_>) -> bool
     ensures { result ≡ reading.sees_generics input.now.rest }

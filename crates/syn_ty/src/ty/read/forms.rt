@@ -98,7 +98,6 @@ impl<
         ensures parses { Parses (reading.ptr (knot.reads_below A.reads E.reads (length self.now.begin))) result input.old input.new }
         ensures fewer { ahead input.new ≤ ahead input.old }
     {
-        // `*` binds tighter than `+`
         let parts = self.types().ptr(input, TypePlace::NoPlus)?;
         Ok(bare_ptr(self.alloc, parts))
     }
@@ -114,7 +113,6 @@ impl<
         ensures parses { Parses (reading.reference (knot.reads_below A.reads E.reads (length self.now.begin))) result input.old input.new }
         ensures fewer { ahead input.new ≤ ahead input.old }
     {
-        // `&` binds tighter than `+`
         let parts = self.types().reference(input, TypePlace::NoPlus)?;
         Ok(bare_reference(self.alloc, parts))
     }

@@ -34,8 +34,8 @@ use token_core::{Boxed, Cursor, Error, ErrorKind, Lifetime, ParseStream, Punctua
 
 // ---- bounds that were read
 
-/// Bounds of which one names a trait, since lifetimes alone are no type: else they are refused, from a token on up to where the
-/// stream stands. Tokens that are held as they were written name one where `consts` says so.
+/// Bounds of which one names a trait: else they are refused, from a token on up to where the stream stands. Tokens that are held
+/// as they were written name one where `consts` says so.
 #[tactic(auto, unfolding(crate::specs::ty::Reading::needs))]
 fn needs_trait<A: Attributes, E: Value>(
     alloc: Global,
