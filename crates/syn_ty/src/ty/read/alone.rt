@@ -1,9 +1,12 @@
 //! Types and parts of types by themselves: what each holds is read by the knot, further on than it began.
 
+ghost use Rattle.std.specs.Prelude.{◌≤◌, length};
+ghost use Rattle.syn_forms.specs.nested.Below.{ahead};
 ghost use Rattle.syn_ty.specs.ty.Knot as knot;
+ghost use Rattle.syn_ty.specs.ty.Reading as reading;
 ghost use Rattle.token_core.specs.Reads.{Parses};
 
-use crate::generics::TypeParamBoundOf;
+use crate::generics::{BoundLifetimesOf, GenericParamOf, TypeParamBoundOf};
 use crate::generics::read::optional_binder_from;
 use crate::grammar::{Grammar, read_bound, read_type};
 use crate::path::read::path_type_from;
@@ -19,7 +22,7 @@ use std::marker::PhantomData;
 use syn_forms::inputs::parse_optional_name;
 use syn_forms::places::{BoundPlace, TypePlace};
 use syn_path::supplied::{Attributes, Value};
-use token_core::{Error, ParseStream};
+use token_core::{Cursor, Error, ParseStream};
 
 /// `[T; n]`
 #[tactic(auto, unfolding(crate::specs::ty::Knot::array))]
@@ -42,20 +45,20 @@ pub(crate) fn parse_array<A: Attributes, E: Value>(
     .array(input)
 }
 
-/// `for<'a> unsafe extern "C" fn(a: A, ...) -> B`
-#[tactic(auto, using(token_core::proofs::Suffixes::follows, syn_forms::proofs::nested_laws::Ahead::later), unfolding(crate::specs::ty::Knot::fn_ptr, crate::specs::ty::Reading::fn_ptr))]
-pub(crate) fn parse_fn_ptr<A: Attributes, E: Value>(
+/// A pointer to a function after its binder, from a position on.
+fn fn_ptr_after_from<A: Attributes, E: Value>(
     alloc: Global,
+    begin: &Cursor<'_>,
     input: &mut ParseStream<'_>,
+    lifetimes: Option<BoundLifetimesOf<GenericParamOf<A, E>>>,
 ) -> Result<TypeFnPtrOf<A, E>, Error>
-    ensures parses { Parses (knot.fn_ptr A.reads E.reads) result input.old input.new }
+    requires few { ahead input.old ≤ length begin.now }
+    ensures parses { Parses (reading.fn_ptr_after A.reads E.reads (knot.reads_below A.reads E.reads (length begin.now)) lifetimes) result input.old input.new }
 {
-    let begin = input.cursor();
-    let lifetimes = optional_binder_from::<A, E>(alloc, &begin, input)?;
     Grammar {
         alloc,
         of: PhantomData,
-        begin,
+        begin: begin.again(),
         types: read_type::<A, E>,
         bounds: (),
         params: (),
@@ -63,6 +66,32 @@ pub(crate) fn parse_fn_ptr<A: Attributes, E: Value>(
         segments: (),
     }
     .fn_ptr_after(input, lifetimes)
+}
+
+/// A pointer to a function, from a position on.
+#[tactic(auto, using(token_core::proofs::Suffixes::follows, syn_forms::proofs::nested_laws::Ahead::later), unfolding(crate::specs::ty::Reading::fn_ptr))]
+fn fn_ptr_from<A: Attributes, E: Value>(
+    alloc: Global,
+    begin: &Cursor<'_>,
+    input: &mut ParseStream<'_>,
+) -> Result<TypeFnPtrOf<A, E>, Error>
+    requires few { ahead input.old ≤ length begin.now }
+    ensures parses { Parses (reading.fn_ptr A.reads E.reads (knot.reads_below A.reads E.reads (length begin.now))) result input.old input.new }
+{
+    let lifetimes = optional_binder_from::<A, E>(alloc, begin, input)?;
+    fn_ptr_after_from::<A, E>(alloc, begin, input, lifetimes)
+}
+
+/// `for<'a> unsafe extern "C" fn(a: A, ...) -> B`
+#[tactic(auto, unfolding(crate::specs::ty::Knot::fn_ptr))]
+pub(crate) fn parse_fn_ptr<A: Attributes, E: Value>(
+    alloc: Global,
+    input: &mut ParseStream<'_>,
+) -> Result<TypeFnPtrOf<A, E>, Error>
+    ensures parses { Parses (knot.fn_ptr A.reads E.reads) result input.old input.new }
+{
+    let begin = input.cursor();
+    fn_ptr_from::<A, E>(alloc, &begin, input)
 }
 
 /// A type in an invisible group.
