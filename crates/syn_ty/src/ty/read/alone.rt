@@ -6,8 +6,8 @@ ghost use Rattle.syn_ty.specs.ty.Knot as knot;
 ghost use Rattle.syn_ty.specs.ty.Reading as reading;
 ghost use Rattle.token_core.specs.Reads.{Parses};
 
-use crate::generics::{BoundLifetimesOf, GenericParamOf, TypeParamBoundOf};
 use crate::generics::read::optional_binder_from;
+use crate::generics::{BoundLifetimesOf, GenericParamOf, TypeParamBoundOf};
 use crate::grammar::{Grammar, read_bound, read_type};
 use crate::path::read::path_type_from;
 use crate::ty::read::parts::bare_trait_object;
