@@ -9,6 +9,8 @@ mod attr_tests;
 #[cfg(test)]
 mod bound_tests;
 #[cfg(test)]
+mod closure_tests;
+#[cfg(test)]
 mod expr_tests;
 #[cfg(test)]
 mod fn_ptr_tests;
@@ -29,6 +31,8 @@ mod path_tests;
 mod plain_type_tests;
 #[cfg(test)]
 mod qualified_tests;
+#[cfg(test)]
+mod supplied_tests;
 #[cfg(test)]
 mod type_attr_tests;
 #[cfg(test)]
