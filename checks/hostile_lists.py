@@ -516,7 +516,7 @@ class Makes:
         return self.bound(2)
 
     def of_TraitBound(self):
-        return self.trait_bound(2)
+        return self.one(lambda: self.trait_path(2), lambda: f"{self.binder()} {self.trait_path(2)}", lambda: f"? {self.path(2)}")
 
     def of_PreciseCapture(self):
         return self.capture()
@@ -549,7 +549,7 @@ class Makes:
         return self.may("| ") + self.pattern(3) + self.may(lambda: " if " + self.sum(2), 0.6)
 
     def of_PatType(self):
-        return f"{self.attributes()} {self.single(2)} : {self.type(2)}"
+        return f"{self.single(2)} : {self.type(2)}"
 
 
 READERS = tuple(it.removeprefix("of_").replace("__", "::") for it in vars(Makes) if it.startswith("of_"))
@@ -569,7 +569,9 @@ SHAPES = {
     "function pointers with binders": ("Type", "for<'a> fn(", "A", ")", 8),
     "results of function pointers": ("Type", "fn() -> ", "A", "", 4),
     "binders of objects": ("Type", "dyn for<'a> A<", "B", ">", 10),
-    "bounds in parentheses": ("Type", "dyn A<(dyn A + ", "B", ")>", 8),
+    "bounds in parentheses": ("Type", "dyn (A<", "B", ">)", 6),
+    "first bounds in parentheses": ("Type", "(for<'a> A<", "B", ">) + C", 12),
+    "associated types with arguments": ("Type", "A<B<", "C", "> = D>", 8),
     "optional bounds in parentheses": ("TypeParamBound", "(?A<dyn ", "B", ">)", 7),
     "opaque types in arguments": ("Type", "impl A<B = ", "C", ">", 6),
     "constraints in arguments": ("Type", "A<B: ", "C", ">", 5),
@@ -589,11 +591,18 @@ SHAPES = {
     "patterns of tuples": ("Pat::parse_multi", "A(", "x", ")", 3),
     "alternatives": ("Pat::parse_multi", "A | ", "A", "", 2),
     "patterns of references": ("Pat::parse_single", "&", "x", "", 1),
-    "boxed patterns": ("Pat::parse_single", "box ", "x", "", 1),
     "bindings": ("Pat::parse_single", "x @ ", "x", "", 2),
     "fields": ("Pat::parse_single", "S {a: b,", "", "}", 4),
+    "patterns of structs": ("Pat::parse_single", "S {a: ", "x", "}", 6),
+    # each of these holds the one below it as written, so all tokens below are copied at each level
+    "held as written: boxed patterns": ("Pat::parse_single", "box ", "x", "", 1),
+    "held as written: types after lifetimes": ("Type", "unsafe<'a> ", "A", "", 5),
+    "held as written: objects with a star": ("Type", "dyn *A<", "B", ">", 5),
+    "held as written: const bounds": ("Type", "impl const A<", "B", ">", 5),
+    "held as written: first arguments": ("Type", "fn(mut self: ", "A", ")", 7),
 }
-# Of these the part that stands once.
+HELD = "held as written"
+# Of the long ones the part that stands once.
 ONCE = {
     "elements of a tuple": "(",
     "arguments": "A<",

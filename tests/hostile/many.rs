@@ -222,11 +222,22 @@ fn one(
     }
 }
 
+/// The reader of a print: a where clause without predicates prints nothing, which is read as an optional one.
+fn by(reader: Reader) -> Reader {
+    match reader {
+        Reader::Generics(GenericsReader::WhereClause) => {
+            Reader::Generics(GenericsReader::OptionalWhereClause)
+        }
+        _ => reader,
+    }
+}
+
 /// What comes of a print that is read again.
 fn read_again(alloc: Global, reader: Reader, print: &TokenStream, text: &str) -> Came {
     if is_view(reader) {
         return Came::View;
     }
+    let reader = by(reader);
     match reader.reprint(alloc, print) {
         Ok(again) => {
             if !again.same(print) {
