@@ -7,8 +7,7 @@ use crate::nothing::Nothing;
 use std::alloc::{AllocError, Global};
 use syn_mid::meta::{ParseNestedMeta, parser};
 use syn_mid::{
-    Attribute, Macro, Meta, ModStyle, NoArguments, ParseOuter, PathArguments, PathOf,
-    PathSegmentOf,
+    Attribute, Macro, Meta, ModStyle, NoArguments, ParseOuter, PathArguments, PathOf, PathSegmentOf,
 };
 use token_core::token::{Brace, Bracket, Comma, Eq, GroupToken, Paren, Plus, Where};
 use token_core::{
@@ -188,7 +187,12 @@ fn prints(alloc: Global, times: usize) -> Result<Outcome, Error> {
     let text = read_all::<LitStr>(alloc, &lex(alloc, "\"c\"")?)?;
     let life = Lifetime::new(Span::none(), ident(alloc, "b")?);
     let word = ident(alloc, "d")?;
-    let contents = (lex(alloc, "x")?, lex(alloc, "y")?, lex(alloc, "z")?, lex(alloc, "w")?);
+    let contents = (
+        lex(alloc, "x")?,
+        lex(alloc, "y")?,
+        lex(alloc, "z")?,
+        lex(alloc, "w")?,
+    );
     take(alloc, times)?;
     let mut answer = put(alloc, &lit, &mut out, &before);
     if answer.is_ok() {
@@ -204,7 +208,12 @@ fn prints(alloc: Global, times: usize) -> Result<Outcome, Error> {
         answer = put(alloc, &Index::new(7, Span::none()), &mut out, &before);
     }
     if answer.is_ok() {
-        answer = put(alloc, &RangeLimits::HalfOpen(Default::default()), &mut out, &before);
+        answer = put(
+            alloc,
+            &RangeLimits::HalfOpen(Default::default()),
+            &mut out,
+            &before,
+        );
     }
     if answer.is_ok() {
         answer = put(alloc, &Where::default(), &mut out, &before);

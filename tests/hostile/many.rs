@@ -274,7 +274,11 @@ fn is_view(reader: Reader) -> bool {
 }
 
 /// Reads and prints, and says how many nanoseconds that took; 0 where the clock gives none.
-fn timed(rt: &HostRuntime, reader: Reader, tokens: &TokenStream) -> (Result<TokenStream, Error>, u64) {
+fn timed(
+    rt: &HostRuntime,
+    reader: Reader,
+    tokens: &TokenStream,
+) -> (Result<TokenStream, Error>, u64) {
     let begin = Instant::now(rt);
     let answer = reader.reprint(rt.alloc(), tokens);
     let time = match begin {
@@ -340,8 +344,12 @@ fn changed(alloc: Global, changes: &str, tokens: &TokenStream) -> Result<TokenSt
     };
     for word in changes.split(',') {
         match word.strip_prefix('w') {
-            Some(number) => changed.wrapped.push(number.parse::<usize>().unwrap_or(usize::MAX))?,
-            None => changed.turned.push(word.parse::<usize>().unwrap_or(usize::MAX))?,
+            Some(number) => changed
+                .wrapped
+                .push(number.parse::<usize>().unwrap_or(usize::MAX))?,
+            None => changed
+                .turned
+                .push(word.parse::<usize>().unwrap_or(usize::MAX))?,
         }
     }
     changed.list(alloc, tokens)
@@ -392,11 +400,7 @@ impl Changed {
             }
             TokenTree::Group(group) => {
                 let content = self.list(alloc, group.stream())?;
-                Ok(TokenTree::Group(Group::new(
-                    group.delimiter(),
-                    content,
-                    group.delim_span(),
-                )))
+                Ok(TokenTree::Group(Group::new(group.delimiter(), content, group.delim_span())))
             }
             _ => tree.copy(alloc),
         }

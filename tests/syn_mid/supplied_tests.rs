@@ -19,7 +19,13 @@ fn told<T: Drop>(answer: Result<T, Error>, out: &mut String) -> Result<(), Alloc
             if error.kind() == ErrorKind::Custom {
                 write!(out, "own ")?;
             }
-            write!(out, "{} {}-{}", error.text(), error.start().lo, error.end().hi)?;
+            write!(
+                out,
+                "{} {}-{}",
+                error.text(),
+                error.start().lo,
+                error.end().hi
+            )?;
         }
     }
     Ok(())
@@ -45,17 +51,72 @@ fn says_no<T: Drop>(rt: &impl Abort, alloc: Global, answer: Result<T, Error>, pl
 #[test]
 fn a_supplied_refusal_comes_out_as_it_is(rt: HostRuntime) {
     let alloc = rt.alloc();
-    says_no(&rt, alloc, of::<Type<Nothing>>(alloc, "[u8; a]"), "own no 5-6");
-    says_no(&rt, alloc, of::<Type<Nothing>>(alloc, "Vec<(A, [u8; a b])>"), "own no 13-14");
-    says_no(&rt, alloc, of::<Path<Nothing>>(alloc, "A<{ b }>"), "own no 4-5");
-    says_no(&rt, alloc, of::<GenericArgument<Nothing>>(alloc, "A = { b }"), "own no 6-7");
-    says_no(&rt, alloc, of::<Meta<Nothing>>(alloc, "k = a"), "own no 4-5");
-    says_no(&rt, alloc, of::<MetaNameValue<Nothing>>(alloc, "k = a b"), "own no 4-5");
-    says_no(&rt, alloc, of::<ConstParam<Nothing>>(alloc, "const N: A = { b }"), "own no 15-16");
-    says_no(&rt, alloc, of::<Generics<Nothing>>(alloc, "<T, #[k = a] U>"), "own no 10-11");
-    says_no(&rt, alloc, of::<WhereClause<Nothing>>(alloc, "where [A; b]: C"), "own no 10-11");
-    says_no(&rt, alloc, by(alloc, ParseSingle::<Nothing>::new(), "const { a }"), "own no 8-9");
-    says_no(&rt, alloc, by(alloc, ParseMulti::<Nothing>::new(), "x | (y, const { a })"), "own no 16-17");
+    says_no(
+        &rt,
+        alloc,
+        of::<Type<Nothing>>(alloc, "[u8; a]"),
+        "own no 5-6",
+    );
+    says_no(
+        &rt,
+        alloc,
+        of::<Type<Nothing>>(alloc, "Vec<(A, [u8; a b])>"),
+        "own no 13-14",
+    );
+    says_no(
+        &rt,
+        alloc,
+        of::<Path<Nothing>>(alloc, "A<{ b }>"),
+        "own no 4-5",
+    );
+    says_no(
+        &rt,
+        alloc,
+        of::<GenericArgument<Nothing>>(alloc, "A = { b }"),
+        "own no 6-7",
+    );
+    says_no(
+        &rt,
+        alloc,
+        of::<Meta<Nothing>>(alloc, "k = a"),
+        "own no 4-5",
+    );
+    says_no(
+        &rt,
+        alloc,
+        of::<MetaNameValue<Nothing>>(alloc, "k = a b"),
+        "own no 4-5",
+    );
+    says_no(
+        &rt,
+        alloc,
+        of::<ConstParam<Nothing>>(alloc, "const N: A = { b }"),
+        "own no 15-16",
+    );
+    says_no(
+        &rt,
+        alloc,
+        of::<Generics<Nothing>>(alloc, "<T, #[k = a] U>"),
+        "own no 10-11",
+    );
+    says_no(
+        &rt,
+        alloc,
+        of::<WhereClause<Nothing>>(alloc, "where [A; b]: C"),
+        "own no 10-11",
+    );
+    says_no(
+        &rt,
+        alloc,
+        by(alloc, ParseSingle::<Nothing>::new(), "const { a }"),
+        "own no 8-9",
+    );
+    says_no(
+        &rt,
+        alloc,
+        by(alloc, ParseMulti::<Nothing>::new(), "x | (y, const { a })"),
+        "own no 16-17",
+    );
     let guarded = ParseMultiWithLeadingVertAndGuard::<Nothing>::new();
     says_no(&rt, alloc, by(alloc, guarded, "x if a"), "own no 5-6");
     let outer = by(alloc, ParseOuter::<Nothing>::new(), "#[a] #[k = a]");
