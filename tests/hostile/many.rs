@@ -43,7 +43,8 @@ enum Came {
     OutOfMemory,
     /// The reader refused the list.
     Refused,
-    /// It was read and printed; the print was read again to the same print, and so was the text of the print.
+    /// It was read and printed; the print was read again to the same print, and so was the text of the print, where the list is that of a text
+    /// (a joint mark that no mark follows has none).
     Again,
     /// So it was, but the print is a view, which no reader reads.
     View,
@@ -216,7 +217,13 @@ fn one(
         }
         Ok(print) => {
             let text = text_of(alloc, &print)?;
-            let came = read_again(alloc, reader, &print, text.as_str());
+            let came = read_again(
+                alloc,
+                reader,
+                &print,
+                text.as_str(),
+                line.changes.is_empty(),
+            );
             Ok(put(alloc, shows, came, time, text.as_str(), out)?)
         }
     }
@@ -233,7 +240,13 @@ fn by(reader: Reader) -> Reader {
 }
 
 /// What comes of a print that is read again.
-fn read_again(alloc: Global, reader: Reader, print: &TokenStream, text: &str) -> Came {
+fn read_again(
+    alloc: Global,
+    reader: Reader,
+    print: &TokenStream,
+    text: &str,
+    is_of_text: bool,
+) -> Came {
     if is_view(reader) {
         return Came::View;
     }
@@ -245,6 +258,9 @@ fn read_again(alloc: Global, reader: Reader, print: &TokenStream, text: &str) ->
             }
         }
         Err(_) => return Came::PrintRefused,
+    }
+    if !is_of_text {
+        return Came::Again;
     }
     let Ok(tokens) = lex(alloc, text) else {
         return Came::TextDiffers;
