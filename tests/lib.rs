@@ -9,6 +9,8 @@ mod attr_tests;
 #[cfg(test)]
 mod bound_tests;
 #[cfg(test)]
+mod closure_tests;
+#[cfg(test)]
 mod expr_tests;
 #[cfg(test)]
 mod fn_ptr_tests;
@@ -31,6 +33,7 @@ mod plain_type_tests;
 mod qualified_tests;
 #[cfg(test)]
 mod signature_tests;
+mod supplied_tests;
 #[cfg(test)]
 mod type_attr_tests;
 #[cfg(test)]
