@@ -33,3 +33,5 @@ mod qualified_tests;
 mod type_attr_tests;
 #[cfg(test)]
 mod type_tests;
+#[cfg(test)]
+mod verbatim_tests;

@@ -193,6 +193,4 @@ pub begins-attribute : (l : Toks) → (token.sees_pound l && second (sees_group 
 unfolding sees_mark after_one
 begins-attribute l = ahead (front l)
 
-pub ruleset alone = (alone-none, alone-read)
-
 pub ruleset begun = (begins-attribute)

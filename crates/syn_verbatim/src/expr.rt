@@ -27,7 +27,6 @@ pub struct VerbatimExpr {
 }
 
 /// Whether all that is left is one literal.
-#[tactic(auto, using(crate::specs::Likes::alone))]
 fn is_lone_literal(alloc: Global, input: &ParseStream<'_>) -> Result<bool, Error>
     ensures { Reads (peek (λ l. lone_literal (front l)) input.now) result input.now }
 {
