@@ -19,6 +19,8 @@ mod lists;
 #[cfg(test)]
 mod mac_tests;
 #[cfg(test)]
+mod mod_path_tests;
+#[cfg(test)]
 mod nothing;
 #[cfg(test)]
 mod object_tests;
