@@ -9,6 +9,7 @@ pub mod pat;
 pub mod path;
 pub mod supplied;
 pub mod ty;
+pub mod verbatim;
 pub mod whole;
 
 pub use attr::AttrStyle;
@@ -128,6 +129,7 @@ pub use supplied::ExprRange;
 pub use supplied::Place;
 pub use supplied::Subtree;
 pub use supplied::Value;
+pub use supplied::VerbatimExpr;
 pub use ty::Abi;
 pub use ty::FnPtrVariadic;
 pub use ty::FnPtrVariadicOf;

@@ -7,8 +7,6 @@ ghost use Rattle.synmid.specs.declared.fault.Fault.{Fault};
 #[cfg(test)]
 mod attr_tests;
 mod channel;
-#[cfg(test)]
-mod derive_tests;
 mod fault;
 #[cfg(test)]
 mod form_tests;

@@ -2,10 +2,9 @@
 
 ghost use Rattle.token_core.specs.Reads.{Follows};
 
-use crate::attr_tests::says;
-use crate::sample::Sample;
+use crate::verbatim_tests::says;
 use std::alloc::{AllocError, Global};
-use syn_mid::{Generics, WhereClause};
+use syn_mid::verbatim::{Generics, WhereClause};
 use token_core::token::{For, Impl};
 use token_core::{ByFn, Error, Ident, ParseStream, ToTokens, TokenStream, read_all_with};
 use token_text::{lex, text_of};
@@ -14,7 +13,7 @@ use token_text::{lex, text_of};
 #[derive(Drop)]
 struct Declared {
     name: Ident,
-    generics: Generics<Sample>,
+    generics: Generics,
 }
 
 /// Reads a name, its generics, and a where clause that may be there.
@@ -23,7 +22,7 @@ fn parse_declared(alloc: Global, input: &mut ParseStream<'_>) -> Result<Declared
     ensures { Follows input.old input.new }
 {
     let name = input.parse::<Ident>(alloc)?;
-    let mut generics = input.parse::<Generics<Sample>>(alloc)?;
+    let mut generics = input.parse::<Generics>(alloc)?;
     generics.where_clause = WhereClause::parse_optional(alloc, input)?;
     Ok(Declared { name, generics })
 }
@@ -71,6 +70,10 @@ fn heads_are_derived(rt: HostRuntime) {
         (
             "Row<'a, #[x] T: 'a, const N: usize = 2> where [T; N]: Show, 'a: 'a",
             "impl < 'a , # [x] T : 'a , const N : usize > Show for Row < 'a , T , N > where [T ; N] : Show , 'a : 'a",
+        ),
+        (
+            "Grid<const N: usize = { 2 * 8 }> where [u8; N * N + 1]: Sized",
+            "impl < const N : usize > Show for Grid < N > where [u8 ; N * N + 1] : Sized",
         ),
         ("Set<T> where", "impl < T > Show for Set < T >"),
         (
