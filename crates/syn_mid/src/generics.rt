@@ -2,8 +2,9 @@
 
 pub use syn_names::{
     BoundLifetimes, ConstParam, ConstParams, ConstParamsMut, GenericParam, Generics, ImplGenerics,
-    LifetimeParam, Lifetimes, LifetimesMut, PredicateLifetime, PredicateType, TraitBound, Turbofish,
-    TypeGenerics, TypeParam, TypeParamBound, TypeParams, TypeParamsMut, WhereClause, WherePredicate,
+    LifetimeParam, Lifetimes, LifetimesMut, PredicateLifetime, PredicateType, TraitBound,
+    Turbofish, TypeGenerics, TypeParam, TypeParamBound, TypeParams, TypeParamsMut, WhereClause,
+    WherePredicate,
 };
 pub use syn_ty::generics::{
     BoundLifetimesOf, CapturedParam, ConstParamOf, GenericParamOf, GenericsOf, ImplGenericsOf,

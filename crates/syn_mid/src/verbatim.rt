@@ -67,6 +67,24 @@ pub type TypeGenerics<'a> = crate::generics::TypeGenerics<'a, VerbatimExpr>;
 /// The parameters by their names, after `::`.
 pub type Turbofish<'a> = crate::generics::Turbofish<'a, VerbatimExpr>;
 
+/// The lifetime parameters of generics.
+pub type Lifetimes<'a> = crate::generics::Lifetimes<'a, VerbatimExpr>;
+
+/// The same, to be written to.
+pub type LifetimesMut<'a> = crate::generics::LifetimesMut<'a, VerbatimExpr>;
+
+/// The type parameters of generics.
+pub type TypeParams<'a> = crate::generics::TypeParams<'a, VerbatimExpr>;
+
+/// The same, to be written to.
+pub type TypeParamsMut<'a> = crate::generics::TypeParamsMut<'a, VerbatimExpr>;
+
+/// The const parameters of generics.
+pub type ConstParams<'a> = crate::generics::ConstParams<'a, VerbatimExpr>;
+
+/// The same, to be written to.
+pub type ConstParamsMut<'a> = crate::generics::ConstParamsMut<'a, VerbatimExpr>;
+
 // ---- paths and their arguments
 
 /// A path whose segments may have arguments, as in a type.

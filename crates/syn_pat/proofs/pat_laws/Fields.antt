@@ -8,6 +8,7 @@ use Rattle.syn_path.specs.declared.supplied.Place.{Place}
 use Rattle.syn_ty.specs.ty.Types.{Comma}
 use Rattle.token_core.specs.Loops.{Many, onto, size}
 use Rattle.token_core.specs.Reads.{Outcome, Reader, and_then, ◌>>=◌, ◌<$>◌, is_done, pure}
+use Rattle.token_core.specs.Refusal.{Refusal}
 use Rattle.token_core.specs.Stream.{Stream}
 use Rattle.token_core.specs.Tokens as token
 
@@ -125,3 +126,7 @@ module _ {X : Type 0} (supplied : Place → Reader X) (r : Readers X) where
   -- the fields end in one without a comma
   pub told_last : (o : Outcome (Fields X)) (v w : Many (FieldPat X) Comma) (s t u : Stream) (a : Attrs X) (x : FieldPat X) → Told o v s → Fielded s t u a x → is_done u.rest ≡ true → w ≡ (v.0 ++ x ∷ [], v.1) → o ≡ Ok ((w, None), u)
   told_last o v w s t u a x i h k e = i.told ∙ last i.turns v s t u a x h k ∙ ap (λ z. Ok ((z, None), u)) (sym e)
+
+  -- the comma behind a field is refused
+  pub told_refused : (o : Outcome (Fields X)) (v : Many (FieldPat X) Comma) (s t u : Stream) (a : Attrs X) (x : FieldPat X) (e : Refusal) → Told o v s → Fielded s t u a x → is_done u.rest ≡ false → comma u ≡ Err e → o ≡ Err e
+  told_refused o v s t u a x e i h k g = i.told ∙ marked i.turns v s t u a x h k ∙ ap (λ (z : Outcome Comma). begun v (and_then z (after_comma i.turns x))) g

@@ -1,7 +1,8 @@
-use Rattle.std.proofs.Common.{◌≡◌, ◌<◌, true, false, ◌++◌, ◌∷◌, [], length, sym, subst, rules, arith}
+use Rattle.std.proofs.Common.{◌≡◌, ◌<◌, Err, true, false, ◌++◌, ◌∷◌, [], length, sym, subst, rules, arith}
 use Rattle.std.proofs.lemmas.Grind.{common_steps}
 use Rattle.syn_forms.proofs.nested_laws.Ahead.{ahead_follows, fewer_tokens}
-use Rattle.syn_pat.proofs.pat_laws.Fields.{Told, start, told_over, told_ended, told_last, next}
+use Rattle.syn_path.proofs.path_laws.Turns.{refused_by}
+use Rattle.syn_pat.proofs.pat_laws.Fields.{Told, start, told_over, told_ended, told_last, told_refused, next}
 use Rattle.syn_pat.specs.pat.Knot.{pats_below}
 use Rattle.syn_pat.specs.pat.Reading.{fields}
 use Rattle.token_core.specs.Loops.{size}
@@ -96,4 +97,23 @@ turn-preserved g c =
       whole = grind (arith, common_steps);
       few = omega (arith, few, le, taken);
       within = grind (arith, follows);
+    }
+
+pub returns-in_err-parse_comma : goal.returns-in_err-parse_comma
+returns-in_err-parse_comma g c =
+    let supplied = g.X.Subtree.reads in
+    let r = pats_below supplied (length c.args.self.now.begin) in
+    let e = c.in_err-parse_comma.field-0.0 in
+    let goes : is_done c.turn.input.rest ≡ false = first_of (search rules, grind (arith, common_steps)) in
+    let undotted : sees_dot_dot c.parse_outer.new.input.rest ≡ false = first_of (search rules, grind (arith, common_steps)) in
+    let more : is_done c.field.new.input.rest ≡ false = first_of (search rules, grind (arith, common_steps)) in
+    let was : c.parse_comma.result ≡ Err e = first_of (search rules, grind (arith, common_steps)) in
+    let back : c.from_residual-in_err-parse_comma.result ≡ Err e = first_of (search rules, grind (arith, common_steps)) in
+    record {
+      parses = (
+        refused_by _ _ _ _ _ _ e was back c.parse_comma.ensures.parses.0
+            (λ h. told_refused supplied r (fields supplied r c.args.input.now) c.turn.list c.turn.input c.parse_outer.new.input c.field.new.input c.in_ok-attrs.attrs c.in_ok-field.field e
+            c.turn.invariant.told (record { bears = record { goes = goes; reads = c.in_ok-attrs.ensures.parses.0 }; no_dots = undotted; reads = c.in_ok-field.ensures.parses.0 }) more h),
+        grind (arith, follows),
+      );
     }
