@@ -1,5 +1,5 @@
 -- Which lists a pattern spells in its place: every form.
-use Rattle.std.specs.Prelude.{◌≡◌, Bool, true, false, not, List, [], ◌∷◌, Option, Some, None}
+use Rattle.std.specs.Prelude.{◌≡◌, Bool, true, false, List, [], ◌∷◌, Option, Some, None}
 use Rattle.token_core.specs.declared.lit.Lit.{Lit}
 use Rattle.token_core.specs.declared.member.Member.{Member}
 use Rattle.token_core.specs.declared.member.Member.TheVariants as member
@@ -25,7 +25,7 @@ use Rattle.syn_ty.specs.ty.Types.{Comma}
 use Rattle.syn_pat.specs.declared.pat.PatOf.TheVariants as v
 use Rattle.syn_pat.specs.declared.place.PatPlace.{PatPlace}
 use Rattle.syn_pat.specs.declared.place.PatPlace.TheVariants.{Single, Multi, LeadingVert, Element}
-use Rattle.syn_pat.specs.pat.Pats.{Attrs, FieldPat, Pat, PatIdent, PatRange, PatReference, PatRest, PatSlice, PatStruct, PatTupleStruct, binding_of, field_of, is_rest, or_of, paren_of, path_pat_of, reference_of, rest_of, slice_of, struct_of, tuple_of, tuple_struct_of, wild_of}
+use Rattle.syn_pat.specs.pat.Pats.{Attrs, FieldPat, Pat, PatIdent, PatRange, PatRest, binding_of, field_of, is_rest, or_of, paren_of, path_pat_of, reference_of, rest_of, slice_of, struct_of, tuple_of, tuple_struct_of, wild_of}
 use Rattle.syn_pat.specs.pat.Reading.{open_range}
 use Rattle.syn_pat.specs.pat.Spelling.{outer_spelt, is_binding, is_binding_name, lone_word, IsConstBlock, IsHead, IsPatCall, IsPatPath, IsRange}
 use Rattle.token_core.specs.Tokens as token
@@ -46,6 +46,28 @@ allows_vert Multi = false
 allows_vert LeadingVert = true
 allows_vert Element = true
 
+-- ---- patterns that stand alone in their group, and elements
+
+module _ {X : Type 0} where
+  -- one element without a comma is in parentheses, unless it is `..`
+  abbrev pub is_tuple : List (Pat X) → List Comma → Bool
+  is_tuple (x ∷ []) [] = is_rest x
+  is_tuple xs cs = true
+
+  -- an element of a slice is not itself a range without start or end
+  abbrev pub Fits : PatPlace → Pat X → Type 0
+  Fits Single x = Unit {0}
+  Fits Multi x = Unit {0}
+  Fits LeadingVert x = Unit {0}
+  Fits Element x = open_range x ≡ None
+
+-- ---- held verbatim in a field
+
+-- `box`, perhaps `ref`, perhaps `mut`, and the name: there is no tree for it
+pub data IsBoxedName : Ident → Toks → Toks → Type 0 where
+  a_boxed_name : {b : token.Box} {f : Option token.Ref} {u : Option token.Mut} {i : Ident} {l m n r : Toks} →
+      IsWord b l m → IsOptional IsWord f m n → IsOptional IsWord u n (word i r) → is_ident i.text ≡ true → IsBoxedName i l r
+
 -- what a supplied subtree spells in a place is given, and what a pattern spells within another
 module _ {X : Type 0} (spells : Place → X → Toks → Type 0) (part : Manner → PatPlace → Relation (Pat X)) (how : Manner) where
   -- ---- bindings
@@ -59,11 +81,6 @@ module _ {X : Type 0} (spells : Place → X → Toks → Type 0) (part : Manner 
         IsOptional IsWord f l m → IsOptional IsWord u m (word i n) → is_binding_name i.text ≡ true → IsOptional IsSubpat s n r → IsBinding (binding_of [] f u i s) l r
 
   -- ---- the fields of a struct
-
-  -- `box`, perhaps `ref`, perhaps `mut`, and the name: there is no tree for it
-  pub data IsBoxedName : Ident → Toks → Toks → Type 0 where
-    a_boxed_name : {b : token.Box} {f : Option token.Ref} {u : Option token.Mut} {i : Ident} {l m n r : Toks} →
-        IsWord b l m → IsOptional IsWord f m n → IsOptional IsWord u n (word i r) → is_ident i.text ≡ true → IsBoxedName i l r
 
   pub data IsField : FieldPat X → Toks → Toks → Type 0 where
     with_colon : {a : Attrs X} {n : Member} {c : token.Colon} {x : Pat X} {l m k j r : Toks} →
@@ -84,11 +101,6 @@ module _ {X : Type 0} (spells : Place → X → Toks → Type 0) (part : Manner 
   -- all of what a group holds: patterns joined by commas, of which there may be none and the last may have its comma
   abbrev pub AreElements : PatPlace → List (Pat X) → List Comma → Toks → Type 0
   AreElements place xs cs c = AreListed (λ (_ : Bool). part how place) (IsMark (is_clear how)) Anywhere true xs cs c done
-
-  -- one element without a comma is in parentheses, unless it is `..`
-  abbrev pub is_tuple : List (Pat X) → List Comma → Bool
-  is_tuple (x ∷ []) [] = is_rest x
-  is_tuple xs cs = true
 
   -- ---- a single pattern
 
@@ -122,13 +134,6 @@ module _ {X : Type 0} (spells : Place → X → Toks → Type 0) (part : Manner 
   pub data AreCases : List (Pat X) → List token.Bar → Toks → Toks → Type 0 where
     cases : {x : Pat X} {c : token.Bar} {xs : List (Pat X)} {cs : List token.Bar} {l m n r : Toks} →
         IsSingle x l m → IsMark (is_clear how) c m n → AreListed (λ (_ : Bool). part how Single) (IsMark (is_clear how)) Nowhere true xs cs n r → AreCases (x ∷ xs) (c ∷ cs) l r
-
-  -- an element of a slice is not itself a range without start or end
-  abbrev pub Fits : PatPlace → Pat X → Type 0
-  Fits Single x = Unit {0}
-  Fits Multi x = Unit {0}
-  Fits LeadingVert x = Unit {0}
-  Fits Element x = open_range x ≡ None
 
   pub data IsPat (place : PatPlace) : Pat X → Toks → Toks → Type 0 where
     a_single : {x : Pat X} {l r : Toks} → IsSingle x l r → Fits place x → IsPat place x l r

@@ -1,5 +1,5 @@
 -- Which lists the parts of patterns spell that hold no pattern: paths, macro calls, const blocks and ranges.
-use Rattle.std.specs.Prelude.{◌≡◌, ◌||◌, ℕ, Bool, true, false, List, [], Option, Some, None}
+use Rattle.std.specs.Prelude.{◌≡◌, ◌||◌, ℕ, Bool, true, false, [], Option, Some, None}
 use Rattle.token_core.specs.declared.lit.Lit.{Lit}
 use Rattle.token_core.specs.declared.range.RangeLimits.{RangeLimits}
 use Rattle.token_core.specs.declared.range.RangeLimits.TheVariants as limits
@@ -71,7 +71,7 @@ module _ {X : Type 0} (spells : Place → X → Toks → Type 0) where
   module _ (how : Manner) where
     -- a path in the style of expressions, which a type may qualify, and which does not begin with `try`
     pub data IsPatPath : Option (QSelf (Attr X) (Expr X)) → Path (Attr X) (Expr X) → Toks → Toks → Type 0 where
-      a_pat_path : {n : ℕ} {q : Option (QSelf (Attr X) (Expr X))} {p : Path (Attr X) (Expr X)} {l r : Toks} → IsNoTry (types_to n) how expressions q p l r → IsPatPath q p l r
+      a_pat_path : {q : Option (QSelf (Attr X) (Expr X))} {p : Path (Attr X) (Expr X)} {l r : Toks} → (n : ℕ) → IsNoTry (types_to n) how expressions q p l r → IsPatPath q p l r
 
     -- one that is not `self` alone
     abbrev pub IsHead : Option (QSelf (Attr X) (Expr X)) → Path (Attr X) (Expr X) → Toks → Toks → Type 0

@@ -35,10 +35,10 @@ module _ {X : Type 0} (spells : Place → X → Toks → Type 0) where
     -- with leading vert, and perhaps `if` and a guard, which spells all that is left
     pub data SpellsGuarded : Pat X → Toks → Type 0 where
       without_guard : {x : Pat X} {l : Toks} → SpellsPat LeadingVert how x l → SpellsGuarded x l
-      with_guard : {n : ℕ} {x : Pat X} {w : token.If} {g : X} {l m k : Toks} →
-          IsPat spells (pats_to n) how LeadingVert x l m → IsWord w m k → spells Guard g k → SpellsGuarded (v.Guard (guard_of [] x w (e.Other g))) l
+      with_guard : {x : Pat X} {w : token.If} {g : X} {l m k : Toks} →
+          (n : ℕ) → IsPat spells (pats_to n) how LeadingVert x l m → IsWord w m k → spells Guard g k → SpellsGuarded (v.Guard (guard_of [] x w (e.Other g))) l
 
     -- a single pattern, `:` and a type with plus
     pub data SpellsPatType : PatType X → Toks → Type 0 where
-      a_pat_type : {n k : ℕ} {x : Pat X} {c : token.Colon} {f : End} {t : TypeTree (Attr X) (Expr X)} {l m j : Toks} →
-          IsPat spells (pats_to n) how Single x l m → IsMark (is_clear how) c m j → (types_to spells k how).ty Plus f t j done → SpellsPatType (typed_of [] x c t) l
+      a_pat_type : {x : Pat X} {c : token.Colon} {t : TypeTree (Attr X) (Expr X)} {l m j : Toks} →
+          (n k : ℕ) → (f : End) → IsPat spells (pats_to n) how Single x l m → IsMark (is_clear how) c m j → (types_to spells k how).ty Plus f t j done → SpellsPatType (typed_of [] x c t) l

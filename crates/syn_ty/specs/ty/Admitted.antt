@@ -14,7 +14,6 @@ use Rattle.token_core.specs.Spellings.{IsMark, IsWord, IsLifetime}
 use Rattle.token_core.specs.Toks.{Toks, done, word, group}
 use Rattle.syn_path.specs.declared.mac.Macro.{Macro}
 use Rattle.syn_path.specs.declared.path.PathStyle.TheVariants.{AsWritten}
-use Rattle.syn_path.specs.mac.Macros.{Bang}
 use Rattle.syn_path.specs.mac.Spelling.{IsCall}
 use Rattle.syn_forms.specs.declared.places.TypePlace.{TypePlace}
 use Rattle.syn_forms.specs.declared.places.TypePlace.TheVariants.{Plus, NoPlus}

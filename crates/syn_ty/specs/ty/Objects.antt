@@ -1,5 +1,5 @@
 -- Which lists the bounds after `dyn` and `impl` spell, and those of a trait object without `dyn`.
-use Rattle.std.specs.Prelude.{◌≡◌, Bool, true, false, List, [], ◌∷◌, Option, Some, None}
+use Rattle.std.specs.Prelude.{◌≡◌, true, false, List, [], ◌∷◌, Option, Some, None}
 use Rattle.std.specs.List.{list_any}
 use Rattle.token_core.specs.declared.span.DelimSpan.{DelimSpan}
 use Rattle.token_core.specs.declared.tree.Delimiter.TheVariants.{Parenthesis}

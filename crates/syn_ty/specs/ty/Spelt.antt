@@ -1,8 +1,7 @@
 -- Which lists the trees of this layer spell: the relations tied, by the height of a tree, and for each reader all of a list. No list here has an invisible group.
-use Rattle.std.specs.Prelude.{◌≡◌, ℕ, zero, suc, Bool, true, false, List, [], Option}
+use Rattle.std.specs.Prelude.{ℕ, zero, suc, Bool, false, List, [], Option}
 use Rattle.token_core.specs.Toks.{Toks, done}
 use Rattle.syn_path.specs.Values.{SpelledValues}
-use Rattle.syn_path.specs.declared.path.PathStyle.{PathStyle}
 use Rattle.syn_path.specs.declared.path.PathStyle.TheVariants.{AsWritten, Expr}
 use Rattle.syn_forms.specs.declared.places.BoundPlace.TheVariants.{Opaque}
 use Rattle.syn_forms.specs.declared.places.ParamPlace.TheVariants.{Binder}
