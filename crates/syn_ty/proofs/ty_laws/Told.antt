@@ -46,7 +46,7 @@ abbrev pub Told : {A : Type 0} → (End → Relation A) → Relation A
 Told Is x l r = (e : End) × Is e x l r × (e.is_open ≡ true → token.sees_plus r ≡ false)
 
 -- what is closed is not open
-never_open : {P : Type 0} → closed.is_open ≡ true → P
+pub never_open : {P : Type 0} → closed.is_open ≡ true → P
 never_open h = cc h
 
 -- ---- bounds joined by `+`
@@ -60,7 +60,7 @@ both true h k = cc k
 both false h k = cc h
 
 -- a bound that a `+` follows is not open
-before_plus : (e : End) (p : token.Plus) (m k : Toks) → (e.is_open ≡ true → token.sees_plus m ≡ false) → IsMark false p m k → e.is_open ≡ false
+pub before_plus : (e : End) (p : token.Plus) (m k : Toks) → (e.is_open ≡ true → token.sees_plus m ≡ false) → IsMark false p m k → e.is_open ≡ false
 before_plus e p m k o i = not_true e.is_open (λ h. both (token.sees_plus m) (mark_seen false {n = 20} {k = 1} p m k i) (o h))
 
 module _ {A E : Type 0} (part : Manner → Parts A E) (place : BoundPlace) (Ends : Bool → Type 0) where
