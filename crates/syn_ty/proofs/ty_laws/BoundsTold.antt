@@ -1,5 +1,5 @@
 -- Where bounds joined by `+` are read, they are spelt, one that a `+` follows is not open, and where the last is open no `+` follows; and so it is after `impl`.
-use Rattle.std.proofs.Common.{◌≡◌, ℕ, zero, suc, Bool, true, false, List, [], ◌∷◌, None, Ok, inl, inr, refl, sym, ◌∙◌, subst, arith}
+use Rattle.std.proofs.Common.{◌≡◌, ℕ, zero, suc, Bool, true, false, [], ◌∷◌, None, Ok, inl, inr, refl, sym, ◌∙◌, subst, arith}
 use Rattle.std.specs.List.{list_any}
 use Rattle.token_core.specs.declared.error.ErrorKind.TheVariants.{NoTraitInImpl}
 use Rattle.token_core.specs.declared.span.Span.{Span}
@@ -7,7 +7,7 @@ use Rattle.token_core.specs.Listed.{AfterMark}
 use Rattle.token_core.specs.Loops.{Many, size, listed_from, listed}
 use Rattle.token_core.specs.Reads.{Reader, ◌>>=◌, here, pure}
 use Rattle.token_core.specs.Rebuilt.{Visible}
-use Rattle.token_core.specs.Spellings.{IsMark, IsWord}
+use Rattle.token_core.specs.Spellings.{IsWord}
 use Rattle.token_core.specs.Stream.{Stream}
 use Rattle.token_core.specs.Tokens as token
 use Rattle.token_core.specs.Toks.{Toks}
@@ -23,7 +23,7 @@ use Rattle.syn_forms.specs.lists.Reading.{stops_bound}
 use Rattle.syn_forms.specs.verbatim.Reading.{refuse_since}
 use Rattle.syn_ty.specs.generics.Bounds.{AreBounds, no_bounds, last_plus, last_bound, bound_and_plus}
 use Rattle.syn_ty.specs.ty.Objects.{several_bounds, IsImpl, an_impl}
-use Rattle.syn_ty.specs.ty.Parts.{Manner, loosely, End, closed, after_plus, going_on, Parts}
+use Rattle.syn_ty.specs.ty.Parts.{Manner, loosely, closed, after_plus, going_on, Parts}
 use Rattle.syn_ty.specs.ty.Points.{Readers, a_bound}
 use Rattle.syn_ty.specs.ty.Reading as reading
 use Rattle.syn_ty.specs.ty.Reading.{names_trait}

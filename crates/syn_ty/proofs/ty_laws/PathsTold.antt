@@ -1,9 +1,9 @@
 -- Where paths and arguments in angle brackets are read, they are spelt by the rules of the whole grammar, over the same law of arguments.
-use Rattle.std.proofs.Common.{◌≡◌, Bool, true, false, not, ◌&&◌, ◌||◌, if◌then◌else◌, List, Option, Some, None, Ok, inl, inr, refl, sym, ◌∙◌, ap, subst, arith}
+use Rattle.std.proofs.Common.{◌≡◌, Bool, true, false, ◌&&◌, ◌||◌, Option, None, Ok, inl, inr, refl, sym, ◌∙◌, ap, subst, arith}
 use Rattle.token_core.specs.declared.tree.Ident.{Ident}
-use Rattle.token_core.specs.Listed.{AreListed, Anywhere, Nowhere}
-use Rattle.token_core.specs.Loops.{Many, joined, terminated, never}
-use Rattle.token_core.specs.Reads.{Reader, any_text, ident_name, optional, peek, pure, read_word, sees_word, ◌>>=◌, ◌<$>◌}
+use Rattle.token_core.specs.Listed.{AreListed, Nowhere}
+use Rattle.token_core.specs.Loops.{Many, never}
+use Rattle.token_core.specs.Reads.{Reader, any_text, ident_name, optional, pure, read_word, sees_word, ◌>>=◌, ◌<$>◌}
 use Rattle.token_core.specs.Rebuilt.{Visible}
 use Rattle.token_core.specs.Spellings.{IsMark}
 use Rattle.token_core.specs.Stream.{Stream}
@@ -18,15 +18,13 @@ use Rattle.syn_path.specs.declared.path.PathStyle.{PathStyle}
 use Rattle.syn_path.specs.declared.path.PathStyle.TheVariants.{AsWritten, Expr}
 use Rattle.syn_path.specs.path.Paths.{path_of, segment_of}
 use Rattle.syn_path.specs.path.Reading.{leading}
-use Rattle.syn_forms.specs.heads.Reading as heads
 use Rattle.syn_forms.specs.paths.Reading as paths
 use Rattle.syn_forms.specs.paths.Reading.{is_bare_word, is_named_word, sees_arguments, sees_turbofish, with_arguments}
 use Rattle.syn_forms.proofs.tokens_laws.Fronts.{plainly}
 use Rattle.syn_ty.specs.path.Paths.{Sep, no_arguments}
-use Rattle.syn_ty.specs.path.Spelling.{Styled, is_segment_word, IsSegment, a_word, a_word_with_arguments, IsPath, a_path}
+use Rattle.syn_ty.specs.path.Spelling.{Styled, IsSegment, a_word, a_word_with_arguments, IsPath, a_path}
 use Rattle.syn_ty.specs.ty.Parts.{Manner, loosely, Parts}
 use Rattle.syn_ty.specs.ty.Points.{Readers, some_arguments}
-use Rattle.syn_ty.specs.ty.Spelling.{IsOptional}
 use Rattle.syn_ty.specs.ty.Trees.{Path, PathArguments, PathSegment}
 use Rattle.syn_ty.proofs.ty_laws.Sound.{optional_sound}
 
@@ -69,9 +67,11 @@ module _ {A E : Type 0} (r : Readers A E) (part : Manner → Parts A E)
         | inl y ↦ let k = mapped (r some_arguments s) (with_arguments i) x t y.1 in
             let w = took s t k.value v k.was in
             (w.left, w.seen, λ n. subst (λ z. Is z l t.rest) k.is (subst (λ z. Is (with_arguments i k.value) z t.rest) (sym h) (a_word_with_arguments m (styled style s.rest y.0) (w.spelt n))))
-        | inr y ↦ let g = same_pair (segment_of no_arguments i) x s t y.1 in
-            (λ n. ap (λ (z : Stream). z.left) g.1 ∙ n, subst (λ (z : Stream). Visible z.rest) g.1 v,
-            λ n. subst (λ z. Is z l t.rest) g.0 (subst (λ (z : Stream). Is (segment_of no_arguments i) l z.rest) g.1 (subst (λ z. Is (segment_of no_arguments i) z s.rest) (sym h) (a_word (or_first _ _ m)))))
+        | inr y ↦ let g = same_pair (segment_of no_arguments i) x s t y.1 in (
+          λ n. ap (λ (z : Stream). z.left) g.1 ∙ n,
+          subst (λ (z : Stream). Visible z.rest) g.1 v,
+          λ n. subst (λ z. Is z l t.rest) g.0 (subst (λ (z : Stream). Is (segment_of no_arguments i) l z.rest) g.1 (subst (λ z. Is (segment_of no_arguments i) z s.rest) (sym h) (a_word (or_first _ _ m)))),
+        )
       ]
 
   pub segment_took : (s t : Stream) (x : Segment) → Visible s.rest → paths.segment no_arguments (r some_arguments) style s ≡ Ok (x, t) → TookOne Is s t x
@@ -107,7 +107,7 @@ module _ {A E : Type 0} (r : Readers A E) (part : Manner → Parts A E)
   segments_took more s t v h e =
       let read : Reader Segment = paths.segment no_arguments (r some_arguments) style in
       let both = listed_sound never (λ (_ : Bool). read) more token.path_sep (λ (_ : Bool). Is) (IsMark false) Nowhere (λ (z : Stream). z.left ≡ None) never_ends (λ b a c x u i. (segment_took a c x u i).seen)
-          (λ a c x u i. (sep_took a c x u i).seen) (λ b a c x u g i j. let k = segment_took a c x u i in (k.left j, k.spelt j)) (λ a c x u g i j. let k = sep_took a c x u i in (k.left j, k.spelt j)) true s t v h e in
+      (λ a c x u i. (sep_took a c x u i).seen) (λ b a c x u g i j. let k = segment_took a c x u i in (k.left j, k.spelt j)) (λ a c x u g i j. let k = sep_took a c x u i in (k.left j, k.spelt j)) true s t v h e in
       record {
         left = λ n. (both n).0;
         seen = listed_visible never (λ (_ : Bool). read) more token.path_sep (λ (_ : Bool). Is) (IsMark false) Nowhere (λ (z : Stream). z.left ≡ None) never_ends (λ b a c x u i. (segment_took a c x u i).seen)

@@ -1,7 +1,6 @@
 -- Where the read of a form answers, the answer spells what was taken by the rules of the whole grammar, and where it is open no `+` follows: over the same law of what it holds.
-use Rattle.std.proofs.Common.{◌≡◌, Bool, true, false, List, [], ◌∷◌, Option, Some, None, Ok, inl, inr, refl, sym, ◌∙◌, ap, subst, arith}
+use Rattle.std.proofs.Common.{◌≡◌, Bool, true, false, List, Option, Some, None, Ok, inl, inr, refl, sym, ◌∙◌, ap, subst, arith}
 use Rattle.token_core.specs.declared.lifetime.Lifetime.{Lifetime}
-use Rattle.token_core.specs.declared.span.DelimSpan.{DelimSpan}
 use Rattle.token_core.specs.declared.tree.Delimiter.TheVariants.{Parenthesis, Bracket}
 use Rattle.token_core.specs.Groups as groups
 use Rattle.token_core.specs.Lifetimes.{sees_lifetime, read_lifetime, read_optional_lifetime}
@@ -12,10 +11,10 @@ use Rattle.token_core.specs.Rebuilt.{Visible}
 use Rattle.token_core.specs.Spellings.{IsMark, IsWord, IsLifetime}
 use Rattle.token_core.specs.Stream.{Stream}
 use Rattle.token_core.specs.Tokens as token
-use Rattle.token_core.specs.Toks.{Toks, done, group}
+use Rattle.token_core.specs.Toks.{Toks, done}
 use Rattle.token_core.proofs.MarkSpells.{mark_sound, mark_visible, mark_seen}
-use Rattle.token_core.proofs.Took.{Mapped, branch, mapped}
-use Rattle.token_core.proofs.Turns.{chain, same_pair}
+use Rattle.token_core.proofs.Took.{branch, mapped}
+use Rattle.token_core.proofs.Turns.{chain}
 use Rattle.syn_path.proofs.Words.{TookOne}
 use Rattle.syn_forms.specs.declared.places.BoundPlace.{BoundPlace}
 use Rattle.syn_forms.specs.declared.places.TypePlace.{TypePlace}
@@ -28,7 +27,6 @@ use Rattle.syn_forms.specs.tokens.Reading.{sees_named, mutable}
 use Rattle.syn_forms.specs.tokens.Spelling.{IsMutability}
 use Rattle.syn_forms.proofs.tokens_laws.Fronts.{took_as, took_whole}
 use Rattle.syn_forms.proofs.tokens_laws.Mutability.{mutability_sound, visible_mutability}
-use Rattle.syn_ty.specs.declared.ty.ReturnTypeOf.TheVariants as output
 use Rattle.syn_ty.specs.generics.Bounds.{AreBounds, no_bounds, last_plus, last_bound, bound_and_plus}
 use Rattle.syn_ty.specs.path.Reading.{return_of}
 use Rattle.syn_ty.specs.path.Signed.{IsReturn, no_output, an_output}
