@@ -43,7 +43,7 @@ and_first true c h = refl
 and_first false c h = cc h
 
 -- `::`
-sep_took : (s t : Stream) (c : Sep) → Visible s.rest → token.path_sep s ≡ Ok (c, t) → TookOne (IsMark false) s t c
+pub sep_took : (s t : Stream) (c : Sep) → Visible s.rest → token.path_sep s ≡ Ok (c, t) → TookOne (IsMark false) s t c
 sep_took s t c v e = plainly {Is = IsMark false {n = 1} {k = 2}} (λ a l r i w. mark_visible false {n = 1} {k = 2} a l r i w) s t c v (mark_sound {n = 1} {k = 2} refl (omega arith) s t c v e)
 
 -- in expressions arguments begin with `::`
