@@ -1,5 +1,5 @@
 -- Where arguments in angle brackets are read, they are spelt by the rules of the whole grammar, over the same law of an argument: the turn of the knot that reads them, and the reader that wants the `::`.
-use Rattle.std.proofs.Common.{◌≡◌, Bool, true, false, not, Option, Some, None, Ok, refl, sym, ◌∙◌, ap, subst, arith}
+use Rattle.std.proofs.Common.{◌≡◌, Bool, true, false, not, Option, Some, None, Ok, refl, sym, ◌∙◌, subst, arith}
 use Rattle.token_core.specs.Listed.{AreListed, Anywhere}
 use Rattle.token_core.specs.Loops.{Many, terminated}
 use Rattle.token_core.specs.Reads.{Reader, optional}
@@ -23,7 +23,7 @@ use Rattle.syn_ty.specs.path.Reading.{angle_bracketed, arguments_after, argument
 use Rattle.syn_ty.specs.path.Spelling.{Styled, IsAngle, an_angle, IsArguments, some_arguments}
 use Rattle.syn_ty.specs.ty.Parts.{Manner, loosely, Parts}
 use Rattle.syn_ty.specs.ty.Points.{Readers, an_argument}
-use Rattle.syn_ty.specs.ty.Spelling.{Relation, IsOptional, absent, present}
+use Rattle.syn_ty.specs.ty.Spelling.{Relation, IsOptional, present}
 use Rattle.syn_ty.specs.ty.Trees.{AngleBracketed, GenericArgument, PathArguments}
 use Rattle.syn_ty.proofs.ty_laws.PathsTold.{sep_took}
 use Rattle.syn_ty.proofs.ty_laws.Sound.{comma_seen, comma_took, optional_sound}

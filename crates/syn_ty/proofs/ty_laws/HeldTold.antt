@@ -4,7 +4,7 @@ use Rattle.token_core.specs.declared.tree.TokenStream.{TokenStream, out-roll-Tok
 use Rattle.token_core.specs.declared.tree.TokenTree.{TokenTree}
 use Rattle.token_core.specs.Cut.{between, trees_between}
 use Rattle.token_core.specs.Front.{past_ends}
-use Rattle.token_core.specs.Positions.{Item, items, row_items}
+use Rattle.token_core.specs.Positions.{items, row_items}
 use Rattle.token_core.specs.Reads.{Follows}
 use Rattle.token_core.specs.Rebuilt.{Visible}
 use Rattle.token_core.specs.Stream.{Scope, Stream}

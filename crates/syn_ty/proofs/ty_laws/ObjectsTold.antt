@@ -1,5 +1,5 @@
 -- Where a trait object with plus is read by itself, it is spelt by the rules of the whole grammar: its first bound is read alone, and the others as bounds joined by `+`.
-use Rattle.std.proofs.Common.{◌≡◌, Bool, true, false, List, [], ◌∷◌, Option, None, Ok, inl, inr, refl, sym, ◌∙◌, ap, subst, arith}
+use Rattle.std.proofs.Common.{◌≡◌, Bool, true, false, [], ◌∷◌, Option, None, Ok, inl, inr, refl, sym, ◌∙◌, ap, subst, arith}
 use Rattle.std.specs.List.{list_any}
 use Rattle.token_core.specs.declared.error.ErrorKind.TheVariants.{NoTraitInObject}
 use Rattle.token_core.specs.declared.span.Span.{Span}
@@ -7,7 +7,7 @@ use Rattle.token_core.specs.Listed.{AfterMark}
 use Rattle.token_core.specs.Loops.{Many, listed}
 use Rattle.token_core.specs.Reads.{Reader, ◌>>=◌, here, pure}
 use Rattle.token_core.specs.Rebuilt.{Visible}
-use Rattle.token_core.specs.Spellings.{IsMark, IsWord}
+use Rattle.token_core.specs.Spellings.{IsWord}
 use Rattle.token_core.specs.Stream.{Stream}
 use Rattle.token_core.specs.Tokens as token
 use Rattle.token_core.specs.Toks.{Toks}
@@ -57,13 +57,19 @@ module _ {A E : Type 0} (r : Readers A E) (part : Manner → Parts A E)
             let m = mark_sound {n = 20} {k = 1} refl (omega arith) s d.rest d.value h d.was in
             let with : Bounds → Bounds = λ w. (x ∷ w.0, d.value ∷ w.1) in
             let f = mapped (listed (stops_bound false) (λ (_ : Bool). r (a_bound Object)) token.sees_plus token.plus false d.rest) with v t d.goes in
-            let q = bounds_took part Object AfterMark (stops_bound false) (r (a_bound Object)) object_ends took false d.rest t f.value (mark_visible false {n = 20} {k = 1} d.value s.rest d.rest.rest m.spelt h) f.was in
-            (λ n. sym m.left ∙ q.left n, q.seen, λ n w.
-            let i = q.spelt n in
-            subst (λ y. Listed true y l t.rest) f.is (i.0, bound_and_plus w.1 (before_plus w.0 d.value s.rest d.rest.rest w.2 m.spelt) m.spelt i.1, i.2))
-        | inr z ↦ let g = same_pair (x ∷ [], []) v s t z.1 in
-            (λ n. ap (λ (y : Stream). y.left) g.1 ∙ n, subst (λ (y : Stream). Visible y.rest) g.1 h, λ n w.
-            subst (λ y. Listed true y l t.rest) g.0 (subst (λ (y : Stream). Listed true (x ∷ [], []) l y.rest) g.1 (going_on w.0, last_bound w.1, λ k. z.0)))
+            let q = bounds_took part Object AfterMark (stops_bound false) (r (a_bound Object)) object_ends took false d.rest t f.value (mark_visible false {n = 20} {k = 1} d.value s.rest d.rest.rest m.spelt h) f.was in (
+              λ n. sym m.left ∙ q.left n,
+              q.seen,
+              λ n w.
+                  let i = q.spelt n in
+                  subst (λ y. Listed true y l t.rest) f.is (i.0, bound_and_plus w.1 (before_plus w.0 d.value s.rest d.rest.rest w.2 m.spelt) m.spelt i.1, i.2),
+            )
+        | inr z ↦ let g = same_pair (x ∷ [], []) v s t z.1 in (
+          λ n. ap (λ (y : Stream). y.left) g.1 ∙ n,
+          subst (λ (y : Stream). Visible y.rest) g.1 h,
+          λ n w.
+              subst (λ y. Listed true y l t.rest) g.0 (subst (λ (y : Stream). Listed true (x ∷ [], []) l y.rest) g.1 (going_on w.0, last_bound w.1, λ k. z.0)),
+        )
       ]
 
   -- bounds of which none names a trait are refused

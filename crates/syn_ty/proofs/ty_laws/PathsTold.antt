@@ -1,4 +1,4 @@
--- Where paths and arguments in angle brackets are read, they are spelt by the rules of the whole grammar, over the same law of arguments.
+-- Where paths are read, in the style of types or of expressions, they are spelt by the rules of the whole grammar, over the same law of the arguments of a segment.
 use Rattle.std.proofs.Common.{◌≡◌, Bool, true, false, ◌&&◌, ◌||◌, Option, None, Ok, inl, inr, refl, sym, ◌∙◌, ap, subst, arith}
 use Rattle.token_core.specs.declared.tree.Ident.{Ident}
 use Rattle.token_core.specs.Listed.{AreListed, Nowhere}
@@ -30,7 +30,7 @@ use Rattle.syn_ty.proofs.ty_laws.Sound.{optional_sound}
 
 -- ---- truths joined by `or` and `and`
 
-or_first : (b c : Bool) → b ≡ true → b || c ≡ true
+pub or_first : (b c : Bool) → b ≡ true → b || c ≡ true
 or_first true c h = refl
 or_first false c h = cc h
 
@@ -38,7 +38,7 @@ or_second : (b c : Bool) → c ≡ true → b || c ≡ true
 or_second true c h = refl
 or_second false c h = h
 
-and_first : (b c : Bool) → b && c ≡ true → b ≡ true
+pub and_first : (b c : Bool) → b && c ≡ true → b ≡ true
 and_first true c h = refl
 and_first false c h = cc h
 

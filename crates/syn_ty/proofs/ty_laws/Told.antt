@@ -93,7 +93,7 @@ module _ {A E : Type 0} (r : Readers A E) (part : Manner → Parts A E)
   abbrev Tree : Type 0
   Tree = TypeTree A E
 
-  abbrev TypeIn : TypePlace → Relation Tree
+  abbrev pub TypeIn : TypePlace → Relation Tree
   TypeIn p = Told ((part loosely).ty p)
 
   -- a type that is all of a content
@@ -182,10 +182,10 @@ module _ {A E : Type 0} (r : Readers A E) (part : Manner → Parts A E)
   -- ---- outputs
 
   -- `->` and a type
-  IsArrowed : TypePlace → Relation (token.RArrow × Tree)
+  pub IsArrowed : TypePlace → Relation (token.RArrow × Tree)
   IsArrowed place x l k = (m : Toks) × IsMark false x.0 l m × TypeIn place x.1 m k
 
-  arrow_took : (place : TypePlace) (s t : Stream) (x : token.RArrow × Tree) → Visible s.rest → heads.arrow (r (a_type place)) s ≡ Ok (x, t) → TookOne (IsArrowed place) s t x
+  pub arrow_took : (place : TypePlace) (s t : Stream) (x : token.RArrow × Tree) → Visible s.rest → heads.arrow (r (a_type place)) s ≡ Ok (x, t) → TookOne (IsArrowed place) s t x
   unfolding heads.arrow IsArrowed
   arrow_took place s t x v e =
       let c = chain (token.r_arrow s) _ x t e in
@@ -199,7 +199,7 @@ module _ {A E : Type 0} (r : Readers A E) (part : Manner → Parts A E)
         spelt = λ h. subst (λ z. IsArrowed place z s.rest t.rest) g.is (c.rest.rest, k.spelt, w.spelt h);
       }
 
-  output_at : (place : TypePlace) (o : Option (token.RArrow × Tree)) (l k : Toks) → IsOptional (IsArrowed place) o l k → Told (IsReturn part loosely place) (return_of o) l k
+  pub output_at : (place : TypePlace) (o : Option (token.RArrow × Tree)) (l k : Toks) → IsOptional (IsArrowed place) o l k → Told (IsReturn part loosely place) (return_of o) l k
   unfolding IsArrowed
   output_at place o l k absent = (closed, no_output, never_open)
   output_at place o l k (present i) = (i.2.0, an_output i.1 i.2.1, i.2.2)
