@@ -166,13 +166,13 @@ module _ {A E : Type 0} (r : Readers A E) (part : Manner → Parts A E)
   abbrev Ends : Path A E → Toks → Toks → Type 0
   Ends = Told (IsBoundPath part loosely)
 
-  abbrev Further : Path A E → Stream → Stream → Toks → Type 0
-  Further x s t l = (t.left ≡ None → s.left ≡ None) × Visible t.rest × (t.left ≡ None → Ends x l t.rest)
+  abbrev Further : Path A E → Path A E → Stream → Stream → Toks → Type 0
+  Further p x s t l = (t.left ≡ None → s.left ≡ None) × Visible t.rest × (t.left ≡ None → IsPath part loosely AsWritten p l s.rest → Ends x l t.rest)
 
   -- the arguments in parentheses that follow are taken, perhaps after `::`
-  pub signed_took : (p x : Path A E) (l : Toks) (s t : Stream) → Visible s.rest → IsPath part loosely AsWritten p l s.rest → signed r p s ≡ Ok (x, t) → Further x s t l
+  pub signed_took : (p x : Path A E) (l : Toks) (s t : Stream) → Visible s.rest → signed r p s ≡ Ok (x, t) → Further p x s t l
   unfolding signed
-  signed_took p x l s t v i e =
+  signed_took p x l s t v e =
       elim (branch (takes_signature p && sees_signature s.rest) _ _ s (Ok (x, t)) e) [
         | inl y ↦ let with : Parenthesized A E → Path A E = λ z. path_with (a.Parenthesized z) p in
             let rest : Option Sep → Reader (Path A E) = λ c. parenthesized r >>= (λ z. pure (with z)) in
@@ -182,14 +182,14 @@ module _ {A E : Type 0} (r : Readers A E) (part : Manner → Parts A E)
             let w = parens_took r part took c.rest t k.value o.seen k.was in (
               λ n. o.left (w.left n),
               w.seen,
-              λ n.
+              λ n i.
                   let j = w.spelt n in
                   subst (λ z. Ends z l t.rest) k.is (j.0, takes_parens part pair p c.value j.0 k.value l s.rest c.rest.rest t.rest i (and_first _ _ y.0) (o.spelt (w.left n)) j.1, j.2),
             )
         | inr y ↦ let g = same_pair p x s t y.1 in (
           λ n. ap (λ (z : Stream). z.left) g.1 ∙ n,
           subst (λ (z : Stream). Visible z.rest) g.1 v,
-          λ n.
+          λ n i.
               subst (λ z. Ends z l t.rest) g.0 (subst (λ (z : Stream). Ends p l z.rest) g.1 (closed, without_parens i, never_open)),
         )
       ]
