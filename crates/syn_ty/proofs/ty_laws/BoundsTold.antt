@@ -1,11 +1,11 @@
 -- Where bounds joined by `+` are read, they are spelt, one that a `+` follows is not open, and where the last is open no `+` follows; and so it is after `impl`.
-use Rattle.std.proofs.Common.{◌≡◌, ℕ, zero, suc, Bool, true, false, [], ◌∷◌, None, Ok, inl, inr, refl, sym, ◌∙◌, subst, arith}
+use Rattle.std.proofs.Common.{◌≡◌, ℕ, zero, suc, Bool, true, false, [], ◌∷◌, None, Ok, inl, inr, refl, sym, ◌∙◌, subst, arith, not, ◌||◌}
 use Rattle.std.specs.List.{list_any}
 use Rattle.token_core.specs.declared.error.ErrorKind.TheVariants.{NoTraitInImpl}
 use Rattle.token_core.specs.declared.span.Span.{Span}
 use Rattle.token_core.specs.Listed.{AfterMark}
 use Rattle.token_core.specs.Loops.{Many, size, listed_from, listed}
-use Rattle.token_core.specs.Reads.{Reader, ◌>>=◌, here, pure}
+use Rattle.token_core.specs.Reads.{Reader, any_text, here, pure, sees_word, ◌>>=◌}
 use Rattle.token_core.specs.Rebuilt.{Visible}
 use Rattle.token_core.specs.Spellings.{IsWord}
 use Rattle.token_core.specs.Stream.{Stream}
@@ -19,7 +19,7 @@ use Rattle.syn_path.proofs.Words.{TookOne}
 use Rattle.syn_forms.specs.declared.places.BoundPlace.{BoundPlace}
 use Rattle.syn_forms.specs.declared.places.BoundPlace.TheVariants.{Opaque}
 use Rattle.syn_forms.specs.declared.places.TypePlace.TheVariants.{Plus}
-use Rattle.syn_forms.specs.lists.Reading.{stops_bound}
+use Rattle.syn_forms.specs.lists.Reading.{sees_bound, stops_bound}
 use Rattle.syn_forms.specs.verbatim.Reading.{refuse_since}
 use Rattle.syn_ty.specs.generics.Bounds.{AreBounds, no_bounds, last_plus, last_bound, bound_and_plus}
 use Rattle.syn_ty.specs.ty.Objects.{several_bounds, IsImpl, an_impl}
@@ -34,8 +34,17 @@ use Rattle.syn_ty.proofs.ty_laws.Told.{Told, never_open, before_plus}
 
 -- ---- a list that goes on at each `+`
 
+not_first : (b c : Bool) → not (b || c) ≡ true → b ≡ false
+not_first true c h = cc h
+not_first false c h = refl
+
+-- a word begins a further bound
+pub word_ends : (consts : Bool) (l : Toks) → stops_bound consts false l ≡ true → sees_word any_text l ≡ false
+unfolding sees_bound
+word_ends consts l h = not_first _ _ h
+
 module _ {A E : Type 0} (part : Manner → Parts A E) (place : BoundPlace) (Ends : Bool → Type 0) (stops : Bool → Toks → Bool) (value : Reader (TypeParamBound A E))
-    (may_end : (b : Bool) (l : Toks) → stops b l ≡ true → Ends b)
+    (may_end : (b : Bool) (l : Toks) → stops b l ≡ true → Ends b) (no_word : (l : Toks) → stops false l ≡ true → sees_word any_text l ≡ false)
     (took : (s t : Stream) (x : TypeParamBound A E) → Visible s.rest → value s ≡ Ok (x, t) → TookOne (Told ((part loosely).bound place)) s t x) where
   abbrev All : Type 0
   All = Many (TypeParamBound A E) token.Plus
@@ -46,9 +55,9 @@ module _ {A E : Type 0} (part : Manner → Parts A E) (place : BoundPlace) (Ends
   abbrev Took : Bool → All → Stream → Stream → Type 0
   Took b v s t = t.left ≡ None → (s.left ≡ None) × Ending b v s.rest t.rest
 
-  none_at : (b : Bool) (r : Toks) → Ends b → Ending b ([], []) r r
-  none_at true r h = (closed, no_bounds h, never_open)
-  none_at false r h = (after_plus, last_plus h, λ k. cc k)
+  none_at : (b : Bool) (r : Toks) → Ends b → (b ≡ false → sees_word any_text r ≡ false) → Ending b ([], []) r r
+  none_at true r h g = (closed, no_bounds h, never_open, never_open)
+  none_at false r h g = (after_plus, last_plus h, (λ k. cc k), λ k. g refl)
 
   at_answer : (b : Bool) (v w : All) (s t u : Stream) → (v ≡ w) × (t ≡ u) → Took b v s t → Took b w s u
   at_answer b v w s t u e h = subst (λ z. Took b w s z) e.1 (subst (λ z. Took b z s t) e.0 h)
@@ -60,7 +69,7 @@ module _ {A E : Type 0} (part : Manner → Parts A E) (place : BoundPlace) (Ends
   took_from zero b s t v h e = cc
   took_from (suc n) b s t v h e =
       elim (branch (stops b s.rest) _ _ s (Ok (v, t)) e) [
-        | inl y ↦ at_answer b ([], []) v s s t (same_pair ([], []) v s t y.1) (λ k. (k, none_at b s.rest (may_end b s.rest y.0)))
+        | inl y ↦ at_answer b ([], []) v s s t (same_pair ([], []) v s t y.1) (λ k. (k, none_at b s.rest (may_end b s.rest y.0) (λ g. no_word s.rest (subst (λ z. stops z s.rest ≡ true) g y.0))))
         | inr y ↦ let c = chain (value s) _ v t y.1 in
             let w = took s c.rest c.value h c.was in
             elim (branch (token.sees_plus c.rest.rest) _ _ c.rest (Ok (v, t)) c.goes) [
@@ -73,11 +82,11 @@ module _ {A E : Type 0} (part : Manner → Parts A E) (place : BoundPlace) (Ends
                   let q = i k in
                   let l = sym m.left ∙ q.0 in
                   let u = w.spelt l in
-                  (w.left l, (q.1.0, bound_and_plus u.1 (before_plus u.0 d.value c.rest.rest d.rest.rest u.2 m.spelt) m.spelt q.1.1, q.1.2)))
+                  (w.left l, (q.1.0, bound_and_plus u.1 (before_plus u.0 d.value c.rest.rest d.rest.rest u.2 m.spelt) m.spelt q.1.1, q.1.2, q.1.3)))
               | inr z ↦ at_answer b (c.value ∷ [], []) v s c.rest t (same_pair (c.value ∷ [], []) v c.rest t z.1)
                   (λ k.
                   let u = w.spelt k in
-                  (w.left k, (going_on u.0, last_bound u.1, λ g. z.0)))
+                  (w.left k, (going_on u.0, last_bound u.1, (λ g. z.0), u.3)))
             ]
       ]
 
@@ -106,11 +115,11 @@ module _ {A E : Type 0} (r : Readers A E) (part : Manner → Parts A E)
 
   opaque_took : (s t : Stream) (v : Bounds) → Visible s.rest → reading.opaque_bounds r true s ≡ Ok (v, t) → TookOne Listed s t v
   unfolding reading.opaque_bounds
-  opaque_took s t v h e = bounds_took part Opaque AfterMark (stops_bound true) (r (a_bound Opaque)) opaque_ends took true s t v h e
+  opaque_took s t v h e = bounds_took part Opaque AfterMark (stops_bound true) (r (a_bound Opaque)) opaque_ends (word_ends true) took true s t v h e
 
   -- `impl` and bounds, of which one is as it is needed
   impl_at : (w : token.Impl) (v : Bounds) (l m k : Toks) → IsWord w l m → Listed v m k → list_any names_trait v.0 ≡ true → Told (IsImpl part loosely Plus) (impl_trait_with [] w v) l k
-  impl_at w v l m k i j h = (j.0, an_impl i (several_bounds refl j.1) h, j.2)
+  impl_at w v l m k i j h = (j.0, an_impl i (several_bounds refl j.1) h, j.2, j.3)
 
   abbrev Of : TypeImplTrait A E → Toks → Toks → Type 0
   Of = Told (IsImpl part loosely Plus)

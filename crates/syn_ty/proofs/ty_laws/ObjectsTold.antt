@@ -28,7 +28,7 @@ use Rattle.syn_ty.specs.ty.Reading.{is_trait}
 use Rattle.syn_ty.specs.ty.Spelling.{IsOptional}
 use Rattle.syn_ty.specs.ty.Trees.{TypeParamBound, TypeTraitObject}
 use Rattle.syn_ty.specs.ty.Types.{trait_object_with}
-use Rattle.syn_ty.proofs.ty_laws.BoundsTold.{bounds_took}
+use Rattle.syn_ty.proofs.ty_laws.BoundsTold.{bounds_took, word_ends}
 use Rattle.syn_ty.proofs.ty_laws.Sound.{named_sound, optional_sound}
 use Rattle.syn_ty.proofs.ty_laws.Told.{Told, before_plus}
 
@@ -57,18 +57,18 @@ module _ {A E : Type 0} (r : Readers A E) (part : Manner → Parts A E)
             let m = mark_sound {n = 20} {k = 1} refl (omega arith) s d.rest d.value h d.was in
             let with : Bounds → Bounds = λ w. (x ∷ w.0, d.value ∷ w.1) in
             let f = mapped (listed (stops_bound false) (λ (_ : Bool). r (a_bound Object)) token.sees_plus token.plus false d.rest) with v t d.goes in
-            let q = bounds_took part Object AfterMark (stops_bound false) (r (a_bound Object)) object_ends took false d.rest t f.value (mark_visible false {n = 20} {k = 1} d.value s.rest d.rest.rest m.spelt h) f.was in (
+            let q = bounds_took part Object AfterMark (stops_bound false) (r (a_bound Object)) object_ends (word_ends false) took false d.rest t f.value (mark_visible false {n = 20} {k = 1} d.value s.rest d.rest.rest m.spelt h) f.was in (
               λ n. sym m.left ∙ q.left n,
               q.seen,
               λ n w.
                   let i = q.spelt n in
-                  subst (λ y. Listed true y l t.rest) f.is (i.0, bound_and_plus w.1 (before_plus w.0 d.value s.rest d.rest.rest w.2 m.spelt) m.spelt i.1, i.2),
+                  subst (λ y. Listed true y l t.rest) f.is (i.0, bound_and_plus w.1 (before_plus w.0 d.value s.rest d.rest.rest w.2 m.spelt) m.spelt i.1, i.2, i.3),
             )
         | inr z ↦ let g = same_pair (x ∷ [], []) v s t z.1 in (
           λ n. ap (λ (y : Stream). y.left) g.1 ∙ n,
           subst (λ (y : Stream). Visible y.rest) g.1 h,
           λ n w.
-              subst (λ y. Listed true y l t.rest) g.0 (subst (λ (y : Stream). Listed true (x ∷ [], []) l y.rest) g.1 (going_on w.0, last_bound w.1, λ k. z.0)),
+              subst (λ y. Listed true y l t.rest) g.0 (subst (λ (y : Stream). Listed true (x ∷ [], []) l y.rest) g.1 (going_on w.0, last_bound w.1, (λ k. z.0), w.3)),
         )
       ]
 

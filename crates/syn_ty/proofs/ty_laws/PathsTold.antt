@@ -94,16 +94,16 @@ module _ {A E : Type 0} (r : Readers A E) (part : Manner → Parts A E)
 
   -- ---- paths
 
-  abbrev Segments : Type 0
+  abbrev pub Segments : Type 0
   Segments = Many Segment Sep
 
-  abbrev All : Segments → Toks → Toks → Type 0
+  abbrev pub All : Segments → Toks → Toks → Type 0
   All v l k = AreListed (λ (_ : Bool). Is) (IsMark false) Nowhere true v.0 v.1 l k
 
   never_ends : (b : Bool) (l : Toks) → never b l ≡ true → Nowhere b
   never_ends b l h = cc h
 
-  segments_took : (more : Toks → Bool) (s t : Stream) (v : Segments) → Visible s.rest → paths.segments no_arguments (r some_arguments) more style s ≡ Ok (v, t) → TookOne All s t v
+  pub segments_took : (more : Toks → Bool) (s t : Stream) (v : Segments) → Visible s.rest → paths.segments no_arguments (r some_arguments) more style s ≡ Ok (v, t) → TookOne All s t v
   segments_took more s t v h e =
       let read : Reader Segment = paths.segment no_arguments (r some_arguments) style in
       let both = listed_sound never (λ (_ : Bool). read) more token.path_sep (λ (_ : Bool). Is) (IsMark false) Nowhere (λ (z : Stream). z.left ≡ None) never_ends (λ b a c x u i. (segment_took a c x u i).seen)

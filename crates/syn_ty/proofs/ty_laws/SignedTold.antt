@@ -86,7 +86,7 @@ module _ {A E : Type 0} (r : Readers A E) (part : Manner → Parts A E)
       Of (parens_of (groups.paren g.0) g.1 (return_of o)) l k
   parens_at g o l m k i j =
       let w = output_at r part took NoPlus o m k j in
-      (w.0, subst (λ z. IsParens part loosely w.0 (parens_of (groups.paren g.0) g.1 (return_of o)) z k) (sym i.is) (a_parens i.holds w.1), w.2)
+      (w.0, subst (λ z. IsParens part loosely w.0 (parens_of (groups.paren g.0) g.1 (return_of o)) z k) (sym i.is) (a_parens i.holds w.1), w.2, w.3)
 
   pub parens_took : (s t : Stream) (x : Parenthesized A E) → Visible s.rest → parenthesized r s ≡ Ok (x, t) → TookOne Of s t x
   unfolding parenthesized signature
@@ -184,12 +184,12 @@ module _ {A E : Type 0} (r : Readers A E) (part : Manner → Parts A E)
               w.seen,
               λ n i.
                   let j = w.spelt n in
-                  subst (λ z. Ends z l t.rest) k.is (j.0, takes_parens part pair p c.value j.0 k.value l s.rest c.rest.rest t.rest i (and_first _ _ y.0) (o.spelt (w.left n)) j.1, j.2),
+                  subst (λ z. Ends z l t.rest) k.is (j.0, takes_parens part pair p c.value j.0 k.value l s.rest c.rest.rest t.rest i (and_first _ _ y.0) (o.spelt (w.left n)) j.1, j.2, j.3),
             )
         | inr y ↦ let g = same_pair p x s t y.1 in (
           λ n. ap (λ (z : Stream). z.left) g.1 ∙ n,
           subst (λ (z : Stream). Visible z.rest) g.1 v,
           λ n i.
-              subst (λ z. Ends z l t.rest) g.0 (subst (λ (z : Stream). Ends p l z.rest) g.1 (closed, without_parens i, never_open)),
+              subst (λ z. Ends z l t.rest) g.0 (subst (λ (z : Stream). Ends p l z.rest) g.1 (closed, without_parens i, never_open, never_open)),
         )
       ]

@@ -1,4 +1,4 @@
--- Where the read of a form answers, the answer spells what was taken by the rules of the whole grammar, and where it is open no `+` follows: over the same law of what it holds.
+-- Where the read of a form answers, the answer spells what was taken by the rules of the whole grammar; where it is open no `+` follows, and where it ends in a plus no word: over the same law of what it holds.
 use Rattle.std.proofs.Common.{◌≡◌, Bool, true, false, List, Option, Some, None, Ok, inl, inr, refl, sym, ◌∙◌, ap, subst, arith}
 use Rattle.token_core.specs.declared.lifetime.Lifetime.{Lifetime}
 use Rattle.token_core.specs.declared.tree.Delimiter.TheVariants.{Parenthesis, Bracket}
@@ -6,7 +6,7 @@ use Rattle.token_core.specs.Groups as groups
 use Rattle.token_core.specs.Lifetimes.{sees_lifetime, read_lifetime, read_optional_lifetime}
 use Rattle.token_core.specs.Listed.{AreListed, none_left, last_value, value_and_mark}
 use Rattle.token_core.specs.Marks as marks
-use Rattle.token_core.specs.Reads.{Reader, in_group, leaves, optional}
+use Rattle.token_core.specs.Reads.{Reader, any_text, in_group, leaves, optional, sees_word}
 use Rattle.token_core.specs.Rebuilt.{Visible}
 use Rattle.token_core.specs.Spellings.{IsMark, IsWord, IsLifetime}
 use Rattle.token_core.specs.Stream.{Stream}
@@ -39,21 +39,21 @@ use Rattle.syn_ty.specs.ty.Trees.{ReturnType, TypeParamBound, TypeParen, TypePtr
 use Rattle.syn_ty.specs.ty.Types.{And, Mut, Star, paren_of, ptr_of, reference_of, slice_of}
 use Rattle.syn_ty.proofs.ty_laws.Sound.{optional_sound, named_sound, life_sound, IsHeld, held_sound, twice}
 
--- it ends somehow; where it is open, no `+` follows
+-- It ends somehow: where it is open, no `+` follows; where it ends in a plus, no word follows.
 abbrev pub Told : {A : Type 0} → (End → Relation A) → Relation A
-Told Is x l r = (e : End) × Is e x l r × (e.is_open ≡ true → token.sees_plus r ≡ false)
+Told Is x l r = (e : End) × Is e x l r × (e.is_open ≡ true → token.sees_plus r ≡ false) × (e.in_plus ≡ true → sees_word any_text r ≡ false)
 
--- what is closed is not open
+-- what is closed is not open, and does not end in a plus
 pub never_open : {P : Type 0} → closed.is_open ≡ true → P
 never_open h = cc h
 
 -- ---- bounds joined by `+`
 
-not_true : (b : Bool) → (b ≡ true → ⊥) → b ≡ false
+pub not_true : (b : Bool) → (b ≡ true → ⊥) → b ≡ false
 not_true true h = absurd (h refl)
 not_true false h = refl
 
-both : {P : Type 0} (b : Bool) → b ≡ true → b ≡ false → P
+pub both : {P : Type 0} (b : Bool) → b ≡ true → b ≡ false → P
 both true h k = cc k
 both false h k = cc h
 
@@ -126,7 +126,7 @@ module _ {A E : Type 0} (r : Readers A E) (part : Manner → Parts A E)
   PtrParts = Star × PointerMutability × Tree
 
   pointer_at : (a : Star) (q : PointerMutability) (x : Tree) (l m n k : Toks) → IsMark false a l m → IsMutability q m n → TypeIn NoPlus x n k → Told (IsPointer part loosely) (ptr_of a q x) l k
-  pointer_at a q x l m n k i j w = (w.0, a_pointer i j w.1, w.2)
+  pointer_at a q x l m n k i j w = (w.0, a_pointer i j w.1, w.2, w.3)
 
   pub pointer_took : (s t : Stream) (x : TypePtr A E) → Visible s.rest → reading.ptr r s ≡ Ok (x, t) → TookOne (Told (IsPointer part loosely)) s t x
   unfolding reading.ptr forms.ptr
@@ -154,9 +154,9 @@ module _ {A E : Type 0} (r : Readers A E) (part : Manner → Parts A E)
 
   borrow_at : (a : And) (o : Option Lifetime) (u : Option Mut) (x : Tree) (l m n k j : Toks) → IsMark false a l m → IsOptional IsLifetime o m n → (o ≡ None → sees_lifetime m ≡ false) → IsOptional IsWord u n k → TypeIn NoPlus x k j →
       Told (IsBorrow part loosely) (reference_of a o u x) l j
-  borrow_at a o u x l m n k j i absent h absent w = (w.0, a_borrow i (h refl) w.1, w.2)
-  borrow_at a o u x l m n k j i absent h (present y) w = (w.0, a_mutable_borrow i y w.1, w.2)
-  borrow_at a o u x l m n k j i (present z) h y w = (w.0, a_lifetime_borrow i z y w.1, w.2)
+  borrow_at a o u x l m n k j i absent h absent w = (w.0, a_borrow i (h refl) w.1, w.2, w.3)
+  borrow_at a o u x l m n k j i absent h (present y) w = (w.0, a_mutable_borrow i y w.1, w.2, w.3)
+  borrow_at a o u x l m n k j i (present z) h y w = (w.0, a_lifetime_borrow i z y w.1, w.2, w.3)
 
   pub borrow_took : (s t : Stream) (x : TypeReference A E) → Visible s.rest → reading.reference r s ≡ Ok (x, t) → TookOne (Told (IsBorrow part loosely)) s t x
   unfolding reading.reference forms.reference
@@ -201,8 +201,8 @@ module _ {A E : Type 0} (r : Readers A E) (part : Manner → Parts A E)
 
   pub output_at : (place : TypePlace) (o : Option (token.RArrow × Tree)) (l k : Toks) → IsOptional (IsArrowed place) o l k → Told (IsReturn part loosely place) (return_of o) l k
   unfolding IsArrowed
-  output_at place o l k absent = (closed, no_output, never_open)
-  output_at place o l k (present i) = (i.2.0, an_output i.1 i.2.1, i.2.2)
+  output_at place o l k absent = (closed, no_output, never_open, never_open)
+  output_at place o l k (present i) = (i.2.0, an_output i.1 i.2.1, i.2.2, i.2.3)
 
   pub output_took : (place : TypePlace) (s t : Stream) (x : ReturnType A E) → Visible s.rest → reading.return_type r place s ≡ Ok (x, t) → TookOne (Told (IsReturn part loosely place)) s t x
   unfolding reading.return_type

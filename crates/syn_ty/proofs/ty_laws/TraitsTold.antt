@@ -88,11 +88,11 @@ module _ {A E : Type 0} (r : Readers A E) (part : Manner → Parts A E)
   moved x y l k s t g i = subst (λ z. Of z l k) g.0 i
 
   trait_is : (x : For) (q : Option token.Question) (y : For) (p : Path A E) (z : TraitBound A E) (l m n k j : Toks) (s t : Stream) → IsPerhapsFor x l m → IsPerhapsAsked q m n → Behind x q y n k → Ends p k j → trait_of y q p s ≡ Ok (z, t) → Of z l j
-  trait_is x q y p z l m n k j s t absent absent the_same w e = moved _ z l j s t (same_pair _ z s t e) (w.0, a_trait_bound (a_trait w.1), w.2)
-  trait_is x q y p z l m n k j s t absent (present i) the_same w e = moved _ z l j s t (same_pair _ z s t e) (w.0, a_trait_bound (a_trait_asked i w.1), w.2)
-  trait_is x q y p z l m n k j s t absent (present i) (another absent) w e = moved _ z l j s t (same_pair _ z s t e) (w.0, a_trait_bound (a_trait_asked i w.1), w.2)
+  trait_is x q y p z l m n k j s t absent absent the_same w e = moved _ z l j s t (same_pair _ z s t e) (w.0, a_trait_bound (a_trait w.1), w.2, w.3)
+  trait_is x q y p z l m n k j s t absent (present i) the_same w e = moved _ z l j s t (same_pair _ z s t e) (w.0, a_trait_bound (a_trait_asked i w.1), w.2, w.3)
+  trait_is x q y p z l m n k j s t absent (present i) (another absent) w e = moved _ z l j s t (same_pair _ z s t e) (w.0, a_trait_bound (a_trait_asked i w.1), w.2, w.3)
   trait_is x q y p z l m n k j s t absent (present i) (another (present h)) w e = cc e
-  trait_is x q y p z l m n k j s t (present i) absent the_same w e = moved _ z l j s t (same_pair _ z s t e) (w.0, a_trait_bound (a_trait_for i w.1), w.2)
+  trait_is x q y p z l m n k j s t (present i) absent the_same w e = moved _ z l j s t (same_pair _ z s t e) (w.0, a_trait_bound (a_trait_for i w.1), w.2, w.3)
   trait_is x q y p z l m n k j s t (present i) (present h) the_same w e = cc e
 
   -- the stream stays where the path ended
