@@ -5,4 +5,3 @@ pub use syn_attr::expr::{
     ExprMacroOf, ExprPath, ExprPathOf, ExprRange,
 };
 pub use syn_path::supplied::{Attributes, Place, Subtree, Value};
-pub use syn_verbatim::expr::VerbatimExpr;

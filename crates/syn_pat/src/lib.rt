@@ -1,7 +1,4 @@
 //! Patterns.
 #![tactic(auto)]
 
-pub mod grammar;
-pub mod knot;
 pub mod pat;
-pub mod place;

@@ -1,6 +1,5 @@
 //! Generics: parameters, bounds, captures, where clauses.
 
-pub mod declared;
 pub mod print;
 pub mod read;
 

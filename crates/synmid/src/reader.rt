@@ -1,26 +1,16 @@
 //! The readers that a run knows by name.
 
 ghost use Rattle.std.specs.Prelude.{◌≡◌, IfOk};
-ghost use Rattle.syn_ty.specs.generics.Alone as alone;
-ghost use Rattle.syn_ty.specs.generics.Views as views;
-ghost use Rattle.token_core.specs.Reads.{Fails, Gives};
 ghost use Rattle.token_core.specs.Trees.{toks, trees};
 ghost use Rattle.synmid.specs.Readers as spec;
 
 use crate::sample::Sample;
 use std::alloc::{AllocError, Global};
 use syn_mid::{
-    Abi, AngleBracketedGenericArgumentsOf, Attribute, Attributes, BoundLifetimesOf, CapturedParam,
-    ConstParamOf, Expr, GenericArgumentOf, GenericParamOf, GenericsOf, ImplWithoutPlusOf,
-    LifetimeParamOf, Macro, Meta, MetaList, MetaNameValue, ModStyle, NamedArgOf, NoArguments,
-    ObjectWithoutPlusOf, ParenthesizedGenericArgumentsOf, ParseInner, ParseMulti,
-    ParseMultiWithLeadingVert, ParseMultiWithLeadingVertAndGuard, ParseOptionalAbi,
-    ParseOptionalLifetimesOf, ParseOptionalWhereOf, ParseOuter, ParseSingle, ParseTurbofishOf,
-    PatType, PathArgumentsOf, PathOf, PathSegmentOf, PointerMutability, PreciseCapture,
-    ReturnTypeOf, ReturnWithoutPlusOf, Subtree, TraitBoundOf, TypeArrayOf, TypeFnPtrOf,
-    TypeGroupOf, TypeImplTraitOf, TypeInferOf, TypeMacroOf, TypeNeverOf, TypeOf, TypeParamBoundOf,
-    TypeParamOf, TypeParenOf, TypePathOf, TypePtrOf, TypeReferenceOf, TypeSliceOf,
-    TypeTraitObjectOf, TypeTupleOf, Value, WhereClauseOf, WherePredicateOf, WithoutPlusOf,
+    Attribute, Attributes, Expr, Macro, Meta, MetaList, MetaNameValue, ModStyle, NoArguments,
+    ParseInner, ParseOuter, PointerMutability, TypeArrayOf, TypeInferOf, TypeMacroOf, TypeNeverOf,
+    TypeOf, TypeParamBoundOf, TypeParenOf, TypePathOf, TypePtrOf, TypeReferenceOf, TypeSliceOf,
+    TypeTupleOf, Value, WithoutPlusOf,
 };
 use token_core::{Error, Items, Parse, Parser, ToTokens, TokenStream, read_all, read_all_with};
 
@@ -36,21 +26,14 @@ pub enum Reader {
     Inner,
     PointerMutability,
     Types(TypeReader),
-    Paths(PathReader),
-    Generics(GenericsReader),
-    Patterns(PatternReader),
 }
 
-/// A reader of types, or of a form of types.
+/// A reader of types, of a form of types, or of bounds.
 #[derive(Clone, Copy, PartialEq, Eq)]
 pub enum TypeReader {
     Any,
     WithoutPlus,
     Array,
-    FnPtr,
-    Group,
-    ImplTrait,
-    ImplWithoutPlus,
     Infer,
     Macro,
     Never,
@@ -59,57 +42,8 @@ pub enum TypeReader {
     Ptr,
     Reference,
     Slice,
-    TraitObject,
-    ObjectWithoutPlus,
     Tuple,
-    Return,
-    ReturnWithoutPlus,
-    NamedArg,
-    Abi,
-    OptionalAbi,
-}
-
-/// A reader of paths or of their arguments.
-#[derive(Clone, Copy, PartialEq, Eq)]
-pub enum PathReader {
-    Whole,
-    Segment,
-    Argument,
-    AngleBracketed,
-    ParseTurbofish,
-    Parenthesized,
-}
-
-/// A reader of generics, parameters, binders, bounds, captures or where clauses, or one that prints a view of generics.
-#[derive(Clone, Copy, PartialEq, Eq)]
-pub enum GenericsReader {
-    Param,
-    LifetimeParam,
-    TypeParam,
-    ConstParam,
-    BoundLifetimes,
-    OptionalBoundLifetimes,
     Bound,
-    TraitBound,
-    Capture,
-    Captured,
-    Declared,
-    ImplGenerics,
-    TypeGenerics,
-    Turbofish,
-    WhereClause,
-    OptionalWhereClause,
-    Predicate,
-}
-
-/// A reader of patterns.
-#[derive(Clone, Copy, PartialEq, Eq)]
-pub enum PatternReader {
-    Single,
-    Multi,
-    LeadingVert,
-    Guarded,
-    Typed,
 }
 
 impl Reader {
@@ -125,32 +59,16 @@ impl Reader {
             "Attribute::parse_outer" => Some(Reader::Outer),
             "Attribute::parse_inner" => Some(Reader::Inner),
             "PointerMutability" => Some(Reader::PointerMutability),
-            _ => Reader::of_types(name),
-        }
-    }
-
-    /// Of the readers of types, paths, generics and patterns, the one of this name.
-    fn of_types(name: &str) -> Option<Reader>
-        ensures { result ≡ spec.of_types name.now }
-    {
-        if let Some(reader) = TypeReader::named(name) {
-            return Some(Reader::Types(reader));
-        }
-        if let Some(reader) = PathReader::named(name) {
-            return Some(Reader::Paths(reader));
-        }
-        if let Some(reader) = GenericsReader::named(name) {
-            return Some(Reader::Generics(reader));
-        }
-        match PatternReader::named(name) {
-            Some(reader) => Some(Reader::Patterns(reader)),
-            None => None,
+            _ => match TypeReader::named(name) {
+                Some(reader) => Some(Reader::Types(reader)),
+                None => None,
+            },
         }
     }
 
     /// Reads all of a list, and prints what was read.
     pub fn reprint(self, alloc: Global, tokens: &TokenStream) -> Result<TokenStream, Error>
-        ensures { spec.Reprints (spec.category self) (toks tokens.now) result }
+        ensures { spec.Reprints (spec.grammar self) (toks tokens.now) result }
     {
         match self {
             Reader::Macro => reprint::<Macro>(alloc, tokens),
@@ -164,13 +82,6 @@ impl Reader {
             Reader::Types(reader) => {
                 reader.reprint_over::<Attribute<Sample>, Expr<Sample>>(alloc, tokens)
             }
-            Reader::Paths(reader) => {
-                reader.reprint_over::<Attribute<Sample>, Expr<Sample>>(alloc, tokens)
-            }
-            Reader::Generics(reader) => {
-                reader.reprint_over::<Attribute<Sample>, Expr<Sample>>(alloc, tokens)
-            }
-            Reader::Patterns(reader) => reader.reprint_over::<Sample>(alloc, tokens),
         }
     }
 }
@@ -183,10 +94,6 @@ impl TypeReader {
             "Type" => Some(TypeReader::Any),
             "Type::without_plus" => Some(TypeReader::WithoutPlus),
             "TypeArray" => Some(TypeReader::Array),
-            "TypeFnPtr" => Some(TypeReader::FnPtr),
-            "TypeGroup" => Some(TypeReader::Group),
-            "TypeImplTrait" => Some(TypeReader::ImplTrait),
-            "TypeImplTrait::without_plus" => Some(TypeReader::ImplWithoutPlus),
             "TypeInfer" => Some(TypeReader::Infer),
             "TypeMacro" => Some(TypeReader::Macro),
             "TypeNever" => Some(TypeReader::Never),
@@ -195,14 +102,8 @@ impl TypeReader {
             "TypePtr" => Some(TypeReader::Ptr),
             "TypeReference" => Some(TypeReader::Reference),
             "TypeSlice" => Some(TypeReader::Slice),
-            "TypeTraitObject" => Some(TypeReader::TraitObject),
-            "TypeTraitObject::without_plus" => Some(TypeReader::ObjectWithoutPlus),
             "TypeTuple" => Some(TypeReader::Tuple),
-            "ReturnType" => Some(TypeReader::Return),
-            "ReturnType::without_plus" => Some(TypeReader::ReturnWithoutPlus),
-            "NamedArg" => Some(TypeReader::NamedArg),
-            "Abi" => Some(TypeReader::Abi),
-            "Abi::parse_optional" => Some(TypeReader::OptionalAbi),
+            "TypeParamBound" => Some(TypeReader::Bound),
             _ => None,
         }
     }
@@ -214,22 +115,12 @@ impl TypeReader {
         alloc: Global,
         tokens: &TokenStream,
     ) -> Result<TokenStream, Error>
-        ensures { spec.Reprints (spec.types_category A.reads E.reads A.normal A.shown E.values self) (toks tokens.now) result }
+        ensures { spec.Reprints (spec.type_grammar E.reads.len E.spells.len A.normal E.normal A.shown E.values self) (toks tokens.now) result }
     {
         match self {
             TypeReader::Any => reprint::<TypeOf<A, E>>(alloc, tokens),
             TypeReader::WithoutPlus => reprint_with(alloc, WithoutPlusOf::<A, E>::new(), tokens),
             TypeReader::Array => reprint::<TypeArrayOf<TypeOf<A, E>, A, E>>(alloc, tokens),
-            TypeReader::FnPtr => reprint::<TypeFnPtrOf<A, E>>(alloc, tokens),
-            TypeReader::Group => reprint::<TypeGroupOf<TypeOf<A, E>, A>>(alloc, tokens),
-            TypeReader::ImplTrait => reprint::<TypeImplTraitOf<TypeParamBoundOf<A, E>, A>>(
-                alloc, tokens,
-            ),
-            TypeReader::ImplWithoutPlus => reprint_with(
-                alloc,
-                ImplWithoutPlusOf::<A, E>::new(),
-                tokens,
-            ),
             TypeReader::Infer => reprint::<TypeInferOf<A>>(alloc, tokens),
             TypeReader::Macro => reprint::<TypeMacroOf<A>>(alloc, tokens),
             TypeReader::Never => reprint::<TypeNeverOf<A>>(alloc, tokens),
@@ -238,174 +129,8 @@ impl TypeReader {
             TypeReader::Ptr => reprint::<TypePtrOf<TypeOf<A, E>, A>>(alloc, tokens),
             TypeReader::Reference => reprint::<TypeReferenceOf<TypeOf<A, E>, A>>(alloc, tokens),
             TypeReader::Slice => reprint::<TypeSliceOf<TypeOf<A, E>, A>>(alloc, tokens),
-            TypeReader::TraitObject => reprint::<TypeTraitObjectOf<TypeParamBoundOf<A, E>, A>>(
-                alloc, tokens,
-            ),
-            TypeReader::ObjectWithoutPlus => reprint_with(
-                alloc,
-                ObjectWithoutPlusOf::<A, E>::new(),
-                tokens,
-            ),
             TypeReader::Tuple => reprint::<TypeTupleOf<TypeOf<A, E>, A>>(alloc, tokens),
-            TypeReader::Return => reprint::<ReturnTypeOf<TypeOf<A, E>>>(alloc, tokens),
-            TypeReader::ReturnWithoutPlus => reprint_with(
-                alloc,
-                ReturnWithoutPlusOf::<A, E>::new(),
-                tokens,
-            ),
-            TypeReader::NamedArg => reprint::<NamedArgOf<TypeOf<A, E>, A>>(alloc, tokens),
-            TypeReader::Abi => reprint::<Abi>(alloc, tokens),
-            TypeReader::OptionalAbi => reprint_with(alloc, ParseOptionalAbi::new(), tokens),
-        }
-    }
-}
-
-impl PathReader {
-    fn named(name: &str) -> Option<PathReader>
-        ensures { result ≡ spec.paths_named name.now }
-    {
-        match name {
-            "Path" => Some(PathReader::Whole),
-            "PathSegment" => Some(PathReader::Segment),
-            "GenericArgument" => Some(PathReader::Argument),
-            "AngleBracketedGenericArguments" => Some(PathReader::AngleBracketed),
-            "AngleBracketedGenericArguments::parse_turbofish" => Some(PathReader::ParseTurbofish),
-            "ParenthesizedGenericArguments" => Some(PathReader::Parenthesized),
-            _ => None,
-        }
-    }
-
-    /// Reads all of a list, and prints what was read, over any attributes and expressions.
-    fn reprint_over<A: Attributes, E: Value>(
-        self,
-        alloc: Global,
-        tokens: &TokenStream,
-    ) -> Result<TokenStream, Error>
-        ensures { spec.Reprints (spec.paths_category A.reads E.reads A.normal A.shown E.values self) (toks tokens.now) result }
-    {
-        match self {
-            PathReader::Whole => reprint::<PathOf<PathArgumentsOf<A, E>>>(alloc, tokens),
-            PathReader::Segment => reprint::<PathSegmentOf<PathArgumentsOf<A, E>>>(alloc, tokens),
-            PathReader::Argument => reprint::<GenericArgumentOf<A, E>>(alloc, tokens),
-            PathReader::AngleBracketed => reprint::<
-                AngleBracketedGenericArgumentsOf<GenericArgumentOf<A, E>>,
-            >(alloc, tokens),
-            PathReader::ParseTurbofish => reprint_with(
-                alloc,
-                ParseTurbofishOf::<A, E>::new(),
-                tokens,
-            ),
-            PathReader::Parenthesized => reprint::<
-                ParenthesizedGenericArgumentsOf<TypeOf<A, E>, A>,
-            >(alloc, tokens),
-        }
-    }
-}
-
-impl GenericsReader {
-    fn named(name: &str) -> Option<GenericsReader>
-        ensures { result ≡ spec.generics_named name.now }
-    {
-        match name {
-            "GenericParam" => Some(GenericsReader::Param),
-            "LifetimeParam" => Some(GenericsReader::LifetimeParam),
-            "TypeParam" => Some(GenericsReader::TypeParam),
-            "ConstParam" => Some(GenericsReader::ConstParam),
-            "BoundLifetimes" => Some(GenericsReader::BoundLifetimes),
-            "BoundLifetimes::parse_optional" => Some(GenericsReader::OptionalBoundLifetimes),
-            "TypeParamBound" => Some(GenericsReader::Bound),
-            "TraitBound" => Some(GenericsReader::TraitBound),
-            "PreciseCapture" => Some(GenericsReader::Capture),
-            "CapturedParam" => Some(GenericsReader::Captured),
-            "Generics" => Some(GenericsReader::Declared),
-            "ImplGenerics" => Some(GenericsReader::ImplGenerics),
-            "TypeGenerics" => Some(GenericsReader::TypeGenerics),
-            "Turbofish" => Some(GenericsReader::Turbofish),
-            "WhereClause" => Some(GenericsReader::WhereClause),
-            "WhereClause::parse_optional" => Some(GenericsReader::OptionalWhereClause),
-            "WherePredicate" => Some(GenericsReader::Predicate),
-            _ => None,
-        }
-    }
-
-    /// Reads all of a list, and prints what was read, over any attributes and expressions.
-    fn reprint_over<A: Attributes, E: Value>(
-        self,
-        alloc: Global,
-        tokens: &TokenStream,
-    ) -> Result<TokenStream, Error>
-        ensures { spec.Reprints (spec.generics_category A.reads E.reads A.normal A.shown E.values self) (toks tokens.now) result }
-    {
-        match self {
-            GenericsReader::Param => reprint::<GenericParamOf<A, E>>(alloc, tokens),
-            GenericsReader::LifetimeParam => reprint::<LifetimeParamOf<A>>(alloc, tokens),
-            GenericsReader::TypeParam => reprint::<TypeParamOf<A, E>>(alloc, tokens),
-            GenericsReader::ConstParam => reprint::<ConstParamOf<TypeOf<A, E>, A, E>>(
-                alloc, tokens,
-            ),
-            GenericsReader::BoundLifetimes => reprint::<BoundLifetimesOf<GenericParamOf<A, E>>>(
-                alloc, tokens,
-            ),
-            GenericsReader::OptionalBoundLifetimes => reprint_with(
-                alloc,
-                ParseOptionalLifetimesOf::<A, E>::new(),
-                tokens,
-            ),
-            GenericsReader::Bound => reprint::<TypeParamBoundOf<A, E>>(alloc, tokens),
-            GenericsReader::TraitBound => reprint::<TraitBoundOf<A, E>>(alloc, tokens),
-            GenericsReader::Capture => reprint::<PreciseCapture>(alloc, tokens),
-            GenericsReader::Captured => reprint::<CapturedParam>(alloc, tokens),
-            GenericsReader::Declared => reprint::<GenericsOf<A, E>>(alloc, tokens),
-            GenericsReader::ImplGenerics => reprint_impl_generics::<A, E>(alloc, tokens),
-            GenericsReader::TypeGenerics => reprint_type_generics::<A, E>(alloc, tokens),
-            GenericsReader::Turbofish => reprint_turbofish::<A, E>(alloc, tokens),
-            GenericsReader::WhereClause => reprint::<WhereClauseOf<A, E>>(alloc, tokens),
-            GenericsReader::OptionalWhereClause => reprint_with(
-                alloc,
-                ParseOptionalWhereOf::<A, E>::new(),
-                tokens,
-            ),
-            GenericsReader::Predicate => reprint::<WherePredicateOf<A, E>>(alloc, tokens),
-        }
-    }
-}
-
-impl PatternReader {
-    fn named(name: &str) -> Option<PatternReader>
-        ensures { result ≡ spec.patterns_named name.now }
-    {
-        match name {
-            "Pat::parse_single" => Some(PatternReader::Single),
-            "Pat::parse_multi" => Some(PatternReader::Multi),
-            "Pat::parse_multi_with_leading_vert" => Some(PatternReader::LeadingVert),
-            "Pat::parse_multi_with_leading_vert_and_guard" => Some(PatternReader::Guarded),
-            "PatType" => Some(PatternReader::Typed),
-            _ => None,
-        }
-    }
-
-    /// Reads all of a list, and prints what was read, over any supplied subtree.
-    fn reprint_over<X: Subtree>(
-        self,
-        alloc: Global,
-        tokens: &TokenStream,
-    ) -> Result<TokenStream, Error>
-        ensures { spec.Reprints (spec.patterns_category X.reads X.prints self) (toks tokens.now) result }
-    {
-        match self {
-            PatternReader::Single => reprint_with(alloc, ParseSingle::<X>::new(), tokens),
-            PatternReader::Multi => reprint_with(alloc, ParseMulti::<X>::new(), tokens),
-            PatternReader::LeadingVert => reprint_with(
-                alloc,
-                ParseMultiWithLeadingVert::<X>::new(),
-                tokens,
-            ),
-            PatternReader::Guarded => reprint_with(
-                alloc,
-                ParseMultiWithLeadingVertAndGuard::<X>::new(),
-                tokens,
-            ),
-            PatternReader::Typed => reprint::<PatType<X>>(alloc, tokens),
+            TypeReader::Bound => reprint::<TypeParamBoundOf<A, E>>(alloc, tokens),
         }
     }
 }
@@ -444,42 +169,6 @@ fn reprint_attributes<P: Parser<Output = Items<Attribute<Sample>>> + Drop>(
 {
     let attrs = read_all_with(alloc, parser, tokens)?;
     Ok(print_of(alloc, &attrs)?)
-}
-
-/// Reads all of a list as generics, and prints those of an implementation.
-fn reprint_impl_generics<A: Attributes, E: Value>(
-    alloc: Global,
-    tokens: &TokenStream,
-) -> Result<TokenStream, Error>
-    ensures { spec.Prints (Gives (alone.generics A.reads E.reads)) (Fails (alone.generics A.reads E.reads)) (λ _ _. Unit {0}) (spec.impl_generics A.shown E.values) (toks tokens.now) result }
-{
-    let generics = read_all::<GenericsOf<A, E>>(alloc, tokens)?;
-    let (impl_generics, _, _) = generics.split_for_impl();
-    Ok(print_of(alloc, &impl_generics)?)
-}
-
-/// Reads all of a list as generics, and prints the names of the parameters.
-fn reprint_type_generics<A: Attributes, E: Value>(
-    alloc: Global,
-    tokens: &TokenStream,
-) -> Result<TokenStream, Error>
-    ensures { spec.Prints (Gives (alone.generics A.reads E.reads)) (Fails (alone.generics A.reads E.reads)) (λ _ _. Unit {0}) views.names (toks tokens.now) result }
-{
-    let generics = read_all::<GenericsOf<A, E>>(alloc, tokens)?;
-    let (_, type_generics, _) = generics.split_for_impl();
-    Ok(print_of(alloc, &type_generics)?)
-}
-
-/// Reads all of a list as generics, and prints the names of the parameters after `::`.
-fn reprint_turbofish<A: Attributes, E: Value>(
-    alloc: Global,
-    tokens: &TokenStream,
-) -> Result<TokenStream, Error>
-    ensures { spec.Prints (Gives (alone.generics A.reads E.reads)) (Fails (alone.generics A.reads E.reads)) (λ _ _. Unit {0}) views.turbofish (toks tokens.now) result }
-{
-    let generics = read_all::<GenericsOf<A, E>>(alloc, tokens)?;
-    let (_, type_generics, _) = generics.split_for_impl();
-    Ok(print_of(alloc, &type_generics.as_turbofish())?)
 }
 
 fn print_of<T: ToTokens>(alloc: Global, tree: &T) -> Result<TokenStream, AllocError>

@@ -1,3 +1,0 @@
-pub mod Normal
-pub mod SamePrint
-pub mod Stays

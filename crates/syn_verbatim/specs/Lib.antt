@@ -1,6 +1,0 @@
-pub mod Held
-pub mod Reading
-pub mod Spelling
-pub mod Likes
-pub mod Again
-pub mod Laws
