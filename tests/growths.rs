@@ -60,7 +60,7 @@ fn printed<T: ToTokens + Drop>(
 }
 
 /// Takes memory so often, and gives it back.
-fn take(alloc: Global, times: usize) -> Result<(), Error> {
+pub(crate) fn take(alloc: Global, times: usize) -> Result<(), Error> {
     for _ in 0..times {
         let _one = Boxed::new(alloc, 0)?;
     }

@@ -1,5 +1,5 @@
 //! The tests of `syn_mid` and of the crates that it is the face of, which are run and not proved (docs/GATE.md): `checks/tests` runs them.
-//! A file stands in the folder of the crate that it tests, and names all by the face, as users do.
+//! A file stands in the folder of the crate that it tests, and names all by the face, as users do. Those in `examples` are worked examples.
 #![tactic(auto)]
 
 #[cfg(test)]
@@ -8,6 +8,10 @@ mod argument_tests;
 mod attr_tests;
 #[cfg(test)]
 mod bound_tests;
+#[cfg(test)]
+mod closure_tests;
+#[cfg(test)]
+mod derive_head_tests;
 #[cfg(test)]
 mod expr_tests;
 #[cfg(test)]
@@ -19,6 +23,10 @@ mod lists;
 #[cfg(test)]
 mod mac_tests;
 #[cfg(test)]
+mod made_by_hand_tests;
+#[cfg(test)]
+mod mod_path_tests;
+#[cfg(test)]
 mod nothing;
 #[cfg(test)]
 mod object_tests;
@@ -26,10 +34,17 @@ mod object_tests;
 mod pat_tests;
 #[cfg(test)]
 mod path_tests;
+#[cfg(test)]
 mod plain_type_tests;
 #[cfg(test)]
 mod qualified_tests;
 #[cfg(test)]
+mod signature_index_tests;
+#[cfg(test)]
+mod supplied_tests;
+#[cfg(test)]
 mod type_attr_tests;
 #[cfg(test)]
 mod type_tests;
+#[cfg(test)]
+mod verbatim_tests;

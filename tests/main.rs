@@ -1,8 +1,9 @@
-//! Prints the tree that the argument names, after taking memory once for each byte of the standard input. `checks/tests` runs it with a call
-//! for memory refused. Its status says what came of it.
+//! Prints the tree that the argument names, or makes the calls that it names, after taking memory once for each byte of the standard input.
+//! `checks/tests` runs it with a call for memory refused. Its status says what came of it.
 #![tactic(auto)]
 
 mod argument_tests;
+mod calls;
 mod expr_tests;
 mod fn_ptr_tests;
 mod generics_tests;
@@ -13,6 +14,7 @@ mod pat_tests;
 mod qualified_tests;
 
 use growths::Outcome;
+use std::alloc::Global;
 use std::env;
 use std::io::Read;
 use std::process::ExitCode;
@@ -41,10 +43,17 @@ fn came_of(rt: &HostRuntime) -> Result<Outcome, Error> {
         Ok(mut words) => {
             let _program = words.next();
             match words.next() {
-                Some(name) => growths::outcome(rt.alloc(), name.as_str(), times),
+                Some(name) => named(rt.alloc(), name.as_str(), times),
                 None => Err(Error::new(rt.alloc(), Span::none(), "no name")),
             }
         }
         Err(_) => Err(Error::new(rt.alloc(), Span::none(), "no arguments")),
+    }
+}
+
+fn named(alloc: Global, name: &str, times: usize) -> Result<Outcome, Error> {
+    match name.strip_prefix("calls-") {
+        Some(calls) => calls::outcome(alloc, calls, times),
+        None => growths::outcome(alloc, name, times),
     }
 }

@@ -1,14 +1,18 @@
-//! What attributes made by hand are asked for.
+//! What attributes are asked for: those made by hand, and of those read from text, their properties.
 
-use crate::lists::{made, place, put, read_path, show_span, text_is, tokens};
+use crate::lists::{got, made, place, put, read_path, show_span, text_is, tokens};
 use crate::nothing::Nothing;
 use std::alloc::{AllocError, Global};
 use std::fmt::Write;
 use std::process::Abort;
 use syn_mid::attr::{inner, outer};
-use syn_mid::{AttrStyle, Attribute, Expr, MacroDelimiter, Meta, MetaList, MetaNameValue};
-use token_core::token::{Bracket, Eq, Not, Paren, Pound};
-use token_core::{Error, Ident, Span};
+use syn_mid::meta::ParseNestedMeta;
+use syn_mid::{
+    AttrStyle, Attribute, Expr, MacroDelimiter, Meta, MetaList, MetaNameValue, ParseOuter,
+};
+use token_core::token::{Bracket, Comma, Eq, Not, Paren, Pound};
+use token_core::{Error, Ident, Items, Lit, Span, read_all_with};
+use token_text::lex;
 
 /// An attribute with this content, made by hand.
 fn attribute(meta: Meta<Nothing>, style: AttrStyle) -> Attribute<Nothing> {
@@ -204,4 +208,122 @@ fn gives_all_attributes_or_none(rt: HostRuntime) {
     inners_are(&rt, rt.alloc(), attrs.as_slice(), "plv");
     outers_are(&rt, rt.alloc(), &[], "");
     inners_are(&rt, rt.alloc(), &[], "");
+}
+
+/// What a closure does at a property.
+#[derive(Clone, Copy)]
+enum Does {
+    /// Reads a literal after `=`, where one stands.
+    Values,
+    /// Reads nothing.
+    Nothing,
+    /// Answers its own error at once, or after a value.
+    Refuses,
+    RefusesLate,
+    /// Reads all of `= 1, c`.
+    Everything,
+    /// Opens parentheses, and reads nothing in them.
+    Opens,
+}
+
+fn value(alloc: Global, meta: &mut ParseNestedMeta<'_>) -> Result<(), Error> {
+    if meta.input.peek::<Eq>() {
+        meta.value(alloc)?.parse::<Lit>(alloc)?;
+    }
+    Ok(())
+}
+
+fn everything(alloc: Global, meta: &mut ParseNestedMeta<'_>) -> Result<(), Error> {
+    value(alloc, meta)?;
+    meta.input.parse::<Comma>(alloc)?;
+    meta.input.parse::<Ident>(alloc)?;
+    Ok(())
+}
+
+fn open(alloc: Global, meta: &mut ParseNestedMeta<'_>) -> Result<(), Error> {
+    let (_, content) = meta.input.parenthesized(alloc)?;
+    meta.input.finish(content);
+    Ok(())
+}
+
+fn refuse(alloc: Global, meta: &ParseNestedMeta<'_>) -> Result<(), Error> {
+    if meta.path.segments.is_empty() {
+        return Ok(());
+    }
+    Err(meta.error(alloc, "no"))
+}
+
+fn at_property(alloc: Global, does: Does, meta: &mut ParseNestedMeta<'_>) -> Result<(), Error> {
+    match does {
+        Does::Values => value(alloc, meta),
+        Does::Nothing => Ok(()),
+        Does::Refuses => refuse(alloc, meta),
+        Does::RefusesLate => {
+            value(alloc, meta)?;
+            refuse(alloc, meta)
+        }
+        Does::Everything => everything(alloc, meta),
+        Does::Opens => open(alloc, meta),
+    }
+}
+
+fn write_name(meta: &ParseNestedMeta<'_>, out: &mut String) -> Result<(), AllocError> {
+    if let Some(segment) = meta.path.segments.first() {
+        write!(out, "{} ", segment.ident.text())?;
+    }
+    Ok(())
+}
+
+fn read_outers(alloc: Global, text: &str) -> Result<Items<Attribute<Nothing>>, Error> {
+    let tokens = lex(alloc, text)?;
+    read_all_with(alloc, ParseOuter::<Nothing>::new(), &tokens)
+}
+
+/// The properties at which a closure was called, and what the call that reads them answered.
+fn properties(rt: &impl Abort, alloc: Global, does: Does, text: &str) -> String {
+    let mut out = String::new(alloc);
+    for attr in got(rt, read_outers(alloc, text)).iter() {
+        if attr.path().segments.is_empty() {
+            return out;
+        }
+        let mut calls = String::new(alloc);
+        let logic = |alloc: Global, meta: &mut ParseNestedMeta<'_>| -> Result<(), Error> {
+            write_name(meta, &mut calls)?;
+            at_property(alloc, does, meta)
+        };
+        let answer = attr.parse_nested_meta(alloc, logic);
+        put(rt, calls.as_str(), &mut out);
+        match answer {
+            Ok(()) => put(rt, "ok", &mut out),
+            Err(error) => told(rt, &error, &mut out),
+        }
+    }
+    out
+}
+
+#[test]
+fn reads_properties_of_arguments(rt: HostRuntime) {
+    for (does, text, wanted) in [
+        (
+            Does::Values,
+            "#[a(::)]",
+            "unexpected end of input, expected nested attribute 6-7 6-7",
+        ),
+        (
+            Does::Values,
+            "#[a(::5)]",
+            "unexpected literal in nested attribute, expected ident 6-7 6-7",
+        ),
+        (Does::Values, "#[a(b::5)]", "expected identifier 7-8 7-8"),
+        (Does::Nothing, "#[a(b = 1, c)]", "b expected `,` 6-7 6-7"),
+        (Does::Refuses, "#[a(b = 1, c)]", "b no 4-5 4-5"),
+        (Does::Everything, "#[a(b = 1, c)]", "b ok"),
+        (Does::Values, "#[a(b = 1, c)]", "b c ok"),
+        (Does::Opens, "#[a(b(x))]", "b unexpected token 6-7 6-7"),
+        (Does::Refuses, "#[a(b = 1)]", "b no 4-5 4-5"),
+        (Does::RefusesLate, "#[a(b = 1)]", "b no 4-5 8-9"),
+    ] {
+        let out = properties(&rt, rt.alloc(), does, text);
+        text_is(&rt, out.as_str(), wanted);
+    }
 }

@@ -252,3 +252,41 @@ fn makes_paths_of_segments(rt: HostRuntime) {
     let want = "none;ExpectedPathIdent expected this path to be an identifier";
     identifies(&rt, alloc, &path, want, " 3-4 3-4");
 }
+
+/// What the path is as one without arguments, and that with arguments again, where none is there.
+fn bare_and_back(rt: &impl Abort, alloc: Global, path: &Path<Nothing>, out: &mut String) {
+    match made(rt, path.to_mod_path(alloc)) {
+        Some(bare) => {
+            show_path(rt, &bare, out);
+            put(rt, "and ", out);
+            let back = made(rt, Path::<Nothing>::from_mod_path(alloc, &bare));
+            show_path(rt, &back, out);
+        }
+        None => put(rt, "none", out),
+    }
+}
+
+fn bare_is(rt: &impl Abort, alloc: Global, path: &Path<Nothing>, wanted: &str) {
+    let mut out = String::new(alloc);
+    bare_and_back(rt, alloc, path, &mut out);
+    text_is(rt, out.as_str(), wanted);
+}
+
+#[test]
+fn paths_without_arguments_are_mod_paths(rt: HostRuntime) {
+    let alloc = rt.alloc();
+    for (text, wanted) in [
+        ("a", "a 0-1;and a 0-1;"),
+        (
+            ":: self :: b",
+            "leading 0-1 1-2;self 3-7;:: 8-9 9-10;b 11-12;and leading 0-1 1-2;self 3-7;:: 8-9 9-10;b 11-12;",
+        ),
+    ] {
+        bare_is(&rt, alloc, &read_path(&rt, alloc, text), wanted);
+    }
+    let ident = made(&rt, Ident::new(alloc, "a", Span::new(3, 4)));
+    let arguments = angles(alloc, None);
+    let segment = PathSegment { ident, arguments };
+    let path = made(&rt, Path::from_segment(alloc, segment));
+    bare_is(&rt, alloc, &path, "none");
+}

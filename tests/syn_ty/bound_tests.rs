@@ -43,6 +43,12 @@ fn bounds_print_as_they_are_read(rt: HostRuntime) {
         ("for<'a> A", "for < 'a > A"),
         ("for<> A", "for < > A"),
         ("for<'a, 'b,> A", "for < 'a , 'b , > A"),
+        ("for<T> A", "for < T > A"),
+        ("for<'a: 'b> A", "for < 'a : 'b > A"),
+        ("A<B>", "A < B >"),
+        ("A(B) -> C", "A (B) -> C"),
+        ("A<>(B)", "A (B)"),
+        ("use<'a, T>", "use < 'a , T >"),
         ("(A)", "(A)"),
         ("(?A)", "(? A)"),
         ("(for<'a> A)", "(for < 'a > A)"),
@@ -91,7 +97,7 @@ fn a_binder_beside_a_question_mark_is_refused_at_the_mark(rt: HostRuntime) {
 }
 
 #[test]
-fn what_is_no_bound_yet_is_refused(rt: HostRuntime) {
+fn what_is_no_bound_is_refused(rt: HostRuntime) {
     let alloc = rt.alloc();
     refused(
         &rt,
@@ -101,19 +107,20 @@ fn what_is_no_bound_yet_is_refused(rt: HostRuntime) {
         0,
     );
     refused(&rt, alloc, "A + B", "unexpected token", 2);
-    refused(&rt, alloc, "A<B>", "unexpected token", 1);
-    refused(&rt, alloc, "A(B)", "unexpected token", 1);
+    refused(&rt, alloc, "A<B>(C)", "unexpected token", 4);
     refused(&rt, alloc, "('a)", "expected identifier", 1);
     refused(&rt, alloc, "((A))", "expected identifier", 1);
     refused(&rt, alloc, "(A B)", "unexpected token", 3);
-    refused(&rt, alloc, "use<'a>", "expected identifier", 0);
-    refused(&rt, alloc, "const A", "expected identifier", 0);
-    refused(&rt, alloc, "[const] A", "expected identifier", 0);
+    refused(&rt, alloc, "use 'a", "expected `<`", 4);
     refused(&rt, alloc, "for 'a A", "expected `<`", 4);
-    refused(&rt, alloc, "for<T> A", "expected lifetime", 4);
-    refused(&rt, alloc, "for<'a: 'b> A", "expected `,`", 6);
     refused(&rt, alloc, "for<'a 'b> A", "expected `,`", 7);
-    refused(&rt, alloc, "for<'a, , 'b> A", "expected lifetime", 8);
+    refused(
+        &rt,
+        alloc,
+        "for<'a, , 'b> A",
+        "expected one of: identifier, lifetime, `const`",
+        8,
+    );
     refused(
         &rt,
         alloc,
@@ -121,4 +128,19 @@ fn what_is_no_bound_yet_is_refused(rt: HostRuntime) {
         "unexpected end of input, expected `,`",
         0,
     );
+}
+
+#[test]
+fn a_const_form_is_held_as_it_was_written(rt: HostRuntime) {
+    let alloc = rt.alloc();
+    for (text, wanted) in [
+        ("const A", "const A"),
+        ("[const] A", "[const] A"),
+        ("(const A)", "(const A)"),
+        // an invisible group is held where all of it was read
+        ("const \\(A\\)", "const \\(A\\)"),
+        ("\\((const A)\\)", "\\((const A)\\)"),
+    ] {
+        says(&rt, again(alloc, text), wanted);
+    }
 }

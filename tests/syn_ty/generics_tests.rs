@@ -4,6 +4,7 @@ use crate::nothing::Nothing;
 use std::alloc::Global;
 use std::fmt::Write;
 use std::process::Abort;
+use syn_mid::generics::{ConstParams, Lifetimes, TypeParams};
 use syn_mid::{
     Arguments, BoundLifetimes, CapturedParam, ConstParam, Expr, ExprLit, GenericParam, Generics,
     LifetimeParam, ModStyle, ParseInner, ParseOuter, PathOf, PreciseCapture, PredicateLifetime,
@@ -484,25 +485,25 @@ fn mixed(alloc: Global) -> Result<Generics<Nothing>, Error> {
     Ok(generics)
 }
 
-fn type_names(alloc: Global, generics: &Generics<Nothing>) -> Result<String, Error> {
+fn type_names(alloc: Global, params: TypeParams<'_, Nothing>) -> Result<String, Error> {
     let mut out = String::new(alloc);
-    for param in generics.type_params() {
+    for param in params {
         write!(out, "{} ", param.ident.text())?;
     }
     Ok(out)
 }
 
-fn const_names(alloc: Global, generics: &Generics<Nothing>) -> Result<String, Error> {
+fn const_names(alloc: Global, params: ConstParams<'_, Nothing>) -> Result<String, Error> {
     let mut out = String::new(alloc);
-    for param in generics.const_params() {
+    for param in params {
         write!(out, "{} ", param.ident.text())?;
     }
     Ok(out)
 }
 
-fn lifetime_names(alloc: Global, generics: &Generics<Nothing>) -> Result<String, Error> {
+fn lifetime_names(alloc: Global, params: Lifetimes<'_, Nothing>) -> Result<String, Error> {
     let mut out = String::new(alloc);
-    for param in generics.lifetimes() {
+    for param in params {
         write!(out, "{} ", param.lifetime.ident.text())?;
     }
     Ok(out)
@@ -526,18 +527,18 @@ fn renamed(alloc: Global, generics: &mut Generics<Nothing>) -> Result<(), Error>
 fn iterators_give_their_kind(rt: HostRuntime) {
     let alloc = rt.alloc();
     let generics = got(&rt, mixed(alloc));
-    says(&rt, type_names(alloc, &generics), "T U ");
-    says(&rt, const_names(alloc, &generics), "N ");
-    says(&rt, lifetime_names(alloc, &generics), "a b ");
+    says(&rt, type_names(alloc, generics.type_params()), "T U ");
+    says(&rt, const_names(alloc, generics.const_params()), "N ");
+    says(&rt, lifetime_names(alloc, generics.lifetimes()), "a b ");
 }
 
 #[test]
 fn iterators_of_no_parameters_end(rt: HostRuntime) {
     let alloc = rt.alloc();
     let generics = Generics::<Nothing>::default(alloc);
-    says(&rt, type_names(alloc, &generics), "");
-    says(&rt, const_names(alloc, &generics), "");
-    says(&rt, lifetime_names(alloc, &generics), "");
+    says(&rt, type_names(alloc, generics.type_params()), "");
+    says(&rt, const_names(alloc, generics.const_params()), "");
+    says(&rt, lifetime_names(alloc, generics.lifetimes()), "");
 }
 
 #[test]

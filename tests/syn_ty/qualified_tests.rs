@@ -1,13 +1,14 @@
 //! What qualified paths made by hand print, whole and with segments taken off their ends.
 
-use crate::generics_tests::{both, holds, path, prints_as, says, shown, ty};
+use crate::generics_tests::{both, holds, path, printed, prints_as, says, shown, ty};
 use crate::nothing::Nothing;
 use crate::pat_tests::boxed;
 use std::alloc::Global;
 use std::fmt::Write;
-use syn_mid::{Path, QSelf, QSelfOf, Type, TypePathOf};
+use syn_mid::{Path, QSelf, QSelfOf, Type, TypePath, TypePathOf};
 use token_core::token::{As, Gt, Lt};
-use token_core::{Error, Items, Span, Spanned};
+use token_core::{Error, Items, Span, Spanned, read_all};
+use token_text::lex;
 
 /// A path without its last segments.
 fn popped(alloc: Global, text: &str, times: u8) -> Result<Path<Nothing>, Error> {
@@ -97,6 +98,32 @@ fn plain_paths_print(rt: HostRuntime) {
     says(&rt, of_none(alloc, 1), "Self :: A ::");
     says(&rt, of_none(alloc, 2), "Self ::");
     says(&rt, of_none(alloc, 3), "");
+}
+
+/// What is left of a text's qualified path once its last segments are taken off.
+fn read_without(alloc: Global, text: &str, times: u8) -> Result<String, Error> {
+    let mut ty: TypePath<Nothing> = read_all(alloc, &lex(alloc, text)?)?;
+    for _ in 0..times {
+        let _last = ty.path.segments.pop();
+    }
+    printed(alloc, &ty)
+}
+
+#[test]
+fn paths_that_are_read_print_without_their_last_segments(rt: HostRuntime) {
+    let alloc = rt.alloc();
+    for (text, times, wanted) in [
+        ("<Self as A>::Q", 0, "< Self as A > :: Q"),
+        ("<Self as A>::Q", 1, "< Self as A > ::"),
+        ("<Self as A>::Q", 2, "< Self >"),
+        ("<Self>::A::B", 1, "< Self > :: A ::"),
+        ("<Self>::A::B", 2, "< Self > ::"),
+        ("Self::A::B", 1, "Self :: A ::"),
+        ("Self::A::B", 2, "Self ::"),
+        ("Self::A::B", 3, ""),
+    ] {
+        says(&rt, read_without(alloc, text, times), wanted);
+    }
 }
 
 /// Where `<Self>` stands, its `<` at 3 and its `>` at 8.

@@ -1,4 +1,4 @@
-//! What forms of types made by hand print that no reader answers yet.
+//! What conventions, outputs and types in invisible groups made by hand print.
 
 use crate::generics_tests::{printed, says};
 use crate::nothing::Nothing;

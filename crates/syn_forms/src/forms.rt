@@ -1,21 +1,26 @@
 //! Forms that look into nothing that they hold.
 
-ghost use Rattle.std.specs.Prelude.{◌<◌, ◌≤◌, length};
+ghost use Rattle.std.specs.Prelude.{◌<◌, ◌≤◌, length, true};
 ghost use Rattle.token_core.specs.Reads.{Parses};
 ghost use Rattle.syn_forms.specs.forms.Reading as reading;
-ghost use Rattle.syn_forms.specs.groups.Reading as groups;
+ghost use Rattle.syn_forms.specs.heads.Reading as heads;
+ghost use Rattle.syn_forms.specs.lists.Reading as lists;
 ghost use Rattle.syn_forms.specs.nested.Below as below;
-ghost use Rattle.syn_forms.specs.nested.Below.{Nests, alone, ahead};
+ghost use Rattle.syn_forms.specs.nested.Below.{Nests, ahead};
+ghost use Rattle.syn_forms.specs.params.Reading as params;
+ghost use Rattle.syn_forms.specs.paths.Reading as paths;
 
+use crate::lists::End;
 use crate::nested::{Held, Nested, Tree};
+use crate::params::type_parts;
 use crate::tokens::{
     PointerMutability, parse_and, parse_lifetime, parse_mut, parse_mutability, parse_star,
 };
 use std::alloc::Global;
 use std::marker::PhantomData;
-use syn_path::supplied::Value;
-use token_core::token::{And, Bracket, Comma, Mut, Paren, Semi, Star};
-use token_core::{Boxed, Error, Lifetime, ParseStream, Punctuated};
+use syn_path::path::{Arguments, PathOf, PathSegmentOf, PathStyle, QSelfOf};
+use token_core::token::{And, Colon, Comma, Eq, For, Gt, Lt, Mut, Plus, Star};
+use token_core::{Boxed, Cursor, Error, Ident, Lifetime, ParseStream, Punctuated};
 
 impl<
     'a,
@@ -59,118 +64,161 @@ impl<
     }
 }
 
-// ---- forms by themselves
+// ---- parts of forms by themselves, from a position on: what they hold is read by its own reader
 
-/// `*const T`, `*mut T`
-pub fn parse_ptr<P: Copy, T: Held<P>>(
+/// `<`, values joined by commas, and `>`.
+pub fn parse_angled<P: Copy, T: Held<P>>(
     alloc: Global,
+    begin: &Cursor<'_>,
     input: &mut ParseStream<'_>,
     place: P,
-) -> Result<(Star, PointerMutability, Boxed<T>), Error>
-    ensures parses { Parses (alone reading.ptr T.read place) result input.old input.new }
+) -> Result<(Lt, Punctuated<T, Comma>, Gt), Error>
+    requires few { ahead input.old ≤ length begin.now }
+    ensures parses { Parses (heads.angled (below.held T.read (length begin.now) place)) result input.old input.new }
 {
-    let begin = input.cursor();
     let read = T::parse_held;
     Nested {
         alloc,
         of: PhantomData,
-        begin,
+        begin: begin.again(),
         read,
     }
-    .ptr(input, place)
+    .angled(input, place)
 }
 
-/// `&'a mut T`
-pub fn parse_reference<P: Copy, T: Held<P>>(
+/// `for` and its parameters.
+pub fn parse_binder<P: Copy, T: Held<P>>(
     alloc: Global,
+    begin: &Cursor<'_>,
     input: &mut ParseStream<'_>,
     place: P,
-) -> Result<(And, Option<Lifetime>, Option<Mut>, Boxed<T>), Error>
-    ensures parses { Parses (alone reading.reference T.read place) result input.old input.new }
+) -> Result<(For, (Lt, Punctuated<T, Comma>, Gt)), Error>
+    requires few { ahead input.old ≤ length begin.now }
+    ensures parses { Parses (heads.binder (below.held T.read (length begin.now) place)) result input.old input.new }
 {
-    let begin = input.cursor();
     let read = T::parse_held;
     Nested {
         alloc,
         of: PhantomData,
-        begin,
+        begin: begin.again(),
         read,
     }
-    .reference(input, place)
+    .binder(input, place)
 }
 
-/// `[T]`
-pub fn parse_slice<P: Copy, T: Held<P>>(
+/// A path, in this style.
+pub fn parse_path<G: Held<()> + Arguments>(
     alloc: Global,
+    begin: &Cursor<'_>,
     input: &mut ParseStream<'_>,
-    place: P,
-) -> Result<(Bracket, Boxed<T>), Error>
-    ensures parses { Parses (alone groups.in_brackets T.read place) result input.old input.new }
+    style: PathStyle,
+) -> Result<PathOf<G>, Error>
+    requires few { ahead input.old ≤ length begin.now }
+    ensures parses { Parses (paths.path G.absent (below.held G.read (length begin.now) tt) style) result input.old input.new }
 {
-    let begin = input.cursor();
-    let read = T::parse_held;
+    let read = G::parse_held;
     Nested {
         alloc,
         of: PhantomData,
-        begin,
+        begin: begin.again(),
         read,
     }
-    .slice(input, place)
+    .path(input, style)
 }
 
-/// `[T; n]`
-pub fn parse_array<P: Copy, T: Held<P>, E: Value>(
+/// A segment, in this style.
+pub fn parse_segment<G: Held<()> + Arguments>(
     alloc: Global,
+    begin: &Cursor<'_>,
     input: &mut ParseStream<'_>,
-    place: P,
-) -> Result<(Bracket, Boxed<T>, (Semi, E)), Error>
-    ensures parses { Parses (alone (groups.array E.reads.len) T.read place) result input.old input.new }
+    style: PathStyle,
+) -> Result<PathSegmentOf<G>, Error>
+    requires few { ahead input.old ≤ length begin.now }
+    ensures parses { Parses (paths.segment G.absent (below.held G.read (length begin.now) tt) style) result input.old input.new }
 {
-    let begin = input.cursor();
-    let read = T::parse_held;
+    let read = G::parse_held;
     Nested {
         alloc,
         of: PhantomData,
-        begin,
+        begin: begin.again(),
         read,
     }
-    .array(input, place)
+    .segment(input, style)
 }
 
-/// `(T)`
-pub fn parse_paren<P: Copy, T: Held<P>>(
+/// A path, behind a type that qualifies it where a `<` stands.
+pub fn parse_maybe_qualified<P: Copy, T: Held<P>, G: Held<()> + Arguments>(
     alloc: Global,
+    begin: &Cursor<'_>,
     input: &mut ParseStream<'_>,
     place: P,
-) -> Result<(Paren, Boxed<T>), Error>
-    ensures parses { Parses (alone groups.in_parens T.read place) result input.old input.new }
+    style: PathStyle,
+) -> Result<(Option<QSelfOf<T>>, PathOf<G>), Error>
+    requires few { ahead input.old ≤ length begin.now }
+    ensures parses { Parses (paths.maybe_qualified (below.held T.read (length begin.now) place) G.absent (below.held G.read (length begin.now) tt) style) result input.old input.new }
 {
-    let begin = input.cursor();
-    let read = T::parse_held;
+    let read_type = T::parse_held;
+    let types = Nested {
+        alloc,
+        of: PhantomData,
+        begin: begin.again(),
+        read: read_type,
+    };
+    let read = G::parse_held;
     Nested {
         alloc,
         of: PhantomData,
-        begin,
+        begin: begin.again(),
         read,
     }
-    .paren(input, place)
+    .maybe_qualified(&types, input, place, style)
 }
 
-/// `(T, U)`
-pub fn parse_tuple<P: Copy, T: Held<P>>(
+/// `T: A + B = C`, after its attributes.
+pub fn parse_type_parts<PB: Copy, B: Held<PB>, PT: Copy, T: Held<PT>>(
     alloc: Global,
+    begin: &Cursor<'_>,
+    input: &mut ParseStream<'_>,
+    bound_place: PB,
+    type_place: PT,
+) -> Result<(Ident, Option<Colon>, Punctuated<B, Plus>, Option<(Eq, T)>), Error>
+    requires few { ahead input.old ≤ length begin.now }
+    ensures parses { Parses (params.type_parts (below.held B.read (length begin.now) bound_place) (below.held T.read (length begin.now) type_place)) result input.old input.new }
+{
+    let read_bound = B::parse_held;
+    let bounds = Nested {
+        alloc,
+        of: PhantomData,
+        begin: begin.again(),
+        read: read_bound,
+    };
+    let read_type = T::parse_held;
+    let types = Nested {
+        alloc,
+        of: PhantomData,
+        begin: begin.again(),
+        read: read_type,
+    };
+    type_parts(&bounds, &types, input, bound_place, type_place)
+}
+
+/// Values joined by a mark, up to an end.
+pub fn parse_list<P: Copy, T: Held<P>, M: Drop, S: End<M>>(
+    alloc: Global,
+    begin: &Cursor<'_>,
     input: &mut ParseStream<'_>,
     place: P,
-) -> Result<(Paren, Punctuated<T, Comma>), Error>
-    ensures parses { Parses (alone (λ value. groups.in_parens (groups.tuple_content value)) T.read place) result input.old input.new }
+    end: S,
+) -> Result<Punctuated<T, M>, Error>
+    requires few { ahead input.old < length begin.now }
+    ensures parses { Parses (lists.list (S.stops end) (below.held T.read (length begin.now) place) (S.more end) (S.joint end) true) result input.old input.new }
 {
-    let begin = input.cursor();
     let read = T::parse_held;
     Nested {
         alloc,
         of: PhantomData,
-        begin,
+        begin: begin.again(),
         read,
     }
-    .tuple(input, place)
+    .list(input, place, end)
 }

@@ -1,6 +1,6 @@
 //! Groups: what parentheses and brackets hold.
 
-ghost use Rattle.std.specs.Prelude.{◌<◌, ◌≤◌, length};
+ghost use Rattle.std.specs.Prelude.{◌<◌, ◌≤◌, length, IfOk};
 ghost use Rattle.token_core.specs.Reads.{Parses};
 ghost use Rattle.syn_forms.specs.groups.Reading as reading;
 ghost use Rattle.syn_forms.specs.nested.Below as below;
@@ -13,15 +13,6 @@ use std::marker::PhantomData;
 use syn_path::supplied::Value;
 use token_core::token::{Bracket, Comma, GroupToken, Paren, Semi};
 use token_core::{Boxed, Error, ParseStream, Punctuated};
-
-/// What parentheses hold.
-#[derive(Drop)]
-pub enum InParens<T> {
-    /// A tree alone.
-    One(Boxed<T>),
-    /// The elements of a tuple.
-    Elements(Punctuated<T, Comma>),
-}
 
 /// What parentheses in the place of a type hold, over a type, the bounds of a trait object, and a trait bound.
 #[derive(Drop)]
@@ -162,40 +153,6 @@ impl<
         Ok((paren_token, elems))
     }
 
-    /// What parentheses hold: a tree, or the elements of a tuple.
-    #[tactic(auto, using(token_core::proofs::Suffixes::follows), unfolding(crate::specs::groups::Reading::paren_content))]
-    fn paren_content(&self, input: &mut ParseStream<'_>, place: P) -> Result<InParens<T>, Error>
-        requires nests { Nests T.read (length self.now.begin) (F.pre self.now.read) (F.post self.now.read) }
-        requires few { ahead input.old < length self.now.begin }
-        ensures parses { Parses (reading.paren_content (below.held T.read (length self.now.begin) place)) result input.old input.new }
-    {
-        if input.is_empty() {
-            return Ok(InParens::Elements(Punctuated::new(self.alloc)));
-        }
-        let value = self.value(input, place)?;
-        if input.peek::<Comma>() {
-            return Ok(InParens::Elements(self.more_elements(input, place, value)?));
-        }
-        Ok(InParens::One(Boxed::new(self.alloc, value)?))
-    }
-
-    /// A tree or the elements of a tuple, in parentheses.
-    #[tactic(auto, using(token_core::proofs::Suffixes::follows))]
-    pub fn paren_or_tuple(
-        &self,
-        input: &mut ParseStream<'_>,
-        place: P,
-    ) -> Result<(Paren, InParens<T>), Error>
-        requires nests { Nests T.read (length self.now.begin) (F.pre self.now.read) (F.post self.now.read) }
-        requires few { ahead input.old ≤ length self.now.begin }
-        ensures parses { Parses (reading.in_parens (reading.paren_content (below.held T.read (length self.now.begin) place))) result input.old input.new }
-    {
-        let (paren_token, mut content) = open_parens(self.alloc, input)?;
-        let held = self.paren_content(&mut content, place)?;
-        input.finish(content);
-        Ok((paren_token, held))
-    }
-
     /// A tree in an invisible group: syn's `TypeGroup`.
     ///
     /// Refused is what does not begin with an invisible group, and what the tree refuses; what is left in the group after the tree is left over.
@@ -208,7 +165,7 @@ impl<
         requires nests { Nests T.read (length self.now.begin) (F.pre self.now.read) (F.post self.now.read) }
         requires few { ahead input.old ≤ length self.now.begin }
         ensures parses { Parses (reading.in_invisible (below.held T.read (length self.now.begin) place)) result input.old input.new }
-        ensures fewer { ahead input.new ≤ ahead input.old }
+        ensures taken { IfOk result (λ _. ahead input.new < ahead input.old) }
     {
         let (group_token, mut content) = open_invisible(self.alloc, input)?;
         let held = self.boxed(&mut content, place)?;

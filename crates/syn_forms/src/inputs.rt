@@ -110,7 +110,11 @@ fn parse_name(alloc: Global, input: &mut ParseStream<'_>) -> Result<(Ident, Colo
 
 /// A name that may be there.
 #[tactic(auto, using(token_core::proofs::Suffixes::follows, crate::proofs::nested_laws::Ahead::later))]
-fn parse_optional_name(alloc: Global, input: &mut ParseStream<'_>, own: bool) -> Result<Name, Error>
+pub fn parse_optional_name(
+    alloc: Global,
+    input: &mut ParseStream<'_>,
+    own: bool,
+) -> Result<Name, Error>
     ensures parses { Parses (optional (reading.sees_name own) reading.name) result input.old input.new }
     ensures fewer { ahead input.new ≤ ahead input.old }
 {

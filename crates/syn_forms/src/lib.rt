@@ -12,5 +12,6 @@ pub mod nested;
 pub mod params;
 pub mod paths;
 pub mod places;
+pub mod predicates;
 pub mod tokens;
 pub mod verbatim;

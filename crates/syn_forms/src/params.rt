@@ -4,6 +4,7 @@ ghost use Rattle.std.specs.Prelude.{◌<◌, ◌≤◌, length, IfOk};
 ghost use Rattle.token_core.specs.Lifetimes.{read_lifetime};
 ghost use Rattle.token_core.specs.Reads.{Parses, optional};
 ghost use Rattle.token_core.specs.Tokens as token;
+ghost use Rattle.syn_forms.specs.heads.Reading.{angled};
 ghost use Rattle.syn_forms.specs.lists.Reading.{bounds_to};
 ghost use Rattle.syn_forms.specs.params.Reading as reading;
 ghost use Rattle.syn_forms.specs.nested.Below as below;
@@ -15,7 +16,7 @@ use crate::tokens::{parse_any_lifetime, parse_colon, parse_const, parse_eq, pars
 use std::alloc::Global;
 use std::marker::PhantomData;
 use syn_path::supplied::Value;
-use token_core::token::{Colon, Const, Eq, Plus};
+use token_core::token::{Colon, Comma, Const, Eq, Gt, Lt, Plus};
 use token_core::{Cursor, Error, Ident, Lifetime, ParseStream, Punctuated};
 
 /// A `:` that may be there: bounds follow it.
@@ -34,7 +35,7 @@ impl Tree<()> for Lifetime {
     ghost read = { λ place. read_lifetime };
 }
 
-fn parse_held_lifetime(
+pub(crate) fn parse_held_lifetime(
     alloc: Global,
     of: PhantomData<Lifetime>,
     input: &mut ParseStream<'_>,
@@ -98,6 +99,28 @@ pub fn parse_lifetime_parts(
     let colon_token = parse_optional_colon(alloc, input)?;
     let bounds = parse_lifetimes_after(alloc, begin, input, colon_token)?;
     Ok((lifetime, colon_token, bounds))
+}
+
+/// `<'a, 'b>`: lifetimes in angle brackets, any ones. A comma is needed between them, and may follow the last.
+///
+/// Refused is what is no lifetime, and two of them without a comma between them.
+#[tactic(auto, using(crate::proofs::nested_laws::Ahead::later))]
+pub fn parse_angled_lifetimes(
+    alloc: Global,
+    input: &mut ParseStream<'_>,
+) -> Result<(Lt, Punctuated<Lifetime, Comma>, Gt), Error>
+    ensures parses { Parses (angled read_lifetime) result input.old input.new }
+    ensures fewer { ahead input.new ≤ ahead input.old }
+{
+    let begin = input.cursor();
+    let read = parse_held_lifetime;
+    Nested {
+        alloc,
+        of: PhantomData,
+        begin,
+        read,
+    }
+    .angled(input, ())
 }
 
 // ---- parameters of types

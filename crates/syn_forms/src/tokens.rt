@@ -18,7 +18,7 @@ ghost use Rattle.syn_forms.specs.tokens.Spelling.{IsMutability};
 use std::alloc::{AllocError, Global};
 use token_core::token::{
     And, Bracket, Colon, Comma, Const, Dyn, Eq, Extern, Fn, For, GroupToken, Gt, Impl, Lt, Mut,
-    Paren, PathSep, Plus, Question, RArrow, Star, Unsafe, Use,
+    Paren, PathSep, Plus, Question, RArrow, Star, Unsafe, Use, Where,
 };
 use token_core::{Error, Ident, Lifetime, Parse, ParseStream, ToTokens, TokenStream};
 
@@ -246,6 +246,15 @@ pub fn parse_use(alloc: Global, input: &mut ParseStream<'_>) -> Result<Use, Erro
     input.parse::<Use>(alloc)
 }
 
+/// `where`
+#[tactic(auto, using(crate::proofs::nested_laws::Ahead::past_tokens))]
+pub fn parse_where(alloc: Global, input: &mut ParseStream<'_>) -> Result<Where, Error>
+    ensures parses { Parses tokens.where_word result input.old input.new }
+    ensures taken { IfOk result (λ _. ahead input.new < ahead input.old) }
+{
+    input.parse::<Where>(alloc)
+}
+
 /// An identifier that is no keyword.
 #[tactic(auto, using(crate::proofs::nested_laws::Ahead::past_tokens))]
 pub fn parse_ident(alloc: Global, input: &mut ParseStream<'_>) -> Result<Ident, Error>
@@ -281,6 +290,7 @@ pub fn open_invisible<'a>(
 ) -> Result<(GroupToken, ParseStream<'a>), Error>
     ensures parses { Parses (λ s. groups.opened groups.group_token (groups.open_invisible s)) result input.old input.new }
     ensures inside { IfOk result (λ p. ahead p.1 < ahead input.old) }
+    ensures taken { IfOk result (λ p. ahead input.new < ahead input.old) }
 {
     input.invisible(alloc)
 }

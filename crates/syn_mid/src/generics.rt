@@ -1,14 +1,14 @@
 //! Parameters, binders, bounds and where clauses.
 
 pub use syn_names::{
-    BoundLifetimes, ConstParam, GenericParam, Generics, ImplGenerics, LifetimeParam,
-    PredicateLifetime, PredicateType, TraitBound, Turbofish, TypeGenerics, TypeParam,
-    TypeParamBound, WhereClause, WherePredicate,
+    BoundLifetimes, ConstParam, ConstParams, ConstParamsMut, GenericParam, Generics, ImplGenerics,
+    LifetimeParam, Lifetimes, LifetimesMut, PredicateLifetime, PredicateType, TraitBound,
+    Turbofish, TypeGenerics, TypeParam, TypeParamBound, TypeParams, TypeParamsMut, WhereClause,
+    WherePredicate,
 };
 pub use syn_ty::generics::{
-    BoundLifetimesOf, CapturedParam, ConstParamOf, ConstParams, ConstParamsMut, GenericParamOf,
-    GenericsOf, ImplGenericsOf, LifetimeParamOf, Lifetimes, LifetimesMut, PreciseCapture,
-    PredicateLifetimeOf, PredicateTypeOf, TraitBoundModifiers, TraitBoundOf, TurbofishOf,
-    TypeGenericsOf, TypeParamBoundOf, TypeParamOf, TypeParams, TypeParamsMut, WhereClauseOf,
+    BoundLifetimesOf, CapturedParam, ConstParamOf, GenericParamOf, GenericsOf, ImplGenericsOf,
+    LifetimeParamOf, PreciseCapture, PredicateLifetimeOf, PredicateTypeOf, TraitBoundModifiers,
+    TraitBoundOf, TurbofishOf, TypeGenericsOf, TypeParamBoundOf, TypeParamOf, WhereClauseOf,
     WherePredicateOf,
 };

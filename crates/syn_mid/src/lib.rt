@@ -1,4 +1,4 @@
-//! Paths, macro calls, attributes and plain types of Rust, read from token lists into syntax trees and printed back.
+//! Paths, macro calls, attributes, types, generics and patterns of Rust, read from token lists into syntax trees and printed back.
 #![tactic(auto)]
 
 pub mod attr;
@@ -9,6 +9,7 @@ pub mod pat;
 pub mod path;
 pub mod supplied;
 pub mod ty;
+pub mod verbatim;
 pub mod whole;
 
 pub use attr::AttrStyle;
@@ -128,6 +129,7 @@ pub use supplied::ExprRange;
 pub use supplied::Place;
 pub use supplied::Subtree;
 pub use supplied::Value;
+pub use supplied::VerbatimExpr;
 pub use ty::Abi;
 pub use ty::FnPtrVariadic;
 pub use ty::FnPtrVariadicOf;
@@ -166,8 +168,25 @@ pub use ty::TypeTraitObject;
 pub use ty::TypeTraitObjectOf;
 pub use ty::TypeTuple;
 pub use ty::TypeTupleOf;
+pub use whole::ImplWithoutPlus;
+pub use whole::ImplWithoutPlusOf;
 pub use whole::ModStyle;
+pub use whole::ObjectWithoutPlus;
+pub use whole::ObjectWithoutPlusOf;
 pub use whole::ParseInner;
+pub use whole::ParseMulti;
+pub use whole::ParseMultiWithLeadingVert;
+pub use whole::ParseMultiWithLeadingVertAndGuard;
+pub use whole::ParseOptionalAbi;
+pub use whole::ParseOptionalLifetimes;
+pub use whole::ParseOptionalLifetimesOf;
+pub use whole::ParseOptionalWhere;
+pub use whole::ParseOptionalWhereOf;
 pub use whole::ParseOuter;
+pub use whole::ParseSingle;
+pub use whole::ParseTurbofish;
+pub use whole::ParseTurbofishOf;
+pub use whole::ReturnWithoutPlus;
+pub use whole::ReturnWithoutPlusOf;
 pub use whole::WithoutPlus;
 pub use whole::WithoutPlusOf;

@@ -5,3 +5,4 @@ pub use syn_attr::expr::{
     ExprMacroOf, ExprPath, ExprPathOf, ExprRange,
 };
 pub use syn_path::supplied::{Attributes, Place, Subtree, Value};
+pub use syn_verbatim::expr::VerbatimExpr;

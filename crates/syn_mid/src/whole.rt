@@ -7,16 +7,23 @@ ghost use Rattle.syn_attr.specs.attr.Grammars as grammars;
 ghost use Rattle.syn_attr.specs.attr.Reading as attrs;
 ghost use Rattle.syn_path.specs.path.Grammars as paths;
 ghost use Rattle.syn_path.specs.path.Reading as reading;
-ghost use Rattle.syn_ty.specs.ty.Grammars as types;
+ghost use Rattle.syn_forms.specs.declared.places.TypePlace.TheVariants.{NoPlus};
+ghost use Rattle.syn_pat.specs.declared.place.PatPlace.TheVariants.{LeadingVert, Multi, Single};
+ghost use Rattle.syn_pat.specs.pat.Knot as pats;
+ghost use Rattle.syn_ty.specs.ty.Reading as types;
 ghost use Rattle.syn_ty.specs.ty.Knot as knot;
+ghost use Rattle.syn_ty.specs.generics.Alone as alone;
 
 use std::alloc::Global;
 use std::marker::PhantomData;
 use syn_attr::attr::Attribute;
 use syn_attr::expr::Expr;
+use syn_pat::pat::Pat;
 use syn_path::path::{Arguments, PathOf};
 use syn_path::supplied::{Attributes, Subtree, Value};
-use syn_ty::ty::TypeOf;
+use syn_ty::generics::{BoundLifetimesOf, GenericParamOf, TypeParamBoundOf, WhereClauseOf};
+use syn_ty::path::{AngleBracketedGenericArgumentsOf, GenericArgumentOf};
+use syn_ty::ty::{Abi, ReturnTypeOf, TypeImplTraitOf, TypeOf, TypeTraitObjectOf};
 use token_core::{Error, Items, ParseStream, Parser};
 
 /// `PathOf::parse_mod_style` as a parser, for `read_all_with`.
@@ -139,13 +146,359 @@ impl<A: Attributes, E: Value> Parser for WithoutPlusOf<A, E> {
 
     ghost can_parse = { λ _. Unit {0} };
 
-    ghost reads = { λ _. Gives (knot.ty E.reads.len false) };
+    ghost reads = { λ _. Gives (knot.ty A.reads E.reads NoPlus) };
 
-    ghost refuses = { λ _. Fails (knot.ty {A = A} E.reads.len false) };
-
-    ghost promise = { λ _. Headline (types.ty E.reads.len E.spells.len A.normal E.normal A.shown E.values false) };
+    ghost refuses = { λ _. Fails (knot.ty A.reads E.reads NoPlus) };
 
     fn parse(self, alloc: Global, input: &mut ParseStream<'_>) -> Result<TypeOf<A, E>, Error> {
         TypeOf::without_plus(alloc, input)
+    }
+}
+
+/// `ReturnType::without_plus` as a parser, over attributes and expressions.
+#[derive(Drop)]
+pub struct ReturnWithoutPlusOf<A, E> {
+    pub of: PhantomData<(A, E)>,
+}
+
+/// `ReturnType::without_plus` as a parser.
+pub type ReturnWithoutPlus<X> = ReturnWithoutPlusOf<Attribute<X>, Expr<X>>;
+
+impl<A, E> ReturnWithoutPlusOf<A, E> {
+    pub fn new() -> ReturnWithoutPlusOf<A, E>
+        ensures { result ≡ record { of = record {} } }
+    {
+        ReturnWithoutPlusOf { of: PhantomData }
+    }
+}
+
+impl<A: Attributes, E: Value> Parser for ReturnWithoutPlusOf<A, E> {
+    type Output = ReturnTypeOf<TypeOf<A, E>>;
+
+    ghost can_parse = { λ _. Unit {0} };
+
+    ghost reads = { λ _. Gives (knot.return_type A.reads E.reads NoPlus) };
+
+    ghost refuses = { λ _. Fails (knot.return_type A.reads E.reads NoPlus) };
+
+    fn parse(
+        self,
+        alloc: Global,
+        input: &mut ParseStream<'_>,
+    ) -> Result<ReturnTypeOf<TypeOf<A, E>>, Error> {
+        ReturnTypeOf::without_plus(alloc, input)
+    }
+}
+
+/// `TypeTraitObject::without_plus` as a parser, over attributes and expressions.
+#[derive(Drop)]
+pub struct ObjectWithoutPlusOf<A, E> {
+    pub of: PhantomData<(A, E)>,
+}
+
+/// `TypeTraitObject::without_plus` as a parser.
+pub type ObjectWithoutPlus<X> = ObjectWithoutPlusOf<Attribute<X>, Expr<X>>;
+
+impl<A, E> ObjectWithoutPlusOf<A, E> {
+    pub fn new() -> ObjectWithoutPlusOf<A, E>
+        ensures { result ≡ record { of = record {} } }
+    {
+        ObjectWithoutPlusOf { of: PhantomData }
+    }
+}
+
+impl<A: Attributes, E: Value> Parser for ObjectWithoutPlusOf<A, E> {
+    type Output = TypeTraitObjectOf<TypeParamBoundOf<A, E>, A>;
+
+    ghost can_parse = { λ _. Unit {0} };
+
+    ghost reads = { λ _. Gives (knot.trait_object A.reads E.reads false) };
+
+    ghost refuses = { λ _. Fails (knot.trait_object A.reads E.reads false) };
+
+    fn parse(
+        self,
+        alloc: Global,
+        input: &mut ParseStream<'_>,
+    ) -> Result<TypeTraitObjectOf<TypeParamBoundOf<A, E>, A>, Error> {
+        TypeTraitObjectOf::without_plus(alloc, input)
+    }
+}
+
+/// `TypeImplTrait::without_plus` as a parser, over attributes and expressions.
+#[derive(Drop)]
+pub struct ImplWithoutPlusOf<A, E> {
+    pub of: PhantomData<(A, E)>,
+}
+
+/// `TypeImplTrait::without_plus` as a parser.
+pub type ImplWithoutPlus<X> = ImplWithoutPlusOf<Attribute<X>, Expr<X>>;
+
+impl<A, E> ImplWithoutPlusOf<A, E> {
+    pub fn new() -> ImplWithoutPlusOf<A, E>
+        ensures { result ≡ record { of = record {} } }
+    {
+        ImplWithoutPlusOf { of: PhantomData }
+    }
+}
+
+impl<A: Attributes, E: Value> Parser for ImplWithoutPlusOf<A, E> {
+    type Output = TypeImplTraitOf<TypeParamBoundOf<A, E>, A>;
+
+    ghost can_parse = { λ _. Unit {0} };
+
+    ghost reads = { λ _. Gives (knot.impl_trait A.reads E.reads false) };
+
+    ghost refuses = { λ _. Fails (knot.impl_trait A.reads E.reads false) };
+
+    fn parse(
+        self,
+        alloc: Global,
+        input: &mut ParseStream<'_>,
+    ) -> Result<TypeImplTraitOf<TypeParamBoundOf<A, E>, A>, Error> {
+        TypeImplTraitOf::without_plus(alloc, input)
+    }
+}
+
+/// `AngleBracketedGenericArguments::parse_turbofish` as a parser, over attributes and expressions.
+#[derive(Drop)]
+pub struct ParseTurbofishOf<A, E> {
+    pub of: PhantomData<(A, E)>,
+}
+
+/// `AngleBracketedGenericArguments::parse_turbofish` as a parser.
+pub type ParseTurbofish<X> = ParseTurbofishOf<Attribute<X>, Expr<X>>;
+
+impl<A, E> ParseTurbofishOf<A, E> {
+    pub fn new() -> ParseTurbofishOf<A, E>
+        ensures { result ≡ record { of = record {} } }
+    {
+        ParseTurbofishOf { of: PhantomData }
+    }
+}
+
+impl<A: Attributes, E: Value> Parser for ParseTurbofishOf<A, E> {
+    type Output = AngleBracketedGenericArgumentsOf<GenericArgumentOf<A, E>>;
+
+    ghost can_parse = { λ _. Unit {0} };
+
+    ghost reads = { λ _. Gives (knot.turbofish A.reads E.reads) };
+
+    ghost refuses = { λ _. Fails (knot.turbofish A.reads E.reads) };
+
+    fn parse(
+        self,
+        alloc: Global,
+        input: &mut ParseStream<'_>,
+    ) -> Result<AngleBracketedGenericArgumentsOf<GenericArgumentOf<A, E>>, Error> {
+        AngleBracketedGenericArgumentsOf::parse_turbofish(alloc, input)
+    }
+}
+
+/// `BoundLifetimes::parse_optional` as a parser, over attributes and expressions.
+#[derive(Drop)]
+pub struct ParseOptionalLifetimesOf<A, E> {
+    pub of: PhantomData<(A, E)>,
+}
+
+/// `BoundLifetimes::parse_optional` as a parser.
+pub type ParseOptionalLifetimes<X> = ParseOptionalLifetimesOf<Attribute<X>, Expr<X>>;
+
+impl<A, E> ParseOptionalLifetimesOf<A, E> {
+    pub fn new() -> ParseOptionalLifetimesOf<A, E>
+        ensures { result ≡ record { of = record {} } }
+    {
+        ParseOptionalLifetimesOf { of: PhantomData }
+    }
+}
+
+impl<A: Attributes, E: Value> Parser for ParseOptionalLifetimesOf<A, E> {
+    type Output = Option<BoundLifetimesOf<GenericParamOf<A, E>>>;
+
+    ghost can_parse = { λ _. Unit {0} };
+
+    ghost reads = { λ _. Gives (knot.optional_binder A.reads E.reads) };
+
+    ghost refuses = { λ _. Fails (knot.optional_binder A.reads E.reads) };
+
+    fn parse(
+        self,
+        alloc: Global,
+        input: &mut ParseStream<'_>,
+    ) -> Result<Option<BoundLifetimesOf<GenericParamOf<A, E>>>, Error> {
+        BoundLifetimesOf::parse_optional(alloc, input)
+    }
+}
+
+/// `WhereClause::parse_optional` as a parser, over attributes and expressions.
+#[derive(Drop)]
+pub struct ParseOptionalWhereOf<A, E> {
+    pub of: PhantomData<(A, E)>,
+}
+
+/// `WhereClause::parse_optional` as a parser.
+pub type ParseOptionalWhere<X> = ParseOptionalWhereOf<Attribute<X>, Expr<X>>;
+
+impl<A, E> ParseOptionalWhereOf<A, E> {
+    pub fn new() -> ParseOptionalWhereOf<A, E>
+        ensures { result ≡ record { of = record {} } }
+    {
+        ParseOptionalWhereOf { of: PhantomData }
+    }
+}
+
+impl<A: Attributes, E: Value> Parser for ParseOptionalWhereOf<A, E> {
+    type Output = Option<WhereClauseOf<A, E>>;
+
+    ghost can_parse = { λ _. Unit {0} };
+
+    ghost reads = { λ _. Gives (alone.optional_where_clause A.reads E.reads) };
+
+    ghost refuses = { λ _. Fails (alone.optional_where_clause A.reads E.reads) };
+
+    fn parse(
+        self,
+        alloc: Global,
+        input: &mut ParseStream<'_>,
+    ) -> Result<Option<WhereClauseOf<A, E>>, Error> {
+        WhereClauseOf::parse_optional(alloc, input)
+    }
+}
+
+/// `Abi::parse_optional` as a parser.
+#[derive(Drop)]
+pub struct ParseOptionalAbi {}
+
+impl ParseOptionalAbi {
+    pub fn new() -> ParseOptionalAbi
+        ensures { result ≡ record {} }
+    {
+        ParseOptionalAbi {}
+    }
+}
+
+impl Parser for ParseOptionalAbi {
+    type Output = Option<Abi>;
+
+    ghost can_parse = { λ _. Unit {0} };
+
+    ghost reads = { λ _. Gives types.optional_abi };
+
+    ghost refuses = { λ _. Fails types.optional_abi };
+
+    fn parse(self, alloc: Global, input: &mut ParseStream<'_>) -> Result<Option<Abi>, Error> {
+        Abi::parse_optional(alloc, input)
+    }
+}
+
+/// `Pat::parse_single` as a parser.
+#[derive(Drop)]
+pub struct ParseSingle<X> {
+    pub of: PhantomData<X>,
+}
+
+impl<X> ParseSingle<X> {
+    pub fn new() -> ParseSingle<X>
+        ensures { result ≡ record { of = record {} } }
+    {
+        ParseSingle { of: PhantomData }
+    }
+}
+
+impl<X: Subtree> Parser for ParseSingle<X> {
+    type Output = Pat<X>;
+
+    ghost can_parse = { λ _. Unit {0} };
+
+    ghost reads = { λ _. Gives (pats.pat X.reads Single) };
+
+    ghost refuses = { λ _. Fails (pats.pat X.reads Single) };
+
+    fn parse(self, alloc: Global, input: &mut ParseStream<'_>) -> Result<Pat<X>, Error> {
+        Pat::parse_single(alloc, input)
+    }
+}
+
+/// `Pat::parse_multi` as a parser.
+#[derive(Drop)]
+pub struct ParseMulti<X> {
+    pub of: PhantomData<X>,
+}
+
+impl<X> ParseMulti<X> {
+    pub fn new() -> ParseMulti<X>
+        ensures { result ≡ record { of = record {} } }
+    {
+        ParseMulti { of: PhantomData }
+    }
+}
+
+impl<X: Subtree> Parser for ParseMulti<X> {
+    type Output = Pat<X>;
+
+    ghost can_parse = { λ _. Unit {0} };
+
+    ghost reads = { λ _. Gives (pats.pat X.reads Multi) };
+
+    ghost refuses = { λ _. Fails (pats.pat X.reads Multi) };
+
+    fn parse(self, alloc: Global, input: &mut ParseStream<'_>) -> Result<Pat<X>, Error> {
+        Pat::parse_multi(alloc, input)
+    }
+}
+
+/// `Pat::parse_multi_with_leading_vert` as a parser.
+#[derive(Drop)]
+pub struct ParseMultiWithLeadingVert<X> {
+    pub of: PhantomData<X>,
+}
+
+impl<X> ParseMultiWithLeadingVert<X> {
+    pub fn new() -> ParseMultiWithLeadingVert<X>
+        ensures { result ≡ record { of = record {} } }
+    {
+        ParseMultiWithLeadingVert { of: PhantomData }
+    }
+}
+
+impl<X: Subtree> Parser for ParseMultiWithLeadingVert<X> {
+    type Output = Pat<X>;
+
+    ghost can_parse = { λ _. Unit {0} };
+
+    ghost reads = { λ _. Gives (pats.pat X.reads LeadingVert) };
+
+    ghost refuses = { λ _. Fails (pats.pat X.reads LeadingVert) };
+
+    fn parse(self, alloc: Global, input: &mut ParseStream<'_>) -> Result<Pat<X>, Error> {
+        Pat::parse_multi_with_leading_vert(alloc, input)
+    }
+}
+
+/// `Pat::parse_multi_with_leading_vert_and_guard` as a parser.
+#[derive(Drop)]
+pub struct ParseMultiWithLeadingVertAndGuard<X> {
+    pub of: PhantomData<X>,
+}
+
+impl<X> ParseMultiWithLeadingVertAndGuard<X> {
+    pub fn new() -> ParseMultiWithLeadingVertAndGuard<X>
+        ensures { result ≡ record { of = record {} } }
+    {
+        ParseMultiWithLeadingVertAndGuard { of: PhantomData }
+    }
+}
+
+impl<X: Subtree> Parser for ParseMultiWithLeadingVertAndGuard<X> {
+    type Output = Pat<X>;
+
+    ghost can_parse = { λ _. Unit {0} };
+
+    ghost reads = { λ _. Gives (pats.guarded X.reads) };
+
+    ghost refuses = { λ _. Fails (pats.guarded X.reads) };
+
+    fn parse(self, alloc: Global, input: &mut ParseStream<'_>) -> Result<Pat<X>, Error> {
+        Pat::parse_multi_with_leading_vert_and_guard(alloc, input)
     }
 }

@@ -94,6 +94,24 @@ pub type TypeGenerics<'a, X> = TypeGenericsOf<'a, Attribute<X>, Expr<X>>;
 /// The parameters by their names, after `::`.
 pub type Turbofish<'a, X> = TurbofishOf<'a, Attribute<X>, Expr<X>>;
 
+/// The lifetime parameters of generics.
+pub type Lifetimes<'a, X> = syn_ty::generics::Lifetimes<'a, Attribute<X>, Expr<X>>;
+
+/// The same, to be written to.
+pub type LifetimesMut<'a, X> = syn_ty::generics::LifetimesMut<'a, Attribute<X>, Expr<X>>;
+
+/// The type parameters of generics.
+pub type TypeParams<'a, X> = syn_ty::generics::TypeParams<'a, Attribute<X>, Expr<X>>;
+
+/// The same, to be written to.
+pub type TypeParamsMut<'a, X> = syn_ty::generics::TypeParamsMut<'a, Attribute<X>, Expr<X>>;
+
+/// The const parameters of generics.
+pub type ConstParams<'a, X> = syn_ty::generics::ConstParams<'a, Attribute<X>, Expr<X>>;
+
+/// The same, to be written to.
+pub type ConstParamsMut<'a, X> = syn_ty::generics::ConstParamsMut<'a, Attribute<X>, Expr<X>>;
+
 /// A type.
 pub type Type<X> = TypeOf<Attribute<X>, Expr<X>>;
 

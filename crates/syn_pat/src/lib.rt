@@ -1,4 +1,7 @@
 //! Patterns.
 #![tactic(auto)]
 
+pub mod grammar;
+pub mod knot;
 pub mod pat;
+pub mod place;

@@ -1,6 +1,7 @@
 //! Patterns.
 
 pub mod print;
+pub mod read;
 
 ghost use Rattle.std.specs.Prelude.{◌≡◌};
 ghost use Rattle.syn_pat.specs.declared.pat.PatOf.TheVariants as pats;
@@ -256,7 +257,7 @@ pub type FieldPat<X> = FieldPatOf<Pat<X>, Attribute<X>>;
 
 impl<X> Pat<X> {
     /// Whether it is `..`.
-    fn is_rest(&self) -> bool
+    pub(crate) fn is_rest(&self) -> bool
         ensures { result ≡ spec.is_rest self.now }
     {
         match self {

@@ -7,22 +7,23 @@ ghost use Rattle.token_core.specs.Joined.{values_of, marks_of};
 ghost use Rattle.token_core.specs.Spans.{none};
 ghost use Rattle.token_core.specs.Trees.{trees};
 ghost use Rattle.token_core.specs.Prints.{Print, Extends, Appends};
-ghost use Rattle.token_core.specs.Reads.{Reads, sees_word, Parses};
+ghost use Rattle.token_core.specs.Reads.{Reader, Reads, Follows, Gives, Fails, sees_word, Parses};
 ghost use Rattle.token_core.specs.Headline.{Heads};
+ghost use Rattle.syn_path.specs.declared.path.PathOf.{PathOf};
+ghost use Rattle.syn_path.specs.declared.path.PathSegmentOf.{PathSegmentOf};
 ghost use Rattle.syn_path.specs.path.Grammars as grammars;
 ghost use Rattle.syn_path.specs.path.Paths as spec;
 ghost use Rattle.syn_path.specs.path.Reading as reading;
 ghost use Rattle.syn_path.specs.path.Shapes as shapes;
-ghost use Rattle.syn_path.specs.path.Spelling.{IsModPath, is_mod_word, is_type_word};
+ghost use Rattle.syn_path.specs.path.Spelling.{IsModPath, is_mod_word};
 
 use std::alloc::{AllocError, Global};
 use token_core::token::{
-    As, Colon, Comma, Crate, Eq, Gt, Le, Lt, Mark, Paren, PathSep, Plus, RArrow, SelfType,
-    SelfValue, ShlEq, Super, Try,
+    As, Crate, Eq, Gt, Le, Lt, Mark, PathSep, SelfType, SelfValue, ShlEq, Super,
 };
 use token_core::{
-    Boxed, Error, ErrorKind, Ident, Lifetime, Lit, ParseStream, Punctuated, Span, Spanned, Text,
-    ToTokens, Token, TokenStream,
+    Boxed, Error, ErrorKind, Ident, Lifetime, Lit, Parse, ParseStream, Punctuated, Span, Spanned,
+    Text, ToTokens, Token, TokenStream,
 };
 
 /// A path, over what stands in the place of its segments' arguments: an optional leading `::`, and segments joined by `::`.
@@ -84,6 +85,26 @@ pub trait Arguments: Drop {
         ensures err { OnErr result (Extends (trees out.old) (trees out.new)) };
 }
 
+/// Arguments with which paths are read.
+pub trait ReadArguments: Arguments {
+    /// The read of a path with such arguments, a function of the stream.
+    ghost reads_path: { Reader (PathOf Self) };
+
+    /// The read of a segment with such arguments, a function of the stream.
+    ghost reads_segment: { Reader (PathSegmentOf Self) };
+
+    /// Reads a path.
+    fn parse_path(alloc: Global, input: &mut ParseStream<'_>) -> Result<PathOf<Self>, Error>
+        ensures parses { Parses reads_path result input.old input.new };
+
+    /// Reads a segment.
+    fn parse_segment(
+        alloc: Global,
+        input: &mut ParseStream<'_>,
+    ) -> Result<PathSegmentOf<Self>, Error>
+        ensures parses { Parses reads_segment result input.old input.new };
+}
+
 /// The arguments of a segment that has none.
 #[derive(Clone, Copy, Default)]
 pub struct NoArguments {}
@@ -122,8 +143,6 @@ pub enum SegmentStyle {
     Mod,
     /// Any identifier, as in the path of a nested property.
     Nested,
-    /// In a type: an identifier that is no keyword, `super`, `self`, `Self`, `crate` or `try`.
-    Plain,
 }
 
 /// How the arguments of a path's segments print.
@@ -315,6 +334,36 @@ impl<A: Arguments> PathOf<A> {
     }
 }
 
+/// Reads a path with the arguments that its segments may have.
+impl<A: ReadArguments> Parse for PathOf<A> {
+    ghost reads = { Gives A.reads_path };
+
+    ghost refuses = { Fails A.reads_path };
+
+    #[tactic(auto, using(token_core::specs::Reads::no_promise))]
+    fn parse(alloc: Global, input: &mut ParseStream<'_>) -> Result<PathOf<A>, Error>
+        ensures reads { Reads (A.reads_path input.old) result input.new }
+        ensures within { Follows input.old input.new }
+    {
+        A::parse_path(alloc, input)
+    }
+}
+
+/// Reads a segment of a path with the arguments that it may have.
+impl<A: ReadArguments> Parse for PathSegmentOf<A> {
+    ghost reads = { Gives A.reads_segment };
+
+    ghost refuses = { Fails A.reads_segment };
+
+    #[tactic(auto, using(token_core::specs::Reads::no_promise))]
+    fn parse(alloc: Global, input: &mut ParseStream<'_>) -> Result<PathSegmentOf<A>, Error>
+        ensures reads { Reads (A.reads_segment input.old) result input.new }
+        ensures within { Follows input.old input.new }
+    {
+        A::parse_segment(alloc, input)
+    }
+}
+
 /// A path without arguments.
 #[tactic(auto, using(token_core::proofs::Suffixes::follows), unfolding(crate::specs::path::Reading::bare_path))]
 pub fn parse_bare_path<A: Arguments>(
@@ -330,23 +379,6 @@ pub fn parse_bare_path<A: Arguments>(
         leading_colon,
         segments,
     })
-}
-
-/// Reads a plain path, as it stands in a type: an optional `::`, and identifiers, `super`, `self`, `Self`, `crate` or `try`
-/// joined by `::`, without arguments. It stops before a `::` and a parenthesis. It is refused where no segment begins, and
-/// where a `<` follows, since arguments between angle marks are not read yet.
-#[tactic(auto, using(token_core::proofs::Suffixes::follows), unfolding(crate::specs::path::Reading::plain_path))]
-pub fn parse_plain_path<A: Arguments>(
-    alloc: Global,
-    input: &mut ParseStream<'_>,
-) -> Result<PathOf<A>, Error>
-    ensures parses { Parses (reading.plain_path A.absent) result input.old input.new }
-{
-    let path = parse_bare_path(alloc, input, SegmentStyle::Plain)?;
-    if peek_angle(input) {
-        return Err(input.refuse(alloc, ErrorKind::Unexpected));
-    }
-    Ok(path)
 }
 
 /// Whether a `<` is at the front that begins neither `<=` nor `<<=`.
@@ -376,14 +408,6 @@ fn begins_mod_segment(input: &ParseStream<'_>) -> bool
             | (input.peek::<SelfValue>() | (input.peek::<SelfType>() | input.peek::<Crate>())))
 }
 
-/// Whether a segment of a plain path begins here.
-#[tactic(auto, using(crate::proofs::path_laws::Turns::or_try))]
-fn begins_plain_segment(input: &ParseStream<'_>) -> bool
-    ensures { result ≡ sees_word is_type_word input.now.rest }
-{
-    begins_mod_segment(input) | input.peek::<Try>()
-}
-
 /// Whether a segment of this style begins here.
 fn begins_segment(input: &ParseStream<'_>, style: SegmentStyle) -> bool
     ensures { result ≡ reading.begins style input.now.rest }
@@ -391,18 +415,16 @@ fn begins_segment(input: &ParseStream<'_>, style: SegmentStyle) -> bool
     match style {
         SegmentStyle::Mod => begins_mod_segment(input),
         SegmentStyle::Nested => Ident::peek_any(input),
-        SegmentStyle::Plain => begins_plain_segment(input),
     }
 }
 
-/// Whether a path of this style goes on with a `::`. A plain one stops before a `::` and a parenthesis.
+/// Whether a path of this style goes on with a `::`.
 fn goes_on(input: &ParseStream<'_>, style: SegmentStyle) -> bool
     ensures { result ≡ reading.goes_on style input.now.rest }
 {
     match style {
         SegmentStyle::Mod => input.peek::<PathSep>(),
         SegmentStyle::Nested => input.peek::<PathSep>(),
-        SegmentStyle::Plain => input.peek::<PathSep>() & !input.peek3::<Paren>(),
     }
 }
 
@@ -441,7 +463,6 @@ fn no_segment(alloc: Global, input: &ParseStream<'_>, style: SegmentStyle, is_fi
                 input.expected(alloc, Ident::display())
             }
         }
-        SegmentStyle::Plain => input.expected(alloc, Ident::display()),
     }
 }
 
@@ -480,9 +501,85 @@ fn parse_bare_segments<A: Arguments>(
     }
 }
 
+// ---- paths without arguments, and paths that may have some
+
+impl<A: Arguments> PathOf<A> {
+    /// Whether no segment has arguments (syn's `Path::is_mod_style`).
+    pub fn is_mod_style(&self) -> bool
+        ensures { result ≡ spec.is_mod_style A.is_absent self.now }
+    {
+        for segment in self.segments.iter() {
+            if !segment.arguments.are_none() {
+                return false;
+            }
+        }
+        true
+    }
+
+    /// The segment of a path that is one, with its arguments: no leading colon, and no other segment.
+    #[tactic(auto, using(crate::proofs::path_laws::Lone::firsts))]
+    pub fn lone_segment(&self) -> Option<&PathSegmentOf<A>>
+        ensures { option_map (λ s. s.now) result ≡ spec.lone_segment self.now }
+    {
+        if self.segments.value(1).is_some() || self.leading_colon.is_some() {
+            return None;
+        }
+        self.segments.value(0)
+    }
+
+    /// The same, taken out of the path.
+    #[tactic(auto, using(crate::proofs::path_laws::Lone::lasts))]
+    pub fn into_lone_segment(self) -> Option<PathSegmentOf<A>>
+        ensures { result ≡ spec.lone_segment self }
+    {
+        let PathOf {
+            leading_colon,
+            mut segments,
+        } = self;
+        if leading_colon.is_some() {
+            return None;
+        }
+        match segments.pop() {
+            Some((segment, _)) => {
+                if segments.is_empty() {
+                    Some(segment)
+                } else {
+                    None
+                }
+            }
+            None => None,
+        }
+    }
+
+    /// The path as one that can have no arguments, as those of macros and attributes are. There is none where a segment has
+    /// arguments. Refused for want of memory alone.
+    pub fn to_mod_path(&self, alloc: Global) -> Result<Option<ModPath>, AllocError>
+        ensures { IfOk result (λ o. o ≡ spec.to_mod_path A.is_absent self.now) }
+    {
+        if self.is_mod_style() {
+            return Ok(Some(without_arguments(alloc, self)?));
+        }
+        Ok(None)
+    }
+
+    /// A path without arguments as one whose segments may have some, as those of types do. Refused for want of memory alone.
+    pub fn from_mod_path(alloc: Global, path: &ModPath) -> Result<PathOf<A>, AllocError>
+        ensures { IfOk result (λ p. p ≡ spec.without A.absent path.now) }
+    {
+        bare_path(alloc, path)
+    }
+}
+
 /// The path without its arguments.
 pub fn without_arguments<A>(alloc: Global, path: &PathOf<A>) -> Result<ModPath, AllocError>
     ensures { IfOk result (λ p. p ≡ spec.without spec.nothing path.now) }
+{
+    bare_path(alloc, path)
+}
+
+/// The leading colon, identifiers and marks of a path, with no arguments of another kind.
+fn bare_path<A, B: Arguments>(alloc: Global, path: &PathOf<A>) -> Result<PathOf<B>, AllocError>
+    ensures { IfOk result (λ p. p ≡ spec.without B.absent path.now) }
 {
     let segments = bare_segments(alloc, &path.segments)?;
     Ok(PathOf {
@@ -492,11 +589,11 @@ pub fn without_arguments<A>(alloc: Global, path: &PathOf<A>) -> Result<ModPath, 
 }
 
 #[tactic(auto, using(crate::proofs::path_laws::Texts::texts))]
-fn bare_segments<A>(
+fn bare_segments<A, B: Arguments>(
     alloc: Global,
     segments: &Punctuated<PathSegmentOf<A>, PathSep>,
-) -> Result<Punctuated<ModSegment, PathSep>, AllocError>
-    ensures { IfOk result (λ v. v ≡ spec.segments_without spec.nothing segments.now) }
+) -> Result<Punctuated<PathSegmentOf<B>, PathSep>, AllocError>
+    ensures { IfOk result (λ v. v ≡ spec.segments_without B.absent segments.now) }
 {
     let (pairs, last) = segments.parts();
     let mut bare = Punctuated::new(alloc);
@@ -513,10 +610,13 @@ fn bare_segments<A>(
     }
 }
 
-fn bare_segment<A>(alloc: Global, segment: &PathSegmentOf<A>) -> Result<ModSegment, AllocError>
-    ensures { IfOk result (λ s. s ≡ spec.segment_of spec.nothing segment.now.ident) }
+fn bare_segment<A, B: Arguments>(
+    alloc: Global,
+    segment: &PathSegmentOf<A>,
+) -> Result<PathSegmentOf<B>, AllocError>
+    ensures { IfOk result (λ s. s ≡ spec.segment_of B.absent segment.now.ident) }
 {
-    Ok(ModSegment::from(segment.ident.copy(alloc)?))
+    Ok(PathSegmentOf::from(segment.ident.copy(alloc)?))
 }
 
 impl<A: Arguments> ToTokens for PathOf<A> {

@@ -1,5 +1,6 @@
 //! Generics: parameters, bounds, captures, where clauses.
 
+pub mod declared;
 pub mod print;
 pub mod read;
 

@@ -5,150 +5,223 @@ ghost use Rattle.syn_ty.specs.ty.Knot as knot;
 
 use crate::generics::{GenericParamOf, TypeParamBoundOf};
 use crate::grammar::Grammar;
+use crate::path::{GenericArgumentOf, PathArgumentsOf};
 use crate::ty::TypeOf;
 use std::alloc::Global;
 use std::marker::PhantomData;
-use syn_forms::nested::{Held, Nested, Tree};
+use syn_forms::nested::{Held, Tree};
+use syn_forms::places::{BoundPlace, ParamPlace, TypePlace};
 use syn_path::supplied::{Attributes, Value};
 use token_core::{Error, ParseStream};
 
-impl<A: Attributes, E: Value> Tree<bool> for TypeOf<A, E> {
-    ghost read = { knot.ty E.reads.len };
+impl<A: Attributes, E: Value> Tree<TypePlace> for TypeOf<A, E> {
+    ghost read = { knot.ty A.reads E.reads };
 }
 
-impl<A: Attributes, E: Value> Tree<()> for TypeParamBoundOf<A, E> {
-    ghost read = { λ place. knot.bound E.reads.len };
+impl<A: Attributes, E: Value> Tree<BoundPlace> for TypeParamBoundOf<A, E> {
+    ghost read = { knot.bound A.reads E.reads };
 }
 
-impl<A: Attributes, E: Value> Tree<()> for GenericParamOf<A, E> {
-    ghost read = { knot.in_one_place E.reads.len };
+impl<A: Attributes, E: Value> Tree<ParamPlace> for GenericParamOf<A, E> {
+    ghost read = { knot.param A.reads E.reads };
 }
 
-impl<A: Attributes, E: Value> Held<bool> for TypeOf<A, E> {
-    fn parse_held(
-        alloc: Global,
-        of: PhantomData<TypeOf<A, E>>,
-        input: &mut ParseStream<'_>,
-        place: bool,
-    ) -> Result<TypeOf<A, E>, Error>
-        ensures reads { Reads (knot.ty E.reads.len place input.old) result input.new }
-        ensures within { Follows input.old input.new }
-    {
-        parse_type(alloc, of, input, place)
-    }
+impl<A: Attributes, E: Value> Tree<()> for GenericArgumentOf<A, E> {
+    ghost read = { knot.argument_in A.reads E.reads };
 }
 
-/// Reads a type, where `+` may be allowed or not.
+impl<A: Attributes, E: Value> Tree<()> for PathArgumentsOf<A, E> {
+    ghost read = { knot.arguments_in A.reads E.reads };
+}
+
+/// Reads a type in its place.
 #[cycle(knot)]
 #[tactic(auto, using(crate::proofs::ty_laws::Knot::turns))]
 pub fn parse_type<A: Attributes, E: Value>(
     alloc: Global,
     of: PhantomData<TypeOf<A, E>>,
     input: &mut ParseStream<'_>,
-    plus: bool,
+    place: TypePlace,
 ) -> Result<TypeOf<A, E>, Error>
-    ensures parses { Parses (knot.ty E.reads.len plus) result input.old input.new }
+    ensures parses { Parses (knot.ty A.reads E.reads place) result input.old input.new }
 {
-    let types = Nested {
-        alloc,
-        of: PhantomData,
-        begin: input.cursor(),
-        read: parse_type::<A, E>,
-    };
-    let bounds = Nested {
-        alloc,
-        of: PhantomData,
-        begin: input.cursor(),
-        read: parse_bound::<A, E>,
-    };
-    let params = Nested {
-        alloc,
-        of: PhantomData,
-        begin: input.cursor(),
-        read: parse_param::<A, E>,
-    };
     Grammar {
         alloc,
-        types,
-        bounds,
-        params,
+        of: PhantomData,
+        begin: input.cursor(),
+        types: parse_type::<A, E>,
+        bounds: parse_bound::<A, E>,
+        params: parse_param::<A, E>,
+        args: parse_argument::<A, E>,
+        segments: parse_arguments::<A, E>,
     }
-    .type_step(input, plus)
+    .type_step(input, place)
 }
 
-/// Reads a bound. It has one place.
+/// Reads a bound in its place.
 #[cycle(knot)]
 #[tactic(auto, using(crate::proofs::ty_laws::Knot::turns))]
 pub fn parse_bound<A: Attributes, E: Value>(
     alloc: Global,
     of: PhantomData<TypeParamBoundOf<A, E>>,
     input: &mut ParseStream<'_>,
-    place: (),
+    place: BoundPlace,
 ) -> Result<TypeParamBoundOf<A, E>, Error>
-    ensures parses { Parses (knot.bound E.reads.len) result input.old input.new }
+    ensures parses { Parses (knot.bound A.reads E.reads place) result input.old input.new }
 {
-    let types = Nested {
-        alloc,
-        of: PhantomData,
-        begin: input.cursor(),
-        read: parse_type::<A, E>,
-    };
-    let bounds = Nested {
-        alloc,
-        of: PhantomData,
-        begin: input.cursor(),
-        read: parse_bound::<A, E>,
-    };
-    let params = Nested {
-        alloc,
-        of: PhantomData,
-        begin: input.cursor(),
-        read: parse_param::<A, E>,
-    };
     Grammar {
         alloc,
-        types,
-        bounds,
-        params,
+        of: PhantomData,
+        begin: input.cursor(),
+        types: parse_type::<A, E>,
+        bounds: parse_bound::<A, E>,
+        params: parse_param::<A, E>,
+        args: parse_argument::<A, E>,
+        segments: parse_arguments::<A, E>,
     }
-    .bound_step(input)
+    .bound_step(input, place)
 }
 
-/// Reads a parameter of a binder. It has one place. It makes a `Grammar` too, so that it stands in the cycle: the function
-/// value of a function outside it passes the prover's step limit.
+/// Reads a parameter in its place.
 #[cycle(knot)]
 #[tactic(auto, using(crate::proofs::ty_laws::Knot::turns))]
-fn parse_param<A: Attributes, E: Value>(
+pub fn parse_param<A: Attributes, E: Value>(
     alloc: Global,
     of: PhantomData<GenericParamOf<A, E>>,
     input: &mut ParseStream<'_>,
-    place: (),
+    place: ParamPlace,
 ) -> Result<GenericParamOf<A, E>, Error>
-    ensures parses { Parses (knot.param E.reads.len) result input.old input.new }
+    ensures parses { Parses (knot.param A.reads E.reads place) result input.old input.new }
 {
-    let types = Nested {
-        alloc,
-        of: PhantomData,
-        begin: input.cursor(),
-        read: parse_type::<A, E>,
-    };
-    let bounds = Nested {
-        alloc,
-        of: PhantomData,
-        begin: input.cursor(),
-        read: parse_bound::<A, E>,
-    };
-    let params = Nested {
-        alloc,
-        of: PhantomData,
-        begin: input.cursor(),
-        read: parse_param::<A, E>,
-    };
     Grammar {
         alloc,
-        types,
-        bounds,
-        params,
+        of: PhantomData,
+        begin: input.cursor(),
+        types: parse_type::<A, E>,
+        bounds: parse_bound::<A, E>,
+        params: parse_param::<A, E>,
+        args: parse_argument::<A, E>,
+        segments: parse_arguments::<A, E>,
     }
-    .param_step(input)
+    .param_step(input, place)
+}
+
+/// Reads an argument in angle brackets. It has one place.
+#[cycle(knot)]
+#[tactic(auto, using(crate::proofs::ty_laws::Knot::turns))]
+pub fn parse_argument<A: Attributes, E: Value>(
+    alloc: Global,
+    of: PhantomData<GenericArgumentOf<A, E>>,
+    input: &mut ParseStream<'_>,
+    place: (),
+) -> Result<GenericArgumentOf<A, E>, Error>
+    ensures parses { Parses (knot.argument A.reads E.reads) result input.old input.new }
+{
+    Grammar {
+        alloc,
+        of: PhantomData,
+        begin: input.cursor(),
+        types: parse_type::<A, E>,
+        bounds: parse_bound::<A, E>,
+        params: parse_param::<A, E>,
+        args: parse_argument::<A, E>,
+        segments: parse_arguments::<A, E>,
+    }
+    .argument_step(input)
+}
+
+/// Reads the arguments of a segment, in angle brackets. They have one place.
+#[cycle(knot)]
+#[tactic(auto, using(crate::proofs::ty_laws::Knot::turns))]
+pub fn parse_arguments<A: Attributes, E: Value>(
+    alloc: Global,
+    of: PhantomData<PathArgumentsOf<A, E>>,
+    input: &mut ParseStream<'_>,
+    place: (),
+) -> Result<PathArgumentsOf<A, E>, Error>
+    ensures parses { Parses (knot.arguments A.reads E.reads) result input.old input.new }
+{
+    Grammar {
+        alloc,
+        of: PhantomData,
+        begin: input.cursor(),
+        types: parse_type::<A, E>,
+        bounds: parse_bound::<A, E>,
+        params: parse_param::<A, E>,
+        args: parse_argument::<A, E>,
+        segments: parse_arguments::<A, E>,
+    }
+    .arguments_step(input)
+}
+
+// ---- for forms by themselves: what they hold is read by the knot
+
+impl<A: Attributes, E: Value> Held<TypePlace> for TypeOf<A, E> {
+    fn parse_held(
+        alloc: Global,
+        of: PhantomData<TypeOf<A, E>>,
+        input: &mut ParseStream<'_>,
+        place: TypePlace,
+    ) -> Result<TypeOf<A, E>, Error>
+        ensures reads { Reads (knot.ty A.reads E.reads place input.old) result input.new }
+        ensures within { Follows input.old input.new }
+    {
+        parse_type(alloc, of, input, place)
+    }
+}
+
+impl<A: Attributes, E: Value> Held<BoundPlace> for TypeParamBoundOf<A, E> {
+    fn parse_held(
+        alloc: Global,
+        of: PhantomData<TypeParamBoundOf<A, E>>,
+        input: &mut ParseStream<'_>,
+        place: BoundPlace,
+    ) -> Result<TypeParamBoundOf<A, E>, Error>
+        ensures reads { Reads (knot.bound A.reads E.reads place input.old) result input.new }
+        ensures within { Follows input.old input.new }
+    {
+        parse_bound(alloc, of, input, place)
+    }
+}
+
+impl<A: Attributes, E: Value> Held<ParamPlace> for GenericParamOf<A, E> {
+    fn parse_held(
+        alloc: Global,
+        of: PhantomData<GenericParamOf<A, E>>,
+        input: &mut ParseStream<'_>,
+        place: ParamPlace,
+    ) -> Result<GenericParamOf<A, E>, Error>
+        ensures reads { Reads (knot.param A.reads E.reads place input.old) result input.new }
+        ensures within { Follows input.old input.new }
+    {
+        parse_param(alloc, of, input, place)
+    }
+}
+
+impl<A: Attributes, E: Value> Held<()> for GenericArgumentOf<A, E> {
+    fn parse_held(
+        alloc: Global,
+        of: PhantomData<GenericArgumentOf<A, E>>,
+        input: &mut ParseStream<'_>,
+        place: (),
+    ) -> Result<GenericArgumentOf<A, E>, Error>
+        ensures reads { Reads (knot.argument A.reads E.reads input.old) result input.new }
+        ensures within { Follows input.old input.new }
+    {
+        parse_argument(alloc, of, input, place)
+    }
+}
+
+impl<A: Attributes, E: Value> Held<()> for PathArgumentsOf<A, E> {
+    fn parse_held(
+        alloc: Global,
+        of: PhantomData<PathArgumentsOf<A, E>>,
+        input: &mut ParseStream<'_>,
+        place: (),
+    ) -> Result<PathArgumentsOf<A, E>, Error>
+        ensures reads { Reads (knot.arguments A.reads E.reads input.old) result input.new }
+        ensures within { Follows input.old input.new }
+    {
+        parse_arguments(alloc, of, input, place)
+    }
 }

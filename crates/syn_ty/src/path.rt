@@ -1,6 +1,8 @@
 //! Arguments of paths.
 
+pub mod alone;
 pub mod print;
+pub mod read;
 
 ghost use Rattle.std.specs.Prelude.{◌≡◌};
 ghost use Rattle.syn_ty.specs.path.Paths as spec;

@@ -23,11 +23,11 @@ use token_core::{Boxed, Ident, Items, Lifetime, LitStr, Punctuated, TokenStream}
 pub enum TypeOf<A, E> {
     /// `[T; n]`
     Array(TypeArrayOf<TypeOf<A, E>, A, E>),
-    /// `for<'a> unsafe extern "C" fn(a: A, ...) -> B`. No reader answers it yet.
+    /// `for<'a> unsafe extern "C" fn(a: A, ...) -> B`.
     FnPtr(TypeFnPtrOf<A, E>),
-    /// A type in an invisible group, as a macro hands it on. No reader answers it yet.
+    /// A type in an invisible group, as a macro hands it on.
     Group(TypeGroupOf<TypeOf<A, E>, A>),
-    /// `impl A + 'a`. No reader answers it yet.
+    /// `impl A + 'a`.
     ImplTrait(TypeImplTraitOf<TypeParamBoundOf<A, E>, A>),
     /// `_`
     Infer(TypeInferOf<A>),
@@ -45,11 +45,11 @@ pub enum TypeOf<A, E> {
     Reference(TypeReferenceOf<TypeOf<A, E>, A>),
     /// `[T]`
     Slice(TypeSliceOf<TypeOf<A, E>, A>),
-    /// `dyn A + 'a`. No reader answers it yet.
+    /// `dyn A + 'a`.
     TraitObject(TypeTraitObjectOf<TypeParamBoundOf<A, E>, A>),
     /// `(A, B)`
     Tuple(TypeTupleOf<TypeOf<A, E>, A>),
-    /// Tokens that no other case holds. No reader answers it yet.
+    /// Tokens that no other case holds.
     Verbatim(TokenStream),
 }
 

@@ -13,7 +13,7 @@ use Rattle.token_core.proofs.Rebuilds.{stream-trees}
 use Rattle.token_text.specs.Spelling.{Spells, Refused}
 use Rattle.token_text.specs.Printing.{text_of}
 use Rattle.synmid.specs.declared.reader.Reader.{Reader}
-use Rattle.synmid.specs.Readers.{grammar, Reprints}
+use Rattle.synmid.specs.Readers.{category, Reprints}
 use Rattle.synmid.specs.Run.{Answer, shown, no_memory, not_text, line, IsTextOf, Refuses, not_utf8, no_list, no_tree, memory, Justified, Accepts, AnswersTo, text_of_print, Ends}
 use Rattle.synmid.specs.declared.fault.Fault.{Fault}
 use Rattle.synmid.specs.declared.fault.Fault.TheVariants as f
@@ -58,23 +58,23 @@ module _ (r : Reader) (input : Bytes) where
     visible : (l : List TokenTree) → Spells input l → Visible (row l done) → Visible (row (trees c) done)
     visible l t v = subst (λ z. Visible (row z done)) (sym (only l t)) v
 
-    here : (e : Refusal) → Reprints (grammar r) (toks c) (Err e) → Reprints (grammar r) (row (trees c) done) (Err e)
-    here e h = subst (λ l. Reprints (grammar r) l (Err e)) tokens h
+    here : (e : Refusal) → Reprints (category r) (toks c) (Err e) → Reprints (category r) (row (trees c) done) (Err e)
+    here e h = subst (λ l. Reprints (category r) l (Err e)) tokens h
 
-    pub of_refused : (e : Refusal) → Reprints (grammar r) (toks c) (Err e) → AnswersTo r input (of_fault (of_refusal e))
+    pub of_refused : (e : Refusal) → Reprints (category r) (toks c) (Err e) → AnswersTo r input (of_fault (of_refusal e))
     of_refused e h = record {
       justified = justified e.kind e (λ k. no_tree (trees c) e is_text (here e h k).0 (here e h k).1);
-      accepts = λ l a t v s. forgetful e.kind e _ (λ k. (here e h k).1 (visible l t.spells v) a (subst (λ z. (grammar r).spells true a (row z done)) (sym (only l t.spells)) s));
+      accepts = λ l a t v s. forgetful e.kind e _ (λ k. (category r).refused (row (trees c) done) a (here e h k).1 (visible l t.spells v) (subst (λ z. (category r).clear a (row z done)) (sym (only l t.spells)) s));
     }
 
-    pub of_answer : (p : TokenStream) (text : Bytes) → Reprints (grammar r) (toks c) (Ok p) → text ≡ text_of p → AnswersTo r input (shown text)
+    pub of_answer : (p : TokenStream) (text : Bytes) → Reprints (category r) (toks c) (Ok p) → text ≡ text_of p → AnswersTo r input (shown text)
     of_answer p text h is =
-        let q = subst (λ l. Reprints (grammar r) l (Ok p)) tokens h in
+        let q = subst (λ l. Reprints (category r) l (Ok p)) tokens h in
         let e : text ≡ text_of_print r q.0 = is ∙ ap text_of (sym (roll-out-TokenStream p) ∙ ap stream_of_trees q.3) in
         record {
-          justified = record { list = trees c; is_text = is_text; tree = q.0; read = q.1; answered = q.2; text_is = e };
+          justified = record { list = trees c; is_text = is_text; tree = q.0; read = q.1; promise = q.2; text_is = e };
           accepts = λ l a t v s.
-              let b : a ≡ q.0 = (q.2 (visible l t.spells v)).unique a (subst (λ z. (grammar r).spells true a (row z done)) (sym (only l t.spells)) s) in
+              let b : a ≡ q.0 = (category r).unique (row (trees c) done) a q.0 q.2 (visible l t.spells v) (subst (λ z. (category r).clear a (row z done)) (sym (only l t.spells)) s) in
               inl (ap shown (e ∙ ap (text_of_print r) (sym b)));
         }
 

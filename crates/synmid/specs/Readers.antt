@@ -7,12 +7,17 @@ use Rattle.token_core.specs.Toks.{Bytes, Toks}
 use Rattle.token_core.specs.Trees.{trees}
 use Rattle.token_core.specs.Rebuilt.{Visible}
 use Rattle.token_core.specs.Refusal.{Refusal}
-use Rattle.token_core.specs.Headline.{Grammar, Answered, whole}
-use Rattle.token_core.specs.Prints.{Print}
+use Rattle.token_core.specs.Headline.{Grammar, Headline, whole}
+use Rattle.token_core.specs.Prints.{Print, optional}
 use Rattle.token_core.specs.Spans.{none}
 use Rattle.token_core.specs.Stream.{Stream, started}
 use Rattle.token_core.specs.Reads.{Ends, Refuses, Reader as R}
+use Rattle.syn_pat.specs.declared.place.PatPlace.TheVariants.{LeadingVert, Multi, Single}
+use Rattle.syn_pat.specs.pat.Knot as pat_knot
+use Rattle.syn_pat.specs.pat.Pats as pats
+use Rattle.syn_pat.specs.pat.Printing as pat_printing
 use Rattle.syn_path.specs.declared.mac.Macro as mac
+use Rattle.syn_path.specs.declared.supplied.Place.{Place}
 use Rattle.syn_attr.specs.declared.attr.Meta as meta
 use Rattle.syn_attr.specs.declared.attr.MetaList as meta_list
 use Rattle.syn_attr.specs.declared.attr.MetaNameValue as name_value
@@ -20,18 +25,39 @@ use Rattle.syn_forms.specs.declared.tokens.PointerMutability as mutability
 use Rattle.syn_forms.specs.tokens.Grammars as tokens
 use Rattle.syn_ty.specs.ty.Grammars as types
 use Rattle.syn_ty.specs.ty.Trees as ty
+use Rattle.syn_ty.specs.ty.Knot as knot
+use Rattle.syn_ty.specs.ty.Printing as printing
+use Rattle.syn_ty.specs.ty.Reading as reading
+use Rattle.syn_ty.specs.generics.Alone as alone
+use Rattle.syn_ty.specs.generics.Printing as generics_printing
+use Rattle.syn_ty.specs.generics.Reading as generics
+use Rattle.syn_ty.specs.generics.Shapes as shapes
+use Rattle.syn_ty.specs.generics.Shapes.{lifetime_param_by}
+use Rattle.syn_ty.specs.generics.Views as views
+use Rattle.syn_ty.specs.path.Shapes.{as_written}
+use Rattle.syn_ty.specs.declared.generics.CapturedParam as captured
+use Rattle.syn_ty.specs.declared.generics.GenericsOf.{GenericsOf}
+use Rattle.syn_ty.specs.declared.generics.LifetimeParamOf as lifetime
+use Rattle.syn_ty.specs.declared.generics.PreciseCapture as capture
+use Rattle.syn_ty.specs.declared.generics.WhereClauseOf.{WhereClauseOf}
+use Rattle.syn_ty.specs.declared.generics.WherePredicateOf.{WherePredicateOf}
+use Rattle.syn_ty.specs.declared.ty.Abi as abi
+use Rattle.syn_forms.specs.declared.places.BoundPlace.TheVariants.{Opaque}
+use Rattle.syn_forms.specs.declared.places.ParamPlace.TheVariants.{Binder}
+use Rattle.syn_forms.specs.declared.places.TypePlace.TheVariants.{Plus, NoPlus}
+use Rattle.syn_path.specs.declared.path.PathStyle.TheVariants.{AsWritten}
+use Rattle.syn_path.specs.path.Shapes.{path_by, segment_by}
 use Rattle.syn_attr.specs.attr.Attrs.{Attribute}
 use Rattle.syn_attr.specs.attr.Grammars as attrs
-use Rattle.syn_attr.specs.attr.Printing as printing
+use Rattle.syn_attr.specs.attr.Printing as attr_printing
+use Rattle.syn_attr.specs.attr.Reading as attr_reading
 use Rattle.syn_attr.specs.attr.Normal as normal
-use Rattle.syn_attr.specs.attr.Lengths.{lens, spells_len}
+use Rattle.syn_attr.specs.attr.Lengths.{lens}
 use Rattle.syn_attr.specs.declared.expr.Expr.{Expr}
 use Rattle.syn_ty.specs.declared.ty.TypeInferOf as infer
 use Rattle.syn_ty.specs.declared.ty.TypeMacroOf as macro
 use Rattle.syn_ty.specs.declared.ty.TypeNeverOf as never
-use Rattle.syn_path.specs.Values.{NormalValues}
-use Rattle.syn_attr.specs.attr.Consts.{normal_values_of}
-use Rattle.syn_path.specs.Values.{Values}
+use Rattle.syn_path.specs.Values.{ReadValues, Values}
 use Rattle.syn_attr.specs.attr.Consts.{values_of, outer}
 use Rattle.syn_path.specs.mac.Grammars as macs
 use Rattle.syn_path.specs.path.Grammars as paths
@@ -39,15 +65,25 @@ use Rattle.syn_ty.specs.path.Paths as path
 use Rattle.synmid.specs.contracts.sample.SampleSubtree.TheImpl.{reads-value, spells-value, normal-value, prints-value}
 use Rattle.synmid.specs.declared.sample.Sample.{Sample}
 use Rattle.synmid.specs.declared.reader.Reader.{Reader}
-use Rattle.synmid.specs.declared.reader.Reader.TheVariants.{Macro, ModStyle, Meta, MetaList, MetaNameValue, Outer, Inner, PointerMutability, Types}
+use Rattle.synmid.specs.declared.reader.Reader.TheVariants.{Macro, ModStyle, Meta, MetaList, MetaNameValue, Outer, Inner, PointerMutability, Types, Paths, Generics, Patterns}
 use Rattle.synmid.specs.declared.reader.TypeReader.{TypeReader}
 use Rattle.synmid.specs.declared.reader.TypeReader.TheVariants as t
+use Rattle.synmid.specs.declared.reader.PathReader.{PathReader}
+use Rattle.synmid.specs.declared.reader.PathReader.TheVariants as p
+use Rattle.synmid.specs.declared.reader.GenericsReader.{GenericsReader}
+use Rattle.synmid.specs.declared.reader.GenericsReader.TheVariants as g
+use Rattle.synmid.specs.declared.reader.PatternReader.{PatternReader}
+use Rattle.synmid.specs.declared.reader.PatternReader.TheVariants as q
 
 abbrev pub types_named : Bytes → Option TypeReader
 types_named name =
     if bytes_eq name (codes "Type") then Some t.Any
     else (if bytes_eq name (codes "Type::without_plus") then Some t.WithoutPlus
     else (if bytes_eq name (codes "TypeArray") then Some t.Array
+    else (if bytes_eq name (codes "TypeFnPtr") then Some t.FnPtr
+    else (if bytes_eq name (codes "TypeGroup") then Some t.Group
+    else (if bytes_eq name (codes "TypeImplTrait") then Some t.ImplTrait
+    else (if bytes_eq name (codes "TypeImplTrait::without_plus") then Some t.ImplWithoutPlus
     else (if bytes_eq name (codes "TypeInfer") then Some t.Infer
     else (if bytes_eq name (codes "TypeMacro") then Some t.Macro
     else (if bytes_eq name (codes "TypeNever") then Some t.Never
@@ -56,9 +92,74 @@ types_named name =
     else (if bytes_eq name (codes "TypePtr") then Some t.Ptr
     else (if bytes_eq name (codes "TypeReference") then Some t.Reference
     else (if bytes_eq name (codes "TypeSlice") then Some t.Slice
+    else (if bytes_eq name (codes "TypeTraitObject") then Some t.TraitObject
+    else (if bytes_eq name (codes "TypeTraitObject::without_plus") then Some t.ObjectWithoutPlus
     else (if bytes_eq name (codes "TypeTuple") then Some t.Tuple
-    else (if bytes_eq name (codes "TypeParamBound") then Some t.Bound
-    else None))))))))))))
+    else (if bytes_eq name (codes "ReturnType") then Some t.Return
+    else (if bytes_eq name (codes "ReturnType::without_plus") then Some t.ReturnWithoutPlus
+    else (if bytes_eq name (codes "NamedArg") then Some t.NamedArg
+    else (if bytes_eq name (codes "Abi") then Some t.Abi
+    else (if bytes_eq name (codes "Abi::parse_optional") then Some t.OptionalAbi
+    else None))))))))))))))))))))))
+
+abbrev pub paths_named : Bytes → Option PathReader
+paths_named name =
+    if bytes_eq name (codes "Path") then Some p.Whole
+    else (if bytes_eq name (codes "PathSegment") then Some p.Segment
+    else (if bytes_eq name (codes "GenericArgument") then Some p.Argument
+    else (if bytes_eq name (codes "AngleBracketedGenericArguments") then Some p.AngleBracketed
+    else (if bytes_eq name (codes "AngleBracketedGenericArguments::parse_turbofish") then Some p.ParseTurbofish
+    else (if bytes_eq name (codes "ParenthesizedGenericArguments") then Some p.Parenthesized
+    else None)))))
+
+abbrev pub generics_named : Bytes → Option GenericsReader
+generics_named name =
+    if bytes_eq name (codes "GenericParam") then Some g.Param
+    else (if bytes_eq name (codes "LifetimeParam") then Some g.LifetimeParam
+    else (if bytes_eq name (codes "TypeParam") then Some g.TypeParam
+    else (if bytes_eq name (codes "ConstParam") then Some g.ConstParam
+    else (if bytes_eq name (codes "BoundLifetimes") then Some g.BoundLifetimes
+    else (if bytes_eq name (codes "BoundLifetimes::parse_optional") then Some g.OptionalBoundLifetimes
+    else (if bytes_eq name (codes "TypeParamBound") then Some g.Bound
+    else (if bytes_eq name (codes "TraitBound") then Some g.TraitBound
+    else (if bytes_eq name (codes "PreciseCapture") then Some g.Capture
+    else (if bytes_eq name (codes "CapturedParam") then Some g.Captured
+    else (if bytes_eq name (codes "Generics") then Some g.Declared
+    else (if bytes_eq name (codes "ImplGenerics") then Some g.ImplGenerics
+    else (if bytes_eq name (codes "TypeGenerics") then Some g.TypeGenerics
+    else (if bytes_eq name (codes "Turbofish") then Some g.Turbofish
+    else (if bytes_eq name (codes "WhereClause") then Some g.WhereClause
+    else (if bytes_eq name (codes "WhereClause::parse_optional") then Some g.OptionalWhereClause
+    else (if bytes_eq name (codes "WherePredicate") then Some g.Predicate
+    else None))))))))))))))))
+
+abbrev pub patterns_named : Bytes → Option PatternReader
+patterns_named name =
+    if bytes_eq name (codes "Pat::parse_single") then Some q.Single
+    else (if bytes_eq name (codes "Pat::parse_multi") then Some q.Multi
+    else (if bytes_eq name (codes "Pat::parse_multi_with_leading_vert") then Some q.LeadingVert
+    else (if bytes_eq name (codes "Pat::parse_multi_with_leading_vert_and_guard") then Some q.Guarded
+    else (if bytes_eq name (codes "PatType") then Some q.Typed
+    else None))))
+
+-- of the readers of types, paths, generics and patterns, the one of this name
+abbrev pub patterns_reader : Option PatternReader → Option Reader
+patterns_reader = option_map Patterns
+
+abbrev pub or_patterns : Bytes → Option GenericsReader → Option Reader
+or_patterns name (Some r) = Some (Generics r)
+or_patterns name None = patterns_reader (patterns_named name)
+
+abbrev pub or_generics : Bytes → Option PathReader → Option Reader
+or_generics name (Some r) = Some (Paths r)
+or_generics name None = or_patterns name (generics_named name)
+
+abbrev pub or_paths : Bytes → Option TypeReader → Option Reader
+or_paths name (Some r) = Some (Types r)
+or_paths name None = or_generics name (paths_named name)
+
+abbrev pub of_types : Bytes → Option Reader
+of_types name = or_paths name (types_named name)
 
 abbrev pub named : Bytes → Option Reader
 named name =
@@ -70,13 +171,43 @@ named name =
     else (if bytes_eq name (codes "Attribute::parse_outer") then Some Outer
     else (if bytes_eq name (codes "Attribute::parse_inner") then Some Inner
     else (if bytes_eq name (codes "PointerMutability") then Some PointerMutability
-    else option_map Types (types_named name))))))))
+    else of_types name)))))))
+
+-- What a run says of a reader: what it reads, what its trees print, and what a whole read promises. Some readers have a grammar: it tells which tree a list
+-- spells clearly, and by the promise that tree is the answer, or none is where the list is refused.
+pub record Category (A : Type 0) : Type 1 where
+  pub reader : R A
+  pub print : A → Print
+  pub promise : Toks → Option A → Type 0
+  pub clear : A → Toks → Type 0
+  pub refused : (l : Toks) (a : A) → promise l None → Visible l → clear a l → ⊥
+  pub unique : (l : Toks) (a b : A) → promise l (Some b) → Visible l → clear a l → a ≡ b
+
+-- by its grammar
+abbrev pub of_grammar : {A : Type 0} → Grammar A → Category A
+of_grammar G = record { reader = G.reader; print = G.print; promise = Headline G; clear = G.spells true; refused = λ l a h v c. h v a c; unique = λ l a b h v c. (h v).unique a c }
+
+-- without a grammar: nothing is promised, and nothing is called clear
+abbrev pub of_reader : {A : Type 0} → R A → (A → Print) → Category A
+of_reader f p = record { reader = f; print = p; promise = λ l a. Unit {0}; clear = λ a l. ⊥; refused = λ l a h v c. c; unique = λ l a b h v c. absurd c }
+
+-- what the arguments of a path print
+abbrev pub shown : {A E : Type 0} → (List A → Print) → Values E → ty.PathArguments A E → Print
+shown pa pe = printing.arguments pa pe as_written
+
+-- what generics print for an implementation
+abbrev pub impl_generics : {A E : Type 0} → (List A → Print) → Values E → GenericsOf A E → Print
+impl_generics pa pe x = generics_printing.generics pa pe (views.stripped x)
 
 -- the trees of a reader of types, over attributes and expressions
 abbrev pub TypesTree : Type 0 → Type 0 → TypeReader → Type 0
 TypesTree A E t.Any = ty.TypeTree A E
 TypesTree A E t.WithoutPlus = ty.TypeTree A E
 TypesTree A E t.Array = ty.TypeArray A E
+TypesTree A E t.FnPtr = ty.TypeFnPtr A E
+TypesTree A E t.Group = ty.TypeGroup A E
+TypesTree A E t.ImplTrait = ty.TypeImplTrait A E
+TypesTree A E t.ImplWithoutPlus = ty.TypeImplTrait A E
 TypesTree A E t.Infer = infer.TypeInferOf A
 TypesTree A E t.Macro = macro.TypeMacroOf A
 TypesTree A E t.Never = never.TypeNeverOf A
@@ -85,28 +216,119 @@ TypesTree A E t.Path = ty.TypePath A E
 TypesTree A E t.Ptr = ty.TypePtr A E
 TypesTree A E t.Reference = ty.TypeReference A E
 TypesTree A E t.Slice = ty.TypeSlice A E
+TypesTree A E t.TraitObject = ty.TypeTraitObject A E
+TypesTree A E t.ObjectWithoutPlus = ty.TypeTraitObject A E
 TypesTree A E t.Tuple = ty.TypeTuple A E
-TypesTree A E t.Bound = ty.TypeParamBound A E
+TypesTree A E t.Return = ty.ReturnType A E
+TypesTree A E t.ReturnWithoutPlus = ty.ReturnType A E
+TypesTree A E t.NamedArg = ty.NamedArg A E
+TypesTree A E t.Abi = abi.Abi
+TypesTree A E t.OptionalAbi = Option abi.Abi
 
-module _ {A E : Type 0} (lengths : R E) (spells : E → Toks → Type 0) (na : List A → List A) (ne : NormalValues E) (pa : List A → Print) (pe : Values E) where
-  abbrev pub type_grammar : (r : TypeReader) → Grammar (TypesTree A E r)
-  type_grammar t.Any = types.ty lengths spells na ne pa pe true
-  type_grammar t.WithoutPlus = types.ty lengths spells na ne pa pe false
-  type_grammar t.Array = types.array lengths spells na ne pa pe
-  type_grammar t.Infer = types.infer na
-  type_grammar t.Macro = types.macro_type na
-  type_grammar t.Never = types.never na
-  type_grammar t.Paren = types.paren lengths spells na ne pa pe
-  type_grammar t.Path = types.path_type lengths spells na ne pa pe
-  type_grammar t.Ptr = types.ptr lengths spells na ne pa pe
-  type_grammar t.Reference = types.reference lengths spells na ne pa pe
-  type_grammar t.Slice = types.slice lengths spells na ne pa pe
-  type_grammar t.Tuple = types.tuple lengths spells na ne pa pe
-  type_grammar t.Bound = types.bound lengths spells na ne pa pe
+-- of paths, over attributes and expressions
+abbrev pub PathsTree : Type 0 → Type 0 → PathReader → Type 0
+PathsTree A E p.Whole = ty.Path A E
+PathsTree A E p.Segment = ty.PathSegment A E
+PathsTree A E p.Argument = ty.GenericArgument A E
+PathsTree A E p.AngleBracketed = ty.AngleBracketed A E
+PathsTree A E p.ParseTurbofish = ty.AngleBracketed A E
+PathsTree A E p.Parenthesized = ty.Parenthesized A E
 
--- what a type holds of attributes and of expressions, over the sample: the read of a length, what it spells, normal forms and prints
-abbrev pub sample_types : (r : TypeReader) → Grammar (TypesTree (Attribute Sample) (Expr Sample) r)
-sample_types = type_grammar (lens reads-value.it) (spells_len spells-value.it) (normal.attributes normal-value.it) (normal_values_of normal-value.it) (outer prints-value.it) (values_of prints-value.it)
+-- of generics, over attributes and expressions
+abbrev pub GenericsTree : Type 0 → Type 0 → GenericsReader → Type 0
+GenericsTree A E g.Param = ty.GenericParam A E
+GenericsTree A E g.LifetimeParam = lifetime.LifetimeParamOf A
+GenericsTree A E g.TypeParam = ty.TypeParam A E
+GenericsTree A E g.ConstParam = ty.ConstParam A E
+GenericsTree A E g.BoundLifetimes = ty.BoundLifetimes A E
+GenericsTree A E g.OptionalBoundLifetimes = Option (ty.BoundLifetimes A E)
+GenericsTree A E g.Bound = ty.TypeParamBound A E
+GenericsTree A E g.TraitBound = ty.TraitBound A E
+GenericsTree A E g.Capture = capture.PreciseCapture
+GenericsTree A E g.Captured = captured.CapturedParam
+GenericsTree A E g.Declared = GenericsOf A E
+GenericsTree A E g.ImplGenerics = GenericsOf A E
+GenericsTree A E g.TypeGenerics = GenericsOf A E
+GenericsTree A E g.Turbofish = GenericsOf A E
+GenericsTree A E g.WhereClause = WhereClauseOf A E
+GenericsTree A E g.OptionalWhereClause = Option (WhereClauseOf A E)
+GenericsTree A E g.Predicate = WherePredicateOf A E
+
+-- of patterns, over a supplied subtree
+abbrev pub PatternsTree : Type 0 → PatternReader → Type 0
+PatternsTree X q.Single = pats.Pat X
+PatternsTree X q.Multi = pats.Pat X
+PatternsTree X q.LeadingVert = pats.Pat X
+PatternsTree X q.Guarded = pats.Pat X
+PatternsTree X q.Typed = pats.PatType X
+
+module _ {A E : Type 0} (attrs : R (List A)) (values : ReadValues E) (na : List A → List A) (pa : List A → Print) (pe : Values E) where
+  abbrev pub types_category : (r : TypeReader) → Category (TypesTree A E r)
+  types_category t.Any = of_reader (knot.ty attrs values Plus) (printing.ty pa pe)
+  types_category t.WithoutPlus = of_reader (knot.ty attrs values NoPlus) (printing.ty pa pe)
+  types_category t.Array = of_reader (knot.array attrs values) (printing.array pa pe)
+  types_category t.FnPtr = of_reader (knot.fn_ptr attrs values) (printing.fn_ptr pa pe)
+  types_category t.Group = of_reader (knot.group attrs values) (printing.group pa pe)
+  types_category t.ImplTrait = of_reader (knot.impl_trait attrs values true) (printing.impl_trait pa pe)
+  types_category t.ImplWithoutPlus = of_reader (knot.impl_trait attrs values false) (printing.impl_trait pa pe)
+  types_category t.Infer = of_grammar (types.infer na)
+  types_category t.Macro = of_grammar (types.macro_type na)
+  types_category t.Never = of_grammar (types.never na)
+  types_category t.Paren = of_reader (knot.paren attrs values) (printing.paren pa pe)
+  types_category t.Path = of_reader (knot.path_type attrs values) (printing.path_type pa pe)
+  types_category t.Ptr = of_reader (knot.ptr attrs values) (printing.ptr pa pe)
+  types_category t.Reference = of_reader (knot.reference attrs values) (printing.reference pa pe)
+  types_category t.Slice = of_reader (knot.slice attrs values) (printing.slice pa pe)
+  types_category t.TraitObject = of_reader (knot.trait_object attrs values true) (printing.trait_object pa pe)
+  types_category t.ObjectWithoutPlus = of_reader (knot.trait_object attrs values false) (printing.trait_object pa pe)
+  types_category t.Tuple = of_reader (knot.tuple attrs values) (printing.tuple pa pe)
+  types_category t.Return = of_reader (knot.return_type attrs values Plus) (printing.return_type pa pe)
+  types_category t.ReturnWithoutPlus = of_reader (knot.return_type attrs values NoPlus) (printing.return_type pa pe)
+  types_category t.NamedArg = of_reader (knot.named_arg attrs values) (printing.named_arg pa pe)
+  types_category t.Abi = of_reader (reading.abi) printing.abi
+  types_category t.OptionalAbi = of_reader (reading.optional_abi) (optional printing.abi)
+
+  abbrev pub paths_category : (r : PathReader) → Category (PathsTree A E r)
+  paths_category p.Whole = of_reader (knot.path attrs values AsWritten) (path_by (shown pa pe))
+  paths_category p.Segment = of_reader (knot.segment attrs values) (segment_by (shown pa pe))
+  paths_category p.Argument = of_reader (knot.argument attrs values) (printing.argument pa pe)
+  paths_category p.AngleBracketed = of_reader (knot.angle_bracketed attrs values) (printing.angle pa pe as_written)
+  paths_category p.ParseTurbofish = of_reader (knot.turbofish attrs values) (printing.angle pa pe as_written)
+  paths_category p.Parenthesized = of_reader (knot.parenthesized attrs values) (printing.parenthesized pa pe)
+
+  abbrev pub generics_category : (r : GenericsReader) → Category (GenericsTree A E r)
+  generics_category g.Param = of_reader (knot.param attrs values Binder) (printing.param pa pe)
+  generics_category g.LifetimeParam = of_reader (generics.lifetime_param attrs) (lifetime_param_by pa)
+  generics_category g.TypeParam = of_reader (knot.type_param attrs values) (printing.type_param pa pe)
+  generics_category g.ConstParam = of_reader (knot.const_param attrs values) (printing.const_param pa pe)
+  generics_category g.BoundLifetimes = of_reader (knot.binder attrs values) (printing.bound_lifetimes pa pe)
+  generics_category g.OptionalBoundLifetimes = of_reader (knot.optional_binder attrs values) (optional (printing.bound_lifetimes pa pe))
+  generics_category g.Bound = of_reader (knot.bound attrs values Opaque) (printing.bound pa pe)
+  generics_category g.TraitBound = of_reader (knot.trait_bound attrs values) (printing.trait_bound pa pe)
+  generics_category g.Capture = of_reader (generics.capture) shapes.capture
+  generics_category g.Captured = of_reader (generics.captured) shapes.captured
+  generics_category g.Declared = of_reader (alone.generics attrs values) (generics_printing.generics pa pe)
+  generics_category g.ImplGenerics = of_reader (alone.generics attrs values) (impl_generics pa pe)
+  generics_category g.TypeGenerics = of_reader (alone.generics attrs values) views.names
+  generics_category g.Turbofish = of_reader (alone.generics attrs values) views.turbofish
+  generics_category g.WhereClause = of_reader (alone.where_clause attrs values) (generics_printing.where_clause pa pe)
+  generics_category g.OptionalWhereClause = of_reader (alone.optional_where_clause attrs values) (optional (generics_printing.where_clause pa pe))
+  generics_category g.Predicate = of_reader (alone.predicate attrs values) (generics_printing.predicate pa pe)
+
+module _ {X : Type 0} (supplied : Place → R X) (prints : Place → X → Print) where
+  abbrev pub patterns_category : (r : PatternReader) → Category (PatternsTree X r)
+  patterns_category q.Single = of_reader (pat_knot.pat supplied Single) (pat_printing.pat prints)
+  patterns_category q.Multi = of_reader (pat_knot.pat supplied Multi) (pat_printing.pat prints)
+  patterns_category q.LeadingVert = of_reader (pat_knot.pat supplied LeadingVert) (pat_printing.pat prints)
+  patterns_category q.Guarded = of_reader (pat_knot.guarded supplied) (pat_printing.pat prints)
+  patterns_category q.Typed = of_reader (pat_knot.typed supplied) (pat_printing.typed prints)
+
+-- what attributes and expressions of the sample read
+abbrev pub sample_attributes : R (List (Attribute Sample))
+sample_attributes = attr_reading.outer reads-value.it
+
+abbrev pub sample_values : ReadValues (Expr Sample)
+sample_values = record { len = lens reads-value.it; const_argument = attr_reading.const_argument reads-value.it }
 
 -- the trees of a reader
 abbrev pub Tree : Reader → Type 0
@@ -119,32 +341,37 @@ Tree Outer = List (Attribute Sample)
 Tree Inner = List (Attribute Sample)
 Tree PointerMutability = mutability.PointerMutability
 Tree (Types r) = TypesTree (Attribute Sample) (Expr Sample) r
+Tree (Paths r) = PathsTree (Attribute Sample) (Expr Sample) r
+Tree (Generics r) = GenericsTree (Attribute Sample) (Expr Sample) r
+Tree (Patterns r) = PatternsTree Sample r
 
-abbrev pub grammar : (r : Reader) → Grammar (Tree r)
-grammar Macro = macs.mac
-grammar ModStyle = paths.mod_style path.nothing (λ a. [])
-grammar Meta = attrs.meta reads-value.it spells-value.it normal-value.it prints-value.it
-grammar MetaList = attrs.list
-grammar MetaNameValue = attrs.name_value reads-value.it spells-value.it normal-value.it prints-value.it
-grammar Outer = attrs.outer reads-value.it spells-value.it normal-value.it prints-value.it
-grammar Inner = attrs.inner reads-value.it spells-value.it normal-value.it prints-value.it
-grammar PointerMutability = tokens.mutability
-grammar (Types r) = sample_types r
+abbrev pub category : (r : Reader) → Category (Tree r)
+category Macro = of_grammar macs.mac
+category ModStyle = of_grammar (paths.mod_style path.nothing (λ a. []))
+category Meta = of_grammar (attrs.meta reads-value.it spells-value.it normal-value.it prints-value.it)
+category MetaList = of_grammar attrs.list
+category MetaNameValue = of_grammar (attrs.name_value reads-value.it spells-value.it normal-value.it prints-value.it)
+category Outer = of_grammar (attrs.outer reads-value.it spells-value.it normal-value.it prints-value.it)
+category Inner = of_grammar (attrs.inner reads-value.it spells-value.it normal-value.it prints-value.it)
+category PointerMutability = of_grammar tokens.mutability
+category (Types r) = types_category sample_attributes sample_values (normal.attributes normal-value.it) (outer prints-value.it) (values_of prints-value.it) r
+category (Paths r) = paths_category sample_attributes sample_values (normal.attributes normal-value.it) (outer prints-value.it) (values_of prints-value.it) r
+category (Generics r) = generics_category sample_attributes sample_values (normal.attributes normal-value.it) (outer prints-value.it) (values_of prints-value.it) r
+category (Patterns r) = patterns_category reads-value.it prints-value.it r
 
 -- what attributes print, one after the other
 abbrev pub attributes : List (Attribute Sample) → Print
-attributes = printing.attributes prints-value.it
+attributes = attr_printing.attributes prints-value.it
 
--- no tree of the grammar spells the tokens clearly
-abbrev pub NoTree : {A : Type 0} → Grammar A → Toks → Type 0
-NoTree {A = A} G l = (b : A) → G.spells true b l → ⊥
+-- A read answers the print of the tree that the read of the category answers, and leaves the stream where that does.
+abbrev pub Shows : {A : Type 0} → Category A → Stream → TokenStream → Stream → Type 0
+Shows {A = A} C s out new = (a : A) × (C.reader s ≡ Ok (a, new)) × (trees out ≡ C.print a)
 
--- A read that answers prints the tree that the read of the grammar answers, and where no invisible group stands in the tokens,
--- its grammar lets it answer that. One that is refused is refused as the read of the grammar is, and where no invisible group
--- stands there, no tree spells the tokens clearly.
-abbrev pub Reprints : {A : Type 0} → Grammar A → Toks → Result TokenStream Refusal → Type 0
-Reprints {A = A} G l (Ok s) = (a : A) × (whole G.reader l ≡ Ok a) × (Visible l → Answered G l a) × (trees s ≡ G.print a)
-Reprints G l (Err e) = e.kind ≢ OutOfMemory → (whole G.reader l ≡ Err e) × (Visible l → NoTree G l)
+-- A read that answers prints the tree that the read of the category answers, and keeps its promise. One that is refused is refused as the read of the category
+-- is, and keeps the promise of a refusal.
+abbrev pub Reprints : {A : Type 0} → Category A → Toks → Result TokenStream Refusal → Type 0
+Reprints {A = A} C l (Ok s) = (a : A) × (whole C.reader l ≡ Ok a) × C.promise l (Some a) × (trees s ≡ C.print a)
+Reprints C l (Err e) = e.kind ≢ OutOfMemory → (whole C.reader l ≡ Err e) × C.promise l None
 
 -- the same by the relations of a read and its promise
 abbrev pub Prints : {A : Type 0} → (Stream → A → Stream → Type 0) → (Stream → Refusal → Type 0) → (Toks → Option A → Type 0) → (A → Print) → Toks → Result TokenStream Refusal → Type 0

@@ -5,11 +5,11 @@ use Rattle.token_core.specs.Toks.{Bytes, done}
 use Rattle.token_core.specs.Trees.{row, stream_of_trees}
 use Rattle.token_core.specs.Refusal.{Refusal}
 use Rattle.token_core.specs.Rebuilt.{Visible}
-use Rattle.token_core.specs.Headline.{Answered, whole}
+use Rattle.token_core.specs.Headline.{whole}
 use Rattle.token_text.specs.Spelling.{Spells, Refused}
 use Rattle.token_text.specs.Printing.{text_of}
 use Rattle.synmid.specs.declared.reader.Reader.{Reader}
-use Rattle.synmid.specs.Readers.{named, Tree, grammar, NoTree}
+use Rattle.synmid.specs.Readers.{named, Tree, category}
 
 -- ---- what a run says
 
@@ -49,16 +49,16 @@ pub record IsTextOf (input : Bytes) (l : List TokenTree) : Type 0 where
   pub spells : Spells input l
 
 abbrev pub text_of_print : (r : Reader) → Tree r → Bytes
-text_of_print r a = text_of (stream_of_trees ((grammar r).print a))
+text_of_print r a = text_of (stream_of_trees ((category r).print a))
 
--- The input is text of a list of which the reader answers a tree, and the text is that of the tree's print. Where no invisible
--- group stands in the list, the reader's grammar lets it answer that tree.
+-- The input is text of a list of which the reader answers a tree, and the text is that of the tree's print. What a whole read
+-- promises of the list and the tree holds: for a reader with a grammar, that its grammar lets it answer that tree.
 pub record Shows (r : Reader) (input text : Bytes) : Type 0 where
   pub list : List TokenTree
   pub is_text : IsTextOf input list
   pub tree : Tree r
-  pub read : whole (grammar r).reader (row list done) ≡ Ok tree
-  pub answered : Visible (row list done) → Answered (grammar r) (row list done) tree
+  pub read : whole (category r).reader (row list done) ≡ Ok tree
+  pub promise : (category r).promise (row list done) (Some tree)
   pub text_is : text ≡ text_of_print r tree
 
 -- Why a reader shows no tree of an input, and the text that says so.
@@ -67,8 +67,8 @@ pub data Refuses (r : Reader) (input : Bytes) : Bytes → Type 0 where
   not_utf8 : ¬ IsUtf8 input → Refuses r input (codes "input is not UTF-8")
   -- It is no text of a list.
   no_list : (e : Refusal) → IsUtf8 input → Refused input e → Refuses r input e.text
-  -- The reader refuses its list, and where no invisible group stands there, no tree of its grammar spells that clearly.
-  no_tree : (l : List TokenTree) (e : Refusal) → IsTextOf input l → whole (grammar r).reader (row l done) ≡ Err e → (Visible (row l done) → NoTree (grammar r) (row l done)) →
+  -- The reader refuses its list, and what it promises of a refusal holds: with a grammar, that no tree spells the list clearly.
+  no_tree : (l : List TokenTree) (e : Refusal) → IsTextOf input l → whole (category r).reader (row l done) ≡ Err e → (category r).promise (row l done) None →
       Refuses r input e.text
   -- Memory ran out.
   memory : Refuses r input (codes "out of memory")
@@ -80,7 +80,7 @@ Justified r input unknown = ⊥
 
 -- A tree that spells the input's list clearly, where no invisible group stands, is shown, unless memory ran out.
 abbrev pub Accepts : Reader → Bytes → Answer → Type 0
-Accepts r input answer = (l : List TokenTree) (a : Tree r) → IsTextOf input l → Visible (row l done) → (grammar r).spells true a (row l done) →
+Accepts r input answer = (l : List TokenTree) (a : Tree r) → IsTextOf input l → Visible (row l done) → (category r).clear a (row l done) →
     (answer ≡ shown (text_of_print r a)) ⊎ (answer ≡ no_memory)
 
 -- What is said of an input that was read is so, and no tree that the input spells clearly is kept back.

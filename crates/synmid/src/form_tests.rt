@@ -5,11 +5,10 @@ ghost use Rattle.token_core.specs.Reads.{Follows};
 ghost use Rattle.syn_attr.specs.attr.Requirements.{path_in};
 
 use crate::attr_tests::says;
-use crate::sample::Sample;
 use std::alloc::{AllocError, Global};
 use std::fmt::Write;
-use syn_mid::Attribute;
 use syn_mid::meta::ParseNestedMeta;
+use syn_mid::verbatim::Attribute;
 use token_core::token::Comma;
 use token_core::{ByFn, Error, Lit, LitStr, ParseStream, read_all_with};
 use token_text::lex;
@@ -27,7 +26,7 @@ struct Form {
 fn parse_form(alloc: Global, input: &mut ParseStream<'_>) -> Result<Form, Error>
     ensures { Follows input.old input.new }
 {
-    let attrs = Attribute::<Sample>::parse_outer(alloc, input)?;
+    let attrs = Attribute::parse_outer(alloc, input)?;
     let mut form = Form {
         min: None,
         max: None,
@@ -38,7 +37,7 @@ fn parse_form(alloc: Global, input: &mut ParseStream<'_>) -> Result<Form, Error>
 }
 
 #[tactic(auto, using(crate::proofs::Idents::idents))]
-fn add_forms(alloc: Global, attrs: &[Attribute<Sample>], form: &mut Form) -> Result<(), Error> {
+fn add_forms(alloc: Global, attrs: &[Attribute], form: &mut Form) -> Result<(), Error> {
     for attr in attrs {
         if attr.path().is_ident("form") {
             add_options(alloc, attr, form)?;
@@ -48,7 +47,7 @@ fn add_forms(alloc: Global, attrs: &[Attribute<Sample>], form: &mut Form) -> Res
 }
 
 #[tactic(auto, using(token_core::proofs::Suffixes::follows))]
-fn add_options(alloc: Global, attr: &Attribute<Sample>, form: &mut Form) -> Result<(), Error>
+fn add_options(alloc: Global, attr: &Attribute, form: &mut Form) -> Result<(), Error>
     requires { 0 < length (path_in attr.now.meta).segments.0 }
 {
     let logic = |alloc: Global, meta: &mut ParseNestedMeta<'_>| -> Result<(), Error>

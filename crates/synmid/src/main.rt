@@ -11,7 +11,11 @@ mod fault;
 #[cfg(test)]
 mod form_tests;
 #[cfg(test)]
+mod generics_read_tests;
+#[cfg(test)]
 mod nested_tests;
+#[cfg(test)]
+mod pat_read_tests;
 mod reader;
 mod run;
 mod sample;

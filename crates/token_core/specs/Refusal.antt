@@ -2,7 +2,7 @@
 use Rattle.std.specs.Prelude.{◌≡◌, ◌≢◌, ◌⊎◌, ℕ, ◌==◌, if◌then◌else◌, [], Option, Some, None, refl, codes}
 use Rattle.std.specs.Coded.{Coded, code_by, coded×, coded_ℕ}
 use Rattle.token_core.specs.declared.error.ErrorKind.{ErrorKind}
-use Rattle.token_core.specs.declared.error.ErrorKind.TheVariants.{OutOfMemory, Expected, Unexpected, Custom, ExpectedDelimiter, ExpectedPathSegment, ExpectedPathIdent, ExpectedAttributeArguments, ExpectedParentheses, TokenInAttribute, ExpectedMetaArguments, ExpectedParenthesis, ExpectedMetaValue, ExpectedEquals, AttributeInAttribute, ExpectedNestedAttribute, LiteralInNestedAttribute, TokenInNestedAttribute, UnclosedDelimiter, UnexpectedClosingDelimiter, UnknownToken, UnterminatedToken, DocComment, MalformedNumber, BinderWithQuestion, GenericsOnWhere, CaptureNotAllowed, ConditionalConstNotAllowed, ConstNotAllowed, NoTraitInObject, NoTraitInImpl}
+use Rattle.token_core.specs.declared.error.ErrorKind.TheVariants.{OutOfMemory, Expected, Unexpected, Custom, ExpectedDelimiter, ExpectedPathSegment, ExpectedPathIdent, ExpectedAttributeArguments, ExpectedParentheses, TokenInAttribute, ExpectedMetaArguments, ExpectedParenthesis, ExpectedMetaValue, ExpectedEquals, AttributeInAttribute, ExpectedNestedAttribute, LiteralInNestedAttribute, TokenInNestedAttribute, UnclosedDelimiter, UnexpectedClosingDelimiter, UnknownToken, UnterminatedToken, DocComment, MalformedNumber, BinderWithQuestion, GenericsOnWhere, CaptureNotAllowed, ConditionalConstNotAllowed, ConstNotAllowed, NoTraitInObject, NoTraitInImpl, RangeWithoutEnd, OpenRangeInSlice}
 use Rattle.token_core.specs.declared.span.Span.{Span}
 use Rattle.token_core.specs.Toks.{Bytes}
 use Rattle.token_core.specs.Spans.{none}
@@ -47,6 +47,8 @@ fixed ConditionalConstNotAllowed = codes "`[const]` is not allowed here"
 fixed ConstNotAllowed = codes "`const` is not allowed here"
 fixed NoTraitInObject = codes "at least one trait is required for an object type"
 fixed NoTraitInImpl = codes "at least one trait must be specified"
+fixed RangeWithoutEnd = codes "expected range upper bound"
+fixed OpenRangeInSlice = codes "range pattern is not allowed unparenthesized inside slice pattern"
 
 abbrev pub text_or : Option Bytes → Bytes
 text_or None = fixed OutOfMemory
@@ -106,6 +108,8 @@ kind_number ConditionalConstNotAllowed = 27
 kind_number ConstNotAllowed = 28
 kind_number NoTraitInObject = 29
 kind_number NoTraitInImpl = 30
+kind_number RangeWithoutEnd = 31
+kind_number OpenRangeInSlice = 32
 
 abbrev number_kind : ℕ → ErrorKind
 number_kind n =
@@ -139,7 +143,9 @@ number_kind n =
     if n == 27 then ConditionalConstNotAllowed else (
     if n == 28 then ConstNotAllowed else (
     if n == 29 then NoTraitInObject else (
-    NoTraitInImpl))))))))))))))))))))))))))))))
+    if n == 30 then NoTraitInImpl else (
+    if n == 31 then RangeWithoutEnd else (
+    OpenRangeInSlice))))))))))))))))))))))))))))))))
 
 pub kind_back : (k : ErrorKind) → number_kind (kind_number k) ≡ k
 kind_back OutOfMemory = refl
@@ -173,6 +179,8 @@ kind_back ConditionalConstNotAllowed = refl
 kind_back ConstNotAllowed = refl
 kind_back NoTraitInObject = refl
 kind_back NoTraitInImpl = refl
+kind_back RangeWithoutEnd = refl
+kind_back OpenRangeInSlice = refl
 
 abbrev pub kind_code : Coded ErrorKind
 kind_code = code_by ℕ coded_ℕ kind_number number_kind kind_back

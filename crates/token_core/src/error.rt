@@ -74,6 +74,10 @@ pub enum ErrorKind {
     NoTraitInObject,
     /// The bounds after `impl` name no trait.
     NoTraitInImpl,
+    /// A range ends in `..=`.
+    RangeWithoutEnd,
+    /// An element of a slice's pattern is a range that lacks a bound.
+    OpenRangeInSlice,
 }
 
 impl ErrorKind {
@@ -119,6 +123,9 @@ impl ErrorKind {
             ErrorKind::ConstNotAllowed => "`const` is not allowed here",
             ErrorKind::NoTraitInObject => "at least one trait is required for an object type",
             ErrorKind::NoTraitInImpl => "at least one trait must be specified",
+            ErrorKind::RangeWithoutEnd => "expected range upper bound",
+            ErrorKind::OpenRangeInSlice =>
+                "range pattern is not allowed unparenthesized inside slice pattern",
         }
     }
 }

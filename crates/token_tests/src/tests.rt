@@ -209,6 +209,11 @@ fn refusals_have_their_texts(rt: HostRuntime) {
             ErrorKind::NoTraitInImpl,
             "at least one trait must be specified",
         ),
+        (ErrorKind::RangeWithoutEnd, "expected range upper bound"),
+        (
+            ErrorKind::OpenRangeInSlice,
+            "range pattern is not allowed unparenthesized inside slice pattern",
+        ),
     ] {
         kind_says(&rt, alloc, kind, text);
     }

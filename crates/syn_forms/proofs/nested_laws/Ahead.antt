@@ -169,6 +169,18 @@ invisible_after {T} f s t g e = by_group (groups.next_invisible s.rest) e
 pub invisible_ahead : {T : Type 0} (f : DelimSpan → T) (s t : Stream) (g : T × Stream) → Holds s.rest g.1.rest t.rest → groups.opened f (groups.open_invisible s) ≡ Ok (g, t) → ahead g.1 < ahead s
 invisible_ahead f s t g h e = holds_less s t g.1 h (invisible_after f s t g e)
 
+-- and less after it
+pub holds_taken : (s t c : Stream) → Holds s.rest c.rest t.rest → Follows s t → ahead t < ahead s
+holds_taken s t c h f =
+    let x = ahead-is s in
+    let y = ahead-is t in
+    let a = same_after s t f in
+    let b = ap length h.is in
+    let d = length-append h.before (items c.rest ++ an_end ∷ items t.rest) in
+    let e = length-append (items c.rest) (an_end ∷ items t.rest) in
+    let g = h.begun in
+    omega (arith, x, y, a, b, d, e, g)
+
 -- a read of a mark, by its relations
 taken : (n l c : ℕ) (cs : _) → chars_of n ≡ c ∷ cs → (s t : Stream) (r : Result (Mark n l) Refusal) → Parsed (Gives (read n l) s) (Fails (read n l) s) r t → Follows s t → IfOk r (λ _. ahead t < ahead s)
 taken n l c cs h s t (Ok m) e f = mark_ahead n l c cs h s t m e f
@@ -238,6 +250,9 @@ unsafe_taken = word_taken 16
 pub use_taken : (s t : Stream) (r : Result (Word 17) Refusal) → Parsed (Gives (read_named 17) s) (Fails (read_named 17) s) r t → Follows s t → IfOk r (λ _. ahead t < ahead s)
 use_taken = word_taken 17
 
+pub where_taken : (s t : Stream) (r : Result (Word 18) Refusal) → Parsed (Gives (read_named 18) s) (Fails (read_named 18) s) r t → Follows s t → IfOk r (λ _. ahead t < ahead s)
+where_taken = word_taken 18
+
 pub any_ident_taken : (test : Bytes → Bool) (name : Bytes) (s t : Stream) (r : Result Ident Refusal) → Reads (read_word test name s) r t → Follows s t → IfOk r (λ _. ahead t < ahead s)
 any_ident_taken test name s t (Ok w) e f = ahead_less s t f (word_takes test name s t w e)
 any_ident_taken test name s t (Err x) e f = tt
@@ -255,8 +270,8 @@ pub ruleset later = (ahead_follows)
 
 pub ruleset inside_groups = (opened_ahead)
 
-pub ruleset inside_invisible = (invisible_ahead)
+pub ruleset inside_invisible = (invisible_ahead, holds_taken)
 
 pub ruleset past_lifetimes = (lifetime_taken)
 
-pub ruleset past_tokens = (comma_taken, plus_taken, and_taken, star_taken, lt_taken, gt_taken, sep_taken, equals_taken, colon_taken, arrow_taken, const_taken, dyn_taken, extern_taken, fn_taken, for_taken, impl_taken, unsafe_taken, use_taken, ident_taken, any_ident_taken)
+pub ruleset past_tokens = (comma_taken, plus_taken, and_taken, star_taken, lt_taken, gt_taken, sep_taken, equals_taken, colon_taken, arrow_taken, const_taken, dyn_taken, extern_taken, fn_taken, for_taken, impl_taken, unsafe_taken, use_taken, where_taken, ident_taken, any_ident_taken)

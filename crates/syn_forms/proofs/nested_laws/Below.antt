@@ -1,9 +1,9 @@
 -- Reads that are asked only where less than a limit is left.
-use Rattle.std.proofs.Common.{◌≡◌, ℕ, ◌<◌, Bool, true, false, Ok, refl, ◌∙◌, ap}
+use Rattle.std.proofs.Common.{◌≡◌, ℕ, ◌<◌, Bool, true, false, Ok, refl}
 use Rattle.std.specs.Prelude.{nat_lt}
 use Rattle.std.proofs.Math.Path.{fun_ext}
-use Rattle.std.proofs.lemmas.Bool.{ltb-true, lt-ltb}
-use Rattle.token_core.specs.Reads.{Outcome, Reader}
+use Rattle.std.proofs.lemmas.Bool.{ltb-true}
+use Rattle.token_core.specs.Reads.{Reader}
 use Rattle.token_core.specs.Stream.{Stream}
 use Rattle.syn_forms.specs.nested.Below.{ahead, below, below_if}
 
@@ -26,7 +26,3 @@ out_if limit p s t x false h e = cc
 
 pub out : {A : Type 0} (limit : ℕ) (p : Reader A) (s t : Stream) (x : A) → below limit p s ≡ Ok (x, t) → Below limit p s t x
 out limit p s t x e = out_if limit p s t x (nat_lt (ahead s) limit) refl e
-
--- a read below a limit answers what the read answers
-pub under : {A : Type 0} (limit : ℕ) (p : Reader A) (s : Stream) (o : Outcome A) → ahead s < limit → p s ≡ o → below limit p s ≡ o
-under limit p s o h e = ap (λ b. below_if b p s) (lt-ltb (ahead s) limit h) ∙ e

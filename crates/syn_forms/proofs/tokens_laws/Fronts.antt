@@ -64,8 +64,3 @@ module _ {A : Type 0} (spells : Bool → A → Toks → Toks → Type 0) (normal
     stays = λ a l h p. (again a l done h).stays;
     same = λ a l h p. (again a l done h).same;
   }
-
-  pub front_by : ((s t : Stream) (a : A) → Visible s.rest → reader s ≡ Ok (a, t) → TookOne (spells false) s t a) →
-      (s t : Stream) (q : Result A Refusal) → Reads (reader s) q t → Visible s.rest → t.left ≡ None → IfOk q (λ x. spells false x s.rest t.rest)
-  front_by sound s t (Ok a) h v n = (sound s t a v h).spelt n
-  front_by sound s t (Err e) h v n = tt

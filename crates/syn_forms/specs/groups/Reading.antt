@@ -10,8 +10,6 @@ use Rattle.token_core.specs.Loops.{Many}
 use Rattle.token_core.specs.Reads.{Reader, ◌>>=◌, ◌<$>◌, pure, peek, is_done, in_group, closing}
 use Rattle.syn_forms.specs.declared.groups.InBrackets.{InBrackets}
 use Rattle.syn_forms.specs.declared.groups.InBrackets.TheVariants.{Element, Counted}
-use Rattle.syn_forms.specs.declared.groups.InParens.{InParens}
-use Rattle.syn_forms.specs.declared.groups.InParens.TheVariants.{One, Elements}
 use Rattle.syn_forms.specs.declared.groups.ParenContent.{ParenContent}
 use Rattle.syn_forms.specs.declared.groups.ParenContent.TheVariants as c
 use Rattle.syn_forms.specs.lists.Reading.{more_elements}
@@ -46,15 +44,6 @@ module _ {A : Type 0} (value : Reader A) where
   tuple_content = do
     over ← peek is_done
     if over then pure ([], []) else (value >>= more_elements value)
-
-  -- a tree, or the elements of a tuple
-  unfoldable pub paren_content : Reader (InParens A)
-  paren_content = do
-    over ← peek is_done
-    if over then pure (Elements ([], [])) else (do
-      x ← value
-      goes ← peek sees_comma
-      if goes then Elements <$> more_elements value x else pure (One x))
 
 -- In the place of a type:
 module _ {A O Q : Type 0} (value : Reader A) where

@@ -24,10 +24,6 @@ below limit p s = below_if (nat_lt (ahead s) limit) p s
 unfoldable pub held : {P A : Type 0} → (P → Reader A) → ℕ → P → Reader A
 held r limit place = below limit (r place)
 
--- a form by itself: what it holds is read further on
-abbrev pub alone : {P A B : Type 0} → (Reader A → Reader B) → (P → Reader A) → P → Reader B
-alone form r place s = form (held r (ahead s) place) s
-
 -- a function value that reads in a place where less than the limit is left; its second argument tells what it reads
 pub record Nests {W P A : Type 0} (reader : P → Reader A) (limit : ℕ) (pre : Global → W → MutBor Stream → P → Type 0)
     (post : Global → W → MutBor Stream → P → Result A Refusal → MutBor Stream → Type 0) : Type 0 where

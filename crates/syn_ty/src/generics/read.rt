@@ -1,44 +1,1237 @@
-//! Bounds are read.
+//! Captures, bounds, binders and parameters are read.
 
-ghost use Rattle.std.specs.Prelude.{◌≡◌, false, None, IfOk};
-ghost use Rattle.token_core.specs.Headline.{Headline, Heads};
-ghost use Rattle.token_core.specs.Reads.{Reads, Follows, Gives, Fails};
-ghost use Rattle.token_core.specs.Rebuilt.{Visible};
-ghost use Rattle.syn_ty.specs.ty.Grammars as grammars;
-ghost use Rattle.syn_ty.specs.ty.Heights.{IsSomeBound};
+ghost use Rattle.std.specs.Prelude.{◌≡◌, ◌<◌, ◌≤◌, length, true, not, [], ◌∷◌, IfOk};
+ghost use Rattle.syn_forms.specs.declared.places.BoundPlace.TheVariants as bound_places;
+ghost use Rattle.syn_forms.specs.declared.places.ParamPlace.TheVariants as param_places;
+ghost use Rattle.syn_forms.specs.groups.Reading as groups;
+ghost use Rattle.syn_forms.specs.lists.Reading.{list};
+ghost use Rattle.syn_forms.specs.nested.Below.{Nests, ahead};
+ghost use Rattle.syn_forms.specs.tokens.Choices.{none_of, a_comma, a_const, a_gt, a_lifetime, an_ident};
+ghost use Rattle.syn_forms.specs.verbatim.Reading.{position};
+ghost use Rattle.syn_ty.specs.generics.Params as parts;
+ghost use Rattle.syn_ty.specs.generics.Reading as reading;
 ghost use Rattle.syn_ty.specs.ty.Knot as knot;
+ghost use Rattle.token_core.specs.Looks.{unmet};
+ghost use Rattle.token_core.specs.Positions.{IsReached};
+ghost use Rattle.token_core.specs.Reads.{Reads, Follows, Gives, Fails, Parses, forked};
+ghost use Rattle.token_core.specs.Refusal.{Made};
+ghost use Rattle.token_core.specs.Stream.{Stream};
+ghost use Rattle.token_core.specs.Tokens as token;
 
-use crate::generics::TypeParamBoundOf;
-use crate::knot::parse_bound;
+use crate::generics::{
+    BoundLifetimesOf, CapturedParam, ConstParamOf, GenericParamOf, LifetimeParamOf, PreciseCapture,
+    TraitBoundModifiers, TraitBoundOf, TypeParamBoundOf, TypeParamOf,
+};
+use crate::grammar::{Grammar, read_type};
+use crate::path::PathArgumentsOf;
+use crate::path::read::{path_from, signed_from};
+use crate::ty::TypeOf;
 use std::alloc::Global;
 use std::marker::PhantomData;
+use syn_forms::forms;
+use syn_forms::nested::Held;
+use syn_forms::params::{const_parts, parse_lifetime_parts, type_parts};
+use syn_forms::places::{BoundPlace, ParamPlace, TypePlace};
+use syn_forms::tokens::{
+    open_brackets, open_parens, parse_any_ident, parse_any_lifetime, parse_comma, parse_const,
+    parse_gt, parse_lt, parse_question, parse_use,
+};
+use syn_forms::verbatim::{refuse_at, refuse_since, since};
+use syn_path::path::{PathOf, PathStyle};
 use syn_path::supplied::{Attributes, Value};
-use token_core::{Error, Parse, ParseStream};
+use token_core::token::{
+    Bracket, Comma, Const, For, Gt, Paren, Question, SelfType, Underscore, Use,
+};
+use token_core::{
+    Cursor, Error, ErrorKind, Ident, Items, Lifetime, Parse, ParseStream, Punctuated,
+};
 
-/// Reads a bound: a lifetime, or a trait by its path, after an optional `for<..>` or `?`, which may stand in parentheses.
+// ---- captures
+
+/// Whether an identifier or `Self` follows.
+fn sees_captured_ident(input: &ParseStream<'_>) -> bool
+    ensures { result ≡ reading.sees_captured_ident input.now.rest }
+{
+    input.peek::<Ident>() | input.peek::<SelfType>()
+}
+
+/// The refusal where no parameter follows that can be captured; in a list the `>` is looked for too.
+fn no_captured(alloc: Global, input: &ParseStream<'_>, listed: bool) -> Error
+    ensures made { Made result (unmet (record { input = forked input.now; missing = reading.captured_names listed })) }
+{
+    let mut look = input.lookahead1();
+    look.note::<Lifetime>();
+    look.note::<Ident>();
+    if listed {
+        look.note::<Gt>();
+    }
+    look.error(alloc)
+}
+
+/// A lifetime, an identifier or `Self`, by itself or in a list.
+#[tactic(auto, using(token_core::proofs::Suffixes::follows, syn_forms::proofs::nested_laws::Ahead::later))]
+fn captured_or(
+    alloc: Global,
+    input: &mut ParseStream<'_>,
+    listed: bool,
+) -> Result<CapturedParam, Error>
+    ensures parses { Parses (reading.captured_or (none_of (reading.captured_names listed))) result input.old input.new }
+    ensures fewer { ahead input.new ≤ ahead input.old }
+{
+    if input.peek::<Lifetime>() {
+        return Ok(CapturedParam::Lifetime(parse_any_lifetime(alloc, input)?));
+    }
+    if sees_captured_ident(input) {
+        return Ok(CapturedParam::Ident(parse_any_ident(alloc, input)?));
+    }
+    Err(no_captured(alloc, input, listed))
+}
+
+/// A captured parameter by itself.
+#[tactic(auto, unfolding(crate::specs::generics::Reading::captured))]
+fn parse_captured(alloc: Global, input: &mut ParseStream<'_>) -> Result<CapturedParam, Error>
+    ensures parses { Parses reading.captured result input.old input.new }
+{
+    captured_or(alloc, input, false)
+}
+
+/// A captured parameter in a list.
+#[tactic(auto, unfolding(crate::specs::generics::Reading::listed_captured))]
+fn parse_listed(alloc: Global, input: &mut ParseStream<'_>) -> Result<CapturedParam, Error>
+    ensures parses { Parses reading.listed_captured result input.old input.new }
+    ensures fewer { ahead input.new ≤ ahead input.old }
+{
+    captured_or(alloc, input, true)
+}
+
+/// The refusal where neither a comma nor the end of the list follows a captured parameter.
+fn no_comma(alloc: Global, input: &ParseStream<'_>) -> Error
+    ensures made { Made result (unmet (record { input = forked input.now; missing = a_comma ∷ a_gt ∷ [] })) }
+{
+    let mut look = input.lookahead1();
+    look.note::<Comma>();
+    look.note::<Gt>();
+    look.error(alloc)
+}
+
+/// The comma after a captured parameter.
+#[tactic(auto, using(token_core::proofs::Suffixes::follows), unfolding(crate::specs::generics::Reading::captured_comma))]
+fn parse_captured_comma(alloc: Global, input: &mut ParseStream<'_>) -> Result<Comma, Error>
+    ensures parses { Parses reading.captured_comma result input.old input.new }
+    ensures taken { IfOk result (λ _. ahead input.new < ahead input.old) }
+{
+    if !input.peek::<Comma>() {
+        return Err(no_comma(alloc, input));
+    }
+    parse_comma(alloc, input)
+}
+
+/// Captured parameters up to a `>`: a comma is needed between them, and may follow the last.
+#[tactic(auto, using(token_core::proofs::Suffixes::follows))]
+fn parse_captures(
+    alloc: Global,
+    input: &mut ParseStream<'_>,
+) -> Result<Punctuated<CapturedParam, Comma>, Error>
+    ensures parses { Parses (list (λ first. token.sees_gt) reading.listed_captured (λ k. not (token.sees_gt k)) reading.captured_comma true) result input.old input.new }
+{
+    let mut params = Punctuated::new(alloc);
+    'turn: loop {
+        if input.peek::<Gt>() {
+            return Ok(params);
+        }
+        let param = parse_listed(alloc, input)?;
+        params.push_value(param)?;
+        if input.peek::<Gt>() {
+            return Ok(params);
+        }
+        let comma = parse_captured_comma(alloc, input)?;
+        params.push_punct(comma)?;
+    }
+}
+
+/// `use<'a, T>`
+#[tactic(auto, using(token_core::proofs::Suffixes::follows), unfolding(crate::specs::generics::Reading::capture))]
+fn parse_capture(alloc: Global, input: &mut ParseStream<'_>) -> Result<PreciseCapture, Error>
+    ensures parses { Parses reading.capture result input.old input.new }
+{
+    let use_token = parse_use(alloc, input)?;
+    let lt_token = parse_lt(alloc, input)?;
+    let params = parse_captures(alloc, input)?;
+    let gt_token = parse_gt(alloc, input)?;
+    Ok(PreciseCapture {
+        use_token,
+        lt_token,
+        params,
+        gt_token,
+    })
+}
+
+// ---- `const` and `[const]` before the path of a trait
+
+/// `const` in brackets.
+#[tactic(auto, using(token_core::proofs::Suffixes::follows))]
+fn parse_conditional(alloc: Global, input: &mut ParseStream<'_>) -> Result<(Bracket, Const), Error>
+    ensures parses { Parses (groups.in_brackets token.const_word) result input.old input.new }
+{
+    let (bracket_token, mut content) = open_brackets(alloc, input)?;
+    let const_token = parse_const(alloc, &mut content)?;
+    input.finish(content);
+    Ok((bracket_token, const_token))
+}
+
+/// `const` or `[const]` where one may stand: whether one does.
+#[tactic(auto, using(token_core::proofs::Suffixes::follows, syn_forms::proofs::nested_laws::Ahead::later), unfolding(crate::specs::generics::Reading::const_form))]
+fn const_form(alloc: Global, input: &mut ParseStream<'_>) -> Result<bool, Error>
+    ensures parses { Parses reading.const_form result input.old input.new }
+    ensures fewer { ahead input.new ≤ ahead input.old }
+{
+    if input.peek::<Bracket>() {
+        parse_conditional(alloc, input)?;
+        return Ok(true);
+    }
+    if input.peek::<Const>() {
+        parse_const(alloc, input)?;
+        return Ok(true);
+    }
+    Ok(false)
+}
+
+/// Refuses `const` and `[const]`, each once it is read, the second from bracket to bracket.
+#[tactic(auto, using(token_core::proofs::Suffixes::follows, syn_forms::proofs::nested_laws::Ahead::later), unfolding(crate::specs::generics::Reading::no_const_form))]
+fn no_const_form(alloc: Global, input: &mut ParseStream<'_>) -> Result<(), Error>
+    ensures parses { Parses reading.no_const_form result input.old input.new }
+    ensures fewer { ahead input.new ≤ ahead input.old }
+{
+    if input.peek::<Bracket>() {
+        let (bracket_token, const_token) = parse_conditional(alloc, input)?;
+        let at = bracket_token.span.join();
+        return Err(refuse_at(alloc, ErrorKind::ConditionalConstNotAllowed, at));
+    }
+    if input.peek::<Const>() {
+        let const_token = parse_const(alloc, input)?;
+        return Err(refuse_at(alloc, ErrorKind::ConstNotAllowed, const_token.span));
+    }
+    Ok(())
+}
+
+// ---- traits by their parts
+
+/// A trait by its path, without parentheses.
+pub(crate) fn named_bound<A, E>(
+    lifetimes: Option<BoundLifetimesOf<GenericParamOf<A, E>>>,
+    maybe: Option<Question>,
+    path: PathOf<PathArgumentsOf<A, E>>,
+) -> TraitBoundOf<A, E>
+    ensures { result ≡ parts.named_bound lifetimes maybe path }
+{
+    TraitBoundOf {
+        paren_token: None,
+        lifetimes,
+        modifiers: TraitBoundModifiers {},
+        maybe,
+        path,
+    }
+}
+
+/// A trait bound in parentheses.
+pub(crate) fn held_bound<A, E>(paren_token: Paren, bound: TraitBoundOf<A, E>) -> TraitBoundOf<A, E>
+    ensures { result ≡ parts.held_bound paren_token bound }
+{
+    TraitBoundOf {
+        paren_token: Some(paren_token),
+        ..bound
+    }
+}
+
+/// A trait as a bound, or its tokens as they were written.
+fn kept<A: Attributes, E: Value>(
+    alloc: Global,
+    from: &Cursor<'_>,
+    input: &ParseStream<'_>,
+    bound: Option<TraitBoundOf<A, E>>,
+) -> Result<TypeParamBoundOf<A, E>, Error>
+    requires reached { IsReached (position input.now) from.now }
+    ensures reads { Reads (reading.kept from.now bound input.now) result input.now }
+{
+    match bound {
+        Some(bound) => Ok(TypeParamBoundOf::Trait(bound)),
+        None => Ok(TypeParamBoundOf::Verbatim(since(alloc, from, input)?)),
+    }
+}
+
+/// The same of what parentheses held.
+fn kept_in_parens<A: Attributes, E: Value>(
+    alloc: Global,
+    from: &Cursor<'_>,
+    input: &ParseStream<'_>,
+    paren_token: Paren,
+    bound: Option<TraitBoundOf<A, E>>,
+) -> Result<TypeParamBoundOf<A, E>, Error>
+    requires reached { IsReached (position input.now) from.now }
+    ensures reads { Reads (reading.kept_in_parens from.now (paren_token, bound) input.now) result input.now }
+{
+    match bound {
+        Some(bound) => Ok(TypeParamBoundOf::Trait(held_bound(paren_token, bound))),
+        None => Ok(TypeParamBoundOf::Verbatim(since(alloc, from, input)?)),
+    }
+}
+
+// ---- lifetime parameters
+
+/// A lifetime parameter after its attributes.
+#[tactic(auto, using(token_core::proofs::Suffixes::follows))]
+fn lifetime_after<A: Attributes>(
+    alloc: Global,
+    input: &mut ParseStream<'_>,
+    attrs: Items<A>,
+) -> Result<LifetimeParamOf<A>, Error>
+    ensures parses { Parses (reading.lifetime_after A.reads attrs) result input.old input.new }
+{
+    let (lifetime, colon_token, bounds) = parse_lifetime_parts(alloc, input)?;
+    Ok(LifetimeParamOf {
+        attrs,
+        lifetime,
+        colon_token,
+        bounds,
+    })
+}
+
+/// `'a: 'b + 'c`, after attributes.
+#[tactic(auto, using(token_core::proofs::Suffixes::follows), unfolding(crate::specs::generics::Reading::lifetime_param))]
+fn lifetime_param<A: Attributes>(
+    alloc: Global,
+    input: &mut ParseStream<'_>,
+) -> Result<LifetimeParamOf<A>, Error>
+    ensures parses { Parses (reading.lifetime_param A.reads) result input.old input.new }
+{
+    let attrs = A::read_outer(alloc, input)?;
+    lifetime_after(alloc, input, attrs)
+}
+
+/// A bare `_`, without bounds and default.
+#[tactic(auto, using(token_core::proofs::Suffixes::follows))]
+fn underscore_after<A: Attributes, E: Value>(
+    alloc: Global,
+    input: &mut ParseStream<'_>,
+    attrs: Items<A>,
+) -> Result<GenericParamOf<A, E>, Error>
+    ensures parses { Parses (reading.underscore_after attrs) result input.old input.new }
+{
+    let ident = parse_any_ident(alloc, input)?;
+    Ok(GenericParamOf::Type(TypeParamOf {
+        attrs,
+        ident,
+        colon_token: None,
+        bounds: Punctuated::new(alloc),
+        default: None,
+    }))
+}
+
+/// The refusal where no parameter of a binder follows.
+fn no_binder_param(alloc: Global, input: &ParseStream<'_>) -> Error
+    ensures made { Made result (unmet (record { input = forked input.now; missing = an_ident ∷ a_lifetime ∷ a_const ∷ [] })) }
+{
+    let mut look = input.lookahead1();
+    look.note::<Ident>();
+    look.note::<Lifetime>();
+    look.note::<Const>();
+    look.error(alloc)
+}
+
+/// The refusal where no parameter of generics follows.
+fn no_generics_param(alloc: Global, input: &ParseStream<'_>) -> Error
+    ensures made { Made result (unmet (record { input = forked input.now; missing = a_lifetime ∷ an_ident ∷ a_const ∷ [] })) }
+{
+    let mut look = input.lookahead1();
+    look.note::<Lifetime>();
+    look.note::<Ident>();
+    look.note::<Const>();
+    look.error(alloc)
+}
+
+// ---- over the readers of what they hold
+
+impl<'a, A: Attributes, E: Value, F, G, H, I, J> Grammar<'a, A, E, F, G, H, I, J> {
+    /// A capture as a bound; where none may stand it is refused once it is read, from `use` to `>`.
+    #[tactic(auto, using(token_core::proofs::Suffixes::follows), unfolding(crate::specs::generics::Reading::capture_in_place))]
+    fn capture_in_place(
+        &self,
+        input: &mut ParseStream<'_>,
+        place: BoundPlace,
+    ) -> Result<TypeParamBoundOf<A, E>, Error>
+        ensures parses { Parses (reading.capture_in_place (knot.reads_below A.reads E.reads (length self.now.begin)) place) result input.old input.new }
+    {
+        let from = input.span();
+        let capture = parse_capture(self.alloc, input)?;
+        if place.allows_capture() {
+            return Ok(TypeParamBoundOf::PreciseCapture(capture));
+        }
+        Err(refuse_since(self.alloc, ErrorKind::CaptureNotAllowed, from, input))
+    }
+}
+
+impl<
+    'a,
+    A: Attributes,
+    E: Value,
+    F,
+    G,
+    H: Fn(
+        Global,
+        PhantomData<GenericParamOf<A, E>>,
+        &mut ParseStream<'_>,
+        ParamPlace,
+    ) -> Result<GenericParamOf<A, E>, Error>
+        + Copy,
+    I,
+    J,
+> Grammar<'a, A, E, F, G, H, I, J> {
+    /// A binder: `for<'a, 'b>`.
+    #[tactic(auto, using(token_core::proofs::Suffixes::follows, syn_forms::proofs::nested_laws::Ahead::later), unfolding(crate::specs::generics::Reading::binder))]
+    pub fn binder(
+        &self,
+        input: &mut ParseStream<'_>,
+    ) -> Result<BoundLifetimesOf<GenericParamOf<A, E>>, Error>
+        requires params { Nests (knot.param A.reads E.reads) (length self.now.begin) (H.pre self.now.params) (H.post self.now.params) }
+        requires few { ahead input.old ≤ length self.now.begin }
+        ensures parses { Parses (reading.binder (knot.reads_below A.reads E.reads (length self.now.begin))) result input.old input.new }
+        ensures fewer { ahead input.new ≤ ahead input.old }
+    {
+        let (for_token, (lt_token, lifetimes, gt_token)) = self
+            .params()
+            .binder(input, ParamPlace::Binder)?;
+        Ok(BoundLifetimesOf {
+            for_token,
+            lt_token,
+            lifetimes,
+            gt_token,
+        })
+    }
+
+    /// A binder that may be there.
+    #[tactic(auto, using(token_core::proofs::Suffixes::follows, syn_forms::proofs::nested_laws::Ahead::later), unfolding(crate::specs::generics::Reading::optional_binder))]
+    pub fn optional_binder(
+        &self,
+        input: &mut ParseStream<'_>,
+    ) -> Result<Option<BoundLifetimesOf<GenericParamOf<A, E>>>, Error>
+        requires params { Nests (knot.param A.reads E.reads) (length self.now.begin) (H.pre self.now.params) (H.post self.now.params) }
+        requires few { ahead input.old ≤ length self.now.begin }
+        ensures parses { Parses (reading.optional_binder (knot.reads_below A.reads E.reads (length self.now.begin))) result input.old input.new }
+        ensures fewer { ahead input.new ≤ ahead input.old }
+    {
+        if input.peek::<For>() {
+            return Ok(Some(self.binder(input)?));
+        }
+        Ok(None)
+    }
+
+    /// After a `?` the binder may stand behind it.
+    #[tactic(auto, using(token_core::proofs::Suffixes::follows, syn_forms::proofs::nested_laws::Ahead::later))]
+    fn binder_after(
+        &self,
+        input: &mut ParseStream<'_>,
+        lifetimes: Option<BoundLifetimesOf<GenericParamOf<A, E>>>,
+        maybe: &Option<Question>,
+    ) -> Result<Option<BoundLifetimesOf<GenericParamOf<A, E>>>, Error>
+        requires params { Nests (knot.param A.reads E.reads) (length self.now.begin) (H.pre self.now.params) (H.post self.now.params) }
+        requires few { ahead input.old ≤ length self.now.begin }
+        ensures parses { Parses (reading.binder_after (knot.reads_below A.reads E.reads (length self.now.begin)) lifetimes maybe.now) result input.old input.new }
+        ensures fewer { ahead input.new ≤ ahead input.old }
+    {
+        match lifetimes {
+            Some(lifetimes) => Ok(Some(lifetimes)),
+            None => match maybe {
+                Some(_) => self.optional_binder(input),
+                None => Ok(None),
+            },
+        }
+    }
+}
+
+impl<
+    'a,
+    A: Attributes,
+    E: Value,
+    F: Fn(
+        Global,
+        PhantomData<TypeOf<A, E>>,
+        &mut ParseStream<'_>,
+        TypePlace,
+    ) -> Result<TypeOf<A, E>, Error>
+        + Copy,
+    G,
+    H: Fn(
+        Global,
+        PhantomData<GenericParamOf<A, E>>,
+        &mut ParseStream<'_>,
+        ParamPlace,
+    ) -> Result<GenericParamOf<A, E>, Error>
+        + Copy,
+    I,
+    J: Fn(
+        Global,
+        PhantomData<PathArgumentsOf<A, E>>,
+        &mut ParseStream<'_>,
+        (),
+    ) -> Result<PathArgumentsOf<A, E>, Error>
+        + Copy,
+> Grammar<'a, A, E, F, G, H, I, J> {
+    /// A trait bound after its first binder and a `const` form: `?`, a binder behind it, a path in the style of types and its
+    /// signature. A binder and a `?` refuse each other, at the `?`, once the path is read.
+    #[tactic(auto, using(token_core::proofs::Suffixes::follows, syn_forms::proofs::nested_laws::Ahead::later, crate::proofs::generics_laws::Traits::traits), unfolding(crate::specs::generics::Reading::trait_after))]
+    fn trait_after(
+        &self,
+        input: &mut ParseStream<'_>,
+        lifetimes: Option<BoundLifetimesOf<GenericParamOf<A, E>>>,
+    ) -> Result<TraitBoundOf<A, E>, Error>
+        requires types { Nests (knot.ty A.reads E.reads) (length self.now.begin) (F.pre self.now.types) (F.post self.now.types) }
+        requires params { Nests (knot.param A.reads E.reads) (length self.now.begin) (H.pre self.now.params) (H.post self.now.params) }
+        requires segments { Nests (knot.arguments_in A.reads E.reads) (length self.now.begin) (J.pre self.now.segments) (J.post self.now.segments) }
+        requires few { ahead input.old ≤ length self.now.begin }
+        ensures parses { Parses (reading.trait_after (knot.reads_below A.reads E.reads (length self.now.begin)) lifetimes) result input.old input.new }
+    {
+        let maybe = parse_question(self.alloc, input)?;
+        let lifetimes = self.binder_after(input, lifetimes, &maybe)?;
+        let path = self.path(input, PathStyle::AsWritten)?;
+        let path = self.signed(input, path)?;
+        match maybe {
+            None => Ok(named_bound(lifetimes, None, path)),
+            Some(question) => {
+                if lifetimes.is_some() {
+                    let at = question.spans[0];
+                    return Err(refuse_at(self.alloc, ErrorKind::BinderWithQuestion, at));
+                }
+                Ok(named_bound(None, Some(question), path))
+            }
+        }
+    }
+
+    /// A trait bound without parentheses: `for<'a> a::b<'a>`, `?a::b`. `const` and `[const]` are refused.
+    #[tactic(auto, using(token_core::proofs::Suffixes::follows, syn_forms::proofs::nested_laws::Ahead::later), unfolding(crate::specs::generics::Reading::trait_bound))]
+    pub fn trait_bound(&self, input: &mut ParseStream<'_>) -> Result<TraitBoundOf<A, E>, Error>
+        requires types { Nests (knot.ty A.reads E.reads) (length self.now.begin) (F.pre self.now.types) (F.post self.now.types) }
+        requires params { Nests (knot.param A.reads E.reads) (length self.now.begin) (H.pre self.now.params) (H.post self.now.params) }
+        requires segments { Nests (knot.arguments_in A.reads E.reads) (length self.now.begin) (J.pre self.now.segments) (J.post self.now.segments) }
+        requires few { ahead input.old ≤ length self.now.begin }
+        ensures parses { Parses (reading.trait_bound (knot.reads_below A.reads E.reads (length self.now.begin))) result input.old input.new }
+    {
+        let lifetimes = self.optional_binder(input)?;
+        no_const_form(self.alloc, input)?;
+        self.trait_after(input, lifetimes)
+    }
+
+    /// A trait bound where `const` and `[const]` may stand. With one there is no tree for it.
+    #[tactic(auto, using(token_core::proofs::Suffixes::follows, syn_forms::proofs::nested_laws::Ahead::later), unfolding(crate::specs::generics::Reading::trait_or_const))]
+    fn trait_or_const(
+        &self,
+        input: &mut ParseStream<'_>,
+    ) -> Result<Option<TraitBoundOf<A, E>>, Error>
+        requires types { Nests (knot.ty A.reads E.reads) (length self.now.begin) (F.pre self.now.types) (F.post self.now.types) }
+        requires params { Nests (knot.param A.reads E.reads) (length self.now.begin) (H.pre self.now.params) (H.post self.now.params) }
+        requires segments { Nests (knot.arguments_in A.reads E.reads) (length self.now.begin) (J.pre self.now.segments) (J.post self.now.segments) }
+        requires few { ahead input.old ≤ length self.now.begin }
+        ensures parses { Parses (reading.trait_or_const (knot.reads_below A.reads E.reads (length self.now.begin))) result input.old input.new }
+    {
+        let lifetimes = self.optional_binder(input)?;
+        let is_const = const_form(self.alloc, input)?;
+        let bound = self.trait_after(input, lifetimes)?;
+        if is_const {
+            return Ok(None);
+        }
+        Ok(Some(bound))
+    }
+
+    /// A trait bound without parentheses, where `const` forms may stand or not.
+    #[tactic(auto, using(token_core::proofs::Suffixes::follows))]
+    fn trait_in(
+        &self,
+        input: &mut ParseStream<'_>,
+        consts: bool,
+    ) -> Result<Option<TraitBoundOf<A, E>>, Error>
+        requires types { Nests (knot.ty A.reads E.reads) (length self.now.begin) (F.pre self.now.types) (F.post self.now.types) }
+        requires params { Nests (knot.param A.reads E.reads) (length self.now.begin) (H.pre self.now.params) (H.post self.now.params) }
+        requires segments { Nests (knot.arguments_in A.reads E.reads) (length self.now.begin) (J.pre self.now.segments) (J.post self.now.segments) }
+        requires few { ahead input.old ≤ length self.now.begin }
+        ensures parses { Parses (reading.trait_in (knot.reads_below A.reads E.reads (length self.now.begin)) consts) result input.old input.new }
+    {
+        if consts {
+            return self.trait_or_const(input);
+        }
+        Ok(Some(self.trait_bound(input)?))
+    }
+
+    /// The same in parentheses.
+    #[tactic(auto, using(token_core::proofs::Suffixes::follows))]
+    fn trait_in_parens(
+        &self,
+        input: &mut ParseStream<'_>,
+        consts: bool,
+    ) -> Result<(Paren, Option<TraitBoundOf<A, E>>), Error>
+        requires types { Nests (knot.ty A.reads E.reads) (length self.now.begin) (F.pre self.now.types) (F.post self.now.types) }
+        requires params { Nests (knot.param A.reads E.reads) (length self.now.begin) (H.pre self.now.params) (H.post self.now.params) }
+        requires segments { Nests (knot.arguments_in A.reads E.reads) (length self.now.begin) (J.pre self.now.segments) (J.post self.now.segments) }
+        requires few { ahead input.old ≤ length self.now.begin }
+        ensures parses { Parses (groups.in_parens (reading.trait_in (knot.reads_below A.reads E.reads (length self.now.begin)) consts)) result input.old input.new }
+    {
+        let (paren_token, mut content) = open_parens(self.alloc, input)?;
+        let bound = self.trait_in(&mut content, consts)?;
+        input.finish(content);
+        Ok((paren_token, bound))
+    }
+
+    /// A bound that is neither a lifetime nor a capture: a trait, which may stand in parentheses, or its tokens where a `const`
+    /// form stands before it.
+    #[tactic(auto, using(token_core::proofs::Suffixes::follows, token_core::proofs::Places::positions, crate::proofs::generics_laws::Traits::traits), unfolding(crate::specs::generics::Reading::trait_in_place))]
+    fn trait_in_place(
+        &self,
+        input: &mut ParseStream<'_>,
+        place: BoundPlace,
+    ) -> Result<TypeParamBoundOf<A, E>, Error>
+        requires types { Nests (knot.ty A.reads E.reads) (length self.now.begin) (F.pre self.now.types) (F.post self.now.types) }
+        requires params { Nests (knot.param A.reads E.reads) (length self.now.begin) (H.pre self.now.params) (H.post self.now.params) }
+        requires segments { Nests (knot.arguments_in A.reads E.reads) (length self.now.begin) (J.pre self.now.segments) (J.post self.now.segments) }
+        requires few { ahead input.old ≤ length self.now.begin }
+        ensures parses { Parses (reading.trait_in_place (knot.reads_below A.reads E.reads (length self.now.begin)) place) result input.old input.new }
+    {
+        let from = input.cursor();
+        let consts = place.allows_const();
+        if input.peek::<Paren>() {
+            let (paren_token, bound) = self.trait_in_parens(input, consts)?;
+            return kept_in_parens(self.alloc, &from, input, paren_token, bound);
+        }
+        let bound = self.trait_in(input, consts)?;
+        kept(self.alloc, &from, input, bound)
+    }
+
+    /// One turn: a bound in its place. A lifetime, `use<..>`, or a trait by its path.
+    #[tactic(auto, using(token_core::proofs::Suffixes::follows), unfolding(crate::specs::generics::Reading::bound_step))]
+    pub fn bound_step(
+        &self,
+        input: &mut ParseStream<'_>,
+        place: BoundPlace,
+    ) -> Result<TypeParamBoundOf<A, E>, Error>
+        requires types { Nests (knot.ty A.reads E.reads) (length self.now.begin) (F.pre self.now.types) (F.post self.now.types) }
+        requires params { Nests (knot.param A.reads E.reads) (length self.now.begin) (H.pre self.now.params) (H.post self.now.params) }
+        requires segments { Nests (knot.arguments_in A.reads E.reads) (length self.now.begin) (J.pre self.now.segments) (J.post self.now.segments) }
+        requires few { ahead input.old ≤ length self.now.begin }
+        ensures parses { Parses (reading.bound_step (knot.reads_below A.reads E.reads (length self.now.begin)) place) result input.old input.new }
+    {
+        if input.peek::<Lifetime>() {
+            let lifetime = parse_any_lifetime(self.alloc, input)?;
+            return Ok(TypeParamBoundOf::Lifetime(lifetime));
+        }
+        if input.peek::<Use>() {
+            return self.capture_in_place(input, place);
+        }
+        self.trait_in_place(input, place)
+    }
+}
+
+impl<
+    'a,
+    A: Attributes,
+    E: Value,
+    F: Fn(
+        Global,
+        PhantomData<TypeOf<A, E>>,
+        &mut ParseStream<'_>,
+        TypePlace,
+    ) -> Result<TypeOf<A, E>, Error>
+        + Copy,
+    G,
+    H,
+    I,
+    J,
+> Grammar<'a, A, E, F, G, H, I, J> {
+    /// A const parameter after its attributes.
+    #[tactic(auto, using(token_core::proofs::Suffixes::follows))]
+    fn const_after(
+        &self,
+        input: &mut ParseStream<'_>,
+        attrs: Items<A>,
+    ) -> Result<ConstParamOf<TypeOf<A, E>, A, E>, Error>
+        requires types { Nests (knot.ty A.reads E.reads) (length self.now.begin) (F.pre self.now.types) (F.post self.now.types) }
+        requires few { ahead input.old ≤ length self.now.begin }
+        ensures parses { Parses (reading.const_after A.reads E.reads (knot.reads_below A.reads E.reads (length self.now.begin)) attrs) result input.old input.new }
+    {
+        let (const_token, ident, colon_token, ty, default) = const_parts(
+            &self.types(),
+            input,
+            TypePlace::Plus,
+        )?;
+        Ok(ConstParamOf {
+            attrs,
+            const_token,
+            ident,
+            colon_token,
+            ty,
+            default,
+        })
+    }
+
+    /// `const N: T = 1`, after attributes.
+    #[tactic(auto, using(token_core::proofs::Suffixes::follows, syn_forms::proofs::nested_laws::Ahead::later), unfolding(crate::specs::generics::Reading::const_param))]
+    pub fn const_param(
+        &self,
+        input: &mut ParseStream<'_>,
+    ) -> Result<ConstParamOf<TypeOf<A, E>, A, E>, Error>
+        requires types { Nests (knot.ty A.reads E.reads) (length self.now.begin) (F.pre self.now.types) (F.post self.now.types) }
+        requires few { ahead input.old ≤ length self.now.begin }
+        ensures parses { Parses (reading.const_param A.reads E.reads (knot.reads_below A.reads E.reads (length self.now.begin))) result input.old input.new }
+    {
+        let attrs = A::read_outer(self.alloc, input)?;
+        self.const_after(input, attrs)
+    }
+}
+
+impl<
+    'a,
+    A: Attributes,
+    E: Value,
+    F: Fn(
+        Global,
+        PhantomData<TypeOf<A, E>>,
+        &mut ParseStream<'_>,
+        TypePlace,
+    ) -> Result<TypeOf<A, E>, Error>
+        + Copy,
+    G: Fn(
+        Global,
+        PhantomData<TypeParamBoundOf<A, E>>,
+        &mut ParseStream<'_>,
+        BoundPlace,
+    ) -> Result<TypeParamBoundOf<A, E>, Error>
+        + Copy,
+    H,
+    I,
+    J,
+> Grammar<'a, A, E, F, G, H, I, J> {
+    /// A type parameter after its attributes.
+    #[tactic(auto, using(token_core::proofs::Suffixes::follows))]
+    fn type_after(
+        &self,
+        input: &mut ParseStream<'_>,
+        attrs: Items<A>,
+    ) -> Result<TypeParamOf<A, E>, Error>
+        requires types { Nests (knot.ty A.reads E.reads) (length self.now.begin) (F.pre self.now.types) (F.post self.now.types) }
+        requires bounds { Nests (knot.bound A.reads E.reads) (length self.now.begin) (G.pre self.now.bounds) (G.post self.now.bounds) }
+        requires few { ahead input.old ≤ length self.now.begin }
+        ensures parses { Parses (reading.type_after A.reads E.reads (knot.reads_below A.reads E.reads (length self.now.begin)) attrs) result input.old input.new }
+    {
+        let (bounds, types) = (self.bounds(), self.types());
+        let (ident, colon_token, bounds, default) = type_parts(
+            &bounds,
+            &types,
+            input,
+            BoundPlace::Parameter,
+            TypePlace::Plus,
+        )?;
+        Ok(TypeParamOf {
+            attrs,
+            ident,
+            colon_token,
+            bounds,
+            default,
+        })
+    }
+
+    /// A parameter of a binder after its attributes: an identifier, a lifetime or `const`.
+    #[tactic(auto, using(token_core::proofs::Suffixes::follows), unfolding(crate::specs::generics::Reading::in_binder))]
+    fn in_binder(
+        &self,
+        input: &mut ParseStream<'_>,
+        attrs: Items<A>,
+    ) -> Result<GenericParamOf<A, E>, Error>
+        requires types { Nests (knot.ty A.reads E.reads) (length self.now.begin) (F.pre self.now.types) (F.post self.now.types) }
+        requires bounds { Nests (knot.bound A.reads E.reads) (length self.now.begin) (G.pre self.now.bounds) (G.post self.now.bounds) }
+        requires few { ahead input.old ≤ length self.now.begin }
+        ensures parses { Parses (reading.in_binder A.reads E.reads (knot.reads_below A.reads E.reads (length self.now.begin)) attrs) result input.old input.new }
+    {
+        if input.peek::<Ident>() {
+            return Ok(GenericParamOf::Type(self.type_after(input, attrs)?));
+        }
+        if input.peek::<Lifetime>() {
+            return Ok(GenericParamOf::Lifetime(lifetime_after(self.alloc, input, attrs)?));
+        }
+        if input.peek::<Const>() {
+            return Ok(GenericParamOf::Const(self.const_after(input, attrs)?));
+        }
+        Err(no_binder_param(self.alloc, input))
+    }
+
+    /// A parameter of generics after its attributes: a lifetime, an identifier, `const` or a bare `_`.
+    #[tactic(auto, using(token_core::proofs::Suffixes::follows), unfolding(crate::specs::generics::Reading::in_generics))]
+    fn in_generics(
+        &self,
+        input: &mut ParseStream<'_>,
+        attrs: Items<A>,
+    ) -> Result<GenericParamOf<A, E>, Error>
+        requires types { Nests (knot.ty A.reads E.reads) (length self.now.begin) (F.pre self.now.types) (F.post self.now.types) }
+        requires bounds { Nests (knot.bound A.reads E.reads) (length self.now.begin) (G.pre self.now.bounds) (G.post self.now.bounds) }
+        requires few { ahead input.old ≤ length self.now.begin }
+        ensures parses { Parses (reading.in_generics A.reads E.reads (knot.reads_below A.reads E.reads (length self.now.begin)) attrs) result input.old input.new }
+    {
+        if input.peek::<Lifetime>() {
+            return Ok(GenericParamOf::Lifetime(lifetime_after(self.alloc, input, attrs)?));
+        }
+        if input.peek::<Ident>() {
+            return Ok(GenericParamOf::Type(self.type_after(input, attrs)?));
+        }
+        if input.peek::<Const>() {
+            return Ok(GenericParamOf::Const(self.const_after(input, attrs)?));
+        }
+        if input.peek::<Underscore>() {
+            return underscore_after(self.alloc, input, attrs);
+        }
+        Err(no_generics_param(self.alloc, input))
+    }
+
+    /// One turn: a parameter in its place, after its attributes.
+    #[tactic(auto, using(token_core::proofs::Suffixes::follows, syn_forms::proofs::nested_laws::Ahead::later), unfolding(crate::specs::generics::Reading::param_step))]
+    pub fn param_step(
+        &self,
+        input: &mut ParseStream<'_>,
+        place: ParamPlace,
+    ) -> Result<GenericParamOf<A, E>, Error>
+        requires types { Nests (knot.ty A.reads E.reads) (length self.now.begin) (F.pre self.now.types) (F.post self.now.types) }
+        requires bounds { Nests (knot.bound A.reads E.reads) (length self.now.begin) (G.pre self.now.bounds) (G.post self.now.bounds) }
+        requires few { ahead input.old ≤ length self.now.begin }
+        ensures parses { Parses (reading.param_step A.reads E.reads (knot.reads_below A.reads E.reads (length self.now.begin)) place) result input.old input.new }
+    {
+        let attrs = A::read_outer(self.alloc, input)?;
+        match place {
+            ParamPlace::Binder => self.in_binder(input, attrs),
+            ParamPlace::Generics => self.in_generics(input, attrs),
+        }
+    }
+}
+
+// ---- from a position on: parameters are read by their own reader, since a function value of it is too much for the prover
+
+/// A binder.
+#[tactic(auto, using(token_core::proofs::Suffixes::follows), unfolding(crate::specs::generics::Reading::binder))]
+fn binder_from<A: Attributes, E: Value>(
+    alloc: Global,
+    begin: &Cursor<'_>,
+    input: &mut ParseStream<'_>,
+) -> Result<BoundLifetimesOf<GenericParamOf<A, E>>, Error>
+    requires few { ahead input.old ≤ length begin.now }
+    ensures parses { Parses (reading.binder (knot.reads_below A.reads E.reads (length begin.now))) result input.old input.new }
+{
+    let (for_token, (lt_token, lifetimes, gt_token)) = forms::parse_binder::<
+        ParamPlace,
+        GenericParamOf<A, E>,
+    >(alloc, begin, input, ParamPlace::Binder)?;
+    Ok(BoundLifetimesOf {
+        for_token,
+        lt_token,
+        lifetimes,
+        gt_token,
+    })
+}
+
+/// A binder where `for` stands.
+#[tactic(auto, using(token_core::proofs::Suffixes::follows, syn_forms::proofs::nested_laws::Ahead::later), unfolding(crate::specs::generics::Reading::optional_binder))]
+pub(crate) fn optional_binder_from<A: Attributes, E: Value>(
+    alloc: Global,
+    begin: &Cursor<'_>,
+    input: &mut ParseStream<'_>,
+) -> Result<Option<BoundLifetimesOf<GenericParamOf<A, E>>>, Error>
+    requires few { ahead input.old ≤ length begin.now }
+    ensures parses { Parses (reading.optional_binder (knot.reads_below A.reads E.reads (length begin.now))) result input.old input.new }
+    ensures fewer { ahead input.new ≤ ahead input.old }
+{
+    if input.peek::<For>() {
+        return Ok(Some(binder_from::<A, E>(alloc, begin, input)?));
+    }
+    Ok(None)
+}
+
+/// A binder that may stand behind a `?`.
+#[tactic(auto, using(token_core::proofs::Suffixes::follows, syn_forms::proofs::nested_laws::Ahead::later))]
+fn binder_after_from<A: Attributes, E: Value>(
+    alloc: Global,
+    begin: &Cursor<'_>,
+    input: &mut ParseStream<'_>,
+    lifetimes: Option<BoundLifetimesOf<GenericParamOf<A, E>>>,
+    maybe: &Option<Question>,
+) -> Result<Option<BoundLifetimesOf<GenericParamOf<A, E>>>, Error>
+    requires few { ahead input.old ≤ length begin.now }
+    ensures parses { Parses (reading.binder_after (knot.reads_below A.reads E.reads (length begin.now)) lifetimes maybe.now) result input.old input.new }
+    ensures fewer { ahead input.new ≤ ahead input.old }
+{
+    match lifetimes {
+        Some(lifetimes) => Ok(Some(lifetimes)),
+        None => match maybe {
+            Some(_) => optional_binder_from::<A, E>(alloc, begin, input),
+            None => Ok(None),
+        },
+    }
+}
+
+/// What follows the first binder of a trait bound and a `const` form.
+#[tactic(auto, using(token_core::proofs::Suffixes::follows, syn_forms::proofs::nested_laws::Ahead::later, crate::proofs::generics_laws::Traits::traits), unfolding(crate::specs::generics::Reading::trait_after))]
+fn trait_after_from<A: Attributes, E: Value>(
+    alloc: Global,
+    begin: &Cursor<'_>,
+    input: &mut ParseStream<'_>,
+    lifetimes: Option<BoundLifetimesOf<GenericParamOf<A, E>>>,
+) -> Result<TraitBoundOf<A, E>, Error>
+    requires few { ahead input.old ≤ length begin.now }
+    ensures parses { Parses (reading.trait_after (knot.reads_below A.reads E.reads (length begin.now)) lifetimes) result input.old input.new }
+{
+    let maybe = parse_question(alloc, input)?;
+    let lifetimes = binder_after_from::<A, E>(alloc, begin, input, lifetimes, &maybe)?;
+    let path = path_from::<A, E>(alloc, begin, input, PathStyle::AsWritten)?;
+    let path = signed_from::<A, E>(alloc, begin, input, path)?;
+    match maybe {
+        None => Ok(named_bound(lifetimes, None, path)),
+        Some(question) => {
+            if lifetimes.is_some() {
+                let at = question.spans[0];
+                return Err(refuse_at(alloc, ErrorKind::BinderWithQuestion, at));
+            }
+            Ok(named_bound(None, Some(question), path))
+        }
+    }
+}
+
+/// A trait bound.
+#[tactic(auto, using(token_core::proofs::Suffixes::follows, syn_forms::proofs::nested_laws::Ahead::later), unfolding(crate::specs::generics::Reading::trait_bound))]
+fn trait_bound_from<A: Attributes, E: Value>(
+    alloc: Global,
+    begin: &Cursor<'_>,
+    input: &mut ParseStream<'_>,
+) -> Result<TraitBoundOf<A, E>, Error>
+    requires few { ahead input.old ≤ length begin.now }
+    ensures parses { Parses (reading.trait_bound (knot.reads_below A.reads E.reads (length begin.now))) result input.old input.new }
+{
+    let lifetimes = optional_binder_from::<A, E>(alloc, begin, input)?;
+    no_const_form(alloc, input)?;
+    trait_after_from(alloc, begin, input, lifetimes)
+}
+
+/// A type parameter after its attributes.
+#[tactic(auto, using(token_core::proofs::Suffixes::follows))]
+fn type_after_from<A: Attributes, E: Value>(
+    alloc: Global,
+    begin: &Cursor<'_>,
+    input: &mut ParseStream<'_>,
+    attrs: Items<A>,
+) -> Result<TypeParamOf<A, E>, Error>
+    requires few { ahead input.old ≤ length begin.now }
+    ensures parses { Parses (reading.type_after A.reads E.reads (knot.reads_below A.reads E.reads (length begin.now)) attrs) result input.old input.new }
+{
+    let (ident, colon_token, bounds, default) = forms::parse_type_parts::<
+        BoundPlace,
+        TypeParamBoundOf<A, E>,
+        TypePlace,
+        TypeOf<A, E>,
+    >(alloc, begin, input, BoundPlace::Parameter, TypePlace::Plus)?;
+    Ok(TypeParamOf {
+        attrs,
+        ident,
+        colon_token,
+        bounds,
+        default,
+    })
+}
+
+/// A type parameter.
+#[tactic(auto, using(token_core::proofs::Suffixes::follows, syn_forms::proofs::nested_laws::Ahead::later), unfolding(crate::specs::generics::Reading::type_param))]
+fn type_param_from<A: Attributes, E: Value>(
+    alloc: Global,
+    begin: &Cursor<'_>,
+    input: &mut ParseStream<'_>,
+) -> Result<TypeParamOf<A, E>, Error>
+    requires few { ahead input.old ≤ length begin.now }
+    ensures parses { Parses (reading.type_param A.reads E.reads (knot.reads_below A.reads E.reads (length begin.now))) result input.old input.new }
+{
+    let attrs = A::read_outer(alloc, input)?;
+    type_after_from(alloc, begin, input, attrs)
+}
+
+// ---- forms by themselves: what they hold is read by the knot
+
+/// A binder by itself.
+#[tactic(auto, unfolding(crate::specs::ty::Knot::binder))]
+fn parse_binder<A: Attributes, E: Value>(
+    alloc: Global,
+    input: &mut ParseStream<'_>,
+) -> Result<BoundLifetimesOf<GenericParamOf<A, E>>, Error>
+    ensures parses { Parses (knot.binder A.reads E.reads) result input.old input.new }
+{
+    let begin = input.cursor();
+    binder_from::<A, E>(alloc, &begin, input)
+}
+
+/// A binder by itself, where `for` stands.
+#[tactic(auto, unfolding(crate::specs::ty::Knot::optional_binder))]
+fn parse_optional_binder<A: Attributes, E: Value>(
+    alloc: Global,
+    input: &mut ParseStream<'_>,
+) -> Result<Option<BoundLifetimesOf<GenericParamOf<A, E>>>, Error>
+    ensures parses { Parses (knot.optional_binder A.reads E.reads) result input.old input.new }
+{
+    let begin = input.cursor();
+    optional_binder_from::<A, E>(alloc, &begin, input)
+}
+
+/// A trait bound by itself.
+#[tactic(auto, unfolding(crate::specs::ty::Knot::trait_bound))]
+fn parse_trait_bound<A: Attributes, E: Value>(
+    alloc: Global,
+    input: &mut ParseStream<'_>,
+) -> Result<TraitBoundOf<A, E>, Error>
+    ensures parses { Parses (knot.trait_bound A.reads E.reads) result input.old input.new }
+{
+    let begin = input.cursor();
+    trait_bound_from::<A, E>(alloc, &begin, input)
+}
+
+/// A type parameter by itself.
+#[tactic(auto, unfolding(crate::specs::ty::Knot::type_param))]
+fn parse_type_param<A: Attributes, E: Value>(
+    alloc: Global,
+    input: &mut ParseStream<'_>,
+) -> Result<TypeParamOf<A, E>, Error>
+    ensures parses { Parses (knot.type_param A.reads E.reads) result input.old input.new }
+{
+    let begin = input.cursor();
+    type_param_from::<A, E>(alloc, &begin, input)
+}
+
+/// A const parameter by itself.
+#[tactic(auto, unfolding(crate::specs::ty::Knot::const_param))]
+fn parse_const_param<A: Attributes, E: Value>(
+    alloc: Global,
+    input: &mut ParseStream<'_>,
+) -> Result<ConstParamOf<TypeOf<A, E>, A, E>, Error>
+    ensures parses { Parses (knot.const_param A.reads E.reads) result input.old input.new }
+{
+    Grammar {
+        alloc,
+        of: PhantomData,
+        begin: input.cursor(),
+        types: read_type::<A, E>,
+        bounds: (),
+        params: (),
+        args: (),
+        segments: (),
+    }
+    .const_param(input)
+}
+
+/// Reads a captured parameter: a lifetime, an identifier that is no keyword, or `Self`.
 ///
 /// ```text
-/// bound = lifetime | '(' trait ')' | trait
-/// trait = [binder] path | '?' path
-/// binder = 'for' '<' [lifetime {',' lifetime} [',']] '>'
+/// captured = lifetime | ident | 'Self'
 /// ```
 ///
-/// It is refused where neither begins, where one of its parts is refused, where a binder stands beside a `?`
-/// (`BinderWithQuestion`, at the `?`), and where `<` follows the path, since arguments of paths are not read yet. Nor are
-/// `use<..>`, `const` and `[const]`, and parameters of binders other than lifetimes alone. As `syn::TypeParamBound`.
-impl<A: Attributes, E: Value> Parse for TypeParamBoundOf<A, E> {
-    ghost reads = { Gives (knot.bound E.reads.len) };
+/// Where none of them follows, the refusal names a lifetime and an identifier. As `syn::CapturedParam`.
+impl Parse for CapturedParam {
+    ghost reads = { Gives reading.captured };
 
-    ghost refuses = { Fails (knot.bound {A = A} E.reads.len) };
+    ghost refuses = { Fails reading.captured };
 
-    ghost promise = { Headline (grammars.bound E.reads.len E.spells.len A.normal E.normal A.shown E.values) };
-
-    fn parse(alloc: Global, input: &mut ParseStream<'_>) -> Result<TypeParamBoundOf<A, E>, Error>
-        ensures reads { Reads (knot.bound E.reads.len input.old) result input.new }
+    #[tactic(auto, using(token_core::specs::Reads::no_promise))]
+    fn parse(alloc: Global, input: &mut ParseStream<'_>) -> Result<CapturedParam, Error>
+        ensures reads { Reads (reading.captured input.old) result input.new }
         ensures within { Follows input.old input.new }
-        ensures front { Visible input.old.rest → input.new.left ≡ None → IfOk result (λ x. IsSomeBound E.spells.len false x input.old.rest input.new.rest) }
-        ensures promise { Heads (grammars.bound E.reads.len E.spells.len A.normal E.normal A.shown E.values) input.old result input.new }
     {
-        parse_bound(alloc, PhantomData, input, ())
+        parse_captured(alloc, input)
+    }
+}
+
+/// Reads what an opaque type captures: `use<'a, T>`.
+///
+/// ```text
+/// capture = 'use' '<' [captured {',' captured} [',']] '>'
+/// ```
+///
+/// It is refused where one of the marks is missing, and where a parameter is: within the list the refusals name the `>`
+/// too. As `syn::PreciseCapture`.
+impl Parse for PreciseCapture {
+    ghost reads = { Gives reading.capture };
+
+    ghost refuses = { Fails reading.capture };
+
+    #[tactic(auto, using(token_core::specs::Reads::no_promise))]
+    fn parse(alloc: Global, input: &mut ParseStream<'_>) -> Result<PreciseCapture, Error>
+        ensures reads { Reads (reading.capture input.old) result input.new }
+        ensures within { Follows input.old input.new }
+    {
+        parse_capture(alloc, input)
+    }
+}
+
+/// Reads a binder: `for<'a, 'b>`.
+///
+/// ```text
+/// binder = 'for' '<' [param {',' param} [',']] '>'
+/// ```
+///
+/// It is refused where one of the marks is missing, and where one of the parameters is refused. As `syn::BoundLifetimes`.
+impl<A: Attributes, E: Value> Parse for BoundLifetimesOf<GenericParamOf<A, E>> {
+    ghost reads = { Gives (knot.binder A.reads E.reads) };
+
+    ghost refuses = { Fails (knot.binder A.reads E.reads) };
+
+    #[tactic(auto, using(token_core::specs::Reads::no_promise))]
+    fn parse(
+        alloc: Global,
+        input: &mut ParseStream<'_>,
+    ) -> Result<BoundLifetimesOf<GenericParamOf<A, E>>, Error>
+        ensures reads { Reads (knot.binder A.reads E.reads input.old) result input.new }
+        ensures within { Follows input.old input.new }
+    {
+        parse_binder(alloc, input)
+    }
+}
+
+impl<A: Attributes, E: Value> BoundLifetimesOf<GenericParamOf<A, E>> {
+    /// Reads a binder where `for` stands, and nothing elsewhere. It is refused where the binder is (syn's `Parse` for
+    /// `Option<BoundLifetimes>`).
+    pub fn parse_optional(
+        alloc: Global,
+        input: &mut ParseStream<'_>,
+    ) -> Result<Option<BoundLifetimesOf<GenericParamOf<A, E>>>, Error>
+        ensures parses { Parses (knot.optional_binder A.reads E.reads) result input.old input.new }
+    {
+        parse_optional_binder(alloc, input)
+    }
+}
+
+/// Reads a bound, in the place of those of `impl`: a lifetime, a capture, or a trait by its path, which may stand in
+/// parentheses.
+///
+/// ```text
+/// bound = lifetime | capture | '(' trait ')' | trait
+/// trait = [binder] ['const' | '[' 'const' ']'] ['?' [binder]] path [signature]
+/// ```
+///
+/// With a `const` form the bound is held as it was written (`TypeParamBound::Verbatim`). It is refused where one of its parts
+/// is, and where a binder stands beside a `?` (`BinderWithQuestion`, at the `?`). As `syn::TypeParamBound`.
+impl<A: Attributes, E: Value> Parse for TypeParamBoundOf<A, E> {
+    ghost reads = { Gives (knot.bound A.reads E.reads bound_places.Opaque) };
+
+    ghost refuses = { Fails (knot.bound A.reads E.reads bound_places.Opaque) };
+
+    #[tactic(auto, using(token_core::specs::Reads::no_promise))]
+    fn parse(alloc: Global, input: &mut ParseStream<'_>) -> Result<TypeParamBoundOf<A, E>, Error>
+        ensures reads { Reads (knot.bound A.reads E.reads bound_places.Opaque input.old) result input.new }
+        ensures within { Follows input.old input.new }
+    {
+        TypeParamBoundOf::parse_held(alloc, PhantomData, input, BoundPlace::Opaque)
+    }
+}
+
+/// Reads a trait bound without parentheses.
+///
+/// ```text
+/// trait = [binder] ['?' [binder]] path [signature]
+/// ```
+///
+/// It is refused where `const` (`ConstNotAllowed`) or `[const]` (`ConditionalConstNotAllowed`) stands before the path, where
+/// a binder stands beside a `?` (`BinderWithQuestion`, at the `?`), and where one of its parts is refused. As `syn::TraitBound`.
+impl<A: Attributes, E: Value> Parse for TraitBoundOf<A, E> {
+    ghost reads = { Gives (knot.trait_bound A.reads E.reads) };
+
+    ghost refuses = { Fails (knot.trait_bound A.reads E.reads) };
+
+    #[tactic(auto, using(token_core::specs::Reads::no_promise))]
+    fn parse(alloc: Global, input: &mut ParseStream<'_>) -> Result<TraitBoundOf<A, E>, Error>
+        ensures reads { Reads (knot.trait_bound A.reads E.reads input.old) result input.new }
+        ensures within { Follows input.old input.new }
+    {
+        parse_trait_bound(alloc, input)
+    }
+}
+
+/// Reads a parameter, in the place of those of a binder: after attributes a type parameter, a lifetime parameter or a const
+/// parameter, by its first token.
+///
+/// ```text
+/// param = attributes (type-param | lifetime-param | const-param)
+/// ```
+///
+/// Where none of them begins, the refusal names an identifier, a lifetime and `const`. As `syn::GenericParam`.
+impl<A: Attributes, E: Value> Parse for GenericParamOf<A, E> {
+    ghost reads = { Gives (knot.param A.reads E.reads param_places.Binder) };
+
+    ghost refuses = { Fails (knot.param A.reads E.reads param_places.Binder) };
+
+    #[tactic(auto, using(token_core::specs::Reads::no_promise))]
+    fn parse(alloc: Global, input: &mut ParseStream<'_>) -> Result<GenericParamOf<A, E>, Error>
+        ensures reads { Reads (knot.param A.reads E.reads param_places.Binder input.old) result input.new }
+        ensures within { Follows input.old input.new }
+    {
+        GenericParamOf::parse_held(alloc, PhantomData, input, ParamPlace::Binder)
+    }
+}
+
+/// Reads a lifetime parameter.
+///
+/// ```text
+/// lifetime-param = attributes lifetime [':' [lifetime {'+' lifetime} ['+']]]
+/// ```
+///
+/// The bounds end before `,` and `>`, and at the end. It is refused where one of the parts is. As `syn::LifetimeParam`.
+impl<A: Attributes> Parse for LifetimeParamOf<A> {
+    ghost reads = { Gives (reading.lifetime_param A.reads) };
+
+    ghost refuses = { Fails (reading.lifetime_param A.reads) };
+
+    #[tactic(auto, using(token_core::specs::Reads::no_promise))]
+    fn parse(alloc: Global, input: &mut ParseStream<'_>) -> Result<LifetimeParamOf<A>, Error>
+        ensures reads { Reads (reading.lifetime_param A.reads input.old) result input.new }
+        ensures within { Follows input.old input.new }
+    {
+        lifetime_param(alloc, input)
+    }
+}
+
+/// Reads a type parameter.
+///
+/// ```text
+/// type-param = attributes ident [':' [bound {'+' bound} ['+']]] ['=' type]
+/// ```
+///
+/// The bounds end before `,`, `>` and `=`, and at the end. It is refused where one of the parts is. As `syn::TypeParam`.
+impl<A: Attributes, E: Value> Parse for TypeParamOf<A, E> {
+    ghost reads = { Gives (knot.type_param A.reads E.reads) };
+
+    ghost refuses = { Fails (knot.type_param A.reads E.reads) };
+
+    #[tactic(auto, using(token_core::specs::Reads::no_promise))]
+    fn parse(alloc: Global, input: &mut ParseStream<'_>) -> Result<TypeParamOf<A, E>, Error>
+        ensures reads { Reads (knot.type_param A.reads E.reads input.old) result input.new }
+        ensures within { Follows input.old input.new }
+    {
+        parse_type_param(alloc, input)
+    }
+}
+
+/// Reads a const parameter.
+///
+/// ```text
+/// const-param = attributes 'const' ident ':' type ['=' const-argument]
+/// ```
+///
+/// It is refused where one of the parts is. As `syn::ConstParam`.
+impl<A: Attributes, E: Value> Parse for ConstParamOf<TypeOf<A, E>, A, E> {
+    ghost reads = { Gives (knot.const_param A.reads E.reads) };
+
+    ghost refuses = { Fails (knot.const_param A.reads E.reads) };
+
+    #[tactic(auto, using(token_core::specs::Reads::no_promise))]
+    fn parse(
+        alloc: Global,
+        input: &mut ParseStream<'_>,
+    ) -> Result<ConstParamOf<TypeOf<A, E>, A, E>, Error>
+        ensures reads { Reads (knot.const_param A.reads E.reads input.old) result input.new }
+        ensures within { Follows input.old input.new }
+    {
+        parse_const_param(alloc, input)
     }
 }

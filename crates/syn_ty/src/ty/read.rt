@@ -1,119 +1,276 @@
 //! Types are read.
 
-ghost use Rattle.std.specs.Prelude.{◌≡◌, false, true, IfOk, Option};
-ghost use Rattle.token_core.specs.Headline.{Headline, Heads};
-ghost use Rattle.token_core.specs.Reads.{Reads, Follows, Gives, Fails, Parses};
-ghost use Rattle.token_core.specs.Rebuilt.{Visible};
+pub mod alone;
+pub mod forms;
+pub mod named;
+pub mod objects;
+pub mod parts;
+pub mod paths;
+pub mod step;
+pub mod tokens;
+
+ghost use Rattle.std.specs.Prelude.{◌≡◌, false, true, IfOk};
+ghost use Rattle.syn_forms.specs.declared.places.TypePlace.TheVariants.{NoPlus, Plus};
+ghost use Rattle.syn_forms.specs.nested.Below.{ahead};
 ghost use Rattle.syn_ty.specs.ty.Grammars as grammars;
+ghost use Rattle.syn_ty.specs.ty.Groups.{IsGrouped};
 ghost use Rattle.syn_ty.specs.ty.Knot as knot;
 ghost use Rattle.syn_ty.specs.ty.Reading as reading;
-ghost use Rattle.syn_ty.specs.ty.Heights.{IsSomeType, IsSomeArray, IsSomeParen, IsSomePtr, IsSomeReference, IsSomeSlice, IsSomeTuple};
-ghost use Rattle.syn_ty.specs.ty.Spelling.{IsInfer, IsNever, IsMacroType, IsPathType};
+ghost use Rattle.syn_ty.specs.ty.Spelling.{IsInfer, IsMacroType, IsNever};
+ghost use Rattle.token_core.specs.Groups.{sees_invisible};
+ghost use Rattle.token_core.specs.Headline.{Heads, Headline};
+ghost use Rattle.token_core.specs.Reads.{Fails, Follows, Gives, Keeps, Parses, Reads};
+ghost use Rattle.token_core.specs.Rebuilt.{Visible};
 
-use crate::grammar::{
-    parse_array, parse_infer, parse_macro_type, parse_never, parse_paren, parse_path_type,
-    parse_ptr, parse_reference, parse_slice, parse_tuple,
+use crate::generics::TypeParamBoundOf;
+use crate::ty::read::alone::{
+    parse_array, parse_fn_ptr, parse_group, parse_impl_trait, parse_named_arg, parse_paren,
+    parse_path_type, parse_ptr, parse_reference, parse_return_type, parse_slice,
+    parse_trait_object, parse_tuple,
 };
-use crate::knot::parse_type;
+use crate::ty::read::tokens::{
+    parse_abi, parse_infer, parse_macro_type, parse_never, parse_optional_abi,
+};
 use crate::ty::{
-    TypeArrayOf, TypeInferOf, TypeMacroOf, TypeNeverOf, TypeOf, TypeParenOf, TypePathOf, TypePtrOf,
-    TypeReferenceOf, TypeSliceOf, TypeTupleOf,
+    Abi, NamedArgOf, ReturnTypeOf, TypeArrayOf, TypeFnPtrOf, TypeGroupOf, TypeImplTraitOf,
+    TypeInferOf, TypeMacroOf, TypeNeverOf, TypeOf, TypeParenOf, TypePathOf, TypePtrOf,
+    TypeReferenceOf, TypeSliceOf, TypeTraitObjectOf, TypeTupleOf,
 };
 use std::alloc::Global;
 use std::marker::PhantomData;
-use syn_path::mac::Macro;
+use syn_forms::nested::Held;
+use syn_forms::places::TypePlace;
 use syn_path::supplied::{Attributes, Value};
 use token_core::{Error, Parse, ParseStream};
 
 impl<A: Attributes, E: Value> TypeOf<A, E> {
-    /// Reads a type where no `+` may follow it, as what a pointer or a reference points to (`Type::without_plus`).
+    /// Reads a type where a `+` that follows is left, as what a pointer or a reference points to (`Type::without_plus`).
+    #[tactic(auto, using(crate::proofs::ty_laws::Groups::groups))]
     pub fn without_plus(alloc: Global, input: &mut ParseStream<'_>) -> Result<TypeOf<A, E>, Error>
-        ensures parses { Parses (knot.ty E.reads.len false) result input.old input.new }
-        ensures front { Visible input.old.rest → input.new.left ≡ Option.None → IfOk result (λ x. IsSomeType E.spells.len false false x input.old.rest input.new.rest) }
-        ensures headline { Heads (grammars.ty E.reads.len E.spells.len A.normal E.normal A.shown E.values false) input.old result input.new }
+        ensures parses { Parses (knot.ty A.reads E.reads NoPlus) result input.old input.new }
+        ensures group { sees_invisible input.old.rest ≡ true → IfOk result (λ x. IsGrouped (knot.reads_below A.reads E.reads (ahead input.old)) input.old x input.new) }
     {
-        parse_type(alloc, PhantomData, input, false)
+        <TypeOf<A, E> as Held<TypePlace>>::parse_held(alloc, PhantomData, input, TypePlace::NoPlus)
     }
 }
 
-/// Reads a type: a path, a macro call, a tuple, a type in parentheses, a slice, an array, a pointer, a reference, `!` or `_`.
-/// It is refused where none begins, where one of its parts is refused, and where what follows would go on with it in a
-/// form that is not read yet: `<` after a path, and `+` after a path or parentheses.
+/// Reads a type. By its first token it is a type in an invisible group with what goes on after it, a type after a binder, a
+/// tuple, a type in parentheses, a pointer to a function, a path, a macro call, a trait object with `dyn` or without, a slice,
+/// an array, a pointer, a reference, `!`, `impl` and bounds, or `_`; `unsafe<'a> T`, `builtin # x(..)` and `dyn * T` are held as
+/// they were written. It is refused where none begins, and where one of its parts is.
 impl<A: Attributes, E: Value> Parse for TypeOf<A, E> {
-    ghost reads = { Gives (knot.ty E.reads.len true) };
+    ghost reads = { Gives (knot.ty A.reads E.reads Plus) };
 
-    ghost refuses = { Fails (knot.ty {A = A} E.reads.len true) };
+    ghost refuses = { Fails (knot.ty A.reads E.reads Plus) };
 
-    ghost promise = { Headline (grammars.ty E.reads.len E.spells.len A.normal E.normal A.shown E.values true) };
-
+    #[tactic(auto, using(token_core::specs::Reads::no_promise, crate::proofs::ty_laws::Groups::groups))]
     fn parse(alloc: Global, input: &mut ParseStream<'_>) -> Result<TypeOf<A, E>, Error>
-        ensures reads { Reads (knot.ty E.reads.len true input.old) result input.new }
+        ensures reads { Reads (knot.ty A.reads E.reads Plus input.old) result input.new }
         ensures within { Follows input.old input.new }
-        ensures front { Visible input.old.rest → input.new.left ≡ Option.None → IfOk result (λ x. IsSomeType E.spells.len false true x input.old.rest input.new.rest) }
-        ensures promise { Heads (grammars.ty E.reads.len E.spells.len A.normal E.normal A.shown E.values true) input.old result input.new }
+        ensures promise { Keeps (λ _ _. Unit {0}) input.old result input.new }
+        ensures group { sees_invisible input.old.rest ≡ true → IfOk result (λ x. IsGrouped (knot.reads_below A.reads E.reads (ahead input.old)) input.old x input.new) }
     {
-        parse_type(alloc, PhantomData, input, true)
+        <TypeOf<A, E> as Held<TypePlace>>::parse_held(alloc, PhantomData, input, TypePlace::Plus)
     }
 }
 
-/// Reads a slice: a type in brackets.
-impl<A: Attributes, E: Value> Parse for TypeSliceOf<TypeOf<A, E>, A> {
-    ghost reads = { Gives (knot.slice E.reads.len) };
+impl<A: Attributes, E: Value> ReturnTypeOf<TypeOf<A, E>> {
+    /// Reads what a function returns; a `+` after the type is left (`ReturnType::without_plus`).
+    pub fn without_plus(
+        alloc: Global,
+        input: &mut ParseStream<'_>,
+    ) -> Result<ReturnTypeOf<TypeOf<A, E>>, Error>
+        ensures parses { Parses (knot.return_type A.reads E.reads NoPlus) result input.old input.new }
+    {
+        parse_return_type(alloc, input, TypePlace::NoPlus)
+    }
+}
 
-    ghost refuses = { Fails (knot.slice {A = A} E.reads.len) };
+/// Reads what a function returns: nothing, or `->` and a type.
+impl<A: Attributes, E: Value> Parse for ReturnTypeOf<TypeOf<A, E>> {
+    ghost reads = { Gives (knot.return_type A.reads E.reads Plus) };
 
-    ghost promise = { Headline (grammars.slice E.reads.len E.spells.len A.normal E.normal A.shown E.values) };
+    ghost refuses = { Fails (knot.return_type A.reads E.reads Plus) };
 
+    #[tactic(auto, using(token_core::specs::Reads::no_promise))]
     fn parse(
         alloc: Global,
         input: &mut ParseStream<'_>,
-    ) -> Result<TypeSliceOf<TypeOf<A, E>, A>, Error>
-        ensures reads { Reads (knot.slice E.reads.len input.old) result input.new }
+    ) -> Result<ReturnTypeOf<TypeOf<A, E>>, Error>
+        ensures reads { Reads (knot.return_type A.reads E.reads Plus input.old) result input.new }
         ensures within { Follows input.old input.new }
-        ensures front { Visible input.old.rest → input.new.left ≡ Option.None → IfOk result (λ x. IsSomeSlice E.spells.len false x input.old.rest input.new.rest) }
-        ensures promise { Heads (grammars.slice E.reads.len E.spells.len A.normal E.normal A.shown E.values) input.old result input.new }
+        ensures promise { Keeps (λ _ _. Unit {0}) input.old result input.new }
     {
-        parse_slice(alloc, input)
+        parse_return_type(alloc, input, TypePlace::Plus)
+    }
+}
+
+impl<A: Attributes, E: Value> TypeTraitObjectOf<TypeParamBoundOf<A, E>, A> {
+    /// Reads a trait object of one bound; a `+` after it is left (`TypeTraitObject::without_plus`).
+    pub fn without_plus(
+        alloc: Global,
+        input: &mut ParseStream<'_>,
+    ) -> Result<TypeTraitObjectOf<TypeParamBoundOf<A, E>, A>, Error>
+        ensures parses { Parses (knot.trait_object A.reads E.reads false) result input.old input.new }
+    {
+        parse_trait_object(alloc, input, false)
+    }
+}
+
+/// Reads a trait object: `dyn`, which may be missing, and bounds joined by `+`. It is refused where none of them is a trait.
+impl<A: Attributes, E: Value> Parse for TypeTraitObjectOf<TypeParamBoundOf<A, E>, A> {
+    ghost reads = { Gives (knot.trait_object A.reads E.reads true) };
+
+    ghost refuses = { Fails (knot.trait_object A.reads E.reads true) };
+
+    #[tactic(auto, using(token_core::specs::Reads::no_promise))]
+    fn parse(
+        alloc: Global,
+        input: &mut ParseStream<'_>,
+    ) -> Result<TypeTraitObjectOf<TypeParamBoundOf<A, E>, A>, Error>
+        ensures reads { Reads (knot.trait_object A.reads E.reads true input.old) result input.new }
+        ensures within { Follows input.old input.new }
+        ensures promise { Keeps (λ _ _. Unit {0}) input.old result input.new }
+    {
+        parse_trait_object(alloc, input, true)
+    }
+}
+
+impl<A: Attributes, E: Value> TypeImplTraitOf<TypeParamBoundOf<A, E>, A> {
+    /// Reads `impl` and one bound; a `+` after it is left (`TypeImplTrait::without_plus`).
+    pub fn without_plus(
+        alloc: Global,
+        input: &mut ParseStream<'_>,
+    ) -> Result<TypeImplTraitOf<TypeParamBoundOf<A, E>, A>, Error>
+        ensures parses { Parses (knot.impl_trait A.reads E.reads false) result input.old input.new }
+    {
+        parse_impl_trait(alloc, input, false)
+    }
+}
+
+/// Reads `impl` and bounds joined by `+`. It is refused where none of them names a trait.
+impl<A: Attributes, E: Value> Parse for TypeImplTraitOf<TypeParamBoundOf<A, E>, A> {
+    ghost reads = { Gives (knot.impl_trait A.reads E.reads true) };
+
+    ghost refuses = { Fails (knot.impl_trait A.reads E.reads true) };
+
+    #[tactic(auto, using(token_core::specs::Reads::no_promise))]
+    fn parse(
+        alloc: Global,
+        input: &mut ParseStream<'_>,
+    ) -> Result<TypeImplTraitOf<TypeParamBoundOf<A, E>, A>, Error>
+        ensures reads { Reads (knot.impl_trait A.reads E.reads true input.old) result input.new }
+        ensures within { Follows input.old input.new }
+        ensures promise { Keeps (λ _ _. Unit {0}) input.old result input.new }
+    {
+        parse_impl_trait(alloc, input, true)
     }
 }
 
 /// Reads an array: in brackets a type, `;`, and a length, which the supplied subtree reads.
 impl<A: Attributes, E: Value> Parse for TypeArrayOf<TypeOf<A, E>, A, E> {
-    ghost reads = { Gives (knot.array E.reads.len) };
+    ghost reads = { Gives (knot.array A.reads E.reads) };
 
-    ghost refuses = { Fails (knot.array {A = A} E.reads.len) };
+    ghost refuses = { Fails (knot.array A.reads E.reads) };
 
-    ghost promise = { Headline (grammars.array E.reads.len E.spells.len A.normal E.normal A.shown E.values) };
-
+    #[tactic(auto, using(token_core::specs::Reads::no_promise))]
     fn parse(
         alloc: Global,
         input: &mut ParseStream<'_>,
     ) -> Result<TypeArrayOf<TypeOf<A, E>, A, E>, Error>
-        ensures reads { Reads (knot.array E.reads.len input.old) result input.new }
+        ensures reads { Reads (knot.array A.reads E.reads input.old) result input.new }
         ensures within { Follows input.old input.new }
-        ensures front { Visible input.old.rest → input.new.left ≡ Option.None → IfOk result (λ x. IsSomeArray E.spells.len false x input.old.rest input.new.rest) }
-        ensures promise { Heads (grammars.array E.reads.len E.spells.len A.normal E.normal A.shown E.values) input.old result input.new }
+        ensures promise { Keeps (λ _ _. Unit {0}) input.old result input.new }
     {
         parse_array(alloc, input)
     }
 }
 
+/// Reads a pointer to a function: an optional binder, an optional `unsafe`, an optional calling convention, `fn`, in
+/// parentheses the arguments and an optional `...`, and what it returns, a type without plus.
+impl<A: Attributes, E: Value> Parse for TypeFnPtrOf<A, E> {
+    ghost reads = { Gives (knot.fn_ptr A.reads E.reads) };
+
+    ghost refuses = { Fails (knot.fn_ptr A.reads E.reads) };
+
+    #[tactic(auto, using(token_core::specs::Reads::no_promise))]
+    fn parse(alloc: Global, input: &mut ParseStream<'_>) -> Result<TypeFnPtrOf<A, E>, Error>
+        ensures reads { Reads (knot.fn_ptr A.reads E.reads input.old) result input.new }
+        ensures within { Follows input.old input.new }
+        ensures promise { Keeps (λ _ _. Unit {0}) input.old result input.new }
+    {
+        parse_fn_ptr(alloc, input)
+    }
+}
+
+/// Reads a type in an invisible group.
+impl<A: Attributes, E: Value> Parse for TypeGroupOf<TypeOf<A, E>, A> {
+    ghost reads = { Gives (knot.group A.reads E.reads) };
+
+    ghost refuses = { Fails (knot.group A.reads E.reads) };
+
+    #[tactic(auto, using(token_core::specs::Reads::no_promise))]
+    fn parse(
+        alloc: Global,
+        input: &mut ParseStream<'_>,
+    ) -> Result<TypeGroupOf<TypeOf<A, E>, A>, Error>
+        ensures reads { Reads (knot.group A.reads E.reads input.old) result input.new }
+        ensures within { Follows input.old input.new }
+        ensures promise { Keeps (λ _ _. Unit {0}) input.old result input.new }
+    {
+        parse_group(alloc, input)
+    }
+}
+
+/// Reads a type in parentheses; it is read without plus.
+impl<A: Attributes, E: Value> Parse for TypeParenOf<TypeOf<A, E>, A> {
+    ghost reads = { Gives (knot.paren A.reads E.reads) };
+
+    ghost refuses = { Fails (knot.paren A.reads E.reads) };
+
+    #[tactic(auto, using(token_core::specs::Reads::no_promise))]
+    fn parse(
+        alloc: Global,
+        input: &mut ParseStream<'_>,
+    ) -> Result<TypeParenOf<TypeOf<A, E>, A>, Error>
+        ensures reads { Reads (knot.paren A.reads E.reads input.old) result input.new }
+        ensures within { Follows input.old input.new }
+        ensures promise { Keeps (λ _ _. Unit {0}) input.old result input.new }
+    {
+        parse_paren(alloc, input)
+    }
+}
+
+/// Reads a path, which a type may qualify, with its arguments.
+impl<A: Attributes, E: Value> Parse for TypePathOf<A, E> {
+    ghost reads = { Gives (knot.path_type A.reads E.reads) };
+
+    ghost refuses = { Fails (knot.path_type A.reads E.reads) };
+
+    #[tactic(auto, using(token_core::specs::Reads::no_promise))]
+    fn parse(alloc: Global, input: &mut ParseStream<'_>) -> Result<TypePathOf<A, E>, Error>
+        ensures reads { Reads (knot.path_type A.reads E.reads input.old) result input.new }
+        ensures within { Follows input.old input.new }
+        ensures promise { Keeps (λ _ _. Unit {0}) input.old result input.new }
+    {
+        parse_path_type(alloc, input)
+    }
+}
+
 /// Reads a raw pointer: `*`, `const` or `mut`, and a type without plus.
 impl<A: Attributes, E: Value> Parse for TypePtrOf<TypeOf<A, E>, A> {
-    ghost reads = { Gives (knot.ptr E.reads.len) };
+    ghost reads = { Gives (knot.ptr A.reads E.reads) };
 
-    ghost refuses = { Fails (knot.ptr {A = A} E.reads.len) };
+    ghost refuses = { Fails (knot.ptr A.reads E.reads) };
 
-    ghost promise = { Headline (grammars.ptr E.reads.len E.spells.len A.normal E.normal A.shown E.values) };
-
+    #[tactic(auto, using(token_core::specs::Reads::no_promise))]
     fn parse(
         alloc: Global,
         input: &mut ParseStream<'_>,
     ) -> Result<TypePtrOf<TypeOf<A, E>, A>, Error>
-        ensures reads { Reads (knot.ptr E.reads.len input.old) result input.new }
+        ensures reads { Reads (knot.ptr A.reads E.reads input.old) result input.new }
         ensures within { Follows input.old input.new }
-        ensures front { Visible input.old.rest → input.new.left ≡ Option.None → IfOk result (λ x. IsSomePtr E.spells.len false x input.old.rest input.new.rest) }
-        ensures promise { Heads (grammars.ptr E.reads.len E.spells.len A.normal E.normal A.shown E.values) input.old result input.new }
+        ensures promise { Keeps (λ _ _. Unit {0}) input.old result input.new }
     {
         parse_ptr(alloc, input)
     }
@@ -121,64 +278,77 @@ impl<A: Attributes, E: Value> Parse for TypePtrOf<TypeOf<A, E>, A> {
 
 /// Reads a reference: `&`, an optional lifetime, an optional `mut`, and a type without plus.
 impl<A: Attributes, E: Value> Parse for TypeReferenceOf<TypeOf<A, E>, A> {
-    ghost reads = { Gives (knot.reference E.reads.len) };
+    ghost reads = { Gives (knot.reference A.reads E.reads) };
 
-    ghost refuses = { Fails (knot.reference {A = A} E.reads.len) };
+    ghost refuses = { Fails (knot.reference A.reads E.reads) };
 
-    ghost promise = { Headline (grammars.reference E.reads.len E.spells.len A.normal E.normal A.shown E.values) };
-
+    #[tactic(auto, using(token_core::specs::Reads::no_promise))]
     fn parse(
         alloc: Global,
         input: &mut ParseStream<'_>,
     ) -> Result<TypeReferenceOf<TypeOf<A, E>, A>, Error>
-        ensures reads { Reads (knot.reference E.reads.len input.old) result input.new }
+        ensures reads { Reads (knot.reference A.reads E.reads input.old) result input.new }
         ensures within { Follows input.old input.new }
-        ensures front { Visible input.old.rest → input.new.left ≡ Option.None → IfOk result (λ x. IsSomeReference E.spells.len false x input.old.rest input.new.rest) }
-        ensures promise { Heads (grammars.reference E.reads.len E.spells.len A.normal E.normal A.shown E.values) input.old result input.new }
+        ensures promise { Keeps (λ _ _. Unit {0}) input.old result input.new }
     {
         parse_reference(alloc, input)
     }
 }
 
+/// Reads a slice: a type in brackets.
+impl<A: Attributes, E: Value> Parse for TypeSliceOf<TypeOf<A, E>, A> {
+    ghost reads = { Gives (knot.slice A.reads E.reads) };
+
+    ghost refuses = { Fails (knot.slice A.reads E.reads) };
+
+    #[tactic(auto, using(token_core::specs::Reads::no_promise))]
+    fn parse(
+        alloc: Global,
+        input: &mut ParseStream<'_>,
+    ) -> Result<TypeSliceOf<TypeOf<A, E>, A>, Error>
+        ensures reads { Reads (knot.slice A.reads E.reads input.old) result input.new }
+        ensures within { Follows input.old input.new }
+        ensures promise { Keeps (λ _ _. Unit {0}) input.old result input.new }
+    {
+        parse_slice(alloc, input)
+    }
+}
+
 /// Reads a tuple: in parentheses nothing, or types joined by commas, of which one follows the first.
 impl<A: Attributes, E: Value> Parse for TypeTupleOf<TypeOf<A, E>, A> {
-    ghost reads = { Gives (knot.tuple E.reads.len) };
+    ghost reads = { Gives (knot.tuple A.reads E.reads) };
 
-    ghost refuses = { Fails (knot.tuple {A = A} E.reads.len) };
+    ghost refuses = { Fails (knot.tuple A.reads E.reads) };
 
-    ghost promise = { Headline (grammars.tuple E.reads.len E.spells.len A.normal E.normal A.shown E.values) };
-
+    #[tactic(auto, using(token_core::specs::Reads::no_promise))]
     fn parse(
         alloc: Global,
         input: &mut ParseStream<'_>,
     ) -> Result<TypeTupleOf<TypeOf<A, E>, A>, Error>
-        ensures reads { Reads (knot.tuple E.reads.len input.old) result input.new }
+        ensures reads { Reads (knot.tuple A.reads E.reads input.old) result input.new }
         ensures within { Follows input.old input.new }
-        ensures front { Visible input.old.rest → input.new.left ≡ Option.None → IfOk result (λ x. IsSomeTuple E.spells.len false x input.old.rest input.new.rest) }
-        ensures promise { Heads (grammars.tuple E.reads.len E.spells.len A.normal E.normal A.shown E.values) input.old result input.new }
+        ensures promise { Keeps (λ _ _. Unit {0}) input.old result input.new }
     {
         parse_tuple(alloc, input)
     }
 }
 
-/// Reads a type in parentheses; it is read without plus.
-impl<A: Attributes, E: Value> Parse for TypeParenOf<TypeOf<A, E>, A> {
-    ghost reads = { Gives (knot.paren E.reads.len) };
+/// Reads an argument of a pointer to a function: attributes, an optional name and `:`, and a type. `self` has no place there.
+impl<A: Attributes, E: Value> Parse for NamedArgOf<TypeOf<A, E>, A> {
+    ghost reads = { Gives (knot.named_arg A.reads E.reads) };
 
-    ghost refuses = { Fails (knot.paren {A = A} E.reads.len) };
+    ghost refuses = { Fails (knot.named_arg A.reads E.reads) };
 
-    ghost promise = { Headline (grammars.paren E.reads.len E.spells.len A.normal E.normal A.shown E.values) };
-
+    #[tactic(auto, using(token_core::specs::Reads::no_promise))]
     fn parse(
         alloc: Global,
         input: &mut ParseStream<'_>,
-    ) -> Result<TypeParenOf<TypeOf<A, E>, A>, Error>
-        ensures reads { Reads (knot.paren E.reads.len input.old) result input.new }
+    ) -> Result<NamedArgOf<TypeOf<A, E>, A>, Error>
+        ensures reads { Reads (knot.named_arg A.reads E.reads input.old) result input.new }
         ensures within { Follows input.old input.new }
-        ensures front { Visible input.old.rest → input.new.left ≡ Option.None → IfOk result (λ x. IsSomeParen E.spells.len false x input.old.rest input.new.rest) }
-        ensures promise { Heads (grammars.paren E.reads.len E.spells.len A.normal E.normal A.shown E.values) input.old result input.new }
+        ensures promise { Keeps (λ _ _. Unit {0}) input.old result input.new }
     {
-        parse_paren(alloc, input)
+        parse_named_arg(alloc, input)
     }
 }
 
@@ -236,21 +406,27 @@ impl<A: Attributes> Parse for TypeMacroOf<A> {
     }
 }
 
-/// Reads a path without arguments: an optional `::`, and identifiers, `super`, `self`, `Self`, `crate` or `try` joined by `::`.
-/// A `<` after it is refused: arguments are not read yet.
-impl<A: Attributes, E: Value> Parse for TypePathOf<A, E> {
-    ghost reads = { Gives (reading.path_type {A = A} {E = E}) };
+/// Reads a calling convention: `extern`, and a string that may be missing.
+impl Parse for Abi {
+    ghost reads = { Gives reading.abi };
 
-    ghost refuses = { Fails (reading.path_type {A = A} {E = E}) };
+    ghost refuses = { Fails reading.abi };
 
-    ghost promise = { Headline (grammars.path_type E.reads.len E.spells.len A.normal E.normal A.shown E.values) };
-
-    fn parse(alloc: Global, input: &mut ParseStream<'_>) -> Result<TypePathOf<A, E>, Error>
-        ensures reads { Reads (reading.path_type input.old) result input.new }
+    #[tactic(auto, using(token_core::specs::Reads::no_promise))]
+    fn parse(alloc: Global, input: &mut ParseStream<'_>) -> Result<Abi, Error>
+        ensures reads { Reads (reading.abi input.old) result input.new }
         ensures within { Follows input.old input.new }
-        ensures front { Visible input.old.rest → IfOk result (λ x. IsPathType false x input.old.rest input.new.rest) }
-        ensures promise { Heads (grammars.path_type E.reads.len E.spells.len A.normal E.normal A.shown E.values) input.old result input.new }
+        ensures promise { Keeps (λ _ _. Unit {0}) input.old result input.new }
     {
-        parse_path_type(alloc, input)
+        parse_abi(alloc, input)
+    }
+}
+
+impl Abi {
+    /// Reads a calling convention where `extern` follows (`Option::<Abi>::parse`).
+    pub fn parse_optional(alloc: Global, input: &mut ParseStream<'_>) -> Result<Option<Abi>, Error>
+        ensures parses { Parses reading.optional_abi result input.old input.new }
+    {
+        parse_optional_abi(alloc, input)
     }
 }

@@ -1,0 +1,6 @@
+pub mod Complete
+pub mod Listed
+pub mod Normal
+pub mod Reprint
+pub mod SamePrint
+pub mod Sound

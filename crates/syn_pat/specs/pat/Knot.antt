@@ -1,0 +1,57 @@
+-- The read of patterns, tied: each turn asks only about streams of which less is left, so how much is left is turns enough.
+use Rattle.std.specs.Prelude.{ℕ, zero, suc, if◌then◌else◌, []}
+use Rattle.syn_attr.specs.attr.Attrs.{Attribute as Attr}
+use Rattle.syn_attr.specs.attr.Reading.{outer}
+use Rattle.syn_attr.specs.declared.expr.Expr.{Expr}
+use Rattle.syn_attr.specs.declared.expr.Expr.TheVariants as e
+use Rattle.syn_forms.specs.declared.places.TypePlace.TheVariants.{Plus}
+use Rattle.syn_forms.specs.nested.Below.{ahead, below, held}
+use Rattle.syn_pat.specs.declared.pat.PatOf.TheVariants as v
+use Rattle.syn_pat.specs.declared.place.PatPlace.{PatPlace}
+use Rattle.syn_pat.specs.declared.place.PatPlace.TheVariants.{LeadingVert, Single}
+use Rattle.syn_pat.specs.pat.Pats.{Pat, PatType, guard_of, typed_of}
+use Rattle.syn_pat.specs.pat.Reading.{Readers, pat_step, values}
+use Rattle.syn_path.specs.declared.supplied.Place.{Place}
+use Rattle.syn_path.specs.declared.supplied.Place.TheVariants.{Guard}
+use Rattle.syn_ty.specs.ty.Knot as types
+use Rattle.syn_ty.specs.ty.Trees.{TypeTree}
+use Rattle.token_core.specs.declared.error.ErrorKind.TheVariants.{Unexpected}
+use Rattle.token_core.specs.Reads.{Reader, ◌>>=◌, peek, pure, refuse}
+use Rattle.token_core.specs.Tokens as token
+
+module _ {X : Type 0} (supplied : Place → Reader X) where
+  abbrev pub read_at : ℕ → Readers X
+  read_at zero place s = refuse Unexpected s
+  read_at (suc n) place s = pat_step supplied (λ q. below (ahead s) (read_at n q)) place s
+
+  unfoldable pub pat : Readers X
+  pat place s = read_at (suc (ahead s)) place s
+
+  -- where less than the limit is left
+  abbrev pub pats_below : ℕ → Readers X
+  pats_below limit = held pat limit
+
+  -- ---- outermost
+
+  abbrev pub guard_after : Pat X → Reader (Pat X)
+  guard_after x = do
+    goes ← peek token.sees_if
+    if goes then (do
+      w ← token.if_word
+      g ← supplied Guard
+      pure (v.Guard (guard_of [] x w (e.Other g)))) else pure x
+
+  -- a guard may follow
+  unfoldable pub guarded : Reader (Pat X)
+  guarded = pat LeadingVert >>= guard_after
+
+  -- the type of a pattern, which a `+` goes on with
+  abbrev pub ty : Reader (TypeTree (Attr X) (Expr X))
+  ty = types.ty (outer supplied) (values supplied) Plus
+
+  unfoldable pub typed : Reader (PatType X)
+  typed = do
+    x ← pat Single
+    c ← token.colon
+    t ← ty
+    pure (typed_of [] x c t)

@@ -1,0 +1,139 @@
+//! Patterns are read.
+
+pub mod fields;
+pub mod forms;
+pub mod groups;
+pub mod paths;
+pub mod ranges;
+pub mod step;
+pub mod tokens;
+
+ghost use Rattle.syn_pat.specs.declared.place.PatPlace.TheVariants.{LeadingVert, Multi, Single};
+ghost use Rattle.syn_pat.specs.pat.Knot as knot;
+ghost use Rattle.token_core.specs.Reads.{Fails, Follows, Gives, Keeps, Parses, Reads};
+
+use crate::knot::parse_pat;
+use crate::pat::{Pat, PatGuardOf, PatType, PatTypeOf};
+use crate::place::PatPlace;
+use std::alloc::Global;
+use std::marker::PhantomData;
+use syn_attr::expr::Expr;
+use syn_names::Type;
+use syn_path::supplied::{Place, Subtree};
+use token_core::token::{Colon, If};
+use token_core::{Boxed, Error, Items, Parse, ParseStream};
+
+impl<X: Subtree> Pat<X> {
+    /// Reads a pattern; a `|` that follows is left.
+    ///
+    /// ```text
+    /// pattern = path | path '!' group | path '{' fields '}' | path '(' elements ')' | '_' | 'box' pattern
+    ///         | bound | bound limits [bound] | limits [bound] | ['ref'] ['mut'] name ['@' pattern]
+    ///         | '&' ['mut'] pattern | '(' elements ')' | '[' elements ']'
+    /// ```
+    ///
+    /// It is refused where none begins, where a part is refused, at a `..=` that no bound follows, and where an element of a
+    /// slice is a range that lacks a bound. As `syn::Pat::parse_single`.
+    pub fn parse_single(alloc: Global, input: &mut ParseStream<'_>) -> Result<Pat<X>, Error>
+        ensures parses { Parses (knot.pat X.reads Single) result input.old input.new }
+    {
+        parse_pat::<X>(alloc, PhantomData, input, PatPlace::Single)
+    }
+
+    /// Reads patterns joined by `|`: one that no `|` follows is itself.
+    ///
+    /// ```text
+    /// pattern {'|' pattern}
+    /// ```
+    ///
+    /// A `||` and a `|=` are left. It is refused where a pattern is, one before the first `|` too. As `syn::Pat::parse_multi`.
+    pub fn parse_multi(alloc: Global, input: &mut ParseStream<'_>) -> Result<Pat<X>, Error>
+        ensures parses { Parses (knot.pat X.reads Multi) result input.old input.new }
+    {
+        parse_pat::<X>(alloc, PhantomData, input, PatPlace::Multi)
+    }
+
+    /// Reads patterns joined by `|`, and a `|` before the first, which makes alternatives of one pattern too.
+    ///
+    /// ```text
+    /// ['|'] pattern {'|' pattern}
+    /// ```
+    ///
+    /// It is refused where a pattern is. As `syn::Pat::parse_multi_with_leading_vert`.
+    pub fn parse_multi_with_leading_vert(
+        alloc: Global,
+        input: &mut ParseStream<'_>,
+    ) -> Result<Pat<X>, Error>
+        ensures parses { Parses (knot.pat X.reads LeadingVert) result input.old input.new }
+    {
+        parse_pat::<X>(alloc, PhantomData, input, PatPlace::LeadingVert)
+    }
+
+    /// The same, and a guard, which the supplied subtree reads.
+    ///
+    /// ```text
+    /// ['|'] pattern {'|' pattern} ['if' guard]
+    /// ```
+    ///
+    /// It is refused where a pattern is, and where the guard is. As syn's `Pat::parse_multi_with_leading_vert_and_guard`.
+    #[tactic(auto, using(token_core::proofs::Suffixes::follows), unfolding(crate::specs::pat::Knot::guarded))]
+    pub fn parse_multi_with_leading_vert_and_guard(
+        alloc: Global,
+        input: &mut ParseStream<'_>,
+    ) -> Result<Pat<X>, Error>
+        ensures parses { Parses (knot.guarded X.reads) result input.old input.new }
+    {
+        let pat = parse_pat::<X>(alloc, PhantomData, input, PatPlace::LeadingVert)?;
+        if !input.peek::<If>() {
+            return Ok(pat);
+        }
+        let pat = Boxed::new(alloc, pat)?;
+        let if_token = input.parse::<If>(alloc)?;
+        let guard = X::read(alloc, Place::Guard, input)?;
+        Ok(Pat::Guard(PatGuardOf {
+            attrs: Items::new(alloc),
+            pat,
+            if_token,
+            guard: Boxed::new(alloc, Expr::Other(guard))?,
+        }))
+    }
+}
+
+/// A pattern with its type.
+#[tactic(auto, using(token_core::proofs::Suffixes::follows), unfolding(crate::specs::pat::Knot::typed))]
+fn parse_typed<X: Subtree>(alloc: Global, input: &mut ParseStream<'_>) -> Result<PatType<X>, Error>
+    ensures parses { Parses (knot.typed X.reads) result input.old input.new }
+{
+    let pat = parse_pat::<X>(alloc, PhantomData, input, PatPlace::Single)?;
+    let pat = Boxed::new(alloc, pat)?;
+    let colon_token = input.parse::<Colon>(alloc)?;
+    let ty = input.parse::<Type<X>>(alloc)?;
+    Ok(PatTypeOf {
+        attrs: Items::new(alloc),
+        pat,
+        colon_token,
+        ty: Boxed::new(alloc, ty)?,
+    })
+}
+
+/// Reads a pattern with its type.
+///
+/// ```text
+/// pattern ':' type
+/// ```
+///
+/// It is refused where the pattern is, where no `:` follows, and where the type is. As `syn::PatType`.
+impl<X: Subtree> Parse for PatType<X> {
+    ghost reads = { Gives (knot.typed X.reads) };
+
+    ghost refuses = { Fails (knot.typed X.reads) };
+
+    #[tactic(auto, using(token_core::specs::Reads::no_promise))]
+    fn parse(alloc: Global, input: &mut ParseStream<'_>) -> Result<PatType<X>, Error>
+        ensures reads { Reads (knot.typed X.reads input.old) result input.new }
+        ensures within { Follows input.old input.new }
+        ensures promise { Keeps (λ _ _. Unit {0}) input.old result input.new }
+    {
+        parse_typed(alloc, input)
+    }
+}

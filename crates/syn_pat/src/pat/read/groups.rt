@@ -1,0 +1,133 @@
+//! Patterns in parentheses and brackets.
+
+ghost use Rattle.std.specs.Prelude.{◌≡◌, ◌<◌, ◌≤◌, length, Bool};
+ghost use Rattle.syn_forms.specs.groups.Reading.{in_brackets, in_parens};
+ghost use Rattle.syn_forms.specs.nested.Below.{Nests, ahead};
+ghost use Rattle.syn_pat.specs.declared.place.PatPlace.TheVariants.{Element, LeadingVert};
+ghost use Rattle.syn_pat.specs.pat.Knot as knot;
+ghost use Rattle.syn_pat.specs.pat.Reading as reading;
+ghost use Rattle.token_core.specs.Reads.{Parses};
+
+use crate::grammar::Patterns;
+use crate::pat::{Pat, PatParenOf, PatSlice, PatSliceOf, PatTupleOf};
+use crate::place::PatPlace;
+use std::alloc::Global;
+use std::marker::PhantomData;
+use syn_forms::lists::ToEnd;
+use syn_forms::tokens::{open_brackets, open_parens};
+use syn_path::supplied::Subtree;
+use token_core::token::{Comma, Paren};
+use token_core::{Boxed, Error, Items, ParseStream, Punctuated};
+
+/// What parentheses hold.
+#[derive(Drop)]
+pub enum InParens<T> {
+    /// A pattern alone.
+    One(Boxed<T>),
+    /// The elements of a tuple.
+    Elements(Punctuated<T, Comma>),
+}
+
+/// A pattern in parentheses, or a tuple, without attributes.
+fn of_parens<X: Subtree>(alloc: Global, paren_token: Paren, held: InParens<Pat<X>>) -> Pat<X>
+    ensures { result ≡ reading.of_parens paren_token held }
+{
+    match held {
+        InParens::One(pat) => Pat::Paren(PatParenOf {
+            attrs: Items::new(alloc),
+            paren_token,
+            pat,
+        }),
+        InParens::Elements(elems) => Pat::Tuple(PatTupleOf {
+            attrs: Items::new(alloc),
+            paren_token,
+            elems,
+        }),
+    }
+}
+
+impl<
+    'a,
+    X: Subtree,
+    F: Fn(Global, PhantomData<Pat<X>>, &mut ParseStream<'_>, PatPlace) -> Result<Pat<X>, Error>
+        + Copy,
+> Patterns<'a, X, F> {
+    /// Patterns in a place up to the end of their group, joined by commas; one may follow the last.
+    fn elements(
+        &self,
+        input: &mut ParseStream<'_>,
+        place: PatPlace,
+    ) -> Result<Punctuated<Pat<X>, Comma>, Error>
+        requires patterns { Nests (knot.pat X.reads) (length self.now.begin) (F.pre self.now.patterns) (F.post self.now.patterns) }
+        requires few { ahead input.old < length self.now.begin }
+        ensures parses { Parses (reading.elements (knot.pats_below X.reads (length self.now.begin)) place) result input.old input.new }
+    {
+        self.patterns().list(input, place, ToEnd)
+    }
+
+    /// Patterns in parentheses, joined by commas.
+    #[tactic(auto, using(token_core::proofs::Suffixes::follows, syn_forms::proofs::nested_laws::Ahead::later))]
+    pub(crate) fn in_parens(
+        &self,
+        input: &mut ParseStream<'_>,
+    ) -> Result<(Paren, Punctuated<Pat<X>, Comma>), Error>
+        requires patterns { Nests (knot.pat X.reads) (length self.now.begin) (F.pre self.now.patterns) (F.post self.now.patterns) }
+        requires few { ahead input.old ≤ length self.now.begin }
+        ensures parses { Parses (in_parens (reading.elements (knot.pats_below X.reads (length self.now.begin)) LeadingVert)) result input.old input.new }
+    {
+        let (paren_token, mut content) = open_parens(self.alloc, input)?;
+        let elems = self.elements(&mut content, PatPlace::LeadingVert)?;
+        input.finish(content);
+        Ok((paren_token, elems))
+    }
+
+    /// `[a, b, ..]` (syn's `pat_slice`).
+    #[tactic(auto, using(token_core::proofs::Suffixes::follows, syn_forms::proofs::nested_laws::Ahead::later), unfolding(crate::specs::pat::Reading::slice))]
+    pub(crate) fn slice(&self, input: &mut ParseStream<'_>) -> Result<PatSlice<X>, Error>
+        requires patterns { Nests (knot.pat X.reads) (length self.now.begin) (F.pre self.now.patterns) (F.post self.now.patterns) }
+        requires few { ahead input.old ≤ length self.now.begin }
+        ensures parses { Parses (reading.slice (knot.pats_below X.reads (length self.now.begin))) result input.old input.new }
+    {
+        let (bracket_token, mut content) = open_brackets(self.alloc, input)?;
+        let elems = self.elements(&mut content, PatPlace::Element)?;
+        input.finish(content);
+        Ok(PatSliceOf {
+            attrs: Items::new(self.alloc),
+            bracket_token,
+            elems,
+        })
+    }
+
+    /// What parentheses hold: a pattern alone, unless it is `..`, or the elements of a tuple.
+    #[tactic(auto, using(token_core::proofs::Suffixes::follows, syn_forms::proofs::nested_laws::Ahead::later), unfolding(crate::specs::pat::Reading::paren_content))]
+    fn paren_content(&self, input: &mut ParseStream<'_>) -> Result<InParens<Pat<X>>, Error>
+        requires patterns { Nests (knot.pat X.reads) (length self.now.begin) (F.pre self.now.patterns) (F.post self.now.patterns) }
+        requires few { ahead input.old < length self.now.begin }
+        ensures parses { Parses (reading.paren_content (knot.pats_below X.reads (length self.now.begin))) result input.old input.new }
+    {
+        if input.is_empty() {
+            return Ok(InParens::Elements(Punctuated::new(self.alloc)));
+        }
+        let first = self.patterns().value(input, PatPlace::LeadingVert)?;
+        if input.is_empty() & !first.is_rest() {
+            return Ok(InParens::One(Boxed::new(self.alloc, first)?));
+        }
+        let elems = self
+            .patterns()
+            .list_from(input, PatPlace::LeadingVert, ToEnd, first)?;
+        Ok(InParens::Elements(elems))
+    }
+
+    /// `(a)`, `(a, b)` (syn's `pat_paren_or_tuple`).
+    #[tactic(auto, using(token_core::proofs::Suffixes::follows, syn_forms::proofs::nested_laws::Ahead::later), unfolding(crate::specs::pat::Reading::paren_or_tuple))]
+    pub(crate) fn paren_or_tuple(&self, input: &mut ParseStream<'_>) -> Result<Pat<X>, Error>
+        requires patterns { Nests (knot.pat X.reads) (length self.now.begin) (F.pre self.now.patterns) (F.post self.now.patterns) }
+        requires few { ahead input.old ≤ length self.now.begin }
+        ensures parses { Parses (reading.paren_or_tuple (knot.pats_below X.reads (length self.now.begin))) result input.old input.new }
+    {
+        let (paren_token, mut content) = open_parens(self.alloc, input)?;
+        let held = self.paren_content(&mut content)?;
+        input.finish(content);
+        Ok(of_parens(self.alloc, paren_token, held))
+    }
+}

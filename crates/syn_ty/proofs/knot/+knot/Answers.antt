@@ -1,0 +1,19 @@
+use Rattle.std.proofs.Common.{ap, length}
+use Rattle.syn_ty.specs.ty.Points.{a_bound, a_param, a_type, an_argument, some_arguments}
+use Rattle.syn_ty.proofs.knot.+knot.Goals as goal
+use Rattle.syn_ty.proofs.ty_laws.Knot.{told}
+
+pub parse_type-returns : goal.parse_type-returns
+parse_type-returns g t c = record { parses = told g.A.Attributes.reads g.E.Value.reads (a_type c.args.place) _ _ _ _ (ap length c.cursor.ensures) c.type_step.ensures.parses }
+
+pub parse_bound-returns : goal.parse_bound-returns
+parse_bound-returns g t c = record { parses = told g.A.Attributes.reads g.E.Value.reads (a_bound c.args.place) _ _ _ _ (ap length c.cursor.ensures) c.bound_step.ensures.parses }
+
+pub parse_param-returns : goal.parse_param-returns
+parse_param-returns g t c = record { parses = told g.A.Attributes.reads g.E.Value.reads (a_param c.args.place) _ _ _ _ (ap length c.cursor.ensures) c.param_step.ensures.parses }
+
+pub parse_argument-returns : goal.parse_argument-returns
+parse_argument-returns g t c = record { parses = told g.A.Attributes.reads g.E.Value.reads an_argument _ _ _ _ (ap length c.cursor.ensures) c.argument_step.ensures.parses }
+
+pub parse_arguments-returns : goal.parse_arguments-returns
+parse_arguments-returns g t c = record { parses = told g.A.Attributes.reads g.E.Value.reads some_arguments _ _ _ _ (ap length c.cursor.ensures) c.arguments_step.ensures.parses }

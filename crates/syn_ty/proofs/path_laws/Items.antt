@@ -1,0 +1,38 @@
+-- The name of an associated item: by the segment that a path is, and what follows a type that names none.
+use Rattle.std.proofs.Common.{◌≡◌, Bool, true, false, List, [], ◌∷◌, Option, Some, None, Ok, refl}
+use Rattle.std.specs.Prelude.{is_some}
+use Rattle.syn_path.specs.path.Paths.{lone_of}
+use Rattle.syn_path.specs.Values.{ReadValues}
+use Rattle.syn_ty.specs.declared.path.GenericArgumentOf.TheVariants as g
+use Rattle.syn_ty.specs.declared.path.PathArgumentsOf.{out-PathArgumentsOf}
+use Rattle.syn_ty.specs.path.Paths.{Sep}
+use Rattle.syn_ty.specs.path.Reading.{ItemName, generics_layer, with_name, item_of_path, after_item, after_type}
+use Rattle.syn_ty.specs.ty.Points.{Readers}
+use Rattle.syn_ty.specs.ty.Trees.{PathSegment, QSelf, TypeTree}
+use Rattle.token_core.specs.Stream.{Stream}
+use Rattle.token_core.specs.Tokens as token
+
+module _ {A E : Type 0} where
+  abbrev pub name_of : Option (PathSegment A E) → Option (ItemName A E)
+  name_of None = None
+  name_of (Some s) = with_name s.ident (generics_layer (out-PathArgumentsOf A E s.arguments))
+
+  abbrev pub name_in : Option (QSelf A E) → Option (PathSegment A E) → Option (ItemName A E)
+  name_in None o = name_of o
+  name_in (Some q) o = None
+
+  pub item-lone : (q : Option (QSelf A E)) (c : Option Sep) (all : List (PathSegment A E)) → item_of_path q c all ≡ name_in q (lone_of c all)
+  item-lone (Some q) c all = refl
+  item-lone None (Some c) all = refl
+  item-lone None None [] = refl
+  item-lone None None (s ∷ []) = refl
+  item-lone None None (s ∷ t ∷ all) = refl
+
+  -- a type that names no item is an argument
+  pub nameless : (values : ReadValues E) (r : Readers A E) (t : TypeTree A E) (o : Option (ItemName A E)) (s : Stream) → is_some o ≡ false → after_type values r t o s ≡ Ok (g.«Type» t, s)
+  nameless values r t None s h = refl
+  nameless values r t (Some n) s h = cc
+
+pub ruleset items = (item-lone)
+
+pub ruleset nameless_types = (nameless)

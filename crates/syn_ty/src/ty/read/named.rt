@@ -1,0 +1,241 @@
+//! Pointers to functions, and what may follow a binder.
+
+ghost use Rattle.std.specs.Prelude.{◌≡◌, ◌<◌, ◌≤◌, length};
+ghost use Rattle.syn_forms.specs.nested.Below.{Nests, ahead};
+ghost use Rattle.syn_ty.specs.ty.Knot as knot;
+ghost use Rattle.syn_ty.specs.ty.Reading as reading;
+ghost use Rattle.token_core.specs.Reads.{Parses};
+ghost use Rattle.syn_forms.specs.verbatim.Reading as verbatim;
+ghost use Rattle.token_core.specs.Positions.{IsReached};
+
+use crate::generics::{BoundLifetimesOf, GenericParamOf, TypeParamBoundOf};
+use crate::grammar::Grammar;
+use crate::path::PathArgumentsOf;
+use crate::ty::read::parts::{FnInputs, FnPtrParts, NamedArgs, TypeTokens, bare_fn_ptr};
+use crate::ty::read::tokens::{
+    no_bound_type, parse_builtin_type, sees_bindable, sees_builtin, sees_fn_ptr, sees_unsafe_binder,
+};
+use crate::ty::{TypeFnPtrOf, TypeOf};
+use std::alloc::Global;
+use std::marker::PhantomData;
+use syn_forms::heads::parse_fn_head;
+use syn_forms::params::parse_angled_lifetimes;
+use syn_forms::places::{BoundPlace, ParamPlace, TypePlace};
+use syn_forms::tokens::{open_parens, parse_unsafe};
+use syn_forms::verbatim::since;
+use syn_path::path::PathStyle;
+use syn_path::supplied::{Attributes, Value};
+use token_core::{Boxed, Cursor, Error, ParseStream};
+
+/// The place of a type that ends the type which holds it.
+fn last_place(place: TypePlace) -> TypePlace
+    ensures { result ≡ reading.last_place place }
+{
+    match place {
+        TypePlace::Plus => TypePlace::Plus,
+        TypePlace::NoPlus => TypePlace::NoPlus,
+        TypePlace::Bounded => TypePlace::Plus,
+    }
+}
+
+impl<
+    'a,
+    A: Attributes,
+    E: Value,
+    F: Fn(
+        Global,
+        PhantomData<TypeOf<A, E>>,
+        &mut ParseStream<'_>,
+        TypePlace,
+    ) -> Result<TypeOf<A, E>, Error>
+        + Copy,
+    G,
+    H,
+    I,
+    J,
+> Grammar<'a, A, E, F, G, H, I, J> {
+    /// The arguments of a pointer to a function, in parentheses.
+    #[tactic(auto, using(token_core::proofs::Suffixes::follows, syn_forms::proofs::nested_laws::Ahead::later), unfolding(crate::specs::ty::Reading::fn_inputs))]
+    pub(crate) fn fn_ptr_inputs(&self, input: &mut ParseStream<'_>) -> Result<FnInputs<A, E>, Error>
+        requires types { Nests (knot.ty A.reads E.reads) (length self.now.begin) (F.pre self.now.types) (F.post self.now.types) }
+        requires few { ahead input.old ≤ length self.now.begin }
+        ensures parses { Parses (reading.fn_inputs A.reads E.reads (knot.reads_below A.reads E.reads (length self.now.begin))) result input.old input.new }
+        ensures fewer { ahead input.new ≤ ahead input.old }
+    {
+        let (paren_token, mut content) = open_parens(self.alloc, input)?;
+        let held = self
+            .types()
+            .inputs::<A, _, _, _>(&mut content, TypePlace::Plus, NamedArgs, TypeTokens)?;
+        input.finish(content);
+        Ok((paren_token, held))
+    }
+
+    /// A pointer to a function by its parts, after its binder.
+    #[tactic(auto, using(token_core::proofs::Suffixes::follows, syn_forms::proofs::nested_laws::Ahead::later), unfolding(crate::specs::ty::Reading::fn_ptr_parts))]
+    fn fn_ptr_parts(&self, input: &mut ParseStream<'_>) -> Result<FnPtrParts<A, E>, Error>
+        requires types { Nests (knot.ty A.reads E.reads) (length self.now.begin) (F.pre self.now.types) (F.post self.now.types) }
+        requires few { ahead input.old ≤ length self.now.begin }
+        ensures parses { Parses (reading.fn_ptr_parts A.reads E.reads (knot.reads_below A.reads E.reads (length self.now.begin))) result input.old input.new }
+        ensures fewer { ahead input.new ≤ ahead input.old }
+    {
+        // boxed: a refusal then drops each by one call, where its options would be taken apart
+        let head = Boxed::new(self.alloc, parse_fn_head(self.alloc, input)?)?;
+        let inputs = Boxed::new(self.alloc, self.fn_ptr_inputs(input)?)?;
+        let output = self.return_type(input, TypePlace::NoPlus)?;
+        Ok((head.into_inner(), inputs.into_inner(), output))
+    }
+
+    /// A pointer to a function after its binder: `unsafe extern "C" fn(a: A, ...) -> B` (syn's `TypeBareFn`).
+    #[tactic(auto, using(token_core::proofs::Suffixes::follows, syn_forms::proofs::nested_laws::Ahead::later), unfolding(crate::specs::ty::Reading::fn_ptr_after))]
+    pub(crate) fn fn_ptr_after(
+        &self,
+        input: &mut ParseStream<'_>,
+        lifetimes: Option<BoundLifetimesOf<GenericParamOf<A, E>>>,
+    ) -> Result<TypeFnPtrOf<A, E>, Error>
+        requires types { Nests (knot.ty A.reads E.reads) (length self.now.begin) (F.pre self.now.types) (F.post self.now.types) }
+        requires few { ahead input.old ≤ length self.now.begin }
+        ensures parses { Parses (reading.fn_ptr_after A.reads E.reads (knot.reads_below A.reads E.reads (length self.now.begin)) lifetimes) result input.old input.new }
+        ensures fewer { ahead input.new ≤ ahead input.old }
+    {
+        let parts = self.fn_ptr_parts(input)?;
+        Ok(bare_fn_ptr(self.alloc, lifetimes, parts))
+    }
+
+    /// `unsafe<'a> T`: no case holds it, so that it is held as it was written, from a position on.
+    #[tactic(auto, using(token_core::proofs::Suffixes::follows, syn_forms::proofs::nested_laws::Ahead::later, crate::proofs::ty_laws::Kinds::later), unfolding(crate::specs::ty::Reading::unsafe_binder))]
+    pub(crate) fn unsafe_binder(
+        &self,
+        input: &mut ParseStream<'_>,
+        from: &Cursor<'_>,
+        place: TypePlace,
+    ) -> Result<TypeOf<A, E>, Error>
+        requires types { Nests (knot.ty A.reads E.reads) (length self.now.begin) (F.pre self.now.types) (F.post self.now.types) }
+        requires few { ahead input.old ≤ length self.now.begin }
+        requires reached { IsReached (verbatim.position input.old) from.now }
+        ensures parses { Parses (reading.unsafe_binder (knot.reads_below A.reads E.reads (length self.now.begin)) from.now place) result input.old input.new }
+        ensures fewer { ahead input.new ≤ ahead input.old }
+    {
+        parse_unsafe(self.alloc, input)?;
+        parse_angled_lifetimes(self.alloc, input)?;
+        self.types().value(input, last_place(place))?;
+        Ok(TypeOf::Verbatim(since(self.alloc, from, input)?))
+    }
+}
+
+impl<
+    'a,
+    A: Attributes,
+    E: Value,
+    F: Fn(
+        Global,
+        PhantomData<TypeOf<A, E>>,
+        &mut ParseStream<'_>,
+        TypePlace,
+    ) -> Result<TypeOf<A, E>, Error>
+        + Copy,
+    G: Fn(
+        Global,
+        PhantomData<TypeParamBoundOf<A, E>>,
+        &mut ParseStream<'_>,
+        BoundPlace,
+    ) -> Result<TypeParamBoundOf<A, E>, Error>
+        + Copy,
+    H,
+    I,
+    J: Fn(
+        Global,
+        PhantomData<PathArgumentsOf<A, E>>,
+        &mut ParseStream<'_>,
+        (),
+    ) -> Result<PathArgumentsOf<A, E>, Error>
+        + Copy,
+> Grammar<'a, A, E, F, G, H, I, J> {
+    /// A pointer to a function, a path, or tokens that no case holds.
+    #[tactic(auto, using(token_core::proofs::Suffixes::follows, syn_forms::proofs::nested_laws::Ahead::later), unfolding(crate::specs::ty::Reading::named_type))]
+    pub(crate) fn named_type(
+        &self,
+        input: &mut ParseStream<'_>,
+        place: TypePlace,
+        from: &Cursor<'_>,
+        lifetimes: Option<BoundLifetimesOf<GenericParamOf<A, E>>>,
+    ) -> Result<TypeOf<A, E>, Error>
+        requires types { Nests (knot.ty A.reads E.reads) (length self.now.begin) (F.pre self.now.types) (F.post self.now.types) }
+        requires bounds { Nests (knot.bound A.reads E.reads) (length self.now.begin) (G.pre self.now.bounds) (G.post self.now.bounds) }
+        requires segments { Nests (knot.arguments_in A.reads E.reads) (length self.now.begin) (J.pre self.now.segments) (J.post self.now.segments) }
+        requires few { ahead input.old ≤ length self.now.begin }
+        requires reached { IsReached (verbatim.position input.old) from.now }
+        ensures parses { Parses (reading.named_type A.reads E.reads (knot.reads_below A.reads E.reads (length self.now.begin)) place from.now lifetimes) result input.old input.new }
+        ensures fewer { ahead input.new ≤ ahead input.old }
+    {
+        if sees_unsafe_binder(input) {
+            return self.unsafe_binder(input, from, place);
+        }
+        if sees_fn_ptr(input) {
+            return Ok(TypeOf::FnPtr(self.fn_ptr_after(input, lifetimes)?));
+        }
+        if sees_builtin(input) {
+            return parse_builtin_type(self.alloc, input, from);
+        }
+        let (qself, path) = self.maybe_qualified(input, PathStyle::AsWritten)?;
+        self.path_or_object(input, place.allows_plus(), lifetimes, qself, path)
+    }
+}
+
+impl<
+    'a,
+    A: Attributes,
+    E: Value,
+    F: Fn(
+        Global,
+        PhantomData<TypeOf<A, E>>,
+        &mut ParseStream<'_>,
+        TypePlace,
+    ) -> Result<TypeOf<A, E>, Error>
+        + Copy,
+    G: Fn(
+        Global,
+        PhantomData<TypeParamBoundOf<A, E>>,
+        &mut ParseStream<'_>,
+        BoundPlace,
+    ) -> Result<TypeParamBoundOf<A, E>, Error>
+        + Copy,
+    H: Fn(
+        Global,
+        PhantomData<GenericParamOf<A, E>>,
+        &mut ParseStream<'_>,
+        ParamPlace,
+    ) -> Result<GenericParamOf<A, E>, Error>
+        + Copy,
+    I,
+    J: Fn(
+        Global,
+        PhantomData<PathArgumentsOf<A, E>>,
+        &mut ParseStream<'_>,
+        (),
+    ) -> Result<PathArgumentsOf<A, E>, Error>
+        + Copy,
+> Grammar<'a, A, E, F, G, H, I, J> {
+    /// A type after its binder: a pointer to a function, or a trait object that begins with a path.
+    #[tactic(auto, using(token_core::proofs::Suffixes::follows, syn_forms::proofs::nested_laws::Ahead::later, crate::proofs::ty_laws::Kinds::later), unfolding(crate::specs::ty::Reading::bound_type))]
+    pub(crate) fn bound_type(
+        &self,
+        input: &mut ParseStream<'_>,
+        place: TypePlace,
+        from: &Cursor<'_>,
+    ) -> Result<TypeOf<A, E>, Error>
+        requires types { Nests (knot.ty A.reads E.reads) (length self.now.begin) (F.pre self.now.types) (F.post self.now.types) }
+        requires bounds { Nests (knot.bound A.reads E.reads) (length self.now.begin) (G.pre self.now.bounds) (G.post self.now.bounds) }
+        requires params { Nests (knot.param A.reads E.reads) (length self.now.begin) (H.pre self.now.params) (H.post self.now.params) }
+        requires segments { Nests (knot.arguments_in A.reads E.reads) (length self.now.begin) (J.pre self.now.segments) (J.post self.now.segments) }
+        requires few { ahead input.old ≤ length self.now.begin }
+        requires reached { IsReached (verbatim.position input.old) from.now }
+        ensures parses { Parses (reading.bound_type A.reads E.reads (knot.reads_below A.reads E.reads (length self.now.begin)) place from.now) result input.old input.new }
+        ensures fewer { ahead input.new ≤ ahead input.old }
+    {
+        let lifetimes = self.binder(input)?;
+        if sees_bindable(input) {
+            return self.named_type(input, place, from, Some(lifetimes));
+        }
+        Err(no_bound_type(self.alloc, input))
+    }
+}

@@ -1,0 +1,6 @@
+pub mod Held
+pub mod Reading
+pub mod Spelling
+pub mod Likes
+pub mod Again
+pub mod Laws
