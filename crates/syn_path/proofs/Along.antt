@@ -9,7 +9,7 @@ use Rattle.token_core.specs.declared.tree.Delimiter.{Delimiter}
 use Rattle.token_core.specs.declared.tree.Ident.{Ident}
 use Rattle.token_core.specs.Front.{front}
 use Rattle.token_core.specs.Lifetimes.{past_lifetime, read_lifetime}
-use Rattle.token_core.specs.Lits.{past_str, read_str}
+use Rattle.token_core.specs.Lits.{end_of, lit_name, past_lit, past_str, read_lit, read_str}
 use Rattle.token_core.specs.Loops.{size, listed_from, listed}
 use Rattle.token_core.specs.Marks as marks
 use Rattle.token_core.specs.Reads.{Reader, Outcome, Follows, IsSuffix, all_of, ◌>>=◌, ◌<$>◌, as_group, closing, expected, finished}
@@ -21,7 +21,7 @@ use Rattle.token_core.proofs.Suffixes.{first-first, follows_past, follows_self, 
 use Rattle.token_core.proofs.Took.{branch}
 use Rattle.token_core.proofs.Turns.{chain, same_pair}
 use Rattle.token_core.proofs.lifetime_laws.{suffix_lifetime}
-use Rattle.token_core.proofs.lit_laws.{suffix_str}
+use Rattle.token_core.proofs.lit_laws.{suffix_lit, suffix_str}
 use Rattle.syn_path.specs.Took.{Along}
 
 -- ---- what is put together
@@ -84,6 +84,10 @@ named {n = n} = made (λ (i : Ident). marks.word_of n i.span) (word _ _)
 pub lifetime : Along read_lifetime
 unfolding read_lifetime
 lifetime s t x e = went (λ (z : Lifetime). z.ident.span) _ s t x (past_lifetime s.rest) (λ p g. suffix_lifetime s.rest p g) e
+
+pub literal : Along read_lit
+unfolding read_lit
+literal s t x e = went end_of (expected lit_name s) s t x (past_lit s.rest) (λ p g. suffix_lit s.rest p g) e
 
 pub string : Along read_str
 unfolding read_str

@@ -8,20 +8,22 @@ use Rattle.token_core.specs.Loops.{size}
 use Rattle.token_core.specs.Reads.{Reader, ident_name, in_group, is_ident, leaves, read_word, sees_group, sees_word}
 use Rattle.token_core.specs.Rebuilt.{Visible}
 use Rattle.token_core.specs.Stream.{Stream}
-use Rattle.token_core.specs.Toks.{Toks, word}
+use Rattle.token_core.specs.Toks.{Toks, done, word as a_word_tok, mark as a_mark_tok, lit, group, enter, leave}
 use Rattle.token_core.proofs.LitSpells.{lit_sound, lit_visible}
 use Rattle.token_core.proofs.Took.{branch, mapped, took_word}
 use Rattle.token_core.proofs.Turns.{chain, same_pair}
 use Rattle.syn_path.specs.declared.supplied.Place.{Place}
 use Rattle.syn_path.specs.declared.supplied.Place.TheVariants.{Block}
-use Rattle.syn_path.specs.Took.{TookOne}
+use Rattle.syn_path.specs.Lengths.{AttributeLaws, ConstLaws, begins_const}
+use Rattle.syn_path.specs.Took.{Along, TookOne}
+use Rattle.syn_path.proofs.Along.{bind, either, in_group_along, literal as read_literal, made, mark, refused, stays, word}
 use Rattle.syn_path.proofs.Groups.{IsHeld, held_sound}
 use Rattle.syn_attr.specs.attr.Attrs.{Attribute, block_of, literal}
-use Rattle.syn_attr.specs.attr.Reading.{block, const_argument, many, many_from, one_outer, outer, word_expr}
+use Rattle.syn_attr.specs.attr.Reading.{block, const_argument, content, many, many_from, one_outer, outer, word_expr}
 use Rattle.syn_attr.specs.attr.Spelling.{AreAll, IsConst, a_lone_literal, a_block, IsConstDefault, a_const, a_word, IsOuter}
 use Rattle.syn_attr.specs.declared.expr.Expr.{Expr}
 use Rattle.syn_attr.specs.declared.expr.Expr.TheVariants as e
-use Rattle.syn_attr.proofs.attr_laws.Sound.{many_sound, one_outer_sound}
+use Rattle.syn_attr.specs.attr.Sound.{many_sound, one_outer_sound}
 use Rattle.token_core.specs.Tokens as token
 
 -- ---- values one after the other
@@ -45,6 +47,24 @@ module _ {A : Type 0} (Is : A → Toks → Toks → Type 0) (goes : Toks → Boo
     seen = from_seen (suc (size s.rest)) s t all v h;
     spelt = λ n. (many_sound Is goes one sound s t all v h n).spelt;
   }
+
+-- ---- braces and words
+
+-- of two truths the second, where the first is none
+second_true : (b c : Bool) → b ≡ false → b || c ≡ true → c ≡ true
+second_true true c h g = cc h
+second_true false c h g = g
+
+-- no word stands where a group does
+no_word : (l : Toks) → sees_word is_ident l ≡ true → sees_group Brace l ≡ true → ⊥
+unfolding sees_word sees_group
+no_word done h g = cc h
+no_word (a_word_tok i r) h g = cc g
+no_word (a_mark_tok p r) h g = cc h
+no_word (lit x r) h g = cc h
+no_word (group d s c r) h g = cc h
+no_word (enter s r) h g = no_word r h g
+no_word (leave r) h g = cc h
 
 -- ---- over the law of a supplied subtree
 
@@ -96,3 +116,57 @@ module _ {X : Type 0} (reads : Place → Reader X) (spells : Place → X → Tok
           ]
         ]
       ]
+
+-- ---- reads that stand further on
+
+module _ {A : Type 0} (goes : Toks → Bool) {one : Reader A} (h : Along one) where
+  from_along : (n : ℕ) → Along (many_from goes one n)
+  from_along zero = refused _
+  from_along (suc n) = either _ (bind h (λ x. bind (from_along n) (λ l. stays _))) (stays _)
+
+  many_along : Along (many goes one)
+  unfolding many
+  many_along s t x e = from_along (suc (size s.rest)) s t x e
+
+module _ {X : Type 0} (reads : Place → Reader X) where
+  content_along : Along (content reads)
+  unfolding content
+  content_along = made _ (in_group_along _ _ _)
+
+  one_outer_along : Along (one_outer reads)
+  unfolding one_outer
+  one_outer_along = bind mark (λ p. bind content_along (λ c. stays _))
+
+  pub outer_along : Along (outer reads)
+  outer_along = many_along token.sees_pound one_outer_along
+
+  block_along : Along (block reads)
+  unfolding block
+  block_along = made _ (in_group_along _ _ _)
+
+  pub const_along : Along (const_argument reads)
+  unfolding const_argument
+  const_along = either _ (made _ read_literal) (either _ (made _ (word _ _)) (either _ block_along (refused _)))
+
+-- ---- what types ask
+
+module _ {X : Type 0} (reads : Place → Reader X) (spells : Place → X → Toks → Type 0) (sound : (p : Place) (s t : Stream) (x : X) → reads p s ≡ Ok (x, t) → leaves t ≡ None → spells p x s.rest) where
+  argument_took : (s t : Stream) (x : Expr X) → Visible s.rest → begins_const s.rest ≡ true → const_argument reads s ≡ Ok (x, t) → TookOne (IsConst spells) s t x
+  unfolding const_argument
+  argument_took s t x v g h =
+      elim (branch (sees_lit s.rest) _ _ s (Ok (x, t)) h) [
+        | inl b ↦ literal_took reads spells sound s t x v b.1
+        | inr b ↦ elim (branch (sees_word is_ident s.rest) _ _ s (Ok (x, t)) b.1) [
+          | inl c ↦ absurd (no_word s.rest c.0 (second_true (sees_lit s.rest) _ b.0 g))
+          | inr c ↦ elim (branch (sees_group Brace s.rest) _ _ s (Ok (x, t)) c.1) [
+            | inl d ↦ block_took reads spells sound s t x v d.1
+            | inr d ↦ cc d.1
+          ]
+        ]
+      ]
+
+  pub attributes_told : AttributeLaws (outer reads) (λ clear. AreAll (IsOuter spells clear))
+  attributes_told = record { took = outer_took reads spells sound; along = outer_along reads }
+
+  pub consts_told : ConstLaws (const_argument reads) (λ clear. IsConst spells) (λ clear. IsConstDefault spells)
+  consts_told = record { took_argument = argument_took; took_default = default_took reads spells sound; along = const_along reads }
