@@ -1,5 +1,5 @@
 -- Where a bound is read in its place, it is spelt by the rules of the whole grammar: a lifetime, a capture, or a trait bound, also in parentheses; what has a `const` form is held verbatim.
-use Rattle.std.proofs.Common.{◌≡◌, Bool, true, false, not, Option, Some, None, Ok, inl, inr, refl, sym, ◌∙◌, ap, subst, arith}
+use Rattle.std.proofs.Common.{◌≡◌, Bool, true, false, not, [], ◌∷◌, Option, Some, None, Ok, inl, inr, refl, sym, ◌∙◌, ap, subst, arith}
 use Rattle.token_core.specs.declared.error.ErrorKind.TheVariants.{CaptureNotAllowed}
 use Rattle.token_core.specs.declared.span.DelimSpan.{DelimSpan}
 use Rattle.token_core.specs.declared.token.Paren.{Paren}
@@ -27,7 +27,7 @@ use Rattle.syn_forms.specs.groups.Reading.{in_brackets, in_parens}
 use Rattle.syn_forms.specs.lists.Reading.{list}
 use Rattle.syn_forms.specs.paths.Reading.{is_named_word}
 use Rattle.syn_forms.specs.places.Reading.{allows_const, allows_capture}
-use Rattle.syn_forms.specs.tokens.Choices.{none_of}
+use Rattle.syn_forms.specs.tokens.Choices.{none_of, a_gt, a_lifetime, an_ident}
 use Rattle.syn_forms.specs.verbatim.Reading.{position, refuse_since, since}
 use Rattle.syn_forms.proofs.tokens_laws.Fronts.{took_as, took_whole}
 use Rattle.syn_ty.specs.declared.generics.CapturedParam.{CapturedParam}
@@ -78,11 +78,11 @@ captured_or_took other never s t x v e =
 
 pub captured_took : (s t : Stream) (x : CapturedParam) → Visible s.rest → reading.captured s ≡ Ok (x, t) → TookOne IsCaptured s t x
 unfolding reading.captured
-captured_took s t x v e = captured_or_took _ (λ a d y i. cc i) s t x v e
+captured_took s t x v e = captured_or_took (none_of (a_lifetime ∷ an_ident ∷ [])) (λ a d y i. cc i) s t x v e
 
 listed_took : (s t : Stream) (x : CapturedParam) → Visible s.rest → listed_captured s ≡ Ok (x, t) → TookOne IsCaptured s t x
 unfolding listed_captured
-listed_took s t x v e = captured_or_took _ (λ a d y i. cc i) s t x v e
+listed_took s t x v e = captured_or_took (none_of (a_lifetime ∷ an_ident ∷ a_gt ∷ [])) (λ a d y i. cc i) s t x v e
 
 is_comma : (s t : Stream) (x : token.Comma) → captured_comma s ≡ Ok (x, t) → token.comma s ≡ Ok (x, t)
 unfolding captured_comma
@@ -306,7 +306,7 @@ module _ {A E : Type 0} (r : Readers A E) (part : Manner → Parts A E) (h : Hel
                 kept_took s d.rest t d.value x v (none_follows (allows_const place) s d.rest d.value d.was) (trait_in_took (allows_const place) s d.rest d.value v d.was) d.goes
           ]
 
-      pub capture_in_place_took : (s t : Stream) (x : Bound) → Visible s.rest → reading.capture_in_place place s ≡ Ok (x, t) → TookOne Of s t x
+      pub capture_in_place_took : (s t : Stream) (x : Bound) → Visible s.rest → reading.capture_in_place r place s ≡ Ok (x, t) → TookOne Of s t x
       unfolding reading.capture_in_place
       capture_in_place_took s t x v e =
           let d = chain (reading.capture s) _ x t e in

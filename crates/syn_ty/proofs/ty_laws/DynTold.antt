@@ -1,5 +1,5 @@
 -- Where a type that begins with `dyn` or `impl` is read, with plus or without, it is spelt by the rules of the whole grammar; `dyn *` is held verbatim.
-use Rattle.std.proofs.Common.{◌≡◌, Bool, true, false, [], ◌∷◌, Option, Some, None, Ok, inl, inr, refl, subst}
+use Rattle.std.proofs.Common.{◌≡◌, Bool, true, false, [], ◌∷◌, Option, Some, None, Ok, inl, inr, refl, subst, arith}
 use Rattle.std.specs.List.{list_any}
 use Rattle.token_core.specs.declared.error.ErrorKind.TheVariants.{NoTraitInImpl}
 use Rattle.token_core.specs.declared.span.Span.{Span}
