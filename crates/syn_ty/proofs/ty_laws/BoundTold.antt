@@ -10,7 +10,7 @@ use Rattle.token_core.specs.Groups as groups
 use Rattle.token_core.specs.Lifetimes.{sees_lifetime, read_lifetime}
 use Rattle.token_core.specs.Listed.{AreListed, Anywhere}
 use Rattle.token_core.specs.Loops.{Many}
-use Rattle.token_core.specs.Reads.{Reader, ◌>>=◌, ◌<$>◌, Follows, any_text, here, ident_name, in_group, leaves, pure, read_word, sees_group, sees_word}
+use Rattle.token_core.specs.Reads.{Reader, ◌>>=◌, Follows, any_text, here, ident_name, in_group, leaves, pure, read_word, sees_group, sees_word}
 use Rattle.token_core.specs.Rebuilt.{Visible}
 use Rattle.token_core.specs.Spellings.{IsMark, IsWord, IsLifetime}
 use Rattle.token_core.specs.Stream.{Stream}

@@ -6,7 +6,6 @@ use Rattle.token_core.specs.declared.span.Span.{Span}
 use Rattle.token_core.specs.declared.tree.TokenStream.{TokenStream}
 use Rattle.token_core.specs.Listed.{AfterMark}
 use Rattle.token_core.specs.Loops.{Many, listed}
-use Rattle.token_core.specs.Positions.{Item}
 use Rattle.token_core.specs.Reads.{Reader, ◌>>=◌, Follows, here, pure}
 use Rattle.token_core.specs.Rebuilt.{Visible}
 use Rattle.token_core.specs.Spellings.{IsMark, IsWord}

@@ -4,7 +4,7 @@ use Rattle.std.specs.List.{list_any}
 use Rattle.token_core.specs.declared.error.ErrorKind.TheVariants.{NoTraitInObject}
 use Rattle.token_core.specs.declared.lifetime.Lifetime.{Lifetime}
 use Rattle.token_core.specs.declared.span.Span.{Span}
-use Rattle.token_core.specs.Lifetimes.{sees_lifetime, read_lifetime}
+use Rattle.token_core.specs.Lifetimes.{read_lifetime}
 use Rattle.token_core.specs.Listed.{AfterMark}
 use Rattle.token_core.specs.Loops.{Many, listed}
 use Rattle.token_core.specs.Reads.{Reader, ◌>>=◌, here, pure}
