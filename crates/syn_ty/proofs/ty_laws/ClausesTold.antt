@@ -1,13 +1,12 @@
 -- Where generics, predicates and where clauses are read, they are spelt by the rules of the whole grammar: over the reads of what they hold, and by themselves.
-use Rattle.std.proofs.Common.{◌≡◌, ◌<◌, ◌≤◌, Bool, true, false, not, ◌&&◌, ◌||◌, List, [], Option, None, Some, Ok, inl, inr, refl, sym, ◌∙◌, ap, subst, arith}
-use Rattle.token_core.specs.declared.error.ErrorKind.TheVariants.{GenericsOnWhere}
+use Rattle.std.proofs.Common.{◌≡◌, ◌<◌, ◌≤◌, Bool, true, false, not, ◌&&◌, ◌||◌, List, Option, None, Some, Ok, inl, inr, refl, sym, ◌∙◌, ap, subst, arith}
 use Rattle.token_core.specs.declared.lifetime.Lifetime.{Lifetime}
 use Rattle.token_core.specs.Lifetimes.{read_lifetime, sees_lifetime}
 use Rattle.token_core.specs.Listed.{AreListed, Anywhere}
 use Rattle.token_core.specs.Loops.{Many}
-use Rattle.token_core.specs.Reads.{Reader, ◌>>=◌, ◌<$>◌, any_text, is_done, is_ident, optional, pure, refuse, second, sees_group, sees_mark, sees_word, third}
+use Rattle.token_core.specs.Reads.{Reader, any_text, is_done, optional, second, sees_group, sees_mark, sees_word, third}
 use Rattle.token_core.specs.Rebuilt.{Visible}
-use Rattle.token_core.specs.Spellings.{IsMark, IsWord, IsLifetime}
+use Rattle.token_core.specs.Spellings.{IsMark, IsLifetime}
 use Rattle.token_core.specs.Stream.{Stream}
 use Rattle.token_core.specs.Tokens as token
 use Rattle.token_core.specs.Toks.{Toks, done, word, mark, lit, group, enter, leave}
@@ -33,7 +32,7 @@ use Rattle.syn_ty.specs.declared.generics.WherePredicateOf.{WherePredicateOf}
 use Rattle.syn_ty.specs.declared.generics.WherePredicateOf.TheVariants as w
 use Rattle.syn_ty.specs.generics.Alone as alone
 use Rattle.syn_ty.specs.generics.Bounds.{IsFor}
-use Rattle.syn_ty.specs.generics.Clauses.{begins_as_generics, IsLifetimePredicate, a_lifetime_predicate, AreBoundsOf, bounds_of, IsTypePredicate, a_type_predicate, a_type_predicate_for, IsPredicate, of_lifetime, of_type, IsWhereClause, a_where_clause}
+use Rattle.syn_ty.specs.generics.Clauses.{begins_as_generics, IsLifetimePredicate, a_lifetime_predicate, bounds_of, IsTypePredicate, a_type_predicate, a_type_predicate_for, IsPredicate, of_lifetime, of_type, IsWhereClause, a_where_clause}
 use Rattle.syn_ty.specs.generics.Declared as declared
 use Rattle.syn_ty.specs.generics.Declared.{lifetime_after, predicate_after, predicate_bounds, sees_first_param, sees_generics, sees_lifetime_predicate, type_after}
 use Rattle.syn_ty.specs.generics.Parameters.{AreGenerics, no_generics, some_generics}
@@ -41,12 +40,12 @@ use Rattle.syn_ty.specs.generics.Params.{empty, generics_of, predicate_lifetime_
 use Rattle.syn_ty.specs.generics.Reading.{binder, optional_binder, sees_ident}
 use Rattle.syn_ty.specs.ty.Knot.{reads_below, ty}
 use Rattle.syn_ty.specs.ty.Parts.{Manner, loosely, Parts}
-use Rattle.syn_ty.specs.ty.Points.{Readers, a_bound, a_param}
+use Rattle.syn_ty.specs.ty.Points.{Readers, a_param}
 use Rattle.syn_ty.specs.ty.Spelling.{IsOptional, absent, present}
 use Rattle.syn_ty.specs.ty.Trees.{BoundLifetimes, GenericParam, TypeParamBound, TypeTree}
 use Rattle.syn_ty.proofs.ty_laws.AnglesTold.{IsAngled, angled_took}
-use Rattle.syn_ty.proofs.ty_laws.ParamsTold.{After, AreLives, AreParamBounds, colon_took, list_took, lives_took, mark_took, optional_for_took, param_bounds_took, with_attrs}
-use Rattle.syn_ty.proofs.ty_laws.Sound.{life_sound, named_sound, optional_sound}
+use Rattle.syn_ty.proofs.ty_laws.ParamsTold.{After, HeldBelow, AreLives, AreParamBounds, colon_took, list_took, lives_took, mark_took, optional_for_took, param_bounds_took, with_attrs}
+use Rattle.syn_ty.proofs.ty_laws.Sound.{life_sound, named_sound}
 use Rattle.syn_ty.proofs.ty_laws.Told.{Told, unseen}
 use Rattle.syn_ty.proofs.ty_laws.Within.{Along, Held, Supplied}
 
@@ -176,11 +175,7 @@ module _ {A E : Type 0} (type : Reader (TypeTree A E)) (r : Readers A E) (part :
     -- the attributes end where the type is asked after the binder
     pub asked_took : (s t : Stream) (x : WherePredicateOf A E) → ((a : List A) (u : Stream) → attrs s ≡ Ok (a, u) → Reached u) → Visible s.rest → declared.predicate attrs type r s ≡ Ok (x, t) → TookOne (IsPredicate part loosely) s t x
     unfolding declared.predicate
-    asked_took s t x at v e =
-        let c = chain (attrs s) (predicate_after type r) x t e in
-        let k = took_attrs s c.rest c.value v c.was in
-        let q = predicate_after_took c.value c.rest t x (at c.value c.rest c.was) k.seen c.goes in
-        record { left = λ n. k.left (q.left n); seen = q.seen; spelt = λ n. q.spelt n s.rest (k.spelt (q.left n)) }
+    asked_took s t x at v e = with_attrs attrs part took_attrs (IsPredicate part loosely) (predicate_after type r) s t x (λ a u i. predicate_after_took a u t x (at a u i)) v e
 
 -- where the law of the type holds everywhere
 module _ {A E : Type 0} (attrs : Reader (List A)) (values : ReadValues E) (type : Reader (TypeTree A E)) (r : Readers A E) (part : Manner → Parts A E) (h : Held r part) (f : Supplied attrs values part)
@@ -261,7 +256,7 @@ module _ {A E : Type 0} (attrs : Reader (List A)) (values : ReadValues E) (part 
   abbrev Below : Stream → Readers A E
   Below s = reads_below attrs values (ahead s)
 
-  pub generics_alone_took : (s t : Stream) (x : GenericsOf A E) → Held (Below s) part → Visible s.rest → alone.generics attrs values s ≡ Ok (x, t) → TookOne (AreGenerics part loosely) s t x
+  pub generics_alone_took : (s t : Stream) (x : GenericsOf A E) → HeldBelow attrs values part s → Visible s.rest → alone.generics attrs values s ≡ Ok (x, t) → TookOne (AreGenerics part loosely) s t x
   unfolding alone.generics
   generics_alone_took s t x h v e = generics_took (Below s) part h s t x v e
 
@@ -275,7 +270,7 @@ module _ {A E : Type 0} (attrs : Reader (List A)) (values : ReadValues E) (part 
       let n = ahead_follows u z (k u z o j) in
       omega (arith, m, n)
 
-  pub predicate_alone_took : (s t : Stream) (x : WherePredicateOf A E) → Held (Below s) part → Supplied attrs values part → Along (optional_binder (Below s)) → TypesTold s → Visible s.rest → alone.predicate attrs values s ≡ Ok (x, t) →
+  pub predicate_alone_took : (s t : Stream) (x : WherePredicateOf A E) → HeldBelow attrs values part s → Supplied attrs values part → Along (optional_binder (Below s)) → TypesTold s → Visible s.rest → alone.predicate attrs values s ≡ Ok (x, t) →
       TookOne (IsPredicate part loosely) s t x
   unfolding alone.predicate
   predicate_alone_took s t x h f k took v e =

@@ -7,7 +7,7 @@ use Rattle.token_core.specs.Lifetimes.{read_lifetime, sees_lifetime}
 use Rattle.token_core.specs.Listed.{AreListed, Anywhere}
 use Rattle.token_core.specs.Loops.{Many}
 use Rattle.token_core.specs.Marks as marks
-use Rattle.token_core.specs.Reads.{Reader, ◌>>=◌, ◌<$>◌, any_text, ident_name, is_done, is_ident, is_text, optional, pure, read_word, sees_mark, sees_word}
+use Rattle.token_core.specs.Reads.{Reader, ◌>>=◌, ◌<$>◌, any_text, ident_name, is_done, is_ident, is_text, optional, read_word, sees_mark, sees_word}
 use Rattle.token_core.specs.Rebuilt.{Visible}
 use Rattle.token_core.specs.Spellings.{IsMark, IsWord, IsLifetime}
 use Rattle.token_core.specs.Stream.{Stream}
@@ -24,6 +24,7 @@ use Rattle.syn_forms.specs.declared.places.ParamPlace.{ParamPlace}
 use Rattle.syn_forms.specs.declared.places.ParamPlace.TheVariants.{Binder, Generics}
 use Rattle.syn_forms.specs.declared.places.TypePlace.TheVariants.{Plus}
 use Rattle.syn_forms.specs.lists.Reading.{bounds_to, list}
+use Rattle.syn_forms.specs.nested.Below.{ahead}
 use Rattle.syn_forms.specs.params.Reading as parts
 use Rattle.syn_forms.specs.params.Reading.{LifetimeParts, TypeParts, ConstParts, bounds_after, default_of, ends_lifetime, ends_type}
 use Rattle.syn_forms.proofs.tokens_laws.Fronts.{plainly, took_as}
@@ -34,6 +35,8 @@ use Rattle.syn_ty.specs.generics.Parameters.{IsGiven, given, AreLifetimes, IsLif
 use Rattle.syn_ty.specs.generics.Params.{const_param_of, lifetime_param_of, type_param_of}
 use Rattle.syn_ty.specs.generics.Reading as reading
 use Rattle.syn_ty.specs.generics.Reading.{binder, lifetime_after, optional_binder, param_after, param_step, sees_ident, type_after, const_after, in_binder, in_generics, underscore_after}
+use Rattle.syn_ty.specs.ty.Knot as knot
+use Rattle.syn_ty.specs.ty.Knot.{reads_below}
 use Rattle.syn_ty.specs.ty.Parts.{Manner, loosely, Parts}
 use Rattle.syn_ty.specs.ty.Points.{Readers, a_bound, a_type}
 use Rattle.syn_ty.specs.ty.Spelling.{Relation, IsOptional, absent, present}
@@ -181,12 +184,12 @@ module _ {A E : Type 0} (part : Manner → Parts A E) where
   After a Is x m r = (l : Toks) → (part loosely).attrs a l m → Is x l r
 
 module _ {A E : Type 0} (attrs : Reader (List A)) (part : Manner → Parts A E) (took_attrs : (s t : Stream) (x : List A) → Visible s.rest → attrs s ≡ Ok (x, t) → TookOne (part loosely).attrs s t x) where
-  pub with_attrs : {F : Type 0} (Is : Relation F) (form : List A → Reader F) → ((a : List A) (s t : Stream) (x : F) → Visible s.rest → form a s ≡ Ok (x, t) → TookOne (After part a Is) s t x) →
-      (s t : Stream) (x : F) → Visible s.rest → (attrs >>= form) s ≡ Ok (x, t) → TookOne Is s t x
-  with_attrs Is form took s t x v e =
+  pub with_attrs : {F : Type 0} (Is : Relation F) (form : List A → Reader F) (s t : Stream) (x : F) →
+      ((a : List A) (u : Stream) → attrs s ≡ Ok (a, u) → Visible u.rest → form a u ≡ Ok (x, t) → TookOne (After part a Is) u t x) → Visible s.rest → (attrs >>= form) s ≡ Ok (x, t) → TookOne Is s t x
+  with_attrs Is form s t x took v e =
       let c = chain (attrs s) form x t e in
       let k = took_attrs s c.rest c.value v c.was in
-      let w = took c.value c.rest t x k.seen c.goes in
+      let w = took c.value c.rest c.was k.seen c.goes in
       record { left = λ n. k.left (w.left n); seen = w.seen; spelt = λ n. w.spelt n s.rest (k.spelt (w.left n)) }
 
   -- ---- lifetimes
@@ -224,7 +227,7 @@ module _ {A E : Type 0} (attrs : Reader (List A)) (part : Manner → Parts A E) 
   -- by themselves
   pub lifetime_param_took : (s t : Stream) (x : LifetimeParamOf A) → Visible s.rest → reading.lifetime_param attrs s ≡ Ok (x, t) → TookOne (IsLifetimeParam part loosely) s t x
   unfolding reading.lifetime_param
-  lifetime_param_took s t x v e = with_attrs (IsLifetimeParam part loosely) (lifetime_after attrs) lifetime_after_took s t x v e
+  lifetime_param_took s t x v e = with_attrs (IsLifetimeParam part loosely) (lifetime_after attrs) s t x (λ a u i. lifetime_after_took a u t x) v e
 
 -- ---- types and constants
 
@@ -284,7 +287,7 @@ module _ {A E : Type 0} (attrs : Reader (List A)) (values : ReadValues E) (r : R
 
   pub type_param_took : (s t : Stream) (x : TypeParam A E) → Visible s.rest → reading.type_param attrs values r s ≡ Ok (x, t) → TookOne (IsTypeParam part loosely) s t x
   unfolding reading.type_param
-  type_param_took s t x v e = with_attrs attrs part f.attrs_took (IsTypeParam part loosely) (type_after attrs values r) type_after_took s t x v e
+  type_param_took s t x v e = with_attrs attrs part f.attrs_took (IsTypeParam part loosely) (type_after attrs values r) s t x (λ a u i. type_after_took a u t x) v e
 
   -- constants
 
@@ -332,7 +335,7 @@ module _ {A E : Type 0} (attrs : Reader (List A)) (values : ReadValues E) (r : R
 
   pub const_param_took : (s t : Stream) (x : ConstParam A E) → Visible s.rest → reading.const_param attrs values r s ≡ Ok (x, t) → TookOne (IsConstParam part loosely) s t x
   unfolding reading.const_param
-  const_param_took s t x v e = with_attrs attrs part f.attrs_took (IsConstParam part loosely) (const_after attrs values r) const_after_took s t x v e
+  const_param_took s t x v e = with_attrs attrs part f.attrs_took (IsConstParam part loosely) (const_after attrs values r) s t x (λ a u i. const_after_took a u t x) v e
 
   -- ---- a parameter in its place
 
@@ -404,7 +407,7 @@ module _ {A E : Type 0} (attrs : Reader (List A)) (values : ReadValues E) (r : R
   -- a turn of the knot
   pub param_took : (place : ParamPlace) (s t : Stream) (x : Param) → Visible s.rest → param_step attrs values r place s ≡ Ok (x, t) → TookOne (IsParam part loosely place) s t x
   unfolding param_step
-  param_took place s t x v e = with_attrs attrs part f.attrs_took (IsParam part loosely place) (param_after attrs values r place) (param_after_took place) s t x v e
+  param_took place s t x v e = with_attrs attrs part f.attrs_took (IsParam part loosely place) (param_after attrs values r place) s t x (λ a u i. param_after_took place a u t x) v e
 
 -- ---- binders
 
@@ -414,3 +417,25 @@ module _ {A E : Type 0} (r : Readers A E) (part : Manner → Parts A E) (h : Hel
 
   pub optional_for_took : (s t : Stream) (o : Option (BoundLifetimes A E)) → Visible s.rest → optional_binder r s ≡ Ok (o, t) → TookOne (IsOptional (IsFor part loosely)) s t o
   optional_for_took s t o v e = binders.optional_took r ((part loosely).param Binder) (h.param Binder) s t o v e
+
+-- ---- by themselves: what they hold is read by the knot, further on
+
+module _ {A E : Type 0} (attrs : Reader (List A)) (values : ReadValues E) (part : Manner → Parts A E) where
+  abbrev pub HeldBelow : Stream → Type 0
+  HeldBelow s = Held (reads_below attrs values (ahead s)) part
+
+  pub type_param_alone_took : (s t : Stream) (x : TypeParam A E) → HeldBelow s → Supplied attrs values part → Visible s.rest → knot.type_param attrs values s ≡ Ok (x, t) → TookOne (IsTypeParam part loosely) s t x
+  unfolding knot.type_param
+  type_param_alone_took s t x h f v e = type_param_took attrs values (reads_below attrs values (ahead s)) part h f s t x v e
+
+  pub const_param_alone_took : (s t : Stream) (x : ConstParam A E) → HeldBelow s → Supplied attrs values part → Visible s.rest → knot.const_param attrs values s ≡ Ok (x, t) → TookOne (IsConstParam part loosely) s t x
+  unfolding knot.const_param
+  const_param_alone_took s t x h f v e = const_param_took attrs values (reads_below attrs values (ahead s)) part h f s t x v e
+
+  pub for_alone_took : (s t : Stream) (x : BoundLifetimes A E) → HeldBelow s → Visible s.rest → knot.binder attrs values s ≡ Ok (x, t) → TookOne (IsFor part loosely) s t x
+  unfolding knot.binder
+  for_alone_took s t x h v e = for_took (reads_below attrs values (ahead s)) part h s t x v e
+
+  pub optional_for_alone_took : (s t : Stream) (o : Option (BoundLifetimes A E)) → HeldBelow s → Visible s.rest → knot.optional_binder attrs values s ≡ Ok (o, t) → TookOne (IsOptional (IsFor part loosely)) s t o
+  unfolding knot.optional_binder
+  optional_for_alone_took s t o h v e = optional_for_took (reads_below attrs values (ahead s)) part h s t o v e
