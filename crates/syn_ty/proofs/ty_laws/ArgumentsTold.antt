@@ -85,7 +85,7 @@ module _ {A E : Type 0} (part : Manner → Parts A E) where
     no_name n o h i = cc
 
     same_name : (n m : Name) (o : Option Name) (l r : Toks) → o ≡ Some m → o ≡ Some n → Item m l r → Item n l r
-    same_name n m o l r h i w = let same : m ≡ n = ap (λ z. z) (cc) in subst (λ z. Item z l r) same w
+    same_name n m o l r h i w = let same : m ≡ n = cc in subst (λ z. Item z l r) same w
 
     abbrev named : Ident → PathArguments A E → Option Name
     named i x = with_name i (generics_layer (out-PathArgumentsOf A E x))

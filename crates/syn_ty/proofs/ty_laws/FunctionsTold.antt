@@ -248,7 +248,7 @@ module _ {A E : Type 0} (part : Manner → Parts A E) where
   Argument = IsNamedArg part loosely
 
   -- after any attributes it is an argument
-  Bare : Bool → Named → Toks → Toks → Type 0
+  pub Bare : Bool → Named → Toks → Toks → Type 0
   Bare first x m r = (a : List A) (l : Toks) → (part loosely).attrs a l m → Argument first (named_arg_of a x.0 x.1) l r
 
   bare_at : (first : Bool) (n : Name) (x : Tree) (l m r : Toks) → IsNamed (is_argument_name first) n l m → TypeHere x m r → Bare first (n, x) l r
@@ -363,7 +363,7 @@ module _ {A E : Type 0} (part : Manner → Parts A E) where
       named_at : (n : Name) (u : token.Mut) (w : token.SelfValue) (l m k r : Toks) → IsNamed (is_argument_name true) n l m → is_other n ≡ true → sees_mut_self l ≡ false → sees_mut_self m ≡ true → IsWord u m k → IsWord w k r →
           IsMutSelf part loosely l r
       named_at n u w l m k r no_name h a b i j = both (sees_mut_self l) b a
-      named_at n u w l m k r (a_name {i = y} h c) g a b i j = named_mut_self (other_name _ _ _ h g) c i j
+      named_at n u w l m k r (a_name {i = y} h c) g a b i j = named_mut_self (other_name (is_ident y.text) (is_text token.underscore_text y.text) (is_text token.self_value_text y.text) h g) c i j
 
       named_took : (s t : Stream) (x : Named) → Visible s.rest → sees_mut_self s.rest ≡ false → inputs.named_argument value form.Verbatim s ≡ Ok (x, t) → TookOne (Bare true) s t x
       unfolding inputs.named_argument
@@ -463,7 +463,7 @@ module _ {A E : Type 0} (attrs : Reader (List A)) (values : ReadValues E) (r : R
   abbrev reads : ℕ → Bool → Reader All
   reads = inputs.inputs_from named_arg_of attrs (r (a_type Plus)) form.Verbatim
 
-  abbrev make : List A → Named → Arg
+  abbrev make : List A → Named part → Arg
   make a x = named_arg_of a x.0 x.1
 
   from_took : (n : ℕ) (first : Bool) (s t : Stream) (x : All) → Visible s.rest → reads n first s ≡ Ok (x, t) → TookOne (Of first) s t x
@@ -482,7 +482,7 @@ module _ {A E : Type 0} (attrs : Reader (List A)) (values : ReadValues E) (r : R
                   record {
                     left = λ i. k.left (w.left i);
                     seen = w.seen;
-                    spelt = λ i. subst (λ u. Of first u s.rest t.rest) d.is (s.rest, no_further, c.rest.rest, k.spelt (w.left i), w.spelt i);
+                    spelt = λ i. subst (λ u. Of first u s.rest t.rest) d.is (s.rest, no_further, (c.rest.rest, k.spelt (w.left i), w.spelt i));
                   }
               | inr z ↦ let d = chain (inputs.argument (r (a_type Plus)) form.Verbatim first c.rest) _ x t z.1 in
                   let w = argument_took part (r (a_type Plus)) (h.ty Plus) (h.along (a_type Plus)) first c.rest d.rest d.value k.seen d.was in
