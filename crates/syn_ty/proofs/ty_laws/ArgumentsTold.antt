@@ -7,7 +7,7 @@ use Rattle.token_core.specs.Front.{front}
 use Rattle.token_core.specs.Lifetimes.{read_lifetime}
 use Rattle.token_core.specs.Listed.{none_left, last_value, value_and_mark, Anywhere, Nowhere}
 use Rattle.token_core.specs.Loops.{Many, listed, listed_from, never, size}
-use Rattle.token_core.specs.Reads.{Reader, any_text, as_punct, as_word, is_last, leaves, past_mark, past_next, sees_mark, sees_word, word_meets}
+use Rattle.token_core.specs.Reads.{Reader, any_text, as_punct, as_word, is_ident, is_last, is_text, leaves, past_mark, past_next, sees_mark, sees_word, word_meets}
 use Rattle.token_core.specs.Rebuilt.{Visible}
 use Rattle.token_core.specs.Spellings.{IsMark, IsLifetime}
 use Rattle.token_core.specs.Stream.{Stream}
@@ -40,6 +40,7 @@ use Rattle.syn_ty.specs.ty.Parts.{Manner, loosely, End, Parts}
 use Rattle.syn_ty.specs.ty.Points.{Readers, a_bound, a_type}
 use Rattle.syn_ty.specs.ty.Spelling.{IsOptional, absent, present}
 use Rattle.syn_ty.specs.ty.Trees.{AngleBracketed, GenericArgument, Path, PathArguments, PathSegment, QSelf, TypeParamBound, TypeTree}
+use Rattle.syn_ty.specs.ty.Types.{qualified_with}
 use Rattle.syn_ty.proofs.ty_laws.BoundsTold.{bounds_took}
 use Rattle.syn_ty.proofs.ty_laws.Sound.{life_sound}
 use Rattle.syn_ty.proofs.ty_laws.Told.{Told, both}
@@ -58,7 +59,7 @@ mod_of false false false false false t h n = both t h n
 
 mod_word : (i : Ident) (r : Toks) → is_segment_word i.text ≡ true → token.sees_try (word i r) ≡ false → is_mod_word i.text ≡ true
 unfolding sees_word
-mod_word i r h n = mod_of _ _ _ _ _ _ h n
+mod_word i r h n = mod_of (is_ident i.text) (is_text token.self_type_text i.text) (is_text token.super_text i.text) (is_text token.self_value_text i.text) (is_text token.crate_text i.text) (is_text token.try_text i.text) h n
 
 module _ {A E : Type 0} (part : Manner → Parts A E) where
   abbrev Tree : Type 0
@@ -108,9 +109,13 @@ module _ {A E : Type 0} (part : Manner → Parts A E) where
     in_path n q p l r (unqualified (a_path absent (value_and_mark i j (value_and_mark w u z)))) t h = cc h
     in_path n q p l r (qualified i) t h = cc h
 
+    -- what a type that is a path names is what the path does
+    path_names : (q : Option (QSelf A E)) (p : Path A E) → item_of (form.Path (qualified_with [] q p)) ≡ item_of_path q p.leading_colon p.segments.0
+    path_names q p = ap item_layer (form.outs-Path (qualified_with [] q p)) ∙ ap (item_of_path_layer {A = A} {E = E}) (out-roll-TypePathOf A E (record { attrs = []; qself = q; path = p }))
+
     -- a type that names an item spells its name
     pub item_told : (e : End) (x : Tree) (n : Name) (l r : Toks) → First e x l r → item_of x ≡ Some n → Item n l r
-    item_told e x n l r (a_path_type {o = q} {p = p} i) h = in_path n q p l r i.0 i.1 (sym (ap item_layer (form.outs-Path _) ∙ ap item_of_path_layer (out-roll-TypePathOf A E _)) ∙ h)
+    item_told e x n l r (a_path_type {o = q} {p = p} i) h = in_path n q p l r i.0 i.1 (sym (path_names q p) ∙ h)
     item_told e x n l r (a_macro i) h = no_name n (item_of x) (ap item_layer (form.outs-Macro _)) h
     item_told e x n l r (a_bound_macro i j w) h = no_name n (item_of x) (ap item_layer (form.outs-Macro _)) h
     item_told e x n l r (an_object_with_dyn i) h = no_name n (item_of x) (ap item_layer (form.outs-TraitObject _)) h
@@ -233,7 +238,7 @@ module _ {A E : Type 0} (values : ReadValues E) (r : Readers A E) (part : Manner
         ]
 
     -- after `:`
-    constraint_took : (n : Name part) (q : token.Colon) (l m : Toks) (s t : Stream) (x : GenericArgument A E) → Visible s.rest → constraint r n.0 n.1 q s ≡ Ok (x, t) → Further (Item part n l m × IsMark false q m s.rest) x l s t
+    constraint_took : (n : Name part) (q : token.Colon) (l m : Toks) (s t : Stream) (x : GenericArgument A E) → Visible s.rest → constraint values r n.0 n.1 q s ≡ Ok (x, t) → Further (Item part n l m × IsMark false q m s.rest) x l s t
     constraint_took n q l m s t x v e =
         let of : Bounds → GenericArgument A E = λ z. k.Constraint (constraint_of n.0 n.1 q z) in
         let c = mapped (bounds_to Bound ends_constraint s) of x t e in
@@ -257,7 +262,7 @@ module _ {A E : Type 0} (values : ReadValues E) (r : Readers A E) (part : Manner
               let w = assoc_took n c.value l s.rest c.rest t x (mark_visible false {n = 11} {k = 1} c.value s.rest c.rest.rest m.spelt v) c.goes in
               (λ h. sym m.left ∙ w.0 h, w.1, λ h u. w.2 h (name u, m.spelt))
           | inr z ↦ elim (branch (token.sees_colon s.rest) _ _ s (Ok (x, t)) z.1) [
-            | inl u ↦ let c = chain (token.colon s) (constraint r n.0 n.1) x t u.1 in
+            | inl u ↦ let c = chain (token.colon s) (constraint values r n.0 n.1) x t u.1 in
                 let m = mark_sound {n = 7} {k = 1} refl (omega arith) s c.rest c.value v c.was in
                 let w = constraint_took n c.value l s.rest c.rest t x (mark_visible false {n = 7} {k = 1} c.value s.rest c.rest.rest m.spelt v) c.goes in
                 (λ h. sym m.left ∙ w.0 h, w.1, λ h i. w.2 h (name i, m.spelt))
