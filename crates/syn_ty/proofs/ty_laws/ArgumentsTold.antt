@@ -1,7 +1,6 @@
 -- Where a generic argument is read, it is spelt by the rules of the whole grammar, over the law of the type that may begin it; and one that is all of a list is spelt as an argument alone.
 use Rattle.std.specs.Prelude.{is_some}
-use Rattle.std.proofs.Common.{◌≡◌, ℕ, zero, suc, Bool, true, false, not, ◌||◌, if◌then◌else◌, List, [], ◌∷◌, Option, Some, None, Ok, inl, inr, refl, sym, ◌∙◌, ap, subst, arith}
-use Rattle.token_core.specs.declared.lifetime.Lifetime.{Lifetime}
+use Rattle.std.proofs.Common.{◌≡◌, ℕ, zero, suc, Bool, true, false, ◌||◌, List, [], ◌∷◌, Option, Some, None, Ok, inl, inr, refl, sym, ◌∙◌, ap, subst, arith}
 use Rattle.token_core.specs.declared.tree.Ident.{Ident}
 use Rattle.token_core.specs.Front.{front}
 use Rattle.token_core.specs.Lifetimes.{read_lifetime}
@@ -15,7 +14,7 @@ use Rattle.token_core.specs.Tokens as token
 use Rattle.token_core.specs.Toks.{Toks, done, word, mark, lit, group, enter, leave}
 use Rattle.token_core.proofs.MarkSpells.{mark_sound, mark_visible}
 use Rattle.token_core.proofs.Steps.{chosen, link}
-use Rattle.token_core.proofs.Took.{branch, mapped, seen_word, took_all}
+use Rattle.token_core.proofs.Took.{branch, mapped, took_all}
 use Rattle.token_core.proofs.Turns.{chain, same_pair}
 use Rattle.syn_path.proofs.Words.{TookOne}
 use Rattle.syn_path.specs.declared.path.PathStyle.TheVariants.{AsWritten}
@@ -32,13 +31,13 @@ use Rattle.syn_ty.specs.declared.ty.TypeOf.TheVariants as form
 use Rattle.syn_ty.specs.declared.ty.TypePathOf.{out-roll-TypePathOf}
 use Rattle.syn_ty.specs.generics.Bounds.{AreBounds}
 use Rattle.syn_ty.specs.path.Arguments.{ArgumentPlace, alone, between_angles, ConstraintEnds, IsItemName, an_item, an_item_with_arguments, IsArgument, a_lifetime_argument, a_type_argument, a_const_argument, an_assoc_type, an_assoc_const, a_constraint}
-use Rattle.syn_ty.specs.path.Paths.{Sep, assoc_const_of, assoc_type_of, constraint_of}
-use Rattle.syn_ty.specs.path.Reading.{ItemName, after_item, after_type, argument_step, assoc, constraint, ends_constraint, generics_layer, item_layer, item_of, item_of_path, item_of_path_layer, item_of_segments, sees_const, sees_lone_lifetime, with_name}
-use Rattle.syn_ty.specs.path.Spelling.{is_segment_word, IsSegment, a_word, a_word_with_arguments, IsPath, a_path, IsAnyPath, unqualified, qualified}
+use Rattle.syn_ty.specs.path.Paths.{assoc_const_of, assoc_type_of, constraint_of}
+use Rattle.syn_ty.specs.path.Reading.{ItemName, after_item, after_type, argument_step, assoc, constraint, ends_constraint, generics_layer, item_layer, item_of, item_of_path, item_of_path_layer, sees_const, sees_lone_lifetime, with_name}
+use Rattle.syn_ty.specs.path.Spelling.{is_segment_word, IsArguments, some_arguments, IsSegment, a_word, a_word_with_arguments, a_path, IsAnyPath, unqualified, qualified}
 use Rattle.syn_ty.specs.ty.Admitted.{IsType, a_path_type, a_macro, a_bound_macro, an_object_with_dyn, an_object_without_dyn, an_impl_type, a_fn_type, a_ptr_type, a_reference_type, a_paren_type, a_tuple_type, a_slice_type, an_array_type, an_infer_type, a_never_type, a_verbatim_type}
 use Rattle.syn_ty.specs.ty.Parts.{Manner, loosely, End, Parts}
 use Rattle.syn_ty.specs.ty.Points.{Readers, a_bound, a_type}
-use Rattle.syn_ty.specs.ty.Spelling.{IsOptional, absent, present}
+use Rattle.syn_ty.specs.ty.Spelling.{absent, present}
 use Rattle.syn_ty.specs.ty.Trees.{AngleBracketed, GenericArgument, Path, PathArguments, PathSegment, QSelf, TypeParamBound, TypeTree}
 use Rattle.syn_ty.specs.ty.Types.{qualified_with}
 use Rattle.syn_ty.proofs.ty_laws.BoundsTold.{bounds_took}
@@ -132,6 +131,10 @@ module _ {A E : Type 0} (part : Manner → Parts A E) where
     item_told e x n l r (a_never_type i) h = no_name n (item_of x) (ap item_layer (form.outs-Never _)) h
     item_told e x n l r (a_verbatim_type i j) h = no_name n (item_of x) (ap item_layer (form.outs-Verbatim _)) h
 
+-- by the rules, arguments of a segment stand in angle brackets
+pub in_angles : {A E : Type 0} (part : Manner → Parts A E) (x : PathArguments A E) (l r : Toks) → IsArguments part loosely x l r → (y : AngleBracketed A E) × (x ≡ a.AngleBracketed y)
+in_angles part x l r (some_arguments {x = y} i) = (y, refl)
+
 -- ---- lists that stop at nothing
 
 -- where a list that stops at a test ends before what the test does not see, it never stopped
@@ -186,7 +189,7 @@ abbrev pub Stands : ArgumentPlace → Toks → Type 0
 Stands alone l = ends_constraint l ≡ false
 Stands between_angles l = Unit {0}
 
-module _ {A E : Type 0} (values : ReadValues E) (r : Readers A E) (part : Manner → Parts A E) (attrs : Reader (List A)) (held : Held r part) (supplied : Supplied attrs values part) where
+module _ {A E : Type 0} (attrs : Reader (List A)) (values : ReadValues E) (r : Readers A E) (part : Manner → Parts A E) (held : Held r part) (supplied : Supplied attrs values part) where
   abbrev Bounds : Type 0
   Bounds = Many (TypeParamBound A E) token.Plus
 

@@ -1,9 +1,8 @@
 -- Where a pointer to a function is read, it is spelt by the rules of the whole grammar: its head, its arguments, of which the first may be about `mut self` and is then held verbatim, and its output; and so is an argument by itself.
 use Rattle.std.proofs.lemmas.Slice.Eq.{bytes_eq-Decides}
 use Rattle.std.specs.Prelude.{option_map}
-use Rattle.std.proofs.Common.{◌≡◌, ℕ, zero, suc, Bool, true, false, not, ◌&&◌, ◌||◌, if◌then◌else◌, List, [], ◌∷◌, Option, Some, None, Ok, Err, inl, inr, refl, sym, ◌∙◌, ap, subst, arith}
+use Rattle.std.proofs.Common.{◌≡◌, ℕ, zero, suc, Bool, true, false, not, ◌&&◌, ◌||◌, if◌then◌else◌, List, ◌∷◌, Option, Some, None, Ok, Err, inl, inr, refl, sym, ◌∙◌, ap, subst, arith}
 use Rattle.token_core.specs.declared.lit.LitStr.{LitStr}
-use Rattle.token_core.specs.declared.mark.Mark.{Mark}
 use Rattle.token_core.specs.declared.mark.Spans.{Spans}
 use Rattle.token_core.specs.declared.span.DelimSpan.{DelimSpan}
 use Rattle.token_core.specs.declared.token.Paren.{Paren}
@@ -42,7 +41,6 @@ use Rattle.syn_forms.specs.inputs.Reading.{Name, sees_ident_or_underscore, sees_
 use Rattle.syn_forms.specs.verbatim.Reading.{position, since}
 use Rattle.syn_forms.proofs.tokens_laws.Fronts.{nothing_left, plainly, took_as}
 use Rattle.syn_ty.specs.declared.ty.Abi.{Abi}
-use Rattle.syn_ty.specs.declared.ty.FnPtrVariadicOf.{FnPtrVariadicOf}
 use Rattle.syn_ty.specs.declared.ty.TypeOf.TheVariants as form
 use Rattle.syn_ty.specs.generics.Bounds.{IsFor}
 use Rattle.syn_ty.specs.generics.Reading.{optional_binder}
@@ -58,7 +56,7 @@ use Rattle.syn_ty.specs.ty.Types.{named_arg_of}
 use Rattle.syn_ty.proofs.generics_laws.Sound.{optional_took}
 use Rattle.syn_ty.proofs.ty_laws.HeldTold.{holds_since}
 use Rattle.syn_ty.proofs.ty_laws.PathsTold.{and_first}
-use Rattle.syn_ty.proofs.ty_laws.Sound.{IsHeld, comma_seen, comma_took, held_sound, named_sound, optional_sound}
+use Rattle.syn_ty.proofs.ty_laws.Sound.{IsHeld, held_sound, named_sound, optional_sound}
 use Rattle.syn_ty.proofs.ty_laws.Told.{Told, both, output_took}
 use Rattle.syn_ty.proofs.ty_laws.Within.{Along, Held, Supplied}
 
@@ -522,7 +520,7 @@ module _ {A E : Type 0} (attrs : Reader (List A)) (values : ReadValues E) (r : R
   all_at w None l q = plain_inputs q
   all_at w (Some d) l q = variadic_inputs q.1 (variadic_at d.0 d.1.0 d.1.1 d.1.2 q.0 q.2.0 q.2.2.0 q.2.2.1 q.2.1 q.2.2.2 q.2.2.3 q.2.2.4)
 
-  all_sound : (s t : Stream) (x : All) → Visible s.rest → inputs.inputs named_arg_of attrs (r (a_type Plus)) form.Verbatim s ≡ Ok (x, t) → leaves t ≡ None → HoldsAll x s.rest
+  pub all_sound : (s t : Stream) (x : All) → Visible s.rest → inputs.inputs named_arg_of attrs (r (a_type Plus)) form.Verbatim s ≡ Ok (x, t) → leaves t ≡ None → HoldsAll x s.rest
   unfolding inputs.inputs
   all_sound s t x v e n =
       let w = from_took (suc (size s.rest)) true s t x v e in
