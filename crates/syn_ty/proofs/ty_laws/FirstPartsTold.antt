@@ -78,11 +78,12 @@ module _ {A E : Type 0} (part : Manner → Parts A E) where
   -- ---- a bound in parentheses
 
   held_is : (s : DelimSpan) (o : For) (q : Option token.Question) (p : Path A E) → b.Trait (held_bound (groups.paren s) (trait_bound_of None o (record {}) q p)) ≡ in_parens s o q p
-  held_is s o q p = ap (λ z. b.Trait (params.held_layer (groups.paren s) z)) (out-roll-TraitBoundOf A E _)
+  held_is s o q p = ap (λ z. b.Trait (params.held_layer (groups.paren s) z)) (out-roll-TraitBoundOf A E (record { paren_token = None; lifetimes = o; modifiers = record {}; maybe = q; path = p }))
 
   -- also where it stood in parentheses before
   held_again : (s i : DelimSpan) (o : For) (q : Option token.Question) (p : Path A E) → b.Trait (held_bound (groups.paren s) (trait_bound_of (Some (groups.paren i)) o (record {}) q p)) ≡ in_parens s o q p
-  held_again s i o q p = ap (λ z. b.Trait (params.held_layer (groups.paren s) z)) (out-roll-TraitBoundOf A E _)
+  held_again s i o q p =
+      ap (λ z. b.Trait (params.held_layer (groups.paren s) z)) (out-roll-TraitBoundOf A E (record { paren_token = Some (groups.paren i); lifetimes = o; modifiers = record {}; maybe = q; path = p }))
 
   -- `?` and a path, and the bound that they are in parentheses
   pub record Asked (s : DelimSpan) (y : Bound) (c : Toks) : Type 0 where
@@ -113,10 +114,11 @@ module _ {A E : Type 0} (part : Manner → Parts A E) where
   never o y h k = cc (sym k ∙ h)
 
   path_is : (s : DelimSpan) (p : Path A E) → first_bound (groups.paren s) (v.Path (qualified_with [] None p)) ≡ Some (in_parens s None None p)
-  path_is s p = kinds.first-Path A E (groups.paren s) (qualified_with [] None p) ∙ ap (unqualified_layer (groups.paren s)) (out-roll-TypePathOf A E _) ∙ ap Some (held_is s None None p)
+  path_is s p =
+      kinds.first-Path A E (groups.paren s) (qualified_with [] None p) ∙ ap (unqualified_layer (groups.paren s)) (out-roll-TypePathOf A E (record { attrs = []; qself = None; path = p })) ∙ ap Some (held_is s None None p)
 
   qualified_is : (s : DelimSpan) (q : QSelf A E) (p : Path A E) → first_bound (groups.paren s) (v.Path (qualified_with [] (Some q) p)) ≡ None
-  qualified_is s q p = kinds.first-Path A E (groups.paren s) (qualified_with [] (Some q) p) ∙ ap (unqualified_layer (groups.paren s)) (out-roll-TypePathOf A E _)
+  qualified_is s q p = kinds.first-Path A E (groups.paren s) (qualified_with [] (Some q) p) ∙ ap (unqualified_layer (groups.paren s)) (out-roll-TypePathOf A E (record { attrs = []; qself = Some q; path = p }))
 
   path_starts : (s : DelimSpan) (o : Option (QSelf A E)) (p : Path A E) (c : Toks) (y : Bound) → IsAnyPath part loosely AsWritten o p c done → token.sees_try c ≡ false → first_bound (groups.paren s) (v.Path (qualified_with [] o p)) ≡ Some y → Starts s y c
   path_starts s o p c y (unqualified i) w h = moved s (in_parens s None None p) y c (sym (path_is s p) ∙ h) (starts_held (a_first i w))

@@ -1,5 +1,5 @@
 -- Where an array, a slice or a tuple is read, it is spelt by the rules of the whole grammar: what its group holds, over the same law of types and of lengths.
-use Rattle.std.proofs.Common.{◌≡◌, Bool, List, None, Ok, inl, inr, refl, sym, ◌∙◌, ap, subst, arith}
+use Rattle.std.proofs.Common.{◌≡◌, Bool, true, false, List, [], ◌∷◌, None, Ok, inl, inr, refl, sym, ◌∙◌, ap, subst, arith}
 use Rattle.token_core.specs.declared.span.DelimSpan.{DelimSpan}
 use Rattle.token_core.specs.declared.tree.Delimiter.TheVariants.{Parenthesis, Bracket}
 use Rattle.token_core.specs.Groups as groups

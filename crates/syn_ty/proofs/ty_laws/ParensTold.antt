@@ -142,7 +142,7 @@ module _ {A E : Type 0} (r : Readers A E) (part over : Manner → Parts A E) (h 
 
     -- ---- a type in parentheses
 
-    tuple_at : (g : DelimSpan) (w : _) (l m : Toks) → Before g (held.Elements w) l m → Over (v.Tuple (tuple_of (groups.paren g) w)) l m
+    tuple_at : (g : DelimSpan) (w : Many Tree token.Comma) (l m : Toks) → Before g (held.Elements w) l m → Over (v.Tuple (tuple_of (groups.paren g) w)) l m
     unfolding IsContent
     tuple_at g w l m i =
         over_is (v.Tuple (tuple_of (groups.paren g) w)) l m (closed, a_tuple_type (tupled_at r part h NoLifetime g w i.content l m i.is i.holds.0 i.holds.1), never_open, never_open)

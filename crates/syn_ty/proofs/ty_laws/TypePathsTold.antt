@@ -82,13 +82,13 @@ module _ {A E : Type 0} (r : Readers A E) (part : Manner → Parts A E) (h : Hel
     call_at (Some y) p k m n x (a_first_for {m = q} j i w c) f = (closed, a_bound_macro j (f q i, w) c, never_open, never_open)
 
     call_took : (l : For) (p : Path A E) (k : Toks) (s t : Stream) (x : Tree) → Visible s.rest → is_mod_style p ≡ true → reading.macro_after p s ≡ Ok (x, t) → Onward (First l p k s.rest) (Of x k t.rest) s t
-    call_took l p k s t x u mod e =
+    call_took l p k s t x u bare e =
         let f = mapped (macs.call_after (without nothing p) s) (λ (m : Macro). v.Macro (macro_type_of m)) x t e in
         let w = call_seen (without nothing p) s t f.value u f.was in (
           λ n. sym w.0 ∙ n,
           w.1,
           λ n i. subst (λ z. Of z k t.rest) f.is
-              (call_at l p k s.rest t.rest f.value i (λ q j. (call_sound is_segment_word (without nothing p) q s t f.value (bare_path part some p q s.rest j mod) u f.was).0)),
+              (call_at l p k s.rest t.rest f.value i (λ q j. (call_sound is_segment_word (without nothing p) q s t f.value (bare_path part some p q s.rest j bare) u f.was).0)),
         )
 
     -- ---- trait objects

@@ -221,6 +221,10 @@ module _ {A E : Type 0} (attrs : Reader (List A)) (values : ReadValues E) (r : R
         ]
       ]
 
+  fits_bound : (m : Toks) → sees_bindable m ≡ true → begins_named m ≡ true
+  unfolding begins_named
+  fits_bound m n = or_first _ _ n
+
   -- after a binder
   bound_took : (s t : Stream) (x : Tree) → Visible s.rest → reading.bound_type attrs values r place (position s) s ≡ Ok (x, t) → TookOne Of s t x
   unfolding reading.bound_type
@@ -228,14 +232,10 @@ module _ {A E : Type 0} (attrs : Reader (List A)) (values : ReadValues E) (r : R
       let c = chain (binder r s) _ x t e in
       let k = binder_took r ((part loosely).param Binder) (h.param Binder) s c.rest c.value u c.was in
       elim (branch (sees_bindable c.rest.rest) _ _ c.rest (Ok (x, t)) c.goes) [
-        | inl y ↦ let q = named_type_took (Some c.value) s c.rest t x u (binder_along s c.rest c.value c.was) k.seen (named_first c.rest.rest y.0, λ n. y.0) y.1 in
+        | inl y ↦ let q = named_type_took (Some c.value) s c.rest t x u (binder_along s c.rest c.value c.was) k.seen (fits_bound c.rest.rest y.0, λ n. y.0) y.1 in
             record { left = λ n. k.left (q.0 n); seen = q.1; spelt = λ n. q.2 n (present (k.spelt (q.0 n))) }
         | inr y ↦ cc (y.1)
       ]
-    where
-      named_first : (m : Toks) → sees_bindable m ≡ true → begins_named m ≡ true
-      unfolding begins_named
-      named_first m n = or_first _ _ n
 
   -- ---- all of them
 

@@ -1,5 +1,6 @@
 -- Where a type is held as it was written, its tokens are those of a form without a case: what begins with `unsafe` and lifetimes, or with `builtin #`, perhaps after a binder.
-use Rattle.std.proofs.Common.{◌≡◌, true, ◌&&◌, List, Option, None, Ok, refl, sym, ◌∙◌, ap, subst, arith}
+use Rattle.std.proofs.Common.{◌≡◌, true, false, ◌&&◌, List, Option, None, Ok, refl, sym, ◌∙◌, ap, subst, arith}
+use Rattle.token_core.specs.declared.lifetime.Lifetime.{Lifetime}
 use Rattle.token_core.specs.declared.span.DelimSpan.{DelimSpan}
 use Rattle.token_core.specs.declared.tree.Delimiter.TheVariants.{Parenthesis}
 use Rattle.token_core.specs.declared.tree.Ident.{Ident}
@@ -8,7 +9,7 @@ use Rattle.token_core.specs.Cut.{between}
 use Rattle.token_core.specs.Groups as groups
 use Rattle.token_core.specs.Lifetimes.{read_lifetime}
 use Rattle.token_core.specs.Positions.{Item}
-use Rattle.token_core.specs.Reads.{Follows, ◌<$>◌, and_then, any_text, builtin_text, closing, finished, ident_name, is_ident, is_text, open_group, pure, read_word, sees_word}
+use Rattle.token_core.specs.Reads.{Follows, Outcome, Reader, ◌<$>◌, and_then, any_text, builtin_text, closing, finished, ident_name, is_ident, is_text, open_group, read_word, sees_word}
 use Rattle.token_core.specs.Rebuilt.{Visible}
 use Rattle.token_core.specs.Spellings.{IsMark, IsWord, IsLifetime}
 use Rattle.token_core.specs.Stream.{Stream}
@@ -64,7 +65,10 @@ record Builtin (l m : Toks) : Type 0 where
 group_opened : (s t : Stream) (g : DelimSpan × Stream) → Visible s.rest → open_group Parenthesis groups.paren_name s ≡ Ok (g, t) → (c : Toks) × (s.rest ≡ group Parenthesis g.0 c t.rest)
 unfolding finished
 group_opened s t g u e =
-    let k = took_inside Parenthesis groups.paren_name (pure tt) s (finished g.1 t) (g.0, tt) u (ap (λ o. and_then o (λ (y : DelimSpan × Stream). λ (z : Stream). closing y.0 z (Ok (tt, y.1)))) e) in
+    let p : Reader (Unit {0}) = λ z. Ok (tt, z) in
+    let goes : Outcome (DelimSpan × Stream) → Outcome (DelimSpan × Unit {0}) = λ o. and_then o (λ (y : DelimSpan × Stream). λ (z : Stream). closing y.0 z (p y.1)) in
+    let x : DelimSpan × Unit {0} = (g.0, tt) in
+    let k = took_inside Parenthesis groups.paren_name p s (finished g.1 t) x u (ap goes e) in
     (k.content, k.is)
 
 builtin_took : (s t : Stream) (n : Unit {0}) → Visible s.rest → sees_builtin s.rest ≡ true → reading.builtin s ≡ Ok (n, t) → Builtin s.rest t.rest × Visible t.rest
@@ -129,10 +133,10 @@ module _ {A E : Type 0} (r : Readers A E) (part : Manner → Parts A E) (h : Hel
 
   -- ---- `unsafe`, lifetimes between angle marks, and a type
 
-  abbrev Lifetimes : heads.Angled _ → Toks → Toks → Type 0
+  abbrev Lifetimes : heads.Angled Lifetime → Toks → Toks → Type 0
   Lifetimes = IsAngled IsLifetime read_lifetime life_sound
 
-  unsafe_at : (l : For) (w : token.Unsafe) (y : heads.Angled _) (z : Tree) (k m n j i : Toks) (x : TokenStream) → IsPerhapsFor l k m → IsWord w m n → Lifetimes y n j → Told ((part loosely).ty (last_place place)) z j i → Holds x k i →
+  unsafe_at : (l : For) (w : token.Unsafe) (y : heads.Angled Lifetime) (z : Tree) (k m n j i : Toks) (x : TokenStream) → IsPerhapsFor l k m → IsWord w m n → Lifetimes y n j → Told ((part loosely).ty (last_place place)) z j i → Holds x k i →
       Of (v.Verbatim x) k i
   unsafe_at l w y z k m n j i x o a b c d = (c.0, a_verbatim_type (an_unsafe_binder o a b.2 b.3 b.4 c.1) d, c.2, c.3)
 
