@@ -1,5 +1,5 @@
 -- Where bounds go on after a first one that was read before, what follows it is spelt: nothing, where no `+` stands, or a `+` and further bounds, up to where they may end.
-use Rattle.std.proofs.Common.{◌≡◌, Bool, true, false, [], ◌∷◌, None, Ok, ◌⊎◌, inl, inr, refl, sym, ◌∙◌, subst, arith}
+use Rattle.std.proofs.Common.{◌≡◌, Bool, true, false, [], ◌∷◌, None, Ok, ◌⊎◌, inl, inr, refl, sym, ◌∙◌, arith}
 use Rattle.token_core.specs.Loops.{Many, listed}
 use Rattle.token_core.specs.Reads.{any_text, sees_word}
 use Rattle.token_core.specs.Rebuilt.{Visible}

@@ -1,5 +1,5 @@
 -- Where an array, a slice or a tuple is read, it is spelt by the rules of the whole grammar: what its group holds, over the same law of types and of lengths.
-use Rattle.std.proofs.Common.{◌≡◌, Bool, true, false, List, [], ◌∷◌, None, Ok, inl, inr, refl, sym, ◌∙◌, ap, subst, arith}
+use Rattle.std.proofs.Common.{◌≡◌, Bool, false, List, None, Ok, inl, inr, refl, sym, ◌∙◌, ap, subst, arith}
 use Rattle.token_core.specs.declared.span.DelimSpan.{DelimSpan}
 use Rattle.token_core.specs.declared.tree.Delimiter.TheVariants.{Parenthesis, Bracket}
 use Rattle.token_core.specs.Groups as groups
@@ -23,7 +23,7 @@ use Rattle.syn_forms.specs.groups.Reading as inner
 use Rattle.syn_forms.specs.groups.Reading.{Length}
 use Rattle.syn_forms.specs.tokens.Reading as tokens
 use Rattle.syn_forms.proofs.tokens_laws.Fronts.{nothing_left, took_as, took_whole}
-use Rattle.syn_ty.specs.ty.Admitted.{IsBracketed, bracketed, IsCounted, counted, IsElement, an_element, IsTupled, no_element, some_elements, IsType, a_slice_type, an_array_type}
+use Rattle.syn_ty.specs.ty.Admitted.{bracketed, IsCounted, counted, IsElement, an_element, IsTupled, no_element, some_elements, IsType, a_slice_type, an_array_type}
 use Rattle.syn_ty.specs.ty.Parts.{Manner, loosely, End, closed, Parts}
 use Rattle.syn_ty.specs.ty.Points.{Readers, a_type}
 use Rattle.syn_ty.specs.ty.Reading as reading

@@ -1,10 +1,8 @@
 -- Where a type begins with a path, perhaps after a binder, it is spelt by the rules of the whole grammar: a path, a macro call, or a trait object that begins with the path.
 use Rattle.std.proofs.Common.{◌≡◌, Bool, true, false, ◌&&◌, ◌||◌, [], ◌∷◌, Option, Some, None, is_some, Ok, inl, inr, refl, sym, ◌∙◌, ap, subst}
 use Rattle.token_core.specs.Listed.{Anywhere}
-use Rattle.token_core.specs.Loops.{Many}
 use Rattle.token_core.specs.Reads.{Reader, ◌>>=◌}
 use Rattle.token_core.specs.Rebuilt.{Visible}
-use Rattle.token_core.specs.Spellings.{IsMark}
 use Rattle.token_core.specs.Stream.{Stream}
 use Rattle.token_core.specs.Tokens as token
 use Rattle.token_core.specs.Toks.{Toks}
@@ -39,7 +37,7 @@ use Rattle.syn_ty.specs.ty.Trees.{BoundLifetimes, Path, PathArguments, QSelf, Ty
 use Rattle.syn_ty.specs.ty.Types.{macro_type_of, path_type_of, qualified_with}
 use Rattle.syn_ty.proofs.ty_laws.BoundsTold.{word_ends}
 use Rattle.syn_ty.proofs.ty_laws.CallsTold.{and_second, bare_path, call_seen}
-use Rattle.syn_ty.proofs.ty_laws.FirstBoundTold.{Bounds, Further, Lone, Others, first_took}
+use Rattle.syn_ty.proofs.ty_laws.FirstBoundTold.{Bounds, Further, first_took}
 use Rattle.syn_ty.proofs.ty_laws.PathsTold.{path_took}
 use Rattle.syn_ty.proofs.ty_laws.QualifiedTold.{qualified_took}
 use Rattle.syn_ty.proofs.ty_laws.Told.{Told, both, never_open}

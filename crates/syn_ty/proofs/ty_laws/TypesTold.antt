@@ -1,6 +1,6 @@
 -- Where a turn of types is read, what was taken is spelt by the rules of the whole grammar, over the same law of what a type holds.
 use Rattle.std.proofs.lemmas.Slice.Eq.{bytes_eq-Decides}
-use Rattle.std.proofs.Common.{◌≡◌, Bool, true, false, ◌||◌, List, Option, Some, None, is_some, Ok, inl, inr, refl, sym, ◌∙◌, ap, subst}
+use Rattle.std.proofs.Common.{◌≡◌, Bool, true, false, ◌||◌, List, Option, Some, None, is_some, Ok, inl, inr, refl, ap, subst}
 use Rattle.token_core.specs.declared.tree.Delimiter.TheVariants.{Parenthesis, Bracket}
 use Rattle.token_core.specs.Groups.{sees_invisible}
 use Rattle.token_core.specs.Keywords.{is_keyword}
@@ -8,7 +8,7 @@ use Rattle.token_core.specs.Lifetimes.{sees_lifetime}
 use Rattle.token_core.specs.Loops.{Many}
 use Rattle.token_core.specs.Marks.{text_of}
 use Rattle.token_core.specs.Positions.{Item}
-use Rattle.token_core.specs.Reads.{Reader, Follows, ◌>>=◌, is_text, sees_group, sees_mark, sees_word}
+use Rattle.token_core.specs.Reads.{Reader, Follows, is_text, sees_group, sees_mark, sees_word}
 use Rattle.token_core.specs.Rebuilt.{Visible}
 use Rattle.token_core.specs.Stream.{Stream}
 use Rattle.token_core.specs.Tokens as token
@@ -17,7 +17,6 @@ use Rattle.token_core.proofs.Suffixes.{follows_self}
 use Rattle.token_core.proofs.Took.{branch, mapped}
 use Rattle.token_core.proofs.Turns.{chain}
 use Rattle.syn_path.proofs.Words.{TookOne}
-use Rattle.syn_path.specs.declared.path.PathStyle.TheVariants.{AsWritten}
 use Rattle.syn_path.specs.path.Spelling.{is_mod_word}
 use Rattle.syn_path.specs.Values.{ReadValues}
 use Rattle.syn_forms.specs.declared.places.ParamPlace.TheVariants.{Binder}
@@ -26,13 +25,10 @@ use Rattle.syn_forms.specs.declared.places.TypePlace.TheVariants.{Plus}
 use Rattle.syn_forms.specs.places.Reading.{allows_plus}
 use Rattle.syn_forms.specs.verbatim.Reading.{position}
 use Rattle.syn_forms.proofs.tokens_laws.Fronts.{plainly, took_as}
-use Rattle.syn_ty.specs.declared.ty.TypeInferOf.{TypeInferOf}
-use Rattle.syn_ty.specs.declared.ty.TypeNeverOf.{TypeNeverOf}
 use Rattle.syn_ty.specs.declared.ty.TypeOf.TheVariants as v
 use Rattle.syn_ty.specs.generics.Bounds.{IsFor}
 use Rattle.syn_ty.specs.generics.Reading.{binder}
 use Rattle.syn_ty.specs.path.Paths.{is_none}
-use Rattle.syn_ty.specs.path.Reading.{maybe_qualified}
 use Rattle.syn_ty.specs.ty.Admitted.{IsType, IsPointer, IsBorrow, an_impl_type, a_fn_type, a_ptr_type, a_reference_type, an_infer_type, a_never_type, an_object_without_dyn}
 use Rattle.syn_ty.specs.ty.Functions.{IsFnPtr}
 use Rattle.syn_ty.specs.ty.Objects.{AreBareBounds, IsImpl}

@@ -1,5 +1,5 @@
 -- Where a type is held as it was written, its tokens are those of a form without a case: what begins with `unsafe` and lifetimes, or with `builtin #`, perhaps after a binder.
-use Rattle.std.proofs.Common.{◌≡◌, true, false, ◌&&◌, List, Option, None, Ok, refl, sym, ◌∙◌, ap, subst, arith}
+use Rattle.std.proofs.Common.{◌≡◌, true, false, List, Option, None, Ok, refl, sym, ◌∙◌, ap, subst, arith}
 use Rattle.token_core.specs.declared.lifetime.Lifetime.{Lifetime}
 use Rattle.token_core.specs.declared.span.DelimSpan.{DelimSpan}
 use Rattle.token_core.specs.declared.tree.Delimiter.TheVariants.{Parenthesis}
