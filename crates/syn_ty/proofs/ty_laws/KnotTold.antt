@@ -1,5 +1,5 @@
 -- The reads that go back to themselves, tied: what they answer is spelt, by the count of the turns. Over the laws of one turn.
-use Rattle.std.proofs.Common.{◌≡◌, ℕ, zero, suc, ◌<◌, ◌≤◌, ◌==◌, eqb-true, Bool, true, false, List, [], ◌∷◌, None, Some, Ok, refl, sym, ◌∙◌, ap, subst, arith}
+use Rattle.std.proofs.Common.{◌≡◌, ℕ, zero, suc, ◌<◌, ◌≤◌, ◌==◌, eqb-true, Bool, true, false, List, length, None, Some, Ok, refl, sym, ◌∙◌, ap, subst, arith}
 use Rattle.token_core.specs.Listed.{none_left, last_value, value_and_mark}
 use Rattle.token_core.specs.Reads.{Reader, Follows}
 use Rattle.token_core.specs.Rebuilt.{Visible}
@@ -32,6 +32,7 @@ use Rattle.syn_ty.specs.ty.Trees.{AngleBracketed, GenericArgument, GenericParam,
 use Rattle.syn_ty.proofs.ty_laws.Knot.{as_held, enough}
 use Rattle.syn_ty.proofs.ty_laws.SignedTold.{EmptyPair}
 use Rattle.syn_ty.proofs.ty_laws.Told.{Told}
+use Rattle.syn_ty.proofs.ty_laws.ArgumentsTold.{InAngles, in_angles}
 use Rattle.syn_ty.proofs.ty_laws.Within.{Along, Held, Supplied}
 
 module _ {A E : Type 0} (r : Readers A E) (part : Manner → Parts A E) (limit : ℕ) (h : Held r part) where
@@ -73,11 +74,14 @@ module _ {A E : Type 0} (attrs : Reader (List A)) (values : ReadValues E)
   empty_angle : (n : ℕ) (y : AngleBracketed A E) (l k : Toks) → IsAngle (spelt_to shown spelt n) loosely y l k → empty_layer (o.AngleBracketed y) ≡ true → EmptyPair (part n) l k
   unfolding EmptyPair
   empty_angle n y l k (an_angle c i (none_left h) j) e = (_, _, _, _, _, c, i, j)
-  empty_angle n y l k (an_angle c i (last_value w) j) e = absurd (some_there _ e)
-  empty_angle n y l k (an_angle c i (value_and_mark w m v) j) e = absurd (some_there _ e)
+  empty_angle n y l k (an_angle c i (last_value w) j) e = absurd (some_there 0 e)
+  empty_angle n y l k (an_angle c i (value_and_mark {xs = xs} w m v) j) e = absurd (some_there (length xs) e)
 
   pub empty_at : (n : ℕ) (x : PathArguments A E) (l k : Toks) → (part n loosely).arguments x l k → is_empty x ≡ true → EmptyPair (part n) l k
   empty_at n x l k (angle_arguments {x = y} i) e = empty_angle n y l k i (no_argument y e)
+
+  angled : (n : ℕ) → InAngles (part n)
+  angled n x l k i = in_angles (spelt_to shown spelt n) x l k i
 
   pub at_told : (n : ℕ) → Held (read_at attrs values n) (part n)
   at_told zero = record {
@@ -97,7 +101,7 @@ module _ {A E : Type 0} (attrs : Reader (List A)) (values : ReadValues E)
         ty = λ p s t x v e. type_took (r s) (part n) (w s) (supplied n) p s t x v e;
         bound = λ p s t x v e. bound_took (r s) (part n) (w s) p s t x v e;
         param = λ p s t x v e. param_took (r s) (part n) (w s) (supplied n) p s t x v e;
-        argument = λ s t x v e. argument_took (r s) (part n) (w s) (supplied n) s t x v e;
+        argument = λ s t x v e. argument_took (r s) (part n) (w s) (supplied n) (angled n) s t x v e;
         arguments = λ s t x v e. arguments_took (r s) (part n) (w s) s t x v e;
         pair = empty_at (suc n);
         along = along (suc n);
