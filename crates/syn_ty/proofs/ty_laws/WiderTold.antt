@@ -1,5 +1,5 @@
 -- Where wider relations tell what a form holds, the form is told by them too: so a tree that is spelt at some height is spelt at each further one.
-use Rattle.std.proofs.Common.{◌≡◌, ℕ, zero, suc, Bool, false, List}
+use Rattle.std.proofs.Common.{ℕ, zero, suc, Bool, List}
 use Rattle.token_core.specs.Listed.{AreListed, none_left, last_value, value_and_mark}
 use Rattle.token_core.specs.Toks.{Bytes, Toks}
 use Rattle.syn_path.specs.declared.path.PathStyle.{PathStyle}
