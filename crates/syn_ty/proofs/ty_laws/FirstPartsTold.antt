@@ -23,7 +23,8 @@ use Rattle.syn_ty.specs.generics.Spelling.{a_binder}
 use Rattle.syn_ty.specs.path.Paths.{Sep}
 use Rattle.syn_ty.specs.path.Signed.{AreSigned, IsBoundPath, a_signed, signed_after, signed_last, with_parens, without_parens}
 use Rattle.syn_ty.specs.path.Spelling.{IsAnyPath, IsPath, IsSegment, a_path, a_word, a_word_with_arguments, qualified, unqualified}
-use Rattle.syn_ty.specs.ty.Admitted.{IsType, a_path_type, a_macro, a_bound_macro, an_object_with_dyn, an_object_without_dyn, an_impl_type, a_fn_type, a_ptr_type, a_reference_type, a_paren_type, a_tuple_type, a_slice_type, an_array_type, an_infer_type, a_never_type, a_verbatim_type}
+use Rattle.syn_ty.specs.ty.Admitted.{IsType, a_path_type, a_macro, a_bound_macro, an_object_with_dyn, an_object_without_dyn, an_impl_type, a_fn_type, a_ptr_type}
+use Rattle.syn_ty.specs.ty.Admitted.{a_reference_type, a_paren_type, a_tuple_type, a_slice_type, an_array_type, an_infer_type, a_never_type, a_verbatim_type}
 use Rattle.syn_ty.specs.ty.Objects.{AreBareBounds, AreFurther, IsAsked, IsDyn, IsFirst, a_dyn, a_first, an_asked, asked_first, asked_in_two, held_and_plus, in_parens, lifetime_first, none_further, path_alone, path_and_plus, some_further}
 use Rattle.syn_ty.specs.ty.Parts.{Manner, loosely, End, Parts}
 use Rattle.syn_ty.specs.ty.Reading.{first_bound, lone_bound, object_of, unqualified_layer}
@@ -120,7 +121,8 @@ module _ {A E : Type 0} (part : Manner → Parts A E) where
   qualified_is : (s : DelimSpan) (q : QSelf A E) (p : Path A E) → first_bound (groups.paren s) (v.Path (qualified_with [] (Some q) p)) ≡ None
   qualified_is s q p = kinds.first-Path A E (groups.paren s) (qualified_with [] (Some q) p) ∙ ap (unqualified_layer (groups.paren s)) (out-roll-TypePathOf A E (record { attrs = []; qself = Some q; path = p }))
 
-  path_starts : (s : DelimSpan) (o : Option (QSelf A E)) (p : Path A E) (c : Toks) (y : Bound) → IsAnyPath part loosely AsWritten o p c done → token.sees_try c ≡ false → first_bound (groups.paren s) (v.Path (qualified_with [] o p)) ≡ Some y → Starts s y c
+  path_starts : (s : DelimSpan) (o : Option (QSelf A E)) (p : Path A E) (c : Toks) (y : Bound) → IsAnyPath part loosely AsWritten o p c done → token.sees_try c ≡ false →
+      first_bound (groups.paren s) (v.Path (qualified_with [] o p)) ≡ Some y → Starts s y c
   path_starts s o p c y (unqualified i) w h = moved s (in_parens s None None p) y c (sym (path_is s p) ∙ h) (starts_held (a_first i w))
   path_starts s o p c y (qualified {q = q} i) w h = never (first_bound (groups.paren s) (v.Path (qualified_with [] (Some q) p))) y h (qualified_is s q p)
 

@@ -9,23 +9,26 @@ use Rattle.token_core.specs.Toks.{Toks}
 use Rattle.token_core.proofs.Took.{branch, mapped}
 use Rattle.token_core.proofs.Turns.{chain, same_pair}
 use Rattle.syn_path.specs.declared.mac.Macro.{Macro}
+use Rattle.syn_path.specs.declared.path.PathStyle.{PathStyle}
 use Rattle.syn_path.specs.declared.path.PathStyle.TheVariants.{AsWritten}
 use Rattle.syn_path.specs.mac.Reading as macs
 use Rattle.syn_path.specs.mac.Spelling.{IsCall}
 use Rattle.syn_path.proofs.mac_laws.Sound.{call_sound}
+use Rattle.syn_path.proofs.Words.{TookOne}
 use Rattle.syn_forms.specs.declared.places.TypePlace.{TypePlace}
 use Rattle.syn_forms.specs.declared.places.TypePlace.TheVariants.{Plus}
 use Rattle.syn_forms.specs.lists.Reading.{bounds_from, list_from, plus_follows, stops_bound}
 use Rattle.syn_forms.specs.paths.Reading as paths
 use Rattle.syn_forms.specs.places.Reading.{allows_plus}
 use Rattle.syn_forms.specs.declared.places.BoundPlace.TheVariants.{Object}
+use Rattle.syn_forms.proofs.tokens_laws.Fronts.{took_as}
 use Rattle.syn_ty.specs.declared.generics.TypeParamBoundOf.TheVariants as b
 use Rattle.syn_ty.specs.declared.ty.TypeOf.TheVariants as v
 use Rattle.syn_ty.specs.generics.Bounds.{IsFor}
 use Rattle.syn_ty.specs.generics.Params.{named_bound}
 use Rattle.syn_ty.specs.path.Paths.{is_none, no_arguments, nothing, without}
 use Rattle.syn_ty.specs.path.Reading.{is_mod_style, maybe_qualified}
-use Rattle.syn_ty.specs.path.Spelling.{is_segment_word, IsPath, IsQualified, qualified, unqualified}
+use Rattle.syn_ty.specs.path.Spelling.{is_segment_word, IsAnyPath, IsPath, IsQualified, qualified, unqualified}
 use Rattle.syn_ty.specs.ty.Admitted.{IsType, a_path_type, a_macro, a_bound_macro, an_object_without_dyn}
 use Rattle.syn_ty.specs.ty.Objects.{ends_lone, IsFirst, a_first, a_first_for, path_alone, path_and_plus}
 use Rattle.syn_ty.specs.ty.Parts.{Manner, loosely, closed, Parts}
@@ -50,6 +53,26 @@ first_of_two false c h g = both c h g
 -- What goes on after tokens that were read before: where those are as it is said, so is the whole.
 abbrev pub Onward : Type 0 → Type 0 → Stream → Stream → Type 0
 Onward Before Whole s t = (t.left ≡ None → s.left ≡ None) × Visible t.rest × (t.left ≡ None → Before → Whole)
+
+-- ---- a path that a type may qualify, by itself
+
+module _ {A E : Type 0} (r : Readers A E) (part : Manner → Parts A E) (h : Held r part) where
+  abbrev pub AnyPath : PathStyle → Option (QSelf A E) × Path A E → Toks → Toks → Type 0
+  AnyPath style y l k = IsAnyPath part loosely style y.0 y.1 l k
+
+  pub any_path_took : (style : PathStyle) (s t : Stream) (y : Option (QSelf A E) × Path A E) → Visible s.rest → maybe_qualified r style s ≡ Ok (y, t) → TookOne (AnyPath style) s t y
+  unfolding paths.maybe_qualified
+  any_path_took style s t y u e =
+      elim (branch (token.sees_lt s.rest) _ _ s (Ok (y, t)) e) [
+        | inl z ↦ let with : QSelf A E × Path A E → Option (QSelf A E) × Path A E = λ d. (Some d.0, d.1) in
+            let f = mapped (paths.qualified (r (a_type Plus)) no_arguments (r some_arguments) style s) with y t z.1 in
+            took_as {Is = λ d l k. IsQualified part loosely style d.0 d.1 l k} {Js = AnyPath style} with s t f.value y f.is (λ l k i. qualified i) (qualified_took r part h.ty h.arguments style s t f.value u f.was)
+        | inr z ↦ let with : Path A E → Option (QSelf A E) × Path A E = λ d. (None, d) in
+            let f = mapped (paths.path no_arguments (r some_arguments) style s) with y t z.1 in
+            took_as {Is = IsPath part loosely style} {Js = AnyPath style} with s t f.value y f.is (λ l k i. unqualified i) (path_took r part h.arguments style s t f.value u f.was)
+      ]
+
+-- ---- a type that begins with a path
 
 module _ {A E : Type 0} (r : Readers A E) (part : Manner → Parts A E) (h : Held r part)
     (some : (x : PathArguments A E) (l k : Toks) → (part loosely).arguments x l k → is_none x ≡ false) where
