@@ -6,7 +6,7 @@ use Rattle.token_core.specs.declared.tree.Delimiter.TheVariants as d
 use Rattle.token_core.specs.declared.tree.Ident.{Ident}
 use Rattle.token_core.specs.declared.tree.TokenStream.{TokenStream}
 use Rattle.token_core.specs.Loops.{size}
-use Rattle.token_core.specs.Reads.{Reader, Body}
+use Rattle.token_core.specs.Reads.{Reader, ◌>>=◌, pure}
 use Rattle.token_core.specs.Tokens as token
 use Rattle.token_core.specs.Toks.{Toks}
 use Rattle.syn_path.specs.declared.path.PathOf.{PathOf}
@@ -25,7 +25,7 @@ use Rattle.syn_forms.specs.params.Reading as params
 use Rattle.syn_forms.specs.paths.Reading as paths
 use Rattle.syn_forms.specs.predicates.Reading as predicates
 use Rattle.syn_forms.specs.tokens.Reading as tokens
-use Rattle.syn_ty.proofs.ty_laws.AlongTold.{bind, further, listed_along, mark, stays}
+use Rattle.syn_ty.proofs.ty_laws.AlongTold.{bind, delimited_along, either, further, made, lifetime, listed_along, mark, more_along, stays, string}
 use Rattle.syn_ty.proofs.ty_laws.Within.{Along}
 
 -- ---- tokens
@@ -53,7 +53,7 @@ module _ {A : Type 0} {value : Reader A} (h : Along value) where
 
   pub tuple_content_along : Along (content.tuple_content value)
   unfolding content.tuple_content
-  tuple_content_along = search (further, h)
+  tuple_content_along = search (further, more_along, h)
 
   pub angled_along : Along (heads.angled value)
   unfolding heads.angled
@@ -86,11 +86,11 @@ module _ {A E : Type 0} {lens : Reader E} {value : Reader A} (g : Along lens) (h
 module _ {A O Q : Type 0} {value : Reader A} {object : Reader O} {asked : Reader Q} (h : Along value) (g : Along object) (k : Along asked) where
   pub type_paren_content_along : Along (content.type_paren_content value object asked)
   unfolding content.type_paren_content
-  type_paren_content_along = search (further, g, k, h)
+  type_paren_content_along = search (further, more_along, g, k, h) depth 9
 
 pub abi_along : Along heads.abi
 unfolding heads.abi
-abi_along = search further
+abi_along = search (further, string)
 
 pub optional_abi_along : Along heads.optional_abi
 optional_abi_along = search (further, abi_along)
@@ -121,11 +121,11 @@ module _ {A : Type 0} {value : Reader A} (h : Along value) where
   module _ (verbatim : TokenStream → A) where
     pub mut_self_along : Along (inputs.mut_self value verbatim)
     unfolding inputs.mut_self
-    mut_self_along = search (further, name_along, h)
+    mut_self_along = search (further, name_along, h) depth 9
 
     pub named_argument_along : Along (inputs.named_argument value verbatim)
     unfolding inputs.named_argument
-    named_argument_along = search (further, name_along, h)
+    named_argument_along = search (further, name_along, h) depth 9
 
     pub first_argument_along : Along (inputs.first_argument value verbatim)
     unfolding inputs.first_argument
@@ -138,7 +138,10 @@ module _ {A : Type 0} {value : Reader A} (h : Along value) where
 module _ {B A I : Type 0} (make : List B → inputs.Name → A → I) {attrs : Reader (List B)} {value : Reader A} (verbatim : TokenStream → A) (g : Along attrs) (h : Along value) where
   inputs_from_along : (n : ℕ) (first : Bool) → Along (inputs.inputs_from make attrs value verbatim n first)
   inputs_from_along zero first = search further
-  inputs_from_along (suc n) first = search (further, g, dots_along, argument_along, h, inputs_from_along)
+  inputs_from_along (suc n) first =
+      let more : (a : List B) (x : inputs.Name × A) (c : token.Comma) → Along (inputs.inputs_from make attrs value verbatim n false >>= (λ v. pure (inputs.put_input (make a x.0 x.1) c v))) =
+      λ a x c. bind (inputs_from_along n false) (λ v. stays _) in
+      either _ (stays _) (bind g (λ a. either _ (made _ dots_along) (bind (argument_along h verbatim first) (λ x. either _ (stays _) (bind (mark {n = 4} {l = 1}) (more a x))))))
 
   pub inputs_along : Along (inputs.inputs make attrs value verbatim)
   unfolding inputs.inputs
@@ -174,7 +177,7 @@ default_of_along h = search (further, given_along, h)
 
 pub lifetime_parts_along : Along params.lifetime_parts
 unfolding params.lifetime_parts
-lifetime_parts_along = search (further, bounds_after_along)
+lifetime_parts_along = search (further, bounds_after_along lifetime)
 
 pub type_parts_along : {B T : Type 0} {bound : Reader B} {typ : Reader T} → Along bound → Along typ → Along (params.type_parts bound typ)
 unfolding params.type_parts
@@ -182,14 +185,14 @@ type_parts_along h g = search (further, bounds_after_along, h, default_of_along,
 
 pub const_parts_along : {T E : Type 0} {typ : Reader T} {value : Reader E} → Along typ → Along value → Along (params.const_parts typ value)
 unfolding params.const_parts
-const_parts_along h g = search (further, h, default_of_along, g)
+const_parts_along h g = search (further, h, default_of_along, g) depth 9
 
 pub predicates_along : {A : Type 0} {predicate : Reader A} → Along predicate → Along (predicates.predicates_to predicate)
 predicates_along h = search (further, h)
 
 pub lifetime_predicate_along : Along predicates.lifetime_predicate
 unfolding predicates.lifetime_predicate
-lifetime_predicate_along = search (further, bounds_to_along)
+lifetime_predicate_along = search (further, bounds_to_along lifetime)
 
 -- ---- paths without arguments, and calls of macros
 
@@ -214,7 +217,7 @@ held_along d.None s c = search further
 
 body_along : Along macs.body
 unfolding macs.body
-body_along = search (further, held_along)
+body_along = search (further, delimited_along, held_along)
 
 pub call_after_along : (p : ModPath) → Along (macs.call_after p)
 unfolding macs.call_after
@@ -249,7 +252,7 @@ module _ {G : Type 0} (none : G) {arguments : Reader G} (h : Along arguments) wh
   module _ {T : Type 0} {typ : Reader T} (k : Along typ) where
     pub qualified_along : (style : PathStyle) → Along (paths.qualified typ none arguments style)
     unfolding paths.qualified
-    qualified_along = search (further, k, as_path_along, segments_along)
+    qualified_along = search (further, k, as_path_along, segments_along) depth 9
 
     pub maybe_qualified_along : (style : PathStyle) → Along (paths.maybe_qualified typ none arguments style)
     unfolding paths.maybe_qualified

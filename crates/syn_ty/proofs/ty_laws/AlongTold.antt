@@ -195,4 +195,4 @@ unfolding held
 held_along r limit place h = below_along limit h
 
 -- what each form is put together of
-pub ruleset further = (bind, stays, refused, made, either, optional_along, mark, word, named, lifetime, string, held_since, opening, in_group_along, parens_along, brackets_along, invisible_along, delimited_along, list_along, list_from_along, terminated_along, more_along)
+pub ruleset further = (mark, named, word, lifetime, held_since, in_group_along, parens_along, brackets_along, invisible_along, optional_along, terminated_along, list_along, list_from_along, stays, refused, either, bind)
