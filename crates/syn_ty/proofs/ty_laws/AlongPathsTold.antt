@@ -6,6 +6,7 @@ use Rattle.syn_path.specs.declared.path.PathStyle.{PathStyle}
 use Rattle.syn_path.specs.Values.{ReadValues}
 use Rattle.syn_ty.specs.path.Paths.{Sep}
 use Rattle.syn_ty.specs.path.Reading as reading
+use Rattle.syn_ty.specs.path.Reading.{ends_constraint}
 use Rattle.syn_ty.specs.ty.Points.{Point, Readers, a_bound, a_type, an_argument, some_arguments}
 use Rattle.syn_ty.specs.ty.Trees.{AngleBracketed, NamedArg, Path, TypeTree}
 use Rattle.syn_ty.specs.ty.Types.{named_arg_of}
@@ -13,7 +14,7 @@ use Rattle.token_core.specs.declared.tree.Ident.{Ident}
 use Rattle.token_core.specs.Reads.{Reader}
 use Rattle.token_core.specs.Tokens as token
 use Rattle.syn_ty.proofs.ty_laws.AlongFormsTold as forms
-use Rattle.syn_ty.proofs.ty_laws.AlongTold.{further}
+use Rattle.syn_ty.proofs.ty_laws.AlongTold.{either, further, made}
 use Rattle.syn_ty.proofs.ty_laws.Within.{Along}
 
 module _ {A E : Type 0} {r : Readers A E} (al : (q : Point) → Along (r q)) where
@@ -60,10 +61,10 @@ module _ {A E : Type 0} {r : Readers A E} (al : (q : Point) → Along (r q)) whe
 
 module _ {A E : Type 0} (values : ReadValues E) {r : Readers A E} (value : Along values.const_argument) (al : (q : Point) → Along (r q)) where
   pub assoc_along : (i : Ident) (x : Option (AngleBracketed A E)) (e : token.Equals) → Along (reading.assoc values r i x e)
-  assoc_along i x e = search (further, value, al)
+  assoc_along i x e = either _ (made _ value) (made _ (al (a_type Plus)))
 
   pub constraint_along : (i : Ident) (x : Option (AngleBracketed A E)) (c : token.Colon) → Along (reading.constraint values r i x c)
-  constraint_along i x c = search (further, forms.bounds_to_along, al)
+  constraint_along i x c = made _ (forms.bounds_to_along (al (a_bound Parameter)) ends_constraint)
 
   pub after_item_along : (t : TypeTree A E) (i : Ident) (x : Option (AngleBracketed A E)) → Along (reading.after_item values r t i x)
   unfolding reading.after_item
