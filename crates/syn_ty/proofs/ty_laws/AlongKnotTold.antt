@@ -8,7 +8,7 @@ use Rattle.syn_ty.specs.ty.Points.{Point, Readers, a_bound, a_param, a_type, an_
 use Rattle.token_core.specs.Reads.{Reader}
 use Rattle.syn_ty.proofs.ty_laws.AlongBoundsTold.{bound_step_along, param_step_along}
 use Rattle.syn_ty.proofs.ty_laws.AlongPathsTold.{argument_step_along, arguments_step_along}
-use Rattle.syn_ty.proofs.ty_laws.AlongTold.{below_along, held_along, refused}
+use Rattle.syn_ty.proofs.ty_laws.AlongTold.{below_along, held_along}
 use Rattle.syn_ty.proofs.ty_laws.AlongTypesTold.{type_step_along}
 use Rattle.syn_ty.proofs.ty_laws.Within.{Along}
 
@@ -22,7 +22,7 @@ module _ {A E : Type 0} (attrs : Reader (List A)) (values : ReadValues E) (g : A
   step_along al some_arguments = arguments_step_along al
 
   read_at_along : (n : ℕ) (q : Point) → Along (read_at attrs values n q)
-  read_at_along zero q = refused _
+  read_at_along zero q s t x e = cc
   read_at_along (suc n) q s t x e = step_along {r = λ p. below (ahead s) (read_at attrs values n p)} (λ p. below_along (ahead s) (read_at_along n p)) q s t x e
 
   pub read_along : (q : Point) → Along (read attrs values q)
