@@ -1,14 +1,12 @@
 -- Where the read of a binder, of a bound or of a parameter answers, the stream stands further on, over the same of what it holds.
-use Rattle.std.proofs.Common.{◌≡◌, Bool, true, false, List, Option, Some, None, Ok}
+use Rattle.std.proofs.Common.{Bool, true, false, List, Option, Some, None}
 use Rattle.syn_forms.specs.declared.places.BoundPlace.{BoundPlace}
-use Rattle.syn_forms.specs.declared.places.BoundPlace.TheVariants.{Parameter}
 use Rattle.syn_forms.specs.declared.places.ParamPlace.{ParamPlace}
 use Rattle.syn_forms.specs.declared.places.ParamPlace.TheVariants as p
-use Rattle.syn_forms.specs.declared.places.TypePlace.TheVariants.{Plus}
 use Rattle.syn_path.specs.Values.{ReadValues}
 use Rattle.syn_ty.specs.declared.generics.CapturedParam.{CapturedParam}
 use Rattle.syn_ty.specs.generics.Reading as reading
-use Rattle.syn_ty.specs.ty.Points.{Point, Readers, a_bound, a_param, a_type}
+use Rattle.syn_ty.specs.ty.Points.{Point, Readers}
 use Rattle.syn_ty.specs.ty.Trees.{BoundLifetimes, Path, TraitBound}
 use Rattle.token_core.specs.declared.token.Paren.{Paren}
 use Rattle.token_core.specs.Positions.{Item}

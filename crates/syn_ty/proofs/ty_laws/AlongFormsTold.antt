@@ -1,20 +1,18 @@
 -- Where the read of a form answers, the stream stands further on, over the same of the reads of what the form holds.
-use Rattle.std.proofs.Common.{◌≡◌, ℕ, zero, suc, Bool, true, false, List, Option, Some, None, Ok}
+use Rattle.std.proofs.Common.{ℕ, zero, suc, Bool, true, false, List, Option, Some, None}
 use Rattle.token_core.specs.declared.span.DelimSpan.{DelimSpan}
 use Rattle.token_core.specs.declared.tree.Delimiter.{Delimiter}
 use Rattle.token_core.specs.declared.tree.Delimiter.TheVariants as d
-use Rattle.token_core.specs.declared.tree.Ident.{Ident}
 use Rattle.token_core.specs.declared.tree.TokenStream.{TokenStream}
 use Rattle.token_core.specs.Loops.{size}
 use Rattle.token_core.specs.Reads.{Reader, ◌>>=◌, pure}
 use Rattle.token_core.specs.Tokens as token
 use Rattle.token_core.specs.Toks.{Toks}
 use Rattle.syn_path.specs.declared.path.PathOf.{PathOf}
-use Rattle.syn_path.specs.declared.path.PathSegmentOf.{PathSegmentOf}
 use Rattle.syn_path.specs.declared.path.PathStyle.{PathStyle}
 use Rattle.syn_path.specs.declared.path.SegmentStyle.{SegmentStyle}
 use Rattle.syn_path.specs.mac.Reading as macs
-use Rattle.syn_path.specs.path.Paths.{ModPath, nothing}
+use Rattle.syn_path.specs.path.Paths.{ModPath}
 use Rattle.syn_path.specs.path.Reading as bare
 use Rattle.syn_forms.specs.forms.Reading as forms
 use Rattle.syn_forms.specs.groups.Reading as content

@@ -1,5 +1,5 @@
 -- The reads that go back to themselves: where one answers, the stream stands further on.
-use Rattle.std.proofs.Common.{◌≡◌, ℕ, zero, suc, List, Ok}
+use Rattle.std.proofs.Common.{ℕ, zero, suc, List}
 use Rattle.syn_path.specs.Values.{ReadValues}
 use Rattle.syn_forms.specs.declared.places.TypePlace.TheVariants.{Plus}
 use Rattle.syn_forms.specs.nested.Below.{ahead, below}

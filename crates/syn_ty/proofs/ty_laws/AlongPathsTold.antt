@@ -1,5 +1,5 @@
 -- Where the read of a path, of its arguments or of one of them answers, the stream stands further on, over the same of what it holds.
-use Rattle.std.proofs.Common.{◌≡◌, Bool, List, [], Option, Some, None, Ok}
+use Rattle.std.proofs.Common.{[], Option, Some, None}
 use Rattle.syn_forms.specs.declared.places.BoundPlace.TheVariants.{Parameter}
 use Rattle.syn_forms.specs.declared.places.TypePlace.TheVariants.{Plus, NoPlus}
 use Rattle.syn_path.specs.declared.path.PathStyle.{PathStyle}
@@ -7,7 +7,7 @@ use Rattle.syn_path.specs.Values.{ReadValues}
 use Rattle.syn_ty.specs.path.Paths.{Sep}
 use Rattle.syn_ty.specs.path.Reading as reading
 use Rattle.syn_ty.specs.path.Reading.{ends_constraint}
-use Rattle.syn_ty.specs.ty.Points.{Point, Readers, a_bound, a_type, an_argument, some_arguments}
+use Rattle.syn_ty.specs.ty.Points.{Point, Readers, a_bound, a_type}
 use Rattle.syn_ty.specs.ty.Trees.{AngleBracketed, NamedArg, Path, TypeTree}
 use Rattle.syn_ty.specs.ty.Types.{named_arg_of}
 use Rattle.token_core.specs.declared.tree.Ident.{Ident}

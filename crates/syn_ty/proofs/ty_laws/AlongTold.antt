@@ -6,17 +6,16 @@ use Rattle.token_core.specs.declared.mark.Spans.{Spans}
 use Rattle.token_core.specs.declared.span.DelimSpan.{DelimSpan}
 use Rattle.token_core.specs.declared.span.Span.{Span}
 use Rattle.token_core.specs.declared.tree.Delimiter.{Delimiter}
-use Rattle.token_core.specs.declared.tree.Delimiter.TheVariants as d
 use Rattle.token_core.specs.declared.tree.Ident.{Ident}
 use Rattle.token_core.specs.Front.{front, past_ends}
 use Rattle.token_core.specs.Groups as groups
 use Rattle.token_core.specs.Lifetimes.{past_lifetime, read_lifetime}
 use Rattle.token_core.specs.Lits.{past_str, read_str}
-use Rattle.token_core.specs.Loops.{size, Many, listed_from, listed, terminated}
+use Rattle.token_core.specs.Loops.{size, listed_from, listed, terminated}
 use Rattle.token_core.specs.Marks as marks
 use Rattle.token_core.specs.Positions.{Item}
-use Rattle.token_core.specs.Reads.{Reader, Outcome, Body, Follows, IsSuffix, all_of, and_then, ◌>>=◌, ◌<$>◌, as_group, as_word, bodied, closing, delimited, expected, finished}
-use Rattle.token_core.specs.Reads.{goes_on, in_group, inside, leaves, next_word, open_group, opened, optional, past, past_mark, pure, read_mark, read_word, same_delimiter, word_if, word_past}
+use Rattle.token_core.specs.Reads.{Reader, Outcome, Body, Follows, IsSuffix, all_of, ◌>>=◌, ◌<$>◌, as_group, bodied, closing, delimited, expected, finished}
+use Rattle.token_core.specs.Reads.{goes_on, in_group, inside, leaves, next_word, open_group, opened, optional, past, past_mark, read_mark, read_word, same_delimiter, word_if}
 use Rattle.token_core.specs.Refusal.{Refusal}
 use Rattle.token_core.specs.Stream.{Stream}
 use Rattle.token_core.specs.Toks.{Bytes, Toks}
@@ -28,7 +27,7 @@ use Rattle.token_core.proofs.lifetime_laws.{suffix_lifetime}
 use Rattle.token_core.proofs.lit_laws.{suffix_str}
 use Rattle.syn_forms.specs.groups.Reading.{in_brackets, in_invisible, in_parens}
 use Rattle.syn_forms.specs.lists.Reading.{list, list_from, more_elements}
-use Rattle.syn_forms.specs.nested.Below.{ahead, below, below_if, held}
+use Rattle.syn_forms.specs.nested.Below.{below, below_if, held}
 use Rattle.syn_forms.specs.verbatim.Reading.{since}
 use Rattle.syn_ty.proofs.ty_laws.Within.{Along}
 

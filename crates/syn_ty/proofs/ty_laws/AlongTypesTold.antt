@@ -1,5 +1,5 @@
 -- Where the read of a form of types answers, the stream stands further on, over the same of what it holds.
-use Rattle.std.proofs.Common.{◌≡◌, Bool, true, false, List, Option, Some, None, Ok}
+use Rattle.std.proofs.Common.{Bool, List, Option, Some, None}
 use Rattle.syn_forms.specs.declared.groups.ParenContent.{ParenContent}
 use Rattle.syn_forms.specs.declared.groups.ParenContent.TheVariants as held
 use Rattle.syn_forms.specs.declared.places.BoundPlace.TheVariants.{Object, Opaque}
