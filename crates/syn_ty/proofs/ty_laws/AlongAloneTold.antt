@@ -36,11 +36,11 @@ module _ {A E : Type 0} {r : Readers A E} (al : (q : Point) → Along (r q)) whe
   predicate_bounds_along = search (further, forms.bounds_to_along, al)
 
   module _ {type : Reader (TypeTree A E)} (h : Along type) where
-    type_after_along : (a : List A) → Along (declared.type_after type r a)
+    pub type_after_along : (a : List A) → Along (declared.type_after type r a)
     unfolding declared.type_after
     type_after_along a = search (further, bounds.optional_binder_along al, h, predicate_bounds_along) depth 9
 
-    predicate_after_along : (a : List A) → Along (declared.predicate_after type r a)
+    pub predicate_after_along : (a : List A) → Along (declared.predicate_after type r a)
     unfolding declared.predicate_after
     predicate_after_along a = search (further, forms.lifetime_predicate_along, type_after_along a)
 
@@ -48,7 +48,7 @@ module _ {A E : Type 0} {r : Readers A E} (al : (q : Point) → Along (r q)) whe
     unfolding declared.predicate
     predicate_along g = search (further, g, predicate_after_along)
 
-no_generics_along : Along declared.no_generics
+pub no_generics_along : Along declared.no_generics
 unfolding declared.no_generics
 no_generics_along = search further
 

@@ -19,18 +19,18 @@ use Rattle.syn_ty.proofs.ty_laws.Within.{Along}
 
 -- ---- captures and `const` forms
 
-captured_or_along : {other : Reader CapturedParam} → Along other → Along (reading.captured_or other)
+pub captured_or_along : {other : Reader CapturedParam} → Along other → Along (reading.captured_or other)
 captured_or_along h = search (further, h)
 
 pub captured_along : Along reading.captured
 unfolding reading.captured
 captured_along = search (further, captured_or_along)
 
-listed_captured_along : Along reading.listed_captured
+pub listed_captured_along : Along reading.listed_captured
 unfolding reading.listed_captured
 listed_captured_along = search (further, captured_or_along)
 
-captured_comma_along : Along reading.captured_comma
+pub captured_comma_along : Along reading.captured_comma
 unfolding reading.captured_comma
 captured_comma_along = search further
 
@@ -49,16 +49,16 @@ no_const_form_along = search further
 -- ---- bounds
 
 module _ {A E : Type 0} where
-  trait_of_along : (x : Option (BoundLifetimes A E)) (q : Option token.Question) (y : Path A E) → Along (reading.trait_of x q y)
+  pub trait_of_along : (x : Option (BoundLifetimes A E)) (q : Option token.Question) (y : Path A E) → Along (reading.trait_of x q y)
   trait_of_along (Some x) (Some q) y = search further
   trait_of_along (Some x) None y = search further
   trait_of_along None q y = search further
 
-  kept_along : (from : List Item) (x : Option (TraitBound A E)) → Along (reading.kept from x)
+  pub kept_along : (from : List Item) (x : Option (TraitBound A E)) → Along (reading.kept from x)
   kept_along from (Some x) = search further
   kept_along from None = search further
 
-  kept_in_parens_along : (from : List Item) (g : Paren × Option (TraitBound A E)) → Along (reading.kept_in_parens from g)
+  pub kept_in_parens_along : (from : List Item) (g : Paren × Option (TraitBound A E)) → Along (reading.kept_in_parens from g)
   kept_in_parens_along from (t, Some x) = search further
   kept_in_parens_along from (t, None) = search further
 
@@ -107,7 +107,7 @@ module _ {A E : Type 0} {r : Readers A E} (al : (q : Point) → Along (r q)) whe
 -- ---- parameters
 
 module _ {A : Type 0} (attrs : Reader (List A)) where
-  lifetime_after_along : (a : List A) → Along (reading.lifetime_after attrs a)
+  pub lifetime_after_along : (a : List A) → Along (reading.lifetime_after attrs a)
   lifetime_after_along = search (further, forms.lifetime_parts_along)
 
   pub lifetime_param_along : Along attrs → Along (reading.lifetime_param attrs)
@@ -115,29 +115,29 @@ module _ {A : Type 0} (attrs : Reader (List A)) where
   lifetime_param_along g = search (further, g, lifetime_after_along)
 
 module _ {A E : Type 0} (attrs : Reader (List A)) (values : ReadValues E) {r : Readers A E} (g : Along attrs) (value : Along values.const_argument) (al : (q : Point) → Along (r q)) where
-  type_after_along : (a : List A) → Along (reading.type_after attrs values r a)
+  pub type_after_along : (a : List A) → Along (reading.type_after attrs values r a)
   type_after_along = search (further, forms.type_parts_along, al)
 
   pub type_param_along : Along (reading.type_param attrs values r)
   unfolding reading.type_param
   type_param_along = search (further, g, type_after_along)
 
-  const_after_along : (a : List A) → Along (reading.const_after attrs values r a)
+  pub const_after_along : (a : List A) → Along (reading.const_after attrs values r a)
   const_after_along = search (further, forms.const_parts_along, al, value)
 
   pub const_param_along : Along (reading.const_param attrs values r)
   unfolding reading.const_param
   const_param_along = search (further, g, const_after_along)
 
-  in_binder_along : (a : List A) → Along (reading.in_binder attrs values r a)
+  pub in_binder_along : (a : List A) → Along (reading.in_binder attrs values r a)
   unfolding reading.in_binder
   in_binder_along a = search (further, type_after_along a, lifetime_after_along attrs a, const_after_along a) depth 9
 
-  in_generics_along : (a : List A) → Along (reading.in_generics attrs values r a)
+  pub in_generics_along : (a : List A) → Along (reading.in_generics attrs values r a)
   unfolding reading.in_generics
   in_generics_along a = search (further, lifetime_after_along attrs a, type_after_along a, const_after_along a) depth 9
 
-  param_after_along : (place : ParamPlace) (a : List A) → Along (reading.param_after attrs values r place a)
+  pub param_after_along : (place : ParamPlace) (a : List A) → Along (reading.param_after attrs values r place a)
   param_after_along p.Binder a = search (further, in_binder_along)
   param_after_along p.Generics a = search (further, in_generics_along)
 

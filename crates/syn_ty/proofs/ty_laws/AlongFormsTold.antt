@@ -134,7 +134,7 @@ module _ {A : Type 0} {value : Reader A} (h : Along value) where
     argument_along false = search (further, plain_argument_along)
 
 module _ {B A I : Type 0} (make : List B → inputs.Name → A → I) {attrs : Reader (List B)} {value : Reader A} (verbatim : TokenStream → A) (g : Along attrs) (h : Along value) where
-  inputs_from_along : (n : ℕ) (first : Bool) → Along (inputs.inputs_from make attrs value verbatim n first)
+  pub inputs_from_along : (n : ℕ) (first : Bool) → Along (inputs.inputs_from make attrs value verbatim n first)
   inputs_from_along zero first = search further
   inputs_from_along (suc n) first =
       let more : (a : List B) (x : inputs.Name × A) (c : token.Comma) → Along (inputs.inputs_from make attrs value verbatim n false >>= (λ v. pure (inputs.put_input (make a x.0 x.1) c v))) =
@@ -199,7 +199,7 @@ unfolding bare.leading
 leading_along = search further
 
 module _ {A : Type 0} (none : A) where
-  bare_segment_along : (style : SegmentStyle) (first : Bool) → Along (bare.bare_segment none style first)
+  pub bare_segment_along : (style : SegmentStyle) (first : Bool) → Along (bare.bare_segment none style first)
   unfolding bare.bare_segment
   bare_segment_along style first = search further
 
@@ -207,13 +207,13 @@ module _ {A : Type 0} (none : A) where
   unfolding bare.bare_path bare.bare_segments
   bare_path_along style = bind leading_along (λ c. bind (listed_along _ _ (bare_segment_along style) mark true) (λ v. stays _))
 
-held_along : (b : Delimiter) (s : DelimSpan) (c : TokenStream) → Along (macs.held b s c)
+pub held_along : (b : Delimiter) (s : DelimSpan) (c : TokenStream) → Along (macs.held b s c)
 held_along d.Parenthesis s c = search further
 held_along d.Brace s c = search further
 held_along d.Bracket s c = search further
 held_along d.None s c = search further
 
-body_along : Along macs.body
+pub body_along : Along macs.body
 unfolding macs.body
 body_along = search (further, delimited_along, held_along)
 

@@ -21,7 +21,7 @@ module _ {A E : Type 0} (attrs : Reader (List A)) (values : ReadValues E) (g : A
   step_along al an_argument = argument_step_along values value al (type_step_along attrs values al Plus)
   step_along al some_arguments = arguments_step_along al
 
-  read_at_along : (n : ℕ) (q : Point) → Along (read_at attrs values n q)
+  pub read_at_along : (n : ℕ) (q : Point) → Along (read_at attrs values n q)
   read_at_along zero q s t x e = cc
   read_at_along (suc n) q s t x e = step_along {r = λ p. below (ahead s) (read_at attrs values n p)} (λ p. below_along (ahead s) (read_at_along n p)) q s t x e
 

@@ -66,7 +66,7 @@ went : {A : Type 0} (end : A → Span) (e : Refusal) (s t : Stream) (x : A) (o :
 went end e s t x None h k = cc
 went end e s t x (Some q) h k = on_to s (past s q.1 (end q.0)) t q.0 x (follows_past s q.1 (end q.0) (h q refl)) k
 
-characters : (cs : List ℕ) (name : Bytes) → Along (read_mark cs name)
+pub characters : (cs : List ℕ) (name : Bytes) → Along (read_mark cs name)
 unfolding read_mark
 characters cs name s t x e = went (λ (z : Spans). z.third) (expected name s) s t x (past_mark cs s.rest) (λ p g. suffix_mark cs s.rest p g) e
 
@@ -157,7 +157,7 @@ delimited_along s t x e = body_at s t x (as_group (past_ends s.rest)) (λ p g. s
 -- ---- lists
 
 module _ {A P : Type 0} (stops : Bool → Toks → Bool) {value : Bool → Reader A} (more : Toks → Bool) {joint : Reader P} where
-  from_along : ((b : Bool) → Along (value b)) → Along joint → (n : ℕ) (b : Bool) → Along (listed_from stops value more joint n b)
+  pub from_along : ((b : Bool) → Along (value b)) → Along joint → (n : ℕ) (b : Bool) → Along (listed_from stops value more joint n b)
   from_along h k zero b = refused _
   from_along h k (suc n) b = either _ (stays _) (bind (h b) (λ x. either _ (bind k (λ p. bind (from_along h k n false) (λ v. stays _))) (stays _)))
 

@@ -122,10 +122,10 @@ module _ {A E : Type 0} {r : Readers A E} (al : (q : Point) → Along (r q)) whe
   unfolding reading.paren_content
   paren_content_along = search (further, forms.type_paren_content_along, al (a_type Plus), lifetime_object_along, trait_bound_along al)
 
-  each_object_from_along : (x : TypeParamBound A E) → Along (reading.each_object_from r x)
+  pub each_object_from_along : (x : TypeParamBound A E) → Along (reading.each_object_from r x)
   each_object_from_along = search (further, forms.each_bound_from_along, al (a_bound Object))
 
-  paren_or_object_along : (plus : Bool) (p : Paren) (x : TypeTree A E) (o : Option (TypeParamBound A E)) → Along (reading.paren_or_object r plus p x o)
+  pub paren_or_object_along : (plus : Bool) (p : Paren) (x : TypeTree A E) (o : Option (TypeParamBound A E)) → Along (reading.paren_or_object r plus p x o)
   paren_or_object_along plus p x None = search further
   paren_or_object_along plus p x (Some y) = search (further, each_object_from_along)
 
@@ -146,7 +146,7 @@ module _ {A E : Type 0} {r : Readers A E} (al : (q : Point) → Along (r q)) whe
 
   -- ---- paths
 
-  path_object_along : (plus : Bool) (l : Option (BoundLifetimes A E)) (p : Path A E) → Along (reading.path_object r plus l p)
+  pub path_object_along : (plus : Bool) (l : Option (BoundLifetimes A E)) (p : Path A E) → Along (reading.path_object r plus l p)
   path_object_along = search (further, forms.bounds_from_along, al (a_bound Object))
 
   pub after_path_along : (plus : Bool) (l : Option (BoundLifetimes A E)) (p : Path A E) → Along (reading.after_path r plus l p)
@@ -160,15 +160,15 @@ module _ {A E : Type 0} {r : Readers A E} (al : (q : Point) → Along (r q)) whe
 
   -- ---- invisible groups
 
-  group_with_segments_along : (g : GroupToken) (x : TypeTree A E) (o : Option (TypePath A E)) → Along (reading.group_with_segments r g x o)
+  pub group_with_segments_along : (g : GroupToken) (x : TypeTree A E) (o : Option (TypePath A E)) → Along (reading.group_with_segments r g x o)
   unfolding reading.group_with_segments
   group_with_segments_along g x (Some p) = search (further, rest_along al)
   group_with_segments_along g x None = search (further, path_along al)
 
-  with_arguments_along : (p : TypePath A E) → Along (reading.with_arguments r p)
+  pub with_arguments_along : (p : TypePath A E) → Along (reading.with_arguments r p)
   with_arguments_along p = search (further, al some_arguments, rest_along al)
 
-  group_with_arguments_along : (g : GroupToken) (x : TypeTree A E) (o : Option (TypePath A E)) → Along (reading.group_with_arguments r g x o)
+  pub group_with_arguments_along : (g : GroupToken) (x : TypeTree A E) (o : Option (TypePath A E)) → Along (reading.group_with_arguments r g x o)
   unfolding reading.group_with_arguments
   group_with_arguments_along g x None = search further
   group_with_arguments_along g x (Some p) = search (further, with_arguments_along)
