@@ -42,11 +42,13 @@ use Rattle.syn_ty.specs.generics.Reading.{captured_comma, captured_or, listed_ca
 use Rattle.syn_ty.specs.ty.Parts.{Manner, loosely, End, closed, Parts, Holds}
 use Rattle.syn_ty.specs.ty.Points.{Readers}
 use Rattle.syn_ty.specs.ty.Trees.{BoundLifetimes, Path, TraitBound, TypeParamBound}
+use Rattle.syn_ty.proofs.ty_laws.AlongBoundsTold.{trait_or_const_along}
+use Rattle.syn_ty.proofs.ty_laws.AlongTold.{parens_along}
 use Rattle.syn_ty.proofs.ty_laws.HeldTold.{holds_since}
 use Rattle.syn_ty.proofs.ty_laws.Sound.{IsHeld, comma_seen, comma_took, held_sound, life_sound, named_sound}
 use Rattle.syn_ty.proofs.ty_laws.Told.{Told, never_open}
 use Rattle.syn_ty.proofs.ty_laws.TraitsTold.{IsAfter, IsPerhapsFor, after_took, const_at, for_took, trait_at, trait_bound_took}
-use Rattle.syn_ty.proofs.ty_laws.Within.{Along, Held}
+use Rattle.syn_ty.proofs.ty_laws.Within.{Held}
 
 -- ---- captures
 
@@ -223,109 +225,107 @@ module _ {A E : Type 0} (r : Readers A E) (part : Manner → Parts A E) (h : Hel
 
   -- ---- bounds in their places
 
-  -- it is known of the reads of what is held verbatim that they stand further on
-  module _ (trait_or_const_along : Along (reading.trait_or_const r)) (parens_along : (consts : Bool) → Along (in_parens (trait_in r consts))) where
-    none_follows : (consts : Bool) (s t : Stream) (x : Option Trait) → trait_in r consts s ≡ Ok (x, t) → x ≡ None → Follows s t
-    none_follows true s t x e g = trait_or_const_along s t x e
-    none_follows false s t x e g = let k = mapped (trait_bound r s) (λ (z : Trait). Some z) x t e in cc (k.is ∙ g)
+  none_follows : (consts : Bool) (s t : Stream) (x : Option Trait) → trait_in r consts s ≡ Ok (x, t) → x ≡ None → Follows s t
+  none_follows true s t x e g = trait_or_const_along h.along s t x e
+  none_follows false s t x e g = let k = mapped (trait_bound r s) (λ (z : Trait). Some z) x t e in cc (k.is ∙ g)
 
-    module _ (place : BoundPlace) where
-      abbrev Of : Bound → Toks → Toks → Type 0
-      Of = Told (IsBound part loosely place)
+  module _ (place : BoundPlace) where
+    abbrev Of : Bound → Toks → Toks → Type 0
+    Of = Told (IsBound part loosely place)
 
-      abbrev FoundHere : Option Trait → Toks → Toks → Type 0
-      FoundHere = Found (allows_const place)
+    abbrev FoundHere : Option Trait → Toks → Toks → Type 0
+    FoundHere = Found (allows_const place)
 
-      -- as all of a content
-      abbrev FoundAll : Option Trait → Toks → Type 0
-      FoundAll x l = FoundHere x l done
+    -- as all of a content
+    abbrev FoundAll : Option Trait → Toks → Type 0
+    FoundAll x l = FoundHere x l done
 
-      at_answer : (s c t : Stream) (x y : Bound) → (x ≡ y) × (c ≡ t) → TookOne Of s c x → TookOne Of s t y
-      at_answer s c t x y g w = subst (λ z. TookOne Of s t z) g.0 (subst (λ z. TookOne Of s z x) g.1 w)
+    at_answer : (s c t : Stream) (x y : Bound) → (x ≡ y) × (c ≡ t) → TookOne Of s c x → TookOne Of s t y
+    at_answer s c t x y g w = subst (λ z. TookOne Of s t z) g.0 (subst (λ z. TookOne Of s z x) g.1 w)
 
-      bare_at : (x : Trait) (l k : Toks) → FoundHere (Some x) l k → Of (b.Trait x) l k
-      bare_at x l k w = (w.0, a_bare_bound (found_trait part (allows_const place) w.0 x l k w.1), w.2, w.3)
+    bare_at : (x : Trait) (l k : Toks) → FoundHere (Some x) l k → Of (b.Trait x) l k
+    bare_at x l k w = (w.0, a_bare_bound (found_trait part (allows_const place) w.0 x l k w.1), w.2, w.3)
 
-      const_bare_at : (x : TokenStream) (l k : Toks) → FoundHere None l k → Holds x l k → Of (b.Verbatim x) l k
-      const_bare_at x l k w i =
-          let q = found_const part (allows_const place) w.0 l k w.1 in
-          (w.0, a_verbatim_bound q.0 (a_const_alone q.1) i, w.2, w.3)
+    const_bare_at : (x : TokenStream) (l k : Toks) → FoundHere None l k → Holds x l k → Of (b.Verbatim x) l k
+    const_bare_at x l k w i =
+        let q = found_const part (allows_const place) w.0 l k w.1 in
+        (w.0, a_verbatim_bound q.0 (a_const_alone q.1) i, w.2, w.3)
 
-      kept_took : (s d t : Stream) (o : Option Trait) (x : Bound) → Visible s.rest → (o ≡ None → Follows s d) → TookOne FoundHere s d o → reading.kept (position s) o d ≡ Ok (x, t) → TookOne Of s t x
-      kept_took s d t (Some y) x v f w e =
-          at_answer s d t (b.Trait y) x (same_pair (b.Trait y) x d t e) (record { left = w.left; seen = w.seen; spelt = λ n. bare_at y s.rest d.rest (w.spelt n) })
-      kept_took s d t None x v f w e =
-          let k = mapped (since (position s) d) b.Verbatim x t e in
-          let g = holds_since s d t k.value v w.seen (f refl) k.was in
-          at_answer s d t (b.Verbatim k.value) x (k.is, g.0) (record { left = w.left; seen = w.seen; spelt = λ n. const_bare_at k.value s.rest d.rest (w.spelt n) g.1 })
+    kept_took : (s d t : Stream) (o : Option Trait) (x : Bound) → Visible s.rest → (o ≡ None → Follows s d) → TookOne FoundHere s d o → reading.kept (position s) o d ≡ Ok (x, t) → TookOne Of s t x
+    kept_took s d t (Some y) x v f w e =
+        at_answer s d t (b.Trait y) x (same_pair (b.Trait y) x d t e) (record { left = w.left; seen = w.seen; spelt = λ n. bare_at y s.rest d.rest (w.spelt n) })
+    kept_took s d t None x v f w e =
+        let k = mapped (since (position s) d) b.Verbatim x t e in
+        let g = holds_since s d t k.value v w.seen (f refl) k.was in
+        at_answer s d t (b.Verbatim k.value) x (k.is, g.0) (record { left = w.left; seen = w.seen; spelt = λ n. const_bare_at k.value s.rest d.rest (w.spelt n) g.1 })
 
-      -- ---- in parentheses
+    -- ---- in parentheses
 
-      held_is : (p : Paren) (o : For) (q : Option token.Question) (x : Path A E) → held_bound p (trait_bound_of None o (record {}) q x) ≡ trait_bound_of (Some p) o (record {}) q x
-      held_is p o q x = ap (held_layer p) (out-roll-TraitBoundOf A E (record { paren_token = None; lifetimes = o; modifiers = record {}; maybe = q; path = x }))
+    held_is : (p : Paren) (o : For) (q : Option token.Question) (x : Path A E) → held_bound p (trait_bound_of None o (record {}) q x) ≡ trait_bound_of (Some p) o (record {}) q x
+    held_is p o q x = ap (held_layer p) (out-roll-TraitBoundOf A E (record { paren_token = None; lifetimes = o; modifiers = record {}; maybe = q; path = x }))
 
-      bound_in_parens : (i : DelimSpan) (e : End) (x : Trait) (l k : Toks) → IsTraitBound part loosely e x l done → IsBound part loosely place closed (b.Trait (held_bound (groups.paren i) x)) (group Parenthesis i l k) k
-      bound_in_parens i e x l k (a_trait_bound {o = o} {q = q} {p = p} w) =
-          subst (λ z. IsBound part loosely place closed (b.Trait z) (group Parenthesis i l k) k) (sym (held_is (groups.paren i) o q p)) (a_bound_in_parens w)
+    bound_in_parens : (i : DelimSpan) (e : End) (x : Trait) (l k : Toks) → IsTraitBound part loosely e x l done → IsBound part loosely place closed (b.Trait (held_bound (groups.paren i) x)) (group Parenthesis i l k) k
+    bound_in_parens i e x l k (a_trait_bound {o = o} {q = q} {p = p} w) =
+        subst (λ z. IsBound part loosely place closed (b.Trait z) (group Parenthesis i l k) k) (sym (held_is (groups.paren i) o q p)) (a_bound_in_parens w)
 
-      held_at : (i : DelimSpan) (x : Trait) (l k : Toks) → IsHeld Parenthesis FoundAll (i, Some x) l k → Of (b.Trait (held_bound (groups.paren i) x)) l k
-      held_at i x l k w =
-          let q = found_trait part (allows_const place) w.holds.0 x w.content done w.holds.1 in
-          (closed, subst (λ z. IsBound part loosely place closed (b.Trait (held_bound (groups.paren i) x)) z k) (sym w.is) (bound_in_parens i w.holds.0 x w.content k q), never_open, never_open)
+    held_at : (i : DelimSpan) (x : Trait) (l k : Toks) → IsHeld Parenthesis FoundAll (i, Some x) l k → Of (b.Trait (held_bound (groups.paren i) x)) l k
+    held_at i x l k w =
+        let q = found_trait part (allows_const place) w.holds.0 x w.content done w.holds.1 in
+        (closed, subst (λ z. IsBound part loosely place closed (b.Trait (held_bound (groups.paren i) x)) z k) (sym w.is) (bound_in_parens i w.holds.0 x w.content k q), never_open, never_open)
 
-      const_held_at : (i : DelimSpan) (x : TokenStream) (l k : Toks) → IsHeld Parenthesis FoundAll (i, None) l k → Holds x l k → Of (b.Verbatim x) l k
-      const_held_at i x l k w g =
-          let q = found_const part (allows_const place) w.holds.0 w.content done w.holds.1 in
-          let at : Holds x (group Parenthesis i w.content k) k = sym w.is ∙ g in
-          (closed, subst (λ z. IsBound part loosely place closed (b.Verbatim x) z k) (sym w.is) (a_verbatim_bound q.0 (a_const_in_parens q.1) at), never_open, never_open)
+    const_held_at : (i : DelimSpan) (x : TokenStream) (l k : Toks) → IsHeld Parenthesis FoundAll (i, None) l k → Holds x l k → Of (b.Verbatim x) l k
+    const_held_at i x l k w g =
+        let q = found_const part (allows_const place) w.holds.0 w.content done w.holds.1 in
+        let at : Holds x (group Parenthesis i w.content k) k = sym w.is ∙ g in
+        (closed, subst (λ z. IsBound part loosely place closed (b.Verbatim x) z k) (sym w.is) (a_verbatim_bound q.0 (a_const_in_parens q.1) at), never_open, never_open)
 
-      held_took : (s d t : Stream) (i : DelimSpan) (o : Option Trait) (x : Bound) → Visible s.rest → Follows s d → TookOne (IsHeld Parenthesis FoundAll) s d (i, o) → reading.kept_in_parens (position s) (groups.paren i, o) d ≡ Ok (x, t) →
-          TookOne Of s t x
-      held_took s d t i (Some y) x v f w e =
-          let z : Bound = b.Trait (held_bound (groups.paren i) y) in
-          at_answer s d t z x (same_pair z x d t e) (record { left = w.left; seen = w.seen; spelt = λ n. held_at i y s.rest d.rest (w.spelt n) })
-      held_took s d t i None x v f w e =
-          let k = mapped (since (position s) d) b.Verbatim x t e in
-          let g = holds_since s d t k.value v w.seen f k.was in
-          at_answer s d t (b.Verbatim k.value) x (k.is, g.0) (record { left = w.left; seen = w.seen; spelt = λ n. const_held_at i k.value s.rest d.rest (w.spelt n) g.1 })
+    held_took : (s d t : Stream) (i : DelimSpan) (o : Option Trait) (x : Bound) → Visible s.rest → Follows s d → TookOne (IsHeld Parenthesis FoundAll) s d (i, o) → reading.kept_in_parens (position s) (groups.paren i, o) d ≡ Ok (x, t) →
+        TookOne Of s t x
+    held_took s d t i (Some y) x v f w e =
+        let z : Bound = b.Trait (held_bound (groups.paren i) y) in
+        at_answer s d t z x (same_pair z x d t e) (record { left = w.left; seen = w.seen; spelt = λ n. held_at i y s.rest d.rest (w.spelt n) })
+    held_took s d t i None x v f w e =
+        let k = mapped (since (position s) d) b.Verbatim x t e in
+        let g = holds_since s d t k.value v w.seen f k.was in
+        at_answer s d t (b.Verbatim k.value) x (k.is, g.0) (record { left = w.left; seen = w.seen; spelt = λ n. const_held_at i k.value s.rest d.rest (w.spelt n) g.1 })
 
-      found_whole : (s t : Stream) (x : Option Trait) → Visible s.rest → trait_in r (allows_const place) s ≡ Ok (x, t) → leaves t ≡ None → FoundAll x s.rest
-      found_whole s t x v e n = took_whole {Is = FoundHere} s t x (trait_in_took (allows_const place) s t x v e) n
+    found_whole : (s t : Stream) (x : Option Trait) → Visible s.rest → trait_in r (allows_const place) s ≡ Ok (x, t) → leaves t ≡ None → FoundAll x s.rest
+    found_whole s t x v e n = took_whole {Is = FoundHere} s t x (trait_in_took (allows_const place) s t x v e) n
 
-      -- what is neither a lifetime nor a capture
-      pub trait_in_place_took : (s t : Stream) (x : Bound) → Visible s.rest → reading.trait_in_place r place s ≡ Ok (x, t) → TookOne Of s t x
-      unfolding reading.trait_in_place
-      trait_in_place_took s t x v e =
-          let inner : Reader (Option Trait) = trait_in r (allows_const place) in
-          elim (branch (sees_group Parenthesis s.rest) (in_parens inner >>= reading.kept_in_parens (position s)) (inner >>= reading.kept (position s)) s (Ok (x, t)) e) [
-            | inl y ↦ let d = chain (in_parens inner s) (reading.kept_in_parens (position s)) x t y.1 in
-                let g = mapped (in_group Parenthesis groups.paren_name inner s) (λ z. (groups.paren z.0, z.1)) d.value d.rest d.was in
-                held_took s d.rest t g.value.0 g.value.1 x v (parens_along (allows_const place) s d.rest d.value d.was) (held_sound Parenthesis FoundAll groups.paren_name inner found_whole s d.rest g.value v g.was)
-                (subst (λ z. reading.kept_in_parens (position s) z d.rest ≡ Ok (x, t)) (sym g.is) d.goes)
-            | inr y ↦ let d = chain (inner s) (reading.kept (position s)) x t y.1 in
-                kept_took s d.rest t d.value x v (none_follows (allows_const place) s d.rest d.value d.was) (trait_in_took (allows_const place) s d.rest d.value v d.was) d.goes
+    -- what is neither a lifetime nor a capture
+    pub trait_in_place_took : (s t : Stream) (x : Bound) → Visible s.rest → reading.trait_in_place r place s ≡ Ok (x, t) → TookOne Of s t x
+    unfolding reading.trait_in_place
+    trait_in_place_took s t x v e =
+        let inner : Reader (Option Trait) = trait_in r (allows_const place) in
+        elim (branch (sees_group Parenthesis s.rest) (in_parens inner >>= reading.kept_in_parens (position s)) (inner >>= reading.kept (position s)) s (Ok (x, t)) e) [
+          | inl y ↦ let d = chain (in_parens inner s) (reading.kept_in_parens (position s)) x t y.1 in
+              let g = mapped (in_group Parenthesis groups.paren_name inner s) (λ z. (groups.paren z.0, z.1)) d.value d.rest d.was in
+              held_took s d.rest t g.value.0 g.value.1 x v (parens_along inner s d.rest d.value d.was) (held_sound Parenthesis FoundAll groups.paren_name inner found_whole s d.rest g.value v g.was)
+              (subst (λ z. reading.kept_in_parens (position s) z d.rest ≡ Ok (x, t)) (sym g.is) d.goes)
+          | inr y ↦ let d = chain (inner s) (reading.kept (position s)) x t y.1 in
+              kept_took s d.rest t d.value x v (none_follows (allows_const place) s d.rest d.value d.was) (trait_in_took (allows_const place) s d.rest d.value v d.was) d.goes
+        ]
+
+    pub capture_in_place_took : (s t : Stream) (x : Bound) → Visible s.rest → reading.capture_in_place r place s ≡ Ok (x, t) → TookOne Of s t x
+    unfolding reading.capture_in_place
+    capture_in_place_took s t x v e =
+        let d = chain (reading.capture s) _ x t e in
+        let k = capture_took s d.rest d.value v d.was in
+        elim (branch (allows_capture place) (pure (b.PreciseCapture d.value)) (refuse_since CaptureNotAllowed (here s)) d.rest (Ok (x, t)) d.goes) [
+          | inl y ↦ at_answer s d.rest t (b.PreciseCapture d.value) x (same_pair (b.PreciseCapture d.value) x d.rest t y.1)
+              (record { left = k.left; seen = k.seen; spelt = λ n. (closed, a_capture_bound y.0 (k.spelt n), never_open, never_open) })
+          | inr y ↦ cc y.1
+        ]
+
+    -- a turn of the knot
+    pub bound_took : (s t : Stream) (x : Bound) → Visible s.rest → reading.bound_step r place s ≡ Ok (x, t) → TookOne Of s t x
+    unfolding reading.bound_step
+    bound_took s t x v e =
+        elim (branch (sees_lifetime s.rest) _ _ s (Ok (x, t)) e) [
+          | inl y ↦ let k = mapped (read_lifetime s) b.Lifetime x t y.1 in
+              took_as {Is = IsLifetime} {Js = Of} b.Lifetime s t k.value x k.is (λ l m i. (closed, a_lifetime_bound i, never_open, never_open)) (life_sound s t k.value v k.was)
+          | inr y ↦ elim (branch (token.sees_use s.rest) _ _ s (Ok (x, t)) y.1) [
+            | inl z ↦ capture_in_place_took s t x v z.1
+            | inr z ↦ trait_in_place_took s t x v z.1
           ]
-
-      pub capture_in_place_took : (s t : Stream) (x : Bound) → Visible s.rest → reading.capture_in_place r place s ≡ Ok (x, t) → TookOne Of s t x
-      unfolding reading.capture_in_place
-      capture_in_place_took s t x v e =
-          let d = chain (reading.capture s) _ x t e in
-          let k = capture_took s d.rest d.value v d.was in
-          elim (branch (allows_capture place) (pure (b.PreciseCapture d.value)) (refuse_since CaptureNotAllowed (here s)) d.rest (Ok (x, t)) d.goes) [
-            | inl y ↦ at_answer s d.rest t (b.PreciseCapture d.value) x (same_pair (b.PreciseCapture d.value) x d.rest t y.1)
-                (record { left = k.left; seen = k.seen; spelt = λ n. (closed, a_capture_bound y.0 (k.spelt n), never_open, never_open) })
-            | inr y ↦ cc y.1
-          ]
-
-      -- a turn of the knot
-      pub bound_took : (s t : Stream) (x : Bound) → Visible s.rest → reading.bound_step r place s ≡ Ok (x, t) → TookOne Of s t x
-      unfolding reading.bound_step
-      bound_took s t x v e =
-          elim (branch (sees_lifetime s.rest) _ _ s (Ok (x, t)) e) [
-            | inl y ↦ let k = mapped (read_lifetime s) b.Lifetime x t y.1 in
-                took_as {Is = IsLifetime} {Js = Of} b.Lifetime s t k.value x k.is (λ l m i. (closed, a_lifetime_bound i, never_open, never_open)) (life_sound s t k.value v k.was)
-            | inr y ↦ elim (branch (token.sees_use s.rest) _ _ s (Ok (x, t)) y.1) [
-              | inl z ↦ capture_in_place_took s t x v z.1
-              | inr z ↦ trait_in_place_took s t x v z.1
-            ]
-          ]
+        ]

@@ -28,12 +28,14 @@ use Rattle.syn_ty.specs.generics.Bounds.{AreBounds}
 use Rattle.syn_ty.specs.ty.Admitted.{IsVerbatimType, a_dyn_star, IsType, an_object_with_dyn, a_verbatim_type}
 use Rattle.syn_ty.specs.ty.Objects.{IsBoundList, several_bounds, one_bound, AreObjectBounds, IsDyn, a_dyn, IsImpl, an_impl}
 use Rattle.syn_ty.specs.ty.Parts.{Manner, loosely, End, Holds, Parts}
-use Rattle.syn_ty.specs.ty.Points.{Readers, a_bound}
+use Rattle.syn_ty.specs.ty.Points.{Point, Readers, a_bound}
 use Rattle.syn_ty.specs.ty.Reading as reading
 use Rattle.syn_ty.specs.ty.Reading.{names_trait}
 use Rattle.syn_ty.specs.ty.Spelling.{IsOptional, absent, present}
 use Rattle.syn_ty.specs.ty.Trees.{TypeImplTrait, TypeParamBound, TypeTraitObject, TypeTree}
 use Rattle.syn_ty.specs.ty.Types.{impl_trait_with, trait_object_with}
+use Rattle.syn_ty.proofs.ty_laws.AlongTold.{named}
+use Rattle.syn_ty.proofs.ty_laws.AlongTypesTold.{object_bounds_along, optional_star_along}
 use Rattle.syn_ty.proofs.ty_laws.BoundsTold.{bounds_took, word_ends}
 use Rattle.syn_ty.proofs.ty_laws.HeldTold.{holds_since}
 use Rattle.syn_ty.proofs.ty_laws.ObjectsTold.{objects_took}
@@ -126,8 +128,7 @@ module _ {A E : Type 0} (part : Manner → Parts A E) (place : TypePlace) where
 
 module _ {A E : Type 0} (r : Readers A E) (part : Manner → Parts A E)
     (took : (s t : Stream) (x : TypeParamBound A E) → Visible s.rest → r (a_bound Object) s ≡ Ok (x, t) → TookOne (Told ((part loosely).bound Object)) s t x)
-    (dyn_word_along : Along token.dyn_word) (star_along : Along reading.optional_star) (bound_along : Along (r (a_bound Object)))
-    (object_bounds_along : (from : Span) (plus : Bool) (x : TypeParamBound A E) → Along (reading.object_bounds r from plus x)) where
+    (along : (q : Point) → Along (r q)) where
   abbrev Objects : Type 0
   Objects = Many (TypeParamBound A E) token.Plus
 
@@ -183,9 +184,9 @@ module _ {A E : Type 0} (r : Readers A E) (part : Manner → Parts A E)
         let kf = took d.rest f.rest f.value kd.seen f.was in
         let g = chain (reading.object_bounds r (here s) plus f.value f.rest) (λ w. reading.dyn_of (position s) c.value d.value w) x u f.goes in
         let kg = objects_took r part took plus place as_plus (here s) f.value d.rest.rest f.rest g.rest g.value kf.seen g.was in
-        let on = follows_trans s c.rest g.rest (dyn_word_along s c.rest c.value c.was)
-        (follows_trans c.rest d.rest g.rest (star_along c.rest d.rest d.value d.was)
-        (follows_trans d.rest f.rest g.rest (bound_along d.rest f.rest f.value f.was) (object_bounds_along (here s) plus f.value f.rest g.rest g.value g.was))) in
+        let on = follows_trans s c.rest g.rest (named {n = 7} s c.rest c.value c.was)
+        (follows_trans c.rest d.rest g.rest (optional_star_along c.rest d.rest d.value d.was)
+        (follows_trans d.rest f.rest g.rest (along (a_bound Object) d.rest f.rest f.value f.was) (object_bounds_along along (here s) plus f.value f.rest g.rest g.value g.was))) in
         let q : TookOne (λ (y : Objects). Before c.value d.value y) s g.rest g.value = record {
           left = λ n. kc.left (kd.left (kf.left (kg.0 n)));
           seen = kg.1;
