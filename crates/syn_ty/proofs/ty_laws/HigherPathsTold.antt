@@ -1,11 +1,11 @@
 -- Paths and their arguments grow with what stands within: where the one grammar spells it, the other does.
 use Rattle.std.proofs.Common.{List, Option}
 use Rattle.token_core.specs.Tokens as token
-use Rattle.token_core.specs.Toks.{Toks}
+use Rattle.token_core.specs.Toks.{Bytes, Toks}
 use Rattle.syn_path.specs.declared.path.PathStyle.{PathStyle}
 use Rattle.syn_forms.specs.declared.places.TypePlace.{TypePlace}
 use Rattle.syn_ty.specs.path.Paths.{Sep}
-use Rattle.syn_ty.specs.path.Signed.{IsReturn, no_output, an_output, IsInput, an_input, IsParens, a_parens, IsSigned, a_signed, AreSigned, signed_last, signed_after, IsBoundPath, without_parens, with_parens}
+use Rattle.syn_ty.specs.path.Signed.{IsReturn, no_output, an_output, IsInput, an_input, IsParens, a_parens, IsDropped, nothing_dropped, a_sep_dropped, a_pair_dropped, IsSigned, a_signed, AreSigned, signed_last, signed_after, IsBoundPath, without_parens, with_parens}
 use Rattle.syn_ty.specs.path.Spelling.{IsAngle, an_angle, IsArguments, some_arguments, IsSegment, a_word, a_word_with_arguments, AreSegments, IsPath, a_path, IsQualified, by_type, by_type_as_path, IsAnyPath, unqualified, qualified, IsNoTry}
 use Rattle.syn_ty.specs.ty.Parts.{Manner, End, Parts}
 use Rattle.syn_ty.specs.ty.Trees.{AngleBracketed, NamedArg, Parenthesized, Path, PathArguments, PathSegment, QSelf, ReturnType}
@@ -59,8 +59,13 @@ module _ {A E : Type 0} {part over : Manner → Parts A E} (up : (how : Manner) 
 
   -- ---- the path of a trait bound
 
+  pub dropped_up : {how : Manner} {t : Bytes} {l r : Toks} → IsDropped part how t l r → IsDropped over how t l r
+  dropped_up nothing_dropped = nothing_dropped
+  dropped_up (a_sep_dropped c) = a_sep_dropped c
+  dropped_up (a_pair_dropped w b o g c) = a_pair_dropped w b o g c
+
   pub signed_up : {how : Manner} {e : End} {x : PathSegment A E} {l r : Toks} → IsSigned part how e x l r → IsSigned over how e x l r
-  signed_up (a_signed w d i) = a_signed w d (parens_up i)
+  signed_up (a_signed w d i) = a_signed w (dropped_up d) (parens_up i)
 
   pub all_signed_up : {how : Manner} {e : End} {xs : List (PathSegment A E)} {cs : List Sep} {l r : Toks} → AreSigned part how e xs cs l r → AreSigned over how e xs cs l r
   all_signed_up (signed_last i) = signed_last (signed_up i)
