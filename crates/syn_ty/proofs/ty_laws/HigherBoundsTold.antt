@@ -1,5 +1,5 @@
 -- Bounds, parameters, predicates and generic arguments grow with what stands within: where the one grammar spells it, the other does.
-use Rattle.std.proofs.Common.{◌≡◌, Bool, List, Option}
+use Rattle.std.proofs.Common.{Bool, List, Option}
 use Rattle.token_core.specs.declared.tree.Ident.{Ident}
 use Rattle.token_core.specs.Tokens as token
 use Rattle.token_core.specs.Toks.{Toks}

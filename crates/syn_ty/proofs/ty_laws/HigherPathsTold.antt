@@ -1,6 +1,5 @@
 -- Paths and their arguments grow with what stands within: where the one grammar spells it, the other does.
 use Rattle.std.proofs.Common.{List, Option}
-use Rattle.token_core.specs.Tokens as token
 use Rattle.token_core.specs.Toks.{Bytes, Toks}
 use Rattle.syn_path.specs.declared.path.PathStyle.{PathStyle}
 use Rattle.syn_forms.specs.declared.places.TypePlace.{TypePlace}

@@ -12,7 +12,7 @@ use Rattle.syn_ty.specs.generics.Clauses.{IsPredicate, IsWhereClause}
 use Rattle.syn_ty.specs.generics.Parameters.{AreGenerics, IsConstParam, IsLifetimeParam, IsParam, IsTypeParam}
 use Rattle.syn_ty.specs.path.Arguments.{ArgumentPlace, IsArgument}
 use Rattle.syn_ty.specs.path.Signed.{IsParens, IsReturn}
-use Rattle.syn_ty.specs.path.Spelling.{IsAngle, IsAnyPath, IsArguments, IsPath, IsSegment}
+use Rattle.syn_ty.specs.path.Spelling.{IsAngle, IsArguments, IsPath, IsSegment}
 use Rattle.syn_ty.specs.ty.Admitted.{IsBorrow, IsBracketed, IsCounted, IsEnclosed, IsPointer, IsTupled, IsType}
 use Rattle.syn_ty.specs.ty.Functions.{IsFnPtr, IsNamedArg}
 use Rattle.syn_ty.specs.ty.Objects.{IsImpl, IsObject}
