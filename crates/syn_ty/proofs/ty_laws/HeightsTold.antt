@@ -35,7 +35,9 @@ use Rattle.syn_ty.proofs.ty_laws.SignedTold.{EmptyPair}
 use Rattle.syn_ty.proofs.ty_laws.Told.{Told}
 use Rattle.syn_ty.proofs.ty_laws.TypePathsTold.{Onward, any_path_took}
 use Rattle.syn_ty.proofs.ty_laws.TypesTold.{type_took}
-use Rattle.syn_ty.proofs.ty_laws.WiderTold.{Wider, spelt_wide, type_wide}
+use Rattle.syn_ty.proofs.ty_laws.HigherPartsTold.{Up}
+use Rattle.syn_ty.proofs.ty_laws.HigherTold.{higher}
+use Rattle.syn_ty.proofs.ty_laws.HigherTypesTold.{type_up}
 use Rattle.syn_ty.proofs.ty_laws.Within.{Along, Held, Supplied}
 
 -- ---- the laws over wider relations
@@ -48,7 +50,7 @@ module _ {A : Type 0} {V W : End → Relation A} (f : (e : End) (x : A) (l r : T
   pub told_wide : (x : A) (l r : Toks) → Told V x l r → Told W x l r
   told_wide x l r i = (i.0, f i.0 x l r i.1, i.2, i.3)
 
-module _ {A E : Type 0} (part over : Manner → Parts A E) (wide : Wider (part loosely) (over loosely)) where
+module _ {A E : Type 0} (part over : Manner → Parts A E) (wide : Up (part loosely) (over loosely)) where
   -- what is known of reads
   pub held_wide : (r : Readers A E) → ((x : PathArguments A E) (l k : Toks) → (over loosely).arguments x l k → is_empty x ≡ true → EmptyPair over l k) → Held r part → Held r over
   held_wide r pair h = record {
@@ -105,5 +107,5 @@ module _ {A E : Type 0} (shown : Bool → List A → Toks → Toks → Type 0) (
     -- two heights more than what it holds
     pub type_told : (s t : Stream) (x : TypeTree A E) → Visible s.rest → reading.type_step attrs values r place s ≡ Ok (x, t) → TookOne (Told ((spelt_to shown spelt (suc (suc n)) loosely).ty place)) s t x
     type_told s t x v e =
-        type_took attrs values r part next h g (λ p d y l k i. type_wide part next (spelt_wide shown spelt n) loosely i) (λ d y l k i. i) (λ d y l k i. (spelt_wide shown spelt n loosely).ty Plus d y l k i)
+        type_took attrs values r part next h g (λ p d y l k i. type_up (higher shown spelt n) i) (λ d y l k i. i) (λ d y l k i. (higher shown spelt n loosely).ty Plus d y l k i)
         (some_at n) took_lifetime took_dyn took_impl took_fn binder_along builtin_along unsafe_along place s t x v e

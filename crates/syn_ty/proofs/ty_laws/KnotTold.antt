@@ -21,7 +21,6 @@ use Rattle.syn_ty.specs.declared.generics.GenericParamOf.TheOpen as o
 use Rattle.syn_ty.specs.declared.generics.TypeParamBoundOf.TheVariants as bound
 use Rattle.syn_ty.specs.declared.path.PathArgumentsOf.TheVariants as a
 use Rattle.syn_ty.specs.generics.Bounds.{a_lifetime_bound}
-use Rattle.syn_ty.specs.generics.Reading.{trait_in}
 use Rattle.syn_ty.specs.path.Paths.{empty_layer, is_empty}
 use Rattle.syn_ty.specs.path.Spelling.{IsAngle, an_angle, some_arguments as angle_arguments}
 use Rattle.syn_ty.specs.ty.Admitted.{IsType}
@@ -32,22 +31,21 @@ use Rattle.syn_ty.specs.ty.Points.{Point, Tree, Readers, a_bound, a_param, a_typ
 use Rattle.syn_ty.specs.ty.Reading as reading
 use Rattle.syn_ty.specs.ty.Spelt.{spelt_to}
 use Rattle.syn_ty.specs.ty.Trees.{AngleBracketed, PathArguments, TypeImplTrait, TypeParamBound, TypeTree}
-use Rattle.syn_ty.proofs.ty_laws.AlongBoundsTold.{binder_along, trait_or_const_along}
+use Rattle.syn_ty.proofs.ty_laws.AlongBoundsTold.{binder_along}
 use Rattle.syn_ty.proofs.ty_laws.AlongKnotTold.{step_along}
-use Rattle.syn_ty.proofs.ty_laws.AlongTold.{named, parens_along}
-use Rattle.syn_ty.proofs.ty_laws.AlongTypesTold.{builtin_along, object_bounds_along, optional_star_along, unsafe_binder_along}
+use Rattle.syn_ty.proofs.ty_laws.AlongTypesTold.{builtin_along, unsafe_binder_along}
 use Rattle.syn_ty.proofs.ty_laws.AnglesTold.{arguments_took}
 use Rattle.syn_ty.proofs.ty_laws.ArgumentsTold.{argument_took, in_angles}
 use Rattle.syn_ty.proofs.ty_laws.BoundTold.{bound_took}
 use Rattle.syn_ty.proofs.ty_laws.DynTold.{dyn_type_took, impl_took}
 use Rattle.syn_ty.proofs.ty_laws.FunctionsTold.{fn_ptr_after_took}
 use Rattle.syn_ty.proofs.ty_laws.HeightsTold.{held_wide, supplied_wide, type_told}
+use Rattle.syn_ty.proofs.ty_laws.HigherTold.{higher}
 use Rattle.syn_ty.proofs.ty_laws.Knot.{as_held, enough}
 use Rattle.syn_ty.proofs.ty_laws.ObjectsTold.{lifetime_object_took}
 use Rattle.syn_ty.proofs.ty_laws.ParamsTold.{param_took}
 use Rattle.syn_ty.proofs.ty_laws.SignedTold.{EmptyPair}
 use Rattle.syn_ty.proofs.ty_laws.Told.{Told}
-use Rattle.syn_ty.proofs.ty_laws.WiderTold.{spelt_wide}
 use Rattle.syn_ty.proofs.ty_laws.Within.{Held, Supplied}
 
 some_there : (n : ℕ) → (suc n == 0) ≡ true → ⊥
@@ -96,7 +94,7 @@ module _ {A E : Type 0} (shown : Bool → List A → Toks → Toks → Type 0) (
     took_lifetime p s t w v e = lifetime_object_took r (To n) (h.bound Object) (lifetimes n) p s t w v e
 
     took_dyn : (p : TypePlace) (s t : Stream) (x : TypeTree A E) → Visible s.rest → reading.dyn_type r (allows_plus p) s ≡ Ok (x, t) → TookOne (Told (IsType (To n) loosely p)) s t x
-    took_dyn p s t x v e = dyn_type_took r (To n) (h.bound Object) (named {n = 7}) optional_star_along (h.along (a_bound Object)) (object_bounds_along h.along) (allows_plus p) p refl s t x v e
+    took_dyn p s t x v e = dyn_type_took r (To n) (h.bound Object) h.along (allows_plus p) p refl s t x v e
 
     took_impl : (p : TypePlace) (s t : Stream) (x : TypeImplTrait A E) → Visible s.rest → reading.impl_trait r (allows_plus p) s ≡ Ok (x, t) → TookOne (Told (IsImpl (To n) loosely p)) s t x
     took_impl p s t x v e = impl_took r (To n) (h.bound Opaque) p (allows_plus p) refl s t x v e
@@ -108,19 +106,19 @@ module _ {A E : Type 0} (shown : Bool → List A → Toks → Toks → Type 0) (
   module _ (n : ℕ) (attrs : Reader (List A)) (values : ReadValues E) (r : Readers A E) (h : Held r (To (suc n))) (g : Supplied attrs values (To (suc n))) where
     -- over one height more
     over : Held r (To (suc (suc n)))
-    over = held_wide (To (suc n)) (To (suc (suc n))) (spelt_wide shown spelt (suc n) loosely) r (empty_at (suc n)) h
+    over = held_wide (To (suc n)) (To (suc (suc n))) (higher shown spelt (suc n) loosely) r (empty_at (suc n)) h
 
     more : Supplied attrs values (To (suc (suc n)))
-    more = supplied_wide (To (suc n)) (To (suc (suc n))) (spelt_wide shown spelt (suc n) loosely) attrs values g
+    more = supplied_wide (To (suc n)) (To (suc (suc n))) (higher shown spelt (suc n) loosely) attrs values g
 
     -- what one turn of these reads answers is two heights more
     pub turned : Held (step attrs values r) (To (suc (suc (suc n))))
     turned = record {
       ty = type_turn (suc n) attrs values r h g;
-      bound = λ p s t x v e. bound_took r (To (suc (suc n))) over (trait_or_const_along over.along) (λ consts. parens_along (trait_in r consts)) p s t x v e;
+      bound = λ p s t x v e. bound_took r (To (suc (suc n))) over p s t x v e;
       param = λ p s t x v e. param_took attrs values r (To (suc (suc n))) over more p s t x v e;
       argument = λ s t x v e.
-          argument_took attrs values r (To (suc (suc n))) over more (λ y l k i. in_angles shown spelt (To (suc n)) y l k i) (reading.type_step attrs values r Plus) (type_turn (suc n) attrs values r h g Plus) s t x v e;
+          argument_took attrs values r (To (suc (suc n))) over more (λ y l k i. in_angles (To (suc n)) y l k i) (reading.type_step attrs values r Plus) (type_turn (suc n) attrs values r h g Plus) s t x v e;
       arguments = λ s t x v e. arguments_took r (To (suc (suc n))) over.argument s t x v e;
       pair = empty_at (suc (suc n));
       along = step_along attrs values g.attrs_along g.argument_along h.along;
