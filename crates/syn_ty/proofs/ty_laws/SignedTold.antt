@@ -109,7 +109,7 @@ module _ {A E : Type 0} (r : Readers A E) (part : Manner → Parts A E)
 
 module _ {A E : Type 0} (part : Manner → Parts A E) where
   -- a pair of angle marks between which nothing stands, perhaps after `::`
-  pub EmptyPair : Toks → Toks → Type 0
+  unfoldable pub EmptyPair : Toks → Toks → Type 0
   EmptyPair l k = (c : Option Sep) × (o : token.Lt) × (g : token.Gt) × (m : Toks) × (n : Toks) × IsOptional (IsMark false) c l m × IsMark false o m n × IsMark false g n k
 
   module _ (pair : (x : PathArguments A E) (l k : Toks) → (part loosely).arguments x l k → is_empty x ≡ true → EmptyPair l k) where

@@ -79,7 +79,7 @@ module _ {A E : Type 0} (part : Manner → Parts A E) (place : BoundPlace) (Ends
 
 -- ---- an optional part that is absent was not seen
 
-unseen : {A : Type 0} (sees : Toks → Bool) (p : Reader A) (s t : Stream) (o : Option A) → optional sees p s ≡ Ok (o, t) → o ≡ None → sees s.rest ≡ false
+pub unseen : {A : Type 0} (sees : Toks → Bool) (p : Reader A) (s t : Stream) (o : Option A) → optional sees p s ≡ Ok (o, t) → o ≡ None → sees s.rest ≡ false
 unseen {A} sees p s t o e h =
     elim (branch (sees s.rest) _ _ s (Ok (o, t)) e) [
       | inl y ↦ let k = mapped (p s) (λ (z : A). Some z) o t y.1 in cc (k.is ∙ h)
