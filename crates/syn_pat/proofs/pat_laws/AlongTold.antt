@@ -1,5 +1,5 @@
 -- A read of a pattern that answers stands further on, where the reads of the patterns within, of paths and of attributes do.
-use Rattle.std.proofs.Common.{ℕ, zero, suc, Option, Some, None}
+use Rattle.std.proofs.Common.{not, ◌&&◌, ◌||◌, is_some, Option, Some, None}
 use Rattle.token_core.specs.declared.member.Member.{Member}
 use Rattle.token_core.specs.declared.member.Member.TheVariants as member
 use Rattle.token_core.specs.declared.range.RangeLimits.{RangeLimits}
@@ -10,17 +10,22 @@ use Rattle.token_core.specs.declared.tree.Delimiter.{Delimiter}
 use Rattle.token_core.specs.declared.tree.Delimiter.TheVariants.{Parenthesis, Brace, Bracket, None as NoDelimiter}
 use Rattle.token_core.specs.declared.tree.TokenStream.{TokenStream}
 use Rattle.token_core.specs.declared.tree.Ident.{Ident}
-use Rattle.token_core.specs.Loops.{size}
+use Rattle.token_core.specs.Groups as groups
+use Rattle.token_core.specs.Lits.{sees_lit}
+use Rattle.token_core.specs.Loops.{never}
 use Rattle.token_core.specs.Positions.{Item}
-use Rattle.token_core.specs.Reads.{Reader}
+use Rattle.token_core.specs.Reads.{Reader, sees_group}
 use Rattle.syn_path.specs.declared.mac.Macro.{Macro}
 use Rattle.syn_path.specs.declared.supplied.Place.{Place}
+use Rattle.syn_path.specs.declared.supplied.Place.TheVariants.{Block}
 use Rattle.syn_path.specs.mac.Reading as macs
 use Rattle.syn_path.specs.path.Paths.{ModPath}
 use Rattle.syn_attr.specs.attr.Attrs.{Attribute as Attr}
 use Rattle.syn_attr.specs.attr.Reading.{outer}
 use Rattle.syn_attr.specs.declared.expr.Expr.{Expr}
-use Rattle.syn_forms.specs.verbatim.Reading.{begin}
+use Rattle.syn_forms.specs.verbatim.Reading.{position}
+use Rattle.syn_ty.specs.path.Reading.{is_mod_style}
+use Rattle.syn_ty.specs.ty.Reading.{sees_call}
 use Rattle.syn_ty.specs.ty.Trees.{Path, QSelf}
 use Rattle.syn_ty.proofs.ty_laws.Within.{Along}
 use Rattle.syn_pat.specs.declared.place.PatPlace.{PatPlace}
@@ -35,60 +40,60 @@ use Rattle.syn_pat.proofs.pat_laws.StreamsTold.{bind, brackets_along, delimited_
 
 pub name_along : Along reading.bound_name
 unfolding reading.bound_name
-name_along = either word word
+name_along = either token.sees_self_value (word _ _) (word _ _)
 
 pub ref_along : Along reading.by_ref
-ref_along = optional_along named
+ref_along = optional_along token.sees_ref named
 
 pub modes_along : Along reading.modes
 unfolding reading.modes
-modes_along = bind (optional_along named) (λ b. bind ref_along (λ f. bind (optional_along named) (λ u. stays)))
+modes_along = bind (optional_along token.sees_box named) (λ b. bind ref_along (λ f. bind (optional_along token.sees_mut named) (λ u. (stays _))))
 
 head_along : Along reading.bound_head
 unfolding reading.bound_head
-head_along = bind ref_along (λ f. bind (optional_along named) (λ u. bind name_along (λ i. stays)))
+head_along = bind ref_along (λ f. bind (optional_along token.sees_mut named) (λ u. bind name_along (λ i. stays _)))
 
 -- ---- macro calls
 
 calls_along : (d : Delimiter) (s : DelimSpan) (c : TokenStream) → Along (macs.held d s c)
-calls_along Parenthesis s c = stays
-calls_along Brace s c = stays
-calls_along Bracket s c = stays
-calls_along NoDelimiter s c = refused
+calls_along Parenthesis s c = stays _
+calls_along Brace s c = stays _
+calls_along Bracket s c = stays _
+calls_along NoDelimiter s c = refused _
 
 body_along : Along macs.body
 unfolding macs.body
 body_along = bind delimited_along (λ b. calls_along b.0 b.1 b.2)
 
-call_along : {p : ModPath} → Along (macs.call_after p)
+call_along : (p : ModPath) → Along (macs.call_after p)
 unfolding macs.call_after
-call_along = bind mark (λ b. bind body_along (λ h. stays))
+call_along p = bind (mark {n = 0} {l = 1}) (λ b. bind body_along (λ h. (stays _)))
 
 -- ---- bounds and ranges
 
 module _ {X : Type 0} (supplied : Place → Reader X) (path_along : Along (reading.qpath supplied)) where
   block_along : Along (reading.const_block supplied)
   unfolding reading.const_block
-  block_along = bind named (λ w. bind (made in_group_along) (λ b. stays))
+  block_along = bind (named {n = 6}) (λ w. bind (made _ (in_group_along Brace groups.brace_name (supplied Block))) (λ b. (stays _)))
 
   bound_along : Along (reading.bound supplied)
   unfolding reading.bound
-  bound_along = either (made literal) (either (made path_along) (either (made block_along) refused))
+  bound_along = either sees_lit (made _ literal) (either reading.sees_bound_path (made _ path_along) (either token.sees_const (made _ block_along) (refused _)))
 
   optional_bound_along : Along (reading.optional_bound supplied)
   unfolding reading.optional_bound
-  optional_bound_along = either stays (made bound_along)
+  optional_bound_along = either reading.ends_range (stays _) (made _ bound_along)
 
   ended_along : (o : Option (PatRangeBound X)) (l : RangeLimits) (f : Option (PatRangeBound X)) → Along (reading.ended o l f)
-  ended_along o (limits.HalfOpen d) f = stays
-  ended_along o (limits.Closed d) (Some f) = stays
-  ended_along o (limits.Closed d) None = refused
+  ended_along o (limits.HalfOpen d) f = stays _
+  ended_along o (limits.Closed d) (Some f) = stays _
+  ended_along o (limits.Closed d) None = refused _
 
   half_of_along : (l : RangeLimits) (f : Option (PatRangeBound X)) → Along (reading.half_of l f)
-  half_of_along (limits.HalfOpen d) None = stays
-  half_of_along (limits.HalfOpen d) (Some f) = stays
-  half_of_along (limits.Closed d) (Some f) = stays
-  half_of_along (limits.Closed d) None = refused
+  half_of_along (limits.HalfOpen d) None = stays _
+  half_of_along (limits.HalfOpen d) (Some f) = stays _
+  half_of_along (limits.Closed d) (Some f) = stays _
+  half_of_along (limits.Closed d) None = refused _
 
   range_after_along : (x : PatRangeBound X) → Along (reading.range_after supplied x)
   unfolding reading.range_after
@@ -100,7 +105,7 @@ module _ {X : Type 0} (supplied : Place → Reader X) (path_along : Along (readi
 
   after_bound_along : (x : PatRangeBound X) → Along (reading.after_bound supplied x)
   unfolding reading.after_bound
-  after_bound_along x = either (range_after_along x) stays
+  after_bound_along x = either token.sees_dot_dot (range_after_along x) (stays _)
 
   bound_or_range_along : Along (reading.bound_or_range supplied)
   unfolding reading.bound_or_range
@@ -111,38 +116,38 @@ module _ {X : Type 0} (supplied : Place → Reader X) (path_along : Along (readi
 module _ {X : Type 0} (r : Readers X) (within : (p : PatPlace) → Along (r p)) where
   subpat_along : Along (reading.subpat r)
   unfolding reading.subpat
-  subpat_along = bind mark (λ m. bind (within Single) (λ x. stays))
+  subpat_along = bind (mark {n = 6} {l = 1}) (λ m. bind (within Single) (λ x. stays _))
 
   binding_along : Along (reading.binding r)
   unfolding reading.binding
-  binding_along = bind head_along (λ h. bind (optional_along subpat_along) (λ o. stays))
+  binding_along = bind head_along (λ h. bind (optional_along token.sees_at subpat_along) (λ o. (stays _)))
 
   reference_along : Along (reading.reference r)
   unfolding reading.reference
-  reference_along = bind mark (λ m. bind (optional_along named) (λ u. bind (within Single) (λ x. stays)))
+  reference_along = bind (mark {n = 5} {l = 1}) (λ m. bind (optional_along token.sees_mut (named {n = 13})) (λ u. bind (within Single) (λ x. stays _)))
 
   box_along : Along (reading.box_pat r)
   unfolding reading.box_pat
-  box_along = bind stays (λ f. bind named (λ w. bind (within Single) (λ x. bind held_since (λ t. stays))))
+  box_along = bind (stays position) (λ f. bind (named {n = 5}) (λ w. bind (within Single) (λ x. bind (held_since _) (λ t. (stays _)))))
 
   slice_along : Along (reading.slice r)
   unfolding reading.slice
-  slice_along = made brackets_along
+  slice_along = made _ (brackets_along _)
 
   parens : Along (reading.paren_or_tuple r)
   unfolding reading.paren_or_tuple
-  parens = made parens_along
+  parens = made _ (parens_along _)
 
   alternatives_along : (o : Option token.Bar) (x : Pat X) → Along (reading.alternatives r o x)
   unfolding reading.alternatives
-  alternatives_along o x = either (made (list_from_along (within Single) mark)) stays
+  alternatives_along o x = either (λ l. is_some o || reading.sees_vert l) (made _ (list_from_along never reading.sees_vert (within Single) (mark {n = 17} {l = 1}) x)) (stays _)
 
 -- ---- single patterns, and patterns in their places
 
 module _ {X : Type 0} (supplied : Place → Reader X) (path_along : Along (reading.qpath supplied)) (r : Readers X) (within : (p : PatPlace) → Along (r p)) where
   after_path_along : (q : Option (QSelf (Attr X) (Expr X))) (p : Path (Attr X) (Expr X)) → Along (reading.after_path supplied r q p)
   unfolding reading.after_path reading.struct_after reading.tuple_struct_after
-  after_path_along q p = either (made call_along) (either (made (made in_group_along)) (either (made (made parens_along)) (after_bound_along supplied path_along _)))
+  after_path_along q p = either (λ l. not (is_some q) && (sees_call l && is_mod_style p)) (made _ (call_along _)) (either (sees_group Brace) (made _ (made _ (in_group_along _ _ _))) (either (sees_group Parenthesis) (made _ (made _ (parens_along _))) (after_bound_along supplied path_along _)))
 
   path_pat_along : Along (reading.path_pat supplied r)
   unfolding reading.path_pat
@@ -150,15 +155,15 @@ module _ {X : Type 0} (supplied : Place → Reader X) (path_along : Along (readi
 
   by_mark_along : Along (reading.by_mark supplied r)
   unfolding reading.by_mark
-  by_mark_along = either (made (reference_along r within)) (either (parens r within) (either (made (slice_along r within)) (either (half_open_along supplied path_along) refused)))
+  by_mark_along = either token.sees_and (made _ (reference_along r within)) (either (sees_group Parenthesis) (parens r within) (either (sees_group Bracket) (made _ (slice_along r within)) (either reading.sees_half_open (half_open_along supplied path_along) (refused _))))
 
   by_word_along : Along (reading.by_word supplied r)
   unfolding reading.by_word
-  by_word_along = either (made (made named)) (either (box_along r within) (either (bound_or_range_along supplied path_along) (either (made (binding_along r within)) by_mark_along)))
+  by_word_along = either token.sees_underscore (made _ (made _ (named {n = 19}))) (either token.sees_box (box_along r within) (either reading.begins_bound (bound_or_range_along supplied path_along) (either reading.begins_binding (made _ (binding_along r within)) by_mark_along)))
 
   single_along : Along (reading.single supplied r)
   unfolding reading.single
-  single_along = either path_pat_along by_word_along
+  single_along = either reading.begins_path path_pat_along by_word_along
 
   multi_along : Along (reading.multi supplied r)
   unfolding reading.multi
@@ -166,11 +171,11 @@ module _ {X : Type 0} (supplied : Place → Reader X) (path_along : Along (readi
 
   leading_along : Along (reading.leading supplied r)
   unfolding reading.leading
-  leading_along = bind (optional_along mark) (λ o. bind single_along (λ x. alternatives_along r within o x))
+  leading_along = bind (optional_along token.sees_bar (mark {n = 17} {l = 1})) (λ o. bind single_along (λ x. alternatives_along r within o x))
 
   unless_along : (o : Option (Span × Span)) (x : Pat X) → Along (reading.unless_open o x)
-  unless_along None x = stays
-  unless_along (Some p) x = refused
+  unless_along None x = stays _
+  unless_along (Some p) x = refused _
 
   element_along : Along (reading.element supplied r)
   unfolding reading.element

@@ -151,7 +151,7 @@ module _ {X : Type 0} (supplied : Place → Reader X) (spells : Place → X → 
       elim (branch (has_mode c.value) (read_word is_ident ident_name >>= bound_field (position s) a c.value) (read_member >>= plain_field r (position s) a) c.rest (Ok (x, t)) c.goes) [
         | inl y ↦ let d = chain (read_word is_ident ident_name c.rest) (bound_field (position s) a c.value) x t y.1 in
             let w = took_word is_ident ident_name c.rest d.rest d.value kc.seen d.was in
-            let on = follows_trans s c.rest d.rest (modes_along s c.rest c.value c.was) (word_along {test = is_ident} {name = ident_name} c.rest d.rest d.value d.was) in
+            let on = follows_trans s c.rest d.rest (modes_along s c.rest c.value c.was) (word_along is_ident ident_name c.rest d.rest d.value d.was) in
             let q = bound_took a l c.value.0 c.value.1 c.value.2 d.value s c.rest d.rest t x v (subst Visible w.is kc.seen) on w.is w.meets d.goes in
             record { left = λ n. kc.left (sym w.left ∙ q.left n); seen = q.seen; told = λ n i stop. q.told n i (kc.spelt (sym w.left ∙ q.left n)) }
         | inr y ↦ let d = chain (read_member c.rest) (plain_field r (position s) a) x t y.1 in
