@@ -28,6 +28,7 @@ use Rattle.syn_ty.specs.path.Reading.{is_mod_style}
 use Rattle.syn_ty.specs.ty.Reading.{sees_call}
 use Rattle.syn_ty.specs.ty.Trees.{Path, QSelf}
 use Rattle.syn_ty.proofs.ty_laws.Within.{Along}
+use Rattle.syn_pat.specs.declared.pat.PatOf.TheVariants as v
 use Rattle.syn_pat.specs.declared.place.PatPlace.{PatPlace}
 use Rattle.syn_pat.specs.declared.place.PatPlace.TheVariants.{Single, Multi, LeadingVert, Element}
 use Rattle.syn_pat.specs.pat.Pats.{Attrs, Pat, PatRangeBound}
@@ -128,7 +129,7 @@ module _ {X : Type 0} (r : Readers X) (within : (p : PatPlace) → Along (r p)) 
 
   box_along : Along (reading.box_pat r)
   unfolding reading.box_pat
-  box_along = bind (stays position) (λ f. bind (named {n = 5}) (λ w. bind (within Single) (λ x. bind (held_since _) (λ t. (stays _)))))
+  box_along = bind (stays position) (λ f. bind (named {n = 5}) (λ w. bind (within Single) (λ x. bind (held_since f) (λ t. stays (λ s. v.Verbatim t)))))
 
   slice_along : Along (reading.slice r)
   unfolding reading.slice

@@ -25,7 +25,7 @@ use Rattle.syn_ty.specs.ty.Parts.{Manner, loosely}
 use Rattle.syn_ty.specs.ty.Spelling.{IsOptional, absent, present, Relation}
 use Rattle.syn_ty.specs.ty.Types.{Comma}
 use Rattle.syn_ty.proofs.ty_laws.Sound.{IsHeld, comma_seen, comma_took, held_sound, named_sound, optional_sound, twice}
-use Rattle.syn_pat.specs.declared.pat.PatOf.TheVariants as v
+use Rattle.syn_pat.specs.declared.pat.PatOf.TheVariants as pat
 use Rattle.syn_pat.specs.declared.pat.read.groups.InParens.{InParens}
 use Rattle.syn_pat.specs.declared.pat.read.groups.InParens.TheVariants as held
 use Rattle.syn_pat.specs.declared.place.PatPlace.{PatPlace}
@@ -128,11 +128,11 @@ module _ {X : Type 0} (spells : Place → X → Toks → Type 0) (r : Readers X)
 
   -- ---- references
 
-  reference_at : (a : token.And) (u : Option token.Mut) (x : Pat X) (l m n k : Toks) → IsMark false a l m → (u ≡ None → token.sees_mut m ≡ false) → IsOptional IsWord u m n → part loosely Single x n k → Of (v.Reference (reference_of [] a u x)) l k
+  reference_at : (a : token.And) (u : Option token.Mut) (x : Pat X) (l m n k : Toks) → IsMark false a l m → (u ≡ None → token.sees_mut m ≡ false) → IsOptional IsWord u m n → part loosely Single x n k → Of (pat.Reference (reference_of [] a u x)) l k
   reference_at a u x l m n k i f absent j = a_reference i (f refl) j
   reference_at a u x l m n k i f (present y) j = a_mutable_reference i y j
 
-  pub reference_took : (s t : Stream) (x : PatReference X) → Visible s.rest → reference r s ≡ Ok (x, t) → TookOne (Before Of) s t (v.Reference x)
+  pub reference_took : (s t : Stream) (x : PatReference X) → Visible s.rest → reference r s ≡ Ok (x, t) → TookOne (Before Of) s t (pat.Reference x)
   unfolding reference
   reference_took s t x v e =
       let c = chain (token.and s) _ x t e in
@@ -145,7 +145,7 @@ module _ {X : Type 0} (spells : Place → X → Toks → Type 0) (r : Readers X)
       record {
         left = λ n. sym k.left ∙ kd.left (w.left n);
         seen = w.seen;
-        spelt = λ n stop. subst (λ z. Of (v.Reference z) s.rest t.rest) f.is
+        spelt = λ n stop. subst (λ z. Of (pat.Reference z) s.rest t.rest) f.is
             (reference_at c.value d.value f.value s.rest c.rest.rest d.rest.rest t.rest k.spelt (unseen token.sees_mut token.mut_word c.rest d.rest d.value d.was) (kd.spelt (w.left n)) (w.spelt n stop));
       }
 
@@ -180,14 +180,14 @@ module _ {X : Type 0} (spells : Place → X → Toks → Type 0) (r : Readers X)
 
   -- ---- slices
 
-  slice_at : (p : DelimSpan × Many (Pat X) Comma) (l m : Toks) → IsHeld Bracket (AllOf Element) p l m → Of (v.Slice (slice_of [] (groups.bracket p.0) p.1)) l m
-  slice_at p l m i = subst (λ z. Of (v.Slice (slice_of [] (groups.bracket p.0) p.1)) z m) (sym i.is) (a_slice i.holds)
+  slice_at : (p : DelimSpan × Many (Pat X) Comma) (l m : Toks) → IsHeld Bracket (AllOf Element) p l m → Of (pat.Slice (slice_of [] (groups.bracket p.0) p.1)) l m
+  slice_at p l m i = subst (λ z. Of (pat.Slice (slice_of [] (groups.bracket p.0) p.1)) z m) (sym i.is) (a_slice i.holds)
 
-  pub slice_took : (s t : Stream) (x : PatSlice X) → Visible s.rest → slice r s ≡ Ok (x, t) → TookOne Of s t (v.Slice x)
+  pub slice_took : (s t : Stream) (x : PatSlice X) → Visible s.rest → slice r s ≡ Ok (x, t) → TookOne Of s t (pat.Slice x)
   unfolding slice
   slice_took s t x v e =
       let k = twice (in_group Bracket groups.bracket_name (elements r Element) s) (λ p. (groups.bracket p.0, p.1)) (λ p. slice_of [] p.0 p.1) x t e in
-      took_as {Is = IsHeld Bracket (AllOf Element)} {Js = Of} (λ p. v.Slice (slice_of [] (groups.bracket p.0) p.1)) s t k.value (v.Slice x) (ap v.Slice k.is) (λ l m i. slice_at k.value l m i)
+      took_as {Is = IsHeld Bracket (AllOf Element)} {Js = Of} (λ p. pat.Slice (slice_of [] (groups.bracket p.0) p.1)) s t k.value (pat.Slice x) (ap pat.Slice k.is) (λ l m i. slice_at k.value l m i)
       (held_sound Bracket (AllOf Element) groups.bracket_name (elements r Element) (elements_sound Element) s t k.value v k.was)
 
   -- ---- parentheses and tuples

@@ -30,7 +30,7 @@ use Rattle.syn_ty.specs.ty.Spelling.{IsOptional, absent, present, Relation}
 use Rattle.syn_ty.specs.ty.Types.{Comma}
 use Rattle.syn_ty.proofs.ty_laws.HeldTold.{holds_since}
 use Rattle.syn_ty.proofs.ty_laws.Sound.{comma_seen, named_sound, optional_sound, twice}
-use Rattle.syn_pat.specs.declared.pat.PatOf.TheVariants as v
+use Rattle.syn_pat.specs.declared.pat.PatOf.TheVariants as pat
 use Rattle.syn_pat.specs.declared.place.PatPlace.{PatPlace}
 use Rattle.syn_pat.specs.declared.place.PatPlace.TheVariants.{LeadingVert}
 use Rattle.syn_pat.specs.pat.Admitted.{AreFields, fields_alone, fields_and_rest, IsBoxedName, a_boxed_name, IsField, with_colon, without_colon, boxed}
@@ -91,28 +91,28 @@ module _ {X : Type 0} (supplied : Place → Reader X) (spells : Place → X → 
       }
 
   plain_at : (a : Attrs X) (f : Option token.Ref) (u : Option token.Mut) (i : Ident) (l m n o k : Toks) → Outer a l m → IsOptional IsWord f m n → IsOptional IsWord u n o → o ≡ word i k → is_ident i.text ≡ true →
-      Of (field_of a (member.Named i) None (v.Ident (binding_of [] f u i None))) l k
+      Of (field_of a (member.Named i) None (pat.Ident (binding_of [] f u i None))) l k
   plain_at a f u i l m n o k p q w e d = without_colon p q (subst (λ z. IsOptional IsWord u n z) e w) d
 
   none_at : (a : Attrs X) (f : Option token.Ref) (u : Option token.Mut) (i : Ident) (l m n o j k : Toks) → Outer a l m → IsOptional (IsWord {n = 5}) None m n → IsOptional IsWord f n o → IsOptional IsWord u o j → j ≡ word i k → is_ident i.text ≡ true →
-      Of (field_of a (member.Named i) None (v.Ident (binding_of [] f u i None))) l k
+      Of (field_of a (member.Named i) None (pat.Ident (binding_of [] f u i None))) l k
   none_at a f u i l m n o j k p absent q w e d = plain_at a f u i l m o j k p q w e d
 
   boxed_at : (a : Attrs X) (b : token.Box) (f : Option token.Ref) (u : Option token.Mut) (i : Ident) (x : TokenStream) (l m n o j k : Toks) → Outer a l m → IsOptional IsWord (Some b) m n → IsOptional IsWord f n o → IsOptional IsWord u o j → j ≡ word i k →
-      is_ident i.text ≡ true → Holds x m k → Of (field_of a (member.Named i) None (v.Verbatim x)) l k
+      is_ident i.text ≡ true → Holds x m k → Of (field_of a (member.Named i) None (pat.Verbatim x)) l k
   boxed_at a b f u i x l m n o j k p (present y) q w e d held = boxed p (a_boxed_name y q (subst (λ z. IsOptional IsWord u o z) e w) d) held
 
   -- The modes and the name stand between two states of the stream, and so does the field.
   bound_took : (a : Attrs X) (l : Toks) (b : Option token.Box) (f : Option token.Ref) (u : Option token.Mut) (i : Ident) (s c d t : Stream) (x : FieldPat X) → Visible s.rest → Visible d.rest → Follows s d → c.rest ≡ word i d.rest → is_ident i.text ≡ true →
       bound_field (position s) a (b, f, u) i d ≡ Ok (x, t) → TookOn d t (Outer a l s.rest → AreModes (b, f, u) s.rest c.rest → Of x l t.rest)
   bound_took a l None f u i s c d t x v vd z w m e =
-      let q = same_pair (field_of a (member.Named i) None (v.Ident (binding_of [] f u i None))) x d t e in
+      let q = same_pair (field_of a (member.Named i) None (pat.Ident (binding_of [] f u i None))) x d t e in
       subst (λ y. TookOn d t (Outer a l s.rest → AreModes (None, f, u) s.rest c.rest → Of y l t.rest)) q.0
-      (subst (λ (y : Stream). TookOn d y (Outer a l s.rest → AreModes (None, f, u) s.rest c.rest → Of (field_of a (member.Named i) None (v.Ident (binding_of [] f u i None))) l y.rest)) q.1
+      (subst (λ (y : Stream). TookOn d y (Outer a l s.rest → AreModes (None, f, u) s.rest c.rest → Of (field_of a (member.Named i) None (pat.Ident (binding_of [] f u i None))) l y.rest)) q.1
       (record { left = λ n. n; seen = vd; told = λ n o p. none_at a f u i l s.rest p.0 p.1 c.rest d.rest o p.2 p.3 p.4 w m }))
   bound_took a l (Some b) f u i s c d t x v vd z w m e =
-      let with : TokenStream → FieldPat X = λ y. field_of a (member.Named i) None (v.Verbatim y) in
-      let k = twice (since (position s) d) (λ (y : TokenStream). v.Verbatim y) (λ (y : Pat X). field_of a (member.Named i) None y) x t e in
+      let with : TokenStream → FieldPat X = λ y. field_of a (member.Named i) None (pat.Verbatim y) in
+      let k = twice (since (position s) d) (λ (y : TokenStream). pat.Verbatim y) (λ (y : Pat X). field_of a (member.Named i) None y) x t e in
       let q = holds_since s d t k.value v vd z k.was in
       subst (λ y. TookOn d t (Outer a l s.rest → AreModes (Some b, f, u) s.rest c.rest → Of y l t.rest)) k.is
       (subst (λ (y : Stream). TookOn d y (Outer a l s.rest → AreModes (Some b, f, u) s.rest c.rest → Of (with k.value) l y.rest)) q.0
@@ -121,7 +121,7 @@ module _ {X : Type 0} (supplied : Place → Reader X) (spells : Place → X → 
   named_at : (i : Ident) (m k : Toks) → IsMember (member.Named i) m k → (m ≡ word i k) × (is_ident i.text ≡ true)
   named_at i m k (named e) = (refl, e)
 
-  alone_at : (a : Attrs X) (i : Ident) (l m k : Toks) → Outer a l m → (m ≡ word i k) × (is_ident i.text ≡ true) → Of (field_of a (member.Named i) None (v.Ident (binding_of [] None None i None))) l k
+  alone_at : (a : Attrs X) (i : Ident) (l m k : Toks) → Outer a l m → (m ≡ word i k) × (is_ident i.text ≡ true) → Of (field_of a (member.Named i) None (pat.Ident (binding_of [] None None i None))) l k
   alone_at a i l m k p w = plain_at a None None i l m m m k p absent absent w.0 w.1
 
   -- after a member without modes
@@ -130,9 +130,9 @@ module _ {X : Type 0} (supplied : Place → Reader X) (spells : Place → X → 
   plain_took from a (member.Named i) l m s t x v e =
       elim (branch (token.sees_colon s.rest) _ _ s (Ok (x, t)) e) [
         | inl y ↦ member_took a (member.Named i) l m s t x v y.1
-        | inr y ↦ let q = same_pair (field_of a (member.Named i) None (v.Ident (binding_of [] None None i None))) x s t y.1 in
+        | inr y ↦ let q = same_pair (field_of a (member.Named i) None (pat.Ident (binding_of [] None None i None))) x s t y.1 in
             subst (λ z. TookOn s t (Outer a l m → IsMember (member.Named i) m s.rest → Before Of z l t.rest)) q.0
-            (subst (λ (z : Stream). TookOn s z (Outer a l m → IsMember (member.Named i) m s.rest → Before Of (field_of a (member.Named i) None (v.Ident (binding_of [] None None i None))) l z.rest)) q.1
+            (subst (λ (z : Stream). TookOn s z (Outer a l m → IsMember (member.Named i) m s.rest → Before Of (field_of a (member.Named i) None (pat.Ident (binding_of [] None None i None))) l z.rest)) q.1
             (record { left = λ n. n; seen = v; told = λ n o p stop. alone_at a i l m s.rest o (named_at i m s.rest p) }))
       ]
 
