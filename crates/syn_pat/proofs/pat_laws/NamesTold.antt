@@ -93,7 +93,7 @@ const_mod : (t : Bytes) → is_text (text_of 6) t ≡ true → is_mod_word t ≡
 unfolding is_keyword
 const_mod t h = ap is_mod_word ((bytes_eq-Decides t _).0 h)
 
-contrary : (b : Bool) → b ≡ true → b ≡ false → ⊥
+pub contrary : (b : Bool) → b ≡ true → b ≡ false → ⊥
 contrary true h g = cc g
 contrary false h g = cc h
 
