@@ -1,6 +1,8 @@
 -- What is known of the reads that a pattern holds: each took what its answer spells, where nothing follows that a lone word was taken for a path by; and the same of paths, types, attributes and supplied subtrees.
-use Rattle.std.proofs.Common.{◌≡◌, ℕ, Bool, true, false, not, ◌&&◌, ◌||◌, List, [], ◌∷◌, Option, None, Ok, refl}
+use Rattle.std.proofs.Common.{◌≡◌, ℕ, Bool, true, false, not, ◌&&◌, ◌||◌, ◌==◌, if◌then◌else◌, List, [], ◌∷◌, Option, None, is_some, Ok, refl, ap}
+use Rattle.std.proofs.lemmas.Bool.{eqb-true}
 use Rattle.token_core.specs.declared.tree.Delimiter.TheVariants.{Parenthesis}
+use Rattle.token_core.specs.declared.tree.Punct.{Punct}
 use Rattle.token_core.specs.declared.word.Word.{Word}
 use Rattle.token_core.specs.Listed.{AreListed, none_left, last_value, value_and_mark}
 use Rattle.token_core.specs.Reads.{Reader, leaves, sees_group, sees_mark, third}
@@ -8,7 +10,8 @@ use Rattle.token_core.specs.Rebuilt.{Visible}
 use Rattle.token_core.specs.Spellings.{last_char, more_chars, IsMark, is_mark, IsWord, is_word}
 use Rattle.token_core.specs.Stream.{Stream}
 use Rattle.token_core.specs.Tokens as token
-use Rattle.token_core.specs.Toks.{Toks, done}
+use Rattle.token_core.specs.Toks.{Toks, done, word, mark, lit, group, enter, leave}
+use Rattle.token_core.specs.Trees.{punct}
 use Rattle.syn_path.proofs.Words.{TookOne}
 use Rattle.syn_path.specs.declared.path.PathStyle.TheVariants.{Expr as expressions}
 use Rattle.syn_path.specs.declared.supplied.Place.{Place}
@@ -84,6 +87,25 @@ comma_stops c l r (is_mark (last_char h)) = (refl, refl)
 pub bar_stops : (c : token.Bar) (l r : Toks) → IsMark false c l r → Stops l
 unfolding sees_mark
 bar_stops c l r (is_mark (last_char h)) = (refl, refl)
+
+-- before `..` no `::` stands
+dots_at : (p : Punct) (k : Toks) → p.ch ≡ 46 → token.sees_path_sep (mark p k) ≡ false
+unfolding sees_mark
+dots_at p k h = ap (λ c. token.sees_path_sep (mark (punct c p.spacing p.span) k)) h
+
+two_chars : {A : Type 0} (b : Bool) (o : Option A) → is_some (if b then o else None) ≡ true → b ≡ true
+two_chars true o h = refl
+two_chars false o h = cc h
+
+pub dots_no_sep : (l : Toks) → token.sees_dot_dot l ≡ true → token.sees_path_sep l ≡ false
+unfolding sees_mark
+dots_no_sep done h = refl
+dots_no_sep (word i k) h = refl
+dots_no_sep (mark p k) h = dots_at p k (eqb-true p.ch 46 (two_chars (p.ch == 46) _ h))
+dots_no_sep (lit x k) h = refl
+dots_no_sep (group d s c k) h = refl
+dots_no_sep (enter s k) h = dots_no_sep k h
+dots_no_sep (leave k) h = dots_no_sep k h
 
 -- a list of what stops at each mark
 module _ {A P : Type 0} (V : Relation A) (M : Relation P) (Ends : Bool → Type 0) (stops : (p : P) (l r : Toks) → M p l r → Stops l) where
