@@ -15,11 +15,13 @@ use Rattle.syn_path.specs.declared.supplied.Place.TheVariants.{Guard}
 use Rattle.syn_attr.specs.attr.Attrs.{Attribute as Attr}
 use Rattle.syn_attr.specs.declared.expr.Expr.{Expr}
 use Rattle.syn_attr.specs.declared.expr.Expr.TheVariants as e
+use Rattle.syn_forms.specs.declared.places.TypePlace.TheVariants.{Plus}
 use Rattle.syn_forms.specs.nested.Below.{ahead, below}
 use Rattle.syn_forms.proofs.nested_laws.Below.{out}
 use Rattle.syn_forms.proofs.tokens_laws.Fronts.{nothing_left, took_whole}
-use Rattle.syn_ty.specs.ty.Parts.{Manner, loosely}
+use Rattle.syn_ty.specs.ty.Parts.{Manner, loosely, End}
 use Rattle.syn_ty.specs.ty.Spelling.{Relation}
+use Rattle.syn_ty.specs.ty.Trees.{TypeTree}
 use Rattle.syn_ty.proofs.ty_laws.Sound.{named_sound}
 use Rattle.syn_ty.proofs.ty_laws.Within.{Along}
 use Rattle.syn_pat.specs.declared.pat.PatOf.TheVariants as pats
@@ -27,14 +29,16 @@ use Rattle.syn_pat.specs.declared.place.PatPlace.{PatPlace}
 use Rattle.syn_pat.specs.declared.place.PatPlace.TheVariants.{Single, LeadingVert}
 use Rattle.syn_pat.specs.pat.Admitted.{IsPat}
 use Rattle.syn_pat.specs.pat.Knot as knot
-use Rattle.syn_pat.specs.pat.Knot.{guard_after, guarded, pat, read_at}
-use Rattle.syn_pat.specs.pat.Pats.{Pat, guard_of}
+use Rattle.syn_pat.specs.pat.Knot.{guard_after, guarded, pat, read_at, typed}
+use Rattle.syn_pat.specs.pat.Pats.{Pat, PatType, guard_of, typed_of}
 use Rattle.syn_pat.specs.pat.Reading.{Readers, pat_step}
-use Rattle.syn_pat.specs.pat.Spelt.{SpellsGuarded, without_guard, with_guard, SpellsPat, pats_to}
+use Rattle.syn_pat.specs.pat.Spelling.{types_to}
+use Rattle.syn_pat.specs.pat.Spelt.{SpellsGuarded, without_guard, with_guard, SpellsPat, SpellsPatType, a_pat_type, pats_to}
 use Rattle.syn_pat.proofs.pat_laws.AlongTold.{turn_along}
 use Rattle.syn_pat.proofs.pat_laws.CasesTold.{turn_took}
+use Rattle.syn_pat.proofs.pat_laws.ColonsTold.{Starts, colon_stops, type_starts}
 use Rattle.syn_pat.proofs.pat_laws.StreamsTold.{below_along}
-use Rattle.syn_pat.proofs.pat_laws.WithinTold.{Before, Held, Stops, SuppliedTold, done_stops, word_stops}
+use Rattle.syn_pat.proofs.pat_laws.WithinTold.{Before, Held, IsSomeType, Stops, SuppliedTold, done_stops, word_stops}
 
 module _ {X : Type 0} (supplied : Place → Reader X) (spells : Place → X → Toks → Type 0) (g : SuppliedTold supplied spells) where
   -- ---- the turns
@@ -101,3 +105,31 @@ module _ {X : Type 0} (supplied : Place → Reader X) (spells : Place → X → 
             let ends = ap leaves q.1 ∙ n in
             subst (λ z. SpellsGuarded spells loosely z s.rest) q.0 (without_guard (took_whole {Is = Before (IsSomePat LeadingVert)} s c.rest c.value k ends done_stops))
       ]
+
+  -- ---- with a type
+
+  -- it does not begin with a lone `:`
+  some_starts : (n : ℕ) (f : End) (x : TypeTree (Attr X) (Expr X)) (l k : Toks) → (types_to spells n loosely).ty Plus f x l k → Starts l
+  some_starts zero f x l k i = absurd i
+  some_starts (suc n) f x l k i = type_starts (types_to spells n) loosely Plus f x l k i
+
+  -- what a pattern, `:` and a type spell, where the pattern stops before the `:`
+  typed_at : (x : Pat X) (c : token.Colon) (y : TypeTree (Attr X) (Expr X)) (l m j : Toks) → Visible j → Before (IsSomePat Single) x l m → IsMark false c m j → IsSomeType spells y j done → SpellsPatType spells loosely (typed_of [] x c y) l
+  typed_at x c y l m j v i k f =
+      let w = i (colon_stops c m j v k (some_starts f.0 f.1.0 y j done f.1.1)) in
+      a_pat_type w.0 f.0 f.1.0 w.1 k f.1.1
+
+  pub typed_sound : (s t : Stream) (x : PatType X) → Visible s.rest → typed supplied s ≡ Ok (x, t) → leaves t ≡ None → SpellsPatType spells loosely x s.rest
+  unfolding typed
+  typed_sound s t x v d n =
+      let c = chain (pat supplied Single s) _ x t d in
+      let k = pat_took Single s c.rest c.value v c.was in
+      let f = chain (token.colon c.rest) _ x t c.goes in
+      let kf = mark_sound {n = 7} {k = 1} refl (omega arith) c.rest f.rest f.value k.seen f.was in
+      let vf = mark_visible false {n = 7} {k = 1} f.value c.rest.rest f.rest.rest kf.spelt k.seen in
+      let with : TypeTree (Attr X) (Expr X) → PatType X = λ z. typed_of [] c.value f.value z in
+      let m = mapped (knot.ty supplied f.rest) with x t f.goes in
+      let q = g.ty f.rest t m.value vf m.was in
+      let left = q.left (nothing_left t n) in
+      subst (λ z. SpellsPatType spells loosely z s.rest) m.is
+      (typed_at c.value f.value m.value s.rest c.rest.rest f.rest.rest vf (k.spelt (sym kf.left ∙ left)) kf.spelt (took_whole {Is = IsSomeType spells} f.rest t m.value q n))

@@ -93,15 +93,15 @@ dots_at : (p : Punct) (k : Toks) → p.ch ≡ 46 → token.sees_path_sep (mark p
 unfolding sees_mark
 dots_at p k h = ap (λ c. token.sees_path_sep (mark (punct c p.spacing p.span) k)) h
 
-two_chars : {A : Type 0} (b : Bool) (o : Option A) → is_some (if b then o else None) ≡ true → b ≡ true
-two_chars true o h = refl
-two_chars false o h = cc h
+pub chosen_some : {A : Type 0} (b : Bool) (o : Option A) → is_some (if b then o else None) ≡ true → b ≡ true
+chosen_some true o h = refl
+chosen_some false o h = cc h
 
 pub dots_no_sep : (l : Toks) → token.sees_dot_dot l ≡ true → token.sees_path_sep l ≡ false
 unfolding sees_mark
 dots_no_sep done h = refl
 dots_no_sep (word i k) h = refl
-dots_no_sep (mark p k) h = dots_at p k (eqb-true p.ch 46 (two_chars (p.ch == 46) _ h))
+dots_no_sep (mark p k) h = dots_at p k (eqb-true p.ch 46 (chosen_some (p.ch == 46) _ h))
 dots_no_sep (lit x k) h = refl
 dots_no_sep (group d s c k) h = refl
 dots_no_sep (enter s k) h = dots_no_sep k h
