@@ -1,7 +1,5 @@
 -- A read of a pattern that answers stands further on, where the reads of the patterns within, of paths and of attributes do.
 use Rattle.std.proofs.Common.{not, ◌&&◌, ◌||◌, is_some, Option, Some, None}
-use Rattle.token_core.specs.declared.member.Member.{Member}
-use Rattle.token_core.specs.declared.member.Member.TheVariants as member
 use Rattle.token_core.specs.declared.range.RangeLimits.{RangeLimits}
 use Rattle.token_core.specs.declared.range.RangeLimits.TheVariants as limits
 use Rattle.token_core.specs.declared.span.DelimSpan.{DelimSpan}
@@ -9,19 +7,15 @@ use Rattle.token_core.specs.declared.span.Span.{Span}
 use Rattle.token_core.specs.declared.tree.Delimiter.{Delimiter}
 use Rattle.token_core.specs.declared.tree.Delimiter.TheVariants.{Parenthesis, Brace, Bracket, None as NoDelimiter}
 use Rattle.token_core.specs.declared.tree.TokenStream.{TokenStream}
-use Rattle.token_core.specs.declared.tree.Ident.{Ident}
 use Rattle.token_core.specs.Groups as groups
 use Rattle.token_core.specs.Lits.{sees_lit}
 use Rattle.token_core.specs.Loops.{never}
-use Rattle.token_core.specs.Positions.{Item}
 use Rattle.token_core.specs.Reads.{Reader, sees_group}
-use Rattle.syn_path.specs.declared.mac.Macro.{Macro}
 use Rattle.syn_path.specs.declared.supplied.Place.{Place}
 use Rattle.syn_path.specs.declared.supplied.Place.TheVariants.{Block}
 use Rattle.syn_path.specs.mac.Reading as macs
 use Rattle.syn_path.specs.path.Paths.{ModPath}
 use Rattle.syn_attr.specs.attr.Attrs.{Attribute as Attr}
-use Rattle.syn_attr.specs.attr.Reading.{outer}
 use Rattle.syn_attr.specs.declared.expr.Expr.{Expr}
 use Rattle.syn_forms.specs.verbatim.Reading.{position}
 use Rattle.syn_ty.specs.path.Reading.{is_mod_style}
@@ -31,11 +25,11 @@ use Rattle.syn_ty.proofs.ty_laws.Within.{Along}
 use Rattle.syn_pat.specs.declared.pat.PatOf.TheVariants as v
 use Rattle.syn_pat.specs.declared.place.PatPlace.{PatPlace}
 use Rattle.syn_pat.specs.declared.place.PatPlace.TheVariants.{Single, Multi, LeadingVert, Element}
-use Rattle.syn_pat.specs.pat.Pats.{Attrs, Pat, PatRangeBound}
+use Rattle.syn_pat.specs.pat.Pats.{Pat, PatRangeBound}
 use Rattle.syn_pat.specs.pat.Reading as reading
-use Rattle.syn_pat.specs.pat.Reading.{Modes, Readers}
+use Rattle.syn_pat.specs.pat.Reading.{Readers}
 use Rattle.token_core.specs.Tokens as token
-use Rattle.syn_pat.proofs.pat_laws.StreamsTold.{bind, brackets_along, delimited_along, either, held_since, in_group_along, list_from_along, literal, made, mark, member as member_along, named, old_range_limits, optional_along, parens_along, range_limits, refused, stays, terminated_along, word}
+use Rattle.syn_pat.proofs.pat_laws.StreamsTold.{bind, brackets_along, delimited_along, either, held_since, in_group_along, list_from_along, literal, made, mark, named, old_range_limits, optional_along, parens_along, range_limits, refused, stays, word}
 
 -- ---- tokens before what a pattern holds
 

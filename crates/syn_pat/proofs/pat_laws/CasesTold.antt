@@ -23,7 +23,7 @@ use Rattle.syn_ty.proofs.ty_laws.Sound.{optional_sound}
 use Rattle.syn_pat.specs.declared.pat.PatOf.TheVariants as pat
 use Rattle.syn_pat.specs.declared.place.PatPlace.{PatPlace}
 use Rattle.syn_pat.specs.declared.place.PatPlace.TheVariants.{Single, Multi, LeadingVert, Element}
-use Rattle.syn_pat.specs.pat.Admitted.{AreCases, cases, Fits, IsPat, a_single, some_cases, one_after_vert, some_after_vert, IsSingle, allows_cases, allows_vert}
+use Rattle.syn_pat.specs.pat.Admitted.{cases, Fits, IsPat, a_single, some_cases, one_after_vert, some_after_vert, IsSingle, allows_cases, allows_vert}
 use Rattle.syn_pat.specs.pat.Pats.{Pat, or_of}
 use Rattle.syn_pat.specs.pat.Reading.{Readers, alternatives, as_element, element, leading, multi, open_range, pat_step, sees_vert, single, unless_open}
 use Rattle.syn_pat.proofs.pat_laws.SinglesTold.{single_took}

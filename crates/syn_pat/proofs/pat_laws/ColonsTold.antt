@@ -13,7 +13,7 @@ use Rattle.token_core.specs.declared.tree.Spacing.TheVariants.{Joint, Alone}
 use Rattle.token_core.specs.declared.word.Word.{Word}
 use Rattle.token_core.specs.Lifetimes.{sees_lifetime}
 use Rattle.token_core.specs.Listed.{AreListed, Nowhere, none_left, last_value, value_and_mark}
-use Rattle.token_core.specs.Reads.{after_one, put_first, sees_group, sees_mark, third}
+use Rattle.token_core.specs.Reads.{after_one, put_first, sees_group, sees_mark}
 use Rattle.token_core.specs.Rebuilt.{Visible}
 use Rattle.token_core.specs.Spellings.{last_char, more_chars, IsMark, is_mark, IsWord, is_word}
 use Rattle.token_core.specs.Tokens as token
@@ -29,11 +29,11 @@ use Rattle.syn_forms.specs.declared.places.TypePlace.{TypePlace}
 use Rattle.syn_ty.specs.generics.Bounds.{IsFor}
 use Rattle.syn_ty.specs.generics.Spelling.{a_binder}
 use Rattle.syn_ty.specs.path.Spelling.{IsAnyPath, qualified, unqualified, by_type, by_type_as_path, IsPath, a_path, IsSegment, a_word, a_word_with_arguments}
-use Rattle.syn_ty.specs.ty.Admitted.{IsBorrow, a_borrow, a_mutable_borrow, a_lifetime_borrow, IsBracketed, bracketed, IsCounted, counted, IsEnclosed, enclosed, IsPointer, a_pointer, IsTupled, no_element, some_elements, IsType, a_path_type, a_macro, a_bound_macro, an_object_with_dyn, an_object_without_dyn, an_impl_type, a_fn_type, a_ptr_type, a_reference_type, a_paren_type, a_tuple_type, a_slice_type, an_array_type, an_infer_type, a_never_type, a_verbatim_type, IsVerbatimType, an_unsafe_binder, a_dyn_star, a_builtin}
+use Rattle.syn_ty.specs.ty.Admitted.{a_borrow, a_mutable_borrow, a_lifetime_borrow, bracketed, counted, enclosed, a_pointer, no_element, some_elements, IsType, a_path_type, a_macro, a_bound_macro, an_object_with_dyn, an_object_without_dyn, an_impl_type, a_fn_type, a_ptr_type, a_reference_type, a_paren_type, a_tuple_type, a_slice_type, an_array_type, an_infer_type, a_never_type, a_verbatim_type, IsVerbatimType, an_unsafe_binder, a_dyn_star, a_builtin}
 use Rattle.syn_ty.specs.ty.Functions.{a_fn_ptr, an_abi}
-use Rattle.syn_ty.specs.ty.Objects.{IsFirst, a_first, a_first_for, a_dyn, an_impl, AreBareBounds, path_alone, path_and_plus, held_and_plus, asked_first, asked_in_two, lifetime_first}
+use Rattle.syn_ty.specs.ty.Objects.{IsFirst, a_first, a_first_for, a_dyn, an_impl, path_alone, path_and_plus, held_and_plus, asked_first, asked_in_two, lifetime_first}
 use Rattle.syn_ty.specs.ty.Parts.{Manner, is_clear, kept, End, Parts}
-use Rattle.syn_ty.specs.ty.Spelling.{IsOptional, absent, present, an_infer, a_never, Relation}
+use Rattle.syn_ty.specs.ty.Spelling.{IsOptional, absent, present, an_infer, a_never}
 use Rattle.syn_ty.specs.ty.Trees.{BoundLifetimes, Path, PathSegment, QSelf, TypeTree}
 use Rattle.syn_pat.proofs.pat_laws.WithinTold.{and_second, chosen_some, sees_called, Stops}
 
@@ -160,7 +160,7 @@ module _ {A E : Type 0} (part : Manner → Parts A E) (how : Manner) (place : Ty
   type_starts e x l k (an_object_without_dyn (asked_in_two {s = s} {i = i} {c = c} {m = m} h a j rest)) = group_starts Parenthesis s (group Parenthesis i c done) m
   type_starts e x l k (an_object_without_dyn (lifetime_first h i f)) = lifetime_starts l h
   type_starts e x l k (an_impl_type (an_impl {w = w} {m = m} i j h)) = word_starts w l m i
-  type_starts e x l k (a_fn_type (a_fn_ptr {b = b} {u = u} {i = none} {w = w} {s = s} {l = z} {m = m} {n = n} {c = c} {j = j} o f absent i v r)) = for_or part how b l m o (word_or u m n f (word_starts w n (group Parenthesis s c j) i))
+  type_starts e x l k (a_fn_type (a_fn_ptr {b = b} {u = u} {w = w} {s = s} {l = z} {m = m} {n = n} {c = c} {j = j} o f absent i v r)) = for_or part how b l m o (word_or u m n f (word_starts w n (group Parenthesis s c j) i))
   type_starts e x l k (a_fn_type (a_fn_ptr {b = b} {u = u} {l = z} {m = m} {n = n} o f (present (an_abi {w = a} {m = y} g q)) i v r)) = for_or part how b l m o (word_or u m n f (word_starts a n y g))
   type_starts e x l k (a_ptr_type (a_pointer {s = s} {m = m} i j h)) = star_starts (is_clear how) s l m i
   type_starts e x l k (a_reference_type (a_borrow {a = a} {m = m} i h j)) = and_starts (is_clear how) a l m i

@@ -1,11 +1,11 @@
 -- Where the fields of a struct are read, they are spelt, over the same law of the patterns within: each field, and what the braces hold.
-use Rattle.std.proofs.Common.{◌≡◌, ℕ, zero, suc, Bool, true, false, ◌||◌, List, [], ◌∷◌, Option, Some, None, is_some, Ok, inl, inr, refl, sym, ◌∙◌, ap, subst, arith}
+use Rattle.std.proofs.Common.{◌≡◌, ℕ, zero, suc, Bool, true, false, List, [], Option, Some, None, Ok, inl, inr, refl, sym, ◌∙◌, ap, subst, arith}
 use Rattle.token_core.specs.declared.member.Member.{Member}
 use Rattle.token_core.specs.declared.member.Member.TheVariants as member
 use Rattle.token_core.specs.declared.tree.Ident.{Ident}
 use Rattle.token_core.specs.declared.tree.TokenStream.{TokenStream}
 use Rattle.token_core.specs.Listed.{AreListed, Anywhere, none_left, last_value, value_and_mark}
-use Rattle.token_core.specs.Loops.{Many, size}
+use Rattle.token_core.specs.Loops.{size}
 use Rattle.token_core.specs.Members.{read_member}
 use Rattle.token_core.specs.Positions.{Item}
 use Rattle.token_core.specs.Reads.{Follows, Reader, ident_name, is_done, is_ident, leaves, optional, read_word, ◌>>=◌}
@@ -33,14 +33,14 @@ use Rattle.syn_ty.proofs.ty_laws.Sound.{comma_seen, named_sound, optional_sound,
 use Rattle.syn_pat.specs.declared.pat.PatOf.TheVariants as pat
 use Rattle.syn_pat.specs.declared.place.PatPlace.{PatPlace}
 use Rattle.syn_pat.specs.declared.place.PatPlace.TheVariants.{LeadingVert}
-use Rattle.syn_pat.specs.pat.Admitted.{AreFields, fields_alone, fields_and_rest, IsBoxedName, a_boxed_name, IsField, with_colon, without_colon, boxed}
-use Rattle.syn_pat.specs.pat.Pats.{Attrs, FieldPat, Pat, PatRest, binding_of, field_of, rest_of}
-use Rattle.syn_pat.specs.pat.Reading.{Fields, Modes, Readers, binds, bound_field, by_ref, field, fields, fields_from, has_mode, member_field, modes, no_fields, one_field, plain_field, put_field}
+use Rattle.syn_pat.specs.pat.Admitted.{AreFields, fields_alone, fields_and_rest, a_boxed_name, IsField, with_colon, without_colon, boxed}
+use Rattle.syn_pat.specs.pat.Pats.{Attrs, FieldPat, Pat, binding_of, field_of, rest_of}
+use Rattle.syn_pat.specs.pat.Reading.{Fields, Modes, Readers, bound_field, by_ref, field, fields, fields_from, has_mode, member_field, modes, no_fields, one_field, plain_field, put_field}
 use Rattle.syn_pat.specs.pat.Spelling.{outer_spelt}
 use Rattle.syn_pat.proofs.pat_laws.AlongTold.{modes_along}
 use Rattle.syn_pat.proofs.pat_laws.BindingsTold.{mutable_took, ref_took}
 use Rattle.syn_pat.proofs.pat_laws.StreamsTold.{word as word_along}
-use Rattle.syn_pat.proofs.pat_laws.WithinTold.{Before, Held, Stops, SuppliedTold, TookOn, comma_stops, done_stops}
+use Rattle.syn_pat.proofs.pat_laws.WithinTold.{Before, Held, SuppliedTold, TookOn, comma_stops, done_stops}
 
 -- ---- `box`, `ref` and `mut` before a name
 

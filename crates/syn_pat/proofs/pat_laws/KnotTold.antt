@@ -1,5 +1,5 @@
 -- The law of patterns, tied by the count of turns; and so where all of a list is read as a pattern, as one with a guard or with a type, it is spelt.
-use Rattle.std.proofs.Common.{◌≡◌, ℕ, zero, suc, Bool, true, false, ◌&&◌, ◌==◌, if◌then◌else◌, [], ◌∷◌, Option, Some, None, Ok, inl, inr, refl, sym, ◌∙◌, ap, subst, arith}
+use Rattle.std.proofs.Common.{◌≡◌, ℕ, zero, suc, false, [], None, Ok, inl, inr, refl, sym, ◌∙◌, ap, subst, arith}
 use Rattle.token_core.specs.Reads.{Reader, leaves}
 use Rattle.token_core.specs.Rebuilt.{Visible}
 use Rattle.token_core.specs.Spellings.{IsMark, IsWord}
@@ -7,7 +7,7 @@ use Rattle.token_core.specs.Stream.{Stream}
 use Rattle.token_core.specs.Tokens as token
 use Rattle.token_core.specs.Toks.{Toks, done}
 use Rattle.token_core.proofs.MarkSpells.{mark_sound, mark_visible}
-use Rattle.token_core.proofs.Took.{branch, mapped, took_all}
+use Rattle.token_core.proofs.Took.{branch, mapped}
 use Rattle.token_core.proofs.Turns.{chain, same_pair}
 use Rattle.syn_path.proofs.Words.{TookOne}
 use Rattle.syn_path.specs.declared.supplied.Place.{Place}
@@ -31,14 +31,14 @@ use Rattle.syn_pat.specs.pat.Admitted.{IsPat}
 use Rattle.syn_pat.specs.pat.Knot as knot
 use Rattle.syn_pat.specs.pat.Knot.{guard_after, guarded, pat, read_at, typed}
 use Rattle.syn_pat.specs.pat.Pats.{Pat, PatType, guard_of, typed_of}
-use Rattle.syn_pat.specs.pat.Reading.{Readers, pat_step}
+use Rattle.syn_pat.specs.pat.Reading.{Readers}
 use Rattle.syn_pat.specs.pat.Spelling.{types_to}
 use Rattle.syn_pat.specs.pat.Spelt.{SpellsGuarded, without_guard, with_guard, SpellsPat, SpellsPatType, a_pat_type, pats_to}
 use Rattle.syn_pat.proofs.pat_laws.AlongTold.{turn_along}
 use Rattle.syn_pat.proofs.pat_laws.CasesTold.{turn_took}
 use Rattle.syn_pat.proofs.pat_laws.ColonsTold.{Starts, colon_stops, type_starts}
 use Rattle.syn_pat.proofs.pat_laws.StreamsTold.{below_along}
-use Rattle.syn_pat.proofs.pat_laws.WithinTold.{Before, Held, IsSomeType, Stops, SuppliedTold, done_stops, word_stops}
+use Rattle.syn_pat.proofs.pat_laws.WithinTold.{Before, Held, IsSomeType, SuppliedTold, done_stops, word_stops}
 
 module _ {X : Type 0} (supplied : Place → Reader X) (spells : Place → X → Toks → Type 0) (g : SuppliedTold supplied spells) where
   -- ---- the turns

@@ -1,5 +1,5 @@
 -- Where const blocks, the ends of ranges and ranges are read, they are spelt; what follows a start is told by what the start spells before it.
-use Rattle.std.proofs.Common.{◌≡◌, Bool, true, false, [], Option, Some, None, Ok, inl, inr, refl, sym, ◌∙◌, ap, subst, arith}
+use Rattle.std.proofs.Common.{◌≡◌, true, false, [], Option, Some, None, Ok, inl, inr, subst}
 use Rattle.token_core.specs.declared.lit.Lit.{Lit}
 use Rattle.token_core.specs.declared.range.RangeLimits.{RangeLimits}
 use Rattle.token_core.specs.declared.range.RangeLimits.TheVariants as limits
@@ -10,7 +10,7 @@ use Rattle.token_core.specs.Lits.{read_lit, sees_lit}
 use Rattle.token_core.specs.Ranges as ranges
 use Rattle.token_core.specs.Reads.{in_group}
 use Rattle.token_core.specs.Rebuilt.{Visible}
-use Rattle.token_core.specs.Spellings.{IsLit, IsMark, IsWord, AreLimits, half_open, AreOldLimits, new_limits}
+use Rattle.token_core.specs.Spellings.{IsLit, IsWord, AreLimits, half_open, AreOldLimits, new_limits}
 use Rattle.token_core.specs.Stream.{Stream}
 use Rattle.token_core.specs.Tokens as token
 use Rattle.token_core.specs.Toks.{Toks}
@@ -33,11 +33,10 @@ use Rattle.syn_pat.specs.declared.place.PatPlace.{PatPlace}
 use Rattle.syn_pat.specs.pat.Admitted.{IsSingle, a_const, a_literal, a_range, a_rest}
 use Rattle.syn_pat.specs.pat.Pats.{Pat, PatRange, PatRangeBound, pat_range_of, path_pat_of, rest_of}
 use Rattle.syn_pat.specs.pat.Reading.{after_bound, begins_bound, body, bound, bound_as_pat, bound_or_range, const_block, ended, ends_range, half_of, half_open as half_open_range, optional_bound, qpath, range, range_after, sees_bound_path}
-use Rattle.syn_pat.specs.pat.Spelling.{IsConstBlock, a_const_block, IsPatPath, a_pat_path, IsEnd, a_literal_end, a_path_end, a_const_end, IsStart, a_literal_start, a_const_start, IsRange, without_end, without_start, with_both}
+use Rattle.syn_pat.specs.pat.Spelling.{IsConstBlock, a_const_block, a_pat_path, IsEnd, a_literal_end, a_path_end, a_const_end, IsStart, a_literal_start, a_const_start, IsRange, without_end, without_start, with_both}
 use Rattle.syn_pat.proofs.pat_laws.NamesTold.{no_path_bound, no_try_bound}
-use Rattle.syn_pat.proofs.pat_laws.WithinTold.{AnyPath, Before, Held, IsSomePath, Stops, SuppliedTold, TookOn}
-use Rattle.syn_pat.specs.pat.Reading.{Readers}
-use Rattle.token_core.specs.Reads.{Reader, ◌>>=◌}
+use Rattle.syn_pat.proofs.pat_laws.WithinTold.{AnyPath, Before, IsSomePath, SuppliedTold, TookOn}
+use Rattle.token_core.specs.Reads.{Reader}
 
 module _ {X : Type 0} (supplied : Place → Reader X) (spells : Place → X → Toks → Type 0) (g : SuppliedTold supplied spells) where
   -- ---- const blocks

@@ -1,5 +1,5 @@
 -- Where a single pattern is read, it is spelt, over the same law of the patterns within: it stops where neither `::` before parentheses follows, nor `!=`.
-use Rattle.std.proofs.Common.{◌≡◌, Bool, true, false, not, ◌&&◌, [], Option, Some, None, is_some, Ok, inl, inr, refl, sym, ◌∙◌, ap, subst}
+use Rattle.std.proofs.Common.{◌≡◌, true, false, not, ◌&&◌, [], Option, Some, None, is_some, Ok, inl, inr, ◌∙◌, ap, subst}
 use Rattle.token_core.specs.declared.span.DelimSpan.{DelimSpan}
 use Rattle.token_core.specs.declared.tree.Delimiter.TheVariants.{Brace, Bracket, Parenthesis}
 use Rattle.token_core.specs.declared.tree.TokenStream.{TokenStream}
@@ -7,7 +7,6 @@ use Rattle.token_core.specs.Groups as groups
 use Rattle.token_core.specs.Loops.{Many}
 use Rattle.token_core.specs.Reads.{Reader, in_group, sees_group, sees_mark}
 use Rattle.token_core.specs.Rebuilt.{Visible}
-use Rattle.token_core.specs.Spellings.{last_char, more_chars, IsMark, is_mark}
 use Rattle.token_core.specs.Stream.{Stream}
 use Rattle.token_core.specs.Tokens as token
 use Rattle.token_core.specs.Toks.{Toks, group}
@@ -40,15 +39,15 @@ use Rattle.syn_pat.specs.declared.place.PatPlace.{PatPlace}
 use Rattle.syn_pat.specs.declared.place.PatPlace.TheVariants.{Single, LeadingVert}
 use Rattle.syn_pat.specs.pat.Admitted.{IsSingle, a_binding_pat, a_call, a_path, a_struct, a_tuple_struct, a_verbatim, a_wild}
 use Rattle.syn_pat.specs.pat.Pats.{Pat, path_pat_of, struct_of, tuple_struct_of, wild_of}
-use Rattle.syn_pat.specs.pat.Reading.{Fields, Readers, after_bound, after_path, begins_binding, begins_bound, begins_path, binding, bound_or_range, box_pat, by_mark, by_word, elements, fields, half_open, paren_or_tuple, path_pat, qpath, reference, sees_half_open, single, slice, struct_after, tuple_struct_after}
-use Rattle.syn_pat.specs.pat.Spelling.{IsHead, a_pat_path, IsPatPath, IsStart, a_path_start, is_binding, is_self, lone_word, types_to}
+use Rattle.syn_pat.specs.pat.Reading.{Fields, Readers, after_path, begins_binding, begins_bound, begins_path, binding, box_pat, by_mark, by_word, elements, fields, path_pat, qpath, reference, sees_half_open, single, slice, struct_after, tuple_struct_after}
+use Rattle.syn_pat.specs.pat.Spelling.{IsHead, a_pat_path, a_path_start, types_to}
 use Rattle.syn_pat.proofs.pat_laws.BindingsTold.{AllOf, binding_took, elements_sound, paren_took, reference_took, slice_took}
 use Rattle.syn_pat.proofs.pat_laws.CallsTold.{call_took, path_bare, path_ends}
 use Rattle.syn_pat.proofs.pat_laws.FieldsTold.{All, fields_sound}
 use Rattle.syn_pat.proofs.pat_laws.NamesTold.{no_try, not_self, unbound}
 use Rattle.syn_pat.proofs.pat_laws.RangesTold.{Told, after_bound_took, bound_or_range_took, half_took}
 use Rattle.syn_pat.proofs.pat_laws.StreamsTold.{named}
-use Rattle.syn_pat.proofs.pat_laws.WithinTold.{AnyPath, Before, Held, IsSomePath, Stops, SuppliedTold, TookOn, and_second, dots_no_sep}
+use Rattle.syn_pat.proofs.pat_laws.WithinTold.{AnyPath, Before, Held, IsSomePath, SuppliedTold, TookOn, and_second, dots_no_sep}
 
 -- a law that asks nothing of what follows
 plain : {A : Type 0} {Is : Relation A} (s t : Stream) (x : A) → TookOne Is s t x → TookOne (Before Is) s t x

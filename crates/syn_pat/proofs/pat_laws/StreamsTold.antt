@@ -1,9 +1,7 @@
 -- Where a read answers, the stream stands further on: reads of tokens, of groups and of lists, and reads that are put together of such.
 use Rattle.std.proofs.Common.{◌≡◌, ℕ, zero, suc, Bool, true, false, not, ◌&&◌, if◌then◌else◌, List, Option, Some, None, Ok, Err, inl, inr, refl, subst}
-use Rattle.token_core.specs.declared.lit.Lit.{Lit}
 use Rattle.token_core.specs.declared.mark.Spans.{Spans}
 use Rattle.token_core.specs.declared.member.Index.{Index}
-use Rattle.token_core.specs.declared.member.Member.TheVariants as members
 use Rattle.token_core.specs.declared.range.RangeLimits.TheVariants as limits
 use Rattle.token_core.specs.declared.span.DelimSpan.{DelimSpan}
 use Rattle.token_core.specs.declared.span.Span.{Span}
@@ -12,7 +10,7 @@ use Rattle.token_core.specs.declared.tree.Ident.{Ident}
 use Rattle.token_core.specs.declared.tree.Literal.{Literal}
 use Rattle.token_core.specs.Front.{front, past_ends}
 use Rattle.token_core.specs.Lits as lits
-use Rattle.token_core.specs.Loops.{size, Many, listed_from, listed, terminated}
+use Rattle.token_core.specs.Loops.{size, listed_from, listed, terminated}
 use Rattle.token_core.specs.Marks as marks
 use Rattle.token_core.specs.Members.{index, index_at, index_if, int_name, is_int, read_index, read_member, sees_int, value}
 use Rattle.token_core.specs.Positions.{Item}
