@@ -8,7 +8,7 @@ use Rattle.token_core.specs.declared.tree.Delimiter.TheVariants.{Brace}
 use Rattle.token_core.specs.Groups as groups
 use Rattle.token_core.specs.Lits.{read_lit, sees_lit}
 use Rattle.token_core.specs.Ranges as ranges
-use Rattle.token_core.specs.Reads.{in_group}
+use Rattle.token_core.specs.Reads.{Reader, in_group}
 use Rattle.token_core.specs.Rebuilt.{Visible}
 use Rattle.token_core.specs.Spellings.{IsLit, IsWord, AreLimits, half_open, AreOldLimits, new_limits}
 use Rattle.token_core.specs.Stream.{Stream}
@@ -32,11 +32,10 @@ use Rattle.syn_pat.specs.declared.pat.PatRangeBoundOf.TheVariants as b
 use Rattle.syn_pat.specs.declared.place.PatPlace.{PatPlace}
 use Rattle.syn_pat.specs.pat.Admitted.{IsSingle, a_const, a_literal, a_range, a_rest}
 use Rattle.syn_pat.specs.pat.Pats.{Pat, PatRange, PatRangeBound, pat_range_of, path_pat_of, rest_of}
-use Rattle.syn_pat.specs.pat.Reading.{after_bound, begins_bound, body, bound, bound_as_pat, bound_or_range, const_block, ended, ends_range, half_of, half_open as half_open_range, optional_bound, qpath, range, range_after, sees_bound_path}
+use Rattle.syn_pat.specs.pat.Reading.{after_bound, begins_bound, bound, bound_as_pat, bound_or_range, const_block, ended, ends_range, half_of, half_open as half_open_range, optional_bound, qpath, range, range_after, sees_bound_path}
 use Rattle.syn_pat.specs.pat.Spelling.{IsConstBlock, a_const_block, a_pat_path, IsEnd, a_literal_end, a_path_end, a_const_end, IsStart, a_literal_start, a_const_start, IsRange, without_end, without_start, with_both}
 use Rattle.syn_pat.proofs.pat_laws.NamesTold.{no_path_bound, no_try_bound}
 use Rattle.syn_pat.proofs.pat_laws.WithinTold.{AnyPath, Before, IsSomePath, SuppliedTold, TookOn}
-use Rattle.token_core.specs.Reads.{Reader}
 
 module _ {X : Type 0} (supplied : Place → Reader X) (spells : Place → X → Toks → Type 0) (g : SuppliedTold supplied spells) where
   -- ---- const blocks
@@ -171,23 +170,24 @@ module _ {X : Type 0} (supplied : Place → Reader X) (spells : Place → X → 
 
     -- ---- a bound, or the range that it begins
 
-    abbrev pub Told : PatRangeBound X → Toks → Toks → Type 0
-    Told x l r = (token.sees_dot_dot r ≡ true → Start x l r) × (token.sees_dot_dot r ≡ false → Before Single (bound_as_pat x) l r)
+    -- as a start, where `..` follows, and else as a pattern by itself
+    abbrev pub AsStart : PatRangeBound X → Toks → Toks → Type 0
+    AsStart x l r = (token.sees_dot_dot r ≡ true → Start x l r) × (token.sees_dot_dot r ≡ false → Before Single (bound_as_pat x) l r)
 
-    pub after_bound_took : (x : PatRangeBound X) (l : Toks) (s t : Stream) (y : Pat X) → Visible s.rest → after_bound supplied x s ≡ Ok (y, t) → TookOn s t (Told x l s.rest → Before Single y l t.rest)
+    pub after_bound_took : (x : PatRangeBound X) (l : Toks) (s t : Stream) (y : Pat X) → Visible s.rest → after_bound supplied x s ≡ Ok (y, t) → TookOn s t (AsStart x l s.rest → Before Single y l t.rest)
     unfolding after_bound
     after_bound_took x l s t y v e =
         elim (branch (token.sees_dot_dot s.rest) _ _ s (Ok (y, t)) e) [
           | inl z ↦ let w = range_after_took x l s t y v z.1 in record { left = w.left; seen = w.seen; told = λ n i o. w.told n (i.0 z.0) }
           | inr z ↦ let q = same_pair (bound_as_pat x) y s t z.1 in
-              subst (λ u. TookOn s t (Told x l s.rest → Before Single u l t.rest)) q.0
-              (subst (λ (u : Stream). TookOn s u (Told x l s.rest → Before Single (bound_as_pat x) l u.rest)) q.1 (record { left = λ n. n; seen = v; told = λ n i. i.1 z.0 }))
+              subst (λ u. TookOn s t (AsStart x l s.rest → Before Single u l t.rest)) q.0
+              (subst (λ (u : Stream). TookOn s u (AsStart x l s.rest → Before Single (bound_as_pat x) l u.rest)) q.1 (record { left = λ n. n; seen = v; told = λ n i. i.1 z.0 }))
         ]
 
-    literal_told : (x : Lit) (l r : Toks) → IsLit x l r → Told (b.Lit (lit_of [] x)) l r
+    literal_told : (x : Lit) (l r : Toks) → IsLit x l r → AsStart (b.Lit (lit_of [] x)) l r
     literal_told x l r i = (λ h. a_literal_start i, λ h o. a_literal i)
 
-    block_told : (x : ExprConstOf (Attr X) X) (l r : Toks) → IsConstBlock spells x l r → Told (b.Const x) l r
+    block_told : (x : ExprConstOf (Attr X) X) (l r : Toks) → IsConstBlock spells x l r → AsStart (b.Const x) l r
     block_told x l r i = (λ h. a_const_start i, λ h o. a_const i)
 
     -- a literal or a const block
@@ -196,12 +196,12 @@ module _ {X : Type 0} (supplied : Place → Reader X) (spells : Place → X → 
     begun_took s t x v h e =
         elim (branch (sees_lit s.rest) _ _ s (Ok (x, t)) e) [
           | inl y ↦ let k = mapped (read_lit s) (λ z. b.Lit (lit_of [] z)) x t y.1 in
-              took_as {Is = IsLit} {Js = Told} (λ z. b.Lit (lit_of [] z)) s t k.value x k.is (λ l m i. literal_told k.value l m i) (lit_took s t k.value v k.was)
+              took_as {Is = IsLit} {Js = AsStart} (λ z. b.Lit (lit_of [] z)) s t k.value x k.is (λ l m i. literal_told k.value l m i) (lit_took s t k.value v k.was)
           | inr y ↦ elim (branch (sees_bound_path s.rest) _ _ s (Ok (x, t)) y.1) [
               | inl z ↦ absurd (no_path_bound s.rest v h y.0 z.0)
               | inr z ↦ elim (branch (token.sees_const s.rest) _ _ s (Ok (x, t)) z.1) [
                   | inl u ↦ let k = mapped (const_block supplied s) b.Const x t u.1 in
-                      took_as {Is = IsConstBlock spells} {Js = Told} b.Const s t k.value x k.is (λ l m i. block_told k.value l m i) (block_took s t k.value v k.was)
+                      took_as {Is = IsConstBlock spells} {Js = AsStart} b.Const s t k.value x k.is (λ l m i. block_told k.value l m i) (block_took s t k.value v k.was)
                   | inr u ↦ cc u.1
                 ]
             ]

@@ -45,7 +45,7 @@ use Rattle.syn_pat.proofs.pat_laws.BindingsTold.{AllOf, binding_took, elements_s
 use Rattle.syn_pat.proofs.pat_laws.CallsTold.{call_took, path_bare, path_ends}
 use Rattle.syn_pat.proofs.pat_laws.FieldsTold.{All, fields_sound}
 use Rattle.syn_pat.proofs.pat_laws.NamesTold.{no_try, not_self, unbound}
-use Rattle.syn_pat.proofs.pat_laws.RangesTold.{Told, after_bound_took, bound_or_range_took, half_took}
+use Rattle.syn_pat.proofs.pat_laws.RangesTold.{AsStart, after_bound_took, bound_or_range_took, half_took}
 use Rattle.syn_pat.proofs.pat_laws.StreamsTold.{named}
 use Rattle.syn_pat.proofs.pat_laws.WithinTold.{AnyPath, Before, Held, IsSomePath, SuppliedTold, TookOn, and_second, dots_no_sep}
 
@@ -102,7 +102,7 @@ module _ {X : Type 0} (supplied : Place → Reader X) (spells : Place → X → 
   tuple_struct_at q p x l m k b i = a_tuple_struct (subst (λ z. IsHead spells loosely q p l z) i.is (head q p l m b (group_no_sep Parenthesis x.0 i.content k m i.is))) i.holds
 
   path_told : (q : Q) (p : P) (l m : Toks) → IsBegun q p l m → not (is_some q) && (sees_call m && is_mod_style p) ≡ false → sees_group Brace m ≡ false → sees_group Parenthesis m ≡ false →
-      Told supplied spells g part (bounds.Path (path_pat_of [] q p)) l m
+      AsStart supplied spells g part (bounds.Path (path_pat_of [] q p)) l m
   path_told q p l m b call brace paren = (
     λ dots. a_path_start (head q p l m b (dots_no_sep m dots)),
     λ dots stop. a_path (a_pat_path b.path.0 (b.path.1, b.no_try)) (unbound spells b.path.0 q p l m b.path.1 b.begins b.over call brace paren dots stop),
