@@ -191,7 +191,7 @@ module _ {X : Type 0} (supplied : Place → Reader X) (spells : Place → X → 
     block_told x l r i = (λ h. a_const_start i, λ h o. a_const i)
 
     -- a literal or a const block
-    begun_took : (s t : Stream) (x : PatRangeBound X) → Visible s.rest → begins_bound s.rest ≡ true → bound supplied s ≡ Ok (x, t) → TookOne Told s t x
+    begun_took : (s t : Stream) (x : PatRangeBound X) → Visible s.rest → begins_bound s.rest ≡ true → bound supplied s ≡ Ok (x, t) → TookOne AsStart s t x
     unfolding bound
     begun_took s t x v h e =
         elim (branch (sees_lit s.rest) _ _ s (Ok (x, t)) e) [
