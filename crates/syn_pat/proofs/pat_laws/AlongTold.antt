@@ -142,7 +142,8 @@ module _ {X : Type 0} (r : Readers X) (within : (p : PatPlace) → Along (r p)) 
 module _ {X : Type 0} (supplied : Place → Reader X) (path_along : Along (reading.qpath supplied)) (r : Readers X) (within : (p : PatPlace) → Along (r p)) where
   after_path_along : (q : Option (QSelf (Attr X) (Expr X))) (p : Path (Attr X) (Expr X)) → Along (reading.after_path supplied r q p)
   unfolding reading.after_path reading.struct_after reading.tuple_struct_after
-  after_path_along q p = either (λ l. not (is_some q) && (sees_call l && is_mod_style p)) (made _ (call_along _)) (either (sees_group Brace) (made _ (made _ (in_group_along _ _ _))) (either (sees_group Parenthesis) (made _ (made _ (parens_along _))) (after_bound_along supplied path_along _)))
+  after_path_along q p = either (λ l. not (is_some q) && (sees_call l && is_mod_style p)) (made _ (call_along _)) (either (sees_group Brace) (made _ (made _ (in_group_along _ _ _)))
+      (either (sees_group Parenthesis) (made _ (made _ (parens_along _))) (after_bound_along supplied path_along _)))
 
   path_pat_along : Along (reading.path_pat supplied r)
   unfolding reading.path_pat
@@ -150,11 +151,13 @@ module _ {X : Type 0} (supplied : Place → Reader X) (path_along : Along (readi
 
   by_mark_along : Along (reading.by_mark supplied r)
   unfolding reading.by_mark
-  by_mark_along = either token.sees_and (made _ (reference_along r within)) (either (sees_group Parenthesis) (parens r within) (either (sees_group Bracket) (made _ (slice_along r within)) (either reading.sees_half_open (half_open_along supplied path_along) (refused _))))
+  by_mark_along = either token.sees_and (made _ (reference_along r within)) (either (sees_group Parenthesis) (parens r within) (either (sees_group Bracket) (made _ (slice_along r within))
+      (either reading.sees_half_open (half_open_along supplied path_along) (refused _))))
 
   by_word_along : Along (reading.by_word supplied r)
   unfolding reading.by_word
-  by_word_along = either token.sees_underscore (made _ (made _ (named {n = 19}))) (either token.sees_box (box_along r within) (either reading.begins_bound (bound_or_range_along supplied path_along) (either reading.begins_binding (made _ (binding_along r within)) by_mark_along)))
+  by_word_along = either token.sees_underscore (made _ (made _ (named {n = 19}))) (either token.sees_box (box_along r within) (either reading.begins_bound (bound_or_range_along supplied path_along)
+      (either reading.begins_binding (made _ (binding_along r within)) by_mark_along)))
 
   single_along : Along (reading.single supplied r)
   unfolding reading.single

@@ -87,12 +87,14 @@ module _ {X : Type 0} (supplied : Place → Reader X) (spells : Place → X → 
     several_at o x c w l m n k j f absent i b rest = some_cases some (cases i b rest)
     several_at o x c w l m n k j f (present a) i b rest = some_after_vert (f refl) a (cases i b rest)
 
-    one_at : (o : Option token.Bar) (x : Pat X) (b : Bool) (l m k : Toks) → (is_some o ≡ true → allows_vert place ≡ true) → is_some o || b ≡ true → b ≡ false → IsOptional (IsMark false) o l m → One x m k → In place (pat.Or (or_of [] o (x ∷ [], []))) l k
+    one_at : (o : Option token.Bar) (x : Pat X) (b : Bool) (l m k : Toks) → (is_some o ≡ true → allows_vert place ≡ true) → is_some o || b ≡ true → b ≡ false → IsOptional (IsMark false) o l m → One x m k →
+        In place (pat.Or (or_of [] o (x ∷ [], []))) l k
     one_at o x true l m k f e n a i = cc n
     one_at o x false l m k f e n absent i = cc e
     one_at o x false l m k f e n (present a) i = one_after_vert (f refl) a i
 
-    cases_took : (o : Option token.Bar) (x : Pat X) (l m : Toks) (s t : Stream) (w : Cases) → (is_some o ≡ true → allows_vert place ≡ true) → Visible s.rest → is_some o || sees_vert s.rest ≡ true → list_from never (r Single) sees_vert token.bar x s ≡ Ok (w, t) →
+    cases_took : (o : Option token.Bar) (x : Pat X) (l m : Toks) (s t : Stream) (w : Cases) → (is_some o ≡ true → allows_vert place ≡ true) → Visible s.rest → is_some o || sees_vert s.rest ≡ true →
+        list_from never (r Single) sees_vert token.bar x s ≡ Ok (w, t) →
         TookOn s t (Begun o x l m s.rest → Stops t.rest → In place (pat.Or (or_of [] o w)) l t.rest)
     unfolding list_from
     cases_took o x l m s t w f v some e =
@@ -118,7 +120,8 @@ module _ {X : Type 0} (supplied : Place → Reader X) (spells : Place → X → 
     alone_at o x b l m k e absent i = a_single i (fits x)
     alone_at o x b l m k e (present a) i = cc e
 
-    alternatives_took : (o : Option token.Bar) (x : Pat X) (l m : Toks) (s t : Stream) (y : Pat X) → (is_some o ≡ true → allows_vert place ≡ true) → Visible s.rest → alternatives r o x s ≡ Ok (y, t) → TookOn s t (Begun o x l m s.rest → Before (In place) y l t.rest)
+    alternatives_took : (o : Option token.Bar) (x : Pat X) (l m : Toks) (s t : Stream) (y : Pat X) → (is_some o ≡ true → allows_vert place ≡ true) → Visible s.rest → alternatives r o x s ≡ Ok (y, t) →
+        TookOn s t (Begun o x l m s.rest → Before (In place) y l t.rest)
     unfolding alternatives
     alternatives_took o x l m s t y f v e =
         elim (branch (is_some o || sees_vert s.rest) _ _ s (Ok (y, t)) e) [

@@ -98,12 +98,14 @@ module _ {X : Type 0} (supplied : Place → Reader X) (spells : Place → X → 
       Of (field_of a (member.Named i) None (pat.Ident (binding_of [] f u i None))) l k
   none_at a f u i l m n o j k p absent q w e d = plain_at a f u i l m o j k p q w e d
 
-  boxed_at : (a : Attrs X) (b : token.Box) (f : Option token.Ref) (u : Option token.Mut) (i : Ident) (x : TokenStream) (l m n o j k : Toks) → Outer a l m → IsOptional IsWord (Some b) m n → IsOptional IsWord f n o → IsOptional IsWord u o j → j ≡ word i k →
+  boxed_at : (a : Attrs X) (b : token.Box) (f : Option token.Ref) (u : Option token.Mut) (i : Ident) (x : TokenStream) (l m n o j k : Toks) → Outer a l m → IsOptional IsWord (Some b) m n → IsOptional IsWord f n o → IsOptional IsWord u o j →
+      j ≡ word i k →
       is_ident i.text ≡ true → Holds x m k → Of (field_of a (member.Named i) None (pat.Verbatim x)) l k
   boxed_at a b f u i x l m n o j k p (present y) q w e d held = boxed p (a_boxed_name y q (subst (λ z. IsOptional IsWord u o z) e w) d) held
 
   -- The modes and the name stand between two states of the stream, and so does the field.
-  bound_took : (a : Attrs X) (l : Toks) (b : Option token.Box) (f : Option token.Ref) (u : Option token.Mut) (i : Ident) (s c d t : Stream) (x : FieldPat X) → Visible s.rest → Visible d.rest → Follows s d → c.rest ≡ word i d.rest → is_ident i.text ≡ true →
+  bound_took : (a : Attrs X) (l : Toks) (b : Option token.Box) (f : Option token.Ref) (u : Option token.Mut) (i : Ident) (s c d t : Stream) (x : FieldPat X) → Visible s.rest → Visible d.rest → Follows s d → c.rest ≡ word i d.rest →
+      is_ident i.text ≡ true →
       bound_field (position s) a (b, f, u) i d ≡ Ok (x, t) → TookOn d t (Outer a l s.rest → AreModes (b, f, u) s.rest c.rest → Of x l t.rest)
   bound_took a l None f u i s c d t x v vd z w m e =
       let q = same_pair (field_of a (member.Named i) None (pat.Ident (binding_of [] f u i None))) x d t e in
