@@ -5,7 +5,7 @@ use Rattle.token_core.specs.declared.tree.Delimiter.TheVariants.{Brace}
 use Rattle.token_core.specs.Groups as groups
 use Rattle.token_core.specs.Lits.{sees_lit, read_lit}
 use Rattle.token_core.specs.Loops.{size}
-use Rattle.token_core.specs.Reads.{Reader, ident_name, in_group, is_ident, leaves, read_word, sees_group, sees_word}
+use Rattle.token_core.specs.Reads.{Reader, ◌<$>◌, ident_name, in_group, is_ident, leaves, read_word, sees_group, sees_word}
 use Rattle.token_core.specs.Rebuilt.{Visible}
 use Rattle.token_core.specs.Stream.{Stream}
 use Rattle.token_core.specs.Toks.{Toks, done, word as a_word_tok, mark as a_mark_tok, lit, group, enter, leave}
@@ -55,16 +55,19 @@ second_true : (b c : Bool) → b ≡ false → b || c ≡ true → c ≡ true
 second_true true c h g = cc h
 second_true false c h g = g
 
+no : {P : Type 0} → false ≡ true → P
+no h = cc h
+
 -- no word stands where a group does
 no_word : (l : Toks) → sees_word is_ident l ≡ true → sees_group Brace l ≡ true → ⊥
 unfolding sees_word sees_group
-no_word done h g = cc h
-no_word (a_word_tok i r) h g = cc g
-no_word (a_mark_tok p r) h g = cc h
-no_word (lit x r) h g = cc h
-no_word (group d s c r) h g = cc h
+no_word done h g = no h
+no_word (a_word_tok i r) h g = no g
+no_word (a_mark_tok p r) h g = no h
+no_word (lit x r) h g = no h
+no_word (group d s c r) h g = no h
 no_word (enter s r) h g = no_word r h g
-no_word (leave r) h g = cc h
+no_word (leave r) h g = no_word r h g
 
 -- ---- over the law of a supplied subtree
 
@@ -90,14 +93,14 @@ module _ {X : Type 0} (reads : Place → Reader X) (spells : Place → X → Tok
       let w = lit_sound s t k.value v k.was in
       record { left = λ n. sym w.left ∙ n; seen = lit_visible k.value s.rest t.rest w.spelt v; spelt = λ n. subst (λ z. IsConst spells z s.rest t.rest) k.is (a_lone_literal w.spelt) }
 
-  word_took : (s t : Stream) (x : Expr X) → Visible s.rest → (word_expr <$> read_word is_ident ident_name) s ≡ Ok (x, t) → TookOne (IsConstDefault spells) s t x
+  word_took : (s t : Stream) (x : Expr X) → Visible s.rest → (word_expr reads <$> read_word is_ident ident_name) s ≡ Ok (x, t) → TookOne (IsConstDefault spells) s t x
   word_took s t x v h =
-      let k = mapped (read_word is_ident ident_name s) word_expr x t h in
+      let k = mapped (read_word is_ident ident_name s) (word_expr reads) x t h in
       let w = took_word is_ident ident_name s t k.value v k.was in
       record {
         left = λ n. sym w.left ∙ n;
         seen = subst Visible w.is v;
-        spelt = λ n. subst (λ z. IsConstDefault spells z s.rest t.rest) k.is (subst (λ z. IsConstDefault spells (word_expr k.value) z t.rest) (sym w.is) (a_word w.meets));
+        spelt = λ n. subst (λ z. IsConstDefault spells z s.rest t.rest) k.is (subst (λ z. IsConstDefault spells (word_expr reads k.value) z t.rest) (sym w.is) (a_word w.meets));
       }
 
   as_default : (s t : Stream) (x : Expr X) → TookOne (IsConst spells) s t x → TookOne (IsConstDefault spells) s t x
@@ -135,7 +138,7 @@ module _ {X : Type 0} (reads : Place → Reader X) where
 
   one_outer_along : Along (one_outer reads)
   unfolding one_outer
-  one_outer_along = bind mark (λ p. bind content_along (λ c. stays _))
+  one_outer_along = bind (mark {n = 21} {l = 1}) (λ p. bind content_along (λ c. stays _))
 
   pub outer_along : Along (outer reads)
   outer_along = many_along token.sees_pound one_outer_along

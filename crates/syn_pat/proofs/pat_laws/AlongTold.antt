@@ -21,7 +21,7 @@ use Rattle.syn_forms.specs.verbatim.Reading.{position}
 use Rattle.syn_ty.specs.path.Reading.{is_mod_style}
 use Rattle.syn_ty.specs.ty.Reading.{sees_call}
 use Rattle.syn_ty.specs.ty.Trees.{Path, QSelf}
-use Rattle.syn_ty.proofs.ty_laws.Within.{Along}
+use Rattle.syn_path.specs.Took.{Along}
 use Rattle.syn_pat.specs.declared.pat.PatOf.TheVariants as v
 use Rattle.syn_pat.specs.declared.place.PatPlace.{PatPlace}
 use Rattle.syn_pat.specs.declared.place.PatPlace.TheVariants.{Single, Multi, LeadingVert, Element}
@@ -29,13 +29,14 @@ use Rattle.syn_pat.specs.pat.Pats.{Pat, PatRangeBound}
 use Rattle.syn_pat.specs.pat.Reading as reading
 use Rattle.syn_pat.specs.pat.Reading.{Readers}
 use Rattle.token_core.specs.Tokens as token
-use Rattle.syn_pat.proofs.pat_laws.StreamsTold.{bind, brackets_along, delimited_along, either, held_since, in_group_along, list_from_along, literal, made, mark, named, old_range_limits, optional_along, parens_along, range_limits, refused, stays, word}
+use Rattle.syn_path.proofs.Along.{bind, delimited_along, either, in_group_along, literal, made, mark, named, old_range_limits, optional_along, range_limits, refused, stays, word}
+use Rattle.syn_forms.proofs.along_laws.Kit.{brackets_along, held_since, list_from_along, parens_along}
 
 -- ---- tokens before what a pattern holds
 
 pub name_along : Along reading.bound_name
 unfolding reading.bound_name
-name_along = either token.sees_self_value (word _ _) (word _ _)
+name_along = either _ (word _ _) (word _ _)
 
 pub ref_along : Along reading.by_ref
 ref_along = optional_along token.sees_ref named
@@ -73,11 +74,11 @@ module _ {X : Type 0} (supplied : Place → Reader X) (path_along : Along (readi
 
   bound_along : Along (reading.bound supplied)
   unfolding reading.bound
-  bound_along = either sees_lit (made _ literal) (either reading.sees_bound_path (made _ path_along) (either token.sees_const (made _ block_along) (refused _)))
+  bound_along = either _ (made _ literal) (either _ (made _ path_along) (either _ (made _ block_along) (refused _)))
 
   optional_bound_along : Along (reading.optional_bound supplied)
   unfolding reading.optional_bound
-  optional_bound_along = either reading.ends_range (stays _) (made _ bound_along)
+  optional_bound_along = either _ (stays _) (made _ bound_along)
 
   ended_along : (o : Option (PatRangeBound X)) (l : RangeLimits) (f : Option (PatRangeBound X)) → Along (reading.ended o l f)
   ended_along o (limits.HalfOpen d) f = stays _
@@ -100,7 +101,7 @@ module _ {X : Type 0} (supplied : Place → Reader X) (path_along : Along (readi
 
   after_bound_along : (x : PatRangeBound X) → Along (reading.after_bound supplied x)
   unfolding reading.after_bound
-  after_bound_along x = either token.sees_dot_dot (range_after_along x) (stays _)
+  after_bound_along x = either _ (range_after_along x) (stays _)
 
   bound_or_range_along : Along (reading.bound_or_range supplied)
   unfolding reading.bound_or_range
@@ -135,15 +136,15 @@ module _ {X : Type 0} (r : Readers X) (within : (p : PatPlace) → Along (r p)) 
 
   alternatives_along : (o : Option token.Bar) (x : Pat X) → Along (reading.alternatives r o x)
   unfolding reading.alternatives
-  alternatives_along o x = either (λ l. is_some o || reading.sees_vert l) (made _ (list_from_along never reading.sees_vert (within Single) (mark {n = 17} {l = 1}) x)) (stays _)
+  alternatives_along o x = either _ (made _ (list_from_along never reading.sees_vert (within Single) (mark {n = 17} {l = 1}) x)) (stays _)
 
 -- ---- single patterns, and patterns in their places
 
 module _ {X : Type 0} (supplied : Place → Reader X) (path_along : Along (reading.qpath supplied)) (r : Readers X) (within : (p : PatPlace) → Along (r p)) where
   after_path_along : (q : Option (QSelf (Attr X) (Expr X))) (p : Path (Attr X) (Expr X)) → Along (reading.after_path supplied r q p)
   unfolding reading.after_path reading.struct_after reading.tuple_struct_after
-  after_path_along q p = either (λ l. not (is_some q) && (sees_call l && is_mod_style p)) (made _ (call_along _)) (either (sees_group Brace) (made _ (made _ (in_group_along _ _ _)))
-      (either (sees_group Parenthesis) (made _ (made _ (parens_along _))) (after_bound_along supplied path_along _)))
+  after_path_along q p = either _ (made _ (call_along _)) (either _ (made _ (made _ (in_group_along _ _ _)))
+      (either _ (made _ (made _ (parens_along _))) (after_bound_along supplied path_along _)))
 
   path_pat_along : Along (reading.path_pat supplied r)
   unfolding reading.path_pat
@@ -151,17 +152,17 @@ module _ {X : Type 0} (supplied : Place → Reader X) (path_along : Along (readi
 
   by_mark_along : Along (reading.by_mark supplied r)
   unfolding reading.by_mark
-  by_mark_along = either token.sees_and (made _ (reference_along r within)) (either (sees_group Parenthesis) (parens r within) (either (sees_group Bracket) (made _ (slice_along r within))
-      (either reading.sees_half_open (half_open_along supplied path_along) (refused _))))
+  by_mark_along = either _ (made _ (reference_along r within)) (either _ (parens r within) (either _ (made _ (slice_along r within))
+      (either _ (half_open_along supplied path_along) (refused _))))
 
   by_word_along : Along (reading.by_word supplied r)
   unfolding reading.by_word
-  by_word_along = either token.sees_underscore (made _ (made _ (named {n = 19}))) (either token.sees_box (box_along r within) (either reading.begins_bound (bound_or_range_along supplied path_along)
-      (either reading.begins_binding (made _ (binding_along r within)) by_mark_along)))
+  by_word_along = either _ (made _ (made _ (named {n = 19}))) (either _ (box_along r within) (either _ (bound_or_range_along supplied path_along)
+      (either _ (made _ (binding_along r within)) by_mark_along)))
 
   single_along : Along (reading.single supplied r)
   unfolding reading.single
-  single_along = either reading.begins_path path_pat_along by_word_along
+  single_along = either _ path_pat_along by_word_along
 
   multi_along : Along (reading.multi supplied r)
   unfolding reading.multi

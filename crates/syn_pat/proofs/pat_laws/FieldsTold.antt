@@ -39,7 +39,7 @@ use Rattle.syn_pat.specs.pat.Reading.{Fields, Modes, Readers, bound_field, by_re
 use Rattle.syn_pat.specs.pat.Spelling.{outer_spelt}
 use Rattle.syn_pat.proofs.pat_laws.AlongTold.{modes_along}
 use Rattle.syn_pat.proofs.pat_laws.BindingsTold.{mutable_took, ref_took}
-use Rattle.syn_pat.proofs.pat_laws.StreamsTold.{word as word_along}
+use Rattle.syn_path.proofs.Along.{word as word_along}
 use Rattle.syn_pat.proofs.pat_laws.WithinTold.{Before, Held, SuppliedTold, TookOn, comma_stops, done_stops}
 
 -- ---- `box`, `ref` and `mut` before a name

@@ -28,7 +28,8 @@ use Rattle.syn_ty.specs.ty.Points.{Readers, a_type, some_arguments}
 use Rattle.syn_ty.specs.ty.Trees.{Path, QSelf, TypeTree}
 use Rattle.syn_ty.proofs.ty_laws.PathsTold.{path_took}
 use Rattle.syn_ty.proofs.ty_laws.QualifiedTold.{qualified_took}
-use Rattle.syn_ty.proofs.ty_laws.Within.{Along, Held}
+use Rattle.syn_path.specs.Took.{Along}
+use Rattle.syn_ty.proofs.ty_laws.Within.{Held}
 use Rattle.syn_pat.specs.pat.Knot as knot
 use Rattle.syn_pat.specs.pat.Pats.{Attrs}
 use Rattle.syn_pat.specs.pat.Reading.{qpath, values}

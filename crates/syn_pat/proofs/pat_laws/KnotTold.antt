@@ -23,7 +23,7 @@ use Rattle.syn_ty.specs.ty.Parts.{Manner, loosely, End}
 use Rattle.syn_ty.specs.ty.Spelling.{Relation}
 use Rattle.syn_ty.specs.ty.Trees.{TypeTree}
 use Rattle.syn_ty.proofs.ty_laws.Sound.{named_sound}
-use Rattle.syn_ty.proofs.ty_laws.Within.{Along}
+use Rattle.syn_path.specs.Took.{Along}
 use Rattle.syn_pat.specs.declared.pat.PatOf.TheVariants as pats
 use Rattle.syn_pat.specs.declared.place.PatPlace.{PatPlace}
 use Rattle.syn_pat.specs.declared.place.PatPlace.TheVariants.{Single, LeadingVert}
@@ -37,7 +37,7 @@ use Rattle.syn_pat.specs.pat.Spelt.{SpellsGuarded, without_guard, with_guard, Sp
 use Rattle.syn_pat.proofs.pat_laws.AlongTold.{turn_along}
 use Rattle.syn_pat.proofs.pat_laws.CasesTold.{turn_took}
 use Rattle.syn_pat.proofs.pat_laws.ColonsTold.{Starts, colon_stops, type_starts}
-use Rattle.syn_pat.proofs.pat_laws.StreamsTold.{below_along}
+use Rattle.syn_forms.proofs.along_laws.Kit.{below_along}
 use Rattle.syn_pat.proofs.pat_laws.WithinTold.{Before, Held, IsSomeType, SuppliedTold, done_stops, word_stops}
 
 module _ {X : Type 0} (supplied : Place → Reader X) (spells : Place → X → Toks → Type 0) (g : SuppliedTold supplied spells) where

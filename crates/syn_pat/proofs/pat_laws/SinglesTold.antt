@@ -46,7 +46,7 @@ use Rattle.syn_pat.proofs.pat_laws.CallsTold.{call_took, path_bare, path_ends}
 use Rattle.syn_pat.proofs.pat_laws.FieldsTold.{All, fields_sound}
 use Rattle.syn_pat.proofs.pat_laws.NamesTold.{no_try, not_self, unbound}
 use Rattle.syn_pat.proofs.pat_laws.RangesTold.{AsStart, after_bound_took, bound_or_range_took, half_took}
-use Rattle.syn_pat.proofs.pat_laws.StreamsTold.{named}
+use Rattle.syn_path.proofs.Along.{named}
 use Rattle.syn_pat.proofs.pat_laws.WithinTold.{AnyPath, Before, Held, IsSomePath, SuppliedTold, TookOn, and_second, dots_no_sep}
 
 -- a law that asks nothing of what follows

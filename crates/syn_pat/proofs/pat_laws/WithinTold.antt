@@ -25,7 +25,7 @@ use Rattle.syn_ty.specs.ty.Parts.{Manner, loosely}
 use Rattle.syn_ty.specs.ty.Spelling.{Relation}
 use Rattle.syn_ty.specs.ty.Trees.{Path, QSelf, TypeTree}
 use Rattle.syn_ty.proofs.ty_laws.Told.{Told}
-use Rattle.syn_ty.proofs.ty_laws.Within.{Along}
+use Rattle.syn_path.specs.Took.{Along}
 use Rattle.syn_pat.specs.declared.place.PatPlace.{PatPlace}
 use Rattle.syn_pat.specs.pat.Knot as knot
 use Rattle.syn_pat.specs.pat.Pats.{Attrs, Pat}

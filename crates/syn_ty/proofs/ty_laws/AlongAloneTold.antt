@@ -17,12 +17,12 @@ use Rattle.syn_ty.specs.ty.Points.{Point, Readers, a_bound, a_type}
 use Rattle.syn_ty.specs.ty.Trees.{TypeTree}
 use Rattle.token_core.specs.Reads.{Reader}
 use Rattle.syn_ty.proofs.ty_laws.AlongBoundsTold as bounds
-use Rattle.syn_ty.proofs.ty_laws.AlongFormsTold as forms
+use Rattle.syn_forms.proofs.along_laws.Forms as forms
 use Rattle.syn_ty.proofs.ty_laws.AlongKnotTold.{read_along, reads_below_along}
 use Rattle.syn_ty.proofs.ty_laws.AlongPathsTold as path
-use Rattle.syn_ty.proofs.ty_laws.AlongTold.{further, held_along}
+use Rattle.syn_forms.proofs.along_laws.Kit.{further, held_along}
 use Rattle.syn_ty.proofs.ty_laws.AlongTypesTold as types
-use Rattle.syn_ty.proofs.ty_laws.Within.{Along}
+use Rattle.syn_path.specs.Took.{Along}
 
 -- ---- generics, predicates and where clauses over the reads of what they hold
 

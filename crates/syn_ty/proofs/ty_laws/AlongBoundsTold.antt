@@ -12,10 +12,10 @@ use Rattle.token_core.specs.declared.token.Paren.{Paren}
 use Rattle.token_core.specs.Positions.{Item}
 use Rattle.token_core.specs.Reads.{Reader}
 use Rattle.token_core.specs.Tokens as token
-use Rattle.syn_ty.proofs.ty_laws.AlongFormsTold as forms
+use Rattle.syn_forms.proofs.along_laws.Forms as forms
 use Rattle.syn_ty.proofs.ty_laws.AlongPathsTold.{path_along, signed_along}
-use Rattle.syn_ty.proofs.ty_laws.AlongTold.{further}
-use Rattle.syn_ty.proofs.ty_laws.Within.{Along}
+use Rattle.syn_forms.proofs.along_laws.Kit.{further}
+use Rattle.syn_path.specs.Took.{Along}
 
 -- ---- captures and `const` forms
 

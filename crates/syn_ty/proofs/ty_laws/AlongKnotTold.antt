@@ -8,9 +8,9 @@ use Rattle.syn_ty.specs.ty.Points.{Point, Readers, a_bound, a_param, a_type, an_
 use Rattle.token_core.specs.Reads.{Reader}
 use Rattle.syn_ty.proofs.ty_laws.AlongBoundsTold.{bound_step_along, param_step_along}
 use Rattle.syn_ty.proofs.ty_laws.AlongPathsTold.{argument_step_along, arguments_step_along}
-use Rattle.syn_ty.proofs.ty_laws.AlongTold.{below_along, held_along}
+use Rattle.syn_forms.proofs.along_laws.Kit.{below_along, held_along}
 use Rattle.syn_ty.proofs.ty_laws.AlongTypesTold.{type_step_along}
-use Rattle.syn_ty.proofs.ty_laws.Within.{Along}
+use Rattle.syn_path.specs.Took.{Along}
 
 module _ {A E : Type 0} (attrs : Reader (List A)) (values : ReadValues E) (g : Along attrs) (value : Along values.const_argument) where
   -- one turn, over the readers of all points

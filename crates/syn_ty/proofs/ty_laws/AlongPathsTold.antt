@@ -13,9 +13,10 @@ use Rattle.syn_ty.specs.ty.Types.{named_arg_of}
 use Rattle.token_core.specs.declared.tree.Ident.{Ident}
 use Rattle.token_core.specs.Reads.{Reader}
 use Rattle.token_core.specs.Tokens as token
-use Rattle.syn_ty.proofs.ty_laws.AlongFormsTold as forms
-use Rattle.syn_ty.proofs.ty_laws.AlongTold.{either, further, made}
-use Rattle.syn_ty.proofs.ty_laws.Within.{Along}
+use Rattle.syn_forms.proofs.along_laws.Forms as forms
+use Rattle.syn_path.proofs.Along.{either, made}
+use Rattle.syn_forms.proofs.along_laws.Kit.{further}
+use Rattle.syn_path.specs.Took.{Along}
 
 module _ {A E : Type 0} {r : Readers A E} (al : (q : Point) → Along (r q)) where
   pub arguments_after_along : (c : Option Sep) → Along (reading.arguments_after r c)

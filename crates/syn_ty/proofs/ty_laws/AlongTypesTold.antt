@@ -18,10 +18,11 @@ use Rattle.token_core.specs.Positions.{Item}
 use Rattle.token_core.specs.Reads.{Reader}
 use Rattle.token_core.specs.Tokens as token
 use Rattle.syn_ty.proofs.ty_laws.AlongBoundsTold.{binder_along, optional_binder_along, trait_bound_along}
-use Rattle.syn_ty.proofs.ty_laws.AlongFormsTold as forms
+use Rattle.syn_forms.proofs.along_laws.Forms as forms
 use Rattle.syn_ty.proofs.ty_laws.AlongPathsTold.{maybe_qualified_along, path_along, rest_along}
-use Rattle.syn_ty.proofs.ty_laws.AlongTold.{further, lifetime, opening}
-use Rattle.syn_ty.proofs.ty_laws.Within.{Along}
+use Rattle.syn_path.proofs.Along.{lifetime, opening}
+use Rattle.syn_forms.proofs.along_laws.Kit.{further}
+use Rattle.syn_path.specs.Took.{Along}
 
 -- ---- tokens
 

@@ -43,7 +43,7 @@ use Rattle.syn_ty.specs.ty.Parts.{Manner, loosely, End, closed, Parts, Holds}
 use Rattle.syn_ty.specs.ty.Points.{Readers}
 use Rattle.syn_ty.specs.ty.Trees.{BoundLifetimes, Path, TraitBound, TypeParamBound}
 use Rattle.syn_ty.proofs.ty_laws.AlongBoundsTold.{trait_or_const_along}
-use Rattle.syn_ty.proofs.ty_laws.AlongTold.{parens_along}
+use Rattle.syn_forms.proofs.along_laws.Kit.{parens_along}
 use Rattle.syn_ty.proofs.ty_laws.HeldTold.{holds_since}
 use Rattle.syn_ty.proofs.ty_laws.Sound.{IsHeld, comma_seen, comma_took, held_sound, life_sound, named_sound}
 use Rattle.syn_ty.proofs.ty_laws.Told.{Told, never_open}

@@ -47,7 +47,8 @@ use Rattle.syn_ty.proofs.ty_laws.AnglesTold.{IsAngled, angled_took}
 use Rattle.syn_ty.proofs.ty_laws.ParamsTold.{After, HeldBelow, AreLives, AreParamBounds, colon_took, list_took, lives_took, mark_took, optional_for_took, param_bounds_took, with_attrs}
 use Rattle.syn_ty.proofs.ty_laws.Sound.{life_sound, named_sound}
 use Rattle.syn_ty.proofs.ty_laws.Told.{Told, unseen}
-use Rattle.syn_ty.proofs.ty_laws.Within.{Along, Held, Supplied}
+use Rattle.syn_path.specs.Took.{Along}
+use Rattle.syn_ty.proofs.ty_laws.Within.{Held, Supplied}
 
 -- ---- the generics of a declaration
 

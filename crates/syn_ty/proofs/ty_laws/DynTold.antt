@@ -34,14 +34,14 @@ use Rattle.syn_ty.specs.ty.Reading.{names_trait}
 use Rattle.syn_ty.specs.ty.Spelling.{IsOptional, absent, present}
 use Rattle.syn_ty.specs.ty.Trees.{TypeImplTrait, TypeParamBound, TypeTraitObject, TypeTree}
 use Rattle.syn_ty.specs.ty.Types.{impl_trait_with, trait_object_with}
-use Rattle.syn_ty.proofs.ty_laws.AlongTold.{named}
+use Rattle.syn_path.proofs.Along.{named}
 use Rattle.syn_ty.proofs.ty_laws.AlongTypesTold.{object_bounds_along, optional_star_along}
 use Rattle.syn_ty.proofs.ty_laws.BoundsTold.{bounds_took, word_ends}
 use Rattle.syn_ty.proofs.ty_laws.HeldTold.{holds_since}
 use Rattle.syn_ty.proofs.ty_laws.ObjectsTold.{objects_took}
 use Rattle.syn_ty.proofs.ty_laws.Sound.{named_sound, optional_sound}
 use Rattle.syn_ty.proofs.ty_laws.Told.{Told}
-use Rattle.syn_ty.proofs.ty_laws.Within.{Along}
+use Rattle.syn_path.specs.Took.{Along}
 
 -- ---- `impl`: one of the bounds names a trait, or has a `const` form
 

@@ -58,7 +58,8 @@ use Rattle.syn_ty.proofs.ty_laws.HeldTold.{holds_since}
 use Rattle.syn_ty.proofs.ty_laws.PathsTold.{and_first}
 use Rattle.syn_ty.proofs.ty_laws.Sound.{IsHeld, held_sound, named_sound, optional_sound}
 use Rattle.syn_ty.proofs.ty_laws.Told.{Told, both, output_took}
-use Rattle.syn_ty.proofs.ty_laws.Within.{Along, Held, Supplied}
+use Rattle.syn_path.specs.Took.{Along}
+use Rattle.syn_ty.proofs.ty_laws.Within.{Held, Supplied}
 
 -- ---- single tokens stand further on
 

@@ -38,7 +38,8 @@ use Rattle.syn_ty.proofs.ty_laws.TypesTold.{type_took}
 use Rattle.syn_ty.proofs.ty_laws.HigherPartsTold.{Up}
 use Rattle.syn_ty.proofs.ty_laws.HigherTold.{higher}
 use Rattle.syn_ty.proofs.ty_laws.HigherTypesTold.{type_up}
-use Rattle.syn_ty.proofs.ty_laws.Within.{Along, Held, Supplied}
+use Rattle.syn_path.specs.Took.{Along}
+use Rattle.syn_ty.proofs.ty_laws.Within.{Held, Supplied}
 
 -- ---- the laws over wider relations
 

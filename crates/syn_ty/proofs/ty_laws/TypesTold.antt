@@ -46,7 +46,8 @@ use Rattle.syn_ty.proofs.ty_laws.Sound.{infer_sound, never_sound, visible_infer,
 use Rattle.syn_ty.proofs.ty_laws.Told.{Told, borrow_took, both, never_open, pointer_took}
 use Rattle.syn_ty.proofs.ty_laws.TypePathsTold.{Onward, named_took}
 use Rattle.syn_ty.proofs.ty_laws.VerbatimTold.{builtin_type_took, unsafe_binder_took}
-use Rattle.syn_ty.proofs.ty_laws.Within.{Along, Held, Supplied}
+use Rattle.syn_path.specs.Took.{Along}
+use Rattle.syn_ty.proofs.ty_laws.Within.{Held, Supplied}
 
 -- ---- how a path begins
 

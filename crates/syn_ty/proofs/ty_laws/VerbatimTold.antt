@@ -22,7 +22,7 @@ use Rattle.token_core.proofs.Turns.{chain, same_pair}
 use Rattle.syn_forms.specs.declared.places.TypePlace.{TypePlace}
 use Rattle.syn_forms.specs.heads.Reading as heads
 use Rattle.syn_forms.specs.verbatim.Reading.{outside, position, since}
-use Rattle.syn_forms.proofs.groups_laws.Sound.{took_inside}
+use Rattle.syn_path.proofs.Groups.{took_inside}
 use Rattle.syn_ty.specs.declared.ty.TypeOf.TheVariants as v
 use Rattle.syn_ty.specs.generics.Bounds.{IsFor}
 use Rattle.syn_ty.specs.ty.Admitted.{IsType, a_verbatim_type, an_unsafe_binder, a_builtin}
@@ -39,7 +39,8 @@ use Rattle.syn_ty.proofs.ty_laws.PathsTold.{and_first}
 use Rattle.syn_ty.proofs.ty_laws.Sound.{life_sound, named_sound}
 use Rattle.syn_ty.proofs.ty_laws.Told.{Told, never_open}
 use Rattle.syn_ty.proofs.ty_laws.TypePathsTold.{Onward}
-use Rattle.syn_ty.proofs.ty_laws.Within.{Along, Held}
+use Rattle.syn_path.specs.Took.{Along}
+use Rattle.syn_ty.proofs.ty_laws.Within.{Held}
 
 -- the stream stays where it is
 stays_there : (from : List Item) (s t : Stream) (x : TokenStream) → since from s ≡ Ok (x, t) → s ≡ t

@@ -4,7 +4,7 @@ use Rattle.token_core.specs.Reads.{Reader, Follows, leaves}
 use Rattle.token_core.specs.Rebuilt.{Visible}
 use Rattle.token_core.specs.Stream.{Stream}
 use Rattle.token_core.specs.Toks.{Toks}
-use Rattle.syn_path.proofs.Words.{TookOne}
+use Rattle.syn_path.specs.Took.{Along, TookOne}
 use Rattle.syn_path.specs.Values.{ReadValues}
 use Rattle.syn_forms.specs.declared.places.BoundPlace.{BoundPlace}
 use Rattle.syn_forms.specs.declared.places.ParamPlace.{ParamPlace}
@@ -16,10 +16,6 @@ use Rattle.syn_ty.specs.ty.Points.{Point, Tree, Readers, a_bound, a_param, a_typ
 use Rattle.syn_ty.specs.ty.Trees.{GenericArgument, GenericParam, PathArguments, TypeParamBound, TypeTree}
 use Rattle.syn_ty.proofs.ty_laws.SignedTold.{EmptyPair}
 use Rattle.syn_ty.proofs.ty_laws.Told.{Told}
-
--- a read that answers stands further on
-abbrev pub Along : {A : Type 0} → Reader A → Type 0
-Along {A} p = (s t : Stream) (x : A) → p s ≡ Ok (x, t) → Follows s t
 
 module _ {A E : Type 0} where
   -- the five points

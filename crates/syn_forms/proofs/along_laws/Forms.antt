@@ -23,8 +23,9 @@ use Rattle.syn_forms.specs.params.Reading as params
 use Rattle.syn_forms.specs.paths.Reading as paths
 use Rattle.syn_forms.specs.predicates.Reading as predicates
 use Rattle.syn_forms.specs.tokens.Reading as tokens
-use Rattle.syn_ty.proofs.ty_laws.AlongTold.{bind, delimited_along, either, further, made, lifetime, listed_along, mark, more_along, stays, string}
-use Rattle.syn_ty.proofs.ty_laws.Within.{Along}
+use Rattle.syn_path.specs.Took.{Along}
+use Rattle.syn_path.proofs.Along.{bind, delimited_along, either, made, lifetime, listed_along, mark, stays, string}
+use Rattle.syn_forms.proofs.along_laws.Kit.{further, more_along}
 
 -- ---- tokens
 
