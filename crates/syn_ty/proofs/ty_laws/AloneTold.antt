@@ -182,7 +182,10 @@ module _ {A E : Type 0} {attrs : Reader (List A)} {values : ReadValues E} {shown
   angle_took s t x v e = front shown spelt IsAngle (height s) s t x (angles.angle_took (within s) (part s) (here s).argument s t x v e)
 
   -- with their `::`
-  pub turbofish_took : (s t : Stream) (x : AngleBracketed A E) → Visible s.rest → knot.turbofish attrs values s ≡ Ok (x, t) → TookOne (λ y l r. Front shown spelt IsAngle y l r × Styled Expr l) s t x
+  abbrev pub Turbofish : AngleBracketed A E → Toks → Toks → Type 0
+  Turbofish x l r = Front shown spelt IsAngle x l r × Styled Expr l
+
+  pub turbofish_took : (s t : Stream) (x : AngleBracketed A E) → Visible s.rest → knot.turbofish attrs values s ≡ Ok (x, t) → TookOne Turbofish s t x
   unfolding knot.turbofish
   turbofish_took s t x v e =
       let k = angles.turbofish_took (within s) (part s) (here s).argument s t x v e in
