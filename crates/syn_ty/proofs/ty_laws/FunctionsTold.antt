@@ -193,7 +193,7 @@ module _ (test : Bytes → Bool) (sees : Toks → Bool) (meets : (l : Toks) → 
             subst (λ z. TookOne (IsNamed test) s t z) g.0 (subst (λ z. TookOne (IsNamed test) s z None) g.1 (record { left = λ k. k; seen = v; spelt = λ k. no_name }))
       ]
 
-along_optional_name : (sees : Toks → Bool) → Along (optional sees inputs.name)
+pub along_optional_name : (sees : Toks → Bool) → Along (optional sees inputs.name)
 along_optional_name sees s t n e =
     elim (branch (sees s.rest) _ _ s (Ok (n, t)) e) [
       | inl y ↦ let k = mapped (inputs.name s) (λ (z : NameAndColon). Some z) n t y.1 in along_name s t k.value k.was
@@ -259,39 +259,53 @@ module _ {A E : Type 0} (part : Manner → Parts A E) where
   unfolding Bare
   held_at t l r i h = λ a k j. a_verbatim_argument j i h
 
-  module _ (value : Reader Tree) (took : (s t : Stream) (x : Tree) → Visible s.rest → value s ≡ Ok (x, t) → TookOne TypeHere s t x) where
-    -- a type after a name that was read
-    after_name : (first : Bool) (n : Name) (l : Toks) (s t : Stream) (x : Named) → Visible s.rest → and_then (value s) (λ z. pure (n, z)) ≡ Ok (x, t) →
+  -- over the read of its type, whose law is wanted in the places where it is asked
+  module _ (value : Reader Tree) (Asked : Stream → Type 0) (took : (s t : Stream) (x : Tree) → Asked s → Visible s.rest → value s ≡ Ok (x, t) → TookOne TypeHere s t x) where
+    after_asked : (first : Bool) (n : Name) (l : Toks) (s t : Stream) (x : Named) → Asked s → Visible s.rest → and_then (value s) (λ z. pure (n, z)) ≡ Ok (x, t) →
         (t.left ≡ None → s.left ≡ None) × Visible t.rest × (t.left ≡ None → IsNamed (is_argument_name first) n l s.rest → Bare first x l t.rest)
-    after_name first n l s t x v e =
+    after_asked first n l s t x at v e =
         let with : Tree → Named = λ z. (n, z) in
         let k = mapped (value s) with x t e in
-        let w = took s t k.value v k.was in
+        let w = took s t k.value at v k.was in
         (w.left, w.seen, λ h i. subst (λ z. Bare first z l t.rest) k.is (bare_at first n k.value l s.rest t.rest i (w.spelt h)))
 
-    pub plain_took : (s t : Stream) (x : Named) → Visible s.rest → inputs.plain_argument value s ≡ Ok (x, t) → TookOne (Bare false) s t x
+    -- it is asked after a name that may be there
+    abbrev pub AfterName : Stream → Type 0
+    AfterName s = (n : Name) (u : Stream) → optional (sees_name false) inputs.name s ≡ Ok (n, u) → Asked u
+
+    pub plain_asked : (s t : Stream) (x : Named) → AfterName s → Visible s.rest → inputs.plain_argument value s ≡ Ok (x, t) → TookOne (Bare false) s t x
     unfolding inputs.plain_argument
-    plain_took s t x v e =
+    plain_asked s t x at v e =
         let c = chain (optional (sees_name false) inputs.name s) _ x t e in
         let k = name_took (is_argument_name false) (sees_name false) (seen_argument_name false) s c.rest c.value v c.was in
-        let w = after_name false c.value s.rest c.rest t x k.seen c.goes in
+        let w = after_asked false c.value s.rest c.rest t x (at c.value c.rest c.was) k.seen c.goes in
         record { left = λ n. k.left (w.0 n); seen = w.1; spelt = λ n. w.2 n (k.spelt (w.0 n)) }
 
     -- an argument by itself, which is not the first one
     pub named_arg_took : (attrs : Reader (List A)) → ((s t : Stream) (x : List A) → Visible s.rest → attrs s ≡ Ok (x, t) → TookOne (part loosely).attrs s t x) →
-        (s t : Stream) (x : NamedArg A E) → Visible s.rest → reading.named_arg attrs value s ≡ Ok (x, t) → TookOne (Argument false) s t x
+        (s t : Stream) (x : NamedArg A E) → ((a : List A) (u : Stream) → attrs s ≡ Ok (a, u) → AfterName u) → Visible s.rest → reading.named_arg attrs value s ≡ Ok (x, t) → TookOne (Argument false) s t x
     unfolding reading.named_arg Bare
-    named_arg_took attrs took_attrs s t x v e =
+    named_arg_took attrs took_attrs s t x at v e =
         let c = chain (attrs s) _ x t e in
         let k = took_attrs s c.rest c.value v c.was in
         let of : Named → NamedArg A E = λ z. named_arg_of c.value z.0 z.1 in
         let d = mapped (inputs.plain_argument value c.rest) of x t c.goes in
-        let w = plain_took c.rest t d.value k.seen d.was in
+        let w = plain_asked c.rest t d.value (at c.value c.rest c.was) k.seen d.was in
         record {
           left = λ n. k.left (w.left n);
           seen = w.seen;
           spelt = λ n. subst (λ z. Argument false z s.rest t.rest) d.is (w.spelt n c.value s.rest (k.spelt (w.left n)));
         }
+
+  -- where the law of the type holds everywhere
+  module _ (value : Reader Tree) (took : (s t : Stream) (x : Tree) → Visible s.rest → value s ≡ Ok (x, t) → TookOne TypeHere s t x) where
+    -- a type after a name that was read
+    after_name : (first : Bool) (n : Name) (l : Toks) (s t : Stream) (x : Named) → Visible s.rest → and_then (value s) (λ z. pure (n, z)) ≡ Ok (x, t) →
+        (t.left ≡ None → s.left ≡ None) × Visible t.rest × (t.left ≡ None → IsNamed (is_argument_name first) n l s.rest → Bare first x l t.rest)
+    after_name first n l s t x v e = after_asked value (λ z. Unit {0}) (λ a b y u i j. took a b y i j) first n l s t x tt v e
+
+    pub plain_took : (s t : Stream) (x : Named) → Visible s.rest → inputs.plain_argument value s ≡ Ok (x, t) → TookOne (Bare false) s t x
+    plain_took s t x v e = plain_asked value (λ z. Unit {0}) (λ a b y u i j. took a b y i j) s t x (λ n u i. tt) v e
 
     -- ---- the first argument of a pointer to a function
 

@@ -1,14 +1,14 @@
 -- The reads that go back to themselves, tied: what they answer is spelt, by the count of the turns.
-use Rattle.std.proofs.Common.{◌≡◌, ℕ, zero, suc, ◌<◌, ◌≤◌, ◌==◌, eqb-true, Bool, true, List, length, Option, Ok, refl, sym, ◌∙◌, ap, subst, arith}
+use Rattle.std.proofs.Common.{◌≡◌, ℕ, zero, suc, ◌<◌, ◌≤◌, ◌==◌, eqb-true, Bool, true, List, length, Option, None, Ok, refl, sym, ◌∙◌, ap, subst, arith}
 use Rattle.token_core.specs.declared.lifetime.Lifetime.{Lifetime}
 use Rattle.token_core.specs.Listed.{none_left, last_value, value_and_mark}
 use Rattle.token_core.specs.Loops.{Many}
-use Rattle.token_core.specs.Reads.{Reader}
+use Rattle.token_core.specs.Reads.{Reader, leaves}
 use Rattle.token_core.specs.Rebuilt.{Visible}
 use Rattle.token_core.specs.Spellings.{IsLifetime}
 use Rattle.token_core.specs.Stream.{Stream}
 use Rattle.token_core.specs.Tokens.{Plus as PlusMark}
-use Rattle.token_core.specs.Toks.{Toks}
+use Rattle.token_core.specs.Toks.{Toks, done}
 use Rattle.syn_path.specs.Values.{ReadValues, SpelledValues}
 use Rattle.syn_path.proofs.Words.{TookOne}
 use Rattle.syn_forms.specs.declared.places.BoundPlace.TheVariants.{Object, Opaque}
@@ -21,6 +21,7 @@ use Rattle.syn_ty.specs.declared.generics.GenericParamOf.TheOpen as o
 use Rattle.syn_ty.specs.declared.generics.TypeParamBoundOf.TheVariants as bound
 use Rattle.syn_ty.specs.declared.path.PathArgumentsOf.TheVariants as a
 use Rattle.syn_ty.specs.generics.Bounds.{a_lifetime_bound}
+use Rattle.syn_ty.specs.path.Arguments.{alone, IsArgument}
 use Rattle.syn_ty.specs.path.Paths.{empty_layer, is_empty}
 use Rattle.syn_ty.specs.path.Spelling.{IsAngle, an_angle, some_arguments as angle_arguments}
 use Rattle.syn_ty.specs.ty.Admitted.{IsType}
@@ -30,12 +31,12 @@ use Rattle.syn_ty.specs.ty.Parts.{Manner, loosely, End, closed, Parts}
 use Rattle.syn_ty.specs.ty.Points.{Point, Tree, Readers, a_bound, a_param, a_type, an_argument, some_arguments}
 use Rattle.syn_ty.specs.ty.Reading as reading
 use Rattle.syn_ty.specs.ty.Spelt.{spelt_to}
-use Rattle.syn_ty.specs.ty.Trees.{AngleBracketed, PathArguments, TypeImplTrait, TypeParamBound, TypeTree}
+use Rattle.syn_ty.specs.ty.Trees.{AngleBracketed, GenericArgument, PathArguments, TypeImplTrait, TypeParamBound, TypeTree}
 use Rattle.syn_ty.proofs.ty_laws.AlongBoundsTold.{binder_along}
 use Rattle.syn_ty.proofs.ty_laws.AlongKnotTold.{step_along}
 use Rattle.syn_ty.proofs.ty_laws.AlongTypesTold.{builtin_along, unsafe_binder_along}
 use Rattle.syn_ty.proofs.ty_laws.AnglesTold.{arguments_took}
-use Rattle.syn_ty.proofs.ty_laws.ArgumentsTold.{argument_took, in_angles}
+use Rattle.syn_ty.proofs.ty_laws.ArgumentsTold.{argument_alone, argument_took, in_angles}
 use Rattle.syn_ty.proofs.ty_laws.BoundTold.{bound_took}
 use Rattle.syn_ty.proofs.ty_laws.DynTold.{dyn_type_took, impl_took}
 use Rattle.syn_ty.proofs.ty_laws.FunctionsTold.{fn_ptr_after_took}
@@ -123,6 +124,11 @@ module _ {A E : Type 0} (shown : Bool → List A → Toks → Toks → Type 0) (
       pair = empty_at (suc (suc n));
       along = step_along attrs values g.attrs_along g.argument_along h.along;
     }
+
+    -- an argument alone, of one height less
+    pub alone_turned : (s t : Stream) (x : GenericArgument A E) → Visible s.rest → step attrs values r an_argument s ≡ Ok (x, t) → leaves t ≡ None → IsArgument (IsType (To (suc (suc n))) loosely Plus) (To (suc (suc n))) loosely alone x s.rest done
+    alone_turned s t x v e o =
+        argument_alone attrs values r (To (suc (suc n))) over more (λ y l k i. in_angles (To (suc n)) y l k i) (reading.type_step attrs values r Plus) (type_turn (suc n) attrs values r h g Plus) s t x v e o
 
 -- ---- all turns
 

@@ -141,9 +141,9 @@ module _ {A E : Type 0} (r : Readers A E) (part : Manner → Parts A E)
           λ n a. let i = q.spelt n in object_told part place v l t.rest (list_told part place plus as_plus x v l s.rest t.rest a i.0) i.1,
         )
 
-    -- ---- a trait object by itself, over the read of its first bound
+    -- ---- a trait object by itself, over the read of its first bound: its law is wanted in the places where it is asked
 
-    module _ (first : Reader Bound) (took_first : (s t : Stream) (x : Bound) → Visible s.rest → first s ≡ Ok (x, t) → TookOne (Told ((part loosely).bound Object)) s t x) where
+    module _ (first : Reader Bound) (Asked : Stream → Type 0) (took_first : (s t : Stream) (x : Bound) → Asked s → Visible s.rest → first s ≡ Ok (x, t) → TookOne (Told ((part loosely).bound Object)) s t x) where
       abbrev after_bound : Span → Option token.Dyn → Bound → Reader (TypeTraitObject A E)
       after_bound from w x = reading.object_bounds r from plus x >>= (λ v. pure (trait_object_with [] w v))
 
@@ -153,13 +153,15 @@ module _ {A E : Type 0} (r : Readers A E) (part : Manner → Parts A E)
       object_at : (w : Option token.Dyn) (v : All) (l m k : Toks) → IsOptional IsWord w l m → AreAll v m k → IsObject part loosely place (trait_object_with [] w v) l k
       object_at w v l m k i j = an_object i j.1
 
-      pub object_took : (s t : Stream) (x : TypeTraitObject A E) → Visible s.rest → reading.trait_object r first plus s ≡ Ok (x, t) → TookOne (IsObject part loosely place) s t x
+      -- it is asked after a `dyn` that may be there
+      pub object_took : (s t : Stream) (x : TypeTraitObject A E) → ((w : Option token.Dyn) (u : Stream) → reading.optional_dyn s ≡ Ok (w, u) → Asked u) → Visible s.rest → reading.trait_object r first plus s ≡ Ok (x, t) →
+          TookOne (IsObject part loosely place) s t x
       unfolding reading.trait_object reading.optional_dyn
-      object_took s t x v e =
+      object_took s t x at v e =
           let c = chain (reading.optional_dyn s) (after_dyn (here s)) x t e in
           let o = optional_sound {Is = IsWord {n = 7}} token.sees_dyn token.dyn_word (named_sound {n = 7}) s c.rest c.value v c.was in
           let d = chain (first c.rest) (after_bound (here s) c.value) x t c.goes in
-          let k = took_first c.rest d.rest d.value o.seen d.was in
+          let k = took_first c.rest d.rest d.value (at c.value c.rest c.was) o.seen d.was in
           let with : All → TypeTraitObject A E = λ z. trait_object_with [] c.value z in
           let f = mapped (reading.object_bounds r (here s) plus d.value d.rest) with x t d.goes in
           let q = objects_took (here s) d.value c.rest.rest d.rest t f.value k.seen f.was in

@@ -87,7 +87,7 @@ word_alone (enter s k) u h = absurd u
 word_alone (leave k) u h = absurd u
 
 -- no invisible group stands on a list without them
-none_invisible : (l : Toks) → Visible l → sees_invisible l ≡ false
+pub none_invisible : (l : Toks) → Visible l → sees_invisible l ≡ false
 unfolding sees_invisible
 none_invisible done u = refl
 none_invisible (word i k) u = refl

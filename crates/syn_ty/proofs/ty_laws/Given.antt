@@ -1,0 +1,34 @@
+-- What is known of the reads of attributes and expressions, however high the trees that hold them; and from it what forms suppose of them at each height.
+use Rattle.std.proofs.Common.{◌≡◌, ℕ, suc, Bool, true, false, List, None, Ok}
+use Rattle.token_core.specs.Reads.{Reader, leaves}
+use Rattle.token_core.specs.Rebuilt.{Visible}
+use Rattle.token_core.specs.Stream.{Stream}
+use Rattle.token_core.specs.Toks.{Toks}
+use Rattle.syn_path.proofs.Words.{TookOne}
+use Rattle.syn_path.specs.Values.{ReadValues, SpelledValues}
+use Rattle.syn_ty.specs.path.Reading.{sees_const}
+use Rattle.syn_ty.specs.ty.Spelt.{spelt_to}
+use Rattle.syn_ty.proofs.ty_laws.Within.{Along, Supplied}
+
+module _ {A E : Type 0} (attrs : Reader (List A)) (values : ReadValues E) (shown : Bool → List A → Toks → Toks → Type 0) (spelt : SpelledValues E) where
+  pub record Given : Type 0 where
+    pub attrs_took : (s t : Stream) (x : List A) → Visible s.rest → attrs s ≡ Ok (x, t) → TookOne (shown false) s t x
+    pub attrs_along : Along attrs
+    -- a length that is all of a list
+    pub len : (s t : Stream) (x : E) → Visible s.rest → values.len s ≡ Ok (x, t) → leaves t ≡ None → spelt.len x s.rest
+    pub len_along : Along values.len
+    -- what begins as a const argument does
+    pub argument_took : (s t : Stream) (x : E) → Visible s.rest → sees_const s.rest ≡ true → values.const_argument s ≡ Ok (x, t) → TookOne (spelt.const_argument false) s t x
+    pub default_took : (s t : Stream) (x : E) → Visible s.rest → values.const_argument s ≡ Ok (x, t) → TookOne (spelt.const_default false) s t x
+    pub argument_along : Along values.const_argument
+
+  pub supplied : Given → (n : ℕ) → Supplied attrs values (spelt_to shown spelt (suc n))
+  supplied g n = record {
+    attrs_took = g.attrs_took;
+    len = g.len;
+    argument = g.argument_took;
+    default = g.default_took;
+    attrs_along = g.attrs_along;
+    len_along = g.len_along;
+    argument_along = g.argument_along;
+  }
