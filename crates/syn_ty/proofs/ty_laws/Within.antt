@@ -36,9 +36,9 @@ module _ {A E : Type 0} where
   pub record Supplied (attrs : Reader (List A)) (values : ReadValues E) (part : Manner → Parts A E) : Type 0 where
     pub attrs_took : (s t : Stream) (x : List A) → Visible s.rest → attrs s ≡ Ok (x, t) → TookOne (part loosely).attrs s t x
     pub len : (s t : Stream) (x : E) → Visible s.rest → values.len s ≡ Ok (x, t) → leaves t ≡ None → (part loosely).len x s.rest
+    pub len_left : (s t : Stream) (x : E) → values.len s ≡ Ok (x, t) → leaves t ≡ None → s.left ≡ None
     -- what begins as a const argument does
     pub argument : (s t : Stream) (x : E) → Visible s.rest → sees_const s.rest ≡ true → values.const_argument s ≡ Ok (x, t) → TookOne (part loosely).const_argument s t x
     pub default : (s t : Stream) (x : E) → Visible s.rest → values.const_argument s ≡ Ok (x, t) → TookOne (part loosely).const_default s t x
     pub attrs_along : Along attrs
-    pub len_along : Along values.len
     pub argument_along : Along values.const_argument
