@@ -22,7 +22,7 @@ use Rattle.syn_forms.specs.declared.places.TypePlace.TheVariants.{Plus}
 use Rattle.syn_forms.specs.groups.Reading as inner
 use Rattle.syn_forms.specs.groups.Reading.{Length}
 use Rattle.syn_forms.specs.tokens.Reading as tokens
-use Rattle.syn_forms.proofs.tokens_laws.Fronts.{nothing_left, took_as, took_whole}
+use Rattle.syn_forms.proofs.tokens_laws.Fronts.{took_as, took_whole}
 use Rattle.syn_ty.specs.ty.Admitted.{bracketed, IsCounted, counted, IsElement, an_element, IsTupled, no_element, some_elements, IsType, a_slice_type, an_array_type}
 use Rattle.syn_ty.specs.ty.Parts.{Manner, loosely, End, closed, Parts}
 use Rattle.syn_ty.specs.ty.Points.{Readers, a_type}

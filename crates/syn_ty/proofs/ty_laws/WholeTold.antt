@@ -1,5 +1,5 @@
 -- Each whole read of this layer is sound: where it answers on a list without invisible groups and leaves nothing over, the answer spells the list by its promise.
-use Rattle.std.proofs.Common.{◌≡◌, Bool, false, List, [], Option, Some, None, Result, Ok, Err, refl}
+use Rattle.std.proofs.Common.{◌≡◌, Bool, false, List, Option, Some, None, Result, Ok, Err, refl}
 use Rattle.token_core.specs.declared.span.Span.{Span}
 use Rattle.token_core.specs.Headline.{Grammar}
 use Rattle.token_core.specs.Reads.{Keeps, Reader, Reads, kept, leaves}
@@ -12,7 +12,7 @@ use Rattle.syn_path.specs.Values.{ReadValues, SpelledValues}
 use Rattle.syn_forms.specs.declared.places.BoundPlace.TheVariants.{Opaque}
 use Rattle.syn_forms.specs.declared.places.ParamPlace.TheVariants.{Binder}
 use Rattle.syn_forms.specs.declared.places.TypePlace.{TypePlace}
-use Rattle.syn_forms.specs.declared.places.TypePlace.TheVariants.{Plus, NoPlus}
+use Rattle.syn_forms.specs.declared.places.TypePlace.TheVariants.{NoPlus}
 use Rattle.syn_forms.specs.places.Reading.{allows_plus}
 use Rattle.syn_forms.proofs.tokens_laws.Fronts.{took_whole}
 use Rattle.syn_ty.specs.generics.Alone as clauses
@@ -21,7 +21,7 @@ use Rattle.syn_ty.specs.generics.Clauses.{IsPredicate, IsWhereClause}
 use Rattle.syn_ty.specs.generics.Parameters.{AreGenerics, IsConstParam, IsLifetimeParam, IsParam, IsTypeParam}
 use Rattle.syn_ty.specs.generics.Reading as parts
 use Rattle.syn_ty.specs.path.Signed.{IsParens, IsReturn}
-use Rattle.syn_ty.specs.path.Spelling.{IsAngle, IsPath, IsSegment, Styled}
+use Rattle.syn_ty.specs.path.Spelling.{IsAngle, IsPath, IsSegment}
 use Rattle.syn_ty.specs.ty.Admitted.{IsBorrow, IsBracketed, IsCounted, IsEnclosed, IsPointer, IsTupled, IsType}
 use Rattle.syn_ty.specs.ty.Functions.{IsAbi, IsFnPtr, IsNamedArg}
 use Rattle.syn_ty.specs.ty.Knot as knot

@@ -12,7 +12,7 @@ use Rattle.syn_forms.specs.declared.places.TypePlace.{TypePlace}
 use Rattle.syn_ty.specs.path.Paths.{is_empty}
 use Rattle.syn_ty.specs.path.Reading.{sees_const}
 use Rattle.syn_ty.specs.ty.Parts.{Manner, loosely, Parts}
-use Rattle.syn_ty.specs.ty.Points.{Point, Tree, Readers, a_bound, a_param, a_type, an_argument, some_arguments}
+use Rattle.syn_ty.specs.ty.Points.{Point, Readers, a_bound, a_param, a_type, an_argument, some_arguments}
 use Rattle.syn_ty.specs.ty.Trees.{GenericArgument, GenericParam, PathArguments, TypeParamBound, TypeTree}
 use Rattle.syn_ty.proofs.ty_laws.SignedTold.{EmptyPair}
 use Rattle.syn_ty.proofs.ty_laws.Told.{Told}
