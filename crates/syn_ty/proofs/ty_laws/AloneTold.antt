@@ -1,9 +1,13 @@
 -- Each reader of this layer on the front of a list without invisible groups: where it answers, what was taken is spelt by the whole grammar, by trees of some height.
-use Rattle.std.proofs.Common.{◌≡◌, ℕ, suc, ◌<◌, ◌≤◌, Bool, false, List, Option, None, Ok, refl, subst, arith}
-use Rattle.token_core.specs.Reads.{Reader, leaves}
+use Rattle.std.proofs.Common.{◌≡◌, ℕ, suc, ◌<◌, ◌≤◌, Bool, false, List, [], Option, Some, None, Ok, refl, subst, arith}
+use Rattle.token_core.specs.declared.span.DelimSpan.{DelimSpan}
+use Rattle.token_core.specs.Groups.{invisible_at, is_there, next_invisible, open_invisible, sees_invisible}
+use Rattle.token_core.specs.Reads.{Reader, closing, leaves}
 use Rattle.token_core.specs.Rebuilt.{Visible}
 use Rattle.token_core.specs.Stream.{Stream}
 use Rattle.token_core.specs.Toks.{Toks}
+use Rattle.token_core.proofs.Took.{mapped}
+use Rattle.token_core.proofs.Turns.{chain}
 use Rattle.syn_path.proofs.Words.{TookOne}
 use Rattle.syn_path.specs.declared.path.PathStyle.{PathStyle}
 use Rattle.syn_path.specs.declared.path.PathStyle.TheVariants.{AsWritten, Expr}
@@ -14,6 +18,7 @@ use Rattle.syn_forms.specs.declared.places.ParamPlace.{ParamPlace}
 use Rattle.syn_forms.specs.declared.places.ParamPlace.TheVariants.{Binder}
 use Rattle.syn_forms.specs.declared.places.TypePlace.{TypePlace}
 use Rattle.syn_forms.specs.declared.places.TypePlace.TheVariants.{Plus, NoPlus, Bounded}
+use Rattle.syn_forms.specs.groups.Reading.{in_invisible}
 use Rattle.syn_forms.specs.inputs.Reading.{sees_name}
 use Rattle.syn_forms.specs.nested.Below.{ahead}
 use Rattle.syn_forms.specs.places.Reading.{allows_plus}
@@ -39,9 +44,11 @@ use Rattle.syn_ty.specs.ty.Knot.{reads_below}
 use Rattle.syn_ty.specs.ty.Objects.{IsImpl, IsObject}
 use Rattle.syn_ty.specs.ty.Parts.{Manner, loosely, End, Parts}
 use Rattle.syn_ty.specs.ty.Points.{Readers, a_bound, a_param, a_type, an_argument, some_arguments}
+use Rattle.syn_ty.specs.ty.Reading as reading
 use Rattle.syn_ty.specs.ty.Spelling.{IsOptional, Relation}
 use Rattle.syn_ty.specs.ty.Spelt.{IsPathAlone, Spells, SpellsEnding, spelt_to}
-use Rattle.syn_ty.specs.ty.Trees.{AngleBracketed, BoundLifetimes, ConstParam, GenericArgument, GenericParam, NamedArg, Parenthesized, Path, PathArguments, PathSegment, QSelf, ReturnType, TraitBound, TypeArray, TypeFnPtr, TypeImplTrait, TypeParam, TypeParamBound, TypeParen, TypePath, TypePtr, TypeReference, TypeSlice, TypeTraitObject, TypeTree, TypeTuple}
+use Rattle.syn_ty.specs.ty.Trees.{AngleBracketed, BoundLifetimes, ConstParam, GenericArgument, GenericParam, NamedArg, Parenthesized, Path, PathArguments, PathSegment, QSelf, ReturnType, TraitBound, TypeArray, TypeFnPtr, TypeGroup, TypeImplTrait, TypeParam, TypeParamBound, TypeParen, TypePath, TypePtr, TypeReference, TypeSlice, TypeTraitObject, TypeTree, TypeTuple}
+use Rattle.syn_ty.specs.ty.Types.{group_with}
 use Rattle.syn_ty.proofs.ty_laws.AlongBoundsTold.{optional_binder_along}
 use Rattle.syn_ty.proofs.ty_laws.AlongKnotTold.{reads_below_along}
 use Rattle.syn_ty.proofs.ty_laws.AlongTypesTold.{optional_dyn_along}
@@ -62,6 +69,7 @@ use Rattle.syn_ty.proofs.ty_laws.Told as told
 use Rattle.syn_ty.proofs.ty_laws.Told.{Told}
 use Rattle.syn_ty.proofs.ty_laws.TraitsTold as traits
 use Rattle.syn_ty.proofs.ty_laws.TypePathsTold as type_paths
+use Rattle.syn_ty.proofs.ty_laws.TypesTold.{none_invisible}
 use Rattle.syn_ty.proofs.ty_laws.Within.{Held, Supplied}
 
 -- ---- by trees of some height
@@ -93,6 +101,12 @@ module _ {A E : Type 0} (shown : Bool → List A → Toks → Toks → Type 0) (
 
   pub all_ending : {F : Type 0} (Is : EndingForm F) (s t : Stream) (x : F) → TookOne (FrontEnding Is) s t x → leaves t ≡ None → SpellsEnding shown spelt Is loosely x s.rest
   all_ending Is s t x k h = let i = took_whole {Is = FrontEnding Is} s t x k h in (i.0, i.1.0, i.1.1)
+
+-- ---- an invisible group stands on no list that is without them
+
+not_there : (s t : Stream) (o : Option (DelimSpan × Toks × Toks)) (y : DelimSpan × Stream) → is_there o ≡ false → invisible_at s o ≡ Ok (y, t) → ⊥
+not_there s t None y h e = cc
+not_there s t (Some p) y h e = cc
 
 module _ {A E : Type 0} {attrs : Reader (List A)} {values : ReadValues E} {shown : Bool → List A → Toks → Toks → Type 0} {spelt : SpelledValues E} (g : Given attrs values shown spelt) where
   abbrev To : ℕ → Manner → Parts A E
@@ -134,8 +148,8 @@ module _ {A E : Type 0} {attrs : Reader (List A)} {values : ReadValues E} {shown
   abbrev enough : Stream → ℕ
   enough s = twice (suc (ahead s))
 
-  pub type_took : (place : TypePlace) (s t : Stream) (x : TypeTree A E) → Visible s.rest → knot.ty attrs values place s ≡ Ok (x, t) → TookOne (FrontEnding shown spelt (λ part how. IsType part how place)) s t x
-  type_took place s t x v e = ending shown spelt (λ part how. IsType part how place) (enough s) s t x (type_by (suc (ahead s)) place s t x (omega arith) v e)
+  pub ty_took : (place : TypePlace) (s t : Stream) (x : TypeTree A E) → Visible s.rest → knot.ty attrs values place s ≡ Ok (x, t) → TookOne (FrontEnding shown spelt (λ part how. IsType part how place)) s t x
+  ty_took place s t x v e = ending shown spelt (λ part how. IsType part how place) (enough s) s t x (type_by (suc (ahead s)) place s t x (omega arith) v e)
 
   pub bound_took : (place : BoundPlace) (s t : Stream) (x : TypeParamBound A E) → Visible s.rest → knot.bound attrs values place s ≡ Ok (x, t) → TookOne (FrontEnding shown spelt (λ part how. IsBound part how place)) s t x
   bound_took place s t x v e = ending shown spelt (λ part how. IsBound part how place) (enough s) s t x (bound_by (suc (ahead s)) place s t x (omega arith) v e)
@@ -191,17 +205,17 @@ module _ {A E : Type 0} {attrs : Reader (List A)} {values : ReadValues E} {shown
       let k = angles.turbofish_took (within s) (part s) (here s).argument s t x v e in
       record { left = k.left; seen = k.seen; spelt = λ n. let i = k.spelt n in ((height s, i.0), i.1) }
 
-  pub parens_took : (s t : Stream) (x : Parenthesized A E) → Visible s.rest → knot.parenthesized attrs values s ≡ Ok (x, t) → TookOne (FrontEnding shown spelt IsParens) s t x
+  pub parenthesized_took : (s t : Stream) (x : Parenthesized A E) → Visible s.rest → knot.parenthesized attrs values s ≡ Ok (x, t) → TookOne (FrontEnding shown spelt IsParens) s t x
   unfolding knot.parenthesized
-  parens_took s t x v e = ending shown spelt IsParens (height s) s t x (signed.parens_took (within s) (part s) (here s).ty s t x v e)
+  parenthesized_took s t x v e = ending shown spelt IsParens (height s) s t x (signed.parens_took (within s) (part s) (here s).ty s t x v e)
 
   -- a path that a type may qualify
   abbrev pub IsQualifiedOrNot : PathStyle → Form shown spelt (Option (QSelf A E) × Path A E)
   IsQualifiedOrNot style part how y l r = IsAnyPath part how style y.0 y.1 l r
 
-  pub any_path_took : (style : PathStyle) (s t : Stream) (y : Option (QSelf A E) × Path A E) → Visible s.rest → paths.maybe_qualified attrs values style s ≡ Ok (y, t) → TookOne (Front shown spelt (IsQualifiedOrNot style)) s t y
+  pub maybe_qualified_took : (style : PathStyle) (s t : Stream) (y : Option (QSelf A E) × Path A E) → Visible s.rest → paths.maybe_qualified attrs values style s ≡ Ok (y, t) → TookOne (Front shown spelt (IsQualifiedOrNot style)) s t y
   unfolding paths.maybe_qualified
-  any_path_took style s t y v e = front shown spelt (IsQualifiedOrNot style) (height s) s t y (type_paths.any_path_took (within s) (part s) (here s) style s t y v e)
+  maybe_qualified_took style s t y v e = front shown spelt (IsQualifiedOrNot style) (height s) s t y (type_paths.any_path_took (within s) (part s) (here s) style s t y v e)
 
   pub path_type_took : (s t : Stream) (x : TypePath A E) → Visible s.rest → knot.path_type attrs values s ≡ Ok (x, t) → TookOne (Front shown spelt (IsPathAlone shown spelt)) s t x
   unfolding knot.path_type
@@ -209,22 +223,22 @@ module _ {A E : Type 0} {attrs : Reader (List A)} {values : ReadValues E} {shown
 
   -- ---- types
 
-  pub return_took : (place : TypePlace) (s t : Stream) (x : ReturnType A E) → Visible s.rest → knot.return_type attrs values place s ≡ Ok (x, t) → TookOne (FrontEnding shown spelt (λ part how. IsReturn part how place)) s t x
+  pub return_type_took : (place : TypePlace) (s t : Stream) (x : ReturnType A E) → Visible s.rest → knot.return_type attrs values place s ≡ Ok (x, t) → TookOne (FrontEnding shown spelt (λ part how. IsReturn part how place)) s t x
   unfolding knot.return_type
-  return_took place s t x v e = ending shown spelt (λ part how. IsReturn part how place) (height s) s t x (told.output_took (within s) (part s) (here s).ty place s t x v e)
+  return_type_took place s t x v e = ending shown spelt (λ part how. IsReturn part how place) (height s) s t x (told.output_took (within s) (part s) (here s).ty place s t x v e)
 
   -- the first bound is read where no more is left than at the trait object
-  pub object_took : (place : TypePlace) (s t : Stream) (x : TypeTraitObject A E) → Visible s.rest → knot.trait_object attrs values (allows_plus place) s ≡ Ok (x, t) → TookOne (Front shown spelt (λ part how. IsObject part how place)) s t x
+  pub trait_object_took : (place : TypePlace) (s t : Stream) (x : TypeTraitObject A E) → Visible s.rest → knot.trait_object attrs values (allows_plus place) s ≡ Ok (x, t) → TookOne (Front shown spelt (λ part how. IsObject part how place)) s t x
   unfolding knot.trait_object
-  object_took place s t x v e =
+  trait_object_took place s t x v e =
       let m = suc (ahead s) in
       front shown spelt (λ part how. IsObject part how place) (suc (twice m)) s t x
       (objects.object_took (within s) (turns m) ((below (ahead s) m (omega arith)).bound Object) (allows_plus place) place refl (knot.bound attrs values Object) (λ u. ahead u ≤ ahead s)
       (λ u w y a i j. bound_by m Object u w y (omega (arith, a)) i j) s t x (λ w u i. ahead_follows s u (optional_dyn_along s u w i)) v e)
 
-  pub impl_took : (place : TypePlace) (s t : Stream) (x : TypeImplTrait A E) → Visible s.rest → knot.impl_trait attrs values (allows_plus place) s ≡ Ok (x, t) → TookOne (FrontEnding shown spelt (λ part how. IsImpl part how place)) s t x
+  pub impl_trait_took : (place : TypePlace) (s t : Stream) (x : TypeImplTrait A E) → Visible s.rest → knot.impl_trait attrs values (allows_plus place) s ≡ Ok (x, t) → TookOne (FrontEnding shown spelt (λ part how. IsImpl part how place)) s t x
   unfolding knot.impl_trait
-  impl_took place s t x v e = ending shown spelt (λ part how. IsImpl part how place) (height s) s t x (dyns.impl_took (within s) (part s) ((here s).bound Opaque) place (allows_plus place) refl s t x v e)
+  impl_trait_took place s t x v e = ending shown spelt (λ part how. IsImpl part how place) (height s) s t x (dyns.impl_took (within s) (part s) ((here s).bound Opaque) place (allows_plus place) refl s t x v e)
 
   pub array_took : (s t : Stream) (x : TypeArray A E) → Visible s.rest → knot.array attrs values s ≡ Ok (x, t) → TookOne (Front shown spelt IsCounted) s t x
   unfolding knot.array
@@ -233,6 +247,16 @@ module _ {A E : Type 0} {attrs : Reader (List A)} {values : ReadValues E} {shown
   pub fn_ptr_took : (s t : Stream) (x : TypeFnPtr A E) → Visible s.rest → knot.fn_ptr attrs values s ≡ Ok (x, t) → TookOne (FrontEnding shown spelt IsFnPtr) s t x
   unfolding knot.fn_ptr
   fn_ptr_took s t x v e = ending shown spelt IsFnPtr (height s) s t x (functions.fn_ptr_took attrs values (within s) (part s) (here s) (given (ahead s)) s t x v e)
+
+  -- no group is read
+  pub no_group : (s t : Stream) (x : TypeGroup A E) → Visible s.rest → knot.group attrs values s ≡ Ok (x, t) → ⊥
+  unfolding knot.group reading.group open_invisible sees_invisible
+  no_group s t x v e =
+      let r = within s (a_type Plus) in
+      let k = mapped (in_invisible r s) (λ y. group_with [] y.0 y.1) x t e in
+      let m = mapped _ _ k.value t k.was in
+      let o = chain (open_invisible s) (λ y. λ u. closing y.0 u (r y.1)) m.value t m.was in
+      not_there s o.rest (next_invisible s.rest) o.value (none_invisible s.rest v) o.was
 
   pub paren_took : (s t : Stream) (x : TypeParen A E) → Visible s.rest → knot.paren attrs values s ≡ Ok (x, t) → TookOne (Front shown spelt (λ part how. IsEnclosed part how NoPlus)) s t x
   unfolding knot.paren
@@ -298,9 +322,9 @@ module _ {A E : Type 0} {attrs : Reader (List A)} {values : ReadValues E} {shown
   pub predicate_took : (s t : Stream) (x : WherePredicateOf A E) → Visible s.rest → clauses.predicate attrs values s ≡ Ok (x, t) → TookOne (Front shown spelt IsPredicate) s t x
   predicate_took s t x v e = front shown spelt IsPredicate (suc (enough s)) s t x (predicate_by (suc (ahead s)) s t x (omega arith) v e)
 
-  pub clause_took : (s t : Stream) (x : WhereClauseOf A E) → Visible s.rest → clauses.where_clause attrs values s ≡ Ok (x, t) → TookOne (Front shown spelt IsWhereClause) s t x
-  clause_took s t x v e = front shown spelt IsWhereClause (height s) s t x (of_clauses.where_alone_took attrs values (part s) s t x (λ q u y a i j. predicate_by (ahead s) q u y a i j) v e)
+  pub where_clause_took : (s t : Stream) (x : WhereClauseOf A E) → Visible s.rest → clauses.where_clause attrs values s ≡ Ok (x, t) → TookOne (Front shown spelt IsWhereClause) s t x
+  where_clause_took s t x v e = front shown spelt IsWhereClause (height s) s t x (of_clauses.where_alone_took attrs values (part s) s t x (λ q u y a i j. predicate_by (ahead s) q u y a i j) v e)
 
-  pub optional_clause_took : (s t : Stream) (o : Option (WhereClauseOf A E)) → Visible s.rest → clauses.optional_where_clause attrs values s ≡ Ok (o, t) → TookOne (Front shown spelt (λ part how. IsOptional (IsWhereClause part how))) s t o
-  optional_clause_took s t o v e =
+  pub optional_where_clause_took : (s t : Stream) (o : Option (WhereClauseOf A E)) → Visible s.rest → clauses.optional_where_clause attrs values s ≡ Ok (o, t) → TookOne (Front shown spelt (λ part how. IsOptional (IsWhereClause part how))) s t o
+  optional_where_clause_took s t o v e =
       front shown spelt (λ part how. IsOptional (IsWhereClause part how)) (height s) s t o (of_clauses.optional_where_alone_took attrs values (part s) s t o (λ q u y a i j. predicate_by (ahead s) q u y a i j) v e)

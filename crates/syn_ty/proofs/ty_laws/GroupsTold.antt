@@ -22,7 +22,7 @@ use Rattle.syn_forms.specs.declared.places.TypePlace.TheVariants.{Plus}
 use Rattle.syn_forms.specs.groups.Reading as inner
 use Rattle.syn_forms.specs.groups.Reading.{Length}
 use Rattle.syn_forms.specs.tokens.Reading as tokens
-use Rattle.syn_forms.proofs.tokens_laws.Fronts.{nothing_left, took_as, took_whole}
+use Rattle.syn_forms.proofs.tokens_laws.Fronts.{took_as, took_whole}
 use Rattle.syn_ty.specs.ty.Admitted.{bracketed, IsCounted, counted, IsElement, an_element, IsTupled, no_element, some_elements, IsType, a_slice_type, an_array_type}
 use Rattle.syn_ty.specs.ty.Parts.{Manner, loosely, End, closed, Parts}
 use Rattle.syn_ty.specs.ty.Points.{Readers, a_type}
@@ -69,8 +69,7 @@ module _ {A E : Type 0} (attrs : Reader (List A)) (values : ReadValues E) (r : R
       let k = mark_sound {n = 24} {k = 1} refl (omega arith) s c.rest c.value v c.was in
       let vc = mark_visible false {n = 24} {k = 1} c.value s.rest c.rest.rest k.spelt v in
       let w = mapped (values.len c.rest) (λ (z : E). (c.value, z)) n t c.goes in
-      let left = left_before c.rest t (g.len_along c.rest t w.value w.was) (nothing_left t o) in
-      (sym k.left ∙ left, subst (λ (z : Length E). IsLength z s.rest) w.is (c.rest.rest, k.spelt, g.len c.rest t w.value vc w.was o))
+      (sym k.left ∙ g.len_left c.rest t w.value w.was o, subst (λ (z : Length E). IsLength z s.rest) w.is (c.rest.rest, k.spelt, g.len c.rest t w.value vc w.was o))
 
   abbrev IsCount : Tree → Length E → Toks → Type 0
   IsCount x n l = (e : End) × (m : Toks) × (part loosely).ty Plus e x l m × IsLength n m

@@ -68,10 +68,10 @@ module _ {A E : Type 0} (part over : Manner → Parts A E) (wide : Up (part loos
   supplied_wide attrs values g = record {
     attrs_took = λ s t x v e. took_wide {V = (part loosely).attrs} {W = (over loosely).attrs} (λ y l k i. wide.attrs y l k i) s t x (g.attrs_took s t x v e);
     len = λ s t x v e o. wide.len x s.rest (g.len s t x v e o);
+    len_left = g.len_left;
     argument = λ s t x v o e. took_wide {V = (part loosely).const_argument} {W = (over loosely).const_argument} (λ y l k i. wide.const_argument y l k i) s t x (g.argument s t x v o e);
     default = λ s t x v e. took_wide {V = (part loosely).const_default} {W = (over loosely).const_default} (λ y l k i. wide.const_default y l k i) s t x (g.default s t x v e);
     attrs_along = g.attrs_along;
-    len_along = g.len_along;
     argument_along = g.argument_along;
   }
 

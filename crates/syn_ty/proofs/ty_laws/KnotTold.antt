@@ -1,5 +1,5 @@
 -- The reads that go back to themselves, tied: what they answer is spelt, by the count of the turns.
-use Rattle.std.proofs.Common.{◌≡◌, ℕ, zero, suc, ◌<◌, ◌≤◌, ◌==◌, eqb-true, Bool, true, List, length, Option, None, Ok, refl, sym, ◌∙◌, ap, subst, arith}
+use Rattle.std.proofs.Common.{◌≡◌, ℕ, zero, suc, ◌<◌, ◌≤◌, ◌==◌, eqb-true, Bool, true, List, length, None, Ok, refl, sym, ◌∙◌, ap, subst, arith}
 use Rattle.token_core.specs.declared.lifetime.Lifetime.{Lifetime}
 use Rattle.token_core.specs.Listed.{none_left, last_value, value_and_mark}
 use Rattle.token_core.specs.Loops.{Many}

@@ -1,24 +1,18 @@
 -- Each whole read of this layer is sound: where it answers on a list without invisible groups and leaves nothing over, the answer spells the list by its promise.
-use Rattle.std.proofs.Common.{◌≡◌, Bool, false, List, [], Option, Some, None, Result, Ok, Err, refl}
-use Rattle.token_core.specs.declared.span.DelimSpan.{DelimSpan}
+use Rattle.std.proofs.Common.{◌≡◌, Bool, false, List, Option, Some, None, Result, Ok, Err, refl}
 use Rattle.token_core.specs.declared.span.Span.{Span}
-use Rattle.token_core.specs.Groups.{invisible_at, is_there, next_invisible, open_invisible, sees_invisible}
 use Rattle.token_core.specs.Headline.{Grammar}
-use Rattle.token_core.specs.Reads.{Keeps, Reader, Reads, closing, kept, leaves}
+use Rattle.token_core.specs.Reads.{Keeps, Reader, Reads, kept, leaves}
 use Rattle.token_core.specs.Rebuilt.{Visible}
 use Rattle.token_core.specs.Refusal.{Refusal}
 use Rattle.token_core.specs.Stream.{Stream}
 use Rattle.token_core.specs.Toks.{Toks}
-use Rattle.token_core.proofs.Took.{mapped}
-use Rattle.token_core.proofs.Turns.{chain}
 use Rattle.syn_path.specs.declared.path.PathStyle.TheVariants.{AsWritten}
 use Rattle.syn_path.specs.Values.{ReadValues, SpelledValues}
 use Rattle.syn_forms.specs.declared.places.BoundPlace.TheVariants.{Opaque}
 use Rattle.syn_forms.specs.declared.places.ParamPlace.TheVariants.{Binder}
 use Rattle.syn_forms.specs.declared.places.TypePlace.{TypePlace}
-use Rattle.syn_forms.specs.declared.places.TypePlace.TheVariants.{Plus, NoPlus}
-use Rattle.syn_forms.specs.groups.Reading.{in_invisible}
-use Rattle.syn_forms.specs.nested.Below.{ahead}
+use Rattle.syn_forms.specs.declared.places.TypePlace.TheVariants.{NoPlus}
 use Rattle.syn_forms.specs.places.Reading.{allows_plus}
 use Rattle.syn_forms.proofs.tokens_laws.Fronts.{took_whole}
 use Rattle.syn_ty.specs.generics.Alone as clauses
@@ -27,27 +21,22 @@ use Rattle.syn_ty.specs.generics.Clauses.{IsPredicate, IsWhereClause}
 use Rattle.syn_ty.specs.generics.Parameters.{AreGenerics, IsConstParam, IsLifetimeParam, IsParam, IsTypeParam}
 use Rattle.syn_ty.specs.generics.Reading as parts
 use Rattle.syn_ty.specs.path.Signed.{IsParens, IsReturn}
-use Rattle.syn_ty.specs.path.Spelling.{IsAngle, IsPath, IsSegment, Styled}
+use Rattle.syn_ty.specs.path.Spelling.{IsAngle, IsPath, IsSegment}
 use Rattle.syn_ty.specs.ty.Admitted.{IsBorrow, IsBracketed, IsCounted, IsEnclosed, IsPointer, IsTupled, IsType}
 use Rattle.syn_ty.specs.ty.Functions.{IsAbi, IsFnPtr, IsNamedArg}
 use Rattle.syn_ty.specs.ty.Knot as knot
-use Rattle.syn_ty.specs.ty.Knot.{reads_below}
 use Rattle.syn_ty.specs.ty.Objects.{IsImpl, IsObject}
 use Rattle.syn_ty.specs.ty.Parts.{loosely}
-use Rattle.syn_ty.specs.ty.Points.{a_type}
 use Rattle.syn_ty.specs.ty.Reading as reading
 use Rattle.syn_ty.specs.ty.Sounds.{Sounds}
 use Rattle.syn_ty.specs.ty.Spelling.{IsOptional}
 use Rattle.syn_ty.specs.ty.Spelt as by
 use Rattle.syn_ty.specs.ty.Spelt.{IsPathAlone}
-use Rattle.syn_ty.specs.ty.Trees.{TypeGroup}
-use Rattle.syn_ty.specs.ty.Types.{group_with}
 use Rattle.syn_ty.proofs.ty_laws.AloneTold as alone
 use Rattle.syn_ty.proofs.ty_laws.AloneTold.{all_ending, all_of}
 use Rattle.syn_ty.proofs.ty_laws.BoundTold.{capture_took, captured_took}
 use Rattle.syn_ty.proofs.ty_laws.FunctionsTold.{abi_took, optional_abi_took}
 use Rattle.syn_ty.proofs.ty_laws.Given.{Given}
-use Rattle.syn_ty.proofs.ty_laws.TypesTold.{none_invisible}
 
 -- ---- of every grammar
 
@@ -64,12 +53,6 @@ module _ {F : Type 0} (G : Grammar F) (sound : Whole G.reader (G.spells false)) 
   pub sounds : (s t : Stream) (r : Result F Refusal) → Reads (G.reader s) r t → Keeps (Sounds G) s r t
   sounds s t (Ok a) e = λ n. sounds_at s t a (leaves t) n e refl
   sounds s t (Err x) e = λ k n. tt
-
--- ---- an invisible group stands on no list that is without them
-
-not_there : (s t : Stream) (o : Option (DelimSpan × Toks × Toks)) (y : DelimSpan × Stream) → is_there o ≡ false → invisible_at s o ≡ Ok (y, t) → ⊥
-not_there s t None y h e = cc
-not_there s t (Some p) y h e = cc
 
 module _ {A E : Type 0} {attrs : Reader (List A)} {values : ReadValues E} {shown : Bool → List A → Toks → Toks → Type 0} {spelt : SpelledValues E} (g : Given attrs values shown spelt) where
   -- ---- paths
@@ -89,22 +72,22 @@ module _ {A E : Type 0} {attrs : Reader (List A)} {values : ReadValues E} {shown
   pub turbofish_sound : Whole (knot.turbofish attrs values) (by.SpellsTurbofish shown spelt loosely)
   turbofish_sound s t a n v e c = took_whole {Is = alone.Turbofish g} s t a (alone.turbofish_took g s t a v e) c
 
-  pub parens_sound : Whole (knot.parenthesized attrs values) (by.SpellsParens shown spelt loosely)
-  parens_sound s t a n v e c = all_ending shown spelt IsParens s t a (alone.parens_took g s t a v e) c
+  pub parenthesized_sound : Whole (knot.parenthesized attrs values) (by.SpellsParens shown spelt loosely)
+  parenthesized_sound s t a n v e c = all_ending shown spelt IsParens s t a (alone.parenthesized_took g s t a v e) c
 
   -- ---- types, with plus or without
 
-  pub type_sound : (place : TypePlace) → Whole (knot.ty attrs values place) (by.SpellsType shown spelt place loosely)
-  type_sound place s t a n v e c = all_ending shown spelt (λ part how. IsType part how place) s t a (alone.type_took g place s t a v e) c
+  pub ty_sound : (place : TypePlace) → Whole (knot.ty attrs values place) (by.SpellsType shown spelt place loosely)
+  ty_sound place s t a n v e c = all_ending shown spelt (λ part how. IsType part how place) s t a (alone.ty_took g place s t a v e) c
 
-  pub return_sound : (place : TypePlace) → Whole (knot.return_type attrs values place) (by.SpellsReturn shown spelt place loosely)
-  return_sound place s t a n v e c = all_ending shown spelt (λ part how. IsReturn part how place) s t a (alone.return_took g place s t a v e) c
+  pub return_type_sound : (place : TypePlace) → Whole (knot.return_type attrs values place) (by.SpellsReturn shown spelt place loosely)
+  return_type_sound place s t a n v e c = all_ending shown spelt (λ part how. IsReturn part how place) s t a (alone.return_type_took g place s t a v e) c
 
-  pub object_sound : (place : TypePlace) → Whole (knot.trait_object attrs values (allows_plus place)) (by.SpellsObject shown spelt place loosely)
-  object_sound place s t a n v e c = all_of shown spelt (λ part how. IsObject part how place) s t a (alone.object_took g place s t a v e) c
+  pub trait_object_sound : (place : TypePlace) → Whole (knot.trait_object attrs values (allows_plus place)) (by.SpellsObject shown spelt place loosely)
+  trait_object_sound place s t a n v e c = all_of shown spelt (λ part how. IsObject part how place) s t a (alone.trait_object_took g place s t a v e) c
 
-  pub impl_sound : (place : TypePlace) → Whole (knot.impl_trait attrs values (allows_plus place)) (by.SpellsImpl shown spelt place loosely)
-  impl_sound place s t a n v e c = all_ending shown spelt (λ part how. IsImpl part how place) s t a (alone.impl_took g place s t a v e) c
+  pub impl_trait_sound : (place : TypePlace) → Whole (knot.impl_trait attrs values (allows_plus place)) (by.SpellsImpl shown spelt place loosely)
+  impl_trait_sound place s t a n v e c = all_ending shown spelt (λ part how. IsImpl part how place) s t a (alone.impl_trait_took g place s t a v e) c
 
   pub array_sound : Whole (knot.array attrs values) (by.SpellsArray shown spelt loosely)
   array_sound s t a n v e c = all_of shown spelt IsCounted s t a (alone.array_took g s t a v e) c
@@ -114,13 +97,7 @@ module _ {A E : Type 0} {attrs : Reader (List A)} {values : ReadValues E} {shown
 
   -- no group is read there
   pub group_sound : Whole (knot.group attrs values) (by.SpellsGroup shown spelt loosely)
-  unfolding knot.group reading.group open_invisible sees_invisible
-  group_sound s t a n v e c =
-      let r = reads_below attrs values (ahead s) (a_type Plus) in
-      let k = mapped (in_invisible r s) (λ y. group_with [] y.0 y.1) a t e in
-      let m = mapped _ _ k.value t k.was in
-      let o = chain (open_invisible s) (λ y. λ u. closing y.0 u (r y.1)) m.value t m.was in
-      not_there s o.rest (next_invisible s.rest) o.value (none_invisible s.rest v) o.was
+  group_sound s t a n v e c = alone.no_group g s t a v e
 
   pub paren_sound : Whole (knot.paren attrs values) (by.SpellsParen shown spelt loosely)
   paren_sound s t a n v e c = all_of shown spelt (λ part how. IsEnclosed part how NoPlus) s t a (alone.paren_took g s t a v e) c
@@ -173,10 +150,10 @@ module _ {A E : Type 0} {attrs : Reader (List A)} {values : ReadValues E} {shown
   trait_bound_sound s t a n v e c = all_ending shown spelt IsTraitBound s t a (alone.trait_bound_took g s t a v e) c
 
   pub where_clause_sound : Whole (clauses.where_clause attrs values) (by.SpellsClause shown spelt loosely)
-  where_clause_sound s t a n v e c = all_of shown spelt IsWhereClause s t a (alone.clause_took g s t a v e) c
+  where_clause_sound s t a n v e c = all_of shown spelt IsWhereClause s t a (alone.where_clause_took g s t a v e) c
 
   pub optional_where_clause_sound : Whole (clauses.optional_where_clause attrs values) (by.SpellsOptionalClause shown spelt loosely)
-  optional_where_clause_sound s t a n v e c = all_of shown spelt (λ part how. IsOptional (IsWhereClause part how)) s t a (alone.optional_clause_took g s t a v e) c
+  optional_where_clause_sound s t a n v e c = all_of shown spelt (λ part how. IsOptional (IsWhereClause part how)) s t a (alone.optional_where_clause_took g s t a v e) c
 
   pub predicate_sound : Whole (clauses.predicate attrs values) (by.SpellsPredicate shown spelt loosely)
   predicate_sound s t a n v e c = all_of shown spelt IsPredicate s t a (alone.predicate_took g s t a v e) c

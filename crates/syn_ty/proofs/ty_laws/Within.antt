@@ -12,7 +12,7 @@ use Rattle.syn_forms.specs.declared.places.TypePlace.{TypePlace}
 use Rattle.syn_ty.specs.path.Paths.{is_empty}
 use Rattle.syn_ty.specs.path.Reading.{sees_const}
 use Rattle.syn_ty.specs.ty.Parts.{Manner, loosely, Parts}
-use Rattle.syn_ty.specs.ty.Points.{Point, Tree, Readers, a_bound, a_param, a_type, an_argument, some_arguments}
+use Rattle.syn_ty.specs.ty.Points.{Point, Readers, a_bound, a_param, a_type, an_argument, some_arguments}
 use Rattle.syn_ty.specs.ty.Trees.{GenericArgument, GenericParam, PathArguments, TypeParamBound, TypeTree}
 use Rattle.syn_ty.proofs.ty_laws.SignedTold.{EmptyPair}
 use Rattle.syn_ty.proofs.ty_laws.Told.{Told}
@@ -32,9 +32,9 @@ module _ {A E : Type 0} where
   pub record Supplied (attrs : Reader (List A)) (values : ReadValues E) (part : Manner → Parts A E) : Type 0 where
     pub attrs_took : (s t : Stream) (x : List A) → Visible s.rest → attrs s ≡ Ok (x, t) → TookOne (part loosely).attrs s t x
     pub len : (s t : Stream) (x : E) → Visible s.rest → values.len s ≡ Ok (x, t) → leaves t ≡ None → (part loosely).len x s.rest
+    pub len_left : (s t : Stream) (x : E) → values.len s ≡ Ok (x, t) → leaves t ≡ None → s.left ≡ None
     -- what begins as a const argument does
     pub argument : (s t : Stream) (x : E) → Visible s.rest → sees_const s.rest ≡ true → values.const_argument s ≡ Ok (x, t) → TookOne (part loosely).const_argument s t x
     pub default : (s t : Stream) (x : E) → Visible s.rest → values.const_argument s ≡ Ok (x, t) → TookOne (part loosely).const_default s t x
     pub attrs_along : Along attrs
-    pub len_along : Along values.len
     pub argument_along : Along values.const_argument
