@@ -71,24 +71,12 @@ use Rattle.syn_ty.proofs.ty_laws.TraitsTold as traits
 use Rattle.syn_ty.proofs.ty_laws.TypePathsTold as type_paths
 use Rattle.syn_ty.proofs.ty_laws.TypesTold.{none_invisible}
 use Rattle.syn_ty.proofs.ty_laws.Within.{Held, Supplied}
+use Rattle.syn_ty.specs.ty.Fronts as fronts
+pub use Rattle.syn_ty.specs.ty.Fronts.{Form, EndingForm, Front, FrontEnding}
 
 -- ---- by trees of some height
 
 module _ {A E : Type 0} (shown : Bool → List A → Toks → Toks → Type 0) (spelt : SpelledValues E) where
-  -- a form, over what stands within it
-  abbrev pub Form : Type 0 → Type 1
-  Form F = (Manner → Parts A E) → Manner → Relation F
-
-  -- and how it ends
-  abbrev pub EndingForm : Type 0 → Type 1
-  EndingForm F = (Manner → Parts A E) → Manner → End → Relation F
-
-  abbrev pub Front : {F : Type 0} → Form F → Relation F
-  Front Is x l r = (n : ℕ) × Is (spelt_to shown spelt n) loosely x l r
-
-  abbrev pub FrontEnding : {F : Type 0} → EndingForm F → Relation F
-  FrontEnding Is x l r = (n : ℕ) × Told (Is (spelt_to shown spelt n) loosely) x l r
-
   front : {F : Type 0} (Is : Form F) (n : ℕ) (s t : Stream) (x : F) → TookOne (Is (spelt_to shown spelt n) loosely) s t x → TookOne (Front Is) s t x
   front Is n s t x k = record { left = k.left; seen = k.seen; spelt = λ h. (n, k.spelt h) }
 
@@ -195,11 +183,7 @@ module _ {A E : Type 0} {attrs : Reader (List A)} {values : ReadValues E} {shown
   unfolding knot.angle_bracketed
   angle_took s t x v e = front shown spelt IsAngle (height s) s t x (angles.angle_took (within s) (part s) (here s).argument s t x v e)
 
-  -- with their `::`
-  abbrev pub Turbofish : AngleBracketed A E → Toks → Toks → Type 0
-  Turbofish x l r = Front shown spelt IsAngle x l r × Styled Expr l
-
-  pub turbofish_took : (s t : Stream) (x : AngleBracketed A E) → Visible s.rest → knot.turbofish attrs values s ≡ Ok (x, t) → TookOne Turbofish s t x
+  pub turbofish_took : (s t : Stream) (x : AngleBracketed A E) → Visible s.rest → knot.turbofish attrs values s ≡ Ok (x, t) → TookOne (fronts.turbofish shown spelt) s t x
   unfolding knot.turbofish
   turbofish_took s t x v e =
       let k = angles.turbofish_took (within s) (part s) (here s).argument s t x v e in
@@ -209,13 +193,9 @@ module _ {A E : Type 0} {attrs : Reader (List A)} {values : ReadValues E} {shown
   unfolding knot.parenthesized
   parenthesized_took s t x v e = ending shown spelt IsParens (height s) s t x (signed.parens_took (within s) (part s) (here s).ty s t x v e)
 
-  -- a path that a type may qualify
-  abbrev pub IsQualifiedOrNot : PathStyle → Form shown spelt (Option (QSelf A E) × Path A E)
-  IsQualifiedOrNot style part how y l r = IsAnyPath part how style y.0 y.1 l r
-
-  pub maybe_qualified_took : (style : PathStyle) (s t : Stream) (y : Option (QSelf A E) × Path A E) → Visible s.rest → paths.maybe_qualified attrs values style s ≡ Ok (y, t) → TookOne (Front shown spelt (IsQualifiedOrNot style)) s t y
+  pub maybe_qualified_took : (style : PathStyle) (s t : Stream) (y : Option (QSelf A E) × Path A E) → Visible s.rest → paths.maybe_qualified attrs values style s ≡ Ok (y, t) → TookOne (Front shown spelt (fronts.IsQualifiedOrNot shown spelt style)) s t y
   unfolding paths.maybe_qualified
-  maybe_qualified_took style s t y v e = front shown spelt (IsQualifiedOrNot style) (height s) s t y (type_paths.any_path_took (within s) (part s) (here s) style s t y v e)
+  maybe_qualified_took style s t y v e = front shown spelt (fronts.IsQualifiedOrNot shown spelt style) (height s) s t y (type_paths.any_path_took (within s) (part s) (here s) style s t y v e)
 
   pub path_type_took : (s t : Stream) (x : TypePath A E) → Visible s.rest → knot.path_type attrs values s ≡ Ok (x, t) → TookOne (Front shown spelt (IsPathAlone shown spelt)) s t x
   unfolding knot.path_type

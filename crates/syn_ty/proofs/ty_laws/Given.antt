@@ -7,7 +7,7 @@ use Rattle.token_core.specs.Stream.{Stream}
 use Rattle.token_core.specs.Toks.{Toks}
 use Rattle.token_core.proofs.Turns.{same_pair}
 use Rattle.syn_path.proofs.Words.{TookOne}
-use Rattle.syn_path.specs.Lengths.{LengthLaws}
+use Rattle.syn_path.specs.Lengths.{AttributeLaws, ConstLaws, LengthLaws}
 use Rattle.syn_path.specs.Values.{ReadValues, SpelledValues}
 use Rattle.syn_forms.proofs.tokens_laws.Fronts.{nothing_left}
 use Rattle.syn_ty.specs.path.Reading.{sees_const}
@@ -49,3 +49,17 @@ module _ {A E : Type 0} (attrs : Reader (List A)) (values : ReadValues E) (shown
     len_left = g.len_left;
     argument_along = g.argument_along;
   }
+
+-- by the laws of what is supplied
+pub given : {A E : Type 0} {attrs : Reader (List A)} {values : ReadValues E} {shown : Bool → List A → Toks → Toks → Type 0} {spelt : SpelledValues E} {normal : E → E} {print : E → Print} →
+    AttributeLaws attrs shown → ConstLaws values.const_argument spelt.const_argument spelt.const_default → LengthLaws values.len spelt.len normal print → Given attrs values shown spelt
+unfolding sees_const
+given a c l = record {
+  attrs_took = a.took;
+  attrs_along = a.along;
+  len = λ s t x v e n. l.sound s t x e n;
+  len_left = λ s t x e n. nothing_before l s t x e n;
+  argument_took = c.took_argument;
+  default_took = c.took_default;
+  argument_along = c.along;
+}

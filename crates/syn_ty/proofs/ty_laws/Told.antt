@@ -32,16 +32,13 @@ use Rattle.syn_ty.specs.path.Reading.{return_of}
 use Rattle.syn_ty.specs.path.Signed.{IsReturn, no_output, an_output}
 use Rattle.syn_ty.specs.ty.Admitted.{IsPointer, a_pointer, IsBorrow, a_borrow, a_mutable_borrow, a_lifetime_borrow, IsEnclosed, enclosed, IsBracketed, bracketed}
 use Rattle.syn_ty.specs.ty.Parts.{Manner, loosely, End, closed, after_plus, going_on, Parts}
+pub use Rattle.syn_ty.specs.ty.Parts.{Told}
 use Rattle.syn_ty.specs.ty.Points.{Readers, a_type}
 use Rattle.syn_ty.specs.ty.Reading as reading
 use Rattle.syn_ty.specs.ty.Spelling.{Relation, IsOptional, absent, present}
 use Rattle.syn_ty.specs.ty.Trees.{ReturnType, TypeParamBound, TypeParen, TypePtr, TypeReference, TypeSlice, TypeTree}
 use Rattle.syn_ty.specs.ty.Types.{And, Mut, Star, paren_of, ptr_of, reference_of, slice_of}
 use Rattle.syn_ty.proofs.ty_laws.Sound.{optional_sound, named_sound, life_sound, IsHeld, held_sound, twice}
-
--- It ends somehow: where it is open, no `+` follows; where it ends in a plus, no word follows.
-abbrev pub Told : {A : Type 0} → (End → Relation A) → Relation A
-Told Is x l r = (e : End) × Is e x l r × (e.is_open ≡ true → token.sees_plus r ≡ false) × (e.in_plus ≡ true → sees_word any_text r ≡ false)
 
 -- what is closed is not open, and does not end in a plus
 pub never_open : {P : Type 0} → closed.is_open ≡ true → P

@@ -23,12 +23,13 @@ use Rattle.syn_ty.specs.generics.Reading as parts
 use Rattle.syn_ty.specs.path.Signed.{IsParens, IsReturn}
 use Rattle.syn_ty.specs.path.Spelling.{IsAngle, IsPath, IsSegment}
 use Rattle.syn_ty.specs.ty.Admitted.{IsBorrow, IsBracketed, IsCounted, IsEnclosed, IsPointer, IsTupled, IsType}
+use Rattle.syn_ty.specs.ty.Fronts as fronts
 use Rattle.syn_ty.specs.ty.Functions.{IsAbi, IsFnPtr, IsNamedArg}
 use Rattle.syn_ty.specs.ty.Knot as knot
 use Rattle.syn_ty.specs.ty.Objects.{IsImpl, IsObject}
 use Rattle.syn_ty.specs.ty.Parts.{loosely}
 use Rattle.syn_ty.specs.ty.Reading as reading
-use Rattle.syn_ty.specs.ty.Sounds.{Sounds}
+use Rattle.syn_path.specs.Took.{Sounds, Takes, TookOne}
 use Rattle.syn_ty.specs.ty.Spelling.{IsOptional}
 use Rattle.syn_ty.specs.ty.Spelt as by
 use Rattle.syn_ty.specs.ty.Spelt.{IsPathAlone}
@@ -70,7 +71,7 @@ module _ {A E : Type 0} {attrs : Reader (List A)} {values : ReadValues E} {shown
   angle_sound s t a n v e c = all_of shown spelt IsAngle s t a (alone.angle_took g s t a v e) c
 
   pub turbofish_sound : Whole (knot.turbofish attrs values) (by.SpellsTurbofish shown spelt loosely)
-  turbofish_sound s t a n v e c = took_whole {Is = alone.Turbofish g} s t a (alone.turbofish_took g s t a v e) c
+  turbofish_sound s t a n v e c = took_whole {Is = fronts.turbofish shown spelt} s t a (alone.turbofish_took g s t a v e) c
 
   pub parenthesized_sound : Whole (knot.parenthesized attrs values) (by.SpellsParens shown spelt loosely)
   parenthesized_sound s t a n v e c = all_ending shown spelt IsParens s t a (alone.parenthesized_took g s t a v e) c
@@ -171,3 +172,10 @@ abi_sound s t a n v e c = took_whole {Is = IsAbi} s t a (abi_took s t a v e) c
 
 pub optional_abi_sound : Whole reading.optional_abi by.SpellsOptionalAbi
 optional_abi_sound s t a n v e c = took_whole {Is = IsOptional IsAbi} s t a (optional_abi_took s t a v e) c
+
+-- ---- on fronts
+
+-- what is taken is what the clause of a read on the front of a list says
+pub takes : {F : Type 0} {Is : F → Toks → Toks → Type 0} {p : Reader F} → ((s t : Stream) (x : F) → Visible s.rest → p s ≡ Ok (x, t) → TookOne Is s t x) → (s t : Stream) (r : Result F Refusal) → Reads (p s) r t → Takes Is s r t
+takes h s t (Ok x) e = λ v n. (h s t x v e).spelt n
+takes h s t (Err e) k = tt

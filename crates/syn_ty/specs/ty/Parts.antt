@@ -1,6 +1,8 @@
 -- What the grammar of types, paths, bounds and parameters is open over: how a spelling is told, how it ends, and what stands within a form.
 use Rattle.std.specs.Prelude.{◌≡◌, Bool, true, false, List, [], ◌∷◌}
 use Rattle.token_core.specs.declared.tree.TokenStream.{TokenStream}
+use Rattle.token_core.specs.Reads.{any_text, sees_word}
+use Rattle.token_core.specs.Tokens as token
 use Rattle.token_core.specs.Toks.{Toks}
 use Rattle.token_core.specs.Trees.{row, trees}
 use Rattle.syn_forms.specs.declared.places.BoundPlace.{BoundPlace}
@@ -48,6 +50,10 @@ after_plus = record { is_open = false; in_plus = true }
 -- a list of bounds whose last bound ends so: a `+` goes on with it
 abbrev pub going_on : End → End
 going_on e = record { is_open = true; in_plus = e.in_plus }
+
+-- It ends somehow: where it is open, no `+` follows; where it ends in a plus, no word follows.
+abbrev pub Told : {A : Type 0} → (End → Relation A) → Relation A
+Told Is x l r = (e : End) × Is e x l r × (e.is_open ≡ true → token.sees_plus r ≡ false) × (e.in_plus ≡ true → sees_word any_text r ≡ false)
 
 -- ---- what stands within a form
 
