@@ -273,9 +273,6 @@ module _ {A E : Type 0} {attrs : Reader (List A)} {values : ReadValues E} {shown
   pub generics_took : (s t : Stream) (x : GenericsOf A E) → Visible s.rest → clauses.generics attrs values s ≡ Ok (x, t) → TookOne (Front shown spelt AreGenerics) s t x
   generics_took s t x v e = front shown spelt AreGenerics (height s) s t x (of_clauses.generics_alone_took attrs values (part s) s t x (here s) v e)
 
-  pub lifetime_param_took : (s t : Stream) (x : LifetimeParamOf A) → Visible s.rest → parts.lifetime_param attrs s ≡ Ok (x, t) → TookOne (Front shown spelt IsLifetimeParam) s t x
-  lifetime_param_took s t x v e = front shown spelt IsLifetimeParam (height s) s t x (params.lifetime_param_took attrs (part s) (given (ahead s)).attrs_took s t x v e)
-
   pub type_param_took : (s t : Stream) (x : TypeParam A E) → Visible s.rest → knot.type_param attrs values s ≡ Ok (x, t) → TookOne (Front shown spelt IsTypeParam) s t x
   type_param_took s t x v e = front shown spelt IsTypeParam (height s) s t x (params.type_param_alone_took attrs values (part s) s t x (here s) (given (ahead s)) v e)
 

@@ -18,7 +18,7 @@ use Rattle.syn_forms.proofs.tokens_laws.Fronts.{took_whole}
 use Rattle.syn_ty.specs.generics.Alone as clauses
 use Rattle.syn_ty.specs.generics.Bounds.{IsBound, IsCapture, IsCaptured, IsFor, IsTraitBound}
 use Rattle.syn_ty.specs.generics.Clauses.{IsPredicate, IsWhereClause}
-use Rattle.syn_ty.specs.generics.Parameters.{AreGenerics, IsConstParam, IsLifetimeParam, IsParam, IsTypeParam}
+use Rattle.syn_ty.specs.generics.Parameters.{AreGenerics, IsConstParam, IsParam, IsTypeParam}
 use Rattle.syn_ty.specs.generics.Reading as parts
 use Rattle.syn_ty.specs.path.Signed.{IsParens, IsReturn}
 use Rattle.syn_ty.specs.path.Spelling.{IsAngle, IsPath, IsSegment}
@@ -29,7 +29,10 @@ use Rattle.syn_ty.specs.ty.Knot as knot
 use Rattle.syn_ty.specs.ty.Objects.{IsImpl, IsObject}
 use Rattle.syn_ty.specs.ty.Parts.{loosely}
 use Rattle.syn_ty.specs.ty.Reading as reading
+use Rattle.syn_path.specs.Lengths.{AttributeLaws}
 use Rattle.syn_path.specs.Took.{Sounds, Takes, TookOne}
+use Rattle.syn_ty.specs.declared.generics.LifetimeParamOf.{LifetimeParamOf}
+use Rattle.syn_ty.proofs.ty_laws.ParamsTold as params
 use Rattle.syn_ty.specs.ty.Spelling.{IsOptional}
 use Rattle.syn_ty.specs.ty.Spelt as by
 use Rattle.syn_ty.specs.ty.Spelt.{IsPathAlone}
@@ -129,9 +132,6 @@ module _ {A E : Type 0} {attrs : Reader (List A)} {values : ReadValues E} {shown
   pub param_sound : Whole (knot.param attrs values Binder) (by.SpellsParam shown spelt loosely)
   param_sound s t a n v e c = all_of shown spelt (λ part how. IsParam part how Binder) s t a (alone.param_took g Binder s t a v e) c
 
-  pub lifetime_param_sound : Whole (parts.lifetime_param attrs) (by.SpellsLifetimeParam shown spelt loosely)
-  lifetime_param_sound s t a n v e c = all_of shown spelt IsLifetimeParam s t a (alone.lifetime_param_took g s t a v e) c
-
   pub type_param_sound : Whole (knot.type_param attrs values) (by.SpellsTypeParam shown spelt loosely)
   type_param_sound s t a n v e c = all_of shown spelt IsTypeParam s t a (alone.type_param_took g s t a v e) c
 
@@ -158,6 +158,15 @@ module _ {A E : Type 0} {attrs : Reader (List A)} {values : ReadValues E} {shown
 
   pub predicate_sound : Whole (clauses.predicate attrs values) (by.SpellsPredicate shown spelt loosely)
   predicate_sound s t a n v e c = all_of shown spelt IsPredicate s t a (alone.predicate_took g s t a v e) c
+
+-- ---- a lifetime parameter
+
+module _ {A : Type 0} {attrs : Reader (List A)} {shown : Bool → List A → Toks → Toks → Type 0} (laws : AttributeLaws attrs shown) where
+  pub lifetime_param_took : (s t : Stream) (x : LifetimeParamOf A) → Visible s.rest → parts.lifetime_param attrs s ≡ Ok (x, t) → TookOne (by.IsLifetimeAlone shown loosely) s t x
+  lifetime_param_took s t x v e = params.lifetime_param_took attrs (by.with_attributes shown) laws.took s t x v e
+
+  pub lifetime_param_sound : Whole (parts.lifetime_param attrs) (by.SpellsLifetimeParam shown loosely)
+  lifetime_param_sound s t a n v e c = took_whole {Is = by.IsLifetimeAlone shown loosely} s t a (lifetime_param_took s t a v e) c
 
 -- ---- what holds no type
 

@@ -8,12 +8,11 @@ use Rattle.syn_forms.specs.declared.places.ParamPlace.TheVariants.{Binder}
 use Rattle.syn_forms.specs.declared.places.TypePlace.{TypePlace}
 use Rattle.syn_forms.specs.declared.places.TypePlace.TheVariants.{Plus, NoPlus}
 use Rattle.syn_ty.specs.declared.generics.GenericsOf.{GenericsOf}
-use Rattle.syn_ty.specs.declared.generics.LifetimeParamOf.{LifetimeParamOf}
 use Rattle.syn_ty.specs.declared.generics.WhereClauseOf.{WhereClauseOf}
 use Rattle.syn_ty.specs.declared.generics.WherePredicateOf.{WherePredicateOf}
 use Rattle.syn_ty.specs.generics.Bounds.{IsBound, IsFor, IsTraitBound}
 use Rattle.syn_ty.specs.generics.Clauses.{IsPredicate, IsWhereClause}
-use Rattle.syn_ty.specs.generics.Parameters.{AreGenerics, IsConstParam, IsLifetimeParam, IsParam, IsTypeParam}
+use Rattle.syn_ty.specs.generics.Parameters.{AreGenerics, IsConstParam, IsParam, IsTypeParam}
 use Rattle.syn_ty.specs.path.Arguments.{between_angles, IsArgument}
 use Rattle.syn_ty.specs.path.Signed.{IsParens, IsReturn}
 use Rattle.syn_ty.specs.path.Spelling.{IsAngle, IsAnyPath, IsPath, IsSegment, Styled}
@@ -115,9 +114,6 @@ module _ {A E : Type 0} (attrs : Bool → List A → Toks → Toks → Type 0) (
 
   abbrev pub param : GenericParam A E → Toks → Toks → Type 0
   param = Front (λ part how. IsParam part how Binder)
-
-  abbrev pub lifetime_param : LifetimeParamOf A → Toks → Toks → Type 0
-  lifetime_param = Front (IsLifetimeParam)
 
   abbrev pub type_param : TypeParam A E → Toks → Toks → Type 0
   type_param = Front (IsTypeParam)

@@ -22,6 +22,7 @@ use Rattle.syn_ty.specs.declared.ty.Abi.{Abi}
 use Rattle.syn_ty.specs.generics.Alone as clauses
 use Rattle.syn_ty.specs.generics.Normal as normal_clauses
 use Rattle.syn_ty.specs.generics.NormalShapes as normal_shapes
+use Rattle.syn_ty.specs.generics.Params.{lifetime_param_of}
 use Rattle.syn_ty.specs.generics.Printing as shown_clauses
 use Rattle.syn_ty.specs.generics.Reading as parts
 use Rattle.syn_ty.specs.generics.Shapes as shapes
@@ -119,9 +120,6 @@ module _ {A E : Type 0} (read_attrs : Reader (List A)) (reads : ReadValues E) (s
   abbrev pub param : Grammar (GenericParam A E)
   param = promise (spelt.SpellsParam spelt_attrs spells) (normal.param normal_attrs normals) (shown.param shown_attrs prints) (knot.param read_attrs reads Binder)
 
-  abbrev pub lifetime_param : Grammar (LifetimeParamOf A)
-  lifetime_param = promise (spelt.SpellsLifetimeParam spelt_attrs spells) (normal_shapes.lifetime_param normal_attrs normals) (shapes.lifetime_param shown_attrs prints) (parts.lifetime_param read_attrs)
-
   abbrev pub type_param : Grammar (TypeParam A E)
   type_param = promise (spelt.SpellsTypeParam spelt_attrs spells) (normal.type_param normal_attrs normals) (shown.type_param shown_attrs prints) (knot.type_param read_attrs reads)
 
@@ -151,6 +149,12 @@ module _ {A E : Type 0} (read_attrs : Reader (List A)) (reads : ReadValues E) (s
 
   abbrev pub predicate : Grammar (WherePredicateOf A E)
   predicate = promise (spelt.SpellsPredicate spelt_attrs spells) (normal_clauses.predicate normal_attrs normals) (shown_clauses.predicate shown_attrs prints) (clauses.predicate read_attrs reads)
+
+-- ---- a lifetime parameter
+
+abbrev pub lifetime_param : {A : Type 0} → Reader (List A) → (Bool → List A → Toks → Toks → Type 0) → (List A → List A) → (List A → Print) → Grammar (LifetimeParamOf A)
+lifetime_param read_attrs spelt_attrs normal_attrs shown_attrs =
+    promise (spelt.SpellsLifetimeParam spelt_attrs) (λ x. lifetime_param_of (normal_attrs x.attrs) x.lifetime (normal_shapes.colon x.colon_token x.bounds.0) x.bounds) (shapes.lifetime_param_by shown_attrs) (parts.lifetime_param read_attrs)
 
 -- ---- what holds no type
 

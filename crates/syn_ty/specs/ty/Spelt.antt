@@ -153,9 +153,6 @@ module _ {A E : Type 0} (attrs : Bool → List A → Toks → Toks → Type 0) (
   abbrev pub SpellsParam : Manner → GenericParam A E → Toks → Type 0
   SpellsParam = Spells (λ part how. IsParam part how Binder)
 
-  abbrev pub SpellsLifetimeParam : Manner → LifetimeParamOf A → Toks → Type 0
-  SpellsLifetimeParam = Spells IsLifetimeParam
-
   abbrev pub SpellsTypeParam : Manner → TypeParam A E → Toks → Type 0
   SpellsTypeParam = Spells IsTypeParam
 
@@ -182,6 +179,28 @@ module _ {A E : Type 0} (attrs : Bool → List A → Toks → Toks → Type 0) (
 
   abbrev pub SpellsPredicate : Manner → WherePredicateOf A E → Toks → Type 0
   SpellsPredicate = Spells IsPredicate
+
+-- ---- a lifetime parameter: within it stand its attributes alone
+
+module _ {A : Type 0} (attrs : Bool → List A → Toks → Toks → Type 0) where
+  abbrev pub with_attributes : Manner → Parts A (Unit {0})
+  with_attributes how = record {
+    ty = λ place e x l r. ⊥;
+    bound = λ place e x l r. ⊥;
+    param = λ place x l r. ⊥;
+    argument = λ x l r. ⊥;
+    arguments = λ x l r. ⊥;
+    attrs = λ x l r. attrs (is_clear how) x l r;
+    len = λ x l. ⊥;
+    const_argument = λ x l r. ⊥;
+    const_default = λ x l r. ⊥;
+  }
+
+  abbrev pub IsLifetimeAlone : Manner → Relation (LifetimeParamOf A)
+  IsLifetimeAlone how x l r = IsLifetimeParam with_attributes how x l r
+
+  abbrev pub SpellsLifetimeParam : Manner → LifetimeParamOf A → Toks → Type 0
+  SpellsLifetimeParam how x l = IsLifetimeAlone how x l done
 
 -- ---- what holds no type
 
