@@ -30,6 +30,7 @@ use Rattle.syn_pat.specs.declared.place.PatPlace.TheVariants.{Single, LeadingVer
 use Rattle.syn_pat.specs.pat.Admitted.{IsPat}
 use Rattle.syn_pat.specs.pat.Knot as knot
 use Rattle.syn_pat.specs.pat.Knot.{guard_after, guarded, pat, read_at, typed}
+use Rattle.syn_pat.specs.pat.Fronts.{IsSomePat}
 use Rattle.syn_pat.specs.pat.Pats.{Pat, PatType, guard_of, typed_of}
 use Rattle.syn_pat.specs.pat.Reading.{Readers}
 use Rattle.syn_pat.specs.pat.Spelling.{types_to}
@@ -64,11 +65,8 @@ module _ {X : Type 0} (supplied : Place → Reader X) (spells : Place → X → 
 
   -- ---- patterns, at some height
 
-  abbrev pub IsSomePat : PatPlace → Pat X → Toks → Toks → Type 0
-  IsSomePat place x l r = (n : ℕ) × IsPat spells (pats_to spells n) loosely place x l r
-
   -- on the front of a list: where neither `::` before parentheses nor `!=` follows
-  pub pat_took : (place : PatPlace) (s t : Stream) (x : Pat X) → Visible s.rest → pat supplied place s ≡ Ok (x, t) → TookOne (Before (IsSomePat place)) s t x
+  pub pat_took : (place : PatPlace) (s t : Stream) (x : Pat X) → Visible s.rest → pat supplied place s ≡ Ok (x, t) → TookOne (Before (IsSomePat spells place)) s t x
   unfolding pat
   pat_took place s t x v e =
       let k = (turns_told (suc (ahead s))).took place s t x v e in
@@ -80,11 +78,11 @@ module _ {X : Type 0} (supplied : Place → Reader X) (spells : Place → X → 
 
   -- all of a list
   pub pat_sound : (place : PatPlace) (s t : Stream) (x : Pat X) → Visible s.rest → pat supplied place s ≡ Ok (x, t) → leaves t ≡ None → SpellsPat spells place loosely x s.rest
-  pat_sound place s t x v e n = took_whole {Is = Before (IsSomePat place)} s t x (pat_took place s t x v e) n done_stops
+  pat_sound place s t x v e n = took_whole {Is = Before (IsSomePat spells place)} s t x (pat_took place s t x v e) n done_stops
 
   -- ---- with a guard
 
-  guard_at : (x : Pat X) (w : token.If) (y : X) (l m k : Toks) → IsSomePat LeadingVert x l m → IsWord w m k → spells Guard y k → SpellsGuarded spells loosely (pats.Guard (guard_of [] x w (e.Other y))) l
+  guard_at : (x : Pat X) (w : token.If) (y : X) (l m k : Toks) → IsSomePat spells LeadingVert x l m → IsWord w m k → spells Guard y k → SpellsGuarded spells loosely (pats.Guard (guard_of [] x w (e.Other y))) l
   guard_at x w y l m k i j f = with_guard i.0 i.1 j f
 
   pub guarded_sound : (s t : Stream) (x : Pat X) → Visible s.rest → guarded supplied s ≡ Ok (x, t) → leaves t ≡ None → SpellsGuarded spells loosely x s.rest
@@ -103,7 +101,7 @@ module _ {X : Type 0} (supplied : Place → Reader X) (spells : Place → X → 
             (guard_at c.value f.value m.value s.rest c.rest.rest f.rest.rest (k.spelt (w.left q.0) (word_stops f.value c.rest.rest f.rest.rest i)) i q.1)
         | inr y ↦ let q = same_pair c.value x c.rest t y.1 in
             let ends = ap leaves q.1 ∙ n in
-            subst (λ z. SpellsGuarded spells loosely z s.rest) q.0 (without_guard (took_whole {Is = Before (IsSomePat LeadingVert)} s c.rest c.value k ends done_stops))
+            subst (λ z. SpellsGuarded spells loosely z s.rest) q.0 (without_guard (took_whole {Is = Before (IsSomePat spells LeadingVert)} s c.rest c.value k ends done_stops))
       ]
 
   -- ---- with a type
@@ -114,7 +112,7 @@ module _ {X : Type 0} (supplied : Place → Reader X) (spells : Place → X → 
   some_starts (suc n) f x l k i = type_starts (types_to spells n) loosely Plus f x l k i
 
   -- what a pattern, `:` and a type spell, where the pattern stops before the `:`
-  typed_at : (x : Pat X) (c : token.Colon) (y : TypeTree (Attr X) (Expr X)) (l m j : Toks) → Visible j → Before (IsSomePat Single) x l m → IsMark false c m j → IsSomeType spells y j done → SpellsPatType spells loosely (typed_of [] x c y) l
+  typed_at : (x : Pat X) (c : token.Colon) (y : TypeTree (Attr X) (Expr X)) (l m j : Toks) → Visible j → Before (IsSomePat spells Single) x l m → IsMark false c m j → IsSomeType spells y j done → SpellsPatType spells loosely (typed_of [] x c y) l
   typed_at x c y l m j v i k f =
       let w = i (colon_stops c m j v k (some_starts f.0 f.1.0 y j done f.1.1)) in
       a_pat_type w.0 f.0 f.1.0 w.1 k f.1.1

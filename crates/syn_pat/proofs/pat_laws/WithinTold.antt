@@ -28,6 +28,7 @@ use Rattle.syn_ty.proofs.ty_laws.Told.{Told}
 use Rattle.syn_path.specs.Took.{Along}
 use Rattle.syn_pat.specs.declared.place.PatPlace.{PatPlace}
 use Rattle.syn_pat.specs.pat.Knot as knot
+pub use Rattle.syn_pat.specs.pat.Fronts.{sees_called, Stops, Before}
 use Rattle.syn_pat.specs.pat.Pats.{Attrs, Pat}
 use Rattle.syn_pat.specs.pat.Reading.{Readers, qpath}
 use Rattle.syn_pat.specs.pat.Spelling.{outer_spelt, types_to}
@@ -59,18 +60,6 @@ not_true true h = refl
 not_true false h = cc h
 
 -- ---- what stops a pattern
-
--- a `::` before parentheses, with which no path goes on
-abbrev pub sees_called : Toks → Bool
-sees_called l = token.sees_path_sep l && third (sees_group Parenthesis) l
-
--- Neither `::` before parentheses follows, nor `!=`: before these a lone word is read as a path, and not as what it binds.
-abbrev pub Stops : Toks → Type 0
-Stops r = (sees_called r ≡ false) × (token.sees_ne r ≡ false)
-
--- what it spells where it stops
-abbrev pub Before : {A : Type 0} → Relation A → Relation A
-Before Is x l r = Stops r → Is x l r
 
 pub done_stops : Stops done
 unfolding sees_mark
