@@ -32,7 +32,7 @@ use Rattle.syn_path.specs.Took.{Along}
 -- ---- what is put together
 
 -- at the same place it stands further on too
-on_to : {A : Type 0} (s u t : Stream) (a x : A) → Follows s u → ◌≡◌ {A = Outcome A} (Ok (a, u)) (Ok (x, t)) → Follows s t
+pub on_to : {A : Type 0} (s u t : Stream) (a x : A) → Follows s u → ◌≡◌ {A = Outcome A} (Ok (a, u)) (Ok (x, t)) → Follows s t
 on_to s u t a x h e = subst (λ (z : Stream). Follows s z) (same_pair a x u t e).1 h
 
 -- an answer that takes nothing
@@ -148,7 +148,7 @@ follows_finished : (c s : Stream) → Follows s (finished c s)
 unfolding finished
 follows_finished c s = record { suffix = all_of; kept = first-first s.left (leaves c); scope = refl }
 
-closed : {A : Type 0} (b : DelimSpan) (s t : Stream) (o : Outcome A) (x : DelimSpan × A) → closing b s o ≡ Ok (x, t) → Follows s t
+pub closed : {A : Type 0} (b : DelimSpan) (s t : Stream) (o : Outcome A) (x : DelimSpan × A) → closing b s o ≡ Ok (x, t) → Follows s t
 closed b s t (Err e) x k = cc
 closed b s t (Ok p) x k = on_to s (finished p.1 s) t (b, p.0) x (follows_finished p.1 s) k
 

@@ -217,7 +217,7 @@ impl TypeReader {
         alloc: Global,
         tokens: &TokenStream,
     ) -> Result<TokenStream, Error>
-        ensures { spec.Reprints (spec.types_category A.reads E.reads A.normal A.shown E.values self) (toks tokens.now) result }
+        ensures { spec.Reprints (spec.types_category A.reads E.reads A.spells E.spells A.normal E.normal A.shown E.values self) (toks tokens.now) result }
     {
         match self {
             TypeReader::Any => reprint::<TypeOf<A, E>>(alloc, tokens),
@@ -284,7 +284,7 @@ impl PathReader {
         alloc: Global,
         tokens: &TokenStream,
     ) -> Result<TokenStream, Error>
-        ensures { spec.Reprints (spec.paths_category A.reads E.reads A.normal A.shown E.values self) (toks tokens.now) result }
+        ensures { spec.Reprints (spec.paths_category A.reads E.reads A.spells E.spells A.normal E.normal A.shown E.values self) (toks tokens.now) result }
     {
         match self {
             PathReader::Whole => reprint::<PathOf<PathArgumentsOf<A, E>>>(alloc, tokens),
@@ -337,7 +337,7 @@ impl GenericsReader {
         alloc: Global,
         tokens: &TokenStream,
     ) -> Result<TokenStream, Error>
-        ensures { spec.Reprints (spec.generics_category A.reads E.reads A.normal A.shown E.values self) (toks tokens.now) result }
+        ensures { spec.Reprints (spec.generics_category A.reads E.reads A.spells E.spells A.normal E.normal A.shown E.values self) (toks tokens.now) result }
     {
         match self {
             GenericsReader::Param => reprint::<GenericParamOf<A, E>>(alloc, tokens),
@@ -393,7 +393,7 @@ impl PatternReader {
         alloc: Global,
         tokens: &TokenStream,
     ) -> Result<TokenStream, Error>
-        ensures { spec.Reprints (spec.patterns_category X.reads X.prints self) (toks tokens.now) result }
+        ensures { spec.Reprints (spec.patterns_category X.reads X.spells X.normal X.prints self) (toks tokens.now) result }
     {
         let parser: PatternPrint<X> = PatternPrint {
             reader: self,
@@ -408,7 +408,7 @@ impl PatternReader {
         alloc: Global,
         input: &mut ParseStream<'_>,
     ) -> Result<TokenStream, Error>
-        ensures shown { Parsed (spec.Shows (spec.patterns_category X.reads X.prints self) input.old) (Fails (spec.patterns_category X.reads X.prints self).reader input.old) result input.new }
+        ensures shown { Parsed (spec.Shows (spec.patterns_category X.reads X.spells X.normal X.prints self) input.old) (Fails (spec.patterns_category X.reads X.spells X.normal X.prints self).reader input.old) result input.new }
         ensures within { Follows input.old input.new }
     {
         match self {
@@ -449,9 +449,9 @@ impl<X: Subtree> Parser for PatternPrint<X> {
 
     ghost can_parse = { λ _. Unit {0} };
 
-    ghost reads = { λ p. spec.Shows (spec.patterns_category X.reads X.prints p.reader) };
+    ghost reads = { λ p. spec.Shows (spec.patterns_category X.reads X.spells X.normal X.prints p.reader) };
 
-    ghost refuses = { λ p. Fails (spec.patterns_category X.reads X.prints p.reader).reader };
+    ghost refuses = { λ p. Fails (spec.patterns_category X.reads X.spells X.normal X.prints p.reader).reader };
 
     fn parse(self, alloc: Global, input: &mut ParseStream<'_>) -> Result<TokenStream, Error> {
         self.reader.print_next::<X>(alloc, input)

@@ -1,5 +1,5 @@
 -- Where a read of a group, of a list or below a limit answers, the stream stands further on; and so it does for each form over what it holds.
-use Rattle.std.proofs.Common.{◌≡◌, Bool, true, false, Option, None, Some, Ok}
+use Rattle.std.proofs.Common.{◌≡◌, ℕ, Bool, true, false, List, Option, None, Some, Ok, refl}
 use Rattle.token_core.specs.declared.span.DelimSpan.{DelimSpan}
 use Rattle.token_core.specs.Groups as groups
 use Rattle.token_core.specs.Positions.{Item}
@@ -13,7 +13,7 @@ use Rattle.syn_path.proofs.Along.{bind, closed, either, in_group_along, list_alo
 use Rattle.syn_path.proofs.Along.{lifetime as lifetime_along}
 use Rattle.syn_forms.specs.groups.Reading.{in_brackets, in_invisible, in_parens}
 use Rattle.syn_forms.specs.lists.Reading.{list_from, more_elements}
-use Rattle.syn_forms.specs.nested.Below.{below, below_if, held}
+use Rattle.syn_forms.specs.nested.Below.{ahead, below, below_if, held}
 use Rattle.syn_forms.specs.verbatim.Reading.{since}
 
 -- what is held as it was written

@@ -77,18 +77,18 @@ pub use Rattle.syn_ty.specs.ty.Fronts.{Form, EndingForm, Front, FrontEnding}
 -- ---- by trees of some height
 
 module _ {A E : Type 0} (shown : Bool → List A → Toks → Toks → Type 0) (spelt : SpelledValues E) where
-  front : {F : Type 0} (Is : Form F) (n : ℕ) (s t : Stream) (x : F) → TookOne (Is (spelt_to shown spelt n) loosely) s t x → TookOne (Front Is) s t x
+  front : {F : Type 0} (Is : Form shown spelt F) (n : ℕ) (s t : Stream) (x : F) → TookOne (Is (spelt_to shown spelt n) loosely) s t x → TookOne (Front shown spelt Is) s t x
   front Is n s t x k = record { left = k.left; seen = k.seen; spelt = λ h. (n, k.spelt h) }
 
-  ending : {F : Type 0} (Is : EndingForm F) (n : ℕ) (s t : Stream) (x : F) → TookOne (Told (Is (spelt_to shown spelt n) loosely)) s t x → TookOne (FrontEnding Is) s t x
+  ending : {F : Type 0} (Is : EndingForm shown spelt F) (n : ℕ) (s t : Stream) (x : F) → TookOne (Told (Is (spelt_to shown spelt n) loosely)) s t x → TookOne (FrontEnding shown spelt Is) s t x
   ending Is n s t x k = record { left = k.left; seen = k.seen; spelt = λ h. (n, k.spelt h) }
 
   -- where nothing is left over in the end, all of a list
-  pub all_of : {F : Type 0} (Is : Form F) (s t : Stream) (x : F) → TookOne (Front Is) s t x → leaves t ≡ None → Spells shown spelt Is loosely x s.rest
-  all_of Is s t x k h = took_whole {Is = Front Is} s t x k h
+  pub all_of : {F : Type 0} (Is : Form shown spelt F) (s t : Stream) (x : F) → TookOne (Front shown spelt Is) s t x → leaves t ≡ None → Spells shown spelt Is loosely x s.rest
+  all_of Is s t x k h = took_whole {Is = Front shown spelt Is} s t x k h
 
-  pub all_ending : {F : Type 0} (Is : EndingForm F) (s t : Stream) (x : F) → TookOne (FrontEnding Is) s t x → leaves t ≡ None → SpellsEnding shown spelt Is loosely x s.rest
-  all_ending Is s t x k h = let i = took_whole {Is = FrontEnding Is} s t x k h in (i.0, i.1.0, i.1.1)
+  pub all_ending : {F : Type 0} (Is : EndingForm shown spelt F) (s t : Stream) (x : F) → TookOne (FrontEnding shown spelt Is) s t x → leaves t ≡ None → SpellsEnding shown spelt Is loosely x s.rest
+  all_ending Is s t x k h = let i = took_whole {Is = FrontEnding shown spelt Is} s t x k h in (i.0, i.1.0, i.1.1)
 
 -- ---- an invisible group stands on no list that is without them
 
