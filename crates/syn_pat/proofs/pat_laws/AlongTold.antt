@@ -36,7 +36,7 @@ use Rattle.syn_forms.proofs.along_laws.Kit.{brackets_along, held_since, list_fro
 
 pub name_along : Along reading.bound_name
 unfolding reading.bound_name
-name_along = either _ (word _ _) (word _ _)
+name_along = either (λ z. token.sees_self_value z.rest) (word _ _) (word _ _)
 
 pub ref_along : Along reading.by_ref
 ref_along = optional_along token.sees_ref named
@@ -74,11 +74,11 @@ module _ {X : Type 0} (supplied : Place → Reader X) (path_along : Along (readi
 
   bound_along : Along (reading.bound supplied)
   unfolding reading.bound
-  bound_along = either _ (made _ literal) (either _ (made _ path_along) (either _ (made _ block_along) (refused _)))
+  bound_along = either (λ z. sees_lit z.rest) (made _ literal) (either (λ z. reading.sees_bound_path z.rest) (made _ path_along) (either (λ z. token.sees_const z.rest) (made _ block_along) (refused _)))
 
   optional_bound_along : Along (reading.optional_bound supplied)
   unfolding reading.optional_bound
-  optional_bound_along = either _ (stays _) (made _ bound_along)
+  optional_bound_along = either (λ z. reading.ends_range z.rest) (stays _) (made _ bound_along)
 
   ended_along : (o : Option (PatRangeBound X)) (l : RangeLimits) (f : Option (PatRangeBound X)) → Along (reading.ended o l f)
   ended_along o (limits.HalfOpen d) f = stays _
@@ -101,7 +101,7 @@ module _ {X : Type 0} (supplied : Place → Reader X) (path_along : Along (readi
 
   after_bound_along : (x : PatRangeBound X) → Along (reading.after_bound supplied x)
   unfolding reading.after_bound
-  after_bound_along x = either _ (range_after_along x) (stays _)
+  after_bound_along x = either (λ z. token.sees_dot_dot z.rest) (range_after_along x) (stays _)
 
   bound_or_range_along : Along (reading.bound_or_range supplied)
   unfolding reading.bound_or_range
@@ -136,15 +136,15 @@ module _ {X : Type 0} (r : Readers X) (within : (p : PatPlace) → Along (r p)) 
 
   alternatives_along : (o : Option token.Bar) (x : Pat X) → Along (reading.alternatives r o x)
   unfolding reading.alternatives
-  alternatives_along o x = either _ (made _ (list_from_along never reading.sees_vert (within Single) (mark {n = 17} {l = 1}) x)) (stays _)
+  alternatives_along o x = either (λ z. is_some o || reading.sees_vert z.rest) (made _ (list_from_along never reading.sees_vert (within Single) (mark {n = 17} {l = 1}) x)) (stays _)
 
 -- ---- single patterns, and patterns in their places
 
 module _ {X : Type 0} (supplied : Place → Reader X) (path_along : Along (reading.qpath supplied)) (r : Readers X) (within : (p : PatPlace) → Along (r p)) where
   after_path_along : (q : Option (QSelf (Attr X) (Expr X))) (p : Path (Attr X) (Expr X)) → Along (reading.after_path supplied r q p)
   unfolding reading.after_path reading.struct_after reading.tuple_struct_after
-  after_path_along q p = either _ (made _ (call_along _)) (either _ (made _ (made _ (in_group_along _ _ _)))
-      (either _ (made _ (made _ (parens_along _))) (after_bound_along supplied path_along _)))
+  after_path_along q p = either (λ z. not (is_some q) && (sees_call z.rest && is_mod_style p)) (made _ (call_along _)) (either (λ z. sees_group Brace z.rest) (made _ (made _ (in_group_along _ _ _)))
+      (either (λ z. sees_group Parenthesis z.rest) (made _ (made _ (parens_along _))) (after_bound_along supplied path_along _)))
 
   path_pat_along : Along (reading.path_pat supplied r)
   unfolding reading.path_pat
@@ -152,17 +152,17 @@ module _ {X : Type 0} (supplied : Place → Reader X) (path_along : Along (readi
 
   by_mark_along : Along (reading.by_mark supplied r)
   unfolding reading.by_mark
-  by_mark_along = either _ (made _ (reference_along r within)) (either _ (parens r within) (either _ (made _ (slice_along r within))
-      (either _ (half_open_along supplied path_along) (refused _))))
+  by_mark_along = either (λ z. token.sees_and z.rest) (made _ (reference_along r within)) (either (λ z. sees_group Parenthesis z.rest) (parens r within) (either (λ z. sees_group Bracket z.rest) (made _ (slice_along r within))
+      (either (λ z. reading.sees_half_open z.rest) (half_open_along supplied path_along) (refused _))))
 
   by_word_along : Along (reading.by_word supplied r)
   unfolding reading.by_word
-  by_word_along = either _ (made _ (made _ (named {n = 19}))) (either _ (box_along r within) (either _ (bound_or_range_along supplied path_along)
-      (either _ (made _ (binding_along r within)) by_mark_along)))
+  by_word_along = either (λ z. token.sees_underscore z.rest) (made _ (made _ (named {n = 19}))) (either (λ z. token.sees_box z.rest) (box_along r within) (either (λ z. reading.begins_bound z.rest) (bound_or_range_along supplied path_along)
+      (either (λ z. reading.begins_binding z.rest) (made _ (binding_along r within)) by_mark_along)))
 
   single_along : Along (reading.single supplied r)
   unfolding reading.single
-  single_along = either _ path_pat_along by_word_along
+  single_along = either (λ z. reading.begins_path z.rest) path_pat_along by_word_along
 
   multi_along : Along (reading.multi supplied r)
   unfolding reading.multi

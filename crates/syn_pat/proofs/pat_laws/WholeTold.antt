@@ -1,5 +1,5 @@
 -- Over the laws of a supplied subtree each whole read of a pattern, of a pattern with a guard and of one with a type is sound.
-use Rattle.std.proofs.Common.{◌≡◌, None, Ok, sym, ◌∙◌, ap}
+use Rattle.std.proofs.Common.{◌≡◌, suc, None, Ok, sym, ◌∙◌, ap}
 use Rattle.token_core.specs.Prints.{Print}
 use Rattle.token_core.specs.Reads.{Reader, leaves}
 use Rattle.token_core.specs.Stream.{Stream}
@@ -46,7 +46,7 @@ module _ {X : Type 0} (reads : Place → Reader X) (spells : Place → X → Tok
   pub supplied : SuppliedTold reads spells
   supplied = record {
     path = maybe_qualified_took within expressions;
-    ty = ty_took within Plus;
+    ty = λ s t x v e. let k = ty_took within Plus s t x v e in record { left = k.left; seen = k.seen; spelt = λ n. let i = k.spelt n in (suc i.0, i.1) };
     attrs = (attributes_told reads spells sound).took;
     body = λ s t x v e n. sound Block s t x e n;
     guard = λ s t x v e n. (nothing_before Guard s t x e n, sound Guard s t x e n);
