@@ -191,10 +191,6 @@ pub record Category (A : Type 0) : Type 1 where
 abbrev pub of_grammar : {A : Type 0} → Grammar A → Category A
 of_grammar G = record { reader = G.reader; print = G.print; promise = Headline G; clear = G.spells true; refused = λ l a h v c. h v a c; unique = λ l a b h v c. (h v).unique a c }
 
--- without a grammar: nothing is promised, and nothing is called clear
-abbrev pub of_reader : {A : Type 0} → R A → (A → Print) → Category A
-of_reader f p = record { reader = f; print = p; promise = λ l a. Unit {0}; clear = λ a l. ⊥; refused = λ l a h v c. c; unique = λ l a b h v c. absurd c }
-
 -- what the arguments of a path print
 abbrev pub shown : {A E : Type 0} → (List A → Print) → Values E → ty.PathArguments A E → Print
 shown pa pe = printing.arguments pa pe as_written
