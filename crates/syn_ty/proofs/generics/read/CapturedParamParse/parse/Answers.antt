@@ -4,7 +4,7 @@ use Rattle.syn_ty.proofs.ty_laws.BoundTold.{captured_took}
 use Rattle.syn_ty.proofs.generics.read.CapturedParamParse.parse.Goals as goal
 
 pub returns-clause-promise : goal.returns-clause-promise
-returns-clause-promise g c = sounds promises.captured captured_sound _ _ _ c.parse_captured.ensures.parses.0
+returns-clause-promise c = sounds promises.captured captured_sound _ _ _ c.parse_captured.ensures.parses.0
 
 pub returns-clause-front : goal.returns-clause-front
-returns-clause-front g c = takes captured_took _ _ _ c.parse_captured.ensures.parses.0
+returns-clause-front c = takes captured_took _ _ _ c.parse_captured.ensures.parses.0
