@@ -177,8 +177,8 @@ named name =
     else (if bytes_eq name (codes "PointerMutability") then Some PointerMutability
     else of_types name)))))))
 
--- What a run says of a reader: what it reads, what its trees print, and what a whole read promises. Some readers have a grammar: it tells which tree a list
--- spells clearly, and by the promise that tree is the answer, or none is where the list is refused.
+-- What a run says of a reader: what it reads, what its trees print, and what a whole read promises. Of a complete reader it tells which tree a list spells
+-- clearly: by the promise that tree is the answer, and there is none where the list is refused. Of the others it calls no spelling clear.
 pub record Category (A : Type 0) : Type 1 where
   pub reader : R A
   pub print : A → Print
@@ -187,7 +187,7 @@ pub record Category (A : Type 0) : Type 1 where
   pub refused : (l : Toks) (a : A) → promise l None → Visible l → clear a l → ⊥
   pub unique : (l : Toks) (a b : A) → promise l (Some b) → Visible l → clear a l → a ≡ b
 
--- by its grammar
+-- with the whole promise
 abbrev pub of_grammar : {A : Type 0} → Grammar A → Category A
 of_grammar G = record { reader = G.reader; print = G.print; promise = Headline G; clear = G.spells true; refused = λ l a h v c. h v a c; unique = λ l a b h v c. (h v).unique a c }
 
