@@ -29,8 +29,7 @@ pub fn meta<X: Subtree>(tree: &Meta<X>)
     requires prints { (w : Place) (x : X) → X.prints w (X.normal w x) ≡ X.prints w x }
     ensures stays { normal.meta X.normal (normal.meta X.normal tree.now) ≡ normal.meta X.normal tree.now }
     ensures same { printing.meta X.prints (normal.meta X.normal tree.now) ≡ printing.meta X.prints tree.now }
-{
-}
+{}
 
 /// The normal form of attributes.
 #[tactic(auto, using(syn_attr::proofs::attr_laws::Normal::normals))]
@@ -39,8 +38,7 @@ pub fn attributes<X: Subtree>(trees: &Items<Attribute<X>>)
     requires prints { (w : Place) (x : X) → X.prints w (X.normal w x) ≡ X.prints w x }
     ensures stays { normal.attributes X.normal (normal.attributes X.normal trees.now) ≡ normal.attributes X.normal trees.now }
     ensures same { printing.attributes X.prints (normal.attributes X.normal trees.now) ≡ printing.attributes X.prints trees.now }
-{
-}
+{}
 
 /// The normal form of an expression as the value of a meta.
 #[tactic(auto, using(syn_attr::proofs::attr_laws::Normal::normals))]
@@ -49,8 +47,7 @@ pub fn expression<X: Subtree>(tree: &Expr<X>)
     requires prints { (w : Place) (x : X) → X.prints w (X.normal w x) ≡ X.prints w x }
     ensures stays { normal.value X.normal (normal.value X.normal tree.now) ≡ normal.value X.normal tree.now }
     ensures same { printing.value X.prints (normal.value X.normal tree.now) ≡ printing.value X.prints tree.now }
-{
-}
+{}
 
 /// The normal form of a type, where so it is of its attributes and expressions.
 #[tactic(auto, using(crate::proofs::ty_laws::Stays::laws, crate::proofs::ty_laws::SamePrint::laws))]
@@ -61,8 +58,7 @@ pub fn ty<A: Attributes, E: Value>(tree: &TypeOf<A, E>)
     requires same_values { SameValues E.normal E.values }
     ensures stays { normal_types.ty A.normal E.normal (normal_types.ty A.normal E.normal tree.now) ≡ normal_types.ty A.normal E.normal tree.now }
     ensures same { printed_types.ty A.shown E.values (normal_types.ty A.normal E.normal tree.now) ≡ printed_types.ty A.shown E.values tree.now }
-{
-}
+{}
 
 /// The normal form of generics, where so it is of their attributes and expressions.
 #[tactic(auto, using(crate::proofs::generics_laws::Normal::laws, crate::proofs::generics_laws::SamePrint::laws))]
@@ -73,8 +69,7 @@ pub fn generics<A: Attributes, E: Value>(tree: &GenericsOf<A, E>)
     requires same_values { SameValues E.normal E.values }
     ensures stays { normal_generics.generics A.normal E.normal (normal_generics.generics A.normal E.normal tree.now) ≡ normal_generics.generics A.normal E.normal tree.now }
     ensures same { printed_generics.generics A.shown E.values (normal_generics.generics A.normal E.normal tree.now) ≡ printed_generics.generics A.shown E.values tree.now }
-{
-}
+{}
 
 /// The normal form of a pattern.
 #[tactic(auto, using(crate::proofs::pat_laws::Stays::normals))]
@@ -83,5 +78,4 @@ pub fn pat<X: Subtree>(tree: &Pat<X>)
     requires prints { (w : Place) (x : X) → X.prints w (X.normal w x) ≡ X.prints w x }
     ensures stays { normal_patterns.pat X.normal (normal_patterns.pat X.normal tree.now) ≡ normal_patterns.pat X.normal tree.now }
     ensures same { printed_patterns.pat X.prints (normal_patterns.pat X.normal tree.now) ≡ printed_patterns.pat X.prints tree.now }
-{
-}
+{}

@@ -53,7 +53,7 @@ made f h = bind h (λ a. stays (λ s. f a))
 
 -- one of two reads
 pub either : {A : Type 0} (b : Stream → Bool) {p q : Reader A} → Along p → Along q → Along (λ s. (if b s then p else q) s)
-either b h k s t x e = elim (branch (b s) _ _ s (Ok (x, t)) e) [ | inl y ↦ h s t x y.1 | inr y ↦ k s t x y.1 ]
+either b h k s t x e = elim (branch (b s) _ _ s (Ok (x, t)) e) [ inl y ↦ h s t x y.1 | inr y ↦ k s t x y.1 ]
 
 pub optional_along : {A : Type 0} (sees : Toks → Bool) {p : Reader A} → Along p → Along (optional sees p)
 optional_along sees h = either (λ s. sees s.rest) (made _ h) (stays _)

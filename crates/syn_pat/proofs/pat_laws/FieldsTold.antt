@@ -212,9 +212,10 @@ module _ {X : Type 0} (supplied : Place → Reader X) (spells : Place → X → 
                         let kf = mark_sound {n = 4} {k = 1} refl (omega arith) d.rest f.rest f.value kd.seen f.was in
                         let m = mapped (fields_from supplied r k f.rest) (put_field d.value f.value) w t f.goes in
                         let rest = from_sound k false f.rest t m.value (comma_seen d.rest f.rest f.value kd.seen f.was) m.was n in
-                        let left = sym kf.left ∙ rest.0 in
-                        (kc.left (kd.left left),
-                        subst (λ o. At b o s.rest) m.is (put_at b d.value f.value m.value s.rest d.rest.rest f.rest.rest (kd.told left (kc.spelt (kd.left left)) (comma_stops f.value d.rest.rest f.rest.rest kf.spelt)) kf.spelt rest.1))
+                        let left = sym kf.left ∙ rest.0 in (
+                          kc.left (kd.left left),
+                          subst (λ o. At b o s.rest) m.is (put_at b d.value f.value m.value s.rest d.rest.rest f.rest.rest (kd.told left (kc.spelt (kd.left left)) (comma_stops f.value d.rest.rest f.rest.rest kf.spelt)) kf.spelt rest.1),
+                        )
                   ]
             ]
       ]

@@ -165,9 +165,9 @@ path_word_free t h =
     elim (either (is_text token.self_type_text t) _ h) [
       | inl y ↦ self_type_free t y
       | inr y ↦ elim (either (is_text token.super_text t) _ y) [
-          | inl z ↦ super_free t z
-          | inr z ↦ crate_free t z
-        ]
+        | inl z ↦ super_free t z
+        | inr z ↦ crate_free t z
+      ]
     ]
 
 abbrev Behind : Toks → Bool

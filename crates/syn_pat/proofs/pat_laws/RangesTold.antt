@@ -74,15 +74,15 @@ module _ {X : Type 0} (supplied : Place → Reader X) (spells : Place → X → 
         | inl y ↦ let k = mapped (read_lit s) (λ z. b.Lit (lit_of [] z)) x t y.1 in
             took_as {Is = IsLit} {Js = End} (λ z. b.Lit (lit_of [] z)) s t k.value x k.is (λ l m i. a_literal_end i) (lit_took s t k.value v k.was)
         | inr y ↦ elim (branch (sees_bound_path s.rest) _ _ s (Ok (x, t)) y.1) [
-            | inl z ↦ let k = mapped (qpath supplied s) (λ p. b.Path (path_pat_of [] p.0 p.1)) x t z.1 in
-                let w = g.path s t k.value v k.was in
-                record { left = w.left; seen = w.seen; spelt = λ n. subst (λ u. End u s.rest t.rest) k.is (path_end k.value s.rest t.rest (no_try_bound s.rest v z.0) (w.spelt n)) }
-            | inr z ↦ elim (branch (token.sees_const s.rest) _ _ s (Ok (x, t)) z.1) [
-                | inl u ↦ let k = mapped (const_block supplied s) b.Const x t u.1 in
-                    took_as {Is = IsConstBlock spells} {Js = End} b.Const s t k.value x k.is (λ l m i. a_const_end i) (block_took s t k.value v k.was)
-                | inr u ↦ cc u.1
-              ]
+          | inl z ↦ let k = mapped (qpath supplied s) (λ p. b.Path (path_pat_of [] p.0 p.1)) x t z.1 in
+              let w = g.path s t k.value v k.was in
+              record { left = w.left; seen = w.seen; spelt = λ n. subst (λ u. End u s.rest t.rest) k.is (path_end k.value s.rest t.rest (no_try_bound s.rest v z.0) (w.spelt n)) }
+          | inr z ↦ elim (branch (token.sees_const s.rest) _ _ s (Ok (x, t)) z.1) [
+            | inl u ↦ let k = mapped (const_block supplied s) b.Const x t u.1 in
+                took_as {Is = IsConstBlock spells} {Js = End} b.Const s t k.value x k.is (λ l m i. a_const_end i) (block_took s t k.value v k.was)
+            | inr u ↦ cc u.1
           ]
+        ]
       ]
 
   pub optional_bound_took : (s t : Stream) (x : Option (PatRangeBound X)) → Visible s.rest → optional_bound supplied s ≡ Ok (x, t) → TookOne (IsOptional End) s t x
@@ -198,13 +198,13 @@ module _ {X : Type 0} (supplied : Place → Reader X) (spells : Place → X → 
           | inl y ↦ let k = mapped (read_lit s) (λ z. b.Lit (lit_of [] z)) x t y.1 in
               took_as {Is = IsLit} {Js = AsStart} (λ z. b.Lit (lit_of [] z)) s t k.value x k.is (λ l m i. literal_told k.value l m i) (lit_took s t k.value v k.was)
           | inr y ↦ elim (branch (sees_bound_path s.rest) _ _ s (Ok (x, t)) y.1) [
-              | inl z ↦ absurd (no_path_bound s.rest v h y.0 z.0)
-              | inr z ↦ elim (branch (token.sees_const s.rest) _ _ s (Ok (x, t)) z.1) [
-                  | inl u ↦ let k = mapped (const_block supplied s) b.Const x t u.1 in
-                      took_as {Is = IsConstBlock spells} {Js = AsStart} b.Const s t k.value x k.is (λ l m i. block_told k.value l m i) (block_took s t k.value v k.was)
-                  | inr u ↦ cc u.1
-                ]
+            | inl z ↦ absurd (no_path_bound s.rest v h y.0 z.0)
+            | inr z ↦ elim (branch (token.sees_const s.rest) _ _ s (Ok (x, t)) z.1) [
+              | inl u ↦ let k = mapped (const_block supplied s) b.Const x t u.1 in
+                  took_as {Is = IsConstBlock spells} {Js = AsStart} b.Const s t k.value x k.is (λ l m i. block_told k.value l m i) (block_took s t k.value v k.was)
+              | inr u ↦ cc u.1
             ]
+          ]
         ]
 
     pub bound_or_range_took : (s t : Stream) (y : Pat X) → Visible s.rest → begins_bound s.rest ≡ true → bound_or_range supplied s ≡ Ok (y, t) → TookOne (Before Single) s t y

@@ -123,18 +123,18 @@ module _ {X : Type 0} (supplied : Place → Reader X) (spells : Place → X → 
             let w = call_took (without nothing p) l s t k.value v k.was in
             record { left = w.left; seen = w.seen; told = λ n b stop. subst (λ z. Of z l t.rest) k.is (a_call (w.told n (bare q p l s.rest b y.0) b.begins b.no_try)) }
         | inr y ↦ elim (branch (sees_group Brace s.rest) _ _ s (Ok (x, t)) y.1) [
-            | inl z ↦ let k = twice (in_group Brace groups.brace_name (fields supplied r) s) (λ u. struct_of [] q p (groups.brace u.0) u.1.0 u.1.1) pat.Struct x t z.1 in
-                let w = held_sound Brace (All supplied spells g r part h) groups.brace_name (fields supplied r) (fields_sound supplied spells g r part h) s t k.value v k.was in
-                record { left = w.left; seen = w.seen; told = λ n b stop. subst (λ u. Of u l t.rest) k.is (struct_at q p k.value l s.rest t.rest b (w.spelt n)) }
-            | inr z ↦ elim (branch (sees_group Parenthesis s.rest) _ _ s (Ok (x, t)) z.1) [
-                | inl u ↦ let f = mapped (tuple_struct_after r q p s) pat.TupleStruct x t u.1 in
-                    let k = twice (in_group Parenthesis groups.paren_name (elements r LeadingVert) s) (λ o. (groups.paren o.0, o.1)) (λ o. tuple_struct_of [] q p o.0 o.1) f.value t f.was in
-                    let w = held_sound Parenthesis (AllOf spells r part h LeadingVert) groups.paren_name (elements r LeadingVert) (elements_sound spells r part h LeadingVert) s t k.value v k.was in
-                    record { left = w.left; seen = w.seen; told = λ n b stop. subst (λ o. Of o l t.rest) (ap pat.TupleStruct k.is ∙ f.is) (tuple_struct_at q p k.value l s.rest t.rest b (w.spelt n)) }
-                | inr u ↦ let w = after_bound_took supplied spells g part (bounds.Path (path_pat_of [] q p)) l s t x v u.1 in
-                    record { left = w.left; seen = w.seen; told = λ n b. w.told n (path_told q p l s.rest b y.0 z.0 u.0) }
-              ]
+          | inl z ↦ let k = twice (in_group Brace groups.brace_name (fields supplied r) s) (λ u. struct_of [] q p (groups.brace u.0) u.1.0 u.1.1) pat.Struct x t z.1 in
+              let w = held_sound Brace (All supplied spells g r part h) groups.brace_name (fields supplied r) (fields_sound supplied spells g r part h) s t k.value v k.was in
+              record { left = w.left; seen = w.seen; told = λ n b stop. subst (λ u. Of u l t.rest) k.is (struct_at q p k.value l s.rest t.rest b (w.spelt n)) }
+          | inr z ↦ elim (branch (sees_group Parenthesis s.rest) _ _ s (Ok (x, t)) z.1) [
+            | inl u ↦ let f = mapped (tuple_struct_after r q p s) pat.TupleStruct x t u.1 in
+                let k = twice (in_group Parenthesis groups.paren_name (elements r LeadingVert) s) (λ o. (groups.paren o.0, o.1)) (λ o. tuple_struct_of [] q p o.0 o.1) f.value t f.was in
+                let w = held_sound Parenthesis (AllOf spells r part h LeadingVert) groups.paren_name (elements r LeadingVert) (elements_sound spells r part h LeadingVert) s t k.value v k.was in
+                record { left = w.left; seen = w.seen; told = λ n b stop. subst (λ o. Of o l t.rest) (ap pat.TupleStruct k.is ∙ f.is) (tuple_struct_at q p k.value l s.rest t.rest b (w.spelt n)) }
+            | inr u ↦ let w = after_bound_took supplied spells g part (bounds.Path (path_pat_of [] q p)) l s t x v u.1 in
+                record { left = w.left; seen = w.seen; told = λ n b. w.told n (path_told q p l s.rest b y.0 z.0 u.0) }
           ]
+        ]
       ]
 
   path_pat_took : (s t : Stream) (x : Pat X) → Visible s.rest → begins_path s.rest ≡ true → path_pat supplied r s ≡ Ok (x, t) → TookOne (Before Of) s t x
@@ -157,15 +157,15 @@ module _ {X : Type 0} (supplied : Place → Reader X) (spells : Place → X → 
       elim (branch (token.sees_and s.rest) _ _ s (Ok (x, t)) e) [
         | inl y ↦ let k = mapped (reference r s) pat.Reference x t y.1 in subst (λ z. TookOne (Before Of) s t z) k.is (reference_took spells r part h s t k.value v k.was)
         | inr y ↦ elim (branch (sees_group Parenthesis s.rest) _ _ s (Ok (x, t)) y.1) [
-            | inl z ↦ plain {Is = Of} s t x (paren_took spells r part h s t x v z.1)
-            | inr z ↦ elim (branch (sees_group Bracket s.rest) _ _ s (Ok (x, t)) z.1) [
-                | inl u ↦ let k = mapped (slice r s) pat.Slice x t u.1 in subst (λ o. TookOne (Before Of) s t o) k.is (plain {Is = Of} s t (pat.Slice k.value) (slice_took spells r part h s t k.value v k.was))
-                | inr u ↦ elim (branch (sees_half_open s.rest) _ _ s (Ok (x, t)) u.1) [
-                    | inl o ↦ plain {Is = Of} s t x (half_took supplied spells g part s t x v o.1)
-                    | inr o ↦ cc o.1
-                  ]
-              ]
+          | inl z ↦ plain {Is = Of} s t x (paren_took spells r part h s t x v z.1)
+          | inr z ↦ elim (branch (sees_group Bracket s.rest) _ _ s (Ok (x, t)) z.1) [
+            | inl u ↦ let k = mapped (slice r s) pat.Slice x t u.1 in subst (λ o. TookOne (Before Of) s t o) k.is (plain {Is = Of} s t (pat.Slice k.value) (slice_took spells r part h s t k.value v k.was))
+            | inr u ↦ elim (branch (sees_half_open s.rest) _ _ s (Ok (x, t)) u.1) [
+              | inl o ↦ plain {Is = Of} s t x (half_took supplied spells g part s t x v o.1)
+              | inr o ↦ cc o.1
+            ]
           ]
+        ]
       ]
 
   by_word_took : (s t : Stream) (x : Pat X) → Visible s.rest → by_word supplied r s ≡ Ok (x, t) → TookOne (Before Of) s t x
@@ -176,17 +176,17 @@ module _ {X : Type 0} (supplied : Place → Reader X) (spells : Place → X → 
             let w = named_sound {n = 19} s t k.value v k.was in
             record { left = w.left; seen = w.seen; spelt = λ n stop. subst (λ z. Of z s.rest t.rest) k.is (a_wild (w.spelt n)) }
         | inr y ↦ elim (branch (token.sees_box s.rest) _ _ s (Ok (x, t)) y.1) [
-            | inl z ↦ box_took s t x v z.1
-            | inr z ↦ elim (branch (begins_bound s.rest) _ _ s (Ok (x, t)) z.1) [
-                | inl u ↦ bound_or_range_took supplied spells g part s t x v u.0 u.1
-                | inr u ↦ elim (branch (begins_binding s.rest) _ _ s (Ok (x, t)) u.1) [
-                    | inl o ↦ let k = mapped (binding r s) pat.Ident x t o.1 in
-                        let w = binding_took spells r part h s t k.value v k.was in
-                        record { left = w.left; seen = w.seen; spelt = λ n stop. subst (λ z. Of z s.rest t.rest) k.is (a_binding_pat (w.spelt n stop)) }
-                    | inr o ↦ by_mark_took s t x v o.1
-                  ]
-              ]
+          | inl z ↦ box_took s t x v z.1
+          | inr z ↦ elim (branch (begins_bound s.rest) _ _ s (Ok (x, t)) z.1) [
+            | inl u ↦ bound_or_range_took supplied spells g part s t x v u.0 u.1
+            | inr u ↦ elim (branch (begins_binding s.rest) _ _ s (Ok (x, t)) u.1) [
+              | inl o ↦ let k = mapped (binding r s) pat.Ident x t o.1 in
+                  let w = binding_took spells r part h s t k.value v k.was in
+                  record { left = w.left; seen = w.seen; spelt = λ n stop. subst (λ z. Of z s.rest t.rest) k.is (a_binding_pat (w.spelt n stop)) }
+              | inr o ↦ by_mark_took s t x v o.1
+            ]
           ]
+        ]
       ]
 
   pub single_took : (s t : Stream) (x : Pat X) → Visible s.rest → single supplied r s ≡ Ok (x, t) → TookOne (Before Of) s t x

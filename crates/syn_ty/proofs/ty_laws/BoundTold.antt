@@ -88,7 +88,7 @@ listed_took s t x v e = captured_or_took (none_of (a_lifetime ∷ an_ident ∷ a
 
 is_comma : (s t : Stream) (x : token.Comma) → captured_comma s ≡ Ok (x, t) → token.comma s ≡ Ok (x, t)
 unfolding captured_comma
-is_comma s t x e = elim (branch (token.sees_comma s.rest) _ _ s (Ok (x, t)) e) [ | inl y ↦ y.1 | inr y ↦ cc y.1 ]
+is_comma s t x e = elim (branch (token.sees_comma s.rest) _ _ s (Ok (x, t)) e) [ inl y ↦ y.1 | inr y ↦ cc y.1 ]
 
 abbrev Params : Type 0
 Params = Many CapturedParam token.Comma

@@ -205,7 +205,7 @@ no_beginning l h =
 -- where generics are refused, none stood there
 none_read : (s t : Stream) (u : Unit {0}) → declared.no_generics s ≡ Ok (u, t) → (s ≡ t) × (sees_generics s.rest ≡ false)
 unfolding declared.no_generics
-none_read s t u e = elim (branch (sees_generics s.rest) _ _ s (Ok (u, t)) e) [ | inl y ↦ cc y.1 | inr y ↦ ((same_pair tt u s t y.1).1, y.0) ]
+none_read s t u e = elim (branch (sees_generics s.rest) _ _ s (Ok (u, t)) e) [ inl y ↦ cc y.1 | inr y ↦ ((same_pair tt u s t y.1).1, y.0) ]
 
 comma_took : (s t : Stream) (c : token.Comma) → Visible s.rest → token.comma s ≡ Ok (c, t) → TookOne (IsMark false) s t c
 comma_took s t c v e = mark_took {n = 4} {k = 1} refl (omega arith) s t c v e

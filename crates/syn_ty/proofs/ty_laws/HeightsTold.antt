@@ -96,7 +96,7 @@ module _ {A E : Type 0} (shown : Bool → List A → Toks → Toks → Type 0) (
       (took_dyn : (p : TypePlace) (s t : Stream) (x : TypeTree A E) → Visible s.rest → reading.dyn_type r (allows_plus p) s ≡ Ok (x, t) → TookOne (Told (IsType (spelt_to shown spelt n) loosely p)) s t x)
       (took_impl : (p : TypePlace) (s t : Stream) (x : TypeImplTrait A E) → Visible s.rest → reading.impl_trait r (allows_plus p) s ≡ Ok (x, t) → TookOne (Told (IsImpl (spelt_to shown spelt n) loosely p)) s t x)
       (took_fn : (l : Option (BoundLifetimes A E)) (k : Toks) (s t : Stream) (x : TypeFnPtr A E) → Visible s.rest → reading.fn_ptr_after attrs values r l s ≡ Ok (x, t) →
-          Onward (IsOptional (IsFor (spelt_to shown spelt n) loosely) l k s.rest) (Told (IsFnPtr (spelt_to shown spelt n) loosely) x k t.rest) s t)
+      Onward (IsOptional (IsFor (spelt_to shown spelt n) loosely) l k s.rest) (Told (IsFnPtr (spelt_to shown spelt n) loosely) x k t.rest) s t)
       (binder_along : Along (binder r)) (builtin_along : Along reading.builtin) (unsafe_along : (from : List Item) (p : TypePlace) → Along (reading.unsafe_binder r from p)) (place : TypePlace) where
     abbrev part : Manner → Parts A E
     part = spelt_to shown spelt n

@@ -382,7 +382,7 @@ module _ {A E : Type 0} (attrs : Reader (List A)) (values : ReadValues E) (r : R
         | inl y ↦ of_type Binder a s t x v y.1
         | inr y ↦ elim (branch (sees_lifetime s.rest) _ _ s (Ok (x, t)) y.1) [
           | inl z ↦ of_lifetime Binder a s t x v z.1
-          | inr z ↦ elim (branch (token.sees_const s.rest) _ _ s (Ok (x, t)) z.1) [ | inl q ↦ of_const Binder a s t x v q.1 | inr q ↦ cc q.1 ]
+          | inr z ↦ elim (branch (token.sees_const s.rest) _ _ s (Ok (x, t)) z.1) [ inl q ↦ of_const Binder a s t x v q.1 | inr q ↦ cc q.1 ]
         ]
       ]
 
@@ -395,7 +395,7 @@ module _ {A E : Type 0} (attrs : Reader (List A)) (values : ReadValues E) (r : R
           | inl z ↦ of_type Generics a s t x v z.1
           | inr z ↦ elim (branch (token.sees_const s.rest) _ _ s (Ok (x, t)) z.1) [
             | inl q ↦ of_const Generics a s t x v q.1
-            | inr q ↦ elim (branch (token.sees_underscore s.rest) _ _ s (Ok (x, t)) q.1) [ | inl u ↦ of_bare a s t x v u.0 u.1 | inr u ↦ cc u.1 ]
+            | inr q ↦ elim (branch (token.sees_underscore s.rest) _ _ s (Ok (x, t)) q.1) [ inl u ↦ of_bare a s t x v u.0 u.1 | inr u ↦ cc u.1 ]
           ]
         ]
       ]

@@ -115,7 +115,7 @@ module _ {A E : Type 0} (attrs : Reader (List A)) (values : ReadValues E) (r : R
     (took_dyn : (p : TypePlace) (s t : Stream) (x : TypeTree A E) → Visible s.rest → reading.dyn_type r (allows_plus p) s ≡ Ok (x, t) → TookOne (Told (IsType part loosely p)) s t x)
     (took_impl : (p : TypePlace) (s t : Stream) (x : TypeImplTrait A E) → Visible s.rest → reading.impl_trait r (allows_plus p) s ≡ Ok (x, t) → TookOne (Told (IsImpl part loosely p)) s t x)
     (took_fn : (l : Option (BoundLifetimes A E)) (k : Toks) (s t : Stream) (x : TypeFnPtr A E) → Visible s.rest → reading.fn_ptr_after attrs values r l s ≡ Ok (x, t) →
-        Onward (IsOptional (IsFor part loosely) l k s.rest) (Told (IsFnPtr part loosely) x k t.rest) s t)
+    Onward (IsOptional (IsFor part loosely) l k s.rest) (Told (IsFnPtr part loosely) x k t.rest) s t)
     (binder_along : Along (binder r)) (builtin_along : Along reading.builtin) (unsafe_along : (from : List Item) (p : TypePlace) → Along (reading.unsafe_binder r from p)) (place : TypePlace) where
   abbrev Tree : Type 0
   Tree = TypeTree A E

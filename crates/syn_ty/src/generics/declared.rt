@@ -348,7 +348,6 @@ fn parse_optional_where_clause<A: Attributes, E: Value>(
     Ok(Some(parse_where_clause(alloc, input)?))
 }
 
-
 /// Reads a predicate of a where clause: after attributes what is said of a lifetime, where a `:` follows one, and of a type
 /// elsewhere.
 ///
