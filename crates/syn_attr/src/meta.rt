@@ -8,6 +8,7 @@ ghost use Rattle.token_core.specs.Trees.{toks};
 ghost use Rattle.token_core.specs.Reads.{Follows, Reads};
 ghost use Rattle.syn_path.specs.path.Paths.{first_span};
 ghost use Rattle.syn_attr.specs.meta.Lends.{lends_input, lends_value};
+ghost use Rattle.syn_attr.specs.meta.Spelling as spelling;
 ghost use Rattle.syn_attr.specs.meta.Turns as spec;
 
 use std::alloc::Global;
@@ -94,6 +95,7 @@ impl<'a> ParseNestedMeta<'a> {
     ) -> Result<(), Error>
         requires { spec.Careful F.pre F.step }
         ensures turns { spec.Descends F.step logic self.old.input result self.new.input }
+        ensures spelt { spelling.Encloses F.step logic self.old.input result self.new.input }
         ensures within { Follows self.old.input self.new.input }
         ensures path { self.new.path ≡ self.old.path }
     {
@@ -124,9 +126,9 @@ impl<F: FnMut(Global, &mut ParseNestedMeta<'_>) -> Result<(), Error>> Parser
 
     ghost can_parse = { λ _. spec.Careful F.pre F.step };
 
-    ghost reads = { λ p old a new. spec.Properties F.step p.logic old (Ok a) new };
+    ghost reads = { λ p old a new. spec.Properties F.step p.logic old (Ok a) new × spelling.MayList F.step p.logic old (Ok a) new };
 
-    ghost refuses = { λ p old e. (new : Stream) × spec.Properties F.step p.logic old (Err e) new };
+    ghost refuses = { λ p old e. (new : Stream) × spec.Properties F.step p.logic old (Err e) new × spelling.MayList F.step p.logic old (Err e) new };
 
     #[tactic(auto, using(token_core::specs::Reads::no_promise, token_core::proofs::Suffixes::follows))]
     fn parse(self, alloc: Global, input: &mut ParseStream<'_>) -> Result<(), Error> {
@@ -146,7 +148,8 @@ pub fn read_properties<F: FnMut(Global, &mut ParseNestedMeta<'_>) -> Result<(), 
     tokens: &TokenStream,
 ) -> Result<(), Error>
     requires { spec.Careful F.pre F.step }
-    ensures { spec.ReadsProperties F.step logic (started scope (toks tokens.now)) result }
+    ensures turns { spec.ReadsProperties F.step logic (started scope (toks tokens.now)) result }
+    ensures spelt { spelling.ListsAll F.step logic (started scope (toks tokens.now)) result }
 {
     read_scoped(alloc, parser(logic), scope, tokens)
 }

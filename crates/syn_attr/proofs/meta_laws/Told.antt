@@ -1,5 +1,5 @@
--- The paths of nested properties, the refusals where none begins, and the lists of properties are what the grammar says: the reader answers and refuses as it does, and a list of turns is one of its lists.
-use Rattle.std.proofs.Common.{◌≡◌, ◌≢◌, ◌⊎◌, ◌<◌, ◌≤◌, ◌==◌, ℕ, zero, suc, Bool, true, false, if◌then◌else◌, List, [], ◌∷◌, Option, Some, None, is_some, Ok, Err, inl, inr, refl, sym, ◌∙◌, ap, subst, arith}
+-- The path of a nested property is read as the grammar spells it, and where none begins, the read is refused as it says.
+use Rattle.std.proofs.Common.{◌≡◌, ◌≢◌, ◌⊎◌, ◌<◌, ◌≤◌, ◌==◌, ℕ, zero, suc, Bool, true, false, if◌then◌else◌, List, [], ◌∷◌, length, Option, Some, None, is_some, Ok, Err, inl, inr, refl, sym, ◌∙◌, ap, subst, arith}
 use Rattle.std.proofs.lemmas.Bool.{eqb-true}
 use Rattle.token_core.specs.declared.error.ErrorKind.{ErrorKind}
 use Rattle.token_core.specs.declared.error.ErrorKind.TheVariants.{ExpectedNestedAttribute, LiteralInNestedAttribute, TokenInNestedAttribute}
@@ -39,11 +39,8 @@ use Rattle.syn_path.proofs.path_laws.Sound.{visible_path}
 use Rattle.syn_attr.specs.meta.Spelling as spelling
 use Rattle.syn_attr.specs.meta.Spelling.{IsSep, is_sep, IsLeading, no_leading, AreSegments, last_segment, more_segments, IsPropertyPath, a_property_path, BeginsLit, a_token, a_negative, NoFirst, nothing_left, a_literal, another, NoSep, NoWord, Breaks, NoPath, no_first, breaks_off, before, past_path}
 
-no : {P : Type 0} → false ≡ true → P
+pub no : {P : Type 0} → false ≡ true → P
 no h = cc h
-
-yes : {P : Type 0} → true ≡ false → P
-yes h = cc h
 
 -- ---- identifiers
 
@@ -80,11 +77,11 @@ no_words l e i r h = let w : ◌≡◌ {A = Option (Ident × Toks)} None (Some (
 
 -- ---- marks
 
-record Char (c : ℕ) (l : Toks) (q : Spans × Toks) : Type 0 where
-  span : Span
-  spacing : Spacing
-  is : front l ≡ mark (punct c spacing span) q.1
-  spans : three span span span ≡ q.0
+pub record Char (c : ℕ) (l : Toks) (q : Spans × Toks) : Type 0 where
+  pub span : Span
+  pub spacing : Spacing
+  pub is : front l ≡ mark (punct c spacing span) q.1
+  pub spans : three span span span ≡ q.0
 
 char_if : (c : ℕ) (p : Punct) (l k : Toks) (q : Spans × Toks) (b : Bool) → front l ≡ mark p k → (p.ch == c) ≡ b → ◌≡◌ {A = Option (Spans × Toks)} (if b then Some (three p.span p.span p.span, k) else None) (Some q) → Char c l q
 char_if c p l k q true f h e =
@@ -97,7 +94,7 @@ char_if c p l k q true f h e =
     }
 char_if c p l k q false f h e = cc e
 
-char_at : (c : ℕ) (l x : Toks) (q : Spans × Toks) → front l ≡ x → past_next c true (past_mark []) (as_punct x) ≡ Some q → Char c l q
+pub char_at : (c : ℕ) (l x : Toks) (q : Spans × Toks) → front l ≡ x → past_next c true (past_mark []) (as_punct x) ≡ Some q → Char c l q
 char_at c l done q h e = cc e
 char_at c l (word i k) q h e = cc e
 char_at c l (mark p k) q h e = char_if c p l k q (p.ch == c) h refl e
@@ -183,7 +180,7 @@ moved : (k : ErrorKind) (t : Bytes) (l : Toks) (f h : Option Span) (e g : Span) 
 unfolding refused here
 moved k t l f h e g sc = refl
 
-stop : {A B : Type 0} {o : Outcome A} {e : Refusal} (f : A → Reader B) → o ≡ Err e → and_then o f ≡ Err e
+pub stop : {A B : Type 0} {o : Outcome A} {e : Refusal} (f : A → Reader B) → o ≡ Err e → and_then o f ≡ Err e
 stop f h = ap (λ z. and_then z f) h
 
 later_segment : (s : Stream) → no_segment Nested false s ≡ expected ident_name s
@@ -194,7 +191,7 @@ first_segment : (s : Stream) → no_segment Nested true s ≡ no_property s
 unfolding no_segment
 first_segment s = refl
 
-not_done : (x : Toks) → x ≢ done → is_end x ≡ false
+pub not_done : (x : Toks) → x ≢ done → is_end x ≡ false
 not_done done h = absurd (h refl)
 not_done (word i k) h = refl
 not_done (mark p k) h = refl
@@ -353,7 +350,7 @@ path_refused s e (breaks_off {o = o} {i = i} {p = p} {l = l} {m = m} {n = k} {r 
 
 -- ---- a path begins, or none
 
-end_is : (x : Toks) → is_end x ≡ true → x ≡ done
+pub end_is : (x : Toks) → is_end x ≡ true → x ≡ done
 end_is done h = refl
 end_is (word i k) h = no h
 end_is (mark p k) h = no h
@@ -458,6 +455,14 @@ refused_sound s e h =
       | inr k ↦ let w : ◌≡◌ {A = Outcome ModPath} (Err k.0) (Err e) = sym (path_refused s k.0 k.1) ∙ h in
           let u : k.0 ≡ e = cc w in subst (NoPath s) u k.1
     ]
+
+segments_some : (all : List ModSegment) (seps : List Sep) (l r : Toks) → AreSegments all seps l r → 0 < length all
+segments_some all seps l r (last_segment h) = omega arith
+segments_some all seps l r (more_segments h c k) = omega arith
+
+-- it has a segment
+pub path_some : (p : ModPath) (l r : Toks) → IsPropertyPath p l r → 0 < length p.segments.0
+path_some p l r (a_property_path {all = all} {seps = seps} {m = m} i k) = segments_some all seps m r k
 
 -- ---- lists without invisible groups: there the grammar of a property's path is that of paths, over any identifiers
 
