@@ -254,7 +254,7 @@ impl MetaList {
         alloc: Global,
         logic: F,
     ) -> Result<(), Error>
-        requires { turns.Careful F.pre F.step }
+        requires { turns.Careful F.pre F.step logic }
         ensures turns { turns.ReadsProperties F.step logic (held self.now.delimiter self.now.tokens) result }
         ensures spelt { properties.ListsAll F.step logic (held self.now.delimiter self.now.tokens) result }
     {
@@ -323,7 +323,7 @@ impl<X: Drop> Attribute<X> {
         alloc: Global,
         logic: F,
     ) -> Result<(), Error>
-        requires closure { turns.Careful F.pre F.step }
+        requires closure { turns.Careful F.pre F.step logic }
         requires segment { 0 < length (requirements.path_in self.now.meta).segments.0 }
         ensures turns { requirements.WithArguments (requirements.arguments self.now) (λ l. turns.ReadsProperties F.step logic (held l.delimiter l.tokens) result) result }
         ensures spelt { requirements.WithArguments (requirements.arguments self.now) (λ l. properties.ListsAll F.step logic (held l.delimiter l.tokens) result) result }

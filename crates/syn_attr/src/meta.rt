@@ -93,7 +93,7 @@ impl<'a> ParseNestedMeta<'a> {
         alloc: Global,
         logic: F,
     ) -> Result<(), Error>
-        requires { spec.Careful F.pre F.step }
+        requires { spec.Careful F.pre F.step logic }
         ensures turns { spec.Descends F.step logic self.old.input result self.new.input }
         ensures spelt { spelling.Encloses F.step logic self.old.input result self.new.input }
         ensures within { Follows self.old.input self.new.input }
@@ -114,8 +114,12 @@ pub struct NestedMetaParser<F> {
 
 /// The parser of properties separated by commas, of which there may be none: the closure is called at each, in order, up
 /// to the first error, and reads what follows the path.
-pub fn parser<F>(logic: F) -> NestedMetaParser<F>
-    ensures { result.logic ≡ logic }
+pub fn parser<F: FnMut(Global, &mut ParseNestedMeta<'_>) -> Result<(), Error>>(
+    logic: F,
+) -> NestedMetaParser<F>
+    requires { spec.Careful F.pre F.step logic }
+    ensures holds { result.logic ≡ logic }
+    ensures careful { spec.Careful F.pre F.step result.logic }
 {
     NestedMetaParser { logic }
 }
@@ -124,7 +128,7 @@ impl<F: FnMut(Global, &mut ParseNestedMeta<'_>) -> Result<(), Error>> Parser
     for NestedMetaParser<F> {
     type Output = ();
 
-    ghost can_parse = { λ _. spec.Careful F.pre F.step };
+    ghost can_parse = { λ p. spec.Careful F.pre F.step p.logic };
 
     ghost reads = { λ p old a new. spec.Properties F.step p.logic old (Ok a) new × spelling.MayList F.step p.logic old (Ok a) new };
 
@@ -147,7 +151,7 @@ pub fn read_properties<F: FnMut(Global, &mut ParseNestedMeta<'_>) -> Result<(), 
     scope: Span,
     tokens: &TokenStream,
 ) -> Result<(), Error>
-    requires { spec.Careful F.pre F.step }
+    requires { spec.Careful F.pre F.step logic }
     ensures turns { spec.ReadsProperties F.step logic (started scope (toks tokens.now)) result }
     ensures spelt { spelling.ListsAll F.step logic (started scope (toks tokens.now)) result }
 {
@@ -162,7 +166,7 @@ pub fn parse_nested_meta<F: FnMut(Global, &mut ParseNestedMeta<'_>) -> Result<()
     input: &mut ParseStream<'_>,
     mut logic: F,
 ) -> Result<(), Error>
-    requires { spec.Careful F.pre F.step }
+    requires { spec.Careful F.pre F.step logic }
     ensures turns { spec.Turned F.step logic input.old result input.new }
     ensures within { Follows input.old input.new }
 {

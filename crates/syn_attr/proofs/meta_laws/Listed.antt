@@ -1,5 +1,5 @@
 -- The turns of nested properties are the lists of the grammar, and these are turns.
-use Rattle.std.proofs.Common.{◌≡◌, ◌≢◌, ◌⊎◌, Bool, true, false, if◌then◌else◌, [], ◌∷◌, Option, Some, None, Result, Ok, Err, inl, inr, refl, sym, ◌∙◌, ap, subst, codes}
+use Rattle.std.proofs.Common.{◌≡◌, ◌≢◌, ◌⊎◌, Bool, true, false, ◌<◌, length, [], ◌∷◌, Option, Some, None, Result, Ok, Err, inl, inr, refl, sym, ◌∙◌, ap, subst, codes}
 use Rattle.token_core.specs.declared.mark.Spans.{Spans}
 use Rattle.token_core.specs.declared.span.DelimSpan.{DelimSpan}
 use Rattle.token_core.specs.declared.span.Span.{Span}
@@ -24,8 +24,8 @@ use Rattle.syn_path.specs.path.Reading.{nested}
 use Rattle.syn_attr.specs.meta.Spelling as spelling
 use Rattle.syn_attr.specs.meta.Spelling.{IsComma, is_comma, NoComma, NoParentheses, Property, AreProperties, Listed, MayList, ListsAll, Encloses, past_path}
 use Rattle.syn_attr.specs.meta.Turns as turns
-use Rattle.syn_attr.specs.meta.Turns.{Answer, Step, Pre, Careful, Called, Turn, Turns, Turned, Properties, ReadsProperties, Descends, Comma, comma, opening}
-use Rattle.syn_attr.proofs.meta_laws.Told.{no, char_at, not_done, end_is, path_sound, path_complete, path_refused, refused_sound, stop}
+use Rattle.syn_attr.specs.meta.Turns.{Answer, Step, Pre, Careful, HasSegment, Reached, handed_in, called, Called, Turn, Turns, Turned, Properties, ReadsProperties, Descends, Comma, comma, opening}
+use Rattle.syn_attr.proofs.meta_laws.Told.{no, char_at, not_done, end_is, path_some, path_sound, path_complete, path_refused, refused_sound, stop}
 
 -- ---- the end
 
@@ -184,11 +184,14 @@ module _ {A : Type 0} {reads also : Stream → A → Stream → Type 0} {refuses
 
 -- ---- turns
 
-module _ {F : Type 0} {pre : Pre F} {step : Step F} (careful : Careful pre step) where
-  property : (f g : F) (s t : Stream) (answer : Answer) → Turn step f s answer t g → Property step f s answer t g
-  property f g s t answer k =
+module _ {F : Type 0} {pre : Pre F} {step : Step F} {f : F} (careful : Careful pre step f) where
+  has_segment : (g h : F) (s t : Stream) (answer : Answer) (k : Turn step g s answer t h) → HasSegment k.call.before
+  has_segment g h s t answer k = subst (λ z. 0 < length z.segments.0) (sym k.call.path) (path_some k.path s.rest k.before.rest (path_sound s k.before k.path k.reads).spelt)
+
+  property : (g h : F) (s t : Stream) (answer : Answer) → Reached step f g → Turn step g s answer t h → Property step g s answer t h
+  property g h s t answer r k =
       let w = path_sound s k.before k.path k.reads in
-      let c = subst (λ (z : Stream). Called step f k.path (forked z) answer k.after g) w.stands k.call in
+      let c = subst (λ (z : Stream). Called step g k.path (forked z) answer k.after h) w.stands k.call in
       record {
         path = k.path;
         rest = k.before.rest;
@@ -196,45 +199,50 @@ module _ {F : Type 0} {pre : Pre F} {step : Step F} (careful : Careful pre step)
         spelt = w.spelt;
         apart = w.apart;
         call = c;
-        later = subst (λ z. Follows z k.after) c.begins (subst (Follows c.before.now.input) c.ends (careful.follows f c.alloc c.before answer c.after g c.call));
+        later = subst (λ z. Follows z k.after) (k.call.begins ∙ ap forked w.stands) (subst (Follows k.call.before.now.input) k.call.ends
+            (careful.follows g r k.call.alloc k.call.before (has_segment g h s t answer k) answer k.call.after h k.call.call));
         stands = k.stands ∙ ap (λ z. advanced z k.after) w.stands;
       }
 
-  pub properties_are : (f g : F) (s t : Stream) (answer : Answer) → Turns step f s answer t g → AreProperties step f s answer t g
-  properties_are f g s t answer (turns.no_path {e = e} h) = spelling.no_path (λ k. refused_sound s e (h k))
-  properties_are f g s t answer (turns.stopped k) = spelling.stopped (property f g s t answer k)
-  properties_are f g s t answer (turns.last k h) = spelling.last (property f g s t answer k) (ended t.rest h)
-  properties_are f g s t answer (turns.no_comma {a = a} {e = e} k h n) = spelling.no_comma (property f g s a (Ok tt) k) (unended a.rest h) (λ u. comma_unspelt a e (n u))
-  properties_are f g s t answer (turns.last_comma {a = a} {m = m} k h c n) =
+  properties_from : (g h : F) (s t : Stream) (answer : Answer) → Reached step f g → Turns step g s answer t h → AreProperties step g s answer t h
+  properties_from g h s t answer r (turns.no_path {e = e} w) = spelling.no_path (λ k. refused_sound s e (w k))
+  properties_from g h s t answer r (turns.stopped k) = spelling.stopped (property g h s t answer r k)
+  properties_from g h s t answer r (turns.last k w) = spelling.last (property g h s t answer r k) (ended t.rest w)
+  properties_from g h s t answer r (turns.no_comma {a = a} {e = e} k w n) = spelling.no_comma (property g h s a (Ok tt) r k) (unended a.rest w) (λ u. comma_unspelt a e (n u))
+  properties_from g h s t answer r (turns.last_comma {a = a} {m = m} k u c n) =
       let w = comma_sound a t m c in
-      subst (λ z. AreProperties step f s (Ok tt) z g) (sym w.stands) (spelling.last_comma (property f g s a (Ok tt) k) w.spelt (ended t.rest n))
-  properties_are f g s t answer (turns.next {g = h} {a = a} {b = b} {m = m} k u c n more) =
+      subst (λ z. AreProperties step g s (Ok tt) z h) (sym w.stands) (spelling.last_comma (property g h s a (Ok tt) r k) w.spelt (ended t.rest n))
+  properties_from g h s t answer r (turns.next {g = i} {a = a} {b = b} {m = m} k u c n more) =
       let w = comma_sound a b m c in
-      spelling.next (property f h s a (Ok tt) k) w.spelt (unended b.rest n) (subst (λ z. AreProperties step h z answer t g) w.stands (properties_are h g b t answer more))
+      let q : Reached step f i = called r (has_segment g i s a (Ok tt) k) k.call.call in
+      spelling.next (property g i s a (Ok tt) r k) w.spelt (unended b.rest n) (subst (λ z. AreProperties step i z answer t h) w.stands (properties_from i h b t answer q more))
 
-  pub may_list : (f : F) (s t : Stream) (answer : Answer) → Properties step f s answer t → MayList step f s answer t
-  may_list f s t answer (inl k) = subst (λ z. MayList step f s z t) (sym k.1) (subst (λ z. MayList step f s (Ok tt) z) (sym k.2) (spelling.none (ended s.rest k.0)))
-  may_list f s t answer (inr k) = spelling.some (unended s.rest k.0) (k.1.0, properties_are f k.1.0 s t answer k.1.1)
+  pub properties_are : (s t : Stream) (answer : Answer) → Turned step f s answer t → Listed step f s answer t
+  properties_are s t answer k = (k.0, properties_from f k.0 s t answer handed_in k.1)
 
-  pub lists_all : (f : F) (s : Stream) (answer : Answer) → ReadsProperties step f s answer → ListsAll step f s answer
-  lists_all f s answer k =
+  pub may_list : (s t : Stream) (answer : Answer) → Properties step f s answer t → MayList step f s answer t
+  may_list s t answer (inl k) = subst (λ z. MayList step f s z t) (sym k.1) (subst (λ z. MayList step f s (Ok tt) z) (sym k.2) (spelling.none (ended s.rest k.0)))
+  may_list s t answer (inr k) = spelling.some (unended s.rest k.0) (properties_are s t answer k.1)
+
+  pub lists_all : (s : Stream) (answer : Answer) → ReadsProperties step f s answer → ListsAll step f s answer
+  lists_all s answer k =
       whole {reads = λ u a t. Properties step f u (Ok a) t} {also = λ u a t. MayList step f u (Ok a) t} {refuses = λ u e. (t : Stream) × Properties step f u (Err e) t} {too = λ u e. (t : Stream) × MayList step f u (Err e) t}
-      (λ u a t h. may_list f u t (Ok a) h) (λ u e h. (h.0, may_list f u h.0 (Err e) h.1)) s answer k
+      (λ u a t h. may_list u t (Ok a) h) (λ u e h. (h.0, may_list u h.0 (Err e) h.1)) s answer k
 
-  pub encloses : (f : F) (s t : Stream) (answer : Answer) → Descends step f s answer t → Encloses step f s answer t
-  encloses f s t answer (turns.no_parentheses {e = e} h) = spelling.no_parentheses (λ k. parens_unspelt s e (h k))
-  encloses f s t answer (turns.refused_inside {t = u} {c = c} {e = e} h k) =
+  pub encloses : (s t : Stream) (answer : Answer) → Descends step f s answer t → Encloses step f s answer t
+  encloses s t answer (turns.no_parentheses {e = e} h) = spelling.no_parentheses (λ k. parens_unspelt s e (h k))
+  encloses s t answer (turns.refused_inside {t = u} {c = c} {e = e} h k) =
       let w = parens_sound s t c h in
-      subst (λ z. Encloses step f s (Err e) z) w.stands (spelling.refused_inside {t = u} w.is (k.0, subst (λ z. AreProperties step f z (Err e) u k.0) (sym w.inner) (properties_are f k.0 c.1 u (Err e) k.1)))
-  encloses f s t answer (turns.all_inside {a = a} {t = u} {c = c} h k) =
+      subst (λ z. Encloses step f s (Err e) z) w.stands (spelling.refused_inside {t = u} w.is (subst (λ z. Listed step f z (Err e) u) (sym w.inner) (properties_are c.1 u (Err e) k)))
+  encloses s t answer (turns.all_inside {a = a} {t = u} {c = c} h k) =
       let w = parens_sound s a c h in
-      subst (λ z. Encloses step f s (Ok tt) (finished u z)) w.stands (spelling.all_inside {t = u} w.is (k.0, subst (λ z. AreProperties step f z (Ok tt) u k.0) (sym w.inner) (properties_are f k.0 c.1 u (Ok tt) k.1)))
+      subst (λ z. Encloses step f s (Ok tt) (finished u z)) w.stands (spelling.all_inside {t = u} w.is (subst (λ z. Listed step f z (Ok tt) u) (sym w.inner) (properties_are c.1 u (Ok tt) k)))
 
   -- what the parser says of a list that isn't empty, and of one that is
-  pub parsed : (f : F) (s t : Stream) (answer : Answer) → is_done s.rest ≡ false → Turned step f s answer t →
+  pub parsed : (s t : Stream) (answer : Answer) → is_done s.rest ≡ false → Turned step f s answer t →
       Parsed (λ a u. Properties step f s (Ok a) u × MayList step f s (Ok a) u) (λ e. (u : Stream) × Properties step f s (Err e) u × MayList step f s (Err e) u) answer t
-  parsed f s t (Ok tt) h k = (inr (h, k), may_list f s t (Ok tt) (inr (h, k)))
-  parsed f s t (Err e) h k = λ _. (t, inr (h, k), may_list f s t (Err e) (inr (h, k)))
+  parsed s t (Ok tt) h k = (inr (h, k), may_list s t (Ok tt) (inr (h, k)))
+  parsed s t (Err e) h k = λ _. (t, inr (h, k), may_list s t (Err e) (inr (h, k)))
 
 pub parsed_none : {F : Type 0} {step : Step F} {f : F} (s : Stream) → is_done s.rest ≡ true → Properties step f s (Ok tt) s × MayList step f s (Ok tt) s
 parsed_none s h = (inl (h, refl, refl), spelling.none (ended s.rest h))
