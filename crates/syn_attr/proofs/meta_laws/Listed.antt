@@ -13,7 +13,8 @@ use Rattle.token_core.specs.Marks.{mark_name}
 use Rattle.token_core.specs.Reads as reads
 use Rattle.token_core.specs.Reads.{Ends, Follows, Outcome, Parsed, Refuses, WholeRead, advanced, as_group, as_punct, expected, finished, forked, inside, is_done, is_end, open_group, past, past_mark, past_next, read_mark, three}
 use Rattle.token_core.specs.Refusal.{Refusal}
-use Rattle.token_core.specs.Spellings.{mark_at}
+use Rattle.token_core.specs.Rebuilt.{Visible}
+use Rattle.token_core.specs.Spellings.{IsMark, is_mark, last_char, mark_at}
 use Rattle.token_core.specs.Stream.{Stream}
 use Rattle.token_core.specs.Toks.{Toks, done, word, mark, lit, group, enter, leave}
 use Rattle.token_core.specs.Trees.{punct}
@@ -25,7 +26,7 @@ use Rattle.syn_attr.specs.meta.Spelling as spelling
 use Rattle.syn_attr.specs.meta.Spelling.{IsComma, is_comma, NoComma, NoParentheses, Property, AreProperties, Listed, MayList, ListsAll, Encloses, past_path}
 use Rattle.syn_attr.specs.meta.Turns as turns
 use Rattle.syn_attr.specs.meta.Turns.{Answer, Step, Pre, Careful, HasSegment, Reached, handed_in, called, Called, Turn, Turns, Turned, Properties, ReadsProperties, Descends, Comma, comma, opening}
-use Rattle.syn_attr.proofs.meta_laws.Told.{no, char_at, not_done, end_is, path_some, path_sound, path_complete, path_refused, refused_sound, stop}
+use Rattle.syn_attr.proofs.meta_laws.Told.{no, char_at, not_done, end_is, path_some, path_sound, path_complete, path_refused, refused_sound, stands_at, stop}
 
 -- ---- the end
 
@@ -74,6 +75,10 @@ comma_at l = by_spans (past_mark (44 ∷ []) l) refl
         none : (a : Span) (r : Toks) → IsComma a l r → past_mark (44 ∷ []) l ≡ None → ⊥
         none a r (is_comma {j = j} k) h = let w : ◌≡◌ {A = Option (Spans × Toks)} None (Some (three a a a, r)) = sym h ∙ comma_past a j l r k in cc w
     by_spans (Some q) h = let c = char_at 44 l (front l) q refl h in inl (c.span, q.1, is_comma c.is)
+
+-- on a list without invisible groups it is a clear spelling of a comma
+pub comma_plain : (a : Span) (l r : Toks) → Visible l → IsComma a l r → IsMark true (mark_at 4 1 (a ∷ [])) l r
+comma_plain a l r v (is_comma {j = j} h) = subst (λ z. IsMark true (mark_at 4 1 (a ∷ [])) z r) (sym (stands_at l (mark (punct 44 j a) r) v h)) (is_mark (last_char (λ e i. refl)))
 
 record CommaTo (s t : Stream) : Type 0 where
   span : Span

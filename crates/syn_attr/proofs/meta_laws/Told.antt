@@ -429,6 +429,12 @@ first_ways s o l i (Some p) h =
 ways : (s : Stream) → PathAt s ⊎ ((e : Refusal) × NoPath s e)
 ways s = let k = leading_at s.rest (past_mark sep_chars s.rest) refl in first_ways s k.0 k.1 k.2 (as_word (front k.1)) refl
 
+-- A list has at most one path with which no `::` goes on.
+pub path_unique : (p q : ModPath) (s : Stream) (l r : Toks) → IsPropertyPath p s.rest l → NoSep l → IsPropertyPath q s.rest r → NoSep r → (p ≡ q) × (l ≡ r)
+path_unique p q s l r i n k m =
+    let w = same_pair p q (past_path s p l) (past_path s q r) (sym (path_complete p s l i n) ∙ path_complete q s r k m) in
+    (w.0, ap (λ (z : Stream). z.rest) w.1)
+
 pub record Spells (s t : Stream) (p : ModPath) : Type 0 where
   pub spelt : IsPropertyPath p s.rest t.rest
   pub apart : NoSep t.rest
@@ -466,7 +472,7 @@ path_some p l r (a_property_path {all = all} {seps = seps} {m = m} i k) = segmen
 
 -- ---- lists without invisible groups: there the grammar of a property's path is that of paths, over any identifiers
 
-visible_front : (l : Toks) → Visible l → front l ≡ l
+pub visible_front : (l : Toks) → Visible l → front l ≡ l
 visible_front done h = refl
 visible_front (word i k) h = refl
 visible_front (mark p k) h = refl
@@ -475,7 +481,7 @@ visible_front (group d s c k) h = refl
 visible_front (enter s k) h = absurd h
 visible_front (leave k) h = absurd h
 
-stands_at : (l x : Toks) → Visible l → front l ≡ x → l ≡ x
+pub stands_at : (l x : Toks) → Visible l → front l ≡ x → l ≡ x
 stands_at l x h e = sym (visible_front l h) ∙ e
 
 record Plain (p : Sep) (l r : Toks) : Type 0 where
@@ -532,6 +538,10 @@ module _ (clear : Bool) where
   pub path_again : (p : ModPath) (l r : Toks) → paths.IsBarePath clear any_text nothing p l r → IsPropertyPath p l r
   path_again p l r (paths.a_bare_path {all = all} {seps = seps} paths.no_leading k) = let w = segments_again all seps l r k in a_property_path (no_leading w.1) w.0
   path_again p l r (paths.a_bare_path {all = all} {seps = seps} {m = m} (paths.leading c) k) = let w = segments_again all seps m r k in a_property_path (spelling.leading (is_sep refl refl)) w.0
+
+-- The same of the grammar of paths: clear spellings and others alike are answered, where no `::` follows.
+pub spelt_complete : (clear : Bool) (p : ModPath) (s : Stream) (r : Toks) → paths.IsBarePath clear any_text nothing p s.rest r → sees_sep r ≡ false → nested s ≡ Ok (p, past_path s p r)
+spelt_complete clear p s r i n = path_complete p s r (path_again clear p s.rest r i) (λ q k h. no (sym n ∙ sep_there q r k h))
 
 -- On a list without invisible groups the path spells what was taken, and the rest has none either.
 pub path_took : (s t : Stream) (p : ModPath) → Visible s.rest → nested s ≡ Ok (p, t) → TookOne IsPropertyPath s t p
