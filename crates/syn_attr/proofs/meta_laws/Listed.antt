@@ -1,5 +1,5 @@
 -- The turns of nested properties are the lists of the grammar, and these are turns.
-use Rattle.std.proofs.Common.{◌≡◌, ◌≢◌, ◌⊎◌, Bool, true, false, ◌<◌, length, [], ◌∷◌, Option, Some, None, Result, Ok, Err, inl, inr, refl, sym, ◌∙◌, ap, subst, codes}
+use Rattle.std.proofs.Common.{◌≡◌, ◌≢◌, ◌⊎◌, true, false, ◌<◌, length, [], ◌∷◌, Option, Some, None, Result, Ok, Err, inl, inr, refl, sym, ◌∙◌, ap, subst, codes}
 use Rattle.token_core.specs.declared.mark.Spans.{Spans}
 use Rattle.token_core.specs.declared.span.DelimSpan.{DelimSpan}
 use Rattle.token_core.specs.declared.span.Span.{Span}
@@ -20,8 +20,6 @@ use Rattle.token_core.specs.Toks.{Toks, done, word, mark, lit, group, enter, lea
 use Rattle.token_core.specs.Trees.{punct}
 use Rattle.token_core.proofs.Steps.{link}
 use Rattle.token_core.proofs.Turns.{same_pair}
-use Rattle.syn_path.specs.path.Paths.{ModPath}
-use Rattle.syn_path.specs.path.Reading.{nested}
 use Rattle.syn_attr.specs.meta.Spelling as spelling
 use Rattle.syn_attr.specs.meta.Spelling.{IsComma, is_comma, NoComma, NoParentheses, Property, AreProperties, Listed, MayList, ListsAll, Encloses, past_path}
 use Rattle.syn_attr.specs.meta.Turns as turns

@@ -11,13 +11,14 @@ use Rattle.token_core.specs.declared.tree.Ident.{Ident}
 use Rattle.token_core.specs.declared.tree.Literal.{Literal}
 use Rattle.token_core.specs.declared.tree.Punct.{Punct}
 use Rattle.token_core.specs.declared.tree.Spacing.{Spacing}
-use Rattle.token_core.specs.declared.tree.Spacing.TheVariants.{Joint, Alone}
+use Rattle.token_core.specs.declared.tree.Spacing.TheVariants.{Joint}
 use Rattle.token_core.specs.Front.{front}
 use Rattle.token_core.specs.Lits.{is_number, lit_at, negative, past_number, sees_lit}
 use Rattle.token_core.specs.Loops.{size, Many, joined_from, listed}
 use Rattle.token_core.specs.Marks.{mark_name}
 use Rattle.token_core.specs.Reads as reads
-use Rattle.token_core.specs.Reads.{Outcome, Reader, and_then, any_text, as_lit, as_punct, as_word, expected, here, ident_name, is_done, is_end, is_joint, next_word, past, past_mark, past_next, pure, put_first, read_mark, read_word, refused, sees_mark, sees_word, three, word_if, word_meets, word_past}
+use Rattle.token_core.specs.Reads.{Outcome, Reader, and_then, any_text, as_lit, as_punct, as_word, expected, here, ident_name, is_done, is_end, is_joint}
+use Rattle.token_core.specs.Reads.{next_word, past, past_mark, past_next, put_first, read_mark, read_word, refused, sees_mark, sees_word, three, word_if, word_meets, word_past}
 use Rattle.token_core.specs.Clear.{Apart}
 use Rattle.token_core.specs.Rebuilt.{Visible}
 use Rattle.token_core.specs.Refusal.{Refusal, fixed}
@@ -37,7 +38,8 @@ use Rattle.syn_path.specs.path.Spelling as paths
 use Rattle.syn_path.specs.Took.{TookOne}
 use Rattle.syn_path.proofs.path_laws.Sound.{visible_path}
 use Rattle.syn_attr.specs.meta.Spelling as spelling
-use Rattle.syn_attr.specs.meta.Spelling.{IsSep, is_sep, IsLeading, no_leading, AreSegments, last_segment, more_segments, IsPropertyPath, a_property_path, BeginsLit, a_token, a_negative, NoFirst, nothing_left, a_literal, another, NoSep, NoWord, Breaks, NoPath, no_first, breaks_off, before, past_path}
+use Rattle.syn_attr.specs.meta.Spelling.{IsSep, is_sep, IsLeading, no_leading, AreSegments, last_segment, more_segments, IsPropertyPath, a_property_path, BeginsLit, a_token, a_negative}
+use Rattle.syn_attr.specs.meta.Spelling.{NoFirst, nothing_left, a_literal, another, NoSep, NoWord, Breaks, NoPath, no_first, breaks_off, before, past_path}
 
 pub no : {P : Type 0} → false ≡ true → P
 no h = cc h

@@ -15,7 +15,7 @@ use Rattle.token_core.specs.Lits.{is_number}
 use Rattle.token_core.specs.Reads.{Follows, WholeRead, advanced, expected, finished, forked, ident_name, inside, past, refused}
 use Rattle.token_core.specs.Refusal.{Refusal, fixed}
 use Rattle.token_core.specs.Stream.{Stream}
-use Rattle.token_core.specs.Toks.{Bytes, Toks, done, word, mark, lit, group}
+use Rattle.token_core.specs.Toks.{Toks, done, word, mark, lit, group}
 use Rattle.token_core.specs.Tokens as token
 use Rattle.token_core.specs.Trees.{punct}
 use Rattle.syn_path.specs.path.Paths.{Sep, ModPath, ModSegment, last_span, nothing, path_of, segment_of}
