@@ -152,7 +152,7 @@ parens_unspelt s e h =
     ]
 
 parens_refused : (s : Stream) → NoParentheses s.rest → opening s ≡ Err (expected paren_name s)
-parens_refused s n = elim (parens_ways s) [ | inl k ↦ absurd (n k.span k.content k.after k.is) | inr k ↦ k.1 ]
+parens_refused s n = elim (parens_ways s) [ inl k ↦ absurd (n k.span k.content k.after k.is) | inr k ↦ k.1 ]
 
 record ParensTo (s a : Stream) (c : Paren × Stream) : Type 0 where
   span : DelimSpan

@@ -50,7 +50,7 @@ segment_there : (b : Bool) (s : Stream) (i : Ident) (r : Toks) → front s.rest 
 unfolding bare_segment read_word next_word sees_word
 segment_there b s i r h =
     chosen (begins Nested s.rest) true _ _ s _ (ap (λ z. word_meets any_text (as_word z)) h)
-        (link _ (ap (λ z. word_if any_text (expected ident_name s) (word_past s (as_word z))) h) refl)
+    (link _ (ap (λ z. word_if any_text (expected ident_name s) (word_past s (as_word z))) h) refl)
 
 word_none : (l x : Toks) → front l ≡ x → NoWord l → as_word x ≡ None
 word_none l done h n = refl
@@ -315,7 +315,7 @@ segments_refused (suc n) l r f h e g sc less (spelling.past_word {i = i} {p = p}
     let a = word_size i l m w in
     let d = sep_size p m k c in
     link _ (segment_there false (at l f e sc) i m w) (chosen (goes_on Nested m) true _ _ (at m f i.span sc) _ (sep_there p m k c)
-        (link _ z.reads (stop _ (segments_refused n k r f h z.last g sc (omega (arith, less, a, d)) more))))
+    (link _ z.reads (stop _ (segments_refused n k r f h z.last g sc (omega (arith, less, a, d)) more))))
 
 -- ---- paths
 
@@ -348,7 +348,7 @@ path_refused s e (breaks_off {o = o} {i = i} {p = p} {l = l} {m = m} {n = k} {r 
     let a = word_size i l m w in
     let d = sep_size p m k c in
     link _ z.reads (stop _ (link _ (segment_there true (at l s.left z.last s.scope) i m w) (chosen (goes_on Nested m) true _ _ (at m s.left i.span s.scope) _ (sep_there p m k c)
-        (link _ y.reads (stop _ (segments_refused (size l) k r s.left s.left y.last s.last s.scope (omega (arith, a, d)) more))))))
+    (link _ y.reads (stop _ (segments_refused (size l) k r s.left s.left y.last s.last s.scope (omega (arith, a, d)) more))))))
 
 -- ---- a path begins, or none
 
@@ -514,8 +514,8 @@ module _ (clear : Bool) where
       let q = sep_plain p m k (subst Visible a h) c in
       let u : Visible k = subst Visible q.is (subst Visible a h) in
       subst (λ z. Plainly (segment_of nothing i ∷ xs) (p ∷ ps) z r) (sym (a ∙ ap (word i) q.is))
-          (subst (λ z. Plainly (segment_of nothing i ∷ xs) (z ∷ ps) (word i (mark (punct 58 Joint q.first) (mark (punct 58 q.spacing q.second) k))) r) q.mark_is
-          (paths.more_segments refl (sep_apart q.spacing k) (segments_plain xs ps k r u more)))
+      (subst (λ z. Plainly (segment_of nothing i ∷ xs) (z ∷ ps) (word i (mark (punct 58 Joint q.first) (mark (punct 58 q.spacing q.second) k))) r) q.mark_is
+      (paths.more_segments refl (sep_apart q.spacing k) (segments_plain xs ps k r u more)))
 
   leading_plain : (o : Option Sep) (l r : Toks) → Visible l → IsLeading o l r → paths.IsLeading clear o l r × Visible r
   leading_plain o l r h (no_leading n) = (paths.no_leading, h)
