@@ -8,4 +8,4 @@ pub returns-clause-promise : goal.returns-clause-promise
 returns-clause-promise g c = sounds (promises.group g.A.Attributes.reads g.E.Value.reads g.A.Attributes.spells g.E.Value.spells g.A.Attributes.normal g.E.Value.normal g.A.Attributes.shown g.E.Value.values) (group_sound (given g.met.A.Attributes.told g.met.E.Value.consts g.met.E.Value.lengths)) _ _ _ c.parse_group.ensures.parses.0
 
 pub returns-clause-front : goal.returns-clause-front
-returns-clause-front g c = takes (λ s t x v e. absurd (no_group (given g.met.A.Attributes.told g.met.E.Value.consts g.met.E.Value.lengths) s t x v e)) _ _ _ c.parse_group.ensures.parses.0
+returns-clause-front g c = takes {Is = λ x l r. ⊥} (λ s t x v e. absurd (no_group (given g.met.A.Attributes.told g.met.E.Value.consts g.met.E.Value.lengths) s t x v e)) _ _ _ c.parse_group.ensures.parses.0
