@@ -17,6 +17,7 @@ ghost use Rattle.syn_path.specs.path.Paths as spec;
 ghost use Rattle.syn_path.specs.path.Reading as reading;
 ghost use Rattle.syn_path.specs.path.Shapes as shapes;
 ghost use Rattle.syn_path.specs.path.Spelling.{IsModPath, is_mod_word};
+ghost use Rattle.syn_path.specs.Took.{Takes};
 
 use std::alloc::{AllocError, Global};
 use token_core::token::{
@@ -100,10 +101,17 @@ pub trait ReadArguments: Arguments {
     /// What a whole read of a segment with such arguments promises.
     ghost promise_segment: { Toks → Option (PathSegmentOf Self) → Type 0 };
 
+    /// By what a path with such arguments spells what its read took.
+    ghost spells_path: { PathOf Self → Toks → Toks → Type 0 };
+
+    /// By what a segment with such arguments spells what its read took.
+    ghost spells_segment: { PathSegmentOf Self → Toks → Toks → Type 0 };
+
     /// Reads a path.
     fn parse_path(alloc: Global, input: &mut ParseStream<'_>) -> Result<PathOf<Self>, Error>
         ensures parses { Parses reads_path result input.old input.new }
-        ensures promise { Keeps promise_path input.old result input.new };
+        ensures promise { Keeps promise_path input.old result input.new }
+        ensures front { Takes spells_path input.old result input.new };
 
     /// Reads a segment.
     fn parse_segment(
@@ -111,7 +119,8 @@ pub trait ReadArguments: Arguments {
         input: &mut ParseStream<'_>,
     ) -> Result<PathSegmentOf<Self>, Error>
         ensures parses { Parses reads_segment result input.old input.new }
-        ensures promise { Keeps promise_segment input.old result input.new };
+        ensures promise { Keeps promise_segment input.old result input.new }
+        ensures front { Takes spells_segment input.old result input.new };
 }
 
 /// The arguments of a segment that has none.
@@ -355,6 +364,7 @@ impl<A: ReadArguments> Parse for PathOf<A> {
         ensures reads { Reads (A.reads_path input.old) result input.new }
         ensures within { Follows input.old input.new }
         ensures promise { Keeps A.promise_path input.old result input.new }
+        ensures front { Takes A.spells_path input.old result input.new }
     {
         A::parse_path(alloc, input)
     }
@@ -372,6 +382,7 @@ impl<A: ReadArguments> Parse for PathSegmentOf<A> {
         ensures reads { Reads (A.reads_segment input.old) result input.new }
         ensures within { Follows input.old input.new }
         ensures promise { Keeps A.promise_segment input.old result input.new }
+        ensures front { Takes A.spells_segment input.old result input.new }
     {
         A::parse_segment(alloc, input)
     }

@@ -1033,6 +1033,10 @@ impl<A: Attributes, E: Value> ReadArguments for PathArgumentsOf<A, E> {
 
     ghost promise_segment = { Sounds (promises.segment A.reads E.reads A.spells E.spells A.normal E.normal A.shown E.values) };
 
+    ghost spells_path = { fronts.path A.spells E.spells };
+
+    ghost spells_segment = { fronts.segment A.spells E.spells };
+
     fn parse_path(
         alloc: Global,
         input: &mut ParseStream<'_>,
