@@ -10,6 +10,7 @@ ghost use Rattle.token_core.specs.Trees.{toks};
 ghost use Rattle.syn_path.specs.declared.supplied.Place.TheVariants.{Value};
 ghost use Rattle.syn_attr.specs.declared.attr.Meta.TheVariants as metas;
 ghost use Rattle.syn_path.specs.mac.Macros.{held};
+ghost use Rattle.syn_attr.specs.meta.Spelling as properties;
 ghost use Rattle.syn_attr.specs.meta.Turns as turns;
 ghost use Rattle.std.specs.Iterator.{YieldsFirstRef, item_count};
 ghost use Rattle.syn_attr.specs.attr.Kinds.{outer_of, inner_of};
@@ -253,8 +254,9 @@ impl MetaList {
         alloc: Global,
         logic: F,
     ) -> Result<(), Error>
-        requires { turns.Careful F.pre F.step }
-        ensures { turns.ReadsProperties F.step logic (held self.now.delimiter self.now.tokens) result }
+        requires { turns.Careful F.pre F.step logic }
+        ensures turns { turns.ReadsProperties F.step logic (held self.now.delimiter self.now.tokens) result }
+        ensures spelt { properties.ListsAll F.step logic (held self.now.delimiter self.now.tokens) result }
     {
         read_properties(alloc, logic, self.delimiter.span().close(), &self.tokens)
     }
@@ -321,9 +323,10 @@ impl<X: Drop> Attribute<X> {
         alloc: Global,
         logic: F,
     ) -> Result<(), Error>
-        requires closure { turns.Careful F.pre F.step }
+        requires closure { turns.Careful F.pre F.step logic }
         requires segment { 0 < length (requirements.path_in self.now.meta).segments.0 }
-        ensures { requirements.WithArguments (requirements.arguments self.now) (λ l. turns.ReadsProperties F.step logic (held l.delimiter l.tokens) result) result }
+        ensures turns { requirements.WithArguments (requirements.arguments self.now) (λ l. turns.ReadsProperties F.step logic (held l.delimiter l.tokens) result) result }
+        ensures spelt { requirements.WithArguments (requirements.arguments self.now) (λ l. properties.ListsAll F.step logic (held l.delimiter l.tokens) result) result }
     {
         match self.arguments(alloc) {
             Ok(list) => list.parse_nested_meta(alloc, logic),

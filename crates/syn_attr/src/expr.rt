@@ -8,6 +8,7 @@ ghost use Rattle.syn_attr.specs.attr.Normal.{attributes};
 ghost use Rattle.syn_attr.specs.attr.Consts.{normal_values_of, values_of, outer};
 ghost use Rattle.syn_attr.specs.attr.Reading as reading;
 ghost use Rattle.syn_attr.specs.attr.Spelling.{AreAll, IsOuter, IsConst, IsConstDefault};
+ghost use Rattle.syn_attr.specs.attr.Told.{attributes_told, consts_told};
 
 use crate::attr::Attribute;
 use crate::attr::print::print_outer;
@@ -30,6 +31,8 @@ impl<X: Subtree> Attributes for Attribute<X> {
     ghost spells = { λ clear. AreAll (IsOuter X.spells clear) };
 
     ghost bare = { bare_laws X.normal X.prints };
+
+    ghost told = { attributes_told X.reads X.spells X.sound };
 
     fn read_outer(
         alloc: Global,
@@ -57,6 +60,8 @@ impl<X: Subtree> Value for Expr<X> {
     ghost values = { values_of X.prints };
 
     ghost lengths = { length_laws X.reads X.spells X.normal X.prints X.steady X.sound X.complete X.reprint };
+
+    ghost consts = { consts_told X.reads X.spells X.sound };
 
     fn read_len(alloc: Global, input: &mut ParseStream<'_>) -> Result<Expr<X>, Error> {
         let len = X::read(alloc, Place::ArrayLen, input)?;

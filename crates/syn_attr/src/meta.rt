@@ -8,6 +8,7 @@ ghost use Rattle.token_core.specs.Trees.{toks};
 ghost use Rattle.token_core.specs.Reads.{Follows, Reads};
 ghost use Rattle.syn_path.specs.path.Paths.{first_span};
 ghost use Rattle.syn_attr.specs.meta.Lends.{lends_input, lends_value};
+ghost use Rattle.syn_attr.specs.meta.Spelling as spelling;
 ghost use Rattle.syn_attr.specs.meta.Turns as spec;
 
 use std::alloc::Global;
@@ -92,8 +93,9 @@ impl<'a> ParseNestedMeta<'a> {
         alloc: Global,
         logic: F,
     ) -> Result<(), Error>
-        requires { spec.Careful F.pre F.step }
+        requires { spec.Careful F.pre F.step logic }
         ensures turns { spec.Descends F.step logic self.old.input result self.new.input }
+        ensures spelt { spelling.Encloses F.step logic self.old.input result self.new.input }
         ensures within { Follows self.old.input self.new.input }
         ensures path { self.new.path ≡ self.old.path }
     {
@@ -112,8 +114,12 @@ pub struct NestedMetaParser<F> {
 
 /// The parser of properties separated by commas, of which there may be none: the closure is called at each, in order, up
 /// to the first error, and reads what follows the path.
-pub fn parser<F>(logic: F) -> NestedMetaParser<F>
-    ensures { result.logic ≡ logic }
+pub fn parser<F: FnMut(Global, &mut ParseNestedMeta<'_>) -> Result<(), Error>>(
+    logic: F,
+) -> NestedMetaParser<F>
+    requires { spec.Careful F.pre F.step logic }
+    ensures holds { result.logic ≡ logic }
+    ensures careful { spec.Careful F.pre F.step result.logic }
 {
     NestedMetaParser { logic }
 }
@@ -122,11 +128,11 @@ impl<F: FnMut(Global, &mut ParseNestedMeta<'_>) -> Result<(), Error>> Parser
     for NestedMetaParser<F> {
     type Output = ();
 
-    ghost can_parse = { λ _. spec.Careful F.pre F.step };
+    ghost can_parse = { λ p. spec.Careful F.pre F.step p.logic };
 
-    ghost reads = { λ p old a new. spec.Properties F.step p.logic old (Ok a) new };
+    ghost reads = { λ p old a new. spec.Properties F.step p.logic old (Ok a) new × spelling.MayList F.step p.logic old (Ok a) new };
 
-    ghost refuses = { λ p old e. (new : Stream) × spec.Properties F.step p.logic old (Err e) new };
+    ghost refuses = { λ p old e. (new : Stream) × spec.Properties F.step p.logic old (Err e) new × spelling.MayList F.step p.logic old (Err e) new };
 
     #[tactic(auto, using(token_core::specs::Reads::no_promise, token_core::proofs::Suffixes::follows))]
     fn parse(self, alloc: Global, input: &mut ParseStream<'_>) -> Result<(), Error> {
@@ -145,8 +151,9 @@ pub fn read_properties<F: FnMut(Global, &mut ParseNestedMeta<'_>) -> Result<(), 
     scope: Span,
     tokens: &TokenStream,
 ) -> Result<(), Error>
-    requires { spec.Careful F.pre F.step }
-    ensures { spec.ReadsProperties F.step logic (started scope (toks tokens.now)) result }
+    requires { spec.Careful F.pre F.step logic }
+    ensures turns { spec.ReadsProperties F.step logic (started scope (toks tokens.now)) result }
+    ensures spelt { spelling.ListsAll F.step logic (started scope (toks tokens.now)) result }
 {
     read_scoped(alloc, parser(logic), scope, tokens)
 }
@@ -159,7 +166,7 @@ pub fn parse_nested_meta<F: FnMut(Global, &mut ParseNestedMeta<'_>) -> Result<()
     input: &mut ParseStream<'_>,
     mut logic: F,
 ) -> Result<(), Error>
-    requires { spec.Careful F.pre F.step }
+    requires { spec.Careful F.pre F.step logic }
     ensures turns { spec.Turned F.step logic input.old result input.new }
     ensures within { Follows input.old input.new }
 {

@@ -1,3 +1,4 @@
+pub mod along_laws
 pub mod groups_laws
 pub mod inputs_laws
 pub mod lists_laws

@@ -1,2 +1,1 @@
 pub mod Complete
-pub mod Sound

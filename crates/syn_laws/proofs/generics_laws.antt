@@ -3,4 +3,3 @@ pub mod Listed
 pub mod Normal
 pub mod Reprint
 pub mod SamePrint
-pub mod Sound

@@ -10,8 +10,11 @@ ghost use Rattle.syn_path.specs.path.Reading as reading;
 ghost use Rattle.syn_forms.specs.declared.places.TypePlace.TheVariants.{NoPlus};
 ghost use Rattle.syn_pat.specs.declared.place.PatPlace.TheVariants.{LeadingVert, Multi, Single};
 ghost use Rattle.syn_pat.specs.pat.Knot as pats;
+ghost use Rattle.syn_pat.specs.pat.Promises as pat_promises;
+ghost use Rattle.syn_path.specs.Took.{Sounds};
 ghost use Rattle.syn_ty.specs.ty.Reading as types;
 ghost use Rattle.syn_ty.specs.ty.Knot as knot;
+ghost use Rattle.syn_ty.specs.ty.Promises as promises;
 ghost use Rattle.syn_ty.specs.generics.Alone as alone;
 
 use std::alloc::Global;
@@ -150,6 +153,8 @@ impl<A: Attributes, E: Value> Parser for WithoutPlusOf<A, E> {
 
     ghost refuses = { λ _. Fails (knot.ty A.reads E.reads NoPlus) };
 
+    ghost promise = { λ _. Sounds (promises.ty A.reads E.reads A.spells E.spells A.normal E.normal A.shown E.values NoPlus) };
+
     fn parse(self, alloc: Global, input: &mut ParseStream<'_>) -> Result<TypeOf<A, E>, Error> {
         TypeOf::without_plus(alloc, input)
     }
@@ -180,6 +185,8 @@ impl<A: Attributes, E: Value> Parser for ReturnWithoutPlusOf<A, E> {
     ghost reads = { λ _. Gives (knot.return_type A.reads E.reads NoPlus) };
 
     ghost refuses = { λ _. Fails (knot.return_type A.reads E.reads NoPlus) };
+
+    ghost promise = { λ _. Sounds (promises.return_type A.reads E.reads A.spells E.spells A.normal E.normal A.shown E.values NoPlus) };
 
     fn parse(
         self,
@@ -216,6 +223,8 @@ impl<A: Attributes, E: Value> Parser for ObjectWithoutPlusOf<A, E> {
 
     ghost refuses = { λ _. Fails (knot.trait_object A.reads E.reads false) };
 
+    ghost promise = { λ _. Sounds (promises.trait_object A.reads E.reads A.spells E.spells A.normal E.normal A.shown E.values NoPlus) };
+
     fn parse(
         self,
         alloc: Global,
@@ -250,6 +259,8 @@ impl<A: Attributes, E: Value> Parser for ImplWithoutPlusOf<A, E> {
     ghost reads = { λ _. Gives (knot.impl_trait A.reads E.reads false) };
 
     ghost refuses = { λ _. Fails (knot.impl_trait A.reads E.reads false) };
+
+    ghost promise = { λ _. Sounds (promises.impl_trait A.reads E.reads A.spells E.spells A.normal E.normal A.shown E.values NoPlus) };
 
     fn parse(
         self,
@@ -286,6 +297,8 @@ impl<A: Attributes, E: Value> Parser for ParseTurbofishOf<A, E> {
 
     ghost refuses = { λ _. Fails (knot.turbofish A.reads E.reads) };
 
+    ghost promise = { λ _. Sounds (promises.turbofish A.reads E.reads A.spells E.spells A.normal E.normal A.shown E.values) };
+
     fn parse(
         self,
         alloc: Global,
@@ -320,6 +333,8 @@ impl<A: Attributes, E: Value> Parser for ParseOptionalLifetimesOf<A, E> {
     ghost reads = { λ _. Gives (knot.optional_binder A.reads E.reads) };
 
     ghost refuses = { λ _. Fails (knot.optional_binder A.reads E.reads) };
+
+    ghost promise = { λ _. Sounds (promises.optional_binder A.reads E.reads A.spells E.spells A.normal E.normal A.shown E.values) };
 
     fn parse(
         self,
@@ -356,6 +371,8 @@ impl<A: Attributes, E: Value> Parser for ParseOptionalWhereOf<A, E> {
 
     ghost refuses = { λ _. Fails (alone.optional_where_clause A.reads E.reads) };
 
+    ghost promise = { λ _. Sounds (promises.optional_where_clause A.reads E.reads A.spells E.spells A.normal E.normal A.shown E.values) };
+
     fn parse(
         self,
         alloc: Global,
@@ -386,6 +403,8 @@ impl Parser for ParseOptionalAbi {
 
     ghost refuses = { λ _. Fails types.optional_abi };
 
+    ghost promise = { λ _. Sounds promises.optional_abi };
+
     fn parse(self, alloc: Global, input: &mut ParseStream<'_>) -> Result<Option<Abi>, Error> {
         Abi::parse_optional(alloc, input)
     }
@@ -413,6 +432,8 @@ impl<X: Subtree> Parser for ParseSingle<X> {
     ghost reads = { λ _. Gives (pats.pat X.reads Single) };
 
     ghost refuses = { λ _. Fails (pats.pat X.reads Single) };
+
+    ghost promise = { λ _. Sounds (pat_promises.pat X.reads X.spells X.normal X.prints Single) };
 
     fn parse(self, alloc: Global, input: &mut ParseStream<'_>) -> Result<Pat<X>, Error> {
         Pat::parse_single(alloc, input)
@@ -442,6 +463,8 @@ impl<X: Subtree> Parser for ParseMulti<X> {
 
     ghost refuses = { λ _. Fails (pats.pat X.reads Multi) };
 
+    ghost promise = { λ _. Sounds (pat_promises.pat X.reads X.spells X.normal X.prints Multi) };
+
     fn parse(self, alloc: Global, input: &mut ParseStream<'_>) -> Result<Pat<X>, Error> {
         Pat::parse_multi(alloc, input)
     }
@@ -470,6 +493,8 @@ impl<X: Subtree> Parser for ParseMultiWithLeadingVert<X> {
 
     ghost refuses = { λ _. Fails (pats.pat X.reads LeadingVert) };
 
+    ghost promise = { λ _. Sounds (pat_promises.pat X.reads X.spells X.normal X.prints LeadingVert) };
+
     fn parse(self, alloc: Global, input: &mut ParseStream<'_>) -> Result<Pat<X>, Error> {
         Pat::parse_multi_with_leading_vert(alloc, input)
     }
@@ -497,6 +522,8 @@ impl<X: Subtree> Parser for ParseMultiWithLeadingVertAndGuard<X> {
     ghost reads = { λ _. Gives (pats.guarded X.reads) };
 
     ghost refuses = { λ _. Fails (pats.guarded X.reads) };
+
+    ghost promise = { λ _. Sounds (pat_promises.guarded X.reads X.spells X.normal X.prints) };
 
     fn parse(self, alloc: Global, input: &mut ParseStream<'_>) -> Result<Pat<X>, Error> {
         Pat::parse_multi_with_leading_vert_and_guard(alloc, input)

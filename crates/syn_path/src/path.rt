@@ -1,13 +1,14 @@
 //! Paths.
 
-ghost use Rattle.std.specs.Prelude.{◌≡◌, refl, [], ◌∷◌, ◌++◌, ◌<◌, length, Bool, false, true, option_map, IfOk, IfErr, OnOk, OnErr};
+ghost use Rattle.std.specs.Prelude.{◌≡◌, refl, [], ◌∷◌, ◌++◌, ◌<◌, length, Bool, false, true, Option, option_map, IfOk, IfErr, OnOk, OnErr};
 ghost use Rattle.token_core.specs.Rebuilt.{Visible};
 ghost use Rattle.token_core.specs.Refusal.{Made};
 ghost use Rattle.token_core.specs.Joined.{values_of, marks_of};
 ghost use Rattle.token_core.specs.Spans.{none};
 ghost use Rattle.token_core.specs.Trees.{trees};
 ghost use Rattle.token_core.specs.Prints.{Print, Extends, Appends};
-ghost use Rattle.token_core.specs.Reads.{Reader, Reads, Follows, Gives, Fails, sees_word, Parses};
+ghost use Rattle.token_core.specs.Toks.{Toks};
+ghost use Rattle.token_core.specs.Reads.{Fails, Follows, Gives, Keeps, Parses, Reader, Reads, sees_word};
 ghost use Rattle.token_core.specs.Headline.{Heads};
 ghost use Rattle.syn_path.specs.declared.path.PathOf.{PathOf};
 ghost use Rattle.syn_path.specs.declared.path.PathSegmentOf.{PathSegmentOf};
@@ -16,6 +17,7 @@ ghost use Rattle.syn_path.specs.path.Paths as spec;
 ghost use Rattle.syn_path.specs.path.Reading as reading;
 ghost use Rattle.syn_path.specs.path.Shapes as shapes;
 ghost use Rattle.syn_path.specs.path.Spelling.{IsModPath, is_mod_word};
+ghost use Rattle.syn_path.specs.Took.{Takes};
 
 use std::alloc::{AllocError, Global};
 use token_core::token::{
@@ -93,16 +95,32 @@ pub trait ReadArguments: Arguments {
     /// The read of a segment with such arguments, a function of the stream.
     ghost reads_segment: { Reader (PathSegmentOf Self) };
 
+    /// What a whole read of a path with such arguments promises.
+    ghost promise_path: { Toks → Option (PathOf Self) → Type 0 };
+
+    /// What a whole read of a segment with such arguments promises.
+    ghost promise_segment: { Toks → Option (PathSegmentOf Self) → Type 0 };
+
+    /// By what a path with such arguments spells what its read took.
+    ghost spells_path: { PathOf Self → Toks → Toks → Type 0 };
+
+    /// By what a segment with such arguments spells what its read took.
+    ghost spells_segment: { PathSegmentOf Self → Toks → Toks → Type 0 };
+
     /// Reads a path.
     fn parse_path(alloc: Global, input: &mut ParseStream<'_>) -> Result<PathOf<Self>, Error>
-        ensures parses { Parses reads_path result input.old input.new };
+        ensures parses { Parses reads_path result input.old input.new }
+        ensures promise { Keeps promise_path input.old result input.new }
+        ensures front { Takes spells_path input.old result input.new };
 
     /// Reads a segment.
     fn parse_segment(
         alloc: Global,
         input: &mut ParseStream<'_>,
     ) -> Result<PathSegmentOf<Self>, Error>
-        ensures parses { Parses reads_segment result input.old input.new };
+        ensures parses { Parses reads_segment result input.old input.new }
+        ensures promise { Keeps promise_segment input.old result input.new }
+        ensures front { Takes spells_segment input.old result input.new };
 }
 
 /// The arguments of a segment that has none.
@@ -340,10 +358,13 @@ impl<A: ReadArguments> Parse for PathOf<A> {
 
     ghost refuses = { Fails A.reads_path };
 
-    #[tactic(auto, using(token_core::specs::Reads::no_promise))]
+    ghost promise = { A.promise_path };
+
     fn parse(alloc: Global, input: &mut ParseStream<'_>) -> Result<PathOf<A>, Error>
         ensures reads { Reads (A.reads_path input.old) result input.new }
         ensures within { Follows input.old input.new }
+        ensures promise { Keeps A.promise_path input.old result input.new }
+        ensures front { Takes A.spells_path input.old result input.new }
     {
         A::parse_path(alloc, input)
     }
@@ -355,10 +376,13 @@ impl<A: ReadArguments> Parse for PathSegmentOf<A> {
 
     ghost refuses = { Fails A.reads_segment };
 
-    #[tactic(auto, using(token_core::specs::Reads::no_promise))]
+    ghost promise = { A.promise_segment };
+
     fn parse(alloc: Global, input: &mut ParseStream<'_>) -> Result<PathSegmentOf<A>, Error>
         ensures reads { Reads (A.reads_segment input.old) result input.new }
         ensures within { Follows input.old input.new }
+        ensures promise { Keeps A.promise_segment input.old result input.new }
+        ensures front { Takes A.spells_segment input.old result input.new }
     {
         A::parse_segment(alloc, input)
     }

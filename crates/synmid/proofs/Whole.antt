@@ -1,13 +1,20 @@
 -- What a whole read prints, by its category.
-use Rattle.std.proofs.Common.{◌≡◌, ◌≢◌, Option, Some, None, Result, Ok, Err, ap, sym, ◌∙◌, inl, inr}
+use Rattle.std.proofs.Common.{◌≡◌, ◌≢◌, false, Option, Some, None, Result, Ok, Err, refl, ap, sym, ◌∙◌, inl, inr}
 use Rattle.token_core.specs.declared.tree.TokenStream.{TokenStream}
 use Rattle.token_core.specs.Toks.{Toks}
 use Rattle.token_core.specs.Refusal.{Refusal}
 use Rattle.token_core.specs.Spans.{none}
 use Rattle.token_core.specs.Stream.{Stream, started}
 use Rattle.token_core.specs.declared.error.ErrorKind.TheVariants.{OutOfMemory}
-use Rattle.token_core.specs.Reads.{Reader, Ends, Refuses, WholeRead, Parsed, Gives, Fails}
-use Rattle.token_core.specs.Headline.{whole, end_of, ended}
+use Rattle.token_core.specs.declared.span.Span.{Span}
+use Rattle.token_core.specs.Reads.{Reader, Outcome, Ends, Refuses, WholeRead, Parsed, Gives, Fails, leaves}
+use Rattle.token_core.specs.Headline.{Grammar, whole, end_of, ended}
+use Rattle.syn_path.specs.Supplied.{SameOutcome, UsesUp, Reprints as Reprinted}
+use Rattle.syn_path.specs.Took.{Sounds}
+use Rattle.syn_ty.proofs.ty_laws.WholeTold.{Whole}
+use Rattle.syn_pat.specs.declared.place.PatPlace.TheVariants as pat
+use Rattle.syn_pat.specs.pat.Promises as promises
+use Rattle.syn_pat.proofs.pat_laws.WholeTold.{pat_sound, guarded_sound, typed_sound}
 use Rattle.syn_path.specs.declared.supplied.Place.{Place}
 use Rattle.token_core.specs.Prints.{Print}
 use Rattle.synmid.specs.declared.reader.PatternReader.{PatternReader}
@@ -29,18 +36,49 @@ shows-refused : {A : Type 0} (C : Category A) (l : Toks) (e : Refusal) → Refus
 shows-refused C l e (inl h) = ap end_of h
 shows-refused C l e (inr (o, at, h, q)) = ap end_of h.read.1 ∙ ap (ended h.read.0 h.last) h.is ∙ ap Err (sym q)
 
--- what a whole read shows, by a category that keeps its promise whatever is answered
-pub shows-reprints : {A : Type 0} (C : Category A) (l : Toks) (keeps : (o : Option A) → C.promise l o) (r : Result TokenStream Refusal) → WholeRead (Shows C) (Fails C.reader) (started none l) r → Reprints C l r
-shows-reprints C l keeps (Ok s) h = (h.read.0, ap end_of h.read.1 ∙ ap (ended h.read.0 h.last) h.is, keeps (Some h.read.0), h.read.2)
-shows-reprints C l keeps (Err e) h = λ k. (shows-refused C l e (h k), keeps None)
+same_answer : {A : Type 0} (a b : A) → ◌≡◌ {A = Result A Refusal} (Ok a) (Ok b) → a ≡ b
+same_answer a b e = cc
 
--- patterns are promised nothing
-pub pattern-keeps : {X : Type 0} (supplied : Place → Reader X) (prints : Place → X → Print) (q : PatternReader) (l : Toks) (o : Option (PatternsTree X q)) → (patterns_category supplied prints q).promise l o
-pattern-keeps f p Single l o = tt
-pattern-keeps f p Multi l o = tt
-pattern-keeps f p LeadingVert l o = tt
-pattern-keeps f p Guarded l o = tt
-pattern-keeps f p Typed l o = tt
+-- a whole read answers where the read does and leaves nothing over
+read_whole : {A : Type 0} (f : Reader A) (s : Stream) (o : Outcome A) (a : A) → f s ≡ o → end_of o ≡ Ok a → (t : Stream) × (f s ≡ Ok (a, t)) × (leaves t ≡ None)
+read_whole {A = A} f s (Err e) a h k = cc k
+read_whole {A = A} f s (Ok (b, t)) a h k = at (leaves t) refl k
+  where
+    at : (x : Option Span) → leaves t ≡ x → ended b t x ≡ Ok a → (u : Stream) × (f s ≡ Ok (a, u)) × (leaves u ≡ None)
+    at None n e = (t, h ∙ ap (λ (z : A). Ok (z, t)) (same_answer b a e), n)
+    at (Some z) n e = cc e
+
+-- a sound read promises what soundness says
+pub sound-keeps : {A : Type 0} (G : Grammar A) → Whole G.reader (G.spells false) → (l : Toks) (a : A) → whole G.reader l ≡ Ok a → Sounds G l (Some a)
+sound-keeps G h l a e = λ v. let k = read_whole G.reader (started none l) (G.reader (started none l)) a refl e in h (started none l) k.0 a refl v k.1 k.2
+
+-- what a whole read shows, by a category that keeps its promise of each answer, and promises nothing of a refusal
+pub shows-reprints : {A : Type 0} (C : Category A) (l : Toks) (keeps : (a : A) → whole C.reader l ≡ Ok a → C.promise l (Some a)) (refuses : C.promise l None) (r : Result TokenStream Refusal) →
+    WholeRead (Shows C) (Fails C.reader) (started none l) r → Reprints C l r
+shows-reprints C l keeps refuses (Ok s) h =
+    let e = ap end_of h.read.1 ∙ ap (ended h.read.0 h.last) h.is in
+    (h.read.0, e, keeps h.read.0 e, h.read.2)
+shows-reprints C l keeps refuses (Err e) h = λ k. (shows-refused C l e (h k), refuses)
+
+-- patterns are promised what soundness says
+module _ {X : Type 0} (reads : Place → Reader X) (spells : Place → X → Toks → Type 0) (normals : Place → X → X) (prints : Place → X → Print)
+    (steady : (p : Place) (s t : Stream) → s.rest ≡ t.rest → SameOutcome (reads p s) (reads p t))
+    (sound : (p : Place) (s t : Stream) (x : X) → reads p s ≡ Ok (x, t) → leaves t ≡ None → spells p x s.rest)
+    (complete : (p : Place) (s : Stream) (x : X) → spells p x s.rest → (t : Stream) × (reads p s ≡ Ok (x, t)) × UsesUp s t)
+    (reprint : (p : Place) (x : X) (l : Toks) → spells p x l → Reprinted (spells p) (normals p) (prints p) x l) where
+  pub pattern-keeps : (q : PatternReader) (l : Toks) (a : PatternsTree X q) → whole (patterns_category reads spells normals prints q).reader l ≡ Ok a → (patterns_category reads spells normals prints q).promise l (Some a)
+  pattern-keeps Single = sound-keeps (promises.pat reads spells normals prints pat.Single) (pat_sound reads spells normals prints steady sound complete reprint pat.Single)
+  pattern-keeps Multi = sound-keeps (promises.pat reads spells normals prints pat.Multi) (pat_sound reads spells normals prints steady sound complete reprint pat.Multi)
+  pattern-keeps LeadingVert = sound-keeps (promises.pat reads spells normals prints pat.LeadingVert) (pat_sound reads spells normals prints steady sound complete reprint pat.LeadingVert)
+  pattern-keeps Guarded = sound-keeps (promises.guarded reads spells normals prints) (guarded_sound reads spells normals prints steady sound complete reprint)
+  pattern-keeps Typed = sound-keeps (promises.typed reads spells normals prints) (typed_sound reads spells normals prints steady sound complete reprint)
+
+  pub pattern-refuses : (q : PatternReader) (l : Toks) → (patterns_category reads spells normals prints q).promise l None
+  pattern-refuses Single l = tt
+  pattern-refuses Multi l = tt
+  pattern-refuses LeadingVert l = tt
+  pattern-refuses Guarded l = tt
+  pattern-refuses Typed l = tt
 
 -- a refusal of the read is one of what shows it
 pub shows-err : {A : Type 0} (C : Category A) (s t : Stream) (e : Refusal) (r : Result TokenStream Refusal) → r ≡ Err e → (e.kind ≢ OutOfMemory → C.reader s ≡ Err e) → Parsed (Shows C s) (Fails C.reader s) r t

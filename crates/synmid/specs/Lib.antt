@@ -1,4 +1,5 @@
-pub mod sample
+pub mod Faults
 pub mod Readers
 pub mod Run
-pub mod Faults
+pub mod Within
+pub mod sample

@@ -1,5 +1,5 @@
 -- The readers that a run knows by name.
-use Rattle.std.specs.Prelude.{◌≡◌, ◌≢◌, true, false, if◌then◌else◌, List, [], Option, Some, None, option_map, Result, Ok, Err, codes}
+use Rattle.std.specs.Prelude.{◌≡◌, ◌≢◌, Bool, true, false, if◌then◌else◌, List, [], Option, Some, None, option_map, Result, Ok, Err, codes}
 use Rattle.std.specs.Str.{bytes_eq}
 use Rattle.token_core.specs.declared.error.ErrorKind.TheVariants.{OutOfMemory}
 use Rattle.token_core.specs.declared.tree.TokenStream.{TokenStream}
@@ -16,6 +16,7 @@ use Rattle.syn_pat.specs.declared.place.PatPlace.TheVariants.{LeadingVert, Multi
 use Rattle.syn_pat.specs.pat.Knot as pat_knot
 use Rattle.syn_pat.specs.pat.Pats as pats
 use Rattle.syn_pat.specs.pat.Printing as pat_printing
+use Rattle.syn_pat.specs.pat.Promises as pat_promises
 use Rattle.syn_path.specs.declared.mac.Macro as mac
 use Rattle.syn_path.specs.declared.supplied.Place.{Place}
 use Rattle.syn_attr.specs.declared.attr.Meta as meta
@@ -27,6 +28,7 @@ use Rattle.syn_ty.specs.ty.Grammars as types
 use Rattle.syn_ty.specs.ty.Trees as ty
 use Rattle.syn_ty.specs.ty.Knot as knot
 use Rattle.syn_ty.specs.ty.Printing as printing
+use Rattle.syn_ty.specs.ty.Promises as promises
 use Rattle.syn_ty.specs.ty.Reading as reading
 use Rattle.syn_ty.specs.generics.Alone as alone
 use Rattle.syn_ty.specs.generics.Printing as generics_printing
@@ -52,13 +54,15 @@ use Rattle.syn_attr.specs.attr.Grammars as attrs
 use Rattle.syn_attr.specs.attr.Printing as attr_printing
 use Rattle.syn_attr.specs.attr.Reading as attr_reading
 use Rattle.syn_attr.specs.attr.Normal as normal
-use Rattle.syn_attr.specs.attr.Lengths.{lens}
+use Rattle.syn_attr.specs.attr.Lengths.{lens, spells_len}
+use Rattle.syn_attr.specs.attr.Spelling.{AreAll, IsConst, IsConstDefault, IsOuter}
 use Rattle.syn_attr.specs.declared.expr.Expr.{Expr}
 use Rattle.syn_ty.specs.declared.ty.TypeInferOf as infer
 use Rattle.syn_ty.specs.declared.ty.TypeMacroOf as macro
 use Rattle.syn_ty.specs.declared.ty.TypeNeverOf as never
-use Rattle.syn_path.specs.Values.{ReadValues, Values}
-use Rattle.syn_attr.specs.attr.Consts.{values_of, outer}
+use Rattle.syn_path.specs.Took.{Sounds}
+use Rattle.syn_path.specs.Values.{NormalValues, ReadValues, SpelledValues, Values}
+use Rattle.syn_attr.specs.attr.Consts.{normal_values_of, values_of, outer}
 use Rattle.syn_path.specs.mac.Grammars as macs
 use Rattle.syn_path.specs.path.Grammars as paths
 use Rattle.syn_ty.specs.path.Paths as path
@@ -173,8 +177,8 @@ named name =
     else (if bytes_eq name (codes "PointerMutability") then Some PointerMutability
     else of_types name)))))))
 
--- What a run says of a reader: what it reads, what its trees print, and what a whole read promises. Some readers have a grammar: it tells which tree a list
--- spells clearly, and by the promise that tree is the answer, or none is where the list is refused.
+-- What a run says of a reader: what it reads, what its trees print, and what a whole read promises. Of a complete reader it tells which tree a list spells
+-- clearly: by the promise that tree is the answer, and there is none where the list is refused. Of the others it calls no spelling clear.
 pub record Category (A : Type 0) : Type 1 where
   pub reader : R A
   pub print : A → Print
@@ -183,13 +187,9 @@ pub record Category (A : Type 0) : Type 1 where
   pub refused : (l : Toks) (a : A) → promise l None → Visible l → clear a l → ⊥
   pub unique : (l : Toks) (a b : A) → promise l (Some b) → Visible l → clear a l → a ≡ b
 
--- by its grammar
+-- with the whole promise
 abbrev pub of_grammar : {A : Type 0} → Grammar A → Category A
 of_grammar G = record { reader = G.reader; print = G.print; promise = Headline G; clear = G.spells true; refused = λ l a h v c. h v a c; unique = λ l a b h v c. (h v).unique a c }
-
--- without a grammar: nothing is promised, and nothing is called clear
-abbrev pub of_reader : {A : Type 0} → R A → (A → Print) → Category A
-of_reader f p = record { reader = f; print = p; promise = λ l a. Unit {0}; clear = λ a l. ⊥; refused = λ l a h v c. c; unique = λ l a b h v c. absurd c }
 
 -- what the arguments of a path print
 abbrev pub shown : {A E : Type 0} → (List A → Print) → Values E → ty.PathArguments A E → Print
@@ -262,66 +262,73 @@ PatternsTree X q.LeadingVert = pats.Pat X
 PatternsTree X q.Guarded = pats.Pat X
 PatternsTree X q.Typed = pats.PatType X
 
-module _ {A E : Type 0} (attrs : R (List A)) (values : ReadValues E) (na : List A → List A) (pa : List A → Print) (pe : Values E) where
+-- what soundness promises, and the view of a tree as its print
+abbrev pub of_sound : {A : Type 0} → Grammar A → Category A
+of_sound G = record { reader = G.reader; print = G.print; promise = Sounds G; clear = λ a l. ⊥; refused = λ l a h v c. c; unique = λ l a b h v c. absurd c }
+
+abbrev pub of_view : {A : Type 0} → Grammar A → (A → Print) → Category A
+of_view G print = record { reader = G.reader; print = print; promise = Sounds G; clear = λ a l. ⊥; refused = λ l a h v c. c; unique = λ l a b h v c. absurd c }
+
+module _ {A E : Type 0} (attrs : R (List A)) (values : ReadValues E) (sa : Bool → List A → Toks → Toks → Type 0) (se : SpelledValues E) (na : List A → List A) (ne : NormalValues E) (pa : List A → Print) (pe : Values E) where
   abbrev pub types_category : (r : TypeReader) → Category (TypesTree A E r)
-  types_category t.Any = of_reader (knot.ty attrs values Plus) (printing.ty pa pe)
-  types_category t.WithoutPlus = of_reader (knot.ty attrs values NoPlus) (printing.ty pa pe)
-  types_category t.Array = of_reader (knot.array attrs values) (printing.array pa pe)
-  types_category t.FnPtr = of_reader (knot.fn_ptr attrs values) (printing.fn_ptr pa pe)
-  types_category t.Group = of_reader (knot.group attrs values) (printing.group pa pe)
-  types_category t.ImplTrait = of_reader (knot.impl_trait attrs values true) (printing.impl_trait pa pe)
-  types_category t.ImplWithoutPlus = of_reader (knot.impl_trait attrs values false) (printing.impl_trait pa pe)
+  types_category t.Any = of_sound (promises.ty attrs values sa se na ne pa pe Plus)
+  types_category t.WithoutPlus = of_sound (promises.ty attrs values sa se na ne pa pe NoPlus)
+  types_category t.Array = of_sound (promises.array attrs values sa se na ne pa pe)
+  types_category t.FnPtr = of_sound (promises.fn_ptr attrs values sa se na ne pa pe)
+  types_category t.Group = of_sound (promises.group attrs values sa se na ne pa pe)
+  types_category t.ImplTrait = of_sound (promises.impl_trait attrs values sa se na ne pa pe Plus)
+  types_category t.ImplWithoutPlus = of_sound (promises.impl_trait attrs values sa se na ne pa pe NoPlus)
   types_category t.Infer = of_grammar (types.infer na)
   types_category t.Macro = of_grammar (types.macro_type na)
   types_category t.Never = of_grammar (types.never na)
-  types_category t.Paren = of_reader (knot.paren attrs values) (printing.paren pa pe)
-  types_category t.Path = of_reader (knot.path_type attrs values) (printing.path_type pa pe)
-  types_category t.Ptr = of_reader (knot.ptr attrs values) (printing.ptr pa pe)
-  types_category t.Reference = of_reader (knot.reference attrs values) (printing.reference pa pe)
-  types_category t.Slice = of_reader (knot.slice attrs values) (printing.slice pa pe)
-  types_category t.TraitObject = of_reader (knot.trait_object attrs values true) (printing.trait_object pa pe)
-  types_category t.ObjectWithoutPlus = of_reader (knot.trait_object attrs values false) (printing.trait_object pa pe)
-  types_category t.Tuple = of_reader (knot.tuple attrs values) (printing.tuple pa pe)
-  types_category t.Return = of_reader (knot.return_type attrs values Plus) (printing.return_type pa pe)
-  types_category t.ReturnWithoutPlus = of_reader (knot.return_type attrs values NoPlus) (printing.return_type pa pe)
-  types_category t.NamedArg = of_reader (knot.named_arg attrs values) (printing.named_arg pa pe)
-  types_category t.Abi = of_reader (reading.abi) printing.abi
-  types_category t.OptionalAbi = of_reader (reading.optional_abi) (optional printing.abi)
+  types_category t.Paren = of_sound (promises.paren attrs values sa se na ne pa pe)
+  types_category t.Path = of_sound (promises.path_type attrs values sa se na ne pa pe)
+  types_category t.Ptr = of_sound (promises.ptr attrs values sa se na ne pa pe)
+  types_category t.Reference = of_sound (promises.reference attrs values sa se na ne pa pe)
+  types_category t.Slice = of_sound (promises.slice attrs values sa se na ne pa pe)
+  types_category t.TraitObject = of_sound (promises.trait_object attrs values sa se na ne pa pe Plus)
+  types_category t.ObjectWithoutPlus = of_sound (promises.trait_object attrs values sa se na ne pa pe NoPlus)
+  types_category t.Tuple = of_sound (promises.tuple attrs values sa se na ne pa pe)
+  types_category t.Return = of_sound (promises.return_type attrs values sa se na ne pa pe Plus)
+  types_category t.ReturnWithoutPlus = of_sound (promises.return_type attrs values sa se na ne pa pe NoPlus)
+  types_category t.NamedArg = of_sound (promises.named_arg attrs values sa se na ne pa pe)
+  types_category t.Abi = of_sound promises.abi
+  types_category t.OptionalAbi = of_sound promises.optional_abi
 
   abbrev pub paths_category : (r : PathReader) → Category (PathsTree A E r)
-  paths_category p.Whole = of_reader (knot.path attrs values AsWritten) (path_by (shown pa pe))
-  paths_category p.Segment = of_reader (knot.segment attrs values) (segment_by (shown pa pe))
-  paths_category p.Argument = of_reader (knot.argument attrs values) (printing.argument pa pe)
-  paths_category p.AngleBracketed = of_reader (knot.angle_bracketed attrs values) (printing.angle pa pe as_written)
-  paths_category p.ParseTurbofish = of_reader (knot.turbofish attrs values) (printing.angle pa pe as_written)
-  paths_category p.Parenthesized = of_reader (knot.parenthesized attrs values) (printing.parenthesized pa pe)
+  paths_category p.Whole = of_sound (promises.path attrs values sa se na ne pa pe)
+  paths_category p.Segment = of_sound (promises.segment attrs values sa se na ne pa pe)
+  paths_category p.Argument = of_sound (promises.argument attrs values sa se na ne pa pe)
+  paths_category p.AngleBracketed = of_sound (promises.angle attrs values sa se na ne pa pe)
+  paths_category p.ParseTurbofish = of_sound (promises.turbofish attrs values sa se na ne pa pe)
+  paths_category p.Parenthesized = of_sound (promises.parenthesized attrs values sa se na ne pa pe)
 
   abbrev pub generics_category : (r : GenericsReader) → Category (GenericsTree A E r)
-  generics_category g.Param = of_reader (knot.param attrs values Binder) (printing.param pa pe)
-  generics_category g.LifetimeParam = of_reader (generics.lifetime_param attrs) (lifetime_param_by pa)
-  generics_category g.TypeParam = of_reader (knot.type_param attrs values) (printing.type_param pa pe)
-  generics_category g.ConstParam = of_reader (knot.const_param attrs values) (printing.const_param pa pe)
-  generics_category g.BoundLifetimes = of_reader (knot.binder attrs values) (printing.bound_lifetimes pa pe)
-  generics_category g.OptionalBoundLifetimes = of_reader (knot.optional_binder attrs values) (optional (printing.bound_lifetimes pa pe))
-  generics_category g.Bound = of_reader (knot.bound attrs values Opaque) (printing.bound pa pe)
-  generics_category g.TraitBound = of_reader (knot.trait_bound attrs values) (printing.trait_bound pa pe)
-  generics_category g.Capture = of_reader (generics.capture) shapes.capture
-  generics_category g.Captured = of_reader (generics.captured) shapes.captured
-  generics_category g.Declared = of_reader (alone.generics attrs values) (generics_printing.generics pa pe)
-  generics_category g.ImplGenerics = of_reader (alone.generics attrs values) (impl_generics pa pe)
-  generics_category g.TypeGenerics = of_reader (alone.generics attrs values) views.names
-  generics_category g.Turbofish = of_reader (alone.generics attrs values) views.turbofish
-  generics_category g.WhereClause = of_reader (alone.where_clause attrs values) (generics_printing.where_clause pa pe)
-  generics_category g.OptionalWhereClause = of_reader (alone.optional_where_clause attrs values) (optional (generics_printing.where_clause pa pe))
-  generics_category g.Predicate = of_reader (alone.predicate attrs values) (generics_printing.predicate pa pe)
+  generics_category g.Param = of_sound (promises.param attrs values sa se na ne pa pe)
+  generics_category g.LifetimeParam = of_sound (promises.lifetime_param attrs sa na pa)
+  generics_category g.TypeParam = of_sound (promises.type_param attrs values sa se na ne pa pe)
+  generics_category g.ConstParam = of_sound (promises.const_param attrs values sa se na ne pa pe)
+  generics_category g.BoundLifetimes = of_sound (promises.binder attrs values sa se na ne pa pe)
+  generics_category g.OptionalBoundLifetimes = of_sound (promises.optional_binder attrs values sa se na ne pa pe)
+  generics_category g.Bound = of_sound (promises.bound attrs values sa se na ne pa pe)
+  generics_category g.TraitBound = of_sound (promises.trait_bound attrs values sa se na ne pa pe)
+  generics_category g.Capture = of_sound promises.capture
+  generics_category g.Captured = of_sound promises.captured
+  generics_category g.Declared = of_sound (promises.generics attrs values sa se na ne pa pe)
+  generics_category g.ImplGenerics = of_view (promises.generics attrs values sa se na ne pa pe) (impl_generics pa pe)
+  generics_category g.TypeGenerics = of_view (promises.generics attrs values sa se na ne pa pe) views.names
+  generics_category g.Turbofish = of_view (promises.generics attrs values sa se na ne pa pe) views.turbofish
+  generics_category g.WhereClause = of_sound (promises.where_clause attrs values sa se na ne pa pe)
+  generics_category g.OptionalWhereClause = of_sound (promises.optional_where_clause attrs values sa se na ne pa pe)
+  generics_category g.Predicate = of_sound (promises.predicate attrs values sa se na ne pa pe)
 
-module _ {X : Type 0} (supplied : Place → R X) (prints : Place → X → Print) where
+module _ {X : Type 0} (reads : Place → R X) (spells : Place → X → Toks → Type 0) (normals : Place → X → X) (prints : Place → X → Print) where
   abbrev pub patterns_category : (r : PatternReader) → Category (PatternsTree X r)
-  patterns_category q.Single = of_reader (pat_knot.pat supplied Single) (pat_printing.pat prints)
-  patterns_category q.Multi = of_reader (pat_knot.pat supplied Multi) (pat_printing.pat prints)
-  patterns_category q.LeadingVert = of_reader (pat_knot.pat supplied LeadingVert) (pat_printing.pat prints)
-  patterns_category q.Guarded = of_reader (pat_knot.guarded supplied) (pat_printing.pat prints)
-  patterns_category q.Typed = of_reader (pat_knot.typed supplied) (pat_printing.typed prints)
+  patterns_category q.Single = of_sound (pat_promises.pat reads spells normals prints Single)
+  patterns_category q.Multi = of_sound (pat_promises.pat reads spells normals prints Multi)
+  patterns_category q.LeadingVert = of_sound (pat_promises.pat reads spells normals prints LeadingVert)
+  patterns_category q.Guarded = of_sound (pat_promises.guarded reads spells normals prints)
+  patterns_category q.Typed = of_sound (pat_promises.typed reads spells normals prints)
 
 -- what attributes and expressions of the sample read
 abbrev pub sample_attributes : R (List (Attribute Sample))
@@ -329,6 +336,13 @@ sample_attributes = attr_reading.outer reads-value.it
 
 abbrev pub sample_values : ReadValues (Expr Sample)
 sample_values = record { len = lens reads-value.it; const_argument = attr_reading.const_argument reads-value.it }
+
+-- what they spell
+abbrev pub sample_spelt : SpelledValues (Expr Sample)
+sample_spelt = record { len = spells_len spells-value.it; const_argument = λ clear. IsConst spells-value.it; const_default = λ clear. IsConstDefault spells-value.it }
+
+abbrev pub attributes_spelt : Bool → List (Attribute Sample) → Toks → Toks → Type 0
+attributes_spelt clear = AreAll (IsOuter spells-value.it clear)
 
 -- the trees of a reader
 abbrev pub Tree : Reader → Type 0
@@ -354,10 +368,10 @@ category MetaNameValue = of_grammar (attrs.name_value reads-value.it spells-valu
 category Outer = of_grammar (attrs.outer reads-value.it spells-value.it normal-value.it prints-value.it)
 category Inner = of_grammar (attrs.inner reads-value.it spells-value.it normal-value.it prints-value.it)
 category PointerMutability = of_grammar tokens.mutability
-category (Types r) = types_category sample_attributes sample_values (normal.attributes normal-value.it) (outer prints-value.it) (values_of prints-value.it) r
-category (Paths r) = paths_category sample_attributes sample_values (normal.attributes normal-value.it) (outer prints-value.it) (values_of prints-value.it) r
-category (Generics r) = generics_category sample_attributes sample_values (normal.attributes normal-value.it) (outer prints-value.it) (values_of prints-value.it) r
-category (Patterns r) = patterns_category reads-value.it prints-value.it r
+category (Types r) = types_category sample_attributes sample_values attributes_spelt sample_spelt (normal.attributes normal-value.it) (normal_values_of normal-value.it) (outer prints-value.it) (values_of prints-value.it) r
+category (Paths r) = paths_category sample_attributes sample_values attributes_spelt sample_spelt (normal.attributes normal-value.it) (normal_values_of normal-value.it) (outer prints-value.it) (values_of prints-value.it) r
+category (Generics r) = generics_category sample_attributes sample_values attributes_spelt sample_spelt (normal.attributes normal-value.it) (normal_values_of normal-value.it) (outer prints-value.it) (values_of prints-value.it) r
+category (Patterns r) = patterns_category reads-value.it spells-value.it normal-value.it prints-value.it r
 
 -- what attributes print, one after the other
 abbrev pub attributes : List (Attribute Sample) → Print

@@ -52,7 +52,7 @@ abbrev pub text_of_print : (r : Reader) → Tree r → Bytes
 text_of_print r a = text_of (stream_of_trees ((category r).print a))
 
 -- The input is text of a list of which the reader answers a tree, and the text is that of the tree's print. What a whole read
--- promises of the list and the tree holds: for a reader with a grammar, that its grammar lets it answer that tree.
+-- promises of the list and the tree holds: that the tree is admitted and spells the list.
 pub record Shows (r : Reader) (input text : Bytes) : Type 0 where
   pub list : List TokenTree
   pub is_text : IsTextOf input list
@@ -67,7 +67,7 @@ pub data Refuses (r : Reader) (input : Bytes) : Bytes → Type 0 where
   not_utf8 : ¬ IsUtf8 input → Refuses r input (codes "input is not UTF-8")
   -- It is no text of a list.
   no_list : (e : Refusal) → IsUtf8 input → Refused input e → Refuses r input e.text
-  -- The reader refuses its list, and what it promises of a refusal holds: with a grammar, that no tree spells the list clearly.
+  -- The reader refuses its list, and what it promises of a refusal holds: of a complete one, that no tree spells the list clearly.
   no_tree : (l : List TokenTree) (e : Refusal) → IsTextOf input l → whole (category r).reader (row l done) ≡ Err e → (category r).promise (row l done) None →
       Refuses r input e.text
   -- Memory ran out.
@@ -78,12 +78,12 @@ Justified r input (shown text) = Shows r input text
 Justified r input (refused text) = Refuses r input text
 Justified r input unknown = ⊥
 
--- A tree that spells the input's list clearly, where no invisible group stands, is shown, unless memory ran out.
+-- A tree that spells the input's list clearly is shown by a complete reader, where no invisible group stands, unless memory ran out.
 abbrev pub Accepts : Reader → Bytes → Answer → Type 0
 Accepts r input answer = (l : List TokenTree) (a : Tree r) → IsTextOf input l → Visible (row l done) → (category r).clear a (row l done) →
     (answer ≡ shown (text_of_print r a)) ⊎ (answer ≡ no_memory)
 
--- What is said of an input that was read is so, and no tree that the input spells clearly is kept back.
+-- What is said of an input that was read is so, and a complete reader keeps no tree back that the input spells clearly.
 pub record AnswersTo (r : Reader) (input : Bytes) (answer : Answer) : Type 0 where
   pub justified : Justified r input answer
   pub accepts : Accepts r input answer

@@ -1,12 +1,13 @@
 //! Where a run reads from and writes to.
 
-ghost use Rattle.std.specs.Prelude.{◌≡◌, ◌++◌, ℕ, List, Option, IfOk, OnOk, OnErr, IfErr, IfSome, codes};
+ghost use Rattle.std.specs.Prelude.{◌≡◌, ◌+◌, ◌<◌, ◌≤◌, ◌++◌, ℕ, List, [], Option, IfOk, OnOk, OnErr, IfErr, IfSome, codes, length, take};
 ghost use Rattle.std.specs.Io.KnownBytes.{Appends};
 ghost use Rattle.token_core.specs.Toks.{Bytes};
 ghost use Rattle.synmid.specs.declared.channel.Unread.{Unread};
 
 use std::alloc::{AllocError, Global};
 use std::io::{ErrorKind, Read, Write};
+use std::marker::Model;
 
 /// Why not all of an input was read.
 #[derive(Clone, Copy, PartialEq, Eq)]
@@ -126,5 +127,78 @@ impl Source for &[u8] {
         let mut bytes = Vec::new(alloc);
         bytes.extend_from_slice(self)?;
         Ok(bytes)
+    }
+}
+
+/// Room for `N` bytes, which is filled from its front. Writing a line fails exactly where the line is longer than the room that is
+/// left. In a contract it is the bytes that were written.
+#[derive(Drop)]
+pub struct Room<const N: usize> {
+    bytes: [u8; N],
+    used: usize,
+}
+
+impl<const N: usize> Model for Room<N> {
+    ghost Value = { List ℕ };
+
+    ghost view = { λ r. take r.used r.bytes };
+
+    ghost invariant = { λ r. r.used ≤ N };
+}
+
+impl<const N: usize> Room<N> {
+    pub fn new() -> Room<N>
+        ensures { result ≡ [] }
+    {
+        Room {
+            bytes: [0; N],
+            used: 0,
+        }
+    }
+
+    /// What was written.
+    pub fn written(&self) -> &[u8]
+        ensures value { result.now ≡ self.now }
+        ensures within { length self.now ≤ N }
+    {
+        &self.bytes[..self.used]
+    }
+
+    /// How many bytes it still takes.
+    fn left(&self) -> usize
+        ensures { result + length self.now ≡ N }
+    {
+        N - self.used
+    }
+
+    fn push(&mut self, text: &str)
+        requires { length self.old + length text.now ≤ N }
+        ensures { self.new ≡ self.old ++ text.now }
+    {
+        let end = self.used + text.len();
+        let all = &mut self.bytes[..];
+        all[self.used..end].copy_from_slice(text.as_bytes());
+        self.used = end;
+    }
+}
+
+/// A line is written as a whole or not at all.
+impl<const N: usize> Sink for Room<N> {
+    ghost contents = { λ r. Option.Some r };
+
+    ghost can_fail = { λ r line. N < length r + length line };
+
+    fn write_line(&mut self, first: &str, second: &str) -> Result<(), Unwritten>
+        ensures ok { OnOk result (self.new ≡ self.old ++ (first.now ++ second.now ++ codes "\n")) }
+        ensures err { OnErr result (N < length self.old + length (first.now ++ second.now ++ codes "\n")) }
+        ensures unchanged { OnErr result (self.new ≡ self.old) }
+    {
+        if self.left() < first.len() + second.len() + 1 {
+            return Err(Unwritten);
+        }
+        self.push(first);
+        self.push(second);
+        self.push("\n");
+        Ok(())
     }
 }

@@ -51,6 +51,7 @@ fn add_options(alloc: Global, attr: &Attribute, form: &mut Form) -> Result<(), E
     requires { 0 < length (path_in attr.now.meta).segments.0 }
 {
     let logic = |alloc: Global, meta: &mut ParseNestedMeta<'_>| -> Result<(), Error>
+        requires { 0 < length meta.now.path.segments.0 }
         ensures { Follows meta.old.input meta.new.input }
     { parse_option(alloc, meta, form) };
     attr.parse_nested_meta(alloc, logic)
@@ -59,6 +60,7 @@ fn add_options(alloc: Global, attr: &Attribute, form: &mut Form) -> Result<(), E
 /// Reads one option: `min = ..`, `max = ..` or `rename(.., ..)`.
 #[tactic(auto, using(token_core::proofs::Suffixes::follows))]
 fn parse_option(alloc: Global, meta: &mut ParseNestedMeta<'_>, form: &mut Form) -> Result<(), Error>
+    requires { 0 < length meta.now.path.segments.0 }
     ensures { Follows meta.old.input meta.new.input }
 {
     if meta.path.is_ident("min") {
@@ -71,7 +73,7 @@ fn parse_option(alloc: Global, meta: &mut ParseNestedMeta<'_>, form: &mut Form) 
         form.rename = Some(parse_rename(alloc, meta)?);
         Ok(())
     } else {
-        Err(unknown_option(alloc, meta))
+        Err(meta.error(alloc, "unknown option"))
     }
 }
 
@@ -86,14 +88,6 @@ fn parse_rename(alloc: Global, meta: &mut ParseNestedMeta<'_>) -> Result<(LitStr
     let to = content.parse::<LitStr>(alloc)?;
     meta.input.finish(content);
     Ok((from, to))
-}
-
-fn unknown_option(alloc: Global, meta: &ParseNestedMeta<'_>) -> Error {
-    // the path of a property has a segment, but what a closure is called with doesn't say so
-    if meta.path.segments.is_empty() {
-        return meta.input.error(alloc, "unknown option");
-    }
-    meta.error(alloc, "unknown option")
 }
 
 fn show_number(name: &str, number: &Option<Lit>, out: &mut String) -> Result<(), AllocError> {

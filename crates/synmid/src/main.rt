@@ -25,6 +25,7 @@ mod sample_tests;
 mod tests;
 #[cfg(test)]
 mod type_read_tests;
+mod within;
 
 use channel::Plain;
 use fault::Fault;

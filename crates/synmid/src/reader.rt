@@ -3,6 +3,8 @@
 ghost use Rattle.std.specs.Prelude.{◌≡◌, IfOk};
 ghost use Rattle.syn_ty.specs.generics.Alone as alone;
 ghost use Rattle.syn_ty.specs.generics.Views as views;
+ghost use Rattle.syn_ty.specs.ty.Promises as promises;
+ghost use Rattle.syn_path.specs.Took.{Sounds};
 ghost use Rattle.syn_pat.specs.pat.Printing as patterns;
 ghost use Rattle.token_core.specs.Reads.{Fails, Follows, Gives, Parsed};
 ghost use Rattle.token_core.specs.Trees.{toks, trees};
@@ -217,7 +219,7 @@ impl TypeReader {
         alloc: Global,
         tokens: &TokenStream,
     ) -> Result<TokenStream, Error>
-        ensures { spec.Reprints (spec.types_category A.reads E.reads A.normal A.shown E.values self) (toks tokens.now) result }
+        ensures { spec.Reprints (spec.types_category A.reads E.reads A.spells E.spells A.normal E.normal A.shown E.values self) (toks tokens.now) result }
     {
         match self {
             TypeReader::Any => reprint::<TypeOf<A, E>>(alloc, tokens),
@@ -284,7 +286,7 @@ impl PathReader {
         alloc: Global,
         tokens: &TokenStream,
     ) -> Result<TokenStream, Error>
-        ensures { spec.Reprints (spec.paths_category A.reads E.reads A.normal A.shown E.values self) (toks tokens.now) result }
+        ensures { spec.Reprints (spec.paths_category A.reads E.reads A.spells E.spells A.normal E.normal A.shown E.values self) (toks tokens.now) result }
     {
         match self {
             PathReader::Whole => reprint::<PathOf<PathArgumentsOf<A, E>>>(alloc, tokens),
@@ -337,7 +339,7 @@ impl GenericsReader {
         alloc: Global,
         tokens: &TokenStream,
     ) -> Result<TokenStream, Error>
-        ensures { spec.Reprints (spec.generics_category A.reads E.reads A.normal A.shown E.values self) (toks tokens.now) result }
+        ensures { spec.Reprints (spec.generics_category A.reads E.reads A.spells E.spells A.normal E.normal A.shown E.values self) (toks tokens.now) result }
     {
         match self {
             GenericsReader::Param => reprint::<GenericParamOf<A, E>>(alloc, tokens),
@@ -393,7 +395,7 @@ impl PatternReader {
         alloc: Global,
         tokens: &TokenStream,
     ) -> Result<TokenStream, Error>
-        ensures { spec.Reprints (spec.patterns_category X.reads X.prints self) (toks tokens.now) result }
+        ensures { spec.Reprints (spec.patterns_category X.reads X.spells X.normal X.prints self) (toks tokens.now) result }
     {
         let parser: PatternPrint<X> = PatternPrint {
             reader: self,
@@ -408,7 +410,7 @@ impl PatternReader {
         alloc: Global,
         input: &mut ParseStream<'_>,
     ) -> Result<TokenStream, Error>
-        ensures shown { Parsed (spec.Shows (spec.patterns_category X.reads X.prints self) input.old) (Fails (spec.patterns_category X.reads X.prints self).reader input.old) result input.new }
+        ensures shown { Parsed (spec.Shows (spec.patterns_category X.reads X.spells X.normal X.prints self) input.old) (Fails (spec.patterns_category X.reads X.spells X.normal X.prints self).reader input.old) result input.new }
         ensures within { Follows input.old input.new }
     {
         match self {
@@ -449,9 +451,9 @@ impl<X: Subtree> Parser for PatternPrint<X> {
 
     ghost can_parse = { λ _. Unit {0} };
 
-    ghost reads = { λ p. spec.Shows (spec.patterns_category X.reads X.prints p.reader) };
+    ghost reads = { λ p. spec.Shows (spec.patterns_category X.reads X.spells X.normal X.prints p.reader) };
 
-    ghost refuses = { λ p. Fails (spec.patterns_category X.reads X.prints p.reader).reader };
+    ghost refuses = { λ p. Fails (spec.patterns_category X.reads X.spells X.normal X.prints p.reader).reader };
 
     fn parse(self, alloc: Global, input: &mut ParseStream<'_>) -> Result<TokenStream, Error> {
         self.reader.print_next::<X>(alloc, input)
@@ -515,7 +517,7 @@ fn reprint_impl_generics<A: Attributes, E: Value>(
     alloc: Global,
     tokens: &TokenStream,
 ) -> Result<TokenStream, Error>
-    ensures { spec.Prints (Gives (alone.generics A.reads E.reads)) (Fails (alone.generics A.reads E.reads)) (λ _ _. Unit {0}) (spec.impl_generics A.shown E.values) (toks tokens.now) result }
+    ensures { spec.Prints (Gives (alone.generics A.reads E.reads)) (Fails (alone.generics A.reads E.reads)) (Sounds (promises.generics A.reads E.reads A.spells E.spells A.normal E.normal A.shown E.values)) (spec.impl_generics A.shown E.values) (toks tokens.now) result }
 {
     let generics = read_all::<GenericsOf<A, E>>(alloc, tokens)?;
     let (impl_generics, _, _) = generics.split_for_impl();
@@ -527,7 +529,7 @@ fn reprint_type_generics<A: Attributes, E: Value>(
     alloc: Global,
     tokens: &TokenStream,
 ) -> Result<TokenStream, Error>
-    ensures { spec.Prints (Gives (alone.generics A.reads E.reads)) (Fails (alone.generics A.reads E.reads)) (λ _ _. Unit {0}) views.names (toks tokens.now) result }
+    ensures { spec.Prints (Gives (alone.generics A.reads E.reads)) (Fails (alone.generics A.reads E.reads)) (Sounds (promises.generics A.reads E.reads A.spells E.spells A.normal E.normal A.shown E.values)) views.names (toks tokens.now) result }
 {
     let generics = read_all::<GenericsOf<A, E>>(alloc, tokens)?;
     let (_, type_generics, _) = generics.split_for_impl();
@@ -539,7 +541,7 @@ fn reprint_turbofish<A: Attributes, E: Value>(
     alloc: Global,
     tokens: &TokenStream,
 ) -> Result<TokenStream, Error>
-    ensures { spec.Prints (Gives (alone.generics A.reads E.reads)) (Fails (alone.generics A.reads E.reads)) (λ _ _. Unit {0}) views.turbofish (toks tokens.now) result }
+    ensures { spec.Prints (Gives (alone.generics A.reads E.reads)) (Fails (alone.generics A.reads E.reads)) (Sounds (promises.generics A.reads E.reads A.spells E.spells A.normal E.normal A.shown E.values)) views.turbofish (toks tokens.now) result }
 {
     let generics = read_all::<GenericsOf<A, E>>(alloc, tokens)?;
     let (_, type_generics, _) = generics.split_for_impl();

@@ -1,6 +1,6 @@
 //! Runs over inputs and outputs of memory, and over ones that fail.
 
-use crate::channel::Plain;
+use crate::channel::{Plain, Room};
 use crate::run::run;
 use std::alloc::{AllocError, Global};
 use std::io;
@@ -96,6 +96,14 @@ fn ran(alloc: Global, name: &str, input: &[u8]) -> Result<(u8, Vec<u8>), AllocEr
     let status = run(alloc, name, &mut input, &mut output);
     let Plain(written) = output;
     Ok((status, written))
+}
+
+/// The status, and the room that was written to.
+fn ran_within<const N: usize>(alloc: Global, name: &str, input: &[u8]) -> (u8, Room<N>) {
+    let mut output = Room::new();
+    let mut input = input;
+    let status = run(alloc, name, &mut input, &mut output);
+    (status, output)
 }
 
 #[test]
@@ -282,6 +290,33 @@ fn flushes_its_line(rt: HostRuntime) -> Result<(), Fail> {
             assert_eq!(rt; got, wanted, "{name}");
             assert_eq!(rt; output.0.is_flushed, can_flush, "{name}");
         }
+    }
+    Ok(())
+}
+
+#[test]
+fn ends_with_1_only_where_its_room_ends(rt: HostRuntime) -> Result<(), Fail> {
+    let line = "m ! ()\n".as_bytes();
+    let (status, ample) = ran_within::<20>(rt.alloc(), "Macro", b"m!()");
+    assert_eq!(rt; status, 0);
+    assert!(rt; ample.written() == line);
+    let (status, enough) = ran_within::<7>(rt.alloc(), "Macro", b"m!()");
+    assert_eq!(rt; status, 0);
+    assert!(rt; enough.written() == line);
+    let (status, short) = ran_within::<6>(rt.alloc(), "Macro", b"m!()");
+    assert_eq!(rt; status, 1);
+    assert!(rt; short.written().is_empty());
+    Ok(())
+}
+
+#[test]
+fn keeps_its_room_where_a_further_line_does_not_fit(rt: HostRuntime) -> Result<(), Fail> {
+    let mut output: Room<13> = Room::new();
+    for status in [0, 1] {
+        let mut input = "m!()".as_bytes();
+        let got = run(rt.alloc(), "Macro", &mut input, &mut output);
+        assert_eq!(rt; got, status);
+        assert!(rt; output.written() == "m ! ()\n".as_bytes());
     }
     Ok(())
 }

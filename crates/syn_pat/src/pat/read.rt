@@ -8,8 +8,11 @@ pub mod ranges;
 pub mod step;
 pub mod tokens;
 
+ghost use Rattle.syn_path.specs.Took.{Sounds, Takes};
 ghost use Rattle.syn_pat.specs.declared.place.PatPlace.TheVariants.{LeadingVert, Multi, Single};
+ghost use Rattle.syn_pat.specs.pat.Fronts as fronts;
 ghost use Rattle.syn_pat.specs.pat.Knot as knot;
+ghost use Rattle.syn_pat.specs.pat.Promises as promises;
 ghost use Rattle.token_core.specs.Reads.{Fails, Follows, Gives, Keeps, Parses, Reads};
 
 use crate::knot::parse_pat;
@@ -36,6 +39,8 @@ impl<X: Subtree> Pat<X> {
     /// slice is a range that lacks a bound. As `syn::Pat::parse_single`.
     pub fn parse_single(alloc: Global, input: &mut ParseStream<'_>) -> Result<Pat<X>, Error>
         ensures parses { Parses (knot.pat X.reads Single) result input.old input.new }
+        ensures promise { Keeps (Sounds (promises.pat X.reads X.spells X.normal X.prints Single)) input.old result input.new }
+        ensures front { Takes (fronts.pat X.spells Single) input.old result input.new }
     {
         parse_pat::<X>(alloc, PhantomData, input, PatPlace::Single)
     }
@@ -49,6 +54,8 @@ impl<X: Subtree> Pat<X> {
     /// A `||` and a `|=` are left. It is refused where a pattern is, one before the first `|` too. As `syn::Pat::parse_multi`.
     pub fn parse_multi(alloc: Global, input: &mut ParseStream<'_>) -> Result<Pat<X>, Error>
         ensures parses { Parses (knot.pat X.reads Multi) result input.old input.new }
+        ensures promise { Keeps (Sounds (promises.pat X.reads X.spells X.normal X.prints Multi)) input.old result input.new }
+        ensures front { Takes (fronts.pat X.spells Multi) input.old result input.new }
     {
         parse_pat::<X>(alloc, PhantomData, input, PatPlace::Multi)
     }
@@ -65,6 +72,8 @@ impl<X: Subtree> Pat<X> {
         input: &mut ParseStream<'_>,
     ) -> Result<Pat<X>, Error>
         ensures parses { Parses (knot.pat X.reads LeadingVert) result input.old input.new }
+        ensures promise { Keeps (Sounds (promises.pat X.reads X.spells X.normal X.prints LeadingVert)) input.old result input.new }
+        ensures front { Takes (fronts.pat X.spells LeadingVert) input.old result input.new }
     {
         parse_pat::<X>(alloc, PhantomData, input, PatPlace::LeadingVert)
     }
@@ -76,27 +85,35 @@ impl<X: Subtree> Pat<X> {
     /// ```
     ///
     /// It is refused where a pattern is, and where the guard is. As syn's `Pat::parse_multi_with_leading_vert_and_guard`.
-    #[tactic(auto, using(token_core::proofs::Suffixes::follows), unfolding(crate::specs::pat::Knot::guarded))]
     pub fn parse_multi_with_leading_vert_and_guard(
         alloc: Global,
         input: &mut ParseStream<'_>,
     ) -> Result<Pat<X>, Error>
         ensures parses { Parses (knot.guarded X.reads) result input.old input.new }
+        ensures promise { Keeps (Sounds (promises.guarded X.reads X.spells X.normal X.prints)) input.old result input.new }
     {
-        let pat = parse_pat::<X>(alloc, PhantomData, input, PatPlace::LeadingVert)?;
-        if !input.peek::<If>() {
-            return Ok(pat);
-        }
-        let pat = Boxed::new(alloc, pat)?;
-        let if_token = input.parse::<If>(alloc)?;
-        let guard = X::read(alloc, Place::Guard, input)?;
-        Ok(Pat::Guard(PatGuardOf {
-            attrs: Items::new(alloc),
-            pat,
-            if_token,
-            guard: Boxed::new(alloc, Expr::Other(guard))?,
-        }))
+        parse_guarded(alloc, input)
     }
+}
+
+/// A pattern, and a guard that may follow.
+#[tactic(auto, using(token_core::proofs::Suffixes::follows), unfolding(crate::specs::pat::Knot::guarded))]
+fn parse_guarded<X: Subtree>(alloc: Global, input: &mut ParseStream<'_>) -> Result<Pat<X>, Error>
+    ensures parses { Parses (knot.guarded X.reads) result input.old input.new }
+{
+    let pat = parse_pat::<X>(alloc, PhantomData, input, PatPlace::LeadingVert)?;
+    if !input.peek::<If>() {
+        return Ok(pat);
+    }
+    let pat = Boxed::new(alloc, pat)?;
+    let if_token = input.parse::<If>(alloc)?;
+    let guard = X::read(alloc, Place::Guard, input)?;
+    Ok(Pat::Guard(PatGuardOf {
+        attrs: Items::new(alloc),
+        pat,
+        if_token,
+        guard: Boxed::new(alloc, Expr::Other(guard))?,
+    }))
 }
 
 /// A pattern with its type.
@@ -128,11 +145,12 @@ impl<X: Subtree> Parse for PatType<X> {
 
     ghost refuses = { Fails (knot.typed X.reads) };
 
-    #[tactic(auto, using(token_core::specs::Reads::no_promise))]
+    ghost promise = { Sounds (promises.typed X.reads X.spells X.normal X.prints) };
+
     fn parse(alloc: Global, input: &mut ParseStream<'_>) -> Result<PatType<X>, Error>
         ensures reads { Reads (knot.typed X.reads input.old) result input.new }
         ensures within { Follows input.old input.new }
-        ensures promise { Keeps (λ _ _. Unit {0}) input.old result input.new }
+        ensures promise { Keeps (Sounds (promises.typed X.reads X.spells X.normal X.prints)) input.old result input.new }
     {
         parse_typed(alloc, input)
     }

@@ -1,5 +1,8 @@
 //! The generics of a declaration and its where clause are read.
 
+ghost use Rattle.syn_path.specs.Took.{Sounds, Takes};
+ghost use Rattle.syn_ty.specs.ty.Fronts as fronts;
+ghost use Rattle.syn_ty.specs.ty.Promises as promises;
 ghost use Rattle.std.specs.Prelude.{◌≡◌, ◌<◌, ◌≤◌, length};
 ghost use Rattle.syn_forms.specs.nested.Below as below;
 ghost use Rattle.syn_forms.specs.nested.Below.{ahead};
@@ -8,7 +11,7 @@ ghost use Rattle.syn_forms.specs.predicates.Reading as predicates;
 ghost use Rattle.syn_ty.specs.generics.Alone as alone;
 ghost use Rattle.syn_ty.specs.generics.Declared as reading;
 ghost use Rattle.syn_ty.specs.ty.Knot as knot;
-ghost use Rattle.token_core.specs.Reads.{Fails, Follows, Gives, Parses, Reads};
+ghost use Rattle.token_core.specs.Reads.{Fails, Follows, Gives, Keeps, Parses, Reads};
 
 use crate::generics::read::optional_binder_from;
 use crate::generics::{
@@ -277,10 +280,13 @@ impl<A: Attributes, E: Value> Parse for GenericsOf<A, E> {
 
     ghost refuses = { Fails (alone.generics A.reads E.reads) };
 
-    #[tactic(auto, using(token_core::specs::Reads::no_promise))]
+    ghost promise = { Sounds (promises.generics A.reads E.reads A.spells E.spells A.normal E.normal A.shown E.values) };
+
     fn parse(alloc: Global, input: &mut ParseStream<'_>) -> Result<GenericsOf<A, E>, Error>
         ensures reads { Reads (alone.generics A.reads E.reads input.old) result input.new }
         ensures within { Follows input.old input.new }
+        ensures promise { Keeps (Sounds (promises.generics A.reads E.reads A.spells E.spells A.normal E.normal A.shown E.values)) input.old result input.new }
+        ensures front { Takes (fronts.generics A.spells E.spells) input.old result input.new }
     {
         parse_generics(alloc, input)
     }
@@ -301,10 +307,13 @@ impl<A: Attributes, E: Value> Parse for WhereClauseOf<A, E> {
 
     ghost refuses = { Fails (alone.where_clause A.reads E.reads) };
 
-    #[tactic(auto, using(token_core::specs::Reads::no_promise))]
+    ghost promise = { Sounds (promises.where_clause A.reads E.reads A.spells E.spells A.normal E.normal A.shown E.values) };
+
     fn parse(alloc: Global, input: &mut ParseStream<'_>) -> Result<WhereClauseOf<A, E>, Error>
         ensures reads { Reads (alone.where_clause A.reads E.reads input.old) result input.new }
         ensures within { Follows input.old input.new }
+        ensures promise { Keeps (Sounds (promises.where_clause A.reads E.reads A.spells E.spells A.normal E.normal A.shown E.values)) input.old result input.new }
+        ensures front { Takes (fronts.where_clause A.spells E.spells) input.old result input.new }
     {
         parse_where_clause(alloc, input)
     }
@@ -313,18 +322,30 @@ impl<A: Attributes, E: Value> Parse for WhereClauseOf<A, E> {
 impl<A: Attributes, E: Value> WhereClauseOf<A, E> {
     /// Reads a where clause where `where` stands, and nothing elsewhere. It is refused where the clause is (syn's `Parse` for
     /// `Option<WhereClause>`).
-    #[tactic(auto, using(token_core::proofs::Suffixes::follows), unfolding(crate::specs::generics::Alone::optional_where_clause))]
     pub fn parse_optional(
         alloc: Global,
         input: &mut ParseStream<'_>,
     ) -> Result<Option<WhereClauseOf<A, E>>, Error>
         ensures parses { Parses (alone.optional_where_clause A.reads E.reads) result input.old input.new }
+        ensures promise { Keeps (Sounds (promises.optional_where_clause A.reads E.reads A.spells E.spells A.normal E.normal A.shown E.values)) input.old result input.new }
+        ensures front { Takes (fronts.optional_where_clause A.spells E.spells) input.old result input.new }
     {
-        if !input.peek::<Where>() {
-            return Ok(None);
-        }
-        Ok(Some(parse_where_clause(alloc, input)?))
+        parse_optional_where_clause(alloc, input)
     }
+}
+
+/// A where clause where `where` stands, and nothing elsewhere.
+#[tactic(auto, using(token_core::proofs::Suffixes::follows), unfolding(crate::specs::generics::Alone::optional_where_clause))]
+fn parse_optional_where_clause<A: Attributes, E: Value>(
+    alloc: Global,
+    input: &mut ParseStream<'_>,
+) -> Result<Option<WhereClauseOf<A, E>>, Error>
+    ensures parses { Parses (alone.optional_where_clause A.reads E.reads) result input.old input.new }
+{
+    if !input.peek::<Where>() {
+        return Ok(None);
+    }
+    Ok(Some(parse_where_clause(alloc, input)?))
 }
 
 /// Reads a predicate of a where clause: after attributes what is said of a lifetime, where a `:` follows one, and of a type
@@ -341,10 +362,13 @@ impl<A: Attributes, E: Value> Parse for WherePredicateOf<A, E> {
 
     ghost refuses = { Fails (alone.predicate A.reads E.reads) };
 
-    #[tactic(auto, using(token_core::specs::Reads::no_promise))]
+    ghost promise = { Sounds (promises.predicate A.reads E.reads A.spells E.spells A.normal E.normal A.shown E.values) };
+
     fn parse(alloc: Global, input: &mut ParseStream<'_>) -> Result<WherePredicateOf<A, E>, Error>
         ensures reads { Reads (alone.predicate A.reads E.reads input.old) result input.new }
         ensures within { Follows input.old input.new }
+        ensures promise { Keeps (Sounds (promises.predicate A.reads E.reads A.spells E.spells A.normal E.normal A.shown E.values)) input.old result input.new }
+        ensures front { Takes (fronts.predicate A.spells E.spells) input.old result input.new }
     {
         parse_predicate(alloc, input)
     }

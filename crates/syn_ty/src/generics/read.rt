@@ -1,6 +1,12 @@
 //! Captures, bounds, binders and parameters are read.
 
-ghost use Rattle.std.specs.Prelude.{◌≡◌, ◌<◌, ◌≤◌, length, true, not, [], ◌∷◌, IfOk};
+ghost use Rattle.syn_path.specs.Took.{Sounds, Takes};
+ghost use Rattle.syn_ty.specs.ty.Fronts as fronts;
+ghost use Rattle.syn_ty.specs.ty.Parts.{loosely};
+ghost use Rattle.syn_ty.specs.ty.Promises as promises;
+ghost use Rattle.syn_ty.specs.ty.Spelt as spelt;
+ghost use Rattle.syn_ty.specs.generics.Bounds.{IsCaptured, IsCapture};
+ghost use Rattle.std.specs.Prelude.{◌≡◌, ◌<◌, ◌≤◌, length, true, not, [], ◌∷◌, IfOk, false};
 ghost use Rattle.syn_forms.specs.declared.places.BoundPlace.TheVariants as bound_places;
 ghost use Rattle.syn_forms.specs.declared.places.ParamPlace.TheVariants as param_places;
 ghost use Rattle.syn_forms.specs.groups.Reading as groups;
@@ -13,7 +19,7 @@ ghost use Rattle.syn_ty.specs.generics.Reading as reading;
 ghost use Rattle.syn_ty.specs.ty.Knot as knot;
 ghost use Rattle.token_core.specs.Looks.{unmet};
 ghost use Rattle.token_core.specs.Positions.{IsReached};
-ghost use Rattle.token_core.specs.Reads.{Reads, Follows, Gives, Fails, Parses, forked};
+ghost use Rattle.token_core.specs.Reads.{Fails, Follows, Gives, Keeps, Parses, Reads, forked};
 ghost use Rattle.token_core.specs.Refusal.{Made};
 ghost use Rattle.token_core.specs.Stream.{Stream};
 ghost use Rattle.token_core.specs.Tokens as token;
@@ -1034,10 +1040,13 @@ impl Parse for CapturedParam {
 
     ghost refuses = { Fails reading.captured };
 
-    #[tactic(auto, using(token_core::specs::Reads::no_promise))]
+    ghost promise = { Sounds promises.captured };
+
     fn parse(alloc: Global, input: &mut ParseStream<'_>) -> Result<CapturedParam, Error>
         ensures reads { Reads (reading.captured input.old) result input.new }
         ensures within { Follows input.old input.new }
+        ensures promise { Keeps (Sounds promises.captured) input.old result input.new }
+        ensures front { Takes IsCaptured input.old result input.new }
     {
         parse_captured(alloc, input)
     }
@@ -1056,10 +1065,13 @@ impl Parse for PreciseCapture {
 
     ghost refuses = { Fails reading.capture };
 
-    #[tactic(auto, using(token_core::specs::Reads::no_promise))]
+    ghost promise = { Sounds promises.capture };
+
     fn parse(alloc: Global, input: &mut ParseStream<'_>) -> Result<PreciseCapture, Error>
         ensures reads { Reads (reading.capture input.old) result input.new }
         ensures within { Follows input.old input.new }
+        ensures promise { Keeps (Sounds promises.capture) input.old result input.new }
+        ensures front { Takes (IsCapture false) input.old result input.new }
     {
         parse_capture(alloc, input)
     }
@@ -1077,13 +1089,16 @@ impl<A: Attributes, E: Value> Parse for BoundLifetimesOf<GenericParamOf<A, E>> {
 
     ghost refuses = { Fails (knot.binder A.reads E.reads) };
 
-    #[tactic(auto, using(token_core::specs::Reads::no_promise))]
+    ghost promise = { Sounds (promises.binder A.reads E.reads A.spells E.spells A.normal E.normal A.shown E.values) };
+
     fn parse(
         alloc: Global,
         input: &mut ParseStream<'_>,
     ) -> Result<BoundLifetimesOf<GenericParamOf<A, E>>, Error>
         ensures reads { Reads (knot.binder A.reads E.reads input.old) result input.new }
         ensures within { Follows input.old input.new }
+        ensures promise { Keeps (Sounds (promises.binder A.reads E.reads A.spells E.spells A.normal E.normal A.shown E.values)) input.old result input.new }
+        ensures front { Takes (fronts.binder A.spells E.spells) input.old result input.new }
     {
         parse_binder(alloc, input)
     }
@@ -1097,6 +1112,8 @@ impl<A: Attributes, E: Value> BoundLifetimesOf<GenericParamOf<A, E>> {
         input: &mut ParseStream<'_>,
     ) -> Result<Option<BoundLifetimesOf<GenericParamOf<A, E>>>, Error>
         ensures parses { Parses (knot.optional_binder A.reads E.reads) result input.old input.new }
+        ensures promise { Keeps (Sounds (promises.optional_binder A.reads E.reads A.spells E.spells A.normal E.normal A.shown E.values)) input.old result input.new }
+        ensures front { Takes (fronts.optional_binder A.spells E.spells) input.old result input.new }
     {
         parse_optional_binder(alloc, input)
     }
@@ -1117,10 +1134,13 @@ impl<A: Attributes, E: Value> Parse for TypeParamBoundOf<A, E> {
 
     ghost refuses = { Fails (knot.bound A.reads E.reads bound_places.Opaque) };
 
-    #[tactic(auto, using(token_core::specs::Reads::no_promise))]
+    ghost promise = { Sounds (promises.bound A.reads E.reads A.spells E.spells A.normal E.normal A.shown E.values) };
+
     fn parse(alloc: Global, input: &mut ParseStream<'_>) -> Result<TypeParamBoundOf<A, E>, Error>
         ensures reads { Reads (knot.bound A.reads E.reads bound_places.Opaque input.old) result input.new }
         ensures within { Follows input.old input.new }
+        ensures promise { Keeps (Sounds (promises.bound A.reads E.reads A.spells E.spells A.normal E.normal A.shown E.values)) input.old result input.new }
+        ensures front { Takes (fronts.bound A.spells E.spells) input.old result input.new }
     {
         TypeParamBoundOf::parse_held(alloc, PhantomData, input, BoundPlace::Opaque)
     }
@@ -1139,10 +1159,13 @@ impl<A: Attributes, E: Value> Parse for TraitBoundOf<A, E> {
 
     ghost refuses = { Fails (knot.trait_bound A.reads E.reads) };
 
-    #[tactic(auto, using(token_core::specs::Reads::no_promise))]
+    ghost promise = { Sounds (promises.trait_bound A.reads E.reads A.spells E.spells A.normal E.normal A.shown E.values) };
+
     fn parse(alloc: Global, input: &mut ParseStream<'_>) -> Result<TraitBoundOf<A, E>, Error>
         ensures reads { Reads (knot.trait_bound A.reads E.reads input.old) result input.new }
         ensures within { Follows input.old input.new }
+        ensures promise { Keeps (Sounds (promises.trait_bound A.reads E.reads A.spells E.spells A.normal E.normal A.shown E.values)) input.old result input.new }
+        ensures front { Takes (fronts.trait_bound A.spells E.spells) input.old result input.new }
     {
         parse_trait_bound(alloc, input)
     }
@@ -1161,10 +1184,13 @@ impl<A: Attributes, E: Value> Parse for GenericParamOf<A, E> {
 
     ghost refuses = { Fails (knot.param A.reads E.reads param_places.Binder) };
 
-    #[tactic(auto, using(token_core::specs::Reads::no_promise))]
+    ghost promise = { Sounds (promises.param A.reads E.reads A.spells E.spells A.normal E.normal A.shown E.values) };
+
     fn parse(alloc: Global, input: &mut ParseStream<'_>) -> Result<GenericParamOf<A, E>, Error>
         ensures reads { Reads (knot.param A.reads E.reads param_places.Binder input.old) result input.new }
         ensures within { Follows input.old input.new }
+        ensures promise { Keeps (Sounds (promises.param A.reads E.reads A.spells E.spells A.normal E.normal A.shown E.values)) input.old result input.new }
+        ensures front { Takes (fronts.param A.spells E.spells) input.old result input.new }
     {
         GenericParamOf::parse_held(alloc, PhantomData, input, ParamPlace::Binder)
     }
@@ -1182,10 +1208,13 @@ impl<A: Attributes> Parse for LifetimeParamOf<A> {
 
     ghost refuses = { Fails (reading.lifetime_param A.reads) };
 
-    #[tactic(auto, using(token_core::specs::Reads::no_promise))]
+    ghost promise = { Sounds (promises.lifetime_param A.reads A.spells A.normal A.shown) };
+
     fn parse(alloc: Global, input: &mut ParseStream<'_>) -> Result<LifetimeParamOf<A>, Error>
         ensures reads { Reads (reading.lifetime_param A.reads input.old) result input.new }
         ensures within { Follows input.old input.new }
+        ensures promise { Keeps (Sounds (promises.lifetime_param A.reads A.spells A.normal A.shown)) input.old result input.new }
+        ensures front { Takes (spelt.IsLifetimeAlone A.spells loosely) input.old result input.new }
     {
         lifetime_param(alloc, input)
     }
@@ -1203,10 +1232,13 @@ impl<A: Attributes, E: Value> Parse for TypeParamOf<A, E> {
 
     ghost refuses = { Fails (knot.type_param A.reads E.reads) };
 
-    #[tactic(auto, using(token_core::specs::Reads::no_promise))]
+    ghost promise = { Sounds (promises.type_param A.reads E.reads A.spells E.spells A.normal E.normal A.shown E.values) };
+
     fn parse(alloc: Global, input: &mut ParseStream<'_>) -> Result<TypeParamOf<A, E>, Error>
         ensures reads { Reads (knot.type_param A.reads E.reads input.old) result input.new }
         ensures within { Follows input.old input.new }
+        ensures promise { Keeps (Sounds (promises.type_param A.reads E.reads A.spells E.spells A.normal E.normal A.shown E.values)) input.old result input.new }
+        ensures front { Takes (fronts.type_param A.spells E.spells) input.old result input.new }
     {
         parse_type_param(alloc, input)
     }
@@ -1224,13 +1256,16 @@ impl<A: Attributes, E: Value> Parse for ConstParamOf<TypeOf<A, E>, A, E> {
 
     ghost refuses = { Fails (knot.const_param A.reads E.reads) };
 
-    #[tactic(auto, using(token_core::specs::Reads::no_promise))]
+    ghost promise = { Sounds (promises.const_param A.reads E.reads A.spells E.spells A.normal E.normal A.shown E.values) };
+
     fn parse(
         alloc: Global,
         input: &mut ParseStream<'_>,
     ) -> Result<ConstParamOf<TypeOf<A, E>, A, E>, Error>
         ensures reads { Reads (knot.const_param A.reads E.reads input.old) result input.new }
         ensures within { Follows input.old input.new }
+        ensures promise { Keeps (Sounds (promises.const_param A.reads E.reads A.spells E.spells A.normal E.normal A.shown E.values)) input.old result input.new }
+        ensures front { Takes (fronts.const_param A.spells E.spells) input.old result input.new }
     {
         parse_const_param(alloc, input)
     }

@@ -1,5 +1,8 @@
 //! Paths and their arguments are read.
 
+ghost use Rattle.syn_path.specs.Took.{Sounds, Takes};
+ghost use Rattle.syn_ty.specs.ty.Fronts as fronts;
+ghost use Rattle.syn_ty.specs.ty.Promises as promises;
 ghost use Rattle.std.specs.Prelude.{◌≡◌, ◌<◌, ◌≤◌, length, [], None, is_some};
 ghost use Rattle.syn_forms.specs.declared.places.BoundPlace.TheVariants as bound_places;
 ghost use Rattle.syn_forms.specs.declared.places.TypePlace.TheVariants as places;
@@ -16,7 +19,7 @@ ghost use Rattle.syn_ty.specs.ty.Knot as knot;
 ghost use Rattle.syn_ty.specs.ty.Points.{a_bound};
 ghost use Rattle.syn_ty.specs.ty.Reading as types;
 ghost use Rattle.syn_ty.specs.ty.Types as parts;
-ghost use Rattle.token_core.specs.Reads.{Reads, Follows, Gives, Fails, Parses, and_then, optional};
+ghost use Rattle.token_core.specs.Reads.{Fails, Follows, Gives, Keeps, Parses, Reads, and_then, optional};
 ghost use Rattle.token_core.specs.Tokens as token;
 
 use crate::generics::{GenericParamOf, TypeParamBoundOf};
@@ -1026,17 +1029,33 @@ impl<A: Attributes, E: Value> ReadArguments for PathArgumentsOf<A, E> {
 
     ghost reads_segment = { knot.segment A.reads E.reads };
 
+    ghost promise_path = { Sounds (promises.path A.reads E.reads A.spells E.spells A.normal E.normal A.shown E.values) };
+
+    ghost promise_segment = { Sounds (promises.segment A.reads E.reads A.spells E.spells A.normal E.normal A.shown E.values) };
+
+    ghost spells_path = { fronts.path A.spells E.spells };
+
+    ghost spells_segment = { fronts.segment A.spells E.spells };
+
     fn parse_path(
         alloc: Global,
         input: &mut ParseStream<'_>,
-    ) -> Result<PathOf<PathArgumentsOf<A, E>>, Error> {
+    ) -> Result<PathOf<PathArgumentsOf<A, E>>, Error>
+        ensures parses { Parses (knot.path A.reads E.reads styles.AsWritten) result input.old input.new }
+        ensures promise { Keeps (Sounds (promises.path A.reads E.reads A.spells E.spells A.normal E.normal A.shown E.values)) input.old result input.new }
+        ensures front { Takes (fronts.path A.spells E.spells) input.old result input.new }
+    {
         parse_path::<A, E>(alloc, input, PathStyle::AsWritten)
     }
 
     fn parse_segment(
         alloc: Global,
         input: &mut ParseStream<'_>,
-    ) -> Result<PathSegmentOf<PathArgumentsOf<A, E>>, Error> {
+    ) -> Result<PathSegmentOf<PathArgumentsOf<A, E>>, Error>
+        ensures parses { Parses (knot.segment A.reads E.reads) result input.old input.new }
+        ensures promise { Keeps (Sounds (promises.segment A.reads E.reads A.spells E.spells A.normal E.normal A.shown E.values)) input.old result input.new }
+        ensures front { Takes (fronts.segment A.spells E.spells) input.old result input.new }
+    {
         parse_segment::<A, E>(alloc, input)
     }
 }
@@ -1056,10 +1075,13 @@ impl<A: Attributes, E: Value> Parse for GenericArgumentOf<A, E> {
 
     ghost refuses = { Fails (knot.argument A.reads E.reads) };
 
-    #[tactic(auto, using(token_core::specs::Reads::no_promise))]
+    ghost promise = { Sounds (promises.argument A.reads E.reads A.spells E.spells A.normal E.normal A.shown E.values) };
+
     fn parse(alloc: Global, input: &mut ParseStream<'_>) -> Result<GenericArgumentOf<A, E>, Error>
         ensures reads { Reads (knot.argument A.reads E.reads input.old) result input.new }
         ensures within { Follows input.old input.new }
+        ensures promise { Keeps (Sounds (promises.argument A.reads E.reads A.spells E.spells A.normal E.normal A.shown E.values)) input.old result input.new }
+        ensures front { Takes (fronts.argument A.spells E.spells) input.old result input.new }
     {
         parse_argument::<A, E>(alloc, input)
     }
@@ -1078,13 +1100,16 @@ impl<A: Attributes, E: Value> Parse for AngleBracketedGenericArgumentsOf<Generic
 
     ghost refuses = { Fails (knot.angle_bracketed A.reads E.reads) };
 
-    #[tactic(auto, using(token_core::specs::Reads::no_promise))]
+    ghost promise = { Sounds (promises.angle A.reads E.reads A.spells E.spells A.normal E.normal A.shown E.values) };
+
     fn parse(
         alloc: Global,
         input: &mut ParseStream<'_>,
     ) -> Result<AngleBracketedGenericArgumentsOf<GenericArgumentOf<A, E>>, Error>
         ensures reads { Reads (knot.angle_bracketed A.reads E.reads input.old) result input.new }
         ensures within { Follows input.old input.new }
+        ensures promise { Keeps (Sounds (promises.angle A.reads E.reads A.spells E.spells A.normal E.normal A.shown E.values)) input.old result input.new }
+        ensures front { Takes (fronts.angle A.spells E.spells) input.old result input.new }
     {
         parse_angle_bracketed::<A, E>(alloc, input)
     }
@@ -1104,6 +1129,8 @@ impl<A: Attributes, E: Value> AngleBracketedGenericArgumentsOf<GenericArgumentOf
         input: &mut ParseStream<'_>,
     ) -> Result<AngleBracketedGenericArgumentsOf<GenericArgumentOf<A, E>>, Error>
         ensures parses { Parses (knot.turbofish A.reads E.reads) result input.old input.new }
+        ensures promise { Keeps (Sounds (promises.turbofish A.reads E.reads A.spells E.spells A.normal E.normal A.shown E.values)) input.old result input.new }
+        ensures front { Takes (fronts.turbofish A.spells E.spells) input.old result input.new }
     {
         parse_turbofish::<A, E>(alloc, input)
     }
@@ -1122,13 +1149,16 @@ impl<A: Attributes, E: Value> Parse for ParenthesizedGenericArgumentsOf<TypeOf<A
 
     ghost refuses = { Fails (knot.parenthesized A.reads E.reads) };
 
-    #[tactic(auto, using(token_core::specs::Reads::no_promise))]
+    ghost promise = { Sounds (promises.parenthesized A.reads E.reads A.spells E.spells A.normal E.normal A.shown E.values) };
+
     fn parse(
         alloc: Global,
         input: &mut ParseStream<'_>,
     ) -> Result<ParenthesizedGenericArgumentsOf<TypeOf<A, E>, A>, Error>
         ensures reads { Reads (knot.parenthesized A.reads E.reads input.old) result input.new }
         ensures within { Follows input.old input.new }
+        ensures promise { Keeps (Sounds (promises.parenthesized A.reads E.reads A.spells E.spells A.normal E.normal A.shown E.values)) input.old result input.new }
+        ensures front { Takes (fronts.parenthesized A.spells E.spells) input.old result input.new }
     {
         parse_parenthesized::<A, E>(alloc, input)
     }

@@ -1,9 +1,9 @@
 use Rattle.token_core.specs.Trees.{toks}
-use Rattle.synmid.proofs.Whole.{shows-reprints, pattern-keeps}
+use Rattle.synmid.proofs.Whole.{shows-reprints, pattern-keeps, pattern-refuses}
 use Rattle.synmid.specs.Readers.{patterns_category}
 use Rattle.synmid.proofs.reader.PatternReader.reprint_over.Goals as goal
 
 pub returns : goal.returns
 returns g c =
-    let C = patterns_category g.X.Subtree.reads g.X.Subtree.prints c.args.self in
-    shows-reprints C (toks c.args.tokens.now) (pattern-keeps g.X.Subtree.reads g.X.Subtree.prints c.args.self (toks c.args.tokens.now)) c.read_all_with.result c.read_all_with.ensures.reads
+    let C = patterns_category g.X.Subtree.reads g.X.Subtree.spells g.X.Subtree.normal g.X.Subtree.prints c.args.self in
+    shows-reprints C (toks c.args.tokens.now) (pattern-keeps g.X.Subtree.reads g.X.Subtree.spells g.X.Subtree.normal g.X.Subtree.prints g.met.X.Subtree.steady g.met.X.Subtree.sound g.met.X.Subtree.complete g.met.X.Subtree.reprint c.args.self (toks c.args.tokens.now)) (pattern-refuses g.X.Subtree.reads g.X.Subtree.spells g.X.Subtree.normal g.X.Subtree.prints g.met.X.Subtree.steady g.met.X.Subtree.sound g.met.X.Subtree.complete g.met.X.Subtree.reprint c.args.self (toks c.args.tokens.now)) c.read_all_with.result c.read_all_with.ensures.reads

@@ -1,0 +1,33 @@
+-- What the readers of patterns take on the front of a list.
+use Rattle.std.specs.Prelude.{◌≡◌, ◌&&◌, ℕ, Bool, false}
+use Rattle.token_core.specs.declared.tree.Delimiter.TheVariants.{Parenthesis}
+use Rattle.token_core.specs.Reads.{sees_group, third}
+use Rattle.token_core.specs.Tokens as token
+use Rattle.token_core.specs.Toks.{Toks}
+use Rattle.syn_path.specs.declared.supplied.Place.{Place}
+use Rattle.syn_ty.specs.ty.Parts.{loosely}
+use Rattle.syn_ty.specs.ty.Spelling.{Relation}
+use Rattle.syn_pat.specs.declared.place.PatPlace.{PatPlace}
+use Rattle.syn_pat.specs.pat.Admitted.{IsPat}
+use Rattle.syn_pat.specs.pat.Pats.{Pat}
+use Rattle.syn_pat.specs.pat.Spelt.{pats_to}
+
+-- a `::` before parentheses, with which no path goes on
+abbrev pub sees_called : Toks → Bool
+sees_called l = token.sees_path_sep l && third (sees_group Parenthesis) l
+
+-- Neither `::` before parentheses follows, nor `!=`: before these a lone word is read as a path, and not as what it binds.
+abbrev pub Stops : Toks → Type 0
+Stops r = (sees_called r ≡ false) × (token.sees_ne r ≡ false)
+
+-- what it spells where it stops
+abbrev pub Before : {A : Type 0} → Relation A → Relation A
+Before Is x l r = Stops r → Is x l r
+
+module _ {X : Type 0} (spells : Place → X → Toks → Type 0) where
+  -- a pattern of some height
+  abbrev pub IsSomePat : PatPlace → Pat X → Toks → Toks → Type 0
+  IsSomePat place x l r = (n : ℕ) × IsPat spells (pats_to spells n) loosely place x l r
+
+  abbrev pub pat : PatPlace → Pat X → Toks → Toks → Type 0
+  pat place = Before (IsSomePat place)

@@ -1,0 +1,44 @@
+-- Which lists patterns spell: the relation tied, by the height of a pattern, and for each reader all of a list. No list here has an invisible group.
+use Rattle.std.specs.Prelude.{ℕ, zero, suc, []}
+use Rattle.token_core.specs.Spellings.{IsMark, IsWord}
+use Rattle.token_core.specs.Toks.{Toks, done}
+use Rattle.syn_path.specs.declared.supplied.Place.{Place}
+use Rattle.syn_path.specs.declared.supplied.Place.TheVariants.{Guard}
+use Rattle.syn_attr.specs.attr.Attrs.{Attribute as Attr}
+use Rattle.syn_attr.specs.declared.expr.Expr.{Expr}
+use Rattle.syn_attr.specs.declared.expr.Expr.TheVariants as e
+use Rattle.syn_forms.specs.declared.places.TypePlace.TheVariants.{Plus}
+use Rattle.syn_ty.specs.ty.Parts.{Manner, is_clear, End}
+use Rattle.syn_ty.specs.ty.Spelling.{Relation}
+use Rattle.syn_ty.specs.ty.Trees.{TypeTree}
+use Rattle.syn_pat.specs.declared.pat.PatOf.TheVariants as v
+use Rattle.syn_pat.specs.declared.place.PatPlace.{PatPlace}
+use Rattle.syn_pat.specs.declared.place.PatPlace.TheVariants.{Single, LeadingVert}
+use Rattle.syn_pat.specs.pat.Admitted.{IsPat}
+use Rattle.syn_pat.specs.pat.Pats.{Pat, PatType, guard_of, typed_of}
+use Rattle.syn_pat.specs.pat.Spelling.{types_to}
+use Rattle.token_core.specs.Tokens as token
+
+module _ {X : Type 0} (spells : Place → X → Toks → Type 0) where
+  -- patterns of at most this height
+  abbrev pub pats_to : ℕ → Manner → PatPlace → Relation (Pat X)
+  pats_to zero how place x l r = ⊥
+  pats_to (suc n) how place x l r = IsPat spells (pats_to n) how place x l r
+
+  -- ---- for each reader: all of a list
+
+  -- single, multi, with leading vert
+  abbrev pub SpellsPat : PatPlace → Manner → Pat X → Toks → Type 0
+  SpellsPat place how x l = (n : ℕ) × IsPat spells (pats_to n) how place x l done
+
+  module _ (how : Manner) where
+    -- with leading vert, and perhaps `if` and a guard, which spells all that is left
+    pub data SpellsGuarded : Pat X → Toks → Type 0 where
+      without_guard : {x : Pat X} {l : Toks} → SpellsPat LeadingVert how x l → SpellsGuarded x l
+      with_guard : {x : Pat X} {w : token.If} {g : X} {l m k : Toks} →
+          (n : ℕ) → IsPat spells (pats_to n) how LeadingVert x l m → IsWord w m k → spells Guard g k → SpellsGuarded (v.Guard (guard_of [] x w (e.Other g))) l
+
+    -- a single pattern, `:` and a type with plus
+    pub data SpellsPatType : PatType X → Toks → Type 0 where
+      a_pat_type : {x : Pat X} {c : token.Colon} {t : TypeTree (Attr X) (Expr X)} {l m j : Toks} →
+          (n k : ℕ) → (f : End) → IsPat spells (pats_to n) how Single x l m → IsMark (is_clear how) c m j → (types_to spells k how).ty Plus f t j done → SpellsPatType (typed_of [] x c t) l

@@ -1,0 +1,10 @@
+use Rattle.syn_ty.specs.ty.Promises as promises
+use Rattle.syn_ty.proofs.ty_laws.WholeTold.{sounds, takes, captured_sound}
+use Rattle.syn_ty.proofs.ty_laws.BoundTold.{captured_took}
+use Rattle.syn_ty.proofs.generics.read.CapturedParamParse.parse.Goals as goal
+
+pub returns-clause-promise : goal.returns-clause-promise
+returns-clause-promise c = sounds promises.captured captured_sound _ _ _ c.parse_captured.ensures.parses.0
+
+pub returns-clause-front : goal.returns-clause-front
+returns-clause-front c = takes captured_took _ _ _ c.parse_captured.ensures.parses.0

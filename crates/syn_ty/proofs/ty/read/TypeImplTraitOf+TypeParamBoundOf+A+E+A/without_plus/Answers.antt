@@ -1,0 +1,12 @@
+use Rattle.syn_ty.specs.ty.Promises as promises
+use Rattle.syn_ty.proofs.ty_laws.WholeTold.{sounds, takes, impl_trait_sound}
+use Rattle.syn_ty.proofs.ty_laws.Given.{given}
+use Rattle.syn_ty.proofs.ty_laws.AloneTold.{impl_trait_took}
+use Rattle.syn_forms.specs.declared.places.TypePlace.TheVariants.{NoPlus}
+use Rattle.syn_ty.proofs.ty.read.TypeImplTraitOf+TypeParamBoundOf+A+E+A.without_plus.Goals as goal
+
+pub returns-clause-promise : goal.returns-clause-promise
+returns-clause-promise g c = sounds (promises.impl_trait g.A.Attributes.reads g.E.Value.reads g.A.Attributes.spells g.E.Value.spells g.A.Attributes.normal g.E.Value.normal g.A.Attributes.shown g.E.Value.values NoPlus) (impl_trait_sound (given g.met.A.Attributes.told g.met.E.Value.consts g.met.E.Value.lengths) NoPlus) _ _ _ c.parse_impl_trait.ensures.parses.0
+
+pub returns-clause-front : goal.returns-clause-front
+returns-clause-front g c = takes (impl_trait_took (given g.met.A.Attributes.told g.met.E.Value.consts g.met.E.Value.lengths) NoPlus) _ _ _ c.parse_impl_trait.ensures.parses.0

@@ -1,0 +1,12 @@
+use Rattle.syn_ty.specs.ty.Promises as promises
+use Rattle.syn_ty.proofs.ty_laws.WholeTold.{sounds, takes, trait_object_sound}
+use Rattle.syn_ty.proofs.ty_laws.Given.{given}
+use Rattle.syn_ty.proofs.ty_laws.AloneTold.{trait_object_took}
+use Rattle.syn_forms.specs.declared.places.TypePlace.TheVariants.{NoPlus}
+use Rattle.syn_ty.proofs.ty.read.TypeTraitObjectOf+TypeParamBoundOf+A+E+A.without_plus.Goals as goal
+
+pub returns-clause-promise : goal.returns-clause-promise
+returns-clause-promise g c = sounds (promises.trait_object g.A.Attributes.reads g.E.Value.reads g.A.Attributes.spells g.E.Value.spells g.A.Attributes.normal g.E.Value.normal g.A.Attributes.shown g.E.Value.values NoPlus) (trait_object_sound (given g.met.A.Attributes.told g.met.E.Value.consts g.met.E.Value.lengths) NoPlus) _ _ _ c.parse_trait_object.ensures.parses.0
+
+pub returns-clause-front : goal.returns-clause-front
+returns-clause-front g c = takes (trait_object_took (given g.met.A.Attributes.told g.met.E.Value.consts g.met.E.Value.lengths) NoPlus) _ _ _ c.parse_trait_object.ensures.parses.0
