@@ -1,4 +1,5 @@
 -- What is known of the reads that a form holds: where a list spells a tree clearly and what follows does not go on with it, the read answers that tree and takes no more.
+use Rattle.std.specs.Prelude.{is_some}
 use Rattle.std.proofs.Common.{◌≡◌, ◌⊎◌, ◌&&◌, ◌||◌, not, ℕ, ◌<◌, ◌≤◌, Bool, true, false, List, Option, Ok}
 use Rattle.token_core.specs.declared.span.Span.{Span}
 use Rattle.token_core.specs.declared.tree.Delimiter.TheVariants.{Parenthesis, Brace, Bracket}
@@ -18,15 +19,18 @@ use Rattle.syn_forms.specs.declared.places.ParamPlace.{ParamPlace}
 use Rattle.syn_forms.specs.declared.places.TypePlace.{TypePlace}
 use Rattle.syn_forms.specs.lists.Reading.{sees_bound}
 use Rattle.syn_forms.specs.nested.Below.{ahead}
-use Rattle.syn_forms.specs.paths.Reading.{sees_arguments}
+use Rattle.syn_forms.specs.paths.Reading.{goes_on, sees_arguments}
 use Rattle.syn_forms.specs.places.Reading.{allows_const, allows_plus}
 use Rattle.syn_forms.proofs.nested_laws.Ahead.{weight}
+use Rattle.syn_path.specs.declared.path.PathStyle.{PathStyle}
 use Rattle.syn_path.specs.declared.path.PathStyle.TheVariants.{AsWritten}
+use Rattle.syn_ty.specs.path.Reading as reads
+use Rattle.syn_ty.specs.path.Spelling.{IsAnyPath, IsPath}
 use Rattle.syn_ty.specs.path.Reading.{ends_constraint, sees_const, sees_lone_lifetime}
 use Rattle.syn_ty.specs.ty.Parts.{Manner, clearly, End, Parts}
 use Rattle.syn_ty.specs.ty.Points.{Readers, a_bound, a_param, a_type, an_argument, some_arguments}
 use Rattle.syn_ty.specs.ty.Reading.{sees_call}
-use Rattle.syn_ty.specs.ty.Trees.{GenericArgument, GenericParam, PathArguments, TypeParamBound, TypeTree}
+use Rattle.syn_ty.specs.ty.Trees.{GenericArgument, GenericParam, Path, PathArguments, QSelf, TypeParamBound, TypeTree}
 
 -- ---- what may follow
 
@@ -46,6 +50,11 @@ pub record Fits (d : End) (k : Toks) : Type 0 where
   pub stops : Stops k
   pub no_plus : d.is_open ≡ true → token.sees_plus k ≡ false
   pub no_word : d.in_plus ≡ true → sees_word any_text k ≡ false
+
+-- Nothing that a path goes on with.
+pub record PathStops (style : PathStyle) (k : Toks) : Type 0 where
+  pub no_more : goes_on k ≡ false
+  pub no_arguments : sees_arguments style k ≡ false
 
 -- After a parameter: a comma, a `>`, or the end.
 abbrev pub ends_param : Toks → Bool
@@ -111,6 +120,13 @@ module _ {A E : Type 0} where
     pub argument : (x : GenericArgument A E) (l k : Toks) (f : Option Span) (e : Span) (sc : Scope) → ahead (at l f e sc) < limit → (part clearly).argument x l k → ends_constraint k ≡ true → Reads_to (r an_argument) x l k f e sc
     pub arguments : (x : PathArguments A E) (l k : Toks) (f : Option Span) (e : Span) (sc : Scope) → ahead (at l f e sc) < limit → (part clearly).arguments x l k → Reads_to (r some_arguments) x l k f e sc
     pub firsts : Firsts part
+
+  -- ---- paths that begin where at most a limit is left
+
+  pub record PathsMeet (r : Readers A E) (part : Manner → Parts A E) (limit : ℕ) : Type 0 where
+    pub path : (style : PathStyle) (x : Path A E) (l k : Toks) (f : Option Span) (e : Span) (sc : Scope) → ahead (at l f e sc) ≤ limit → IsPath part clearly style x l k → PathStops style k → Reads_to (reads.path r style) x l k f e sc
+    pub any : (style : PathStyle) (o : Option (QSelf A E)) (x : Path A E) (l k : Toks) (f : Option Span) (e : Span) (sc : Scope) → ahead (at l f e sc) ≤ limit → IsAnyPath part clearly style o x l k → PathStops style k →
+        (is_some o ≡ true → sees_sep k ≡ false) → Reads_to (reads.maybe_qualified r style) (o, x) l k f e sc
 
   -- ---- attributes, and expressions in their places
 
