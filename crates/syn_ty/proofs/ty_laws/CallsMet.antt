@@ -1,5 +1,5 @@
 -- What follows the path that a type begins with is read after it: a macro call, which drops a binder, the bounds of a trait object, or nothing.
-use Rattle.std.proofs.Common.{◌≡◌, Bool, true, false, not, ◌&&◌, ◌||◌, List, [], ◌∷◌, Option, Some, None, is_some, Ok, refl, sym, ◌∙◌, ap, map}
+use Rattle.std.proofs.Common.{◌≡◌, ℕ, ◌≤◌, Bool, true, false, not, ◌&&◌, ◌||◌, List, [], ◌∷◌, Option, Some, None, is_some, Ok, refl, sym, ◌∙◌, ap, map}
 use Rattle.std.specs.List.{list_all}
 use Rattle.token_core.specs.declared.span.DelimSpan.{DelimSpan}
 use Rattle.token_core.specs.declared.span.Span.{Span}
@@ -7,7 +7,7 @@ use Rattle.token_core.specs.declared.tree.Delimiter.{Delimiter}
 use Rattle.token_core.specs.declared.tree.Spacing.{Spacing}
 use Rattle.token_core.specs.declared.tree.Spacing.TheVariants.{Joint, Alone}
 use Rattle.token_core.specs.declared.tree.TokenStream.{TokenStream}
-use Rattle.token_core.specs.Listed.{AreListed, Nowhere, last_value, value_and_mark}
+use Rattle.token_core.specs.Listed.{AreListed, AfterMark, Anywhere, Nowhere, last_value, value_and_mark}
 use Rattle.token_core.specs.Reads.{sees_mark}
 use Rattle.token_core.specs.Spellings.{IsMark, is_mark, last_char, more_chars}
 use Rattle.token_core.specs.Stream.{Scope}
@@ -27,23 +27,27 @@ use Rattle.syn_path.specs.path.Reading.{sees_sep}
 use Rattle.syn_path.specs.path.Spelling as bare
 use Rattle.syn_path.specs.path.Spelling.{IsBarePath, IsLeading, a_bare_path, last_segment, leading, more_segments, no_leading}
 use Rattle.syn_path.proofs.mac_laws.Complete.{call_after_complete}
+use Rattle.syn_forms.specs.declared.places.BoundPlace.TheVariants.{Object}
 use Rattle.syn_forms.specs.lists.Reading.{bounds_from, list_from, plus_follows}
+use Rattle.syn_forms.specs.nested.Below.{ahead}
 use Rattle.syn_forms.specs.paths.Reading.{goes_on, sees_turbofish}
 use Rattle.syn_ty.specs.declared.generics.TypeParamBoundOf.TheVariants as b
 use Rattle.syn_ty.specs.declared.ty.TypeOf.TheVariants as v
+use Rattle.syn_ty.specs.generics.Bounds.{AreBounds}
 use Rattle.syn_ty.specs.generics.Params.{named_bound}
 use Rattle.syn_ty.specs.path.Paths.{ModPath, ModSegment, Sep, is_none, no_arguments, nothing, segment_of, without}
 use Rattle.syn_ty.specs.path.Reading.{is_mod_style}
 use Rattle.syn_ty.specs.path.Silent as silent
 use Rattle.syn_ty.specs.path.Spelling.{is_segment_word, IsSegment, a_word, IsPath, a_path}
-use Rattle.syn_ty.specs.ty.Parts.{Manner, clearly, Parts}
-use Rattle.syn_ty.specs.ty.Points.{Readers, a_bound}
+use Rattle.syn_ty.specs.ty.Parts.{Manner, clearly, End, Parts}
+use Rattle.syn_ty.specs.ty.Points.{Readers}
 use Rattle.syn_ty.specs.ty.Reading as reading
 use Rattle.syn_ty.specs.ty.Reading.{object_of, sees_call}
 use Rattle.syn_ty.specs.ty.Spelling.{IsOptional, absent, present}
-use Rattle.syn_ty.specs.ty.Trees.{BoundLifetimes, Path, PathSegment, QSelf, TypeTree}
+use Rattle.syn_ty.specs.ty.Trees.{BoundLifetimes, Path, PathSegment, QSelf, TypeParamBound, TypeTree}
 use Rattle.syn_ty.specs.ty.Types.{macro_type_of, path_type_of, qualified_with}
-use Rattle.syn_ty.proofs.ty_laws.Met.{PathStops}
+use Rattle.syn_ty.proofs.ty_laws.BoundListsMet.{bounds_from_met, ends_as, further, plus_stopped}
+use Rattle.syn_ty.proofs.ty_laws.Met.{Fits, Meets, PathStops}
 
 -- ---- the path of a call, with what stands for no arguments
 
@@ -161,3 +165,14 @@ module _ {A E : Type 0} (r : Readers A E) (plus : Bool) where
         last = s.closing;
         reads = chosen (sees_call l && is_mod_style (as_path A E p)) true _ _ (at l f e sc) _ (ap (λ z. z && is_mod_style (as_path A E p)) (bang_call a j d s c k) ∙ mod_style A E p) (link _ q refl);
       }
+
+-- ---- the bounds after a path and `+`
+
+module _ {A E : Type 0} (r : Readers A E) (part : Manner → Parts A E) (limit : ℕ) (meets : Meets r part limit) where
+  pub path_object_met : (d : End) (o : Option (BoundLifetimes A E)) (p : Path A E) (q : token.Plus) (xs : List (TypeParamBound A E)) (ps : List token.Plus) (l m k : Toks) (f : Option Span) (e : Span) (sc : Scope) → ahead (at l f e sc) ≤ limit →
+      IsMark true q l m → AreBounds part clearly Object Anywhere false d xs ps m k → Fits d k → Reads_to (reading.path_object r true o p) (object_of (b.Trait (named_bound o None p) ∷ xs, q ∷ ps)) l k f e sc
+  path_object_met d o p q xs ps l m k f e sc lim i j fits =
+      let first = b.Trait (named_bound o None p) in
+      let w = bounds_from_met r part limit meets Object true first (first ∷ xs, q ∷ ps) l k f e sc lim
+          (further refl i (ends_as part Object Anywhere AfterMark (λ z. z) false d xs ps m k refl j) (plus_stopped part Object false d k fits)) in
+      record { last = w.last; reads = link _ w.reads refl }

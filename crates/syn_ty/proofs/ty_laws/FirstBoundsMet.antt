@@ -1,6 +1,5 @@
 -- What bounds begin with, and that fewer tokens are left after them: over the same of what they hold.
-use Rattle.std.proofs.Common.{◌≡◌, ◌&&◌, ◌||◌, Bool, true, false, List, [], ◌∷◌, Option, Some, None, refl, sym, ◌∙◌, ap}
-use Rattle.std.proofs.lemmas.Bool.{or_left, or_right}
+use Rattle.std.proofs.Common.{◌≡◌, ◌&&◌, Bool, true, false, List, Option, refl, ap}
 use Rattle.token_core.specs.declared.lifetime.Lifetime.{Lifetime}
 use Rattle.token_core.specs.declared.span.DelimSpan.{DelimSpan}
 use Rattle.token_core.specs.declared.span.Span.{Span}
@@ -13,7 +12,7 @@ use Rattle.token_core.specs.Listed.{AreListed, Nowhere, none_left, last_value, v
 use Rattle.token_core.specs.Reads.{is_done, sees_group, sees_mark, sees_word}
 use Rattle.token_core.specs.Spellings.{last_char, more_chars, IsMark, is_mark, is_word, IsLifetime, is_lifetime}
 use Rattle.token_core.specs.Tokens as token
-use Rattle.token_core.specs.Toks.{Bytes, Toks, done, word, mark, group}
+use Rattle.token_core.specs.Toks.{Bytes, Toks, word, mark, group}
 use Rattle.token_core.specs.Trees.{punct}
 use Rattle.syn_path.specs.declared.path.PathStyle.TheVariants.{AsWritten}
 use Rattle.syn_path.specs.path.Paths.{Sep}

@@ -1,50 +1,43 @@
 -- What paths and their segments begin with, and that fewer tokens are left after them: over the same of what they hold.
-use Rattle.std.proofs.lemmas.Bool.{and_from, and_left, and_right, eqb-true, or_from, or_left, or_right}
+use Rattle.std.proofs.lemmas.Bool.{and_from, and_left, and_right, eqb-true, or_from, or_left}
 use Rattle.std.proofs.lemmas.Slice.Eq.{bytes_eq-Decides}
-use Rattle.std.proofs.Common.{◌≡◌, ◌⊎◌, ◌&&◌, ◌||◌, ◌==◌, ℕ, not, if◌then◌else◌, is_some, Bool, true, false, List, [], ◌∷◌, Option, Some, None, refl, sym, ◌∙◌, ap}
+use Rattle.std.proofs.Common.{◌≡◌, ◌⊎◌, ◌&&◌, ◌||◌, ◌==◌, ℕ, not, if◌then◌else◌, is_some, Bool, true, false, List, [], ◌∷◌, Option, Some, None, refl, ◌∙◌, ap}
 use Rattle.token_core.specs.declared.lifetime.Lifetime.{Lifetime}
 use Rattle.token_core.specs.declared.span.Span.{Span}
-use Rattle.token_core.specs.declared.span.DelimSpan.{DelimSpan}
-use Rattle.token_core.specs.declared.tree.Delimiter.TheVariants.{Parenthesis}
 use Rattle.token_core.specs.declared.tree.Ident.{Ident}
 use Rattle.token_core.specs.declared.tree.Spacing.{Spacing}
 use Rattle.token_core.specs.declared.tree.Spacing.TheVariants.{Joint}
 use Rattle.token_core.specs.Keywords.{is_keyword}
 use Rattle.token_core.specs.Lifetimes.{sees_lifetime}
-use Rattle.token_core.specs.Listed.{AreListed, Anywhere, Nowhere, none_left, last_value, value_and_mark}
+use Rattle.token_core.specs.Listed.{AreListed, Nowhere, none_left, last_value, value_and_mark}
 use Rattle.token_core.specs.Lits.{false_text, lit_bool, sees_lit, true_text}
 use Rattle.token_core.specs.declared.lit.Lit.{Lit}
 use Rattle.token_core.specs.declared.lit.Lit.TheVariants as v
 use Rattle.token_core.specs.Marks.{text_of}
 use Rattle.token_core.specs.Reads.{after_one, is_done, is_text, sees_group, sees_mark, sees_word, third}
-use Rattle.token_core.specs.Spellings.{last_char, more_chars, IsMark, is_mark, IsWord, IsLifetime}
+use Rattle.token_core.specs.Spellings.{last_char, more_chars, IsMark, is_mark, IsLifetime}
 use Rattle.token_core.specs.Tokens as token
 use Rattle.token_core.specs.Toks.{Bytes, Toks, done, word, mark, lit, group, enter, leave}
 use Rattle.token_core.specs.Trees.{punct}
 use Rattle.token_core.proofs.MarkSpells.{mark_seen}
 use Rattle.token_core.proofs.Unseen.{no_mark-other, lt_apart, lt_no_shift}
-use Rattle.syn_path.specs.declared.path.PathOf.{PathOf}
-use Rattle.syn_path.specs.declared.path.PathSegmentOf.{PathSegmentOf}
 use Rattle.syn_path.specs.declared.path.PathStyle.{PathStyle}
 use Rattle.syn_path.specs.declared.path.PathStyle.TheVariants.{AsWritten}
 use Rattle.syn_path.specs.path.Paths.{Sep}
-use Rattle.syn_path.specs.path.Reading.{sees_angle}
-use Rattle.syn_path.specs.path.Spelling as bare
 use Rattle.syn_forms.specs.declared.places.BoundPlace.{BoundPlace}
 use Rattle.syn_forms.specs.declared.places.ParamPlace.{ParamPlace}
 use Rattle.syn_forms.specs.declared.places.TypePlace.{TypePlace}
-use Rattle.syn_forms.specs.declared.places.TypePlace.TheVariants.{Plus, NoPlus}
+use Rattle.syn_forms.specs.declared.places.TypePlace.TheVariants.{Plus}
 use Rattle.syn_forms.specs.inputs.Reading.{sees_name}
 use Rattle.syn_forms.specs.lists.Reading.{sees_bound}
-use Rattle.syn_forms.specs.paths.Reading.{is_named_word, sees_arguments, sees_turbofish}
+use Rattle.syn_forms.specs.paths.Reading.{sees_arguments, sees_turbofish}
 use Rattle.syn_ty.specs.path.Reading.{sees_const, sees_lone_lifetime}
-use Rattle.syn_ty.specs.path.Signed.{IsReturn, no_output, an_output, IsParens, a_parens, IsDropped, nothing_dropped, a_sep_dropped, a_pair_dropped, IsSigned, a_signed, AreSigned, signed_last, signed_after, IsBoundPath, without_parens, with_parens}
-use Rattle.syn_ty.specs.path.Spelling.{is_segment_word, IsAngle, an_angle, IsArguments, some_arguments, IsSegment, a_word, a_word_with_arguments, IsPath, a_path, IsQualified, by_type, by_type_as_path, IsAnyPath, unqualified, qualified}
+use Rattle.syn_ty.specs.path.Spelling.{is_segment_word, IsAngle, an_angle, IsSegment, a_word, a_word_with_arguments, IsPath, a_path, IsQualified, by_type, by_type_as_path, IsAnyPath, unqualified, qualified}
 use Rattle.syn_ty.specs.ty.Parts.{Manner, clearly, End, Parts}
 use Rattle.syn_ty.specs.ty.Reading.{is_trait}
 use Rattle.syn_ty.specs.ty.Spelling.{IsOptional, absent, present}
-use Rattle.syn_ty.specs.ty.Trees.{AngleBracketed, GenericArgument, GenericParam, Parenthesized, Path, PathArguments, PathSegment, QSelf, ReturnType, TypeParamBound, TypeTree}
-use Rattle.syn_ty.proofs.ty_laws.LessMet.{same, some, no_no, no_less, less_no, less_less, word_less, group_less, mark_no, mark_takes, word_takes, optional_no, listed_no, listed_less}
+use Rattle.syn_ty.specs.ty.Trees.{AngleBracketed, GenericArgument, GenericParam, Path, PathArguments, PathSegment, QSelf, TypeParamBound, TypeTree}
+use Rattle.syn_ty.proofs.ty_laws.LessMet.{no_no, no_less, less_no, less_less, word_less, mark_no, mark_takes, word_takes, optional_no, listed_no, listed_less}
 use Rattle.syn_ty.proofs.ty_laws.Met.{BoundBegins, ItemBegins, Less, NoMore}
 
 -- ---- what is known by the height of a tree
@@ -95,19 +88,30 @@ pub lt_no_colon : {clear : Bool} (c : token.Lt) (l r : Toks) → IsMark clear c 
 unfolding sees_mark
 lt_no_colon c l r (is_mark (last_char x)) = refl
 
-lt_unseen : (l : Toks) → token.sees_lt l ≡ true → token.sees_colon l ≡ false
+-- where a mark of one character stands there is a token, and no mark of another one
+pub mark_there : (c : ℕ) (l : Toks) → sees_mark (c ∷ []) l ≡ true → is_done l ≡ false
+unfolding is_done sees_mark
+mark_there c done h = cc h
+mark_there c (word i k) h = refl
+mark_there c (mark p k) h = refl
+mark_there c (lit x k) h = refl
+mark_there c (group d s e k) h = refl
+mark_there c (enter s k) h = mark_there c k h
+mark_there c (leave k) h = mark_there c k h
+
+pub mark_other : (c d : ℕ) → (c == d) ≡ false → (l : Toks) → sees_mark (c ∷ []) l ≡ true → sees_mark (d ∷ []) l ≡ false
 unfolding sees_mark
-lt_unseen done h = refl
-lt_unseen (word i k) h = refl
-lt_unseen (mark p k) h = by_char (p.ch == 58) refl h
+mark_other c d n done h = refl
+mark_other c d n (word i k) h = refl
+mark_other c d n (mark p k) h = by_char (p.ch == c) refl
   where
-    by_char : (b : Bool) → (p.ch == 58) ≡ b → token.sees_lt (mark p k) ≡ true → token.sees_colon (mark p k) ≡ false
-    by_char true e g = let n : p.ch ≡ 58 = eqb-true p.ch 58 e in cc
-    by_char false e g = no_mark-other 58 [] p k e
-lt_unseen (lit x k) h = refl
-lt_unseen (group d s c k) h = refl
-lt_unseen (enter s k) h = lt_unseen k h
-lt_unseen (leave k) h = lt_unseen k h
+    by_char : (b : Bool) → (p.ch == c) ≡ b → sees_mark (d ∷ []) (mark p k) ≡ false
+    by_char true e = no_mark-other d [] p k (ap (λ z. z == d) (eqb-true p.ch c e) ∙ n)
+    by_char false e = let g = no_mark-other c [] p k e in cc
+mark_other c d n (lit x k) h = refl
+mark_other c d n (group b s e k) h = refl
+mark_other c d n (enter s k) h = mark_other c d n k h
+mark_other c d n (leave k) h = mark_other c d n k h
 
 -- before arguments
 arguments_no_colon : (l : Toks) → sees_arguments AsWritten l ≡ true → NoColon l
@@ -116,7 +120,7 @@ arguments_no_colon l h = by_sep (token.sees_path_sep l) (token.sees_lt l) refl r
   where
     by_sep : (b c : Bool) → token.sees_path_sep l ≡ b → token.sees_lt l ≡ c → ((c && (not (token.sees_le l) && not (token.sees_shl_eq l))) || (b && third token.sees_lt l)) ≡ true → NoColon l
     by_sep true c e f g = and_right (token.sees_colon l) _ (ap not e)
-    by_sep false true e f g = unseen_colon l (lt_unseen l f)
+    by_sep false true e f g = unseen_colon l (mark_other 60 58 refl l f)
     by_sep false false e f g = cc
 
 -- ---- words of segments

@@ -1,6 +1,6 @@
 -- What types begin with, and that fewer tokens are left after them: over the same of what they hold.
 use Rattle.std.specs.List.{list_any}
-use Rattle.std.proofs.Common.{◌≡◌, ◌==◌, ◌&&◌, ◌||◌, not, Bool, true, false, List, [], ◌∷◌, Option, Some, None, refl, sym, ◌∙◌, ap}
+use Rattle.std.proofs.Common.{◌≡◌, true, false, List, [], ◌∷◌, Option, refl, ap}
 use Rattle.std.proofs.lemmas.Bool.{or_from}
 use Rattle.std.proofs.lemmas.Slice.Eq.{bytes_eq-Decides}
 use Rattle.token_core.specs.declared.lifetime.Lifetime.{Lifetime}
@@ -8,23 +8,20 @@ use Rattle.token_core.specs.declared.lit.LitStr.{LitStr}
 use Rattle.token_core.specs.declared.span.DelimSpan.{DelimSpan}
 use Rattle.token_core.specs.declared.span.Span.{Span}
 use Rattle.token_core.specs.declared.tree.Delimiter.{Delimiter}
-use Rattle.token_core.specs.declared.tree.Delimiter.TheVariants.{Parenthesis, Brace, Bracket}
+use Rattle.token_core.specs.declared.tree.Delimiter.TheVariants.{Parenthesis, Brace}
 use Rattle.token_core.specs.declared.tree.Ident.{Ident}
 use Rattle.token_core.specs.declared.tree.Spacing.{Spacing}
 use Rattle.token_core.specs.Keywords.{is_keyword}
 use Rattle.token_core.specs.Lifetimes.{sees_lifetime}
-use Rattle.token_core.specs.Listed.{AfterMark, Anywhere, Nowhere}
+use Rattle.token_core.specs.Listed.{AfterMark}
 use Rattle.token_core.specs.Lits.{sees_lit}
 use Rattle.token_core.specs.Loops.{Many}
 use Rattle.token_core.specs.Reads.{after_one, builtin_text, is_done, is_text, same_delimiter, sees_group, sees_mark, sees_word}
 use Rattle.token_core.specs.Spellings.{last_char, IsMark, is_mark, IsWord, is_word, IsLifetime, is_lifetime, IsStr, a_str}
 use Rattle.token_core.specs.Tokens as token
-use Rattle.token_core.specs.Toks.{Bytes, Toks, done, word, mark, lit, group}
+use Rattle.token_core.specs.Toks.{Toks, done, word, mark, group}
 use Rattle.token_core.specs.Trees.{punct}
-use Rattle.syn_path.specs.declared.mac.Macro.{Macro}
 use Rattle.syn_path.specs.declared.path.PathStyle.TheVariants.{AsWritten}
-use Rattle.syn_path.specs.mac.Spelling.{IsCall, a_macro}
-use Rattle.syn_path.specs.path.Spelling as bare
 use Rattle.syn_forms.specs.declared.places.BoundPlace.{BoundPlace}
 use Rattle.syn_forms.specs.declared.places.BoundPlace.TheVariants.{Object, Opaque}
 use Rattle.syn_forms.specs.declared.places.TypePlace.{TypePlace}
@@ -35,19 +32,19 @@ use Rattle.syn_ty.specs.generics.Bounds.{IsFor, AreBounds, no_bounds, last_bound
 use Rattle.syn_ty.specs.generics.Spelling.{a_binder}
 use Rattle.syn_ty.specs.path.Reading.{sees_const, sees_lone_lifetime}
 use Rattle.syn_ty.specs.path.Spelling.{is_segment_word}
-use Rattle.syn_ty.specs.ty.Admitted.{IsPointer, a_pointer, IsBorrow, a_borrow, a_mutable_borrow, a_lifetime_borrow, IsEnclosed, enclosed, IsBracketed, bracketed, IsCounted, counted, IsTupled, no_element, some_elements}
-use Rattle.syn_ty.specs.ty.Admitted.{IsVerbatimType, an_unsafe_binder, a_dyn_star, a_builtin, IsType, a_path_type, a_macro, a_bound_macro, an_object_with_dyn, an_object_without_dyn, an_impl_type, a_fn_type, a_ptr_type}
-use Rattle.syn_ty.specs.ty.Admitted.{a_reference_type, a_paren_type, a_tuple_type, a_slice_type, an_array_type, an_infer_type, a_never_type, a_verbatim_type}
+use Rattle.syn_ty.specs.ty.Admitted.{IsPointer, a_pointer, IsBorrow, a_borrow, a_mutable_borrow, a_lifetime_borrow}
+use Rattle.syn_ty.specs.ty.Admitted.{IsVerbatimType, an_unsafe_binder, a_dyn_star, a_builtin}
 use Rattle.syn_ty.specs.ty.Functions.{IsAbi, an_abi, IsFnPtr, a_fn_ptr}
 use Rattle.syn_ty.specs.ty.Objects.{IsBoundList, several_bounds, one_bound, AreObjectBounds, object_bounds, IsDyn, a_dyn, IsImpl, an_impl, IsFirst, a_first, a_first_for, AreFurther, none_further, some_further}
 use Rattle.syn_ty.specs.ty.Objects.{AreBareBounds, path_alone, path_and_plus, held_and_plus, asked_first, asked_in_two, lifetime_first}
 use Rattle.syn_ty.specs.ty.Parts.{Manner, clearly, End, Parts}
 use Rattle.syn_ty.specs.ty.Reading.{is_trait, last_place}
-use Rattle.syn_ty.specs.ty.Spelling.{IsOptional, absent, present, an_infer, IsNever, a_never}
-use Rattle.syn_ty.specs.ty.Trees.{BoundLifetimes, Path, TypeFnPtr, TypeImplTrait, TypeParamBound, TypePtr, TypeReference, TypeTraitObject, TypeTree}
+use Rattle.syn_ty.specs.ty.Spelling.{IsOptional, absent, present}
+use Rattle.syn_ty.specs.ty.Trees.{BoundLifetimes, Path, TypeFnPtr, TypeImplTrait, TypeParamBound, TypePtr, TypeReference, TypeTraitObject}
+use Rattle.syn_ty.specs.ty.Types.{Underscore}
 use Rattle.syn_ty.proofs.ty_laws.FirstBoundsMet.{binder_less, bounds_no, bounds_start, return_no}
-use Rattle.syn_ty.proofs.ty_laws.FirstPathsMet.{NoColon, PathStarts, by_word, by_sep, Starts, TypeStarts, any_path_starts, lt_no_colon, path_less, path_starts, path_type, segment_no_lit, segment_no_mut, starts_on, unnamed, unseen_colon, word_starts, worded}
-use Rattle.syn_ty.proofs.ty_laws.LessMet.{same, some, no_no, no_less, less_no, less_less, word_less, mark_less, group_less, mark_no, mark_takes, word_takes, lifetime_takes, mutability_takes, str_takes, optional_no, listed_no, call_less}
+use Rattle.syn_ty.proofs.ty_laws.FirstPathsMet.{NoColon, Starts, TypeStarts, lt_no_colon, path_less, path_starts, path_type, segment_no_lit, segment_no_mut, starts_on, unnamed, unseen_colon, word_starts}
+use Rattle.syn_ty.proofs.ty_laws.LessMet.{same, some, no_no, no_less, less_no, less_less, word_less, mark_less, group_less, mark_no, word_takes, lifetime_takes, mutability_takes, str_takes, optional_no, listed_no}
 use Rattle.syn_ty.proofs.ty_laws.Met.{BoundBegins, Less, NoMore}
 
 -- ---- types that begin with a mark or a group
@@ -60,11 +57,11 @@ and_starts : (j : Spacing) (a : Span) (m k : Toks) → TypeStarts (mark (punct 3
 unfolding is_done sees_mark sees_word sees_lit sees_const sees_group sees_lone_lifetime sees_lifetime sees_name
 and_starts j a m k = record { there = refl; no_gt = refl; no_mut = refl; no_pound = refl; no_dots = refl; no_const = refl; no_lone = refl; no_name = λ q. unnamed (mark (punct 38 j a) m) refl refl }
 
-bang_starts : (j : Spacing) (a : Span) (m k : Toks) → TypeStarts (mark (punct 33 j a) m) k
+pub bang_starts : (j : Spacing) (a : Span) (m k : Toks) → TypeStarts (mark (punct 33 j a) m) k
 unfolding is_done sees_mark sees_word sees_lit sees_const sees_group sees_lone_lifetime sees_lifetime sees_name
 bang_starts j a m k = record { there = refl; no_gt = refl; no_mut = refl; no_pound = refl; no_dots = refl; no_const = refl; no_lone = refl; no_name = λ q. unnamed (mark (punct 33 j a) m) refl refl }
 
-group_starts : (d : Delimiter) → same_delimiter d Brace ≡ false → (s : DelimSpan) (c m k : Toks) → TypeStarts (group d s c m) k
+pub group_starts : (d : Delimiter) → same_delimiter d Brace ≡ false → (s : DelimSpan) (c m k : Toks) → TypeStarts (group d s c m) k
 unfolding is_done sees_mark sees_word sees_lit sees_const sees_group sees_lone_lifetime sees_lifetime sees_name
 group_starts d h s c m k = record { there = refl; no_gt = refl; no_mut = refl; no_pound = refl; no_dots = refl; no_const = h; no_lone = refl; no_name = λ q. unnamed (group d s c m) refl refl }
 
@@ -98,6 +95,11 @@ dyn_keyed w l m is_word n = key_starts _ m refl refl n
 impl_keyed : (w : token.Impl) (l m : Toks) → IsWord w l m → NoColon m → Keyed l
 unfolding sees_word sees_lit
 impl_keyed w l m is_word n = key_starts _ m refl refl n
+
+-- `_`, before what follows it
+pub infer_starts : (w : Underscore) (l k : Toks) → IsWord w l k → TypeStarts l k
+unfolding sees_word sees_lit
+infer_starts w l k is_word = word_starts _ k k refl refl (λ f. unseen_colon k f)
 
 -- before one of the keywords there, perhaps an ABI
 str_apart : (o : Option LitStr) (l m : Toks) → IsOptional IsStr o l m → NoColon m → NoColon l
@@ -136,6 +138,9 @@ module _ {A E : Type 0} {part : Manner → Parts A E} (s : Starts part) where
   unfolding sees_word sees_lit
   binder_keyed x l k (a_binder {o = o} {m = m} {n = n} is_word d v e) = key_starts _ m refl refl (lt_no_colon o m n d)
 
+  pub binder_starts : (x : BoundLifetimes A E) (l m k : Toks) → IsFor part clearly x l m → TypeStarts l k
+  binder_starts x l m k i = (binder_keyed x l m i).starts k
+
   optional_binder_keyed : (o : Option (BoundLifetimes A E)) (l k : Toks) → IsOptional (IsFor part clearly) o l k → Keyed k → Keyed l
   optional_binder_keyed o l k absent h = h
   optional_binder_keyed o l k (present {a = x} i) h = binder_keyed x l k i
@@ -145,7 +150,7 @@ module _ {A E : Type 0} {part : Manner → Parts A E} (s : Starts part) where
 
   -- ---- pointers to functions
 
-  fn_starts : (e : End) (x : TypeFnPtr A E) (l k : Toks) → IsFnPtr part clearly e x l k → TypeStarts l k × Less l k
+  pub fn_starts : (e : End) (x : TypeFnPtr A E) (l k : Toks) → IsFnPtr part clearly e x l k → TypeStarts l k × Less l k
   unfolding sees_mark
   fn_starts e x l k (a_fn_ptr {b = b} {u = u} {i = i} {w = w} {s = a} {o = o} {m = m} {n = n} {k = h} {c = c} {j = j} d f g t v z) =
       let q = fn_keyed w h (group Parenthesis a c j) t refl in
@@ -162,10 +167,10 @@ module _ {A E : Type 0} {part : Manner → Parts A E} (s : Starts part) where
   object_starts : (p : TypePlace) (e : End) (v : Many (TypeParamBound A E) token.Plus) (l k : Toks) → AreObjectBounds part clearly p e v l k → BoundBegins Object l × Less l k
   object_starts p e v l k (object_bounds i h) = list_starts p Object e v l k i
 
-  dyn_starts : (p : TypePlace) (e : End) (x : TypeTraitObject A E) (l k : Toks) → IsDyn part clearly p e x l k → TypeStarts l k × Less l k
+  pub dyn_starts : (p : TypePlace) (e : End) (x : TypeTraitObject A E) (l k : Toks) → IsDyn part clearly p e x l k → TypeStarts l k × Less l k
   dyn_starts p e x l k (a_dyn {w = w} {v = v} {m = m} i j) = let h = object_starts p e v m k j in ((dyn_keyed w l m i h.0.no_colon).starts k, less_less (word_takes w l m i) h.1)
 
-  impl_starts : (p : TypePlace) (e : End) (x : TypeImplTrait A E) (l k : Toks) → IsImpl part clearly p e x l k → TypeStarts l k × Less l k
+  pub impl_starts : (p : TypePlace) (e : End) (x : TypeImplTrait A E) (l k : Toks) → IsImpl part clearly p e x l k → TypeStarts l k × Less l k
   impl_starts p e x l k (an_impl {w = w} {v = v} {m = m} i j g) = let h = list_starts p Opaque e v m k j in ((impl_keyed w l m i h.0.no_colon).starts k, less_less (word_takes w l m i) h.1)
 
   -- ---- trait objects without `dyn`
@@ -176,7 +181,7 @@ module _ {A E : Type 0} {part : Manner → Parts A E} (s : Starts part) where
 
   first_starts : (o : Option (BoundLifetimes A E)) (p : Path A E) (l m k : Toks) → IsFirst part clearly o p l m → NoColon m → TypeStarts l k × Less l m
   first_starts o p l m k (a_first i t) n = (path_type l k (starts_on l m k (path_starts s AsWritten p l m i) n), path_less s AsWritten p l m i)
-  first_starts o p l m k (a_first_for {x = x} {m = h} b i t u) n = ((binder_keyed x l h b).starts k, less_less (binder_less s x l h b) (path_less s AsWritten p h m i))
+  first_starts o p l m k (a_first_for {x = x} {m = h} b i t u) n = (binder_starts x l h k b, less_less (binder_less s x l h b) (path_less s AsWritten p h m i))
 
   further_no : (e : End) (xs : List (TypeParamBound A E)) (ps : List token.Plus) (l k : Toks) → AreFurther part clearly e xs ps l k → NoMore l k
   further_no e xs ps l k none_further = same
@@ -190,8 +195,8 @@ module _ {A E : Type 0} {part : Manner → Parts A E} (s : Starts part) where
   lifetime_object_starts e xs ps l k h (last_bound {e = d} {x = x} i) g = let n = lone_object x (s.life Object d x l k i h).0 in cc
   lifetime_object_starts e xs ps l k h (bound_and_plus {e = d} {x = x} {p = p} {m = m} {k = n} i o j t) g = let y = s.life Object d x l m i h in lifetime_starts y.1 p l m n k y.2 j
 
-  bare_starts : (place : TypePlace) (e : End) (v : Many (TypeParamBound A E) token.Plus) (l k : Toks) → AreBareBounds part clearly place e v l k → TypeStarts l k × Less l k
-  bare_starts place e v l k (path_alone (a_first_for {x = x} {p = p} {m = h} b i t u)) = ((binder_keyed x l h b).starts k, less_less (binder_less s x l h b) (path_less s AsWritten p h k i))
+  pub bare_starts : (place : TypePlace) (e : End) (v : Many (TypeParamBound A E) token.Plus) (l k : Toks) → AreBareBounds part clearly place e v l k → TypeStarts l k × Less l k
+  bare_starts place e v l k (path_alone (a_first_for {x = x} {p = p} {m = h} b i t u)) = (binder_starts x l h k b, less_less (binder_less s x l h b) (path_less s AsWritten p h k i))
   bare_starts place e v l k (path_and_plus {o = o} {p = p} {c = c} {xs = xs} {ps = ps} {m = m} {n = n} h i j t) =
       let y = first_starts o p l m k i (plus_apart c m n j) in
       (y.0, less_no y.1 (no_no (mark_no c m n j) (bounds_no s false e xs ps n k t)))
@@ -204,11 +209,11 @@ module _ {A E : Type 0} {part : Manner → Parts A E} (s : Starts part) where
 
   -- ---- pointers and references
 
-  pointer_starts : (e : End) (x : TypePtr A E) (l k : Toks) → IsPointer part clearly e x l k → TypeStarts l k × Less l k
+  pub pointer_starts : (e : End) (x : TypePtr A E) (l k : Toks) → IsPointer part clearly e x l k → TypeStarts l k × Less l k
   pointer_starts e x l k (a_pointer {q = q} {x = y} {m = m} {n = n} (is_mark (last_char {a = a} {j = j} z)) i t) =
       (star_starts j a m k, less_less (mark_less (punct 42 j a) m) (less_less (mutability_takes q m n i) (s.ty NoPlus e y n k t).1))
 
-  borrow_starts : (e : End) (x : TypeReference A E) (l k : Toks) → IsBorrow part clearly e x l k → TypeStarts l k × Less l k
+  pub borrow_starts : (e : End) (x : TypeReference A E) (l k : Toks) → IsBorrow part clearly e x l k → TypeStarts l k × Less l k
   borrow_starts e x l k (a_borrow {x = y} {m = m} (is_mark (last_char {a = a} {j = j} z)) h t) = (and_starts j a m k, less_less (mark_less (punct 38 j a) m) (s.ty NoPlus e y m k t).1)
   borrow_starts e x l k (a_mutable_borrow {u = u} {x = y} {m = m} {n = n} (is_mark (last_char {a = a} {j = j} z)) i t) =
       (and_starts j a m k, less_less (mark_less (punct 38 j a) m) (less_less (word_takes u m n i) (s.ty NoPlus e y n k t).1))
@@ -217,7 +222,7 @@ module _ {A E : Type 0} {part : Manner → Parts A E} (s : Starts part) where
 
   -- ---- what is held verbatim
 
-  verbatim_starts : (place : TypePlace) (e : End) (l k : Toks) → IsVerbatimType part clearly place e l k → TypeStarts l k × Less l k
+  pub verbatim_starts : (place : TypePlace) (e : End) (l k : Toks) → IsVerbatimType part clearly place e l k → TypeStarts l k × Less l k
   verbatim_starts place e l k (an_unsafe_binder {b = b} {u = u} {o = o} {xs = xs} {cs = cs} {g = g} {x = x} {m = m} {n = n} {k = h} {j = j} {i = i} d w q v c t) =
       let y = optional_binder_keyed b l m d (unsafe_keyed u m n w (lt_no_colon o n h q)) in
       (y.starts k, no_less (optional_binder_no b l m d) (less_less (word_takes u m n w) (no_less (mark_no o n h q) (no_less (listed_no (λ b. lifetime_takes) mark_no true xs cs h j v) (no_less (mark_no g j i c) (s.ty (last_place place) e x i k t).1)))))

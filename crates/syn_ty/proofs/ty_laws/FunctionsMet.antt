@@ -1,27 +1,22 @@
 -- A pointer to a function, spelt clearly, is what its read answers and all that it takes: over the reads of its types and attributes, with its ABI, its arguments, which may end in a variadic, and its output.
 use Rattle.std.specs.Prelude.{option_map}
-use Rattle.std.proofs.lemmas.Bool.{and_from, or_right}
-use Rattle.std.proofs.Common.{◌≡◌, ℕ, zero, suc, ◌<◌, ◌≤◌, Bool, true, false, not, ◌&&◌, ◌||◌, if◌then◌else◌, List, [], ◌∷◌, Option, Some, None, is_some, Ok, inl, inr, refl, sym, ◌∙◌, ap, subst, arith}
-use Rattle.token_core.specs.declared.lit.LitStr.{LitStr}
+use Rattle.std.proofs.Common.{◌≡◌, ℕ, ◌≤◌, true, false, List, [], Option, Some, None, Ok, refl, ap, arith}
 use Rattle.token_core.specs.declared.span.DelimSpan.{DelimSpan}
 use Rattle.token_core.specs.declared.span.Span.{Span}
 use Rattle.token_core.specs.declared.token.Paren.{Paren}
 use Rattle.token_core.specs.declared.tree.Delimiter.TheVariants.{Parenthesis}
-use Rattle.token_core.specs.declared.tree.Ident.{Ident}
-use Rattle.token_core.specs.Front.{front}
 use Rattle.token_core.specs.Groups as groups
 use Rattle.token_core.specs.Groups.{sees_invisible}
 use Rattle.token_core.specs.Keywords.{is_keyword}
-use Rattle.token_core.specs.Listed.{AreListed, none_left, last_value, value_and_mark, Anywhere}
 use Rattle.token_core.specs.Lits.{sees_str, read_str}
-use Rattle.token_core.specs.Loops.{Many, size}
-use Rattle.token_core.specs.Reads.{Reader, Outcome, ◌>>=◌, after_one, as_punct, is_done, is_end, optional, past_mark, past_next, pure, second, sees_group, sees_mark, sees_word}
-use Rattle.token_core.specs.Spellings.{last_char, more_chars, IsMark, is_mark, IsWord, is_word, IsStr, a_str}
+use Rattle.token_core.specs.Loops.{Many}
+use Rattle.token_core.specs.Reads.{Reader, Outcome, after_one, sees_group, sees_mark, sees_word}
+use Rattle.token_core.specs.Spans.{none}
+use Rattle.token_core.specs.Spellings.{IsWord, is_word, IsStr}
 use Rattle.token_core.specs.Stream.{Scope}
 use Rattle.token_core.specs.Tokens as token
-use Rattle.token_core.specs.Toks.{Toks, done, word, mark, lit, group, enter, leave}
+use Rattle.token_core.specs.Toks.{Toks, group}
 use Rattle.token_core.proofs.LitSpells.{str_complete, str_seen}
-use Rattle.token_core.proofs.MarkSpells.{mark_complete, mark_seen}
 use Rattle.token_core.proofs.Steps.{link, chosen, Reads_to}
 use Rattle.token_core.proofs.Took.{at}
 use Rattle.token_core.proofs.WordSpells.{word_complete, word_seen}
@@ -30,7 +25,6 @@ use Rattle.syn_forms.specs.declared.places.ParamPlace.TheVariants.{Binder}
 use Rattle.syn_forms.specs.declared.places.TypePlace.TheVariants.{Plus, NoPlus}
 use Rattle.syn_forms.specs.heads.Reading as heads
 use Rattle.syn_forms.specs.inputs.Reading as inputs
-use Rattle.syn_forms.specs.inputs.Reading.{sees_dots}
 use Rattle.syn_forms.specs.nested.Below.{ahead}
 use Rattle.syn_forms.proofs.groups_laws.Complete.{content}
 use Rattle.syn_forms.proofs.nested_laws.Ahead.{weight, ahead-is}
@@ -41,21 +35,19 @@ use Rattle.syn_ty.specs.generics.Bounds.{IsFor}
 use Rattle.syn_ty.specs.generics.Reading.{binder, optional_binder}
 use Rattle.syn_ty.specs.generics.Spelling.{a_binder}
 use Rattle.syn_ty.specs.path.Signed.{IsReturn}
-use Rattle.syn_ty.specs.ty.Functions.{IsAbi, an_abi, is_name, IsNamedArg, IsVariadic, dots, named_dots, AreInputs, plain_inputs, variadic_inputs, IsFnPtr, a_fn_ptr}
-use Rattle.syn_ty.specs.ty.Parts.{Manner, clearly, End, Parts, AreMarked, no_further, one_further}
+use Rattle.syn_ty.specs.ty.Functions.{IsAbi, an_abi, AreInputs, IsFnPtr, a_fn_ptr}
+use Rattle.syn_ty.specs.ty.Parts.{Manner, clearly, End, Parts}
 use Rattle.syn_ty.specs.ty.Points.{Readers, a_type}
 use Rattle.syn_ty.specs.ty.Reading as reading
-use Rattle.syn_ty.specs.ty.Reading.{abi_of, begins_named, dots_of, fn_ptr_by, sees_bindable, sees_fn_ptr, sees_unsafe_binder}
+use Rattle.syn_ty.specs.ty.Reading.{begins_named, fn_ptr_by, sees_bindable, sees_fn_ptr, sees_unsafe_binder}
 use Rattle.syn_ty.specs.ty.Spelling.{IsOptional, absent, present}
-use Rattle.syn_ty.specs.ty.Trees.{BoundLifetimes, NamedArg, ReturnType, TypeFnPtr, TypeTree}
+use Rattle.syn_ty.specs.ty.Trees.{BoundLifetimes, NamedArg, ReturnType, TypeFnPtr}
 use Rattle.syn_ty.specs.ty.Types.{fn_ptr_with, named_arg_of}
-use Rattle.syn_ty.proofs.ty_laws.Complete.{later}
 use Rattle.syn_ty.proofs.ty_laws.FormsMet.{optional_met}
-use Rattle.syn_ty.proofs.ty_laws.InputsMet.{bare_begins, bare_met, parted}
-use Rattle.syn_ty.proofs.ty_laws.LessMet.{less_no, mark_no, no_less, no_no, optional_no, some, word_takes}
-use Rattle.syn_ty.proofs.ty_laws.Met.{Firsts, Fits, Less, Meets, NoMore, SuppliedMeets}
-use Rattle.syn_ty.proofs.ty_laws.NamesMet.{name_met}
-use Rattle.syn_ty.proofs.ty_laws.SignaturesMet.{EndsInput, comma_ends, comma_there, done_ends, in_parens_met, inside_group, nothing_there, output_met}
+use Rattle.syn_ty.proofs.ty_laws.InputListsMet.{dots_parts, inputs_met}
+use Rattle.syn_ty.proofs.ty_laws.LessMet.{listed_no, mark_no, no_no, optional_no, some, str_takes, word_takes}
+use Rattle.syn_ty.proofs.ty_laws.Met.{Firsts, Fits, Meets, NoMore, SuppliedMeets}
+use Rattle.syn_ty.proofs.ty_laws.SignaturesMet.{after_group, in_parens_met, inside_group, output_met}
 
 -- ---- an ABI
 
@@ -89,184 +81,131 @@ optional_abi_met o l k f e sc (present {a = x} i) h g =
     let w = abi_met x l k f e sc i g in
     record { last = w.last; reads = chosen (token.sees_extern l) true _ _ (at l f e sc) _ (abi_seen x l k i) (link _ w.reads refl) }
 
--- ---- `...`, perhaps after a name and before a comma
+-- ---- pointers to functions
 
-abbrev pub dots_parts : {A : Type 0} → FnPtrVariadicOf A → List A × inputs.Dots
-dots_parts x = (x.attrs, (x.name, x.dots, x.comma))
+-- `fn` and what may stand before it
+no_str : (w : token.Fn) (l k : Toks) → IsWord w l k → sees_str l ≡ false
+unfolding sees_str
+no_str w l k is_word = refl
 
-no_comma : token.sees_comma done ≡ false
-unfolding sees_mark
-no_comma = refl
-
-last_comma : (o : Option token.Comma) (l : Toks) (f : Option Span) (e : Span) (sc : Scope) → IsOptional (IsMark true) o l done → Reads_to (optional token.sees_comma token.comma) o l done f e sc
-last_comma o l f e sc i =
-    optional_met (IsMark true) token.sees_comma token.comma (λ c m k j. mark_seen true {n = 4} {k = 1} c m k j) (λ c m k g d s j. mark_complete true {n = 4} {k = 1} refl (omega arith) c m k g d s j) o l done f e sc i (λ q. no_comma)
-
-no_name_at : (d : token.DotDotDot) (l k : Toks) → IsMark true d l k → inputs.sees_ident_or_underscore l ≡ false
+no_extern : (w : token.Fn) (l k : Toks) → IsWord w l k → token.sees_extern l ≡ false
 unfolding sees_word
-no_name_at d l k (is_mark (more_chars (more_chars (last_char x)))) = refl
+no_extern w l k is_word = refl
 
-plain_dots_met : (d : token.DotDotDot) (o : Option token.Comma) (l m : Toks) (f : Option Span) (e : Span) (sc : Scope) → IsMark true d l m → IsOptional (IsMark true) o m done → Reads_to inputs.dots (None, d, o) l done f e sc
-unfolding inputs.dots
-plain_dots_met d o l m f e sc i j =
-    let a = mark_complete true {n = 9} {k = 3} refl (omega arith) d l m f e sc i in
-    let b = last_comma o m f a.last sc j in
-    let name : ◌≡◌ {A = Outcome inputs.Name} (optional inputs.sees_ident_or_underscore inputs.name (at l f e sc)) (Ok (None, at l f e sc)) = chosen (inputs.sees_ident_or_underscore l) false _ _ (at l f e sc) _ (no_name_at d l m i) refl in
-    record { last = b.last; reads = link _ name (link _ a.reads (link _ b.reads refl)) }
-
-name_at : (i : Ident) (k : Toks) → is_name i.text ≡ true → inputs.sees_ident_or_underscore (word i k) ≡ true
+no_unsafe : (i : Option Abi) (w : token.Fn) (l m k : Toks) → IsOptional IsAbi i l m → IsWord w m k → token.sees_unsafe l ≡ false
 unfolding sees_word
-name_at i k h = h
+no_unsafe i w l m k absent is_word = refl
+no_unsafe i w l m k (present (an_abi is_word j)) is_word = refl
 
-named_dots_met : (i : Ident) (c : token.Colon) (d : token.DotDotDot) (o : Option token.Comma) (l m n : Toks) (f : Option Span) (e : Span) (sc : Scope) → is_name i.text ≡ true → IsMark true c l m → IsMark true d m n →
-    IsOptional (IsMark true) o n done → Reads_to inputs.dots (Some (i, c), d, o) (word i l) done f e sc
-unfolding inputs.dots
-named_dots_met i c d o l m n f e sc h j q g =
-    let z = name_met i c l m f e sc j in
-    let a = mark_complete true {n = 9} {k = 3} refl (omega arith) d m n f z.last sc q in
-    let b = last_comma o n f a.last sc g in
-    let name : ◌≡◌ {A = Outcome inputs.Name} (optional inputs.sees_ident_or_underscore inputs.name (at (word i l) f e sc)) (Ok (Some (i, c), at m f z.last sc)) =
-        chosen (inputs.sees_ident_or_underscore (word i l)) true _ _ (at (word i l) f e sc) _ (name_at i l h) (link _ z.reads refl) in
-    record { last = b.last; reads = link _ name (link _ a.reads (link _ b.reads refl)) }
+head_met : (u : Option token.Unsafe) (i : Option Abi) (w : token.Fn) (l m n k : Toks) (f : Option Span) (e : Span) (sc : Scope) → IsOptional IsWord u l m → IsOptional IsAbi i m n → IsWord w n k →
+    Reads_to heads.fn_head (u, option_map abi_parts i, w) l k f e sc
+unfolding heads.fn_head
+head_met u i w l m n k f e sc a b c =
+    let x = optional_met (IsWord {n = 16}) token.sees_unsafe token.unsafe_word word_seen word_complete u l m f e sc a (λ q. no_unsafe i w m n k b c) in
+    let y = optional_parts_met i m n f x.last sc b (no_extern w n k c) (no_str w n k c) in
+    let z = word_complete {n = 9} w n k f y.last sc c in
+    record { last = z.last; reads = link _ x.reads (link _ y.reads (link _ z.reads refl)) }
 
--- what it begins with
-record DotsBegin (l : Toks) : Type 0 where
-  there : is_done l ≡ false
-  no_pound : token.sees_pound l ≡ false
-  seen : sees_dots l ≡ true
+abi_no : (x : Abi) (l k : Toks) → IsAbi x l k → NoMore l k
+abi_no x l k (an_abi {w = w} {o = o} {m = m} i j) = no_no (some (word_takes w l m i)) (optional_no (λ y n q g. some (str_takes y n q g)) o m k j)
 
-plain_dots_begin : (d : token.DotDotDot) (l k : Toks) → IsMark true d l k → DotsBegin l
-unfolding is_done sees_dots sees_mark
-plain_dots_begin d l k (is_mark (more_chars (more_chars (last_char x)))) = record { there = refl; no_pound = refl; seen = refl }
+-- by its parts that were read
+module _ {A E : Type 0} (b : Option (BoundLifetimes A E)) (u : Option token.Unsafe) (w : token.Fn) (p : Paren) (v : Many (NamedArg A E) token.Comma) (o : ReturnType A E) where
+  by_parts : (i : Option Abi) (d : Option (FnPtrVariadicOf A)) → fn_ptr_by b ((u, option_map abi_parts i, w), (p, (v, option_map dots_parts d)), o) ≡ fn_ptr_with [] b u i w p v d o
+  by_parts None None = refl
+  by_parts None (Some y) = refl
+  by_parts (Some x) None = refl
+  by_parts (Some x) (Some y) = refl
 
-named_dots_begin : (i : Ident) (c : token.Colon) (d : token.DotDotDot) (l m n : Toks) → is_name i.text ≡ true → IsMark true c l m → IsMark true d m n → DotsBegin (word i l)
-unfolding is_done sees_dots sees_word sees_mark after_one
-named_dots_begin i c d l m n h (is_mark (last_char x)) (is_mark (more_chars (more_chars (last_char y)))) = record { there = refl; no_pound = refl; seen = and_from _ _ h refl }
+-- what one begins with after its binder
+pub record FnBegins (l : Toks) : Type 0 where
+  pub no_invisible : sees_invisible l ≡ false
+  pub no_for : token.sees_for l ≡ false
+  pub no_paren : sees_group Parenthesis l ≡ false
+  pub named : begins_named l ≡ true
+  pub bindable : sees_bindable l ≡ true
+  pub no_unsafe : sees_unsafe_binder l ≡ false
+  pub fn : sees_fn_ptr l ≡ true
 
--- ---- what the parentheses hold
+module _ {A E : Type 0} (part : Manner → Parts A E) where
+  abbrev For : Type 0
+  For = Option (BoundLifetimes A E)
 
-pound_at : (l : Toks) → is_some (past_next 35 true (past_mark []) (as_punct l)) ≡ true → is_end l ≡ false
-pound_at done h = cc h
-pound_at (word i k) h = refl
-pound_at (mark p k) h = refl
-pound_at (lit x k) h = refl
-pound_at (group d s c k) h = refl
-pound_at (enter s k) h = refl
-pound_at (leave k) h = refl
+  -- what stands after a binder, which may be none
+  pub data IsAfter (b : For) : End → TypeFnPtr A E → Toks → Toks → Type 0 where
+    after_binder : {e : End} {u : Option token.Unsafe} {i : Option Abi} {w : token.Fn} {s : DelimSpan} {v : Many (NamedArg A E) token.Comma} {d : Option (FnPtrVariadicOf A)} {o : ReturnType A E} {l m n c j k : Toks} →
+        IsOptional IsWord u l m → IsOptional IsAbi i m n → IsWord w n (group Parenthesis s c j) → AreInputs part clearly v d c → IsReturn part clearly NoPlus e o j k →
+        IsAfter b e (fn_ptr_with [] b u i w (groups.paren s) v d o) l k
 
--- `#` is no end
-pub pound_there : (l : Toks) → token.sees_pound l ≡ true → is_done l ≡ false
-unfolding is_done sees_mark
-pound_there l h = pound_at (front l) h
+  pub record Bound (e : End) (x : TypeFnPtr A E) (l k : Toks) : Type 0 where
+    pub lifetimes : For
+    pub from : Toks
+    pub bears : IsOptional (IsFor part clearly) lifetimes l from
+    pub after : IsAfter lifetimes e x from k
 
-module _ {A E : Type 0} (attrs : Reader (List A)) (values : ReadValues E) (part : Manner → Parts A E) (supplied : SuppliedMeets attrs values part) (firsts : Firsts part) (value : Reader (TypeTree A E)) (within : ℕ)
-    (value_met : (d : End) (x : TypeTree A E) (l k : Toks) (f : Option Span) (e : Span) (sc : Scope) → ahead (at l f e sc) ≤ within → (part clearly).ty Plus d x l k → Fits d k → token.sees_plus k ≡ false → Reads_to value x l k f e sc) where
-  abbrev Arg : Type 0
-  Arg = NamedArg A E
+  pub bound : (e : End) (x : TypeFnPtr A E) (l k : Toks) → IsFnPtr part clearly e x l k → Bound e x l k
+  bound e x l k (a_fn_ptr {b = b} {m = m} i u a w v o) = record { lifetimes = b; from = m; bears = i; after = after_binder u a w v o }
 
-  abbrev All : Type 0
-  All = inputs.Inputs A Arg
+  for_seen : (b : BoundLifetimes A E) (l k : Toks) → IsFor part clearly b l k → token.sees_for l ≡ true
+  for_seen b l k (a_binder {f = w} {m = m} i j q g) = word_seen {n = 10} w l m i
 
-  abbrev Is : Bool → Arg → Toks → Toks → Type 0
-  Is = IsNamedArg part clearly
+  for_no : Firsts part → (b : BoundLifetimes A E) (l k : Toks) → IsFor part clearly b l k → NoMore l k
+  for_no firsts b l k (a_binder {f = w} {o = o} {xs = xs} {cs = cs} {c = g} {m = m} {n = n} {k = j} i q v z) =
+      no_no (some (word_takes w l m i)) (no_no (mark_no o m n q) (no_no (listed_no (λ y x t u p. (firsts.param Binder x t u p).1) (λ c t u p. mark_no c t u p) true xs cs n j v) (mark_no g j k z)))
 
-  abbrev reads : ℕ → Bool → Reader All
-  reads = inputs.inputs_from named_arg_of attrs value form.Verbatim
+  pub after_begins : (b : For) (e : End) (x : TypeFnPtr A E) (l k : Toks) → IsAfter b e x l k → FnBegins l
+  unfolding begins_named sees_bindable sees_fn_ptr sees_unsafe_binder sees_invisible sees_word sees_mark sees_group after_one is_keyword
+  after_begins b e x l k (after_binder absent absent is_word v o) = record { no_invisible = refl; no_for = refl; no_paren = refl; named = refl; bindable = refl; no_unsafe = refl; fn = refl }
+  after_begins b e x l k (after_binder absent (present (an_abi is_word j)) w v o) = record { no_invisible = refl; no_for = refl; no_paren = refl; named = refl; bindable = refl; no_unsafe = refl; fn = refl }
+  after_begins b e x l k (after_binder (present is_word) absent is_word v o) = record { no_invisible = refl; no_for = refl; no_paren = refl; named = refl; bindable = refl; no_unsafe = refl; fn = refl }
+  after_begins b e x l k (after_binder (present is_word) (present (an_abi is_word j)) w v o) = record { no_invisible = refl; no_for = refl; no_paren = refl; named = refl; bindable = refl; no_unsafe = refl; fn = refl }
 
-  -- attributes, before what is no end
-  bears_there : (a : List A) (l m : Toks) → (part clearly).attrs a l m → is_done m ≡ false → is_done l ≡ false
-  bears_there a l m i h =
-      elim (supplied.attrs_begin a l m i) [
-        | inl q ↦ ap is_done q ∙ h
-        | inr q ↦ pound_there l q
-      ]
+left_after : (l k : Toks) (f g : Option Span) (d e : Span) (sc : Scope) (limit : ℕ) → weight k ≤ weight l → ahead (at l f d sc) ≤ limit → ahead (at k g e sc) ≤ limit
+left_after l k f g d e sc limit h lim =
+    let x = ahead-is (at l f d sc) in
+    let y = ahead-is (at k g e sc) in
+    omega (arith, h, lim, x, y)
 
-  pub arg_less : (first : Bool) (x : Arg) (l k : Toks) → Is first x l k → EndsInput k → Less l k
-  arg_less first x l k i o =
-      let p = parted part first x l k i in
-      no_less (supplied.attrs_light p.attrs l p.from p.bears) (bare_begins part firsts first p.named p.from k p.bare o).1
+module _ {A E : Type 0} (attrs : Reader (List A)) (values : ReadValues E) (r : Readers A E) (part : Manner → Parts A E) (limit : ℕ) (m : Meets r part limit) (supplied : SuppliedMeets attrs values part) where
+  -- the arguments, in parentheses
+  pub fn_inputs_met : (v : Many (NamedArg A E) token.Comma) (d : Option (FnPtrVariadicOf A)) (s : DelimSpan) (c k : Toks) (f : Option Span) (e : Span) (sc : Scope) → ahead (at (group Parenthesis s c k) f e sc) ≤ limit →
+      AreInputs part clearly v d c → Reads_to (reading.fn_inputs attrs values r) (groups.paren s, (v, option_map dots_parts d)) (group Parenthesis s c k) k f e sc
+  unfolding reading.fn_inputs
+  fn_inputs_met v d s c k f e sc h i =
+      let z = content Parenthesis s c k f e sc in
+      let less = inside_group s c k f e sc limit h in
+      let w = inputs_met attrs values part supplied m.firsts (r (a_type Plus)) (ahead z)
+          (λ q x j t g a b le y fits plus. m.ty Plus q x j t g a b (omega (arith, less, le)) y fits (λ p. plus)) v d c None none z.scope (omega arith) i in
+      record { last = s.closing; reads = in_parens_met (inputs.inputs named_arg_of attrs (r (a_type Plus)) form.Verbatim) (v, option_map dots_parts d) s c k f e sc w }
 
-  -- after an argument
-  abbrev put_more : ℕ → Arg → token.Comma → Reader All
-  put_more n x c = reads n false >>= (λ more. pure (inputs.put_input x c more))
+  pub fn_ptr_after_met : (b : Option (BoundLifetimes A E)) (d : End) (x : TypeFnPtr A E) (l k : Toks) (f : Option Span) (e : Span) (sc : Scope) → ahead (at l f e sc) ≤ limit → IsAfter part b d x l k → Fits d k →
+      Reads_to (reading.fn_ptr_after attrs values r b) x l k f e sc
+  unfolding reading.fn_ptr_after reading.fn_ptr_parts
+  fn_ptr_after_met b d x l k f e sc h (after_binder {u = u} {i = i} {w = w} {s = s} {v = v} {d = y} {o = o} {m = n} {n = p} {c = c} {j = j} ui ai wi q z) fits =
+      let a = head_met u i w l n p (group Parenthesis s c j) f e sc ui ai wi in
+      let light = (no_no (optional_no (λ t g t2 g2. some (word_takes t g t2 g2)) u l n ui) (no_no (optional_no (λ t g t2 g2. abi_no t g t2 g2) i n p ai) (some (word_takes w p (group Parenthesis s c j) wi)))).light in
+      let here = left_after l (group Parenthesis s c j) f f e a.last sc limit light h in
+      let g = fn_inputs_met v y s c j f a.last sc here q in
+      let after = after_group s c j f f a.last g.last sc limit here in
+      let t = output_met r part limit m d o j k f g.last sc (omega (arith, after)) z fits in
+      let parts : ◌≡◌ {A = Outcome (reading.FnPtrParts A E)} (reading.fn_ptr_parts attrs values r (at l f e sc)) (Ok (((u, option_map abi_parts i, w), (groups.paren s, (v, option_map dots_parts y)), o), at k f t.last sc)) =
+          link _ a.reads (link _ g.reads (link _ t.reads refl)) in
+      record { last = t.last; reads = link _ parts (ap (λ whole. Ok (whole, at k f t.last sc)) (by_parts b u w (groups.paren s) v o i y)) }
 
-  abbrev after : ℕ → Arg → Reader All
-  after n x s = (if is_done s.rest then pure (inputs.one_input x) else (token.comma >>= put_more n x)) s
+  -- a binder that may be there, over the read of one
+  module _ (binder_met : (b : BoundLifetimes A E) (l k : Toks) (f : Option Span) (e : Span) (sc : Scope) → ahead (at l f e sc) ≤ limit → IsFor part clearly b l k → Reads_to (binder r) b l k f e sc) where
+    perhaps_for : (b : Option (BoundLifetimes A E)) (l k : Toks) (f : Option Span) (e : Span) (sc : Scope) → ahead (at l f e sc) ≤ limit → IsOptional (IsFor part clearly) b l k → token.sees_for k ≡ false → Reads_to (optional_binder r) b l k f e sc
+    unfolding optional_binder
+    perhaps_for b l k f e sc h absent n = record { last = e; reads = chosen (token.sees_for k) false _ _ (at k f e sc) _ n refl }
+    perhaps_for b l k f e sc h (present {a = x} i) n =
+        let w = binder_met x l k f e sc h i in
+        record { last = w.last; reads = chosen (token.sees_for l) true _ _ (at l f e sc) _ (for_seen part x l k i) (link _ w.reads refl) }
 
-  no_more : (n : ℕ) (x : Arg) (f : Option Span) (e : Span) (sc : Scope) → Reads_to (after n x) (inputs.one_input x) done done f e sc
-  no_more n x f e sc = record { last = e; reads = chosen (is_done done) true _ _ (at done f e sc) _ nothing_there refl }
-
-  more_met : (n : ℕ) (x : Arg) (c : token.Comma) (v : All) (l k : Toks) (f : Option Span) (e : Span) (sc : Scope) → IsMark true c l k → ((d : Span) → Reads_to (reads n false) v k done f d sc) →
-      Reads_to (after n x) (inputs.put_input x c v) l done f e sc
-  more_met n x c v l k f e sc i h =
-      let a = mark_complete true {n = 4} {k = 1} refl (omega arith) c l k f e sc i in
-      let b = h a.last in
-      record { last = b.last; reads = chosen (is_done l) false _ _ (at l f e sc) _ (comma_there c l k i) (link _ a.reads (link _ b.reads refl)) }
-
-  -- an argument, and what is read after it
-  arg_met : (n : ℕ) (first : Bool) (x : Arg) (v : All) (l k : Toks) (f : Option Span) (e : Span) (sc : Scope) → ahead (at l f e sc) ≤ within → Is first x l k → EndsInput k →
-      ((d : Span) → Reads_to (after n x) v k done f d sc) → Reads_to (reads (suc n) first) v l done f e sc
-  arg_met n first x v l k f e sc h i o more =
-      let p = parted part first x l k i in
-      let b = (bare_begins part firsts first p.named p.from k p.bare o).0 in
-      let a = supplied.attrs_met p.attrs l p.from f e sc p.bears b.no_pound in
-      let light = (supplied.attrs_light p.attrs l p.from p.bears).light in
-      let y = ahead-is (at l f e sc) in
-      let z = ahead-is (at p.from f a.last sc) in
-      let w = bare_met part firsts value within value_met first p.named p.from k f a.last sc (omega (arith, h, light, y, z)) p.bare o in
-      let q = more w.last in
-      record {
-        last = q.last;
-        reads = chosen (is_done l) false _ _ (at l f e sc) _ (bears_there p.attrs l p.from p.bears b.there)
-            (link _ a.reads (chosen (sees_dots p.from) false _ _ (at p.from f a.last sc) _ b.no_dots (link _ w.reads (ap (λ u. after n u (at k f w.last sc)) p.is ∙ q.reads))));
-      }
-
-  -- a variadic
-  variadic_met : (n : ℕ) (first : Bool) (x : FnPtrVariadicOf A) (l : Toks) (f : Option Span) (e : Span) (sc : Scope) → IsVariadic part clearly x l → Reads_to (reads (suc n) first) (inputs.no_inputs (Some (dots_parts x))) l done f e sc
-  variadic_met n first x l f e sc (dots {a = a} {d = d} {o = o} {m = m} {n = k} i j q) =
-      let b = plain_dots_begin d m k j in
-      let w = supplied.attrs_met a l m f e sc i b.no_pound in
-      let v = plain_dots_met d o m k f w.last sc j q in
-      record { last = v.last; reads = chosen (is_done l) false _ _ (at l f e sc) _ (bears_there a l m i b.there) (link _ w.reads (chosen (sees_dots m) true _ _ (at m f w.last sc) _ b.seen (link _ v.reads refl))) }
-  variadic_met n first x l f e sc (named_dots {a = a} {i = y} {c = c} {d = d} {o = o} {m = m} {n = k} {k = j} i h q g z) =
-      let b = named_dots_begin y c d m k j h q g in
-      let w = supplied.attrs_met a l (word y m) f e sc i b.no_pound in
-      let v = named_dots_met y c d o m k j f w.last sc h q g z in
-      record {
-        last = v.last;
-        reads = chosen (is_done l) false _ _ (at l f e sc) _ (bears_there a l (word y m) i b.there) (link _ w.reads (chosen (sees_dots (word y m)) true _ _ (at (word y m) f w.last sc) _ b.seen (link _ v.reads refl)));
-      }
-
-  -- after an argument and its comma
-  further : (first : Bool) (x : Arg) (c : token.Comma) (l m k : Toks) (f : Option Span) (e d : Span) (sc : Scope) → ahead (at l f e sc) ≤ within → Is first x l m → IsMark true c m k → ahead (at k f d sc) ≤ within
-  further first x c l m k f e d sc h i j =
-      let less = less_no (arg_less first x l m i (comma_ends c m k j)) (mark_no c m k j) in
-      let a = later l k f f e d sc within less.lighter h in
-      omega (arith, a)
-
-  listed_met : (n : ℕ) (first : Bool) (xs : List Arg) (cs : List token.Comma) (l : Toks) (f : Option Span) (e : Span) (sc : Scope) → size l < n → ahead (at l f e sc) ≤ within → AreListed Is (IsMark true) Anywhere first xs cs l done →
-      Reads_to (reads n first) ((xs, cs), None) l done f e sc
-  listed_met zero first xs cs l f e sc u h i = absurd (omega (arith, u))
-  listed_met (suc n) first xs cs l f e sc u h (none_left may) = record { last = e; reads = chosen (is_done done) true _ _ (at done f e sc) _ nothing_there refl }
-  listed_met (suc n) first xs cs l f e sc u h (last_value {x = x} i) = arg_met n first x (inputs.one_input x) l done f e sc h i done_ends (λ d. no_more n x f d sc)
-  listed_met (suc n) first xs cs l f e sc u h (value_and_mark {x = x} {p = c} {xs = ys} {ps = ds} {m = m} {k = k} i j q) =
-      let o = comma_ends c m k j in
-      let less = (less_no (arg_less first x l m i o) (mark_no c m k j)).shorter in
-      arg_met n first x ((x ∷ ys, c ∷ ds), None) l m f e sc h i o
-      (λ d. more_met n x c ((ys, ds), None) m k f d sc j (λ s. listed_met n false ys ds k f s sc (omega (arith, u, less)) (further first x c l m k f e s sc h i j) q))
-
-  marked_met : (n : ℕ) (first : Bool) (xs : List Arg) (cs : List token.Comma) (x : FnPtrVariadicOf A) (l k : Toks) (f : Option Span) (e : Span) (sc : Scope) → size l < n → ahead (at l f e sc) ≤ within →
-      AreMarked Is (IsMark true) first xs cs l k → IsVariadic part clearly x k → Reads_to (reads n first) ((xs, cs), Some (dots_parts x)) l done f e sc
-  marked_met zero first xs cs x l k f e sc u h i v = absurd (omega (arith, u))
-  marked_met (suc n) first xs cs x l k f e sc u h no_further v = variadic_met n first x l f e sc v
-  marked_met (suc n) first xs cs x l k f e sc u h (one_further {x = y} {p = c} {xs = ys} {ps = ds} {m = m} {k = j} i g q) v =
-      let o = comma_ends c m j g in
-      let less = (less_no (arg_less first y l m i o) (mark_no c m j g)).shorter in
-      arg_met n first y ((y ∷ ys, c ∷ ds), Some (dots_parts x)) l m f e sc h i o
-      (λ d. more_met n y c ((ys, ds), Some (dots_parts x)) m j f d sc g (λ s. marked_met n false ys ds x j k f s sc (omega (arith, u, less)) (further first y c l m j f e s sc h i g) q v))
-
-  pub inputs_met : (v : Many Arg token.Comma) (o : Option (FnPtrVariadicOf A)) (l : Toks) (f : Option Span) (e : Span) (sc : Scope) → ahead (at l f e sc) ≤ within → AreInputs part clearly v o l →
-      Reads_to (inputs.inputs named_arg_of attrs value form.Verbatim) (v, option_map dots_parts o) l done f e sc
-  unfolding inputs.inputs
-  inputs_met v o l f e sc h (plain_inputs {xs = xs} {cs = cs} i) = let w = listed_met (suc (size l)) true xs cs l f e sc (omega arith) h i in record { last = w.last; reads = w.reads }
-  inputs_met v o l f e sc h (variadic_inputs {xs = xs} {cs = cs} {x = x} {m = m} i j) = let w = marked_met (suc (size l)) true xs cs x l m f e sc (omega arith) h i j in record { last = w.last; reads = w.reads }
+    pub fn_ptr_met : (d : End) (x : TypeFnPtr A E) (l k : Toks) (f : Option Span) (e : Span) (sc : Scope) → ahead (at l f e sc) ≤ limit → IsFnPtr part clearly d x l k → Fits d k → Reads_to (reading.fn_ptr attrs values r) x l k f e sc
+    unfolding reading.fn_ptr
+    fn_ptr_met d x l k f e sc h i fits =
+        let p = bound part d x l k i in
+        let w = perhaps_for p.lifetimes l p.from f e sc h p.bears (after_begins part p.lifetimes d x p.from k p.after).no_for in
+        let light = (optional_no (λ y n j g. for_no part m.firsts y n j g) p.lifetimes l p.from p.bears).light in
+        let v = fn_ptr_after_met p.lifetimes d x p.from k f w.last sc (left_after l p.from f f e w.last sc limit light h) p.after fits in
+        record { last = v.last; reads = link _ w.reads v.reads }

@@ -11,10 +11,9 @@ use Rattle.token_core.specs.declared.tree.Punct.{Punct}
 use Rattle.token_core.specs.declared.tree.Spacing.TheVariants.{Joint}
 use Rattle.token_core.specs.declared.word.Word.{Word}
 use Rattle.token_core.specs.Listed.{AreListed, none_left, last_value, value_and_mark}
-use Rattle.token_core.specs.Loops.{size}
 use Rattle.token_core.specs.Marks.{chars_of}
 use Rattle.token_core.specs.Spellings.{AreChars, no_char, last_char, more_chars, IsMark, is_mark, IsWord, is_word, IsLifetime, is_lifetime, IsStr, a_str}
-use Rattle.token_core.specs.Toks.{Bytes, Toks, word, mark, lit, group}
+use Rattle.token_core.specs.Toks.{Bytes, Toks, word, mark, group}
 use Rattle.token_core.specs.Trees.{punct}
 use Rattle.syn_path.specs.declared.mac.Macro.{Macro}
 use Rattle.syn_path.specs.declared.path.PathOf.{PathOf}
@@ -24,7 +23,7 @@ use Rattle.syn_path.specs.path.Paths.{Sep}
 use Rattle.syn_path.specs.path.Spelling.{IsLeading, no_leading, leading, AreSegments, last_segment, more_segments, IsBarePath, a_bare_path}
 use Rattle.syn_forms.specs.declared.tokens.PointerMutability.{PointerMutability}
 use Rattle.syn_forms.specs.tokens.Spelling.{IsMutability, a_const, a_mut}
-use Rattle.syn_forms.proofs.nested_laws.Ahead.{weight, weight-group}
+use Rattle.syn_forms.proofs.nested_laws.Ahead.{weight-group}
 use Rattle.syn_ty.specs.ty.Spelling.{Relation, IsOptional, absent, present}
 use Rattle.syn_ty.proofs.ty_laws.Met.{Less, NoMore}
 

@@ -2,51 +2,59 @@
 use Rattle.std.specs.Prelude.{is_some}
 use Rattle.std.specs.List.{list_any}
 use Rattle.std.proofs.lemmas.Bool.{eqb-true}
+use Rattle.std.proofs.lemmas.Slice.Eq.{bytes_eq-Decides}
 use Rattle.std.proofs.Common.{◌≡◌, ◌&&◌, ◌||◌, ◌==◌, if◌then◌else◌, ℕ, ◌<◌, ◌≤◌, Bool, true, false, List, [], ◌∷◌, Option, Some, None, Ok, refl, sym, ◌∙◌, ap, subst, arith}
 use Rattle.token_core.specs.declared.error.ErrorKind.{ErrorKind}
 use Rattle.token_core.specs.declared.error.ErrorKind.TheVariants.{NoTraitInImpl, NoTraitInObject}
 use Rattle.token_core.specs.declared.lifetime.Lifetime.{Lifetime}
 use Rattle.token_core.specs.declared.span.Span.{Span}
 use Rattle.token_core.specs.declared.token.Paren.{Paren}
+use Rattle.token_core.specs.declared.tree.Ident.{Ident}
 use Rattle.token_core.specs.declared.tree.Punct.{Punct}
 use Rattle.token_core.specs.declared.tree.TokenStream.{TokenStream}
 use Rattle.token_core.specs.declared.word.Word.{Word}
+use Rattle.token_core.specs.Keywords.{is_keyword}
 use Rattle.token_core.specs.Lifetimes.{read_lifetime, sees_lifetime}
-use Rattle.token_core.specs.Listed.{Anywhere, Nowhere, AfterMark}
+use Rattle.token_core.specs.Listed.{AreListed, none_left, last_value, value_and_mark, Anywhere, Nowhere, AfterMark}
 use Rattle.token_core.specs.Loops.{Many, never}
 use Rattle.token_core.specs.Positions.{Item}
-use Rattle.token_core.specs.Reads.{Reader, ◌>>=◌, pure, any_text, here, sees_group, sees_mark, sees_word}
+use Rattle.token_core.specs.Reads.{Reader, ◌>>=◌, pure, here, is_text, sees_group, sees_mark, sees_word}
 use Rattle.token_core.specs.Spellings.{IsMark, is_mark, last_char, more_chars, IsWord, is_word, IsLifetime, is_lifetime}
 use Rattle.token_core.specs.Stream.{Scope, Stream}
 use Rattle.token_core.specs.Tokens as token
-use Rattle.token_core.specs.Toks.{Toks, done, word, mark, lit, group, enter, leave}
+use Rattle.token_core.specs.Toks.{Bytes, Toks, done, word, mark, lit, group, enter, leave}
 use Rattle.token_core.specs.Trees.{punct}
 use Rattle.token_core.proofs.MarkSpells.{mark_complete, mark_seen}
 use Rattle.token_core.proofs.Steps.{link, chosen, Reads_to}
 use Rattle.token_core.proofs.Took.{at, mapped}
 use Rattle.token_core.proofs.Unseen.{no_mark-other}
 use Rattle.token_core.proofs.WordSpells.{word_complete, word_seen}
+use Rattle.syn_path.specs.declared.path.PathStyle.TheVariants.{AsWritten}
 use Rattle.syn_forms.specs.declared.places.BoundPlace.{BoundPlace}
 use Rattle.syn_forms.specs.declared.places.BoundPlace.TheVariants.{Object, Opaque}
 use Rattle.syn_forms.specs.declared.places.TypePlace.{TypePlace}
-use Rattle.syn_forms.specs.lists.Reading.{plus_follows, sees_bound, stops_bound}
+use Rattle.syn_forms.specs.lists.Reading.{sees_bound, stops_bound}
+use Rattle.syn_forms.specs.paths.Reading.{is_bare_word}
 use Rattle.syn_forms.specs.nested.Below.{ahead}
 use Rattle.syn_forms.specs.places.Reading.{allows_const, allows_plus}
 use Rattle.syn_forms.specs.verbatim.Reading.{position}
 use Rattle.syn_forms.proofs.nested_laws.Ahead.{weight}
 use Rattle.syn_ty.specs.declared.generics.TypeParamBoundOf.TheVariants as b
 use Rattle.syn_ty.specs.declared.ty.TypeOf.TheVariants as tree
-use Rattle.syn_ty.specs.generics.Bounds.{AreBounds}
+use Rattle.syn_ty.specs.generics.Bounds.{IsTrait, a_trait, a_trait_for, a_trait_asked, a_trait_bound, IsBound, a_lifetime_bound, a_bare_bound, a_bound_in_parens, a_capture_bound, a_verbatim_bound, AreBounds}
 use Rattle.syn_ty.specs.generics.Params.{named_bound}
 use Rattle.syn_ty.specs.generics.Reading.{bound_step}
-use Rattle.syn_ty.specs.path.Reading.{is_mod_style}
+use Rattle.syn_ty.specs.generics.Spelling.{a_binder}
+use Rattle.syn_ty.specs.path.Paths.{Sep}
+use Rattle.syn_ty.specs.path.Signed.{AreSigned, IsBoundPath, a_signed, signed_after, signed_last, with_parens, without_parens}
+use Rattle.syn_ty.specs.path.Spelling.{is_segment_word, IsPath, IsSegment, a_path, a_word, a_word_with_arguments}
 use Rattle.syn_ty.specs.ty.Objects.{ends_lone, IsBoundList, several_bounds, one_bound, AreObjectBounds, object_bounds, IsDyn, a_dyn, IsImpl, an_impl, IsObject, an_object, AreFurther, none_further, some_further}
 use Rattle.syn_ty.specs.ty.Parts.{Manner, clearly, End, Holds, Parts}
 use Rattle.syn_ty.specs.ty.Points.{Readers, a_bound}
 use Rattle.syn_ty.specs.ty.Reading as reading
 use Rattle.syn_ty.specs.ty.Reading.{is_trait, names_trait, object_of, sees_call}
 use Rattle.syn_ty.specs.ty.Spelling.{IsOptional, absent, present}
-use Rattle.syn_ty.specs.ty.Trees.{BoundLifetimes, Path, TypeImplTrait, TypeParamBound, TypeTraitObject, TypeTree}
+use Rattle.syn_ty.specs.ty.Trees.{BoundLifetimes, Path, PathSegment, TypeImplTrait, TypeParamBound, TypeTraitObject, TypeTree}
 use Rattle.syn_ty.specs.ty.Types.{impl_trait_with, trait_object_with}
 use Rattle.syn_ty.proofs.ty_laws.BoundListsMet.{plus_there, plus_stops, ends_as, IsFurther, nothing_further, further, FirstOf, first_of, plus_stopped, closed_stopped, bounds_met, one_bound_met, bounds_from_met, each_bound_met}
 use Rattle.syn_ty.proofs.ty_laws.CaptureMet.{since_met}
@@ -267,76 +275,94 @@ module _ {A E : Type 0} (r : Readers A E) (part : Manner → Parts A E) (limit :
         let y = lived c.end c.bound l c.middle f e sc h c.spelt c.fits g in
         lived_met c.bound (xs, ps) l c.middle k f e sc y (after_bound c.end c.bound Object l c.middle f f e y.last sc c.spelt h) c.rest n
 
-  -- ---- without `dyn`, after a first bound that was read: a path, or one in parentheses
-
-  abbrev Path_ : Type 0
-  Path_ = Path A E
+  -- ---- without `dyn`, after a path that was read: it is the first bound
 
   abbrev For : Type 0
   For = Option (BoundLifetimes A E)
 
-  -- a path as the first bound
-  abbrev of_path : For → Path_ → Bound
+  abbrev pub of_path : For → Path A E → Bound
   of_path o p = b.Trait (named_bound o None p)
 
   -- what follows a path
   abbrev pub After : Bool → Bound → Bounds → Toks → Toks → Type 0
   After = IsFurther part Object AfterMark (stops_bound false)
 
-  -- where no `+` goes on with it
+  -- it stands alone
   pub path_alone_after : (plus : Bool) (place : TypePlace) → allows_plus place ≡ plus → (x : Bound) (k : Toks) → Fits (ends_lone place) k → After plus x (x ∷ [], []) k k
   path_alone_after true place a x k o = nothing_further (o.no_plus a)
   path_alone_after false place a x k o = nothing_further refl
 
-  -- where a `+` does
+  -- with plus, a `+` stands after it, and perhaps further bounds
   pub path_plus_after : (plus : Bool) (place : TypePlace) → allows_plus place ≡ plus → allows_plus place ≡ true → (d : End) (x : Bound) (c : token.Plus) (xs : List Bound) (ps : List token.Plus) (l m k : Toks) →
       IsMark true c l m → AreBounds part clearly Object Anywhere false d xs ps m k → Fits d k → After plus x (x ∷ xs, c ∷ ps) l k
   path_plus_after plus place a h d x c xs ps l m k i j o = further (sym a ∙ h) i (ends_as part Object Anywhere AfterMark (λ z. z) false d xs ps m k refl j) (plus_stopped part Object false d k o)
 
-  pub path_object_met : (plus : Bool) (o : For) (p : Path_) (v : Bounds) (l k : Toks) (f : Option Span) (e : Span) (sc : Scope) → ahead (at l f e sc) ≤ limit → After plus (of_path o p) v l k →
+  pub path_object_met : (plus : Bool) (o : For) (p : Path A E) (v : Bounds) (l k : Toks) (f : Option Span) (e : Span) (sc : Scope) → ahead (at l f e sc) ≤ limit → After plus (of_path o p) v l k →
       Reads_to (reading.path_object r plus o p) (object_of v) l k f e sc
   path_object_met plus o p v l k f e sc h i = let q = bounds_from_met r part limit meets Object plus (of_path o p) v l k f e sc h i in record { last = q.last; reads = link _ q.reads refl }
 
-  -- where no call begins, after a binder or before a `+`
-  pub after_path_met : (plus : Bool) (o : For) (p : Path_) (v : Bounds) (l k : Toks) (f : Option Span) (e : Span) (sc : Scope) → ahead (at l f e sc) ≤ limit → sees_call l ≡ false → is_some o || plus_follows plus l ≡ true →
-      After plus (of_path o p) v l k → Reads_to (reading.after_path r plus o p) (object_of v) l k f e sc
-  unfolding reading.after_path
-  after_path_met plus o p v l k f e sc h n g i =
-      let q = path_object_met plus o p v l k f e sc h i in
-      record { last = q.last; reads = chosen (sees_call l && is_mod_style p) false _ _ (at l f e sc) _ (ap (λ z. z && is_mod_style p) n) (chosen (is_some o || plus_follows plus l) true _ _ (at l f e sc) _ g q.reads) }
-
-  pub alone_met : (plus : Bool) (place : TypePlace) → allows_plus place ≡ plus → (y : BoundLifetimes A E) (p : Path_) (k : Toks) (f : Option Span) (e : Span) (sc : Scope) → ahead (at k f e sc) ≤ limit → Fits (ends_lone place) k →
-      Reads_to (reading.after_path r plus (Some y) p) (object_of (of_path (Some y) p ∷ [], [])) k k f e sc
-  alone_met plus place a y p k f e sc h o = after_path_met plus (Some y) p (of_path (Some y) p ∷ [], []) k k f e sc h o.stops.no_call refl (path_alone_after plus place a (of_path (Some y) p) k o)
-
-  or_second : (a c : Bool) → c ≡ true → a || c ≡ true
-  or_second true c h = refl
-  or_second false c h = h
-
-  plus_goes : (plus : Bool) (c : token.Plus) (l m : Toks) → plus ≡ true → IsMark true c l m → plus_follows plus l ≡ true
-  plus_goes true c l m h i = plus_there c l m i
-  plus_goes false c l m h i = cc h
-
-  pub with_plus_met : (plus : Bool) (place : TypePlace) → allows_plus place ≡ plus → allows_plus place ≡ true → (d : End) (o : For) (p : Path_) (c : token.Plus) (xs : List Bound) (ps : List token.Plus) (l m k : Toks) (f : Option Span) (e : Span) (sc : Scope) →
-      ahead (at l f e sc) ≤ limit → IsMark true c l m → AreBounds part clearly Object Anywhere false d xs ps m k → Fits d k → Reads_to (reading.after_path r plus o p) (object_of (of_path o p ∷ xs, c ∷ ps)) l k f e sc
-  with_plus_met plus place a h d o p c xs ps l m k f e sc u i j g =
-      after_path_met plus o p (of_path o p ∷ xs, c ∷ ps) l k f e sc u (plus_stops c l m i).no_call (or_second (is_some o) (plus_follows plus l) (plus_goes plus c l m (sym a ∙ h) i)) (path_plus_after plus place a h d (of_path o p) c xs ps l m k i j g)
-
-  -- ---- each `+` with a bound
+  -- ---- after a first bound that was read, each `+` with a bound
 
   each_after : (d : End) (x : Bound) (xs : List Bound) (ps : List token.Plus) (l k : Toks) → AreFurther part clearly d xs ps l k → Fits d k → IsFurther part Object Nowhere never true x (x ∷ xs, ps) l k
   each_after d x xs ps l k none_further o = nothing_further (o.no_plus refl)
   each_after d x xs ps l k (some_further i j) o = further refl i j (closed_stopped part Object false d k o)
 
-  pub each_object_met : (d : End) (x : Bound) (xs : List Bound) (ps : List token.Plus) (l k : Toks) (f : Option Span) (e : Span) (sc : Scope) → ahead (at l f e sc) ≤ limit → AreFurther part clearly d xs ps l k → Fits d k →
+  pub each_object_met : (x : Bound) (d : End) (xs : List Bound) (ps : List token.Plus) (l k : Toks) (f : Option Span) (e : Span) (sc : Scope) → ahead (at l f e sc) ≤ limit → AreFurther part clearly d xs ps l k → Fits d k →
       Reads_to (reading.each_object_from r x) (object_of (x ∷ xs, ps)) l k f e sc
-  each_object_met d x xs ps l k f e sc h i o =
+  each_object_met x d xs ps l k f e sc h i o =
       let q = each_bound_met r part limit meets Object x (x ∷ xs, ps) l k f e sc h (each_after d x xs ps l k i o) in
       record { last = q.last; reads = link _ q.reads refl }
 
-  -- after parentheses that hold what may be the first bound
-  pub held_plus_met : (plus : Bool) (t : Paren) (z : TypeTree A E) (d : End) (x : Bound) (c : token.Plus) (xs : List Bound) (ps : List token.Plus) (l m k : Toks) (f : Option Span) (e : Span) (sc : Scope) → ahead (at l f e sc) ≤ limit → plus ≡ true →
-      IsMark true c l m → AreBounds part clearly Object Nowhere false d xs ps m k → Fits d k → Reads_to (reading.paren_or_object r plus t z (Some x)) (object_of (x ∷ xs, c ∷ ps)) l k f e sc
-  held_plus_met plus t z d x c xs ps l m k f e sc h g i j o =
-      let q = each_object_met d x xs (c ∷ ps) l k f e sc h (some_further i j) o in
-      record { last = q.last; reads = chosen (plus_follows plus l) true _ _ (at l f e sc) _ (plus_goes plus c l m g i) q.reads }
+-- ---- no bound begins with `dyn`
+
+dyn_apart : (t : Bytes) (c : Bool) → is_text token.dyn_text t ≡ c → is_segment_word t ≡ true → is_text token.dyn_text t ≡ false
+unfolding is_keyword
+dyn_apart t true h g = let n : is_segment_word t ≡ false = ap is_segment_word ((bytes_eq-Decides t token.dyn_text).0 h) in cc (sym g ∙ n)
+dyn_apart t false h g = h
+
+segment_no_dyn : (i : Ident) (k : Toks) → is_segment_word i.text ≡ true → token.sees_dyn (word i k) ≡ false
+unfolding sees_word
+segment_no_dyn i k h = dyn_apart i.text (is_text token.dyn_text i.text) refl h
+
+sep_no_dyn : (c : Sep) (l m : Toks) → IsMark true c l m → token.sees_dyn l ≡ false
+unfolding sees_word
+sep_no_dyn c l m (is_mark (more_chars y)) = refl
+
+leading_no_dyn : (o : Option Sep) (l m : Toks) → IsOptional (IsMark true) o l m → token.sees_dyn m ≡ false → token.sees_dyn l ≡ false
+leading_no_dyn o l m absent h = h
+leading_no_dyn o l m (present {a = c} i) h = sep_no_dyn c l m i
+
+module _ {A E : Type 0} (part : Manner → Parts A E) where
+  named_no_dyn : (x : PathSegment A E) (l m : Toks) → IsSegment part clearly AsWritten x l m → token.sees_dyn l ≡ false
+  named_no_dyn x l m (a_word {i = i} h) = segment_no_dyn i m h
+  named_no_dyn x l m (a_word_with_arguments {i = i} {l = n} h s z) = segment_no_dyn i n (ap (λ c. c || is_bare_word i.text) h)
+
+  listed_no_dyn : (f : Bool) (xs : List (PathSegment A E)) (cs : List Sep) (l m : Toks) → AreListed (λ (_ : Bool). IsSegment part clearly AsWritten) (IsMark true) Nowhere f xs cs l m → token.sees_dyn l ≡ false
+  listed_no_dyn f xs cs l m (none_left i) = absurd i
+  listed_no_dyn f xs cs l m (last_value {x = x} i) = named_no_dyn x l m i
+  listed_no_dyn f xs cs l m (value_and_mark {x = x} {m = k} i j n) = named_no_dyn x l k i
+
+  signed_no_dyn : (e : End) (xs : List (PathSegment A E)) (cs : List Sep) (l m : Toks) → AreSigned part clearly e xs cs l m → token.sees_dyn l ≡ false
+  signed_no_dyn e xs cs l m (signed_last (a_signed {i = i} {l = n} h j s)) = segment_no_dyn i n h
+  signed_no_dyn e xs cs l m (signed_after {s = x} {m = k} i j n) = named_no_dyn x l k i
+
+  path_no_dyn : (p : Path A E) (l m : Toks) → IsPath part clearly AsWritten p l m → token.sees_dyn l ≡ false
+  path_no_dyn p l m (a_path {c = o} {xs = xs} {cs = cs} {m = k} i n) = leading_no_dyn o l k i (listed_no_dyn true xs cs k m n)
+
+  bound_path_no_dyn : (e : End) (p : Path A E) (l m : Toks) → IsBoundPath part clearly e p l m → token.sees_dyn l ≡ false
+  bound_path_no_dyn e p l m (without_parens i) = path_no_dyn p l m i
+  bound_path_no_dyn e p l m (with_parens {c = o} {xs = xs} {cs = cs} {m = k} i n) = leading_no_dyn o l k i (signed_no_dyn e xs cs k m n)
+
+  trait_no_dyn : (e : End) (o : Option (BoundLifetimes A E)) (q : Option token.Question) (p : Path A E) (l m : Toks) → IsTrait part clearly e o q p l m → token.sees_dyn l ≡ false
+  unfolding sees_word
+  trait_no_dyn e o q p l m (a_trait i) = bound_path_no_dyn e p l m i
+  trait_no_dyn e o q p l m (a_trait_for (a_binder is_word i j n) k) = refl
+  trait_no_dyn e o q p l m (a_trait_asked (is_mark (last_char y)) i) = refl
+
+  pub bound_no_dyn : (e : End) (x : TypeParamBound A E) (l k : Toks) → IsBound part clearly Object e x l k → token.sees_dyn l ≡ false
+  unfolding sees_word
+  bound_no_dyn e x l k (a_lifetime_bound is_lifetime) = refl
+  bound_no_dyn e x l k (a_bare_bound (a_trait_bound {o = o} {q = q} {p = p} i)) = trait_no_dyn e o q p l k i
+  bound_no_dyn e x l k (a_bound_in_parens i) = refl
+  bound_no_dyn e x l k (a_capture_bound h i) = cc h
+  bound_no_dyn e x l k (a_verbatim_bound h i t) = cc h

@@ -76,10 +76,10 @@ use Rattle.syn_ty.proofs.ty_laws.Steps.{elements_in_parens}
 -- ---- what the content of parentheses begins with
 
 -- neither a lifetime nor `?`, nor is it over: a type is read
-pub record Plain (l : Toks) : Type 0 where
-  pub there : is_done l ≡ false
-  pub no_lifetime : sees_lifetime l ≡ false
-  pub no_question : token.sees_question l ≡ false
+record Plain (l : Toks) : Type 0 where
+  there : is_done l ≡ false
+  no_lifetime : sees_lifetime l ≡ false
+  no_question : token.sees_question l ≡ false
 
 plain_word : (i : Ident) (k : Toks) → Plain (word i k)
 unfolding is_done sees_lifetime sees_mark
@@ -202,7 +202,7 @@ module _ {A E : Type 0} (part : Manner → Parts A E) where
   plain_tuple x l k (some_elements h i j g) = plain_group _ _ _ _
 
   plain_verbatim : (p : TypePlace) (d : End) (l k : Toks) → IsVerbatimType part clearly p d l k → Plain l
-  plain_verbatim p d l k (an_unsafe_binder {b = b} {m = m} i is_word g h j w) = plain_optional_for b l _ i (plain_word _ _)
+  plain_verbatim p d l k (an_unsafe_binder {b = b} i is_word g h j w) = plain_optional_for b l _ i (plain_word _ _)
   plain_verbatim p d l k (a_dyn_star is_word i j) = plain_word _ _
   plain_verbatim p d l k (a_builtin {b = b} i g h j) = plain_optional_for b l _ i (plain_word _ _)
 
