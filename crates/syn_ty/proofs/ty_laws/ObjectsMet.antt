@@ -1,14 +1,12 @@
 -- The bounds after `dyn` and `impl`, and those of a trait object without `dyn`, that a list spells clearly are what their reads answer; `dyn *` is held verbatim.
-use Rattle.std.specs.Prelude.{is_some}
 use Rattle.std.specs.List.{list_any}
 use Rattle.std.proofs.lemmas.Bool.{eqb-true}
 use Rattle.std.proofs.lemmas.Slice.Eq.{bytes_eq-Decides}
-use Rattle.std.proofs.Common.{◌≡◌, ◌&&◌, ◌||◌, ◌==◌, if◌then◌else◌, ℕ, ◌<◌, ◌≤◌, Bool, true, false, List, [], ◌∷◌, Option, Some, None, Ok, refl, sym, ◌∙◌, ap, subst, arith}
+use Rattle.std.proofs.Common.{◌≡◌, ◌||◌, ◌==◌, ℕ, ◌<◌, ◌≤◌, Bool, true, false, List, [], ◌∷◌, Option, Some, None, Ok, refl, sym, ◌∙◌, ap, subst, arith}
 use Rattle.token_core.specs.declared.error.ErrorKind.{ErrorKind}
 use Rattle.token_core.specs.declared.error.ErrorKind.TheVariants.{NoTraitInImpl, NoTraitInObject}
 use Rattle.token_core.specs.declared.lifetime.Lifetime.{Lifetime}
 use Rattle.token_core.specs.declared.span.Span.{Span}
-use Rattle.token_core.specs.declared.token.Paren.{Paren}
 use Rattle.token_core.specs.declared.tree.Ident.{Ident}
 use Rattle.token_core.specs.declared.tree.Punct.{Punct}
 use Rattle.token_core.specs.declared.tree.TokenStream.{TokenStream}
@@ -19,7 +17,7 @@ use Rattle.token_core.specs.Listed.{AreListed, none_left, last_value, value_and_
 use Rattle.token_core.specs.Loops.{Many, never}
 use Rattle.token_core.specs.Positions.{Item}
 use Rattle.token_core.specs.Reads.{Reader, ◌>>=◌, pure, here, is_text, sees_group, sees_mark, sees_word}
-use Rattle.token_core.specs.Spellings.{IsMark, is_mark, last_char, more_chars, IsWord, is_word, IsLifetime, is_lifetime}
+use Rattle.token_core.specs.Spellings.{IsMark, is_mark, last_char, more_chars, IsWord, is_word, is_lifetime}
 use Rattle.token_core.specs.Stream.{Scope, Stream}
 use Rattle.token_core.specs.Tokens as token
 use Rattle.token_core.specs.Toks.{Bytes, Toks, done, word, mark, lit, group, enter, leave}
@@ -52,13 +50,13 @@ use Rattle.syn_ty.specs.ty.Objects.{ends_lone, IsBoundList, several_bounds, one_
 use Rattle.syn_ty.specs.ty.Parts.{Manner, clearly, End, Holds, Parts}
 use Rattle.syn_ty.specs.ty.Points.{Readers, a_bound}
 use Rattle.syn_ty.specs.ty.Reading as reading
-use Rattle.syn_ty.specs.ty.Reading.{is_trait, names_trait, object_of, sees_call}
+use Rattle.syn_ty.specs.ty.Reading.{is_trait, names_trait, object_of}
 use Rattle.syn_ty.specs.ty.Spelling.{IsOptional, absent, present}
-use Rattle.syn_ty.specs.ty.Trees.{BoundLifetimes, Path, PathSegment, TypeImplTrait, TypeParamBound, TypeTraitObject, TypeTree}
-use Rattle.syn_ty.specs.ty.Types.{impl_trait_with, trait_object_with}
-use Rattle.syn_ty.proofs.ty_laws.BoundListsMet.{plus_there, plus_stops, ends_as, IsFurther, nothing_further, further, FirstOf, first_of, plus_stopped, closed_stopped, bounds_met, one_bound_met, bounds_from_met, each_bound_met}
+use Rattle.syn_ty.specs.ty.Trees.{BoundLifetimes, Path, PathSegment, TypeImplTrait, TypeParamBound, TypeTraitObject}
+use Rattle.syn_ty.specs.ty.Types.{trait_object_with}
+use Rattle.syn_ty.proofs.ty_laws.BoundListsMet.{ends_as, IsFurther, nothing_further, further, FirstOf, first_of, plus_stopped, closed_stopped, bounds_met, one_bound_met, bounds_from_met, each_bound_met}
 use Rattle.syn_ty.proofs.ty_laws.CaptureMet.{since_met}
-use Rattle.syn_ty.proofs.ty_laws.Complete.{later, not_more}
+use Rattle.syn_ty.proofs.ty_laws.Complete.{later}
 use Rattle.syn_ty.proofs.ty_laws.Met.{Fits, Meets}
 
 -- ---- no `*` stands where a bound begins

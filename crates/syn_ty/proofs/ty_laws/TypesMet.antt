@@ -37,7 +37,7 @@ use Rattle.syn_ty.specs.declared.ty.TypeInferOf.{TypeInferOf}
 use Rattle.syn_ty.specs.declared.ty.TypeNeverOf.{TypeNeverOf}
 use Rattle.syn_ty.specs.declared.ty.TypeOf.TheVariants as v
 use Rattle.syn_ty.specs.generics.Bounds.{IsFor, AreBounds, no_bounds, last_bound, bound_and_plus}
-use Rattle.syn_ty.specs.generics.Reading.{binder}
+use Rattle.syn_ty.specs.generics.Reading as generics
 use Rattle.syn_ty.specs.path.Signed.{IsReturn}
 use Rattle.syn_ty.specs.path.Spelling.{is_segment_word, IsAnyPath, unqualified, qualified}
 use Rattle.syn_ty.specs.ty.Admitted.{NoLifetime, IsBorrow, a_borrow, a_mutable_borrow, a_lifetime_borrow, IsBracketed, bracketed, IsCounted, counted, IsEnclosed, enclosed, IsPointer, a_pointer, IsTupled, no_element, some_elements, IsType, a_path_type, a_macro as a_macro_type, a_bound_macro}
@@ -46,12 +46,13 @@ use Rattle.syn_ty.specs.ty.Objects.{in_parens, AreBareBounds, AreFurther, AreObj
 use Rattle.syn_ty.specs.ty.Parts.{Manner, clearly, End, Parts, Holds}
 use Rattle.syn_ty.specs.ty.Points.{Readers}
 use Rattle.syn_ty.specs.ty.Reading as reading
-use Rattle.syn_ty.specs.ty.Reading.{is_trait, object_of}
+use Rattle.syn_ty.specs.ty.Reading.{begins_named, is_trait, object_of, sees_bindable, sees_fn_ptr, sees_unsafe_binder}
 use Rattle.syn_ty.specs.ty.Spelling.{IsOptional, absent, present}
 use Rattle.syn_ty.specs.ty.Trees.{BoundLifetimes, NamedArg, Path, ReturnType, TypeArray, TypeFnPtr, TypeImplTrait, TypeParamBound, TypeParen, TypePtr, TypeReference, TypeSlice, TypeTraitObject, TypeTree, TypeTuple}
 use Rattle.syn_ty.specs.ty.Types.{fn_ptr_with}
 use Rattle.syn_ty.proofs.ty_laws.CallsMet.{as_path}
 use Rattle.syn_ty.proofs.ty_laws.Met.{Fits, Meets, PathsMeet}
+use Rattle.syn_ty.proofs.ty_laws.NamedMet.{NameBegins}
 
 -- ---- the laws of the single forms
 
@@ -77,8 +78,8 @@ module _ {A E : Type 0} (attrs : Reader (List A)) (values : ReadValues E) (r : R
         Reads_to (reading.paren_type r plus) (object_of (in_parens s None (Some q) p ∷ xs, a ∷ ps)) (group Parenthesis s (group Parenthesis i c done) m) k f e sc
     -- `dyn_type`
     pub dyn : (place : TypePlace) (d : End) (x : TypeTraitObject A E) (l k : Toks) (f : Option Span) (e : Span) (sc : Scope) → ahead (at l f e sc) ≤ limit → IsDyn part clearly place d x l k → Fits d k → Reads_to (reading.dyn_type r (allows_plus place)) (v.TraitObject x) l k f e sc
-    pub dyn_star : (place : TypePlace) (d : End) (t : TokenStream) (w : token.Dyn) (s : token.Star) (v : Many (TypeParamBound A E) token.Plus) (l m n k : Toks) (f : Option Span) (e : Span) (sc : Scope) → ahead (at l f e sc) ≤ limit →
-        IsWord w l m → IsMark true s m n → AreObjectBounds part clearly place d v n k → Holds t l k → Fits d k → Reads_to (reading.dyn_type r (allows_plus place)) (v.Verbatim t) l k f e sc
+    pub dyn_star : (place : TypePlace) (d : End) (t : TokenStream) (w : token.Dyn) (s : token.Star) (bs : Many (TypeParamBound A E) token.Plus) (l m n k : Toks) (f : Option Span) (e : Span) (sc : Scope) → ahead (at l f e sc) ≤ limit →
+        IsWord w l m → IsMark true s m n → AreObjectBounds part clearly place d bs n k → Holds t l k → Fits d k → Reads_to (reading.dyn_type r (allows_plus place)) (v.Verbatim t) l k f e sc
     -- `impl_trait`
     pub impl : (place : TypePlace) (d : End) (x : TypeImplTrait A E) (l k : Toks) (f : Option Span) (e : Span) (sc : Scope) → ahead (at l f e sc) ≤ limit → IsImpl part clearly place d x l k → Fits d k → Reads_to (reading.impl_trait r (allows_plus place)) x l k f e sc
     -- `lifetime_object`
@@ -89,6 +90,38 @@ module _ {A E : Type 0} (attrs : Reader (List A)) (values : ReadValues E) (r : R
         ahead (at l f e sc) ≤ limit → IsOptional IsWord u l m → IsOptional IsAbi i m n → IsWord w n (group Parenthesis s c j) → AreInputs part clearly y z c → IsReturn part clearly NoPlus d o j k → Fits d k →
         Reads_to (reading.fn_ptr_after attrs values r b) (fn_ptr_with [] b u i w (groups.paren s) y z o) l k f e sc
     -- `binder`
-    pub binder : (x : BoundLifetimes A E) (l k : Toks) (f : Option Span) (e : Span) (sc : Scope) → ahead (at l f e sc) ≤ limit → IsFor part clearly x l k → Reads_to (binder r) x l k f e sc
+    pub binder : (x : BoundLifetimes A E) (l k : Toks) (f : Option Span) (e : Span) (sc : Scope) → ahead (at l f e sc) ≤ limit → IsFor part clearly x l k → Reads_to (generics.binder r) x l k f e sc
     -- a bound that begins with a lifetime is that lifetime
     pub life : (d : End) (x : TypeParamBound A E) (l k : Toks) → (part clearly).bound Object d x l k → sees_lifetime l ≡ true → (y : Lifetime) × IsLifetime y l k
+
+-- ---- what forms begin with
+
+-- a pointer to a function, after its binder
+record FnBegins (l : Toks) : Type 0 where
+  name : NameBegins l
+  no_binder : sees_unsafe_binder l ≡ false
+  sees : sees_fn_ptr l ≡ true
+  bindable : sees_bindable l ≡ true
+
+no_lt_abi : (i : Option Abi) (w : token.Fn) (l m n : Toks) → IsOptional IsAbi i l m → IsWord w m n → token.sees_lt l ≡ false
+unfolding sees_mark
+no_lt_abi i w l m n absent is_word = refl
+no_lt_abi i w l m n (present (an_abi is_word j)) h = refl
+
+fn_begins : (u : Option token.Unsafe) (i : Option Abi) (w : token.Fn) (l m n k : Toks) → IsOptional IsWord u l m → IsOptional IsAbi i m n → IsWord w n k → FnBegins l
+unfolding sees_unsafe_binder sees_fn_ptr sees_bindable begins_named sees_invisible sees_word sees_group after_one is_keyword
+fn_begins u i w l m n k (present is_word) j h = record { name = record { no_invisible = refl; no_for = refl; no_paren = refl; named = refl }; no_binder = no_lt_abi i w m n k j h; sees = refl; bindable = refl }
+fn_begins u i w l m n k absent (present (an_abi is_word j)) h = record { name = record { no_invisible = refl; no_for = refl; no_paren = refl; named = refl }; no_binder = refl; sees = refl; bindable = refl }
+fn_begins u i w l m n k absent absent is_word = record { name = record { no_invisible = refl; no_for = refl; no_paren = refl; named = refl }; no_binder = refl; sees = refl; bindable = refl }
+
+unsafe_begins : (w : token.Unsafe) (l m : Toks) → IsWord w l m → NameBegins l
+unfolding sees_fn_ptr sees_bindable begins_named sees_invisible sees_word sees_group is_keyword
+unsafe_begins w l m is_word = record { no_invisible = refl; no_for = refl; no_paren = refl; named = refl }
+
+plus_no_pound : (p : token.Plus) (l r : Toks) → IsMark true p l r → token.sees_pound l ≡ false
+unfolding sees_mark
+plus_no_pound p l r (is_mark (last_char x)) = refl
+
+no_plus_follows : (b : Bool) (k : Toks) → (b ≡ true → token.sees_plus k ≡ false) → plus_follows b k ≡ false
+no_plus_follows true k h = h refl
+no_plus_follows false k h = refl
