@@ -265,9 +265,9 @@ unfolding sees_word is_keyword
 mod_no_try i m h = unlike token.try_text i.text (is_text token.try_text i.text) refl refl h
 
 module _ {A E : Type 0} (part : Manner → Parts A E) where
-  pub name_first : (i : Ident) (o : Option (AngleBracketed A E)) (l m : Toks) → IsItemName (IsType part clearly Plus) part clearly i o l m → IsType part clearly Plus closed (name_type i o) l m
-  name_first i o l m (an_item h) = a_path_type (unqualified (a_path absent (last_value (a_word (mod_segment i.text h)))), mod_no_try i m h)
-  name_first i o l m (an_item_with_arguments {l = n} h g) =
+  pub name_is_type : (i : Ident) (o : Option (AngleBracketed A E)) (l m : Toks) → IsItemName (IsType part clearly Plus) part clearly i o l m → IsType part clearly Plus closed (name_type i o) l m
+  name_is_type i o l m (an_item h) = a_path_type (unqualified (a_path absent (last_value (a_word (mod_segment i.text h)))), mod_no_try i m h)
+  name_is_type i o l m (an_item_with_arguments {l = n} h g) =
       a_path_type (unqualified (a_path absent (last_value (a_word_with_arguments h tt g))), mod_no_try i n (named_mod (is_ident i.text) (is_text token.super_text i.text) (is_text token.self_value_text i.text) (is_text token.self_type_text i.text) (is_text token.crate_text i.text) h))
 
 -- ---- no bound begins where the bounds of an associated type end

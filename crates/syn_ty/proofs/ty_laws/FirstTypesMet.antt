@@ -25,7 +25,7 @@ use Rattle.syn_path.specs.declared.path.PathStyle.TheVariants.{AsWritten}
 use Rattle.syn_forms.specs.declared.places.BoundPlace.{BoundPlace}
 use Rattle.syn_forms.specs.declared.places.BoundPlace.TheVariants.{Object, Opaque}
 use Rattle.syn_forms.specs.declared.places.TypePlace.{TypePlace}
-use Rattle.syn_forms.specs.declared.places.TypePlace.TheVariants.{Plus, NoPlus}
+use Rattle.syn_forms.specs.declared.places.TypePlace.TheVariants.{NoPlus}
 use Rattle.syn_forms.specs.inputs.Reading.{sees_name}
 use Rattle.syn_ty.specs.declared.ty.Abi.{Abi}
 use Rattle.syn_ty.specs.generics.Bounds.{IsFor, AreBounds, no_bounds, last_bound, bound_and_plus}

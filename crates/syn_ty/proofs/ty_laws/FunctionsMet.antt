@@ -1,6 +1,6 @@
 -- A pointer to a function, spelt clearly, is what its read answers and all that it takes: over the reads of its types and attributes, with its ABI, its arguments, which may end in a variadic, and its output.
 use Rattle.std.specs.Prelude.{option_map}
-use Rattle.std.proofs.Common.{◌≡◌, ℕ, ◌≤◌, true, false, List, [], Option, Some, None, Ok, refl, ap, arith}
+use Rattle.std.proofs.Common.{◌≡◌, ℕ, ◌≤◌, true, false, List, [], Option, Some, None, refl, arith}
 use Rattle.token_core.specs.declared.span.DelimSpan.{DelimSpan}
 use Rattle.token_core.specs.declared.span.Span.{Span}
 use Rattle.token_core.specs.declared.token.Paren.{Paren}
@@ -10,7 +10,7 @@ use Rattle.token_core.specs.Groups.{sees_invisible}
 use Rattle.token_core.specs.Keywords.{is_keyword}
 use Rattle.token_core.specs.Lits.{sees_str, read_str}
 use Rattle.token_core.specs.Loops.{Many}
-use Rattle.token_core.specs.Reads.{Reader, Outcome, after_one, sees_group, sees_mark, sees_word}
+use Rattle.token_core.specs.Reads.{Reader, after_one, sees_group, sees_mark, sees_word}
 use Rattle.token_core.specs.Spans.{none}
 use Rattle.token_core.specs.Spellings.{IsWord, is_word, IsStr}
 use Rattle.token_core.specs.Stream.{Scope}
@@ -27,7 +27,6 @@ use Rattle.syn_forms.specs.heads.Reading as heads
 use Rattle.syn_forms.specs.inputs.Reading as inputs
 use Rattle.syn_forms.specs.nested.Below.{ahead}
 use Rattle.syn_forms.proofs.groups_laws.Complete.{content}
-use Rattle.syn_forms.proofs.nested_laws.Ahead.{weight, ahead-is}
 use Rattle.syn_ty.specs.declared.ty.Abi.{Abi}
 use Rattle.syn_ty.specs.declared.ty.FnPtrVariadicOf.{FnPtrVariadicOf}
 use Rattle.syn_ty.specs.declared.ty.TypeOf.TheVariants as form
@@ -47,7 +46,7 @@ use Rattle.syn_ty.proofs.ty_laws.FormsMet.{optional_met}
 use Rattle.syn_ty.proofs.ty_laws.InputListsMet.{dots_parts, inputs_met}
 use Rattle.syn_ty.proofs.ty_laws.LessMet.{listed_no, mark_no, no_no, optional_no, some, str_takes, word_takes}
 use Rattle.syn_ty.proofs.ty_laws.Met.{Firsts, Fits, Meets, NoMore, SuppliedMeets}
-use Rattle.syn_ty.proofs.ty_laws.SignaturesMet.{after_group, in_parens_met, inside_group, output_met}
+use Rattle.syn_ty.proofs.ty_laws.SignaturesMet.{after_group, in_parens_met, inside_group, left_after, output_met, read_as}
 
 -- ---- an ABI
 
@@ -160,12 +159,6 @@ module _ {A E : Type 0} (part : Manner → Parts A E) where
   after_begins b e x l k (after_binder (present is_word) absent is_word v o) = record { no_invisible = refl; no_for = refl; no_paren = refl; named = refl; bindable = refl; no_unsafe = refl; fn = refl }
   after_begins b e x l k (after_binder (present is_word) (present (an_abi is_word j)) w v o) = record { no_invisible = refl; no_for = refl; no_paren = refl; named = refl; bindable = refl; no_unsafe = refl; fn = refl }
 
-left_after : (l k : Toks) (f g : Option Span) (d e : Span) (sc : Scope) (limit : ℕ) → weight k ≤ weight l → ahead (at l f d sc) ≤ limit → ahead (at k g e sc) ≤ limit
-left_after l k f g d e sc limit h lim =
-    let x = ahead-is (at l f d sc) in
-    let y = ahead-is (at k g e sc) in
-    omega (arith, h, lim, x, y)
-
 module _ {A E : Type 0} (attrs : Reader (List A)) (values : ReadValues E) (r : Readers A E) (part : Manner → Parts A E) (limit : ℕ) (m : Meets r part limit) (supplied : SuppliedMeets attrs values part) where
   -- the arguments, in parentheses
   pub fn_inputs_met : (v : Many (NamedArg A E) token.Comma) (d : Option (FnPtrVariadicOf A)) (s : DelimSpan) (c k : Toks) (f : Option Span) (e : Span) (sc : Scope) → ahead (at (group Parenthesis s c k) f e sc) ≤ limit →
@@ -178,9 +171,15 @@ module _ {A E : Type 0} (attrs : Reader (List A)) (values : ReadValues E) (r : R
           (λ q x j t g a b le y fits plus. m.ty Plus q x j t g a b (omega (arith, less, le)) y fits (λ p. plus)) v d c None none z.scope (omega arith) i in
       record { last = s.closing; reads = in_parens_met (inputs.inputs named_arg_of attrs (r (a_type Plus)) form.Verbatim) (v, option_map dots_parts d) s c k f e sc w }
 
+  -- one after the other
+  parts_read : (h : heads.FnHead) (g : Paren × inputs.Inputs A (NamedArg A E)) (o : ReturnType A E) (l j n k : Toks) (f : Option Span) (e : Span) (sc : Scope) (a : Reads_to heads.fn_head h l j f e sc)
+      (b : Reads_to (reading.fn_inputs attrs values r) g j n f a.last sc) → Reads_to (reading.return_type r NoPlus) o n k f b.last sc → Reads_to (reading.fn_ptr_parts attrs values r) (h, g, o) l k f e sc
+  unfolding reading.fn_ptr_parts
+  parts_read h g o l j n k f e sc a b c = record { last = c.last; reads = link _ a.reads (link _ b.reads (link _ c.reads refl)) }
+
   pub fn_ptr_after_met : (b : Option (BoundLifetimes A E)) (d : End) (x : TypeFnPtr A E) (l k : Toks) (f : Option Span) (e : Span) (sc : Scope) → ahead (at l f e sc) ≤ limit → IsAfter part b d x l k → Fits d k →
       Reads_to (reading.fn_ptr_after attrs values r b) x l k f e sc
-  unfolding reading.fn_ptr_after reading.fn_ptr_parts
+  unfolding reading.fn_ptr_after
   fn_ptr_after_met b d x l k f e sc h (after_binder {u = u} {i = i} {w = w} {s = s} {v = v} {d = y} {o = o} {m = n} {n = p} {c = c} {j = j} ui ai wi q z) fits =
       let a = head_met u i w l n p (group Parenthesis s c j) f e sc ui ai wi in
       let light = (no_no (optional_no (λ t g t2 g2. some (word_takes t g t2 g2)) u l n ui) (no_no (optional_no (λ t g t2 g2. abi_no t g t2 g2) i n p ai) (some (word_takes w p (group Parenthesis s c j) wi)))).light in
@@ -188,9 +187,9 @@ module _ {A E : Type 0} (attrs : Reader (List A)) (values : ReadValues E) (r : R
       let g = fn_inputs_met v y s c j f a.last sc here q in
       let after = after_group s c j f f a.last g.last sc limit here in
       let t = output_met r part limit m d o j k f g.last sc (omega (arith, after)) z fits in
-      let parts : ◌≡◌ {A = Outcome (reading.FnPtrParts A E)} (reading.fn_ptr_parts attrs values r (at l f e sc)) (Ok (((u, option_map abi_parts i, w), (groups.paren s, (v, option_map dots_parts y)), o), at k f t.last sc)) =
-          link _ a.reads (link _ g.reads (link _ t.reads refl)) in
-      record { last = t.last; reads = link _ parts (ap (λ whole. Ok (whole, at k f t.last sc)) (by_parts b u w (groups.paren s) v o i y)) }
+      let head : heads.FnHead = (u, option_map abi_parts i, w) in
+      let held : Paren × inputs.Inputs A (NamedArg A E) = (groups.paren s, (v, option_map dots_parts y)) in
+      read_as (fn_ptr_by b) (reading.fn_ptr_parts attrs values r) (head, held, o) x l k f e sc (parts_read head held o l (group Parenthesis s c j) j k f e sc a g t) (by_parts b u w (groups.paren s) v o i y)
 
   -- a binder that may be there, over the read of one
   module _ (binder_met : (b : BoundLifetimes A E) (l k : Toks) (f : Option Span) (e : Span) (sc : Scope) → ahead (at l f e sc) ≤ limit → IsFor part clearly b l k → Reads_to (binder r) b l k f e sc) where

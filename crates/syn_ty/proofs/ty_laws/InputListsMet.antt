@@ -20,7 +20,6 @@ use Rattle.syn_forms.specs.declared.places.TypePlace.TheVariants.{Plus}
 use Rattle.syn_forms.specs.inputs.Reading as inputs
 use Rattle.syn_forms.specs.inputs.Reading.{sees_dots}
 use Rattle.syn_forms.specs.nested.Below.{ahead}
-use Rattle.syn_forms.proofs.nested_laws.Ahead.{ahead-is}
 use Rattle.syn_ty.specs.declared.ty.FnPtrVariadicOf.{FnPtrVariadicOf}
 use Rattle.syn_ty.specs.declared.ty.TypeOf.TheVariants as form
 use Rattle.syn_ty.specs.ty.Functions.{is_name, IsNamedArg, IsVariadic, dots, named_dots, AreInputs, plain_inputs, variadic_inputs}
@@ -34,7 +33,7 @@ use Rattle.syn_ty.proofs.ty_laws.InputsMet.{bare_begins, bare_met, parted}
 use Rattle.syn_ty.proofs.ty_laws.LessMet.{less_no, mark_no, no_less}
 use Rattle.syn_ty.proofs.ty_laws.Met.{Firsts, Fits, Less, SuppliedMeets}
 use Rattle.syn_ty.proofs.ty_laws.NamesMet.{name_met}
-use Rattle.syn_ty.proofs.ty_laws.SignaturesMet.{EndsInput, comma_ends, comma_there, done_ends, nothing_there}
+use Rattle.syn_ty.proofs.ty_laws.SignaturesMet.{EndsInput, comma_ends, comma_there, done_ends, left_after, nothing_there}
 
 -- ---- `...`, perhaps after a name and before a comma
 
@@ -53,7 +52,7 @@ no_name_at : (d : token.DotDotDot) (l k : Toks) → IsMark true d l k → inputs
 unfolding sees_word
 no_name_at d l k (is_mark (more_chars (more_chars (last_char x)))) = refl
 
-plain_dots_met : (d : token.DotDotDot) (o : Option token.Comma) (l m : Toks) (f : Option Span) (e : Span) (sc : Scope) → IsMark true d l m → IsOptional (IsMark true) o m done → Reads_to inputs.dots (None, d, o) l done f e sc
+pub plain_dots_met : (d : token.DotDotDot) (o : Option token.Comma) (l m : Toks) (f : Option Span) (e : Span) (sc : Scope) → IsMark true d l m → IsOptional (IsMark true) o m done → Reads_to inputs.dots (None, d, o) l done f e sc
 unfolding inputs.dots
 plain_dots_met d o l m f e sc i j =
     let a = mark_complete true {n = 9} {k = 3} refl (omega arith) d l m f e sc i in
@@ -65,7 +64,7 @@ name_at : (i : Ident) (k : Toks) → is_name i.text ≡ true → inputs.sees_ide
 unfolding sees_word
 name_at i k h = h
 
-named_dots_met : (i : Ident) (c : token.Colon) (d : token.DotDotDot) (o : Option token.Comma) (l m n : Toks) (f : Option Span) (e : Span) (sc : Scope) → is_name i.text ≡ true → IsMark true c l m → IsMark true d m n →
+pub named_dots_met : (i : Ident) (c : token.Colon) (d : token.DotDotDot) (o : Option token.Comma) (l m n : Toks) (f : Option Span) (e : Span) (sc : Scope) → is_name i.text ≡ true → IsMark true c l m → IsMark true d m n →
     IsOptional (IsMark true) o n done → Reads_to inputs.dots (Some (i, c), d, o) (word i l) done f e sc
 unfolding inputs.dots
 named_dots_met i c d o l m n f e sc h j q g =
@@ -151,16 +150,14 @@ module _ {A E : Type 0} (attrs : Reader (List A)) (values : ReadValues E) (part 
       record { last = b.last; reads = chosen (is_done l) false _ _ (at l f e sc) _ (comma_there c l k i) (link _ a.reads (link _ b.reads refl)) }
 
   -- an argument, and what is read after it
-  arg_met : (n : ℕ) (first : Bool) (x : Arg) (v : All) (l k : Toks) (f : Option Span) (e : Span) (sc : Scope) → ahead (at l f e sc) ≤ within → Is first x l k → EndsInput k →
+  pub arg_met : (n : ℕ) (first : Bool) (x : Arg) (v : All) (l k : Toks) (f : Option Span) (e : Span) (sc : Scope) → ahead (at l f e sc) ≤ within → Is first x l k → EndsInput k →
       ((d : Span) → Reads_to (after n x) v k done f d sc) → Reads_to (reads (suc n) first) v l done f e sc
   arg_met n first x v l k f e sc h i o more =
       let p = parted part first x l k i in
       let b = (bare_begins part firsts first p.named p.from k p.bare o).0 in
       let a = supplied.attrs_met p.attrs l p.from f e sc p.bears b.no_pound in
       let light = (supplied.attrs_light p.attrs l p.from p.bears).light in
-      let y = ahead-is (at l f e sc) in
-      let z = ahead-is (at p.from f a.last sc) in
-      let w = bare_met part firsts value within value_met first p.named p.from k f a.last sc (omega (arith, h, light, y, z)) p.bare o in
+      let w = bare_met part firsts value within value_met first p.named p.from k f a.last sc (left_after l p.from f f e a.last sc within light h) p.bare o in
       let q = more w.last in
       record {
         last = q.last;
@@ -169,7 +166,7 @@ module _ {A E : Type 0} (attrs : Reader (List A)) (values : ReadValues E) (part 
       }
 
   -- a variadic
-  variadic_met : (n : ℕ) (first : Bool) (x : FnPtrVariadicOf A) (l : Toks) (f : Option Span) (e : Span) (sc : Scope) → IsVariadic part clearly x l → Reads_to (reads (suc n) first) (inputs.no_inputs (Some (dots_parts x))) l done f e sc
+  pub variadic_met : (n : ℕ) (first : Bool) (x : FnPtrVariadicOf A) (l : Toks) (f : Option Span) (e : Span) (sc : Scope) → IsVariadic part clearly x l → Reads_to (reads (suc n) first) (inputs.no_inputs (Some (dots_parts x))) l done f e sc
   variadic_met n first x l f e sc (dots {a = a} {d = d} {o = o} {m = m} {n = k} i j q) =
       let b = plain_dots_begin d m k j in
       let w = supplied.attrs_met a l m f e sc i b.no_pound in

@@ -18,7 +18,6 @@ use Rattle.syn_forms.specs.declared.places.TypePlace.TheVariants.{Plus}
 use Rattle.syn_forms.specs.inputs.Reading as inputs
 use Rattle.syn_forms.specs.inputs.Reading.{Name, sees_dots, sees_mut_self, sees_name}
 use Rattle.syn_forms.specs.nested.Below.{ahead}
-use Rattle.syn_forms.proofs.nested_laws.Ahead.{weight, ahead-is}
 use Rattle.syn_ty.specs.declared.ty.TypeOf.TheVariants as form
 use Rattle.syn_ty.specs.ty.Functions.{is_name, is_argument_name, IsMutSelf, mut_self, mut_self_typed, named_mut_self, IsNamedArg, an_argument, a_named_argument, a_verbatim_argument}
 use Rattle.syn_ty.specs.ty.Parts.{Manner, clearly, End, Parts, Holds}
@@ -30,7 +29,7 @@ use Rattle.syn_ty.proofs.ty_laws.Complete.{later}
 use Rattle.syn_ty.proofs.ty_laws.LessMet.{less_less, less_no, mark_no, no_less, word_less, word_takes}
 use Rattle.syn_ty.proofs.ty_laws.Met.{Firsts, Fits, Less, SuppliedMeets}
 use Rattle.syn_ty.proofs.ty_laws.NamesMet.{mut_self_seen, no_mut_before, no_mut_self, no_name, no_self_name, no_third, self_alone, self_met, self_seen, some_name, unnamed}
-use Rattle.syn_ty.proofs.ty_laws.SignaturesMet.{EndsInput, input_fits}
+use Rattle.syn_ty.proofs.ty_laws.SignaturesMet.{EndsInput, input_fits, left_after}
 
 -- ---- an argument by its parts
 
@@ -89,12 +88,6 @@ module _ {A E : Type 0} (part : Manner → Parts A E) where
     bare_begins first x l k (bare_held i h) o = held_begins l k i
 
 -- ---- reads, over that of the type
-
-no_further : (l k : Toks) (f g : Option Span) (d e : Span) (sc : Scope) (limit : ℕ) → weight k ≤ weight l → ahead (at l f d sc) ≤ limit → ahead (at k g e sc) ≤ limit
-no_further l k f g d e sc limit h lim =
-    let x = ahead-is (at l f d sc) in
-    let y = ahead-is (at k g e sc) in
-    omega (arith, h, lim, x, y)
 
 module _ {A E : Type 0} (part : Manner → Parts A E) (firsts : Firsts part) (value : Reader (TypeTree A E)) (within : ℕ)
     (value_met : (d : End) (x : TypeTree A E) (l k : Toks) (f : Option Span) (e : Span) (sc : Scope) → ahead (at l f e sc) ≤ within → (part clearly).ty Plus d x l k → Fits d k → token.sees_plus k ≡ false → Reads_to value x l k f e sc) where
@@ -194,5 +187,5 @@ module _ {A E : Type 0} (part : Manner → Parts A E) (firsts : Firsts part) (va
       let b = bare_begins part firsts false p.named p.from k p.bare o in
       let a = s.attrs_met p.attrs l p.from f e sc p.bears b.0.no_pound in
       let le = (s.attrs_light p.attrs l p.from p.bears).light in
-      let v = plain_met p.named p.from k f a.last sc (no_further l p.from f f e a.last sc within le h) p.bare o in
+      let v = plain_met p.named p.from k f a.last sc (left_after l p.from f f e a.last sc within le h) p.bare o in
       record { last = v.last; reads = link _ a.reads (link _ v.reads (ap (λ z. Ok (z, at k f v.last sc)) p.is)) }

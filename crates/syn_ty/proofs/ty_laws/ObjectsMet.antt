@@ -10,7 +10,6 @@ use Rattle.token_core.specs.declared.span.Span.{Span}
 use Rattle.token_core.specs.declared.tree.Ident.{Ident}
 use Rattle.token_core.specs.declared.tree.Punct.{Punct}
 use Rattle.token_core.specs.declared.tree.TokenStream.{TokenStream}
-use Rattle.token_core.specs.declared.word.Word.{Word}
 use Rattle.token_core.specs.Keywords.{is_keyword}
 use Rattle.token_core.specs.Lifetimes.{read_lifetime, sees_lifetime}
 use Rattle.token_core.specs.Listed.{AreListed, none_left, last_value, value_and_mark, Anywhere, Nowhere, AfterMark}
@@ -36,7 +35,6 @@ use Rattle.syn_forms.specs.paths.Reading.{is_bare_word}
 use Rattle.syn_forms.specs.nested.Below.{ahead}
 use Rattle.syn_forms.specs.places.Reading.{allows_const, allows_plus}
 use Rattle.syn_forms.specs.verbatim.Reading.{position}
-use Rattle.syn_forms.proofs.nested_laws.Ahead.{weight}
 use Rattle.syn_ty.specs.declared.generics.TypeParamBoundOf.TheVariants as b
 use Rattle.syn_ty.specs.declared.ty.TypeOf.TheVariants as tree
 use Rattle.syn_ty.specs.generics.Bounds.{IsTrait, a_trait, a_trait_for, a_trait_asked, a_trait_bound, IsBound, a_lifetime_bound, a_bare_bound, a_bound_in_parens, a_capture_bound, a_verbatim_bound, AreBounds}
@@ -57,6 +55,7 @@ use Rattle.syn_ty.specs.ty.Types.{trait_object_with}
 use Rattle.syn_ty.proofs.ty_laws.BoundListsMet.{ends_as, IsFurther, nothing_further, further, FirstOf, first_of, plus_stopped, closed_stopped, bounds_met, one_bound_met, bounds_from_met, each_bound_met}
 use Rattle.syn_ty.proofs.ty_laws.CaptureMet.{since_met}
 use Rattle.syn_ty.proofs.ty_laws.Complete.{later}
+use Rattle.syn_ty.proofs.ty_laws.LessMet.{mark_no, word_takes}
 use Rattle.syn_ty.proofs.ty_laws.Met.{Fits, Meets}
 
 -- ---- no `*` stands where a bound begins
@@ -80,17 +79,9 @@ no_star consts (group d s c k) h = refl
 no_star consts (enter s k) h = no_star consts k h
 no_star consts (leave k) h = no_star consts k h
 
--- ---- words and marks take tokens
+-- ---- lists of bounds after `dyn` and `impl`
 
-word_light : {n : ℕ} (w : Word n) (l r : Toks) → IsWord w l r → weight r < weight l
-word_light w l r is_word = omega arith
-
-star_light : (x : token.Star) (l r : Toks) → IsMark true x l r → weight r < weight l
-star_light x l r (is_mark (last_char y)) = omega arith
-
--- ---- lists of bounds after `dyn` and `impl`, by their first bound
-
--- of which what follows it is read with plus or without
+-- by their first bound, after which the others are read, with plus or without
 abbrev pub Heads : {A E : Type 0} → (Manner → Parts A E) → BoundPlace → Bool → Many (TypeParamBound A E) token.Plus → Toks → Toks → Type 0
 Heads part kind = FirstOf part kind AfterMark (stops_bound (allows_const kind))
 
@@ -109,7 +100,7 @@ module _ {A E : Type 0} (r : Readers A E) (part : Manner → Parts A E) (limit :
   Bounds = Many Bound token.Plus
 
   -- bounds of which one is as it is needed are kept
-  needs_met : (test : Bound → Bool) (kind : ErrorKind) (from : Span) (v : Bounds) (s : Stream) → list_any test v.0 ≡ true → reading.needs test kind from v s ≡ Ok (v, s)
+  pub needs_met : (test : Bound → Bool) (kind : ErrorKind) (from : Span) (v : Bounds) (s : Stream) → list_any test v.0 ≡ true → reading.needs test kind from v s ≡ Ok (v, s)
   unfolding reading.needs
   needs_met test kind from v s h = chosen (list_any test v.0) true _ _ s _ h refl
 
@@ -121,7 +112,7 @@ module _ {A E : Type 0} (r : Readers A E) (part : Manner → Parts A E) (limit :
       let q = bounds_from_met r part limit meets Object plus x v l k f e sc h i in
       record { last = q.last; reads = link _ q.reads (needs_met is_trait NoTraitInObject from v (at k f q.last sc) n) }
 
-  -- no more is left after a bound, where less than a limit is left
+  -- after a bound no more is left than before it
   after_bound : (d : End) (x : Bound) (kind : BoundPlace) (l m : Toks) (f g : Option Span) (a e : Span) (sc : Scope) → (part clearly).bound kind d x l m → ahead (at l f a sc) ≤ limit → ahead (at m g e sc) ≤ limit
   after_bound d x kind l m f g a e sc i h = let less = (meets.firsts.bound kind d x l m i).1.lighter in let w = later l m f g a e sc limit less h in omega (arith, w)
 
@@ -175,7 +166,7 @@ module _ {A E : Type 0} (r : Readers A E) (part : Manner → Parts A E) (limit :
     dyn_met d x l k f e sc h (a_dyn {w = w} {v = v} {m = m} i j) o =
         let a = objects d v m k j o in
         let u = word_complete {n = 7} w l m f e sc i in
-        let q = after_dyn (position (at l f e sc)) (here (at l f e sc)) w None v m k f u.last sc (later l m f f e u.last sc limit (word_light w l m i) h) a in
+        let q = after_dyn (position (at l f e sc)) (here (at l f e sc)) w None v m k f u.last sc (later l m f f e u.last sc limit (word_takes w l m i).lighter h) a in
         record { last = q.0; reads = link _ u.reads (link _ (no_star_met a.heads.bound a.heads.end m a.heads.middle f u.last sc a.heads.spelt) q.1) }
 
     held_met : (w : token.Dyn) (s : token.Star) (v : Bounds) (x : TokenStream) (l k : Toks) (f : Option Span) (e a : Span) (sc : Scope) → Holds x l k →
@@ -190,8 +181,8 @@ module _ {A E : Type 0} (r : Readers A E) (part : Manner → Parts A E) (limit :
     dyn_star_met d x w s v l m n k f e sc h i t j g o =
         let u = word_complete {n = 7} w l m f e sc i in
         let y = star_met s m n f u.last sc t in
-        let lighter = word_light w l m i in
-        let light = star_light s m n t in
+        let lighter = (word_takes w l m i).lighter in
+        let light = (mark_no s m n t).light in
         let q = after_dyn (position (at l f e sc)) (here (at l f e sc)) w (Some s) v n k f y.last sc (later l n f f e y.last sc limit (omega (arith, lighter, light)) h) (objects d v n k j o) in
         record { last = q.0; reads = link _ u.reads (link _ y.reads (q.1 ∙ held_met w s v x l k f e q.0 sc g)) }
 
@@ -201,7 +192,7 @@ module _ {A E : Type 0} (r : Readers A E) (part : Manner → Parts A E) (limit :
     unfolding reading.impl_trait reading.impl_bounds
     impl_met d x l k f e sc h (an_impl {w = w} {v = v} {m = m} i j n) o =
         let u = word_complete {n = 12} w l m f e sc i in
-        let q = opaque_bounds_met plus place as_plus d v m k f u.last sc (later l m f f e u.last sc limit (word_light w l m i) h) j o in
+        let q = opaque_bounds_met plus place as_plus d v m k f u.last sc (later l m f f e u.last sc limit (word_takes w l m i).lighter h) j o in
         let p : reading.impl_bounds r (here (at l f e sc)) plus (at m f u.last sc) ≡ Ok (v, at k f q.last sc) = link _ q.reads (needs_met names_trait NoTraitInImpl (here (at l f e sc)) v (at k f q.last sc) n) in
         record { last = q.last; reads = link _ u.reads (link _ p refl) }
 
@@ -238,7 +229,7 @@ module _ {A E : Type 0} (r : Readers A E) (part : Manner → Parts A E) (limit :
           record { last = q.last; reads = link _ (no_dyn_met l f e sc (no_dyn a.heads.end a.heads.bound l a.heads.middle a.heads.spelt)) q.reads }
       object_met x l k f e sc h (an_object {e = d} {v = v} {m = m} (present {a = w} i) j) o =
           let u = some_dyn_met w l m f e sc i in
-          let less = later l m f f e u.last sc limit (word_light w l m i) h in
+          let less = later l m f f e u.last sc limit (word_takes w l m i).lighter h in
           let q = after_word (Some w) (here (at l f e sc)) v m k f u.last sc (omega (arith, less)) (objects d v m k j (o d)) in
           record { last = q.last; reads = link _ u.reads q.reads }
 

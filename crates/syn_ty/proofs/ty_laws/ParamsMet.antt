@@ -667,10 +667,10 @@ module _ {A E : Type 0} (r : Readers A E) (part : Manner → Parts A E) (limit :
   pub for_seen : (x : BoundLifetimes A E) (l k : Toks) → IsFor part clearly x l k → token.sees_for l ≡ true
   for_seen x l k (a_binder {f = w} {m = m} is i q s) = word_seen {n = 10} w l m is
 
-  -- before what is no `for`
-  pub optional_binder_met : (o : Option (BoundLifetimes A E)) (l k : Toks) (f : Option Span) (e : Span) (sc : Scope) → ahead (at l f e sc) ≤ limit → IsOptional (IsFor part clearly) o l k → token.sees_for k ≡ false → Reads_to (optional_binder r) o l k f e sc
+  -- where there is none, before what is no `for`
+  pub optional_binder_met : (o : Option (BoundLifetimes A E)) (l k : Toks) (f : Option Span) (e : Span) (sc : Scope) → ahead (at l f e sc) ≤ limit → IsOptional (IsFor part clearly) o l k → (o ≡ None → token.sees_for k ≡ false) → Reads_to (optional_binder r) o l k f e sc
   unfolding optional_binder
-  optional_binder_met o l k f e sc h absent n = absent_met token.sees_for (binder r) l f e sc n
+  optional_binder_met o l k f e sc h absent n = absent_met token.sees_for (binder r) l f e sc (n refl)
   optional_binder_met o l k f e sc h (present {a = x} i) n = present_met token.sees_for (binder r) x l k f e sc (for_seen x l k i) (binder_met x l k f e sc h i)
 
   abbrev generics_as : heads.Angled (GenericParam A E) → GenericsOf A E

@@ -7,7 +7,7 @@ use Rattle.token_core.specs.declared.tree.Delimiter.TheVariants.{Parenthesis}
 use Rattle.token_core.specs.Groups as groups
 use Rattle.token_core.specs.Lifetimes.{sees_lifetime}
 use Rattle.token_core.specs.Listed.{AreListed, Anywhere}
-use Rattle.token_core.specs.Reads.{Outcome, Reader, any_text, is_done, sees_group, sees_mark, sees_word}
+use Rattle.token_core.specs.Reads.{Outcome, Reader, ◌<$>◌, any_text, is_done, sees_group, sees_mark, sees_word}
 use Rattle.token_core.specs.Spans.{none}
 use Rattle.token_core.specs.Spellings.{last_char, more_chars, IsMark, is_mark}
 use Rattle.token_core.specs.Stream.{Scope}
@@ -19,14 +19,14 @@ use Rattle.token_core.proofs.Took.{at, leaves_none}
 use Rattle.syn_forms.specs.declared.places.TypePlace.{TypePlace}
 use Rattle.syn_forms.specs.declared.places.TypePlace.TheVariants.{Plus, NoPlus}
 use Rattle.syn_forms.specs.heads.Reading as heads
-use Rattle.syn_forms.specs.inputs.Reading.{Signature, made_inputs, signature}
+use Rattle.syn_forms.specs.inputs.Reading.{made_inputs, signature}
 use Rattle.syn_forms.specs.lists.Reading.{made}
 use Rattle.syn_forms.specs.nested.Below.{ahead}
 use Rattle.syn_forms.specs.places.Reading.{allows_plus}
 use Rattle.syn_forms.specs.groups.Reading.{in_parens}
 use Rattle.syn_forms.proofs.groups_laws.Complete.{content, content_ahead, reads_inside}
 use Rattle.syn_forms.proofs.lists_laws.Complete.{listed_here}
-use Rattle.syn_forms.proofs.nested_laws.Ahead.{weight, weight-group}
+use Rattle.syn_forms.proofs.nested_laws.Ahead.{weight, ahead-is, weight-group}
 use Rattle.syn_ty.specs.path.Paths.{parens_of}
 use Rattle.syn_ty.specs.path.Reading as reads
 use Rattle.syn_ty.specs.path.Reading.{return_of}
@@ -80,6 +80,13 @@ nothing_there = refl
 
 -- ---- how much is left
 
+-- no more after no more tokens
+pub left_after : (l k : Toks) (f g : Option Span) (d e : Span) (sc : Scope) (limit : ℕ) → weight k ≤ weight l → ahead (at l f d sc) ≤ limit → ahead (at k g e sc) ≤ limit
+left_after l k f g d e sc limit h lim =
+    let x = ahead-is (at l f d sc) in
+    let y = ahead-is (at k g e sc) in
+    omega (arith, h, lim, x, y)
+
 arrow_light : (a : token.RArrow) (l k : Toks) → IsMark true a l k → weight k < weight l
 arrow_light a l k (is_mark (more_chars (last_char x))) = omega arith
 
@@ -93,6 +100,11 @@ after_group s c k f g d e sc limit h = later (group Parenthesis s c k) k f g d e
 -- less is left in it
 pub inside_group : (s : DelimSpan) (c k : Toks) (f : Option Span) (e : Span) (sc : Scope) (limit : ℕ) → ahead (at (group Parenthesis s c k) f e sc) ≤ limit → ahead (content Parenthesis s c k f e sc) < limit
 inside_group s c k f e sc limit h = let g = content_ahead Parenthesis groups.paren_name s c k f e sc in omega (arith, h, g)
+
+-- ---- what is made of what was read
+
+pub read_as : {A B : Type 0} (make : A → B) (p : Reader A) (x : A) (y : B) (l k : Toks) (f : Option Span) (e : Span) (sc : Scope) → Reads_to p x l k f e sc → make x ≡ y → Reads_to (make <$> p) y l k f e sc
+read_as make p x y l k f e sc w h = record { last = w.last; reads = link _ w.reads (ap (λ z. Ok (z, at k f w.last sc)) h) }
 
 -- ---- parentheses, by their tokens
 
@@ -128,7 +140,7 @@ module _ {A E : Type 0} (r : Readers A E) (part : Manner → Parts A E) (limit :
   unfolding reading.return_type
   return_met place d x l k f e sc h i o p =
       let w = returned_met place d x l k f e sc h i o p in
-      record { last = w.answers.last; reads = link _ w.answers.reads (ap (λ z. Ok (z, at k f w.answers.last sc)) w.is) }
+      read_as return_of (heads.returned (r (a_type place))) w.value x l k f e sc w.answers w.is
 
   -- without plus, whatever follows that
   pub output_met : (d : End) (x : ReturnType A E) (l k : Toks) (f : Option Span) (e : Span) (sc : Scope) → ahead (at l f e sc) ≤ limit → IsReturn part clearly NoPlus d x l k → Fits d k → Reads_to (reading.return_type r NoPlus) x l k f e sc
@@ -157,9 +169,9 @@ module _ {A E : Type 0} (r : Readers A E) (part : Manner → Parts A E) (limit :
   input_less x l k (an_input {e = d} {x = y} i) = (m.firsts.ty Plus d y l k i).1
 
   -- all of what the parentheses hold
-  pub inputs_met : (xs : List Input) (cs : List token.Comma) (l : Toks) (f : Option Span) (e : Span) (sc : Scope) → ahead (at l f e sc) < limit → AreListed (λ (_ : Bool). Is) (IsMark true) Anywhere true xs cs l done →
+  pub parens_inputs_met : (xs : List Input) (cs : List token.Comma) (l : Toks) (f : Option Span) (e : Span) (sc : Scope) → ahead (at l f e sc) < limit → AreListed (λ (_ : Bool). Is) (IsMark true) Anywhere true xs cs l done →
       Reads_to (made_inputs (named_arg_of [] None) (r (a_type Plus))) (xs, cs) l done f e sc
-  inputs_met xs cs l f e sc h i =
+  parens_inputs_met xs cs l f e sc h i =
       listed_here (λ (_ : Bool). is_done) (λ (_ : Bool). input) (λ z. not (is_done z)) token.comma (λ (_ : Bool). Is) (IsMark true) Anywhere EndsInput (λ z. ahead (at z None none sc) < limit) sc
       (λ b x j k u v g a d. input_met x j k a d sc u v g)
       (λ c j k v a d. mark_complete true {n = 4} {k = 1} refl (omega arith) c j k a d sc v)
@@ -174,10 +186,9 @@ module _ {A E : Type 0} (r : Readers A E) (part : Manner → Parts A E) (limit :
   pub parens_met : (d : End) (x : Parenthesized A E) (l k : Toks) (f : Option Span) (e : Span) (sc : Scope) → ahead (at l f e sc) ≤ limit → IsParens part clearly d x l k → Fits d k → Reads_to (reads.parenthesized r) x l k f e sc
   unfolding reads.parenthesized signature
   parens_met d x l k f e sc h (a_parens {s = s} {xs = xs} {cs = cs} {o = y} {c = c} {m = n} i j) o =
-      let held = inputs_met xs cs c None none (content Parenthesis s c n f e sc).scope (inside_group s c n f e sc limit h) i in
+      let held = parens_inputs_met xs cs c None none (content Parenthesis s c n f e sc).scope (inside_group s c n f e sc limit h) i in
       let group = in_parens_met (made_inputs (named_arg_of [] None) (r (a_type Plus))) (xs, cs) s c n f e sc held in
       let less = after_group s c n f f e s.closing sc limit h in
       let w = returned_met NoPlus d y n k f s.closing sc (omega (arith, less)) j o (λ q. cc q) in
-      let parts : ◌≡◌ {A = Outcome (Signature (TypeTree A E) Input)} (signature (named_arg_of [] None) (r (a_type Plus)) (r (a_type NoPlus)) (at l f e sc)) (Ok ((groups.paren s, (xs, cs), w.value), at k f w.answers.last sc)) =
-          link _ group (link _ w.answers.reads refl) in
-      record { last = w.answers.last; reads = link _ parts (ap (λ z. Ok (parens_of (groups.paren s) (xs, cs) z, at k f w.answers.last sc)) w.is) }
+      let parts : Reads_to (signature (named_arg_of [] None) (r (a_type Plus)) (r (a_type NoPlus))) (groups.paren s, (xs, cs), w.value) l k f e sc = record { last = w.answers.last; reads = link _ group (link _ w.answers.reads refl) } in
+      read_as (λ p. parens_of p.0 p.1 (return_of p.2)) (signature (named_arg_of [] None) (r (a_type Plus)) (r (a_type NoPlus))) (groups.paren s, (xs, cs), w.value) x l k f e sc parts (ap (parens_of (groups.paren s) (xs, cs)) w.is)

@@ -1,5 +1,5 @@
 -- One turn of types is complete: a type that a list spells clearly in its place is what the reader answers, over the laws of the single forms.
-use Rattle.std.proofs.Common.{◌≡◌, ◌&&◌, ℕ, ◌≤◌, Bool, true, false, List, [], ◌∷◌, Option, Some, None, is_some, refl}
+use Rattle.std.proofs.Common.{◌≡◌, ◌&&◌, ℕ, ◌≤◌, Bool, true, false, List, [], ◌∷◌, Option, Some, None, refl, sym, ◌∙◌, ap, subst}
 use Rattle.std.specs.List.{list_any}
 use Rattle.token_core.specs.declared.lifetime.Lifetime.{Lifetime}
 use Rattle.token_core.specs.declared.span.DelimSpan.{DelimSpan}
@@ -16,12 +16,14 @@ use Rattle.token_core.specs.Reads.{Reader, after_one, sees_group, sees_mark, see
 use Rattle.token_core.specs.Spellings.{IsMark, is_mark, last_char, IsWord, is_word, IsLifetime}
 use Rattle.token_core.specs.Stream.{Scope}
 use Rattle.token_core.specs.Tokens as token
-use Rattle.token_core.specs.Toks.{Toks, done, group}
+use Rattle.token_core.specs.Toks.{Toks, done, group, mark}
+use Rattle.token_core.specs.Trees.{punct}
 use Rattle.token_core.proofs.Steps.{Reads_to}
 use Rattle.token_core.proofs.Took.{at}
 use Rattle.syn_path.specs.declared.mac.Macro.{Macro}
 use Rattle.syn_path.specs.declared.path.PathStyle.TheVariants.{AsWritten}
-use Rattle.syn_path.specs.mac.Spelling.{IsCall, a_macro}
+use Rattle.syn_path.specs.mac.Macros.{macro_of}
+use Rattle.syn_path.specs.mac.Spelling.{IsCall, a_macro, bang_at}
 use Rattle.syn_path.specs.path.Reading.{sees_sep}
 use Rattle.syn_path.specs.Values.{ReadValues}
 use Rattle.syn_forms.specs.declared.places.BoundPlace.TheVariants.{Object}
@@ -30,6 +32,7 @@ use Rattle.syn_forms.specs.declared.places.TypePlace.TheVariants.{Plus, NoPlus}
 use Rattle.syn_forms.specs.lists.Reading.{plus_follows}
 use Rattle.syn_forms.specs.nested.Below.{ahead}
 use Rattle.syn_forms.specs.places.Reading.{allows_plus}
+use Rattle.syn_forms.specs.verbatim.Reading.{position}
 use Rattle.syn_forms.proofs.nested_laws.Ahead.{weight}
 use Rattle.syn_ty.specs.declared.ty.Abi.{Abi}
 use Rattle.syn_ty.specs.declared.ty.FnPtrVariadicOf.{FnPtrVariadicOf}
@@ -42,17 +45,23 @@ use Rattle.syn_ty.specs.path.Signed.{IsReturn}
 use Rattle.syn_ty.specs.path.Spelling.{is_segment_word, IsAnyPath, unqualified, qualified}
 use Rattle.syn_ty.specs.ty.Admitted.{NoLifetime, IsBorrow, a_borrow, a_mutable_borrow, a_lifetime_borrow, IsBracketed, bracketed, IsCounted, counted, IsEnclosed, enclosed, IsPointer, a_pointer, IsTupled, no_element, some_elements, IsType, a_path_type, a_macro as a_macro_type, a_bound_macro}
 use Rattle.syn_ty.specs.ty.Functions.{IsAbi, an_abi, AreInputs, IsFnPtr, a_fn_ptr}
-use Rattle.syn_ty.specs.ty.Objects.{in_parens, AreBareBounds, AreFurther, AreObjectBounds, IsAsked, IsDyn, a_dyn, IsFirst, a_first, a_first_for, IsImpl, an_impl}
+use Rattle.syn_ty.specs.ty.Objects.{in_parens, AreBareBounds, path_alone, path_and_plus, held_and_plus, asked_first, asked_in_two, lifetime_first, AreFurther, AreObjectBounds, IsAsked, IsDyn, a_dyn, IsFirst, a_first, a_first_for, IsImpl, an_impl}
 use Rattle.syn_ty.specs.ty.Parts.{Manner, clearly, End, Parts, Holds}
 use Rattle.syn_ty.specs.ty.Points.{Readers}
 use Rattle.syn_ty.specs.ty.Reading as reading
 use Rattle.syn_ty.specs.ty.Reading.{begins_named, is_trait, object_of, sees_bindable, sees_fn_ptr, sees_unsafe_binder}
 use Rattle.syn_ty.specs.ty.Spelling.{IsOptional, absent, present}
-use Rattle.syn_ty.specs.ty.Trees.{BoundLifetimes, NamedArg, Path, ReturnType, TypeArray, TypeFnPtr, TypeImplTrait, TypeParamBound, TypeParen, TypePtr, TypeReference, TypeSlice, TypeTraitObject, TypeTree, TypeTuple}
-use Rattle.syn_ty.specs.ty.Types.{fn_ptr_with}
-use Rattle.syn_ty.proofs.ty_laws.CallsMet.{as_path}
-use Rattle.syn_ty.proofs.ty_laws.Met.{Fits, Meets, PathsMeet}
-use Rattle.syn_ty.proofs.ty_laws.NamedMet.{NameBegins}
+use Rattle.syn_ty.specs.ty.Trees.{BoundLifetimes, NamedArg, Path, QSelf, ReturnType, TypeArray, TypeFnPtr, TypeImplTrait, TypeParamBound, TypeParen, TypePtr, TypeReference, TypeSlice, TypeTraitObject, TypeTree, TypeTuple}
+use Rattle.syn_ty.specs.ty.Types.{fn_ptr_with, macro_type_of, qualified_with}
+use Rattle.syn_ty.proofs.ty_laws.BoundListsMet.{plus_stops, plus_there}
+use Rattle.syn_ty.proofs.ty_laws.CallsMet.{as_path, bang_no_pound, bang_stops, call_goes, call_path, lone_goes, object_goes, path_goes, path_object_met, qualified_goes}
+use Rattle.syn_ty.proofs.ty_laws.LessMet.{no_no, optional_no, some}
+use Rattle.syn_ty.proofs.ty_laws.Met.{Fits, Meets, PathStops, PathsMeet, Stops}
+use Rattle.syn_ty.proofs.ty_laws.NamedMet.{NameBegins, any_path_first, by_builtin, by_fn, by_path, by_unsafe, for_less, path_first, path_name, path_no_lt, perhaps_bound}
+use Rattle.syn_ty.proofs.ty_laws.PathsMet.{path_less}
+use Rattle.syn_ty.proofs.ty_laws.SignedMet.{left_after, path_stops}
+use Rattle.syn_ty.proofs.ty_laws.TokensMet.{Turn, and_turn, bang_turn, bracket_turn, dyn_turn, impl_turn, infer_turn, lifetime_turn, paren_turn, star_turn}
+use Rattle.syn_ty.proofs.ty_laws.VerbatimMet.{builtin_begins, builtin_seen, builtin_type_met, unsafe_met, unsafe_seen}
 
 -- ---- the laws of the single forms
 
@@ -125,3 +134,98 @@ plus_no_pound p l r (is_mark (last_char x)) = refl
 no_plus_follows : (b : Bool) (k : Toks) → (b ≡ true → token.sees_plus k ≡ false) → plus_follows b k ≡ false
 no_plus_follows true k h = h refl
 no_plus_follows false k h = refl
+
+-- ---- one turn
+
+module _ {A E : Type 0} (attrs : Reader (List A)) (values : ReadValues E) (r : Readers A E) (part : Manner → Parts A E) (limit : ℕ) (meets : Meets r part limit) (paths : PathsMeet r part limit) (forms : TypeForms attrs values r part limit) (place : TypePlace) where
+  abbrev Tree : Type 0
+  Tree = TypeTree A E
+
+  abbrev For : Type 0
+  For = Option (BoundLifetimes A E)
+
+  abbrev plus : Bool
+  plus = allows_plus place
+
+  abbrev OneTurn : Tree → Toks → Toks → Option Span → Span → Scope → Type 0
+  OneTurn = Turn attrs values r place
+
+  -- no more is left after a binder
+  for_light : (o : For) (l m : Toks) → IsOptional (IsFor part clearly) o l m → weight m ≤ weight l
+  for_light o l m i = (optional_no (λ b z k j. some (for_less part meets.firsts b z k j)) o l m i).light
+
+  -- ---- a path, perhaps after a binder, and what follows it
+
+  first_turn : (o : For) (p : Path A E) (x : Tree) (l n k : Toks) (f : Option Span) (e : Span) (sc : Scope) → ahead (at l f e sc) ≤ limit → IsFirst part clearly o p l n → PathStops AsWritten n → token.sees_pound n ≡ false →
+      ((d : Span) → Reads_to (reading.path_or_object r plus o (None, p)) x n k f d sc) → OneTurn x l k f e sc
+  first_turn None p x l n k f e sc lim (a_first i w) stops np goes =
+      let b = path_first part meets.firsts p l n i w in
+      perhaps_bound attrs values r part limit meets.firsts forms.binder place x None l l k f e sc lim absent (path_name l b.after b.begins) (λ q. cc q)
+      (λ d. by_path attrs values r part limit meets.firsts forms.binder place paths (position (at l f e sc)) None None p x l n k f d sc lim b np (unqualified i) stops (λ q. cc q) goes)
+  first_turn (Some y) p x l n k f e sc lim (a_first_for {m = m} j i w c) stops np goes =
+      let b = path_first part meets.firsts p m n i w in
+      let light = for_light (Some y) l m (present j) in
+      perhaps_bound attrs values r part limit meets.firsts forms.binder place x (Some y) l m k f e sc lim (present j) (path_name m b.after b.begins) (λ q. b.begins.bindable c (path_no_lt part meets.firsts p m n i))
+      (λ d. by_path attrs values r part limit meets.firsts forms.binder place paths (position (at l f e sc)) (Some y) None p x m n k f d sc (left_after l m f f e d sc limit light lim) b np (unqualified i) stops (λ q. cc q) goes)
+
+  path_turn : (o : Option (QSelf A E)) (p : Path A E) (l k : Toks) (f : Option Span) (e : Span) (sc : Scope) → ahead (at l f e sc) ≤ limit → IsAnyPath part clearly AsWritten o p l k → token.sees_try l ≡ false → Stops k → token.sees_pound k ≡ false →
+      (plus ≡ true → token.sees_plus k ≡ false) → OneTurn (v.Path (qualified_with [] o p)) l k f e sc
+  path_turn None p l k f e sc lim (unqualified i) w stops np no_plus =
+      first_turn None p (v.Path (qualified_with [] None p)) l k k f e sc lim (a_first i w) (path_stops k stops) np (λ d. path_goes r plus p k f d sc stops.no_call (no_plus_follows plus k no_plus))
+  path_turn (Some q) p l k f e sc lim (qualified i) w stops np no_plus =
+      let b = any_path_first part meets.firsts (Some q) p l k (qualified i) w in
+      perhaps_bound attrs values r part limit meets.firsts forms.binder place (v.Path (qualified_with [] (Some q) p)) None l l k f e sc lim absent (path_name l b.after b.begins) (λ z. cc z)
+      (λ d. by_path attrs values r part limit meets.firsts forms.binder place paths (position (at l f e sc)) None (Some q) p (v.Path (qualified_with [] (Some q) p)) l k k f d sc lim b np (qualified i) (path_stops k stops)
+      (λ z. stops.no_sep) (λ c. qualified_goes r plus None q p k f c sc))
+
+  -- ---- macro calls
+
+  call_turn : (x : Macro) (l k : Toks) (f : Option Span) (e : Span) (sc : Scope) → ahead (at l f e sc) ≤ limit → IsCall true is_segment_word x l k → token.sees_try l ≡ false → OneTurn (v.Macro (macro_type_of x)) l k f e sc
+  call_turn x l k f e sc lim (a_macro {p = p} {a = a} {j = j} {e = w} {d = d} {s = s} {c = c} {tokens = t} i u g h) n =
+      first_turn None (as_path A E p) (v.Macro (macro_type_of (macro_of p (bang_at a) (w, t)))) l (mark (punct 33 j a) (group d s c k)) k f e sc lim (a_first (call_path part p l (mark (punct 33 j a) (group d s c k)) i) n)
+      (bang_stops a j d s c k) (bang_no_pound a j d s c k) (λ q. call_goes r plus None p a j w d s c k t f q sc g h)
+
+  bound_call_turn : (b : BoundLifetimes A E) (x : Macro) (l m k : Toks) (f : Option Span) (e : Span) (sc : Scope) → ahead (at l f e sc) ≤ limit → IsFor part clearly b l m → IsCall true is_segment_word x m k → token.sees_try m ≡ false → sees_sep m ≡ false →
+      OneTurn (v.Macro (macro_type_of x)) l k f e sc
+  bound_call_turn b x l m k f e sc lim y (a_macro {p = p} {a = a} {j = j} {e = w} {d = d} {s = s} {c = c} {tokens = t} i u g h) n z =
+      first_turn (Some b) (as_path A E p) (v.Macro (macro_type_of (macro_of p (bang_at a) (w, t)))) l (mark (punct 33 j a) (group d s c k)) k f e sc lim (a_first_for y (call_path part p m (mark (punct 33 j a) (group d s c k)) i) n z)
+      (bang_stops a j d s c k) (bang_no_pound a j d s c k) (λ q. call_goes r plus (Some b) p a j w d s c k t f q sc g h)
+
+  -- ---- trait objects without `dyn`
+
+  first_light : (o : For) (p : Path A E) (l m : Toks) → IsFirst part clearly o p l m → weight m ≤ weight l
+  first_light None p l m (a_first i w) = (some (path_less part meets.firsts AsWritten p l m i)).light
+  first_light (Some y) p l m (a_first_for {m = n} j i w c) = (no_no (some (for_less part meets.firsts y l n j)) (some (path_less part meets.firsts AsWritten p n m i))).light
+
+  first_life : (d : End) (xs : List (TypeParamBound A E)) (ps : List token.Plus) (l k : Toks) → sees_lifetime l ≡ true → AreBounds part clearly Object AfterMark true d xs ps l k → (y : Lifetime) × (m : Toks) × IsLifetime y l m
+  first_life d xs ps l k h (no_bounds a) = absurd a
+  first_life d xs ps l k h (last_bound {e = e} {x = x} i) = let z = forms.life e x l k i h in (z.0, k, z.1)
+  first_life d xs ps l k h (bound_and_plus {e = e} {x = x} {m = m} i o j q) = let z = forms.life e x l m i h in (z.0, m, z.1)
+
+  object_turn : (d : End) (w : Many (TypeParamBound A E) token.Plus) (l k : Toks) (f : Option Span) (e : Span) (sc : Scope) → ahead (at l f e sc) ≤ limit → AreBareBounds part clearly place d w l k → Fits d k → token.sees_pound k ≡ false →
+      (plus ≡ true → token.sees_plus k ≡ false) → OneTurn (object_of w) l k f e sc
+  object_turn d w l k f e sc lim (path_alone {x = y} {p = p} i) fits np no_plus =
+      first_turn (Some y) p (object_of w) l k k f e sc lim i (path_stops k fits.stops) np (λ q. lone_goes r plus y p k f q sc fits.stops.no_call (no_plus_follows plus k no_plus))
+  object_turn d w l k f e sc lim (path_and_plus {o = o} {p = p} {c = c} {xs = xs} {ps = ps} {m = m} {n = n} g i j q) fits np no_plus =
+      let stops = plus_stops c m n j in
+      first_turn o p (object_of w) l m k f e sc lim i (path_stops m stops) (plus_no_pound c m n j)
+      (λ z. object_goes r plus o p (object_of w) m k f z sc stops.no_call (ap (λ b. plus_follows b m) g ∙ plus_there c m n j)
+      (subst (λ b. Reads_to (reading.path_object r b o p) (object_of w) m k f z sc) (sym g) (path_object_met r part limit meets d o p c xs ps m n k f z sc (left_after l m f f e z sc limit (first_light o p l m i) lim) j q fits)))
+  object_turn d w l k f e sc lim (held_and_plus {o = o} {p = p} {s = s} {k = a} {xs = xs} {ps = ps} {c = c} {m = m} {n = n} g i j q) fits np no_plus =
+      paren_turn attrs values r place (object_of w) s c m k f e sc (forms.held_and_plus plus g d o p s a xs ps c m n k f e sc lim i j q fits)
+  object_turn d w l k f e sc lim (asked_first {q = q} {p = p} {s = s} {xs = xs} {ps = ps} {c = c} {m = m} i j) fits np no_plus =
+      paren_turn attrs values r place (object_of w) s c m k f e sc (forms.asked_first plus d q p s xs ps c m k f e sc lim i j fits)
+  object_turn d w l k f e sc lim (asked_in_two {q = q} {p = p} {s = s} {i = t} {k = a} {xs = xs} {ps = ps} {c = c} {m = m} {n = n} g i j y) fits np no_plus =
+      paren_turn attrs values r place (object_of w) s (group Parenthesis t c done) m k f e sc (forms.asked_in_two plus g d q p s t a xs ps c m n k f e sc lim i j y fits)
+  object_turn d w l k f e sc lim (lifetime_first {xs = xs} {ps = ps} g i n) fits np no_plus =
+      let y = first_life d xs ps l k g i in
+      lifetime_turn attrs values r place w y.0 l y.1 k f e sc y.2 (forms.lifetime d xs ps l k f e sc lim g i n fits)
+
+  -- ---- pointers to functions
+
+  fn_turn : (d : End) (x : TypeFnPtr A E) (l k : Toks) (f : Option Span) (e : Span) (sc : Scope) → ahead (at l f e sc) ≤ limit → IsFnPtr part clearly d x l k → Fits d k → OneTurn (v.FnPtr x) l k f e sc
+  fn_turn d x l k f e sc lim (a_fn_ptr {b = b} {u = u} {i = i} {w = w} {s = s} {v = y} {d = z} {o = o} {m = m} {n = n} {k = q} {c = c} {j = j} g h a t is out) fits =
+      let begins = fn_begins u i w m n q (group Parenthesis s c j) h a t in
+      perhaps_bound attrs values r part limit meets.firsts forms.binder place (v.FnPtr x) b l m k f e sc lim g begins.name (λ p. begins.bindable)
+      (λ p. by_fn attrs values r part limit meets.firsts forms.binder place (position (at l f e sc)) b x m k f p sc begins.no_binder begins.sees
+      (forms.fn_ptr d b u i w s y z o m n q c j k f p sc (left_after l m f f e p sc limit (for_light b l m g) lim) h a t is out fits))
