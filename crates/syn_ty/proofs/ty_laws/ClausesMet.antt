@@ -166,12 +166,12 @@ module _ {A E : Type 0} (attrs : Reader (List A)) (values : ReadValues E) (type 
   rest_met : (a : List A) (o : Option (BoundLifetimes A E)) (d : End) (x : TypeTree A E) (c : token.Colon) (xs : List (TypeParamBound A E)) (ps : List token.Plus) (l m n k : Toks) (f : Option Span) (e : Span) (sc : Scope) → ahead (at l f e sc) ≤ limit →
       Reads_to (optional_binder r) o l m f e sc → NoMore l m → (part clearly).ty Bounded d x m n → AreBoundsOf part clearly c xs ps n k → ends_predicate k ≡ true → Reads_to (type_after type r a) (predicate_type_of a o x c (xs, ps)) l k f e sc
   unfolding type_after predicate_bounds
-  rest_met a o d x c xs ps l m n k f e sc h u no t (bounds_of {e = g} {m = j} i q) z =
+  rest_met a o d x c xs ps l m n k f e sc h u le t (bounds_of {e = g} {m = j} i q) z =
       let over = predicate_over k z in
       let here = colon_over n (colon_seen c n j i) (colon_apart c n j i) in
-      let v = type_met d x m n f u.last sc (no_later l m f f e u.last sc limit no h) t (over_fits d n here) here.no_plus in
+      let v = type_met d x m n f u.last sc (no_later l m f f e u.last sc limit le h) t (over_fits d n here) here.no_plus in
       let b = colon_met c n j f v.last sc i in
-      let less = no_less no (less_less (meets.firsts.ty Bounded d x m n t).1 (colon_takes c n j i)) in
+      let less = no_less le (less_less (meets.firsts.ty Bounded d x m n t).1 (colon_takes c n j i)) in
       let s = bounds_met g xs ps j k f b.last sc (later l j f f e b.last sc limit less.lighter h) q (λ p. over_fits g k over) (λ first may. z) in
       record { last = s.last; reads = link _ u.reads (link _ v.reads (link _ b.reads (link _ s.reads refl))) }
 
@@ -195,12 +195,12 @@ module _ {A E : Type 0} (attrs : Reader (List A)) (values : ReadValues E) (type 
   predicate_met x l k f e sc h (of_lifetime (a_lifetime_predicate {a = a} {x = y} {c = c} {xs = xs} {ps = ps} {m = m} {n = n} {k = j} i g q t)) z =
       after_attrs_met attrs part supplied.attrs_met (predicate_after type r) a x l m k f e sc i (life_no_pound y m n g)
       (λ b. by_lifetime a (predicate_lifetime_of a y c (xs, ps)) m k f b sc (life_seen y c m n j g q) (lifetime_after_met a y c xs ps m n j k f b sc g q t z))
-  predicate_met x l k f e sc h (of_type (a_type_predicate {a = a} {e = d} {x = y} {c = c} {xs = xs} {ps = ps} {m = m} {n = n} i no t q)) z =
+  predicate_met x l k f e sc h (of_type (a_type_predicate {a = a} {e = d} {x = y} {c = c} {xs = xs} {ps = ps} {m = m} {n = n} i s t q)) z =
       let begins = (meets.firsts.ty Bounded d y m n t).0 in
       after_attrs_met attrs part supplied.attrs_met (predicate_after type r) a x l m k f e sc i begins.no_pound
       (λ b. by_type a (predicate_type_of a None y c (xs, ps)) m k f b sc (type_unseen m n begins)
           (rest_met a None d y c xs ps m m n k f b sc (no_later l m f f e b sc limit (supplied.attrs_light a l m i) h)
-              (optional_binder_met r part limit meets None m m f b sc (no_later l m f f e b sc limit (supplied.attrs_light a l m i) h) absent (λ p. no)) same t q z))
+              (optional_binder_met r part limit meets None m m f b sc (no_later l m f f e b sc limit (supplied.attrs_light a l m i) h) absent (λ p. s)) same t q z))
   predicate_met x l k f e sc h (of_type (a_type_predicate_for {a = a} {o = o} {e = d} {x = y} {c = c} {xs = xs} {ps = ps} {m = m} {n = n} {k = j} i s t q)) z =
       after_attrs_met attrs part supplied.attrs_met (predicate_after type r) a x l m k f e sc i (for_no_pound part o m n s)
       (λ b. by_type a (predicate_type_of a (Some o) y c (xs, ps)) m k f b sc (for_no_life part o m n s)

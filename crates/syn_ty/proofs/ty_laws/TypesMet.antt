@@ -5,6 +5,7 @@ use Rattle.token_core.specs.declared.lifetime.Lifetime.{Lifetime}
 use Rattle.token_core.specs.declared.span.DelimSpan.{DelimSpan}
 use Rattle.token_core.specs.declared.span.Span.{Span}
 use Rattle.token_core.specs.declared.tree.Delimiter.TheVariants.{Parenthesis, Bracket}
+use Rattle.token_core.specs.declared.tree.Ident.{Ident}
 use Rattle.token_core.specs.declared.tree.TokenStream.{TokenStream}
 use Rattle.token_core.specs.Groups as groups
 use Rattle.token_core.specs.Groups.{sees_invisible}
@@ -16,7 +17,7 @@ use Rattle.token_core.specs.Reads.{Reader, after_one, sees_group, sees_mark, see
 use Rattle.token_core.specs.Spellings.{IsMark, is_mark, last_char, IsWord, is_word, IsLifetime}
 use Rattle.token_core.specs.Stream.{Scope}
 use Rattle.token_core.specs.Tokens as token
-use Rattle.token_core.specs.Toks.{Toks, done, group, mark}
+use Rattle.token_core.specs.Toks.{Toks, done, group, mark, word}
 use Rattle.token_core.specs.Trees.{punct}
 use Rattle.token_core.proofs.Steps.{Reads_to}
 use Rattle.token_core.proofs.Took.{at}
@@ -43,18 +44,19 @@ use Rattle.syn_ty.specs.generics.Bounds.{IsFor, AreBounds, no_bounds, last_bound
 use Rattle.syn_ty.specs.generics.Reading as generics
 use Rattle.syn_ty.specs.path.Signed.{IsReturn}
 use Rattle.syn_ty.specs.path.Spelling.{is_segment_word, IsAnyPath, unqualified, qualified}
-use Rattle.syn_ty.specs.ty.Admitted.{NoLifetime, IsBorrow, a_borrow, a_mutable_borrow, a_lifetime_borrow, IsBracketed, bracketed, IsCounted, counted, IsEnclosed, enclosed, IsPointer, a_pointer, IsTupled, no_element, some_elements, IsType, a_path_type, a_macro as a_macro_type, a_bound_macro}
+use Rattle.syn_ty.specs.ty.Admitted.{NoLifetime, IsVerbatimType, an_unsafe_binder, a_dyn_star, a_builtin, IsBorrow, a_borrow, a_mutable_borrow, a_lifetime_borrow, IsBracketed, bracketed, IsCounted, counted, IsEnclosed, enclosed, IsPointer, a_pointer, IsTupled, no_element, some_elements, IsType, a_path_type, a_macro as a_macro_type, a_bound_macro, an_object_with_dyn, an_object_without_dyn, an_impl_type, a_fn_type, a_ptr_type, a_reference_type, a_paren_type, a_tuple_type, a_slice_type, an_array_type, an_infer_type, a_never_type, a_verbatim_type}
 use Rattle.syn_ty.specs.ty.Functions.{IsAbi, an_abi, AreInputs, IsFnPtr, a_fn_ptr}
 use Rattle.syn_ty.specs.ty.Objects.{in_parens, AreBareBounds, path_alone, path_and_plus, held_and_plus, asked_first, asked_in_two, lifetime_first, AreFurther, AreObjectBounds, IsAsked, IsDyn, a_dyn, IsFirst, a_first, a_first_for, IsImpl, an_impl}
 use Rattle.syn_ty.specs.ty.Parts.{Manner, clearly, End, Parts, Holds}
 use Rattle.syn_ty.specs.ty.Points.{Readers}
 use Rattle.syn_ty.specs.ty.Reading as reading
 use Rattle.syn_ty.specs.ty.Reading.{begins_named, is_trait, object_of, sees_bindable, sees_fn_ptr, sees_unsafe_binder}
-use Rattle.syn_ty.specs.ty.Spelling.{IsOptional, absent, present}
+use Rattle.syn_ty.specs.ty.Spelling.{IsInfer, an_infer, IsNever, a_never, IsOptional, absent, present}
 use Rattle.syn_ty.specs.ty.Trees.{BoundLifetimes, NamedArg, Path, QSelf, ReturnType, TypeArray, TypeFnPtr, TypeImplTrait, TypeParamBound, TypeParen, TypePtr, TypeReference, TypeSlice, TypeTraitObject, TypeTree, TypeTuple}
 use Rattle.syn_ty.specs.ty.Types.{fn_ptr_with, macro_type_of, qualified_with}
 use Rattle.syn_ty.proofs.ty_laws.BoundListsMet.{plus_stops, plus_there}
 use Rattle.syn_ty.proofs.ty_laws.CallsMet.{as_path, bang_no_pound, bang_stops, call_goes, call_path, lone_goes, object_goes, path_goes, path_object_met, qualified_goes}
+use Rattle.syn_ty.proofs.ty_laws.Complete.{infer_complete, never_complete}
 use Rattle.syn_ty.proofs.ty_laws.LessMet.{no_no, optional_no, some}
 use Rattle.syn_ty.proofs.ty_laws.Met.{Fits, Meets, PathStops, PathsMeet, Stops}
 use Rattle.syn_ty.proofs.ty_laws.NamedMet.{NameBegins, any_path_first, by_builtin, by_fn, by_path, by_unsafe, for_less, path_first, path_name, path_no_lt, perhaps_bound}
@@ -126,6 +128,14 @@ fn_begins u i w l m n k absent absent is_word = record { name = record { no_invi
 unsafe_begins : (w : token.Unsafe) (l m : Toks) → IsWord w l m → NameBegins l
 unfolding sees_fn_ptr sees_bindable begins_named sees_invisible sees_word sees_group is_keyword
 unsafe_begins w l m is_word = record { no_invisible = refl; no_for = refl; no_paren = refl; named = refl }
+
+no_lt_word : (i : Ident) (k : Toks) → token.sees_lt (word i k) ≡ false
+unfolding sees_mark
+no_lt_word i k = refl
+
+no_sep_word : (i : Ident) (k : Toks) → sees_sep (word i k) ≡ false
+unfolding sees_mark
+no_sep_word i k = refl
 
 plus_no_pound : (p : token.Plus) (l r : Toks) → IsMark true p l r → token.sees_pound l ≡ false
 unfolding sees_mark
@@ -229,3 +239,76 @@ module _ {A E : Type 0} (attrs : Reader (List A)) (values : ReadValues E) (r : R
       perhaps_bound attrs values r part limit meets.firsts forms.binder place (v.FnPtr x) b l m k f e sc lim g begins.name (λ p. begins.bindable)
       (λ p. by_fn attrs values r part limit meets.firsts forms.binder place (position (at l f e sc)) b x m k f p sc begins.no_binder begins.sees
       (forms.fn_ptr d b u i w s y z o m n q c j k f p sc (left_after l m f f e p sc limit (for_light b l m g) lim) h a t is out fits))
+
+  -- ---- what is held verbatim
+
+  verbatim_turn : (d : End) (t : TokenStream) (l k : Toks) (f : Option Span) (e : Span) (sc : Scope) → ahead (at l f e sc) ≤ limit → IsVerbatimType part clearly place d l k → Holds t l k → Fits d k → (plus ≡ true → token.sees_plus k ≡ false) →
+      OneTurn (v.Verbatim t) l k f e sc
+  verbatim_turn d t l k f e sc lim (an_unsafe_binder {b = b} {u = u} {o = o} {xs = xs} {cs = cs} {g = g} {x = x} {m = m} {n = n} {k = q} {j = j} {i = i} a h p y z is) holds fits no_plus =
+      let sees = unsafe_seen u o m n q h p in
+      perhaps_bound attrs values r part limit meets.firsts forms.binder place (v.Verbatim t) b l m k f e sc lim a (unsafe_begins u m n h) (λ c. sees.1)
+      (λ c. by_unsafe attrs values r part limit meets.firsts forms.binder place (position (at l f e sc)) b (v.Verbatim t) m k f c sc sees.0
+      (unsafe_met r part limit meets place d t u o xs cs g x l m n q j i k f e c sc (left_after l m f f e c sc limit (for_light b l m a) lim) h p y z is fits no_plus holds))
+  verbatim_turn d t l k f e sc lim (a_dyn_star {w = w} {s = s} {v = y} {m = m} {n = n} i j a) holds fits no_plus =
+      dyn_turn attrs values r place (v.Verbatim t) w l m k f e sc i (forms.dyn_star place d t w s y l m n k f e sc lim i j a holds fits)
+  verbatim_turn d t l k f e sc lim (a_builtin {b = b} {w = w} {i = i} {p = p} {s = s} {m = m} {c = c} a h j g) holds fits no_plus =
+      let begins = builtin_begins w m h in
+      let sees = builtin_seen w p m (word i (group Parenthesis s c k)) h j in
+      perhaps_bound attrs values r part limit meets.firsts forms.binder place (v.Verbatim t) b l (word w m) k f e sc lim a (path_name (word w m) m begins) (λ q. begins.bindable (no_sep_word w m) (no_lt_word w m))
+      (λ q. by_builtin attrs values r part limit meets.firsts forms.binder place (position (at l f e sc)) b (v.Verbatim t) (word w m) m k f q sc begins sees (builtin_type_met t w i p s l m c k f e q sc j g holds))
+
+  -- ---- forms by their first words, marks and groups
+
+  dyn_object_turn : (d : End) (x : TypeTraitObject A E) (l k : Toks) (f : Option Span) (e : Span) (sc : Scope) → ahead (at l f e sc) ≤ limit → IsDyn part clearly place d x l k → Fits d k → OneTurn (v.TraitObject x) l k f e sc
+  dyn_object_turn d x l k f e sc lim (a_dyn {w = w} {m = m} i j) fits = dyn_turn attrs values r place (v.TraitObject x) w l m k f e sc i (forms.dyn place d x l k f e sc lim (a_dyn i j) fits)
+
+  impl_type_turn : (d : End) (x : TypeImplTrait A E) (l k : Toks) (f : Option Span) (e : Span) (sc : Scope) → ahead (at l f e sc) ≤ limit → IsImpl part clearly place d x l k → Fits d k → OneTurn (v.ImplTrait x) l k f e sc
+  impl_type_turn d x l k f e sc lim (an_impl {w = w} {m = m} i j n) fits = impl_turn attrs values r place x w l m k f e sc i (forms.impl place d x l k f e sc lim (an_impl i j n) fits)
+
+  pointer_turn : (d : End) (x : TypePtr A E) (l k : Toks) (f : Option Span) (e : Span) (sc : Scope) → ahead (at l f e sc) ≤ limit → IsPointer part clearly d x l k → Fits d k → OneTurn (v.Ptr x) l k f e sc
+  pointer_turn d x l k f e sc lim (a_pointer {s = s} {m = m} i j h) fits = star_turn attrs values r place x s l m k f e sc i (forms.pointer d x l k f e sc lim (a_pointer i j h) fits)
+
+  borrow_turn : (d : End) (x : TypeReference A E) (l k : Toks) (f : Option Span) (e : Span) (sc : Scope) → ahead (at l f e sc) ≤ limit → IsBorrow part clearly d x l k → Fits d k → OneTurn (v.Reference x) l k f e sc
+  borrow_turn d x l k f e sc lim (a_borrow {a = a} {m = m} i h j) fits = and_turn attrs values r place x a l m k f e sc i (forms.borrow d x l k f e sc lim (a_borrow i h j) fits)
+  borrow_turn d x l k f e sc lim (a_mutable_borrow {a = a} {m = m} i h j) fits = and_turn attrs values r place x a l m k f e sc i (forms.borrow d x l k f e sc lim (a_mutable_borrow i h j) fits)
+  borrow_turn d x l k f e sc lim (a_lifetime_borrow {a = a} {m = m} i h g j) fits = and_turn attrs values r place x a l m k f e sc i (forms.borrow d x l k f e sc lim (a_lifetime_borrow i h g j) fits)
+
+  enclosed_turn : (x : TypeParen A E) (l k : Toks) (f : Option Span) (e : Span) (sc : Scope) → ahead (at l f e sc) ≤ limit → IsEnclosed part clearly Plus x l k → (plus ≡ true → token.sees_plus k ≡ false) → OneTurn (v.Paren x) l k f e sc
+  enclosed_turn x l k f e sc lim (enclosed {s = s} {c = c} i) no_plus = paren_turn attrs values r place (v.Paren x) s c k k f e sc (forms.enclosed plus x l k f e sc lim (enclosed i) no_plus)
+
+  tupled_turn : (x : TypeTuple A E) (l k : Toks) (f : Option Span) (e : Span) (sc : Scope) → ahead (at l f e sc) ≤ limit → IsTupled part clearly NoLifetime x l k → OneTurn (v.Tuple x) l k f e sc
+  tupled_turn x l k f e sc lim (no_element {s = s}) = paren_turn attrs values r place (v.Tuple x) s done k k f e sc (forms.tupled plus x l k f e sc lim no_element)
+  tupled_turn x l k f e sc lim (some_elements {s = s} {c = c} g i j h) = paren_turn attrs values r place (v.Tuple x) s c k k f e sc (forms.tupled plus x l k f e sc lim (some_elements g i j h))
+
+  slice_turn : (x : TypeSlice A E) (l k : Toks) (f : Option Span) (e : Span) (sc : Scope) → ahead (at l f e sc) ≤ limit → IsBracketed part clearly x l k → OneTurn (v.Slice x) l k f e sc
+  slice_turn x l k f e sc lim (bracketed {s = s} {c = c} i) = bracket_turn attrs values r place (v.Slice x) s c k k f e sc (forms.slice x l k f e sc lim (bracketed i))
+
+  array_turn : (x : TypeArray A E) (l k : Toks) (f : Option Span) (e : Span) (sc : Scope) → ahead (at l f e sc) ≤ limit → IsCounted part clearly x l k → OneTurn (v.Array x) l k f e sc
+  array_turn x l k f e sc lim (counted {s = s} {c = c} i j h) = bracket_turn attrs values r place (v.Array x) s c k k f e sc (forms.array x l k f e sc lim (counted i j h))
+
+  infer_type_turn : (x : TypeInferOf A) (l k : Toks) (f : Option Span) (e : Span) (sc : Scope) → IsInfer x l k → OneTurn (v.Infer x) l k f e sc
+  infer_type_turn x l k f e sc (an_infer {w = w} i) = infer_turn attrs values r place x w l k k f e sc i (infer_complete x l k f e sc (an_infer i))
+
+  never_turn : (x : TypeNeverOf A) (l k : Toks) (f : Option Span) (e : Span) (sc : Scope) → IsNever true x l k → OneTurn (v.Never x) l k f e sc
+  never_turn x l k f e sc (a_never {b = b} i) = bang_turn attrs values r place x b l k k f e sc i (never_complete x l k f e sc (a_never i))
+
+  -- ---- all of them
+
+  pub type_met : (d : End) (x : Tree) (l k : Toks) (f : Option Span) (e : Span) (sc : Scope) → ahead (at l f e sc) ≤ limit → IsType part clearly place d x l k → Fits d k → token.sees_pound k ≡ false → (plus ≡ true → token.sees_plus k ≡ false) →
+      Reads_to (reading.type_step attrs values r place) x l k f e sc
+  type_met d x l k f e sc lim (a_path_type {o = o} {p = p} i) fits np no_plus = path_turn o p l k f e sc lim i.0 i.1 fits.stops np no_plus
+  type_met d x l k f e sc lim (a_macro_type {x = y} i) fits np no_plus = call_turn y l k f e sc lim i.0 i.1
+  type_met d x l k f e sc lim (a_bound_macro {b = b} {x = y} {m = m} i j h) fits np no_plus = bound_call_turn b y l m k f e sc lim i j.0 j.1 h
+  type_met d x l k f e sc lim (an_object_with_dyn {x = y} i) fits np no_plus = dyn_object_turn d y l k f e sc lim i fits
+  type_met d x l k f e sc lim (an_object_without_dyn {w = w} i) fits np no_plus = object_turn d w l k f e sc lim i fits np no_plus
+  type_met d x l k f e sc lim (an_impl_type {x = y} i) fits np no_plus = impl_type_turn d y l k f e sc lim i fits
+  type_met d x l k f e sc lim (a_fn_type {x = y} i) fits np no_plus = fn_turn d y l k f e sc lim i fits
+  type_met d x l k f e sc lim (a_ptr_type {x = y} i) fits np no_plus = pointer_turn d y l k f e sc lim i fits
+  type_met d x l k f e sc lim (a_reference_type {x = y} i) fits np no_plus = borrow_turn d y l k f e sc lim i fits
+  type_met d x l k f e sc lim (a_paren_type {x = y} i) fits np no_plus = enclosed_turn y l k f e sc lim i no_plus
+  type_met d x l k f e sc lim (a_tuple_type {x = y} i) fits np no_plus = tupled_turn y l k f e sc lim i
+  type_met d x l k f e sc lim (a_slice_type {x = y} i) fits np no_plus = slice_turn y l k f e sc lim i
+  type_met d x l k f e sc lim (an_array_type {x = y} i) fits np no_plus = array_turn y l k f e sc lim i
+  type_met d x l k f e sc lim (an_infer_type {x = y} i) fits np no_plus = infer_type_turn y l k f e sc i
+  type_met d x l k f e sc lim (a_never_type {x = y} i) fits np no_plus = never_turn y l k f e sc i
+  type_met d x l k f e sc lim (a_verbatim_type {t = t} i h) fits np no_plus = verbatim_turn d t l k f e sc lim i h fits no_plus
