@@ -192,7 +192,7 @@ module _ {A E : Type 0} (first : End → Relation (TypeTree A E)) (attrs : Reade
       let w = colon_met c l m f e sc h in
       let u = g w.last in
       let s = colon_seen c l m h in
-      record { last = u.last; reads = chosen (token.sees_equals l) false _ _ (at l f e sc) _ (other_char 58 61 [] l refl s) (chosen (token.sees_colon l) true _ _ (at l f e sc) _ s (link _ w.reads u.reads)) }
+      record { last = u.last; reads = chosen (token.sees_equals l) false _ _ (at l f e sc) _ (other_char 58 61 [] [] l refl s) (chosen (token.sees_colon l) true _ _ (at l f e sc) _ s (link _ w.reads u.reads)) }
 
   nothing_after : (t : TypeTree A E) (o : Option (ItemName A E)) (l : Toks) (f : Option Span) (e : Span) (sc : Scope) → token.sees_equals l ≡ false → token.sees_colon l ≡ false → Reads_to (after_type values r t o) (k.«Type» t) l l f e sc
   unfolding after_item

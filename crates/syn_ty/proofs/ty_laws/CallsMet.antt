@@ -1,5 +1,5 @@
 -- What follows the path that a type begins with is read after it: a macro call, which drops a binder, the bounds of a trait object, or nothing.
-use Rattle.std.proofs.Common.{◌≡◌, ℕ, ◌≤◌, Bool, true, false, not, ◌&&◌, ◌||◌, List, [], ◌∷◌, Option, Some, None, is_some, Ok, refl, sym, ◌∙◌, ap, map}
+use Rattle.std.proofs.Common.{◌≡◌, ℕ, ◌≤◌, Bool, true, false, ◌&&◌, ◌||◌, List, [], ◌∷◌, Option, Some, None, is_some, refl, ◌∙◌, ap, map}
 use Rattle.std.specs.List.{list_all}
 use Rattle.token_core.specs.declared.span.DelimSpan.{DelimSpan}
 use Rattle.token_core.specs.declared.span.Span.{Span}
@@ -23,12 +23,11 @@ use Rattle.syn_path.specs.mac.Macros.{macro_of}
 use Rattle.syn_path.specs.mac.Reading as macs
 use Rattle.syn_path.specs.mac.Spelling.{Delimits, bang_at}
 use Rattle.syn_path.specs.path.Paths.{path_of}
-use Rattle.syn_path.specs.path.Reading.{sees_sep}
 use Rattle.syn_path.specs.path.Spelling as bare
 use Rattle.syn_path.specs.path.Spelling.{IsBarePath, IsLeading, a_bare_path, last_segment, leading, more_segments, no_leading}
 use Rattle.syn_path.proofs.mac_laws.Complete.{call_after_complete}
 use Rattle.syn_forms.specs.declared.places.BoundPlace.TheVariants.{Object}
-use Rattle.syn_forms.specs.lists.Reading.{bounds_from, list_from, plus_follows}
+use Rattle.syn_forms.specs.lists.Reading.{list_from, plus_follows}
 use Rattle.syn_forms.specs.nested.Below.{ahead}
 use Rattle.syn_forms.specs.paths.Reading.{goes_on, sees_turbofish}
 use Rattle.syn_ty.specs.declared.generics.TypeParamBoundOf.TheVariants as b

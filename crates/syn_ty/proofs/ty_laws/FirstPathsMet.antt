@@ -3,6 +3,8 @@ use Rattle.std.proofs.lemmas.Bool.{and_from, and_left, and_right, eqb-true, or_f
 use Rattle.std.proofs.lemmas.Slice.Eq.{bytes_eq-Decides}
 use Rattle.std.proofs.Common.{◌≡◌, ◌⊎◌, ◌&&◌, ◌||◌, ◌==◌, ℕ, not, if◌then◌else◌, is_some, Bool, true, false, List, [], ◌∷◌, Option, Some, None, refl, ◌∙◌, ap}
 use Rattle.token_core.specs.declared.lifetime.Lifetime.{Lifetime}
+use Rattle.token_core.specs.declared.lit.Lit.{Lit}
+use Rattle.token_core.specs.declared.lit.Lit.TheVariants as v
 use Rattle.token_core.specs.declared.span.Span.{Span}
 use Rattle.token_core.specs.declared.tree.Ident.{Ident}
 use Rattle.token_core.specs.declared.tree.Spacing.{Spacing}
@@ -11,8 +13,6 @@ use Rattle.token_core.specs.Keywords.{is_keyword}
 use Rattle.token_core.specs.Lifetimes.{sees_lifetime}
 use Rattle.token_core.specs.Listed.{AreListed, Nowhere, none_left, last_value, value_and_mark}
 use Rattle.token_core.specs.Lits.{false_text, lit_bool, sees_lit, true_text}
-use Rattle.token_core.specs.declared.lit.Lit.{Lit}
-use Rattle.token_core.specs.declared.lit.Lit.TheVariants as v
 use Rattle.token_core.specs.Marks.{text_of}
 use Rattle.token_core.specs.Reads.{after_one, is_done, is_text, sees_group, sees_mark, sees_word, third}
 use Rattle.token_core.specs.Spellings.{last_char, more_chars, IsMark, is_mark, IsLifetime}

@@ -6,7 +6,7 @@ use Rattle.token_core.specs.declared.lit.Lit.{Lit}
 use Rattle.token_core.specs.declared.tree.Delimiter.TheVariants.{Parenthesis, Bracket}
 use Rattle.token_core.specs.declared.tree.Ident.{Ident}
 use Rattle.token_core.specs.Lits.{next_lit, past_number, sees_lit}
-use Rattle.token_core.specs.Reads.{is_done, sees_group, sees_mark}
+use Rattle.token_core.specs.Reads.{Reader, is_done, sees_group, sees_mark}
 use Rattle.token_core.specs.Spellings.{last_char, is_mark, IsWord, is_word, IsLifetime, is_lifetime}
 use Rattle.token_core.specs.Tokens as token
 use Rattle.token_core.specs.Toks.{Toks, done, word, mark, lit, group, enter, leave}
@@ -19,7 +19,7 @@ use Rattle.syn_path.specs.declared.path.PathStyle.TheVariants.{AsWritten}
 use Rattle.syn_path.specs.mac.Spelling.{IsCall, a_macro}
 use Rattle.syn_path.specs.path.Paths.{Sep}
 use Rattle.syn_path.specs.path.Spelling as bare
-use Rattle.syn_path.specs.Values.{SpelledValues}
+use Rattle.syn_path.specs.Values.{ReadValues, SpelledValues}
 use Rattle.syn_forms.specs.declared.places.ParamPlace.{ParamPlace}
 use Rattle.syn_forms.specs.declared.places.TypePlace.{TypePlace}
 use Rattle.syn_forms.specs.declared.places.TypePlace.TheVariants.{Plus}
@@ -41,7 +41,7 @@ use Rattle.syn_ty.proofs.ty_laws.FirstBoundsMet.{binder_less, bound_life, bound_
 use Rattle.syn_ty.proofs.ty_laws.FirstPathsMet.{PartBegins, PathStarts, by_word, by_sep, Starts, TypeStarts, Worded, worded, angle_starts, any_path_starts, mark_other, mark_there, path_type, starts_on}
 use Rattle.syn_ty.proofs.ty_laws.FirstTypesMet.{bang_starts, bare_starts, binder_starts, borrow_starts, dyn_starts, fn_starts, group_starts, impl_starts, infer_starts, pointer_starts, verbatim_starts}
 use Rattle.syn_ty.proofs.ty_laws.LessMet.{same, some, no_no, no_less, less_no, less_less, word_less, mark_less, group_less, mark_no, word_takes, lifetime_takes, optional_no, listed_no, call_less}
-use Rattle.syn_ty.proofs.ty_laws.Met.{ItemBegins, Less, NoMore}
+use Rattle.syn_ty.proofs.ty_laws.Met.{ItemBegins, Less, NoMore, SuppliedMeets}
 
 -- ---- macro calls
 
@@ -177,6 +177,10 @@ module _ {A E : Type 0} {part : Manner → Parts A E} (s : Starts part) where
     param_starts p x l k (a_bare_param {a = a} {i = i} j h) = after_attrs a l (word i k) k j (word_item i k, word_less i k)
 
 -- ---- at every height
+
+-- from what is known of the supplied reads
+pub supplied_begins : {A E : Type 0} (attrs : Reader (List A)) (values : ReadValues E) (part : Manner → Parts A E) → SuppliedMeets attrs values part → PartBegins part
+supplied_begins attrs values part h = record { attrs_begin = h.attrs_begin; attrs_light = h.attrs_light; argument_begins = h.argument_begins; default_less = h.default_less }
 
 module _ {A E : Type 0} (attrs : Bool → List A → Toks → Toks → Type 0) (values : SpelledValues E) where
   -- one turn

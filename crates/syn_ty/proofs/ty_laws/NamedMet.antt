@@ -1,22 +1,16 @@
 -- A type that begins with a path, perhaps after a binder, goes the way of what follows the path: it is a macro call, a trait object, or the path.
-use Rattle.std.proofs.Common.{◌≡◌, ℕ, ◌≤◌, Bool, true, false, ◌&&◌, ◌||◌, List, [], ◌∷◌, Option, Some, None, is_some, Ok, refl, sym, ◌∙◌, ap, map, arith}
-use Rattle.std.specs.List.{list_all}
-use Rattle.token_core.specs.declared.span.DelimSpan.{DelimSpan}
+use Rattle.std.proofs.Common.{◌≡◌, ℕ, ◌≤◌, Bool, true, false, ◌||◌, List, Option, is_some, refl, ap}
 use Rattle.token_core.specs.declared.span.Span.{Span}
-use Rattle.token_core.specs.declared.tree.Delimiter.{Delimiter}
 use Rattle.token_core.specs.declared.tree.Delimiter.TheVariants.{Parenthesis}
 use Rattle.token_core.specs.declared.tree.Ident.{Ident}
-use Rattle.token_core.specs.declared.tree.Spacing.{Spacing}
-use Rattle.token_core.specs.declared.tree.Spacing.TheVariants.{Joint, Alone}
 use Rattle.token_core.specs.Groups.{sees_invisible}
 use Rattle.token_core.specs.Listed.{AreListed, Nowhere, none_left, last_value, value_and_mark}
 use Rattle.token_core.specs.Positions.{Item}
 use Rattle.token_core.specs.Reads.{Reader, is_text, sees_group, sees_mark, sees_word}
-use Rattle.token_core.specs.Spellings.{IsMark, is_mark, last_char, more_chars, IsWord, is_word}
+use Rattle.token_core.specs.Spellings.{IsMark, is_mark, last_char, more_chars, is_word}
 use Rattle.token_core.specs.Stream.{Scope}
 use Rattle.token_core.specs.Tokens as token
-use Rattle.token_core.specs.Toks.{Bytes, Toks, word, mark, group}
-use Rattle.token_core.specs.Trees.{punct}
+use Rattle.token_core.specs.Toks.{Bytes, Toks, word}
 use Rattle.token_core.proofs.Steps.{Reads_to, chosen, link}
 use Rattle.token_core.proofs.Took.{at}
 use Rattle.syn_path.specs.declared.path.PathStyle.TheVariants.{AsWritten}
@@ -31,9 +25,8 @@ use Rattle.syn_forms.specs.verbatim.Reading.{position}
 use Rattle.syn_ty.specs.declared.ty.TypeOf.TheVariants as v
 use Rattle.syn_ty.specs.generics.Bounds.{IsFor}
 use Rattle.syn_ty.specs.generics.Reading.{binder}
-use Rattle.syn_ty.specs.generics.Spelling.{IsBinder, a_binder}
+use Rattle.syn_ty.specs.generics.Spelling.{a_binder}
 use Rattle.syn_ty.specs.path.Paths.{Sep}
-use Rattle.syn_ty.specs.path.Reading.{maybe_qualified}
 use Rattle.syn_ty.specs.path.Spelling.{is_segment_word, IsSegment, a_word, a_word_with_arguments, IsPath, a_path, IsQualified, by_type, by_type_as_path, IsAnyPath, unqualified, qualified}
 use Rattle.syn_ty.specs.ty.Parts.{Manner, clearly, Parts}
 use Rattle.syn_ty.specs.ty.Points.{Readers}
@@ -43,8 +36,7 @@ use Rattle.syn_ty.specs.ty.Spelling.{IsOptional, absent, present}
 use Rattle.syn_ty.specs.ty.Trees.{BoundLifetimes, Path, PathSegment, QSelf, TypeFnPtr, TypeTree}
 use Rattle.syn_ty.proofs.ty_laws.LessMet.{less_no, listed_no, mark_no, no_no, word_takes}
 use Rattle.syn_ty.proofs.ty_laws.Met.{Firsts, Less, PathStops, PathsMeet}
-use Rattle.syn_ty.proofs.ty_laws.SignedMet.{left_after}
-use Rattle.syn_ty.proofs.ty_laws.TokensMet.{PathBegins, Turn, lt_begins, mod_segment, no_pound_arguments, sep_begins, word_begins}
+use Rattle.syn_ty.proofs.ty_laws.TokensMet.{NameBegins, PathBegins, Turn, lt_begins, mod_segment, no_pound_arguments, sep_begins, word_begins, word_no_lt}
 
 -- ---- what a path begins with
 
@@ -64,10 +56,6 @@ sep_no_pound c l r (is_mark (more_chars (last_char x))) = refl
 try_text : (i : Ident) (k : Toks) → token.sees_try (word i k) ≡ false → is_text token.try_text i.text ≡ false
 unfolding sees_word
 try_text i k h = h
-
-word_no_lt : (i : Ident) (k : Toks) → token.sees_lt (word i k) ≡ false
-unfolding sees_mark
-word_no_lt i k = refl
 
 module _ {A E : Type 0} (part : Manner → Parts A E) (firsts : Firsts part) where
   abbrev Segment : Type 0
@@ -130,16 +118,6 @@ module _ {A E : Type 0} (part : Manner → Parts A E) (firsts : Firsts part) whe
   for_seen b l k (a_binder is_word i q z) = (refl, refl)
 
 -- ---- the reads
-
--- what stands after a binder or in its place, and is no path alone
-pub record NameBegins (l : Toks) : Type 0 where
-  pub no_invisible : sees_invisible l ≡ false
-  pub no_for : token.sees_for l ≡ false
-  pub no_paren : sees_group Parenthesis l ≡ false
-  pub named : begins_named l ≡ true
-
-pub path_name : (l k : Toks) → PathBegins l k → NameBegins l
-path_name l k b = record { no_invisible = b.no_invisible; no_for = b.no_for; no_paren = b.no_paren; named = b.named }
 
 module _ {A E : Type 0} (attrs : Reader (List A)) (values : ReadValues E) (r : Readers A E) (part : Manner → Parts A E) (limit : ℕ) (firsts : Firsts part)
     (binder_met : (b : BoundLifetimes A E) (l k : Toks) (f : Option Span) (e : Span) (sc : Scope) → ahead (at l f e sc) ≤ limit → IsFor part clearly b l k → Reads_to (binder r) b l k f e sc) (place : TypePlace) where

@@ -3,8 +3,6 @@ use Rattle.std.proofs.Common.{◌≡◌, ℕ, ◌<◌, ◌≤◌, Bool, true, fa
 use Rattle.std.proofs.lemmas.Bool.{eqb-true}
 use Rattle.std.proofs.lemmas.Slice.Eq.{bytes_eq-Decides}
 use Rattle.token_core.specs.declared.lifetime.Lifetime.{Lifetime}
-use Rattle.token_core.specs.declared.mark.Mark.{Mark}
-use Rattle.token_core.specs.declared.mark.Spans.{Spans}
 use Rattle.token_core.specs.declared.span.DelimSpan.{DelimSpan}
 use Rattle.token_core.specs.declared.span.Span.{Span}
 use Rattle.token_core.specs.declared.tree.Delimiter.TheVariants.{Parenthesis, Brace, Bracket}
@@ -16,7 +14,7 @@ use Rattle.token_core.specs.Lifetimes as lifetimes
 use Rattle.token_core.specs.Lifetimes.{sees_lifetime, with_ident, read_lifetime}
 use Rattle.token_core.specs.Listed.{AreListed, Anywhere}
 use Rattle.token_core.specs.Loops.{Many, size, terminated}
-use Rattle.token_core.specs.Reads.{Outcome, Reader, ◌>>=◌, ◌<$>◌, any_text, expected, ident_name, is_done, is_ident, is_joint, is_text, next_word, optional, read_word, sees_group, sees_mark, sees_word, three}
+use Rattle.token_core.specs.Reads.{Outcome, Reader, ◌>>=◌, ◌<$>◌, any_text, expected, ident_name, is_done, is_ident, is_joint, is_last, is_text, next_word, optional, past_mark, past_next, read_word, sees_group, sees_mark, sees_word}
 use Rattle.token_core.specs.Spans.{none}
 use Rattle.token_core.specs.Spellings.{last_char, IsMark, is_mark, IsWord, is_word, IsLifetime, is_lifetime}
 use Rattle.token_core.specs.Stream.{Scope}
@@ -144,32 +142,36 @@ mark_over p k c n = record {
   no_word = refl;
 }
 
--- the character of a mark that is seen
-char_is : (c : ℕ) (p : Punct) (k : Toks) → sees_mark (c ∷ []) (mark p k) ≡ true → p.ch ≡ c
+-- the first character of a mark that is seen
+where_true : {T : Type 0} (b : Bool) (o : Option T) → is_some (if b then o else None) ≡ true → b ≡ true
+where_true true o e = refl
+where_true false o e = cc e
+
+char_is : (c : ℕ) (cs : List ℕ) (p : Punct) (k : Toks) → sees_mark (c ∷ cs) (mark p k) ≡ true → p.ch ≡ c
 unfolding sees_mark
-char_is c p k e = by_test (p.ch == c) refl e
+char_is c cs p k e = by_last (is_last cs) e
   where
-    by_test : (b : Bool) → (p.ch == c) ≡ b → is_some {T = Spans × Toks} (if b then Some (three p.span p.span p.span, k) else None) ≡ true → p.ch ≡ c
-    by_test true h e = eqb-true p.ch c h
-    by_test false h e = cc e
+    by_last : (last : Bool) → is_some (past_next c last (past_mark cs) (Some (p, k))) ≡ true → p.ch ≡ c
+    by_last true e = eqb-true p.ch c (where_true (p.ch == c) _ e)
+    by_last false e = eqb-true p.ch c (where_true (p.ch == c) _ e)
 
 -- another mark is unseen there
-pub other_char : (c x : ℕ) (xs : List ℕ) (k : Toks) → (c == x) ≡ false → sees_mark (c ∷ []) k ≡ true → sees_mark (x ∷ xs) k ≡ false
+pub other_char : (c x : ℕ) (cs xs : List ℕ) (k : Toks) → (c == x) ≡ false → sees_mark (c ∷ cs) k ≡ true → sees_mark (x ∷ xs) k ≡ false
 unfolding sees_mark
-other_char c x xs done n e = refl
-other_char c x xs (word i k) n e = refl
-other_char c x xs (mark p k) n e = no_mark-other x xs p k (ap (λ z. z == x) (char_is c p k e) ∙ n)
-other_char c x xs (lit y k) n e = refl
-other_char c x xs (group y s z k) n e = refl
-other_char c x xs (enter s k) n e = other_char c x xs k n e
-other_char c x xs (leave k) n e = other_char c x xs k n e
+other_char c x cs xs done n e = refl
+other_char c x cs xs (word i k) n e = refl
+other_char c x cs xs (mark p k) n e = no_mark-other x xs p k (ap (λ z. z == x) (char_is c cs p k e) ∙ n)
+other_char c x cs xs (lit y k) n e = refl
+other_char c x cs xs (group y s z k) n e = refl
+other_char c x cs xs (enter s k) n e = other_char c x cs xs k n e
+other_char c x cs xs (leave k) n e = other_char c x cs xs k n e
 
 -- a mark of one such character, which is no part of `::`
 char_over : (c : ℕ) (k : Toks) → Closing c → sees_mark (c ∷ []) k ≡ true → sees_sep k ≡ false → Over k
 unfolding sees_mark
 char_over c done g e n = cc e
 char_over c (word i k) g e n = cc e
-char_over c (mark p k) g e n = mark_over p k (subst Closing (sym (char_is c p k e)) g) n
+char_over c (mark p k) g e n = mark_over p k (subst Closing (sym (char_is c [] p k e)) g) n
 char_over c (lit x k) g e n = cc e
 char_over c (group x s y k) g e n = cc e
 char_over c (enter s k) g e n = over_enter s k (char_over c k g e n)
@@ -180,7 +182,7 @@ pub closing : (c : ℕ) → (c == 33) ≡ false → (c == 39) ≡ false → (c =
 closing c a b d e g h = record { no_bang = a; no_quote = b; no_plus = d; no_minus = e; no_lt = g; no_question = h }
 
 plain_over : (c : ℕ) (k : Toks) → Closing c → (c == 58) ≡ false → sees_mark (c ∷ []) k ≡ true → Over k
-plain_over c k g n e = char_over c k g e (other_char c 58 (58 ∷ []) k n e)
+plain_over c k g n e = char_over c k g e (other_char c 58 [] (58 ∷ []) k n e)
 
 pub comma_over : (k : Toks) → token.sees_comma k ≡ true → Over k
 comma_over k e = plain_over 44 k (closing 44 refl refl refl refl refl refl) refl e
@@ -224,7 +226,7 @@ done_no_mark x xs (leave k) e = done_no_mark x xs k e
 -- no mark but a comma or a `>` stands after an argument, nor after a parameter
 pub constraint_no_mark : (x : ℕ) (xs : List ℕ) (k : Toks) → (44 == x) ≡ false → (62 == x) ≡ false → ends_constraint k ≡ true → sees_mark (x ∷ xs) k ≡ false
 unfolding ends_constraint
-constraint_no_mark x xs k a b h = of_either (token.sees_comma k) (token.sees_gt k) (other_char 44 x xs k a) (other_char 62 x xs k b) h
+constraint_no_mark x xs k a b h = of_either (token.sees_comma k) (token.sees_gt k) (other_char 44 x [] xs k a) (other_char 62 x [] xs k b) h
 
 pub param_no_mark : (x : ℕ) (xs : List ℕ) (k : Toks) → (44 == x) ≡ false → (62 == x) ≡ false → ends_param k ≡ true → sees_mark (x ∷ xs) k ≡ false
 param_no_mark x xs k a b h = of_either (ends_constraint k) (is_done k) (constraint_no_mark x xs k a b) (done_no_mark x xs k) h
@@ -395,7 +397,7 @@ param_before k h = record { over = param_over k h; ends = ends_with (token.sees_
 
 equals_before : (k : Toks) → token.sees_equals k ≡ true → BeforeDefault k
 unfolding ends_type
-equals_before k h = record { over = equals_over k h; ends = ends_at_equals (token.sees_comma k) (token.sees_gt k) (is_done k) (token.sees_equals k) h; no_colon = other_char 61 58 [] k refl h }
+equals_before k h = record { over = equals_over k h; ends = ends_at_equals (token.sees_comma k) (token.sees_gt k) (is_done k) (token.sees_equals k) h; no_colon = other_char 61 58 [] [] k refl h }
 
 module _ {V : Type 0} (Is : Relation V) where
   abbrev Given : token.Equals × V → Toks → Toks → Type 0

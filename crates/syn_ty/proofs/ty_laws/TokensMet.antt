@@ -1,9 +1,8 @@
 -- Which tests of the readers of types hold of a first word, mark, lifetime or group, and which do not.
-use Rattle.std.proofs.Common.{◌≡◌, ℕ, Bool, true, false, not, ◌&&◌, ◌||◌, ◌==◌, if◌then◌else◌, List, [], ◌∷◌, Option, Some, None, is_some, refl, sym, ◌∙◌, ap, subst}
+use Rattle.std.proofs.Common.{◌≡◌, ℕ, Bool, true, false, not, ◌&&◌, ◌||◌, ◌==◌, if◌then◌else◌, List, [], ◌∷◌, Option, Some, None, is_some, refl, sym, ◌∙◌, ap}
 use Rattle.std.proofs.lemmas.Bool.{eqb-true}
 use Rattle.std.proofs.lemmas.Slice.Eq.{bytes_eq-Decides}
 use Rattle.token_core.specs.declared.lifetime.Lifetime.{Lifetime}
-use Rattle.token_core.specs.declared.mark.Spans.{Spans}
 use Rattle.token_core.specs.declared.span.DelimSpan.{DelimSpan}
 use Rattle.token_core.specs.declared.span.Span.{Span}
 use Rattle.token_core.specs.declared.tree.Delimiter.TheVariants.{Parenthesis, Bracket}
@@ -28,14 +27,17 @@ use Rattle.syn_path.specs.Values.{ReadValues}
 use Rattle.syn_forms.specs.declared.places.TypePlace.{TypePlace}
 use Rattle.syn_forms.specs.paths.Reading.{sees_arguments, sees_turbofish}
 use Rattle.syn_forms.specs.places.Reading.{allows_plus}
+use Rattle.syn_ty.specs.declared.ty.Abi.{Abi}
 use Rattle.syn_ty.specs.declared.ty.TypeInferOf.{TypeInferOf}
 use Rattle.syn_ty.specs.declared.ty.TypeNeverOf.{TypeNeverOf}
 use Rattle.syn_ty.specs.declared.ty.TypeOf.TheVariants as v
 use Rattle.syn_ty.specs.path.Paths.{Sep}
 use Rattle.syn_ty.specs.path.Spelling.{is_segment_word}
+use Rattle.syn_ty.specs.ty.Functions.{IsAbi, an_abi}
 use Rattle.syn_ty.specs.ty.Points.{Readers}
 use Rattle.syn_ty.specs.ty.Reading as reading
 use Rattle.syn_ty.specs.ty.Reading.{begins_named, sees_bindable, sees_builtin, sees_fn_ptr, sees_unsafe_binder}
+use Rattle.syn_ty.specs.ty.Spelling.{IsOptional, absent, present}
 use Rattle.syn_ty.specs.ty.Trees.{TypeImplTrait, TypeParamBound, TypePtr, TypeReference, TypeTree}
 
 -- ---- marks: no two of them that differ in their first characters stand in one place
@@ -102,14 +104,17 @@ without_try false false false false false false h e = cc h
 pub mod_segment : (t : Bytes) → is_segment_word t ≡ true → is_text token.try_text t ≡ false → is_mod_word t ≡ true
 mod_segment t h e = without_try (is_ident t) (is_text token.self_type_text t) (is_text token.super_text t) (is_text token.self_value_text t) (is_text token.crate_text t) (is_text token.try_text t) h e
 
--- ---- what begins with a path, before what follows its first token
+-- ---- what stands after a binder or in its place
 
--- the test for `builtin #` holds where a `#` follows the first word
-pub record PathBegins (l k : Toks) : Type 0 where
+pub record NameBegins (l : Toks) : Type 0 where
   pub no_invisible : sees_invisible l ≡ false
   pub no_for : token.sees_for l ≡ false
   pub no_paren : sees_group Parenthesis l ≡ false
   pub named : begins_named l ≡ true
+
+-- What begins with a path, before what follows its first token: the test for `builtin #` holds where a `#` follows that.
+pub record PathBegins (l k : Toks) : Type 0 where
+  pub name : NameBegins l
   pub no_unsafe : sees_unsafe_binder l ≡ false
   pub no_fn : sees_fn_ptr l ≡ false
   pub no_builtin : token.sees_pound k ≡ false → sees_builtin l ≡ false
@@ -133,10 +138,7 @@ unfolding begins_named sees_bindable sees_fn_ptr sees_unsafe_binder sees_builtin
 word_begins i k h =
     let bindable = or_true (is_mod_word i.text) _ h in
     record {
-      no_invisible = refl;
-      no_for = not_mod token.for_text i.text refl h;
-      no_paren = refl;
-      named = or_true _ _ bindable;
+      name = record { no_invisible = refl; no_for = not_mod token.for_text i.text refl h; no_paren = refl; named = or_true _ _ bindable };
       no_unsafe = and_none _ _ (not_mod token.unsafe_text i.text refl h);
       no_fn = or_none _ _ _ (not_mod token.fn_text i.text refl h) (not_mod token.unsafe_text i.text refl h) (not_mod token.extern_text i.text refl h);
       no_builtin = λ e. and_last _ _ e;
@@ -145,11 +147,43 @@ word_begins i k h =
 
 pub sep_begins : (c : Sep) (l m k : Toks) → IsMark true c l m → PathBegins l k
 unfolding begins_named sees_bindable sees_fn_ptr sees_unsafe_binder sees_builtin sees_invisible sees_word sees_mark sees_group
-sep_begins c l m k (is_mark (more_chars (last_char x))) = record { no_invisible = refl; no_for = refl; no_paren = refl; named = refl; no_unsafe = refl; no_fn = refl; no_builtin = λ e. refl; bindable = λ e g. cc e }
+sep_begins c l m k (is_mark (more_chars (last_char x))) = record { name = record { no_invisible = refl; no_for = refl; no_paren = refl; named = refl }; no_unsafe = refl; no_fn = refl; no_builtin = λ e. refl; bindable = λ e g. cc e }
 
 pub lt_begins : (c : token.Lt) (l m k : Toks) → IsMark true c l m → PathBegins l k
 unfolding begins_named sees_bindable sees_fn_ptr sees_unsafe_binder sees_builtin sees_invisible sees_word sees_mark sees_group
-lt_begins c l m k (is_mark (last_char x)) = record { no_invisible = refl; no_for = refl; no_paren = refl; named = refl; no_unsafe = refl; no_fn = refl; no_builtin = λ e. refl; bindable = λ e g. cc g }
+lt_begins c l m k (is_mark (last_char x)) = record { name = record { no_invisible = refl; no_for = refl; no_paren = refl; named = refl }; no_unsafe = refl; no_fn = refl; no_builtin = λ e. refl; bindable = λ e g. cc g }
+
+pub word_no_lt : (i : Ident) (k : Toks) → token.sees_lt (word i k) ≡ false
+unfolding sees_mark
+word_no_lt i k = refl
+
+pub word_no_sep : (i : Ident) (k : Toks) → sees_sep (word i k) ≡ false
+unfolding sees_mark
+word_no_sep i k = refl
+
+-- ---- a pointer to a function, and `unsafe`
+
+-- a pointer to a function, after its binder
+pub record FnBegins (l : Toks) : Type 0 where
+  pub name : NameBegins l
+  pub no_binder : sees_unsafe_binder l ≡ false
+  pub sees : sees_fn_ptr l ≡ true
+  pub bindable : sees_bindable l ≡ true
+
+no_lt_abi : (i : Option Abi) (w : token.Fn) (l m n : Toks) → IsOptional IsAbi i l m → IsWord w m n → token.sees_lt l ≡ false
+unfolding sees_mark
+no_lt_abi i w l m n absent is_word = refl
+no_lt_abi i w l m n (present (an_abi is_word j)) h = refl
+
+pub fn_begins : (u : Option token.Unsafe) (i : Option Abi) (w : token.Fn) (l m n k : Toks) → IsOptional IsWord u l m → IsOptional IsAbi i m n → IsWord w n k → FnBegins l
+unfolding sees_unsafe_binder sees_fn_ptr sees_bindable begins_named sees_invisible sees_word sees_group after_one is_keyword
+fn_begins u i w l m n k (present is_word) j h = record { name = record { no_invisible = refl; no_for = refl; no_paren = refl; named = refl }; no_binder = no_lt_abi i w m n k j h; sees = refl; bindable = refl }
+fn_begins u i w l m n k absent (present (an_abi is_word j)) h = record { name = record { no_invisible = refl; no_for = refl; no_paren = refl; named = refl }; no_binder = refl; sees = refl; bindable = refl }
+fn_begins u i w l m n k absent absent is_word = record { name = record { no_invisible = refl; no_for = refl; no_paren = refl; named = refl }; no_binder = refl; sees = refl; bindable = refl }
+
+pub unsafe_begins : (w : token.Unsafe) (l m : Toks) → IsWord w l m → NameBegins l
+unfolding sees_fn_ptr sees_bindable begins_named sees_invisible sees_word sees_group is_keyword
+unsafe_begins w l m is_word = record { no_invisible = refl; no_for = refl; no_paren = refl; named = refl }
 
 -- ---- one turn, by the tests that come before a form
 

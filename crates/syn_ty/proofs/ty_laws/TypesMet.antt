@@ -1,20 +1,17 @@
 -- One turn of types is complete: a type that a list spells clearly in its place is what the reader answers, over the laws of the single forms.
-use Rattle.std.proofs.Common.{◌≡◌, ◌&&◌, ℕ, ◌≤◌, Bool, true, false, List, [], ◌∷◌, Option, Some, None, refl, sym, ◌∙◌, ap, subst}
+use Rattle.std.proofs.Common.{◌≡◌, ℕ, ◌≤◌, Bool, true, false, List, [], ◌∷◌, Option, Some, None, refl, sym, ◌∙◌, ap, subst}
 use Rattle.std.specs.List.{list_any}
 use Rattle.token_core.specs.declared.lifetime.Lifetime.{Lifetime}
 use Rattle.token_core.specs.declared.span.DelimSpan.{DelimSpan}
 use Rattle.token_core.specs.declared.span.Span.{Span}
-use Rattle.token_core.specs.declared.tree.Delimiter.TheVariants.{Parenthesis, Bracket}
-use Rattle.token_core.specs.declared.tree.Ident.{Ident}
+use Rattle.token_core.specs.declared.tree.Delimiter.TheVariants.{Parenthesis}
 use Rattle.token_core.specs.declared.tree.TokenStream.{TokenStream}
 use Rattle.token_core.specs.Groups as groups
-use Rattle.token_core.specs.Groups.{sees_invisible}
-use Rattle.token_core.specs.Keywords.{is_keyword}
 use Rattle.token_core.specs.Lifetimes.{sees_lifetime}
 use Rattle.token_core.specs.Listed.{AfterMark, Nowhere}
 use Rattle.token_core.specs.Loops.{Many}
-use Rattle.token_core.specs.Reads.{Reader, after_one, sees_group, sees_mark, sees_word}
-use Rattle.token_core.specs.Spellings.{IsMark, is_mark, last_char, IsWord, is_word, IsLifetime}
+use Rattle.token_core.specs.Reads.{Reader, sees_mark}
+use Rattle.token_core.specs.Spellings.{IsMark, is_mark, last_char, IsWord, IsLifetime}
 use Rattle.token_core.specs.Stream.{Scope}
 use Rattle.token_core.specs.Tokens as token
 use Rattle.token_core.specs.Toks.{Toks, done, group, mark, word}
@@ -45,12 +42,12 @@ use Rattle.syn_ty.specs.generics.Reading as generics
 use Rattle.syn_ty.specs.path.Signed.{IsReturn}
 use Rattle.syn_ty.specs.path.Spelling.{is_segment_word, IsAnyPath, unqualified, qualified}
 use Rattle.syn_ty.specs.ty.Admitted.{NoLifetime, IsVerbatimType, an_unsafe_binder, a_dyn_star, a_builtin, IsBorrow, a_borrow, a_mutable_borrow, a_lifetime_borrow, IsBracketed, bracketed, IsCounted, counted, IsEnclosed, enclosed, IsPointer, a_pointer, IsTupled, no_element, some_elements, IsType, a_path_type, a_macro as a_macro_type, a_bound_macro, an_object_with_dyn, an_object_without_dyn, an_impl_type, a_fn_type, a_ptr_type, a_reference_type, a_paren_type, a_tuple_type, a_slice_type, an_array_type, an_infer_type, a_never_type, a_verbatim_type}
-use Rattle.syn_ty.specs.ty.Functions.{IsAbi, an_abi, AreInputs, IsFnPtr, a_fn_ptr}
+use Rattle.syn_ty.specs.ty.Functions.{IsAbi, AreInputs, IsFnPtr, a_fn_ptr}
 use Rattle.syn_ty.specs.ty.Objects.{in_parens, AreBareBounds, path_alone, path_and_plus, held_and_plus, asked_first, asked_in_two, lifetime_first, AreFurther, AreObjectBounds, IsAsked, IsDyn, a_dyn, IsFirst, a_first, a_first_for, IsImpl, an_impl}
 use Rattle.syn_ty.specs.ty.Parts.{Manner, clearly, End, Parts, Holds}
 use Rattle.syn_ty.specs.ty.Points.{Readers}
 use Rattle.syn_ty.specs.ty.Reading as reading
-use Rattle.syn_ty.specs.ty.Reading.{begins_named, is_trait, object_of, sees_bindable, sees_fn_ptr, sees_unsafe_binder}
+use Rattle.syn_ty.specs.ty.Reading.{is_trait, object_of}
 use Rattle.syn_ty.specs.ty.Spelling.{IsInfer, an_infer, IsNever, a_never, IsOptional, absent, present}
 use Rattle.syn_ty.specs.ty.Trees.{BoundLifetimes, NamedArg, Path, QSelf, ReturnType, TypeArray, TypeFnPtr, TypeImplTrait, TypeParamBound, TypeParen, TypePtr, TypeReference, TypeSlice, TypeTraitObject, TypeTree, TypeTuple}
 use Rattle.syn_ty.specs.ty.Types.{fn_ptr_with, macro_type_of, qualified_with}
@@ -59,10 +56,10 @@ use Rattle.syn_ty.proofs.ty_laws.CallsMet.{as_path, bang_no_pound, bang_stops, c
 use Rattle.syn_ty.proofs.ty_laws.Complete.{infer_complete, never_complete}
 use Rattle.syn_ty.proofs.ty_laws.LessMet.{no_no, optional_no, some}
 use Rattle.syn_ty.proofs.ty_laws.Met.{Fits, Meets, PathStops, PathsMeet, Stops}
-use Rattle.syn_ty.proofs.ty_laws.NamedMet.{NameBegins, any_path_first, by_builtin, by_fn, by_path, by_unsafe, for_less, path_first, path_name, path_no_lt, perhaps_bound}
+use Rattle.syn_ty.proofs.ty_laws.NamedMet.{any_path_first, by_builtin, by_fn, by_path, by_unsafe, for_less, path_first, path_no_lt, perhaps_bound}
 use Rattle.syn_ty.proofs.ty_laws.PathsMet.{path_less}
 use Rattle.syn_ty.proofs.ty_laws.SignedMet.{left_after, path_stops}
-use Rattle.syn_ty.proofs.ty_laws.TokensMet.{Turn, and_turn, bang_turn, bracket_turn, dyn_turn, impl_turn, infer_turn, lifetime_turn, paren_turn, star_turn}
+use Rattle.syn_ty.proofs.ty_laws.TokensMet.{Turn, and_turn, bang_turn, bracket_turn, dyn_turn, fn_begins, impl_turn, infer_turn, lifetime_turn, paren_turn, star_turn, unsafe_begins, word_no_lt, word_no_sep}
 use Rattle.syn_ty.proofs.ty_laws.VerbatimMet.{builtin_begins, builtin_seen, builtin_type_met, unsafe_met, unsafe_seen}
 
 -- ---- the laws of the single forms
@@ -105,37 +102,7 @@ module _ {A E : Type 0} (attrs : Reader (List A)) (values : ReadValues E) (r : R
     -- a bound that begins with a lifetime is that lifetime
     pub life : (d : End) (x : TypeParamBound A E) (l k : Toks) → (part clearly).bound Object d x l k → sees_lifetime l ≡ true → (y : Lifetime) × IsLifetime y l k
 
--- ---- what forms begin with
-
--- a pointer to a function, after its binder
-record FnBegins (l : Toks) : Type 0 where
-  name : NameBegins l
-  no_binder : sees_unsafe_binder l ≡ false
-  sees : sees_fn_ptr l ≡ true
-  bindable : sees_bindable l ≡ true
-
-no_lt_abi : (i : Option Abi) (w : token.Fn) (l m n : Toks) → IsOptional IsAbi i l m → IsWord w m n → token.sees_lt l ≡ false
-unfolding sees_mark
-no_lt_abi i w l m n absent is_word = refl
-no_lt_abi i w l m n (present (an_abi is_word j)) h = refl
-
-fn_begins : (u : Option token.Unsafe) (i : Option Abi) (w : token.Fn) (l m n k : Toks) → IsOptional IsWord u l m → IsOptional IsAbi i m n → IsWord w n k → FnBegins l
-unfolding sees_unsafe_binder sees_fn_ptr sees_bindable begins_named sees_invisible sees_word sees_group after_one is_keyword
-fn_begins u i w l m n k (present is_word) j h = record { name = record { no_invisible = refl; no_for = refl; no_paren = refl; named = refl }; no_binder = no_lt_abi i w m n k j h; sees = refl; bindable = refl }
-fn_begins u i w l m n k absent (present (an_abi is_word j)) h = record { name = record { no_invisible = refl; no_for = refl; no_paren = refl; named = refl }; no_binder = refl; sees = refl; bindable = refl }
-fn_begins u i w l m n k absent absent is_word = record { name = record { no_invisible = refl; no_for = refl; no_paren = refl; named = refl }; no_binder = refl; sees = refl; bindable = refl }
-
-unsafe_begins : (w : token.Unsafe) (l m : Toks) → IsWord w l m → NameBegins l
-unfolding sees_fn_ptr sees_bindable begins_named sees_invisible sees_word sees_group is_keyword
-unsafe_begins w l m is_word = record { no_invisible = refl; no_for = refl; no_paren = refl; named = refl }
-
-no_lt_word : (i : Ident) (k : Toks) → token.sees_lt (word i k) ≡ false
-unfolding sees_mark
-no_lt_word i k = refl
-
-no_sep_word : (i : Ident) (k : Toks) → sees_sep (word i k) ≡ false
-unfolding sees_mark
-no_sep_word i k = refl
+-- ---- what follows
 
 plus_no_pound : (p : token.Plus) (l r : Toks) → IsMark true p l r → token.sees_pound l ≡ false
 unfolding sees_mark
@@ -170,12 +137,12 @@ module _ {A E : Type 0} (attrs : Reader (List A)) (values : ReadValues E) (r : R
       ((d : Span) → Reads_to (reading.path_or_object r plus o (None, p)) x n k f d sc) → OneTurn x l k f e sc
   first_turn None p x l n k f e sc lim (a_first i w) stops np goes =
       let b = path_first part meets.firsts p l n i w in
-      perhaps_bound attrs values r part limit meets.firsts forms.binder place x None l l k f e sc lim absent (path_name l b.after b.begins) (λ q. cc q)
+      perhaps_bound attrs values r part limit meets.firsts forms.binder place x None l l k f e sc lim absent b.begins.name (λ q. cc q)
       (λ d. by_path attrs values r part limit meets.firsts forms.binder place paths (position (at l f e sc)) None None p x l n k f d sc lim b np (unqualified i) stops (λ q. cc q) goes)
   first_turn (Some y) p x l n k f e sc lim (a_first_for {m = m} j i w c) stops np goes =
       let b = path_first part meets.firsts p m n i w in
       let light = for_light (Some y) l m (present j) in
-      perhaps_bound attrs values r part limit meets.firsts forms.binder place x (Some y) l m k f e sc lim (present j) (path_name m b.after b.begins) (λ q. b.begins.bindable c (path_no_lt part meets.firsts p m n i))
+      perhaps_bound attrs values r part limit meets.firsts forms.binder place x (Some y) l m k f e sc lim (present j) b.begins.name (λ q. b.begins.bindable c (path_no_lt part meets.firsts p m n i))
       (λ d. by_path attrs values r part limit meets.firsts forms.binder place paths (position (at l f e sc)) (Some y) None p x m n k f d sc (left_after l m f f e d sc limit light lim) b np (unqualified i) stops (λ q. cc q) goes)
 
   path_turn : (o : Option (QSelf A E)) (p : Path A E) (l k : Toks) (f : Option Span) (e : Span) (sc : Scope) → ahead (at l f e sc) ≤ limit → IsAnyPath part clearly AsWritten o p l k → token.sees_try l ≡ false → Stops k → token.sees_pound k ≡ false →
@@ -184,7 +151,7 @@ module _ {A E : Type 0} (attrs : Reader (List A)) (values : ReadValues E) (r : R
       first_turn None p (v.Path (qualified_with [] None p)) l k k f e sc lim (a_first i w) (path_stops k stops) np (λ d. path_goes r plus p k f d sc stops.no_call (no_plus_follows plus k no_plus))
   path_turn (Some q) p l k f e sc lim (qualified i) w stops np no_plus =
       let b = any_path_first part meets.firsts (Some q) p l k (qualified i) w in
-      perhaps_bound attrs values r part limit meets.firsts forms.binder place (v.Path (qualified_with [] (Some q) p)) None l l k f e sc lim absent (path_name l b.after b.begins) (λ z. cc z)
+      perhaps_bound attrs values r part limit meets.firsts forms.binder place (v.Path (qualified_with [] (Some q) p)) None l l k f e sc lim absent b.begins.name (λ z. cc z)
       (λ d. by_path attrs values r part limit meets.firsts forms.binder place paths (position (at l f e sc)) None (Some q) p (v.Path (qualified_with [] (Some q) p)) l k k f d sc lim b np (qualified i) (path_stops k stops)
       (λ z. stops.no_sep) (λ c. qualified_goes r plus None q p k f c sc))
 
@@ -254,7 +221,7 @@ module _ {A E : Type 0} (attrs : Reader (List A)) (values : ReadValues E) (r : R
   verbatim_turn d t l k f e sc lim (a_builtin {b = b} {w = w} {i = i} {p = p} {s = s} {m = m} {c = c} a h j g) holds fits no_plus =
       let begins = builtin_begins w m h in
       let sees = builtin_seen w p m (word i (group Parenthesis s c k)) h j in
-      perhaps_bound attrs values r part limit meets.firsts forms.binder place (v.Verbatim t) b l (word w m) k f e sc lim a (path_name (word w m) m begins) (λ q. begins.bindable (no_sep_word w m) (no_lt_word w m))
+      perhaps_bound attrs values r part limit meets.firsts forms.binder place (v.Verbatim t) b l (word w m) k f e sc lim a begins.name (λ q. begins.bindable (word_no_sep w m) (word_no_lt w m))
       (λ q. by_builtin attrs values r part limit meets.firsts forms.binder place (position (at l f e sc)) b (v.Verbatim t) (word w m) m k f q sc begins sees (builtin_type_met t w i p s l m c k f e q sc j g holds))
 
   -- ---- forms by their first words, marks and groups

@@ -1,5 +1,5 @@
 -- A type that is held as it was written and begins with `unsafe` and lifetimes, or with `builtin #`, perhaps after a binder, is read where its form is spelt clearly.
-use Rattle.std.proofs.Common.{◌≡◌, ℕ, ◌≤◌, Bool, true, false, not, ◌&&◌, ◌||◌, List, Option, Some, Ok, Err, if◌then◌else◌, refl, sym, ◌∙◌, ap, arith}
+use Rattle.std.proofs.Common.{◌≡◌, ℕ, ◌≤◌, Bool, true, false, not, ◌&&◌, List, Option, Ok, Err, if◌then◌else◌, refl, ◌∙◌, ap, arith}
 use Rattle.std.proofs.lemmas.Slice.Eq.{bytes_eq-Decides}
 use Rattle.token_core.specs.declared.lifetime.Lifetime.{Lifetime}
 use Rattle.token_core.specs.declared.span.DelimSpan.{DelimSpan}
@@ -32,13 +32,13 @@ use Rattle.syn_forms.specs.verbatim.Reading.{position}
 use Rattle.syn_forms.proofs.lists_laws.Complete.{listed_here}
 use Rattle.syn_ty.specs.declared.ty.TypeOf.TheVariants as v
 use Rattle.syn_ty.specs.ty.Parts.{Manner, clearly, End, Parts, Holds}
-use Rattle.syn_ty.specs.ty.Points.{Readers, a_type}
+use Rattle.syn_ty.specs.ty.Points.{Readers}
 use Rattle.syn_ty.specs.ty.Reading as reading
-use Rattle.syn_ty.specs.ty.Reading.{begins_named, last_place, sees_bindable, sees_builtin, sees_fn_ptr, sees_unsafe_binder}
+use Rattle.syn_ty.specs.ty.Reading.{last_place, sees_bindable, sees_builtin, sees_fn_ptr, sees_unsafe_binder}
 use Rattle.syn_ty.specs.ty.Trees.{TypeTree}
 use Rattle.syn_ty.proofs.ty_laws.CaptureMet.{since_met}
 use Rattle.syn_ty.proofs.ty_laws.Complete.{later}
-use Rattle.syn_ty.proofs.ty_laws.LessMet.{less_no, listed_no, lifetime_takes, mark_no, no_no, some, word_takes}
+use Rattle.syn_ty.proofs.ty_laws.LessMet.{less_no, listed_no, lifetime_takes, mark_no, no_no, word_takes}
 use Rattle.syn_ty.proofs.ty_laws.Met.{Fits, Meets, NoMore}
 use Rattle.syn_ty.proofs.ty_laws.TokensMet.{PathBegins, word_begins}
 

@@ -1,0 +1,72 @@
+-- Segments and paths print clearly in their normal form in each style, where the arguments of a segment do; and what does not begin with `try` prints no `try` at its start.
+use Rattle.std.proofs.Common.{◌≡◌, Bool, true, false, List, [], ◌++◌, Option, Some, None, refl, sym, ◌∙◌, ap, subst}
+use Rattle.token_core.specs.declared.tree.Ident.{Ident}
+use Rattle.token_core.specs.Listed.{Nowhere}
+use Rattle.token_core.specs.Loops.{Many}
+use Rattle.token_core.specs.Prints as p
+use Rattle.token_core.specs.Prints.{Print}
+use Rattle.token_core.specs.Spellings.{IsMark}
+use Rattle.token_core.specs.Toks.{Toks, word}
+use Rattle.syn_path.specs.declared.path.PathStyle.{PathStyle}
+use Rattle.syn_path.specs.declared.path.PathStyle.TheVariants.{AsWritten}
+use Rattle.syn_path.specs.path.Paths.{segment_of, path_of}
+use Rattle.syn_path.specs.path.Shapes.{segment_by, path_by}
+use Rattle.syn_path.specs.Values.{NormalValues, Values}
+use Rattle.syn_path.proofs.Words.{AgainFront}
+use Rattle.syn_forms.specs.paths.Reading.{is_named_word, with_arguments}
+use Rattle.syn_ty.specs.generics.NormalShapes.{many}
+use Rattle.syn_ty.specs.path.Paths.{Sep, no_arguments}
+use Rattle.syn_ty.specs.path.Printing as paths
+use Rattle.syn_ty.specs.path.Spelling.{is_segment_word, Styled, IsSegment, a_word, a_word_with_arguments, AreSegments, IsPath, a_path}
+use Rattle.syn_ty.specs.ty.Normal as normal
+use Rattle.syn_ty.specs.ty.Parts.{Manner, plainly, clearly, Parts}
+use Rattle.syn_ty.specs.ty.Printing as printing
+use Rattle.syn_ty.specs.ty.Trees.{Path, PathArguments, PathSegment}
+use Rattle.syn_ty.proofs.ty_laws.Again.{Again}
+use Rattle.syn_ty.proofs.ty_laws.AnglesAgain.{Then, then_front, made_front, IsIdent, ident_front, optional_front}
+use Rattle.syn_ty.proofs.ty_laws.NormalsAgain.{normal-None}
+use Rattle.syn_ty.proofs.ty_laws.Prints.{arguments-None}
+use Rattle.syn_ty.proofs.ty_laws.Reprint.{mark_front, listed_front}
+
+module _ {A E : Type 0} (na : List A → List A) (ne : NormalValues E) (pa : List A → Print) (pe : Values E) (part : Manner → Parts A E) where
+  -- the arguments of a segment that may stand in this style print clearly in it
+  abbrev pub IsStyled : PathStyle → PathArguments A E → Toks → Toks → Type 0
+  IsStyled style z l r = Styled style l × (part clearly).arguments z l r
+
+  abbrev pub StyledAgain : PathStyle → Type 0
+  StyledAgain style = (x : PathArguments A E) (l r : Toks) → Styled style l → (part plainly).arguments x l r → AgainFront (IsStyled style) (normal.arguments na ne) (printing.arguments pa pe style) x l r
+
+  -- in that of types each does
+  pub written_again : Again na ne pa pe part → StyledAgain AsWritten
+  written_again again x l r s i = let k = again.arguments x l r i in record { spelt = λ h. (tt, k.spelt h); visible = k.visible; seen = k.seen; stays = k.stays; same = k.same }
+
+  module _ (style : PathStyle) (styled : StyledAgain style) where
+    abbrev make_segment : Ident × PathArguments A E → PathSegment A E
+    make_segment z = with_arguments z.0 z.1
+
+    named : (z : Ident × PathArguments A E) (l r : Toks) → Then (IsIdent is_named_word) (IsStyled style) z l r → IsSegment part clearly style (make_segment z) l r
+    named z l r i = subst (λ k. IsSegment part clearly style (make_segment z) k r) (sym i.1.1) (a_word_with_arguments i.1.0 i.2.0 i.2.1)
+
+    pub segment_again : (x : PathSegment A E) (l r : Toks) → IsSegment part plainly style x l r → AgainFront (IsSegment part clearly style) (normal.segment na ne) (paths.segment pa pe style) x l r
+    segment_again x l r (a_word {i = i} h) =
+        made_front (IsIdent is_segment_word) (IsSegment part clearly style) (λ (z : Ident). z) (normal.segment na ne) (λ (z : Ident). p.ident z) (paths.segment pa pe style) (segment_of no_arguments)
+        (λ x l r i. subst (λ k. IsSegment part clearly style (segment_of no_arguments x) k r) (sym i.1) (a_word i.0))
+        (λ x. ap (λ z. segment_of z x) (normal-None na ne)) (λ x. ap (λ z. p.ident x ++ z) (arguments-None pa pe style)) i l r (ident_front is_segment_word i r h)
+    segment_again x l r (a_word_with_arguments {i = i} {x = y} {l = m} h s t) =
+        made_front (Then (IsIdent is_named_word) (IsStyled style)) (IsSegment part clearly style) _ (normal.segment na ne) _ (paths.segment pa pe style) make_segment named (λ x. refl) (λ x. refl) (i, y) l r
+        (then_front (ident_front is_named_word i m h) (styled y m r s t))
+
+    -- segments joined by `::`
+    abbrev pub Segments : Many (PathSegment A E) Sep → Toks → Toks → Type 0
+    Segments z = AreSegments part clearly style z.0 z.1
+
+    pub segments_again : (xs : List (PathSegment A E)) (cs : List Sep) (l r : Toks) → AreSegments part plainly style xs cs l r →
+        AgainFront Segments (many (normal.segment na ne)) (paths.segments pa pe style) (xs, cs) l r
+    segments_again xs cs l r i =
+        listed_front (λ (b : Bool). IsSegment part plainly style) (λ (b : Bool). IsSegment part clearly style) (IsMark false) (IsMark true) Nowhere (normal.segment na ne) (paths.segment pa pe style) p.mark
+        (λ b. segment_again) mark_front true xs cs l r i
+
+    pub path_again : (x : Path A E) (l r : Toks) → IsPath part plainly style x l r → AgainFront (IsPath part clearly style) (normal.path na ne) (paths.path pa pe style) x l r
+    path_again x l r (a_path {c = c} {xs = xs} {cs = cs} {m = m} i t) =
+        made_front (Then _ Segments) (IsPath part clearly style) _ (normal.path na ne) _ (paths.path pa pe style) (λ (z : Option Sep × Many (PathSegment A E) Sep). path_of z.0 z.1)
+        (λ x l r i. a_path i.1 i.2) (λ x. refl) (λ x. refl) (c, (xs, cs)) l r (then_front (optional_front c l m i) (segments_again xs cs m r t))
