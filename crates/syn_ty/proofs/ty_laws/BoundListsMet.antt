@@ -33,7 +33,7 @@ plus_less p l r (is_mark (last_char x)) = record { lighter = omega arith; shorte
 -- a bound and a type stop there
 pub plus_stops : (p : token.Plus) (l r : Toks) → IsMark true p l r → Stops l
 unfolding sees_mark sees_lifetime sees_group sees_call
-plus_stops p l r (is_mark (last_char x)) = record { no_sep = refl; no_angle = refl; no_call = refl; no_arrow = refl; no_question = refl; no_lifetime = refl; no_paren = refl; no_bracket = refl }
+plus_stops p l r (is_mark (last_char x)) = record { no_sep = refl; no_angle = refl; no_call = refl; no_arrow = refl; no_question = refl; no_lifetime = refl; no_paren = refl; no_bracket = refl; no_pound = refl }
 
 pub plus_no_word : (p : token.Plus) (l r : Toks) → IsMark true p l r → sees_word any_text l ≡ false
 unfolding sees_word

@@ -43,7 +43,7 @@ use Rattle.syn_ty.proofs.ty_laws.TraitsMet.{const_in_met, const_named, trait_in_
 -- nothing follows what is all of a content
 pub done_fits : (d : End) → Fits d done
 unfolding sees_mark sees_lifetime sees_group sees_word sees_call
-done_fits d = record { stops = record { no_sep = refl; no_angle = refl; no_call = refl; no_arrow = refl; no_question = refl; no_lifetime = refl; no_paren = refl; no_bracket = refl }; no_plus = λ h. refl; no_word = λ h. refl }
+done_fits d = record { stops = record { no_sep = refl; no_angle = refl; no_call = refl; no_arrow = refl; no_question = refl; no_lifetime = refl; no_paren = refl; no_bracket = refl; no_pound = refl }; no_plus = λ h. refl; no_word = λ h. refl }
 
 -- a capture begins with `use`
 capture_begins : (x : PreciseCapture) (l k : Toks) → IsCapture true x l k → (sees_lifetime l ≡ false) × (token.sees_use l ≡ true)

@@ -1,7 +1,7 @@
 -- Predicates and where clauses that a list spells clearly are what their reads answer, and they take no more: over the reads of what they hold, and by themselves.
-use Rattle.std.proofs.lemmas.Bool.{lt-ltb}
+use Rattle.std.proofs.lemmas.Bool.{eqb-true, lt-ltb}
 use Rattle.std.proofs.lemmas.Slice.Eq.{bytes_eq-Decides}
-use Rattle.std.proofs.Common.{◌≡◌, ◌⊎◌, ℕ, ◌<◌, ◌≤◌, Bool, true, false, not, ◌&&◌, ◌||◌, ◌==◌, List, [], ◌∷◌, Option, Some, None, Ok, inl, inr, refl, sym, ◌∙◌, ap, subst, arith}
+use Rattle.std.proofs.Common.{◌≡◌, ◌⊎◌, ℕ, ◌<◌, ◌≤◌, Bool, true, false, not, ◌&&◌, ◌||◌, ◌==◌, if◌then◌else◌, List, [], ◌∷◌, Option, Some, None, is_some, Ok, inl, inr, refl, sym, ◌∙◌, ap, subst, arith}
 use Rattle.token_core.specs.declared.lifetime.Lifetime.{Lifetime}
 use Rattle.token_core.specs.declared.span.Span.{Span}
 use Rattle.token_core.specs.declared.span.DelimSpan.{DelimSpan}
@@ -41,6 +41,7 @@ use Rattle.syn_forms.specs.declared.places.BoundPlace.TheVariants.{Parameter}
 use Rattle.syn_forms.specs.declared.places.ParamPlace.TheVariants.{Binder}
 use Rattle.syn_forms.specs.declared.places.TypePlace.{TypePlace}
 use Rattle.syn_forms.specs.declared.places.TypePlace.TheVariants.{Bounded, Plus}
+use Rattle.syn_forms.specs.inputs.Reading.{sees_ident_or_underscore, sees_name}
 use Rattle.syn_forms.specs.lists.Reading.{bounds_to}
 use Rattle.syn_forms.specs.nested.Below.{ahead, below_if, held}
 use Rattle.syn_forms.specs.paths.Reading.{is_named_word, sees_turbofish}
@@ -580,7 +581,7 @@ module _ {A E : Type 0} (part : Manner → Parts A E) where
 
     -- ---- every form
 
-    pub type_starts : (place : TypePlace) (d : End) (x : TypeTree A E) (l k : Toks) → IsType part clearly place d x l k → Starts l k
+    type_starts : (place : TypePlace) (d : End) (x : TypeTree A E) (l k : Toks) → IsType part clearly place d x l k → Starts l k
     unfolding is_keyword sees_mark
     type_starts place d x l k (a_path_type {o = o} {p = p} i) = any_path_starts o p l k i.0
     type_starts place d x l k (a_macro {x = y} i) = call_starts y l k i.0
@@ -601,3 +602,177 @@ module _ {A E : Type 0} (part : Manner → Parts A E) where
     type_starts place d x l k (an_infer_type (an_infer {w = w} i)) = word_starts {n = 19} w l k k refl refl i
     type_starts place d x l k (a_never_type (a_never (is_mark (last_char y)))) = at_mark (record { no_comma = refl; no_semi = refl; no_lt = refl; no_equals = refl }) refl
     type_starts place d x l k (a_verbatim_type i h) = verbatim_starts place d l k i
+
+-- ---- what is told by how a type begins
+
+-- a lifetime
+quote_if : {T : Type 0} (p : Punct) (b : Bool) (o : Option T) → (p.ch == 39) ≡ b → is_some (if b then o else None) ≡ true → p.ch ≡ 39
+quote_if p true o h e = eqb-true p.ch 39 h
+quote_if p false o h e = cc e
+
+quote_is : (p : Punct) (k : Toks) → sees_lifetime (mark p k) ≡ true → p.ch ≡ 39
+unfolding sees_lifetime
+quote_is p k h = quote_if p (p.ch == 39) _ refl h
+
+life_no_word : (test : Bytes → Bool) (l : Toks) → sees_lifetime l ≡ true → sees_word test l ≡ false
+unfolding sees_lifetime sees_word
+life_no_word test done h = refl
+life_no_word test (word i k) h = cc h
+life_no_word test (mark p k) h = refl
+life_no_word test (lit x k) h = refl
+life_no_word test (group x s c k) h = refl
+life_no_word test (enter s k) h = life_no_word test k h
+life_no_word test (leave k) h = life_no_word test k h
+
+quote_no_mark : (x : ℕ) (xs : List ℕ) (l : Toks) → (39 == x) ≡ false → sees_lifetime l ≡ true → sees_mark (x ∷ xs) l ≡ false
+unfolding sees_lifetime sees_mark
+quote_no_mark x xs done n h = refl
+quote_no_mark x xs (word i k) n h = refl
+quote_no_mark x xs (mark p k) n h = no_mark-other x xs p k (ap (λ z. z == x) (quote_is p k h) ∙ n)
+quote_no_mark x xs (lit y k) n h = refl
+quote_no_mark x xs (group y s c k) n h = refl
+quote_no_mark x xs (enter s k) n h = quote_no_mark x xs k n h
+quote_no_mark x xs (leave k) n h = quote_no_mark x xs k n h
+
+life_there : (l : Toks) → sees_lifetime l ≡ true → is_done l ≡ false
+unfolding sees_lifetime is_done
+life_there done h = cc h
+life_there (word i k) h = refl
+life_there (mark p k) h = refl
+life_there (lit x k) h = refl
+life_there (group x s c k) h = refl
+life_there (enter s k) h = life_there k h
+life_there (leave k) h = life_there k h
+
+life_no_brace : (l : Toks) → sees_lifetime l ≡ true → sees_group Brace l ≡ false
+unfolding sees_lifetime sees_group
+life_no_brace done h = refl
+life_no_brace (word i k) h = refl
+life_no_brace (mark p k) h = refl
+life_no_brace (lit x k) h = refl
+life_no_brace (group x s c k) h = cc h
+life_no_brace (enter s k) h = life_no_brace k h
+life_no_brace (leave k) h = life_no_brace k h
+
+life_unended : (l : Toks) → sees_lifetime l ≡ true → ends_predicate l ≡ false
+unfolding ends_predicate
+life_unended l h =
+    none_of_six (is_done l) (sees_group Brace l) (token.sees_comma l) (token.sees_semi l) (token.sees_colon l && not (token.sees_path_sep l)) (token.sees_equals l)
+    (life_there l h) (life_no_brace l h) (quote_no_mark 44 [] l refl h) (quote_no_mark 59 [] l refl h) (ap (λ b. b && not (token.sees_path_sep l)) (quote_no_mark 58 [] l refl h)) (quote_no_mark 61 [] l refl h)
+
+first_false : (a b : Bool) → (a ≡ true → b ≡ false) → a && b ≡ false
+first_false true b h = h refl
+first_false false b h = refl
+
+goes_unseen : (c : ℕ) (m k : Toks) → Ending c → sees_mark (c ∷ []) k ≡ false → After m k → sees_mark (c ∷ []) m ≡ false
+goes_unseen c m k e h it_ends = h
+goes_unseen c m k e h (it_goes g) = g c e
+
+-- no word `const` begins a type; and where one begins with an `Ident`, a comma or a `=` after it follows the type
+pub record Heads (l k : Toks) : Type 0 where
+  pub no_const : token.sees_const l ≡ false
+  pub alone : (c : ℕ) → Ending c → sees_mark (c ∷ []) k ≡ false → (sees_ident l && second (sees_mark (c ∷ [])) l) ≡ false
+
+module _ {A E : Type 0} (part : Manner → Parts A E) where
+  starts_no_const : (l k : Toks) → Starts part l k → token.sees_const l ≡ false
+  unfolding sees_word
+  starts_no_const l k (at_word h g) = h
+  starts_no_const l k (at_mark b e) = refl
+  starts_no_const l k at_paren = refl
+  starts_no_const l k at_bracket = refl
+  starts_no_const l k (at_life h) = life_no_word (is_text token.const_text) l h
+  starts_no_const l k (at_angle (is_mark (last_char x)) t e) = refl
+
+  starts_alone : (c : ℕ) (l k : Toks) → Ending c → sees_mark (c ∷ []) k ≡ false → Starts part l k → (sees_ident l && second (sees_mark (c ∷ [])) l) ≡ false
+  unfolding sees_word after_one
+  starts_alone c l k e h (at_word {i = i} {m = m} n g) = first_false (is_ident i.text) _ (λ u. goes_unseen c m k e h (g u))
+  starts_alone c l k e h (at_mark b q) = refl
+  starts_alone c l k e h at_paren = refl
+  starts_alone c l k e h at_bracket = refl
+  starts_alone c l k e h (at_life g) = ap (λ b. b && second (sees_mark (c ∷ [])) l) (life_no_word is_ident l g)
+  starts_alone c l k e h (at_angle (is_mark (last_char x)) t q) = refl
+
+  starts_go : (l k : Toks) → Starts part l k → ends_predicate l ≡ false
+  unfolding ends_predicate is_done sees_group sees_mark
+  starts_go l k (at_word h g) = refl
+  starts_go l k (at_mark {p = p} {m = m} b e) = none_of_six false false _ _ _ _ refl refl (no_mark-other 44 [] p m b.no_comma) (no_mark-other 59 [] p m b.no_semi) e (no_mark-other 61 [] p m b.no_equals)
+  starts_go l k at_paren = refl
+  starts_go l k at_bracket = refl
+  starts_go l k (at_life h) = life_unended l h
+  starts_go l k (at_angle (is_mark (last_char x)) t e) = refl
+
+  starts_lt : (l k : Toks) → Starts part l k → (token.sees_lt l ≡ false) ⊎ ((o : token.Lt) × (d : End) × (x : TypeTree A E) × (m : Toks) × (n : Toks) × IsMark true o l m × (part clearly).ty Plus d x m n × ((c : ℕ) → (62 == c) ≡ false → sees_mark (c ∷ []) n ≡ false))
+  unfolding sees_mark
+  starts_lt l k (at_word h g) = inl refl
+  starts_lt l k (at_mark {p = p} {m = m} b e) = inl (no_mark-other 60 [] p m b.no_lt)
+  starts_lt l k at_paren = inl refl
+  starts_lt l k at_bracket = inl refl
+  starts_lt l k (at_life h) = inl (quote_no_mark 60 [] l refl h)
+  starts_lt l k (at_angle {o = o} {d = d} {x = x} {m = m} {n = n} i t e) = inr (o, d, x, m, n, i, t, e)
+
+  -- ---- after a `<`
+
+  comma_ending : Ending 44
+  comma_ending = record { no_bang = refl; no_pound = refl; no_plus = refl; no_colon = refl; no_lt = refl }
+
+  equals_ending : Ending 61
+  equals_ending = record { no_bang = refl; no_pound = refl; no_plus = refl; no_colon = refl; no_lt = refl }
+
+  third_seen : (o : Option Toks) (c : ℕ) → (43 == c) ≡ false → meets token.sees_plus o ≡ true → meets (sees_mark (c ∷ [])) o ≡ false
+  third_seen None c n h = refl
+  third_seen (Some m) c n h = other_char 43 c [] [] m n h
+
+  none_of_four : (a b c d : Bool) → a ≡ false → b ≡ false → c ≡ false → d ≡ false → a || (b || (c || d)) ≡ false
+  none_of_four false false false d h i j k = k
+  none_of_four false false true d h i j k = cc j
+  none_of_four false true c d h i j k = cc i
+  none_of_four true b c d h i j k = cc h
+
+  neither : (a b c : Bool) → (a ≡ true → c ≡ false) → (b ≡ true → c ≡ false) → (a || b) && c ≡ false
+  neither true b c h g = h refl
+  neither false true c h g = g refl
+  neither false false c h g = refl
+
+  second_false : (a b : Bool) → a ≡ true → a && b ≡ false → b ≡ false
+  second_false true b h g = g
+  second_false false b h g = cc h
+
+  lone_plus : (a b : Bool) → a ≡ true → a && not b ≡ false → b ≡ true
+  lone_plus true true h g = refl
+  lone_plus true false h g = cc g
+  lone_plus false b h g = cc h
+
+  -- what stands behind a first Ident: no `:` but that of `::`, where none follows the type
+  name_colon : (m n : Toks) → TypeBegins m n → token.sees_colon n ≡ false → sees_ident m ≡ true → (second token.sees_colon m && not (second token.sees_path_sep m)) ≡ false
+  unfolding sees_name
+  name_colon m n b h i = second_false (sees_ident_or_underscore m || (false && token.sees_self_value m)) _ (left_or _ _ (left_or (sees_ident m) _ i)) (b.no_name h false)
+
+  angle_plain : (o : token.Lt) (l m n : Toks) → IsMark true o l m → TypeBegins m n → Heads m n → ((c : ℕ) → (62 == c) ≡ false → sees_mark (c ∷ []) n ≡ false) → begins_as_generics l ≡ false → sees_generics l ≡ false
+  unfolding sees_generics sees_first_param sees_lone_lifetime after_one sees_mark
+  angle_plain o l m n (is_mark (last_char x)) b g e h =
+      let plus = λ (i : sees_lifetime m ≡ true). lone_plus (sees_lifetime m) (second token.sees_plus m) i b.no_lone in
+      let last = (second token.sees_colon m && not (second token.sees_path_sep m)) in
+      none_of_four (token.sees_gt m) (token.sees_pound m) ((sees_lifetime m || sees_ident m) && (second token.sees_gt m || (second token.sees_comma m || (last || second token.sees_equals m)))) (token.sees_const m) b.no_gt b.no_pound
+      (neither (sees_lifetime m) (sees_ident m) _
+          (λ i. none_of_four (second token.sees_gt m) (second token.sees_comma m) last (second token.sees_equals m) (third_seen (after_one m) 62 refl (plus i)) (third_seen (after_one m) 44 refl (plus i))
+              (ap (λ z. z && not (second token.sees_path_sep m)) (third_seen (after_one m) 58 refl (plus i))) (third_seen (after_one m) 61 refl (plus i)))
+          (λ i. none_of_four (second token.sees_gt m) (second token.sees_comma m) last (second token.sees_equals m) (second_false (sees_ident m) (second token.sees_gt m) i h)
+              (second_false (sees_ident m) _ i (g.alone 44 comma_ending (e 44 refl))) (name_colon m n b (e 58 refl) i) (second_false (sees_ident m) _ i (g.alone 61 equals_ending (e 61 refl)))))
+      g.no_const
+
+  -- ---- by the rules of types, what a predicate's type begins with
+
+  module _ (firsts : Firsts part) where
+    pub type_heads : (place : TypePlace) (d : End) (x : TypeTree A E) (l k : Toks) → IsType part clearly place d x l k → Heads l k
+    type_heads place d x l k i = let s = type_starts part firsts place d x l k i in record { no_const = starts_no_const l k s; alone = λ c e h. starts_alone c l k e h s }
+
+    pub type_goes : (place : TypePlace) (d : End) (x : TypeTree A E) (l k : Toks) → IsType part clearly place d x l k → ends_predicate l ≡ false
+    type_goes place d x l k i = starts_go l k (type_starts part firsts place d x l k i)
+
+    -- over the types within
+    pub type_plain : ((d : End) (x : TypeTree A E) (l k : Toks) → (part clearly).ty Plus d x l k → Heads l k) → (place : TypePlace) (d : End) (x : TypeTree A E) (l k : Toks) → IsType part clearly place d x l k → begins_as_generics l ≡ false → sees_generics l ≡ false
+    type_plain heads place d x l k i h =
+        elim (starts_lt l k (type_starts part firsts place d x l k i)) [
+          | inl n ↦ no_angle l n
+          | inr q ↦ angle_plain q.0 l q.3 q.4 q.5 (firsts.ty Plus q.1 q.2 q.3 q.4 q.6).0 (heads q.1 q.2 q.3 q.4 q.6) q.7 h
+        ]

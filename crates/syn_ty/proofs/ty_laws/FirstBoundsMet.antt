@@ -94,7 +94,7 @@ module _ {A E : Type 0} {part : Manner → Parts A E} (s : Starts part) where
 
   pub return_no : (p : TypePlace) (e : End) (o : ReturnType A E) (l k : Toks) → IsReturn part clearly p e o l k → NoMore l k
   return_no p e o l k no_output = same
-  return_no p e o l k (an_output {c = c} {x = x} {m = m} i t) = no_no (mark_no c l m i) (some (s.ty p e x m k t).1)
+  return_no p e o l k (an_output {c = c} {x = x} {m = m} i t) = no_no (mark_no c l m i) (some (s.firsts.ty p e x m k t).1)
 
   parens_less : (e : End) (x : Parenthesized A E) (l k : Toks) → IsParens part clearly e x l k → Less l k
   parens_less e x l k (a_parens {s = a} {o = o} {c = c} {m = m} i t) = less_no (group_less Parenthesis a c m) (return_no NoPlus e o m k t)
@@ -146,7 +146,7 @@ module _ {A E : Type 0} {part : Manner → Parts A E} (s : Starts part) where
 
   pub binder_less : (x : BoundLifetimes A E) (l k : Toks) → IsFor part clearly x l k → Less l k
   binder_less x l k (a_binder {f = f} {o = o} {xs = xs} {cs = cs} {c = g} {m = m} {n = n} {k = j} i d v e) =
-      less_no (word_takes f l m i) (no_no (mark_no o m n d) (no_no (listed_no (λ b y t u w. (s.param Binder y t u w).1) mark_no true xs cs n j v) (mark_no g j k e)))
+      less_no (word_takes f l m i) (no_no (mark_no o m n d) (no_no (listed_no (λ b y t u w. (s.firsts.param Binder y t u w).1) mark_no true xs cs n j v) (mark_no g j k e)))
 
   binder_starts : (place : BoundPlace) (x : BoundLifetimes A E) (l k : Toks) → IsFor part clearly x l k → BoundStarts place l
   binder_starts place x l k (a_binder is_word d v e) = at_word
@@ -206,14 +206,14 @@ module _ {A E : Type 0} {part : Manner → Parts A E} (s : Starts part) where
     pub bounds_no : (b : Bool) (e : End) (xs : List (TypeParamBound A E)) (ps : List token.Plus) (l k : Toks) → AreBounds part clearly place Ends b e xs ps l k → NoMore l k
     bounds_no b e xs ps l k (no_bounds h) = same
     bounds_no b e xs ps l k (last_plus h) = same
-    bounds_no b e xs ps l k (last_bound {e = d} {x = x} i) = some (s.bound place d x l k i).1
-    bounds_no b e xs ps l k (bound_and_plus {e = d} {f = f} {x = x} {p = p} {xs = ys} {ps = qs} {m = m} {k = n} i o j t) = no_no (some (s.bound place d x l m i).1) (no_no (mark_no p m n j) (bounds_no false f ys qs n k t))
+    bounds_no b e xs ps l k (last_bound {e = d} {x = x} i) = some (s.firsts.bound place d x l k i).1
+    bounds_no b e xs ps l k (bound_and_plus {e = d} {f = f} {x = x} {p = p} {xs = ys} {ps = qs} {m = m} {k = n} i o j t) = no_no (some (s.firsts.bound place d x l m i).1) (no_no (mark_no p m n j) (bounds_no false f ys qs n k t))
 
     -- where one is there
     pub bounds_start : (b : Bool) → (Ends b → ⊥) → (e : End) (xs : List (TypeParamBound A E)) (ps : List token.Plus) (l k : Toks) → AreBounds part clearly place Ends b e xs ps l k → BoundBegins place l × Less l k
     bounds_start b never e xs ps l k (no_bounds h) = absurd (never h)
     bounds_start b never e xs ps l k (last_plus h) = absurd (never h)
-    bounds_start b never e xs ps l k (last_bound {e = d} {x = x} i) = s.bound place d x l k i
+    bounds_start b never e xs ps l k (last_bound {e = d} {x = x} i) = s.firsts.bound place d x l k i
     bounds_start b never e xs ps l k (bound_and_plus {e = d} {f = f} {x = x} {p = p} {xs = ys} {ps = qs} {m = m} {k = n} i o j t) =
-        let h = s.bound place d x l m i in
+        let h = s.firsts.bound place d x l m i in
         (h.0, less_no h.1 (no_no (mark_no p m n j) (bounds_no false f ys qs n k t)))

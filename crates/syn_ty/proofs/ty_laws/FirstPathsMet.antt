@@ -25,8 +25,6 @@ use Rattle.syn_path.specs.declared.path.PathStyle.{PathStyle}
 use Rattle.syn_path.specs.declared.path.PathStyle.TheVariants.{AsWritten}
 use Rattle.syn_path.specs.path.Paths.{Sep}
 use Rattle.syn_forms.specs.declared.places.BoundPlace.{BoundPlace}
-use Rattle.syn_forms.specs.declared.places.ParamPlace.{ParamPlace}
-use Rattle.syn_forms.specs.declared.places.TypePlace.{TypePlace}
 use Rattle.syn_forms.specs.declared.places.TypePlace.TheVariants.{Plus}
 use Rattle.syn_forms.specs.inputs.Reading.{sees_name}
 use Rattle.syn_forms.specs.lists.Reading.{sees_bound}
@@ -36,31 +34,15 @@ use Rattle.syn_ty.specs.path.Spelling.{is_segment_word, IsAngle, an_angle, IsSeg
 use Rattle.syn_ty.specs.ty.Parts.{Manner, clearly, End, Parts}
 use Rattle.syn_ty.specs.ty.Reading.{is_trait}
 use Rattle.syn_ty.specs.ty.Spelling.{IsOptional, absent, present}
-use Rattle.syn_ty.specs.ty.Trees.{AngleBracketed, GenericArgument, GenericParam, Path, PathArguments, PathSegment, QSelf, TypeParamBound, TypeTree}
+use Rattle.syn_ty.specs.ty.Trees.{AngleBracketed, Path, PathSegment, QSelf, TypeParamBound}
 use Rattle.syn_ty.proofs.ty_laws.LessMet.{no_no, no_less, less_no, less_less, word_less, mark_no, mark_takes, word_takes, optional_no, listed_no, listed_less}
-use Rattle.syn_ty.proofs.ty_laws.Met.{BoundBegins, ItemBegins, Less, NoMore}
+use Rattle.syn_ty.proofs.ty_laws.Met.{BoundBegins, Firsts, Less, NoMore, TypeBegins}
 
 -- ---- what is known by the height of a tree
 
--- a type, before what follows it
-pub record TypeStarts (l k : Toks) : Type 0 where
-  pub there : is_done l ≡ false
-  pub no_gt : token.sees_gt l ≡ false
-  pub no_mut : token.sees_mut l ≡ false
-  pub no_pound : token.sees_pound l ≡ false
-  pub no_dots : token.sees_dot_dot_dot l ≡ false
-  pub no_const : sees_const l ≡ false
-  pub no_lone : sees_lone_lifetime l ≡ false
-  -- no name stands before a `:`, where none follows
-  pub no_name : token.sees_colon k ≡ false → (own : Bool) → sees_name own l ≡ false
-
 module _ {A E : Type 0} (part : Manner → Parts A E) where
   pub record Starts : Type 0 where
-    pub ty : (p : TypePlace) (d : End) (x : TypeTree A E) (l k : Toks) → (part clearly).ty p d x l k → TypeStarts l k × Less l k
-    pub bound : (p : BoundPlace) (d : End) (x : TypeParamBound A E) (l k : Toks) → (part clearly).bound p d x l k → BoundBegins p l × Less l k
-    pub param : (p : ParamPlace) (x : GenericParam A E) (l k : Toks) → (part clearly).param p x l k → ItemBegins l × Less l k
-    pub argument : (x : GenericArgument A E) (l k : Toks) → (part clearly).argument x l k → ItemBegins l × Less l k
-    pub arguments : (x : PathArguments A E) (l k : Toks) → (part clearly).arguments x l k → (sees_arguments AsWritten l ≡ true) × Less l k
+    pub firsts : Firsts part
     -- a bound that begins with a lifetime is that lifetime
     pub life : (p : BoundPlace) (d : End) (x : TypeParamBound A E) (l k : Toks) → (part clearly).bound p d x l k → sees_lifetime l ≡ true → (is_trait x ≡ false) × (y : Lifetime) × IsLifetime y l k
 
@@ -149,7 +131,7 @@ module _ (i : Ident) (m : Toks) (h : is_segment_word i.text ≡ true) where
 
 -- ---- types that begin with a word, with `::` or with `<`
 
-pub word_starts : (i : Ident) (m k : Toks) → token.sees_mut (word i m) ≡ false → sees_lit (word i m) ≡ false → (token.sees_colon k ≡ false → NoColon m) → TypeStarts (word i m) k
+pub word_starts : (i : Ident) (m k : Toks) → token.sees_mut (word i m) ≡ false → sees_lit (word i m) ≡ false → (token.sees_colon k ≡ false → NoColon m) → TypeBegins (word i m) k
 unfolding is_done sees_mark sees_const sees_group sees_lone_lifetime sees_lifetime sees_name after_one
 word_starts i m k h g n = record {
   there = refl;
@@ -179,7 +161,7 @@ starts_on l m k (by_word w) n = by_word (worded_on l m k w n)
 starts_on l m k by_sep n = by_sep
 starts_on l m k by_lt n = by_lt
 
-worded_type : (l k : Toks) → Worded l k → TypeStarts l k
+worded_type : (l k : Toks) → Worded l k → TypeBegins l k
 worded_type l k (worded {i = i} {m = m} h f) = word_starts i m k (segment_no_mut i m h) (segment_no_lit i m h) (λ g. f (unseen_colon k g))
 
 -- no name, the first one of a list or not
@@ -187,7 +169,7 @@ pub unnamed : (l : Toks) → sees_name true l ≡ false → sees_name false l �
 unnamed l h g true = h
 unnamed l h g false = g
 
-pub path_type : (l k : Toks) → PathStarts l k → TypeStarts l k
+pub path_type : (l k : Toks) → PathStarts l k → TypeBegins l k
 unfolding is_done sees_mark sees_word sees_lit sees_const sees_group sees_lone_lifetime sees_lifetime sees_name after_one
 path_type l k (by_word w) = worded_type l k w
 path_type l k by_sep = record { there = refl; no_gt = refl; no_mut = refl; no_pound = refl; no_dots = refl; no_const = refl; no_lone = refl; no_name = λ f. unnamed l refl refl }
@@ -216,17 +198,17 @@ module _ {A E : Type 0} {part : Manner → Parts A E} (s : Starts part) where
   pub angle_starts : (x : AngleBracketed A E) (l k : Toks) → IsAngle part clearly x l k → (sees_arguments AsWritten l ≡ true) × Less l k
   angle_starts x l k (an_angle {c = c} {o = o} {xs = xs} {cs = cs} {g = g} {m = m} {n = n} {k = j} i d v e) =
       (angle_seen c o l m n i d,
-       no_less (optional_no mark_no c l m i) (less_no (mark_takes 60 [] refl o m n d) (no_no (listed_no (λ b y t u w. (s.argument y t u w).1) mark_no true xs cs n j v) (mark_no g j k e))))
+       no_less (optional_no mark_no c l m i) (less_no (mark_takes 60 [] refl o m n d) (no_no (listed_no (λ b y t u w. (s.firsts.argument y t u w).1) mark_no true xs cs n j v) (mark_no g j k e))))
 
   -- ---- segments and paths
 
   segment_starts : (style : PathStyle) (x : PathSegment A E) (l k : Toks) → IsSegment part clearly style x l k → Worded l k
   segment_starts style x l k (a_word h) = worded h (λ n. n)
-  segment_starts style x l k (a_word_with_arguments {x = y} {l = m} h t i) = worded (or_left _ _ h) (λ n. arguments_no_colon m (s.arguments y m k i).0)
+  segment_starts style x l k (a_word_with_arguments {x = y} {l = m} h t i) = worded (or_left _ _ h) (λ n. arguments_no_colon m (s.firsts.arguments y m k i).0)
 
   pub segment_less : (style : PathStyle) (x : PathSegment A E) (l k : Toks) → IsSegment part clearly style x l k → Less l k
   segment_less style x l k (a_word {i = i} h) = word_less i k
-  segment_less style x l k (a_word_with_arguments {i = i} {x = y} {l = m} h t j) = less_less (word_less i m) (s.arguments y m k j).1
+  segment_less style x l k (a_word_with_arguments {i = i} {x = y} {l = m} h t j) = less_less (word_less i m) (s.firsts.arguments y m k j).1
 
   abbrev Segments : PathStyle → Bool → List (PathSegment A E) → List Sep → Toks → Toks → Type 0
   Segments style = AreListed (λ (_ : Bool). IsSegment part clearly style) (IsMark true) Nowhere
@@ -258,9 +240,9 @@ module _ {A E : Type 0} {part : Manner → Parts A E} (s : Starts part) where
 
   qualified_less : (style : PathStyle) (q : QSelf A E) (x : Path A E) (l k : Toks) → IsQualified part clearly style q x l k → Less l k
   qualified_less style q x l k (by_type {o = o} {e = e} {x = y} {g = g} {c = c} {xs = xs} {cs = cs} {m = m} {n = n} {k = j} {j = h} i t u v z) =
-      no_less (mark_no o l m i) (less_less (s.ty Plus e y m n t).1 (no_less (mark_no g n j u) (no_less (mark_no c j h v) (segments_less style true xs cs h k z))))
+      no_less (mark_no o l m i) (less_less (s.firsts.ty Plus e y m n t).1 (no_less (mark_no g n j u) (no_less (mark_no c j h v) (segments_less style true xs cs h k z))))
   qualified_less style q x l k (by_type_as_path {o = o} {e = e} {x = y} {w = w} {p = p} {g = g} {c = c} {xs = xs} {cs = cs} {m = m} {n = n} {k = k2} {j = j} {i = i2} {h = h} i t d u b v a z) =
-      no_less (mark_no o l m i) (less_less (s.ty Plus e y m n t).1 (less_less (word_takes w n k2 u) (less_less (path_less AsWritten p k2 j b) (no_less (mark_no g j i2 v) (no_less (mark_no c i2 h a) (segments_less style true xs cs h k z))))))
+      no_less (mark_no o l m i) (less_less (s.firsts.ty Plus e y m n t).1 (less_less (word_takes w n k2 u) (less_less (path_less AsWritten p k2 j b) (no_less (mark_no g j i2 v) (no_less (mark_no c i2 h a) (segments_less style true xs cs h k z))))))
 
   pub any_path_starts : (style : PathStyle) (o : Option (QSelf A E)) (x : Path A E) (l k : Toks) → IsAnyPath part clearly style o x l k → PathStarts l k × Less l k
   any_path_starts style o x l k (unqualified i) = (path_starts style x l k i, path_less style x l k i)

@@ -43,30 +43,30 @@ use Rattle.syn_ty.specs.ty.Spelling.{IsOptional, absent, present}
 use Rattle.syn_ty.specs.ty.Trees.{BoundLifetimes, Path, TypeFnPtr, TypeImplTrait, TypeParamBound, TypePtr, TypeReference, TypeTraitObject}
 use Rattle.syn_ty.specs.ty.Types.{Underscore}
 use Rattle.syn_ty.proofs.ty_laws.FirstBoundsMet.{binder_less, bounds_no, bounds_start, return_no}
-use Rattle.syn_ty.proofs.ty_laws.FirstPathsMet.{NoColon, Starts, TypeStarts, lt_no_colon, path_less, path_starts, path_type, segment_no_lit, segment_no_mut, starts_on, unnamed, unseen_colon, word_starts}
+use Rattle.syn_ty.proofs.ty_laws.FirstPathsMet.{NoColon, Starts, lt_no_colon, path_less, path_starts, path_type, segment_no_lit, segment_no_mut, starts_on, unnamed, unseen_colon, word_starts}
 use Rattle.syn_ty.proofs.ty_laws.LessMet.{same, some, no_no, no_less, less_no, less_less, word_less, mark_less, group_less, mark_no, word_takes, lifetime_takes, mutability_takes, str_takes, optional_no, listed_no}
-use Rattle.syn_ty.proofs.ty_laws.Met.{BoundBegins, Less, NoMore}
+use Rattle.syn_ty.proofs.ty_laws.Met.{BoundBegins, Less, NoMore, TypeBegins}
 
 -- ---- types that begin with a mark or a group
 
-star_starts : (j : Spacing) (a : Span) (m k : Toks) → TypeStarts (mark (punct 42 j a) m) k
+star_starts : (j : Spacing) (a : Span) (m k : Toks) → TypeBegins (mark (punct 42 j a) m) k
 unfolding is_done sees_mark sees_word sees_lit sees_const sees_group sees_lone_lifetime sees_lifetime sees_name
 star_starts j a m k = record { there = refl; no_gt = refl; no_mut = refl; no_pound = refl; no_dots = refl; no_const = refl; no_lone = refl; no_name = λ q. unnamed (mark (punct 42 j a) m) refl refl }
 
-and_starts : (j : Spacing) (a : Span) (m k : Toks) → TypeStarts (mark (punct 38 j a) m) k
+and_starts : (j : Spacing) (a : Span) (m k : Toks) → TypeBegins (mark (punct 38 j a) m) k
 unfolding is_done sees_mark sees_word sees_lit sees_const sees_group sees_lone_lifetime sees_lifetime sees_name
 and_starts j a m k = record { there = refl; no_gt = refl; no_mut = refl; no_pound = refl; no_dots = refl; no_const = refl; no_lone = refl; no_name = λ q. unnamed (mark (punct 38 j a) m) refl refl }
 
-pub bang_starts : (j : Spacing) (a : Span) (m k : Toks) → TypeStarts (mark (punct 33 j a) m) k
+pub bang_starts : (j : Spacing) (a : Span) (m k : Toks) → TypeBegins (mark (punct 33 j a) m) k
 unfolding is_done sees_mark sees_word sees_lit sees_const sees_group sees_lone_lifetime sees_lifetime sees_name
 bang_starts j a m k = record { there = refl; no_gt = refl; no_mut = refl; no_pound = refl; no_dots = refl; no_const = refl; no_lone = refl; no_name = λ q. unnamed (mark (punct 33 j a) m) refl refl }
 
-pub group_starts : (d : Delimiter) → same_delimiter d Brace ≡ false → (s : DelimSpan) (c m k : Toks) → TypeStarts (group d s c m) k
+pub group_starts : (d : Delimiter) → same_delimiter d Brace ≡ false → (s : DelimSpan) (c m k : Toks) → TypeBegins (group d s c m) k
 unfolding is_done sees_mark sees_word sees_lit sees_const sees_group sees_lone_lifetime sees_lifetime sees_name
 group_starts d h s c m k = record { there = refl; no_gt = refl; no_mut = refl; no_pound = refl; no_dots = refl; no_const = h; no_lone = refl; no_name = λ q. unnamed (group d s c m) refl refl }
 
 -- a lifetime before a `+`
-lifetime_starts : (y : Lifetime) (p : token.Plus) (l m n k : Toks) → IsLifetime y l m → IsMark true p m n → TypeStarts l k
+lifetime_starts : (y : Lifetime) (p : token.Plus) (l m n k : Toks) → IsLifetime y l m → IsMark true p m n → TypeBegins l k
 unfolding is_done sees_mark sees_word sees_lit sees_const sees_group sees_lone_lifetime sees_lifetime sees_name after_one
 lifetime_starts y p l m n k is_lifetime (is_mark (last_char x)) = record { there = refl; no_gt = refl; no_mut = refl; no_pound = refl; no_dots = refl; no_const = refl; no_lone = refl; no_name = λ q. unnamed l refl refl }
 
@@ -74,7 +74,7 @@ lifetime_starts y p l m n k is_lifetime (is_mark (last_char x)) = record { there
 
 record Keyed (l : Toks) : Type 0 where
   apart : NoColon l
-  starts : (k : Toks) → TypeStarts l k
+  starts : (k : Toks) → TypeBegins l k
 
 key_starts : (i : Ident) (m : Toks) → token.sees_mut (word i m) ≡ false → sees_lit (word i m) ≡ false → NoColon m → Keyed (word i m)
 unfolding sees_mark
@@ -97,7 +97,7 @@ unfolding sees_word sees_lit
 impl_keyed w l m is_word n = key_starts _ m refl refl n
 
 -- `_`, before what follows it
-pub infer_starts : (w : Underscore) (l k : Toks) → IsWord w l k → TypeStarts l k
+pub infer_starts : (w : Underscore) (l k : Toks) → IsWord w l k → TypeBegins l k
 unfolding sees_word sees_lit
 infer_starts w l k is_word = word_starts _ k k refl refl (λ f. unseen_colon k f)
 
@@ -138,7 +138,7 @@ module _ {A E : Type 0} {part : Manner → Parts A E} (s : Starts part) where
   unfolding sees_word sees_lit
   binder_keyed x l k (a_binder {o = o} {m = m} {n = n} is_word d v e) = key_starts _ m refl refl (lt_no_colon o m n d)
 
-  pub binder_starts : (x : BoundLifetimes A E) (l m k : Toks) → IsFor part clearly x l m → TypeStarts l k
+  pub binder_starts : (x : BoundLifetimes A E) (l m k : Toks) → IsFor part clearly x l m → TypeBegins l k
   binder_starts x l m k i = (binder_keyed x l m i).starts k
 
   optional_binder_keyed : (o : Option (BoundLifetimes A E)) (l k : Toks) → IsOptional (IsFor part clearly) o l k → Keyed k → Keyed l
@@ -150,7 +150,7 @@ module _ {A E : Type 0} {part : Manner → Parts A E} (s : Starts part) where
 
   -- ---- pointers to functions
 
-  pub fn_starts : (e : End) (x : TypeFnPtr A E) (l k : Toks) → IsFnPtr part clearly e x l k → TypeStarts l k × Less l k
+  pub fn_starts : (e : End) (x : TypeFnPtr A E) (l k : Toks) → IsFnPtr part clearly e x l k → TypeBegins l k × Less l k
   unfolding sees_mark
   fn_starts e x l k (a_fn_ptr {b = b} {u = u} {i = i} {w = w} {s = a} {o = o} {m = m} {n = n} {k = h} {c = c} {j = j} d f g t v z) =
       let q = fn_keyed w h (group Parenthesis a c j) t refl in
@@ -162,15 +162,15 @@ module _ {A E : Type 0} {part : Manner → Parts A E} (s : Starts part) where
 
   list_starts : (p : TypePlace) (kind : BoundPlace) (e : End) (v : Many (TypeParamBound A E) token.Plus) (l k : Toks) → IsBoundList part clearly p kind e v l k → BoundBegins kind l × Less l k
   list_starts p kind e v l k (several_bounds {xs = xs} {ps = ps} h i) = bounds_start s true (λ z. z) e xs ps l k i
-  list_starts p kind e v l k (one_bound {x = x} h i) = s.bound kind e x l k i
+  list_starts p kind e v l k (one_bound {x = x} h i) = s.firsts.bound kind e x l k i
 
   object_starts : (p : TypePlace) (e : End) (v : Many (TypeParamBound A E) token.Plus) (l k : Toks) → AreObjectBounds part clearly p e v l k → BoundBegins Object l × Less l k
   object_starts p e v l k (object_bounds i h) = list_starts p Object e v l k i
 
-  pub dyn_starts : (p : TypePlace) (e : End) (x : TypeTraitObject A E) (l k : Toks) → IsDyn part clearly p e x l k → TypeStarts l k × Less l k
+  pub dyn_starts : (p : TypePlace) (e : End) (x : TypeTraitObject A E) (l k : Toks) → IsDyn part clearly p e x l k → TypeBegins l k × Less l k
   dyn_starts p e x l k (a_dyn {w = w} {v = v} {m = m} i j) = let h = object_starts p e v m k j in ((dyn_keyed w l m i h.0.no_colon).starts k, less_less (word_takes w l m i) h.1)
 
-  pub impl_starts : (p : TypePlace) (e : End) (x : TypeImplTrait A E) (l k : Toks) → IsImpl part clearly p e x l k → TypeStarts l k × Less l k
+  pub impl_starts : (p : TypePlace) (e : End) (x : TypeImplTrait A E) (l k : Toks) → IsImpl part clearly p e x l k → TypeBegins l k × Less l k
   impl_starts p e x l k (an_impl {w = w} {v = v} {m = m} i j g) = let h = list_starts p Opaque e v m k j in ((impl_keyed w l m i h.0.no_colon).starts k, less_less (word_takes w l m i) h.1)
 
   -- ---- trait objects without `dyn`
@@ -179,7 +179,7 @@ module _ {A E : Type 0} {part : Manner → Parts A E} (s : Starts part) where
   unfolding sees_mark
   plus_apart c l k (is_mark (last_char x)) = refl
 
-  first_starts : (o : Option (BoundLifetimes A E)) (p : Path A E) (l m k : Toks) → IsFirst part clearly o p l m → NoColon m → TypeStarts l k × Less l m
+  first_starts : (o : Option (BoundLifetimes A E)) (p : Path A E) (l m k : Toks) → IsFirst part clearly o p l m → NoColon m → TypeBegins l k × Less l m
   first_starts o p l m k (a_first i t) n = (path_type l k (starts_on l m k (path_starts s AsWritten p l m i) n), path_less s AsWritten p l m i)
   first_starts o p l m k (a_first_for {x = x} {m = h} b i t u) n = (binder_starts x l h k b, less_less (binder_less s x l h b) (path_less s AsWritten p h m i))
 
@@ -190,12 +190,12 @@ module _ {A E : Type 0} {part : Manner → Parts A E} (s : Starts part) where
   lone_object : (x : TypeParamBound A E) → is_trait x ≡ false → list_any is_trait (x ∷ []) ≡ false
   lone_object x h = or_from _ _ h refl
 
-  lifetime_object_starts : (e : End) (xs : List (TypeParamBound A E)) (ps : List token.Plus) (l k : Toks) → sees_lifetime l ≡ true → AreBounds part clearly Object AfterMark true e xs ps l k → list_any is_trait xs ≡ true → TypeStarts l k
+  lifetime_object_starts : (e : End) (xs : List (TypeParamBound A E)) (ps : List token.Plus) (l k : Toks) → sees_lifetime l ≡ true → AreBounds part clearly Object AfterMark true e xs ps l k → list_any is_trait xs ≡ true → TypeBegins l k
   lifetime_object_starts e xs ps l k h (no_bounds z) g = absurd z
   lifetime_object_starts e xs ps l k h (last_bound {e = d} {x = x} i) g = let n = lone_object x (s.life Object d x l k i h).0 in cc
   lifetime_object_starts e xs ps l k h (bound_and_plus {e = d} {x = x} {p = p} {m = m} {k = n} i o j t) g = let y = s.life Object d x l m i h in lifetime_starts y.1 p l m n k y.2 j
 
-  pub bare_starts : (place : TypePlace) (e : End) (v : Many (TypeParamBound A E) token.Plus) (l k : Toks) → AreBareBounds part clearly place e v l k → TypeStarts l k × Less l k
+  pub bare_starts : (place : TypePlace) (e : End) (v : Many (TypeParamBound A E) token.Plus) (l k : Toks) → AreBareBounds part clearly place e v l k → TypeBegins l k × Less l k
   bare_starts place e v l k (path_alone (a_first_for {x = x} {p = p} {m = h} b i t u)) = (binder_starts x l h k b, less_less (binder_less s x l h b) (path_less s AsWritten p h k i))
   bare_starts place e v l k (path_and_plus {o = o} {p = p} {c = c} {xs = xs} {ps = ps} {m = m} {n = n} h i j t) =
       let y = first_starts o p l m k i (plus_apart c m n j) in
@@ -209,23 +209,23 @@ module _ {A E : Type 0} {part : Manner → Parts A E} (s : Starts part) where
 
   -- ---- pointers and references
 
-  pub pointer_starts : (e : End) (x : TypePtr A E) (l k : Toks) → IsPointer part clearly e x l k → TypeStarts l k × Less l k
+  pub pointer_starts : (e : End) (x : TypePtr A E) (l k : Toks) → IsPointer part clearly e x l k → TypeBegins l k × Less l k
   pointer_starts e x l k (a_pointer {q = q} {x = y} {m = m} {n = n} (is_mark (last_char {a = a} {j = j} z)) i t) =
-      (star_starts j a m k, less_less (mark_less (punct 42 j a) m) (less_less (mutability_takes q m n i) (s.ty NoPlus e y n k t).1))
+      (star_starts j a m k, less_less (mark_less (punct 42 j a) m) (less_less (mutability_takes q m n i) (s.firsts.ty NoPlus e y n k t).1))
 
-  pub borrow_starts : (e : End) (x : TypeReference A E) (l k : Toks) → IsBorrow part clearly e x l k → TypeStarts l k × Less l k
-  borrow_starts e x l k (a_borrow {x = y} {m = m} (is_mark (last_char {a = a} {j = j} z)) h t) = (and_starts j a m k, less_less (mark_less (punct 38 j a) m) (s.ty NoPlus e y m k t).1)
+  pub borrow_starts : (e : End) (x : TypeReference A E) (l k : Toks) → IsBorrow part clearly e x l k → TypeBegins l k × Less l k
+  borrow_starts e x l k (a_borrow {x = y} {m = m} (is_mark (last_char {a = a} {j = j} z)) h t) = (and_starts j a m k, less_less (mark_less (punct 38 j a) m) (s.firsts.ty NoPlus e y m k t).1)
   borrow_starts e x l k (a_mutable_borrow {u = u} {x = y} {m = m} {n = n} (is_mark (last_char {a = a} {j = j} z)) i t) =
-      (and_starts j a m k, less_less (mark_less (punct 38 j a) m) (less_less (word_takes u m n i) (s.ty NoPlus e y n k t).1))
+      (and_starts j a m k, less_less (mark_less (punct 38 j a) m) (less_less (word_takes u m n i) (s.firsts.ty NoPlus e y n k t).1))
   borrow_starts e x l k (a_lifetime_borrow {y = w} {u = u} {x = y} {m = m} {n = n} {k = h} (is_mark (last_char {a = a} {j = j} z)) i g t) =
-      (and_starts j a m k, less_less (mark_less (punct 38 j a) m) (less_less (lifetime_takes w m n i) (no_less (optional_no (λ z l k i. some (word_takes z l k i)) u n h g) (s.ty NoPlus e y h k t).1)))
+      (and_starts j a m k, less_less (mark_less (punct 38 j a) m) (less_less (lifetime_takes w m n i) (no_less (optional_no (λ z l k i. some (word_takes z l k i)) u n h g) (s.firsts.ty NoPlus e y h k t).1)))
 
   -- ---- what is held verbatim
 
-  pub verbatim_starts : (place : TypePlace) (e : End) (l k : Toks) → IsVerbatimType part clearly place e l k → TypeStarts l k × Less l k
+  pub verbatim_starts : (place : TypePlace) (e : End) (l k : Toks) → IsVerbatimType part clearly place e l k → TypeBegins l k × Less l k
   verbatim_starts place e l k (an_unsafe_binder {b = b} {u = u} {o = o} {xs = xs} {cs = cs} {g = g} {x = x} {m = m} {n = n} {k = h} {j = j} {i = i} d w q v c t) =
       let y = optional_binder_keyed b l m d (unsafe_keyed u m n w (lt_no_colon o n h q)) in
-      (y.starts k, no_less (optional_binder_no b l m d) (less_less (word_takes u m n w) (no_less (mark_no o n h q) (no_less (listed_no (λ b. lifetime_takes) mark_no true xs cs h j v) (no_less (mark_no g j i c) (s.ty (last_place place) e x i k t).1)))))
+      (y.starts k, no_less (optional_binder_no b l m d) (less_less (word_takes u m n w) (no_less (mark_no o n h q) (no_less (listed_no (λ b. lifetime_takes) mark_no true xs cs h j v) (no_less (mark_no g j i c) (s.firsts.ty (last_place place) e x i k t).1)))))
   verbatim_starts place e l k (a_dyn_star {w = w} {s = q} {v = v} {m = m} {n = n} i j t) =
       ((dyn_keyed w l m i (star_apart q m n j)).starts k, less_less (word_takes w l m i) (no_less (mark_no q m n j) (object_starts place e v n k t).1))
   verbatim_starts place e l k (a_builtin {b = b} {w = w} {i = i} {p = p} {s = a} {m = m} {c = c} d h j g) =

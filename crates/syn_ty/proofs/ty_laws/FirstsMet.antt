@@ -38,10 +38,10 @@ use Rattle.syn_ty.specs.ty.Spelling.{Relation, an_infer, a_never}
 use Rattle.syn_ty.specs.ty.Spelt.{turn, spelt_to}
 use Rattle.syn_ty.specs.ty.Trees.{AngleBracketed, ConstParam, GenericArgument, GenericParam, PathArguments, TypeParam, TypeParamBound, TypeTree}
 use Rattle.syn_ty.proofs.ty_laws.FirstBoundsMet.{binder_less, bound_life, bound_starts, bounds_no}
-use Rattle.syn_ty.proofs.ty_laws.FirstPathsMet.{PartBegins, PathStarts, by_word, by_sep, Starts, TypeStarts, Worded, worded, angle_starts, any_path_starts, mark_other, mark_there, path_type, starts_on}
+use Rattle.syn_ty.proofs.ty_laws.FirstPathsMet.{PartBegins, PathStarts, by_word, by_sep, Starts, Worded, worded, angle_starts, any_path_starts, mark_other, mark_there, path_type, starts_on}
 use Rattle.syn_ty.proofs.ty_laws.FirstTypesMet.{bang_starts, bare_starts, binder_starts, borrow_starts, dyn_starts, fn_starts, group_starts, impl_starts, infer_starts, pointer_starts, verbatim_starts}
 use Rattle.syn_ty.proofs.ty_laws.LessMet.{same, some, no_no, no_less, less_no, less_less, word_less, mark_less, group_less, mark_no, word_takes, lifetime_takes, optional_no, listed_no, call_less}
-use Rattle.syn_ty.proofs.ty_laws.Met.{ItemBegins, Less, NoMore, SuppliedMeets}
+use Rattle.syn_ty.proofs.ty_laws.Met.{Firsts, ItemBegins, Less, NoMore, SuppliedMeets, TypeBegins}
 
 -- ---- macro calls
 
@@ -54,7 +54,7 @@ bare_path_starts : {A : Type 0} {none : A} (p : PathOf A) (l k : Toks) → bare.
 bare_path_starts p l k (bare.a_bare_path {all = all} {seps = seps} {m = m} bare.no_leading i) = by_word (words_start all seps m k i)
 bare_path_starts p l k (bare.a_bare_path (bare.leading a) i) = by_sep
 
-call_starts : (x : Macro) (l k : Toks) → IsCall true is_segment_word x l k → TypeStarts l k
+call_starts : (x : Macro) (l k : Toks) → IsCall true is_segment_word x l k → TypeBegins l k
 unfolding sees_mark
 call_starts x l k (a_macro {p = p} {a = a} {j = j} {d = d} {s = s} {c = c} i h e t) = let m = mark (punct 33 j a) (group d s c k) in path_type l k (starts_on l m k (bare_path_starts p l m i) refl)
 
@@ -74,7 +74,7 @@ life_item : (x : Lifetime) (l k : Toks) → IsLifetime x l k → ItemBegins l
 unfolding is_done sees_mark
 life_item x l k is_lifetime = record { there = refl; no_gt = refl }
 
-type_item : (l k : Toks) → TypeStarts l k → ItemBegins l
+type_item : (l k : Toks) → TypeBegins l k → ItemBegins l
 type_item l k h = record { there = h.there; no_gt = h.no_gt }
 
 const_item : (l : Toks) → sees_const l ≡ true → ItemBegins l
@@ -97,7 +97,7 @@ given_no h g l k (given {q = q} {x = x} {m = m} i j) = no_no (mark_no q l m i) (
 -- ---- over what they hold
 
 module _ {A E : Type 0} {part : Manner → Parts A E} (s : Starts part) where
-  pub type_starts : (p : TypePlace) (e : End) (x : TypeTree A E) (l k : Toks) → IsType part clearly p e x l k → TypeStarts l k × Less l k
+  pub type_starts : (p : TypePlace) (e : End) (x : TypeTree A E) (l k : Toks) → IsType part clearly p e x l k → TypeBegins l k × Less l k
   type_starts p e x l k (a_path_type {o = o} {p = q} i) = let h = any_path_starts s AsWritten o q l k i.0 in (path_type l k h.0, h.1)
   type_starts p e x l k (a_macro {x = y} i) = (call_starts y l k i.0, call_less true is_segment_word y l k i.0)
   type_starts p e x l k (a_bound_macro {b = b} {x = y} {m = m} i j h) = (binder_starts s b l m k i, less_less (binder_less s b l m i) (call_less true is_segment_word y m k j.0))
@@ -121,17 +121,17 @@ module _ {A E : Type 0} {part : Manner → Parts A E} (s : Starts part) where
   module _ {first : End → Relation (TypeTree A E)} where
     item_starts : (i : Ident) (o : Option (AngleBracketed A E)) (l k : Toks) → IsItemName first part clearly i o l k → ItemBegins l × Less l k
     item_starts i o l k (an_item h) = (word_item i k, word_less i k)
-    item_starts i o l k (an_item_with_arguments {x = x} {l = m} h t) = (word_item i m, less_less (word_less i m) (s.arguments (a.AngleBracketed x) m k t).1)
+    item_starts i o l k (an_item_with_arguments {x = x} {l = m} h t) = (word_item i m, less_less (word_less i m) (s.firsts.arguments (a.AngleBracketed x) m k t).1)
 
   module _ (b : PartBegins part) where
     -- over what the types that may begin an argument begin with
-    argument_starts : {first : End → Relation (TypeTree A E)} → ((e : End) (x : TypeTree A E) (l k : Toks) → first e x l k → TypeStarts l k × Less l k) →
+    argument_starts : {first : End → Relation (TypeTree A E)} → ((e : End) (x : TypeTree A E) (l k : Toks) → first e x l k → TypeBegins l k × Less l k) →
         (place : ArgumentPlace) (x : GenericArgument A E) (l k : Toks) → IsArgument first part clearly place x l k → ItemBegins l × Less l k
     argument_starts types place x l k (a_lifetime_argument {x = y} i) = (life_item y l k i, lifetime_takes y l k i)
     argument_starts types place x l k (a_type_argument {e = e} {x = y} i) = let h = types e y l k i in (type_item l k h.0, h.1)
     argument_starts types place x l k (a_const_argument {x = y} i) = let h = b.argument_begins y l k i in (const_item l h.0, h.1)
     argument_starts types place x l k (an_assoc_type {i = i} {o = o} {q = q} {e = e} {x = y} {m = m} {n = n} t j u) =
-        let h = item_starts i o l m t in (h.0, less_no h.1 (no_no (mark_no q m n j) (some (s.ty Plus e y n k u).1)))
+        let h = item_starts i o l m t in (h.0, less_no h.1 (no_no (mark_no q m n j) (some (s.firsts.ty Plus e y n k u).1)))
     argument_starts types place x l k (an_assoc_const {i = i} {o = o} {q = q} {x = y} {m = m} {n = n} t j u) =
         let h = item_starts i o l m t in (h.0, less_no h.1 (no_no (mark_no q m n j) (some (b.argument_begins y n k u).1)))
     argument_starts types place x l k (a_constraint {i = i} {o = o} {c = c} {e = e} {xs = xs} {ps = ps} {m = m} {n = n} t j u) =
@@ -159,7 +159,7 @@ module _ {A E : Type 0} {part : Manner → Parts A E} (s : Starts part) where
     bounds_after_no c xs ps l k (after_colon {e = e} {c = d} {m = m} i t) = no_no (mark_no d l m i) (bounds_no s true e xs ps m k t)
 
     any_type_no : (x : TypeTree A E) (l k : Toks) → IsAnyType part clearly x l k → NoMore l k
-    any_type_no x l k (any_type {e = e} i) = some (s.ty Plus e x l k i).1
+    any_type_no x l k (any_type {e = e} i) = some (s.firsts.ty Plus e x l k i).1
 
     type_param_starts : (x : TypeParam A E) (l k : Toks) → IsTypeParam part clearly x l k → ItemBegins l × Less l k
     type_param_starts x l k (a_type_param {a = a} {i = i} {c = c} {xs = xs} {ps = ps} {d = d} {m = m} {n = n} j h t u) =
@@ -186,11 +186,13 @@ module _ {A E : Type 0} (attrs : Bool → List A → Toks → Toks → Type 0) (
   -- one turn
   pub turn_starts : (part : Manner → Parts A E) → Starts part → PartBegins part → Starts (turn attrs values part)
   turn_starts part s b = record {
-    ty = λ p e x l k i. type_starts s p e x l k i;
-    bound = λ p e x l k i. bound_starts s p e x l k i;
-    param = λ p x l k i. param_starts s b p x l k i;
-    argument = λ x l k i. argument_starts s b (λ e y m n j. type_starts s Plus e y m n j) between_angles x l k i;
-    arguments = λ x l k i. some_arguments_start x l k i;
+    firsts = record {
+      ty = λ p e x l k i. type_starts s p e x l k i;
+      bound = λ p e x l k i. bound_starts s p e x l k i;
+      param = λ p x l k i. param_starts s b p x l k i;
+      argument = λ x l k i. argument_starts s b (λ e y m n j. type_starts s Plus e y m n j) between_angles x l k i;
+      arguments = λ x l k i. some_arguments_start x l k i;
+    };
     life = λ p e x l k i h. bound_life s p e x l k i h;
   }
     where
@@ -209,13 +211,18 @@ module _ {A E : Type 0} (attrs : Bool → List A → Toks → Toks → Type 0) (
     begins_to zero = record { attrs_begin = λ x l k i. absurd i; attrs_light = λ x l k i. absurd i; argument_begins = λ x l k i. absurd i; default_less = λ x l k i. absurd i }
     begins_to (suc n) = record { attrs_begin = b.attrs_begin; attrs_light = b.attrs_light; argument_begins = b.argument_begins; default_less = b.default_less }
 
-    pub firsts_to : (n : ℕ) → Starts (spelt_to attrs values n)
-    firsts_to zero = record {
-      ty = λ p e x l k i. absurd i;
-      bound = λ p e x l k i. absurd i;
-      param = λ p x l k i. absurd i;
-      argument = λ x l k i. absurd i;
-      arguments = λ x l k i. absurd i;
+    pub starts_to : (n : ℕ) → Starts (spelt_to attrs values n)
+    starts_to zero = record {
+      firsts = record {
+        ty = λ p e x l k i. absurd i;
+        bound = λ p e x l k i. absurd i;
+        param = λ p x l k i. absurd i;
+        argument = λ x l k i. absurd i;
+        arguments = λ x l k i. absurd i;
+      };
       life = λ p e x l k i h. absurd i;
     }
-    firsts_to (suc n) = turn_starts (spelt_to attrs values n) (firsts_to n) (begins_to n)
+    starts_to (suc n) = turn_starts (spelt_to attrs values n) (starts_to n) (begins_to n)
+
+    pub firsts_to : (n : ℕ) → Firsts (spelt_to attrs values n)
+    firsts_to n = (starts_to n).firsts

@@ -71,15 +71,15 @@ ended_fits d k o = record { stops = o.stops; no_plus = λ p. o.no_plus; no_word 
 
 pub done_ended : Ended done
 unfolding sees_lifetime sees_group sees_word sees_mark sees_call
-done_ended = record { stops = record { no_sep = refl; no_angle = refl; no_call = refl; no_arrow = refl; no_question = refl; no_lifetime = refl; no_paren = refl; no_bracket = refl }; no_plus = refl; no_word = refl }
+done_ended = record { stops = record { no_sep = refl; no_angle = refl; no_call = refl; no_arrow = refl; no_question = refl; no_lifetime = refl; no_paren = refl; no_bracket = refl; no_pound = refl }; no_plus = refl; no_word = refl }
 
 pub comma_ended : (c : Comma) (l k : Toks) → IsMark true c l k → Ended l
 unfolding sees_lifetime sees_group sees_word sees_mark sees_call
-comma_ended c l k (is_mark (last_char x)) = record { stops = record { no_sep = refl; no_angle = refl; no_call = refl; no_arrow = refl; no_question = refl; no_lifetime = refl; no_paren = refl; no_bracket = refl }; no_plus = refl; no_word = refl }
+comma_ended c l k (is_mark (last_char x)) = record { stops = record { no_sep = refl; no_angle = refl; no_call = refl; no_arrow = refl; no_question = refl; no_lifetime = refl; no_paren = refl; no_bracket = refl; no_pound = refl }; no_plus = refl; no_word = refl }
 
 pub semi_ended : (q : Semi) (l k : Toks) → IsMark true q l k → Ended l
 unfolding sees_lifetime sees_group sees_word sees_mark sees_call
-semi_ended q l k (is_mark (last_char x)) = record { stops = record { no_sep = refl; no_angle = refl; no_call = refl; no_arrow = refl; no_question = refl; no_lifetime = refl; no_paren = refl; no_bracket = refl }; no_plus = refl; no_word = refl }
+semi_ended q l k (is_mark (last_char x)) = record { stops = record { no_sep = refl; no_angle = refl; no_call = refl; no_arrow = refl; no_question = refl; no_lifetime = refl; no_paren = refl; no_bracket = refl; no_pound = refl }; no_plus = refl; no_word = refl }
 
 -- ---- tokens before a type
 

@@ -1,6 +1,6 @@
 -- An argument of a pointer to a function, spelt clearly, is what its read answers and all that it takes: a type, perhaps after a name, or what is about `mut self` and held verbatim.
 use Rattle.std.proofs.lemmas.Bool.{and_from, and_right, not_from_false, or_from, or_left}
-use Rattle.std.proofs.Common.{◌≡◌, ℕ, ◌≤◌, Bool, true, false, ◌&&◌, List, Option, Some, None, Ok, refl, ap, arith}
+use Rattle.std.proofs.Common.{◌≡◌, ℕ, ◌≤◌, Bool, true, false, ◌&&◌, ◌||◌, List, Option, Some, None, Ok, refl, ap, arith}
 use Rattle.token_core.specs.declared.span.Span.{Span}
 use Rattle.token_core.specs.declared.tree.Ident.{Ident}
 use Rattle.token_core.specs.declared.tree.TokenStream.{TokenStream}
@@ -77,11 +77,16 @@ module _ {A E : Type 0} (part : Manner → Parts A E) where
         (record { there = refl; no_pound = refl; no_dots = and_right _ _ refl },
         less_less (word_less i j) (no_less (mark_no c j m (is_mark (last_char x))) (less_less (word_takes u m n is_word) (word_takes w n k is_word))))
 
+    -- what does not follow a name and `:`
+    after_name : (n x y : Bool) → ((n || false) && x) ≡ false → (x ≡ false → y ≡ false) → (n && y) ≡ false
+    after_name true x y h g = g h
+    after_name false x y h g = refl
+
     pub bare_begins : (first : Bool) (x : Named) (l k : Toks) → IsBare first x l k → EndsInput k → BareBegins l × Less l k
-    unfolding is_done sees_dots sees_mark sees_word after_one
+    unfolding is_done sees_dots inputs.sees_name sees_mark sees_word after_one
     bare_begins first x l k (bare_type {d = d} {x = y} i) o =
         let b = firsts.ty Plus d y l k i in
-        (record { there = b.0.there; no_pound = b.0.no_pound; no_dots = or_from _ _ b.0.no_dots (and_right _ _ (no_third (after_one l) (b.0.no_name o.no_colon))) }, b.1)
+        (record { there = b.0.there; no_pound = b.0.no_pound; no_dots = or_from _ _ b.0.no_dots (after_name (inputs.sees_ident_or_underscore l) _ _ (b.0.no_name o.no_colon false) (no_third (after_one l))) }, b.1)
     bare_begins first x l k (bare_named {i = i} {c = c} {d = d} {x = y} {l = j} {m = m} h (is_mark (last_char q)) v) o =
         let b = firsts.ty Plus d y m k v in
         (record { there = refl; no_pound = refl; no_dots = and_right (inputs.sees_ident_or_underscore (word i j)) (token.sees_dot_dot_dot m) b.0.no_dots }, less_less (word_less i j) (no_less (mark_no c j m (is_mark (last_char q))) b.1))

@@ -5,7 +5,7 @@ use Rattle.token_core.specs.declared.span.Span.{Span}
 use Rattle.token_core.specs.declared.tree.Delimiter.TheVariants.{Parenthesis, Brace, Bracket}
 use Rattle.token_core.specs.Lifetimes.{sees_lifetime}
 use Rattle.token_core.specs.Loops.{size}
-use Rattle.token_core.specs.Reads.{Reader, any_text, is_done, second, sees_group, sees_word}
+use Rattle.token_core.specs.Reads.{Reader, any_text, is_done, sees_group, sees_word}
 use Rattle.token_core.specs.Stream.{Stream, Scope}
 use Rattle.token_core.specs.Tokens as token
 use Rattle.token_core.specs.Toks.{Toks}
@@ -17,6 +17,7 @@ use Rattle.syn_path.specs.Values.{ReadValues}
 use Rattle.syn_forms.specs.declared.places.BoundPlace.{BoundPlace}
 use Rattle.syn_forms.specs.declared.places.ParamPlace.{ParamPlace}
 use Rattle.syn_forms.specs.declared.places.TypePlace.{TypePlace}
+use Rattle.syn_forms.specs.inputs.Reading.{sees_name}
 use Rattle.syn_forms.specs.lists.Reading.{sees_bound}
 use Rattle.syn_forms.specs.nested.Below.{ahead}
 use Rattle.syn_forms.specs.paths.Reading.{goes_on, sees_arguments}
@@ -44,6 +45,7 @@ pub record Stops (k : Toks) : Type 0 where
   pub no_lifetime : sees_lifetime k ≡ false
   pub no_paren : sees_group Parenthesis k ≡ false
   pub no_bracket : sees_group Bracket k ≡ false
+  pub no_pound : token.sees_pound k ≡ false
 
 -- And nothing that it goes on with by how it ends.
 pub record Fits (d : End) (k : Toks) : Type 0 where
@@ -84,7 +86,7 @@ pub record TypeBegins (l k : Toks) : Type 0 where
   pub no_const : sees_const l ≡ false
   pub no_lone : sees_lone_lifetime l ≡ false
   -- no name stands before a `:`, where none follows
-  pub no_name : token.sees_colon k ≡ false → (second token.sees_colon l && not (second token.sees_path_sep l)) ≡ false
+  pub no_name : token.sees_colon k ≡ false → (own : Bool) → sees_name own l ≡ false
 
 -- a bound in a place: what begins a further one, and no end of a list of bounds
 pub record BoundBegins (p : BoundPlace) (l : Toks) : Type 0 where

@@ -1,5 +1,5 @@
 -- A name and a colon before a type, spelt clearly, are what their read answers, and neither a name nor what begins a variadic stands where a type alone begins.
-use Rattle.std.proofs.lemmas.Bool.{and_left, and_right, eqb-true, or_parts}
+use Rattle.std.proofs.lemmas.Bool.{and_left, eqb-true, or_parts}
 use Rattle.std.proofs.lemmas.Slice.Eq.{bytes_eq-Decides}
 use Rattle.std.proofs.Common.{◌≡◌, Bool, true, false, not, ◌&&◌, ◌==◌, if◌then◌else◌, [], ◌∷◌, Option, Some, None, is_some, refl, sym, ◌∙◌, ap, arith}
 use Rattle.token_core.specs.declared.mark.Spans.{Spans}
@@ -106,8 +106,7 @@ no_name own l f e sc h = record { last = e; reads = chosen (sees_name own l) fal
 
 -- none stands before a type
 pub unnamed : (own : Bool) (l k : Toks) → TypeBegins l k → EndsInput k → sees_name own l ≡ false
-unfolding sees_name
-unnamed own l k b h = and_right _ _ (b.no_name h.no_colon)
+unnamed own l k b h = b.no_name h.no_colon own
 
 -- ---- `mut self`, and `self` before a colon
 

@@ -74,7 +74,7 @@ over_fits e k o = record { stops = o.stops; no_plus = λ h. o.no_plus; no_word =
 over_enter : (s : DelimSpan) (k : Toks) → Over k → Over (enter s k)
 unfolding sees_mark sees_word sees_group sees_lifetime sees_call
 over_enter s k o = let h = o.stops in record {
-  stops = record { no_sep = h.no_sep; no_angle = h.no_angle; no_call = h.no_call; no_arrow = h.no_arrow; no_question = h.no_question; no_lifetime = h.no_lifetime; no_paren = h.no_paren; no_bracket = h.no_bracket };
+  stops = record { no_sep = h.no_sep; no_angle = h.no_angle; no_call = h.no_call; no_arrow = h.no_arrow; no_question = h.no_question; no_lifetime = h.no_lifetime; no_paren = h.no_paren; no_bracket = h.no_bracket; no_pound = h.no_pound };
   no_plus = o.no_plus;
   no_word = o.no_word;
 }
@@ -82,7 +82,7 @@ over_enter s k o = let h = o.stops in record {
 over_leave : (k : Toks) → Over k → Over (leave k)
 unfolding sees_mark sees_word sees_group sees_lifetime sees_call
 over_leave k o = let h = o.stops in record {
-  stops = record { no_sep = h.no_sep; no_angle = h.no_angle; no_call = h.no_call; no_arrow = h.no_arrow; no_question = h.no_question; no_lifetime = h.no_lifetime; no_paren = h.no_paren; no_bracket = h.no_bracket };
+  stops = record { no_sep = h.no_sep; no_angle = h.no_angle; no_call = h.no_call; no_arrow = h.no_arrow; no_question = h.no_question; no_lifetime = h.no_lifetime; no_paren = h.no_paren; no_bracket = h.no_bracket; no_pound = h.no_pound };
   no_plus = o.no_plus;
   no_word = o.no_word;
 }
@@ -90,7 +90,7 @@ over_leave k o = let h = o.stops in record {
 -- the end
 pub done_over : (k : Toks) → is_done k ≡ true → Over k
 unfolding is_done sees_mark sees_word sees_group sees_lifetime sees_call
-done_over done e = record { stops = record { no_sep = refl; no_angle = refl; no_call = refl; no_arrow = refl; no_question = refl; no_lifetime = refl; no_paren = refl; no_bracket = refl }; no_plus = refl; no_word = refl }
+done_over done e = record { stops = record { no_sep = refl; no_angle = refl; no_call = refl; no_arrow = refl; no_question = refl; no_lifetime = refl; no_paren = refl; no_bracket = refl; no_pound = refl }; no_plus = refl; no_word = refl }
 done_over (word i k) e = cc e
 done_over (mark p k) e = cc e
 done_over (lit x k) e = cc e
@@ -106,7 +106,7 @@ brace_over (word i k) e = cc e
 brace_over (mark p k) e = cc e
 brace_over (lit x k) e = cc e
 brace_over (group Parenthesis s c k) e = cc e
-brace_over (group Brace s c k) e = record { stops = record { no_sep = refl; no_angle = refl; no_call = refl; no_arrow = refl; no_question = refl; no_lifetime = refl; no_paren = refl; no_bracket = refl }; no_plus = refl; no_word = refl }
+brace_over (group Brace s c k) e = record { stops = record { no_sep = refl; no_angle = refl; no_call = refl; no_arrow = refl; no_question = refl; no_lifetime = refl; no_paren = refl; no_bracket = refl; no_pound = refl }; no_plus = refl; no_word = refl }
 brace_over (group Bracket s c k) e = cc e
 brace_over (group d.None s c k) e = cc e
 brace_over (enter s k) e = over_enter s k (brace_over k e)
@@ -120,6 +120,7 @@ pub record Closing (c : ℕ) : Type 0 where
   pub no_minus : (c == 45) ≡ false
   pub no_lt : (c == 60) ≡ false
   pub no_question : (c == 63) ≡ false
+  pub no_pound : (c == 35) ≡ false
 
 quote_unseen : (p : Punct) (k : Toks) → (p.ch == 39) ≡ false → sees_lifetime (mark p k) ≡ false
 unfolding sees_lifetime
@@ -137,6 +138,7 @@ mark_over p k c n = record {
     no_lifetime = quote_unseen p k c.no_quote;
     no_paren = refl;
     no_bracket = refl;
+    no_pound = no_mark-other 35 [] p k c.no_pound;
   };
   no_plus = no_mark-other 43 [] p k c.no_plus;
   no_word = refl;
@@ -178,27 +180,27 @@ char_over c (enter s k) g e n = over_enter s k (char_over c k g e n)
 char_over c (leave k) g e n = over_leave k (char_over c k g e n)
 
 -- a comma, a `>`, a `;` or a `=`
-pub closing : (c : ℕ) → (c == 33) ≡ false → (c == 39) ≡ false → (c == 43) ≡ false → (c == 45) ≡ false → (c == 60) ≡ false → (c == 63) ≡ false → Closing c
-closing c a b d e g h = record { no_bang = a; no_quote = b; no_plus = d; no_minus = e; no_lt = g; no_question = h }
+pub closing : (c : ℕ) → (c == 33) ≡ false → (c == 39) ≡ false → (c == 43) ≡ false → (c == 45) ≡ false → (c == 60) ≡ false → (c == 63) ≡ false → (c == 35) ≡ false → Closing c
+closing c a b d e g h i = record { no_bang = a; no_quote = b; no_plus = d; no_minus = e; no_lt = g; no_question = h; no_pound = i }
 
 plain_over : (c : ℕ) (k : Toks) → Closing c → (c == 58) ≡ false → sees_mark (c ∷ []) k ≡ true → Over k
 plain_over c k g n e = char_over c k g e (other_char c 58 [] (58 ∷ []) k n e)
 
 pub comma_over : (k : Toks) → token.sees_comma k ≡ true → Over k
-comma_over k e = plain_over 44 k (closing 44 refl refl refl refl refl refl) refl e
+comma_over k e = plain_over 44 k (closing 44 refl refl refl refl refl refl refl) refl e
 
 pub gt_over : (k : Toks) → token.sees_gt k ≡ true → Over k
-gt_over k e = plain_over 62 k (closing 62 refl refl refl refl refl refl) refl e
+gt_over k e = plain_over 62 k (closing 62 refl refl refl refl refl refl refl) refl e
 
 pub semi_over : (k : Toks) → token.sees_semi k ≡ true → Over k
-semi_over k e = plain_over 59 k (closing 59 refl refl refl refl refl refl) refl e
+semi_over k e = plain_over 59 k (closing 59 refl refl refl refl refl refl refl) refl e
 
 pub equals_over : (k : Toks) → token.sees_equals k ≡ true → Over k
-equals_over k e = plain_over 61 k (closing 61 refl refl refl refl refl refl) refl e
+equals_over k e = plain_over 61 k (closing 61 refl refl refl refl refl refl refl) refl e
 
 -- a `:` that is no part of `::`
 pub colon_over : (k : Toks) → token.sees_colon k ≡ true → token.sees_path_sep k ≡ false → Over k
-colon_over k e n = char_over 58 k (closing 58 refl refl refl refl refl refl) e n
+colon_over k e n = char_over 58 k (closing 58 refl refl refl refl refl refl refl) e n
 
 -- one of two holds
 pub of_either : {P : Type 0} (a b : Bool) → (a ≡ true → P) → (b ≡ true → P) → a || b ≡ true → P

@@ -1,12 +1,18 @@
 -- Segments and paths print clearly in their normal form in each style, where the arguments of a segment do; and what does not begin with `try` prints no `try` at its start.
 use Rattle.std.proofs.Common.{◌≡◌, Bool, true, false, List, [], ◌++◌, Option, Some, None, refl, sym, ◌∙◌, ap, subst}
 use Rattle.token_core.specs.declared.tree.Ident.{Ident}
-use Rattle.token_core.specs.Listed.{Nowhere}
+use Rattle.token_core.specs.Listed.{AreListed, none_left, last_value, value_and_mark, Nowhere}
 use Rattle.token_core.specs.Loops.{Many}
 use Rattle.token_core.specs.Prints as p
 use Rattle.token_core.specs.Prints.{Print}
-use Rattle.token_core.specs.Spellings.{IsMark}
+use Rattle.token_core.specs.Reads.{sees_word}
+use Rattle.token_core.specs.Spellings.{IsMark, is_mark, last_char, more_chars}
+use Rattle.token_core.specs.Tokens as token
 use Rattle.token_core.specs.Toks.{Toks, word}
+use Rattle.token_core.specs.Trees.{row}
+use Rattle.token_core.proofs.MarkSpells.{mark_again}
+use Rattle.token_core.proofs.Rebuilds.{tree-ident}
+use Rattle.token_core.proofs.Rows.{row-append}
 use Rattle.syn_path.specs.declared.path.PathStyle.{PathStyle}
 use Rattle.syn_path.specs.declared.path.PathStyle.TheVariants.{AsWritten}
 use Rattle.syn_path.specs.path.Paths.{segment_of, path_of}
@@ -21,12 +27,22 @@ use Rattle.syn_ty.specs.path.Spelling.{is_segment_word, Styled, IsSegment, a_wor
 use Rattle.syn_ty.specs.ty.Normal as normal
 use Rattle.syn_ty.specs.ty.Parts.{Manner, plainly, clearly, Parts}
 use Rattle.syn_ty.specs.ty.Printing as printing
+use Rattle.syn_ty.specs.ty.Spelling.{absent, present}
 use Rattle.syn_ty.specs.ty.Trees.{Path, PathArguments, PathSegment}
 use Rattle.syn_ty.proofs.ty_laws.Again.{Again}
 use Rattle.syn_ty.proofs.ty_laws.AnglesAgain.{Then, then_front, made_front, IsIdent, ident_front, optional_front}
 use Rattle.syn_ty.proofs.ty_laws.NormalsAgain.{normal-None}
 use Rattle.syn_ty.proofs.ty_laws.Prints.{arguments-None}
 use Rattle.syn_ty.proofs.ty_laws.Reprint.{mark_front, listed_front}
+
+-- neither `::` nor `<` is `try`
+sep_no_try : (c : Sep) (l r : Toks) → IsMark true c l r → token.sees_try l ≡ false
+unfolding sees_word
+sep_no_try c l r (is_mark (more_chars x)) = refl
+
+pub lt_no_try : (c : token.Lt) (l r : Toks) → IsMark true c l r → token.sees_try l ≡ false
+unfolding sees_word
+lt_no_try c l r (is_mark (last_char x)) = refl
 
 module _ {A E : Type 0} (na : List A → List A) (ne : NormalValues E) (pa : List A → Print) (pe : Values E) (part : Manner → Parts A E) where
   -- the arguments of a segment that may stand in this style print clearly in it
@@ -70,3 +86,25 @@ module _ {A E : Type 0} (na : List A → List A) (ne : NormalValues E) (pa : Lis
     path_again x l r (a_path {c = c} {xs = xs} {cs = cs} {m = m} i t) =
         made_front (Then _ Segments) (IsPath part clearly style) _ (normal.path na ne) _ (paths.path pa pe style) (λ (z : Option Sep × Many (PathSegment A E) Sep). path_of z.0 z.1)
         (λ x l r i. a_path i.1 i.2) (λ x. refl) (λ x. refl) (c, (xs, cs)) l r (then_front (optional_front c l m i) (segments_again xs cs m r t))
+
+    -- ---- what begins with `try`
+
+    -- a segment prints the word that it begins with
+    segment_try : (x : PathSegment A E) (l r k : Toks) → IsSegment part plainly style x l r → token.sees_try (row (paths.segment pa pe style x) k) ≡ token.sees_try l
+    unfolding sees_word
+    segment_try x l r k (a_word {i = i} h) = ap token.sees_try (tree-ident i (row (printing.arguments pa pe style no_arguments) k))
+    segment_try x l r k (a_word_with_arguments {i = i} {x = y} h s t) = ap token.sees_try (tree-ident i (row (printing.arguments pa pe style y) k))
+
+    segments_try : (b : Bool) (xs : List (PathSegment A E)) (cs : List Sep) (l r k : Toks) → AreListed (λ (_ : Bool). IsSegment part plainly style) (IsMark false {n = 1} {k = 2}) Nowhere b xs cs l r →
+        token.sees_try (row (paths.segments pa pe style (xs, cs)) k) ≡ token.sees_try l
+    segments_try b xs cs l r k (none_left u) = absurd u
+    segments_try b xs cs l r k (last_value {x = x} i) = ap token.sees_try (row-append (paths.segment pa pe style x) [] k) ∙ segment_try x l r k i
+    segments_try b xs cs l r k (value_and_mark {x = x} {p = c} {xs = ys} {ps = ds} {m = m} i j t) =
+        let more = p.mark c ++ paths.segments pa pe style (ys, ds) in
+        ap token.sees_try (row-append (paths.segment pa pe style x) more k) ∙ segment_try x l m (row more k) i
+
+    pub path_no_try : (x : Path A E) (l r k : Toks) → token.sees_try l ≡ false → IsPath part plainly style x l r → token.sees_try (row (paths.path pa pe style x) k) ≡ false
+    path_no_try x l r k h (a_path {xs = xs} {cs = cs} absent t) = segments_try true xs cs l r k t ∙ h
+    path_no_try x l r k h (a_path {xs = xs} {cs = cs} {m = m} (present {a = c} i) t) =
+        let rest = row (paths.segments pa pe style (xs, cs)) k in
+        ap token.sees_try (row-append (p.mark c) (paths.segments pa pe style (xs, cs)) k) ∙ sep_no_try c (row (p.mark c) rest) rest (mark_again false c l m rest i)

@@ -44,7 +44,7 @@ pub gt_fits : (d : End) (c : token.Gt) (l k : Toks) → IsMark true c l k → Fi
 unfolding sees_mark sees_call sees_lifetime sees_group sees_word
 gt_fits d c l k (is_mark (last_char x)) =
     record {
-      stops = record { no_sep = refl; no_angle = refl; no_call = refl; no_arrow = refl; no_question = refl; no_lifetime = refl; no_paren = refl; no_bracket = refl };
+      stops = record { no_sep = refl; no_angle = refl; no_call = refl; no_arrow = refl; no_question = refl; no_lifetime = refl; no_paren = refl; no_bracket = refl; no_pound = refl };
       no_plus = λ o. refl;
       no_word = λ o. refl;
     }
@@ -53,7 +53,7 @@ pub word_fits : {n : ℕ} (d : End) (w : Word n) (l k : Toks) → d.in_plus ≡ 
 unfolding sees_mark sees_call sees_lifetime sees_group
 word_fits d w l k p is_word =
     record {
-      stops = record { no_sep = refl; no_angle = refl; no_call = refl; no_arrow = refl; no_question = refl; no_lifetime = refl; no_paren = refl; no_bracket = refl };
+      stops = record { no_sep = refl; no_angle = refl; no_call = refl; no_arrow = refl; no_question = refl; no_lifetime = refl; no_paren = refl; no_bracket = refl; no_pound = refl };
       no_plus = λ o. refl;
       no_word = λ o. absurd (true≢false (sym o ∙ p));
     }

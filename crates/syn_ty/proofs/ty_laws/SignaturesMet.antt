@@ -55,7 +55,7 @@ input_fits d k h = record { stops = h.stops; no_plus = λ q. h.no_plus; no_word 
 pub done_ends : EndsInput done
 unfolding sees_mark sees_word sees_group sees_lifetime sees_call
 done_ends = record {
-  stops = record { no_sep = refl; no_angle = refl; no_call = refl; no_arrow = refl; no_question = refl; no_lifetime = refl; no_paren = refl; no_bracket = refl };
+  stops = record { no_sep = refl; no_angle = refl; no_call = refl; no_arrow = refl; no_question = refl; no_lifetime = refl; no_paren = refl; no_bracket = refl; no_pound = refl };
   no_plus = refl;
   no_word = refl;
   no_colon = refl;
@@ -64,7 +64,7 @@ done_ends = record {
 pub comma_ends : (c : token.Comma) (l k : Toks) → IsMark true c l k → EndsInput l
 unfolding sees_mark sees_word sees_group sees_lifetime sees_call
 comma_ends c l k (is_mark (last_char x)) = record {
-  stops = record { no_sep = refl; no_angle = refl; no_call = refl; no_arrow = refl; no_question = refl; no_lifetime = refl; no_paren = refl; no_bracket = refl };
+  stops = record { no_sep = refl; no_angle = refl; no_call = refl; no_arrow = refl; no_question = refl; no_lifetime = refl; no_paren = refl; no_bracket = refl; no_pound = refl };
   no_plus = refl;
   no_word = refl;
   no_colon = refl;

@@ -261,21 +261,20 @@ module _ {A E : Type 0} (attrs : Reader (List A)) (values : ReadValues E) (r : R
 
   -- ---- all of them
 
-  pub type_met : (d : End) (x : Tree) (l k : Toks) (f : Option Span) (e : Span) (sc : Scope) → ahead (at l f e sc) ≤ limit → IsType part clearly place d x l k → Fits d k → token.sees_pound k ≡ false → (plus ≡ true → token.sees_plus k ≡ false) →
-      Reads_to (reading.type_step attrs values r place) x l k f e sc
-  type_met d x l k f e sc lim (a_path_type {o = o} {p = p} i) fits np no_plus = path_turn o p l k f e sc lim i.0 i.1 fits.stops np no_plus
-  type_met d x l k f e sc lim (a_macro_type {x = y} i) fits np no_plus = call_turn y l k f e sc lim i.0 i.1
-  type_met d x l k f e sc lim (a_bound_macro {b = b} {x = y} {m = m} i j h) fits np no_plus = bound_call_turn b y l m k f e sc lim i j.0 j.1 h
-  type_met d x l k f e sc lim (an_object_with_dyn {x = y} i) fits np no_plus = dyn_object_turn d y l k f e sc lim i fits
-  type_met d x l k f e sc lim (an_object_without_dyn {w = w} i) fits np no_plus = object_turn d w l k f e sc lim i fits np no_plus
-  type_met d x l k f e sc lim (an_impl_type {x = y} i) fits np no_plus = impl_type_turn d y l k f e sc lim i fits
-  type_met d x l k f e sc lim (a_fn_type {x = y} i) fits np no_plus = fn_turn d y l k f e sc lim i fits
-  type_met d x l k f e sc lim (a_ptr_type {x = y} i) fits np no_plus = pointer_turn d y l k f e sc lim i fits
-  type_met d x l k f e sc lim (a_reference_type {x = y} i) fits np no_plus = borrow_turn d y l k f e sc lim i fits
-  type_met d x l k f e sc lim (a_paren_type {x = y} i) fits np no_plus = enclosed_turn y l k f e sc lim i no_plus
-  type_met d x l k f e sc lim (a_tuple_type {x = y} i) fits np no_plus = tupled_turn y l k f e sc lim i
-  type_met d x l k f e sc lim (a_slice_type {x = y} i) fits np no_plus = slice_turn y l k f e sc lim i
-  type_met d x l k f e sc lim (an_array_type {x = y} i) fits np no_plus = array_turn y l k f e sc lim i
-  type_met d x l k f e sc lim (an_infer_type {x = y} i) fits np no_plus = infer_type_turn y l k f e sc i
-  type_met d x l k f e sc lim (a_never_type {x = y} i) fits np no_plus = never_turn y l k f e sc i
-  type_met d x l k f e sc lim (a_verbatim_type {t = t} i h) fits np no_plus = verbatim_turn d t l k f e sc lim i h fits no_plus
+  pub type_met : (d : End) (x : Tree) (l k : Toks) (f : Option Span) (e : Span) (sc : Scope) → ahead (at l f e sc) ≤ limit → IsType part clearly place d x l k → Fits d k → (plus ≡ true → token.sees_plus k ≡ false) → Reads_to (reading.type_step attrs values r place) x l k f e sc
+  type_met d x l k f e sc lim (a_path_type {o = o} {p = p} i) fits no_plus = path_turn o p l k f e sc lim i.0 i.1 fits.stops fits.stops.no_pound no_plus
+  type_met d x l k f e sc lim (a_macro_type {x = y} i) fits no_plus = call_turn y l k f e sc lim i.0 i.1
+  type_met d x l k f e sc lim (a_bound_macro {b = b} {x = y} {m = m} i j h) fits no_plus = bound_call_turn b y l m k f e sc lim i j.0 j.1 h
+  type_met d x l k f e sc lim (an_object_with_dyn {x = y} i) fits no_plus = dyn_object_turn d y l k f e sc lim i fits
+  type_met d x l k f e sc lim (an_object_without_dyn {w = w} i) fits no_plus = object_turn d w l k f e sc lim i fits fits.stops.no_pound no_plus
+  type_met d x l k f e sc lim (an_impl_type {x = y} i) fits no_plus = impl_type_turn d y l k f e sc lim i fits
+  type_met d x l k f e sc lim (a_fn_type {x = y} i) fits no_plus = fn_turn d y l k f e sc lim i fits
+  type_met d x l k f e sc lim (a_ptr_type {x = y} i) fits no_plus = pointer_turn d y l k f e sc lim i fits
+  type_met d x l k f e sc lim (a_reference_type {x = y} i) fits no_plus = borrow_turn d y l k f e sc lim i fits
+  type_met d x l k f e sc lim (a_paren_type {x = y} i) fits no_plus = enclosed_turn y l k f e sc lim i no_plus
+  type_met d x l k f e sc lim (a_tuple_type {x = y} i) fits no_plus = tupled_turn y l k f e sc lim i
+  type_met d x l k f e sc lim (a_slice_type {x = y} i) fits no_plus = slice_turn y l k f e sc lim i
+  type_met d x l k f e sc lim (an_array_type {x = y} i) fits no_plus = array_turn y l k f e sc lim i
+  type_met d x l k f e sc lim (an_infer_type {x = y} i) fits no_plus = infer_type_turn y l k f e sc i
+  type_met d x l k f e sc lim (a_never_type {x = y} i) fits no_plus = never_turn y l k f e sc i
+  type_met d x l k f e sc lim (a_verbatim_type {t = t} i h) fits no_plus = verbatim_turn d t l k f e sc lim i h fits no_plus
