@@ -1,5 +1,5 @@
 -- Arguments in angle brackets print clearly in their normal form, where each argument does, as the arguments of a segment too, in both styles; with what forms one after the other print.
-use Rattle.std.proofs.Common.{◌≡◌, ℕ, Bool, true, false, List, ◌++◌, Option, Some, None, refl, sym, ◌∙◌, ap, subst}
+use Rattle.std.proofs.Common.{◌≡◌, ℕ, Bool, true, false, List, ◌++◌, Option, Some, refl, sym, ◌∙◌, ap, subst}
 use Rattle.std.proofs.lemmas.Bool.{true≢false}
 use Rattle.token_core.specs.declared.mark.Mark.{Mark}
 use Rattle.token_core.specs.declared.tree.Ident.{Ident}
@@ -17,7 +17,6 @@ use Rattle.token_core.proofs.Rebuilds.{tree-ident}
 use Rattle.token_core.proofs.Rows.{row-append}
 use Rattle.syn_path.specs.declared.path.PathStyle.{PathStyle}
 use Rattle.syn_path.specs.declared.path.PathStyle.TheVariants.{AsWritten, Expr}
-use Rattle.syn_path.specs.path.Shapes.{colon}
 use Rattle.syn_path.specs.Values.{NormalValues, Values}
 use Rattle.syn_path.proofs.Words.{AgainFront}
 use Rattle.syn_ty.specs.declared.path.PathArgumentsOf.TheVariants as a
@@ -31,7 +30,7 @@ use Rattle.syn_ty.specs.ty.Spelling.{IsOptional, absent, present}
 use Rattle.syn_ty.specs.ty.Trees.{AngleBracketed, GenericArgument, PathArguments}
 use Rattle.syn_ty.specs.ty.Types.{Comma}
 use Rattle.syn_ty.proofs.ty_laws.Again.{Again}
-use Rattle.syn_ty.proofs.ty_laws.AnglesSortedAgain.{AreCommas, sorted_again}
+use Rattle.syn_ty.proofs.ty_laws.AnglesSortedAgain.{sorted_again}
 use Rattle.syn_ty.proofs.ty_laws.NormalsAgain.{normal-AngleBracketed, argument_kept}
 use Rattle.syn_ty.proofs.ty_laws.Prints.{arguments-AngleBracketed}
 use Rattle.syn_ty.proofs.ty_laws.Reprint.{mark_front}
@@ -146,3 +145,6 @@ module _ {A E : Type 0} (na : List A → List A) (ne : NormalValues E) (pa : Lis
   arguments_again style x l r s (some_arguments {x = y} i) =
       made_front (StyledAngle style) _ (normal.angle na ne) _ (printing.angle pa pe style) _ a.AngleBracketed (λ x l r i. (i.0, some_arguments i.1)) (normal-AngleBracketed na ne) (arguments-AngleBracketed pa pe style) y l r
       (styled_angle_again style y l r s i)
+
+  pub arguments_written_again : (x : PathArguments A E) (l r : Toks) → IsArguments part plainly x l r → AgainFront (IsArguments part clearly) (normal.arguments na ne) (printing.arguments pa pe AsWritten) x l r
+  arguments_written_again x l r i = let k = arguments_again AsWritten x l r tt i in record { spelt = λ h. (k.spelt h).1; visible = k.visible; seen = k.seen; stays = k.stays; same = k.same }

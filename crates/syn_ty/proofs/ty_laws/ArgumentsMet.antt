@@ -1,11 +1,10 @@
 -- A generic argument that a list spells clearly is what its read answers, and it takes no more: over the read of a type at its front, in both places.
 use Rattle.std.proofs.lemmas.Bool.{eqb-true}
 use Rattle.std.proofs.lemmas.Slice.Eq.{bytes_eq-Decides}
-use Rattle.std.proofs.Common.{◌≡◌, ℕ, ◌<◌, ◌≤◌, Bool, true, false, not, ◌==◌, ◌&&◌, ◌||◌, if◌then◌else◌, List, [], ◌∷◌, Option, Some, None, is_some, Ok, refl, sym, ◌∙◌, ap, subst, arith}
+use Rattle.std.proofs.Common.{◌≡◌, ℕ, ◌<◌, ◌≤◌, Bool, true, false, not, ◌==◌, ◌&&◌, ◌||◌, if◌then◌else◌, List, [], ◌∷◌, Option, Some, None, is_some, refl, sym, ◌∙◌, ap}
 use Rattle.token_core.specs.declared.lifetime.Lifetime.{Lifetime}
 use Rattle.token_core.specs.declared.lit.Lit.{Lit}
 use Rattle.token_core.specs.declared.span.Span.{Span}
-use Rattle.token_core.specs.declared.tree.Delimiter.TheVariants.{Brace}
 use Rattle.token_core.specs.declared.tree.Ident.{Ident}
 use Rattle.token_core.specs.declared.tree.Punct.{Punct}
 use Rattle.token_core.specs.Keywords.{is_keyword}
@@ -36,7 +35,6 @@ use Rattle.syn_ty.specs.declared.path.PathArgumentsOf.TheVariants as a
 use Rattle.syn_ty.specs.declared.path.PathArgumentsOf.{out-PathArgumentsOf}
 use Rattle.syn_ty.specs.declared.ty.TypeOf.TheVariants as form
 use Rattle.syn_ty.specs.declared.ty.TypePathOf.{out-roll-TypePathOf}
-use Rattle.syn_ty.specs.generics.Bounds.{AreBounds}
 use Rattle.syn_ty.specs.path.Arguments.{ArgumentPlace, alone, between_angles, ConstraintEnds, IsItemName, an_item, an_item_with_arguments, IsArgument, a_lifetime_argument, a_type_argument, a_const_argument, an_assoc_type, an_assoc_const, a_constraint}
 use Rattle.syn_ty.specs.path.Paths.{assoc_const_of, assoc_type_of, constraint_of, no_arguments}
 use Rattle.syn_ty.specs.path.Reading.{ItemName, after_item, after_type, argument_step, assoc, constraint, ends_constraint, generics_layer, item_layer, item_of, item_of_path, item_of_path_layer, sees_const, sees_lone_lifetime, with_name}
@@ -49,8 +47,8 @@ use Rattle.syn_ty.specs.ty.Trees.{AngleBracketed, GenericArgument, Path, PathArg
 use Rattle.syn_ty.specs.ty.Types.{qualified_with}
 use Rattle.syn_ty.proofs.ty_laws.Complete.{later}
 use Rattle.syn_ty.proofs.ty_laws.LessMet.{less_less, word_less}
-use Rattle.syn_ty.proofs.ty_laws.Met.{Stops, Fits, Less, TypeBegins, BoundBegins, Meets, SuppliedMeets}
-use Rattle.syn_ty.proofs.ty_laws.ParamsMet.{BoundsMeet, Over, over_fits, colon_met, colon_over, colon_seen, colon_takes, constraint_no_mark, constraint_over, done_no_mark, done_over, equals_met, equals_over, equals_seen, equals_takes, mapped_met, other_char}
+use Rattle.syn_ty.proofs.ty_laws.Met.{Fits, Less, TypeBegins, BoundBegins, Meets, SuppliedMeets}
+use Rattle.syn_ty.proofs.ty_laws.ParamsMet.{bounds_meet, Over, over_fits, colon_met, colon_over, colon_seen, colon_takes, constraint_no_mark, constraint_over, done_no_mark, done_over, equals_met, equals_over, equals_seen, equals_takes, mapped_met, other_char}
 
 -- ---- what follows an argument in its place
 
@@ -68,6 +66,12 @@ record Ended (place : ArgumentPlace) (l : Toks) : Type 0 where
 ended : (place : ArgumentPlace) (l : Toks) → EndsArgument place l → Ended place l
 ended alone l h = record { over = done_over l h; no_equals = done_no_mark 61 [] l h; no_colon = done_no_mark 58 [] l h; bounds_end = λ first may. absurd may }
 ended between_angles l h = record { over = constraint_over l h; no_equals = constraint_no_mark 61 [] l refl refl h; no_colon = constraint_no_mark 58 [] l refl refl h; bounds_end = λ first may. h }
+
+-- ---- no bound begins where the bounds of an associated type end
+
+pub ends_constraint_goes : (l : Toks) → BoundBegins Parameter l → ends_constraint l ≡ false
+unfolding ends_constraint
+ends_constraint_goes l b = ap (λ z. z || token.sees_gt l) b.no_comma ∙ b.no_gt
 
 -- ---- which test goes which way
 
@@ -162,7 +166,7 @@ module _ {A E : Type 0} (first : End → Relation (TypeTree A E)) (part : Manner
 -- ---- an argument
 
 module _ {A E : Type 0} (first : End → Relation (TypeTree A E)) (attrs : Reader (List A)) (values : ReadValues E) (r : Readers A E) (part : Manner → Parts A E) (limit : ℕ) (meets : Meets r part limit) (supplied : SuppliedMeets attrs values part)
-    (place : ArgumentPlace) (bounds_met : BoundsMeet r part limit (ConstraintEnds place) ends_constraint) where
+    (place : ArgumentPlace) where
   -- after the name of an associated item and `=`: a constant at a literal or braces, else a type
   assoc_const_met : (i : Ident) (o : Option (AngleBracketed A E)) (q : token.Equals) (x : E) (l m : Toks) (f : Option Span) (e : Span) (sc : Scope) → (part clearly).const_argument x l m →
       Reads_to (assoc values r i o q) (k.AssocConst (assoc_const_of i o q x)) l m f e sc
@@ -245,7 +249,7 @@ module _ {A E : Type 0} (first : End → Relation (TypeTree A E)) (attrs : Reade
         by_name i o x l n m f e sc h is (colon_over n (colon_seen c n j g) (colon_apart c n j g))
         (λ s. after_colon (name_type i o) i o c x n j m f s sc g
             (λ u. mapped_met (λ (v : Many (TypeParamBound A E) token.Plus). k.Constraint (constraint_of i o c v)) (bounds_to (r (a_bound Parameter)) ends_constraint) (xs, ps) j m f u sc
-                (bounds_met d xs ps j m f u sc (later l j f f e u sc limit less.lighter h) t (λ p. over_fits d m z.over) z.bounds_end)))
+                (bounds_meet r part limit meets (ConstraintEnds place) ends_constraint ends_constraint_goes d xs ps j m f u sc (later l j f f e u sc limit less.lighter h) t (λ p. over_fits d m z.over) z.bounds_end)))
 
 -- ---- by the rules of types, the name of an item is a type
 
@@ -269,9 +273,3 @@ module _ {A E : Type 0} (part : Manner → Parts A E) where
   name_is_type i o l m (an_item h) = a_path_type (unqualified (a_path absent (last_value (a_word (mod_segment i.text h)))), mod_no_try i m h)
   name_is_type i o l m (an_item_with_arguments {l = n} h g) =
       a_path_type (unqualified (a_path absent (last_value (a_word_with_arguments h tt g))), mod_no_try i n (named_mod (is_ident i.text) (is_text token.super_text i.text) (is_text token.self_value_text i.text) (is_text token.self_type_text i.text) (is_text token.crate_text i.text) h))
-
--- ---- no bound begins where the bounds of an associated type end
-
-pub constraint_goes : (l : Toks) → BoundBegins Parameter l → ends_constraint l ≡ false
-unfolding ends_constraint
-constraint_goes l b = ap (λ z. z || token.sees_gt l) b.no_comma ∙ b.no_gt

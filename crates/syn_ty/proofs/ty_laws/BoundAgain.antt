@@ -35,7 +35,7 @@ use Rattle.syn_ty.specs.generics.Bounds.{IsCapture, IsFor, IsTrait, a_trait, a_t
 use Rattle.syn_ty.specs.generics.NormalShapes.{binder_by, capture}
 use Rattle.syn_ty.specs.generics.Params.{trait_bound_of}
 use Rattle.syn_ty.specs.generics.Shapes as shapes
-use Rattle.syn_ty.specs.generics.Shapes.{bare_trait_by}
+use Rattle.syn_ty.specs.generics.Shapes.{bare_trait_by, in_parens}
 use Rattle.syn_ty.specs.path.Printing.{path}
 use Rattle.syn_ty.specs.path.Shapes.{as_written}
 use Rattle.syn_ty.specs.path.Signed.{IsBoundPath}
@@ -113,24 +113,34 @@ row_visible (x ∷ l) r k u w = (shows x).put (row l r) (row l k) u (row_visible
 
 -- ---- trait bounds
 
+-- a binder, a `?` and a path
+abbrev pub Named : Type 0 → Type 0 → Type 0
+Named A E = Option (BoundLifetimes A E) × Option token.Question × Path A E
+
+module _ {A E : Type 0} where
+  -- a bound of these, perhaps in parentheses
+  abbrev pub with_parens : Option Paren → Named A E → TraitBound A E
+  with_parens t v = trait_bound_of t v.0 (record {}) v.1 v.2
+
+  module _ (na : List A → List A) (ne : NormalValues E) where
+    abbrev pub normal_named : Named A E → Named A E
+    normal_named z = (binder_by (normal.param na ne) z.0, z.1, normal.path na ne z.2)
+
+    pub named_normal : (t : Option Paren) (v : Named A E) → normal.bound na ne (b.Trait (with_parens t v)) ≡ b.Trait (with_parens t (normal_named v))
+    named_normal t v = normal-Trait na ne (with_parens t v) ∙ ap b.Trait (trait_bound_normal na ne t v.0 (record {}) v.1 v.2)
+
+  module _ (pa : List A → Print) (pe : Values E) where
+    abbrev pub print_named : Named A E → Print
+    print_named z = bare_trait_by (printing.param pa pe) (printing.arguments pa pe as_written) z.0 z.1 z.2
+
+    pub named_prints : (t : Option Paren) (v : Named A E) → printing.bound pa pe (b.Trait (with_parens t v)) ≡ in_parens t (print_named v)
+    named_prints t v = bound-Trait pa pe (with_parens t v) ∙ trait_bound_parts pa pe t v.0 (record {}) v.1 v.2
+
 module _ {A E : Type 0} (na : List A → List A) (ne : NormalValues E) (pa : List A → Print) (pe : Values E) (part : Manner → Parts A E) where
-  abbrev pub Bound : Type 0
-  Bound = TypeParamBound A E
-
-  -- a binder, a `?` and a path
-  abbrev pub Named : Type 0
-  Named = Option (BoundLifetimes A E) × Option token.Question × Path A E
-
-  abbrev pub normal_named : Named → Named
-  normal_named z = (binder_by (normal.param na ne) z.0, z.1, normal.path na ne z.2)
-
-  abbrev pub print_named : Named → Print
-  print_named z = bare_trait_by (printing.param pa pe) (printing.arguments pa pe as_written) z.0 z.1 z.2
-
   module _ (for_front : (x : BoundLifetimes A E) (l r : Toks) → IsFor part plainly x l r → AgainFront (IsFor part clearly) (normal.bound_lifetimes na ne) (printing.bound_lifetimes pa pe) x l r)
       (path_front : (e : End) (x : Path A E) (l r : Toks) → IsBoundPath part plainly e x l r → AgainFront (IsBoundPath part clearly e) (normal.path na ne) (path pa pe as_written) x l r) where
     pub trait_again : (e : End) (o : Option (BoundLifetimes A E)) (q : Option token.Question) (z : Path A E) (l r : Toks) → IsTrait part plainly e o q z l r →
-        AgainFront (λ (v : Named). IsTrait part clearly e v.0 v.1 v.2) normal_named print_named (o, q, z) l r
+        AgainFront (λ (v : Named A E). IsTrait part clearly e v.0 v.1 v.2) (normal_named na ne) (print_named pa pe) (o, q, z) l r
     trait_again e o q z l r (a_trait i) =
         let k = path_front e z l r i in
         record { spelt = λ b. a_trait (k.spelt b); visible = λ b u w. k.visible b u w; seen = λ u. k.seen u; stays = ap (λ v. (None, None, v)) k.stays; same = k.same }
@@ -160,40 +170,27 @@ module _ {A E : Type 0} (na : List A → List A) (ne : NormalValues E) (pa : Lis
           same = ap (λ v. p.mark a ++ v) k.same;
         }
 
-    abbrev pub with_parens : Option Paren → Named → TraitBound A E
-    with_parens t v = trait_bound_of t v.0 (record {}) v.1 v.2
-
     pub trait_bound_again : (e : End) (x : TraitBound A E) (l r : Toks) → IsTraitBound part plainly e x l r → AgainFront (IsTraitBound part clearly e) (normal.trait_bound na ne) (printing.trait_bound pa pe) x l r
     trait_bound_again e x l r (a_trait_bound {o = o} {q = q} {p = z} i) =
-        within_front (IsTraitBound part clearly e) (λ (v : Named). IsTrait part clearly e v.0 v.1 v.2) (normal.trait_bound na ne) normal_named (printing.trait_bound pa pe) print_named (with_parens None)
+        within_front (IsTraitBound part clearly e) (λ (v : Named A E). IsTrait part clearly e v.0 v.1 v.2) (normal.trait_bound na ne) (normal_named na ne) (printing.trait_bound pa pe) (print_named pa pe) (with_parens None)
         (λ v. trait_bound_normal na ne None v.0 (record {}) v.1 v.2) (λ v k b i. a_trait_bound i) (λ v. trait_bound_parts pa pe None v.0 (record {}) v.1 v.2) (o, q, z) l r (trait_again e o q z l r i)
-
-    -- ---- a trait in parentheses, as a bound
-
-    abbrev pub held_in : DelimSpan → Named → Bound
-    held_in s v = b.Trait (with_parens (Some (groups.paren s)) v)
-
-    pub held_normal : (s : DelimSpan) (v : Named) → normal.bound na ne (held_in s v) ≡ held_in s (normal_named v)
-    held_normal s v = normal-Trait na ne (with_parens (Some (groups.paren s)) v) ∙ ap b.Trait (trait_bound_normal na ne (Some (groups.paren s)) v.0 (record {}) v.1 v.2)
-
-    pub held_prints : (s : DelimSpan) (v : Named) → printing.bound pa pe (held_in s v) ≡ p.group Parenthesis (stream_of_trees (print_named v)) s
-    held_prints s v = bound-Trait pa pe (with_parens (Some (groups.paren s)) v) ∙ trait_bound_parts pa pe (Some (groups.paren s)) v.0 (record {}) v.1 v.2
 
     -- ---- a bound in its place, where what is held verbatim is spelt clearly before all that may follow
 
     module _ (place : BoundPlace) (capture_front : (x : PreciseCapture) (l r : Toks) → IsCapture false x l r → AgainFront (IsCapture true) capture shapes.capture x l r)
         (held_front : (e : End) (t : TokenStream) (l r : Toks) → IsVerbatimBound part plainly place e l r → Holds t l r → (k : Toks) → IsVerbatimBound part clearly place e (row (trees t) k) k) where
-      abbrev To : End → Bound → Toks → Toks → Type 0
+      abbrev To : End → TypeParamBound A E → Toks → Toks → Type 0
       To e = IsBound part clearly place e
 
-      pub bound_again : (e : End) (x : Bound) (l r : Toks) → IsBound part plainly place e x l r → AgainFront (IsBound part clearly place e) (normal.bound na ne) (printing.bound pa pe) x l r
+      pub bound_again : (e : End) (x : TypeParamBound A E) (l r : Toks) → IsBound part plainly place e x l r → AgainFront (IsBound part clearly place e) (normal.bound na ne) (printing.bound pa pe) x l r
       bound_again e x l r (a_lifetime_bound {x = y} i) =
           within_front (To e) IsLifetime (normal.bound na ne) (λ v. v) (printing.bound pa pe) lifetimes.print b.Lifetime (normal-bound-Lifetime na ne) (λ v k b i. a_lifetime_bound i) (bound-Lifetime pa pe) y l r (lifetime_front y l r i)
       bound_again e x l r (a_bare_bound {x = y} i) =
           within_front (To e) (IsTraitBound part clearly e) (normal.bound na ne) (normal.trait_bound na ne) (printing.bound pa pe) (printing.trait_bound pa pe) b.Trait (normal-Trait na ne) (λ v k b i. a_bare_bound i) (bound-Trait pa pe) y l r
           (trait_bound_again e y l r i)
       bound_again e x l r (a_bound_in_parens {e = g} {o = o} {q = q} {p = z} {s = s} {c = c} i) =
-          grouped_front (To e) (λ (v : Named). IsTrait part clearly g v.0 v.1 v.2) (normal.bound na ne) normal_named (printing.bound pa pe) print_named (held_in s) (held_normal s) Parenthesis s tt (λ v k b i. a_bound_in_parens i) (held_prints s) (o, q, z) c r
+          grouped_front (To e) (λ (v : Named A E). IsTrait part clearly g v.0 v.1 v.2) (normal.bound na ne) (normal_named na ne) (printing.bound pa pe) (print_named pa pe) (λ v. b.Trait (with_parens (Some (groups.paren s)) v)) (named_normal na ne (Some (groups.paren s))) Parenthesis s tt
+          (λ v k b i. a_bound_in_parens i) (named_prints pa pe (Some (groups.paren s))) (o, q, z) c r
           (trait_again g o q z c done i)
       bound_again e x l r (a_capture_bound {x = y} h i) =
           within_front (To e) (IsCapture true) (normal.bound na ne) capture (printing.bound pa pe) shapes.capture b.PreciseCapture (normal-PreciseCapture na ne) (λ v k b i. a_capture_bound h i) (bound-PreciseCapture pa pe) y l r (capture_front y l r i)
@@ -210,9 +207,9 @@ module _ {A E : Type 0} (na : List A → List A) (ne : NormalValues E) (pa : Lis
 
   -- ---- bounds joined by `+`
 
-  module _ (kind : BoundPlace) (bound_front : (e : End) (x : Bound) (l r : Toks) → (part plainly).bound kind e x l r → AgainFront ((part clearly).bound kind e) (normal.bound na ne) (printing.bound pa pe) x l r) (Ends : Bool → Type 0) where
-    pub bounds_again : (first : Bool) (e : End) (xs : List Bound) (ps : List token.Plus) (l r : Toks) → AreBounds part plainly kind Ends first e xs ps l r →
-        AgainFront (λ (z : Many Bound token.Plus). AreBounds part clearly kind Ends first e z.0 z.1) (normal.bounds na ne) (printing.bounds_joined pa pe) (xs, ps) l r
+  module _ (kind : BoundPlace) (bound_front : (e : End) (x : TypeParamBound A E) (l r : Toks) → (part plainly).bound kind e x l r → AgainFront ((part clearly).bound kind e) (normal.bound na ne) (printing.bound pa pe) x l r) (Ends : Bool → Type 0) where
+    pub bounds_again : (first : Bool) (e : End) (xs : List (TypeParamBound A E)) (ps : List token.Plus) (l r : Toks) → AreBounds part plainly kind Ends first e xs ps l r →
+        AgainFront (λ (z : Many (TypeParamBound A E) token.Plus). AreBounds part clearly kind Ends first e z.0 z.1) (normal.bounds na ne) (printing.bounds_joined pa pe) (xs, ps) l r
     bounds_again first e xs ps l r (no_bounds h) = record { spelt = λ k. no_bounds h; visible = λ k u w. w; seen = λ u. u; stays = refl; same = refl }
     bounds_again first e xs ps l r (last_plus h) = record { spelt = λ k. last_plus h; visible = λ k u w. w; seen = λ u. u; stays = refl; same = refl }
     bounds_again first e xs ps l r (last_bound {e = f} {x = x} i) =
@@ -237,6 +234,6 @@ module _ {A E : Type 0} (na : List A → List A) (ne : NormalValues E) (pa : Lis
               (bound_and_plus (h.spelt (row (p.mark a) (row rest k))) c (g.spelt (row rest k)) (v.spelt k));
           visible = λ k u w. subst Visible (sym (seen k)) (h.visible (row (p.mark a) (row rest k)) u (g.visible (row rest k) (h.seen u) (v.visible k (g.seen (h.seen u)) w)));
           seen = λ u. v.seen (g.seen (h.seen u));
-          stays = ap (λ z. (z ∷ map (normal.bound na ne) (map (normal.bound na ne) ys), a ∷ qs)) h.stays ∙ ap (λ (z : Many Bound token.Plus). (normal.bound na ne x ∷ z.0, a ∷ z.1)) v.stays;
+          stays = ap (λ z. (z ∷ map (normal.bound na ne) (map (normal.bound na ne) ys), a ∷ qs)) h.stays ∙ ap (λ (z : Many (TypeParamBound A E) token.Plus). (normal.bound na ne x ∷ z.0, a ∷ z.1)) v.stays;
           same = ap (λ z. z ++ (p.mark a ++ printing.bounds_joined pa pe (map (normal.bound na ne) ys, qs))) h.same ∙ ap (λ z. one ++ (p.mark a ++ z)) v.same;
         }

@@ -1,7 +1,7 @@
 -- Predicates and where clauses that a list spells clearly are what their reads answer, and they take no more: over the reads of what they hold, and by themselves.
 use Rattle.std.proofs.lemmas.Bool.{eqb-true, lt-ltb}
 use Rattle.std.proofs.lemmas.Slice.Eq.{bytes_eq-Decides}
-use Rattle.std.proofs.Common.{◌≡◌, ◌⊎◌, ℕ, ◌<◌, ◌≤◌, Bool, true, false, not, ◌&&◌, ◌||◌, ◌==◌, if◌then◌else◌, List, [], ◌∷◌, Option, Some, None, is_some, Ok, inl, inr, refl, sym, ◌∙◌, ap, subst, arith}
+use Rattle.std.proofs.Common.{◌≡◌, ◌⊎◌, ℕ, zero, suc, ◌<◌, ◌≤◌, Bool, true, false, not, ◌&&◌, ◌||◌, ◌==◌, if◌then◌else◌, List, [], ◌∷◌, Option, Some, None, is_some, inl, inr, refl, sym, ◌∙◌, ap, subst, arith}
 use Rattle.token_core.specs.declared.lifetime.Lifetime.{Lifetime}
 use Rattle.token_core.specs.declared.span.Span.{Span}
 use Rattle.token_core.specs.declared.span.DelimSpan.{DelimSpan}
@@ -12,13 +12,13 @@ use Rattle.token_core.specs.declared.tree.Spacing.TheVariants.{Joint}
 use Rattle.token_core.specs.declared.word.Word.{Word}
 use Rattle.token_core.specs.Keywords.{is_keyword}
 use Rattle.token_core.specs.Marks.{text_of}
-use Rattle.token_core.specs.Lifetimes.{read_lifetime, sees_lifetime}
+use Rattle.token_core.specs.Lifetimes.{sees_lifetime}
 use Rattle.token_core.specs.Listed.{AreListed, Anywhere, Nowhere, none_left, last_value, value_and_mark}
-use Rattle.token_core.specs.Loops.{Many, size}
-use Rattle.token_core.specs.Reads.{Reader, ◌>>=◌, ◌<$>◌, after_one, builtin_text, is_done, is_ident, is_text, meets, optional, second, sees_group, sees_mark, sees_word, third}
+use Rattle.token_core.specs.Loops.{Many}
+use Rattle.token_core.specs.Reads.{Reader, after_one, builtin_text, is_done, is_ident, is_text, meets, second, sees_group, sees_mark, sees_word}
 use Rattle.token_core.specs.Spans.{none}
 use Rattle.token_core.specs.Spellings.{IsMark, is_mark, last_char, more_chars, IsWord, is_word, IsLifetime, is_lifetime}
-use Rattle.token_core.specs.Stream.{Scope, Stream}
+use Rattle.token_core.specs.Stream.{Scope}
 use Rattle.token_core.specs.Tokens as token
 use Rattle.token_core.specs.Toks.{Bytes, Toks, done, word, mark, lit, group, enter, leave}
 use Rattle.token_core.specs.Trees.{punct}
@@ -26,7 +26,7 @@ use Rattle.token_core.proofs.MarkSpells.{mark_complete, mark_seen, mark_size}
 use Rattle.token_core.proofs.Steps.{link, chosen, Reads_to}
 use Rattle.token_core.proofs.Took.{at}
 use Rattle.token_core.proofs.Unseen.{colon_apart, no_mark-other}
-use Rattle.token_core.proofs.WordSpells.{word_complete, word_seen, lifetime_complete}
+use Rattle.token_core.proofs.WordSpells.{word_complete, word_seen, lifetime_complete, lifetime_seen}
 use Rattle.syn_path.specs.declared.mac.Macro.{Macro}
 use Rattle.syn_path.specs.declared.path.PathSegmentOf.{PathSegmentOf}
 use Rattle.syn_path.specs.declared.path.PathStyle.TheVariants.{AsWritten}
@@ -36,13 +36,12 @@ use Rattle.syn_path.specs.mac.Spelling as calls
 use Rattle.syn_path.specs.path.Paths.{nothing}
 use Rattle.syn_path.specs.path.Reading.{sees_angle, sees_sep}
 use Rattle.syn_path.specs.path.Spelling as bare
-use Rattle.syn_path.specs.Values.{ReadValues}
+use Rattle.syn_path.specs.Values.{ReadValues, SpelledValues}
 use Rattle.syn_forms.specs.declared.places.BoundPlace.TheVariants.{Parameter}
 use Rattle.syn_forms.specs.declared.places.ParamPlace.TheVariants.{Binder}
 use Rattle.syn_forms.specs.declared.places.TypePlace.{TypePlace}
 use Rattle.syn_forms.specs.declared.places.TypePlace.TheVariants.{Bounded, Plus}
 use Rattle.syn_forms.specs.inputs.Reading.{sees_ident_or_underscore, sees_name}
-use Rattle.syn_forms.specs.lists.Reading.{bounds_to}
 use Rattle.syn_forms.specs.nested.Below.{ahead, below_if, held}
 use Rattle.syn_forms.specs.paths.Reading.{is_named_word, sees_turbofish}
 use Rattle.syn_forms.specs.predicates.Reading as predicates
@@ -55,14 +54,14 @@ use Rattle.syn_ty.specs.declared.generics.WhereClauseOf.{WhereClauseOf}
 use Rattle.syn_ty.specs.declared.generics.WherePredicateOf.{WherePredicateOf}
 use Rattle.syn_ty.specs.declared.generics.WherePredicateOf.TheVariants as w
 use Rattle.syn_ty.specs.generics.Alone as alone
-use Rattle.syn_ty.specs.generics.Bounds.{AreBounds, IsFor}
-use Rattle.syn_ty.specs.generics.Clauses.{begins_as_generics, IsLifetimePredicate, a_lifetime_predicate, AreBoundsOf, bounds_of, IsTypePredicate, a_type_predicate, a_type_predicate_for, IsPredicate, of_lifetime, of_type, IsWhereClause, a_where_clause}
+use Rattle.syn_ty.specs.generics.Bounds.{IsFor}
+use Rattle.syn_ty.specs.generics.Clauses.{begins_as_generics, a_lifetime_predicate, AreBoundsOf, bounds_of, a_type_predicate, a_type_predicate_for, IsPredicate, of_lifetime, of_type, IsWhereClause, a_where_clause}
 use Rattle.syn_ty.specs.generics.Declared as declared
 use Rattle.syn_ty.specs.generics.Declared.{lifetime_after, predicate_after, predicate_bounds, sees_first_param, sees_generics, sees_lifetime_predicate, type_after}
 use Rattle.syn_ty.specs.generics.Parameters.{AreGenerics, AreLifetimes}
-use Rattle.syn_ty.specs.generics.Params.{predicate_lifetime_of, predicate_type_of, where_clause_of}
-use Rattle.syn_ty.specs.generics.Reading.{binder, optional_binder, sees_ident}
-use Rattle.syn_ty.specs.generics.Spelling.{IsBinder, a_binder}
+use Rattle.syn_ty.specs.generics.Params.{predicate_lifetime_of, predicate_type_of}
+use Rattle.syn_ty.specs.generics.Reading.{optional_binder, sees_ident}
+use Rattle.syn_ty.specs.generics.Spelling.{a_binder}
 use Rattle.syn_ty.specs.path.Paths.{Sep}
 use Rattle.syn_ty.specs.path.Reading.{sees_lone_lifetime}
 use Rattle.syn_ty.specs.path.Spelling.{is_segment_word, IsSegment, a_word, a_word_with_arguments, IsPath, a_path, by_type, by_type_as_path, IsAnyPath, unqualified, qualified}
@@ -71,13 +70,14 @@ use Rattle.syn_ty.specs.ty.Functions.{an_abi, IsFnPtr, a_fn_ptr}
 use Rattle.syn_ty.specs.ty.Knot.{reads_below, ty}
 use Rattle.syn_ty.specs.ty.Objects.{a_dyn, an_impl, IsFirst, a_first, a_first_for, AreBareBounds, path_alone, path_and_plus, held_and_plus, asked_first, asked_in_two, lifetime_first}
 use Rattle.syn_ty.specs.ty.Parts.{Manner, clearly, End, Parts}
-use Rattle.syn_ty.specs.ty.Points.{Readers, a_bound}
+use Rattle.syn_ty.specs.ty.Points.{Readers}
 use Rattle.syn_ty.specs.ty.Spelling.{IsOptional, absent, present, an_infer, a_never}
+use Rattle.syn_ty.specs.ty.Spelt.{spelt_to}
 use Rattle.syn_ty.specs.ty.Trees.{BoundLifetimes, GenericParam, Path, PathArguments, PathSegment, QSelf, TypeFnPtr, TypeParamBound, TypeTree}
 use Rattle.syn_ty.proofs.ty_laws.Complete.{later, not_more}
 use Rattle.syn_ty.proofs.ty_laws.LessMet.{same, some, no_no, no_less, less_no, less_less, listed_no, mark_takes, word_takes, lifetime_takes}
 use Rattle.syn_ty.proofs.ty_laws.Met.{Firsts, Fits, Less, NoMore, TypeBegins, BoundBegins, Meets, SuppliedMeets}
-use Rattle.syn_ty.proofs.ty_laws.ParamsMet.{BoundsMeet, Over, over_fits, absent_met, after_attrs_met, bounds_no, generics_met, present_met, brace_over, colon_met, colon_over, colon_seen, colon_takes, comma_over, done_no_mark, done_over, equals_over, life_no_pound, lives_met, mapped_met, no_later, of_either, optional_binder_met, other_char, semi_over}
+use Rattle.syn_ty.proofs.ty_laws.ParamsMet.{bounds_meet, Over, over_fits, absent_met, after_attrs_met, bounds_no, generics_met, present_met, brace_over, colon_met, colon_over, colon_seen, colon_takes, comma_over, done_no_mark, done_over, equals_over, life_no_pound, lives_met, none_of_four, mapped_met, no_later, of_either, optional_binder_met, other_char, semi_over}
 
 -- ---- what ends a predicate
 
@@ -147,10 +147,66 @@ none_of_six false false true d e q h i j m n o = cc j
 none_of_six false true c d e q h i j m n o = cc i
 none_of_six true b c d e q h i j m n o = cc h
 
-pub predicate_goes : (l : Toks) → BoundBegins Parameter l → ends_predicate l ≡ false
+pub ends_predicate_goes : (l : Toks) → BoundBegins Parameter l → ends_predicate l ≡ false
 unfolding ends_predicate
-predicate_goes l b =
+ends_predicate_goes l b =
     none_of_six (is_done l) (sees_group Brace l) (token.sees_comma l) (token.sees_semi l) (token.sees_colon l && not (token.sees_path_sep l)) (token.sees_equals l) b.there b.no_brace b.no_comma b.no_semi b.no_colon b.no_equals
+
+-- ---- a lifetime ends nothing
+
+quote_if : {T : Type 0} (p : Punct) (b : Bool) (o : Option T) → (p.ch == 39) ≡ b → is_some (if b then o else None) ≡ true → p.ch ≡ 39
+quote_if p true o h e = eqb-true p.ch 39 h
+quote_if p false o h e = cc e
+
+quote_is : (p : Punct) (k : Toks) → sees_lifetime (mark p k) ≡ true → p.ch ≡ 39
+unfolding sees_lifetime
+quote_is p k h = quote_if p (p.ch == 39) _ refl h
+
+life_no_word : (test : Bytes → Bool) (l : Toks) → sees_lifetime l ≡ true → sees_word test l ≡ false
+unfolding sees_lifetime sees_word
+life_no_word test done h = refl
+life_no_word test (word i k) h = cc h
+life_no_word test (mark p k) h = refl
+life_no_word test (lit x k) h = refl
+life_no_word test (group x s c k) h = refl
+life_no_word test (enter s k) h = life_no_word test k h
+life_no_word test (leave k) h = life_no_word test k h
+
+quote_no_mark : (x : ℕ) (xs : List ℕ) (l : Toks) → (39 == x) ≡ false → sees_lifetime l ≡ true → sees_mark (x ∷ xs) l ≡ false
+unfolding sees_lifetime sees_mark
+quote_no_mark x xs done n h = refl
+quote_no_mark x xs (word i k) n h = refl
+quote_no_mark x xs (mark p k) n h = no_mark-other x xs p k (ap (λ z. z == x) (quote_is p k h) ∙ n)
+quote_no_mark x xs (lit y k) n h = refl
+quote_no_mark x xs (group y s c k) n h = refl
+quote_no_mark x xs (enter s k) n h = quote_no_mark x xs k n h
+quote_no_mark x xs (leave k) n h = quote_no_mark x xs k n h
+
+life_there : (l : Toks) → sees_lifetime l ≡ true → is_done l ≡ false
+unfolding sees_lifetime is_done
+life_there done h = cc h
+life_there (word i k) h = refl
+life_there (mark p k) h = refl
+life_there (lit x k) h = refl
+life_there (group x s c k) h = refl
+life_there (enter s k) h = life_there k h
+life_there (leave k) h = life_there k h
+
+life_no_brace : (l : Toks) → sees_lifetime l ≡ true → sees_group Brace l ≡ false
+unfolding sees_lifetime sees_group
+life_no_brace done h = refl
+life_no_brace (word i k) h = refl
+life_no_brace (mark p k) h = refl
+life_no_brace (lit x k) h = refl
+life_no_brace (group x s c k) h = cc h
+life_no_brace (enter s k) h = life_no_brace k h
+life_no_brace (leave k) h = life_no_brace k h
+
+life_unended : (l : Toks) → sees_lifetime l ≡ true → ends_predicate l ≡ false
+unfolding ends_predicate
+life_unended l h =
+    none_of_six (is_done l) (sees_group Brace l) (token.sees_comma l) (token.sees_semi l) (token.sees_colon l && not (token.sees_path_sep l)) (token.sees_equals l)
+    (life_there l h) (life_no_brace l h) (quote_no_mark 44 [] l refl h) (quote_no_mark 59 [] l refl h) (ap (λ b. b && not (token.sees_path_sep l)) (quote_no_mark 58 [] l refl h)) (quote_no_mark 61 [] l refl h)
 
 -- ---- which test goes which way
 
@@ -158,9 +214,10 @@ life_seen : (x : Lifetime) (c : token.Colon) (l m k : Toks) → IsLifetime x l m
 unfolding sees_lifetime_predicate sees_lifetime after_one
 life_seen x c l m k is_lifetime i = colon_seen c m k i
 
-plus_no_colon : (o : Option Toks) → meets token.sees_plus o ≡ true → meets token.sees_colon o ≡ false
-plus_no_colon None h = refl
-plus_no_colon (Some m) h = other_char 43 58 [] [] m refl h
+-- what is a `+` is no other mark
+plus_alone : (o : Option Toks) (c : ℕ) → (43 == c) ≡ false → meets token.sees_plus o ≡ true → meets (sees_mark (c ∷ [])) o ≡ false
+plus_alone None c n h = refl
+plus_alone (Some m) c n h = other_char 43 c [] [] m n h
 
 not_lone : (a p c : Bool) → a && not p ≡ false → (p ≡ true → c ≡ false) → a && c ≡ false
 not_lone false p c h g = refl
@@ -170,7 +227,7 @@ not_lone true false c h g = cc h
 -- a type that begins with a lifetime goes on with a `+`
 type_unseen : (l k : Toks) → TypeBegins l k → sees_lifetime_predicate l ≡ false
 unfolding sees_lifetime_predicate sees_lone_lifetime
-type_unseen l k b = not_lone (sees_lifetime l) (second token.sees_plus l) (second token.sees_colon l) b.no_lone (plus_no_colon (after_one l))
+type_unseen l k b = not_lone (sees_lifetime l) (second token.sees_plus l) (second token.sees_colon l) b.no_lone (plus_alone (after_one l) 58 refl)
 
 -- ---- predicates of lifetimes
 
@@ -215,8 +272,7 @@ module _ {A E : Type 0} (part : Manner → Parts A E) where
 -- ---- predicates, over the read of the type, which may stand where the predicate begins
 
 module _ {A E : Type 0} (attrs : Reader (List A)) (values : ReadValues E) (type : Reader (TypeTree A E)) (r : Readers A E) (part : Manner → Parts A E) (limit : ℕ) (meets : Meets r part limit) (supplied : SuppliedMeets attrs values part)
-    (type_met : (d : End) (x : TypeTree A E) (l k : Toks) (f : Option Span) (e : Span) (sc : Scope) → ahead (at l f e sc) ≤ limit → (part clearly).ty Bounded d x l k → Fits d k → token.sees_plus k ≡ false → Reads_to type x l k f e sc)
-    (bounds_met : BoundsMeet r part limit Anywhere ends_predicate) where
+    (type_met : (d : End) (x : TypeTree A E) (l k : Toks) (f : Option Span) (e : Span) (sc : Scope) → ahead (at l f e sc) ≤ limit → (part clearly).ty Bounded d x l k → Fits d k → token.sees_plus k ≡ false → Reads_to type x l k f e sc) where
   -- a type, `:` and bounds
   rest_met : (a : List A) (o : Option (BoundLifetimes A E)) (d : End) (x : TypeTree A E) (c : token.Colon) (xs : List (TypeParamBound A E)) (ps : List token.Plus) (l m n k : Toks) (f : Option Span) (e : Span) (sc : Scope) → ahead (at l f e sc) ≤ limit →
       Reads_to (optional_binder r) o l m f e sc → NoMore l m → (part clearly).ty Bounded d x m n → AreBoundsOf part clearly c xs ps n k → ends_predicate k ≡ true → Reads_to (type_after type r a) (predicate_type_of a o x c (xs, ps)) l k f e sc
@@ -227,7 +283,7 @@ module _ {A E : Type 0} (attrs : Reader (List A)) (values : ReadValues E) (type 
       let v = type_met d x m n f u.last sc (no_later l m f f e u.last sc limit le h) t (over_fits d n here) here.no_plus in
       let b = colon_met c n j f v.last sc i in
       let less = no_less le (less_less (meets.firsts.ty Bounded d x m n t).1 (colon_takes c n j i)) in
-      let s = bounds_met g xs ps j k f b.last sc (later l j f f e b.last sc limit less.lighter h) q (λ p. over_fits g k over) (λ first may. z) in
+      let s = bounds_meet r part limit meets Anywhere ends_predicate ends_predicate_goes g xs ps j k f b.last sc (later l j f f e b.last sc limit less.lighter h) q (λ p. over_fits g k over) (λ first may. z) in
       record { last = s.last; reads = link _ u.reads (link _ v.reads (link _ b.reads (link _ s.reads refl))) }
 
   abbrev Further : List A → WherePredicateOf A E → Toks → Toks → Option Span → Span → Scope → Type 0
@@ -295,14 +351,6 @@ no_angle : (l : Toks) → token.sees_lt l ≡ false → sees_generics l ≡ fals
 unfolding sees_generics
 no_angle l h = ap (λ b. b && (second token.sees_gt l || (second token.sees_pound l || (sees_first_param l || second token.sees_const l)))) h
 
-life_no_end : (x : Lifetime) (l k : Toks) → IsLifetime x l k → ends_predicate l ≡ false
-unfolding ends_predicate is_done sees_mark sees_group
-life_no_end x l k is_lifetime = refl
-
-life_no_angle : (x : Lifetime) (l k : Toks) → IsLifetime x l k → token.sees_lt l ≡ false
-unfolding sees_mark
-life_no_angle x l k is_lifetime = refl
-
 -- what begins a predicate after its attributes
 after_these : (P : Toks → Type 0) (l m : Toks) → (l ≡ m) ⊎ (token.sees_pound l ≡ true) → P m → (token.sees_pound l ≡ true → P l) → P l
 after_these P l m (inl e) h g = subst P (sym e) h
@@ -323,7 +371,7 @@ module _ {A E : Type 0} (attrs : Reader (List A)) (values : ReadValues E) (one :
   Is = IsPredicate part clearly
 
   goes_on : (x : WherePredicateOf A E) (l k : Toks) → Is x l k → ends_predicate l ≡ false
-  goes_on x l k (of_lifetime (a_lifetime_predicate {a = a} {x = y} {m = m} {n = n} i g q t)) = after_these (λ z. ends_predicate z ≡ false) l m (supplied.attrs_begin a l m i) (life_no_end y m n g) (pound_goes l)
+  goes_on x l k (of_lifetime (a_lifetime_predicate {a = a} {x = y} {m = m} {n = n} i g q t)) = after_these (λ z. ends_predicate z ≡ false) l m (supplied.attrs_begin a l m i) (life_unended m (lifetime_seen y m n g)) (pound_goes l)
   goes_on x l k (of_type (a_type_predicate {a = a} {e = d} {x = y} {m = m} {n = n} i s t q)) = after_these (λ z. ends_predicate z ≡ false) l m (supplied.attrs_begin a l m i) (type_goes d y m n t) (pound_goes l)
   goes_on x l k (of_type (a_type_predicate_for {a = a} {o = o} {m = m} {n = n} i s t q)) = after_these (λ z. ends_predicate z ≡ false) l m (supplied.attrs_begin a l m i) (for_goes part o m n s) (pound_goes l)
 
@@ -341,7 +389,7 @@ module _ {A E : Type 0} (attrs : Reader (List A)) (values : ReadValues E) (one :
   -- no generics begin with a predicate that does not begin as they do
   plain : (x : WherePredicateOf A E) (l k : Toks) → Is x l k → begins_as_generics l ≡ false → sees_generics l ≡ false
   plain x l k (of_lifetime (a_lifetime_predicate {a = a} {x = y} {m = m} {n = n} i g q t)) h =
-      after_these (λ z. sees_generics z ≡ false) l m (supplied.attrs_begin a l m i) (no_angle m (life_no_angle y m n g)) (λ p. no_angle l (other_char 35 60 [] [] l refl p))
+      after_these (λ z. sees_generics z ≡ false) l m (supplied.attrs_begin a l m i) (no_angle m (quote_no_mark 60 [] m refl (lifetime_seen y m n g))) (λ p. no_angle l (other_char 35 60 [] [] l refl p))
   plain x l k (of_type (a_type_predicate {a = a} {e = d} {x = y} {m = m} {n = n} i s t q)) h =
       after_these (λ z. begins_as_generics z ≡ false → sees_generics z ≡ false) l m (supplied.attrs_begin a l m i) (type_plain d y m n t) (λ p b. no_angle l (other_char 35 60 [] [] l refl p)) h
   plain x l k (of_type (a_type_predicate_for {a = a} {o = o} {m = m} {n = n} i s t q)) h =
@@ -381,11 +429,11 @@ module _ {A E : Type 0} (attrs : Reader (List A)) (values : ReadValues E) (one :
 -- ---- by themselves: what they hold is read by the knot, further on
 
 -- a read that is asked only where less than a limit is left
-pub held_met : {P B : Type 0} (p : P → Reader B) (limit : ℕ) (place : P) (x : B) (l k : Toks) (f : Option Span) (e : Span) (sc : Scope) → ahead (at l f e sc) < limit → Reads_to (p place) x l k f e sc → Reads_to (held p limit place) x l k f e sc
+pub below_met : {P B : Type 0} (p : P → Reader B) (limit : ℕ) (place : P) (x : B) (l k : Toks) (f : Option Span) (e : Span) (sc : Scope) → ahead (at l f e sc) < limit → Reads_to (p place) x l k f e sc → Reads_to (held p limit place) x l k f e sc
 unfolding held
-held_met p limit place x l k f e sc h g = record { last = g.last; reads = ap (λ b. below_if b (p place) (at l f e sc)) (lt-ltb _ _ h) ∙ g.reads }
+below_met p limit place x l k f e sc h g = record { last = g.last; reads = ap (λ b. below_if b (p place) (at l f e sc)) (lt-ltb _ _ h) ∙ g.reads }
 
--- the reads of the knot below any limit are met, those of bounds up to the end of a predicate too, and types where they stand
+-- the reads of the knot below any limit are met, and types where they stand
 module _ {A E : Type 0} (attrs : Reader (List A)) (values : ReadValues E) (part : Manner → Parts A E) (supplied : SuppliedMeets attrs values part) (meets : (limit : ℕ) → Meets (reads_below attrs values limit) part limit) where
   pub generics_alone_met : (x : GenericsOf A E) (l k : Toks) (f : Option Span) (e : Span) (sc : Scope) → AreGenerics part clearly x l k → (x.lt_token ≡ None → token.sees_lt k ≡ false) → Reads_to (alone.generics attrs values) x l k f e sc
   unfolding alone.generics
@@ -394,13 +442,12 @@ module _ {A E : Type 0} (attrs : Reader (List A)) (values : ReadValues E) (part 
       let u = generics_met (reads_below attrs values limit) part limit (meets limit) x l k f e sc (omega arith) i n in
       record { last = u.last; reads = u.reads }
 
-  module _ (bounds_met : (limit : ℕ) → BoundsMeet (reads_below attrs values limit) part limit Anywhere ends_predicate)
-      (type_met : (d : End) (x : TypeTree A E) (l k : Toks) (f : Option Span) (e : Span) (sc : Scope) → (part clearly).ty Bounded d x l k → Fits d k → token.sees_plus k ≡ false → Reads_to (ty attrs values Bounded) x l k f e sc) where
+  module _ (type_met : (d : End) (x : TypeTree A E) (l k : Toks) (f : Option Span) (e : Span) (sc : Scope) → (part clearly).ty Bounded d x l k → Fits d k → token.sees_plus k ≡ false → Reads_to (ty attrs values Bounded) x l k f e sc) where
     pub predicate_alone_met : (x : WherePredicateOf A E) (l k : Toks) (f : Option Span) (e : Span) (sc : Scope) → IsPredicate part clearly x l k → ends_predicate k ≡ true → Reads_to (alone.predicate attrs values) x l k f e sc
     unfolding alone.predicate
     predicate_alone_met x l k f e sc i z =
         let limit = ahead (at l f e sc) in
-        let u = predicate_met attrs values (ty attrs values Bounded) (reads_below attrs values limit) part limit (meets limit) supplied (λ d y m n g b s h. type_met d y m n g b s) (bounds_met limit) x l k f e sc (omega arith) i z in
+        let u = predicate_met attrs values (ty attrs values Bounded) (reads_below attrs values limit) part limit (meets limit) supplied (λ d y m n g b s h. type_met d y m n g b s) x l k f e sc (omega arith) i z in
         record { last = u.last; reads = u.reads }
 
     module _ (type_goes : (d : End) (x : TypeTree A E) (l k : Toks) → (part clearly).ty Bounded d x l k → ends_predicate l ≡ false)
@@ -410,7 +457,7 @@ module _ {A E : Type 0} (attrs : Reader (List A)) (values : ReadValues E) (part 
       where_alone_met x l k f e sc i z n =
           let limit = ahead (at l f e sc) in
           let u = where_met attrs values (held (alone.predicate_in attrs values) limit tt) part limit (meets limit).firsts supplied type_goes type_plain
-              (λ y m j g b s h t q. held_met (alone.predicate_in attrs values) limit tt y m j g b s h (predicate_alone_met y m j g b s t q)) x l k f e sc (omega arith) i z n in
+              (λ y m j g b s h t q. below_met (alone.predicate_in attrs values) limit tt y m j g b s h (predicate_alone_met y m j g b s t q)) x l k f e sc (omega arith) i z n in
           record { last = u.last; reads = u.reads }
 
       -- where there is none, before what is no `where`
@@ -605,61 +652,6 @@ module _ {A E : Type 0} (part : Manner → Parts A E) where
 
 -- ---- what is told by how a type begins
 
--- a lifetime
-quote_if : {T : Type 0} (p : Punct) (b : Bool) (o : Option T) → (p.ch == 39) ≡ b → is_some (if b then o else None) ≡ true → p.ch ≡ 39
-quote_if p true o h e = eqb-true p.ch 39 h
-quote_if p false o h e = cc e
-
-quote_is : (p : Punct) (k : Toks) → sees_lifetime (mark p k) ≡ true → p.ch ≡ 39
-unfolding sees_lifetime
-quote_is p k h = quote_if p (p.ch == 39) _ refl h
-
-life_no_word : (test : Bytes → Bool) (l : Toks) → sees_lifetime l ≡ true → sees_word test l ≡ false
-unfolding sees_lifetime sees_word
-life_no_word test done h = refl
-life_no_word test (word i k) h = cc h
-life_no_word test (mark p k) h = refl
-life_no_word test (lit x k) h = refl
-life_no_word test (group x s c k) h = refl
-life_no_word test (enter s k) h = life_no_word test k h
-life_no_word test (leave k) h = life_no_word test k h
-
-quote_no_mark : (x : ℕ) (xs : List ℕ) (l : Toks) → (39 == x) ≡ false → sees_lifetime l ≡ true → sees_mark (x ∷ xs) l ≡ false
-unfolding sees_lifetime sees_mark
-quote_no_mark x xs done n h = refl
-quote_no_mark x xs (word i k) n h = refl
-quote_no_mark x xs (mark p k) n h = no_mark-other x xs p k (ap (λ z. z == x) (quote_is p k h) ∙ n)
-quote_no_mark x xs (lit y k) n h = refl
-quote_no_mark x xs (group y s c k) n h = refl
-quote_no_mark x xs (enter s k) n h = quote_no_mark x xs k n h
-quote_no_mark x xs (leave k) n h = quote_no_mark x xs k n h
-
-life_there : (l : Toks) → sees_lifetime l ≡ true → is_done l ≡ false
-unfolding sees_lifetime is_done
-life_there done h = cc h
-life_there (word i k) h = refl
-life_there (mark p k) h = refl
-life_there (lit x k) h = refl
-life_there (group x s c k) h = refl
-life_there (enter s k) h = life_there k h
-life_there (leave k) h = life_there k h
-
-life_no_brace : (l : Toks) → sees_lifetime l ≡ true → sees_group Brace l ≡ false
-unfolding sees_lifetime sees_group
-life_no_brace done h = refl
-life_no_brace (word i k) h = refl
-life_no_brace (mark p k) h = refl
-life_no_brace (lit x k) h = refl
-life_no_brace (group x s c k) h = cc h
-life_no_brace (enter s k) h = life_no_brace k h
-life_no_brace (leave k) h = life_no_brace k h
-
-life_unended : (l : Toks) → sees_lifetime l ≡ true → ends_predicate l ≡ false
-unfolding ends_predicate
-life_unended l h =
-    none_of_six (is_done l) (sees_group Brace l) (token.sees_comma l) (token.sees_semi l) (token.sees_colon l && not (token.sees_path_sep l)) (token.sees_equals l)
-    (life_there l h) (life_no_brace l h) (quote_no_mark 44 [] l refl h) (quote_no_mark 59 [] l refl h) (ap (λ b. b && not (token.sees_path_sep l)) (quote_no_mark 58 [] l refl h)) (quote_no_mark 61 [] l refl h)
-
 first_false : (a b : Bool) → (a ≡ true → b ≡ false) → a && b ≡ false
 first_false true b h = h refl
 first_false false b h = refl
@@ -710,69 +702,74 @@ module _ {A E : Type 0} (part : Manner → Parts A E) where
   starts_lt l k (at_life h) = inl (quote_no_mark 60 [] l refl h)
   starts_lt l k (at_angle {o = o} {d = d} {x = x} {m = m} {n = n} i t e) = inr (o, d, x, m, n, i, t, e)
 
-  -- ---- after a `<`
+-- ---- after a `<`
 
-  comma_ending : Ending 44
-  comma_ending = record { no_bang = refl; no_pound = refl; no_plus = refl; no_colon = refl; no_lt = refl }
+comma_ending : Ending 44
+comma_ending = record { no_bang = refl; no_pound = refl; no_plus = refl; no_colon = refl; no_lt = refl }
 
-  equals_ending : Ending 61
-  equals_ending = record { no_bang = refl; no_pound = refl; no_plus = refl; no_colon = refl; no_lt = refl }
+equals_ending : Ending 61
+equals_ending = record { no_bang = refl; no_pound = refl; no_plus = refl; no_colon = refl; no_lt = refl }
 
-  third_seen : (o : Option Toks) (c : ℕ) → (43 == c) ≡ false → meets token.sees_plus o ≡ true → meets (sees_mark (c ∷ [])) o ≡ false
-  third_seen None c n h = refl
-  third_seen (Some m) c n h = other_char 43 c [] [] m n h
+neither : (a b c : Bool) → (a ≡ true → c ≡ false) → (b ≡ true → c ≡ false) → (a || b) && c ≡ false
+neither true b c h g = h refl
+neither false true c h g = g refl
+neither false false c h g = refl
 
-  none_of_four : (a b c d : Bool) → a ≡ false → b ≡ false → c ≡ false → d ≡ false → a || (b || (c || d)) ≡ false
-  none_of_four false false false d h i j k = k
-  none_of_four false false true d h i j k = cc j
-  none_of_four false true c d h i j k = cc i
-  none_of_four true b c d h i j k = cc h
+second_false : (a b : Bool) → a ≡ true → a && b ≡ false → b ≡ false
+second_false true b h g = g
+second_false false b h g = cc h
 
-  neither : (a b c : Bool) → (a ≡ true → c ≡ false) → (b ≡ true → c ≡ false) → (a || b) && c ≡ false
-  neither true b c h g = h refl
-  neither false true c h g = g refl
-  neither false false c h g = refl
+lone_plus : (a b : Bool) → a ≡ true → a && not b ≡ false → b ≡ true
+lone_plus true true h g = refl
+lone_plus true false h g = cc g
+lone_plus false b h g = cc h
 
-  second_false : (a b : Bool) → a ≡ true → a && b ≡ false → b ≡ false
-  second_false true b h g = g
-  second_false false b h g = cc h
+-- what stands behind a first Ident: no `:` but that of `::`, where none follows the type
+name_colon : (m n : Toks) → TypeBegins m n → token.sees_colon n ≡ false → sees_ident m ≡ true → (second token.sees_colon m && not (second token.sees_path_sep m)) ≡ false
+unfolding sees_name
+name_colon m n b h i = second_false (sees_ident_or_underscore m || (false && token.sees_self_value m)) _ (left_or _ _ (left_or (sees_ident m) _ i)) (b.no_name h false)
 
-  lone_plus : (a b : Bool) → a ≡ true → a && not b ≡ false → b ≡ true
-  lone_plus true true h g = refl
-  lone_plus true false h g = cc g
-  lone_plus false b h g = cc h
+angle_plain : (o : token.Lt) (l m n : Toks) → IsMark true o l m → TypeBegins m n → Heads m n → ((c : ℕ) → (62 == c) ≡ false → sees_mark (c ∷ []) n ≡ false) → begins_as_generics l ≡ false → sees_generics l ≡ false
+unfolding sees_generics sees_first_param sees_lone_lifetime after_one sees_mark
+angle_plain o l m n (is_mark (last_char x)) b g e h =
+    let plus = λ (i : sees_lifetime m ≡ true). lone_plus (sees_lifetime m) (second token.sees_plus m) i b.no_lone in
+    let last = (second token.sees_colon m && not (second token.sees_path_sep m)) in
+    none_of_four (token.sees_gt m) (token.sees_pound m) ((sees_lifetime m || sees_ident m) && (second token.sees_gt m || (second token.sees_comma m || (last || second token.sees_equals m)))) (token.sees_const m) b.no_gt b.no_pound
+    (neither (sees_lifetime m) (sees_ident m) _
+        (λ i. none_of_four (second token.sees_gt m) (second token.sees_comma m) last (second token.sees_equals m) (plus_alone (after_one m) 62 refl (plus i)) (plus_alone (after_one m) 44 refl (plus i))
+            (ap (λ z. z && not (second token.sees_path_sep m)) (plus_alone (after_one m) 58 refl (plus i))) (plus_alone (after_one m) 61 refl (plus i)))
+        (λ i. none_of_four (second token.sees_gt m) (second token.sees_comma m) last (second token.sees_equals m) (second_false (sees_ident m) (second token.sees_gt m) i h)
+            (second_false (sees_ident m) _ i (g.alone 44 comma_ending (e 44 refl))) (name_colon m n b (e 58 refl) i) (second_false (sees_ident m) _ i (g.alone 61 equals_ending (e 61 refl)))))
+    g.no_const
 
-  -- what stands behind a first Ident: no `:` but that of `::`, where none follows the type
-  name_colon : (m n : Toks) → TypeBegins m n → token.sees_colon n ≡ false → sees_ident m ≡ true → (second token.sees_colon m && not (second token.sees_path_sep m)) ≡ false
-  unfolding sees_name
-  name_colon m n b h i = second_false (sees_ident_or_underscore m || (false && token.sees_self_value m)) _ (left_or _ _ (left_or (sees_ident m) _ i)) (b.no_name h false)
+-- ---- by the rules of types, what a predicate's type begins with
 
-  angle_plain : (o : token.Lt) (l m n : Toks) → IsMark true o l m → TypeBegins m n → Heads m n → ((c : ℕ) → (62 == c) ≡ false → sees_mark (c ∷ []) n ≡ false) → begins_as_generics l ≡ false → sees_generics l ≡ false
-  unfolding sees_generics sees_first_param sees_lone_lifetime after_one sees_mark
-  angle_plain o l m n (is_mark (last_char x)) b g e h =
-      let plus = λ (i : sees_lifetime m ≡ true). lone_plus (sees_lifetime m) (second token.sees_plus m) i b.no_lone in
-      let last = (second token.sees_colon m && not (second token.sees_path_sep m)) in
-      none_of_four (token.sees_gt m) (token.sees_pound m) ((sees_lifetime m || sees_ident m) && (second token.sees_gt m || (second token.sees_comma m || (last || second token.sees_equals m)))) (token.sees_const m) b.no_gt b.no_pound
-      (neither (sees_lifetime m) (sees_ident m) _
-          (λ i. none_of_four (second token.sees_gt m) (second token.sees_comma m) last (second token.sees_equals m) (third_seen (after_one m) 62 refl (plus i)) (third_seen (after_one m) 44 refl (plus i))
-              (ap (λ z. z && not (second token.sees_path_sep m)) (third_seen (after_one m) 58 refl (plus i))) (third_seen (after_one m) 61 refl (plus i)))
-          (λ i. none_of_four (second token.sees_gt m) (second token.sees_comma m) last (second token.sees_equals m) (second_false (sees_ident m) (second token.sees_gt m) i h)
-              (second_false (sees_ident m) _ i (g.alone 44 comma_ending (e 44 refl))) (name_colon m n b (e 58 refl) i) (second_false (sees_ident m) _ i (g.alone 61 equals_ending (e 61 refl)))))
-      g.no_const
+module _ {A E : Type 0} (part : Manner → Parts A E) (firsts : Firsts part) where
+  pub type_heads : (place : TypePlace) (d : End) (x : TypeTree A E) (l k : Toks) → IsType part clearly place d x l k → Heads l k
+  type_heads place d x l k i = let s = type_starts part firsts place d x l k i in record { no_const = starts_no_const part l k s; alone = λ c e h. starts_alone part c l k e h s }
 
-  -- ---- by the rules of types, what a predicate's type begins with
+  pub type_goes : (place : TypePlace) (d : End) (x : TypeTree A E) (l k : Toks) → IsType part clearly place d x l k → ends_predicate l ≡ false
+  type_goes place d x l k i = starts_go part l k (type_starts part firsts place d x l k i)
 
-  module _ (firsts : Firsts part) where
-    pub type_heads : (place : TypePlace) (d : End) (x : TypeTree A E) (l k : Toks) → IsType part clearly place d x l k → Heads l k
-    type_heads place d x l k i = let s = type_starts part firsts place d x l k i in record { no_const = starts_no_const l k s; alone = λ c e h. starts_alone c l k e h s }
+  -- over the types within
+  pub type_plain : ((d : End) (x : TypeTree A E) (l k : Toks) → (part clearly).ty Plus d x l k → Heads l k) → (place : TypePlace) (d : End) (x : TypeTree A E) (l k : Toks) → IsType part clearly place d x l k → begins_as_generics l ≡ false → sees_generics l ≡ false
+  type_plain heads place d x l k i h =
+      elim (starts_lt part l k (type_starts part firsts place d x l k i)) [
+        | inl n ↦ no_angle l n
+        | inr q ↦ angle_plain q.0 l q.3 q.4 q.5 (firsts.ty Plus q.1 q.2 q.3 q.4 q.6).0 (heads q.1 q.2 q.3 q.4 q.6) q.7 h
+      ]
 
-    pub type_goes : (place : TypePlace) (d : End) (x : TypeTree A E) (l k : Toks) → IsType part clearly place d x l k → ends_predicate l ≡ false
-    type_goes place d x l k i = starts_go l k (type_starts part firsts place d x l k i)
+-- ---- for trees of at most a height
 
-    -- over the types within
-    pub type_plain : ((d : End) (x : TypeTree A E) (l k : Toks) → (part clearly).ty Plus d x l k → Heads l k) → (place : TypePlace) (d : End) (x : TypeTree A E) (l k : Toks) → IsType part clearly place d x l k → begins_as_generics l ≡ false → sees_generics l ≡ false
-    type_plain heads place d x l k i h =
-        elim (starts_lt l k (type_starts part firsts place d x l k i)) [
-          | inl n ↦ no_angle l n
-          | inr q ↦ angle_plain q.0 l q.3 q.4 q.5 (firsts.ty Plus q.1 q.2 q.3 q.4 q.6).0 (heads q.1 q.2 q.3 q.4 q.6) q.7 h
-        ]
+module _ {A E : Type 0} (attrs : Bool → List A → Toks → Toks → Type 0) (values : SpelledValues E) (firsts : (n : ℕ) → Firsts (spelt_to attrs values n)) where
+  pub heads_to : (n : ℕ) (place : TypePlace) (d : End) (x : TypeTree A E) (l k : Toks) → (spelt_to attrs values n clearly).ty place d x l k → Heads l k
+  heads_to zero place d x l k i = absurd i
+  heads_to (suc n) place d x l k i = type_heads (spelt_to attrs values n) (firsts n) place d x l k i
+
+  pub goes_to : (n : ℕ) (place : TypePlace) (d : End) (x : TypeTree A E) (l k : Toks) → (spelt_to attrs values n clearly).ty place d x l k → ends_predicate l ≡ false
+  goes_to zero place d x l k i = absurd i
+  goes_to (suc n) place d x l k i = type_goes (spelt_to attrs values n) (firsts n) place d x l k i
+
+  pub plain_to : (n : ℕ) (place : TypePlace) (d : End) (x : TypeTree A E) (l k : Toks) → (spelt_to attrs values n clearly).ty place d x l k → begins_as_generics l ≡ false → sees_generics l ≡ false
+  plain_to zero place d x l k i h = absurd i
+  plain_to (suc n) place d x l k i h = type_plain (spelt_to attrs values n) (firsts n) (heads_to n Plus) place d x l k i h

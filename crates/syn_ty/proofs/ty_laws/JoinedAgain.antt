@@ -150,3 +150,9 @@ lives_front z l r i =
     (lives_after true) (λ (y : LivesAfter). (colon y.0 y.1.0, y.1)) (λ (y : LivesAfter). shown.after_colon lifetimes.print y.0 y.1) (λ y. y)
     (λ y. ap (λ (x : List Lifetime). (colon y.0 y.1.0, (x, y.1.1))) (sym (map_same y.1.0))) (λ y. refl) (λ y a b h. h) z l r
     (after_front (AreLives false) (AreLives true) (λ x. x) lifetimes.print lifetimes_front no_lives z l r i)
+
+-- lifetimes are their own normal form
+pub lives_again : (v : Many Lifetime token.Plus) (l r : Toks) → AreLives false v l r → AgainFront (AreLives true) (λ (z : Many Lifetime token.Plus). z) lifetimes_joined v l r
+lives_again v l r i =
+    made_front (AreLives true) (many (λ x. x)) lifetimes_joined (AreLives true) (λ (z : Many Lifetime token.Plus). z) lifetimes_joined (λ y. y)
+    (λ y. ap (λ (x : List Lifetime). (x, y.1)) (sym (map_same y.0))) (λ y. refl) (λ y a b h. h) v l r (lifetimes_front v l r i)

@@ -1,9 +1,10 @@
 -- Parameters, each in its place, and binders print their normal forms clearly, where what stands within them does.
-use Rattle.std.proofs.Common.{◌≡◌, Bool, true, false, List, [], ◌++◌, Option, Some, None, refl, ◌∙◌, ap, subst}
+use Rattle.std.proofs.Common.{◌≡◌, Bool, true, false, List, [], ◌++◌, Option, Some, None, option_map, refl, sym, ◌∙◌, ap, subst, append_assoc}
 use Rattle.token_core.specs.declared.lifetime.Lifetime.{Lifetime}
 use Rattle.token_core.specs.declared.tree.Ident.{Ident}
 use Rattle.token_core.specs.Lifetimes as lifetimes
-use Rattle.token_core.specs.Listed.{Anywhere}
+use Rattle.token_core.specs.Listed.{AreListed, Anywhere}
+use Rattle.token_core.specs.Lists.{joined}
 use Rattle.token_core.specs.Loops.{Many}
 use Rattle.token_core.specs.Prints as p
 use Rattle.token_core.specs.Prints.{Print}
@@ -19,24 +20,26 @@ use Rattle.syn_forms.specs.declared.places.ParamPlace.{ParamPlace}
 use Rattle.syn_forms.specs.declared.places.ParamPlace.TheVariants as params
 use Rattle.syn_forms.specs.declared.places.TypePlace.TheVariants.{Plus}
 use Rattle.syn_forms.proofs.tokens_laws.Mutability.{word_front}
+use Rattle.syn_ty.specs.declared.generics.BoundLifetimesOf.{BoundLifetimesOf}
 use Rattle.syn_ty.specs.declared.generics.GenericParamOf.TheVariants as g
 use Rattle.syn_ty.specs.declared.generics.LifetimeParamOf.{LifetimeParamOf}
-use Rattle.syn_ty.specs.generics.Bounds.{AreBounds, no_bounds}
+use Rattle.syn_ty.specs.generics.Bounds.{AreBounds, no_bounds, IsFor}
 use Rattle.syn_ty.specs.generics.NormalShapes as shapes
-use Rattle.syn_ty.specs.generics.NormalShapes.{colon}
+use Rattle.syn_ty.specs.generics.NormalShapes.{colon, many}
 use Rattle.syn_ty.specs.generics.Parameters.{IsGiven, given, IsLifetimeParam, a_lone_lifetime, a_lifetime_with_bounds, AreBoundsAfter, no_colon, after_colon, IsAnyType, any_type, IsTypeParam, a_type_param, IsConstParam, a_const_param, IsParam, a_lifetime_param, a_named_param, a_constant_param, a_bare_param}
-use Rattle.syn_ty.specs.generics.Params.{const_param_of, lifetime_param_of, type_param_of}
+use Rattle.syn_ty.specs.generics.Params.{bound_lifetimes_of, const_param_of, lifetime_param_of, type_param_of}
 use Rattle.syn_ty.specs.generics.Shapes as shown
+use Rattle.syn_ty.specs.generics.Spelling.{IsBinder, a_binder}
 use Rattle.syn_ty.specs.ty.Normal as normal
 use Rattle.syn_ty.specs.ty.Parts.{Manner, plainly, clearly, End, Parts}
 use Rattle.syn_ty.specs.ty.Printing as printing
 use Rattle.syn_ty.specs.ty.Spelling.{Relation, IsOptional, absent, present}
-use Rattle.syn_ty.specs.ty.Trees.{ConstParam, GenericParam, TypeParam, TypeParamBound, TypeTree}
+use Rattle.syn_ty.specs.ty.Trees.{BoundLifetimes, ConstParam, GenericParam, TypeParam, TypeParamBound, TypeTree}
 use Rattle.syn_ty.proofs.ty_laws.Again.{Again, SuppliedAgain}
-use Rattle.syn_ty.proofs.ty_laws.JoinedAgain.{Then, then_front, made_front, lifetime_front, IsNamed, named_front, IsAfter, none_after, some_after, after_front, LivesAfter, lives_after, lives_front}
+use Rattle.syn_ty.proofs.ty_laws.JoinedAgain.{Then, then_front, made_front, optional_again, lifetime_front, IsNamed, named_front, IsAfter, none_after, some_after, after_front, LivesAfter, lives_after, lives_front}
 use Rattle.syn_ty.proofs.ty_laws.NormalsAgain.{normal-Lifetime, normal-Type, normal-Const, type_param_normal}
 use Rattle.syn_ty.proofs.ty_laws.Prints.{param-Lifetime, param-Type, param-Const, type_param_parts}
-use Rattle.syn_ty.proofs.ty_laws.Reprint.{mark_front}
+use Rattle.syn_ty.proofs.ty_laws.Reprint.{mark_front, listed_front}
 
 -- ---- lifetimes as parameters, over their attributes
 
@@ -62,6 +65,18 @@ module _ {A E : Type 0} (na : List A → List A) (ne : NormalValues E) (pa : Lis
   pub lifetime_param_again : (x : LifetimeParamOf A) (l r : Toks) → IsLifetimeParam part plainly x l r → AgainFront (IsLifetimeParam part clearly) (shapes.lifetime_param na ne) (shown.lifetime_param pa pe) x l r
   lifetime_param_again x l r (a_lone_lifetime {a = a} {x = y} {m = m} i j) = lifetime_parts a y (None, ([], [])) l m r r i j none_after
   lifetime_param_again x l r (a_lifetime_with_bounds {a = a} {x = y} {c = c} {xs = xs} {ps = ps} {m = m} {n = n} i j k t) = lifetime_parts a y (Some c, (xs, ps)) l m n r i j (some_after k t)
+
+-- ---- bounds of a parameter
+
+module _ {A E : Type 0} (na : List A → List A) (ne : NormalValues E) (pa : List A → Print) (pe : Values E) (part : Manner → Parts A E) where
+  -- what is to be given of them
+  abbrev pub BoundsAgain : Type 0
+  BoundsAgain = (e : End) (v : Many (TypeParamBound A E) token.Plus) (l r : Toks) → AreBounds part plainly Parameter Anywhere true e v.0 v.1 l r →
+      AgainFront (λ (z : Many (TypeParamBound A E) token.Plus). AreBounds part clearly Parameter Anywhere true e z.0 z.1) (normal.bounds na ne) (printing.bounds_joined pa pe) v l r
+
+  -- however they end
+  abbrev pub SomeBounds : Manner → Relation (Many (TypeParamBound A E) token.Plus)
+  SomeBounds how v l r = (e : End) × AreBounds part how Parameter Anywhere true e v.0 v.1 l r
 
 -- ---- parameters, over what stands within them
 
@@ -121,40 +136,32 @@ module _ {A E : Type 0} (na : List A → List A) (ne : NormalValues E) (pa : Lis
       let v = then_front IsWord (λ (z : token.Const). z) (λ (z : token.Const). p.word z) _ _ _ w (i, (c, (y, d))) m (word i n) r (word_front w m (word i n) b) s in
       let o = then_front (part clearly).attrs na pa _ _ _ a (w, (i, (c, (y, d)))) l m r (supplied.attrs a l m at) v in
       made_front _ _ _ (IsConstParam part clearly) (normal.const_param na ne) (printing.const_param pa pe) const_of (λ z. refl) (λ z. refl)
-      (λ z g z' h. const_by z g h.0 h.2.0 h.2.2.0 h.2.2.2.0 h.2.2.2.2.0 z' h.1 h.2.1 h.2.2.1.0 h.2.2.1.1 h.2.2.2.1 h.2.2.2.2.1 h.2.2.2.2.2) (a, (w, (i, (c, (y, d))))) l r o
+      (λ z b g h. const_by z b h.0 h.2.0 h.2.2.0 h.2.2.2.0 h.2.2.2.2.0 g h.1 h.2.1 h.2.2.1.0 h.2.2.1.1 h.2.2.2.1 h.2.2.2.2.1 h.2.2.2.2.2) (a, (w, (i, (c, (y, d))))) l r o
 
   -- ---- types with their bounds: that of the bounds is given
-
-  abbrev pub BoundsAgain : Type 0
-  BoundsAgain = (e : End) (v : Many (TypeParamBound A E) token.Plus) (l r : Toks) → AreBounds part plainly Parameter Anywhere true e v.0 v.1 l r →
-      AgainFront (λ (z : Many (TypeParamBound A E) token.Plus). AreBounds part clearly Parameter Anywhere true e z.0 z.1) (normal.bounds na ne) (printing.bounds_joined pa pe) v l r
-
-  -- however they end
-  abbrev pub SomeBounds : Manner → Relation (Many (TypeParamBound A E) token.Plus)
-  SomeBounds how v l r = (e : End) × AreBounds part how Parameter Anywhere true e v.0 v.1 l r
 
   no_bound : (e : End) (ps : List token.Plus) (l r : Toks) → AreBounds part plainly Parameter Anywhere true e [] ps l r → (l ≡ r) × (ps ≡ [])
   no_bound e ps l r (no_bounds u) = (refl, refl)
 
-  module _ (bounds : BoundsAgain) where
-    pub some_bounds_again : (v : Many (TypeParamBound A E) token.Plus) (l r : Toks) → SomeBounds plainly v l r → AgainFront (SomeBounds clearly) (normal.bounds na ne) (printing.bounds_joined pa pe) v l r
+  module _ (bounds : BoundsAgain na ne pa pe part) where
+    pub some_bounds_again : (v : Many (TypeParamBound A E) token.Plus) (l r : Toks) → SomeBounds na ne pa pe part plainly v l r → AgainFront (SomeBounds na ne pa pe part clearly) (normal.bounds na ne) (printing.bounds_joined pa pe) v l r
     some_bounds_again v l r i = let h = bounds i.0 v l r i.1 in record { spelt = λ k. (i.0, h.spelt k); visible = λ k u w. h.visible k u w; seen = λ u. h.seen u; stays = h.stays; same = h.same }
 
     abbrev BoundsAfter : Type 0
     BoundsAfter = Option token.Colon × Many (TypeParamBound A E) token.Plus
 
-    bounds_after : (c : Option token.Colon) (xs : List (TypeParamBound A E)) (ps : List token.Plus) (l r : Toks) → AreBoundsAfter part plainly c xs ps l r → IsAfter false (SomeBounds plainly) (c, (xs, ps)) l r
+    bounds_after : (c : Option token.Colon) (xs : List (TypeParamBound A E)) (ps : List token.Plus) (l r : Toks) → AreBoundsAfter part plainly c xs ps l r → IsAfter false (SomeBounds na ne pa pe part plainly) (c, (xs, ps)) l r
     bounds_after c xs ps l r no_colon = none_after
     bounds_after c xs ps l r (after_colon {e = e} i j) = some_after i (e, j)
 
-    after_bounds : (z : BoundsAfter) (l r : Toks) → IsAfter true (SomeBounds clearly) z l r → AreBoundsAfter part clearly z.0 z.1.0 z.1.1 l r
+    after_bounds : (z : BoundsAfter) (l r : Toks) → IsAfter true (SomeBounds na ne pa pe part clearly) z l r → AreBoundsAfter part clearly z.0 z.1.0 z.1.1 l r
     after_bounds z l r none_after = no_colon
     after_bounds z l r (some_after i j) = after_colon i j.1
 
     pub bounds_after_again : (c : Option token.Colon) (xs : List (TypeParamBound A E)) (ps : List token.Plus) (l r : Toks) → AreBoundsAfter part plainly c xs ps l r →
         AgainFront (λ (z : BoundsAfter). AreBoundsAfter part clearly z.0 z.1.0 z.1.1) (λ (z : BoundsAfter). (colon z.0 z.1.0, normal.bounds na ne z.1)) (λ (z : BoundsAfter). shown.after_colon (printing.bound pa pe) z.0 z.1) (c, (xs, ps)) l r
     bounds_after_again c xs ps l r i =
-        let h = after_front (SomeBounds plainly) (SomeBounds clearly) (normal.bound na ne) (printing.bound pa pe) some_bounds_again (λ qs a b j. no_bound j.0 qs a b j.1) (c, (xs, ps)) l r (bounds_after c xs ps l r i) in
+        let h = after_front (SomeBounds na ne pa pe part plainly) (SomeBounds na ne pa pe part clearly) (normal.bound na ne) (printing.bound pa pe) some_bounds_again (λ qs a b j. no_bound j.0 qs a b j.1) (c, (xs, ps)) l r (bounds_after c xs ps l r i) in
         record { spelt = λ k. after_bounds _ (row (shown.after_colon (printing.bound pa pe) c (xs, ps)) k) k (h.spelt k); visible = λ k u v. h.visible k u v; seen = λ u. h.seen u; stays = h.stays; same = h.same }
 
     abbrev TypePieces : Type 0
@@ -173,7 +180,7 @@ module _ {A E : Type 0} (na : List A → List A) (ne : NormalValues E) (pa : Lis
         let o = then_front (part clearly).attrs na pa _ _ _ a (i, ((c, (xs, ps)), d)) l (word i m) r (supplied.attrs a l (word i m) b) q in
         made_front _ _ _ (IsTypeParam part clearly) (normal.type_param na ne) (printing.type_param pa pe) type_of
         (λ z. type_param_normal na ne z.0 z.1.0 z.1.1.0.0 z.1.1.0.1 z.1.1.1) (λ z. type_param_parts pa pe z.0 z.1.0 z.1.1.0.0 z.1.1.0.1 z.1.1.1)
-        (λ z f g h. type_by z f h.0 h.2.0 h.2.2.0 g h.1 h.2.1.0 h.2.1.1 h.2.2.1 h.2.2.2) (a, (i, ((c, (xs, ps)), d))) l r o
+        (λ z b f h. type_by z b h.0 h.2.0 h.2.2.0 f h.1 h.2.1.0 h.2.1.1 h.2.2.1 h.2.2.2) (a, (i, ((c, (xs, ps)), d))) l r o
 
     -- ---- a parameter in its place
 
@@ -196,3 +203,58 @@ module _ {A E : Type 0} (na : List A → List A) (ne : NormalValues E) (pa : Lis
         (λ z. param-Type pa pe (type_param_of z.0 z.1 None ([], []) None) ∙ type_param_parts pa pe z.0 z.1 None ([], []) None)
         (λ z b c h. a_bare_param (subst (λ y. (part clearly).attrs z.0 b y) h.2.0 h.1) h.2.1) (a, i) l r
         (then_front (part clearly).attrs na pa (IsNamed (is_text token.underscore_text)) (λ (z : Ident). z) p.ident a i l (word i r) r (supplied.attrs a l (word i r) b) (named_front (is_text token.underscore_text) i r e))
+
+-- ---- binders
+
+-- piece by piece, before what follows
+pub binder_pieces : {G : Type 0} (f : G → Print) (o : Option (BoundLifetimesOf G)) (q : Print) → shown.binder_start o ++ (shown.binder_joined f o ++ (shown.binder_end o ++ q)) ≡ shown.binder_by f o ++ q
+binder_pieces f None q = refl
+binder_pieces f (Some x) q =
+    let all = shown.binder_joined f (Some x) in
+    let first = p.word x.for_token ++ p.mark x.lt_token in
+    ap (λ z. first ++ z) (sym (append_assoc all (p.mark x.gt_token) q)) ∙ sym (append_assoc first (all ++ p.mark x.gt_token) q)
+    ∙ ap (λ z. z ++ q) (append_assoc (p.word x.for_token) (p.mark x.lt_token) (all ++ p.mark x.gt_token))
+
+module _ {A E : Type 0} (P Q : Relation (GenericParam A E)) (np : GenericParam A E → GenericParam A E) (pp : GenericParam A E → Print)
+    (again : (x : GenericParam A E) (l r : Toks) → P x l r → AgainFront Q np pp x l r) where
+  abbrev Binder : Type 0
+  Binder = BoundLifetimes A E
+
+  abbrev normal_binder : Binder → Binder
+  normal_binder x = bound_lifetimes_of x.for_token x.lt_token (many np x.lifetimes) x.gt_token
+
+  abbrev BinderPieces : Type 0
+  BinderPieces = token.For × (token.Lt × (Many (GenericParam A E) token.Comma × token.Gt))
+
+  abbrev binder_of : BinderPieces → Binder
+  binder_of z = bound_lifetimes_of z.0 z.1.0 z.1.1.0 z.1.1.1
+
+  abbrev Listed : Relation (Many (GenericParam A E) token.Comma)
+  Listed z l r = AreListed (λ (_ : Bool). Q) (IsMark true) Anywhere true z.0 z.1 l r
+
+  pub binder_again : (x : Binder) (l r : Toks) → IsBinder false P x l r → AgainFront (IsBinder true Q) normal_binder (shown.bound_lifetimes_by pp) x l r
+  binder_again x l r (a_binder {f = f} {o = o} {xs = xs} {cs = cs} {c = c} {m = m} {n = n} {k = k} i j t q) =
+      let u = listed_front (λ (_ : Bool). P) (λ (_ : Bool). Q) (IsMark false) (IsMark true) Anywhere np pp p.mark (λ _. again) mark_front true xs cs n k t in
+      let e = then_front Listed (many np) (λ (z : Many (GenericParam A E) token.Comma). joined pp p.mark z.0 z.1) (IsMark true) (λ (z : token.Gt). z) (λ (z : token.Gt). p.mark z) (xs, cs) c n k r u (mark_front c k r q) in
+      let d = then_front (IsMark true) (λ (z : token.Lt). z) (λ (z : token.Lt). p.mark z) _ _ _ o ((xs, cs), c) m n r (mark_front o m n j) e in
+      let a = then_front IsWord (λ (z : token.For). z) (λ (z : token.For). p.word z) _ _ _ f (o, ((xs, cs), c)) l m r (word_front f l m i) d in
+      made_front _ _ _ (IsBinder true Q) normal_binder (shown.bound_lifetimes_by pp) binder_of (λ z. refl) (λ z. refl)
+      (λ z b g h. a_binder h.1 h.2.1 h.2.2.1 h.2.2.2) (f, (o, ((xs, cs), c))) l r a
+
+  pub binder_by_again : (o : Option Binder) (l r : Toks) → IsOptional (IsBinder false P) o l r → AgainFront (IsOptional (IsBinder true Q)) (shapes.binder_by np) (shown.binder_by pp) o l r
+  binder_by_again o l r absent = record { spelt = λ k. absent; visible = λ k u v. v; seen = λ u. u; stays = refl; same = refl }
+  binder_by_again o l r (present {a = x} i) =
+      let h = binder_again x l r i in
+      record { spelt = λ k. present (h.spelt k); visible = λ k u v. h.visible k u v; seen = λ u. h.seen u; stays = ap (λ (z : Binder). Some z) h.stays; same = h.same }
+
+module _ {A E : Type 0} (na : List A → List A) (ne : NormalValues E) (pa : List A → Print) (pe : Values E) (part : Manner → Parts A E) (held : Again na ne pa pe part) where
+  pub for_again : (x : BoundLifetimes A E) (l r : Toks) → IsFor part plainly x l r → AgainFront (IsFor part clearly) (normal.bound_lifetimes na ne) (printing.bound_lifetimes pa pe) x l r
+  for_again = binder_again ((part plainly).param params.Binder) ((part clearly).param params.Binder) (normal.param na ne) (printing.param pa pe) (held.param params.Binder)
+
+  -- as a part of another form, and by itself
+  pub for_by_again : (o : Option (BoundLifetimes A E)) (l r : Toks) → IsOptional (IsFor part plainly) o l r → AgainFront (IsOptional (IsFor part clearly)) (shapes.binder_by (normal.param na ne)) (shown.binder_by (printing.param pa pe)) o l r
+  for_by_again = binder_by_again ((part plainly).param params.Binder) ((part clearly).param params.Binder) (normal.param na ne) (printing.param pa pe) (held.param params.Binder)
+
+  pub optional_for_again : (o : Option (BoundLifetimes A E)) (l r : Toks) → IsOptional (IsFor part plainly) o l r →
+      AgainFront (IsOptional (IsFor part clearly)) (option_map (normal.bound_lifetimes na ne)) (p.optional (printing.bound_lifetimes pa pe)) o l r
+  optional_for_again = optional_again (IsFor part plainly) (IsFor part clearly) (normal.bound_lifetimes na ne) (printing.bound_lifetimes pa pe) for_again

@@ -13,8 +13,8 @@ use Rattle.token_core.specs.Keywords.{is_keyword}
 use Rattle.token_core.specs.Lifetimes as lifetimes
 use Rattle.token_core.specs.Lifetimes.{sees_lifetime, with_ident, read_lifetime}
 use Rattle.token_core.specs.Listed.{AreListed, Anywhere}
-use Rattle.token_core.specs.Loops.{Many, size, terminated}
-use Rattle.token_core.specs.Reads.{Outcome, Reader, ◌>>=◌, ◌<$>◌, any_text, expected, ident_name, is_done, is_ident, is_joint, is_last, is_text, next_word, optional, past_mark, past_next, read_word, sees_group, sees_mark, sees_word}
+use Rattle.token_core.specs.Loops.{Many, terminated}
+use Rattle.token_core.specs.Reads.{Reader, ◌>>=◌, ◌<$>◌, any_text, expected, ident_name, is_done, is_ident, is_joint, is_last, is_text, next_word, optional, past_mark, past_next, read_word, sees_group, sees_mark, sees_word}
 use Rattle.token_core.specs.Spans.{none}
 use Rattle.token_core.specs.Spellings.{last_char, IsMark, is_mark, IsWord, is_word, IsLifetime, is_lifetime}
 use Rattle.token_core.specs.Stream.{Scope}
@@ -25,7 +25,7 @@ use Rattle.token_core.proofs.Steps.{link, chosen, Reads_to}
 use Rattle.token_core.proofs.Took.{at}
 use Rattle.token_core.proofs.Unseen.{no_mark-other}
 use Rattle.token_core.proofs.WordSpells.{word_complete, word_seen, lifetime_complete, lifetime_seen, lifetime_size}
-use Rattle.syn_path.specs.path.Reading.{sees_angle, sees_sep}
+use Rattle.syn_path.specs.path.Reading.{sees_sep}
 use Rattle.syn_path.specs.Values.{ReadValues}
 use Rattle.syn_forms.specs.declared.places.BoundPlace.{BoundPlace}
 use Rattle.syn_forms.specs.declared.places.BoundPlace.TheVariants.{Parameter}
@@ -39,7 +39,7 @@ use Rattle.syn_forms.specs.params.Reading as parts
 use Rattle.syn_forms.specs.params.Reading.{bounds_after, default_of, ends_lifetime, ends_type}
 use Rattle.syn_forms.specs.tokens.Reading.{comma, sees_gt}
 use Rattle.syn_forms.proofs.lists_laws.Complete.{listed_here}
-use Rattle.syn_forms.proofs.nested_laws.Ahead.{weight, ahead-is}
+use Rattle.syn_forms.proofs.nested_laws.Ahead.{ahead-is}
 use Rattle.syn_ty.specs.declared.generics.GenericParamOf.TheVariants as g
 use Rattle.syn_ty.specs.declared.generics.GenericsOf.{GenericsOf}
 use Rattle.syn_ty.specs.declared.generics.LifetimeParamOf.{LifetimeParamOf}
@@ -47,14 +47,17 @@ use Rattle.syn_ty.specs.generics.Bounds.{AreBounds, no_bounds, last_plus, last_b
 use Rattle.syn_ty.specs.generics.Declared.{generics}
 use Rattle.syn_ty.specs.generics.Parameters.{IsGiven, given, AreLifetimes, IsLifetimeParam, a_lone_lifetime, a_lifetime_with_bounds, AreBoundsAfter, no_colon, after_colon, IsAnyType, any_type, IsTypeParam, a_type_param, IsConstParam, a_const_param, IsParam, a_lifetime_param, a_named_param, a_constant_param, a_bare_param, AreGenerics, no_generics, some_generics}
 use Rattle.syn_ty.specs.generics.Params.{bound_lifetimes_of, const_param_of, generics_of, lifetime_param_of, type_param_of}
-use Rattle.syn_ty.specs.generics.Reading.{binder, lifetime_after, lifetime_param, optional_binder, param_after, param_step, sees_ident, type_after, type_param, const_after, const_param, in_binder, in_generics, underscore_after}
-use Rattle.syn_ty.specs.generics.Spelling.{IsBinder, a_binder}
+use Rattle.syn_ty.specs.generics.Reading.{binder, lifetime_after, lifetime_param, optional_binder, param_after, param_step, sees_ident, type_after, type_param, const_after, const_param, in_binder, in_generics}
+use Rattle.syn_ty.specs.generics.Spelling.{a_binder}
 use Rattle.syn_ty.specs.path.Reading.{ends_constraint}
+use Rattle.syn_ty.specs.ty.Knot as knot
+use Rattle.syn_ty.specs.ty.Knot.{reads_below}
 use Rattle.syn_ty.specs.ty.Parts.{Manner, clearly, End, Parts}
 use Rattle.syn_ty.specs.ty.Points.{Readers, a_bound, a_param, a_type}
 use Rattle.syn_ty.specs.ty.Reading.{sees_call}
 use Rattle.syn_ty.specs.ty.Spelling.{Relation, IsOptional, absent, present}
 use Rattle.syn_ty.specs.ty.Trees.{BoundLifetimes, ConstParam, GenericParam, TypeParam, TypeParamBound, TypeTree}
+use Rattle.syn_ty.proofs.ty_laws.BoundListsMet.{bounds_to_met}
 use Rattle.syn_ty.proofs.ty_laws.Complete.{later, not_more, comma_light}
 use Rattle.syn_ty.proofs.ty_laws.LessMet.{same, some, no_no, no_less, less_no, less_less, mark_takes, word_takes, word_less}
 use Rattle.syn_ty.proofs.ty_laws.Met.{Stops, Fits, Less, NoMore, BoundBegins, ItemBegins, Meets, SuppliedMeets, ends_param}
@@ -420,6 +423,29 @@ module _ {V : Type 0} (Is : Relation V) where
       let all : Reads_to (parts.given value) (q, x) l k f e sc = record { last = u.last; reads = link _ w.reads (link _ u.reads refl) } in
       present_met token.sees_equals (parts.given value) (q, x) l k f e sc (equals_seen q l m i) all
 
+-- ---- bounds up to an end
+
+pub none_of_four : (a b c d : Bool) → a ≡ false → b ≡ false → c ≡ false → d ≡ false → a || (b || (c || d)) ≡ false
+none_of_four false false false d h i j k = k
+none_of_four false false true d h i j k = cc j
+none_of_four false true c d h i j k = cc i
+none_of_four true b c d h i j k = cc h
+
+-- no bound begins where those of a type parameter end
+pub ends_type_goes : (l : Toks) → BoundBegins Parameter l → ends_type l ≡ false
+unfolding ends_type
+ends_type_goes l b = none_of_four (is_done l) (token.sees_comma l) (token.sees_gt l) (token.sees_equals l) b.there b.no_comma b.no_gt b.no_equals
+
+module _ {A E : Type 0} (r : Readers A E) (part : Manner → Parts A E) (limit : ℕ) where
+  -- Bounds up to an end are read where they are spelt and less than the limit is left, and what follows does not go on with them.
+  abbrev pub BoundsMeet : (Bool → Type 0) → (Toks → Bool) → Type 0
+  BoundsMeet Ends ends = (d : End) (xs : List (TypeParamBound A E)) (ps : List token.Plus) (l k : Toks) (f : Option Span) (e : Span) (sc : Scope) → ahead (at l f e sc) < limit → AreBounds part clearly Parameter Ends true d xs ps l k →
+      (d.is_open ≡ true → Fits d k) → ((first : Bool) → Ends first → ends k ≡ true) → Reads_to (bounds_to (r (a_bound Parameter)) ends) (xs, ps) l k f e sc
+
+  -- up to every end that begins no bound
+  pub bounds_meet : Meets r part limit → (Ends : Bool → Type 0) (ends : Toks → Bool) → ((l : Toks) → BoundBegins Parameter l → ends l ≡ false) → BoundsMeet Ends ends
+  bounds_meet meets = bounds_to_met r part limit meets Parameter
+
 -- ---- types and constants
 
 module _ {A E : Type 0} (part : Manner → Parts A E) (place : BoundPlace) (Ends : Bool → Type 0) (takes : (d : End) (x : TypeParamBound A E) (l k : Toks) → (part clearly).bound place d x l k → Less l k) where
@@ -436,59 +462,55 @@ type_of a p = type_param_of a p.0 p.1 p.2 p.3
 abbrev const_of : {A E : Type 0} → List A → parts.ConstParts (TypeTree A E) E → ConstParam A E
 const_of a p = const_param_of a p.0 p.1 p.2 p.3 p.4
 
-module _ {A E : Type 0} (r : Readers A E) (part : Manner → Parts A E) (limit : ℕ) where
-  -- Bounds up to an end are read where they are spelt and less than the limit is left, and what follows does not go on with them.
-  abbrev pub BoundsMeet : (Bool → Type 0) → (Toks → Bool) → Type 0
-  BoundsMeet Ends ends = (d : End) (xs : List (TypeParamBound A E)) (ps : List token.Plus) (l k : Toks) (f : Option Span) (e : Span) (sc : Scope) → ahead (at l f e sc) < limit → AreBounds part clearly Parameter Ends true d xs ps l k →
-      (d.is_open ≡ true → Fits d k) → ((first : Bool) → Ends first → ends k ≡ true) → Reads_to (bounds_to (r (a_bound Parameter)) ends) (xs, ps) l k f e sc
+module _ {A E : Type 0} (attrs : Reader (List A)) (values : ReadValues E) (r : Readers A E) (part : Manner → Parts A E) (limit : ℕ) (meets : Meets r part limit) where
+  up_to_end : BoundsMeet r part limit Anywhere ends_type
+  up_to_end = bounds_meet r part limit meets Anywhere ends_type ends_type_goes
 
-  module _ (attrs : Reader (List A)) (values : ReadValues E) (meets : Meets r part limit) where
-    any_met : (x : TypeTree A E) (l k : Toks) (f : Option Span) (e : Span) (sc : Scope) → ahead (at l f e sc) < limit → IsAnyType part clearly x l k → Over k → Reads_to (r (a_type Plus)) x l k f e sc
-    any_met x l k f e sc h (any_type {e = b} i) o = meets.ty Plus b x l k f e sc h i (over_fits b k o) (λ p. o.no_plus)
+  any_met : (x : TypeTree A E) (l k : Toks) (f : Option Span) (e : Span) (sc : Scope) → ahead (at l f e sc) < limit → IsAnyType part clearly x l k → Over k → Reads_to (r (a_type Plus)) x l k f e sc
+  any_met x l k f e sc h (any_type {e = b} i) o = meets.ty Plus b x l k f e sc h i (over_fits b k o) (λ p. o.no_plus)
 
-    -- what may stand after a `:`
-    record After (c : Option token.Colon) (w : Many (TypeParamBound A E) token.Plus) (l k : Toks) (f : Option Span) (e : Span) (sc : Scope) : Type 0 where
-      between : Toks
-      colon : Reads_to (optional token.sees_colon token.colon) c l between f e sc
-      bounds : Reads_to (bounds_after ends_type (r (a_bound Parameter)) c) w between k f colon.last sc
-      light : NoMore l k
+  -- what may stand after a `:`
+  record After (c : Option token.Colon) (w : Many (TypeParamBound A E) token.Plus) (l k : Toks) (f : Option Span) (e : Span) (sc : Scope) : Type 0 where
+    between : Toks
+    colon : Reads_to (optional token.sees_colon token.colon) c l between f e sc
+    bounds : Reads_to (bounds_after ends_type (r (a_bound Parameter)) c) w between k f colon.last sc
+    light : NoMore l k
 
-    module _ (bounds_met : BoundsMeet Anywhere ends_type) where
-      after_met : (c : Option token.Colon) (xs : List (TypeParamBound A E)) (ps : List token.Plus) (l k : Toks) (f : Option Span) (e : Span) (sc : Scope) → ahead (at l f e sc) ≤ limit → AreBoundsAfter part clearly c xs ps l k → BeforeDefault k →
-          After c (xs, ps) l k f e sc
-      after_met c xs ps l k f e sc h no_colon b = record { between = l; colon = absent_met token.sees_colon token.colon l f e sc b.no_colon; bounds = record { last = _; reads = refl }; light = same }
-      after_met c xs ps l k f e sc h (after_colon {e = d} {c = q} {m = m} i j) b =
-          let w = present_met token.sees_colon token.colon q l m f e sc (colon_seen q l m i) (colon_met q l m f e sc i) in
-          let u = bounds_met d xs ps m k f w.last sc (later l m f f e w.last sc limit (colon_takes q l m i).lighter h) j (λ p. over_fits d k b.over) (λ first may. b.ends) in
-          record { between = m; colon = w; bounds = record { last = u.last; reads = u.reads }; light = no_no (some (colon_takes q l m i)) (bounds_no part Parameter Anywhere (λ b y o z g. (meets.firsts.bound Parameter b y o z g).1) true d xs ps m k j) }
+  after_met : (c : Option token.Colon) (xs : List (TypeParamBound A E)) (ps : List token.Plus) (l k : Toks) (f : Option Span) (e : Span) (sc : Scope) → ahead (at l f e sc) ≤ limit → AreBoundsAfter part clearly c xs ps l k → BeforeDefault k →
+      After c (xs, ps) l k f e sc
+  after_met c xs ps l k f e sc h no_colon b = record { between = l; colon = absent_met token.sees_colon token.colon l f e sc b.no_colon; bounds = record { last = _; reads = refl }; light = same }
+  after_met c xs ps l k f e sc h (after_colon {e = d} {c = q} {m = m} i j) b =
+      let w = present_met token.sees_colon token.colon q l m f e sc (colon_seen q l m i) (colon_met q l m f e sc i) in
+      let u = up_to_end d xs ps m k f w.last sc (later l m f f e w.last sc limit (colon_takes q l m i).lighter h) j (λ p. over_fits d k b.over) (λ first may. b.ends) in
+      record { between = m; colon = w; bounds = record { last = u.last; reads = u.reads }; light = no_no (some (colon_takes q l m i)) (bounds_no part Parameter Anywhere (λ b y o z g. (meets.firsts.bound Parameter b y o z g).1) true d xs ps m k j) }
 
-      -- an `Ident`, perhaps bounds, and perhaps a default
-      type_after_met : (a : List A) (i : Ident) (c : Option token.Colon) (xs : List (TypeParamBound A E)) (ps : List token.Plus) (o : Option (token.Equals × TypeTree A E)) (m n k : Toks) (f : Option Span) (e : Span) (sc : Scope) →
-          ahead (at (word i m) f e sc) ≤ limit → is_ident i.text ≡ true → AreBoundsAfter part clearly c xs ps m n → IsOptional (IsGiven true (IsAnyType part clearly)) o n k → ends_param k ≡ true →
-          Reads_to (type_after attrs values r a) (type_param_of a i c (xs, ps) o) (word i m) k f e sc
-      unfolding parts.type_parts
-      type_after_met a i c xs ps o m n k f e sc h t j q z =
-          let w = named_met is_ident i m f e sc t in
-          let b = after_met c xs ps m n f w.last sc (no_later (word i m) m f f e w.last sc limit (some (word_less i m)) h) j (default_begins (IsAnyType part clearly) o n k q z) in
-          let v = default_met (IsAnyType part clearly) (r (a_type Plus)) o n k f b.bounds.last sc q z
-              (λ x y d less g. any_met x y k f d sc (later (word i m) y f f e d sc limit (no_less (some (word_less i m)) (no_less b.light less)).lighter h) g (param_over k z)) in
-          let all : Reads_to (parts.type_parts (r (a_bound Parameter)) (r (a_type Plus))) (i, c, (xs, ps), o) (word i m) k f e sc = record { last = v.last; reads = link _ w.reads (link _ b.colon.reads (link _ b.bounds.reads (link _ v.reads refl))) } in
-          mapped_met (type_of a) (parts.type_parts (r (a_bound Parameter)) (r (a_type Plus))) (i, c, (xs, ps), o) (word i m) k f e sc all
+  -- an `Ident`, perhaps bounds, and perhaps a default
+  type_after_met : (a : List A) (i : Ident) (c : Option token.Colon) (xs : List (TypeParamBound A E)) (ps : List token.Plus) (o : Option (token.Equals × TypeTree A E)) (m n k : Toks) (f : Option Span) (e : Span) (sc : Scope) →
+      ahead (at (word i m) f e sc) ≤ limit → is_ident i.text ≡ true → AreBoundsAfter part clearly c xs ps m n → IsOptional (IsGiven true (IsAnyType part clearly)) o n k → ends_param k ≡ true →
+      Reads_to (type_after attrs values r a) (type_param_of a i c (xs, ps) o) (word i m) k f e sc
+  unfolding parts.type_parts
+  type_after_met a i c xs ps o m n k f e sc h t j q z =
+      let w = named_met is_ident i m f e sc t in
+      let b = after_met c xs ps m n f w.last sc (no_later (word i m) m f f e w.last sc limit (some (word_less i m)) h) j (default_begins (IsAnyType part clearly) o n k q z) in
+      let v = default_met (IsAnyType part clearly) (r (a_type Plus)) o n k f b.bounds.last sc q z
+          (λ x y d less g. any_met x y k f d sc (later (word i m) y f f e d sc limit (no_less (some (word_less i m)) (no_less b.light less)).lighter h) g (param_over k z)) in
+      let all : Reads_to (parts.type_parts (r (a_bound Parameter)) (r (a_type Plus))) (i, c, (xs, ps), o) (word i m) k f e sc = record { last = v.last; reads = link _ w.reads (link _ b.colon.reads (link _ b.bounds.reads (link _ v.reads refl))) } in
+      mapped_met (type_of a) (parts.type_parts (r (a_bound Parameter)) (r (a_type Plus))) (i, c, (xs, ps), o) (word i m) k f e sc all
 
-    -- `const`, an `Ident`, `:`, a type, and perhaps a default
-    const_after_met : SuppliedMeets attrs values part → (a : List A) (w : token.Const) (i : Ident) (c : token.Colon) (x : TypeTree A E) (o : Option (token.Equals × E)) (l m n j k : Toks) (f : Option Span) (e : Span) (sc : Scope) →
-        ahead (at l f e sc) ≤ limit → IsWord w l (word i m) → is_ident i.text ≡ true → IsMark true c m n → IsAnyType part clearly x n j → IsOptional (IsGiven true (part clearly).const_default) o j k → ends_param k ≡ true →
-        Reads_to (const_after attrs values r a) (const_param_of a w i c x o) l k f e sc
-    unfolding parts.const_parts
-    const_after_met supplied a w i c x o l m n j k f e sc h is t q y z g =
-        let u = word_complete {n = 6} w l (word i m) f e sc is in
-        let v = named_met is_ident i m f u.last sc t in
-        let b = colon_met c m n f v.last sc q in
-        let less = less_less (word_takes w l (word i m) is) (less_less (word_less i m) (colon_takes c m n q)) in
-        let s = any_met x n j f b.last sc (later l n f f e b.last sc limit less.lighter h) y (default_begins (part clearly).const_default o j k z g).over in
-        let d = default_met (part clearly).const_default values.const_argument o j k f s.last sc z g (λ p m1 b1 less1 i1. supplied.default p m1 k f b1 sc i1) in
-        let all : Reads_to (parts.const_parts (r (a_type Plus)) values.const_argument) (w, i, c, x, o) l k f e sc = record { last = d.last; reads = link _ u.reads (link _ v.reads (link _ b.reads (link _ s.reads (link _ d.reads refl)))) } in
-        mapped_met (const_of a) (parts.const_parts (r (a_type Plus)) values.const_argument) (w, i, c, x, o) l k f e sc all
+  -- `const`, an `Ident`, `:`, a type, and perhaps a default
+  const_after_met : SuppliedMeets attrs values part → (a : List A) (w : token.Const) (i : Ident) (c : token.Colon) (x : TypeTree A E) (o : Option (token.Equals × E)) (l m n j k : Toks) (f : Option Span) (e : Span) (sc : Scope) →
+      ahead (at l f e sc) ≤ limit → IsWord w l (word i m) → is_ident i.text ≡ true → IsMark true c m n → IsAnyType part clearly x n j → IsOptional (IsGiven true (part clearly).const_default) o j k → ends_param k ≡ true →
+      Reads_to (const_after attrs values r a) (const_param_of a w i c x o) l k f e sc
+  unfolding parts.const_parts
+  const_after_met supplied a w i c x o l m n j k f e sc h is t q y z g =
+      let u = word_complete {n = 6} w l (word i m) f e sc is in
+      let v = named_met is_ident i m f u.last sc t in
+      let b = colon_met c m n f v.last sc q in
+      let less = less_less (word_takes w l (word i m) is) (less_less (word_less i m) (colon_takes c m n q)) in
+      let s = any_met x n j f b.last sc (later l n f f e b.last sc limit less.lighter h) y (default_begins (part clearly).const_default o j k z g).over in
+      let d = default_met (part clearly).const_default values.const_argument o j k f s.last sc z g (λ p y z a b. supplied.default p y k f z sc b) in
+      let all : Reads_to (parts.const_parts (r (a_type Plus)) values.const_argument) (w, i, c, x, o) l k f e sc = record { last = d.last; reads = link _ u.reads (link _ v.reads (link _ b.reads (link _ s.reads (link _ d.reads refl)))) } in
+      mapped_met (const_of a) (parts.const_parts (r (a_type Plus)) values.const_argument) (w, i, c, x, o) l k f e sc all
 
 -- ---- what a parameter begins with, after its attributes
 
@@ -574,33 +596,32 @@ module _ {A E : Type 0} (attrs : Reader (List A)) (values : ReadValues E) (r : R
   pub const_param_met : (x : ConstParam A E) (l k : Toks) (f : Option Span) (e : Span) (sc : Scope) → ahead (at l f e sc) ≤ limit → IsConstParam part clearly x l k → ends_param k ≡ true → Reads_to (const_param attrs values r) x l k f e sc
   unfolding const_param
   const_param_met x l k f e sc h (a_const_param {a = a} {w = w} {i = i} {c = c} {x = y} {d = o} {m = m} {n = n} {k = j} {j = q} u is t s v z) b =
-      after_these (const_after attrs values r) a x l m k f e sc u (const_no_pound w m (word i n) is) (λ d. const_after_met r part limit attrs values meets supplied a w i c y o m n j q k f d sc (after_left a l m f e d sc u h) is t s v z b)
+      after_these (const_after attrs values r) a x l m k f e sc u (const_no_pound w m (word i n) is) (λ d. const_after_met attrs values r part limit meets supplied a w i c y o m n j q k f d sc (after_left a l m f e d sc u h) is t s v z b)
 
-  module _ (bounds_met : BoundsMeet r part limit Anywhere ends_type) where
-    -- types by themselves
-    pub type_param_met : (x : TypeParam A E) (l k : Toks) (f : Option Span) (e : Span) (sc : Scope) → ahead (at l f e sc) ≤ limit → IsTypeParam part clearly x l k → ends_param k ≡ true → Reads_to (type_param attrs values r) x l k f e sc
-    unfolding type_param
-    type_param_met x l k f e sc h (a_type_param {a = a} {i = i} {c = c} {xs = xs} {ps = ps} {d = o} {m = m} {n = n} u t s z) b =
-        after_these (type_after attrs values r) a x l (word i m) k f e sc u (named_no_pound i m) (λ d. type_after_met r part limit attrs values meets bounds_met a i c xs ps o m n k f d sc (after_left a l (word i m) f e d sc u h) t s z b)
+  -- types by themselves
+  pub type_param_met : (x : TypeParam A E) (l k : Toks) (f : Option Span) (e : Span) (sc : Scope) → ahead (at l f e sc) ≤ limit → IsTypeParam part clearly x l k → ends_param k ≡ true → Reads_to (type_param attrs values r) x l k f e sc
+  unfolding type_param
+  type_param_met x l k f e sc h (a_type_param {a = a} {i = i} {c = c} {xs = xs} {ps = ps} {d = o} {m = m} {n = n} u t s z) b =
+      after_these (type_after attrs values r) a x l (word i m) k f e sc u (named_no_pound i m) (λ d. type_after_met attrs values r part limit meets a i c xs ps o m n k f d sc (after_left a l (word i m) f e d sc u h) t s z b)
 
-    -- a turn of the knot
-    pub param_met : (place : ParamPlace) (x : GenericParam A E) (l k : Toks) (f : Option Span) (e : Span) (sc : Scope) → ahead (at l f e sc) ≤ limit → IsParam part clearly place x l k → ends_param k ≡ true → Reads_to (param_step attrs values r place) x l k f e sc
-    unfolding param_step sees_word
-    param_met place x l k f e sc h (a_lifetime_param (a_lone_lifetime {a = a} {x = y} {m = m} i j)) b =
-        after_these (param_after attrs values r place) a x l m k f e sc i (life_no_pound y m k j)
-        (λ d. place_life attrs values r a place (lifetime_param_of a y None ([], [])) m k f d sc (lifetime_seen y m k j) (life_no_ident y m k j) (lone_met attrs a y m k f d sc j b))
-    param_met place x l k f e sc h (a_lifetime_param (a_lifetime_with_bounds {a = a} {x = y} {c = c} {xs = xs} {ps = ps} {m = m} {n = n} {k = o} i j q t)) b =
-        after_these (param_after attrs values r place) a x l m k f e sc i (life_no_pound y m n j)
-        (λ d. place_life attrs values r a place (lifetime_param_of a y (Some c) (xs, ps)) m k f d sc (lifetime_seen y m n j) (life_no_ident y m n j) (bounded_met attrs a y c xs ps m n o k f d sc j q t b))
-    param_met place x l k f e sc h (a_named_param (a_type_param {a = a} {i = i} {c = c} {xs = xs} {ps = ps} {d = o} {m = m} {n = n} u t s z)) b =
-        after_these (param_after attrs values r place) a x l (word i m) k f e sc u (named_no_pound i m)
-        (λ d. place_type attrs values r a place (type_param_of a i c (xs, ps) o) (word i m) k f d sc t (named_no_life i m) (type_after_met r part limit attrs values meets bounds_met a i c xs ps o m n k f d sc (after_left a l (word i m) f e d sc u h) t s z b))
-    param_met place x l k f e sc h (a_constant_param (a_const_param {a = a} {w = w} {i = i} {c = c} {x = y} {d = o} {m = m} {n = n} {k = j} {j = q} u is t s v z)) b =
-        after_these (param_after attrs values r place) a x l m k f e sc u (const_no_pound w m (word i n) is)
-        (λ d. place_const attrs values r a place (const_param_of a w i c y o) m k f d sc (word_seen {n = 6} w m (word i n) is) (const_no_ident w m (word i n) is) (const_no_life w m (word i n) is)
-            (const_after_met r part limit attrs values meets supplied a w i c y o m n j q k f d sc (after_left a l m f e d sc u h) is t s v z b))
-    param_met place x l k f e sc h (a_bare_param {a = a} {i = i} u t) b =
-        after_these (param_after attrs values r place) a x l (word i k) k f e sc u (named_no_pound i k) (λ d. place_bare attrs values r a i k f d sc t)
+  -- a turn of the knot
+  pub param_met : (place : ParamPlace) (x : GenericParam A E) (l k : Toks) (f : Option Span) (e : Span) (sc : Scope) → ahead (at l f e sc) ≤ limit → IsParam part clearly place x l k → ends_param k ≡ true → Reads_to (param_step attrs values r place) x l k f e sc
+  unfolding param_step sees_word
+  param_met place x l k f e sc h (a_lifetime_param (a_lone_lifetime {a = a} {x = y} {m = m} i j)) b =
+      after_these (param_after attrs values r place) a x l m k f e sc i (life_no_pound y m k j)
+      (λ d. place_life attrs values r a place (lifetime_param_of a y None ([], [])) m k f d sc (lifetime_seen y m k j) (life_no_ident y m k j) (lone_met attrs a y m k f d sc j b))
+  param_met place x l k f e sc h (a_lifetime_param (a_lifetime_with_bounds {a = a} {x = y} {c = c} {xs = xs} {ps = ps} {m = m} {n = n} {k = o} i j q t)) b =
+      after_these (param_after attrs values r place) a x l m k f e sc i (life_no_pound y m n j)
+      (λ d. place_life attrs values r a place (lifetime_param_of a y (Some c) (xs, ps)) m k f d sc (lifetime_seen y m n j) (life_no_ident y m n j) (bounded_met attrs a y c xs ps m n o k f d sc j q t b))
+  param_met place x l k f e sc h (a_named_param (a_type_param {a = a} {i = i} {c = c} {xs = xs} {ps = ps} {d = o} {m = m} {n = n} u t s z)) b =
+      after_these (param_after attrs values r place) a x l (word i m) k f e sc u (named_no_pound i m)
+      (λ d. place_type attrs values r a place (type_param_of a i c (xs, ps) o) (word i m) k f d sc t (named_no_life i m) (type_after_met attrs values r part limit meets a i c xs ps o m n k f d sc (after_left a l (word i m) f e d sc u h) t s z b))
+  param_met place x l k f e sc h (a_constant_param (a_const_param {a = a} {w = w} {i = i} {c = c} {x = y} {d = o} {m = m} {n = n} {k = j} {j = q} u is t s v z)) b =
+      after_these (param_after attrs values r place) a x l m k f e sc u (const_no_pound w m (word i n) is)
+      (λ d. place_const attrs values r a place (const_param_of a w i c y o) m k f d sc (word_seen {n = 6} w m (word i n) is) (const_no_ident w m (word i n) is) (const_no_life w m (word i n) is)
+          (const_after_met attrs values r part limit meets supplied a w i c y o m n j q k f d sc (after_left a l m f e d sc u h) is t s v z b))
+  param_met place x l k f e sc h (a_bare_param {a = a} {i = i} u t) b =
+      after_these (param_after attrs values r place) a x l (word i k) k f e sc u (named_no_pound i k) (λ d. place_bare attrs values r a i k f d sc t)
 
 -- ---- values in angle brackets
 
@@ -688,14 +709,35 @@ module _ {A E : Type 0} (r : Readers A E) (part : Manner → Parts A E) (limit :
       let v = mapped_met generics_as (heads.angled (r (a_param Generics))) (o, (xs, cs), c) l k f e sc (params_met Generics o xs cs c l m j k f e sc h i q s) in
       record { last = v.last; reads = chosen (token.sees_lt l) true _ _ (at l f e sc) _ (mark_seen true {n = 2} {k = 1} o l m i) v.reads }
 
--- ---- no bound begins where the bounds of a parameter end
+-- ---- by themselves: what they hold is read by the knot, further on
 
-pub type_goes : (l : Toks) → BoundBegins Parameter l → ends_type l ≡ false
-unfolding ends_type
-type_goes l b = none_of_four (is_done l) (token.sees_comma l) (token.sees_gt l) (token.sees_equals l) b.there b.no_comma b.no_gt b.no_equals
-  where
-    none_of_four : (a b c d : Bool) → a ≡ false → b ≡ false → c ≡ false → d ≡ false → a || (b || (c || d)) ≡ false
-    none_of_four false false false d h i j k = k
-    none_of_four false false true d h i j k = cc j
-    none_of_four false true c d h i j k = cc i
-    none_of_four true b c d h i j k = cc h
+module _ {A E : Type 0} (attrs : Reader (List A)) (values : ReadValues E) (part : Manner → Parts A E) (meets : (limit : ℕ) → Meets (reads_below attrs values limit) part limit) where
+  pub binder_alone_met : (x : BoundLifetimes A E) (l k : Toks) (f : Option Span) (e : Span) (sc : Scope) → IsFor part clearly x l k → Reads_to (knot.binder attrs values) x l k f e sc
+  unfolding knot.binder
+  binder_alone_met x l k f e sc i =
+      let limit = ahead (at l f e sc) in
+      let u = binder_met (reads_below attrs values limit) part limit (meets limit) x l k f e sc (omega arith) i in
+      record { last = u.last; reads = u.reads }
+
+  pub optional_binder_alone_met : (o : Option (BoundLifetimes A E)) (l k : Toks) (f : Option Span) (e : Span) (sc : Scope) → IsOptional (IsFor part clearly) o l k → (o ≡ None → token.sees_for k ≡ false) → Reads_to (knot.optional_binder attrs values) o l k f e sc
+  unfolding knot.optional_binder
+  optional_binder_alone_met o l k f e sc i n =
+      let limit = ahead (at l f e sc) in
+      let u = optional_binder_met (reads_below attrs values limit) part limit (meets limit) o l k f e sc (omega arith) i n in
+      record { last = u.last; reads = u.reads }
+
+  module _ (supplied : SuppliedMeets attrs values part) where
+    pub const_param_alone_met : (x : ConstParam A E) (l k : Toks) (f : Option Span) (e : Span) (sc : Scope) → IsConstParam part clearly x l k → ends_param k ≡ true → Reads_to (knot.const_param attrs values) x l k f e sc
+    unfolding knot.const_param
+    const_param_alone_met x l k f e sc i b =
+        let limit = ahead (at l f e sc) in
+        let u = const_param_met attrs values (reads_below attrs values limit) part limit (meets limit) supplied x l k f e sc (omega arith) i b in
+        record { last = u.last; reads = u.reads }
+
+    pub type_param_alone_met : (x : TypeParam A E) (l k : Toks) (f : Option Span) (e : Span) (sc : Scope) → IsTypeParam part clearly x l k → ends_param k ≡ true → Reads_to (knot.type_param attrs values) x l k f e sc
+    unfolding knot.type_param
+    type_param_alone_met x l k f e sc i b =
+        let limit = ahead (at l f e sc) in
+        let r = reads_below attrs values limit in
+        let u = type_param_met attrs values r part limit (meets limit) supplied x l k f e sc (omega arith) i b in
+        record { last = u.last; reads = u.reads }

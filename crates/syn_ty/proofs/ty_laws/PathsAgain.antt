@@ -1,5 +1,5 @@
 -- Segments and paths print clearly in their normal form in each style, where the arguments of a segment do; and what does not begin with `try` prints no `try` at its start.
-use Rattle.std.proofs.Common.{◌≡◌, Bool, true, false, List, [], ◌++◌, Option, Some, None, refl, sym, ◌∙◌, ap, subst}
+use Rattle.std.proofs.Common.{◌≡◌, ℕ, zero, suc, Bool, true, false, List, [], ◌++◌, Option, refl, sym, ◌∙◌, ap, subst}
 use Rattle.token_core.specs.declared.tree.Ident.{Ident}
 use Rattle.token_core.specs.Listed.{AreListed, none_left, last_value, value_and_mark, Nowhere}
 use Rattle.token_core.specs.Loops.{Many}
@@ -8,7 +8,7 @@ use Rattle.token_core.specs.Prints.{Print}
 use Rattle.token_core.specs.Reads.{sees_word}
 use Rattle.token_core.specs.Spellings.{IsMark, is_mark, last_char, more_chars}
 use Rattle.token_core.specs.Tokens as token
-use Rattle.token_core.specs.Toks.{Toks, word}
+use Rattle.token_core.specs.Toks.{Toks}
 use Rattle.token_core.specs.Trees.{row}
 use Rattle.token_core.proofs.MarkSpells.{mark_again}
 use Rattle.token_core.proofs.Rebuilds.{tree-ident}
@@ -16,8 +16,7 @@ use Rattle.token_core.proofs.Rows.{row-append}
 use Rattle.syn_path.specs.declared.path.PathStyle.{PathStyle}
 use Rattle.syn_path.specs.declared.path.PathStyle.TheVariants.{AsWritten}
 use Rattle.syn_path.specs.path.Paths.{segment_of, path_of}
-use Rattle.syn_path.specs.path.Shapes.{segment_by, path_by}
-use Rattle.syn_path.specs.Values.{NormalValues, Values}
+use Rattle.syn_path.specs.Values.{NormalValues, SpelledValues, Values}
 use Rattle.syn_path.proofs.Words.{AgainFront}
 use Rattle.syn_forms.specs.paths.Reading.{is_named_word, with_arguments}
 use Rattle.syn_ty.specs.generics.NormalShapes.{many}
@@ -28,9 +27,10 @@ use Rattle.syn_ty.specs.ty.Normal as normal
 use Rattle.syn_ty.specs.ty.Parts.{Manner, plainly, clearly, Parts}
 use Rattle.syn_ty.specs.ty.Printing as printing
 use Rattle.syn_ty.specs.ty.Spelling.{absent, present}
+use Rattle.syn_ty.specs.ty.Spelt.{turn, spelt_to}
 use Rattle.syn_ty.specs.ty.Trees.{Path, PathArguments, PathSegment}
 use Rattle.syn_ty.proofs.ty_laws.Again.{Again}
-use Rattle.syn_ty.proofs.ty_laws.AnglesAgain.{Then, then_front, made_front, IsIdent, ident_front, optional_front}
+use Rattle.syn_ty.proofs.ty_laws.AnglesAgain.{Then, then_front, made_front, IsIdent, ident_front, optional_front, arguments_again}
 use Rattle.syn_ty.proofs.ty_laws.NormalsAgain.{normal-None}
 use Rattle.syn_ty.proofs.ty_laws.Prints.{arguments-None}
 use Rattle.syn_ty.proofs.ty_laws.Reprint.{mark_front, listed_front}
@@ -108,3 +108,14 @@ module _ {A E : Type 0} (na : List A → List A) (ne : NormalValues E) (pa : Lis
     path_no_try x l r k h (a_path {xs = xs} {cs = cs} {m = m} (present {a = c} i) t) =
         let rest = row (paths.segments pa pe style (xs, cs)) k in
         ap token.sees_try (row-append (p.mark c) (paths.segments pa pe style (xs, cs)) k) ∙ sep_no_try c (row (p.mark c) rest) rest (mark_again false c l m rest i)
+
+-- ---- where the relations are tied
+
+module _ {A E : Type 0} (na : List A → List A) (ne : NormalValues E) (pa : List A → Print) (pe : Values E) (attrs : Bool → List A → Toks → Toks → Type 0) (values : SpelledValues E) (style : PathStyle) where
+  pub turn_styled : (part : Manner → Parts A E) → Again na ne pa pe part → StyledAgain na ne pa pe (turn attrs values part) style
+  turn_styled part again x l r s i = arguments_again na ne pa pe part again style x l r s i
+
+  -- at each height, where it is so at those below
+  pub styled_to : ((n : ℕ) → Again na ne pa pe (spelt_to attrs values n)) → (n : ℕ) → StyledAgain na ne pa pe (spelt_to attrs values n) style
+  styled_to again zero x l r s i = absurd i
+  styled_to again (suc n) x l r s i = turn_styled (spelt_to attrs values n) (again n) x l r s i

@@ -1,5 +1,5 @@
 -- Qualified paths print clearly in their normal form, where the types and the arguments in them do, and so do paths that a type may qualify.
-use Rattle.std.proofs.Common.{◌≡◌, ℕ, zero, suc, pred, min, length, ◌≤◌, ◌+◌, Bool, true, false, List, [], ◌∷◌, ◌++◌, map, Option, Some, None, refl, sym, ◌∙◌, ap, subst, arith, append_assoc, append-nil}
+use Rattle.std.proofs.Common.{◌≡◌, zero, suc, min, length, Bool, true, false, List, [], ◌∷◌, ◌++◌, map, Option, Some, None, refl, sym, ◌∙◌, ap, arith, append_assoc, append-nil}
 use Rattle.std.proofs.lemmas.List.{length-append, length-map, map-append}
 use Rattle.std.proofs.Math.Nat.{min-eq_left, zero-min}
 use Rattle.token_core.specs.Listed.{AreListed, none_left, last_value, value_and_mark, Nowhere}
@@ -21,7 +21,7 @@ use Rattle.syn_path.specs.path.Shapes.{segment_by, segments_by, path_by, around_
 use Rattle.syn_path.proofs.path_laws.Around.{by_some}
 use Rattle.syn_forms.specs.paths.Reading.{longer}
 use Rattle.syn_ty.specs.path.Paths.{Sep, path_of}
-use Rattle.syn_path.specs.Values.{NormalValues, Values}
+use Rattle.syn_path.specs.Values.{NormalValues, SpelledValues, Values}
 use Rattle.syn_path.proofs.Words.{AgainFront}
 use Rattle.syn_forms.specs.declared.places.TypePlace.TheVariants.{Plus}
 use Rattle.syn_forms.proofs.tokens_laws.Mutability.{word_front}
@@ -185,16 +185,16 @@ module _ {A E : Type 0} (na : List A → List A) (ne : NormalValues E) (pa : Lis
       made_front AreQualified AreAny normal_qualified normal_any print_qualified print_any (λ z. (Some z.0, z.1)) (λ z l r i. qualified i) (λ z. refl) (λ z. refl) (q, x) l r (qualified_again q x l r i)
 
   -- what does not begin with `try` prints no `try` at its start
+  begins : (c : token.Lt) (l m k : Toks) (z : Print) → IsMark false c l m → token.sees_try (row (p.mark c ++ z) k) ≡ false
+  begins c l m k z i = ap token.sees_try (row-append (p.mark c) z k) ∙ lt_no_try c (row (p.mark c) (row z k)) (row z k) (mark_again false c l m (row z k) i)
+
+  qualified_no_try : (q : QSelf A E) (x : Path A E) (l r k : Toks) → IsQualified part plainly style q x l r → token.sees_try (row (print_qualified (q, x)) k) ≡ false
+  qualified_no_try q x l r k (by_type {o = c} {m = m} i t w d s) = begins c l m k _ i
+  qualified_no_try q x l r k (by_type_as_path {o = c} {m = m} i t a v u d f s) = begins c l m k _ i
+
   prints_no_try : (o : Option (QSelf A E)) (x : Path A E) (l r k : Toks) → token.sees_try l ≡ false → IsAnyPath part plainly style o x l r → token.sees_try (row (print_any (o, x)) k) ≡ false
   prints_no_try o x l r k h (unqualified i) = path_no_try na ne pa pe part style styled x l r k h i
-  prints_no_try o x l r k h (qualified {q = q} i) = lt_first q i
-    where
-      begins : (c : token.Lt) (m : Toks) (z : Print) → IsMark false c l m → token.sees_try (row (p.mark c ++ z) k) ≡ false
-      begins c m z i = ap token.sees_try (row-append (p.mark c) z k) ∙ lt_no_try c (row (p.mark c) (row z k)) (row z k) (mark_again false c l m (row z k) i)
-
-      lt_first : (q : QSelf A E) → IsQualified part plainly style q x l r → token.sees_try (row (print_any (Some q, x)) k) ≡ false
-      lt_first q (by_type {o = c} {m = m} i t w d s) = begins c m _ i
-      lt_first q (by_type_as_path {o = c} {m = m} i t a v u d f s) = begins c m _ i
+  prints_no_try o x l r k h (qualified {q = q} i) = qualified_no_try q x l r k i
 
   pub no_try_again : (o : Option (QSelf A E)) (x : Path A E) (l r : Toks) → IsNoTry part plainly style o x l r → AgainFront (λ (z : AnyPath) (l r : Toks). IsNoTry part clearly style z.0 z.1 l r) normal_any print_any (o, x) l r
   no_try_again o x l r i =
@@ -203,11 +203,12 @@ module _ {A E : Type 0} (na : List A → List A) (ne : NormalValues E) (pa : Lis
 
 -- ---- a path alone
 
-module _ {A E : Type 0} (na : List A → List A) (ne : NormalValues E) (pa : List A → Print) (pe : Values E) (part : Manner → Parts A E) (again : Again na ne pa pe part) (supplied : SuppliedAgain na ne pa pe part) where
-  pub path_alone_again : (x : TypePath A E) (l r : Toks) → IsPathAlone part plainly x l r → AgainFront (IsPathAlone part clearly) (normal.path_type na ne) (printing.path_type pa pe) x l r
+module _ {A E : Type 0} (na : List A → List A) (ne : NormalValues E) (pa : List A → Print) (pe : Values E) (part : Manner → Parts A E) (again : Again na ne pa pe part) (supplied : SuppliedAgain na ne pa pe part)
+    (attrs : Bool → List A → Toks → Toks → Type 0) (values : SpelledValues E) where
+  pub path_alone_again : (x : TypePath A E) (l r : Toks) → IsPathAlone attrs values part plainly x l r → AgainFront (IsPathAlone attrs values part clearly) (normal.path_type na ne) (printing.path_type pa pe) x l r
   path_alone_again x l r (a_path_alone {o = o} {p = y} i) =
       let styled = written_again na ne pa pe part again in
-      made_front (AreAny na ne pa pe part again AsWritten styled) (IsPathAlone part clearly) (normal_any na ne pa pe part again AsWritten styled) (normal.path_type na ne) (print_any na ne pa pe part again AsWritten styled) (printing.path_type pa pe)
+      made_front (AreAny na ne pa pe part again AsWritten styled) (IsPathAlone attrs values part clearly) (normal_any na ne pa pe part again AsWritten styled) (normal.path_type na ne) (print_any na ne pa pe part again AsWritten styled) (printing.path_type pa pe)
       (λ z. qualified_with [] z.0 z.1) (λ z l r i. a_path_alone i)
       (λ z. path_type_normal na ne [] z.0 z.1 ∙ ap (λ k. qualified_with k (normal.optional_qself na ne z.0) (normal.path na ne z.1)) supplied.own) (λ z. path_type_parts pa pe [] z.0 z.1) (o, y) l r
       (any_path_again na ne pa pe part again AsWritten styled o y l r i)

@@ -1,13 +1,17 @@
 -- The path of a bound prints its normal form clearly, where paths, segments and parentheses do: what stood between the last word and its parentheses is not printed.
 use Rattle.std.proofs.Common.{◌≡◌, Bool, false, true, List, [], ◌∷◌, ◌++◌, map, Option, None, Some, refl, sym, ◌∙◌, ap, subst}
+use Rattle.token_core.specs.declared.tree.Ident.{Ident}
+use Rattle.token_core.specs.Listed.{none_left, last_value, value_and_mark}
 use Rattle.token_core.specs.Loops.{Many}
 use Rattle.token_core.specs.Prints as p
 use Rattle.token_core.specs.Prints.{Print}
+use Rattle.token_core.specs.Reads.{sees_mark, sees_word}
 use Rattle.token_core.specs.Rebuilt.{Visible}
-use Rattle.token_core.specs.Spellings.{IsMark}
+use Rattle.token_core.specs.Spellings.{IsMark, is_mark, more_chars}
+use Rattle.token_core.specs.Tokens as token
 use Rattle.token_core.specs.Toks.{Bytes, Toks, word}
 use Rattle.token_core.specs.Trees.{row}
-use Rattle.token_core.proofs.MarkSpells.{mark_visible}
+use Rattle.token_core.proofs.MarkSpells.{mark_again, mark_seen, mark_visible}
 use Rattle.token_core.proofs.Rebuilds.{tree-ident}
 use Rattle.token_core.proofs.Rows.{row-append}
 use Rattle.syn_path.specs.declared.path.PathStyle.TheVariants.{AsWritten}
@@ -21,7 +25,7 @@ use Rattle.syn_ty.specs.path.Paths.{Sep}
 use Rattle.syn_ty.specs.path.Printing.{segment, segments, path}
 use Rattle.syn_ty.specs.path.Shapes.{colon}
 use Rattle.syn_ty.specs.path.Signed.{IsDropped, nothing_dropped, a_sep_dropped, a_pair_dropped, IsParens, IsSigned, a_signed, AreSigned, signed_last, signed_after, IsBoundPath, without_parens, with_parens}
-use Rattle.syn_ty.specs.path.Spelling.{IsPath, IsSegment}
+use Rattle.syn_ty.specs.path.Spelling.{IsPath, a_path, AreSegments, IsSegment, a_word, a_word_with_arguments}
 use Rattle.syn_ty.specs.ty.Normal as normal
 use Rattle.syn_ty.specs.ty.Parts.{Manner, plainly, clearly, End, Parts}
 use Rattle.syn_ty.specs.ty.Printing as printing
@@ -36,7 +40,40 @@ pub colon_front : (c : Option Sep) (l r : Toks) → IsOptional (IsMark false) c 
 colon_front c l r absent = record { spelt = λ k. absent; visible = λ k u w. w; seen = λ u. u; stays = refl; same = refl }
 colon_front c l r (present {a = m} i) = let h = mark_front m l r i in record { spelt = λ k. present (h.spelt k); visible = λ k u w. h.visible k u w; seen = λ u. h.seen u; stays = refl; same = refl }
 
+-- ---- what begins a path begins its print
+
+-- both begin with this word, or with this `::`
+pub data Alike : Toks → Toks → Type 0 where
+  by_word : {i : Ident} {l m : Toks} → Alike (word i l) (word i m)
+  by_sep : {c : Sep} {l m n k : Toks} → IsMark false c l n → IsMark true c m k → Alike l m
+
+pub alike_try : (l m : Toks) → Alike l m → token.sees_try l ≡ false → token.sees_try m ≡ false
+unfolding sees_word
+alike_try l m by_word h = h
+alike_try l m (by_sep i (is_mark (more_chars y))) h = refl
+
+pub alike_sep : (l m : Toks) → Alike l m → token.sees_path_sep l ≡ false → token.sees_path_sep m ≡ false
+unfolding sees_mark
+alike_sep l m by_word h = refl
+alike_sep l m (by_sep {c = c} {n = n} i j) h = let g = mark_seen false c l n i in cc
+
 module _ {A E : Type 0} (na : List A → List A) (ne : NormalValues E) (pa : List A → Print) (pe : Values E) (part : Manner → Parts A E) where
+  segment_begins : (x : PathSegment A E) (l r k : Toks) (rest : Print) → IsSegment part plainly AsWritten x l r → Alike l (row (segment pa pe AsWritten x ++ rest) k)
+  segment_begins x l r k rest (a_word {i = i} h) = subst (Alike l) (sym (tree-ident i (row (printing.arguments pa pe AsWritten x.arguments ++ rest) k))) by_word
+  segment_begins x l r k rest (a_word_with_arguments {i = i} h s t) = subst (Alike l) (sym (tree-ident i (row (printing.arguments pa pe AsWritten x.arguments ++ rest) k))) by_word
+
+  segments_begin : (xs : List (PathSegment A E)) (cs : List Sep) (l r k : Toks) → AreSegments part plainly AsWritten xs cs l r → Alike l (row (segments pa pe AsWritten (xs, cs)) k)
+  segments_begin xs cs l r k (none_left h) = absurd h
+  segments_begin xs cs l r k (last_value {x = x} i) = segment_begins x l r k [] i
+  segments_begin xs cs l r k (value_and_mark {x = x} {p = c} {xs = ys} {ps = ds} {m = m} i j t) = segment_begins x l m k (p.mark c ++ segments pa pe AsWritten (ys, ds)) i
+
+  pub path_begins : (x : Path A E) (l r k : Toks) → IsPath part plainly AsWritten x l r → Alike l (row (path pa pe AsWritten x) k)
+  path_begins x l r k (a_path {xs = xs} {cs = cs} absent t) = segments_begin xs cs l r k t
+  path_begins x l r k (a_path {xs = xs} {cs = cs} {m = m} (present {a = c} i) t) =
+      let rest = segments pa pe AsWritten (xs, cs) in by_sep i (subst (λ z. IsMark true c z (row rest k)) (sym (row-append (p.mark c) rest k)) (mark_again false c l m (row rest k) i))
+
+  -- ---- a path whose last segment may have arguments in parentheses
+
   dropped_visible : (t : Bytes) (l r : Toks) → IsDropped part plainly t l r → Visible l → Visible r
   dropped_visible t l r nothing_dropped u = u
   dropped_visible t l r (a_sep_dropped {c = c} i) u = mark_visible false c l r i u
