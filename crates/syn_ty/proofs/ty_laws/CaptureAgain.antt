@@ -1,6 +1,5 @@
 -- A capture prints its normal form clearly: its lifetimes first, with a comma that stands nowhere where the last one has none and others follow.
 use Rattle.std.proofs.Common.{◌≡◌, Bool, true, false, List, [], ◌∷◌, ◌++◌, map, refl, sym, ◌∙◌, ap, subst}
-use Rattle.token_core.specs.declared.tree.Ident.{Ident}
 use Rattle.token_core.specs.Listed.{AreListed, Anywhere}
 use Rattle.token_core.specs.Loops.{Many}
 use Rattle.token_core.specs.Prints as p
@@ -17,14 +16,15 @@ use Rattle.syn_ty.specs.declared.generics.CapturedParam.TheVariants as captured
 use Rattle.syn_ty.specs.declared.generics.PreciseCapture.{PreciseCapture}
 use Rattle.syn_ty.specs.generics.Bounds.{IsCaptured, a_lifetime_captured, a_name_captured, IsCapture, a_capture}
 use Rattle.syn_ty.specs.generics.Members.{sort, sorted}
-use Rattle.syn_ty.specs.generics.NormalShapes.{capture, many}
+use Rattle.syn_ty.specs.generics.NormalShapes.{capture}
 use Rattle.syn_ty.specs.generics.Params.{capture_of}
 use Rattle.syn_ty.specs.generics.Shapes as shapes
 use Rattle.syn_ty.specs.generics.Shapes.{is_captured_lifetime}
 use Rattle.syn_ty.specs.ty.Types.{Comma}
 use Rattle.syn_ty.proofs.ty_laws.AnglesSortedAgain.{normal_sorted, sorted_again}
-use Rattle.syn_ty.proofs.ty_laws.BoundAgain.{lifetime_front, within_front}
+use Rattle.syn_ty.proofs.ty_laws.BoundAgain.{within_front}
 use Rattle.syn_ty.proofs.ty_laws.Reprint.{mark_front}
+use Rattle.syn_ty.proofs.ty_laws.SignaturesAgain.{lifetime_front}
 
 pub captured_again : (x : CapturedParam) (l r : Toks) → IsCaptured x l r → AgainFront IsCaptured (λ (z : CapturedParam). z) shapes.captured x l r
 captured_again x l r (a_lifetime_captured {x = y} i) =

@@ -4,23 +4,20 @@ use Rattle.token_core.specs.declared.lifetime.Lifetime.{Lifetime}
 use Rattle.token_core.specs.declared.span.DelimSpan.{DelimSpan}
 use Rattle.token_core.specs.declared.tree.Delimiter.TheVariants.{Parenthesis, Bracket}
 use Rattle.token_core.specs.Groups as groups
-use Rattle.token_core.specs.declared.tree.Spacing.TheVariants.{Alone}
 use Rattle.token_core.specs.Lifetimes as lifetimes
 use Rattle.token_core.specs.Lifetimes.{sees_lifetime}
-use Rattle.token_core.specs.Listed.{AreListed, none_left, last_value, value_and_mark, Anywhere}
+use Rattle.token_core.specs.Listed.{AreListed, value_and_mark, Anywhere}
 use Rattle.token_core.specs.Lists as lists
 use Rattle.token_core.specs.Loops.{Many}
 use Rattle.token_core.specs.Prints as p
 use Rattle.token_core.specs.Prints.{Print}
-use Rattle.token_core.specs.Reads.{is_text, sees_mark, sees_word}
+use Rattle.token_core.specs.Reads.{is_text, sees_word}
 use Rattle.token_core.specs.Rebuilt.{Visible}
-use Rattle.token_core.specs.Spellings.{IsMark, is_mark, last_char, IsWord, IsLifetime}
+use Rattle.token_core.specs.Spellings.{IsMark, IsWord, IsLifetime}
 use Rattle.token_core.specs.Tokens as token
 use Rattle.token_core.specs.Toks.{Bytes, Toks, done, mark, group}
 use Rattle.token_core.specs.Trees.{punct, row, stream_of_trees, toks}
-use Rattle.token_core.proofs.Rebuilds.{tree-punct}
 use Rattle.token_core.proofs.Rows.{row-append}
-use Rattle.token_core.proofs.WordSpells.{lifetime_again, lifetime_visible, lifetime_whole}
 use Rattle.syn_path.specs.declared.mac.Macro.{Macro}
 use Rattle.syn_path.specs.mac.Printing.{mac}
 use Rattle.syn_path.specs.mac.Spelling.{IsCall, a_macro}
@@ -42,9 +39,10 @@ use Rattle.syn_ty.specs.ty.Printing as printing
 use Rattle.syn_ty.specs.ty.Printing.{lone_comma}
 use Rattle.syn_ty.specs.ty.Spelling.{Relation, IsOptional, absent, present}
 use Rattle.syn_ty.specs.ty.Trees.{TypeTree, TypeArray, TypeParen, TypePtr, TypeReference, TypeSlice, TypeTuple}
-use Rattle.syn_ty.specs.ty.Types.{And, Comma, Mut, Semi, array_of, array_with, paren_of, paren_with, ptr_of, ptr_with, reference_of, reference_with, slice_of, slice_with, tuple_of, tuple_with}
+use Rattle.syn_ty.specs.ty.Types.{And, Comma, Mut, array_of, array_with, paren_of, paren_with, ptr_of, ptr_with, reference_of, reference_with, slice_of, slice_with, tuple_of, tuple_with}
+use Rattle.syn_ty.proofs.ty_laws.Again.{Again, SuppliedAgain}
 use Rattle.syn_ty.proofs.ty_laws.Reprint.{mark_front}
-use Rattle.syn_ty.proofs.ty_laws.SignaturesAgain.{After, Before, lifetime_front, listed_before, normal_front, optional_front}
+use Rattle.syn_ty.proofs.ty_laws.SignaturesAgain.{After, Before, anything, freely, lifetime_front, listed_before, normal_front, optional_front, type_before}
 
 -- ---- a macro call
 
@@ -70,8 +68,8 @@ path_seen clear x l r (a_bare_path (leading c) q) = refl
 call_seen : (clear : Bool) {ok : Bytes → Bool} (x : Macro) (l r : Toks) → IsCall clear ok x l r → token.sees_try l ≡ path_try x.path.leading_colon x.path.segments.0
 call_seen clear x l r (a_macro {p = q} {a = a} {j = j} {d = d} {s = s} {c = c} i apart h g) = path_seen clear q l (mark (punct 33 j a) (group d s c r)) i
 
-pub type_call_front : (x : Macro) (l r : Toks) → IsTypeCall false x l r → AgainFront (IsTypeCall true) (λ (z : Macro). z) mac x l r
-type_call_front x l r i =
+pub type_call_again : (x : Macro) (l r : Toks) → IsTypeCall false x l r → AgainFront (IsTypeCall true) (λ (z : Macro). z) mac x l r
+type_call_again x l r i =
     let again = λ (h : Toks). macro_again false x l r h i.0 in
     record {
       spelt = λ h. (again h, call_seen true x (row (mac x) h) h (again h) ∙ sym (call_seen false x l r i.0) ∙ i.1);
@@ -83,16 +81,17 @@ type_call_front x l r i =
 
 -- ---- forms that hold a type
 
+module _ {A E : Type 0} (pa : List A → Print) (pe : Values E) (part : Manner → Parts A E) where
+  -- a type that does not begin with a lifetime prints none first
+  abbrev pub NoneFirst : Type 0
+  NoneFirst = (p : TypePlace) (e : End) (x : TypeTree A E) (l r : Toks) → (part plainly).ty p e x l r → sees_lifetime l ≡ false → (k : Toks) → sees_lifetime (row (printing.ty pa pe x) k) ≡ false
+
 module _ {A E : Type 0} (na : List A → List A) (ne : NormalValues E) (pa : List A → Print) (pe : Values E) (part : Manner → Parts A E) (own : na [] ≡ []) where
   abbrev nt : TypeTree A E → TypeTree A E
   nt = normal.ty na ne
 
   abbrev pt : TypeTree A E → Print
   pt = printing.ty pa pe
-
-  -- a type that does not begin with a lifetime prints none first
-  abbrev pub NoneFirst : Type 0
-  NoneFirst = (p : TypePlace) (e : End) (x : TypeTree A E) (l r : Toks) → (part plainly).ty p e x l r → sees_lifetime l ≡ false → (k : Toks) → sees_lifetime (row (pt x) k) ≡ false
 
   module _ (f : After) (again : (p : TypePlace) (e : End) (x : TypeTree A E) (l r : Toks) → (part plainly).ty p e x l r → AgainFront (Before f ((part clearly).ty p e) r) nt pt x l r) where
     abbrev bare_ptr : TypePtr A E → TypePtr A E
@@ -152,7 +151,7 @@ module _ {A E : Type 0} (na : List A → List A) (ne : NormalValues E) (pa : Lis
     some_lifetime : (x : Lifetime) (l r : Toks) → IsOptional IsLifetime (Some x) l r → IsLifetime x l r
     some_lifetime x l r (present i) = i
 
-    pub borrow_front : NoneFirst → (e : End) (x : TypeReference A E) (l r : Toks) → IsBorrow part plainly e x l r → AgainFront (Before f (IsBorrowed e) r) (normal.reference na ne) (printing.reference pa pe) x l r
+    pub borrow_front : NoneFirst pa pe part → (e : End) (x : TypeReference A E) (l r : Toks) → IsBorrow part plainly e x l r → AgainFront (Before f (IsBorrowed e) r) (normal.reference na ne) (printing.reference pa pe) x l r
     borrow_front first e x l r (a_borrow {a = a} {x = y} {m = m} i j g) = borrow_by e a None None y l m m m r i absent absent g (λ h d c w k. a_borrow d (first NoPlus e y m r g j h) k)
     borrow_front first e x l r (a_mutable_borrow {a = a} {u = q} {x = y} {m = m} {n = n} i j g) = borrow_by e a None (Some q) y l m m n r i absent (present j) g (λ h d c w k. a_mutable_borrow d (some_word q _ _ w) k)
     borrow_front first e x l r (a_lifetime_borrow {a = a} {y = o} {u = q} {x = y} {m = m} {n = n} {k = b} i j w g) = borrow_by e a (Some o) q y l m n b r i (present j) w g (λ h d c w k. a_lifetime_borrow d (some_lifetime o _ _ c) w k)
@@ -234,9 +233,6 @@ module _ {A E : Type 0} (na : List A → List A) (ne : NormalValues E) (pa : Lis
     no_lone x c xs cs = ap (λ z. printing.elements pa pe (x ∷ xs, c ∷ cs) ++ z) (lone_marked x c xs cs) ∙ append-nil (printing.elements pa pe (x ∷ xs, c ∷ cs))
 
     module _ (Begins : Toks → Type 0) (first : (e : End) (x : TypeTree A E) (l r : Toks) → (part plainly).ty Plus e x l r → Begins l → (k : Toks) → Begins (row (pt x) k)) where
-      listed : Elements → Toks → Type 0
-      listed z l = AreListed (λ (b : Bool). IsElement part clearly) (IsMark true) Anywhere true z.0 z.1 l done
-
       first_element : (x : TypeTree A E) (l r : Toks) → IsElement part plainly x l r → Begins l → (k : Toks) → Begins (row (pt x) k)
       first_element x l r (an_element {e = e} i) b k = first e x l r i b k
 
@@ -269,5 +265,29 @@ module _ {A E : Type 0} (na : List A → List A) (ne : NormalValues E) (pa : Lis
           })
 
     -- one that does not begin with a lifetime
-    pub tuple_front : NoneFirst → (x : TypeTuple A E) (l r : Toks) → IsTupled part plainly NoLifetime x l r → AgainFront (IsTupled part clearly NoLifetime) (normal.tuple na ne) (printing.tuple pa pe) x l r
+    pub tuple_front : NoneFirst pa pe part → (x : TypeTuple A E) (l r : Toks) → IsTupled part plainly NoLifetime x l r → AgainFront (IsTupled part clearly NoLifetime) (normal.tuple na ne) (printing.tuple pa pe) x l r
     tuple_front first = tupled_front NoLifetime (λ e x l r i q k. first Plus e x l r i q k)
+
+-- ---- over all that is known of what a form holds
+
+module _ {A E : Type 0} (na : List A → List A) (ne : NormalValues E) (pa : List A → Print) (pe : Values E) (part : Manner → Parts A E) (again : Again na ne pa pe part) (supplied : SuppliedAgain na ne pa pe part) where
+  abbrev type : (p : TypePlace) (e : End) (x : TypeTree A E) (l r : Toks) → (part plainly).ty p e x l r → AgainFront (Before anything ((part clearly).ty p e) r) (normal.ty na ne) (printing.ty pa pe) x l r
+  type = type_before na ne pa pe part anything again
+
+  pub pointer_again : (e : End) (x : TypePtr A E) (l r : Toks) → IsPointer part plainly e x l r → AgainFront (IsPointer part clearly e) (normal.ptr na ne) (printing.ptr pa pe) x l r
+  pointer_again e x l r i = freely (IsPointer part clearly e) (normal.ptr na ne) (printing.ptr pa pe) x l r (pointer_front na ne pa pe part supplied.own anything type e x l r i)
+
+  pub borrow_again : NoneFirst pa pe part → (e : End) (x : TypeReference A E) (l r : Toks) → IsBorrow part plainly e x l r → AgainFront (IsBorrow part clearly e) (normal.reference na ne) (printing.reference pa pe) x l r
+  borrow_again first e x l r i = freely (IsBorrow part clearly e) (normal.reference na ne) (printing.reference pa pe) x l r (borrow_front na ne pa pe part supplied.own anything type first e x l r i)
+
+  pub enclosed_again : (place : TypePlace) (x : TypeParen A E) (l r : Toks) → IsEnclosed part plainly place x l r → AgainFront (IsEnclosed part clearly place) (normal.paren na ne) (printing.paren pa pe) x l r
+  enclosed_again = enclosed_front na ne pa pe part supplied.own anything type
+
+  pub bracketed_again : (x : TypeSlice A E) (l r : Toks) → IsBracketed part plainly x l r → AgainFront (IsBracketed part clearly) (normal.slice na ne) (printing.slice pa pe) x l r
+  bracketed_again = bracketed_front na ne pa pe part supplied.own anything type
+
+  pub counted_again : ((x : E) (l : Toks) → (part plainly).len x l → ne.len (ne.len x) ≡ ne.len x) → (x : TypeArray A E) (l r : Toks) → IsCounted part plainly x l r → AgainFront (IsCounted part clearly) (normal.array na ne) (printing.array pa pe) x l r
+  counted_again = counted_front na ne pa pe part supplied.own anything type supplied.len
+
+  pub tuple_again : NoneFirst pa pe part → (x : TypeTuple A E) (l r : Toks) → IsTupled part plainly NoLifetime x l r → AgainFront (IsTupled part clearly NoLifetime) (normal.tuple na ne) (printing.tuple pa pe) x l r
+  tuple_again = tuple_front na ne pa pe part supplied.own anything type

@@ -1,26 +1,20 @@
 -- An ABI, the arguments of a pointer to a function and the pointer itself print their normal form clearly, where the types, attributes and binders that they hold do.
-use Rattle.std.proofs.Common.{◌≡◌, ◌==◌, if◌then◌else◌, Bool, true, false, List, [], ◌∷◌, ◌++◌, map, Option, Some, None, is_some, option_map, refl, sym, ◌∙◌, ap, subst, append_assoc, append-nil}
-use Rattle.token_core.specs.declared.lit.LitStr.{LitStr}
-use Rattle.token_core.specs.declared.span.DelimSpan.{DelimSpan}
+use Rattle.std.proofs.Common.{◌≡◌, Bool, true, false, List, [], ◌++◌, map, Option, Some, None, refl, sym, ◌∙◌, ap, subst, append_assoc, append-nil}
 use Rattle.token_core.specs.declared.token.Paren.{Paren}
 use Rattle.token_core.specs.declared.tree.Delimiter.TheVariants.{Parenthesis}
 use Rattle.token_core.specs.declared.tree.Ident.{Ident}
 use Rattle.token_core.specs.declared.tree.TokenStream.{TokenStream}
-use Rattle.token_core.specs.declared.tree.TokenTree.{TokenTree}
-use Rattle.token_core.specs.declared.tree.TokenTree.TheVariants as t
 use Rattle.token_core.specs.Groups as groups
-use Rattle.token_core.specs.Listed.{AreListed, Anywhere}
+use Rattle.token_core.specs.Listed.{Anywhere}
 use Rattle.token_core.specs.Lists as lists
-use Rattle.token_core.specs.Lits as lits
 use Rattle.token_core.specs.Loops.{Many}
 use Rattle.token_core.specs.Prints as p
 use Rattle.token_core.specs.Prints.{Print}
 use Rattle.token_core.specs.Rebuilt.{Visible}
-use Rattle.token_core.specs.Spellings.{IsMark, IsWord, IsStr}
+use Rattle.token_core.specs.Spellings.{IsMark, IsWord}
 use Rattle.token_core.specs.Tokens as token
 use Rattle.token_core.specs.Toks.{Toks, done, word, group}
 use Rattle.token_core.specs.Trees.{row, stream_of_trees, trees}
-use Rattle.token_core.proofs.LitSpells.{str_again, str_visible, str_whole}
 use Rattle.token_core.proofs.Rebuilds.{tree-ident}
 use Rattle.token_core.proofs.Rows.{row-append}
 use Rattle.syn_path.specs.Values.{NormalValues, Values}
@@ -36,78 +30,36 @@ use Rattle.syn_ty.specs.generics.NormalShapes.{many}
 use Rattle.syn_ty.specs.generics.NormalShapes as shapes
 use Rattle.syn_ty.specs.generics.Shapes as shown
 use Rattle.syn_ty.specs.generics.Shapes.{binder_start, binder_end, binder_joined}
-use Rattle.syn_ty.specs.path.Signed.{IsReturn}
-use Rattle.syn_ty.specs.ty.Functions.{IsAbi, an_abi, IsMutSelf, IsNamedArg, an_argument, a_named_argument, a_verbatim_argument, IsVariadic, dots, named_dots, AreInputs, plain_inputs, variadic_inputs, IsFnPtr, a_fn_ptr}
+use Rattle.syn_ty.specs.ty.Functions.{IsAbi, IsMutSelf, IsNamedArg, an_argument, a_named_argument, a_verbatim_argument, IsVariadic, dots, named_dots, AreInputs, plain_inputs, variadic_inputs, IsFnPtr, a_fn_ptr}
 use Rattle.syn_ty.specs.ty.Normal as normal
-use Rattle.syn_ty.specs.ty.Parts.{Manner, plainly, clearly, End, Parts, Holds, AreMarked, no_further, one_further}
+use Rattle.syn_ty.specs.ty.Parts.{Manner, plainly, clearly, End, Parts, Holds}
 use Rattle.syn_ty.specs.ty.Printing as printing
 use Rattle.syn_ty.specs.ty.Printing.{comma_at, last_comma}
-use Rattle.syn_ty.specs.ty.Spelling.{Relation, IsOptional, absent, present}
+use Rattle.syn_ty.specs.ty.Spelling.{IsOptional, absent, present}
 use Rattle.syn_ty.specs.ty.Trees.{BoundLifetimes, NamedArg, ReturnType, TypeFnPtr, TypeTree}
 use Rattle.syn_ty.specs.ty.Types.{Comma, fn_ptr_with, named_arg_of, variadic_of}
+use Rattle.syn_ty.proofs.ty_laws.Again.{Again as AllAgain, SuppliedAgain}
 use Rattle.syn_ty.proofs.ty_laws.BoundAgain.{row_seen, row_visible}
+use Rattle.syn_ty.proofs.ty_laws.MovesAgain.{Moves, mut_self_held}
 use Rattle.syn_ty.proofs.ty_laws.NormalsAgain.{fn_ptr_normal, normal-Verbatim}
 use Rattle.syn_ty.proofs.ty_laws.Prints.{fn_ptr_parts, ty-Verbatim}
 use Rattle.syn_ty.proofs.ty_laws.Reprint.{mark_front}
-use Rattle.syn_ty.proofs.ty_laws.SignaturesAgain.{After, Before, listed_before, optional_front, return_front}
+use Rattle.syn_ty.proofs.ty_laws.SignaturesAgain.{After, Before, abi_again, anything, comma_front, freely, listed_before, marked_front, marked_full, optional_front, return_front, type_before}
 
--- ---- an ABI
+-- ---- what the parentheses hold
 
-str_front : (x : LitStr) (l r : Toks) → IsStr x l r → AgainFront IsStr (λ (z : LitStr). z) lits.print_str x l r
-str_front x l r i =
-    record {
-      spelt = λ h. str_again x l r h i;
-      visible = λ h u w. str_whole x (row (lits.print_str x) h) h (str_again x l r h i) w;
-      seen = λ u. str_visible x l r i u;
-      stays = refl;
-      same = refl;
-    }
+abbrev pub Inputs : Type 0 → Type 0 → Type 0
+Inputs A E = Many (NamedArg A E) Comma × Option (FnPtrVariadicOf A)
 
-pub abi_front : (x : Abi) (l r : Toks) → IsAbi x l r → AgainFront IsAbi (λ (z : Abi). z) printing.abi x l r
-abi_front x l r (an_abi {w = w} {o = o} {m = m} i j) =
-    let d = word_front w l m i in
-    let k = optional_front IsStr IsStr lits.print_str str_front o m r j in
-    let last = λ (h : Toks). row (printing.convention o) h in
-    let seen = λ (h : Toks). row-append (p.word w) (printing.convention o) h in
-    record {
-      spelt = λ h. subst (λ z. IsAbi (record { extern_token = w; name = o }) z h) (sym (seen h)) (an_abi (d.spelt (last h)) (k.spelt h));
-      visible = λ h u s. subst Visible (sym (seen h)) (d.visible (last h) u (k.visible h (d.seen u) s));
-      seen = λ u. k.seen (d.seen u);
-      stays = refl;
-      same = refl;
-    }
+module _ {A E : Type 0} where
+  abbrev pub AreAll : (Manner → Parts A E) → Manner → Inputs A E → Toks → Type 0
+  AreAll part how z l = AreInputs part how z.0 z.1 l
 
--- ---- values that each have their mark
+  abbrev pub normal_inputs : (List A → List A) → NormalValues E → Inputs A E → Inputs A E
+  normal_inputs na ne z = (many (normal.named_arg na ne) z.0, normal.optional_variadic na ne z.1)
 
-module _ (f : After) {A P : Type 0} (V W : Bool → Relation A) (M N : Relation P) (n : A → A) (pr : A → Print) (g : P → Print)
-    (value : (b : Bool) (x : A) (l r : Toks) → V b x l r → AgainFront (Before f (W b) r) n pr x l r) (joint : (x : P) (l r : Toks) → M x l r → AgainFront N (λ (z : P). z) g x l r)
-    (ends : (x : P) (l r s h : Toks) → M x l r → f.may s (row (g x) h)) where
-  pub marked_front : (b : Bool) (xs : List A) (ps : List P) (l r : Toks) → AreMarked V M b xs ps l r →
-      AgainFront (λ (z : Many A P). AreMarked W N b z.0 z.1) (λ (z : Many A P). (map n z.0, z.1)) (λ (z : Many A P). lists.joined pr g z.0 z.1) (xs, ps) l r
-  marked_front b xs ps l r no_further = record { spelt = λ h. no_further; visible = λ h u w. w; seen = λ u. u; stays = refl; same = refl }
-  marked_front b xs ps l r (one_further {x = x} {p = q} {xs = ys} {ps = qs} {m = m} {k = o} i j t) =
-      let k = value b x l m i in
-      let d = joint q m o j in
-      let c = marked_front false ys qs o r t in
-      let rest = lists.joined pr g ys qs in
-      let seen = λ (h : Toks). row-append (pr x) (g q ++ rest) h ∙ ap (row (pr x)) (row-append (g q) rest h) in
-      record {
-        spelt = λ h. subst (λ z. AreMarked W N b (n x ∷ map n ys) (q ∷ qs) z h) (sym (seen h)) (one_further (k.spelt (row (g q) (row rest h)) (ends q m o m (row rest h) j)) (d.spelt (row rest h)) (c.spelt h));
-        visible = λ h u w. subst Visible (sym (seen h)) (k.visible (row (g q) (row rest h)) u (d.visible (row rest h) (k.seen u) (c.visible h (d.seen (k.seen u)) w)));
-        seen = λ u. c.seen (d.seen (k.seen u));
-        stays = ap (λ z. (z ∷ map n (map n ys), q ∷ qs)) k.stays ∙ ap (λ (z : Many A P). (n x ∷ z.0, q ∷ qs)) c.stays;
-        same = ap (λ z. z ++ (g q ++ lists.joined pr g (map n ys) qs)) k.same ∙ ap (λ z. pr x ++ (g q ++ z)) c.same;
-      }
-
--- a comma is there after the last one
-module _ {A : Type 0} (V : Bool → Relation A) (M : Relation Comma) where
-  marked_full : (c : Comma) (b : Bool) (xs : List A) (ps : List Comma) (l r : Toks) → AreMarked V M b xs ps l r → last_comma c xs ps ≡ []
-  marked_full c b xs ps l r no_further = refl
-  marked_full c b xs ps l r (one_further {xs = ys} {ps = qs} {k = o} i j t) = marked_full c false ys qs o r t
-
-comma_front : (o : Option Comma) (l r : Toks) → IsOptional (IsMark false) o l r → AgainFront (IsOptional (IsMark true)) (λ (z : Option Comma). z) printing.optional_comma o l r
-comma_front o l r absent = record { spelt = λ h. absent; visible = λ h u w. w; seen = λ u. u; stays = refl; same = refl }
-comma_front o l r (present {a = a} i) = let k = mark_front a l r i in record { spelt = λ h. present (k.spelt h); visible = λ h u w. k.visible h u w; seen = λ u. k.seen u; stays = refl; same = refl }
+  abbrev pub print_inputs : (List A → Print) → Values E → Inputs A E → Print
+  print_inputs pa pe z = printing.inputs pa pe z.0 ++ printing.more pa pe z.0 z.1
 
 -- ---- arguments
 
@@ -202,19 +154,7 @@ module _ {A E : Type 0} (na : List A → List A) (ne : NormalValues E) (pa : Lis
 
     -- ---- what the parentheses hold
 
-    abbrev Inputs : Type 0
-    Inputs = Many (NamedArg A E) Comma × Option (FnPtrVariadicOf A)
-
-    abbrev AreAll : Inputs → Toks → Type 0
-    AreAll z l = AreInputs part clearly z.0 z.1 l
-
-    abbrev normal_inputs : Inputs → Inputs
-    normal_inputs z = (many (normal.named_arg na ne) z.0, normal.optional_variadic na ne z.1)
-
-    abbrev print_inputs : Inputs → Print
-    print_inputs z = printing.inputs pa pe z.0 ++ printing.more pa pe z.0 z.1
-
-    pub inputs_front : (v : Many (NamedArg A E) Comma) (d : Option (FnPtrVariadicOf A)) (l : Toks) → AreInputs part plainly v d l → Again AreAll normal_inputs print_inputs (v, d) l
+    pub inputs_front : (v : Many (NamedArg A E) Comma) (d : Option (FnPtrVariadicOf A)) (l : Toks) → AreInputs part plainly v d l → Again (AreAll part clearly) (normal_inputs na ne) (print_inputs pa pe) (v, d) l
     inputs_front v d l (plain_inputs {xs = xs} {cs = cs} i) =
         let k = listed_before f (IsNamedArg part plainly) (IsNamedArg part clearly) (IsMark false) (IsMark true) Anywhere (normal.named_arg na ne) (printing.named_arg pa pe) p.mark named_arg_front mark_front (λ z v w q h. f.at_comma z v w q h) true xs cs l done i in
         let bare = λ (z : Many (NamedArg A E) Comma). append-nil (printing.inputs pa pe z) in
@@ -262,10 +202,10 @@ module _ {A E : Type 0} (na : List A → List A) (ne : NormalValues E) (pa : Lis
     abbrev head : Option token.Unsafe → Option Abi → token.Fn → Print
     head u i w = printing.optional_word u ++ (printing.optional_abi i ++ p.word w)
 
-    abbrev tail : Paren → Inputs → ReturnType A E → Print
-    tail s z o = p.group Parenthesis (stream_of_trees (print_inputs z)) s.span ++ printing.return_type pa pe o
+    abbrev tail : Paren → Inputs A E → ReturnType A E → Print
+    tail s z o = p.group Parenthesis (stream_of_trees (print_inputs pa pe z)) s.span ++ printing.return_type pa pe o
 
-    fn_ptr_whole : (b : Option (BoundLifetimes A E)) (u : Option token.Unsafe) (i : Option Abi) (w : token.Fn) (s : Paren) (z : Inputs) (o : ReturnType A E) → printing.fn_ptr pa pe (fn_ptr_with [] b u i w s z.0 z.1 o) ≡ pb b ++ (head u i w ++ tail s z o)
+    fn_ptr_whole : (b : Option (BoundLifetimes A E)) (u : Option token.Unsafe) (i : Option Abi) (w : token.Fn) (s : Paren) (z : Inputs A E) (o : ReturnType A E) → printing.fn_ptr pa pe (fn_ptr_with [] b u i w s z.0 z.1 o) ≡ pb b ++ (head u i w ++ tail s z o)
     fn_ptr_whole b u i w s z o =
         fn_ptr_parts pa pe [] b u i w s z.0 z.1 o ∙ ap (λ y. binder_start b ++ (binder_joined (printing.param pa pe) b ++ y)) (append_assoc (binder_end b) (head u i w) (tail s z o)) ∙ binder_whole b (head u i w ++ tail s z o)
 
@@ -279,23 +219,23 @@ module _ {A E : Type 0} (na : List A → List A) (ne : NormalValues E) (pa : Lis
       fn_ptr_front own e x l r (a_fn_ptr {b = b} {u = u} {i = i} {w = w} {s = s} {v = v} {d = d} {o = o} {m = m} {n = n} {k = q} {c = c} {j = j} ib iu ii iw iv io) =
           let kb = binder_front b l m ib in
           let ku = optional_front (IsWord {n = 16}) IsWord (λ (z : token.Unsafe). p.word z) word_front u m n iu in
-          let ki = optional_front IsAbi IsAbi printing.abi abi_front i n q ii in
+          let ki = optional_front IsAbi IsAbi printing.abi abi_again i n q ii in
           let kw = word_front w q (group Parenthesis s c j) iw in
           let kv = inputs_front v d c iv in
           let ko = return_front na ne pa pe part f again NoPlus e o j r io in
           let paren = groups.paren s in
-          let z = normal_inputs (v, d) in
+          let z = normal_inputs na ne (v, d) in
           let out = normal.return_type na ne o in
-          let to = λ (y : Option (BoundLifetimes A E)) (g : Inputs) (h : ReturnType A E). fn_ptr_with [] y u i w paren g.0 g.1 h in
+          let to = λ (y : Option (BoundLifetimes A E)) (g : Inputs A E) (h : ReturnType A E). fn_ptr_with [] y u i w paren g.0 g.1 h in
           let once = fn_ptr_normal na ne [] b u i w paren v d o ∙ ap (λ y. fn_ptr_with y (np b) u i w paren z.0 z.1 out) own in
-          let twice = fn_ptr_normal na ne [] (np b) u i w paren z.0 z.1 out ∙ ap (λ y. fn_ptr_with y (np (np b)) u i w paren (normal_inputs z).0 (normal_inputs z).1 (normal.return_type na ne out)) own
-          ∙ ap (λ y. to y (normal_inputs z) (normal.return_type na ne out)) kb.stays ∙ ap (λ y. to (np b) y (normal.return_type na ne out)) kv.stays ∙ ap (λ y. to (np b) z y) ko.stays in
+          let twice = fn_ptr_normal na ne [] (np b) u i w paren z.0 z.1 out ∙ ap (λ y. fn_ptr_with y (np (np b)) u i w paren (normal_inputs na ne z).0 (normal_inputs na ne z).1 (normal.return_type na ne out)) own
+          ∙ ap (λ y. to y (normal_inputs na ne z) (normal.return_type na ne out)) kb.stays ∙ ap (λ y. to (np b) y (normal.return_type na ne out)) kv.stays ∙ ap (λ y. to (np b) z y) ko.stays in
           let t5 = λ (h : Toks). row (printing.return_type pa pe o) h in
-          let t4 = λ (h : Toks). group Parenthesis s (row (print_inputs (v, d)) done) (t5 h) in
+          let t4 = λ (h : Toks). group Parenthesis s (row (print_inputs pa pe (v, d)) done) (t5 h) in
           let t3 = λ (h : Toks). row (p.word w) (t4 h) in
           let t2 = λ (h : Toks). row (printing.optional_abi i) (t3 h) in
           let t1 = λ (h : Toks). row (printing.optional_word u) (t2 h) in
-          let last = λ (h : Toks). row-append (p.group Parenthesis (stream_of_trees (print_inputs (v, d))) s) (printing.return_type pa pe o) h ∙ row-group Parenthesis s (print_inputs (v, d)) (t5 h) tt in
+          let last = λ (h : Toks). row-append (p.group Parenthesis (stream_of_trees (print_inputs pa pe (v, d))) s) (printing.return_type pa pe o) h ∙ row-group Parenthesis s (print_inputs pa pe (v, d)) (t5 h) tt in
           let seen = λ (h : Toks). ap (λ y. row y h) (fn_ptr_whole b u i w paren (v, d) o) ∙ row-append (pb b) (head u i w ++ tail paren (v, d) o) h
           ∙ ap (row (pb b)) (row-append (head u i w) (tail paren (v, d) o) h ∙ ap (row (head u i w)) (last h) ∙ row-append (printing.optional_word u) (printing.optional_abi i ++ p.word w) (t4 h) ∙ ap (row (printing.optional_word u)) (row-append (printing.optional_abi i) (p.word w) (t4 h))) in
           record {
@@ -311,6 +251,30 @@ module _ {A E : Type 0} (na : List A → List A) (ne : NormalValues E) (pa : Lis
             stays = ap (normal.fn_ptr na ne) once ∙ twice ∙ sym once;
             same = ap (printing.fn_ptr pa pe) once ∙ fn_ptr_whole (np b) u i w paren z out ∙ ap (λ y. y ++ (head u i w ++ tail paren z out)) kb.same
             ∙ ap (λ y. pb b ++ (head u i w ++ (p.group Parenthesis (stream_of_trees y) s ++ printing.return_type pa pe out))) kv.same
-            ∙ ap (λ y. pb b ++ (head u i w ++ (p.group Parenthesis (stream_of_trees (print_inputs (v, d))) s ++ y))) ko.same
+            ∙ ap (λ y. pb b ++ (head u i w ++ (p.group Parenthesis (stream_of_trees (print_inputs pa pe (v, d))) s ++ y))) ko.same
             ∙ sym (fn_ptr_whole b u i w paren (v, d) o);
           }
+
+-- ---- over all that is known of what a form holds
+
+module _ {A E : Type 0} (na : List A → List A) (ne : NormalValues E) (pa : List A → Print) (pe : Values E) (part : Manner → Parts A E) (again : AllAgain na ne pa pe part) (supplied : SuppliedAgain na ne pa pe part) where
+  abbrev type : (p : TypePlace) (e : End) (x : TypeTree A E) (l r : Toks) → (part plainly).ty p e x l r → AgainFront (Before anything ((part clearly).ty p e) r) (normal.ty na ne) (printing.ty pa pe) x l r
+  type = type_before na ne pa pe part anything again
+
+  pub variadic_again : (x : FnPtrVariadicOf A) (l : Toks) → IsVariadic part plainly x l → Again (IsVariadic part clearly) (normal.variadic na ne) (printing.variadic pa pe) x l
+  variadic_again = variadic_front na ne pa pe part supplied.attrs
+
+  module _ (moves : (e : End) (x : TypeTree A E) (l r : Toks) → (part clearly).ty Plus e x l r → Moves (λ k m. Unit {0}) ((part clearly).ty Plus e x) l r) where
+    held_again : (x : TokenStream) (l r : Toks) → IsMutSelf part clearly l r → Holds x l r → (k : Toks) → Unit {0} → IsMutSelf part clearly (row (trees x) k) k
+    held_again = mut_self_held part (λ k m. Unit {0}) moves
+
+    pub named_arg_again : (first : Bool) (x : NamedArg A E) (l r : Toks) → IsNamedArg part plainly first x l r → AgainFront (IsNamedArg part clearly first) (normal.named_arg na ne) (printing.named_arg pa pe) x l r
+    named_arg_again first x l r i = freely (IsNamedArg part clearly first) (normal.named_arg na ne) (printing.named_arg pa pe) x l r (named_arg_front na ne pa pe part supplied.attrs anything type held_again first x l r i)
+
+    pub inputs_again : (v : Many (NamedArg A E) Comma) (d : Option (FnPtrVariadicOf A)) (l : Toks) → AreInputs part plainly v d l →
+        Again (AreAll part clearly) (normal_inputs na ne) (print_inputs pa pe) (v, d) l
+    inputs_again = inputs_front na ne pa pe part supplied.attrs anything type held_again
+
+    pub fn_ptr_again : ((x : BoundLifetimes A E) (l r : Toks) → IsFor part plainly x l r → AgainFront (IsFor part clearly) (normal.bound_lifetimes na ne) (printing.bound_lifetimes pa pe) x l r) → (e : End) (x : TypeFnPtr A E) (l r : Toks) → IsFnPtr part plainly e x l r →
+        AgainFront (IsFnPtr part clearly e) (normal.fn_ptr na ne) (printing.fn_ptr pa pe) x l r
+    fn_ptr_again binder e x l r i = freely (IsFnPtr part clearly e) (normal.fn_ptr na ne) (printing.fn_ptr pa pe) x l r (fn_ptr_front na ne pa pe part supplied.attrs anything type held_again binder supplied.own e x l r i)

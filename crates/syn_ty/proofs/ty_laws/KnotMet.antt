@@ -1,5 +1,5 @@
 -- The reads that go back to themselves, tied, are complete: at every height of a tree, what a list spells clearly is what they answer, and they take no more.
-use Rattle.std.proofs.Common.{◌≡◌, ◌⊎◌, ℕ, zero, suc, ◌<◌, ◌≤◌, Bool, true, false, List, Option, Ok, ◌∙◌, arith}
+use Rattle.std.proofs.Common.{◌≡◌, ◌⊎◌, ℕ, zero, suc, ◌≤◌, Bool, true, false, List, Option, Ok, ◌∙◌, arith}
 use Rattle.token_core.specs.declared.lifetime.Lifetime.{Lifetime}
 use Rattle.token_core.specs.declared.span.Span.{Span}
 use Rattle.token_core.specs.Lifetimes.{sees_lifetime}
@@ -13,7 +13,7 @@ use Rattle.token_core.proofs.Took.{at}
 use Rattle.syn_path.specs.Supplied.{UsesUp}
 use Rattle.syn_path.specs.Values.{ReadValues, SpelledValues}
 use Rattle.syn_forms.specs.declared.places.BoundPlace.{BoundPlace}
-use Rattle.syn_forms.specs.declared.places.BoundPlace.TheVariants.{Object, Parameter}
+use Rattle.syn_forms.specs.declared.places.BoundPlace.TheVariants.{Object}
 use Rattle.syn_forms.specs.declared.places.ParamPlace.{ParamPlace}
 use Rattle.syn_forms.specs.declared.places.TypePlace.{TypePlace}
 use Rattle.syn_forms.specs.declared.places.TypePlace.TheVariants.{Plus}
@@ -22,8 +22,8 @@ use Rattle.syn_forms.specs.places.Reading.{allows_plus}
 use Rattle.syn_ty.specs.generics.Bounds.{IsBound, IsFor, IsTraitBound}
 use Rattle.syn_ty.specs.generics.Parameters.{IsParam}
 use Rattle.syn_ty.specs.generics.Reading as generics
-use Rattle.syn_ty.specs.path.Arguments.{ArgumentPlace, between_angles, ConstraintEnds, IsArgument}
-use Rattle.syn_ty.specs.path.Reading.{argument_step, arguments_step, ends_constraint, parenthesized, sees_const}
+use Rattle.syn_ty.specs.path.Arguments.{ArgumentPlace, between_angles, IsArgument}
+use Rattle.syn_ty.specs.path.Reading.{argument_step, arguments_step, parenthesized, sees_const}
 use Rattle.syn_ty.specs.path.Signed.{IsParens}
 use Rattle.syn_ty.specs.path.Spelling.{IsArguments}
 use Rattle.syn_ty.specs.ty.Admitted.{IsType}
@@ -90,10 +90,10 @@ module _ {A E : Type 0} (attrs : Reader (List A)) (values : ReadValues E) (shown
       default_less = g.default_less;
     }
 
-    abbrev pub To : ℕ → Manner → Parts A E
+    abbrev To : ℕ → Manner → Parts A E
     To = spelt_to shown spelt
 
-    -- ---- one turn, over reads that meet the trees of all heights
+    -- ---- one turn, over reads that meet the trees of every height
 
     module _ (r : Readers A E) (limit : ℕ) (meets : (n : ℕ) → Meets r (To n) limit) where
       paths_at : (n : ℕ) → PathsMeet r (To n) limit
@@ -105,13 +105,13 @@ module _ {A E : Type 0} (attrs : Reader (List A)) (values : ReadValues E) (shown
       binder_at : (n : ℕ) (x : BoundLifetimes A E) (l k : Toks) (f : Option Span) (e : Span) (sc : Scope) → ahead (at l f e sc) ≤ limit → IsFor (To n) clearly x l k → Reads_to (generics.binder r) x l k f e sc
       binder_at n = binder_met r (To n) limit (meets n)
 
-      -- a pair of angle marks between which nothing stands is spelt from the first height on: so by one height more than what a bound holds
+      -- an empty pair of angle marks before parentheses is spelt from the first height on: what a bound holds is taken one height more
       pub trait_turn : (n : ℕ) (d : End) (x : TraitBound A E) (l k : Toks) (f : Option Span) (e : Span) (sc : Scope) → ahead (at l f e sc) ≤ limit → IsTraitBound (To n) clearly d x l k → Fits d k → Reads_to (generics.trait_bound r) x l k f e sc
       trait_turn n d x l k f e sc h i o =
           let m = suc n in
           trait_bound_met r (To m) limit (meets m) (paths_at m) (empty_pair (To n)) (parens_at m) (binder_at m) d x l k f e sc h (trait_bound_higher shown spelt n m (omega arith) clearly d x l k i) o
 
-      pub bound_turn : (n : ℕ) (p : BoundPlace) (d : End) (x : TypeParamBound A E) (l k : Toks) (f : Option Span) (e : Span) (sc : Scope) → ahead (at l f e sc) ≤ limit → IsBound (To n) clearly p d x l k → Fits d k → Reads_to (generics.bound_step r p) x l k f e sc
+      bound_turn : (n : ℕ) (p : BoundPlace) (d : End) (x : TypeParamBound A E) (l k : Toks) (f : Option Span) (e : Span) (sc : Scope) → ahead (at l f e sc) ≤ limit → IsBound (To n) clearly p d x l k → Fits d k → Reads_to (generics.bound_step r p) x l k f e sc
       bound_turn n p d x l k f e sc h i o =
           let m = suc n in
           bound_met r (To m) limit (meets m) (paths_at m) (empty_pair (To n)) (parens_at m) (binder_at m) p d x l k f e sc h (bound_higher shown spelt p n m (omega arith) clearly d x l k i) o
@@ -126,32 +126,33 @@ module _ {A E : Type 0} (attrs : Reader (List A)) (values : ReadValues E) (shown
           (λ d x l k f e sc h i o. trait_turn n d x l k f e sc (omega (arith, h)) i o)
           (λ d x l k f e sc h i o u. (meets (suc n)).ty Plus d x l k f e sc h i o (λ q. u))
 
-      pub type_turn : (n : ℕ) (p : TypePlace) (d : End) (x : TypeTree A E) (l k : Toks) (f : Option Span) (e : Span) (sc : Scope) → ahead (at l f e sc) ≤ limit → IsType (To n) clearly p d x l k → Fits d k → (allows_plus p ≡ true → token.sees_plus k ≡ false) →
+      type_turn : (n : ℕ) (p : TypePlace) (d : End) (x : TypeTree A E) (l k : Toks) (f : Option Span) (e : Span) (sc : Scope) → ahead (at l f e sc) ≤ limit → IsType (To n) clearly p d x l k → Fits d k → (allows_plus p ≡ true → token.sees_plus k ≡ false) →
           Reads_to (type_step attrs values r p) x l k f e sc
       type_turn n = type_met attrs values r (To n) limit (meets n) (paths_at n) (forms_at n)
 
-      pub param_turn : (n : ℕ) (p : ParamPlace) (x : GenericParam A E) (l k : Toks) (f : Option Span) (e : Span) (sc : Scope) → ahead (at l f e sc) ≤ limit → IsParam (To n) clearly p x l k → ends_param k ≡ true → Reads_to (generics.param_step attrs values r p) x l k f e sc
+      param_turn : (n : ℕ) (p : ParamPlace) (x : GenericParam A E) (l k : Toks) (f : Option Span) (e : Span) (sc : Scope) → ahead (at l f e sc) ≤ limit → IsParam (To n) clearly p x l k → ends_param k ≡ true → Reads_to (generics.param_step attrs values r p) x l k f e sc
       param_turn n = param_met attrs values r (To n) limit (meets n) (supplied_to n)
 
       -- alone, or between angle marks
-      pub argument_turn : (n : ℕ) (place : ArgumentPlace) (x : GenericArgument A E) (l k : Toks) (f : Option Span) (e : Span) (sc : Scope) → ahead (at l f e sc) ≤ limit → IsArgument (IsType (To n) clearly Plus) (To n) clearly place x l k → EndsArgument place k →
+      argument_turn : (n : ℕ) (place : ArgumentPlace) (x : GenericArgument A E) (l k : Toks) (f : Option Span) (e : Span) (sc : Scope) → ahead (at l f e sc) ≤ limit → IsArgument (IsType (To n) clearly Plus) (To n) clearly place x l k → EndsArgument place k →
           Reads_to (argument_step values r (type_step attrs values r Plus)) x l k f e sc
       argument_turn n place =
           argument_met (IsType (To n) clearly Plus) attrs values r (To n) limit (meets n) (supplied_to n) place (type_step attrs values r Plus) (λ d x l k f e sc h i o u. type_turn n Plus d x l k f e sc h i o (λ q. u))
           (λ d x l k i. (type_starts (starts_to shown spelt given_begins n) Plus d x l k i).0) (name_is_type (To n))
 
-      pub arguments_turn : (n : ℕ) (x : PathArguments A E) (l k : Toks) (f : Option Span) (e : Span) (sc : Scope) → ahead (at l f e sc) ≤ limit → IsArguments (To n) clearly x l k → Reads_to (arguments_step r) x l k f e sc
+      arguments_turn : (n : ℕ) (x : PathArguments A E) (l k : Toks) (f : Option Span) (e : Span) (sc : Scope) → ahead (at l f e sc) ≤ limit → IsArguments (To n) clearly x l k → Reads_to (arguments_step r) x l k f e sc
       arguments_turn n = arguments_met r (To n) limit (meets n)
 
-    -- ---- all turns: what a form holds is read where less is left, so by induction on that
+    -- ---- all turns: each asks for less than what is left where it begins
 
-    -- the reads further on meet the trees of all heights
-    abbrev pub Below : Stream → Type 0
+    -- the reads further on meet the trees of every height
+    abbrev Below : Stream → Type 0
     Below s = (n : ℕ) → Meets (reads_below attrs values (ahead s)) (To n) (ahead s)
 
     by_turn : (q : Point) (x : Tree A E q) (l k : Toks) (f : Option Span) (e : Span) (sc : Scope) → Reads_to (step attrs values (reads_below attrs values (ahead (at l f e sc))) q) x l k f e sc → Reads_to (read attrs values q) x l k f e sc
     by_turn q x l k f e sc w = record { last = w.last; reads = turn attrs values q (at l f e sc) ∙ w.reads }
 
+    -- what is spelt at a point is answered there, where the reads further on meet theirs
     pub type_by : (n : ℕ) (p : TypePlace) (d : End) (x : TypeTree A E) (l k : Toks) (f : Option Span) (e : Span) (sc : Scope) → Below (at l f e sc) → IsType (To n) clearly p d x l k → Fits d k → (allows_plus p ≡ true → token.sees_plus k ≡ false) → Reads_to (knot.ty attrs values p) x l k f e sc
     type_by n p d x l k f e sc m i o u = let s = at l f e sc in by_turn (a_type p) x l k f e sc (type_turn (reads_below attrs values (ahead s)) (ahead s) m n p d x l k f e sc (omega arith) i o u)
 
@@ -170,9 +171,9 @@ module _ {A E : Type 0} (attrs : Reader (List A)) (values : ReadValues E) (shown
     pub firsts_at : (n : ℕ) → Firsts (To n)
     firsts_at = firsts_to shown spelt given_begins
 
-    -- up to a number, below which the limit stays
+    -- where the limit is at most a number
     meets_to : (m limit : ℕ) → limit ≤ m → (n : ℕ) → Meets (reads_below attrs values limit) (To n) limit
-    meets_to m limit g zero = record {
+    meets_to m limit q zero = record {
       ty = λ p d x l k f e sc h i. absurd i;
       bound = λ p d x l k f e sc h i. absurd i;
       param = λ p x l k f e sc h i. absurd i;
@@ -180,20 +181,20 @@ module _ {A E : Type 0} (attrs : Reader (List A)) (values : ReadValues E) (shown
       arguments = λ x l k f e sc h i. absurd i;
       firsts = firsts_at zero;
     }
-    meets_to zero limit g (suc n) = record {
-      ty = λ p d x l k f e sc h. absurd (omega (arith, g, h));
-      bound = λ p d x l k f e sc h. absurd (omega (arith, g, h));
-      param = λ p x l k f e sc h. absurd (omega (arith, g, h));
-      argument = λ x l k f e sc h. absurd (omega (arith, g, h));
-      arguments = λ x l k f e sc h. absurd (omega (arith, g, h));
+    meets_to zero limit q (suc n) = record {
+      ty = λ p d x l k f e sc h. absurd (omega (arith, q, h));
+      bound = λ p d x l k f e sc h. absurd (omega (arith, q, h));
+      param = λ p x l k f e sc h. absurd (omega (arith, q, h));
+      argument = λ x l k f e sc h. absurd (omega (arith, q, h));
+      arguments = λ x l k f e sc h. absurd (omega (arith, q, h));
       firsts = firsts_at (suc n);
     }
-    meets_to (suc m) limit g (suc n) = record {
-      ty = λ p d x l k f e sc h i o u. below_met (knot.ty attrs values) limit p x l k f e sc h (type_by n p d x l k f e sc (meets_to m (ahead (at l f e sc)) (omega (arith, g, h))) i o u);
-      bound = λ p d x l k f e sc h i o. below_met (knot.bound attrs values) limit p x l k f e sc h (bound_by n p d x l k f e sc (meets_to m (ahead (at l f e sc)) (omega (arith, g, h))) i o);
-      param = λ p x l k f e sc h i o. below_met (knot.param attrs values) limit p x l k f e sc h (param_by n p x l k f e sc (meets_to m (ahead (at l f e sc)) (omega (arith, g, h))) i o);
-      argument = λ x l k f e sc h i o. below_met (knot.argument_in attrs values) limit tt x l k f e sc h (argument_by n between_angles x l k f e sc (meets_to m (ahead (at l f e sc)) (omega (arith, g, h))) i o);
-      arguments = λ x l k f e sc h i. below_met (knot.arguments_in attrs values) limit tt x l k f e sc h (arguments_by n x l k f e sc (meets_to m (ahead (at l f e sc)) (omega (arith, g, h))) i);
+    meets_to (suc m) limit q (suc n) = record {
+      ty = λ p d x l k f e sc h i o u. below_met (knot.ty attrs values) limit p x l k f e sc h (type_by n p d x l k f e sc (meets_to m (ahead (at l f e sc)) (omega (arith, q, h))) i o u);
+      bound = λ p d x l k f e sc h i o. below_met (knot.bound attrs values) limit p x l k f e sc h (bound_by n p d x l k f e sc (meets_to m (ahead (at l f e sc)) (omega (arith, q, h))) i o);
+      param = λ p x l k f e sc h i o. below_met (knot.param attrs values) limit p x l k f e sc h (param_by n p x l k f e sc (meets_to m (ahead (at l f e sc)) (omega (arith, q, h))) i o);
+      argument = λ x l k f e sc h i o. below_met (knot.argument_in attrs values) limit tt x l k f e sc h (argument_by n between_angles x l k f e sc (meets_to m (ahead (at l f e sc)) (omega (arith, q, h))) i o);
+      arguments = λ x l k f e sc h i. below_met (knot.arguments_in attrs values) limit tt x l k f e sc h (arguments_by n x l k f e sc (meets_to m (ahead (at l f e sc)) (omega (arith, q, h))) i);
       firsts = firsts_at (suc n);
     }
 
