@@ -125,13 +125,13 @@ module _ {X : Type 0} (supplied : Place → Reader X) (spells : Place → X → 
       let u = g.body z y j in
       record { last = s.closing; reads = link _ a.reads (link _ (link _ (reads_inside Brace groups.brace_name (supplied Block) y s c k u.0 f a.last sc u.1 (uses_none z u.0 refl u.2)) refl) refl) }
 
-  lit_bound : (x : Lit) (l k : Toks) (f : Option Span) (e : Span) (sc : Scope) → IsLit x l k → Reads_to (bound supplied) (b.Lit (lit_of [] x)) l k f e sc
+  pub lit_bound : (x : Lit) (l k : Toks) (f : Option Span) (e : Span) (sc : Scope) → IsLit x l k → Reads_to (bound supplied) (b.Lit (lit_of [] x)) l k f e sc
   unfolding bound
   lit_bound x l k f e sc i =
       let a = lit_complete x l k f e sc i in
       record { last = a.last; reads = chosen (sees_lit l) true _ _ (at l f e sc) _ (lit_seen x l k i) (link _ a.reads refl) }
 
-  path_opens : (q : Option (QSelf (Attr X) (Expr X))) (p : Path (Attr X) (Expr X)) (l k : Toks) → IsPatPath spells clearly q p l k → Opens l
+  pub path_opens : (q : Option (QSelf (Attr X) (Expr X))) (p : Path (Attr X) (Expr X)) (l k : Toks) → IsPatPath spells clearly q p l k → Opens l
   path_opens q p l k (a_pat_path n i) = any_opens _ q p l k i.0 i.1
 
   -- before no `::`
@@ -143,7 +143,7 @@ module _ {X : Type 0} (supplied : Place → Reader X) (spells : Place → X → 
       let a = g.path q p l k f e sc i n in
       record { last = a.last; reads = chosen (sees_lit l) false _ _ (at l f e sc) _ (path_no_lit l o) (chosen (sees_bound_path l) true _ _ (at l f e sc) _ (path_seen l o) (link _ a.reads refl)) }
 
-  const_bound : (x : ExprConstOf (Attr X) X) (l k : Toks) (f : Option Span) (e : Span) (sc : Scope) → IsConstBlock spells x l k → Reads_to (bound supplied) (b.Const x) l k f e sc
+  pub const_bound : (x : ExprConstOf (Attr X) X) (l k : Toks) (f : Option Span) (e : Span) (sc : Scope) → IsConstBlock spells x l k → Reads_to (bound supplied) (b.Const x) l k f e sc
   unfolding bound
   const_bound x l k f e sc (a_const_block {w = w} {s = s} {x = y} {c = c} i j) =
       let a = block_met x l k f e sc (a_const_block i j) in

@@ -1,4 +1,4 @@
--- A trait bound, a bound in its place and bounds joined by `+` print their normal form clearly, where binders and paths do, and what is held verbatim.
+-- A trait bound, a bound in its place and bounds joined by `+` print their normal form clearly, where binders and paths do.
 use Rattle.std.proofs.Common.{◌≡◌, Bool, true, false, List, [], ◌∷◌, ◌++◌, map, Option, None, Some, refl, sym, ◌∙◌, ap, subst}
 use Rattle.token_core.specs.declared.span.DelimSpan.{DelimSpan}
 use Rattle.token_core.specs.declared.tree.Delimiter.{Delimiter}
@@ -30,7 +30,7 @@ use Rattle.token_core.specs.declared.tree.Spacing.TheVariants.{Alone}
 use Rattle.syn_forms.specs.declared.places.BoundPlace.{BoundPlace}
 use Rattle.syn_ty.specs.declared.generics.PreciseCapture.{PreciseCapture}
 use Rattle.syn_ty.specs.declared.generics.TypeParamBoundOf.TheVariants as b
-use Rattle.syn_ty.specs.generics.Bounds.{IsCapture, IsFor, IsTrait, a_trait, a_trait_for, a_trait_asked, IsTraitBound, a_trait_bound, IsVerbatimBound, IsBound, a_lifetime_bound, a_bare_bound, a_bound_in_parens, a_capture_bound, a_verbatim_bound, AreBounds, no_bounds, last_plus, last_bound, bound_and_plus}
+use Rattle.syn_ty.specs.generics.Bounds.{IsCapture, IsFor, IsTrait, a_trait, a_trait_for, a_trait_asked, IsTraitBound, a_trait_bound, IsBound, a_lifetime_bound, a_bare_bound, a_bound_in_parens, a_capture_bound, a_verbatim_bound, AreBounds, no_bounds, last_plus, last_bound, bound_and_plus}
 use Rattle.syn_ty.specs.generics.NormalShapes.{binder_by, capture}
 use Rattle.syn_ty.specs.generics.Params.{trait_bound_of}
 use Rattle.syn_ty.specs.generics.Shapes as shapes
@@ -39,7 +39,7 @@ use Rattle.syn_ty.specs.path.Printing.{path}
 use Rattle.syn_ty.specs.path.Shapes.{as_written}
 use Rattle.syn_ty.specs.path.Signed.{IsBoundPath}
 use Rattle.syn_ty.specs.ty.Normal as normal
-use Rattle.syn_ty.specs.ty.Parts.{Manner, plainly, clearly, End, going_on, Parts, Holds}
+use Rattle.syn_ty.specs.ty.Parts.{Manner, plainly, clearly, End, going_on, Parts}
 use Rattle.syn_ty.specs.ty.Printing as printing
 use Rattle.syn_ty.specs.ty.Trees.{BoundLifetimes, Path, TraitBound, TypeParamBound}
 use Rattle.syn_ty.proofs.ty_laws.NormalsAgain.{normal-Trait, trait_bound_normal, normal-bound-Lifetime, normal-PreciseCapture, normal-bound-Verbatim}
@@ -184,10 +184,9 @@ module _ {A E : Type 0} (na : List A → List A) (ne : NormalValues E) (pa : Lis
         within_front (Before next (IsTraitBound part clearly e) r) (Before next (λ (v : Named A E). IsTrait part clearly e v.0 v.1 v.2) r) (normal.trait_bound na ne) (normal_named na ne) (printing.trait_bound pa pe) (print_named pa pe) (with_parens None)
         (λ v. trait_bound_normal na ne None v.0 (record {}) v.1 v.2) (λ v k b i w. a_trait_bound (i w)) (λ v. trait_bound_parts pa pe None v.0 (record {}) v.1 v.2) (o, q, z) l r (trait_front e o q z l r i)
 
-    -- ---- a bound in its place, where what is held verbatim is spelt clearly before what may follow
+    -- ---- a bound in its place
 
-    module _ (place : BoundPlace) (capture_front : (x : PreciseCapture) (l r : Toks) → IsCapture false x l r → AgainFront (IsCapture true) capture shapes.capture x l r)
-        (held_front : (e : End) (t : TokenStream) (l r : Toks) → IsVerbatimBound part plainly place e l r → Holds t l r → (k : Toks) → next.may r k → IsVerbatimBound part clearly place e (row (trees t) k) k) where
+    module _ (place : BoundPlace) (capture_front : (x : PreciseCapture) (l r : Toks) → IsCapture false x l r → AgainFront (IsCapture true) capture shapes.capture x l r) where
       abbrev To : End → Toks → TypeParamBound A E → Toks → Toks → Type 0
       To e r = Before next (IsBound part clearly place e) r
 
@@ -203,11 +202,11 @@ module _ {A E : Type 0} (na : List A → List A) (ne : NormalValues E) (pa : Lis
           (trait_front g o q z c done i)
       bound_front e x l r (a_capture_bound {x = y} h i) =
           within_front (To e r) (IsCapture true) (normal.bound na ne) capture (printing.bound pa pe) shapes.capture b.PreciseCapture (normal-PreciseCapture na ne) (λ v k b i w. a_capture_bound h i) (bound-PreciseCapture pa pe) y l r (capture_front y l r i)
-      bound_front e x l r (a_verbatim_bound {t = y} h i j) =
+      bound_front e x l r (a_verbatim_bound {t = y} h (i, j)) =
           let seen = λ (k : Toks). ap (λ z. row z k) (bound-Verbatim pa pe y) in
           let is = normal-bound-Verbatim na ne y in
           record {
-            spelt = λ k w. subst (λ z. IsBound part clearly place e z (row (printing.bound pa pe x) k) k) (sym is) (subst (λ z. IsBound part clearly place e (b.Verbatim y) z k) (sym (seen k)) (a_verbatim_bound h (held_front e y l r i j k w) refl));
+            spelt = λ k w. subst (λ z. IsBound part clearly place e z (row (printing.bound pa pe x) k) k) (sym is) (subst (λ z. IsBound part clearly place e (b.Verbatim y) z k) (sym (seen k)) (a_verbatim_bound h (i k, refl)));
             visible = λ k u w. subst Visible (sym (seen k)) (row_visible (trees y) r k (subst Visible j u) w);
             seen = λ u. row_seen (trees y) r (subst Visible j u);
             stays = ap (normal.bound na ne) is;

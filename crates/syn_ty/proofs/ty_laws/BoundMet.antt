@@ -136,5 +136,5 @@ module _ {A E : Type 0} (r : Readers A E) (part : Manner → Parts A E) (limit :
     bound_met d x l k f e sc h (a_capture_bound {x = y} g i) o =
         let w = capture_in_place_met y l k f e sc g i in
         record { last = w.last; reads = chosen (sees_lifetime l) false _ _ (at l f e sc) _ (capture_begins y l k i).0 (chosen (token.sees_use l) true _ _ (at l f e sc) _ (capture_begins y l k i).1 w.reads) }
-    bound_met d x l k f e sc h (a_verbatim_bound {t = t} g (a_const_alone i) j) o = let s = const_named r part limit m paths pair parens_met for_met d l k i in trait_turn x l k f e sc s.no_lifetime s.no_use (const_met d t l k f e sc g h i j o)
-    bound_met d x l k f e sc h (a_verbatim_bound {t = t} g (a_const_in_parens {e = u} {s = s} {c = c} i) j) o = let w = group_bound s c k in trait_turn x l k f e sc w.0 w.1 (const_in_parens_met u t s c k f e sc g h i j)
+    bound_met d x l k f e sc h (a_verbatim_bound {t = t} g (a_const_alone i, j)) o = let s = const_named r part limit m paths pair parens_met for_met d l k i in trait_turn x l k f e sc s.no_lifetime s.no_use (const_met d t l k f e sc g h i j o)
+    bound_met d x l k f e sc h (a_verbatim_bound {t = t} g (a_const_in_parens {e = u} {s = s} {c = c} i, j)) o = let w = group_bound s c k in trait_turn x l k f e sc w.0 w.1 (const_in_parens_met u t s c k f e sc g h i j)

@@ -648,7 +648,7 @@ module _ {A E : Type 0} (part : Manner → Parts A E) where
     type_starts place d x l k (an_array_type (counted i j h)) = at_bracket
     type_starts place d x l k (an_infer_type (an_infer {w = w} i)) = word_starts {n = 19} w l k k refl refl i
     type_starts place d x l k (a_never_type (a_never (is_mark (last_char y)))) = at_mark (record { no_comma = refl; no_semi = refl; no_lt = refl; no_equals = refl }) refl
-    type_starts place d x l k (a_verbatim_type i h) = verbatim_starts place d l k i
+    type_starts place d x l k (a_verbatim_type (i, h)) = verbatim_starts place d l k i
 
 -- ---- what is told by how a type begins
 

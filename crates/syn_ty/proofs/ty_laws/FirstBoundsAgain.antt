@@ -22,7 +22,7 @@ use Rattle.syn_forms.specs.declared.places.BoundPlace.{BoundPlace}
 use Rattle.syn_forms.specs.declared.places.TypePlace.{TypePlace}
 use Rattle.syn_ty.specs.declared.generics.PreciseCapture.{PreciseCapture}
 use Rattle.syn_ty.specs.declared.generics.TypeParamBoundOf.TheVariants as b
-use Rattle.syn_ty.specs.generics.Bounds.{IsCapture, a_capture, IsConstForm, a_const_form, a_conditional_form, IsFor, IsTrait, a_trait, a_trait_for, a_trait_asked, a_trait_bound, IsConstBound, a_const_bound, a_const_bound_for, a_const_bound_asked, a_const_alone, a_const_in_parens, IsBound, a_lifetime_bound, a_bare_bound, a_bound_in_parens, a_capture_bound, a_verbatim_bound}
+use Rattle.syn_ty.specs.generics.Bounds.{IsCapture, a_capture, IsConstForm, a_const_form, a_conditional_form, IsFor, IsTrait, a_trait, a_trait_for, a_trait_asked, a_trait_bound, IsConstBound, a_const_bound, a_const_bound_for, a_const_bound_asked, IsVerbatimBound, a_const_alone, a_const_in_parens, IsBound, a_lifetime_bound, a_bare_bound, a_bound_in_parens, a_capture_bound, a_verbatim_bound}
 use Rattle.syn_ty.specs.generics.NormalShapes.{binder_by}
 use Rattle.syn_ty.specs.generics.Spelling.{a_binder}
 use Rattle.syn_ty.specs.path.Paths.{Sep}
@@ -38,6 +38,7 @@ use Rattle.syn_ty.specs.ty.Spelling.{IsOptional, absent, present}
 use Rattle.syn_ty.specs.ty.Trees.{BoundLifetimes, Path, PathSegment, TypeParamBound}
 use Rattle.syn_ty.proofs.ty_laws.BareBoundsAgain.{first_again}
 use Rattle.syn_ty.proofs.ty_laws.BoundAgain.{named_prints, print_named, with_parens}
+use Rattle.syn_ty.proofs.ty_laws.HeldForms.{held_spelt}
 use Rattle.syn_ty.proofs.ty_laws.Prints.{bound-Lifetime}
 
 -- ---- what begins with no lifetime
@@ -77,7 +78,7 @@ module _ {A E : Type 0} (part : Manner → Parts A E) (how : Manner) where
   signed_no_lifetime e xs cs l m (signed_last (a_signed h j s)) = refl
   signed_no_lifetime e xs cs l m (signed_after {s = x} {m = k} i j n) = segment_no_lifetime x l k i
 
-  path_no_lifetime : (p : Path A E) (l m : Toks) → IsPath part how AsWritten p l m → sees_lifetime l ≡ false
+  pub path_no_lifetime : (p : Path A E) (l m : Toks) → IsPath part how AsWritten p l m → sees_lifetime l ≡ false
   path_no_lifetime p l m (a_path {c = o} {xs = xs} {cs = cs} {m = k} i n) = leading_no_lifetime (is_clear how) o l k i (listed_no_lifetime true xs cs k m n)
 
   bound_path_no_lifetime : (e : End) (p : Path A E) (l m : Toks) → IsBoundPath part how e p l m → sees_lifetime l ≡ false
@@ -96,6 +97,10 @@ module _ {A E : Type 0} (part : Manner → Parts A E) (how : Manner) where
   const_bound_no_lifetime e l m (a_const_bound_for (a_binder is_word i j n) k g) = refl
   const_bound_no_lifetime e l m (a_const_bound_asked {m = k} i j n) = const_no_lifetime l k i
 
+  verbatim_no_lifetime : (e : End) (l m : Toks) → IsVerbatimBound part how e l m → sees_lifetime l ≡ false
+  verbatim_no_lifetime e l m (a_const_alone i) = const_bound_no_lifetime e l m i
+  verbatim_no_lifetime e l m (a_const_in_parens {s = s} {c = c} i) = group_no_lifetime s c m
+
   first_no_lifetime : (o : Option (BoundLifetimes A E)) (p : Path A E) (l m : Toks) → IsFirst part how o p l m → sees_lifetime l ≡ false
   unfolding sees_lifetime
   first_no_lifetime o p l m (a_first i h) = path_no_lifetime p l m i
@@ -113,8 +118,7 @@ module _ {A E : Type 0} (pa : List A → Print) (pe : Values E) (part : Manner �
   bound_lives e x l r (a_bare_bound (a_trait_bound {o = o} {q = q} {p = p} i)) h k = unseen l h (trait_no_lifetime part how e o q p l r i)
   bound_lives e x l r (a_bound_in_parens {s = s} {c = c} i) h k = unseen l h (group_no_lifetime s c r)
   bound_lives e x l r (a_capture_bound {x = y} g i) h k = unseen l h (capture_no_lifetime (is_clear how) y l r i)
-  bound_lives e x l r (a_verbatim_bound g (a_const_alone i) j) h k = unseen l h (const_bound_no_lifetime part (kept how) e l r i)
-  bound_lives e x l r (a_verbatim_bound g (a_const_in_parens {s = s} {c = c} i) j) h k = unseen l h (group_no_lifetime s c r)
+  bound_lives e x l r (a_verbatim_bound {t = t} g i) h k = unseen l h (verbatim_no_lifetime part (kept how) e l r (held_spelt (λ m. IsVerbatimBound part m e) how t l r i))
 
 -- ---- bounds without `dyn` that begin with no lifetime
 

@@ -173,7 +173,7 @@ module _ {A E : Type 0} {part : Manner → Parts A E} (s : Starts part) where
   const_bound_less e l k (a_const_bound_for {x = x} {p = p} {m = m} {n = n} b c i) = less_less (binder_less x l m b) (less_less (const_form_less m n c) (bound_path_less e p n k i))
   const_bound_less e l k (a_const_bound_asked {q = q} {p = p} {m = m} {n = n} c j i) = less_less (const_form_less l m c) (no_less (mark_no q m n j) (bound_path_less e p n k i))
 
-  verbatim_starts : (place : BoundPlace) → allows_const place ≡ true → (e : End) (l k : Toks) → IsVerbatimBound part clearly place e l k → BoundStarts place l × Less l k
+  verbatim_starts : (place : BoundPlace) → allows_const place ≡ true → (e : End) (l k : Toks) → IsVerbatimBound part clearly e l k → BoundStarts place l × Less l k
   verbatim_starts place h e l k (a_const_alone i) = (const_bound_starts place h e l k i, const_bound_less e l k i)
   verbatim_starts place h e l k (a_const_in_parens {s = a} {c = c} i) = (at_paren, group_less Parenthesis a c k)
 
@@ -184,7 +184,7 @@ module _ {A E : Type 0} {part : Manner → Parts A E} (s : Starts part) where
   bound_starts place e x l k (a_bare_bound {x = y} i) = let h = trait_bound_starts place e y l k i in (bound_begins place l h.0, h.1)
   bound_starts place e x l k (a_bound_in_parens {s = a} {c = c} i) = (bound_begins place l at_paren, group_less Parenthesis a c k)
   bound_starts place e x l k (a_capture_bound {x = y} h i) = let g = capture_starts place y l k i in (bound_begins place l g.0, g.1)
-  bound_starts place e x l k (a_verbatim_bound h i t) = let g = verbatim_starts place h e l k i in (bound_begins place l g.0, g.1)
+  bound_starts place e x l k (a_verbatim_bound h (i, t)) = let g = verbatim_starts place h e l k i in (bound_begins place l g.0, g.1)
 
   -- one that begins with a lifetime
   abbrev IsLife : TypeParamBound A E → Toks → Toks → Type 0
@@ -198,7 +198,7 @@ module _ {A E : Type 0} {part : Manner → Parts A E} (s : Starts part) where
   bound_life place e x l k (a_bare_bound {x = y} i) h = not_life place x l k (trait_bound_starts place e y l k i).0 h
   bound_life place e x l k (a_bound_in_parens i) h = not_life place x l k at_paren h
   bound_life place e x l k (a_capture_bound {x = y} g i) h = not_life place x l k (capture_starts place y l k i).0 h
-  bound_life place e x l k (a_verbatim_bound g i t) h = not_life place x l k (verbatim_starts place g e l k i).0 h
+  bound_life place e x l k (a_verbatim_bound g (i, t)) h = not_life place x l k (verbatim_starts place g e l k i).0 h
 
   -- ---- bounds joined by `+`
 

@@ -114,7 +114,7 @@ module _ {A E : Type 0} {part : Manner → Parts A E} (s : Starts part) where
   type_starts p e x l k (an_array_type (counted {s = a} {c = c} i j t)) = (group_starts Bracket refl a c k k, group_less Bracket a c k)
   type_starts p e x l k (an_infer_type (an_infer {w = w} i)) = (infer_starts w l k i, word_takes w l k i)
   type_starts p e x l k (a_never_type (a_never (is_mark (last_char {a = a} {j = j} y)))) = (bang_starts j a k k, mark_less (punct 33 j a) k)
-  type_starts p e x l k (a_verbatim_type i t) = verbatim_starts s p e l k i
+  type_starts p e x l k (a_verbatim_type (i, t)) = verbatim_starts s p e l k i
 
   -- ---- arguments
 

@@ -3,7 +3,6 @@ use Rattle.std.proofs.Common.{◌≡◌, Bool, true, false, List, [], ◌++◌, 
 use Rattle.token_core.specs.declared.token.Paren.{Paren}
 use Rattle.token_core.specs.declared.tree.Delimiter.TheVariants.{Parenthesis}
 use Rattle.token_core.specs.declared.tree.Ident.{Ident}
-use Rattle.token_core.specs.declared.tree.TokenStream.{TokenStream}
 use Rattle.token_core.specs.Groups as groups
 use Rattle.token_core.specs.Listed.{Anywhere}
 use Rattle.token_core.specs.Lists as lists
@@ -30,9 +29,9 @@ use Rattle.syn_ty.specs.generics.NormalShapes.{many}
 use Rattle.syn_ty.specs.generics.NormalShapes as shapes
 use Rattle.syn_ty.specs.generics.Shapes as shown
 use Rattle.syn_ty.specs.generics.Shapes.{binder_start, binder_end, binder_joined}
-use Rattle.syn_ty.specs.ty.Functions.{IsAbi, IsMutSelf, IsNamedArg, an_argument, a_named_argument, a_verbatim_argument, IsVariadic, dots, named_dots, AreInputs, plain_inputs, variadic_inputs, IsFnPtr, a_fn_ptr}
+use Rattle.syn_ty.specs.ty.Functions.{IsAbi, IsNamedArg, an_argument, a_named_argument, a_verbatim_argument, IsVariadic, dots, named_dots, AreInputs, plain_inputs, variadic_inputs, IsFnPtr, a_fn_ptr}
 use Rattle.syn_ty.specs.ty.Normal as normal
-use Rattle.syn_ty.specs.ty.Parts.{Manner, plainly, clearly, End, Parts, Holds}
+use Rattle.syn_ty.specs.ty.Parts.{Manner, plainly, clearly, End, Parts}
 use Rattle.syn_ty.specs.ty.Printing as printing
 use Rattle.syn_ty.specs.ty.Printing.{comma_at, last_comma}
 use Rattle.syn_ty.specs.ty.Spelling.{IsOptional, absent, present}
@@ -40,7 +39,6 @@ use Rattle.syn_ty.specs.ty.Trees.{BoundLifetimes, NamedArg, ReturnType, TypeFnPt
 use Rattle.syn_ty.specs.ty.Types.{Comma, fn_ptr_with, named_arg_of, variadic_of}
 use Rattle.syn_ty.proofs.ty_laws.Again.{Again as AllAgain, SuppliedAgain}
 use Rattle.syn_ty.proofs.ty_laws.BoundAgain.{row_seen, row_visible}
-use Rattle.syn_ty.proofs.ty_laws.MovesAgain.{Moves, mut_self_held}
 use Rattle.syn_ty.proofs.ty_laws.NormalsAgain.{fn_ptr_normal, normal-Verbatim}
 use Rattle.syn_ty.proofs.ty_laws.Prints.{fn_ptr_parts, ty-Verbatim}
 use Rattle.syn_ty.proofs.ty_laws.Reprint.{mark_front}
@@ -111,8 +109,7 @@ module _ {A E : Type 0} (na : List A → List A) (ne : NormalValues E) (pa : Lis
         same = ap (λ z. (z ++ named i c) ++ rest) s.same;
       }
 
-  module _ (f : After) (again : (p : TypePlace) (e : End) (x : TypeTree A E) (l r : Toks) → (part plainly).ty p e x l r → AgainFront (Before f ((part clearly).ty p e) r) nt pt x l r)
-      (held : (t : TokenStream) (l r : Toks) → IsMutSelf part clearly l r → Holds t l r → (k : Toks) → f.may r k → IsMutSelf part clearly (row (trees t) k) k) where
+  module _ (f : After) (again : (p : TypePlace) (e : End) (x : TypeTree A E) (l r : Toks) → (part plainly).ty p e x l r → AgainFront (Before f ((part clearly).ty p e) r) nt pt x l r) where
     pub named_arg_front : (first : Bool) (x : NamedArg A E) (l r : Toks) → IsNamedArg part plainly first x l r → AgainFront (Before f (IsNamedArg part clearly first) r) (normal.named_arg na ne) (printing.named_arg pa pe) x l r
     named_arg_front first x l r (an_argument {a = a} {e = e} {x = y} {m = m} i j) =
         let s = attrs a l m i in
@@ -138,14 +135,14 @@ module _ {A E : Type 0} (na : List A → List A) (ne : NormalValues E) (pa : Lis
           stays = ap (λ z. named_arg_of z (Some (i, c)) (nt (nt y))) s.stays ∙ ap (named_arg_of (na a) (Some (i, c))) k.stays;
           same = ap (λ z. (z ++ named i c) ++ pt (nt y)) s.same ∙ ap (λ z. (pa a ++ named i c) ++ z) k.same;
         }
-    named_arg_front first x l r (a_verbatim_argument {a = a} {t = y} {m = m} i j q) =
+    named_arg_front first x l r (a_verbatim_argument {a = a} {t = y} {m = m} i (j, q)) =
         let s = attrs a l m i in
         let is = normal-Verbatim na ne y in
         let shows = ty-Verbatim pa pe y in
         let seen = λ (h : Toks). row-bare a (pt (v.Verbatim y)) h ∙ ap (λ z. row (pa a) (row z h)) shows in
         record {
           spelt = λ h w. subst (λ z. IsNamedArg part clearly true (named_arg_of (na a) None z) (row (printing.named_arg pa pe x) h) h) (sym is)
-              (subst (λ z. IsNamedArg part clearly true (named_arg_of (na a) None (v.Verbatim y)) z h) (sym (seen h)) (a_verbatim_argument (s.spelt (row (trees y) h)) (held y m r j q h w) refl));
+              (subst (λ z. IsNamedArg part clearly true (named_arg_of (na a) None (v.Verbatim y)) z h) (sym (seen h)) (a_verbatim_argument (s.spelt (row (trees y) h)) (j h, refl)));
           visible = λ h u w. subst Visible (sym (seen h)) (s.visible (row (trees y) h) u (row_visible (trees y) r h (subst Visible q (s.seen u)) w));
           seen = λ u. row_seen (trees y) r (subst Visible q (s.seen u));
           stays = ap (λ z. named_arg_of z None (nt (nt (v.Verbatim y)))) s.stays ∙ ap (named_arg_of (na a) None) (ap nt is);
@@ -264,17 +261,13 @@ module _ {A E : Type 0} (na : List A → List A) (ne : NormalValues E) (pa : Lis
   pub variadic_again : (x : FnPtrVariadicOf A) (l : Toks) → IsVariadic part plainly x l → Again (IsVariadic part clearly) (normal.variadic na ne) (printing.variadic pa pe) x l
   variadic_again = variadic_front na ne pa pe part supplied.attrs
 
-  module _ (moves : (e : End) (x : TypeTree A E) (l r : Toks) → (part clearly).ty Plus e x l r → Moves (λ k m. Unit {0}) ((part clearly).ty Plus e x) l r) where
-    held_again : (x : TokenStream) (l r : Toks) → IsMutSelf part clearly l r → Holds x l r → (k : Toks) → Unit {0} → IsMutSelf part clearly (row (trees x) k) k
-    held_again = mut_self_held part (λ k m. Unit {0}) moves
+  pub named_arg_again : (first : Bool) (x : NamedArg A E) (l r : Toks) → IsNamedArg part plainly first x l r → AgainFront (IsNamedArg part clearly first) (normal.named_arg na ne) (printing.named_arg pa pe) x l r
+  named_arg_again first x l r i = freely (IsNamedArg part clearly first) (normal.named_arg na ne) (printing.named_arg pa pe) x l r (named_arg_front na ne pa pe part supplied.attrs anything type first x l r i)
 
-    pub named_arg_again : (first : Bool) (x : NamedArg A E) (l r : Toks) → IsNamedArg part plainly first x l r → AgainFront (IsNamedArg part clearly first) (normal.named_arg na ne) (printing.named_arg pa pe) x l r
-    named_arg_again first x l r i = freely (IsNamedArg part clearly first) (normal.named_arg na ne) (printing.named_arg pa pe) x l r (named_arg_front na ne pa pe part supplied.attrs anything type held_again first x l r i)
+  pub inputs_again : (v : Many (NamedArg A E) Comma) (d : Option (FnPtrVariadicOf A)) (l : Toks) → AreInputs part plainly v d l →
+      Again (AreAll part clearly) (normal_inputs na ne) (print_inputs pa pe) (v, d) l
+  inputs_again = inputs_front na ne pa pe part supplied.attrs anything type
 
-    pub inputs_again : (v : Many (NamedArg A E) Comma) (d : Option (FnPtrVariadicOf A)) (l : Toks) → AreInputs part plainly v d l →
-        Again (AreAll part clearly) (normal_inputs na ne) (print_inputs pa pe) (v, d) l
-    inputs_again = inputs_front na ne pa pe part supplied.attrs anything type held_again
-
-    pub fn_ptr_again : ((x : BoundLifetimes A E) (l r : Toks) → IsFor part plainly x l r → AgainFront (IsFor part clearly) (normal.bound_lifetimes na ne) (printing.bound_lifetimes pa pe) x l r) → (e : End) (x : TypeFnPtr A E) (l r : Toks) → IsFnPtr part plainly e x l r →
-        AgainFront (IsFnPtr part clearly e) (normal.fn_ptr na ne) (printing.fn_ptr pa pe) x l r
-    fn_ptr_again binder e x l r i = freely (IsFnPtr part clearly e) (normal.fn_ptr na ne) (printing.fn_ptr pa pe) x l r (fn_ptr_front na ne pa pe part supplied.attrs anything type held_again binder supplied.own e x l r i)
+  pub fn_ptr_again : ((x : BoundLifetimes A E) (l r : Toks) → IsFor part plainly x l r → AgainFront (IsFor part clearly) (normal.bound_lifetimes na ne) (printing.bound_lifetimes pa pe) x l r) → (e : End) (x : TypeFnPtr A E) (l r : Toks) → IsFnPtr part plainly e x l r →
+      AgainFront (IsFnPtr part clearly e) (normal.fn_ptr na ne) (printing.fn_ptr pa pe) x l r
+  fn_ptr_again binder e x l r i = freely (IsFnPtr part clearly e) (normal.fn_ptr na ne) (printing.fn_ptr pa pe) x l r (fn_ptr_front na ne pa pe part supplied.attrs anything type binder supplied.own e x l r i)

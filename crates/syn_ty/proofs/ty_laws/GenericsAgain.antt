@@ -2,19 +2,18 @@
 use Rattle.std.proofs.Common.{◌≡◌, Bool, true, false, List, [], ◌∷◌, ◌++◌, Some, None, refl, sym, ◌∙◌, ap}
 use Rattle.token_core.specs.Listed.{AreListed, none_left, Anywhere}
 use Rattle.token_core.specs.Loops.{Many}
-use Rattle.token_core.specs.Prints as p
 use Rattle.token_core.specs.Prints.{Print}
+use Rattle.token_core.specs.Prints as p
 use Rattle.token_core.specs.Spellings.{IsMark}
 use Rattle.token_core.specs.Tokens as token
 use Rattle.token_core.specs.Toks.{Toks}
-use Rattle.token_core.specs.Trees.{row}
 use Rattle.syn_path.specs.Values.{NormalValues, Values}
 use Rattle.syn_path.proofs.Words.{AgainFront}
 use Rattle.syn_forms.specs.declared.places.ParamPlace.TheVariants as params
 use Rattle.syn_ty.specs.declared.generics.GenericsOf.{GenericsOf}
 use Rattle.syn_ty.specs.generics.Members.{sort, sorted}
-use Rattle.syn_ty.specs.generics.Normal as clauses
 use Rattle.syn_ty.specs.generics.NormalShapes.{many}
+use Rattle.syn_ty.specs.generics.Normal as clauses
 use Rattle.syn_ty.specs.generics.Parameters.{AreGenerics, no_generics, some_generics}
 use Rattle.syn_ty.specs.generics.Params.{generics_of, is_lifetime}
 use Rattle.syn_ty.specs.generics.Printing as shown
@@ -24,10 +23,10 @@ use Rattle.syn_ty.specs.ty.Parts.{Manner, plainly, clearly, Parts}
 use Rattle.syn_ty.specs.ty.Printing as printing
 use Rattle.syn_ty.specs.ty.Trees.{GenericParam}
 use Rattle.syn_ty.proofs.generics_laws.Members.{true_false, some, some_sort}
+use Rattle.syn_ty.proofs.ty_laws.Again.{Again}
 use Rattle.syn_ty.proofs.ty_laws.AnglesSortedAgain.{sorted_again}
-use Rattle.syn_ty.proofs.ty_laws.JoinedAgain.{Where, Follows, always, sooner, listed_good, then_where, then_front}
+use Rattle.syn_ty.proofs.ty_laws.JoinedAgain.{then_front}
 use Rattle.syn_ty.proofs.ty_laws.NormalsAgain.{kind_kept}
-use Rattle.syn_ty.proofs.ty_laws.ParamsAgain.{ParamsAgain}
 use Rattle.syn_ty.proofs.ty_laws.Reprint.{mark_front}
 
 -- between angle marks, where there is one
@@ -35,8 +34,7 @@ between_some : {T : Type 0} (o : token.Lt) (c : token.Gt) (l : List T) (q : Prin
 between_some o c [] q h = true_false (sym h)
 between_some o c (x ∷ l) q h = refl
 
-module _ {A E : Type 0} (na : List A → List A) (ne : NormalValues E) (pa : List A → Print) (pe : Values E) (part : Manner → Parts A E)
-    (may : Toks → Toks → Type 0) (follows : Follows may) (param : ParamsAgain na ne pa pe part may params.Generics) where
+module _ {A E : Type 0} (na : List A → List A) (ne : NormalValues E) (pa : List A → Print) (pe : Values E) (part : Manner → Parts A E) (held : Again na ne pa pe part) where
   abbrev Params : Type 0
   Params = Many (GenericParam A E) token.Comma
 
@@ -61,24 +59,9 @@ module _ {A E : Type 0} (na : List A → List A) (ne : NormalValues E) (pa : Lis
       by_list [] cs h = true_false (sym h)
       by_list (x ∷ xs) cs h = refl
 
-  -- a comma or a `>` follows each, which may follow anything
-  abbrev Free : Toks → Type 0
-  Free k = (r : Toks) → may r k
-
-  free_again : (x : GenericParam A E) (l r : Toks) → (part plainly).param params.Generics x l r → AgainFront (Where Free ((part clearly).param params.Generics)) (normal.param na ne) (printing.param pa pe) x l r
-  free_again x l r i = sooner ((part clearly).param params.Generics) (normal.param na ne) (printing.param pa pe) (may r) Free (λ k h. h r) x l r (param x l r i)
-
   params_again : (xs : List (GenericParam A E)) (cs : List token.Comma) (l r : Toks) → AreListed (λ (_ : Bool). (part plainly).param params.Generics) (IsMark false) Anywhere true xs cs l r →
-      AgainFront (Where Free AreParams) ordered shown_ordered (xs, cs) l r
-  params_again xs cs l r i =
-      let h = sorted_again ((part plainly).param params.Generics) (Where Free ((part clearly).param params.Generics)) (normal.param na ne) (printing.param pa pe) free_again is_lifetime (kind_kept na ne) xs cs l r i in
-      record {
-        spelt = λ k f. listed_good ((part clearly).param params.Generics) Free (λ c m o j. λ n. follows.comma c n m o j) true (ordered (xs, cs)).0 (ordered (xs, cs)).1 (row (shown_ordered (xs, cs)) k) k f (h.spelt k);
-        visible = λ k u v. h.visible k u v;
-        seen = λ u. h.seen u;
-        stays = h.stays;
-        same = h.same;
-      }
+      AgainFront AreParams ordered shown_ordered (xs, cs) l r
+  params_again = sorted_again ((part plainly).param params.Generics) ((part clearly).param params.Generics) (normal.param na ne) (printing.param pa pe) (held.param params.Generics) is_lifetime (kind_kept na ne)
 
   some_again : (o : token.Lt) (x : GenericParam A E) (xs : List (GenericParam A E)) (cs : List token.Comma) (c : token.Gt) (l m n r : Toks) →
       IsMark false o l m → AreListed (λ (_ : Bool). (part plainly).param params.Generics) (IsMark false) Anywhere true (x ∷ xs) cs m n → IsMark false c n r →
@@ -86,13 +69,10 @@ module _ {A E : Type 0} (na : List A → List A) (ne : NormalValues E) (pa : Lis
   some_again o x xs cs c l m n r i j t =
       let v : Params = (x ∷ xs, cs) in
       let is = some_sort is_lifetime (many (normal.param na ne) v) in
-      let any : Toks → Type 0 = λ k. Unit {0} in
-      let last = mark_front c n r t in
-      let e = then_where AreParams ordered shown_ordered (IsMark true) (λ (z : token.Gt). z) (λ (z : token.Gt). p.mark z) Free any v c m n r (λ k d. λ q. follows.gt c q (row (p.mark c) k) k (last.spelt k)) (params_again (x ∷ xs) cs m n j)
-          (always (IsMark true) (λ (z : token.Gt). z) (λ (z : token.Gt). p.mark z) any c n r last) in
-      let h = then_front (IsMark true) (λ (z : token.Lt). z) (λ (z : token.Lt). p.mark z) _ _ _ any o (v, c) l m r (mark_front o l m i) e in
+      let e = then_front AreParams ordered shown_ordered (IsMark true) (λ (z : token.Gt). z) (λ (z : token.Gt). p.mark z) v c m n r (params_again (x ∷ xs) cs m n j) (mark_front c n r t) in
+      let h = then_front (IsMark true) (λ (z : token.Lt). z) (λ (z : token.Lt). p.mark z) _ _ _ o (v, c) l m r (mark_front o l m i) e in
       record {
-        spelt = λ k. let b = h.spelt k tt in some_generics b.1 b.2.1 b.2.2;
+        spelt = λ k. let b = h.spelt k in some_generics b.1 b.2.1 b.2.2;
         visible = λ k u w. h.visible k u w;
         seen = λ u. h.seen u;
         stays = some_params o c (ordered v) is ∙ ap (λ (z : token.Lt × (Params × token.Gt)). held_by o c z.1.0) h.stays;

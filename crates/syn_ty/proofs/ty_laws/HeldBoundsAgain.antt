@@ -19,10 +19,9 @@ use Rattle.token_core.specs.Trees.{punct, row, trees, toks, stream_of_trees, del
 use Rattle.token_core.proofs.Rebuilds.{tree-ident, tree-punct, tree-literal, tree-group}
 use Rattle.token_core.proofs.WordSpells.{word_again}
 use Rattle.syn_path.proofs.Words.{row-group}
-use Rattle.syn_forms.specs.declared.places.BoundPlace.{BoundPlace}
 use Rattle.syn_ty.specs.generics.Bounds.{IsConstForm, a_const_form, a_conditional_form, IsFor, IsConstBound, a_const_bound, a_const_bound_for, a_const_bound_asked, IsVerbatimBound, a_const_alone, a_const_in_parens}
 use Rattle.syn_ty.specs.path.Signed.{IsBoundPath}
-use Rattle.syn_ty.specs.ty.Parts.{Manner, plainly, clearly, End, Parts, Holds}
+use Rattle.syn_ty.specs.ty.Parts.{Manner, clearly, End, Parts, Holds}
 use Rattle.syn_ty.specs.ty.Trees.{BoundLifetimes, Path}
 use Rattle.syn_ty.proofs.ty_laws.MovesAgain.{Alike, same_mark, same_group, Moves, held_moved, moves_both, moves_as, same_trees, word_moves}
 
@@ -106,6 +105,6 @@ module _ {A E : Type 0} (part : Manner → Parts A E) (may : Toks → Toks → T
       (moves_both may IsConstForm _ l m r (const_form_moves Alike l m i) (moves_both may (IsMark true x) (IsBoundPath part clearly e z) m n r (question_moves Alike x m n j) (path_moves e z n r q)))
 
   -- the tokens that are held, before what may follow
-  pub verbatim_bound_held : (place : BoundPlace) (e : End) (x : TokenStream) (l r : Toks) → IsVerbatimBound part plainly place e l r → Holds x l r → (k : Toks) → may r k → IsVerbatimBound part clearly place e (row (trees x) k) k
-  verbatim_bound_held place e x l r (a_const_alone i) h k w = a_const_alone (held_moved may (IsConstBound part clearly e) x l r (const_bound_moves e l r i) h k w)
-  verbatim_bound_held place e x l r (a_const_in_parens {s = s} {c = c} i) h k w = subst (λ z. IsVerbatimBound part clearly place e z k) (sym (group_held s c (trees x) r k h)) (a_const_in_parens i)
+  pub verbatim_bound_held : (e : End) (x : TokenStream) (l r : Toks) → IsVerbatimBound part clearly e l r → Holds x l r → (k : Toks) → may r k → IsVerbatimBound part clearly e (row (trees x) k) k
+  verbatim_bound_held e x l r (a_const_alone i) h k w = a_const_alone (held_moved may (IsConstBound part clearly e) x l r (const_bound_moves e l r i) h k w)
+  verbatim_bound_held e x l r (a_const_in_parens {s = s} {c = c} i) h k w = subst (λ z. IsVerbatimBound part clearly e z k) (sym (group_held s c (trees x) r k h)) (a_const_in_parens i)

@@ -58,7 +58,7 @@ module _ {A E : Type 0} (part : Manner → Parts A E) where
   pub parted : (first : Bool) (x : NamedArg A E) (l k : Toks) → IsNamedArg part clearly first x l k → Parted first x l k
   parted first x l k (an_argument {a = a} {x = y} {m = m} i j) = record { attrs = a; named = (None, y); from = m; bears = i; bare = bare_type j; is = refl }
   parted first x l k (a_named_argument {a = a} {i = n} {c = c} {x = y} {m = m} i h q j) = record { attrs = a; named = (Some (n, c), y); from = word n m; bears = i; bare = bare_named h q j; is = refl }
-  parted first x l k (a_verbatim_argument {a = a} {t = t} {m = m} i j h) = record { attrs = a; named = (None, form.Verbatim t); from = m; bears = i; bare = bare_held j h; is = refl }
+  parted first x l k (a_verbatim_argument {a = a} {t = t} {m = m} i (j, h)) = record { attrs = a; named = (None, form.Verbatim t); from = m; bears = i; bare = bare_held j h; is = refl }
 
   -- neither the end, nor `#`, nor what begins a variadic
   pub record BareBegins (l : Toks) : Type 0 where

@@ -354,4 +354,4 @@ module _ {A E : Type 0} (part : Manner → Parts A E) where
   bound_no_dyn e x l k (a_bare_bound (a_trait_bound {o = o} {q = q} {p = p} i)) = trait_no_dyn e o q p l k i
   bound_no_dyn e x l k (a_bound_in_parens i) = refl
   bound_no_dyn e x l k (a_capture_bound h i) = cc h
-  bound_no_dyn e x l k (a_verbatim_bound h i t) = cc h
+  bound_no_dyn e x l k (a_verbatim_bound h i) = cc h

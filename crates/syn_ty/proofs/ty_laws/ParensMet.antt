@@ -238,7 +238,7 @@ module _ {A E : Type 0} (part : Manner → Parts A E) where
   type_begins p d x l k (an_array_type (counted i j g)) = inl (plain_group _ _ _ _)
   type_begins p d x l k (an_infer_type (an_infer is_word)) = inl (plain_word _ _)
   type_begins p d x l k (a_never_type (a_never (is_mark (last_char y)))) = inl (plain_mark 33 _ _ _ refl refl)
-  type_begins p d x l k (a_verbatim_type i h) = inl (plain_verbatim p d l k i)
+  type_begins p d x l k (a_verbatim_type (i, h)) = inl (plain_verbatim p d l k i)
 
   -- no type begins with `?`
   pub type_no_question : (p : TypePlace) (d : End) (x : TypeTree A E) (l k : Toks) → IsType part clearly p d x l k → token.sees_question l ≡ false

@@ -1,25 +1,24 @@
 -- Paths of bounds, bounds, trait objects and `impl` print their normal form clearly before anything, where what they hold does.
 use Rattle.std.proofs.Common.{◌≡◌, Bool, true, List, []}
-use Rattle.token_core.specs.declared.tree.TokenStream.{TokenStream}
 use Rattle.token_core.specs.Lifetimes.{sees_lifetime}
 use Rattle.token_core.specs.Loops.{Many}
 use Rattle.token_core.specs.Prints.{Print}
 use Rattle.token_core.specs.Tokens as token
 use Rattle.token_core.specs.Toks.{Toks}
-use Rattle.token_core.specs.Trees.{row, trees}
+use Rattle.token_core.specs.Trees.{row}
 use Rattle.syn_path.specs.declared.path.PathStyle.TheVariants.{AsWritten}
 use Rattle.syn_path.specs.Values.{NormalValues, Values}
 use Rattle.syn_path.proofs.Words.{AgainFront}
 use Rattle.syn_forms.specs.declared.places.BoundPlace.{BoundPlace}
 use Rattle.syn_forms.specs.declared.places.BoundPlace.TheVariants.{Object}
 use Rattle.syn_forms.specs.declared.places.TypePlace.{TypePlace}
-use Rattle.syn_ty.specs.generics.Bounds.{IsFor, IsTraitBound, IsVerbatimBound, IsBound, AreBounds}
+use Rattle.syn_ty.specs.generics.Bounds.{IsFor, IsTraitBound, IsBound, AreBounds}
 use Rattle.syn_ty.specs.path.Printing.{path, segment}
 use Rattle.syn_ty.specs.path.Signed.{IsParens, IsBoundPath}
 use Rattle.syn_ty.specs.path.Spelling.{IsPath, IsSegment}
 use Rattle.syn_ty.specs.ty.Normal as normal
 use Rattle.syn_ty.specs.ty.Objects.{IsBoundList, AreObjectBounds, IsDyn, IsObject, IsImpl, AreBareBounds}
-use Rattle.syn_ty.specs.ty.Parts.{Manner, plainly, clearly, End, Parts, Holds}
+use Rattle.syn_ty.specs.ty.Parts.{Manner, plainly, clearly, End, Parts}
 use Rattle.syn_ty.specs.ty.Printing as printing
 use Rattle.syn_ty.specs.ty.Trees.{BoundLifetimes, Parenthesized, Path, PathSegment, TraitBound, TypeImplTrait, TypeParamBound, TypeTraitObject}
 use Rattle.syn_ty.proofs.ty_laws.Again.{Again}
@@ -76,11 +75,10 @@ module _ {A E : Type 0} (na : List A → List A) (ne : NormalValues E) (pa : Lis
       pub trait_bound_again : (e : End) (x : TraitBound A E) (l r : Toks) → IsTraitBound part plainly e x l r → AgainFront (IsTraitBound part clearly e) (normal.trait_bound na ne) (printing.trait_bound pa pe) x l r
       trait_bound_again e x l r i = freely (IsTraitBound part clearly e) (normal.trait_bound na ne) (printing.trait_bound pa pe) x l r (trait_bound_front na ne pa pe part for_again anything path_before e x l r i)
 
-      -- where what is held verbatim is spelt clearly before anything
-      module _ (place : BoundPlace) (held : (e : End) (t : TokenStream) (l r : Toks) → IsVerbatimBound part plainly place e l r → Holds t l r → (k : Toks) → IsVerbatimBound part clearly place e (row (trees t) k) k) where
+      module _ (place : BoundPlace) where
         pub bound_again : (e : End) (x : Bound) (l r : Toks) → IsBound part plainly place e x l r → AgainFront (IsBound part clearly place e) (normal.bound na ne) (printing.bound pa pe) x l r
         bound_again e x l r i =
-            freely (IsBound part clearly place e) (normal.bound na ne) (printing.bound pa pe) x l r (bound_front na ne pa pe part for_again anything path_before place capture_again (λ e t l r i h k w. held e t l r i h k) e x l r i)
+            freely (IsBound part clearly place e) (normal.bound na ne) (printing.bound pa pe) x l r (bound_front na ne pa pe part for_again anything path_before place capture_again e x l r i)
 
       pub bare_bounds_again : Again na ne pa pe part → (place : TypePlace) →
           ((e : End) (x : Bound) (l r : Toks) → (part plainly).bound Object e x l r → sees_lifetime l ≡ true → (k : Toks) → sees_lifetime (row (printing.bound pa pe x) k) ≡ true) →

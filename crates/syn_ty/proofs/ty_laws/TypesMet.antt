@@ -277,4 +277,4 @@ module _ {A E : Type 0} (attrs : Reader (List A)) (values : ReadValues E) (r : R
   type_met d x l k f e sc lim (an_array_type {x = y} i) fits no_plus = array_turn y l k f e sc lim i
   type_met d x l k f e sc lim (an_infer_type {x = y} i) fits no_plus = infer_type_turn y l k f e sc i
   type_met d x l k f e sc lim (a_never_type {x = y} i) fits no_plus = never_turn y l k f e sc i
-  type_met d x l k f e sc lim (a_verbatim_type {t = t} i h) fits no_plus = verbatim_turn d t l k f e sc lim i h fits no_plus
+  type_met d x l k f e sc lim (a_verbatim_type {t = t} (i, h)) fits no_plus = verbatim_turn d t l k f e sc lim i h fits no_plus
