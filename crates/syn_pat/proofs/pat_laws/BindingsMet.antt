@@ -1,5 +1,5 @@
 -- A binding, a reference and `_` that a list spells clearly are what their reads answer, over the reads of the patterns within.
-use Rattle.std.proofs.Common.{◌≡◌, ℕ, ◌<◌, ◌≤◌, Bool, true, false, ◌||◌, if◌then◌else◌, [], Option, Some, None, Ok, Err, refl, sym, ◌∙◌, ap, arith}
+use Rattle.std.proofs.Common.{◌≡◌, ℕ, ◌≤◌, Bool, true, false, ◌||◌, if◌then◌else◌, [], Option, Some, None, Ok, Err, refl, ◌∙◌, ap, arith}
 use Rattle.token_core.specs.declared.span.Span.{Span}
 use Rattle.token_core.specs.declared.tree.Ident.{Ident}
 use Rattle.token_core.specs.declared.word.Word.{Word}
@@ -9,7 +9,7 @@ use Rattle.token_core.specs.Reads.{any_text, expected, ident_name, is_ident, is_
 use Rattle.token_core.specs.Spellings.{IsMark, IsWord, is_word}
 use Rattle.token_core.specs.Stream.{Scope}
 use Rattle.token_core.specs.Tokens as token
-use Rattle.token_core.specs.Toks.{Bytes, Toks, word}
+use Rattle.token_core.specs.Toks.{Toks, word}
 use Rattle.token_core.proofs.MarkSpells.{mark_complete, mark_seen}
 use Rattle.token_core.proofs.Steps.{Reads_to, chosen, link}
 use Rattle.token_core.proofs.Took.{at, seen_word}
@@ -20,14 +20,14 @@ use Rattle.syn_forms.specs.tokens.Reading.{mutable}
 use Rattle.syn_ty.specs.ty.Parts.{Manner, clearly}
 use Rattle.syn_ty.specs.ty.Spelling.{IsOptional, absent, present, Relation}
 use Rattle.syn_ty.proofs.ty_laws.Complete.{later}
-use Rattle.syn_ty.proofs.ty_laws.LessMet.{less_no, mark_takes, no_less, no_no, optional_no, some, word_less, word_takes}
+use Rattle.syn_ty.proofs.ty_laws.LessMet.{less_no, mark_takes, no_less, optional_no, some, word_less, word_takes}
 use Rattle.syn_ty.proofs.ty_laws.Met.{Less, NoMore}
 use Rattle.syn_ty.proofs.ty_laws.ParamsMet.{absent_met, present_met}
 use Rattle.syn_pat.specs.declared.place.PatPlace.{PatPlace}
 use Rattle.syn_pat.specs.declared.place.PatPlace.TheVariants.{Single}
 use Rattle.syn_pat.specs.pat.Admitted.{IsBinding, a_binding, IsSubpat, a_subpat}
-use Rattle.syn_pat.specs.pat.Pats.{Pat, PatIdent, PatReference, binding_of, reference_of, wild_of}
-use Rattle.syn_pat.specs.pat.Reading.{Readers, binding, bound_head, bound_name, by_ref, optional_subpat, reference, subpat, wild}
+use Rattle.syn_pat.specs.pat.Pats.{Pat, PatIdent, reference_of, wild_of}
+use Rattle.syn_pat.specs.pat.Reading.{Readers, binding, bound_head, bound_name, optional_subpat, reference, subpat, wild}
 use Rattle.syn_pat.specs.pat.Spelling.{is_binding_name}
 use Rattle.syn_pat.proofs.pat_laws.NamesMet.{not_bound}
 use Rattle.syn_pat.proofs.pat_laws.WithinMet.{Ends, Meets, single_in}

@@ -1,6 +1,7 @@
 -- What follows the path of a pattern is read after it: a macro call, a struct, a tuple struct, a range, or nothing.
 use Rattle.std.specs.Prelude.{is_some}
-use Rattle.std.proofs.Common.{◌≡◌, ℕ, zero, ◌<◌, ◌≤◌, Bool, true, false, not, ◌&&◌, ◌||◌, List, [], ◌∷◌, Option, Some, None, Ok, refl, ◌∙◌, ap, map}
+use Rattle.std.proofs.Common.{◌≡◌, ℕ, zero, ◌≤◌, Bool, true, false, not, ◌&&◌, List, [], Option, Some, None, refl, ◌∙◌, ap, map}
+use Rattle.std.proofs.lemmas.Bool.{and_left}
 use Rattle.token_core.specs.declared.span.DelimSpan.{DelimSpan}
 use Rattle.token_core.specs.declared.span.Span.{Span}
 use Rattle.token_core.specs.declared.tree.Delimiter.{Delimiter}
@@ -27,7 +28,7 @@ use Rattle.syn_path.specs.declared.supplied.Place.{Place}
 use Rattle.syn_path.specs.mac.Macros.{macro_of}
 use Rattle.syn_path.specs.mac.Reading as macs
 use Rattle.syn_path.specs.mac.Spelling.{Delimits, bang_at}
-use Rattle.syn_path.specs.path.Paths.{ModPath, ModSegment, Sep, lone_ident, nothing, path_of}
+use Rattle.syn_path.specs.path.Paths.{ModPath, ModSegment, Sep, lone_ident, nothing}
 use Rattle.syn_path.specs.path.Spelling as bare
 use Rattle.syn_path.specs.path.Spelling.{IsBarePath, IsLeading, a_bare_path, last_segment, leading, more_segments, no_leading}
 use Rattle.syn_path.proofs.mac_laws.Complete.{call_after_complete}
@@ -36,7 +37,7 @@ use Rattle.syn_attr.specs.declared.expr.Expr.{Expr}
 use Rattle.syn_forms.specs.nested.Below.{ahead}
 use Rattle.syn_forms.proofs.groups_laws.Complete.{content}
 use Rattle.syn_ty.specs.path.Reading.{is_mod_style}
-use Rattle.syn_ty.specs.path.Spelling.{is_segment_word, IsAnyPath, unqualified, IsSegment, a_word, IsPath, a_path}
+use Rattle.syn_ty.specs.path.Spelling.{is_segment_word, unqualified, IsSegment, a_word, IsPath, a_path}
 use Rattle.syn_ty.specs.ty.Parts.{Manner, clearly, Parts}
 use Rattle.syn_ty.specs.ty.Reading.{sees_call}
 use Rattle.syn_ty.specs.ty.Spelling.{IsOptional, absent, present, Relation}
@@ -54,7 +55,7 @@ use Rattle.syn_pat.specs.pat.Spelling.{IsPatPath, a_pat_path, is_self, types_to}
 use Rattle.syn_pat.proofs.pat_laws.GroupsMet.{elements_met, inside_less, parens_met}
 use Rattle.syn_pat.proofs.pat_laws.NamesMet.{before_sep, never_self, no_try_mod, sep_begins, word_begins}
 use Rattle.syn_pat.proofs.pat_laws.StructsMet.{struct_met}
-use Rattle.syn_pat.proofs.pat_laws.WithinMet.{Meets, SuppliedMeets, first_false}
+use Rattle.syn_pat.proofs.pat_laws.WithinMet.{Meets, SuppliedMeets}
 
 -- ---- the path of a call: in the style of expressions, without arguments
 
@@ -103,12 +104,12 @@ unfolding sees_mark
 group_no_sep d s c k = refl
 
 middle_false : (a b c : Bool) → b ≡ false → a && (b && c) ≡ false
-middle_false true b c h = first_false b c h
+middle_false true b c h = and_left b c h
 middle_false false b c h = refl
 
 no_call_by : (k : Toks) → token.sees_bang k ≡ false → sees_call k ≡ false
 unfolding sees_call
-no_call_by k h = first_false (token.sees_bang k) _ h
+no_call_by k h = and_left (token.sees_bang k) _ h
 
 group_no_bang : (d : Delimiter) (s : DelimSpan) (c k : Toks) → token.sees_bang (group d s c k) ≡ false
 unfolding sees_mark

@@ -1,6 +1,7 @@
 -- A pattern in its place that a list spells clearly is what one turn answers, over the reads of the patterns within: one case, or several with `|` between them and perhaps before the first.
 use Rattle.std.specs.Prelude.{is_some}
-use Rattle.std.proofs.Common.{◌≡◌, ℕ, ◌<◌, ◌≤◌, Bool, true, false, ◌||◌, List, [], ◌∷◌, Option, Some, None, Ok, refl, ◌∙◌, ap, arith}
+use Rattle.std.proofs.Common.{◌≡◌, ℕ, ◌<◌, ◌≤◌, Bool, true, false, ◌||◌, List, [], ◌∷◌, Option, Some, None, refl, ap, arith}
+use Rattle.std.proofs.lemmas.Bool.{or_right}
 use Rattle.token_core.specs.declared.span.Span.{Span}
 use Rattle.token_core.specs.Listed.{AreListed, Nowhere, none_left, last_value, value_and_mark}
 use Rattle.token_core.specs.Loops.{Many, listed, never}
@@ -27,17 +28,13 @@ use Rattle.syn_pat.specs.declared.place.PatPlace.{PatPlace}
 use Rattle.syn_pat.specs.declared.place.PatPlace.TheVariants.{Single, Multi, LeadingVert, Element}
 use Rattle.syn_pat.specs.pat.Admitted.{AreCases, cases, IsPat, a_single, some_cases, one_after_vert, some_after_vert, IsSingle}
 use Rattle.syn_pat.specs.pat.Pats.{Pat, PatOr, or_of}
-use Rattle.syn_pat.specs.pat.Reading.{Readers, alternatives, as_element, element, leading, multi, open_range, open_range_layer, pat_step, sees_vert, single, unless_open}
+use Rattle.syn_pat.specs.pat.Reading.{Readers, alternatives, element, leading, multi, open_range, open_range_layer, pat_step, sees_vert, single, unless_open}
 use Rattle.syn_pat.proofs.pat_laws.FirstsMet.{first_no_bar, single_first, single_less}
 use Rattle.syn_pat.proofs.pat_laws.SinglesMet.{single_met}
 use Rattle.syn_pat.proofs.pat_laws.WithinMet.{Ends, EndsIn, Meets, SuppliedMeets, at_bar, single_in, vert_seen}
 
 bar_met : (c : token.Bar) (l k : Toks) (f : Option Span) (e : Span) (sc : Scope) → IsMark true c l k → Reads_to token.bar c l k f e sc
 bar_met c l k f e sc i = mark_complete true {n = 17} {k = 1} refl (omega arith) c l k f e sc i
-
-or_second : (b c : Bool) → c ≡ true → b || c ≡ true
-or_second true c h = refl
-or_second false c h = h
 
 module _ {X : Type 0} (supplied : Place → Reader X) (spells : Place → X → Toks → Type 0) (g : SuppliedMeets supplied spells) (r : Readers X) (part : Manner → PatPlace → Relation (Pat X)) (limit : ℕ) (meets : Meets r part limit) where
   abbrev One : Pat X → Toks → Toks → Type 0
@@ -98,7 +95,7 @@ module _ {X : Type 0} (supplied : Place → Reader X) (spells : Place → X → 
   unfolding alternatives
   several_met p x c xs cs m n k f e sc h i j o z =
       let u = more_met x c xs cs m n k f e sc h i j o z in
-      record { last = u.last; reads = chosen (is_some p || sees_vert m) true _ _ (at m f e sc) _ (or_second (is_some p) (sees_vert m) (vert_seen c m n i)) (link _ u.reads refl) }
+      record { last = u.last; reads = chosen (is_some p || sees_vert m) true _ _ (at m f e sc) _ (or_right (is_some p) (sees_vert m) (vert_seen c m n i)) (link _ u.reads refl) }
 
   -- ---- a first case, and what follows it
 
@@ -167,14 +164,10 @@ module _ {X : Type 0} (supplied : Place → Reader X) (spells : Place → X → 
   bar_light : (b : token.Bar) (l m : Toks) (f : Option Span) (e d : Span) (sc : Scope) → ahead (at l f e sc) ≤ limit → IsMark true b l m → ahead (at m f d sc) ≤ limit
   bar_light b l m f e d sc h i = let k = later l m f f e d sc limit (mark_takes 124 [] refl b l m i).lighter h in omega (arith, k)
 
-  -- the same span or another
-  same_place : (l : Toks) (f : Option Span) (e d : Span) (sc : Scope) → ahead (at l f e sc) ≤ limit → ahead (at l f d sc) ≤ limit
-  same_place l f e d sc h = h
-
   -- with a `|` before the first case or not
   leading_place : (p : PatPlace) (x : Pat X) (l k : Toks) (f : Option Span) (e : Span) (sc : Scope) → ahead (at l f e sc) ≤ limit → IsPat spells part clearly p x l k → Ends k → sees_vert k ≡ false → Reads_to (leading supplied r) x l k f e sc
-  leading_place p x l k f e sc h (a_single i z) o n = leading_by None x l l k f e sc absent (no_bar x l k i) (λ d. single_from x l k f d sc (same_place l f e d sc h) i o n)
-  leading_place p x l k f e sc h (some_cases {xs = xs} {cs = cs} z i) o n = leading_by None x l l k f e sc absent (cases_no_bar xs cs l k i) (λ d. cases_from None xs cs l k f d sc (same_place l f e d sc h) i o n)
+  leading_place p x l k f e sc h (a_single i z) o n = leading_by None x l l k f e sc absent (no_bar x l k i) (λ d. single_from x l k f d sc h i o n)
+  leading_place p x l k f e sc h (some_cases {xs = xs} {cs = cs} z i) o n = leading_by None x l l k f e sc absent (cases_no_bar xs cs l k i) (λ d. cases_from None xs cs l k f d sc h i o n)
   leading_place p x l k f e sc h (one_after_vert {b = b} {x = y} {m = m} z j i) o n = leading_by (Some b) x l m k f e sc (present j) (no_bar y m k i) (λ d. vert_from b y m k f d sc (bar_light b l m f e d sc h j) i o n)
   leading_place p x l k f e sc h (some_after_vert {b = b} {xs = xs} {cs = cs} {m = m} z j i) o n =
       leading_by (Some b) x l m k f e sc (present j) (cases_no_bar xs cs m k i) (λ d. cases_from (Some b) xs cs m k f d sc (bar_light b l m f e d sc h j) i o n)

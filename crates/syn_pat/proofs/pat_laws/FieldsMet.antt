@@ -1,7 +1,5 @@
 -- The field of a struct that a list spells clearly is what its read answers after its attributes, over the reads of the patterns within.
-use Rattle.std.specs.Prelude.{is_some}
-use Rattle.std.proofs.Common.{◌≡◌, ◌⊎◌, ℕ, ◌<◌, ◌≤◌, Bool, true, false, ◌||◌, [], Option, Some, None, Ok, inl, inr, refl, sym, ◌∙◌, ap, arith}
-use Rattle.std.proofs.lemmas.Slice.Eq.{bytes_eq-Decides}
+use Rattle.std.proofs.Common.{◌≡◌, ℕ, ◌≤◌, true, false, [], Option, Some, None, refl, ◌∙◌, arith}
 use Rattle.token_core.specs.declared.member.Member.{Member}
 use Rattle.token_core.specs.declared.member.Member.TheVariants as member
 use Rattle.token_core.specs.declared.span.Span.{Span}
@@ -9,13 +7,11 @@ use Rattle.token_core.specs.declared.tree.Ident.{Ident}
 use Rattle.token_core.specs.declared.tree.TokenStream.{TokenStream}
 use Rattle.token_core.specs.Keywords.{is_keyword}
 use Rattle.token_core.specs.Marks.{text_of}
-use Rattle.token_core.specs.Members.{read_member}
-use Rattle.token_core.specs.Positions.{Item}
-use Rattle.token_core.specs.Reads.{ident_name, is_done, is_ident, is_text, read_word, sees_mark, sees_word}
+use Rattle.token_core.specs.Reads.{is_done, is_ident, is_text, sees_mark, sees_word}
 use Rattle.token_core.specs.Spellings.{last_char, IsMark, is_mark, IsMember, named, unnamed, an_index, IsWord, is_word}
 use Rattle.token_core.specs.Stream.{Scope}
 use Rattle.token_core.specs.Tokens as token
-use Rattle.token_core.specs.Toks.{Bytes, Toks, done, word, lit}
+use Rattle.token_core.specs.Toks.{Bytes, Toks, done, word}
 use Rattle.token_core.proofs.MarkSpells.{mark_complete, mark_seen}
 use Rattle.token_core.proofs.MemberSpells.{member_complete}
 use Rattle.token_core.proofs.Steps.{Reads_to, chosen, link}
@@ -28,8 +24,8 @@ use Rattle.syn_ty.specs.ty.Spelling.{IsOptional, absent, present, Relation}
 use Rattle.syn_ty.specs.ty.Types.{Comma}
 use Rattle.syn_ty.proofs.ty_laws.CaptureMet.{since_met}
 use Rattle.syn_ty.proofs.ty_laws.Complete.{later}
-use Rattle.syn_ty.proofs.ty_laws.LessMet.{less_less, less_no, mark_takes, no_less, word_less, word_takes}
-use Rattle.syn_ty.proofs.ty_laws.Met.{Less, NoMore}
+use Rattle.syn_ty.proofs.ty_laws.LessMet.{less_less, mark_takes, word_less, word_takes}
+use Rattle.syn_ty.proofs.ty_laws.Met.{Less}
 use Rattle.syn_pat.specs.declared.pat.PatOf.TheVariants as v
 use Rattle.syn_pat.specs.declared.place.PatPlace.{PatPlace}
 use Rattle.syn_pat.specs.declared.place.PatPlace.TheVariants.{LeadingVert}
@@ -37,7 +33,8 @@ use Rattle.syn_pat.specs.pat.Admitted.{IsBoxedName, a_boxed_name, IsField, with_
 use Rattle.syn_pat.specs.pat.Pats.{Attrs, FieldPat, Pat, binding_of, field_of}
 use Rattle.syn_pat.specs.pat.Reading.{Modes, Readers, bound_field, field, has_mode, member_field, modes, plain_field}
 use Rattle.syn_pat.specs.pat.Spelling.{outer_spelt}
-use Rattle.syn_pat.proofs.pat_laws.BindingsMet.{head_less, ident_met, word_light, word_met}
+use Rattle.syn_pat.proofs.pat_laws.BindingsMet.{head_less, ident_met, word_met}
+use Rattle.syn_pat.proofs.pat_laws.NamesMet.{unlike}
 use Rattle.syn_pat.proofs.pat_laws.WithinMet.{EndsIn, Meets, comma_in, end_in}
 
 -- ---- what follows a field: a comma, or the end
@@ -56,13 +53,9 @@ comma_field c l r (is_mark (last_char x)) = record { ends = comma_in LeadingVert
 
 -- ---- words
 
-unlike : (w t : Bytes) (b : Bool) → is_text w t ≡ b → is_ident w ≡ false → is_ident t ≡ true → is_text w t ≡ false
-unlike w t true e h k = let g : true ≡ false = sym k ∙ ap is_ident ((bytes_eq-Decides t w).0 e) ∙ h in cc g
-unlike w t false e h k = e
-
 -- no keyword is an identifier
 ident_no : (w : Bytes) (i : Ident) (k : Toks) → is_ident w ≡ false → is_ident i.text ≡ true → sees_word (is_text w) (word i k) ≡ false
-ident_no w i k h g = seen_word (is_text w) i k ∙ unlike w i.text (is_text w i.text) refl h g
+ident_no w i k h g = seen_word (is_text w) i k ∙ unlike is_ident w i.text h g
 
 -- nor does a member begin with one
 member_no : (w : Bytes) (n : Member) (l k : Toks) → is_ident w ≡ false → IsMember n l k → sees_word (is_text w) l ≡ false

@@ -1,5 +1,5 @@
 -- What a pattern begins with that a list spells clearly, and that it takes tokens.
-use Rattle.std.proofs.Common.{◌≡◌, ℕ, ◌==◌, Bool, true, false, List, [], ◌∷◌, Option, Some, None, refl, arith}
+use Rattle.std.proofs.Common.{◌≡◌, ℕ, ◌==◌, true, false, List, [], ◌∷◌, Option, None, refl, arith}
 use Rattle.token_core.specs.declared.lit.Lit.{Lit}
 use Rattle.token_core.specs.declared.range.RangeLimits.{RangeLimits}
 use Rattle.token_core.specs.declared.span.DelimSpan.{DelimSpan}
@@ -8,9 +8,8 @@ use Rattle.token_core.specs.declared.tree.Delimiter.TheVariants.{Brace}
 use Rattle.token_core.specs.declared.tree.Ident.{Ident}
 use Rattle.token_core.specs.declared.tree.Literal.{Literal}
 use Rattle.token_core.specs.declared.tree.Punct.{Punct}
-use Rattle.token_core.specs.Listed.{AreListed, Nowhere}
 use Rattle.token_core.specs.Reads.{Reader, is_done, sees_mark}
-use Rattle.token_core.specs.Spellings.{last_char, more_chars, IsLit, a_literal, a_bool, a_negative, IsMark, is_mark, IsWord, is_word, AreLimits, half_open, closed, AreOldLimits, new_limits, old_limits}
+use Rattle.token_core.specs.Spellings.{last_char, more_chars, IsLit, a_literal, a_bool, a_negative, is_mark, IsWord, is_word, AreLimits, half_open, closed, AreOldLimits, new_limits, old_limits}
 use Rattle.token_core.specs.Tokens as token
 use Rattle.token_core.specs.Toks.{Toks, word, mark, lit, group}
 use Rattle.token_core.proofs.Unseen.{no_mark-other}
@@ -35,7 +34,7 @@ use Rattle.syn_pat.proofs.pat_laws.BindingsMet.{head_less}
 use Rattle.syn_pat.proofs.pat_laws.CallsMet.{call_is_path}
 use Rattle.syn_pat.proofs.pat_laws.NamesMet.{Opens, by_name, by_sep, by_lt}
 use Rattle.syn_pat.proofs.pat_laws.RangesMet.{path_opens}
-use Rattle.syn_pat.proofs.pat_laws.WithinMet.{Meets, SuppliedMeets}
+use Rattle.syn_pat.proofs.pat_laws.WithinMet.{SuppliedMeets}
 
 -- ---- a first token that is no `|`
 

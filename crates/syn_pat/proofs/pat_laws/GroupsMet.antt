@@ -1,17 +1,18 @@
 -- What a group of patterns spells clearly is what is read in it: elements joined by commas, and so slices, tuples, and a pattern in parentheses.
 use Rattle.std.specs.Prelude.{not}
-use Rattle.std.proofs.Common.{◌≡◌, ℕ, ◌<◌, ◌≤◌, Bool, true, false, ◌&&◌, List, [], ◌∷◌, Option, None, Ok, refl, sym, ◌∙◌, ap, arith}
+use Rattle.std.proofs.Common.{◌≡◌, ℕ, ◌<◌, ◌≤◌, Bool, true, false, ◌&&◌, List, [], ◌∷◌, Option, None, Ok, refl, ◌∙◌, ap, arith}
+use Rattle.std.proofs.lemmas.Bool.{and_left}
 use Rattle.token_core.specs.declared.span.DelimSpan.{DelimSpan}
 use Rattle.token_core.specs.declared.span.Span.{Span}
 use Rattle.token_core.specs.declared.tree.Delimiter.{Delimiter}
 use Rattle.token_core.specs.declared.tree.Delimiter.TheVariants.{Parenthesis, Bracket}
 use Rattle.token_core.specs.Groups as groups
 use Rattle.token_core.specs.Listed.{AreListed, Anywhere, none_left, last_value, value_and_mark}
-use Rattle.token_core.specs.Loops.{Many, listed, size}
-use Rattle.token_core.specs.Reads.{Reader, is_done, leaves}
+use Rattle.token_core.specs.Loops.{Many, listed}
+use Rattle.token_core.specs.Reads.{Reader, is_done}
 use Rattle.token_core.specs.Spans.{none}
 use Rattle.token_core.specs.Spellings.{last_char, IsMark, is_mark}
-use Rattle.token_core.specs.Stream.{Scope, Stream}
+use Rattle.token_core.specs.Stream.{Scope}
 use Rattle.token_core.specs.Toks.{Toks, done, group}
 use Rattle.token_core.proofs.MarkSpells.{mark_complete, mark_size}
 use Rattle.token_core.proofs.Steps.{Reads_to, chosen, link}
@@ -29,14 +30,13 @@ use Rattle.syn_ty.specs.ty.Types.{Comma}
 use Rattle.syn_ty.proofs.ty_laws.Complete.{not_more}
 use Rattle.syn_ty.proofs.ty_laws.LessMet.{less_no, mark_no, some}
 use Rattle.syn_pat.specs.declared.pat.PatOf.TheVariants as v
-use Rattle.syn_pat.specs.declared.pat.read.groups.InParens.{InParens}
 use Rattle.syn_pat.specs.declared.pat.read.groups.InParens.TheVariants as held
 use Rattle.syn_pat.specs.declared.place.PatPlace.{PatPlace}
 use Rattle.syn_pat.specs.declared.place.PatPlace.TheVariants.{LeadingVert, Element}
 use Rattle.syn_pat.specs.pat.Admitted.{AreElements, is_tuple}
 use Rattle.syn_pat.specs.pat.Pats.{Pat, is_rest, paren_of, slice_of, tuple_of}
-use Rattle.syn_pat.specs.pat.Reading.{Readers, elements, of_parens, paren_content, paren_or_tuple, slice}
-use Rattle.syn_pat.proofs.pat_laws.WithinMet.{EndsIn, Meets, comma_in, end_in, first_false}
+use Rattle.syn_pat.specs.pat.Reading.{Readers, elements, paren_content, paren_or_tuple, slice}
+use Rattle.syn_pat.proofs.pat_laws.WithinMet.{EndsIn, Meets, comma_in, end_in}
 
 -- ---- the end of a group
 
@@ -145,7 +145,7 @@ module _ {X : Type 0} (spells : Place → X → Toks → Type 0) (r : Readers X)
       }
   several_met xs cs l f e sc h (value_and_mark {x = x} {p = c} {xs = ys} {ps = ds} {m = m} {k = k} i j rest) n =
       let a = meets.pat LeadingVert x l m f e sc h i (comma_in LeadingVert c m k j) in
-      let lone = first_false (is_done m) (not (is_rest x)) (comma_there c m k j) in
+      let lone = and_left (is_done m) (not (is_rest x)) (comma_there c m k j) in
       let u = more_met x c ys ds m k f a.last sc (not_more l m f f e a.last sc limit (some (meets.less LeadingVert x l m i)).light h) j rest in
       record {
         last = u.last;

@@ -1,9 +1,8 @@
 -- What begins with a path is read as one: a path that is no lone word that a pattern binds, and one before a group, a macro call or `..`.
-use Rattle.std.proofs.Common.{◌≡◌, ◌⊎◌, ◌&&◌, ◌||◌, Bool, true, false, if◌then◌else◌, List, Option, Some, None, inl, inr, refl, sym, ◌∙◌, ap, subst}
+use Rattle.std.proofs.Common.{◌≡◌, ◌⊎◌, ◌&&◌, ◌||◌, Bool, true, false, if◌then◌else◌, List, Option, Some, None, inl, inr, refl, sym, ◌∙◌, ap}
 use Rattle.std.proofs.lemmas.Slice.Eq.{bytes_eq-Decides}
 use Rattle.token_core.specs.declared.tree.Delimiter.TheVariants.{Brace, Parenthesis}
 use Rattle.token_core.specs.declared.tree.Ident.{Ident}
-use Rattle.token_core.specs.Keywords.{is_keyword}
 use Rattle.token_core.specs.Listed.{none_left, last_value, value_and_mark}
 use Rattle.token_core.specs.Reads.{after_one, is_ident, is_text, sees_group, sees_mark, sees_word}
 use Rattle.token_core.specs.Spellings.{IsMark}
@@ -13,9 +12,9 @@ use Rattle.token_core.proofs.MarkSpells.{mark_seen}
 use Rattle.token_core.proofs.Took.{seen_word}
 use Rattle.syn_path.specs.declared.path.PathStyle.TheVariants.{Expr as expressions}
 use Rattle.syn_path.specs.path.Spelling.{is_mod_word}
-use Rattle.syn_forms.specs.paths.Reading.{is_bare_word, is_named_word}
+use Rattle.syn_forms.specs.paths.Reading.{is_named_word}
 use Rattle.syn_ty.specs.path.Spelling.{is_segment_word, AreSegments, IsAnyPath, qualified, unqualified, IsQualified, by_type, by_type_as_path, IsPath, a_path, a_word, a_word_with_arguments}
-use Rattle.syn_ty.specs.path.Paths.{Sep, is_none, no_arguments, path_of}
+use Rattle.syn_ty.specs.path.Paths.{Sep, path_of}
 use Rattle.syn_ty.specs.path.Silent as silent
 use Rattle.syn_ty.specs.ty.Parts.{Manner, clearly, Parts}
 use Rattle.syn_ty.specs.ty.Spelling.{absent, present}
@@ -26,16 +25,20 @@ use Rattle.syn_pat.specs.pat.Spelling.{is_binding, is_binding_name, is_self, lon
 
 -- ---- words
 
-unlike : (w t : Bytes) (ok : Bytes → Bool) (b : Bool) → is_text w t ≡ b → ok w ≡ false → ok t ≡ true → is_text w t ≡ false
-unlike w t ok true e h k = let g : true ≡ false = sym k ∙ ap ok ((bytes_eq-Decides t w).0 e) ∙ h in cc g
-unlike w t ok false e h k = e
+unlike_by : (w t : Bytes) (ok : Bytes → Bool) (b : Bool) → is_text w t ≡ b → ok w ≡ false → ok t ≡ true → is_text w t ≡ false
+unlike_by w t ok true e h k = let g : true ≡ false = sym k ∙ ap ok ((bytes_eq-Decides t w).0 e) ∙ h in cc g
+unlike_by w t ok false e h k = e
+
+-- a text that a test holds of is none that it does not hold of
+pub unlike : (ok : Bytes → Bool) (w t : Bytes) → ok w ≡ false → ok t ≡ true → is_text w t ≡ false
+unlike ok w t h k = unlike_by w t ok (is_text w t) refl h k
 
 -- a word of a path is none that is no word of paths, and one that is bound is none that none binds
 pub not_mod : (w t : Bytes) → is_mod_word w ≡ false → is_mod_word t ≡ true → is_text w t ≡ false
-not_mod w t h k = unlike w t is_mod_word (is_text w t) refl h k
+not_mod w t h k = unlike is_mod_word w t h k
 
 pub not_bound : (w t : Bytes) → is_binding_name w ≡ false → is_binding_name t ≡ true → is_text w t ≡ false
-not_bound w t h k = unlike w t is_binding_name (is_text w t) refl h k
+not_bound w t h k = unlike is_binding_name w t h k
 
 -- what makes a path of an identifier before it
 abbrev pub Behind : Toks → Bool

@@ -1,30 +1,28 @@
 -- A single pattern that a list spells clearly is what its read answers, over the reads of the patterns within, where nothing follows that a pattern goes on with.
-use Rattle.std.proofs.Common.{◌≡◌, ℕ, ◌<◌, ◌≤◌, Bool, true, false, ◌||◌, [], ◌∷◌, Option, Some, None, Ok, refl, ◌∙◌, ap, arith}
+use Rattle.std.proofs.Common.{◌≡◌, ℕ, ◌≤◌, Bool, true, false, ◌||◌, [], ◌∷◌, Option, None, refl, arith}
 use Rattle.std.proofs.lemmas.Bool.{or_from}
-use Rattle.token_core.specs.declared.range.RangeLimits.{RangeLimits}
 use Rattle.token_core.specs.declared.range.RangeLimits.TheVariants as limits
 use Rattle.token_core.specs.declared.span.Span.{Span}
-use Rattle.token_core.specs.declared.tree.Delimiter.TheVariants.{Brace, Bracket, Parenthesis}
+use Rattle.token_core.specs.declared.tree.Delimiter.TheVariants.{Brace, Parenthesis}
 use Rattle.token_core.specs.declared.tree.TokenStream.{TokenStream}
 use Rattle.token_core.specs.Reads.{Reader, sees_group, sees_mark}
-use Rattle.token_core.specs.Spellings.{IsMark, IsWord, half_open, AreOldLimits, new_limits}
+use Rattle.token_core.specs.Spellings.{IsWord, half_open, new_limits}
 use Rattle.token_core.specs.Stream.{Scope}
 use Rattle.token_core.specs.Tokens as token
 use Rattle.token_core.specs.Toks.{Toks, mark, group}
 use Rattle.token_core.specs.Trees.{punct}
-use Rattle.token_core.proofs.LitSpells.{lit_complete}
 use Rattle.token_core.proofs.MarkSpells.{mark_seen}
-use Rattle.token_core.proofs.Steps.{Reads_to, chosen, link}
+use Rattle.token_core.proofs.Steps.{Reads_to, link}
 use Rattle.token_core.proofs.Took.{at}
 use Rattle.token_core.proofs.WordSpells.{word_complete}
 use Rattle.syn_path.specs.declared.mac.Macro.{Macro}
 use Rattle.syn_path.specs.declared.supplied.Place.{Place}
 use Rattle.syn_path.specs.mac.Spelling.{IsCall, a_macro}
 use Rattle.syn_path.specs.path.Paths.{lone_ident}
-use Rattle.syn_ty.specs.path.Spelling.{is_segment_word}
 use Rattle.syn_attr.specs.attr.Attrs.{Attribute as Attr, expr_macro_of}
 use Rattle.syn_attr.specs.declared.expr.Expr.{Expr}
 use Rattle.syn_forms.specs.nested.Below.{ahead}
+use Rattle.syn_ty.specs.path.Spelling.{is_segment_word}
 use Rattle.syn_ty.specs.ty.Parts.{Manner, clearly, Holds}
 use Rattle.syn_ty.specs.ty.Spelling.{IsOptional, absent, present, Relation}
 use Rattle.syn_ty.specs.ty.Trees.{Path, QSelf}
@@ -39,15 +37,17 @@ use Rattle.syn_pat.specs.declared.place.PatPlace.{PatPlace}
 use Rattle.syn_pat.specs.declared.place.PatPlace.TheVariants.{Single}
 use Rattle.syn_pat.specs.pat.Admitted.{IsBinding, a_binding, IsSubpat, a_subpat, IsSingle, a_binding_pat, a_wild, a_rest, a_literal, a_const, a_call, a_path, a_range, a_reference, a_mutable_reference, a_paren, a_tuple, a_slice, a_tuple_struct, a_struct, a_verbatim}
 use Rattle.syn_pat.specs.pat.Pats.{Pat, PatIdent, PatRange, PatRangeBound, path_pat_of}
-use Rattle.syn_pat.specs.pat.Reading.{Readers, after_bound, after_path, begins_path, box_pat, path_pat, range_after, single}
-use Rattle.syn_pat.specs.pat.Spelling.{IsConstBlock, a_const_block, IsHead, IsPatCall, IsPatPath, a_pat_path, IsRange, without_end, without_start, with_both, IsStart, a_literal_start, a_path_start, a_const_start, is_binding, is_self, lone_word}
+use Rattle.syn_pat.specs.pat.Reading.{Readers, after_path, begins_path, box_pat, path_pat, range_after, single}
+use Rattle.syn_pat.specs.pat.Spelling.{a_const_block, IsPatPath, a_pat_path, IsRange, without_end, without_start, with_both, IsStart, a_literal_start, a_path_start, a_const_start, is_binding, is_self, lone_word}
 use Rattle.syn_pat.proofs.pat_laws.BindingsMet.{binding_met, mutable_reference_met, reference_met, wild_met}
 use Rattle.syn_pat.proofs.pat_laws.CallsMet.{bang_no_sep, bound_goes, call_begins, call_goes, call_is_path, group_no_sep, struct_goes, tuple_struct_goes}
+use Rattle.syn_pat.proofs.pat_laws.FrontsMet.{mark_apart}
 use Rattle.syn_pat.proofs.pat_laws.GroupsMet.{paren_met, slice_met, tuple_met}
 use Rattle.syn_pat.proofs.pat_laws.NamesMet.{Behind, head_starts, unbound_starts}
-use Rattle.syn_pat.proofs.pat_laws.RangesMet.{after_met, alone_met, block_met, both_met, bound_then, const_bound, dots_seen, lit_bound, open_met, rest_met, start_met}
+use Rattle.syn_pat.proofs.pat_laws.RangesMet.{after_met, alone_met, both_met, bound_then, const_bound, dots_seen, lit_bound, open_met, rest_met, start_met}
 use Rattle.syn_pat.proofs.pat_laws.TurnsMet.{and_turn, binding_turn, box_turn, bracket_turn, const_turn, limits_turn, lit_turn, paren_turn, path_turn, wild_turn}
-use Rattle.syn_pat.proofs.pat_laws.WithinMet.{Ends, Meets, SuppliedMeets, mark_apart, single_in}
+use Rattle.syn_pat.proofs.pat_laws.WithinMet.{Ends, Meets, SuppliedMeets, single_in}
+use Rattle.syn_pat.proofs.pat_laws.WithinTold.{dots_no_sep}
 
 -- ---- what stands behind a first word
 
@@ -80,9 +80,6 @@ last_of false false false false e h = h
 
 dots_behind : (k : Toks) → token.sees_dot_dot k ≡ true → Behind k ≡ true
 dots_behind k h = last_of (token.sees_path_sep k) (token.sees_bang k) (sees_group Brace k) (sees_group Parenthesis k) (token.sees_dot_dot k) h
-
-dots_no_sep : (k : Toks) → token.sees_dot_dot k ≡ true → token.sees_path_sep k ≡ false
-dots_no_sep k h = other_mark 46 58 (46 ∷ []) (58 ∷ []) k h refl
 
 module _ {X : Type 0} (supplied : Place → Reader X) (spells : Place → X → Toks → Type 0) (g : SuppliedMeets supplied spells) (r : Readers X) (part : Manner → PatPlace → Relation (Pat X)) (limit : ℕ) (meets : Meets r part limit) where
   abbrev Q : Type 0

@@ -1,5 +1,5 @@
 -- What the braces of a struct spell clearly is what is read in them: fields joined by commas, and perhaps `..` at the end.
-use Rattle.std.proofs.Common.{◌≡◌, ◌⊎◌, ℕ, zero, suc, ◌<◌, ◌≤◌, Bool, true, false, List, [], ◌∷◌, Option, Some, None, Ok, inl, inr, refl, ◌∙◌, ap, sym, arith}
+use Rattle.std.proofs.Common.{◌≡◌, ℕ, zero, suc, ◌<◌, ◌≤◌, Bool, true, false, List, [], ◌∷◌, Option, Some, None, inl, inr, refl, ◌∙◌, ap, sym, arith}
 use Rattle.token_core.specs.declared.span.DelimSpan.{DelimSpan}
 use Rattle.token_core.specs.declared.span.Span.{Span}
 use Rattle.token_core.specs.declared.tree.Delimiter.TheVariants.{Brace}
@@ -25,16 +25,17 @@ use Rattle.syn_ty.specs.ty.Spelling.{Relation}
 use Rattle.syn_ty.specs.ty.Trees.{Path, QSelf}
 use Rattle.syn_ty.specs.ty.Types.{Comma}
 use Rattle.syn_ty.proofs.ty_laws.Complete.{not_more}
-use Rattle.syn_ty.proofs.ty_laws.LessMet.{less_no, mark_no, mark_takes, no_less, some}
-use Rattle.syn_ty.proofs.ty_laws.Met.{Less, NoMore}
+use Rattle.syn_ty.proofs.ty_laws.LessMet.{less_no, mark_no, no_less, some}
+use Rattle.syn_ty.proofs.ty_laws.Met.{Less}
 use Rattle.syn_pat.specs.declared.place.PatPlace.{PatPlace}
 use Rattle.syn_pat.specs.pat.Admitted.{AreFields, fields_alone, fields_and_rest, IsField}
 use Rattle.syn_pat.specs.pat.Pats.{Attrs, FieldPat, Pat, PatRest, rest_of, struct_of}
-use Rattle.syn_pat.specs.pat.Reading.{Fields, Readers, field, fields, fields_from, no_fields, one_field, put_field, struct_after}
+use Rattle.syn_pat.specs.pat.Reading.{Fields, Readers, fields, fields_from, no_fields, one_field, put_field, struct_after}
 use Rattle.syn_pat.specs.pat.Spelling.{outer_spelt}
-use Rattle.syn_pat.proofs.pat_laws.FieldsMet.{EndsField, IsRead, comma_field, end_field, field_met}
+use Rattle.syn_pat.proofs.pat_laws.FieldsMet.{IsRead, comma_field, end_field, field_met}
+use Rattle.syn_pat.proofs.pat_laws.FrontsMet.{done_no_mark}
 use Rattle.syn_pat.proofs.pat_laws.GroupsMet.{all_done, comma_met, comma_there, inside_less}
-use Rattle.syn_pat.proofs.pat_laws.WithinMet.{Meets, SuppliedMeets, done_no_mark}
+use Rattle.syn_pat.proofs.pat_laws.WithinMet.{Meets, SuppliedMeets}
 
 -- ---- what a mark or attributes begin with is there
 

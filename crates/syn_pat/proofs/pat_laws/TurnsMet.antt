@@ -1,21 +1,20 @@
 -- A single pattern is read by its first tokens: each form by the tests that see it, and by none that come before.
-use Rattle.std.specs.Prelude.{is_some}
-use Rattle.std.proofs.Common.{◌≡◌, Bool, true, false, not, ◌&&◌, ◌||◌, if◌then◌else◌, [], Option, Some, None, Ok, refl, sym, ◌∙◌, ap}
+use Rattle.std.proofs.Common.{◌≡◌, Bool, true, false, ◌&&◌, ◌||◌, [], Option, refl, ◌∙◌}
 use Rattle.std.proofs.lemmas.Bool.{or_from}
 use Rattle.token_core.specs.declared.lit.Lit.{Lit}
 use Rattle.token_core.specs.declared.range.RangeLimits.{RangeLimits}
 use Rattle.token_core.specs.declared.span.DelimSpan.{DelimSpan}
 use Rattle.token_core.specs.declared.span.Span.{Span}
-use Rattle.token_core.specs.declared.tree.Delimiter.TheVariants.{Brace, Bracket, Parenthesis}
+use Rattle.token_core.specs.declared.tree.Delimiter.TheVariants.{Bracket, Parenthesis}
 use Rattle.token_core.specs.declared.tree.Ident.{Ident}
 use Rattle.token_core.specs.Keywords.{is_keyword}
 use Rattle.token_core.specs.Lits.{false_text, sees_lit, true_text}
 use Rattle.token_core.specs.Marks.{text_of}
-use Rattle.token_core.specs.Reads.{Reader, after_one, is_ident, is_text, sees_group, sees_mark, sees_word}
+use Rattle.token_core.specs.Reads.{Reader, is_ident, is_text, sees_group, sees_mark, sees_word}
 use Rattle.token_core.specs.Spellings.{last_char, more_chars, IsLit, a_literal, a_bool, a_negative, IsMark, is_mark, IsWord, is_word, AreLimits, half_open, closed}
 use Rattle.token_core.specs.Stream.{Scope}
 use Rattle.token_core.specs.Tokens as token
-use Rattle.token_core.specs.Toks.{Bytes, Toks, word, group}
+use Rattle.token_core.specs.Toks.{Toks, word, group}
 use Rattle.token_core.proofs.Steps.{Reads_to, chosen, link}
 use Rattle.token_core.proofs.Took.{at, seen_word}
 use Rattle.syn_path.specs.declared.supplied.Place.{Place}
@@ -25,7 +24,7 @@ use Rattle.syn_pat.specs.pat.Pats.{Pat, PatIdent, PatReference, PatSlice, wild_o
 use Rattle.syn_pat.specs.pat.Reading.{Readers, begins_binding, begins_bound, begins_path, binding, bound_or_range, box_pat, by_mark, by_word, half_open as read_half_open, paren_or_tuple, path_pat, reference, sees_half_open, sees_named_path, sees_self_path, single, slice, wild}
 use Rattle.syn_pat.specs.pat.Spelling.{is_binding_name}
 use Rattle.syn_pat.proofs.pat_laws.NamesMet.{Behind, not_bound, word_tested}
-use Rattle.syn_pat.proofs.pat_laws.RangesMet.{limits_seen}
+use Rattle.syn_pat.proofs.pat_laws.RangesMet.{limits_seen, word_no_lit}
 
 -- ---- a name that is bound, before what makes no path of it
 
@@ -51,14 +50,9 @@ name_no_path i k h b =
     ∙ no_path_word (is_ident t) (is_text token.self_value_text t) (is_text token.self_type_text t) (is_text token.super_text t) (is_text token.crate_text t) (Behind k) (token.sees_path_sep k)
       b (behind_sep k b) (not_bound token.self_type_text t refl h) (not_bound token.super_text t refl h) (not_bound token.crate_text t refl h)
 
-no_bool : {A : Type 0} (a b : Bool) (x y : A) → a ≡ false → b ≡ false → is_some (if a then Some x else (if b then Some y else None)) ≡ false
-no_bool true b x y h g = cc h
-no_bool false true x y h g = cc g
-no_bool false false x y h g = refl
-
 name_no_lit : (i : Ident) (k : Toks) → is_binding_name i.text ≡ true → sees_lit (word i k) ≡ false
-unfolding sees_lit is_keyword
-name_no_lit i k h = no_bool _ _ _ _ (not_bound true_text i.text refl h) (not_bound false_text i.text refl h)
+unfolding is_keyword
+name_no_lit i k h = word_no_lit i k (not_bound true_text i.text refl h) (not_bound false_text i.text refl h)
 
 name_no_bound : (i : Ident) (k : Toks) → is_binding_name i.text ≡ true → begins_bound (word i k) ≡ false
 unfolding begins_bound sees_mark is_keyword

@@ -1,15 +1,13 @@
 -- What is known of the reads that a pattern holds: where a list spells a tree clearly and what follows does not go on with it, the read answers that tree and takes no more; and the same of paths, types, attributes and supplied subtrees.
-use Rattle.std.proofs.Common.{◌≡◌, ◌⊎◌, ℕ, ◌<◌, ◌==◌, Bool, true, false, not, ◌&&◌, ◌||◌, if◌then◌else◌, List, [], ◌∷◌, Option, Some, None, is_some, Ok, inl, inr, refl, sym, ◌∙◌, ap}
+use Rattle.std.proofs.Common.{◌≡◌, ◌⊎◌, ℕ, ◌<◌, ◌==◌, Bool, true, false, not, ◌&&◌, ◌||◌, List, [], ◌∷◌, Option, Ok, inl, inr, refl, ◌∙◌, ap}
+use Rattle.std.proofs.lemmas.Bool.{and_left, and_parts, not-true, or_cases}
 use Rattle.token_core.specs.declared.span.Span.{Span}
-use Rattle.token_core.specs.declared.tree.Delimiter.{Delimiter}
 use Rattle.token_core.specs.declared.tree.Delimiter.TheVariants.{Parenthesis, Brace}
-use Rattle.token_core.specs.declared.tree.Ident.{Ident}
-use Rattle.token_core.specs.Front.{front}
-use Rattle.token_core.specs.Reads.{Reader, as_group, as_punct, as_word, group_meets, is_done, is_end, is_last, past_mark, past_next, sees_group, sees_mark, sees_word, word_meets}
+use Rattle.token_core.specs.Reads.{Reader, is_done, sees_group, sees_mark, sees_word}
 use Rattle.token_core.specs.Spellings.{last_char, IsMark, is_mark, IsWord, is_word}
 use Rattle.token_core.specs.Stream.{Scope, Stream}
 use Rattle.token_core.specs.Tokens as token
-use Rattle.token_core.specs.Toks.{Bytes, Toks, done, word, mark, lit, group, enter, leave}
+use Rattle.token_core.specs.Toks.{Bytes, Toks, done}
 use Rattle.token_core.proofs.MarkSpells.{mark_seen}
 use Rattle.token_core.proofs.Steps.{Reads_to}
 use Rattle.token_core.proofs.Took.{at}
@@ -31,10 +29,12 @@ use Rattle.syn_ty.proofs.ty_laws.TokensMet.{other_mark}
 use Rattle.syn_pat.specs.declared.place.PatPlace.{PatPlace}
 use Rattle.syn_pat.specs.declared.place.PatPlace.TheVariants.{Single}
 use Rattle.syn_pat.specs.pat.Admitted.{allows_cases}
+use Rattle.syn_pat.specs.pat.Fronts.{Stops}
 use Rattle.syn_pat.specs.pat.Knot as knot
 use Rattle.syn_pat.specs.pat.Pats.{Attrs, Pat}
 use Rattle.syn_pat.specs.pat.Reading.{Readers, ends_range, qpath, sees_lone_colon, sees_vert}
 use Rattle.syn_pat.specs.pat.Spelling.{IsPatPath, outer_spelt, types_to}
+use Rattle.syn_pat.proofs.pat_laws.FrontsMet.{done_no_group, done_no_mark, mark_apart, no_longer, word_apart, word_no_mark}
 
 -- ---- what may follow
 
@@ -52,90 +52,6 @@ pub record Ends (k : Toks) : Type 0 where
 pub record EndsIn (p : PatPlace) (k : Toks) : Type 0 where
   pub ends : Ends k
   pub no_vert : allows_cases p ≡ true → sees_vert k ≡ false
-
--- ---- truths joined by `or`
-
-pub either : (b c : Bool) → b || c ≡ true → (b ≡ true) ⊎ (c ≡ true)
-either true c h = inl refl
-either false c h = inr h
-
-pub both : (b c : Bool) → b && c ≡ true → (b ≡ true) × (c ≡ true)
-both true c h = (refl, h)
-both false c h = cc h
-
-pub first_false : (b c : Bool) → b ≡ false → b && c ≡ false
-first_false b c h = ap (λ z. z && c) h
-
-not_true : (b : Bool) → not b ≡ true → b ≡ false
-not_true true h = cc h
-not_true false h = refl
-
--- ---- what stands at the front is one thing
-
-end_no_punct : (l : Toks) → is_end l ≡ true → as_punct l ≡ None
-end_no_punct done h = refl
-end_no_punct (word i k) h = refl
-end_no_punct (mark p k) h = cc h
-end_no_punct (lit x k) h = refl
-end_no_punct (group d s c k) h = refl
-end_no_punct (enter s k) h = refl
-end_no_punct (leave k) h = refl
-
-end_no_group : (d : Delimiter) (l : Toks) → is_end l ≡ true → group_meets d (as_group l) ≡ false
-end_no_group d done h = refl
-end_no_group d (word i k) h = refl
-end_no_group d (mark p k) h = refl
-end_no_group d (lit x k) h = refl
-end_no_group d (group b s c k) h = cc h
-end_no_group d (enter s k) h = refl
-end_no_group d (leave k) h = refl
-
-word_no_punct : (test : Bytes → Bool) (l : Toks) → word_meets test (as_word l) ≡ true → as_punct l ≡ None
-word_no_punct test done h = refl
-word_no_punct test (word i k) h = refl
-word_no_punct test (mark p k) h = cc h
-word_no_punct test (lit x k) h = refl
-word_no_punct test (group d s c k) h = refl
-word_no_punct test (enter s k) h = refl
-word_no_punct test (leave k) h = refl
-
-word_no_group : (test : Bytes → Bool) (d : Delimiter) (l : Toks) → word_meets test (as_word l) ≡ true → group_meets d (as_group l) ≡ false
-word_no_group test d done h = refl
-word_no_group test d (word i k) h = refl
-word_no_group test d (mark p k) h = refl
-word_no_group test d (lit x k) h = refl
-word_no_group test d (group b s c k) h = cc h
-word_no_group test d (enter s k) h = refl
-word_no_group test d (leave k) h = refl
-
-mark_no_group_at : (c : ℕ) (cs : List ℕ) (d : Delimiter) (b : Bool) (l : Toks) → is_some (past_next c b (past_mark cs) (as_punct l)) ≡ true → group_meets d (as_group l) ≡ false
-mark_no_group_at c cs d b done h = refl
-mark_no_group_at c cs d b (word i k) h = refl
-mark_no_group_at c cs d b (mark p k) h = refl
-mark_no_group_at c cs d b (lit x k) h = refl
-mark_no_group_at c cs d b (group a s e k) h = cc h
-mark_no_group_at c cs d b (enter s k) h = refl
-mark_no_group_at c cs d b (leave k) h = refl
-
-pub done_no_mark : (c : ℕ) (cs : List ℕ) (l : Toks) → is_done l ≡ true → sees_mark (c ∷ cs) l ≡ false
-unfolding sees_mark is_done
-done_no_mark c cs l h = ap (λ o. is_some (past_next c (is_last cs) (past_mark cs) o)) (end_no_punct (front l) h)
-
-pub done_no_group : (d : Delimiter) (l : Toks) → is_done l ≡ true → sees_group d l ≡ false
-unfolding sees_group is_done
-done_no_group d l h = end_no_group d (front l) h
-
-pub word_no_mark : (test : Bytes → Bool) (c : ℕ) (cs : List ℕ) (l : Toks) → sees_word test l ≡ true → sees_mark (c ∷ cs) l ≡ false
-unfolding sees_mark sees_word
-word_no_mark test c cs l h = ap (λ o. is_some (past_next c (is_last cs) (past_mark cs) o)) (word_no_punct test (front l) h)
-
-pub word_apart : (test : Bytes → Bool) (d : Delimiter) (l : Toks) → sees_word test l ≡ true → sees_group d l ≡ false
-unfolding sees_group sees_word
-word_apart test d l h = word_no_group test d (front l) h
-
-pub mark_apart : (c : ℕ) (cs : List ℕ) (d : Delimiter) (l : Toks) → sees_mark (c ∷ cs) l ≡ true → sees_group d l ≡ false
-unfolding sees_mark sees_group
-mark_apart c cs d l h = mark_no_group_at c cs d _ (front l) h
 
 -- ---- what a range ends before
 
@@ -177,17 +93,17 @@ by_word test k o h = record {
 pub ends : (k : Toks) → ends_range k ≡ true → Ends k
 unfolding ends_range
 ends k o =
-    elim (either (is_done k) _ o) [
+    elim (or_cases (is_done k) _ o) [
       | inl h ↦ by_end k o h
-      | inr p ↦ elim (either (token.sees_bar k) _ p) [
+      | inr p ↦ elim (or_cases (token.sees_bar k) _ p) [
         | inl h ↦ by_mark 124 [] k o h (other_mark 124 58 [] (58 ∷ []) k h refl) refl refl refl
-        | inr q ↦ elim (either (token.sees_equals k) _ q) [
+        | inr q ↦ elim (or_cases (token.sees_equals k) _ q) [
           | inl h ↦ by_mark 61 [] k o h (other_mark 61 58 [] (58 ∷ []) k h refl) refl refl refl
-          | inr r ↦ elim (either (sees_lone_colon k) _ r) [
-            | inl h ↦ let w = both (token.sees_colon k) _ h in by_mark 58 [] k o w.0 (not_true (token.sees_path_sep k) w.1) refl refl refl
-            | inr s ↦ elim (either (token.sees_comma k) _ s) [
+          | inr r ↦ elim (or_cases (sees_lone_colon k) _ r) [
+            | inl h ↦ let w = and_parts (token.sees_colon k) _ h in by_mark 58 [] k o w.0 (not-true (token.sees_path_sep k) w.1) refl refl refl
+            | inr s ↦ elim (or_cases (token.sees_comma k) _ s) [
               | inl h ↦ by_mark 44 [] k o h (other_mark 44 58 [] (58 ∷ []) k h refl) refl refl refl
-              | inr t ↦ elim (either (token.sees_semi k) _ t) [
+              | inr t ↦ elim (or_cases (token.sees_semi k) _ t) [
                 | inl h ↦ by_mark 59 [] k o h (other_mark 59 58 [] (58 ∷ []) k h refl) refl refl refl
                 | inr h ↦ by_word _ k o h
               ]
@@ -196,6 +112,11 @@ ends k o =
         ]
       ]
     ]
+
+-- ---- before it a lone word is no path
+
+pub ends_stop : (k : Toks) → Ends k → Stops k
+ends_stop k o = (and_left (token.sees_path_sep k) _ o.no_sep, no_longer 33 (61 ∷ []) k o.no_bang)
 
 -- ---- what follows a pattern in the grammar: the end, a comma, `|`, `if`, and a `:` that stands apart
 
@@ -232,7 +153,7 @@ at_colon c l r (is_mark (last_char x)) = let i = is_mark (last_char x) in ends l
 -- before these no further case follows
 no_vert_by : (l : Toks) → token.sees_bar l ≡ false → sees_vert l ≡ false
 unfolding sees_vert
-no_vert_by l h = first_false (token.sees_bar l) _ h
+no_vert_by l h = and_left (token.sees_bar l) _ h
 
 pub end_in : (p : PatPlace) → EndsIn p done
 unfolding is_done

@@ -1,8 +1,11 @@
 -- The grammar tied: at every height of a tree, what spells a list plainly prints its normal form clearly, where attributes do, and expressions in their places.
-use Rattle.std.proofs.Common.{◌≡◌, ℕ, zero, suc, Bool, true, false, List, []}
+use Rattle.std.proofs.Common.{◌≡◌, ◌⊎◌, ℕ, zero, suc, Bool, true, false, List, [], refl}
 use Rattle.token_core.specs.Lifetimes.{sees_lifetime}
 use Rattle.token_core.specs.Listed.{Anywhere}
 use Rattle.token_core.specs.Prints.{Print}
+use Rattle.token_core.specs.Reads.{sees_mark}
+use Rattle.token_core.specs.Spellings.{is_mark, last_char, more_chars}
+use Rattle.token_core.specs.Tokens as token
 use Rattle.token_core.specs.Toks.{Toks}
 use Rattle.token_core.specs.Trees.{row}
 use Rattle.syn_path.specs.declared.path.PathStyle.TheVariants.{AsWritten}
@@ -13,26 +16,36 @@ use Rattle.syn_forms.specs.declared.places.BoundPlace.{BoundPlace}
 use Rattle.syn_forms.specs.declared.places.BoundPlace.TheVariants.{Object, Parameter}
 use Rattle.syn_forms.specs.declared.places.ParamPlace.{ParamPlace}
 use Rattle.syn_forms.specs.declared.places.TypePlace.{TypePlace}
-use Rattle.syn_forms.specs.declared.places.TypePlace.TheVariants.{Plus}
+use Rattle.syn_forms.specs.declared.places.TypePlace.TheVariants.{Plus, Bounded}
 use Rattle.syn_ty.specs.generics.Bounds.{IsBound}
 use Rattle.syn_ty.specs.generics.Parameters.{IsParam}
 use Rattle.syn_ty.specs.path.Arguments.{ArgumentPlace, between_angles, ConstraintEnds, IsArgument}
-use Rattle.syn_ty.specs.path.Spelling.{IsArguments}
+use Rattle.syn_ty.specs.path.Spelling.{an_angle, IsArguments, some_arguments}
 use Rattle.syn_ty.specs.ty.Admitted.{IsType}
 use Rattle.syn_ty.specs.ty.Normal as normal
 use Rattle.syn_ty.specs.ty.Parts.{Manner, plainly, clearly, End, Parts}
 use Rattle.syn_ty.specs.ty.Printing as printing
+use Rattle.syn_ty.specs.ty.Spelling.{absent, present}
 use Rattle.syn_ty.specs.ty.Spelt.{spelt_to, turn}
 use Rattle.syn_ty.specs.ty.Trees.{GenericArgument, GenericParam, PathArguments, TypeParamBound, TypeTree}
 use Rattle.syn_ty.proofs.ty_laws.Again.{Again, SuppliedAgain}
 use Rattle.syn_ty.proofs.ty_laws.AnglesAgain.{arguments_written_again}
 use Rattle.syn_ty.proofs.ty_laws.ArgumentsAgain.{argument_again as argument_by}
+use Rattle.syn_ty.proofs.ty_laws.BeginsAgain.{ArgumentsBegin, Kept, TypesAlone}
+use Rattle.syn_ty.proofs.ty_laws.ClausesAgain.{AttrsBegin, ForKept, TypeKept}
 use Rattle.syn_ty.proofs.ty_laws.FirstBoundsAgain.{bound_lives}
 use Rattle.syn_ty.proofs.ty_laws.FirstTypesAgain.{none_first}
 use Rattle.syn_ty.proofs.ty_laws.FormsAgain.{NoneFirst}
 use Rattle.syn_ty.proofs.ty_laws.ParamsAgain.{BoundsAgain, param_again}
 use Rattle.syn_ty.proofs.ty_laws.PlainBoundsAgain.{bound_again as bound_by, bounds_again}
-use Rattle.syn_ty.proofs.ty_laws.TypesAgain.{LivesFirst, segment_again, path_again, for_again, parens_again, type_again}
+use Rattle.syn_ty.proofs.ty_laws.TypesBeginAgain.{LivesKept, type_kept}
+use Rattle.syn_ty.proofs.ty_laws.TypesAgain.{segment_again, path_again, for_again, parens_again, type_again}
+
+module _ {A E : Type 0} (part : Manner → Parts A E) (how : Manner) where
+  spelt_no_gt : (x : PathArguments A E) (l r : Toks) → IsArguments part how x l r → token.sees_gt l ≡ false
+  unfolding sees_mark
+  spelt_no_gt x l r (some_arguments (an_angle absent (is_mark (last_char y)) t g)) = refl
+  spelt_no_gt x l r (some_arguments (an_angle (present (is_mark (more_chars y))) j t g)) = refl
 
 module _ {A E : Type 0} (na : List A → List A) (ne : NormalValues E) (pa : List A → Print) (pe : Values E) where
   -- ---- what is known of the trees within: also how their prints begin
@@ -42,7 +55,12 @@ module _ {A E : Type 0} (na : List A → List A) (ne : NormalValues E) (pa : Lis
     pub supplied : SuppliedAgain na ne pa pe part
     pub len_stays : (x : E) (l : Toks) → (part plainly).len x l → ne.len (ne.len x) ≡ ne.len x
     pub none : NoneFirst pa pe part
-    pub lives : LivesFirst pa pe part
+    pub lives : LivesKept pa pe part
+    pub arguments_begin : ArgumentsBegin pa pe part
+    pub types_alone : TypesAlone pa pe part
+    pub no_for : ForKept pa pe part
+    pub no_generics : TypeKept pa pe part
+    pub attrs_begin : AttrsBegin pa pe part
 
   -- ---- one turn
 
@@ -72,6 +90,13 @@ module _ {A E : Type 0} (na : List A → List A) (ne : NormalValues E) (pa : Lis
     pub arguments_turn : (x : PathArguments A E) (l r : Toks) → IsArguments part plainly x l r → AgainFront (IsArguments part clearly) (normal.arguments na ne) (printing.arguments pa pe AsWritten) x l r
     arguments_turn = arguments_written_again na ne pa pe part k.again
 
+    -- they begin with `::` or `<`
+    pub arguments_no_gt : (x : PathArguments A E) (l r : Toks) → IsArguments part plainly x l r → (k : Toks) → token.sees_gt (row (printing.arguments pa pe AsWritten x) k) ≡ false
+    arguments_no_gt x l r i h = let q = printing.arguments pa pe AsWritten x in spelt_no_gt part clearly (normal.arguments na ne x) (row q h) h ((arguments_turn x l r i).spelt h)
+
+    pub kept_turn : (place : TypePlace) (e : End) (x : TypeTree A E) (l r : Toks) → IsType part plainly place e x l r → Kept l r (printing.ty pa pe x)
+    kept_turn = type_kept pa pe part k.arguments_begin k.types_alone k.lives
+
   -- ---- attributes, and expressions in their places, however high the trees that hold them
 
   module _ (shown : Bool → List A → Toks → Toks → Type 0) (spelt : SpelledValues E) where
@@ -82,6 +107,7 @@ module _ {A E : Type 0} (na : List A → List A) (ne : NormalValues E) (pa : Lis
       pub len : (x : E) (l : Toks) → spelt.len x l → Reprints spelt.len ne.len pe.len x l
       pub len_stays : (x : E) (l : Toks) → spelt.len x l → ne.len (ne.len x) ≡ ne.len x
       pub argument : (x : E) (l r : Toks) → spelt.const_argument false x l r → AgainFront (spelt.const_argument true) ne.const_argument pe.const_argument x l r
+      pub attrs_begin : (x : List A) (l r : Toks) → shown false x l r → (k : Toks) → ((l ≡ r) × (row (pa x) k ≡ k)) ⊎ (token.sees_lt (row (pa x) k) ≡ false)
       pub default : (x : E) (l r : Toks) → spelt.const_default false x l r → AgainFront (spelt.const_default true) ne.const_argument pe.const_argument x l r
 
     abbrev To : ℕ → Manner → Parts A E
@@ -99,6 +125,11 @@ module _ {A E : Type 0} (na : List A → List A) (ne : NormalValues E) (pa : Lis
         len_stays = g.len_stays;
         none = none_turn part k;
         lives = bound_lives pa pe part plainly Object;
+        arguments_begin = arguments_no_gt part k;
+        types_alone = λ e x l r i. (kept_turn part k Plus e x l r i).alone;
+        no_for = λ e x l r i. (kept_turn part k Bounded e x l r i).for_kept;
+        no_generics = λ e x l r i. (kept_turn part k Bounded e x l r i).lt_kept;
+        attrs_begin = g.attrs_begin;
       }
 
       -- at every height
@@ -109,5 +140,10 @@ module _ {A E : Type 0} (na : List A → List A) (ne : NormalValues E) (pa : Lis
         len_stays = λ x l i. absurd i;
         none = λ p e x l r i. absurd i;
         lives = λ e x l r i. absurd i;
+        arguments_begin = λ x l r i. absurd i;
+        types_alone = λ e x l r i. absurd i;
+        no_for = λ e x l r i. absurd i;
+        no_generics = λ e x l r i. absurd i;
+        attrs_begin = λ x l r i. absurd i;
       }
       known_to (suc n) = higher (To n) (known_to n)

@@ -1,6 +1,5 @@
 -- A type in its place prints its normal form clearly, where what stands within it does: each of its forms.
 use Rattle.std.proofs.Common.{◌≡◌, true, false, List, [], None, refl, sym, ◌∙◌, ap, subst}
-use Rattle.token_core.specs.Lifetimes.{sees_lifetime}
 use Rattle.token_core.specs.Prints as p
 use Rattle.token_core.specs.Prints.{Print}
 use Rattle.token_core.specs.Rebuilt.{Visible}
@@ -13,7 +12,6 @@ use Rattle.syn_path.specs.mac.Macros.{Bang}
 use Rattle.syn_path.specs.mac.Printing.{mac}
 use Rattle.syn_path.specs.Values.{NormalValues, Values}
 use Rattle.syn_path.proofs.Words.{AgainFront}
-use Rattle.syn_forms.specs.declared.places.BoundPlace.TheVariants.{Object}
 use Rattle.syn_forms.specs.declared.places.TypePlace.{TypePlace}
 use Rattle.syn_forms.specs.declared.places.TypePlace.TheVariants.{Plus}
 use Rattle.syn_forms.proofs.tokens_laws.Mutability.{word_front}
@@ -32,7 +30,7 @@ use Rattle.syn_ty.specs.ty.Objects.{AreBareBounds, IsDyn, IsImpl}
 use Rattle.syn_ty.specs.ty.Parts.{Manner, plainly, clearly, End, closed, Parts}
 use Rattle.syn_ty.specs.ty.Printing as printing
 use Rattle.syn_ty.specs.ty.Spelling.{IsInfer, an_infer, IsNever, a_never}
-use Rattle.syn_ty.specs.ty.Trees.{BoundLifetimes, Parenthesized, Path, PathSegment, TypeParamBound, TypeTree}
+use Rattle.syn_ty.specs.ty.Trees.{BoundLifetimes, Parenthesized, Path, PathSegment, TypeTree}
 use Rattle.syn_ty.specs.ty.Types.{Underscore, infer_of, infer_with, macro_type_of, macro_type_with, never_of, never_with, qualified_with, trait_object_with}
 use Rattle.syn_ty.proofs.ty_laws.Again.{Again, SuppliedAgain}
 use Rattle.syn_ty.proofs.ty_laws.AnglesAgain.{made_front}
@@ -47,11 +45,7 @@ use Rattle.syn_ty.proofs.ty_laws.Prints.{ty-Array, ty-FnPtr, ty-ImplTrait, ty-In
 use Rattle.syn_ty.proofs.ty_laws.QualifiedAgain.{AnyPath, normal_any, no_try_again, print_any}
 use Rattle.syn_ty.proofs.ty_laws.Reprint.{mark_front}
 use Rattle.syn_ty.proofs.ty_laws.SignaturesAgain.{parens_again as parens_by}
-
-module _ {A E : Type 0} (pa : List A → Print) (pe : Values E) (part : Manner → Parts A E) where
-  -- a bound of a trait object that begins with a lifetime prints one first
-  abbrev pub LivesFirst : Type 0
-  LivesFirst = (e : End) (x : TypeParamBound A E) (l r : Toks) → (part plainly).bound Object e x l r → sees_lifetime l ≡ true → (k : Toks) → sees_lifetime (row (printing.bound pa pe x) k) ≡ true
+use Rattle.syn_ty.proofs.ty_laws.TypesBeginAgain.{LivesKept}
 
 module _ {A E : Type 0} (na : List A → List A) (ne : NormalValues E) (pa : List A → Print) (pe : Values E) (part : Manner → Parts A E) (again : Again na ne pa pe part) where
   -- ---- paths, binders and signatures within a form
@@ -74,7 +68,7 @@ module _ {A E : Type 0} (na : List A → List A) (ne : NormalValues E) (pa : Lis
 
     -- ---- a type
 
-    module _ (lives : LivesFirst pa pe part) (none : NoneFirst pa pe part) (len_stays : (x : E) (l : Toks) → (part plainly).len x l → ne.len (ne.len x) ≡ ne.len x) (place : TypePlace) where
+    module _ (lives : LivesKept pa pe part) (none : NoneFirst pa pe part) (len_stays : (x : E) (l : Toks) → (part plainly).len x l → ne.len (ne.len x) ≡ ne.len x) (place : TypePlace) where
       abbrev nt : TypeTree A E → TypeTree A E
       nt = normal.ty na ne
 

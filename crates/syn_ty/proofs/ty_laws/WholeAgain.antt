@@ -1,9 +1,8 @@
 -- Each grammar of this layer is reprinted: what spells all of a list plainly prints its normal form clearly, which is its own and prints the same.
-use Rattle.std.proofs.Common.{◌≡◌, ℕ, Bool, true, false, List, [], ◌∷◌, ◌++◌, Option, Some, None, option_map, sym, ◌∙◌, true≢false}
-use Rattle.token_core.specs.Headline.{Lawful}
+use Rattle.std.proofs.Common.{◌≡◌, ℕ, Bool, true, false, List, [], Option, option_map, sym, ◌∙◌}
+use Rattle.std.proofs.lemmas.Bool.{true≢false}
 use Rattle.token_core.specs.Prints as p
 use Rattle.token_core.specs.Prints.{Print}
-use Rattle.token_core.specs.Reads.{Reader}
 use Rattle.token_core.specs.Spellings.{IsMark}
 use Rattle.token_core.specs.Tokens as token
 use Rattle.token_core.specs.Toks.{Toks, done}
@@ -15,8 +14,10 @@ use Rattle.syn_forms.specs.declared.places.ParamPlace.TheVariants.{Binder}
 use Rattle.syn_forms.specs.declared.places.TypePlace.{TypePlace}
 use Rattle.syn_forms.specs.declared.places.TypePlace.TheVariants.{Plus, NoPlus}
 use Rattle.syn_ty.specs.declared.generics.CapturedParam.{CapturedParam}
+use Rattle.syn_ty.specs.declared.generics.WhereClauseOf.{WhereClauseOf}
 use Rattle.syn_ty.specs.declared.ty.Abi.{Abi}
 use Rattle.syn_ty.specs.generics.Bounds.{IsBound, IsCapture, IsCaptured, IsFor, IsTraitBound}
+use Rattle.syn_ty.specs.generics.Clauses.{IsPredicate, IsWhereClause}
 use Rattle.syn_ty.specs.generics.Normal as clauses
 use Rattle.syn_ty.specs.generics.NormalShapes as shapes
 use Rattle.syn_ty.specs.generics.Parameters.{AreGenerics, IsConstParam, IsParam, IsTypeParam}
@@ -30,15 +31,16 @@ use Rattle.syn_ty.specs.ty.Admitted.{IsBorrow, IsBracketed, IsCounted, IsEnclose
 use Rattle.syn_ty.specs.ty.Functions.{IsAbi, IsFnPtr, IsNamedArg}
 use Rattle.syn_ty.specs.ty.Normal as normal
 use Rattle.syn_ty.specs.ty.Objects.{IsImpl, IsObject}
-use Rattle.syn_ty.specs.ty.Parts.{Manner, loosely, plainly, clearly, End, Parts}
+use Rattle.syn_ty.specs.ty.Parts.{Manner, plainly, clearly, End, Parts}
 use Rattle.syn_ty.specs.ty.Printing as printing
-use Rattle.syn_ty.specs.ty.Promises.{promise}
 use Rattle.syn_ty.specs.ty.Spelling.{Relation, IsOptional, absent, present}
 use Rattle.syn_ty.specs.ty.Spelt as by
 use Rattle.syn_ty.specs.ty.Spelt.{IsPathAlone}
-use Rattle.syn_ty.specs.ty.Trees.{AngleBracketed, TypeTree, TypeTuple}
+use Rattle.syn_ty.specs.ty.Trees.{AngleBracketed}
+use Rattle.syn_ty.proofs.generics_laws.Members.{some}
 use Rattle.syn_ty.proofs.ty_laws.AnglesAgain.{angle_again, lt_no_sep, styled_angle_again}
 use Rattle.syn_ty.proofs.ty_laws.CaptureAgain as captures
+use Rattle.syn_ty.proofs.ty_laws.ClausesAgain as wheres
 use Rattle.syn_ty.proofs.ty_laws.FormsAgain.{pointer_again, borrow_again, enclosed_again, bracketed_again, counted_again, tupled_front}
 use Rattle.syn_ty.proofs.ty_laws.FunctionsAgain as functions
 use Rattle.syn_ty.proofs.ty_laws.GenericsAgain as generics
@@ -49,24 +51,11 @@ use Rattle.syn_ty.proofs.ty_laws.QualifiedAgain.{path_alone_again}
 use Rattle.syn_ty.proofs.ty_laws.SignaturesAgain as signatures
 use Rattle.syn_ty.proofs.ty_laws.SignaturesAgain.{anything, optional_front, type_before}
 use Rattle.syn_ty.proofs.ty_laws.TypesAgain as types
-use Rattle.syn_ty.proofs.ty_laws.WholeMet as met
-use Rattle.syn_ty.proofs.ty_laws.WholeTold as told
 
 -- ---- of every grammar
 
 abbrev pub Whole : {F : Type 0} → (Manner → F → Toks → Type 0) → (F → F) → (F → Print) → Type 0
 Whole {F} Is n f = (x : F) (l : Toks) → Is plainly x l → Again (Is clearly) n f x l
-
--- a grammar that is sound, complete and reprinted meets its laws
-pub lawful : {F : Type 0} (Is : Manner → F → Toks → Type 0) (n : F → F) (f : F → Print) (reader : Reader F) → told.Whole reader (Is loosely) → met.Whole reader (Is clearly) → Whole Is n f → Lawful (promise Is n f reader)
-lawful Is n f reader sound complete again = record {
-  sound = sound;
-  complete = complete;
-  spells = λ a l i v q. (again a q.0 q.2).spelt;
-  visible = λ a l i v q. (again a q.0 q.2).visible q.1;
-  stays = λ a l i q. (again a q.0 q.2).stays;
-  same = λ a l i q. (again a q.0 q.2).same;
-}
 
 -- before nothing
 at_end : {F : Type 0} (S : Relation F) (n : F → F) (f : F → Print) (x : F) (l : Toks) → AgainFront S n f x l done → Again (λ y m. S y m done) n f x l
@@ -193,14 +182,29 @@ module _ {A E : Type 0} {na : List A → List A} {ne : NormalValues E} {pa : Lis
       (λ k. objects.trait_bound_again na ne pa pe (To k) (types.segment_again na ne pa pe (To k) (known k).again) (types.path_again na ne pa pe (To k) (known k).again) (types.parens_again na ne pa pe (To k) (known k).again (known k).supplied)
       (types.for_again na ne pa pe (To k) (known k).again))
 
+  pub predicate_again : Whole (by.SpellsPredicate shown spelt) (clauses.predicate na ne) (shown_clauses.predicate pa pe)
+  predicate_again =
+      all_of (clauses.predicate na ne) (shown_clauses.predicate pa pe) IsPredicate (λ k. wheres.predicate_again na ne pa pe (To k) (known k).again (known k).supplied (bounds_of_turn na ne pa pe (To k) (known k)) (known k).no_for)
+
+  pub optional_where_clause_again : Whole (by.SpellsOptionalClause shown spelt) (clauses.where_option na ne) (p.optional (shown_clauses.where_clause pa pe))
+  optional_where_clause_again =
+      all_of (clauses.where_option na ne) (p.optional (shown_clauses.where_clause pa pe)) (λ part how. IsOptional (IsWhereClause part how))
+      (λ k. wheres.optional_where_again na ne pa pe (To k) (known k).again (known k).supplied (bounds_of_turn na ne pa pe (To k) (known k)) (known k).no_for (known k).attrs_begin (known k).no_generics)
+
+  -- one without predicates prints nothing: as a clause of its own that is not spelt
+  pub where_clause_again : (x : WhereClauseOf A E) (l : Toks) → by.SpellsClause shown spelt plainly x l → some x.predicates.0 ≡ true → Again (by.SpellsClause shown spelt clearly) (clauses.where_clause na ne) (shown_clauses.where_clause pa pe) x l
+  where_clause_again x l (k, i) h =
+      let w = wheres.clause_again na ne pa pe (To k) (known k).again (known k).supplied (bounds_of_turn na ne pa pe (To k) (known k)) (known k).no_for (known k).attrs_begin (known k).no_generics x l done i h in
+      record { spelt = (k, w.spelt done); visible = λ u. w.visible done u tt; stays = w.stays; same = w.same }
+
 -- ---- a lifetime parameter
 
 module _ {A : Type 0} (na : List A → List A) (pa : List A → Print) (shown : Bool → List A → Toks → Toks → Type 0) (attrs : (x : List A) (l r : Toks) → shown false x l r → AgainFront (shown true) na pa x l r) where
   -- it holds no expression
-  no_normal : NormalValues (Unit {0})
+  abbrev no_normal : NormalValues (Unit {0})
   no_normal = record { len = λ x. x; const_argument = λ x. x }
 
-  no_print : Values (Unit {0})
+  abbrev no_print : Values (Unit {0})
   no_print = record { len = λ x. []; const_argument = λ x. [] }
 
   pub lifetime_param_again : Whole (by.SpellsLifetimeParam shown) (shapes.lifetime_param na no_normal) (shown_shapes.lifetime_param_by pa)
