@@ -1,4 +1,4 @@
--- The bounds of a trait object without `dyn` print their normal form clearly, where single bounds, binders and paths do; a further pair of parentheses is not printed.
+-- The bounds of a trait object without `dyn` print their normal form clearly, where what they hold does; a further pair of parentheses is not printed.
 use Rattle.std.proofs.Common.{◌≡◌, Bool, true, false, is_some, List, [], ◌∷◌, ◌++◌, map, Option, None, Some, refl, sym, ◌∙◌, ap, subst}
 use Rattle.token_core.specs.declared.span.DelimSpan.{DelimSpan}
 use Rattle.token_core.specs.declared.tree.Delimiter.TheVariants.{Parenthesis}
@@ -22,22 +22,23 @@ use Rattle.syn_forms.specs.declared.places.BoundPlace.TheVariants.{Object}
 use Rattle.syn_forms.specs.declared.places.TypePlace.{TypePlace}
 use Rattle.syn_forms.specs.places.Reading.{allows_plus}
 use Rattle.syn_ty.specs.declared.generics.TypeParamBoundOf.TheVariants as b
-use Rattle.syn_ty.specs.generics.Bounds.{IsFor, AreBounds, no_bounds, last_bound, bound_and_plus}
+use Rattle.syn_ty.specs.generics.Bounds.{AreBounds, no_bounds, last_bound, bound_and_plus}
 use Rattle.syn_ty.specs.generics.NormalShapes.{binder_by}
 use Rattle.syn_ty.specs.path.Printing.{path}
-use Rattle.syn_ty.specs.path.Signed.{IsBoundPath}
-use Rattle.syn_ty.specs.path.Spelling.{IsPath}
 use Rattle.syn_ty.specs.ty.Normal as normal
 use Rattle.syn_ty.specs.ty.Objects.{ends_lone, IsFirst, a_first, a_first_for, IsAsked, an_asked, AreFurther, none_further, some_further, AreBareBounds, path_alone, path_and_plus, held_and_plus, asked_first, asked_in_two, lifetime_first}
 use Rattle.syn_ty.specs.ty.Parts.{Manner, plainly, clearly, End, Parts}
 use Rattle.syn_ty.specs.ty.Printing as printing
 use Rattle.syn_ty.specs.ty.Reading.{is_trait}
 use Rattle.syn_ty.specs.ty.Trees.{BoundLifetimes, Path, TypeParamBound}
-use Rattle.syn_ty.proofs.ty_laws.BoundAgain.{within_front, grouped_front, Named, print_named, with_parens, named_normal, named_prints, AtPlus, bounds_front}
+use Rattle.syn_ty.proofs.ty_laws.Again.{Again, SuppliedAgain}
+use Rattle.syn_ty.proofs.ty_laws.BoundAgain.{Named, print_named, with_parens, named_normal, named_prints, bounds_again}
 use Rattle.syn_ty.proofs.ty_laws.ObjectsAgain.{any_kept, is_trait_kept}
 use Rattle.syn_ty.proofs.ty_laws.Reprint.{mark_front}
-use Rattle.syn_ty.proofs.ty_laws.SignaturesAgain.{After, Before, before_any}
-use Rattle.syn_ty.proofs.ty_laws.SignedAgain.{alike_try, alike_sep, path_begins}
+use Rattle.syn_ty.proofs.ty_laws.ParamsAgain.{for_again}
+use Rattle.syn_ty.proofs.ty_laws.PathsAgain.{path_written_again}
+use Rattle.syn_ty.proofs.ty_laws.SignedAgain.{bound_path_again, alike_try, alike_sep, path_begins}
+use Rattle.syn_ty.proofs.ty_laws.WithinAgain.{within_front, grouped_front}
 
 -- ---- what stands in a group of these spans
 
@@ -47,12 +48,12 @@ module _ {B : Type 0} (T : B → Toks → Toks → Type 0) (s : DelimSpan) where
 
   -- in a group more, which is not printed
   module _ (m : B → B) (q : B → Print) where
-    held_front : (next : After) (y : B) (c r : Toks) → AgainFront (Before next T done) m q y c done → AgainFront IsHeld m (λ (z : B). p.group Parenthesis (stream_of_trees (q z)) s) y (group Parenthesis s c r) r
-    held_front next y c r h =
-        grouped_front IsHeld (Before next T done) m m (λ (z : B). p.group Parenthesis (stream_of_trees (q z)) s) q (λ z. z) (λ z. refl) Parenthesis s tt (λ z k d i. is_held (i (next.at_end done))) (λ z. refl) y c r h
+    held_front : (y : B) (c r : Toks) → AgainFront T m q y c done → AgainFront IsHeld m (λ (z : B). p.group Parenthesis (stream_of_trees (q z)) s) y (group Parenthesis s c r) r
+    held_front y c r h =
+        grouped_front IsHeld T m m (λ (z : B). p.group Parenthesis (stream_of_trees (q z)) s) q (λ z. z) (λ z. refl) Parenthesis s tt (λ z k d i. is_held i) (λ z. refl) y c r h
 
-    twice_front : (next : After) (i : DelimSpan) (y : B) (c r : Toks) → AgainFront (Before next T done) m q y c done → AgainFront IsHeld m (λ (z : B). p.group Parenthesis (stream_of_trees (q z)) s) y (group Parenthesis s (group Parenthesis i c done) r) r
-    twice_front next i y c r h = held_front next y (group Parenthesis i c done) r (record { spelt = h.spelt; visible = λ k u w. h.visible k u.1 w; seen = λ u. tt; stays = h.stays; same = h.same })
+    twice_front : (i : DelimSpan) (y : B) (c r : Toks) → AgainFront T m q y c done → AgainFront IsHeld m (λ (z : B). p.group Parenthesis (stream_of_trees (q z)) s) y (group Parenthesis s (group Parenthesis i c done) r) r
+    twice_front i y c r h = held_front y (group Parenthesis i c done) r (record { spelt = h.spelt; visible = λ k u w. h.visible k u.1 w; seen = λ u. tt; stays = h.stays; same = h.same })
 
 module _ {A E : Type 0} (na : List A → List A) (ne : NormalValues E) (pa : List A → Print) (pe : Values E) (part : Manner → Parts A E) where
   abbrev Bound : Type 0
@@ -132,14 +133,13 @@ module _ {A E : Type 0} (na : List A → List A) (ne : NormalValues E) (pa : Lis
   data ArePlus (Ends : Bool → Type 0) (e : End) : Bounds → Toks → Toks → Type 0 where
     are_plus : {c : token.Plus} {xs : List Bound} {qs : List token.Plus} {l n r : Toks} → IsMark true c l n → AreBounds part clearly Object Ends false e xs qs n r → ArePlus Ends e (xs, c ∷ qs) l r
 
-  none_front : (next : After) (r : Toks) → AgainFront (Before next IsNone r) ns after ([], []) r r
-  none_front next r = record { spelt = λ k y. is_none; visible = λ k u w. w; seen = λ u. u; stays = refl; same = refl }
+  none_front : (r : Toks) → AgainFront IsNone ns after ([], []) r r
+  none_front r = record { spelt = λ k. is_none; visible = λ k u w. w; seen = λ u. u; stays = refl; same = refl }
 
-  module _ (for_front : (x : BoundLifetimes A E) (l r : Toks) → IsFor part plainly x l r → AgainFront (IsFor part clearly) (normal.bound_lifetimes na ne) (printing.bound_lifetimes pa pe) x l r)
-      (path_front : (x : Path A E) (l r : Toks) → IsPath part plainly AsWritten x l r → AgainFront (IsPath part clearly AsWritten) (normal.path na ne) (path pa pe AsWritten) x l r) where
+  module _ (again : Again na ne pa pe part) where
     pub first_again : (o : Option (BoundLifetimes A E)) (z : Path A E) (l r : Toks) → IsFirst part plainly o z l r → AgainFront (λ (v : Bare). IsFirst part clearly v.0 v.1) normal_bare print_bare (o, z) l r
     first_again o z l r (a_first i h) =
-        let k = path_front z l r i in
+        let k = path_written_again na ne pa pe part again z l r i in
         record {
           spelt = λ c. a_first (k.spelt c) (alike_try l (row (path pa pe AsWritten z) c) (path_begins na ne pa pe part z l r c i) h);
           visible = λ c u w. k.visible c u w;
@@ -148,8 +148,8 @@ module _ {A E : Type 0} (na : List A → List A) (ne : NormalValues E) (pa : Lis
           same = k.same;
         }
     first_again o z l r (a_first_for {x = x} {m = m} i j h g) =
-        let f = for_front x l m i in
-        let k = path_front z m r j in
+        let f = for_again na ne pa pe part again x l m i in
+        let k = path_written_again na ne pa pe part again z m r j in
         let first = printing.bound_lifetimes pa pe x in
         let rest = path pa pe AsWritten z in
         let seen = λ (c : Toks). row-append first rest c in
@@ -163,40 +163,39 @@ module _ {A E : Type 0} (na : List A → List A) (ne : NormalValues E) (pa : Lis
           same = ap (λ v. v ++ path pa pe AsWritten (normal.path na ne z)) f.same ∙ ap (λ v. first ++ v) k.same;
         }
 
-    module _ (next : After) (bound_path_again : (e : End) (x : Path A E) (l r : Toks) → IsBoundPath part plainly e x l r → AgainFront (Before next (IsBoundPath part clearly e) r) (normal.path na ne) (path pa pe AsWritten) x l r)
-        (at_plus : AtPlus next) (bound_again : (e : End) (x : Bound) (l r : Toks) → (part plainly).bound Object e x l r → AgainFront (Before next ((part clearly).bound Object e) r) (normal.bound na ne) (printing.bound pa pe) x l r) where
-      pub asked_front : (q : token.Question) (z : Path A E) (l r : Toks) → IsAsked part plainly q z l r → AgainFront (Before next (IsAsked part clearly q) r) (normal.path na ne) (λ (v : Path A E). p.mark q ++ path pa pe AsWritten v) z l r
-      asked_front q z l r (an_asked {e = e} {m = m} i j) =
+    module _ (supplied : SuppliedAgain na ne pa pe part) where
+      pub asked_again : (q : token.Question) (z : Path A E) (l r : Toks) → IsAsked part plainly q z l r → AgainFront (IsAsked part clearly q) (normal.path na ne) (λ (v : Path A E). p.mark q ++ path pa pe AsWritten v) z l r
+      asked_again q z l r (an_asked {e = e} {m = m} i j) =
           let h = mark_front q l m i in
-          let k = bound_path_again e z m r j in
+          let k = bound_path_again na ne pa pe part again supplied e z m r j in
           let rest = path pa pe AsWritten z in
           let seen = λ (c : Toks). row-append (p.mark q) rest c in
           record {
-            spelt = λ c y. subst (λ v. IsAsked part clearly q (normal.path na ne z) v c) (sym (seen c)) (an_asked (h.spelt (row rest c)) (k.spelt c y));
+            spelt = λ c. subst (λ v. IsAsked part clearly q (normal.path na ne z) v c) (sym (seen c)) (an_asked (h.spelt (row rest c)) (k.spelt c));
             visible = λ c u w. subst Visible (sym (seen c)) (h.visible (row rest c) u (k.visible c (h.seen u) w));
             seen = λ u. k.seen (h.seen u);
             stays = k.stays;
             same = ap (λ v. p.mark q ++ v) k.same;
           }
 
-      plus_again : (Ends : Bool → Type 0) (e : End) (c : token.Plus) (xs : List Bound) (qs : List token.Plus) (l n r : Toks) → IsMark false c l n → AreBounds part plainly Object Ends false e xs qs n r → AgainFront (Before next (ArePlus Ends e) r) ns after (xs, c ∷ qs) l r
+      plus_again : (Ends : Bool → Type 0) (e : End) (c : token.Plus) (xs : List Bound) (qs : List token.Plus) (l n r : Toks) → IsMark false c l n → AreBounds part plainly Object Ends false e xs qs n r → AgainFront (ArePlus Ends e) ns after (xs, c ∷ qs) l r
       plus_again Ends e c xs qs l n r i j =
           let h = mark_front c l n i in
-          let k = bounds_front na ne pa pe part next at_plus Object bound_again Ends false e xs qs n r j in
+          let k = bounds_again na ne pa pe part again Object Ends false e xs qs n r j in
           let rest = ps (xs, qs) in
           let seen = λ (d : Toks). row-append (p.mark c) rest d in
           record {
-            spelt = λ d y. subst (λ z. ArePlus Ends e (map nb xs, c ∷ qs) z d) (sym (seen d)) (are_plus (h.spelt (row rest d)) (k.spelt d y));
+            spelt = λ d. subst (λ z. ArePlus Ends e (map nb xs, c ∷ qs) z d) (sym (seen d)) (are_plus (h.spelt (row rest d)) (k.spelt d));
             visible = λ d u w. subst Visible (sym (seen d)) (h.visible (row rest d) u (k.visible d (h.seen u) w));
             seen = λ u. k.seen (h.seen u);
             stays = ap (λ (z : Bounds). (z.0, c ∷ z.1)) k.stays;
             same = ap (λ z. p.mark c ++ z) k.same;
           }
 
-      pub further_front : (e : End) (xs : List Bound) (qs : List token.Plus) (l r : Toks) → AreFurther part plainly e xs qs l r → AgainFront (Before next (λ (z : Bounds). AreFurther part clearly e z.0 z.1) r) (normal.bounds na ne) after (xs, qs) l r
-      further_front e xs qs l r none_further = record { spelt = λ k y. none_further; visible = λ k u w. w; seen = λ u. u; stays = refl; same = refl }
-      further_front e xs qs l r (some_further {p = c} {xs = ys} {ps = ds} {m = m} i j) =
-          within_front (Before next (λ (z : Bounds). AreFurther part clearly e z.0 z.1) r) (Before next (ArePlus Nowhere e) r) ns ns after after (λ z. z) (λ z. refl) (λ z b d i y. as_further z b d (i y)) (λ z. refl) (ys, c ∷ ds) l r (plus_again Nowhere e c ys ds l m r i j)
+      pub further_again : (e : End) (xs : List Bound) (qs : List token.Plus) (l r : Toks) → AreFurther part plainly e xs qs l r → AgainFront (λ (z : Bounds). AreFurther part clearly e z.0 z.1) (normal.bounds na ne) after (xs, qs) l r
+      further_again e xs qs l r none_further = record { spelt = λ k. none_further; visible = λ k u w. w; seen = λ u. u; stays = refl; same = refl }
+      further_again e xs qs l r (some_further {p = c} {xs = ys} {ps = ds} {m = m} i j) =
+          within_front (λ (z : Bounds). AreFurther part clearly e z.0 z.1) (ArePlus Nowhere e) ns ns after after (λ z. z) (λ z. refl) (λ z b d i. as_further z b d i) (λ z. refl) (ys, c ∷ ds) l r (plus_again Nowhere e c ys ds l m r i j)
         where
           as_further : (z : Bounds) (l r : Toks) → ArePlus Nowhere e z l r → AreFurther part clearly e z.0 z.1 l r
           as_further z l r (are_plus i j) = some_further i j
@@ -206,10 +205,6 @@ module _ {A E : Type 0} (na : List A → List A) (ne : NormalValues E) (pa : Lis
       module _ (place : TypePlace) where
         abbrev To : End → Bounds → Toks → Toks → Type 0
         To e = AreBareBounds part clearly place e
-
-        -- before what may follow
-        abbrev Or : Toks → End → Bounds → Toks → Toks → Type 0
-        Or r e = Before next (To e) r
 
         abbrev First : Bare → Toks → Toks → Type 0
         First z = IsFirst part clearly z.0 z.1
@@ -233,10 +228,10 @@ module _ {A E : Type 0} (na : List A → List A) (ne : NormalValues E) (pa : Lis
 
         asked_object : (e : End) (s : DelimSpan) (q : token.Question) (y : Path A E) (xs : List Bound) (qs : List token.Plus) (l n r : Toks) →
             AgainFront (IsHeld (IsAsked part clearly q) s) (normal.path na ne) (λ v. p.group Parenthesis (stream_of_trees (p.mark q ++ path pa pe AsWritten v)) s) y l n → AreFurther part plainly e xs qs n r →
-            AgainFront (Or r e) ns ps (held_asked s q y ∷ xs, qs) l r
+            AgainFront (To e) ns ps (held_asked s q y ∷ xs, qs) l r
         asked_object e s q y xs qs l n r h t =
-            joined_front (Or r e) (IsHeld (IsAsked part clearly q) s) (Before next (λ (z : Bounds). AreFurther part clearly e z.0 z.1) r) (normal.path na ne) (λ v. p.group Parenthesis (stream_of_trees (p.mark q ++ path pa pe AsWritten v)) s) (held_asked s q)
-            (λ v. named_normal na ne (Some (groups.paren s)) (asked_of q v)) (λ v. named_prints pa pe (Some (groups.paren s)) (asked_of q v)) (λ v z a b d i j w. held_asks e s q v z a b d i (j w)) y (xs, qs) l n r h (further_front e xs qs n r t)
+            joined_front (To e) (IsHeld (IsAsked part clearly q) s) (λ (z : Bounds). AreFurther part clearly e z.0 z.1) (normal.path na ne) (λ v. p.group Parenthesis (stream_of_trees (p.mark q ++ path pa pe AsWritten v)) s) (held_asked s q)
+            (λ v. named_normal na ne (Some (groups.paren s)) (asked_of q v)) (λ v. named_prints pa pe (Some (groups.paren s)) (asked_of q v)) (λ v z a b d i j. held_asks e s q v z a b d i j) y (xs, qs) l n r h (further_again e xs qs n r t)
 
         -- where a bound that begins with a lifetime prints so
         module _ (lives : (e : End) (x : Bound) (l r : Toks) → (part plainly).bound Object e x l r → sees_lifetime l ≡ true → (k : Toks) → sees_lifetime (row (printing.bound pa pe x) k) ≡ true) where
@@ -246,26 +241,26 @@ module _ {A E : Type 0} (na : List A → List A) (ne : NormalValues E) (pa : Lis
           bounds_live e xs qs l r (bound_and_plus {e = f} {x = x} {p = c} {xs = ys} {ps = ds} {m = m} i g j t) h k =
               let rest = p.mark c ++ ps (ys, ds) in subst (λ z. sees_lifetime z ≡ true) (sym (row-append (pb x) rest k)) (lives f x l m i h (row rest k))
 
-          pub bare_bounds_front : (e : End) (v : Bounds) (l r : Toks) → AreBareBounds part plainly place e v l r → AgainFront (Before next (AreBareBounds part clearly place e) r) (normal.bounds na ne) (printing.bounds_joined pa pe) v l r
-          bare_bounds_front e v l r (path_alone {x = x} {p = z} i) =
+          pub bare_bounds_again : (e : End) (v : Bounds) (l r : Toks) → AreBareBounds part plainly place e v l r → AgainFront (AreBareBounds part clearly place e) (normal.bounds na ne) (printing.bounds_joined pa pe) v l r
+          bare_bounds_again e v l r (path_alone {x = x} {p = z} i) =
               let k = first_again (Some x) z l r i in
-              joined_front (Or r (ends_lone place)) AfterBinder (Before next IsNone r) normal_bare print_bare (of_bare None) (bare_normal None) (λ y. named_prints pa pe None (named_of y)) (λ v z a b d i j w. alone v z a b d i (j w)) (Some x, z) ([], []) l r r
-              (record { spelt = λ c. (k.spelt c, refl); visible = λ c u w. k.visible c u w; seen = λ u. k.seen u; stays = k.stays; same = k.same }) (none_front next r)
-          bare_bounds_front e v l r (path_and_plus {o = o} {p = z} {c = c} {xs = xs} {ps = qs} {m = m} {n = n} h i j t) =
-              joined_front (Or r e) First (Before next (ArePlus Anywhere e) r) normal_bare print_bare (of_bare None) (bare_normal None) (λ y. named_prints pa pe None (named_of y)) (λ v z a b d i j w. with_plus e h v z a b d i (j w)) (o, z) (xs, c ∷ qs) l m r
+              joined_front (To (ends_lone place)) AfterBinder IsNone normal_bare print_bare (of_bare None) (bare_normal None) (λ y. named_prints pa pe None (named_of y)) (λ v z a b d i j. alone v z a b d i j) (Some x, z) ([], []) l r r
+              (record { spelt = λ c. (k.spelt c, refl); visible = λ c u w. k.visible c u w; seen = λ u. k.seen u; stays = k.stays; same = k.same }) (none_front r)
+          bare_bounds_again e v l r (path_and_plus {o = o} {p = z} {c = c} {xs = xs} {ps = qs} {m = m} {n = n} h i j t) =
+              joined_front (To e) First (ArePlus Anywhere e) normal_bare print_bare (of_bare None) (bare_normal None) (λ y. named_prints pa pe None (named_of y)) (λ v z a b d i j. with_plus e h v z a b d i j) (o, z) (xs, c ∷ qs) l m r
               (first_again o z l m i) (plus_again Anywhere e c xs qs m n r j t)
-          bare_bounds_front e v l r (held_and_plus {o = o} {p = z} {s = s} {k = a} {xs = xs} {ps = qs} {c = c} {m = m} {n = n} h i j t) =
-              joined_front (Or r e) (IsHeld First s) (Before next (ArePlus Nowhere e) r) normal_bare (λ y. p.group Parenthesis (stream_of_trees (print_bare y)) s) (of_bare (Some (groups.paren s))) (bare_normal (Some (groups.paren s)))
-              (λ y. named_prints pa pe (Some (groups.paren s)) (named_of y)) (λ v z a b d i j w. held_plus e s h v z a b d i (j w)) (o, z) (xs, a ∷ qs) l m r
-              (held_front First s normal_bare print_bare next (o, z) c m (before_any next First normal_bare print_bare (o, z) c done (first_again o z c done i))) (plus_again Nowhere e a xs qs m n r j t)
-          bare_bounds_front e v l r (asked_first {q = q} {p = z} {s = s} {xs = xs} {ps = qs} {c = c} {m = m} i t) =
-              asked_object e s q z xs qs l m r (held_front (IsAsked part clearly q) s (normal.path na ne) (λ y. p.mark q ++ path pa pe AsWritten y) next z c m (asked_front q z c done i)) t
-          bare_bounds_front e v l r (asked_in_two {q = q} {p = z} {s = s} {i = a} {k = k} {xs = xs} {ps = qs} {c = c} {m = m} h i j t) =
-              asked_object e s q z xs (k ∷ qs) l m r (twice_front (IsAsked part clearly q) s (normal.path na ne) (λ y. p.mark q ++ path pa pe AsWritten y) next a z c m (asked_front q z c done i)) (some_further j t)
-          bare_bounds_front e v l r (lifetime_first {xs = xs} {ps = qs} h i t) =
-              let k = bounds_front na ne pa pe part next at_plus Object bound_again AfterMark true e xs qs l r i in
+          bare_bounds_again e v l r (held_and_plus {o = o} {p = z} {s = s} {k = a} {xs = xs} {ps = qs} {c = c} {m = m} {n = n} h i j t) =
+              joined_front (To e) (IsHeld First s) (ArePlus Nowhere e) normal_bare (λ y. p.group Parenthesis (stream_of_trees (print_bare y)) s) (of_bare (Some (groups.paren s))) (bare_normal (Some (groups.paren s)))
+              (λ y. named_prints pa pe (Some (groups.paren s)) (named_of y)) (λ v z a b d i j. held_plus e s h v z a b d i j) (o, z) (xs, a ∷ qs) l m r
+              (held_front First s normal_bare print_bare (o, z) c m (first_again o z c done i)) (plus_again Nowhere e a xs qs m n r j t)
+          bare_bounds_again e v l r (asked_first {q = q} {p = z} {s = s} {xs = xs} {ps = qs} {c = c} {m = m} i t) =
+              asked_object e s q z xs qs l m r (held_front (IsAsked part clearly q) s (normal.path na ne) (λ y. p.mark q ++ path pa pe AsWritten y) z c m (asked_again q z c done i)) t
+          bare_bounds_again e v l r (asked_in_two {q = q} {p = z} {s = s} {i = a} {k = k} {xs = xs} {ps = qs} {c = c} {m = m} h i j t) =
+              asked_object e s q z xs (k ∷ qs) l m r (twice_front (IsAsked part clearly q) s (normal.path na ne) (λ y. p.mark q ++ path pa pe AsWritten y) a z c m (asked_again q z c done i)) (some_further j t)
+          bare_bounds_again e v l r (lifetime_first {xs = xs} {ps = qs} h i t) =
+              let k = bounds_again na ne pa pe part again Object AfterMark true e xs qs l r i in
               record {
-                spelt = λ c y. lifetime_first (bounds_live e xs qs l r i h c) (k.spelt c y) (any_kept is_trait nb (is_trait_kept na ne) xs ∙ t);
+                spelt = λ c. lifetime_first (bounds_live e xs qs l r i h c) (k.spelt c) (any_kept is_trait nb (is_trait_kept na ne) xs ∙ t);
                 visible = λ c u w. k.visible c u w;
                 seen = λ u. k.seen u;
                 stays = k.stays;

@@ -22,9 +22,9 @@ use Rattle.syn_ty.specs.generics.Shapes as shapes
 use Rattle.syn_ty.specs.generics.Shapes.{is_captured_lifetime}
 use Rattle.syn_ty.specs.ty.Types.{Comma}
 use Rattle.syn_ty.proofs.ty_laws.AnglesSortedAgain.{normal_sorted, sorted_again}
-use Rattle.syn_ty.proofs.ty_laws.BoundAgain.{within_front}
 use Rattle.syn_ty.proofs.ty_laws.Reprint.{mark_front}
 use Rattle.syn_ty.proofs.ty_laws.SignaturesAgain.{lifetime_front}
+use Rattle.syn_ty.proofs.ty_laws.WithinAgain.{within_front}
 
 pub captured_again : (x : CapturedParam) (l r : Toks) → IsCaptured x l r → AgainFront IsCaptured (λ (z : CapturedParam). z) shapes.captured x l r
 captured_again x l r (a_lifetime_captured {x = y} i) =

@@ -17,16 +17,15 @@ use Rattle.token_core.proofs.Rows.{row-append}
 use Rattle.token_core.proofs.WordSpells.{lifetime_again, lifetime_seen}
 use Rattle.syn_path.specs.declared.path.PathStyle.TheVariants.{AsWritten}
 use Rattle.syn_path.specs.Values.{NormalValues, Values}
-use Rattle.syn_path.proofs.Words.{AgainFront, row-group}
+use Rattle.syn_path.proofs.Words.{row-group}
 use Rattle.syn_forms.specs.declared.places.BoundPlace.{BoundPlace}
 use Rattle.syn_forms.specs.declared.places.TypePlace.{TypePlace}
 use Rattle.syn_ty.specs.declared.generics.PreciseCapture.{PreciseCapture}
 use Rattle.syn_ty.specs.declared.generics.TypeParamBoundOf.TheVariants as b
-use Rattle.syn_ty.specs.generics.Bounds.{IsCapture, a_capture, IsConstForm, a_const_form, a_conditional_form, IsFor, IsTrait, a_trait, a_trait_for, a_trait_asked, a_trait_bound, IsConstBound, a_const_bound, a_const_bound_for, a_const_bound_asked, IsVerbatimBound, a_const_alone, a_const_in_parens, IsBound, a_lifetime_bound, a_bare_bound, a_bound_in_parens, a_capture_bound, a_verbatim_bound}
+use Rattle.syn_ty.specs.generics.Bounds.{IsCapture, a_capture, IsConstForm, a_const_form, a_conditional_form, IsTrait, a_trait, a_trait_for, a_trait_asked, a_trait_bound, IsConstBound, a_const_bound, a_const_bound_for, a_const_bound_asked, IsVerbatimBound, a_const_alone, a_const_in_parens, IsBound, a_lifetime_bound, a_bare_bound, a_bound_in_parens, a_capture_bound, a_verbatim_bound}
 use Rattle.syn_ty.specs.generics.NormalShapes.{binder_by}
 use Rattle.syn_ty.specs.generics.Spelling.{a_binder}
 use Rattle.syn_ty.specs.path.Paths.{Sep}
-use Rattle.syn_ty.specs.path.Printing.{path}
 use Rattle.syn_ty.specs.path.Signed.{AreSigned, signed_last, signed_after, a_signed, IsBoundPath, without_parens}
 use Rattle.syn_ty.specs.path.Signed as signed
 use Rattle.syn_ty.specs.path.Spelling.{IsPath, a_path, IsSegment, a_word, a_word_with_arguments}
@@ -36,6 +35,7 @@ use Rattle.syn_ty.specs.ty.Parts.{Manner, is_clear, kept, plainly, clearly, End,
 use Rattle.syn_ty.specs.ty.Printing as printing
 use Rattle.syn_ty.specs.ty.Spelling.{IsOptional, absent, present}
 use Rattle.syn_ty.specs.ty.Trees.{BoundLifetimes, Path, PathSegment, TypeParamBound}
+use Rattle.syn_ty.proofs.ty_laws.Again.{Again}
 use Rattle.syn_ty.proofs.ty_laws.BareBoundsAgain.{first_again}
 use Rattle.syn_ty.proofs.ty_laws.BoundAgain.{named_prints, print_named, with_parens}
 use Rattle.syn_ty.proofs.ty_laws.HeldForms.{held_spelt}
@@ -140,11 +140,10 @@ module _ {A E : Type 0} (na : List A → List A) (ne : NormalValues E) (pa : Lis
   held_seen : (s : DelimSpan) (q : Print) (k : Toks) → sees_lifetime (row (p.group Parenthesis (stream_of_trees q) s) k) ≡ false
   held_seen s q k = ap sees_lifetime (row-group Parenthesis s q k tt) ∙ group_no_lifetime s (row q done) k
 
-  module _ (for_front : (x : BoundLifetimes A E) (l r : Toks) → IsFor part plainly x l r → AgainFront (IsFor part clearly) (normal.bound_lifetimes na ne) (printing.bound_lifetimes pa pe) x l r)
-      (path_front : (x : Path A E) (l r : Toks) → IsPath part plainly AsWritten x l r → AgainFront (IsPath part clearly AsWritten) (normal.path na ne) (path pa pe AsWritten) x l r) where
+  module _ (again : Again na ne pa pe part) where
     bare_seen : (o : Option (BoundLifetimes A E)) (z : Path A E) (l r : Toks) → IsFirst part plainly o z l r → (k : Toks) → sees_lifetime (row (print_named pa pe (o, None, z)) k) ≡ false
     bare_seen o z l r i k =
-        first_no_lifetime part clearly (binder_by (normal.param na ne) o) (normal.path na ne z) (row (print_named pa pe (o, None, z)) k) k ((first_again na ne pa pe part for_front path_front o z l r i).spelt k)
+        first_no_lifetime part clearly (binder_by (normal.param na ne) o) (normal.path na ne z) (row (print_named pa pe (o, None, z)) k) k ((first_again na ne pa pe part again o z l r i).spelt k)
 
     pub bare_no_lifetime : (place : TypePlace) (e : End) (v : Bounds) (l r : Toks) → AreBareBounds part plainly place e v l r → sees_lifetime l ≡ false → (k : Toks) → sees_lifetime (row (printing.bounds_joined pa pe v) k) ≡ false
     bare_no_lifetime place e v l r (path_alone {x = x} {p = z} i) h = first_seen (b.Trait (with_parens None (Some x, None, z))) [] [] (print_named pa pe (Some x, None, z)) (named_prints pa pe None (Some x, None, z)) (bare_seen (Some x) z l r i)

@@ -38,11 +38,11 @@ use Rattle.syn_ty.proofs.ty_laws.Again.{Again, SuppliedAgain}
 use Rattle.syn_ty.proofs.ty_laws.FirstBoundsAgain.{bare_no_lifetime, path_no_lifetime}
 use Rattle.syn_ty.proofs.ty_laws.FormsAgain.{NoneFirst, type_call_again, pointer_again, borrow_again, enclosed_again, bracketed_again, counted_again, tuple_again}
 use Rattle.syn_ty.proofs.ty_laws.FunctionsAgain.{fn_ptr_again}
-use Rattle.syn_ty.proofs.ty_laws.PlainBoundsAgain.{dyn_again, impl_again}
+use Rattle.syn_ty.proofs.ty_laws.ObjectsAgain.{dyn_again, impl_again}
 use Rattle.syn_ty.proofs.ty_laws.Prints.{ty-Array, ty-FnPtr, ty-ImplTrait, ty-Infer, ty-Macro, ty-Never, ty-Paren, ty-Path, ty-Ptr, ty-Reference, ty-Slice, ty-TraitObject, ty-Tuple, ty-Verbatim, path_type_parts}
 use Rattle.syn_ty.proofs.ty_laws.QualifiedAgain.{no_try_again}
 use Rattle.syn_ty.proofs.ty_laws.Reprint.{mark_front}
-use Rattle.syn_ty.proofs.ty_laws.TypesAgain.{styled, path_again, for_again}
+use Rattle.syn_ty.proofs.ty_laws.TypesAgain.{styled}
 
 -- ---- what begins with no lifetime
 
@@ -153,13 +153,13 @@ module _ {A E : Type 0} (na : List A → List A) (ne : NormalValues E) (pa : Lis
       let q = printing.trait_object pa pe y in
       by_form x q k (ty-TraitObject pa pe y) (dyn_none part clearly place e (normal.trait_object na ne y) (row q k) k ((dyn_again na ne pa pe part again place supplied.own e y l r i).spelt k))
   none_first e x l r (an_object_without_dyn {w = w} i) h k =
-      by_form x (printing.bounds_joined pa pe w) k (ty-TraitObject pa pe (trait_object_with [] None w)) (bare_no_lifetime na ne pa pe part (for_again na ne pa pe part again) (path_again na ne pa pe part again) place e w l r i h k)
+      by_form x (printing.bounds_joined pa pe w) k (ty-TraitObject pa pe (trait_object_with [] None w)) (bare_no_lifetime na ne pa pe part again place e w l r i h k)
   none_first e x l r (an_impl_type {x = y} i) h k =
       let q = printing.impl_trait pa pe y in
       by_form x q k (ty-ImplTrait pa pe y) (impl_none part clearly place e (normal.impl_trait na ne y) (row q k) k ((impl_again na ne pa pe part again place supplied.own e y l r i).spelt k))
   none_first e x l r (a_fn_type {x = y} i) h k =
       let q = printing.fn_ptr pa pe y in
-      by_form x q k (ty-FnPtr pa pe y) (fn_ptr_none part clearly e (normal.fn_ptr na ne y) (row q k) k ((fn_ptr_again na ne pa pe part again supplied (for_again na ne pa pe part again) e y l r i).spelt k))
+      by_form x q k (ty-FnPtr pa pe y) (fn_ptr_none part clearly e (normal.fn_ptr na ne y) (row q k) k ((fn_ptr_again na ne pa pe part again supplied e y l r i).spelt k))
   none_first e x l r (a_ptr_type {x = y} i) h k =
       let q = printing.ptr pa pe y in
       by_form x q k (ty-Ptr pa pe y) (pointer_none part clearly e (normal.ptr na ne y) (row q k) k ((pointer_again na ne pa pe part again supplied e y l r i).spelt k))

@@ -18,7 +18,6 @@ use Rattle.token_core.proofs.Rebuilds.{tree-ident}
 use Rattle.token_core.proofs.Rows.{row-append}
 use Rattle.syn_path.specs.Values.{NormalValues, Values}
 use Rattle.syn_path.proofs.Words.{Again, AgainFront, row-group}
-use Rattle.syn_forms.specs.declared.places.TypePlace.{TypePlace}
 use Rattle.syn_forms.specs.declared.places.TypePlace.TheVariants.{Plus, NoPlus}
 use Rattle.syn_forms.proofs.tokens_laws.Mutability.{word_front}
 use Rattle.syn_ty.specs.declared.ty.Abi.{Abi}
@@ -38,11 +37,12 @@ use Rattle.syn_ty.specs.ty.Spelling.{IsOptional, absent, present}
 use Rattle.syn_ty.specs.ty.Trees.{BoundLifetimes, NamedArg, ReturnType, TypeFnPtr, TypeTree}
 use Rattle.syn_ty.specs.ty.Types.{Comma, fn_ptr_with, named_arg_of, variadic_of}
 use Rattle.syn_ty.proofs.ty_laws.Again.{Again as AllAgain, SuppliedAgain}
-use Rattle.syn_ty.proofs.ty_laws.BoundAgain.{row_seen, row_visible}
 use Rattle.syn_ty.proofs.ty_laws.NormalsAgain.{fn_ptr_normal, normal-Verbatim}
+use Rattle.syn_ty.proofs.ty_laws.ParamsAgain.{for_again}
 use Rattle.syn_ty.proofs.ty_laws.Prints.{fn_ptr_parts, ty-Verbatim}
-use Rattle.syn_ty.proofs.ty_laws.Reprint.{mark_front}
-use Rattle.syn_ty.proofs.ty_laws.SignaturesAgain.{After, Before, abi_again, anything, comma_front, freely, listed_before, marked_front, marked_full, optional_front, return_front, type_before}
+use Rattle.syn_ty.proofs.ty_laws.Reprint.{listed_front, mark_front}
+use Rattle.syn_ty.proofs.ty_laws.SignaturesAgain.{abi_again, comma_front, marked_front, marked_full, optional_front, return_again}
+use Rattle.syn_ty.proofs.ty_laws.WithinAgain.{row_seen, row_visible}
 
 -- ---- what the parentheses hold
 
@@ -61,7 +61,7 @@ module _ {A E : Type 0} where
 
 -- ---- arguments
 
-module _ {A E : Type 0} (na : List A → List A) (ne : NormalValues E) (pa : List A → Print) (pe : Values E) (part : Manner → Parts A E) (attrs : (x : List A) (l r : Toks) → (part plainly).attrs x l r → AgainFront (part clearly).attrs na pa x l r) where
+module _ {A E : Type 0} (na : List A → List A) (ne : NormalValues E) (pa : List A → Print) (pe : Values E) (part : Manner → Parts A E) (again : AllAgain na ne pa pe part) (supplied : SuppliedAgain na ne pa pe part) where
   abbrev nt : TypeTree A E → TypeTree A E
   nt = normal.ty na ne
 
@@ -78,9 +78,9 @@ module _ {A E : Type 0} (na : List A → List A) (ne : NormalValues E) (pa : Lis
   row-named : (a : List A) (i : Ident) (c : token.Colon) (x : Print) (h : Toks) → row ((pa a ++ named i c) ++ x) h ≡ row (pa a) (word i (row (p.mark c) (row x h)))
   row-named a i c x h = row-append (pa a ++ named i c) x h ∙ row-append (pa a) (named i c) (row x h) ∙ ap (row (pa a)) (tree-ident i (row (p.mark c) (row x h)))
 
-  pub variadic_front : (x : FnPtrVariadicOf A) (l : Toks) → IsVariadic part plainly x l → Again (IsVariadic part clearly) (normal.variadic na ne) (printing.variadic pa pe) x l
-  variadic_front x l (dots {a = a} {d = d} {o = o} {m = m} {n = n} i j t) =
-      let s = attrs a l m i in
+  pub variadic_again : (x : FnPtrVariadicOf A) (l : Toks) → IsVariadic part plainly x l → Again (IsVariadic part clearly) (normal.variadic na ne) (printing.variadic pa pe) x l
+  variadic_again x l (dots {a = a} {d = d} {o = o} {m = m} {n = n} i j t) =
+      let s = supplied.attrs a l m i in
       let k = mark_front d m n j in
       let w = comma_front o n done t in
       let last = row (printing.optional_comma o) done in
@@ -92,8 +92,8 @@ module _ {A E : Type 0} (na : List A → List A) (ne : NormalValues E) (pa : Lis
         stays = ap (λ z. variadic_of z None d o) s.stays;
         same = ap (λ z. (z ++ []) ++ rest) s.same;
       }
-  variadic_front x l (named_dots {a = a} {i = i} {c = c} {d = d} {o = o} {m = m} {n = n} {k = b} g q j f t) =
-      let s = attrs a l (word i m) g in
+  variadic_again x l (named_dots {a = a} {i = i} {c = c} {d = d} {o = o} {m = m} {n = n} {k = b} g q j f t) =
+      let s = supplied.attrs a l (word i m) g in
       let e = mark_front c m n j in
       let k = mark_front d n b f in
       let w = comma_front o b done t in
@@ -109,165 +109,142 @@ module _ {A E : Type 0} (na : List A → List A) (ne : NormalValues E) (pa : Lis
         same = ap (λ z. (z ++ named i c) ++ rest) s.same;
       }
 
-  module _ (f : After) (again : (p : TypePlace) (e : End) (x : TypeTree A E) (l r : Toks) → (part plainly).ty p e x l r → AgainFront (Before f ((part clearly).ty p e) r) nt pt x l r) where
-    pub named_arg_front : (first : Bool) (x : NamedArg A E) (l r : Toks) → IsNamedArg part plainly first x l r → AgainFront (Before f (IsNamedArg part clearly first) r) (normal.named_arg na ne) (printing.named_arg pa pe) x l r
-    named_arg_front first x l r (an_argument {a = a} {e = e} {x = y} {m = m} i j) =
-        let s = attrs a l m i in
-        let k = again Plus e y m r j in
-        let seen = λ (h : Toks). row-bare a (pt y) h in
-        record {
-          spelt = λ h w. subst (λ z. IsNamedArg part clearly first (named_arg_of (na a) None (nt y)) z h) (sym (seen h)) (an_argument (s.spelt (row (pt y) h)) (k.spelt h w));
-          visible = λ h u w. subst Visible (sym (seen h)) (s.visible (row (pt y) h) u (k.visible h (s.seen u) w));
-          seen = λ u. k.seen (s.seen u);
-          stays = ap (λ z. named_arg_of z None (nt (nt y))) s.stays ∙ ap (named_arg_of (na a) None) k.stays;
-          same = ap (λ z. (z ++ []) ++ pt (nt y)) s.same ∙ ap (λ z. (pa a ++ []) ++ z) k.same;
-        }
-    named_arg_front first x l r (a_named_argument {a = a} {i = i} {c = c} {e = e} {x = y} {m = m} {n = n} g q j t) =
-        let s = attrs a l (word i m) g in
-        let d = mark_front c m n j in
-        let k = again Plus e y n r t in
-        let all = λ (h : Toks). word i (row (p.mark c) (row (pt y) h)) in
-        let seen = λ (h : Toks). row-named a i c (pt y) h in
-        record {
-          spelt = λ h w. subst (λ z. IsNamedArg part clearly first (named_arg_of (na a) (Some (i, c)) (nt y)) z h) (sym (seen h)) (a_named_argument (s.spelt (all h)) q (d.spelt (row (pt y) h)) (k.spelt h w));
-          visible = λ h u w. subst Visible (sym (seen h)) (s.visible (all h) u (d.visible (row (pt y) h) (s.seen u) (k.visible h (d.seen (s.seen u)) w)));
-          seen = λ u. k.seen (d.seen (s.seen u));
-          stays = ap (λ z. named_arg_of z (Some (i, c)) (nt (nt y))) s.stays ∙ ap (named_arg_of (na a) (Some (i, c))) k.stays;
-          same = ap (λ z. (z ++ named i c) ++ pt (nt y)) s.same ∙ ap (λ z. (pa a ++ named i c) ++ z) k.same;
-        }
-    named_arg_front first x l r (a_verbatim_argument {a = a} {t = y} {m = m} i (j, q)) =
-        let s = attrs a l m i in
-        let is = normal-Verbatim na ne y in
-        let shows = ty-Verbatim pa pe y in
-        let seen = λ (h : Toks). row-bare a (pt (v.Verbatim y)) h ∙ ap (λ z. row (pa a) (row z h)) shows in
-        record {
-          spelt = λ h w. subst (λ z. IsNamedArg part clearly true (named_arg_of (na a) None z) (row (printing.named_arg pa pe x) h) h) (sym is)
-              (subst (λ z. IsNamedArg part clearly true (named_arg_of (na a) None (v.Verbatim y)) z h) (sym (seen h)) (a_verbatim_argument (s.spelt (row (trees y) h)) (j h, refl)));
-          visible = λ h u w. subst Visible (sym (seen h)) (s.visible (row (trees y) h) u (row_visible (trees y) r h (subst Visible q (s.seen u)) w));
-          seen = λ u. row_seen (trees y) r (subst Visible q (s.seen u));
-          stays = ap (λ z. named_arg_of z None (nt (nt (v.Verbatim y)))) s.stays ∙ ap (named_arg_of (na a) None) (ap nt is);
-          same = ap (λ z. (z ++ []) ++ pt (nt (v.Verbatim y))) s.same ∙ ap (λ z. (pa a ++ []) ++ pt z) is;
-        }
-
-    -- ---- what the parentheses hold
-
-    pub inputs_front : (v : Many (NamedArg A E) Comma) (d : Option (FnPtrVariadicOf A)) (l : Toks) → AreInputs part plainly v d l → Again (AreAll part clearly) (normal_inputs na ne) (print_inputs pa pe) (v, d) l
-    inputs_front v d l (plain_inputs {xs = xs} {cs = cs} i) =
-        let k = listed_before f (IsNamedArg part plainly) (IsNamedArg part clearly) (IsMark false) (IsMark true) Anywhere (normal.named_arg na ne) (printing.named_arg pa pe) p.mark named_arg_front mark_front (λ z v w q h. f.at_comma z v w q h) true xs cs l done i in
-        let bare = λ (z : Many (NamedArg A E) Comma). append-nil (printing.inputs pa pe z) in
-        let seen = ap (λ z. row z done) (bare (xs, cs)) in
-        record {
-          spelt = subst (λ z. AreInputs part clearly (map (normal.named_arg na ne) xs, cs) None z) (sym seen) (plain_inputs (k.spelt done (f.at_end done)));
-          visible = λ u. subst Visible (sym seen) (k.visible done u tt);
-          stays = ap (λ (z : Many (NamedArg A E) Comma). (z, None)) k.stays;
-          same = ap (λ z. z ++ []) k.same;
-        }
-    inputs_front v d l (variadic_inputs {xs = xs} {cs = cs} {x = x} {m = m} i j) =
-        let k = marked_front f (IsNamedArg part plainly) (IsNamedArg part clearly) (IsMark false) (IsMark true) (normal.named_arg na ne) (printing.named_arg pa pe) p.mark named_arg_front mark_front (λ z v w q h. f.at_comma z v w q h) true xs cs l m i in
-        let w = variadic_front x m j in
-        let ys = map (normal.named_arg na ne) xs in
-        let last = row (printing.variadic pa pe x) done in
-        let full = marked_full (IsNamedArg part plainly) (IsMark false) (comma_at x.dots) true xs cs l m i in
-        let again_full = marked_full (IsNamedArg part clearly) (IsMark true) (comma_at x.dots) true ys cs (row (printing.inputs pa pe (xs, cs)) done) done (k.spelt done) in
-        let seen = row-append (printing.inputs pa pe (xs, cs)) (printing.more pa pe (xs, cs) (Some x)) done ∙ ap (λ z. row (printing.inputs pa pe (xs, cs)) (row (z ++ printing.variadic pa pe x) done)) full in
-        record {
-          spelt = subst (λ z. AreInputs part clearly (ys, cs) (Some (normal.variadic na ne x)) z) (sym seen) (variadic_inputs (k.spelt last) w.spelt);
-          visible = λ u. subst Visible (sym seen) (k.visible last u (w.visible (k.seen u)));
-          stays = ap (λ (z : Many (NamedArg A E) Comma). (z, Some (normal.variadic na ne (normal.variadic na ne x)))) k.stays ∙ ap (λ z. ((ys, cs), Some z)) w.stays;
-          same = ap (λ z. z ++ (last_comma (comma_at x.dots) ys cs ++ printing.variadic pa pe (normal.variadic na ne x))) k.same ∙ ap (λ z. printing.inputs pa pe (xs, cs) ++ (z ++ printing.variadic pa pe (normal.variadic na ne x))) (again_full ∙ sym full)
-          ∙ ap (λ z. printing.inputs pa pe (xs, cs) ++ (last_comma (comma_at x.dots) xs cs ++ z)) w.same;
-        }
-
-    -- ---- a pointer to a function, over the print of binders
-
-    abbrev np : Option (BoundLifetimes A E) → Option (BoundLifetimes A E)
-    np b = shapes.binder_by (normal.param na ne) b
-
-    abbrev pb : Option (BoundLifetimes A E) → Print
-    pb b = shown.binder_by (printing.param pa pe) b
-
-    binder_whole : (b : Option (BoundLifetimes A E)) (x : Print) → binder_start b ++ (binder_joined (printing.param pa pe) b ++ (binder_end b ++ x)) ≡ pb b ++ x
-    binder_whole None x = refl
-    binder_whole (Some b) x =
-        let o = p.mark b.lt_token in
-        let params = lists.joined (printing.param pa pe) p.mark b.lifetimes.0 b.lifetimes.1 in
-        let c = p.mark b.gt_token in
-        append_assoc (p.word b.for_token) o (params ++ (c ++ x))
-        ∙ ap (λ z. p.word b.for_token ++ z) (ap (λ z. o ++ z) (sym (append_assoc params c x)) ∙ sym (append_assoc o (params ++ c) x))
-        ∙ sym (append_assoc (p.word b.for_token) (o ++ (params ++ c)) x)
-
-    abbrev head : Option token.Unsafe → Option Abi → token.Fn → Print
-    head u i w = printing.optional_word u ++ (printing.optional_abi i ++ p.word w)
-
-    abbrev tail : Paren → Inputs A E → ReturnType A E → Print
-    tail s z o = p.group Parenthesis (stream_of_trees (print_inputs pa pe z)) s.span ++ printing.return_type pa pe o
-
-    fn_ptr_whole : (b : Option (BoundLifetimes A E)) (u : Option token.Unsafe) (i : Option Abi) (w : token.Fn) (s : Paren) (z : Inputs A E) (o : ReturnType A E) → printing.fn_ptr pa pe (fn_ptr_with [] b u i w s z.0 z.1 o) ≡ pb b ++ (head u i w ++ tail s z o)
-    fn_ptr_whole b u i w s z o =
-        fn_ptr_parts pa pe [] b u i w s z.0 z.1 o ∙ ap (λ y. binder_start b ++ (binder_joined (printing.param pa pe) b ++ y)) (append_assoc (binder_end b) (head u i w) (tail s z o)) ∙ binder_whole b (head u i w ++ tail s z o)
-
-    module _ (binder : (x : BoundLifetimes A E) (l r : Toks) → IsFor part plainly x l r → AgainFront (IsFor part clearly) (normal.bound_lifetimes na ne) (printing.bound_lifetimes pa pe) x l r) where
-      binder_front : (o : Option (BoundLifetimes A E)) (l r : Toks) → IsOptional (IsFor part plainly) o l r → AgainFront (IsOptional (IsFor part clearly)) np pb o l r
-      binder_front o l r absent = record { spelt = λ h. absent; visible = λ h u w. w; seen = λ u. u; stays = refl; same = refl }
-      binder_front o l r (present {a = a} i) = let k = binder a l r i in record { spelt = λ h. present (k.spelt h); visible = λ h u w. k.visible h u w; seen = λ u. k.seen u; stays = ap Some k.stays; same = k.same }
-
-      -- no attributes are their own normal form
-      pub fn_ptr_front : na [] ≡ [] → (e : End) (x : TypeFnPtr A E) (l r : Toks) → IsFnPtr part plainly e x l r → AgainFront (Before f (IsFnPtr part clearly e) r) (normal.fn_ptr na ne) (printing.fn_ptr pa pe) x l r
-      fn_ptr_front own e x l r (a_fn_ptr {b = b} {u = u} {i = i} {w = w} {s = s} {v = v} {d = d} {o = o} {m = m} {n = n} {k = q} {c = c} {j = j} ib iu ii iw iv io) =
-          let kb = binder_front b l m ib in
-          let ku = optional_front (IsWord {n = 16}) IsWord (λ (z : token.Unsafe). p.word z) word_front u m n iu in
-          let ki = optional_front IsAbi IsAbi printing.abi abi_again i n q ii in
-          let kw = word_front w q (group Parenthesis s c j) iw in
-          let kv = inputs_front v d c iv in
-          let ko = return_front na ne pa pe part f again NoPlus e o j r io in
-          let paren = groups.paren s in
-          let z = normal_inputs na ne (v, d) in
-          let out = normal.return_type na ne o in
-          let to = λ (y : Option (BoundLifetimes A E)) (g : Inputs A E) (h : ReturnType A E). fn_ptr_with [] y u i w paren g.0 g.1 h in
-          let once = fn_ptr_normal na ne [] b u i w paren v d o ∙ ap (λ y. fn_ptr_with y (np b) u i w paren z.0 z.1 out) own in
-          let twice = fn_ptr_normal na ne [] (np b) u i w paren z.0 z.1 out ∙ ap (λ y. fn_ptr_with y (np (np b)) u i w paren (normal_inputs na ne z).0 (normal_inputs na ne z).1 (normal.return_type na ne out)) own
-          ∙ ap (λ y. to y (normal_inputs na ne z) (normal.return_type na ne out)) kb.stays ∙ ap (λ y. to (np b) y (normal.return_type na ne out)) kv.stays ∙ ap (λ y. to (np b) z y) ko.stays in
-          let t5 = λ (h : Toks). row (printing.return_type pa pe o) h in
-          let t4 = λ (h : Toks). group Parenthesis s (row (print_inputs pa pe (v, d)) done) (t5 h) in
-          let t3 = λ (h : Toks). row (p.word w) (t4 h) in
-          let t2 = λ (h : Toks). row (printing.optional_abi i) (t3 h) in
-          let t1 = λ (h : Toks). row (printing.optional_word u) (t2 h) in
-          let last = λ (h : Toks). row-append (p.group Parenthesis (stream_of_trees (print_inputs pa pe (v, d))) s) (printing.return_type pa pe o) h ∙ row-group Parenthesis s (print_inputs pa pe (v, d)) (t5 h) tt in
-          let seen = λ (h : Toks). ap (λ y. row y h) (fn_ptr_whole b u i w paren (v, d) o) ∙ row-append (pb b) (head u i w ++ tail paren (v, d) o) h
-          ∙ ap (row (pb b)) (row-append (head u i w) (tail paren (v, d) o) h ∙ ap (row (head u i w)) (last h) ∙ row-append (printing.optional_word u) (printing.optional_abi i ++ p.word w) (t4 h) ∙ ap (row (printing.optional_word u)) (row-append (printing.optional_abi i) (p.word w) (t4 h))) in
-          record {
-            spelt = λ h y. subst (λ g. IsFnPtr part clearly e g (row (printing.fn_ptr pa pe x) h) h) (sym once)
-                (subst (λ g. IsFnPtr part clearly e (to (np b) z out) g h) (sym (seen h)) (a_fn_ptr (kb.spelt (t1 h)) (ku.spelt (t2 h)) (ki.spelt (t3 h)) (kw.spelt (t4 h)) kv.spelt (ko.spelt h y)));
-            visible = λ h y g. subst Visible (sym (seen h)) (
-              let a = kb.seen y in
-              let b' = ku.seen a in
-              let c' = ki.seen b' in
-              let d' = kw.seen c' in
-              kb.visible (t1 h) y (ku.visible (t2 h) a (ki.visible (t3 h) b' (kw.visible (t4 h) c' (tt, kv.visible d'.1, ko.visible h d'.2 g)))));
-            seen = λ y. ko.seen (kw.seen (ki.seen (ku.seen (kb.seen y)))).2;
-            stays = ap (normal.fn_ptr na ne) once ∙ twice ∙ sym once;
-            same = ap (printing.fn_ptr pa pe) once ∙ fn_ptr_whole (np b) u i w paren z out ∙ ap (λ y. y ++ (head u i w ++ tail paren z out)) kb.same
-            ∙ ap (λ y. pb b ++ (head u i w ++ (p.group Parenthesis (stream_of_trees y) s ++ printing.return_type pa pe out))) kv.same
-            ∙ ap (λ y. pb b ++ (head u i w ++ (p.group Parenthesis (stream_of_trees (print_inputs pa pe (v, d))) s ++ y))) ko.same
-            ∙ sym (fn_ptr_whole b u i w paren (v, d) o);
-          }
-
--- ---- over all that is known of what a form holds
-
-module _ {A E : Type 0} (na : List A → List A) (ne : NormalValues E) (pa : List A → Print) (pe : Values E) (part : Manner → Parts A E) (again : AllAgain na ne pa pe part) (supplied : SuppliedAgain na ne pa pe part) where
-  abbrev type : (p : TypePlace) (e : End) (x : TypeTree A E) (l r : Toks) → (part plainly).ty p e x l r → AgainFront (Before anything ((part clearly).ty p e) r) (normal.ty na ne) (printing.ty pa pe) x l r
-  type = type_before na ne pa pe part anything again
-
-  pub variadic_again : (x : FnPtrVariadicOf A) (l : Toks) → IsVariadic part plainly x l → Again (IsVariadic part clearly) (normal.variadic na ne) (printing.variadic pa pe) x l
-  variadic_again = variadic_front na ne pa pe part supplied.attrs
-
   pub named_arg_again : (first : Bool) (x : NamedArg A E) (l r : Toks) → IsNamedArg part plainly first x l r → AgainFront (IsNamedArg part clearly first) (normal.named_arg na ne) (printing.named_arg pa pe) x l r
-  named_arg_again first x l r i = freely (IsNamedArg part clearly first) (normal.named_arg na ne) (printing.named_arg pa pe) x l r (named_arg_front na ne pa pe part supplied.attrs anything type first x l r i)
+  named_arg_again first x l r (an_argument {a = a} {e = e} {x = y} {m = m} i j) =
+      let s = supplied.attrs a l m i in
+      let k = again.ty Plus e y m r j in
+      let seen = λ (h : Toks). row-bare a (pt y) h in
+      record {
+        spelt = λ h. subst (λ z. IsNamedArg part clearly first (named_arg_of (na a) None (nt y)) z h) (sym (seen h)) (an_argument (s.spelt (row (pt y) h)) (k.spelt h));
+        visible = λ h u w. subst Visible (sym (seen h)) (s.visible (row (pt y) h) u (k.visible h (s.seen u) w));
+        seen = λ u. k.seen (s.seen u);
+        stays = ap (λ z. named_arg_of z None (nt (nt y))) s.stays ∙ ap (named_arg_of (na a) None) k.stays;
+        same = ap (λ z. (z ++ []) ++ pt (nt y)) s.same ∙ ap (λ z. (pa a ++ []) ++ z) k.same;
+      }
+  named_arg_again first x l r (a_named_argument {a = a} {i = i} {c = c} {e = e} {x = y} {m = m} {n = n} g q j t) =
+      let s = supplied.attrs a l (word i m) g in
+      let d = mark_front c m n j in
+      let k = again.ty Plus e y n r t in
+      let all = λ (h : Toks). word i (row (p.mark c) (row (pt y) h)) in
+      let seen = λ (h : Toks). row-named a i c (pt y) h in
+      record {
+        spelt = λ h. subst (λ z. IsNamedArg part clearly first (named_arg_of (na a) (Some (i, c)) (nt y)) z h) (sym (seen h)) (a_named_argument (s.spelt (all h)) q (d.spelt (row (pt y) h)) (k.spelt h));
+        visible = λ h u w. subst Visible (sym (seen h)) (s.visible (all h) u (d.visible (row (pt y) h) (s.seen u) (k.visible h (d.seen (s.seen u)) w)));
+        seen = λ u. k.seen (d.seen (s.seen u));
+        stays = ap (λ z. named_arg_of z (Some (i, c)) (nt (nt y))) s.stays ∙ ap (named_arg_of (na a) (Some (i, c))) k.stays;
+        same = ap (λ z. (z ++ named i c) ++ pt (nt y)) s.same ∙ ap (λ z. (pa a ++ named i c) ++ z) k.same;
+      }
+  named_arg_again first x l r (a_verbatim_argument {a = a} {t = y} {m = m} i (j, q)) =
+      let s = supplied.attrs a l m i in
+      let is = normal-Verbatim na ne y in
+      let shows = ty-Verbatim pa pe y in
+      let seen = λ (h : Toks). row-bare a (pt (v.Verbatim y)) h ∙ ap (λ z. row (pa a) (row z h)) shows in
+      record {
+        spelt = λ h. subst (λ z. IsNamedArg part clearly true (named_arg_of (na a) None z) (row (printing.named_arg pa pe x) h) h) (sym is)
+            (subst (λ z. IsNamedArg part clearly true (named_arg_of (na a) None (v.Verbatim y)) z h) (sym (seen h)) (a_verbatim_argument (s.spelt (row (trees y) h)) (j h, refl)));
+        visible = λ h u w. subst Visible (sym (seen h)) (s.visible (row (trees y) h) u (row_visible (trees y) r h (subst Visible q (s.seen u)) w));
+        seen = λ u. row_seen (trees y) r (subst Visible q (s.seen u));
+        stays = ap (λ z. named_arg_of z None (nt (nt (v.Verbatim y)))) s.stays ∙ ap (named_arg_of (na a) None) (ap nt is);
+        same = ap (λ z. (z ++ []) ++ pt (nt (v.Verbatim y))) s.same ∙ ap (λ z. (pa a ++ []) ++ pt z) is;
+      }
 
-  pub inputs_again : (v : Many (NamedArg A E) Comma) (d : Option (FnPtrVariadicOf A)) (l : Toks) → AreInputs part plainly v d l →
-      Again (AreAll part clearly) (normal_inputs na ne) (print_inputs pa pe) (v, d) l
-  inputs_again = inputs_front na ne pa pe part supplied.attrs anything type
+  -- ---- what the parentheses hold
 
-  pub fn_ptr_again : ((x : BoundLifetimes A E) (l r : Toks) → IsFor part plainly x l r → AgainFront (IsFor part clearly) (normal.bound_lifetimes na ne) (printing.bound_lifetimes pa pe) x l r) → (e : End) (x : TypeFnPtr A E) (l r : Toks) → IsFnPtr part plainly e x l r →
-      AgainFront (IsFnPtr part clearly e) (normal.fn_ptr na ne) (printing.fn_ptr pa pe) x l r
-  fn_ptr_again binder e x l r i = freely (IsFnPtr part clearly e) (normal.fn_ptr na ne) (printing.fn_ptr pa pe) x l r (fn_ptr_front na ne pa pe part supplied.attrs anything type binder supplied.own e x l r i)
+  pub inputs_again : (v : Many (NamedArg A E) Comma) (d : Option (FnPtrVariadicOf A)) (l : Toks) → AreInputs part plainly v d l → Again (AreAll part clearly) (normal_inputs na ne) (print_inputs pa pe) (v, d) l
+  inputs_again v d l (plain_inputs {xs = xs} {cs = cs} i) =
+      let k = listed_front (IsNamedArg part plainly) (IsNamedArg part clearly) (IsMark false) (IsMark true) Anywhere (normal.named_arg na ne) (printing.named_arg pa pe) p.mark named_arg_again mark_front true xs cs l done i in
+      let bare = λ (z : Many (NamedArg A E) Comma). append-nil (printing.inputs pa pe z) in
+      let seen = ap (λ z. row z done) (bare (xs, cs)) in
+      record {
+        spelt = subst (λ z. AreInputs part clearly (map (normal.named_arg na ne) xs, cs) None z) (sym seen) (plain_inputs (k.spelt done));
+        visible = λ u. subst Visible (sym seen) (k.visible done u tt);
+        stays = ap (λ (z : Many (NamedArg A E) Comma). (z, None)) k.stays;
+        same = ap (λ z. z ++ []) k.same;
+      }
+  inputs_again v d l (variadic_inputs {xs = xs} {cs = cs} {x = x} {m = m} i j) =
+      let k = marked_front (IsNamedArg part plainly) (IsNamedArg part clearly) (IsMark false) (IsMark true) (normal.named_arg na ne) (printing.named_arg pa pe) p.mark named_arg_again mark_front true xs cs l m i in
+      let w = variadic_again x m j in
+      let ys = map (normal.named_arg na ne) xs in
+      let last = row (printing.variadic pa pe x) done in
+      let full = marked_full (IsNamedArg part plainly) (IsMark false) (comma_at x.dots) true xs cs l m i in
+      let again_full = marked_full (IsNamedArg part clearly) (IsMark true) (comma_at x.dots) true ys cs (row (printing.inputs pa pe (xs, cs)) done) done (k.spelt done) in
+      let seen = row-append (printing.inputs pa pe (xs, cs)) (printing.more pa pe (xs, cs) (Some x)) done ∙ ap (λ z. row (printing.inputs pa pe (xs, cs)) (row (z ++ printing.variadic pa pe x) done)) full in
+      record {
+        spelt = subst (λ z. AreInputs part clearly (ys, cs) (Some (normal.variadic na ne x)) z) (sym seen) (variadic_inputs (k.spelt last) w.spelt);
+        visible = λ u. subst Visible (sym seen) (k.visible last u (w.visible (k.seen u)));
+        stays = ap (λ (z : Many (NamedArg A E) Comma). (z, Some (normal.variadic na ne (normal.variadic na ne x)))) k.stays ∙ ap (λ z. ((ys, cs), Some z)) w.stays;
+        same = ap (λ z. z ++ (last_comma (comma_at x.dots) ys cs ++ printing.variadic pa pe (normal.variadic na ne x))) k.same ∙ ap (λ z. printing.inputs pa pe (xs, cs) ++ (z ++ printing.variadic pa pe (normal.variadic na ne x))) (again_full ∙ sym full)
+        ∙ ap (λ z. printing.inputs pa pe (xs, cs) ++ (last_comma (comma_at x.dots) xs cs ++ z)) w.same;
+      }
+
+  -- ---- a pointer to a function, over the print of binders
+
+  abbrev np : Option (BoundLifetimes A E) → Option (BoundLifetimes A E)
+  np b = shapes.binder_by (normal.param na ne) b
+
+  abbrev pb : Option (BoundLifetimes A E) → Print
+  pb b = shown.binder_by (printing.param pa pe) b
+
+  binder_whole : (b : Option (BoundLifetimes A E)) (x : Print) → binder_start b ++ (binder_joined (printing.param pa pe) b ++ (binder_end b ++ x)) ≡ pb b ++ x
+  binder_whole None x = refl
+  binder_whole (Some b) x =
+      let o = p.mark b.lt_token in
+      let params = lists.joined (printing.param pa pe) p.mark b.lifetimes.0 b.lifetimes.1 in
+      let c = p.mark b.gt_token in
+      append_assoc (p.word b.for_token) o (params ++ (c ++ x))
+      ∙ ap (λ z. p.word b.for_token ++ z) (ap (λ z. o ++ z) (sym (append_assoc params c x)) ∙ sym (append_assoc o (params ++ c) x))
+      ∙ sym (append_assoc (p.word b.for_token) (o ++ (params ++ c)) x)
+
+  abbrev head : Option token.Unsafe → Option Abi → token.Fn → Print
+  head u i w = printing.optional_word u ++ (printing.optional_abi i ++ p.word w)
+
+  abbrev tail : Paren → Inputs A E → ReturnType A E → Print
+  tail s z o = p.group Parenthesis (stream_of_trees (print_inputs pa pe z)) s.span ++ printing.return_type pa pe o
+
+  fn_ptr_whole : (b : Option (BoundLifetimes A E)) (u : Option token.Unsafe) (i : Option Abi) (w : token.Fn) (s : Paren) (z : Inputs A E) (o : ReturnType A E) → printing.fn_ptr pa pe (fn_ptr_with [] b u i w s z.0 z.1 o) ≡ pb b ++ (head u i w ++ tail s z o)
+  fn_ptr_whole b u i w s z o =
+      fn_ptr_parts pa pe [] b u i w s z.0 z.1 o ∙ ap (λ y. binder_start b ++ (binder_joined (printing.param pa pe) b ++ y)) (append_assoc (binder_end b) (head u i w) (tail s z o)) ∙ binder_whole b (head u i w ++ tail s z o)
+
+  binder_again : (o : Option (BoundLifetimes A E)) (l r : Toks) → IsOptional (IsFor part plainly) o l r → AgainFront (IsOptional (IsFor part clearly)) np pb o l r
+  binder_again o l r absent = record { spelt = λ h. absent; visible = λ h u w. w; seen = λ u. u; stays = refl; same = refl }
+  binder_again o l r (present {a = a} i) = let k = for_again na ne pa pe part again a l r i in record { spelt = λ h. present (k.spelt h); visible = λ h u w. k.visible h u w; seen = λ u. k.seen u; stays = ap Some k.stays; same = k.same }
+
+  pub fn_ptr_again : (e : End) (x : TypeFnPtr A E) (l r : Toks) → IsFnPtr part plainly e x l r → AgainFront (IsFnPtr part clearly e) (normal.fn_ptr na ne) (printing.fn_ptr pa pe) x l r
+  fn_ptr_again e x l r (a_fn_ptr {b = b} {u = u} {i = i} {w = w} {s = s} {v = v} {d = d} {o = o} {m = m} {n = n} {k = q} {c = c} {j = j} ib iu ii iw iv io) =
+      let kb = binder_again b l m ib in
+      let ku = optional_front (IsWord {n = 16}) IsWord (λ (z : token.Unsafe). p.word z) word_front u m n iu in
+      let ki = optional_front IsAbi IsAbi printing.abi abi_again i n q ii in
+      let kw = word_front w q (group Parenthesis s c j) iw in
+      let kv = inputs_again v d c iv in
+      let ko = return_again na ne pa pe part again NoPlus e o j r io in
+      let paren = groups.paren s in
+      let z = normal_inputs na ne (v, d) in
+      let out = normal.return_type na ne o in
+      let to = λ (y : Option (BoundLifetimes A E)) (g : Inputs A E) (h : ReturnType A E). fn_ptr_with [] y u i w paren g.0 g.1 h in
+      let once = fn_ptr_normal na ne [] b u i w paren v d o ∙ ap (λ y. fn_ptr_with y (np b) u i w paren z.0 z.1 out) supplied.own in
+      let twice = fn_ptr_normal na ne [] (np b) u i w paren z.0 z.1 out ∙ ap (λ y. fn_ptr_with y (np (np b)) u i w paren (normal_inputs na ne z).0 (normal_inputs na ne z).1 (normal.return_type na ne out)) supplied.own
+      ∙ ap (λ y. to y (normal_inputs na ne z) (normal.return_type na ne out)) kb.stays ∙ ap (λ y. to (np b) y (normal.return_type na ne out)) kv.stays ∙ ap (λ y. to (np b) z y) ko.stays in
+      let t5 = λ (h : Toks). row (printing.return_type pa pe o) h in
+      let t4 = λ (h : Toks). group Parenthesis s (row (print_inputs pa pe (v, d)) done) (t5 h) in
+      let t3 = λ (h : Toks). row (p.word w) (t4 h) in
+      let t2 = λ (h : Toks). row (printing.optional_abi i) (t3 h) in
+      let t1 = λ (h : Toks). row (printing.optional_word u) (t2 h) in
+      let last = λ (h : Toks). row-append (p.group Parenthesis (stream_of_trees (print_inputs pa pe (v, d))) s) (printing.return_type pa pe o) h ∙ row-group Parenthesis s (print_inputs pa pe (v, d)) (t5 h) tt in
+      let seen = λ (h : Toks). ap (λ y. row y h) (fn_ptr_whole b u i w paren (v, d) o) ∙ row-append (pb b) (head u i w ++ tail paren (v, d) o) h
+      ∙ ap (row (pb b)) (row-append (head u i w) (tail paren (v, d) o) h ∙ ap (row (head u i w)) (last h) ∙ row-append (printing.optional_word u) (printing.optional_abi i ++ p.word w) (t4 h) ∙ ap (row (printing.optional_word u)) (row-append (printing.optional_abi i) (p.word w) (t4 h))) in
+      record {
+        spelt = λ h. subst (λ g. IsFnPtr part clearly e g (row (printing.fn_ptr pa pe x) h) h) (sym once)
+            (subst (λ g. IsFnPtr part clearly e (to (np b) z out) g h) (sym (seen h)) (a_fn_ptr (kb.spelt (t1 h)) (ku.spelt (t2 h)) (ki.spelt (t3 h)) (kw.spelt (t4 h)) kv.spelt (ko.spelt h)));
+        visible = λ h y g. subst Visible (sym (seen h)) (
+          let a = kb.seen y in
+          let b' = ku.seen a in
+          let c' = ki.seen b' in
+          let d' = kw.seen c' in
+          kb.visible (t1 h) y (ku.visible (t2 h) a (ki.visible (t3 h) b' (kw.visible (t4 h) c' (tt, kv.visible d'.1, ko.visible h d'.2 g)))));
+        seen = λ y. ko.seen (kw.seen (ki.seen (ku.seen (kb.seen y)))).2;
+        stays = ap (normal.fn_ptr na ne) once ∙ twice ∙ sym once;
+        same = ap (printing.fn_ptr pa pe) once ∙ fn_ptr_whole (np b) u i w paren z out ∙ ap (λ y. y ++ (head u i w ++ tail paren z out)) kb.same
+        ∙ ap (λ y. pb b ++ (head u i w ++ (p.group Parenthesis (stream_of_trees y) s ++ printing.return_type pa pe out))) kv.same
+        ∙ ap (λ y. pb b ++ (head u i w ++ (p.group Parenthesis (stream_of_trees (print_inputs pa pe (v, d))) s ++ y))) ko.same
+        ∙ sym (fn_ptr_whole b u i w paren (v, d) o);
+      }

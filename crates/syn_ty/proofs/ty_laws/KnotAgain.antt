@@ -1,10 +1,8 @@
 -- The grammar tied: at every height of a tree, what spells a list plainly prints its normal form clearly, where attributes do, and expressions in their places.
-use Rattle.std.proofs.Common.{◌≡◌, ◌⊎◌, ℕ, zero, suc, Bool, true, false, List, [], refl}
+use Rattle.std.proofs.Common.{◌≡◌, ◌⊎◌, ℕ, zero, suc, Bool, true, false, List, []}
 use Rattle.token_core.specs.Lifetimes.{sees_lifetime}
 use Rattle.token_core.specs.Listed.{Anywhere}
 use Rattle.token_core.specs.Prints.{Print}
-use Rattle.token_core.specs.Reads.{sees_mark}
-use Rattle.token_core.specs.Spellings.{is_mark, last_char, more_chars}
 use Rattle.token_core.specs.Tokens as token
 use Rattle.token_core.specs.Toks.{Toks}
 use Rattle.token_core.specs.Trees.{row}
@@ -13,39 +11,30 @@ use Rattle.syn_path.specs.Supplied.{Reprints}
 use Rattle.syn_path.specs.Values.{NormalValues, SpelledValues, Values}
 use Rattle.syn_path.proofs.Words.{AgainFront}
 use Rattle.syn_forms.specs.declared.places.BoundPlace.{BoundPlace}
-use Rattle.syn_forms.specs.declared.places.BoundPlace.TheVariants.{Object, Parameter}
+use Rattle.syn_forms.specs.declared.places.BoundPlace.TheVariants.{Parameter}
 use Rattle.syn_forms.specs.declared.places.ParamPlace.{ParamPlace}
 use Rattle.syn_forms.specs.declared.places.TypePlace.{TypePlace}
-use Rattle.syn_forms.specs.declared.places.TypePlace.TheVariants.{Plus, Bounded}
+use Rattle.syn_forms.specs.declared.places.TypePlace.TheVariants.{Plus}
 use Rattle.syn_ty.specs.generics.Bounds.{IsBound}
 use Rattle.syn_ty.specs.generics.Parameters.{IsParam}
 use Rattle.syn_ty.specs.path.Arguments.{ArgumentPlace, between_angles, ConstraintEnds, IsArgument}
-use Rattle.syn_ty.specs.path.Spelling.{an_angle, IsArguments, some_arguments}
+use Rattle.syn_ty.specs.path.Spelling.{IsArguments}
 use Rattle.syn_ty.specs.ty.Admitted.{IsType}
 use Rattle.syn_ty.specs.ty.Normal as normal
 use Rattle.syn_ty.specs.ty.Parts.{Manner, plainly, clearly, End, Parts}
 use Rattle.syn_ty.specs.ty.Printing as printing
-use Rattle.syn_ty.specs.ty.Spelling.{absent, present}
 use Rattle.syn_ty.specs.ty.Spelt.{spelt_to, turn}
 use Rattle.syn_ty.specs.ty.Trees.{GenericArgument, GenericParam, PathArguments, TypeParamBound, TypeTree}
 use Rattle.syn_ty.proofs.ty_laws.Again.{Again, SuppliedAgain}
 use Rattle.syn_ty.proofs.ty_laws.AnglesAgain.{arguments_written_again}
 use Rattle.syn_ty.proofs.ty_laws.ArgumentsAgain.{argument_again as argument_by}
-use Rattle.syn_ty.proofs.ty_laws.BeginsAgain.{ArgumentsBegin, Kept, TypesAlone}
-use Rattle.syn_ty.proofs.ty_laws.ClausesAgain.{AttrsBegin, ForKept, TypeKept}
-use Rattle.syn_ty.proofs.ty_laws.FirstBoundsAgain.{bound_lives}
+use Rattle.syn_ty.proofs.ty_laws.BoundAgain.{bound_again, bounds_again}
+use Rattle.syn_ty.proofs.ty_laws.ClausesAgain.{AttrsBegin}
 use Rattle.syn_ty.proofs.ty_laws.FirstTypesAgain.{none_first}
 use Rattle.syn_ty.proofs.ty_laws.FormsAgain.{NoneFirst}
+use Rattle.syn_ty.proofs.ty_laws.KeptAgain.{KeptParts, turn_kept, kept_to}
 use Rattle.syn_ty.proofs.ty_laws.ParamsAgain.{BoundsAgain, param_again}
-use Rattle.syn_ty.proofs.ty_laws.PlainBoundsAgain.{bound_again as bound_by, bounds_again}
-use Rattle.syn_ty.proofs.ty_laws.TypesBeginAgain.{LivesKept, type_kept}
-use Rattle.syn_ty.proofs.ty_laws.TypesAgain.{segment_again, path_again, for_again, parens_again, type_again}
-
-module _ {A E : Type 0} (part : Manner → Parts A E) (how : Manner) where
-  spelt_no_gt : (x : PathArguments A E) (l r : Toks) → IsArguments part how x l r → token.sees_gt l ≡ false
-  unfolding sees_mark
-  spelt_no_gt x l r (some_arguments (an_angle absent (is_mark (last_char y)) t g)) = refl
-  spelt_no_gt x l r (some_arguments (an_angle (present (is_mark (more_chars y))) j t g)) = refl
+use Rattle.syn_ty.proofs.ty_laws.TypesAgain.{type_again}
 
 module _ {A E : Type 0} (na : List A → List A) (ne : NormalValues E) (pa : List A → Print) (pe : Values E) where
   -- ---- what is known of the trees within: also how their prints begin
@@ -55,24 +44,20 @@ module _ {A E : Type 0} (na : List A → List A) (ne : NormalValues E) (pa : Lis
     pub supplied : SuppliedAgain na ne pa pe part
     pub len_stays : (x : E) (l : Toks) → (part plainly).len x l → ne.len (ne.len x) ≡ ne.len x
     pub none : NoneFirst pa pe part
-    pub lives : LivesKept pa pe part
-    pub arguments_begin : ArgumentsBegin pa pe part
-    pub types_alone : TypesAlone pa pe part
-    pub no_for : ForKept pa pe part
-    pub no_generics : TypeKept pa pe part
+    pub kept : KeptParts pa pe part
     pub attrs_begin : AttrsBegin pa pe part
 
   -- ---- one turn
 
   module _ (part : Manner → Parts A E) (k : Known part) where
     pub type_turn : (place : TypePlace) (e : End) (x : TypeTree A E) (l r : Toks) → IsType part plainly place e x l r → AgainFront (IsType part clearly place e) (normal.ty na ne) (printing.ty pa pe) x l r
-    type_turn = type_again na ne pa pe part k.again k.supplied k.lives k.none k.len_stays
+    type_turn = type_again na ne pa pe part k.again k.supplied k.kept.lives k.none k.len_stays
 
     pub none_turn : (place : TypePlace) (e : End) (x : TypeTree A E) (l r : Toks) → IsType part plainly place e x l r → sees_lifetime l ≡ false → (k : Toks) → sees_lifetime (row (printing.ty pa pe x) k) ≡ false
     none_turn = none_first na ne pa pe part k.again k.supplied k.none k.len_stays
 
     pub bound_turn : (place : BoundPlace) (e : End) (x : TypeParamBound A E) (l r : Toks) → IsBound part plainly place e x l r → AgainFront (IsBound part clearly place e) (normal.bound na ne) (printing.bound pa pe) x l r
-    bound_turn = bound_by na ne pa pe part (segment_again na ne pa pe part k.again) (path_again na ne pa pe part k.again) (parens_again na ne pa pe part k.again k.supplied) (for_again na ne pa pe part k.again)
+    bound_turn = bound_again na ne pa pe part k.again k.supplied
 
     -- bounds after a colon
     pub bounds_of_turn : BoundsAgain na ne pa pe part
@@ -89,13 +74,6 @@ module _ {A E : Type 0} (na : List A → List A) (ne : NormalValues E) (pa : Lis
 
     pub arguments_turn : (x : PathArguments A E) (l r : Toks) → IsArguments part plainly x l r → AgainFront (IsArguments part clearly) (normal.arguments na ne) (printing.arguments pa pe AsWritten) x l r
     arguments_turn = arguments_written_again na ne pa pe part k.again
-
-    -- they begin with `::` or `<`
-    pub arguments_no_gt : (x : PathArguments A E) (l r : Toks) → IsArguments part plainly x l r → (k : Toks) → token.sees_gt (row (printing.arguments pa pe AsWritten x) k) ≡ false
-    arguments_no_gt x l r i h = let q = printing.arguments pa pe AsWritten x in spelt_no_gt part clearly (normal.arguments na ne x) (row q h) h ((arguments_turn x l r i).spelt h)
-
-    pub kept_turn : (place : TypePlace) (e : End) (x : TypeTree A E) (l r : Toks) → IsType part plainly place e x l r → Kept l r (printing.ty pa pe x)
-    kept_turn = type_kept pa pe part k.arguments_begin k.types_alone k.lives
 
   -- ---- attributes, and expressions in their places, however high the trees that hold them
 
@@ -124,11 +102,7 @@ module _ {A E : Type 0} (na : List A → List A) (ne : NormalValues E) (pa : Lis
         supplied = supplied_turn part;
         len_stays = g.len_stays;
         none = none_turn part k;
-        lives = bound_lives pa pe part plainly Object;
-        arguments_begin = arguments_no_gt part k;
-        types_alone = λ e x l r i. (kept_turn part k Plus e x l r i).alone;
-        no_for = λ e x l r i. (kept_turn part k Bounded e x l r i).for_kept;
-        no_generics = λ e x l r i. (kept_turn part k Bounded e x l r i).lt_kept;
+        kept = turn_kept pa pe shown spelt part k.kept;
         attrs_begin = g.attrs_begin;
       }
 
@@ -139,11 +113,7 @@ module _ {A E : Type 0} (na : List A → List A) (ne : NormalValues E) (pa : Lis
         supplied = record { attrs = λ x l r i. absurd i; own = g.own; silent = g.silent; len = λ x l i. absurd i; const_argument = λ x l r i. absurd i; const_default = λ x l r i. absurd i };
         len_stays = λ x l i. absurd i;
         none = λ p e x l r i. absurd i;
-        lives = λ e x l r i. absurd i;
-        arguments_begin = λ x l r i. absurd i;
-        types_alone = λ e x l r i. absurd i;
-        no_for = λ e x l r i. absurd i;
-        no_generics = λ e x l r i. absurd i;
+        kept = kept_to pa pe shown spelt zero;
         attrs_begin = λ x l r i. absurd i;
       }
       known_to (suc n) = higher (To n) (known_to n)

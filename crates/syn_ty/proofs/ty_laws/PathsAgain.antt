@@ -109,6 +109,15 @@ module _ {A E : Type 0} (na : List A → List A) (ne : NormalValues E) (pa : Lis
         let rest = row (paths.segments pa pe style (xs, cs)) k in
         ap token.sees_try (row-append (p.mark c) (paths.segments pa pe style (xs, cs)) k) ∙ sep_no_try c (row (p.mark c) rest) rest (mark_again false c l m rest i)
 
+-- ---- in the style of types
+
+module _ {A E : Type 0} (na : List A → List A) (ne : NormalValues E) (pa : List A → Print) (pe : Values E) (part : Manner → Parts A E) (again : Again na ne pa pe part) where
+  pub segment_written_again : (x : PathSegment A E) (l r : Toks) → IsSegment part plainly AsWritten x l r → AgainFront (IsSegment part clearly AsWritten) (normal.segment na ne) (paths.segment pa pe AsWritten) x l r
+  segment_written_again = segment_again na ne pa pe part AsWritten (written_again na ne pa pe part again)
+
+  pub path_written_again : (x : Path A E) (l r : Toks) → IsPath part plainly AsWritten x l r → AgainFront (IsPath part clearly AsWritten) (normal.path na ne) (paths.path pa pe AsWritten) x l r
+  path_written_again = path_again na ne pa pe part AsWritten (written_again na ne pa pe part again)
+
 -- ---- where the relations are tied
 
 module _ {A E : Type 0} (na : List A → List A) (ne : NormalValues E) (pa : List A → Print) (pe : Values E) (attrs : Bool → List A → Toks → Toks → Type 0) (values : SpelledValues E) (style : PathStyle) where

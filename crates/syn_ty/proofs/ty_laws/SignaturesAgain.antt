@@ -1,25 +1,21 @@
--- What a function returns, arguments in parentheses, ABIs and values joined by marks print their normal form clearly before what may follow, where what they hold does.
+-- What a function returns, arguments in parentheses, ABIs and values that each have their mark print their normal form clearly, where what they hold does.
 use Rattle.std.proofs.Common.{◌≡◌, Bool, true, false, List, [], ◌∷◌, ◌++◌, map, Option, None, refl, sym, ◌∙◌, ap, subst}
 use Rattle.token_core.specs.declared.lifetime.Lifetime.{Lifetime}
 use Rattle.token_core.specs.declared.lit.LitStr.{LitStr}
 use Rattle.token_core.specs.declared.tree.Delimiter.TheVariants.{Parenthesis}
-use Rattle.token_core.specs.declared.tree.Spacing.TheVariants.{Alone}
 use Rattle.token_core.specs.Groups as groups
 use Rattle.token_core.specs.Lifetimes as lifetimes
-use Rattle.token_core.specs.Listed.{AreListed, none_left, last_value, value_and_mark, Anywhere}
+use Rattle.token_core.specs.Listed.{Anywhere}
 use Rattle.token_core.specs.Lists as lists
 use Rattle.token_core.specs.Lits as lits
 use Rattle.token_core.specs.Loops.{Many}
 use Rattle.token_core.specs.Prints as p
 use Rattle.token_core.specs.Prints.{Print}
-use Rattle.token_core.specs.Reads.{sees_mark}
 use Rattle.token_core.specs.Rebuilt.{Visible}
-use Rattle.token_core.specs.Spellings.{IsMark, is_mark, last_char, IsLifetime, IsStr}
-use Rattle.token_core.specs.Tokens as token
-use Rattle.token_core.specs.Toks.{Toks, done, group}
-use Rattle.token_core.specs.Trees.{punct, row, stream_of_trees}
+use Rattle.token_core.specs.Spellings.{IsMark, IsLifetime, IsStr}
+use Rattle.token_core.specs.Toks.{Toks, done}
+use Rattle.token_core.specs.Trees.{row, stream_of_trees}
 use Rattle.token_core.proofs.LitSpells.{str_again, str_visible, str_whole}
-use Rattle.token_core.proofs.Rebuilds.{tree-punct}
 use Rattle.token_core.proofs.Rows.{row-append}
 use Rattle.token_core.proofs.WordSpells.{lifetime_again, lifetime_visible, lifetime_whole}
 use Rattle.syn_path.specs.Values.{NormalValues, Values}
@@ -38,54 +34,9 @@ use Rattle.syn_ty.specs.ty.Printing as printing
 use Rattle.syn_ty.specs.ty.Printing.{last_comma}
 use Rattle.syn_ty.specs.ty.Spelling.{Relation, IsOptional, absent, present}
 use Rattle.syn_ty.specs.ty.Trees.{NamedArg, Parenthesized, ReturnType, TypeTree}
-use Rattle.syn_ty.specs.ty.Types.{Comma, Semi, named_arg_of}
+use Rattle.syn_ty.specs.ty.Types.{Comma, named_arg_of}
 use Rattle.syn_ty.proofs.ty_laws.Again.{Again, SuppliedAgain}
-use Rattle.syn_ty.proofs.ty_laws.Reprint.{mark_front}
-
--- ---- what may follow
-
--- Before what a print may stand, where other tokens followed what was spelt: the end, a comma and a semicolon may always follow.
-pub record After : Type 1 where
-  pub may : Toks → Toks → Type 0
-  pub at_end : (r : Toks) → may r done
-  pub at_comma : (c : Comma) (m k r h : Toks) → IsMark false c m k → may r (row (p.mark c) h)
-  pub at_semi : (c : Semi) (m k r h : Toks) → IsMark false c m k → may r (row (p.mark c) h)
-
--- before what may follow
-abbrev pub Before : {A : Type 0} → After → Relation A → Toks → Relation A
-Before f S r x m k = f.may r k → S x m k
-
--- anything
-abbrev pub anything : After
-anything = record { may = λ r k. Unit {0}; at_end = λ r. tt; at_comma = λ c m k r h i. tt; at_semi = λ c m k r h i. tt }
-
-pub end_no_equals : token.sees_equals done ≡ false
-unfolding sees_mark
-end_no_equals = refl
-
-pub comma_no_equals : (c : Comma) (m k h : Toks) → IsMark false c m k → token.sees_equals (row (p.mark c) h) ≡ false
-unfolding sees_mark
-comma_no_equals c m k h (is_mark (last_char {a = a} x)) = ap token.sees_equals (tree-punct (punct 44 Alone a) h)
-
-pub semi_no_equals : (c : Semi) (m k h : Toks) → IsMark false c m k → token.sees_equals (row (p.mark c) h) ≡ false
-unfolding sees_mark
-semi_no_equals c m k h (is_mark (last_char {a = a} x)) = ap token.sees_equals (tree-punct (punct 59 Alone a) h)
-
--- No `=` where none followed: a `!` that is Joint would be glued to it, the one mark that ends a form and begins a longer mark.
-abbrev pub no_equals : After
-no_equals = record {
-  may = λ r k. token.sees_equals r ≡ false → token.sees_equals k ≡ false;
-  at_end = λ r q. end_no_equals;
-  at_comma = λ c m k r h i q. comma_no_equals c m k h i;
-  at_semi = λ c m k r h i q. semi_no_equals c m k h i;
-}
-
--- what prints clearly before anything prints so before what may follow
-pub before_any : {A : Type 0} (f : After) (S : Relation A) (n : A → A) (pr : A → Print) (x : A) (l r : Toks) → AgainFront S n pr x l r → AgainFront (Before f S r) n pr x l r
-before_any f S n pr x l r k = record { spelt = λ h w. k.spelt h; visible = λ h u w. k.visible h u w; seen = λ u. k.seen u; stays = k.stays; same = k.same }
-
-pub freely : {A : Type 0} (S : Relation A) (n : A → A) (pr : A → Print) (x : A) (l r : Toks) → AgainFront (Before anything S r) n pr x l r → AgainFront S n pr x l r
-freely S n pr x l r k = record { spelt = λ h. k.spelt h tt; visible = λ h u w. k.visible h u w; seen = λ u. k.seen u; stays = k.stays; same = k.same }
+use Rattle.syn_ty.proofs.ty_laws.Reprint.{listed_front, mark_front}
 
 -- where the normal form of a tree is known, and that of its normal form
 module _ {A : Type 0} (S : Relation A) (n m : A → A) (pr : A → Print) where
@@ -116,43 +67,10 @@ lifetime_front x l r i =
       same = refl;
     }
 
--- ---- values joined by marks, of which each stands before a mark or at the end
-
-module _ (f : After) {A P : Type 0} (V W : Bool → Relation A) (M N : Relation P) (Ends : Bool → Type 0) (n : A → A) (pr : A → Print) (g : P → Print)
-    (value : (b : Bool) (x : A) (l r : Toks) → V b x l r → AgainFront (Before f (W b) r) n pr x l r) (joint : (x : P) (l r : Toks) → M x l r → AgainFront N (λ (z : P). z) g x l r)
-    (ends : (x : P) (l r s h : Toks) → M x l r → f.may s (row (g x) h)) where
-  pub listed_before : (b : Bool) (xs : List A) (ps : List P) (l r : Toks) → AreListed V M Ends b xs ps l r →
-      AgainFront (Before f (λ (z : Many A P). AreListed W N Ends b z.0 z.1) r) (λ (z : Many A P). (map n z.0, z.1)) (λ (z : Many A P). lists.joined pr g z.0 z.1) (xs, ps) l r
-  listed_before b xs ps l r (none_left e) = record { spelt = λ h w. none_left e; visible = λ h u w. w; seen = λ u. u; stays = refl; same = refl }
-  listed_before b xs ps l r (last_value {x = x} i) =
-      let k = value b x l r i in
-      let seen = λ (h : Toks). row-append (pr x) [] h in
-      record {
-        spelt = λ h w. subst (λ z. AreListed W N Ends b (n x ∷ []) [] z h) (sym (seen h)) (last_value (k.spelt h w));
-        visible = λ h u w. subst Visible (sym (seen h)) (k.visible h u w);
-        seen = λ u. k.seen u;
-        stays = ap (λ z. (z ∷ [], [])) k.stays;
-        same = ap (λ z. z ++ []) k.same;
-      }
-  listed_before b xs ps l r (value_and_mark {x = x} {p = q} {xs = ys} {ps = qs} {m = m} {k = o} i j t) =
-      let k = value b x l m i in
-      let d = joint q m o j in
-      let c = listed_before false ys qs o r t in
-      let rest = lists.joined pr g ys qs in
-      let seen = λ (h : Toks). row-append (pr x) (g q ++ rest) h ∙ ap (row (pr x)) (row-append (g q) rest h) in
-      record {
-        spelt = λ h w. subst (λ z. AreListed W N Ends b (n x ∷ map n ys) (q ∷ qs) z h) (sym (seen h)) (value_and_mark (k.spelt (row (g q) (row rest h)) (ends q m o m (row rest h) j)) (d.spelt (row rest h)) (c.spelt h w));
-        visible = λ h u w. subst Visible (sym (seen h)) (k.visible (row (g q) (row rest h)) u (d.visible (row rest h) (k.seen u) (c.visible h (d.seen (k.seen u)) w)));
-        seen = λ u. c.seen (d.seen (k.seen u));
-        stays = ap (λ z. (z ∷ map n (map n ys), q ∷ qs)) k.stays ∙ ap (λ (z : Many A P). (n x ∷ z.0, q ∷ qs)) c.stays;
-        same = ap (λ z. z ++ (g q ++ lists.joined pr g (map n ys) qs)) k.same ∙ ap (λ z. pr x ++ (g q ++ z)) c.same;
-      }
-
 -- ---- values that each have their mark
 
-module _ (f : After) {A P : Type 0} (V W : Bool → Relation A) (M N : Relation P) (n : A → A) (pr : A → Print) (g : P → Print)
-    (value : (b : Bool) (x : A) (l r : Toks) → V b x l r → AgainFront (Before f (W b) r) n pr x l r) (joint : (x : P) (l r : Toks) → M x l r → AgainFront N (λ (z : P). z) g x l r)
-    (ends : (x : P) (l r s h : Toks) → M x l r → f.may s (row (g x) h)) where
+module _ {A P : Type 0} (V W : Bool → Relation A) (M N : Relation P) (n : A → A) (pr : A → Print) (g : P → Print)
+    (value : (b : Bool) (x : A) (l r : Toks) → V b x l r → AgainFront (W b) n pr x l r) (joint : (x : P) (l r : Toks) → M x l r → AgainFront N (λ (z : P). z) g x l r) where
   pub marked_front : (b : Bool) (xs : List A) (ps : List P) (l r : Toks) → AreMarked V M b xs ps l r →
       AgainFront (λ (z : Many A P). AreMarked W N b z.0 z.1) (λ (z : Many A P). (map n z.0, z.1)) (λ (z : Many A P). lists.joined pr g z.0 z.1) (xs, ps) l r
   marked_front b xs ps l r no_further = record { spelt = λ h. no_further; visible = λ h u w. w; seen = λ u. u; stays = refl; same = refl }
@@ -163,7 +81,7 @@ module _ (f : After) {A P : Type 0} (V W : Bool → Relation A) (M N : Relation 
       let rest = lists.joined pr g ys qs in
       let seen = λ (h : Toks). row-append (pr x) (g q ++ rest) h ∙ ap (row (pr x)) (row-append (g q) rest h) in
       record {
-        spelt = λ h. subst (λ z. AreMarked W N b (n x ∷ map n ys) (q ∷ qs) z h) (sym (seen h)) (one_further (k.spelt (row (g q) (row rest h)) (ends q m o m (row rest h) j)) (d.spelt (row rest h)) (c.spelt h));
+        spelt = λ h. subst (λ z. AreMarked W N b (n x ∷ map n ys) (q ∷ qs) z h) (sym (seen h)) (one_further (k.spelt (row (g q) (row rest h))) (d.spelt (row rest h)) (c.spelt h));
         visible = λ h u w. subst Visible (sym (seen h)) (k.visible (row (g q) (row rest h)) u (d.visible (row rest h) (k.seen u) (c.visible h (d.seen (k.seen u)) w)));
         seen = λ u. c.seen (d.seen (k.seen u));
         stays = ap (λ z. (z ∷ map n (map n ys), q ∷ qs)) k.stays ∙ ap (λ (z : Many A P). (n x ∷ z.0, q ∷ qs)) c.stays;
@@ -208,76 +126,57 @@ abi_again x l r (an_abi {w = w} {o = o} {m = m} i j) =
 
 -- ---- what a function returns, and arguments in parentheses
 
-module _ {A E : Type 0} (na : List A → List A) (ne : NormalValues E) (pa : List A → Print) (pe : Values E) (part : Manner → Parts A E) (f : After)
-    (again : (p : TypePlace) (e : End) (x : TypeTree A E) (l r : Toks) → (part plainly).ty p e x l r → AgainFront (Before f ((part clearly).ty p e) r) (normal.ty na ne) (printing.ty pa pe) x l r) where
+module _ {A E : Type 0} (na : List A → List A) (ne : NormalValues E) (pa : List A → Print) (pe : Values E) (part : Manner → Parts A E) (again : Again na ne pa pe part) where
   abbrev nt : TypeTree A E → TypeTree A E
   nt = normal.ty na ne
 
   abbrev pt : TypeTree A E → Print
   pt = printing.ty pa pe
 
-  pub return_front : (place : TypePlace) (e : End) (x : ReturnType A E) (l r : Toks) → IsReturn part plainly place e x l r → AgainFront (Before f (IsReturn part clearly place e) r) (normal.return_type na ne) (printing.return_type pa pe) x l r
-  return_front place e x l r no_output = record { spelt = λ h t. no_output; visible = λ h u w. w; seen = λ u. u; stays = refl; same = refl }
-  return_front place e x l r (an_output {c = c} {x = y} {m = m} i j) =
+  pub return_again : (place : TypePlace) (e : End) (x : ReturnType A E) (l r : Toks) → IsReturn part plainly place e x l r → AgainFront (IsReturn part clearly place e) (normal.return_type na ne) (printing.return_type pa pe) x l r
+  return_again place e x l r no_output = record { spelt = λ h. no_output; visible = λ h u w. w; seen = λ u. u; stays = refl; same = refl }
+  return_again place e x l r (an_output {c = c} {x = y} {m = m} i j) =
       let d = mark_front c l m i in
-      let k = again place e y m r j in
+      let k = again.ty place e y m r j in
       let seen = λ (h : Toks). row-append (p.mark c) (pt y) h in
       record {
-        spelt = λ h t. subst (λ z. IsReturn part clearly place e (output.«Type» c (nt y)) z h) (sym (seen h)) (an_output (d.spelt (row (pt y) h)) (k.spelt h t));
+        spelt = λ h. subst (λ z. IsReturn part clearly place e (output.«Type» c (nt y)) z h) (sym (seen h)) (an_output (d.spelt (row (pt y) h)) (k.spelt h));
         visible = λ h u w. subst Visible (sym (seen h)) (d.visible (row (pt y) h) u (k.visible h (d.seen u) w));
         seen = λ u. k.seen (d.seen u);
         stays = ap (output.«Type» c) k.stays;
         same = ap (λ z. p.mark c ++ z) k.same;
       }
 
-  -- no attributes are their own normal form, and print nothing
-  module _ (own : na [] ≡ []) (silent : pa [] ≡ []) where
+  module _ (supplied : SuppliedAgain na ne pa pe part) where
     input_is : (x : TypeTree A E) → printing.named_arg pa pe (named_arg_of [] None x) ≡ pt x
-    input_is x = ap (λ z. (z ++ []) ++ pt x) silent
+    input_is x = ap (λ z. (z ++ []) ++ pt x) supplied.silent
 
     abbrev typed : NamedArg A E → NamedArg A E
     typed x = named_arg_of [] None (nt x.ty)
 
-    pub input_front : (x : NamedArg A E) (l r : Toks) → IsInput part plainly x l r → AgainFront (Before f (IsInput part clearly) r) (normal.named_arg na ne) (printing.named_arg pa pe) x l r
-    input_front x l r (an_input {e = e} {x = y} i) =
-        let k = again Plus e y l r i in
+    pub input_again : (x : NamedArg A E) (l r : Toks) → IsInput part plainly x l r → AgainFront (IsInput part clearly) (normal.named_arg na ne) (printing.named_arg pa pe) x l r
+    input_again x l r (an_input {e = e} {x = y} i) =
+        let k = again.ty Plus e y l r i in
         let seen = λ (h : Toks). ap (λ z. row z h) (input_is y) in
-        normal_front (Before f (IsInput part clearly) r) (normal.named_arg na ne) typed (printing.named_arg pa pe) (named_arg_of [] None y) l r (ap (λ z. named_arg_of z None (nt y)) own) (ap (λ z. named_arg_of z None (nt (nt y))) own) (record {
-          spelt = λ h t. subst (λ z. IsInput part clearly (named_arg_of [] None (nt y)) z h) (sym (seen h)) (an_input (k.spelt h t));
+        normal_front (IsInput part clearly) (normal.named_arg na ne) typed (printing.named_arg pa pe) (named_arg_of [] None y) l r (ap (λ z. named_arg_of z None (nt y)) supplied.own) (ap (λ z. named_arg_of z None (nt (nt y))) supplied.own) (record {
+          spelt = λ h. subst (λ z. IsInput part clearly (named_arg_of [] None (nt y)) z h) (sym (seen h)) (an_input (k.spelt h));
           visible = λ h u w. subst Visible (sym (seen h)) (k.visible h u w);
           seen = λ u. k.seen u;
           stays = ap (named_arg_of [] None) k.stays;
           same = input_is (nt y) ∙ k.same ∙ sym (input_is y);
         })
 
-    pub parens_front : (e : End) (x : Parenthesized A E) (l r : Toks) → IsParens part plainly e x l r → AgainFront (Before f (IsParens part clearly e) r) (normal.parenthesized na ne) (printing.parenthesized pa pe) x l r
-    parens_front e x l r (a_parens {s = s} {xs = xs} {cs = cs} {o = o} {c = c} {m = m} i j) =
-        let k = listed_before f (λ (b : Bool). IsInput part plainly) (λ (b : Bool). IsInput part clearly) (IsMark false) (IsMark true) Anywhere (normal.named_arg na ne) (printing.named_arg pa pe) p.mark (λ b. input_front) mark_front (λ z v w q h. f.at_comma z v w q h) true xs cs c done i in
-        let w = return_front NoPlus e o m r j in
+    pub parens_again : (e : End) (x : Parenthesized A E) (l r : Toks) → IsParens part plainly e x l r → AgainFront (IsParens part clearly e) (normal.parenthesized na ne) (printing.parenthesized pa pe) x l r
+    parens_again e x l r (a_parens {s = s} {xs = xs} {cs = cs} {o = o} {c = c} {m = m} i j) =
+        let k = listed_front (λ (b : Bool). IsInput part plainly) (λ (b : Bool). IsInput part clearly) (IsMark false) (IsMark true) Anywhere (normal.named_arg na ne) (printing.named_arg pa pe) p.mark (λ b. input_again) mark_front true xs cs c done i in
+        let w = return_again NoPlus e o m r j in
         let all = printing.inputs pa pe (xs, cs) in
         let last = λ (h : Toks). row (printing.return_type pa pe o) h in
         let seen = λ (h : Toks). row-append (p.group Parenthesis (stream_of_trees all) s) (printing.return_type pa pe o) h ∙ row-group Parenthesis s all (last h) tt in
         record {
-          spelt = λ h t. subst (λ z. IsParens part clearly e (parens_of (groups.paren s) (map (normal.named_arg na ne) xs, cs) (normal.return_type na ne o)) z h) (sym (seen h)) (a_parens (k.spelt done (f.at_end done)) (w.spelt h t));
+          spelt = λ h. subst (λ z. IsParens part clearly e (parens_of (groups.paren s) (map (normal.named_arg na ne) xs, cs) (normal.return_type na ne o)) z h) (sym (seen h)) (a_parens (k.spelt done) (w.spelt h));
           visible = λ h u v. subst Visible (sym (seen h)) (tt, k.visible done u.1 tt, w.visible h u.2 v);
           seen = λ u. w.seen u.2;
           stays = ap (λ z. parens_of (groups.paren s) z (normal.return_type na ne (normal.return_type na ne o))) k.stays ∙ ap (parens_of (groups.paren s) (map (normal.named_arg na ne) xs, cs)) w.stays;
           same = ap (λ z. p.group Parenthesis (stream_of_trees z) s ++ printing.return_type pa pe (normal.return_type na ne o)) k.same ∙ ap (λ z. p.group Parenthesis (stream_of_trees all) s ++ z) w.same;
         }
-
--- ---- over all that is known of what a form holds
-
-module _ {A E : Type 0} (na : List A → List A) (ne : NormalValues E) (pa : List A → Print) (pe : Values E) (part : Manner → Parts A E) where
-  pub type_before : (f : After) → Again na ne pa pe part → (p : TypePlace) (e : End) (x : TypeTree A E) (l r : Toks) → (part plainly).ty p e x l r → AgainFront (Before f ((part clearly).ty p e) r) (normal.ty na ne) (printing.ty pa pe) x l r
-  type_before f again p e x l r i = before_any f ((part clearly).ty p e) (normal.ty na ne) (printing.ty pa pe) x l r (again.ty p e x l r i)
-
-  module _ (again : Again na ne pa pe part) where
-    pub return_again : (place : TypePlace) (e : End) (x : ReturnType A E) (l r : Toks) → IsReturn part plainly place e x l r → AgainFront (IsReturn part clearly place e) (normal.return_type na ne) (printing.return_type pa pe) x l r
-    return_again place e x l r i = freely (IsReturn part clearly place e) (normal.return_type na ne) (printing.return_type pa pe) x l r (return_front na ne pa pe part anything (type_before anything again) place e x l r i)
-
-    module _ (supplied : SuppliedAgain na ne pa pe part) where
-      pub input_again : (x : NamedArg A E) (l r : Toks) → IsInput part plainly x l r → AgainFront (IsInput part clearly) (normal.named_arg na ne) (printing.named_arg pa pe) x l r
-      input_again x l r i = freely (IsInput part clearly) (normal.named_arg na ne) (printing.named_arg pa pe) x l r (input_front na ne pa pe part anything (type_before anything again) supplied.own supplied.silent x l r i)
-
-      pub parens_again : (e : End) (x : Parenthesized A E) (l r : Toks) → IsParens part plainly e x l r → AgainFront (IsParens part clearly e) (normal.parenthesized na ne) (printing.parenthesized pa pe) x l r
-      parens_again e x l r i = freely (IsParens part clearly e) (normal.parenthesized na ne) (printing.parenthesized pa pe) x l r (parens_front na ne pa pe part anything (type_before anything again) supplied.own supplied.silent e x l r i)

@@ -1,4 +1,4 @@
--- The path of a bound prints its normal form clearly, where paths, segments and parentheses do: what stood between the last word and its parentheses is not printed.
+-- The path of a bound prints its normal form clearly, where what it holds does: what stood between the last word and its parentheses is not printed.
 use Rattle.std.proofs.Common.{◌≡◌, false, true, List, [], ◌∷◌, ◌++◌, map, Option, refl, sym, ◌∙◌, ap, subst}
 use Rattle.token_core.specs.declared.tree.Ident.{Ident}
 use Rattle.token_core.specs.Listed.{none_left, last_value, value_and_mark}
@@ -24,17 +24,19 @@ use Rattle.syn_ty.specs.generics.NormalShapes.{many}
 use Rattle.syn_ty.specs.path.Paths.{Sep}
 use Rattle.syn_ty.specs.path.Printing.{segment, segments, path}
 use Rattle.syn_ty.specs.path.Shapes.{colon}
-use Rattle.syn_ty.specs.path.Signed.{IsDropped, nothing_dropped, a_sep_dropped, a_pair_dropped, IsParens, IsSigned, a_signed, AreSigned, signed_last, signed_after, IsBoundPath, without_parens, with_parens}
+use Rattle.syn_ty.specs.path.Signed.{IsDropped, nothing_dropped, a_sep_dropped, a_pair_dropped, IsSigned, a_signed, AreSigned, signed_last, signed_after, IsBoundPath, without_parens, with_parens}
 use Rattle.syn_ty.specs.path.Spelling.{IsPath, a_path, AreSegments, IsSegment, a_word, a_word_with_arguments}
 use Rattle.syn_ty.specs.ty.Normal as normal
 use Rattle.syn_ty.specs.ty.Parts.{Manner, plainly, clearly, End, Parts}
 use Rattle.syn_ty.specs.ty.Printing as printing
 use Rattle.syn_ty.specs.ty.Spelling.{IsOptional, absent, present}
 use Rattle.syn_ty.specs.ty.Trees.{Parenthesized, Path, PathSegment}
+use Rattle.syn_ty.proofs.ty_laws.Again.{Again, SuppliedAgain}
 use Rattle.syn_ty.proofs.ty_laws.NormalsAgain.{normal-Parenthesized}
+use Rattle.syn_ty.proofs.ty_laws.PathsAgain.{path_written_again, segment_written_again}
 use Rattle.syn_ty.proofs.ty_laws.Prints.{arguments-Parenthesized}
 use Rattle.syn_ty.proofs.ty_laws.Reprint.{mark_front}
-use Rattle.syn_ty.proofs.ty_laws.SignaturesAgain.{After, Before}
+use Rattle.syn_ty.proofs.ty_laws.SignaturesAgain.{parens_again}
 
 -- a leading `::`, where it is there
 pub colon_front : (c : Option Sep) (l r : Toks) → IsOptional (IsMark false) c l r → AgainFront (IsOptional (IsMark true)) (λ (z : Option Sep). z) colon c l r
@@ -90,60 +92,58 @@ module _ {A E : Type 0} (na : List A → List A) (ne : NormalValues E) (pa : Lis
   once : (y : Parenthesized A E) → normal.arguments na ne (a.Parenthesized y) ≡ a.Parenthesized (normal.parenthesized na ne y)
   once y = normal-Parenthesized na ne y
 
-  module _ (next : After) (parens_front : (e : End) (x : Parenthesized A E) (l r : Toks) → IsParens part plainly e x l r → AgainFront (Before next (IsParens part clearly e) r) (normal.parenthesized na ne) (printing.parenthesized pa pe) x l r) where
-    pub signed_front : (e : End) (x : PathSegment A E) (l r : Toks) → IsSigned part plainly e x l r → AgainFront (Before next (IsSigned part clearly e) r) (normal.segment na ne) (segment pa pe AsWritten) x l r
-    signed_front e x l r (a_signed {i = i} {x = y} {l = n} {m = m} h d j) =
-        let k = parens_front e y m r j in
+  module _ (again : Again na ne pa pe part) (supplied : SuppliedAgain na ne pa pe part) where
+    pub signed_again : (e : End) (x : PathSegment A E) (l r : Toks) → IsSigned part plainly e x l r → AgainFront (IsSigned part clearly e) (normal.segment na ne) (segment pa pe AsWritten) x l r
+    signed_again e x l r (a_signed {i = i} {x = y} {l = n} {m = m} h d j) =
+        let k = parens_again na ne pa pe part again supplied e y m r j in
         let z = normal.parenthesized na ne y in
         let seen = λ (b : Toks). tree-ident i (row (args y) b) ∙ ap (λ q. word i (row q b)) (args_are y) in
         record {
-          spelt = λ b w. subst (λ q. IsSigned part clearly e (with_arguments i q) (row (segment pa pe AsWritten x) b) b) (sym (once y))
-              (subst (λ q. IsSigned part clearly e (with_arguments i (a.Parenthesized z)) q b) (sym (seen b)) (a_signed h nothing_dropped (k.spelt b w)));
+          spelt = λ b. subst (λ q. IsSigned part clearly e (with_arguments i q) (row (segment pa pe AsWritten x) b) b) (sym (once y))
+              (subst (λ q. IsSigned part clearly e (with_arguments i (a.Parenthesized z)) q b) (sym (seen b)) (a_signed h nothing_dropped (k.spelt b)));
           visible = λ b u w. subst Visible (sym (seen b)) (k.visible b (dropped_visible i.text n m d u) w);
           seen = λ u. k.seen (dropped_visible i.text n m d u);
           stays = ap (λ q. with_arguments i (normal.arguments na ne q)) (once y) ∙ ap (with_arguments i) (once z) ∙ ap (λ q. with_arguments i (a.Parenthesized q)) k.stays ∙ ap (with_arguments i) (sym (once y));
           same = ap (λ q. p.ident i ++ printing.arguments pa pe AsWritten q) (once y) ∙ ap (λ q. p.ident i ++ q) (args_are z ∙ k.same ∙ sym (args_are y));
         }
 
-    module _ (segment_front : (x : PathSegment A E) (l r : Toks) → IsSegment part plainly AsWritten x l r → AgainFront (IsSegment part clearly AsWritten) (normal.segment na ne) (segment pa pe AsWritten) x l r) where
-      pub are_signed_front : (e : End) (xs : List (PathSegment A E)) (cs : List Sep) (l r : Toks) → AreSigned part plainly e xs cs l r →
-          AgainFront (Before next (λ (z : Many (PathSegment A E) Sep). AreSigned part clearly e z.0 z.1) r) (many (normal.segment na ne)) (segments pa pe AsWritten) (xs, cs) l r
-      are_signed_front e xs cs l r (signed_last {s = x} i) =
-          let k = signed_front e x l r i in
-          let seen = λ (b : Toks). row-append (segment pa pe AsWritten x) [] b in
-          record {
-            spelt = λ b w. subst (λ q. AreSigned part clearly e (normal.segment na ne x ∷ []) [] q b) (sym (seen b)) (signed_last (k.spelt b w));
-            visible = λ b u w. subst Visible (sym (seen b)) (k.visible b u w);
-            seen = λ u. k.seen u;
-            stays = ap (λ q. (q ∷ [], [])) k.stays;
-            same = ap (λ q. q ++ []) k.same;
-          }
-      are_signed_front e xs cs l r (signed_after {s = x} {c = c} {xs = ys} {cs = ds} {m = m} {k = o} i j t) =
-          let k = segment_front x l m i in
-          let d = mark_front c m o j in
-          let h = are_signed_front e ys ds o r t in
-          let rest = segments pa pe AsWritten (ys, ds) in
-          let seen = λ (b : Toks). row-append (segment pa pe AsWritten x) (p.mark c ++ rest) b ∙ ap (row (segment pa pe AsWritten x)) (row-append (p.mark c) rest b) in
-          record {
-            spelt = λ b w. subst (λ q. AreSigned part clearly e (normal.segment na ne x ∷ map (normal.segment na ne) ys) (c ∷ ds) q b) (sym (seen b)) (signed_after (k.spelt (row (p.mark c) (row rest b))) (d.spelt (row rest b)) (h.spelt b w));
-            visible = λ b u w. subst Visible (sym (seen b)) (k.visible (row (p.mark c) (row rest b)) u (d.visible (row rest b) (k.seen u) (h.visible b (d.seen (k.seen u)) w)));
-            seen = λ u. h.seen (d.seen (k.seen u));
-            stays = ap (λ q. (q ∷ map (normal.segment na ne) (map (normal.segment na ne) ys), c ∷ ds)) k.stays ∙ ap (λ (q : Many (PathSegment A E) Sep). (normal.segment na ne x ∷ q.0, c ∷ q.1)) h.stays;
-            same = ap (λ q. q ++ (p.mark c ++ segments pa pe AsWritten (map (normal.segment na ne) ys, ds))) k.same ∙ ap (λ q. segment pa pe AsWritten x ++ (p.mark c ++ q)) h.same;
-          }
+    pub are_signed_again : (e : End) (xs : List (PathSegment A E)) (cs : List Sep) (l r : Toks) → AreSigned part plainly e xs cs l r →
+        AgainFront (λ (z : Many (PathSegment A E) Sep). AreSigned part clearly e z.0 z.1) (many (normal.segment na ne)) (segments pa pe AsWritten) (xs, cs) l r
+    are_signed_again e xs cs l r (signed_last {s = x} i) =
+        let k = signed_again e x l r i in
+        let seen = λ (b : Toks). row-append (segment pa pe AsWritten x) [] b in
+        record {
+          spelt = λ b. subst (λ q. AreSigned part clearly e (normal.segment na ne x ∷ []) [] q b) (sym (seen b)) (signed_last (k.spelt b));
+          visible = λ b u w. subst Visible (sym (seen b)) (k.visible b u w);
+          seen = λ u. k.seen u;
+          stays = ap (λ q. (q ∷ [], [])) k.stays;
+          same = ap (λ q. q ++ []) k.same;
+        }
+    are_signed_again e xs cs l r (signed_after {s = x} {c = c} {xs = ys} {cs = ds} {m = m} {k = o} i j t) =
+        let k = segment_written_again na ne pa pe part again x l m i in
+        let d = mark_front c m o j in
+        let h = are_signed_again e ys ds o r t in
+        let rest = segments pa pe AsWritten (ys, ds) in
+        let seen = λ (b : Toks). row-append (segment pa pe AsWritten x) (p.mark c ++ rest) b ∙ ap (row (segment pa pe AsWritten x)) (row-append (p.mark c) rest b) in
+        record {
+          spelt = λ b. subst (λ q. AreSigned part clearly e (normal.segment na ne x ∷ map (normal.segment na ne) ys) (c ∷ ds) q b) (sym (seen b)) (signed_after (k.spelt (row (p.mark c) (row rest b))) (d.spelt (row rest b)) (h.spelt b));
+          visible = λ b u w. subst Visible (sym (seen b)) (k.visible (row (p.mark c) (row rest b)) u (d.visible (row rest b) (k.seen u) (h.visible b (d.seen (k.seen u)) w)));
+          seen = λ u. h.seen (d.seen (k.seen u));
+          stays = ap (λ q. (q ∷ map (normal.segment na ne) (map (normal.segment na ne) ys), c ∷ ds)) k.stays ∙ ap (λ (q : Many (PathSegment A E) Sep). (normal.segment na ne x ∷ q.0, c ∷ q.1)) h.stays;
+          same = ap (λ q. q ++ (p.mark c ++ segments pa pe AsWritten (map (normal.segment na ne) ys, ds))) k.same ∙ ap (λ q. segment pa pe AsWritten x ++ (p.mark c ++ q)) h.same;
+        }
 
-      module _ (path_front : (x : Path A E) (l r : Toks) → IsPath part plainly AsWritten x l r → AgainFront (IsPath part clearly AsWritten) (normal.path na ne) (path pa pe AsWritten) x l r) where
-        pub bound_path_front : (e : End) (x : Path A E) (l r : Toks) → IsBoundPath part plainly e x l r → AgainFront (Before next (IsBoundPath part clearly e) r) (normal.path na ne) (path pa pe AsWritten) x l r
-        bound_path_front e x l r (without_parens i) = let k = path_front x l r i in record { spelt = λ b w. without_parens (k.spelt b); visible = λ b u w. k.visible b u w; seen = λ u. k.seen u; stays = k.stays; same = k.same }
-        bound_path_front e x l r (with_parens {c = c} {xs = xs} {cs = cs} {m = m} i j) =
-            let d = colon_front c l m i in
-            let k = are_signed_front e xs cs m r j in
-            let rest = segments pa pe AsWritten (xs, cs) in
-            let seen = λ (b : Toks). row-append (colon c) rest b in
-            record {
-              spelt = λ b w. subst (λ q. IsBoundPath part clearly e (path_of c (many (normal.segment na ne) (xs, cs))) q b) (sym (seen b)) (with_parens (d.spelt (row rest b)) (k.spelt b w));
-              visible = λ b u w. subst Visible (sym (seen b)) (d.visible (row rest b) u (k.visible b (d.seen u) w));
-              seen = λ u. k.seen (d.seen u);
-              stays = ap (path_of c) k.stays;
-              same = ap (λ q. colon c ++ q) k.same;
-            }
+    pub bound_path_again : (e : End) (x : Path A E) (l r : Toks) → IsBoundPath part plainly e x l r → AgainFront (IsBoundPath part clearly e) (normal.path na ne) (path pa pe AsWritten) x l r
+    bound_path_again e x l r (without_parens i) = let k = path_written_again na ne pa pe part again x l r i in record { spelt = λ b. without_parens (k.spelt b); visible = λ b u w. k.visible b u w; seen = λ u. k.seen u; stays = k.stays; same = k.same }
+    bound_path_again e x l r (with_parens {c = c} {xs = xs} {cs = cs} {m = m} i j) =
+        let d = colon_front c l m i in
+        let k = are_signed_again e xs cs m r j in
+        let rest = segments pa pe AsWritten (xs, cs) in
+        let seen = λ (b : Toks). row-append (colon c) rest b in
+        record {
+          spelt = λ b. subst (λ q. IsBoundPath part clearly e (path_of c (many (normal.segment na ne) (xs, cs))) q b) (sym (seen b)) (with_parens (d.spelt (row rest b)) (k.spelt b));
+          visible = λ b u w. subst Visible (sym (seen b)) (d.visible (row rest b) u (k.visible b (d.seen u) w));
+          seen = λ u. k.seen (d.seen u);
+          stays = ap (path_of c) k.stays;
+          same = ap (λ q. colon c ++ q) k.same;
+        }

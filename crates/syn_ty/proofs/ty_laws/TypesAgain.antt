@@ -18,10 +18,7 @@ use Rattle.syn_forms.proofs.tokens_laws.Mutability.{word_front}
 use Rattle.syn_ty.specs.declared.ty.TypeInferOf.{TypeInferOf}
 use Rattle.syn_ty.specs.declared.ty.TypeNeverOf.{TypeNeverOf}
 use Rattle.syn_ty.specs.declared.ty.TypeOf.TheVariants as v
-use Rattle.syn_ty.specs.generics.Bounds.{IsFor}
-use Rattle.syn_ty.specs.path.Printing.{path, segment}
-use Rattle.syn_ty.specs.path.Signed.{IsParens}
-use Rattle.syn_ty.specs.path.Spelling.{IsNoTry, IsPath, IsSegment}
+use Rattle.syn_ty.specs.path.Spelling.{IsNoTry}
 use Rattle.syn_ty.specs.ty.Admitted.{NoLifetime, IsPointer, IsBorrow, IsEnclosed, IsBracketed, IsCounted, IsTupled, IsTypeCall, IsType}
 use Rattle.syn_ty.specs.ty.Admitted.{a_path_type, a_macro, a_bound_macro, an_object_with_dyn, an_object_without_dyn, an_impl_type, a_fn_type, a_ptr_type, a_reference_type, a_paren_type, a_tuple_type, a_slice_type, an_array_type, an_infer_type, a_never_type, a_verbatim_type}
 use Rattle.syn_ty.specs.ty.Functions.{IsFnPtr}
@@ -30,44 +27,28 @@ use Rattle.syn_ty.specs.ty.Objects.{AreBareBounds, IsDyn, IsImpl}
 use Rattle.syn_ty.specs.ty.Parts.{Manner, plainly, clearly, End, closed, Parts}
 use Rattle.syn_ty.specs.ty.Printing as printing
 use Rattle.syn_ty.specs.ty.Spelling.{IsInfer, an_infer, IsNever, a_never}
-use Rattle.syn_ty.specs.ty.Trees.{BoundLifetimes, Parenthesized, Path, PathSegment, TypeTree}
+use Rattle.syn_ty.specs.ty.Trees.{TypeTree}
 use Rattle.syn_ty.specs.ty.Types.{Underscore, infer_of, infer_with, macro_type_of, macro_type_with, never_of, never_with, qualified_with, trait_object_with}
 use Rattle.syn_ty.proofs.ty_laws.Again.{Again, SuppliedAgain}
 use Rattle.syn_ty.proofs.ty_laws.AnglesAgain.{made_front}
-use Rattle.syn_ty.proofs.ty_laws.BoundAgain.{row_seen, row_visible}
 use Rattle.syn_ty.proofs.ty_laws.FormsAgain.{NoneFirst, type_call_again, pointer_again, borrow_again, enclosed_again, bracketed_again, counted_again, tuple_again}
 use Rattle.syn_ty.proofs.ty_laws.FunctionsAgain.{fn_ptr_again}
 use Rattle.syn_ty.proofs.ty_laws.NormalsAgain.{normal-Array, normal-FnPtr, normal-ImplTrait, normal-Infer, normal-Macro, normal-Never, normal-Paren, normal-Path, normal-Ptr, normal-Reference, normal-Slice, normal-TraitObject, normal-Tuple, normal-Verbatim, path_type_normal}
-use Rattle.syn_ty.proofs.ty_laws.ParamsAgain.{for_again as for_by}
-use Rattle.syn_ty.proofs.ty_laws.PathsAgain.{StyledAgain, written_again, segment_again as segment_by, path_again as path_by}
-use Rattle.syn_ty.proofs.ty_laws.PlainBoundsAgain.{bare_bounds_again, dyn_again, impl_again}
+use Rattle.syn_ty.proofs.ty_laws.ParamsAgain.{for_again}
+use Rattle.syn_ty.proofs.ty_laws.PathsAgain.{StyledAgain, written_again}
+use Rattle.syn_ty.proofs.ty_laws.BareBoundsAgain.{bare_bounds_again}
+use Rattle.syn_ty.proofs.ty_laws.ObjectsAgain.{dyn_again, impl_again}
 use Rattle.syn_ty.proofs.ty_laws.Prints.{ty-Array, ty-FnPtr, ty-ImplTrait, ty-Infer, ty-Macro, ty-Never, ty-Paren, ty-Path, ty-Ptr, ty-Reference, ty-Slice, ty-TraitObject, ty-Tuple, ty-Verbatim, path_type_parts}
 use Rattle.syn_ty.proofs.ty_laws.QualifiedAgain.{AnyPath, normal_any, no_try_again, print_any}
 use Rattle.syn_ty.proofs.ty_laws.Reprint.{mark_front}
-use Rattle.syn_ty.proofs.ty_laws.SignaturesAgain.{parens_again as parens_by}
 use Rattle.syn_ty.proofs.ty_laws.TypesBeginAgain.{LivesKept}
+use Rattle.syn_ty.proofs.ty_laws.WithinAgain.{row_seen, row_visible}
 
 module _ {A E : Type 0} (na : List A → List A) (ne : NormalValues E) (pa : List A → Print) (pe : Values E) (part : Manner → Parts A E) (again : Again na ne pa pe part) where
-  -- ---- paths, binders and signatures within a form
-
   pub styled : StyledAgain na ne pa pe part AsWritten
   styled = written_again na ne pa pe part again
 
-  pub segment_again : (x : PathSegment A E) (l r : Toks) → IsSegment part plainly AsWritten x l r → AgainFront (IsSegment part clearly AsWritten) (normal.segment na ne) (segment pa pe AsWritten) x l r
-  segment_again = segment_by na ne pa pe part AsWritten styled
-
-  pub path_again : (x : Path A E) (l r : Toks) → IsPath part plainly AsWritten x l r → AgainFront (IsPath part clearly AsWritten) (normal.path na ne) (path pa pe AsWritten) x l r
-  path_again = path_by na ne pa pe part AsWritten styled
-
-  pub for_again : (x : BoundLifetimes A E) (l r : Toks) → IsFor part plainly x l r → AgainFront (IsFor part clearly) (normal.bound_lifetimes na ne) (printing.bound_lifetimes pa pe) x l r
-  for_again = for_by na ne pa pe part again
-
   module _ (supplied : SuppliedAgain na ne pa pe part) where
-    pub parens_again : (e : End) (x : Parenthesized A E) (l r : Toks) → IsParens part plainly e x l r → AgainFront (IsParens part clearly e) (normal.parenthesized na ne) (printing.parenthesized pa pe) x l r
-    parens_again = parens_by na ne pa pe part again supplied
-
-    -- ---- a type
-
     module _ (lives : LivesKept pa pe part) (none : NoneFirst pa pe part) (len_stays : (x : E) (l : Toks) → (part plainly).len x l → ne.len (ne.len x) ≡ ne.len x) (place : TypePlace) where
       abbrev nt : TypeTree A E → TypeTree A E
       nt = normal.ty na ne
@@ -99,18 +80,18 @@ module _ {A E : Type 0} (na : List A → List A) (ne : NormalValues E) (pa : Lis
       type_again e x l r (a_macro {x = y} i) = call_type y l r (type_call_again y l r i)
       type_again e x l r (a_bound_macro {b = b} {x = y} {m = m} i j h) =
           let k = call_type y m r (type_call_again y m r j) in
-          let first = for_again b l m i in
+          let first = for_again na ne pa pe part again b l m i in
           record { spelt = k.spelt; visible = λ h u w. k.visible h (first.seen u) w; seen = λ u. k.seen (first.seen u); stays = k.stays; same = k.same }
       type_again e x l r (an_object_with_dyn {x = y} i) =
           made_front (IsDyn part clearly place e) (Is e) (normal.trait_object na ne) nt (printing.trait_object pa pe) pt v.TraitObject (λ z l r i. an_object_with_dyn i) (normal-TraitObject na ne) (ty-TraitObject pa pe) y l r (dyn_again na ne pa pe part again place supplied.own e y l r i)
       type_again e x l r (an_object_without_dyn {w = w} i) =
           made_front (AreBareBounds part clearly place e) (Is e) (normal.bounds na ne) nt (printing.bounds_joined pa pe) pt (λ z. v.TraitObject (trait_object_with [] None z)) (λ z l r i. an_object_without_dyn i)
           (λ z. normal-TraitObject na ne (trait_object_with [] None z) ∙ ap (λ o. v.TraitObject (trait_object_with o None (normal.bounds na ne z))) supplied.own) (λ z. ty-TraitObject pa pe (trait_object_with [] None z)) w l r
-          (bare_bounds_again na ne pa pe part segment_again path_again parens_again for_again again place lives e w l r i)
+          (bare_bounds_again na ne pa pe part again supplied place lives e w l r i)
       type_again e x l r (an_impl_type {x = y} i) =
           made_front (IsImpl part clearly place e) (Is e) (normal.impl_trait na ne) nt (printing.impl_trait pa pe) pt v.ImplTrait (λ z l r i. an_impl_type i) (normal-ImplTrait na ne) (ty-ImplTrait pa pe) y l r (impl_again na ne pa pe part again place supplied.own e y l r i)
       type_again e x l r (a_fn_type {x = y} i) =
-          made_front (IsFnPtr part clearly e) (Is e) (normal.fn_ptr na ne) nt (printing.fn_ptr pa pe) pt v.FnPtr (λ z l r i. a_fn_type i) (normal-FnPtr na ne) (ty-FnPtr pa pe) y l r (fn_ptr_again na ne pa pe part again supplied for_again e y l r i)
+          made_front (IsFnPtr part clearly e) (Is e) (normal.fn_ptr na ne) nt (printing.fn_ptr pa pe) pt v.FnPtr (λ z l r i. a_fn_type i) (normal-FnPtr na ne) (ty-FnPtr pa pe) y l r (fn_ptr_again na ne pa pe part again supplied e y l r i)
       type_again e x l r (a_ptr_type {x = y} i) =
           made_front (IsPointer part clearly e) (Is e) (normal.ptr na ne) nt (printing.ptr pa pe) pt v.Ptr (λ z l r i. a_ptr_type i) (normal-Ptr na ne) (ty-Ptr pa pe) y l r (pointer_again na ne pa pe part again supplied e y l r i)
       type_again e x l r (a_reference_type {x = y} i) =

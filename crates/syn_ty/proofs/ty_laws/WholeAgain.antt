@@ -41,16 +41,19 @@ use Rattle.syn_ty.proofs.generics_laws.Members.{some}
 use Rattle.syn_ty.proofs.ty_laws.AnglesAgain.{angle_again, lt_no_sep, styled_angle_again}
 use Rattle.syn_ty.proofs.ty_laws.CaptureAgain as captures
 use Rattle.syn_ty.proofs.ty_laws.ClausesAgain as wheres
-use Rattle.syn_ty.proofs.ty_laws.FormsAgain.{pointer_again, borrow_again, enclosed_again, bracketed_again, counted_again, tupled_front}
+use Rattle.syn_ty.proofs.ty_laws.ClausesAgain.{ForKept, TypeKept}
+use Rattle.syn_ty.proofs.ty_laws.FormsAgain.{pointer_again, borrow_again, enclosed_again, bracketed_again, counted_again, tupled_again}
 use Rattle.syn_ty.proofs.ty_laws.FunctionsAgain as functions
 use Rattle.syn_ty.proofs.ty_laws.GenericsAgain as generics
+use Rattle.syn_ty.proofs.ty_laws.KeptAgain.{for_kept, generics_kept}
 use Rattle.syn_ty.proofs.ty_laws.KnotAgain.{Known, GivenAgain, known_to, type_turn, bound_turn, param_turn, argument_turn, bounds_of_turn}
 use Rattle.syn_ty.proofs.ty_laws.ParamsAgain as params
-use Rattle.syn_ty.proofs.ty_laws.PlainBoundsAgain as objects
+use Rattle.syn_ty.proofs.ty_laws.ObjectsAgain as objects
 use Rattle.syn_ty.proofs.ty_laws.QualifiedAgain.{path_alone_again}
 use Rattle.syn_ty.proofs.ty_laws.SignaturesAgain as signatures
-use Rattle.syn_ty.proofs.ty_laws.SignaturesAgain.{anything, optional_front, type_before}
-use Rattle.syn_ty.proofs.ty_laws.TypesAgain as types
+use Rattle.syn_ty.proofs.ty_laws.SignaturesAgain.{optional_front}
+use Rattle.syn_ty.proofs.ty_laws.PathsAgain as paths
+use Rattle.syn_ty.proofs.ty_laws.BoundAgain as bounds
 
 -- ---- of every grammar
 
@@ -76,13 +79,20 @@ module _ {A E : Type 0} {na : List A → List A} {ne : NormalValues E} {pa : Lis
   known : (k : ℕ) → Known na ne pa pe (To k)
   known = known_to na ne pa pe shown spelt g
 
+  -- how the print of a type begins
+  no_for : (k : ℕ) → ForKept pa pe (To k)
+  no_for k = for_kept pa pe (To k) (known k).kept
+
+  no_generics : (k : ℕ) → TypeKept pa pe (To k)
+  no_generics k = generics_kept pa pe (To k) (known k).kept
+
   -- ---- paths
 
   pub path_again : Whole (by.SpellsPath shown spelt) (normal.path na ne) (shown_paths.path pa pe AsWritten)
-  path_again = all_of (normal.path na ne) (shown_paths.path pa pe AsWritten) (λ part how. IsPath part how AsWritten) (λ k. types.path_again na ne pa pe (To k) (known k).again)
+  path_again = all_of (normal.path na ne) (shown_paths.path pa pe AsWritten) (λ part how. IsPath part how AsWritten) (λ k. paths.path_written_again na ne pa pe (To k) (known k).again)
 
   pub segment_again : Whole (by.SpellsSegment shown spelt) (normal.segment na ne) (shown_paths.segment pa pe AsWritten)
-  segment_again = all_of (normal.segment na ne) (shown_paths.segment pa pe AsWritten) (λ part how. IsSegment part how AsWritten) (λ k. types.segment_again na ne pa pe (To k) (known k).again)
+  segment_again = all_of (normal.segment na ne) (shown_paths.segment pa pe AsWritten) (λ part how. IsSegment part how AsWritten) (λ k. paths.segment_written_again na ne pa pe (To k) (known k).again)
 
   pub argument_again : Whole (by.SpellsArgument shown spelt) (normal.argument na ne) (printing.argument pa pe)
   argument_again = all_of (normal.argument na ne) (printing.argument pa pe) (λ part how. IsArgument (IsType part how Plus) part how alone) (λ k. argument_turn na ne pa pe (To k) (known k) alone)
@@ -102,7 +112,7 @@ module _ {A E : Type 0} {na : List A → List A} {ne : NormalValues E} {pa : Lis
   turbofish_again x l i = let k = turbofish_at i.0.0 x l done i.1 i.0.1 in record { spelt = let z = k.spelt done in ((i.0.0, z.0), z.1); visible = λ u. k.visible done u tt; stays = k.stays; same = k.same }
 
   pub parenthesized_again : Whole (by.SpellsParens shown spelt) (normal.parenthesized na ne) (printing.parenthesized pa pe)
-  parenthesized_again = all_ending (normal.parenthesized na ne) (printing.parenthesized pa pe) IsParens (λ k. types.parens_again na ne pa pe (To k) (known k).again (known k).supplied)
+  parenthesized_again = all_ending (normal.parenthesized na ne) (printing.parenthesized pa pe) IsParens (λ k. signatures.parens_again na ne pa pe (To k) (known k).again (known k).supplied)
 
   -- ---- types, with plus or without
 
@@ -122,7 +132,7 @@ module _ {A E : Type 0} {na : List A → List A} {ne : NormalValues E} {pa : Lis
   array_again = all_of (normal.array na ne) (printing.array pa pe) IsCounted (λ k. counted_again na ne pa pe (To k) (known k).again (known k).supplied (known k).len_stays)
 
   pub fn_ptr_again : Whole (by.SpellsFnPtr shown spelt) (normal.fn_ptr na ne) (printing.fn_ptr pa pe)
-  fn_ptr_again = all_ending (normal.fn_ptr na ne) (printing.fn_ptr pa pe) IsFnPtr (λ k. functions.fn_ptr_again na ne pa pe (To k) (known k).again (known k).supplied (types.for_again na ne pa pe (To k) (known k).again))
+  fn_ptr_again = all_ending (normal.fn_ptr na ne) (printing.fn_ptr pa pe) IsFnPtr (λ k. functions.fn_ptr_again na ne pa pe (To k) (known k).again (known k).supplied)
 
   -- none is spelt
   pub group_again : Whole (by.SpellsGroup shown spelt) (normal.group na ne) (printing.group pa pe)
@@ -147,7 +157,7 @@ module _ {A E : Type 0} {na : List A → List A} {ne : NormalValues E} {pa : Lis
   pub tuple_again : Whole (by.SpellsTuple shown spelt) (normal.tuple na ne) (printing.tuple pa pe)
   tuple_again =
       all_of (normal.tuple na ne) (printing.tuple pa pe) (λ part how. IsTupled part how (λ l. Unit {0}))
-      (λ k. tupled_front na ne pa pe (To k) g.own anything (type_before na ne pa pe (To k) anything (known k).again) (λ l. Unit {0}) (λ e x l r i b h. tt))
+      (λ k. tupled_again na ne pa pe (To k) (known k).again (known k).supplied (λ l. Unit {0}) (λ e x l r i b h. tt))
 
   pub named_arg_again : Whole (by.SpellsNamedArg shown spelt) (normal.named_arg na ne) (printing.named_arg pa pe)
   named_arg_again = all_of (normal.named_arg na ne) (printing.named_arg pa pe) (λ part how. IsNamedArg part how false) (λ k. functions.named_arg_again na ne pa pe (To k) (known k).again (known k).supplied false)
@@ -167,7 +177,7 @@ module _ {A E : Type 0} {na : List A → List A} {ne : NormalValues E} {pa : Lis
   const_param_again = all_of (normal.const_param na ne) (printing.const_param pa pe) IsConstParam (λ k. params.const_param_again na ne pa pe (To k) (known k).again (known k).supplied)
 
   pub binder_again : Whole (by.SpellsBinder shown spelt) (normal.bound_lifetimes na ne) (printing.bound_lifetimes pa pe)
-  binder_again = all_of (normal.bound_lifetimes na ne) (printing.bound_lifetimes pa pe) IsFor (λ k. types.for_again na ne pa pe (To k) (known k).again)
+  binder_again = all_of (normal.bound_lifetimes na ne) (printing.bound_lifetimes pa pe) IsFor (λ k. params.for_again na ne pa pe (To k) (known k).again)
 
   pub optional_binder_again : Whole (by.SpellsOptionalBinder shown spelt) (option_map (normal.bound_lifetimes na ne)) (p.optional (printing.bound_lifetimes pa pe))
   optional_binder_again =
@@ -179,22 +189,21 @@ module _ {A E : Type 0} {na : List A → List A} {ne : NormalValues E} {pa : Lis
   pub trait_bound_again : Whole (by.SpellsTraitBound shown spelt) (normal.trait_bound na ne) (printing.trait_bound pa pe)
   trait_bound_again =
       all_ending (normal.trait_bound na ne) (printing.trait_bound pa pe) IsTraitBound
-      (λ k. objects.trait_bound_again na ne pa pe (To k) (types.segment_again na ne pa pe (To k) (known k).again) (types.path_again na ne pa pe (To k) (known k).again) (types.parens_again na ne pa pe (To k) (known k).again (known k).supplied)
-      (types.for_again na ne pa pe (To k) (known k).again))
+      (λ k. bounds.trait_bound_again na ne pa pe (To k) (known k).again (known k).supplied)
 
   pub predicate_again : Whole (by.SpellsPredicate shown spelt) (clauses.predicate na ne) (shown_clauses.predicate pa pe)
   predicate_again =
-      all_of (clauses.predicate na ne) (shown_clauses.predicate pa pe) IsPredicate (λ k. wheres.predicate_again na ne pa pe (To k) (known k).again (known k).supplied (bounds_of_turn na ne pa pe (To k) (known k)) (known k).no_for)
+      all_of (clauses.predicate na ne) (shown_clauses.predicate pa pe) IsPredicate (λ k. wheres.predicate_again na ne pa pe (To k) (known k).again (known k).supplied (bounds_of_turn na ne pa pe (To k) (known k)) (no_for k))
 
   pub optional_where_clause_again : Whole (by.SpellsOptionalClause shown spelt) (clauses.where_option na ne) (p.optional (shown_clauses.where_clause pa pe))
   optional_where_clause_again =
       all_of (clauses.where_option na ne) (p.optional (shown_clauses.where_clause pa pe)) (λ part how. IsOptional (IsWhereClause part how))
-      (λ k. wheres.optional_where_again na ne pa pe (To k) (known k).again (known k).supplied (bounds_of_turn na ne pa pe (To k) (known k)) (known k).no_for (known k).attrs_begin (known k).no_generics)
+      (λ k. wheres.optional_where_again na ne pa pe (To k) (known k).again (known k).supplied (bounds_of_turn na ne pa pe (To k) (known k)) (no_for k) (known k).attrs_begin (no_generics k))
 
   -- one without predicates prints nothing: as a clause of its own that is not spelt
   pub where_clause_again : (x : WhereClauseOf A E) (l : Toks) → by.SpellsClause shown spelt plainly x l → some x.predicates.0 ≡ true → Again (by.SpellsClause shown spelt clearly) (clauses.where_clause na ne) (shown_clauses.where_clause pa pe) x l
   where_clause_again x l (k, i) h =
-      let w = wheres.clause_again na ne pa pe (To k) (known k).again (known k).supplied (bounds_of_turn na ne pa pe (To k) (known k)) (known k).no_for (known k).attrs_begin (known k).no_generics x l done i h in
+      let w = wheres.clause_again na ne pa pe (To k) (known k).again (known k).supplied (bounds_of_turn na ne pa pe (To k) (known k)) (no_for k) (known k).attrs_begin (no_generics k) x l done i h in
       record { spelt = (k, w.spelt done); visible = λ u. w.visible done u tt; stays = w.stays; same = w.same }
 
 -- ---- a lifetime parameter
