@@ -47,6 +47,8 @@ pub record AttributesMeet {A : Type 0} (reads : Reader (List A)) (spells : Bool 
   pub begins : (x : List A) (l k : Toks) → spells true x l k → (l ≡ k) ⊎ (token.sees_pound l ≡ true)
   pub light : (x : List A) (l k : Toks) → spells true x l k → NotMore l k
   pub reprint : (x : List A) (l k : Toks) → spells false x l k → ReprintsFront (spells true) normal print x l k
+  -- they print nothing only where nothing is spelt for them, and what they print does not begin with `<`
+  pub shows : (x : List A) (l k : Toks) → spells false x l k → (h : Toks) → ((l ≡ k) × (row (print x) h ≡ h)) ⊎ (token.sees_lt (row (print x) h) ≡ false)
 
 -- ---- const arguments and the defaults of const parameters
 

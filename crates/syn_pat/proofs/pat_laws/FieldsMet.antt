@@ -207,7 +207,7 @@ module _ {X : Type 0} (spells : Place → X → Toks → Type 0) (r : Readers X)
   field_met x l k (without_colon {a = a} {f = o} {u = u} {i = i} {m = m} {n = n} p q j h) =
       let b = head_plain o u i m n k q j in
       record { attrs = a; begins = m; spelt = p; there = b.there; no_pound = b.no_pound; no_dots = b.no_dots; less = head_less o u i m n k q j; reads = λ f e sc lim z. bound_met a o u i m n k f e sc q j h z.no_colon }
-  field_met x l k (boxed {a = a} {i = i} {t = t} {m = m} p (a_boxed_name {b = b} {f = o} {u = u} {m = n} {n = j} w q y h) holds) =
+  field_met x l k (boxed {a = a} {i = i} {t = t} {m = m} p (a_boxed_name {b = b} {f = o} {u = u} {m = n} {n = j} w q y h, holds)) =
       let c = box_plain b m n w in
       record {
         attrs = a;

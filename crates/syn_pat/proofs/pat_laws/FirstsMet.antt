@@ -27,7 +27,7 @@ use Rattle.syn_ty.proofs.ty_laws.LessMet.{call_less, group_less, less_less, less
 use Rattle.syn_ty.proofs.ty_laws.Met.{Less, NoMore}
 use Rattle.syn_pat.specs.declared.place.PatPlace.{PatPlace}
 use Rattle.syn_pat.specs.declared.place.PatPlace.TheVariants.{Single}
-use Rattle.syn_pat.specs.pat.Admitted.{AreCases, cases, IsBinding, a_binding, IsPat, a_single, some_cases, one_after_vert, some_after_vert, IsSubpat, a_subpat, IsSingle, a_binding_pat, a_wild, a_rest, a_literal as a_literal_pat, a_const, a_call, a_path, a_range, a_reference, a_mutable_reference, a_paren, a_tuple, a_slice, a_tuple_struct, a_struct, a_verbatim}
+use Rattle.syn_pat.specs.pat.Admitted.{a_box, AreCases, cases, IsBinding, a_binding, IsPat, a_single, some_cases, one_after_vert, some_after_vert, IsSubpat, a_subpat, IsSingle, a_binding_pat, a_wild, a_rest, a_literal as a_literal_pat, a_const, a_call, a_path, a_range, a_reference, a_mutable_reference, a_paren, a_tuple, a_slice, a_tuple_struct, a_struct, a_verbatim}
 use Rattle.syn_pat.specs.pat.Pats.{Pat, PatIdent, PatRange, PatRangeBound}
 use Rattle.syn_pat.specs.pat.Spelling.{IsConstBlock, a_const_block, IsEnd, a_literal_end, a_path_end, a_const_end, IsPatPath, IsRange, without_end, without_start, with_both, IsStart, a_literal_start, a_path_start, a_const_start}
 use Rattle.syn_pat.proofs.pat_laws.BindingsMet.{head_less}
@@ -144,7 +144,7 @@ module _ {X : Type 0} (supplied : Place → Reader X) (spells : Place → X → 
     single_first x l k (a_slice i) = a_group
     single_first x l k (a_tuple_struct {q = q} {p = p} i j) = path_first q p l _ i.0
     single_first x l k (a_struct {q = q} {p = p} i j) = path_first q p l _ i.0
-    single_first x l k (a_verbatim {b = w} i j h) = first_word w l _ i
+    single_first x l k (a_verbatim (a_box {b = w} i j, h)) = first_word w l _ i
 
     sub_no : (x : Option (token.At × Pat X)) (l k : Toks) → IsOptional (IsSubpat spells part clearly) x l k → NoMore l k
     sub_no x l k absent = same
@@ -169,7 +169,7 @@ module _ {X : Type 0} (supplied : Place → Reader X) (spells : Place → X → 
     single_less x l k (a_slice {s = s} {c = c} i) = group_less _ s c k
     single_less x l k (a_tuple_struct {q = q} {p = p} {s = s} {c = c} i j) = less_less (g.path_less q p l _ i.0) (group_less _ s c k)
     single_less x l k (a_struct {q = q} {p = p} {s = s} {c = c} i j) = less_less (g.path_less q p l _ i.0) (group_less _ s c k)
-    single_less x l k (a_verbatim {b = w} {x = y} {m = m} i j h) = less_less (word_takes w l m i) (less Single y m k j)
+    single_less x l k (a_verbatim (a_box {b = w} {x = y} {m = m} i j, h)) = less_less (word_takes w l m i) (less Single y m k j)
 
     cases_less : (xs : List (Pat X)) (cs : List token.Bar) (l k : Toks) → AreCases spells part clearly xs cs l k → Less l k
     cases_less xs cs l k (cases {x = x} {c = c} {xs = ys} {cs = ds} {m = m} {n = n} i j rest) =

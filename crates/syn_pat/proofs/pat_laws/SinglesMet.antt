@@ -35,7 +35,7 @@ use Rattle.syn_pat.specs.declared.pat.PatOf.TheVariants as v
 use Rattle.syn_pat.specs.declared.pat.PatRangeBoundOf.TheVariants as b
 use Rattle.syn_pat.specs.declared.place.PatPlace.{PatPlace}
 use Rattle.syn_pat.specs.declared.place.PatPlace.TheVariants.{Single}
-use Rattle.syn_pat.specs.pat.Admitted.{IsBinding, a_binding, IsSubpat, a_subpat, IsSingle, a_binding_pat, a_wild, a_rest, a_literal, a_const, a_call, a_path, a_range, a_reference, a_mutable_reference, a_paren, a_tuple, a_slice, a_tuple_struct, a_struct, a_verbatim}
+use Rattle.syn_pat.specs.pat.Admitted.{a_box, IsBinding, a_binding, IsSubpat, a_subpat, IsSingle, a_binding_pat, a_wild, a_rest, a_literal, a_const, a_call, a_path, a_range, a_reference, a_mutable_reference, a_paren, a_tuple, a_slice, a_tuple_struct, a_struct, a_verbatim}
 use Rattle.syn_pat.specs.pat.Pats.{Pat, PatIdent, PatRange, PatRangeBound, path_pat_of}
 use Rattle.syn_pat.specs.pat.Reading.{Readers, after_path, begins_path, box_pat, path_pat, range_after, single}
 use Rattle.syn_pat.specs.pat.Spelling.{a_const_block, IsPatPath, a_pat_path, IsRange, without_end, without_start, with_both, IsStart, a_literal_start, a_path_start, a_const_start, is_binding, is_self, lone_word}
@@ -190,4 +190,4 @@ module _ {X : Type 0} (supplied : Place → Reader X) (spells : Place → X → 
   single_met x l k f e sc lim (a_struct {q = q} {p = p} {s = s} {w = w} {o = z} {c = c} i j) o =
       let m = group Brace s c k in
       path_then q p x l m k f e sc i.0 (group_no_sep Brace s c k) (head q p l m i.0 i.1 (brace_behind s c k)) (λ d. struct_goes supplied spells g r part limit meets q p w z s c k f d sc (after q p l m f e d sc lim i.0) j)
-  single_met x l k f e sc lim (a_verbatim {b = w} {x = y} {t = t} {m = m} i j h) o = verbatim_single w y t l m k f e sc lim i j h o
+  single_met x l k f e sc lim (a_verbatim {t = t} (a_box {b = w} {x = y} {m = m} i j, h)) o = verbatim_single w y t l m k f e sc lim i j h o

@@ -3,10 +3,11 @@ use Rattle.std.proofs.Common.{◌≡◌, ◌⊎◌, Bool, true, false, List, ◌
 use Rattle.std.proofs.lemmas.List.{length-append}
 use Rattle.token_core.specs.Positions.{items, an_end}
 use Rattle.token_core.specs.Prints.{Print}
-use Rattle.token_core.specs.Reads.{Reader}
+use Rattle.token_core.specs.Reads.{Reader, sees_mark}
 use Rattle.token_core.specs.Rebuilt.{Visible}
 use Rattle.token_core.specs.Spellings.{last_char, is_mark}
 use Rattle.token_core.specs.Stream.{Stream}
+use Rattle.token_core.specs.Tokens.{sees_lt}
 use Rattle.token_core.specs.Toks.{Toks, done}
 use Rattle.token_core.specs.Trees.{row}
 use Rattle.syn_path.specs.declared.supplied.Place.{Place}
@@ -19,8 +20,8 @@ use Rattle.syn_attr.specs.attr.Normal as normal
 use Rattle.syn_attr.specs.attr.Printing.{attribute, attributes}
 use Rattle.syn_attr.specs.attr.Reading.{one_outer, outer, sees_pound}
 use Rattle.syn_attr.specs.attr.Spelling.{AreAll, no_more, one_more, IsOuter, an_outer}
-use Rattle.syn_attr.proofs.attr_laws.Complete.{many_complete, one_outer_complete, outer_seen, outer_size}
-use Rattle.syn_attr.proofs.attr_laws.Reprint.{attributes_again, outer_again}
+use Rattle.syn_attr.specs.attr.Complete.{many_complete, one_outer_complete, outer_seen, outer_size}
+use Rattle.syn_attr.specs.attr.Reprint.{attributes_again, outer_again}
 
 module _ {X : Type 0} (spells : Place → X → Toks → Type 0) where
   -- ---- fewer tokens are left after them
@@ -40,6 +41,15 @@ module _ {X : Type 0} (spells : Place → X → Toks → Type 0) where
       let u = h.shorter in
       let v = g.short in
       record { light = omega (arith, p, q); short = omega (arith, u, v) }
+
+  -- ---- they do not begin with `<`
+
+  outer_unlike : (clear : Bool) (a : Attribute X) (l r : Toks) → IsOuter spells clear a l r → sees_lt l ≡ false
+  unfolding sees_mark
+  outer_unlike clear a l r (an_outer (is_mark (last_char h)) j) = refl
+
+  outers_unlike : (clear : Bool) (a : Attribute X) (more : List (Attribute X)) (l r : Toks) → AreAll (IsOuter spells clear) (a ∷ more) l r → sees_lt l ≡ false
+  outers_unlike clear a more l r (one_more {m = m} i j) = outer_unlike clear a l m i
 
   -- ---- each of them is printed before its node
 
@@ -76,5 +86,10 @@ module _ {X : Type 0} (reads : Place → Reader X) (spells : Place → X → Tok
         same = g ∙ w.same ∙ sym e;
       }
 
+  outers_show : (x : List (Attribute X)) (l k : Toks) → AreAll (IsOuter spells false) x l k → (h : Toks) → ((l ≡ k) × (row (consts.outer prints x) h ≡ h)) ⊎ (sees_lt (row (consts.outer prints x) h) ≡ false)
+  outers_show x l k no_more h = inl (refl, refl)
+  outers_show x l k (one_more {a = a} {all = more} i j) h =
+      inr (outers_unlike spells true (normal.attribute normals a) (normal.attributes normals more) (row (consts.outer prints (a ∷ more)) h) h ((outers_reprint (a ∷ more) l k (one_more i j)).again h))
+
   pub attributes_meet : AttributesMeet (outer reads) (λ clear. AreAll (IsOuter spells clear)) (normal.attributes normals) (consts.outer prints)
-  attributes_meet = record { met = outers_met; begins = outers_begin; light = outers_light spells true; reprint = outers_reprint }
+  attributes_meet = record { met = outers_met; begins = outers_begin; light = outers_light spells true; reprint = outers_reprint; shows = outers_show }
