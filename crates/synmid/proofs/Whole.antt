@@ -1,5 +1,5 @@
 -- What a whole read prints, by its category.
-use Rattle.std.proofs.Common.{◌≡◌, ◌≢◌, Option, Some, None, Result, Ok, Err, refl, ap, sym, ◌∙◌, inl, inr}
+use Rattle.std.proofs.Common.{◌≡◌, ◌≢◌, false, Option, Some, None, Result, Ok, Err, refl, ap, sym, ◌∙◌, inl, inr}
 use Rattle.token_core.specs.declared.tree.TokenStream.{TokenStream}
 use Rattle.token_core.specs.Toks.{Toks}
 use Rattle.token_core.specs.Refusal.{Refusal}
@@ -41,8 +41,8 @@ same_answer a b e = cc
 
 -- a whole read answers where the read does and leaves nothing over
 read_whole : {A : Type 0} (f : Reader A) (s : Stream) (o : Outcome A) (a : A) → f s ≡ o → end_of o ≡ Ok a → (t : Stream) × (f s ≡ Ok (a, t)) × (leaves t ≡ None)
-read_whole f s (Err e) a h k = cc k
-read_whole f s (Ok (b, t)) a h k = at (leaves t) refl k
+read_whole {A = A} f s (Err e) a h k = cc k
+read_whole {A = A} f s (Ok (b, t)) a h k = at (leaves t) refl k
   where
     at : (x : Option Span) → leaves t ≡ x → ended b t x ≡ Ok a → (u : Stream) × (f s ≡ Ok (a, u)) × (leaves u ≡ None)
     at None n e = (t, h ∙ ap (λ (z : A). Ok (z, t)) (same_answer b a e), n)
