@@ -53,7 +53,7 @@ module _ {X : Type 0} (spells : Place → X → Toks → Type 0) (nx : Place →
   cases_again xs cs l r (cases {x = x} {c = c} {xs = ys} {cs = ds} {m = m} {n = n} i j rest) =
       made_front (Then (IsSingle spells part clearly) (Then (IsMark true) More)) Are _ (many N) _ print_cases with_first (λ z l r i. cases i.1 i.2.1 i.2.2) (λ z. refl) (λ z. refl) (x, (c, (ys, ds))) l r
       (then_front (single_again spells nx px g part again x l m i) (then_front (mark_front c m n j)
-          (listed_front (λ (_ : Bool). part plainly Single) (λ (_ : Bool). part clearly Single) (IsMark false) (IsMark true) Nowhere N P p.mark (λ _. again.pat Single) mark_front true ys ds n r rest)))
+      (listed_front (λ (_ : Bool). part plainly Single) (λ (_ : Bool). part clearly Single) (IsMark false) (IsMark true) Nowhere N P p.mark (λ _. again.pat Single) mark_front true ys ds n r rest)))
 
   fits : (place : PatPlace) (x : Pat X) → Fits place x → Fits place (N x)
   fits Single x h = tt

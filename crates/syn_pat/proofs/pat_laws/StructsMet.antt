@@ -52,7 +52,7 @@ dots_no_pound d l r (is_mark (more_chars (last_char x))) = refl
 
 module _ {X : Type 0} (supplied : Place → Reader X) (spells : Place → X → Toks → Type 0) (g : SuppliedMeets supplied spells) (r : Readers X) (part : Manner → PatPlace → Relation (Pat X)) (limit : ℕ) (meets : Meets r part limit) where
   attrs_there : (a : Attrs X) (l m : Toks) → outer_spelt spells true a l m → is_done m ≡ false → is_done l ≡ false
-  attrs_there a l m i h = elim (g.attrs_begin a l m i) [ | inl e ↦ ap is_done e ∙ h | inr p ↦ mark_there 35 [] l p ]
+  attrs_there a l m i h = elim (g.attrs_begin a l m i) [ inl e ↦ ap is_done e ∙ h | inr p ↦ mark_there 35 [] l p ]
 
   abbrev Of : FieldPat X → Toks → Toks → Type 0
   Of = IsField spells part clearly

@@ -48,7 +48,7 @@ name_no_path i k h b =
     let t = i.text in
     word_tested i k
     ∙ no_path_word (is_ident t) (is_text token.self_value_text t) (is_text token.self_type_text t) (is_text token.super_text t) (is_text token.crate_text t) (Behind k) (token.sees_path_sep k)
-      b (behind_sep k b) (not_bound token.self_type_text t refl h) (not_bound token.super_text t refl h) (not_bound token.crate_text t refl h)
+    b (behind_sep k b) (not_bound token.self_type_text t refl h) (not_bound token.super_text t refl h) (not_bound token.crate_text t refl h)
 
 name_no_lit : (i : Ident) (k : Toks) → is_binding_name i.text ≡ true → sees_lit (word i k) ≡ false
 unfolding is_keyword

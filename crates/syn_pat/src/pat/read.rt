@@ -152,6 +152,7 @@ impl<X: Subtree> Parse for PatType<X> {
         ensures reads { Reads (knot.typed X.reads input.old) result input.new }
         ensures within { Follows input.old input.new }
         ensures promise { Heads (promises.typed X.reads X.spells X.normal X.prints) input.old result input.new }
+        ensures front { Takes (fronts.typed X.spells) input.old result input.new }
     {
         parse_typed(alloc, input)
     }

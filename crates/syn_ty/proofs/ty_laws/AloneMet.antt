@@ -149,7 +149,7 @@ module _ {A E : Type 0} {attrs : Reader (List A)} {values : ReadValues E} {shown
   trait_object_met n place x l k f e sc i o =
       single_met (λ r. reading.trait_object r (knot.bound attrs values Object) (allows_plus place)) x l k f e sc
       (λ b h. objects.object_met (within b) (To n) b (below b n) (allows_plus place) place refl (knot.bound attrs values Object) (λ d y m j a c s u v w. bound_met n Object d y m j a c s (within_bound n Object d y m j v) w)
-          (λ d y m j v. objects.bound_no_dyn (To n) d y m j (within_bound n Object d y m j v)) x l k f e sc h i o)
+      (λ d y m j v. objects.bound_no_dyn (To n) d y m j (within_bound n Object d y m j v)) x l k f e sc h i o)
 
   pub impl_trait_met : (n : ℕ) (place : TypePlace) (d : End) (x : TypeImplTrait A E) (l k : Toks) (f : Option Span) (e : Span) (sc : Scope) → IsImpl (To n) clearly place d x l k → Fits d k → Reads_to (knot.impl_trait attrs values (allows_plus place)) x l k f e sc
   unfolding knot.impl_trait

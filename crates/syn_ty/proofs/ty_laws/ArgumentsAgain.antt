@@ -110,7 +110,7 @@ module _ {A E : Type 0} (na : List A → List A) (ne : NormalValues E) (pa : Lis
     module _ (supplied : SuppliedAgain na ne pa pe part) (place : ArgumentPlace)
         (types : (e : End) (x : TypeTree A E) (l r : Toks) → first e x l r → AgainFront (other e) (normal.ty na ne) (printing.ty pa pe) x l r)
         (bounds : (e : End) (xs : List (TypeParamBound A E)) (ps : List token.Plus) (l r : Toks) → AreBounds part plainly Parameter (ConstraintEnds place) true e xs ps l r →
-            AgainFront (λ (z : Many (TypeParamBound A E) token.Plus). AreBounds part clearly Parameter (ConstraintEnds place) true e z.0 z.1) (normal.bounds na ne) (printing.bounds_joined pa pe) (xs, ps) l r) where
+        AgainFront (λ (z : Many (TypeParamBound A E) token.Plus). AreBounds part clearly Parameter (ConstraintEnds place) true e z.0 z.1) (normal.bounds na ne) (printing.bounds_joined pa pe) (xs, ps) l r) where
       abbrev Clear : GenericArgument A E → Toks → Toks → Type 0
       Clear = IsArgument other part clearly place
 

@@ -248,8 +248,8 @@ module _ {A E : Type 0} (first : End → Relation (TypeTree A E)) (attrs : Reade
         let z = ended place m b in
         by_name i o x l n m f e sc h is (colon_over n (colon_seen c n j g) (colon_apart c n j g))
         (λ s. after_colon (name_type i o) i o c x n j m f s sc g
-            (λ u. mapped_met (λ (v : Many (TypeParamBound A E) token.Plus). k.Constraint (constraint_of i o c v)) (bounds_to (r (a_bound Parameter)) ends_constraint) (xs, ps) j m f u sc
-                (bounds_meet r part limit meets (ConstraintEnds place) ends_constraint ends_constraint_goes d xs ps j m f u sc (later l j f f e u sc limit less.lighter h) t (λ p. over_fits d m z.over) z.bounds_end)))
+        (λ u. mapped_met (λ (v : Many (TypeParamBound A E) token.Plus). k.Constraint (constraint_of i o c v)) (bounds_to (r (a_bound Parameter)) ends_constraint) (xs, ps) j m f u sc
+        (bounds_meet r part limit meets (ConstraintEnds place) ends_constraint ends_constraint_goes d xs ps j m f u sc (later l j f f e u sc limit less.lighter h) t (λ p. over_fits d m z.over) z.bounds_end)))
 
 -- ---- by the rules of types, the name of an item is a type
 

@@ -208,7 +208,7 @@ module _ {A E : Type 0} (pa : List A → Print) (pe : Values E) (part : Manner �
         let one = segment_by args s in
         let rest = segments_by args (ys, ds) in
         quiet_kept l r (one ++ (p.mark c ++ rest)) (λ k. subst Quiet (sym (row-append one (p.mark c ++ rest) k ∙ ap (row one) (row-append (p.mark c) rest k)))
-            (segment_quiet s l m i (row (p.mark c) (row rest k)) (sep_no_gt c (row (p.mark c) (row rest k)) (row rest k) (mark_again false c m o (row rest k) j))))
+        (segment_quiet s l m i (row (p.mark c) (row rest k)) (sep_no_gt c (row (p.mark c) (row rest k)) (row rest k) (mark_again false c m o (row rest k) j))))
 
     pub path_kept : (x : Path A E) (l r : Toks) → IsPath part plainly AsWritten x l r → Kept l r (path_by args x)
     path_kept x l r (a_path {xs = xs} {cs = cs} {m = m} absent t) = segments_kept xs cs m r t
@@ -271,8 +271,8 @@ module _ {A E : Type 0} (pa : List A → Print) (pe : Values E) (part : Manner �
       qualified_kept q y l r (by_type {o = o} {e = e} {x = x} {g = g} {c = c} {xs = xs} {cs = cs} {m = m} {n = n} {k = k} i t j d u) =
           let rest = shown_qualified q y in
           after_lt o x rest l m r i (λ h z. by_test m n (row rest z) (printing.ty pa pe x)
-              (λ f a. let s : named m ≡ true = ap named a.was ∙ gt_named a.name g n k a.ok j in absurd (cc)) (λ f. types_alone e x m n t (row rest z) f))
+          (λ f a. let s : named m ≡ true = ap named a.was ∙ gt_named a.name g n k a.ok j in absurd (cc)) (λ f. types_alone e x m n t (row rest z) f))
       qualified_kept q y l r (by_type_as_path {o = o} {e = e} {x = x} {w = w} {p = a} {g = g} {c = c} {xs = xs} {cs = cs} {m = m} {n = n} {k = k} {j = j} i t d f u b v s) =
           let rest = shown_qualified q y in
           after_lt o x rest l m r i (λ h z. by_test m n (row rest z) (printing.ty pa pe x)
-              (λ b y. let s : named (row (printing.ty pa pe x) (row rest z)) ≡ false = ap named y.prints ∙ no_second y.name (row rest z) (as_next q w a c xs cs k j z refl refl u) in absurd (cc)) (λ b. types_alone e x m n t (row rest z) b))
+          (λ b y. let s : named (row (printing.ty pa pe x) (row rest z)) ≡ false = ap named y.prints ∙ no_second y.name (row rest z) (as_next q w a c xs cs k j z refl refl u) in absurd (cc)) (λ b. types_alone e x m n t (row rest z) b))

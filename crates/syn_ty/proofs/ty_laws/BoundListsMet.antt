@@ -151,7 +151,7 @@ module _ {A E : Type 0} (r : Readers A E) (part : Manner → Parts A E) (limit :
       let q = meets.bound place b x l m f e sc u i (plus_fits b p m j a c) in
       let w = plus_reads p m j f q.last sc c in
       let v = complete_from n false d ys qs j k f w.last sc (omega (arith, h, less.shorter, plus.shorter)) (not_more l j f f e w.last sc limit (omega (arith, less.lighter, plus.lighter)) u) rest
-          (later_stopped part place Ends stops first d k o) in
+      (later_stopped part place Ends stops first d k o) in
       record {
         last = v.last;
         reads = chosen (stops first l) false _ _ (at l f e sc) _ (bound_goes first b x l m i) (link _ q.reads (chosen (token.sees_plus m) true _ _ (at m f q.last sc) _ (plus_there p m j c) (link _ w.reads (link _ v.reads refl))));

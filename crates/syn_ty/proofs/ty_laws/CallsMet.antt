@@ -173,5 +173,5 @@ module _ {A E : Type 0} (r : Readers A E) (part : Manner → Parts A E) (limit :
   path_object_met d o p q xs ps l m k f e sc lim i j fits =
       let first = b.Trait (named_bound o None p) in
       let w = bounds_from_met r part limit meets Object true first (first ∷ xs, q ∷ ps) l k f e sc lim
-          (further refl i (ends_as part Object Anywhere AfterMark (λ z. z) false d xs ps m k refl j) (plus_stopped part Object false d k fits)) in
+      (further refl i (ends_as part Object Anywhere AfterMark (λ z. z) false d xs ps m k refl j) (plus_stopped part Object false d k fits)) in
       record { last = w.last; reads = link _ w.reads refl }

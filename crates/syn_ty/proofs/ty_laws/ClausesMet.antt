@@ -310,13 +310,13 @@ module _ {A E : Type 0} (attrs : Reader (List A)) (values : ReadValues E) (type 
       let begins = (meets.firsts.ty Bounded d y m n t).0 in
       after_attrs_met attrs part supplied.attrs_met (predicate_after type r) a x l m k f e sc i begins.no_pound
       (λ b. as_type a (predicate_type_of a None y c (xs, ps)) m k f b sc (type_unseen m n begins)
-          (rest_met a None d y c xs ps m m n k f b sc (no_later l m f f e b sc limit (supplied.attrs_light a l m i) h)
-              (optional_binder_met r part limit meets None m m f b sc (no_later l m f f e b sc limit (supplied.attrs_light a l m i) h) absent (λ p. s)) same t q z))
+      (rest_met a None d y c xs ps m m n k f b sc (no_later l m f f e b sc limit (supplied.attrs_light a l m i) h)
+      (optional_binder_met r part limit meets None m m f b sc (no_later l m f f e b sc limit (supplied.attrs_light a l m i) h) absent (λ p. s)) same t q z))
   predicate_met x l k f e sc h (of_type (a_type_predicate_for {a = a} {o = o} {e = d} {x = y} {c = c} {xs = xs} {ps = ps} {m = m} {n = n} {k = j} i s t q)) z =
       after_attrs_met attrs part supplied.attrs_met (predicate_after type r) a x l m k f e sc i (for_no_pound part o m n s)
       (λ b. as_type a (predicate_type_of a (Some o) y c (xs, ps)) m k f b sc (for_no_life part o m n s)
-          (rest_met a (Some o) d y c xs ps m n j k f b sc (no_later l m f f e b sc limit (supplied.attrs_light a l m i) h)
-              (optional_binder_met r part limit meets (Some o) m n f b sc (no_later l m f f e b sc limit (supplied.attrs_light a l m i) h) (present s) (λ p. cc p)) (some (for_takes part (λ p u v g. (meets.firsts.param Binder p u v g).1) o m n s)) t q z))
+      (rest_met a (Some o) d y c xs ps m n j k f b sc (no_later l m f f e b sc limit (supplied.attrs_light a l m i) h)
+      (optional_binder_met r part limit meets (Some o) m n f b sc (no_later l m f f e b sc limit (supplied.attrs_light a l m i) h) (present s) (λ p. cc p)) (some (for_takes part (λ p u v g. (meets.firsts.param Binder p u v g).1) o m n s)) t q z))
 
 -- ---- where clauses
 
@@ -457,7 +457,7 @@ module _ {A E : Type 0} (attrs : Reader (List A)) (values : ReadValues E) (part 
       where_alone_met x l k f e sc i z n =
           let limit = ahead (at l f e sc) in
           let u = where_met attrs values (held (alone.predicate_in attrs values) limit tt) part limit (meets limit).firsts supplied type_goes type_plain
-              (λ y m j g b s h t q. below_met (alone.predicate_in attrs values) limit tt y m j g b s h (predicate_alone_met y m j g b s t q)) x l k f e sc (omega arith) i z n in
+          (λ y m j g b s h t q. below_met (alone.predicate_in attrs values) limit tt y m j g b s h (predicate_alone_met y m j g b s t q)) x l k f e sc (omega arith) i z n in
           record { last = u.last; reads = u.reads }
 
       -- where there is none, before what is no `where`
@@ -736,10 +736,10 @@ angle_plain o l m n (is_mark (last_char x)) b g e h =
     let last = (second token.sees_colon m && not (second token.sees_path_sep m)) in
     none_of_four (token.sees_gt m) (token.sees_pound m) ((sees_lifetime m || sees_ident m) && (second token.sees_gt m || (second token.sees_comma m || (last || second token.sees_equals m)))) (token.sees_const m) b.no_gt b.no_pound
     (neither (sees_lifetime m) (sees_ident m) _
-        (λ i. none_of_four (second token.sees_gt m) (second token.sees_comma m) last (second token.sees_equals m) (plus_alone (after_one m) 62 refl (plus i)) (plus_alone (after_one m) 44 refl (plus i))
-            (ap (λ z. z && not (second token.sees_path_sep m)) (plus_alone (after_one m) 58 refl (plus i))) (plus_alone (after_one m) 61 refl (plus i)))
-        (λ i. none_of_four (second token.sees_gt m) (second token.sees_comma m) last (second token.sees_equals m) (second_false (sees_ident m) (second token.sees_gt m) i h)
-            (second_false (sees_ident m) _ i (g.alone 44 comma_ending (e 44 refl))) (name_colon m n b (e 58 refl) i) (second_false (sees_ident m) _ i (g.alone 61 equals_ending (e 61 refl)))))
+    (λ i. none_of_four (second token.sees_gt m) (second token.sees_comma m) last (second token.sees_equals m) (plus_alone (after_one m) 62 refl (plus i)) (plus_alone (after_one m) 44 refl (plus i))
+    (ap (λ z. z && not (second token.sees_path_sep m)) (plus_alone (after_one m) 58 refl (plus i))) (plus_alone (after_one m) 61 refl (plus i)))
+    (λ i. none_of_four (second token.sees_gt m) (second token.sees_comma m) last (second token.sees_equals m) (second_false (sees_ident m) (second token.sees_gt m) i h)
+    (second_false (sees_ident m) _ i (g.alone 44 comma_ending (e 44 refl))) (name_colon m n b (e 58 refl) i) (second_false (sees_ident m) _ i (g.alone 61 equals_ending (e 61 refl)))))
     g.no_const
 
 -- ---- by the rules of types, what a predicate's type begins with

@@ -196,9 +196,10 @@ module _ {A E : Type 0} {part : Manner → Parts A E} (s : Starts part) where
   angle_seen c o l m r (present (is_mark (more_chars (last_char x)))) (is_mark (last_char y)) = refl
 
   pub angle_starts : (x : AngleBracketed A E) (l k : Toks) → IsAngle part clearly x l k → (sees_arguments AsWritten l ≡ true) × Less l k
-  angle_starts x l k (an_angle {c = c} {o = o} {xs = xs} {cs = cs} {g = g} {m = m} {n = n} {k = j} i d v e) =
-      (angle_seen c o l m n i d,
-       no_less (optional_no mark_no c l m i) (less_no (mark_takes 60 [] refl o m n d) (no_no (listed_no (λ b y t u w. (s.firsts.argument y t u w).1) mark_no true xs cs n j v) (mark_no g j k e))))
+  angle_starts x l k (an_angle {c = c} {o = o} {xs = xs} {cs = cs} {g = g} {m = m} {n = n} {k = j} i d v e) = (
+    angle_seen c o l m n i d,
+    no_less (optional_no mark_no c l m i) (less_no (mark_takes 60 [] refl o m n d) (no_no (listed_no (λ b y t u w. (s.firsts.argument y t u w).1) mark_no true xs cs n j v) (mark_no g j k e))),
+  )
 
   -- ---- segments and paths
 

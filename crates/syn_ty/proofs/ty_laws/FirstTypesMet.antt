@@ -154,9 +154,11 @@ module _ {A E : Type 0} {part : Manner → Parts A E} (s : Starts part) where
   unfolding sees_mark
   fn_starts e x l k (a_fn_ptr {b = b} {u = u} {i = i} {w = w} {s = a} {o = o} {m = m} {n = n} {k = h} {c = c} {j = j} d f g t v z) =
       let q = fn_keyed w h (group Parenthesis a c j) t refl in
-      let y = optional_binder_keyed b l m d (optional_unsafe_keyed u m n f (abi_keyed i n h g q)) in
-      (y.starts k, no_less (optional_binder_no b l m d) (no_less (optional_no (λ z l k i. some (word_takes z l k i)) u m n f) (no_less (optional_no (λ z l k i. some (abi_less z l k i)) i n h g)
-          (less_less (word_takes w h (group Parenthesis a c j) t) (less_no (group_less Parenthesis a c j) (return_no s NoPlus e o j k z))))))
+      let y = optional_binder_keyed b l m d (optional_unsafe_keyed u m n f (abi_keyed i n h g q)) in (
+        y.starts k,
+        no_less (optional_binder_no b l m d) (no_less (optional_no (λ z l k i. some (word_takes z l k i)) u m n f) (no_less (optional_no (λ z l k i. some (abi_less z l k i)) i n h g)
+            (less_less (word_takes w h (group Parenthesis a c j) t) (less_no (group_less Parenthesis a c j) (return_no s NoPlus e o j k z))))),
+      )
 
   -- ---- bounds after `dyn` and `impl`
 

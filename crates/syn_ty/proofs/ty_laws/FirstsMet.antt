@@ -167,8 +167,11 @@ module _ {A E : Type 0} {part : Manner → Parts A E} (s : Starts part) where
 
     const_param_starts : (x : ConstParam A E) (l k : Toks) → IsConstParam part clearly x l k → ItemBegins l × Less l k
     const_param_starts x l k (a_const_param {a = a} {w = w} {i = i} {c = c} {x = y} {d = d} {m = m} {n = n} {k = h} {j = j} t u g v z q) =
-        after_attrs a l m k t (const_word_item w m (word i n) u, less_less (word_takes w m (word i n) u) (less_no (word_less i n) (no_no (mark_no c n h v)
-            (no_no (any_type_no y h j z) (optional_no (given_no (λ e p r f. some (b.default_less e p r f))) d j k q)))))
+        after_attrs a l m k t (
+          const_word_item w m (word i n) u,
+          less_less (word_takes w m (word i n) u) (less_no (word_less i n) (no_no (mark_no c n h v)
+              (no_no (any_type_no y h j z) (optional_no (given_no (λ e p r f. some (b.default_less e p r f))) d j k q)))),
+        )
 
     param_starts : (p : ParamPlace) (x : GenericParam A E) (l k : Toks) → IsParam part clearly p x l k → ItemBegins l × Less l k
     param_starts p x l k (a_lifetime_param {x = y} i) = lifetime_param_starts y l k i

@@ -122,8 +122,8 @@ module _ {A E : Type 0} (na : List A → List A) (ne : NormalValues E) (pa : Lis
   -- in each case
   borrow_by : (e : End) (a : And) (o : Option Lifetime) (q : Option Mut) (y : TypeTree A E) (l m n b r : Toks) → IsMark false a l m → IsOptional IsLifetime o m n → IsOptional IsWord q n b → (part plainly).ty NoPlus e y b r →
       ((h : Toks) → IsMark true a (row (p.mark a) (row (printing.lifetime o) (row (printing.optional_word q) (row (pt y) h)))) (row (printing.lifetime o) (row (printing.optional_word q) (row (pt y) h))) →
-        IsOptional IsLifetime o (row (printing.lifetime o) (row (printing.optional_word q) (row (pt y) h))) (row (printing.optional_word q) (row (pt y) h)) → IsOptional IsWord q (row (printing.optional_word q) (row (pt y) h)) (row (pt y) h) →
-        (part clearly).ty NoPlus e (nt y) (row (pt y) h) h → IsBorrowed e (reference_of a o q (nt y)) (row (p.mark a) (row (printing.lifetime o) (row (printing.optional_word q) (row (pt y) h)))) h) →
+      IsOptional IsLifetime o (row (printing.lifetime o) (row (printing.optional_word q) (row (pt y) h))) (row (printing.optional_word q) (row (pt y) h)) → IsOptional IsWord q (row (printing.optional_word q) (row (pt y) h)) (row (pt y) h) →
+      (part clearly).ty NoPlus e (nt y) (row (pt y) h) h → IsBorrowed e (reference_of a o q (nt y)) (row (p.mark a) (row (printing.lifetime o) (row (printing.optional_word q) (row (pt y) h)))) h) →
       AgainFront (IsBorrowed e) (normal.reference na ne) (printing.reference pa pe) (reference_of a o q y) l r
   borrow_by e a o q y l m n b r i j g t build =
       let d = mark_front a l m i in

@@ -174,7 +174,7 @@ module _ {A E : Type 0} (na : List A → List A) (ne : NormalValues E) (pa : Lis
         visible = λ u. subst Visible (sym seen) (k.visible last u (w.visible (k.seen u)));
         stays = ap (λ (z : Many (NamedArg A E) Comma). (z, Some (normal.variadic na ne (normal.variadic na ne x)))) k.stays ∙ ap (λ z. ((ys, cs), Some z)) w.stays;
         same = ap (λ z. z ++ (last_comma (comma_at x.dots) ys cs ++ printing.variadic pa pe (normal.variadic na ne x))) k.same ∙ ap (λ z. printing.inputs pa pe (xs, cs) ++ (z ++ printing.variadic pa pe (normal.variadic na ne x))) (again_full ∙ sym full)
-        ∙ ap (λ z. printing.inputs pa pe (xs, cs) ++ (last_comma (comma_at x.dots) xs cs ++ z)) w.same;
+            ∙ ap (λ z. printing.inputs pa pe (xs, cs) ++ (last_comma (comma_at x.dots) xs cs ++ z)) w.same;
       }
 
   -- ---- a pointer to a function, over the print of binders
@@ -236,15 +236,15 @@ module _ {A E : Type 0} (na : List A → List A) (ne : NormalValues E) (pa : Lis
         spelt = λ h. subst (λ g. IsFnPtr part clearly e g (row (printing.fn_ptr pa pe x) h) h) (sym once)
             (subst (λ g. IsFnPtr part clearly e (to (np b) z out) g h) (sym (seen h)) (a_fn_ptr (kb.spelt (t1 h)) (ku.spelt (t2 h)) (ki.spelt (t3 h)) (kw.spelt (t4 h)) kv.spelt (ko.spelt h)));
         visible = λ h y g. subst Visible (sym (seen h)) (
-          let a = kb.seen y in
-          let b' = ku.seen a in
-          let c' = ki.seen b' in
-          let d' = kw.seen c' in
-          kb.visible (t1 h) y (ku.visible (t2 h) a (ki.visible (t3 h) b' (kw.visible (t4 h) c' (tt, kv.visible d'.1, ko.visible h d'.2 g)))));
+            let a = kb.seen y in
+            let b' = ku.seen a in
+            let c' = ki.seen b' in
+            let d' = kw.seen c' in
+            kb.visible (t1 h) y (ku.visible (t2 h) a (ki.visible (t3 h) b' (kw.visible (t4 h) c' (tt, kv.visible d'.1, ko.visible h d'.2 g)))));
         seen = λ y. ko.seen (kw.seen (ki.seen (ku.seen (kb.seen y)))).2;
         stays = ap (normal.fn_ptr na ne) once ∙ twice ∙ sym once;
         same = ap (printing.fn_ptr pa pe) once ∙ fn_ptr_whole (np b) u i w paren z out ∙ ap (λ y. y ++ (head u i w ++ tail paren z out)) kb.same
-        ∙ ap (λ y. pb b ++ (head u i w ++ (p.group Parenthesis (stream_of_trees y) s ++ printing.return_type pa pe out))) kv.same
-        ∙ ap (λ y. pb b ++ (head u i w ++ (p.group Parenthesis (stream_of_trees (print_inputs pa pe (v, d))) s ++ y))) ko.same
-        ∙ sym (fn_ptr_whole b u i w paren (v, d) o);
+            ∙ ap (λ y. pb b ++ (head u i w ++ (p.group Parenthesis (stream_of_trees y) s ++ printing.return_type pa pe out))) kv.same
+            ∙ ap (λ y. pb b ++ (head u i w ++ (p.group Parenthesis (stream_of_trees (print_inputs pa pe (v, d))) s ++ y))) ko.same
+            ∙ sym (fn_ptr_whole b u i w paren (v, d) o);
       }

@@ -168,7 +168,7 @@ module _ {A E : Type 0} (attrs : Reader (List A)) (values : ReadValues E) (r : R
       let z = content Parenthesis s c k f e sc in
       let less = inside_group s c k f e sc limit h in
       let w = inputs_met attrs values part supplied m.firsts (r (a_type Plus)) (ahead z)
-          (λ q x j t g a b le y fits plus. m.ty Plus q x j t g a b (omega (arith, less, le)) y fits (λ p. plus)) v d c None none z.scope (omega arith) i in
+      (λ q x j t g a b le y fits plus. m.ty Plus q x j t g a b (omega (arith, less, le)) y fits (λ p. plus)) v d c None none z.scope (omega arith) i in
       record { last = s.closing; reads = in_parens_met (inputs.inputs named_arg_of attrs (r (a_type Plus)) form.Verbatim) (v, option_map dots_parts d) s c k f e sc w }
 
   -- one after the other

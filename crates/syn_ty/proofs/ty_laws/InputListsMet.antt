@@ -72,7 +72,7 @@ named_dots_met i c d o l m n f e sc h j q g =
     let a = mark_complete true {n = 9} {k = 3} refl (omega arith) d m n f z.last sc q in
     let b = last_comma o n f a.last sc g in
     let name : ◌≡◌ {A = Outcome inputs.Name} (optional inputs.sees_ident_or_underscore inputs.name (at (word i l) f e sc)) (Ok (Some (i, c), at m f z.last sc)) =
-        chosen (inputs.sees_ident_or_underscore (word i l)) true _ _ (at (word i l) f e sc) _ (name_at i l h) (link _ z.reads refl) in
+    chosen (inputs.sees_ident_or_underscore (word i l)) true _ _ (at (word i l) f e sc) _ (name_at i l h) (link _ z.reads refl) in
     record { last = b.last; reads = link _ name (link _ a.reads (link _ b.reads refl)) }
 
 -- what it begins with

@@ -70,12 +70,14 @@ module _ {A E : Type 0} (part : Manner → Parts A E) where
     held_begins : (l k : Toks) → IsMutSelf part clearly l k → BareBegins l × Less l k
     unfolding is_done sees_dots sees_mark sees_word after_one is_keyword
     held_begins l k (mut_self {u = u} {w = w} {m = m} is_word is_word) = (record { there = refl; no_pound = refl; no_dots = refl }, less_less (word_takes u l m is_word) (word_takes w m k is_word))
-    held_begins l k (mut_self_typed {u = u} {w = w} {c = c} {e = d} {x = x} {m = m} {n = n} {k = o} is_word is_word j i) =
-        (record { there = refl; no_pound = refl; no_dots = refl },
-        less_less (word_takes u l m is_word) (less_less (word_takes w m n is_word) (no_less (mark_no c n o j) (firsts.ty Plus d x o k i).1)))
-    held_begins l k (named_mut_self {i = i} {c = c} {u = u} {w = w} {l = j} {m = m} {n = n} h (is_mark (last_char x)) is_word is_word) =
-        (record { there = refl; no_pound = refl; no_dots = and_right _ _ refl },
-        less_less (word_less i j) (no_less (mark_no c j m (is_mark (last_char x))) (less_less (word_takes u m n is_word) (word_takes w n k is_word))))
+    held_begins l k (mut_self_typed {u = u} {w = w} {c = c} {e = d} {x = x} {m = m} {n = n} {k = o} is_word is_word j i) = (
+      record { there = refl; no_pound = refl; no_dots = refl },
+      less_less (word_takes u l m is_word) (less_less (word_takes w m n is_word) (no_less (mark_no c n o j) (firsts.ty Plus d x o k i).1)),
+    )
+    held_begins l k (named_mut_self {i = i} {c = c} {u = u} {w = w} {l = j} {m = m} {n = n} h (is_mark (last_char x)) is_word is_word) = (
+      record { there = refl; no_pound = refl; no_dots = and_right _ _ refl },
+      less_less (word_less i j) (no_less (mark_no c j m (is_mark (last_char x))) (less_less (word_takes u m n is_word) (word_takes w n k is_word))),
+    )
 
     -- what does not follow a name and `:`
     after_name : (n x y : Bool) → ((n || false) && x) ≡ false → (x ≡ false → y ≡ false) → (n && y) ≡ false

@@ -493,7 +493,7 @@ module _ {A E : Type 0} (attrs : Reader (List A)) (values : ReadValues E) (r : R
       let w = named_met is_ident i m f e sc t in
       let b = after_met c xs ps m n f w.last sc (no_later (word i m) m f f e w.last sc limit (some (word_less i m)) h) j (default_begins (IsAnyType part clearly) o n k q z) in
       let v = default_met (IsAnyType part clearly) (r (a_type Plus)) o n k f b.bounds.last sc q z
-          (λ x y d less g. any_met x y k f d sc (later (word i m) y f f e d sc limit (no_less (some (word_less i m)) (no_less b.light less)).lighter h) g (param_over k z)) in
+      (λ x y d less g. any_met x y k f d sc (later (word i m) y f f e d sc limit (no_less (some (word_less i m)) (no_less b.light less)).lighter h) g (param_over k z)) in
       let all : Reads_to (parts.type_parts (r (a_bound Parameter)) (r (a_type Plus))) (i, c, (xs, ps), o) (word i m) k f e sc = record { last = v.last; reads = link _ w.reads (link _ b.colon.reads (link _ b.bounds.reads (link _ v.reads refl))) } in
       mapped_met (type_of a) (parts.type_parts (r (a_bound Parameter)) (r (a_type Plus))) (i, c, (xs, ps), o) (word i m) k f e sc all
 
@@ -619,7 +619,7 @@ module _ {A E : Type 0} (attrs : Reader (List A)) (values : ReadValues E) (r : R
   param_met place x l k f e sc h (a_constant_param (a_const_param {a = a} {w = w} {i = i} {c = c} {x = y} {d = o} {m = m} {n = n} {k = j} {j = q} u is t s v z)) b =
       after_these (param_after attrs values r place) a x l m k f e sc u (const_no_pound w m (word i n) is)
       (λ d. place_const attrs values r a place (const_param_of a w i c y o) m k f d sc (word_seen {n = 6} w m (word i n) is) (const_no_ident w m (word i n) is) (const_no_life w m (word i n) is)
-          (const_after_met attrs values r part limit meets supplied a w i c y o m n j q k f d sc (after_left a l m f e d sc u h) is t s v z b))
+      (const_after_met attrs values r part limit meets supplied a w i c y o m n j q k f d sc (after_left a l m f e d sc u h) is t s v z b))
   param_met place x l k f e sc h (a_bare_param {a = a} {i = i} u t) b =
       after_these (param_after attrs values r place) a x l (word i k) k f e sc u (named_no_pound i k) (λ d. place_bare attrs values r a i k f d sc t)
 

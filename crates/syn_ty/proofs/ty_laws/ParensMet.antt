@@ -257,7 +257,7 @@ module _ {A E : Type 0} (part : Manner → Parts A E) where
 -- Where the types within are types of one turn more too, and bounds that begin with a lifetime are read where they are spelt: a type that begins with a lifetime is a trait object whose bounds are read.
 module _ {A E : Type 0} (r : Readers A E) (part : Manner → Parts A E) (limit : ℕ) (wider : (d : End) (x : TypeTree A E) (l k : Toks) → (part clearly).ty Plus d x l k → IsType part clearly Plus d x l k)
     (reads : (d : End) (xs : List (TypeParamBound A E)) (ps : List token.Plus) (l k : Toks) (f : Option Span) (e : Span) (sc : Scope) → ahead (at l f e sc) < limit → sees_lifetime l ≡ true → AreBounds part clearly Object AfterMark true d xs ps l k →
-        list_any is_trait xs ≡ true → Fits d k → Reads_to (reading.lifetime_object r) (xs, ps) l k f e sc) where
+    list_any is_trait xs ≡ true → Fits d k → Reads_to (reading.lifetime_object r) (xs, ps) l k f e sc) where
   pub lifetime_type_met : (d : End) (x : TypeTree A E) (l k : Toks) (f : Option Span) (e : Span) (sc : Scope) → ahead (at l f e sc) < limit → (part clearly).ty Plus d x l k → sees_lifetime l ≡ true → Fits d k → token.sees_plus k ≡ false →
       (w : Many (TypeParamBound A E) token.Plus) × (object_of w ≡ x) × Reads_to (reading.lifetime_object r) w l k f e sc
   lifetime_type_met d x l k f e sc h i g o p =
@@ -358,7 +358,7 @@ module _ {A E : Type 0} (r : Readers A E) (plus : Bool) where
   -- After its first bound, bounds of which each has its `+` are read.
   module _ (part : Manner → Parts A E) (limit : ℕ)
       (reads_further : (y : TypeParamBound A E) (d : End) (xs : List (TypeParamBound A E)) (ps : List token.Plus) (l k : Toks) (f : Option Span) (e : Span) (sc : Scope) → ahead (at l f e sc) < limit → AreFurther part clearly d xs ps l k → Fits d k →
-          Reads_to (reading.each_object_from r y) (object_of (y ∷ xs, ps)) l k f e sc) where
+      Reads_to (reading.each_object_from r y) (object_of (y ∷ xs, ps)) l k f e sc) where
     -- a trait bound with `?`
     module _ (reads_asked : (d : End) (x : TraitBound A E) (l k : Toks) (f : Option Span) (e : Span) (sc : Scope) → ahead (at l f e sc) < limit → IsTraitBound part clearly d x l k → Fits d k → Reads_to (trait_bound r) x l k f e sc) where
       asked_content : (q : token.Question) (p : Path A E) (c : Toks) (f : Option Span) (e : Span) (sc : Scope) → ahead (at c f e sc) < limit → IsAsked part clearly q p c done →

@@ -212,9 +212,9 @@ module _ {A E : Type 0} (r : Readers A E) (part : Manner → Parts A E) (limit :
         (λ b x m j v. (segment_less part meets.firsts style x m j v).shorter)
         (λ c m j v. let w = (sep_less c m j v.0).shorter in omega (arith, w))
         (λ b x c m j q v g u.
-            let less = (segment_less part meets.firsts style x m j v).lighter in
-            let w = (sep_less c j q g.0).lighter in
-            no_further m q nothing nothing none none sc limit (omega (arith, less, w)) u)
+        let less = (segment_less part meets.firsts style x m j v).lighter in
+        let w = (sep_less c j q g.0).lighter in
+        no_further m q nothing nothing none none sc limit (omega (arith, less, w)) u)
         true xs cs l k h (between part meets.firsts style true xs cs l k i) (record { follows = n; over = o; stops_there = λ b may. absurd may }) f e
       where
         nothing : Option Span

@@ -162,7 +162,7 @@ module _ {A E : Type 0} (na : List A → List A) (ne : NormalValues E) (pa : Lis
       (by_path_normal (o, (y, (w, (z, (g, (c, (xs, cs)))))))) (by_path_normal (normal_by_path (o, (y, (w, (z, (g, (c, (xs, cs))))))))) (by_path_prints (o, (y, (w, (z, (g, (c, (xs, cs))))))) more)
       (by_path_prints (normal_by_path (o, (y, (w, (z, (g, (c, (xs, cs)))))))) (length-map z.segments.0 (normal.segment na ne) ∙ more))
       (then_front (mark_front o l m i) (then_front (again.ty Plus e y m n t) (then_front (word_front w n k v) (then_front (path_again na ne pa pe part AsWritten (written_again na ne pa pe part again) z k j u)
-          (then_front (mark_front g j b d) (then_front (mark_front c b h f) (segments_again na ne pa pe part style styled xs cs h r s)))))))
+      (then_front (mark_front g j b d) (then_front (mark_front c b h f) (segments_again na ne pa pe part style styled xs cs h r s)))))))
 
   -- ---- paths that a type may qualify
 

@@ -1,6 +1,6 @@
 //! The generics of a declaration and its where clause are read.
 
-ghost use Rattle.syn_path.specs.Took.{Sounds, Takes};
+ghost use Rattle.syn_path.specs.Took.{Takes};
 ghost use Rattle.syn_ty.specs.ty.Fronts as fronts;
 ghost use Rattle.syn_ty.specs.ty.Promises as promises;
 ghost use Rattle.std.specs.Prelude.{◌≡◌, ◌<◌, ◌≤◌, length};
@@ -12,7 +12,7 @@ ghost use Rattle.syn_ty.specs.generics.Alone as alone;
 ghost use Rattle.syn_ty.specs.generics.Declared as reading;
 ghost use Rattle.syn_ty.specs.ty.Knot as knot;
 ghost use Rattle.token_core.specs.Headline.{Heads, Headline};
-ghost use Rattle.token_core.specs.Reads.{Fails, Follows, Gives, Keeps, Parses, Reads};
+ghost use Rattle.token_core.specs.Reads.{Fails, Follows, Gives, Parses, Reads};
 
 use crate::generics::read::optional_binder_from;
 use crate::generics::{
@@ -308,12 +308,12 @@ impl<A: Attributes, E: Value> Parse for WhereClauseOf<A, E> {
 
     ghost refuses = { Fails (alone.where_clause A.reads E.reads) };
 
-    ghost promise = { Sounds (promises.where_clause A.reads E.reads A.spells E.spells A.normal E.normal A.shown E.values) };
+    ghost promise = { Headline (promises.where_clause A.reads E.reads A.spells E.spells A.normal E.normal A.shown E.values) };
 
     fn parse(alloc: Global, input: &mut ParseStream<'_>) -> Result<WhereClauseOf<A, E>, Error>
         ensures reads { Reads (alone.where_clause A.reads E.reads input.old) result input.new }
         ensures within { Follows input.old input.new }
-        ensures promise { Keeps (Sounds (promises.where_clause A.reads E.reads A.spells E.spells A.normal E.normal A.shown E.values)) input.old result input.new }
+        ensures promise { Heads (promises.where_clause A.reads E.reads A.spells E.spells A.normal E.normal A.shown E.values) input.old result input.new }
         ensures front { Takes (fronts.where_clause A.spells E.spells) input.old result input.new }
     {
         parse_where_clause(alloc, input)
