@@ -60,7 +60,6 @@ use Rattle.syn_attr.specs.declared.expr.Expr.{Expr}
 use Rattle.syn_ty.specs.declared.ty.TypeInferOf as infer
 use Rattle.syn_ty.specs.declared.ty.TypeMacroOf as macro
 use Rattle.syn_ty.specs.declared.ty.TypeNeverOf as never
-use Rattle.syn_path.specs.Took.{Sounds}
 use Rattle.syn_path.specs.Values.{NormalValues, ReadValues, SpelledValues, Values}
 use Rattle.syn_attr.specs.attr.Consts.{normal_values_of, values_of, outer}
 use Rattle.syn_path.specs.mac.Grammars as macs
@@ -177,8 +176,8 @@ named name =
     else (if bytes_eq name (codes "PointerMutability") then Some PointerMutability
     else of_types name)))))))
 
--- What a run says of a reader: what it reads, what its trees print, and what a whole read promises. Of a complete reader it tells which tree a list spells
--- clearly: by the promise that tree is the answer, and there is none where the list is refused. Of the others it calls no spelling clear.
+-- What a run says of a reader: what it reads, what its trees print, and what a whole read promises. It tells which tree a list spells clearly: by the promise
+-- that tree is the answer, and there is none where the list is refused.
 pub record Category (A : Type 0) : Type 1 where
   pub reader : R A
   pub print : A → Print
@@ -262,11 +261,7 @@ PatternsTree X q.LeadingVert = pats.Pat X
 PatternsTree X q.Guarded = pats.Pat X
 PatternsTree X q.Typed = pats.PatType X
 
--- what soundness promises: of a where clause, which prints nothing where it has no predicate
-abbrev pub of_sound : {A : Type 0} → Grammar A → Category A
-of_sound G = record { reader = G.reader; print = G.print; promise = Sounds G; clear = λ a l. ⊥; refused = λ l a h v c. c; unique = λ l a b h v c. absurd c }
-
--- the whole promise, and the view of a tree as its print
+-- with the view of a tree as its print
 abbrev pub of_view : {A : Type 0} → Grammar A → (A → Print) → Category A
 of_view G print = record { reader = G.reader; print = print; promise = Headline G; clear = G.spells true; refused = λ l a h v c. h v a c; unique = λ l a b h v c. (h v).unique a c }
 
@@ -319,7 +314,7 @@ module _ {A E : Type 0} (attrs : R (List A)) (values : ReadValues E) (sa : Bool 
   generics_category g.ImplGenerics = of_view (promises.generics attrs values sa se na ne pa pe) (impl_generics pa pe)
   generics_category g.TypeGenerics = of_view (promises.generics attrs values sa se na ne pa pe) views.names
   generics_category g.Turbofish = of_view (promises.generics attrs values sa se na ne pa pe) views.turbofish
-  generics_category g.WhereClause = of_sound (promises.where_clause attrs values sa se na ne pa pe)
+  generics_category g.WhereClause = of_grammar (promises.where_clause attrs values sa se na ne pa pe)
   generics_category g.OptionalWhereClause = of_grammar (promises.optional_where_clause attrs values sa se na ne pa pe)
   generics_category g.Predicate = of_grammar (promises.predicate attrs values sa se na ne pa pe)
 
