@@ -6,6 +6,8 @@ pub mod read;
 ghost use Rattle.syn_attr.specs.attr.Lengths.{lens, spells_len, length_laws, bare_laws};
 ghost use Rattle.syn_attr.specs.attr.Normal.{attributes};
 ghost use Rattle.syn_attr.specs.attr.Consts.{normal_values_of, values_of, outer};
+ghost use Rattle.syn_attr.specs.attr.ConstsMeet.{consts_meet};
+ghost use Rattle.syn_attr.specs.attr.OuterMeet.{attributes_meet};
 ghost use Rattle.syn_attr.specs.attr.Reading as reading;
 ghost use Rattle.syn_attr.specs.attr.Spelling.{AreAll, IsOuter, IsConst, IsConstDefault};
 ghost use Rattle.syn_attr.specs.attr.Told.{attributes_told, consts_told};
@@ -33,6 +35,8 @@ impl<X: Subtree> Attributes for Attribute<X> {
     ghost bare = { bare_laws X.normal X.prints };
 
     ghost told = { attributes_told X.reads X.spells X.sound };
+
+    ghost met = { attributes_meet X.reads X.spells X.normal X.prints X.complete X.reprint X.apart };
 
     fn read_outer(
         alloc: Global,
@@ -62,6 +66,8 @@ impl<X: Subtree> Value for Expr<X> {
     ghost lengths = { length_laws X.reads X.spells X.normal X.prints X.steady X.sound X.complete X.reprint };
 
     ghost consts = { consts_told X.reads X.spells X.sound };
+
+    ghost met = { consts_meet X.reads X.spells X.normal X.prints X.complete X.reprint };
 
     fn read_len(alloc: Global, input: &mut ParseStream<'_>) -> Result<Expr<X>, Error> {
         let len = X::read(alloc, Place::ArrayLen, input)?;

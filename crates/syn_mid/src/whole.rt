@@ -11,7 +11,6 @@ ghost use Rattle.syn_forms.specs.declared.places.TypePlace.TheVariants.{NoPlus};
 ghost use Rattle.syn_pat.specs.declared.place.PatPlace.TheVariants.{LeadingVert, Multi, Single};
 ghost use Rattle.syn_pat.specs.pat.Knot as pats;
 ghost use Rattle.syn_pat.specs.pat.Promises as pat_promises;
-ghost use Rattle.syn_path.specs.Took.{Sounds};
 ghost use Rattle.syn_ty.specs.ty.Reading as types;
 ghost use Rattle.syn_ty.specs.ty.Knot as knot;
 ghost use Rattle.syn_ty.specs.ty.Promises as promises;
@@ -153,7 +152,7 @@ impl<A: Attributes, E: Value> Parser for WithoutPlusOf<A, E> {
 
     ghost refuses = { λ _. Fails (knot.ty A.reads E.reads NoPlus) };
 
-    ghost promise = { λ _. Sounds (promises.ty A.reads E.reads A.spells E.spells A.normal E.normal A.shown E.values NoPlus) };
+    ghost promise = { λ _. Headline (promises.ty A.reads E.reads A.spells E.spells A.normal E.normal A.shown E.values NoPlus) };
 
     fn parse(self, alloc: Global, input: &mut ParseStream<'_>) -> Result<TypeOf<A, E>, Error> {
         TypeOf::without_plus(alloc, input)
@@ -186,7 +185,7 @@ impl<A: Attributes, E: Value> Parser for ReturnWithoutPlusOf<A, E> {
 
     ghost refuses = { λ _. Fails (knot.return_type A.reads E.reads NoPlus) };
 
-    ghost promise = { λ _. Sounds (promises.return_type A.reads E.reads A.spells E.spells A.normal E.normal A.shown E.values NoPlus) };
+    ghost promise = { λ _. Headline (promises.return_type A.reads E.reads A.spells E.spells A.normal E.normal A.shown E.values NoPlus) };
 
     fn parse(
         self,
@@ -223,7 +222,7 @@ impl<A: Attributes, E: Value> Parser for ObjectWithoutPlusOf<A, E> {
 
     ghost refuses = { λ _. Fails (knot.trait_object A.reads E.reads false) };
 
-    ghost promise = { λ _. Sounds (promises.trait_object A.reads E.reads A.spells E.spells A.normal E.normal A.shown E.values NoPlus) };
+    ghost promise = { λ _. Headline (promises.trait_object A.reads E.reads A.spells E.spells A.normal E.normal A.shown E.values NoPlus) };
 
     fn parse(
         self,
@@ -260,7 +259,7 @@ impl<A: Attributes, E: Value> Parser for ImplWithoutPlusOf<A, E> {
 
     ghost refuses = { λ _. Fails (knot.impl_trait A.reads E.reads false) };
 
-    ghost promise = { λ _. Sounds (promises.impl_trait A.reads E.reads A.spells E.spells A.normal E.normal A.shown E.values NoPlus) };
+    ghost promise = { λ _. Headline (promises.impl_trait A.reads E.reads A.spells E.spells A.normal E.normal A.shown E.values NoPlus) };
 
     fn parse(
         self,
@@ -297,7 +296,7 @@ impl<A: Attributes, E: Value> Parser for ParseTurbofishOf<A, E> {
 
     ghost refuses = { λ _. Fails (knot.turbofish A.reads E.reads) };
 
-    ghost promise = { λ _. Sounds (promises.turbofish A.reads E.reads A.spells E.spells A.normal E.normal A.shown E.values) };
+    ghost promise = { λ _. Headline (promises.turbofish A.reads E.reads A.spells E.spells A.normal E.normal A.shown E.values) };
 
     fn parse(
         self,
@@ -334,7 +333,7 @@ impl<A: Attributes, E: Value> Parser for ParseOptionalLifetimesOf<A, E> {
 
     ghost refuses = { λ _. Fails (knot.optional_binder A.reads E.reads) };
 
-    ghost promise = { λ _. Sounds (promises.optional_binder A.reads E.reads A.spells E.spells A.normal E.normal A.shown E.values) };
+    ghost promise = { λ _. Headline (promises.optional_binder A.reads E.reads A.spells E.spells A.normal E.normal A.shown E.values) };
 
     fn parse(
         self,
@@ -371,7 +370,7 @@ impl<A: Attributes, E: Value> Parser for ParseOptionalWhereOf<A, E> {
 
     ghost refuses = { λ _. Fails (alone.optional_where_clause A.reads E.reads) };
 
-    ghost promise = { λ _. Sounds (promises.optional_where_clause A.reads E.reads A.spells E.spells A.normal E.normal A.shown E.values) };
+    ghost promise = { λ _. Headline (promises.optional_where_clause A.reads E.reads A.spells E.spells A.normal E.normal A.shown E.values) };
 
     fn parse(
         self,
@@ -403,7 +402,7 @@ impl Parser for ParseOptionalAbi {
 
     ghost refuses = { λ _. Fails types.optional_abi };
 
-    ghost promise = { λ _. Sounds promises.optional_abi };
+    ghost promise = { λ _. Headline promises.optional_abi };
 
     fn parse(self, alloc: Global, input: &mut ParseStream<'_>) -> Result<Option<Abi>, Error> {
         Abi::parse_optional(alloc, input)
@@ -433,7 +432,7 @@ impl<X: Subtree> Parser for ParseSingle<X> {
 
     ghost refuses = { λ _. Fails (pats.pat X.reads Single) };
 
-    ghost promise = { λ _. Sounds (pat_promises.pat X.reads X.spells X.normal X.prints Single) };
+    ghost promise = { λ _. Headline (pat_promises.pat X.reads X.spells X.normal X.prints Single) };
 
     fn parse(self, alloc: Global, input: &mut ParseStream<'_>) -> Result<Pat<X>, Error> {
         Pat::parse_single(alloc, input)
@@ -463,7 +462,7 @@ impl<X: Subtree> Parser for ParseMulti<X> {
 
     ghost refuses = { λ _. Fails (pats.pat X.reads Multi) };
 
-    ghost promise = { λ _. Sounds (pat_promises.pat X.reads X.spells X.normal X.prints Multi) };
+    ghost promise = { λ _. Headline (pat_promises.pat X.reads X.spells X.normal X.prints Multi) };
 
     fn parse(self, alloc: Global, input: &mut ParseStream<'_>) -> Result<Pat<X>, Error> {
         Pat::parse_multi(alloc, input)
@@ -493,7 +492,7 @@ impl<X: Subtree> Parser for ParseMultiWithLeadingVert<X> {
 
     ghost refuses = { λ _. Fails (pats.pat X.reads LeadingVert) };
 
-    ghost promise = { λ _. Sounds (pat_promises.pat X.reads X.spells X.normal X.prints LeadingVert) };
+    ghost promise = { λ _. Headline (pat_promises.pat X.reads X.spells X.normal X.prints LeadingVert) };
 
     fn parse(self, alloc: Global, input: &mut ParseStream<'_>) -> Result<Pat<X>, Error> {
         Pat::parse_multi_with_leading_vert(alloc, input)
@@ -523,7 +522,7 @@ impl<X: Subtree> Parser for ParseMultiWithLeadingVertAndGuard<X> {
 
     ghost refuses = { λ _. Fails (pats.guarded X.reads) };
 
-    ghost promise = { λ _. Sounds (pat_promises.guarded X.reads X.spells X.normal X.prints) };
+    ghost promise = { λ _. Headline (pat_promises.guarded X.reads X.spells X.normal X.prints) };
 
     fn parse(self, alloc: Global, input: &mut ParseStream<'_>) -> Result<Pat<X>, Error> {
         Pat::parse_multi_with_leading_vert_and_guard(alloc, input)

@@ -1,5 +1,5 @@
 -- What a whole read prints, by its category.
-use Rattle.std.proofs.Common.{◌≡◌, ◌≢◌, false, Option, Some, None, Result, Ok, Err, refl, ap, sym, ◌∙◌, inl, inr}
+use Rattle.std.proofs.Common.{◌≡◌, ◌≢◌, false, Option, Some, None, Result, Ok, Err, refl, ap, sym, ◌∙◌, subst, inl, inr}
 use Rattle.token_core.specs.declared.tree.TokenStream.{TokenStream}
 use Rattle.token_core.specs.Toks.{Toks}
 use Rattle.token_core.specs.Refusal.{Refusal}
@@ -7,15 +7,15 @@ use Rattle.token_core.specs.Spans.{none}
 use Rattle.token_core.specs.Stream.{Stream, started}
 use Rattle.token_core.specs.declared.error.ErrorKind.TheVariants.{OutOfMemory}
 use Rattle.token_core.specs.declared.span.Span.{Span}
-use Rattle.token_core.specs.Reads.{Reader, Outcome, Ends, Refuses, WholeRead, Parsed, Gives, Fails, leaves}
-use Rattle.token_core.specs.Headline.{Grammar, whole, end_of, ended}
-use Rattle.syn_path.specs.Supplied.{SameOutcome, UsesUp, Reprints as Reprinted}
-use Rattle.syn_path.specs.Took.{Sounds}
-use Rattle.syn_ty.proofs.ty_laws.WholeTold.{Whole}
+use Rattle.token_core.specs.Reads.{Reader, Outcome, Ends, Refuses, WholeRead, Parsed, Gives, Fails, kept, leaves}
+use Rattle.token_core.specs.Headline.{Grammar, Headline, Lawful, whole, end_of, ended}
+use Rattle.token_core.proofs.Headlines.{heads}
+use Rattle.syn_path.specs.Supplied.{SameOutcome, UsesUp, IsApart, Reprints as Reprinted}
 use Rattle.syn_pat.specs.declared.place.PatPlace.TheVariants as pat
 use Rattle.syn_pat.specs.pat.Promises as promises
-use Rattle.syn_pat.proofs.pat_laws.WholeTold.{pat_sound, guarded_sound, typed_sound}
+use Rattle.syn_pat.proofs.pat_laws.GivenLaws.{pat_lawful, guarded_lawful, typed_lawful}
 use Rattle.syn_path.specs.declared.supplied.Place.{Place}
+use Rattle.syn_path.specs.declared.supplied.Place.TheVariants.{Value}
 use Rattle.token_core.specs.Prints.{Print}
 use Rattle.synmid.specs.declared.reader.PatternReader.{PatternReader}
 use Rattle.synmid.specs.declared.reader.PatternReader.TheVariants.{Single, Multi, LeadingVert, Guarded, Typed}
@@ -48,37 +48,47 @@ read_whole {A = A} f s (Ok (b, t)) a h k = at (leaves t) refl k
     at None n e = (t, h ∙ ap (λ (z : A). Ok (z, t)) (same_answer b a e), n)
     at (Some z) n e = cc e
 
--- a sound read promises what soundness says
-pub sound-keeps : {A : Type 0} (G : Grammar A) → Whole G.reader (G.spells false) → (l : Toks) (a : A) → whole G.reader l ≡ Ok a → Sounds G l (Some a)
-sound-keeps G h l a e = λ v. let k = read_whole G.reader (started none l) (G.reader (started none l)) a refl e in h (started none l) k.0 a refl v k.1 k.2
+-- a read that meets the laws keeps the whole promise: of an answer
+pub lawful-keeps : {A : Type 0} (G : Grammar A) → Lawful G → (l : Toks) (a : A) → whole G.reader l ≡ Ok a → Headline G l (Some a)
+lawful-keeps G h l a e =
+    let k = read_whole G.reader (started none l) (G.reader (started none l)) a refl e in
+    subst (λ o. Headline G l (kept a o)) k.2 (heads G h (started none l) k.0 (Ok a) k.1 refl)
 
--- what a whole read shows, by a category that keeps its promise of each answer, and promises nothing of a refusal
-pub shows-reprints : {A : Type 0} (C : Category A) (l : Toks) (keeps : (a : A) → whole C.reader l ≡ Ok a → C.promise l (Some a)) (refuses : C.promise l None) (r : Result TokenStream Refusal) →
+-- and of a refusal
+pub lawful-refuses : {A : Type 0} (G : Grammar A) → Lawful G → (l : Toks) (e : Refusal) → whole G.reader l ≡ Err e → Headline G l None
+lawful-refuses {A = A} G h l e r v b i =
+    let k = h.complete (started none l) b refl v i in
+    let w : ◌≡◌ {A = Result A Refusal} (Ok b) (Err e) = sym (ap end_of k.1 ∙ ap (ended b k.0) k.2) ∙ r in
+    absurd (cc)
+
+-- what a whole read shows, by a category that keeps its promise of each answer and of each refusal
+pub shows-reprints : {A : Type 0} (C : Category A) (l : Toks) (keeps : (a : A) → whole C.reader l ≡ Ok a → C.promise l (Some a)) (refuses : (e : Refusal) → whole C.reader l ≡ Err e → C.promise l None) (r : Result TokenStream Refusal) →
     WholeRead (Shows C) (Fails C.reader) (started none l) r → Reprints C l r
 shows-reprints C l keeps refuses (Ok s) h =
     let e = ap end_of h.read.1 ∙ ap (ended h.read.0 h.last) h.is in
     (h.read.0, e, keeps h.read.0 e, h.read.2)
-shows-reprints C l keeps refuses (Err e) h = λ k. (shows-refused C l e (h k), refuses)
+shows-reprints C l keeps refuses (Err e) h = λ k. let r = shows-refused C l e (h k) in (r, refuses e r)
 
--- patterns are promised what soundness says
+-- patterns are promised the whole, from what a supplied subtree is promised
 module _ {X : Type 0} (reads : Place → Reader X) (spells : Place → X → Toks → Type 0) (normals : Place → X → X) (prints : Place → X → Print)
     (steady : (p : Place) (s t : Stream) → s.rest ≡ t.rest → SameOutcome (reads p s) (reads p t))
     (sound : (p : Place) (s t : Stream) (x : X) → reads p s ≡ Ok (x, t) → leaves t ≡ None → spells p x s.rest)
     (complete : (p : Place) (s : Stream) (x : X) → spells p x s.rest → (t : Stream) × (reads p s ≡ Ok (x, t)) × UsesUp s t)
-    (reprint : (p : Place) (x : X) (l : Toks) → spells p x l → Reprinted (spells p) (normals p) (prints p) x l) where
+    (reprint : (p : Place) (x : X) (l : Toks) → spells p x l → Reprinted (spells p) (normals p) (prints p) x l)
+    (apart : (x : X) (l : Toks) → spells Value x l → IsApart l) where
   pub pattern-keeps : (q : PatternReader) (l : Toks) (a : PatternsTree X q) → whole (patterns_category reads spells normals prints q).reader l ≡ Ok a → (patterns_category reads spells normals prints q).promise l (Some a)
-  pattern-keeps Single = sound-keeps (promises.pat reads spells normals prints pat.Single) (pat_sound reads spells normals prints steady sound complete reprint pat.Single)
-  pattern-keeps Multi = sound-keeps (promises.pat reads spells normals prints pat.Multi) (pat_sound reads spells normals prints steady sound complete reprint pat.Multi)
-  pattern-keeps LeadingVert = sound-keeps (promises.pat reads spells normals prints pat.LeadingVert) (pat_sound reads spells normals prints steady sound complete reprint pat.LeadingVert)
-  pattern-keeps Guarded = sound-keeps (promises.guarded reads spells normals prints) (guarded_sound reads spells normals prints steady sound complete reprint)
-  pattern-keeps Typed = sound-keeps (promises.typed reads spells normals prints) (typed_sound reads spells normals prints steady sound complete reprint)
+  pattern-keeps Single = lawful-keeps (promises.pat reads spells normals prints pat.Single) (pat_lawful reads spells normals prints steady sound complete reprint apart pat.Single)
+  pattern-keeps Multi = lawful-keeps (promises.pat reads spells normals prints pat.Multi) (pat_lawful reads spells normals prints steady sound complete reprint apart pat.Multi)
+  pattern-keeps LeadingVert = lawful-keeps (promises.pat reads spells normals prints pat.LeadingVert) (pat_lawful reads spells normals prints steady sound complete reprint apart pat.LeadingVert)
+  pattern-keeps Guarded = lawful-keeps (promises.guarded reads spells normals prints) (guarded_lawful reads spells normals prints steady sound complete reprint apart)
+  pattern-keeps Typed = lawful-keeps (promises.typed reads spells normals prints) (typed_lawful reads spells normals prints steady sound complete reprint apart)
 
-  pub pattern-refuses : (q : PatternReader) (l : Toks) → (patterns_category reads spells normals prints q).promise l None
-  pattern-refuses Single l = tt
-  pattern-refuses Multi l = tt
-  pattern-refuses LeadingVert l = tt
-  pattern-refuses Guarded l = tt
-  pattern-refuses Typed l = tt
+  pub pattern-refuses : (q : PatternReader) (l : Toks) (e : Refusal) → whole (patterns_category reads spells normals prints q).reader l ≡ Err e → (patterns_category reads spells normals prints q).promise l None
+  pattern-refuses Single = lawful-refuses (promises.pat reads spells normals prints pat.Single) (pat_lawful reads spells normals prints steady sound complete reprint apart pat.Single)
+  pattern-refuses Multi = lawful-refuses (promises.pat reads spells normals prints pat.Multi) (pat_lawful reads spells normals prints steady sound complete reprint apart pat.Multi)
+  pattern-refuses LeadingVert = lawful-refuses (promises.pat reads spells normals prints pat.LeadingVert) (pat_lawful reads spells normals prints steady sound complete reprint apart pat.LeadingVert)
+  pattern-refuses Guarded = lawful-refuses (promises.guarded reads spells normals prints) (guarded_lawful reads spells normals prints steady sound complete reprint apart)
+  pattern-refuses Typed = lawful-refuses (promises.typed reads spells normals prints) (typed_lawful reads spells normals prints steady sound complete reprint apart)
 
 -- a refusal of the read is one of what shows it
 pub shows-err : {A : Type 0} (C : Category A) (s t : Stream) (e : Refusal) (r : Result TokenStream Refusal) → r ≡ Err e → (e.kind ≢ OutOfMemory → C.reader s ≡ Err e) → Parsed (Shows C s) (Fails C.reader s) r t

@@ -60,7 +60,6 @@ use Rattle.syn_attr.specs.declared.expr.Expr.{Expr}
 use Rattle.syn_ty.specs.declared.ty.TypeInferOf as infer
 use Rattle.syn_ty.specs.declared.ty.TypeMacroOf as macro
 use Rattle.syn_ty.specs.declared.ty.TypeNeverOf as never
-use Rattle.syn_path.specs.Took.{Sounds}
 use Rattle.syn_path.specs.Values.{NormalValues, ReadValues, SpelledValues, Values}
 use Rattle.syn_attr.specs.attr.Consts.{normal_values_of, values_of, outer}
 use Rattle.syn_path.specs.mac.Grammars as macs
@@ -177,8 +176,8 @@ named name =
     else (if bytes_eq name (codes "PointerMutability") then Some PointerMutability
     else of_types name)))))))
 
--- What a run says of a reader: what it reads, what its trees print, and what a whole read promises. Of a complete reader it tells which tree a list spells
--- clearly: by the promise that tree is the answer, and there is none where the list is refused. Of the others it calls no spelling clear.
+-- What a run says of a reader: what it reads, what its trees print, and what a whole read promises. It tells which tree a list spells clearly: by the promise
+-- that tree is the answer, and there is none where the list is refused.
 pub record Category (A : Type 0) : Type 1 where
   pub reader : R A
   pub print : A → Print
@@ -262,73 +261,70 @@ PatternsTree X q.LeadingVert = pats.Pat X
 PatternsTree X q.Guarded = pats.Pat X
 PatternsTree X q.Typed = pats.PatType X
 
--- what soundness promises, and the view of a tree as its print
-abbrev pub of_sound : {A : Type 0} → Grammar A → Category A
-of_sound G = record { reader = G.reader; print = G.print; promise = Sounds G; clear = λ a l. ⊥; refused = λ l a h v c. c; unique = λ l a b h v c. absurd c }
-
+-- with the view of a tree as its print
 abbrev pub of_view : {A : Type 0} → Grammar A → (A → Print) → Category A
-of_view G print = record { reader = G.reader; print = print; promise = Sounds G; clear = λ a l. ⊥; refused = λ l a h v c. c; unique = λ l a b h v c. absurd c }
+of_view G print = record { reader = G.reader; print = print; promise = Headline G; clear = G.spells true; refused = λ l a h v c. h v a c; unique = λ l a b h v c. (h v).unique a c }
 
 module _ {A E : Type 0} (attrs : R (List A)) (values : ReadValues E) (sa : Bool → List A → Toks → Toks → Type 0) (se : SpelledValues E) (na : List A → List A) (ne : NormalValues E) (pa : List A → Print) (pe : Values E) where
   abbrev pub types_category : (r : TypeReader) → Category (TypesTree A E r)
-  types_category t.Any = of_sound (promises.ty attrs values sa se na ne pa pe Plus)
-  types_category t.WithoutPlus = of_sound (promises.ty attrs values sa se na ne pa pe NoPlus)
-  types_category t.Array = of_sound (promises.array attrs values sa se na ne pa pe)
-  types_category t.FnPtr = of_sound (promises.fn_ptr attrs values sa se na ne pa pe)
-  types_category t.Group = of_sound (promises.group attrs values sa se na ne pa pe)
-  types_category t.ImplTrait = of_sound (promises.impl_trait attrs values sa se na ne pa pe Plus)
-  types_category t.ImplWithoutPlus = of_sound (promises.impl_trait attrs values sa se na ne pa pe NoPlus)
+  types_category t.Any = of_grammar (promises.ty attrs values sa se na ne pa pe Plus)
+  types_category t.WithoutPlus = of_grammar (promises.ty attrs values sa se na ne pa pe NoPlus)
+  types_category t.Array = of_grammar (promises.array attrs values sa se na ne pa pe)
+  types_category t.FnPtr = of_grammar (promises.fn_ptr attrs values sa se na ne pa pe)
+  types_category t.Group = of_grammar (promises.group attrs values sa se na ne pa pe)
+  types_category t.ImplTrait = of_grammar (promises.impl_trait attrs values sa se na ne pa pe Plus)
+  types_category t.ImplWithoutPlus = of_grammar (promises.impl_trait attrs values sa se na ne pa pe NoPlus)
   types_category t.Infer = of_grammar (types.infer na)
   types_category t.Macro = of_grammar (types.macro_type na)
   types_category t.Never = of_grammar (types.never na)
-  types_category t.Paren = of_sound (promises.paren attrs values sa se na ne pa pe)
-  types_category t.Path = of_sound (promises.path_type attrs values sa se na ne pa pe)
-  types_category t.Ptr = of_sound (promises.ptr attrs values sa se na ne pa pe)
-  types_category t.Reference = of_sound (promises.reference attrs values sa se na ne pa pe)
-  types_category t.Slice = of_sound (promises.slice attrs values sa se na ne pa pe)
-  types_category t.TraitObject = of_sound (promises.trait_object attrs values sa se na ne pa pe Plus)
-  types_category t.ObjectWithoutPlus = of_sound (promises.trait_object attrs values sa se na ne pa pe NoPlus)
-  types_category t.Tuple = of_sound (promises.tuple attrs values sa se na ne pa pe)
-  types_category t.Return = of_sound (promises.return_type attrs values sa se na ne pa pe Plus)
-  types_category t.ReturnWithoutPlus = of_sound (promises.return_type attrs values sa se na ne pa pe NoPlus)
-  types_category t.NamedArg = of_sound (promises.named_arg attrs values sa se na ne pa pe)
-  types_category t.Abi = of_sound promises.abi
-  types_category t.OptionalAbi = of_sound promises.optional_abi
+  types_category t.Paren = of_grammar (promises.paren attrs values sa se na ne pa pe)
+  types_category t.Path = of_grammar (promises.path_type attrs values sa se na ne pa pe)
+  types_category t.Ptr = of_grammar (promises.ptr attrs values sa se na ne pa pe)
+  types_category t.Reference = of_grammar (promises.reference attrs values sa se na ne pa pe)
+  types_category t.Slice = of_grammar (promises.slice attrs values sa se na ne pa pe)
+  types_category t.TraitObject = of_grammar (promises.trait_object attrs values sa se na ne pa pe Plus)
+  types_category t.ObjectWithoutPlus = of_grammar (promises.trait_object attrs values sa se na ne pa pe NoPlus)
+  types_category t.Tuple = of_grammar (promises.tuple attrs values sa se na ne pa pe)
+  types_category t.Return = of_grammar (promises.return_type attrs values sa se na ne pa pe Plus)
+  types_category t.ReturnWithoutPlus = of_grammar (promises.return_type attrs values sa se na ne pa pe NoPlus)
+  types_category t.NamedArg = of_grammar (promises.named_arg attrs values sa se na ne pa pe)
+  types_category t.Abi = of_grammar promises.abi
+  types_category t.OptionalAbi = of_grammar promises.optional_abi
 
   abbrev pub paths_category : (r : PathReader) → Category (PathsTree A E r)
-  paths_category p.Whole = of_sound (promises.path attrs values sa se na ne pa pe)
-  paths_category p.Segment = of_sound (promises.segment attrs values sa se na ne pa pe)
-  paths_category p.Argument = of_sound (promises.argument attrs values sa se na ne pa pe)
-  paths_category p.AngleBracketed = of_sound (promises.angle attrs values sa se na ne pa pe)
-  paths_category p.ParseTurbofish = of_sound (promises.turbofish attrs values sa se na ne pa pe)
-  paths_category p.Parenthesized = of_sound (promises.parenthesized attrs values sa se na ne pa pe)
+  paths_category p.Whole = of_grammar (promises.path attrs values sa se na ne pa pe)
+  paths_category p.Segment = of_grammar (promises.segment attrs values sa se na ne pa pe)
+  paths_category p.Argument = of_grammar (promises.argument attrs values sa se na ne pa pe)
+  paths_category p.AngleBracketed = of_grammar (promises.angle attrs values sa se na ne pa pe)
+  paths_category p.ParseTurbofish = of_grammar (promises.turbofish attrs values sa se na ne pa pe)
+  paths_category p.Parenthesized = of_grammar (promises.parenthesized attrs values sa se na ne pa pe)
 
   abbrev pub generics_category : (r : GenericsReader) → Category (GenericsTree A E r)
-  generics_category g.Param = of_sound (promises.param attrs values sa se na ne pa pe)
-  generics_category g.LifetimeParam = of_sound (promises.lifetime_param attrs sa na pa)
-  generics_category g.TypeParam = of_sound (promises.type_param attrs values sa se na ne pa pe)
-  generics_category g.ConstParam = of_sound (promises.const_param attrs values sa se na ne pa pe)
-  generics_category g.BoundLifetimes = of_sound (promises.binder attrs values sa se na ne pa pe)
-  generics_category g.OptionalBoundLifetimes = of_sound (promises.optional_binder attrs values sa se na ne pa pe)
-  generics_category g.Bound = of_sound (promises.bound attrs values sa se na ne pa pe)
-  generics_category g.TraitBound = of_sound (promises.trait_bound attrs values sa se na ne pa pe)
-  generics_category g.Capture = of_sound promises.capture
-  generics_category g.Captured = of_sound promises.captured
-  generics_category g.Declared = of_sound (promises.generics attrs values sa se na ne pa pe)
+  generics_category g.Param = of_grammar (promises.param attrs values sa se na ne pa pe)
+  generics_category g.LifetimeParam = of_grammar (promises.lifetime_param attrs sa na pa)
+  generics_category g.TypeParam = of_grammar (promises.type_param attrs values sa se na ne pa pe)
+  generics_category g.ConstParam = of_grammar (promises.const_param attrs values sa se na ne pa pe)
+  generics_category g.BoundLifetimes = of_grammar (promises.binder attrs values sa se na ne pa pe)
+  generics_category g.OptionalBoundLifetimes = of_grammar (promises.optional_binder attrs values sa se na ne pa pe)
+  generics_category g.Bound = of_grammar (promises.bound attrs values sa se na ne pa pe)
+  generics_category g.TraitBound = of_grammar (promises.trait_bound attrs values sa se na ne pa pe)
+  generics_category g.Capture = of_grammar promises.capture
+  generics_category g.Captured = of_grammar promises.captured
+  generics_category g.Declared = of_grammar (promises.generics attrs values sa se na ne pa pe)
   generics_category g.ImplGenerics = of_view (promises.generics attrs values sa se na ne pa pe) (impl_generics pa pe)
   generics_category g.TypeGenerics = of_view (promises.generics attrs values sa se na ne pa pe) views.names
   generics_category g.Turbofish = of_view (promises.generics attrs values sa se na ne pa pe) views.turbofish
-  generics_category g.WhereClause = of_sound (promises.where_clause attrs values sa se na ne pa pe)
-  generics_category g.OptionalWhereClause = of_sound (promises.optional_where_clause attrs values sa se na ne pa pe)
-  generics_category g.Predicate = of_sound (promises.predicate attrs values sa se na ne pa pe)
+  generics_category g.WhereClause = of_grammar (promises.where_clause attrs values sa se na ne pa pe)
+  generics_category g.OptionalWhereClause = of_grammar (promises.optional_where_clause attrs values sa se na ne pa pe)
+  generics_category g.Predicate = of_grammar (promises.predicate attrs values sa se na ne pa pe)
 
 module _ {X : Type 0} (reads : Place → R X) (spells : Place → X → Toks → Type 0) (normals : Place → X → X) (prints : Place → X → Print) where
   abbrev pub patterns_category : (r : PatternReader) → Category (PatternsTree X r)
-  patterns_category q.Single = of_sound (pat_promises.pat reads spells normals prints Single)
-  patterns_category q.Multi = of_sound (pat_promises.pat reads spells normals prints Multi)
-  patterns_category q.LeadingVert = of_sound (pat_promises.pat reads spells normals prints LeadingVert)
-  patterns_category q.Guarded = of_sound (pat_promises.guarded reads spells normals prints)
-  patterns_category q.Typed = of_sound (pat_promises.typed reads spells normals prints)
+  patterns_category q.Single = of_grammar (pat_promises.pat reads spells normals prints Single)
+  patterns_category q.Multi = of_grammar (pat_promises.pat reads spells normals prints Multi)
+  patterns_category q.LeadingVert = of_grammar (pat_promises.pat reads spells normals prints LeadingVert)
+  patterns_category q.Guarded = of_grammar (pat_promises.guarded reads spells normals prints)
+  patterns_category q.Typed = of_grammar (pat_promises.typed reads spells normals prints)
 
 -- what attributes and expressions of the sample read
 abbrev pub sample_attributes : R (List (Attribute Sample))

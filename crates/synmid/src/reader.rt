@@ -4,8 +4,8 @@ ghost use Rattle.std.specs.Prelude.{◌≡◌, IfOk};
 ghost use Rattle.syn_ty.specs.generics.Alone as alone;
 ghost use Rattle.syn_ty.specs.generics.Views as views;
 ghost use Rattle.syn_ty.specs.ty.Promises as promises;
-ghost use Rattle.syn_path.specs.Took.{Sounds};
 ghost use Rattle.syn_pat.specs.pat.Printing as patterns;
+ghost use Rattle.token_core.specs.Headline.{Headline};
 ghost use Rattle.token_core.specs.Reads.{Fails, Follows, Gives, Parsed};
 ghost use Rattle.token_core.specs.Trees.{toks, trees};
 ghost use Rattle.synmid.specs.Readers as spec;
@@ -517,7 +517,7 @@ fn reprint_impl_generics<A: Attributes, E: Value>(
     alloc: Global,
     tokens: &TokenStream,
 ) -> Result<TokenStream, Error>
-    ensures { spec.Prints (Gives (alone.generics A.reads E.reads)) (Fails (alone.generics A.reads E.reads)) (Sounds (promises.generics A.reads E.reads A.spells E.spells A.normal E.normal A.shown E.values)) (spec.impl_generics A.shown E.values) (toks tokens.now) result }
+    ensures { spec.Prints (Gives (alone.generics A.reads E.reads)) (Fails (alone.generics A.reads E.reads)) (Headline (promises.generics A.reads E.reads A.spells E.spells A.normal E.normal A.shown E.values)) (spec.impl_generics A.shown E.values) (toks tokens.now) result }
 {
     let generics = read_all::<GenericsOf<A, E>>(alloc, tokens)?;
     let (impl_generics, _, _) = generics.split_for_impl();
@@ -529,7 +529,7 @@ fn reprint_type_generics<A: Attributes, E: Value>(
     alloc: Global,
     tokens: &TokenStream,
 ) -> Result<TokenStream, Error>
-    ensures { spec.Prints (Gives (alone.generics A.reads E.reads)) (Fails (alone.generics A.reads E.reads)) (Sounds (promises.generics A.reads E.reads A.spells E.spells A.normal E.normal A.shown E.values)) views.names (toks tokens.now) result }
+    ensures { spec.Prints (Gives (alone.generics A.reads E.reads)) (Fails (alone.generics A.reads E.reads)) (Headline (promises.generics A.reads E.reads A.spells E.spells A.normal E.normal A.shown E.values)) views.names (toks tokens.now) result }
 {
     let generics = read_all::<GenericsOf<A, E>>(alloc, tokens)?;
     let (_, type_generics, _) = generics.split_for_impl();
@@ -541,7 +541,7 @@ fn reprint_turbofish<A: Attributes, E: Value>(
     alloc: Global,
     tokens: &TokenStream,
 ) -> Result<TokenStream, Error>
-    ensures { spec.Prints (Gives (alone.generics A.reads E.reads)) (Fails (alone.generics A.reads E.reads)) (Sounds (promises.generics A.reads E.reads A.spells E.spells A.normal E.normal A.shown E.values)) views.turbofish (toks tokens.now) result }
+    ensures { spec.Prints (Gives (alone.generics A.reads E.reads)) (Fails (alone.generics A.reads E.reads)) (Headline (promises.generics A.reads E.reads A.spells E.spells A.normal E.normal A.shown E.values)) views.turbofish (toks tokens.now) result }
 {
     let generics = read_all::<GenericsOf<A, E>>(alloc, tokens)?;
     let (_, type_generics, _) = generics.split_for_impl();

@@ -1,5 +1,5 @@
 -- Const arguments in their normal form print the same.
-use Rattle.std.proofs.Common.{◌≡◌, Bool, true, false, List, [], ◌∷◌, cond, if◌then◌else◌, refl, sym, ◌∙◌, ap, subst}
+use Rattle.std.proofs.Common.{◌≡◌, Bool, true, false, List, [], ◌∷◌, cond, refl, sym, ◌∙◌, ap, subst}
 use Rattle.token_core.specs.declared.tree.Delimiter.TheVariants.{Brace}
 use Rattle.token_core.specs.Prints as p
 use Rattle.token_core.specs.Prints.{Print}
@@ -15,54 +15,19 @@ use Rattle.syn_attr.specs.declared.expr.Expr.{Expr, out-Expr, roll-Expr, roll-ou
 use Rattle.syn_attr.specs.declared.expr.Expr.TheVariants as e
 use Rattle.syn_attr.specs.declared.expr.ExprRange.{ExprRange}
 use Rattle.syn_attr.specs.attr.Attrs.{Attribute, expr_path_of}
+use Rattle.syn_attr.specs.attr.Alone.{const_alone, const_braced, alone-Lit, alone-Path, alone-Const, alone-Macro, alone-Range, alone-Block, alone-Other}
 use Rattle.syn_attr.specs.attr.Normal as attr
 use Rattle.syn_attr.specs.attr.Printing.{value}
 use Rattle.syn_attr.proofs.attr_laws.Normal.{value_same, at_place_same}
-use Rattle.syn_attr.proofs.attr_laws.Prints.{normal-Lit, normal-Path as normal-ExprPath, normal-Const as normal-ExprConst, normal-Macro, normal-Range, normal-Block, normal_place}
-use Rattle.syn_attr.specs.attr.Consts.{is_word, alone_layer, stands_alone, const_argument, normal_const_argument}
-use Rattle.syn_attr.specs.attr.Printing.{at_place}
-use Rattle.syn_attr.specs.declared.attr.AttributeOf.{AttributeOf}
-use Rattle.syn_attr.specs.declared.expr.ExprBlockOf.{ExprBlockOf}
-use Rattle.syn_attr.specs.declared.expr.ExprConstOf.{ExprConstOf}
-use Rattle.syn_attr.specs.declared.expr.ExprLitOf.{ExprLitOf}
-use Rattle.syn_attr.specs.declared.expr.ExprMacroOf.{ExprMacroOf}
-use Rattle.syn_attr.specs.declared.expr.ExprPathOf.{ExprPathOf}
-
-pub true_false : {R : Type 0} → true ≡ false → R
-true_false e = elim (subst (λ (b : Bool). cond b (Unit {0}) ⊥) e tt) [ ]
-
-module _ {X : Type 0} (px : Place → X → Print) where
-  pub const_alone : (x : Expr X) → stands_alone x ≡ true → const_argument px x ≡ value px x
-  const_alone x h = ap (λ z. if z then value px x else p.group Brace (stream_of_trees (at_place px Block x)) (delim_span none none)) h
-
-  pub const_braced : (x : Expr X) → stands_alone x ≡ false → const_argument px x ≡ p.group Brace (stream_of_trees (at_place px Block x)) (delim_span none none)
-  const_braced x h = ap (λ z. if z then value px x else p.group Brace (stream_of_trees (at_place px Block x)) (delim_span none none)) h
-
-module _ {X : Type 0} where
-  pub alone-Lit : (x : ExprLitOf (AttributeOf (Meta X))) → stands_alone (e.Lit x) ≡ true
-  alone-Lit x = ap alone_layer (e.outs-Lit x)
-
-  pub alone-Path : (x : ExprPathOf (AttributeOf (Meta X)) ModPath) → stands_alone (e.Path x) ≡ is_word x
-  alone-Path x = ap alone_layer (e.outs-Path x)
-
-  pub alone-Const : (x : ExprConstOf (AttributeOf (Meta X)) X) → stands_alone (e.Const x) ≡ false
-  alone-Const x = ap alone_layer (e.outs-Const x)
-
-  pub alone-Macro : (x : ExprMacroOf (AttributeOf (Meta X))) → stands_alone (e.Macro x) ≡ false
-  alone-Macro x = ap alone_layer (e.outs-Macro x)
-
-  pub alone-Range : (x : ExprRange X) → stands_alone (e.Range x) ≡ false
-  alone-Range x = ap alone_layer (e.outs-Range x)
-
-  pub alone-Block : (x : ExprBlockOf (AttributeOf (Meta X)) X) → stands_alone (e.Block x) ≡ true
-  alone-Block x = ap alone_layer (e.outs-Block x)
-
-  pub alone-Other : (x : X) → stands_alone (e.Other x) ≡ false
-  alone-Other x = ap alone_layer (e.outs-Other x)
+use Rattle.syn_attr.specs.attr.Prints.{normal-Lit, normal-Path as normal-ExprPath, normal-Const as normal-ExprConst, normal-Macro, normal-Range, normal-Block, normal_place}
+use Rattle.syn_attr.specs.attr.Consts.{is_word, stands_alone, const_argument, normal_const_argument}
 
 pub ruleset alone = (alone-Lit, alone-Path, alone-Const, alone-Macro, alone-Range, alone-Block, alone-Other)
 
 pub ruleset consts = (const_alone, const_braced)
+
+pub true_false : {R : Type 0} → true ≡ false → R
+true_false e = elim (subst (λ (b : Bool). cond b (Unit {0}) ⊥) e tt) [ ]
 
 module _ {X : Type 0} (nx : Place → X → X) (px : Place → X → Print) (same : (w : Place) (x : X) → px w (nx w x) ≡ px w x) where
   -- what stands alone does so in its normal form

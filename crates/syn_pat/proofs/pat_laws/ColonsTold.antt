@@ -35,6 +35,7 @@ use Rattle.syn_ty.specs.ty.Objects.{IsFirst, a_first, a_first_for, a_dyn, an_imp
 use Rattle.syn_ty.specs.ty.Parts.{Manner, is_clear, kept, End, Parts}
 use Rattle.syn_ty.specs.ty.Spelling.{IsOptional, absent, present, an_infer, a_never}
 use Rattle.syn_ty.specs.ty.Trees.{BoundLifetimes, Path, PathSegment, QSelf, TypeTree}
+use Rattle.syn_ty.proofs.ty_laws.HeldForms.{held_spelt}
 use Rattle.syn_pat.proofs.pat_laws.WithinTold.{and_second, chosen_some, sees_called, Stops}
 
 -- a `:` there is the first half of `::`
@@ -173,7 +174,7 @@ module _ {A E : Type 0} (part : Manner → Parts A E) (how : Manner) (place : Ty
   type_starts e x l k (an_array_type (counted {s = s} {c = c} i j h)) = group_starts _ s c k
   type_starts e x l k (an_infer_type (an_infer {w = w} i)) = word_starts w l k i
   type_starts e x l k (a_never_type (a_never {b = b} i)) = bang_starts (is_clear how) b l k i
-  type_starts e x l k (a_verbatim_type i h) = verbatim_starts part (kept how) place e l k i
+  type_starts e x l k (a_verbatim_type {t = t} i) = verbatim_starts part (kept how) place e l k (held_spelt (λ m. IsVerbatimType part m place e) how t l k i)
 
 -- ---- a `:` that is read from a `::` before parentheses leaves a lone one
 

@@ -101,7 +101,7 @@ module _ {X : Type 0} (supplied : Place → Reader X) (spells : Place → X → 
   boxed_at : (a : Attrs X) (b : token.Box) (f : Option token.Ref) (u : Option token.Mut) (i : Ident) (x : TokenStream) (l m n o j k : Toks) → Outer a l m → IsOptional IsWord (Some b) m n → IsOptional IsWord f n o → IsOptional IsWord u o j →
       j ≡ word i k →
       is_ident i.text ≡ true → Holds x m k → Of (field_of a (member.Named i) None (pat.Verbatim x)) l k
-  boxed_at a b f u i x l m n o j k p (present y) q w e d held = boxed p (a_boxed_name y q (subst (λ z. IsOptional IsWord u o z) e w) d) held
+  boxed_at a b f u i x l m n o j k p (present y) q w e d held = boxed p (a_boxed_name y q (subst (λ z. IsOptional IsWord u o z) e w) d, held)
 
   -- The modes and the name stand between two states of the stream, and so does the field.
   bound_took : (a : Attrs X) (l : Toks) (b : Option token.Box) (f : Option token.Ref) (u : Option token.Mut) (i : Ident) (s c d t : Stream) (x : FieldPat X) → Visible s.rest → Visible d.rest → Follows s d → c.rest ≡ word i d.rest →

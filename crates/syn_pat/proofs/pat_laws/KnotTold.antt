@@ -18,8 +18,9 @@ use Rattle.syn_attr.specs.declared.expr.Expr.TheVariants as e
 use Rattle.syn_forms.specs.declared.places.TypePlace.TheVariants.{Plus}
 use Rattle.syn_forms.specs.nested.Below.{ahead, below}
 use Rattle.syn_forms.proofs.nested_laws.Below.{out}
-use Rattle.syn_forms.proofs.tokens_laws.Fronts.{nothing_left, took_whole}
-use Rattle.syn_ty.specs.ty.Parts.{Manner, loosely, End}
+use Rattle.syn_forms.proofs.tokens_laws.Fronts.{took_whole}
+use Rattle.syn_ty.specs.ty.Fronts as types
+use Rattle.syn_ty.specs.ty.Parts.{Manner, loosely, End, Told}
 use Rattle.syn_ty.specs.ty.Spelling.{Relation}
 use Rattle.syn_ty.specs.ty.Trees.{TypeTree}
 use Rattle.syn_ty.proofs.ty_laws.Sound.{named_sound}
@@ -30,10 +31,11 @@ use Rattle.syn_pat.specs.declared.place.PatPlace.TheVariants.{Single, LeadingVer
 use Rattle.syn_pat.specs.pat.Admitted.{IsPat}
 use Rattle.syn_pat.specs.pat.Knot as knot
 use Rattle.syn_pat.specs.pat.Knot.{guard_after, guarded, pat, read_at, typed}
-use Rattle.syn_pat.specs.pat.Fronts.{IsSomePat}
+use Rattle.syn_pat.specs.pat.Fronts as fronts
+use Rattle.syn_pat.specs.pat.Fronts.{IsSomePat, some_pat_type}
 use Rattle.syn_pat.specs.pat.Pats.{Pat, PatType, guard_of, typed_of}
 use Rattle.syn_pat.specs.pat.Reading.{Readers}
-use Rattle.syn_pat.specs.pat.Spelling.{types_to}
+use Rattle.syn_pat.specs.pat.Spelling.{outer_spelt, types_to, values_spelt}
 use Rattle.syn_pat.specs.pat.Spelt.{SpellsGuarded, without_guard, with_guard, SpellsPat, SpellsPatType, a_pat_type, pats_to}
 use Rattle.syn_pat.proofs.pat_laws.AlongTold.{turn_along}
 use Rattle.syn_pat.proofs.pat_laws.CasesTold.{turn_took}
@@ -111,15 +113,19 @@ module _ {X : Type 0} (supplied : Place → Reader X) (spells : Place → X → 
   some_starts zero f x l k i = absurd i
   some_starts (suc n) f x l k i = type_starts (types_to spells n) loosely Plus f x l k i
 
-  -- what a pattern, `:` and a type spell, where the pattern stops before the `:`
-  typed_at : (x : Pat X) (c : token.Colon) (y : TypeTree (Attr X) (Expr X)) (l m j : Toks) → Visible j → Before (IsSomePat spells Single) x l m → IsMark false c m j → IsSomeType spells y j done → SpellsPatType spells loosely (typed_of [] x c y) l
-  typed_at x c y l m j v i k f =
-      let w = i (colon_stops c m j v k (some_starts f.0 f.1.0 y j done f.1.1)) in
-      a_pat_type w.0 f.0 f.1.0 w.1 k f.1.1
+  -- a type of some height is what the reader of types takes on a front
+  some_type : (n : ℕ) (x : TypeTree (Attr X) (Expr X)) (l k : Toks) → Told ((types_to spells n loosely).ty Plus) x l k → types.ty (outer_spelt spells) (values_spelt spells) Plus x l k
+  some_type zero x l k i = absurd i.1
+  some_type (suc n) x l k i = (n, i)
 
-  pub typed_sound : (s t : Stream) (x : PatType X) → Visible s.rest → typed supplied s ≡ Ok (x, t) → leaves t ≡ None → SpellsPatType spells loosely x s.rest
+  -- what a pattern, `:` and a type spell, where the pattern stops before the `:`
+  typed_at : (x : Pat X) (c : token.Colon) (y : TypeTree (Attr X) (Expr X)) (l m j r : Toks) → Visible j → Before (IsSomePat spells Single) x l m → IsMark false c m j → IsSomeType spells y j r → fronts.typed spells (typed_of [] x c y) l r
+  typed_at x c y l m j r v i k f = some_pat_type (i (colon_stops c m j v k (some_starts f.0 f.1.0 y j r f.1.1))) k (some_type f.0 y j r f.1)
+
+  -- on the front of a list
+  pub typed_took : (s t : Stream) (x : PatType X) → Visible s.rest → typed supplied s ≡ Ok (x, t) → TookOne (fronts.typed spells) s t x
   unfolding typed
-  typed_sound s t x v d n =
+  typed_took s t x v d =
       let c = chain (pat supplied Single s) _ x t d in
       let k = pat_took Single s c.rest c.value v c.was in
       let f = chain (token.colon c.rest) _ x t c.goes in
@@ -128,6 +134,16 @@ module _ {X : Type 0} (supplied : Place → Reader X) (spells : Place → X → 
       let with : TypeTree (Attr X) (Expr X) → PatType X = λ z. typed_of [] c.value f.value z in
       let m = mapped (knot.ty supplied f.rest) with x t f.goes in
       let q = g.ty f.rest t m.value vf m.was in
-      let left = q.left (nothing_left t n) in
-      subst (λ z. SpellsPatType spells loosely z s.rest) m.is
-      (typed_at c.value f.value m.value s.rest c.rest.rest f.rest.rest vf (k.spelt (sym kf.left ∙ left)) kf.spelt (took_whole {Is = IsSomeType spells} f.rest t m.value q n))
+      record {
+        left = λ n. k.left (sym kf.left ∙ q.left n);
+        seen = q.seen;
+        spelt = λ n. subst (λ z. fronts.typed spells z s.rest t.rest) m.is
+            (typed_at c.value f.value m.value s.rest c.rest.rest f.rest.rest t.rest vf (k.spelt (sym kf.left ∙ q.left n)) kf.spelt (q.spelt n));
+      }
+
+  -- all of a list
+  pub typed_whole : (x : PatType X) (l : Toks) → fronts.typed spells x l done → SpellsPatType spells loosely x l
+  typed_whole x l (some_pat_type i j h) = a_pat_type i.0 (suc h.0) h.1.0 i.1 j h.1.1
+
+  pub typed_sound : (s t : Stream) (x : PatType X) → Visible s.rest → typed supplied s ≡ Ok (x, t) → leaves t ≡ None → SpellsPatType spells loosely x s.rest
+  typed_sound s t x v d n = typed_whole x s.rest (took_whole {Is = fronts.typed spells} s t x (typed_took s t x v d) n)

@@ -37,7 +37,7 @@ use Rattle.syn_pat.specs.declared.pat.PatOf.TheVariants as pat
 use Rattle.syn_pat.specs.declared.pat.PatRangeBoundOf.TheVariants as bounds
 use Rattle.syn_pat.specs.declared.place.PatPlace.{PatPlace}
 use Rattle.syn_pat.specs.declared.place.PatPlace.TheVariants.{Single, LeadingVert}
-use Rattle.syn_pat.specs.pat.Admitted.{IsSingle, a_binding_pat, a_call, a_path, a_struct, a_tuple_struct, a_verbatim, a_wild}
+use Rattle.syn_pat.specs.pat.Admitted.{a_box, IsSingle, a_binding_pat, a_call, a_path, a_struct, a_tuple_struct, a_verbatim, a_wild}
 use Rattle.syn_pat.specs.pat.Pats.{Pat, path_pat_of, struct_of, tuple_struct_of, wild_of}
 use Rattle.syn_pat.specs.pat.Reading.{Fields, Readers, after_path, begins_binding, begins_bound, begins_path, binding, box_pat, by_mark, by_word, elements, fields, path_pat, qpath, reference, sees_half_open, single, slice, struct_after, tuple_struct_after}
 use Rattle.syn_pat.specs.pat.Spelling.{IsHead, a_pat_path, a_path_start, types_to}
@@ -75,7 +75,7 @@ module _ {X : Type 0} (supplied : Place → Reader X) (spells : Place → X → 
       let f = mapped (since (position s) d.rest) (λ (z : TokenStream). pat.Verbatim z) x t d.goes in
       let on = follows_trans s c.rest d.rest (named {n = 5} s c.rest c.value c.was) (h.along Single c.rest d.rest d.value d.was) in
       let q = holds_since s d.rest t f.value v w.seen on f.was in
-      let all : TookOne (Before Of) s d.rest (pat.Verbatim f.value) = record { left = λ n. k.left (w.left n); seen = w.seen; spelt = λ n stop. a_verbatim (k.spelt (w.left n)) (w.spelt n stop) q.1 } in
+      let all : TookOne (Before Of) s d.rest (pat.Verbatim f.value) = record { left = λ n. k.left (w.left n); seen = w.seen; spelt = λ n stop. a_verbatim (a_box (k.spelt (w.left n)) (w.spelt n stop), q.1) } in
       subst (λ z. TookOne (Before Of) s t z) f.is (subst (λ z. TookOne (Before Of) s z (pat.Verbatim f.value)) q.0 all)
 
   -- ---- after a path

@@ -18,7 +18,7 @@ use Rattle.syn_path.specs.declared.supplied.Place.{Place}
 use Rattle.syn_attr.specs.attr.Attrs.{Attribute as Attr, expr_macro_of, lit_of}
 use Rattle.syn_attr.specs.declared.expr.Expr.{Expr}
 use Rattle.syn_attr.specs.declared.expr.ExprConstOf.{ExprConstOf}
-use Rattle.syn_ty.specs.ty.Parts.{Manner, is_clear, kept, Holds, AreMarked}
+use Rattle.syn_ty.specs.ty.Parts.{Manner, is_clear, IsVerbatim, AreMarked}
 use Rattle.syn_ty.specs.ty.Spelling.{IsOptional, Relation}
 use Rattle.syn_ty.specs.ty.Trees.{Path, QSelf}
 use Rattle.syn_ty.specs.ty.Types.{Comma}
@@ -68,6 +68,11 @@ pub data IsBoxedName : Ident → Toks → Toks → Type 0 where
   a_boxed_name : {b : token.Box} {f : Option token.Ref} {u : Option token.Mut} {i : Ident} {l m n r : Toks} →
       IsWord b l m → IsOptional IsWord f m n → IsOptional IsWord u n (word i r) → is_ident i.text ≡ true → IsBoxedName i l r
 
+-- `box` and a single pattern: there is no tree for it
+module _ {X : Type 0} (part : Manner → PatPlace → Relation (Pat X)) (how : Manner) where
+  pub data IsBoxed : Toks → Toks → Type 0 where
+    a_box : {b : token.Box} {x : Pat X} {l m r : Toks} → IsWord b l m → part how Single x m r → IsBoxed l r
+
 -- what a supplied subtree spells in a place is given, and what a pattern spells within another
 module _ {X : Type 0} (spells : Place → X → Toks → Type 0) (part : Manner → PatPlace → Relation (Pat X)) (how : Manner) where
   -- ---- bindings
@@ -88,7 +93,7 @@ module _ {X : Type 0} (spells : Place → X → Toks → Type 0) (part : Manner 
     without_colon : {a : Attrs X} {f : Option token.Ref} {u : Option token.Mut} {i : Ident} {l m n r : Toks} →
         outer_spelt spells (is_clear how) a l m → IsOptional IsWord f m n → IsOptional IsWord u n (word i r) → is_ident i.text ≡ true →
         IsField (field_of a (member.Named i) None (v.Ident (binding_of [] f u i None))) l r
-    boxed : {a : Attrs X} {i : Ident} {t : TokenStream} {l m r : Toks} → outer_spelt spells (is_clear how) a l m → IsBoxedName i m r → Holds t m r → IsField (field_of a (member.Named i) None (v.Verbatim t)) l r
+    boxed : {a : Attrs X} {i : Ident} {t : TokenStream} {l m r : Toks} → outer_spelt spells (is_clear how) a l m → IsVerbatim (λ (m : Manner). IsBoxedName i) how t m r → IsField (field_of a (member.Named i) None (v.Verbatim t)) l r
 
   -- what the braces hold: fields joined by commas, of which there may be none and the last may have its comma; or fields that each have their comma, and `..`
   pub data AreFields : Many (FieldPat X) Comma → Option (PatRest X) → Toks → Type 0 where
@@ -126,7 +131,7 @@ module _ {X : Type 0} (spells : Place → X → Toks → Type 0) (part : Manner 
     a_struct : {q : Option (QSelf (Attr X) (Expr X))} {p : Path (Attr X) (Expr X)} {s : DelimSpan} {w : Many (FieldPat X) Comma} {o : Option (PatRest X)} {l c r : Toks} →
         IsHead spells how q p l (group Brace s c r) → AreFields w o c → IsSingle (v.Struct (struct_of [] q p (groups.brace s) w o)) l r
     -- `box` and a single pattern are held verbatim
-    a_verbatim : {b : token.Box} {x : Pat X} {t : TokenStream} {l m r : Toks} → IsWord b l m → part (kept how) Single x m r → Holds t l r → IsSingle (v.Verbatim t) l r
+    a_verbatim : {t : TokenStream} {l r : Toks} → IsVerbatim (IsBoxed part) how t l r → IsSingle (v.Verbatim t) l r
 
   -- ---- a pattern in its place
 

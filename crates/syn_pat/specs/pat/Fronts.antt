@@ -1,15 +1,23 @@
 -- What the readers of patterns take on the front of a list.
-use Rattle.std.specs.Prelude.{◌≡◌, ◌&&◌, ℕ, Bool, false}
+use Rattle.std.specs.Prelude.{◌≡◌, ◌&&◌, ℕ, Bool, false, []}
 use Rattle.token_core.specs.declared.tree.Delimiter.TheVariants.{Parenthesis}
 use Rattle.token_core.specs.Reads.{sees_group, third}
+use Rattle.token_core.specs.Spellings.{IsMark}
 use Rattle.token_core.specs.Tokens as token
 use Rattle.token_core.specs.Toks.{Toks}
 use Rattle.syn_path.specs.declared.supplied.Place.{Place}
+use Rattle.syn_attr.specs.attr.Attrs.{Attribute as Attr}
+use Rattle.syn_attr.specs.declared.expr.Expr.{Expr}
+use Rattle.syn_forms.specs.declared.places.TypePlace.TheVariants.{Plus}
+use Rattle.syn_ty.specs.ty.Fronts as types
 use Rattle.syn_ty.specs.ty.Parts.{loosely}
 use Rattle.syn_ty.specs.ty.Spelling.{Relation}
+use Rattle.syn_ty.specs.ty.Trees.{TypeTree}
 use Rattle.syn_pat.specs.declared.place.PatPlace.{PatPlace}
+use Rattle.syn_pat.specs.declared.place.PatPlace.TheVariants.{Single}
 use Rattle.syn_pat.specs.pat.Admitted.{IsPat}
-use Rattle.syn_pat.specs.pat.Pats.{Pat}
+use Rattle.syn_pat.specs.pat.Pats.{Pat, PatType, typed_of}
+use Rattle.syn_pat.specs.pat.Spelling.{outer_spelt, values_spelt}
 use Rattle.syn_pat.specs.pat.Spelt.{pats_to}
 
 -- a `::` before parentheses, with which no path goes on
@@ -31,3 +39,11 @@ module _ {X : Type 0} (spells : Place → X → Toks → Type 0) where
 
   abbrev pub pat : PatPlace → Pat X → Toks → Toks → Type 0
   pat place = Before (IsSomePat place)
+
+  -- a single pattern, `:` and a type with plus: nothing is asked of what follows, since the pattern stops before the `:`
+  pub data IsSomePatType : PatType X → Toks → Toks → Type 0 where
+    some_pat_type : {x : Pat X} {c : token.Colon} {t : TypeTree (Attr X) (Expr X)} {l m j k : Toks} →
+        IsSomePat Single x l m → IsMark false c m j → types.ty (outer_spelt spells) (values_spelt spells) Plus t j k → IsSomePatType (typed_of [] x c t) l k
+
+  abbrev pub typed : PatType X → Toks → Toks → Type 0
+  typed = IsSomePatType

@@ -8,12 +8,13 @@ pub mod ranges;
 pub mod step;
 pub mod tokens;
 
-ghost use Rattle.syn_path.specs.Took.{Sounds, Takes};
+ghost use Rattle.syn_path.specs.Took.{Takes};
 ghost use Rattle.syn_pat.specs.declared.place.PatPlace.TheVariants.{LeadingVert, Multi, Single};
 ghost use Rattle.syn_pat.specs.pat.Fronts as fronts;
 ghost use Rattle.syn_pat.specs.pat.Knot as knot;
 ghost use Rattle.syn_pat.specs.pat.Promises as promises;
-ghost use Rattle.token_core.specs.Reads.{Fails, Follows, Gives, Keeps, Parses, Reads};
+ghost use Rattle.token_core.specs.Headline.{Headline, Heads};
+ghost use Rattle.token_core.specs.Reads.{Fails, Follows, Gives, Parses, Reads};
 
 use crate::knot::parse_pat;
 use crate::pat::{Pat, PatGuardOf, PatType, PatTypeOf};
@@ -39,7 +40,7 @@ impl<X: Subtree> Pat<X> {
     /// slice is a range that lacks a bound. As `syn::Pat::parse_single`.
     pub fn parse_single(alloc: Global, input: &mut ParseStream<'_>) -> Result<Pat<X>, Error>
         ensures parses { Parses (knot.pat X.reads Single) result input.old input.new }
-        ensures promise { Keeps (Sounds (promises.pat X.reads X.spells X.normal X.prints Single)) input.old result input.new }
+        ensures promise { Heads (promises.pat X.reads X.spells X.normal X.prints Single) input.old result input.new }
         ensures front { Takes (fronts.pat X.spells Single) input.old result input.new }
     {
         parse_pat::<X>(alloc, PhantomData, input, PatPlace::Single)
@@ -54,7 +55,7 @@ impl<X: Subtree> Pat<X> {
     /// A `||` and a `|=` are left. It is refused where a pattern is, one before the first `|` too. As `syn::Pat::parse_multi`.
     pub fn parse_multi(alloc: Global, input: &mut ParseStream<'_>) -> Result<Pat<X>, Error>
         ensures parses { Parses (knot.pat X.reads Multi) result input.old input.new }
-        ensures promise { Keeps (Sounds (promises.pat X.reads X.spells X.normal X.prints Multi)) input.old result input.new }
+        ensures promise { Heads (promises.pat X.reads X.spells X.normal X.prints Multi) input.old result input.new }
         ensures front { Takes (fronts.pat X.spells Multi) input.old result input.new }
     {
         parse_pat::<X>(alloc, PhantomData, input, PatPlace::Multi)
@@ -72,7 +73,7 @@ impl<X: Subtree> Pat<X> {
         input: &mut ParseStream<'_>,
     ) -> Result<Pat<X>, Error>
         ensures parses { Parses (knot.pat X.reads LeadingVert) result input.old input.new }
-        ensures promise { Keeps (Sounds (promises.pat X.reads X.spells X.normal X.prints LeadingVert)) input.old result input.new }
+        ensures promise { Heads (promises.pat X.reads X.spells X.normal X.prints LeadingVert) input.old result input.new }
         ensures front { Takes (fronts.pat X.spells LeadingVert) input.old result input.new }
     {
         parse_pat::<X>(alloc, PhantomData, input, PatPlace::LeadingVert)
@@ -90,7 +91,7 @@ impl<X: Subtree> Pat<X> {
         input: &mut ParseStream<'_>,
     ) -> Result<Pat<X>, Error>
         ensures parses { Parses (knot.guarded X.reads) result input.old input.new }
-        ensures promise { Keeps (Sounds (promises.guarded X.reads X.spells X.normal X.prints)) input.old result input.new }
+        ensures promise { Heads (promises.guarded X.reads X.spells X.normal X.prints) input.old result input.new }
     {
         parse_guarded(alloc, input)
     }
@@ -145,12 +146,13 @@ impl<X: Subtree> Parse for PatType<X> {
 
     ghost refuses = { Fails (knot.typed X.reads) };
 
-    ghost promise = { Sounds (promises.typed X.reads X.spells X.normal X.prints) };
+    ghost promise = { Headline (promises.typed X.reads X.spells X.normal X.prints) };
 
     fn parse(alloc: Global, input: &mut ParseStream<'_>) -> Result<PatType<X>, Error>
         ensures reads { Reads (knot.typed X.reads input.old) result input.new }
         ensures within { Follows input.old input.new }
-        ensures promise { Keeps (Sounds (promises.typed X.reads X.spells X.normal X.prints)) input.old result input.new }
+        ensures promise { Heads (promises.typed X.reads X.spells X.normal X.prints) input.old result input.new }
+        ensures front { Takes (fronts.typed X.spells) input.old result input.new }
     {
         parse_typed(alloc, input)
     }

@@ -129,7 +129,7 @@ module _ {A E : Type 0} (part : Manner → Parts A E) where
     item_told e x n l r (an_array_type i) h = no_name n (item_of x) (ap item_layer (form.outs-Array _)) h
     item_told e x n l r (an_infer_type i) h = no_name n (item_of x) (ap item_layer (form.outs-Infer _)) h
     item_told e x n l r (a_never_type i) h = no_name n (item_of x) (ap item_layer (form.outs-Never _)) h
-    item_told e x n l r (a_verbatim_type i j) h = no_name n (item_of x) (ap item_layer (form.outs-Verbatim _)) h
+    item_told e x n l r (a_verbatim_type i) h = no_name n (item_of x) (ap item_layer (form.outs-Verbatim _)) h
 
 -- by the rules, arguments of a segment stand in angle brackets
 pub in_angles : {A E : Type 0} (part : Manner → Parts A E) (x : PathArguments A E) (l r : Toks) → IsArguments part loosely x l r → (y : AngleBracketed A E) × (x ≡ a.AngleBracketed y)

@@ -249,7 +249,7 @@ module _ {A E : Type 0} (r : Readers A E) (part : Manner → Parts A E) (h : Hel
     const_bare_at : (x : TokenStream) (l k : Toks) → FoundHere None l k → Holds x l k → Of (b.Verbatim x) l k
     const_bare_at x l k w i =
         let q = found_const part (allows_const place) w.0 l k w.1 in
-        (w.0, a_verbatim_bound q.0 (a_const_alone q.1) i, w.2, w.3)
+        (w.0, a_verbatim_bound q.0 (a_const_alone q.1, i), w.2, w.3)
 
     kept_took : (s d t : Stream) (o : Option Trait) (x : Bound) → Visible s.rest → (o ≡ None → Follows s d) → TookOne FoundHere s d o → reading.kept (position s) o d ≡ Ok (x, t) → TookOne Of s t x
     kept_took s d t (Some y) x v f w e =
@@ -277,7 +277,7 @@ module _ {A E : Type 0} (r : Readers A E) (part : Manner → Parts A E) (h : Hel
     const_held_at i x l k w g =
         let q = found_const part (allows_const place) w.holds.0 w.content done w.holds.1 in
         let at : Holds x (group Parenthesis i w.content k) k = sym w.is ∙ g in
-        (closed, subst (λ z. IsBound part loosely place closed (b.Verbatim x) z k) (sym w.is) (a_verbatim_bound q.0 (a_const_in_parens q.1) at), never_open, never_open)
+        (closed, subst (λ z. IsBound part loosely place closed (b.Verbatim x) z k) (sym w.is) (a_verbatim_bound q.0 (a_const_in_parens q.1, at)), never_open, never_open)
 
     held_took : (s d t : Stream) (i : DelimSpan) (o : Option Trait) (x : Bound) → Visible s.rest → Follows s d → TookOne (IsHeld Parenthesis FoundAll) s d (i, o) → reading.kept_in_parens (position s) (groups.paren i, o) d ≡ Ok (x, t) →
         TookOne Of s t x

@@ -124,7 +124,7 @@ module _ {A E : Type 0} (part : Manner → Parts A E) (place : TypePlace) where
   -- as a type
   pub dyn_is_type : (e : End) (x : TypeTree A E) (l k : Toks) → IsDynType e x l k → IsType part loosely place e x l k
   dyn_is_type e x l k (a_dyn_object i) = an_object_with_dyn i
-  dyn_is_type e x l k (a_dyn_held i h) = a_verbatim_type i h
+  dyn_is_type e x l k (a_dyn_held i h) = a_verbatim_type (i, h)
 
 module _ {A E : Type 0} (r : Readers A E) (part : Manner → Parts A E)
     (took : (s t : Stream) (x : TypeParamBound A E) → Visible s.rest → r (a_bound Object) s ≡ Ok (x, t) → TookOne (Told ((part loosely).bound Object)) s t x)

@@ -171,4 +171,4 @@ module _ {A E : Type 0} (part : Manner → Parts A E) where
   type_starts s e x c y (an_array_type {x = z} i) n h = never _ y h (kinds.first-Array A E (groups.paren s) z)
   type_starts s e x c y (an_infer_type {x = z} i) n h = never _ y h (kinds.first-Infer A E (groups.paren s) z)
   type_starts s e x c y (a_never_type {x = z} i) n h = never _ y h (kinds.first-Never A E (groups.paren s) z)
-  type_starts s e x c y (a_verbatim_type {t = z} i j) n h = never _ y h (kinds.first-Verbatim A E (groups.paren s) z)
+  type_starts s e x c y (a_verbatim_type {t = z} i) n h = never _ y h (kinds.first-Verbatim A E (groups.paren s) z)

@@ -257,7 +257,7 @@ module _ {A E : Type 0} (part : Manner → Parts A E) where
 
   held_at : (t : TokenStream) (l r : Toks) → IsMutSelf part loosely l r → Holds t l r → Bare true (None, form.Verbatim t) l r
   unfolding Bare
-  held_at t l r i h = λ a k j. a_verbatim_argument j i h
+  held_at t l r i h = λ a k j. a_verbatim_argument j (i, h)
 
   -- over the read of its type, whose law is wanted in the places where it is asked
   module _ (value : Reader Tree) (Asked : Stream → Type 0) (took : (s t : Stream) (x : Tree) → Asked s → Visible s.rest → value s ≡ Ok (x, t) → TookOne TypeHere s t x) where

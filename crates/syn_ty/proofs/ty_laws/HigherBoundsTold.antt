@@ -18,7 +18,7 @@ use Rattle.syn_ty.specs.path.Arguments.{ArgumentPlace, IsItemName, an_item, an_i
 use Rattle.syn_ty.specs.ty.Parts.{Manner, End, Parts}
 use Rattle.syn_ty.specs.ty.Spelling.{Relation}
 use Rattle.syn_ty.specs.ty.Trees.{AngleBracketed, BoundLifetimes, ConstParam, GenericArgument, GenericParam, Path, TraitBound, TypeParam, TypeParamBound, TypeTree}
-use Rattle.syn_ty.proofs.ty_laws.HigherPartsTold.{Up, listed_up, optional_up, given_up, binder_up}
+use Rattle.syn_ty.proofs.ty_laws.HigherPartsTold.{Up, held_up, listed_up, optional_up, given_up, binder_up}
 use Rattle.syn_ty.proofs.ty_laws.HigherPathsTold.{bound_path_up}
 
 module _ {A E : Type 0} {part over : Manner → Parts A E} (up : (how : Manner) → Up (part how) (over how)) where
@@ -42,7 +42,7 @@ module _ {A E : Type 0} {part over : Manner → Parts A E} (up : (how : Manner) 
 
   -- ---- bounds in a place
 
-  pub verbatim_bound_up : {how : Manner} {place : BoundPlace} {e : End} {l r : Toks} → IsVerbatimBound part how place e l r → IsVerbatimBound over how place e l r
+  pub verbatim_bound_up : {how : Manner} {e : End} {l r : Toks} → IsVerbatimBound part how e l r → IsVerbatimBound over how e l r
   verbatim_bound_up (a_const_alone i) = a_const_alone (const_bound_up i)
   verbatim_bound_up (a_const_in_parens i) = a_const_in_parens (const_bound_up i)
 
@@ -51,7 +51,7 @@ module _ {A E : Type 0} {part over : Manner → Parts A E} (up : (how : Manner) 
   bound_up (a_bare_bound i) = a_bare_bound (trait_bound_up i)
   bound_up (a_bound_in_parens i) = a_bound_in_parens (trait_up i)
   bound_up (a_capture_bound a i) = a_capture_bound a i
-  bound_up (a_verbatim_bound a i h) = a_verbatim_bound a (verbatim_bound_up i) h
+  bound_up {how} {e = e} {l = l} {r = r} (a_verbatim_bound {t = t} a i) = a_verbatim_bound a (held_up (λ m. IsVerbatimBound part m e) (λ m. IsVerbatimBound over m e) (λ m l r j. verbatim_bound_up j) how t l r i)
 
   pub bounds_up : {how : Manner} {place : BoundPlace} {Ends : Bool → Type 0} {first : Bool} {e : End} {xs : List (TypeParamBound A E)} {ps : List token.Plus} {l r : Toks} →
       AreBounds part how place Ends first e xs ps l r → AreBounds over how place Ends first e xs ps l r

@@ -1,14 +1,16 @@
--- What one grammar spells within a form, another spells too: so it is of values that marks join, of a part that may be missing, of a binder and of a given value.
+-- What one grammar spells within a form, another spells too: so it is of values that marks join, of a part that may be missing, of what is held verbatim, of a binder and of a given value.
 use Rattle.std.proofs.Common.{Bool, List, Option}
+use Rattle.token_core.specs.declared.tree.TokenStream.{TokenStream}
 use Rattle.token_core.specs.Listed.{AreListed, none_left, last_value, value_and_mark}
 use Rattle.token_core.specs.Tokens as token
 use Rattle.token_core.specs.Toks.{Toks}
+use Rattle.token_core.specs.Trees.{row, trees}
 use Rattle.syn_forms.specs.declared.places.BoundPlace.{BoundPlace}
 use Rattle.syn_forms.specs.declared.places.ParamPlace.{ParamPlace}
 use Rattle.syn_forms.specs.declared.places.TypePlace.{TypePlace}
 use Rattle.syn_ty.specs.generics.Parameters.{IsGiven, given}
 use Rattle.syn_ty.specs.generics.Spelling.{IsBinder, a_binder}
-use Rattle.syn_ty.specs.ty.Parts.{End, Parts, AreMarked, no_further, one_further}
+use Rattle.syn_ty.specs.ty.Parts.{Manner, loosely, plainly, clearly, End, Parts, IsVerbatim, AreMarked, no_further, one_further}
 use Rattle.syn_ty.specs.ty.Spelling.{Relation, IsOptional, absent, present}
 use Rattle.syn_ty.specs.ty.Trees.{BoundLifetimes, GenericArgument, GenericParam, PathArguments, TypeParamBound, TypeTree}
 
@@ -45,6 +47,14 @@ module _ {A : Type 0} {V W : Relation A} where
 
   pub given_up : {clear : Bool} {x : token.Equals × A} {l r : Toks} → IsGiven clear V x l r → ((x : A) (l r : Toks) → V x l r → W x l r) → IsGiven clear W x l r
   given_up (given i j) f = given i (f _ _ _ j)
+
+-- ---- what is held verbatim
+
+module _ (V W : Manner → Toks → Toks → Type 0) (up : (how : Manner) (l r : Toks) → V how l r → W how l r) where
+  pub held_up : (how : Manner) (t : TokenStream) (l r : Toks) → IsVerbatim V how t l r → IsVerbatim W how t l r
+  held_up loosely t l r (i, h) = (up loosely l r i, h)
+  held_up plainly t l r (i, h) = (λ k. up clearly (row (trees t) k) k (i k), h)
+  held_up clearly t l r (i, h) = (up clearly l r i, h)
 
 -- ---- a binder
 

@@ -14,7 +14,7 @@ use Rattle.syn_ty.specs.ty.Parts.{Manner, End, Parts}
 use Rattle.syn_ty.specs.ty.Spelling.{IsOptional}
 use Rattle.syn_ty.specs.ty.Trees.{BoundLifetimes, NamedArg, Path, TypeArray, TypeFnPtr, TypeImplTrait, TypeParamBound, TypeParen, TypePtr, TypeReference, TypeSlice, TypeTraitObject, TypeTree, TypeTuple}
 use Rattle.syn_ty.proofs.ty_laws.HigherBoundsTold.{for_up, bounds_up}
-use Rattle.syn_ty.proofs.ty_laws.HigherPartsTold.{Up, listed_up, marked_up, optional_up}
+use Rattle.syn_ty.proofs.ty_laws.HigherPartsTold.{Up, held_up, listed_up, marked_up, optional_up}
 use Rattle.syn_ty.proofs.ty_laws.HigherPathsTold.{bound_path_up, no_try_up, path_up, return_up}
 
 module _ {A E : Type 0} {part over : Manner → Parts A E} (up : (how : Manner) → Up (part how) (over how)) where
@@ -71,7 +71,7 @@ module _ {A E : Type 0} {part over : Manner → Parts A E} (up : (how : Manner) 
   pub named_arg_up : {how : Manner} {first : Bool} {x : NamedArg A E} {l r : Toks} → IsNamedArg part how first x l r → IsNamedArg over how first x l r
   named_arg_up {how} (an_argument a i) = an_argument ((up how).attrs _ _ _ a) ((up how).ty _ _ _ _ _ i)
   named_arg_up {how} (a_named_argument a n c i) = a_named_argument ((up how).attrs _ _ _ a) n c ((up how).ty _ _ _ _ _ i)
-  named_arg_up {how} (a_verbatim_argument a i h) = a_verbatim_argument ((up how).attrs _ _ _ a) (mut_self_up i) h
+  named_arg_up {how} {r = r} (a_verbatim_argument {t = t} {m = m} a i) = a_verbatim_argument ((up how).attrs _ _ _ a) (held_up (IsMutSelf part) (IsMutSelf over) (λ n l r j. mut_self_up j) how t m r i)
 
   pub variadic_up : {how : Manner} {x : FnPtrVariadicOf A} {l : Toks} → IsVariadic part how x l → IsVariadic over how x l
   variadic_up {how} (dots a d o) = dots ((up how).attrs _ _ _ a) d o
@@ -133,4 +133,4 @@ module _ {A E : Type 0} {part over : Manner → Parts A E} (up : (how : Manner) 
   type_up (an_array_type i) = an_array_type (counted_up i)
   type_up (an_infer_type i) = an_infer_type i
   type_up (a_never_type i) = a_never_type i
-  type_up (a_verbatim_type i h) = a_verbatim_type (verbatim_type_up i) h
+  type_up {how} {place} {e = e} {l = l} {r = r} (a_verbatim_type {t = t} i) = a_verbatim_type (held_up (λ m. IsVerbatimType part m place e) (λ m. IsVerbatimType over m place e) (λ m l r j. verbatim_type_up j) how t l r i)

@@ -116,7 +116,7 @@ module _ {A E : Type 0} (r : Readers A E) (part : Manner → Parts A E) (h : Hel
   Of = Told (IsType part loosely place)
 
   builtin_at : (l : For) (k m n : Toks) (x : TokenStream) → Builtin m n → Holds x k n → IsPerhapsFor l k m → Of (v.Verbatim x) k n
-  builtin_at l k m n x b i o = (closed, a_verbatim_type (a_builtin (subst (λ z. IsPerhapsFor l k z) b.is o) b.word_is b.mark b.name_is) i, never_open, never_open)
+  builtin_at l k m n x b i o = (closed, a_verbatim_type (a_builtin (subst (λ z. IsPerhapsFor l k z) b.is o) b.word_is b.mark b.name_is, i), never_open, never_open)
 
   -- from the position where the type began, before a binder that was read
   pub builtin_type_took : Along reading.builtin → (l : For) (k s t : Stream) (x : Tree) → Visible k.rest → Follows k s → Visible s.rest → sees_builtin s.rest ≡ true → reading.builtin_type (position k) s ≡ Ok (x, t) →
@@ -139,7 +139,7 @@ module _ {A E : Type 0} (r : Readers A E) (part : Manner → Parts A E) (h : Hel
 
   unsafe_at : (l : For) (w : token.Unsafe) (y : heads.Angled Lifetime) (z : Tree) (k m n j i : Toks) (x : TokenStream) → IsPerhapsFor l k m → IsWord w m n → Lifetimes y n j → Told ((part loosely).ty (last_place place)) z j i → Holds x k i →
       Of (v.Verbatim x) k i
-  unsafe_at l w y z k m n j i x o a b c d = (c.0, a_verbatim_type (an_unsafe_binder o a b.2 b.3 b.4 c.1) d, c.2, c.3)
+  unsafe_at l w y z k m n j i x o a b c d = (c.0, a_verbatim_type (an_unsafe_binder o a b.2 b.3 b.4 c.1, d), c.2, c.3)
 
   pub unsafe_binder_took : ((from : List Item) (p : TypePlace) → Along (reading.unsafe_binder r from p)) → (l : For) (k s t : Stream) (x : Tree) → Visible k.rest → Follows k s → Visible s.rest →
       reading.unsafe_binder r (position k) place s ≡ Ok (x, t) → Onward (IsPerhapsFor l k.rest s.rest) (Of x k.rest t.rest) s t

@@ -20,7 +20,7 @@ use Rattle.syn_ty.specs.declared.generics.TypeParamBoundOf.TheVariants as b
 use Rattle.syn_ty.specs.generics.Params.{capture_of, trait_bound_of}
 use Rattle.syn_ty.specs.generics.Spelling.{IsBinder}
 use Rattle.syn_ty.specs.path.Signed.{IsBoundPath}
-use Rattle.syn_ty.specs.ty.Parts.{Manner, is_clear, kept, End, closed, after_plus, going_on, Parts, Holds}
+use Rattle.syn_ty.specs.ty.Parts.{Manner, is_clear, End, closed, after_plus, going_on, Parts, IsVerbatim}
 use Rattle.syn_ty.specs.ty.Trees.{BoundLifetimes, Path, TraitBound, TypeParamBound}
 use Rattle.token_core.specs.Tokens as token
 
@@ -64,14 +64,14 @@ module _ {A E : Type 0} (part : Manner → Parts A E) (how : Manner) where
     a_const_bound_for : {e : End} {x : BoundLifetimes A E} {p : Path A E} {l m n r : Toks} → IsFor x l m → IsConstForm m n → IsBoundPath part how e p n r → IsConstBound e l r
     a_const_bound_asked : {e : End} {q : token.Question} {p : Path A E} {l m n r : Toks} → IsConstForm l m → IsMark (is_clear how) q m n → IsBoundPath part how e p n r → IsConstBound e l r
 
+  -- what is held verbatim: such a bound, or one in parentheses
+  pub data IsVerbatimBound : End → Toks → Toks → Type 0 where
+    a_const_alone : {e : End} {l r : Toks} → IsConstBound e l r → IsVerbatimBound e l r
+    a_const_in_parens : {e : End} {s : DelimSpan} {c r : Toks} → IsConstBound e c done → IsVerbatimBound closed (group Parenthesis s c r) r
+
 -- ---- bounds in a place
 
 module _ {A E : Type 0} (part : Manner → Parts A E) (how : Manner) (place : BoundPlace) where
-  -- what is held verbatim: a bound with a `const` form, or one in parentheses
-  pub data IsVerbatimBound : End → Toks → Toks → Type 0 where
-    a_const_alone : {e : End} {l r : Toks} → IsConstBound part (kept how) e l r → IsVerbatimBound e l r
-    a_const_in_parens : {e : End} {s : DelimSpan} {c r : Toks} → IsConstBound part (kept how) e c done → IsVerbatimBound closed (group Parenthesis s c r) r
-
   -- a lifetime; a trait bound, also in parentheses; where they are allowed a capture, and a bound with a `const` form, which is held verbatim
   pub data IsBound : End → TypeParamBound A E → Toks → Toks → Type 0 where
     a_lifetime_bound : {x : Lifetime} {l r : Toks} → IsLifetime x l r → IsBound closed (b.Lifetime x) l r
@@ -79,7 +79,7 @@ module _ {A E : Type 0} (part : Manner → Parts A E) (how : Manner) (place : Bo
     a_bound_in_parens : {e : End} {o : Option (BoundLifetimes A E)} {q : Option token.Question} {p : Path A E} {s : DelimSpan} {c r : Toks} → IsTrait part how e o q p c done →
         IsBound closed (b.Trait (trait_bound_of (Some (groups.paren s)) o (record {}) q p)) (group Parenthesis s c r) r
     a_capture_bound : {x : PreciseCapture} {l r : Toks} → allows_capture place ≡ true → IsCapture (is_clear how) x l r → IsBound closed (b.PreciseCapture x) l r
-    a_verbatim_bound : {e : End} {t : TokenStream} {l r : Toks} → allows_const place ≡ true → IsVerbatimBound e l r → Holds t l r → IsBound e (b.Verbatim t) l r
+    a_verbatim_bound : {e : End} {t : TokenStream} {l r : Toks} → allows_const place ≡ true → IsVerbatim (λ (m : Manner). IsVerbatimBound part m e) how t l r → IsBound e (b.Verbatim t) l r
 
   -- ---- bounds joined by `+`
 

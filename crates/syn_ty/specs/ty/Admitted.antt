@@ -26,7 +26,7 @@ use Rattle.syn_ty.specs.generics.Bounds.{IsFor}
 use Rattle.syn_ty.specs.path.Spelling.{is_segment_word, IsNoTry}
 use Rattle.syn_ty.specs.ty.Functions.{IsFnPtr}
 use Rattle.syn_ty.specs.ty.Objects.{AreObjectBounds, AreBareBounds, IsDyn, IsImpl}
-use Rattle.syn_ty.specs.ty.Parts.{Manner, is_clear, kept, End, closed, Parts, Holds}
+use Rattle.syn_ty.specs.ty.Parts.{Manner, is_clear, End, closed, Parts, IsVerbatim}
 use Rattle.syn_ty.specs.ty.Reading.{last_place}
 use Rattle.syn_ty.specs.ty.Spelling.{IsOptional, IsInfer, IsNever}
 use Rattle.syn_ty.specs.ty.Trees.{BoundLifetimes, Path, QSelf, TypeArray, TypeFnPtr, TypeImplTrait, TypeParamBound, TypeParen, TypePtr, TypeReference, TypeSlice, TypeTraitObject, TypeTree, TypeTuple}
@@ -117,4 +117,4 @@ module _ {A E : Type 0} (part : Manner → Parts A E) (how : Manner) (place : Ty
     an_array_type : {x : TypeArray A E} {l r : Toks} → IsCounted part how x l r → IsType closed (v.Array x) l r
     an_infer_type : {x : TypeInferOf A} {l r : Toks} → IsInfer x l r → IsType closed (v.Infer x) l r
     a_never_type : {x : TypeNeverOf A} {l r : Toks} → IsNever (is_clear how) x l r → IsType closed (v.Never x) l r
-    a_verbatim_type : {e : End} {t : TokenStream} {l r : Toks} → IsVerbatimType part (kept how) place e l r → Holds t l r → IsType e (v.Verbatim t) l r
+    a_verbatim_type : {e : End} {t : TokenStream} {l r : Toks} → IsVerbatim (λ (m : Manner). IsVerbatimType part m place e) how t l r → IsType e (v.Verbatim t) l r

@@ -17,7 +17,7 @@ use Rattle.syn_ty.specs.declared.ty.FnPtrVariadicOf.{FnPtrVariadicOf}
 use Rattle.syn_ty.specs.declared.ty.TypeOf.TheVariants as v
 use Rattle.syn_ty.specs.generics.Bounds.{IsFor}
 use Rattle.syn_ty.specs.path.Signed.{IsReturn}
-use Rattle.syn_ty.specs.ty.Parts.{Manner, is_clear, kept, End, Parts, Holds, AreMarked}
+use Rattle.syn_ty.specs.ty.Parts.{Manner, is_clear, End, Parts, IsVerbatim, AreMarked}
 use Rattle.syn_ty.specs.ty.Spelling.{IsOptional}
 use Rattle.syn_ty.specs.ty.Trees.{BoundLifetimes, NamedArg, ReturnType, TypeFnPtr, TypeTree}
 use Rattle.syn_ty.specs.ty.Types.{fn_ptr_with, named_arg_of, variadic_of}
@@ -50,7 +50,7 @@ module _ {A E : Type 0} (part : Manner → Parts A E) (how : Manner) where
     an_argument : {first : Bool} {a : List A} {e : End} {x : TypeTree A E} {l m r : Toks} → (part how).attrs a l m → (part how).ty Plus e x m r → IsNamedArg first (named_arg_of a None x) l r
     a_named_argument : {first : Bool} {a : List A} {i : Ident} {c : token.Colon} {e : End} {x : TypeTree A E} {l m n r : Toks} →
         (part how).attrs a l (word i m) → is_argument_name first i.text ≡ true → IsMark (is_clear how) c m n → (part how).ty Plus e x n r → IsNamedArg first (named_arg_of a (Some (i, c)) x) l r
-    a_verbatim_argument : {a : List A} {t : TokenStream} {l m r : Toks} → (part how).attrs a l m → IsMutSelf part (kept how) m r → Holds t m r → IsNamedArg true (named_arg_of a None (v.Verbatim t)) l r
+    a_verbatim_argument : {a : List A} {t : TokenStream} {l m r : Toks} → (part how).attrs a l m → IsVerbatim (IsMutSelf part) how t m r → IsNamedArg true (named_arg_of a None (v.Verbatim t)) l r
 
   -- perhaps an `Ident` or `_` and `:`; `...`; and perhaps a comma
   pub data IsVariadic : FnPtrVariadicOf A → Toks → Type 0 where

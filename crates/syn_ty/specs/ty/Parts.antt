@@ -13,7 +13,7 @@ use Rattle.syn_ty.specs.ty.Trees.{GenericArgument, GenericParam, PathArguments, 
 
 -- ---- how a spelling is told
 
--- Loosely: each mark may be glued to what follows it. Plainly: the same, but what is held verbatim spells its form clearly. Clearly: no mark is glued to a longer one.
+-- Loosely: each mark may be glued to what follows it. Plainly: the same, but what is held verbatim spells its form clearly, whatever follows it. Clearly: no mark is glued to a longer one.
 pub data Manner : Type 0 where
   loosely : Manner
   plainly : Manner
@@ -25,7 +25,7 @@ is_clear loosely = false
 is_clear plainly = false
 is_clear clearly = true
 
--- the manner of what is held verbatim
+-- the manner in which what is held verbatim spells its form
 abbrev pub kept : Manner → Manner
 kept loosely = loosely
 kept plainly = clearly
@@ -73,6 +73,12 @@ pub record Parts (A E : Type 0) : Type 1 where
 -- the tokens that are held, spacing included, and then the others
 abbrev pub Holds : TokenStream → Toks → Toks → Type 0
 Holds t l r = l ≡ row (trees t) r
+
+-- What is held verbatim, where there is no tree for a form. Loosely and clearly, it is what the list spells. Plainly, it spells the form clearly whatever follows it: no mark in it is glued to a longer one, nor is the last one glued to what follows.
+abbrev pub IsVerbatim : (Manner → Toks → Toks → Type 0) → Manner → TokenStream → Toks → Toks → Type 0
+IsVerbatim Form loosely t l r = Form loosely l r × Holds t l r
+IsVerbatim Form plainly t l r = ((k : Toks) → Form clearly (row (trees t) k) k) × Holds t l r
+IsVerbatim Form clearly t l r = Form clearly l r × Holds t l r
 
 -- values of which each has its mark; there may be none
 module _ {A P : Type 0} (V : Bool → A → Toks → Toks → Type 0) (M : P → Toks → Toks → Type 0) where

@@ -1,5 +1,5 @@
 -- The promise of each reader of this layer: which lists its trees spell, their normal form, their print, which have clear verbatim parts, and the read.
-use Rattle.std.specs.Prelude.{Bool, true, false, List, Option, option_map}
+use Rattle.std.specs.Prelude.{◌≢◌, Bool, true, false, List, [], Option, option_map}
 use Rattle.token_core.specs.Headline.{Grammar}
 use Rattle.token_core.specs.Prints as p
 use Rattle.token_core.specs.Prints.{Print}
@@ -140,8 +140,15 @@ module _ {A E : Type 0} (read_attrs : Reader (List A)) (reads : ReadValues E) (s
   trait_bound = promise (spelt.SpellsTraitBound spelt_attrs spells) (normal.trait_bound normal_attrs normals) (shown.trait_bound shown_attrs prints) (knot.trait_bound read_attrs reads)
 
   -- a clause without predicates prints nothing, and so is read again as an optional one
+  -- A clause without predicates prints nothing, and no clause spells that: its print is not promised to be read again.
   abbrev pub where_clause : Grammar (WhereClauseOf A E)
-  where_clause = promise (spelt.SpellsClause spelt_attrs spells) (normal_clauses.where_clause normal_attrs normals) (shown_clauses.where_clause shown_attrs prints) (clauses.where_clause read_attrs reads)
+  where_clause = record {
+    spells = λ clear x l. spelt.SpellsClause spelt_attrs spells (manner clear) x l;
+    normal = normal_clauses.where_clause normal_attrs normals;
+    print = shown_clauses.where_clause shown_attrs prints;
+    plain = λ x. (x.predicates.0 ≢ []) × (l : Toks) × Visible l × spelt.SpellsClause spelt_attrs spells plainly x l;
+    reader = clauses.where_clause read_attrs reads;
+  }
 
   abbrev pub optional_where_clause : Grammar (Option (WhereClauseOf A E))
   optional_where_clause =

@@ -1,6 +1,6 @@
 //! The generics of a declaration and its where clause are read.
 
-ghost use Rattle.syn_path.specs.Took.{Sounds, Takes};
+ghost use Rattle.syn_path.specs.Took.{Takes};
 ghost use Rattle.syn_ty.specs.ty.Fronts as fronts;
 ghost use Rattle.syn_ty.specs.ty.Promises as promises;
 ghost use Rattle.std.specs.Prelude.{◌≡◌, ◌<◌, ◌≤◌, length};
@@ -11,7 +11,8 @@ ghost use Rattle.syn_forms.specs.predicates.Reading as predicates;
 ghost use Rattle.syn_ty.specs.generics.Alone as alone;
 ghost use Rattle.syn_ty.specs.generics.Declared as reading;
 ghost use Rattle.syn_ty.specs.ty.Knot as knot;
-ghost use Rattle.token_core.specs.Reads.{Fails, Follows, Gives, Keeps, Parses, Reads};
+ghost use Rattle.token_core.specs.Headline.{Heads, Headline};
+ghost use Rattle.token_core.specs.Reads.{Fails, Follows, Gives, Parses, Reads};
 
 use crate::generics::read::optional_binder_from;
 use crate::generics::{
@@ -280,12 +281,12 @@ impl<A: Attributes, E: Value> Parse for GenericsOf<A, E> {
 
     ghost refuses = { Fails (alone.generics A.reads E.reads) };
 
-    ghost promise = { Sounds (promises.generics A.reads E.reads A.spells E.spells A.normal E.normal A.shown E.values) };
+    ghost promise = { Headline (promises.generics A.reads E.reads A.spells E.spells A.normal E.normal A.shown E.values) };
 
     fn parse(alloc: Global, input: &mut ParseStream<'_>) -> Result<GenericsOf<A, E>, Error>
         ensures reads { Reads (alone.generics A.reads E.reads input.old) result input.new }
         ensures within { Follows input.old input.new }
-        ensures promise { Keeps (Sounds (promises.generics A.reads E.reads A.spells E.spells A.normal E.normal A.shown E.values)) input.old result input.new }
+        ensures promise { Heads (promises.generics A.reads E.reads A.spells E.spells A.normal E.normal A.shown E.values) input.old result input.new }
         ensures front { Takes (fronts.generics A.spells E.spells) input.old result input.new }
     {
         parse_generics(alloc, input)
@@ -307,12 +308,12 @@ impl<A: Attributes, E: Value> Parse for WhereClauseOf<A, E> {
 
     ghost refuses = { Fails (alone.where_clause A.reads E.reads) };
 
-    ghost promise = { Sounds (promises.where_clause A.reads E.reads A.spells E.spells A.normal E.normal A.shown E.values) };
+    ghost promise = { Headline (promises.where_clause A.reads E.reads A.spells E.spells A.normal E.normal A.shown E.values) };
 
     fn parse(alloc: Global, input: &mut ParseStream<'_>) -> Result<WhereClauseOf<A, E>, Error>
         ensures reads { Reads (alone.where_clause A.reads E.reads input.old) result input.new }
         ensures within { Follows input.old input.new }
-        ensures promise { Keeps (Sounds (promises.where_clause A.reads E.reads A.spells E.spells A.normal E.normal A.shown E.values)) input.old result input.new }
+        ensures promise { Heads (promises.where_clause A.reads E.reads A.spells E.spells A.normal E.normal A.shown E.values) input.old result input.new }
         ensures front { Takes (fronts.where_clause A.spells E.spells) input.old result input.new }
     {
         parse_where_clause(alloc, input)
@@ -327,7 +328,7 @@ impl<A: Attributes, E: Value> WhereClauseOf<A, E> {
         input: &mut ParseStream<'_>,
     ) -> Result<Option<WhereClauseOf<A, E>>, Error>
         ensures parses { Parses (alone.optional_where_clause A.reads E.reads) result input.old input.new }
-        ensures promise { Keeps (Sounds (promises.optional_where_clause A.reads E.reads A.spells E.spells A.normal E.normal A.shown E.values)) input.old result input.new }
+        ensures promise { Heads (promises.optional_where_clause A.reads E.reads A.spells E.spells A.normal E.normal A.shown E.values) input.old result input.new }
         ensures front { Takes (fronts.optional_where_clause A.spells E.spells) input.old result input.new }
     {
         parse_optional_where_clause(alloc, input)
@@ -362,12 +363,12 @@ impl<A: Attributes, E: Value> Parse for WherePredicateOf<A, E> {
 
     ghost refuses = { Fails (alone.predicate A.reads E.reads) };
 
-    ghost promise = { Sounds (promises.predicate A.reads E.reads A.spells E.spells A.normal E.normal A.shown E.values) };
+    ghost promise = { Headline (promises.predicate A.reads E.reads A.spells E.spells A.normal E.normal A.shown E.values) };
 
     fn parse(alloc: Global, input: &mut ParseStream<'_>) -> Result<WherePredicateOf<A, E>, Error>
         ensures reads { Reads (alone.predicate A.reads E.reads input.old) result input.new }
         ensures within { Follows input.old input.new }
-        ensures promise { Keeps (Sounds (promises.predicate A.reads E.reads A.spells E.spells A.normal E.normal A.shown E.values)) input.old result input.new }
+        ensures promise { Heads (promises.predicate A.reads E.reads A.spells E.spells A.normal E.normal A.shown E.values) input.old result input.new }
         ensures front { Takes (fronts.predicate A.spells E.spells) input.old result input.new }
     {
         parse_predicate(alloc, input)

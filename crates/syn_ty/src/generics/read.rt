@@ -1,6 +1,6 @@
 //! Captures, bounds, binders and parameters are read.
 
-ghost use Rattle.syn_path.specs.Took.{Sounds, Takes};
+ghost use Rattle.syn_path.specs.Took.{Takes};
 ghost use Rattle.syn_ty.specs.ty.Fronts as fronts;
 ghost use Rattle.syn_ty.specs.ty.Parts.{loosely};
 ghost use Rattle.syn_ty.specs.ty.Promises as promises;
@@ -17,9 +17,10 @@ ghost use Rattle.syn_forms.specs.verbatim.Reading.{position};
 ghost use Rattle.syn_ty.specs.generics.Params as parts;
 ghost use Rattle.syn_ty.specs.generics.Reading as reading;
 ghost use Rattle.syn_ty.specs.ty.Knot as knot;
+ghost use Rattle.token_core.specs.Headline.{Heads, Headline};
 ghost use Rattle.token_core.specs.Looks.{unmet};
 ghost use Rattle.token_core.specs.Positions.{IsReached};
-ghost use Rattle.token_core.specs.Reads.{Fails, Follows, Gives, Keeps, Parses, Reads, forked};
+ghost use Rattle.token_core.specs.Reads.{Fails, Follows, Gives, Parses, Reads, forked};
 ghost use Rattle.token_core.specs.Refusal.{Made};
 ghost use Rattle.token_core.specs.Stream.{Stream};
 ghost use Rattle.token_core.specs.Tokens as token;
@@ -1040,12 +1041,12 @@ impl Parse for CapturedParam {
 
     ghost refuses = { Fails reading.captured };
 
-    ghost promise = { Sounds promises.captured };
+    ghost promise = { Headline promises.captured };
 
     fn parse(alloc: Global, input: &mut ParseStream<'_>) -> Result<CapturedParam, Error>
         ensures reads { Reads (reading.captured input.old) result input.new }
         ensures within { Follows input.old input.new }
-        ensures promise { Keeps (Sounds promises.captured) input.old result input.new }
+        ensures promise { Heads promises.captured input.old result input.new }
         ensures front { Takes IsCaptured input.old result input.new }
     {
         parse_captured(alloc, input)
@@ -1065,12 +1066,12 @@ impl Parse for PreciseCapture {
 
     ghost refuses = { Fails reading.capture };
 
-    ghost promise = { Sounds promises.capture };
+    ghost promise = { Headline promises.capture };
 
     fn parse(alloc: Global, input: &mut ParseStream<'_>) -> Result<PreciseCapture, Error>
         ensures reads { Reads (reading.capture input.old) result input.new }
         ensures within { Follows input.old input.new }
-        ensures promise { Keeps (Sounds promises.capture) input.old result input.new }
+        ensures promise { Heads promises.capture input.old result input.new }
         ensures front { Takes (IsCapture false) input.old result input.new }
     {
         parse_capture(alloc, input)
@@ -1089,7 +1090,7 @@ impl<A: Attributes, E: Value> Parse for BoundLifetimesOf<GenericParamOf<A, E>> {
 
     ghost refuses = { Fails (knot.binder A.reads E.reads) };
 
-    ghost promise = { Sounds (promises.binder A.reads E.reads A.spells E.spells A.normal E.normal A.shown E.values) };
+    ghost promise = { Headline (promises.binder A.reads E.reads A.spells E.spells A.normal E.normal A.shown E.values) };
 
     fn parse(
         alloc: Global,
@@ -1097,7 +1098,7 @@ impl<A: Attributes, E: Value> Parse for BoundLifetimesOf<GenericParamOf<A, E>> {
     ) -> Result<BoundLifetimesOf<GenericParamOf<A, E>>, Error>
         ensures reads { Reads (knot.binder A.reads E.reads input.old) result input.new }
         ensures within { Follows input.old input.new }
-        ensures promise { Keeps (Sounds (promises.binder A.reads E.reads A.spells E.spells A.normal E.normal A.shown E.values)) input.old result input.new }
+        ensures promise { Heads (promises.binder A.reads E.reads A.spells E.spells A.normal E.normal A.shown E.values) input.old result input.new }
         ensures front { Takes (fronts.binder A.spells E.spells) input.old result input.new }
     {
         parse_binder(alloc, input)
@@ -1112,7 +1113,7 @@ impl<A: Attributes, E: Value> BoundLifetimesOf<GenericParamOf<A, E>> {
         input: &mut ParseStream<'_>,
     ) -> Result<Option<BoundLifetimesOf<GenericParamOf<A, E>>>, Error>
         ensures parses { Parses (knot.optional_binder A.reads E.reads) result input.old input.new }
-        ensures promise { Keeps (Sounds (promises.optional_binder A.reads E.reads A.spells E.spells A.normal E.normal A.shown E.values)) input.old result input.new }
+        ensures promise { Heads (promises.optional_binder A.reads E.reads A.spells E.spells A.normal E.normal A.shown E.values) input.old result input.new }
         ensures front { Takes (fronts.optional_binder A.spells E.spells) input.old result input.new }
     {
         parse_optional_binder(alloc, input)
@@ -1134,12 +1135,12 @@ impl<A: Attributes, E: Value> Parse for TypeParamBoundOf<A, E> {
 
     ghost refuses = { Fails (knot.bound A.reads E.reads bound_places.Opaque) };
 
-    ghost promise = { Sounds (promises.bound A.reads E.reads A.spells E.spells A.normal E.normal A.shown E.values) };
+    ghost promise = { Headline (promises.bound A.reads E.reads A.spells E.spells A.normal E.normal A.shown E.values) };
 
     fn parse(alloc: Global, input: &mut ParseStream<'_>) -> Result<TypeParamBoundOf<A, E>, Error>
         ensures reads { Reads (knot.bound A.reads E.reads bound_places.Opaque input.old) result input.new }
         ensures within { Follows input.old input.new }
-        ensures promise { Keeps (Sounds (promises.bound A.reads E.reads A.spells E.spells A.normal E.normal A.shown E.values)) input.old result input.new }
+        ensures promise { Heads (promises.bound A.reads E.reads A.spells E.spells A.normal E.normal A.shown E.values) input.old result input.new }
         ensures front { Takes (fronts.bound A.spells E.spells) input.old result input.new }
     {
         TypeParamBoundOf::parse_held(alloc, PhantomData, input, BoundPlace::Opaque)
@@ -1159,12 +1160,12 @@ impl<A: Attributes, E: Value> Parse for TraitBoundOf<A, E> {
 
     ghost refuses = { Fails (knot.trait_bound A.reads E.reads) };
 
-    ghost promise = { Sounds (promises.trait_bound A.reads E.reads A.spells E.spells A.normal E.normal A.shown E.values) };
+    ghost promise = { Headline (promises.trait_bound A.reads E.reads A.spells E.spells A.normal E.normal A.shown E.values) };
 
     fn parse(alloc: Global, input: &mut ParseStream<'_>) -> Result<TraitBoundOf<A, E>, Error>
         ensures reads { Reads (knot.trait_bound A.reads E.reads input.old) result input.new }
         ensures within { Follows input.old input.new }
-        ensures promise { Keeps (Sounds (promises.trait_bound A.reads E.reads A.spells E.spells A.normal E.normal A.shown E.values)) input.old result input.new }
+        ensures promise { Heads (promises.trait_bound A.reads E.reads A.spells E.spells A.normal E.normal A.shown E.values) input.old result input.new }
         ensures front { Takes (fronts.trait_bound A.spells E.spells) input.old result input.new }
     {
         parse_trait_bound(alloc, input)
@@ -1184,12 +1185,12 @@ impl<A: Attributes, E: Value> Parse for GenericParamOf<A, E> {
 
     ghost refuses = { Fails (knot.param A.reads E.reads param_places.Binder) };
 
-    ghost promise = { Sounds (promises.param A.reads E.reads A.spells E.spells A.normal E.normal A.shown E.values) };
+    ghost promise = { Headline (promises.param A.reads E.reads A.spells E.spells A.normal E.normal A.shown E.values) };
 
     fn parse(alloc: Global, input: &mut ParseStream<'_>) -> Result<GenericParamOf<A, E>, Error>
         ensures reads { Reads (knot.param A.reads E.reads param_places.Binder input.old) result input.new }
         ensures within { Follows input.old input.new }
-        ensures promise { Keeps (Sounds (promises.param A.reads E.reads A.spells E.spells A.normal E.normal A.shown E.values)) input.old result input.new }
+        ensures promise { Heads (promises.param A.reads E.reads A.spells E.spells A.normal E.normal A.shown E.values) input.old result input.new }
         ensures front { Takes (fronts.param A.spells E.spells) input.old result input.new }
     {
         GenericParamOf::parse_held(alloc, PhantomData, input, ParamPlace::Binder)
@@ -1208,12 +1209,12 @@ impl<A: Attributes> Parse for LifetimeParamOf<A> {
 
     ghost refuses = { Fails (reading.lifetime_param A.reads) };
 
-    ghost promise = { Sounds (promises.lifetime_param A.reads A.spells A.normal A.shown) };
+    ghost promise = { Headline (promises.lifetime_param A.reads A.spells A.normal A.shown) };
 
     fn parse(alloc: Global, input: &mut ParseStream<'_>) -> Result<LifetimeParamOf<A>, Error>
         ensures reads { Reads (reading.lifetime_param A.reads input.old) result input.new }
         ensures within { Follows input.old input.new }
-        ensures promise { Keeps (Sounds (promises.lifetime_param A.reads A.spells A.normal A.shown)) input.old result input.new }
+        ensures promise { Heads (promises.lifetime_param A.reads A.spells A.normal A.shown) input.old result input.new }
         ensures front { Takes (spelt.IsLifetimeAlone A.spells loosely) input.old result input.new }
     {
         lifetime_param(alloc, input)
@@ -1232,12 +1233,12 @@ impl<A: Attributes, E: Value> Parse for TypeParamOf<A, E> {
 
     ghost refuses = { Fails (knot.type_param A.reads E.reads) };
 
-    ghost promise = { Sounds (promises.type_param A.reads E.reads A.spells E.spells A.normal E.normal A.shown E.values) };
+    ghost promise = { Headline (promises.type_param A.reads E.reads A.spells E.spells A.normal E.normal A.shown E.values) };
 
     fn parse(alloc: Global, input: &mut ParseStream<'_>) -> Result<TypeParamOf<A, E>, Error>
         ensures reads { Reads (knot.type_param A.reads E.reads input.old) result input.new }
         ensures within { Follows input.old input.new }
-        ensures promise { Keeps (Sounds (promises.type_param A.reads E.reads A.spells E.spells A.normal E.normal A.shown E.values)) input.old result input.new }
+        ensures promise { Heads (promises.type_param A.reads E.reads A.spells E.spells A.normal E.normal A.shown E.values) input.old result input.new }
         ensures front { Takes (fronts.type_param A.spells E.spells) input.old result input.new }
     {
         parse_type_param(alloc, input)
@@ -1256,7 +1257,7 @@ impl<A: Attributes, E: Value> Parse for ConstParamOf<TypeOf<A, E>, A, E> {
 
     ghost refuses = { Fails (knot.const_param A.reads E.reads) };
 
-    ghost promise = { Sounds (promises.const_param A.reads E.reads A.spells E.spells A.normal E.normal A.shown E.values) };
+    ghost promise = { Headline (promises.const_param A.reads E.reads A.spells E.spells A.normal E.normal A.shown E.values) };
 
     fn parse(
         alloc: Global,
@@ -1264,7 +1265,7 @@ impl<A: Attributes, E: Value> Parse for ConstParamOf<TypeOf<A, E>, A, E> {
     ) -> Result<ConstParamOf<TypeOf<A, E>, A, E>, Error>
         ensures reads { Reads (knot.const_param A.reads E.reads input.old) result input.new }
         ensures within { Follows input.old input.new }
-        ensures promise { Keeps (Sounds (promises.const_param A.reads E.reads A.spells E.spells A.normal E.normal A.shown E.values)) input.old result input.new }
+        ensures promise { Heads (promises.const_param A.reads E.reads A.spells E.spells A.normal E.normal A.shown E.values) input.old result input.new }
         ensures front { Takes (fronts.const_param A.spells E.spells) input.old result input.new }
     {
         parse_const_param(alloc, input)

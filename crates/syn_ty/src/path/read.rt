@@ -1,6 +1,6 @@
 //! Paths and their arguments are read.
 
-ghost use Rattle.syn_path.specs.Took.{Sounds, Takes};
+ghost use Rattle.syn_path.specs.Took.{Takes};
 ghost use Rattle.syn_ty.specs.ty.Fronts as fronts;
 ghost use Rattle.syn_ty.specs.ty.Promises as promises;
 ghost use Rattle.std.specs.Prelude.{◌≡◌, ◌<◌, ◌≤◌, length, [], None, is_some};
@@ -19,7 +19,8 @@ ghost use Rattle.syn_ty.specs.ty.Knot as knot;
 ghost use Rattle.syn_ty.specs.ty.Points.{a_bound};
 ghost use Rattle.syn_ty.specs.ty.Reading as types;
 ghost use Rattle.syn_ty.specs.ty.Types as parts;
-ghost use Rattle.token_core.specs.Reads.{Fails, Follows, Gives, Keeps, Parses, Reads, and_then, optional};
+ghost use Rattle.token_core.specs.Headline.{Heads, Headline};
+ghost use Rattle.token_core.specs.Reads.{Fails, Follows, Gives, Parses, Reads, and_then, optional};
 ghost use Rattle.token_core.specs.Tokens as token;
 
 use crate::generics::{GenericParamOf, TypeParamBoundOf};
@@ -1029,9 +1030,9 @@ impl<A: Attributes, E: Value> ReadArguments for PathArgumentsOf<A, E> {
 
     ghost reads_segment = { knot.segment A.reads E.reads };
 
-    ghost promise_path = { Sounds (promises.path A.reads E.reads A.spells E.spells A.normal E.normal A.shown E.values) };
+    ghost promise_path = { Headline (promises.path A.reads E.reads A.spells E.spells A.normal E.normal A.shown E.values) };
 
-    ghost promise_segment = { Sounds (promises.segment A.reads E.reads A.spells E.spells A.normal E.normal A.shown E.values) };
+    ghost promise_segment = { Headline (promises.segment A.reads E.reads A.spells E.spells A.normal E.normal A.shown E.values) };
 
     ghost spells_path = { fronts.path A.spells E.spells };
 
@@ -1042,7 +1043,7 @@ impl<A: Attributes, E: Value> ReadArguments for PathArgumentsOf<A, E> {
         input: &mut ParseStream<'_>,
     ) -> Result<PathOf<PathArgumentsOf<A, E>>, Error>
         ensures parses { Parses (knot.path A.reads E.reads styles.AsWritten) result input.old input.new }
-        ensures promise { Keeps (Sounds (promises.path A.reads E.reads A.spells E.spells A.normal E.normal A.shown E.values)) input.old result input.new }
+        ensures promise { Heads (promises.path A.reads E.reads A.spells E.spells A.normal E.normal A.shown E.values) input.old result input.new }
         ensures front { Takes (fronts.path A.spells E.spells) input.old result input.new }
     {
         parse_path::<A, E>(alloc, input, PathStyle::AsWritten)
@@ -1053,7 +1054,7 @@ impl<A: Attributes, E: Value> ReadArguments for PathArgumentsOf<A, E> {
         input: &mut ParseStream<'_>,
     ) -> Result<PathSegmentOf<PathArgumentsOf<A, E>>, Error>
         ensures parses { Parses (knot.segment A.reads E.reads) result input.old input.new }
-        ensures promise { Keeps (Sounds (promises.segment A.reads E.reads A.spells E.spells A.normal E.normal A.shown E.values)) input.old result input.new }
+        ensures promise { Heads (promises.segment A.reads E.reads A.spells E.spells A.normal E.normal A.shown E.values) input.old result input.new }
         ensures front { Takes (fronts.segment A.spells E.spells) input.old result input.new }
     {
         parse_segment::<A, E>(alloc, input)
@@ -1075,12 +1076,12 @@ impl<A: Attributes, E: Value> Parse for GenericArgumentOf<A, E> {
 
     ghost refuses = { Fails (knot.argument A.reads E.reads) };
 
-    ghost promise = { Sounds (promises.argument A.reads E.reads A.spells E.spells A.normal E.normal A.shown E.values) };
+    ghost promise = { Headline (promises.argument A.reads E.reads A.spells E.spells A.normal E.normal A.shown E.values) };
 
     fn parse(alloc: Global, input: &mut ParseStream<'_>) -> Result<GenericArgumentOf<A, E>, Error>
         ensures reads { Reads (knot.argument A.reads E.reads input.old) result input.new }
         ensures within { Follows input.old input.new }
-        ensures promise { Keeps (Sounds (promises.argument A.reads E.reads A.spells E.spells A.normal E.normal A.shown E.values)) input.old result input.new }
+        ensures promise { Heads (promises.argument A.reads E.reads A.spells E.spells A.normal E.normal A.shown E.values) input.old result input.new }
         ensures front { Takes (fronts.argument A.spells E.spells) input.old result input.new }
     {
         parse_argument::<A, E>(alloc, input)
@@ -1100,7 +1101,7 @@ impl<A: Attributes, E: Value> Parse for AngleBracketedGenericArgumentsOf<Generic
 
     ghost refuses = { Fails (knot.angle_bracketed A.reads E.reads) };
 
-    ghost promise = { Sounds (promises.angle A.reads E.reads A.spells E.spells A.normal E.normal A.shown E.values) };
+    ghost promise = { Headline (promises.angle A.reads E.reads A.spells E.spells A.normal E.normal A.shown E.values) };
 
     fn parse(
         alloc: Global,
@@ -1108,7 +1109,7 @@ impl<A: Attributes, E: Value> Parse for AngleBracketedGenericArgumentsOf<Generic
     ) -> Result<AngleBracketedGenericArgumentsOf<GenericArgumentOf<A, E>>, Error>
         ensures reads { Reads (knot.angle_bracketed A.reads E.reads input.old) result input.new }
         ensures within { Follows input.old input.new }
-        ensures promise { Keeps (Sounds (promises.angle A.reads E.reads A.spells E.spells A.normal E.normal A.shown E.values)) input.old result input.new }
+        ensures promise { Heads (promises.angle A.reads E.reads A.spells E.spells A.normal E.normal A.shown E.values) input.old result input.new }
         ensures front { Takes (fronts.angle A.spells E.spells) input.old result input.new }
     {
         parse_angle_bracketed::<A, E>(alloc, input)
@@ -1129,7 +1130,7 @@ impl<A: Attributes, E: Value> AngleBracketedGenericArgumentsOf<GenericArgumentOf
         input: &mut ParseStream<'_>,
     ) -> Result<AngleBracketedGenericArgumentsOf<GenericArgumentOf<A, E>>, Error>
         ensures parses { Parses (knot.turbofish A.reads E.reads) result input.old input.new }
-        ensures promise { Keeps (Sounds (promises.turbofish A.reads E.reads A.spells E.spells A.normal E.normal A.shown E.values)) input.old result input.new }
+        ensures promise { Heads (promises.turbofish A.reads E.reads A.spells E.spells A.normal E.normal A.shown E.values) input.old result input.new }
         ensures front { Takes (fronts.turbofish A.spells E.spells) input.old result input.new }
     {
         parse_turbofish::<A, E>(alloc, input)
@@ -1149,7 +1150,7 @@ impl<A: Attributes, E: Value> Parse for ParenthesizedGenericArgumentsOf<TypeOf<A
 
     ghost refuses = { Fails (knot.parenthesized A.reads E.reads) };
 
-    ghost promise = { Sounds (promises.parenthesized A.reads E.reads A.spells E.spells A.normal E.normal A.shown E.values) };
+    ghost promise = { Headline (promises.parenthesized A.reads E.reads A.spells E.spells A.normal E.normal A.shown E.values) };
 
     fn parse(
         alloc: Global,
@@ -1157,7 +1158,7 @@ impl<A: Attributes, E: Value> Parse for ParenthesizedGenericArgumentsOf<TypeOf<A
     ) -> Result<ParenthesizedGenericArgumentsOf<TypeOf<A, E>, A>, Error>
         ensures reads { Reads (knot.parenthesized A.reads E.reads input.old) result input.new }
         ensures within { Follows input.old input.new }
-        ensures promise { Keeps (Sounds (promises.parenthesized A.reads E.reads A.spells E.spells A.normal E.normal A.shown E.values)) input.old result input.new }
+        ensures promise { Heads (promises.parenthesized A.reads E.reads A.spells E.spells A.normal E.normal A.shown E.values) input.old result input.new }
         ensures front { Takes (fronts.parenthesized A.spells E.spells) input.old result input.new }
     {
         parse_parenthesized::<A, E>(alloc, input)

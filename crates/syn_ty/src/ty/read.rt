@@ -9,7 +9,7 @@ pub mod paths;
 pub mod step;
 pub mod tokens;
 
-ghost use Rattle.syn_path.specs.Took.{Sounds, Takes};
+ghost use Rattle.syn_path.specs.Took.{Takes};
 ghost use Rattle.syn_ty.specs.ty.Fronts as fronts;
 ghost use Rattle.syn_ty.specs.ty.Promises as promises;
 ghost use Rattle.syn_ty.specs.ty.Functions.{IsAbi};
@@ -23,7 +23,7 @@ ghost use Rattle.syn_ty.specs.ty.Reading as reading;
 ghost use Rattle.syn_ty.specs.ty.Spelling.{IsInfer, IsMacroType, IsNever, IsOptional};
 ghost use Rattle.token_core.specs.Groups.{sees_invisible};
 ghost use Rattle.token_core.specs.Headline.{Heads, Headline};
-ghost use Rattle.token_core.specs.Reads.{Fails, Follows, Gives, Keeps, Parses, Reads};
+ghost use Rattle.token_core.specs.Reads.{Fails, Follows, Gives, Parses, Reads};
 ghost use Rattle.token_core.specs.Rebuilt.{Visible};
 
 use crate::generics::TypeParamBoundOf;
@@ -52,7 +52,7 @@ impl<A: Attributes, E: Value> TypeOf<A, E> {
     #[tactic(auto, using(crate::proofs::ty_laws::Groups::groups))]
     pub fn without_plus(alloc: Global, input: &mut ParseStream<'_>) -> Result<TypeOf<A, E>, Error>
         ensures parses { Parses (knot.ty A.reads E.reads NoPlus) result input.old input.new }
-        ensures promise { Keeps (Sounds (promises.ty A.reads E.reads A.spells E.spells A.normal E.normal A.shown E.values NoPlus)) input.old result input.new }
+        ensures promise { Heads (promises.ty A.reads E.reads A.spells E.spells A.normal E.normal A.shown E.values NoPlus) input.old result input.new }
         ensures front { Takes (fronts.ty A.spells E.spells NoPlus) input.old result input.new }
         ensures group { sees_invisible input.old.rest ≡ true → IfOk result (λ x. IsGrouped (knot.reads_below A.reads E.reads (ahead input.old)) input.old x input.new) }
     {
@@ -69,13 +69,13 @@ impl<A: Attributes, E: Value> Parse for TypeOf<A, E> {
 
     ghost refuses = { Fails (knot.ty A.reads E.reads Plus) };
 
-    ghost promise = { Sounds (promises.ty A.reads E.reads A.spells E.spells A.normal E.normal A.shown E.values Plus) };
+    ghost promise = { Headline (promises.ty A.reads E.reads A.spells E.spells A.normal E.normal A.shown E.values Plus) };
 
     #[tactic(auto, using(crate::proofs::ty_laws::Groups::groups))]
     fn parse(alloc: Global, input: &mut ParseStream<'_>) -> Result<TypeOf<A, E>, Error>
         ensures reads { Reads (knot.ty A.reads E.reads Plus input.old) result input.new }
         ensures within { Follows input.old input.new }
-        ensures promise { Keeps (Sounds (promises.ty A.reads E.reads A.spells E.spells A.normal E.normal A.shown E.values Plus)) input.old result input.new }
+        ensures promise { Heads (promises.ty A.reads E.reads A.spells E.spells A.normal E.normal A.shown E.values Plus) input.old result input.new }
         ensures front { Takes (fronts.ty A.spells E.spells Plus) input.old result input.new }
         ensures group { sees_invisible input.old.rest ≡ true → IfOk result (λ x. IsGrouped (knot.reads_below A.reads E.reads (ahead input.old)) input.old x input.new) }
     {
@@ -90,7 +90,7 @@ impl<A: Attributes, E: Value> ReturnTypeOf<TypeOf<A, E>> {
         input: &mut ParseStream<'_>,
     ) -> Result<ReturnTypeOf<TypeOf<A, E>>, Error>
         ensures parses { Parses (knot.return_type A.reads E.reads NoPlus) result input.old input.new }
-        ensures promise { Keeps (Sounds (promises.return_type A.reads E.reads A.spells E.spells A.normal E.normal A.shown E.values NoPlus)) input.old result input.new }
+        ensures promise { Heads (promises.return_type A.reads E.reads A.spells E.spells A.normal E.normal A.shown E.values NoPlus) input.old result input.new }
         ensures front { Takes (fronts.return_type A.spells E.spells NoPlus) input.old result input.new }
     {
         parse_return_type(alloc, input, TypePlace::NoPlus)
@@ -103,7 +103,7 @@ impl<A: Attributes, E: Value> Parse for ReturnTypeOf<TypeOf<A, E>> {
 
     ghost refuses = { Fails (knot.return_type A.reads E.reads Plus) };
 
-    ghost promise = { Sounds (promises.return_type A.reads E.reads A.spells E.spells A.normal E.normal A.shown E.values Plus) };
+    ghost promise = { Headline (promises.return_type A.reads E.reads A.spells E.spells A.normal E.normal A.shown E.values Plus) };
 
     fn parse(
         alloc: Global,
@@ -111,7 +111,7 @@ impl<A: Attributes, E: Value> Parse for ReturnTypeOf<TypeOf<A, E>> {
     ) -> Result<ReturnTypeOf<TypeOf<A, E>>, Error>
         ensures reads { Reads (knot.return_type A.reads E.reads Plus input.old) result input.new }
         ensures within { Follows input.old input.new }
-        ensures promise { Keeps (Sounds (promises.return_type A.reads E.reads A.spells E.spells A.normal E.normal A.shown E.values Plus)) input.old result input.new }
+        ensures promise { Heads (promises.return_type A.reads E.reads A.spells E.spells A.normal E.normal A.shown E.values Plus) input.old result input.new }
         ensures front { Takes (fronts.return_type A.spells E.spells Plus) input.old result input.new }
     {
         parse_return_type(alloc, input, TypePlace::Plus)
@@ -125,7 +125,7 @@ impl<A: Attributes, E: Value> TypeTraitObjectOf<TypeParamBoundOf<A, E>, A> {
         input: &mut ParseStream<'_>,
     ) -> Result<TypeTraitObjectOf<TypeParamBoundOf<A, E>, A>, Error>
         ensures parses { Parses (knot.trait_object A.reads E.reads false) result input.old input.new }
-        ensures promise { Keeps (Sounds (promises.trait_object A.reads E.reads A.spells E.spells A.normal E.normal A.shown E.values NoPlus)) input.old result input.new }
+        ensures promise { Heads (promises.trait_object A.reads E.reads A.spells E.spells A.normal E.normal A.shown E.values NoPlus) input.old result input.new }
         ensures front { Takes (fronts.trait_object A.spells E.spells NoPlus) input.old result input.new }
     {
         parse_trait_object(alloc, input, false)
@@ -138,7 +138,7 @@ impl<A: Attributes, E: Value> Parse for TypeTraitObjectOf<TypeParamBoundOf<A, E>
 
     ghost refuses = { Fails (knot.trait_object A.reads E.reads true) };
 
-    ghost promise = { Sounds (promises.trait_object A.reads E.reads A.spells E.spells A.normal E.normal A.shown E.values Plus) };
+    ghost promise = { Headline (promises.trait_object A.reads E.reads A.spells E.spells A.normal E.normal A.shown E.values Plus) };
 
     fn parse(
         alloc: Global,
@@ -146,7 +146,7 @@ impl<A: Attributes, E: Value> Parse for TypeTraitObjectOf<TypeParamBoundOf<A, E>
     ) -> Result<TypeTraitObjectOf<TypeParamBoundOf<A, E>, A>, Error>
         ensures reads { Reads (knot.trait_object A.reads E.reads true input.old) result input.new }
         ensures within { Follows input.old input.new }
-        ensures promise { Keeps (Sounds (promises.trait_object A.reads E.reads A.spells E.spells A.normal E.normal A.shown E.values Plus)) input.old result input.new }
+        ensures promise { Heads (promises.trait_object A.reads E.reads A.spells E.spells A.normal E.normal A.shown E.values Plus) input.old result input.new }
         ensures front { Takes (fronts.trait_object A.spells E.spells Plus) input.old result input.new }
     {
         parse_trait_object(alloc, input, true)
@@ -160,7 +160,7 @@ impl<A: Attributes, E: Value> TypeImplTraitOf<TypeParamBoundOf<A, E>, A> {
         input: &mut ParseStream<'_>,
     ) -> Result<TypeImplTraitOf<TypeParamBoundOf<A, E>, A>, Error>
         ensures parses { Parses (knot.impl_trait A.reads E.reads false) result input.old input.new }
-        ensures promise { Keeps (Sounds (promises.impl_trait A.reads E.reads A.spells E.spells A.normal E.normal A.shown E.values NoPlus)) input.old result input.new }
+        ensures promise { Heads (promises.impl_trait A.reads E.reads A.spells E.spells A.normal E.normal A.shown E.values NoPlus) input.old result input.new }
         ensures front { Takes (fronts.impl_trait A.spells E.spells NoPlus) input.old result input.new }
     {
         parse_impl_trait(alloc, input, false)
@@ -173,7 +173,7 @@ impl<A: Attributes, E: Value> Parse for TypeImplTraitOf<TypeParamBoundOf<A, E>, 
 
     ghost refuses = { Fails (knot.impl_trait A.reads E.reads true) };
 
-    ghost promise = { Sounds (promises.impl_trait A.reads E.reads A.spells E.spells A.normal E.normal A.shown E.values Plus) };
+    ghost promise = { Headline (promises.impl_trait A.reads E.reads A.spells E.spells A.normal E.normal A.shown E.values Plus) };
 
     fn parse(
         alloc: Global,
@@ -181,7 +181,7 @@ impl<A: Attributes, E: Value> Parse for TypeImplTraitOf<TypeParamBoundOf<A, E>, 
     ) -> Result<TypeImplTraitOf<TypeParamBoundOf<A, E>, A>, Error>
         ensures reads { Reads (knot.impl_trait A.reads E.reads true input.old) result input.new }
         ensures within { Follows input.old input.new }
-        ensures promise { Keeps (Sounds (promises.impl_trait A.reads E.reads A.spells E.spells A.normal E.normal A.shown E.values Plus)) input.old result input.new }
+        ensures promise { Heads (promises.impl_trait A.reads E.reads A.spells E.spells A.normal E.normal A.shown E.values Plus) input.old result input.new }
         ensures front { Takes (fronts.impl_trait A.spells E.spells Plus) input.old result input.new }
     {
         parse_impl_trait(alloc, input, true)
@@ -194,7 +194,7 @@ impl<A: Attributes, E: Value> Parse for TypeArrayOf<TypeOf<A, E>, A, E> {
 
     ghost refuses = { Fails (knot.array A.reads E.reads) };
 
-    ghost promise = { Sounds (promises.array A.reads E.reads A.spells E.spells A.normal E.normal A.shown E.values) };
+    ghost promise = { Headline (promises.array A.reads E.reads A.spells E.spells A.normal E.normal A.shown E.values) };
 
     fn parse(
         alloc: Global,
@@ -202,7 +202,7 @@ impl<A: Attributes, E: Value> Parse for TypeArrayOf<TypeOf<A, E>, A, E> {
     ) -> Result<TypeArrayOf<TypeOf<A, E>, A, E>, Error>
         ensures reads { Reads (knot.array A.reads E.reads input.old) result input.new }
         ensures within { Follows input.old input.new }
-        ensures promise { Keeps (Sounds (promises.array A.reads E.reads A.spells E.spells A.normal E.normal A.shown E.values)) input.old result input.new }
+        ensures promise { Heads (promises.array A.reads E.reads A.spells E.spells A.normal E.normal A.shown E.values) input.old result input.new }
         ensures front { Takes (fronts.array A.spells E.spells) input.old result input.new }
     {
         parse_array(alloc, input)
@@ -216,12 +216,12 @@ impl<A: Attributes, E: Value> Parse for TypeFnPtrOf<A, E> {
 
     ghost refuses = { Fails (knot.fn_ptr A.reads E.reads) };
 
-    ghost promise = { Sounds (promises.fn_ptr A.reads E.reads A.spells E.spells A.normal E.normal A.shown E.values) };
+    ghost promise = { Headline (promises.fn_ptr A.reads E.reads A.spells E.spells A.normal E.normal A.shown E.values) };
 
     fn parse(alloc: Global, input: &mut ParseStream<'_>) -> Result<TypeFnPtrOf<A, E>, Error>
         ensures reads { Reads (knot.fn_ptr A.reads E.reads input.old) result input.new }
         ensures within { Follows input.old input.new }
-        ensures promise { Keeps (Sounds (promises.fn_ptr A.reads E.reads A.spells E.spells A.normal E.normal A.shown E.values)) input.old result input.new }
+        ensures promise { Heads (promises.fn_ptr A.reads E.reads A.spells E.spells A.normal E.normal A.shown E.values) input.old result input.new }
         ensures front { Takes (fronts.fn_ptr A.spells E.spells) input.old result input.new }
     {
         parse_fn_ptr(alloc, input)
@@ -234,7 +234,7 @@ impl<A: Attributes, E: Value> Parse for TypeGroupOf<TypeOf<A, E>, A> {
 
     ghost refuses = { Fails (knot.group A.reads E.reads) };
 
-    ghost promise = { Sounds (promises.group A.reads E.reads A.spells E.spells A.normal E.normal A.shown E.values) };
+    ghost promise = { Headline (promises.group A.reads E.reads A.spells E.spells A.normal E.normal A.shown E.values) };
 
     fn parse(
         alloc: Global,
@@ -242,7 +242,7 @@ impl<A: Attributes, E: Value> Parse for TypeGroupOf<TypeOf<A, E>, A> {
     ) -> Result<TypeGroupOf<TypeOf<A, E>, A>, Error>
         ensures reads { Reads (knot.group A.reads E.reads input.old) result input.new }
         ensures within { Follows input.old input.new }
-        ensures promise { Keeps (Sounds (promises.group A.reads E.reads A.spells E.spells A.normal E.normal A.shown E.values)) input.old result input.new }
+        ensures promise { Heads (promises.group A.reads E.reads A.spells E.spells A.normal E.normal A.shown E.values) input.old result input.new }
         ensures front { Takes (fronts.group A.spells E.spells) input.old result input.new }
     {
         parse_group(alloc, input)
@@ -255,7 +255,7 @@ impl<A: Attributes, E: Value> Parse for TypeParenOf<TypeOf<A, E>, A> {
 
     ghost refuses = { Fails (knot.paren A.reads E.reads) };
 
-    ghost promise = { Sounds (promises.paren A.reads E.reads A.spells E.spells A.normal E.normal A.shown E.values) };
+    ghost promise = { Headline (promises.paren A.reads E.reads A.spells E.spells A.normal E.normal A.shown E.values) };
 
     fn parse(
         alloc: Global,
@@ -263,7 +263,7 @@ impl<A: Attributes, E: Value> Parse for TypeParenOf<TypeOf<A, E>, A> {
     ) -> Result<TypeParenOf<TypeOf<A, E>, A>, Error>
         ensures reads { Reads (knot.paren A.reads E.reads input.old) result input.new }
         ensures within { Follows input.old input.new }
-        ensures promise { Keeps (Sounds (promises.paren A.reads E.reads A.spells E.spells A.normal E.normal A.shown E.values)) input.old result input.new }
+        ensures promise { Heads (promises.paren A.reads E.reads A.spells E.spells A.normal E.normal A.shown E.values) input.old result input.new }
         ensures front { Takes (fronts.paren A.spells E.spells) input.old result input.new }
     {
         parse_paren(alloc, input)
@@ -276,12 +276,12 @@ impl<A: Attributes, E: Value> Parse for TypePathOf<A, E> {
 
     ghost refuses = { Fails (knot.path_type A.reads E.reads) };
 
-    ghost promise = { Sounds (promises.path_type A.reads E.reads A.spells E.spells A.normal E.normal A.shown E.values) };
+    ghost promise = { Headline (promises.path_type A.reads E.reads A.spells E.spells A.normal E.normal A.shown E.values) };
 
     fn parse(alloc: Global, input: &mut ParseStream<'_>) -> Result<TypePathOf<A, E>, Error>
         ensures reads { Reads (knot.path_type A.reads E.reads input.old) result input.new }
         ensures within { Follows input.old input.new }
-        ensures promise { Keeps (Sounds (promises.path_type A.reads E.reads A.spells E.spells A.normal E.normal A.shown E.values)) input.old result input.new }
+        ensures promise { Heads (promises.path_type A.reads E.reads A.spells E.spells A.normal E.normal A.shown E.values) input.old result input.new }
         ensures front { Takes (fronts.path_type A.spells E.spells) input.old result input.new }
     {
         parse_path_type(alloc, input)
@@ -294,7 +294,7 @@ impl<A: Attributes, E: Value> Parse for TypePtrOf<TypeOf<A, E>, A> {
 
     ghost refuses = { Fails (knot.ptr A.reads E.reads) };
 
-    ghost promise = { Sounds (promises.ptr A.reads E.reads A.spells E.spells A.normal E.normal A.shown E.values) };
+    ghost promise = { Headline (promises.ptr A.reads E.reads A.spells E.spells A.normal E.normal A.shown E.values) };
 
     fn parse(
         alloc: Global,
@@ -302,7 +302,7 @@ impl<A: Attributes, E: Value> Parse for TypePtrOf<TypeOf<A, E>, A> {
     ) -> Result<TypePtrOf<TypeOf<A, E>, A>, Error>
         ensures reads { Reads (knot.ptr A.reads E.reads input.old) result input.new }
         ensures within { Follows input.old input.new }
-        ensures promise { Keeps (Sounds (promises.ptr A.reads E.reads A.spells E.spells A.normal E.normal A.shown E.values)) input.old result input.new }
+        ensures promise { Heads (promises.ptr A.reads E.reads A.spells E.spells A.normal E.normal A.shown E.values) input.old result input.new }
         ensures front { Takes (fronts.ptr A.spells E.spells) input.old result input.new }
     {
         parse_ptr(alloc, input)
@@ -315,7 +315,7 @@ impl<A: Attributes, E: Value> Parse for TypeReferenceOf<TypeOf<A, E>, A> {
 
     ghost refuses = { Fails (knot.reference A.reads E.reads) };
 
-    ghost promise = { Sounds (promises.reference A.reads E.reads A.spells E.spells A.normal E.normal A.shown E.values) };
+    ghost promise = { Headline (promises.reference A.reads E.reads A.spells E.spells A.normal E.normal A.shown E.values) };
 
     fn parse(
         alloc: Global,
@@ -323,7 +323,7 @@ impl<A: Attributes, E: Value> Parse for TypeReferenceOf<TypeOf<A, E>, A> {
     ) -> Result<TypeReferenceOf<TypeOf<A, E>, A>, Error>
         ensures reads { Reads (knot.reference A.reads E.reads input.old) result input.new }
         ensures within { Follows input.old input.new }
-        ensures promise { Keeps (Sounds (promises.reference A.reads E.reads A.spells E.spells A.normal E.normal A.shown E.values)) input.old result input.new }
+        ensures promise { Heads (promises.reference A.reads E.reads A.spells E.spells A.normal E.normal A.shown E.values) input.old result input.new }
         ensures front { Takes (fronts.reference A.spells E.spells) input.old result input.new }
     {
         parse_reference(alloc, input)
@@ -336,7 +336,7 @@ impl<A: Attributes, E: Value> Parse for TypeSliceOf<TypeOf<A, E>, A> {
 
     ghost refuses = { Fails (knot.slice A.reads E.reads) };
 
-    ghost promise = { Sounds (promises.slice A.reads E.reads A.spells E.spells A.normal E.normal A.shown E.values) };
+    ghost promise = { Headline (promises.slice A.reads E.reads A.spells E.spells A.normal E.normal A.shown E.values) };
 
     fn parse(
         alloc: Global,
@@ -344,7 +344,7 @@ impl<A: Attributes, E: Value> Parse for TypeSliceOf<TypeOf<A, E>, A> {
     ) -> Result<TypeSliceOf<TypeOf<A, E>, A>, Error>
         ensures reads { Reads (knot.slice A.reads E.reads input.old) result input.new }
         ensures within { Follows input.old input.new }
-        ensures promise { Keeps (Sounds (promises.slice A.reads E.reads A.spells E.spells A.normal E.normal A.shown E.values)) input.old result input.new }
+        ensures promise { Heads (promises.slice A.reads E.reads A.spells E.spells A.normal E.normal A.shown E.values) input.old result input.new }
         ensures front { Takes (fronts.slice A.spells E.spells) input.old result input.new }
     {
         parse_slice(alloc, input)
@@ -357,7 +357,7 @@ impl<A: Attributes, E: Value> Parse for TypeTupleOf<TypeOf<A, E>, A> {
 
     ghost refuses = { Fails (knot.tuple A.reads E.reads) };
 
-    ghost promise = { Sounds (promises.tuple A.reads E.reads A.spells E.spells A.normal E.normal A.shown E.values) };
+    ghost promise = { Headline (promises.tuple A.reads E.reads A.spells E.spells A.normal E.normal A.shown E.values) };
 
     fn parse(
         alloc: Global,
@@ -365,7 +365,7 @@ impl<A: Attributes, E: Value> Parse for TypeTupleOf<TypeOf<A, E>, A> {
     ) -> Result<TypeTupleOf<TypeOf<A, E>, A>, Error>
         ensures reads { Reads (knot.tuple A.reads E.reads input.old) result input.new }
         ensures within { Follows input.old input.new }
-        ensures promise { Keeps (Sounds (promises.tuple A.reads E.reads A.spells E.spells A.normal E.normal A.shown E.values)) input.old result input.new }
+        ensures promise { Heads (promises.tuple A.reads E.reads A.spells E.spells A.normal E.normal A.shown E.values) input.old result input.new }
         ensures front { Takes (fronts.tuple A.spells E.spells) input.old result input.new }
     {
         parse_tuple(alloc, input)
@@ -378,7 +378,7 @@ impl<A: Attributes, E: Value> Parse for NamedArgOf<TypeOf<A, E>, A> {
 
     ghost refuses = { Fails (knot.named_arg A.reads E.reads) };
 
-    ghost promise = { Sounds (promises.named_arg A.reads E.reads A.spells E.spells A.normal E.normal A.shown E.values) };
+    ghost promise = { Headline (promises.named_arg A.reads E.reads A.spells E.spells A.normal E.normal A.shown E.values) };
 
     fn parse(
         alloc: Global,
@@ -386,7 +386,7 @@ impl<A: Attributes, E: Value> Parse for NamedArgOf<TypeOf<A, E>, A> {
     ) -> Result<NamedArgOf<TypeOf<A, E>, A>, Error>
         ensures reads { Reads (knot.named_arg A.reads E.reads input.old) result input.new }
         ensures within { Follows input.old input.new }
-        ensures promise { Keeps (Sounds (promises.named_arg A.reads E.reads A.spells E.spells A.normal E.normal A.shown E.values)) input.old result input.new }
+        ensures promise { Heads (promises.named_arg A.reads E.reads A.spells E.spells A.normal E.normal A.shown E.values) input.old result input.new }
         ensures front { Takes (fronts.named_arg A.spells E.spells) input.old result input.new }
     {
         parse_named_arg(alloc, input)
@@ -453,12 +453,12 @@ impl Parse for Abi {
 
     ghost refuses = { Fails reading.abi };
 
-    ghost promise = { Sounds promises.abi };
+    ghost promise = { Headline promises.abi };
 
     fn parse(alloc: Global, input: &mut ParseStream<'_>) -> Result<Abi, Error>
         ensures reads { Reads (reading.abi input.old) result input.new }
         ensures within { Follows input.old input.new }
-        ensures promise { Keeps (Sounds promises.abi) input.old result input.new }
+        ensures promise { Heads promises.abi input.old result input.new }
         ensures front { Takes IsAbi input.old result input.new }
     {
         parse_abi(alloc, input)
@@ -469,7 +469,7 @@ impl Abi {
     /// Reads a calling convention where `extern` follows (`Option::<Abi>::parse`).
     pub fn parse_optional(alloc: Global, input: &mut ParseStream<'_>) -> Result<Option<Abi>, Error>
         ensures parses { Parses reading.optional_abi result input.old input.new }
-        ensures promise { Keeps (Sounds promises.optional_abi) input.old result input.new }
+        ensures promise { Heads promises.optional_abi input.old result input.new }
         ensures front { Takes (IsOptional IsAbi) input.old result input.new }
     {
         parse_optional_abi(alloc, input)

@@ -1,12 +1,14 @@
 use Rattle.syn_pat.specs.pat.Promises as promises
-use Rattle.syn_ty.proofs.ty_laws.WholeTold.{sounds, takes}
+use Rattle.token_core.proofs.Headlines.{heads}
+use Rattle.syn_ty.proofs.ty_laws.WholeTold.{takes}
 use Rattle.syn_pat.specs.declared.place.PatPlace.TheVariants.{Single}
-use Rattle.syn_pat.proofs.pat_laws.WholeTold.{pat_sound, supplied}
+use Rattle.syn_pat.proofs.pat_laws.WholeTold.{supplied}
+use Rattle.syn_pat.proofs.pat_laws.GivenLaws.{pat_lawful}
 use Rattle.syn_pat.proofs.pat_laws.KnotTold.{pat_took}
 use Rattle.syn_pat.proofs.pat.read.Pat+X.parse_single.Goals as goal
 
 pub returns-clause-promise : goal.returns-clause-promise
-returns-clause-promise g c = sounds (promises.pat g.X.Subtree.reads g.X.Subtree.spells g.X.Subtree.normal g.X.Subtree.prints Single) (pat_sound g.X.Subtree.reads g.X.Subtree.spells g.X.Subtree.normal g.X.Subtree.prints g.met.X.Subtree.steady g.met.X.Subtree.sound g.met.X.Subtree.complete g.met.X.Subtree.reprint Single) _ _ _ c.parse_pat.ensures.parses.0
+returns-clause-promise g c = heads (promises.pat g.X.Subtree.reads g.X.Subtree.spells g.X.Subtree.normal g.X.Subtree.prints Single) (pat_lawful g.X.Subtree.reads g.X.Subtree.spells g.X.Subtree.normal g.X.Subtree.prints g.met.X.Subtree.steady g.met.X.Subtree.sound g.met.X.Subtree.complete g.met.X.Subtree.reprint g.met.X.Subtree.apart Single) _ _ _ c.parse_pat.ensures.parses.0
 
 pub returns-clause-front : goal.returns-clause-front
 returns-clause-front g c = takes (pat_took g.X.Subtree.reads g.X.Subtree.spells (supplied g.X.Subtree.reads g.X.Subtree.spells g.X.Subtree.normal g.X.Subtree.prints g.met.X.Subtree.steady g.met.X.Subtree.sound g.met.X.Subtree.complete g.met.X.Subtree.reprint) Single) _ _ _ c.parse_pat.ensures.parses.0

@@ -1,7 +1,13 @@
 use Rattle.syn_pat.specs.pat.Promises as promises
-use Rattle.syn_ty.proofs.ty_laws.WholeTold.{sounds}
-use Rattle.syn_pat.proofs.pat_laws.WholeTold.{typed_sound}
+use Rattle.token_core.proofs.Headlines.{heads}
+use Rattle.syn_ty.proofs.ty_laws.WholeTold.{takes}
+use Rattle.syn_pat.proofs.pat_laws.WholeTold.{supplied}
+use Rattle.syn_pat.proofs.pat_laws.GivenLaws.{typed_lawful}
+use Rattle.syn_pat.proofs.pat_laws.KnotTold.{typed_took}
 use Rattle.syn_pat.proofs.pat.read.PatTypeParse.parse.Goals as goal
 
 pub returns-clause-promise : goal.returns-clause-promise
-returns-clause-promise g c = sounds (promises.typed g.X.Subtree.reads g.X.Subtree.spells g.X.Subtree.normal g.X.Subtree.prints) (typed_sound g.X.Subtree.reads g.X.Subtree.spells g.X.Subtree.normal g.X.Subtree.prints g.met.X.Subtree.steady g.met.X.Subtree.sound g.met.X.Subtree.complete g.met.X.Subtree.reprint) _ _ _ c.parse_typed.ensures.parses.0
+returns-clause-promise g c = heads (promises.typed g.X.Subtree.reads g.X.Subtree.spells g.X.Subtree.normal g.X.Subtree.prints) (typed_lawful g.X.Subtree.reads g.X.Subtree.spells g.X.Subtree.normal g.X.Subtree.prints g.met.X.Subtree.steady g.met.X.Subtree.sound g.met.X.Subtree.complete g.met.X.Subtree.reprint g.met.X.Subtree.apart) _ _ _ c.parse_typed.ensures.parses.0
+
+pub returns-clause-front : goal.returns-clause-front
+returns-clause-front g c = takes (typed_took g.X.Subtree.reads g.X.Subtree.spells (supplied g.X.Subtree.reads g.X.Subtree.spells g.X.Subtree.normal g.X.Subtree.prints g.met.X.Subtree.steady g.met.X.Subtree.sound g.met.X.Subtree.complete g.met.X.Subtree.reprint)) _ _ _ c.parse_typed.ensures.parses.0

@@ -1,10 +1,12 @@
+use Rattle.token_core.proofs.Headlines.{heads}
 use Rattle.syn_ty.specs.ty.Promises as promises
-use Rattle.syn_ty.proofs.ty_laws.WholeTold.{sounds, takes, captured_sound}
+use Rattle.syn_ty.proofs.ty_laws.WholeLaws.{captured_lawful}
+use Rattle.syn_ty.proofs.ty_laws.WholeTold.{takes}
 use Rattle.syn_ty.proofs.ty_laws.BoundTold.{captured_took}
 use Rattle.syn_ty.proofs.generics.read.CapturedParamParse.parse.Goals as goal
 
 pub returns-clause-promise : goal.returns-clause-promise
-returns-clause-promise c = sounds promises.captured captured_sound _ _ _ c.parse_captured.ensures.parses.0
+returns-clause-promise c = heads promises.captured captured_lawful _ _ _ c.parse_captured.ensures.parses.0
 
 pub returns-clause-front : goal.returns-clause-front
 returns-clause-front c = takes captured_took _ _ _ c.parse_captured.ensures.parses.0

@@ -1,10 +1,12 @@
+use Rattle.token_core.proofs.Headlines.{heads}
 use Rattle.syn_ty.specs.ty.Promises as promises
-use Rattle.syn_ty.proofs.ty_laws.WholeTold.{sounds, takes, capture_sound}
+use Rattle.syn_ty.proofs.ty_laws.WholeLaws.{capture_lawful}
+use Rattle.syn_ty.proofs.ty_laws.WholeTold.{takes}
 use Rattle.syn_ty.proofs.ty_laws.BoundTold.{capture_took}
 use Rattle.syn_ty.proofs.generics.read.PreciseCaptureParse.parse.Goals as goal
 
 pub returns-clause-promise : goal.returns-clause-promise
-returns-clause-promise c = sounds promises.capture capture_sound _ _ _ c.parse_capture.ensures.parses.0
+returns-clause-promise c = heads promises.capture capture_lawful _ _ _ c.parse_capture.ensures.parses.0
 
 pub returns-clause-front : goal.returns-clause-front
 returns-clause-front c = takes capture_took _ _ _ c.parse_capture.ensures.parses.0

@@ -1,10 +1,12 @@
+use Rattle.token_core.proofs.Headlines.{heads}
 use Rattle.syn_ty.specs.ty.Promises as promises
-use Rattle.syn_ty.proofs.ty_laws.WholeTold.{sounds, takes, abi_sound}
+use Rattle.syn_ty.proofs.ty_laws.WholeLaws.{abi_lawful}
+use Rattle.syn_ty.proofs.ty_laws.WholeTold.{takes}
 use Rattle.syn_ty.proofs.ty_laws.FunctionsTold.{abi_took}
 use Rattle.syn_ty.proofs.ty.read.AbiParse.parse.Goals as goal
 
 pub returns-clause-promise : goal.returns-clause-promise
-returns-clause-promise c = sounds promises.abi abi_sound _ _ _ c.parse_abi.ensures.parses.0
+returns-clause-promise c = heads promises.abi abi_lawful _ _ _ c.parse_abi.ensures.parses.0
 
 pub returns-clause-front : goal.returns-clause-front
 returns-clause-front c = takes abi_took _ _ _ c.parse_abi.ensures.parses.0

@@ -1,11 +1,14 @@
+use Rattle.token_core.proofs.Headlines.{heads}
 use Rattle.syn_ty.specs.ty.Promises as promises
-use Rattle.syn_ty.proofs.ty_laws.WholeTold.{sounds, takes, group_sound}
+use Rattle.syn_ty.proofs.ty_laws.WholeLaws.{group_lawful}
+use Rattle.syn_ty.proofs.ty_laws.WholeTold.{takes}
+use Rattle.syn_ty.proofs.ty_laws.GivenWhole.{given_again, given_meets}
 use Rattle.syn_ty.proofs.ty_laws.Given.{given}
 use Rattle.syn_ty.proofs.ty_laws.AloneTold.{no_group}
 use Rattle.syn_ty.proofs.ty.read.TypeGroupOfTypeOfParse.parse.Goals as goal
 
 pub returns-clause-promise : goal.returns-clause-promise
-returns-clause-promise g c = sounds (promises.group g.A.Attributes.reads g.E.Value.reads g.A.Attributes.spells g.E.Value.spells g.A.Attributes.normal g.E.Value.normal g.A.Attributes.shown g.E.Value.values) (group_sound (given g.met.A.Attributes.told g.met.E.Value.consts g.met.E.Value.lengths)) _ _ _ c.parse_group.ensures.parses.0
+returns-clause-promise g c = heads (promises.group g.A.Attributes.reads g.E.Value.reads g.A.Attributes.spells g.E.Value.spells g.A.Attributes.normal g.E.Value.normal g.A.Attributes.shown g.E.Value.values) (group_lawful (given g.met.A.Attributes.told g.met.E.Value.consts g.met.E.Value.lengths) (given_meets g.met.A.Attributes.met g.met.E.Value.met g.met.E.Value.lengths) (given_again g.met.A.Attributes.met g.met.E.Value.met g.met.E.Value.lengths g.met.A.Attributes.bare)) _ _ _ c.parse_group.ensures.parses.0
 
 pub returns-clause-front : goal.returns-clause-front
 returns-clause-front g c = takes {Is = λ x l r. ⊥} (λ s t x v e. absurd (no_group (given g.met.A.Attributes.told g.met.E.Value.consts g.met.E.Value.lengths) s t x v e)) _ _ _ c.parse_group.ensures.parses.0

@@ -1,11 +1,14 @@
+use Rattle.token_core.proofs.Headlines.{heads}
 use Rattle.syn_ty.specs.ty.Promises as promises
-use Rattle.syn_ty.proofs.ty_laws.WholeTold.{sounds, takes, path_type_sound}
+use Rattle.syn_ty.proofs.ty_laws.WholeLaws.{path_type_lawful}
+use Rattle.syn_ty.proofs.ty_laws.WholeTold.{takes}
+use Rattle.syn_ty.proofs.ty_laws.GivenWhole.{given_again, given_meets}
 use Rattle.syn_ty.proofs.ty_laws.Given.{given}
 use Rattle.syn_ty.proofs.ty_laws.AloneTold.{path_type_took}
 use Rattle.syn_ty.proofs.ty.read.TypePathOfParse.parse.Goals as goal
 
 pub returns-clause-promise : goal.returns-clause-promise
-returns-clause-promise g c = sounds (promises.path_type g.A.Attributes.reads g.E.Value.reads g.A.Attributes.spells g.E.Value.spells g.A.Attributes.normal g.E.Value.normal g.A.Attributes.shown g.E.Value.values) (path_type_sound (given g.met.A.Attributes.told g.met.E.Value.consts g.met.E.Value.lengths)) _ _ _ c.parse_path_type.ensures.parses.0
+returns-clause-promise g c = heads (promises.path_type g.A.Attributes.reads g.E.Value.reads g.A.Attributes.spells g.E.Value.spells g.A.Attributes.normal g.E.Value.normal g.A.Attributes.shown g.E.Value.values) (path_type_lawful (given g.met.A.Attributes.told g.met.E.Value.consts g.met.E.Value.lengths) (given_meets g.met.A.Attributes.met g.met.E.Value.met g.met.E.Value.lengths) (given_again g.met.A.Attributes.met g.met.E.Value.met g.met.E.Value.lengths g.met.A.Attributes.bare)) _ _ _ c.parse_path_type.ensures.parses.0
 
 pub returns-clause-front : goal.returns-clause-front
 returns-clause-front g c = takes (path_type_took (given g.met.A.Attributes.told g.met.E.Value.consts g.met.E.Value.lengths)) _ _ _ c.parse_path_type.ensures.parses.0
