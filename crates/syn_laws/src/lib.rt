@@ -9,16 +9,16 @@ ghost use Rattle.syn_pat.specs.pat.Normal as normal_patterns;
 ghost use Rattle.syn_pat.specs.pat.Printing as printed_patterns;
 ghost use Rattle.syn_path.specs.Values.{OwnValues, SameValues};
 ghost use Rattle.syn_path.specs.declared.supplied.Place.{Place};
-ghost use Rattle.syn_ty.specs.generics.Normal as normal_generics;
-ghost use Rattle.syn_ty.specs.generics.Printing as printed_generics;
+ghost use Rattle.syn_generics.specs.generics.Normal as normal_generics;
+ghost use Rattle.syn_generics.specs.generics.Printing as printed_generics;
 ghost use Rattle.syn_ty.specs.ty.Normal as normal_types;
 ghost use Rattle.syn_ty.specs.ty.Printing as printed_types;
 
 use syn_attr::attr::{Attribute, Meta};
 use syn_attr::expr::Expr;
+use syn_generics::generics::GenericsOf;
 use syn_pat::pat::Pat;
 use syn_path::supplied::{Attributes, Subtree, Value};
-use syn_ty::generics::GenericsOf;
 use syn_ty::ty::TypeOf;
 use token_core::Items;
 

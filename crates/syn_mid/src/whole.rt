@@ -14,16 +14,18 @@ ghost use Rattle.syn_pat.specs.pat.Promises as pat_promises;
 ghost use Rattle.syn_ty.specs.ty.Reading as types;
 ghost use Rattle.syn_ty.specs.ty.Knot as knot;
 ghost use Rattle.syn_ty.specs.ty.Promises as promises;
-ghost use Rattle.syn_ty.specs.generics.Alone as alone;
+ghost use Rattle.syn_generics.specs.generics.Promises as generics_promises;
+ghost use Rattle.syn_generics.specs.generics.Alone as alone;
 
 use std::alloc::Global;
 use std::marker::PhantomData;
 use syn_attr::attr::Attribute;
 use syn_attr::expr::Expr;
+use syn_generics::generics::WhereClauseOf;
 use syn_pat::pat::Pat;
 use syn_path::path::{Arguments, PathOf};
 use syn_path::supplied::{Attributes, Subtree, Value};
-use syn_ty::generics::{BoundLifetimesOf, GenericParamOf, TypeParamBoundOf, WhereClauseOf};
+use syn_ty::generics::{BoundLifetimesOf, GenericParamOf, TypeParamBoundOf};
 use syn_ty::path::{AngleBracketedGenericArgumentsOf, GenericArgumentOf};
 use syn_ty::ty::{Abi, ReturnTypeOf, TypeImplTraitOf, TypeOf, TypeTraitObjectOf};
 use token_core::{Error, Items, ParseStream, Parser};
@@ -370,7 +372,7 @@ impl<A: Attributes, E: Value> Parser for ParseOptionalWhereOf<A, E> {
 
     ghost refuses = { λ _. Fails (alone.optional_where_clause A.reads E.reads) };
 
-    ghost promise = { λ _. Headline (promises.optional_where_clause A.reads E.reads A.spells E.spells A.normal E.normal A.shown E.values) };
+    ghost promise = { λ _. Headline (generics_promises.optional_where_clause A.reads E.reads A.spells E.spells A.normal E.normal A.shown E.values) };
 
     fn parse(
         self,

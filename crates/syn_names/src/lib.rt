@@ -5,9 +5,8 @@ use syn_attr::attr::Attribute;
 use syn_attr::expr::Expr;
 use syn_path::path::{PathOf, PathSegmentOf, QSelfOf};
 use syn_ty::generics::{
-    BoundLifetimesOf, ConstParamOf, GenericParamOf, GenericsOf, ImplGenericsOf, LifetimeParamOf,
-    PredicateLifetimeOf, PredicateTypeOf, TraitBoundOf, TurbofishOf, TypeGenericsOf,
-    TypeParamBoundOf, TypeParamOf, WhereClauseOf, WherePredicateOf,
+    BoundLifetimesOf, ConstParamOf, GenericParamOf, LifetimeParamOf, TraitBoundOf,
+    TypeParamBoundOf, TypeParamOf,
 };
 use syn_ty::path::{
     AngleBracketedGenericArgumentsOf, AssocConstOf, AssocTypeOf, ConstraintOf, GenericArgumentOf,
@@ -49,9 +48,6 @@ pub type Constraint<X> = ConstraintOf<Attribute<X>, Expr<X>>;
 /// What qualifies a path: a type, and how many of its segments name the trait.
 pub type QSelf<X> = QSelfOf<Type<X>>;
 
-/// The parameters of a declaration, and its where clause, which stands elsewhere in many of them.
-pub type Generics<X> = GenericsOf<Attribute<X>, Expr<X>>;
-
 /// A parameter of generics.
 pub type GenericParam<X> = GenericParamOf<Attribute<X>, Expr<X>>;
 
@@ -72,45 +68,6 @@ pub type TypeParamBound<X> = TypeParamBoundOf<Attribute<X>, Expr<X>>;
 
 /// A trait as a bound: an optional binder, an optional `?`, a path; perhaps in parentheses.
 pub type TraitBound<X> = TraitBoundOf<Attribute<X>, Expr<X>>;
-
-/// A where clause: `where T: A, 'a: 'b`.
-pub type WhereClause<X> = WhereClauseOf<Attribute<X>, Expr<X>>;
-
-/// A predicate of a where clause.
-pub type WherePredicate<X> = WherePredicateOf<Attribute<X>, Expr<X>>;
-
-/// A predicate of a lifetime: `'a: 'b + 'c`.
-pub type PredicateLifetime<X> = PredicateLifetimeOf<Attribute<X>>;
-
-/// A predicate of a type: `for<'a> T: A + B`.
-pub type PredicateType<X> = PredicateTypeOf<Attribute<X>, Expr<X>>;
-
-/// The head of an implementation: the parameters without their defaults.
-pub type ImplGenerics<'a, X> = ImplGenericsOf<'a, Attribute<X>, Expr<X>>;
-
-/// The parameters by their names.
-pub type TypeGenerics<'a, X> = TypeGenericsOf<'a, Attribute<X>, Expr<X>>;
-
-/// The parameters by their names, after `::`.
-pub type Turbofish<'a, X> = TurbofishOf<'a, Attribute<X>, Expr<X>>;
-
-/// The lifetime parameters of generics.
-pub type Lifetimes<'a, X> = syn_ty::generics::Lifetimes<'a, Attribute<X>, Expr<X>>;
-
-/// The same, to be written to.
-pub type LifetimesMut<'a, X> = syn_ty::generics::LifetimesMut<'a, Attribute<X>, Expr<X>>;
-
-/// The type parameters of generics.
-pub type TypeParams<'a, X> = syn_ty::generics::TypeParams<'a, Attribute<X>, Expr<X>>;
-
-/// The same, to be written to.
-pub type TypeParamsMut<'a, X> = syn_ty::generics::TypeParamsMut<'a, Attribute<X>, Expr<X>>;
-
-/// The const parameters of generics.
-pub type ConstParams<'a, X> = syn_ty::generics::ConstParams<'a, Attribute<X>, Expr<X>>;
-
-/// The same, to be written to.
-pub type ConstParamsMut<'a, X> = syn_ty::generics::ConstParamsMut<'a, Attribute<X>, Expr<X>>;
 
 /// A type.
 pub type Type<X> = TypeOf<Attribute<X>, Expr<X>>;

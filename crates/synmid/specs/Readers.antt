@@ -30,19 +30,20 @@ use Rattle.syn_ty.specs.ty.Knot as knot
 use Rattle.syn_ty.specs.ty.Printing as printing
 use Rattle.syn_ty.specs.ty.Promises as promises
 use Rattle.syn_ty.specs.ty.Reading as reading
-use Rattle.syn_ty.specs.generics.Alone as alone
-use Rattle.syn_ty.specs.generics.Printing as generics_printing
+use Rattle.syn_generics.specs.generics.Alone as alone
+use Rattle.syn_generics.specs.generics.Printing as generics_printing
+use Rattle.syn_generics.specs.generics.Promises as generics_promises
 use Rattle.syn_ty.specs.generics.Reading as generics
 use Rattle.syn_ty.specs.generics.Shapes as shapes
 use Rattle.syn_ty.specs.generics.Shapes.{lifetime_param_by}
-use Rattle.syn_ty.specs.generics.Views as views
+use Rattle.syn_generics.specs.generics.Views as views
 use Rattle.syn_ty.specs.path.Shapes.{as_written}
 use Rattle.syn_ty.specs.declared.generics.CapturedParam as captured
-use Rattle.syn_ty.specs.declared.generics.GenericsOf.{GenericsOf}
+use Rattle.syn_generics.specs.declared.generics.GenericsOf.{GenericsOf}
 use Rattle.syn_ty.specs.declared.generics.LifetimeParamOf as lifetime
 use Rattle.syn_ty.specs.declared.generics.PreciseCapture as capture
-use Rattle.syn_ty.specs.declared.generics.WhereClauseOf.{WhereClauseOf}
-use Rattle.syn_ty.specs.declared.generics.WherePredicateOf.{WherePredicateOf}
+use Rattle.syn_generics.specs.declared.generics.WhereClauseOf.{WhereClauseOf}
+use Rattle.syn_generics.specs.declared.generics.WherePredicateOf.{WherePredicateOf}
 use Rattle.syn_ty.specs.declared.ty.Abi as abi
 use Rattle.syn_forms.specs.declared.places.BoundPlace.TheVariants.{Opaque}
 use Rattle.syn_forms.specs.declared.places.ParamPlace.TheVariants.{Binder}
@@ -310,13 +311,13 @@ module _ {A E : Type 0} (attrs : R (List A)) (values : ReadValues E) (sa : Bool 
   generics_category g.TraitBound = of_grammar (promises.trait_bound attrs values sa se na ne pa pe)
   generics_category g.Capture = of_grammar promises.capture
   generics_category g.Captured = of_grammar promises.captured
-  generics_category g.Declared = of_grammar (promises.generics attrs values sa se na ne pa pe)
-  generics_category g.ImplGenerics = of_view (promises.generics attrs values sa se na ne pa pe) (impl_generics pa pe)
-  generics_category g.TypeGenerics = of_view (promises.generics attrs values sa se na ne pa pe) views.names
-  generics_category g.Turbofish = of_view (promises.generics attrs values sa se na ne pa pe) views.turbofish
-  generics_category g.WhereClause = of_grammar (promises.where_clause attrs values sa se na ne pa pe)
-  generics_category g.OptionalWhereClause = of_grammar (promises.optional_where_clause attrs values sa se na ne pa pe)
-  generics_category g.Predicate = of_grammar (promises.predicate attrs values sa se na ne pa pe)
+  generics_category g.Declared = of_grammar (generics_promises.generics attrs values sa se na ne pa pe)
+  generics_category g.ImplGenerics = of_view (generics_promises.generics attrs values sa se na ne pa pe) (impl_generics pa pe)
+  generics_category g.TypeGenerics = of_view (generics_promises.generics attrs values sa se na ne pa pe) views.names
+  generics_category g.Turbofish = of_view (generics_promises.generics attrs values sa se na ne pa pe) views.turbofish
+  generics_category g.WhereClause = of_grammar (generics_promises.where_clause attrs values sa se na ne pa pe)
+  generics_category g.OptionalWhereClause = of_grammar (generics_promises.optional_where_clause attrs values sa se na ne pa pe)
+  generics_category g.Predicate = of_grammar (generics_promises.predicate attrs values sa se na ne pa pe)
 
 module _ {X : Type 0} (reads : Place → R X) (spells : Place → X → Toks → Type 0) (normals : Place → X → X) (prints : Place → X → Print) where
   abbrev pub patterns_category : (r : PatternReader) → Category (PatternsTree X r)

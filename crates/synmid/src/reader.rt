@@ -1,9 +1,9 @@
 //! The readers that a run knows by name.
 
 ghost use Rattle.std.specs.Prelude.{◌≡◌, IfOk};
-ghost use Rattle.syn_ty.specs.generics.Alone as alone;
-ghost use Rattle.syn_ty.specs.generics.Views as views;
-ghost use Rattle.syn_ty.specs.ty.Promises as promises;
+ghost use Rattle.syn_generics.specs.generics.Alone as alone;
+ghost use Rattle.syn_generics.specs.generics.Views as views;
+ghost use Rattle.syn_generics.specs.generics.Promises as promises;
 ghost use Rattle.syn_pat.specs.pat.Printing as patterns;
 ghost use Rattle.token_core.specs.Headline.{Headline};
 ghost use Rattle.token_core.specs.Reads.{Fails, Follows, Gives, Parsed};

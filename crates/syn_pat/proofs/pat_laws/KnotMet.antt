@@ -13,7 +13,7 @@ use Rattle.syn_path.proofs.Words.{uses_none}
 use Rattle.syn_path.specs.declared.supplied.Place.{Place}
 use Rattle.syn_forms.specs.nested.Below.{ahead}
 use Rattle.syn_ty.specs.ty.Parts.{clearly}
-use Rattle.syn_ty.proofs.ty_laws.ClausesMet.{below_met}
+use Rattle.syn_ty.proofs.ty_laws.KnotMet.{below_met}
 use Rattle.syn_ty.proofs.ty_laws.Met.{Less}
 use Rattle.syn_pat.specs.declared.place.PatPlace.{PatPlace}
 use Rattle.syn_pat.specs.declared.place.PatPlace.TheVariants.{Single, LeadingVert}

@@ -15,18 +15,12 @@ use Rattle.syn_forms.specs.declared.places.BoundPlace.{BoundPlace}
 use Rattle.syn_forms.specs.declared.places.BoundPlace.TheVariants.{Object}
 use Rattle.syn_forms.specs.declared.places.ParamPlace.{ParamPlace}
 use Rattle.syn_forms.specs.declared.places.TypePlace.{TypePlace}
-use Rattle.syn_forms.specs.declared.places.TypePlace.TheVariants.{Bounded, NoPlus, Plus}
+use Rattle.syn_forms.specs.declared.places.TypePlace.TheVariants.{NoPlus, Plus}
 use Rattle.syn_forms.specs.nested.Below.{ahead}
 use Rattle.syn_forms.specs.paths.Reading.{sees_arguments}
 use Rattle.syn_forms.specs.places.Reading.{allows_plus}
-use Rattle.syn_forms.specs.predicates.Reading.{ends_predicate}
-use Rattle.syn_ty.specs.declared.generics.GenericsOf.{GenericsOf}
-use Rattle.syn_ty.specs.declared.generics.WhereClauseOf.{WhereClauseOf}
-use Rattle.syn_ty.specs.declared.generics.WherePredicateOf.{WherePredicateOf}
-use Rattle.syn_ty.specs.generics.Alone as clauses
 use Rattle.syn_ty.specs.generics.Bounds.{IsBound, IsFor, IsTraitBound}
-use Rattle.syn_ty.specs.generics.Clauses.{IsPredicate, IsWhereClause}
-use Rattle.syn_ty.specs.generics.Parameters.{AreGenerics, IsConstParam, IsParam, IsTypeParam}
+use Rattle.syn_ty.specs.generics.Parameters.{IsConstParam, IsParam, IsTypeParam}
 use Rattle.syn_ty.specs.generics.Reading as generics
 use Rattle.syn_ty.specs.path.Alone as paths
 use Rattle.syn_ty.specs.path.Arguments.{ArgumentPlace, IsArgument}
@@ -46,7 +40,6 @@ use Rattle.syn_ty.specs.ty.Spelt.{IsPathAlone, spelt_to}
 use Rattle.syn_ty.specs.ty.Trees.{AngleBracketed, BoundLifetimes, ConstParam, GenericArgument, GenericParam, NamedArg, Parenthesized, Path, PathArguments, PathSegment, QSelf, ReturnType, TraitBound, TypeArray, TypeFnPtr, TypeImplTrait, TypeParam, TypeParamBound, TypeParen, TypePath, TypePtr, TypeReference, TypeSlice, TypeTraitObject, TypeTree, TypeTuple}
 use Rattle.syn_ty.proofs.ty_laws.AnglesMet as angles
 use Rattle.syn_ty.proofs.ty_laws.ArgumentsMet.{EndsArgument}
-use Rattle.syn_ty.proofs.ty_laws.ClausesMet as of_clauses
 use Rattle.syn_ty.proofs.ty_laws.FormsMet as forms
 use Rattle.syn_ty.proofs.ty_laws.FunctionsMet as functions
 use Rattle.syn_ty.proofs.ty_laws.HigherTold.{higher}
@@ -62,16 +55,16 @@ use Rattle.syn_ty.proofs.ty_laws.SignaturesMet as signatures
 use Rattle.syn_ty.proofs.ty_laws.SignaturesMet.{EndsInput}
 
 module _ {A E : Type 0} {attrs : Reader (List A)} {values : ReadValues E} {shown : Bool → List A → Toks → Toks → Type 0} {spelt : SpelledValues E} (g : GivenMeets attrs values shown spelt) where
-  abbrev To : ℕ → Manner → Parts A E
+  abbrev pub To : ℕ → Manner → Parts A E
   To = spelt_to shown spelt
 
-  supplied : (n : ℕ) → SuppliedMeets attrs values (To n)
+  pub supplied : (n : ℕ) → SuppliedMeets attrs values (To n)
   supplied = supplied_to attrs values shown spelt g
 
-  firsts : (n : ℕ) → Firsts (To n)
+  pub firsts : (n : ℕ) → Firsts (To n)
   firsts = firsts_at attrs values shown spelt g
 
-  below : (limit n : ℕ) → Meets (reads_below attrs values limit) (To n) limit
+  pub below : (limit n : ℕ) → Meets (reads_below attrs values limit) (To n) limit
   below = knot_met attrs values shown spelt g
 
   -- what a form holds is read below what is left where the form begins
@@ -97,7 +90,7 @@ module _ {A E : Type 0} {attrs : Reader (List A)} {values : ReadValues E} {shown
 
   -- ---- what stands within a tree of some height is a tree of one height more
 
-  within_type : (n : ℕ) (place : TypePlace) (d : End) (x : TypeTree A E) (l k : Toks) → (To n clearly).ty place d x l k → IsType (To n) clearly place d x l k
+  pub within_type : (n : ℕ) (place : TypePlace) (d : End) (x : TypeTree A E) (l k : Toks) → (To n clearly).ty place d x l k → IsType (To n) clearly place d x l k
   within_type n place d x l k i = (higher shown spelt n clearly).ty place d x l k i
 
   within_bound : (n : ℕ) (place : BoundPlace) (d : End) (x : TypeParamBound A E) (l k : Toks) → (To n clearly).bound place d x l k → IsBound (To n) clearly place d x l k
@@ -208,22 +201,3 @@ module _ {A E : Type 0} {attrs : Reader (List A)} {values : ReadValues E} {shown
 
   pub type_param_met : (n : ℕ) (x : TypeParam A E) (l k : Toks) (f : Option Span) (e : Span) (sc : Scope) → IsTypeParam (To n) clearly x l k → ends_param k ≡ true → Reads_to (knot.type_param attrs values) x l k f e sc
   type_param_met n x l k f e sc i o = params.type_param_alone_met attrs values (To n) (λ b. below b n) (supplied n) x l k f e sc i o
-
-  pub generics_met : (n : ℕ) (x : GenericsOf A E) (l k : Toks) (f : Option Span) (e : Span) (sc : Scope) → AreGenerics (To n) clearly x l k → (x.lt_token ≡ None → token.sees_lt k ≡ false) → Reads_to (clauses.generics attrs values) x l k f e sc
-  generics_met n x l k f e sc i u = of_clauses.generics_alone_met attrs values (To n) (supplied n) (λ b. below b n) x l k f e sc i u
-
-  -- ---- predicates and where clauses: the type that a predicate begins with is read by the knot itself
-
-  bounded_met : (n : ℕ) (d : End) (x : TypeTree A E) (l k : Toks) (f : Option Span) (e : Span) (sc : Scope) → (To n clearly).ty Bounded d x l k → Fits d k → token.sees_plus k ≡ false → Reads_to (knot.ty attrs values Bounded) x l k f e sc
-  bounded_met n d x l k f e sc i o u = ty_met n Bounded d x l k f e sc (within_type n Bounded d x l k i) o (λ q. u)
-
-  pub predicate_met : (n : ℕ) (x : WherePredicateOf A E) (l k : Toks) (f : Option Span) (e : Span) (sc : Scope) → IsPredicate (To n) clearly x l k → ends_predicate k ≡ true → Reads_to (clauses.predicate attrs values) x l k f e sc
-  predicate_met n x l k f e sc i o = of_clauses.predicate_alone_met attrs values (To n) (supplied n) (λ b. below b n) (bounded_met n) x l k f e sc i o
-
-  pub where_clause_met : (n : ℕ) (x : WhereClauseOf A E) (l k : Toks) (f : Option Span) (e : Span) (sc : Scope) → IsWhereClause (To n) clearly x l k → ends_predicate k ≡ true → token.sees_comma k ≡ false → Reads_to (clauses.where_clause attrs values) x l k f e sc
-  where_clause_met n x l k f e sc i o u =
-      of_clauses.where_alone_met attrs values (To n) (supplied n) (λ b. below b n) (bounded_met n) (of_clauses.goes_to shown spelt firsts n Bounded) (of_clauses.plain_to shown spelt firsts n Bounded) x l k f e sc i o u
-
-  pub optional_where_clause_met : (n : ℕ) (y : Option (WhereClauseOf A E)) (l k : Toks) (f : Option Span) (e : Span) (sc : Scope) → IsOptional (IsWhereClause (To n) clearly) y l k → (y ≡ None → token.sees_where k ≡ false) → ends_predicate k ≡ true → token.sees_comma k ≡ false → Reads_to (clauses.optional_where_clause attrs values) y l k f e sc
-  optional_where_clause_met n y l k f e sc i w o u =
-      of_clauses.optional_where_alone_met attrs values (To n) (supplied n) (λ b. below b n) (bounded_met n) (of_clauses.goes_to shown spelt firsts n Bounded) (of_clauses.plain_to shown spelt firsts n Bounded) y l k f e sc i w o u

@@ -10,50 +10,40 @@ use Rattle.token_core.proofs.Took.{mapped}
 use Rattle.token_core.proofs.Turns.{chain}
 use Rattle.syn_path.proofs.Words.{TookOne}
 use Rattle.syn_path.specs.declared.path.PathStyle.{PathStyle}
-use Rattle.syn_path.specs.declared.path.PathStyle.TheVariants.{AsWritten, Expr}
+use Rattle.syn_path.specs.declared.path.PathStyle.TheVariants.{AsWritten}
 use Rattle.syn_path.specs.Values.{ReadValues, SpelledValues}
 use Rattle.syn_forms.specs.declared.places.BoundPlace.{BoundPlace}
 use Rattle.syn_forms.specs.declared.places.BoundPlace.TheVariants.{Object, Opaque}
 use Rattle.syn_forms.specs.declared.places.ParamPlace.{ParamPlace}
 use Rattle.syn_forms.specs.declared.places.ParamPlace.TheVariants.{Binder}
 use Rattle.syn_forms.specs.declared.places.TypePlace.{TypePlace}
-use Rattle.syn_forms.specs.declared.places.TypePlace.TheVariants.{Plus, NoPlus, Bounded}
+use Rattle.syn_forms.specs.declared.places.TypePlace.TheVariants.{Plus, NoPlus}
 use Rattle.syn_forms.specs.groups.Reading.{in_invisible}
 use Rattle.syn_forms.specs.inputs.Reading.{sees_name}
 use Rattle.syn_forms.specs.nested.Below.{ahead}
 use Rattle.syn_forms.specs.places.Reading.{allows_plus}
 use Rattle.syn_forms.proofs.nested_laws.Ahead.{ahead_follows}
 use Rattle.syn_forms.proofs.tokens_laws.Fronts.{took_whole}
-use Rattle.syn_ty.specs.declared.generics.GenericsOf.{GenericsOf}
-use Rattle.syn_ty.specs.declared.generics.LifetimeParamOf.{LifetimeParamOf}
-use Rattle.syn_ty.specs.declared.generics.WhereClauseOf.{WhereClauseOf}
-use Rattle.syn_ty.specs.declared.generics.WherePredicateOf.{WherePredicateOf}
-use Rattle.syn_ty.specs.generics.Alone as clauses
 use Rattle.syn_ty.specs.generics.Bounds.{IsBound, IsFor, IsTraitBound}
-use Rattle.syn_ty.specs.generics.Clauses.{IsPredicate, IsWhereClause}
-use Rattle.syn_ty.specs.generics.Parameters.{AreGenerics, IsConstParam, IsLifetimeParam, IsParam, IsTypeParam}
-use Rattle.syn_ty.specs.generics.Reading as parts
+use Rattle.syn_ty.specs.generics.Parameters.{IsConstParam, IsParam, IsTypeParam}
 use Rattle.syn_ty.specs.path.Alone as paths
 use Rattle.syn_ty.specs.path.Arguments.{alone, between_angles, IsArgument}
 use Rattle.syn_ty.specs.path.Signed.{IsParens, IsReturn}
-use Rattle.syn_ty.specs.path.Spelling.{IsAngle, IsAnyPath, IsArguments, IsPath, IsSegment, Styled}
+use Rattle.syn_ty.specs.path.Spelling.{IsAngle, IsArguments, IsPath, IsSegment}
 use Rattle.syn_ty.specs.ty.Admitted.{IsBorrow, IsBracketed, IsCounted, IsEnclosed, IsPointer, IsTupled, IsType}
 use Rattle.syn_ty.specs.ty.Functions.{IsFnPtr, IsNamedArg}
 use Rattle.syn_ty.specs.ty.Knot as knot
 use Rattle.syn_ty.specs.ty.Knot.{reads_below}
 use Rattle.syn_ty.specs.ty.Objects.{IsImpl, IsObject}
-use Rattle.syn_ty.specs.ty.Parts.{Manner, loosely, End, Parts}
+use Rattle.syn_ty.specs.ty.Parts.{Manner, loosely, Parts}
 use Rattle.syn_ty.specs.ty.Points.{Readers, a_bound, a_param, a_type, an_argument, some_arguments}
 use Rattle.syn_ty.specs.ty.Reading as reading
-use Rattle.syn_ty.specs.ty.Spelling.{IsOptional, Relation}
+use Rattle.syn_ty.specs.ty.Spelling.{IsOptional}
 use Rattle.syn_ty.specs.ty.Spelt.{IsPathAlone, Spells, SpellsEnding, spelt_to}
 use Rattle.syn_ty.specs.ty.Trees.{AngleBracketed, BoundLifetimes, ConstParam, GenericArgument, GenericParam, NamedArg, Parenthesized, Path, PathArguments, PathSegment, QSelf, ReturnType, TraitBound, TypeArray, TypeFnPtr, TypeGroup, TypeImplTrait, TypeParam, TypeParamBound, TypeParen, TypePath, TypePtr, TypeReference, TypeSlice, TypeTraitObject, TypeTree, TypeTuple}
 use Rattle.syn_ty.specs.ty.Types.{group_with}
-use Rattle.syn_ty.proofs.ty_laws.AlongBoundsTold.{optional_binder_along}
-use Rattle.syn_ty.proofs.ty_laws.AlongKnotTold.{reads_below_along}
 use Rattle.syn_ty.proofs.ty_laws.AlongTypesTold.{optional_dyn_along}
 use Rattle.syn_ty.proofs.ty_laws.AnglesTold as angles
-use Rattle.syn_ty.proofs.ty_laws.ClausesTold as of_clauses
 use Rattle.syn_ty.proofs.ty_laws.DynTold as dyns
 use Rattle.syn_ty.proofs.ty_laws.FunctionsTold as functions
 use Rattle.syn_ty.proofs.ty_laws.Given.{Given, supplied}
@@ -77,7 +67,7 @@ pub use Rattle.syn_ty.specs.ty.Fronts.{Form, EndingForm, Front, FrontEnding}
 -- ---- by trees of some height
 
 module _ {A E : Type 0} (shown : Bool → List A → Toks → Toks → Type 0) (spelt : SpelledValues E) where
-  front : {F : Type 0} (Is : Form shown spelt F) (n : ℕ) (s t : Stream) (x : F) → TookOne (Is (spelt_to shown spelt n) loosely) s t x → TookOne (Front shown spelt Is) s t x
+  pub front : {F : Type 0} (Is : Form shown spelt F) (n : ℕ) (s t : Stream) (x : F) → TookOne (Is (spelt_to shown spelt n) loosely) s t x → TookOne (Front shown spelt Is) s t x
   front Is n s t x k = record { left = k.left; seen = k.seen; spelt = λ h. (n, k.spelt h) }
 
   ending : {F : Type 0} (Is : EndingForm shown spelt F) (n : ℕ) (s t : Stream) (x : F) → TookOne (Told (Is (spelt_to shown spelt n) loosely)) s t x → TookOne (FrontEnding shown spelt Is) s t x
@@ -101,28 +91,28 @@ module _ {A E : Type 0} {attrs : Reader (List A)} {values : ReadValues E} {shown
   To = spelt_to shown spelt
 
   -- so many turns
-  abbrev turns : ℕ → Manner → Parts A E
+  abbrev pub turns : ℕ → Manner → Parts A E
   turns m = To (suc (twice m))
 
-  given : (m : ℕ) → Supplied attrs values (turns m)
+  pub given : (m : ℕ) → Supplied attrs values (turns m)
   given m = supplied attrs values shown spelt g (twice m)
 
-  below : (limit m : ℕ) → limit ≤ m → Held (reads_below attrs values limit) (turns m)
+  pub below : (limit m : ℕ) → limit ≤ m → Held (reads_below attrs values limit) (turns m)
   below = held_below attrs values shown spelt (supplied attrs values shown spelt g)
 
   -- what a form holds is read below what is left where the form begins
   abbrev within : Stream → Readers A E
   within s = reads_below attrs values (ahead s)
 
-  abbrev part : Stream → Manner → Parts A E
+  abbrev pub part : Stream → Manner → Parts A E
   part s = turns (ahead s)
 
-  here : (s : Stream) → Held (within s) (part s)
+  pub here : (s : Stream) → Held (within s) (part s)
   here s = below (ahead s) (ahead s) (omega arith)
 
   -- ---- types, bounds, parameters and arguments, by as many turns as are enough
 
-  type_by : (m : ℕ) (place : TypePlace) (s t : Stream) (x : TypeTree A E) → ahead s < m → Visible s.rest → knot.ty attrs values place s ≡ Ok (x, t) → TookOne (Told ((turns m loosely).ty place)) s t x
+  pub type_by : (m : ℕ) (place : TypePlace) (s t : Stream) (x : TypeTree A E) → ahead s < m → Visible s.rest → knot.ty attrs values place s ≡ Ok (x, t) → TookOne (Told ((turns m loosely).ty place)) s t x
   type_by m place s t x h v e =
       let known = supplied attrs values shown spelt g in
       (at_told attrs values shown spelt known m).ty place s t x v (by_turns attrs values shown spelt known m (a_type place) s t x h e)
@@ -133,7 +123,7 @@ module _ {A E : Type 0} {attrs : Reader (List A)} {values : ReadValues E} {shown
       (at_told attrs values shown spelt known m).bound place s t x v (by_turns attrs values shown spelt known m (a_bound place) s t x h e)
 
   -- one turn more than is left
-  abbrev enough : Stream → ℕ
+  abbrev pub enough : Stream → ℕ
   enough s = twice (suc (ahead s))
 
   pub ty_took : (place : TypePlace) (s t : Stream) (x : TypeTree A E) → Visible s.rest → knot.ty attrs values place s ≡ Ok (x, t) → TookOne (FrontEnding shown spelt (λ part how. IsType part how place)) s t x
@@ -168,7 +158,7 @@ module _ {A E : Type 0} {attrs : Reader (List A)} {values : ReadValues E} {shown
 
   -- ---- paths
 
-  abbrev height : Stream → ℕ
+  abbrev pub height : Stream → ℕ
   height s = suc (twice (ahead s))
 
   pub path_took : (style : PathStyle) (s t : Stream) (x : Path A E) → Visible s.rest → knot.path attrs values style s ≡ Ok (x, t) → TookOne (Front shown spelt (λ part how. IsPath part how style)) s t x
@@ -270,9 +260,6 @@ module _ {A E : Type 0} {attrs : Reader (List A)} {values : ReadValues E} {shown
 
   -- ---- generics
 
-  pub generics_took : (s t : Stream) (x : GenericsOf A E) → Visible s.rest → clauses.generics attrs values s ≡ Ok (x, t) → TookOne (Front shown spelt AreGenerics) s t x
-  generics_took s t x v e = front shown spelt AreGenerics (height s) s t x (of_clauses.generics_alone_took attrs values (part s) s t x (here s) v e)
-
   pub type_param_took : (s t : Stream) (x : TypeParam A E) → Visible s.rest → knot.type_param attrs values s ≡ Ok (x, t) → TookOne (Front shown spelt IsTypeParam) s t x
   type_param_took s t x v e = front shown spelt IsTypeParam (height s) s t x (params.type_param_alone_took attrs values (part s) s t x (here s) (given (ahead s)) v e)
 
@@ -288,20 +275,3 @@ module _ {A E : Type 0} {attrs : Reader (List A)} {values : ReadValues E} {shown
   pub trait_bound_took : (s t : Stream) (x : TraitBound A E) → Visible s.rest → knot.trait_bound attrs values s ≡ Ok (x, t) → TookOne (FrontEnding shown spelt IsTraitBound) s t x
   unfolding knot.trait_bound
   trait_bound_took s t x v e = let h = here s in ending shown spelt IsTraitBound (height s) s t x (traits.trait_bound_took (within s) (part s) h.ty (h.param Binder) h.arguments h.pair s t x v e)
-
-  -- ---- predicates and where clauses: the type is read where no more is left than at the predicate
-
-  predicate_by : (m : ℕ) (s t : Stream) (x : WherePredicateOf A E) → ahead s < m → Visible s.rest → clauses.predicate attrs values s ≡ Ok (x, t) → TookOne (IsPredicate (turns m) loosely) s t x
-  predicate_by m s t x h v e =
-      of_clauses.predicate_alone_took attrs values (turns m) s t x (below (ahead s) m (omega (arith, h))) (given m) (optional_binder_along (reads_below_along attrs values g.attrs_along g.argument_along (ahead s)))
-      (λ q u y a i j. type_by m Bounded q u y (omega (arith, h, a)) i j) v e
-
-  pub predicate_took : (s t : Stream) (x : WherePredicateOf A E) → Visible s.rest → clauses.predicate attrs values s ≡ Ok (x, t) → TookOne (Front shown spelt IsPredicate) s t x
-  predicate_took s t x v e = front shown spelt IsPredicate (suc (enough s)) s t x (predicate_by (suc (ahead s)) s t x (omega arith) v e)
-
-  pub where_clause_took : (s t : Stream) (x : WhereClauseOf A E) → Visible s.rest → clauses.where_clause attrs values s ≡ Ok (x, t) → TookOne (Front shown spelt IsWhereClause) s t x
-  where_clause_took s t x v e = front shown spelt IsWhereClause (height s) s t x (of_clauses.where_alone_took attrs values (part s) s t x (λ q u y a i j. predicate_by (ahead s) q u y a i j) v e)
-
-  pub optional_where_clause_took : (s t : Stream) (o : Option (WhereClauseOf A E)) → Visible s.rest → clauses.optional_where_clause attrs values s ≡ Ok (o, t) → TookOne (Front shown spelt (λ part how. IsOptional (IsWhereClause part how))) s t o
-  optional_where_clause_took s t o v e =
-      front shown spelt (λ part how. IsOptional (IsWhereClause part how)) (height s) s t o (of_clauses.optional_where_alone_took attrs values (part s) s t o (λ q u y a i j. predicate_by (ahead s) q u y a i j) v e)

@@ -32,7 +32,7 @@ use Rattle.syn_path.specs.path.Shapes.{segment_by, segments_by, path_by, qualifi
 use Rattle.syn_forms.specs.declared.places.TypePlace.TheVariants.{Plus}
 use Rattle.syn_forms.specs.paths.Reading.{is_bare_word, is_named_word, longer, with_arguments}
 use Rattle.syn_ty.specs.generics.Bounds.{IsFor}
-use Rattle.syn_ty.specs.generics.Clauses.{begins_as_generics}
+use Rattle.syn_ty.specs.generics.Parameters.{begins_as_generics}
 use Rattle.syn_ty.specs.generics.Spelling.{a_binder}
 use Rattle.syn_ty.specs.path.Paths.{Sep, no_arguments}
 use Rattle.syn_ty.specs.path.Spelling.{is_segment_word, IsSegment, a_word, a_word_with_arguments, IsPath, a_path, IsQualified, by_type, by_type_as_path, qualified}

@@ -1,24 +1,18 @@
--- Bounds, parameters, predicates and generic arguments grow with what stands within: where the one grammar spells it, the other does.
+-- Bounds, parameters and generic arguments grow with what stands within: where the one grammar spells it, the other does.
 use Rattle.std.proofs.Common.{Bool, List, Option}
 use Rattle.token_core.specs.declared.tree.Ident.{Ident}
 use Rattle.token_core.specs.Tokens as token
 use Rattle.token_core.specs.Toks.{Toks}
 use Rattle.syn_forms.specs.declared.places.BoundPlace.{BoundPlace}
 use Rattle.syn_forms.specs.declared.places.ParamPlace.{ParamPlace}
-use Rattle.syn_ty.specs.declared.generics.GenericsOf.{GenericsOf}
 use Rattle.syn_ty.specs.declared.generics.LifetimeParamOf.{LifetimeParamOf}
-use Rattle.syn_ty.specs.declared.generics.PredicateLifetimeOf.{PredicateLifetimeOf}
-use Rattle.syn_ty.specs.declared.generics.PredicateTypeOf.{PredicateTypeOf}
-use Rattle.syn_ty.specs.declared.generics.WhereClauseOf.{WhereClauseOf}
-use Rattle.syn_ty.specs.declared.generics.WherePredicateOf.{WherePredicateOf}
 use Rattle.syn_ty.specs.generics.Bounds.{IsFor, IsTrait, a_trait, a_trait_for, a_trait_asked, IsTraitBound, a_trait_bound, IsConstBound, a_const_bound, a_const_bound_for, a_const_bound_asked, IsVerbatimBound, a_const_alone, a_const_in_parens, IsBound, a_lifetime_bound, a_bare_bound, a_bound_in_parens, a_capture_bound, a_verbatim_bound, AreBounds, no_bounds, last_plus, last_bound, bound_and_plus}
-use Rattle.syn_ty.specs.generics.Clauses.{IsLifetimePredicate, a_lifetime_predicate, AreBoundsOf, bounds_of, IsTypePredicate, a_type_predicate, a_type_predicate_for, IsPredicate, of_lifetime, of_type, IsWhereClause, a_where_clause}
-use Rattle.syn_ty.specs.generics.Parameters.{IsLifetimeParam, a_lone_lifetime, a_lifetime_with_bounds, AreBoundsAfter, no_colon, after_colon, IsAnyType, any_type, IsTypeParam, a_type_param, IsConstParam, a_const_param, IsParam, a_lifetime_param, a_named_param, a_constant_param, a_bare_param, AreGenerics, no_generics, some_generics}
+use Rattle.syn_ty.specs.generics.Parameters.{IsLifetimeParam, a_lone_lifetime, a_lifetime_with_bounds, AreBoundsAfter, no_colon, after_colon, IsAnyType, any_type, IsTypeParam, a_type_param, IsConstParam, a_const_param, IsParam, a_lifetime_param, a_named_param, a_constant_param, a_bare_param}
 use Rattle.syn_ty.specs.path.Arguments.{ArgumentPlace, IsItemName, an_item, an_item_with_arguments, IsArgument, a_lifetime_argument, a_type_argument, a_const_argument, an_assoc_type, an_assoc_const, a_constraint}
 use Rattle.syn_ty.specs.ty.Parts.{Manner, End, Parts}
 use Rattle.syn_ty.specs.ty.Spelling.{Relation}
 use Rattle.syn_ty.specs.ty.Trees.{AngleBracketed, BoundLifetimes, ConstParam, GenericArgument, GenericParam, Path, TraitBound, TypeParam, TypeParamBound, TypeTree}
-use Rattle.syn_ty.proofs.ty_laws.HigherPartsTold.{Up, held_up, listed_up, optional_up, given_up, binder_up}
+use Rattle.syn_ty.proofs.ty_laws.HigherPartsTold.{Up, held_up, optional_up, given_up, binder_up}
 use Rattle.syn_ty.proofs.ty_laws.HigherPathsTold.{bound_path_up}
 
 module _ {A E : Type 0} {part over : Manner → Parts A E} (up : (how : Manner) → Up (part how) (over how)) where
@@ -84,31 +78,6 @@ module _ {A E : Type 0} {part over : Manner → Parts A E} (up : (how : Manner) 
   param_up (a_named_param i) = a_named_param (type_param_up i)
   param_up (a_constant_param i) = a_constant_param (const_param_up i)
   param_up {how} (a_bare_param a w) = a_bare_param ((up how).attrs _ _ _ a) w
-
-  -- ---- the generics of a declaration
-
-  pub generics_up : {how : Manner} {x : GenericsOf A E} {l r : Toks} → AreGenerics part how x l r → AreGenerics over how x l r
-  generics_up no_generics = no_generics
-  generics_up {how} (some_generics o i c) = some_generics o (listed_up i (λ b. (up how).param _)) c
-
-  -- ---- where clauses
-
-  pub lifetime_predicate_up : {how : Manner} {x : PredicateLifetimeOf A} {l r : Toks} → IsLifetimePredicate part how x l r → IsLifetimePredicate over how x l r
-  lifetime_predicate_up {how} (a_lifetime_predicate a i c j) = a_lifetime_predicate ((up how).attrs _ _ _ a) i c j
-
-  pub bounds_of_up : {how : Manner} {c : token.Colon} {xs : List (TypeParamBound A E)} {ps : List token.Plus} {l r : Toks} → AreBoundsOf part how c xs ps l r → AreBoundsOf over how c xs ps l r
-  bounds_of_up (bounds_of c i) = bounds_of c (bounds_up i)
-
-  pub type_predicate_up : {how : Manner} {x : PredicateTypeOf A E} {l r : Toks} → IsTypePredicate part how x l r → IsTypePredicate over how x l r
-  type_predicate_up {how} (a_type_predicate a n i j) = a_type_predicate ((up how).attrs _ _ _ a) n ((up how).ty _ _ _ _ _ i) (bounds_of_up j)
-  type_predicate_up {how} (a_type_predicate_for a f i j) = a_type_predicate_for ((up how).attrs _ _ _ a) (for_up f) ((up how).ty _ _ _ _ _ i) (bounds_of_up j)
-
-  pub predicate_up : {how : Manner} {x : WherePredicateOf A E} {l r : Toks} → IsPredicate part how x l r → IsPredicate over how x l r
-  predicate_up (of_lifetime i) = of_lifetime (lifetime_predicate_up i)
-  predicate_up (of_type i) = of_type (type_predicate_up i)
-
-  pub clause_up : {how : Manner} {x : WhereClauseOf A E} {l r : Toks} → IsWhereClause part how x l r → IsWhereClause over how x l r
-  clause_up (a_where_clause w n i) = a_where_clause w n (listed_up i (λ b x l r j. predicate_up j))
 
   -- ---- arguments between angle marks: the types that may begin them grow too
 

@@ -8,8 +8,7 @@ use Rattle.syn_forms.specs.declared.places.ParamPlace.{ParamPlace}
 use Rattle.syn_forms.specs.declared.places.TypePlace.{TypePlace}
 use Rattle.syn_forms.specs.declared.places.TypePlace.TheVariants.{Plus}
 use Rattle.syn_ty.specs.generics.Bounds.{IsBound, IsFor, IsTraitBound}
-use Rattle.syn_ty.specs.generics.Clauses.{IsPredicate, IsWhereClause}
-use Rattle.syn_ty.specs.generics.Parameters.{AreGenerics, IsConstParam, IsLifetimeParam, IsParam, IsTypeParam}
+use Rattle.syn_ty.specs.generics.Parameters.{IsConstParam, IsLifetimeParam, IsParam, IsTypeParam}
 use Rattle.syn_ty.specs.path.Arguments.{ArgumentPlace, IsArgument}
 use Rattle.syn_ty.specs.path.Signed.{IsParens, IsReturn}
 use Rattle.syn_ty.specs.path.Spelling.{IsAngle, IsArguments, IsPath, IsSegment}
@@ -20,8 +19,8 @@ use Rattle.syn_ty.specs.ty.Parts.{Manner, End, Parts}
 use Rattle.syn_ty.specs.ty.Spelling.{IsOptional, Relation}
 use Rattle.syn_ty.specs.ty.Spelt.{IsPathAlone, a_path_alone, spelt_to, turn}
 use Rattle.syn_ty.specs.ty.Trees.{TypePath}
-use Rattle.syn_ty.proofs.ty_laws.HigherBoundsTold.{argument_up, bound_up, clause_up, const_param_up, for_up, generics_up, lifetime_param_up, param_up, predicate_up, trait_bound_up, type_param_up}
-use Rattle.syn_ty.proofs.ty_laws.HigherPartsTold.{Up, optional_up}
+use Rattle.syn_ty.proofs.ty_laws.HigherBoundsTold.{argument_up, bound_up, const_param_up, for_up, lifetime_param_up, param_up, trait_bound_up, type_param_up}
+use Rattle.syn_ty.proofs.ty_laws.HigherPartsTold.{Up}
 use Rattle.syn_ty.proofs.ty_laws.HigherPathsTold.{angle_up, any_path_up, arguments_up, parens_up, path_up, return_up, segment_up}
 use Rattle.syn_ty.proofs.ty_laws.HigherTypesTold.{borrow_up, bracketed_up, counted_up, enclosed_up, fn_ptr_up, impl_up, named_arg_up, object_up, optional_for_up, pointer_up, tupled_up, type_up}
 
@@ -140,9 +139,6 @@ module _ {A E : Type 0} (shown : Bool → List A → Toks → Toks → Type 0) (
 
   -- ---- generics
 
-  pub generics_higher : Grows AreGenerics
-  generics_higher n m h how x l r i = generics_up (higher_to n m h) i
-
   pub param_higher : (place : ParamPlace) → Grows (λ part how. IsParam part how place)
   param_higher place n m h how x l r i = param_up (higher_to n m h) i
 
@@ -166,12 +162,3 @@ module _ {A E : Type 0} (shown : Bool → List A → Toks → Toks → Type 0) (
 
   pub trait_bound_higher : GrowsEnding IsTraitBound
   trait_bound_higher n m h how e x l r i = trait_bound_up (higher_to n m h) i
-
-  pub clause_higher : Grows IsWhereClause
-  clause_higher n m h how x l r i = clause_up (higher_to n m h) i
-
-  pub optional_clause_higher : Grows (λ part how. IsOptional (IsWhereClause part how))
-  optional_clause_higher n m h how x l r i = optional_up i (λ y k j w. clause_up (higher_to n m h) w)
-
-  pub predicate_higher : Grows IsPredicate
-  predicate_higher n m h how x l r i = predicate_up (higher_to n m h) i

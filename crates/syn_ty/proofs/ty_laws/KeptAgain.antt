@@ -1,5 +1,5 @@
 -- At every height, the print of a type begins with `for` only where the type does, and as generics only where it does.
-use Rattle.std.proofs.Common.{◌≡◌, ℕ, zero, suc, Bool, true, false, List, ◌++◌, refl, ap, ◌∙◌}
+use Rattle.std.proofs.Common.{◌≡◌, ℕ, zero, suc, Bool, true, false, List, ◌++◌, refl, ap, ◌∙◌, ◌⊎◌}
 use Rattle.token_core.specs.Prints.{Print}
 use Rattle.token_core.specs.Prints as p
 use Rattle.token_core.specs.Reads.{sees_mark}
@@ -12,7 +12,7 @@ use Rattle.token_core.proofs.Rows.{row-append}
 use Rattle.syn_path.specs.Values.{SpelledValues, Values}
 use Rattle.syn_path.specs.declared.path.PathStyle.TheVariants.{AsWritten}
 use Rattle.syn_forms.specs.declared.places.BoundPlace.TheVariants.{Object}
-use Rattle.syn_forms.specs.declared.places.TypePlace.TheVariants.{Plus, Bounded}
+use Rattle.syn_forms.specs.declared.places.TypePlace.TheVariants.{Plus}
 use Rattle.syn_forms.specs.declared.places.TypePlace.{TypePlace}
 use Rattle.syn_ty.specs.generics.Members.{sorted}
 use Rattle.syn_ty.specs.path.Paths.{is_lifetime}
@@ -24,7 +24,6 @@ use Rattle.syn_ty.specs.ty.Spelling.{absent, present}
 use Rattle.syn_ty.specs.ty.Spelt.{spelt_to, turn}
 use Rattle.syn_ty.specs.ty.Trees.{AngleBracketed, TypeTree}
 use Rattle.syn_ty.proofs.ty_laws.BeginsAgain.{Kept, ArgumentsBegin, sep_no_gt}
-use Rattle.syn_ty.proofs.ty_laws.ClausesAgain.{ForKept, TypeKept}
 use Rattle.syn_ty.proofs.ty_laws.FirstBoundsAgain.{bound_lives}
 use Rattle.syn_ty.proofs.ty_laws.Prints.{arguments-AngleBracketed}
 use Rattle.syn_ty.proofs.ty_laws.TypesBeginAgain.{LivesKept, type_kept}
@@ -71,11 +70,9 @@ module _ {A E : Type 0} (pa : List A → Print) (pe : Values E) where
     kept_to zero = record { ty = λ place e x l r i. absurd i; arguments = λ x l r i k. absurd i; lives = λ e x l r i h k. absurd i }
     kept_to (suc n) = turn_kept (spelt_to attrs values n) (kept_to n)
 
--- ---- what where clauses ask of types
+-- ---- what where clauses ask of attributes
 
-module _ {A E : Type 0} (pa : List A → Print) (pe : Values E) (part : Manner → Parts A E) (kept : KeptParts pa pe part) where
-  pub for_kept : ForKept pa pe part
-  for_kept e x l r i h k = (kept.ty Bounded e x l r i).for_kept h k
-
-  pub generics_kept : TypeKept pa pe part
-  generics_kept e x l r i h k = (kept.ty Bounded e x l r i).lt_kept h k
+module _ {A E : Type 0} (pa : List A → Print) (pe : Values E) (part : Manner → Parts A E) where
+  -- attributes print nothing only where nothing is spelt for them, and what they print does not begin with `<`
+  abbrev pub AttrsBegin : Type 0
+  AttrsBegin = (a : List A) (l r : Toks) → (part plainly).attrs a l r → (k : Toks) → ((l ≡ r) × (row (pa a) k ≡ k)) ⊎ (token.sees_lt (row (pa a) k) ≡ false)

@@ -29,10 +29,9 @@ use Rattle.syn_ty.proofs.ty_laws.Again.{Again, SuppliedAgain}
 use Rattle.syn_ty.proofs.ty_laws.AnglesAgain.{arguments_written_again}
 use Rattle.syn_ty.proofs.ty_laws.ArgumentsAgain.{argument_again as argument_by}
 use Rattle.syn_ty.proofs.ty_laws.BoundAgain.{bound_again, bounds_again}
-use Rattle.syn_ty.proofs.ty_laws.ClausesAgain.{AttrsBegin}
+use Rattle.syn_ty.proofs.ty_laws.KeptAgain.{AttrsBegin, KeptParts, turn_kept, kept_to}
 use Rattle.syn_ty.proofs.ty_laws.FirstTypesAgain.{none_first}
 use Rattle.syn_ty.proofs.ty_laws.FormsAgain.{NoneFirst}
-use Rattle.syn_ty.proofs.ty_laws.KeptAgain.{KeptParts, turn_kept, kept_to}
 use Rattle.syn_ty.proofs.ty_laws.ParamsAgain.{BoundsAgain, param_again}
 use Rattle.syn_ty.proofs.ty_laws.TypesAgain.{type_again}
 

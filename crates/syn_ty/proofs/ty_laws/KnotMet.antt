@@ -1,9 +1,9 @@
 -- The reads that go back to themselves, tied, are complete: at every height of a tree, what a list spells clearly is what they answer, and they take no more.
-use Rattle.std.proofs.Common.{◌≡◌, ◌⊎◌, ℕ, zero, suc, ◌≤◌, Bool, true, false, List, Option, Ok, ◌∙◌, arith}
+use Rattle.std.proofs.Common.{◌≡◌, ◌⊎◌, ℕ, zero, suc, ◌≤◌, Bool, true, false, List, Option, Ok, ◌∙◌, arith, ◌<◌, ap}
 use Rattle.token_core.specs.declared.lifetime.Lifetime.{Lifetime}
 use Rattle.token_core.specs.declared.span.Span.{Span}
 use Rattle.token_core.specs.Lifetimes.{sees_lifetime}
-use Rattle.token_core.specs.Reads.{Reader}
+use Rattle.token_core.specs.Reads.{Reader, meets}
 use Rattle.token_core.specs.Spellings.{IsLifetime}
 use Rattle.token_core.specs.Stream.{Scope, Stream}
 use Rattle.token_core.specs.Tokens as token
@@ -17,7 +17,7 @@ use Rattle.syn_forms.specs.declared.places.BoundPlace.TheVariants.{Object}
 use Rattle.syn_forms.specs.declared.places.ParamPlace.{ParamPlace}
 use Rattle.syn_forms.specs.declared.places.TypePlace.{TypePlace}
 use Rattle.syn_forms.specs.declared.places.TypePlace.TheVariants.{Plus}
-use Rattle.syn_forms.specs.nested.Below.{ahead}
+use Rattle.syn_forms.specs.nested.Below.{ahead, below_if, held}
 use Rattle.syn_forms.specs.places.Reading.{allows_plus}
 use Rattle.syn_ty.specs.generics.Bounds.{IsBound, IsFor, IsTraitBound}
 use Rattle.syn_ty.specs.generics.Parameters.{IsParam}
@@ -28,7 +28,7 @@ use Rattle.syn_ty.specs.path.Signed.{IsParens}
 use Rattle.syn_ty.specs.path.Spelling.{IsArguments}
 use Rattle.syn_ty.specs.ty.Admitted.{IsType}
 use Rattle.syn_ty.specs.ty.Knot as knot
-use Rattle.syn_ty.specs.ty.Knot.{read, reads_below, step}
+use Rattle.syn_ty.specs.ty.Knot.{read, reads_below, step, ty}
 use Rattle.syn_ty.specs.ty.Parts.{Manner, clearly, End, Parts}
 use Rattle.syn_ty.specs.ty.Points.{Point, a_bound, a_param, a_type, an_argument, some_arguments, Readers, Tree}
 use Rattle.syn_ty.specs.ty.Reading.{type_step}
@@ -37,7 +37,6 @@ use Rattle.syn_ty.specs.ty.Trees.{BoundLifetimes, GenericArgument, GenericParam,
 use Rattle.syn_ty.proofs.ty_laws.AnglesMet.{arguments_met}
 use Rattle.syn_ty.proofs.ty_laws.ArgumentsMet.{EndsArgument, argument_met, name_is_type}
 use Rattle.syn_ty.proofs.ty_laws.BoundMet.{bound_met}
-use Rattle.syn_ty.proofs.ty_laws.ClausesMet.{below_met}
 use Rattle.syn_ty.proofs.ty_laws.FirstsMet.{GivenBegins, firsts_to, starts_to, type_starts}
 use Rattle.syn_ty.proofs.ty_laws.HigherTold.{bound_higher, higher, trait_bound_higher}
 use Rattle.syn_ty.proofs.ty_laws.Knot.{turn}
@@ -49,6 +48,12 @@ use Rattle.syn_ty.proofs.ty_laws.SignedMet.{empty_pair}
 use Rattle.syn_ty.proofs.ty_laws.TraitsMet.{trait_bound_met}
 use Rattle.syn_ty.proofs.ty_laws.TypeFormsMet.{type_forms}
 use Rattle.syn_ty.proofs.ty_laws.TypesMet.{TypeForms, type_met}
+use Rattle.std.proofs.lemmas.Bool.{lt-ltb}
+
+-- a read that is asked only where less than a limit is left
+pub below_met : {P B : Type 0} (p : P → Reader B) (limit : ℕ) (place : P) (x : B) (l k : Toks) (f : Option Span) (e : Span) (sc : Scope) → ahead (at l f e sc) < limit → Reads_to (p place) x l k f e sc → Reads_to (held p limit place) x l k f e sc
+unfolding held
+below_met p limit place x l k f e sc h g = record { last = g.last; reads = ap (λ b. below_if b (p place) (at l f e sc)) (lt-ltb _ _ h) ∙ g.reads }
 
 -- ---- attributes, and expressions in their places, however high the trees that hold them
 

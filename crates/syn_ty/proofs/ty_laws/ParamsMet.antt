@@ -1,4 +1,4 @@
--- Parameters, binders and the generics of a declaration that a list spells clearly are what their reads answer, and they take no more.
+-- Parameters and binders that a list spells clearly are what their reads answer, and they take no more.
 use Rattle.std.proofs.Common.{◌≡◌, ℕ, ◌<◌, ◌≤◌, Bool, true, false, not, ◌==◌, ◌&&◌, ◌||◌, if◌then◌else◌, List, [], ◌∷◌, Option, Some, None, is_some, Ok, Err, refl, sym, ◌∙◌, ap, subst, arith}
 use Rattle.std.proofs.lemmas.Bool.{eqb-true}
 use Rattle.std.proofs.lemmas.Slice.Eq.{bytes_eq-Decides}
@@ -41,12 +41,10 @@ use Rattle.syn_forms.specs.tokens.Reading.{comma, sees_gt}
 use Rattle.syn_forms.proofs.lists_laws.Complete.{listed_here}
 use Rattle.syn_forms.proofs.nested_laws.Ahead.{ahead-is}
 use Rattle.syn_ty.specs.declared.generics.GenericParamOf.TheVariants as g
-use Rattle.syn_ty.specs.declared.generics.GenericsOf.{GenericsOf}
 use Rattle.syn_ty.specs.declared.generics.LifetimeParamOf.{LifetimeParamOf}
 use Rattle.syn_ty.specs.generics.Bounds.{AreBounds, no_bounds, last_plus, last_bound, bound_and_plus, IsFor}
-use Rattle.syn_ty.specs.generics.Declared.{generics}
-use Rattle.syn_ty.specs.generics.Parameters.{IsGiven, given, AreLifetimes, IsLifetimeParam, a_lone_lifetime, a_lifetime_with_bounds, AreBoundsAfter, no_colon, after_colon, IsAnyType, any_type, IsTypeParam, a_type_param, IsConstParam, a_const_param, IsParam, a_lifetime_param, a_named_param, a_constant_param, a_bare_param, AreGenerics, no_generics, some_generics}
-use Rattle.syn_ty.specs.generics.Params.{bound_lifetimes_of, const_param_of, generics_of, lifetime_param_of, type_param_of}
+use Rattle.syn_ty.specs.generics.Parameters.{IsGiven, given, AreLifetimes, IsLifetimeParam, a_lone_lifetime, a_lifetime_with_bounds, AreBoundsAfter, no_colon, after_colon, IsAnyType, any_type, IsTypeParam, a_type_param, IsConstParam, a_const_param, IsParam, a_lifetime_param, a_named_param, a_constant_param, a_bare_param}
+use Rattle.syn_ty.specs.generics.Params.{bound_lifetimes_of, const_param_of, lifetime_param_of, type_param_of}
 use Rattle.syn_ty.specs.generics.Reading.{binder, lifetime_after, lifetime_param, optional_binder, param_after, param_step, sees_ident, type_after, type_param, const_after, const_param, in_binder, in_generics}
 use Rattle.syn_ty.specs.generics.Spelling.{a_binder}
 use Rattle.syn_ty.specs.path.Reading.{ends_constraint}
@@ -674,7 +672,7 @@ unfolding ends_constraint
 gt_ends k h = ap (λ b. b || is_done k) (or_right (token.sees_comma k) (token.sees_gt k) h)
 
 module _ {A E : Type 0} (r : Readers A E) (part : Manner → Parts A E) (limit : ℕ) (meets : Meets r part limit) where
-  params_met : (place : ParamPlace) (o : token.Lt) (xs : List (GenericParam A E)) (cs : List token.Comma) (c : token.Gt) (l m n k : Toks) (f : Option Span) (e : Span) (sc : Scope) → ahead (at l f e sc) ≤ limit →
+  pub params_met : (place : ParamPlace) (o : token.Lt) (xs : List (GenericParam A E)) (cs : List token.Comma) (c : token.Gt) (l m n k : Toks) (f : Option Span) (e : Span) (sc : Scope) → ahead (at l f e sc) ≤ limit →
       IsMark true o l m → AreListed (λ (_ : Bool). (part clearly).param place) (IsMark true) Anywhere true xs cs m n → IsMark true c n k → Reads_to (heads.angled (r (a_param place))) (o, (xs, cs), c) l k f e sc
   params_met place = angled_met (r (a_param place)) ((part clearly).param place) limit (λ k. ends_param k ≡ true) comma_ends gt_ends (meets.param place) (meets.firsts.param place)
 
@@ -697,17 +695,6 @@ module _ {A E : Type 0} (r : Readers A E) (part : Manner → Parts A E) (limit :
   unfolding optional_binder
   optional_binder_met o l k f e sc h absent n = absent_met token.sees_for (binder r) l f e sc (n refl)
   optional_binder_met o l k f e sc h (present {a = x} i) n = present_met token.sees_for (binder r) x l k f e sc (for_seen x l k i) (binder_met x l k f e sc h i)
-
-  abbrev generics_as : heads.Angled (GenericParam A E) → GenericsOf A E
-  generics_as p = generics_of (Some p.0) p.1 (Some p.2) None
-
-  -- where there are none, before what is no `<`
-  pub generics_met : (x : GenericsOf A E) (l k : Toks) (f : Option Span) (e : Span) (sc : Scope) → ahead (at l f e sc) ≤ limit → AreGenerics part clearly x l k → (x.lt_token ≡ None → token.sees_lt k ≡ false) → Reads_to (generics r) x l k f e sc
-  unfolding generics
-  generics_met x l k f e sc h no_generics n = record { last = e; reads = chosen (token.sees_lt l) false _ _ (at l f e sc) _ (n refl) refl }
-  generics_met x l k f e sc h (some_generics {o = o} {xs = xs} {cs = cs} {c = c} {m = m} {n = j} i q s) n =
-      let v = mapped_met generics_as (heads.angled (r (a_param Generics))) (o, (xs, cs), c) l k f e sc (params_met Generics o xs cs c l m j k f e sc h i q s) in
-      record { last = v.last; reads = chosen (token.sees_lt l) true _ _ (at l f e sc) _ (mark_seen true {n = 2} {k = 1} o l m i) v.reads }
 
 -- ---- by themselves: what they hold is read by the knot, further on
 

@@ -38,7 +38,7 @@ use Rattle.syn_ty.specs.declared.generics.TypeParamBoundOf.TheVariants as b
 use Rattle.syn_ty.specs.declared.ty.Abi.{Abi}
 use Rattle.syn_ty.specs.declared.ty.TypeOf.TheVariants as v
 use Rattle.syn_ty.specs.generics.Bounds.{AreBounds, no_bounds, last_bound, bound_and_plus}
-use Rattle.syn_ty.specs.generics.Clauses.{begins_as_generics}
+use Rattle.syn_ty.specs.generics.Parameters.{begins_as_generics}
 use Rattle.syn_ty.specs.generics.Params.{named_bound, trait_bound_of}
 use Rattle.syn_ty.specs.generics.Shapes.{bare_trait_by}
 use Rattle.syn_ty.specs.path.Spelling.{is_segment_word, IsAnyPath, unqualified, qualified}

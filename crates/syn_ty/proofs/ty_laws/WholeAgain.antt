@@ -1,5 +1,5 @@
 -- Each grammar of this layer is reprinted: what spells all of a list plainly prints its normal form clearly, which is its own and prints the same.
-use Rattle.std.proofs.Common.{◌≡◌, ℕ, Bool, true, false, List, [], Option, option_map, sym, ◌∙◌}
+use Rattle.std.proofs.Common.{ℕ, Bool, true, false, List, [], Option, option_map, sym, ◌∙◌}
 use Rattle.std.proofs.lemmas.Bool.{true≢false}
 use Rattle.token_core.specs.Prints as p
 use Rattle.token_core.specs.Prints.{Print}
@@ -14,14 +14,10 @@ use Rattle.syn_forms.specs.declared.places.ParamPlace.TheVariants.{Binder}
 use Rattle.syn_forms.specs.declared.places.TypePlace.{TypePlace}
 use Rattle.syn_forms.specs.declared.places.TypePlace.TheVariants.{Plus, NoPlus}
 use Rattle.syn_ty.specs.declared.generics.CapturedParam.{CapturedParam}
-use Rattle.syn_ty.specs.declared.generics.WhereClauseOf.{WhereClauseOf}
 use Rattle.syn_ty.specs.declared.ty.Abi.{Abi}
 use Rattle.syn_ty.specs.generics.Bounds.{IsBound, IsCapture, IsCaptured, IsFor, IsTraitBound}
-use Rattle.syn_ty.specs.generics.Clauses.{IsPredicate, IsWhereClause}
-use Rattle.syn_ty.specs.generics.Normal as clauses
 use Rattle.syn_ty.specs.generics.NormalShapes as shapes
-use Rattle.syn_ty.specs.generics.Parameters.{AreGenerics, IsConstParam, IsParam, IsTypeParam}
-use Rattle.syn_ty.specs.generics.Printing as shown_clauses
+use Rattle.syn_ty.specs.generics.Parameters.{IsConstParam, IsParam, IsTypeParam}
 use Rattle.syn_ty.specs.generics.Shapes as shown_shapes
 use Rattle.syn_ty.specs.path.Arguments.{alone, IsArgument}
 use Rattle.syn_ty.specs.path.Printing as shown_paths
@@ -37,15 +33,10 @@ use Rattle.syn_ty.specs.ty.Spelling.{Relation, IsOptional, absent, present}
 use Rattle.syn_ty.specs.ty.Spelt as by
 use Rattle.syn_ty.specs.ty.Spelt.{IsPathAlone}
 use Rattle.syn_ty.specs.ty.Trees.{AngleBracketed}
-use Rattle.syn_ty.proofs.generics_laws.Members.{some}
 use Rattle.syn_ty.proofs.ty_laws.AnglesAgain.{angle_again, lt_no_sep, styled_angle_again}
 use Rattle.syn_ty.proofs.ty_laws.CaptureAgain as captures
-use Rattle.syn_ty.proofs.ty_laws.ClausesAgain as wheres
-use Rattle.syn_ty.proofs.ty_laws.ClausesAgain.{ForKept, TypeKept}
 use Rattle.syn_ty.proofs.ty_laws.FormsAgain.{pointer_again, borrow_again, enclosed_again, bracketed_again, counted_again, tupled_again}
 use Rattle.syn_ty.proofs.ty_laws.FunctionsAgain as functions
-use Rattle.syn_ty.proofs.ty_laws.GenericsAgain as generics
-use Rattle.syn_ty.proofs.ty_laws.KeptAgain.{for_kept, generics_kept}
 use Rattle.syn_ty.proofs.ty_laws.KnotAgain.{Known, GivenAgain, known_to, type_turn, bound_turn, param_turn, argument_turn, bounds_of_turn}
 use Rattle.syn_ty.proofs.ty_laws.ParamsAgain as params
 use Rattle.syn_ty.proofs.ty_laws.ObjectsAgain as objects
@@ -65,26 +56,19 @@ at_end : {F : Type 0} (S : Relation F) (n : F → F) (f : F → Print) (x : F) (
 at_end S n f x l k = record { spelt = k.spelt done; visible = λ u. k.visible done u tt; stays = k.stays; same = k.same }
 
 module _ {A E : Type 0} {na : List A → List A} {ne : NormalValues E} {pa : List A → Print} {pe : Values E} {shown : Bool → List A → Toks → Toks → Type 0} {spelt : SpelledValues E} (g : GivenAgain na ne pa pe shown spelt) where
-  abbrev To : ℕ → Manner → Parts A E
+  abbrev pub To : ℕ → Manner → Parts A E
   To = by.spelt_to shown spelt
 
   -- at some height, however it ends
   module _ {F : Type 0} (n : F → F) (f : F → Print) where
-    all_of : (Is : (Manner → Parts A E) → Manner → Relation F) → ((k : ℕ) (x : F) (l r : Toks) → Is (To k) plainly x l r → AgainFront (Is (To k) clearly) n f x l r) → Whole (by.Spells shown spelt Is) n f
+    pub all_of : (Is : (Manner → Parts A E) → Manner → Relation F) → ((k : ℕ) (x : F) (l r : Toks) → Is (To k) plainly x l r → AgainFront (Is (To k) clearly) n f x l r) → Whole (by.Spells shown spelt Is) n f
     all_of Is again x l i = let k = again i.0 x l done i.1 in record { spelt = (i.0, k.spelt done); visible = λ u. k.visible done u tt; stays = k.stays; same = k.same }
 
     all_ending : (Is : (Manner → Parts A E) → Manner → End → Relation F) → ((k : ℕ) (e : End) (x : F) (l r : Toks) → Is (To k) plainly e x l r → AgainFront (Is (To k) clearly e) n f x l r) → Whole (by.SpellsEnding shown spelt Is) n f
     all_ending Is again x l i = let k = again i.0 i.1 x l done i.2 in record { spelt = (i.0, i.1, k.spelt done); visible = λ u. k.visible done u tt; stays = k.stays; same = k.same }
 
-  known : (k : ℕ) → Known na ne pa pe (To k)
+  pub known : (k : ℕ) → Known na ne pa pe (To k)
   known = known_to na ne pa pe shown spelt g
-
-  -- how the print of a type begins
-  no_for : (k : ℕ) → ForKept pa pe (To k)
-  no_for k = for_kept pa pe (To k) (known k).kept
-
-  no_generics : (k : ℕ) → TypeKept pa pe (To k)
-  no_generics k = generics_kept pa pe (To k) (known k).kept
 
   -- ---- paths
 
@@ -164,9 +148,6 @@ module _ {A E : Type 0} {na : List A → List A} {ne : NormalValues E} {pa : Lis
 
   -- ---- generics
 
-  pub generics_again : Whole (by.SpellsGenerics shown spelt) (clauses.generics na ne) (shown_clauses.generics pa pe)
-  generics_again = all_of (clauses.generics na ne) (shown_clauses.generics pa pe) AreGenerics (λ k. generics.generics_again na ne pa pe (To k) (known k).again)
-
   pub param_again : Whole (by.SpellsParam shown spelt) (normal.param na ne) (printing.param pa pe)
   param_again = all_of (normal.param na ne) (printing.param pa pe) (λ part how. IsParam part how Binder) (λ k. param_turn na ne pa pe (To k) (known k) Binder)
 
@@ -190,21 +171,6 @@ module _ {A E : Type 0} {na : List A → List A} {ne : NormalValues E} {pa : Lis
   trait_bound_again =
       all_ending (normal.trait_bound na ne) (printing.trait_bound pa pe) IsTraitBound
       (λ k. bounds.trait_bound_again na ne pa pe (To k) (known k).again (known k).supplied)
-
-  pub predicate_again : Whole (by.SpellsPredicate shown spelt) (clauses.predicate na ne) (shown_clauses.predicate pa pe)
-  predicate_again =
-      all_of (clauses.predicate na ne) (shown_clauses.predicate pa pe) IsPredicate (λ k. wheres.predicate_again na ne pa pe (To k) (known k).again (known k).supplied (bounds_of_turn na ne pa pe (To k) (known k)) (no_for k))
-
-  pub optional_where_clause_again : Whole (by.SpellsOptionalClause shown spelt) (clauses.where_option na ne) (p.optional (shown_clauses.where_clause pa pe))
-  optional_where_clause_again =
-      all_of (clauses.where_option na ne) (p.optional (shown_clauses.where_clause pa pe)) (λ part how. IsOptional (IsWhereClause part how))
-      (λ k. wheres.optional_where_again na ne pa pe (To k) (known k).again (known k).supplied (bounds_of_turn na ne pa pe (To k) (known k)) (no_for k) (known k).attrs_begin (no_generics k))
-
-  -- one without predicates prints nothing: as a clause of its own that is not spelt
-  pub where_clause_again : (x : WhereClauseOf A E) (l : Toks) → by.SpellsClause shown spelt plainly x l → some x.predicates.0 ≡ true → Again (by.SpellsClause shown spelt clearly) (clauses.where_clause na ne) (shown_clauses.where_clause pa pe) x l
-  where_clause_again x l (k, i) h =
-      let w = wheres.clause_again na ne pa pe (To k) (known k).again (known k).supplied (bounds_of_turn na ne pa pe (To k) (known k)) (no_for k) (known k).attrs_begin (no_generics k) x l done i h in
-      record { spelt = (k, w.spelt done); visible = λ u. w.visible done u tt; stays = w.stays; same = w.same }
 
 -- ---- a lifetime parameter
 

@@ -1,5 +1,5 @@
 -- Each grammar of this layer meets its laws, where those of attributes and expressions are given: its read is sound and complete, and what it spells plainly is reprinted.
-use Rattle.std.proofs.Common.{◌≡◌, ◌≢◌, Bool, true, false, List, [], ◌∷◌, Option, refl}
+use Rattle.std.proofs.Common.{◌≡◌, Bool, true, false, List, Option}
 use Rattle.token_core.specs.declared.span.Span.{Span}
 use Rattle.token_core.specs.Headline.{Lawful}
 use Rattle.token_core.specs.Prints.{Print}
@@ -10,16 +10,12 @@ use Rattle.token_core.specs.Toks.{Toks}
 use Rattle.token_core.proofs.Steps.{Reads_to}
 use Rattle.syn_path.specs.Lengths.{AttributeLaws}
 use Rattle.syn_path.specs.Values.{NormalValues, ReadValues, SpelledValues, Values}
-use Rattle.syn_path.proofs.Words.{Again, AgainFront}
+use Rattle.syn_path.proofs.Words.{AgainFront}
 use Rattle.syn_forms.specs.declared.places.TypePlace.{TypePlace}
-use Rattle.syn_ty.specs.declared.generics.WhereClauseOf.{WhereClauseOf}
-use Rattle.syn_ty.specs.generics.Normal as clauses
-use Rattle.syn_ty.specs.generics.Printing as shown_clauses
-use Rattle.syn_ty.specs.ty.Parts.{Manner, loosely, plainly, clearly}
+use Rattle.syn_ty.specs.ty.Parts.{Manner, loosely, clearly}
 use Rattle.syn_ty.specs.ty.Promises as promises
 use Rattle.syn_ty.specs.ty.Promises.{promise}
 use Rattle.syn_ty.specs.ty.Spelt as by
-use Rattle.syn_ty.proofs.generics_laws.Members.{some}
 use Rattle.syn_ty.proofs.ty_laws.Given.{Given}
 use Rattle.syn_ty.proofs.ty_laws.KnotAgain.{GivenAgain}
 use Rattle.syn_ty.proofs.ty_laws.KnotMet.{GivenMeets}
@@ -28,7 +24,7 @@ use Rattle.syn_ty.proofs.ty_laws.WholeMet as met
 use Rattle.syn_ty.proofs.ty_laws.WholeTold as told
 
 -- a grammar that is sound, complete and reprinted
-lawful : {F : Type 0} (Is : Manner → F → Toks → Type 0) {n : F → F} {f : F → Print} {reader : Reader F} → told.Whole reader (Is loosely) → met.Whole reader (Is clearly) → again.Whole Is n f → Lawful (promise Is n f reader)
+pub lawful : {F : Type 0} (Is : Manner → F → Toks → Type 0) {n : F → F} {f : F → Print} {reader : Reader F} → told.Whole reader (Is loosely) → met.Whole reader (Is clearly) → again.Whole Is n f → Lawful (promise Is n f reader)
 lawful Is sound complete reprint = record {
   sound = sound;
   complete = complete;
@@ -106,9 +102,6 @@ module _ {A E : Type 0} {attrs : Reader (List A)} {values : ReadValues E} {shown
 
   -- ---- generics
 
-  pub generics_lawful : Lawful (promises.generics attrs values shown spelt na ne pa pe)
-  generics_lawful = lawful (by.SpellsGenerics shown spelt) (told.generics_sound g) (met.generics_complete m) (again.generics_again a)
-
   pub param_lawful : Lawful (promises.param attrs values shown spelt na ne pa pe)
   param_lawful = lawful (by.SpellsParam shown spelt) (told.param_sound g) (met.param_complete m) (again.param_again a)
 
@@ -129,30 +122,6 @@ module _ {A E : Type 0} {attrs : Reader (List A)} {values : ReadValues E} {shown
 
   pub trait_bound_lawful : Lawful (promises.trait_bound attrs values shown spelt na ne pa pe)
   trait_bound_lawful = lawful (by.SpellsTraitBound shown spelt) (told.trait_bound_sound g) (met.trait_bound_complete m) (again.trait_bound_again a)
-
-  -- of a clause, where it has predicates
-  has_some : {T : Type 0} (xs : List T) → xs ≢ [] → some xs ≡ true
-  has_some [] h = absurd (h refl)
-  has_some (x ∷ xs) h = refl
-
-  where_clause_again : (x : WhereClauseOf A E) (l : Toks) → by.SpellsClause shown spelt plainly x l → x.predicates.0 ≢ [] → Again (by.SpellsClause shown spelt clearly) (clauses.where_clause na ne) (shown_clauses.where_clause pa pe) x l
-  where_clause_again x l i h = again.where_clause_again a x l i (has_some x.predicates.0 h)
-
-  pub where_clause_lawful : Lawful (promises.where_clause attrs values shown spelt na ne pa pe)
-  where_clause_lawful = record {
-    sound = told.where_clause_sound g;
-    complete = met.where_clause_complete m;
-    spells = λ x l i v q. (where_clause_again x q.1 q.3 q.0).spelt;
-    visible = λ x l i v q. (where_clause_again x q.1 q.3 q.0).visible q.2;
-    stays = λ x l i q. (where_clause_again x q.1 q.3 q.0).stays;
-    same = λ x l i q. (where_clause_again x q.1 q.3 q.0).same;
-  }
-
-  pub optional_where_clause_lawful : Lawful (promises.optional_where_clause attrs values shown spelt na ne pa pe)
-  optional_where_clause_lawful = lawful (by.SpellsOptionalClause shown spelt) (told.optional_where_clause_sound g) (met.optional_where_clause_complete m) (again.optional_where_clause_again a)
-
-  pub predicate_lawful : Lawful (promises.predicate attrs values shown spelt na ne pa pe)
-  predicate_lawful = lawful (by.SpellsPredicate shown spelt) (told.predicate_sound g) (met.predicate_complete m) (again.predicate_again a)
 
 -- ---- a lifetime parameter
 

@@ -15,8 +15,6 @@ use Rattle.syn_forms.specs.declared.places.BoundPlace.TheVariants.{Opaque}
 use Rattle.syn_forms.specs.declared.places.ParamPlace.TheVariants.{Binder}
 use Rattle.syn_forms.specs.declared.places.TypePlace.{TypePlace}
 use Rattle.syn_forms.specs.places.Reading.{allows_plus}
-use Rattle.syn_forms.specs.predicates.Reading.{ends_predicate}
-use Rattle.syn_ty.specs.generics.Alone as clauses
 use Rattle.syn_ty.specs.generics.Reading as parts
 use Rattle.syn_ty.specs.path.Arguments.{alone}
 use Rattle.syn_ty.specs.path.Reading.{ends_constraint}
@@ -52,11 +50,11 @@ stops = (done_fits closed).stops
 path_ends : PathStops AsWritten done
 path_ends = path_stops done stops
 
-no_mark : (c : ℕ) (cs : List ℕ) → sees_mark (c ∷ cs) done ≡ false
+pub no_mark : (c : ℕ) (cs : List ℕ) → sees_mark (c ∷ cs) done ≡ false
 unfolding sees_mark
 no_mark c cs = refl
 
-no_word : (test : Bytes → Bool) → sees_word test done ≡ false
+pub no_word : (test : Bytes → Bool) → sees_word test done ≡ false
 unfolding sees_word
 no_word test = refl
 
@@ -67,10 +65,6 @@ no_str = refl
 param_ends : ends_param done ≡ true
 unfolding is_done ends_constraint sees_mark
 param_ends = refl
-
-predicate_ends : ends_predicate done ≡ true
-unfolding is_done ends_predicate
-predicate_ends = refl
 
 module _ {A E : Type 0} {attrs : Reader (List A)} {values : ReadValues E} {shown : Bool → List A → Toks → Toks → Type 0} {spelt : SpelledValues E} (g : GivenMeets attrs values shown spelt) where
   -- ---- paths
@@ -141,9 +135,6 @@ module _ {A E : Type 0} {attrs : Reader (List A)} {values : ReadValues E} {shown
 
   -- ---- generics
 
-  pub generics_complete : Whole (clauses.generics attrs values) (by.SpellsGenerics shown spelt clearly)
-  generics_complete s a n v i = to_end (clauses.generics attrs values) s a n (front.generics_met g i.0 a s.rest done s.left s.last s.scope i.1 (λ q. no_mark 60 []))
-
   pub param_complete : Whole (knot.param attrs values Binder) (by.SpellsParam shown spelt clearly)
   param_complete s a n v i = to_end (knot.param attrs values Binder) s a n (front.param_met g i.0 Binder a s.rest done s.left s.last s.scope i.1 param_ends)
 
@@ -164,15 +155,6 @@ module _ {A E : Type 0} {attrs : Reader (List A)} {values : ReadValues E} {shown
 
   pub trait_bound_complete : Whole (knot.trait_bound attrs values) (by.SpellsTraitBound shown spelt clearly)
   trait_bound_complete s a n v i = to_end (knot.trait_bound attrs values) s a n (front.trait_bound_met g i.0 i.1 a s.rest done s.left s.last s.scope i.2 (done_fits i.1))
-
-  pub where_clause_complete : Whole (clauses.where_clause attrs values) (by.SpellsClause shown spelt clearly)
-  where_clause_complete s a n v i = to_end (clauses.where_clause attrs values) s a n (front.where_clause_met g i.0 a s.rest done s.left s.last s.scope i.1 predicate_ends (no_mark 44 []))
-
-  pub optional_where_clause_complete : Whole (clauses.optional_where_clause attrs values) (by.SpellsOptionalClause shown spelt clearly)
-  optional_where_clause_complete s a n v i = to_end (clauses.optional_where_clause attrs values) s a n (front.optional_where_clause_met g i.0 a s.rest done s.left s.last s.scope i.1 (λ q. no_word _) predicate_ends (no_mark 44 []))
-
-  pub predicate_complete : Whole (clauses.predicate attrs values) (by.SpellsPredicate shown spelt clearly)
-  predicate_complete s a n v i = to_end (clauses.predicate attrs values) s a n (front.predicate_met g i.0 a s.rest done s.left s.last s.scope i.1 predicate_ends)
 
 -- ---- a lifetime parameter
 

@@ -15,10 +15,8 @@ use Rattle.syn_forms.specs.declared.places.TypePlace.{TypePlace}
 use Rattle.syn_forms.specs.declared.places.TypePlace.TheVariants.{NoPlus}
 use Rattle.syn_forms.specs.places.Reading.{allows_plus}
 use Rattle.syn_forms.proofs.tokens_laws.Fronts.{took_whole}
-use Rattle.syn_ty.specs.generics.Alone as clauses
 use Rattle.syn_ty.specs.generics.Bounds.{IsBound, IsCapture, IsCaptured, IsFor, IsTraitBound}
-use Rattle.syn_ty.specs.generics.Clauses.{IsPredicate, IsWhereClause}
-use Rattle.syn_ty.specs.generics.Parameters.{AreGenerics, IsConstParam, IsParam, IsTypeParam}
+use Rattle.syn_ty.specs.generics.Parameters.{IsConstParam, IsParam, IsTypeParam}
 use Rattle.syn_ty.specs.generics.Reading as parts
 use Rattle.syn_ty.specs.path.Signed.{IsParens, IsReturn}
 use Rattle.syn_ty.specs.path.Spelling.{IsAngle, IsPath, IsSegment}
@@ -126,9 +124,6 @@ module _ {A E : Type 0} {attrs : Reader (List A)} {values : ReadValues E} {shown
 
   -- ---- generics
 
-  pub generics_sound : Whole (clauses.generics attrs values) (by.SpellsGenerics shown spelt loosely)
-  generics_sound s t a n v e c = all_of shown spelt AreGenerics s t a (alone.generics_took g s t a v e) c
-
   pub param_sound : Whole (knot.param attrs values Binder) (by.SpellsParam shown spelt loosely)
   param_sound s t a n v e c = all_of shown spelt (λ part how. IsParam part how Binder) s t a (alone.param_took g Binder s t a v e) c
 
@@ -149,15 +144,6 @@ module _ {A E : Type 0} {attrs : Reader (List A)} {values : ReadValues E} {shown
 
   pub trait_bound_sound : Whole (knot.trait_bound attrs values) (by.SpellsTraitBound shown spelt loosely)
   trait_bound_sound s t a n v e c = all_ending shown spelt IsTraitBound s t a (alone.trait_bound_took g s t a v e) c
-
-  pub where_clause_sound : Whole (clauses.where_clause attrs values) (by.SpellsClause shown spelt loosely)
-  where_clause_sound s t a n v e c = all_of shown spelt IsWhereClause s t a (alone.where_clause_took g s t a v e) c
-
-  pub optional_where_clause_sound : Whole (clauses.optional_where_clause attrs values) (by.SpellsOptionalClause shown spelt loosely)
-  optional_where_clause_sound s t a n v e c = all_of shown spelt (λ part how. IsOptional (IsWhereClause part how)) s t a (alone.optional_where_clause_took g s t a v e) c
-
-  pub predicate_sound : Whole (clauses.predicate attrs values) (by.SpellsPredicate shown spelt loosely)
-  predicate_sound s t a n v e c = all_of shown spelt IsPredicate s t a (alone.predicate_took g s t a v e) c
 
 -- ---- a lifetime parameter
 

@@ -1,9 +1,9 @@
--- Which lists parameters spell, each in its place, and the generics of a declaration.
-use Rattle.std.specs.Prelude.{◌≡◌, Bool, true, List, [], Option, Some, None}
+-- Which lists parameters spell, each in its place, and how the generics of a declaration may begin.
+use Rattle.std.specs.Prelude.{◌≡◌, Bool, true, List, [], Option, Some, None, ◌&&◌}
 use Rattle.token_core.specs.declared.lifetime.Lifetime.{Lifetime}
 use Rattle.token_core.specs.declared.tree.Ident.{Ident}
 use Rattle.token_core.specs.Listed.{AreListed, Anywhere}
-use Rattle.token_core.specs.Reads.{is_ident, is_text}
+use Rattle.token_core.specs.Reads.{is_ident, is_text, second, sees_word, third}
 use Rattle.token_core.specs.Spellings.{IsMark, IsWord, IsLifetime}
 use Rattle.token_core.specs.Toks.{Toks, word}
 use Rattle.syn_forms.specs.declared.places.BoundPlace.TheVariants.{Parameter}
@@ -11,10 +11,9 @@ use Rattle.syn_forms.specs.declared.places.ParamPlace.{ParamPlace}
 use Rattle.syn_forms.specs.declared.places.ParamPlace.TheVariants as params
 use Rattle.syn_forms.specs.declared.places.TypePlace.TheVariants.{Plus}
 use Rattle.syn_ty.specs.declared.generics.GenericParamOf.TheVariants as g
-use Rattle.syn_ty.specs.declared.generics.GenericsOf.{GenericsOf}
 use Rattle.syn_ty.specs.declared.generics.LifetimeParamOf.{LifetimeParamOf}
 use Rattle.syn_ty.specs.generics.Bounds.{AreBounds}
-use Rattle.syn_ty.specs.generics.Params.{const_param_of, empty, generics_of, lifetime_param_of, type_param_of}
+use Rattle.syn_ty.specs.generics.Params.{const_param_of, lifetime_param_of, type_param_of}
 use Rattle.syn_ty.specs.ty.Parts.{Manner, is_clear, End, Parts}
 use Rattle.syn_ty.specs.ty.Spelling.{Relation, IsOptional}
 use Rattle.syn_ty.specs.ty.Trees.{ConstParam, GenericParam, TypeParam, TypeParamBound, TypeTree}
@@ -67,11 +66,8 @@ module _ {A E : Type 0} (part : Manner → Parts A E) (how : Manner) where
     a_constant_param : {place : ParamPlace} {x : ConstParam A E} {l r : Toks} → IsConstParam x l r → IsParam place (g.Const x) l r
     a_bare_param : {a : List A} {i : Ident} {l r : Toks} → (part how).attrs a l (word i r) → is_text token.underscore_text i.text ≡ true → IsParam params.Generics (g.«Type» (type_param_of a i None ([], []) None)) l r
 
-  -- ---- the generics of a declaration
+-- ---- the generics of a declaration
 
-  -- nothing, or between angle marks parameters joined by commas: there may be none, and the last may have its comma; and no where clause
-  pub data AreGenerics : GenericsOf A E → Toks → Toks → Type 0 where
-    no_generics : {r : Toks} → AreGenerics empty r r
-    some_generics : {o : token.Lt} {xs : List (GenericParam A E)} {cs : List token.Comma} {c : token.Gt} {l m n r : Toks} →
-        IsMark (is_clear how) o l m → AreListed (λ (_ : Bool). (part how).param params.Generics) (IsMark (is_clear how)) Anywhere true xs cs m n → IsMark (is_clear how) c n r →
-        AreGenerics (generics_of (Some o) (xs, cs) (Some c) None) l r
+-- `<`, an `Ident` and `>`, as the generics of a declaration may be
+abbrev pub begins_as_generics : Toks → Bool
+begins_as_generics l = token.sees_lt l && (second (sees_word is_ident) l && third token.sees_gt l)

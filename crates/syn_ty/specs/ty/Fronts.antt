@@ -7,24 +7,19 @@ use Rattle.syn_forms.specs.declared.places.BoundPlace.TheVariants.{Opaque}
 use Rattle.syn_forms.specs.declared.places.ParamPlace.TheVariants.{Binder}
 use Rattle.syn_forms.specs.declared.places.TypePlace.{TypePlace}
 use Rattle.syn_forms.specs.declared.places.TypePlace.TheVariants.{Plus, NoPlus}
-use Rattle.syn_ty.specs.declared.generics.GenericsOf.{GenericsOf}
-use Rattle.syn_ty.specs.declared.generics.WhereClauseOf.{WhereClauseOf}
-use Rattle.syn_ty.specs.declared.generics.WherePredicateOf.{WherePredicateOf}
 use Rattle.syn_ty.specs.generics.Bounds.{IsBound, IsFor, IsTraitBound}
-use Rattle.syn_ty.specs.generics.Clauses.{IsPredicate, IsWhereClause}
-use Rattle.syn_ty.specs.generics.Parameters.{AreGenerics, IsConstParam, IsParam, IsTypeParam}
+use Rattle.syn_ty.specs.generics.Parameters.{IsConstParam, IsParam, IsTypeParam}
 use Rattle.syn_ty.specs.path.Arguments.{between_angles, IsArgument}
 use Rattle.syn_ty.specs.path.Signed.{IsParens, IsReturn}
 use Rattle.syn_ty.specs.path.Spelling.{IsAngle, IsAnyPath, IsPath, IsSegment, Styled}
 use Rattle.syn_ty.specs.ty.Admitted.{IsBorrow, IsBracketed, IsCounted, IsEnclosed, IsPointer, IsTupled, IsType}
 use Rattle.syn_ty.specs.ty.Functions.{IsFnPtr, IsNamedArg}
 use Rattle.syn_ty.specs.ty.Objects.{IsImpl, IsObject}
-use Rattle.syn_ty.specs.ty.Parts.{Manner, End, Parts}
+use Rattle.syn_ty.specs.ty.Parts.{Manner, End, Parts, loosely, Told}
 use Rattle.syn_ty.specs.ty.Spelling.{IsOptional, Relation}
 use Rattle.syn_ty.specs.ty.Trees.{AngleBracketed, BoundLifetimes, ConstParam, GenericArgument, GenericParam, NamedArg, Parenthesized, Path, PathSegment, QSelf, ReturnType, TraitBound, TypeArray, TypeFnPtr, TypeGroup, TypeImplTrait, TypeParam, TypeParamBound, TypeParen, TypePath, TypePtr, TypeReference, TypeSlice, TypeTraitObject, TypeTree, TypeTuple}
 use Rattle.syn_path.specs.declared.path.PathStyle.{PathStyle}
 use Rattle.syn_ty.specs.ty.Spelt.{spelt_to, IsPathAlone}
-use Rattle.syn_ty.specs.ty.Parts.{loosely, Told}
 
 module _ {A E : Type 0} (attrs : Bool → List A → Toks → Toks → Type 0) (values : SpelledValues E) where
   -- a form, over what stands within it; and one that may end open
@@ -109,9 +104,6 @@ module _ {A E : Type 0} (attrs : Bool → List A → Toks → Toks → Type 0) (
   abbrev pub named_arg : NamedArg A E → Toks → Toks → Type 0
   named_arg = Front (λ part how. IsNamedArg part how false)
 
-  abbrev pub generics : GenericsOf A E → Toks → Toks → Type 0
-  generics = Front (AreGenerics)
-
   abbrev pub param : GenericParam A E → Toks → Toks → Type 0
   param = Front (λ part how. IsParam part how Binder)
 
@@ -132,12 +124,3 @@ module _ {A E : Type 0} (attrs : Bool → List A → Toks → Toks → Type 0) (
 
   abbrev pub trait_bound : TraitBound A E → Toks → Toks → Type 0
   trait_bound = FrontEnding (IsTraitBound)
-
-  abbrev pub where_clause : WhereClauseOf A E → Toks → Toks → Type 0
-  where_clause = Front (IsWhereClause)
-
-  abbrev pub optional_where_clause : Option (WhereClauseOf A E) → Toks → Toks → Type 0
-  optional_where_clause = Front (λ part how. IsOptional (IsWhereClause part how))
-
-  abbrev pub predicate : WherePredicateOf A E → Toks → Toks → Type 0
-  predicate = Front (IsPredicate)

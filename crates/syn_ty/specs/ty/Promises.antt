@@ -1,5 +1,5 @@
 -- The promise of each reader of this layer: which lists its trees spell, their normal form, their print, which have clear verbatim parts, and the read.
-use Rattle.std.specs.Prelude.{◌≢◌, Bool, true, false, List, [], Option, option_map}
+use Rattle.std.specs.Prelude.{Bool, true, false, List, Option, option_map}
 use Rattle.token_core.specs.Headline.{Grammar}
 use Rattle.token_core.specs.Prints as p
 use Rattle.token_core.specs.Prints.{Print}
@@ -13,17 +13,11 @@ use Rattle.syn_forms.specs.declared.places.ParamPlace.TheVariants.{Binder}
 use Rattle.syn_forms.specs.declared.places.TypePlace.{TypePlace}
 use Rattle.syn_forms.specs.places.Reading.{allows_plus}
 use Rattle.syn_ty.specs.declared.generics.CapturedParam.{CapturedParam}
-use Rattle.syn_ty.specs.declared.generics.GenericsOf.{GenericsOf}
 use Rattle.syn_ty.specs.declared.generics.LifetimeParamOf.{LifetimeParamOf}
 use Rattle.syn_ty.specs.declared.generics.PreciseCapture.{PreciseCapture}
-use Rattle.syn_ty.specs.declared.generics.WhereClauseOf.{WhereClauseOf}
-use Rattle.syn_ty.specs.declared.generics.WherePredicateOf.{WherePredicateOf}
 use Rattle.syn_ty.specs.declared.ty.Abi.{Abi}
-use Rattle.syn_ty.specs.generics.Alone as clauses
-use Rattle.syn_ty.specs.generics.Normal as normal_clauses
 use Rattle.syn_ty.specs.generics.NormalShapes as normal_shapes
 use Rattle.syn_ty.specs.generics.Params.{lifetime_param_of}
-use Rattle.syn_ty.specs.generics.Printing as shown_clauses
 use Rattle.syn_ty.specs.generics.Reading as parts
 use Rattle.syn_ty.specs.generics.Shapes as shapes
 use Rattle.syn_ty.specs.path.Printing as shown_paths
@@ -114,9 +108,6 @@ module _ {A E : Type 0} (read_attrs : Reader (List A)) (reads : ReadValues E) (s
 
   -- ---- generics
 
-  abbrev pub generics : Grammar (GenericsOf A E)
-  generics = promise (spelt.SpellsGenerics spelt_attrs spells) (normal_clauses.generics normal_attrs normals) (shown_clauses.generics shown_attrs prints) (clauses.generics read_attrs reads)
-
   abbrev pub param : Grammar (GenericParam A E)
   param = promise (spelt.SpellsParam spelt_attrs spells) (normal.param normal_attrs normals) (shown.param shown_attrs prints) (knot.param read_attrs reads Binder)
 
@@ -138,24 +129,6 @@ module _ {A E : Type 0} (read_attrs : Reader (List A)) (reads : ReadValues E) (s
 
   abbrev pub trait_bound : Grammar (TraitBound A E)
   trait_bound = promise (spelt.SpellsTraitBound spelt_attrs spells) (normal.trait_bound normal_attrs normals) (shown.trait_bound shown_attrs prints) (knot.trait_bound read_attrs reads)
-
-  -- a clause without predicates prints nothing, and so is read again as an optional one
-  -- A clause without predicates prints nothing, and no clause spells that: its print is not promised to be read again.
-  abbrev pub where_clause : Grammar (WhereClauseOf A E)
-  where_clause = record {
-    spells = λ clear x l. spelt.SpellsClause spelt_attrs spells (manner clear) x l;
-    normal = normal_clauses.where_clause normal_attrs normals;
-    print = shown_clauses.where_clause shown_attrs prints;
-    plain = λ x. (x.predicates.0 ≢ []) × (l : Toks) × Visible l × spelt.SpellsClause spelt_attrs spells plainly x l;
-    reader = clauses.where_clause read_attrs reads;
-  }
-
-  abbrev pub optional_where_clause : Grammar (Option (WhereClauseOf A E))
-  optional_where_clause =
-      promise (spelt.SpellsOptionalClause spelt_attrs spells) (normal_clauses.where_option normal_attrs normals) (p.optional (shown_clauses.where_clause shown_attrs prints)) (clauses.optional_where_clause read_attrs reads)
-
-  abbrev pub predicate : Grammar (WherePredicateOf A E)
-  predicate = promise (spelt.SpellsPredicate spelt_attrs spells) (normal_clauses.predicate normal_attrs normals) (shown_clauses.predicate shown_attrs prints) (clauses.predicate read_attrs reads)
 
 -- ---- a lifetime parameter
 

@@ -8,15 +8,11 @@ use Rattle.syn_forms.specs.declared.places.ParamPlace.TheVariants.{Binder}
 use Rattle.syn_forms.specs.declared.places.TypePlace.{TypePlace}
 use Rattle.syn_forms.specs.declared.places.TypePlace.TheVariants.{Plus, NoPlus}
 use Rattle.syn_ty.specs.declared.generics.CapturedParam.{CapturedParam}
-use Rattle.syn_ty.specs.declared.generics.GenericsOf.{GenericsOf}
 use Rattle.syn_ty.specs.declared.generics.LifetimeParamOf.{LifetimeParamOf}
 use Rattle.syn_ty.specs.declared.generics.PreciseCapture.{PreciseCapture}
-use Rattle.syn_ty.specs.declared.generics.WhereClauseOf.{WhereClauseOf}
-use Rattle.syn_ty.specs.declared.generics.WherePredicateOf.{WherePredicateOf}
 use Rattle.syn_ty.specs.declared.ty.Abi.{Abi}
 use Rattle.syn_ty.specs.generics.Bounds.{IsBound, IsCapture, IsCaptured, IsFor, IsTraitBound}
-use Rattle.syn_ty.specs.generics.Clauses.{IsPredicate, IsWhereClause}
-use Rattle.syn_ty.specs.generics.Parameters.{AreGenerics, IsConstParam, IsLifetimeParam, IsParam, IsTypeParam}
+use Rattle.syn_ty.specs.generics.Parameters.{IsConstParam, IsLifetimeParam, IsParam, IsTypeParam}
 use Rattle.syn_ty.specs.path.Arguments.{alone, between_angles, IsArgument}
 use Rattle.syn_ty.specs.path.Signed.{IsParens, IsReturn}
 use Rattle.syn_ty.specs.path.Spelling.{IsAngle, IsAnyPath, IsArguments, IsPath, IsSegment, Styled}
@@ -147,9 +143,6 @@ module _ {A E : Type 0} (attrs : Bool → List A → Toks → Toks → Type 0) (
 
   -- ---- generics
 
-  abbrev pub SpellsGenerics : Manner → GenericsOf A E → Toks → Type 0
-  SpellsGenerics = Spells AreGenerics
-
   abbrev pub SpellsParam : Manner → GenericParam A E → Toks → Type 0
   SpellsParam = Spells (λ part how. IsParam part how Binder)
 
@@ -170,15 +163,6 @@ module _ {A E : Type 0} (attrs : Bool → List A → Toks → Toks → Type 0) (
 
   abbrev pub SpellsTraitBound : Manner → TraitBound A E → Toks → Type 0
   SpellsTraitBound = SpellsEnding IsTraitBound
-
-  abbrev pub SpellsClause : Manner → WhereClauseOf A E → Toks → Type 0
-  SpellsClause = Spells IsWhereClause
-
-  abbrev pub SpellsOptionalClause : Manner → Option (WhereClauseOf A E) → Toks → Type 0
-  SpellsOptionalClause = Spells (λ part how. IsOptional (IsWhereClause part how))
-
-  abbrev pub SpellsPredicate : Manner → WherePredicateOf A E → Toks → Type 0
-  SpellsPredicate = Spells IsPredicate
 
 -- ---- a lifetime parameter: within it stand its attributes alone
 

@@ -1,4 +1,4 @@
-//! Parameters, bounds, where clauses and the views of generics are printed.
+//! Captures, parameters, bounds and binders are printed.
 
 ghost use Rattle.std.specs.Prelude.{◌≡◌, ◌++◌, ◌∷◌, [], false, None, OnOk, OnErr, option_map};
 ghost use Rattle.token_core.specs.Joined.{values_of, marks_of, pairs_of};
@@ -7,16 +7,13 @@ ghost use Rattle.token_core.specs.Prints.{Extends};
 ghost use Rattle.token_core.specs.Trees.{trees};
 ghost use Rattle.syn_ty.specs.declared.generics.TypeParamBoundOf.TheVariants as bounds;
 ghost use Rattle.syn_ty.specs.generics.Members as members;
-ghost use Rattle.syn_ty.specs.generics.Printing as printing;
 ghost use Rattle.syn_ty.specs.generics.Shapes as shapes;
 ghost use Rattle.syn_ty.specs.ty.Printing as types;
 ghost use Rattle.syn_ty.specs.generics.Views as views;
 
 use crate::generics::{
-    BoundLifetimesOf, CapturedParam, ConstParamOf, GenericParamOf, GenericsOf, ImplGenericsOf,
-    LifetimeParamOf, Member, PreciseCapture, PredicateLifetimeOf, PredicateTypeOf, Style, Styled,
-    TraitBoundOf, TurbofishOf, TypeGenericsOf, TypeParamBoundOf, TypeParamOf, WhereClauseOf,
-    WherePredicateOf,
+    BoundLifetimesOf, CapturedParam, ConstParamOf, GenericParamOf, LifetimeParamOf, Member,
+    PreciseCapture, Style, Styled, TraitBoundOf, TypeParamBoundOf, TypeParamOf,
 };
 use crate::path::print::print_path;
 use crate::ty::TypeOf;
@@ -24,7 +21,7 @@ use crate::ty::print::{bound_parts, print_type, print_verbatim};
 use std::alloc::{AllocError, Global};
 use syn_path::path::PathStyle;
 use syn_path::supplied::{Attributes, Value};
-use token_core::token::{Comma, Eq, PathSep};
+use token_core::token::{Comma, Eq};
 use token_core::{Pair, Punctuated, ToTokens, TokenStream, TokensOrDefault};
 
 impl ToTokens for CapturedParam {
@@ -63,7 +60,7 @@ fn print_capture(
 
 /// Lifetimes, each with its comma; a comma where the last has none and others follow; the others, each with its comma.
 #[tactic(auto, using(token_core::proofs::Puts::puts))]
-fn print_sorted<M: Styled>(
+pub fn print_sorted<M: Styled>(
     alloc: Global,
     list: &Punctuated<M, Comma>,
     style: Style,
@@ -506,21 +503,6 @@ fn print_named_trait<A: Attributes, E: Value>(
     print_path(alloc, &bound.path, PathStyle::AsWritten, out)
 }
 
-#[tactic(auto, using(token_core::proofs::Puts::puts))]
-fn print_predicate_lifetime<A: Attributes>(
-    alloc: Global,
-    predicate: &PredicateLifetimeOf<A>,
-    out: &mut TokenStream,
-) -> Result<(), AllocError>
-    ensures ok { OnOk result (trees out.new ≡ trees out.old ++ printing.predicate_lifetime_by A.shown predicate.now) }
-    ensures err { OnErr result (Extends (trees out.old) (trees out.new)) }
-{
-    A::print_outer(alloc, &predicate.attrs, out)?;
-    predicate.lifetime.to_tokens(alloc, out)?;
-    predicate.colon_token.to_tokens(alloc, out)?;
-    predicate.bounds.to_tokens(alloc, out)
-}
-
 impl<A: Attributes> ToTokens for LifetimeParamOf<A> {
     ghost print = { shapes.lifetime_param_by A.shown };
 
@@ -534,14 +516,6 @@ impl<A: Attributes, E: Value> ToTokens for ConstParamOf<TypeOf<A, E>, A, E> {
 
     fn append_tokens(&self, alloc: Global, out: &mut TokenStream) -> Result<(), AllocError> {
         print_const_param(alloc, self, out)
-    }
-}
-
-impl<A: Attributes> ToTokens for PredicateLifetimeOf<A> {
-    ghost print = { printing.predicate_lifetime_by A.shown };
-
-    fn append_tokens(&self, alloc: Global, out: &mut TokenStream) -> Result<(), AllocError> {
-        print_predicate_lifetime(alloc, self, out)
     }
 }
 
@@ -577,8 +551,9 @@ impl<A: Attributes, E: Value> ToTokens for TraitBoundOf<A, E> {
     }
 }
 
+/// Appends a binder; refused, what stood before is kept.
 #[tactic(auto, using(token_core::proofs::Puts::puts))]
-fn print_bound_lifetimes<A: Attributes, E: Value>(
+pub fn print_bound_lifetimes<A: Attributes, E: Value>(
     alloc: Global,
     binder: &BoundLifetimesOf<GenericParamOf<A, E>>,
     out: &mut TokenStream,
@@ -592,87 +567,11 @@ fn print_bound_lifetimes<A: Attributes, E: Value>(
     binder.gt_token.to_tokens(alloc, out)
 }
 
-#[tactic(auto, using(token_core::proofs::Puts::puts))]
-fn print_predicate_type<A: Attributes, E: Value>(
-    alloc: Global,
-    predicate: &PredicateTypeOf<A, E>,
-    out: &mut TokenStream,
-) -> Result<(), AllocError>
-    ensures ok { OnOk result (trees out.new ≡ trees out.old ++ printing.predicate_type A.shown E.values predicate.now) }
-    ensures err { OnErr result (Extends (trees out.old) (trees out.new)) }
-{
-    A::print_outer(alloc, &predicate.attrs, out)?;
-    print_binder(alloc, &predicate.lifetimes, out)?;
-    print_type(alloc, &predicate.bounded_ty, out)?;
-    predicate.colon_token.to_tokens(alloc, out)?;
-    predicate.bounds.to_tokens(alloc, out)
-}
-
-/// A binder; nothing without one.
-#[tactic(auto, using(token_core::proofs::Puts::puts))]
-fn print_binder<A: Attributes, E: Value>(
-    alloc: Global,
-    binder: &Option<BoundLifetimesOf<GenericParamOf<A, E>>>,
-    out: &mut TokenStream,
-) -> Result<(), AllocError>
-    ensures ok { OnOk result (trees out.new ≡ trees out.old ++ shapes.binder_by (types.param A.shown E.values) binder.now) }
-    ensures err { OnErr result (Extends (trees out.old) (trees out.new)) }
-{
-    match binder {
-        Some(binder) => print_bound_lifetimes(alloc, binder, out),
-        None => Ok(()),
-    }
-}
-
-/// `where` and the predicates; nothing without predicates.
-#[tactic(auto, using(token_core::proofs::Puts::puts, crate::proofs::generics_laws::Prints::clauses))]
-fn print_where<A: Attributes, E: Value>(
-    alloc: Global,
-    clause: &WhereClauseOf<A, E>,
-    out: &mut TokenStream,
-) -> Result<(), AllocError>
-    ensures ok { OnOk result (trees out.new ≡ trees out.old ++ printing.where_clause A.shown E.values clause.now) }
-    ensures err { OnErr result (Extends (trees out.old) (trees out.new)) }
-{
-    if clause.predicates.is_empty() {
-        return Ok(());
-    }
-    clause.where_token.to_tokens(alloc, out)?;
-    clause.predicates.to_tokens(alloc, out)
-}
-
 impl<A: Attributes, E: Value> ToTokens for BoundLifetimesOf<GenericParamOf<A, E>> {
     ghost print = { types.bound_lifetimes A.shown E.values };
 
     fn append_tokens(&self, alloc: Global, out: &mut TokenStream) -> Result<(), AllocError> {
         print_bound_lifetimes(alloc, self, out)
-    }
-}
-
-impl<A: Attributes, E: Value> ToTokens for PredicateTypeOf<A, E> {
-    ghost print = { printing.predicate_type A.shown E.values };
-
-    fn append_tokens(&self, alloc: Global, out: &mut TokenStream) -> Result<(), AllocError> {
-        print_predicate_type(alloc, self, out)
-    }
-}
-
-impl<A: Attributes, E: Value> ToTokens for WherePredicateOf<A, E> {
-    ghost print = { printing.predicate A.shown E.values };
-
-    fn append_tokens(&self, alloc: Global, out: &mut TokenStream) -> Result<(), AllocError> {
-        match self {
-            WherePredicateOf::Lifetime(predicate) => predicate.append_tokens(alloc, out),
-            WherePredicateOf::Type(predicate) => predicate.append_tokens(alloc, out),
-        }
-    }
-}
-
-impl<A: Attributes, E: Value> ToTokens for WhereClauseOf<A, E> {
-    ghost print = { printing.where_clause A.shown E.values };
-
-    fn append_tokens(&self, alloc: Global, out: &mut TokenStream) -> Result<(), AllocError> {
-        print_where(alloc, self, out)
     }
 }
 
@@ -707,76 +606,5 @@ pub(crate) fn print_name<A, E>(
         GenericParamOf::Lifetime(param) => param.lifetime.to_tokens(alloc, out),
         GenericParamOf::Type(param) => param.ident.to_tokens(alloc, out),
         GenericParamOf::Const(param) => param.ident.to_tokens(alloc, out),
-    }
-}
-
-/// The parameters between `<` and `>`, lifetimes first; nothing without parameters.
-#[tactic(auto, using(token_core::proofs::Puts::puts, crate::proofs::generics_laws::Views::betweens))]
-fn print_between<A: Attributes, E: Value>(
-    alloc: Global,
-    generics: &GenericsOf<A, E>,
-    style: Style,
-    out: &mut TokenStream,
-) -> Result<(), AllocError>
-    ensures ok { OnOk result (trees out.new ≡ trees out.old ++ views.between_as A.shown E.values style generics.now) }
-    ensures err { OnErr result (Extends (trees out.old) (trees out.new)) }
-{
-    if generics.params.is_empty() {
-        return Ok(());
-    }
-    TokensOrDefault(&generics.lt_token).append_tokens(alloc, out)?;
-    print_sorted(alloc, &generics.params, style, out)?;
-    TokensOrDefault(&generics.gt_token).append_tokens(alloc, out)
-}
-
-/// The names after `::`; nothing without parameters.
-#[tactic(auto, using(token_core::proofs::Puts::puts, crate::proofs::generics_laws::Views::after_seps, crate::proofs::generics_laws::Views::showns))]
-fn print_turbofish<A: Attributes, E: Value>(
-    alloc: Global,
-    generics: &GenericsOf<A, E>,
-    out: &mut TokenStream,
-) -> Result<(), AllocError>
-    ensures ok { OnOk result (trees out.new ≡ trees out.old ++ views.turbofish generics.now) }
-    ensures err { OnErr result (Extends (trees out.old) (trees out.new)) }
-{
-    if generics.params.is_empty() {
-        return Ok(());
-    }
-    PathSep::default().to_tokens(alloc, out)?;
-    print_between(alloc, generics, Style::Name, out)
-}
-
-impl<A: Attributes, E: Value> ToTokens for GenericsOf<A, E> {
-    ghost print = { printing.generics A.shown E.values };
-
-    #[tactic(auto, using(crate::proofs::generics_laws::Views::showns))]
-    fn append_tokens(&self, alloc: Global, out: &mut TokenStream) -> Result<(), AllocError> {
-        print_between(alloc, self, Style::Whole, out)
-    }
-}
-
-impl<'a, A: Attributes, E: Value> ToTokens for ImplGenericsOf<'a, A, E> {
-    ghost print = { λ view. printing.generics A.shown E.values (views.stripped view.generics.now) };
-
-    #[tactic(auto, using(crate::proofs::generics_laws::Views::showns))]
-    fn append_tokens(&self, alloc: Global, out: &mut TokenStream) -> Result<(), AllocError> {
-        print_between(alloc, self.generics, Style::NoDefault, out)
-    }
-}
-
-impl<'a, A: Attributes, E: Value> ToTokens for TypeGenericsOf<'a, A, E> {
-    ghost print = { λ view. views.names view.generics.now };
-
-    #[tactic(auto, using(crate::proofs::generics_laws::Views::showns))]
-    fn append_tokens(&self, alloc: Global, out: &mut TokenStream) -> Result<(), AllocError> {
-        print_between(alloc, self.generics, Style::Name, out)
-    }
-}
-
-impl<'a, A: Attributes, E: Value> ToTokens for TurbofishOf<'a, A, E> {
-    ghost print = { λ view. views.turbofish view.generics.now };
-
-    fn append_tokens(&self, alloc: Global, out: &mut TokenStream) -> Result<(), AllocError> {
-        print_turbofish(alloc, self.generics, out)
     }
 }

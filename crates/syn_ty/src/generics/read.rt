@@ -839,7 +839,7 @@ fn binder_from<A: Attributes, E: Value>(
 
 /// A binder where `for` stands.
 #[tactic(auto, using(token_core::proofs::Suffixes::follows, syn_forms::proofs::nested_laws::Ahead::later), unfolding(crate::specs::generics::Reading::optional_binder))]
-pub(crate) fn optional_binder_from<A: Attributes, E: Value>(
+pub fn optional_binder_from<A: Attributes, E: Value>(
     alloc: Global,
     begin: &Cursor<'_>,
     input: &mut ParseStream<'_>,

@@ -3,7 +3,7 @@ use Rattle.std.proofs.lemmas.Grind.{common_steps}
 use Rattle.token_core.proofs.Suffixes.{follows}
 use Rattle.syn_path.proofs.path_laws.Turns.{refused_by}
 use Rattle.syn_ty.specs.ty.Knot as knot
-use Rattle.syn_ty.proofs.generics_laws.Clauses.{signature_refused}
+use Rattle.syn_ty.proofs.generics_laws.Traits.{signature_refused}
 use Rattle.syn_ty.proofs.generics.read.trait_after_from.Goals as goal
 
 pub returns-in_err-path-2 : goal.returns-in_err-path-2

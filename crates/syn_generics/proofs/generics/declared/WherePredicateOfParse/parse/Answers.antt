@@ -1,0 +1,14 @@
+use Rattle.token_core.proofs.Headlines.{heads}
+use Rattle.syn_generics.specs.generics.Promises as promises
+use Rattle.syn_generics.proofs.generics_laws.WholeLaws.{predicate_lawful}
+use Rattle.syn_ty.proofs.ty_laws.WholeTold.{takes}
+use Rattle.syn_ty.proofs.ty_laws.GivenWhole.{given_again, given_meets}
+use Rattle.syn_ty.proofs.ty_laws.Given.{given}
+use Rattle.syn_generics.proofs.generics_laws.AloneTold.{predicate_took}
+use Rattle.syn_generics.proofs.generics.declared.WherePredicateOfParse.parse.Goals as goal
+
+pub returns-clause-promise : goal.returns-clause-promise
+returns-clause-promise g c = heads (promises.predicate g.A.Attributes.reads g.E.Value.reads g.A.Attributes.spells g.E.Value.spells g.A.Attributes.normal g.E.Value.normal g.A.Attributes.shown g.E.Value.values) (predicate_lawful (given g.met.A.Attributes.told g.met.E.Value.consts g.met.E.Value.lengths) (given_meets g.met.A.Attributes.met g.met.E.Value.met g.met.E.Value.lengths) (given_again g.met.A.Attributes.met g.met.E.Value.met g.met.E.Value.lengths g.met.A.Attributes.bare)) _ _ _ c.parse_predicate.ensures.parses.0
+
+pub returns-clause-front : goal.returns-clause-front
+returns-clause-front g c = takes (predicate_took (given g.met.A.Attributes.told g.met.E.Value.consts g.met.E.Value.lengths)) _ _ _ c.parse_predicate.ensures.parses.0

@@ -1,0 +1,15 @@
+pub mod AloneMet
+pub mod AloneTold
+pub mod AlongAloneTold
+pub mod Clauses
+pub mod ClausesAgain
+pub mod ClausesMet
+pub mod ClausesTold
+pub mod GenericsAgain
+pub mod HigherTold
+pub mod Prints
+pub mod Views
+pub mod WholeAgain
+pub mod WholeLaws
+pub mod WholeMet
+pub mod WholeTold

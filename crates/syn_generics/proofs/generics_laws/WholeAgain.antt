@@ -1,0 +1,47 @@
+-- Each grammar of this layer is reprinted: what spells all of a list plainly prints its normal form clearly, which is its own and prints the same.
+use Rattle.std.proofs.Common.{◌≡◌, ℕ, Bool, true, List}
+use Rattle.token_core.specs.Prints as p
+use Rattle.token_core.specs.Prints.{Print}
+use Rattle.token_core.specs.Toks.{Toks, done}
+use Rattle.syn_path.specs.Values.{NormalValues, SpelledValues, Values}
+use Rattle.syn_path.proofs.Words.{Again}
+use Rattle.syn_generics.specs.declared.generics.WhereClauseOf.{WhereClauseOf}
+use Rattle.syn_generics.specs.generics.Clauses.{IsPredicate, IsWhereClause}
+use Rattle.syn_generics.specs.generics.Normal as clauses
+use Rattle.syn_generics.specs.generics.Parameters.{AreGenerics}
+use Rattle.syn_generics.specs.generics.Printing as shown_clauses
+use Rattle.syn_ty.specs.ty.Parts.{plainly, clearly}
+use Rattle.syn_ty.specs.ty.Spelling.{IsOptional}
+use Rattle.syn_ty.proofs.generics_laws.Members.{some}
+use Rattle.syn_generics.proofs.generics_laws.ClausesAgain as wheres
+use Rattle.syn_generics.proofs.generics_laws.ClausesAgain.{ForKept, TypeKept, for_kept, generics_kept}
+use Rattle.syn_generics.proofs.generics_laws.GenericsAgain as generics
+use Rattle.syn_ty.proofs.ty_laws.KnotAgain.{GivenAgain, bounds_of_turn}
+use Rattle.syn_generics.specs.generics.Spelt as by
+use Rattle.syn_ty.proofs.ty_laws.WholeAgain.{Whole, To, all_of, known}
+
+module _ {A E : Type 0} {na : List A → List A} {ne : NormalValues E} {pa : List A → Print} {pe : Values E} {shown : Bool → List A → Toks → Toks → Type 0} {spelt : SpelledValues E} (g : GivenAgain na ne pa pe shown spelt) where
+  -- how the print of a type begins
+  no_for : (k : ℕ) → ForKept pa pe (To g k)
+  no_for k = for_kept pa pe (To g k) (known g k).kept
+
+  no_generics : (k : ℕ) → TypeKept pa pe (To g k)
+  no_generics k = generics_kept pa pe (To g k) (known g k).kept
+
+  pub generics_again : Whole (by.SpellsGenerics shown spelt) (clauses.generics na ne) (shown_clauses.generics pa pe)
+  generics_again = all_of g (clauses.generics na ne) (shown_clauses.generics pa pe) AreGenerics (λ k. generics.generics_again na ne pa pe (To g k) (known g k).again)
+
+  pub predicate_again : Whole (by.SpellsPredicate shown spelt) (clauses.predicate na ne) (shown_clauses.predicate pa pe)
+  predicate_again =
+      all_of g (clauses.predicate na ne) (shown_clauses.predicate pa pe) IsPredicate (λ k. wheres.predicate_again na ne pa pe (To g k) (known g k).again (known g k).supplied (bounds_of_turn na ne pa pe (To g k) (known g k)) (no_for k))
+
+  pub optional_where_clause_again : Whole (by.SpellsOptionalClause shown spelt) (clauses.where_option na ne) (p.optional (shown_clauses.where_clause pa pe))
+  optional_where_clause_again =
+      all_of g (clauses.where_option na ne) (p.optional (shown_clauses.where_clause pa pe)) (λ part how. IsOptional (IsWhereClause part how))
+      (λ k. wheres.optional_where_again na ne pa pe (To g k) (known g k).again (known g k).supplied (bounds_of_turn na ne pa pe (To g k) (known g k)) (no_for k) (known g k).attrs_begin (no_generics k))
+
+  -- one without predicates prints nothing: as a clause of its own that is not spelt
+  pub where_clause_again : (x : WhereClauseOf A E) (l : Toks) → by.SpellsClause shown spelt plainly x l → some x.predicates.0 ≡ true → Again (by.SpellsClause shown spelt clearly) (clauses.where_clause na ne) (shown_clauses.where_clause pa pe) x l
+  where_clause_again x l (k, i) h =
+      let w = wheres.clause_again na ne pa pe (To g k) (known g k).again (known g k).supplied (bounds_of_turn na ne pa pe (To g k) (known g k)) (no_for k) (known g k).attrs_begin (no_generics k) x l done i h in
+      record { spelt = (k, w.spelt done); visible = λ u. w.visible done u tt; stays = w.stays; same = w.same }

@@ -1,0 +1,14 @@
+pub mod Alone
+pub mod Clauses
+pub mod Declared
+pub mod Fronts
+pub mod Kinds
+pub mod Lends
+pub mod Normal
+pub mod Parameters
+pub mod Params
+pub mod Printing
+pub mod Promises
+pub mod Shapes
+pub mod Spelt
+pub mod Views
