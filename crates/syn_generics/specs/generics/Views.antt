@@ -33,4 +33,4 @@ module _ {A E : Type 0} where
 module _ {A E : Type 0} (attrs : List A → Print) (values : Values E) where
   -- lifetimes first, between `<` and `>`; nothing without parameters
   abbrev pub between_as : Style → GenericsOf A E → Print
-  between_as style x = between x.lt_token x.gt_token x.params.0 (sorted is_lifetime (shown style) x.params)
+  between_as style x = between x.lt_token x.gt_token x.params.0 (sorted is_lifetime (shown attrs values style) x.params)
