@@ -43,7 +43,6 @@ use Rattle.syn_ty.proofs.ty_laws.Again.{Again, SuppliedAgain}
 use Rattle.syn_ty.proofs.ty_laws.JoinedAgain.{Then, then_front, made_front, lifetime_front, AreLives, lives_again}
 use Rattle.syn_ty.proofs.ty_laws.ParamsAgain.{BoundsAgain, SomeBounds, some_bounds_again, for_again}
 use Rattle.syn_ty.proofs.ty_laws.Reprint.{mark_front, listed_front}
-use Rattle.syn_ty.proofs.ty_laws.TypesBeginAgain.{type_kept}
 use Rattle.syn_ty.proofs.ty_laws.KeptAgain.{KeptParts, AttrsBegin}
 
 -- ---- what is to be given of how prints begin

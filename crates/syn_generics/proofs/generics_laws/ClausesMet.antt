@@ -79,7 +79,6 @@ use Rattle.syn_ty.proofs.ty_laws.Complete.{later, not_more}
 use Rattle.syn_ty.proofs.ty_laws.LessMet.{same, some, no_no, no_less, less_no, less_less, listed_no, mark_takes, word_takes, lifetime_takes}
 use Rattle.syn_ty.proofs.ty_laws.Met.{Firsts, Fits, Less, NoMore, TypeBegins, BoundBegins, Meets, SuppliedMeets}
 use Rattle.syn_ty.proofs.ty_laws.ParamsMet.{bounds_meet, Over, over_fits, absent_met, after_attrs_met, bounds_no, present_met, brace_over, colon_met, colon_over, colon_seen, colon_takes, comma_over, done_no_mark, done_over, equals_over, life_no_pound, lives_met, none_of_four, mapped_met, no_later, of_either, optional_binder_met, other_char, semi_over, params_met}
-use Rattle.token_core.specs.declared.tree.Delimiter.TheVariants as d
 use Rattle.syn_forms.specs.heads.Reading as heads
 use Rattle.syn_ty.proofs.ty_laws.KnotMet.{below_met}
 

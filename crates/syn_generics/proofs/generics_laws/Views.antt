@@ -7,7 +7,6 @@ use Rattle.token_core.specs.Prints.{Print}
 use Rattle.token_core.specs.Spans.{none}
 use Rattle.syn_ty.specs.ty.Types.{Comma, comma}
 use Rattle.syn_generics.specs.declared.generics.GenericsOf.{GenericsOf}
-use Rattle.syn_ty.specs.declared.generics.GenericParamOf.TheVariants as v
 use Rattle.syn_ty.specs.declared.generics.Style.TheVariants as styles
 use Rattle.syn_ty.specs.generics.Members.{Member, comma_of, lacks, some_left, adds, each, members, members_of, firsts, others, sorted}
 use Rattle.syn_ty.specs.generics.Params.{is_lifetime}

@@ -1,5 +1,5 @@
 -- The reads of the generics of a declaration and of its where clause, over the reads of what they hold.
-use Rattle.std.specs.Prelude.{Bool, true, false, not, ◌&&◌, ◌||◌, if◌then◌else◌, List, Option, Some, None}
+use Rattle.std.specs.Prelude.{Bool, not, ◌&&◌, ◌||◌, if◌then◌else◌, List, Some, None}
 use Rattle.syn_forms.specs.declared.places.BoundPlace.TheVariants.{Parameter}
 use Rattle.syn_forms.specs.declared.places.ParamPlace.TheVariants as p
 use Rattle.syn_forms.specs.heads.Reading.{angled}

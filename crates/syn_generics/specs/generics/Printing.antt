@@ -1,6 +1,5 @@
 -- What generics print.
 use Rattle.std.specs.Prelude.{List, [], ◌∷◌, ◌++◌}
-use Rattle.token_core.specs.declared.word.Word.{Word}
 use Rattle.token_core.specs.Lifetimes as lifetimes
 use Rattle.token_core.specs.Lists.{joined}
 use Rattle.token_core.specs.Loops.{Many}
@@ -12,7 +11,7 @@ use Rattle.syn_generics.specs.declared.generics.WherePredicateOf.{WherePredicate
 use Rattle.syn_generics.specs.declared.generics.WherePredicateOf.TheVariants as w
 use Rattle.syn_generics.specs.declared.generics.PredicateLifetimeOf.{PredicateLifetimeOf}
 use Rattle.syn_generics.specs.declared.generics.PredicateTypeOf.{PredicateTypeOf}
-use Rattle.syn_ty.specs.ty.Printing.{ty, param, bound, bounds_joined}
+use Rattle.syn_ty.specs.ty.Printing.{ty, param, bounds_joined}
 use Rattle.syn_ty.specs.generics.Members.{sorted}
 use Rattle.syn_ty.specs.generics.Params.{Comma, is_lifetime}
 use Rattle.syn_path.specs.Values.{Values}

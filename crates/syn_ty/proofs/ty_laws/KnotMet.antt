@@ -3,7 +3,7 @@ use Rattle.std.proofs.Common.{◌≡◌, ◌⊎◌, ℕ, zero, suc, ◌≤◌, B
 use Rattle.token_core.specs.declared.lifetime.Lifetime.{Lifetime}
 use Rattle.token_core.specs.declared.span.Span.{Span}
 use Rattle.token_core.specs.Lifetimes.{sees_lifetime}
-use Rattle.token_core.specs.Reads.{Reader, meets}
+use Rattle.token_core.specs.Reads.{Reader}
 use Rattle.token_core.specs.Spellings.{IsLifetime}
 use Rattle.token_core.specs.Stream.{Scope, Stream}
 use Rattle.token_core.specs.Tokens as token
