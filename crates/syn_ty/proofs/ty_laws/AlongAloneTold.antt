@@ -1,4 +1,4 @@
--- Single forms of types and generics, what they hold read by the knot: where one is read, the stream stands further on.
+-- Single forms of paths, bounds, parameters and types, what they hold read by the knot: where one is read, the stream stands further on.
 use Rattle.std.proofs.Common.{Bool, List}
 use Rattle.syn_forms.specs.declared.places.BoundPlace.TheVariants.{Object}
 use Rattle.syn_forms.specs.declared.places.TypePlace.{TypePlace}
