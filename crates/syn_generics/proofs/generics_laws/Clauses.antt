@@ -1,4 +1,4 @@
--- What is refused after parts that were read: a predicate's bounds.
+-- The bounds of a predicate that are refused after parts that were read.
 use Rattle.std.proofs.Common.{◌≡◌, List, Option, Ok, Err, ap}
 use Rattle.syn_generics.specs.generics.Declared.{predicate_bounds, type_after}
 use Rattle.syn_generics.specs.generics.Params.{predicate_type_of}

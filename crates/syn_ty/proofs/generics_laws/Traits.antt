@@ -1,4 +1,4 @@
--- Trait bounds by their parts, and what is refused after parts that were read: the signature.
+-- Trait bounds by their parts, and the signature that is refused after them.
 use Rattle.std.proofs.Common.{◌≡◌, Option, Some, None, refl, Ok, Err, ap}
 use Rattle.token_core.specs.Reads.{pure, and_then}
 use Rattle.token_core.specs.Stream.{Stream}
