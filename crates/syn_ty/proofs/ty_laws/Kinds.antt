@@ -2,7 +2,6 @@
 use Rattle.std.proofs.Common.{◌≡◌, ◌==◌, ◌&&◌, not, if◌then◌else◌, Bool, true, false, List, [], ◌∷◌, ◌++◌, Option, Some, None, Ok, is_some, refl, sym, ◌∙◌, ap, length, arith}
 use Rattle.std.specs.Prelude.{slice_get}
 use Rattle.syn_forms.specs.lists.Reading.{plus_follows}
-use Rattle.syn_forms.specs.verbatim.Reading.{position}
 use Rattle.syn_path.specs.declared.mac.Macro.{Macro}
 use Rattle.syn_path.specs.declared.path.PathOf.{PathOf}
 use Rattle.syn_path.specs.declared.path.QSelfOf.{QSelfOf}
@@ -37,9 +36,7 @@ use Rattle.token_core.specs.declared.token.Paren.{Paren}
 use Rattle.token_core.specs.declared.tree.TokenStream.{TokenStream}
 use Rattle.token_core.specs.Lists.{put_last}
 use Rattle.token_core.specs.Loops.{Many}
-use Rattle.token_core.proofs.Places.{reached_follows, reached_trans}
-use Rattle.token_core.specs.Positions.{IsReached, Item, there}
-use Rattle.token_core.specs.Reads.{Follows, pure}
+use Rattle.token_core.specs.Reads.{pure}
 use Rattle.token_core.specs.Stream.{Stream}
 use Rattle.token_core.specs.Tokens as token
 
@@ -229,11 +226,3 @@ no_plus r plus p x None s h = refl
 no_plus r plus p x (Some y) s h = ap (λ (goes : Bool). (if goes then each_object_from r y else pure (t.Paren (paren_of p x))) s) h
 
 pub ruleset parens = (no_plus)
-
--- ---- positions
-
--- what is reached from a position is reached from it further on
-pub reached_later : (from : List Item) (s t : Stream) → IsReached (position s) from → Follows s t → IsReached (position t) from
-reached_later from s t r f = reached_trans (position t) (position s) from (reached_follows s t f) r
-
-pub ruleset later = (reached_later, reached_follows, there)

@@ -102,7 +102,7 @@ impl<
     }
 
     /// `unsafe<'a> T`: no case holds it, so that it is held as it was written, from a position on.
-    #[tactic(auto, using(token_core::proofs::Suffixes::follows, syn_forms::proofs::nested_laws::Ahead::later, crate::proofs::ty_laws::Kinds::later), unfolding(crate::specs::ty::Reading::unsafe_binder))]
+    #[tactic(auto, using(token_core::proofs::Suffixes::follows, syn_forms::proofs::nested_laws::Ahead::later, syn_forms::proofs::verbatim_laws::Reached::later), unfolding(crate::specs::ty::Reading::unsafe_binder))]
     pub(crate) fn unsafe_binder(
         &self,
         input: &mut ParseStream<'_>,
@@ -216,7 +216,7 @@ impl<
         + Copy,
 > Grammar<'a, A, E, F, G, H, I, J> {
     /// A type after its binder: a pointer to a function, or a trait object that begins with a path.
-    #[tactic(auto, using(token_core::proofs::Suffixes::follows, syn_forms::proofs::nested_laws::Ahead::later, crate::proofs::ty_laws::Kinds::later), unfolding(crate::specs::ty::Reading::bound_type))]
+    #[tactic(auto, using(token_core::proofs::Suffixes::follows, syn_forms::proofs::nested_laws::Ahead::later, syn_forms::proofs::verbatim_laws::Reached::later), unfolding(crate::specs::ty::Reading::bound_type))]
     pub(crate) fn bound_type(
         &self,
         input: &mut ParseStream<'_>,

@@ -165,7 +165,7 @@ impl<
     }
 
     /// `dyn A + 'a`. A `*` after `dyn` has no case of its own: such a type is held as it was written.
-    #[tactic(auto, using(token_core::proofs::Suffixes::follows, syn_forms::proofs::nested_laws::Ahead::later, crate::proofs::ty_laws::Kinds::later), unfolding(crate::specs::ty::Reading::dyn_type))]
+    #[tactic(auto, using(token_core::proofs::Suffixes::follows, syn_forms::proofs::nested_laws::Ahead::later, syn_forms::proofs::verbatim_laws::Reached::later), unfolding(crate::specs::ty::Reading::dyn_type))]
     pub(crate) fn dyn_type(
         &self,
         input: &mut ParseStream<'_>,

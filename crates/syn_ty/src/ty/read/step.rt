@@ -182,7 +182,7 @@ impl<
     ///
     /// In an invisible group it is the type that the group holds, with what goes on after the group. After a binder it is a pointer to
     /// a function or a trait object; else it is what its first token says. It is refused where none begins, and as its parts are.
-    #[tactic(auto, using(token_core::proofs::Suffixes::follows, syn_forms::proofs::nested_laws::Ahead::later, crate::proofs::ty_laws::Kinds::later), unfolding(crate::specs::ty::Reading::type_step))]
+    #[tactic(auto, using(token_core::proofs::Suffixes::follows, syn_forms::proofs::nested_laws::Ahead::later, syn_forms::proofs::verbatim_laws::Reached::later), unfolding(crate::specs::ty::Reading::type_step))]
     pub fn type_step(
         &self,
         input: &mut ParseStream<'_>,
