@@ -1,6 +1,5 @@
 -- What a read took of a list without invisible groups.
-use Rattle.std.specs.Prelude.{◌≡◌, false, Option, Some, None, Result, Ok, Err}
-use Rattle.token_core.specs.Headline.{Grammar}
+use Rattle.std.specs.Prelude.{◌≡◌, None, Result, Ok, Err}
 use Rattle.token_core.specs.Reads.{Follows, Reader}
 use Rattle.token_core.specs.Rebuilt.{Visible}
 use Rattle.token_core.specs.Refusal.{Refusal}
@@ -16,11 +15,6 @@ pub record TookOne {A : Type 0} (Is : A → Toks → Toks → Type 0) (s t : Str
 -- a read that answers stands further on
 abbrev pub Along : {A : Type 0} → Reader A → Type 0
 Along {A} p = (s t : Stream) (x : A) → p s ≡ Ok (x, t) → Follows s t
-
--- what soundness says of a whole read: where a list without invisible groups is answered, the answer is admitted and spells the list
-abbrev pub Sounds : {A : Type 0} → Grammar A → Toks → Option A → Type 0
-Sounds G l (Some a) = Visible l → G.spells false a l
-Sounds G l None = Unit {0}
 
 -- On the front of a list without invisible groups, where no finished group left a tree over, the read took what its answer spells.
 abbrev pub Takes : {A : Type 0} → (A → Toks → Toks → Type 0) → Stream → Result A Refusal → Stream → Type 0

@@ -22,7 +22,6 @@ module _ {A E : Type 0} (read_attrs : Reader (List A)) (reads : ReadValues E) (s
   abbrev pub generics : Grammar (GenericsOf A E)
   generics = promise (spelt.SpellsGenerics spelt_attrs spells) (normal_clauses.generics normal_attrs normals) (shown_clauses.generics shown_attrs prints) (clauses.generics read_attrs reads)
 
-  -- a clause without predicates prints nothing, and so is read again as an optional one
   -- A clause without predicates prints nothing, and no clause spells that: its print is not promised to be read again.
   abbrev pub where_clause : Grammar (WhereClauseOf A E)
   where_clause = record {

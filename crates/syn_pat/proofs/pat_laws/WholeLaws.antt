@@ -13,13 +13,8 @@ use Rattle.syn_path.specs.declared.supplied.Place.TheVariants.{Block, Guard}
 use Rattle.syn_path.specs.Supplied.{Reprints, SameOutcome, UsesUp}
 use Rattle.syn_attr.specs.attr.Consts.{normal_values_of, values_of}
 use Rattle.syn_attr.specs.attr.Reading.{outer}
-use Rattle.syn_ty.specs.ty.Parts.{Manner, loosely, clearly}
-use Rattle.syn_ty.specs.ty.Promises.{promise}
 use Rattle.syn_ty.proofs.ty_laws.KnotAgain.{GivenAgain}
 use Rattle.syn_ty.proofs.ty_laws.KnotMet.{GivenMeets}
-use Rattle.syn_ty.proofs.ty_laws.WholeAgain as types_again
-use Rattle.syn_ty.proofs.ty_laws.WholeMet as types_met
-use Rattle.syn_ty.proofs.ty_laws.WholeTold as types_told
 use Rattle.syn_pat.specs.declared.place.PatPlace.{PatPlace}
 use Rattle.syn_pat.specs.pat.Normal as normal
 use Rattle.syn_pat.specs.pat.Printing as printing
@@ -27,21 +22,11 @@ use Rattle.syn_pat.specs.pat.Promises as promises
 use Rattle.syn_pat.specs.pat.Reading.{values}
 use Rattle.syn_pat.specs.pat.Spelling.{outer_spelt, values_spelt}
 use Rattle.syn_pat.specs.pat.Spelt.{SpellsGuarded, SpellsPat, SpellsPatType}
+use Rattle.syn_ty.proofs.ty_laws.WholeLaws.{lawful}
 use Rattle.syn_pat.proofs.pat_laws.PartsAgain.{SuppliedAgain}
 use Rattle.syn_pat.proofs.pat_laws.WholeAgain as again
 use Rattle.syn_pat.proofs.pat_laws.WholeMet as met
 use Rattle.syn_pat.proofs.pat_laws.WholeTold as told
-
--- a grammar that is sound, complete and reprinted
-lawful : {F : Type 0} (Is : Manner → F → Toks → Type 0) {n : F → F} {f : F → Print} {reader : Reader F} → types_told.Whole reader (Is loosely) → types_met.Whole reader (Is clearly) → types_again.Whole Is n f → Lawful (promise Is n f reader)
-lawful Is s c r = record {
-  sound = s;
-  complete = c;
-  spells = λ a l i v q. (r a q.0 q.2).spelt;
-  visible = λ a l i v q. (r a q.0 q.2).visible q.1;
-  stays = λ a l i q. (r a q.0 q.2).stays;
-  same = λ a l i q. (r a q.0 q.2).same;
-}
 
 module _ {X : Type 0} (reads : Place → Reader X) (spells : Place → X → Toks → Type 0) (normals : Place → X → X) (prints : Place → X → Print)
     (steady : (p : Place) (s t : Stream) → s.rest ≡ t.rest → SameOutcome (reads p s) (reads p t))

@@ -17,7 +17,6 @@ use Rattle.token_core.specs.Trees.{punct}
 use Rattle.syn_path.specs.declared.path.PathStyle.TheVariants.{AsWritten}
 use Rattle.syn_path.specs.path.Paths.{Sep}
 use Rattle.syn_forms.specs.declared.places.BoundPlace.{BoundPlace}
-use Rattle.syn_forms.specs.declared.places.ParamPlace.TheVariants.{Binder}
 use Rattle.syn_forms.specs.declared.places.TypePlace.{TypePlace}
 use Rattle.syn_forms.specs.declared.places.TypePlace.TheVariants.{NoPlus}
 use Rattle.syn_forms.specs.lists.Reading.{sees_bound}
@@ -36,6 +35,7 @@ use Rattle.syn_ty.specs.ty.Spelling.{IsOptional, absent, present}
 use Rattle.syn_ty.specs.ty.Trees.{BoundLifetimes, Parenthesized, Path, PathSegment, ReturnType, TraitBound, TypeParamBound}
 use Rattle.syn_ty.proofs.ty_laws.FirstPathsMet.{Starts, path_less, segment_less, word_bound, sep_bound}
 use Rattle.syn_ty.proofs.ty_laws.Kinds as kinds
+use Rattle.syn_ty.proofs.ty_laws.NamedMet.{for_less}
 use Rattle.syn_ty.proofs.ty_laws.LessMet.{same, some, no_no, no_less, less_no, less_less, word_less, mark_less, group_less, mark_no, word_takes, lifetime_takes, optional_no, listed_no}
 use Rattle.syn_ty.proofs.ty_laws.Met.{BoundBegins, Less, NoMore}
 
@@ -144,10 +144,6 @@ module _ {A E : Type 0} {part : Manner → Parts A E} (s : Starts part) where
 
   -- ---- binders
 
-  pub binder_less : (x : BoundLifetimes A E) (l k : Toks) → IsFor part clearly x l k → Less l k
-  binder_less x l k (a_binder {f = f} {o = o} {xs = xs} {cs = cs} {c = g} {m = m} {n = n} {k = j} i d v e) =
-      less_no (word_takes f l m i) (no_no (mark_no o m n d) (no_no (listed_no (λ b y t u w. (s.firsts.param Binder y t u w).1) mark_no true xs cs n j v) (mark_no g j k e)))
-
   binder_starts : (place : BoundPlace) (x : BoundLifetimes A E) (l k : Toks) → IsFor part clearly x l k → BoundStarts place l
   binder_starts place x l k (a_binder is_word d v e) = at_word
 
@@ -155,7 +151,7 @@ module _ {A E : Type 0} {part : Manner → Parts A E} (s : Starts part) where
 
   trait_starts : (place : BoundPlace) (e : End) (o : Option (BoundLifetimes A E)) (q : Option token.Question) (p : Path A E) (l k : Toks) → IsTrait part clearly e o q p l k → BoundStarts place l × Less l k
   trait_starts place e o q p l k (a_trait i) = (bound_path_starts place e p l k i, bound_path_less e p l k i)
-  trait_starts place e o q p l k (a_trait_for {x = x} {m = m} b i) = (binder_starts place x l m b, less_less (binder_less x l m b) (bound_path_less e p m k i))
+  trait_starts place e o q p l k (a_trait_for {x = x} {m = m} b i) = (binder_starts place x l m b, less_less (for_less part s.firsts x l m b) (bound_path_less e p m k i))
   trait_starts place e o q p l k (a_trait_asked {m = m} (is_mark (last_char {a = a} {j = j} y)) i) = (at_question, less_less (mark_less (punct 63 j a) m) (bound_path_less e p m k i))
 
   trait_bound_starts : (place : BoundPlace) (e : End) (x : TraitBound A E) (l k : Toks) → IsTraitBound part clearly e x l k → BoundStarts place l × Less l k
@@ -170,7 +166,7 @@ module _ {A E : Type 0} {part : Manner → Parts A E} (s : Starts part) where
 
   const_bound_less : (e : End) (l k : Toks) → IsConstBound part clearly e l k → Less l k
   const_bound_less e l k (a_const_bound {p = p} {m = m} c i) = less_less (const_form_less l m c) (bound_path_less e p m k i)
-  const_bound_less e l k (a_const_bound_for {x = x} {p = p} {m = m} {n = n} b c i) = less_less (binder_less x l m b) (less_less (const_form_less m n c) (bound_path_less e p n k i))
+  const_bound_less e l k (a_const_bound_for {x = x} {p = p} {m = m} {n = n} b c i) = less_less (for_less part s.firsts x l m b) (less_less (const_form_less m n c) (bound_path_less e p n k i))
   const_bound_less e l k (a_const_bound_asked {q = q} {p = p} {m = m} {n = n} c j i) = less_less (const_form_less l m c) (no_less (mark_no q m n j) (bound_path_less e p n k i))
 
   verbatim_starts : (place : BoundPlace) → allows_const place ≡ true → (e : End) (l k : Toks) → IsVerbatimBound part clearly e l k → BoundStarts place l × Less l k

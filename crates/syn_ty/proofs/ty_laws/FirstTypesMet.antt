@@ -42,7 +42,8 @@ use Rattle.syn_ty.specs.ty.Reading.{is_trait, last_place}
 use Rattle.syn_ty.specs.ty.Spelling.{IsOptional, absent, present}
 use Rattle.syn_ty.specs.ty.Trees.{BoundLifetimes, Path, TypeFnPtr, TypeImplTrait, TypeParamBound, TypePtr, TypeReference, TypeTraitObject}
 use Rattle.syn_ty.specs.ty.Types.{Underscore}
-use Rattle.syn_ty.proofs.ty_laws.FirstBoundsMet.{binder_less, bounds_no, bounds_start, return_no}
+use Rattle.syn_ty.proofs.ty_laws.FirstBoundsMet.{bounds_no, bounds_start, return_no}
+use Rattle.syn_ty.proofs.ty_laws.NamedMet.{for_less}
 use Rattle.syn_ty.proofs.ty_laws.FirstPathsMet.{NoColon, Starts, lt_no_colon, path_less, path_starts, path_type, segment_no_lit, segment_no_mut, starts_on, unnamed, unseen_colon, word_starts}
 use Rattle.syn_ty.proofs.ty_laws.LessMet.{same, some, no_no, no_less, less_no, less_less, word_less, mark_less, group_less, mark_no, word_takes, lifetime_takes, mutability_takes, str_takes, optional_no, listed_no}
 use Rattle.syn_ty.proofs.ty_laws.Met.{BoundBegins, Less, NoMore, TypeBegins}
@@ -146,7 +147,7 @@ module _ {A E : Type 0} {part : Manner → Parts A E} (s : Starts part) where
   optional_binder_keyed o l k (present {a = x} i) h = binder_keyed x l k i
 
   optional_binder_no : (o : Option (BoundLifetimes A E)) (l k : Toks) → IsOptional (IsFor part clearly) o l k → NoMore l k
-  optional_binder_no = optional_no (λ x l k i. some (binder_less s x l k i))
+  optional_binder_no = optional_no (λ x l k i. some (for_less part s.firsts x l k i))
 
   -- ---- pointers to functions
 
@@ -183,7 +184,7 @@ module _ {A E : Type 0} {part : Manner → Parts A E} (s : Starts part) where
 
   first_starts : (o : Option (BoundLifetimes A E)) (p : Path A E) (l m k : Toks) → IsFirst part clearly o p l m → NoColon m → TypeBegins l k × Less l m
   first_starts o p l m k (a_first i t) n = (path_type l k (starts_on l m k (path_starts s AsWritten p l m i) n), path_less s AsWritten p l m i)
-  first_starts o p l m k (a_first_for {x = x} {m = h} b i t u) n = (binder_starts x l h k b, less_less (binder_less s x l h b) (path_less s AsWritten p h m i))
+  first_starts o p l m k (a_first_for {x = x} {m = h} b i t u) n = (binder_starts x l h k b, less_less (for_less part s.firsts x l h b) (path_less s AsWritten p h m i))
 
   further_no : (e : End) (xs : List (TypeParamBound A E)) (ps : List token.Plus) (l k : Toks) → AreFurther part clearly e xs ps l k → NoMore l k
   further_no e xs ps l k none_further = same
@@ -198,7 +199,7 @@ module _ {A E : Type 0} {part : Manner → Parts A E} (s : Starts part) where
   lifetime_object_starts e xs ps l k h (bound_and_plus {e = d} {x = x} {p = p} {m = m} {k = n} i o j t) g = let y = s.life Object d x l m i h in lifetime_starts y.1 p l m n k y.2 j
 
   pub bare_starts : (place : TypePlace) (e : End) (v : Many (TypeParamBound A E) token.Plus) (l k : Toks) → AreBareBounds part clearly place e v l k → TypeBegins l k × Less l k
-  bare_starts place e v l k (path_alone (a_first_for {x = x} {p = p} {m = h} b i t u)) = (binder_starts x l h k b, less_less (binder_less s x l h b) (path_less s AsWritten p h k i))
+  bare_starts place e v l k (path_alone (a_first_for {x = x} {p = p} {m = h} b i t u)) = (binder_starts x l h k b, less_less (for_less part s.firsts x l h b) (path_less s AsWritten p h k i))
   bare_starts place e v l k (path_and_plus {o = o} {p = p} {c = c} {xs = xs} {ps = ps} {m = m} {n = n} h i j t) =
       let y = first_starts o p l m k i (plus_apart c m n j) in
       (y.0, less_no y.1 (no_no (mark_no c m n j) (bounds_no s false e xs ps n k t)))

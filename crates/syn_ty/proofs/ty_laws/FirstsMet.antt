@@ -37,7 +37,8 @@ use Rattle.syn_ty.specs.ty.Parts.{Manner, clearly, End, Parts}
 use Rattle.syn_ty.specs.ty.Spelling.{Relation, an_infer, a_never}
 use Rattle.syn_ty.specs.ty.Spelt.{turn, spelt_to}
 use Rattle.syn_ty.specs.ty.Trees.{AngleBracketed, ConstParam, GenericArgument, GenericParam, PathArguments, TypeParam, TypeParamBound, TypeTree}
-use Rattle.syn_ty.proofs.ty_laws.FirstBoundsMet.{binder_less, bound_life, bound_starts, bounds_no}
+use Rattle.syn_ty.proofs.ty_laws.FirstBoundsMet.{bound_life, bound_starts, bounds_no}
+use Rattle.syn_ty.proofs.ty_laws.NamedMet.{for_less}
 use Rattle.syn_ty.proofs.ty_laws.FirstPathsMet.{PartBegins, PathStarts, by_word, by_sep, Starts, Worded, worded, angle_starts, any_path_starts, mark_other, mark_there, path_type, starts_on}
 use Rattle.syn_ty.proofs.ty_laws.FirstTypesMet.{bang_starts, bare_starts, binder_starts, borrow_starts, dyn_starts, fn_starts, group_starts, impl_starts, infer_starts, pointer_starts, verbatim_starts}
 use Rattle.syn_ty.proofs.ty_laws.LessMet.{same, some, no_no, no_less, less_no, less_less, word_less, mark_less, group_less, mark_no, word_takes, lifetime_takes, optional_no, listed_no, call_less}
@@ -100,7 +101,7 @@ module _ {A E : Type 0} {part : Manner → Parts A E} (s : Starts part) where
   pub type_starts : (p : TypePlace) (e : End) (x : TypeTree A E) (l k : Toks) → IsType part clearly p e x l k → TypeBegins l k × Less l k
   type_starts p e x l k (a_path_type {o = o} {p = q} i) = let h = any_path_starts s AsWritten o q l k i.0 in (path_type l k h.0, h.1)
   type_starts p e x l k (a_macro {x = y} i) = (call_starts y l k i.0, call_less true is_segment_word y l k i.0)
-  type_starts p e x l k (a_bound_macro {b = b} {x = y} {m = m} i j h) = (binder_starts s b l m k i, less_less (binder_less s b l m i) (call_less true is_segment_word y m k j.0))
+  type_starts p e x l k (a_bound_macro {b = b} {x = y} {m = m} i j h) = (binder_starts s b l m k i, less_less (for_less part s.firsts b l m i) (call_less true is_segment_word y m k j.0))
   type_starts p e x l k (an_object_with_dyn {x = y} i) = dyn_starts s p e y l k i
   type_starts p e x l k (an_object_without_dyn {w = v} i) = bare_starts s p e v l k i
   type_starts p e x l k (an_impl_type {x = y} i) = impl_starts s p e y l k i

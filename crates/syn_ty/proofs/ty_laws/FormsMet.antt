@@ -10,7 +10,7 @@ use Rattle.token_core.specs.Groups as groups
 use Rattle.token_core.specs.Lifetimes.{sees_lifetime}
 use Rattle.token_core.specs.Listed.{AreListed, Anywhere}
 use Rattle.token_core.specs.Loops.{terminated}
-use Rattle.token_core.specs.Reads.{Outcome, Reader, any_text, is_done, optional, sees_group, sees_mark, sees_word}
+use Rattle.token_core.specs.Reads.{Outcome, Reader, is_done, optional, sees_group, sees_mark, sees_word}
 use Rattle.token_core.specs.Spans.{none}
 use Rattle.token_core.specs.Stream.{Scope}
 use Rattle.token_core.specs.Spellings.{IsMark, is_mark, last_char, IsWord, is_word, IsLifetime, is_lifetime}
@@ -45,7 +45,8 @@ use Rattle.syn_ty.specs.ty.Spelling.{Relation, IsOptional, absent, present, a_pa
 use Rattle.syn_ty.specs.ty.Trees.{TypeTree, TypeArray, TypeParen, TypePtr, TypeReference, TypeSlice, TypeTuple}
 use Rattle.syn_ty.specs.ty.Types.{And, Comma, Mut, Semi, reference_of}
 use Rattle.syn_ty.proofs.ty_laws.Complete.{array_complete, later, not_more, paren_complete, ptr_complete, slice_complete}
-use Rattle.syn_ty.proofs.ty_laws.Met.{Fits, Less, Meets, Stops, SuppliedMeets, TypeBegins}
+use Rattle.syn_ty.proofs.ty_laws.ParamsMet.{Over, done_over, over_fits}
+use Rattle.syn_ty.proofs.ty_laws.Met.{Fits, Less, Meets, SuppliedMeets, TypeBegins}
 
 -- ---- a token that may be there
 
@@ -60,24 +61,11 @@ module _ {B : Type 0} (Is : Relation B) (sees : Toks → Bool) (p : Reader B) (s
 
 -- ---- where everything ends
 
--- nothing goes on there, however what stands before ends
-pub record Ended (k : Toks) : Type 0 where
-  pub stops : Stops k
-  pub no_plus : token.sees_plus k ≡ false
-  pub no_word : sees_word any_text k ≡ false
-
-pub ended_fits : (d : End) (k : Toks) → Ended k → Fits d k
-ended_fits d k o = record { stops = o.stops; no_plus = λ p. o.no_plus; no_word = λ p. o.no_word }
-
-pub done_ended : Ended done
-unfolding sees_lifetime sees_group sees_word sees_mark sees_call
-done_ended = record { stops = record { no_sep = refl; no_angle = refl; no_call = refl; no_arrow = refl; no_question = refl; no_lifetime = refl; no_paren = refl; no_bracket = refl; no_pound = refl }; no_plus = refl; no_word = refl }
-
-pub comma_ended : (c : Comma) (l k : Toks) → IsMark true c l k → Ended l
+pub comma_ended : (c : Comma) (l k : Toks) → IsMark true c l k → Over l
 unfolding sees_lifetime sees_group sees_word sees_mark sees_call
 comma_ended c l k (is_mark (last_char x)) = record { stops = record { no_sep = refl; no_angle = refl; no_call = refl; no_arrow = refl; no_question = refl; no_lifetime = refl; no_paren = refl; no_bracket = refl; no_pound = refl }; no_plus = refl; no_word = refl }
 
-pub semi_ended : (q : Semi) (l k : Toks) → IsMark true q l k → Ended l
+pub semi_ended : (q : Semi) (l k : Toks) → IsMark true q l k → Over l
 unfolding sees_lifetime sees_group sees_word sees_mark sees_call
 semi_ended q l k (is_mark (last_char x)) = record { stops = record { no_sep = refl; no_angle = refl; no_call = refl; no_arrow = refl; no_question = refl; no_lifetime = refl; no_paren = refl; no_bracket = refl; no_pound = refl }; no_plus = refl; no_word = refl }
 
@@ -115,7 +103,7 @@ brackets_met : {B : Type 0} (p : Reader B) (x : B) (s : DelimSpan) (c k : Toks) 
     in_brackets p (at (group Bracket s c k) f e sc) ≡ Ok ((groups.bracket s, x), at k f s.closing sc)
 brackets_met p x s c k f e sc w = link _ (reads_inside Bracket groups.bracket_name p x s c k w.0 f e sc w.1 (uses_none (content Bracket s c k f e sc) w.0 refl w.2)) refl
 
-done_there : is_done done ≡ true
+pub done_there : is_done done ≡ true
 unfolding is_done
 done_there = refl
 
@@ -175,7 +163,7 @@ module _ {A E : Type 0} (r : Readers A E) (part : Manner → Parts A E) (limit :
   -- ---- one type in a group, however it ends
 
   nothing_follows : (d : End) (p : TypePlace) → Follows d p done
-  nothing_follows d p = (ended_fits d done done_ended, λ q. done_ended.no_plus)
+  nothing_follows d p = (over_fits d done (done_over done done_there), λ q. (done_over done done_there).no_plus)
 
   pub enclosed_met : (x : TypeParen A E) (l k : Toks) (f : Option Span) (e : Span) (sc : Scope) → ahead (at l f e sc) ≤ limit → IsEnclosed part clearly NoPlus x l k → Reads_to (reading.paren r) x l k f e sc
   enclosed_met x l k f e sc h (enclosed {e = d} i) = paren_complete r (Ending d) (Follows d) limit (ending_met d) (nothing_follows d) x l k f e sc h (a_paren i)
@@ -186,8 +174,8 @@ module _ {A E : Type 0} (r : Readers A E) (part : Manner → Parts A E) (limit :
   -- ---- tuples
 
   -- an element, however it ends, before the end or a comma
-  pub element_met : (x : TypeTree A E) (l k : Toks) (f : Option Span) (e : Span) (sc : Scope) → ahead (at l f e sc) < limit → IsElement part clearly x l k → Ended k → Reads_to (r (a_type Plus)) x l k f e sc
-  element_met x l k f e sc h (an_element {e = d} i) o = m.ty Plus d x l k f e sc h i (ended_fits d k o) (λ q. o.no_plus)
+  pub element_met : (x : TypeTree A E) (l k : Toks) (f : Option Span) (e : Span) (sc : Scope) → ahead (at l f e sc) < limit → IsElement part clearly x l k → Over k → Reads_to (r (a_type Plus)) x l k f e sc
+  element_met x l k f e sc h (an_element {e = d} i) o = m.ty Plus d x l k f e sc h i (over_fits d k o) (λ q. o.no_plus)
 
   pub element_begins : (x : TypeTree A E) (l k : Toks) → IsElement part clearly x l k → TypeBegins l k × Less l k
   element_begins x l k (an_element {e = d} i) = m.firsts.ty Plus d x l k i
@@ -195,7 +183,7 @@ module _ {A E : Type 0} (r : Readers A E) (part : Manner → Parts A E) (limit :
   rest_met : (xs : List (TypeTree A E)) (cs : List Comma) (l : Toks) (f : Option Span) (e : Span) (sc : Scope) → ahead (at l f e sc) < limit → AreListed (λ (_ : Bool). IsElement part clearly) (IsMark true) Anywhere false xs cs l done →
       Reads_to (terminated is_done (r (a_type Plus)) tokens.comma) (xs, cs) l done f e sc
   rest_met xs cs l f e sc h j =
-      listed_here (λ (_ : Bool). is_done) (λ (_ : Bool). r (a_type Plus)) (λ k. not (is_done k)) tokens.comma (λ (_ : Bool). IsElement part clearly) (IsMark true) Anywhere Ended (λ k. ahead (at k None none sc) < limit) sc
+      listed_here (λ (_ : Bool). is_done) (λ (_ : Bool). r (a_type Plus)) (λ k. not (is_done k)) tokens.comma (λ (_ : Bool). IsElement part clearly) (IsMark true) Anywhere Over (λ k. ahead (at k None none sc) < limit) sc
       (λ b x k n u i o g a. element_met x k n g a sc u i o)
       (λ c k n i g a. mark_complete true {n = 4} {k = 1} refl (omega arith) c k n g a sc i)
       (λ c k n i. (comma_ended c k n i, ap not (comma_there c k n i)))
@@ -204,7 +192,7 @@ module _ {A E : Type 0} (r : Readers A E) (part : Manner → Parts A E) (limit :
       (λ c k n i. mark_size true {n = 4} {k = 1} c k n i)
       (λ b x c k n o i g u. let less = (element_begins x k n i).1.lighter in let le = comma_light c n o g in not_more k o None None none none sc limit (omega (arith, less, le)) u)
       true xs cs l done h (any_first (IsElement part clearly) (IsMark true) false true xs cs l done j)
-      (record { follows = done_ended; over = ap not done_there; stops_there = λ b may. done_there }) f e
+      (record { follows = done_over done done_there; over = ap not done_there; stops_there = λ b may. done_there }) f e
 
   -- a comma after the first element, and others
   pub more_met : (x : TypeTree A E) (c : Comma) (xs : List (TypeTree A E)) (cs : List Comma) (l k : Toks) (f : Option Span) (e : Span) (sc : Scope) → ahead (at l f e sc) < limit → IsMark true c l k →
@@ -241,12 +229,12 @@ module _ {A E : Type 0} (r : Readers A E) (part : Manner → Parts A E) (limit :
   module _ (attrs : Reader (List A)) (values : ReadValues E) (given : SuppliedMeets attrs values part) where
     pub counted_met : (x : TypeArray A E) (l k : Toks) (f : Option Span) (e : Span) (sc : Scope) → ahead (at l f e sc) ≤ limit → IsCounted part clearly x l k → Reads_to (reading.array values r) x l k f e sc
     counted_met x l k f e sc h (counted {e = d} i j g) =
-        array_complete r (Ending d) (Follows d) limit (ending_met d) values (part clearly).len given.len (λ q n c w. let o = semi_ended q n c w in (ended_fits d n o, λ z. o.no_plus)) x l k f e sc h (an_array i j g)
+        array_complete r (Ending d) (Follows d) limit (ending_met d) values (part clearly).len given.len (λ q n c w. let o = semi_ended q n c w in (over_fits d n o, λ z. o.no_plus)) x l k f e sc h (an_array i j g)
 
     one_content : (d : End) (x : TypeTree A E) (c : Toks) (f : Option Span) (e : Span) (sc : Scope) → ahead (at c f e sc) < limit → (part clearly).ty Plus d x c done → Uses (bracket_content values.len (r (a_type Plus))) (Element x) (at c f e sc)
     unfolding bracket_content
     one_content d x c f e sc h i =
-        let w = m.ty Plus d x c done f e sc h i (ended_fits d done done_ended) (λ q. done_ended.no_plus) in
+        let w = m.ty Plus d x c done f e sc h i (over_fits d done (done_over done done_there)) (λ q. (done_over done done_there).no_plus) in
         (at done f w.last sc, link _ w.reads (chosen (token.sees_semi done) false _ _ (at done f w.last sc) _ done_no_semi refl), record { ends = done_there; left = refl })
 
     counted_content : (d : End) (x : TypeTree A E) (q : Semi) (n : E) (c b k : Toks) (f : Option Span) (e : Span) (sc : Scope) → ahead (at c f e sc) < limit → (part clearly).ty Plus d x c b → IsMark true q b k → (part clearly).len n k →
@@ -254,7 +242,7 @@ module _ {A E : Type 0} (r : Readers A E) (part : Manner → Parts A E) (limit :
     unfolding bracket_content inner.length
     counted_content d x q n c b k f e sc h i j g =
         let o = semi_ended q b k j in
-        let w = m.ty Plus d x c b f e sc h i (ended_fits d b o) (λ z. o.no_plus) in
+        let w = m.ty Plus d x c b f e sc h i (over_fits d b o) (λ z. o.no_plus) in
         let u = mark_complete true {n = 24} {k = 1} refl (omega arith) q b k f w.last sc j in
         let v = given.len (at k f u.last sc) n g in
         let all : ◌≡◌ {A = Outcome (inner.Length E)} (inner.length values.len (at b f w.last sc)) (Ok ((q, n), v.0)) = link _ u.reads (link _ v.1 refl) in

@@ -21,7 +21,6 @@ use Rattle.token_core.proofs.Steps.{link, chosen, Reads_to}
 use Rattle.token_core.proofs.Took.{at}
 use Rattle.token_core.proofs.WordSpells.{word_complete, word_seen}
 use Rattle.syn_path.specs.Values.{ReadValues}
-use Rattle.syn_forms.specs.declared.places.ParamPlace.TheVariants.{Binder}
 use Rattle.syn_forms.specs.declared.places.TypePlace.TheVariants.{Plus, NoPlus}
 use Rattle.syn_forms.specs.heads.Reading as heads
 use Rattle.syn_forms.specs.inputs.Reading as inputs
@@ -44,9 +43,11 @@ use Rattle.syn_ty.specs.ty.Trees.{BoundLifetimes, NamedArg, ReturnType, TypeFnPt
 use Rattle.syn_ty.specs.ty.Types.{fn_ptr_with, named_arg_of}
 use Rattle.syn_ty.proofs.ty_laws.FormsMet.{optional_met}
 use Rattle.syn_ty.proofs.ty_laws.InputListsMet.{dots_parts, inputs_met}
-use Rattle.syn_ty.proofs.ty_laws.LessMet.{listed_no, mark_no, no_no, optional_no, some, str_takes, word_takes}
-use Rattle.syn_ty.proofs.ty_laws.Met.{Firsts, Fits, Meets, NoMore, SuppliedMeets}
-use Rattle.syn_ty.proofs.ty_laws.SignaturesMet.{after_group, in_parens_met, inside_group, left_after, output_met, read_as}
+use Rattle.syn_ty.proofs.ty_laws.LessMet.{no_no, optional_no, some, str_takes, word_takes}
+use Rattle.syn_ty.proofs.ty_laws.Met.{Fits, Meets, NoMore, SuppliedMeets}
+use Rattle.syn_ty.proofs.ty_laws.SignaturesMet.{after_group, in_parens_met, inside_group, output_met, read_as}
+use Rattle.syn_ty.proofs.ty_laws.SignedMet.{left_after}
+use Rattle.syn_ty.proofs.ty_laws.NamedMet.{for_less}
 
 -- ---- an ABI
 
@@ -148,10 +149,6 @@ module _ {A E : Type 0} (part : Manner → Parts A E) where
   for_seen : (b : BoundLifetimes A E) (l k : Toks) → IsFor part clearly b l k → token.sees_for l ≡ true
   for_seen b l k (a_binder {f = w} {m = m} i j q g) = word_seen {n = 10} w l m i
 
-  for_no : Firsts part → (b : BoundLifetimes A E) (l k : Toks) → IsFor part clearly b l k → NoMore l k
-  for_no firsts b l k (a_binder {f = w} {o = o} {xs = xs} {cs = cs} {c = g} {m = m} {n = n} {k = j} i q v z) =
-      no_no (some (word_takes w l m i)) (no_no (mark_no o m n q) (no_no (listed_no (λ y x t u p. (firsts.param Binder x t u p).1) (λ c t u p. mark_no c t u p) true xs cs n j v) (mark_no g j k z)))
-
   pub after_begins : (b : For) (e : End) (x : TypeFnPtr A E) (l k : Toks) → IsAfter b e x l k → FnBegins l
   unfolding begins_named sees_bindable sees_fn_ptr sees_unsafe_binder sees_invisible sees_word sees_mark sees_group after_one is_keyword
   after_begins b e x l k (after_binder absent absent is_word v o) = record { no_invisible = refl; no_for = refl; no_paren = refl; named = refl; bindable = refl; no_unsafe = refl; fn = refl }
@@ -205,6 +202,6 @@ module _ {A E : Type 0} (attrs : Reader (List A)) (values : ReadValues E) (r : R
     fn_ptr_met d x l k f e sc h i fits =
         let p = bound part d x l k i in
         let w = perhaps_for p.lifetimes l p.from f e sc h p.bears (after_begins part p.lifetimes d x p.from k p.after).no_for in
-        let light = (optional_no (λ y n j g. for_no part m.firsts y n j g) p.lifetimes l p.from p.bears).light in
+        let light = (optional_no (λ y n j g. some (for_less part m.firsts y n j g)) p.lifetimes l p.from p.bears).light in
         let v = fn_ptr_after_met p.lifetimes d x p.from k f w.last sc (left_after l p.from f f e w.last sc limit light h) p.after fits in
         record { last = v.last; reads = link _ w.reads v.reads }

@@ -33,7 +33,8 @@ use Rattle.syn_ty.proofs.ty_laws.InputsMet.{bare_begins, bare_met, parted}
 use Rattle.syn_ty.proofs.ty_laws.LessMet.{less_no, mark_no, no_less}
 use Rattle.syn_ty.proofs.ty_laws.Met.{Firsts, Fits, Less, SuppliedMeets}
 use Rattle.syn_ty.proofs.ty_laws.NamesMet.{name_met}
-use Rattle.syn_ty.proofs.ty_laws.SignaturesMet.{EndsInput, comma_ends, comma_there, done_ends, left_after, nothing_there}
+use Rattle.syn_ty.proofs.ty_laws.SignaturesMet.{EndsInput, comma_ends, comma_there, done_ends, nothing_there}
+use Rattle.syn_ty.proofs.ty_laws.SignedMet.{left_after}
 
 -- ---- `...`, perhaps after a name and before a comma
 

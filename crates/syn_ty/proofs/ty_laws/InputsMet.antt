@@ -29,7 +29,8 @@ use Rattle.syn_ty.proofs.ty_laws.Complete.{later}
 use Rattle.syn_ty.proofs.ty_laws.LessMet.{less_less, less_no, mark_no, no_less, word_less, word_takes}
 use Rattle.syn_ty.proofs.ty_laws.Met.{Firsts, Fits, Less, SuppliedMeets}
 use Rattle.syn_ty.proofs.ty_laws.NamesMet.{mut_self_seen, no_mut_before, no_mut_self, no_name, no_self_name, no_third, self_alone, self_met, self_seen, some_name, unnamed}
-use Rattle.syn_ty.proofs.ty_laws.SignaturesMet.{EndsInput, input_fits, left_after}
+use Rattle.syn_ty.proofs.ty_laws.SignaturesMet.{EndsInput, input_fits}
+use Rattle.syn_ty.proofs.ty_laws.SignedMet.{left_after}
 
 -- ---- an argument by its parts
 

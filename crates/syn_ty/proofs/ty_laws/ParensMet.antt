@@ -68,8 +68,9 @@ use Rattle.syn_ty.specs.ty.Spelling.{IsOptional, absent, present, an_infer, a_ne
 use Rattle.syn_ty.specs.ty.Trees.{BoundLifetimes, Path, PathSegment, QSelf, TraitBound, TypeFnPtr, TypeImplTrait, TypeParamBound, TypeParen, TypePtr, TypeReference, TypeTraitObject, TypeTree, TypeTuple}
 use Rattle.syn_ty.specs.ty.Types.{paren_of, qualified_with, trait_object_with, tuple_of}
 use Rattle.syn_ty.proofs.ty_laws.Complete.{later, not_more}
-use Rattle.syn_ty.proofs.ty_laws.FormsMet.{comma_ended, done_ended, element_begins, element_met, ended_fits, less_inside, more_met, parens_met}
+use Rattle.syn_ty.proofs.ty_laws.FormsMet.{comma_ended, done_there, element_begins, element_met, less_inside, more_met, parens_met}
 use Rattle.syn_ty.proofs.ty_laws.Kinds as kinds
+use Rattle.syn_ty.proofs.ty_laws.ParamsMet.{done_over, over_fits}
 use Rattle.syn_ty.proofs.ty_laws.Met.{Fits, Meets}
 use Rattle.syn_ty.proofs.ty_laws.Steps.{elements_in_parens}
 
@@ -96,10 +97,6 @@ plain_mark c j a k h g = record { there = refl; no_lifetime = ap (λ (d : Bool).
 plain_sep : (c : Sep) (l k : Toks) → IsMark true c l k → Plain l
 unfolding is_done sees_lifetime sees_mark
 plain_sep c l k (is_mark (more_chars y)) = record { there = refl; no_lifetime = refl; no_question = refl }
-
-done_there : is_done done ≡ true
-unfolding is_done
-done_there = refl
 
 done_no_comma : token.sees_comma done ≡ false
 unfolding sees_mark
@@ -338,13 +335,13 @@ module _ {A E : Type 0} (r : Readers A E) (plus : Bool) where
       enclosed_by s d x c k f e sc h i o true g =
           let z = content Parenthesis s c k f e sc in
           let start = (m.firsts.ty Plus d x c done i).0 in
-          let w = reads_lifetime d x c done None none z.scope (less_inside Parenthesis s c k f e sc limit h) i g (ended_fits d done done_ended) done_ended.no_plus in
+          let w = reads_lifetime d x c done None none z.scope (less_inside Parenthesis s c k f e sc limit h) i g (over_fits d done (done_over done done_there)) (done_over done done_there).no_plus in
           parens_then (held.Object w.0) (v.Paren (paren_of (groups.paren s) x)) s c k k f e sc
           (record { last = w.2.last; reads = chosen (is_done c) false _ _ z _ start.there (chosen (sees_lifetime c) true _ _ z _ g (link _ w.2.reads refl)) })
           (record { last = s.closing; reads = ap (λ y. Ok (v.Paren (paren_of (groups.paren s) y), at k f s.closing sc)) w.1 })
       enclosed_by s d x c k f e sc h i o false g =
           let z = content Parenthesis s c k f e sc in
-          let w = m.ty Plus d x c done None none z.scope (less_inside Parenthesis s c k f e sc limit h) i (ended_fits d done done_ended) (λ q. done_ended.no_plus) in
+          let w = m.ty Plus d x c done None none z.scope (less_inside Parenthesis s c k f e sc limit h) i (over_fits d done (done_over done done_there)) (λ q. (done_over done done_there).no_plus) in
           parens_then (held.One x) (v.Paren (paren_of (groups.paren s) x)) s c k k f e sc
           (one_content x c None none z.scope (record { there = (m.firsts.ty Plus d x c done i).0.there; no_lifetime = g; no_question = no_question d x c done i }) w)
           (record { last = s.closing; reads = stays_paren x s (first_bound (groups.paren s) x) k f s.closing sc o })
@@ -366,7 +363,7 @@ module _ {A E : Type 0} (r : Readers A E) (plus : Bool) where
       unfolding reading.paren_content inner.type_paren_content
       asked_content q p c f e sc h (an_asked {e = d} {m = n} i j) =
           let start = asks q c n i in
-          let w = reads_asked d (named_bound None (Some q) p) c done f e sc h (a_trait_bound (a_trait_asked i j)) (ended_fits d done done_ended) in
+          let w = reads_asked d (named_bound None (Some q) p) c done f e sc h (a_trait_bound (a_trait_asked i j)) (over_fits d done (done_over done done_there)) in
           record {
             last = w.last;
             reads = chosen (is_done c) false _ _ (at c f e sc) _ start.there (chosen (sees_lifetime c) false _ _ (at c f e sc) _ start.no_lifetime (chosen (token.sees_question c) true _ _ (at c f e sc) _ start.question (link _ w.reads refl)));
@@ -392,7 +389,7 @@ module _ {A E : Type 0} (r : Readers A E) (plus : Bool) where
       unfolding reading.of_parens
       goes_on x y s a d g xs ps c n j k f e sc h start i q p w o =
           let z = content Parenthesis s c n f e sc in
-          let t = reads_type g x c done None none z.scope (less_inside Parenthesis s c n f e sc limit h) i (ended_fits g done done_ended) done_ended.no_plus in
+          let t = reads_type g x c done None none z.scope (less_inside Parenthesis s c n f e sc limit h) i (over_fits g done (done_over done done_there)) (done_over done done_there).no_plus in
           let u = reads_further y d xs (a ∷ ps) n k f s.closing sc (after_group s c n f e sc limit h) (some_further p w) o in
           let sees : plus_follows plus n ≡ true = ap (λ z. plus_follows z n) with_plus ∙ mark_seen true {n = 20} {k = 1} a n j p in
           parens_then (held.One x) (object_of (y ∷ xs, a ∷ ps)) s c n k f e sc (one_content x c None none z.scope start t)

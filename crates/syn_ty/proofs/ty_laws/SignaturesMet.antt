@@ -26,7 +26,7 @@ use Rattle.syn_forms.specs.places.Reading.{allows_plus}
 use Rattle.syn_forms.specs.groups.Reading.{in_parens}
 use Rattle.syn_forms.proofs.groups_laws.Complete.{content, content_ahead, reads_inside}
 use Rattle.syn_forms.proofs.lists_laws.Complete.{listed_here}
-use Rattle.syn_forms.proofs.nested_laws.Ahead.{weight, ahead-is, weight-group}
+use Rattle.syn_forms.proofs.nested_laws.Ahead.{weight, weight-group}
 use Rattle.syn_ty.specs.path.Paths.{parens_of}
 use Rattle.syn_ty.specs.path.Reading as reads
 use Rattle.syn_ty.specs.path.Reading.{return_of}
@@ -79,13 +79,6 @@ unfolding is_done
 nothing_there = refl
 
 -- ---- how much is left
-
--- no more after no more tokens
-pub left_after : (l k : Toks) (f g : Option Span) (d e : Span) (sc : Scope) (limit : ℕ) → weight k ≤ weight l → ahead (at l f d sc) ≤ limit → ahead (at k g e sc) ≤ limit
-left_after l k f g d e sc limit h lim =
-    let x = ahead-is (at l f d sc) in
-    let y = ahead-is (at k g e sc) in
-    omega (arith, h, lim, x, y)
 
 arrow_light : (a : token.RArrow) (l k : Toks) → IsMark true a l k → weight k < weight l
 arrow_light a l k (is_mark (more_chars (last_char x))) = omega arith

@@ -1,8 +1,6 @@
 -- Each whole read of this layer is sound: where it answers on a list without invisible groups and leaves nothing over, the answer spells the list by its promise.
-use Rattle.std.proofs.Common.{◌≡◌, Bool, false, List, Option, Some, None, Result, Ok, Err, refl}
-use Rattle.token_core.specs.declared.span.Span.{Span}
-use Rattle.token_core.specs.Headline.{Grammar}
-use Rattle.token_core.specs.Reads.{Keeps, Reader, Reads, kept, leaves}
+use Rattle.std.proofs.Common.{◌≡◌, Bool, false, List, None, Result, Ok, Err}
+use Rattle.token_core.specs.Reads.{Reader, Reads, leaves}
 use Rattle.token_core.specs.Rebuilt.{Visible}
 use Rattle.token_core.specs.Refusal.{Refusal}
 use Rattle.token_core.specs.Stream.{Stream}
@@ -28,7 +26,7 @@ use Rattle.syn_ty.specs.ty.Objects.{IsImpl, IsObject}
 use Rattle.syn_ty.specs.ty.Parts.{loosely}
 use Rattle.syn_ty.specs.ty.Reading as reading
 use Rattle.syn_path.specs.Lengths.{AttributeLaws}
-use Rattle.syn_path.specs.Took.{Sounds, Takes, TookOne}
+use Rattle.syn_path.specs.Took.{Takes, TookOne}
 use Rattle.syn_ty.specs.declared.generics.LifetimeParamOf.{LifetimeParamOf}
 use Rattle.syn_ty.proofs.ty_laws.ParamsTold as params
 use Rattle.syn_ty.specs.ty.Spelling.{IsOptional}
@@ -45,16 +43,6 @@ use Rattle.syn_ty.proofs.ty_laws.Given.{Given}
 -- a whole read is sound: what it answers spells the list
 abbrev pub Whole : {F : Type 0} → Reader F → (F → Toks → Type 0) → Type 0
 Whole {F} reader Is = (s t : Stream) (a : F) → s.left ≡ None → Visible s.rest → reader s ≡ Ok (a, t) → leaves t ≡ None → Is a s.rest
-
-module _ {F : Type 0} (G : Grammar F) (sound : Whole G.reader (G.spells false)) where
-  sounds_at : (s t : Stream) (a : F) (o : Option Span) → s.left ≡ None → G.reader s ≡ Ok (a, t) → leaves t ≡ o → Sounds G s.rest (kept a o)
-  sounds_at s t a None n e c = λ v. sound s t a n v e c
-  sounds_at s t a (Some z) n e c = tt
-
-  -- so a read that begins where nothing was left over keeps that
-  pub sounds : (s t : Stream) (r : Result F Refusal) → Reads (G.reader s) r t → Keeps (Sounds G) s r t
-  sounds s t (Ok a) e = λ n. sounds_at s t a (leaves t) n e refl
-  sounds s t (Err x) e = λ k n. tt
 
 module _ {A E : Type 0} {attrs : Reader (List A)} {values : ReadValues E} {shown : Bool → List A → Toks → Toks → Type 0} {spelt : SpelledValues E} (g : Given attrs values shown spelt) where
   -- ---- paths
