@@ -50,7 +50,7 @@ use Rattle.syn_pat.specs.declared.place.PatPlace.{PatPlace}
 use Rattle.syn_pat.specs.declared.place.PatPlace.TheVariants.{LeadingVert}
 use Rattle.syn_pat.specs.pat.Admitted.{AreElements, AreFields}
 use Rattle.syn_pat.specs.pat.Pats.{FieldPat, Pat, PatRest, path_pat_of, struct_of, tuple_struct_of}
-use Rattle.syn_pat.specs.pat.Reading.{Readers, after_bound, after_path, begins_path, elements, tuple_struct_after}
+use Rattle.syn_pat.specs.pat.Reading.{Readers, after_bound, after_path, begins_path, elements, tuple_struct_after, type_names}
 use Rattle.syn_pat.specs.pat.Spelling.{IsPatPath, a_pat_path, is_self, types_to}
 use Rattle.syn_pat.proofs.pat_laws.GroupsMet.{elements_met, inside_less, parens_met}
 use Rattle.syn_pat.proofs.pat_laws.NamesMet.{before_sep, never_self, no_try_mod, sep_begins, word_begins}
@@ -137,7 +137,7 @@ module _ {X : Type 0} (supplied : Place → Reader X) (spells : Place → X → 
   P = Path (Attr X) (Expr X)
 
   pub call_goes : (p : ModPath) (a : Span) (j : Spacing) (w : MacroDelimiter) (d : Delimiter) (s : DelimSpan) (c k : Toks) (tokens : TokenStream) (f : Option Span) (e : Span) (sc : Scope) → Delimits w d s → c ≡ toks tokens →
-      Reads_to (after_path supplied r None (as_path (Attr X) (Expr X) p)) (v.Macro (expr_macro_of [] (macro_of p (bang_at a) (w, tokens)))) (mark (punct 33 j a) (group d s c k)) k f e sc
+      Reads_to (after_path supplied (type_names supplied) r None (as_path (Attr X) (Expr X) p)) (v.Macro (expr_macro_of [] (macro_of p (bang_at a) (w, tokens)))) (mark (punct 33 j a) (group d s c k)) k f e sc
   unfolding after_path
   call_goes p a j w d s c k tokens f e sc h i =
       let l = mark (punct 33 j a) (group d s c k) in
@@ -149,7 +149,7 @@ module _ {X : Type 0} (supplied : Place → Reader X) (spells : Place → X → 
   no_call q p k h = middle_false (not (is_some q)) (sees_call k) (is_mod_style p) (no_call_by k h)
 
   pub struct_goes : (q : Q) (p : P) (w : Many (FieldPat X) Comma) (o : Option (PatRest X)) (s : DelimSpan) (c k : Toks) (f : Option Span) (e : Span) (sc : Scope) → ahead (at (group Brace s c k) f e sc) ≤ limit → AreFields spells part clearly w o c →
-      Reads_to (after_path supplied r q p) (v.Struct (struct_of [] q p (groups.brace s) w o)) (group Brace s c k) k f e sc
+      Reads_to (after_path supplied (type_names supplied) r q p) (v.Struct (struct_of [] q p (groups.brace s) w o)) (group Brace s c k) k f e sc
   unfolding after_path
   struct_goes q p w o s c k f e sc lim i =
       let l = group Brace s c k in
@@ -160,7 +160,7 @@ module _ {X : Type 0} (supplied : Place → Reader X) (spells : Place → X → 
       }
 
   pub tuple_struct_goes : (q : Q) (p : P) (xs : List (Pat X)) (cs : List Comma) (s : DelimSpan) (c k : Toks) (f : Option Span) (e : Span) (sc : Scope) → ahead (at (group Parenthesis s c k) f e sc) ≤ limit → AreElements spells part clearly LeadingVert xs cs c →
-      Reads_to (after_path supplied r q p) (v.TupleStruct (tuple_struct_of [] q p (groups.paren s) (xs, cs))) (group Parenthesis s c k) k f e sc
+      Reads_to (after_path supplied (type_names supplied) r q p) (v.TupleStruct (tuple_struct_of [] q p (groups.paren s) (xs, cs))) (group Parenthesis s c k) k f e sc
   unfolding after_path tuple_struct_after
   tuple_struct_goes q p xs cs s c k f e sc lim i =
       let l = group Parenthesis s c k in
@@ -174,7 +174,7 @@ module _ {X : Type 0} (supplied : Place → Reader X) (spells : Place → X → 
 
   -- a bound, before what begins none of these
   pub bound_goes : (q : Q) (p : P) (y : Pat X) (m k : Toks) (f : Option Span) (e : Span) (sc : Scope) → token.sees_bang m ≡ false → sees_group Brace m ≡ false → sees_group Parenthesis m ≡ false →
-      Reads_to (after_bound supplied (b.Path (path_pat_of [] q p))) y m k f e sc → Reads_to (after_path supplied r q p) y m k f e sc
+      Reads_to (after_bound supplied (type_names supplied) (b.Path (path_pat_of [] q p))) y m k f e sc → Reads_to (after_path supplied (type_names supplied) r q p) y m k f e sc
   unfolding after_path
   bound_goes q p y m k f e sc bang brace paren u =
       record {

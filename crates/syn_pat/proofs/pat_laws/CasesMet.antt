@@ -28,7 +28,7 @@ use Rattle.syn_pat.specs.declared.place.PatPlace.{PatPlace}
 use Rattle.syn_pat.specs.declared.place.PatPlace.TheVariants.{Single, Multi, LeadingVert, Element}
 use Rattle.syn_pat.specs.pat.Admitted.{AreCases, cases, IsPat, a_single, some_cases, one_after_vert, some_after_vert, IsSingle}
 use Rattle.syn_pat.specs.pat.Pats.{Pat, PatOr, or_of}
-use Rattle.syn_pat.specs.pat.Reading.{Readers, alternatives, element, leading, multi, open_range, open_range_layer, pat_step, sees_vert, single, unless_open}
+use Rattle.syn_pat.specs.pat.Reading.{Readers, alternatives, element, leading, multi, open_range, open_range_layer, pat_step, sees_vert, single, unless_open, type_names}
 use Rattle.syn_pat.proofs.pat_laws.FirstsMet.{first_no_bar, single_first, single_less}
 use Rattle.syn_pat.proofs.pat_laws.SinglesMet.{single_met}
 use Rattle.syn_pat.proofs.pat_laws.WithinMet.{Ends, EndsIn, Meets, SuppliedMeets, at_bar, single_in, vert_seen}
@@ -99,7 +99,7 @@ module _ {X : Type 0} (supplied : Place → Reader X) (spells : Place → X → 
 
   -- ---- a first case, and what follows it
 
-  one : (x : Pat X) (l k : Toks) (f : Option Span) (e : Span) (sc : Scope) → ahead (at l f e sc) ≤ limit → One x l k → Ends k → Reads_to (single supplied r) x l k f e sc
+  one : (x : Pat X) (l k : Toks) (f : Option Span) (e : Span) (sc : Scope) → ahead (at l f e sc) ≤ limit → One x l k → Ends k → Reads_to (single supplied (type_names supplied) r) x l k f e sc
   one = single_met supplied spells g r part limit meets
 
   not_grown : (x : Pat X) (l m : Toks) (f : Option Span) (e d : Span) (sc : Scope) → ahead (at l f e sc) ≤ limit → One x l m → ahead (at m f d sc) ≤ limit
@@ -107,7 +107,7 @@ module _ {X : Type 0} (supplied : Place → Reader X) (spells : Place → X → 
 
   -- what is read from a first case on, where a `|` stood before it or not
   abbrev from : Option token.Bar → Reader (Pat X)
-  from p s = (single supplied r >>= alternatives r p) s
+  from p s = (single supplied (type_names supplied) r >>= alternatives r p) s
 
   single_from : (x : Pat X) (l k : Toks) (f : Option Span) (e : Span) (sc : Scope) → ahead (at l f e sc) ≤ limit → One x l k → Ends k → sees_vert k ≡ false → Reads_to (from None) x l k f e sc
   single_from x l k f e sc h i o n =
@@ -130,13 +130,13 @@ module _ {X : Type 0} (supplied : Place → Reader X) (spells : Place → X → 
 
   -- ---- in each place
 
-  single_in_place : (x : Pat X) (l k : Toks) (f : Option Span) (e : Span) (sc : Scope) → ahead (at l f e sc) ≤ limit → IsPat spells part clearly Single x l k → EndsIn Single k → Reads_to (single supplied r) x l k f e sc
+  single_in_place : (x : Pat X) (l k : Toks) (f : Option Span) (e : Span) (sc : Scope) → ahead (at l f e sc) ≤ limit → IsPat spells part clearly Single x l k → EndsIn Single k → Reads_to (single supplied (type_names supplied) r) x l k f e sc
   single_in_place x l k f e sc h (a_single i z) o = one x l k f e sc h i o.ends
   single_in_place x l k f e sc h (some_cases z i) o = cc z
   single_in_place x l k f e sc h (one_after_vert z b i) o = cc z
   single_in_place x l k f e sc h (some_after_vert z b i) o = cc z
 
-  multi_met : (x : Pat X) (l k : Toks) (f : Option Span) (e : Span) (sc : Scope) → ahead (at l f e sc) ≤ limit → IsPat spells part clearly Multi x l k → EndsIn Multi k → Reads_to (multi supplied r) x l k f e sc
+  multi_met : (x : Pat X) (l k : Toks) (f : Option Span) (e : Span) (sc : Scope) → ahead (at l f e sc) ≤ limit → IsPat spells part clearly Multi x l k → EndsIn Multi k → Reads_to (multi supplied (type_names supplied) r) x l k f e sc
   unfolding multi
   multi_met x l k f e sc h (a_single i z) o = let u = single_from x l k f e sc h i o.ends (o.no_vert refl) in record { last = u.last; reads = u.reads }
   multi_met x l k f e sc h (some_cases {xs = xs} {cs = cs} z i) o = let u = cases_from None xs cs l k f e sc h i o.ends (o.no_vert refl) in record { last = u.last; reads = u.reads }
@@ -150,7 +150,7 @@ module _ {X : Type 0} (supplied : Place → Reader X) (spells : Place → X → 
   cases_no_bar xs cs l k (cases {x = x} {m = m} i j rest) = no_bar x l m i
 
   -- perhaps a `|`, and what is read from the first case on
-  leading_by : (p : Option token.Bar) (y : Pat X) (l m k : Toks) (f : Option Span) (e : Span) (sc : Scope) → IsOptional (IsMark true) p l m → token.sees_bar m ≡ false → ((d : Span) → Reads_to (from p) y m k f d sc) → Reads_to (leading supplied r) y l k f e sc
+  leading_by : (p : Option token.Bar) (y : Pat X) (l m k : Toks) (f : Option Span) (e : Span) (sc : Scope) → IsOptional (IsMark true) p l m → token.sees_bar m ≡ false → ((d : Span) → Reads_to (from p) y m k f d sc) → Reads_to (leading supplied (type_names supplied) r) y l k f e sc
   unfolding leading
   leading_by p y l m k f e sc absent n h =
       let a = absent_met token.sees_bar token.bar l f e sc n in
@@ -165,7 +165,7 @@ module _ {X : Type 0} (supplied : Place → Reader X) (spells : Place → X → 
   bar_light b l m f e d sc h i = let k = later l m f f e d sc limit (mark_takes 124 [] refl b l m i).lighter h in omega (arith, k)
 
   -- with a `|` before the first case or not
-  leading_place : (p : PatPlace) (x : Pat X) (l k : Toks) (f : Option Span) (e : Span) (sc : Scope) → ahead (at l f e sc) ≤ limit → IsPat spells part clearly p x l k → Ends k → sees_vert k ≡ false → Reads_to (leading supplied r) x l k f e sc
+  leading_place : (p : PatPlace) (x : Pat X) (l k : Toks) (f : Option Span) (e : Span) (sc : Scope) → ahead (at l f e sc) ≤ limit → IsPat spells part clearly p x l k → Ends k → sees_vert k ≡ false → Reads_to (leading supplied (type_names supplied) r) x l k f e sc
   leading_place p x l k f e sc h (a_single i z) o n = leading_by None x l l k f e sc absent (no_bar x l k i) (λ d. single_from x l k f d sc h i o n)
   leading_place p x l k f e sc h (some_cases {xs = xs} {cs = cs} z i) o n = leading_by None x l l k f e sc absent (cases_no_bar xs cs l k i) (λ d. cases_from None xs cs l k f d sc h i o n)
   leading_place p x l k f e sc h (one_after_vert {b = b} {x = y} {m = m} z j i) o n = leading_by (Some b) x l m k f e sc (present j) (no_bar y m k i) (λ d. vert_from b y m k f d sc (bar_light b l m f e d sc h j) i o n)
@@ -182,14 +182,14 @@ module _ {X : Type 0} (supplied : Place → Reader X) (spells : Place → X → 
   fits x l k (one_after_vert {b = b} {x = y} h j i) = or_closed (or_of [] (Some b) (y ∷ [], []))
   fits x l k (some_after_vert {b = b} {xs = xs} {cs = cs} h j i) = or_closed (or_of [] (Some b) (xs, cs))
 
-  element_met : (x : Pat X) (l k : Toks) (f : Option Span) (e : Span) (sc : Scope) → ahead (at l f e sc) ≤ limit → IsPat spells part clearly Element x l k → EndsIn Element k → Reads_to (element supplied r) x l k f e sc
+  element_met : (x : Pat X) (l k : Toks) (f : Option Span) (e : Span) (sc : Scope) → ahead (at l f e sc) ≤ limit → IsPat spells part clearly Element x l k → EndsIn Element k → Reads_to (element supplied (type_names supplied) r) x l k f e sc
   unfolding element
   element_met x l k f e sc h i o =
       let a = leading_place Element x l k f e sc h i o.ends (o.no_vert refl) in
       record { last = a.last; reads = link _ a.reads (ap (λ z. unless_open z x (at k f a.last sc)) (fits x l k i)) }
 
   -- one turn
-  pub turn_met : (p : PatPlace) (x : Pat X) (l k : Toks) (f : Option Span) (e : Span) (sc : Scope) → ahead (at l f e sc) ≤ limit → IsPat spells part clearly p x l k → EndsIn p k → Reads_to (pat_step supplied r p) x l k f e sc
+  pub turn_met : (p : PatPlace) (x : Pat X) (l k : Toks) (f : Option Span) (e : Span) (sc : Scope) → ahead (at l f e sc) ≤ limit → IsPat spells part clearly p x l k → EndsIn p k → Reads_to (pat_step supplied (type_names supplied) r p) x l k f e sc
   turn_met Single x l k f e sc h i o = let u = single_in_place x l k f e sc h i o in record { last = u.last; reads = u.reads }
   turn_met Multi x l k f e sc h i o = let u = multi_met x l k f e sc h i o in record { last = u.last; reads = u.reads }
   turn_met LeadingVert x l k f e sc h i o = let u = leading_place LeadingVert x l k f e sc h i o.ends (o.no_vert refl) in record { last = u.last; reads = u.reads }

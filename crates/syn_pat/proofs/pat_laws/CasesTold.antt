@@ -25,7 +25,7 @@ use Rattle.syn_pat.specs.declared.place.PatPlace.{PatPlace}
 use Rattle.syn_pat.specs.declared.place.PatPlace.TheVariants.{Single, Multi, LeadingVert, Element}
 use Rattle.syn_pat.specs.pat.Admitted.{cases, Fits, IsPat, a_single, some_cases, one_after_vert, some_after_vert, IsSingle, allows_cases, allows_vert}
 use Rattle.syn_pat.specs.pat.Pats.{Pat, or_of}
-use Rattle.syn_pat.specs.pat.Reading.{Readers, alternatives, as_element, element, leading, multi, open_range, pat_step, sees_vert, single, unless_open}
+use Rattle.syn_pat.specs.pat.Reading.{Readers, alternatives, as_element, element, leading, multi, open_range, pat_step, sees_vert, single, unless_open, type_names}
 use Rattle.syn_pat.proofs.pat_laws.SinglesTold.{single_took}
 use Rattle.syn_pat.proofs.pat_laws.WithinTold.{Before, Held, Stops, SuppliedTold, TookOn, bar_stops, listed_before}
 
@@ -136,23 +136,23 @@ module _ {X : Type 0} (supplied : Place → Reader X) (spells : Place → X → 
 
   -- ---- in each place
 
-  single_in : (s t : Stream) (x : Pat X) → Visible s.rest → single supplied r s ≡ Ok (x, t) → TookOne (Before (In Single)) s t x
+  single_in : (s t : Stream) (x : Pat X) → Visible s.rest → single supplied (type_names supplied) r s ≡ Ok (x, t) → TookOne (Before (In Single)) s t x
   single_in s t x v e = let k = single_took supplied spells g r part h s t x v e in record { left = k.left; seen = k.seen; spelt = λ n stop. a_single (k.spelt n stop) tt }
 
-  multi_in : (s t : Stream) (x : Pat X) → Visible s.rest → multi supplied r s ≡ Ok (x, t) → TookOne (Before (In Multi)) s t x
+  multi_in : (s t : Stream) (x : Pat X) → Visible s.rest → multi supplied (type_names supplied) r s ≡ Ok (x, t) → TookOne (Before (In Multi)) s t x
   unfolding multi
   multi_in s t x v e =
-      let c = chain (single supplied r s) (alternatives r None) x t e in
+      let c = chain (single supplied (type_names supplied) r s) (alternatives r None) x t e in
       let k = single_took supplied spells g r part h s c.rest c.value v c.was in
       let w = alternatives_took Multi refl (λ y. tt) None c.value s.rest s.rest c.rest t x (λ f. cc f) k.seen c.goes in
       record { left = λ n. k.left (w.left n); seen = w.seen; spelt = λ n. w.told n (absent, k.spelt (w.left n)) }
 
-  leading_in : (s t : Stream) (x : Pat X) → Visible s.rest → leading supplied r s ≡ Ok (x, t) → TookOne (Before (In LeadingVert)) s t x
+  leading_in : (s t : Stream) (x : Pat X) → Visible s.rest → leading supplied (type_names supplied) r s ≡ Ok (x, t) → TookOne (Before (In LeadingVert)) s t x
   unfolding leading
   leading_in s t x v e =
       let a = chain (optional token.sees_bar token.bar s) _ x t e in
       let o = optional_sound {Is = IsMark false {n = 17} {k = 1}} token.sees_bar token.bar one_bar s a.rest a.value v a.was in
-      let c = chain (single supplied r a.rest) (alternatives r a.value) x t a.goes in
+      let c = chain (single supplied (type_names supplied) r a.rest) (alternatives r a.value) x t a.goes in
       let k = single_took supplied spells g r part h a.rest c.rest c.value o.seen c.was in
       let w = alternatives_took LeadingVert refl (λ y. tt) a.value c.value s.rest a.rest.rest c.rest t x (λ f. refl) k.seen c.goes in
       record { left = λ n. o.left (k.left (w.left n)); seen = w.seen; spelt = λ n. w.told n (o.spelt (k.left (w.left n)), k.spelt (w.left n)) }
@@ -168,17 +168,17 @@ module _ {X : Type 0} (supplied : Place → Reader X) (spells : Place → X → 
   fitting x l k e (one_after_vert f a i) = one_after_vert refl a i
   fitting x l k e (some_after_vert f a i) = some_after_vert refl a i
 
-  element_in : (s t : Stream) (x : Pat X) → Visible s.rest → element supplied r s ≡ Ok (x, t) → TookOne (Before (In Element)) s t x
+  element_in : (s t : Stream) (x : Pat X) → Visible s.rest → element supplied (type_names supplied) r s ≡ Ok (x, t) → TookOne (Before (In Element)) s t x
   unfolding element
   element_in s t x v e =
-      let c = chain (leading supplied r s) as_element x t e in
+      let c = chain (leading supplied (type_names supplied) r s) as_element x t e in
       let k = leading_in s c.rest c.value v c.was in
       let f = kept_if (open_range c.value) c.value x c.rest t c.goes in
       let all : TookOne (Before (In Element)) s c.rest c.value = record { left = k.left; seen = k.seen; spelt = λ n stop. fitting c.value s.rest c.rest.rest f.0 (k.spelt n stop) } in
       subst (λ z. TookOne (Before (In Element)) s z x) f.2 (subst (λ z. TookOne (Before (In Element)) s c.rest z) f.1 all)
 
   -- one turn
-  pub turn_took : (p : PatPlace) (s t : Stream) (x : Pat X) → Visible s.rest → pat_step supplied r p s ≡ Ok (x, t) → TookOne (Before (In p)) s t x
+  pub turn_took : (p : PatPlace) (s t : Stream) (x : Pat X) → Visible s.rest → pat_step supplied (type_names supplied) r p s ≡ Ok (x, t) → TookOne (Before (In p)) s t x
   turn_took Single = single_in
   turn_took Multi = multi_in
   turn_took LeadingVert = leading_in

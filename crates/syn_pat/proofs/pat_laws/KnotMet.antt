@@ -1,4 +1,5 @@
 -- The read of patterns, tied, is complete: at every height of a pattern, what a list spells clearly is what it answers, and it takes no more; and so is the read of one with a guard and of one with a type.
+use Rattle.syn_pat.specs.pat.Reading.{type_names}
 use Rattle.std.proofs.Common.{◌≡◌, ℕ, zero, suc, ◌≤◌, true, false, Option, None, Ok, refl, ◌∙◌, arith}
 use Rattle.token_core.specs.declared.span.Span.{Span}
 use Rattle.token_core.specs.Reads.{Reader, is_done, leaves, sees_word}
@@ -41,29 +42,29 @@ module _ {X : Type 0} (supplied : Place → Reader X) (spells : Place → X → 
 
   -- the reads further on meet the patterns of all heights
   abbrev Below : Stream → Type 0
-  Below s = (n : ℕ) → Meets (pats_below supplied (ahead s)) (pats_to spells n) (ahead s)
+  Below s = (n : ℕ) → Meets (pats_below supplied (type_names supplied) (ahead s)) (pats_to spells n) (ahead s)
 
-  pat_by : (n : ℕ) (p : PatPlace) (x : Pat X) (l k : Toks) (f : Option Span) (e : Span) (sc : Scope) → Below (at l f e sc) → IsPat spells (pats_to spells n) clearly p x l k → EndsIn p k → Reads_to (pat supplied p) x l k f e sc
+  pat_by : (n : ℕ) (p : PatPlace) (x : Pat X) (l k : Toks) (f : Option Span) (e : Span) (sc : Scope) → Below (at l f e sc) → IsPat spells (pats_to spells n) clearly p x l k → EndsIn p k → Reads_to (pat supplied (type_names supplied) p) x l k f e sc
   pat_by n p x l k f e sc m i o =
       let s = at l f e sc in
-      let w = turn_met supplied spells g (pats_below supplied (ahead s)) (pats_to spells n) (ahead s) (m n) p x l k f e sc (omega arith) i o in
-      record { last = w.last; reads = turn supplied p s ∙ w.reads }
+      let w = turn_met supplied spells g (pats_below supplied (type_names supplied) (ahead s)) (pats_to spells n) (ahead s) (m n) p x l k f e sc (omega arith) i o in
+      record { last = w.last; reads = turn supplied (type_names supplied) p s ∙ w.reads }
 
   -- up to a number, below which the limit stays
-  meets_to : (m limit : ℕ) → limit ≤ m → (n : ℕ) → Meets (pats_below supplied limit) (pats_to spells n) limit
+  meets_to : (m limit : ℕ) → limit ≤ m → (n : ℕ) → Meets (pats_below supplied (type_names supplied) limit) (pats_to spells n) limit
   meets_to m limit h zero = record { pat = λ p x l k f e sc z i. absurd i; there = there_to zero; less = less_to zero }
   meets_to zero limit h (suc n) = record { pat = λ p x l k f e sc z. absurd (omega (arith, h, z)); there = there_to (suc n); less = less_to (suc n) }
   meets_to (suc m) limit h (suc n) = record {
-    pat = λ p x l k f e sc z i o. below_met (pat supplied) limit p x l k f e sc z (pat_by n p x l k f e sc (meets_to m (ahead (at l f e sc)) (omega (arith, h, z))) i o);
+    pat = λ p x l k f e sc z i o. below_met (pat supplied (type_names supplied)) limit p x l k f e sc z (pat_by n p x l k f e sc (meets_to m (ahead (at l f e sc)) (omega (arith, h, z))) i o);
     there = there_to (suc n);
     less = less_to (suc n);
   }
 
-  pub knot_met : (limit n : ℕ) → Meets (pats_below supplied limit) (pats_to spells n) limit
+  pub knot_met : (limit n : ℕ) → Meets (pats_below supplied (type_names supplied) limit) (pats_to spells n) limit
   knot_met limit = meets_to limit limit (omega arith)
 
   -- on the front of a list
-  pub pat_met : (n : ℕ) (p : PatPlace) (x : Pat X) (l k : Toks) (f : Option Span) (e : Span) (sc : Scope) → IsPat spells (pats_to spells n) clearly p x l k → EndsIn p k → Reads_to (pat supplied p) x l k f e sc
+  pub pat_met : (n : ℕ) (p : PatPlace) (x : Pat X) (l k : Toks) (f : Option Span) (e : Span) (sc : Scope) → IsPat spells (pats_to spells n) clearly p x l k → EndsIn p k → Reads_to (pat supplied (type_names supplied) p) x l k f e sc
   pat_met n p x l k f e sc i o = pat_by n p x l k f e sc (knot_met (ahead (at l f e sc))) i o
 
   -- ---- all of a list
@@ -72,7 +73,7 @@ module _ {X : Type 0} (supplied : Place → Reader X) (spells : Place → X → 
   abbrev Whole : {F : Type 0} → Reader F → F → Stream → Type 0
   Whole reader x s = (t : Stream) × (reader s ≡ Ok (x, t)) × (leaves t ≡ None)
 
-  pub pat_complete : (p : PatPlace) (s : Stream) (x : Pat X) → s.left ≡ None → SpellsPat spells p clearly x s.rest → Whole (pat supplied p) x s
+  pub pat_complete : (p : PatPlace) (s : Stream) (x : Pat X) → s.left ≡ None → SpellsPat spells p clearly x s.rest → Whole (pat supplied (type_names supplied) p) x s
   pat_complete p s x n i =
       let w = pat_met i.0 p x s.rest done s.left s.last s.scope i.1 (end_in p) in
       (at done s.left w.last s.scope, w.reads, leaves_none s.left w.last s.scope n)
@@ -83,17 +84,17 @@ module _ {X : Type 0} (supplied : Place → Reader X) (spells : Place → X → 
   unfolding sees_word
   no_if = refl
 
-  pub guarded_complete : (s : Stream) (x : Pat X) → s.left ≡ None → SpellsGuarded spells clearly x s.rest → Whole (guarded supplied) x s
+  pub guarded_complete : (s : Stream) (x : Pat X) → s.left ≡ None → SpellsGuarded spells clearly x s.rest → Whole (guarded supplied (type_names supplied)) x s
   unfolding guarded
   guarded_complete s x n (without_guard i) =
       let w = pat_met i.0 LeadingVert x s.rest done s.left s.last s.scope i.1 (end_in LeadingVert) in
       let t = at done s.left w.last s.scope in
-      (t, link (guard_after supplied) w.reads (chosen (token.sees_if done) false _ _ t _ no_if refl), leaves_none s.left w.last s.scope n)
+      (t, link (guard_after supplied (type_names supplied)) w.reads (chosen (token.sees_if done) false _ _ t _ no_if refl), leaves_none s.left w.last s.scope n)
   guarded_complete s x n (with_guard {x = y} {w = c} {g = z} {m = m} {k = k} h i j q) =
       let w = pat_met h LeadingVert y s.rest m s.left s.last s.scope i (if_in LeadingVert c m k j) in
       let a = word_complete {n = 11} c m k s.left w.last s.scope j in
       let u = g.guard (at k s.left a.last s.scope) z q in
-      (u.0, link (guard_after supplied) w.reads (chosen (token.sees_if m) true _ _ (at m s.left w.last s.scope) _ (word_seen {n = 11} c m k j) (link _ a.reads (link _ u.1 refl))), uses_none (at k s.left a.last s.scope) u.0 n u.2)
+      (u.0, link (guard_after supplied (type_names supplied)) w.reads (chosen (token.sees_if m) true _ _ (at m s.left w.last s.scope) _ (word_seen {n = 11} c m k j) (link _ a.reads (link _ u.1 refl))), uses_none (at k s.left a.last s.scope) u.0 n u.2)
 
   -- ---- with a type
 

@@ -34,7 +34,7 @@ use Rattle.syn_pat.specs.pat.Knot.{guard_after, guarded, pat, read_at, typed}
 use Rattle.syn_pat.specs.pat.Fronts as fronts
 use Rattle.syn_pat.specs.pat.Fronts.{IsSomePat, some_pat_type}
 use Rattle.syn_pat.specs.pat.Pats.{Pat, PatType, guard_of, typed_of}
-use Rattle.syn_pat.specs.pat.Reading.{Readers}
+use Rattle.syn_pat.specs.pat.Reading.{Readers, type_names}
 use Rattle.syn_pat.specs.pat.Spelling.{outer_spelt, types_to, values_spelt}
 use Rattle.syn_pat.specs.pat.Spelt.{SpellsGuarded, without_guard, with_guard, SpellsPat, SpellsPatType, a_pat_type, pats_to}
 use Rattle.syn_pat.proofs.pat_laws.AlongTold.{turn_along}
@@ -52,34 +52,34 @@ module _ {X : Type 0} (supplied : Place → Reader X) (spells : Place → X → 
     along = λ p. below_along limit (h.along p);
   }
 
-  no_turn : Held (read_at supplied zero) (pats_to spells zero)
+  no_turn : Held (read_at supplied (type_names supplied) zero) (pats_to spells zero)
   no_turn = record { took = λ p s t x v e. cc e; along = λ p s t x e. cc e }
 
-  a_turn : (n : ℕ) → Held (read_at supplied n) (pats_to spells n) → Held (read_at supplied (suc n)) (pats_to spells (suc n))
+  a_turn : (n : ℕ) → Held (read_at supplied (type_names supplied) n) (pats_to spells n) → Held (read_at supplied (type_names supplied) (suc n)) (pats_to spells (suc n))
   a_turn n h = record {
-    took = λ p s t x v e. turn_took supplied spells g (λ (q : PatPlace). below (ahead s) (read_at supplied n q)) (pats_to spells n) (below_held (ahead s) (read_at supplied n) (pats_to spells n) h) p s t x v e;
-    along = λ p s t x e. turn_along supplied g.path_along (λ (q : PatPlace). below (ahead s) (read_at supplied n q)) (below_held (ahead s) (read_at supplied n) (pats_to spells n) h).along p s t x e;
+    took = λ p s t x v e. turn_took supplied spells g (λ (q : PatPlace). below (ahead s) (read_at supplied (type_names supplied) n q)) (pats_to spells n) (below_held (ahead s) (read_at supplied (type_names supplied) n) (pats_to spells n) h) p s t x v e;
+    along = λ p s t x e. turn_along supplied (type_names supplied) g.path_along (λ (q : PatPlace). below (ahead s) (read_at supplied (type_names supplied) n q)) (below_held (ahead s) (read_at supplied (type_names supplied) n) (pats_to spells n) h).along p s t x e;
   }
 
-  pub turns_told : (n : ℕ) → Held (read_at supplied n) (pats_to spells n)
+  pub turns_told : (n : ℕ) → Held (read_at supplied (type_names supplied) n) (pats_to spells n)
   turns_told zero = no_turn
   turns_told (suc n) = a_turn n (turns_told n)
 
   -- ---- patterns, at some height
 
   -- on the front of a list: where neither `::` before parentheses nor `!=` follows
-  pub pat_took : (place : PatPlace) (s t : Stream) (x : Pat X) → Visible s.rest → pat supplied place s ≡ Ok (x, t) → TookOne (Before (IsSomePat spells place)) s t x
+  pub pat_took : (place : PatPlace) (s t : Stream) (x : Pat X) → Visible s.rest → pat supplied (type_names supplied) place s ≡ Ok (x, t) → TookOne (Before (IsSomePat spells place)) s t x
   unfolding pat
   pat_took place s t x v e =
       let k = (turns_told (suc (ahead s))).took place s t x v e in
       record { left = k.left; seen = k.seen; spelt = λ n stop. (ahead s, k.spelt n stop) }
 
-  pub pat_along : (place : PatPlace) → Along (pat supplied place)
+  pub pat_along : (place : PatPlace) → Along {A = Pat X} (pat supplied (type_names supplied) place)
   unfolding pat
   pat_along place s t x e = (turns_told (suc (ahead s))).along place s t x e
 
   -- all of a list
-  pub pat_sound : (place : PatPlace) (s t : Stream) (x : Pat X) → Visible s.rest → pat supplied place s ≡ Ok (x, t) → leaves t ≡ None → SpellsPat spells place loosely x s.rest
+  pub pat_sound : (place : PatPlace) (s t : Stream) (x : Pat X) → Visible s.rest → pat supplied (type_names supplied) place s ≡ Ok (x, t) → leaves t ≡ None → SpellsPat spells place loosely x s.rest
   pat_sound place s t x v e n = took_whole {Is = Before (IsSomePat spells place)} s t x (pat_took place s t x v e) n done_stops
 
   -- ---- with a guard
@@ -87,10 +87,10 @@ module _ {X : Type 0} (supplied : Place → Reader X) (spells : Place → X → 
   guard_at : (x : Pat X) (w : token.If) (y : X) (l m k : Toks) → IsSomePat spells LeadingVert x l m → IsWord w m k → spells Guard y k → SpellsGuarded spells loosely (pats.Guard (guard_of [] x w (e.Other y))) l
   guard_at x w y l m k i j f = with_guard i.0 i.1 j f
 
-  pub guarded_sound : (s t : Stream) (x : Pat X) → Visible s.rest → guarded supplied s ≡ Ok (x, t) → leaves t ≡ None → SpellsGuarded spells loosely x s.rest
+  pub guarded_sound : (s t : Stream) (x : Pat X) → Visible s.rest → guarded supplied (type_names supplied) s ≡ Ok (x, t) → leaves t ≡ None → SpellsGuarded spells loosely x s.rest
   unfolding guarded
   guarded_sound s t x v d n =
-      let c = chain (pat supplied LeadingVert s) (guard_after supplied) x t d in
+      let c = chain (pat supplied (type_names supplied) LeadingVert s) (guard_after supplied (type_names supplied)) x t d in
       let k = pat_took LeadingVert s c.rest c.value v c.was in
       elim (branch (token.sees_if c.rest.rest) _ _ c.rest (Ok (x, t)) c.goes) [
         | inl y ↦ let f = chain (token.if_word c.rest) _ x t y.1 in
@@ -126,7 +126,7 @@ module _ {X : Type 0} (supplied : Place → Reader X) (spells : Place → X → 
   pub typed_took : (s t : Stream) (x : PatType X) → Visible s.rest → typed supplied s ≡ Ok (x, t) → TookOne (fronts.typed spells) s t x
   unfolding typed
   typed_took s t x v d =
-      let c = chain (pat supplied Single s) _ x t d in
+      let c = chain (pat supplied (type_names supplied) Single s) _ x t d in
       let k = pat_took Single s c.rest c.value v c.was in
       let f = chain (token.colon c.rest) _ x t c.goes in
       let kf = mark_sound {n = 7} {k = 1} refl (omega arith) c.rest f.rest f.value k.seen f.was in

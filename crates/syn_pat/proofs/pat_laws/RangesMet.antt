@@ -31,11 +31,11 @@ use Rattle.syn_attr.specs.declared.expr.Expr.{Expr}
 use Rattle.syn_attr.specs.declared.expr.ExprConstOf.{ExprConstOf}
 use Rattle.syn_forms.proofs.groups_laws.Complete.{content, reads_inside}
 use Rattle.syn_ty.specs.ty.Parts.{clearly}
-use Rattle.syn_ty.specs.ty.Trees.{Path, QSelf}
+use Rattle.syn_ty.specs.ty.Trees.{Path, QSelf, TypeTree}
 use Rattle.syn_pat.specs.declared.pat.PatOf.TheVariants as v
 use Rattle.syn_pat.specs.declared.pat.PatRangeBoundOf.TheVariants as b
 use Rattle.syn_pat.specs.pat.Pats.{Pat, PatRangeBound, pat_range_of, path_pat_of, rest_of}
-use Rattle.syn_pat.specs.pat.Reading.{after_bound, body, bound, bound_as_pat, bound_or_range, const_block, ended, ends_range, half_open as read_half_open, optional_bound, range, range_after, sees_bound_path, sees_half_open}
+use Rattle.syn_pat.specs.pat.Reading.{after_bound, body, bound, bound_as_pat, bound_or_range, const_block, ended, ends_range, half_open as read_half_open, optional_bound, range, range_after, sees_bound_path, sees_half_open, type_names}
 use Rattle.syn_pat.specs.pat.Spelling.{IsConstBlock, a_const_block, IsPatPath, a_pat_path, IsEnd, a_literal_end, a_path_end, a_const_end}
 use Rattle.syn_pat.proofs.pat_laws.NamesMet.{Opens, by_name, by_sep, by_lt, any_opens, not_mod}
 use Rattle.syn_pat.proofs.pat_laws.WithinMet.{SuppliedMeets}
@@ -126,7 +126,7 @@ module _ {X : Type 0} (supplied : Place → Reader X) (spells : Place → X → 
       let u = g.body z y j in
       record { last = s.closing; reads = link _ a.reads (link _ (link _ (reads_inside Brace groups.brace_name (supplied Block) y s c k u.0 f a.last sc u.1 (uses_none z u.0 refl u.2)) refl) refl) }
 
-  pub lit_bound : (x : Lit) (l k : Toks) (f : Option Span) (e : Span) (sc : Scope) → IsLit x l k → Reads_to (bound supplied) (b.Lit (lit_of [] x)) l k f e sc
+  pub lit_bound : (x : Lit) (l k : Toks) (f : Option Span) (e : Span) (sc : Scope) → IsLit x l k → Reads_to (bound supplied (type_names supplied)) (b.Lit (lit_of [] x)) l k f e sc
   unfolding bound
   lit_bound x l k f e sc i =
       let a = lit_complete x l k f e sc i in
@@ -137,14 +137,14 @@ module _ {X : Type 0} (supplied : Place → Reader X) (spells : Place → X → 
 
   -- before no `::`
   path_bound : (q : Option (QSelf (Attr X) (Expr X))) (p : Path (Attr X) (Expr X)) (l k : Toks) (f : Option Span) (e : Span) (sc : Scope) → IsPatPath spells clearly q p l k → token.sees_path_sep k ≡ false →
-      Reads_to (bound supplied) (b.Path (path_pat_of [] q p)) l k f e sc
+      Reads_to (bound supplied (type_names supplied)) (b.Path (path_pat_of [] q p)) l k f e sc
   unfolding bound
   path_bound q p l k f e sc i n =
       let o = path_opens q p l k i in
       let a = g.path q p l k f e sc i n in
       record { last = a.last; reads = chosen (sees_lit l) false _ _ (at l f e sc) _ (path_no_lit l o) (chosen (sees_bound_path l) true _ _ (at l f e sc) _ (path_seen l o) (link _ a.reads refl)) }
 
-  pub const_bound : (x : ExprConstOf (Attr X) X) (l k : Toks) (f : Option Span) (e : Span) (sc : Scope) → IsConstBlock spells x l k → Reads_to (bound supplied) (b.Const x) l k f e sc
+  pub const_bound : (x : ExprConstOf (Attr X) X) (l k : Toks) (f : Option Span) (e : Span) (sc : Scope) → IsConstBlock spells x l k → Reads_to (bound supplied (type_names supplied)) (b.Const x) l k f e sc
   unfolding bound
   const_bound x l k f e sc (a_const_block {w = w} {s = s} {x = y} {c = c} i j) =
       let a = block_met x l k f e sc (a_const_block i j) in
@@ -162,16 +162,16 @@ module _ {X : Type 0} (supplied : Place → Reader X) (spells : Place → X → 
   end_goes x l k (a_path_end {q = q} {p = p} i) = path_goes l (path_opens q p l k i)
   end_goes x l k (a_const_end (a_const_block {w = w} i j)) = const_goes w l _ i
 
-  pub end_met : (x : PatRangeBound X) (l k : Toks) (f : Option Span) (e : Span) (sc : Scope) → IsEnd spells clearly x l k → token.sees_path_sep k ≡ false → Reads_to (bound supplied) x l k f e sc
+  pub end_met : (x : PatRangeBound X) (l k : Toks) (f : Option Span) (e : Span) (sc : Scope) → IsEnd spells clearly x l k → token.sees_path_sep k ≡ false → Reads_to (bound supplied (type_names supplied)) x l k f e sc
   end_met x l k f e sc (a_literal_end {x = y} i) n = lit_bound y l k f e sc i
   end_met x l k f e sc (a_path_end {q = q} {p = p} i) n = path_bound q p l k f e sc i n
   end_met x l k f e sc (a_const_end {x = y} i) n = const_bound y l k f e sc i
 
-  no_bound_met : (k : Toks) (f : Option Span) (e : Span) (sc : Scope) → ends_range k ≡ true → Reads_to (optional_bound supplied) None k k f e sc
+  no_bound_met : (k : Toks) (f : Option Span) (e : Span) (sc : Scope) → ends_range k ≡ true → Reads_to (optional_bound supplied (type_names supplied)) None k k f e sc
   unfolding optional_bound
   no_bound_met k f e sc h = record { last = e; reads = chosen (ends_range k) true _ _ (at k f e sc) _ h refl }
 
-  a_bound_met : (x : PatRangeBound X) (l k : Toks) (f : Option Span) (e : Span) (sc : Scope) → IsEnd spells clearly x l k → token.sees_path_sep k ≡ false → Reads_to (optional_bound supplied) (Some x) l k f e sc
+  a_bound_met : (x : PatRangeBound X) (l k : Toks) (f : Option Span) (e : Span) (sc : Scope) → IsEnd spells clearly x l k → token.sees_path_sep k ≡ false → Reads_to (optional_bound supplied (type_names supplied)) (Some x) l k f e sc
   unfolding optional_bound
   a_bound_met x l k f e sc i n =
       let a = end_met x l k f e sc i n in
@@ -181,19 +181,19 @@ module _ {X : Type 0} (supplied : Place → Reader X) (spells : Place → X → 
 
   -- what follows a start
   pub open_met : (x : PatRangeBound X) (d : token.DotDot) (m k : Toks) (f : Option Span) (e : Span) (sc : Scope) → IsMark true d m k → ends_range k ≡ true →
-      Reads_to (range_after supplied x) (v.Range (pat_range_of [] (Some x) (limits.HalfOpen d) None)) m k f e sc
+      Reads_to {A = Pat X} (range_after supplied (type_names supplied) x) (v.Range (pat_range_of [] (Some x) (limits.HalfOpen d) None)) m k f e sc
   unfolding range_after
   open_met x d m k f e sc i h =
       let a = old_limits_complete (limits.HalfOpen d) m k f e sc (new_limits (half_open i)) in
       let u = no_bound_met k f a.last sc h in
       record { last = u.last; reads = link _ a.reads (link _ u.reads refl) }
 
-  some_end : (s : Option (PatRangeBound X)) (t : RangeLimits) (y : PatRangeBound X) (z : Stream) → ended s t (Some y) z ≡ Ok (range s t (Some y), z)
+  some_end : (s : Option (PatRangeBound X)) (t : RangeLimits) (y : PatRangeBound X) (z : Stream) → ended {T = TypeTree (Attr X) (Expr X)} s t (Some y) z ≡ Ok (range s t (Some y), z)
   some_end s (limits.HalfOpen w) y z = refl
   some_end s (limits.Closed w) y z = refl
 
   pub both_met : (x y : PatRangeBound X) (t : RangeLimits) (m n k : Toks) (f : Option Span) (e : Span) (sc : Scope) → AreOldLimits true t m n → IsEnd spells clearly y n k → token.sees_path_sep k ≡ false →
-      Reads_to (range_after supplied x) (v.Range (pat_range_of [] (Some x) t (Some y))) m k f e sc
+      Reads_to {A = Pat X} (range_after supplied (type_names supplied) x) (v.Range (pat_range_of [] (Some x) t (Some y))) m k f e sc
   unfolding range_after
   both_met x y t m n k f e sc i j h =
       let a = old_limits_complete t m n f e sc i in
@@ -202,14 +202,14 @@ module _ {X : Type 0} (supplied : Place → Reader X) (spells : Place → X → 
 
   -- without a start, and `..` alone
   pub start_met : (t : RangeLimits) (y : PatRangeBound X) (l m k : Toks) (f : Option Span) (e : Span) (sc : Scope) → AreLimits true t l m → IsEnd spells clearly y m k → token.sees_path_sep k ≡ false →
-      Reads_to (read_half_open supplied) (v.Range (pat_range_of [] None t (Some y))) l k f e sc
+      Reads_to {A = Pat X} (read_half_open supplied (type_names supplied)) (v.Range (pat_range_of [] None t (Some y))) l k f e sc
   unfolding read_half_open
   start_met t y l m k f e sc i j h =
       let a = limits_complete t l m f e sc i in
       let u = a_bound_met y m k f a.last sc j h in
       record { last = u.last; reads = link _ a.reads (link _ u.reads (some_end None t y (at k f u.last sc))) }
 
-  pub rest_met : (d : token.DotDot) (l k : Toks) (f : Option Span) (e : Span) (sc : Scope) → IsMark true d l k → ends_range k ≡ true → Reads_to (read_half_open supplied) (v.Rest (rest_of [] d)) l k f e sc
+  pub rest_met : (d : token.DotDot) (l k : Toks) (f : Option Span) (e : Span) (sc : Scope) → IsMark true d l k → ends_range k ≡ true → Reads_to {A = Pat X} (read_half_open supplied (type_names supplied)) (v.Rest (rest_of [] d)) l k f e sc
   unfolding read_half_open
   rest_met d l k f e sc i h =
       let a = limits_complete (limits.HalfOpen d) l k f e sc (half_open i) in
@@ -219,14 +219,14 @@ module _ {X : Type 0} (supplied : Place → Reader X) (spells : Place → X → 
   -- ---- a bound, or the range that it begins
 
   -- by itself, where no `..` follows
-  pub alone_met : (x : PatRangeBound X) (k : Toks) (f : Option Span) (e : Span) (sc : Scope) → token.sees_dot_dot k ≡ false → Reads_to (after_bound supplied x) (bound_as_pat x) k k f e sc
+  pub alone_met : (x : PatRangeBound X) (k : Toks) (f : Option Span) (e : Span) (sc : Scope) → token.sees_dot_dot k ≡ false → Reads_to {A = Pat X} (after_bound supplied (type_names supplied) x) (bound_as_pat x) k k f e sc
   unfolding after_bound
   alone_met x k f e sc h = record { last = e; reads = chosen (token.sees_dot_dot k) false _ _ (at k f e sc) _ h refl }
 
-  pub after_met : (x : PatRangeBound X) (y : Pat X) (m k : Toks) (f : Option Span) (e : Span) (sc : Scope) → token.sees_dot_dot m ≡ true → Reads_to (range_after supplied x) y m k f e sc → Reads_to (after_bound supplied x) y m k f e sc
+  pub after_met : (x : PatRangeBound X) (y : Pat X) (m k : Toks) (f : Option Span) (e : Span) (sc : Scope) → token.sees_dot_dot m ≡ true → Reads_to {A = Pat X} (range_after supplied (type_names supplied) x) y m k f e sc → Reads_to {A = Pat X} (after_bound supplied (type_names supplied) x) y m k f e sc
   unfolding after_bound
   after_met x y m k f e sc h u = record { last = u.last; reads = chosen (token.sees_dot_dot m) true _ _ (at m f e sc) _ h u.reads }
 
-  pub bound_then : (x : PatRangeBound X) (y : Pat X) (l m k : Toks) (f : Option Span) (e : Span) (sc : Scope) (a : Reads_to (bound supplied) x l m f e sc) → Reads_to (after_bound supplied x) y m k f a.last sc → Reads_to (bound_or_range supplied) y l k f e sc
+  pub bound_then : (x : PatRangeBound X) (y : Pat X) (l m k : Toks) (f : Option Span) (e : Span) (sc : Scope) (a : Reads_to (bound supplied (type_names supplied)) x l m f e sc) → Reads_to {A = Pat X} (after_bound supplied (type_names supplied) x) y m k f a.last sc → Reads_to (bound_or_range supplied (type_names supplied)) y l k f e sc
   unfolding bound_or_range
   bound_then x y l m k f e sc a u = record { last = u.last; reads = link _ a.reads u.reads }

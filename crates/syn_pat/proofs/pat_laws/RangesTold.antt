@@ -32,7 +32,7 @@ use Rattle.syn_pat.specs.declared.pat.PatRangeBoundOf.TheVariants as b
 use Rattle.syn_pat.specs.declared.place.PatPlace.{PatPlace}
 use Rattle.syn_pat.specs.pat.Admitted.{IsSingle, a_const, a_literal, a_range, a_rest}
 use Rattle.syn_pat.specs.pat.Pats.{Pat, PatRange, PatRangeBound, pat_range_of, path_pat_of, rest_of}
-use Rattle.syn_pat.specs.pat.Reading.{after_bound, begins_bound, bound, bound_as_pat, bound_or_range, const_block, ended, ends_range, half_of, half_open as half_open_range, optional_bound, qpath, range, range_after, sees_bound_path}
+use Rattle.syn_pat.specs.pat.Reading.{after_bound, begins_bound, bound, bound_as_pat, bound_or_range, const_block, ended, ends_range, half_of, half_open as half_open_range, optional_bound, qpath, range, range_after, sees_bound_path, type_names}
 use Rattle.syn_pat.specs.pat.Spelling.{IsConstBlock, a_const_block, a_pat_path, IsEnd, a_literal_end, a_path_end, a_const_end, IsStart, a_literal_start, a_const_start, IsRange, without_end, without_start, with_both}
 use Rattle.syn_pat.proofs.pat_laws.NamesTold.{no_path_bound, no_try_bound}
 use Rattle.syn_pat.proofs.pat_laws.WithinTold.{AnyPath, Before, IsSomePath, SuppliedTold, TookOn}
@@ -67,7 +67,7 @@ module _ {X : Type 0} (supplied : Place → Reader X) (spells : Place → X → 
   path_end : (q : AnyPath X) (l r : Toks) → token.sees_try l ≡ false → IsSomePath spells q l r → End (b.Path (path_pat_of [] q.0 q.1)) l r
   path_end q l r h i = a_path_end (a_pat_path i.0 (i.1, h))
 
-  pub bound_took : (s t : Stream) (x : PatRangeBound X) → Visible s.rest → bound supplied s ≡ Ok (x, t) → TookOne End s t x
+  pub bound_took : (s t : Stream) (x : PatRangeBound X) → Visible s.rest → bound supplied (type_names supplied) s ≡ Ok (x, t) → TookOne End s t x
   unfolding bound
   bound_took s t x v e =
       elim (branch (sees_lit s.rest) _ _ s (Ok (x, t)) e) [
@@ -85,13 +85,13 @@ module _ {X : Type 0} (supplied : Place → Reader X) (spells : Place → X → 
         ]
       ]
 
-  pub optional_bound_took : (s t : Stream) (x : Option (PatRangeBound X)) → Visible s.rest → optional_bound supplied s ≡ Ok (x, t) → TookOne (IsOptional End) s t x
+  pub optional_bound_took : (s t : Stream) (x : Option (PatRangeBound X)) → Visible s.rest → optional_bound supplied (type_names supplied) s ≡ Ok (x, t) → TookOne (IsOptional End) s t x
   unfolding optional_bound
   optional_bound_took s t x v e =
       elim (branch (ends_range s.rest) _ _ s (Ok (x, t)) e) [
         | inl y ↦ let q = same_pair None x s t y.1 in
             subst (λ z. TookOne (IsOptional End) s t z) q.0 (subst (λ z. TookOne (IsOptional End) s z None) q.1 (record { left = λ n. n; seen = v; spelt = λ n. absent }))
-        | inr y ↦ let k = mapped (bound supplied s) (λ (z : PatRangeBound X). Some z) x t y.1 in
+        | inr y ↦ let k = mapped (bound supplied (type_names supplied) s) (λ (z : PatRangeBound X). Some z) x t y.1 in
             took_as {Is = End} {Js = IsOptional End} (λ (z : PatRangeBound X). Some z) s t k.value x k.is (λ l m i. present i) (bound_took s t k.value v k.was)
       ]
 
@@ -130,12 +130,12 @@ module _ {X : Type 0} (supplied : Place → Reader X) (spells : Place → X → 
         let q = same_pair (range (Some x) (limits.Closed d) (Some f)) y s t e in (q.1, λ i j h. subst (λ z. Single z l s.rest) q.0 (a_range (both_at x f (limits.Closed d) l m n s.rest i j h)))
     ended_is x (limits.Closed d) None l m n s t y e = cc
 
-    pub range_after_took : (x : PatRangeBound X) (l : Toks) (s t : Stream) (y : Pat X) → Visible s.rest → range_after supplied x s ≡ Ok (y, t) → TookOn s t (Start x l s.rest → Single y l t.rest)
+    pub range_after_took : (x : PatRangeBound X) (l : Toks) (s t : Stream) (y : Pat X) → Visible s.rest → range_after supplied (type_names supplied) x s ≡ Ok (y, t) → TookOn s t (Start x l s.rest → Single y l t.rest)
     unfolding range_after
     range_after_took x l s t y v e =
         let c = chain (ranges.read_obsolete s) _ y t e in
         let k = old_limits_took s c.rest c.value v c.was in
-        let d = chain (optional_bound supplied c.rest) _ y t c.goes in
+        let d = chain (optional_bound supplied (type_names supplied) c.rest) _ y t c.goes in
         let w = optional_bound_took c.rest d.rest d.value k.seen d.was in
         let q = ended_is x c.value d.value l s.rest c.rest.rest d.rest t y d.goes in
         let all : TookOn s d.rest (Start x l s.rest → Single y l d.rest.rest) = record { left = λ n. k.left (w.left n); seen = w.seen; told = λ n i. q.1 i (k.spelt (w.left n)) (w.spelt n) } in
@@ -157,12 +157,12 @@ module _ {X : Type 0} (supplied : Place → Reader X) (spells : Place → X → 
     half_is (limits.Closed d) None l m s t y e = cc
 
     -- `..`, or `..` or `..=` and an end
-    pub half_took : (s t : Stream) (y : Pat X) → Visible s.rest → half_open_range supplied s ≡ Ok (y, t) → TookOne Single s t y
+    pub half_took : (s t : Stream) (y : Pat X) → Visible s.rest → half_open_range supplied (type_names supplied) s ≡ Ok (y, t) → TookOne Single s t y
     unfolding half_open_range
     half_took s t y v e =
         let c = chain (ranges.read s) _ y t e in
         let k = limits_took s c.rest c.value v c.was in
-        let d = chain (optional_bound supplied c.rest) _ y t c.goes in
+        let d = chain (optional_bound supplied (type_names supplied) c.rest) _ y t c.goes in
         let w = optional_bound_took c.rest d.rest d.value k.seen d.was in
         let q = half_is c.value d.value s.rest c.rest.rest d.rest t y d.goes in
         let all : TookOne Single s d.rest y = record { left = λ n. k.left (w.left n); seen = w.seen; spelt = λ n. q.1 (k.spelt (w.left n)) (w.spelt n) } in
@@ -174,7 +174,7 @@ module _ {X : Type 0} (supplied : Place → Reader X) (spells : Place → X → 
     abbrev pub AsStart : PatRangeBound X → Toks → Toks → Type 0
     AsStart x l r = (token.sees_dot_dot r ≡ true → Start x l r) × (token.sees_dot_dot r ≡ false → Before Single (bound_as_pat x) l r)
 
-    pub after_bound_took : (x : PatRangeBound X) (l : Toks) (s t : Stream) (y : Pat X) → Visible s.rest → after_bound supplied x s ≡ Ok (y, t) → TookOn s t (AsStart x l s.rest → Before Single y l t.rest)
+    pub after_bound_took : (x : PatRangeBound X) (l : Toks) (s t : Stream) (y : Pat X) → Visible s.rest → after_bound supplied (type_names supplied) x s ≡ Ok (y, t) → TookOn s t (AsStart x l s.rest → Before Single y l t.rest)
     unfolding after_bound
     after_bound_took x l s t y v e =
         elim (branch (token.sees_dot_dot s.rest) _ _ s (Ok (y, t)) e) [
@@ -191,7 +191,7 @@ module _ {X : Type 0} (supplied : Place → Reader X) (spells : Place → X → 
     block_told x l r i = (λ h. a_const_start i, λ h o. a_const i)
 
     -- a literal or a const block
-    begun_took : (s t : Stream) (x : PatRangeBound X) → Visible s.rest → begins_bound s.rest ≡ true → bound supplied s ≡ Ok (x, t) → TookOne AsStart s t x
+    begun_took : (s t : Stream) (x : PatRangeBound X) → Visible s.rest → begins_bound s.rest ≡ true → bound supplied (type_names supplied) s ≡ Ok (x, t) → TookOne AsStart s t x
     unfolding bound
     begun_took s t x v h e =
         elim (branch (sees_lit s.rest) _ _ s (Ok (x, t)) e) [
@@ -207,10 +207,10 @@ module _ {X : Type 0} (supplied : Place → Reader X) (spells : Place → X → 
           ]
         ]
 
-    pub bound_or_range_took : (s t : Stream) (y : Pat X) → Visible s.rest → begins_bound s.rest ≡ true → bound_or_range supplied s ≡ Ok (y, t) → TookOne (Before Single) s t y
+    pub bound_or_range_took : (s t : Stream) (y : Pat X) → Visible s.rest → begins_bound s.rest ≡ true → bound_or_range supplied (type_names supplied) s ≡ Ok (y, t) → TookOne (Before Single) s t y
     unfolding bound_or_range
     bound_or_range_took s t y v h e =
-        let c = chain (bound supplied s) (after_bound supplied) y t e in
+        let c = chain (bound supplied (type_names supplied) s) (after_bound supplied (type_names supplied)) y t e in
         let k = begun_took s c.rest c.value v h c.was in
         let w = after_bound_took c.value s.rest c.rest t y k.seen c.goes in
         record { left = λ n. k.left (w.left n); seen = w.seen; spelt = λ n. w.told n (k.spelt (w.left n)) }

@@ -37,7 +37,7 @@ use Rattle.syn_pat.specs.declared.place.PatPlace.{PatPlace}
 use Rattle.syn_pat.specs.declared.place.PatPlace.TheVariants.{Single}
 use Rattle.syn_pat.specs.pat.Admitted.{a_box, IsBinding, a_binding, IsSubpat, a_subpat, IsSingle, a_binding_pat, a_wild, a_rest, a_literal, a_const, a_call, a_path, a_range, a_reference, a_mutable_reference, a_paren, a_tuple, a_slice, a_tuple_struct, a_struct, a_verbatim}
 use Rattle.syn_pat.specs.pat.Pats.{Pat, PatIdent, PatRange, PatRangeBound, path_pat_of}
-use Rattle.syn_pat.specs.pat.Reading.{Readers, after_path, begins_path, box_pat, path_pat, range_after, single}
+use Rattle.syn_pat.specs.pat.Reading.{Readers, after_path, begins_path, box_pat, path_pat, range_after, single, type_names}
 use Rattle.syn_pat.specs.pat.Spelling.{a_const_block, IsPatPath, a_pat_path, IsRange, without_end, without_start, with_both, IsStart, a_literal_start, a_path_start, a_const_start, is_binding, is_self, lone_word}
 use Rattle.syn_pat.proofs.pat_laws.BindingsMet.{binding_met, mutable_reference_met, reference_met, wild_met}
 use Rattle.syn_pat.proofs.pat_laws.CallsMet.{bang_no_sep, bound_goes, call_begins, call_goes, call_is_path, group_no_sep, struct_goes, tuple_struct_goes}
@@ -89,7 +89,7 @@ module _ {X : Type 0} (supplied : Place → Reader X) (spells : Place → X → 
   P = Path (Attr X) (Expr X)
 
   abbrev Reads : Pat X → Toks → Toks → Option Span → Span → Scope → Type 0
-  Reads y l k f e sc = Reads_to (single supplied r) y l k f e sc
+  Reads y l k f e sc = Reads_to (single supplied (type_names supplied) r) y l k f e sc
 
   -- ---- bindings
 
@@ -113,7 +113,7 @@ module _ {X : Type 0} (supplied : Place → Reader X) (spells : Place → X → 
   -- ---- what begins with a path
 
   -- the path, and what is read after it
-  path_then : (q : Q) (p : P) (y : Pat X) (l m k : Toks) (f : Option Span) (e : Span) (sc : Scope) → IsPatPath spells clearly q p l m → token.sees_path_sep m ≡ false → begins_path l ≡ true → ((d : Span) → Reads_to (after_path supplied r q p) y m k f d sc) →
+  path_then : (q : Q) (p : P) (y : Pat X) (l m k : Toks) (f : Option Span) (e : Span) (sc : Scope) → IsPatPath spells clearly q p l m → token.sees_path_sep m ≡ false → begins_path l ≡ true → ((d : Span) → Reads_to (after_path supplied (type_names supplied) r q p) y m k f d sc) →
       Reads y l k f e sc
   unfolding path_pat
   path_then q p y l m k f e sc i n h u =
@@ -146,7 +146,7 @@ module _ {X : Type 0} (supplied : Place → Reader X) (spells : Place → X → 
   -- ---- ranges
 
   -- a start, and the range that it begins
-  start_single : (x : PatRangeBound X) (y : Pat X) (l m k : Toks) (f : Option Span) (e : Span) (sc : Scope) → IsStart spells clearly x l m → token.sees_dot_dot m ≡ true → ((d : Span) → Reads_to (range_after supplied x) y m k f d sc) → Reads y l k f e sc
+  start_single : (x : PatRangeBound X) (y : Pat X) (l m k : Toks) (f : Option Span) (e : Span) (sc : Scope) → IsStart spells clearly x l m → token.sees_dot_dot m ≡ true → ((d : Span) → Reads_to (range_after supplied (type_names supplied) x) y m k f d sc) → Reads y l k f e sc
   start_single x y l m k f e sc (a_literal_start {x = z} i) h u =
       let a = lit_bound supplied spells g z l m f e sc i in
       lit_turn supplied r z y l m k f e sc i (bound_then supplied spells g x y l m k f e sc a (after_met supplied spells g x y m k f a.last sc h (u a.last)))

@@ -39,7 +39,7 @@ use Rattle.syn_pat.specs.declared.place.PatPlace.{PatPlace}
 use Rattle.syn_pat.specs.declared.place.PatPlace.TheVariants.{Single, LeadingVert}
 use Rattle.syn_pat.specs.pat.Admitted.{a_box, IsSingle, a_binding_pat, a_call, a_path, a_struct, a_tuple_struct, a_verbatim, a_wild}
 use Rattle.syn_pat.specs.pat.Pats.{Pat, path_pat_of, struct_of, tuple_struct_of, wild_of}
-use Rattle.syn_pat.specs.pat.Reading.{Fields, Readers, after_path, begins_binding, begins_bound, begins_path, binding, box_pat, by_mark, by_word, elements, fields, path_pat, qpath, reference, sees_half_open, single, slice, struct_after, tuple_struct_after}
+use Rattle.syn_pat.specs.pat.Reading.{Fields, Readers, after_path, begins_binding, begins_bound, begins_path, binding, box_pat, by_mark, by_word, elements, fields, path_pat, qpath, reference, sees_half_open, single, slice, struct_after, tuple_struct_after, type_names}
 use Rattle.syn_pat.specs.pat.Spelling.{IsHead, a_pat_path, a_path_start, types_to}
 use Rattle.syn_pat.proofs.pat_laws.BindingsTold.{AllOf, binding_took, elements_sound, paren_took, reference_took, slice_took}
 use Rattle.syn_pat.proofs.pat_laws.CallsTold.{call_took, path_bare, path_ends}
@@ -115,7 +115,7 @@ module _ {X : Type 0} (supplied : Place → Reader X) (spells : Place → X → 
   bare None p l m b e = unqualified_is b.path.0 p l m b.path.1 (and_second _ _ e)
   bare (Some q) p l m b e = cc e
 
-  pub after_path_took : (q : Q) (p : P) (l : Toks) (s t : Stream) (x : Pat X) → Visible s.rest → after_path supplied r q p s ≡ Ok (x, t) → TookOn s t (IsBegun q p l s.rest → Before Of x l t.rest)
+  pub after_path_took : (q : Q) (p : P) (l : Toks) (s t : Stream) (x : Pat X) → Visible s.rest → after_path supplied (type_names supplied) r q p s ≡ Ok (x, t) → TookOn s t (IsBegun q p l s.rest → Before Of x l t.rest)
   unfolding after_path struct_after tuple_struct_after
   after_path_took q p l s t x v e =
       elim (branch (not (is_some q) && (sees_call s.rest && is_mod_style p)) _ _ s (Ok (x, t)) e) [
@@ -137,10 +137,10 @@ module _ {X : Type 0} (supplied : Place → Reader X) (spells : Place → X → 
         ]
       ]
 
-  path_pat_took : (s t : Stream) (x : Pat X) → Visible s.rest → begins_path s.rest ≡ true → path_pat supplied r s ≡ Ok (x, t) → TookOne (Before Of) s t x
+  path_pat_took : (s t : Stream) (x : Pat X) → Visible s.rest → begins_path s.rest ≡ true → path_pat supplied (type_names supplied) r s ≡ Ok (x, t) → TookOne (Before Of) s t x
   unfolding path_pat
   path_pat_took s t x v b e =
-      let c = chain (qpath supplied s) (λ (p : AnyPath X). after_path supplied r p.0 p.1) x t e in
+      let c = chain (qpath supplied s) (λ (p : AnyPath X). after_path supplied (type_names supplied) r p.0 p.1) x t e in
       let k = g.path s c.rest c.value v c.was in
       let w = after_path_took c.value.0 c.value.1 s.rest c.rest t x k.seen c.goes in
       record {
@@ -151,7 +151,7 @@ module _ {X : Type 0} (supplied : Place → Reader X) (spells : Place → X → 
 
   -- ---- by the first tokens
 
-  by_mark_took : (s t : Stream) (x : Pat X) → Visible s.rest → by_mark supplied r s ≡ Ok (x, t) → TookOne (Before Of) s t x
+  by_mark_took : (s t : Stream) (x : Pat X) → Visible s.rest → by_mark supplied (type_names supplied) r s ≡ Ok (x, t) → TookOne (Before Of) s t x
   unfolding by_mark
   by_mark_took s t x v e =
       elim (branch (token.sees_and s.rest) _ _ s (Ok (x, t)) e) [
@@ -168,7 +168,7 @@ module _ {X : Type 0} (supplied : Place → Reader X) (spells : Place → X → 
         ]
       ]
 
-  by_word_took : (s t : Stream) (x : Pat X) → Visible s.rest → by_word supplied r s ≡ Ok (x, t) → TookOne (Before Of) s t x
+  by_word_took : (s t : Stream) (x : Pat X) → Visible s.rest → by_word supplied (type_names supplied) r s ≡ Ok (x, t) → TookOne (Before Of) s t x
   unfolding by_word
   by_word_took s t x v e =
       elim (branch (token.sees_underscore s.rest) _ _ s (Ok (x, t)) e) [
@@ -189,10 +189,10 @@ module _ {X : Type 0} (supplied : Place → Reader X) (spells : Place → X → 
         ]
       ]
 
-  pub single_took : (s t : Stream) (x : Pat X) → Visible s.rest → single supplied r s ≡ Ok (x, t) → TookOne (Before Of) s t x
+  pub single_took : (s t : Stream) (x : Pat X) → Visible s.rest → single supplied (type_names supplied) r s ≡ Ok (x, t) → TookOne (Before Of) s t x
   unfolding single
   single_took s t x v e =
-      elim (branch (begins_path s.rest) (path_pat supplied r) (by_word supplied r) s (Ok (x, t)) e) [
+      elim (branch (begins_path s.rest) (path_pat supplied (type_names supplied) r) (by_word supplied (type_names supplied) r) s (Ok (x, t)) e) [
         | inl y ↦ path_pat_took s t x v y.0 y.1
         | inr y ↦ by_word_took s t x v y.1
       ]

@@ -21,7 +21,7 @@ use Rattle.syn_path.specs.declared.supplied.Place.{Place}
 use Rattle.syn_ty.specs.ty.Spelling.{IsOptional, absent, present}
 use Rattle.syn_pat.specs.declared.pat.PatOf.TheVariants as v
 use Rattle.syn_pat.specs.pat.Pats.{Pat, PatIdent, PatReference, PatSlice, wild_of}
-use Rattle.syn_pat.specs.pat.Reading.{Readers, begins_binding, begins_bound, begins_path, binding, bound_or_range, box_pat, by_mark, by_word, half_open as read_half_open, paren_or_tuple, path_pat, reference, sees_half_open, sees_named_path, sees_self_path, single, slice, wild}
+use Rattle.syn_pat.specs.pat.Reading.{Readers, begins_binding, begins_bound, begins_path, binding, bound_or_range, box_pat, by_mark, by_word, half_open as read_half_open, paren_or_tuple, path_pat, reference, sees_half_open, sees_named_path, sees_self_path, single, slice, wild, type_names}
 use Rattle.syn_pat.specs.pat.Spelling.{is_binding_name}
 use Rattle.syn_pat.proofs.pat_laws.NamesMet.{Behind, not_bound, word_tested}
 use Rattle.syn_pat.proofs.pat_laws.RangesMet.{limits_seen, word_no_lit}
@@ -73,9 +73,9 @@ name_binds i k h = last_two (token.sees_ref (word i k)) (token.sees_mut (word i 
 
 module _ {X : Type 0} (supplied : Place → Reader X) (r : Readers X) where
   abbrev Reads : Pat X → Toks → Toks → Option Span → Span → Scope → Type 0
-  Reads y l k f e sc = Reads_to (single supplied r) y l k f e sc
+  Reads y l k f e sc = Reads_to (single supplied (type_names supplied) r) y l k f e sc
 
-  pub path_turn : (y : Pat X) (l k : Toks) (f : Option Span) (e : Span) (sc : Scope) → begins_path l ≡ true → Reads_to (path_pat supplied r) y l k f e sc → Reads y l k f e sc
+  pub path_turn : (y : Pat X) (l k : Toks) (f : Option Span) (e : Span) (sc : Scope) → begins_path l ≡ true → Reads_to (path_pat supplied (type_names supplied) r) y l k f e sc → Reads y l k f e sc
   unfolding single
   path_turn y l k f e sc h u = record { last = u.last; reads = chosen (begins_path l) true _ _ (at l f e sc) _ h u.reads }
 
@@ -88,14 +88,14 @@ module _ {X : Type 0} (supplied : Place → Reader X) (r : Readers X) where
   box_turn w y l m k f e sc is_word u = record { last = u.last; reads = u.reads }
 
   -- a literal, perhaps after `-`, and a const block
-  pub lit_turn : (x : Lit) (y : Pat X) (l m k : Toks) (f : Option Span) (e : Span) (sc : Scope) → IsLit x l m → Reads_to (bound_or_range supplied) y l k f e sc → Reads y l k f e sc
+  pub lit_turn : (x : Lit) (y : Pat X) (l m k : Toks) (f : Option Span) (e : Span) (sc : Scope) → IsLit x l m → Reads_to (bound_or_range supplied (type_names supplied)) y l k f e sc → Reads y l k f e sc
   unfolding single by_word begins_path begins_bound sees_named_path sees_self_path sees_lit sees_word sees_mark is_keyword
   lit_turn x y l m k f e sc a_literal u = record { last = u.last; reads = u.reads }
   lit_turn x y l m k f e sc (a_bool {b = true}) u = record { last = u.last; reads = u.reads }
   lit_turn x y l m k f e sc (a_bool {b = false}) u = record { last = u.last; reads = u.reads }
   lit_turn x y l m k f e sc (a_negative h) u = record { last = u.last; reads = u.reads }
 
-  pub const_turn : (w : token.Const) (y : Pat X) (l m k : Toks) (f : Option Span) (e : Span) (sc : Scope) → IsWord w l m → Reads_to (bound_or_range supplied) y l k f e sc → Reads y l k f e sc
+  pub const_turn : (w : token.Const) (y : Pat X) (l m k : Toks) (f : Option Span) (e : Span) (sc : Scope) → IsWord w l m → Reads_to (bound_or_range supplied (type_names supplied)) y l k f e sc → Reads y l k f e sc
   unfolding single by_word begins_path begins_bound sees_named_path sees_self_path sees_lit sees_word sees_mark is_keyword
   const_turn w y l m k f e sc is_word u = record { last = u.last; reads = u.reads }
 
@@ -141,7 +141,7 @@ module _ {X : Type 0} (supplied : Place → Reader X) (r : Readers X) where
   bracket_turn x s c k f e sc u = record { last = u.last; reads = link _ u.reads refl }
 
   -- `..` and `..=`
-  pub limits_turn : (y : Pat X) (t : RangeLimits) (l m k : Toks) (f : Option Span) (e : Span) (sc : Scope) → AreLimits true t l m → Reads_to (read_half_open supplied) y l k f e sc → Reads y l k f e sc
+  pub limits_turn : (y : Pat X) (t : RangeLimits) (l m k : Toks) (f : Option Span) (e : Span) (sc : Scope) → AreLimits true t l m → Reads_to (read_half_open supplied (type_names supplied)) y l k f e sc → Reads y l k f e sc
   unfolding single by_word by_mark begins_path begins_bound begins_binding sees_named_path sees_self_path sees_lit sees_word sees_mark sees_group
   limits_turn y t l m k f e sc (half_open (is_mark (more_chars (last_char x)))) u =
       record { last = u.last; reads = chosen (sees_half_open l) true _ _ (at l f e sc) _ (limits_seen t l m (half_open (is_mark (more_chars (last_char x))))) u.reads }

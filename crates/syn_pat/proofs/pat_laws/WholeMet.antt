@@ -27,7 +27,7 @@ use Rattle.syn_ty.proofs.ty_laws.Met.{Less, PathStops}
 use Rattle.syn_ty.proofs.ty_laws.WholeMet.{Whole}
 use Rattle.syn_pat.specs.declared.place.PatPlace.{PatPlace}
 use Rattle.syn_pat.specs.pat.Knot as knot
-use Rattle.syn_pat.specs.pat.Reading.{qpath, values}
+use Rattle.syn_pat.specs.pat.Reading.{qpath, values, type_names}
 use Rattle.syn_pat.specs.pat.Spelling.{IsPatPath, a_pat_path, outer_spelt, types_to, values_spelt}
 use Rattle.syn_pat.specs.pat.Spelt.{SpellsGuarded, SpellsPat, SpellsPatType}
 use Rattle.syn_pat.proofs.pat_laws.KnotMet as met
@@ -68,10 +68,10 @@ module _ {X : Type 0} (reads : Place → Reader X) (spells : Place → X → Tok
     guard = λ s x i. complete Guard s x i;
   }
 
-  pub pat_complete : (place : PatPlace) → Whole (knot.pat reads place) (SpellsPat spells place clearly)
+  pub pat_complete : (place : PatPlace) → Whole (knot.pat reads (type_names reads) place) (SpellsPat spells place clearly)
   pat_complete place s x n v i = met.pat_complete reads spells supplied place s x n i
 
-  pub guarded_complete : Whole (knot.guarded reads) (SpellsGuarded spells clearly)
+  pub guarded_complete : Whole (knot.guarded reads (type_names reads)) (SpellsGuarded spells clearly)
   guarded_complete s x n v i = met.guarded_complete reads spells supplied s x n i
 
   pub typed_complete : Whole (knot.typed reads) (SpellsPatType spells clearly)

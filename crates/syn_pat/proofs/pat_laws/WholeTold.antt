@@ -20,7 +20,7 @@ use Rattle.syn_ty.proofs.ty_laws.Given.{Given, given}
 use Rattle.syn_ty.proofs.ty_laws.WholeTold.{Whole}
 use Rattle.syn_pat.specs.declared.place.PatPlace.{PatPlace}
 use Rattle.syn_pat.specs.pat.Knot as knot
-use Rattle.syn_pat.specs.pat.Reading.{values}
+use Rattle.syn_pat.specs.pat.Reading.{values, type_names}
 use Rattle.syn_pat.specs.pat.Spelling.{outer_spelt, values_spelt}
 use Rattle.syn_pat.specs.pat.Spelt.{SpellsGuarded, SpellsPat, SpellsPatType}
 use Rattle.syn_ty.specs.ty.Parts.{loosely}
@@ -54,10 +54,10 @@ module _ {X : Type 0} (reads : Place → Reader X) (spells : Place → X → Tok
     attrs_along = (attributes_told reads spells sound).along;
   }
 
-  pub pat_sound : (place : PatPlace) → Whole (knot.pat reads place) (SpellsPat spells place loosely)
+  pub pat_sound : (place : PatPlace) → Whole (knot.pat reads (type_names reads) place) (SpellsPat spells place loosely)
   pat_sound place s t x n v e c = told.pat_sound reads spells supplied place s t x v e c
 
-  pub guarded_sound : Whole (knot.guarded reads) (SpellsGuarded spells loosely)
+  pub guarded_sound : Whole (knot.guarded reads (type_names reads)) (SpellsGuarded spells loosely)
   guarded_sound s t x n v e c = told.guarded_sound reads spells supplied s t x v e c
 
   pub typed_sound : Whole (knot.typed reads) (SpellsPatType spells loosely)

@@ -9,8 +9,8 @@ use Rattle.syn_forms.specs.nested.Below.{ahead, below, held}
 use Rattle.syn_pat.specs.declared.pat.PatOf.TheVariants as v
 use Rattle.syn_pat.specs.declared.place.PatPlace.{PatPlace}
 use Rattle.syn_pat.specs.declared.place.PatPlace.TheVariants.{LeadingVert, Single}
-use Rattle.syn_pat.specs.pat.Pats.{Pat, PatType, guard_of, typed_of}
-use Rattle.syn_pat.specs.pat.Reading.{Readers, pat_step, values}
+use Rattle.syn_pat.specs.pat.Pats.{PatOver, PatType, guard_of, typed_of}
+use Rattle.syn_pat.specs.pat.Reading.{Named, ReadersOver, pat_step, type_names, values}
 use Rattle.syn_path.specs.declared.supplied.Place.{Place}
 use Rattle.syn_path.specs.declared.supplied.Place.TheVariants.{Guard}
 use Rattle.syn_ty.specs.ty.Knot as types
@@ -19,21 +19,21 @@ use Rattle.token_core.specs.declared.error.ErrorKind.TheVariants.{Unexpected}
 use Rattle.token_core.specs.Reads.{Reader, ◌>>=◌, peek, pure, refuse}
 use Rattle.token_core.specs.Tokens as token
 
-module _ {X : Type 0} (supplied : Place → Reader X) where
-  abbrev pub read_at : ℕ → Readers X
+module _ {X G Q T : Type 0} (supplied : Place → Reader X) (names : Named G Q) where
+  abbrev pub read_at : ℕ → ReadersOver X G Q T
   read_at zero place s = refuse Unexpected s
-  read_at (suc n) place s = pat_step supplied (λ q. below (ahead s) (read_at n q)) place s
+  read_at (suc n) place s = pat_step supplied names (λ q. below (ahead s) (read_at n q)) place s
 
-  unfoldable pub pat : Readers X
+  unfoldable pub pat : ReadersOver X G Q T
   pat place s = read_at (suc (ahead s)) place s
 
   -- where less than the limit is left
-  abbrev pub pats_below : ℕ → Readers X
+  abbrev pub pats_below : ℕ → ReadersOver X G Q T
   pats_below limit = held pat limit
 
   -- ---- outermost
 
-  abbrev pub guard_after : Pat X → Reader (Pat X)
+  abbrev pub guard_after : PatOver X G Q T → Reader (PatOver X G Q T)
   guard_after x = do
     goes ← peek token.sees_if
     if goes then (do
@@ -42,16 +42,19 @@ module _ {X : Type 0} (supplied : Place → Reader X) where
       pure (v.Guard (guard_of [] x w (e.Other g)))) else pure x
 
   -- a guard may follow
-  unfoldable pub guarded : Reader (Pat X)
+  unfoldable pub guarded : Reader (PatOver X G Q T)
   guarded = pat LeadingVert >>= guard_after
 
+-- ---- over the types that are read with a supplied subtree
+
+module _ {X : Type 0} (supplied : Place → Reader X) where
   -- the type of a pattern, which a `+` goes on with
   abbrev pub ty : Reader (TypeTree (Attr X) (Expr X))
   ty = types.ty (outer supplied) (values supplied) Plus
 
   unfoldable pub typed : Reader (PatType X)
   typed = do
-    x ← pat Single
+    x ← pat supplied (type_names supplied) Single
     c ← token.colon
     t ← ty
     pure (typed_of [] x c t)
