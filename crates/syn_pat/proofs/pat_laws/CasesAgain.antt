@@ -1,4 +1,5 @@
 -- Patterns joined by `|`, and a pattern in its place, print their normal form clearly, where the patterns that they hold do.
+use Rattle.syn_pat.specs.pat.Printing.{types_shown}
 use Rattle.std.proofs.Common.{Bool, true, false, List, [], ◌∷◌, ◌++◌, Some, None, refl, ◌∙◌, ap, append-nil}
 use Rattle.token_core.specs.Listed.{AreListed, Nowhere}
 use Rattle.token_core.specs.Loops.{Many}
@@ -44,7 +45,7 @@ module _ {X : Type 0} (spells : Place → X → Toks → Type 0) (nx : Place →
   More z = AreListed (λ (_ : Bool). part clearly Single) (IsMark true) Nowhere true z.0 z.1
 
   abbrev print_cases : Cases → Print
-  print_cases z = printing.list px z
+  print_cases z = printing.list px (types_shown px) z
 
   abbrev with_first : Pat X × (token.Bar × Cases) → Cases
   with_first z = (z.0 ∷ z.1.1.0, z.1.0 ∷ z.1.1.1)
@@ -73,10 +74,10 @@ module _ {X : Type 0} (spells : Place → X → Toks → Type 0) (nx : Place →
         let k = single_again spells nx px g part again x l r i in
         record { spelt = λ o. a_single (k.spelt o) (fits place x h); visible = k.visible; seen = k.seen; stays = k.stays; same = k.same }
     pat_again x l r (some_cases {xs = xs} {cs = cs} h i) =
-        made_front Are Is (many N) N print_cases P (λ z. v.Or (or_of [] None z)) (λ z l r i. some_cases h i) (λ z. normal-Or nx (or_of [] None z)) (λ z. pat-Or px (or_of [] None z)) (xs, cs) l r (cases_again xs cs l r i)
+        made_front Are Is (many N) N print_cases P (λ z. v.Or (or_of [] None z)) (λ z l r i. some_cases h i) (λ z. normal-Or nx (or_of [] None z)) (λ z. pat-Or px (types_shown px) (or_of [] None z)) (xs, cs) l r (cases_again xs cs l r i)
     pat_again x l r (one_after_vert {b = b} {x = y} {m = m} h i j) =
         made_front (Then (IsMark true) (IsSingle spells part clearly)) Is _ N _ P alone_after (λ z l r i. one_after_vert h i.1 i.2) (λ z. normal-Or nx (or_of [] (Some z.0) (z.1 ∷ [], [])))
-        (λ z. pat-Or px (or_of [] (Some z.0) (z.1 ∷ [], [])) ∙ ap (λ k. p.mark z.0 ++ k) (append-nil (P z.1))) (b, y) l r (then_front (mark_front b l m i) (single_again spells nx px g part again y m r j))
+        (λ z. pat-Or px (types_shown px) (or_of [] (Some z.0) (z.1 ∷ [], [])) ∙ ap (λ k. p.mark z.0 ++ k) (append-nil (P z.1))) (b, y) l r (then_front (mark_front b l m i) (single_again spells nx px g part again y m r j))
     pat_again x l r (some_after_vert {b = b} {xs = xs} {cs = cs} {m = m} h i j) =
-        made_front (Then (IsMark true) Are) Is _ N _ P (λ (z : token.Bar × Cases). v.Or (or_of [] (Some z.0) z.1)) (λ z l r i. some_after_vert h i.1 i.2) (λ z. normal-Or nx (or_of [] (Some z.0) z.1)) (λ z. pat-Or px (or_of [] (Some z.0) z.1)) (b, (xs, cs)) l r
+        made_front (Then (IsMark true) Are) Is _ N _ P (λ (z : token.Bar × Cases). v.Or (or_of [] (Some z.0) z.1)) (λ z l r i. some_after_vert h i.1 i.2) (λ z. normal-Or nx (or_of [] (Some z.0) z.1)) (λ z. pat-Or px (types_shown px) (or_of [] (Some z.0) z.1)) (b, (xs, cs)) l r
         (then_front (mark_front b l m i) (cases_again xs cs m r j))

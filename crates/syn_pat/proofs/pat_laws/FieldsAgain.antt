@@ -1,4 +1,5 @@
 -- Bindings, and the fields of a struct, print their normal form clearly, where the patterns that they hold do.
+use Rattle.syn_pat.specs.pat.Printing.{types_shown}
 use Rattle.std.proofs.Common.{◌≡◌, Bool, true, false, [], ◌++◌, map, Option, Some, None, refl, sym, ◌∙◌, ap, subst, append-nil}
 use Rattle.token_core.specs.declared.member.Member.{Member}
 use Rattle.token_core.specs.declared.member.Member.TheVariants as member
@@ -49,7 +50,7 @@ module _ {X : Type 0} (spells : Place → X → Toks → Type 0) (nx : Place →
   np = normal.pat nx
 
   abbrev pub pp : Pat X → Print
-  pp = printing.pat px
+  pp = printing.pat px (types_shown px)
 
   -- what is known of the patterns within; and with what they begin
   pub record PatsAgain (part : Manner → PatPlace → Relation (Pat X)) : Type 0 where
@@ -83,9 +84,9 @@ module _ {X : Type 0} (spells : Place → X → Toks → Type 0) (nx : Place →
     name_parts : (ok : Bytes → Bool) (z : Name) (l r : Toks) → IsName ok z l r → (m : Toks) × IsOptional IsWord z.0 l m × IsOptional IsWord z.1.0 m (word z.1.1 r) × (ok z.1.1.text ≡ true)
     name_parts ok z l r i = (i.0, i.1, subst (λ k. IsOptional IsWord z.1.0 i.0 k) i.2.2.1 i.2.1, i.2.2.0)
 
-    pub binding_again : (x : PatIdent X) (l r : Toks) → IsBinding spells part plainly x l r → AgainFront (IsBinding spells part clearly) (normal.binding nx) (printing.binding px) x l r
+    pub binding_again : (x : PatIdent X) (l r : Toks) → IsBinding spells part plainly x l r → AgainFront (IsBinding spells part clearly) (normal.binding nx) (printing.binding px (types_shown px)) x l r
     binding_again x l r (a_binding {f = f} {u = u} {i = i} {s = s} {m = m} {n = n} a b h j) =
-        made_front (Then (IsName is_binding_name) (IsOptional (IsSubpat spells part clearly))) (IsBinding spells part clearly) _ (normal.binding nx) _ (printing.binding px) (λ (z : Name × Option (token.At × Pat X)). binding_of [] z.0.0 z.0.1.0 z.0.1.1 z.1)
+        made_front (Then (IsName is_binding_name) (IsOptional (IsSubpat spells part clearly))) (IsBinding spells part clearly) _ (normal.binding nx) _ (printing.binding px (types_shown px)) (λ (z : Name × Option (token.At × Pat X)). binding_of [] z.0.0 z.0.1.0 z.0.1.1 z.1)
         (λ z l r i. let k = name_parts is_binding_name z.0 l i.0 i.1 in a_binding k.1 k.2 k.3 i.2) (λ z. refl) (λ z. refl) ((f, (u, i)), s) l r (then_front (name_front is_binding_name f u i l m n a b h) (sub_again s n r j))
 
     -- ---- a field
@@ -100,7 +101,7 @@ module _ {X : Type 0} (spells : Place → X → Toks → Type 0) (nx : Place →
     nf = normal.field nx
 
     abbrev pf : FieldPat X → Print
-    pf = printing.field px
+    pf = printing.field px (types_shown px)
 
     -- one that binds its name
     abbrev name_field : Attrs X × Name → FieldPat X
@@ -109,14 +110,14 @@ module _ {X : Type 0} (spells : Place → X → Toks → Type 0) (nx : Place →
     name_prints : (z : Attrs X × Name) → pf (name_field z) ≡ printing.attrs px z.0 ++ print_name z.1
     name_prints z =
         let a = printing.attrs px z.0 in
-        ap (λ k. (a ++ []) ++ k) (pat-Ident px (binding_of [] z.1.0 z.1.1.0 z.1.1.1 None)) ∙ ap (λ k. k ++ (print_name z.1 ++ [])) (append-nil a) ∙ ap (λ k. a ++ k) (append-nil (print_name z.1))
+        ap (λ k. (a ++ []) ++ k) (pat-Ident px (types_shown px) (binding_of [] z.1.0 z.1.1.0 z.1.1.1 None)) ∙ ap (λ k. k ++ (print_name z.1 ++ [])) (append-nil a) ∙ ap (λ k. a ++ k) (append-nil (print_name z.1))
 
     -- and one that is held verbatim
     abbrev held_field : Ident → Attrs X × TokenStream → FieldPat X
     held_field i z = field_of z.0 (member.Named i) None (v.Verbatim z.1)
 
     held_prints : (i : Ident) (z : Attrs X × TokenStream) → pf (held_field i z) ≡ printing.attrs px z.0 ++ trees z.1
-    held_prints i z = let a = printing.attrs px z.0 in ap (λ k. (a ++ []) ++ k) (pat-Verbatim px z.1) ∙ ap (λ k. k ++ trees z.1) (append-nil a)
+    held_prints i z = let a = printing.attrs px z.0 in ap (λ k. (a ++ []) ++ k) (pat-Verbatim px (types_shown px) z.1) ∙ ap (λ k. k ++ trees z.1) (append-nil a)
 
     pub field_again : (x : FieldPat X) (l r : Toks) → IsField spells part plainly x l r → AgainFront Fields nf pf x l r
     field_again x l r (with_colon {a = a} {n = n} {c = c} {x = y} {m = m} {k = k} {j = j} i t q w) =
@@ -142,7 +143,7 @@ module _ {X : Type 0} (spells : Place → X → Toks → Type 0) (nx : Place →
     normal_held z = (many nf z.0, normal.optional_rest nx z.1)
 
     abbrev pub print_held : Held → Print
-    print_held z = printing.fields px z.0 ++ (printing.rest_comma px z.1 z.0 ++ printing.optional_rest px z.1)
+    print_held z = printing.fields px (types_shown px) z.0 ++ (printing.rest_comma px z.1 z.0 ++ printing.optional_rest px z.1)
 
     -- fields that each have their comma, and `..`
     abbrev All : Type 0
@@ -152,7 +153,7 @@ module _ {X : Type 0} (spells : Place → X → Toks → Type 0) (nx : Place →
     rest_held z = (z.0, Some (rest_of z.1.0 z.1.1))
 
     abbrev print_all : All → Print
-    print_all z = printing.fields px z.0 ++ (printing.attrs px z.1.0 ++ p.mark z.1.1)
+    print_all z = printing.fields px (types_shown px) z.0 ++ (printing.attrs px z.1.0 ++ p.mark z.1.1)
 
     abbrev AreMarkedFields : Many (FieldPat X) Comma → Toks → Toks → Type 0
     AreMarkedFields z = AreMarked (λ (_ : Bool). Fields) (IsMark true) true z.0 z.1
@@ -160,7 +161,7 @@ module _ {X : Type 0} (spells : Place → X → Toks → Type 0) (nx : Place →
     pub fields_again : (w : Many (FieldPat X) Comma) (o : Option (PatRest X)) (l : Toks) → AreFields spells part plainly w o l → Again AreHeld normal_held print_held (w, o) l
     fields_again w o l (fields_alone {xs = xs} {cs = cs} i) =
         let k = listed_front (λ (_ : Bool). IsField spells part plainly) (λ (_ : Bool). Fields) (IsMark false) (IsMark true) Anywhere nf pf p.mark (λ _. field_again) mark_front true xs cs l done i in
-        let nil = append-nil (printing.fields px (xs, cs)) in
+        let nil = append-nil (printing.fields px (types_shown px) (xs, cs)) in
         record {
           spelt = subst (λ z. AreHeld (normal_held (w, o)) (row z done)) (sym nil) (fields_alone (k.spelt done));
           visible = λ u. subst (λ z. Visible (row z done)) (sym nil) (k.visible done u tt);
@@ -171,8 +172,8 @@ module _ {X : Type 0} (spells : Place → X → Toks → Type 0) (nx : Place →
         let made = marked_front (λ (_ : Bool). IsField spells part plainly) (λ (_ : Bool). Fields) (IsMark false) (IsMark true) nf pf p.mark (λ _. field_again) mark_front true xs cs l m i in
         let k = then_front made (then_front (g.types.attrs a m n j) (mark_front d n done h)) in
         let full = marked_full (λ (_ : Bool). IsField spells part plainly) (IsMark false) comma true xs cs l m i in
-        let once = ap (λ y. printing.fields px (xs, cs) ++ (y ++ (printing.attrs px a ++ p.mark d))) full in
-        let twice = ap (λ y. printing.fields px (map nf xs, cs) ++ (y ++ (printing.attrs px (normal.attrs nx a) ++ p.mark d))) (last_mapped nf xs cs ∙ full) in
+        let once = ap (λ y. printing.fields px (types_shown px) (xs, cs) ++ (y ++ (printing.attrs px a ++ p.mark d))) full in
+        let twice = ap (λ y. printing.fields px (types_shown px) (map nf xs, cs) ++ (y ++ (printing.attrs px (normal.attrs nx a) ++ p.mark d))) (last_mapped nf xs cs ∙ full) in
         record {
           spelt = subst (λ z. AreHeld (normal_held (w, o)) (row z done)) (sym once) (let s = k.spelt done in fields_and_rest s.1 s.2.1 s.2.2);
           visible = λ u. subst (λ z. Visible (row z done)) (sym once) (k.visible done u tt);

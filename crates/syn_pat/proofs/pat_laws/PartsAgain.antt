@@ -1,4 +1,5 @@
 -- What a pattern is made of prints its normal form clearly, where what is supplied does: what is held, what stands in a group, const blocks, paths, ends of ranges and ranges.
+use Rattle.syn_pat.specs.pat.Printing.{path_shown}
 use Rattle.std.proofs.Common.{◌≡◌, ℕ, true, false, [], ◌++◌, Option, Some, None, refl, sym, ◌∙◌, ap, subst, append-nil}
 use Rattle.token_core.specs.declared.lit.Lit.{Lit}
 use Rattle.token_core.specs.declared.range.RangeLimits.{RangeLimits}
@@ -166,7 +167,7 @@ module _ {X : Type 0} (spells : Place → X → Toks → Type 0) (nx : Place →
     nb = normal.range_bound nx
 
     abbrev pb : PatRangeBound X → Print
-    pb = printing.range_bound px
+    pb = printing.range_bound px (path_shown px)
 
     pub end_again : (x : PatRangeBound X) (l r : Toks) → IsEnd spells plainly x l r → AgainFront (IsEnd spells clearly) nb pb x l r
     end_again x l r (a_literal_end {x = y} i) = made_front IsLit (IsEnd spells clearly) (λ (z : Lit). z) nb lits.print pb (λ z. b.Lit (lit_of [] z)) (λ z l r i. a_literal_end i) (λ z. refl) (λ z. refl) y l r (lit_front y l r i)
@@ -180,13 +181,13 @@ module _ {X : Type 0} (spells : Place → X → Toks → Type 0) (nx : Place →
         made_front AreHeads (IsStart spells clearly) normal_path nb print_path pb (λ (z : AnyPath). b.Path (path_pat_of [] z.0 z.1)) (λ z l r i. a_path_start i) (λ z. refl) (λ z. refl) (q, y) l r (head_again q y l r i)
     start_again x l r (a_const_start {x = y} i) = made_front (IsConstBlock spells) (IsStart spells clearly) (attr.expr_const nx) nb (shown.expr_const px) pb (λ z. b.Const z) (λ z l r i. a_const_start i) (λ z. refl) (λ z. refl) y l r (const_again y l r i)
 
-    pub range_again : (x : PatRange X) (l r : Toks) → IsRange spells plainly x l r → AgainFront (IsRange spells clearly) (normal.range nx) (printing.range px) x l r
+    pub range_again : (x : PatRange X) (l r : Toks) → IsRange spells plainly x l r → AgainFront (IsRange spells clearly) (normal.range nx) (printing.range px (path_shown px)) x l r
     range_again x l r (without_end {x = y} {d = d} {m = m} i j) =
-        made_front (Then (IsStart spells clearly) _) (IsRange spells clearly) _ (normal.range nx) _ (printing.range px) (λ (z : PatRangeBound X × token.DotDot). pat_range_of [] (Some z.0) (limits.HalfOpen z.1) None)
+        made_front (Then (IsStart spells clearly) _) (IsRange spells clearly) _ (normal.range nx) _ (printing.range px (path_shown px)) (λ (z : PatRangeBound X × token.DotDot). pat_range_of [] (Some z.0) (limits.HalfOpen z.1) None)
         (λ z l r i. without_end i.1 i.2) (λ z. refl) (λ z. ap (λ k. pb z.0 ++ k) (append-nil (p.mark z.1))) (y, d) l r (then_front (start_again y l m i) (mark_front d m r j))
     range_again x l r (without_start {t = t} {y = y} {m = m} i j) =
-        made_front (Then (AreLimits true) (IsEnd spells clearly)) (IsRange spells clearly) _ (normal.range nx) _ (printing.range px) (λ (z : RangeLimits × PatRangeBound X). pat_range_of [] None z.0 (Some z.1))
+        made_front (Then (AreLimits true) (IsEnd spells clearly)) (IsRange spells clearly) _ (normal.range nx) _ (printing.range px (path_shown px)) (λ (z : RangeLimits × PatRangeBound X). pat_range_of [] None z.0 (Some z.1))
         (λ z l r i. without_start i.1 i.2) (λ z. refl) (λ z. refl) (t, y) l r (then_front (limits_front t l m i) (end_again y m r j))
     range_again x l r (with_both {x = y} {t = t} {y = z} {m = m} {n = n} i j h) =
-        made_front (Then (IsStart spells clearly) (Then (AreOldLimits true) (IsEnd spells clearly))) (IsRange spells clearly) _ (normal.range nx) _ (printing.range px) (λ (z : PatRangeBound X × (RangeLimits × PatRangeBound X)). pat_range_of [] (Some z.0) z.1.0 (Some z.1.1))
+        made_front (Then (IsStart spells clearly) (Then (AreOldLimits true) (IsEnd spells clearly))) (IsRange spells clearly) _ (normal.range nx) _ (printing.range px (path_shown px)) (λ (z : PatRangeBound X × (RangeLimits × PatRangeBound X)). pat_range_of [] (Some z.0) z.1.0 (Some z.1.1))
         (λ z l r i. with_both i.1 i.2.1 i.2.2) (λ z. refl) (λ z. refl) (y, (t, z)) l r (then_front (start_again y l m i) (then_front (old_limits_front t m n j) (end_again z n r h)))

@@ -1,4 +1,5 @@
 -- A single pattern prints its normal form clearly, where the patterns that it holds do: each of its forms.
+use Rattle.syn_pat.specs.pat.Printing.{path_shown, types_shown}
 use Rattle.std.proofs.Common.{◌≡◌, Bool, true, false, List, [], ◌++◌, map, Some, None, sym, ◌∙◌, ap, subst, append-nil}
 use Rattle.token_core.specs.declared.lit.Lit.{Lit}
 use Rattle.token_core.specs.declared.span.DelimSpan.{DelimSpan}
@@ -65,7 +66,7 @@ module _ {X : Type 0} (spells : Place → X → Toks → Type 0) (nx : Place →
   All place z c = AreElements spells part clearly place z.0 z.1 c
 
   abbrev print_all : Elements → Print
-  print_all z = printing.list px z
+  print_all z = printing.list px (types_shown px) z
 
   elements_again : (place : PatPlace) (xs : List (Pat X)) (cs : List Comma) (c : Toks) → AreElements spells part plainly place xs cs c → Again (All place) (many N) print_all (xs, cs) c
   elements_again place xs cs c i =
@@ -76,7 +77,7 @@ module _ {X : Type 0} (spells : Place → X → Toks → Type 0) (nx : Place →
   AreTuple z c = All LeadingVert z c × (is_tuple z.0 z.1 ≡ true)
 
   abbrev print_tuple : Elements → Print
-  print_tuple z = printing.list px z ++ printing.tuple_comma is_rest z.0 z.1
+  print_tuple z = printing.list px (types_shown px) z ++ printing.tuple_comma is_rest z.0 z.1
 
   no_more : (z : Elements) → is_tuple z.0 z.1 ≡ true → print_tuple z ≡ print_all z
   no_more z h = ap (λ k. print_all z ++ k) (no_comma z.0 z.1 h) ∙ append-nil (print_all z)
@@ -130,43 +131,43 @@ module _ {X : Type 0} (spells : Place → X → Toks → Type 0) (nx : Place →
   -- ---- each form
 
   pub single_again : (x : Pat X) (l r : Toks) → IsSingle spells part plainly x l r → AgainFront Is N P x l r
-  single_again x l r (a_binding_pat {x = y} i) = made_front (IsBinding spells part clearly) Is (normal.binding nx) N (printing.binding px) P v.Ident (λ z l r i. a_binding_pat i) (normal-Ident nx) (pat-Ident px) y l r (binding_again spells nx px g part again y l r i)
-  single_again x l r (a_wild {w = w} i) = made_front IsWord Is (λ (z : token.Underscore). z) N (λ (z : token.Underscore). p.word z) P (λ z. v.Wild (wild_of [] z)) (λ z l r i. a_wild i) (λ z. normal-Wild nx (wild_of [] z)) (λ z. pat-Wild px (wild_of [] z)) w l r (word_front w l r i)
-  single_again x l r (a_rest {d = d} i) = made_front (IsMark true) Is (λ (z : token.DotDot). z) N (λ (z : token.DotDot). p.mark z) P (λ z. v.Rest (rest_of [] z)) (λ z l r i. a_rest i) (λ z. normal-Rest nx (rest_of [] z)) (λ z. pat-Rest px (rest_of [] z)) d l r (mark_front d l r i)
-  single_again x l r (a_literal {x = y} i) = made_front IsLit Is (λ (z : Lit). z) N lits.print P (λ z. v.Lit (lit_of [] z)) (λ z l r i. a_literal i) (λ z. normal-Lit nx (lit_of [] z)) (λ z. pat-Lit px (lit_of [] z)) y l r (lit_front y l r i)
-  single_again x l r (a_const {x = y} i) = made_front (IsConstBlock spells) Is (attr.expr_const nx) N (shown.expr_const px) P v.Const (λ z l r i. a_const i) (normal-Const nx) (pat-Const px) y l r (const_again spells nx px g y l r i)
+  single_again x l r (a_binding_pat {x = y} i) = made_front (IsBinding spells part clearly) Is (normal.binding nx) N (printing.binding px (types_shown px)) P v.Ident (λ z l r i. a_binding_pat i) (normal-Ident nx) (pat-Ident px (types_shown px)) y l r (binding_again spells nx px g part again y l r i)
+  single_again x l r (a_wild {w = w} i) = made_front IsWord Is (λ (z : token.Underscore). z) N (λ (z : token.Underscore). p.word z) P (λ z. v.Wild (wild_of [] z)) (λ z l r i. a_wild i) (λ z. normal-Wild nx (wild_of [] z)) (λ z. pat-Wild px (types_shown px) (wild_of [] z)) w l r (word_front w l r i)
+  single_again x l r (a_rest {d = d} i) = made_front (IsMark true) Is (λ (z : token.DotDot). z) N (λ (z : token.DotDot). p.mark z) P (λ z. v.Rest (rest_of [] z)) (λ z l r i. a_rest i) (λ z. normal-Rest nx (rest_of [] z)) (λ z. pat-Rest px (types_shown px) (rest_of [] z)) d l r (mark_front d l r i)
+  single_again x l r (a_literal {x = y} i) = made_front IsLit Is (λ (z : Lit). z) N lits.print P (λ z. v.Lit (lit_of [] z)) (λ z l r i. a_literal i) (λ z. normal-Lit nx (lit_of [] z)) (λ z. pat-Lit px (types_shown px) (lit_of [] z)) y l r (lit_front y l r i)
+  single_again x l r (a_const {x = y} i) = made_front (IsConstBlock spells) Is (attr.expr_const nx) N (shown.expr_const px) P v.Const (λ z l r i. a_const i) (normal-Const nx) (pat-Const px (types_shown px)) y l r (const_again spells nx px g y l r i)
   single_again x l r (a_call {x = y} i) =
-      made_front (IsPatCall true) Is (λ (z : Macro). z) N mac P (λ z. v.Macro (expr_macro_of [] z)) (λ z l r i. a_call i) (λ z. normal-Macro nx (expr_macro_of [] z)) (λ z. pat-Macro px (expr_macro_of [] z)) y l r
+      made_front (IsPatCall true) Is (λ (z : Macro). z) N mac P (λ z. v.Macro (expr_macro_of [] z)) (λ z l r i. a_call i) (λ z. normal-Macro nx (expr_macro_of [] z)) (λ z. pat-Macro px (types_shown px) (expr_macro_of [] z)) y l r
       (also_front _ i.1 (type_call_again y l r i.0))
   single_again x l r (a_path {q = q} {p = y} i h) =
       made_front (λ (z : AnyPath spells nx px g) (l r : Toks). ArePaths spells nx px g z l r × (is_binding (lone_word z.0 z.1) ≡ false)) Is (normal_path spells nx px g) N (print_path spells nx px g) P (λ z. v.Path (path_pat_of [] z.0 z.1))
-      (λ z l r i. a_path i.0 i.1) (λ z. normal-Path nx (path_pat_of [] z.0 z.1)) (λ z. pat-Path px (path_pat_of [] z.0 z.1)) (q, y) l r
+      (λ z l r i. a_path i.0 i.1) (λ z. normal-Path nx (path_pat_of [] z.0 z.1)) (λ z. pat-Path px (types_shown px) (path_pat_of [] z.0 z.1)) (q, y) l r
       (also_front (λ (z : AnyPath spells nx px g). is_binding (lone_word z.0 z.1) ≡ false) (ap is_binding (word_kept spells nx px g q y l r i) ∙ h) (path_again spells nx px g q y l r i))
-  single_again x l r (a_range {x = y} i) = made_front (IsRange spells clearly) Is (normal.range nx) N (printing.range px) P v.Range (λ z l r i. a_range i) (normal-Range nx) (pat-Range px) y l r (range_again spells nx px g y l r i)
+  single_again x l r (a_range {x = y} i) = made_front (IsRange spells clearly) Is (normal.range nx) N (printing.range px (path_shown px)) P v.Range (λ z l r i. a_range i) (normal-Range nx) (pat-Range px (types_shown px)) y l r (range_again spells nx px g y l r i)
   single_again x l r (a_reference {a = a} {x = y} {m = m} i h j) =
       made_front (Then (IsMark true) IsNoMut) Is _ N _ P (λ (z : token.And × Pat X). v.Reference (reference_of [] z.0 None z.1)) (λ z l r i. a_reference i.1 i.2.0 i.2.1)
-      (λ z. normal-Reference nx (reference_of [] z.0 None z.1)) (λ z. pat-Reference px (reference_of [] z.0 None z.1)) (a, y) l r (then_front (mark_front a l m i) (no_mut_again y m r h j))
+      (λ z. normal-Reference nx (reference_of [] z.0 None z.1)) (λ z. pat-Reference px (types_shown px) (reference_of [] z.0 None z.1)) (a, y) l r (then_front (mark_front a l m i) (no_mut_again y m r h j))
   single_again x l r (a_mutable_reference {a = a} {u = u} {x = y} {m = m} {n = n} i h j) =
       made_front (Then (IsMark true) (Then IsWord (part clearly Single))) Is _ N _ P (λ (z : token.And × (token.Mut × Pat X)). v.Reference (reference_of [] z.0 (Some z.1.0) z.1.1)) (λ z l r i. a_mutable_reference i.1 i.2.1 i.2.2)
-      (λ z. normal-Reference nx (reference_of [] z.0 (Some z.1.0) z.1.1)) (λ z. pat-Reference px (reference_of [] z.0 (Some z.1.0) z.1.1)) (a, (u, y)) l r (then_front (mark_front a l m i) (then_front (word_front u m n h) (again.pat Single y n r j)))
+      (λ z. normal-Reference nx (reference_of [] z.0 (Some z.1.0) z.1.1)) (λ z. pat-Reference px (types_shown px) (reference_of [] z.0 (Some z.1.0) z.1.1)) (a, (u, y)) l r (then_front (mark_front a l m i) (then_front (word_front u m n h) (again.pat Single y n r j)))
   single_again x l r (a_paren {s = s} {x = y} {c = c} i h) =
       made_front (Inside Parenthesis s IsEnclosed) Is N N _ P (λ (z : Pat X). v.Paren (paren_of [] (groups.paren s) z)) (λ z l r i. subst (λ m. Is (v.Paren (paren_of [] (groups.paren s) z)) m r) (sym i.1) (a_paren i.2.0 i.2.1))
-      (λ z. normal-Paren nx (paren_of [] (groups.paren s) z)) (λ z. pat-Paren px (paren_of [] (groups.paren s) z)) y l r (inside_front Parenthesis s IsEnclosed N P tt y c r (enclosed_again y c i h))
+      (λ z. normal-Paren nx (paren_of [] (groups.paren s) z)) (λ z. pat-Paren px (types_shown px) (paren_of [] (groups.paren s) z)) y l r (inside_front Parenthesis s IsEnclosed N P tt y c r (enclosed_again y c i h))
   single_again x l r (a_tuple {s = s} {xs = xs} {cs = cs} {c = c} i h) =
       made_front (Inside Parenthesis s AreTuple) Is (many N) N _ P (λ (z : Elements). v.Tuple (tuple_of [] (groups.paren s) z)) (λ z l r i. subst (λ m. Is (v.Tuple (tuple_of [] (groups.paren s) z)) m r) (sym i.1) (a_tuple i.2.0 i.2.1))
-      (λ z. normal-Tuple nx (tuple_of [] (groups.paren s) z)) (λ z. pat-Tuple px (tuple_of [] (groups.paren s) z)) (xs, cs) l r (inside_front Parenthesis s AreTuple (many N) print_tuple tt (xs, cs) c r (tuple_again xs cs c i h))
+      (λ z. normal-Tuple nx (tuple_of [] (groups.paren s) z)) (λ z. pat-Tuple px (types_shown px) (tuple_of [] (groups.paren s) z)) (xs, cs) l r (inside_front Parenthesis s AreTuple (many N) print_tuple tt (xs, cs) c r (tuple_again xs cs c i h))
   single_again x l r (a_slice {s = s} {xs = xs} {cs = cs} {c = c} i) =
       made_front (Inside Bracket s (All Element)) Is (many N) N _ P (λ (z : Elements). v.Slice (slice_of [] (groups.bracket s) z)) (λ z l r i. subst (λ m. Is (v.Slice (slice_of [] (groups.bracket s) z)) m r) (sym i.1) (a_slice i.2))
-      (λ z. normal-Slice nx (slice_of [] (groups.bracket s) z)) (λ z. pat-Slice px (slice_of [] (groups.bracket s) z)) (xs, cs) l r (inside_front Bracket s (All Element) (many N) print_all tt (xs, cs) c r (elements_again Element xs cs c i))
+      (λ z. normal-Slice nx (slice_of [] (groups.bracket s) z)) (λ z. pat-Slice px (types_shown px) (slice_of [] (groups.bracket s) z)) (xs, cs) l r (inside_front Bracket s (All Element) (many N) print_all tt (xs, cs) c r (elements_again Element xs cs c i))
   single_again x l r (a_tuple_struct {q = q} {p = y} {s = s} {xs = xs} {cs = cs} {c = c} i j) =
       made_front (After Parenthesis s (All LeadingVert)) Is _ N _ P (λ (z : AnyPath spells nx px g × Elements). v.TupleStruct (tuple_struct_of [] z.0.0 z.0.1 (groups.paren s) z.1))
-      (λ z l r i. let k = into_group Parenthesis s (All LeadingVert) z l r i in a_tuple_struct k.1 k.2) (λ z. normal-TupleStruct nx (tuple_struct_of [] z.0.0 z.0.1 (groups.paren s) z.1)) (λ z. pat-TupleStruct px (tuple_struct_of [] z.0.0 z.0.1 (groups.paren s) z.1)) ((q, y), (xs, cs)) l r
+      (λ z l r i. let k = into_group Parenthesis s (All LeadingVert) z l r i in a_tuple_struct k.1 k.2) (λ z. normal-TupleStruct nx (tuple_struct_of [] z.0.0 z.0.1 (groups.paren s) z.1)) (λ z. pat-TupleStruct px (types_shown px) (tuple_struct_of [] z.0.0 z.0.1 (groups.paren s) z.1)) ((q, y), (xs, cs)) l r
       (then_front (head_again spells nx px g q y l (group Parenthesis s c r) i) (inside_front Parenthesis s (All LeadingVert) (many N) print_all tt (xs, cs) c r (elements_again LeadingVert xs cs c j)))
   single_again x l r (a_struct {q = q} {p = y} {s = s} {w = w} {o = o} {c = c} i j) =
       let H = Held spells nx px g part again in
       let T = AreHeld spells nx px g part again in
       made_front (After Brace s T) Is _ N _ P (λ (z : AnyPath spells nx px g × H). v.Struct (struct_of [] z.0.0 z.0.1 (groups.brace s) z.1.0 z.1.1))
-      (λ z l r i. let k = into_group Brace s T z l r i in a_struct k.1 k.2) (λ z. normal-Struct nx (struct_of [] z.0.0 z.0.1 (groups.brace s) z.1.0 z.1.1)) (λ z. pat-Struct px (struct_of [] z.0.0 z.0.1 (groups.brace s) z.1.0 z.1.1)) ((q, y), (w, o)) l r
+      (λ z l r i. let k = into_group Brace s T z l r i in a_struct k.1 k.2) (λ z. normal-Struct nx (struct_of [] z.0.0 z.0.1 (groups.brace s) z.1.0 z.1.1)) (λ z. pat-Struct px (types_shown px) (struct_of [] z.0.0 z.0.1 (groups.brace s) z.1.0 z.1.1)) ((q, y), (w, o)) l r
       (then_front (head_again spells nx px g q y l (group Brace s c r) i) (inside_front Brace s T (normal_held spells nx px g part again) (print_held spells nx px g part again) tt (w, o) c r (fields_again spells nx px g part again w o c j)))
   single_again x l r (a_verbatim {t = t} i) =
-      made_front (IsVerbatim (IsBoxed part) clearly) Is (λ (z : TokenStream). z) N (λ (z : TokenStream). trees z) P v.Verbatim (λ z l r i. a_verbatim i) (normal-Verbatim nx) (pat-Verbatim px) t l r (held_front (IsBoxed part) t l r i)
+      made_front (IsVerbatim (IsBoxed part) clearly) Is (λ (z : TokenStream). z) N (λ (z : TokenStream). trees z) P v.Verbatim (λ z l r i. a_verbatim i) (normal-Verbatim nx) (pat-Verbatim px (types_shown px)) t l r (held_front (IsBoxed part) t l r i)

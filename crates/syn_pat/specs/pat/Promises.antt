@@ -1,4 +1,5 @@
 -- The promise of each reader of patterns: which lists its trees spell, their normal form, their print, which have clear verbatim parts, and the read.
+use Rattle.syn_pat.specs.pat.Printing.{types_shown}
 use Rattle.syn_pat.specs.pat.Reading.{type_names}
 use Rattle.token_core.specs.Headline.{Grammar}
 use Rattle.token_core.specs.Prints.{Print}
@@ -17,10 +18,10 @@ use Rattle.syn_pat.specs.pat.Spelt.{SpellsGuarded, SpellsPat, SpellsPatType}
 module _ {X : Type 0} (reads : Place → Reader X) (spells : Place → X → Toks → Type 0) (normals : Place → X → X) (prints : Place → X → Print) where
   -- single, multi, with leading vert
   abbrev pub pat : PatPlace → Grammar (Pat X)
-  pat place = promise (SpellsPat spells place) (normal.pat normals) (shown.pat prints) (knot.pat reads (type_names reads) place)
+  pat place = promise (SpellsPat spells place) (normal.pat normals) (shown.pat prints (types_shown prints)) (knot.pat reads (type_names reads) place)
 
   abbrev pub guarded : Grammar (Pat X)
-  guarded = promise (SpellsGuarded spells) (normal.pat normals) (shown.pat prints) (knot.guarded reads (type_names reads))
+  guarded = promise (SpellsGuarded spells) (normal.pat normals) (shown.pat prints (types_shown prints)) (knot.guarded reads (type_names reads))
 
   abbrev pub typed : Grammar (PatType X)
-  typed = promise (SpellsPatType spells) (normal.typed normals) (shown.typed prints) (knot.typed reads)
+  typed = promise (SpellsPatType spells) (normal.typed normals) (shown.typed prints (types_shown prints)) (knot.typed reads)
