@@ -5,7 +5,7 @@
 
 ghost use Rattle.std.specs.Prelude.{◌≡◌};
 
-use crate::pat::Pat;
+use crate::pat::PatOver;
 use crate::place::PatPlace;
 use std::alloc::Global;
 use std::marker::PhantomData;
@@ -14,18 +14,18 @@ use token_core::Cursor;
 
 /// One turn of the readers of patterns.
 #[derive(Drop)]
-pub struct Patterns<'a, X, F> {
+pub struct Patterns<'a, X, G, Q, T, F> {
     pub alloc: Global,
-    pub of: PhantomData<X>,
+    pub of: PhantomData<PatOver<X, G, Q, T>>,
     /// Where the form began. What it holds is read only further on, so that reading ends.
     pub begin: Cursor<'a>,
     /// The reader of patterns.
     pub patterns: F,
 }
 
-impl<'a, X, F: Copy> Patterns<'a, X, F> {
+impl<'a, X, G, Q, T, F: Copy> Patterns<'a, X, G, Q, T, F> {
     /// The patterns that are held.
-    pub fn patterns(&self) -> Nested<'a, PatPlace, Pat<X>, F>
+    pub fn patterns(&self) -> Nested<'a, PatPlace, PatOver<X, G, Q, T>, F>
         ensures begin { result.begin ≡ self.now.begin }
         ensures read { result.read ≡ self.now.patterns }
     {

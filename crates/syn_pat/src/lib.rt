@@ -3,5 +3,6 @@
 
 pub mod grammar;
 pub mod knot;
+pub mod names;
 pub mod pat;
 pub mod place;

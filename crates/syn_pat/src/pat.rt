@@ -10,6 +10,7 @@ ghost use Rattle.syn_pat.specs.pat.Pats as spec;
 use syn_attr::attr::Attribute;
 use syn_attr::expr::{Expr, ExprConst, ExprConstOf, ExprLit, ExprLitOf, ExprMacro, ExprMacroOf};
 use syn_names::{Path, QSelf, Type};
+use syn_path::path::PathOf;
 use token_core::token::{
     And, At, Brace, Bracket, Colon, Comma, DotDot, If, Mut, Or, Paren, Ref, Underscore,
 };
@@ -255,155 +256,210 @@ pub struct FieldPatOf<P, A> {
 /// A field of a struct's pattern: a member, `:`, a pattern; or a pattern alone, which binds the member of its name.
 pub type FieldPat<X> = FieldPatOf<Pat<X>, Attribute<X>>;
 
-impl<X> Pat<X> {
+// ---- over the arguments of paths, what qualifies a path, and types
+
+/// A pattern over any arguments, qualifiers and types.
+pub type PatOver<X, G, Q, T> = PatOf<Attribute<X>, PathOf<G>, Q, T, X>;
+
+/// A pattern with a guard, over these.
+pub type GuardOver<X, G, Q, T> = PatGuardOf<PatOver<X, G, Q, T>, Attribute<X>, X>;
+
+/// A binding, over these.
+pub type IdentOver<X, G, Q, T> = PatIdentOf<PatOver<X, G, Q, T>, Attribute<X>>;
+
+/// Alternatives, over these.
+pub type OrOver<X, G, Q, T> = PatOrOf<PatOver<X, G, Q, T>, Attribute<X>>;
+
+/// A pattern in parentheses, over these.
+pub type ParenOver<X, G, Q, T> = PatParenOf<PatOver<X, G, Q, T>, Attribute<X>>;
+
+/// A path as a pattern, over its arguments and what qualifies it.
+pub type PathOver<X, G, Q> = PatPathOf<Attribute<X>, PathOf<G>, Q>;
+
+/// A range, over the arguments of its paths and what qualifies them.
+pub type RangeOver<X, G, Q> = PatRangeOf<Attribute<X>, PathOf<G>, Q, X>;
+
+/// A bound of a range, over these.
+pub type RangeBoundOver<X, G, Q> = PatRangeBoundOf<Attribute<X>, PathOf<G>, Q, X>;
+
+/// A reference, over any arguments, qualifiers and types.
+pub type ReferenceOver<X, G, Q, T> = PatReferenceOf<PatOver<X, G, Q, T>, Attribute<X>>;
+
+/// A slice, over these.
+pub type SliceOver<X, G, Q, T> = PatSliceOf<PatOver<X, G, Q, T>, Attribute<X>>;
+
+/// A struct, over these.
+pub type StructOver<X, G, Q, T> = PatStructOf<PatOver<X, G, Q, T>, Attribute<X>, PathOf<G>, Q>;
+
+/// A tuple, over these.
+pub type TupleOver<X, G, Q, T> = PatTupleOf<PatOver<X, G, Q, T>, Attribute<X>>;
+
+/// A tuple struct, over these.
+pub type TupleStructOver<X, G, Q, T> = PatTupleStructOf<
+    PatOver<X, G, Q, T>,
+    Attribute<X>,
+    PathOf<G>,
+    Q,
+>;
+
+/// A pattern with its type, over these.
+pub type TypedOver<X, G, Q, T> = PatTypeOf<PatOver<X, G, Q, T>, Attribute<X>, T>;
+
+/// A field of a struct, over these.
+pub type FieldOver<X, G, Q, T> = FieldPatOf<PatOver<X, G, Q, T>, Attribute<X>>;
+
+// ---- questions about a pattern
+
+impl<X, G, Q, T> PatOver<X, G, Q, T> {
     /// Whether it is `..`.
     pub(crate) fn is_rest(&self) -> bool
         ensures { result ≡ spec.is_rest self.now }
     {
         match self {
-            Pat::Rest(_) => true,
-            Pat::Const(_) | Pat::Guard(_) | Pat::Ident(_) | Pat::Lit(_) | Pat::Macro(_) => false,
-            Pat::Or(_) | Pat::Paren(_) | Pat::Path(_) | Pat::Range(_) => false,
-            Pat::Reference(_) | Pat::Slice(_) | Pat::Struct(_) | Pat::Tuple(_) => false,
-            Pat::TupleStruct(_) | Pat::Type(_) | Pat::Verbatim(_) | Pat::Wild(_) => false,
+            PatOf::Rest(_) => true,
+            PatOf::Const(_) | PatOf::Guard(_) | PatOf::Ident(_) | PatOf::Lit(_) | PatOf::Macro(_) =>
+                false,
+            PatOf::Or(_) | PatOf::Paren(_) | PatOf::Path(_) | PatOf::Range(_) => false,
+            PatOf::Reference(_) | PatOf::Slice(_) | PatOf::Struct(_) | PatOf::Tuple(_) => false,
+            PatOf::TupleStruct(_) | PatOf::Type(_) | PatOf::Verbatim(_) | PatOf::Wild(_) => false,
         }
     }
 }
 
 // ---- a form as a pattern
 
-impl<X> From<PatConst<X>> for Pat<X> {
+impl<X, G, Q, T> From<PatConst<X>> for PatOver<X, G, Q, T> {
     ghost from_gives = { λ form pat. pat ≡ pats.Const form };
 
-    fn from(form: PatConst<X>) -> Pat<X> {
-        Pat::Const(form)
+    fn from(form: PatConst<X>) -> PatOver<X, G, Q, T> {
+        PatOf::Const(form)
     }
 }
 
-impl<X> From<PatGuard<X>> for Pat<X> {
+impl<X, G, Q, T> From<GuardOver<X, G, Q, T>> for PatOver<X, G, Q, T> {
     ghost from_gives = { λ form pat. pat ≡ pats.Guard form };
 
-    fn from(form: PatGuard<X>) -> Pat<X> {
-        Pat::Guard(form)
+    fn from(form: GuardOver<X, G, Q, T>) -> PatOver<X, G, Q, T> {
+        PatOf::Guard(form)
     }
 }
 
-impl<X> From<PatIdent<X>> for Pat<X> {
+impl<X, G, Q, T> From<IdentOver<X, G, Q, T>> for PatOver<X, G, Q, T> {
     ghost from_gives = { λ form pat. pat ≡ pats.Ident form };
 
-    fn from(form: PatIdent<X>) -> Pat<X> {
-        Pat::Ident(form)
+    fn from(form: IdentOver<X, G, Q, T>) -> PatOver<X, G, Q, T> {
+        PatOf::Ident(form)
     }
 }
 
-impl<X> From<PatLit<X>> for Pat<X> {
+impl<X, G, Q, T> From<PatLit<X>> for PatOver<X, G, Q, T> {
     ghost from_gives = { λ form pat. pat ≡ pats.Lit form };
 
-    fn from(form: PatLit<X>) -> Pat<X> {
-        Pat::Lit(form)
+    fn from(form: PatLit<X>) -> PatOver<X, G, Q, T> {
+        PatOf::Lit(form)
     }
 }
 
-impl<X> From<PatMacro<X>> for Pat<X> {
+impl<X, G, Q, T> From<PatMacro<X>> for PatOver<X, G, Q, T> {
     ghost from_gives = { λ form pat. pat ≡ pats.Macro form };
 
-    fn from(form: PatMacro<X>) -> Pat<X> {
-        Pat::Macro(form)
+    fn from(form: PatMacro<X>) -> PatOver<X, G, Q, T> {
+        PatOf::Macro(form)
     }
 }
 
-impl<X> From<PatOr<X>> for Pat<X> {
+impl<X, G, Q, T> From<OrOver<X, G, Q, T>> for PatOver<X, G, Q, T> {
     ghost from_gives = { λ form pat. pat ≡ pats.Or form };
 
-    fn from(form: PatOr<X>) -> Pat<X> {
-        Pat::Or(form)
+    fn from(form: OrOver<X, G, Q, T>) -> PatOver<X, G, Q, T> {
+        PatOf::Or(form)
     }
 }
 
-impl<X> From<PatParen<X>> for Pat<X> {
+impl<X, G, Q, T> From<ParenOver<X, G, Q, T>> for PatOver<X, G, Q, T> {
     ghost from_gives = { λ form pat. pat ≡ pats.Paren form };
 
-    fn from(form: PatParen<X>) -> Pat<X> {
-        Pat::Paren(form)
+    fn from(form: ParenOver<X, G, Q, T>) -> PatOver<X, G, Q, T> {
+        PatOf::Paren(form)
     }
 }
 
-impl<X> From<PatPath<X>> for Pat<X> {
+impl<X, G, Q, T> From<PathOver<X, G, Q>> for PatOver<X, G, Q, T> {
     ghost from_gives = { λ form pat. pat ≡ pats.Path form };
 
-    fn from(form: PatPath<X>) -> Pat<X> {
-        Pat::Path(form)
+    fn from(form: PathOver<X, G, Q>) -> PatOver<X, G, Q, T> {
+        PatOf::Path(form)
     }
 }
 
-impl<X> From<PatRange<X>> for Pat<X> {
+impl<X, G, Q, T> From<RangeOver<X, G, Q>> for PatOver<X, G, Q, T> {
     ghost from_gives = { λ form pat. pat ≡ pats.Range form };
 
-    fn from(form: PatRange<X>) -> Pat<X> {
-        Pat::Range(form)
+    fn from(form: RangeOver<X, G, Q>) -> PatOver<X, G, Q, T> {
+        PatOf::Range(form)
     }
 }
 
-impl<X> From<PatReference<X>> for Pat<X> {
+impl<X, G, Q, T> From<ReferenceOver<X, G, Q, T>> for PatOver<X, G, Q, T> {
     ghost from_gives = { λ form pat. pat ≡ pats.Reference form };
 
-    fn from(form: PatReference<X>) -> Pat<X> {
-        Pat::Reference(form)
+    fn from(form: ReferenceOver<X, G, Q, T>) -> PatOver<X, G, Q, T> {
+        PatOf::Reference(form)
     }
 }
 
-impl<X> From<PatRest<X>> for Pat<X> {
+impl<X, G, Q, T> From<PatRest<X>> for PatOver<X, G, Q, T> {
     ghost from_gives = { λ form pat. pat ≡ pats.Rest form };
 
-    fn from(form: PatRest<X>) -> Pat<X> {
-        Pat::Rest(form)
+    fn from(form: PatRest<X>) -> PatOver<X, G, Q, T> {
+        PatOf::Rest(form)
     }
 }
 
-impl<X> From<PatSlice<X>> for Pat<X> {
+impl<X, G, Q, T> From<SliceOver<X, G, Q, T>> for PatOver<X, G, Q, T> {
     ghost from_gives = { λ form pat. pat ≡ pats.Slice form };
 
-    fn from(form: PatSlice<X>) -> Pat<X> {
-        Pat::Slice(form)
+    fn from(form: SliceOver<X, G, Q, T>) -> PatOver<X, G, Q, T> {
+        PatOf::Slice(form)
     }
 }
 
-impl<X> From<PatStruct<X>> for Pat<X> {
+impl<X, G, Q, T> From<StructOver<X, G, Q, T>> for PatOver<X, G, Q, T> {
     ghost from_gives = { λ form pat. pat ≡ pats.Struct form };
 
-    fn from(form: PatStruct<X>) -> Pat<X> {
-        Pat::Struct(form)
+    fn from(form: StructOver<X, G, Q, T>) -> PatOver<X, G, Q, T> {
+        PatOf::Struct(form)
     }
 }
 
-impl<X> From<PatTuple<X>> for Pat<X> {
+impl<X, G, Q, T> From<TupleOver<X, G, Q, T>> for PatOver<X, G, Q, T> {
     ghost from_gives = { λ form pat. pat ≡ pats.Tuple form };
 
-    fn from(form: PatTuple<X>) -> Pat<X> {
-        Pat::Tuple(form)
+    fn from(form: TupleOver<X, G, Q, T>) -> PatOver<X, G, Q, T> {
+        PatOf::Tuple(form)
     }
 }
 
-impl<X> From<PatTupleStruct<X>> for Pat<X> {
+impl<X, G, Q, T> From<TupleStructOver<X, G, Q, T>> for PatOver<X, G, Q, T> {
     ghost from_gives = { λ form pat. pat ≡ pats.TupleStruct form };
 
-    fn from(form: PatTupleStruct<X>) -> Pat<X> {
-        Pat::TupleStruct(form)
+    fn from(form: TupleStructOver<X, G, Q, T>) -> PatOver<X, G, Q, T> {
+        PatOf::TupleStruct(form)
     }
 }
 
-impl<X> From<PatType<X>> for Pat<X> {
+impl<X, G, Q, T> From<TypedOver<X, G, Q, T>> for PatOver<X, G, Q, T> {
     ghost from_gives = { λ form pat. pat ≡ pats.«Type» form };
 
-    fn from(form: PatType<X>) -> Pat<X> {
-        Pat::Type(form)
+    fn from(form: TypedOver<X, G, Q, T>) -> PatOver<X, G, Q, T> {
+        PatOf::Type(form)
     }
 }
 
-impl<X> From<PatWild<X>> for Pat<X> {
+impl<X, G, Q, T> From<PatWild<X>> for PatOver<X, G, Q, T> {
     ghost from_gives = { λ form pat. pat ≡ pats.Wild form };
 
-    fn from(form: PatWild<X>) -> Pat<X> {
-        Pat::Wild(form)
+    fn from(form: PatWild<X>) -> PatOver<X, G, Q, T> {
+        PatOf::Wild(form)
     }
 }

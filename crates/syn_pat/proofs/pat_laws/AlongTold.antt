@@ -15,13 +15,10 @@ use Rattle.syn_path.specs.declared.supplied.Place.{Place}
 use Rattle.syn_path.specs.declared.supplied.Place.TheVariants.{Block}
 use Rattle.syn_path.specs.mac.Reading as macs
 use Rattle.syn_path.specs.path.Paths.{ModPath}
-use Rattle.syn_attr.specs.attr.Attrs.{Attribute as Attr}
-use Rattle.syn_attr.specs.declared.expr.Expr.{Expr}
 use Rattle.syn_forms.specs.verbatim.Reading.{position}
 use Rattle.syn_path.specs.path.Paths.{is_mod_style}
 use Rattle.syn_path.specs.declared.path.PathOf.{PathOf}
 use Rattle.syn_ty.specs.ty.Reading.{sees_call}
-use Rattle.syn_ty.specs.ty.Trees.{Path, QSelf}
 use Rattle.syn_path.specs.Took.{Along}
 use Rattle.syn_pat.specs.declared.pat.PatOf.TheVariants as v
 use Rattle.syn_pat.specs.declared.place.PatPlace.{PatPlace}

@@ -10,11 +10,9 @@ use Rattle.syn_path.specs.declared.supplied.Place.TheVariants.{Value}
 use Rattle.syn_path.specs.Lengths.{LengthLaws}
 use Rattle.syn_path.specs.Supplied.{Reprints, SameOutcome, UsesUp, IsApart}
 use Rattle.syn_path.specs.Whole.{AttributesMeet, ConstsMeet}
-use Rattle.syn_attr.specs.attr.Attrs.{Attribute as Attr}
 use Rattle.syn_attr.specs.attr.Consts.{normal_values_of, values_of}
 use Rattle.syn_attr.specs.attr.Lengths.{length_laws}
 use Rattle.syn_attr.specs.attr.Reading.{outer}
-use Rattle.syn_attr.specs.declared.expr.Expr.{Expr}
 use Rattle.syn_attr.specs.attr.ConstsMeet.{consts_meet}
 use Rattle.syn_attr.specs.attr.OuterMeet.{attributes_meet}
 use Rattle.syn_ty.proofs.ty_laws.GivenWhole.{given_again, given_meets}

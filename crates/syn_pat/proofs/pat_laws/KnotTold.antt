@@ -28,7 +28,6 @@ use Rattle.syn_path.specs.Took.{Along}
 use Rattle.syn_pat.specs.declared.pat.PatOf.TheVariants as pats
 use Rattle.syn_pat.specs.declared.place.PatPlace.{PatPlace}
 use Rattle.syn_pat.specs.declared.place.PatPlace.TheVariants.{Single, LeadingVert}
-use Rattle.syn_pat.specs.pat.Admitted.{IsPat}
 use Rattle.syn_pat.specs.pat.Knot as knot
 use Rattle.syn_pat.specs.pat.Knot.{guard_after, guarded, pat, read_at, typed}
 use Rattle.syn_pat.specs.pat.Fronts as fronts

@@ -1,11 +1,10 @@
 -- What is known of the reads that a pattern holds: each took what its answer spells, where nothing follows that a lone word was taken for a path by; and the same of paths, types, attributes and supplied subtrees.
 use Rattle.std.proofs.Common.{◌≡◌, ℕ, Bool, true, false, not, ◌&&◌, ◌||◌, ◌==◌, if◌then◌else◌, List, Option, None, is_some, Ok, refl, ap}
 use Rattle.std.proofs.lemmas.Bool.{eqb-true}
-use Rattle.token_core.specs.declared.tree.Delimiter.TheVariants.{Parenthesis}
 use Rattle.token_core.specs.declared.tree.Punct.{Punct}
 use Rattle.token_core.specs.declared.word.Word.{Word}
 use Rattle.token_core.specs.Listed.{AreListed, none_left, last_value, value_and_mark}
-use Rattle.token_core.specs.Reads.{Reader, leaves, sees_group, sees_mark, third}
+use Rattle.token_core.specs.Reads.{Reader, leaves, sees_mark}
 use Rattle.token_core.specs.Rebuilt.{Visible}
 use Rattle.token_core.specs.Spellings.{last_char, IsMark, is_mark, IsWord, is_word}
 use Rattle.token_core.specs.Stream.{Stream}

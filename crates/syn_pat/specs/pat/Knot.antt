@@ -7,7 +7,6 @@ use Rattle.syn_attr.specs.declared.expr.Expr.TheVariants as e
 use Rattle.syn_forms.specs.declared.places.TypePlace.TheVariants.{Plus}
 use Rattle.syn_forms.specs.nested.Below.{ahead, below, held}
 use Rattle.syn_pat.specs.declared.pat.PatOf.TheVariants as v
-use Rattle.syn_pat.specs.declared.place.PatPlace.{PatPlace}
 use Rattle.syn_pat.specs.declared.place.PatPlace.TheVariants.{LeadingVert, Single}
 use Rattle.syn_pat.specs.pat.Pats.{PatOver, PatType, guard_of, typed_of}
 use Rattle.syn_pat.specs.pat.Reading.{Named, ReadersOver, pat_step, type_names, values}

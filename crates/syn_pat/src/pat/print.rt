@@ -6,83 +6,83 @@ ghost use Rattle.token_core.specs.Prints.{Extends};
 ghost use Rattle.token_core.specs.Trees.{trees};
 ghost use Rattle.syn_pat.specs.pat.Pats as spec;
 ghost use Rattle.syn_pat.specs.pat.Printing as printing;
+ghost use Rattle.syn_pat.specs.pat.Printing.{shown};
 
+use crate::names::Qualifier;
 use crate::pat::{
-    FieldPat, FieldPatOf, Pat, PatGuard, PatIdent, PatIdentOf, PatOr, PatParen, PatPath, PatRange,
-    PatRangeBound, PatRangeBoundOf, PatReference, PatRest, PatSlice, PatStruct, PatStructOf,
-    PatTuple, PatTupleStruct, PatType, PatWild,
+    FieldOver, FieldPatOf, GuardOver, IdentOver, OrOver, ParenOver, PatIdentOf, PatOf, PatOver,
+    PatRangeBoundOf, PatRest, PatStructOf, PatWild, PathOver, RangeBoundOver, RangeOver,
+    ReferenceOver, SliceOver, StructOver, TupleOver, TupleStructOver, TypedOver,
 };
 use std::alloc::{AllocError, Global};
 use syn_attr::attr::Attribute;
 use syn_attr::attr::print::print_outer;
 use syn_attr::expr::Expr;
 use syn_attr::expr::print::print_value;
-use syn_path::path::PathStyle;
+use syn_path::path::Arguments;
 use syn_path::supplied::{Place, Subtree};
-use syn_ty::ty::print::{
-    print_last_comma, print_lone_comma, print_qpath, print_type, print_verbatim,
-};
+use syn_ty::ty::print::{print_last_comma, print_lone_comma, print_verbatim};
 use token_core::token::{Comma, Or};
 use token_core::{Boxed, Pair, Punctuated, ToTokens, TokenStream};
 
-impl<X: Subtree> ToTokens for Pat<X> {
-    ghost print = { printing.pat X.prints };
+impl<X: Subtree, G: Arguments, Q: Qualifier<G>, T: ToTokens> ToTokens for PatOver<X, G, Q, T> {
+    ghost print = { printing.pat X.prints (shown Q.shown T.print) };
 
     fn append_tokens(&self, alloc: Global, out: &mut TokenStream) -> Result<(), AllocError> {
         print_pat(alloc, self, out)
     }
 }
 
-impl<X: Subtree> ToTokens for PatGuard<X> {
-    ghost print = { printing.guarded X.prints };
+impl<X: Subtree, G: Arguments, Q: Qualifier<G>, T: ToTokens> ToTokens for GuardOver<X, G, Q, T> {
+    ghost print = { printing.guarded X.prints (shown Q.shown T.print) };
 
     fn append_tokens(&self, alloc: Global, out: &mut TokenStream) -> Result<(), AllocError> {
         print_guarded(alloc, self, out)
     }
 }
 
-impl<X: Subtree> ToTokens for PatIdent<X> {
-    ghost print = { printing.binding X.prints };
+impl<X: Subtree, G: Arguments, Q: Qualifier<G>, T: ToTokens> ToTokens for IdentOver<X, G, Q, T> {
+    ghost print = { printing.binding X.prints (shown Q.shown T.print) };
 
     fn append_tokens(&self, alloc: Global, out: &mut TokenStream) -> Result<(), AllocError> {
         print_binding(alloc, self, out)
     }
 }
 
-impl<X: Subtree> ToTokens for PatOr<X> {
-    ghost print = { printing.alternatives X.prints };
+impl<X: Subtree, G: Arguments, Q: Qualifier<G>, T: ToTokens> ToTokens for OrOver<X, G, Q, T> {
+    ghost print = { printing.alternatives X.prints (shown Q.shown T.print) };
 
     fn append_tokens(&self, alloc: Global, out: &mut TokenStream) -> Result<(), AllocError> {
         print_alternatives(alloc, self, out)
     }
 }
 
-impl<X: Subtree> ToTokens for PatParen<X> {
-    ghost print = { printing.paren X.prints };
+impl<X: Subtree, G: Arguments, Q: Qualifier<G>, T: ToTokens> ToTokens for ParenOver<X, G, Q, T> {
+    ghost print = { printing.paren X.prints (shown Q.shown T.print) };
 
     fn append_tokens(&self, alloc: Global, out: &mut TokenStream) -> Result<(), AllocError> {
         print_paren(alloc, self, out)
     }
 }
 
-impl<X: Subtree> ToTokens for PatPath<X> {
-    ghost print = { printing.by_path X.prints };
+impl<X: Subtree, G: Arguments, Q: Qualifier<G>> ToTokens for PathOver<X, G, Q> {
+    ghost print = { printing.by_path X.prints Q.shown };
 
     fn append_tokens(&self, alloc: Global, out: &mut TokenStream) -> Result<(), AllocError> {
         print_by_path(alloc, self, out)
     }
 }
 
-impl<X: Subtree> ToTokens for PatRange<X> {
-    ghost print = { printing.range X.prints };
+impl<X: Subtree, G: Arguments, Q: Qualifier<G>> ToTokens for RangeOver<X, G, Q> {
+    ghost print = { printing.range X.prints Q.shown };
 
     fn append_tokens(&self, alloc: Global, out: &mut TokenStream) -> Result<(), AllocError> {
         print_range(alloc, self, out)
     }
 }
 
-impl<X: Subtree> ToTokens for PatRangeBound<X> {
-    ghost print = { printing.range_bound X.prints };
+impl<X: Subtree, G: Arguments, Q: Qualifier<G>> ToTokens for RangeBoundOver<X, G, Q> {
+    ghost print = { printing.range_bound X.prints Q.shown };
 
     fn append_tokens(&self, alloc: Global, out: &mut TokenStream) -> Result<(), AllocError> {
         match self {
@@ -93,8 +93,9 @@ impl<X: Subtree> ToTokens for PatRangeBound<X> {
     }
 }
 
-impl<X: Subtree> ToTokens for PatReference<X> {
-    ghost print = { printing.reference X.prints };
+impl<X: Subtree, G: Arguments, Q: Qualifier<G>, T: ToTokens> ToTokens
+    for ReferenceOver<X, G, Q, T> {
+    ghost print = { printing.reference X.prints (shown Q.shown T.print) };
 
     fn append_tokens(&self, alloc: Global, out: &mut TokenStream) -> Result<(), AllocError> {
         print_reference(alloc, self, out)
@@ -109,40 +110,41 @@ impl<X: Subtree> ToTokens for PatRest<X> {
     }
 }
 
-impl<X: Subtree> ToTokens for PatSlice<X> {
-    ghost print = { printing.slice X.prints };
+impl<X: Subtree, G: Arguments, Q: Qualifier<G>, T: ToTokens> ToTokens for SliceOver<X, G, Q, T> {
+    ghost print = { printing.slice X.prints (shown Q.shown T.print) };
 
     fn append_tokens(&self, alloc: Global, out: &mut TokenStream) -> Result<(), AllocError> {
         print_slice(alloc, self, out)
     }
 }
 
-impl<X: Subtree> ToTokens for PatStruct<X> {
-    ghost print = { printing.fielded X.prints };
+impl<X: Subtree, G: Arguments, Q: Qualifier<G>, T: ToTokens> ToTokens for StructOver<X, G, Q, T> {
+    ghost print = { printing.fielded X.prints (shown Q.shown T.print) };
 
     fn append_tokens(&self, alloc: Global, out: &mut TokenStream) -> Result<(), AllocError> {
         print_struct(alloc, self, out)
     }
 }
 
-impl<X: Subtree> ToTokens for PatTuple<X> {
-    ghost print = { printing.tuple X.prints };
+impl<X: Subtree, G: Arguments, Q: Qualifier<G>, T: ToTokens> ToTokens for TupleOver<X, G, Q, T> {
+    ghost print = { printing.tuple X.prints (shown Q.shown T.print) };
 
     fn append_tokens(&self, alloc: Global, out: &mut TokenStream) -> Result<(), AllocError> {
         print_tuple(alloc, self, out)
     }
 }
 
-impl<X: Subtree> ToTokens for PatTupleStruct<X> {
-    ghost print = { printing.tuple_struct X.prints };
+impl<X: Subtree, G: Arguments, Q: Qualifier<G>, T: ToTokens> ToTokens
+    for TupleStructOver<X, G, Q, T> {
+    ghost print = { printing.tuple_struct X.prints (shown Q.shown T.print) };
 
     fn append_tokens(&self, alloc: Global, out: &mut TokenStream) -> Result<(), AllocError> {
         print_tuple_struct(alloc, self, out)
     }
 }
 
-impl<X: Subtree> ToTokens for PatType<X> {
-    ghost print = { printing.typed X.prints };
+impl<X: Subtree, G: Arguments, Q: Qualifier<G>, T: ToTokens> ToTokens for TypedOver<X, G, Q, T> {
+    ghost print = { printing.typed X.prints (shown Q.shown T.print) };
 
     fn append_tokens(&self, alloc: Global, out: &mut TokenStream) -> Result<(), AllocError> {
         print_typed(alloc, self, out)
@@ -157,8 +159,8 @@ impl<X: Subtree> ToTokens for PatWild<X> {
     }
 }
 
-impl<X: Subtree> ToTokens for FieldPat<X> {
-    ghost print = { printing.field X.prints };
+impl<X: Subtree, G: Arguments, Q: Qualifier<G>, T: ToTokens> ToTokens for FieldOver<X, G, Q, T> {
+    ghost print = { printing.field X.prints (shown Q.shown T.print) };
 
     fn append_tokens(&self, alloc: Global, out: &mut TokenStream) -> Result<(), AllocError> {
         print_field(alloc, self, out)
@@ -168,44 +170,44 @@ impl<X: Subtree> ToTokens for FieldPat<X> {
 /// Appends a pattern; refused, what stood before is kept.
 #[cycle(print)]
 #[tactic(auto, using(token_core::proofs::Puts::puts, crate::proofs::pat_laws::Prints::prints))]
-pub fn print_pat<X: Subtree>(
+pub fn print_pat<X: Subtree, G: Arguments, Q: Qualifier<G>, T: ToTokens>(
     alloc: Global,
-    pat: &Pat<X>,
+    pat: &PatOver<X, G, Q, T>,
     out: &mut TokenStream,
 ) -> Result<(), AllocError>
-    ensures ok { OnOk result (trees out.new ≡ trees out.old ++ printing.pat X.prints pat.now) }
+    ensures ok { OnOk result (trees out.new ≡ trees out.old ++ printing.pat X.prints (shown Q.shown T.print) pat.now) }
     ensures err { OnErr result (Extends (trees out.old) (trees out.new)) }
 {
     match pat {
-        Pat::Const(pat) => pat.to_tokens(alloc, out),
-        Pat::Guard(pat) => print_guarded(alloc, pat, out),
-        Pat::Ident(pat) => print_binding(alloc, pat, out),
-        Pat::Lit(pat) => pat.to_tokens(alloc, out),
-        Pat::Macro(pat) => pat.to_tokens(alloc, out),
-        Pat::Or(pat) => print_alternatives(alloc, pat, out),
-        Pat::Paren(pat) => print_paren(alloc, pat, out),
-        Pat::Path(pat) => pat.to_tokens(alloc, out),
-        Pat::Range(pat) => pat.to_tokens(alloc, out),
-        Pat::Reference(pat) => print_reference(alloc, pat, out),
-        Pat::Rest(pat) => print_rest(alloc, pat, out),
-        Pat::Slice(pat) => print_slice(alloc, pat, out),
-        Pat::Struct(pat) => print_struct(alloc, pat, out),
-        Pat::Tuple(pat) => print_tuple(alloc, pat, out),
-        Pat::TupleStruct(pat) => print_tuple_struct(alloc, pat, out),
-        Pat::Type(pat) => print_typed(alloc, pat, out),
-        Pat::Verbatim(tokens) => print_verbatim(alloc, tokens, out),
-        Pat::Wild(pat) => print_wild(alloc, pat, out),
+        PatOf::Const(pat) => pat.to_tokens(alloc, out),
+        PatOf::Guard(pat) => print_guarded(alloc, pat, out),
+        PatOf::Ident(pat) => print_binding(alloc, pat, out),
+        PatOf::Lit(pat) => pat.to_tokens(alloc, out),
+        PatOf::Macro(pat) => pat.to_tokens(alloc, out),
+        PatOf::Or(pat) => print_alternatives(alloc, pat, out),
+        PatOf::Paren(pat) => print_paren(alloc, pat, out),
+        PatOf::Path(pat) => pat.to_tokens(alloc, out),
+        PatOf::Range(pat) => pat.to_tokens(alloc, out),
+        PatOf::Reference(pat) => print_reference(alloc, pat, out),
+        PatOf::Rest(pat) => print_rest(alloc, pat, out),
+        PatOf::Slice(pat) => print_slice(alloc, pat, out),
+        PatOf::Struct(pat) => print_struct(alloc, pat, out),
+        PatOf::Tuple(pat) => print_tuple(alloc, pat, out),
+        PatOf::TupleStruct(pat) => print_tuple_struct(alloc, pat, out),
+        PatOf::Type(pat) => print_typed(alloc, pat, out),
+        PatOf::Verbatim(tokens) => print_verbatim(alloc, tokens, out),
+        PatOf::Wild(pat) => print_wild(alloc, pat, out),
     }
 }
 
 #[cycle(print)]
 #[tactic(auto, using(token_core::proofs::Puts::puts, crate::proofs::pat_laws::Prints::prints))]
-fn print_guarded<X: Subtree>(
+fn print_guarded<X: Subtree, G: Arguments, Q: Qualifier<G>, T: ToTokens>(
     alloc: Global,
-    pat: &PatGuard<X>,
+    pat: &GuardOver<X, G, Q, T>,
     out: &mut TokenStream,
 ) -> Result<(), AllocError>
-    ensures ok { OnOk result (trees out.new ≡ trees out.old ++ printing.guarded X.prints pat.now) }
+    ensures ok { OnOk result (trees out.new ≡ trees out.old ++ printing.guarded X.prints (shown Q.shown T.print) pat.now) }
     ensures err { OnErr result (Extends (trees out.old) (trees out.new)) }
 {
     print_outer(alloc, &pat.attrs, out)?;
@@ -216,12 +218,12 @@ fn print_guarded<X: Subtree>(
 
 #[cycle(print)]
 #[tactic(auto, using(token_core::proofs::Puts::puts, crate::proofs::pat_laws::Prints::prints))]
-fn print_binding<X: Subtree>(
+fn print_binding<X: Subtree, G: Arguments, Q: Qualifier<G>, T: ToTokens>(
     alloc: Global,
-    pat: &PatIdent<X>,
+    pat: &IdentOver<X, G, Q, T>,
     out: &mut TokenStream,
 ) -> Result<(), AllocError>
-    ensures ok { OnOk result (trees out.new ≡ trees out.old ++ printing.binding X.prints pat.now) }
+    ensures ok { OnOk result (trees out.new ≡ trees out.old ++ printing.binding X.prints (shown Q.shown T.print) pat.now) }
     ensures err { OnErr result (Extends (trees out.old) (trees out.new)) }
 {
     print_name(alloc, pat, out)?;
@@ -236,12 +238,12 @@ fn print_binding<X: Subtree>(
 
 #[cycle(print)]
 #[tactic(auto, using(token_core::proofs::Puts::puts, crate::proofs::pat_laws::Prints::prints))]
-fn print_alternatives<X: Subtree>(
+fn print_alternatives<X: Subtree, G: Arguments, Q: Qualifier<G>, T: ToTokens>(
     alloc: Global,
-    pat: &PatOr<X>,
+    pat: &OrOver<X, G, Q, T>,
     out: &mut TokenStream,
 ) -> Result<(), AllocError>
-    ensures ok { OnOk result (trees out.new ≡ trees out.old ++ printing.alternatives X.prints pat.now) }
+    ensures ok { OnOk result (trees out.new ≡ trees out.old ++ printing.alternatives X.prints (shown Q.shown T.print) pat.now) }
     ensures err { OnErr result (Extends (trees out.old) (trees out.new)) }
 {
     print_outer(alloc, &pat.attrs, out)?;
@@ -251,12 +253,12 @@ fn print_alternatives<X: Subtree>(
 
 #[cycle(print)]
 #[tactic(auto, using(token_core::proofs::Puts::puts, crate::proofs::pat_laws::Prints::prints))]
-fn print_paren<X: Subtree>(
+fn print_paren<X: Subtree, G: Arguments, Q: Qualifier<G>, T: ToTokens>(
     alloc: Global,
-    pat: &PatParen<X>,
+    pat: &ParenOver<X, G, Q, T>,
     out: &mut TokenStream,
 ) -> Result<(), AllocError>
-    ensures ok { OnOk result (trees out.new ≡ trees out.old ++ printing.paren X.prints pat.now) }
+    ensures ok { OnOk result (trees out.new ≡ trees out.old ++ printing.paren X.prints (shown Q.shown T.print) pat.now) }
     ensures err { OnErr result (Extends (trees out.old) (trees out.new)) }
 {
     print_outer(alloc, &pat.attrs, out)?;
@@ -267,12 +269,12 @@ fn print_paren<X: Subtree>(
 
 #[cycle(print)]
 #[tactic(auto, using(token_core::proofs::Puts::puts, crate::proofs::pat_laws::Prints::prints))]
-fn print_reference<X: Subtree>(
+fn print_reference<X: Subtree, G: Arguments, Q: Qualifier<G>, T: ToTokens>(
     alloc: Global,
-    pat: &PatReference<X>,
+    pat: &ReferenceOver<X, G, Q, T>,
     out: &mut TokenStream,
 ) -> Result<(), AllocError>
-    ensures ok { OnOk result (trees out.new ≡ trees out.old ++ printing.reference X.prints pat.now) }
+    ensures ok { OnOk result (trees out.new ≡ trees out.old ++ printing.reference X.prints (shown Q.shown T.print) pat.now) }
     ensures err { OnErr result (Extends (trees out.old) (trees out.new)) }
 {
     print_outer(alloc, &pat.attrs, out)?;
@@ -283,12 +285,12 @@ fn print_reference<X: Subtree>(
 
 #[cycle(print)]
 #[tactic(auto, using(token_core::proofs::Puts::puts, crate::proofs::pat_laws::Prints::prints))]
-fn print_slice<X: Subtree>(
+fn print_slice<X: Subtree, G: Arguments, Q: Qualifier<G>, T: ToTokens>(
     alloc: Global,
-    pat: &PatSlice<X>,
+    pat: &SliceOver<X, G, Q, T>,
     out: &mut TokenStream,
 ) -> Result<(), AllocError>
-    ensures ok { OnOk result (trees out.new ≡ trees out.old ++ printing.slice X.prints pat.now) }
+    ensures ok { OnOk result (trees out.new ≡ trees out.old ++ printing.slice X.prints (shown Q.shown T.print) pat.now) }
     ensures err { OnErr result (Extends (trees out.old) (trees out.new)) }
 {
     print_outer(alloc, &pat.attrs, out)?;
@@ -298,25 +300,25 @@ fn print_slice<X: Subtree>(
 }
 
 #[tactic(auto, using(token_core::proofs::Puts::puts))]
-fn print_by_path<X: Subtree>(
+fn print_by_path<X: Subtree, G: Arguments, Q: Qualifier<G>>(
     alloc: Global,
-    pat: &PatPath<X>,
+    pat: &PathOver<X, G, Q>,
     out: &mut TokenStream,
 ) -> Result<(), AllocError>
-    ensures ok { OnOk result (trees out.new ≡ trees out.old ++ printing.by_path X.prints pat.now) }
+    ensures ok { OnOk result (trees out.new ≡ trees out.old ++ printing.by_path X.prints Q.shown pat.now) }
     ensures err { OnErr result (Extends (trees out.old) (trees out.new)) }
 {
     print_outer(alloc, &pat.attrs, out)?;
-    print_qpath(alloc, &pat.qself, &pat.path, PathStyle::Expr, out)
+    Q::print_path(alloc, &pat.qself, &pat.path, out)
 }
 
 #[tactic(auto, using(token_core::proofs::Puts::puts))]
-fn print_range<X: Subtree>(
+fn print_range<X: Subtree, G: Arguments, Q: Qualifier<G>>(
     alloc: Global,
-    pat: &PatRange<X>,
+    pat: &RangeOver<X, G, Q>,
     out: &mut TokenStream,
 ) -> Result<(), AllocError>
-    ensures ok { OnOk result (trees out.new ≡ trees out.old ++ printing.range X.prints pat.now) }
+    ensures ok { OnOk result (trees out.new ≡ trees out.old ++ printing.range X.prints Q.shown pat.now) }
     ensures err { OnErr result (Extends (trees out.old) (trees out.new)) }
 {
     print_outer(alloc, &pat.attrs, out)?;
@@ -327,12 +329,12 @@ fn print_range<X: Subtree>(
 
 /// A bound that is there.
 #[tactic(auto, using(token_core::proofs::Puts::puts))]
-fn print_bound<X: Subtree>(
+fn print_bound<X: Subtree, G: Arguments, Q: Qualifier<G>>(
     alloc: Global,
-    bound: &Option<Boxed<PatRangeBound<X>>>,
+    bound: &Option<Boxed<RangeBoundOver<X, G, Q>>>,
     out: &mut TokenStream,
 ) -> Result<(), AllocError>
-    ensures ok { OnOk result (trees out.new ≡ trees out.old ++ printing.optional_bound X.prints bound.now) }
+    ensures ok { OnOk result (trees out.new ≡ trees out.old ++ printing.optional_bound X.prints Q.shown bound.now) }
     ensures err { OnErr result (Extends (trees out.old) (trees out.new)) }
 {
     match bound {
@@ -343,16 +345,16 @@ fn print_bound<X: Subtree>(
 
 #[cycle(print)]
 #[tactic(auto, using(token_core::proofs::Puts::puts, crate::proofs::pat_laws::Prints::prints))]
-fn print_struct<X: Subtree>(
+fn print_struct<X: Subtree, G: Arguments, Q: Qualifier<G>, T: ToTokens>(
     alloc: Global,
-    pat: &PatStruct<X>,
+    pat: &StructOver<X, G, Q, T>,
     out: &mut TokenStream,
 ) -> Result<(), AllocError>
-    ensures ok { OnOk result (trees out.new ≡ trees out.old ++ printing.fielded X.prints pat.now) }
+    ensures ok { OnOk result (trees out.new ≡ trees out.old ++ printing.fielded X.prints (shown Q.shown T.print) pat.now) }
     ensures err { OnErr result (Extends (trees out.old) (trees out.new)) }
 {
     print_outer(alloc, &pat.attrs, out)?;
-    print_qpath(alloc, &pat.qself, &pat.path, PathStyle::Expr, out)?;
+    Q::print_path(alloc, &pat.qself, &pat.path, out)?;
     let mut content = TokenStream::new(alloc);
     print_fields(alloc, pat, &mut content)?;
     print_struct_rest(alloc, pat, &mut content)?;
@@ -362,12 +364,12 @@ fn print_struct<X: Subtree>(
 /// Each field of a struct's pattern with its comma.
 #[cycle(print)]
 #[tactic(auto, using(token_core::proofs::Puts::puts, crate::proofs::pat_laws::Prints::prints))]
-fn print_fields<X: Subtree>(
+fn print_fields<X: Subtree, G: Arguments, Q: Qualifier<G>, T: ToTokens>(
     alloc: Global,
-    pat: &PatStruct<X>,
+    pat: &StructOver<X, G, Q, T>,
     out: &mut TokenStream,
 ) -> Result<(), AllocError>
-    ensures ok { OnOk result (trees out.new ≡ trees out.old ++ printing.fields X.prints pat.now.fields) }
+    ensures ok { OnOk result (trees out.new ≡ trees out.old ++ printing.fields X.prints (shown Q.shown T.print) pat.now.fields) }
     ensures err { OnErr result (Extends (trees out.old) (trees out.new)) }
 {
     let (pairs, last) = field_parts(pat);
@@ -387,12 +389,12 @@ fn print_fields<X: Subtree>(
 
 #[cycle(print)]
 #[tactic(auto, using(token_core::proofs::Puts::puts, crate::proofs::pat_laws::Prints::prints))]
-fn print_tuple<X: Subtree>(
+fn print_tuple<X: Subtree, G: Arguments, Q: Qualifier<G>, T: ToTokens>(
     alloc: Global,
-    pat: &PatTuple<X>,
+    pat: &TupleOver<X, G, Q, T>,
     out: &mut TokenStream,
 ) -> Result<(), AllocError>
-    ensures ok { OnOk result (trees out.new ≡ trees out.old ++ printing.tuple X.prints pat.now) }
+    ensures ok { OnOk result (trees out.new ≡ trees out.old ++ printing.tuple X.prints (shown Q.shown T.print) pat.now) }
     ensures err { OnErr result (Extends (trees out.old) (trees out.new)) }
 {
     print_outer(alloc, &pat.attrs, out)?;
@@ -405,16 +407,16 @@ fn print_tuple<X: Subtree>(
 
 #[cycle(print)]
 #[tactic(auto, using(token_core::proofs::Puts::puts, crate::proofs::pat_laws::Prints::prints))]
-fn print_tuple_struct<X: Subtree>(
+fn print_tuple_struct<X: Subtree, G: Arguments, Q: Qualifier<G>, T: ToTokens>(
     alloc: Global,
-    pat: &PatTupleStruct<X>,
+    pat: &TupleStructOver<X, G, Q, T>,
     out: &mut TokenStream,
 ) -> Result<(), AllocError>
-    ensures ok { OnOk result (trees out.new ≡ trees out.old ++ printing.tuple_struct X.prints pat.now) }
+    ensures ok { OnOk result (trees out.new ≡ trees out.old ++ printing.tuple_struct X.prints (shown Q.shown T.print) pat.now) }
     ensures err { OnErr result (Extends (trees out.old) (trees out.new)) }
 {
     print_outer(alloc, &pat.attrs, out)?;
-    print_qpath(alloc, &pat.qself, &pat.path, PathStyle::Expr, out)?;
+    Q::print_path(alloc, &pat.qself, &pat.path, out)?;
     let mut content = TokenStream::new(alloc);
     print_tuple_struct_elements(alloc, pat, &mut content)?;
     pat.paren_token.surround(content, out)
@@ -422,29 +424,29 @@ fn print_tuple_struct<X: Subtree>(
 
 #[cycle(print)]
 #[tactic(auto, using(token_core::proofs::Puts::puts, crate::proofs::pat_laws::Prints::prints))]
-fn print_typed<X: Subtree>(
+fn print_typed<X: Subtree, G: Arguments, Q: Qualifier<G>, T: ToTokens>(
     alloc: Global,
-    pat: &PatType<X>,
+    pat: &TypedOver<X, G, Q, T>,
     out: &mut TokenStream,
 ) -> Result<(), AllocError>
-    ensures ok { OnOk result (trees out.new ≡ trees out.old ++ printing.typed X.prints pat.now) }
+    ensures ok { OnOk result (trees out.new ≡ trees out.old ++ printing.typed X.prints (shown Q.shown T.print) pat.now) }
     ensures err { OnErr result (Extends (trees out.old) (trees out.new)) }
 {
     print_outer(alloc, &pat.attrs, out)?;
     print_pat(alloc, pat.pat.get(), out)?;
     pat.colon_token.to_tokens(alloc, out)?;
-    print_type(alloc, pat.ty.get(), out)
+    pat.ty.get().append_tokens(alloc, out)
 }
 
 /// Each element with its comma.
 #[cycle(print)]
 #[tactic(auto, using(token_core::proofs::Puts::puts, crate::proofs::pat_laws::Prints::prints))]
-fn print_slice_elements<X: Subtree>(
+fn print_slice_elements<X: Subtree, G: Arguments, Q: Qualifier<G>, T: ToTokens>(
     alloc: Global,
-    pat: &PatSlice<X>,
+    pat: &SliceOver<X, G, Q, T>,
     out: &mut TokenStream,
 ) -> Result<(), AllocError>
-    ensures ok { OnOk result (trees out.new ≡ trees out.old ++ printing.list X.prints pat.now.elems) }
+    ensures ok { OnOk result (trees out.new ≡ trees out.old ++ printing.list X.prints (shown Q.shown T.print) pat.now.elems) }
     ensures err { OnErr result (Extends (trees out.old) (trees out.new)) }
 {
     let (pairs, last) = element_parts(&pat.elems);
@@ -461,12 +463,12 @@ fn print_slice_elements<X: Subtree>(
 /// Each element with its comma.
 #[cycle(print)]
 #[tactic(auto, using(token_core::proofs::Puts::puts, crate::proofs::pat_laws::Prints::prints))]
-fn print_tuple_elements<X: Subtree>(
+fn print_tuple_elements<X: Subtree, G: Arguments, Q: Qualifier<G>, T: ToTokens>(
     alloc: Global,
-    pat: &PatTuple<X>,
+    pat: &TupleOver<X, G, Q, T>,
     out: &mut TokenStream,
 ) -> Result<(), AllocError>
-    ensures ok { OnOk result (trees out.new ≡ trees out.old ++ printing.list X.prints pat.now.elems) }
+    ensures ok { OnOk result (trees out.new ≡ trees out.old ++ printing.list X.prints (shown Q.shown T.print) pat.now.elems) }
     ensures err { OnErr result (Extends (trees out.old) (trees out.new)) }
 {
     let (pairs, last) = element_parts(&pat.elems);
@@ -483,12 +485,12 @@ fn print_tuple_elements<X: Subtree>(
 /// Each element with its comma.
 #[cycle(print)]
 #[tactic(auto, using(token_core::proofs::Puts::puts, crate::proofs::pat_laws::Prints::prints))]
-fn print_tuple_struct_elements<X: Subtree>(
+fn print_tuple_struct_elements<X: Subtree, G: Arguments, Q: Qualifier<G>, T: ToTokens>(
     alloc: Global,
-    pat: &PatTupleStruct<X>,
+    pat: &TupleStructOver<X, G, Q, T>,
     out: &mut TokenStream,
 ) -> Result<(), AllocError>
-    ensures ok { OnOk result (trees out.new ≡ trees out.old ++ printing.list X.prints pat.now.elems) }
+    ensures ok { OnOk result (trees out.new ≡ trees out.old ++ printing.list X.prints (shown Q.shown T.print) pat.now.elems) }
     ensures err { OnErr result (Extends (trees out.old) (trees out.new)) }
 {
     let (pairs, last) = element_parts(&pat.elems);
@@ -505,12 +507,12 @@ fn print_tuple_struct_elements<X: Subtree>(
 /// Each of the alternatives with its `|`.
 #[cycle(print)]
 #[tactic(auto, using(token_core::proofs::Puts::puts, crate::proofs::pat_laws::Prints::prints))]
-fn print_cases<X: Subtree>(
+fn print_cases<X: Subtree, G: Arguments, Q: Qualifier<G>, T: ToTokens>(
     alloc: Global,
-    pat: &PatOr<X>,
+    pat: &OrOver<X, G, Q, T>,
     out: &mut TokenStream,
 ) -> Result<(), AllocError>
-    ensures ok { OnOk result (trees out.new ≡ trees out.old ++ printing.list X.prints pat.now.cases) }
+    ensures ok { OnOk result (trees out.new ≡ trees out.old ++ printing.list X.prints (shown Q.shown T.print) pat.now.cases) }
     ensures err { OnErr result (Extends (trees out.old) (trees out.new)) }
 {
     let (pairs, last) = case_parts(pat);
@@ -525,21 +527,36 @@ fn print_cases<X: Subtree>(
 }
 
 /// Elements by their parts.
-fn element_parts<X>(elems: &Punctuated<Pat<X>, Comma>) -> (&[Pair<Pat<X>, Comma>], Option<&Pat<X>>)
+fn element_parts<X, G, Q, T>(
+    elems: &Punctuated<PatOver<X, G, Q, T>, Comma>,
+) -> (
+    &[Pair<PatOver<X, G, Q, T>, Comma>],
+    Option<&PatOver<X, G, Q, T>>,
+)
     ensures { elems.now ≡ (values_of result.0.now (option_map (λ x. x.now) result.1), marks_of result.0.now) }
 {
     elems.parts()
 }
 
 /// Alternatives by their parts.
-fn case_parts<X>(pat: &PatOr<X>) -> (&[Pair<Pat<X>, Or>], Option<&Pat<X>>)
+fn case_parts<X, G, Q, T>(
+    pat: &OrOver<X, G, Q, T>,
+) -> (
+    &[Pair<PatOver<X, G, Q, T>, Or>],
+    Option<&PatOver<X, G, Q, T>>,
+)
     ensures { pat.now.cases ≡ (values_of result.0.now (option_map (λ x. x.now) result.1), marks_of result.0.now) }
 {
     pat.cases.parts()
 }
 
 /// The fields of a struct's pattern by their parts.
-fn field_parts<X>(pat: &PatStruct<X>) -> (&[Pair<FieldPat<X>, Comma>], Option<&FieldPat<X>>)
+fn field_parts<X, G, Q, T>(
+    pat: &StructOver<X, G, Q, T>,
+) -> (
+    &[Pair<FieldOver<X, G, Q, T>, Comma>],
+    Option<&FieldOver<X, G, Q, T>>,
+)
     ensures { pat.now.fields ≡ (values_of result.0.now (option_map (λ x. x.now) result.1), marks_of result.0.now) }
 {
     pat.fields.parts()
@@ -608,12 +625,12 @@ fn print_member<P, X: Subtree>(
 }
 
 #[tactic(auto, using(token_core::proofs::Puts::puts))]
-fn print_field<X: Subtree>(
+fn print_field<X: Subtree, G: Arguments, Q: Qualifier<G>, T: ToTokens>(
     alloc: Global,
-    field: &FieldPat<X>,
+    field: &FieldOver<X, G, Q, T>,
     out: &mut TokenStream,
 ) -> Result<(), AllocError>
-    ensures ok { OnOk result (trees out.new ≡ trees out.old ++ printing.field X.prints field.now) }
+    ensures ok { OnOk result (trees out.new ≡ trees out.old ++ printing.field X.prints (shown Q.shown T.print) field.now) }
     ensures err { OnErr result (Extends (trees out.old) (trees out.new)) }
 {
     print_member(alloc, field, out)?;
@@ -641,7 +658,7 @@ fn print_struct_rest<P, Q, R, X: Subtree>(
 
 /// Whether the first element is `..`.
 #[tactic(auto, using(crate::proofs::pat_laws::Commas::firsts))]
-fn begins_with_rest<X>(elems: &Punctuated<Pat<X>, Comma>) -> bool
+fn begins_with_rest<X, G, Q, T>(elems: &Punctuated<PatOver<X, G, Q, T>, Comma>) -> bool
     ensures { result ≡ printing.begins spec.is_rest elems.now.0 }
 {
     match elems.first() {

@@ -13,16 +13,19 @@ ghost use Rattle.syn_pat.specs.declared.place.PatPlace.TheVariants.{LeadingVert,
 ghost use Rattle.syn_pat.specs.pat.Fronts as fronts;
 ghost use Rattle.syn_pat.specs.pat.Knot as knot;
 ghost use Rattle.syn_pat.specs.pat.Promises as promises;
+ghost use Rattle.syn_pat.specs.pat.Reading.{named, type_names};
 ghost use Rattle.token_core.specs.Headline.{Headline, Heads};
 ghost use Rattle.token_core.specs.Reads.{Fails, Follows, Gives, Parses, Reads};
 
 use crate::knot::parse_pat;
-use crate::pat::{Pat, PatGuardOf, PatType, PatTypeOf};
+use crate::names::Qualifier;
+use crate::pat::{Pat, PatGuardOf, PatOf, PatOver, PatType, PatTypeOf};
 use crate::place::PatPlace;
 use std::alloc::Global;
 use std::marker::PhantomData;
 use syn_attr::expr::Expr;
-use syn_names::Type;
+use syn_names::{PathArguments, QSelf, Type};
+use syn_path::path::Arguments;
 use syn_path::supplied::{Place, Subtree};
 use token_core::token::{Colon, If};
 use token_core::{Boxed, Error, Items, Parse, ParseStream};
@@ -39,11 +42,16 @@ impl<X: Subtree> Pat<X> {
     /// It is refused where none begins, where a part is refused, at a `..=` that no bound follows, and where an element of a
     /// slice is a range that lacks a bound. As `syn::Pat::parse_single`.
     pub fn parse_single(alloc: Global, input: &mut ParseStream<'_>) -> Result<Pat<X>, Error>
-        ensures parses { Parses (knot.pat X.reads Single) result input.old input.new }
+        ensures parses { Parses (knot.pat X.reads (type_names X.reads) Single) result input.old input.new }
         ensures promise { Heads (promises.pat X.reads X.spells X.normal X.prints Single) input.old result input.new }
         ensures front { Takes (fronts.pat X.spells Single) input.old result input.new }
     {
-        parse_pat::<X>(alloc, PhantomData, input, PatPlace::Single)
+        parse_pat::<X, PathArguments<X>, QSelf<X>, Type<X>>(
+            alloc,
+            PhantomData,
+            input,
+            PatPlace::Single,
+        )
     }
 
     /// Reads patterns joined by `|`: one that no `|` follows is itself.
@@ -54,11 +62,16 @@ impl<X: Subtree> Pat<X> {
     ///
     /// A `||` and a `|=` are left. It is refused where a pattern is, one before the first `|` too. As `syn::Pat::parse_multi`.
     pub fn parse_multi(alloc: Global, input: &mut ParseStream<'_>) -> Result<Pat<X>, Error>
-        ensures parses { Parses (knot.pat X.reads Multi) result input.old input.new }
+        ensures parses { Parses (knot.pat X.reads (type_names X.reads) Multi) result input.old input.new }
         ensures promise { Heads (promises.pat X.reads X.spells X.normal X.prints Multi) input.old result input.new }
         ensures front { Takes (fronts.pat X.spells Multi) input.old result input.new }
     {
-        parse_pat::<X>(alloc, PhantomData, input, PatPlace::Multi)
+        parse_pat::<X, PathArguments<X>, QSelf<X>, Type<X>>(
+            alloc,
+            PhantomData,
+            input,
+            PatPlace::Multi,
+        )
     }
 
     /// Reads patterns joined by `|`, and a `|` before the first, which makes alternatives of one pattern too.
@@ -72,11 +85,16 @@ impl<X: Subtree> Pat<X> {
         alloc: Global,
         input: &mut ParseStream<'_>,
     ) -> Result<Pat<X>, Error>
-        ensures parses { Parses (knot.pat X.reads LeadingVert) result input.old input.new }
+        ensures parses { Parses (knot.pat X.reads (type_names X.reads) LeadingVert) result input.old input.new }
         ensures promise { Heads (promises.pat X.reads X.spells X.normal X.prints LeadingVert) input.old result input.new }
         ensures front { Takes (fronts.pat X.spells LeadingVert) input.old result input.new }
     {
-        parse_pat::<X>(alloc, PhantomData, input, PatPlace::LeadingVert)
+        parse_pat::<X, PathArguments<X>, QSelf<X>, Type<X>>(
+            alloc,
+            PhantomData,
+            input,
+            PatPlace::LeadingVert,
+        )
     }
 
     /// The same, and a guard, which the supplied subtree reads.
@@ -90,26 +108,29 @@ impl<X: Subtree> Pat<X> {
         alloc: Global,
         input: &mut ParseStream<'_>,
     ) -> Result<Pat<X>, Error>
-        ensures parses { Parses (knot.guarded X.reads) result input.old input.new }
+        ensures parses { Parses (knot.guarded X.reads (type_names X.reads)) result input.old input.new }
         ensures promise { Heads (promises.guarded X.reads X.spells X.normal X.prints) input.old result input.new }
     {
-        parse_guarded(alloc, input)
+        parse_guarded::<X, PathArguments<X>, QSelf<X>, Type<X>>(alloc, input)
     }
 }
 
 /// A pattern, and a guard that may follow.
 #[tactic(auto, using(token_core::proofs::Suffixes::follows), unfolding(crate::specs::pat::Knot::guarded))]
-fn parse_guarded<X: Subtree>(alloc: Global, input: &mut ParseStream<'_>) -> Result<Pat<X>, Error>
-    ensures parses { Parses (knot.guarded X.reads) result input.old input.new }
+fn parse_guarded<X: Subtree, G: Arguments, Q: Qualifier<G>, T: Drop>(
+    alloc: Global,
+    input: &mut ParseStream<'_>,
+) -> Result<PatOver<X, G, Q, T>, Error>
+    ensures parses { Parses (knot.guarded X.reads (named Q.reads G.is_absent)) result input.old input.new }
 {
-    let pat = parse_pat::<X>(alloc, PhantomData, input, PatPlace::LeadingVert)?;
+    let pat = parse_pat::<X, G, Q, T>(alloc, PhantomData, input, PatPlace::LeadingVert)?;
     if !input.peek::<If>() {
         return Ok(pat);
     }
     let pat = Boxed::new(alloc, pat)?;
     let if_token = input.parse::<If>(alloc)?;
     let guard = X::read(alloc, Place::Guard, input)?;
-    Ok(Pat::Guard(PatGuardOf {
+    Ok(PatOf::Guard(PatGuardOf {
         attrs: Items::new(alloc),
         pat,
         if_token,
@@ -122,7 +143,12 @@ fn parse_guarded<X: Subtree>(alloc: Global, input: &mut ParseStream<'_>) -> Resu
 fn parse_typed<X: Subtree>(alloc: Global, input: &mut ParseStream<'_>) -> Result<PatType<X>, Error>
     ensures parses { Parses (knot.typed X.reads) result input.old input.new }
 {
-    let pat = parse_pat::<X>(alloc, PhantomData, input, PatPlace::Single)?;
+    let pat = parse_pat::<X, PathArguments<X>, QSelf<X>, Type<X>>(
+        alloc,
+        PhantomData,
+        input,
+        PatPlace::Single,
+    )?;
     let pat = Boxed::new(alloc, pat)?;
     let colon_token = input.parse::<Colon>(alloc)?;
     let ty = input.parse::<Type<X>>(alloc)?;

@@ -5,19 +5,22 @@ ghost use Rattle.syn_forms.specs.nested.Below.{Nests, ahead};
 ghost use Rattle.syn_forms.specs.verbatim.Reading as verbatim;
 ghost use Rattle.syn_pat.specs.pat.Knot as knot;
 ghost use Rattle.syn_pat.specs.pat.Reading as reading;
+ghost use Rattle.syn_pat.specs.pat.Reading.{named};
 ghost use Rattle.token_core.specs.Positions.{IsReached};
 ghost use Rattle.token_core.specs.Reads.{Parses};
 
 use crate::grammar::Patterns;
+use crate::names::Qualifier;
 use crate::pat::read::forms::parse_ref;
 use crate::pat::read::tokens::parse_dot_dot;
-use crate::pat::{FieldPat, FieldPatOf, Pat, PatIdentOf, PatRest, PatRestOf};
+use crate::pat::{FieldOver, FieldPatOf, PatIdentOf, PatOf, PatOver, PatRest, PatRestOf};
 use crate::place::PatPlace;
 use std::alloc::Global;
 use std::marker::PhantomData;
 use syn_attr::attr::Attribute;
 use syn_forms::tokens::{parse_colon, parse_comma, parse_mut};
 use syn_forms::verbatim::since;
+use syn_path::path::Arguments;
 use syn_path::supplied::Subtree;
 use token_core::token::{Box, Colon, Comma, DotDot, Mut, Ref};
 use token_core::{Boxed, Cursor, Error, Ident, Items, Member, ParseStream, Punctuated};
@@ -26,7 +29,7 @@ use token_core::{Boxed, Cursor, Error, Ident, Items, Member, ParseStream, Punctu
 type Modes = (Option<Box>, Option<Ref>, Option<Mut>);
 
 /// Fields joined by commas, and the `..` at their end, if it stands there.
-pub(crate) type Fields<X> = (Punctuated<FieldPat<X>, Comma>, Option<PatRest<X>>);
+pub(crate) type Fields<X, G, Q, T> = (Punctuated<FieldOver<X, G, Q, T>, Comma>, Option<PatRest<X>>);
 
 /// `box`, `ref` and `mut`, each of which may be there.
 #[tactic(auto, using(token_core::proofs::Suffixes::follows, syn_forms::proofs::nested_laws::Ahead::later), unfolding(crate::specs::pat::Reading::modes))]
@@ -49,20 +52,20 @@ fn has_mode(modes: &Modes) -> bool
 
 /// The pattern of a field that binds its name; one with `box` is held as it was written.
 #[tactic(auto, using(token_core::proofs::Suffixes::follows))]
-fn parse_binds<X: Subtree>(
+fn parse_binds<X: Subtree, G: Arguments, Q: Qualifier<G>, T: Drop>(
     alloc: Global,
     input: &mut ParseStream<'_>,
     from: &Cursor<'_>,
     modes: Modes,
     ident: &Ident,
-) -> Result<Pat<X>, Error>
+) -> Result<PatOver<X, G, Q, T>, Error>
     requires reached { IsReached (verbatim.position input.old) from.now }
     ensures parses { Parses (reading.binds from.now modes ident.now) result input.old input.new }
 {
     let (boxed, by_ref, mutability) = modes;
     match boxed {
-        Some(_) => Ok(Pat::Verbatim(since(alloc, from, input)?)),
-        None => Ok(Pat::Ident(PatIdentOf {
+        Some(_) => Ok(PatOf::Verbatim(since(alloc, from, input)?)),
+        None => Ok(PatOf::Ident(PatIdentOf {
             attrs: Items::new(alloc),
             by_ref,
             mutability,
@@ -74,14 +77,14 @@ fn parse_binds<X: Subtree>(
 
 /// A field that binds its name.
 #[tactic(auto, using(token_core::proofs::Suffixes::follows))]
-fn parse_bound_field<X: Subtree>(
+fn parse_bound_field<X: Subtree, G: Arguments, Q: Qualifier<G>, T: Drop>(
     alloc: Global,
     input: &mut ParseStream<'_>,
     from: &Cursor<'_>,
     attrs: Items<Attribute<X>>,
     modes: Modes,
     ident: Ident,
-) -> Result<FieldPat<X>, Error>
+) -> Result<FieldOver<X, G, Q, T>, Error>
     requires reached { IsReached (verbatim.position input.old) from.now }
     ensures parses { Parses (reading.bound_field from.now attrs modes ident) result input.old input.new }
 {
@@ -97,9 +100,17 @@ fn parse_bound_field<X: Subtree>(
 impl<
     'a,
     X: Subtree,
-    F: Fn(Global, PhantomData<Pat<X>>, &mut ParseStream<'_>, PatPlace) -> Result<Pat<X>, Error>
+    G: Arguments,
+    Q: Qualifier<G>,
+    T: Drop,
+    F: Fn(
+        Global,
+        PhantomData<PatOver<X, G, Q, T>>,
+        &mut ParseStream<'_>,
+        PatPlace,
+    ) -> Result<PatOver<X, G, Q, T>, Error>
         + Copy,
-> Patterns<'a, X, F> {
+> Patterns<'a, X, G, Q, T, F> {
     /// A member's `:` and pattern.
     #[tactic(auto, using(token_core::proofs::Suffixes::follows, syn_forms::proofs::nested_laws::Ahead::later), unfolding(crate::specs::pat::Reading::member_field))]
     fn member_field(
@@ -107,10 +118,10 @@ impl<
         input: &mut ParseStream<'_>,
         attrs: Items<Attribute<X>>,
         member: Member,
-    ) -> Result<FieldPat<X>, Error>
-        requires patterns { Nests (knot.pat X.reads) (length self.now.begin) (F.pre self.now.patterns) (F.post self.now.patterns) }
+    ) -> Result<FieldOver<X, G, Q, T>, Error>
+        requires patterns { Nests (knot.pat X.reads (named Q.reads G.is_absent)) (length self.now.begin) (F.pre self.now.patterns) (F.post self.now.patterns) }
         requires few { ahead input.old < length self.now.begin }
-        ensures parses { Parses (reading.member_field (knot.pats_below X.reads (length self.now.begin)) attrs member) result input.old input.new }
+        ensures parses { Parses (reading.member_field (knot.pats_below X.reads (named Q.reads G.is_absent) (length self.now.begin)) attrs member) result input.old input.new }
         ensures fewer { ahead input.new ≤ ahead input.old }
     {
         let colon_token = parse_colon(self.alloc, input)?;
@@ -131,11 +142,11 @@ impl<
         from: &Cursor<'_>,
         attrs: Items<Attribute<X>>,
         member: Member,
-    ) -> Result<FieldPat<X>, Error>
-        requires patterns { Nests (knot.pat X.reads) (length self.now.begin) (F.pre self.now.patterns) (F.post self.now.patterns) }
+    ) -> Result<FieldOver<X, G, Q, T>, Error>
+        requires patterns { Nests (knot.pat X.reads (named Q.reads G.is_absent)) (length self.now.begin) (F.pre self.now.patterns) (F.post self.now.patterns) }
         requires few { ahead input.old < length self.now.begin }
         requires reached { IsReached (verbatim.position input.old) from.now }
-        ensures parses { Parses (reading.plain_field (knot.pats_below X.reads (length self.now.begin)) from.now attrs member) result input.old input.new }
+        ensures parses { Parses (reading.plain_field (knot.pats_below X.reads (named Q.reads G.is_absent) (length self.now.begin)) from.now attrs member) result input.old input.new }
         ensures fewer { ahead input.new ≤ ahead input.old }
     {
         match member {
@@ -155,10 +166,10 @@ impl<
         &self,
         input: &mut ParseStream<'_>,
         attrs: Items<Attribute<X>>,
-    ) -> Result<FieldPat<X>, Error>
-        requires patterns { Nests (knot.pat X.reads) (length self.now.begin) (F.pre self.now.patterns) (F.post self.now.patterns) }
+    ) -> Result<FieldOver<X, G, Q, T>, Error>
+        requires patterns { Nests (knot.pat X.reads (named Q.reads G.is_absent)) (length self.now.begin) (F.pre self.now.patterns) (F.post self.now.patterns) }
         requires few { ahead input.old < length self.now.begin }
-        ensures parses { Parses (reading.field (knot.pats_below X.reads (length self.now.begin)) attrs) result input.old input.new }
+        ensures parses { Parses (reading.field (knot.pats_below X.reads (named Q.reads G.is_absent) (length self.now.begin)) attrs) result input.old input.new }
         ensures fewer { ahead input.new ≤ ahead input.old }
     {
         let from = input.cursor();
@@ -174,10 +185,10 @@ impl<
     /// The fields of a struct's pattern, each with its attributes, joined by commas up to the end of the group; a comma may
     /// follow the last. A `..` ends them, with its attributes, and nothing is read after it.
     #[tactic(auto, using(token_core::proofs::Suffixes::follows))]
-    pub(crate) fn fields(&self, input: &mut ParseStream<'_>) -> Result<Fields<X>, Error>
-        requires patterns { Nests (knot.pat X.reads) (length self.now.begin) (F.pre self.now.patterns) (F.post self.now.patterns) }
+    pub(crate) fn fields(&self, input: &mut ParseStream<'_>) -> Result<Fields<X, G, Q, T>, Error>
+        requires patterns { Nests (knot.pat X.reads (named Q.reads G.is_absent)) (length self.now.begin) (F.pre self.now.patterns) (F.post self.now.patterns) }
         requires few { ahead input.old < length self.now.begin }
-        ensures parses { Parses (reading.fields X.reads (knot.pats_below X.reads (length self.now.begin))) result input.old input.new }
+        ensures parses { Parses (reading.fields X.reads (knot.pats_below X.reads (named Q.reads G.is_absent) (length self.now.begin))) result input.old input.new }
     {
         let mut list = Punctuated::new(self.alloc);
         'turn: loop {

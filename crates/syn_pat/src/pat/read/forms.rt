@@ -4,17 +4,20 @@ ghost use Rattle.std.specs.Prelude.{◌<◌, ◌≤◌, length, IfOk};
 ghost use Rattle.syn_forms.specs.nested.Below.{Nests, ahead};
 ghost use Rattle.syn_pat.specs.pat.Knot as knot;
 ghost use Rattle.syn_pat.specs.pat.Reading as reading;
+ghost use Rattle.syn_pat.specs.pat.Reading.{named};
 ghost use Rattle.token_core.specs.Reads.{Parses};
 ghost use Rattle.token_core.specs.Tokens as token;
 
 use crate::grammar::Patterns;
+use crate::names::Qualifier;
 use crate::pat::read::tokens::parse_box;
-use crate::pat::{Pat, PatIdent, PatIdentOf, PatReference, PatReferenceOf};
+use crate::pat::{IdentOver, PatIdentOf, PatOf, PatOver, PatReferenceOf, ReferenceOver};
 use crate::place::PatPlace;
 use std::alloc::Global;
 use std::marker::PhantomData;
 use syn_forms::tokens::{parse_and, parse_mut};
 use syn_forms::verbatim::since;
+use syn_path::path::Arguments;
 use syn_path::supplied::Subtree;
 use token_core::token::{At, Mut, Ref, SelfValue};
 use token_core::{Boxed, Error, Ident, Items, ParseStream};
@@ -66,15 +69,26 @@ fn parse_at(alloc: Global, input: &mut ParseStream<'_>) -> Result<At, Error>
 impl<
     'a,
     X: Subtree,
-    F: Fn(Global, PhantomData<Pat<X>>, &mut ParseStream<'_>, PatPlace) -> Result<Pat<X>, Error>
+    G: Arguments,
+    Q: Qualifier<G>,
+    T: Drop,
+    F: Fn(
+        Global,
+        PhantomData<PatOver<X, G, Q, T>>,
+        &mut ParseStream<'_>,
+        PatPlace,
+    ) -> Result<PatOver<X, G, Q, T>, Error>
         + Copy,
-> Patterns<'a, X, F> {
+> Patterns<'a, X, G, Q, T, F> {
     /// `@` and a pattern, which may be there.
     #[tactic(auto, using(token_core::proofs::Suffixes::follows, syn_forms::proofs::nested_laws::Ahead::later), unfolding(crate::specs::pat::Reading::subpat))]
-    fn subpat(&self, input: &mut ParseStream<'_>) -> Result<Option<(At, Boxed<Pat<X>>)>, Error>
-        requires patterns { Nests (knot.pat X.reads) (length self.now.begin) (F.pre self.now.patterns) (F.post self.now.patterns) }
+    fn subpat(
+        &self,
+        input: &mut ParseStream<'_>,
+    ) -> Result<Option<(At, Boxed<PatOver<X, G, Q, T>>)>, Error>
+        requires patterns { Nests (knot.pat X.reads (named Q.reads G.is_absent)) (length self.now.begin) (F.pre self.now.patterns) (F.post self.now.patterns) }
         requires few { ahead input.old ≤ length self.now.begin }
-        ensures parses { Parses (reading.optional_subpat (knot.pats_below X.reads (length self.now.begin))) result input.old input.new }
+        ensures parses { Parses (reading.optional_subpat (knot.pats_below X.reads (named Q.reads G.is_absent) (length self.now.begin))) result input.old input.new }
     {
         if !input.peek::<At>() {
             return Ok(None);
@@ -86,10 +100,13 @@ impl<
 
     /// `ref mut a @ b`: all but the name may be missing (syn's `pat_ident`).
     #[tactic(auto, using(token_core::proofs::Suffixes::follows, syn_forms::proofs::nested_laws::Ahead::later), unfolding(crate::specs::pat::Reading::binding))]
-    pub(crate) fn binding(&self, input: &mut ParseStream<'_>) -> Result<PatIdent<X>, Error>
-        requires patterns { Nests (knot.pat X.reads) (length self.now.begin) (F.pre self.now.patterns) (F.post self.now.patterns) }
+    pub(crate) fn binding(
+        &self,
+        input: &mut ParseStream<'_>,
+    ) -> Result<IdentOver<X, G, Q, T>, Error>
+        requires patterns { Nests (knot.pat X.reads (named Q.reads G.is_absent)) (length self.now.begin) (F.pre self.now.patterns) (F.post self.now.patterns) }
         requires few { ahead input.old ≤ length self.now.begin }
-        ensures parses { Parses (reading.binding (knot.pats_below X.reads (length self.now.begin))) result input.old input.new }
+        ensures parses { Parses (reading.binding (knot.pats_below X.reads (named Q.reads G.is_absent) (length self.now.begin))) result input.old input.new }
     {
         let (by_ref, mutability, ident) = parse_bound_head(self.alloc, input)?;
         let subpat = self.subpat(input)?;
@@ -104,10 +121,13 @@ impl<
 
     /// `&mut a` (syn's `pat_reference`).
     #[tactic(auto, using(token_core::proofs::Suffixes::follows, syn_forms::proofs::nested_laws::Ahead::later), unfolding(crate::specs::pat::Reading::reference))]
-    pub(crate) fn reference(&self, input: &mut ParseStream<'_>) -> Result<PatReference<X>, Error>
-        requires patterns { Nests (knot.pat X.reads) (length self.now.begin) (F.pre self.now.patterns) (F.post self.now.patterns) }
+    pub(crate) fn reference(
+        &self,
+        input: &mut ParseStream<'_>,
+    ) -> Result<ReferenceOver<X, G, Q, T>, Error>
+        requires patterns { Nests (knot.pat X.reads (named Q.reads G.is_absent)) (length self.now.begin) (F.pre self.now.patterns) (F.post self.now.patterns) }
         requires few { ahead input.old ≤ length self.now.begin }
-        ensures parses { Parses (reading.reference (knot.pats_below X.reads (length self.now.begin))) result input.old input.new }
+        ensures parses { Parses (reading.reference (knot.pats_below X.reads (named Q.reads G.is_absent) (length self.now.begin))) result input.old input.new }
     {
         let and_token = parse_and(self.alloc, input)?;
         let mutability = parse_mut(self.alloc, input)?;
@@ -122,14 +142,14 @@ impl<
 
     /// `box a`, held as it was written (syn's `pat_box`).
     #[tactic(auto, using(token_core::proofs::Suffixes::follows, syn_forms::proofs::nested_laws::Ahead::later, token_core::proofs::Places::positions), unfolding(crate::specs::pat::Reading::box_pat))]
-    pub(crate) fn box_pat(&self, input: &mut ParseStream<'_>) -> Result<Pat<X>, Error>
-        requires patterns { Nests (knot.pat X.reads) (length self.now.begin) (F.pre self.now.patterns) (F.post self.now.patterns) }
+    pub(crate) fn box_pat(&self, input: &mut ParseStream<'_>) -> Result<PatOver<X, G, Q, T>, Error>
+        requires patterns { Nests (knot.pat X.reads (named Q.reads G.is_absent)) (length self.now.begin) (F.pre self.now.patterns) (F.post self.now.patterns) }
         requires few { ahead input.old ≤ length self.now.begin }
-        ensures parses { Parses (reading.box_pat (knot.pats_below X.reads (length self.now.begin))) result input.old input.new }
+        ensures parses { Parses (reading.box_pat (knot.pats_below X.reads (named Q.reads G.is_absent) (length self.now.begin))) result input.old input.new }
     {
         let from = input.cursor();
         parse_box(self.alloc, input)?;
         self.patterns().value(input, PatPlace::Single)?;
-        Ok(Pat::Verbatim(since(self.alloc, &from, input)?))
+        Ok(PatOf::Verbatim(since(self.alloc, &from, input)?))
     }
 }

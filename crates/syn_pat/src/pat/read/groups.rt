@@ -6,15 +6,18 @@ ghost use Rattle.syn_forms.specs.nested.Below.{Nests, ahead};
 ghost use Rattle.syn_pat.specs.declared.place.PatPlace.TheVariants.{Element, LeadingVert};
 ghost use Rattle.syn_pat.specs.pat.Knot as knot;
 ghost use Rattle.syn_pat.specs.pat.Reading as reading;
+ghost use Rattle.syn_pat.specs.pat.Reading.{named};
 ghost use Rattle.token_core.specs.Reads.{Parses};
 
 use crate::grammar::Patterns;
-use crate::pat::{Pat, PatParenOf, PatSlice, PatSliceOf, PatTupleOf};
+use crate::names::Qualifier;
+use crate::pat::{PatOf, PatOver, PatParenOf, PatSliceOf, PatTupleOf, SliceOver};
 use crate::place::PatPlace;
 use std::alloc::Global;
 use std::marker::PhantomData;
 use syn_forms::lists::ToEnd;
 use syn_forms::tokens::{open_brackets, open_parens};
+use syn_path::path::Arguments;
 use syn_path::supplied::Subtree;
 use token_core::token::{Comma, Paren};
 use token_core::{Boxed, Error, Items, ParseStream, Punctuated};
@@ -29,16 +32,20 @@ pub enum InParens<T> {
 }
 
 /// A pattern in parentheses, or a tuple, without attributes.
-fn of_parens<X: Subtree>(alloc: Global, paren_token: Paren, held: InParens<Pat<X>>) -> Pat<X>
+fn of_parens<X: Subtree, G: Arguments, Q: Qualifier<G>, T: Drop>(
+    alloc: Global,
+    paren_token: Paren,
+    held: InParens<PatOver<X, G, Q, T>>,
+) -> PatOver<X, G, Q, T>
     ensures { result ≡ reading.of_parens paren_token held }
 {
     match held {
-        InParens::One(pat) => Pat::Paren(PatParenOf {
+        InParens::One(pat) => PatOf::Paren(PatParenOf {
             attrs: Items::new(alloc),
             paren_token,
             pat,
         }),
-        InParens::Elements(elems) => Pat::Tuple(PatTupleOf {
+        InParens::Elements(elems) => PatOf::Tuple(PatTupleOf {
             attrs: Items::new(alloc),
             paren_token,
             elems,
@@ -49,18 +56,26 @@ fn of_parens<X: Subtree>(alloc: Global, paren_token: Paren, held: InParens<Pat<X
 impl<
     'a,
     X: Subtree,
-    F: Fn(Global, PhantomData<Pat<X>>, &mut ParseStream<'_>, PatPlace) -> Result<Pat<X>, Error>
+    G: Arguments,
+    Q: Qualifier<G>,
+    T: Drop,
+    F: Fn(
+        Global,
+        PhantomData<PatOver<X, G, Q, T>>,
+        &mut ParseStream<'_>,
+        PatPlace,
+    ) -> Result<PatOver<X, G, Q, T>, Error>
         + Copy,
-> Patterns<'a, X, F> {
+> Patterns<'a, X, G, Q, T, F> {
     /// Patterns in a place up to the end of their group, joined by commas; one may follow the last.
     fn elements(
         &self,
         input: &mut ParseStream<'_>,
         place: PatPlace,
-    ) -> Result<Punctuated<Pat<X>, Comma>, Error>
-        requires patterns { Nests (knot.pat X.reads) (length self.now.begin) (F.pre self.now.patterns) (F.post self.now.patterns) }
+    ) -> Result<Punctuated<PatOver<X, G, Q, T>, Comma>, Error>
+        requires patterns { Nests (knot.pat X.reads (named Q.reads G.is_absent)) (length self.now.begin) (F.pre self.now.patterns) (F.post self.now.patterns) }
         requires few { ahead input.old < length self.now.begin }
-        ensures parses { Parses (reading.elements (knot.pats_below X.reads (length self.now.begin)) place) result input.old input.new }
+        ensures parses { Parses (reading.elements (knot.pats_below X.reads (named Q.reads G.is_absent) (length self.now.begin)) place) result input.old input.new }
     {
         self.patterns().list(input, place, ToEnd)
     }
@@ -70,10 +85,10 @@ impl<
     pub(crate) fn in_parens(
         &self,
         input: &mut ParseStream<'_>,
-    ) -> Result<(Paren, Punctuated<Pat<X>, Comma>), Error>
-        requires patterns { Nests (knot.pat X.reads) (length self.now.begin) (F.pre self.now.patterns) (F.post self.now.patterns) }
+    ) -> Result<(Paren, Punctuated<PatOver<X, G, Q, T>, Comma>), Error>
+        requires patterns { Nests (knot.pat X.reads (named Q.reads G.is_absent)) (length self.now.begin) (F.pre self.now.patterns) (F.post self.now.patterns) }
         requires few { ahead input.old ≤ length self.now.begin }
-        ensures parses { Parses (in_parens (reading.elements (knot.pats_below X.reads (length self.now.begin)) LeadingVert)) result input.old input.new }
+        ensures parses { Parses (in_parens (reading.elements (knot.pats_below X.reads (named Q.reads G.is_absent) (length self.now.begin)) LeadingVert)) result input.old input.new }
     {
         let (paren_token, mut content) = open_parens(self.alloc, input)?;
         let elems = self.elements(&mut content, PatPlace::LeadingVert)?;
@@ -83,10 +98,10 @@ impl<
 
     /// `[a, b, ..]` (syn's `pat_slice`).
     #[tactic(auto, using(token_core::proofs::Suffixes::follows, syn_forms::proofs::nested_laws::Ahead::later), unfolding(crate::specs::pat::Reading::slice))]
-    pub(crate) fn slice(&self, input: &mut ParseStream<'_>) -> Result<PatSlice<X>, Error>
-        requires patterns { Nests (knot.pat X.reads) (length self.now.begin) (F.pre self.now.patterns) (F.post self.now.patterns) }
+    pub(crate) fn slice(&self, input: &mut ParseStream<'_>) -> Result<SliceOver<X, G, Q, T>, Error>
+        requires patterns { Nests (knot.pat X.reads (named Q.reads G.is_absent)) (length self.now.begin) (F.pre self.now.patterns) (F.post self.now.patterns) }
         requires few { ahead input.old ≤ length self.now.begin }
-        ensures parses { Parses (reading.slice (knot.pats_below X.reads (length self.now.begin))) result input.old input.new }
+        ensures parses { Parses (reading.slice (knot.pats_below X.reads (named Q.reads G.is_absent) (length self.now.begin))) result input.old input.new }
     {
         let (bracket_token, mut content) = open_brackets(self.alloc, input)?;
         let elems = self.elements(&mut content, PatPlace::Element)?;
@@ -100,10 +115,13 @@ impl<
 
     /// What parentheses hold: a pattern alone, unless it is `..`, or the elements of a tuple.
     #[tactic(auto, using(token_core::proofs::Suffixes::follows, syn_forms::proofs::nested_laws::Ahead::later), unfolding(crate::specs::pat::Reading::paren_content))]
-    fn paren_content(&self, input: &mut ParseStream<'_>) -> Result<InParens<Pat<X>>, Error>
-        requires patterns { Nests (knot.pat X.reads) (length self.now.begin) (F.pre self.now.patterns) (F.post self.now.patterns) }
+    fn paren_content(
+        &self,
+        input: &mut ParseStream<'_>,
+    ) -> Result<InParens<PatOver<X, G, Q, T>>, Error>
+        requires patterns { Nests (knot.pat X.reads (named Q.reads G.is_absent)) (length self.now.begin) (F.pre self.now.patterns) (F.post self.now.patterns) }
         requires few { ahead input.old < length self.now.begin }
-        ensures parses { Parses (reading.paren_content (knot.pats_below X.reads (length self.now.begin))) result input.old input.new }
+        ensures parses { Parses (reading.paren_content (knot.pats_below X.reads (named Q.reads G.is_absent) (length self.now.begin))) result input.old input.new }
     {
         if input.is_empty() {
             return Ok(InParens::Elements(Punctuated::new(self.alloc)));
@@ -120,10 +138,13 @@ impl<
 
     /// `(a)`, `(a, b)` (syn's `pat_paren_or_tuple`).
     #[tactic(auto, using(token_core::proofs::Suffixes::follows, syn_forms::proofs::nested_laws::Ahead::later), unfolding(crate::specs::pat::Reading::paren_or_tuple))]
-    pub(crate) fn paren_or_tuple(&self, input: &mut ParseStream<'_>) -> Result<Pat<X>, Error>
-        requires patterns { Nests (knot.pat X.reads) (length self.now.begin) (F.pre self.now.patterns) (F.post self.now.patterns) }
+    pub(crate) fn paren_or_tuple(
+        &self,
+        input: &mut ParseStream<'_>,
+    ) -> Result<PatOver<X, G, Q, T>, Error>
+        requires patterns { Nests (knot.pat X.reads (named Q.reads G.is_absent)) (length self.now.begin) (F.pre self.now.patterns) (F.post self.now.patterns) }
         requires few { ahead input.old ≤ length self.now.begin }
-        ensures parses { Parses (reading.paren_or_tuple (knot.pats_below X.reads (length self.now.begin))) result input.old input.new }
+        ensures parses { Parses (reading.paren_or_tuple (knot.pats_below X.reads (named Q.reads G.is_absent) (length self.now.begin))) result input.old input.new }
     {
         let (paren_token, mut content) = open_parens(self.alloc, input)?;
         let held = self.paren_content(&mut content)?;

@@ -4,35 +4,38 @@ ghost use Rattle.std.specs.Prelude.{◌<◌, ◌≤◌, length};
 ghost use Rattle.syn_forms.specs.nested.Below.{Nests, ahead};
 ghost use Rattle.syn_pat.specs.pat.Knot as knot;
 ghost use Rattle.syn_pat.specs.pat.Reading as reading;
+ghost use Rattle.syn_pat.specs.pat.Reading.{named};
 ghost use Rattle.token_core.specs.Reads.{Parses};
 
 use crate::grammar::Patterns;
-use crate::pat::read::ranges::{bare_path, parse_after_bound, parse_qpath};
+use crate::names::Qualifier;
+use crate::pat::read::ranges::{bare_path, parse_after_bound};
 use crate::pat::read::tokens::{open_braces, sees_call};
-use crate::pat::{Pat, PatRangeBoundOf, PatStruct, PatStructOf, PatTupleStruct, PatTupleStructOf};
+use crate::pat::{
+    PatOf, PatOver, PatRangeBoundOf, PatStructOf, PatTupleStructOf, StructOver, TupleStructOver,
+};
 use crate::place::PatPlace;
 use std::alloc::Global;
 use std::marker::PhantomData;
 use syn_attr::expr::ExprMacroOf;
-use syn_names::{Path, QSelf};
 use syn_path::mac::parse_call_after;
-use syn_path::path::without_arguments;
+use syn_path::path::{Arguments, PathOf, without_arguments};
 use syn_path::supplied::Subtree;
 use token_core::token::{Brace, Paren};
 use token_core::{Error, Items, ParseStream};
 
 /// A macro call by a path that was read, which has no arguments.
 #[tactic(auto, using(token_core::proofs::Suffixes::follows))]
-fn parse_macro_after<X: Subtree>(
+fn parse_macro_after<X: Subtree, G: Arguments, Q: Qualifier<G>, T: Drop>(
     alloc: Global,
     input: &mut ParseStream<'_>,
-    path: &Path<X>,
-) -> Result<Pat<X>, Error>
+    path: &PathOf<G>,
+) -> Result<PatOver<X, G, Q, T>, Error>
     ensures parses { Parses (reading.macro_after path.now) result input.old input.new }
 {
     let path = without_arguments(alloc, path)?;
     let mac = parse_call_after(alloc, input, path)?;
-    Ok(Pat::Macro(ExprMacroOf {
+    Ok(PatOf::Macro(ExprMacroOf {
         attrs: Items::new(alloc),
         mac,
     }))
@@ -41,20 +44,28 @@ fn parse_macro_after<X: Subtree>(
 impl<
     'a,
     X: Subtree,
-    F: Fn(Global, PhantomData<Pat<X>>, &mut ParseStream<'_>, PatPlace) -> Result<Pat<X>, Error>
+    G: Arguments,
+    Q: Qualifier<G>,
+    T: Drop,
+    F: Fn(
+        Global,
+        PhantomData<PatOver<X, G, Q, T>>,
+        &mut ParseStream<'_>,
+        PatPlace,
+    ) -> Result<PatOver<X, G, Q, T>, Error>
         + Copy,
-> Patterns<'a, X, F> {
+> Patterns<'a, X, G, Q, T, F> {
     /// Fields in braces after the path of a struct (syn's `pat_struct`).
     #[tactic(auto, using(token_core::proofs::Suffixes::follows, syn_forms::proofs::nested_laws::Ahead::later), unfolding(crate::specs::pat::Reading::struct_after))]
     fn struct_after(
         &self,
         input: &mut ParseStream<'_>,
-        qself: Option<QSelf<X>>,
-        path: Path<X>,
-    ) -> Result<PatStruct<X>, Error>
-        requires patterns { Nests (knot.pat X.reads) (length self.now.begin) (F.pre self.now.patterns) (F.post self.now.patterns) }
+        qself: Option<Q>,
+        path: PathOf<G>,
+    ) -> Result<StructOver<X, G, Q, T>, Error>
+        requires patterns { Nests (knot.pat X.reads (named Q.reads G.is_absent)) (length self.now.begin) (F.pre self.now.patterns) (F.post self.now.patterns) }
         requires few { ahead input.old ≤ length self.now.begin }
-        ensures parses { Parses (reading.struct_after X.reads (knot.pats_below X.reads (length self.now.begin)) qself path) result input.old input.new }
+        ensures parses { Parses (reading.struct_after X.reads (knot.pats_below X.reads (named Q.reads G.is_absent) (length self.now.begin)) qself path) result input.old input.new }
     {
         let (brace_token, mut content) = open_braces(self.alloc, input)?;
         let (fields, rest) = self.fields(&mut content)?;
@@ -74,12 +85,12 @@ impl<
     fn tuple_struct_after(
         &self,
         input: &mut ParseStream<'_>,
-        qself: Option<QSelf<X>>,
-        path: Path<X>,
-    ) -> Result<PatTupleStruct<X>, Error>
-        requires patterns { Nests (knot.pat X.reads) (length self.now.begin) (F.pre self.now.patterns) (F.post self.now.patterns) }
+        qself: Option<Q>,
+        path: PathOf<G>,
+    ) -> Result<TupleStructOver<X, G, Q, T>, Error>
+        requires patterns { Nests (knot.pat X.reads (named Q.reads G.is_absent)) (length self.now.begin) (F.pre self.now.patterns) (F.post self.now.patterns) }
         requires few { ahead input.old ≤ length self.now.begin }
-        ensures parses { Parses (reading.tuple_struct_after (knot.pats_below X.reads (length self.now.begin)) qself path) result input.old input.new }
+        ensures parses { Parses (reading.tuple_struct_after (knot.pats_below X.reads (named Q.reads G.is_absent) (length self.now.begin)) qself path) result input.old input.new }
     {
         let (paren_token, elems) = self.in_parens(input)?;
         Ok(PatTupleStructOf {
@@ -96,21 +107,21 @@ impl<
     fn after_path(
         &self,
         input: &mut ParseStream<'_>,
-        qself: Option<QSelf<X>>,
-        path: Path<X>,
-    ) -> Result<Pat<X>, Error>
-        requires patterns { Nests (knot.pat X.reads) (length self.now.begin) (F.pre self.now.patterns) (F.post self.now.patterns) }
+        qself: Option<Q>,
+        path: PathOf<G>,
+    ) -> Result<PatOver<X, G, Q, T>, Error>
+        requires patterns { Nests (knot.pat X.reads (named Q.reads G.is_absent)) (length self.now.begin) (F.pre self.now.patterns) (F.post self.now.patterns) }
         requires few { ahead input.old ≤ length self.now.begin }
-        ensures parses { Parses (reading.after_path X.reads (knot.pats_below X.reads (length self.now.begin)) qself path) result input.old input.new }
+        ensures parses { Parses (reading.after_path X.reads (named Q.reads G.is_absent) (knot.pats_below X.reads (named Q.reads G.is_absent) (length self.now.begin)) qself path) result input.old input.new }
     {
         if qself.is_none() & (sees_call(input) & path.is_mod_style()) {
             return parse_macro_after(self.alloc, input, &path);
         }
         if input.peek::<Brace>() {
-            return Ok(Pat::Struct(self.struct_after(input, qself, path)?));
+            return Ok(PatOf::Struct(self.struct_after(input, qself, path)?));
         }
         if input.peek::<Paren>() {
-            return Ok(Pat::TupleStruct(self.tuple_struct_after(input, qself, path)?));
+            return Ok(PatOf::TupleStruct(self.tuple_struct_after(input, qself, path)?));
         }
         let bound = PatRangeBoundOf::Path(bare_path(self.alloc, qself, path));
         parse_after_bound(self.alloc, input, bound)
@@ -118,12 +129,12 @@ impl<
 
     /// A pattern that begins with a path (syn's `pat_path_or_macro_or_struct_or_range`).
     #[tactic(auto, using(token_core::proofs::Suffixes::follows, syn_forms::proofs::nested_laws::Ahead::later), unfolding(crate::specs::pat::Reading::path_pat))]
-    pub(crate) fn path_pat(&self, input: &mut ParseStream<'_>) -> Result<Pat<X>, Error>
-        requires patterns { Nests (knot.pat X.reads) (length self.now.begin) (F.pre self.now.patterns) (F.post self.now.patterns) }
+    pub(crate) fn path_pat(&self, input: &mut ParseStream<'_>) -> Result<PatOver<X, G, Q, T>, Error>
+        requires patterns { Nests (knot.pat X.reads (named Q.reads G.is_absent)) (length self.now.begin) (F.pre self.now.patterns) (F.post self.now.patterns) }
         requires few { ahead input.old ≤ length self.now.begin }
-        ensures parses { Parses (reading.path_pat X.reads (knot.pats_below X.reads (length self.now.begin))) result input.old input.new }
+        ensures parses { Parses (reading.path_pat X.reads (named Q.reads G.is_absent) (knot.pats_below X.reads (named Q.reads G.is_absent) (length self.now.begin))) result input.old input.new }
     {
-        let (qself, path) = parse_qpath(self.alloc, input)?;
+        let (qself, path) = Q::parse_path(self.alloc, input)?;
         self.after_path(input, qself, path)
     }
 }

@@ -4,19 +4,20 @@ ghost use Rattle.std.specs.Prelude.{◌≡◌, [], IfOk};
 ghost use Rattle.syn_pat.specs.declared.pat.PatOf.TheVariants as variants;
 ghost use Rattle.syn_pat.specs.pat.Pats as pats;
 ghost use Rattle.syn_pat.specs.pat.Reading as reading;
+ghost use Rattle.syn_pat.specs.pat.Reading.{named};
 ghost use Rattle.token_core.specs.Reads.{Parses};
 
+use crate::names::Qualifier;
 use crate::pat::read::tokens::no_bound;
 use crate::pat::{
-    Pat, PatConst, PatPath, PatPathOf, PatRangeBound, PatRangeBoundOf, PatRangeOf, PatRestOf,
+    PatConst, PatOf, PatOver, PatPathOf, PatRangeBoundOf, PatRangeOf, PatRestOf, PathOver,
+    RangeBoundOver,
 };
 use std::alloc::{AllocError, Global};
 use syn_attr::attr::Attribute;
 use syn_attr::expr::{Expr, ExprConstOf, ExprLitOf};
-use syn_names::{Path, QSelf};
-use syn_path::path::PathStyle;
+use syn_path::path::{Arguments, PathOf};
 use syn_path::supplied::{Place, Subtree};
-use syn_ty::path::alone::parse_maybe_qualified;
 use token_core::token::{
     Brace, Colon, Comma, Const, Crate, DotDot, Eq, If, Lt, Or, PathSep, SelfType, SelfValue, Semi,
     Super,
@@ -65,11 +66,11 @@ fn ends_range(input: &ParseStream<'_>) -> bool
 // ---- by their parts
 
 /// A path as a pattern, without attributes.
-pub(crate) fn bare_path<X: Subtree>(
+pub(crate) fn bare_path<X: Subtree, G: Arguments, Q: Qualifier<G>>(
     alloc: Global,
-    qself: Option<QSelf<X>>,
-    path: Path<X>,
-) -> PatPath<X>
+    qself: Option<Q>,
+    path: PathOf<G>,
+) -> PathOver<X, G, Q>
     ensures { result ≡ pats.path_pat_of [] qself path }
 {
     PatPathOf {
@@ -80,21 +81,23 @@ pub(crate) fn bare_path<X: Subtree>(
 }
 
 /// A bound of a range as a pattern by itself.
-fn bound_as_pat<X: Subtree>(bound: PatRangeBound<X>) -> Pat<X>
+fn bound_as_pat<X: Subtree, G: Arguments, Q: Qualifier<G>, T: Drop>(
+    bound: RangeBoundOver<X, G, Q>,
+) -> PatOver<X, G, Q, T>
     ensures { result ≡ reading.bound_as_pat bound }
 {
     match bound {
-        PatRangeBoundOf::Const(bound) => Pat::Const(bound),
-        PatRangeBoundOf::Lit(bound) => Pat::Lit(bound),
-        PatRangeBoundOf::Path(bound) => Pat::Path(bound),
+        PatRangeBoundOf::Const(bound) => PatOf::Const(bound),
+        PatRangeBoundOf::Lit(bound) => PatOf::Lit(bound),
+        PatRangeBoundOf::Path(bound) => PatOf::Path(bound),
     }
 }
 
 /// A bound that may be there, on the heap.
-fn boxed_bound<X: Subtree>(
+fn boxed_bound<X: Subtree, G: Arguments, Q: Qualifier<G>>(
     alloc: Global,
-    bound: Option<PatRangeBound<X>>,
-) -> Result<Option<Boxed<PatRangeBound<X>>>, AllocError>
+    bound: Option<RangeBoundOver<X, G, Q>>,
+) -> Result<Option<Boxed<RangeBoundOver<X, G, Q>>>, AllocError>
     ensures { IfOk result (λ x. x ≡ bound) }
 {
     match bound {
@@ -104,17 +107,17 @@ fn boxed_bound<X: Subtree>(
 }
 
 /// A range without attributes.
-fn range_of<X: Subtree>(
+fn range_of<X: Subtree, G: Arguments, Q: Qualifier<G>, T: Drop>(
     alloc: Global,
-    start: Option<PatRangeBound<X>>,
+    start: Option<RangeBoundOver<X, G, Q>>,
     limits: RangeLimits,
-    end: Option<PatRangeBound<X>>,
-) -> Result<Pat<X>, AllocError>
+    end: Option<RangeBoundOver<X, G, Q>>,
+) -> Result<PatOver<X, G, Q, T>, AllocError>
     ensures { IfOk result (λ x. x ≡ variants.Range (pats.pat_range_of [] start limits end)) }
 {
     let start = boxed_bound(alloc, start)?;
     let end = boxed_bound(alloc, end)?;
-    Ok(Pat::Range(PatRangeOf {
+    Ok(PatOf::Range(PatRangeOf {
         attrs: Items::new(alloc),
         start,
         limits,
@@ -123,16 +126,6 @@ fn range_of<X: Subtree>(
 }
 
 // ---- bounds
-
-/// A path that a type may qualify, in the style of expressions.
-pub(crate) fn parse_qpath<X: Subtree>(
-    alloc: Global,
-    input: &mut ParseStream<'_>,
-) -> Result<(Option<QSelf<X>>, Path<X>), Error>
-    ensures parses { Parses (reading.qpath X.reads) result input.old input.new }
-{
-    parse_maybe_qualified::<Attribute<X>, Expr<X>>(alloc, input, PathStyle::Expr)
-}
 
 /// A body in braces, which the supplied subtree reads.
 #[tactic(auto, using(token_core::proofs::Suffixes::follows))]
@@ -165,11 +158,11 @@ fn parse_const_block<X: Subtree>(
 
 /// A bound of a range: a literal, a path or a const block.
 #[tactic(auto, using(token_core::proofs::Suffixes::follows), unfolding(crate::specs::pat::Reading::bound))]
-fn parse_bound<X: Subtree>(
+fn parse_bound<X: Subtree, G: Arguments, Q: Qualifier<G>>(
     alloc: Global,
     input: &mut ParseStream<'_>,
-) -> Result<PatRangeBound<X>, Error>
-    ensures parses { Parses (reading.bound X.reads) result input.old input.new }
+) -> Result<RangeBoundOver<X, G, Q>, Error>
+    ensures parses { Parses (reading.bound X.reads (named Q.reads G.is_absent)) result input.old input.new }
 {
     if input.peek::<Lit>() {
         let lit = input.parse::<Lit>(alloc)?;
@@ -179,7 +172,7 @@ fn parse_bound<X: Subtree>(
         }));
     }
     if sees_bound_path(input) {
-        let (qself, path) = parse_qpath(alloc, input)?;
+        let (qself, path) = Q::parse_path(alloc, input)?;
         return Ok(PatRangeBoundOf::Path(bare_path(alloc, qself, path)));
     }
     if input.peek::<Const>() {
@@ -190,11 +183,11 @@ fn parse_bound<X: Subtree>(
 
 /// A bound, unless the range ends here.
 #[tactic(auto, using(token_core::proofs::Suffixes::follows), unfolding(crate::specs::pat::Reading::optional_bound))]
-fn parse_optional_bound<X: Subtree>(
+fn parse_optional_bound<X: Subtree, G: Arguments, Q: Qualifier<G>>(
     alloc: Global,
     input: &mut ParseStream<'_>,
-) -> Result<Option<PatRangeBound<X>>, Error>
-    ensures parses { Parses (reading.optional_bound X.reads) result input.old input.new }
+) -> Result<Option<RangeBoundOver<X, G, Q>>, Error>
+    ensures parses { Parses (reading.optional_bound X.reads (named Q.reads G.is_absent)) result input.old input.new }
 {
     if ends_range(input) {
         return Ok(None);
@@ -206,13 +199,13 @@ fn parse_optional_bound<X: Subtree>(
 
 /// A range by its parts; one that ends in `..=` is refused.
 #[tactic(auto, using(token_core::proofs::Suffixes::follows))]
-fn ended<X: Subtree>(
+fn ended<X: Subtree, G: Arguments, Q: Qualifier<G>, T: Drop>(
     alloc: Global,
     input: &mut ParseStream<'_>,
-    start: Option<PatRangeBound<X>>,
+    start: Option<RangeBoundOver<X, G, Q>>,
     limits: RangeLimits,
-    end: Option<PatRangeBound<X>>,
-) -> Result<Pat<X>, Error>
+    end: Option<RangeBoundOver<X, G, Q>>,
+) -> Result<PatOver<X, G, Q, T>, Error>
     ensures parses { Parses (reading.ended start limits end) result input.old input.new }
 {
     match limits {
@@ -228,12 +221,12 @@ fn ended<X: Subtree>(
 
 /// What follows the start of a range; a `...` there is read as `..=`.
 #[tactic(auto, using(token_core::proofs::Suffixes::follows), unfolding(crate::specs::pat::Reading::range_after))]
-pub(crate) fn parse_range_after<X: Subtree>(
+pub(crate) fn parse_range_after<X: Subtree, G: Arguments, Q: Qualifier<G>, T: Drop>(
     alloc: Global,
     input: &mut ParseStream<'_>,
-    start: PatRangeBound<X>,
-) -> Result<Pat<X>, Error>
-    ensures parses { Parses (reading.range_after X.reads start) result input.old input.new }
+    start: RangeBoundOver<X, G, Q>,
+) -> Result<PatOver<X, G, Q, T>, Error>
+    ensures parses { Parses (reading.range_after X.reads (named Q.reads G.is_absent) start) result input.old input.new }
 {
     let limits = RangeLimits::parse_obsolete(alloc, input)?;
     let end = parse_optional_bound(alloc, input)?;
@@ -242,17 +235,17 @@ pub(crate) fn parse_range_after<X: Subtree>(
 
 /// A range without a start; a `..` alone is what is left over (syn's `pat_range_half_open`).
 #[tactic(auto, using(token_core::proofs::Suffixes::follows), unfolding(crate::specs::pat::Reading::half_open))]
-pub(crate) fn parse_half_open<X: Subtree>(
+pub(crate) fn parse_half_open<X: Subtree, G: Arguments, Q: Qualifier<G>, T: Drop>(
     alloc: Global,
     input: &mut ParseStream<'_>,
-) -> Result<Pat<X>, Error>
-    ensures parses { Parses (reading.half_open X.reads) result input.old input.new }
+) -> Result<PatOver<X, G, Q, T>, Error>
+    ensures parses { Parses (reading.half_open X.reads (named Q.reads G.is_absent)) result input.old input.new }
 {
     let limits = input.parse::<RangeLimits>(alloc)?;
     match parse_optional_bound(alloc, input)? {
         Some(end) => ended(alloc, input, None, limits, Some(end)),
         None => match limits {
-            RangeLimits::HalfOpen(dot2_token) => Ok(Pat::Rest(PatRestOf {
+            RangeLimits::HalfOpen(dot2_token) => Ok(PatOf::Rest(PatRestOf {
                 attrs: Items::new(alloc),
                 dot2_token,
             })),
@@ -263,12 +256,12 @@ pub(crate) fn parse_half_open<X: Subtree>(
 
 /// After a bound: a range where `..` follows, else the bound as a pattern.
 #[tactic(auto, using(token_core::proofs::Suffixes::follows), unfolding(crate::specs::pat::Reading::after_bound))]
-pub(crate) fn parse_after_bound<X: Subtree>(
+pub(crate) fn parse_after_bound<X: Subtree, G: Arguments, Q: Qualifier<G>, T: Drop>(
     alloc: Global,
     input: &mut ParseStream<'_>,
-    bound: PatRangeBound<X>,
-) -> Result<Pat<X>, Error>
-    ensures parses { Parses (reading.after_bound X.reads bound) result input.old input.new }
+    bound: RangeBoundOver<X, G, Q>,
+) -> Result<PatOver<X, G, Q, T>, Error>
+    ensures parses { Parses (reading.after_bound X.reads (named Q.reads G.is_absent) bound) result input.old input.new }
 {
     if input.peek::<DotDot>() {
         return parse_range_after(alloc, input, bound);
@@ -278,11 +271,11 @@ pub(crate) fn parse_after_bound<X: Subtree>(
 
 /// A literal or a const block, and the range that it may begin (syn's `pat_lit_or_range`).
 #[tactic(auto, using(token_core::proofs::Suffixes::follows), unfolding(crate::specs::pat::Reading::bound_or_range))]
-pub(crate) fn parse_bound_or_range<X: Subtree>(
+pub(crate) fn parse_bound_or_range<X: Subtree, G: Arguments, Q: Qualifier<G>, T: Drop>(
     alloc: Global,
     input: &mut ParseStream<'_>,
-) -> Result<Pat<X>, Error>
-    ensures parses { Parses (reading.bound_or_range X.reads) result input.old input.new }
+) -> Result<PatOver<X, G, Q, T>, Error>
+    ensures parses { Parses (reading.bound_or_range X.reads (named Q.reads G.is_absent)) result input.old input.new }
 {
     let bound = parse_bound(alloc, input)?;
     parse_after_bound(alloc, input, bound)

@@ -4,21 +4,24 @@ ghost use Rattle.std.specs.Prelude.{◌≡◌, ◌<◌, ◌≤◌, length, false
 ghost use Rattle.syn_forms.specs.nested.Below.{Nests, ahead};
 ghost use Rattle.syn_pat.specs.pat.Knot as knot;
 ghost use Rattle.syn_pat.specs.pat.Reading as reading;
+ghost use Rattle.syn_pat.specs.pat.Reading.{named};
 ghost use Rattle.token_core.specs.Loops.{never};
 ghost use Rattle.token_core.specs.Reads.{Parses, optional};
 ghost use Rattle.token_core.specs.Tokens as token;
 
 use crate::grammar::Patterns;
+use crate::names::Qualifier;
 use crate::pat::read::ranges::{parse_bound_or_range, parse_half_open};
 use crate::pat::read::tokens::{
     begins_binding, begins_bound, begins_path, no_pattern, parse_vert, parse_wild, sees_half_open,
     sees_vert,
 };
-use crate::pat::{Pat, PatOrOf};
+use crate::pat::{PatOf, PatOrOf, PatOver};
 use crate::place::PatPlace;
 use std::alloc::Global;
 use std::marker::PhantomData;
 use syn_forms::lists::End;
+use syn_path::path::Arguments;
 use syn_path::supplied::Subtree;
 use token_core::token::{And, Box, Bracket, Or, Paren, Underscore};
 use token_core::{Error, ErrorKind, Items, ParseStream, RangeLimits, Span};
@@ -58,30 +61,34 @@ fn limits_span(limits: &RangeLimits) -> (Span, Span)
 }
 
 /// Where the limits of a range stand that lacks a bound.
-fn open_range<X: Subtree>(pat: &Pat<X>) -> Option<(Span, Span)>
+fn open_range<X: Subtree, G: Arguments, Q: Qualifier<G>, T: Drop>(
+    pat: &PatOver<X, G, Q, T>,
+) -> Option<(Span, Span)>
     ensures { result ≡ reading.open_range pat.now }
 {
     match pat {
-        Pat::Range(range) => {
+        PatOf::Range(range) => {
             if range.start.is_none() | range.end.is_none() {
                 return Some(limits_span(&range.limits));
             }
             None
         }
-        Pat::Const(_) | Pat::Guard(_) | Pat::Ident(_) | Pat::Lit(_) | Pat::Macro(_) => None,
-        Pat::Or(_) | Pat::Paren(_) | Pat::Path(_) | Pat::Reference(_) | Pat::Rest(_) => None,
-        Pat::Slice(_) | Pat::Struct(_) | Pat::Tuple(_) | Pat::TupleStruct(_) => None,
-        Pat::Type(_) | Pat::Verbatim(_) | Pat::Wild(_) => None,
+        PatOf::Const(_) | PatOf::Guard(_) | PatOf::Ident(_) | PatOf::Lit(_) | PatOf::Macro(_) =>
+            None,
+        PatOf::Or(_) | PatOf::Paren(_) | PatOf::Path(_) | PatOf::Reference(_) | PatOf::Rest(_) =>
+            None,
+        PatOf::Slice(_) | PatOf::Struct(_) | PatOf::Tuple(_) | PatOf::TupleStruct(_) => None,
+        PatOf::Type(_) | PatOf::Verbatim(_) | PatOf::Wild(_) => None,
     }
 }
 
 /// An element of a slice: a range that lacks a bound is refused, from the first to the last character of its limits.
 #[tactic(auto, using(token_core::proofs::Suffixes::follows))]
-fn as_element<X: Subtree>(
+fn as_element<X: Subtree, G: Arguments, Q: Qualifier<G>, T: Drop>(
     alloc: Global,
     input: &mut ParseStream<'_>,
-    pat: Pat<X>,
-) -> Result<Pat<X>, Error>
+    pat: PatOver<X, G, Q, T>,
+) -> Result<PatOver<X, G, Q, T>, Error>
     ensures parses { Parses (reading.as_element pat) result input.old input.new }
 {
     match open_range(&pat) {
@@ -96,24 +103,32 @@ fn as_element<X: Subtree>(
 impl<
     'a,
     X: Subtree,
-    F: Fn(Global, PhantomData<Pat<X>>, &mut ParseStream<'_>, PatPlace) -> Result<Pat<X>, Error>
+    G: Arguments,
+    Q: Qualifier<G>,
+    T: Drop,
+    F: Fn(
+        Global,
+        PhantomData<PatOver<X, G, Q, T>>,
+        &mut ParseStream<'_>,
+        PatPlace,
+    ) -> Result<PatOver<X, G, Q, T>, Error>
         + Copy,
-> Patterns<'a, X, F> {
+> Patterns<'a, X, G, Q, T, F> {
     /// A pattern that begins with a mark or a group.
     #[tactic(auto, using(token_core::proofs::Suffixes::follows, syn_forms::proofs::nested_laws::Ahead::later), unfolding(crate::specs::pat::Reading::by_mark))]
-    fn by_mark(&self, input: &mut ParseStream<'_>) -> Result<Pat<X>, Error>
-        requires patterns { Nests (knot.pat X.reads) (length self.now.begin) (F.pre self.now.patterns) (F.post self.now.patterns) }
+    fn by_mark(&self, input: &mut ParseStream<'_>) -> Result<PatOver<X, G, Q, T>, Error>
+        requires patterns { Nests (knot.pat X.reads (named Q.reads G.is_absent)) (length self.now.begin) (F.pre self.now.patterns) (F.post self.now.patterns) }
         requires few { ahead input.old ≤ length self.now.begin }
-        ensures parses { Parses (reading.by_mark X.reads (knot.pats_below X.reads (length self.now.begin))) result input.old input.new }
+        ensures parses { Parses (reading.by_mark X.reads (named Q.reads G.is_absent) (knot.pats_below X.reads (named Q.reads G.is_absent) (length self.now.begin))) result input.old input.new }
     {
         if input.peek::<And>() {
-            return Ok(Pat::Reference(self.reference(input)?));
+            return Ok(PatOf::Reference(self.reference(input)?));
         }
         if input.peek::<Paren>() {
             return self.paren_or_tuple(input);
         }
         if input.peek::<Bracket>() {
-            return Ok(Pat::Slice(self.slice(input)?));
+            return Ok(PatOf::Slice(self.slice(input)?));
         }
         if sees_half_open(input) {
             return parse_half_open(self.alloc, input);
@@ -123,13 +138,13 @@ impl<
 
     /// A pattern that begins with a word other than a path, with a literal, or as `by_mark` reads it.
     #[tactic(auto, using(token_core::proofs::Suffixes::follows, syn_forms::proofs::nested_laws::Ahead::later), unfolding(crate::specs::pat::Reading::by_word))]
-    fn by_word(&self, input: &mut ParseStream<'_>) -> Result<Pat<X>, Error>
-        requires patterns { Nests (knot.pat X.reads) (length self.now.begin) (F.pre self.now.patterns) (F.post self.now.patterns) }
+    fn by_word(&self, input: &mut ParseStream<'_>) -> Result<PatOver<X, G, Q, T>, Error>
+        requires patterns { Nests (knot.pat X.reads (named Q.reads G.is_absent)) (length self.now.begin) (F.pre self.now.patterns) (F.post self.now.patterns) }
         requires few { ahead input.old ≤ length self.now.begin }
-        ensures parses { Parses (reading.by_word X.reads (knot.pats_below X.reads (length self.now.begin))) result input.old input.new }
+        ensures parses { Parses (reading.by_word X.reads (named Q.reads G.is_absent) (knot.pats_below X.reads (named Q.reads G.is_absent) (length self.now.begin))) result input.old input.new }
     {
         if input.peek::<Underscore>() {
-            return Ok(Pat::Wild(parse_wild(self.alloc, input)?));
+            return Ok(PatOf::Wild(parse_wild(self.alloc, input)?));
         }
         if input.peek::<Box>() {
             return self.box_pat(input);
@@ -138,17 +153,17 @@ impl<
             return parse_bound_or_range(self.alloc, input);
         }
         if begins_binding(input) {
-            return Ok(Pat::Ident(self.binding(input)?));
+            return Ok(PatOf::Ident(self.binding(input)?));
         }
         self.by_mark(input)
     }
 
-    /// One pattern, by its first tokens (syn's `Pat::parse_single`).
+    /// One pattern, by its first tokens (syn's `PatOf::parse_single`).
     #[tactic(auto, using(token_core::proofs::Suffixes::follows, syn_forms::proofs::nested_laws::Ahead::later), unfolding(crate::specs::pat::Reading::single))]
-    fn single(&self, input: &mut ParseStream<'_>) -> Result<Pat<X>, Error>
-        requires patterns { Nests (knot.pat X.reads) (length self.now.begin) (F.pre self.now.patterns) (F.post self.now.patterns) }
+    fn single(&self, input: &mut ParseStream<'_>) -> Result<PatOver<X, G, Q, T>, Error>
+        requires patterns { Nests (knot.pat X.reads (named Q.reads G.is_absent)) (length self.now.begin) (F.pre self.now.patterns) (F.post self.now.patterns) }
         requires few { ahead input.old ≤ length self.now.begin }
-        ensures parses { Parses (reading.single X.reads (knot.pats_below X.reads (length self.now.begin))) result input.old input.new }
+        ensures parses { Parses (reading.single X.reads (named Q.reads G.is_absent) (knot.pats_below X.reads (named Q.reads G.is_absent) (length self.now.begin))) result input.old input.new }
         ensures fewer { ahead input.new ≤ ahead input.old }
     {
         if begins_path(input) {
@@ -163,11 +178,11 @@ impl<
         &self,
         input: &mut ParseStream<'_>,
         leading_vert: Option<Or>,
-        first: Pat<X>,
-    ) -> Result<Pat<X>, Error>
-        requires patterns { Nests (knot.pat X.reads) (length self.now.begin) (F.pre self.now.patterns) (F.post self.now.patterns) }
+        first: PatOver<X, G, Q, T>,
+    ) -> Result<PatOver<X, G, Q, T>, Error>
+        requires patterns { Nests (knot.pat X.reads (named Q.reads G.is_absent)) (length self.now.begin) (F.pre self.now.patterns) (F.post self.now.patterns) }
         requires few { ahead input.old ≤ length self.now.begin }
-        ensures parses { Parses (reading.alternatives (knot.pats_below X.reads (length self.now.begin)) leading_vert first) result input.old input.new }
+        ensures parses { Parses (reading.alternatives (knot.pats_below X.reads (named Q.reads G.is_absent) (length self.now.begin)) leading_vert first) result input.old input.new }
     {
         if !(leading_vert.is_some() | sees_vert(input)) {
             return Ok(first);
@@ -175,7 +190,7 @@ impl<
         let cases = self
             .patterns()
             .list_from(input, PatPlace::Single, AtVert, first)?;
-        Ok(Pat::Or(PatOrOf {
+        Ok(PatOf::Or(PatOrOf {
             attrs: Items::new(self.alloc),
             leading_vert,
             cases,
@@ -184,10 +199,10 @@ impl<
 
     /// Patterns joined by `|`, of which the first may have one before it.
     #[tactic(auto, using(token_core::proofs::Suffixes::follows, syn_forms::proofs::nested_laws::Ahead::later), unfolding(crate::specs::pat::Reading::leading))]
-    fn leading(&self, input: &mut ParseStream<'_>) -> Result<Pat<X>, Error>
-        requires patterns { Nests (knot.pat X.reads) (length self.now.begin) (F.pre self.now.patterns) (F.post self.now.patterns) }
+    fn leading(&self, input: &mut ParseStream<'_>) -> Result<PatOver<X, G, Q, T>, Error>
+        requires patterns { Nests (knot.pat X.reads (named Q.reads G.is_absent)) (length self.now.begin) (F.pre self.now.patterns) (F.post self.now.patterns) }
         requires few { ahead input.old ≤ length self.now.begin }
-        ensures parses { Parses (reading.leading X.reads (knot.pats_below X.reads (length self.now.begin))) result input.old input.new }
+        ensures parses { Parses (reading.leading X.reads (named Q.reads G.is_absent) (knot.pats_below X.reads (named Q.reads G.is_absent) (length self.now.begin))) result input.old input.new }
     {
         let leading_vert = input.parse_option::<Or>(self.alloc)?;
         let first = self.single(input)?;
@@ -196,10 +211,10 @@ impl<
 
     /// Patterns joined by `|`.
     #[tactic(auto, using(token_core::proofs::Suffixes::follows, syn_forms::proofs::nested_laws::Ahead::later), unfolding(crate::specs::pat::Reading::multi))]
-    fn multi(&self, input: &mut ParseStream<'_>) -> Result<Pat<X>, Error>
-        requires patterns { Nests (knot.pat X.reads) (length self.now.begin) (F.pre self.now.patterns) (F.post self.now.patterns) }
+    fn multi(&self, input: &mut ParseStream<'_>) -> Result<PatOver<X, G, Q, T>, Error>
+        requires patterns { Nests (knot.pat X.reads (named Q.reads G.is_absent)) (length self.now.begin) (F.pre self.now.patterns) (F.post self.now.patterns) }
         requires few { ahead input.old ≤ length self.now.begin }
-        ensures parses { Parses (reading.multi X.reads (knot.pats_below X.reads (length self.now.begin))) result input.old input.new }
+        ensures parses { Parses (reading.multi X.reads (named Q.reads G.is_absent) (knot.pats_below X.reads (named Q.reads G.is_absent) (length self.now.begin))) result input.old input.new }
     {
         let first = self.single(input)?;
         self.alternatives(input, None, first)
@@ -207,10 +222,10 @@ impl<
 
     /// An element of a slice.
     #[tactic(auto, using(token_core::proofs::Suffixes::follows, syn_forms::proofs::nested_laws::Ahead::later), unfolding(crate::specs::pat::Reading::element))]
-    fn element(&self, input: &mut ParseStream<'_>) -> Result<Pat<X>, Error>
-        requires patterns { Nests (knot.pat X.reads) (length self.now.begin) (F.pre self.now.patterns) (F.post self.now.patterns) }
+    fn element(&self, input: &mut ParseStream<'_>) -> Result<PatOver<X, G, Q, T>, Error>
+        requires patterns { Nests (knot.pat X.reads (named Q.reads G.is_absent)) (length self.now.begin) (F.pre self.now.patterns) (F.post self.now.patterns) }
         requires few { ahead input.old ≤ length self.now.begin }
-        ensures parses { Parses (reading.element X.reads (knot.pats_below X.reads (length self.now.begin))) result input.old input.new }
+        ensures parses { Parses (reading.element X.reads (named Q.reads G.is_absent) (knot.pats_below X.reads (named Q.reads G.is_absent) (length self.now.begin))) result input.old input.new }
     {
         let pat = self.leading(input)?;
         as_element(self.alloc, input, pat)
@@ -218,10 +233,14 @@ impl<
 
     /// One turn: a pattern in its place.
     #[tactic(auto, using(token_core::proofs::Suffixes::follows, syn_forms::proofs::nested_laws::Ahead::later))]
-    pub fn pat_step(&self, input: &mut ParseStream<'_>, place: PatPlace) -> Result<Pat<X>, Error>
-        requires patterns { Nests (knot.pat X.reads) (length self.now.begin) (F.pre self.now.patterns) (F.post self.now.patterns) }
+    pub fn pat_step(
+        &self,
+        input: &mut ParseStream<'_>,
+        place: PatPlace,
+    ) -> Result<PatOver<X, G, Q, T>, Error>
+        requires patterns { Nests (knot.pat X.reads (named Q.reads G.is_absent)) (length self.now.begin) (F.pre self.now.patterns) (F.post self.now.patterns) }
         requires few { ahead input.old ≤ length self.now.begin }
-        ensures parses { Parses (reading.pat_step X.reads (knot.pats_below X.reads (length self.now.begin)) place) result input.old input.new }
+        ensures parses { Parses (reading.pat_step X.reads (named Q.reads G.is_absent) (knot.pats_below X.reads (named Q.reads G.is_absent) (length self.now.begin)) place) result input.old input.new }
     {
         match place {
             PatPlace::Single => self.single(input),

@@ -4,7 +4,7 @@ use Rattle.syn_forms.proofs.nested_laws.Ahead.{ahead_follows, fewer_tokens}
 use Rattle.syn_path.proofs.path_laws.Turns.{refused_by}
 use Rattle.syn_pat.proofs.pat_laws.Fields.{Told, start, told_over, told_ended, told_last, told_refused, next}
 use Rattle.syn_pat.specs.pat.Knot.{pats_below}
-use Rattle.syn_pat.specs.pat.Reading.{fields, type_names}
+use Rattle.syn_pat.specs.pat.Reading.{fields, named}
 use Rattle.token_core.specs.Loops.{size}
 use Rattle.token_core.specs.Reads.{is_done, Follows}
 use Rattle.token_core.specs.Tokens.{sees_dot_dot}
@@ -14,7 +14,7 @@ use Rattle.syn_pat.proofs.grammar.Patterns.fields.Goals as goal
 pub turn-init : goal.turn-init
 turn-init g c =
     let supplied = g.X.Subtree.reads in
-    let r = pats_below supplied (type_names supplied) (length c.args.self.now.begin) in
+    let r = pats_below supplied (named g.Q.Qualifier.reads g.G.Arguments.is_absent) (length c.args.self.now.begin) in
     let s = c.args.input.now in
     record {
       told = subst (λ z. Told supplied r (fields supplied r s) z s) (sym c.new-list.ensures) (start supplied r s);
@@ -26,7 +26,7 @@ turn-init g c =
 pub returns-then-is_empty : goal.returns-then-is_empty
 returns-then-is_empty g c =
     let supplied = g.X.Subtree.reads in
-    let r = pats_below supplied (type_names supplied) (length c.args.self.now.begin) in
+    let r = pats_below supplied (named g.Q.Qualifier.reads g.G.Arguments.is_absent) (length c.args.self.now.begin) in
     let over : is_done c.turn.input.rest ≡ true = first_of (search rules, grind (arith, common_steps)) in
     record {
       parses = (
@@ -38,7 +38,7 @@ returns-then-is_empty g c =
 pub returns-then-peek : goal.returns-then-peek
 returns-then-peek g c =
     let supplied = g.X.Subtree.reads in
-    let r = pats_below supplied (type_names supplied) (length c.args.self.now.begin) in
+    let r = pats_below supplied (named g.Q.Qualifier.reads g.G.Arguments.is_absent) (length c.args.self.now.begin) in
     let goes : is_done c.turn.input.rest ≡ false = first_of (search rules, grind (arith, common_steps)) in
     let dotted : sees_dot_dot c.parse_outer.new.input.rest ≡ true = first_of (search rules, grind (arith, common_steps)) in
     record {
@@ -58,7 +58,7 @@ field-requires-clause-few g c =
 pub returns-then-is_empty-2 : goal.returns-then-is_empty-2
 returns-then-is_empty-2 g c =
     let supplied = g.X.Subtree.reads in
-    let r = pats_below supplied (type_names supplied) (length c.args.self.now.begin) in
+    let r = pats_below supplied (named g.Q.Qualifier.reads g.G.Arguments.is_absent) (length c.args.self.now.begin) in
     let goes : is_done c.turn.input.rest ≡ false = first_of (search rules, grind (arith, common_steps)) in
     let undotted : sees_dot_dot c.parse_outer.new.input.rest ≡ false = first_of (search rules, grind (arith, common_steps)) in
     let over : is_done c.field.new.input.rest ≡ true = first_of (search rules, grind (arith, common_steps)) in
@@ -81,7 +81,7 @@ turn-smaller g c =
 pub turn-preserved : goal.turn-preserved
 turn-preserved g c =
     let supplied = g.X.Subtree.reads in
-    let r = pats_below supplied (type_names supplied) (length c.args.self.now.begin) in
+    let r = pats_below supplied (named g.Q.Qualifier.reads g.G.Arguments.is_absent) (length c.args.self.now.begin) in
     let goes : is_done c.turn.input.rest ≡ false = first_of (search rules, grind (arith, common_steps)) in
     let undotted : sees_dot_dot c.parse_outer.new.input.rest ≡ false = first_of (search rules, grind (arith, common_steps)) in
     let more : is_done c.field.new.input.rest ≡ false = first_of (search rules, grind (arith, common_steps)) in
@@ -102,7 +102,7 @@ turn-preserved g c =
 pub returns-in_err-parse_comma : goal.returns-in_err-parse_comma
 returns-in_err-parse_comma g c =
     let supplied = g.X.Subtree.reads in
-    let r = pats_below supplied (type_names supplied) (length c.args.self.now.begin) in
+    let r = pats_below supplied (named g.Q.Qualifier.reads g.G.Arguments.is_absent) (length c.args.self.now.begin) in
     let e = c.in_err-parse_comma.field-0.0 in
     let goes : is_done c.turn.input.rest ≡ false = first_of (search rules, grind (arith, common_steps)) in
     let undotted : sees_dot_dot c.parse_outer.new.input.rest ≡ false = first_of (search rules, grind (arith, common_steps)) in

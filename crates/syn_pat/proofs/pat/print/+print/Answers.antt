@@ -7,7 +7,7 @@ use Rattle.token_core.specs.Prints as p
 use Rattle.token_core.specs.Prints.{Extends}
 use Rattle.token_core.specs.Trees.{trees}
 use Rattle.token_core.proofs.Puts.{extends_append, extends_on}
-use Rattle.syn_pat.specs.pat.Printing.{pat, member, field}
+use Rattle.syn_pat.specs.pat.Printing.{pat, member, field, shown}
 use Rattle.syn_pat.proofs.pat_laws.Height.{height, sub_by, field_by, height-Guard, height-Ident, height-Or, height-Paren, height-Reference, height-Slice, height-Struct, height-Tuple, height-TupleStruct, height-Type}
 use Rattle.syn_ty.proofs.ty_laws.Parts.{in_list, last_in_list, put_last, put_next}
 use Rattle.syn_pat.proofs.pat.print.+print.Goals as goal
@@ -55,7 +55,7 @@ pub print_slice_elements-returns-in-Some-clause-ok : goal.print_slice_elements-r
 print_slice_elements-returns-in-Some-clause-ok g t c =
     let k : option_map (λ x. x.now) c.element_parts.result.1 ≡ Some c.in-Some.element.now = ap (option_map (λ x. x.now)) c.in-Some.is in
     on_ok_weaker c.print_pat-in-Some.result
-    (λ h. put_last (pat g.X.Subtree.prints) p.mark c.args.pat.now.elems c.element_parts.result.0.now (option_map (λ x. x.now) c.element_parts.result.1) c.in-Some.element.now c.loop-pair.pair-index (trees c.args.out.now) (trees c.loop-pair.out)
+    (λ h. put_last (pat g.X.Subtree.prints (shown g.Q.Qualifier.shown g.T.ToTokens.print)) p.mark c.args.pat.now.elems c.element_parts.result.0.now (option_map (λ x. x.now) c.element_parts.result.1) c.in-Some.element.now c.loop-pair.pair-index (trees c.args.out.now) (trees c.loop-pair.out)
     (trees c.print_pat-in-Some.new.out) c.element_parts.ensures k c.loop-pair-test.false c.loop-pair.invariant.told h) c.print_pat-in-Some.ensures.ok
 
 pub print_slice_elements-returns-in-Some-clause-err : goal.print_slice_elements-returns-in-Some-clause-err
@@ -82,7 +82,7 @@ pub print_tuple_elements-returns-in-Some-clause-ok : goal.print_tuple_elements-r
 print_tuple_elements-returns-in-Some-clause-ok g t c =
     let k : option_map (λ x. x.now) c.element_parts.result.1 ≡ Some c.in-Some.element.now = ap (option_map (λ x. x.now)) c.in-Some.is in
     on_ok_weaker c.print_pat-in-Some.result
-    (λ h. put_last (pat g.X.Subtree.prints) p.mark c.args.pat.now.elems c.element_parts.result.0.now (option_map (λ x. x.now) c.element_parts.result.1) c.in-Some.element.now c.loop-pair.pair-index (trees c.args.out.now) (trees c.loop-pair.out)
+    (λ h. put_last (pat g.X.Subtree.prints (shown g.Q.Qualifier.shown g.T.ToTokens.print)) p.mark c.args.pat.now.elems c.element_parts.result.0.now (option_map (λ x. x.now) c.element_parts.result.1) c.in-Some.element.now c.loop-pair.pair-index (trees c.args.out.now) (trees c.loop-pair.out)
     (trees c.print_pat-in-Some.new.out) c.element_parts.ensures k c.loop-pair-test.false c.loop-pair.invariant.told h) c.print_pat-in-Some.ensures.ok
 
 pub print_tuple_elements-returns-in-Some-clause-err : goal.print_tuple_elements-returns-in-Some-clause-err
@@ -109,7 +109,7 @@ pub print_tuple_struct_elements-returns-in-Some-clause-ok : goal.print_tuple_str
 print_tuple_struct_elements-returns-in-Some-clause-ok g t c =
     let k : option_map (λ x. x.now) c.element_parts.result.1 ≡ Some c.in-Some.element.now = ap (option_map (λ x. x.now)) c.in-Some.is in
     on_ok_weaker c.print_pat-in-Some.result
-    (λ h. put_last (pat g.X.Subtree.prints) p.mark c.args.pat.now.elems c.element_parts.result.0.now (option_map (λ x. x.now) c.element_parts.result.1) c.in-Some.element.now c.loop-pair.pair-index (trees c.args.out.now) (trees c.loop-pair.out)
+    (λ h. put_last (pat g.X.Subtree.prints (shown g.Q.Qualifier.shown g.T.ToTokens.print)) p.mark c.args.pat.now.elems c.element_parts.result.0.now (option_map (λ x. x.now) c.element_parts.result.1) c.in-Some.element.now c.loop-pair.pair-index (trees c.args.out.now) (trees c.loop-pair.out)
     (trees c.print_pat-in-Some.new.out) c.element_parts.ensures k c.loop-pair-test.false c.loop-pair.invariant.told h) c.print_pat-in-Some.ensures.ok
 
 pub print_tuple_struct_elements-returns-in-Some-clause-err : goal.print_tuple_struct_elements-returns-in-Some-clause-err
@@ -136,7 +136,7 @@ pub print_cases-returns-in-Some-clause-ok : goal.print_cases-returns-in-Some-cla
 print_cases-returns-in-Some-clause-ok g t c =
     let k : option_map (λ x. x.now) c.case_parts.result.1 ≡ Some c.in-Some.case.now = ap (option_map (λ x. x.now)) c.in-Some.is in
     on_ok_weaker c.print_pat-in-Some.result
-    (λ h. put_last (pat g.X.Subtree.prints) p.mark c.args.pat.now.cases c.case_parts.result.0.now (option_map (λ x. x.now) c.case_parts.result.1) c.in-Some.case.now c.loop-pair.pair-index (trees c.args.out.now) (trees c.loop-pair.out)
+    (λ h. put_last (pat g.X.Subtree.prints (shown g.Q.Qualifier.shown g.T.ToTokens.print)) p.mark c.args.pat.now.cases c.case_parts.result.0.now (option_map (λ x. x.now) c.case_parts.result.1) c.in-Some.case.now c.loop-pair.pair-index (trees c.args.out.now) (trees c.loop-pair.out)
     (trees c.print_pat-in-Some.new.out) c.case_parts.ensures k c.loop-pair-test.false c.loop-pair.invariant.told h) c.print_pat-in-Some.ensures.ok
 
 pub print_cases-returns-in-Some-clause-err : goal.print_cases-returns-in-Some-clause-err
@@ -164,15 +164,16 @@ print_fields-print_pat-requires-in-Some g t c κs within =
 pub print_fields-loop-pair-preserved : goal.print_fields-loop-pair-preserved
 print_fields-loop-pair-preserved g t c =
     let px = g.X.Subtree.prints in
+    let names = shown g.Q.Qualifier.shown g.T.ToTokens.print in
     let old = trees c.args.out.now in
     let mid = trees c.loop-pair.out in
     let last = option_map (λ x. x.now) c.field_parts.result.1 in
     let all = c.field_parts.result.0.now in
     let x = c.pair-item.result.value in
-    let whole : trees c.print_pat.new.out ≡ mid ++ field px x =
-    c.in_ok-print_pat.ensures.ok ∙ ap (λ z. z ++ pat px c.get.result.now) c.in_ok-print_member.ensures.ok ∙ append_assoc mid (member px x) (pat px c.get.result.now) ∙ ap (λ z. mid ++ (member px x ++ pat px z)) c.get.ensures in
+    let whole : trees c.print_pat.new.out ≡ mid ++ field px names x =
+    c.in_ok-print_pat.ensures.ok ∙ ap (λ z. z ++ pat px names c.get.result.now) c.in_ok-print_member.ensures.ok ∙ append_assoc mid (member px x) (pat px names c.get.result.now) ∙ ap (λ z. mid ++ (member px x ++ pat px names z)) c.get.ensures in
     record {
-      told = put_next (field px) p.mark all last c.loop-pair.pair-index c.pair-item.result old mid (trees c.print_pat.new.out) (trees c.to_tokens.new.out) (joined (field px) p.mark (values_of all last) (marks_of all))
+      told = put_next (field px names) p.mark all last c.loop-pair.pair-index c.pair-item.result old mid (trees c.print_pat.new.out) (trees c.to_tokens.new.out) (joined (field px names) p.mark (values_of all last) (marks_of all))
           c.loop-pair-test.true c.pair-item.is c.loop-pair.invariant.told whole c.in_ok-to_tokens.ensures.ok;
       kept = rw c.in_ok-to_tokens.ensures.ok (rw whole (extends_append old _ _ (extends_append old mid _ c.loop-pair.invariant.kept)));
     }
@@ -180,13 +181,14 @@ print_fields-loop-pair-preserved g t c =
 pub print_fields-returns-in_ok-print_member-in-Some-clause-ok : goal.print_fields-returns-in_ok-print_member-in-Some-clause-ok
 print_fields-returns-in_ok-print_member-in-Some-clause-ok g t c =
     let px = g.X.Subtree.prints in
+    let names = shown g.Q.Qualifier.shown g.T.ToTokens.print in
     let mid = trees c.loop-pair.out in
     let last = option_map (λ x. x.now) c.field_parts.result.1 in
     let x = c.in-Some.field.now in
     let k : option_map (λ x. x.now) c.field_parts.result.1 ≡ Some x = ap (option_map (λ x. x.now)) c.in-Some.is in
     on_ok_weaker c.print_pat-in-Some.result
-    (λ h. put_last (field px) p.mark c.args.pat.now.fields c.field_parts.result.0.now last x c.loop-pair.pair-index (trees c.args.out.now) mid (trees c.print_pat-in-Some.new.out) c.field_parts.ensures k c.loop-pair-test.false c.loop-pair.invariant.told
-    (h ∙ ap (λ z. z ++ pat px c.get-in-Some.result.now) c.in_ok-print_member-in-Some.ensures.ok ∙ append_assoc mid (member px x) (pat px c.get-in-Some.result.now) ∙ ap (λ z. mid ++ (member px x ++ pat px z)) c.get-in-Some.ensures)) c.print_pat-in-Some.ensures.ok
+    (λ h. put_last (field px names) p.mark c.args.pat.now.fields c.field_parts.result.0.now last x c.loop-pair.pair-index (trees c.args.out.now) mid (trees c.print_pat-in-Some.new.out) c.field_parts.ensures k c.loop-pair-test.false c.loop-pair.invariant.told
+    (h ∙ ap (λ z. z ++ pat px names c.get-in-Some.result.now) c.in_ok-print_member-in-Some.ensures.ok ∙ append_assoc mid (member px x) (pat px names c.get-in-Some.result.now) ∙ ap (λ z. mid ++ (member px x ++ pat px names z)) c.get-in-Some.ensures)) c.print_pat-in-Some.ensures.ok
 
 pub print_fields-returns-in_ok-print_member-in-Some-clause-err : goal.print_fields-returns-in_ok-print_member-in-Some-clause-err
 print_fields-returns-in_ok-print_member-in-Some-clause-err g t c =
