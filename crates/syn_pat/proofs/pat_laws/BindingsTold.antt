@@ -176,6 +176,7 @@ module _ {X : Type 0} (spells : Place → X → Toks → Type 0) (r : Readers X)
       (k.0, listed_before (part loosely place) (IsMark false) Anywhere comma_stops b w.0 w.1 s.rest done done_stops (subst (λ z. AreListed (λ (_ : Bool). Before (part loosely place)) (IsMark false) Anywhere b w.0 w.1 s.rest z) over k.1))
 
   pub elements_sound : (place : PatPlace) (s t : Stream) (w : Many (Pat X) Comma) → Visible s.rest → elements r place s ≡ Ok (w, t) → leaves t ≡ None → AllOf place w s.rest
+  unfolding elements
   elements_sound place s t w v e n = (elements_told place true s t w v e n).1
 
   -- ---- slices

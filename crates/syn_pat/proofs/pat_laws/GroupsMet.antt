@@ -90,6 +90,7 @@ module _ {X : Type 0} (spells : Place → X → Toks → Type 0) (r : Readers X)
       b xs cs l done h i (record { follows = end_in place; over = ap not all_done; stops_there = λ a may. all_done }) f e
 
   pub elements_met : (place : PatPlace) (xs : List (Pat X)) (cs : List Comma) (l : Toks) (f : Option Span) (e : Span) (sc : Scope) → ahead (at l f e sc) < limit → AreElements spells part clearly place xs cs l → Reads_to (elements r place) (xs, cs) l done f e sc
+  unfolding elements
   elements_met place xs cs l f e sc h i = from_met place true xs cs l f e sc h i
 
   -- ---- slices

@@ -363,7 +363,7 @@ module _ {X G Q T : Type 0} (r : ReadersOver X G Q T) where
     pure (v.Verbatim t)
 
   -- patterns up to the end of a group: a comma is needed between them, and may follow the last
-  abbrev pub elements : PatPlace → Reader (Many (PatOver X G Q T) Comma)
+  unfoldable pub elements : PatPlace → Reader (Many (PatOver X G Q T) Comma)
   elements place = terminated is_done (r place) comma
 
   unfoldable pub slice : Reader (PatSliceOf (PatOver X G Q T) (Attr X))

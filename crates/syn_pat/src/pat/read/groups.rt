@@ -68,6 +68,7 @@ impl<
         + Copy,
 > Patterns<'a, X, G, Q, T, F> {
     /// Patterns in a place up to the end of their group, joined by commas; one may follow the last.
+    #[tactic(auto, unfolding(crate::specs::pat::Reading::elements))]
     fn elements(
         &self,
         input: &mut ParseStream<'_>,

@@ -19,8 +19,8 @@ print_guarded-returns-clause-err g t c =
 
 pub print_typed-returns-clause-err : goal.print_typed-returns-clause-err
 print_typed-returns-clause-err g t c =
-    on_err_weaker c.print_type.result
-    (λ h. extends_on _ _ _ _ c.in_ok-print_outer.ensures.appends.0 (extends_on _ _ _ _ c.in_ok-print_pat.ensures.ok (extends_on _ _ _ _ c.in_ok-to_tokens.ensures.ok h))) c.print_type.ensures.err
+    on_err_weaker c.append_tokens.result
+    (λ h. extends_on _ _ _ _ c.in_ok-print_outer.ensures.appends.0 (extends_on _ _ _ _ c.in_ok-print_pat.ensures.ok (extends_on _ _ _ _ c.in_ok-to_tokens.ensures.ok h))) c.append_tokens.ensures.err
 
 pub print_reference-returns-in_err-append_tokens-clause-err : goal.print_reference-returns-in_err-append_tokens-clause-err
 print_reference-returns-in_err-append_tokens-clause-err g t c =
