@@ -77,5 +77,5 @@ pub fn pat<X: Subtree>(tree: &Pat<X>)
     requires own { (w : Place) (x : X) → X.normal w (X.normal w x) ≡ X.normal w x }
     requires prints { (w : Place) (x : X) → X.prints w (X.normal w x) ≡ X.prints w x }
     ensures stays { normal_patterns.pat X.normal (normal_patterns.pat X.normal tree.now) ≡ normal_patterns.pat X.normal tree.now }
-    ensures same { printed_patterns.pat X.prints (normal_patterns.pat X.normal tree.now) ≡ printed_patterns.pat X.prints tree.now }
+    ensures same { printed_patterns.pat X.prints (printed_patterns.types_shown X.prints) (normal_patterns.pat X.normal tree.now) ≡ printed_patterns.pat X.prints (printed_patterns.types_shown X.prints) tree.now }
 {}

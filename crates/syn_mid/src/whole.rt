@@ -11,6 +11,7 @@ ghost use Rattle.syn_forms.specs.declared.places.TypePlace.TheVariants.{NoPlus};
 ghost use Rattle.syn_pat.specs.declared.place.PatPlace.TheVariants.{LeadingVert, Multi, Single};
 ghost use Rattle.syn_pat.specs.pat.Knot as pats;
 ghost use Rattle.syn_pat.specs.pat.Promises as pat_promises;
+ghost use Rattle.syn_pat.specs.pat.Reading.{type_names};
 ghost use Rattle.syn_ty.specs.ty.Reading as types;
 ghost use Rattle.syn_ty.specs.ty.Knot as knot;
 ghost use Rattle.syn_ty.specs.ty.Promises as promises;
@@ -430,9 +431,9 @@ impl<X: Subtree> Parser for ParseSingle<X> {
 
     ghost can_parse = { λ _. Unit {0} };
 
-    ghost reads = { λ _. Gives (pats.pat X.reads Single) };
+    ghost reads = { λ _. Gives (pats.pat X.reads (type_names X.reads) Single) };
 
-    ghost refuses = { λ _. Fails (pats.pat X.reads Single) };
+    ghost refuses = { λ _. Fails (pats.pat X.reads (type_names X.reads) Single) };
 
     ghost promise = { λ _. Headline (pat_promises.pat X.reads X.spells X.normal X.prints Single) };
 
@@ -460,9 +461,9 @@ impl<X: Subtree> Parser for ParseMulti<X> {
 
     ghost can_parse = { λ _. Unit {0} };
 
-    ghost reads = { λ _. Gives (pats.pat X.reads Multi) };
+    ghost reads = { λ _. Gives (pats.pat X.reads (type_names X.reads) Multi) };
 
-    ghost refuses = { λ _. Fails (pats.pat X.reads Multi) };
+    ghost refuses = { λ _. Fails (pats.pat X.reads (type_names X.reads) Multi) };
 
     ghost promise = { λ _. Headline (pat_promises.pat X.reads X.spells X.normal X.prints Multi) };
 
@@ -490,9 +491,9 @@ impl<X: Subtree> Parser for ParseMultiWithLeadingVert<X> {
 
     ghost can_parse = { λ _. Unit {0} };
 
-    ghost reads = { λ _. Gives (pats.pat X.reads LeadingVert) };
+    ghost reads = { λ _. Gives (pats.pat X.reads (type_names X.reads) LeadingVert) };
 
-    ghost refuses = { λ _. Fails (pats.pat X.reads LeadingVert) };
+    ghost refuses = { λ _. Fails (pats.pat X.reads (type_names X.reads) LeadingVert) };
 
     ghost promise = { λ _. Headline (pat_promises.pat X.reads X.spells X.normal X.prints LeadingVert) };
 
@@ -520,9 +521,9 @@ impl<X: Subtree> Parser for ParseMultiWithLeadingVertAndGuard<X> {
 
     ghost can_parse = { λ _. Unit {0} };
 
-    ghost reads = { λ _. Gives (pats.guarded X.reads) };
+    ghost reads = { λ _. Gives (pats.guarded X.reads (type_names X.reads)) };
 
-    ghost refuses = { λ _. Fails (pats.guarded X.reads) };
+    ghost refuses = { λ _. Fails (pats.guarded X.reads (type_names X.reads)) };
 
     ghost promise = { λ _. Headline (pat_promises.guarded X.reads X.spells X.normal X.prints) };
 

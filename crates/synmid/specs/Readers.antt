@@ -13,9 +13,7 @@ use Rattle.token_core.specs.Spans.{none}
 use Rattle.token_core.specs.Stream.{Stream, started}
 use Rattle.token_core.specs.Reads.{Ends, Refuses, Reader as R}
 use Rattle.syn_pat.specs.declared.place.PatPlace.TheVariants.{LeadingVert, Multi, Single}
-use Rattle.syn_pat.specs.pat.Knot as pat_knot
 use Rattle.syn_pat.specs.pat.Pats as pats
-use Rattle.syn_pat.specs.pat.Printing as pat_printing
 use Rattle.syn_pat.specs.pat.Promises as pat_promises
 use Rattle.syn_path.specs.declared.mac.Macro as mac
 use Rattle.syn_path.specs.declared.supplied.Place.{Place}

@@ -461,7 +461,7 @@ impl<X: Subtree> Parser for PatternPrint<X> {
 }
 
 fn print_pat<X: Subtree>(alloc: Global, pat: &Pat<X>) -> Result<TokenStream, AllocError>
-    ensures { IfOk result (λ s. trees s ≡ patterns.pat X.prints pat.now) }
+    ensures { IfOk result (λ s. trees s ≡ patterns.pat X.prints (patterns.types_shown X.prints) pat.now) }
 {
     let mut out = TokenStream::new(alloc);
     pat.append_tokens(alloc, &mut out)?;
@@ -469,7 +469,7 @@ fn print_pat<X: Subtree>(alloc: Global, pat: &Pat<X>) -> Result<TokenStream, All
 }
 
 fn print_typed<X: Subtree>(alloc: Global, pat: &PatType<X>) -> Result<TokenStream, AllocError>
-    ensures { IfOk result (λ s. trees s ≡ patterns.typed X.prints pat.now) }
+    ensures { IfOk result (λ s. trees s ≡ patterns.typed X.prints (patterns.types_shown X.prints) pat.now) }
 {
     let mut out = TokenStream::new(alloc);
     pat.append_tokens(alloc, &mut out)?;
