@@ -3,10 +3,10 @@ use Rattle.std.proofs.lemmas.Grind.{common_steps}
 use Rattle.token_core.specs.Headline.{Headline}
 use Rattle.token_core.specs.Reads.{Gives, Fails}
 use Rattle.token_core.specs.Trees.{toks}
-use Rattle.syn_ty.specs.declared.generics.GenericsOf.{GenericsOf}
-use Rattle.syn_ty.specs.generics.Alone as alone
+use Rattle.syn_generics.specs.declared.generics.GenericsOf.{GenericsOf}
+use Rattle.syn_generics.specs.generics.Alone as alone
 use Rattle.syn_ty.specs.generics.Views as views
-use Rattle.syn_ty.specs.ty.Promises as promises
+use Rattle.syn_generics.specs.generics.Promises as promises
 use Rattle.synmid.proofs.Whole.{refused-prints}
 use Rattle.synmid.proofs.reader.reprint_turbofish.Goals as goal
 
