@@ -11,6 +11,7 @@ ghost use Rattle.syn_forms.specs.declared.places.TypePlace.TheVariants.{NoPlus};
 ghost use Rattle.syn_pat.specs.declared.place.PatPlace.TheVariants.{LeadingVert, Multi, Single};
 ghost use Rattle.syn_pat.specs.pat.Knot as pats;
 ghost use Rattle.syn_pat.specs.pat.Promises as pat_promises;
+ghost use Rattle.syn_pat.specs.pat.Pats.{Pat};
 ghost use Rattle.syn_pat.specs.pat.Reading.{type_names};
 ghost use Rattle.syn_ty.specs.ty.Reading as types;
 ghost use Rattle.syn_ty.specs.ty.Knot as knot;
@@ -433,7 +434,7 @@ impl<X: Subtree> Parser for ParseSingle<X> {
 
     ghost reads = { λ _. Gives (pats.pat X.reads (type_names X.reads) Single) };
 
-    ghost refuses = { λ _. Fails (pats.pat X.reads (type_names X.reads) Single) };
+    ghost refuses = { λ _. Fails {A = Pat X} (pats.pat X.reads (type_names X.reads) Single) };
 
     ghost promise = { λ _. Headline (pat_promises.pat X.reads X.spells X.normal X.prints Single) };
 
@@ -463,7 +464,7 @@ impl<X: Subtree> Parser for ParseMulti<X> {
 
     ghost reads = { λ _. Gives (pats.pat X.reads (type_names X.reads) Multi) };
 
-    ghost refuses = { λ _. Fails (pats.pat X.reads (type_names X.reads) Multi) };
+    ghost refuses = { λ _. Fails {A = Pat X} (pats.pat X.reads (type_names X.reads) Multi) };
 
     ghost promise = { λ _. Headline (pat_promises.pat X.reads X.spells X.normal X.prints Multi) };
 
@@ -493,7 +494,7 @@ impl<X: Subtree> Parser for ParseMultiWithLeadingVert<X> {
 
     ghost reads = { λ _. Gives (pats.pat X.reads (type_names X.reads) LeadingVert) };
 
-    ghost refuses = { λ _. Fails (pats.pat X.reads (type_names X.reads) LeadingVert) };
+    ghost refuses = { λ _. Fails {A = Pat X} (pats.pat X.reads (type_names X.reads) LeadingVert) };
 
     ghost promise = { λ _. Headline (pat_promises.pat X.reads X.spells X.normal X.prints LeadingVert) };
 
@@ -523,7 +524,7 @@ impl<X: Subtree> Parser for ParseMultiWithLeadingVertAndGuard<X> {
 
     ghost reads = { λ _. Gives (pats.guarded X.reads (type_names X.reads)) };
 
-    ghost refuses = { λ _. Fails (pats.guarded X.reads (type_names X.reads)) };
+    ghost refuses = { λ _. Fails {A = Pat X} (pats.guarded X.reads (type_names X.reads)) };
 
     ghost promise = { λ _. Headline (pat_promises.guarded X.reads X.spells X.normal X.prints) };
 
