@@ -5,7 +5,7 @@ use Rattle.token_core.specs.Reads.{Gives, Fails}
 use Rattle.token_core.specs.Trees.{toks}
 use Rattle.syn_generics.specs.declared.generics.GenericsOf.{GenericsOf}
 use Rattle.syn_generics.specs.generics.Alone as alone
-use Rattle.syn_ty.specs.generics.Views as views
+use Rattle.syn_generics.specs.generics.Views as views
 use Rattle.syn_generics.specs.generics.Promises as promises
 use Rattle.synmid.proofs.Whole.{refused-prints}
 use Rattle.synmid.proofs.reader.reprint_type_generics.Goals as goal
