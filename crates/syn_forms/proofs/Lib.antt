@@ -6,3 +6,4 @@ pub mod nested_laws
 pub mod params_laws
 pub mod paths_laws
 pub mod tokens_laws
+pub mod verbatim_laws

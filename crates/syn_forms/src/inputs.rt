@@ -2,11 +2,13 @@
 
 ghost use Rattle.std.specs.Prelude.{◌≡◌, ◌<◌, ◌≤◌, length, List};
 ghost use Rattle.token_core.specs.declared.tree.TokenStream.{TokenStream};
+ghost use Rattle.token_core.specs.Positions.{IsReached};
 ghost use Rattle.token_core.specs.Reads.{Parses, optional};
 ghost use Rattle.syn_forms.specs.groups.Reading.{in_parens};
 ghost use Rattle.syn_forms.specs.inputs.Reading as reading;
 ghost use Rattle.syn_forms.specs.nested.Below as below;
 ghost use Rattle.syn_forms.specs.nested.Below.{Nests, ahead};
+ghost use Rattle.syn_forms.specs.verbatim.Reading.{position};
 
 use crate::lists::Make;
 use crate::nested::{Nested, Tree};
@@ -18,7 +20,7 @@ use syn_path::supplied::Attributes;
 use token_core::token::{
     Colon, Comma, DotDotDot, Mut, Paren, PathSep, RArrow, SelfValue, Underscore,
 };
-use token_core::{Boxed, Error, Ident, Items, ParseStream, Punctuated, TokenStream};
+use token_core::{Boxed, Cursor, Error, Ident, Items, ParseStream, Punctuated, TokenStream};
 
 /// The name before an argument, if it has one: `x:`.
 pub type Name = Option<(Ident, Colon)>;
@@ -124,6 +126,24 @@ pub fn parse_optional_name(
     Ok(None)
 }
 
+/// `mut self`, held as it was written with what was read before it.
+#[tactic(auto, using(token_core::proofs::Suffixes::follows, crate::proofs::verbatim_laws::Reached::later, crate::proofs::nested_laws::Ahead::later))]
+fn parse_own<T: Drop, V: Verbatim<T>>(
+    alloc: Global,
+    from: &Cursor<'_>,
+    input: &mut ParseStream<'_>,
+    verbatim: V,
+) -> Result<(Name, T), Error>
+    requires reached { IsReached (position input.old) from.now }
+    ensures parses { Parses (reading.own (V.verbatim verbatim) from.now) result input.old input.new }
+    ensures fewer { ahead input.new ≤ ahead input.old }
+{
+    input.parse::<Mut>(alloc)?;
+    input.parse::<SelfValue>(alloc)?;
+    let tokens = since(alloc, from, input)?;
+    Ok((None, verbatim.verbatim(tokens)))
+}
+
 /// `...` after the arguments, with an optional name before it and an optional comma after it: `args: ...,`, as in syn's
 /// `parse_fn_ptr_variadic`.
 ///
@@ -206,10 +226,7 @@ impl<
         let from = input.cursor();
         let name = parse_optional_name(self.alloc, input, true)?;
         if is_other(&name) & sees_mut_self(input) {
-            input.parse::<Mut>(self.alloc)?;
-            input.parse::<SelfValue>(self.alloc)?;
-            let tokens = since(self.alloc, &from, input)?;
-            return Ok((None, verbatim.verbatim(tokens)));
+            return parse_own(self.alloc, &from, input, verbatim);
         }
         let ty = self.value(input, place)?;
         Ok((name, ty))

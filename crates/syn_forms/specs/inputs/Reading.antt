@@ -5,6 +5,7 @@ use Rattle.token_core.specs.declared.token.Paren.{Paren}
 use Rattle.token_core.specs.declared.tree.Ident.{Ident}
 use Rattle.token_core.specs.declared.tree.TokenStream.{TokenStream}
 use Rattle.token_core.specs.Loops.{Many, size, terminated}
+use Rattle.token_core.specs.Positions.{Item}
 use Rattle.token_core.specs.Reads.{Reader, ◌>>=◌, ◌<$>◌, pure, peek, optional, refuse, any_text, ident_name, is_done, is_ident, is_text, read_word, second, sees_word, third}
 use Rattle.token_core.specs.Toks.{Toks}
 use Rattle.syn_forms.specs.groups.Reading.{in_parens}
@@ -63,6 +64,15 @@ module _ {A : Type 0} (value : Reader A) where
     x ← value
     pure (n, x)
 
+module _ {A : Type 0} (verbatim : TokenStream → A) where
+  -- `mut self` with what was read before it, held as it was written
+  abbrev pub own : List Item → Reader (Name × A)
+  own from = do
+    m ← token.mut_word
+    w ← token.self_value
+    t ← since from
+    pure (None, verbatim t)
+
 module _ {A : Type 0} (value : Reader A) (verbatim : TokenStream → A) where
   -- `mut self`, `mut self: T`: held as they were written, without a name
   unfoldable pub mut_self : Reader (Name × A)
@@ -84,14 +94,10 @@ module _ {A : Type 0} (value : Reader A) (verbatim : TokenStream → A) where
   named_argument = do
     from ← begin
     n ← optional (sees_name true) name
-    own ← peek (λ l. is_other n && sees_mut_self l)
-    if own then (do
-      m ← token.mut_word
-      w ← token.self_value
-      t ← since from
-      pure (None, verbatim t)) else (do
-        x ← value
-        pure (n, x))
+    held ← peek (λ l. is_other n && sees_mut_self l)
+    if held then own verbatim from else (do
+      x ← value
+      pure (n, x))
 
   -- the first argument of a pointer to a function
   unfoldable pub first_argument : Reader (Name × A)

@@ -1,0 +1,2 @@
+-- Laws of tokens that are held as they were written.
+pub mod Reached
