@@ -7,7 +7,7 @@ use Rattle.token_core.specs.Spans.{none}
 use Rattle.token_core.specs.Stream.{Stream, started}
 use Rattle.token_core.specs.declared.error.ErrorKind.TheVariants.{OutOfMemory}
 use Rattle.token_core.specs.declared.span.Span.{Span}
-use Rattle.token_core.specs.Reads.{Reader, Outcome, Ends, Refuses, WholeRead, Parsed, Gives, Fails, kept, leaves}
+use Rattle.token_core.specs.Reads.{Reader, Outcome, Ends, Refuses, WholeRead, Promised, Parsed, Gives, Fails, kept, leaves}
 use Rattle.token_core.specs.Headline.{Grammar, Headline, Lawful, whole, end_of, ended}
 use Rattle.token_core.proofs.Headlines.{heads}
 use Rattle.syn_path.specs.Supplied.{SameOutcome, UsesUp, IsApart, Reprints as Reprinted}
@@ -31,6 +31,11 @@ ends-whole f l a h = ap end_of h.read ∙ ap (ended a h.last) h.is
 pub prints-reprints : {A : Type 0} (C : Category A) (l : Toks) (r : Result TokenStream Refusal) → Prints (Gives C.reader) (Fails C.reader) C.promise C.print l r → Reprints C l r
 prints-reprints C l (Ok s) h = (h.0, ends-whole C.reader l h.0 h.1, h.2, h.3)
 prints-reprints C l (Err e) h = λ k. (refuses-whole C.reader l e (h k).0, (h k).1)
+
+-- what a whole read refuses, a print of its answer refuses
+pub refused-prints : {A : Type 0} (reads : Stream → A → Stream → Type 0) (refuses : Stream → Refusal → Type 0) (promise : Toks → Option A → Type 0) (print : A → Print) (l : Toks) (r : Result A Refusal) (s : Result TokenStream Refusal) (e : Refusal) → r ≡ Err e → s ≡ Err e → WholeRead reads refuses (started none l) r → Promised (promise l) r → Prints reads refuses promise print l s
+refused-prints reads refuses promise print l r s e hr hs w p =
+    subst (λ z. Prints reads refuses promise print l z) (sym hs) (λ k. (subst (λ z. WholeRead reads refuses (started none l) z) hr w k, subst (λ z. Promised (promise l) z) hr p k))
 
 shows-refused : {A : Type 0} (C : Category A) (l : Toks) (e : Refusal) → Refuses (Shows C) (Fails C.reader) (started none l) e → whole C.reader l ≡ Err e
 shows-refused C l e (inl h) = ap end_of h
