@@ -17,7 +17,6 @@ mod channel;
 mod fault;
 mod reader;
 mod run;
-mod sample;
 
 use channel::{Plain, Source};
 use reader::{GenericsReader, Reader};

@@ -2,4 +2,3 @@ pub mod Faults
 pub mod Readers
 pub mod Run
 pub mod Within
-pub mod sample

@@ -64,8 +64,8 @@ use Rattle.syn_attr.specs.attr.Consts.{normal_values_of, values_of, outer}
 use Rattle.syn_path.specs.mac.Grammars as macs
 use Rattle.syn_path.specs.path.Grammars as paths
 use Rattle.syn_ty.specs.path.Paths as path
-use Rattle.synmid.specs.contracts.sample.SampleSubtree.TheImpl.{reads-value, spells-value, normal-value, prints-value}
-use Rattle.synmid.specs.declared.sample.Sample.{Sample}
+use Rattle.syn_sample.specs.contracts.sample.SampleSubtree.TheImpl.{reads-value, spells-value, normal-value, prints-value}
+use Rattle.syn_sample.specs.declared.sample.Sample.{Sample}
 use Rattle.synmid.specs.declared.reader.Reader.{Reader}
 use Rattle.synmid.specs.declared.reader.Reader.TheVariants.{Macro, ModStyle, Meta, MetaList, MetaNameValue, Outer, Inner, PointerMutability, Types, Paths, Generics, Patterns}
 use Rattle.synmid.specs.declared.reader.TypeReader.{TypeReader}

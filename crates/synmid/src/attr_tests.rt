@@ -7,11 +7,11 @@ ghost use Rattle.token_core.specs.Reads.{Follows};
 ghost use Rattle.syn_attr.specs.attr.Requirements.{path_in};
 
 use crate::nested_tests::{Does, at_property, called, show};
-use crate::sample::Sample;
 use std::alloc::Global;
 use std::process::Abort;
 use syn_mid::meta::ParseNestedMeta;
 use syn_mid::{Attribute, Meta, MetaList, MetaNameValue, ParseInner, ParseOuter};
+use syn_sample::sample::Sample;
 use token_core::token::FatArrow;
 use token_core::{
     ByFn, Error, Ident, Items, Parse, ParseStream, Span, ToTokens, TokenStream, read_all,

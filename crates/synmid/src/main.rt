@@ -18,7 +18,6 @@ mod nested_tests;
 mod pat_read_tests;
 mod reader;
 mod run;
-mod sample;
 #[cfg(test)]
 mod sample_tests;
 #[cfg(test)]

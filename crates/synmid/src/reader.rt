@@ -10,7 +10,6 @@ ghost use Rattle.token_core.specs.Reads.{Fails, Follows, Gives, Parsed};
 ghost use Rattle.token_core.specs.Trees.{toks, trees};
 ghost use Rattle.synmid.specs.Readers as spec;
 
-use crate::sample::Sample;
 use std::alloc::{AllocError, Global};
 use std::marker::PhantomData;
 use syn_mid::{
@@ -25,6 +24,7 @@ use syn_mid::{
     TypeParenOf, TypePathOf, TypePtrOf, TypeReferenceOf, TypeSliceOf, TypeTraitObjectOf,
     TypeTupleOf, Value, WhereClauseOf, WherePredicateOf, WithoutPlusOf,
 };
+use syn_sample::sample::Sample;
 use token_core::{
     Error, Items, Parse, ParseStream, Parser, ToTokens, TokenStream, read_all, read_all_with,
 };

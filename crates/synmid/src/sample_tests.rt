@@ -5,9 +5,9 @@
 ghost use Rattle.token_core.specs.Reads.{Follows};
 
 use crate::attr_tests::says;
-use crate::sample::Sample;
 use std::alloc::Global;
 use syn_mid::{MetaNameValue, Place, Subtree};
+use syn_sample::sample::Sample;
 use token_core::{ByFn, Error, ParseStream, ToTokens, TokenStream, read_all, read_all_with};
 use token_text::{lex, text_of};
 

@@ -1,0 +1,4 @@
+//! A supplied subtree to run with: it reads literals, paths and sums of these.
+#![tactic(auto)]
+
+pub mod sample;
