@@ -19,13 +19,14 @@ mod reader;
 mod run;
 
 use channel::{Plain, Source};
-use reader::{GenericsReader, Reader};
+use reader::Reader;
 use std::alloc::{AllocError, Global};
 use std::fmt::Write as _;
 use std::io::Write;
 use std::process::ExitCode;
 use std::time::Instant;
 use std::{env, io};
+use syn_readers::reader::GenericsReader;
 use token_core::{
     DelimSpan, Delimiter, Error, ErrorKind, Group, Punct, Spacing, Span, TokenStream, TokenTree,
 };

@@ -13,7 +13,8 @@ use Rattle.token_core.proofs.Rebuilds.{stream-trees}
 use Rattle.token_text.specs.Spelling.{Spells, Refused}
 use Rattle.token_text.specs.Printing.{text_of}
 use Rattle.synmid.specs.declared.reader.Reader.{Reader}
-use Rattle.synmid.specs.Readers.{category, Reprints}
+use Rattle.syn_readers.specs.Readers.{Reprints}
+use Rattle.synmid.specs.Readers.{category}
 use Rattle.synmid.specs.Run.{Answer, shown, no_memory, not_text, line, IsTextOf, Refuses, not_utf8, no_list, no_tree, memory, Justified, Accepts, AnswersTo, text_of_print, Ends}
 use Rattle.synmid.specs.declared.fault.Fault.{Fault}
 use Rattle.synmid.specs.declared.fault.Fault.TheVariants as f

@@ -1,17 +1,9 @@
 -- The readers that a run knows by name.
-use Rattle.std.specs.Prelude.{◌≡◌, ◌≢◌, Bool, true, false, if◌then◌else◌, List, [], Option, Some, None, option_map, Result, Ok, Err, codes}
+use Rattle.std.specs.Prelude.{Bool, if◌then◌else◌, List, [], Option, Some, None, option_map, codes}
 use Rattle.std.specs.Str.{bytes_eq}
-use Rattle.token_core.specs.declared.error.ErrorKind.TheVariants.{OutOfMemory}
-use Rattle.token_core.specs.declared.tree.TokenStream.{TokenStream}
 use Rattle.token_core.specs.Toks.{Bytes, Toks}
-use Rattle.token_core.specs.Trees.{trees}
-use Rattle.token_core.specs.Rebuilt.{Visible}
-use Rattle.token_core.specs.Refusal.{Refusal}
-use Rattle.token_core.specs.Headline.{Grammar, Headline, whole}
-use Rattle.token_core.specs.Prints.{Print, optional}
-use Rattle.token_core.specs.Spans.{none}
-use Rattle.token_core.specs.Stream.{Stream, started}
-use Rattle.token_core.specs.Reads.{Ends, Refuses, Reader as R}
+use Rattle.token_core.specs.Prints.{Print}
+use Rattle.token_core.specs.Reads.{Reader as R}
 use Rattle.syn_pat.specs.declared.place.PatPlace.TheVariants.{LeadingVert, Multi, Single}
 use Rattle.syn_pat.specs.pat.Pats as pats
 use Rattle.syn_pat.specs.pat.Promises as pat_promises
@@ -22,32 +14,6 @@ use Rattle.syn_attr.specs.declared.attr.MetaList as meta_list
 use Rattle.syn_attr.specs.declared.attr.MetaNameValue as name_value
 use Rattle.syn_forms.specs.declared.tokens.PointerMutability as mutability
 use Rattle.syn_forms.specs.tokens.Grammars as tokens
-use Rattle.syn_ty.specs.ty.Grammars as types
-use Rattle.syn_ty.specs.ty.Trees as ty
-use Rattle.syn_ty.specs.ty.Knot as knot
-use Rattle.syn_ty.specs.ty.Printing as printing
-use Rattle.syn_ty.specs.ty.Promises as promises
-use Rattle.syn_ty.specs.ty.Reading as reading
-use Rattle.syn_generics.specs.generics.Alone as alone
-use Rattle.syn_generics.specs.generics.Printing as generics_printing
-use Rattle.syn_generics.specs.generics.Promises as generics_promises
-use Rattle.syn_ty.specs.generics.Reading as generics
-use Rattle.syn_ty.specs.generics.Shapes as shapes
-use Rattle.syn_ty.specs.generics.Shapes.{lifetime_param_by}
-use Rattle.syn_generics.specs.generics.Views as views
-use Rattle.syn_ty.specs.path.Shapes.{as_written}
-use Rattle.syn_ty.specs.declared.generics.CapturedParam as captured
-use Rattle.syn_generics.specs.declared.generics.GenericsOf.{GenericsOf}
-use Rattle.syn_ty.specs.declared.generics.LifetimeParamOf as lifetime
-use Rattle.syn_ty.specs.declared.generics.PreciseCapture as capture
-use Rattle.syn_generics.specs.declared.generics.WhereClauseOf.{WhereClauseOf}
-use Rattle.syn_generics.specs.declared.generics.WherePredicateOf.{WherePredicateOf}
-use Rattle.syn_ty.specs.declared.ty.Abi as abi
-use Rattle.syn_forms.specs.declared.places.BoundPlace.TheVariants.{Opaque}
-use Rattle.syn_forms.specs.declared.places.ParamPlace.TheVariants.{Binder}
-use Rattle.syn_forms.specs.declared.places.TypePlace.TheVariants.{Plus, NoPlus}
-use Rattle.syn_path.specs.declared.path.PathStyle.TheVariants.{AsWritten}
-use Rattle.syn_path.specs.path.Shapes.{path_by, segment_by}
 use Rattle.syn_attr.specs.attr.Attrs.{Attribute}
 use Rattle.syn_attr.specs.attr.Grammars as attrs
 use Rattle.syn_attr.specs.attr.Printing as attr_printing
@@ -56,10 +22,7 @@ use Rattle.syn_attr.specs.attr.Normal as normal
 use Rattle.syn_attr.specs.attr.Lengths.{lens, spells_len}
 use Rattle.syn_attr.specs.attr.Spelling.{AreAll, IsConst, IsConstDefault, IsOuter}
 use Rattle.syn_attr.specs.declared.expr.Expr.{Expr}
-use Rattle.syn_ty.specs.declared.ty.TypeInferOf as infer
-use Rattle.syn_ty.specs.declared.ty.TypeMacroOf as macro
-use Rattle.syn_ty.specs.declared.ty.TypeNeverOf as never
-use Rattle.syn_path.specs.Values.{NormalValues, ReadValues, SpelledValues, Values}
+use Rattle.syn_path.specs.Values.{ReadValues, SpelledValues}
 use Rattle.syn_attr.specs.attr.Consts.{normal_values_of, values_of, outer}
 use Rattle.syn_path.specs.mac.Grammars as macs
 use Rattle.syn_path.specs.path.Grammars as paths
@@ -68,72 +31,12 @@ use Rattle.syn_sample.specs.contracts.sample.SampleSubtree.TheImpl.{reads-value,
 use Rattle.syn_sample.specs.declared.sample.Sample.{Sample}
 use Rattle.synmid.specs.declared.reader.Reader.{Reader}
 use Rattle.synmid.specs.declared.reader.Reader.TheVariants.{Macro, ModStyle, Meta, MetaList, MetaNameValue, Outer, Inner, PointerMutability, Types, Paths, Generics, Patterns}
-use Rattle.synmid.specs.declared.reader.TypeReader.{TypeReader}
-use Rattle.synmid.specs.declared.reader.TypeReader.TheVariants as t
-use Rattle.synmid.specs.declared.reader.PathReader.{PathReader}
-use Rattle.synmid.specs.declared.reader.PathReader.TheVariants as p
-use Rattle.synmid.specs.declared.reader.GenericsReader.{GenericsReader}
-use Rattle.synmid.specs.declared.reader.GenericsReader.TheVariants as g
 use Rattle.synmid.specs.declared.reader.PatternReader.{PatternReader}
 use Rattle.synmid.specs.declared.reader.PatternReader.TheVariants as q
-
-abbrev pub types_named : Bytes → Option TypeReader
-types_named name =
-    if bytes_eq name (codes "Type") then Some t.Any
-    else (if bytes_eq name (codes "Type::without_plus") then Some t.WithoutPlus
-    else (if bytes_eq name (codes "TypeArray") then Some t.Array
-    else (if bytes_eq name (codes "TypeFnPtr") then Some t.FnPtr
-    else (if bytes_eq name (codes "TypeGroup") then Some t.Group
-    else (if bytes_eq name (codes "TypeImplTrait") then Some t.ImplTrait
-    else (if bytes_eq name (codes "TypeImplTrait::without_plus") then Some t.ImplWithoutPlus
-    else (if bytes_eq name (codes "TypeInfer") then Some t.Infer
-    else (if bytes_eq name (codes "TypeMacro") then Some t.Macro
-    else (if bytes_eq name (codes "TypeNever") then Some t.Never
-    else (if bytes_eq name (codes "TypeParen") then Some t.Paren
-    else (if bytes_eq name (codes "TypePath") then Some t.Path
-    else (if bytes_eq name (codes "TypePtr") then Some t.Ptr
-    else (if bytes_eq name (codes "TypeReference") then Some t.Reference
-    else (if bytes_eq name (codes "TypeSlice") then Some t.Slice
-    else (if bytes_eq name (codes "TypeTraitObject") then Some t.TraitObject
-    else (if bytes_eq name (codes "TypeTraitObject::without_plus") then Some t.ObjectWithoutPlus
-    else (if bytes_eq name (codes "TypeTuple") then Some t.Tuple
-    else (if bytes_eq name (codes "ReturnType") then Some t.Return
-    else (if bytes_eq name (codes "ReturnType::without_plus") then Some t.ReturnWithoutPlus
-    else (if bytes_eq name (codes "NamedArg") then Some t.NamedArg
-    else (if bytes_eq name (codes "Abi") then Some t.Abi
-    else (if bytes_eq name (codes "Abi::parse_optional") then Some t.OptionalAbi
-    else None))))))))))))))))))))))
-
-abbrev pub paths_named : Bytes → Option PathReader
-paths_named name =
-    if bytes_eq name (codes "Path") then Some p.Whole
-    else (if bytes_eq name (codes "PathSegment") then Some p.Segment
-    else (if bytes_eq name (codes "GenericArgument") then Some p.Argument
-    else (if bytes_eq name (codes "AngleBracketedGenericArguments") then Some p.AngleBracketed
-    else (if bytes_eq name (codes "AngleBracketedGenericArguments::parse_turbofish") then Some p.ParseTurbofish
-    else (if bytes_eq name (codes "ParenthesizedGenericArguments") then Some p.Parenthesized
-    else None)))))
-
-abbrev pub generics_named : Bytes → Option GenericsReader
-generics_named name =
-    if bytes_eq name (codes "GenericParam") then Some g.Param
-    else (if bytes_eq name (codes "LifetimeParam") then Some g.LifetimeParam
-    else (if bytes_eq name (codes "TypeParam") then Some g.TypeParam
-    else (if bytes_eq name (codes "ConstParam") then Some g.ConstParam
-    else (if bytes_eq name (codes "BoundLifetimes") then Some g.BoundLifetimes
-    else (if bytes_eq name (codes "BoundLifetimes::parse_optional") then Some g.OptionalBoundLifetimes
-    else (if bytes_eq name (codes "TypeParamBound") then Some g.Bound
-    else (if bytes_eq name (codes "TraitBound") then Some g.TraitBound
-    else (if bytes_eq name (codes "PreciseCapture") then Some g.Capture
-    else (if bytes_eq name (codes "CapturedParam") then Some g.Captured
-    else (if bytes_eq name (codes "Generics") then Some g.Declared
-    else (if bytes_eq name (codes "ImplGenerics") then Some g.ImplGenerics
-    else (if bytes_eq name (codes "TypeGenerics") then Some g.TypeGenerics
-    else (if bytes_eq name (codes "Turbofish") then Some g.Turbofish
-    else (if bytes_eq name (codes "WhereClause") then Some g.WhereClause
-    else (if bytes_eq name (codes "WhereClause::parse_optional") then Some g.OptionalWhereClause
-    else (if bytes_eq name (codes "WherePredicate") then Some g.Predicate
-    else None))))))))))))))))
+use Rattle.syn_readers.specs.Readers.{Category, of_grammar, TypesTree, PathsTree, GenericsTree, types_named, paths_named, generics_named, types_category, paths_category, generics_category}
+use Rattle.syn_readers.specs.declared.reader.TypeReader.{TypeReader}
+use Rattle.syn_readers.specs.declared.reader.PathReader.{PathReader}
+use Rattle.syn_readers.specs.declared.reader.GenericsReader.{GenericsReader}
 
 abbrev pub patterns_named : Bytes → Option PatternReader
 patterns_named name =
@@ -175,147 +78,13 @@ named name =
     else (if bytes_eq name (codes "PointerMutability") then Some PointerMutability
     else of_types name)))))))
 
--- What a run says of a reader: what it reads, what its trees print, and what a whole read promises. It tells which tree a list spells clearly: by the promise
--- that tree is the answer, and there is none where the list is refused.
-pub record Category (A : Type 0) : Type 1 where
-  pub reader : R A
-  pub print : A → Print
-  pub promise : Toks → Option A → Type 0
-  pub clear : A → Toks → Type 0
-  pub refused : (l : Toks) (a : A) → promise l None → Visible l → clear a l → ⊥
-  pub unique : (l : Toks) (a b : A) → promise l (Some b) → Visible l → clear a l → a ≡ b
-
--- with the whole promise
-abbrev pub of_grammar : {A : Type 0} → Grammar A → Category A
-of_grammar G = record { reader = G.reader; print = G.print; promise = Headline G; clear = G.spells true; refused = λ l a h v c. h v a c; unique = λ l a b h v c. (h v).unique a c }
-
--- what the arguments of a path print
-abbrev pub shown : {A E : Type 0} → (List A → Print) → Values E → ty.PathArguments A E → Print
-shown pa pe = printing.arguments pa pe as_written
-
--- what generics print for an implementation
-abbrev pub impl_generics : {A E : Type 0} → (List A → Print) → Values E → GenericsOf A E → Print
-impl_generics pa pe x = generics_printing.generics pa pe (views.stripped x)
-
--- the trees of a reader of types, over attributes and expressions
-abbrev pub TypesTree : Type 0 → Type 0 → TypeReader → Type 0
-TypesTree A E t.Any = ty.TypeTree A E
-TypesTree A E t.WithoutPlus = ty.TypeTree A E
-TypesTree A E t.Array = ty.TypeArray A E
-TypesTree A E t.FnPtr = ty.TypeFnPtr A E
-TypesTree A E t.Group = ty.TypeGroup A E
-TypesTree A E t.ImplTrait = ty.TypeImplTrait A E
-TypesTree A E t.ImplWithoutPlus = ty.TypeImplTrait A E
-TypesTree A E t.Infer = infer.TypeInferOf A
-TypesTree A E t.Macro = macro.TypeMacroOf A
-TypesTree A E t.Never = never.TypeNeverOf A
-TypesTree A E t.Paren = ty.TypeParen A E
-TypesTree A E t.Path = ty.TypePath A E
-TypesTree A E t.Ptr = ty.TypePtr A E
-TypesTree A E t.Reference = ty.TypeReference A E
-TypesTree A E t.Slice = ty.TypeSlice A E
-TypesTree A E t.TraitObject = ty.TypeTraitObject A E
-TypesTree A E t.ObjectWithoutPlus = ty.TypeTraitObject A E
-TypesTree A E t.Tuple = ty.TypeTuple A E
-TypesTree A E t.Return = ty.ReturnType A E
-TypesTree A E t.ReturnWithoutPlus = ty.ReturnType A E
-TypesTree A E t.NamedArg = ty.NamedArg A E
-TypesTree A E t.Abi = abi.Abi
-TypesTree A E t.OptionalAbi = Option abi.Abi
-
--- of paths, over attributes and expressions
-abbrev pub PathsTree : Type 0 → Type 0 → PathReader → Type 0
-PathsTree A E p.Whole = ty.Path A E
-PathsTree A E p.Segment = ty.PathSegment A E
-PathsTree A E p.Argument = ty.GenericArgument A E
-PathsTree A E p.AngleBracketed = ty.AngleBracketed A E
-PathsTree A E p.ParseTurbofish = ty.AngleBracketed A E
-PathsTree A E p.Parenthesized = ty.Parenthesized A E
-
--- of generics, over attributes and expressions
-abbrev pub GenericsTree : Type 0 → Type 0 → GenericsReader → Type 0
-GenericsTree A E g.Param = ty.GenericParam A E
-GenericsTree A E g.LifetimeParam = lifetime.LifetimeParamOf A
-GenericsTree A E g.TypeParam = ty.TypeParam A E
-GenericsTree A E g.ConstParam = ty.ConstParam A E
-GenericsTree A E g.BoundLifetimes = ty.BoundLifetimes A E
-GenericsTree A E g.OptionalBoundLifetimes = Option (ty.BoundLifetimes A E)
-GenericsTree A E g.Bound = ty.TypeParamBound A E
-GenericsTree A E g.TraitBound = ty.TraitBound A E
-GenericsTree A E g.Capture = capture.PreciseCapture
-GenericsTree A E g.Captured = captured.CapturedParam
-GenericsTree A E g.Declared = GenericsOf A E
-GenericsTree A E g.ImplGenerics = GenericsOf A E
-GenericsTree A E g.TypeGenerics = GenericsOf A E
-GenericsTree A E g.Turbofish = GenericsOf A E
-GenericsTree A E g.WhereClause = WhereClauseOf A E
-GenericsTree A E g.OptionalWhereClause = Option (WhereClauseOf A E)
-GenericsTree A E g.Predicate = WherePredicateOf A E
-
--- of patterns, over a supplied subtree
+-- the trees of a reader of patterns, over a supplied subtree
 abbrev pub PatternsTree : Type 0 → PatternReader → Type 0
 PatternsTree X q.Single = pats.Pat X
 PatternsTree X q.Multi = pats.Pat X
 PatternsTree X q.LeadingVert = pats.Pat X
 PatternsTree X q.Guarded = pats.Pat X
 PatternsTree X q.Typed = pats.PatType X
-
--- with the view of a tree as its print
-abbrev pub of_view : {A : Type 0} → Grammar A → (A → Print) → Category A
-of_view G print = record { reader = G.reader; print = print; promise = Headline G; clear = G.spells true; refused = λ l a h v c. h v a c; unique = λ l a b h v c. (h v).unique a c }
-
-module _ {A E : Type 0} (attrs : R (List A)) (values : ReadValues E) (sa : Bool → List A → Toks → Toks → Type 0) (se : SpelledValues E) (na : List A → List A) (ne : NormalValues E) (pa : List A → Print) (pe : Values E) where
-  abbrev pub types_category : (r : TypeReader) → Category (TypesTree A E r)
-  types_category t.Any = of_grammar (promises.ty attrs values sa se na ne pa pe Plus)
-  types_category t.WithoutPlus = of_grammar (promises.ty attrs values sa se na ne pa pe NoPlus)
-  types_category t.Array = of_grammar (promises.array attrs values sa se na ne pa pe)
-  types_category t.FnPtr = of_grammar (promises.fn_ptr attrs values sa se na ne pa pe)
-  types_category t.Group = of_grammar (promises.group attrs values sa se na ne pa pe)
-  types_category t.ImplTrait = of_grammar (promises.impl_trait attrs values sa se na ne pa pe Plus)
-  types_category t.ImplWithoutPlus = of_grammar (promises.impl_trait attrs values sa se na ne pa pe NoPlus)
-  types_category t.Infer = of_grammar (types.infer na)
-  types_category t.Macro = of_grammar (types.macro_type na)
-  types_category t.Never = of_grammar (types.never na)
-  types_category t.Paren = of_grammar (promises.paren attrs values sa se na ne pa pe)
-  types_category t.Path = of_grammar (promises.path_type attrs values sa se na ne pa pe)
-  types_category t.Ptr = of_grammar (promises.ptr attrs values sa se na ne pa pe)
-  types_category t.Reference = of_grammar (promises.reference attrs values sa se na ne pa pe)
-  types_category t.Slice = of_grammar (promises.slice attrs values sa se na ne pa pe)
-  types_category t.TraitObject = of_grammar (promises.trait_object attrs values sa se na ne pa pe Plus)
-  types_category t.ObjectWithoutPlus = of_grammar (promises.trait_object attrs values sa se na ne pa pe NoPlus)
-  types_category t.Tuple = of_grammar (promises.tuple attrs values sa se na ne pa pe)
-  types_category t.Return = of_grammar (promises.return_type attrs values sa se na ne pa pe Plus)
-  types_category t.ReturnWithoutPlus = of_grammar (promises.return_type attrs values sa se na ne pa pe NoPlus)
-  types_category t.NamedArg = of_grammar (promises.named_arg attrs values sa se na ne pa pe)
-  types_category t.Abi = of_grammar promises.abi
-  types_category t.OptionalAbi = of_grammar promises.optional_abi
-
-  abbrev pub paths_category : (r : PathReader) → Category (PathsTree A E r)
-  paths_category p.Whole = of_grammar (promises.path attrs values sa se na ne pa pe)
-  paths_category p.Segment = of_grammar (promises.segment attrs values sa se na ne pa pe)
-  paths_category p.Argument = of_grammar (promises.argument attrs values sa se na ne pa pe)
-  paths_category p.AngleBracketed = of_grammar (promises.angle attrs values sa se na ne pa pe)
-  paths_category p.ParseTurbofish = of_grammar (promises.turbofish attrs values sa se na ne pa pe)
-  paths_category p.Parenthesized = of_grammar (promises.parenthesized attrs values sa se na ne pa pe)
-
-  abbrev pub generics_category : (r : GenericsReader) → Category (GenericsTree A E r)
-  generics_category g.Param = of_grammar (promises.param attrs values sa se na ne pa pe)
-  generics_category g.LifetimeParam = of_grammar (promises.lifetime_param attrs sa na pa)
-  generics_category g.TypeParam = of_grammar (promises.type_param attrs values sa se na ne pa pe)
-  generics_category g.ConstParam = of_grammar (promises.const_param attrs values sa se na ne pa pe)
-  generics_category g.BoundLifetimes = of_grammar (promises.binder attrs values sa se na ne pa pe)
-  generics_category g.OptionalBoundLifetimes = of_grammar (promises.optional_binder attrs values sa se na ne pa pe)
-  generics_category g.Bound = of_grammar (promises.bound attrs values sa se na ne pa pe)
-  generics_category g.TraitBound = of_grammar (promises.trait_bound attrs values sa se na ne pa pe)
-  generics_category g.Capture = of_grammar promises.capture
-  generics_category g.Captured = of_grammar promises.captured
-  generics_category g.Declared = of_grammar (generics_promises.generics attrs values sa se na ne pa pe)
-  generics_category g.ImplGenerics = of_view (generics_promises.generics attrs values sa se na ne pa pe) (impl_generics pa pe)
-  generics_category g.TypeGenerics = of_view (generics_promises.generics attrs values sa se na ne pa pe) views.names
-  generics_category g.Turbofish = of_view (generics_promises.generics attrs values sa se na ne pa pe) views.turbofish
-  generics_category g.WhereClause = of_grammar (generics_promises.where_clause attrs values sa se na ne pa pe)
-  generics_category g.OptionalWhereClause = of_grammar (generics_promises.optional_where_clause attrs values sa se na ne pa pe)
-  generics_category g.Predicate = of_grammar (generics_promises.predicate attrs values sa se na ne pa pe)
 
 module _ {X : Type 0} (reads : Place → R X) (spells : Place → X → Toks → Type 0) (normals : Place → X → X) (prints : Place → X → Print) where
   abbrev pub patterns_category : (r : PatternReader) → Category (PatternsTree X r)
@@ -371,18 +140,3 @@ category (Patterns r) = patterns_category reads-value.it spells-value.it normal-
 -- what attributes print, one after the other
 abbrev pub attributes : List (Attribute Sample) → Print
 attributes = attr_printing.attributes prints-value.it
-
--- A read answers the print of the tree that the read of the category answers, and leaves the stream where that does.
-abbrev pub Shows : {A : Type 0} → Category A → Stream → TokenStream → Stream → Type 0
-Shows {A = A} C s out new = (a : A) × (C.reader s ≡ Ok (a, new)) × (trees out ≡ C.print a)
-
--- A read that answers prints the tree that the read of the category answers, and keeps its promise. One that is refused is refused as the read of the category
--- is, and keeps the promise of a refusal.
-abbrev pub Reprints : {A : Type 0} → Category A → Toks → Result TokenStream Refusal → Type 0
-Reprints {A = A} C l (Ok s) = (a : A) × (whole C.reader l ≡ Ok a) × C.promise l (Some a) × (trees s ≡ C.print a)
-Reprints C l (Err e) = e.kind ≢ OutOfMemory → (whole C.reader l ≡ Err e) × C.promise l None
-
--- the same by the relations of a read and its promise
-abbrev pub Prints : {A : Type 0} → (Stream → A → Stream → Type 0) → (Stream → Refusal → Type 0) → (Toks → Option A → Type 0) → (A → Print) → Toks → Result TokenStream Refusal → Type 0
-Prints {A = A} reads refuses promise print l (Ok s) = (a : A) × Ends reads (started none l) a None × promise l (Some a) × (trees s ≡ print a)
-Prints reads refuses promise print l (Err e) = e.kind ≢ OutOfMemory → Refuses reads refuses (started none l) e × promise l None

@@ -3,8 +3,9 @@
 //! A test calls and does not branch, as docs/GATE.md says.
 
 use crate::attr_tests::says;
-use crate::reader::{GenericsReader, Reader};
+use crate::reader::Reader;
 use std::alloc::Global;
+use syn_readers::reader::GenericsReader;
 use token_core::Error;
 use token_text::{lex, text_of};
 

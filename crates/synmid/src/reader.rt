@@ -1,33 +1,23 @@
 //! The readers that a run knows by name.
 
 ghost use Rattle.std.specs.Prelude.{◌≡◌, IfOk};
-ghost use Rattle.syn_generics.specs.generics.Alone as alone;
-ghost use Rattle.syn_generics.specs.generics.Views as views;
-ghost use Rattle.syn_generics.specs.generics.Promises as promises;
 ghost use Rattle.syn_pat.specs.pat.Printing as patterns;
-ghost use Rattle.token_core.specs.Headline.{Headline};
-ghost use Rattle.token_core.specs.Reads.{Fails, Follows, Gives, Parsed};
+ghost use Rattle.syn_readers.specs.Readers as readers;
+ghost use Rattle.token_core.specs.Reads.{Fails, Follows, Parsed};
 ghost use Rattle.token_core.specs.Trees.{toks, trees};
 ghost use Rattle.synmid.specs.Readers as spec;
 
 use std::alloc::{AllocError, Global};
 use std::marker::PhantomData;
 use syn_mid::{
-    Abi, AngleBracketedGenericArgumentsOf, Attribute, Attributes, BoundLifetimesOf, CapturedParam,
-    ConstParamOf, Expr, GenericArgumentOf, GenericParamOf, GenericsOf, ImplWithoutPlusOf,
-    LifetimeParamOf, Macro, Meta, MetaList, MetaNameValue, ModStyle, NamedArgOf, NoArguments,
-    ObjectWithoutPlusOf, ParenthesizedGenericArgumentsOf, ParseInner, ParseOptionalAbi,
-    ParseOptionalLifetimesOf, ParseOptionalWhereOf, ParseOuter, ParseTurbofishOf, Pat, PatType,
-    PathArgumentsOf, PathOf, PathSegmentOf, PointerMutability, PreciseCapture, ReturnTypeOf,
-    ReturnWithoutPlusOf, Subtree, TraitBoundOf, TypeArrayOf, TypeFnPtrOf, TypeGroupOf,
-    TypeImplTraitOf, TypeInferOf, TypeMacroOf, TypeNeverOf, TypeOf, TypeParamBoundOf, TypeParamOf,
-    TypeParenOf, TypePathOf, TypePtrOf, TypeReferenceOf, TypeSliceOf, TypeTraitObjectOf,
-    TypeTupleOf, Value, WhereClauseOf, WherePredicateOf, WithoutPlusOf,
+    Attribute, Expr, Macro, Meta, MetaList, MetaNameValue, ModStyle, NoArguments, ParseInner,
+    ParseOuter, Pat, PatType, PointerMutability, Subtree,
+};
+use syn_readers::reader::{
+    GenericsReader, PathReader, TypeReader, print_of, reprint, reprint_with,
 };
 use syn_sample::sample::Sample;
-use token_core::{
-    Error, Items, Parse, ParseStream, Parser, ToTokens, TokenStream, read_all, read_all_with,
-};
+use token_core::{Error, Items, Parse, ParseStream, Parser, ToTokens, TokenStream, read_all_with};
 
 /// A reader that a run knows by name.
 #[derive(Clone, Copy, PartialEq, Eq)]
@@ -44,67 +34,6 @@ pub enum Reader {
     Paths(PathReader),
     Generics(GenericsReader),
     Patterns(PatternReader),
-}
-
-/// A reader of types, or of a form of types.
-#[derive(Clone, Copy, PartialEq, Eq)]
-pub enum TypeReader {
-    Any,
-    WithoutPlus,
-    Array,
-    FnPtr,
-    Group,
-    ImplTrait,
-    ImplWithoutPlus,
-    Infer,
-    Macro,
-    Never,
-    Paren,
-    Path,
-    Ptr,
-    Reference,
-    Slice,
-    TraitObject,
-    ObjectWithoutPlus,
-    Tuple,
-    Return,
-    ReturnWithoutPlus,
-    NamedArg,
-    Abi,
-    OptionalAbi,
-}
-
-/// A reader of paths or of their arguments.
-#[derive(Clone, Copy, PartialEq, Eq)]
-pub enum PathReader {
-    Whole,
-    Segment,
-    Argument,
-    AngleBracketed,
-    ParseTurbofish,
-    Parenthesized,
-}
-
-/// A reader of generics, parameters, binders, bounds, captures or where clauses, or one that prints a view of generics.
-#[derive(Clone, Copy, PartialEq, Eq)]
-pub enum GenericsReader {
-    Param,
-    LifetimeParam,
-    TypeParam,
-    ConstParam,
-    BoundLifetimes,
-    OptionalBoundLifetimes,
-    Bound,
-    TraitBound,
-    Capture,
-    Captured,
-    Declared,
-    ImplGenerics,
-    TypeGenerics,
-    Turbofish,
-    WhereClause,
-    OptionalWhereClause,
-    Predicate,
 }
 
 /// A reader of patterns.
@@ -155,7 +84,7 @@ impl Reader {
 
     /// Reads all of a list, and prints what was read.
     pub fn reprint(self, alloc: Global, tokens: &TokenStream) -> Result<TokenStream, Error>
-        ensures { spec.Reprints (spec.category self) (toks tokens.now) result }
+        ensures { readers.Reprints (spec.category self) (toks tokens.now) result }
     {
         match self {
             Reader::Macro => reprint::<Macro>(alloc, tokens),
@@ -180,201 +109,6 @@ impl Reader {
     }
 }
 
-impl TypeReader {
-    fn named(name: &str) -> Option<TypeReader>
-        ensures { result ≡ spec.types_named name.now }
-    {
-        match name {
-            "Type" => Some(TypeReader::Any),
-            "Type::without_plus" => Some(TypeReader::WithoutPlus),
-            "TypeArray" => Some(TypeReader::Array),
-            "TypeFnPtr" => Some(TypeReader::FnPtr),
-            "TypeGroup" => Some(TypeReader::Group),
-            "TypeImplTrait" => Some(TypeReader::ImplTrait),
-            "TypeImplTrait::without_plus" => Some(TypeReader::ImplWithoutPlus),
-            "TypeInfer" => Some(TypeReader::Infer),
-            "TypeMacro" => Some(TypeReader::Macro),
-            "TypeNever" => Some(TypeReader::Never),
-            "TypeParen" => Some(TypeReader::Paren),
-            "TypePath" => Some(TypeReader::Path),
-            "TypePtr" => Some(TypeReader::Ptr),
-            "TypeReference" => Some(TypeReader::Reference),
-            "TypeSlice" => Some(TypeReader::Slice),
-            "TypeTraitObject" => Some(TypeReader::TraitObject),
-            "TypeTraitObject::without_plus" => Some(TypeReader::ObjectWithoutPlus),
-            "TypeTuple" => Some(TypeReader::Tuple),
-            "ReturnType" => Some(TypeReader::Return),
-            "ReturnType::without_plus" => Some(TypeReader::ReturnWithoutPlus),
-            "NamedArg" => Some(TypeReader::NamedArg),
-            "Abi" => Some(TypeReader::Abi),
-            "Abi::parse_optional" => Some(TypeReader::OptionalAbi),
-            _ => None,
-        }
-    }
-
-    /// Reads all of a list, and prints what was read: over any attributes and expressions, since over those of the sample each
-    /// of these readers costs the prover much more.
-    fn reprint_over<A: Attributes, E: Value>(
-        self,
-        alloc: Global,
-        tokens: &TokenStream,
-    ) -> Result<TokenStream, Error>
-        ensures { spec.Reprints (spec.types_category A.reads E.reads A.spells E.spells A.normal E.normal A.shown E.values self) (toks tokens.now) result }
-    {
-        match self {
-            TypeReader::Any => reprint::<TypeOf<A, E>>(alloc, tokens),
-            TypeReader::WithoutPlus => reprint_with(alloc, WithoutPlusOf::<A, E>::new(), tokens),
-            TypeReader::Array => reprint::<TypeArrayOf<TypeOf<A, E>, A, E>>(alloc, tokens),
-            TypeReader::FnPtr => reprint::<TypeFnPtrOf<A, E>>(alloc, tokens),
-            TypeReader::Group => reprint::<TypeGroupOf<TypeOf<A, E>, A>>(alloc, tokens),
-            TypeReader::ImplTrait => reprint::<TypeImplTraitOf<TypeParamBoundOf<A, E>, A>>(
-                alloc, tokens,
-            ),
-            TypeReader::ImplWithoutPlus => reprint_with(
-                alloc,
-                ImplWithoutPlusOf::<A, E>::new(),
-                tokens,
-            ),
-            TypeReader::Infer => reprint::<TypeInferOf<A>>(alloc, tokens),
-            TypeReader::Macro => reprint::<TypeMacroOf<A>>(alloc, tokens),
-            TypeReader::Never => reprint::<TypeNeverOf<A>>(alloc, tokens),
-            TypeReader::Paren => reprint::<TypeParenOf<TypeOf<A, E>, A>>(alloc, tokens),
-            TypeReader::Path => reprint::<TypePathOf<A, E>>(alloc, tokens),
-            TypeReader::Ptr => reprint::<TypePtrOf<TypeOf<A, E>, A>>(alloc, tokens),
-            TypeReader::Reference => reprint::<TypeReferenceOf<TypeOf<A, E>, A>>(alloc, tokens),
-            TypeReader::Slice => reprint::<TypeSliceOf<TypeOf<A, E>, A>>(alloc, tokens),
-            TypeReader::TraitObject => reprint::<TypeTraitObjectOf<TypeParamBoundOf<A, E>, A>>(
-                alloc, tokens,
-            ),
-            TypeReader::ObjectWithoutPlus => reprint_with(
-                alloc,
-                ObjectWithoutPlusOf::<A, E>::new(),
-                tokens,
-            ),
-            TypeReader::Tuple => reprint::<TypeTupleOf<TypeOf<A, E>, A>>(alloc, tokens),
-            TypeReader::Return => reprint::<ReturnTypeOf<TypeOf<A, E>>>(alloc, tokens),
-            TypeReader::ReturnWithoutPlus => reprint_with(
-                alloc,
-                ReturnWithoutPlusOf::<A, E>::new(),
-                tokens,
-            ),
-            TypeReader::NamedArg => reprint::<NamedArgOf<TypeOf<A, E>, A>>(alloc, tokens),
-            TypeReader::Abi => reprint::<Abi>(alloc, tokens),
-            TypeReader::OptionalAbi => reprint_with(alloc, ParseOptionalAbi::new(), tokens),
-        }
-    }
-}
-
-impl PathReader {
-    fn named(name: &str) -> Option<PathReader>
-        ensures { result ≡ spec.paths_named name.now }
-    {
-        match name {
-            "Path" => Some(PathReader::Whole),
-            "PathSegment" => Some(PathReader::Segment),
-            "GenericArgument" => Some(PathReader::Argument),
-            "AngleBracketedGenericArguments" => Some(PathReader::AngleBracketed),
-            "AngleBracketedGenericArguments::parse_turbofish" => Some(PathReader::ParseTurbofish),
-            "ParenthesizedGenericArguments" => Some(PathReader::Parenthesized),
-            _ => None,
-        }
-    }
-
-    /// Reads all of a list, and prints what was read, over any attributes and expressions.
-    fn reprint_over<A: Attributes, E: Value>(
-        self,
-        alloc: Global,
-        tokens: &TokenStream,
-    ) -> Result<TokenStream, Error>
-        ensures { spec.Reprints (spec.paths_category A.reads E.reads A.spells E.spells A.normal E.normal A.shown E.values self) (toks tokens.now) result }
-    {
-        match self {
-            PathReader::Whole => reprint::<PathOf<PathArgumentsOf<A, E>>>(alloc, tokens),
-            PathReader::Segment => reprint::<PathSegmentOf<PathArgumentsOf<A, E>>>(alloc, tokens),
-            PathReader::Argument => reprint::<GenericArgumentOf<A, E>>(alloc, tokens),
-            PathReader::AngleBracketed => reprint::<
-                AngleBracketedGenericArgumentsOf<GenericArgumentOf<A, E>>,
-            >(alloc, tokens),
-            PathReader::ParseTurbofish => reprint_with(
-                alloc,
-                ParseTurbofishOf::<A, E>::new(),
-                tokens,
-            ),
-            PathReader::Parenthesized => reprint::<
-                ParenthesizedGenericArgumentsOf<TypeOf<A, E>, A>,
-            >(alloc, tokens),
-        }
-    }
-}
-
-impl GenericsReader {
-    fn named(name: &str) -> Option<GenericsReader>
-        ensures { result ≡ spec.generics_named name.now }
-    {
-        match name {
-            "GenericParam" => Some(GenericsReader::Param),
-            "LifetimeParam" => Some(GenericsReader::LifetimeParam),
-            "TypeParam" => Some(GenericsReader::TypeParam),
-            "ConstParam" => Some(GenericsReader::ConstParam),
-            "BoundLifetimes" => Some(GenericsReader::BoundLifetimes),
-            "BoundLifetimes::parse_optional" => Some(GenericsReader::OptionalBoundLifetimes),
-            "TypeParamBound" => Some(GenericsReader::Bound),
-            "TraitBound" => Some(GenericsReader::TraitBound),
-            "PreciseCapture" => Some(GenericsReader::Capture),
-            "CapturedParam" => Some(GenericsReader::Captured),
-            "Generics" => Some(GenericsReader::Declared),
-            "ImplGenerics" => Some(GenericsReader::ImplGenerics),
-            "TypeGenerics" => Some(GenericsReader::TypeGenerics),
-            "Turbofish" => Some(GenericsReader::Turbofish),
-            "WhereClause" => Some(GenericsReader::WhereClause),
-            "WhereClause::parse_optional" => Some(GenericsReader::OptionalWhereClause),
-            "WherePredicate" => Some(GenericsReader::Predicate),
-            _ => None,
-        }
-    }
-
-    /// Reads all of a list, and prints what was read, over any attributes and expressions.
-    fn reprint_over<A: Attributes, E: Value>(
-        self,
-        alloc: Global,
-        tokens: &TokenStream,
-    ) -> Result<TokenStream, Error>
-        ensures { spec.Reprints (spec.generics_category A.reads E.reads A.spells E.spells A.normal E.normal A.shown E.values self) (toks tokens.now) result }
-    {
-        match self {
-            GenericsReader::Param => reprint::<GenericParamOf<A, E>>(alloc, tokens),
-            GenericsReader::LifetimeParam => reprint::<LifetimeParamOf<A>>(alloc, tokens),
-            GenericsReader::TypeParam => reprint::<TypeParamOf<A, E>>(alloc, tokens),
-            GenericsReader::ConstParam => reprint::<ConstParamOf<TypeOf<A, E>, A, E>>(
-                alloc, tokens,
-            ),
-            GenericsReader::BoundLifetimes => reprint::<BoundLifetimesOf<GenericParamOf<A, E>>>(
-                alloc, tokens,
-            ),
-            GenericsReader::OptionalBoundLifetimes => reprint_with(
-                alloc,
-                ParseOptionalLifetimesOf::<A, E>::new(),
-                tokens,
-            ),
-            GenericsReader::Bound => reprint::<TypeParamBoundOf<A, E>>(alloc, tokens),
-            GenericsReader::TraitBound => reprint::<TraitBoundOf<A, E>>(alloc, tokens),
-            GenericsReader::Capture => reprint::<PreciseCapture>(alloc, tokens),
-            GenericsReader::Captured => reprint::<CapturedParam>(alloc, tokens),
-            GenericsReader::Declared => reprint::<GenericsOf<A, E>>(alloc, tokens),
-            GenericsReader::ImplGenerics => reprint_impl_generics::<A, E>(alloc, tokens),
-            GenericsReader::TypeGenerics => reprint_type_generics::<A, E>(alloc, tokens),
-            GenericsReader::Turbofish => reprint_turbofish::<A, E>(alloc, tokens),
-            GenericsReader::WhereClause => reprint::<WhereClauseOf<A, E>>(alloc, tokens),
-            GenericsReader::OptionalWhereClause => reprint_with(
-                alloc,
-                ParseOptionalWhereOf::<A, E>::new(),
-                tokens,
-            ),
-            GenericsReader::Predicate => reprint::<WherePredicateOf<A, E>>(alloc, tokens),
-        }
-    }
-}
-
 impl PatternReader {
     fn named(name: &str) -> Option<PatternReader>
         ensures { result ≡ spec.patterns_named name.now }
@@ -395,7 +129,7 @@ impl PatternReader {
         alloc: Global,
         tokens: &TokenStream,
     ) -> Result<TokenStream, Error>
-        ensures { spec.Reprints (spec.patterns_category X.reads X.spells X.normal X.prints self) (toks tokens.now) result }
+        ensures { readers.Reprints (spec.patterns_category X.reads X.spells X.normal X.prints self) (toks tokens.now) result }
     {
         let parser: PatternPrint<X> = PatternPrint {
             reader: self,
@@ -410,7 +144,7 @@ impl PatternReader {
         alloc: Global,
         input: &mut ParseStream<'_>,
     ) -> Result<TokenStream, Error>
-        ensures shown { Parsed (spec.Shows (spec.patterns_category X.reads X.spells X.normal X.prints self) input.old) (Fails (spec.patterns_category X.reads X.spells X.normal X.prints self).reader input.old) result input.new }
+        ensures shown { Parsed (readers.Shows (spec.patterns_category X.reads X.spells X.normal X.prints self) input.old) (Fails (spec.patterns_category X.reads X.spells X.normal X.prints self).reader input.old) result input.new }
         ensures within { Follows input.old input.new }
     {
         match self {
@@ -451,7 +185,7 @@ impl<X: Subtree> Parser for PatternPrint<X> {
 
     ghost can_parse = { λ _. Unit {0} };
 
-    ghost reads = { λ p. spec.Shows (spec.patterns_category X.reads X.spells X.normal X.prints p.reader) };
+    ghost reads = { λ p. readers.Shows (spec.patterns_category X.reads X.spells X.normal X.prints p.reader) };
 
     ghost refuses = { λ p. Fails (spec.patterns_category X.reads X.spells X.normal X.prints p.reader).reader };
 
@@ -476,29 +210,6 @@ fn print_typed<X: Subtree>(alloc: Global, pat: &PatType<X>) -> Result<TokenStrea
     Ok(out)
 }
 
-/// Reads all of a list as a `T`, and prints it.
-fn reprint<T: Parse + ToTokens>(alloc: Global, tokens: &TokenStream) -> Result<TokenStream, Error>
-    ensures { spec.Prints T.reads T.refuses T.promise T.print (toks tokens.now) result }
-{
-    let tree = read_all::<T>(alloc, tokens)?;
-    Ok(print_of(alloc, &tree)?)
-}
-
-/// Reads all of a list by a parser, and prints what it answers.
-fn reprint_with<P: Parser + Drop>(
-    alloc: Global,
-    parser: P,
-    tokens: &TokenStream,
-) -> Result<TokenStream, Error>
-where
-    P::Output: ToTokens,
-    requires { P.can_parse parser }
-    ensures { spec.Prints (P.reads parser) (P.refuses parser) (P.promise parser) P.Output.print (toks tokens.now) result }
-{
-    let tree = read_all_with(alloc, parser, tokens)?;
-    Ok(print_of(alloc, &tree)?)
-}
-
 /// Reads all of a list by a parser of attributes, and prints them.
 fn reprint_attributes<P: Parser<Output = Items<Attribute<Sample>>> + Drop>(
     alloc: Global,
@@ -506,52 +217,8 @@ fn reprint_attributes<P: Parser<Output = Items<Attribute<Sample>>> + Drop>(
     tokens: &TokenStream,
 ) -> Result<TokenStream, Error>
     requires { P.can_parse parser }
-    ensures { spec.Prints (P.reads parser) (P.refuses parser) (P.promise parser) spec.attributes (toks tokens.now) result }
+    ensures { readers.Prints (P.reads parser) (P.refuses parser) (P.promise parser) spec.attributes (toks tokens.now) result }
 {
     let attrs = read_all_with(alloc, parser, tokens)?;
     Ok(print_of(alloc, &attrs)?)
-}
-
-/// Reads all of a list as generics, and prints those of an implementation.
-fn reprint_impl_generics<A: Attributes, E: Value>(
-    alloc: Global,
-    tokens: &TokenStream,
-) -> Result<TokenStream, Error>
-    ensures { spec.Prints (Gives (alone.generics A.reads E.reads)) (Fails (alone.generics A.reads E.reads)) (Headline (promises.generics A.reads E.reads A.spells E.spells A.normal E.normal A.shown E.values)) (spec.impl_generics A.shown E.values) (toks tokens.now) result }
-{
-    let generics = read_all::<GenericsOf<A, E>>(alloc, tokens)?;
-    let (impl_generics, _, _) = generics.split_for_impl();
-    Ok(print_of(alloc, &impl_generics)?)
-}
-
-/// Reads all of a list as generics, and prints the names of the parameters.
-fn reprint_type_generics<A: Attributes, E: Value>(
-    alloc: Global,
-    tokens: &TokenStream,
-) -> Result<TokenStream, Error>
-    ensures { spec.Prints (Gives (alone.generics A.reads E.reads)) (Fails (alone.generics A.reads E.reads)) (Headline (promises.generics A.reads E.reads A.spells E.spells A.normal E.normal A.shown E.values)) views.names (toks tokens.now) result }
-{
-    let generics = read_all::<GenericsOf<A, E>>(alloc, tokens)?;
-    let (_, type_generics, _) = generics.split_for_impl();
-    Ok(print_of(alloc, &type_generics)?)
-}
-
-/// Reads all of a list as generics, and prints the names of the parameters after `::`.
-fn reprint_turbofish<A: Attributes, E: Value>(
-    alloc: Global,
-    tokens: &TokenStream,
-) -> Result<TokenStream, Error>
-    ensures { spec.Prints (Gives (alone.generics A.reads E.reads)) (Fails (alone.generics A.reads E.reads)) (Headline (promises.generics A.reads E.reads A.spells E.spells A.normal E.normal A.shown E.values)) views.turbofish (toks tokens.now) result }
-{
-    let generics = read_all::<GenericsOf<A, E>>(alloc, tokens)?;
-    let (_, type_generics, _) = generics.split_for_impl();
-    Ok(print_of(alloc, &type_generics.as_turbofish())?)
-}
-
-fn print_of<T: ToTokens>(alloc: Global, tree: &T) -> Result<TokenStream, AllocError>
-    ensures { IfOk result (λ s. trees s ≡ T.print tree.now) }
-{
-    let mut out = TokenStream::new(alloc);
-    tree.to_tokens(alloc, &mut out)?;
-    Ok(out)
 }

@@ -3,9 +3,10 @@
 //! A test calls and does not branch, as docs/GATE.md says.
 
 use crate::attr_tests::says;
-use crate::reader::{GenericsReader, PathReader, Reader, TypeReader};
+use crate::reader::Reader;
 use std::alloc::Global;
 use std::fmt::Write;
+use syn_readers::reader::{GenericsReader, PathReader, TypeReader};
 use token_core::Error;
 use token_text::{lex, text_of};
 

@@ -1,6 +1,6 @@
 use Rattle.std.proofs.Common.{◌≡◌, Err, rules, arith}
 use Rattle.std.proofs.lemmas.Grind.{common_steps}
-use Rattle.synmid.proofs.Whole.{shows-err}
+use Rattle.syn_readers.proofs.Whole.{shows-err}
 use Rattle.synmid.specs.Readers.{patterns_category}
 use Rattle.synmid.specs.declared.reader.PatternReader.TheVariants as r
 use Rattle.synmid.proofs.reader.PatternReader.print_next.Goals as goal

@@ -1,5 +1,6 @@
 use Rattle.token_core.specs.Trees.{toks}
-use Rattle.synmid.proofs.Whole.{shows-reprints, pattern-keeps, pattern-refuses}
+use Rattle.syn_readers.proofs.Whole.{shows-reprints}
+use Rattle.synmid.proofs.Whole.{pattern-keeps, pattern-refuses}
 use Rattle.synmid.specs.Readers.{patterns_category}
 use Rattle.synmid.proofs.reader.PatternReader.reprint_over.Goals as goal
 

@@ -1,5 +1,5 @@
 use Rattle.token_core.specs.Trees.{toks}
-use Rattle.synmid.proofs.Whole.{prints-reprints}
+use Rattle.syn_readers.proofs.Whole.{prints-reprints}
 use Rattle.synmid.specs.Readers.{category}
 use Rattle.synmid.specs.declared.reader.Reader.TheVariants as r
 use Rattle.synmid.proofs.reader.Reader.reprint.Goals as goal

@@ -1,8 +1,8 @@
 use Rattle.token_core.specs.Trees.{toks}
-use Rattle.synmid.proofs.Whole.{prints-reprints}
-use Rattle.synmid.specs.Readers.{paths_category}
-use Rattle.synmid.specs.declared.reader.PathReader.TheVariants as r
-use Rattle.synmid.proofs.reader.PathReader.reprint_over.Goals as goal
+use Rattle.syn_readers.proofs.Whole.{prints-reprints}
+use Rattle.syn_readers.specs.Readers.{paths_category}
+use Rattle.syn_readers.specs.declared.reader.PathReader.TheVariants as r
+use Rattle.syn_readers.proofs.reader.PathReader.reprint_over.Goals as goal
 
 pub returns-in-Whole : goal.returns-in-Whole
 returns-in-Whole g c =

@@ -1,8 +1,8 @@
 use Rattle.token_core.specs.Trees.{toks}
-use Rattle.synmid.proofs.Whole.{prints-reprints}
-use Rattle.synmid.specs.Readers.{types_category}
-use Rattle.synmid.specs.declared.reader.TypeReader.TheVariants as r
-use Rattle.synmid.proofs.reader.TypeReader.reprint_over.Goals as goal
+use Rattle.syn_readers.proofs.Whole.{prints-reprints}
+use Rattle.syn_readers.specs.Readers.{types_category}
+use Rattle.syn_readers.specs.declared.reader.TypeReader.TheVariants as r
+use Rattle.syn_readers.proofs.reader.TypeReader.reprint_over.Goals as goal
 
 pub returns-in-Any : goal.returns-in-Any
 returns-in-Any g c =

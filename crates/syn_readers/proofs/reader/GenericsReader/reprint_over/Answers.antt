@@ -1,8 +1,8 @@
 use Rattle.token_core.specs.Trees.{toks}
-use Rattle.synmid.proofs.Whole.{prints-reprints}
-use Rattle.synmid.specs.Readers.{generics_category}
-use Rattle.synmid.specs.declared.reader.GenericsReader.TheVariants as r
-use Rattle.synmid.proofs.reader.GenericsReader.reprint_over.Goals as goal
+use Rattle.syn_readers.proofs.Whole.{prints-reprints}
+use Rattle.syn_readers.specs.Readers.{generics_category}
+use Rattle.syn_readers.specs.declared.reader.GenericsReader.TheVariants as r
+use Rattle.syn_readers.proofs.reader.GenericsReader.reprint_over.Goals as goal
 
 pub returns-in-Param : goal.returns-in-Param
 returns-in-Param g c =

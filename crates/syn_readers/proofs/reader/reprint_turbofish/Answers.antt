@@ -5,10 +5,10 @@ use Rattle.token_core.specs.Reads.{Gives, Fails}
 use Rattle.token_core.specs.Trees.{toks}
 use Rattle.syn_generics.specs.declared.generics.GenericsOf.{GenericsOf}
 use Rattle.syn_generics.specs.generics.Alone as alone
+use Rattle.syn_generics.specs.generics.Views as views
 use Rattle.syn_generics.specs.generics.Promises as promises
-use Rattle.synmid.specs.Readers as spec
-use Rattle.synmid.proofs.Whole.{refused-prints}
-use Rattle.synmid.proofs.reader.reprint_impl_generics.Goals as goal
+use Rattle.syn_readers.proofs.Whole.{refused-prints}
+use Rattle.syn_readers.proofs.reader.reprint_turbofish.Goals as goal
 
 pub returns-in_err-generics : goal.returns-in_err-generics
 returns-in_err-generics g c =
@@ -17,4 +17,4 @@ returns-in_err-generics g c =
     let back : c.from_residual.result ≡ Err e = first_of (search rules, grind (arith, common_steps)) in
     refused-prints (Gives {A = GenericsOf g.row.A.Denot g.row.E.Denot} (alone.generics g.A.Attributes.reads g.E.Value.reads)) (Fails (alone.generics g.A.Attributes.reads g.E.Value.reads))
     (Headline (promises.generics {A = g.row.A.Denot} g.A.Attributes.reads g.E.Value.reads g.A.Attributes.spells g.E.Value.spells g.A.Attributes.normal g.E.Value.normal g.A.Attributes.shown g.E.Value.values))
-    (spec.impl_generics g.A.Attributes.shown g.E.Value.values) (toks c.args.tokens.now) c.read_all.result c.from_residual.result e was back c.read_all.ensures.reads c.read_all.ensures.promise
+    (views.turbofish {A = g.row.A.Denot} {E = g.row.E.Denot}) (toks c.args.tokens.now) c.read_all.result c.from_residual.result e was back c.read_all.ensures.reads c.read_all.ensures.promise

@@ -1,0 +1,4 @@
+//! Parsers of whole reads, but those of patterns.
+#![tactic(auto)]
+
+pub mod whole;
