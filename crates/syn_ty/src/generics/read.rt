@@ -689,20 +689,6 @@ impl<
             default,
         })
     }
-
-    /// `const N: T = 1`, after attributes.
-    #[tactic(auto, using(token_core::proofs::Suffixes::follows, syn_forms::proofs::nested_laws::Ahead::later), unfolding(crate::specs::generics::Reading::const_param))]
-    pub fn const_param(
-        &self,
-        input: &mut ParseStream<'_>,
-    ) -> Result<ConstParamOf<TypeOf<A, E>, A, E>, Error>
-        requires types { Nests (knot.ty A.reads E.reads) (length self.now.begin) (F.pre self.now.types) (F.post self.now.types) }
-        requires few { ahead input.old ≤ length self.now.begin }
-        ensures parses { Parses (reading.const_param A.reads E.reads (knot.reads_below A.reads E.reads (length self.now.begin))) result input.old input.new }
-    {
-        let attrs = A::read_outer(self.alloc, input)?;
-        self.const_after(input, attrs)
-    }
 }
 
 impl<

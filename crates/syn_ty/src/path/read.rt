@@ -380,21 +380,6 @@ impl<
         self.arguments_after(input, colon2_token)
     }
 
-    /// Arguments in angle brackets, after a `::`.
-    #[tactic(auto, using(token_core::proofs::Suffixes::follows, syn_forms::proofs::nested_laws::Ahead::later), unfolding(crate::specs::path::Reading::turbofish))]
-    pub fn turbofish(
-        &self,
-        input: &mut ParseStream<'_>,
-    ) -> Result<AngleBracketedGenericArgumentsOf<GenericArgumentOf<A, E>>, Error>
-        requires args { Nests (knot.argument_in A.reads E.reads) (length self.now.begin) (I.pre self.now.args) (I.post self.now.args) }
-        requires few { ahead input.old ≤ length self.now.begin }
-        ensures parses { Parses (reading.turbofish (knot.reads_below A.reads E.reads (length self.now.begin))) result input.old input.new }
-        ensures fewer { ahead input.new ≤ ahead input.old }
-    {
-        let sep = input.parse::<PathSep>(self.alloc)?;
-        self.arguments_after(input, Some(sep))
-    }
-
     /// One turn: the arguments of a segment, in angle brackets.
     #[tactic(auto, using(token_core::proofs::Suffixes::follows), unfolding(crate::specs::path::Reading::arguments_step))]
     pub fn arguments_step(
@@ -426,21 +411,6 @@ impl<
         + Copy,
 > Grammar<'a, A, E, F, G, H, I, J> {
     // ---- paths
-
-    /// A segment of a path, in this style.
-    #[tactic(auto, using(token_core::proofs::Suffixes::follows, syn_forms::proofs::nested_laws::Ahead::later))]
-    pub fn segment(
-        &self,
-        input: &mut ParseStream<'_>,
-        style: PathStyle,
-    ) -> Result<PathSegmentOf<PathArgumentsOf<A, E>>, Error>
-        requires segments { Nests (knot.arguments_in A.reads E.reads) (length self.now.begin) (J.pre self.now.segments) (J.post self.now.segments) }
-        requires few { ahead input.old ≤ length self.now.begin }
-        ensures parses { Parses (reading.segment (knot.reads_below A.reads E.reads (length self.now.begin)) style) result input.old input.new }
-        ensures fewer { ahead input.new ≤ ahead input.old }
-    {
-        self.segments().segment(input, style)
-    }
 
     /// A path, in this style.
     #[tactic(auto, using(token_core::proofs::Suffixes::follows, syn_forms::proofs::nested_laws::Ahead::later))]
