@@ -894,6 +894,21 @@ fn trait_after_from<A: Attributes, E: Value>(
     trait_of(alloc, input, lifetimes, maybe, path)
 }
 
+/// A trait bound.
+#[tactic(auto, using(token_core::proofs::Suffixes::follows, syn_forms::proofs::nested_laws::Ahead::later), unfolding(crate::specs::generics::Reading::trait_bound))]
+fn trait_bound_from<A: Attributes, E: Value>(
+    alloc: Global,
+    begin: &Cursor<'_>,
+    input: &mut ParseStream<'_>,
+) -> Result<TraitBoundOf<A, E>, Error>
+    requires few { ahead input.old ≤ length begin.now }
+    ensures parses { Parses (reading.trait_bound (knot.reads_below A.reads E.reads (length begin.now))) result input.old input.new }
+{
+    let lifetimes = optional_binder_from::<A, E>(alloc, begin, input)?;
+    no_const_form(alloc, input)?;
+    trait_after_from(alloc, begin, input, lifetimes)
+}
+
 /// A type parameter after its attributes.
 #[tactic(auto, using(token_core::proofs::Suffixes::follows))]
 fn type_after_from<A: Attributes, E: Value>(
@@ -947,7 +962,7 @@ fn parse_optional_binder<A: Attributes, E: Value>(
 }
 
 /// A trait bound by itself.
-#[tactic(auto, using(token_core::proofs::Suffixes::follows, syn_forms::proofs::nested_laws::Ahead::later), unfolding(crate::specs::ty::Knot::trait_bound, crate::specs::generics::Reading::trait_bound))]
+#[tactic(auto, unfolding(crate::specs::ty::Knot::trait_bound))]
 fn parse_trait_bound<A: Attributes, E: Value>(
     alloc: Global,
     input: &mut ParseStream<'_>,
@@ -955,9 +970,7 @@ fn parse_trait_bound<A: Attributes, E: Value>(
     ensures parses { Parses (knot.trait_bound A.reads E.reads) result input.old input.new }
 {
     let begin = input.cursor();
-    let lifetimes = optional_binder_from::<A, E>(alloc, &begin, input)?;
-    no_const_form(alloc, input)?;
-    trait_after_from(alloc, &begin, input, lifetimes)
+    trait_bound_from::<A, E>(alloc, &begin, input)
 }
 
 /// A type parameter by itself.

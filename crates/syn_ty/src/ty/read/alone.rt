@@ -70,8 +70,22 @@ fn fn_ptr_after_from<A: Attributes, E: Value>(
     .fn_ptr_after(input, lifetimes)
 }
 
+/// A pointer to a function, from a position on.
+#[tactic(auto, using(token_core::proofs::Suffixes::follows, syn_forms::proofs::nested_laws::Ahead::later), unfolding(crate::specs::ty::Reading::fn_ptr))]
+fn fn_ptr_from<A: Attributes, E: Value>(
+    alloc: Global,
+    begin: &Cursor<'_>,
+    input: &mut ParseStream<'_>,
+) -> Result<TypeFnPtrOf<A, E>, Error>
+    requires few { ahead input.old ≤ length begin.now }
+    ensures parses { Parses (reading.fn_ptr A.reads E.reads (knot.reads_below A.reads E.reads (length begin.now))) result input.old input.new }
+{
+    let lifetimes = optional_binder_from::<A, E>(alloc, begin, input)?;
+    fn_ptr_after_from::<A, E>(alloc, begin, input, lifetimes)
+}
+
 /// `for<'a> unsafe extern "C" fn(a: A, ...) -> B`
-#[tactic(auto, using(token_core::proofs::Suffixes::follows, syn_forms::proofs::nested_laws::Ahead::later), unfolding(crate::specs::ty::Knot::fn_ptr, crate::specs::ty::Reading::fn_ptr))]
+#[tactic(auto, unfolding(crate::specs::ty::Knot::fn_ptr))]
 pub(crate) fn parse_fn_ptr<A: Attributes, E: Value>(
     alloc: Global,
     input: &mut ParseStream<'_>,
@@ -79,8 +93,7 @@ pub(crate) fn parse_fn_ptr<A: Attributes, E: Value>(
     ensures parses { Parses (knot.fn_ptr A.reads E.reads) result input.old input.new }
 {
     let begin = input.cursor();
-    let lifetimes = optional_binder_from::<A, E>(alloc, &begin, input)?;
-    fn_ptr_after_from::<A, E>(alloc, &begin, input, lifetimes)
+    fn_ptr_from::<A, E>(alloc, &begin, input)
 }
 
 /// A type in an invisible group.
