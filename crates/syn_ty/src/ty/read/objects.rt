@@ -102,27 +102,6 @@ impl<
         self.bounds().value(input, BoundPlace::Object)
     }
 
-    /// The bounds of a trait object after the first: several where a `+` may follow.
-    #[tactic(auto, using(token_core::proofs::Suffixes::follows, syn_forms::proofs::nested_laws::Ahead::later))]
-    pub(crate) fn more_bounds(
-        &self,
-        input: &mut ParseStream<'_>,
-        plus: bool,
-        first: TypeParamBoundOf<A, E>,
-    ) -> Result<Punctuated<TypeParamBoundOf<A, E>, Plus>, Error>
-        requires bounds { Nests (knot.bound A.reads E.reads) (length self.now.begin) (G.pre self.now.bounds) (G.post self.now.bounds) }
-        requires few { ahead input.old ≤ length self.now.begin }
-        ensures parses { Parses (bounds_from (knot.reads_below A.reads E.reads (length self.now.begin) (a_bound Object)) false plus first) result input.old input.new }
-        ensures fewer { ahead input.new ≤ ahead input.old }
-    {
-        let end = Bounds {
-            consts: false,
-            plus,
-        };
-        self.bounds()
-            .list_from(input, BoundPlace::Object, end, first)
-    }
-
     /// The bounds of a trait object after the first, of which one has to be a trait: else they are refused from its start on.
     #[tactic(auto, using(token_core::proofs::Suffixes::follows, syn_forms::proofs::nested_laws::Ahead::later), unfolding(crate::specs::ty::Reading::object_bounds))]
     pub(crate) fn object_bounds(
@@ -137,7 +116,13 @@ impl<
         ensures parses { Parses (reading.object_bounds (knot.reads_below A.reads E.reads (length self.now.begin)) from plus first) result input.old input.new }
         ensures fewer { ahead input.new ≤ ahead input.old }
     {
-        let bounds = self.more_bounds(input, plus, first)?;
+        let end = Bounds {
+            consts: false,
+            plus,
+        };
+        let bounds = self
+            .bounds()
+            .list_from(input, BoundPlace::Object, end, first)?;
         needs_trait(
             self.alloc,
             input,
@@ -185,24 +170,8 @@ impl<
         dyn_of(self.alloc, input, &at, dyn_token, star, bounds)
     }
 
-    /// The bounds after `impl`.
-    #[tactic(auto, using(token_core::proofs::Suffixes::follows, syn_forms::proofs::nested_laws::Ahead::later), unfolding(crate::specs::ty::Reading::opaque_bounds))]
-    fn opaque_bounds(
-        &self,
-        input: &mut ParseStream<'_>,
-        plus: bool,
-    ) -> Result<Punctuated<TypeParamBoundOf<A, E>, Plus>, Error>
-        requires bounds { Nests (knot.bound A.reads E.reads) (length self.now.begin) (G.pre self.now.bounds) (G.post self.now.bounds) }
-        requires few { ahead input.old < length self.now.begin }
-        ensures parses { Parses (reading.opaque_bounds (knot.reads_below A.reads E.reads (length self.now.begin)) plus) result input.old input.new }
-        ensures fewer { ahead input.new ≤ ahead input.old }
-    {
-        let end = Bounds { consts: true, plus };
-        self.bounds().list(input, BoundPlace::Opaque, end)
-    }
-
     /// The bounds after `impl`, of which one has to name a trait: else they are refused from `impl` on.
-    #[tactic(auto, using(token_core::proofs::Suffixes::follows, syn_forms::proofs::nested_laws::Ahead::later), unfolding(crate::specs::ty::Reading::impl_bounds))]
+    #[tactic(auto, using(token_core::proofs::Suffixes::follows, syn_forms::proofs::nested_laws::Ahead::later), unfolding(crate::specs::ty::Reading::impl_bounds, crate::specs::ty::Reading::opaque_bounds))]
     fn impl_bounds(
         &self,
         input: &mut ParseStream<'_>,
@@ -214,7 +183,8 @@ impl<
         ensures parses { Parses (reading.impl_bounds (knot.reads_below A.reads E.reads (length self.now.begin)) from plus) result input.old input.new }
         ensures fewer { ahead input.new ≤ ahead input.old }
     {
-        let bounds = self.opaque_bounds(input, plus)?;
+        let end = Bounds { consts: true, plus };
+        let bounds = self.bounds().list(input, BoundPlace::Opaque, end)?;
         needs_trait(
             self.alloc,
             input,
