@@ -102,6 +102,27 @@ impl<
         self.bounds().value(input, BoundPlace::Object)
     }
 
+    /// The bounds of a trait object after the first: several where a `+` may follow.
+    #[tactic(auto, using(token_core::proofs::Suffixes::follows, syn_forms::proofs::nested_laws::Ahead::later))]
+    pub(crate) fn more_bounds(
+        &self,
+        input: &mut ParseStream<'_>,
+        plus: bool,
+        first: TypeParamBoundOf<A, E>,
+    ) -> Result<Punctuated<TypeParamBoundOf<A, E>, Plus>, Error>
+        requires bounds { Nests (knot.bound A.reads E.reads) (length self.now.begin) (G.pre self.now.bounds) (G.post self.now.bounds) }
+        requires few { ahead input.old ≤ length self.now.begin }
+        ensures parses { Parses (bounds_from (knot.reads_below A.reads E.reads (length self.now.begin) (a_bound Object)) false plus first) result input.old input.new }
+        ensures fewer { ahead input.new ≤ ahead input.old }
+    {
+        let end = Bounds {
+            consts: false,
+            plus,
+        };
+        self.bounds()
+            .list_from(input, BoundPlace::Object, end, first)
+    }
+
     /// The bounds of a trait object after the first, of which one has to be a trait: else they are refused from its start on.
     #[tactic(auto, using(token_core::proofs::Suffixes::follows, syn_forms::proofs::nested_laws::Ahead::later), unfolding(crate::specs::ty::Reading::object_bounds))]
     pub(crate) fn object_bounds(
@@ -116,13 +137,7 @@ impl<
         ensures parses { Parses (reading.object_bounds (knot.reads_below A.reads E.reads (length self.now.begin)) from plus first) result input.old input.new }
         ensures fewer { ahead input.new ≤ ahead input.old }
     {
-        let end = Bounds {
-            consts: false,
-            plus,
-        };
-        let bounds = self
-            .bounds()
-            .list_from(input, BoundPlace::Object, end, first)?;
+        let bounds = self.more_bounds(input, plus, first)?;
         needs_trait(
             self.alloc,
             input,
