@@ -597,6 +597,19 @@ impl<
     I,
     J,
 > Grammar<'a, A, E, F, G, H, I, J> {
+    /// Bounds up to `,` or `>`. There may be none.
+    fn constraint_bounds(
+        &self,
+        input: &mut ParseStream<'_>,
+    ) -> Result<Punctuated<TypeParamBoundOf<A, E>, Plus>, Error>
+        requires bounds { Nests (knot.bound A.reads E.reads) (length self.now.begin) (G.pre self.now.bounds) (G.post self.now.bounds) }
+        requires few { ahead input.old < length self.now.begin }
+        ensures parses { Parses (bounds_to (knot.reads_below A.reads E.reads (length self.now.begin) (a_bound bound_places.Parameter)) reading.ends_constraint) result input.old input.new }
+    {
+        self.bounds()
+            .list(input, BoundPlace::Parameter, ToConstraintEnd)
+    }
+
     /// The bounds of an associated type, after the `:`: `Item: A + B`. There may be none.
     #[tactic(auto, using(token_core::proofs::Suffixes::follows))]
     fn constraint(
@@ -609,9 +622,7 @@ impl<
         requires few { ahead input.old < length self.now.begin }
         ensures parses { Parses (reading.constraint E.reads (knot.reads_below A.reads E.reads (length self.now.begin)) item.0 item.1 colon_token) result input.old input.new }
     {
-        let bounds = self
-            .bounds()
-            .list(input, BoundPlace::Parameter, ToConstraintEnd)?;
+        let bounds = self.constraint_bounds(input)?;
         Ok(constraint_of(item, colon_token, bounds))
     }
 }

@@ -185,8 +185,24 @@ impl<
         dyn_of(self.alloc, input, &at, dyn_token, star, bounds)
     }
 
+    /// The bounds after `impl`.
+    #[tactic(auto, using(token_core::proofs::Suffixes::follows, syn_forms::proofs::nested_laws::Ahead::later), unfolding(crate::specs::ty::Reading::opaque_bounds))]
+    fn opaque_bounds(
+        &self,
+        input: &mut ParseStream<'_>,
+        plus: bool,
+    ) -> Result<Punctuated<TypeParamBoundOf<A, E>, Plus>, Error>
+        requires bounds { Nests (knot.bound A.reads E.reads) (length self.now.begin) (G.pre self.now.bounds) (G.post self.now.bounds) }
+        requires few { ahead input.old < length self.now.begin }
+        ensures parses { Parses (reading.opaque_bounds (knot.reads_below A.reads E.reads (length self.now.begin)) plus) result input.old input.new }
+        ensures fewer { ahead input.new ≤ ahead input.old }
+    {
+        let end = Bounds { consts: true, plus };
+        self.bounds().list(input, BoundPlace::Opaque, end)
+    }
+
     /// The bounds after `impl`, of which one has to name a trait: else they are refused from `impl` on.
-    #[tactic(auto, using(token_core::proofs::Suffixes::follows, syn_forms::proofs::nested_laws::Ahead::later), unfolding(crate::specs::ty::Reading::impl_bounds, crate::specs::ty::Reading::opaque_bounds))]
+    #[tactic(auto, using(token_core::proofs::Suffixes::follows, syn_forms::proofs::nested_laws::Ahead::later), unfolding(crate::specs::ty::Reading::impl_bounds))]
     fn impl_bounds(
         &self,
         input: &mut ParseStream<'_>,
@@ -198,8 +214,7 @@ impl<
         ensures parses { Parses (reading.impl_bounds (knot.reads_below A.reads E.reads (length self.now.begin)) from plus) result input.old input.new }
         ensures fewer { ahead input.new ≤ ahead input.old }
     {
-        let end = Bounds { consts: true, plus };
-        let bounds = self.bounds().list(input, BoundPlace::Opaque, end)?;
+        let bounds = self.opaque_bounds(input, plus)?;
         needs_trait(
             self.alloc,
             input,
