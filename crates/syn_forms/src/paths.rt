@@ -17,8 +17,8 @@ use std::marker::PhantomData;
 use syn_path::path::{
     Arguments, PathOf, PathSegmentOf, PathStyle, QSelfOf, parse_leading, peek_angle,
 };
-use token_core::token::{As, Crate, Lt, Paren, PathSep, SelfType, SelfValue, Super, Try};
-use token_core::{Error, Ident, ParseStream, Punctuated};
+use token_core::token::{As, Crate, Gt, Lt, Paren, PathSep, SelfType, SelfValue, Super, Try};
+use token_core::{Boxed, Error, Ident, ParseStream, Punctuated};
 
 // ---- tests
 
@@ -275,7 +275,7 @@ impl<
     /// Its position is the number of segments between `as` and `>`. Where there is no `as` it is 0, and the `::` after `>` is the
     /// path's leading colon. The segments after `>` don't stop before parentheses. It is refused where one of `<`, the type,
     /// the path behind `as`, `>`, `::` and a segment isn't there. This is syn's `path::parsing::qpath` at a `<`.
-    #[tactic(auto, using(token_core::proofs::Suffixes::follows, crate::proofs::nested_laws::Ahead::later, crate::proofs::lists_laws::Turns::none_yet, crate::proofs::paths_laws::Longer::behind_paths), unfolding(crate::specs::paths::Reading::qualified))]
+    #[tactic(auto, using(token_core::proofs::Suffixes::follows, crate::proofs::nested_laws::Ahead::later), unfolding(crate::specs::paths::Reading::qualified))]
     pub fn qualified<
         P: Copy,
         T: Tree<P>,
@@ -299,6 +299,23 @@ impl<
         let trait_path = self.as_path(input)?;
         let gt_token = parse_gt(self.alloc, input)?;
         let sep = parse_path_sep(self.alloc, input)?;
+        self.qualified_by(input, style, (lt_token, ty, trait_path, gt_token, sep))
+    }
+
+    /// The segments behind `<`, a type, a path behind an `as` that may be there, `>` and `::`.
+    #[tactic(auto, using(token_core::proofs::Suffixes::follows, crate::proofs::lists_laws::Turns::none_yet, crate::proofs::paths_laws::Longer::behind_paths))]
+    fn qualified_by<T: Drop>(
+        &self,
+        input: &mut ParseStream<'_>,
+        style: PathStyle,
+        before: (Lt, Boxed<T>, Option<(As, PathOf<G>)>, Gt, PathSep),
+    ) -> Result<(QSelfOf<T>, PathOf<G>), Error>
+        requires nests { Nests G.read (length self.now.begin) (F.pre self.now.read) (F.post self.now.read) }
+        requires few { ahead input.old ≤ length self.now.begin }
+        requires ended { IfSome before.2 (λ a. length a.1.segments.0 ≡ length a.1.segments.1 + 1) }
+        ensures parses { Parses (λ s. and_then (reading.segments G.absent (below.held G.read (length self.now.begin) tt) sees_sep style s) (λ all. pure (reading.qualified_of before.0 before.1 before.2 before.3 before.4 all))) result input.old input.new }
+    {
+        let (lt_token, ty, trait_path, gt_token, sep) = before;
         match trait_path {
             None => {
                 let segments = self.segments_after(

@@ -138,15 +138,3 @@ pub fn read_bound<A: Attributes, E: Value>(
 {
     <TypeParamBoundOf<A, E> as Held<BoundPlace>>::parse_held(alloc, of, input, place)
 }
-
-/// The arguments of a segment.
-pub fn read_arguments<A: Attributes, E: Value>(
-    alloc: Global,
-    of: PhantomData<PathArgumentsOf<A, E>>,
-    input: &mut ParseStream<'_>,
-    place: (),
-) -> Result<PathArgumentsOf<A, E>, Error>
-    ensures parses { Parses (knot.arguments_in A.reads E.reads place) result input.old input.new }
-{
-    <PathArgumentsOf<A, E> as Held<()>>::parse_held(alloc, of, input, place)
-}

@@ -1,20 +1,19 @@
 -- Segments after those that were found.
 use Rattle.std.specs.Prelude.{IsTrue, ◌↔◌, nat_eq}
-use Rattle.std.proofs.Common.{◌≡◌, ℕ, Bool, true, false, List, [], ◌∷◌, ◌++◌, length, Some, Ok, Err, refl, sym, ◌∙◌, ap, append_assoc}
+use Rattle.std.proofs.Common.{◌≡◌, ℕ, Bool, true, false, List, [], ◌∷◌, ◌++◌, length, Option, Some, Ok, Err, refl, sym, ◌∙◌, ap, append_assoc}
 use Rattle.std.proofs.lemmas.Bool.{eq-eqb, eqb-true}
 use Rattle.token_core.specs.Loops.{Many, after, onto}
 use Rattle.token_core.specs.Reads.{Outcome, Reader, and_then, pure}
 use Rattle.token_core.specs.Refusal.{Refusal}
 use Rattle.token_core.specs.Stream.{Stream}
 use Rattle.token_core.specs.Tokens as token
-use Rattle.token_core.proofs.Steps.{link}
 use Rattle.token_core.proofs.Turns.{same_pair}
 use Rattle.syn_path.specs.declared.path.PathOf.{PathOf}
 use Rattle.syn_path.specs.declared.path.PathSegmentOf.{PathSegmentOf}
 use Rattle.syn_path.specs.declared.path.PathStyle.{PathStyle}
 use Rattle.syn_path.specs.path.Paths.{Sep, path_of}
 use Rattle.syn_path.specs.path.Reading.{sees_sep, sep}
-use Rattle.syn_forms.specs.paths.Reading.{as_path, longer, qself_of, qualified, segments}
+use Rattle.syn_forms.specs.paths.Reading.{longer, qself_of, qualified_of, segments}
 
 -- what is made of the values and marks that were found, a mark, and those that follow
 pub after_as : {A P B : Type 0} (f : Many A P → B) (xs : List A) (ps : List P) (c : P) (o : Outcome (Many A P)) (w : Many A P) (t : Stream) → after (xs, ps ++ c ∷ []) o ≡ Ok (w, t) →
@@ -45,12 +44,11 @@ beside_refused y f (Ok q) e h = cc
 beside_refused y f (Err r) e h = cc
 
 -- no segment behind a type and the path after its `as`
-pub qualified_refused : {T G : Type 0} (typ : Reader T) (none : G) (arguments : Reader G) (style : PathStyle) (s a b d f g : Stream) (l : token.Lt) (x : T) (w : token.As) (p : PathOf G) (k : token.Gt) (c : Sep) (e : Refusal) →
-    token.lt s ≡ Ok (l, a) → typ a ≡ Ok (x, b) → as_path none arguments b ≡ Ok (Some (w, p), d) → token.gt d ≡ Ok (k, f) → sep f ≡ Ok (c, g) →
-    and_then (segments none arguments sees_sep style g) (λ all. pure (longer p c all)) ≡ Err e → qualified typ none arguments style s ≡ Err e
-unfolding qualified
-qualified_refused typ none arguments style s a b d f g l x w p k c e hl hx hw hk hc h =
-    link _ hl (link _ hx (link _ hw (link _ hk (link _ hc (beside_refused (qself_of l x (length p.segments.0) (Some w) k) (longer p c) (segments none arguments sees_sep style g) e h)))))
+pub behind_refused : {T G : Type 0} (none : G) (arguments : Reader G) (style : PathStyle) (s : Stream) (l : token.Lt) (x : T) (a : Option (token.As × PathOf G)) (w : token.As) (p : PathOf G) (k : token.Gt) (c : Sep) (e : Refusal) →
+    a ≡ Some (w, p) → and_then (segments none arguments sees_sep style s) (λ all. pure (longer p c all)) ≡ Err e → and_then (segments none arguments sees_sep style s) (λ all. pure (qualified_of l x a k c all)) ≡ Err e
+behind_refused none arguments style s l x a w p k c e q h =
+    ap (λ z. and_then (segments none arguments sees_sep style s) (λ all. pure (qualified_of l x z k c all))) q
+    ∙ beside_refused (qself_of l x (length p.segments.0) (Some w) k) (longer p c) (segments none arguments sees_sep style s) e h
 
 pub ruleset behind_paths = (beside_read)
 

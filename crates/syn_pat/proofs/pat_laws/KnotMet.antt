@@ -19,7 +19,7 @@ use Rattle.syn_ty.proofs.ty_laws.Met.{Less}
 use Rattle.syn_pat.specs.declared.place.PatPlace.{PatPlace}
 use Rattle.syn_pat.specs.declared.place.PatPlace.TheVariants.{Single, LeadingVert}
 use Rattle.syn_pat.specs.pat.Admitted.{IsPat}
-use Rattle.syn_pat.specs.pat.Knot.{guard_after, guarded, pat, pats_below, typed}
+use Rattle.syn_pat.specs.pat.Knot.{guard_after, guarded, pat, pats_below, typed, typed_over}
 use Rattle.syn_pat.specs.pat.Pats.{Pat, PatType}
 use Rattle.syn_pat.specs.pat.Spelt.{SpellsGuarded, without_guard, with_guard, SpellsPat, SpellsPatType, a_pat_type, pats_to}
 use Rattle.syn_pat.proofs.pat_laws.CasesMet.{turn_met}
@@ -99,7 +99,7 @@ module _ {X : Type 0} (supplied : Place → Reader X) (spells : Place → X → 
   -- ---- with a type
 
   pub typed_complete : (s : Stream) (x : PatType X) → s.left ≡ None → SpellsPatType spells clearly x s.rest → Whole (typed supplied) x s
-  unfolding typed
+  unfolding typed_over
   typed_complete s x n (a_pat_type {x = y} {c = c} {t = t} {m = m} {j = j} h z d i q v) =
       let w = pat_met h Single y s.rest m s.left s.last s.scope i (single_in m (at_colon c m j q)) in
       let a = mark_complete true {n = 7} {k = 1} refl (omega arith) c m j s.left w.last s.scope q in

@@ -29,7 +29,7 @@ use Rattle.syn_pat.specs.declared.pat.PatOf.TheVariants as pats
 use Rattle.syn_pat.specs.declared.place.PatPlace.{PatPlace}
 use Rattle.syn_pat.specs.declared.place.PatPlace.TheVariants.{Single, LeadingVert}
 use Rattle.syn_pat.specs.pat.Knot as knot
-use Rattle.syn_pat.specs.pat.Knot.{guard_after, guarded, pat, read_at, typed}
+use Rattle.syn_pat.specs.pat.Knot.{guard_after, guarded, pat, read_at, typed, typed_over}
 use Rattle.syn_pat.specs.pat.Fronts as fronts
 use Rattle.syn_pat.specs.pat.Fronts.{IsSomePat, some_pat_type}
 use Rattle.syn_pat.specs.pat.Pats.{Pat, PatType, guard_of, typed_of}
@@ -123,7 +123,7 @@ module _ {X : Type 0} (supplied : Place → Reader X) (spells : Place → X → 
 
   -- on the front of a list
   pub typed_took : (s t : Stream) (x : PatType X) → Visible s.rest → typed supplied s ≡ Ok (x, t) → TookOne (fronts.typed spells) s t x
-  unfolding typed
+  unfolding typed_over
   typed_took s t x v d =
       let c = chain (pat supplied (type_names supplied) Single s) _ x t d in
       let k = pat_took Single s c.rest c.value v c.was in

@@ -7,6 +7,7 @@ use Rattle.syn_attr.specs.declared.expr.Expr.TheVariants as e
 use Rattle.syn_forms.specs.declared.places.TypePlace.TheVariants.{Plus}
 use Rattle.syn_forms.specs.nested.Below.{ahead, below, held}
 use Rattle.syn_pat.specs.declared.pat.PatOf.TheVariants as v
+use Rattle.syn_pat.specs.declared.pat.PatTypeOf.{PatTypeOf}
 use Rattle.syn_pat.specs.declared.place.PatPlace.TheVariants.{LeadingVert, Single}
 use Rattle.syn_pat.specs.pat.Pats.{PatOver, PatType, guard_of, typed_of}
 use Rattle.syn_pat.specs.pat.Reading.{Named, ReadersOver, pat_step, type_names, values}
@@ -44,6 +45,14 @@ module _ {X G Q T : Type 0} (supplied : Place → Reader X) (names : Named G Q) 
   unfoldable pub guarded : Reader (PatOver X G Q T)
   guarded = pat LeadingVert >>= guard_after
 
+  -- with its type
+  unfoldable pub typed_over : Reader T → Reader (PatTypeOf (PatOver X G Q T) (Attr X) T)
+  typed_over kind = do
+    x ← pat Single
+    c ← token.colon
+    t ← kind
+    pure (typed_of [] x c t)
+
 -- ---- over the types that are read with a supplied subtree
 
 module _ {X : Type 0} (supplied : Place → Reader X) where
@@ -51,9 +60,5 @@ module _ {X : Type 0} (supplied : Place → Reader X) where
   abbrev pub ty : Reader (TypeTree (Attr X) (Expr X))
   ty = types.ty (outer supplied) (values supplied) Plus
 
-  unfoldable pub typed : Reader (PatType X)
-  typed = do
-    x ← pat supplied (type_names supplied) Single
-    c ← token.colon
-    t ← ty
-    pure (typed_of [] x c t)
+  abbrev pub typed : Reader (PatType X)
+  typed = typed_over supplied (type_names supplied) ty

@@ -9,6 +9,7 @@ pub mod step;
 pub mod tokens;
 
 ghost use Rattle.syn_path.specs.Took.{Takes};
+ghost use Rattle.syn_forms.specs.declared.places.TypePlace.TheVariants.{Plus};
 ghost use Rattle.syn_pat.specs.declared.place.PatPlace.TheVariants.{LeadingVert, Multi, Single};
 ghost use Rattle.syn_pat.specs.pat.Fronts as fronts;
 ghost use Rattle.syn_pat.specs.pat.Knot as knot;
@@ -19,11 +20,13 @@ ghost use Rattle.token_core.specs.Reads.{Fails, Follows, Gives, Parses, Reads};
 
 use crate::knot::parse_pat;
 use crate::names::Qualifier;
-use crate::pat::{Pat, PatGuardOf, PatOf, PatOver, PatType, PatTypeOf};
+use crate::pat::{Pat, PatGuardOf, PatOf, PatOver, PatType, PatTypeOf, TypedOver};
 use crate::place::PatPlace;
 use std::alloc::Global;
 use std::marker::PhantomData;
 use syn_attr::expr::Expr;
+use syn_forms::nested::Held;
+use syn_forms::places::TypePlace;
 use syn_names::{PathArguments, QSelf, Type};
 use syn_path::path::Arguments;
 use syn_path::supplied::{Place, Subtree};
@@ -139,19 +142,17 @@ fn parse_guarded<X: Subtree, G: Arguments, Q: Qualifier<G>, T: Drop>(
 }
 
 /// A pattern with its type.
-#[tactic(auto, using(token_core::proofs::Suffixes::follows), unfolding(crate::specs::pat::Knot::typed))]
-fn parse_typed<X: Subtree>(alloc: Global, input: &mut ParseStream<'_>) -> Result<PatType<X>, Error>
-    ensures parses { Parses (knot.typed X.reads) result input.old input.new }
+#[tactic(auto, using(token_core::proofs::Suffixes::follows), unfolding(crate::specs::pat::Knot::typed_over))]
+fn parse_typed<X: Subtree, G: Arguments, Q: Qualifier<G>, T: Held<TypePlace>>(
+    alloc: Global,
+    input: &mut ParseStream<'_>,
+) -> Result<TypedOver<X, G, Q, T>, Error>
+    ensures parses { Parses (knot.typed_over X.reads (named Q.reads G.is_absent) (T.read Plus)) result input.old input.new }
 {
-    let pat = parse_pat::<X, PathArguments<X>, QSelf<X>, Type<X>>(
-        alloc,
-        PhantomData,
-        input,
-        PatPlace::Single,
-    )?;
+    let pat = parse_pat::<X, G, Q, T>(alloc, PhantomData, input, PatPlace::Single)?;
     let pat = Boxed::new(alloc, pat)?;
     let colon_token = input.parse::<Colon>(alloc)?;
-    let ty = input.parse::<Type<X>>(alloc)?;
+    let ty = T::parse_held(alloc, PhantomData, input, TypePlace::Plus)?;
     Ok(PatTypeOf {
         attrs: Items::new(alloc),
         pat,
@@ -180,6 +181,6 @@ impl<X: Subtree> Parse for PatType<X> {
         ensures promise { Heads (promises.typed X.reads X.spells X.normal X.prints) input.old result input.new }
         ensures front { Takes (fronts.typed X.spells) input.old result input.new }
     {
-        parse_typed(alloc, input)
+        parse_typed::<X, PathArguments<X>, QSelf<X>, Type<X>>(alloc, input)
     }
 }

@@ -29,7 +29,7 @@ use crate::generics::{
     BoundLifetimesOf, CapturedParam, ConstParamOf, GenericParamOf, LifetimeParamOf, PreciseCapture,
     TraitBoundModifiers, TraitBoundOf, TypeParamBoundOf, TypeParamOf,
 };
-use crate::grammar::{Grammar, read_type};
+use crate::grammar::Grammar;
 use crate::path::PathArgumentsOf;
 use crate::path::read::{path_from, signed_from};
 use crate::ty::TypeOf;
@@ -247,6 +247,29 @@ pub(crate) fn held_bound<A, E>(paren_token: Paren, bound: TraitBoundOf<A, E>) ->
     TraitBoundOf {
         paren_token: Some(paren_token),
         ..bound
+    }
+}
+
+/// A trait by what was read of it. A binder and a `?` refuse each other, at the `?`.
+#[tactic(auto, using(crate::proofs::generics_laws::Traits::traits))]
+fn trait_of<A: Attributes, E: Value>(
+    alloc: Global,
+    input: &ParseStream<'_>,
+    lifetimes: Option<BoundLifetimesOf<GenericParamOf<A, E>>>,
+    maybe: Option<Question>,
+    path: PathOf<PathArgumentsOf<A, E>>,
+) -> Result<TraitBoundOf<A, E>, Error>
+    ensures reads { Reads (reading.trait_of lifetimes maybe path input.now) result input.now }
+{
+    match maybe {
+        None => Ok(named_bound(lifetimes, None, path)),
+        Some(question) => {
+            if lifetimes.is_some() {
+                let at = question.spans[0];
+                return Err(refuse_at(alloc, ErrorKind::BinderWithQuestion, at));
+            }
+            Ok(named_bound(None, Some(question), path))
+        }
     }
 }
 
@@ -485,7 +508,7 @@ impl<
 > Grammar<'a, A, E, F, G, H, I, J> {
     /// A trait bound after its first binder and a `const` form: `?`, a binder behind it, a path in the style of types and its
     /// signature. A binder and a `?` refuse each other, at the `?`, once the path is read.
-    #[tactic(auto, using(token_core::proofs::Suffixes::follows, syn_forms::proofs::nested_laws::Ahead::later, crate::proofs::generics_laws::Traits::traits), unfolding(crate::specs::generics::Reading::trait_after))]
+    #[tactic(auto, using(token_core::proofs::Suffixes::follows, syn_forms::proofs::nested_laws::Ahead::later), unfolding(crate::specs::generics::Reading::trait_after))]
     fn trait_after(
         &self,
         input: &mut ParseStream<'_>,
@@ -501,16 +524,7 @@ impl<
         let lifetimes = self.binder_after(input, lifetimes, &maybe)?;
         let path = self.path(input, PathStyle::AsWritten)?;
         let path = self.signed(input, path)?;
-        match maybe {
-            None => Ok(named_bound(lifetimes, None, path)),
-            Some(question) => {
-                if lifetimes.is_some() {
-                    let at = question.spans[0];
-                    return Err(refuse_at(self.alloc, ErrorKind::BinderWithQuestion, at));
-                }
-                Ok(named_bound(None, Some(question), path))
-            }
-        }
+        trait_of(self.alloc, input, lifetimes, maybe, path)
     }
 
     /// A trait bound without parentheses: `for<'a> a::b<'a>`, `?a::b`. `const` and `[const]` are refused.
@@ -674,20 +688,6 @@ impl<
             ty,
             default,
         })
-    }
-
-    /// `const N: T = 1`, after attributes.
-    #[tactic(auto, using(token_core::proofs::Suffixes::follows, syn_forms::proofs::nested_laws::Ahead::later), unfolding(crate::specs::generics::Reading::const_param))]
-    pub fn const_param(
-        &self,
-        input: &mut ParseStream<'_>,
-    ) -> Result<ConstParamOf<TypeOf<A, E>, A, E>, Error>
-        requires types { Nests (knot.ty A.reads E.reads) (length self.now.begin) (F.pre self.now.types) (F.post self.now.types) }
-        requires few { ahead input.old ≤ length self.now.begin }
-        ensures parses { Parses (reading.const_param A.reads E.reads (knot.reads_below A.reads E.reads (length self.now.begin))) result input.old input.new }
-    {
-        let attrs = A::read_outer(self.alloc, input)?;
-        self.const_after(input, attrs)
     }
 }
 
@@ -877,7 +877,7 @@ fn binder_after_from<A: Attributes, E: Value>(
 }
 
 /// What follows the first binder of a trait bound and a `const` form.
-#[tactic(auto, using(token_core::proofs::Suffixes::follows, syn_forms::proofs::nested_laws::Ahead::later, crate::proofs::generics_laws::Traits::traits), unfolding(crate::specs::generics::Reading::trait_after))]
+#[tactic(auto, using(token_core::proofs::Suffixes::follows, syn_forms::proofs::nested_laws::Ahead::later), unfolding(crate::specs::generics::Reading::trait_after))]
 fn trait_after_from<A: Attributes, E: Value>(
     alloc: Global,
     begin: &Cursor<'_>,
@@ -891,16 +891,7 @@ fn trait_after_from<A: Attributes, E: Value>(
     let lifetimes = binder_after_from::<A, E>(alloc, begin, input, lifetimes, &maybe)?;
     let path = path_from::<A, E>(alloc, begin, input, PathStyle::AsWritten)?;
     let path = signed_from::<A, E>(alloc, begin, input, path)?;
-    match maybe {
-        None => Ok(named_bound(lifetimes, None, path)),
-        Some(question) => {
-            if lifetimes.is_some() {
-                let at = question.spans[0];
-                return Err(refuse_at(alloc, ErrorKind::BinderWithQuestion, at));
-            }
-            Ok(named_bound(None, Some(question), path))
-        }
-    }
+    trait_of(alloc, input, lifetimes, maybe, path)
 }
 
 /// A trait bound.
@@ -944,20 +935,6 @@ fn type_after_from<A: Attributes, E: Value>(
     })
 }
 
-/// A type parameter.
-#[tactic(auto, using(token_core::proofs::Suffixes::follows, syn_forms::proofs::nested_laws::Ahead::later), unfolding(crate::specs::generics::Reading::type_param))]
-fn type_param_from<A: Attributes, E: Value>(
-    alloc: Global,
-    begin: &Cursor<'_>,
-    input: &mut ParseStream<'_>,
-) -> Result<TypeParamOf<A, E>, Error>
-    requires few { ahead input.old ≤ length begin.now }
-    ensures parses { Parses (reading.type_param A.reads E.reads (knot.reads_below A.reads E.reads (length begin.now))) result input.old input.new }
-{
-    let attrs = A::read_outer(alloc, input)?;
-    type_after_from(alloc, begin, input, attrs)
-}
-
 // ---- forms by themselves: what they hold is read by the knot
 
 /// A binder by itself.
@@ -997,7 +974,7 @@ fn parse_trait_bound<A: Attributes, E: Value>(
 }
 
 /// A type parameter by itself.
-#[tactic(auto, unfolding(crate::specs::ty::Knot::type_param))]
+#[tactic(auto, using(token_core::proofs::Suffixes::follows, syn_forms::proofs::nested_laws::Ahead::later), unfolding(crate::specs::ty::Knot::type_param, crate::specs::generics::Reading::type_param))]
 fn parse_type_param<A: Attributes, E: Value>(
     alloc: Global,
     input: &mut ParseStream<'_>,
@@ -1005,28 +982,33 @@ fn parse_type_param<A: Attributes, E: Value>(
     ensures parses { Parses (knot.type_param A.reads E.reads) result input.old input.new }
 {
     let begin = input.cursor();
-    type_param_from::<A, E>(alloc, &begin, input)
+    let attrs = A::read_outer(alloc, input)?;
+    type_after_from(alloc, &begin, input, attrs)
 }
 
 /// A const parameter by itself.
-#[tactic(auto, unfolding(crate::specs::ty::Knot::const_param))]
+#[tactic(auto, using(token_core::proofs::Suffixes::follows, syn_forms::proofs::nested_laws::Ahead::later), unfolding(crate::specs::ty::Knot::const_param, crate::specs::generics::Reading::const_param))]
 fn parse_const_param<A: Attributes, E: Value>(
     alloc: Global,
     input: &mut ParseStream<'_>,
 ) -> Result<ConstParamOf<TypeOf<A, E>, A, E>, Error>
     ensures parses { Parses (knot.const_param A.reads E.reads) result input.old input.new }
 {
-    Grammar {
-        alloc,
-        of: PhantomData,
-        begin: input.cursor(),
-        types: read_type::<A, E>,
-        bounds: (),
-        params: (),
-        args: (),
-        segments: (),
-    }
-    .const_param(input)
+    let begin = input.cursor();
+    let attrs = A::read_outer(alloc, input)?;
+    let (const_token, ident, colon_token, ty, default) = forms::parse_const_parts::<
+        TypePlace,
+        TypeOf<A, E>,
+        E,
+    >(alloc, &begin, input, TypePlace::Plus)?;
+    Ok(ConstParamOf {
+        attrs,
+        const_token,
+        ident,
+        colon_token,
+        ty,
+        default,
+    })
 }
 
 /// Reads a captured parameter: a lifetime, an identifier that is no keyword, or `Self`.

@@ -24,7 +24,7 @@ ghost use Rattle.token_core.specs.Reads.{Fails, Follows, Gives, Parses, Reads, a
 ghost use Rattle.token_core.specs.Tokens as token;
 
 use crate::generics::{GenericParamOf, TypeParamBoundOf};
-use crate::grammar::{Grammar, read_arguments, read_type};
+use crate::grammar::{Grammar, read_type};
 use crate::path::{
     AngleBracketedGenericArgumentsOf, AssocConstOf, AssocTypeOf, ConstraintOf, GenericArgumentOf,
     ParenthesizedGenericArgumentsOf, PathArgumentsOf,
@@ -380,21 +380,6 @@ impl<
         self.arguments_after(input, colon2_token)
     }
 
-    /// Arguments in angle brackets, after a `::`.
-    #[tactic(auto, using(token_core::proofs::Suffixes::follows, syn_forms::proofs::nested_laws::Ahead::later), unfolding(crate::specs::path::Reading::turbofish))]
-    pub fn turbofish(
-        &self,
-        input: &mut ParseStream<'_>,
-    ) -> Result<AngleBracketedGenericArgumentsOf<GenericArgumentOf<A, E>>, Error>
-        requires args { Nests (knot.argument_in A.reads E.reads) (length self.now.begin) (I.pre self.now.args) (I.post self.now.args) }
-        requires few { ahead input.old ≤ length self.now.begin }
-        ensures parses { Parses (reading.turbofish (knot.reads_below A.reads E.reads (length self.now.begin))) result input.old input.new }
-        ensures fewer { ahead input.new ≤ ahead input.old }
-    {
-        let sep = input.parse::<PathSep>(self.alloc)?;
-        self.arguments_after(input, Some(sep))
-    }
-
     /// One turn: the arguments of a segment, in angle brackets.
     #[tactic(auto, using(token_core::proofs::Suffixes::follows), unfolding(crate::specs::path::Reading::arguments_step))]
     pub fn arguments_step(
@@ -426,21 +411,6 @@ impl<
         + Copy,
 > Grammar<'a, A, E, F, G, H, I, J> {
     // ---- paths
-
-    /// A segment of a path, in this style.
-    #[tactic(auto, using(token_core::proofs::Suffixes::follows, syn_forms::proofs::nested_laws::Ahead::later))]
-    pub fn segment(
-        &self,
-        input: &mut ParseStream<'_>,
-        style: PathStyle,
-    ) -> Result<PathSegmentOf<PathArgumentsOf<A, E>>, Error>
-        requires segments { Nests (knot.arguments_in A.reads E.reads) (length self.now.begin) (J.pre self.now.segments) (J.post self.now.segments) }
-        requires few { ahead input.old ≤ length self.now.begin }
-        ensures parses { Parses (reading.segment (knot.reads_below A.reads E.reads (length self.now.begin)) style) result input.old input.new }
-        ensures fewer { ahead input.new ≤ ahead input.old }
-    {
-        self.segments().segment(input, style)
-    }
 
     /// A path, in this style.
     #[tactic(auto, using(token_core::proofs::Suffixes::follows, syn_forms::proofs::nested_laws::Ahead::later))]
@@ -694,17 +664,22 @@ impl<
         if !names_item(&ty) {
             return Ok(GenericArgumentOf::Type(ty));
         }
+        // the type is taken apart before the mark is read, so that no way out drops it
         if input.peek::<Eq>() {
-            let eq_token = parse_eq(self.alloc, input)?;
             return match into_item(ty) {
-                Some(item) => self.assoc(input, item, eq_token),
+                Some(item) => {
+                    let eq_token = parse_eq(self.alloc, input)?;
+                    self.assoc(input, item, eq_token)
+                }
                 None => unreachable!(),
             };
         }
         if input.peek::<Colon>() {
-            let colon_token = parse_colon(self.alloc, input)?;
             return match into_item(ty) {
-                Some(item) => self.constraint(input, item, colon_token),
+                Some(item) => {
+                    let colon_token = parse_colon(self.alloc, input)?;
+                    self.constraint(input, item, colon_token)
+                }
                 None => unreachable!(),
             };
         }
@@ -807,35 +782,8 @@ fn arguments_from<A: Attributes, E: Value>(
     })
 }
 
-/// Arguments in angle brackets.
-#[tactic(auto, using(token_core::proofs::Suffixes::follows, syn_forms::proofs::nested_laws::Ahead::later), unfolding(crate::specs::path::Reading::angle_bracketed))]
-fn angle_bracketed_from<A: Attributes, E: Value>(
-    alloc: Global,
-    begin: &Cursor<'_>,
-    input: &mut ParseStream<'_>,
-) -> Result<AngleBracketedGenericArgumentsOf<GenericArgumentOf<A, E>>, Error>
-    requires few { ahead input.old ≤ length begin.now }
-    ensures parses { Parses (reading.angle_bracketed (knot.reads_below A.reads E.reads (length begin.now))) result input.old input.new }
-{
-    let colon2_token = input.parse_option::<PathSep>(alloc)?;
-    arguments_from::<A, E>(alloc, begin, input, colon2_token)
-}
-
-/// Arguments in angle brackets after a `::`.
-#[tactic(auto, using(token_core::proofs::Suffixes::follows, syn_forms::proofs::nested_laws::Ahead::later), unfolding(crate::specs::path::Reading::turbofish))]
-fn turbofish_from<A: Attributes, E: Value>(
-    alloc: Global,
-    begin: &Cursor<'_>,
-    input: &mut ParseStream<'_>,
-) -> Result<AngleBracketedGenericArgumentsOf<GenericArgumentOf<A, E>>, Error>
-    requires few { ahead input.old ≤ length begin.now }
-    ensures parses { Parses (reading.turbofish (knot.reads_below A.reads E.reads (length begin.now))) result input.old input.new }
-{
-    let sep = input.parse::<PathSep>(alloc)?;
-    arguments_from::<A, E>(alloc, begin, input, Some(sep))
-}
-
 /// A path, in this style.
+#[tactic(auto, using(token_core::proofs::Suffixes::follows, syn_forms::proofs::nested_laws::Ahead::later))]
 pub(crate) fn path_from<A: Attributes, E: Value>(
     alloc: Global,
     begin: &Cursor<'_>,
@@ -846,17 +794,7 @@ pub(crate) fn path_from<A: Attributes, E: Value>(
     ensures parses { Parses (reading.path (knot.reads_below A.reads E.reads (length begin.now)) style) result input.old input.new }
     ensures fewer { ahead input.new ≤ ahead input.old }
 {
-    Grammar {
-        alloc,
-        of: PhantomData,
-        begin: begin.again(),
-        types: (),
-        bounds: (),
-        params: (),
-        args: (),
-        segments: read_arguments::<A, E>,
-    }
-    .path(input, style)
+    forms::parse_path::<PathArgumentsOf<A, E>>(alloc, begin, input, style)
 }
 
 /// A path whose last segment may take arguments in parentheses.
@@ -902,20 +840,6 @@ pub(crate) fn maybe_qualified_from<A: Attributes, E: Value>(
     )
 }
 
-/// The type that a path is.
-#[tactic(auto, using(token_core::proofs::Suffixes::follows), unfolding(crate::specs::path::Reading::path_type))]
-pub(crate) fn path_type_from<A: Attributes, E: Value>(
-    alloc: Global,
-    begin: &Cursor<'_>,
-    input: &mut ParseStream<'_>,
-) -> Result<TypePathOf<A, E>, Error>
-    requires few { ahead input.old ≤ length begin.now }
-    ensures parses { Parses (reading.path_type (knot.reads_below A.reads E.reads (length begin.now))) result input.old input.new }
-{
-    let (qself, path) = maybe_qualified_from::<A, E>(alloc, begin, input, PathStyle::AsWritten)?;
-    Ok(bare_path_type(alloc, qself, path))
-}
-
 // ---- forms by themselves: what they hold is read by the knot
 
 /// A path by itself, in this style.
@@ -927,17 +851,8 @@ fn parse_path<A: Attributes, E: Value>(
 ) -> Result<PathOf<PathArgumentsOf<A, E>>, Error>
     ensures parses { Parses (knot.path A.reads E.reads style) result input.old input.new }
 {
-    Grammar {
-        alloc,
-        of: PhantomData,
-        begin: input.cursor(),
-        types: (),
-        bounds: (),
-        params: (),
-        args: (),
-        segments: read_arguments::<A, E>,
-    }
-    .path(input, style)
+    let begin = input.cursor();
+    forms::parse_path::<PathArgumentsOf<A, E>>(alloc, &begin, input, style)
 }
 
 /// A segment by itself.
@@ -948,21 +863,12 @@ fn parse_segment<A: Attributes, E: Value>(
 ) -> Result<PathSegmentOf<PathArgumentsOf<A, E>>, Error>
     ensures parses { Parses (knot.segment A.reads E.reads) result input.old input.new }
 {
-    Grammar {
-        alloc,
-        of: PhantomData,
-        begin: input.cursor(),
-        types: (),
-        bounds: (),
-        params: (),
-        args: (),
-        segments: read_arguments::<A, E>,
-    }
-    .segment(input, PathStyle::AsWritten)
+    let begin = input.cursor();
+    forms::parse_segment::<PathArgumentsOf<A, E>>(alloc, &begin, input, PathStyle::AsWritten)
 }
 
 /// Arguments in angle brackets by themselves.
-#[tactic(auto, unfolding(crate::specs::ty::Knot::angle_bracketed))]
+#[tactic(auto, using(token_core::proofs::Suffixes::follows, syn_forms::proofs::nested_laws::Ahead::later), unfolding(crate::specs::ty::Knot::angle_bracketed, crate::specs::path::Reading::angle_bracketed))]
 fn parse_angle_bracketed<A: Attributes, E: Value>(
     alloc: Global,
     input: &mut ParseStream<'_>,
@@ -970,11 +876,12 @@ fn parse_angle_bracketed<A: Attributes, E: Value>(
     ensures parses { Parses (knot.angle_bracketed A.reads E.reads) result input.old input.new }
 {
     let begin = input.cursor();
-    angle_bracketed_from::<A, E>(alloc, &begin, input)
+    let colon2_token = input.parse_option::<PathSep>(alloc)?;
+    arguments_from::<A, E>(alloc, &begin, input, colon2_token)
 }
 
 /// Arguments in angle brackets by themselves, after a `::`.
-#[tactic(auto, unfolding(crate::specs::ty::Knot::turbofish))]
+#[tactic(auto, using(token_core::proofs::Suffixes::follows, syn_forms::proofs::nested_laws::Ahead::later), unfolding(crate::specs::ty::Knot::turbofish, crate::specs::path::Reading::turbofish))]
 fn parse_turbofish<A: Attributes, E: Value>(
     alloc: Global,
     input: &mut ParseStream<'_>,
@@ -982,28 +889,37 @@ fn parse_turbofish<A: Attributes, E: Value>(
     ensures parses { Parses (knot.turbofish A.reads E.reads) result input.old input.new }
 {
     let begin = input.cursor();
-    turbofish_from::<A, E>(alloc, &begin, input)
+    let sep = input.parse::<PathSep>(alloc)?;
+    arguments_from::<A, E>(alloc, &begin, input, Some(sep))
 }
 
 /// Arguments in parentheses by themselves.
-#[tactic(auto, unfolding(crate::specs::ty::Knot::parenthesized))]
+#[tactic(auto, using(token_core::proofs::Suffixes::follows), unfolding(crate::specs::ty::Knot::parenthesized, crate::specs::path::Reading::parenthesized))]
 fn parse_parenthesized<A: Attributes, E: Value>(
     alloc: Global,
     input: &mut ParseStream<'_>,
 ) -> Result<ParenthesizedGenericArgumentsOf<TypeOf<A, E>, A>, Error>
     ensures parses { Parses (knot.parenthesized A.reads E.reads) result input.old input.new }
 {
-    Grammar {
+    let begin = input.cursor();
+    let (paren_token, inputs, returned) = forms::parse_signature::<
+        TypePlace,
+        TypeOf<A, E>,
+        NamedArgOf<TypeOf<A, E>, A>,
+        UnnamedArg,
+    >(
         alloc,
-        of: PhantomData,
-        begin: input.cursor(),
-        types: read_type::<A, E>,
-        bounds: (),
-        params: (),
-        args: (),
-        segments: (),
-    }
-    .parenthesized(input)
+        &begin,
+        input,
+        TypePlace::Plus,
+        TypePlace::NoPlus,
+        UnnamedArg,
+    )?;
+    Ok(ParenthesizedGenericArgumentsOf {
+        paren_token,
+        inputs,
+        output: return_of(returned),
+    })
 }
 
 /// An argument in angle brackets by itself.

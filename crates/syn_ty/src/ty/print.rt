@@ -123,43 +123,25 @@ impl<A: Attributes, E: Value> ToTokens for TypeTupleOf<TypeOf<A, E>, A> {
 impl ToTokens for Abi {
     ghost print = { printing.abi };
 
+    #[tactic(auto, using(token_core::proofs::Puts::puts))]
     fn append_tokens(&self, alloc: Global, out: &mut TokenStream) -> Result<(), AllocError> {
-        print_abi(alloc, self, out)
+        self.extern_token.to_tokens(alloc, out)?;
+        self.name.append_tokens(alloc, out)
     }
-}
-
-#[tactic(auto, using(token_core::proofs::Puts::puts))]
-fn print_abi(alloc: Global, abi: &Abi, out: &mut TokenStream) -> Result<(), AllocError>
-    ensures ok { OnOk result (trees out.new ≡ trees out.old ++ printing.abi abi.now) }
-    ensures err { OnErr result (Extends (trees out.old) (trees out.new)) }
-{
-    abi.extern_token.to_tokens(alloc, out)?;
-    abi.name.append_tokens(alloc, out)
 }
 
 /// Appends nothing, or `->` and the type.
 impl<A: Attributes, E: Value> ToTokens for ReturnTypeOf<TypeOf<A, E>> {
     ghost print = { printing.return_type A.shown E.values };
 
+    #[tactic(auto, using(token_core::proofs::Puts::puts))]
     fn append_tokens(&self, alloc: Global, out: &mut TokenStream) -> Result<(), AllocError> {
-        print_return_type(alloc, self, out)
-    }
-}
-
-#[tactic(auto, using(token_core::proofs::Puts::puts))]
-fn print_return_type<A: Attributes, E: Value>(
-    alloc: Global,
-    output: &ReturnTypeOf<TypeOf<A, E>>,
-    out: &mut TokenStream,
-) -> Result<(), AllocError>
-    ensures ok { OnOk result (trees out.new ≡ trees out.old ++ printing.return_type A.shown E.values output.now) }
-    ensures err { OnErr result (Extends (trees out.old) (trees out.new)) }
-{
-    match output {
-        ReturnTypeOf::Default => Ok(()),
-        ReturnTypeOf::Type(arrow, ty) => {
-            arrow.to_tokens(alloc, out)?;
-            print_type(alloc, ty.get(), out)
+        match self {
+            ReturnTypeOf::Default => Ok(()),
+            ReturnTypeOf::Type(arrow, ty) => {
+                arrow.to_tokens(alloc, out)?;
+                print_type(alloc, ty.get(), out)
+            }
         }
     }
 }
@@ -193,8 +175,10 @@ impl<A: Attributes, E: Value> ToTokens for TypeTraitObjectOf<TypeParamBoundOf<A,
 impl<A: Attributes, E: Value> ToTokens for NamedArgOf<TypeOf<A, E>, A> {
     ghost print = { printing.named_arg A.shown E.values };
 
+    #[tactic(auto, using(token_core::proofs::Puts::puts))]
     fn append_tokens(&self, alloc: Global, out: &mut TokenStream) -> Result<(), AllocError> {
-        print_named_arg(alloc, self, out)
+        print_arg_name(alloc, &self.attrs, &self.name, out)?;
+        print_type(alloc, &self.ty, out)
     }
 }
 
@@ -678,19 +662,6 @@ pub fn print_arg_name<A: Attributes>(
         }
         None => Ok(()),
     }
-}
-
-#[tactic(auto, using(token_core::proofs::Puts::puts))]
-fn print_named_arg<A: Attributes, E: Value>(
-    alloc: Global,
-    arg: &NamedArgOf<TypeOf<A, E>, A>,
-    out: &mut TokenStream,
-) -> Result<(), AllocError>
-    ensures ok { OnOk result (trees out.new ≡ trees out.old ++ printing.named_arg A.shown E.values arg.now) }
-    ensures err { OnErr result (Extends (trees out.old) (trees out.new)) }
-{
-    print_arg_name(alloc, &arg.attrs, &arg.name, out)?;
-    print_type(alloc, &arg.ty, out)
 }
 
 #[tactic(auto, using(token_core::proofs::Puts::puts))]

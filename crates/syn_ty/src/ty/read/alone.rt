@@ -9,8 +9,11 @@ ghost use Rattle.token_core.specs.Reads.{Parses};
 use crate::generics::read::optional_binder_from;
 use crate::generics::{BoundLifetimesOf, GenericParamOf, TypeParamBoundOf};
 use crate::grammar::{Grammar, read_bound, read_type};
-use crate::path::read::path_type_from;
-use crate::ty::read::parts::bare_trait_object;
+use crate::path::read::{bare_path_type, maybe_qualified_from, return_of};
+use crate::ty::read::parts::{
+    bare_array, bare_group, bare_paren, bare_ptr, bare_reference, bare_slice, bare_trait_object,
+    bare_tuple,
+};
 use crate::ty::read::tokens::parse_optional_dyn;
 use crate::ty::{
     NamedArgOf, ReturnTypeOf, TypeArrayOf, TypeFnPtrOf, TypeGroupOf, TypeImplTraitOf, TypeOf,
@@ -19,30 +22,29 @@ use crate::ty::{
 };
 use std::alloc::Global;
 use std::marker::PhantomData;
+use syn_forms::forms;
 use syn_forms::inputs::parse_optional_name;
 use syn_forms::places::{BoundPlace, TypePlace};
+use syn_path::path::PathStyle;
 use syn_path::supplied::{Attributes, Value};
 use token_core::{Cursor, Error, ParseStream};
 
 /// `[T; n]`
-#[tactic(auto, unfolding(crate::specs::ty::Knot::array))]
+#[tactic(auto, using(token_core::proofs::Suffixes::follows), unfolding(crate::specs::ty::Knot::array, crate::specs::ty::Reading::array))]
 pub(crate) fn parse_array<A: Attributes, E: Value>(
     alloc: Global,
     input: &mut ParseStream<'_>,
 ) -> Result<TypeArrayOf<TypeOf<A, E>, A, E>, Error>
     ensures parses { Parses (knot.array A.reads E.reads) result input.old input.new }
 {
-    Grammar {
+    let begin = input.cursor();
+    let parts = forms::parse_array::<TypePlace, TypeOf<A, E>, E>(
         alloc,
-        of: PhantomData,
-        begin: input.cursor(),
-        types: read_type::<A, E>,
-        bounds: (),
-        params: (),
-        args: (),
-        segments: (),
-    }
-    .array(input)
+        &begin,
+        input,
+        TypePlace::Plus,
+    )?;
+    Ok(bare_array(alloc, parts))
 }
 
 /// A pointer to a function after its binder, from a position on.
@@ -95,24 +97,21 @@ pub(crate) fn parse_fn_ptr<A: Attributes, E: Value>(
 }
 
 /// A type in an invisible group.
-#[tactic(auto, unfolding(crate::specs::ty::Knot::group))]
+#[tactic(auto, using(token_core::proofs::Suffixes::follows), unfolding(crate::specs::ty::Knot::group, crate::specs::ty::Reading::group))]
 pub(crate) fn parse_group<A: Attributes, E: Value>(
     alloc: Global,
     input: &mut ParseStream<'_>,
 ) -> Result<TypeGroupOf<TypeOf<A, E>, A>, Error>
     ensures parses { Parses (knot.group A.reads E.reads) result input.old input.new }
 {
-    Grammar {
+    let begin = input.cursor();
+    let parts = forms::parse_in_invisible::<TypePlace, TypeOf<A, E>>(
         alloc,
-        of: PhantomData,
-        begin: input.cursor(),
-        types: read_type::<A, E>,
-        bounds: (),
-        params: (),
-        args: (),
-        segments: (),
-    }
-    .group(input)
+        &begin,
+        input,
+        TypePlace::Plus,
+    )?;
+    Ok(bare_group(alloc, parts))
 }
 
 /// `impl A + 'a`
@@ -138,28 +137,25 @@ pub(crate) fn parse_impl_trait<A: Attributes, E: Value>(
 }
 
 /// `(T)`, the type without plus
-#[tactic(auto, unfolding(crate::specs::ty::Knot::paren))]
+#[tactic(auto, using(token_core::proofs::Suffixes::follows), unfolding(crate::specs::ty::Knot::paren, crate::specs::ty::Reading::paren))]
 pub(crate) fn parse_paren<A: Attributes, E: Value>(
     alloc: Global,
     input: &mut ParseStream<'_>,
 ) -> Result<TypeParenOf<TypeOf<A, E>, A>, Error>
     ensures parses { Parses (knot.paren A.reads E.reads) result input.old input.new }
 {
-    Grammar {
+    let begin = input.cursor();
+    let parts = forms::parse_paren::<TypePlace, TypeOf<A, E>>(
         alloc,
-        of: PhantomData,
-        begin: input.cursor(),
-        types: read_type::<A, E>,
-        bounds: (),
-        params: (),
-        args: (),
-        segments: (),
-    }
-    .paren(input)
+        &begin,
+        input,
+        TypePlace::NoPlus,
+    )?;
+    Ok(bare_paren(alloc, parts))
 }
 
 /// `a::b<T>`, `<T as a::b>::c`
-#[tactic(auto, unfolding(crate::specs::ty::Knot::path_type))]
+#[tactic(auto, using(token_core::proofs::Suffixes::follows), unfolding(crate::specs::ty::Knot::path_type, crate::specs::path::Reading::path_type))]
 pub(crate) fn parse_path_type<A: Attributes, E: Value>(
     alloc: Global,
     input: &mut ParseStream<'_>,
@@ -167,70 +163,62 @@ pub(crate) fn parse_path_type<A: Attributes, E: Value>(
     ensures parses { Parses (knot.path_type A.reads E.reads) result input.old input.new }
 {
     let begin = input.cursor();
-    path_type_from::<A, E>(alloc, &begin, input)
+    let (qself, path) = maybe_qualified_from::<A, E>(alloc, &begin, input, PathStyle::AsWritten)?;
+    Ok(bare_path_type(alloc, qself, path))
 }
 
 /// `*const T`, `*mut T`
-#[tactic(auto, unfolding(crate::specs::ty::Knot::ptr))]
+#[tactic(auto, using(token_core::proofs::Suffixes::follows), unfolding(crate::specs::ty::Knot::ptr, crate::specs::ty::Reading::ptr))]
 pub(crate) fn parse_ptr<A: Attributes, E: Value>(
     alloc: Global,
     input: &mut ParseStream<'_>,
 ) -> Result<TypePtrOf<TypeOf<A, E>, A>, Error>
     ensures parses { Parses (knot.ptr A.reads E.reads) result input.old input.new }
 {
-    Grammar {
+    let begin = input.cursor();
+    let parts = forms::parse_ptr::<TypePlace, TypeOf<A, E>>(
         alloc,
-        of: PhantomData,
-        begin: input.cursor(),
-        types: read_type::<A, E>,
-        bounds: (),
-        params: (),
-        args: (),
-        segments: (),
-    }
-    .ptr(input)
+        &begin,
+        input,
+        TypePlace::NoPlus,
+    )?;
+    Ok(bare_ptr(alloc, parts))
 }
 
 /// `&'a mut T`
-#[tactic(auto, unfolding(crate::specs::ty::Knot::reference))]
+#[tactic(auto, using(token_core::proofs::Suffixes::follows), unfolding(crate::specs::ty::Knot::reference, crate::specs::ty::Reading::reference))]
 pub(crate) fn parse_reference<A: Attributes, E: Value>(
     alloc: Global,
     input: &mut ParseStream<'_>,
 ) -> Result<TypeReferenceOf<TypeOf<A, E>, A>, Error>
     ensures parses { Parses (knot.reference A.reads E.reads) result input.old input.new }
 {
-    Grammar {
+    let begin = input.cursor();
+    let parts = forms::parse_reference::<TypePlace, TypeOf<A, E>>(
         alloc,
-        of: PhantomData,
-        begin: input.cursor(),
-        types: read_type::<A, E>,
-        bounds: (),
-        params: (),
-        args: (),
-        segments: (),
-    }
-    .reference(input)
+        &begin,
+        input,
+        TypePlace::NoPlus,
+    )?;
+    Ok(bare_reference(alloc, parts))
 }
 
 /// `[T]`
-#[tactic(auto, unfolding(crate::specs::ty::Knot::slice))]
+#[tactic(auto, using(token_core::proofs::Suffixes::follows), unfolding(crate::specs::ty::Knot::slice, crate::specs::ty::Reading::slice))]
 pub(crate) fn parse_slice<A: Attributes, E: Value>(
     alloc: Global,
     input: &mut ParseStream<'_>,
 ) -> Result<TypeSliceOf<TypeOf<A, E>, A>, Error>
     ensures parses { Parses (knot.slice A.reads E.reads) result input.old input.new }
 {
-    Grammar {
+    let begin = input.cursor();
+    let parts = forms::parse_slice::<TypePlace, TypeOf<A, E>>(
         alloc,
-        of: PhantomData,
-        begin: input.cursor(),
-        types: read_type::<A, E>,
-        bounds: (),
-        params: (),
-        args: (),
-        segments: (),
-    }
-    .slice(input)
+        &begin,
+        input,
+        TypePlace::Plus,
+    )?;
+    Ok(bare_slice(alloc, parts))
 }
 
 /// `dyn A + 'a`, `A + 'a` (syn's `TypeTraitObject::parse`)
@@ -260,28 +248,25 @@ pub(crate) fn parse_trait_object<A: Attributes, E: Value>(
 }
 
 /// `(A, B)`
-#[tactic(auto, unfolding(crate::specs::ty::Knot::tuple))]
+#[tactic(auto, using(token_core::proofs::Suffixes::follows), unfolding(crate::specs::ty::Knot::tuple, crate::specs::ty::Reading::tuple))]
 pub(crate) fn parse_tuple<A: Attributes, E: Value>(
     alloc: Global,
     input: &mut ParseStream<'_>,
 ) -> Result<TypeTupleOf<TypeOf<A, E>, A>, Error>
     ensures parses { Parses (knot.tuple A.reads E.reads) result input.old input.new }
 {
-    Grammar {
+    let begin = input.cursor();
+    let parts = forms::parse_tuple::<TypePlace, TypeOf<A, E>>(
         alloc,
-        of: PhantomData,
-        begin: input.cursor(),
-        types: read_type::<A, E>,
-        bounds: (),
-        params: (),
-        args: (),
-        segments: (),
-    }
-    .tuple(input)
+        &begin,
+        input,
+        TypePlace::Plus,
+    )?;
+    Ok(bare_tuple(alloc, parts))
 }
 
 /// Nothing, or `-> T`
-#[tactic(auto, unfolding(crate::specs::ty::Knot::return_type))]
+#[tactic(auto, using(token_core::proofs::Suffixes::follows), unfolding(crate::specs::ty::Knot::return_type, crate::specs::ty::Reading::return_type))]
 pub(crate) fn parse_return_type<A: Attributes, E: Value>(
     alloc: Global,
     input: &mut ParseStream<'_>,
@@ -289,17 +274,9 @@ pub(crate) fn parse_return_type<A: Attributes, E: Value>(
 ) -> Result<ReturnTypeOf<TypeOf<A, E>>, Error>
     ensures parses { Parses (knot.return_type A.reads E.reads place) result input.old input.new }
 {
-    Grammar {
-        alloc,
-        of: PhantomData,
-        begin: input.cursor(),
-        types: read_type::<A, E>,
-        bounds: (),
-        params: (),
-        args: (),
-        segments: (),
-    }
-    .return_type(input, place)
+    let begin = input.cursor();
+    let parts = forms::parse_returned::<TypePlace, TypeOf<A, E>>(alloc, &begin, input, place)?;
+    Ok(return_of(parts))
 }
 
 /// `a: T`

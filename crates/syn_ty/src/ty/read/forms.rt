@@ -11,14 +11,8 @@ ghost use Rattle.token_core.specs.Reads.{Parses};
 
 use crate::grammar::Grammar;
 use crate::path::read::return_of;
-use crate::ty::read::parts::{
-    bare_array, bare_group, bare_paren, bare_ptr, bare_reference, bare_slice, bare_tuple,
-    of_brackets,
-};
-use crate::ty::{
-    ReturnTypeOf, TypeArrayOf, TypeGroupOf, TypeOf, TypeParenOf, TypePtrOf, TypeReferenceOf,
-    TypeSliceOf, TypeTupleOf,
-};
+use crate::ty::read::parts::{bare_ptr, bare_reference, of_brackets};
+use crate::ty::{ReturnTypeOf, TypeOf, TypePtrOf, TypeReferenceOf};
 use std::alloc::Global;
 use std::marker::PhantomData;
 use syn_forms::groups::ParenContent;
@@ -42,51 +36,6 @@ impl<
     I,
     J,
 > Grammar<'a, A, E, F, G, H, I, J> {
-    /// `(T)`, the type without plus. It is that of syn's `TypeParen::parse`.
-    #[tactic(auto, using(token_core::proofs::Suffixes::follows, syn_forms::proofs::nested_laws::Ahead::later), unfolding(crate::specs::ty::Reading::paren))]
-    pub(crate) fn paren(
-        &self,
-        input: &mut ParseStream<'_>,
-    ) -> Result<TypeParenOf<TypeOf<A, E>, A>, Error>
-        requires types { Nests (knot.ty A.reads E.reads) (length self.now.begin) (F.pre self.now.types) (F.post self.now.types) }
-        requires few { ahead input.old ≤ length self.now.begin }
-        ensures parses { Parses (reading.paren (knot.reads_below A.reads E.reads (length self.now.begin))) result input.old input.new }
-        ensures fewer { ahead input.new ≤ ahead input.old }
-    {
-        let parts = self.types().paren(input, TypePlace::NoPlus)?;
-        Ok(bare_paren(self.alloc, parts))
-    }
-
-    /// `[T]`
-    #[tactic(auto, using(token_core::proofs::Suffixes::follows, syn_forms::proofs::nested_laws::Ahead::later), unfolding(crate::specs::ty::Reading::slice))]
-    pub(crate) fn slice(
-        &self,
-        input: &mut ParseStream<'_>,
-    ) -> Result<TypeSliceOf<TypeOf<A, E>, A>, Error>
-        requires types { Nests (knot.ty A.reads E.reads) (length self.now.begin) (F.pre self.now.types) (F.post self.now.types) }
-        requires few { ahead input.old ≤ length self.now.begin }
-        ensures parses { Parses (reading.slice (knot.reads_below A.reads E.reads (length self.now.begin))) result input.old input.new }
-        ensures fewer { ahead input.new ≤ ahead input.old }
-    {
-        let parts = self.types().slice(input, TypePlace::Plus)?;
-        Ok(bare_slice(self.alloc, parts))
-    }
-
-    /// `(A, B)`: nothing, or a comma after the first.
-    #[tactic(auto, using(token_core::proofs::Suffixes::follows, syn_forms::proofs::nested_laws::Ahead::later), unfolding(crate::specs::ty::Reading::tuple))]
-    pub(crate) fn tuple(
-        &self,
-        input: &mut ParseStream<'_>,
-    ) -> Result<TypeTupleOf<TypeOf<A, E>, A>, Error>
-        requires types { Nests (knot.ty A.reads E.reads) (length self.now.begin) (F.pre self.now.types) (F.post self.now.types) }
-        requires few { ahead input.old ≤ length self.now.begin }
-        ensures parses { Parses (reading.tuple (knot.reads_below A.reads E.reads (length self.now.begin))) result input.old input.new }
-        ensures fewer { ahead input.new ≤ ahead input.old }
-    {
-        let parts = self.types().tuple(input, TypePlace::Plus)?;
-        Ok(bare_tuple(self.alloc, parts))
-    }
-
     /// `*const T`, `*mut T`, the type without plus.
     #[tactic(auto, using(token_core::proofs::Suffixes::follows, syn_forms::proofs::nested_laws::Ahead::later), unfolding(crate::specs::ty::Reading::ptr))]
     pub(crate) fn ptr(
@@ -115,36 +64,6 @@ impl<
     {
         let parts = self.types().reference(input, TypePlace::NoPlus)?;
         Ok(bare_reference(self.alloc, parts))
-    }
-
-    /// A type in an invisible group.
-    #[tactic(auto, using(token_core::proofs::Suffixes::follows, syn_forms::proofs::nested_laws::Ahead::later), unfolding(crate::specs::ty::Reading::group))]
-    pub(crate) fn group(
-        &self,
-        input: &mut ParseStream<'_>,
-    ) -> Result<TypeGroupOf<TypeOf<A, E>, A>, Error>
-        requires types { Nests (knot.ty A.reads E.reads) (length self.now.begin) (F.pre self.now.types) (F.post self.now.types) }
-        requires few { ahead input.old ≤ length self.now.begin }
-        ensures parses { Parses (reading.group (knot.reads_below A.reads E.reads (length self.now.begin))) result input.old input.new }
-        ensures fewer { ahead input.new ≤ ahead input.old }
-    {
-        let parts = self.types().in_invisible(input, TypePlace::Plus)?;
-        Ok(bare_group(self.alloc, parts))
-    }
-
-    /// `[T; n]`
-    #[tactic(auto, using(token_core::proofs::Suffixes::follows, syn_forms::proofs::nested_laws::Ahead::later), unfolding(crate::specs::ty::Reading::array))]
-    pub(crate) fn array(
-        &self,
-        input: &mut ParseStream<'_>,
-    ) -> Result<TypeArrayOf<TypeOf<A, E>, A, E>, Error>
-        requires types { Nests (knot.ty A.reads E.reads) (length self.now.begin) (F.pre self.now.types) (F.post self.now.types) }
-        requires few { ahead input.old ≤ length self.now.begin }
-        ensures parses { Parses (reading.array E.reads (knot.reads_below A.reads E.reads (length self.now.begin))) result input.old input.new }
-        ensures fewer { ahead input.new ≤ ahead input.old }
-    {
-        let parts = self.types().array::<E>(input, TypePlace::Plus)?;
-        Ok(bare_array(self.alloc, parts))
     }
 
     /// A slice, or an array where a `;` follows the type.

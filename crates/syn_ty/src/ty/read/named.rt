@@ -117,7 +117,8 @@ impl<
     {
         parse_unsafe(self.alloc, input)?;
         parse_angled_lifetimes(self.alloc, input)?;
-        self.types().value(input, last_place(place))?;
+        // boxed: it is dropped by one call
+        self.types().boxed(input, last_place(place))?;
         Ok(TypeOf::Verbatim(since(self.alloc, from, input)?))
     }
 }
