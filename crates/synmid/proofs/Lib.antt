@@ -1,4 +1,3 @@
 pub mod Consumed
 pub mod Whole
 pub mod Said
-pub mod Idents

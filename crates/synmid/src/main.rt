@@ -4,26 +4,10 @@
 ghost use Rattle.std.specs.Prelude.{◌≡◌, IfErr};
 ghost use Rattle.synmid.specs.declared.fault.Fault.{Fault};
 
-#[cfg(test)]
-mod attr_tests;
 mod channel;
 mod fault;
-#[cfg(test)]
-mod form_tests;
-#[cfg(test)]
-mod generics_read_tests;
-#[cfg(test)]
-mod nested_tests;
-#[cfg(test)]
-mod pat_read_tests;
 mod reader;
 mod run;
-#[cfg(test)]
-mod sample_tests;
-#[cfg(test)]
-mod tests;
-#[cfg(test)]
-mod type_read_tests;
 mod within;
 
 use channel::Plain;

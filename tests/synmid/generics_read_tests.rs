@@ -2,7 +2,7 @@
 //!
 //! A test calls and does not branch, as docs/GATE.md says.
 
-use crate::attr_tests::says;
+use crate::answers::says;
 use crate::reader::Reader;
 use std::alloc::Global;
 use syn_readers::reader::GenericsReader;

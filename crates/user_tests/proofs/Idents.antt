@@ -3,7 +3,7 @@ use Rattle.std.proofs.Common.{◌≡◌, ◌<◌, Bool, true, List, [], ◌∷�
 use Rattle.token_core.specs.Toks.{Bytes}
 use Rattle.syn_path.specs.declared.path.PathOf.{PathOf}
 use Rattle.syn_path.specs.declared.path.PathSegmentOf.{PathSegmentOf}
-use Rattle.syn_ty.specs.path.Paths.{Sep, is_text, only, lone_ident}
+use Rattle.syn_path.specs.path.Paths.{Sep, is_text, only, lone_ident}
 
 module _ {A : Type 0} (lacks : A → Bool) where
   only_segment : (t : Bytes) (o : Option Sep) (l : List (PathSegmentOf A)) → is_text t (only lacks o l) ≡ true → 0 < length l
