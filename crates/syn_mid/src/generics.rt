@@ -6,7 +6,7 @@ pub use syn_generics::generics::{
     GenericsOf, ImplGenericsOf, PredicateLifetimeOf, PredicateTypeOf, TurbofishOf, TypeGenericsOf,
     WhereClauseOf, WherePredicateOf,
 };
-pub use syn_names::{
+pub use syn_pat::supplied::{
     BoundLifetimes, ConstParam, GenericParam, LifetimeParam, TraitBound, TypeParam, TypeParamBound,
 };
 pub use syn_ty::generics::{

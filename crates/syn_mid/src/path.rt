@@ -1,6 +1,6 @@
 //! Paths and their arguments.
 
-pub use syn_names::{
+pub use syn_pat::supplied::{
     AngleBracketedGenericArguments, AssocConst, AssocType, Constraint, GenericArgument,
     ParenthesizedGenericArguments, Path, PathArguments, PathSegment, QSelf,
 };

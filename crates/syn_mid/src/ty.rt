@@ -1,6 +1,6 @@
 //! Types.
 
-pub use syn_names::{
+pub use syn_pat::supplied::{
     FnPtrVariadic, NamedArg, ReturnType, Type, TypeArray, TypeFnPtr, TypeGroup, TypeImplTrait,
     TypeInfer, TypeMacro, TypeNever, TypeParen, TypePath, TypePtr, TypeReference, TypeSlice,
     TypeTraitObject, TypeTuple,

@@ -6,3 +6,4 @@ pub mod knot;
 pub mod names;
 pub mod pat;
 pub mod place;
+pub mod supplied;

@@ -7,9 +7,9 @@ ghost use Rattle.std.specs.Prelude.{◌≡◌};
 ghost use Rattle.syn_pat.specs.declared.pat.PatOf.TheVariants as pats;
 ghost use Rattle.syn_pat.specs.pat.Pats as spec;
 
+use crate::supplied::{Path, QSelf, Type};
 use syn_attr::attr::Attribute;
 use syn_attr::expr::{Expr, ExprConst, ExprConstOf, ExprLit, ExprLitOf, ExprMacro, ExprMacroOf};
-use syn_names::{Path, QSelf, Type};
 use syn_path::path::PathOf;
 use token_core::token::{
     And, At, Brace, Bracket, Colon, Comma, DotDot, If, Mut, Or, Paren, Ref, Underscore,

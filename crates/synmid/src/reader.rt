@@ -9,10 +9,14 @@ ghost use Rattle.synmid.specs.Readers as spec;
 
 use std::alloc::{AllocError, Global};
 use std::marker::PhantomData;
-use syn_mid::{
-    Attribute, Expr, Macro, Meta, MetaList, MetaNameValue, ModStyle, NoArguments, ParseInner,
-    ParseOuter, Pat, PatType, PointerMutability, Subtree,
-};
+use syn_attr::attr::{Attribute, Meta, MetaList, MetaNameValue};
+use syn_attr::expr::Expr;
+use syn_forms::tokens::PointerMutability;
+use syn_parsers::whole::{ModStyle, ParseInner, ParseOuter};
+use syn_pat::pat::{Pat, PatType};
+use syn_path::mac::Macro;
+use syn_path::path::NoArguments;
+use syn_path::supplied::Subtree;
 use syn_readers::reader::{
     GenericsReader, PathReader, TypeReader, print_of, reprint, reprint_with,
 };

@@ -1,5 +1,4 @@
 //! The trees over a supplied subtree, by their names: over its attributes and its expressions.
-#![tactic(auto)]
 
 use syn_attr::attr::Attribute;
 use syn_attr::expr::Expr;
