@@ -27,10 +27,6 @@ pub after_refused : {A P : Type 0} (v : Many A P) (o : Outcome (Many A P)) (e : 
 after_refused v (Ok q) e h = cc
 after_refused v (Err r) e h = h
 
--- what follows a read that is refused
-pub stopped : {A B : Type 0} {o : Outcome A} (f : A → Reader B) (e : Refusal) → o ≡ Err e → and_then o f ≡ Err e
-stopped f e h = ap (λ z. and_then z f) h
-
 -- a path with what was found and further segments
 pub longer_read : {G : Type 0} (p : PathOf G) (c : Sep) (o : Outcome (Many (PathSegmentOf G) Sep)) (w : Many (PathSegmentOf G) Sep) (t : Stream) → after (p.segments.0, p.segments.1 ++ c ∷ []) o ≡ Ok (w, t) →
     and_then o (λ all. pure (longer p c all)) ≡ Ok (path_of p.leading_colon w, t)
