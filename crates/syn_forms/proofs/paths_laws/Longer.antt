@@ -32,6 +32,10 @@ pub longer_read : {G : Type 0} (p : PathOf G) (c : Sep) (o : Outcome (Many (Path
     and_then o (λ all. pure (longer p c all)) ≡ Ok (path_of p.leading_colon w, t)
 longer_read p c o w t h = after_as (path_of p.leading_colon) p.segments.0 p.segments.1 c o w t h
 
+pub longer_told : {G : Type 0} (p : PathOf G) (c : Sep) (o : Outcome (Many (PathSegmentOf G) Sep)) (v w : Many (PathSegmentOf G) Sep) (t : Stream) → v ≡ (p.segments.0, p.segments.1 ++ c ∷ []) → after v o ≡ Ok (w, t) →
+    and_then o (λ all. pure (longer p c all)) ≡ Ok (path_of p.leading_colon w, t)
+longer_told p c o v w t e h = longer_read p c o w t (ap (λ z. after z o) (sym e) ∙ h)
+
 pub ruleset longer_paths = (longer_read, after_refused)
 
 -- what is answered beside what was read
