@@ -1,6 +1,6 @@
 -- Segments after those that were found.
 use Rattle.std.specs.Prelude.{IsTrue, ◌↔◌, nat_eq}
-use Rattle.std.proofs.Common.{◌≡◌, ℕ, Bool, true, false, List, [], ◌∷◌, ◌++◌, length, Option, Some, Ok, Err, refl, sym, ◌∙◌, ap, append_assoc}
+use Rattle.std.proofs.Common.{◌≡◌, ℕ, Bool, true, false, List, [], ◌∷◌, ◌++◌, length, Option, Some, None, Ok, Err, refl, sym, ◌∙◌, ap, append_assoc}
 use Rattle.std.proofs.lemmas.Bool.{eq-eqb, eqb-true}
 use Rattle.token_core.specs.Loops.{Many, after, onto}
 use Rattle.token_core.specs.Reads.{Outcome, Reader, and_then, pure}
@@ -13,6 +13,7 @@ use Rattle.syn_path.specs.declared.path.PathSegmentOf.{PathSegmentOf}
 use Rattle.syn_path.specs.declared.path.PathStyle.{PathStyle}
 use Rattle.syn_path.specs.path.Paths.{Sep, path_of}
 use Rattle.syn_path.specs.path.Reading.{sees_sep, sep}
+use Rattle.syn_forms.proofs.lists_laws.Turns.{none_yet_at}
 use Rattle.syn_forms.specs.paths.Reading.{longer, qself_of, qualified_of, segments}
 
 -- what is made of the values and marks that were found, a mark, and those that follow
@@ -53,6 +54,20 @@ pub behind_refused : {T G : Type 0} (none : G) (arguments : Reader G) (style : P
 behind_refused none arguments style s l x a w p k c e q h =
     ap (λ z. and_then (segments none arguments sees_sep style s) (λ all. pure (qualified_of l x z k c all))) q
     ∙ beside_refused (qself_of l x (length p.segments.0) (Some w) k) (longer p c) (segments none arguments sees_sep style s) e h
+
+-- the segments behind a type, and those behind the path after its `as`
+pub behind_none : {T G : Type 0} (o : Outcome (Many (PathSegmentOf G) Sep)) (l : token.Lt) (x : T) (a : Option (token.As × PathOf G)) (k : token.Gt) (c : Sep) (v w : Many (PathSegmentOf G) Sep) (t : Stream) →
+    a ≡ None → v ≡ ([], []) → after v o ≡ Ok (w, t) → and_then o (λ all. pure (qualified_of l x a k c all)) ≡ Ok ((qself_of l x 0 None k, path_of (Some c) w), t)
+behind_none o l x a k c v w t q e h =
+    ap (λ z. and_then o (λ all. pure (qualified_of l x z k c all))) q
+    ∙ ap (λ z. and_then z (λ all. pure (qself_of l x 0 None k, path_of (Some c) all))) (sym (none_yet_at o) ∙ ap (λ z. after z o) (sym e) ∙ h)
+
+pub behind_some : {T G : Type 0} (o : Outcome (Many (PathSegmentOf G) Sep)) (l : token.Lt) (x : T) (a : Option (token.As × PathOf G)) (w : token.As) (p : PathOf G) (k : token.Gt) (c : Sep) (n : ℕ) (z : PathOf G) (t : Stream) →
+    a ≡ Some (w, p) → n ≡ length p.segments.0 → and_then o (λ all. pure (longer p c all)) ≡ Ok (z, t) → and_then o (λ all. pure (qualified_of l x a k c all)) ≡ Ok ((qself_of l x n (Some w) k, z), t)
+behind_some o l x a w p k c n z t q e h =
+    ap (λ y. and_then o (λ all. pure (qualified_of l x y k c all))) q
+    ∙ beside_read (qself_of l x (length p.segments.0) (Some w) k) (longer p c) o z t h
+    ∙ ap (λ m. Ok ((qself_of l x m (Some w) k, z), t)) (sym e)
 
 pub ruleset behind_paths = (beside_read)
 
