@@ -1,6 +1,9 @@
 use Rattle.syn_forms.proofs.lists_laws.Turns.{passed_on, stopped}
-use Rattle.syn_forms.proofs.paths_laws.Longer.{after_refused, longer_told}
+use Rattle.syn_forms.proofs.paths_laws.Longer.{after_refused, longer_told, marked_whole}
 use Rattle.syn_forms.proofs.paths.Nested+unit+G+F.longer.Goals as goal
+
+pub segments_after-requires-clause-whole : goal.segments_after-requires-clause-whole
+segments_after-requires-clause-whole g c = marked_whole _ _ _ _ c.in_ok-push_punct.ensures.ok c.requires.ended
 
 pub returns-in_err-segments : goal.returns-in_err-segments
 returns-in_err-segments g c =
