@@ -183,7 +183,7 @@ impl<
     ///
     /// It is refused where no segment begins, and after a `::` that none follows. This is syn's `Path::parse_helper`, in the
     /// style of types its `Path::parse`.
-    #[tactic(auto, using(token_core::proofs::Suffixes::follows, crate::proofs::nested_laws::Ahead::later, crate::proofs::lists_laws::Turns::none_yet), unfolding(crate::specs::paths::Reading::path))]
+    #[tactic(auto, using(token_core::proofs::Suffixes::follows, crate::proofs::nested_laws::Ahead::later), unfolding(crate::specs::paths::Reading::path))]
     pub fn path(&self, input: &mut ParseStream<'_>, style: PathStyle) -> Result<PathOf<G>, Error>
         requires nests { Nests G.read (length self.now.begin) (F.pre self.now.read) (F.post self.now.read) }
         requires few { ahead input.old ≤ length self.now.begin }
@@ -205,7 +205,7 @@ impl<
     }
 
     /// The segments after a path that ends in a segment and a `::` that goes on with it.
-    #[tactic(auto, using(token_core::proofs::Suffixes::follows, crate::proofs::paths_laws::Longer::longer_paths))]
+    #[tactic(auto, using(token_core::proofs::Suffixes::follows))]
     fn longer<S: Further>(
         &self,
         input: &mut ParseStream<'_>,
@@ -303,7 +303,7 @@ impl<
     }
 
     /// The segments behind `<`, a type, a path behind an `as` that may be there, `>` and `::`.
-    #[tactic(auto, using(token_core::proofs::Suffixes::follows, crate::proofs::lists_laws::Turns::none_yet, crate::proofs::paths_laws::Longer::behind_paths))]
+    #[tactic(auto, using(token_core::proofs::Suffixes::follows))]
     fn qualified_by<T: Drop>(
         &self,
         input: &mut ParseStream<'_>,

@@ -1,6 +1,7 @@
 -- The arguments of a pointer to a function are read turn by turn, of any number of turns that are left.
 use Rattle.std.proofs.Common.{◌≡◌, ℕ, zero, suc, ◌<◌, ◌≤◌, Bool, true, false, List, [], ◌∷◌, ◌++◌, Option, Some, None, Ok, Err, refl, sym, ◌∙◌, ap, subst, arith, if◌then◌else◌, append_assoc, append-nil}
 use Rattle.token_core.specs.declared.tree.TokenStream.{TokenStream}
+use Rattle.token_core.specs.Refusal.{Refusal}
 use Rattle.token_core.specs.Stream.{Stream}
 use Rattle.token_core.specs.Reads.{Reader, Outcome, and_then, ◌>>=◌, ◌<$>◌, pure, is_done}
 use Rattle.token_core.specs.Loops.{size, Many, onto}
@@ -114,3 +115,20 @@ module _ {B A I : Type 0} (make : List B → Name → A → I) (attrs : Reader (
   -- the arguments end in one without a comma
   pub told_last : (o : Outcome (Inputs B I)) (v w : Many I token.Comma) (b : Bool) (s t u : Stream) (a : List B) (x : Name × A) → Told o v b s → Argued b s t u a x → is_done u.rest ≡ true → w ≡ (v.0 ++ make a x.0 x.1 ∷ [], v.1) → o ≡ Ok ((w, None), u)
   told_last o v w b s t u a x i h k e = i.told ∙ last i.turns v b s t u a x h k ∙ ap (λ z. Ok ((z, None), u)) (sym e)
+
+  -- there are no more
+  pub told_over : (o : Outcome (Inputs B I)) (v : Many I token.Comma) (b : Bool) (s : Stream) → Told o v b s → is_done s.rest ≡ true → o ≡ Ok ((v, None), s)
+  told_over o v b s i h = i.told ∙ ap (λ (z : Bool). begun v (turn i.turns b z s)) h ∙ begun-none v None s
+
+  -- attributes, `...`, an argument and a comma that are refused
+  pub no_attrs : (o : Outcome (Inputs B I)) (v : Many I token.Comma) (b : Bool) (s : Stream) (e : Refusal) → Told o v b s → is_done s.rest ≡ false → attrs s ≡ Err e → o ≡ Err e
+  no_attrs o v b s e i h k = i.told ∙ ap (λ (z : Bool). begun v (turn i.turns b z s)) h ∙ ap (λ (z : Outcome (List B)). begun v (and_then z (after_attrs i.turns b))) k
+
+  pub no_dots_read : (o : Outcome (Inputs B I)) (v : Many I token.Comma) (b : Bool) (s t : Stream) (a : List B) (e : Refusal) → Told o v b s → Borne s t a → sees_dots t.rest ≡ true → dots t ≡ Err e → o ≡ Err e
+  no_dots_read o v b s t a e i h k g = i.told ∙ dotted i.turns v b s t a h k ∙ ap (λ (z : Outcome Dots). begun v (and_then z (λ d. pure (no_inputs (Some (a, d)))))) g
+
+  pub no_argument : (o : Outcome (Inputs B I)) (v : Many I token.Comma) (b : Bool) (s t : Stream) (a : List B) (e : Refusal) → Told o v b s → Borne s t a → sees_dots t.rest ≡ false → argument value verbatim b t ≡ Err e → o ≡ Err e
+  no_argument o v b s t a e i h k g = i.told ∙ undotted i.turns v b s t a h k ∙ ap (λ (z : Outcome (Name × A)). begun v (and_then z (after_argument i.turns a))) g
+
+  pub no_comma : (o : Outcome (Inputs B I)) (v : Many I token.Comma) (b : Bool) (s t u : Stream) (a : List B) (x : Name × A) (e : Refusal) → Told o v b s → Argued b s t u a x → is_done u.rest ≡ false → token.comma u ≡ Err e → o ≡ Err e
+  no_comma o v b s t u a x e i h k g = i.told ∙ marked i.turns v b s t u a x h k ∙ ap (λ (z : Outcome token.Comma). begun v (and_then z (after_comma i.turns (make a x.0 x.1)))) g

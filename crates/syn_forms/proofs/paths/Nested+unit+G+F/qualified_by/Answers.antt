@@ -1,20 +1,27 @@
-use Rattle.std.proofs.Common.{◌≡◌, Err, length, rules, arith}
-use Rattle.std.proofs.lemmas.Grind.{common_steps}
-use Rattle.token_core.proofs.Suffixes.{follows}
-use Rattle.syn_path.proofs.path_laws.Turns.{refused_by}
+use Rattle.std.proofs.Common.{length}
 use Rattle.syn_forms.specs.nested.Below.{held}
-use Rattle.syn_forms.proofs.paths_laws.Longer.{behind_refused}
+use Rattle.syn_forms.proofs.lists_laws.Turns.{passed_on, stopped}
+use Rattle.syn_forms.proofs.paths_laws.Longer.{after_refused, behind_none, behind_refused, behind_some}
 use Rattle.syn_forms.proofs.paths.Nested+unit+G+F.qualified_by.Goals as goal
+
+pub returns-in_err-segments-in-None : goal.returns-in_err-segments-in-None
+returns-in_err-segments-in-None g c =
+    let e = c.in_err-segments-in-None.field-0.0 in
+    record { parses = (passed_on _ _ _ _ e c.from_residual.ensures c.in_err-segments-in-None.ensures.parses.0 (λ h. stopped _ e (after_refused _ _ e h)), c.segments_after.ensures.parses.1) }
+
+pub returns-in_ok-segments-in-None : goal.returns-in_ok-segments-in-None
+returns-in_ok-segments-in-None g c = record { parses = (behind_none _ _ _ _ _ _ _ _ _ c.in-None.is c.new.ensures c.in_ok-segments-in-None.ensures.parses.0, c.segments_after.ensures.parses.1) }
 
 pub returns-in_err-path-in-Some : goal.returns-in_err-path-in-Some
 returns-in_err-path-in-Some g c =
     let e = c.in_err-path-in-Some.field-0.0 in
-    let was : c.longer.result ≡ Err e = first_of (search rules, grind (arith, common_steps)) in
-    let back : c.from_residual-in_err-path-in-Some.result ≡ Err e = first_of (search rules, grind (arith, common_steps)) in
     record {
       parses = (
-        refused_by _ _ _ _ _ _ e was back c.longer.ensures.parses.0
+        passed_on _ _ _ _ e c.from_residual-in_err-path-in-Some.ensures c.in_err-path-in-Some.ensures.parses.0
             (λ h. behind_refused g.G.Arguments.absent (held g.G.Tree.read (length c.args.self.now.begin) tt) c.args.style _ _ _ _ _ _ _ _ e c.in-Some.is h),
-        grind (arith, follows),
+        c.longer.ensures.parses.1,
       );
     }
+
+pub returns-in_ok-path-in-Some : goal.returns-in_ok-path-in-Some
+returns-in_ok-path-in-Some g c = record { parses = (behind_some _ _ _ _ _ _ _ _ _ _ _ c.in-Some.is c.in_ok-position-in-Some.ensures c.in_ok-path-in-Some.ensures.parses.0, c.longer.ensures.parses.1) }
