@@ -12,7 +12,7 @@ use Rattle.syn_path.specs.declared.path.PathOf.{PathOf}
 use Rattle.syn_path.specs.declared.path.PathSegmentOf.{PathSegmentOf}
 use Rattle.syn_path.specs.declared.path.PathStyle.{PathStyle}
 use Rattle.syn_path.specs.path.Paths.{Sep, path_of}
-use Rattle.syn_path.specs.path.Reading.{sees_sep, sep}
+use Rattle.syn_path.specs.path.Reading.{sees_sep}
 use Rattle.syn_forms.proofs.lists_laws.Turns.{none_yet_at}
 use Rattle.syn_forms.specs.paths.Reading.{longer, qself_of, qualified_of, segments}
 

@@ -6,7 +6,7 @@ use Rattle.token_core.proofs.Suffixes.{follows, follows_trans}
 use Rattle.syn_forms.specs.inputs.Reading.{inputs}
 use Rattle.syn_forms.specs.nested.Below.{held}
 use Rattle.syn_forms.proofs.inputs_laws.Turns.{Told, start, told_ended, told_last, told_over, next, no_argument, no_attrs, no_comma, no_dots_read}
-use Rattle.syn_forms.proofs.lists_laws.Turns.{marked_whole, no_memory, passed_on, put_whole}
+use Rattle.syn_forms.proofs.lists_laws.Turns.{no_memory, passed_on, put_whole}
 use Rattle.syn_forms.proofs.nested_laws.Ahead.{ahead_follows, fewer_tokens}
 use Rattle.syn_forms.proofs.nested.Nested.inputs.Goals as goal
 
