@@ -13,7 +13,7 @@ use Rattle.syn_path.proofs.Along.{bind, closed, either, in_group_along, list_alo
 use Rattle.syn_path.proofs.Along.{lifetime as lifetime_along}
 use Rattle.syn_forms.specs.groups.Reading.{in_brackets, in_invisible, in_parens}
 use Rattle.syn_forms.specs.lists.Reading.{list_from, more_elements}
-use Rattle.syn_forms.specs.nested.Below.{ahead, below, below_if, held}
+use Rattle.syn_forms.specs.nested.Below.{below, below_if, held}
 use Rattle.syn_forms.specs.verbatim.Reading.{since}
 
 -- what is held as it was written

@@ -1,9 +1,10 @@
 -- Values joined by marks are read turn by turn, of any number of turns that are left. What was refused in a step is refused.
 use Rattle.std.specs.Prelude.{◌≢◌, IsErr, IsErrAnd}
-use Rattle.std.proofs.Common.{◌≡◌, ℕ, zero, suc, ◌<◌, ◌≤◌, Bool, true, false, [], ◌∷◌, ◌++◌, Result, Ok, Err, refl, sym, ◌∙◌, ap, subst, arith, if◌then◌else◌, append_assoc, append-nil}
+use Rattle.std.proofs.Common.{◌≡◌, ℕ, zero, suc, ◌<◌, ◌≤◌, ◌+◌, Bool, true, false, List, length, [], ◌∷◌, ◌++◌, Result, Ok, Err, refl, sym, ◌∙◌, ap, subst, arith, if◌then◌else◌, append_assoc, append-nil}
+use Rattle.std.proofs.lemmas.List.{length-append}
 use Rattle.std.proofs.Math.Path.{fun_ext}
 use Rattle.token_core.specs.declared.error.ErrorKind.TheVariants.{OutOfMemory}
-use Rattle.token_core.specs.Refusal.{Refusal}
+use Rattle.token_core.specs.Refusal.{Refusal, out_of_memory}
 use Rattle.token_core.specs.Stream.{Stream}
 use Rattle.token_core.specs.Toks.{Toks}
 use Rattle.token_core.specs.Reads.{Reader, Reads, Outcome, and_then, ◌>>=◌, ◌<$>◌, pure}
@@ -42,6 +43,27 @@ passed_on o p r t e h k f = stuck_by p o r t e (refusal_is r e h) k f
 -- what the same read tells
 pub told_by : {A : Type 0} {o p : Outcome A} (r : Result A Refusal) (t : Stream) → o ≡ p → Reads p r t → Reads o r t
 told_by r t e h = subst (λ z. Reads z r t) (sym e) h
+
+-- for want of memory anything may be refused
+pub no_memory : {A : Type 0} (o : Outcome A) (r : Result A Refusal) (t : Stream) → IsErr r × IsErrAnd r (λ z. z ≡ out_of_memory) → Reads o r t
+no_memory o (Ok x) t h = absurd h.1
+no_memory o (Err d) t h = λ k. absurd (k (ap (λ (z : Refusal). z.kind) h.1))
+
+-- ---- how many values and marks there are
+
+pub put_whole : {A P : Type 0} (xs : List A) (ps : List P) (x : A) (v : Many A P) → v ≡ (xs ++ x ∷ [], ps) → length xs ≡ length ps → length v.0 ≡ length v.1 + 1
+put_whole {A} {P} xs ps x v e h =
+    let a = ap (λ (z : Many A P). length z.0) e in
+    let b = ap (λ (z : Many A P). length z.1) e in
+    let d = length-append xs (x ∷ []) in
+    omega (arith, a, b, d, h)
+
+pub marked_whole : {A P : Type 0} (xs : List A) (ps : List P) (c : P) (v : Many A P) → v ≡ (xs, ps ++ c ∷ []) → length xs ≡ length ps + 1 → length v.0 ≡ length v.1
+marked_whole {A} {P} xs ps c v e h =
+    let a = ap (λ (z : Many A P). length z.0) e in
+    let b = ap (λ (z : Many A P). length z.1) e in
+    let d = length-append ps (c ∷ []) in
+    omega (arith, a, b, d, h)
 
 -- ---- turns
 

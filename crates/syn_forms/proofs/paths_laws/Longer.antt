@@ -1,6 +1,6 @@
 -- Segments after those that were found.
 use Rattle.std.specs.Prelude.{IsTrue, ◌↔◌, nat_eq}
-use Rattle.std.proofs.Common.{◌≡◌, ℕ, Bool, true, false, List, [], ◌∷◌, ◌++◌, ◌+◌, length, length-append, arith, Option, Some, None, Ok, Err, refl, sym, ◌∙◌, ap, append_assoc}
+use Rattle.std.proofs.Common.{◌≡◌, ℕ, Bool, true, false, List, [], ◌∷◌, ◌++◌, length, Option, Some, None, Ok, Err, refl, sym, ◌∙◌, ap, append_assoc}
 use Rattle.std.proofs.lemmas.Bool.{eq-eqb, eqb-true}
 use Rattle.token_core.specs.Loops.{Many, after, onto}
 use Rattle.token_core.specs.Reads.{Outcome, Reader, and_then, pure}
@@ -12,7 +12,7 @@ use Rattle.syn_path.specs.declared.path.PathOf.{PathOf}
 use Rattle.syn_path.specs.declared.path.PathSegmentOf.{PathSegmentOf}
 use Rattle.syn_path.specs.declared.path.PathStyle.{PathStyle}
 use Rattle.syn_path.specs.path.Paths.{Sep, path_of}
-use Rattle.syn_path.specs.path.Reading.{sees_sep, sep}
+use Rattle.syn_path.specs.path.Reading.{sees_sep}
 use Rattle.syn_forms.proofs.lists_laws.Turns.{none_yet_at}
 use Rattle.syn_forms.specs.paths.Reading.{longer, qself_of, qualified_of, segments}
 
@@ -36,13 +36,6 @@ longer_read p c o w t h = after_as (path_of p.leading_colon) p.segments.0 p.segm
 pub longer_told : {G : Type 0} (p : PathOf G) (c : Sep) (o : Outcome (Many (PathSegmentOf G) Sep)) (v w : Many (PathSegmentOf G) Sep) (t : Stream) → v ≡ (p.segments.0, p.segments.1 ++ c ∷ []) → after v o ≡ Ok (w, t) →
     and_then o (λ all. pure (longer p c all)) ≡ Ok (path_of p.leading_colon w, t)
 longer_told p c o v w t e h = longer_read p c o w t (ap (λ z. after z o) (sym e) ∙ h)
-
-pub marked_whole : {A P : Type 0} (xs : List A) (ps : List P) (c : P) (v : Many A P) → v ≡ (xs, ps ++ c ∷ []) → length xs ≡ length ps + 1 → length v.0 ≡ length v.1
-marked_whole xs ps c v e h =
-    let a = ap (λ (z : Many _ _). length z.0) e in
-    let b = ap (λ (z : Many _ _). length z.1) e in
-    let d = length-append ps (c ∷ []) in
-    omega (arith, a, b, d, h)
 
 -- what is answered beside what was read
 beside_read : {A B C : Type 0} (y : B) (f : A → C) (o : Outcome A) (z : C) (t : Stream) → and_then o (λ x. pure (f x)) ≡ Ok (z, t) → and_then {B = B × C} o (λ x. pure (y, f x)) ≡ Ok ((y, z), t)

@@ -6,7 +6,7 @@ use Rattle.token_core.proofs.Suffixes.{follows, follows_trans}
 use Rattle.syn_forms.specs.inputs.Reading.{inputs}
 use Rattle.syn_forms.specs.nested.Below.{held}
 use Rattle.syn_forms.proofs.inputs_laws.Turns.{Told, start, told_ended, told_last, told_over, next, no_argument, no_attrs, no_comma, no_dots_read}
-use Rattle.syn_forms.proofs.lists_laws.Turns.{passed_on}
+use Rattle.syn_forms.proofs.lists_laws.Turns.{no_memory, passed_on, put_whole}
 use Rattle.syn_forms.proofs.nested_laws.Ahead.{ahead_follows, fewer_tokens}
 use Rattle.syn_forms.proofs.nested.Nested.inputs.Goals as goal
 
@@ -137,6 +137,25 @@ returns-in_err-parse_comma g c =
     record {
       parses = (
         passed_on _ _ _ _ e c.from_residual-in_err-parse_comma.ensures c.in_err-parse_comma.ensures.parses.0 (λ h. no_comma make g.B.Attributes.reads value verbatim (inputs make g.B.Attributes.reads value verbatim c.args.input.now) c.turn.list c.turn.first c.turn.input c.read_outer.new.input c.argument.new.input c.in_ok-attrs.attrs (c.in_ok-name.name, c.in_ok-name.ty) e c.turn.invariant.told (record { bears = record { goes = sym c.if-is_empty.ensures; reads = c.in_ok-attrs.ensures.reads }; no_dots = sym c.if-sees_dots.ensures; reads = c.in_ok-name.ensures.parses.0 }) (sym c.if-is_empty-2.ensures) h),
+        follows_trans _ _ _ c.turn.invariant.within (follows_trans _ _ _ c.read_outer.ensures.within (follows_trans _ _ _ c.argument.ensures.parses.1 c.parse_comma.ensures.parses.1)),
+      );
+    }
+
+pub push_value-requires : goal.push_value-requires
+push_value-requires g c = c.turn.invariant.whole
+
+pub push_punct-requires : goal.push_punct-requires
+push_punct-requires g c = put_whole _ _ _ _ c.in_ok-push_value.ensures.ok c.turn.invariant.whole
+
+pub returns-in_err-push_value : goal.returns-in_err-push_value
+returns-in_err-push_value g c =
+    record { parses = (no_memory _ _ _ c.from_residual-in_err-push_value.ensures, follows_trans _ _ _ c.turn.invariant.within (follows_trans _ _ _ c.read_outer.ensures.within c.argument.ensures.parses.1)) }
+
+pub returns-in_err-push_punct : goal.returns-in_err-push_punct
+returns-in_err-push_punct g c =
+    record {
+      parses = (
+        no_memory _ _ _ c.from_residual-in_err-push_punct.ensures,
         follows_trans _ _ _ c.turn.invariant.within (follows_trans _ _ _ c.read_outer.ensures.within (follows_trans _ _ _ c.argument.ensures.parses.1 c.parse_comma.ensures.parses.1)),
       );
     }

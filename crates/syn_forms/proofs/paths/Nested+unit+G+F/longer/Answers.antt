@@ -1,6 +1,10 @@
-use Rattle.syn_forms.proofs.lists_laws.Turns.{passed_on, stopped}
-use Rattle.syn_forms.proofs.paths_laws.Longer.{after_refused, longer_told, marked_whole}
+use Rattle.token_core.proofs.Suffixes.{follows_self}
+use Rattle.syn_forms.proofs.lists_laws.Turns.{marked_whole, no_memory, passed_on, stopped}
+use Rattle.syn_forms.proofs.paths_laws.Longer.{after_refused, longer_told}
 use Rattle.syn_forms.proofs.paths.Nested+unit+G+F.longer.Goals as goal
+
+pub returns-in_err-push_punct : goal.returns-in_err-push_punct
+returns-in_err-push_punct g c = record { parses = (no_memory _ _ _ c.from_residual.ensures, follows_self _) }
 
 pub segments_after-requires-clause-whole : goal.segments_after-requires-clause-whole
 segments_after-requires-clause-whole g c = marked_whole _ _ _ _ c.in_ok-push_punct.ensures.ok c.requires.ended

@@ -1,8 +1,19 @@
-use Rattle.std.proofs.Common.{length}
+use Rattle.std.specs.Prelude.{IfSome}
+use Rattle.std.proofs.Common.{◌≡◌, ◌+◌, length, sym, subst, ap, ◌∙◌}
+use Rattle.token_core.proofs.Suffixes.{follows_self}
 use Rattle.syn_forms.specs.nested.Below.{held}
-use Rattle.syn_forms.proofs.lists_laws.Turns.{passed_on, stopped}
+use Rattle.syn_forms.proofs.lists_laws.Turns.{no_memory, passed_on, stopped}
 use Rattle.syn_forms.proofs.paths_laws.Longer.{after_refused, behind_none, behind_refused, behind_some}
 use Rattle.syn_forms.proofs.paths.Nested+unit+G+F.qualified_by.Goals as goal
+
+pub segments_after-requires-clause-whole : goal.segments_after-requires-clause-whole
+segments_after-requires-clause-whole g c = ap (λ v. length v.0) c.new.ensures ∙ sym (ap (λ v. length v.1) c.new.ensures)
+
+pub returns-in_err-position-in-Some : goal.returns-in_err-position-in-Some
+returns-in_err-position-in-Some g c = record { parses = (no_memory _ _ _ c.from_residual-in_err-position-in-Some.ensures, follows_self _) }
+
+pub longer-requires-clause-ended : goal.longer-requires-clause-ended
+longer-requires-clause-ended g c = subst (λ z. IfSome z (λ a. length a.1.segments.0 ≡ length a.1.segments.1 + 1)) c.in-Some.is c.requires.ended
 
 pub returns-in_err-segments-in-None : goal.returns-in_err-segments-in-None
 returns-in_err-segments-in-None g c =
