@@ -132,3 +132,15 @@ module _ {X G Q T : Type 0} (supplied : Place → Reader X) (r : ReadersOver X G
   -- the comma behind a field is refused
   pub told_refused : (o : Outcome (FieldsOver X G Q T)) (v : Many (FieldPatOf (PatOver X G Q T) (Attr X)) Comma) (s t u : Stream) (a : Attrs X) (x : FieldPatOf (PatOver X G Q T) (Attr X)) (e : Refusal) → Told o v s → Fielded s t u a x → is_done u.rest ≡ false → comma u ≡ Err e → o ≡ Err e
   told_refused o v s t u a x e i h k g = i.told ∙ marked i.turns v s t u a x h k ∙ ap (λ (z : Outcome Comma). begun v (and_then z (after_comma i.turns x))) g
+
+  -- the attributes of a field are refused
+  pub no_attrs : (o : Outcome (FieldsOver X G Q T)) (v : Many (FieldPatOf (PatOver X G Q T) (Attr X)) Comma) (s : Stream) (e : Refusal) → Told o v s → is_done s.rest ≡ false → outer supplied s ≡ Err e → o ≡ Err e
+  no_attrs o v s e i h k = i.told ∙ ap (λ (z : Bool). begun v (turn i.turns z s)) h ∙ ap (λ (z : Outcome (Attrs X)). begun v (and_then z (after_attrs i.turns))) k
+
+  -- `..` is refused
+  pub no_dots_read : (o : Outcome (FieldsOver X G Q T)) (v : Many (FieldPatOf (PatOver X G Q T) (Attr X)) Comma) (s t : Stream) (a : Attrs X) (e : Refusal) → Told o v s → Borne s t a → token.sees_dot_dot t.rest ≡ true → token.dot_dot t ≡ Err e → o ≡ Err e
+  no_dots_read o v s t a e i h k g = i.told ∙ dotted i.turns v s t a h k ∙ ap (λ (z : Outcome token.DotDot). begun v (and_then z (λ d. pure (no_fields (Some (rest_of a d)))))) g
+
+  -- a field is refused
+  pub no_field : (o : Outcome (FieldsOver X G Q T)) (v : Many (FieldPatOf (PatOver X G Q T) (Attr X)) Comma) (s t : Stream) (a : Attrs X) (e : Refusal) → Told o v s → Borne s t a → token.sees_dot_dot t.rest ≡ false → field r a t ≡ Err e → o ≡ Err e
+  no_field o v s t a e i h k g = i.told ∙ undotted i.turns v s t a h k ∙ ap (λ (z : Outcome (FieldPatOf (PatOver X G Q T) (Attr X))). begun v (and_then z (after_field i.turns))) g
