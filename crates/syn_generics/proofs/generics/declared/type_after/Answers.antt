@@ -16,28 +16,34 @@ pub returns-in_err-bounded_ty : goal.returns-in_err-bounded_ty
 unfolding type_after
 returns-in_err-bounded_ty g c =
     let e = c.in_err-bounded_ty.field-0.0 in
-    record { parses = (
+    record {
+      parses = (
         passed_on _ _ _ _ e c.from_residual-in_err-bounded_ty.ensures c.in_err-bounded_ty.ensures.parses.0 (λ h. link _ c.in_ok-lifetimes.ensures.parses.0 (stopped _ e h)),
         follows_trans _ _ _ c.optional_binder_from.ensures.parses.1 c.read_type.ensures.parses.1,
-      ) }
+      );
+    }
 
 pub returns-in_err-colon_token : goal.returns-in_err-colon_token
 unfolding type_after
 returns-in_err-colon_token g c =
     let e = c.in_err-colon_token.field-0.0 in
-    record { parses = (
+    record {
+      parses = (
         passed_on _ _ _ _ e c.from_residual-in_err-colon_token.ensures c.in_err-colon_token.ensures.parses.0 (λ h. link _ c.in_ok-lifetimes.ensures.parses.0 (link _ c.in_ok-bounded_ty.ensures.parses.0 (stopped _ e h))),
         follows_trans _ _ _ c.optional_binder_from.ensures.parses.1 (follows_trans _ _ _ c.read_type.ensures.parses.1 c.parse_colon.ensures.parses.1),
-      ) }
+      );
+    }
 
 pub returns-in_err-bounds : goal.returns-in_err-bounds
 unfolding type_after
 returns-in_err-bounds g c =
     let e = c.in_err-bounds.field-0.0 in
-    record { parses = (
+    record {
+      parses = (
         passed_on _ _ _ _ e c.from_residual-in_err-bounds.ensures c.in_err-bounds.ensures.parses.0 (λ h. link _ c.in_ok-lifetimes.ensures.parses.0 (link _ c.in_ok-bounded_ty.ensures.parses.0 (link _ c.in_ok-colon_token.ensures.parses.0 (stopped _ e h)))),
         follows_trans _ _ _ c.optional_binder_from.ensures.parses.1 (follows_trans _ _ _ c.read_type.ensures.parses.1 (follows_trans _ _ _ c.parse_colon.ensures.parses.1 c.predicate_bounds.ensures.parses.1)),
-      ) }
+      );
+    }
 
 pub predicate_bounds-requires : goal.predicate_bounds-requires
 predicate_bounds-requires g c =
@@ -49,7 +55,9 @@ predicate_bounds-requires g c =
 pub returns : goal.returns
 unfolding type_after
 returns g c =
-    record { parses = (
+    record {
+      parses = (
         link _ c.in_ok-lifetimes.ensures.parses.0 (link _ c.in_ok-bounded_ty.ensures.parses.0 (link _ c.in_ok-colon_token.ensures.parses.0 (link _ c.in_ok-bounds.ensures.parses.0 refl))),
         follows_trans _ _ _ c.optional_binder_from.ensures.parses.1 (follows_trans _ _ _ c.read_type.ensures.parses.1 (follows_trans _ _ _ c.parse_colon.ensures.parses.1 c.predicate_bounds.ensures.parses.1)),
-      ) }
+      );
+    }

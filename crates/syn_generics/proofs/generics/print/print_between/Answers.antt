@@ -1,0 +1,14 @@
+use Rattle.std.proofs.Common.{rules}
+use Rattle.std.proofs.lemmas.Result.{on_err_weaker}
+use Rattle.token_core.specs.Prints.{Extends}
+use Rattle.token_core.specs.Trees.{trees}
+use Rattle.token_core.proofs.Puts.{extends_on}
+use Rattle.syn_generics.proofs.generics.print.print_between.Goals as goal
+
+pub returns-in_err-print_sorted-clause-err : goal.returns-in_err-print_sorted-clause-err
+returns-in_err-print_sorted-clause-err g c =
+    let kept : Extends (trees c.args.out.now) (trees c.print_sorted.new.out) = extends_on _ _ _ _ c.in_ok-append_tokens.ensures.ok c.in_err-print_sorted.ensures.err in
+    search rules
+
+pub returns-clause-err : goal.returns-clause-err
+returns-clause-err g c = on_err_weaker c.append_tokens-2.result (λ h. extends_on _ _ _ _ c.in_ok-append_tokens.ensures.ok (extends_on _ _ _ _ c.in_ok-print_sorted.ensures.ok h)) c.append_tokens-2.ensures.err
