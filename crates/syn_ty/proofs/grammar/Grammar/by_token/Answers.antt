@@ -1,30 +1,42 @@
-use Rattle.std.proofs.Common.{◌≡◌, true, false, length, rules, arith}
-use Rattle.std.proofs.lemmas.Grind.{common_steps}
-use Rattle.token_core.specs.declared.tree.Delimiter.TheVariants as d
-use Rattle.token_core.specs.Reads.{sees_group}
-use Rattle.token_core.specs.Tokens as token
+use Rattle.std.proofs.Common.{true, false, length, refl, sym}
+use Rattle.token_core.proofs.Steps.{chosen, link}
+use Rattle.syn_forms.proofs.lists_laws.Turns.{passed_on, stopped}
 use Rattle.syn_ty.proofs.ty_laws.Steps.{as_told, token_bracket, token_dyn, token_last}
+use Rattle.syn_ty.specs.ty.Reading.{by_token}
 use Rattle.syn_ty.specs.ty.Knot as knot
 use Rattle.syn_ty.proofs.grammar.Grammar.by_token.Goals as goal
 
 pub returns-then-peek-clause-parses : goal.returns-then-peek-clause-parses
 returns-then-peek-clause-parses g c =
-    let h : token.sees_dyn c.args.input.now.rest ≡ true = first_of (search rules, grind (arith, common_steps)) in
     let r = knot.reads_below g.A.Attributes.reads g.E.Value.reads (length c.args.self.now.begin) in
-    as_told _ _ c.dyn_type.result c.args.input.now c.dyn_type.new.input (token_dyn g.A.Attributes.reads g.E.Value.reads r c.args.input.now c.args.plus h) c.dyn_type.ensures.parses
+    as_told _ _ c.dyn_type.result c.args.input.now c.dyn_type.new.input (token_dyn g.A.Attributes.reads g.E.Value.reads r c.args.input.now c.args.plus (sym c.if-peek.ensures)) c.dyn_type.ensures.parses
 
 pub returns-then-peek-2-clause-parses : goal.returns-then-peek-2-clause-parses
 returns-then-peek-2-clause-parses g c =
-    let h : token.sees_dyn c.args.input.now.rest ≡ false = first_of (search rules, grind (arith, common_steps)) in
-    let b : sees_group d.Bracket c.args.input.now.rest ≡ true = first_of (search rules, grind (arith, common_steps)) in
     let r = knot.reads_below g.A.Attributes.reads g.E.Value.reads (length c.args.self.now.begin) in
-    as_told _ _ c.slice_or_array.result c.args.input.now c.slice_or_array.new.input (token_bracket g.A.Attributes.reads g.E.Value.reads r c.args.input.now c.args.plus h b) c.slice_or_array.ensures.parses
+    as_told _ _ c.slice_or_array.result c.args.input.now c.slice_or_array.new.input (token_bracket g.A.Attributes.reads g.E.Value.reads r c.args.input.now c.args.plus (sym c.if-peek.ensures) (sym c.if-peek-2.ensures)) c.slice_or_array.ensures.parses
 
 pub returns-clause-parses : goal.returns-clause-parses
 returns-clause-parses g c =
-    let h : token.sees_dyn c.args.input.now.rest ≡ false = first_of (search rules, grind (arith, common_steps)) in
-    let b : sees_group d.Bracket c.args.input.now.rest ≡ false = first_of (search rules, grind (arith, common_steps)) in
-    let p : token.sees_star c.args.input.now.rest ≡ false = first_of (search rules, grind (arith, common_steps)) in
-    let f : token.sees_and c.args.input.now.rest ≡ false = first_of (search rules, grind (arith, common_steps)) in
     let r = knot.reads_below g.A.Attributes.reads g.E.Value.reads (length c.args.self.now.begin) in
-    as_told _ _ c.by_last_tokens.result c.args.input.now c.by_last_tokens.new.input (token_last g.A.Attributes.reads g.E.Value.reads r c.args.input.now c.args.plus h b p f) c.by_last_tokens.ensures.parses
+    as_told _ _ c.by_last_tokens.result c.args.input.now c.by_last_tokens.new.input (token_last g.A.Attributes.reads g.E.Value.reads r c.args.input.now c.args.plus (sym c.if-peek.ensures) (sym c.if-peek-2.ensures) (sym c.if-peek-3.ensures) (sym c.if-peek-4.ensures)) c.by_last_tokens.ensures.parses
+
+pub returns-in_err-ptr-clause-parses : goal.returns-in_err-ptr-clause-parses
+unfolding by_token
+returns-in_err-ptr-clause-parses g c =
+    let e = c.in_err-ptr.field-0.0 in
+    (passed_on _ _ _ _ e c.from_residual.ensures c.in_err-ptr.ensures.parses.0 (λ h. chosen _ false _ _ _ _ (sym c.if-peek.ensures) (chosen _ false _ _ _ _ (sym c.if-peek-2.ensures) (chosen _ true _ _ _ _ (sym c.if-peek-3.ensures) (stopped _ e h)))), c.ptr.ensures.parses.1)
+
+pub returns-then-peek-3-clause-parses : goal.returns-then-peek-3-clause-parses
+unfolding by_token
+returns-then-peek-3-clause-parses g c = (chosen _ false _ _ _ _ (sym c.if-peek.ensures) (chosen _ false _ _ _ _ (sym c.if-peek-2.ensures) (chosen _ true _ _ _ _ (sym c.if-peek-3.ensures) (link _ c.in_ok-ptr.ensures.parses.0 refl))), c.ptr.ensures.parses.1)
+
+pub returns-in_err-reference-clause-parses : goal.returns-in_err-reference-clause-parses
+unfolding by_token
+returns-in_err-reference-clause-parses g c =
+    let e = c.in_err-reference.field-0.0 in
+    (passed_on _ _ _ _ e c.from_residual-in_err-reference.ensures c.in_err-reference.ensures.parses.0 (λ h. chosen _ false _ _ _ _ (sym c.if-peek.ensures) (chosen _ false _ _ _ _ (sym c.if-peek-2.ensures) (chosen _ false _ _ _ _ (sym c.if-peek-3.ensures) (chosen _ true _ _ _ _ (sym c.if-peek-4.ensures) (stopped _ e h))))), c.reference.ensures.parses.1)
+
+pub returns-then-peek-4-clause-parses : goal.returns-then-peek-4-clause-parses
+unfolding by_token
+returns-then-peek-4-clause-parses g c = (chosen _ false _ _ _ _ (sym c.if-peek.ensures) (chosen _ false _ _ _ _ (sym c.if-peek-2.ensures) (chosen _ false _ _ _ _ (sym c.if-peek-3.ensures) (chosen _ true _ _ _ _ (sym c.if-peek-4.ensures) (link _ c.in_ok-reference.ensures.parses.0 refl)))), c.reference.ensures.parses.1)

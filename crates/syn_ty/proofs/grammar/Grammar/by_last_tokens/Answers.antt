@@ -1,0 +1,63 @@
+use Rattle.std.proofs.Common.{Ok, Err, true, false, refl, sym, ap}
+use Rattle.token_core.proofs.Suffixes.{follows_self}
+use Rattle.token_core.proofs.Steps.{chosen, link}
+use Rattle.syn_forms.proofs.lists_laws.Turns.{passed_on, stopped}
+use Rattle.syn_forms.proofs.nested_laws.Ahead.{ahead_follows}
+use Rattle.syn_ty.specs.ty.Reading.{by_last_tokens}
+use Rattle.syn_ty.proofs.grammar.Grammar.by_last_tokens.Goals as goal
+
+pub returns-in_err-parse_never-clause-parses : goal.returns-in_err-parse_never-clause-parses
+unfolding by_last_tokens
+returns-in_err-parse_never-clause-parses g c =
+    let e = c.in_err-parse_never.field-0.0 in
+    (passed_on _ _ _ _ e c.from_residual.ensures c.in_err-parse_never.ensures.parses.0 (λ h. chosen _ true _ _ _ _ (sym c.if-peek.ensures) (stopped _ e h)), c.parse_never.ensures.parses.1)
+
+pub returns-in_err-parse_never-clause-fewer : goal.returns-in_err-parse_never-clause-fewer
+returns-in_err-parse_never-clause-fewer g c = ahead_follows _ _ c.parse_never.ensures.parses.1
+
+pub returns-then-peek-clause-parses : goal.returns-then-peek-clause-parses
+unfolding by_last_tokens
+returns-then-peek-clause-parses g c = (chosen _ true _ _ _ _ (sym c.if-peek.ensures) (link _ c.in_ok-parse_never.ensures.parses.0 refl), c.parse_never.ensures.parses.1)
+
+pub returns-then-peek-clause-fewer : goal.returns-then-peek-clause-fewer
+returns-then-peek-clause-fewer g c = ahead_follows _ _ c.parse_never.ensures.parses.1
+
+pub returns-in_err-impl_trait-clause-parses : goal.returns-in_err-impl_trait-clause-parses
+unfolding by_last_tokens
+returns-in_err-impl_trait-clause-parses g c =
+    let e = c.in_err-impl_trait.field-0.0 in
+    (passed_on _ _ _ _ e c.from_residual-in_err-impl_trait.ensures c.in_err-impl_trait.ensures.parses.0 (λ h. chosen _ false _ _ _ _ (sym c.if-peek.ensures) (chosen _ true _ _ _ _ (sym c.if-peek-2.ensures) (stopped _ e h))), c.impl_trait.ensures.parses.1)
+
+pub returns-then-peek-2-clause-parses : goal.returns-then-peek-2-clause-parses
+unfolding by_last_tokens
+returns-then-peek-2-clause-parses g c = (chosen _ false _ _ _ _ (sym c.if-peek.ensures) (chosen _ true _ _ _ _ (sym c.if-peek-2.ensures) (link _ c.in_ok-impl_trait.ensures.parses.0 refl)), c.impl_trait.ensures.parses.1)
+
+pub returns-in_err-parse_infer-clause-parses : goal.returns-in_err-parse_infer-clause-parses
+unfolding by_last_tokens
+returns-in_err-parse_infer-clause-parses g c =
+    let e = c.in_err-parse_infer.field-0.0 in
+    (passed_on _ _ _ _ e c.from_residual-in_err-parse_infer.ensures c.in_err-parse_infer.ensures.parses.0 (λ h. chosen _ false _ _ _ _ (sym c.if-peek.ensures) (chosen _ false _ _ _ _ (sym c.if-peek-2.ensures) (chosen _ true _ _ _ _ (sym c.if-peek-3.ensures) (stopped _ e h)))), c.parse_infer.ensures.parses.1)
+
+pub returns-in_err-parse_infer-clause-fewer : goal.returns-in_err-parse_infer-clause-fewer
+returns-in_err-parse_infer-clause-fewer g c = ahead_follows _ _ c.parse_infer.ensures.parses.1
+
+pub returns-then-peek-3-clause-parses : goal.returns-then-peek-3-clause-parses
+unfolding by_last_tokens
+returns-then-peek-3-clause-parses g c = (chosen _ false _ _ _ _ (sym c.if-peek.ensures) (chosen _ false _ _ _ _ (sym c.if-peek-2.ensures) (chosen _ true _ _ _ _ (sym c.if-peek-3.ensures) (link _ c.in_ok-parse_infer.ensures.parses.0 refl))), c.parse_infer.ensures.parses.1)
+
+pub returns-then-peek-3-clause-fewer : goal.returns-then-peek-3-clause-fewer
+returns-then-peek-3-clause-fewer g c = ahead_follows _ _ c.parse_infer.ensures.parses.1
+
+pub returns-in_err-bounds-clause-parses : goal.returns-in_err-bounds-clause-parses
+unfolding by_last_tokens
+returns-in_err-bounds-clause-parses g c =
+    let e = c.in_err-bounds.field-0.0 in
+    (passed_on _ _ _ _ e c.from_residual-in_err-bounds.ensures c.in_err-bounds.ensures.parses.0 (λ h. chosen _ false _ _ _ _ (sym c.if-peek.ensures) (chosen _ false _ _ _ _ (sym c.if-peek-2.ensures) (chosen _ false _ _ _ _ (sym c.if-peek-3.ensures) (chosen _ true _ _ _ _ (sym c.if-peek-4.ensures) (stopped _ e h))))), c.lifetime_object.ensures.parses.1)
+
+pub returns-then-peek-4-clause-parses : goal.returns-then-peek-4-clause-parses
+unfolding by_last_tokens
+returns-then-peek-4-clause-parses g c = (chosen _ false _ _ _ _ (sym c.if-peek.ensures) (chosen _ false _ _ _ _ (sym c.if-peek-2.ensures) (chosen _ false _ _ _ _ (sym c.if-peek-3.ensures) (chosen _ true _ _ _ _ (sym c.if-peek-4.ensures) (link _ c.in_ok-bounds.ensures.parses.0 (ap (λ z. Ok (z, c.lifetime_object.new.input)) (sym c.object_of.ensures)))))), c.lifetime_object.ensures.parses.1)
+
+pub returns-clause-parses : goal.returns-clause-parses
+unfolding by_last_tokens
+returns-clause-parses g c = (λ k. chosen _ false _ _ _ _ (sym c.if-peek.ensures) (chosen _ false _ _ _ _ (sym c.if-peek-2.ensures) (chosen _ false _ _ _ _ (sym c.if-peek-3.ensures) (chosen _ false _ _ _ _ (sym c.if-peek-4.ensures) (ap (λ z. Err z) (sym (c.no_type.ensures k)))))), follows_self _)
