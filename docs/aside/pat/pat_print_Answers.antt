@@ -1,0 +1,424 @@
+use Rattle.std.proofs.Common.{rules, append_assoc, ◌≡◌, ◌++◌, drop, length, Some, option_map, sym, ap, ◌∙◌, arith}
+use Rattle.std.proofs.lemmas.List.{take-append-drop}
+use Rattle.std.proofs.lemmas.Result.{on_ok_weaker, on_err_weaker}
+use Rattle.token_core.specs.Joined.{values_of, marks_of}
+use Rattle.token_core.specs.Lists.{joined}
+use Rattle.token_core.specs.Prints as p
+use Rattle.token_core.specs.Prints.{Extends}
+use Rattle.token_core.specs.Trees.{trees}
+use Rattle.token_core.proofs.Puts.{extends_append, extends_on}
+use Rattle.syn_pat.specs.pat.Printing.{pat, member, field, shown}
+use Rattle.syn_pat.proofs.pat_laws.Kept.{still}
+use Rattle.syn_pat.proofs.pat_laws.Height.{height, sub_by, field_by, height-Guard, height-Ident, height-Or, height-Paren, height-Reference, height-Slice, height-Struct, height-Tuple, height-TupleStruct, height-Type}
+use Rattle.syn_ty.proofs.ty_laws.Parts.{in_list, last_in_list, put_last, put_next}
+use Rattle.syn_pat.proofs.pat.print.+print.Goals as goal
+
+pub print_guarded-returns-clause-err : goal.print_guarded-returns-clause-err
+print_guarded-returns-clause-err g t c =
+    on_err_weaker c.print_guard.result
+    (λ h. extends_on _ _ _ _ c.in_ok-print_outer.ensures.appends.0 (extends_on _ _ _ _ c.in_ok-print_pat.ensures.ok (extends_on _ _ _ _ c.in_ok-to_tokens.ensures.ok h))) c.print_guard.ensures.err
+
+pub print_typed-returns-clause-err : goal.print_typed-returns-clause-err
+print_typed-returns-clause-err g t c =
+    on_err_weaker c.append_tokens.result
+    (λ h. extends_on _ _ _ _ c.in_ok-print_outer.ensures.appends.0 (extends_on _ _ _ _ c.in_ok-print_pat.ensures.ok (extends_on _ _ _ _ c.in_ok-to_tokens.ensures.ok h))) c.append_tokens.ensures.err
+
+pub print_reference-returns-in_err-append_tokens-clause-err : goal.print_reference-returns-in_err-append_tokens-clause-err
+print_reference-returns-in_err-append_tokens-clause-err g t c =
+    let kept : Extends (trees c.args.out.now) (trees c.append_tokens.new.out) =
+    extends_on _ _ _ _ c.in_ok-print_outer.ensures.appends.0 (extends_on _ _ _ _ c.in_ok-to_tokens.ensures.ok c.in_err-append_tokens.ensures.err) in
+    search rules
+
+pub print_reference-returns-clause-err : goal.print_reference-returns-clause-err
+print_reference-returns-clause-err g t c =
+    on_err_weaker c.print_pat.result
+    (λ h. extends_on _ _ _ _ c.in_ok-print_outer.ensures.appends.0 (extends_on _ _ _ _ c.in_ok-to_tokens.ensures.ok (extends_on _ _ _ _ c.in_ok-append_tokens.ensures.ok h))) c.print_pat.ensures.err
+
+pub print_binding-returns-in_ok-to_tokens-in-Some-clause-err : goal.print_binding-returns-in_ok-to_tokens-in-Some-clause-err
+print_binding-returns-in_ok-to_tokens-in-Some-clause-err g t c =
+    on_err_weaker c.print_pat.result
+    (λ h. extends_on _ _ _ _ c.in_ok-print_name.ensures.ok (extends_on _ _ _ _ c.in_ok-to_tokens-in-Some.ensures.ok h)) c.print_pat.ensures.err
+
+-- ---- print_slice_elements
+
+pub print_slice_elements-print_pat-requires : goal.print_slice_elements-print_pat-requires
+print_slice_elements-print_pat-requires g t c κs within =
+    let h = in_list height c.args.pat.now.elems c.element_parts.result.0.now (option_map (λ x. x.now) c.element_parts.result.1) c.loop-pair.pair-index c.pair-item.result c.element_parts.ensures c.loop-pair-test.true c.pair-item.is in
+    (omega (arith, c.decreases, h), within)
+
+pub print_slice_elements-print_pat-requires-in-Some : goal.print_slice_elements-print_pat-requires-in-Some
+print_slice_elements-print_pat-requires-in-Some g t c κs within =
+    let k : option_map (λ x. x.now) c.element_parts.result.1 ≡ Some c.in-Some.element.now = ap (option_map (λ x. x.now)) c.in-Some.is in
+    let h = last_in_list height c.args.pat.now.elems c.element_parts.result.0.now (option_map (λ x. x.now) c.element_parts.result.1) c.in-Some.element.now c.element_parts.ensures k in
+    (omega (arith, c.decreases, h), within)
+
+pub print_slice_elements-returns-in-Some-clause-ok : goal.print_slice_elements-returns-in-Some-clause-ok
+print_slice_elements-returns-in-Some-clause-ok g t c =
+    let k : option_map (λ x. x.now) c.element_parts.result.1 ≡ Some c.in-Some.element.now = ap (option_map (λ x. x.now)) c.in-Some.is in
+    on_ok_weaker c.print_pat-in-Some.result
+    (λ h. put_last (pat g.X.Subtree.prints (shown g.Q.Qualifier.shown g.T.ToTokens.print)) p.mark c.args.pat.now.elems c.element_parts.result.0.now (option_map (λ x. x.now) c.element_parts.result.1) c.in-Some.element.now c.loop-pair.pair-index (trees c.args.out.now) (trees c.loop-pair.out)
+    (trees c.print_pat-in-Some.new.out) c.element_parts.ensures k c.loop-pair-test.false c.loop-pair.invariant.told h) c.print_pat-in-Some.ensures.ok
+
+pub print_slice_elements-returns-in-Some-clause-err : goal.print_slice_elements-returns-in-Some-clause-err
+print_slice_elements-returns-in-Some-clause-err g t c =
+    let old = trees c.args.out.now in
+    let mid = trees c.loop-pair.out in
+    on_err_weaker c.print_pat-in-Some.result
+    (λ h. extends_on old (drop (length old) mid) mid _ (sym (take-append-drop (length old) mid) ∙ ap (λ z. z ++ drop (length old) mid) c.loop-pair.invariant.kept) h) c.print_pat-in-Some.ensures.err
+
+-- ---- print_tuple_elements
+
+pub print_tuple_elements-print_pat-requires : goal.print_tuple_elements-print_pat-requires
+print_tuple_elements-print_pat-requires g t c κs within =
+    let h = in_list height c.args.pat.now.elems c.element_parts.result.0.now (option_map (λ x. x.now) c.element_parts.result.1) c.loop-pair.pair-index c.pair-item.result c.element_parts.ensures c.loop-pair-test.true c.pair-item.is in
+    (omega (arith, c.decreases, h), within)
+
+pub print_tuple_elements-print_pat-requires-in-Some : goal.print_tuple_elements-print_pat-requires-in-Some
+print_tuple_elements-print_pat-requires-in-Some g t c κs within =
+    let k : option_map (λ x. x.now) c.element_parts.result.1 ≡ Some c.in-Some.element.now = ap (option_map (λ x. x.now)) c.in-Some.is in
+    let h = last_in_list height c.args.pat.now.elems c.element_parts.result.0.now (option_map (λ x. x.now) c.element_parts.result.1) c.in-Some.element.now c.element_parts.ensures k in
+    (omega (arith, c.decreases, h), within)
+
+pub print_tuple_elements-returns-in-Some-clause-ok : goal.print_tuple_elements-returns-in-Some-clause-ok
+print_tuple_elements-returns-in-Some-clause-ok g t c =
+    let k : option_map (λ x. x.now) c.element_parts.result.1 ≡ Some c.in-Some.element.now = ap (option_map (λ x. x.now)) c.in-Some.is in
+    on_ok_weaker c.print_pat-in-Some.result
+    (λ h. put_last (pat g.X.Subtree.prints (shown g.Q.Qualifier.shown g.T.ToTokens.print)) p.mark c.args.pat.now.elems c.element_parts.result.0.now (option_map (λ x. x.now) c.element_parts.result.1) c.in-Some.element.now c.loop-pair.pair-index (trees c.args.out.now) (trees c.loop-pair.out)
+    (trees c.print_pat-in-Some.new.out) c.element_parts.ensures k c.loop-pair-test.false c.loop-pair.invariant.told h) c.print_pat-in-Some.ensures.ok
+
+pub print_tuple_elements-returns-in-Some-clause-err : goal.print_tuple_elements-returns-in-Some-clause-err
+print_tuple_elements-returns-in-Some-clause-err g t c =
+    let old = trees c.args.out.now in
+    let mid = trees c.loop-pair.out in
+    on_err_weaker c.print_pat-in-Some.result
+    (λ h. extends_on old (drop (length old) mid) mid _ (sym (take-append-drop (length old) mid) ∙ ap (λ z. z ++ drop (length old) mid) c.loop-pair.invariant.kept) h) c.print_pat-in-Some.ensures.err
+
+-- ---- print_tuple_struct_elements
+
+pub print_tuple_struct_elements-print_pat-requires : goal.print_tuple_struct_elements-print_pat-requires
+print_tuple_struct_elements-print_pat-requires g t c κs within =
+    let h = in_list height c.args.pat.now.elems c.element_parts.result.0.now (option_map (λ x. x.now) c.element_parts.result.1) c.loop-pair.pair-index c.pair-item.result c.element_parts.ensures c.loop-pair-test.true c.pair-item.is in
+    (omega (arith, c.decreases, h), within)
+
+pub print_tuple_struct_elements-print_pat-requires-in-Some : goal.print_tuple_struct_elements-print_pat-requires-in-Some
+print_tuple_struct_elements-print_pat-requires-in-Some g t c κs within =
+    let k : option_map (λ x. x.now) c.element_parts.result.1 ≡ Some c.in-Some.element.now = ap (option_map (λ x. x.now)) c.in-Some.is in
+    let h = last_in_list height c.args.pat.now.elems c.element_parts.result.0.now (option_map (λ x. x.now) c.element_parts.result.1) c.in-Some.element.now c.element_parts.ensures k in
+    (omega (arith, c.decreases, h), within)
+
+pub print_tuple_struct_elements-returns-in-Some-clause-ok : goal.print_tuple_struct_elements-returns-in-Some-clause-ok
+print_tuple_struct_elements-returns-in-Some-clause-ok g t c =
+    let k : option_map (λ x. x.now) c.element_parts.result.1 ≡ Some c.in-Some.element.now = ap (option_map (λ x. x.now)) c.in-Some.is in
+    on_ok_weaker c.print_pat-in-Some.result
+    (λ h. put_last (pat g.X.Subtree.prints (shown g.Q.Qualifier.shown g.T.ToTokens.print)) p.mark c.args.pat.now.elems c.element_parts.result.0.now (option_map (λ x. x.now) c.element_parts.result.1) c.in-Some.element.now c.loop-pair.pair-index (trees c.args.out.now) (trees c.loop-pair.out)
+    (trees c.print_pat-in-Some.new.out) c.element_parts.ensures k c.loop-pair-test.false c.loop-pair.invariant.told h) c.print_pat-in-Some.ensures.ok
+
+pub print_tuple_struct_elements-returns-in-Some-clause-err : goal.print_tuple_struct_elements-returns-in-Some-clause-err
+print_tuple_struct_elements-returns-in-Some-clause-err g t c =
+    let old = trees c.args.out.now in
+    let mid = trees c.loop-pair.out in
+    on_err_weaker c.print_pat-in-Some.result
+    (λ h. extends_on old (drop (length old) mid) mid _ (sym (take-append-drop (length old) mid) ∙ ap (λ z. z ++ drop (length old) mid) c.loop-pair.invariant.kept) h) c.print_pat-in-Some.ensures.err
+
+-- ---- print_cases
+
+pub print_cases-print_pat-requires : goal.print_cases-print_pat-requires
+print_cases-print_pat-requires g t c κs within =
+    let h = in_list height c.args.pat.now.cases c.case_parts.result.0.now (option_map (λ x. x.now) c.case_parts.result.1) c.loop-pair.pair-index c.pair-item.result c.case_parts.ensures c.loop-pair-test.true c.pair-item.is in
+    (omega (arith, c.decreases, h), within)
+
+pub print_cases-print_pat-requires-in-Some : goal.print_cases-print_pat-requires-in-Some
+print_cases-print_pat-requires-in-Some g t c κs within =
+    let k : option_map (λ x. x.now) c.case_parts.result.1 ≡ Some c.in-Some.case.now = ap (option_map (λ x. x.now)) c.in-Some.is in
+    let h = last_in_list height c.args.pat.now.cases c.case_parts.result.0.now (option_map (λ x. x.now) c.case_parts.result.1) c.in-Some.case.now c.case_parts.ensures k in
+    (omega (arith, c.decreases, h), within)
+
+pub print_cases-returns-in-Some-clause-ok : goal.print_cases-returns-in-Some-clause-ok
+print_cases-returns-in-Some-clause-ok g t c =
+    let k : option_map (λ x. x.now) c.case_parts.result.1 ≡ Some c.in-Some.case.now = ap (option_map (λ x. x.now)) c.in-Some.is in
+    on_ok_weaker c.print_pat-in-Some.result
+    (λ h. put_last (pat g.X.Subtree.prints (shown g.Q.Qualifier.shown g.T.ToTokens.print)) p.mark c.args.pat.now.cases c.case_parts.result.0.now (option_map (λ x. x.now) c.case_parts.result.1) c.in-Some.case.now c.loop-pair.pair-index (trees c.args.out.now) (trees c.loop-pair.out)
+    (trees c.print_pat-in-Some.new.out) c.case_parts.ensures k c.loop-pair-test.false c.loop-pair.invariant.told h) c.print_pat-in-Some.ensures.ok
+
+pub print_cases-returns-in-Some-clause-err : goal.print_cases-returns-in-Some-clause-err
+print_cases-returns-in-Some-clause-err g t c =
+    let old = trees c.args.out.now in
+    let mid = trees c.loop-pair.out in
+    on_err_weaker c.print_pat-in-Some.result
+    (λ h. extends_on old (drop (length old) mid) mid _ (sym (take-append-drop (length old) mid) ∙ ap (λ z. z ++ drop (length old) mid) c.loop-pair.invariant.kept) h) c.print_pat-in-Some.ensures.err
+
+-- ---- print_fields
+
+pub print_fields-print_pat-requires : goal.print_fields-print_pat-requires
+print_fields-print_pat-requires g t c κs within =
+    let h = in_list (field_by height) c.args.pat.now.fields c.field_parts.result.0.now (option_map (λ x. x.now) c.field_parts.result.1) c.loop-pair.pair-index c.pair-item.result c.field_parts.ensures c.loop-pair-test.true c.pair-item.is in
+    let e = ap height c.get.ensures in
+    (omega (arith, c.decreases, h, e), within)
+
+pub print_fields-print_pat-requires-in-Some : goal.print_fields-print_pat-requires-in-Some
+print_fields-print_pat-requires-in-Some g t c κs within =
+    let k : option_map (λ x. x.now) c.field_parts.result.1 ≡ Some c.in-Some.field.now = ap (option_map (λ x. x.now)) c.in-Some.is in
+    let h = last_in_list (field_by height) c.args.pat.now.fields c.field_parts.result.0.now (option_map (λ x. x.now) c.field_parts.result.1) c.in-Some.field.now c.field_parts.ensures k in
+    let e = ap height c.get-in-Some.ensures in
+    (omega (arith, c.decreases, h, e), within)
+
+pub print_fields-loop-pair-preserved : goal.print_fields-loop-pair-preserved
+print_fields-loop-pair-preserved g t c =
+    let px = g.X.Subtree.prints in
+    let names = shown g.Q.Qualifier.shown g.T.ToTokens.print in
+    let old = trees c.args.out.now in
+    let mid = trees c.loop-pair.out in
+    let last = option_map (λ x. x.now) c.field_parts.result.1 in
+    let all = c.field_parts.result.0.now in
+    let x = c.pair-item.result.value in
+    let whole : trees c.print_pat.new.out ≡ mid ++ field px names x =
+    c.in_ok-print_pat.ensures.ok ∙ ap (λ z. z ++ pat px names c.get.result.now) c.in_ok-print_member.ensures.ok ∙ append_assoc mid (member px x) (pat px names c.get.result.now) ∙ ap (λ z. mid ++ (member px x ++ pat px names z)) c.get.ensures in
+    record {
+      told = put_next (field px names) p.mark all last c.loop-pair.pair-index c.pair-item.result old mid (trees c.print_pat.new.out) (trees c.to_tokens.new.out) (joined (field px names) p.mark (values_of all last) (marks_of all))
+          c.loop-pair-test.true c.pair-item.is c.loop-pair.invariant.told whole c.in_ok-to_tokens.ensures.ok;
+      kept = rw c.in_ok-to_tokens.ensures.ok (rw whole (extends_append old _ _ (extends_append old mid _ c.loop-pair.invariant.kept)));
+    }
+
+pub print_fields-returns-in_ok-print_member-in-Some-clause-ok : goal.print_fields-returns-in_ok-print_member-in-Some-clause-ok
+print_fields-returns-in_ok-print_member-in-Some-clause-ok g t c =
+    let px = g.X.Subtree.prints in
+    let names = shown g.Q.Qualifier.shown g.T.ToTokens.print in
+    let mid = trees c.loop-pair.out in
+    let last = option_map (λ x. x.now) c.field_parts.result.1 in
+    let x = c.in-Some.field.now in
+    let k : option_map (λ x. x.now) c.field_parts.result.1 ≡ Some x = ap (option_map (λ x. x.now)) c.in-Some.is in
+    on_ok_weaker c.print_pat-in-Some.result
+    (λ h. put_last (field px names) p.mark c.args.pat.now.fields c.field_parts.result.0.now last x c.loop-pair.pair-index (trees c.args.out.now) mid (trees c.print_pat-in-Some.new.out) c.field_parts.ensures k c.loop-pair-test.false c.loop-pair.invariant.told
+    (h ∙ ap (λ z. z ++ pat px names c.get-in-Some.result.now) c.in_ok-print_member-in-Some.ensures.ok ∙ append_assoc mid (member px x) (pat px names c.get-in-Some.result.now) ∙ ap (λ z. mid ++ (member px x ++ pat px names z)) c.get-in-Some.ensures)) c.print_pat-in-Some.ensures.ok
+
+pub print_fields-returns-in_ok-print_member-in-Some-clause-err : goal.print_fields-returns-in_ok-print_member-in-Some-clause-err
+print_fields-returns-in_ok-print_member-in-Some-clause-err g t c =
+    let old = trees c.args.out.now in
+    let mid = trees c.loop-pair.out in
+    on_err_weaker c.print_pat-in-Some.result
+    (λ h. extends_on old (drop (length old) mid) mid _ (sym (take-append-drop (length old) mid) ∙ ap (λ z. z ++ drop (length old) mid) c.loop-pair.invariant.kept)
+    (extends_on _ _ _ _ c.in_ok-print_member-in-Some.ensures.ok h)) c.print_pat-in-Some.ensures.err
+
+-- ---- each call is for a smaller pattern, or for a part of the same
+
+pub print_pat-print_guarded-requires : goal.print_pat-print_guarded-requires
+print_pat-print_guarded-requires g t c κs within =
+    let e = ap height c.in-Guard.is ∙ height-Guard c.in-Guard.pat in
+    (omega (arith, c.decreases, e), within)
+
+pub print_pat-print_binding-requires : goal.print_pat-print_binding-requires
+print_pat-print_binding-requires g t c κs within =
+    let e = ap height c.in-Ident.is ∙ height-Ident c.in-Ident.pat in
+    (omega (arith, c.decreases, e), within)
+
+pub print_pat-print_alternatives-requires : goal.print_pat-print_alternatives-requires
+print_pat-print_alternatives-requires g t c κs within =
+    let e = ap height c.in-Or.is ∙ height-Or c.in-Or.pat in
+    (omega (arith, c.decreases, e), within)
+
+pub print_pat-print_paren-requires : goal.print_pat-print_paren-requires
+print_pat-print_paren-requires g t c κs within =
+    let e = ap height c.in-Paren.is ∙ height-Paren c.in-Paren.pat in
+    (omega (arith, c.decreases, e), within)
+
+pub print_pat-print_reference-requires : goal.print_pat-print_reference-requires
+print_pat-print_reference-requires g t c κs within =
+    let e = ap height c.in-Reference.is ∙ height-Reference c.in-Reference.pat in
+    (omega (arith, c.decreases, e), within)
+
+pub print_pat-print_slice-requires : goal.print_pat-print_slice-requires
+print_pat-print_slice-requires g t c κs within =
+    let e = ap height c.in-Slice.is ∙ height-Slice c.in-Slice.pat in
+    (omega (arith, c.decreases, e), within)
+
+pub print_pat-print_struct-requires : goal.print_pat-print_struct-requires
+print_pat-print_struct-requires g t c κs within =
+    let e = ap height c.in-Struct.is ∙ height-Struct c.in-Struct.pat in
+    (omega (arith, c.decreases, e), within)
+
+pub print_pat-print_tuple-requires : goal.print_pat-print_tuple-requires
+print_pat-print_tuple-requires g t c κs within =
+    let e = ap height c.in-Tuple.is ∙ height-Tuple c.in-Tuple.pat in
+    (omega (arith, c.decreases, e), within)
+
+pub print_pat-print_tuple_struct-requires : goal.print_pat-print_tuple_struct-requires
+print_pat-print_tuple_struct-requires g t c κs within =
+    let e = ap height c.in-TupleStruct.is ∙ height-TupleStruct c.in-TupleStruct.pat in
+    (omega (arith, c.decreases, e), within)
+
+pub print_pat-print_typed-requires : goal.print_pat-print_typed-requires
+print_pat-print_typed-requires g t c κs within =
+    let e = ap height c.in-Type.is ∙ height-Type c.in-Type.pat in
+    (omega (arith, c.decreases, e), within)
+
+pub print_guarded-print_pat-requires : goal.print_guarded-print_pat-requires
+print_guarded-print_pat-requires g t c κs within =
+    let e = ap height c.get.ensures in
+    (omega (arith, c.decreases, e), within)
+
+pub print_paren-print_pat-requires : goal.print_paren-print_pat-requires
+print_paren-print_pat-requires g t c κs within =
+    let e = ap height c.get.ensures in
+    (omega (arith, c.decreases, e), within)
+
+pub print_reference-print_pat-requires : goal.print_reference-print_pat-requires
+print_reference-print_pat-requires g t c κs within =
+    let e = ap height c.get.ensures in
+    (omega (arith, c.decreases, e), within)
+
+pub print_typed-print_pat-requires : goal.print_typed-print_pat-requires
+print_typed-print_pat-requires g t c κs within =
+    let e = ap height c.get.ensures in
+    (omega (arith, c.decreases, e), within)
+
+pub print_binding-print_pat-requires : goal.print_binding-print_pat-requires
+print_binding-print_pat-requires g t c κs within =
+    let e = ap (sub_by height) c.in-Some.is in
+    let k = ap height c.get.ensures in
+    (omega (arith, c.decreases, e, k), within)
+
+pub print_alternatives-print_cases-requires : goal.print_alternatives-print_cases-requires
+print_alternatives-print_cases-requires g t c κs within = (omega (arith, c.decreases), within)
+
+pub print_slice-print_slice_elements-requires : goal.print_slice-print_slice_elements-requires
+print_slice-print_slice_elements-requires g t c κs within = (omega (arith, c.decreases), within)
+
+pub print_struct-print_fields-requires : goal.print_struct-print_fields-requires
+print_struct-print_fields-requires g t c κs within = (omega (arith, c.decreases), within)
+
+pub print_tuple-print_tuple_elements-requires : goal.print_tuple-print_tuple_elements-requires
+print_tuple-print_tuple_elements-requires g t c κs within = (omega (arith, c.decreases), within)
+
+pub print_tuple_struct-print_tuple_struct_elements-requires : goal.print_tuple_struct-print_tuple_struct_elements-requires
+print_tuple_struct-print_tuple_struct_elements-requires g t c κs within = (omega (arith, c.decreases), within)
+
+-- ---- what is refused keeps what stood before
+
+pub print_guarded-returns-in_err-print_pat-clause-err : goal.print_guarded-returns-in_err-print_pat-clause-err
+print_guarded-returns-in_err-print_pat-clause-err g t c =
+    let kept : Extends (trees c.args.out.now) (trees c.print_pat.new.out) = extends_on _ _ _ _ c.in_ok-print_outer.ensures.appends.0 c.in_err-print_pat.ensures.err in
+    search rules
+
+pub print_guarded-returns-in_err-to_tokens-clause-err : goal.print_guarded-returns-in_err-to_tokens-clause-err
+print_guarded-returns-in_err-to_tokens-clause-err g t c =
+    let kept : Extends (trees c.args.out.now) (trees c.to_tokens.new.out) = extends_on _ _ _ _ c.in_ok-print_outer.ensures.appends.0 (extends_on _ _ _ _ c.in_ok-print_pat.ensures.ok (still _ _ c.in_err-to_tokens.ensures.err)) in
+    search rules
+
+pub print_alternatives-returns-in_err-append_tokens-clause-err : goal.print_alternatives-returns-in_err-append_tokens-clause-err
+print_alternatives-returns-in_err-append_tokens-clause-err g t c =
+    let kept : Extends (trees c.args.out.now) (trees c.append_tokens.new.out) = extends_on _ _ _ _ c.in_ok-print_outer.ensures.appends.0 c.in_err-append_tokens.ensures.err in
+    search rules
+
+pub print_reference-returns-in_err-to_tokens-clause-err : goal.print_reference-returns-in_err-to_tokens-clause-err
+print_reference-returns-in_err-to_tokens-clause-err g t c =
+    let kept : Extends (trees c.args.out.now) (trees c.to_tokens.new.out) = extends_on _ _ _ _ c.in_ok-print_outer.ensures.appends.0 (still _ _ c.in_err-to_tokens.ensures.err) in
+    search rules
+
+pub print_typed-returns-in_err-print_pat-clause-err : goal.print_typed-returns-in_err-print_pat-clause-err
+print_typed-returns-in_err-print_pat-clause-err g t c =
+    let kept : Extends (trees c.args.out.now) (trees c.print_pat.new.out) = extends_on _ _ _ _ c.in_ok-print_outer.ensures.appends.0 c.in_err-print_pat.ensures.err in
+    search rules
+
+pub print_typed-returns-in_err-to_tokens-clause-err : goal.print_typed-returns-in_err-to_tokens-clause-err
+print_typed-returns-in_err-to_tokens-clause-err g t c =
+    let kept : Extends (trees c.args.out.now) (trees c.to_tokens.new.out) = extends_on _ _ _ _ c.in_ok-print_outer.ensures.appends.0 (extends_on _ _ _ _ c.in_ok-print_pat.ensures.ok (still _ _ c.in_err-to_tokens.ensures.err)) in
+    search rules
+
+pub print_struct-returns-in_err-print_path-clause-err : goal.print_struct-returns-in_err-print_path-clause-err
+print_struct-returns-in_err-print_path-clause-err g t c =
+    let kept : Extends (trees c.args.out.now) (trees c.print_path.new.out) = extends_on _ _ _ _ c.in_ok-print_outer.ensures.appends.0 c.in_err-print_path.ensures.err in
+    search rules
+
+pub print_tuple_struct-returns-in_err-print_path-clause-err : goal.print_tuple_struct-returns-in_err-print_path-clause-err
+print_tuple_struct-returns-in_err-print_path-clause-err g t c =
+    let kept : Extends (trees c.args.out.now) (trees c.print_path.new.out) = extends_on _ _ _ _ c.in_ok-print_outer.ensures.appends.0 c.in_err-print_path.ensures.err in
+    search rules
+
+pub print_binding-returns-in_err-to_tokens-in-Some-clause-err : goal.print_binding-returns-in_err-to_tokens-in-Some-clause-err
+print_binding-returns-in_err-to_tokens-in-Some-clause-err g t c =
+    let kept : Extends (trees c.args.out.now) (trees c.to_tokens-in-Some.new.out) = extends_on _ _ _ _ c.in_ok-print_name.ensures.ok (still _ _ c.in_err-to_tokens-in-Some.ensures.err) in
+    search rules
+
+pub print_alternatives-returns-clause-err : goal.print_alternatives-returns-clause-err
+print_alternatives-returns-clause-err g t c = on_err_weaker c.print_cases.result (λ h. extends_on _ _ _ _ c.in_ok-print_outer.ensures.appends.0 (extends_on _ _ _ _ c.in_ok-append_tokens.ensures.ok h)) c.print_cases.ensures.err
+
+pub print_slice_elements-returns-in_err-print_pat-clause-err : goal.print_slice_elements-returns-in_err-print_pat-clause-err
+print_slice_elements-returns-in_err-print_pat-clause-err g t c =
+    let old = trees c.args.out.now in
+    let mid = trees c.loop-pair.out in
+    let kept : Extends (trees c.args.out.now) (trees c.print_pat.new.out) =
+    extends_on old (drop (length old) mid) mid _ (sym (take-append-drop (length old) mid) ∙ ap (λ z. z ++ drop (length old) mid) c.loop-pair.invariant.kept) c.in_err-print_pat.ensures.err in
+    search rules
+
+pub print_slice_elements-returns-in_err-to_tokens-clause-err : goal.print_slice_elements-returns-in_err-to_tokens-clause-err
+print_slice_elements-returns-in_err-to_tokens-clause-err g t c =
+    let kept : Extends (trees c.args.out.now) (trees c.to_tokens.new.out) = rw c.in_err-to_tokens.ensures.err (rw c.in_ok-print_pat.ensures.ok (extends_append _ _ _ c.loop-pair.invariant.kept)) in
+    search rules
+
+pub print_tuple_elements-returns-in_err-print_pat-clause-err : goal.print_tuple_elements-returns-in_err-print_pat-clause-err
+print_tuple_elements-returns-in_err-print_pat-clause-err g t c =
+    let old = trees c.args.out.now in
+    let mid = trees c.loop-pair.out in
+    let kept : Extends (trees c.args.out.now) (trees c.print_pat.new.out) =
+    extends_on old (drop (length old) mid) mid _ (sym (take-append-drop (length old) mid) ∙ ap (λ z. z ++ drop (length old) mid) c.loop-pair.invariant.kept) c.in_err-print_pat.ensures.err in
+    search rules
+
+pub print_tuple_elements-returns-in_err-to_tokens-clause-err : goal.print_tuple_elements-returns-in_err-to_tokens-clause-err
+print_tuple_elements-returns-in_err-to_tokens-clause-err g t c =
+    let kept : Extends (trees c.args.out.now) (trees c.to_tokens.new.out) = rw c.in_err-to_tokens.ensures.err (rw c.in_ok-print_pat.ensures.ok (extends_append _ _ _ c.loop-pair.invariant.kept)) in
+    search rules
+
+pub print_tuple_struct_elements-returns-in_err-print_pat-clause-err : goal.print_tuple_struct_elements-returns-in_err-print_pat-clause-err
+print_tuple_struct_elements-returns-in_err-print_pat-clause-err g t c =
+    let old = trees c.args.out.now in
+    let mid = trees c.loop-pair.out in
+    let kept : Extends (trees c.args.out.now) (trees c.print_pat.new.out) =
+    extends_on old (drop (length old) mid) mid _ (sym (take-append-drop (length old) mid) ∙ ap (λ z. z ++ drop (length old) mid) c.loop-pair.invariant.kept) c.in_err-print_pat.ensures.err in
+    search rules
+
+pub print_tuple_struct_elements-returns-in_err-to_tokens-clause-err : goal.print_tuple_struct_elements-returns-in_err-to_tokens-clause-err
+print_tuple_struct_elements-returns-in_err-to_tokens-clause-err g t c =
+    let kept : Extends (trees c.args.out.now) (trees c.to_tokens.new.out) = rw c.in_err-to_tokens.ensures.err (rw c.in_ok-print_pat.ensures.ok (extends_append _ _ _ c.loop-pair.invariant.kept)) in
+    search rules
+
+pub print_cases-returns-in_err-print_pat-clause-err : goal.print_cases-returns-in_err-print_pat-clause-err
+print_cases-returns-in_err-print_pat-clause-err g t c =
+    let old = trees c.args.out.now in
+    let mid = trees c.loop-pair.out in
+    let kept : Extends (trees c.args.out.now) (trees c.print_pat.new.out) =
+    extends_on old (drop (length old) mid) mid _ (sym (take-append-drop (length old) mid) ∙ ap (λ z. z ++ drop (length old) mid) c.loop-pair.invariant.kept) c.in_err-print_pat.ensures.err in
+    search rules
+
+pub print_cases-returns-in_err-to_tokens-clause-err : goal.print_cases-returns-in_err-to_tokens-clause-err
+print_cases-returns-in_err-to_tokens-clause-err g t c =
+    let kept : Extends (trees c.args.out.now) (trees c.to_tokens.new.out) = rw c.in_err-to_tokens.ensures.err (rw c.in_ok-print_pat.ensures.ok (extends_append _ _ _ c.loop-pair.invariant.kept)) in
+    search rules
+
+pub print_fields-returns-in_err-print_member-clause-err : goal.print_fields-returns-in_err-print_member-clause-err
+print_fields-returns-in_err-print_member-clause-err g t c =
+    let old = trees c.args.out.now in
+    let mid = trees c.loop-pair.out in
+    let kept : Extends (trees c.args.out.now) (trees c.print_member.new.out) =
+    extends_on old (drop (length old) mid) mid _ (sym (take-append-drop (length old) mid) ∙ ap (λ z. z ++ drop (length old) mid) c.loop-pair.invariant.kept) c.in_err-print_member.ensures.err in
+    search rules
+
+pub print_fields-returns-in_err-print_pat-clause-err : goal.print_fields-returns-in_err-print_pat-clause-err
+print_fields-returns-in_err-print_pat-clause-err g t c =
+    let old = trees c.args.out.now in
+    let mid = trees c.loop-pair.out in
+    let kept : Extends (trees c.args.out.now) (trees c.print_pat.new.out) =
+    extends_on old (drop (length old) mid) mid _ (sym (take-append-drop (length old) mid) ∙ ap (λ z. z ++ drop (length old) mid) c.loop-pair.invariant.kept) (extends_on _ _ _ _ c.in_ok-print_member.ensures.ok c.in_err-print_pat.ensures.err) in
+    search rules
+
+pub print_fields-returns-in_err-to_tokens-clause-err : goal.print_fields-returns-in_err-to_tokens-clause-err
+print_fields-returns-in_err-to_tokens-clause-err g t c =
+    let kept : Extends (trees c.args.out.now) (trees c.to_tokens.new.out) = rw c.in_err-to_tokens.ensures.err (rw c.in_ok-print_pat.ensures.ok (extends_append _ _ _ (rw c.in_ok-print_member.ensures.ok (extends_append _ _ _ c.loop-pair.invariant.kept)))) in
+    search rules
+
+pub print_fields-returns-in_err-print_member-in-Some-clause-err : goal.print_fields-returns-in_err-print_member-in-Some-clause-err
+print_fields-returns-in_err-print_member-in-Some-clause-err g t c =
+    let old = trees c.args.out.now in
+    let mid = trees c.loop-pair.out in
+    let kept : Extends (trees c.args.out.now) (trees c.print_member-in-Some.new.out) =
+    extends_on old (drop (length old) mid) mid _ (sym (take-append-drop (length old) mid) ∙ ap (λ z. z ++ drop (length old) mid) c.loop-pair.invariant.kept) c.in_err-print_member-in-Some.ensures.err in
+    search rules
