@@ -9,8 +9,8 @@ ghost use Rattle.syn_attr.specs.attr.Requirements.{path_in};
 use crate::nested_tests::{Does, at_property, called, show};
 use std::alloc::Global;
 use std::process::Abort;
-use syn_mid::meta::ParseNestedMeta;
-use syn_mid::{Attribute, Meta, MetaList, MetaNameValue, ParseInner, ParseOuter};
+use syn_attr::attr::{Attribute, Meta, MetaList, MetaNameValue};
+use syn_attr::meta::ParseNestedMeta;
 use syn_sample::sample::Sample;
 use token_core::token::FatArrow;
 use token_core::{
@@ -43,14 +43,36 @@ fn printed<T: ToTokens>(alloc: Global, tree: &T) -> Result<String, Error> {
     Ok(text_of(alloc, &out)?)
 }
 
+/// Outer attributes, by a function that is handed on as a parser.
+#[tactic(auto, using(token_core::proofs::Suffixes::follows))]
+fn parse_outer(
+    alloc: Global,
+    input: &mut ParseStream<'_>,
+) -> Result<Items<Attribute<Sample>>, Error>
+    ensures { Follows input.old input.new }
+{
+    Attribute::parse_outer(alloc, input)
+}
+
+/// Inner attributes, likewise.
+#[tactic(auto, using(token_core::proofs::Suffixes::follows))]
+fn parse_inner(
+    alloc: Global,
+    input: &mut ParseStream<'_>,
+) -> Result<Items<Attribute<Sample>>, Error>
+    ensures { Follows input.old input.new }
+{
+    Attribute::parse_inner(alloc, input)
+}
+
 fn outers(alloc: Global, text: &str) -> Result<Items<Attribute<Sample>>, Error> {
     let tokens = lex(alloc, text)?;
-    read_all_with(alloc, ParseOuter::<Sample>::new(), &tokens)
+    read_all_with(alloc, ByFn(parse_outer), &tokens)
 }
 
 fn inners(alloc: Global, text: &str) -> Result<Items<Attribute<Sample>>, Error> {
     let tokens = lex(alloc, text)?;
-    read_all_with(alloc, ParseInner::<Sample>::new(), &tokens)
+    read_all_with(alloc, ByFn(parse_inner), &tokens)
 }
 
 /// The last of some attributes that can be asked for arguments, as each that is read can.

@@ -7,11 +7,14 @@ ghost use Rattle.syn_attr.specs.attr.Requirements.{path_in};
 use crate::attr_tests::says;
 use std::alloc::{AllocError, Global};
 use std::fmt::Write;
-use syn_mid::meta::ParseNestedMeta;
-use syn_mid::verbatim::Attribute;
+use syn_attr::meta::ParseNestedMeta;
+use syn_verbatim::expr::VerbatimExpr;
 use token_core::token::Comma;
 use token_core::{ByFn, Error, Lit, LitStr, ParseStream, read_all_with};
 use token_text::lex;
+
+/// An attribute, as the face names it: `syn_mid::verbatim::Attribute`.
+type Attribute = syn_attr::attr::Attribute<VerbatimExpr>;
 
 /// What the attributes of a field say of it.
 #[derive(Drop)]

@@ -1,5 +1,5 @@
-//! Tests of what users write over the face: closures at properties and parsers by functions, whose conditions are proved where they are handed on,
-//! and the sample of a supplied subtree.
+//! Tests of what users write: closures at properties and parsers by functions, whose conditions are proved where they are handed on, and the sample
+//! of a supplied subtree. They name the crates below the face, so that they are proved beside the types; the face hands the same items on.
 #![tactic(auto)]
 
 #[cfg(test)]

@@ -5,7 +5,7 @@ ghost use Rattle.token_core.specs.Reads.{Follows};
 use std::alloc::{AllocError, Global};
 use std::fmt::Write;
 use std::test::Fail;
-use syn_mid::meta::{ParseNestedMeta, parser};
+use syn_attr::meta::{ParseNestedMeta, parser};
 use syn_sample::sample::Sample;
 use token_core::token::{Comma, Eq};
 use token_core::{Error, Ident, Lit, read_all_with};

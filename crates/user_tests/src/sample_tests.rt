@@ -6,7 +6,8 @@ ghost use Rattle.token_core.specs.Reads.{Follows};
 
 use crate::attr_tests::says;
 use std::alloc::Global;
-use syn_mid::{MetaNameValue, Place, Subtree};
+use syn_attr::attr::MetaNameValue;
+use syn_path::supplied::{Place, Subtree};
 use syn_sample::sample::Sample;
 use token_core::{ByFn, Error, ParseStream, ToTokens, TokenStream, read_all, read_all_with};
 use token_text::{lex, text_of};
