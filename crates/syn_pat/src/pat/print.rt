@@ -424,7 +424,7 @@ fn print_tuple_struct<X: Subtree, G: Arguments, Q: Qualifier<G>, T: ToTokens>(
 
 #[cycle(print)]
 #[tactic(auto, using(token_core::proofs::Puts::puts, crate::proofs::pat_laws::Prints::prints))]
-fn print_typed<X: Subtree, G: Arguments, Q: Qualifier<G>, T: ToTokens>(
+pub fn print_typed<X: Subtree, G: Arguments, Q: Qualifier<G>, T: ToTokens>(
     alloc: Global,
     pat: &TypedOver<X, G, Q, T>,
     out: &mut TokenStream,
