@@ -3,6 +3,7 @@
 ghost use Rattle.std.specs.Prelude.{◌≡◌, IfOk};
 ghost use Rattle.syn_forms.specs.declared.places.TypePlace.TheVariants.{Plus};
 ghost use Rattle.syn_pat.specs.pat.Knot as knot;
+ghost use Rattle.syn_pat.specs.pat.Pats as pats;
 ghost use Rattle.syn_pat.specs.pat.Printing as patterns;
 ghost use Rattle.syn_pat.specs.pat.Reading.{named};
 ghost use Rattle.syn_readers.specs.Readers as readers;
@@ -32,7 +33,9 @@ use syn_readers::reader::{
     GenericsReader, PathReader, TypeReader, print_of, reprint, reprint_with,
 };
 use syn_sample::sample::Sample;
-use token_core::{Error, Items, Parse, ParseStream, Parser, ToTokens, TokenStream, read_all_with};
+use token_core::{
+    Boxed, Error, Items, Parse, ParseStream, Parser, ToTokens, TokenStream, read_all_with,
+};
 
 /// A reader that a run knows by name.
 #[derive(Clone, Copy, PartialEq, Eq)]
@@ -210,7 +213,8 @@ fn reprint_attributes<P: Parser<Output = Items<Attribute<Sample>>> + Drop>(
     Ok(print_of(alloc, &attrs)?)
 }
 
-// ---- over any arguments of paths, what qualifies a path, and types: so no tree of types is named, and none is dropped
+// ---- over any arguments of paths, what qualifies a path, and types: so no tree of types is named. A pattern is boxed at once, since its drop is
+// written out on each way out otherwise
 
 /// Reads a pattern in its place, and prints it.
 #[tactic(auto, using(token_core::proofs::Suffixes::follows))]
@@ -221,11 +225,11 @@ fn show_pat<X: Subtree, G: Arguments, Q: Qualifier<G>, T: ToTokens + Drop>(
     place: PatPlace,
 ) -> Result<TokenStream, Error>
     ensures shown { Parsed (spec.shows (knot.pat X.reads (named Q.reads G.is_absent) place) (patterns.pat X.prints (patterns.shown Q.shown T.print)) input.old)
-        (Fails (knot.pat X.reads (named Q.reads G.is_absent) place) input.old) result input.new }
+        (Fails {A = pats.PatOver X G Q T} (knot.pat X.reads (named Q.reads G.is_absent) place) input.old) result input.new }
     ensures within { Follows input.old input.new }
 {
-    let pat = parse_pat::<X, G, Q, T>(alloc, of, input, place)?;
-    Ok(print_of_pat(alloc, &pat)?)
+    let pat = Boxed::new(alloc, parse_pat::<X, G, Q, T>(alloc, of, input, place)?)?;
+    Ok(print_of_pat(alloc, pat.get())?)
 }
 
 /// Reads a pattern with a guard that may follow, and prints it.
@@ -236,11 +240,11 @@ fn show_guarded<X: Subtree, G: Arguments, Q: Qualifier<G>, T: ToTokens + Drop>(
     input: &mut ParseStream<'_>,
 ) -> Result<TokenStream, Error>
     ensures shown { Parsed (spec.shows (knot.guarded X.reads (named Q.reads G.is_absent)) (patterns.pat X.prints (patterns.shown Q.shown T.print)) input.old)
-        (Fails (knot.guarded X.reads (named Q.reads G.is_absent)) input.old) result input.new }
+        (Fails {A = pats.PatOver X G Q T} (knot.guarded X.reads (named Q.reads G.is_absent)) input.old) result input.new }
     ensures within { Follows input.old input.new }
 {
-    let pat = parse_guarded::<X, G, Q, T>(alloc, input)?;
-    Ok(print_of_pat(alloc, &pat)?)
+    let pat = Boxed::new(alloc, parse_guarded::<X, G, Q, T>(alloc, input)?)?;
+    Ok(print_of_pat(alloc, pat.get())?)
 }
 
 /// Reads a pattern with its type, and prints it.
@@ -254,10 +258,8 @@ fn show_typed<X: Subtree, G: Arguments, Q: Qualifier<G>, T: Held<TypePlace> + To
         (Fails (knot.typed_over X.reads (named Q.reads G.is_absent) (T.read Plus)) input.old) result input.new }
     ensures within { Follows input.old input.new }
 {
-    let pat = parse_typed::<X, G, Q, T>(alloc, input)?;
-    let mut out = TokenStream::new(alloc);
-    print_typed(alloc, &pat, &mut out)?;
-    Ok(out)
+    let pat = Boxed::new(alloc, parse_typed::<X, G, Q, T>(alloc, input)?)?;
+    Ok(print_of_typed(alloc, pat.get())?)
 }
 
 /// The print of a pattern, in a list of its own.
@@ -269,5 +271,17 @@ fn print_of_pat<X: Subtree, G: Arguments, Q: Qualifier<G>, T: ToTokens>(
 {
     let mut out = TokenStream::new(alloc);
     print_pat(alloc, pat, &mut out)?;
+    Ok(out)
+}
+
+/// The same of one with its type.
+fn print_of_typed<X: Subtree, G: Arguments, Q: Qualifier<G>, T: ToTokens>(
+    alloc: Global,
+    pat: &TypedOver<X, G, Q, T>,
+) -> Result<TokenStream, AllocError>
+    ensures { IfOk result (λ s. trees s ≡ patterns.typed X.prints (patterns.shown Q.shown T.print) pat.now) }
+{
+    let mut out = TokenStream::new(alloc);
+    print_typed(alloc, pat, &mut out)?;
     Ok(out)
 }
