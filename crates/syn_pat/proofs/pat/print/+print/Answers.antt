@@ -10,6 +10,8 @@ use Rattle.token_core.proofs.Puts.{extends_append, extends_on}
 use Rattle.syn_pat.specs.pat.Printing.{pat, member, field, shown}
 use Rattle.syn_pat.proofs.pat_laws.Height.{height, sub_by, field_by, height-Guard, height-Ident, height-Or, height-Paren, height-Reference, height-Slice, height-Struct, height-Tuple, height-TupleStruct, height-Type}
 use Rattle.syn_ty.proofs.ty_laws.Parts.{in_list, last_in_list, put_last, put_next}
+use Rattle.syn_ty.proofs.ty_laws.Pieces.{put_case}
+use Rattle.syn_pat.proofs.pat_laws.Prints.{pat-Guard, pat-Ident, pat-Or, pat-Paren, pat-Reference, pat-Rest, pat-Slice, pat-Struct, pat-Tuple, pat-TupleStruct, pat-Type, pat-Verbatim, pat-Wild}
 use Rattle.syn_pat.proofs.pat.print.+print.Goals as goal
 
 pub print_guarded-returns-clause-err : goal.print_guarded-returns-clause-err
@@ -290,3 +292,55 @@ print_tuple-print_tuple_elements-requires g t c κs within = (omega (arith, c.de
 
 pub print_tuple_struct-print_tuple_struct_elements-requires : goal.print_tuple_struct-print_tuple_struct_elements-requires
 print_tuple_struct-print_tuple_struct_elements-requires g t c κs within = (omega (arith, c.decreases), within)
+
+pub print_pat-returns-in-Guard-clause-ok : goal.print_pat-returns-in-Guard-clause-ok
+print_pat-returns-in-Guard-clause-ok g t c =
+    on_ok_weaker c.print_guarded.result (λ h. put_case (pat g.X.Subtree.prints (shown g.Q.Qualifier.shown g.T.ToTokens.print)) _ _ _ _ _ c.in-Guard.is (pat-Guard g.X.Subtree.prints (shown g.Q.Qualifier.shown g.T.ToTokens.print) _) h) c.print_guarded.ensures.ok
+
+pub print_pat-returns-in-Ident-clause-ok : goal.print_pat-returns-in-Ident-clause-ok
+print_pat-returns-in-Ident-clause-ok g t c =
+    on_ok_weaker c.print_binding.result (λ h. put_case (pat g.X.Subtree.prints (shown g.Q.Qualifier.shown g.T.ToTokens.print)) _ _ _ _ _ c.in-Ident.is (pat-Ident g.X.Subtree.prints (shown g.Q.Qualifier.shown g.T.ToTokens.print) _) h) c.print_binding.ensures.ok
+
+pub print_pat-returns-in-Or-clause-ok : goal.print_pat-returns-in-Or-clause-ok
+print_pat-returns-in-Or-clause-ok g t c =
+    on_ok_weaker c.print_alternatives.result (λ h. put_case (pat g.X.Subtree.prints (shown g.Q.Qualifier.shown g.T.ToTokens.print)) _ _ _ _ _ c.in-Or.is (pat-Or g.X.Subtree.prints (shown g.Q.Qualifier.shown g.T.ToTokens.print) _) h) c.print_alternatives.ensures.ok
+
+pub print_pat-returns-in-Paren-clause-ok : goal.print_pat-returns-in-Paren-clause-ok
+print_pat-returns-in-Paren-clause-ok g t c =
+    on_ok_weaker c.print_paren.result (λ h. put_case (pat g.X.Subtree.prints (shown g.Q.Qualifier.shown g.T.ToTokens.print)) _ _ _ _ _ c.in-Paren.is (pat-Paren g.X.Subtree.prints (shown g.Q.Qualifier.shown g.T.ToTokens.print) _) h) c.print_paren.ensures.ok
+
+pub print_pat-returns-in-Reference-clause-ok : goal.print_pat-returns-in-Reference-clause-ok
+print_pat-returns-in-Reference-clause-ok g t c =
+    on_ok_weaker c.print_reference.result (λ h. put_case (pat g.X.Subtree.prints (shown g.Q.Qualifier.shown g.T.ToTokens.print)) _ _ _ _ _ c.in-Reference.is (pat-Reference g.X.Subtree.prints (shown g.Q.Qualifier.shown g.T.ToTokens.print) _) h) c.print_reference.ensures.ok
+
+pub print_pat-returns-in-Rest-clause-ok : goal.print_pat-returns-in-Rest-clause-ok
+print_pat-returns-in-Rest-clause-ok g t c =
+    on_ok_weaker c.print_rest.result (λ h. put_case (pat g.X.Subtree.prints (shown g.Q.Qualifier.shown g.T.ToTokens.print)) _ _ _ _ _ c.in-Rest.is (pat-Rest g.X.Subtree.prints (shown g.Q.Qualifier.shown g.T.ToTokens.print) _) h) c.print_rest.ensures.ok
+
+pub print_pat-returns-in-Slice-clause-ok : goal.print_pat-returns-in-Slice-clause-ok
+print_pat-returns-in-Slice-clause-ok g t c =
+    on_ok_weaker c.print_slice.result (λ h. put_case (pat g.X.Subtree.prints (shown g.Q.Qualifier.shown g.T.ToTokens.print)) _ _ _ _ _ c.in-Slice.is (pat-Slice g.X.Subtree.prints (shown g.Q.Qualifier.shown g.T.ToTokens.print) _) h) c.print_slice.ensures.ok
+
+pub print_pat-returns-in-Struct-clause-ok : goal.print_pat-returns-in-Struct-clause-ok
+print_pat-returns-in-Struct-clause-ok g t c =
+    on_ok_weaker c.print_struct.result (λ h. put_case (pat g.X.Subtree.prints (shown g.Q.Qualifier.shown g.T.ToTokens.print)) _ _ _ _ _ c.in-Struct.is (pat-Struct g.X.Subtree.prints (shown g.Q.Qualifier.shown g.T.ToTokens.print) _) h) c.print_struct.ensures.ok
+
+pub print_pat-returns-in-Tuple-clause-ok : goal.print_pat-returns-in-Tuple-clause-ok
+print_pat-returns-in-Tuple-clause-ok g t c =
+    on_ok_weaker c.print_tuple.result (λ h. put_case (pat g.X.Subtree.prints (shown g.Q.Qualifier.shown g.T.ToTokens.print)) _ _ _ _ _ c.in-Tuple.is (pat-Tuple g.X.Subtree.prints (shown g.Q.Qualifier.shown g.T.ToTokens.print) _) h) c.print_tuple.ensures.ok
+
+pub print_pat-returns-in-TupleStruct-clause-ok : goal.print_pat-returns-in-TupleStruct-clause-ok
+print_pat-returns-in-TupleStruct-clause-ok g t c =
+    on_ok_weaker c.print_tuple_struct.result (λ h. put_case (pat g.X.Subtree.prints (shown g.Q.Qualifier.shown g.T.ToTokens.print)) _ _ _ _ _ c.in-TupleStruct.is (pat-TupleStruct g.X.Subtree.prints (shown g.Q.Qualifier.shown g.T.ToTokens.print) _) h) c.print_tuple_struct.ensures.ok
+
+pub print_pat-returns-in-Type-clause-ok : goal.print_pat-returns-in-Type-clause-ok
+print_pat-returns-in-Type-clause-ok g t c =
+    on_ok_weaker c.print_typed.result (λ h. put_case (pat g.X.Subtree.prints (shown g.Q.Qualifier.shown g.T.ToTokens.print)) _ _ _ _ _ c.in-Type.is (pat-Type g.X.Subtree.prints (shown g.Q.Qualifier.shown g.T.ToTokens.print) _) h) c.print_typed.ensures.ok
+
+pub print_pat-returns-in-Verbatim-clause-ok : goal.print_pat-returns-in-Verbatim-clause-ok
+print_pat-returns-in-Verbatim-clause-ok g t c =
+    on_ok_weaker c.print_verbatim.result (λ h. put_case (pat g.X.Subtree.prints (shown g.Q.Qualifier.shown g.T.ToTokens.print)) _ _ _ _ _ c.in-Verbatim.is (pat-Verbatim g.X.Subtree.prints (shown g.Q.Qualifier.shown g.T.ToTokens.print) _) h) c.print_verbatim.ensures.ok
+
+pub print_pat-returns-in-Wild-clause-ok : goal.print_pat-returns-in-Wild-clause-ok
+print_pat-returns-in-Wild-clause-ok g t c =
+    on_ok_weaker c.print_wild.result (λ h. put_case (pat g.X.Subtree.prints (shown g.Q.Qualifier.shown g.T.ToTokens.print)) _ _ _ _ _ c.in-Wild.is (pat-Wild g.X.Subtree.prints (shown g.Q.Qualifier.shown g.T.ToTokens.print) _) h) c.print_wild.ensures.ok
