@@ -7,7 +7,6 @@ pub mod ClausesMet
 pub mod ClausesTold
 pub mod GenericsAgain
 pub mod HigherTold
-pub mod Kept
 pub mod Prints
 pub mod Views
 pub mod WholeAgain

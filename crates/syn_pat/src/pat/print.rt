@@ -169,7 +169,7 @@ impl<X: Subtree, G: Arguments, Q: Qualifier<G>, T: ToTokens> ToTokens for FieldO
 
 /// Appends a pattern; refused, what stood before is kept.
 #[cycle(print)]
-#[tactic(auto, using(token_core::proofs::Puts::puts, crate::proofs::pat_laws::Prints::prints))]
+#[tactic(auto, using(token_core::proofs::Puts::puts))]
 pub fn print_pat<X: Subtree, G: Arguments, Q: Qualifier<G>, T: ToTokens>(
     alloc: Global,
     pat: &PatOver<X, G, Q, T>,
@@ -201,7 +201,7 @@ pub fn print_pat<X: Subtree, G: Arguments, Q: Qualifier<G>, T: ToTokens>(
 }
 
 #[cycle(print)]
-#[tactic(auto, using(token_core::proofs::Puts::puts, crate::proofs::pat_laws::Prints::prints))]
+#[tactic(auto, using(token_core::proofs::Puts::puts))]
 fn print_guarded<X: Subtree, G: Arguments, Q: Qualifier<G>, T: ToTokens>(
     alloc: Global,
     pat: &GuardOver<X, G, Q, T>,
@@ -217,7 +217,7 @@ fn print_guarded<X: Subtree, G: Arguments, Q: Qualifier<G>, T: ToTokens>(
 }
 
 #[cycle(print)]
-#[tactic(auto, using(token_core::proofs::Puts::puts, crate::proofs::pat_laws::Prints::prints))]
+#[tactic(auto, using(token_core::proofs::Puts::puts))]
 fn print_binding<X: Subtree, G: Arguments, Q: Qualifier<G>, T: ToTokens>(
     alloc: Global,
     pat: &IdentOver<X, G, Q, T>,
@@ -237,7 +237,7 @@ fn print_binding<X: Subtree, G: Arguments, Q: Qualifier<G>, T: ToTokens>(
 }
 
 #[cycle(print)]
-#[tactic(auto, using(token_core::proofs::Puts::puts, crate::proofs::pat_laws::Prints::prints))]
+#[tactic(auto, using(token_core::proofs::Puts::puts))]
 fn print_alternatives<X: Subtree, G: Arguments, Q: Qualifier<G>, T: ToTokens>(
     alloc: Global,
     pat: &OrOver<X, G, Q, T>,
@@ -252,7 +252,7 @@ fn print_alternatives<X: Subtree, G: Arguments, Q: Qualifier<G>, T: ToTokens>(
 }
 
 #[cycle(print)]
-#[tactic(auto, using(token_core::proofs::Puts::puts, crate::proofs::pat_laws::Prints::prints))]
+#[tactic(auto, using(token_core::proofs::Puts::puts))]
 fn print_paren<X: Subtree, G: Arguments, Q: Qualifier<G>, T: ToTokens>(
     alloc: Global,
     pat: &ParenOver<X, G, Q, T>,
@@ -268,7 +268,7 @@ fn print_paren<X: Subtree, G: Arguments, Q: Qualifier<G>, T: ToTokens>(
 }
 
 #[cycle(print)]
-#[tactic(auto, using(token_core::proofs::Puts::puts, crate::proofs::pat_laws::Prints::prints))]
+#[tactic(auto, using(token_core::proofs::Puts::puts))]
 fn print_reference<X: Subtree, G: Arguments, Q: Qualifier<G>, T: ToTokens>(
     alloc: Global,
     pat: &ReferenceOver<X, G, Q, T>,
@@ -284,7 +284,7 @@ fn print_reference<X: Subtree, G: Arguments, Q: Qualifier<G>, T: ToTokens>(
 }
 
 #[cycle(print)]
-#[tactic(auto, using(token_core::proofs::Puts::puts, crate::proofs::pat_laws::Prints::prints))]
+#[tactic(auto, using(token_core::proofs::Puts::puts))]
 fn print_slice<X: Subtree, G: Arguments, Q: Qualifier<G>, T: ToTokens>(
     alloc: Global,
     pat: &SliceOver<X, G, Q, T>,
@@ -295,7 +295,7 @@ fn print_slice<X: Subtree, G: Arguments, Q: Qualifier<G>, T: ToTokens>(
 {
     print_outer(alloc, &pat.attrs, out)?;
     let mut content = TokenStream::new(alloc);
-    print_slice_elements(alloc, pat, &mut content)?;
+    print_elements(alloc, &pat.elems, &mut content)?;
     pat.bracket_token.surround(content, out)
 }
 
@@ -344,7 +344,7 @@ fn print_bound<X: Subtree, G: Arguments, Q: Qualifier<G>>(
 }
 
 #[cycle(print)]
-#[tactic(auto, using(token_core::proofs::Puts::puts, crate::proofs::pat_laws::Prints::prints))]
+#[tactic(auto, using(token_core::proofs::Puts::puts))]
 fn print_struct<X: Subtree, G: Arguments, Q: Qualifier<G>, T: ToTokens>(
     alloc: Global,
     pat: &StructOver<X, G, Q, T>,
@@ -363,7 +363,7 @@ fn print_struct<X: Subtree, G: Arguments, Q: Qualifier<G>, T: ToTokens>(
 
 /// Each field of a struct's pattern with its comma.
 #[cycle(print)]
-#[tactic(auto, using(token_core::proofs::Puts::puts, crate::proofs::pat_laws::Prints::prints))]
+#[tactic(auto, using(token_core::proofs::Puts::puts))]
 fn print_fields<X: Subtree, G: Arguments, Q: Qualifier<G>, T: ToTokens>(
     alloc: Global,
     pat: &StructOver<X, G, Q, T>,
@@ -388,7 +388,7 @@ fn print_fields<X: Subtree, G: Arguments, Q: Qualifier<G>, T: ToTokens>(
 }
 
 #[cycle(print)]
-#[tactic(auto, using(token_core::proofs::Puts::puts, crate::proofs::pat_laws::Prints::prints))]
+#[tactic(auto, using(token_core::proofs::Puts::puts))]
 fn print_tuple<X: Subtree, G: Arguments, Q: Qualifier<G>, T: ToTokens>(
     alloc: Global,
     pat: &TupleOver<X, G, Q, T>,
@@ -399,14 +399,14 @@ fn print_tuple<X: Subtree, G: Arguments, Q: Qualifier<G>, T: ToTokens>(
 {
     print_outer(alloc, &pat.attrs, out)?;
     let mut content = TokenStream::new(alloc);
-    print_tuple_elements(alloc, pat, &mut content)?;
+    print_elements(alloc, &pat.elems, &mut content)?;
     let is_rest = begins_with_rest(&pat.elems);
     print_tuple_comma(alloc, &pat.elems, is_rest, &mut content)?;
     pat.paren_token.surround(content, out)
 }
 
 #[cycle(print)]
-#[tactic(auto, using(token_core::proofs::Puts::puts, crate::proofs::pat_laws::Prints::prints))]
+#[tactic(auto, using(token_core::proofs::Puts::puts))]
 fn print_tuple_struct<X: Subtree, G: Arguments, Q: Qualifier<G>, T: ToTokens>(
     alloc: Global,
     pat: &TupleStructOver<X, G, Q, T>,
@@ -418,13 +418,13 @@ fn print_tuple_struct<X: Subtree, G: Arguments, Q: Qualifier<G>, T: ToTokens>(
     print_outer(alloc, &pat.attrs, out)?;
     Q::print_path(alloc, &pat.qself, &pat.path, out)?;
     let mut content = TokenStream::new(alloc);
-    print_tuple_struct_elements(alloc, pat, &mut content)?;
+    print_elements(alloc, &pat.elems, &mut content)?;
     pat.paren_token.surround(content, out)
 }
 
 #[cycle(print)]
-#[tactic(auto, using(token_core::proofs::Puts::puts, crate::proofs::pat_laws::Prints::prints))]
-fn print_typed<X: Subtree, G: Arguments, Q: Qualifier<G>, T: ToTokens>(
+#[tactic(auto, using(token_core::proofs::Puts::puts))]
+pub fn print_typed<X: Subtree, G: Arguments, Q: Qualifier<G>, T: ToTokens>(
     alloc: Global,
     pat: &TypedOver<X, G, Q, T>,
     out: &mut TokenStream,
@@ -440,60 +440,16 @@ fn print_typed<X: Subtree, G: Arguments, Q: Qualifier<G>, T: ToTokens>(
 
 /// Each element with its comma.
 #[cycle(print)]
-#[tactic(auto, using(token_core::proofs::Puts::puts, crate::proofs::pat_laws::Prints::prints))]
-fn print_slice_elements<X: Subtree, G: Arguments, Q: Qualifier<G>, T: ToTokens>(
+#[tactic(auto, using(token_core::proofs::Puts::puts))]
+fn print_elements<X: Subtree, G: Arguments, Q: Qualifier<G>, T: ToTokens>(
     alloc: Global,
-    pat: &SliceOver<X, G, Q, T>,
+    elems: &Punctuated<PatOver<X, G, Q, T>, Comma>,
     out: &mut TokenStream,
 ) -> Result<(), AllocError>
-    ensures ok { OnOk result (trees out.new ≡ trees out.old ++ printing.list X.prints (shown Q.shown T.print) pat.now.elems) }
+    ensures ok { OnOk result (trees out.new ≡ trees out.old ++ printing.list X.prints (shown Q.shown T.print) elems.now) }
     ensures err { OnErr result (Extends (trees out.old) (trees out.new)) }
 {
-    let (pairs, last) = element_parts(&pat.elems);
-    for pair in pairs {
-        print_pat(alloc, &pair.value, out)?;
-        pair.mark.to_tokens(alloc, out)?;
-    }
-    match last {
-        Some(element) => print_pat(alloc, element, out),
-        None => Ok(()),
-    }
-}
-
-/// Each element with its comma.
-#[cycle(print)]
-#[tactic(auto, using(token_core::proofs::Puts::puts, crate::proofs::pat_laws::Prints::prints))]
-fn print_tuple_elements<X: Subtree, G: Arguments, Q: Qualifier<G>, T: ToTokens>(
-    alloc: Global,
-    pat: &TupleOver<X, G, Q, T>,
-    out: &mut TokenStream,
-) -> Result<(), AllocError>
-    ensures ok { OnOk result (trees out.new ≡ trees out.old ++ printing.list X.prints (shown Q.shown T.print) pat.now.elems) }
-    ensures err { OnErr result (Extends (trees out.old) (trees out.new)) }
-{
-    let (pairs, last) = element_parts(&pat.elems);
-    for pair in pairs {
-        print_pat(alloc, &pair.value, out)?;
-        pair.mark.to_tokens(alloc, out)?;
-    }
-    match last {
-        Some(element) => print_pat(alloc, element, out),
-        None => Ok(()),
-    }
-}
-
-/// Each element with its comma.
-#[cycle(print)]
-#[tactic(auto, using(token_core::proofs::Puts::puts, crate::proofs::pat_laws::Prints::prints))]
-fn print_tuple_struct_elements<X: Subtree, G: Arguments, Q: Qualifier<G>, T: ToTokens>(
-    alloc: Global,
-    pat: &TupleStructOver<X, G, Q, T>,
-    out: &mut TokenStream,
-) -> Result<(), AllocError>
-    ensures ok { OnOk result (trees out.new ≡ trees out.old ++ printing.list X.prints (shown Q.shown T.print) pat.now.elems) }
-    ensures err { OnErr result (Extends (trees out.old) (trees out.new)) }
-{
-    let (pairs, last) = element_parts(&pat.elems);
+    let (pairs, last) = element_parts(elems);
     for pair in pairs {
         print_pat(alloc, &pair.value, out)?;
         pair.mark.to_tokens(alloc, out)?;
@@ -506,7 +462,7 @@ fn print_tuple_struct_elements<X: Subtree, G: Arguments, Q: Qualifier<G>, T: ToT
 
 /// Each of the alternatives with its `|`.
 #[cycle(print)]
-#[tactic(auto, using(token_core::proofs::Puts::puts, crate::proofs::pat_laws::Prints::prints))]
+#[tactic(auto, using(token_core::proofs::Puts::puts))]
 fn print_cases<X: Subtree, G: Arguments, Q: Qualifier<G>, T: ToTokens>(
     alloc: Global,
     pat: &OrOver<X, G, Q, T>,

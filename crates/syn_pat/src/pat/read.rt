@@ -120,7 +120,7 @@ impl<X: Subtree> Pat<X> {
 
 /// A pattern, and a guard that may follow.
 #[tactic(auto, using(token_core::proofs::Suffixes::follows), unfolding(crate::specs::pat::Knot::guarded))]
-fn parse_guarded<X: Subtree, G: Arguments, Q: Qualifier<G>, T: Drop>(
+pub fn parse_guarded<X: Subtree, G: Arguments, Q: Qualifier<G>, T: Drop>(
     alloc: Global,
     input: &mut ParseStream<'_>,
 ) -> Result<PatOver<X, G, Q, T>, Error>
@@ -143,7 +143,7 @@ fn parse_guarded<X: Subtree, G: Arguments, Q: Qualifier<G>, T: Drop>(
 
 /// A pattern with its type.
 #[tactic(auto, using(token_core::proofs::Suffixes::follows), unfolding(crate::specs::pat::Knot::typed_over))]
-fn parse_typed<X: Subtree, G: Arguments, Q: Qualifier<G>, T: Held<TypePlace>>(
+pub fn parse_typed<X: Subtree, G: Arguments, Q: Qualifier<G>, T: Held<TypePlace>>(
     alloc: Global,
     input: &mut ParseStream<'_>,
 ) -> Result<TypedOver<X, G, Q, T>, Error>

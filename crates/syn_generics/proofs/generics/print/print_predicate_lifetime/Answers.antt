@@ -3,7 +3,7 @@ use Rattle.std.proofs.lemmas.Result.{on_err_weaker}
 use Rattle.token_core.specs.Prints.{Extends}
 use Rattle.token_core.specs.Trees.{trees}
 use Rattle.token_core.proofs.Puts.{extends_on}
-use Rattle.syn_generics.proofs.generics_laws.Kept.{still}
+use Rattle.syn_ty.proofs.ty_laws.Pieces.{still}
 use Rattle.syn_generics.proofs.generics.print.print_predicate_lifetime.Goals as goal
 
 pub returns-in_err-to_tokens-clause-err : goal.returns-in_err-to_tokens-clause-err

@@ -1,15 +1,18 @@
-use Rattle.std.proofs.Common.{rules, append_assoc, ◌≡◌, ◌++◌, drop, length, Some, option_map, sym, ap, ◌∙◌, arith}
+use Rattle.std.proofs.Common.{rules, append_assoc, ◌≡◌, ◌++◌, drop, length, Some, option_map, refl, sym, ap, ◌∙◌, arith}
 use Rattle.std.proofs.lemmas.List.{take-append-drop}
 use Rattle.std.proofs.lemmas.Result.{on_ok_weaker, on_err_weaker}
+use Rattle.token_core.specs.declared.tree.Delimiter.TheVariants.{Parenthesis, Brace, Bracket}
 use Rattle.token_core.specs.Joined.{values_of, marks_of}
 use Rattle.token_core.specs.Lists.{joined}
 use Rattle.token_core.specs.Prints as p
 use Rattle.token_core.specs.Prints.{Extends}
 use Rattle.token_core.specs.Trees.{trees}
 use Rattle.token_core.proofs.Puts.{extends_append, extends_on}
-use Rattle.syn_pat.specs.pat.Printing.{pat, member, field, shown}
+use Rattle.syn_pat.specs.pat.Printing.{pat, comma_unless, guard, member, field, shown}
 use Rattle.syn_pat.proofs.pat_laws.Height.{height, sub_by, field_by, height-Guard, height-Ident, height-Or, height-Paren, height-Reference, height-Slice, height-Struct, height-Tuple, height-TupleStruct, height-Type}
 use Rattle.syn_ty.proofs.ty_laws.Parts.{in_list, last_in_list, put_last, put_next}
+use Rattle.syn_ty.proofs.ty_laws.Pieces.{put_both, put_as, put_case, put_group, puts2, puts3, puts4, still}
+use Rattle.syn_pat.proofs.pat_laws.Prints.{pat-Const, pat-Guard, pat-Ident, pat-Lit, pat-Macro, pat-Or, pat-Paren, pat-Path, pat-Range, pat-Reference, pat-Rest, pat-Slice, pat-Struct, pat-Tuple, pat-TupleStruct, pat-Type, pat-Verbatim, pat-Wild}
 use Rattle.syn_pat.proofs.pat.print.+print.Goals as goal
 
 pub print_guarded-returns-clause-err : goal.print_guarded-returns-clause-err
@@ -38,82 +41,28 @@ print_binding-returns-in_ok-to_tokens-in-Some-clause-err g t c =
     on_err_weaker c.print_pat.result
     (λ h. extends_on _ _ _ _ c.in_ok-print_name.ensures.ok (extends_on _ _ _ _ c.in_ok-to_tokens-in-Some.ensures.ok h)) c.print_pat.ensures.err
 
--- ---- print_slice_elements
+-- ---- print_elements
 
-pub print_slice_elements-print_pat-requires : goal.print_slice_elements-print_pat-requires
-print_slice_elements-print_pat-requires g t c κs within =
-    let h = in_list height c.args.pat.now.elems c.element_parts.result.0.now (option_map (λ x. x.now) c.element_parts.result.1) c.loop-pair.pair-index c.pair-item.result c.element_parts.ensures c.loop-pair-test.true c.pair-item.is in
+pub print_elements-print_pat-requires : goal.print_elements-print_pat-requires
+print_elements-print_pat-requires g t c κs within =
+    let h = in_list height c.args.elems.now c.element_parts.result.0.now (option_map (λ x. x.now) c.element_parts.result.1) c.loop-pair.pair-index c.pair-item.result c.element_parts.ensures c.loop-pair-test.true c.pair-item.is in
     (omega (arith, c.decreases, h), within)
 
-pub print_slice_elements-print_pat-requires-in-Some : goal.print_slice_elements-print_pat-requires-in-Some
-print_slice_elements-print_pat-requires-in-Some g t c κs within =
+pub print_elements-print_pat-requires-in-Some : goal.print_elements-print_pat-requires-in-Some
+print_elements-print_pat-requires-in-Some g t c κs within =
     let k : option_map (λ x. x.now) c.element_parts.result.1 ≡ Some c.in-Some.element.now = ap (option_map (λ x. x.now)) c.in-Some.is in
-    let h = last_in_list height c.args.pat.now.elems c.element_parts.result.0.now (option_map (λ x. x.now) c.element_parts.result.1) c.in-Some.element.now c.element_parts.ensures k in
+    let h = last_in_list height c.args.elems.now c.element_parts.result.0.now (option_map (λ x. x.now) c.element_parts.result.1) c.in-Some.element.now c.element_parts.ensures k in
     (omega (arith, c.decreases, h), within)
 
-pub print_slice_elements-returns-in-Some-clause-ok : goal.print_slice_elements-returns-in-Some-clause-ok
-print_slice_elements-returns-in-Some-clause-ok g t c =
-    let k : option_map (λ x. x.now) c.element_parts.result.1 ≡ Some c.in-Some.element.now = ap (option_map (λ x. x.now)) c.in-Some.is in
-    on_ok_weaker c.print_pat-in-Some.result
-    (λ h. put_last (pat g.X.Subtree.prints (shown g.Q.Qualifier.shown g.T.ToTokens.print)) p.mark c.args.pat.now.elems c.element_parts.result.0.now (option_map (λ x. x.now) c.element_parts.result.1) c.in-Some.element.now c.loop-pair.pair-index (trees c.args.out.now) (trees c.loop-pair.out)
-    (trees c.print_pat-in-Some.new.out) c.element_parts.ensures k c.loop-pair-test.false c.loop-pair.invariant.told h) c.print_pat-in-Some.ensures.ok
-
-pub print_slice_elements-returns-in-Some-clause-err : goal.print_slice_elements-returns-in-Some-clause-err
-print_slice_elements-returns-in-Some-clause-err g t c =
-    let old = trees c.args.out.now in
-    let mid = trees c.loop-pair.out in
-    on_err_weaker c.print_pat-in-Some.result
-    (λ h. extends_on old (drop (length old) mid) mid _ (sym (take-append-drop (length old) mid) ∙ ap (λ z. z ++ drop (length old) mid) c.loop-pair.invariant.kept) h) c.print_pat-in-Some.ensures.err
-
--- ---- print_tuple_elements
-
-pub print_tuple_elements-print_pat-requires : goal.print_tuple_elements-print_pat-requires
-print_tuple_elements-print_pat-requires g t c κs within =
-    let h = in_list height c.args.pat.now.elems c.element_parts.result.0.now (option_map (λ x. x.now) c.element_parts.result.1) c.loop-pair.pair-index c.pair-item.result c.element_parts.ensures c.loop-pair-test.true c.pair-item.is in
-    (omega (arith, c.decreases, h), within)
-
-pub print_tuple_elements-print_pat-requires-in-Some : goal.print_tuple_elements-print_pat-requires-in-Some
-print_tuple_elements-print_pat-requires-in-Some g t c κs within =
-    let k : option_map (λ x. x.now) c.element_parts.result.1 ≡ Some c.in-Some.element.now = ap (option_map (λ x. x.now)) c.in-Some.is in
-    let h = last_in_list height c.args.pat.now.elems c.element_parts.result.0.now (option_map (λ x. x.now) c.element_parts.result.1) c.in-Some.element.now c.element_parts.ensures k in
-    (omega (arith, c.decreases, h), within)
-
-pub print_tuple_elements-returns-in-Some-clause-ok : goal.print_tuple_elements-returns-in-Some-clause-ok
-print_tuple_elements-returns-in-Some-clause-ok g t c =
+pub print_elements-returns-in-Some-clause-ok : goal.print_elements-returns-in-Some-clause-ok
+print_elements-returns-in-Some-clause-ok g t c =
     let k : option_map (λ x. x.now) c.element_parts.result.1 ≡ Some c.in-Some.element.now = ap (option_map (λ x. x.now)) c.in-Some.is in
     on_ok_weaker c.print_pat-in-Some.result
-    (λ h. put_last (pat g.X.Subtree.prints (shown g.Q.Qualifier.shown g.T.ToTokens.print)) p.mark c.args.pat.now.elems c.element_parts.result.0.now (option_map (λ x. x.now) c.element_parts.result.1) c.in-Some.element.now c.loop-pair.pair-index (trees c.args.out.now) (trees c.loop-pair.out)
+    (λ h. put_last (pat g.X.Subtree.prints (shown g.Q.Qualifier.shown g.T.ToTokens.print)) p.mark c.args.elems.now c.element_parts.result.0.now (option_map (λ x. x.now) c.element_parts.result.1) c.in-Some.element.now c.loop-pair.pair-index (trees c.args.out.now) (trees c.loop-pair.out)
     (trees c.print_pat-in-Some.new.out) c.element_parts.ensures k c.loop-pair-test.false c.loop-pair.invariant.told h) c.print_pat-in-Some.ensures.ok
 
-pub print_tuple_elements-returns-in-Some-clause-err : goal.print_tuple_elements-returns-in-Some-clause-err
-print_tuple_elements-returns-in-Some-clause-err g t c =
-    let old = trees c.args.out.now in
-    let mid = trees c.loop-pair.out in
-    on_err_weaker c.print_pat-in-Some.result
-    (λ h. extends_on old (drop (length old) mid) mid _ (sym (take-append-drop (length old) mid) ∙ ap (λ z. z ++ drop (length old) mid) c.loop-pair.invariant.kept) h) c.print_pat-in-Some.ensures.err
-
--- ---- print_tuple_struct_elements
-
-pub print_tuple_struct_elements-print_pat-requires : goal.print_tuple_struct_elements-print_pat-requires
-print_tuple_struct_elements-print_pat-requires g t c κs within =
-    let h = in_list height c.args.pat.now.elems c.element_parts.result.0.now (option_map (λ x. x.now) c.element_parts.result.1) c.loop-pair.pair-index c.pair-item.result c.element_parts.ensures c.loop-pair-test.true c.pair-item.is in
-    (omega (arith, c.decreases, h), within)
-
-pub print_tuple_struct_elements-print_pat-requires-in-Some : goal.print_tuple_struct_elements-print_pat-requires-in-Some
-print_tuple_struct_elements-print_pat-requires-in-Some g t c κs within =
-    let k : option_map (λ x. x.now) c.element_parts.result.1 ≡ Some c.in-Some.element.now = ap (option_map (λ x. x.now)) c.in-Some.is in
-    let h = last_in_list height c.args.pat.now.elems c.element_parts.result.0.now (option_map (λ x. x.now) c.element_parts.result.1) c.in-Some.element.now c.element_parts.ensures k in
-    (omega (arith, c.decreases, h), within)
-
-pub print_tuple_struct_elements-returns-in-Some-clause-ok : goal.print_tuple_struct_elements-returns-in-Some-clause-ok
-print_tuple_struct_elements-returns-in-Some-clause-ok g t c =
-    let k : option_map (λ x. x.now) c.element_parts.result.1 ≡ Some c.in-Some.element.now = ap (option_map (λ x. x.now)) c.in-Some.is in
-    on_ok_weaker c.print_pat-in-Some.result
-    (λ h. put_last (pat g.X.Subtree.prints (shown g.Q.Qualifier.shown g.T.ToTokens.print)) p.mark c.args.pat.now.elems c.element_parts.result.0.now (option_map (λ x. x.now) c.element_parts.result.1) c.in-Some.element.now c.loop-pair.pair-index (trees c.args.out.now) (trees c.loop-pair.out)
-    (trees c.print_pat-in-Some.new.out) c.element_parts.ensures k c.loop-pair-test.false c.loop-pair.invariant.told h) c.print_pat-in-Some.ensures.ok
-
-pub print_tuple_struct_elements-returns-in-Some-clause-err : goal.print_tuple_struct_elements-returns-in-Some-clause-err
-print_tuple_struct_elements-returns-in-Some-clause-err g t c =
+pub print_elements-returns-in-Some-clause-err : goal.print_elements-returns-in-Some-clause-err
+print_elements-returns-in-Some-clause-err g t c =
     let old = trees c.args.out.now in
     let mid = trees c.loop-pair.out in
     on_err_weaker c.print_pat-in-Some.result
@@ -279,14 +228,256 @@ print_binding-print_pat-requires g t c κs within =
 pub print_alternatives-print_cases-requires : goal.print_alternatives-print_cases-requires
 print_alternatives-print_cases-requires g t c κs within = (omega (arith, c.decreases), within)
 
-pub print_slice-print_slice_elements-requires : goal.print_slice-print_slice_elements-requires
-print_slice-print_slice_elements-requires g t c κs within = (omega (arith, c.decreases), within)
+pub print_slice-print_elements-requires : goal.print_slice-print_elements-requires
+print_slice-print_elements-requires g t c κs within = (omega (arith, c.decreases), within)
 
 pub print_struct-print_fields-requires : goal.print_struct-print_fields-requires
 print_struct-print_fields-requires g t c κs within = (omega (arith, c.decreases), within)
 
-pub print_tuple-print_tuple_elements-requires : goal.print_tuple-print_tuple_elements-requires
-print_tuple-print_tuple_elements-requires g t c κs within = (omega (arith, c.decreases), within)
+pub print_tuple-print_elements-requires : goal.print_tuple-print_elements-requires
+print_tuple-print_elements-requires g t c κs within = (omega (arith, c.decreases), within)
 
-pub print_tuple_struct-print_tuple_struct_elements-requires : goal.print_tuple_struct-print_tuple_struct_elements-requires
-print_tuple_struct-print_tuple_struct_elements-requires g t c κs within = (omega (arith, c.decreases), within)
+pub print_tuple_struct-print_elements-requires : goal.print_tuple_struct-print_elements-requires
+print_tuple_struct-print_elements-requires g t c κs within = (omega (arith, c.decreases), within)
+
+pub print_pat-returns-in-Guard-clause-ok : goal.print_pat-returns-in-Guard-clause-ok
+print_pat-returns-in-Guard-clause-ok g t c =
+    on_ok_weaker c.print_guarded.result (λ h. put_case (pat g.X.Subtree.prints (shown g.Q.Qualifier.shown g.T.ToTokens.print)) _ _ _ _ _ c.in-Guard.is (pat-Guard g.X.Subtree.prints (shown g.Q.Qualifier.shown g.T.ToTokens.print) _) h) c.print_guarded.ensures.ok
+
+pub print_pat-returns-in-Ident-clause-ok : goal.print_pat-returns-in-Ident-clause-ok
+print_pat-returns-in-Ident-clause-ok g t c =
+    on_ok_weaker c.print_binding.result (λ h. put_case (pat g.X.Subtree.prints (shown g.Q.Qualifier.shown g.T.ToTokens.print)) _ _ _ _ _ c.in-Ident.is (pat-Ident g.X.Subtree.prints (shown g.Q.Qualifier.shown g.T.ToTokens.print) _) h) c.print_binding.ensures.ok
+
+pub print_pat-returns-in-Or-clause-ok : goal.print_pat-returns-in-Or-clause-ok
+print_pat-returns-in-Or-clause-ok g t c =
+    on_ok_weaker c.print_alternatives.result (λ h. put_case (pat g.X.Subtree.prints (shown g.Q.Qualifier.shown g.T.ToTokens.print)) _ _ _ _ _ c.in-Or.is (pat-Or g.X.Subtree.prints (shown g.Q.Qualifier.shown g.T.ToTokens.print) _) h) c.print_alternatives.ensures.ok
+
+pub print_pat-returns-in-Paren-clause-ok : goal.print_pat-returns-in-Paren-clause-ok
+print_pat-returns-in-Paren-clause-ok g t c =
+    on_ok_weaker c.print_paren.result (λ h. put_case (pat g.X.Subtree.prints (shown g.Q.Qualifier.shown g.T.ToTokens.print)) _ _ _ _ _ c.in-Paren.is (pat-Paren g.X.Subtree.prints (shown g.Q.Qualifier.shown g.T.ToTokens.print) _) h) c.print_paren.ensures.ok
+
+pub print_pat-returns-in-Reference-clause-ok : goal.print_pat-returns-in-Reference-clause-ok
+print_pat-returns-in-Reference-clause-ok g t c =
+    on_ok_weaker c.print_reference.result (λ h. put_case (pat g.X.Subtree.prints (shown g.Q.Qualifier.shown g.T.ToTokens.print)) _ _ _ _ _ c.in-Reference.is (pat-Reference g.X.Subtree.prints (shown g.Q.Qualifier.shown g.T.ToTokens.print) _) h) c.print_reference.ensures.ok
+
+pub print_pat-returns-in-Rest-clause-ok : goal.print_pat-returns-in-Rest-clause-ok
+print_pat-returns-in-Rest-clause-ok g t c =
+    on_ok_weaker c.print_rest.result (λ h. put_case (pat g.X.Subtree.prints (shown g.Q.Qualifier.shown g.T.ToTokens.print)) _ _ _ _ _ c.in-Rest.is (pat-Rest g.X.Subtree.prints (shown g.Q.Qualifier.shown g.T.ToTokens.print) _) h) c.print_rest.ensures.ok
+
+pub print_pat-returns-in-Slice-clause-ok : goal.print_pat-returns-in-Slice-clause-ok
+print_pat-returns-in-Slice-clause-ok g t c =
+    on_ok_weaker c.print_slice.result (λ h. put_case (pat g.X.Subtree.prints (shown g.Q.Qualifier.shown g.T.ToTokens.print)) _ _ _ _ _ c.in-Slice.is (pat-Slice g.X.Subtree.prints (shown g.Q.Qualifier.shown g.T.ToTokens.print) _) h) c.print_slice.ensures.ok
+
+pub print_pat-returns-in-Struct-clause-ok : goal.print_pat-returns-in-Struct-clause-ok
+print_pat-returns-in-Struct-clause-ok g t c =
+    on_ok_weaker c.print_struct.result (λ h. put_case (pat g.X.Subtree.prints (shown g.Q.Qualifier.shown g.T.ToTokens.print)) _ _ _ _ _ c.in-Struct.is (pat-Struct g.X.Subtree.prints (shown g.Q.Qualifier.shown g.T.ToTokens.print) _) h) c.print_struct.ensures.ok
+
+pub print_pat-returns-in-Tuple-clause-ok : goal.print_pat-returns-in-Tuple-clause-ok
+print_pat-returns-in-Tuple-clause-ok g t c =
+    on_ok_weaker c.print_tuple.result (λ h. put_case (pat g.X.Subtree.prints (shown g.Q.Qualifier.shown g.T.ToTokens.print)) _ _ _ _ _ c.in-Tuple.is (pat-Tuple g.X.Subtree.prints (shown g.Q.Qualifier.shown g.T.ToTokens.print) _) h) c.print_tuple.ensures.ok
+
+pub print_pat-returns-in-TupleStruct-clause-ok : goal.print_pat-returns-in-TupleStruct-clause-ok
+print_pat-returns-in-TupleStruct-clause-ok g t c =
+    on_ok_weaker c.print_tuple_struct.result (λ h. put_case (pat g.X.Subtree.prints (shown g.Q.Qualifier.shown g.T.ToTokens.print)) _ _ _ _ _ c.in-TupleStruct.is (pat-TupleStruct g.X.Subtree.prints (shown g.Q.Qualifier.shown g.T.ToTokens.print) _) h) c.print_tuple_struct.ensures.ok
+
+pub print_pat-returns-in-Type-clause-ok : goal.print_pat-returns-in-Type-clause-ok
+print_pat-returns-in-Type-clause-ok g t c =
+    on_ok_weaker c.print_typed.result (λ h. put_case (pat g.X.Subtree.prints (shown g.Q.Qualifier.shown g.T.ToTokens.print)) _ _ _ _ _ c.in-Type.is (pat-Type g.X.Subtree.prints (shown g.Q.Qualifier.shown g.T.ToTokens.print) _) h) c.print_typed.ensures.ok
+
+pub print_pat-returns-in-Verbatim-clause-ok : goal.print_pat-returns-in-Verbatim-clause-ok
+print_pat-returns-in-Verbatim-clause-ok g t c =
+    on_ok_weaker c.print_verbatim.result (λ h. put_case (pat g.X.Subtree.prints (shown g.Q.Qualifier.shown g.T.ToTokens.print)) _ _ _ _ _ c.in-Verbatim.is (pat-Verbatim g.X.Subtree.prints (shown g.Q.Qualifier.shown g.T.ToTokens.print) _) h) c.print_verbatim.ensures.ok
+
+pub print_pat-returns-in-Wild-clause-ok : goal.print_pat-returns-in-Wild-clause-ok
+print_pat-returns-in-Wild-clause-ok g t c =
+    on_ok_weaker c.print_wild.result (λ h. put_case (pat g.X.Subtree.prints (shown g.Q.Qualifier.shown g.T.ToTokens.print)) _ _ _ _ _ c.in-Wild.is (pat-Wild g.X.Subtree.prints (shown g.Q.Qualifier.shown g.T.ToTokens.print) _) h) c.print_wild.ensures.ok
+
+-- ---- straight lines
+
+pub print_guarded-returns-clause-ok : goal.print_guarded-returns-clause-ok
+print_guarded-returns-clause-ok g t c =
+    on_ok_weaker c.print_guard.result (λ h. puts4 _ _ _ _ _ _ _ _ _ _ c.in_ok-print_outer.ensures.appends.0 (put_as (pat g.X.Subtree.prints (shown g.Q.Qualifier.shown g.T.ToTokens.print)) _ _ _ _ c.get.ensures c.in_ok-print_pat.ensures.ok) c.in_ok-to_tokens.ensures.ok (put_as (guard g.X.Subtree.prints) _ _ _ _ c.get-2.ensures h) refl) c.print_guard.ensures.ok
+
+pub print_typed-returns-clause-ok : goal.print_typed-returns-clause-ok
+print_typed-returns-clause-ok g t c =
+    on_ok_weaker c.append_tokens.result (λ h. puts4 _ _ _ _ _ _ _ _ _ _ c.in_ok-print_outer.ensures.appends.0 (put_as (pat g.X.Subtree.prints (shown g.Q.Qualifier.shown g.T.ToTokens.print)) _ _ _ _ c.get.ensures c.in_ok-print_pat.ensures.ok) c.in_ok-to_tokens.ensures.ok (put_as g.T.ToTokens.print _ _ _ _ c.get-2.ensures h) refl) c.append_tokens.ensures.ok
+
+pub print_reference-returns-clause-ok : goal.print_reference-returns-clause-ok
+print_reference-returns-clause-ok g t c =
+    on_ok_weaker c.print_pat.result (λ h. puts4 _ _ _ _ _ _ _ _ _ _ c.in_ok-print_outer.ensures.appends.0 c.in_ok-to_tokens.ensures.ok c.in_ok-append_tokens.ensures.ok (put_as (pat g.X.Subtree.prints (shown g.Q.Qualifier.shown g.T.ToTokens.print)) _ _ _ _ c.get.ensures h) refl) c.print_pat.ensures.ok
+
+pub print_alternatives-returns-clause-ok : goal.print_alternatives-returns-clause-ok
+print_alternatives-returns-clause-ok g t c =
+    on_ok_weaker c.print_cases.result (λ h. puts3 _ _ _ _ _ _ _ _ c.in_ok-print_outer.ensures.appends.0 c.in_ok-append_tokens.ensures.ok h refl) c.print_cases.ensures.ok
+
+pub print_paren-returns-clause-ok : goal.print_paren-returns-clause-ok
+print_paren-returns-clause-ok g t c =
+    on_ok_weaker c.surround.result (λ h. puts2 _ _ _ _ _ _ c.in_ok-print_outer.ensures.appends.0 (put_group Parenthesis _ _ _ _ _ _ c.new-content.ensures (put_as (pat g.X.Subtree.prints (shown g.Q.Qualifier.shown g.T.ToTokens.print)) _ _ _ _ c.get.ensures c.in_ok-print_pat.ensures.ok) h) refl) c.surround.ensures.ok
+
+pub print_slice-returns-clause-ok : goal.print_slice-returns-clause-ok
+print_slice-returns-clause-ok g t c =
+    on_ok_weaker c.surround.result (λ h. puts2 _ _ _ _ _ _ c.in_ok-print_outer.ensures.appends.0 (put_group Bracket _ _ _ _ _ _ c.new-content.ensures c.in_ok-print_elements.ensures.ok h) refl) c.surround.ensures.ok
+
+pub print_tuple-returns-clause-ok : goal.print_tuple-returns-clause-ok
+print_tuple-returns-clause-ok g t c =
+    let comma = put_as (λ z. comma_unless z c.args.pat.now.elems.0 c.args.pat.now.elems.1) _ _ _ _ c.begins_with_rest-is_rest.ensures c.in_ok-print_tuple_comma.ensures.ok in
+    on_ok_weaker c.surround.result (λ h. puts2 _ _ _ _ _ _ c.in_ok-print_outer.ensures.appends.0 (put_group Parenthesis _ _ _ _ _ _ c.new-content.ensures (put_both _ _ _ _ _ c.in_ok-print_elements.ensures.ok comma) h) refl) c.surround.ensures.ok
+
+pub print_tuple_struct-returns-clause-ok : goal.print_tuple_struct-returns-clause-ok
+print_tuple_struct-returns-clause-ok g t c =
+    on_ok_weaker c.surround.result (λ h. puts3 _ _ _ _ _ _ _ _ c.in_ok-print_outer.ensures.appends.0 c.in_ok-print_path.ensures.ok (put_group Parenthesis _ _ _ _ _ _ c.new-content.ensures c.in_ok-print_elements.ensures.ok h) refl) c.surround.ensures.ok
+
+pub print_struct-returns-clause-ok : goal.print_struct-returns-clause-ok
+print_struct-returns-clause-ok g t c =
+    on_ok_weaker c.surround.result (λ h. puts3 _ _ _ _ _ _ _ _ c.in_ok-print_outer.ensures.appends.0 c.in_ok-print_path.ensures.ok (put_group Brace _ _ _ _ _ _ c.new-content.ensures (put_both _ _ _ _ _ c.in_ok-print_fields.ensures.ok c.in_ok-print_struct_rest.ensures.ok) h) refl) c.surround.ensures.ok
+
+-- ---- loops
+
+pub print_elements-loop-pair-preserved : goal.print_elements-loop-pair-preserved
+print_elements-loop-pair-preserved g t c =
+    let old = trees c.args.out.now in
+    let mid = trees c.loop-pair.out in
+    let last = option_map (λ x. x.now) c.element_parts.result.1 in
+    let all = c.element_parts.result.0.now in
+    record {
+      told = put_next (pat g.X.Subtree.prints (shown g.Q.Qualifier.shown g.T.ToTokens.print)) p.mark all last c.loop-pair.pair-index c.pair-item.result old mid (trees c.print_pat.new.out) (trees c.to_tokens.new.out) (joined (pat g.X.Subtree.prints (shown g.Q.Qualifier.shown g.T.ToTokens.print)) p.mark (values_of all last) (marks_of all))
+          c.loop-pair-test.true c.pair-item.is c.loop-pair.invariant.told c.in_ok-print_pat.ensures.ok c.in_ok-to_tokens.ensures.ok;
+      kept = rw c.in_ok-to_tokens.ensures.ok (rw c.in_ok-print_pat.ensures.ok (extends_append old _ _ (extends_append old mid _ c.loop-pair.invariant.kept)));
+    }
+
+pub print_cases-loop-pair-preserved : goal.print_cases-loop-pair-preserved
+print_cases-loop-pair-preserved g t c =
+    let old = trees c.args.out.now in
+    let mid = trees c.loop-pair.out in
+    let last = option_map (λ x. x.now) c.case_parts.result.1 in
+    let all = c.case_parts.result.0.now in
+    record {
+      told = put_next (pat g.X.Subtree.prints (shown g.Q.Qualifier.shown g.T.ToTokens.print)) p.mark all last c.loop-pair.pair-index c.pair-item.result old mid (trees c.print_pat.new.out) (trees c.to_tokens.new.out) (joined (pat g.X.Subtree.prints (shown g.Q.Qualifier.shown g.T.ToTokens.print)) p.mark (values_of all last) (marks_of all))
+          c.loop-pair-test.true c.pair-item.is c.loop-pair.invariant.told c.in_ok-print_pat.ensures.ok c.in_ok-to_tokens.ensures.ok;
+      kept = rw c.in_ok-to_tokens.ensures.ok (rw c.in_ok-print_pat.ensures.ok (extends_append old _ _ (extends_append old mid _ c.loop-pair.invariant.kept)));
+    }
+
+pub print_pat-returns-in-Const-clause-ok : goal.print_pat-returns-in-Const-clause-ok
+print_pat-returns-in-Const-clause-ok g t c =
+    on_ok_weaker c.to_tokens.result (λ h. put_case (pat g.X.Subtree.prints (shown g.Q.Qualifier.shown g.T.ToTokens.print)) _ _ _ _ _ c.in-Const.is (pat-Const g.X.Subtree.prints (shown g.Q.Qualifier.shown g.T.ToTokens.print) _) h) c.to_tokens.ensures.ok
+
+pub print_pat-returns-in-Lit-clause-ok : goal.print_pat-returns-in-Lit-clause-ok
+print_pat-returns-in-Lit-clause-ok g t c =
+    on_ok_weaker c.to_tokens-in-Lit.result (λ h. put_case (pat g.X.Subtree.prints (shown g.Q.Qualifier.shown g.T.ToTokens.print)) _ _ _ _ _ c.in-Lit.is (pat-Lit g.X.Subtree.prints (shown g.Q.Qualifier.shown g.T.ToTokens.print) _) h) c.to_tokens-in-Lit.ensures.ok
+
+pub print_pat-returns-in-Macro-clause-ok : goal.print_pat-returns-in-Macro-clause-ok
+print_pat-returns-in-Macro-clause-ok g t c =
+    on_ok_weaker c.to_tokens-in-Macro.result (λ h. put_case (pat g.X.Subtree.prints (shown g.Q.Qualifier.shown g.T.ToTokens.print)) _ _ _ _ _ c.in-Macro.is (pat-Macro g.X.Subtree.prints (shown g.Q.Qualifier.shown g.T.ToTokens.print) _) h) c.to_tokens-in-Macro.ensures.ok
+
+pub print_pat-returns-in-Path-clause-ok : goal.print_pat-returns-in-Path-clause-ok
+print_pat-returns-in-Path-clause-ok g t c =
+    on_ok_weaker c.to_tokens-in-Path.result (λ h. put_case (pat g.X.Subtree.prints (shown g.Q.Qualifier.shown g.T.ToTokens.print)) _ _ _ _ _ c.in-Path.is (pat-Path g.X.Subtree.prints (shown g.Q.Qualifier.shown g.T.ToTokens.print) _) h) c.to_tokens-in-Path.ensures.ok
+
+pub print_pat-returns-in-Range-clause-ok : goal.print_pat-returns-in-Range-clause-ok
+print_pat-returns-in-Range-clause-ok g t c =
+    on_ok_weaker c.to_tokens-in-Range.result (λ h. put_case (pat g.X.Subtree.prints (shown g.Q.Qualifier.shown g.T.ToTokens.print)) _ _ _ _ _ c.in-Range.is (pat-Range g.X.Subtree.prints (shown g.Q.Qualifier.shown g.T.ToTokens.print) _) h) c.to_tokens-in-Range.ensures.ok
+
+-- ---- refusals
+
+pub print_guarded-returns-in_err-print_pat-clause-err : goal.print_guarded-returns-in_err-print_pat-clause-err
+print_guarded-returns-in_err-print_pat-clause-err g t c =
+    let kept : Extends (trees c.args.out.now) (trees c.print_pat.new.out) = extends_on _ _ _ _ c.in_ok-print_outer.ensures.appends.0 c.in_err-print_pat.ensures.err in
+    search rules
+
+pub print_guarded-returns-in_err-to_tokens-clause-err : goal.print_guarded-returns-in_err-to_tokens-clause-err
+print_guarded-returns-in_err-to_tokens-clause-err g t c =
+    let kept : Extends (trees c.args.out.now) (trees c.to_tokens.new.out) = extends_on _ _ _ _ c.in_ok-print_outer.ensures.appends.0 (extends_on _ _ _ _ c.in_ok-print_pat.ensures.ok (still _ _ c.in_err-to_tokens.ensures.err)) in
+    search rules
+
+pub print_alternatives-returns-in_err-append_tokens-clause-err : goal.print_alternatives-returns-in_err-append_tokens-clause-err
+print_alternatives-returns-in_err-append_tokens-clause-err g t c =
+    let kept : Extends (trees c.args.out.now) (trees c.append_tokens.new.out) = extends_on _ _ _ _ c.in_ok-print_outer.ensures.appends.0 c.in_err-append_tokens.ensures.err in
+    search rules
+
+pub print_reference-returns-in_err-to_tokens-clause-err : goal.print_reference-returns-in_err-to_tokens-clause-err
+print_reference-returns-in_err-to_tokens-clause-err g t c =
+    let kept : Extends (trees c.args.out.now) (trees c.to_tokens.new.out) = extends_on _ _ _ _ c.in_ok-print_outer.ensures.appends.0 (still _ _ c.in_err-to_tokens.ensures.err) in
+    search rules
+
+pub print_typed-returns-in_err-print_pat-clause-err : goal.print_typed-returns-in_err-print_pat-clause-err
+print_typed-returns-in_err-print_pat-clause-err g t c =
+    let kept : Extends (trees c.args.out.now) (trees c.print_pat.new.out) = extends_on _ _ _ _ c.in_ok-print_outer.ensures.appends.0 c.in_err-print_pat.ensures.err in
+    search rules
+
+pub print_typed-returns-in_err-to_tokens-clause-err : goal.print_typed-returns-in_err-to_tokens-clause-err
+print_typed-returns-in_err-to_tokens-clause-err g t c =
+    let kept : Extends (trees c.args.out.now) (trees c.to_tokens.new.out) = extends_on _ _ _ _ c.in_ok-print_outer.ensures.appends.0 (extends_on _ _ _ _ c.in_ok-print_pat.ensures.ok (still _ _ c.in_err-to_tokens.ensures.err)) in
+    search rules
+
+pub print_struct-returns-in_err-print_path-clause-err : goal.print_struct-returns-in_err-print_path-clause-err
+print_struct-returns-in_err-print_path-clause-err g t c =
+    let kept : Extends (trees c.args.out.now) (trees c.print_path.new.out) = extends_on _ _ _ _ c.in_ok-print_outer.ensures.appends.0 c.in_err-print_path.ensures.err in
+    search rules
+
+pub print_tuple_struct-returns-in_err-print_path-clause-err : goal.print_tuple_struct-returns-in_err-print_path-clause-err
+print_tuple_struct-returns-in_err-print_path-clause-err g t c =
+    let kept : Extends (trees c.args.out.now) (trees c.print_path.new.out) = extends_on _ _ _ _ c.in_ok-print_outer.ensures.appends.0 c.in_err-print_path.ensures.err in
+    search rules
+
+pub print_binding-returns-in_err-to_tokens-in-Some-clause-err : goal.print_binding-returns-in_err-to_tokens-in-Some-clause-err
+print_binding-returns-in_err-to_tokens-in-Some-clause-err g t c =
+    let kept : Extends (trees c.args.out.now) (trees c.to_tokens.new.out) = extends_on _ _ _ _ c.in_ok-print_name.ensures.ok (still _ _ c.in_err-to_tokens-in-Some.ensures.err) in
+    search rules
+
+pub print_alternatives-returns-clause-err : goal.print_alternatives-returns-clause-err
+print_alternatives-returns-clause-err g t c = on_err_weaker c.print_cases.result (λ h. extends_on _ _ _ _ c.in_ok-print_outer.ensures.appends.0 (extends_on _ _ _ _ c.in_ok-append_tokens.ensures.ok h)) c.print_cases.ensures.err
+
+pub print_cases-returns-in_err-print_pat-clause-err : goal.print_cases-returns-in_err-print_pat-clause-err
+print_cases-returns-in_err-print_pat-clause-err g t c =
+    let old = trees c.args.out.now in
+    let mid = trees c.loop-pair.out in
+    let kept : Extends (trees c.args.out.now) (trees c.print_pat.new.out) =
+    extends_on old (drop (length old) mid) mid _ (sym (take-append-drop (length old) mid) ∙ ap (λ z. z ++ drop (length old) mid) c.loop-pair.invariant.kept) c.in_err-print_pat.ensures.err in
+    search rules
+
+pub print_cases-returns-in_err-to_tokens-clause-err : goal.print_cases-returns-in_err-to_tokens-clause-err
+print_cases-returns-in_err-to_tokens-clause-err g t c =
+    let kept : Extends (trees c.args.out.now) (trees c.to_tokens.new.out) = rw c.in_err-to_tokens.ensures.err (rw c.in_ok-print_pat.ensures.ok (extends_append _ _ _ c.loop-pair.invariant.kept)) in
+    search rules
+
+pub print_fields-returns-in_err-print_member-clause-err : goal.print_fields-returns-in_err-print_member-clause-err
+print_fields-returns-in_err-print_member-clause-err g t c =
+    let old = trees c.args.out.now in
+    let mid = trees c.loop-pair.out in
+    let kept : Extends (trees c.args.out.now) (trees c.print_member.new.out) =
+    extends_on old (drop (length old) mid) mid _ (sym (take-append-drop (length old) mid) ∙ ap (λ z. z ++ drop (length old) mid) c.loop-pair.invariant.kept) c.in_err-print_member.ensures.err in
+    search rules
+
+pub print_fields-returns-in_err-print_pat-clause-err : goal.print_fields-returns-in_err-print_pat-clause-err
+print_fields-returns-in_err-print_pat-clause-err g t c =
+    let old = trees c.args.out.now in
+    let mid = trees c.loop-pair.out in
+    let kept : Extends (trees c.args.out.now) (trees c.print_pat.new.out) =
+    extends_on old (drop (length old) mid) mid _ (sym (take-append-drop (length old) mid) ∙ ap (λ z. z ++ drop (length old) mid) c.loop-pair.invariant.kept) (extends_on _ _ _ _ c.in_ok-print_member.ensures.ok c.in_err-print_pat.ensures.err) in
+    search rules
+
+pub print_fields-returns-in_err-to_tokens-clause-err : goal.print_fields-returns-in_err-to_tokens-clause-err
+print_fields-returns-in_err-to_tokens-clause-err g t c =
+    let kept : Extends (trees c.args.out.now) (trees c.to_tokens.new.out) = rw c.in_err-to_tokens.ensures.err (rw c.in_ok-print_pat.ensures.ok (extends_append (trees c.args.out.now) (trees c.print_member.new.out) _ (rw c.in_ok-print_member.ensures.ok (extends_append _ _ _ c.loop-pair.invariant.kept)))) in
+    search rules
+
+pub print_fields-returns-in_err-print_member-in-Some-clause-err : goal.print_fields-returns-in_err-print_member-in-Some-clause-err
+print_fields-returns-in_err-print_member-in-Some-clause-err g t c =
+    let old = trees c.args.out.now in
+    let mid = trees c.loop-pair.out in
+    let kept : Extends (trees c.args.out.now) (trees c.print_member-in-Some.new.out) =
+    extends_on old (drop (length old) mid) mid _ (sym (take-append-drop (length old) mid) ∙ ap (λ z. z ++ drop (length old) mid) c.loop-pair.invariant.kept) c.in_err-print_member-in-Some.ensures.err in
+    search rules
+
+pub print_elements-returns-in_err-print_pat-clause-err : goal.print_elements-returns-in_err-print_pat-clause-err
+print_elements-returns-in_err-print_pat-clause-err g t c =
+    let old = trees c.args.out.now in
+    let mid = trees c.loop-pair.out in
+    let kept : Extends (trees c.args.out.now) (trees c.print_pat.new.out) =
+    extends_on old (drop (length old) mid) mid _ (sym (take-append-drop (length old) mid) ∙ ap (λ z. z ++ drop (length old) mid) c.loop-pair.invariant.kept) c.in_err-print_pat.ensures.err in
+    search rules
+
+pub print_elements-returns-in_err-to_tokens-clause-err : goal.print_elements-returns-in_err-to_tokens-clause-err
+print_elements-returns-in_err-to_tokens-clause-err g t c =
+    let kept : Extends (trees c.args.out.now) (trees c.to_tokens.new.out) = rw c.in_err-to_tokens.ensures.err (rw c.in_ok-print_pat.ensures.ok (extends_append _ _ _ c.loop-pair.invariant.kept)) in
+    search rules

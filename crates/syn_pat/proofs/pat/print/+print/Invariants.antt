@@ -7,22 +7,8 @@ use Rattle.syn_pat.specs.pat.Printing.{list, fields, shown}
 use Rattle.syn_pat.proofs.pat_laws.Height.{height, sub_by, field_by}
 use Rattle.syn_pat.proofs.pat.print.+print.Given as goal
 
-abbrev pub invariant-print_slice_elements-loop-pair : goal.invariant-print_slice_elements-loop-pair
-invariant-print_slice_elements-loop-pair g l = record {
-  told : trees l.out ++ list g.X.Subtree.prints (shown g.Q.Qualifier.shown g.T.ToTokens.print) (values_of (drop l.pair-index l.pairs) (option_map (λ x. x.now) l.last), marks_of (drop l.pair-index l.pairs))
-      ≡ trees l.initial.out ++ list g.X.Subtree.prints (shown g.Q.Qualifier.shown g.T.ToTokens.print) (values_of l.pairs (option_map (λ x. x.now) l.last), marks_of l.pairs);
-  kept : Extends (trees l.initial.out) (trees l.out);
-}
-
-abbrev pub invariant-print_tuple_elements-loop-pair : goal.invariant-print_tuple_elements-loop-pair
-invariant-print_tuple_elements-loop-pair g l = record {
-  told : trees l.out ++ list g.X.Subtree.prints (shown g.Q.Qualifier.shown g.T.ToTokens.print) (values_of (drop l.pair-index l.pairs) (option_map (λ x. x.now) l.last), marks_of (drop l.pair-index l.pairs))
-      ≡ trees l.initial.out ++ list g.X.Subtree.prints (shown g.Q.Qualifier.shown g.T.ToTokens.print) (values_of l.pairs (option_map (λ x. x.now) l.last), marks_of l.pairs);
-  kept : Extends (trees l.initial.out) (trees l.out);
-}
-
-abbrev pub invariant-print_tuple_struct_elements-loop-pair : goal.invariant-print_tuple_struct_elements-loop-pair
-invariant-print_tuple_struct_elements-loop-pair g l = record {
+abbrev pub invariant-print_elements-loop-pair : goal.invariant-print_elements-loop-pair
+invariant-print_elements-loop-pair g l = record {
   told : trees l.out ++ list g.X.Subtree.prints (shown g.Q.Qualifier.shown g.T.ToTokens.print) (values_of (drop l.pair-index l.pairs) (option_map (λ x. x.now) l.last), marks_of (drop l.pair-index l.pairs))
       ≡ trees l.initial.out ++ list g.X.Subtree.prints (shown g.Q.Qualifier.shown g.T.ToTokens.print) (values_of l.pairs (option_map (λ x. x.now) l.last), marks_of l.pairs);
   kept : Extends (trees l.initial.out) (trees l.out);
@@ -71,8 +57,8 @@ decreases-print_cases g l = let h = most height l.pat.now.cases.0 in h + (h + h)
 abbrev pub decreases-print_slice : goal.decreases-print_slice
 decreases-print_slice g l = let h = most height l.pat.now.elems.0 in h + (h + h) + 2
 
-abbrev pub decreases-print_slice_elements : goal.decreases-print_slice_elements
-decreases-print_slice_elements g l = let h = most height l.pat.now.elems.0 in h + (h + h) + 1
+abbrev pub decreases-print_elements : goal.decreases-print_elements
+decreases-print_elements g l = let h = most height l.elems.now.0 in h + (h + h) + 1
 
 abbrev pub decreases-print_struct : goal.decreases-print_struct
 decreases-print_struct g l = let h = most (field_by height) l.pat.now.fields.0 in h + (h + h) + 2
@@ -83,11 +69,5 @@ decreases-print_fields g l = let h = most (field_by height) l.pat.now.fields.0 i
 abbrev pub decreases-print_tuple : goal.decreases-print_tuple
 decreases-print_tuple g l = let h = most height l.pat.now.elems.0 in h + (h + h) + 2
 
-abbrev pub decreases-print_tuple_elements : goal.decreases-print_tuple_elements
-decreases-print_tuple_elements g l = let h = most height l.pat.now.elems.0 in h + (h + h) + 1
-
 abbrev pub decreases-print_tuple_struct : goal.decreases-print_tuple_struct
 decreases-print_tuple_struct g l = let h = most height l.pat.now.elems.0 in h + (h + h) + 2
-
-abbrev pub decreases-print_tuple_struct_elements : goal.decreases-print_tuple_struct_elements
-decreases-print_tuple_struct_elements g l = let h = most height l.pat.now.elems.0 in h + (h + h) + 1
