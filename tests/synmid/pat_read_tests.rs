@@ -5,6 +5,7 @@
 use crate::answers::says;
 use crate::reader::{PatternReader, Reader};
 use std::alloc::Global;
+use syn_pat::place::PatPlace;
 use token_core::Error;
 use token_text::{lex, text_of};
 
@@ -71,7 +72,7 @@ fn patterns_are_chosen_by_their_first_tokens(rt: HostRuntime) {
         ),
         ("A<B>", "unexpected token 1-2 1-2"),
     ] {
-        says(&rt, alloc, read(alloc, PatternReader::Single, text), wanted);
+        says(&rt, alloc, read(alloc, PatternReader::In(PatPlace::Single), text), wanted);
     }
 }
 
@@ -108,7 +109,7 @@ fn bindings_and_references_are_read(rt: HostRuntime) {
         ),
         ("a @ b | c", "unexpected token 6-7 6-7"),
     ] {
-        says(&rt, alloc, read(alloc, PatternReader::Single, text), wanted);
+        says(&rt, alloc, read(alloc, PatternReader::In(PatPlace::Single), text), wanted);
     }
 }
 
@@ -162,7 +163,7 @@ fn ranges_are_read(rt: HostRuntime) {
         ),
         ("const a", "expected curly braces 6-7 6-7"),
     ] {
-        says(&rt, alloc, read(alloc, PatternReader::Single, text), wanted);
+        says(&rt, alloc, read(alloc, PatternReader::In(PatPlace::Single), text), wanted);
     }
 }
 
@@ -205,7 +206,7 @@ fn tuples_and_slices_are_read(rt: HostRuntime) {
         ),
         ("[1.. b]", "[1 .. b]"),
     ] {
-        says(&rt, alloc, read(alloc, PatternReader::Single, text), wanted);
+        says(&rt, alloc, read(alloc, PatternReader::In(PatPlace::Single), text), wanted);
     }
 }
 
@@ -244,7 +245,7 @@ fn structs_are_read(rt: HostRuntime) {
         ),
         ("A{1.0: a}", "expected identifier or integer 2-5 2-5"),
     ] {
-        says(&rt, alloc, read(alloc, PatternReader::Single, text), wanted);
+        says(&rt, alloc, read(alloc, PatternReader::In(PatPlace::Single), text), wanted);
     }
 }
 
@@ -268,7 +269,7 @@ fn alternatives_are_read(rt: HostRuntime) {
         ),
         ("a @ b | c", "a @ b | c"),
     ] {
-        says(&rt, alloc, read(alloc, PatternReader::Multi, text), wanted);
+        says(&rt, alloc, read(alloc, PatternReader::In(PatPlace::Multi), text), wanted);
     }
 }
 
@@ -293,7 +294,7 @@ fn a_leading_vert_is_read(rt: HostRuntime) {
         says(
             &rt,
             alloc,
-            read(alloc, PatternReader::LeadingVert, text),
+            read(alloc, PatternReader::In(PatPlace::LeadingVert), text),
             wanted,
         );
     }

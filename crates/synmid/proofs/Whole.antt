@@ -6,7 +6,6 @@ use Rattle.token_core.specs.Stream.{Stream}
 use Rattle.token_core.specs.Reads.{Reader, leaves}
 use Rattle.token_core.specs.Headline.{whole}
 use Rattle.syn_path.specs.Supplied.{SameOutcome, UsesUp, IsApart, Reprints as Reprinted}
-use Rattle.syn_pat.specs.declared.place.PatPlace.TheVariants as pat
 use Rattle.syn_pat.specs.pat.Promises as promises
 use Rattle.syn_pat.proofs.pat_laws.GivenLaws.{pat_lawful, guarded_lawful, typed_lawful}
 use Rattle.syn_path.specs.declared.supplied.Place.{Place}
@@ -14,7 +13,7 @@ use Rattle.syn_path.specs.declared.supplied.Place.TheVariants.{Value}
 use Rattle.token_core.specs.Prints.{Print}
 use Rattle.syn_readers.proofs.Whole.{lawful-keeps, lawful-refuses}
 use Rattle.synmid.specs.declared.reader.PatternReader.{PatternReader}
-use Rattle.synmid.specs.declared.reader.PatternReader.TheVariants.{Single, Multi, LeadingVert, Guarded, Typed}
+use Rattle.synmid.specs.declared.reader.PatternReader.TheVariants.{In, Guarded, Typed}
 use Rattle.synmid.specs.Readers.{PatternsTree, patterns_category}
 
 module _ {X : Type 0} (reads : Place → Reader X) (spells : Place → X → Toks → Type 0) (normals : Place → X → X) (prints : Place → X → Print)
@@ -24,15 +23,11 @@ module _ {X : Type 0} (reads : Place → Reader X) (spells : Place → X → Tok
     (reprint : (p : Place) (x : X) (l : Toks) → spells p x l → Reprinted (spells p) (normals p) (prints p) x l)
     (apart : (x : X) (l : Toks) → spells Value x l → IsApart l) where
   pub pattern-keeps : (q : PatternReader) (l : Toks) (a : PatternsTree X q) → whole (patterns_category reads spells normals prints q).reader l ≡ Ok a → (patterns_category reads spells normals prints q).promise l (Some a)
-  pattern-keeps Single = lawful-keeps (promises.pat reads spells normals prints pat.Single) (pat_lawful reads spells normals prints steady sound complete reprint apart pat.Single)
-  pattern-keeps Multi = lawful-keeps (promises.pat reads spells normals prints pat.Multi) (pat_lawful reads spells normals prints steady sound complete reprint apart pat.Multi)
-  pattern-keeps LeadingVert = lawful-keeps (promises.pat reads spells normals prints pat.LeadingVert) (pat_lawful reads spells normals prints steady sound complete reprint apart pat.LeadingVert)
+  pattern-keeps (In place) = lawful-keeps (promises.pat reads spells normals prints place) (pat_lawful reads spells normals prints steady sound complete reprint apart place)
   pattern-keeps Guarded = lawful-keeps (promises.guarded reads spells normals prints) (guarded_lawful reads spells normals prints steady sound complete reprint apart)
   pattern-keeps Typed = lawful-keeps (promises.typed reads spells normals prints) (typed_lawful reads spells normals prints steady sound complete reprint apart)
 
   pub pattern-refuses : (q : PatternReader) (l : Toks) (e : Refusal) → whole (patterns_category reads spells normals prints q).reader l ≡ Err e → (patterns_category reads spells normals prints q).promise l None
-  pattern-refuses Single = lawful-refuses (promises.pat reads spells normals prints pat.Single) (pat_lawful reads spells normals prints steady sound complete reprint apart pat.Single)
-  pattern-refuses Multi = lawful-refuses (promises.pat reads spells normals prints pat.Multi) (pat_lawful reads spells normals prints steady sound complete reprint apart pat.Multi)
-  pattern-refuses LeadingVert = lawful-refuses (promises.pat reads spells normals prints pat.LeadingVert) (pat_lawful reads spells normals prints steady sound complete reprint apart pat.LeadingVert)
+  pattern-refuses (In place) = lawful-refuses (promises.pat reads spells normals prints place) (pat_lawful reads spells normals prints steady sound complete reprint apart place)
   pattern-refuses Guarded = lawful-refuses (promises.guarded reads spells normals prints) (guarded_lawful reads spells normals prints steady sound complete reprint apart)
   pattern-refuses Typed = lawful-refuses (promises.typed reads spells normals prints) (typed_lawful reads spells normals prints steady sound complete reprint apart)

@@ -1,9 +1,12 @@
 -- The readers that a run knows by name.
-use Rattle.std.specs.Prelude.{Bool, if◌then◌else◌, List, [], Option, Some, None, option_map, codes}
+use Rattle.std.specs.Prelude.{◌≡◌, Bool, if◌then◌else◌, List, [], Option, Some, None, Ok, option_map, codes}
 use Rattle.std.specs.Str.{bytes_eq}
+use Rattle.token_core.specs.declared.tree.TokenStream.{TokenStream}
 use Rattle.token_core.specs.Toks.{Bytes, Toks}
+use Rattle.token_core.specs.Trees.{trees}
 use Rattle.token_core.specs.Prints.{Print}
 use Rattle.token_core.specs.Reads.{Reader as R}
+use Rattle.token_core.specs.Stream.{Stream}
 use Rattle.syn_pat.specs.declared.place.PatPlace.TheVariants.{LeadingVert, Multi, Single}
 use Rattle.syn_pat.specs.pat.Pats as pats
 use Rattle.syn_pat.specs.pat.Promises as pat_promises
@@ -40,9 +43,9 @@ use Rattle.syn_readers.specs.declared.reader.GenericsReader.{GenericsReader}
 
 abbrev pub patterns_named : Bytes → Option PatternReader
 patterns_named name =
-    if bytes_eq name (codes "Pat::parse_single") then Some q.Single
-    else (if bytes_eq name (codes "Pat::parse_multi") then Some q.Multi
-    else (if bytes_eq name (codes "Pat::parse_multi_with_leading_vert") then Some q.LeadingVert
+    if bytes_eq name (codes "Pat::parse_single") then Some (q.In Single)
+    else (if bytes_eq name (codes "Pat::parse_multi") then Some (q.In Multi)
+    else (if bytes_eq name (codes "Pat::parse_multi_with_leading_vert") then Some (q.In LeadingVert)
     else (if bytes_eq name (codes "Pat::parse_multi_with_leading_vert_and_guard") then Some q.Guarded
     else (if bytes_eq name (codes "PatType") then Some q.Typed
     else None))))
@@ -80,19 +83,19 @@ named name =
 
 -- the trees of a reader of patterns, over a supplied subtree
 abbrev pub PatternsTree : Type 0 → PatternReader → Type 0
-PatternsTree X q.Single = pats.Pat X
-PatternsTree X q.Multi = pats.Pat X
-PatternsTree X q.LeadingVert = pats.Pat X
+PatternsTree X (q.In place) = pats.Pat X
 PatternsTree X q.Guarded = pats.Pat X
 PatternsTree X q.Typed = pats.PatType X
 
 module _ {X : Type 0} (reads : Place → R X) (spells : Place → X → Toks → Type 0) (normals : Place → X → X) (prints : Place → X → Print) where
   abbrev pub patterns_category : (r : PatternReader) → Category (PatternsTree X r)
-  patterns_category q.Single = of_grammar (pat_promises.pat reads spells normals prints Single)
-  patterns_category q.Multi = of_grammar (pat_promises.pat reads spells normals prints Multi)
-  patterns_category q.LeadingVert = of_grammar (pat_promises.pat reads spells normals prints LeadingVert)
+  patterns_category (q.In place) = of_grammar (pat_promises.pat reads spells normals prints place)
   patterns_category q.Guarded = of_grammar (pat_promises.guarded reads spells normals prints)
   patterns_category q.Typed = of_grammar (pat_promises.typed reads spells normals prints)
+
+-- what a reader of patterns shows: the print of the tree that its read answers
+abbrev pub shows : {A : Type 0} → R A → (A → Print) → Stream → TokenStream → Stream → Type 0
+shows {A = A} read print s out new = (a : A) × (read s ≡ Ok (a, new)) × (trees out ≡ print a)
 
 -- what attributes and expressions of the sample read
 abbrev pub sample_attributes : R (List (Attribute Sample))

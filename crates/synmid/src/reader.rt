@@ -1,7 +1,11 @@
 //! The readers that a run knows by name.
 
 ghost use Rattle.std.specs.Prelude.{◌≡◌, IfOk};
+ghost use Rattle.syn_forms.specs.declared.places.TypePlace.TheVariants.{Plus};
+ghost use Rattle.syn_pat.specs.pat.Knot as knot;
+ghost use Rattle.syn_pat.specs.pat.Pats as pats;
 ghost use Rattle.syn_pat.specs.pat.Printing as patterns;
+ghost use Rattle.syn_pat.specs.pat.Reading.{named};
 ghost use Rattle.syn_readers.specs.Readers as readers;
 ghost use Rattle.token_core.specs.Reads.{Fails, Follows, Parsed};
 ghost use Rattle.token_core.specs.Trees.{toks, trees};
@@ -11,17 +15,27 @@ use std::alloc::{AllocError, Global};
 use std::marker::PhantomData;
 use syn_attr::attr::{Attribute, Meta, MetaList, MetaNameValue};
 use syn_attr::expr::Expr;
+use syn_forms::nested::Held;
+use syn_forms::places::TypePlace;
 use syn_forms::tokens::PointerMutability;
 use syn_parsers::whole::{ModStyle, ParseInner, ParseOuter};
-use syn_pat::pat::{Pat, PatType};
+use syn_pat::knot::parse_pat;
+use syn_pat::names::Qualifier;
+use syn_pat::pat::print::{print_pat, print_typed};
+use syn_pat::pat::read::{parse_guarded, parse_typed};
+use syn_pat::pat::{PatOver, TypedOver};
+use syn_pat::place::PatPlace;
+use syn_pat::supplied::{PathArguments, QSelf, Type};
 use syn_path::mac::Macro;
-use syn_path::path::NoArguments;
+use syn_path::path::{Arguments, NoArguments};
 use syn_path::supplied::Subtree;
 use syn_readers::reader::{
     GenericsReader, PathReader, TypeReader, print_of, reprint, reprint_with,
 };
 use syn_sample::sample::Sample;
-use token_core::{Error, Items, Parse, ParseStream, Parser, ToTokens, TokenStream, read_all_with};
+use token_core::{
+    Boxed, Error, Items, Parse, ParseStream, Parser, ToTokens, TokenStream, read_all_with,
+};
 
 /// A reader that a run knows by name.
 #[derive(Clone, Copy, PartialEq, Eq)]
@@ -43,9 +57,8 @@ pub enum Reader {
 /// A reader of patterns.
 #[derive(Clone, Copy, PartialEq, Eq)]
 pub enum PatternReader {
-    Single,
-    Multi,
-    LeadingVert,
+    /// Of a pattern in this place.
+    In(PatPlace),
     Guarded,
     Typed,
 }
@@ -118,9 +131,9 @@ impl PatternReader {
         ensures { result ≡ spec.patterns_named name.now }
     {
         match name {
-            "Pat::parse_single" => Some(PatternReader::Single),
-            "Pat::parse_multi" => Some(PatternReader::Multi),
-            "Pat::parse_multi_with_leading_vert" => Some(PatternReader::LeadingVert),
+            "Pat::parse_single" => Some(PatternReader::In(PatPlace::Single)),
+            "Pat::parse_multi" => Some(PatternReader::In(PatPlace::Multi)),
+            "Pat::parse_multi_with_leading_vert" => Some(PatternReader::In(PatPlace::LeadingVert)),
             "Pat::parse_multi_with_leading_vert_and_guard" => Some(PatternReader::Guarded),
             "PatType" => Some(PatternReader::Typed),
             _ => None,
@@ -152,25 +165,14 @@ impl PatternReader {
         ensures within { Follows input.old input.new }
     {
         match self {
-            PatternReader::Single => {
-                let pat = Pat::<X>::parse_single(alloc, input)?;
-                Ok(print_pat(alloc, &pat)?)
-            }
-            PatternReader::Multi => {
-                let pat = Pat::<X>::parse_multi(alloc, input)?;
-                Ok(print_pat(alloc, &pat)?)
-            }
-            PatternReader::LeadingVert => {
-                let pat = Pat::<X>::parse_multi_with_leading_vert(alloc, input)?;
-                Ok(print_pat(alloc, &pat)?)
+            PatternReader::In(place) => {
+                show_pat::<X, PathArguments<X>, QSelf<X>, Type<X>>(alloc, PhantomData, input, place)
             }
             PatternReader::Guarded => {
-                let pat = Pat::<X>::parse_multi_with_leading_vert_and_guard(alloc, input)?;
-                Ok(print_pat(alloc, &pat)?)
+                show_guarded::<X, PathArguments<X>, QSelf<X>, Type<X>>(alloc, PhantomData, input)
             }
             PatternReader::Typed => {
-                let pat = PatType::<X>::parse(alloc, input)?;
-                Ok(print_typed(alloc, &pat)?)
+                show_typed::<X, PathArguments<X>, QSelf<X>, Type<X>>(alloc, PhantomData, input)
             }
         }
     }
@@ -198,22 +200,6 @@ impl<X: Subtree> Parser for PatternPrint<X> {
     }
 }
 
-fn print_pat<X: Subtree>(alloc: Global, pat: &Pat<X>) -> Result<TokenStream, AllocError>
-    ensures { IfOk result (λ s. trees s ≡ patterns.pat X.prints (patterns.types_shown X.prints) pat.now) }
-{
-    let mut out = TokenStream::new(alloc);
-    pat.append_tokens(alloc, &mut out)?;
-    Ok(out)
-}
-
-fn print_typed<X: Subtree>(alloc: Global, pat: &PatType<X>) -> Result<TokenStream, AllocError>
-    ensures { IfOk result (λ s. trees s ≡ patterns.typed X.prints (patterns.types_shown X.prints) pat.now) }
-{
-    let mut out = TokenStream::new(alloc);
-    pat.append_tokens(alloc, &mut out)?;
-    Ok(out)
-}
-
 /// Reads all of a list by a parser of attributes, and prints them.
 fn reprint_attributes<P: Parser<Output = Items<Attribute<Sample>>> + Drop>(
     alloc: Global,
@@ -225,4 +211,77 @@ fn reprint_attributes<P: Parser<Output = Items<Attribute<Sample>>> + Drop>(
 {
     let attrs = read_all_with(alloc, parser, tokens)?;
     Ok(print_of(alloc, &attrs)?)
+}
+
+// ---- over any arguments of paths, what qualifies a path, and types: so no tree of types is named. A pattern is boxed at once, since its drop is
+// written out on each way out otherwise
+
+/// Reads a pattern in its place, and prints it.
+#[tactic(auto, using(token_core::proofs::Suffixes::follows))]
+fn show_pat<X: Subtree, G: Arguments, Q: Qualifier<G>, T: ToTokens + Drop>(
+    alloc: Global,
+    of: PhantomData<PatOver<X, G, Q, T>>,
+    input: &mut ParseStream<'_>,
+    place: PatPlace,
+) -> Result<TokenStream, Error>
+    ensures shown { Parsed (spec.shows (knot.pat X.reads (named Q.reads G.is_absent) place) (patterns.pat X.prints (patterns.shown Q.shown T.print)) input.old)
+        (Fails {A = pats.PatOver X G Q T} (knot.pat X.reads (named Q.reads G.is_absent) place) input.old) result input.new }
+    ensures within { Follows input.old input.new }
+{
+    let pat = Boxed::new(alloc, parse_pat::<X, G, Q, T>(alloc, of, input, place)?)?;
+    Ok(print_of_pat(alloc, pat.get())?)
+}
+
+/// Reads a pattern with a guard that may follow, and prints it.
+#[tactic(auto, using(token_core::proofs::Suffixes::follows))]
+fn show_guarded<X: Subtree, G: Arguments, Q: Qualifier<G>, T: ToTokens + Drop>(
+    alloc: Global,
+    of: PhantomData<PatOver<X, G, Q, T>>,
+    input: &mut ParseStream<'_>,
+) -> Result<TokenStream, Error>
+    ensures shown { Parsed (spec.shows (knot.guarded X.reads (named Q.reads G.is_absent)) (patterns.pat X.prints (patterns.shown Q.shown T.print)) input.old)
+        (Fails {A = pats.PatOver X G Q T} (knot.guarded X.reads (named Q.reads G.is_absent)) input.old) result input.new }
+    ensures within { Follows input.old input.new }
+{
+    let pat = Boxed::new(alloc, parse_guarded::<X, G, Q, T>(alloc, input)?)?;
+    Ok(print_of_pat(alloc, pat.get())?)
+}
+
+/// Reads a pattern with its type, and prints it.
+#[tactic(auto, using(token_core::proofs::Suffixes::follows))]
+fn show_typed<X: Subtree, G: Arguments, Q: Qualifier<G>, T: Held<TypePlace> + ToTokens>(
+    alloc: Global,
+    of: PhantomData<TypedOver<X, G, Q, T>>,
+    input: &mut ParseStream<'_>,
+) -> Result<TokenStream, Error>
+    ensures shown { Parsed (spec.shows (knot.typed_over X.reads (named Q.reads G.is_absent) (T.read Plus)) (patterns.typed X.prints (patterns.shown Q.shown T.print)) input.old)
+        (Fails (knot.typed_over X.reads (named Q.reads G.is_absent) (T.read Plus)) input.old) result input.new }
+    ensures within { Follows input.old input.new }
+{
+    let pat = Boxed::new(alloc, parse_typed::<X, G, Q, T>(alloc, input)?)?;
+    Ok(print_of_typed(alloc, pat.get())?)
+}
+
+/// The print of a pattern, in a list of its own.
+fn print_of_pat<X: Subtree, G: Arguments, Q: Qualifier<G>, T: ToTokens>(
+    alloc: Global,
+    pat: &PatOver<X, G, Q, T>,
+) -> Result<TokenStream, AllocError>
+    ensures { IfOk result (λ s. trees s ≡ patterns.pat X.prints (patterns.shown Q.shown T.print) pat.now) }
+{
+    let mut out = TokenStream::new(alloc);
+    print_pat(alloc, pat, &mut out)?;
+    Ok(out)
+}
+
+/// The same of one with its type.
+fn print_of_typed<X: Subtree, G: Arguments, Q: Qualifier<G>, T: ToTokens>(
+    alloc: Global,
+    pat: &TypedOver<X, G, Q, T>,
+) -> Result<TokenStream, AllocError>
+    ensures { IfOk result (λ s. trees s ≡ patterns.typed X.prints (patterns.shown Q.shown T.print) pat.now) }
+{
+    let mut out = TokenStream::new(alloc);
+    print_typed(alloc, pat, &mut out)?;
+    Ok(out)
 }
