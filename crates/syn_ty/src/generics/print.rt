@@ -237,7 +237,7 @@ fn print_const_default<E: Value>(
 
 /// Appends a parameter; refused, what stood before is kept.
 #[cycle(print)]
-#[tactic(auto, using(token_core::proofs::Puts::puts))]
+#[tactic(auto, using(token_core::proofs::Puts::puts, crate::proofs::ty_laws::Prints::parts))]
 pub fn print_param<A: Attributes, E: Value>(
     alloc: Global,
     param: &GenericParamOf<A, E>,
@@ -362,7 +362,7 @@ fn print_bounds<A: Attributes, E: Value>(
 
 /// Appends a bound; refused, what stood before is kept.
 #[cycle(print)]
-#[tactic(auto, using(token_core::proofs::Puts::puts))]
+#[tactic(auto, using(token_core::proofs::Puts::puts, crate::proofs::ty_laws::Prints::parts))]
 pub fn print_bound<A: Attributes, E: Value>(
     alloc: Global,
     bound: &TypeParamBoundOf<A, E>,

@@ -224,7 +224,7 @@ fn print_argument_member<A: Attributes, E: Value>(
 }
 
 #[cycle(print)]
-#[tactic(auto, using(token_core::proofs::Puts::puts))]
+#[tactic(auto, using(token_core::proofs::Puts::puts, crate::proofs::ty_laws::Prints::arguments))]
 pub fn print_argument<A: Attributes, E: Value>(
     alloc: Global,
     argument: &GenericArgumentOf<A, E>,
@@ -261,7 +261,7 @@ fn print_generics<A: Attributes, E: Value>(
 }
 
 #[cycle(print)]
-#[tactic(auto, using(token_core::proofs::Puts::puts))]
+#[tactic(auto, using(token_core::proofs::Puts::puts, crate::proofs::ty_laws::Prints::arguments))]
 fn print_assoc_type<A: Attributes, E: Value>(
     alloc: Global,
     assoc: &AssocTypeOf<A, E>,
@@ -294,7 +294,7 @@ fn print_assoc_const<A: Attributes, E: Value>(
 
 /// The colon prints without bounds too.
 #[cycle(print)]
-#[tactic(auto, using(token_core::proofs::Puts::puts))]
+#[tactic(auto, using(token_core::proofs::Puts::puts, crate::proofs::ty_laws::Prints::arguments))]
 fn print_constraint<A: Attributes, E: Value>(
     alloc: Global,
     constraint: &ConstraintOf<A, E>,

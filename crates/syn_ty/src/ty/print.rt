@@ -193,7 +193,7 @@ impl<A: Attributes> ToTokens for FnPtrVariadicOf<A> {
 
 /// Appends a type; refused, what stood before is kept.
 #[cycle(print)]
-#[tactic(auto, using(token_core::proofs::Puts::puts))]
+#[tactic(auto, using(token_core::proofs::Puts::puts, crate::proofs::ty_laws::Prints::prints))]
 pub fn print_type<A: Attributes, E: Value>(
     alloc: Global,
     ty: &TypeOf<A, E>,
@@ -239,7 +239,7 @@ fn print_array<A: Attributes, E: Value>(
 }
 
 #[cycle(print)]
-#[tactic(auto, using(token_core::proofs::Puts::puts))]
+#[tactic(auto, using(token_core::proofs::Puts::puts, crate::proofs::ty_laws::Prints::parts))]
 fn print_fn_ptr<A: Attributes, E: Value>(
     alloc: Global,
     pointer: &TypeFnPtrOf<A, E>,
