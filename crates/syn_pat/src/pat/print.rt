@@ -422,6 +422,7 @@ fn print_tuple_struct<X: Subtree, G: Arguments, Q: Qualifier<G>, T: ToTokens>(
     pat.paren_token.surround(content, out)
 }
 
+/// Appends a pattern with its type; refused, what stood before is kept.
 #[cycle(print)]
 #[tactic(auto, using(token_core::proofs::Puts::puts))]
 pub fn print_typed<X: Subtree, G: Arguments, Q: Qualifier<G>, T: ToTokens>(
