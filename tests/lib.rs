@@ -1,5 +1,5 @@
-//! The tests of `syn_mid` and of the crates that it is the face of, which are run and not proved (docs/GATE.md): `checks/tests` runs them.
-//! A file stands in the folder of the crate that it tests, and names all by the face, as users do. Those in `examples` are worked examples.
+//! The tests of the crates, which are run and not proved (docs/GATE.md): `checks/tests` runs them. A file stands in the folder of the crate
+//! that it tests, and names what the face has by the face, as users do. Those in `examples` are worked examples.
 #![tactic(auto)]
 
 #[cfg(test)]
@@ -11,6 +11,12 @@ mod bound_tests;
 #[cfg(test)]
 mod closure_tests;
 #[cfg(test)]
+mod container_tests;
+#[cfg(test)]
+mod core_tests;
+#[cfg(test)]
+mod cursor_tests;
+#[cfg(test)]
 mod derive_head_tests;
 #[cfg(test)]
 mod expr_tests;
@@ -19,7 +25,11 @@ mod fn_ptr_tests;
 #[cfg(test)]
 mod generics_tests;
 #[cfg(test)]
+mod lexer_tests;
+#[cfg(test)]
 mod lists;
+#[cfg(test)]
+mod look_tests;
 #[cfg(test)]
 mod mac_tests;
 #[cfg(test)]
@@ -41,7 +51,13 @@ mod qualified_tests;
 #[cfg(test)]
 mod signature_index_tests;
 #[cfg(test)]
+mod stream_tests;
+#[cfg(test)]
 mod supplied_tests;
+#[cfg(test)]
+mod text_tests;
+#[cfg(test)]
+mod token_tests;
 #[cfg(test)]
 mod type_attr_tests;
 #[cfg(test)]

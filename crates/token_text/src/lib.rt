@@ -10,10 +10,6 @@ mod number;
 mod piece;
 mod printer;
 mod reader;
-#[cfg(test)]
-mod tests;
-#[cfg(test)]
-mod texts;
 mod word;
 
 pub use lexer::lex;

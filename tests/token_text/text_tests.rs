@@ -1,6 +1,6 @@
 //! Texts and their tokens, and texts that are refused, written from the rules.
 
-use crate::lex;
+use token_text::lex;
 use std::alloc::{AllocError, Global};
 use std::process::Abort;
 use std::test::Fail;

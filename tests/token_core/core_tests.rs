@@ -2,8 +2,7 @@
 //! A list is written as pieces with spaces between them. The characters of a mark are Joint but the last;
 //! a quote is Joint; `^` and `$` bound an invisible group.
 //!
-//! A test calls and does not branch: `got`, `is` and the like stop it where something is wrong. A `?`, an `&&` or an
-//! `assert!` in the test itself makes its proof many times longer (docs/GATE.md).
+//! `got`, `is` and the like stop a test where something is wrong.
 
 ghost use Rattle.token_core.specs.Reads.{Follows};
 

@@ -1,6 +1,6 @@
 //! Texts and what they are read as, by the rules of Rust's tokens.
 
-use crate::{lex, text_of};
+use token_text::{lex, text_of};
 use std::alloc::{AllocError, Global};
 use std::fmt::Write;
 use std::test::Fail;
