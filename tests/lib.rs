@@ -1,5 +1,5 @@
-//! The tests of the crates, which are run and not proved (docs/GATE.md): `checks/tests` runs them. A file stands in the folder of the crate
-//! that it tests, and names what the face has by the face, as users do. Those in `examples` are worked examples.
+//! The tests of the crates of syntax and of text, which are run and not proved (docs/GATE.md): `checks/tests` runs them. A file stands in
+//! the folder of the crate that it tests, and names what the face has by the face, as users do. Those in `examples` are worked examples.
 #![tactic(auto)]
 
 #[cfg(test)]
@@ -10,12 +10,6 @@ mod attr_tests;
 mod bound_tests;
 #[cfg(test)]
 mod closure_tests;
-#[cfg(test)]
-mod container_tests;
-#[cfg(test)]
-mod core_tests;
-#[cfg(test)]
-mod cursor_tests;
 #[cfg(test)]
 mod derive_head_tests;
 #[cfg(test)]
@@ -28,8 +22,6 @@ mod generics_tests;
 mod lexer_tests;
 #[cfg(test)]
 mod lists;
-#[cfg(test)]
-mod look_tests;
 #[cfg(test)]
 mod mac_tests;
 #[cfg(test)]
@@ -51,13 +43,9 @@ mod qualified_tests;
 #[cfg(test)]
 mod signature_index_tests;
 #[cfg(test)]
-mod stream_tests;
-#[cfg(test)]
 mod supplied_tests;
 #[cfg(test)]
 mod text_tests;
-#[cfg(test)]
-mod token_tests;
 #[cfg(test)]
 mod type_attr_tests;
 #[cfg(test)]

@@ -2,7 +2,7 @@
 
 ghost use Rattle.token_core.specs.Reads.{Follows, OptionReads, OptionRefuses};
 
-use crate::core_tests::{buffer_of, got, is, made, nth, numbers, refused, says, text_is, tokens, wants};
+use crate::tests::{buffer_of, got, is, made, nth, numbers, refused, says, text_is, tokens, wants};
 use std::alloc::{AllocError, Global};
 use std::process::Abort;
 use token_core::token::{Comma, Paren, PathSep};

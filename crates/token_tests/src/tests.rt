@@ -2,7 +2,8 @@
 //! A list is written as pieces with spaces between them. The characters of a mark are Joint but the last;
 //! a quote is Joint; `^` and `$` bound an invisible group.
 //!
-//! `got`, `is` and the like stop a test where something is wrong.
+//! A test calls and does not branch: `got`, `is` and the like stop it where something is wrong. A `?`, an `&&` or an
+//! `assert!` in the test itself makes its proof many times longer (docs/GATE.md).
 
 ghost use Rattle.token_core.specs.Reads.{Follows};
 
