@@ -1,12 +1,12 @@
 //! Texts and what they are read as, by the rules of Rust's tokens.
 
-use token_text::{lex, text_of};
 use std::alloc::{AllocError, Global};
 use std::fmt::Write;
 use std::test::Fail;
 use token_core::{
     DelimSpan, Delimiter, ErrorKind, Group, Ident, Spacing, Span, TokenStream, TokenTree,
 };
+use token_text::{lex, text_of};
 
 /// Each tree with its place; a joint mark has a `~`, and a group ends with its bracket's place.
 fn list(tokens: &TokenStream, out: &mut String) -> Result<(), AllocError> {

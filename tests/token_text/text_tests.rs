@@ -1,10 +1,10 @@
 //! Texts and their tokens, and texts that are refused, written from the rules.
 
-use token_text::lex;
 use std::alloc::{AllocError, Global};
 use std::process::Abort;
 use std::test::Fail;
 use token_core::{Delimiter, LitKind, Spacing, Span, TokenStream, TokenTree};
+use token_text::lex;
 
 /// Trees are joined by spaces, and a joint mark has a `~`.
 const WORDS: [(&str, &str); 25] = [
