@@ -1,4 +1,4 @@
-//! The tests of the crates of syntax and of text, which are run and not proved (docs/GATE.md): `checks/tests` runs them. A file stands in
+//! The tests of the crates, which are run and not proved (docs/GATE.md): `checks/tests` runs them. A file stands in
 //! the folder of the crate that it tests, and names what the face has by the face, as users do. Those in `examples` are worked examples.
 #![tactic(auto)]
 
@@ -7,9 +7,17 @@ mod argument_tests;
 #[cfg(test)]
 mod attr_tests;
 #[cfg(test)]
+mod attr_text_tests;
+#[cfg(test)]
 mod bound_tests;
 #[cfg(test)]
 mod closure_tests;
+#[cfg(test)]
+mod container_tests;
+#[cfg(test)]
+mod core_tests;
+#[cfg(test)]
+mod cursor_tests;
 #[cfg(test)]
 mod derive_head_tests;
 #[cfg(test)]
@@ -23,11 +31,15 @@ mod lexer_tests;
 #[cfg(test)]
 mod lists;
 #[cfg(test)]
+mod look_tests;
+#[cfg(test)]
 mod mac_tests;
 #[cfg(test)]
 mod made_by_hand_tests;
 #[cfg(test)]
 mod mod_path_tests;
+#[cfg(test)]
+mod nested_tests;
 #[cfg(test)]
 mod nothing;
 #[cfg(test)]
@@ -41,11 +53,17 @@ mod plain_type_tests;
 #[cfg(test)]
 mod qualified_tests;
 #[cfg(test)]
+mod sample_tests;
+#[cfg(test)]
 mod signature_index_tests;
+#[cfg(test)]
+mod stream_tests;
 #[cfg(test)]
 mod supplied_tests;
 #[cfg(test)]
 mod text_tests;
+#[cfg(test)]
+mod token_tests;
 #[cfg(test)]
 mod type_attr_tests;
 #[cfg(test)]

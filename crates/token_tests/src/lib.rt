@@ -1,15 +1,6 @@
-//! The tests of `token_core`, apart from it, so that they are proved beside its must-fail edits.
+//! The tests of `token_core` that are proved: one for each call that requires something of its caller, so that a proof shows that a caller can meet it.
+//! What the calls do is tested in tests/token_core.
 #![tactic(auto)]
 
 #[cfg(test)]
-mod container_tests;
-#[cfg(test)]
-mod cursor_tests;
-#[cfg(test)]
-mod look_tests;
-#[cfg(test)]
-mod stream_tests;
-#[cfg(test)]
-mod tests;
-#[cfg(test)]
-mod token_tests;
+mod required_tests;

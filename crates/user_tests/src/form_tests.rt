@@ -4,9 +4,9 @@ ghost use Rattle.std.specs.Prelude.{◌<◌, length};
 ghost use Rattle.token_core.specs.Reads.{Follows};
 ghost use Rattle.syn_attr.specs.attr.Requirements.{path_in};
 
-use crate::attr_tests::says;
 use std::alloc::{AllocError, Global};
 use std::fmt::Write;
+use std::process::Abort;
 use syn_attr::meta::ParseNestedMeta;
 use syn_verbatim::expr::VerbatimExpr;
 use token_core::token::Comma;
@@ -111,13 +111,39 @@ fn show_form(form: &Form, out: &mut String) -> Result<(), AllocError> {
     Ok(())
 }
 
-/// The options that stand in a text.
-fn options(alloc: Global, text: &str) -> Result<String, Error> {
-    let tokens = lex(alloc, text)?;
-    let form = read_all_with(alloc, ByFn(parse_form), &tokens)?;
+fn show_error(error: &Error, out: &mut String) -> Result<(), AllocError> {
+    let (start, end) = (error.start(), error.end());
+    write!(
+        out,
+        "{} {}-{} {}-{}",
+        error.text(),
+        start.lo,
+        start.hi,
+        end.lo,
+        end.hi
+    )?;
+    Ok(())
+}
+
+fn form_of(alloc: Global, text: &str) -> Result<Form, Error> {
+    read_all_with(alloc, ByFn(parse_form), &lex(alloc, text)?)
+}
+
+/// The options that stand in a text, or the refusal's text and place.
+fn options(alloc: Global, text: &str) -> Result<String, AllocError> {
     let mut out = String::new(alloc);
-    show_form(&form, &mut out)?;
+    match form_of(alloc, text) {
+        Ok(form) => show_form(&form, &mut out)?,
+        Err(error) => show_error(&error, &mut out)?,
+    }
     Ok(out)
+}
+
+fn reads(rt: &impl Abort, alloc: Global, text: &str, wanted: &str) {
+    match options(alloc, text) {
+        Ok(found) => assert_eq!(rt; found.trim(), wanted),
+        Err(_) => panic!(rt; "out of memory"),
+    }
 }
 
 #[test]
@@ -154,6 +180,6 @@ fn options_are_read(rt: HostRuntime) {
             "expected attribute arguments in parentheses: #[form(...)] 2-6 2-6",
         ),
     ] {
-        says(&rt, alloc, options(alloc, text), wanted);
+        reads(&rt, alloc, text, wanted);
     }
 }

@@ -1,12 +1,9 @@
-//! Tests of what users write: closures at properties and parsers by functions, whose conditions are proved where they are handed on, and the sample
-//! of a supplied subtree. They name the crates below the face, so that they are proved beside the types; the face hands the same items on.
+//! The tests of what users write that are proved: closures at properties and parsers by functions, whose conditions are proved where they are handed on, and
+//! one for each other call above `token_core` that requires something. They name the crates below the face, so that they are proved beside the types; the
+//! face hands the same items on. What the calls do is tested in tests/.
 #![tactic(auto)]
 
 #[cfg(test)]
-mod attr_tests;
-#[cfg(test)]
 mod form_tests;
 #[cfg(test)]
-mod nested_tests;
-#[cfg(test)]
-mod sample_tests;
+mod required_tests;

@@ -1,12 +1,9 @@
 //! Nested properties read by closures, careful ones and careless ones.
 
-ghost use Rattle.token_core.specs.Reads.{Follows};
-
 use std::alloc::{AllocError, Global};
 use std::fmt::Write;
 use std::test::Fail;
-use syn_attr::meta::{ParseNestedMeta, parser};
-use syn_sample::sample::Sample;
+use syn_mid::meta::{ParseNestedMeta, parser};
 use token_core::token::{Comma, Eq};
 use token_core::{Error, Ident, Lit, read_all_with};
 use token_text::lex;
@@ -30,40 +27,28 @@ pub(crate) enum Does {
     Leaves,
 }
 
-#[tactic(auto, using(token_core::proofs::Suffixes::follows))]
-fn value(alloc: Global, meta: &mut ParseNestedMeta<'_>) -> Result<(), Error>
-    ensures { Follows meta.old.input meta.new.input }
-{
+fn value(alloc: Global, meta: &mut ParseNestedMeta<'_>) -> Result<(), Error> {
     if meta.input.peek::<Eq>() {
         meta.value(alloc)?.parse::<Lit>(alloc)?;
     }
     Ok(())
 }
 
-#[tactic(auto, using(token_core::proofs::Suffixes::follows))]
-fn descend(alloc: Global, meta: &mut ParseNestedMeta<'_>) -> Result<(), Error>
-    ensures { Follows meta.old.input meta.new.input }
-{
-    let logic = |alloc: Global, inner: &mut ParseNestedMeta<'_>| -> Result<(), Error>
-        ensures { Follows inner.old.input inner.new.input }
-    { value(alloc, inner) };
+fn descend(alloc: Global, meta: &mut ParseNestedMeta<'_>) -> Result<(), Error> {
+    let logic = |alloc: Global, inner: &mut ParseNestedMeta<'_>| -> Result<(), Error> {
+        value(alloc, inner)
+    };
     meta.parse_nested_meta(alloc, logic)
 }
 
-#[tactic(auto, using(token_core::proofs::Suffixes::follows))]
-fn everything(alloc: Global, meta: &mut ParseNestedMeta<'_>) -> Result<(), Error>
-    ensures { Follows meta.old.input meta.new.input }
-{
+fn everything(alloc: Global, meta: &mut ParseNestedMeta<'_>) -> Result<(), Error> {
     value(alloc, meta)?;
     meta.input.parse::<Comma>(alloc)?;
     meta.input.parse::<Ident>(alloc)?;
     Ok(())
 }
 
-#[tactic(auto, using(token_core::proofs::Suffixes::follows))]
-fn open(alloc: Global, meta: &mut ParseNestedMeta<'_>, finishes: bool) -> Result<(), Error>
-    ensures { Follows meta.old.input meta.new.input }
-{
+fn open(alloc: Global, meta: &mut ParseNestedMeta<'_>, finishes: bool) -> Result<(), Error> {
     let (_, content) = meta.input.parenthesized(alloc)?;
     if finishes {
         meta.input.finish(content);
@@ -71,35 +56,24 @@ fn open(alloc: Global, meta: &mut ParseNestedMeta<'_>, finishes: bool) -> Result
     Ok(())
 }
 
-#[tactic(auto, using(token_core::proofs::Suffixes::follows))]
 pub(crate) fn at_property(
     alloc: Global,
     does: Does,
     meta: &mut ParseNestedMeta<'_>,
-) -> Result<(), Error>
-    ensures { Follows meta.old.input meta.new.input }
-{
+) -> Result<(), Error> {
     match does {
         Does::Values => value(alloc, meta),
         Does::Descends => descend(alloc, meta),
         Does::Nothing => Ok(()),
-        Does::Refuses => Err(refusal(alloc, meta)),
+        Does::Refuses => Err(meta.error(alloc, "no")),
         Does::RefusesLate => {
             value(alloc, meta)?;
-            Err(refusal(alloc, meta))
+            Err(meta.error(alloc, "no"))
         }
         Does::Everything => everything(alloc, meta),
         Does::Finishes => open(alloc, meta, true),
         Does::Leaves => open(alloc, meta, false),
     }
-}
-
-fn refusal(alloc: Global, meta: &ParseNestedMeta<'_>) -> Error {
-    // a property's path has a segment
-    if meta.path.segments.is_empty() {
-        return Error::out_of_memory();
-    }
-    meta.error(alloc, "no")
 }
 
 pub(crate) fn show(answer: Result<(), Error>, out: &mut String) -> Result<(), AllocError> {
@@ -130,13 +104,10 @@ pub(crate) fn called(meta: &ParseNestedMeta<'_>, calls: &mut String) -> Result<(
 }
 
 /// The paths of the properties that the closure was called at, and what the whole read answered.
-#[tactic(auto, using(token_core::proofs::Suffixes::follows))]
 fn nested(alloc: Global, does: Does, text: &str) -> Result<String, Error> {
     let tokens = lex(alloc, text)?;
     let mut calls = String::new(alloc);
-    let logic = |alloc: Global, meta: &mut ParseNestedMeta<'_>| -> Result<(), Error>
-        ensures { Follows meta.old.input meta.new.input }
-    {
+    let logic = |alloc: Global, meta: &mut ParseNestedMeta<'_>| -> Result<(), Error> {
         called(meta, &mut calls)?;
         at_property(alloc, does, meta)
     };

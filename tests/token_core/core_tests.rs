@@ -2,10 +2,7 @@
 //! A list is written as pieces with spaces between them. The characters of a mark are Joint but the last;
 //! a quote is Joint; `^` and `$` bound an invisible group.
 //!
-//! A test calls and does not branch: `got`, `is` and the like stop it where something is wrong. A `?`, an `&&` or an
-//! `assert!` in the test itself makes its proof many times longer (docs/GATE.md).
-
-ghost use Rattle.token_core.specs.Reads.{Follows};
+//! `got`, `is` and the like stop a test where something is wrong.
 
 use std::alloc::{AllocError, Global};
 use std::mem;
@@ -458,7 +455,6 @@ fn other_groups_are_read(rt: &impl Abort, alloc: Global, input: &mut ParseStream
 }
 
 #[test]
-#[tactic(auto, using(token_core::proofs::Suffixes::forks))]
 fn forks_go_on(rt: HostRuntime) {
     let alloc = rt.alloc();
     let list = tokens(&rt, alloc, "( a ) b");
@@ -631,10 +627,7 @@ fn lists_have_values_and_marks(rt: HostRuntime) {
 }
 
 /// Two identifiers.
-#[tactic(auto, using(token_core::proofs::Suffixes::follows))]
-fn two(alloc: Global, input: &mut ParseStream<'_>) -> Result<(Ident, Ident), Error>
-    ensures { Follows input.old input.new }
-{
+fn two(alloc: Global, input: &mut ParseStream<'_>) -> Result<(Ident, Ident), Error> {
     let first = input.parse::<Ident>(alloc)?;
     let second = input.parse::<Ident>(alloc)?;
     Ok((first, second))

@@ -1,7 +1,7 @@
 //! Positions in a buffer, across the groups of it.
 
+use crate::core_tests::{buffer_of, got, is, made, text_is, tokens};
 use crate::stream_tests::some;
-use crate::tests::{buffer_of, got, is, made, text_is, tokens};
 use std::alloc::{AllocError, Global};
 use std::process::Abort;
 use token_core::{Cursor, ParseStream, Span, TokenStream, TokenTree, verbatim};

@@ -1,16 +1,10 @@
 //! Attributes read from text: what the calls on them answer, and the texts and places of their refusals.
-//!
-//! A test calls and does not branch, as docs/GATE.md says.
-
-ghost use Rattle.std.specs.Prelude.{◌<◌, length, IfOk};
-ghost use Rattle.token_core.specs.Reads.{Follows};
-ghost use Rattle.syn_attr.specs.attr.Requirements.{path_in};
 
 use crate::nested_tests::{Does, at_property, called, show};
 use std::alloc::Global;
 use std::process::Abort;
-use syn_attr::attr::{Attribute, Meta, MetaList, MetaNameValue};
-use syn_attr::meta::ParseNestedMeta;
+use syn_mid::meta::ParseNestedMeta;
+use syn_mid::{Attribute, Meta, MetaList, MetaNameValue};
 use syn_sample::sample::Sample;
 use token_core::token::FatArrow;
 use token_core::{
@@ -44,24 +38,18 @@ fn printed<T: ToTokens>(alloc: Global, tree: &T) -> Result<String, Error> {
 }
 
 /// Outer attributes, by a function that is handed on as a parser.
-#[tactic(auto, using(token_core::proofs::Suffixes::follows))]
 fn parse_outer(
     alloc: Global,
     input: &mut ParseStream<'_>,
-) -> Result<Items<Attribute<Sample>>, Error>
-    ensures { Follows input.old input.new }
-{
+) -> Result<Items<Attribute<Sample>>, Error> {
     Attribute::parse_outer(alloc, input)
 }
 
 /// Inner attributes, likewise.
-#[tactic(auto, using(token_core::proofs::Suffixes::follows))]
 fn parse_inner(
     alloc: Global,
     input: &mut ParseStream<'_>,
-) -> Result<Items<Attribute<Sample>>, Error>
-    ensures { Follows input.old input.new }
-{
+) -> Result<Items<Attribute<Sample>>, Error> {
     Attribute::parse_inner(alloc, input)
 }
 
@@ -75,26 +63,14 @@ fn inners(alloc: Global, text: &str) -> Result<Items<Attribute<Sample>>, Error> 
     read_all_with(alloc, ByFn(parse_inner), &tokens)
 }
 
-/// The last of some attributes that can be asked for arguments, as each that is read can.
+/// The last of some attributes.
 fn last(
     alloc: Global,
     read: Result<Items<Attribute<Sample>>, Error>,
-) -> Result<Attribute<Sample>, Error>
-    ensures { IfOk result (λ a. 0 < length (path_in a.meta).segments.0) }
-{
+) -> Result<Attribute<Sample>, Error> {
     match read?.pop() {
-        Some(attr) => with_segments(alloc, attr),
+        Some(attr) => Ok(attr),
         None => Err(Error::new(alloc, Span::none(), "no attribute")),
-    }
-}
-
-fn with_segments(alloc: Global, attr: Attribute<Sample>) -> Result<Attribute<Sample>, Error>
-    ensures { IfOk result (λ a. 0 < length (path_in a.meta).segments.0) }
-{
-    if attr.path().segments.is_empty() {
-        Err(Error::new(alloc, Span::none(), "no segment"))
-    } else {
-        Ok(attr)
     }
 }
 
@@ -263,10 +239,7 @@ fn metas_are_read(rt: HostRuntime) {
 }
 
 /// A meta, `=>`, and braces with nothing in them, as a `cfg_select` has them: the meta as it is printed.
-#[tactic(auto, using(token_core::proofs::Suffixes::follows))]
-fn arm(alloc: Global, input: &mut ParseStream<'_>) -> Result<String, Error>
-    ensures { Follows input.old input.new }
-{
+fn arm(alloc: Global, input: &mut ParseStream<'_>) -> Result<String, Error> {
     let meta = input.parse::<Meta<Sample>>(alloc)?;
     let _ = input.parse::<FatArrow>(alloc)?;
     let (_, content) = input.braced(alloc)?;
@@ -274,10 +247,7 @@ fn arm(alloc: Global, input: &mut ParseStream<'_>) -> Result<String, Error>
     printed(alloc, &meta)
 }
 
-#[tactic(auto, using(token_core::proofs::Suffixes::follows))]
-fn two_arms(alloc: Global, input: &mut ParseStream<'_>) -> Result<String, Error>
-    ensures { Follows input.old input.new }
-{
+fn two_arms(alloc: Global, input: &mut ParseStream<'_>) -> Result<String, Error> {
     let mut metas = arm(alloc, input)?;
     metas.push_str(" | ")?;
     metas.push_str(arm(alloc, input)?.as_str())?;
@@ -310,13 +280,10 @@ fn arms_are_read_in_turn(rt: HostRuntime) {
 }
 
 /// The properties of the arguments of an attribute at which a closure was called, and what was answered.
-#[tactic(auto, using(token_core::proofs::Suffixes::follows))]
 fn properties(alloc: Global, does: Does, text: &str) -> Result<String, Error> {
     let attr = last(alloc, outers(alloc, text))?;
     let mut calls = String::new(alloc);
-    let logic = |alloc: Global, meta: &mut ParseNestedMeta<'_>| -> Result<(), Error>
-        ensures { Follows meta.old.input meta.new.input }
-    {
+    let logic = |alloc: Global, meta: &mut ParseNestedMeta<'_>| -> Result<(), Error> {
         called(meta, &mut calls)?;
         at_property(alloc, does, meta)
     };

@@ -1,6 +1,6 @@
-//! Choices of more tokens than a list of names would hold. Lists are written as in `tests`.
+//! Choices of more tokens than a list of names would hold. Lists are written as in `core_tests`.
 
-use crate::tests::{buffer_of, is, nth, says, tokens};
+use crate::core_tests::{buffer_of, is, nth, says, tokens};
 use token_core::token::{
     And, As, At, Box, Brace, Bracket, Colon, Comma, Const, Crate, DotDot, DotDotDot, DotDotEq, Dyn,
     Eq, EqEq, Extern, FatArrow, Fn, For, GroupToken, Gt, If, Impl, Le, Lt, Minus, Mut, Ne, Not, Or,

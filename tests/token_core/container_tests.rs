@@ -1,6 +1,6 @@
 //! Lists and boxes, what they and options print, and the text of refusals, at types of their own.
 
-use crate::tests::{is, made, nth, numbers};
+use crate::core_tests::{is, made, nth, numbers};
 use std::alloc::{AllocError, Global};
 use std::test::Fail;
 use token_core::token::{Comma, Crate, PathSep, SelfType, SelfValue};

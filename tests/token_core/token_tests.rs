@@ -1,7 +1,7 @@
 //! Every named mark and word once, and tables of lifetimes, literals, members, range limits and invisible groups.
-//! Lists are written as in `tests`.
+//! Lists are written as in `core_tests`.
 
-use crate::tests::{buffer_of, got, ident_is, is, made, nth, text_is, tokens, wants};
+use crate::core_tests::{buffer_of, got, ident_is, is, made, nth, text_is, tokens, wants};
 use std::alloc::{AllocError, Global};
 use std::process::Abort;
 use token_core::token::{

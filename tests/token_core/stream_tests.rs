@@ -1,8 +1,10 @@
 //! Positions, choices, lists and whole reads: the texts of refusals, and a few worked examples.
 
-ghost use Rattle.token_core.specs.Reads.{Follows, OptionReads, OptionRefuses};
+ghost use Rattle.token_core.specs.Reads.{OptionReads, OptionRefuses};
 
-use crate::tests::{buffer_of, got, is, made, nth, numbers, refused, says, text_is, tokens, wants};
+use crate::core_tests::{
+    buffer_of, got, is, made, nth, numbers, refused, says, text_is, tokens, wants,
+};
 use std::alloc::{AllocError, Global};
 use std::process::Abort;
 use token_core::token::{Comma, Paren, PathSep};
@@ -59,27 +61,20 @@ fn part_is(rt: &impl Abort, alloc: Global, part: Result<TokenStream, AllocError>
 }
 
 /// Goes on after an identifier.
-#[tactic(auto, using(token_core::proofs::Suffixes::follows))]
-fn skip(rt: &impl Abort, alloc: Global, input: &mut ParseStream<'_>)
-    ensures { Follows input.old input.new }
-{
+fn skip(rt: &impl Abort, alloc: Global, input: &mut ParseStream<'_>) {
     drop(got(rt, input.read_ident(alloc)));
 }
 
 /// The trees that a stream went on by.
-#[tactic(auto, using(token_core::proofs::Places::positions))]
 fn cut(
     alloc: Global,
     from: &ParseStream<'_>,
     to: &ParseStream<'_>,
-) -> Result<TokenStream, AllocError>
-    requires { Follows from.now to.now }
-{
+) -> Result<TokenStream, AllocError> {
     verbatim::between(alloc, &from.cursor(), &to.cursor())
 }
 
 #[test]
-#[tactic(auto, using(token_core::proofs::Suffixes::follows))]
 fn parts_are_cut(rt: HostRuntime) {
     let alloc = rt.alloc();
     let list = tokens(&rt, alloc, "a ^ b ^ c $ d $ ( e ^ f $ )");
@@ -284,7 +279,6 @@ impl<T: Token + Parse> Parse for Perhaps<T> {
 
     ghost refuses = { OptionRefuses T.sees T.refuses };
 
-    #[tactic(auto, using(token_core::specs::Reads::no_promise))]
     fn parse(alloc: Global, input: &mut ParseStream<'_>) -> Result<Perhaps<T>, Error> {
         Ok(Perhaps(input.parse_option(alloc)?))
     }
@@ -337,10 +331,7 @@ fn lists_of_nothing_end(rt: HostRuntime) {
 }
 
 /// Two colons, and then an identifier.
-#[tactic(auto, using(token_core::proofs::Suffixes::follows))]
-fn after_colons(alloc: Global, input: &mut ParseStream<'_>) -> Result<Ident, Error>
-    ensures { Follows input.old input.new }
-{
+fn after_colons(alloc: Global, input: &mut ParseStream<'_>) -> Result<Ident, Error> {
     let _ = input.parse::<PathSep>(alloc)?;
     input.parse::<Ident>(alloc)
 }

@@ -1,13 +1,8 @@
 //! What the sample subtree reads and prints, as the value of an attribute and by its other places.
-//!
-//! A test calls and does not branch, as docs/GATE.md says.
 
-ghost use Rattle.token_core.specs.Reads.{Follows};
-
-use crate::attr_tests::says;
+use crate::attr_text_tests::says;
 use std::alloc::Global;
-use syn_attr::attr::MetaNameValue;
-use syn_path::supplied::{Place, Subtree};
+use syn_mid::{MetaNameValue, Place, Subtree};
 use syn_sample::sample::Sample;
 use token_core::{ByFn, Error, ParseStream, ToTokens, TokenStream, read_all, read_all_with};
 use token_text::{lex, text_of};
@@ -24,10 +19,7 @@ fn value(alloc: Global, text: &str) -> Result<String, Error> {
     printed(alloc, &meta)
 }
 
-#[tactic(auto, using(token_core::proofs::Suffixes::follows))]
-fn length(alloc: Global, input: &mut ParseStream<'_>) -> Result<Sample, Error>
-    ensures { Follows input.old input.new }
-{
+fn length(alloc: Global, input: &mut ParseStream<'_>) -> Result<Sample, Error> {
     Sample::read(alloc, Place::ArrayLen, input)
 }
 
@@ -37,10 +29,7 @@ fn array_length(alloc: Global, text: &str) -> Result<String, Error> {
     printed(alloc, &sample)
 }
 
-#[tactic(auto, using(token_core::proofs::Suffixes::follows))]
-fn inside(alloc: Global, input: &mut ParseStream<'_>) -> Result<Sample, Error>
-    ensures { Follows input.old input.new }
-{
+fn inside(alloc: Global, input: &mut ParseStream<'_>) -> Result<Sample, Error> {
     Sample::read(alloc, Place::Block, input)
 }
 
