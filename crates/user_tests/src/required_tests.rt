@@ -4,8 +4,7 @@
 ghost use Rattle.token_core.specs.Reads.{Follows};
 
 use std::alloc::Global;
-use std::test::Fail;
-use syn_attr::attr::{Meta, MetaList};
+use syn_attr::attr::MetaList;
 use syn_attr::meta::{ParseNestedMeta, parser};
 use syn_path::mac::Macro;
 use syn_verbatim::expr::VerbatimExpr;
@@ -41,7 +40,7 @@ fn descend(alloc: Global, meta: &mut ParseNestedMeta<'_>) -> Result<(), Error>
     meta.parse_nested_meta(alloc, logic)
 }
 
-/// A closure that counts, at the properties of a list and of a whole read.
+/// A closure that counts, at the properties of a list, and a function at those of a whole read.
 #[tactic(auto, using(token_core::proofs::Suffixes::follows))]
 fn by_closures(alloc: Global) -> Result<usize, Error> {
     let mut calls: usize = 0;
@@ -53,13 +52,7 @@ fn by_closures(alloc: Global) -> Result<usize, Error> {
         descend(alloc, meta)
     };
     list.parse_nested_meta(alloc, logic)?;
-    let logic = |alloc: Global, meta: &mut ParseNestedMeta<'_>| -> Result<(), Error>
-        ensures { Follows meta.old.input meta.new.input }
-    {
-        calls = calls.saturating_add(1);
-        descend(alloc, meta)
-    };
-    read_all_with(alloc, parser(logic), &lex(alloc, "f(g)")?)?;
+    read_all_with(alloc, parser(descend), &lex(alloc, "f(g)")?)?;
     Ok(calls)
 }
 
@@ -92,19 +85,16 @@ fn by_path(alloc: Global) -> Result<bool, Error> {
 }
 
 #[test]
-fn parsers_can_be_called(rt: HostRuntime) -> Result<(), Fail> {
+fn parsers_can_be_called(rt: HostRuntime) {
     assert!(rt; matches!(by_functions(rt.alloc()), Ok(true)));
-    Ok(())
 }
 
 #[test]
-fn closures_go_on(rt: HostRuntime) -> Result<(), Fail> {
-    assert!(rt; matches!(by_closures(rt.alloc()), Ok(3)));
-    Ok(())
+fn closures_go_on(rt: HostRuntime) {
+    assert!(rt; matches!(by_closures(rt.alloc()), Ok(2)));
 }
 
 #[test]
-fn paths_have_segments(rt: HostRuntime) -> Result<(), Fail> {
+fn paths_have_segments(rt: HostRuntime) {
     assert!(rt; matches!(by_path(rt.alloc()), Ok(true)));
-    Ok(())
 }
