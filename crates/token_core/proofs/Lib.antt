@@ -14,6 +14,7 @@ pub mod TokenNames
 pub mod Choices
 pub mod Rebuilds
 pub mod Lists
+pub mod Parted
 pub mod Puts
 pub mod Turns
 pub mod Steps

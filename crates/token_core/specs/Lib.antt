@@ -17,7 +17,6 @@ pub mod Marks
 pub mod Tokens
 pub mod Prints
 pub mod ByFns
-pub mod Joined
 pub mod Lists
 pub mod Lent
 pub mod Groups

@@ -1,9 +1,13 @@
 -- Punctuated lists as their values and marks.
-use Rattle.std.specs.Prelude.{◌≡◌, ◌+◌, ◌⊎◌, length, List, [], ◌∷◌, ◌++◌, Option, Some, None}
+use Rattle.std.specs.Prelude.{◌≡◌, ℕ, ◌≤◌, ◌+◌, ◌⊎◌, length, List, [], ◌∷◌, ◌++◌, Option, Some, None}
 
 -- as many marks as values, or one fewer
 abbrev pub IsShaped : {T P : Type 0} → List T × List P → Type 0
 IsShaped v = (length v.0 ≡ length v.1) ⊎ (length v.0 ≡ length v.1 + 1)
+
+-- the same of two numbers, as an invariant
+abbrev pub Alternate : ℕ → ℕ → Type 0
+Alternate values marks = (marks ≤ values) × (values ≤ marks + 1)
 
 -- values with marks between them, as they are printed
 abbrev pub joined : {T P A : Type 0} → (T → List A) → (P → List A) → List T → List P → List A

@@ -38,9 +38,6 @@ pub use mark::{Mark, Spans};
 pub use member::{Index, Member};
 pub use parse::{ByFn, ByParse, Parse, Parser, Token, read_all, read_all_with, read_scoped};
 pub use parse_stream::ParseStream;
-// no part of the face: see `Punctuated::parts`
-#[doc(hidden)]
-pub use punctuated::Pair;
 pub use punctuated::{Iter, IterMut, Pairs, Punctuated};
 pub use range::RangeLimits;
 pub use span::{DelimSpan, Span};
