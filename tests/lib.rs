@@ -29,6 +29,8 @@ mod generics_tests;
 #[cfg(test)]
 mod lexer_tests;
 #[cfg(test)]
+mod list_tests;
+#[cfg(test)]
 mod lists;
 #[cfg(test)]
 mod look_tests;

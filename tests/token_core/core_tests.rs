@@ -598,9 +598,8 @@ fn list_is(rt: &impl Abort, list: &Punctuated<u8, Comma>, count: u8, trailing: b
     is(rt, list.empty_or_trailing() == ends, "empty_or_trailing");
     is(rt, list.first().is_some() != is_empty, "first");
     let marks = if ends { count } else { count.saturating_sub(1) };
-    let (pairs, last) = list.parts();
-    is(rt, pairs.len() == marks as usize, "pairs");
-    is(rt, last.is_none() == ends, "last");
+    is(rt, list.values().len() == count as usize, "values");
+    is(rt, list.marks().len() == marks as usize, "marks");
     for i in 0..3u8 {
         place_is(rt, list, i, i < count, i < marks);
     }

@@ -159,7 +159,7 @@ impl<T, P> Punctuated<T, P> {
         }
     }
 
-    /// The number of values (2^64 - 1 where there are more, which only values without a size can be).
+    /// The number of values; the contract has 2^64 - 1 in place of more, though no list holds so many.
     pub fn len(&self) -> usize
         ensures { result ≡ min (length self.now.0) (2 ^ 64 - 1) }
     {
