@@ -3,7 +3,6 @@
 ghost use Rattle.std.specs.Prelude.{◌≡◌, refl, [], ◌∷◌, ◌++◌, ◌<◌, length, Bool, false, true, Option, option_map, IfOk, IfErr, OnOk, OnErr};
 ghost use Rattle.token_core.specs.Rebuilt.{Visible};
 ghost use Rattle.token_core.specs.Refusal.{Made};
-ghost use Rattle.token_core.specs.Joined.{values_of, marks_of};
 ghost use Rattle.token_core.specs.Spans.{none};
 ghost use Rattle.token_core.specs.Trees.{trees};
 ghost use Rattle.token_core.specs.Prints.{Print, Extends, Appends};
@@ -619,19 +618,15 @@ fn bare_segments<A, B: Arguments>(
 ) -> Result<Punctuated<PathSegmentOf<B>, PathSep>, AllocError>
     ensures { IfOk result (λ v. v ≡ spec.segments_without B.absent segments.now) }
 {
-    let (pairs, last) = segments.parts();
     let mut bare = Punctuated::new(alloc);
-    for pair in pairs {
-        bare.push_value(bare_segment(alloc, &pair.value)?)?;
-        bare.push_punct(pair.mark)?;
-    }
-    match last {
-        Some(segment) => {
-            bare.push_value(bare_segment(alloc, segment)?)?;
-            Ok(bare)
+    let marks = segments.marks();
+    for (i, segment) in segments.values().iter().enumerate() {
+        bare.push_value(bare_segment(alloc, segment)?)?;
+        if let Some(mark) = marks.get(i) {
+            bare.push_punct(*mark)?;
         }
-        None => Ok(bare),
     }
+    Ok(bare)
 }
 
 fn bare_segment<A, B: Arguments>(
