@@ -150,7 +150,7 @@ impl<A, E> GenericsOf<A, E> {
 /// The lifetime parameters of generics, in order.
 #[derive(Drop)]
 pub struct Lifetimes<'a, A, E> {
-    params: Iter<'a, GenericParamOf<A, E>, Comma>,
+    params: Iter<'a, GenericParamOf<A, E>>,
 }
 
 impl<'a, A, E> Iterator for Lifetimes<'a, A, E> {
@@ -173,7 +173,7 @@ impl<'a, A, E> Iterator for Lifetimes<'a, A, E> {
 /// The lifetime parameters of generics, in order, for writing.
 #[derive(Drop)]
 pub struct LifetimesMut<'a, A, E> {
-    params: IterMut<'a, GenericParamOf<A, E>, Comma>,
+    params: IterMut<'a, GenericParamOf<A, E>>,
 }
 
 impl<'a, A, E> Iterator for LifetimesMut<'a, A, E> {
@@ -196,7 +196,7 @@ impl<'a, A, E> Iterator for LifetimesMut<'a, A, E> {
 /// The type parameters of generics, in order.
 #[derive(Drop)]
 pub struct TypeParams<'a, A, E> {
-    params: Iter<'a, GenericParamOf<A, E>, Comma>,
+    params: Iter<'a, GenericParamOf<A, E>>,
 }
 
 impl<'a, A, E> Iterator for TypeParams<'a, A, E> {
@@ -219,7 +219,7 @@ impl<'a, A, E> Iterator for TypeParams<'a, A, E> {
 /// The type parameters of generics, in order, for writing.
 #[derive(Drop)]
 pub struct TypeParamsMut<'a, A, E> {
-    params: IterMut<'a, GenericParamOf<A, E>, Comma>,
+    params: IterMut<'a, GenericParamOf<A, E>>,
 }
 
 impl<'a, A, E> Iterator for TypeParamsMut<'a, A, E> {
@@ -242,7 +242,7 @@ impl<'a, A, E> Iterator for TypeParamsMut<'a, A, E> {
 /// The const parameters of generics, in order.
 #[derive(Drop)]
 pub struct ConstParams<'a, A, E> {
-    params: Iter<'a, GenericParamOf<A, E>, Comma>,
+    params: Iter<'a, GenericParamOf<A, E>>,
 }
 
 impl<'a, A, E> Iterator for ConstParams<'a, A, E> {
@@ -265,7 +265,7 @@ impl<'a, A, E> Iterator for ConstParams<'a, A, E> {
 /// The const parameters of generics, in order, for writing.
 #[derive(Drop)]
 pub struct ConstParamsMut<'a, A, E> {
-    params: IterMut<'a, GenericParamOf<A, E>, Comma>,
+    params: IterMut<'a, GenericParamOf<A, E>>,
 }
 
 impl<'a, A, E> Iterator for ConstParamsMut<'a, A, E> {
