@@ -1,7 +1,6 @@
 //! Patterns are printed.
 
-ghost use Rattle.std.specs.Prelude.{◌≡◌, ◌++◌, OnOk, OnErr, option_map};
-ghost use Rattle.token_core.specs.Joined.{values_of, marks_of};
+ghost use Rattle.std.specs.Prelude.{◌≡◌, ◌++◌, OnOk, OnErr};
 ghost use Rattle.token_core.specs.Prints.{Extends};
 ghost use Rattle.token_core.specs.Trees.{trees};
 ghost use Rattle.syn_pat.specs.pat.Pats as spec;
@@ -22,8 +21,8 @@ use syn_attr::expr::print::print_value;
 use syn_path::path::Arguments;
 use syn_path::supplied::{Place, Subtree};
 use syn_ty::ty::print::{print_last_comma, print_lone_comma, print_verbatim};
-use token_core::token::{Comma, Or};
-use token_core::{Boxed, Pair, Punctuated, ToTokens, TokenStream};
+use token_core::token::Comma;
+use token_core::{Boxed, Punctuated, ToTokens, TokenStream};
 
 impl<X: Subtree, G: Arguments, Q: Qualifier<G>, T: ToTokens> ToTokens for PatOver<X, G, Q, T> {
     ghost print = { printing.pat X.prints (shown Q.shown T.print) };
@@ -372,19 +371,13 @@ fn print_fields<X: Subtree, G: Arguments, Q: Qualifier<G>, T: ToTokens>(
     ensures ok { OnOk result (trees out.new ≡ trees out.old ++ printing.fields X.prints (shown Q.shown T.print) pat.now.fields) }
     ensures err { OnErr result (Extends (trees out.old) (trees out.new)) }
 {
-    let (pairs, last) = field_parts(pat);
-    for pair in pairs {
-        print_member(alloc, &pair.value, out)?;
-        print_pat(alloc, pair.value.pat.get(), out)?;
-        pair.mark.to_tokens(alloc, out)?;
+    let mut commas = pat.fields.marks().iter();
+    for field in pat.fields.values() {
+        print_member(alloc, field, out)?;
+        print_pat(alloc, field.pat.get(), out)?;
+        commas.next().append_tokens(alloc, out)?;
     }
-    match last {
-        Some(field) => {
-            print_member(alloc, field, out)?;
-            print_pat(alloc, field.pat.get(), out)
-        }
-        None => Ok(()),
-    }
+    Ok(())
 }
 
 #[cycle(print)]
@@ -450,15 +443,12 @@ fn print_elements<X: Subtree, G: Arguments, Q: Qualifier<G>, T: ToTokens>(
     ensures ok { OnOk result (trees out.new ≡ trees out.old ++ printing.list X.prints (shown Q.shown T.print) elems.now) }
     ensures err { OnErr result (Extends (trees out.old) (trees out.new)) }
 {
-    let (pairs, last) = element_parts(elems);
-    for pair in pairs {
-        print_pat(alloc, &pair.value, out)?;
-        pair.mark.to_tokens(alloc, out)?;
+    let mut commas = elems.marks().iter();
+    for element in elems.values() {
+        print_pat(alloc, element, out)?;
+        commas.next().append_tokens(alloc, out)?;
     }
-    match last {
-        Some(element) => print_pat(alloc, element, out),
-        None => Ok(()),
-    }
+    Ok(())
 }
 
 /// Each of the alternatives with its `|`.
@@ -472,51 +462,12 @@ fn print_cases<X: Subtree, G: Arguments, Q: Qualifier<G>, T: ToTokens>(
     ensures ok { OnOk result (trees out.new ≡ trees out.old ++ printing.list X.prints (shown Q.shown T.print) pat.now.cases) }
     ensures err { OnErr result (Extends (trees out.old) (trees out.new)) }
 {
-    let (pairs, last) = case_parts(pat);
-    for pair in pairs {
-        print_pat(alloc, &pair.value, out)?;
-        pair.mark.to_tokens(alloc, out)?;
+    let mut marks = pat.cases.marks().iter();
+    for case in pat.cases.values() {
+        print_pat(alloc, case, out)?;
+        marks.next().append_tokens(alloc, out)?;
     }
-    match last {
-        Some(case) => print_pat(alloc, case, out),
-        None => Ok(()),
-    }
-}
-
-/// Elements by their parts.
-fn element_parts<X, G, Q, T>(
-    elems: &Punctuated<PatOver<X, G, Q, T>, Comma>,
-) -> (
-    &[Pair<PatOver<X, G, Q, T>, Comma>],
-    Option<&PatOver<X, G, Q, T>>,
-)
-    ensures { elems.now ≡ (values_of result.0.now (option_map (λ x. x.now) result.1), marks_of result.0.now) }
-{
-    elems.parts()
-}
-
-/// Alternatives by their parts.
-fn case_parts<X, G, Q, T>(
-    pat: &OrOver<X, G, Q, T>,
-) -> (
-    &[Pair<PatOver<X, G, Q, T>, Or>],
-    Option<&PatOver<X, G, Q, T>>,
-)
-    ensures { pat.now.cases ≡ (values_of result.0.now (option_map (λ x. x.now) result.1), marks_of result.0.now) }
-{
-    pat.cases.parts()
-}
-
-/// The fields of a struct's pattern by their parts.
-fn field_parts<X, G, Q, T>(
-    pat: &StructOver<X, G, Q, T>,
-) -> (
-    &[Pair<FieldOver<X, G, Q, T>, Comma>],
-    Option<&FieldOver<X, G, Q, T>>,
-)
-    ensures { pat.now.fields ≡ (values_of result.0.now (option_map (λ x. x.now) result.1), marks_of result.0.now) }
-{
-    pat.fields.parts()
+    Ok(())
 }
 
 #[tactic(auto, using(token_core::proofs::Puts::puts))]

@@ -1,8 +1,9 @@
 //! Captures, parameters, bounds and binders are printed.
 
-ghost use Rattle.std.specs.Prelude.{◌≡◌, ◌++◌, ◌∷◌, [], false, None, OnOk, OnErr, option_map};
-ghost use Rattle.token_core.specs.Joined.{values_of, marks_of, pairs_of};
+ghost use Rattle.std.specs.Prelude.{◌≡◌, ◌++◌, ◌∷◌, [], false, OnOk, OnErr, option_map};
+ghost use Rattle.std.specs.Slice.Iter.{iter_rest};
 ghost use Rattle.token_core.specs.Lifetimes as lifetimes;
+ghost use Rattle.token_core.specs.Lists.{pairs};
 ghost use Rattle.token_core.specs.Prints.{Extends};
 ghost use Rattle.token_core.specs.Trees.{trees};
 ghost use Rattle.syn_ty.specs.declared.generics.TypeParamBoundOf.TheVariants as bounds;
@@ -17,12 +18,13 @@ use crate::generics::{
 };
 use crate::path::print::print_path;
 use crate::ty::TypeOf;
-use crate::ty::print::{bound_parts, print_type, print_verbatim};
+use crate::ty::print::{print_type, print_verbatim};
 use std::alloc::{AllocError, Global};
+use std::slice::Iter;
 use syn_path::path::PathStyle;
 use syn_path::supplied::{Attributes, Value};
-use token_core::token::{Comma, Eq};
-use token_core::{Pair, Punctuated, ToTokens, TokenStream, TokensOrDefault};
+use token_core::token::{Comma, Eq, Plus};
+use token_core::{Punctuated, ToTokens, TokenStream, TokensOrDefault};
 
 impl ToTokens for CapturedParam {
     ghost print = { shapes.captured };
@@ -112,14 +114,11 @@ fn print_kind<M: Styled>(
     ensures ok { OnOk result (trees out.new ≡ trees out.old ++ members.each (M.shown style) (members.those M.first lifetimes (members.members_of list.now))) }
     ensures err { OnErr result (Extends (trees out.old) (trees out.new)) }
 {
-    let (pairs, last) = list.parts();
-    for pair in pairs {
-        print_member(alloc, &pair.value, Some(&pair.mark), lifetimes, style, out)?;
+    let mut commas = list.marks().iter();
+    for member in list.values() {
+        print_member(alloc, member, commas.next(), lifetimes, style, out)?;
     }
-    match last {
-        Some(member) => print_member(alloc, member, None, lifetimes, style, out),
-        None => Ok(()),
-    }
+    Ok(())
 }
 
 /// A member with its comma, where it is of the kind.
@@ -166,20 +165,22 @@ pub fn print_added_comma<M: Member>(
 fn lacks_comma<M: Member>(list: &Punctuated<M, Comma>) -> bool
     ensures { result ≡ members.adds (members.firsts M.first list.now) (members.others M.first list.now) }
 {
-    let (pairs, last) = list.parts();
-    match last {
-        Some(member) => member.is_lifetime() && has_other(pairs),
+    if list.values().len() <= list.marks().len() {
+        return false;
+    }
+    match list.last() {
+        Some(member) => member.is_lifetime() && has_other(list.values()),
         None => false,
     }
 }
 
 /// Whether a member is there that is no lifetime.
 #[tactic(auto, using(crate::proofs::generics_laws::Sorted::commas))]
-fn has_other<M: Member>(pairs: &[Pair<M, Comma>]) -> bool
-    ensures { result ≡ members.some_left (members.those M.first false (pairs_of pairs.now None)) }
+fn has_other<M: Member>(list: &[M]) -> bool
+    ensures { result ≡ members.some_left (members.those M.first false (pairs list.now [])) }
 {
-    for pair in pairs {
-        if !pair.value.is_lifetime() {
+    for member in list {
+        if !member.is_lifetime() {
             return true;
         }
     }
@@ -336,28 +337,26 @@ fn print_type_bounds<A: Attributes, E: Value>(
         return Ok(());
     }
     TokensOrDefault(&param.colon_token).append_tokens(alloc, out)?;
-    print_bounds(alloc, param, out)
+    print_bounds(alloc, &param.bounds, out)
 }
 
+/// Each bound with its mark.
 #[cycle(print)]
 #[tactic(auto, using(token_core::proofs::Puts::puts))]
-fn print_bounds<A: Attributes, E: Value>(
+pub(crate) fn print_bounds<A: Attributes, E: Value>(
     alloc: Global,
-    param: &TypeParamOf<A, E>,
+    bounds: &Punctuated<TypeParamBoundOf<A, E>, Plus>,
     out: &mut TokenStream,
 ) -> Result<(), AllocError>
-    ensures ok { OnOk result (trees out.new ≡ trees out.old ++ types.own_bounds A.shown E.values param.now) }
+    ensures ok { OnOk result (trees out.new ≡ trees out.old ++ types.bounds_joined A.shown E.values bounds.now) }
     ensures err { OnErr result (Extends (trees out.old) (trees out.new)) }
 {
-    let (pairs, last) = bound_parts(&param.bounds);
-    for pair in pairs {
-        print_bound(alloc, &pair.value, out)?;
-        pair.mark.to_tokens(alloc, out)?;
+    let mut marks = bounds.marks().iter();
+    for bound in bounds.values() {
+        print_bound(alloc, bound, out)?;
+        marks.next().append_tokens(alloc, out)?;
     }
-    match last {
-        Some(bound) => print_bound(alloc, bound, out),
-        None => Ok(()),
-    }
+    Ok(())
 }
 
 /// Appends a bound; refused, what stood before is kept.
@@ -411,45 +410,38 @@ fn print_bare_trait<A: Attributes, E: Value>(
     ensures err { OnErr result (Extends (trees out.old) (trees out.new)) }
 {
     print_binder_start(alloc, &bound.lifetimes, out)?;
-    print_trait_params(alloc, bound, out)?;
+    print_binder_params(alloc, &bound.lifetimes, out)?;
     print_binder_end(alloc, &bound.lifetimes, out)?;
     print_named_trait(alloc, bound, out)
 }
 
-/// The parameters of a trait bound's binder.
+/// The parameters of a binder, each with its comma; nothing without one.
 #[cycle(print)]
 #[tactic(auto, using(token_core::proofs::Puts::puts))]
-fn print_trait_params<A: Attributes, E: Value>(
+pub(crate) fn print_binder_params<A: Attributes, E: Value>(
     alloc: Global,
-    bound: &TraitBoundOf<A, E>,
+    binder: &Option<BoundLifetimesOf<GenericParamOf<A, E>>>,
     out: &mut TokenStream,
 ) -> Result<(), AllocError>
-    ensures ok { OnOk result (trees out.new ≡ trees out.old ++ types.trait_params A.shown E.values bound.now) }
+    ensures ok { OnOk result (trees out.new ≡ trees out.old ++ shapes.binder_joined (types.param A.shown E.values) binder.now) }
     ensures err { OnErr result (Extends (trees out.old) (trees out.new)) }
 {
-    let (pairs, last) = binder_parts(bound);
-    for pair in pairs {
-        print_param(alloc, &pair.value, out)?;
-        pair.mark.to_tokens(alloc, out)?;
+    let (params, mut commas) = binder_parts(binder);
+    for param in params {
+        print_param(alloc, param, out)?;
+        commas.next().append_tokens(alloc, out)?;
     }
-    match last {
-        Some(param) => print_param(alloc, param, out),
-        None => Ok(()),
-    }
+    Ok(())
 }
 
-/// The parameters of a trait bound's binder by their parts; none without a binder.
-fn binder_parts<A, E>(
-    bound: &TraitBoundOf<A, E>,
-) -> (
-    &[Pair<GenericParamOf<A, E>, Comma>],
-    Option<&GenericParamOf<A, E>>,
-)
-    ensures { shapes.binder_params (types.trait_binder bound.now) ≡ (values_of result.0.now (option_map (λ x. x.now) result.1), marks_of result.0.now) }
+/// The parameters of a binder and their commas; none without a binder.
+fn binder_parts<G>(binder: &Option<BoundLifetimesOf<G>>) -> (&[G], Iter<'_, Comma>)
+    ensures params { result.0.now ≡ (shapes.binder_params binder.now).0 }
+    ensures commas { iter_rest result.1 ≡ (shapes.binder_params binder.now).1 }
 {
-    match &bound.lifetimes {
-        Some(binder) => binder.lifetimes.parts(),
-        None => (&[], None),
+    match binder {
+        Some(binder) => (binder.lifetimes.values(), binder.lifetimes.marks().iter()),
+        None => (&[], [].iter()),
     }
 }
 

@@ -1,7 +1,6 @@
 //! Arguments of paths, and paths with them, are printed.
 
 ghost use Rattle.std.specs.Prelude.{◌≡◌, [], ◌∷◌, ◌++◌, option_map, OnOk, OnErr};
-ghost use Rattle.token_core.specs.Joined.{values_of, marks_of};
 ghost use Rattle.token_core.specs.Trees.{trees};
 ghost use Rattle.token_core.specs.Prints.{Extends};
 ghost use Rattle.syn_ty.specs.generics.Members as members;
@@ -11,18 +10,18 @@ ghost use Rattle.syn_ty.specs.path.Shapes as shapes;
 ghost use Rattle.syn_ty.specs.ty.Printing as types;
 
 use crate::generics::Member;
-use crate::generics::print::{print_added_comma, print_bound};
+use crate::generics::print::{print_added_comma, print_bounds};
 use crate::path::{
     AngleBracketedGenericArgumentsOf, AssocConstOf, AssocTypeOf, ConstraintOf, GenericArgumentOf,
     ParenthesizedGenericArgumentsOf, PathArgumentsOf,
 };
-use crate::ty::print::{bound_parts, print_arg_name, print_type};
-use crate::ty::{NamedArgOf, ReturnTypeOf, TypeOf};
+use crate::ty::print::{print_inputs, print_type};
+use crate::ty::{ReturnTypeOf, TypeOf};
 use std::alloc::{AllocError, Global};
 use syn_path::path::{Arguments, PathOf, PathSegmentOf, PathStyle, QSelfOf};
 use syn_path::supplied::{Attributes, Value};
 use token_core::token::{Comma, Gt, PathSep};
-use token_core::{Pair, ToTokens, TokenStream, TokensOrDefault};
+use token_core::{ToTokens, TokenStream, TokensOrDefault};
 
 impl<A: Attributes, E: Value> ToTokens for PathArgumentsOf<A, E> {
     ghost print = { types.arguments A.shown E.values shapes.as_written };
@@ -112,15 +111,12 @@ fn print_segments<A: Attributes, E: Value>(
     ensures ok { OnOk result (trees out.new ≡ trees out.old ++ printing.segments A.shown E.values style path.now.segments) }
     ensures err { OnErr result (Extends (trees out.old) (trees out.new)) }
 {
-    let (pairs, last) = segment_parts(path);
-    for pair in pairs {
-        print_segment(alloc, &pair.value, style, out)?;
-        pair.mark.to_tokens(alloc, out)?;
+    let mut marks = path.segments.marks().iter();
+    for segment in path.segments.values() {
+        print_segment(alloc, segment, style, out)?;
+        marks.next().append_tokens(alloc, out)?;
     }
-    match last {
-        Some(segment) => print_segment(alloc, segment, style, out),
-        None => Ok(()),
-    }
+    Ok(())
 }
 
 #[cycle(print)]
@@ -190,14 +186,11 @@ fn print_argument_kind<A: Attributes, E: Value>(
     ensures ok { OnOk result (trees out.new ≡ trees out.old ++ printing.kind A.shown E.values lifetimes arguments.now) }
     ensures err { OnErr result (Extends (trees out.old) (trees out.new)) }
 {
-    let (pairs, last) = argument_parts(arguments);
-    for pair in pairs {
-        print_argument_member(alloc, &pair.value, Some(&pair.mark), lifetimes, out)?;
+    let mut commas = arguments.args.marks().iter();
+    for argument in arguments.args.values() {
+        print_argument_member(alloc, argument, commas.next(), lifetimes, out)?;
     }
-    match last {
-        Some(argument) => print_argument_member(alloc, argument, None, lifetimes, out),
-        None => Ok(()),
-    }
+    Ok(())
 }
 
 /// An argument with its comma, where it is of the kind.
@@ -306,29 +299,7 @@ fn print_constraint<A: Attributes, E: Value>(
     constraint.ident.to_tokens(alloc, out)?;
     print_generics(alloc, &constraint.generics, out)?;
     constraint.colon_token.to_tokens(alloc, out)?;
-    print_constraint_bounds(alloc, constraint, out)
-}
-
-/// Each bound of a constraint with its mark.
-#[cycle(print)]
-#[tactic(auto, using(token_core::proofs::Puts::puts))]
-fn print_constraint_bounds<A: Attributes, E: Value>(
-    alloc: Global,
-    constraint: &ConstraintOf<A, E>,
-    out: &mut TokenStream,
-) -> Result<(), AllocError>
-    ensures ok { OnOk result (trees out.new ≡ trees out.old ++ types.constraint_bounds A.shown E.values constraint.now) }
-    ensures err { OnErr result (Extends (trees out.old) (trees out.new)) }
-{
-    let (pairs, last) = bound_parts(&constraint.bounds);
-    for pair in pairs {
-        print_bound(alloc, &pair.value, out)?;
-        pair.mark.to_tokens(alloc, out)?;
-    }
-    match last {
-        Some(bound) => print_bound(alloc, bound, out),
-        None => Ok(()),
-    }
+    print_bounds(alloc, &constraint.bounds, out)
 }
 
 /// Arguments in their parentheses, and the output.
@@ -343,7 +314,7 @@ fn print_parenthesized<A: Attributes, E: Value>(
     ensures err { OnErr result (Extends (trees out.old) (trees out.new)) }
 {
     let mut content = TokenStream::new(alloc);
-    print_parenthesized_inputs(alloc, arguments, &mut content)?;
+    print_inputs(alloc, &arguments.inputs, &mut content)?;
     arguments.paren_token.surround(content, out)?;
     match &arguments.output {
         ReturnTypeOf::Default => Ok(()),
@@ -351,32 +322,6 @@ fn print_parenthesized<A: Attributes, E: Value>(
             arrow.to_tokens(alloc, out)?;
             print_type(alloc, ty.get(), out)
         }
-    }
-}
-
-/// Each argument in parentheses with its comma.
-#[cycle(print)]
-#[tactic(auto, using(token_core::proofs::Puts::puts))]
-fn print_parenthesized_inputs<A: Attributes, E: Value>(
-    alloc: Global,
-    arguments: &ParenthesizedGenericArgumentsOf<TypeOf<A, E>, A>,
-    out: &mut TokenStream,
-) -> Result<(), AllocError>
-    ensures ok { OnOk result (trees out.new ≡ trees out.old ++ types.inputs A.shown E.values arguments.now.inputs) }
-    ensures err { OnErr result (Extends (trees out.old) (trees out.new)) }
-{
-    let (pairs, last) = input_parts(arguments);
-    for pair in pairs {
-        print_arg_name(alloc, &pair.value.attrs, &pair.value.name, out)?;
-        print_type(alloc, &pair.value.ty, out)?;
-        pair.mark.to_tokens(alloc, out)?;
-    }
-    match last {
-        Some(arg) => {
-            print_arg_name(alloc, &arg.attrs, &arg.name, out)?;
-            print_type(alloc, &arg.ty, out)
-        }
-        None => Ok(()),
     }
 }
 
@@ -418,17 +363,14 @@ fn print_around<A: Attributes, E: Value>(
     ensures ok { OnOk result (trees out.new ≡ trees out.old ++ printing.around A.shown E.values style gt_token.now before path.now.segments.0 path.now.segments.1) }
     ensures err { OnErr result (Extends (trees out.old) (trees out.new)) }
 {
-    let (pairs, last) = segment_parts(path);
+    let mut marks = path.segments.marks().iter();
     let mut before = before;
-    for pair in pairs {
-        print_closing(alloc, &pair.value, before, gt_token, style, out)?;
-        pair.mark.to_tokens(alloc, out)?;
+    for segment in path.segments.values() {
+        print_closing(alloc, segment, before, gt_token, style, out)?;
+        marks.next().append_tokens(alloc, out)?;
         before = before.saturating_sub(1);
     }
-    match last {
-        Some(segment) => print_closing(alloc, segment, before, gt_token, style, out),
-        None => Ok(()),
-    }
+    Ok(())
 }
 
 /// A segment, and `>` after it where it is the last of those before.
@@ -454,42 +396,6 @@ fn print_closing<A: Attributes, E: Value>(
     } else {
         Ok(())
     }
-}
-
-/// The segments of a path by their parts.
-fn segment_parts<A, E>(
-    path: &PathOf<PathArgumentsOf<A, E>>,
-) -> (
-    &[Pair<PathSegmentOf<PathArgumentsOf<A, E>>, PathSep>],
-    Option<&PathSegmentOf<PathArgumentsOf<A, E>>>,
-)
-    ensures { path.now.segments ≡ (values_of result.0.now (option_map (λ x. x.now) result.1), marks_of result.0.now) }
-{
-    path.segments.parts()
-}
-
-/// Arguments between angle marks by their parts.
-fn argument_parts<A, E>(
-    arguments: &AngleBracketedGenericArgumentsOf<GenericArgumentOf<A, E>>,
-) -> (
-    &[Pair<GenericArgumentOf<A, E>, Comma>],
-    Option<&GenericArgumentOf<A, E>>,
-)
-    ensures { arguments.now.args ≡ (values_of result.0.now (option_map (λ x. x.now) result.1), marks_of result.0.now) }
-{
-    arguments.args.parts()
-}
-
-/// Arguments in parentheses by their parts.
-fn input_parts<A, E>(
-    arguments: &ParenthesizedGenericArgumentsOf<TypeOf<A, E>, A>,
-) -> (
-    &[Pair<NamedArgOf<TypeOf<A, E>, A>, Comma>],
-    Option<&NamedArgOf<TypeOf<A, E>, A>>,
-)
-    ensures { arguments.now.inputs ≡ (values_of result.0.now (option_map (λ x. x.now) result.1), marks_of result.0.now) }
-{
-    arguments.inputs.parts()
 }
 
 /// The start of arguments between angle marks: in an expression after `::`, which is printed where it is missing.

@@ -1,14 +1,14 @@
 //! Types are printed.
 
-ghost use Rattle.std.specs.Prelude.{◌≡◌, ◌++◌, OnOk, OnErr, option_map};
-ghost use Rattle.token_core.specs.Joined.{values_of, marks_of};
+ghost use Rattle.std.specs.Prelude.{◌≡◌, ◌++◌, OnOk, OnErr};
 ghost use Rattle.token_core.specs.Prints.{Extends};
 ghost use Rattle.token_core.specs.Trees.{trees};
-ghost use Rattle.syn_ty.specs.generics.Shapes as shapes;
 ghost use Rattle.syn_ty.specs.ty.Printing as printing;
 
-use crate::generics::print::{print_binder_end, print_binder_start, print_bound, print_param};
-use crate::generics::{GenericParamOf, TypeParamBoundOf};
+use crate::generics::TypeParamBoundOf;
+use crate::generics::print::{
+    print_binder_end, print_binder_params, print_binder_start, print_bounds,
+};
 use crate::path::PathArgumentsOf;
 use crate::path::print::{print_path, print_qualified};
 use crate::ty::{
@@ -19,8 +19,8 @@ use crate::ty::{
 use std::alloc::{AllocError, Global};
 use syn_path::path::{PathOf, PathStyle, QSelfOf};
 use syn_path::supplied::{Attributes, Value};
-use token_core::token::{Colon, Comma, Mark, Plus};
-use token_core::{Ident, Items, Pair, Punctuated, ToTokens, TokenStream};
+use token_core::token::{Colon, Comma, Mark};
+use token_core::{Ident, Items, Punctuated, ToTokens, TokenStream};
 
 impl<A: Attributes, E: Value> ToTokens for TypeOf<A, E> {
     ghost print = { printing.ty A.shown E.values };
@@ -249,32 +249,10 @@ fn print_fn_ptr<A: Attributes, E: Value>(
     ensures err { OnErr result (Extends (trees out.old) (trees out.new)) }
 {
     print_binder_start(alloc, &pointer.lifetimes, out)?;
-    print_fn_params(alloc, pointer, out)?;
+    print_binder_params(alloc, &pointer.lifetimes, out)?;
     print_fn_head(alloc, pointer, out)?;
     print_arguments(alloc, pointer, out)?;
     print_output(alloc, pointer, out)
-}
-
-/// The parameters of the binder of a pointer to a function.
-#[cycle(print)]
-#[tactic(auto, using(token_core::proofs::Puts::puts))]
-fn print_fn_params<A: Attributes, E: Value>(
-    alloc: Global,
-    pointer: &TypeFnPtrOf<A, E>,
-    out: &mut TokenStream,
-) -> Result<(), AllocError>
-    ensures ok { OnOk result (trees out.new ≡ trees out.old ++ printing.fn_params A.shown E.values pointer.now) }
-    ensures err { OnErr result (Extends (trees out.old) (trees out.new)) }
-{
-    let (pairs, last) = pointer_params(pointer);
-    for pair in pairs {
-        print_param(alloc, &pair.value, out)?;
-        pair.mark.to_tokens(alloc, out)?;
-    }
-    match last {
-        Some(param) => print_param(alloc, param, out),
-        None => Ok(()),
-    }
 }
 
 /// The arguments of a pointer to a function in their parentheses.
@@ -289,35 +267,29 @@ fn print_arguments<A: Attributes, E: Value>(
     ensures err { OnErr result (Extends (trees out.old) (trees out.new)) }
 {
     let mut content = TokenStream::new(alloc);
-    print_inputs(alloc, pointer, &mut content)?;
+    print_inputs(alloc, &pointer.inputs, &mut content)?;
     print_more(alloc, pointer, &mut content)?;
     pointer.paren_token.surround(content, out)
 }
 
-/// Each argument of a pointer to a function with its comma.
+/// Each argument of a function with its comma.
 #[cycle(print)]
 #[tactic(auto, using(token_core::proofs::Puts::puts))]
-fn print_inputs<A: Attributes, E: Value>(
+pub(crate) fn print_inputs<A: Attributes, E: Value>(
     alloc: Global,
-    pointer: &TypeFnPtrOf<A, E>,
+    inputs: &Punctuated<NamedArgOf<TypeOf<A, E>, A>, Comma>,
     out: &mut TokenStream,
 ) -> Result<(), AllocError>
-    ensures ok { OnOk result (trees out.new ≡ trees out.old ++ printing.fn_inputs A.shown E.values pointer.now) }
+    ensures ok { OnOk result (trees out.new ≡ trees out.old ++ printing.inputs A.shown E.values inputs.now) }
     ensures err { OnErr result (Extends (trees out.old) (trees out.new)) }
 {
-    let (pairs, last) = pointer_inputs(pointer);
-    for pair in pairs {
-        print_arg_name(alloc, &pair.value.attrs, &pair.value.name, out)?;
-        print_type(alloc, &pair.value.ty, out)?;
-        pair.mark.to_tokens(alloc, out)?;
+    let mut commas = inputs.marks().iter();
+    for arg in inputs.values() {
+        print_arg_name(alloc, &arg.attrs, &arg.name, out)?;
+        print_type(alloc, &arg.ty, out)?;
+        commas.next().append_tokens(alloc, out)?;
     }
-    match last {
-        Some(arg) => {
-            print_arg_name(alloc, &arg.attrs, &arg.name, out)?;
-            print_type(alloc, &arg.ty, out)
-        }
-        None => Ok(()),
-    }
+    Ok(())
 }
 
 /// What a pointer to a function returns.
@@ -366,15 +338,7 @@ fn print_impl_trait<A: Attributes, E: Value>(
     ensures err { OnErr result (Extends (trees out.old) (trees out.new)) }
 {
     opaque.impl_token.to_tokens(alloc, out)?;
-    let (pairs, last) = bound_parts(&opaque.bounds);
-    for pair in pairs {
-        print_bound(alloc, &pair.value, out)?;
-        pair.mark.to_tokens(alloc, out)?;
-    }
-    match last {
-        Some(bound) => print_bound(alloc, bound, out),
-        None => Ok(()),
-    }
+    print_bounds(alloc, &opaque.bounds, out)
 }
 
 #[cycle(print)]
@@ -469,15 +433,7 @@ fn print_trait_object<A: Attributes, E: Value>(
     ensures err { OnErr result (Extends (trees out.old) (trees out.new)) }
 {
     object.dyn_token.append_tokens(alloc, out)?;
-    let (pairs, last) = bound_parts(&object.bounds);
-    for pair in pairs {
-        print_bound(alloc, &pair.value, out)?;
-        pair.mark.to_tokens(alloc, out)?;
-    }
-    match last {
-        Some(bound) => print_bound(alloc, bound, out),
-        None => Ok(()),
-    }
+    print_bounds(alloc, &object.bounds, out)
 }
 
 #[cycle(print)]
@@ -491,7 +447,7 @@ fn print_tuple<A: Attributes, E: Value>(
     ensures err { OnErr result (Extends (trees out.old) (trees out.new)) }
 {
     let mut content = TokenStream::new(alloc);
-    print_elements(alloc, tuple, &mut content)?;
+    print_elements(alloc, &tuple.elems, &mut content)?;
     print_lone_comma(alloc, &tuple.elems, &mut content)?;
     tuple.paren_token.surround(content, out)
 }
@@ -501,21 +457,18 @@ fn print_tuple<A: Attributes, E: Value>(
 #[tactic(auto, using(token_core::proofs::Puts::puts))]
 fn print_elements<A: Attributes, E: Value>(
     alloc: Global,
-    tuple: &TypeTupleOf<TypeOf<A, E>, A>,
+    elems: &Punctuated<TypeOf<A, E>, Comma>,
     out: &mut TokenStream,
 ) -> Result<(), AllocError>
-    ensures ok { OnOk result (trees out.new ≡ trees out.old ++ printing.elements A.shown E.values tuple.now.elems) }
+    ensures ok { OnOk result (trees out.new ≡ trees out.old ++ printing.elements A.shown E.values elems.now) }
     ensures err { OnErr result (Extends (trees out.old) (trees out.new)) }
 {
-    let (pairs, last) = element_parts(tuple);
-    for pair in pairs {
-        print_type(alloc, &pair.value, out)?;
-        pair.mark.to_tokens(alloc, out)?;
+    let mut commas = elems.marks().iter();
+    for ty in elems.values() {
+        print_type(alloc, ty, out)?;
+        commas.next().append_tokens(alloc, out)?;
     }
-    match last {
-        Some(ty) => print_type(alloc, ty, out),
-        None => Ok(()),
-    }
+    Ok(())
 }
 
 /// Appends a path, which a type may qualify; refused, what stood before is kept.
@@ -550,16 +503,10 @@ pub fn print_lone_comma<T>(
     ensures ok { OnOk result (trees out.new ≡ trees out.old ++ printing.lone_comma elems.now.0 elems.now.1) }
     ensures err { OnErr result (Extends (trees out.old) (trees out.new)) }
 {
-    let (pairs, last) = elems.parts();
-    match last {
-        Some(_) => {
-            if pairs.len() == 0 {
-                Comma::default().to_tokens(alloc, out)
-            } else {
-                Ok(())
-            }
-        }
-        None => Ok(()),
+    if elems.values().len() == 1 && elems.marks().is_empty() {
+        Comma::default().to_tokens(alloc, out)
+    } else {
+        Ok(())
     }
 }
 
@@ -577,54 +524,6 @@ pub fn print_verbatim(
         out.push(tree.copy(alloc)?)?;
     }
     Ok(())
-}
-
-/// The elements of a tuple by their parts.
-fn element_parts<A, E>(
-    tuple: &TypeTupleOf<TypeOf<A, E>, A>,
-) -> (&[Pair<TypeOf<A, E>, Comma>], Option<&TypeOf<A, E>>)
-    ensures { tuple.now.elems ≡ (values_of result.0.now (option_map (λ x. x.now) result.1), marks_of result.0.now) }
-{
-    tuple.elems.parts()
-}
-
-/// The parameters of the binder of a pointer to a function by their parts; none without a binder.
-fn pointer_params<A, E>(
-    pointer: &TypeFnPtrOf<A, E>,
-) -> (
-    &[Pair<GenericParamOf<A, E>, Comma>],
-    Option<&GenericParamOf<A, E>>,
-)
-    ensures { shapes.binder_params (printing.fn_lifetimes pointer.now) ≡ (values_of result.0.now (option_map (λ x. x.now) result.1), marks_of result.0.now) }
-{
-    match &pointer.lifetimes {
-        Some(binder) => binder.lifetimes.parts(),
-        None => (&[], None),
-    }
-}
-
-/// The arguments of a pointer to a function by their parts.
-fn pointer_inputs<A, E>(
-    pointer: &TypeFnPtrOf<A, E>,
-) -> (
-    &[Pair<NamedArgOf<TypeOf<A, E>, A>, Comma>],
-    Option<&NamedArgOf<TypeOf<A, E>, A>>,
-)
-    ensures { printing.inputs_of pointer.now ≡ (values_of result.0.now (option_map (λ x. x.now) result.1), marks_of result.0.now) }
-{
-    pointer.inputs.parts()
-}
-
-/// Bounds by their parts.
-pub fn bound_parts<A, E>(
-    bounds: &Punctuated<TypeParamBoundOf<A, E>, Plus>,
-) -> (
-    &[Pair<TypeParamBoundOf<A, E>, Plus>],
-    Option<&TypeParamBoundOf<A, E>>,
-)
-    ensures { bounds.now ≡ (values_of result.0.now (option_map (λ x. x.now) result.1), marks_of result.0.now) }
-{
-    bounds.parts()
 }
 
 /// A pointer to a function from the end of its binder to `fn`.
@@ -714,9 +613,9 @@ pub fn print_last_comma<T>(
     ensures ok { OnOk result (trees out.new ≡ trees out.old ++ printing.last_comma comma list.now.0 list.now.1) }
     ensures err { OnErr result (Extends (trees out.old) (trees out.new)) }
 {
-    let (_, last) = list.parts();
-    match last {
-        Some(_) => comma.to_tokens(alloc, out),
-        None => Ok(()),
+    if list.marks().len() < list.values().len() {
+        comma.to_tokens(alloc, out)
+    } else {
+        Ok(())
     }
 }

@@ -1,16 +1,13 @@
-use Rattle.std.proofs.Common.{rules, append_assoc, ◌≡◌, ◌++◌, drop, length, Some, option_map, refl, sym, ap, ◌∙◌, arith}
-use Rattle.std.proofs.lemmas.List.{take-append-drop}
+use Rattle.std.proofs.Common.{rules, append_assoc, ◌≡◌, ◌++◌, refl, ap, ◌∙◌, arith}
 use Rattle.std.proofs.lemmas.Result.{on_ok_weaker, on_err_weaker}
 use Rattle.token_core.specs.declared.tree.Delimiter.TheVariants.{Parenthesis, Brace, Bracket}
-use Rattle.token_core.specs.Joined.{values_of, marks_of}
-use Rattle.token_core.specs.Lists.{joined}
 use Rattle.token_core.specs.Prints as p
 use Rattle.token_core.specs.Prints.{Extends}
 use Rattle.token_core.specs.Trees.{trees}
 use Rattle.token_core.proofs.Puts.{extends_append, extends_on}
-use Rattle.syn_pat.specs.pat.Printing.{pat, comma_unless, guard, member, field, shown}
+use Rattle.syn_pat.specs.pat.Printing.{pat, comma_unless, guard, member, field, fields, list, shown}
 use Rattle.syn_pat.proofs.pat_laws.Height.{height, sub_by, field_by, height-Guard, height-Ident, height-Or, height-Paren, height-Reference, height-Slice, height-Struct, height-Tuple, height-TupleStruct, height-Type}
-use Rattle.syn_ty.proofs.ty_laws.Parts.{in_list, last_in_list, put_last, put_next}
+use Rattle.syn_ty.proofs.ty_laws.Parts.{extends_both, in_list, next_of, put_next}
 use Rattle.syn_ty.proofs.ty_laws.Pieces.{put_both, put_as, put_case, put_group, puts2, puts3, puts4, still}
 use Rattle.syn_pat.proofs.pat_laws.Prints.{pat-Const, pat-Guard, pat-Ident, pat-Lit, pat-Macro, pat-Or, pat-Paren, pat-Path, pat-Range, pat-Reference, pat-Rest, pat-Slice, pat-Struct, pat-Tuple, pat-TupleStruct, pat-Type, pat-Verbatim, pat-Wild}
 use Rattle.syn_pat.proofs.pat.print.+print.Goals as goal
@@ -41,111 +38,38 @@ print_binding-returns-in_ok-to_tokens-in-Some-clause-err g t c =
     on_err_weaker c.print_pat.result
     (λ h. extends_on _ _ _ _ c.in_ok-print_name.ensures.ok (extends_on _ _ _ _ c.in_ok-to_tokens-in-Some.ensures.ok h)) c.print_pat.ensures.err
 
--- ---- print_elements
+-- ---- lists
 
 pub print_elements-print_pat-requires : goal.print_elements-print_pat-requires
 print_elements-print_pat-requires g t c κs within =
-    let h = in_list height c.args.elems.now c.element_parts.result.0.now (option_map (λ x. x.now) c.element_parts.result.1) c.loop-pair.pair-index c.pair-item.result c.element_parts.ensures c.loop-pair-test.true c.pair-item.is in
+    let h = in_list height c.args.elems.now.0 _ c.loop-element.element-index c.element-item.result c.values-element-items.ensures c.loop-element-test.true c.element-item.is in
     (omega (arith, c.decreases, h), within)
-
-pub print_elements-print_pat-requires-in-Some : goal.print_elements-print_pat-requires-in-Some
-print_elements-print_pat-requires-in-Some g t c κs within =
-    let k : option_map (λ x. x.now) c.element_parts.result.1 ≡ Some c.in-Some.element.now = ap (option_map (λ x. x.now)) c.in-Some.is in
-    let h = last_in_list height c.args.elems.now c.element_parts.result.0.now (option_map (λ x. x.now) c.element_parts.result.1) c.in-Some.element.now c.element_parts.ensures k in
-    (omega (arith, c.decreases, h), within)
-
-pub print_elements-returns-in-Some-clause-ok : goal.print_elements-returns-in-Some-clause-ok
-print_elements-returns-in-Some-clause-ok g t c =
-    let k : option_map (λ x. x.now) c.element_parts.result.1 ≡ Some c.in-Some.element.now = ap (option_map (λ x. x.now)) c.in-Some.is in
-    on_ok_weaker c.print_pat-in-Some.result
-    (λ h. put_last (pat g.X.Subtree.prints (shown g.Q.Qualifier.shown g.T.ToTokens.print)) p.mark c.args.elems.now c.element_parts.result.0.now (option_map (λ x. x.now) c.element_parts.result.1) c.in-Some.element.now c.loop-pair.pair-index (trees c.args.out.now) (trees c.loop-pair.out)
-    (trees c.print_pat-in-Some.new.out) c.element_parts.ensures k c.loop-pair-test.false c.loop-pair.invariant.told h) c.print_pat-in-Some.ensures.ok
-
-pub print_elements-returns-in-Some-clause-err : goal.print_elements-returns-in-Some-clause-err
-print_elements-returns-in-Some-clause-err g t c =
-    let old = trees c.args.out.now in
-    let mid = trees c.loop-pair.out in
-    on_err_weaker c.print_pat-in-Some.result
-    (λ h. extends_on old (drop (length old) mid) mid _ (sym (take-append-drop (length old) mid) ∙ ap (λ z. z ++ drop (length old) mid) c.loop-pair.invariant.kept) h) c.print_pat-in-Some.ensures.err
-
--- ---- print_cases
 
 pub print_cases-print_pat-requires : goal.print_cases-print_pat-requires
 print_cases-print_pat-requires g t c κs within =
-    let h = in_list height c.args.pat.now.cases c.case_parts.result.0.now (option_map (λ x. x.now) c.case_parts.result.1) c.loop-pair.pair-index c.pair-item.result c.case_parts.ensures c.loop-pair-test.true c.pair-item.is in
+    let h = in_list height c.args.pat.now.cases.0 _ c.loop-case.case-index c.case-item.result c.values-case-items.ensures c.loop-case-test.true c.case-item.is in
     (omega (arith, c.decreases, h), within)
-
-pub print_cases-print_pat-requires-in-Some : goal.print_cases-print_pat-requires-in-Some
-print_cases-print_pat-requires-in-Some g t c κs within =
-    let k : option_map (λ x. x.now) c.case_parts.result.1 ≡ Some c.in-Some.case.now = ap (option_map (λ x. x.now)) c.in-Some.is in
-    let h = last_in_list height c.args.pat.now.cases c.case_parts.result.0.now (option_map (λ x. x.now) c.case_parts.result.1) c.in-Some.case.now c.case_parts.ensures k in
-    (omega (arith, c.decreases, h), within)
-
-pub print_cases-returns-in-Some-clause-ok : goal.print_cases-returns-in-Some-clause-ok
-print_cases-returns-in-Some-clause-ok g t c =
-    let k : option_map (λ x. x.now) c.case_parts.result.1 ≡ Some c.in-Some.case.now = ap (option_map (λ x. x.now)) c.in-Some.is in
-    on_ok_weaker c.print_pat-in-Some.result
-    (λ h. put_last (pat g.X.Subtree.prints (shown g.Q.Qualifier.shown g.T.ToTokens.print)) p.mark c.args.pat.now.cases c.case_parts.result.0.now (option_map (λ x. x.now) c.case_parts.result.1) c.in-Some.case.now c.loop-pair.pair-index (trees c.args.out.now) (trees c.loop-pair.out)
-    (trees c.print_pat-in-Some.new.out) c.case_parts.ensures k c.loop-pair-test.false c.loop-pair.invariant.told h) c.print_pat-in-Some.ensures.ok
-
-pub print_cases-returns-in-Some-clause-err : goal.print_cases-returns-in-Some-clause-err
-print_cases-returns-in-Some-clause-err g t c =
-    let old = trees c.args.out.now in
-    let mid = trees c.loop-pair.out in
-    on_err_weaker c.print_pat-in-Some.result
-    (λ h. extends_on old (drop (length old) mid) mid _ (sym (take-append-drop (length old) mid) ∙ ap (λ z. z ++ drop (length old) mid) c.loop-pair.invariant.kept) h) c.print_pat-in-Some.ensures.err
-
--- ---- print_fields
 
 pub print_fields-print_pat-requires : goal.print_fields-print_pat-requires
 print_fields-print_pat-requires g t c κs within =
-    let h = in_list (field_by height) c.args.pat.now.fields c.field_parts.result.0.now (option_map (λ x. x.now) c.field_parts.result.1) c.loop-pair.pair-index c.pair-item.result c.field_parts.ensures c.loop-pair-test.true c.pair-item.is in
+    let h = in_list (field_by height) c.args.pat.now.fields.0 _ c.loop-field.field-index c.field-item.result c.values-field-items.ensures c.loop-field-test.true c.field-item.is in
     let e = ap height c.get.ensures in
     (omega (arith, c.decreases, h, e), within)
 
-pub print_fields-print_pat-requires-in-Some : goal.print_fields-print_pat-requires-in-Some
-print_fields-print_pat-requires-in-Some g t c κs within =
-    let k : option_map (λ x. x.now) c.field_parts.result.1 ≡ Some c.in-Some.field.now = ap (option_map (λ x. x.now)) c.in-Some.is in
-    let h = last_in_list (field_by height) c.args.pat.now.fields c.field_parts.result.0.now (option_map (λ x. x.now) c.field_parts.result.1) c.in-Some.field.now c.field_parts.ensures k in
-    let e = ap height c.get-in-Some.ensures in
-    (omega (arith, c.decreases, h, e), within)
-
-pub print_fields-loop-pair-preserved : goal.print_fields-loop-pair-preserved
-print_fields-loop-pair-preserved g t c =
+pub print_fields-loop-field-preserved : goal.print_fields-loop-field-preserved
+print_fields-loop-field-preserved g t c =
     let px = g.X.Subtree.prints in
     let names = shown g.Q.Qualifier.shown g.T.ToTokens.print in
     let old = trees c.args.out.now in
-    let mid = trees c.loop-pair.out in
-    let last = option_map (λ x. x.now) c.field_parts.result.1 in
-    let all = c.field_parts.result.0.now in
-    let x = c.pair-item.result.value in
-    let whole : trees c.print_pat.new.out ≡ mid ++ field px names x =
+    let mid = trees c.loop-field.out in
+    let x = c.field-item.result in
+    let one : trees c.print_pat.new.out ≡ mid ++ field px names x =
     c.in_ok-print_pat.ensures.ok ∙ ap (λ z. z ++ pat px names c.get.result.now) c.in_ok-print_member.ensures.ok ∙ append_assoc mid (member px x) (pat px names c.get.result.now) ∙ ap (λ z. mid ++ (member px x ++ pat px names z)) c.get.ensures in
     record {
-      told = put_next (field px names) p.mark all last c.loop-pair.pair-index c.pair-item.result old mid (trees c.print_pat.new.out) (trees c.to_tokens.new.out) (joined (field px names) p.mark (values_of all last) (marks_of all))
-          c.loop-pair-test.true c.pair-item.is c.loop-pair.invariant.told whole c.in_ok-to_tokens.ensures.ok;
-      kept = rw c.in_ok-to_tokens.ensures.ok (rw whole (extends_append old _ _ (extends_append old mid _ c.loop-pair.invariant.kept)));
+      told = put_next (field px names) p.mark c.values-field-items.result.now c.loop-field.field-index x _ _ c.next.result old mid (trees c.print_pat.new.out) (trees c.append_tokens.new.out) (fields px names c.args.pat.now.fields)
+          c.loop-field-test.true c.field-item.is (next_of _ _ _ c.next.ensures.steps) c.loop-field.invariant.told one c.in_ok-append_tokens.ensures.ok;
+      kept = rw c.in_ok-append_tokens.ensures.ok (rw one (extends_append old _ _ (extends_append old mid _ c.loop-field.invariant.kept)));
     }
-
-pub print_fields-returns-in_ok-print_member-in-Some-clause-ok : goal.print_fields-returns-in_ok-print_member-in-Some-clause-ok
-print_fields-returns-in_ok-print_member-in-Some-clause-ok g t c =
-    let px = g.X.Subtree.prints in
-    let names = shown g.Q.Qualifier.shown g.T.ToTokens.print in
-    let mid = trees c.loop-pair.out in
-    let last = option_map (λ x. x.now) c.field_parts.result.1 in
-    let x = c.in-Some.field.now in
-    let k : option_map (λ x. x.now) c.field_parts.result.1 ≡ Some x = ap (option_map (λ x. x.now)) c.in-Some.is in
-    on_ok_weaker c.print_pat-in-Some.result
-    (λ h. put_last (field px names) p.mark c.args.pat.now.fields c.field_parts.result.0.now last x c.loop-pair.pair-index (trees c.args.out.now) mid (trees c.print_pat-in-Some.new.out) c.field_parts.ensures k c.loop-pair-test.false c.loop-pair.invariant.told
-    (h ∙ ap (λ z. z ++ pat px names c.get-in-Some.result.now) c.in_ok-print_member-in-Some.ensures.ok ∙ append_assoc mid (member px x) (pat px names c.get-in-Some.result.now) ∙ ap (λ z. mid ++ (member px x ++ pat px names z)) c.get-in-Some.ensures)) c.print_pat-in-Some.ensures.ok
-
-pub print_fields-returns-in_ok-print_member-in-Some-clause-err : goal.print_fields-returns-in_ok-print_member-in-Some-clause-err
-print_fields-returns-in_ok-print_member-in-Some-clause-err g t c =
-    let old = trees c.args.out.now in
-    let mid = trees c.loop-pair.out in
-    on_err_weaker c.print_pat-in-Some.result
-    (λ h. extends_on old (drop (length old) mid) mid _ (sym (take-append-drop (length old) mid) ∙ ap (λ z. z ++ drop (length old) mid) c.loop-pair.invariant.kept)
-    (extends_on _ _ _ _ c.in_ok-print_member-in-Some.ensures.ok h)) c.print_pat-in-Some.ensures.err
 
 -- ---- each call is for a smaller pattern, or for a part of the same
 
@@ -333,29 +257,60 @@ print_struct-returns-clause-ok g t c =
 
 -- ---- loops
 
-pub print_elements-loop-pair-preserved : goal.print_elements-loop-pair-preserved
-print_elements-loop-pair-preserved g t c =
+pub print_elements-loop-element-preserved : goal.print_elements-loop-element-preserved
+print_elements-loop-element-preserved g t c =
     let old = trees c.args.out.now in
-    let mid = trees c.loop-pair.out in
-    let last = option_map (λ x. x.now) c.element_parts.result.1 in
-    let all = c.element_parts.result.0.now in
+    let mid = trees c.loop-element.out in
     record {
-      told = put_next (pat g.X.Subtree.prints (shown g.Q.Qualifier.shown g.T.ToTokens.print)) p.mark all last c.loop-pair.pair-index c.pair-item.result old mid (trees c.print_pat.new.out) (trees c.to_tokens.new.out) (joined (pat g.X.Subtree.prints (shown g.Q.Qualifier.shown g.T.ToTokens.print)) p.mark (values_of all last) (marks_of all))
-          c.loop-pair-test.true c.pair-item.is c.loop-pair.invariant.told c.in_ok-print_pat.ensures.ok c.in_ok-to_tokens.ensures.ok;
-      kept = rw c.in_ok-to_tokens.ensures.ok (rw c.in_ok-print_pat.ensures.ok (extends_append old _ _ (extends_append old mid _ c.loop-pair.invariant.kept)));
+      told = put_next (pat g.X.Subtree.prints (shown g.Q.Qualifier.shown g.T.ToTokens.print)) p.mark c.values-element-items.result.now c.loop-element.element-index c.element-item.result _ _ c.next.result old mid (trees c.print_pat.new.out) (trees c.append_tokens.new.out) (list g.X.Subtree.prints (shown g.Q.Qualifier.shown g.T.ToTokens.print) c.args.elems.now)
+          c.loop-element-test.true c.element-item.is (next_of _ _ _ c.next.ensures.steps) c.loop-element.invariant.told c.in_ok-print_pat.ensures.ok c.in_ok-append_tokens.ensures.ok;
+      kept = rw c.in_ok-append_tokens.ensures.ok (rw c.in_ok-print_pat.ensures.ok (extends_append old _ _ (extends_append old mid _ c.loop-element.invariant.kept)));
     }
 
-pub print_cases-loop-pair-preserved : goal.print_cases-loop-pair-preserved
-print_cases-loop-pair-preserved g t c =
+pub print_elements-returns-in_err-print_pat-clause-err : goal.print_elements-returns-in_err-print_pat-clause-err
+print_elements-returns-in_err-print_pat-clause-err g t c =
+    let kept : Extends (trees c.args.out.now) (trees c.print_pat.new.out) = extends_both _ _ _ c.loop-element.invariant.kept c.in_err-print_pat.ensures.err in
+    search rules
+
+pub print_elements-returns-in_err-append_tokens-clause-err : goal.print_elements-returns-in_err-append_tokens-clause-err
+print_elements-returns-in_err-append_tokens-clause-err g t c =
+    let kept : Extends (trees c.args.out.now) (trees c.append_tokens.new.out) = extends_both _ _ _ c.loop-element.invariant.kept (extends_on _ _ _ _ c.in_ok-print_pat.ensures.ok c.in_err-append_tokens.ensures.err) in
+    search rules
+
+pub print_cases-loop-case-preserved : goal.print_cases-loop-case-preserved
+print_cases-loop-case-preserved g t c =
     let old = trees c.args.out.now in
-    let mid = trees c.loop-pair.out in
-    let last = option_map (λ x. x.now) c.case_parts.result.1 in
-    let all = c.case_parts.result.0.now in
+    let mid = trees c.loop-case.out in
     record {
-      told = put_next (pat g.X.Subtree.prints (shown g.Q.Qualifier.shown g.T.ToTokens.print)) p.mark all last c.loop-pair.pair-index c.pair-item.result old mid (trees c.print_pat.new.out) (trees c.to_tokens.new.out) (joined (pat g.X.Subtree.prints (shown g.Q.Qualifier.shown g.T.ToTokens.print)) p.mark (values_of all last) (marks_of all))
-          c.loop-pair-test.true c.pair-item.is c.loop-pair.invariant.told c.in_ok-print_pat.ensures.ok c.in_ok-to_tokens.ensures.ok;
-      kept = rw c.in_ok-to_tokens.ensures.ok (rw c.in_ok-print_pat.ensures.ok (extends_append old _ _ (extends_append old mid _ c.loop-pair.invariant.kept)));
+      told = put_next (pat g.X.Subtree.prints (shown g.Q.Qualifier.shown g.T.ToTokens.print)) p.mark c.values-case-items.result.now c.loop-case.case-index c.case-item.result _ _ c.next.result old mid (trees c.print_pat.new.out) (trees c.append_tokens.new.out) (list g.X.Subtree.prints (shown g.Q.Qualifier.shown g.T.ToTokens.print) c.args.pat.now.cases)
+          c.loop-case-test.true c.case-item.is (next_of _ _ _ c.next.ensures.steps) c.loop-case.invariant.told c.in_ok-print_pat.ensures.ok c.in_ok-append_tokens.ensures.ok;
+      kept = rw c.in_ok-append_tokens.ensures.ok (rw c.in_ok-print_pat.ensures.ok (extends_append old _ _ (extends_append old mid _ c.loop-case.invariant.kept)));
     }
+
+pub print_cases-returns-in_err-print_pat-clause-err : goal.print_cases-returns-in_err-print_pat-clause-err
+print_cases-returns-in_err-print_pat-clause-err g t c =
+    let kept : Extends (trees c.args.out.now) (trees c.print_pat.new.out) = extends_both _ _ _ c.loop-case.invariant.kept c.in_err-print_pat.ensures.err in
+    search rules
+
+pub print_cases-returns-in_err-append_tokens-clause-err : goal.print_cases-returns-in_err-append_tokens-clause-err
+print_cases-returns-in_err-append_tokens-clause-err g t c =
+    let kept : Extends (trees c.args.out.now) (trees c.append_tokens.new.out) = extends_both _ _ _ c.loop-case.invariant.kept (extends_on _ _ _ _ c.in_ok-print_pat.ensures.ok c.in_err-append_tokens.ensures.err) in
+    search rules
+
+pub print_fields-returns-in_err-print_member-clause-err : goal.print_fields-returns-in_err-print_member-clause-err
+print_fields-returns-in_err-print_member-clause-err g t c =
+    let kept : Extends (trees c.args.out.now) (trees c.print_member.new.out) = extends_both _ _ _ c.loop-field.invariant.kept c.in_err-print_member.ensures.err in
+    search rules
+
+pub print_fields-returns-in_err-print_pat-clause-err : goal.print_fields-returns-in_err-print_pat-clause-err
+print_fields-returns-in_err-print_pat-clause-err g t c =
+    let kept : Extends (trees c.args.out.now) (trees c.print_pat.new.out) = extends_both _ _ _ c.loop-field.invariant.kept (extends_on _ _ _ _ c.in_ok-print_member.ensures.ok c.in_err-print_pat.ensures.err) in
+    search rules
+
+pub print_fields-returns-in_err-append_tokens-clause-err : goal.print_fields-returns-in_err-append_tokens-clause-err
+print_fields-returns-in_err-append_tokens-clause-err g t c =
+    let kept : Extends (trees c.args.out.now) (trees c.append_tokens.new.out) = extends_both _ _ _ c.loop-field.invariant.kept (extends_on _ _ _ _ c.in_ok-print_member.ensures.ok (extends_on _ _ _ _ c.in_ok-print_pat.ensures.ok c.in_err-append_tokens.ensures.err)) in
+    search rules
 
 pub print_pat-returns-in-Const-clause-ok : goal.print_pat-returns-in-Const-clause-ok
 print_pat-returns-in-Const-clause-ok g t c =
@@ -426,58 +381,3 @@ print_binding-returns-in_err-to_tokens-in-Some-clause-err g t c =
 
 pub print_alternatives-returns-clause-err : goal.print_alternatives-returns-clause-err
 print_alternatives-returns-clause-err g t c = on_err_weaker c.print_cases.result (λ h. extends_on _ _ _ _ c.in_ok-print_outer.ensures.appends.0 (extends_on _ _ _ _ c.in_ok-append_tokens.ensures.ok h)) c.print_cases.ensures.err
-
-pub print_cases-returns-in_err-print_pat-clause-err : goal.print_cases-returns-in_err-print_pat-clause-err
-print_cases-returns-in_err-print_pat-clause-err g t c =
-    let old = trees c.args.out.now in
-    let mid = trees c.loop-pair.out in
-    let kept : Extends (trees c.args.out.now) (trees c.print_pat.new.out) =
-    extends_on old (drop (length old) mid) mid _ (sym (take-append-drop (length old) mid) ∙ ap (λ z. z ++ drop (length old) mid) c.loop-pair.invariant.kept) c.in_err-print_pat.ensures.err in
-    search rules
-
-pub print_cases-returns-in_err-to_tokens-clause-err : goal.print_cases-returns-in_err-to_tokens-clause-err
-print_cases-returns-in_err-to_tokens-clause-err g t c =
-    let kept : Extends (trees c.args.out.now) (trees c.to_tokens.new.out) = rw c.in_err-to_tokens.ensures.err (rw c.in_ok-print_pat.ensures.ok (extends_append _ _ _ c.loop-pair.invariant.kept)) in
-    search rules
-
-pub print_fields-returns-in_err-print_member-clause-err : goal.print_fields-returns-in_err-print_member-clause-err
-print_fields-returns-in_err-print_member-clause-err g t c =
-    let old = trees c.args.out.now in
-    let mid = trees c.loop-pair.out in
-    let kept : Extends (trees c.args.out.now) (trees c.print_member.new.out) =
-    extends_on old (drop (length old) mid) mid _ (sym (take-append-drop (length old) mid) ∙ ap (λ z. z ++ drop (length old) mid) c.loop-pair.invariant.kept) c.in_err-print_member.ensures.err in
-    search rules
-
-pub print_fields-returns-in_err-print_pat-clause-err : goal.print_fields-returns-in_err-print_pat-clause-err
-print_fields-returns-in_err-print_pat-clause-err g t c =
-    let old = trees c.args.out.now in
-    let mid = trees c.loop-pair.out in
-    let kept : Extends (trees c.args.out.now) (trees c.print_pat.new.out) =
-    extends_on old (drop (length old) mid) mid _ (sym (take-append-drop (length old) mid) ∙ ap (λ z. z ++ drop (length old) mid) c.loop-pair.invariant.kept) (extends_on _ _ _ _ c.in_ok-print_member.ensures.ok c.in_err-print_pat.ensures.err) in
-    search rules
-
-pub print_fields-returns-in_err-to_tokens-clause-err : goal.print_fields-returns-in_err-to_tokens-clause-err
-print_fields-returns-in_err-to_tokens-clause-err g t c =
-    let kept : Extends (trees c.args.out.now) (trees c.to_tokens.new.out) = rw c.in_err-to_tokens.ensures.err (rw c.in_ok-print_pat.ensures.ok (extends_append (trees c.args.out.now) (trees c.print_member.new.out) _ (rw c.in_ok-print_member.ensures.ok (extends_append _ _ _ c.loop-pair.invariant.kept)))) in
-    search rules
-
-pub print_fields-returns-in_err-print_member-in-Some-clause-err : goal.print_fields-returns-in_err-print_member-in-Some-clause-err
-print_fields-returns-in_err-print_member-in-Some-clause-err g t c =
-    let old = trees c.args.out.now in
-    let mid = trees c.loop-pair.out in
-    let kept : Extends (trees c.args.out.now) (trees c.print_member-in-Some.new.out) =
-    extends_on old (drop (length old) mid) mid _ (sym (take-append-drop (length old) mid) ∙ ap (λ z. z ++ drop (length old) mid) c.loop-pair.invariant.kept) c.in_err-print_member-in-Some.ensures.err in
-    search rules
-
-pub print_elements-returns-in_err-print_pat-clause-err : goal.print_elements-returns-in_err-print_pat-clause-err
-print_elements-returns-in_err-print_pat-clause-err g t c =
-    let old = trees c.args.out.now in
-    let mid = trees c.loop-pair.out in
-    let kept : Extends (trees c.args.out.now) (trees c.print_pat.new.out) =
-    extends_on old (drop (length old) mid) mid _ (sym (take-append-drop (length old) mid) ∙ ap (λ z. z ++ drop (length old) mid) c.loop-pair.invariant.kept) c.in_err-print_pat.ensures.err in
-    search rules
-
-pub print_elements-returns-in_err-to_tokens-clause-err : goal.print_elements-returns-in_err-to_tokens-clause-err
-print_elements-returns-in_err-to_tokens-clause-err g t c =
-    let kept : Extends (trees c.args.out.now) (trees c.to_tokens.new.out) = rw c.in_err-to_tokens.ensures.err (rw c.in_ok-print_pat.ensures.ok (extends_append _ _ _ c.loop-pair.invariant.kept)) in
-    search rules

@@ -1,30 +1,30 @@
 use denote.Param.Weighed.{most}
-use Rattle.std.proofs.Common.{◌≡◌, ◌+◌, ◌++◌, drop, option_map}
-use Rattle.token_core.specs.Joined.{values_of, marks_of}
+use Rattle.std.proofs.Common.{◌≡◌, ◌+◌, ◌++◌, drop}
+use Rattle.std.specs.Slice.Iter.{iter_rest}
 use Rattle.token_core.specs.Prints.{Extends}
 use Rattle.token_core.specs.Trees.{trees}
 use Rattle.syn_pat.specs.pat.Printing.{list, fields, shown}
 use Rattle.syn_pat.proofs.pat_laws.Height.{height, sub_by, field_by}
 use Rattle.syn_pat.proofs.pat.print.+print.Given as goal
 
-abbrev pub invariant-print_elements-loop-pair : goal.invariant-print_elements-loop-pair
-invariant-print_elements-loop-pair g l = record {
-  told : trees l.out ++ list g.X.Subtree.prints (shown g.Q.Qualifier.shown g.T.ToTokens.print) (values_of (drop l.pair-index l.pairs) (option_map (λ x. x.now) l.last), marks_of (drop l.pair-index l.pairs))
-      ≡ trees l.initial.out ++ list g.X.Subtree.prints (shown g.Q.Qualifier.shown g.T.ToTokens.print) (values_of l.pairs (option_map (λ x. x.now) l.last), marks_of l.pairs);
+abbrev pub invariant-print_elements-loop-element : goal.invariant-print_elements-loop-element
+invariant-print_elements-loop-element g l = record {
+  told : trees l.out ++ list g.X.Subtree.prints (shown g.Q.Qualifier.shown g.T.ToTokens.print) (drop l.element-index l.element-items, iter_rest l.commas)
+      ≡ trees l.initial.out ++ list g.X.Subtree.prints (shown g.Q.Qualifier.shown g.T.ToTokens.print) l.elems;
   kept : Extends (trees l.initial.out) (trees l.out);
 }
 
-abbrev pub invariant-print_cases-loop-pair : goal.invariant-print_cases-loop-pair
-invariant-print_cases-loop-pair g l = record {
-  told : trees l.out ++ list g.X.Subtree.prints (shown g.Q.Qualifier.shown g.T.ToTokens.print) (values_of (drop l.pair-index l.pairs) (option_map (λ x. x.now) l.last), marks_of (drop l.pair-index l.pairs))
-      ≡ trees l.initial.out ++ list g.X.Subtree.prints (shown g.Q.Qualifier.shown g.T.ToTokens.print) (values_of l.pairs (option_map (λ x. x.now) l.last), marks_of l.pairs);
+abbrev pub invariant-print_cases-loop-case : goal.invariant-print_cases-loop-case
+invariant-print_cases-loop-case g l = record {
+  told : trees l.out ++ list g.X.Subtree.prints (shown g.Q.Qualifier.shown g.T.ToTokens.print) (drop l.case-index l.case-items, iter_rest l.marks)
+      ≡ trees l.initial.out ++ list g.X.Subtree.prints (shown g.Q.Qualifier.shown g.T.ToTokens.print) l.pat.cases;
   kept : Extends (trees l.initial.out) (trees l.out);
 }
 
-abbrev pub invariant-print_fields-loop-pair : goal.invariant-print_fields-loop-pair
-invariant-print_fields-loop-pair g l = record {
-  told : trees l.out ++ fields g.X.Subtree.prints (shown g.Q.Qualifier.shown g.T.ToTokens.print) (values_of (drop l.pair-index l.pairs) (option_map (λ x. x.now) l.last), marks_of (drop l.pair-index l.pairs))
-      ≡ trees l.initial.out ++ fields g.X.Subtree.prints (shown g.Q.Qualifier.shown g.T.ToTokens.print) (values_of l.pairs (option_map (λ x. x.now) l.last), marks_of l.pairs);
+abbrev pub invariant-print_fields-loop-field : goal.invariant-print_fields-loop-field
+invariant-print_fields-loop-field g l = record {
+  told : trees l.out ++ fields g.X.Subtree.prints (shown g.Q.Qualifier.shown g.T.ToTokens.print) (drop l.field-index l.field-items, iter_rest l.commas)
+      ≡ trees l.initial.out ++ fields g.X.Subtree.prints (shown g.Q.Qualifier.shown g.T.ToTokens.print) l.pat.fields;
   kept : Extends (trees l.initial.out) (trees l.out);
 }
 
