@@ -256,15 +256,11 @@ fn print_atoms(alloc: Global, atoms: &Sum, out: &mut TokenStream) -> Result<(), 
     ensures ok { OnOk result (trees out.new ≡ trees out.old ++ printing.atoms atoms.now) }
     ensures err { OnErr result (Extends (trees out.old) (trees out.new)) }
 {
-    let (pairs, last) = atoms.parts();
-    for pair in pairs {
-        print_atom(alloc, &pair.value, out)?;
-        pair.mark.to_tokens(alloc, out)?;
+    for (i, atom) in atoms.values().iter().enumerate() {
+        print_atom(alloc, atom, out)?;
+        atoms.mark(i).append_tokens(alloc, out)?;
     }
-    match last {
-        Some(atom) => print_atom(alloc, atom, out),
-        None => Ok(()),
-    }
+    Ok(())
 }
 
 /// Appends an atom, a group with its content; refused, what stood before is kept.

@@ -1,6 +1,6 @@
 -- The values and the marks of a punctuated list, as it grows.
 use Rattle.std.specs.Prelude.{slice_get}
-use Rattle.std.proofs.Common.{◌≡◌, ℕ, zero, suc, ◌+◌, ◌-◌, ◌<◌, inl, inr, List, [], ◌∷◌, length, None, refl, ap, ◌∙◌, length-append, append-nil, arith}
+use Rattle.std.proofs.Common.{◌≡◌, suc, ◌-◌, inl, inr, List, [], ◌∷◌, length, refl, ap, ◌∙◌, length-append, append-nil, arith}
 use Rattle.std.proofs.lemmas.Bool.{cases_lt}
 use Rattle.token_core.specs.Lists.{first, last, IsShaped, Alternate}
 

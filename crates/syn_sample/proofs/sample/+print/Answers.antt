@@ -1,9 +1,10 @@
-use Rattle.std.proofs.Common.{◌≡◌, suc, ◌+◌, ◌*◌, ◌<◌, Some, Bor, ◌∙◌, ap, arith}
-use Rattle.std.specs.Option.{option_map}
-use Rattle.token_core.specs.Joined.{values_of}
-use Rattle.syn_sample.specs.declared.sample.Atom.{Atom}
-use Rattle.syn_sample.specs.sample.Parts.{Atoms}
-use Rattle.syn_sample.proofs.Weights.{weight, weights, group-weight, at_pair, at_last}
+use Rattle.std.proofs.Common.{◌≡◌, suc, ◌+◌, ◌*◌, ◌<◌, length, get_or, ap, ◌∙◌, arith}
+use Rattle.token_core.specs.Prints as p
+use Rattle.token_core.specs.Trees.{trees}
+use Rattle.token_core.proofs.Parted.{put_next}
+use Rattle.token_core.proofs.Puts.{puts}
+use Rattle.syn_sample.specs.sample.Printing.{atom}
+use Rattle.syn_sample.proofs.Weights.{weight, weights, group-weight, at_place}
 use Rattle.syn_sample.proofs.sample.+print.Goals as goal
 
 pub print_atom-print_atoms-requires : goal.print_atom-print_atoms-requires
@@ -16,19 +17,20 @@ print_atom-print_atoms-requires t c =
 pub print_atoms-print_atom-requires : goal.print_atoms-print_atom-requires
 print_atoms-print_atom-requires t c =
     let is : 2 * weights c.args.atoms.now.0 + 1 ≡ t = c.decreases in
-    let pairs = c.parts.result.0.now in
-    let last = option_map (λ (x : Bor Atom). x.now) c.parts.result.1 in
-    let all : weights c.args.atoms.now.0 ≡ weights (values_of pairs last) = ap (λ (z : Atoms). weights z.0) c.parts.ensures in
-    let one = at_pair pairs last c.loop-pair.pair-index c.pair-item.result (omega arith) c.pair-item.is in
-    let less : 2 * weight c.pair-item.result.value < t = omega (arith, is, all, one) in
+    let values = c.args.atoms.now.0 in
+    let h : c.loop-i.i < length values = omega (arith, c.loop-i-test.true, ap length c.values-atom-items.ensures) in
+    let e : c.atom-item.result ≡ get_or values c.loop-i.i c.atom-item.result = c.atom-item.is ∙ ap (λ l. get_or l c.loop-i.i c.atom-item.result) c.values-atom-items.ensures in
+    let one = at_place values c.loop-i.i c.atom-item.result h e in
+    let less : 2 * weight c.atom-item.result < t = omega (arith, is, one) in
     (less, tt)
 
-pub print_atoms-print_atom-requires-in-Some : goal.print_atoms-print_atom-requires-in-Some
-print_atoms-print_atom-requires-in-Some t c =
-    let is : 2 * weights c.args.atoms.now.0 + 1 ≡ t = c.decreases in
-    let pairs = c.parts.result.0.now in
-    let all : weights c.args.atoms.now.0 ≡ weights (values_of pairs (Some c.in-Some.atom.now)) =
-    ap (λ (z : Atoms). weights z.0) c.parts.ensures ∙ ap (λ o. weights (values_of pairs (option_map (λ (x : Bor Atom). x.now) o))) c.in-Some.is in
-    let one = at_last pairs c.in-Some.atom.now in
-    let less : 2 * weight c.in-Some.atom.now < t = omega (arith, is, all, one) in
-    (less, tt)
+pub print_atoms-loop-i-preserved : goal.print_atoms-loop-i-preserved
+print_atoms-loop-i-preserved t c =
+    let values = c.args.atoms.now.0 in
+    let h : c.loop-i.i < length values = omega (arith, c.loop-i-test.true, ap length c.values-atom-items.ensures) in
+    let e : c.atom-item.result ≡ get_or values c.loop-i.i c.atom-item.result = c.atom-item.is ∙ ap (λ l. get_or l c.loop-i.i c.atom-item.result) c.values-atom-items.ensures in
+    record {
+      told = put_next atom p.mark values c.args.atoms.now.1 c.loop-i.i c.atom-item.result c.mark.result _ (trees c.print_atom.new.out) _ _
+          h e c.mark.ensures c.loop-i.invariant.told c.in_ok-print_atom.ensures.ok c.in_ok-append_tokens.ensures.ok;
+      kept = grind (arith, puts);
+    }

@@ -1,14 +1,13 @@
-use Rattle.std.proofs.Common.{◌≡◌, ◌++◌, ◌+◌, ◌*◌, drop, option_map}
+use Rattle.std.proofs.Common.{◌≡◌, ◌++◌, ◌+◌, ◌*◌, drop}
 use Rattle.token_core.specs.Trees.{trees}
 use Rattle.token_core.specs.Prints.{Extends}
-use Rattle.token_core.specs.Joined.{values_of, marks_of}
 use Rattle.syn_sample.specs.sample.Printing.{atoms}
 use Rattle.syn_sample.proofs.Weights.{weight, weights}
 use Rattle.syn_sample.proofs.sample.+print.Given as goal
 
-abbrev pub invariant-print_atoms-loop-pair : goal.invariant-print_atoms-loop-pair
-invariant-print_atoms-loop-pair l = record {
-  told : trees l.out ++ atoms (values_of (drop l.pair-index l.pairs) (option_map (λ x. x.now) l.last), marks_of (drop l.pair-index l.pairs)) ≡ trees l.initial.out ++ atoms l.initial.atoms;
+abbrev pub invariant-print_atoms-loop-i : goal.invariant-print_atoms-loop-i
+invariant-print_atoms-loop-i l = record {
+  told : trees l.out ++ atoms (drop l.i l.atoms.0, drop l.i l.atoms.1) ≡ trees l.initial.out ++ atoms l.initial.atoms;
   kept : Extends (trees l.initial.out) (trees l.out);
 }
 
