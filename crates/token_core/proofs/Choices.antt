@@ -1,8 +1,8 @@
 -- The names that a choice keeps, and their text.
 use Rattle.std.specs.Prelude.{slice_set, codes, nat_eq}
 use Rattle.std.specs.List.{list_any, AllByRecursion, IsDistinct}
-use Rattle.std.proofs.Common.{◌≡◌, ℕ, zero, suc, ◌+◌, ◌<◌, ◌≤◌, List, [], ◌∷◌, ◌++◌, true, false, ◌||◌, inl, inr, map, length, take, get_or, refl, sym, ap, ap₂, ◌∙◌, append_assoc, append-nil, length-append, length-take-le, arith}
-use Rattle.std.proofs.lemmas.List.{map_more}
+use Rattle.std.proofs.Common.{◌≡◌, ℕ, zero, suc, ◌+◌, ◌-◌, ◌<◌, ◌≤◌, List, [], ◌∷◌, ◌++◌, true, false, ◌||◌, inl, inr, map, length, take, drop, get_or, refl, sym, ap, ap₂, ◌∙◌, append_assoc, append-nil, length-append, length-take-le, arith}
+use Rattle.std.proofs.lemmas.List.{map_more, take_all}
 use Rattle.std.proofs.lemmas.Bool.{cases_Bool, false≢true}
 use Rattle.std.proofs.lemmas.Cmp.{nat_eq_equiv}
 use Rattle.std.proofs.lemmas.Map.Keys.{IsDistinct-push}
@@ -24,6 +24,17 @@ commas_last (m ∷ ns) n =
 pub commas_more : (xs : List ℕ) (i d : ℕ) → i < length xs →
     commas (map name_of (take (i + 1) xs)) ≡ commas (map name_of (take i xs)) ++ (codes ", " ++ name_of (get_or xs i d))
 commas_more xs i d h = ap commas (map_more name_of xs i d h) ∙ commas_last (map name_of (take i xs)) (name_of (get_or xs i d))
+
+-- the text of three names or more
+pub choices_listed : (xs : List ℕ) → 3 ≤ length xs →
+    (codes "expected one of: " ++ name_of (get_or xs 0 0)) ++ commas (map name_of (take (length xs - 1) (drop 1 xs))) ≡ choices (map name_of xs)
+unfolding choices
+choices_listed [] h = absurd (omega (arith, h))
+choices_listed (a ∷ []) h = absurd (omega (arith, h))
+choices_listed (a ∷ b ∷ []) h = absurd (omega (arith, h))
+choices_listed (a ∷ b ∷ c ∷ ns) h =
+    let n : length (b ∷ c ∷ ns) ≤ length (a ∷ b ∷ c ∷ ns) - 1 = omega arith in
+    ap (λ l. (codes "expected one of: " ++ name_of a) ++ commas (map name_of l)) (take_all (length (a ∷ b ∷ c ∷ ns) - 1) (b ∷ c ∷ ns) n)
 
 take_suc_set : (ns : List ℕ) (i n : ℕ) → i < length ns → take (suc i) (slice_set ns i n) ≡ take i ns ++ n ∷ []
 take_suc_set [] i n h = absurd (omega (arith, h))

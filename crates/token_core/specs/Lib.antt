@@ -1,6 +1,7 @@
 pub mod formers
 pub mod Spans
 pub mod Toks
+pub mod Texts
 pub mod Trees
 pub mod Codes
 pub mod Refusal
