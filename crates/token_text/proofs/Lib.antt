@@ -1,5 +1,6 @@
 mod Words
 mod Pasts
+mod Blanks
 mod Scans
 mod Choices
 mod Ends

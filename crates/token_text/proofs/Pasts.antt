@@ -1,5 +1,5 @@
 -- Ends of a text.
-use Rattle.std.proofs.Common.{◌≡◌, ℕ, List, [], ◌∷◌, ◌++◌, chars, encode_utf8, encode_utf8_all, refl, ap, ◌∙◌, sym, append_assoc, append-nil, Option, Some, None, Result, Ok, Err}
+use Rattle.std.proofs.Common.{◌≡◌, ℕ, List, [], ◌∷◌, ◌++◌, ◌≤◌, length, chars, encode_utf8, encode_utf8_all, arith, length-append, refl, ap, ◌∙◌, sym, append_assoc, append-nil, Option, Some, None, Result, Ok, Err}
 use Rattle.std.proofs.lemmas.Str.{encodes-append}
 use Rattle.std.specs.Borrow.{Bor}
 use Rattle.token_core.specs.declared.error.ErrorKind.{ErrorKind}
@@ -24,6 +24,9 @@ past_first text rest c cs e = record {
   split = e ∙ ap (λ t. t ++ rest) (sym (append-nil (encode_utf8 c)));
   whole = cs;
 }
+
+pub past_le : {text rest : List ℕ} → Past text rest → length rest ≤ length text
+past_le {text} {rest} p = omega (arith, ap length p.split, length-append (encode_utf8_all p.front) rest)
 
 -- what was found in an end of the text was found in the text
 pub finds_past : (o p : Option Text) (text rest : List ℕ) (r : Option (Bor Bytes)) → Past text rest → p ≡ o → Finds o rest r → Finds p text r

@@ -1,16 +1,22 @@
 -- Reading, a piece at a time.
-use Rattle.std.proofs.Common.{◌≡◌, ℕ, zero, suc, ◌<◌, ◌+◌, ◌-◌, ◌≤◌, List, [], ◌∷◌, ◌++◌, length, take, drop, encode_utf8, encode_utf8_all, Result, Ok, Err, refl, sym, ap, ap₂, ◌∙◌, arith, length-append, drop_at, take_at, inl, inr, chars}
+use Rattle.std.proofs.Common.{◌≡◌, ℕ, zero, suc, ◌<◌, ◌+◌, ◌-◌, ◌≤◌, List, [], ◌∷◌, ◌++◌, length, take, drop, encode_utf8, encode_utf8_all, Result, Ok, Err, refl, sym, ap, ap₂, ◌∙◌, arith, length-append, append-nil, true, drop_at, take_at, inl, inr, chars}
+use Rattle.std.proofs.lemmas.List.{append_cancel_right}
 use Rattle.std.proofs.lemmas.Str.{length-encode, length-le-encodes}
 use Rattle.std.specs.Char.{len_utf8}
 use Rattle.token_core.specs.Refusal.{Refusal, Stored}
 use Rattle.token_core.specs.Spans.{span}
 use Rattle.token_core.specs.declared.span.Span.{Span}
-use Rattle.token_text.specs.Characters.{Text, size, upto}
+use Rattle.token_text.specs.Characters.{Text, size, upto, is_blank, passes, after_run}
 use Rattle.token_core.specs.declared.error.ErrorKind.{ErrorKind}
+use Rattle.token_text.specs.declared.class.Class.TheVariants.{Blank}
+use Rattle.token_text.specs.declared.piece.Leaf.TheVariants as leaves
 use Rattle.token_text.specs.declared.piece.Piece.{Piece}
+use Rattle.token_text.specs.declared.piece.Piece.TheVariants.{Leaf}
 use Rattle.token_text.specs.Front.{Past, found, found_in, look, front}
-use Rattle.token_text.specs.Reading.{State, act, finish, turn, faulty, reads, lexed, Fails}
-use Rattle.token_text.proofs.PieceLaws.{front_splits}
+use Rattle.token_text.specs.Reading.{State, state, act, finish, turn, faulty, reads, lexed, Fails}
+use Rattle.token_text.proofs.PieceLaws.{front_splits, front_only}
+use Rattle.token_text.specs.Spelling as rules
+use Rattle.token_text.proofs.CharacterLaws.{which}
 use Rattle.token_text.proofs.Words.{spelled_so}
 
 pub size-cons : (c : ℕ) (cs : Text) → size (c ∷ cs) ≡ len_utf8 c + size cs
@@ -64,7 +70,35 @@ pub reads_refused : (at : ℕ) (x : State) (cs w rest : Text) (p : Piece) (e : R
 reads_refused at x [] w rest p e h a = let s = front_splits [] (found p w rest) h in absurd (omega (arith, s.some, ap length s.whole, length-append w rest))
 reads_refused at x (c ∷ cs) w rest p e h a = reads_turn_err at c x cs e (rw (h, a) refl)
 
+-- blanks are passed over
+reads_blank : (at c : ℕ) (x : State) (cs : Text) → is_blank c ≡ true → reads 0 at x (c ∷ cs) ≡ reads 0 (at + len_utf8 c) x cs
+reads_blank at c x cs h =
+    let one : size (c ∷ []) ≡ len_utf8 c = omega (arith, size-cons c []) in
+    let begins = front_only (Leaf leaves.Blank) (c ∷ cs) (c ∷ []) cs (record { whole = refl; is_piece = rules.blank h }) in
+    reads_piece at x x (c ∷ cs) (c ∷ []) cs (Leaf leaves.Blank) begins (ap (λ ts. Ok (state x.open_groups ts)) (append-nil x.so_far))
+    ∙ ap (λ n. reads 0 (at + n) x cs) one
+
+reads_blanks : (at : ℕ) (x : State) (cs : Text) → (w : Text) × (cs ≡ w ++ after_run Blank cs) × (reads 0 at x cs ≡ reads 0 (at + size w) x (after_run Blank cs))
+unfolding passes
+reads_blanks at x [] = let e : at ≡ at + 0 = omega arith in ([], refl, ap (λ n. reads 0 n x []) e)
+reads_blanks at x (c ∷ cs) =
+    which (λ ds. (w : Text) × (c ∷ cs ≡ w ++ ds) × (reads 0 at x (c ∷ cs) ≡ reads 0 (at + size w) x ds)) (is_blank c)
+    (λ h. (let more = reads_blanks (at + len_utf8 c) x cs in
+    let e : (at + len_utf8 c) + size more.0 ≡ at + size (c ∷ more.0) = omega (arith, size-cons c more.0) in
+    (c ∷ more.0, ap (λ t. c ∷ t) more.1, reads_blank at c x cs h ∙ more.2 ∙ ap (λ n. reads 0 n x (after_run Blank cs)) e)))
+    (λ h. (let e : at ≡ at + 0 = omega arith in ([], refl, ap (λ n. reads 0 n x (c ∷ cs)) e)))
+
 -- ---- the loop over a text
+
+module _ (text rest after : List ℕ) (x : State) (known : lexed text ≡ reads 0 (length text - length rest) x (chars rest)) (le : length rest ≤ length text)
+    (past : Past rest after) (run : chars after ≡ after_run Blank (chars rest)) where
+  pub blanks_go : lexed text ≡ reads 0 (length text - length after) x (chars after)
+  blanks_go =
+      let more = reads_blanks (length text - length rest) x (chars rest) in
+      let same : more.0 ≡ past.front = append_cancel_right more.0 past.front (chars after) (ap (λ t. more.0 ++ t) run ∙ sym more.1 ∙ past.whole) in
+      let e : (length text - length rest) + size more.0 ≡ length text - length after =
+      omega (arith, le, ap size same, ap length past.split, length-append (encode_utf8_all past.front) after) in
+      known ∙ more.2 ∙ ap₂ (λ (n : ℕ) (t : Text). reads 0 n x t) e (sym run)
 
 module _ (text rest after : List ℕ) (w : Text) (p : Piece) (x : State) (known : lexed text ≡ reads 0 (length text - length rest) x (chars rest))
     (le : length rest ≤ length text) (h : front (chars rest) ≡ Ok (found p w (chars after))) (e : rest ≡ encode_utf8_all w ++ after) where

@@ -4,8 +4,9 @@ use Rattle.std.proofs.lemmas.Str.{length-encode, len_utf8_bounds}
 use Rattle.std.proofs.lemmas.Bool.{eqb-true}
 use Rattle.std.proofs.lemmas.List.{append_cancel_right}
 use Rattle.token_text.specs.declared.class.Class.{Class}
-use Rattle.token_text.specs.Characters.{Text, upto, passes, after_run}
-use Rattle.token_text.specs.Front.{Past, raw_word, any_word}
+use Rattle.token_text.specs.declared.class.Class.TheVariants.{Blank}
+use Rattle.token_text.specs.Characters.{Text, upto, is_blank, passes, after_run}
+use Rattle.token_text.specs.Front.{Past, after_blank, raw_word, any_word}
 use Rattle.token_text.specs.Pieces.{has_raw_form, past_quote}
 
 pub encode_utf8_nonempty : (c : ℕ) → 0 < length (encode_utf8 c)
@@ -24,6 +25,21 @@ spelled_so text w rest p e =
 -- a step over a character of a class
 pub run_goes_on : (p : Class) (cs ds : Text) (c : ℕ) → cs ≡ c ∷ ds → passes p c ≡ true → after_run p cs ≡ after_run p ds
 run_goes_on p cs ds c e pass = rw (e, pass) refl
+
+-- a step over a blank
+pub blanks_go_on : (cs ds : Text) → after_blank cs ≡ Some ds → after_run Blank cs ≡ after_run Blank ds
+unfolding passes
+blanks_go_on [] ds h = cc
+blanks_go_on (c ∷ cs) ds h =
+    let P : Bool → Type 0 = λ b. cond b (Some cs) None ≡ Some ds → cond b (after_run Blank cs) (c ∷ cs) ≡ after_run Blank ds in
+    let f : P (is_blank c) = elim (is_blank c) as P [ true ↦ λ e. (let same : cs ≡ ds = cc in ap (after_run Blank) same) | false ↦ λ bad. cc ] in f h
+
+pub blanks_end : (cs : Text) → after_blank cs ≡ None → after_run Blank cs ≡ cs
+unfolding passes
+blanks_end [] h = refl
+blanks_end (c ∷ cs) h =
+    let P : Bool → Type 0 = λ b. cond b (Some cs) None ≡ None → cond b (after_run Blank cs) (c ∷ cs) ≡ c ∷ cs in
+    let f : P (is_blank c) = elim (is_blank c) as P [ true ↦ λ bad. cc | false ↦ λ e. refl ] in f h
 
 pub raw_form_found : (cs rest : Text) (w : List ℕ) → raw_word cs ≡ Some rest → encode_utf8_all (upto cs rest) ≡ w → has_raw_form w ≡ true → any_word cs ≡ Some rest
 unfolding any_word

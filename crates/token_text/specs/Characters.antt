@@ -4,7 +4,7 @@ use Rattle.std.specs.Char.{is_ascii_digit, is_ascii_hexdigit}
 use Rattle.std.specs.List.{list_any}
 use Rattle.unicode_ident.specs.Ident.{is_xid_start, is_xid_continue}
 use Rattle.token_text.specs.declared.class.Class.{Class}
-use Rattle.token_text.specs.declared.class.Class.TheVariants.{Continue, Binary, Octal, Decimal, Hexadecimal, Underscore, NoQuote, NoLineFeed}
+use Rattle.token_text.specs.declared.class.Class.TheVariants.{Continue, Binary, Octal, Decimal, Hexadecimal, Underscore, NoQuote, NoLineFeed, Blank}
 
 -- characters
 abbrev pub Text : Type 0
@@ -41,7 +41,7 @@ is_start c = is_xid_start c || c == 95
 unfoldable pub is_continue : ℕ → Bool
 is_continue = is_xid_continue
 
--- the characters that stand together: those of a word, digits of a base with `_` among them, and what goes on up to a character
+-- the characters that stand together: those of a word, digits of a base with `_` among them, what goes on up to a character, and blanks
 unfoldable pub passes : Class → ℕ → Bool
 passes Continue c = is_continue c
 passes Binary c = (c == 48 || c == 49) || c == 95
@@ -51,6 +51,7 @@ passes Hexadecimal c = is_ascii_hexdigit c || c == 95
 passes Underscore c = c == 95
 passes NoQuote c = not (c == 39)
 passes NoLineFeed c = not (c == 10)
+passes Blank c = is_blank c
 
 -- what follows the longest front of such characters
 abbrev pub after_run : Class → Text → Text

@@ -28,6 +28,11 @@ abbrev pub after_char : ℕ → Text → Option Text
 after_char d [] = None
 after_char d (c ∷ cs) = if c == d then Some cs else None
 
+-- what follows the blank at the front
+abbrev pub after_blank : Text → Option Text
+after_blank [] = None
+after_blank (c ∷ cs) = if is_blank c then Some cs else None
+
 -- ---- words
 
 unfoldable pub word : Text → Option Text

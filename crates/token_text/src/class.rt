@@ -19,9 +19,19 @@ pub enum Class {
     NoQuote,
     /// All but the line feed.
     NoLineFeed,
+    /// Blanks.
+    Blank,
 }
 
+const BLANKS: [char; 4] = [' ', '\t', '\n', '\r'];
+
 const OCTAL: [char; 9] = ['0', '1', '2', '3', '4', '5', '6', '7', '_'];
+
+pub fn is_blank(ch: char) -> bool
+    ensures { result ≡ c.is_blank ch }
+{
+    BLANKS.contains(&ch)
+}
 
 impl Class {
     #[tactic(auto, unfolding(crate::specs::Characters::passes, crate::specs::Characters::is_continue))]
@@ -37,6 +47,7 @@ impl Class {
             Class::Underscore => ch == '_',
             Class::NoQuote => ch != '\'',
             Class::NoLineFeed => ch != '\n',
+            Class::Blank => is_blank(ch),
         }
     }
 }

@@ -5,22 +5,15 @@ ghost use Rattle.token_text.specs.Characters as c;
 ghost use Rattle.token_text.specs.Front as spec;
 ghost use Rattle.token_text.specs.Pieces as pieces;
 
+use crate::class::is_blank;
 use crate::piece::{Closing, Leaf, Piece};
 use crate::{comment, literal, number, word};
 use token_core::{Delimiter, ErrorKind, LitKind, Spacing};
-
-const BLANKS: [char; 4] = [' ', '\t', '\n', '\r'];
 
 const MARKS: [char; 21] = [
     '!', '#', '$', '%', '&', '*', '+', ',', '-', '.', '/', ':', ';', '<', '=', '>', '?', '@', '^',
     '~', '|',
 ];
-
-fn is_blank(ch: char) -> bool
-    ensures { result ≡ c.is_blank ch }
-{
-    BLANKS.contains(&ch)
-}
 
 fn is_mark(ch: char) -> bool
     ensures { result ≡ c.is_mark ch }

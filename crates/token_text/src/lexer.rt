@@ -57,14 +57,14 @@ fn read(alloc: Global, text: &str) -> Result<TokenStream, Error>
     ensures { spec.Gives trees result (spec.lexed text.now) }
 {
     let mut reader = Reader::new(alloc);
-    let mut rest = text;
+    let mut rest = word::after_blanks(text);
     while let Some((first, _)) = word::split_first(rest) {
         let at = text.len() - rest.len();
         match front(rest) {
             Ok((piece, after)) => {
                 let span = Span::new(at, text.len() - after.len());
                 reader.take(piece, word::up_to(rest, after), span)?;
-                rest = after;
+                rest = word::after_blanks(after);
             }
             Err(kind) => {
                 let span = Span::new(at, at + first.len_utf8());

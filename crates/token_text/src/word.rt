@@ -1,11 +1,12 @@
 //! Runs of characters and words at the front of a text, and raw ones.
 
-ghost use Rattle.std.specs.Prelude.{◌≡◌, ◌∷◌, [], ◌++◌, ◌<◌, ℕ, List, length, encode_utf8, chars, MatchOption};
+ghost use Rattle.std.specs.Prelude.{◌≡◌, ◌∷◌, [], ◌++◌, ◌<◌, ℕ, List, length, encode_utf8, chars, IfSome, MatchOption};
+ghost use Rattle.token_text.specs.declared.class.Class.TheVariants.{Blank};
 ghost use Rattle.token_text.specs.Characters as c;
 ghost use Rattle.token_text.specs.Front as spec;
 ghost use Rattle.token_text.specs.Pieces as pieces;
 
-use crate::class::Class;
+use crate::class::{Class, is_blank};
 
 /// The words that have no raw form, as they would be written.
 const NOT_RAW: [&str; 5] = ["r#_", "r#crate", "r#self", "r#super", "r#Self"];
@@ -62,6 +63,33 @@ pub fn after_run(text: &str, class: Class) -> &str
         if !class.passes(ch) {
             return rest;
         }
+        rest = after;
+    }
+    rest
+}
+
+/// What follows the blank at the front.
+#[tactic(auto, using(crate::proofs::Pasts::pasts))]
+fn after_blank(text: &str) -> Option<&str>
+    ensures blank { spec.Finds (spec.after_blank (chars text.now)) text.now result }
+    ensures less { IfSome result (λ rest. length rest.now < length text.now) }
+{
+    let first = text.as_bytes().first()?;
+    if is_blank(*first as char) {
+        Some(&text[1..])
+    } else {
+        None
+    }
+}
+
+/// What follows the blanks at the front.
+#[tactic(auto, using(crate::proofs::Pasts::pasts))]
+pub fn after_blanks(text: &str) -> &str
+    ensures rest { chars result.now ≡ c.after_run Blank (chars text.now) }
+    ensures past { spec.Past text.now result.now }
+{
+    let mut rest = text;
+    while let Some(after) = after_blank(rest) {
         rest = after;
     }
     rest

@@ -3,8 +3,9 @@ use Rattle.std.proofs.lemmas.Result.{err_from_is_err_and}
 use Rattle.std.specs.Char.{len_utf8}
 use Rattle.token_core.specs.Spans.{span}
 use Rattle.token_core.specs.Refusal.{named}
-use Rattle.token_text.specs.Reading.{reads, lexed, state_of, finish}
-use Rattle.token_text.proofs.Steps.{reads_faulty, reads_end, front_refused, look_ahead, look_goes, look_stops, fails_so, made_fails}
+use Rattle.token_text.specs.Reading.{reads, lexed, start, state_of, finish}
+use Rattle.token_text.proofs.Steps.{reads_faulty, reads_end, front_refused, look_ahead, look_goes, look_stops, blanks_go, fails_so, made_fails}
+use Rattle.token_text.proofs.Pasts.{past_le}
 use Rattle.token_text.proofs.lexer.read.Goals as goal
 
 pub take-requires : goal.take-requires
@@ -24,11 +25,24 @@ returns-in_err-take-in-Ok c =
     let stops = look_stops c.args.text.now c.loop-first.rest.now c.in-Ok.after.now c.in-Ok.piece (state_of c.loop-first.reader) i.2 i.1 f.0 f.1 in
     rw (p.1, p.2) (fails_so _ _ (lexed c.args.text.now) c.in_err-take-in-Ok.ensures (stops c.new-span.result c.up_to.result.now _ c.up_to.ensures c.new-span.ensures))
 
+pub loop-first-init : goal.loop-first-init
+loop-first-init c =
+    let text = c.args.text.now in
+    let b = c.after_blanks-rest.ensures in
+    let at : 0 ≡ length text - length text = omega arith in
+    let same : length text ≤ length text = omega arith in
+    let goes = blanks_go text text c.after_blanks-rest.result.now start (ap (λ n. reads 0 n start (chars text)) at) same b.past b.rest in (
+      search rules,
+      past_le b.past,
+      rw c.new-reader.ensures goes,
+    )
+
 pub loop-first-smaller : goal.loop-first-smaller
 loop-first-smaller c =
     let f = c.in-Ok.ensures in
     let i = c.loop-first.invariant in
-    look_ahead c.args.text.now c.loop-first.rest.now c.in-Ok.after.now c.in-Ok.piece (state_of c.loop-first.reader) i.2 i.1 f.0 f.1
+    let less = look_ahead c.args.text.now c.loop-first.rest.now c.in-Ok.after.now c.in-Ok.piece (state_of c.loop-first.reader) i.2 i.1 f.0 f.1 in
+    omega (arith, less, past_le c.after_blanks-rest-in-Ok.ensures.past)
 
 pub loop-first-preserved : goal.loop-first-preserved
 loop-first-preserved c =
@@ -37,11 +51,14 @@ loop-first-preserved c =
     let after = c.in-Ok.after.now in
     let f = c.in-Ok.ensures in
     let i = c.loop-first.invariant in
+    let b = c.after_blanks-rest-in-Ok.ensures in
     let x = state_of c.loop-first.reader in
-    let le : length after ≤ length text = omega (arith, i.1, look_ahead text rest after c.in-Ok.piece x i.2 i.1 f.0 f.1) in (
+    let y = state_of c.take.new.self in
+    let le : length after ≤ length text = omega (arith, i.1, look_ahead text rest after c.in-Ok.piece x i.2 i.1 f.0 f.1) in
+    let goes = look_goes text rest after c.in-Ok.piece x i.2 i.1 f.0 f.1 c.new-span.result c.up_to.result.now y c.up_to.ensures c.new-span.ensures c.in_ok-take-in-Ok.ensures in (
       search rules,
-      le,
-      look_goes text rest after c.in-Ok.piece x i.2 i.1 f.0 f.1 c.new-span.result c.up_to.result.now (state_of c.take.new.self) c.up_to.ensures c.new-span.ensures c.in_ok-take-in-Ok.ensures,
+      omega (arith, le, past_le b.past),
+      blanks_go text after c.after_blanks-rest-in-Ok.result.now y goes le b.past b.rest,
     )
 
 pub returns-in-Err : goal.returns-in-Err
