@@ -302,7 +302,7 @@ impl TokenStream {
 fn copy_stream(alloc: Global, stream: &TokenStream) -> Result<TokenStream, AllocError>
     ensures { IfOk result (λ s. s ≡ stream.now) }
 {
-    let mut trees = Items::new(alloc);
+    let mut trees = Items::with_capacity(alloc, stream.trees.len())?;
     for tree in stream.trees.as_slice() {
         trees.push(copy_tree(alloc, tree)?)?;
     }
