@@ -11,6 +11,8 @@ mod attr_text_tests;
 #[cfg(test)]
 mod bound_tests;
 #[cfg(test)]
+mod class_tests;
+#[cfg(test)]
 mod closure_tests;
 #[cfg(test)]
 mod container_tests;

@@ -1,4 +1,5 @@
 pub mod Flats
+pub mod Classes
 pub mod Fronts
 pub mod Fills
 pub mod Marks
@@ -24,6 +25,7 @@ pub mod Headlines
 pub mod Took
 pub mod Rows
 pub mod lifetime_laws
+pub mod SeenClasses
 pub mod lit_laws
 pub mod member_laws
 pub mod MarkSpells

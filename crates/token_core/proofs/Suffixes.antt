@@ -10,7 +10,7 @@ use Rattle.token_core.specs.Toks.{Toks, done, word, mark, lit, group, enter, lea
 use Rattle.token_core.specs.Spans.{none}
 use Rattle.token_core.specs.Front.{front, past_ends, settled}
 use Rattle.token_core.specs.Stream.{Stream}
-use Rattle.token_core.specs.Reads.{IsSuffix, all_of, past_word, past_punct, past_lit, past_group, past_enter, past_leave, Follows, IsFork, forked, first_of, as_word, as_punct, as_group, past_next, past_mark, after_mark, after_quote, is_last, is_joint, put_first, three, word_past, next_word, past}
+use Rattle.token_core.specs.Reads.{IsSuffix, all_of, past_word, past_punct, past_lit, past_group, past_enter, past_leave, Follows, IsFork, forked, first_of, as_word, as_punct, as_group, past_next, past_mark, after_mark, after_quote, after_front, after_one, is_last, is_joint, put_first, three, word_past, next_word, past}
 
 pub suffix_trans : {a b c : Toks} → IsSuffix a b → IsSuffix b c → IsSuffix a c
 suffix_trans p all_of = p
@@ -76,6 +76,20 @@ suffix_after_mark p k = by_test (p.ch == 39) (is_joint p.spacing)
     by_test true true = after_quoted k (as_word (front k)) refl
     by_test true false = all_of
     by_test false j = all_of
+
+after_suffix : (t k : Toks) → after_front t ≡ Some k → IsSuffix k t
+after_suffix done k e = cc
+after_suffix (word i r) k e = let f : r ≡ k = cc in past_word i (at_same r k f)
+after_suffix (mark p r) k e = let f : after_mark p r ≡ k = cc in past_punct p (subst (λ z. IsSuffix z r) f (suffix_after_mark p r))
+after_suffix (lit l r) k e = let f : r ≡ k = cc in past_lit l (at_same r k f)
+after_suffix (group d s c r) k e = let f : r ≡ k = cc in past_group d s c (at_same r k f)
+after_suffix (enter s r) k e = cc
+after_suffix (leave r) k e = cc
+
+-- what follows the first tree
+pub suffix_one : (t k : Toks) → after_one t ≡ Some k → IsSuffix k t
+unfolding after_one
+suffix_one t k e = suffix_trans (after_suffix (front t) k e) (suffix_front t)
 
 abbrev Grouped : Type 0
 Grouped = Delimiter × DelimSpan × Toks × Toks

@@ -22,7 +22,7 @@ saw_layer n (o.Literal l) = saw_lit l
 saw_layer n (o.Group g) = saw_delimiter (delimiter_of g) (span_of g) (content_of g) n
 
 abbrev pub saw : Entry → Seen
-saw (Tree x n) = saw_layer n (out-TokenTree x.now)
+saw (Tree k n) = saw_layer n (out-TokenTree k.tree.now)
 saw (End x) = saw_leave
 
 abbrev pub entries_view : List Entry → Toks

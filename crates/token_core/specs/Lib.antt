@@ -8,6 +8,7 @@ pub mod Refusal
 pub mod Pieces
 pub mod Seen
 pub mod Entries
+pub mod Classes
 pub mod Front
 pub mod Stream
 pub mod Rebuilt
@@ -36,4 +37,5 @@ pub mod Lits
 pub mod Members
 pub mod Ranges
 pub mod Lifetimes
+pub mod Sees
 pub mod Spellings

@@ -1,17 +1,21 @@
 //! A flat buffer of entries that refer to the trees of a list, and what stands at its front.
 
 ghost use Rattle.std.specs.Prelude.{◌≡◌, ◌∷◌, ◌++◌, ◌+◌, map, take, drop, option_map, IfOk, IfSome, OnOk};
+ghost use Rattle.token_core.specs.Classes as classes;
 ghost use Rattle.token_core.specs.Groups as groups;
 ghost use Rattle.token_core.specs.Front as spec;
 ghost use Rattle.token_core.specs.Front.{shows, Linked};
 ghost use Rattle.token_core.specs.Trees.{delimiter_of, span_of, content_of, toks};
 ghost use Rattle.token_core.specs.Entries.{saw, saw_layer, entries_view, flat_tree, flat_stream, Nested};
 ghost use Rattle.token_core.specs.Positions.{items, Holds};
+ghost use Rattle.token_core.specs.Sees as sees;
 ghost use Rattle.token_core.specs.Seen.{view, saw_delimiter};
 ghost use Rattle.token_core.specs.declared.tree.TokenTree.{out-TokenTree};
 
+use crate::class::{Class, Classed};
 use crate::cursor::Cursor;
 use crate::place::Place;
+use crate::sees::bounds;
 use crate::tree::{Delimiter, Group, Ident, Literal, Punct, TokenStream, TokenTree};
 use std::alloc::{AllocError, Global};
 use std::marker::Model;
@@ -19,9 +23,21 @@ use std::marker::Model;
 #[derive(Clone, Copy)]
 pub(crate) enum Entry<'a> {
     /// A tree, and of a group the number of entries of its content.
-    Tree(&'a TokenTree, usize),
+    Tree(Classed<'a>, usize),
     /// The end of a group.
     End(&'a TokenTree),
+}
+
+impl<'a> Entry<'a> {
+    #[tactic(auto, using(crate::proofs::Classes::layer_classed))]
+    pub(crate) fn class(&self) -> Class
+        ensures { result ≡ classes.class_of (saw self.now) }
+    {
+        match self {
+            Entry::Tree(classed, _) => classed.class,
+            Entry::End(_) => Class::End,
+        }
+    }
 }
 
 /// Past the bounds of invisible groups at the front.
@@ -39,11 +55,7 @@ fn past_bounds<'a>(entries: &'a [Entry<'a>]) -> &'a [Entry<'a>]
 fn is_bound(entry: &Entry<'_>) -> bool
     ensures { result ≡ spec.is_bound entry.now }
 {
-    match entry {
-        Entry::Tree(TokenTree::Group(group), _) => group.delimiter == Delimiter::None,
-        Entry::Tree(_, _) => false,
-        Entry::End(_) => true,
-    }
+    bounds(entry.class())
 }
 
 /// Past the ends of invisible groups at the front.
@@ -85,7 +97,7 @@ fn shown<'a>(entry: &Entry<'a>, more: &'a [Entry<'a>]) -> Front<'a>
     ensures linked { Linked result }
 {
     match entry {
-        Entry::Tree(tree, n) => tree_front(tree, *n, more),
+        Entry::Tree(classed, n) => tree_front(classed.tree, *n, more),
         Entry::End(_) => Front::Done,
     }
 }
@@ -129,9 +141,24 @@ fn invisible_at<'a>(
     ensures held { IfSome result (λ p. Holds (view (saw entry.now ∷ map saw more.now)) p.1 p.2) }
 {
     match entry {
-        Entry::Tree(TokenTree::Group(group), n) => invisible_group(group, *n, more),
-        Entry::Tree(_, _) => None,
+        Entry::Tree(classed, n) => invisible_tree(classed.tree, *n, more),
         Entry::End(_) => None,
+    }
+}
+
+#[tactic(auto, using(crate::proofs::Fronts::views))]
+fn invisible_tree<'a>(
+    tree: &'a TokenTree,
+    n: usize,
+    more: &'a [Entry<'a>],
+) -> Option<(&'a Group, Place<'a>, Place<'a>)>
+    requires { Nested (saw_layer n (out-TokenTree tree.now) ∷ map saw more.now) }
+    ensures shown { option_map (λ p. (span_of p.0.now, p.1, p.2)) result ≡ groups.as_invisible (view (saw_layer n (out-TokenTree tree.now) ∷ map saw more.now)) }
+    ensures held { IfSome result (λ p. Holds (view (saw_layer n (out-TokenTree tree.now) ∷ map saw more.now)) p.1 p.2) }
+{
+    match tree {
+        TokenTree::Group(group) => invisible_group(group, n, more),
+        _ => None,
     }
 }
 
@@ -177,6 +204,52 @@ pub(crate) fn around<'a>(n: usize, more: &'a [Entry<'a>]) -> (&'a [Entry<'a>], &
     (&more[..end], &more[after..])
 }
 
+/// Past a group's content of `n` entries, and its end.
+fn past_content<'a>(n: usize, more: &'a [Entry<'a>]) -> &'a [Entry<'a>]
+    ensures { result.now ≡ drop (n + 1) more.now }
+{
+    let (_, after) = around(n, more);
+    after
+}
+
+/// What follows a tree of this class.
+fn past<'a>(class: Class, n: usize, more: &'a [Entry<'a>]) -> &'a [Entry<'a>]
+    ensures { result.now ≡ sees.past class n more.now }
+{
+    match class {
+        Class::Open(_) => past_content(n, more),
+        Class::Word(_) => more,
+        Class::Raw => more,
+        Class::Ident => more,
+        Class::Mark(_, _) => more,
+        Class::Literal(_) => more,
+        Class::End => more,
+    }
+}
+
+/// What follows the tree of an entry.
+fn after<'a>(entry: &Entry<'a>, more: &'a [Entry<'a>]) -> &'a [Entry<'a>]
+    ensures { map saw result.now ≡ sees.after_first (saw entry.now ∷ map saw more.now) }
+{
+    match entry {
+        Entry::Tree(classed, n) => past(classed.class, *n, more),
+        Entry::End(_) => more,
+    }
+}
+
+/// The class of the first entry, and what follows its tree.
+#[tactic(auto, using(crate::proofs::Fronts::views))]
+fn stepped<'a>(entries: &'a [Entry<'a>]) -> (Class, &'a [Entry<'a>])
+    ensures class { result.0 ≡ sees.first_class (map saw entries.now) }
+    ensures more { map saw result.1.now ≡ sees.after_first (map saw entries.now) }
+{
+    if entries.len() == 0 {
+        return (Class::End, entries);
+    }
+    let first = &entries[0];
+    (first.class(), after(first, &entries[1..]))
+}
+
 /// The front as it stands.
 #[tactic(auto, using(crate::proofs::Fronts::views))]
 fn settled<'a>(entries: &'a [Entry<'a>]) -> Front<'a>
@@ -198,6 +271,15 @@ impl<'a> Place<'a> {
         ensures linked { Linked result }
     {
         settled(past_bounds(self.entries))
+    }
+
+    /// The class of what stands at the front, and what follows its tree.
+    pub(crate) fn step(&self) -> (Class, Place<'a>)
+        ensures class { result.0 ≡ sees.class_at (spec.front self.now) }
+        ensures more { result.1 ≡ sees.rest_of (spec.front self.now) }
+    {
+        let (class, entries) = stepped(past_bounds(self.entries));
+        (class, Place { entries })
     }
 
     /// The front after the ends of invisible groups, but not within one.
@@ -291,26 +373,27 @@ fn fill_stream<'a>(entries: &mut Vec<Entry<'a>>, stream: &'a TokenStream) -> Res
 fn fill_tree<'a>(entries: &mut Vec<Entry<'a>>, tree: &'a TokenTree) -> Result<(), AllocError>
     ensures { OnOk result (map saw entries.new.items ≡ map saw entries.old.items ++ flat_tree tree.now) }
 {
+    let classed = Classed::of(tree);
     match tree {
         TokenTree::Group(group) => {
             let at = entries.len();
-            entries.push(Entry::Tree(tree, 0))?;
+            entries.push(Entry::Tree(classed, 0))?;
             fill_stream(entries, &group.stream)?;
             let n = entries.len() - at - 1;
-            entries[at] = Entry::Tree(tree, n);
+            entries[at] = Entry::Tree(classed, n);
             entries.push(Entry::End(tree))?;
             Ok(())
         }
         TokenTree::Ident(_) => {
-            entries.push(Entry::Tree(tree, 0))?;
+            entries.push(Entry::Tree(classed, 0))?;
             Ok(())
         }
         TokenTree::Punct(_) => {
-            entries.push(Entry::Tree(tree, 0))?;
+            entries.push(Entry::Tree(classed, 0))?;
             Ok(())
         }
         TokenTree::Literal(_) => {
-            entries.push(Entry::Tree(tree, 0))?;
+            entries.push(Entry::Tree(classed, 0))?;
             Ok(())
         }
     }

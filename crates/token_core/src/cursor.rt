@@ -7,6 +7,7 @@ ghost use Rattle.token_core.specs.Entries.{saw, saw_layer, Nested};
 ghost use Rattle.token_core.specs.declared.tree.TokenTree.{out-TokenTree};
 
 use crate::buffer::{Entry, around};
+use crate::class::Class;
 use crate::tree::TokenTree;
 use std::marker::Model;
 
@@ -85,7 +86,7 @@ fn tree_at<'a>(entry: &Entry<'a>, more: &'a [Entry<'a>]) -> Option<(&'a TokenTre
     ensures { MatchOption result (spec.has_tree (item (saw entry.now) ∷ entries_items more.now) ≡ false) (λ p. item (saw entry.now) ∷ entries_items more.now ≡ tree_items p.0.now ++ p.1) }
 {
     match entry {
-        Entry::Tree(tree, n) => Some((tree, past_tree(tree, *n, more))),
+        Entry::Tree(classed, n) => { Some((classed.tree, past_tree(classed.tree, *n, more))) }
         Entry::End(_) => None,
     }
 }
@@ -109,10 +110,9 @@ fn inside<'a>(entry: &Entry<'a>, more: &'a [Entry<'a>]) -> Option<Cursor<'a>>
     requires { Nested (saw entry.now ∷ map saw more.now) }
     ensures { option_map (λ c. c) result ≡ spec.entered (item (saw entry.now) ∷ entries_items more.now) }
 {
-    match entry {
-        Entry::Tree(TokenTree::Group(_), _) => Some(Cursor { entries: more }),
-        Entry::Tree(_, _) => None,
-        Entry::End(_) => None,
+    match entry.class() {
+        Class::Open(_) => Some(Cursor { entries: more }),
+        _ => None,
     }
 }
 

@@ -1,43 +1,18 @@
 //! Identifiers at the front of a stream.
 
-ghost use Rattle.std.specs.Prelude.{◌≡◌, not, option_map, map, OnErr};
+ghost use Rattle.std.specs.Prelude.{◌≡◌, option_map, OnErr};
 ghost use Rattle.std.specs.Str.{bytes_eq};
-ghost use Rattle.token_core.specs.Keywords as keywords;
+ghost use Rattle.token_core.specs.Marks.{text_of, word_name};
 ghost use Rattle.token_core.specs.Reads as spec;
 ghost use Rattle.token_core.specs.Reads.{Reads, lent, Parses};
 
+use crate::class::{BUILTIN, NAMED};
 use crate::error::Error;
 use crate::parse_stream::ParseStream;
+use crate::sees::{is_any_ident, is_ident, is_word};
 use crate::tree::Ident;
+use crate::word::word_name;
 use std::alloc::Global;
-
-/// The words that are no `Ident`.
-static KEYWORDS: [&str; 52] = [
-    "_", "abstract", "as", "async", "await", "become", "box", "break", "const", "continue",
-    "crate", "do", "dyn", "else", "enum", "extern", "false", "final", "fn", "for", "if", "impl",
-    "in", "let", "loop", "macro", "match", "mod", "move", "mut", "override", "priv", "pub", "ref",
-    "return", "Self", "self", "static", "struct", "super", "trait", "true", "try", "type",
-    "typeof", "unsafe", "unsized", "use", "virtual", "where", "while", "yield",
-];
-
-/// Whether an identifier of this text is a keyword; a raw one never is.
-#[tactic(auto, unfolding(crate::specs::Keywords::is_keyword))]
-pub(crate) fn is_keyword(text: &str) -> bool
-    ensures { result ≡ keywords.is_keyword text.now }
-{
-    is_one_of(&KEYWORDS, text)
-}
-
-fn is_one_of(words: &[&str], text: &str) -> bool
-    ensures { result ≡ keywords.is_one_of (map (λ w. w.now) words.now) text.now }
-{
-    for word in words {
-        if text == *word {
-            return true;
-        }
-    }
-    false
-}
 
 impl<'a> ParseStream<'a> {
     /// Lends the identifier at the front, keywords and `_` too.
@@ -61,11 +36,11 @@ impl<'a> ParseStream<'a> {
         ensures parses { Parses (spec.read_word spec.is_ident spec.ident_name) (lent result) self.old self.new }
         ensures same { OnErr result (self.new ≡ self.old) }
     {
+        if !self.peek_ident() {
+            return Err(self.expected(alloc, "identifier"));
+        }
         match self.next_ident() {
             Some((ident, more)) => {
-                if is_keyword(ident.text()) {
-                    return Err(self.expected(alloc, "identifier"));
-                }
                 *self = more;
                 Ok(ident)
             }
@@ -92,22 +67,17 @@ impl<'a> ParseStream<'a> {
     }
 
     /// Whether an identifier is at the front, keywords and `_` too.
-    #[tactic(auto, unfolding(crate::specs::Reads::sees_word, crate::specs::Reads::next_word))]
     pub fn peek_any_ident(&self) -> bool
         ensures { result ≡ spec.sees_word spec.any_text self.now.rest }
     {
-        self.next_ident().is_some()
+        is_any_ident(self.class())
     }
 
     /// Whether an identifier that is no keyword is at the front.
-    #[tactic(auto, unfolding(crate::specs::Reads::sees_word, crate::specs::Reads::next_word))]
     pub fn peek_ident(&self) -> bool
         ensures { result ≡ spec.sees_word spec.is_ident self.now.rest }
     {
-        match self.next_ident() {
-            Some((ident, _)) => !is_keyword(ident.text()),
-            None => false,
-        }
+        is_ident(self.class())
     }
 
     /// Whether the identifier of this text is at the front.
@@ -125,6 +95,36 @@ impl<'a> ParseStream<'a> {
     pub fn peek_builtin(&self) -> bool
         ensures { result ≡ spec.sees_word (spec.is_text spec.builtin_text) self.now.rest }
     {
-        self.peek_word("builtin")
+        is_word(self.class(), BUILTIN)
+    }
+
+    /// Whether the named word of a number is at the front.
+    #[tactic(auto, using(crate::proofs::SeenClasses::named_seen))]
+    pub(crate) fn peek_named(&self, n: u32) -> bool
+        ensures { result ≡ spec.sees_word (spec.is_text (text_of n)) self.now.rest }
+    {
+        if n < 20 {
+            is_word(self.class(), NAMED[n as usize])
+        } else {
+            self.peek_word("")
+        }
+    }
+
+    /// Lends the named word of a number at the front.
+    #[tactic(auto, using(crate::proofs::Suffixes::words), unfolding(crate::specs::Reads::read_word))]
+    pub(crate) fn read_named(&mut self, alloc: Global, n: u32) -> Result<&'a Ident, Error>
+        ensures parses { Parses (spec.read_word (spec.is_text (text_of n)) (word_name n)) (lent result) self.old self.new }
+        ensures same { OnErr result (self.new ≡ self.old) }
+    {
+        if !self.peek_named(n) {
+            return Err(self.expected(alloc, word_name(n)));
+        }
+        match self.next_ident() {
+            Some((ident, more)) => {
+                *self = more;
+                Ok(ident)
+            }
+            None => Err(self.expected(alloc, word_name(n))),
+        }
     }
 }

@@ -3,6 +3,7 @@
 
 mod boxed;
 mod buffer;
+mod class;
 mod cursor;
 mod error;
 mod ident;
@@ -17,6 +18,7 @@ mod parse_stream;
 mod place;
 mod punctuated;
 mod range;
+mod sees;
 mod span;
 mod text;
 mod to_tokens;

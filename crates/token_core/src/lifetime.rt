@@ -104,9 +104,8 @@ impl Token for Lifetime {
 
     ghost number = { 48 };
 
-    #[tactic(auto, unfolding(crate::specs::Lifetimes::sees_lifetime))]
     fn peek(input: &ParseStream<'_>) -> bool {
-        past_lifetime(input.place()).is_some()
+        input.place().sees_lifetime()
     }
 
     fn number() -> u8 {

@@ -5,14 +5,17 @@ ghost use Rattle.token_core.specs.Lits as spec;
 ghost use Rattle.token_core.specs.declared.lit.Lit.TheVariants as variant;
 ghost use Rattle.token_core.specs.Prints.{Appends};
 ghost use Rattle.token_core.specs.Reads.{Reads, Gives, Fails, as_lit, Parses};
-ghost use Rattle.token_core.specs.Front.{shows};
+ghost use Rattle.token_core.specs.Front.{front, shows};
+ghost use Rattle.token_core.specs.Sees as sees;
 ghost use Rattle.token_core.specs.Trees.{trees};
 
 use crate::buffer::Front;
+use crate::class::{Class, FALSE, TRUE};
 use crate::error::Error;
 use crate::parse::{Parse, Token};
 use crate::parse_stream::ParseStream;
 use crate::place::Place;
+use crate::sees::literal_kind;
 use crate::span::Span;
 use crate::text::Text;
 use crate::to_tokens::{Spanned, ToTokens};
@@ -240,6 +243,30 @@ fn is_number(kind: LitKind) -> bool
     }
 }
 
+/// Whether a literal begins with a tree of this class.
+fn sees_lit(class: Class, more: &Place<'_>) -> bool
+    ensures { result ≡ sees.is_lit_at class more.now }
+{
+    match class {
+        Class::Literal(_) => true,
+        Class::Word(number) => number == TRUE || number == FALSE,
+        Class::Mark(ch, _) => ch == '-' && sees_number(more),
+        Class::Raw => false,
+        Class::Ident => false,
+        Class::Open(_) => false,
+        Class::End => false,
+    }
+}
+
+fn sees_number(at: &Place<'_>) -> bool
+    ensures { result ≡ sees.kind_meets spec.is_number (sees.literal_kind (sees.class_at (front at.now))) }
+{
+    match literal_kind(at.class()) {
+        Some(kind) => is_number(kind),
+        None => false,
+    }
+}
+
 /// The number after a minus, and what follows it.
 fn as_number<'a>(minus: Span, at: Place<'a>) -> Option<(Found<'a>, Place<'a>)>
     ensures { option_map (λ p. (spec.found p.0, p.1)) result ≡ spec.past_number minus (spec.next_lit at.entry) }
@@ -328,9 +355,10 @@ impl Token for Lit {
 
     ghost number = { 49 };
 
-    #[tactic(auto, unfolding(crate::specs::Lits::sees_lit))]
+    #[tactic(auto, using(crate::proofs::SeenClasses::lit_seen))]
     fn peek(input: &ParseStream<'_>) -> bool {
-        past_lit(input.place()).is_some()
+        let (class, more) = input.place().step();
+        sees_lit(class, &more)
     }
 
     fn number() -> u8 {
@@ -433,9 +461,12 @@ impl Token for LitStr {
 
     ghost number = { 50 };
 
-    #[tactic(auto, unfolding(crate::specs::Lits::sees_str))]
+    #[tactic(auto, using(crate::proofs::SeenClasses::str_seen))]
     fn peek(input: &ParseStream<'_>) -> bool {
-        past_str(input.place()).is_some()
+        match literal_kind(input.class()) {
+            Some(kind) => is_str(kind),
+            None => false,
+        }
     }
 
     fn number() -> u8 {

@@ -8,6 +8,7 @@ use crate::error::Error;
 use crate::lit::as_literal;
 use crate::parse::Parse;
 use crate::parse_stream::ParseStream;
+use crate::sees::literal_kind;
 use crate::span::Span;
 use crate::to_tokens::ToTokens;
 use crate::tree::{Ident, LitKind, Literal, TokenStream, TokenTree};
@@ -147,12 +148,12 @@ impl Parse for Index {
 }
 
 /// Whether an Int literal is at the front.
-#[tactic(auto, unfolding(crate::specs::Members::sees_int))]
+#[tactic(auto, using(crate::proofs::SeenClasses::int_seen))]
 fn peek_int(input: &ParseStream<'_>) -> bool
     ensures { result ≡ spec.sees_int input.now.rest }
 {
-    match as_literal(input.place().next()) {
-        Some((literal, _)) => is_int(literal.kind),
+    match literal_kind(input.class()) {
+        Some(kind) => is_int(kind),
         None => false,
     }
 }

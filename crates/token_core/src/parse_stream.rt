@@ -5,16 +5,19 @@ ghost use Rattle.token_core.specs.Reads as spec;
 ghost use Rattle.token_core.specs.Reads.{Reads, Follows, Parses};
 ghost use Rattle.token_core.specs.Positions.{items, Holds};
 ghost use Rattle.token_core.specs.Refusal.{Made, fixed};
+ghost use Rattle.token_core.specs.Sees.{class_at};
 ghost use Rattle.token_core.specs.Stream.{started};
 ghost use Rattle.token_core.specs.Trees.{content_of, delimiter_of, span_of, toks};
 ghost use Rattle.token_core.specs.Front.{front, settled, shows, past_ends, Linked};
 ghost use Rattle.std.specs.Str.{bytes_eq};
 
 use crate::buffer::{Front, TokenBuffer};
+use crate::class::Class;
 use crate::cursor::Cursor;
 use crate::error::{Error, ErrorKind};
 use crate::mark::Spans;
 use crate::place::{Place, Placed};
+use crate::sees::{is_end, is_group};
 use crate::span::{DelimSpan, Span};
 use crate::text::Text;
 use crate::tree::{Delimiter, Group, Ident, Punct, Spacing, TokenStream};
@@ -157,6 +160,13 @@ impl<'a> ParseStream<'a> {
         self.placed.place()
     }
 
+    /// The class of the first token.
+    pub(crate) fn class(&self) -> Class
+        ensures { result ≡ class_at (front self.now.rest) }
+    {
+        self.place().class()
+    }
+
     /// The span of the tree just before the position, a group's by its closing delimiter, and 0 to 0 where there is none.
     pub fn prev_span(&self) -> Span
         ensures { result ≡ self.now.last }
@@ -179,17 +189,10 @@ impl<'a> ParseStream<'a> {
     }
 
     /// Whether nothing but empty invisible groups is left.
-    #[tactic(auto, unfolding(crate::specs::Reads::is_done))]
     pub fn is_empty(&self) -> bool
         ensures { result ≡ spec.is_done self.now.rest }
     {
-        match self.place().next() {
-            Front::Done => true,
-            Front::Word(_, _) => false,
-            Front::Mark(_, _) => false,
-            Front::Literal(_, _) => false,
-            Front::Group(_, _, _) => false,
-        }
+        is_end(self.class())
     }
 
     /// The span of the first token, and where none is left the scope.
@@ -327,25 +330,20 @@ impl<'a> ParseStream<'a> {
     }
 
     /// What follows the first tree; a lifetime counts as one, a group too.
-    #[tactic(auto, unfolding(crate::specs::Reads::after_one))]
     pub(crate) fn after_one(&self) -> Option<ParseStream<'a>>
         ensures { option_map (λ s. s.rest) result ≡ spec.after_one self.now.rest }
     {
-        match self.place().next() {
-            Front::Done => None,
-            Front::Word(_, more) => Some(self.at(more)),
-            Front::Mark(punct, more) => Some(self.at(after_mark(punct, more))),
-            Front::Literal(_, more) => Some(self.at(more)),
-            Front::Group(_, _, more) => Some(self.at(more)),
+        match self.place().after_one() {
+            Some(more) => Some(self.at(more)),
+            None => None,
         }
     }
 
     /// Whether a mark of these characters is at the front.
-    #[tactic(auto, unfolding(crate::specs::Reads::sees_mark))]
     pub fn peek_mark(&self, marks: &[char]) -> bool
         ensures { result ≡ spec.sees_mark marks.now self.now.rest }
     {
-        past_mark(self.place(), marks, 0).is_some()
+        self.place().sees_mark(marks)
     }
 
     /// Reads a mark of these characters, which refusals name so.
@@ -379,14 +377,10 @@ impl<'a> ParseStream<'a> {
     }
 
     /// Whether a group of this delimiter is at the front.
-    #[tactic(auto, unfolding(crate::specs::Reads::sees_group))]
     pub fn peek_group(&self, delimiter: Delimiter) -> bool
         ensures { result ≡ spec.sees_group delimiter self.now.rest }
     {
-        match as_group(self.place().next()) {
-            Some((group, _, _)) => group.delimiter() == delimiter,
-            None => false,
-        }
+        is_group(self.class(), delimiter)
     }
 
     /// The spans of the group of this delimiter at the front, which refusals name so, and a child stream of its content.
@@ -459,19 +453,6 @@ impl<'a> ParseStream<'a> {
             Some((ident, more)) => Some((ident, self.past(more, ident.span))),
             None => None,
         }
-    }
-}
-
-fn after_mark<'a>(punct: Punct, more: Place<'a>) -> Place<'a>
-    ensures { result ≡ spec.after_mark punct more.entry }
-{
-    if punct.ch == '\'' && punct.spacing == Spacing::Joint {
-        match as_word(more.next()) {
-            Some((_, after)) => after,
-            None => more,
-        }
-    } else {
-        more
     }
 }
 

@@ -23,7 +23,7 @@ use crate::to_tokens::{DefaultToken, ToTokens};
 use crate::token_names::{mark_number, word_number};
 use crate::tree::{Delimiter, Group, Ident, Punct, Spacing, TokenStream, TokenTree};
 pub use crate::word::Word;
-use crate::word::{word_name, word_text};
+use crate::word::word_text;
 use std::alloc::{AllocError, Global};
 
 /// `!`
@@ -250,7 +250,7 @@ impl<const N: u32> Token for Word<N> {
     ghost number = { names.word_number N };
 
     fn peek(input: &ParseStream<'_>) -> bool {
-        input.peek_word(word_text(N))
+        input.peek_named(N)
     }
 
     #[tactic(auto, using(crate::proofs::TokenNames::word_named))]
@@ -266,7 +266,7 @@ impl<const N: u32> Parse for Word<N> {
 
     #[tactic(auto, using(crate::specs::Reads::no_promise))]
     fn parse(alloc: Global, input: &mut ParseStream<'_>) -> Result<Word<N>, Error> {
-        let ident = input.read_word(alloc, word_text(N), word_name(N))?;
+        let ident = input.read_named(alloc, N)?;
         Ok(Word { span: ident.span })
     }
 }

@@ -7,7 +7,8 @@ use Rattle.token_core.specs.declared.tree.TokenTree.TheOpen as o
 use Rattle.token_core.specs.Seen.{saw_leave, saw_delimiter}
 use Rattle.token_core.specs.Entries.{saw, saw_layer, flat_tree, flat_stream, all_of}
 use Rattle.token_core.specs.Trees.{delimiter_of, span_of, content_of}
-use Rattle.token_core.specs.declared.tree.TokenTree.{out-TokenTree}
+use denote.Ref.{Bor}
+use Rattle.token_core.specs.declared.tree.TokenTree.{TokenTree, out-TokenTree}
 use Rattle.token_core.specs.declared.tree.TokenTree.TheVariants.{outs-Ident, outs-Punct, outs-Literal, outs-Group}
 use Rattle.token_core.proofs.Flats.{flat_stream_is, flat_tree_is, flat_group_is, tree_flat}
 use Rattle.token_core.proofs.Fills.{all_of_more, group_filled, group_count}
@@ -51,20 +52,21 @@ fill_tree-returns-in_ok-push-in-Group-2 t c =
     let old = c.args.entries.now.items in
     let filled = c.fill_stream.new.entries.items in
     let inner = flat_stream (out-Group g).stream in
+    let k = c.of-classed.result in
     let u : out-TokenTree c.args.tree.now ≡ o.Group g = ap out-TokenTree c.in-Group.is ∙ outs-Group g in
-    let p : c.push.new.self.items ≡ old ++ Tree c.args.tree 0 ∷ [] = search rules in
+    let p : c.push.new.self.items ≡ old ++ Tree k 0 ∷ [] = search rules in
     let s : flat_stream g.stream ≡ inner = ap (λ r. flat_stream r.stream) (sym (outs-Group' g)) in
-    let h : map saw filled ≡ map saw (old ++ Tree c.args.tree 0 ∷ []) ++ inner =
-    c.in_ok-fill_stream-in-Group.ensures ∙ ap (λ x. map saw x ++ flat_stream g.stream) p ∙ ap (λ x. map saw (old ++ Tree c.args.tree 0 ∷ []) ++ x) s in
+    let h : map saw filled ≡ map saw (old ++ Tree k 0 ∷ []) ++ inner =
+    c.in_ok-fill_stream-in-Group.ensures ∙ ap (λ x. map saw x ++ flat_stream g.stream) p ∙ ap (λ x. map saw (old ++ Tree k 0 ∷ []) ++ x) s in
     let at : c.len-at.result ≡ length old = search rules in
     let len : c.len.result ≡ length filled = search rules in
-    let new : c.push-in-Group.new.self.items ≡ set filled c.len-at.result (Tree c.args.tree (c.len.result - c.len-at.result - 1)) ++ End c.args.tree ∷ [] = search rules in
-    let e1 = Tree c.args.tree (c.len.result - c.len-at.result - 1) in
-    let count : c.len.result - c.len-at.result - 1 ≡ length inner = rw (at, len) (group_count old filled (Tree c.args.tree 0) e1 (End c.args.tree) inner h) in
+    let new : c.push-in-Group.new.self.items ≡ set filled c.len-at.result (Tree k (c.len.result - c.len-at.result - 1)) ++ End c.args.tree ∷ [] = search rules in
+    let e1 = Tree k (c.len.result - c.len-at.result - 1) in
+    let count : c.len.result - c.len-at.result - 1 ≡ length inner = rw (at, len) (group_count old filled (Tree k 0) e1 (End c.args.tree) inner h) in
     let seen : saw e1 ≡ saw_delimiter (delimiter_of g) (span_of g) (content_of g) (length inner) =
-    ap (saw_layer (c.len.result - c.len-at.result - 1)) u ∙ ap (saw_delimiter (delimiter_of g) (span_of g) (content_of g)) count in
+    ap (λ (t : Bor TokenTree). saw_layer (c.len.result - c.len-at.result - 1) (out-TokenTree t.now)) c.of-classed.ensures ∙ ap (saw_layer (c.len.result - c.len-at.result - 1)) u ∙ ap (saw_delimiter (delimiter_of g) (span_of g) (content_of g)) count in
     let whole : flat_tree c.args.tree.now ≡ saw_delimiter (delimiter_of g) (span_of g) (content_of g) (length inner) ∷ (inner ++ saw_leave ∷ []) =
     flat_tree_is c.args.tree.now ∙ ap tree_flat u ∙ flat_group_is g in
     ap (λ x. map saw x) new ∙ ap (λ i. map saw (set filled i e1 ++ End c.args.tree ∷ [])) at
-    ∙ group_filled old filled (Tree c.args.tree 0) e1 (End c.args.tree) inner h
+    ∙ group_filled old filled (Tree k 0) e1 (End c.args.tree) inner h
     ∙ ap (λ x. map saw old ++ (x ∷ (inner ++ saw_leave ∷ []))) seen ∙ ap (λ x. map saw old ++ x) (sym whole)
