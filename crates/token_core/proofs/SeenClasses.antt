@@ -32,7 +32,8 @@ use Rattle.token_core.specs.Trees.{delimiter_of, span_of, content_of}
 use Rattle.token_core.specs.declared.buffer.Entry.{Entry}
 use Rattle.token_core.specs.declared.buffer.Entry.TheVariants.{Tree, End}
 use Rattle.token_core.specs.declared.tree.TokenTree.{out-TokenTree}
-use Rattle.token_core.specs.Entries.{Layer, saw, saw_layer, Nested}
+use Rattle.token_core.specs.Groups.{as_invisible, is_there}
+use Rattle.token_core.specs.Entries.{Layer, saw, saw_layer, entries_view, Nested}
 use Rattle.token_core.specs.Positions.{Item, item, entered}
 use Rattle.token_core.specs.Front as f
 use Rattle.token_core.specs.declared.tree.Ident as tree
@@ -166,6 +167,24 @@ end_seen (leave k) = end_seen k
 
 -- ---- openings
 
+delimiter_invisible : (b : Delimiter) (s : DelimSpan) (c : TokenStream) (n : ℕ) (l : List Seen) →
+    is_group (class_of (saw_delimiter b s c n)) d.None ≡ is_there (as_invisible (view (saw_delimiter b s c n ∷ l)))
+delimiter_invisible d.Parenthesis s c n l = rw view-group refl
+delimiter_invisible d.Brace s c n l = rw view-group refl
+delimiter_invisible d.Bracket s c n l = rw view-group refl
+delimiter_invisible d.None s c n l = rw view-enter refl
+
+layer_invisible : (n : ℕ) (x : Layer) (l : List Seen) → is_group (class_of (saw_layer n x)) d.None ≡ is_there (as_invisible (view (saw_layer n x ∷ l)))
+layer_invisible n (o.Ident i) l = no_text (λ c. is_group c d.None) i.text (λ m. refl) refl refl ∙ sym (ap (λ t. is_there (as_invisible t)) (view-word i l))
+layer_invisible n (o.Punct p) l = rw view-mark refl
+layer_invisible n (o.Literal k) l = rw view-lit refl
+layer_invisible n (o.Group g) l = delimiter_invisible (delimiter_of g) (span_of g) (content_of g) n l
+
+pub invisible_first : (l : List Entry) → is_group (first_class (map saw l)) d.None ≡ is_there (as_invisible (entries_view l))
+invisible_first [] = rw view-nil refl
+invisible_first (Tree k n ∷ l) = layer_invisible n (out-TokenTree k.tree.now) (map saw l)
+invisible_first (End x ∷ l) = rw view-leave refl
+
 text_opens : (t : Bytes) (b : Delimiter) → text_class t ≡ Open b → ⊥
 text_opens t b e = false≢true (sym (ap is_any_ident e) ∙ any_text_class t)
 
@@ -205,6 +224,26 @@ module _ (test : Bytes → Bool) (s : Stream) (e : Refusal) where
       at (Some p) h g =
           let f : ◌≡◌ {A = tree.Ident × Stream} (p.0, past s p.1 p.0.span) (w, t) = cc in
           ap (λ b. if b then Ok (p.0, past s p.1 p.0.span) else Err e) h ∙ ap Ok f
+
+pub mark_refused : (cs : List ℕ) (s : Stream) (e : Refusal) → sees_mark cs s.rest ≡ false → reads.goes_on (λ (m : Spans). m.third) e s (past_mark cs s.rest) ≡ Err e
+unfolding sees_mark
+mark_refused cs s e = at (past_mark cs s.rest)
+  where
+    at : (o : Option (Spans × Toks)) → is_some o ≡ false → reads.goes_on (λ (m : Spans). m.third) e s o ≡ Err e
+    at None h = refl
+    at (Some p) h = cc
+
+pub group_refused : (b : Delimiter) (s : Stream) (e : Refusal) → sees_group b s.rest ≡ false → reads.opened b e s (as_group (front s.rest)) ≡ Err e
+unfolding sees_group
+group_refused b s e = at (as_group (front s.rest))
+  where
+    at : (o : Option (Delimiter × DelimSpan × Toks × Toks)) → group_meets b o ≡ false → reads.opened b e s o ≡ Err e
+    at None h = refl
+    at (Some p) h = ap (λ z. if z then Ok ((p.1, reads.inside s p.1 p.2 p.3), past s p.3 p.1.closing) else Err e) h
+
+pub group_same : (b : Delimiter) (l : Toks) (p : Delimiter × DelimSpan × Toks × Toks) → sees_group b l ≡ true → as_group (front l) ≡ Some p → reads.same_delimiter p.0 b ≡ true
+unfolding sees_group
+group_same b l p h e = sym (ap (group_meets b) e) ∙ h
 
 -- ---- the word of a number
 

@@ -1,5 +1,5 @@
 -- Where a read leaves a stream.
-use Rattle.std.proofs.Common.{◌≡◌, ℕ, Bool, true, false, List, [], ◌∷◌, Option, Some, None, refl, sym, ◌∙◌, ap, subst, ◌==◌, if◌then◌else◌}
+use Rattle.std.proofs.Common.{◌≡◌, ℕ, Bool, true, false, List, [], ◌∷◌, Option, Some, None, refl, ◌∙◌, ap, subst, ◌==◌, if◌then◌else◌}
 use Rattle.token_core.specs.declared.tree.Delimiter.{Delimiter}
 use Rattle.token_core.specs.declared.span.DelimSpan.{DelimSpan}
 use Rattle.token_core.specs.declared.tree.Ident.{Ident}
@@ -60,10 +60,6 @@ suffix_past_ends (lit l k) = all_of
 suffix_past_ends (group d s c k) = all_of
 suffix_past_ends (enter s k) = all_of
 suffix_past_ends (leave k) = past_leave (suffix_past_ends k)
-
--- what follows the token at the front
-pub suffix_past : (t x k : Toks) → front t ≡ x → IsSuffix k x → IsSuffix k t
-suffix_past t x k e p = suffix_trans (subst (λ z. IsSuffix k z) (sym e) p) (suffix_front t)
 
 after_quoted : (k : Toks) (o : Option (Ident × Toks)) → as_word (front k) ≡ o → IsSuffix (after_quote k o) k
 after_quoted k None e = all_of

@@ -15,7 +15,7 @@ ghost use Rattle.token_core.specs.declared.tree.TokenTree.{out-TokenTree};
 use crate::class::{Class, Classed};
 use crate::cursor::Cursor;
 use crate::place::Place;
-use crate::sees::bounds;
+use crate::sees::{bounds, is_group};
 use crate::tree::{Delimiter, Group, Ident, Literal, Punct, TokenStream, TokenTree};
 use std::alloc::{AllocError, Global};
 use std::marker::Model;
@@ -280,6 +280,14 @@ impl<'a> Place<'a> {
     {
         let (class, entries) = stepped(past_bounds(self.entries));
         (class, Place { entries })
+    }
+
+    /// Whether an invisible group is at the front, after the ends of others.
+    pub(crate) fn sees_invisible(&self) -> bool
+        ensures { result ≡ groups.sees_invisible self.now }
+    {
+        let (class, _) = stepped(past_ends(self.entries));
+        is_group(class, Delimiter::None)
     }
 
     /// The front after the ends of invisible groups, but not within one.

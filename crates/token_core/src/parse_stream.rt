@@ -352,6 +352,9 @@ impl<'a> ParseStream<'a> {
         ensures parses { Parses (spec.read_mark marks.now name.now) result self.old self.new }
         ensures same { OnErr result (self.new ≡ self.old) }
     {
+        if !self.peek_mark(marks) {
+            return Err(self.expected(alloc, name));
+        }
         match past_mark(self.place(), marks, 0) {
             Some((spans, more)) => {
                 *self = self.past(more, spans.third);
@@ -394,11 +397,11 @@ impl<'a> ParseStream<'a> {
         ensures parses { Parses (spec.open_group delimiter name.now) result self.old self.new }
         ensures same { OnErr result (self.new ≡ self.old) }
     {
+        if !self.peek_group(delimiter) {
+            return Err(self.expected(alloc, name));
+        }
         match as_group(self.place().next()) {
             Some((group, inside, after)) => {
-                if group.delimiter() != delimiter {
-                    return Err(self.expected(alloc, name));
-                }
                 let span = group.delim_span();
                 let child = self.inside(span, inside, &after);
                 *self = self.past(after, span.close());

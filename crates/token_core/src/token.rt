@@ -466,9 +466,8 @@ impl Token for GroupToken {
 
     ghost number = { 54 };
 
-    #[tactic(auto, unfolding(crate::specs::Groups::sees_invisible))]
     fn peek(input: &ParseStream<'_>) -> bool {
-        input.place().next_invisible().is_some()
+        input.place().sees_invisible()
     }
 
     fn number() -> u8 {
