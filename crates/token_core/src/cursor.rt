@@ -86,7 +86,7 @@ fn tree_at<'a>(entry: &Entry<'a>, more: &'a [Entry<'a>]) -> Option<(&'a TokenTre
     ensures { MatchOption result (spec.has_tree (item (saw entry.now) ∷ entries_items more.now) ≡ false) (λ p. item (saw entry.now) ∷ entries_items more.now ≡ tree_items p.0.now ++ p.1) }
 {
     match entry {
-        Entry::Tree(classed, n) => { Some((classed.tree, past_tree(classed.tree, *n, more))) }
+        Entry::Tree(classed, n) => Some((classed.tree, past_tree(classed.tree, *n, more))),
         Entry::End(_) => None,
     }
 }
