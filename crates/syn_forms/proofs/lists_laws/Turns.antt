@@ -1,15 +1,12 @@
--- Values joined by marks are read turn by turn, of any number of turns that are left. What was refused in a step is refused.
-use Rattle.std.specs.Prelude.{◌≢◌, IsErr, IsErrAnd}
-use Rattle.std.proofs.Common.{◌≡◌, ℕ, zero, suc, ◌<◌, ◌≤◌, ◌+◌, Bool, true, false, List, length, [], ◌∷◌, ◌++◌, Result, Ok, Err, refl, sym, ◌∙◌, ap, subst, arith, if◌then◌else◌, append_assoc, append-nil}
-use Rattle.std.proofs.lemmas.List.{length-append}
+-- Values joined by marks are read turn by turn, of any number of turns that are left.
+use Rattle.std.proofs.Common.{◌≡◌, ℕ, zero, suc, ◌<◌, ◌≤◌, Bool, true, false, [], ◌∷◌, ◌++◌, Ok, Err, refl, sym, ◌∙◌, ap, arith, if◌then◌else◌, append_assoc, append-nil}
 use Rattle.std.proofs.Math.Path.{fun_ext}
-use Rattle.token_core.specs.declared.error.ErrorKind.TheVariants.{OutOfMemory}
-use Rattle.token_core.specs.Refusal.{Refusal, out_of_memory}
+use Rattle.token_core.specs.Refusal.{Refusal}
 use Rattle.token_core.specs.Stream.{Stream}
 use Rattle.token_core.specs.Toks.{Toks}
-use Rattle.token_core.specs.Reads.{Reader, Reads, Outcome, and_then, ◌>>=◌, ◌<$>◌, pure}
+use Rattle.token_core.specs.Reads.{Reader, Outcome, and_then, ◌>>=◌, ◌<$>◌, pure}
 use Rattle.token_core.specs.Loops.{size, Many, listed_from, listed, none, one, put, after}
-use Rattle.syn_path.proofs.path_laws.Turns.{stuck_by}
+pub use Rattle.syn_path.proofs.Steps.{stopped, passed_on, told_by, no_memory, put_whole, marked_whole, none_yet_at}
 
 after-after : {A P : Type 0} (v : Many A P) (x : A) (p : P) (o : Outcome (Many A P)) → after v (and_then o (λ rest. pure (x ∷ rest.0, p ∷ rest.1))) ≡ after (v.0 ++ x ∷ [], v.1 ++ p ∷ []) o
 after-after v x p (Err e) = refl
@@ -26,51 +23,7 @@ itself_at (Err e) = refl
 pub itself : {A : Type 0} (p : Reader A) → (λ x. x) <$> p ≡ p
 itself p = fun_ext (λ s. itself_at (p s))
 
--- ---- steps
-
--- a step that is refused
-pub stopped : {A B : Type 0} {o : Outcome A} (f : A → Reader B) (e : Refusal) → o ≡ Err e → and_then o f ≡ Err e
-stopped f e h = ap (λ z. and_then z f) h
-
-refusal_is : {A : Type 0} (r : Result A Refusal) (e : Refusal) → IsErr r × IsErrAnd r (λ z. z ≡ e) → r ≡ Err e
-refusal_is (Ok x) e h = absurd h.1
-refusal_is (Err d) e h = ap (λ z. Err z) h.1
-
--- what refuses a step refuses the whole, and is answered as it is
-pub passed_on : {A B : Type 0} (o : Outcome A) (p : Outcome B) (r : Result A Refusal) (t : Stream) (e : Refusal) → IsErr r × IsErrAnd r (λ z. z ≡ e) → (e.kind ≢ OutOfMemory → p ≡ Err e) → (p ≡ Err e → o ≡ Err e) → Reads o r t
-passed_on o p r t e h k f = stuck_by p o r t e (refusal_is r e h) k f
-
--- what the same read tells
-pub told_by : {A : Type 0} {o p : Outcome A} (r : Result A Refusal) (t : Stream) → o ≡ p → Reads p r t → Reads o r t
-told_by r t e h = subst (λ z. Reads z r t) (sym e) h
-
--- for want of memory anything may be refused
-pub no_memory : {A : Type 0} (o : Outcome A) (r : Result A Refusal) (t : Stream) → IsErr r × IsErrAnd r (λ z. z ≡ out_of_memory) → Reads o r t
-no_memory o (Ok x) t h = absurd h.1
-no_memory o (Err d) t h = λ k. absurd (k (ap (λ (z : Refusal). z.kind) h.1))
-
--- ---- how many values and marks there are
-
-pub put_whole : {A P : Type 0} (xs : List A) (ps : List P) (x : A) (v : Many A P) → v ≡ (xs ++ x ∷ [], ps) → length xs ≡ length ps → length v.0 ≡ length v.1 + 1
-put_whole {A} {P} xs ps x v e h =
-    let a = ap (λ (z : Many A P). length z.0) e in
-    let b = ap (λ (z : Many A P). length z.1) e in
-    let d = length-append xs (x ∷ []) in
-    omega (arith, a, b, d, h)
-
-pub marked_whole : {A P : Type 0} (xs : List A) (ps : List P) (c : P) (v : Many A P) → v ≡ (xs, ps ++ c ∷ []) → length xs ≡ length ps + 1 → length v.0 ≡ length v.1
-marked_whole {A} {P} xs ps c v e h =
-    let a = ap (λ (z : Many A P). length z.0) e in
-    let b = ap (λ (z : Many A P). length z.1) e in
-    let d = length-append ps (c ∷ []) in
-    omega (arith, a, b, d, h)
-
 -- ---- turns
-
--- before the first value
-pub none_yet_at : {A P : Type 0} (o : Outcome (Many A P)) → after ([], []) o ≡ o
-none_yet_at (Ok p) = refl
-none_yet_at (Err e) = refl
 
 pub ruleset none_yet = (none_yet_at)
 
