@@ -1,12 +1,14 @@
--- What was refused in a step is refused, and how many values and marks there are after one more.
+-- What was refused in a step is refused; how many values and marks there are after one more; a token that may be there.
 use Rattle.std.specs.Prelude.{◌≢◌, IsErr, IsErrAnd}
-use Rattle.std.proofs.Common.{◌≡◌, ◌+◌, List, length, [], ◌∷◌, ◌++◌, Result, Ok, Err, refl, sym, ap, subst, arith}
+use Rattle.std.proofs.Common.{◌≡◌, ◌+◌, Bool, true, false, List, length, [], ◌∷◌, ◌++◌, Option, Some, None, Result, Ok, Err, refl, sym, ap, subst, arith}
 use Rattle.std.proofs.lemmas.List.{length-append}
 use Rattle.token_core.specs.declared.error.ErrorKind.TheVariants.{OutOfMemory}
 use Rattle.token_core.specs.Loops.{Many, after}
-use Rattle.token_core.specs.Reads.{Reader, Reads, Outcome, and_then}
+use Rattle.token_core.specs.Reads.{Fails, Gives, OptionReads, OptionRefuses, Reader, Reads, Outcome, and_then, optional}
 use Rattle.token_core.specs.Refusal.{Refusal, out_of_memory}
 use Rattle.token_core.specs.Stream.{Stream}
+use Rattle.token_core.specs.Toks.{Toks}
+use Rattle.token_core.proofs.Steps.{chosen, link}
 use Rattle.syn_path.proofs.path_laws.Turns.{stuck_by}
 
 -- a step that is refused
@@ -50,3 +52,12 @@ marked_whole {A} {P} xs ps c v e h =
 pub none_yet_at : {A P : Type 0} (o : Outcome (Many A P)) → after ([], []) o ≡ o
 none_yet_at (Ok p) = refl
 none_yet_at (Err e) = refl
+
+-- ---- a token that may be there
+
+pub optional_read : {A : Type 0} (sees : Toks → Bool) (p : Reader A) (s t : Stream) (o : Option A) → OptionReads sees (Gives p) s o t → optional sees p s ≡ Ok (o, t)
+optional_read sees p s t None h = chosen (sees s.rest) false _ _ s _ h.0 (ap (λ z. Ok (None, z)) (sym h.1))
+optional_read sees p s t (Some a) h = chosen (sees s.rest) true _ _ s _ h.0 (link _ h.1 refl)
+
+pub optional_refused : {A : Type 0} (sees : Toks → Bool) (p : Reader A) (s : Stream) (e : Refusal) → OptionRefuses sees (Fails p) s e → optional sees p s ≡ Err e
+optional_refused sees p s e h = chosen (sees s.rest) true _ _ s _ h.0 (stopped _ e h.1)

@@ -1,24 +1,13 @@
 -- Steps of the reads of patterns: a token that may be there, and what braces hold.
-use Rattle.std.proofs.Common.{◌≡◌, Bool, true, false, Option, Some, None, Ok, Err, refl, sym, ◌∙◌, ap}
+use Rattle.std.proofs.Common.{◌≡◌, Ok, Err, refl, ◌∙◌, ap}
 use Rattle.token_core.specs.declared.span.DelimSpan.{DelimSpan}
 use Rattle.token_core.specs.declared.token.Brace.{Brace}
 use Rattle.token_core.specs.declared.tree.Delimiter.TheVariants as d
 use Rattle.token_core.specs.Groups as groups
-use Rattle.token_core.specs.Reads.{Fails, Gives, OptionReads, OptionRefuses, Outcome, Reader, ◌<$>◌, and_then, closing, finished, in_group, open_group, optional, pure}
+use Rattle.token_core.specs.Reads.{Outcome, Reader, ◌<$>◌, and_then, closing, finished, in_group, open_group, pure}
 use Rattle.token_core.specs.Refusal.{Refusal}
 use Rattle.token_core.specs.Stream.{Stream}
-use Rattle.token_core.specs.Toks.{Toks}
-use Rattle.token_core.proofs.Steps.{chosen, link}
-use Rattle.syn_forms.proofs.lists_laws.Turns.{stopped}
-
--- ---- a token that may be there
-
-pub optional_read : {A : Type 0} (sees : Toks → Bool) (p : Reader A) (s t : Stream) (o : Option A) → OptionReads sees (Gives p) s o t → optional sees p s ≡ Ok (o, t)
-optional_read sees p s t None h = chosen (sees s.rest) false _ _ s _ h.0 (ap (λ z. Ok (None, z)) (sym h.1))
-optional_read sees p s t (Some a) h = chosen (sees s.rest) true _ _ s _ h.0 (link _ h.1 refl)
-
-pub optional_refused : {A : Type 0} (sees : Toks → Bool) (p : Reader A) (s : Stream) (e : Refusal) → OptionRefuses sees (Fails p) s e → optional sees p s ≡ Err e
-optional_refused sees p s e h = chosen (sees s.rest) true _ _ s _ h.0 (stopped _ e h.1)
+pub use Rattle.syn_path.proofs.Steps.{optional_read, optional_refused}
 
 -- ---- braces
 

@@ -1,0 +1,73 @@
+use Rattle.std.proofs.Common.{true, false, Ok, length, refl, sym, ap, ◌∙◌, arith}
+use Rattle.token_core.proofs.Suffixes.{follows_trans}
+use Rattle.token_core.proofs.Steps.{chosen, link}
+use Rattle.token_core.specs.Groups as groups
+use Rattle.token_core.specs.Reads.{open_group}
+use Rattle.token_core.specs.declared.tree.Delimiter.TheVariants.{Bracket}
+use Rattle.syn_forms.proofs.groups_laws.Inside.{not_opened, read_inside, refused_inside}
+use Rattle.syn_forms.specs.nested.Below.{held}
+use Rattle.syn_forms.specs.groups.Reading.{bracket_content}
+use Rattle.syn_forms.specs.declared.groups.InBrackets.TheVariants.{Element, Counted}
+use Rattle.syn_forms.proofs.lists_laws.Turns.{passed_on, stopped}
+use Rattle.syn_forms.proofs.nested.Nested.slice_or_array.Goals as goal
+
+pub returns-in_err-bracket_token : goal.returns-in_err-bracket_token
+returns-in_err-bracket_token g c =
+    let e = c.in_err-bracket_token.field-0.0 in
+    record {
+      parses = (
+        passed_on _ _ _ _ e c.from_residual.ensures c.in_err-bracket_token.ensures.parses.0 (λ h. not_opened groups.bracket (open_group Bracket groups.bracket_name) (λ k x. (k, x)) (bracket_content g.E.Value.reads.len (held g.T.Tree.read (length c.args.self.now.begin) c.args.place)) _ e h),
+        c.open_brackets.ensures.parses.1,
+      );
+    }
+
+pub boxed-requires-clause-nests : goal.boxed-requires-clause-nests
+boxed-requires-clause-nests g c = c.requires.nests
+
+pub boxed-requires-clause-few : goal.boxed-requires-clause-few
+boxed-requires-clause-few g c =
+    let few = c.requires.few in
+    let less = c.in_ok-bracket_token.ensures.inside in
+    omega (arith, few, less)
+
+pub returns-in_err-elem : goal.returns-in_err-elem
+unfolding bracket_content
+returns-in_err-elem g c =
+    let e = c.in_err-elem.field-0.0 in
+    record {
+      parses = (
+        passed_on _ _ _ _ e c.from_residual-in_err-elem.ensures c.in_err-elem.ensures.parses.0 (λ h. refused_inside groups.bracket (open_group Bracket groups.bracket_name) (λ k x. (k, x)) (bracket_content g.E.Value.reads.len (held g.T.Tree.read (length c.args.self.now.begin) c.args.place)) _ _ _ _ e c.in_ok-bracket_token.ensures.parses.0 (stopped _ e h)),
+        c.open_brackets.ensures.parses.1,
+      );
+    }
+
+pub returns-in_err-length : goal.returns-in_err-length
+unfolding bracket_content
+returns-in_err-length g c =
+    let e = c.in_err-length.field-0.0 in
+    record {
+      parses = (
+        passed_on _ _ _ _ e c.from_residual-in_err-length.ensures c.in_err-length.ensures.parses.0 (λ h. refused_inside groups.bracket (open_group Bracket groups.bracket_name) (λ k x. (k, x)) (bracket_content g.E.Value.reads.len (held g.T.Tree.read (length c.args.self.now.begin) c.args.place)) _ _ _ _ e c.in_ok-bracket_token.ensures.parses.0 (link _ c.in_ok-elem.ensures.parses.0 (chosen _ true _ _ _ _ (sym c.if-peek.ensures) (stopped _ e h)))),
+        c.open_brackets.ensures.parses.1,
+      );
+    }
+
+pub returns-then-peek : goal.returns-then-peek
+unfolding bracket_content
+returns-then-peek g c =
+    record {
+      parses = (
+        read_inside groups.bracket (open_group Bracket groups.bracket_name) (λ k x. (k, x)) (bracket_content g.E.Value.reads.len (held g.T.Tree.read (length c.args.self.now.begin) c.args.place)) _ _ _ _ _ _ c.in_ok-bracket_token.ensures.parses.0 (link _ c.in_ok-elem.ensures.parses.0 (chosen _ true _ _ _ _ (sym c.if-peek.ensures) (link _ c.in_ok-length.ensures.parses.0 refl))) ∙ ap (λ z. Ok ((c.in_ok-bracket_token.bracket_token, Counted c.in_ok-elem.elem c.in_ok-length.length), z)) (sym c.finish.ensures.finished),
+        follows_trans _ _ _ c.open_brackets.ensures.parses.1 c.finish.ensures.within,
+      );
+    }
+
+pub returns : goal.returns
+unfolding bracket_content
+returns g c =
+    record {
+      parses = (
+        read_inside groups.bracket (open_group Bracket groups.bracket_name) (λ k x. (k, x)) (bracket_content g.E.Value.reads.len (held g.T.Tree.read (length c.args.self.now.begin) c.args.place)) _ _ _ _ _ _ c.in_ok-bracket_token.ensures.parses.0 (link _ c.in_ok-elem.ensures.parses.0 (chosen _ false _ _ _ _ (sym c.if-peek.ensures) refl)) ∙ ap (λ z. Ok ((c.in_ok-bracket_token.bracket_token, Element c.in_ok-elem.elem), z)) (sym c.finish-2.ensures.finished),
+        follows_trans _ _ _ c.open_brackets.ensures.parses.1 c.finish-2.ensures.within,
+      );
+    }

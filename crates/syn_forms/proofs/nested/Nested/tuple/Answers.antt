@@ -1,0 +1,48 @@
+use Rattle.std.proofs.Common.{Ok, length, sym, ap, ◌∙◌, arith}
+use Rattle.token_core.proofs.Suffixes.{follows_trans}
+use Rattle.token_core.specs.Groups as groups
+use Rattle.token_core.specs.Reads.{open_group}
+use Rattle.token_core.specs.declared.tree.Delimiter.TheVariants.{Parenthesis}
+use Rattle.syn_forms.proofs.groups_laws.Inside.{not_opened, read_inside, refused_inside}
+use Rattle.syn_forms.specs.nested.Below.{held}
+use Rattle.syn_forms.specs.groups.Reading.{tuple_content}
+use Rattle.syn_forms.proofs.lists_laws.Turns.{passed_on}
+use Rattle.syn_forms.proofs.nested.Nested.tuple.Goals as goal
+
+pub returns-in_err-paren_token : goal.returns-in_err-paren_token
+returns-in_err-paren_token g c =
+    let e = c.in_err-paren_token.field-0.0 in
+    record {
+      parses = (
+        passed_on _ _ _ _ e c.from_residual.ensures c.in_err-paren_token.ensures.parses.0 (λ h. not_opened groups.paren (open_group Parenthesis groups.paren_name) (λ k x. (k, x)) (tuple_content (held g.T.Tree.read (length c.args.self.now.begin) c.args.place)) _ e h),
+        c.open_parens.ensures.parses.1,
+      );
+    }
+
+pub tuple_content-requires-clause-nests : goal.tuple_content-requires-clause-nests
+tuple_content-requires-clause-nests g c = c.requires.nests
+
+pub tuple_content-requires-clause-few : goal.tuple_content-requires-clause-few
+tuple_content-requires-clause-few g c =
+    let few = c.requires.few in
+    let less = c.in_ok-paren_token.ensures.inside in
+    omega (arith, few, less)
+
+pub returns-in_err-elems : goal.returns-in_err-elems
+returns-in_err-elems g c =
+    let e = c.in_err-elems.field-0.0 in
+    record {
+      parses = (
+        passed_on _ _ _ _ e c.from_residual-in_err-elems.ensures c.in_err-elems.ensures.parses.0 (λ h. refused_inside groups.paren (open_group Parenthesis groups.paren_name) (λ k x. (k, x)) (tuple_content (held g.T.Tree.read (length c.args.self.now.begin) c.args.place)) _ _ _ _ e c.in_ok-paren_token.ensures.parses.0 (h)),
+        c.open_parens.ensures.parses.1,
+      );
+    }
+
+pub returns : goal.returns
+returns g c =
+    record {
+      parses = (
+        read_inside groups.paren (open_group Parenthesis groups.paren_name) (λ k x. (k, x)) (tuple_content (held g.T.Tree.read (length c.args.self.now.begin) c.args.place)) _ _ _ _ _ _ c.in_ok-paren_token.ensures.parses.0 (c.in_ok-elems.ensures.parses.0) ∙ ap (λ z. Ok ((c.in_ok-paren_token.paren_token, c.in_ok-elems.elems), z)) (sym c.finish.ensures.finished),
+        follows_trans _ _ _ c.open_parens.ensures.parses.1 c.finish.ensures.within,
+      );
+    }
