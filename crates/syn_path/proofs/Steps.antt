@@ -1,6 +1,6 @@
 -- What was refused in a step is refused; how many values and marks there are after one more; a token that may be there.
 use Rattle.std.specs.Prelude.{◌≢◌, IsErr, IsErrAnd}
-use Rattle.std.proofs.Common.{◌≡◌, ◌+◌, Bool, true, false, List, length, [], ◌∷◌, ◌++◌, Option, Some, None, Result, Ok, Err, refl, sym, ap, subst, arith}
+use Rattle.std.proofs.Common.{◌≡◌, ◌+◌, Bool, true, false, List, length, [], ◌∷◌, ◌++◌, Option, Some, None, Result, Ok, Err, refl, sym, ap, subst, ◌∙◌, arith}
 use Rattle.std.proofs.lemmas.List.{length-append}
 use Rattle.token_core.specs.declared.error.ErrorKind.TheVariants.{OutOfMemory}
 use Rattle.token_core.specs.Loops.{Many, after}
@@ -33,6 +33,9 @@ no_memory o (Ok x) t h = absurd h.1
 no_memory o (Err d) t h = λ k. absurd (k (ap (λ (z : Refusal). z.kind) h.1))
 
 -- ---- how many values and marks there are
+
+pub new_whole : {A P : Type 0} (v : Many A P) → v ≡ ([], []) → length v.0 ≡ length v.1
+new_whole v e = ap (λ z. length z.0) e ∙ sym (ap (λ z. length z.1) e)
 
 pub put_whole : {A P : Type 0} (xs : List A) (ps : List P) (x : A) (v : Many A P) → v ≡ (xs ++ x ∷ [], ps) → length xs ≡ length ps → length v.0 ≡ length v.1 + 1
 put_whole {A} {P} xs ps x v e h =

@@ -6,7 +6,7 @@ use Rattle.token_core.specs.Stream.{Stream}
 use Rattle.token_core.specs.Toks.{Toks}
 use Rattle.token_core.specs.Reads.{Reader, Outcome, and_then, ◌>>=◌, ◌<$>◌, pure}
 use Rattle.token_core.specs.Loops.{size, Many, listed_from, listed, none, one, put, after}
-pub use Rattle.syn_path.proofs.Steps.{stopped, passed_on, told_by, no_memory, put_whole, marked_whole, none_yet_at}
+pub use Rattle.syn_path.proofs.Steps.{stopped, passed_on, told_by, no_memory, new_whole, put_whole, marked_whole, none_yet_at}
 
 after-after : {A P : Type 0} (v : Many A P) (x : A) (p : P) (o : Outcome (Many A P)) → after v (and_then o (λ rest. pure (x ∷ rest.0, p ∷ rest.1))) ≡ after (v.0 ++ x ∷ [], v.1 ++ p ∷ []) o
 after-after v x p (Err e) = refl
