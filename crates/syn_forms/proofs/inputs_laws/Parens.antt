@@ -20,3 +20,7 @@ module _ {A : Type 0} (p : Reader A) where
   -- it is refused
   pub refused_inside : (s t c : Stream) (k : Paren) (e : Refusal) → opens s ≡ Ok ((k, c), t) → p c ≡ Err e → in_parens p s ≡ Err e
   refused_inside = inside.refused_inside groups.paren (open_group d.Parenthesis groups.paren_name) (λ k x. (k, x)) p
+
+  -- it isn't there
+  pub not_opened : (s : Stream) (e : Refusal) → opens s ≡ Err e → in_parens p s ≡ Err e
+  not_opened = inside.not_opened groups.paren (open_group d.Parenthesis groups.paren_name) (λ k x. (k, x)) p
