@@ -18,6 +18,13 @@ use token_core::{
 };
 use token_text::{lex, text_of};
 
+// Texts that take memory: short ones stand in their trees.
+const WORD: &str = "a_word_of_more_than_24_bytes";
+
+const NUMBER: &str = "1_000_000_000_000_000_000_000";
+
+const STRING: &str = "\"a text of more than 24 bytes\"";
+
 /// Makes the calls of this name in turn, after taking memory so often: they were refused and nothing changed, or they all answered.
 /// It is refused where memory is before the calls.
 pub(crate) fn outcome(alloc: Global, name: &str, times: usize) -> Result<Outcome, Error> {
@@ -115,7 +122,7 @@ fn ident(alloc: Global, text: &str) -> Result<Ident, AllocError> {
 }
 
 fn number(alloc: Global) -> Result<Literal, AllocError> {
-    Literal::new(alloc, LitKind::Int, "1", Span::none())
+    Literal::new(alloc, LitKind::Int, NUMBER, Span::none())
 }
 
 fn nowhere() -> DelimSpan {
@@ -125,11 +132,14 @@ fn nowhere() -> DelimSpan {
 // ---- tokens and containers
 
 fn tokens(alloc: Global, times: usize) -> Result<Outcome, Error> {
-    let list = lex(alloc, "a 'b (- 1 \"c\")")?;
-    let negative = read_all::<Lit>(alloc, &lex(alloc, "- 1")?)?;
-    let text = read_all::<LitStr>(alloc, &lex(alloc, "\"c\"")?)?;
-    let member = read_all::<Member>(alloc, &lex(alloc, "a")?)?;
-    let life = Lifetime::new(Span::none(), ident(alloc, "b")?);
+    let list = lex(
+        alloc,
+        "a 'a_lifetime_of_more_than_24_bytes (- 1 \"a text of more than 24 bytes\")",
+    )?;
+    let negative = Lit::Negative(LitNegative::new(alloc, Span::none(), number(alloc)?)?);
+    let text = read_all::<LitStr>(alloc, &lex(alloc, STRING)?)?;
+    let member = read_all::<Member>(alloc, &lex(alloc, WORD)?)?;
+    let life = Lifetime::new(Span::none(), ident(alloc, WORD)?);
     let (first, second) = (number(alloc)?, number(alloc)?);
     let words = (ident(alloc, "d")?, ident(alloc, "e")?);
     take(alloc, times)?;
@@ -149,9 +159,9 @@ fn copies(
     second: Literal,
     words: (Ident, Ident),
 ) -> Result<(), Error> {
-    made(ident(alloc, "x"))?;
+    made(ident(alloc, WORD))?;
     made(number(alloc))?;
-    made(LitStr::new(alloc, "\"x\"", Span::none()))?;
+    made(LitStr::new(alloc, STRING, Span::none()))?;
     made(LitNegative::new(alloc, Span::none(), first))?;
     made(second.copy(alloc))?;
     made(negative.copy(alloc))?;
@@ -183,10 +193,10 @@ fn copies(
 fn prints(alloc: Global, times: usize) -> Result<Outcome, Error> {
     let before = lex(alloc, "a (b)")?;
     let mut out = before.copy(alloc)?;
-    let lit = read_all::<Lit>(alloc, &lex(alloc, "- 1")?)?;
-    let text = read_all::<LitStr>(alloc, &lex(alloc, "\"c\"")?)?;
-    let life = Lifetime::new(Span::none(), ident(alloc, "b")?);
-    let word = ident(alloc, "d")?;
+    let lit = Lit::Negative(LitNegative::new(alloc, Span::none(), number(alloc)?)?);
+    let text = read_all::<LitStr>(alloc, &lex(alloc, STRING)?)?;
+    let life = Lifetime::new(Span::none(), ident(alloc, WORD)?);
+    let word = ident(alloc, WORD)?;
     let contents = (
         lex(alloc, "x")?,
         lex(alloc, "y")?,
@@ -260,9 +270,12 @@ fn surrounded(
 // ---- streams
 
 fn streams(alloc: Global, times: usize) -> Result<Outcome, Error> {
-    let list = lex(alloc, "a b 'c 'd 1 \"e\" 2 3 ..= ... f ; m")?;
-    let joined = lex(alloc, "a , b , c")?;
-    let lone = lex(alloc, "a")?;
+    let list = lex(
+        alloc,
+        "a_word_of_more_than_24_bytes b 'a_lifetime_of_more_than_24_bytes 'd 1_000_000_000_000_000_000_000 \"a text of more than 24 bytes\" 2 3 ..= ... f ; m",
+    )?;
+    let joined = lex(alloc, "a_word_of_more_than_24_bytes , b , c")?;
+    let lone = lex(alloc, WORD)?;
     take(alloc, times)?;
     Ok(came(stream_reads(alloc, &list, &joined, &lone)))
 }
@@ -309,7 +322,7 @@ fn stream_reads(
 }
 
 fn groups(alloc: Global, times: usize) -> Result<Outcome, Error> {
-    let list = lex(alloc, "(a) {b} [c] \\(d\\) (e f) g")?;
+    let list = lex(alloc, "(a) {b} [c] \\(d\\) (a_word_of_more_than_24_bytes f) g")?;
     take(alloc, times)?;
     Ok(came(group_reads(alloc, &list)))
 }
@@ -343,7 +356,9 @@ fn texts(alloc: Global, times: usize) -> Result<Outcome, Error> {
 
 fn text_calls(alloc: Global, list: &TokenStream) -> Result<(), Error> {
     made(text_of(alloc, list))?;
-    read(lex(alloc, "a (b) 1 \"c\" 'd"))?;
+    read(lex(alloc, WORD))?;
+    read(lex(alloc, NUMBER))?;
+    read(lex(alloc, "a (b) \"a text of more than 24 bytes\" 'd"))?;
     refused(alloc, lex(alloc, "a ("))?;
     refused(alloc, lex(alloc, "a \""))
 }
@@ -351,8 +366,9 @@ fn text_calls(alloc: Global, list: &TokenStream) -> Result<(), Error> {
 // ---- paths and macro calls
 
 fn paths(alloc: Global, times: usize) -> Result<Outcome, Error> {
-    let call = read_all::<Macro>(alloc, &lex(alloc, "m!(a)")?)?;
-    let path = read_all_with(alloc, ModStyle::<NoArguments>::new(), &lex(alloc, "a::b")?)?;
+    let call = read_all::<Macro>(alloc, &lex(alloc, "m!(a_word_of_more_than_24_bytes)")?)?;
+    let list = lex(alloc, "a::a_word_of_more_than_24_bytes")?;
+    let path = read_all_with(alloc, ModStyle::<NoArguments>::new(), &list)?;
     let wide = PathOf::<PathArguments<Nothing>>::from_mod_path(alloc, &path)?;
     let words = (ident(alloc, "c")?, ident(alloc, "d")?);
     take(alloc, times)?;
