@@ -1,4 +1,4 @@
-use Rattle.std.proofs.Common.{◌≡◌, [], ◌∷◌, ◌++◌, true, length, sym, ap, ◌∙◌, arith}
+use Rattle.std.proofs.Common.{◌≡◌, [], ◌∷◌, ◌++◌, length, sym, ap, ◌∙◌, arith}
 use Rattle.token_core.specs.Loops.{after, terminated}
 use Rattle.token_core.specs.Reads.{is_done}
 use Rattle.token_core.proofs.Suffixes.{follows_self, follows_trans}

@@ -1,11 +1,10 @@
-use Rattle.std.proofs.Common.{◌≡◌, true, false, inl, inr, None, Ok, Err, length, sym, ap, subst, ◌∙◌, arith}
+use Rattle.std.proofs.Common.{true, false, inl, inr, None, Ok, sym, ap, subst, ◌∙◌, arith}
 use Rattle.token_core.specs.Positions.{IsReached}
 use Rattle.token_core.specs.Reads.{Follows}
 use Rattle.token_core.proofs.Places.{reached_follows}
 use Rattle.token_core.proofs.Suffixes.{follows_trans}
 use Rattle.token_core.proofs.Steps.{chosen, link}
 use Rattle.syn_forms.specs.inputs.Reading.{mut_self}
-use Rattle.syn_forms.specs.nested.Below.{held}
 use Rattle.syn_forms.specs.verbatim.Reading.{position, since}
 use Rattle.syn_forms.proofs.lists_laws.Turns.{passed_on, stopped}
 use Rattle.syn_forms.proofs.nested_laws.Ahead.{ahead_follows}
