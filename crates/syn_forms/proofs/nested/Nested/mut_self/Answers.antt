@@ -1,4 +1,4 @@
-use Rattle.std.proofs.Common.{true, false, inl, inr, None, Ok, sym, ap, subst, ◌∙◌, arith}
+use Rattle.std.proofs.Common.{true, false, None, Ok, sym, ap, subst, ◌∙◌, arith}
 use Rattle.token_core.specs.Positions.{IsReached}
 use Rattle.token_core.specs.Reads.{Follows}
 use Rattle.token_core.proofs.Places.{reached_follows}
@@ -9,6 +9,7 @@ use Rattle.syn_forms.specs.verbatim.Reading.{position, since}
 use Rattle.syn_forms.proofs.lists_laws.Turns.{passed_on, stopped}
 use Rattle.syn_forms.proofs.nested_laws.Ahead.{ahead_follows}
 use Rattle.syn_forms.proofs.nested.Nested.mut_self.Goals as goal
+use Rattle.syn_forms.proofs.nested.Nested.mut_self.Goals.{then-sees_name+in_ok-parse_name+in_ok-value, else-sees_name+in_ok-parse-2}
 
 pub returns-in_err-parse-clause-parses : goal.returns-in_err-parse-clause-parses
 unfolding mut_self
@@ -66,9 +67,9 @@ returns-in_err-parse-2-clause-fewer g c = ahead_follows _ _ (follows_trans _ _ _
 
 pub since-requires : goal.since-requires
 since-requires g c =
-    let follows : Follows c.args.input.now c.if-sees_name.input = elim c.if-sees_name.branch-raw [
-      | inl w ↦ subst (λ z. Follows c.args.input.now z) (sym w.input-is) (follows_trans _ _ _ c.parse.ensures.within (follows_trans _ _ _ w.parse_name.ensures.parses.1 w.value.ensures.parses.1))
-      | inr w ↦ subst (λ z. Follows c.args.input.now z) (sym w.input-is) (follows_trans _ _ _ c.parse.ensures.within w.parse-else-sees_name.ensures.within)
+    let follows : Follows c.args.input.now c.if-sees_name.input = elim c.if-sees_name.branch [
+      | then-sees_name+in_ok-parse_name+in_ok-value w ↦ subst (λ z. Follows c.args.input.now z) (sym w.input-is) (follows_trans _ _ _ c.parse.ensures.within (follows_trans _ _ _ w.parse_name.ensures.parses.1 w.value.ensures.parses.1))
+      | else-sees_name+in_ok-parse-2 w ↦ subst (λ z. Follows c.args.input.now z) (sym w.input-is) (follows_trans _ _ _ c.parse.ensures.within w.parse-else-sees_name.ensures.within)
     ] in
     record { reached = subst (λ z. IsReached (position c.if-sees_name.input) z) (sym c.cursor-from.ensures) (reached_follows _ _ follows) }
 
@@ -76,15 +77,15 @@ pub returns-in_err-tokens-clause-parses : goal.returns-in_err-tokens-clause-pars
 unfolding mut_self
 returns-in_err-tokens-clause-parses g c =
     let e = c.in_err-tokens.field-0.0 in
-    let follows : Follows c.args.input.now c.if-sees_name.input = elim c.if-sees_name.branch-raw [
-      | inl w ↦ subst (λ z. Follows c.args.input.now z) (sym w.input-is) (follows_trans _ _ _ c.parse.ensures.within (follows_trans _ _ _ w.parse_name.ensures.parses.1 w.value.ensures.parses.1))
-      | inr w ↦ subst (λ z. Follows c.args.input.now z) (sym w.input-is) (follows_trans _ _ _ c.parse.ensures.within w.parse-else-sees_name.ensures.within)
+    let follows : Follows c.args.input.now c.if-sees_name.input = elim c.if-sees_name.branch [
+      | then-sees_name+in_ok-parse_name+in_ok-value w ↦ subst (λ z. Follows c.args.input.now z) (sym w.input-is) (follows_trans _ _ _ c.parse.ensures.within (follows_trans _ _ _ w.parse_name.ensures.parses.1 w.value.ensures.parses.1))
+      | else-sees_name+in_ok-parse-2 w ↦ subst (λ z. Follows c.args.input.now z) (sym w.input-is) (follows_trans _ _ _ c.parse.ensures.within w.parse-else-sees_name.ensures.within)
     ] in (
       passed_on _ _ _ _ e c.from_residual-in_err-tokens.ensures c.in_err-tokens.ensures.reads
-          (λ h. elim c.if-sees_name.branch-raw [
-            | inl w ↦ link _ c.in_ok-parse.ensures.reads (chosen _ true _ _ _ _ (sym w.if-sees_name.ensures) (link _ w.in_ok-parse_name.ensures.parses.0 (link _ w.in_ok-value.ensures.parses.0
+          (λ h. elim c.if-sees_name.branch [
+            | then-sees_name+in_ok-parse_name+in_ok-value w ↦ link _ c.in_ok-parse.ensures.reads (chosen _ true _ _ _ _ (sym w.if-sees_name.ensures) (link _ w.in_ok-parse_name.ensures.parses.0 (link _ w.in_ok-value.ensures.parses.0
                 (stopped _ e (ap (λ z. since z w.value.new.input) (sym c.cursor-from.ensures) ∙ ap (since c.cursor-from.result) (sym w.input-is) ∙ h)))))
-            | inr w ↦ link _ c.in_ok-parse.ensures.reads (chosen _ false _ _ _ _ (sym w.if-sees_name.ensures) (link _ w.in_ok-parse-2.ensures.reads
+            | else-sees_name+in_ok-parse-2 w ↦ link _ c.in_ok-parse.ensures.reads (chosen _ false _ _ _ _ (sym w.if-sees_name.ensures) (link _ w.in_ok-parse-2.ensures.reads
                 (stopped _ e (ap (λ z. since z w.parse-else-sees_name.new.self) (sym c.cursor-from.ensures) ∙ ap (since c.cursor-from.result) (sym w.input-is) ∙ h))))
           ]),
       follows,
@@ -92,25 +93,25 @@ returns-in_err-tokens-clause-parses g c =
 
 pub returns-in_err-tokens-clause-fewer : goal.returns-in_err-tokens-clause-fewer
 returns-in_err-tokens-clause-fewer g c =
-    let follows : Follows c.args.input.now c.if-sees_name.input = elim c.if-sees_name.branch-raw [
-      | inl w ↦ subst (λ z. Follows c.args.input.now z) (sym w.input-is) (follows_trans _ _ _ c.parse.ensures.within (follows_trans _ _ _ w.parse_name.ensures.parses.1 w.value.ensures.parses.1))
-      | inr w ↦ subst (λ z. Follows c.args.input.now z) (sym w.input-is) (follows_trans _ _ _ c.parse.ensures.within w.parse-else-sees_name.ensures.within)
+    let follows : Follows c.args.input.now c.if-sees_name.input = elim c.if-sees_name.branch [
+      | then-sees_name+in_ok-parse_name+in_ok-value w ↦ subst (λ z. Follows c.args.input.now z) (sym w.input-is) (follows_trans _ _ _ c.parse.ensures.within (follows_trans _ _ _ w.parse_name.ensures.parses.1 w.value.ensures.parses.1))
+      | else-sees_name+in_ok-parse-2 w ↦ subst (λ z. Follows c.args.input.now z) (sym w.input-is) (follows_trans _ _ _ c.parse.ensures.within w.parse-else-sees_name.ensures.within)
     ] in
     ahead_follows _ _ follows
 
 pub returns-clause-parses : goal.returns-clause-parses
 unfolding mut_self
 returns-clause-parses g c =
-    let follows : Follows c.args.input.now c.if-sees_name.input = elim c.if-sees_name.branch-raw [
-      | inl w ↦ subst (λ z. Follows c.args.input.now z) (sym w.input-is) (follows_trans _ _ _ c.parse.ensures.within (follows_trans _ _ _ w.parse_name.ensures.parses.1 w.value.ensures.parses.1))
-      | inr w ↦ subst (λ z. Follows c.args.input.now z) (sym w.input-is) (follows_trans _ _ _ c.parse.ensures.within w.parse-else-sees_name.ensures.within)
+    let follows : Follows c.args.input.now c.if-sees_name.input = elim c.if-sees_name.branch [
+      | then-sees_name+in_ok-parse_name+in_ok-value w ↦ subst (λ z. Follows c.args.input.now z) (sym w.input-is) (follows_trans _ _ _ c.parse.ensures.within (follows_trans _ _ _ w.parse_name.ensures.parses.1 w.value.ensures.parses.1))
+      | else-sees_name+in_ok-parse-2 w ↦ subst (λ z. Follows c.args.input.now z) (sym w.input-is) (follows_trans _ _ _ c.parse.ensures.within w.parse-else-sees_name.ensures.within)
     ] in
     let told = c.in_ok-tokens.ensures.reads in
     let made = ap (λ z. Ok ((None, z), c.if-sees_name.input)) (sym c.verbatim.ensures) in (
-      elim c.if-sees_name.branch-raw [
-        | inl w ↦ link _ c.in_ok-parse.ensures.reads (chosen _ true _ _ _ _ (sym w.if-sees_name.ensures) (link _ w.in_ok-parse_name.ensures.parses.0 (link _ w.in_ok-value.ensures.parses.0
+      elim c.if-sees_name.branch [
+        | then-sees_name+in_ok-parse_name+in_ok-value w ↦ link _ c.in_ok-parse.ensures.reads (chosen _ true _ _ _ _ (sym w.if-sees_name.ensures) (link _ w.in_ok-parse_name.ensures.parses.0 (link _ w.in_ok-value.ensures.parses.0
             (link _ (ap (λ z. since z w.value.new.input) (sym c.cursor-from.ensures) ∙ ap (since c.cursor-from.result) (sym w.input-is) ∙ told) made))))
-        | inr w ↦ link _ c.in_ok-parse.ensures.reads (chosen _ false _ _ _ _ (sym w.if-sees_name.ensures) (link _ w.in_ok-parse-2.ensures.reads
+        | else-sees_name+in_ok-parse-2 w ↦ link _ c.in_ok-parse.ensures.reads (chosen _ false _ _ _ _ (sym w.if-sees_name.ensures) (link _ w.in_ok-parse-2.ensures.reads
             (link _ (ap (λ z. since z w.parse-else-sees_name.new.self) (sym c.cursor-from.ensures) ∙ ap (since c.cursor-from.result) (sym w.input-is) ∙ told) made)))
       ],
       follows,
@@ -118,8 +119,8 @@ returns-clause-parses g c =
 
 pub returns-clause-fewer : goal.returns-clause-fewer
 returns-clause-fewer g c =
-    let follows : Follows c.args.input.now c.if-sees_name.input = elim c.if-sees_name.branch-raw [
-      | inl w ↦ subst (λ z. Follows c.args.input.now z) (sym w.input-is) (follows_trans _ _ _ c.parse.ensures.within (follows_trans _ _ _ w.parse_name.ensures.parses.1 w.value.ensures.parses.1))
-      | inr w ↦ subst (λ z. Follows c.args.input.now z) (sym w.input-is) (follows_trans _ _ _ c.parse.ensures.within w.parse-else-sees_name.ensures.within)
+    let follows : Follows c.args.input.now c.if-sees_name.input = elim c.if-sees_name.branch [
+      | then-sees_name+in_ok-parse_name+in_ok-value w ↦ subst (λ z. Follows c.args.input.now z) (sym w.input-is) (follows_trans _ _ _ c.parse.ensures.within (follows_trans _ _ _ w.parse_name.ensures.parses.1 w.value.ensures.parses.1))
+      | else-sees_name+in_ok-parse-2 w ↦ subst (λ z. Follows c.args.input.now z) (sym w.input-is) (follows_trans _ _ _ c.parse.ensures.within w.parse-else-sees_name.ensures.within)
     ] in
     ahead_follows _ _ follows
