@@ -2,8 +2,9 @@
 //! A list is written as pieces with spaces between them. The characters of a mark are Joint but the last;
 //! a quote is Joint; `^` and `$` bound an invisible group.
 //!
-//! `got`, `is` and the like stop a test where something is wrong.
+//! `got`, `is` and the like (`lists`) stop a test where something is wrong.
 
+pub(crate) use crate::lists::{got, is, made, text_is};
 use std::alloc::{AllocError, Global};
 use std::mem;
 use std::process::Abort;
@@ -93,30 +94,6 @@ pub(crate) fn buffer_of<'a>(
     list: &'a TokenStream,
 ) -> TokenBuffer<'a> {
     made(rt, TokenBuffer::new(alloc, list))
-}
-
-/// What was read.
-pub(crate) fn got<T>(rt: &impl Abort, outcome: Result<T, Error>) -> T {
-    match outcome {
-        Ok(value) => value,
-        Err(error) => panic!(rt; "refused: {}", error.text()),
-    }
-}
-
-/// What was made, where memory was left.
-pub(crate) fn made<T>(rt: &impl Abort, outcome: Result<T, AllocError>) -> T {
-    match outcome {
-        Ok(value) => value,
-        Err(_) => panic!(rt; "out of memory"),
-    }
-}
-
-pub(crate) fn is(rt: &impl Abort, fact: bool, name: &str) {
-    assert!(rt; fact, "{name}");
-}
-
-pub(crate) fn text_is(rt: &impl Abort, found: &str, wanted: &str) {
-    assert_eq!(rt; found, wanted);
 }
 
 pub(crate) fn says(rt: &impl Abort, error: &Error, kind: ErrorKind, text: &str, at: Span) {
