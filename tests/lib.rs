@@ -29,6 +29,8 @@ mod fn_ptr_tests;
 #[cfg(test)]
 mod generics_tests;
 #[cfg(test)]
+mod group_tests;
+#[cfg(test)]
 mod lexer_tests;
 #[cfg(test)]
 mod list_tests;

@@ -1,7 +1,7 @@
 //! Arguments: of pointers to functions, and what they share with the arguments of function types.
 
 ghost use Rattle.std.specs.Prelude.{◌≡◌, ◌<◌, ◌≤◌, length, List};
-ghost use Rattle.token_core.specs.declared.tree.TokenStream.{TokenStream};
+ghost use Rattle.token_core.specs.Trees.{TokenStream};
 ghost use Rattle.token_core.specs.Positions.{IsReached};
 ghost use Rattle.token_core.specs.Reads.{Parses, optional};
 ghost use Rattle.syn_forms.specs.groups.Reading.{in_parens};

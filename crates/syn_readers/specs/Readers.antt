@@ -2,9 +2,8 @@
 use Rattle.std.specs.Prelude.{◌≡◌, ◌≢◌, Bool, true, if◌then◌else◌, List, Option, Some, None, Result, Ok, Err, codes}
 use Rattle.std.specs.Str.{bytes_eq}
 use Rattle.token_core.specs.declared.error.ErrorKind.TheVariants.{OutOfMemory}
-use Rattle.token_core.specs.declared.tree.TokenStream.{TokenStream}
 use Rattle.token_core.specs.Toks.{Bytes, Toks}
-use Rattle.token_core.specs.Trees.{trees}
+use Rattle.token_core.specs.Trees.{TokenStream, trees}
 use Rattle.token_core.specs.Rebuilt.{Visible}
 use Rattle.token_core.specs.Refusal.{Refusal}
 use Rattle.token_core.specs.Headline.{Grammar, Headline, whole}

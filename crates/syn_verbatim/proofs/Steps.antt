@@ -9,7 +9,6 @@ use Rattle.token_core.specs.declared.tree.Group.{Group}
 use Rattle.token_core.specs.declared.tree.Ident.{Ident}
 use Rattle.token_core.specs.declared.tree.Literal.{Literal}
 use Rattle.token_core.specs.declared.tree.Punct.{Punct}
-use Rattle.token_core.specs.declared.tree.TokenStream.{TokenStream}
 use Rattle.token_core.specs.declared.tree.TokenTree.{TokenTree, out-TokenTree, roll-TokenTree, roll-out-TokenTree}
 use Rattle.token_core.specs.declared.tree.TokenTree.TheVariants as t
 use Rattle.token_core.specs.declared.tree.TokenTree.TheOpen as o
@@ -24,7 +23,7 @@ use Rattle.token_core.specs.Rebuilt.{Levels, enclose, invisible, stream_of, onto
 use Rattle.token_core.specs.Refusal.{Refusal}
 use Rattle.token_core.specs.Stream.{Stream}
 use Rattle.token_core.specs.Toks.{Toks, done, word, mark, lit, group, enter, leave}
-use Rattle.token_core.specs.Trees.{group_of}
+use Rattle.token_core.specs.Trees.{TokenStream, group_of}
 use Rattle.token_core.specs.Positions.{Item, an_ident, a_punct, a_literal, a_beginning, an_end, items, tree_items, has_tree}
 use Rattle.token_core.proofs.Positions.{ident_items, punct_items, literal_items, a_group_items}
 use Rattle.token_core.proofs.Steps.{link, chosen}
@@ -433,7 +432,7 @@ first-mark (enter s k) more z m n h e = absurd (no_enter s k h)
 first-mark (leave k) more z m n h e = first-mark k more z m (sym (done_leave k) ∙ n) (sym (hidden_leave k) ∙ h) e
 
 module _ (l : Toks) (more : List Item) (n : is_done l ≡ false) (h : sees_invisible l ≡ false) where
-  layer-mark : (y : o.TokenTree-F TokenTree Group TokenStream) (r : List Item) → items (past_ends l) ++ more ≡ tree_items (roll-TokenTree y) ++ r → mark_layer y ≡ mark_here l
+  layer-mark : (y : o.TokenTree-F TokenTree Group) (r : List Item) → items (past_ends l) ++ more ≡ tree_items (roll-TokenTree y) ++ r → mark_layer y ≡ mark_here l
   layer-mark (o.Ident i) r e = first-mark l more (an_ident i) r n h (e ∙ ap (λ z. z ++ r) (ap tree_items (t.rolls-Ident i) ∙ ident_items i))
   layer-mark (o.Punct p) r e = first-mark l more (a_punct p) r n h (e ∙ ap (λ z. z ++ r) (ap tree_items (t.rolls-Punct p) ∙ punct_items p))
   layer-mark (o.Literal x) r e = first-mark l more (a_literal x) r n h (e ∙ ap (λ z. z ++ r) (ap tree_items (t.rolls-Literal x) ∙ literal_items x))

@@ -8,18 +8,17 @@ use Rattle.token_core.specs.declared.tree.Delimiter.TheVariants.{Bracket}
 use Rattle.token_core.specs.declared.tree.TokenTree.{TokenTree, roll-TokenTree, map-TokenTree}
 use Rattle.token_core.specs.declared.tree.TokenTree.TheVariants as t
 use Rattle.token_core.specs.declared.tree.TokenTree.TheOpen as o
-use Rattle.token_core.specs.declared.tree.TokenTree.TheFolds.{ind-TokenStream}
+use Rattle.token_core.specs.declared.tree.TokenTree.TheFolds.{ind-TokenTree}
 use Rattle.token_core.specs.declared.tree.Group.{Group, roll-Group, map-Group}
-use Rattle.token_core.specs.declared.tree.TokenStream.{TokenStream, roll-TokenStream, map-TokenStream, out-roll-TokenStream, roll-out-TokenStream}
 use Rattle.token_core.specs.Cut.{joined}
 use Rattle.token_core.specs.Reads.{sees_group}
 use Rattle.token_core.specs.Rebuilt.{Levels, onto, enclose, invisible, stream_of, Visible, IsVisible}
 use Rattle.token_core.specs.Toks.{Toks, done, word, mark, lit, group, enter, leave}
 use Rattle.token_core.specs.Trees as s
-use Rattle.token_core.specs.Trees.{Before, trees, group_of, stream_of_trees, all, grouped, toks, row}
+use Rattle.token_core.specs.Trees.{TokenStream, Before, trees, group_of, stream_of_trees, all, grouped, toks, row}
 use Rattle.token_core.proofs.Flats.{tree-roll, group-roll, stream-roll}
 use Rattle.token_core.proofs.Rebuilds.{stream_of-toks, toks-stream_of, tree-ident, tree-punct, tree-literal, tree-group, stream-trees, visible-tree}
-use Rattle.token_core.proofs.Rows.{row-append}
+use Rattle.token_core.proofs.Rows.{row-append, with_each, beside}
 use Rattle.syn_verbatim.specs.Held.{seen, levels, held}
 use Rattle.syn_verbatim.specs.Likes.{Like, like_done, like_word, like_mark, like_lit, like_group, left_enter, left_leave, right_enter, right_leave}
 
@@ -32,7 +31,7 @@ abbrev Rebuilds : TokenStream → Type 0
 Rebuilds c = (r : Toks) → levels (s.stream c r) ≡ before (trees c) (levels r)
 
 whole : (c : TokenStream) → stream_of_trees (trees c ++ []) ≡ c
-whole c = ap stream_of_trees (append-nil (trees c)) ∙ roll-out-TokenStream c
+whole c = append-nil c
 
 abbrev group_tree : Delimiter → DelimSpan → TokenStream → TokenTree
 group_tree b p c = t.Group (group_of b c p)
@@ -56,39 +55,41 @@ module _ where
   abbrev B : Type 0
   B = (g : Group) × Q g
 
-  abbrev C : Type 0
-  C = (c : TokenStream) × Rebuilds c
+  abbrev trees_of : List A → TokenStream
+  trees_of l = map (λ (a : A). a.0) l
 
-  rebuilds_all : (l : List A) (r : Toks) → levels (all (map s.tree (map (λ (a : A). a.0) l)) r) ≡ before (map (λ (a : A). a.0) l) (levels r)
+  rebuilds_all : (l : List A) (r : Toks) → levels (all (map s.tree (trees_of l)) r) ≡ before (trees_of l) (levels r)
   rebuilds_all [] r = refl
-  rebuilds_all (a ∷ l) r = a.1 (all (map s.tree (map (λ (a : A). a.0) l)) r) ∙ ap (onto a.0) (rebuilds_all l r)
+  rebuilds_all (a ∷ l) r = a.1 (all (map s.tree (trees_of l)) r) ∙ ap (onto a.0) (rebuilds_all l r)
 
-  tree_layer : (y : o.TokenTree-F A B C) → P (roll-TokenTree (map-TokenTree A B C TokenTree Group TokenStream (λ a. a.0) (λ b. b.0) (λ c. c.0) y))
+  rebuilds_content : (l : List A) → Rebuilds (trees_of l)
+  rebuilds_content l = λ r. ap (λ f. levels (f r)) (stream-roll (trees_of l)) ∙ rebuilds_all l r
+
+  tree_layer : (y : o.TokenTree-F A B) → P (roll-TokenTree (map-TokenTree A B TokenTree Group (λ a. a.0) (λ b. b.0) y))
   tree_layer (o.Ident i) = λ r. ap (λ f. levels (f r)) (tree-roll (o.Ident i)) ∙ ap (λ z. onto z (levels r)) (sym (t.rolls-Ident i))
   tree_layer (o.Punct p) = λ r. ap (λ f. levels (f r)) (tree-roll (o.Punct p)) ∙ ap (λ z. onto z (levels r)) (sym (t.rolls-Punct p))
   tree_layer (o.Literal l) = λ r. ap (λ f. levels (f r)) (tree-roll (o.Literal l)) ∙ ap (λ z. onto z (levels r)) (sym (t.rolls-Literal l))
   tree_layer (o.Group g) = λ r. ap (λ f. levels (f r)) (tree-roll (o.Group g.0)) ∙ g.1 r ∙ ap (λ z. onto z (levels r)) (sym (t.rolls-Group g.0))
 
-  group_layer : (y : o.Group-F A B C) → Q (roll-Group (map-Group A B C TokenTree Group TokenStream (λ a. a.0) (λ b. b.0) (λ c. c.0) y))
-  group_layer y = λ r. ap (λ f. levels (f r)) (group-roll (record { delimiter = y.delimiter; stream = y.stream.0; span = y.span })) ∙ rebuilds_group y.delimiter y.span y.stream.0 r y.stream.1
+  group_layer : (y : o.Group-F A B) → Q (roll-Group (map-Group A B TokenTree Group (λ a. a.0) (λ b. b.0) y))
+  group_layer y = λ r.
+      let c = trees_of y.stream in
+      ap (λ f. levels (f r)) (group-roll (record { delimiter = y.delimiter; stream = c; span = y.span })) ∙ rebuilds_group y.delimiter y.span c r (rebuilds_content y.stream)
 
-  stream_layer : (y : o.TokenStream-F A B C) → Rebuilds (roll-TokenStream (map-TokenStream A B C TokenTree Group TokenStream (λ a. a.0) (λ b. b.0) (λ c. c.0) y))
-  stream_layer y = λ r.
-      ap (λ f. levels (f r)) (stream-roll (record { trees = map (λ (a : A). a.0) y.trees }))
-      ∙ rebuilds_all y.trees r
-      ∙ ap (λ z. before z (levels r)) (ap (λ (z : o.TokenStream-F TokenTree Group TokenStream). z.trees) (sym (out-roll-TokenStream (record { trees = map (λ (a : A). a.0) y.trees }))))
+  rebuilds_tree : (x : TokenTree) → P x
+  rebuilds_tree = ind-TokenTree P Q (λ x y is. subst (λ z. P (roll-TokenTree z)) is (tree_layer y)) (λ x y is. subst (λ z. Q (roll-Group z)) is (group_layer y))
 
   rebuilds : (c : TokenStream) → Rebuilds c
-  rebuilds = ind-TokenStream P Q Rebuilds (λ x y is. subst (λ z. P (roll-TokenTree z)) is (tree_layer y)) (λ x y is. subst (λ z. Q (roll-Group z)) is (group_layer y)) (λ x y is. subst (λ z. Rebuilds (roll-TokenStream z)) is (stream_layer y))
+  rebuilds c = subst Rebuilds (beside P rebuilds_tree c) (rebuilds_content (with_each P rebuilds_tree c))
 
 -- what is printed of a list of trees is that list
 pub held-toks : (c : TokenStream) → stream_of_trees (held (row (trees c) done)) ≡ c
 unfolding held
 held-toks c =
-    let e : s.stream c done ≡ row (trees c) done = ap (λ z. s.stream z done) (sym (roll-out-TokenStream c)) ∙ stream-trees (trees c) done in
+    let e : s.stream c done ≡ row (trees c) done = stream-trees c done in
     ap (λ z. stream_of_trees ((levels z).0 ++ joined (levels z).1)) (sym e)
     ∙ ap (λ (v : Levels). stream_of_trees (v.0 ++ joined v.1)) (rebuilds c done)
-    ∙ ap stream_of_trees (append-nil (trees c ++ [])) ∙ whole c
+    ∙ append-nil (c ++ []) ∙ whole c
 
 -- ---- the print has the tokens of the list
 

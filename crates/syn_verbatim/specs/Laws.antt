@@ -1,16 +1,12 @@
 -- Tokens that are held meet the laws of a supplied subtree.
 use Rattle.std.specs.Prelude.{◌≡◌, ℕ, zero, suc, Bool, true, false, not, ◌&&◌, if◌then◌else◌, None, Ok, Err, refl}
 use Rattle.std.proofs.Common.{sym, ◌∙◌, ap, subst}
-use Rattle.token_core.specs.declared.tree.TokenStream.{out-roll-TokenStream, TokenStream}
-use Rattle.token_core.specs.declared.tree.TokenTree.{TokenTree}
-use Rattle.token_core.specs.declared.tree.TokenTree.TheOpen as o
-use Rattle.token_core.specs.declared.tree.Group.{Group}
 use Rattle.token_core.specs.Front.{front, past_ends}
 use Rattle.token_core.specs.Reads.{Outcome, is_end, is_done, leaves, expected, ◌<$>◌}
 use Rattle.token_core.specs.Rebuilt.{Visible}
 use Rattle.token_core.specs.Stream.{Stream}
 use Rattle.token_core.specs.Toks.{Toks, done, word, mark, lit, group, enter, leave}
-use Rattle.token_core.specs.Trees.{trees, row, stream_of_trees}
+use Rattle.token_core.specs.Trees.{row, stream_of_trees}
 use Rattle.token_core.proofs.Turns.{same_pair}
 use Rattle.syn_path.specs.declared.supplied.Place.{Place}
 use Rattle.syn_path.specs.declared.supplied.Place.TheVariants.{ArrayLen, Value, Guard, Block}
@@ -103,13 +99,9 @@ fits_again Value l h =
 fits_again Guard l h = ap not (sym (done_like l _ (held-like l))) ∙ h
 fits_again Block l h = refl
 
--- the trees that are held
-trees_of : (x : VerbatimExpr) (l : Toks) → x.tokens ≡ stream_of_trees (held l) → trees x.tokens ≡ held l
-trees_of x l e = ap trees e ∙ ap (λ (z : o.TokenStream-F TokenTree Group TokenStream). z.trees) (out-roll-TokenStream (record { trees = held l }))
-
 pub reprint : (p : Place) (x : VerbatimExpr) (l : Toks) → spells p x l → Reprints (spells p) (λ x. x) print x l
 reprint p x l i =
-    let e = trees_of x l i.0 in
+    let e = i.0 in
     record {
       again = (sym (held-toks x.tokens), subst (λ z. fits p (row z done) ≡ true) (sym e) (fits_again p l i.1));
       same = refl;

@@ -7,7 +7,6 @@ use Rattle.token_core.specs.declared.token.GroupToken.{GroupToken}
 use Rattle.token_core.specs.declared.tree.Delimiter.TheVariants as d
 use Rattle.token_core.specs.declared.tree.Group.{Group}
 use Rattle.token_core.specs.declared.tree.Punct.{Punct}
-use Rattle.token_core.specs.declared.tree.TokenStream.{TokenStream}
 use Rattle.token_core.specs.declared.tree.TokenTree.{TokenTree, out-TokenTree}
 use Rattle.token_core.specs.declared.tree.TokenTree.TheOpen as o
 use Rattle.token_core.specs.declared.tree.TokenTree.TheVariants as t
@@ -17,7 +16,7 @@ use Rattle.token_core.specs.Lits.{sees_lit, read_lit}
 use Rattle.token_core.specs.Reads.{Reader, Outcome, Body, ◌>>=◌, ◌<$>◌, pure, peek, refuse, expected, as_punct, sees_word, any_text, ident_name, read_word, read_mark, delimited}
 use Rattle.token_core.specs.Stream.{Stream}
 use Rattle.token_core.specs.Toks.{Bytes, Toks}
-use Rattle.token_core.specs.Trees.{group_of, stream_of_trees}
+use Rattle.token_core.specs.Trees.{TokenStream, group_of, stream_of_trees}
 use Rattle.syn_path.specs.declared.supplied.Place.{Place}
 use Rattle.syn_verbatim.specs.declared.expr.VerbatimExpr.{VerbatimExpr}
 use Rattle.syn_verbatim.specs.Held.{seen, held, ended}
@@ -29,7 +28,7 @@ abbrev pub mark_here : Toks → Option Punct
 mark_here l = option_map (λ p. p.0) (as_punct (front l))
 
 -- a tree that is a mark
-abbrev pub mark_layer : o.TokenTree-F TokenTree Group TokenStream → Option Punct
+abbrev pub mark_layer : o.TokenTree-F TokenTree Group → Option Punct
 mark_layer (o.Ident i) = None
 mark_layer (o.Punct p) = Some p
 mark_layer (o.Literal l) = None

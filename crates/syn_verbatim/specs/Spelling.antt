@@ -1,11 +1,10 @@
 -- Which lists tokens that are held spell, by their place, and what they print.
 use Rattle.std.specs.Prelude.{◌≡◌, Bool, true, not, ◌&&◌}
-use Rattle.token_core.specs.declared.tree.TokenStream.{TokenStream}
 use Rattle.token_core.specs.Front.{front}
 use Rattle.token_core.specs.Prints.{Print}
 use Rattle.token_core.specs.Reads.{is_done}
 use Rattle.token_core.specs.Toks.{Toks}
-use Rattle.token_core.specs.Trees.{trees, stream_of_trees}
+use Rattle.token_core.specs.Trees.{TokenStream, trees, stream_of_trees}
 use Rattle.syn_path.specs.declared.supplied.Place.{Place}
 use Rattle.syn_path.specs.declared.supplied.Place.TheVariants.{ArrayLen, Value, Guard, Block}
 use Rattle.syn_path.specs.Supplied.{lone_literal, attribute_ahead}

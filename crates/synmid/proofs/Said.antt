@@ -3,10 +3,8 @@ use Rattle.std.proofs.Common.{◌≡◌, ◌≢◌, ◌⊎◌, inl, inr, ℕ, tr
 use Rattle.token_core.specs.declared.error.ErrorKind.{ErrorKind}
 use Rattle.token_core.specs.declared.error.ErrorKind.TheVariants.{OutOfMemory}
 use Rattle.token_core.specs.declared.tree.TokenTree.{TokenTree}
-use Rattle.token_core.specs.declared.tree.TokenStream.{TokenStream, roll-out-TokenStream}
 use Rattle.token_core.specs.Toks.{Bytes, done}
-use Rattle.token_core.specs.Trees.{trees, row, stream_of_trees, toks}
-use Rattle.token_core.specs.Trees as s
+use Rattle.token_core.specs.Trees.{TokenStream, trees, row, toks}
 use Rattle.token_core.specs.Rebuilt.{Visible}
 use Rattle.token_core.specs.Refusal.{Refusal, out_of_memory}
 use Rattle.token_core.proofs.Rebuilds.{stream-trees}
@@ -54,7 +52,7 @@ module _ (r : Reader) (input : Bytes) where
 
   module _ (c : TokenStream) (is_text : IsTextOf input (trees c)) (only : (l : List TokenTree) → Spells input l → trees c ≡ l) where
     tokens : toks c ≡ row (trees c) done
-    tokens = ap (λ x. s.stream x done) (sym (roll-out-TokenStream c)) ∙ stream-trees (trees c) done
+    tokens = stream-trees c done
 
     visible : (l : List TokenTree) → Spells input l → Visible (row l done) → Visible (row (trees c) done)
     visible l t v = subst (λ z. Visible (row z done)) (sym (only l t)) v
@@ -71,7 +69,7 @@ module _ (r : Reader) (input : Bytes) where
     pub of_answer : (p : TokenStream) (text : Bytes) → Reprints (category r) (toks c) (Ok p) → text ≡ text_of p → AnswersTo r input (shown text)
     of_answer p text h is =
         let q = subst (λ l. Reprints (category r) l (Ok p)) tokens h in
-        let e : text ≡ text_of_print r q.0 = is ∙ ap text_of (sym (roll-out-TokenStream p) ∙ ap stream_of_trees q.3) in
+        let e : text ≡ text_of_print r q.0 = is ∙ ap text_of q.3 in
         record {
           justified = record { list = trees c; is_text = is_text; tree = q.0; read = q.1; promise = q.2; text_is = e };
           accepts = λ l a t v s.

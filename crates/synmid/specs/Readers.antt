@@ -1,9 +1,8 @@
 -- The readers that a run knows by name.
 use Rattle.std.specs.Prelude.{◌≡◌, Bool, if◌then◌else◌, List, [], Option, Some, None, Ok, option_map, codes}
 use Rattle.std.specs.Str.{bytes_eq}
-use Rattle.token_core.specs.declared.tree.TokenStream.{TokenStream}
 use Rattle.token_core.specs.Toks.{Bytes, Toks}
-use Rattle.token_core.specs.Trees.{trees}
+use Rattle.token_core.specs.Trees.{TokenStream, trees}
 use Rattle.token_core.specs.Prints.{Print}
 use Rattle.token_core.specs.Reads.{Reader as R}
 use Rattle.token_core.specs.Stream.{Stream}

@@ -15,25 +15,20 @@ use Rattle.token_core.specs.declared.tree.TokenTree.{TokenTree, roll-TokenTree, 
 use Rattle.token_core.specs.declared.tree.TokenTree.TheVariants.{outs-Ident, outs-Punct, outs-Literal, outs-Group}
 use Rattle.token_core.specs.declared.tree.TokenTree.TheVariants as t
 use Rattle.token_core.specs.declared.tree.TokenTree.TheOpen as o
-use Rattle.token_core.specs.declared.tree.TokenTree.TheFolds.{fold-roll-TokenTree, fold-roll-Group, fold-roll-TokenStream}
+use Rattle.token_core.specs.declared.tree.TokenTree.TheFolds.{fold-roll-TokenTree, fold-roll-Group}
 use Rattle.token_core.specs.declared.tree.Group.{Group, roll-Group, roll-out-Group, out-Group, out-roll-Group}
-use Rattle.token_core.specs.declared.tree.TokenStream.{TokenStream, roll-TokenStream, roll-out-TokenStream, out-TokenStream, out-roll-TokenStream}
 use Rattle.token_core.specs.Spans.{none, delim_span}
-use Rattle.token_core.specs.Trees.{ident, punct, literal, group_of, stream_of_trees, trees, delimiter_of, content_of}
+use Rattle.token_core.specs.Trees.{TokenStream, ident, punct, literal, group_of, trees, delimiter_of, content_of}
 use Rattle.token_core.specs.Same as s
 use Rattle.token_core.specs.Same.{bare_tree, bare_group, bare_stream}
 
-bare-tree : (x : o.TokenTree-F TokenTree Group TokenStream) → bare_tree (roll-TokenTree x) ≡ s.tree_step (map-TokenTree TokenTree Group TokenStream TokenTree Group TokenStream bare_tree bare_group bare_stream x)
-unfolding bare_tree bare_group bare_stream
-bare-tree x = fold-roll-TokenTree TokenTree Group TokenStream s.tree_step s.group_step s.stream_step x
+bare-tree : (x : o.TokenTree-F TokenTree Group) → bare_tree (roll-TokenTree x) ≡ s.tree_step (map-TokenTree TokenTree Group TokenTree Group bare_tree bare_group x)
+unfolding bare_tree bare_group
+bare-tree x = fold-roll-TokenTree TokenTree Group s.tree_step s.group_step x
 
-bare-group : (x : o.Group-F TokenTree Group TokenStream) → bare_group (roll-Group x) ≡ group_of x.delimiter (bare_stream x.stream) (delim_span none none)
+bare-group : (x : o.Group-F TokenTree Group) → bare_group (roll-Group x) ≡ group_of x.delimiter (bare_stream x.stream) (delim_span none none)
 unfolding bare_tree bare_group bare_stream
-bare-group x = fold-roll-Group TokenTree Group TokenStream s.tree_step s.group_step s.stream_step x
-
-bare-stream : (x : o.TokenStream-F TokenTree Group TokenStream) → bare_stream (roll-TokenStream x) ≡ stream_of_trees (map bare_tree x.trees)
-unfolding bare_tree bare_group bare_stream
-bare-stream x = fold-roll-TokenStream TokenTree Group TokenStream s.tree_step s.group_step s.stream_step x
+bare-group x = fold-roll-Group TokenTree Group s.tree_step s.group_step x
 
 pub bare-ident : (i : Ident) → bare_tree (t.Ident i) ≡ t.Ident (ident i.text none)
 bare-ident i = ap bare_tree (sym (t.rolls-Ident i)) ∙ bare-tree (o.Ident i)
@@ -50,13 +45,14 @@ bare-of-group g = ap bare_tree (sym (t.rolls-Group g)) ∙ bare-tree (o.Group g)
 pub bare_group_is : (g : Group) → bare_group g ≡ group_of (delimiter_of g) (bare_stream (content_of g)) (delim_span none none)
 bare_group_is g = ap bare_group (sym (roll-out-Group g)) ∙ bare-group (out-Group g)
 
-pub bare_stream_is : (c : TokenStream) → bare_stream c ≡ stream_of_trees (map bare_tree (trees c))
-bare_stream_is c = ap bare_stream (sym (roll-out-TokenStream c)) ∙ bare-stream (out-TokenStream c)
+pub bare_stream_is : (c : TokenStream) → bare_stream c ≡ map bare_tree c
+unfolding bare_stream
+bare_stream_is c = refl
 
 -- ---- trees of different kinds
 
 abbrev Layer : Type 0
-Layer = o.TokenTree-F TokenTree Group TokenStream
+Layer = o.TokenTree-F TokenTree Group
 
 abbrev kind : Layer → ℕ
 kind (o.Ident i) = 0
@@ -64,7 +60,7 @@ kind (o.Punct p) = 1
 kind (o.Literal l) = 2
 kind (o.Group g) = 3
 
-bare_layer : (x : Layer) → kind (out-TokenTree (s.tree_step (map-TokenTree TokenTree Group TokenStream TokenTree Group TokenStream bare_tree bare_group bare_stream x))) ≡ kind x
+bare_layer : (x : Layer) → kind (out-TokenTree (s.tree_step (map-TokenTree TokenTree Group TokenTree Group bare_tree bare_group x))) ≡ kind x
 bare_layer (o.Ident i) = ap kind (outs-Ident (ident i.text none))
 bare_layer (o.Punct p) = ap kind (outs-Punct (punct p.ch p.spacing none))
 bare_layer (o.Literal l) = ap kind (outs-Literal (literal l.kind l.text none))
@@ -193,10 +189,10 @@ same_group a b x r e d = (
 -- ---- groups and lists
 
 delimiter_bare : (g : Group) → delimiter_of (bare_group g) ≡ delimiter_of g
-delimiter_bare g = ap delimiter_of (bare_group_is g) ∙ ap (λ (y : o.Group-F TokenTree Group TokenStream). y.delimiter) (out-roll-Group (record { delimiter = delimiter_of g; stream = bare_stream (content_of g); span = delim_span none none }))
+delimiter_bare g = ap delimiter_of (bare_group_is g) ∙ ap (λ (y : o.Group-F TokenTree Group). y.delimiter) (out-roll-Group (record { delimiter = delimiter_of g; stream = bare_stream (content_of g); span = delim_span none none }))
 
 content_bare : (g : Group) → content_of (bare_group g) ≡ bare_stream (content_of g)
-content_bare g = ap content_of (bare_group_is g) ∙ ap (λ (y : o.Group-F TokenTree Group TokenStream). y.stream) (out-roll-Group (record { delimiter = delimiter_of g; stream = bare_stream (content_of g); span = delim_span none none }))
+content_bare g = ap content_of (bare_group_is g) ∙ ap (λ (y : o.Group-F TokenTree Group). y.stream) (out-roll-Group (record { delimiter = delimiter_of g; stream = bare_stream (content_of g); span = delim_span none none }))
 
 pub other_delimiter : (a b : Group) → (delimiter_of a ≡ delimiter_of b → ⊥) → Decides false (bare_group a ≡ bare_group b)
 other_delimiter a b h = ((λ e. absurd (cc)), (λ e. absurd (h (sym (delimiter_bare a) ∙ ap delimiter_of e ∙ delimiter_bare b))))
@@ -207,11 +203,8 @@ same_content a b r h d = (
   (λ e. d.1 (sym (content_bare a) ∙ ap content_of e ∙ content_bare b)),
 )
 
-trees_of : (l : List TokenTree) → trees (stream_of_trees l) ≡ l
-trees_of l = ap (λ (z : o.TokenStream-F TokenTree Group TokenStream). z.trees) (out-roll-TokenStream (record { trees = l }))
-
 bare_trees : (a b : TokenStream) → bare_stream a ≡ bare_stream b → map bare_tree (trees a) ≡ map bare_tree (trees b)
-bare_trees a b e = sym (trees_of (map bare_tree (trees a))) ∙ ap trees (sym (bare_stream_is a) ∙ e ∙ bare_stream_is b) ∙ trees_of (map bare_tree (trees b))
+bare_trees a b e = sym (bare_stream_is a) ∙ e ∙ bare_stream_is b
 
 pub other_length : (a b : TokenStream) → (length (trees a) ≡ length (trees b) → ⊥) → Decides false (bare_stream a ≡ bare_stream b)
 other_length a b h = ((λ e. absurd (cc)), (λ e. absurd (h (sym (length-map (trees a) bare_tree) ∙ ap length (bare_trees a b e) ∙ length-map (trees b) bare_tree))))
@@ -238,4 +231,4 @@ more_same xs ys i x y h k p q e f =
     ∙ ap (λ z. map bare_tree (take i ys) ++ z ∷ []) (ap bare_tree (sym p) ∙ f ∙ ap bare_tree q) ∙ sym (map_more bare_tree ys i y k)
 
 pub all_same : (a b : TokenStream) → map bare_tree (trees a) ≡ map bare_tree (trees b) → Decides true (bare_stream a ≡ bare_stream b)
-all_same a b e = ((λ h. bare_stream_is a ∙ ap stream_of_trees e ∙ sym (bare_stream_is b)), (λ h. refl))
+all_same a b e = ((λ h. bare_stream_is a ∙ e ∙ sym (bare_stream_is b)), (λ h. refl))

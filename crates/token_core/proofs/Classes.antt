@@ -8,10 +8,9 @@ use Rattle.token_core.specs.declared.tree.Delimiter.TheVariants.{Parenthesis, Br
 use Rattle.token_core.specs.declared.tree.Delimiter.TheVariants as d
 use Rattle.token_core.specs.declared.class.Class.TheVariants.{Open}
 use Rattle.token_core.specs.declared.span.DelimSpan.{DelimSpan}
-use Rattle.token_core.specs.declared.tree.TokenStream.{TokenStream}
 use Rattle.token_core.specs.declared.tree.TokenTree.TheOpen as o
 use Rattle.token_core.specs.Toks.{Bytes}
-use Rattle.token_core.specs.Trees.{delimiter_of, span_of, content_of}
+use Rattle.token_core.specs.Trees.{TokenStream, delimiter_of, span_of, content_of}
 use Rattle.token_core.specs.Seen.{saw_delimiter}
 use Rattle.token_core.specs.Entries.{Layer, saw_layer}
 use Rattle.token_core.specs.Classes.{Numbered, words, numbered, among, begins, beginning, words_from, word_number, layer_class, class_of}

@@ -8,17 +8,17 @@ use Rattle.token_core.specs.declared.span.DelimSpan.{DelimSpan}
 use Rattle.token_core.specs.declared.tree.TokenTree.{TokenTree, roll-TokenTree, map-TokenTree, out-TokenTree, roll-out-TokenTree}
 use Rattle.token_core.specs.declared.tree.TokenTree.TheVariants as t
 use Rattle.token_core.specs.declared.tree.TokenTree.TheOpen as o
-use Rattle.token_core.specs.declared.tree.TokenTree.TheFolds.{ind-TokenTree, ind-TokenStream}
+use Rattle.token_core.specs.declared.tree.TokenTree.TheFolds.{ind-TokenTree}
 use Rattle.token_core.specs.declared.tree.Group.{Group, roll-Group, map-Group}
-use Rattle.token_core.specs.declared.tree.TokenStream.{TokenStream, roll-TokenStream, map-TokenStream, out-roll-TokenStream, roll-out-TokenStream}
 use Rattle.token_core.specs.Toks.{Toks, done, group}
 use Rattle.token_core.specs.Trees as s
-use Rattle.token_core.specs.Trees.{trees, group_of, stream_of_trees, toks, row, delimiter_of, span_of, content_of}
+use Rattle.token_core.specs.Trees.{TokenStream, trees, group_of, stream_of_trees, toks, row, delimiter_of, span_of, content_of}
 use Rattle.token_core.specs.Rebuilt.{Levels, onto, stream_of, Visible}
 use Rattle.token_core.specs.Reads.{IsSuffix, all_of, past_word, past_punct, past_lit, past_group, past_enter, past_leave}
 use Rattle.token_core.specs.Positions.{Item, an_ident, a_punct, a_literal, a_beginning, an_end, items, tree_items, row_items, has_tree, is_before, IsReached, there, past}
 use Rattle.token_core.specs.Cut.{up_to, closed, parts, all_parts, trees_between, past_bound}
 use Rattle.token_core.proofs.Flats.{stream-roll}
+use Rattle.token_core.proofs.Rows.{with_each, beside}
 use Rattle.token_core.proofs.Rebuilds.{tree-ident, tree-punct, tree-literal, visible-tree, toks-stream_of}
 use Rattle.token_core.proofs.Positions.{ident_items, punct_items, literal_items, delimited_items, a_group_items, adds_tree}
 use Rattle.token_core.proofs.Places.{reached_after, reached_of}
@@ -31,13 +31,10 @@ row_is [] = refl
 row_is (x ∷ l) = adds_tree x (row l done) ∙ ap (λ z. tree_items x ++ z) (row_is l)
 
 stream_items : (l : List TokenTree) → items (toks (stream_of_trees l)) ≡ row_items l
-stream_items l = ap items (ap (λ f. f done) (stream-roll (record { trees = l }))) ∙ row_is l
+stream_items l = ap items (ap (λ f. f done) (stream-roll l)) ∙ row_is l
 
 whole : (c : TokenStream) → stream_of_trees (trees c ++ []) ≡ c
-whole c = ap stream_of_trees (append-nil (trees c)) ∙ roll-out-TokenStream c
-
-same_trees : (l : List TokenTree) → trees (stream_of_trees l) ≡ l
-same_trees l = ap (λ (z : o.TokenStream-F TokenTree Group TokenStream). z.trees) (out-roll-TokenStream (record { trees = l }))
+whole c = append-nil c
 
 abbrev before : List TokenTree → Levels → Levels
 before ts v = (ts ++ v.0, v.1)
@@ -139,31 +136,28 @@ module _ where
   abbrev WB : Type 0
   WB = (g : Group) × WQ g
 
-  abbrev WC : Type 0
-  WC = (c : TokenStream) × WholeStream c
+  whole_content : (l : List WA) → WholeStream (map (λ (a : WA). a.0) l)
+  whole_content l =
+      let c = map (λ (a : WA). a.0) l in
+      record {
+        first = λ m. ap (λ z. parts (z ++ m)) (stream_items c) ∙ first_all l m;
+        no_end = λ n. ap (λ z. (parts (take n z)).1) (stream_items c) ∙ open_all l n;
+      }
 
-  tree_layer : (y : o.TokenTree-F WA WB WC) → Whole (roll-TokenTree (map-TokenTree WA WB WC TokenTree Group TokenStream (λ a. a.0) (λ b. b.0) (λ c. c.0) y))
+  tree_layer : (y : o.TokenTree-F WA WB) → Whole (roll-TokenTree (map-TokenTree WA WB TokenTree Group (λ a. a.0) (λ b. b.0) y))
   tree_layer (o.Ident i) = leaf (t.Ident i) _ (an_ident i) (t.rolls-Ident i) (ident_items i) (λ l. refl)
   tree_layer (o.Punct p) = leaf (t.Punct p) _ (a_punct p) (t.rolls-Punct p) (punct_items p) (λ l. refl)
   tree_layer (o.Literal k) = leaf (t.Literal k) _ (a_literal k) (t.rolls-Literal k) (literal_items k) (λ l. refl)
   tree_layer (o.Group g) = subst Whole (sym (t.rolls-Group g.0)) g.1
 
-  group_layer : (y : o.Group-F WA WB WC) → WQ (roll-Group (map-Group WA WB WC TokenTree Group TokenStream (λ a. a.0) (λ b. b.0) (λ c. c.0) y))
-  group_layer y = whole_group y.delimiter y.span y.stream.0 y.stream.1
-
-  stream_layer : (y : o.TokenStream-F WA WB WC) → WholeStream (roll-TokenStream (map-TokenStream WA WB WC TokenTree Group TokenStream (λ a. a.0) (λ b. b.0) (λ c. c.0) y))
-  stream_layer y =
-      let l = map (λ (a : WA). a.0) y.trees in
-      record {
-        first = λ m. ap (λ z. parts (z ++ m)) (stream_items l) ∙ first_all y.trees m ∙ ap (λ z. before z (parts m)) (sym (same_trees l));
-        no_end = λ n. ap (λ z. (parts (take n z)).1) (stream_items l) ∙ open_all y.trees n;
-      }
+  group_layer : (y : o.Group-F WA WB) → WQ (roll-Group (map-Group WA WB TokenTree Group (λ a. a.0) (λ b. b.0) y))
+  group_layer y = whole_group y.delimiter y.span (map (λ (a : WA). a.0) y.stream) (whole_content y.stream)
 
   whole_tree : (x : TokenTree) → Whole x
-  whole_tree = ind-TokenTree Whole WQ WholeStream (λ x y is. subst (λ z. Whole (roll-TokenTree z)) is (tree_layer y)) (λ x y is. subst (λ z. WQ (roll-Group z)) is (group_layer y)) (λ x y is. subst (λ z. WholeStream (roll-TokenStream z)) is (stream_layer y))
+  whole_tree = ind-TokenTree Whole WQ (λ x y is. subst (λ z. Whole (roll-TokenTree z)) is (tree_layer y)) (λ x y is. subst (λ z. WQ (roll-Group z)) is (group_layer y))
 
   whole_stream : (c : TokenStream) → WholeStream c
-  whole_stream = ind-TokenStream Whole WQ WholeStream (λ x y is. subst (λ z. Whole (roll-TokenTree z)) is (tree_layer y)) (λ x y is. subst (λ z. WQ (roll-Group z)) is (group_layer y)) (λ x y is. subst (λ z. WholeStream (roll-TokenStream z)) is (stream_layer y))
+  whole_stream c = subst WholeStream (beside Whole whole_tree c) (whole_content (with_each Whole whole_tree c))
 
 -- ---- one step
 
@@ -231,7 +225,7 @@ begins_group g =
 begins : (x : TokenTree) → Begins x
 begins x = subst Begins (roll-out-TokenTree x) (layer (out-TokenTree x))
   where
-    layer : (y : o.TokenTree-F TokenTree Group TokenStream) → Begins (roll-TokenTree y)
+    layer : (y : o.TokenTree-F TokenTree Group) → Begins (roll-TokenTree y)
     layer (o.Ident i) = begins_leaf (t.Ident i) _ (an_ident i) (t.rolls-Ident i) (ident_items i)
     layer (o.Punct p) = begins_leaf (t.Punct p) _ (a_punct p) (t.rolls-Punct p) (punct_items p)
     layer (o.Literal l) = begins_leaf (t.Literal l) _ (a_literal l) (t.rolls-Literal l) (literal_items l)

@@ -7,50 +7,43 @@ use Rattle.token_core.specs.declared.span.DelimSpan.{DelimSpan}
 use Rattle.token_core.specs.declared.tree.TokenTree.{TokenTree, out-TokenTree, roll-TokenTree, map-TokenTree, roll-out-TokenTree}
 use Rattle.token_core.specs.declared.tree.TokenTree.TheVariants as t
 use Rattle.token_core.specs.declared.tree.TokenTree.TheOpen as o
-use Rattle.token_core.specs.declared.tree.TokenTree.TheFolds.{fold-roll-TokenTree, fold-roll-Group, fold-roll-TokenStream, ind-TokenTree, ind-TokenStream}
+use Rattle.token_core.specs.declared.tree.TokenTree.TheFolds.{fold-roll-TokenTree, fold-roll-Group, ind-TokenTree}
 use Rattle.token_core.specs.declared.tree.Group.{Group, out-Group, roll-Group, map-Group, roll-out-Group}
-use Rattle.token_core.specs.declared.tree.TokenStream.{TokenStream, out-TokenStream, roll-TokenStream, map-TokenStream, roll-out-TokenStream}
 use Rattle.token_core.specs.Toks.{group, enter}
 use Rattle.token_core.specs.Trees as s
-use Rattle.token_core.specs.Trees.{Before, trees, group_of, stream_of_trees, delimiter_of, content_of, span_of, all, grouped, toks}
+use Rattle.token_core.specs.Trees.{TokenStream, Before, group_of, delimiter_of, content_of, span_of, all, grouped, toks}
 use Rattle.token_core.specs.Seen.{Seen, view, saw_word, saw_mark, saw_lit, saw_group, saw_enter, saw_leave, saw_delimiter, view-nil, view-word, view-mark, view-lit, view-group, view-enter, view-leave}
 use Rattle.token_core.specs.Entries as e
-use Rattle.token_core.specs.Entries.{Flat, all_of, firsts, seconds, KnownTree, KnownGroup, KnownStream, known_tree, known_group, known_stream, flat_tree, flat_group, flat_stream, Inside, Nested}
+use Rattle.token_core.specs.Entries.{Flat, all_of, firsts, seconds, closed, KnownTree, KnownGroup, known_tree, known_group, flat_tree, flat_group, flat_stream, Inside, Nested}
+use Rattle.token_core.proofs.Rows.{with_each, beside}
 
 -- ---- one layer at a time
 
 abbrev pub TreeLayer : Type 0
-TreeLayer = o.TokenTree-F TokenTree Group TokenStream
+TreeLayer = o.TokenTree-F TokenTree Group
 
 abbrev pub GroupLayer : Type 0
-GroupLayer = o.Group-F TokenTree Group TokenStream
+GroupLayer = o.Group-F TokenTree Group
 
-abbrev pub StreamLayer : Type 0
-StreamLayer = o.TokenStream-F TokenTree Group TokenStream
+known-tree : (x : TreeLayer) → known_tree (roll-TokenTree x) ≡ e.tree_step (map-TokenTree TokenTree Group KnownTree KnownGroup known_tree known_group x)
+unfolding known_tree known_group
+known-tree x = fold-roll-TokenTree KnownTree KnownGroup e.tree_step e.group_step x
 
-known-tree : (x : TreeLayer) → known_tree (roll-TokenTree x) ≡ e.tree_step (map-TokenTree TokenTree Group TokenStream KnownTree KnownGroup KnownStream known_tree known_group known_stream x)
-unfolding known_tree known_group known_stream
-known-tree x = fold-roll-TokenTree KnownTree KnownGroup KnownStream e.tree_step e.group_step e.stream_step x
+known-group : (x : GroupLayer) → known_group (roll-Group x) ≡ e.group_step (map-Group TokenTree Group KnownTree KnownGroup known_tree known_group x)
+unfolding known_tree known_group
+known-group x = fold-roll-Group KnownTree KnownGroup e.tree_step e.group_step x
 
-known-group : (x : GroupLayer) → known_group (roll-Group x) ≡ e.group_step (map-Group TokenTree Group TokenStream KnownTree KnownGroup KnownStream known_tree known_group known_stream x)
-unfolding known_tree known_group known_stream
-known-group x = fold-roll-Group KnownTree KnownGroup KnownStream e.tree_step e.group_step e.stream_step x
-
-known-stream : (x : StreamLayer) → known_stream (roll-TokenStream x) ≡ e.stream_step (map-TokenStream TokenTree Group TokenStream KnownTree KnownGroup KnownStream known_tree known_group known_stream x)
-unfolding known_tree known_group known_stream
-known-stream x = fold-roll-TokenStream KnownTree KnownGroup KnownStream e.tree_step e.group_step e.stream_step x
-
-pub tree-roll : (x : TreeLayer) → s.tree (roll-TokenTree x) ≡ s.tree_step (map-TokenTree TokenTree Group TokenStream Before Before Before s.tree s.inside s.stream x)
-unfolding s.tree s.inside s.stream
-tree-roll x = fold-roll-TokenTree Before Before Before s.tree_step s.group_step s.stream_step x
+pub tree-roll : (x : TreeLayer) → s.tree (roll-TokenTree x) ≡ s.tree_step (map-TokenTree TokenTree Group Before Before s.tree s.inside x)
+unfolding s.tree s.inside
+tree-roll x = fold-roll-TokenTree Before Before s.tree_step s.group_step x
 
 pub group-roll : (x : GroupLayer) → s.inside (roll-Group x) ≡ grouped x.delimiter x.span (s.stream x.stream)
 unfolding s.tree s.inside s.stream
-group-roll x = fold-roll-Group Before Before Before s.tree_step s.group_step s.stream_step x
+group-roll x = fold-roll-Group Before Before s.tree_step s.group_step x
 
-pub stream-roll : (x : StreamLayer) → s.stream (roll-TokenStream x) ≡ all (map s.tree x.trees)
-unfolding s.tree s.inside s.stream
-stream-roll x = fold-roll-TokenStream Before Before Before s.tree_step s.group_step s.stream_step x
+pub stream-roll : (c : TokenStream) → s.stream c ≡ all (map s.tree c)
+unfolding s.stream
+stream-roll c = refl
 
 -- ---- a tree that is kept beside its entries is that tree
 
@@ -61,36 +54,31 @@ module _ where
   abbrev Q : Group → Type 0
   Q g = (known_group g).0 ≡ g
 
-  abbrev R : TokenStream → Type 0
-  R s = (known_stream s).0 ≡ s
-
   abbrev A : Type 0
   A = (t : TokenTree) × P t
 
   abbrev B : Type 0
   B = (g : Group) × Q g
 
-  abbrev C : Type 0
-  C = (s : TokenStream) × R s
-
   firsts_known : (l : List A) → firsts (map known_tree (map (λ (a : A). a.0) l)) ≡ map (λ (a : A). a.0) l
   firsts_known [] = refl
   firsts_known (a ∷ l) = ap (λ x. x ∷ firsts (map known_tree (map (λ (a : A). a.0) l))) a.1 ∙ ap (λ x. a.0 ∷ x) (firsts_known l)
 
-  tree_layer : (y : o.TokenTree-F A B C) → P (roll-TokenTree (map-TokenTree A B C TokenTree Group TokenStream (λ a. a.0) (λ b. b.0) (λ c. c.0) y))
+  tree_layer : (y : o.TokenTree-F A B) → P (roll-TokenTree (map-TokenTree A B TokenTree Group (λ a. a.0) (λ b. b.0) y))
   tree_layer (o.Ident i) = ap (λ (k : KnownTree). k.0) (known-tree (o.Ident i)) ∙ sym (t.rolls-Ident i)
   tree_layer (o.Punct p) = ap (λ (k : KnownTree). k.0) (known-tree (o.Punct p)) ∙ sym (t.rolls-Punct p)
   tree_layer (o.Literal l) = ap (λ (k : KnownTree). k.0) (known-tree (o.Literal l)) ∙ sym (t.rolls-Literal l)
   tree_layer (o.Group g) = ap (λ (k : KnownTree). k.0) (known-tree (o.Group g.0)) ∙ ap t.Group g.1 ∙ sym (t.rolls-Group g.0)
 
-  group_layer : (y : o.Group-F A B C) → Q (roll-Group (map-Group A B C TokenTree Group TokenStream (λ a. a.0) (λ b. b.0) (λ c. c.0) y))
-  group_layer y = ap (λ (k : KnownGroup). k.0) (known-group (record { delimiter = y.delimiter; stream = y.stream.0; span = y.span })) ∙ ap (λ z. group_of y.delimiter z y.span) y.stream.1
+  group_layer : (y : o.Group-F A B) → Q (roll-Group (map-Group A B TokenTree Group (λ a. a.0) (λ b. b.0) y))
+  group_layer y = ap (λ (k : KnownGroup). k.0) (known-group (record { delimiter = y.delimiter; stream = map (λ (a : A). a.0) y.stream; span = y.span })) ∙ ap (λ z. group_of y.delimiter z y.span) (firsts_known y.stream)
 
-  stream_layer : (y : o.TokenStream-F A B C) → R (roll-TokenStream (map-TokenStream A B C TokenTree Group TokenStream (λ a. a.0) (λ b. b.0) (λ c. c.0) y))
-  stream_layer y = ap (λ (k : KnownStream). k.0) (known-stream (record { trees = map (λ (a : A). a.0) y.trees })) ∙ ap stream_of_trees (firsts_known y.trees)
+  known_tree_is : (t : TokenTree) → P t
+  known_tree_is = ind-TokenTree P Q (λ x y is. subst (λ z. P (roll-TokenTree z)) is (tree_layer y)) (λ x y is. subst (λ z. Q (roll-Group z)) is (group_layer y))
 
-  known_is : (s : TokenStream) → R s
-  known_is = ind-TokenStream P Q R (λ x y is. subst (λ z. P (roll-TokenTree z)) is (tree_layer y)) (λ x y is. subst (λ z. Q (roll-Group z)) is (group_layer y)) (λ x y is. subst (λ z. R (roll-TokenStream z)) is (stream_layer y))
+known_is : (c : TokenStream) → firsts (map known_tree c) ≡ c
+known_is [] = refl
+known_is (t ∷ c) = ap (λ x. x ∷ firsts (map known_tree c)) (known_tree_is t) ∙ ap (λ x. t ∷ x) (known_is c)
 
 -- ---- the entries of a tree, of a group and of a list
 
@@ -101,11 +89,15 @@ flats_known (t ∷ l) = ap (λ x. flat_tree t ∷ x) (flats_known l)
 abbrev pub group_flat : Delimiter → DelimSpan → TokenStream → Flat
 group_flat d s c = saw_delimiter d s c (length (flat_stream c)) ∷ (flat_stream c ++ saw_leave ∷ [])
 
-flat-group-roll : (x : GroupLayer) → flat_group (roll-Group x) ≡ group_flat x.delimiter x.span x.stream
-flat-group-roll x = ap (λ (k : KnownGroup). k.1) (known-group x) ∙ ap (λ z. saw_delimiter x.delimiter x.span z (length (flat_stream x.stream)) ∷ (flat_stream x.stream ++ saw_leave ∷ [])) (known_is x.stream)
+pub flat_stream_is : (c : TokenStream) → flat_stream c ≡ all_of (map flat_tree c)
+unfolding flat_stream
+flat_stream_is c = refl
 
-flat-stream-roll : (x : StreamLayer) → flat_stream (roll-TokenStream x) ≡ all_of (map flat_tree x.trees)
-flat-stream-roll x = ap (λ (k : KnownStream). k.1) (known-stream x) ∙ ap all_of (flats_known x.trees)
+flat-group-roll : (x : GroupLayer) → flat_group (roll-Group x) ≡ group_flat x.delimiter x.span x.stream
+flat-group-roll x =
+    ap (λ (k : KnownGroup). k.1) (known-group x)
+    ∙ ap (λ z. (closed x.delimiter x.span z (all_of (seconds (map known_tree x.stream)))).1) (known_is x.stream)
+    ∙ ap (λ z. (closed x.delimiter x.span x.stream z).1) (ap all_of (flats_known x.stream) ∙ sym (flat_stream_is x.stream))
 
 abbrev pub tree_flat : e.Layer → Flat
 tree_flat (o.Ident i) = saw_word i ∷ []
@@ -156,36 +148,38 @@ module _ where
   abbrev NQ : Group → Type 0
   NQ g = Nested (flat_group g)
 
-  abbrev NR : TokenStream → Type 0
-  NR s = Nested (flat_stream s)
-
   abbrev NA : Type 0
   NA = (t : TokenTree) × NP t
 
   abbrev NB : Type 0
   NB = (g : Group) × NQ g
 
-  abbrev NC : Type 0
-  NC = (s : TokenStream) × NR s
+  abbrev nested_trees : List NA → TokenStream
+  nested_trees l = map (λ (a : NA). a.0) l
 
-  nested_all : (l : List NA) → Nested (all_of (map flat_tree (map (λ (a : NA). a.0) l)))
+  nested_all : (l : List NA) → Nested (all_of (map flat_tree (nested_trees l)))
   nested_all [] = tt
-  nested_all (a ∷ l) = nested_append (flat_tree a.0) (all_of (map flat_tree (map (λ (a : NA). a.0) l))) a.1 (nested_all l)
+  nested_all (a ∷ l) = nested_append (flat_tree a.0) (all_of (map flat_tree (nested_trees l))) a.1 (nested_all l)
 
-  nested_tree_layer : (y : o.TokenTree-F NA NB NC) → NP (roll-TokenTree (map-TokenTree NA NB NC TokenTree Group TokenStream (λ a. a.0) (λ b. b.0) (λ c. c.0) y))
+  nested_content : (l : List NA) → Nested (flat_stream (nested_trees l))
+  nested_content l = subst Nested (sym (flat_stream_is (nested_trees l))) (nested_all l)
+
+  nested_tree_layer : (y : o.TokenTree-F NA NB) → NP (roll-TokenTree (map-TokenTree NA NB TokenTree Group (λ a. a.0) (λ b. b.0) y))
   nested_tree_layer (o.Ident i) = subst Nested (sym (flat-tree-roll (o.Ident i))) tt
   nested_tree_layer (o.Punct p) = subst Nested (sym (flat-tree-roll (o.Punct p))) tt
   nested_tree_layer (o.Literal l) = subst Nested (sym (flat-tree-roll (o.Literal l))) tt
   nested_tree_layer (o.Group g) = subst Nested (sym (flat-tree-roll (o.Group g.0))) g.1
 
-  nested_group_layer : (y : o.Group-F NA NB NC) → NQ (roll-Group (map-Group NA NB NC TokenTree Group TokenStream (λ a. a.0) (λ b. b.0) (λ c. c.0) y))
-  nested_group_layer y = subst Nested (sym (flat-group-roll (record { delimiter = y.delimiter; stream = y.stream.0; span = y.span }))) (nested_group y.delimiter y.span y.stream.0 y.stream.1)
+  nested_group_layer : (y : o.Group-F NA NB) → NQ (roll-Group (map-Group NA NB TokenTree Group (λ a. a.0) (λ b. b.0) y))
+  nested_group_layer y =
+      let c = nested_trees y.stream in
+      subst Nested (sym (flat-group-roll (record { delimiter = y.delimiter; stream = c; span = y.span }))) (nested_group y.delimiter y.span c (nested_content y.stream))
 
-  nested_stream_layer : (y : o.TokenStream-F NA NB NC) → NR (roll-TokenStream (map-TokenStream NA NB NC TokenTree Group TokenStream (λ a. a.0) (λ b. b.0) (λ c. c.0) y))
-  nested_stream_layer y = subst Nested (sym (flat-stream-roll (record { trees = map (λ (a : NA). a.0) y.trees }))) (nested_all y.trees)
+  nested_tree : (t : TokenTree) → NP t
+  nested_tree = ind-TokenTree NP NQ (λ x y is. subst (λ z. NP (roll-TokenTree z)) is (nested_tree_layer y)) (λ x y is. subst (λ z. NQ (roll-Group z)) is (nested_group_layer y))
 
-  pub nested_flat : (s : TokenStream) → Nested (flat_stream s)
-  nested_flat = ind-TokenStream NP NQ NR (λ x y is. subst (λ z. NP (roll-TokenTree z)) is (nested_tree_layer y)) (λ x y is. subst (λ z. NQ (roll-Group z)) is (nested_group_layer y)) (λ x y is. subst (λ z. NR (roll-TokenStream z)) is (nested_stream_layer y))
+  pub nested_flat : (c : TokenStream) → Nested (flat_stream c)
+  nested_flat c = subst (λ z. Nested (flat_stream z)) (beside NP nested_tree c) (nested_content (with_each NP nested_tree c))
 
 -- ---- they show the tokens
 
@@ -236,51 +230,46 @@ module _ where
   abbrev SB : Type 0
   SB = (g : Group) × SQ g
 
-  abbrev SC : Type 0
-  SC = (c : TokenStream) × Shows c
+  abbrev shown_trees : List SA → TokenStream
+  shown_trees l = map (λ (a : SA). a.0) l
 
-  shows_all : (l : List SA) (m : Flat) → view (all_of (map flat_tree (map (λ (a : SA). a.0) l)) ++ m) ≡ all (map s.tree (map (λ (a : SA). a.0) l)) (view m)
+  shows_all : (l : List SA) (m : Flat) → view (all_of (map flat_tree (shown_trees l)) ++ m) ≡ all (map s.tree (shown_trees l)) (view m)
   shows_all [] m = refl
   shows_all (a ∷ l) m =
-      ap view (append_assoc (flat_tree a.0) (all_of (map flat_tree (map (λ (a : SA). a.0) l))) m)
-      ∙ a.1 (all_of (map flat_tree (map (λ (a : SA). a.0) l)) ++ m)
+      ap view (append_assoc (flat_tree a.0) (all_of (map flat_tree (shown_trees l))) m)
+      ∙ a.1 (all_of (map flat_tree (shown_trees l)) ++ m)
       ∙ ap (s.tree a.0) (shows_all l m)
+
+  shows_content : (l : List SA) → Shows (shown_trees l)
+  shows_content l = λ m. ap (λ k. view (k ++ m)) (flat_stream_is (shown_trees l)) ∙ shows_all l m ∙ sym (ap (λ f. f (view m)) (stream-roll (shown_trees l)))
 
   shows_leaf : (x : TreeLayer) (z : Seen) (l : Flat) → tree_flat x ≡ z ∷ [] → view (z ∷ l) ≡ s.tree (roll-TokenTree x) (view l) → view (flat_tree (roll-TokenTree x) ++ l) ≡ s.tree (roll-TokenTree x) (view l)
   shows_leaf x z l i h = ap (λ k. view (k ++ l)) (flat-tree-roll x ∙ i) ∙ h
 
-  shows_tree_layer : (y : o.TokenTree-F SA SB SC) → SP (roll-TokenTree (map-TokenTree SA SB SC TokenTree Group TokenStream (λ a. a.0) (λ b. b.0) (λ c. c.0) y))
+  shows_tree_layer : (y : o.TokenTree-F SA SB) → SP (roll-TokenTree (map-TokenTree SA SB TokenTree Group (λ a. a.0) (λ b. b.0) y))
   shows_tree_layer (o.Ident i) = λ l. shows_leaf (o.Ident i) (saw_word i) l refl (view-word i l ∙ sym (ap (λ f. f (view l)) (tree-roll (o.Ident i))))
   shows_tree_layer (o.Punct p) = λ l. shows_leaf (o.Punct p) (saw_mark p) l refl (view-mark p l ∙ sym (ap (λ f. f (view l)) (tree-roll (o.Punct p))))
   shows_tree_layer (o.Literal k) = λ l. shows_leaf (o.Literal k) (saw_lit k) l refl (view-lit k l ∙ sym (ap (λ f. f (view l)) (tree-roll (o.Literal k))))
   shows_tree_layer (o.Group g) = λ l. ap (λ k. view (k ++ l)) (flat-tree-roll (o.Group g.0)) ∙ g.1 l ∙ sym (ap (λ f. f (view l)) (tree-roll (o.Group g.0)))
 
-  shows_group_layer : (y : o.Group-F SA SB SC) → SQ (roll-Group (map-Group SA SB SC TokenTree Group TokenStream (λ a. a.0) (λ b. b.0) (λ c. c.0) y))
+  shows_group_layer : (y : o.Group-F SA SB) → SQ (roll-Group (map-Group SA SB TokenTree Group (λ a. a.0) (λ b. b.0) y))
   shows_group_layer y = λ l.
-      ap (λ k. view (k ++ l)) (flat-group-roll (record { delimiter = y.delimiter; stream = y.stream.0; span = y.span }))
-      ∙ shows_group y.delimiter y.span y.stream.0 l y.stream.1
-      ∙ sym (ap (λ f. f (view l)) (group-roll (record { delimiter = y.delimiter; stream = y.stream.0; span = y.span })))
-
-  shows_stream_layer : (y : o.TokenStream-F SA SB SC) → Shows (roll-TokenStream (map-TokenStream SA SB SC TokenTree Group TokenStream (λ a. a.0) (λ b. b.0) (λ c. c.0) y))
-  shows_stream_layer y = λ l.
-      ap (λ k. view (k ++ l)) (flat-stream-roll (record { trees = map (λ (a : SA). a.0) y.trees }))
-      ∙ shows_all y.trees l
-      ∙ sym (ap (λ f. f (view l)) (stream-roll (record { trees = map (λ (a : SA). a.0) y.trees })))
+      let c = shown_trees y.stream in
+      ap (λ k. view (k ++ l)) (flat-group-roll (record { delimiter = y.delimiter; stream = c; span = y.span }))
+      ∙ shows_group y.delimiter y.span c l (shows_content y.stream)
+      ∙ sym (ap (λ f. f (view l)) (group-roll (record { delimiter = y.delimiter; stream = c; span = y.span })))
 
   shows_tree : (t : TokenTree) → SP t
-  shows_tree = ind-TokenTree SP SQ Shows (λ x y is. subst (λ z. SP (roll-TokenTree z)) is (shows_tree_layer y)) (λ x y is. subst (λ z. SQ (roll-Group z)) is (shows_group_layer y)) (λ x y is. subst (λ z. Shows (roll-TokenStream z)) is (shows_stream_layer y))
+  shows_tree = ind-TokenTree SP SQ (λ x y is. subst (λ z. SP (roll-TokenTree z)) is (shows_tree_layer y)) (λ x y is. subst (λ z. SQ (roll-Group z)) is (shows_group_layer y))
 
   pub shows_stream : (c : TokenStream) → Shows c
-  shows_stream = ind-TokenStream SP SQ Shows (λ x y is. subst (λ z. SP (roll-TokenTree z)) is (shows_tree_layer y)) (λ x y is. subst (λ z. SQ (roll-Group z)) is (shows_group_layer y)) (λ x y is. subst (λ z. Shows (roll-TokenStream z)) is (shows_stream_layer y))
+  shows_stream c = subst Shows (beside SP shows_tree c) (shows_content (with_each SP shows_tree c))
 
 -- the entries of a list show its tokens
 pub view-flat : (c : TokenStream) → view (flat_stream c) ≡ toks c
 view-flat c = shows_alone c (shows_stream c)
 
 -- ---- the same, of a tree that is opened
-
-pub flat_stream_is : (c : TokenStream) → flat_stream c ≡ all_of (map flat_tree (trees c))
-flat_stream_is c = ap flat_stream (sym (roll-out-TokenStream c)) ∙ flat-stream-roll (out-TokenStream c)
 
 pub flat_tree_is : (t : TokenTree) → flat_tree t ≡ tree_flat (out-TokenTree t)
 flat_tree_is t = ap flat_tree (sym (roll-out-TokenTree t)) ∙ flat-tree-roll (out-TokenTree t)

@@ -7,18 +7,18 @@ use Rattle.token_core.specs.declared.tree.Delimiter.TheVariants as d
 use Rattle.token_core.specs.declared.span.DelimSpan.{DelimSpan}
 use Rattle.token_core.specs.declared.tree.TokenTree.{TokenTree, roll-TokenTree, map-TokenTree}
 use Rattle.token_core.specs.declared.tree.TokenTree.TheOpen as o
-use Rattle.token_core.specs.declared.tree.TokenTree.TheFolds.{ind-TokenStream}
+use Rattle.token_core.specs.declared.tree.TokenTree.TheFolds.{ind-TokenTree}
 use Rattle.token_core.specs.declared.tree.Group.{Group, roll-Group, map-Group}
-use Rattle.token_core.specs.declared.tree.TokenStream.{TokenStream, roll-TokenStream, map-TokenStream}
 use Rattle.token_core.specs.Toks.{Toks, done, word, mark, lit, group, enter, leave}
 use Rattle.token_core.specs.Trees as s
-use Rattle.token_core.specs.Trees.{Before, all, grouped}
+use Rattle.token_core.specs.Trees.{TokenStream, Before, all, grouped}
 use Rattle.token_core.specs.Seen.{Seen, view, saw_leave, saw_delimiter, view-enter, view-leave, view-group}
 use Rattle.token_core.specs.Entries.{saw, entries_view, Nested, Inside, flat_stream}
 use Rattle.token_core.specs.Groups.{within, beyond, as_invisible, next_invisible}
 use Rattle.token_core.specs.Reads.{IsSuffix, all_of, past_word, past_punct, past_lit, past_group, past_enter, past_leave}
 use Rattle.token_core.proofs.Flats.{tree-roll, group-roll, stream-roll, shows_stream, nested_flat, view-flat}
 use Rattle.token_core.proofs.Fronts.{inside_taken, nested_drop}
+use Rattle.token_core.proofs.Rows.{with_each, beside}
 
 -- ---- the bounds of a group hold what they hold, whatever trees stand before their end
 
@@ -50,34 +50,36 @@ module _ where
   abbrev KB : Type 0
   KB = (g : Group) × KQ g
 
-  abbrev KC : Type 0
-  KC = (c : TokenStream) × KR c
+  abbrev trees_of : List KA → TokenStream
+  trees_of l = map (λ (a : KA). a.0) l
 
-  keeps_all : (l : List KA) → Keeps (all (map s.tree (map (λ (a : KA). a.0) l)))
+  keeps_all : (l : List KA) → Keeps (all (map s.tree (trees_of l)))
   keeps_all [] = λ n r. (refl, refl)
   keeps_all (a ∷ l) = λ n r.
       let h = keeps_all l n r in
-      let k = a.1 n (all (map s.tree (map (λ (b : KA). b.0) l)) r) in
+      let k = a.1 n (all (map s.tree (trees_of l)) r) in
       (k.0 ∙ ap (s.tree a.0) h.0, k.1 ∙ h.1)
 
-  keeps_tree_layer : (y : o.TokenTree-F KA KB KC) → KP (roll-TokenTree (map-TokenTree KA KB KC TokenTree Group TokenStream (λ a. a.0) (λ b. b.0) (λ c. c.0) y))
+  keeps_content : (l : List KA) → KR (trees_of l)
+  keeps_content l = moved (s.stream (trees_of l)) (all (map s.tree (trees_of l))) (λ r. ap (λ (f : Before). f r) (stream-roll (trees_of l))) (keeps_all l)
+
+  keeps_tree_layer : (y : o.TokenTree-F KA KB) → KP (roll-TokenTree (map-TokenTree KA KB TokenTree Group (λ a. a.0) (λ b. b.0) y))
   keeps_tree_layer (o.Ident i) = moved (s.tree (roll-TokenTree (o.Ident i))) (word i) (λ r. ap (λ (f : Before). f r) (tree-roll (o.Ident i))) (λ n r. (refl, refl))
   keeps_tree_layer (o.Punct p) = moved (s.tree (roll-TokenTree (o.Punct p))) (mark p) (λ r. ap (λ (f : Before). f r) (tree-roll (o.Punct p))) (λ n r. (refl, refl))
   keeps_tree_layer (o.Literal l) = moved (s.tree (roll-TokenTree (o.Literal l))) (lit l) (λ r. ap (λ (f : Before). f r) (tree-roll (o.Literal l))) (λ n r. (refl, refl))
   keeps_tree_layer (o.Group g) = moved (s.tree (roll-TokenTree (o.Group g.0))) (s.inside g.0) (λ r. ap (λ (f : Before). f r) (tree-roll (o.Group g.0))) g.1
 
-  keeps_group_layer : (y : o.Group-F KA KB KC) → KQ (roll-Group (map-Group KA KB KC TokenTree Group TokenStream (λ a. a.0) (λ b. b.0) (λ c. c.0) y))
+  keeps_group_layer : (y : o.Group-F KA KB) → KQ (roll-Group (map-Group KA KB TokenTree Group (λ a. a.0) (λ b. b.0) y))
   keeps_group_layer y =
-      moved (s.inside (roll-Group (record { delimiter = y.delimiter; stream = y.stream.0; span = y.span }))) (grouped y.delimiter y.span (s.stream y.stream.0))
-      (λ r. ap (λ (f : Before). f r) (group-roll (record { delimiter = y.delimiter; stream = y.stream.0; span = y.span }))) (keeps_group y.delimiter y.span (s.stream y.stream.0) y.stream.1)
+      let c = trees_of y.stream in
+      moved (s.inside (roll-Group (record { delimiter = y.delimiter; stream = c; span = y.span }))) (grouped y.delimiter y.span (s.stream c))
+      (λ r. ap (λ (f : Before). f r) (group-roll (record { delimiter = y.delimiter; stream = c; span = y.span }))) (keeps_group y.delimiter y.span (s.stream c) (keeps_content y.stream))
 
-  keeps_stream_layer : (y : o.TokenStream-F KA KB KC) → KR (roll-TokenStream (map-TokenStream KA KB KC TokenTree Group TokenStream (λ a. a.0) (λ b. b.0) (λ c. c.0) y))
-  keeps_stream_layer y =
-      moved (s.stream (roll-TokenStream (record { trees = map (λ (a : KA). a.0) y.trees }))) (all (map s.tree (map (λ (a : KA). a.0) y.trees)))
-      (λ r. ap (λ (f : Before). f r) (stream-roll (record { trees = map (λ (a : KA). a.0) y.trees }))) (keeps_all y.trees)
+  keeps_tree : (t : TokenTree) → KP t
+  keeps_tree = ind-TokenTree KP KQ (λ x y is. subst (λ z. KP (roll-TokenTree z)) is (keeps_tree_layer y)) (λ x y is. subst (λ z. KQ (roll-Group z)) is (keeps_group_layer y))
 
   pub keeps_stream : (c : TokenStream) → KR c
-  keeps_stream = ind-TokenStream KP KQ KR (λ x y is. subst (λ z. KP (roll-TokenTree z)) is (keeps_tree_layer y)) (λ x y is. subst (λ z. KQ (roll-Group z)) is (keeps_group_layer y)) (λ x y is. subst (λ z. KR (roll-TokenStream z)) is (keeps_stream_layer y))
+  keeps_stream c = subst KR (beside KP keeps_tree c) (keeps_content (with_each KP keeps_tree c))
 
 -- ---- the entries of the group
 

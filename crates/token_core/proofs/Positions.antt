@@ -11,17 +11,17 @@ use Rattle.token_core.specs.declared.tree.Literal.{Literal}
 use Rattle.token_core.specs.declared.tree.TokenTree.{TokenTree, roll-TokenTree, map-TokenTree}
 use Rattle.token_core.specs.declared.tree.TokenTree.TheVariants as t
 use Rattle.token_core.specs.declared.tree.TokenTree.TheOpen as o
-use Rattle.token_core.specs.declared.tree.TokenTree.TheFolds.{ind-TokenTree, ind-TokenStream}
+use Rattle.token_core.specs.declared.tree.TokenTree.TheFolds.{ind-TokenTree}
 use Rattle.token_core.specs.declared.tree.Group.{Group, roll-Group, map-Group, roll-out-Group}
-use Rattle.token_core.specs.declared.tree.TokenStream.{TokenStream, roll-TokenStream, map-TokenStream}
 use Rattle.token_core.specs.Toks.{Toks, done, word, mark, lit, group, leave}
 use Rattle.token_core.specs.Trees as s
-use Rattle.token_core.specs.Trees.{Before, all, grouped, toks, group_of, delimiter_of, span_of, content_of, row}
+use Rattle.token_core.specs.Trees.{TokenStream, Before, all, grouped, toks, group_of, delimiter_of, span_of, content_of, row}
 use Rattle.token_core.specs.Seen.{view, saw_word, saw_mark, saw_lit, saw_group, saw_enter, saw_leave, saw_delimiter, view-nil, view-word, view-mark, view-lit, view-group, view-enter, view-leave}
 use Rattle.token_core.specs.Entries.{Flat, saw, entries_view, Nested, Inside, flat_stream}
 use Rattle.token_core.specs.Positions.{an_ident, a_punct, a_literal, a_beginning, an_end, items, item, tree_items, entries_items}
 use Rattle.token_core.proofs.Flats.{tree-roll, group-roll, stream-roll, nested_flat, view-flat}
 use Rattle.token_core.proofs.Fronts.{inside_taken, nested_from}
+use Rattle.token_core.proofs.Rows.{with_each, beside}
 use Rattle.token_core.proofs.Rebuilds.{tree-ident, tree-punct, tree-literal, tree-group}
 
 -- ---- tokens that are put before others add their items
@@ -65,37 +65,36 @@ module _ where
   abbrev AB : Type 0
   AB = (g : Group) × AQ g
 
-  abbrev AC : Type 0
-  AC = (c : TokenStream) × AR c
+  abbrev trees_of : List AA → TokenStream
+  trees_of l = map (λ (a : AA). a.0) l
 
-  adds_all : (l : List AA) → Adds (all (map s.tree (map (λ (a : AA). a.0) l)))
+  adds_all : (l : List AA) → Adds (all (map s.tree (trees_of l)))
   adds_all [] = λ k. refl
   adds_all (a ∷ l) = λ k.
-      let f = all (map s.tree (map (λ (b : AA). b.0) l)) in
+      let f = all (map s.tree (trees_of l)) in
       a.1 (f k) ∙ ap (λ z. items (s.tree a.0 done) ++ z) (adds_all l k) ∙ sym (append_assoc (items (s.tree a.0 done)) (items (f done)) (items k)) ∙ ap (λ z. z ++ items k) (sym (a.1 (f done)))
 
-  adds_tree_layer : (y : o.TokenTree-F AA AB AC) → AP (roll-TokenTree (map-TokenTree AA AB AC TokenTree Group TokenStream (λ a. a.0) (λ b. b.0) (λ c. c.0) y))
+  adds_content : (l : List AA) → AR (trees_of l)
+  adds_content l = moved (s.stream (trees_of l)) (all (map s.tree (trees_of l))) (λ r. ap (λ (f : Before). f r) (stream-roll (trees_of l))) (adds_all l)
+
+  adds_tree_layer : (y : o.TokenTree-F AA AB) → AP (roll-TokenTree (map-TokenTree AA AB TokenTree Group (λ a. a.0) (λ b. b.0) y))
   adds_tree_layer (o.Ident i) = moved (s.tree (roll-TokenTree (o.Ident i))) (word i) (λ r. ap (λ (f : Before). f r) (tree-roll (o.Ident i))) (λ k. refl)
   adds_tree_layer (o.Punct p) = moved (s.tree (roll-TokenTree (o.Punct p))) (mark p) (λ r. ap (λ (f : Before). f r) (tree-roll (o.Punct p))) (λ k. refl)
   adds_tree_layer (o.Literal l) = moved (s.tree (roll-TokenTree (o.Literal l))) (lit l) (λ r. ap (λ (f : Before). f r) (tree-roll (o.Literal l))) (λ k. refl)
   adds_tree_layer (o.Group g) = moved (s.tree (roll-TokenTree (o.Group g.0))) (s.inside g.0) (λ r. ap (λ (f : Before). f r) (tree-roll (o.Group g.0))) g.1
 
-  adds_group_layer : (y : o.Group-F AA AB AC) → AQ (roll-Group (map-Group AA AB AC TokenTree Group TokenStream (λ a. a.0) (λ b. b.0) (λ c. c.0) y))
+  adds_group_layer : (y : o.Group-F AA AB) → AQ (roll-Group (map-Group AA AB TokenTree Group (λ a. a.0) (λ b. b.0) y))
   adds_group_layer y =
-      moved (s.inside (roll-Group (record { delimiter = y.delimiter; stream = y.stream.0; span = y.span }))) (grouped y.delimiter y.span (s.stream y.stream.0))
-      (λ r. ap (λ (f : Before). f r) (group-roll (record { delimiter = y.delimiter; stream = y.stream.0; span = y.span }))) (adds_group y.delimiter y.span (s.stream y.stream.0) y.stream.1)
-
-  adds_stream_layer : (y : o.TokenStream-F AA AB AC) → AR (roll-TokenStream (map-TokenStream AA AB AC TokenTree Group TokenStream (λ a. a.0) (λ b. b.0) (λ c. c.0) y))
-  adds_stream_layer y =
-      moved (s.stream (roll-TokenStream (record { trees = map (λ (a : AA). a.0) y.trees }))) (all (map s.tree (map (λ (a : AA). a.0) y.trees)))
-      (λ r. ap (λ (f : Before). f r) (stream-roll (record { trees = map (λ (a : AA). a.0) y.trees }))) (adds_all y.trees)
+      let c = trees_of y.stream in
+      moved (s.inside (roll-Group (record { delimiter = y.delimiter; stream = c; span = y.span }))) (grouped y.delimiter y.span (s.stream c))
+      (λ r. ap (λ (f : Before). f r) (group-roll (record { delimiter = y.delimiter; stream = c; span = y.span }))) (adds_group y.delimiter y.span (s.stream c) (adds_content y.stream))
 
   -- the items of a tree's tokens and of what follows them
   pub adds_tree : (t : TokenTree) → AP t
-  adds_tree = ind-TokenTree AP AQ AR (λ x y is. subst (λ z. AP (roll-TokenTree z)) is (adds_tree_layer y)) (λ x y is. subst (λ z. AQ (roll-Group z)) is (adds_group_layer y)) (λ x y is. subst (λ z. AR (roll-TokenStream z)) is (adds_stream_layer y))
+  adds_tree = ind-TokenTree AP AQ (λ x y is. subst (λ z. AP (roll-TokenTree z)) is (adds_tree_layer y)) (λ x y is. subst (λ z. AQ (roll-Group z)) is (adds_group_layer y))
 
   pub adds_stream : (c : TokenStream) → AR c
-  adds_stream = ind-TokenStream AP AQ AR (λ x y is. subst (λ z. AP (roll-TokenTree z)) is (adds_tree_layer y)) (λ x y is. subst (λ z. AQ (roll-Group z)) is (adds_group_layer y)) (λ x y is. subst (λ z. AR (roll-TokenStream z)) is (adds_stream_layer y))
+  adds_stream c = subst AR (beside AP adds_tree c) (adds_content (with_each AP adds_tree c))
 
 -- ---- the items of each kind of tree
 

@@ -1,5 +1,5 @@
 -- The tokens of trees after others.
-use Rattle.std.proofs.Common.{◌≡◌, ℕ, zero, suc, ◌≤◌, List, [], ◌∷◌, ◌++◌, length, take, refl, ap, arith}
+use Rattle.std.proofs.Common.{◌≡◌, ℕ, zero, suc, ◌≤◌, List, [], ◌∷◌, ◌++◌, map, length, take, refl, ap, arith}
 use Rattle.token_core.specs.declared.tree.TokenTree.{TokenTree}
 use Rattle.token_core.specs.Toks.{Toks}
 use Rattle.token_core.specs.Trees.{tree, row}
@@ -14,3 +14,12 @@ take_all zero [] h = refl
 take_all zero (x ∷ xs) h = absurd (omega (arith, h))
 take_all (suc n) [] h = refl
 take_all (suc n) (x ∷ xs) h = ap (λ l. x ∷ l) (take_all n xs (omega (arith, h)))
+
+-- each value beside what is so of it
+abbrev pub with_each : {X : Type 0} (P : X → Type 0) → ((x : X) → P x) → List X → List ((x : X) × P x)
+with_each P h [] = []
+with_each P h (x ∷ l) = (x, h x) ∷ with_each P h l
+
+pub beside : {X : Type 0} (P : X → Type 0) (h : (x : X) → P x) (l : List X) → map (λ (a : (x : X) × P x). a.0) (with_each P h l) ≡ l
+beside P h [] = refl
+beside P h (x ∷ l) = ap (λ z. x ∷ z) (beside P h l)

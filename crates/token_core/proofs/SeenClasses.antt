@@ -27,8 +27,7 @@ use Rattle.token_core.specs.declared.lit.Lit.TheVariants as variant
 use Rattle.token_core.specs.declared.span.DelimSpan.{DelimSpan}
 use Rattle.token_core.specs.declared.tree.Delimiter.TheVariants as d
 use Rattle.token_core.specs.declared.tree.TokenTree.TheOpen as o
-use Rattle.token_core.specs.declared.tree.TokenStream.{TokenStream}
-use Rattle.token_core.specs.Trees.{delimiter_of, span_of, content_of}
+use Rattle.token_core.specs.Trees.{TokenStream, delimiter_of, span_of, content_of}
 use Rattle.token_core.specs.declared.buffer.Entry.{Entry}
 use Rattle.token_core.specs.declared.buffer.Entry.TheVariants.{Tree, End}
 use Rattle.token_core.specs.declared.tree.TokenTree.{out-TokenTree}

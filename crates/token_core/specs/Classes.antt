@@ -8,7 +8,6 @@ use Rattle.token_core.specs.declared.tree.Delimiter.TheVariants as d
 use Rattle.token_core.specs.declared.tree.TokenTree.{TokenTree}
 use Rattle.token_core.specs.declared.tree.TokenTree.TheOpen as o
 use Rattle.token_core.specs.declared.tree.Group.{Group}
-use Rattle.token_core.specs.declared.tree.TokenStream.{TokenStream}
 use Rattle.token_core.specs.Toks.{Bytes}
 use Rattle.token_core.specs.Trees.{delimiter_of}
 use Rattle.token_core.specs.Seen.{Seen, saw_word, saw_mark, saw_lit, saw_group, saw_enter, saw_leave}
@@ -62,7 +61,7 @@ classed None t = if is_raw t then Raw else Ident
 unfoldable pub text_class : Bytes → Class
 text_class t = classed (word_number t) t
 
-abbrev pub layer_class : o.TokenTree-F TokenTree Group TokenStream → Class
+abbrev pub layer_class : o.TokenTree-F TokenTree Group → Class
 layer_class (o.Ident i) = text_class i.text
 layer_class (o.Punct p) = Mark p.ch p.spacing
 layer_class (o.Literal l) = Literal l.kind

@@ -1,19 +1,20 @@
 -- What the entries of a buffer show, and the entries of trees.
 use Rattle.std.specs.Prelude.{◌≡◌, ℕ, suc, List, [], ◌∷◌, ◌++◌, map, length, take}
 use Rattle.token_core.specs.declared.tree.TokenTree.{TokenTree, out-TokenTree}
+use Rattle.token_core.specs.declared.tree.Delimiter.{Delimiter}
+use Rattle.token_core.specs.declared.span.DelimSpan.{DelimSpan}
 use Rattle.token_core.specs.declared.tree.Group.{Group}
-use Rattle.token_core.specs.declared.tree.TokenStream.{TokenStream}
 use Rattle.token_core.specs.declared.tree.TokenTree.TheVariants as t
 use Rattle.token_core.specs.declared.tree.TokenTree.TheOpen as o
-use Rattle.token_core.specs.declared.tree.TokenTree.TheFolds.{fold-TokenTree, fold-Group, fold-TokenStream}
+use Rattle.token_core.specs.declared.tree.TokenTree.TheFolds.{fold-TokenTree, fold-Group}
 use Rattle.token_core.specs.declared.buffer.Entry.{Entry}
 use Rattle.token_core.specs.declared.buffer.Entry.TheVariants.{Tree, End}
 use Rattle.token_core.specs.Toks.{Toks}
-use Rattle.token_core.specs.Trees.{delimiter_of, span_of, content_of, group_of, stream_of_trees}
+use Rattle.token_core.specs.Trees.{TokenStream, delimiter_of, span_of, content_of, group_of}
 use Rattle.token_core.specs.Seen.{Seen, view, saw_word, saw_mark, saw_lit, saw_group, saw_enter, saw_leave, saw_delimiter}
 
 abbrev pub Layer : Type 0
-Layer = o.TokenTree-F TokenTree Group TokenStream
+Layer = o.TokenTree-F TokenTree Group
 
 abbrev pub saw_layer : ℕ → Layer → Seen
 saw_layer n (o.Ident i) = saw_word i
@@ -43,18 +44,6 @@ KnownTree = TokenTree × Flat
 abbrev pub KnownGroup : Type 0
 KnownGroup = Group × Flat
 
-abbrev pub KnownStream : Type 0
-KnownStream = TokenStream × Flat
-
-abbrev pub tree_step : o.TokenTree-F KnownTree KnownGroup KnownStream → KnownTree
-tree_step (o.Ident i) = (t.Ident i, saw_word i ∷ [])
-tree_step (o.Punct p) = (t.Punct p, saw_mark p ∷ [])
-tree_step (o.Literal l) = (t.Literal l, saw_lit l ∷ [])
-tree_step (o.Group g) = (t.Group g.0, g.1)
-
-abbrev pub group_step : o.Group-F KnownTree KnownGroup KnownStream → KnownGroup
-group_step g = (group_of g.delimiter g.stream.0 g.span, saw_delimiter g.delimiter g.span g.stream.0 (length g.stream.1) ∷ (g.stream.1 ++ saw_leave ∷ []))
-
 abbrev pub firsts : List KnownTree → List TokenTree
 firsts [] = []
 firsts (x ∷ xs) = x.0 ∷ firsts xs
@@ -63,17 +52,23 @@ abbrev pub seconds : List KnownTree → List Flat
 seconds [] = []
 seconds (x ∷ xs) = x.1 ∷ seconds xs
 
-abbrev pub stream_step : o.TokenStream-F KnownTree KnownGroup KnownStream → KnownStream
-stream_step s = (stream_of_trees (firsts s.trees), all_of (seconds s.trees))
+abbrev pub tree_step : o.TokenTree-F KnownTree KnownGroup → KnownTree
+tree_step (o.Ident i) = (t.Ident i, saw_word i ∷ [])
+tree_step (o.Punct p) = (t.Punct p, saw_mark p ∷ [])
+tree_step (o.Literal l) = (t.Literal l, saw_lit l ∷ [])
+tree_step (o.Group g) = (t.Group g.0, g.1)
+
+abbrev pub closed : Delimiter → DelimSpan → TokenStream → Flat → KnownGroup
+closed d s c l = (group_of d c s, saw_delimiter d s c (length l) ∷ (l ++ saw_leave ∷ []))
+
+abbrev pub group_step : o.Group-F KnownTree KnownGroup → KnownGroup
+group_step g = closed g.delimiter g.span (firsts g.stream) (all_of (seconds g.stream))
 
 unfoldable pub known_tree : TokenTree → KnownTree
-known_tree = fold-TokenTree KnownTree KnownGroup KnownStream tree_step group_step stream_step
+known_tree = fold-TokenTree KnownTree KnownGroup tree_step group_step
 
 unfoldable pub known_group : Group → KnownGroup
-known_group = fold-Group KnownTree KnownGroup KnownStream tree_step group_step stream_step
-
-unfoldable pub known_stream : TokenStream → KnownStream
-known_stream = fold-TokenStream KnownTree KnownGroup KnownStream tree_step group_step stream_step
+known_group = fold-Group KnownTree KnownGroup tree_step group_step
 
 abbrev pub flat_tree : TokenTree → Flat
 flat_tree t = (known_tree t).1
@@ -81,8 +76,8 @@ flat_tree t = (known_tree t).1
 abbrev pub flat_group : Group → Flat
 flat_group g = (known_group g).1
 
-abbrev pub flat_stream : TokenStream → Flat
-flat_stream s = (known_stream s).1
+unfoldable pub flat_stream : TokenStream → Flat
+flat_stream c = all_of (map flat_tree c)
 
 -- ---- each group's entry is followed by the entries of its content, and by its end
 

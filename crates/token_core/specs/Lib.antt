@@ -2,6 +2,7 @@ pub mod formers
 pub mod Spans
 pub mod Toks
 pub mod Texts
+pub mod Kept
 pub mod Trees
 pub mod Codes
 pub mod Refusal

@@ -6,7 +6,7 @@ use Rattle.token_core.specs.declared.tree.Delimiter.{Delimiter}
 use Rattle.token_core.specs.declared.tree.Delimiter.TheVariants as d
 use Rattle.token_core.specs.declared.tree.Spacing.{Spacing}
 use Rattle.token_core.specs.declared.tree.Spacing.TheVariants.{Joint, Alone}
-use Rattle.token_core.specs.declared.tree.TokenStream.{TokenStream}
+use Rattle.token_core.specs.Trees.{TokenStream}
 use Rattle.token_core.specs.declared.span.Span.{Span}
 use Rattle.token_core.specs.declared.span.DelimSpan.{DelimSpan}
 use Rattle.token_core.specs.declared.tree.Ident.{Ident}

@@ -5,9 +5,8 @@ use Rattle.token_core.specs.declared.tree.Delimiter.TheVariants.{Parenthesis, Br
 use Rattle.token_core.specs.declared.span.DelimSpan.{DelimSpan}
 use Rattle.token_core.specs.declared.tree.TokenTree.{TokenTree}
 use Rattle.token_core.specs.declared.tree.TokenTree.TheVariants as t
-use Rattle.token_core.specs.declared.tree.TokenStream.{TokenStream}
 use Rattle.token_core.specs.Toks.{Toks, done, word, mark, lit, group, enter, leave}
-use Rattle.token_core.specs.Trees.{group_of, stream_of_trees}
+use Rattle.token_core.specs.Trees.{TokenStream, group_of, stream_of_trees}
 
 -- the trees up to the next end of an invisible group that was not entered, and those between the later ends
 abbrev pub Levels : Type 0

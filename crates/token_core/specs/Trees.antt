@@ -1,5 +1,5 @@
 -- Token trees by their parts, and the tokens of trees.
-use Rattle.std.specs.Prelude.{ℕ, List, [], ◌∷◌, map, Bool, true, false}
+use Rattle.std.specs.Prelude.{ℕ, List, [], ◌∷◌, map}
 use Rattle.token_core.specs.declared.tree.Delimiter.{Delimiter}
 use Rattle.token_core.specs.declared.tree.Delimiter.TheVariants.{Parenthesis, Brace, Bracket, None}
 use Rattle.token_core.specs.declared.tree.Spacing.{Spacing}
@@ -11,10 +11,13 @@ use Rattle.token_core.specs.declared.tree.Punct.{Punct}
 use Rattle.token_core.specs.declared.tree.Literal.{Literal}
 use Rattle.token_core.specs.declared.tree.TokenTree.{TokenTree}
 use Rattle.token_core.specs.declared.tree.TokenTree.TheOpen as o
-use Rattle.token_core.specs.declared.tree.TokenTree.TheFolds.{fold-TokenTree, fold-Group, fold-TokenStream}
+use Rattle.token_core.specs.declared.tree.TokenTree.TheFolds.{fold-TokenTree, fold-Group}
 use Rattle.token_core.specs.declared.tree.Group.{Group, out-Group, roll-Group}
-use Rattle.token_core.specs.declared.tree.TokenStream.{TokenStream, out-TokenStream, roll-TokenStream}
 use Rattle.token_core.specs.Toks.{Bytes, Toks, done, word, mark, lit, group, enter, leave}
+
+-- a list of token trees, as contracts see it
+abbrev pub TokenStream : Type 0
+TokenStream = List TokenTree
 
 abbrev pub ident : Bytes → Span → Ident
 ident t s = record { text = t; span = s }
@@ -38,14 +41,10 @@ abbrev pub span_of : Group → DelimSpan
 span_of g = (out-Group g).span
 
 abbrev pub trees : TokenStream → List TokenTree
-trees s = (out-TokenStream s).trees
+trees s = s
 
 abbrev pub stream_of_trees : List TokenTree → TokenStream
-stream_of_trees l = roll-TokenStream (record { trees = l })
-
-abbrev pub has_none : List TokenTree → Bool
-has_none [] = true
-has_none (t ∷ l) = false
+stream_of_trees l = l
 
 -- ---- the tokens of trees, put before others
 
@@ -62,26 +61,23 @@ grouped Parenthesis s content r = group Parenthesis s (content done) r
 grouped Brace s content r = group Brace s (content done) r
 grouped Bracket s content r = group Bracket s (content done) r
 
-abbrev pub tree_step : o.TokenTree-F Before Before Before → Before
+abbrev pub tree_step : o.TokenTree-F Before Before → Before
 tree_step (o.Ident i) r = word i r
 tree_step (o.Punct p) r = mark p r
 tree_step (o.Literal l) r = lit l r
 tree_step (o.Group g) r = g r
 
-abbrev pub group_step : o.Group-F Before Before Before → Before
-group_step g = grouped g.delimiter g.span g.stream
-
-abbrev pub stream_step : o.TokenStream-F Before Before Before → Before
-stream_step s = all s.trees
+abbrev pub group_step : o.Group-F Before Before → Before
+group_step g = grouped g.delimiter g.span (all g.stream)
 
 unfoldable pub tree : TokenTree → Before
-tree = fold-TokenTree Before Before Before tree_step group_step stream_step
+tree = fold-TokenTree Before Before tree_step group_step
 
 unfoldable pub inside : Group → Before
-inside = fold-Group Before Before Before tree_step group_step stream_step
+inside = fold-Group Before Before tree_step group_step
 
 unfoldable pub stream : TokenStream → Before
-stream = fold-TokenStream Before Before Before tree_step group_step stream_step
+stream c = all (map tree c)
 
 -- the tokens of a list of trees
 abbrev pub row : List TokenTree → Before

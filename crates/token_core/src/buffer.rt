@@ -345,7 +345,7 @@ impl<'a> TokenBuffer<'a> {
         ensures { IfOk result (λ b. b ≡ toks stream.now) }
     {
         let mut entries = Vec::new(alloc);
-        fill_stream(&mut entries, stream)?;
+        fill_trees(&mut entries, stream.trees())?;
         Ok(TokenBuffer { entries })
     }
 
@@ -368,10 +368,10 @@ impl<'a> TokenBuffer<'a> {
 }
 
 #[cycle(fill)]
-fn fill_stream<'a>(entries: &mut Vec<Entry<'a>>, stream: &'a TokenStream) -> Result<(), AllocError>
-    ensures { OnOk result (map saw entries.new.items ≡ map saw entries.old.items ++ flat_stream stream.now) }
+fn fill_trees<'a>(entries: &mut Vec<Entry<'a>>, trees: &'a [TokenTree]) -> Result<(), AllocError>
+    ensures { OnOk result (map saw entries.new.items ≡ map saw entries.old.items ++ flat_stream trees.now) }
 {
-    for tree in stream.trees() {
+    for tree in trees {
         fill_tree(entries, tree)?;
     }
     Ok(())
@@ -386,7 +386,7 @@ fn fill_tree<'a>(entries: &mut Vec<Entry<'a>>, tree: &'a TokenTree) -> Result<()
         TokenTree::Group(group) => {
             let at = entries.len();
             entries.push(Entry::Tree(classed, 0))?;
-            fill_stream(entries, &group.stream)?;
+            fill_trees(entries, group.stream().trees())?;
             let n = entries.len() - at - 1;
             entries[at] = Entry::Tree(classed, n);
             entries.push(Entry::End(tree))?;

@@ -4,6 +4,7 @@
 mod boxed;
 mod buffer;
 mod class;
+mod content;
 mod cursor;
 mod error;
 mod ident;

@@ -1,10 +1,12 @@
 //! Token trees, and lists of them.
 
-ghost use Rattle.std.specs.Prelude.{◌≡◌, ◌++◌, [], ◌∷◌, IfOk, IsTrue, ◌↔◌, OnOk, OnErr, take, length};
+ghost use Rattle.std.specs.Prelude.{◌≡◌, IfOk, IsTrue, ◌↔◌};
 ghost use Rattle.token_core.specs.Same as sameness;
+ghost use Rattle.token_core.specs.declared.tree.TokenTree.{TokenTree};
 ghost use Rattle.token_core.specs.declared.tree.TokenTree.TheVariants as kinds;
 ghost use Rattle.token_core.specs.Trees as spec;
 
+use crate::content::Content;
 use crate::items::Items;
 use crate::span::{DelimSpan, Span};
 use crate::text::Text;
@@ -74,16 +76,12 @@ pub enum TokenTree {
 #[derive(Drop)]
 pub struct Group {
     pub delimiter: Delimiter,
-    pub stream: TokenStream,
+    stream: Content<TokenTree>,
     pub span: DelimSpan,
 }
 
 /// A list of token trees.
-#[cycle(tree)]
-#[derive(Drop)]
-pub struct TokenStream {
-    trees: Items<TokenTree>,
-}
+pub type TokenStream = Items<TokenTree>;
 
 impl Ident {
     /// Any text.
@@ -196,14 +194,31 @@ impl Literal {
 }
 
 impl Group {
+    /// A group with a list of its own. It takes no memory.
     pub fn new(delimiter: Delimiter, stream: TokenStream, span: DelimSpan) -> Group
         ensures { result ≡ spec.group_of delimiter stream span }
     {
         Group {
             delimiter,
-            stream,
+            stream: Content::own(stream),
             span,
         }
+    }
+
+    /// A group that shares its list with its copies.
+    pub fn shared(
+        alloc: Global,
+        delimiter: Delimiter,
+        stream: TokenStream,
+        span: DelimSpan,
+    ) -> Result<Group, AllocError>
+        ensures { IfOk result (λ g. g ≡ spec.group_of delimiter stream span) }
+    {
+        Ok(Group {
+            delimiter,
+            stream: Content::shared(alloc, stream)?,
+            span,
+        })
     }
 
     pub fn delimiter(&self) -> Delimiter
@@ -215,7 +230,7 @@ impl Group {
     pub fn stream(&self) -> &TokenStream
         ensures { result.now ≡ spec.content_of self.now }
     {
-        &self.stream
+        self.stream.get()
     }
 
     pub fn delim_span(&self) -> DelimSpan
@@ -224,7 +239,7 @@ impl Group {
         self.span
     }
 
-    /// Its equal, spans too.
+    /// Its equal, spans too, which shares its list with its own copies, and with this one where this one shares it.
     pub fn copy(&self, alloc: Global) -> Result<Group, AllocError>
         ensures { IfOk result (λ g. g ≡ self.now) }
     {
@@ -241,72 +256,37 @@ impl TokenTree {
     }
 }
 
-impl TokenStream {
-    pub fn new(alloc: Global) -> TokenStream
-        ensures { spec.trees result ≡ [] }
-    {
-        TokenStream {
-            trees: Items::new(alloc),
-        }
-    }
-
-    pub fn len(&self) -> usize
-        ensures { result ≡ length (spec.trees self.now) }
-    {
-        self.trees.len()
-    }
-
-    pub fn is_empty(&self) -> bool
-        ensures { result ≡ spec.has_none (spec.trees self.now) }
-    {
-        self.trees.len() == 0
-    }
-
+impl Items<TokenTree> {
     pub fn trees(&self) -> &[TokenTree]
         ensures { result.now ≡ spec.trees self.now }
     {
-        self.trees.as_slice()
-    }
-
-    /// Puts a tree at the end; a refused push changes nothing and drops the tree.
-    pub fn push(&mut self, tree: TokenTree) -> Result<(), AllocError>
-        ensures ok { OnOk result (spec.trees self.new ≡ spec.trees self.old ++ tree ∷ []) }
-        ensures err { OnErr result (self.new ≡ self.old) }
-    {
-        self.trees.push(tree)
-    }
-
-    /// Keeps the first `n` trees, all where there are no more.
-    pub fn truncate(&mut self, n: usize)
-        ensures { spec.trees self.new ≡ take n (spec.trees self.old) }
-    {
-        self.trees.truncate(n);
+        self.as_slice()
     }
 
     /// Whether it is equal to another list, spans aside.
     pub fn same(&self, other: &TokenStream) -> bool
         ensures { IsTrue result ↔ sameness.Same self.now other.now }
     {
-        same_stream(self, other)
+        same_trees(self.trees(), other.trees())
     }
 
     /// Its equal, spans too.
     pub fn copy(&self, alloc: Global) -> Result<TokenStream, AllocError>
         ensures { IfOk result (λ s. s ≡ self.now) }
     {
-        copy_stream(alloc, self)
+        copy_trees(alloc, self.trees())
     }
 }
 
 #[cycle(copy)]
-fn copy_stream(alloc: Global, stream: &TokenStream) -> Result<TokenStream, AllocError>
-    ensures { IfOk result (λ s. s ≡ stream.now) }
+fn copy_trees(alloc: Global, trees: &[TokenTree]) -> Result<TokenStream, AllocError>
+    ensures { IfOk result (λ s. s ≡ trees.now) }
 {
-    let mut trees = Items::with_capacity(alloc, stream.trees.len())?;
-    for tree in stream.trees.as_slice() {
-        trees.push(copy_tree(alloc, tree)?)?;
+    let mut copy = Items::with_capacity(alloc, trees.len())?;
+    for tree in trees {
+        copy.push(copy_tree(alloc, tree)?)?;
     }
-    Ok(TokenStream { trees })
+    Ok(copy)
 }
 
 #[cycle(copy)]
@@ -325,23 +305,26 @@ fn copy_tree(alloc: Global, tree: &TokenTree) -> Result<TokenTree, AllocError>
 fn copy_group(alloc: Global, group: &Group) -> Result<Group, AllocError>
     ensures { IfOk result (λ g. g ≡ group.now) }
 {
+    let stream = match group.stream.share()? {
+        Some(stream) => stream,
+        None => Content::shared(alloc, copy_trees(alloc, group.stream().trees())?)?,
+    };
     Ok(Group {
         delimiter: group.delimiter,
-        stream: copy_stream(alloc, &group.stream)?,
+        stream,
         span: group.span,
     })
 }
 
 #[cycle(same)]
-fn same_stream(stream: &TokenStream, other: &TokenStream) -> bool
-    ensures { IsTrue result ↔ (sameness.bare_stream stream.now ≡ sameness.bare_stream other.now) }
+fn same_trees(trees: &[TokenTree], others: &[TokenTree]) -> bool
+    ensures { IsTrue result ↔ (sameness.bare_stream trees.now ≡ sameness.bare_stream others.now) }
 {
-    let others = other.trees.as_slice();
-    if stream.trees.len() != others.len() {
+    if trees.len() != others.len() {
         return false;
     }
     let mut at = 0;
-    for tree in stream.trees.as_slice() {
+    for tree in trees {
         if !same_tree(tree, &others[at]) {
             return false;
         }
@@ -381,7 +364,7 @@ fn same_group(group: &Group, other: &Group) -> bool
     if group.delimiter != other.delimiter {
         return false;
     }
-    same_stream(&group.stream, &other.stream)
+    same_trees(group.stream().trees(), other.stream().trees())
 }
 
 fn is_ident(ident: &Ident, other: &TokenTree) -> bool

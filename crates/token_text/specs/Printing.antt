@@ -1,14 +1,14 @@
 -- The text of trees.
-use Rattle.std.specs.Prelude.{Bool, true, false, List, [], ◌∷◌, ◌++◌, if◌then◌else◌, codes, encode_utf8}
+use Rattle.std.specs.Prelude.{Bool, true, false, List, [], ◌∷◌, ◌++◌, map, if◌then◌else◌, codes, encode_utf8}
 use Rattle.token_core.specs.declared.tree.Delimiter.{Delimiter}
 use Rattle.token_core.specs.declared.tree.Delimiter.TheVariants.{Parenthesis, Brace, Bracket, None}
 use Rattle.token_core.specs.declared.tree.Spacing.{Spacing}
 use Rattle.token_core.specs.declared.tree.Spacing.TheVariants.{Joint, Alone}
 use Rattle.token_core.specs.declared.tree.TokenTree.{TokenTree}
 use Rattle.token_core.specs.declared.tree.TokenTree.TheOpen as o
-use Rattle.token_core.specs.declared.tree.TokenTree.TheFolds.{fold-TokenTree, fold-Group, fold-TokenStream}
+use Rattle.token_core.specs.declared.tree.TokenTree.TheFolds.{fold-TokenTree, fold-Group}
 use Rattle.token_core.specs.declared.tree.Group.{Group}
-use Rattle.token_core.specs.declared.tree.TokenStream.{TokenStream}
+use Rattle.token_core.specs.Trees.{TokenStream}
 use Rattle.token_core.specs.Toks.{Bytes}
 
 -- a tree's text, and whether the next tree stands right after it
@@ -48,26 +48,23 @@ after Bracket is_empty = codes "]"
 after Brace is_empty = if is_empty then codes "}" else codes " }"
 after None is_empty = codes "\\)"
 
-abbrev pub tree_step : o.TokenTree-F Shown Bytes (List Shown) → Shown
+abbrev pub tree_step : o.TokenTree-F Shown Bytes → Shown
 tree_step (o.Ident i) = shown_alone i.text
 tree_step (o.Punct p) = record { text = encode_utf8 p.ch; joint = is_joint p.spacing }
 tree_step (o.Literal l) = shown_alone l.text
 tree_step (o.Group g) = shown_alone g
 
-abbrev pub group_step : o.Group-F Shown Bytes (List Shown) → Bytes
+abbrev pub group_step : o.Group-F Shown Bytes → Bytes
 group_step g = before g.delimiter ++ joined true g.stream ++ after g.delimiter (is_none g.stream)
 
-abbrev pub stream_step : o.TokenStream-F Shown Bytes (List Shown) → List Shown
-stream_step s = s.trees
-
 abbrev pub shown : TokenTree → Shown
-shown = fold-TokenTree Shown Bytes (List Shown) tree_step group_step stream_step
+shown = fold-TokenTree Shown Bytes tree_step group_step
 
 abbrev pub shown_all : TokenStream → List Shown
-shown_all = fold-TokenStream Shown Bytes (List Shown) tree_step group_step stream_step
+shown_all c = map shown c
 
 abbrev pub group_text : Group → Bytes
-group_text = fold-Group Shown Bytes (List Shown) tree_step group_step stream_step
+group_text = fold-Group Shown Bytes tree_step group_step
 
 abbrev pub text_of : TokenStream → Bytes
 text_of s = joined true (shown_all s)

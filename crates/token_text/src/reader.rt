@@ -123,7 +123,7 @@ impl Reader {
             Some(open) if is_same(open.delimiter, delimiter) => {
                 let content = mem::replace(&mut self.trees, open.before);
                 let span = DelimSpan::new(open.span, span);
-                let group = Group::new(delimiter, content, span);
+                let group = Group::shared(self.alloc, delimiter, content, span)?;
                 Ok(self.trees.push(TokenTree::Group(group))?)
             }
             _ => Err(Error::named(self.alloc, ErrorKind::UnexpectedClosingDelimiter, span)),

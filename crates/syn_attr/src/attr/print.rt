@@ -76,7 +76,7 @@ fn print_name_value<X: Subtree>(
 
 /// The outer attributes of a list, before the node that bears them; refused, what stood before is kept.
 #[cycle(print)]
-#[tactic(auto, using(token_core::proofs::Puts::puts, crate::proofs::attr_laws::Prints::contents))]
+#[tactic(auto, using(token_core::proofs::Puts::puts))]
 pub fn print_outer<X: Subtree>(
     alloc: Global,
     attrs: &Items<Attribute<X>>,
@@ -94,7 +94,7 @@ pub fn print_outer<X: Subtree>(
     Ok(())
 }
 
-#[tactic(auto, using(token_core::proofs::Puts::puts, crate::proofs::attr_laws::Prints::contents))]
+#[tactic(auto, using(token_core::proofs::Puts::puts))]
 fn print_attribute<X: Subtree>(
     alloc: Global,
     attr: &Attribute<X>,

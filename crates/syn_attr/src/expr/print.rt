@@ -217,7 +217,7 @@ fn print_block<X: Subtree>(
 }
 
 /// The body of a block in its braces.
-#[tactic(auto, using(token_core::proofs::Puts::puts, crate::proofs::attr_laws::Prints::contents))]
+#[tactic(auto, using(token_core::proofs::Puts::puts))]
 fn print_body<X: Subtree>(
     alloc: Global,
     body: &X,
@@ -247,7 +247,7 @@ pub fn print_len<X: Subtree>(
 }
 
 /// A const argument: a literal, a block or an identifier as it prints as a value, anything else in braces.
-#[tactic(auto, using(token_core::proofs::Puts::puts, crate::proofs::attr_laws::Consts::consts, crate::proofs::attr_laws::Prints::contents))]
+#[tactic(auto, using(token_core::proofs::Puts::puts, crate::proofs::attr_laws::Consts::consts))]
 pub fn print_const_argument<X: Subtree>(
     alloc: Global,
     value: &Expr<X>,

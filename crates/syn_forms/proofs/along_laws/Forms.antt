@@ -3,7 +3,7 @@ use Rattle.std.proofs.Common.{ℕ, zero, suc, Bool, true, false, List, Option, S
 use Rattle.token_core.specs.declared.span.DelimSpan.{DelimSpan}
 use Rattle.token_core.specs.declared.tree.Delimiter.{Delimiter}
 use Rattle.token_core.specs.declared.tree.Delimiter.TheVariants as d
-use Rattle.token_core.specs.declared.tree.TokenStream.{TokenStream}
+use Rattle.token_core.specs.Trees.{TokenStream}
 use Rattle.token_core.specs.Loops.{size}
 use Rattle.token_core.specs.Reads.{Reader, ◌>>=◌, pure}
 use Rattle.token_core.specs.Tokens as token

@@ -3,7 +3,7 @@ use Rattle.std.specs.Prelude.{ℕ, zero, suc, Bool, true, false, not, ◌&&◌, 
 use Rattle.token_core.specs.declared.error.ErrorKind.TheVariants.{Unexpected}
 use Rattle.token_core.specs.declared.token.Paren.{Paren}
 use Rattle.token_core.specs.declared.tree.Ident.{Ident}
-use Rattle.token_core.specs.declared.tree.TokenStream.{TokenStream}
+use Rattle.token_core.specs.Trees.{TokenStream}
 use Rattle.token_core.specs.Loops.{Many, size, terminated}
 use Rattle.token_core.specs.Positions.{Item}
 use Rattle.token_core.specs.Reads.{Reader, ◌>>=◌, ◌<$>◌, pure, peek, optional, refuse, any_text, ident_name, is_done, is_ident, is_text, read_word, second, sees_word, third}

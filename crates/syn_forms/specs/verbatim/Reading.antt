@@ -3,7 +3,7 @@ use Rattle.std.specs.Prelude.{List, ◌++◌, Ok, Err}
 use Rattle.token_core.specs.declared.error.ErrorKind.{ErrorKind}
 use Rattle.token_core.specs.declared.span.DelimSpan.{DelimSpan}
 use Rattle.token_core.specs.declared.span.Span.{Span}
-use Rattle.token_core.specs.declared.tree.TokenStream.{TokenStream}
+use Rattle.token_core.specs.Trees.{TokenStream}
 use Rattle.token_core.specs.Cut.{between}
 use Rattle.token_core.specs.Front.{past_ends}
 use Rattle.token_core.specs.Positions.{Item, items}

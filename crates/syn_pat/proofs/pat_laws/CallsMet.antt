@@ -9,7 +9,6 @@ use Rattle.token_core.specs.declared.tree.Delimiter.TheVariants.{Brace, Parenthe
 use Rattle.token_core.specs.declared.tree.Ident.{Ident}
 use Rattle.token_core.specs.declared.tree.Spacing.{Spacing}
 use Rattle.token_core.specs.declared.tree.Spacing.TheVariants.{Joint}
-use Rattle.token_core.specs.declared.tree.TokenStream.{TokenStream}
 use Rattle.token_core.specs.Groups as groups
 use Rattle.token_core.specs.Listed.{AreListed, Nowhere, last_value, value_and_mark}
 use Rattle.token_core.specs.Loops.{Many}
@@ -19,7 +18,7 @@ use Rattle.token_core.specs.Spellings.{IsMark, is_mark, last_char, more_chars}
 use Rattle.token_core.specs.Stream.{Scope}
 use Rattle.token_core.specs.Tokens as token
 use Rattle.token_core.specs.Toks.{Toks, mark, group, word}
-use Rattle.token_core.specs.Trees.{punct, toks}
+use Rattle.token_core.specs.Trees.{TokenStream, punct, toks}
 use Rattle.token_core.proofs.Steps.{Reads_to, chosen, link}
 use Rattle.token_core.proofs.Took.{at}
 use Rattle.syn_path.specs.declared.mac.MacroDelimiter.{MacroDelimiter}

@@ -4,7 +4,6 @@ use Rattle.std.proofs.Common.{◌≡◌, Bool, true, false, [], ◌++◌, map, O
 use Rattle.token_core.specs.declared.member.Member.{Member}
 use Rattle.token_core.specs.declared.member.Member.TheVariants as member
 use Rattle.token_core.specs.declared.tree.Ident.{Ident}
-use Rattle.token_core.specs.declared.tree.TokenStream.{TokenStream}
 use Rattle.token_core.specs.Listed.{Anywhere}
 use Rattle.token_core.specs.Loops.{Many}
 use Rattle.token_core.specs.Members as members
@@ -15,7 +14,7 @@ use Rattle.token_core.specs.Rebuilt.{Visible}
 use Rattle.token_core.specs.Spellings.{IsMark, IsMember, IsWord}
 use Rattle.token_core.specs.Tokens as token
 use Rattle.token_core.specs.Toks.{Bytes, Toks, done, word}
-use Rattle.token_core.specs.Trees.{row, trees}
+use Rattle.token_core.specs.Trees.{TokenStream, row, trees}
 use Rattle.token_core.proofs.MemberSpells.{member_again, member_visible, member_whole}
 use Rattle.syn_path.specs.declared.supplied.Place.{Place}
 use Rattle.syn_path.proofs.Words.{Again, AgainFront}

@@ -4,7 +4,7 @@ use Rattle.token_core.specs.declared.member.Member.{Member}
 use Rattle.token_core.specs.declared.member.Member.TheVariants as member
 use Rattle.token_core.specs.declared.span.Span.{Span}
 use Rattle.token_core.specs.declared.tree.Ident.{Ident}
-use Rattle.token_core.specs.declared.tree.TokenStream.{TokenStream}
+use Rattle.token_core.specs.Trees.{TokenStream}
 use Rattle.token_core.specs.Keywords.{is_keyword}
 use Rattle.token_core.specs.Marks.{text_of}
 use Rattle.token_core.specs.Reads.{is_done, is_ident, is_text, sees_mark, sees_word}

@@ -3,7 +3,7 @@ use Rattle.std.proofs.Common.{◌≡◌, ℕ, zero, suc, Bool, true, false, List
 use Rattle.token_core.specs.declared.member.Member.{Member}
 use Rattle.token_core.specs.declared.member.Member.TheVariants as member
 use Rattle.token_core.specs.declared.tree.Ident.{Ident}
-use Rattle.token_core.specs.declared.tree.TokenStream.{TokenStream}
+use Rattle.token_core.specs.Trees.{TokenStream}
 use Rattle.token_core.specs.Listed.{AreListed, Anywhere, none_left, last_value, value_and_mark}
 use Rattle.token_core.specs.Loops.{size}
 use Rattle.token_core.specs.Members.{read_member}

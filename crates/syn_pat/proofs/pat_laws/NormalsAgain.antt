@@ -3,7 +3,7 @@ use Rattle.std.proofs.Common.{◌≡◌, List, [], ◌∷◌, Option, Some, None
 use Rattle.token_core.specs.declared.mark.Mark.{Mark}
 use Rattle.token_core.specs.declared.word.Word.{Word}
 use Rattle.token_core.specs.declared.tree.Ident.{Ident}
-use Rattle.token_core.specs.declared.tree.TokenStream.{TokenStream}
+use Rattle.token_core.specs.Trees.{TokenStream}
 use Rattle.syn_path.specs.declared.supplied.Place.{Place}
 use Rattle.syn_pat.specs.declared.pat.PatOf.{out-PatOf, map-PatOf}
 use Rattle.syn_pat.specs.declared.pat.PatOf.TheFolds.{fold-roll-PatOf, fold_out-PatOf}

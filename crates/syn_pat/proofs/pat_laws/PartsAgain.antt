@@ -7,7 +7,6 @@ use Rattle.token_core.specs.declared.range.RangeLimits.TheVariants as limits
 use Rattle.token_core.specs.declared.span.DelimSpan.{DelimSpan}
 use Rattle.token_core.specs.declared.tree.Delimiter.{Delimiter}
 use Rattle.token_core.specs.declared.tree.Delimiter.TheVariants.{Brace}
-use Rattle.token_core.specs.declared.tree.TokenStream.{TokenStream}
 use Rattle.token_core.specs.Groups as groups
 use Rattle.token_core.specs.Lits as lits
 use Rattle.token_core.specs.Prints as p
@@ -17,7 +16,7 @@ use Rattle.token_core.specs.Rebuilt.{Visible, IsVisible}
 use Rattle.token_core.specs.Spellings.{IsLit, IsWord, AreLimits, AreOldLimits, new_limits, old_limits}
 use Rattle.token_core.specs.Tokens as token
 use Rattle.token_core.specs.Toks.{Toks, done, group}
-use Rattle.token_core.specs.Trees.{row, trees, stream_of_trees}
+use Rattle.token_core.specs.Trees.{TokenStream, row, trees, stream_of_trees}
 use Rattle.token_core.proofs.LimitSpells.{limits_again, limits_visible, limits_whole, old_limits_again, old_limits_visible}
 use Rattle.token_core.proofs.MarkSpells.{mark_whole}
 use Rattle.token_core.proofs.LitSpells.{lit_again, lit_visible, lit_whole}

@@ -5,7 +5,6 @@ use Rattle.token_core.specs.declared.lit.Lit.{Lit}
 use Rattle.token_core.specs.declared.span.DelimSpan.{DelimSpan}
 use Rattle.token_core.specs.declared.tree.Delimiter.{Delimiter}
 use Rattle.token_core.specs.declared.tree.Delimiter.TheVariants.{Parenthesis, Brace, Bracket}
-use Rattle.token_core.specs.declared.tree.TokenStream.{TokenStream}
 use Rattle.token_core.specs.Groups as groups
 use Rattle.token_core.specs.Listed.{Anywhere}
 use Rattle.token_core.specs.Lits as lits
@@ -16,7 +15,7 @@ use Rattle.token_core.specs.Rebuilt.{Visible}
 use Rattle.token_core.specs.Spellings.{IsMark, IsLit, IsWord}
 use Rattle.token_core.specs.Tokens as token
 use Rattle.token_core.specs.Toks.{Toks, done, group}
-use Rattle.token_core.specs.Trees.{row, trees}
+use Rattle.token_core.specs.Trees.{TokenStream, row, trees}
 use Rattle.syn_path.specs.declared.mac.Macro.{Macro}
 use Rattle.syn_path.specs.declared.supplied.Place.{Place}
 use Rattle.syn_path.specs.mac.Printing.{mac}

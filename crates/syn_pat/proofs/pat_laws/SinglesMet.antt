@@ -4,13 +4,12 @@ use Rattle.std.proofs.lemmas.Bool.{or_from}
 use Rattle.token_core.specs.declared.range.RangeLimits.TheVariants as limits
 use Rattle.token_core.specs.declared.span.Span.{Span}
 use Rattle.token_core.specs.declared.tree.Delimiter.TheVariants.{Brace, Parenthesis}
-use Rattle.token_core.specs.declared.tree.TokenStream.{TokenStream}
 use Rattle.token_core.specs.Reads.{Reader, sees_group, sees_mark}
 use Rattle.token_core.specs.Spellings.{IsWord, half_open, new_limits}
 use Rattle.token_core.specs.Stream.{Scope}
 use Rattle.token_core.specs.Tokens as token
 use Rattle.token_core.specs.Toks.{Toks, mark, group}
-use Rattle.token_core.specs.Trees.{punct}
+use Rattle.token_core.specs.Trees.{TokenStream, punct}
 use Rattle.token_core.proofs.MarkSpells.{mark_seen}
 use Rattle.token_core.proofs.Steps.{Reads_to, link}
 use Rattle.token_core.proofs.Took.{at}

@@ -2,7 +2,7 @@
 use Rattle.std.proofs.Common.{◌≡◌, true, false, not, ◌&&◌, [], Option, Some, None, is_some, Ok, inl, inr, ◌∙◌, ap, subst}
 use Rattle.token_core.specs.declared.span.DelimSpan.{DelimSpan}
 use Rattle.token_core.specs.declared.tree.Delimiter.TheVariants.{Brace, Bracket, Parenthesis}
-use Rattle.token_core.specs.declared.tree.TokenStream.{TokenStream}
+use Rattle.token_core.specs.Trees.{TokenStream}
 use Rattle.token_core.specs.Groups as groups
 use Rattle.token_core.specs.Loops.{Many}
 use Rattle.token_core.specs.Reads.{Reader, in_group, sees_group, sees_mark}

@@ -7,7 +7,6 @@ use Rattle.token_core.specs.declared.tree.Delimiter.{Delimiter}
 use Rattle.token_core.specs.declared.tree.Ident.{Ident}
 use Rattle.token_core.specs.declared.tree.Punct.{Punct}
 use Rattle.token_core.specs.declared.tree.Spacing.TheVariants.{Joint}
-use Rattle.token_core.specs.declared.tree.TokenStream.{TokenStream}
 use Rattle.token_core.specs.declared.word.Word.{Word}
 use Rattle.token_core.specs.Keywords.{is_keyword}
 use Rattle.token_core.specs.Listed.{AreListed, none_left, last_value, value_and_mark, Nowhere}
@@ -19,7 +18,7 @@ use Rattle.token_core.specs.Rebuilt.{IsVisible}
 use Rattle.token_core.specs.Spellings.{IsMark, is_mark, last_char, more_chars}
 use Rattle.token_core.specs.Tokens as token
 use Rattle.token_core.specs.Toks.{Bytes, Toks, word, mark, group}
-use Rattle.token_core.specs.Trees.{ident, punct, row, toks}
+use Rattle.token_core.specs.Trees.{TokenStream, ident, punct, row, toks}
 use Rattle.token_core.proofs.MarkSpells.{mark_again, mark_seen}
 use Rattle.token_core.proofs.Rebuilds.{tree-ident, visible-tree}
 use Rattle.token_core.proofs.Rows.{row-append}

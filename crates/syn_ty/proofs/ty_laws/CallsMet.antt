@@ -6,14 +6,13 @@ use Rattle.token_core.specs.declared.span.Span.{Span}
 use Rattle.token_core.specs.declared.tree.Delimiter.{Delimiter}
 use Rattle.token_core.specs.declared.tree.Spacing.{Spacing}
 use Rattle.token_core.specs.declared.tree.Spacing.TheVariants.{Joint, Alone}
-use Rattle.token_core.specs.declared.tree.TokenStream.{TokenStream}
 use Rattle.token_core.specs.Listed.{AreListed, AfterMark, Anywhere, Nowhere, last_value, value_and_mark}
 use Rattle.token_core.specs.Reads.{sees_mark}
 use Rattle.token_core.specs.Spellings.{IsMark, is_mark, last_char, more_chars}
 use Rattle.token_core.specs.Stream.{Scope}
 use Rattle.token_core.specs.Tokens as token
 use Rattle.token_core.specs.Toks.{Toks, mark, group}
-use Rattle.token_core.specs.Trees.{punct, toks}
+use Rattle.token_core.specs.Trees.{TokenStream, punct, toks}
 use Rattle.token_core.proofs.Steps.{Reads_to, chosen, link}
 use Rattle.token_core.proofs.Took.{at}
 use Rattle.syn_path.specs.declared.mac.Macro.{Macro}

@@ -6,7 +6,6 @@ use Rattle.token_core.specs.declared.span.DelimSpan.{DelimSpan}
 use Rattle.token_core.specs.declared.span.Span.{Span}
 use Rattle.token_core.specs.declared.tree.Delimiter.TheVariants.{Bracket}
 use Rattle.token_core.specs.declared.tree.Ident.{Ident}
-use Rattle.token_core.specs.declared.tree.TokenStream.{TokenStream, roll-out-TokenStream}
 use Rattle.token_core.specs.declared.tree.TokenTree.{TokenTree}
 use Rattle.token_core.specs.Cut.{trees_between}
 use Rattle.token_core.specs.Front.{past_ends}
@@ -20,7 +19,7 @@ use Rattle.token_core.specs.Spellings.{last_char, IsMark, is_mark, IsWord, is_wo
 use Rattle.token_core.specs.Stream.{Scope}
 use Rattle.token_core.specs.Tokens as token
 use Rattle.token_core.specs.Toks.{Toks, done, word, mark, lit, group, enter, leave}
-use Rattle.token_core.specs.Trees.{row, stream_of_trees, trees}
+use Rattle.token_core.specs.Trees.{TokenStream, row, trees}
 use Rattle.token_core.proofs.Cuts.{between_same, kept_step, left_step}
 use Rattle.token_core.proofs.MarkSpells.{mark_complete, mark_seen, mark_size}
 use Rattle.token_core.proofs.Places.{reached_after, reached_outside, reached_shorter, reached_trans}
@@ -193,4 +192,4 @@ since_met x l k f g d e sc h =
     let m = sc.after in
     let from : position (at l f d sc) ≡ row_items (trees x) ++ (items k ++ m) = ap (λ z. items z ++ m) h ∙ ap (λ z. z ++ m) (row_adds (trees x) k) ∙ append_assoc (row_items (trees x)) (items k) m in
     let is : trees_between (position (at l f d sc)) (outside (at k g e sc)) ≡ trees x = ap (λ z. trees_between z (outside (at k g e sc))) from ∙ row_between (trees x) k m in
-    ap (λ z. Ok (z, at k g e sc)) (ap stream_of_trees is ∙ roll-out-TokenStream x)
+    ap (λ z. Ok (z, at k g e sc)) is

@@ -3,7 +3,7 @@ use Rattle.std.proofs.Common.{◌≡◌, Bool, true, false, [], ◌∷◌, Optio
 use Rattle.std.specs.List.{list_any}
 use Rattle.token_core.specs.declared.error.ErrorKind.TheVariants.{NoTraitInImpl}
 use Rattle.token_core.specs.declared.span.Span.{Span}
-use Rattle.token_core.specs.declared.tree.TokenStream.{TokenStream}
+use Rattle.token_core.specs.Trees.{TokenStream}
 use Rattle.token_core.specs.Listed.{AfterMark}
 use Rattle.token_core.specs.Loops.{Many, listed}
 use Rattle.token_core.specs.Reads.{Reader, ◌>>=◌, Follows, here, pure}

@@ -8,7 +8,6 @@ use Rattle.token_core.specs.declared.span.DelimSpan.{DelimSpan}
 use Rattle.token_core.specs.declared.token.Paren.{Paren}
 use Rattle.token_core.specs.declared.tree.Delimiter.TheVariants.{Parenthesis}
 use Rattle.token_core.specs.declared.tree.Ident.{Ident}
-use Rattle.token_core.specs.declared.tree.TokenStream.{TokenStream}
 use Rattle.token_core.specs.declared.word.Word.{Word}
 use Rattle.token_core.specs.Front.{front}
 use Rattle.token_core.specs.Groups as groups
@@ -24,7 +23,7 @@ use Rattle.token_core.specs.Spellings.{IsMark, IsWord, is_word, IsStr}
 use Rattle.token_core.specs.Stream.{Stream}
 use Rattle.token_core.specs.Tokens as token
 use Rattle.token_core.specs.Toks.{Bytes, Toks, done, word, group}
-use Rattle.token_core.specs.Trees.{ident}
+use Rattle.token_core.specs.Trees.{TokenStream, ident}
 use Rattle.token_core.proofs.LitSpells.{str_sound, str_visible}
 use Rattle.token_core.proofs.MarkSpells.{mark_sound, mark_visible}
 use Rattle.token_core.proofs.Suffixes.{follows_past, follows_self, follows_trans, follows_word, suffix_mark}

@@ -6,7 +6,6 @@ use Rattle.token_core.specs.declared.tree.Delimiter.{Delimiter}
 use Rattle.token_core.specs.declared.tree.Delimiter.TheVariants as d
 use Rattle.token_core.specs.declared.tree.Group.{Group, roll-out-Group}
 use Rattle.token_core.specs.declared.tree.Ident.{Ident}
-use Rattle.token_core.specs.declared.tree.TokenStream.{TokenStream}
 use Rattle.token_core.specs.declared.tree.TokenTree.TheOpen as o
 use Rattle.token_core.specs.declared.tree.TokenTree.TheVariants as t
 use Rattle.token_core.specs.declared.tree.TokenTree.{TokenTree, roll-TokenTree, out-TokenTree, roll-out-TokenTree}
@@ -16,7 +15,7 @@ use Rattle.token_core.specs.Reads.{builtin_text, is_text, sees_mark, sees_word}
 use Rattle.token_core.specs.Spellings.{is_mark, last_char, is_word}
 use Rattle.token_core.specs.Tokens as token
 use Rattle.token_core.specs.Toks.{Bytes, Toks, done, word}
-use Rattle.token_core.specs.Trees.{content_of, delimiter_of, group_of, row, span_of, trees}
+use Rattle.token_core.specs.Trees.{TokenStream, content_of, delimiter_of, group_of, row, span_of, trees}
 use Rattle.token_core.specs.Trees as s
 use Rattle.token_core.proofs.Rebuilds.{tree-group, tree-ident, tree-literal, tree-punct}
 use Rattle.syn_forms.specs.declared.places.TypePlace.{TypePlace}
@@ -45,7 +44,7 @@ module _ (i : Ident) where
   one : (x : TokenTree) → One x
   one x = subst One (roll-out-TokenTree x) (layer (out-TokenTree x))
     where
-      layer : (y : o.TokenTree-F TokenTree Group TokenStream) → One (roll-TokenTree y)
+      layer : (y : o.TokenTree-F TokenTree Group) → One (roll-TokenTree y)
       layer (o.Ident x) = subst One (sym (t.rolls-Ident x)) (λ q m k h. tree-ident x k ∙ same_word_is x q m k (sym (tree-ident x q) ∙ h))
       layer (o.Punct x) = subst One (sym (t.rolls-Punct x)) (λ q m k h. let g = sym (tree-punct x q) ∙ h in cc)
       layer (o.Literal x) = subst One (sym (t.rolls-Literal x)) (λ q m k h. let g = sym (tree-literal x q) ∙ h in cc)

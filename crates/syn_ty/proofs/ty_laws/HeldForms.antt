@@ -1,6 +1,6 @@
 -- What is held verbatim spells its form where it stands: loosely, or else clearly.
 use Rattle.std.proofs.Common.{sym, subst}
-use Rattle.token_core.specs.declared.tree.TokenStream.{TokenStream}
+use Rattle.token_core.specs.Trees.{TokenStream}
 use Rattle.token_core.specs.Toks.{Toks}
 use Rattle.syn_ty.specs.ty.Parts.{Manner, loosely, plainly, clearly, kept, IsVerbatim}
 

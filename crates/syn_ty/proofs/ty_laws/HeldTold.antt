@@ -1,7 +1,5 @@
 -- What is held verbatim is what was read: its tokens, and then those that are left.
-use Rattle.std.proofs.Common.{◌≡◌, List, ◌++◌, Ok, refl, sym, ◌∙◌, ap, append_assoc}
-use Rattle.token_core.specs.declared.tree.TokenStream.{TokenStream, out-roll-TokenStream}
-use Rattle.token_core.specs.declared.tree.TokenTree.{TokenTree}
+use Rattle.std.proofs.Common.{◌≡◌, ◌++◌, Ok, refl, sym, ◌∙◌, ap, append_assoc}
 use Rattle.token_core.specs.Cut.{between, trees_between}
 use Rattle.token_core.specs.Front.{past_ends}
 use Rattle.token_core.specs.Positions.{items, row_items}
@@ -9,7 +7,7 @@ use Rattle.token_core.specs.Reads.{Follows}
 use Rattle.token_core.specs.Rebuilt.{Visible}
 use Rattle.token_core.specs.Stream.{Scope, Stream}
 use Rattle.token_core.specs.Toks.{Toks, done, word, mark, lit, group, enter, leave}
-use Rattle.token_core.specs.Trees.{row, stream_of_trees, trees}
+use Rattle.token_core.specs.Trees.{TokenStream, row, trees}
 use Rattle.token_core.proofs.Cuts.{between_trees, leads}
 use Rattle.token_core.proofs.Turns.{same_pair}
 use Rattle.syn_forms.specs.verbatim.Reading.{outside, position, since}
@@ -25,9 +23,6 @@ no_ends (group d s c k) v = refl
 no_ends (enter s k) v = refl
 no_ends (leave k) v = absurd v
 
-held_trees : (l : List TokenTree) → trees (stream_of_trees l) ≡ l
-held_trees l = ap (λ z. z.trees) (out-roll-TokenStream _)
-
 -- what was read between two states of a stream is what is held from the first one on
 pub holds_since : (s t u : Stream) (x : TokenStream) → Visible s.rest → Visible t.rest → Follows s t → since (position s) t ≡ Ok (x, u) → (t ≡ u) × Holds x s.rest t.rest
 unfolding since
@@ -38,5 +33,5 @@ holds_since s t u x v w f e =
     let left : items t.rest ++ s.scope.after ≡ outside t = ap (λ z. items t.rest ++ z) after ∙ ap (λ z. items z ++ t.scope.after) (sym (no_ends t.rest w)) in
     let whole : position s ≡ row_items h.trees ++ outside t = ap (λ z. z ++ s.scope.after) h.whole ∙ append_assoc (row_items h.trees) (items t.rest) s.scope.after ∙ ap (λ z. row_items h.trees ++ z) left in
     let cut : trees_between (position s) (outside t) ≡ h.trees = between_trees h.trees (position s) (outside t) whole in
-    let is : trees x ≡ h.trees = ap trees (sym k.0) ∙ held_trees (trees_between (position s) (outside t)) ∙ cut in
+    let is : trees x ≡ h.trees = sym k.0 ∙ cut in
     (k.1, sym h.tokens ∙ ap (λ z. row z t.rest) (sym is))

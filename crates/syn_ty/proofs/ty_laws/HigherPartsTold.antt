@@ -1,10 +1,9 @@
 -- What one grammar spells within a form, another spells too: so it is of values that marks join, of a part that may be missing, of what is held verbatim, of a binder and of a given value.
 use Rattle.std.proofs.Common.{Bool, List, Option}
-use Rattle.token_core.specs.declared.tree.TokenStream.{TokenStream}
 use Rattle.token_core.specs.Listed.{AreListed, none_left, last_value, value_and_mark}
 use Rattle.token_core.specs.Tokens as token
 use Rattle.token_core.specs.Toks.{Toks}
-use Rattle.token_core.specs.Trees.{row, trees}
+use Rattle.token_core.specs.Trees.{TokenStream, row, trees}
 use Rattle.syn_forms.specs.declared.places.BoundPlace.{BoundPlace}
 use Rattle.syn_forms.specs.declared.places.ParamPlace.{ParamPlace}
 use Rattle.syn_forms.specs.declared.places.TypePlace.{TypePlace}

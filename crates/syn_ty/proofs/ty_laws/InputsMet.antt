@@ -3,7 +3,7 @@ use Rattle.std.proofs.lemmas.Bool.{and_from, and_right, not_from_false, or_from,
 use Rattle.std.proofs.Common.{◌≡◌, ℕ, ◌≤◌, Bool, true, false, ◌&&◌, ◌||◌, List, Option, Some, None, Ok, refl, ap, arith}
 use Rattle.token_core.specs.declared.span.Span.{Span}
 use Rattle.token_core.specs.declared.tree.Ident.{Ident}
-use Rattle.token_core.specs.declared.tree.TokenStream.{TokenStream}
+use Rattle.token_core.specs.Trees.{TokenStream}
 use Rattle.token_core.specs.Keywords.{is_keyword}
 use Rattle.token_core.specs.Reads.{Reader, after_one, is_done, is_text, sees_mark, sees_word}
 use Rattle.token_core.specs.Spellings.{last_char, IsMark, is_mark, is_word}

@@ -33,7 +33,7 @@ use Rattle.syn_ty.specs.ty.Trees.{TypeParamBound, TypePath, TypeTree}
 use Rattle.syn_ty.specs.ty.Types.{paren_of}
 use Rattle.token_core.specs.declared.lifetime.Lifetime.{Lifetime}
 use Rattle.token_core.specs.declared.token.Paren.{Paren}
-use Rattle.token_core.specs.declared.tree.TokenStream.{TokenStream}
+use Rattle.token_core.specs.Trees.{TokenStream}
 use Rattle.token_core.specs.Lists.{put_last}
 use Rattle.token_core.specs.Loops.{Many}
 use Rattle.token_core.specs.Reads.{pure}

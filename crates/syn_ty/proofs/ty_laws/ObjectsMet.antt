@@ -9,7 +9,6 @@ use Rattle.token_core.specs.declared.lifetime.Lifetime.{Lifetime}
 use Rattle.token_core.specs.declared.span.Span.{Span}
 use Rattle.token_core.specs.declared.tree.Ident.{Ident}
 use Rattle.token_core.specs.declared.tree.Punct.{Punct}
-use Rattle.token_core.specs.declared.tree.TokenStream.{TokenStream}
 use Rattle.token_core.specs.Keywords.{is_keyword}
 use Rattle.token_core.specs.Lifetimes.{read_lifetime, sees_lifetime}
 use Rattle.token_core.specs.Listed.{AreListed, none_left, last_value, value_and_mark, Anywhere, Nowhere, AfterMark}
@@ -20,7 +19,7 @@ use Rattle.token_core.specs.Spellings.{IsMark, is_mark, last_char, more_chars, I
 use Rattle.token_core.specs.Stream.{Scope, Stream}
 use Rattle.token_core.specs.Tokens as token
 use Rattle.token_core.specs.Toks.{Bytes, Toks, done, word, mark, lit, group, enter, leave}
-use Rattle.token_core.specs.Trees.{punct}
+use Rattle.token_core.specs.Trees.{TokenStream, punct}
 use Rattle.token_core.proofs.MarkSpells.{mark_complete, mark_seen}
 use Rattle.token_core.proofs.Steps.{link, chosen, Reads_to}
 use Rattle.token_core.proofs.Took.{at, mapped}

@@ -5,7 +5,6 @@ use Rattle.token_core.specs.declared.span.DelimSpan.{DelimSpan}
 use Rattle.token_core.specs.declared.tree.Delimiter.{Delimiter}
 use Rattle.token_core.specs.declared.tree.Delimiter.TheVariants.{Parenthesis, Bracket}
 use Rattle.token_core.specs.declared.tree.Spacing.TheVariants.{Joint}
-use Rattle.token_core.specs.declared.tree.TokenStream.{TokenStream}
 use Rattle.token_core.specs.Groups as groups
 use Rattle.token_core.specs.Keywords.{is_keyword}
 use Rattle.token_core.specs.Lifetimes.{sees_lifetime, with_ident}
@@ -20,7 +19,7 @@ use Rattle.token_core.specs.Rebuilt.{IsVisible}
 use Rattle.token_core.specs.Spellings.{IsMark, is_mark, last_char}
 use Rattle.token_core.specs.Tokens as token
 use Rattle.token_core.specs.Toks.{Toks, done, word, mark, lit, group, enter, leave}
-use Rattle.token_core.specs.Trees.{punct, row, stream_of_trees}
+use Rattle.token_core.specs.Trees.{TokenStream, punct, row, stream_of_trees}
 use Rattle.token_core.proofs.MarkSpells.{mark_again}
 use Rattle.token_core.proofs.Rows.{row-append}
 use Rattle.syn_path.specs.Values.{Values}

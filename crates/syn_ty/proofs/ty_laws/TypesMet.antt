@@ -5,7 +5,6 @@ use Rattle.token_core.specs.declared.lifetime.Lifetime.{Lifetime}
 use Rattle.token_core.specs.declared.span.DelimSpan.{DelimSpan}
 use Rattle.token_core.specs.declared.span.Span.{Span}
 use Rattle.token_core.specs.declared.tree.Delimiter.TheVariants.{Parenthesis}
-use Rattle.token_core.specs.declared.tree.TokenStream.{TokenStream}
 use Rattle.token_core.specs.Groups as groups
 use Rattle.token_core.specs.Lifetimes.{sees_lifetime}
 use Rattle.token_core.specs.Listed.{AfterMark, Nowhere}
@@ -15,7 +14,7 @@ use Rattle.token_core.specs.Spellings.{IsMark, is_mark, last_char, IsWord, IsLif
 use Rattle.token_core.specs.Stream.{Scope}
 use Rattle.token_core.specs.Tokens as token
 use Rattle.token_core.specs.Toks.{Toks, done, group, mark, word}
-use Rattle.token_core.specs.Trees.{punct}
+use Rattle.token_core.specs.Trees.{TokenStream, punct}
 use Rattle.token_core.proofs.Steps.{Reads_to}
 use Rattle.token_core.proofs.Took.{at}
 use Rattle.syn_path.specs.declared.mac.Macro.{Macro}

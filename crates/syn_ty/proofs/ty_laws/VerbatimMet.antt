@@ -6,7 +6,7 @@ use Rattle.token_core.specs.declared.span.DelimSpan.{DelimSpan}
 use Rattle.token_core.specs.declared.span.Span.{Span}
 use Rattle.token_core.specs.declared.tree.Delimiter.TheVariants.{Parenthesis}
 use Rattle.token_core.specs.declared.tree.Ident.{Ident}
-use Rattle.token_core.specs.declared.tree.TokenStream.{TokenStream}
+use Rattle.token_core.specs.Trees.{TokenStream}
 use Rattle.token_core.specs.Groups.{paren_name}
 use Rattle.token_core.specs.Keywords.{is_keyword}
 use Rattle.token_core.specs.Lifetimes.{read_lifetime}

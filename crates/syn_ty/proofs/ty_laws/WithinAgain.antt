@@ -4,7 +4,6 @@ use Rattle.token_core.specs.declared.span.DelimSpan.{DelimSpan}
 use Rattle.token_core.specs.declared.tree.Delimiter.{Delimiter}
 use Rattle.token_core.specs.declared.tree.Delimiter.TheVariants as d
 use Rattle.token_core.specs.declared.tree.Group.{Group, roll-out-Group}
-use Rattle.token_core.specs.declared.tree.TokenStream.{TokenStream}
 use Rattle.token_core.specs.declared.tree.TokenTree.{TokenTree, out-TokenTree, roll-out-TokenTree, roll-TokenTree}
 use Rattle.token_core.specs.declared.tree.TokenTree.TheOpen as o
 use Rattle.token_core.specs.declared.tree.TokenTree.TheVariants as t
@@ -13,7 +12,7 @@ use Rattle.token_core.specs.Prints.{Print}
 use Rattle.token_core.specs.Rebuilt.{Visible, IsVisible}
 use Rattle.token_core.specs.Toks.{Toks, done, group}
 use Rattle.token_core.specs.Trees as s
-use Rattle.token_core.specs.Trees.{row, trees, stream_of_trees, delimiter_of, content_of, span_of, group_of}
+use Rattle.token_core.specs.Trees.{TokenStream, row, trees, stream_of_trees, delimiter_of, content_of, span_of, group_of}
 use Rattle.token_core.proofs.Rebuilds.{tree-ident, tree-punct, tree-literal, tree-group}
 use Rattle.syn_path.proofs.Words.{AgainFront, row-group}
 
@@ -60,7 +59,7 @@ shows_group d.None c a = let e = tree-group d.None c a in record { seen = λ r u
 shows : (x : TokenTree) → Shows x
 shows x = subst Shows (roll-out-TokenTree x) (layer (out-TokenTree x))
   where
-    layer : (y : o.TokenTree-F TokenTree Group TokenStream) → Shows (roll-TokenTree y)
+    layer : (y : o.TokenTree-F TokenTree Group) → Shows (roll-TokenTree y)
     layer (o.Ident i) = subst Shows (sym (t.rolls-Ident i)) (record { seen = λ r u. subst Visible (tree-ident i r) u; put = λ r k u w. subst Visible (sym (tree-ident i k)) w })
     layer (o.Punct m) = subst Shows (sym (t.rolls-Punct m)) (record { seen = λ r u. subst Visible (tree-punct m r) u; put = λ r k u w. subst Visible (sym (tree-punct m k)) w })
     layer (o.Literal l) = subst Shows (sym (t.rolls-Literal l)) (record { seen = λ r u. subst Visible (tree-literal l r) u; put = λ r k u w. subst Visible (sym (tree-literal l k)) w })

@@ -1,10 +1,9 @@
 -- What the grammar of types, paths, bounds and parameters is open over: how a spelling is told, how it ends, and what stands within a form.
 use Rattle.std.specs.Prelude.{◌≡◌, Bool, true, false, List, [], ◌∷◌}
-use Rattle.token_core.specs.declared.tree.TokenStream.{TokenStream}
 use Rattle.token_core.specs.Reads.{any_text, sees_word}
 use Rattle.token_core.specs.Tokens as token
 use Rattle.token_core.specs.Toks.{Toks}
-use Rattle.token_core.specs.Trees.{row, trees}
+use Rattle.token_core.specs.Trees.{TokenStream, row, trees}
 use Rattle.syn_forms.specs.declared.places.BoundPlace.{BoundPlace}
 use Rattle.syn_forms.specs.declared.places.ParamPlace.{ParamPlace}
 use Rattle.syn_forms.specs.declared.places.TypePlace.{TypePlace}

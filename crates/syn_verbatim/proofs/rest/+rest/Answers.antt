@@ -1,6 +1,5 @@
 use Rattle.std.proofs.Common.{◌≡◌, ◌+◌, ◌*◌, ◌<◌, ◌≤◌, true, false, ◌++◌, ◌∷◌, [], Ok, Err, sym, ap, ◌∙◌, rules, arith, append_assoc, append-nil}
 use Rattle.std.proofs.lemmas.Grind.{common_steps}
-use Rattle.token_core.specs.declared.tree.TokenStream.{roll-out-TokenStream}
 use Rattle.token_core.specs.Groups.{sees_invisible}
 use Rattle.token_core.specs.Loops.{size}
 use Rattle.token_core.specs.Reads.{is_done}
@@ -56,7 +55,7 @@ take_rest-returns-then-is_empty-clause-reads t c =
     let h : sees_invisible c.turn.input.rest ≡ false = first_of (search rules, grind (arith, common_steps)) in
     let old = c.args.input.now in
     ap (λ z. Ok (stream_of_trees z, ended old)) (c.turn.invariant.holds ∙ ap (λ z. trees c.turn.trees ++ z) (no_more c.turn.input d h) ∙ append-nil (trees c.turn.trees))
-    ∙ ap (λ z. Ok (z, ended old)) (roll-out-TokenStream c.turn.trees) ∙ ap (λ z. Ok (c.turn.trees, z)) (c.turn.invariant.ends ∙ stays c.turn.input d h)
+    ∙ ap (λ z. Ok (c.turn.trees, z)) (c.turn.invariant.ends ∙ stays c.turn.input d h)
 
 pub take_rest-returns-in_err-token-clause-reads : goal.take_rest-returns-in_err-token-clause-reads
 take_rest-returns-in_err-token-clause-reads t c =

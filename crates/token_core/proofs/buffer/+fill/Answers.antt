@@ -2,7 +2,7 @@ use Rattle.std.proofs.Common.{◌≡◌, ◌-◌, ◌++◌, ◌∷◌, [], map, 
 use Rattle.std.proofs.lemmas.Grind.{common_steps}
 use Rattle.std.proofs.Math.ListN.{set}
 use Rattle.token_core.specs.declared.buffer.Entry.TheVariants.{Tree, End}
-use Rattle.token_core.specs.declared.tree.Group.{out-Group, outs-Group'}
+use Rattle.token_core.specs.declared.tree.Group.{out-Group}
 use Rattle.token_core.specs.declared.tree.TokenTree.TheOpen as o
 use Rattle.token_core.specs.Seen.{saw_leave, saw_delimiter}
 use Rattle.token_core.specs.Entries.{saw, saw_layer, flat_tree, flat_stream, all_of}
@@ -14,18 +14,17 @@ use Rattle.token_core.proofs.Flats.{flat_stream_is, flat_tree_is, flat_group_is,
 use Rattle.token_core.proofs.Fills.{all_of_more, group_filled, group_count}
 use Rattle.token_core.proofs.buffer.+fill.Goals as goal
 
-pub fill_stream-loop-tree-preserved : goal.fill_stream-loop-tree-preserved
-fill_stream-loop-tree-preserved t c =
-    let m = all_of_more c.trees-tree-items.result.now c.loop-tree.tree-index c.tree-item.result (omega arith) c.tree-item.is in
+pub fill_trees-loop-tree-preserved : goal.fill_trees-loop-tree-preserved
+fill_trees-loop-tree-preserved t c =
+    let m = all_of_more c.args.trees.now c.loop-tree.tree-index c.tree-item.result (omega arith) c.tree-item.is in
     let e : map saw c.fill_tree.new.entries.items ≡ map saw c.loop-tree.entries.items ++ flat_tree c.tree-item.result = search rules in
-    e ∙ ap (λ x. x ++ flat_tree c.tree-item.result) c.loop-tree.invariant ∙ append_assoc (map saw c.args.entries.now.items) (all_of (map flat_tree (take c.loop-tree.tree-index c.trees-tree-items.result.now))) (flat_tree c.tree-item.result) ∙ ap (λ x. map saw c.args.entries.now.items ++ x) (sym m)
+    e ∙ ap (λ x. x ++ flat_tree c.tree-item.result) c.loop-tree.invariant ∙ append_assoc (map saw c.args.entries.now.items) (all_of (map flat_tree (take c.loop-tree.tree-index c.args.trees.now))) (flat_tree c.tree-item.result) ∙ ap (λ x. map saw c.args.entries.now.items ++ x) (sym m)
 
-pub fill_stream-returns : goal.fill_stream-returns
-fill_stream-returns t c =
-    let f = flat_stream_is c.args.stream.now in
-    let whole : take c.loop-tree.tree-index c.trees-tree-items.result.now ≡ c.trees-tree-items.result.now = grind (arith, common_steps) in
+pub fill_trees-returns : goal.fill_trees-returns
+fill_trees-returns t c =
+    let f = flat_stream_is c.args.trees.now in
+    let whole : take c.loop-tree.tree-index c.args.trees.now ≡ c.args.trees.now = grind (arith, common_steps) in
     let i = c.loop-tree.invariant in
-    let g = c.trees-tree-items.ensures in
     cc
 
 pub fill_tree-returns-in_ok-push-in-Ident : goal.fill_tree-returns-in_ok-push-in-Ident
@@ -50,14 +49,14 @@ pub fill_tree-returns-in_ok-push-in-Group-2 : goal.fill_tree-returns-in_ok-push-
 fill_tree-returns-in_ok-push-in-Group-2 t c =
     let g = c.in-Group.group in
     let old = c.args.entries.now.items in
-    let filled = c.fill_stream.new.entries.items in
+    let filled = c.fill_trees.new.entries.items in
     let inner = flat_stream (out-Group g).stream in
     let k = c.of-classed.result in
     let u : out-TokenTree c.args.tree.now ≡ o.Group g = ap out-TokenTree c.in-Group.is ∙ outs-Group g in
     let p : c.push.new.self.items ≡ old ++ Tree k 0 ∷ [] = search rules in
-    let s : flat_stream g.stream ≡ inner = ap (λ r. flat_stream r.stream) (sym (outs-Group' g)) in
+    let s : flat_stream c.trees.result.now ≡ inner = ap flat_stream (c.trees.ensures ∙ c.stream.ensures) in
     let h : map saw filled ≡ map saw (old ++ Tree k 0 ∷ []) ++ inner =
-    c.in_ok-fill_stream-in-Group.ensures ∙ ap (λ x. map saw x ++ flat_stream g.stream) p ∙ ap (λ x. map saw (old ++ Tree k 0 ∷ []) ++ x) s in
+    c.in_ok-fill_trees-in-Group.ensures ∙ ap (λ x. map saw x ++ flat_stream c.trees.result.now) p ∙ ap (λ x. map saw (old ++ Tree k 0 ∷ []) ++ x) s in
     let at : c.len-at.result ≡ length old = search rules in
     let len : c.len.result ≡ length filled = search rules in
     let new : c.push-in-Group.new.self.items ≡ set filled c.len-at.result (Tree k (c.len.result - c.len-at.result - 1)) ++ End c.args.tree ∷ [] = search rules in

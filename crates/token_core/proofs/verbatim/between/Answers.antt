@@ -1,7 +1,6 @@
 use Rattle.std.proofs.Common.{◌≡◌, ◌++◌, false, sym, ap, ◌∙◌, append-nil, rules}
-use Rattle.token_core.specs.declared.tree.TokenStream.{roll-out-TokenStream}
 use Rattle.token_core.specs.Cut.{trees_between}
-use Rattle.token_core.specs.Trees.{trees, stream_of_trees}
+use Rattle.token_core.specs.Trees.{trees}
 use Rattle.token_core.specs.Positions.{is_before}
 use Rattle.token_core.proofs.Cuts.{between_same, between_trees}
 use Rattle.token_core.proofs.verbatim.between.Goals as goal
@@ -12,6 +11,6 @@ returns c =
     let e = between_same c.parts.cursor c.args.end.now b in
     let w : trees c.parts.tokens ≡ trees_between c.args.begin.now c.args.end.now = sym (append-nil (trees c.parts.tokens)) ∙ ap (λ z. trees c.parts.tokens ++ z) (sym e) ∙ sym c.parts.invariant.told in
     record {
-      trees = sym (roll-out-TokenStream c.parts.tokens) ∙ ap stream_of_trees w;
+      trees = w;
       whole = λ l q. w ∙ between_trees l c.args.begin.now c.args.end.now q;
     }

@@ -6,10 +6,10 @@ use Rattle.token_core.proofs.buffer.TokenBuffer.new.Goals as goal
 
 pub invariant_of-result : goal.invariant_of-result
 invariant_of-result c =
-    let e : map saw c.fill_stream.new.entries.items ≡ flat_stream c.args.stream.now = search rules in
+    let e : map saw c.fill_trees.new.entries.items ≡ flat_stream c.args.stream.now = search rules in
     subst Nested (sym e) (nested_flat c.args.stream.now)
 
 pub returns : goal.returns
 returns c =
-    let e : map saw c.fill_stream.new.entries.items ≡ flat_stream c.args.stream.now = search rules in
+    let e : map saw c.fill_trees.new.entries.items ≡ flat_stream c.args.stream.now = search rules in
     ap view e ∙ view-flat c.args.stream.now
