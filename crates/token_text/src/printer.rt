@@ -15,7 +15,7 @@ pub fn text_of(alloc: Global, tokens: &TokenStream) -> Result<String, AllocError
     ensures { IfOk result (λ s. string_bytes s ≡ spec.text_of tokens.now) }
 {
     let mut out = String::new(alloc);
-    push_stream(tokens, &mut out)?;
+    push_trees(tokens.trees(), &mut out)?;
     Ok(out)
 }
 
@@ -32,11 +32,11 @@ fn is_joint(tree: &TokenTree) -> bool
 }
 
 #[cycle(push)]
-fn push_stream(stream: &TokenStream, out: &mut String) -> Result<(), AllocError>
-    ensures { OnOk result (string_bytes out.new ≡ string_bytes out.old ++ spec.text_of stream.now) }
+fn push_trees(trees: &[TokenTree], out: &mut String) -> Result<(), AllocError>
+    ensures { OnOk result (string_bytes out.new ≡ string_bytes out.old ++ spec.text_of trees.now) }
 {
     let mut joint = true;
-    for tree in stream.trees() {
+    for tree in trees {
         if !joint {
             out.push(' ')?;
         }
@@ -65,7 +65,7 @@ fn push_group(group: &Group, out: &mut String) -> Result<(), AllocError>
     let content = group.stream();
     let (opening, closing) = brackets(group.delimiter(), content.is_empty());
     out.push_str(opening)?;
-    push_stream(content, out)?;
+    push_trees(content.trees(), out)?;
     out.push_str(closing)
 }
 
