@@ -23,7 +23,7 @@ use Rattle.token_core.specs.Rebuilt.{Levels, enclose, invisible, stream_of, onto
 use Rattle.token_core.specs.Refusal.{Refusal}
 use Rattle.token_core.specs.Stream.{Stream}
 use Rattle.token_core.specs.Toks.{Toks, done, word, mark, lit, group, enter, leave}
-use Rattle.token_core.specs.Trees.{TokenStream, group_of}
+use Rattle.token_core.specs.Trees.{group_of}
 use Rattle.token_core.specs.Positions.{Item, an_ident, a_punct, a_literal, a_beginning, an_end, items, tree_items, has_tree}
 use Rattle.token_core.proofs.Positions.{ident_items, punct_items, literal_items, a_group_items}
 use Rattle.token_core.proofs.Steps.{link, chosen}
