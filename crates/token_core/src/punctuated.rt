@@ -189,7 +189,7 @@ impl<T: Drop, P: Drop> Punctuated<T, P> {
         ensures ok { OnOk result (self.new ≡ (self.old.0 ++ value ∷ [], self.old.1)) }
         ensures err { OnErr result (self.new ≡ self.old) }
     {
-        self.values.push(value)
+        self.values.push_sparing(value)
     }
 
     /// Puts a mark after the last value; refused, it changes nothing and drops the mark.
