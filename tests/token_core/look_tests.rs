@@ -116,7 +116,7 @@ fn choices_name_marks_and_words_without_a_name(rt: HostRuntime) {
     is(&rt, !look.peek::<Word<99>>(), "no word without a name");
     let text = "expected `,` or ``";
     says(&rt, &look.error(alloc), ErrorKind::Expected, text, nth(0));
-    is(&rt, !look.peek::<Word<20>>(), "no other one");
+    is(&rt, !look.peek::<Word<53>>(), "no other one");
     is(&rt, !look.peek::<Comma>(), "no comma again");
     says(&rt, &look.error(alloc), ErrorKind::Expected, text, nth(0));
 }

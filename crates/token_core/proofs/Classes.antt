@@ -13,7 +13,8 @@ use Rattle.token_core.specs.Toks.{Bytes}
 use Rattle.token_core.specs.Trees.{TokenStream, delimiter_of, span_of, content_of}
 use Rattle.token_core.specs.Seen.{saw_delimiter}
 use Rattle.token_core.specs.Entries.{Layer, saw_layer}
-use Rattle.token_core.specs.Classes.{Numbered, words, numbered, among, begins, beginning, words_from, word_number, layer_class, class_of}
+use Rattle.token_core.specs.Keywords.{words}
+use Rattle.token_core.specs.Classes.{Numbered, numbered, among, begins, beginning, words_from, word_number, layer_class, class_of}
 
 -- ---- the class of an entry
 

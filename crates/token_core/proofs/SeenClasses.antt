@@ -1,10 +1,8 @@
 -- What tests see of classes is what they are defined to see.
-use Rattle.std.proofs.Common.{◌≡◌, ℕ, zero, suc, ◌+◌, ◌<◌, Bool, true, false, not, ◌&&◌, ◌||◌, ◌==◌, List, [], ◌∷◌, ◌++◌, Option, Some, None, Ok, Err, is_some, if◌then◌else◌, refl, sym, ap, ap₂, ◌∙◌, nat_eq, nat_lt, inl, inr, length, map, drop, get_or, codes, arith}
+use Rattle.std.proofs.Common.{◌≡◌, ℕ, zero, suc, ◌+◌, ◌<◌, Bool, true, false, not, ◌&&◌, ◌||◌, ◌==◌, List, [], ◌∷◌, ◌++◌, Option, Some, None, Ok, Err, is_some, if◌then◌else◌, refl, sym, ap, ap₂, ◌∙◌, nat_eq, inl, inr, length, map, drop, get_or, codes, arith}
 use Rattle.std.specs.Str.{bytes_eq}
-use Rattle.std.specs.List.{list_all}
 use Rattle.std.proofs.lemmas.Bool.{cases_Bool, false≢true}
 use Rattle.std.proofs.lemmas.Slice.Eq.{bytes_eq-Decides}
-use Rattle.std.proofs.Math.ListN.{get_or-map}
 use Rattle.std.proofs.lemmas.List.{drop-map}
 use Rattle.token_core.specs.declared.class.Class.{Class}
 use Rattle.token_core.specs.declared.class.Class.TheVariants.{Word, Raw, Ident, Open}
@@ -15,12 +13,12 @@ use Rattle.token_core.specs.declared.tree.Delimiter.{Delimiter}
 use Rattle.token_core.specs.Toks.{Bytes, Toks, done, word, mark, lit, group, enter, leave}
 use Rattle.token_core.specs.Seen.{Seen, view, saw_word, saw_mark, saw_lit, saw_group, saw_enter, saw_leave, saw_delimiter, view-nil, view-word, view-mark, view-lit, view-group, view-enter, view-leave}
 use Rattle.token_core.specs.Front.{front, settled}
-use Rattle.token_core.specs.Keywords.{keywords, is_one_of, is_keyword}
-use Rattle.token_core.specs.Classes.{words, numbered, among, word_number, is_raw, classed, text_class, layer_class, class_of}
+use Rattle.token_core.specs.Keywords.{keywords, words, word_count, is_one_of, is_keyword}
+use Rattle.token_core.specs.Classes.{numbered, among, word_number, builtin_number, true_number, false_number, is_raw, classed, text_class, layer_class, class_of}
 use Rattle.token_core.specs.Reads as reads
 use Rattle.token_core.specs.Reads.{past, next_word, word_past, word_if, as_word, as_punct, as_group, as_lit, word_meets, group_meets, sees_word, sees_mark, sees_group, any_text, is_text, past_mark, past_next, put_first, is_last, is_joint, after_one, is_done}
 use Rattle.token_core.specs.Lifetimes.{with_ident, with_quote, sees_lifetime}
-use Rattle.token_core.specs.Marks.{word_table, text_of}
+use Rattle.token_core.specs.Marks.{text_of}
 use Rattle.token_core.specs.Lits as lits
 use Rattle.token_core.specs.Members.{is_int, int_meets, sees_int}
 use Rattle.token_core.specs.declared.lit.Lit.TheVariants as variant
@@ -41,7 +39,7 @@ use Rattle.token_core.specs.Refusal.{Refusal}
 use Rattle.token_core.proofs.Classes.{both_left, both_right}
 use Rattle.token_core.proofs.Fronts.{settled-front, nested_from}
 use Rattle.token_core.specs.Sees as sees
-use Rattle.token_core.specs.Sees.{class_at, rest_of, first_class, after_first, is_any_ident, is_ident, is_word, is_group, is_quote, is_char, are_chars, is_lifetime, word_numbers, after_class, literal_kind, kind_meets, is_lit, is_lit_at, is_end, bounds}
+use Rattle.token_core.specs.Sees.{class_at, rest_of, first_class, after_first, is_any_ident, is_ident, is_word, is_group, is_quote, is_char, are_chars, is_lifetime, after_class, literal_kind, kind_meets, is_lit, is_lit_at, is_end, bounds}
 
 -- ---- the first entry that is no bound
 
@@ -289,11 +287,11 @@ module _ (t : Bytes) where
         ∙ word_among (m + 1) j ws (omega (arith, h)) (both_right (apart w ws) (all_apart ws) a)
   ]
 
-  word_text : (n : ℕ) → n < 53 → is_word (text_class t) n ≡ bytes_eq t (get_or words n [])
+  word_text : (n : ℕ) → n < word_count → is_word (text_class t) n ≡ bytes_eq t (text_of n)
   unfolding text_class word_number
   word_text n h = ap (λ k. is_word (classed (among (numbered 0 words) t) t) k) (omega arith) ∙ word_among 0 n words h refl
 
-word_at : (n : ℕ) (t : Toks) → n < 53 → is_word (class_at t) n ≡ word_meets (is_text (get_or words n [])) (as_word t)
+word_at : (n : ℕ) (t : Toks) → n < word_count → is_word (class_at t) n ≡ word_meets (is_text (text_of n)) (as_word t)
 word_at n done h = refl
 word_at n (word i k) h = word_text i.text n h
 word_at n (mark p k) h = refl
@@ -302,31 +300,16 @@ word_at n (group b s c k) h = refl
 word_at n (enter s k) h = refl
 word_at n (leave k) h = refl
 
-pub word_seen : (n : ℕ) (l : Toks) → n < 53 → is_word (class_at (front l)) n ≡ sees_word (is_text (get_or words n [])) l
+pub word_seen : (n : ℕ) (l : Toks) → n < word_count → is_word (class_at (front l)) n ≡ sees_word (is_text (text_of n)) l
 unfolding sees_word
 word_seen n l h = word_at n (front l) h
 
-pub builtin_seen : (l : Toks) → is_word (class_at (front l)) 52 ≡ sees_word (is_text reads.builtin_text) l
-builtin_seen l = word_seen 52 l (omega arith)
-
-below : (xs : List ℕ) (b n : ℕ) → list_all (λ k. nat_lt k b) xs ≡ true → 0 < b → get_or xs n 0 < b
-below [] b n a h = h
-below (x ∷ xs) b zero a h = let e = both_left (nat_lt x b) (list_all (λ k. nat_lt k b) xs) a in grind (arith, e)
-below (x ∷ xs) b (suc n) a h = below xs b n (both_right (nat_lt x b) (list_all (λ k. nat_lt k b) xs) a) h
-
-get_or_other : {X : Type 0} (xs : List X) (n : ℕ) (a b : X) → n < length xs → get_or xs n a ≡ get_or xs n b
-get_or_other [] n a b h = absurd (omega (arith, h))
-get_or_other (x ∷ xs) zero a b h = refl
-get_or_other (x ∷ xs) (suc n) a b h = get_or_other xs n a b (omega (arith, h))
-
-named_text : (n : ℕ) → n < 20 → get_or words (get_or word_numbers n 0) [] ≡ text_of n
-named_text n h = sym (get_or-map (λ k. get_or words k []) word_numbers n 0) ∙ get_or_other word_table n (codes "_") [] h
+pub builtin_seen : (l : Toks) → is_word (class_at (front l)) builtin_number ≡ sees_word (is_text reads.builtin_text) l
+builtin_seen l = word_seen builtin_number l (omega arith)
 
 -- the named words
-pub named_seen : (n : ℕ) (l : Toks) (c : Class) → n < 20 → c ≡ class_at (front l) → is_word c (get_or word_numbers n 0) ≡ sees_word (is_text (text_of n)) l
-named_seen n l c h e =
-    ap (λ k. is_word k (get_or word_numbers n 0)) e ∙ word_seen (get_or word_numbers n 0) l (below word_numbers 53 n refl (omega arith))
-    ∙ ap (λ x. sees_word (is_text x) l) (named_text n h)
+pub named_seen : (n : ℕ) (l : Toks) (c : Class) → n < word_count → c ≡ class_at (front l) → is_word c n ≡ sees_word (is_text (text_of n)) l
+named_seen n l c h e = ap (λ k. is_word k n) e ∙ word_seen n l h
 
 -- ---- groups
 
@@ -492,15 +475,15 @@ minus_here : (p : Punct) (k : Toks) (b : Bool) → (if b then kind_meets lits.is
 minus_here p k true = number_at p.span (front k)
 minus_here p k false = refl
 
-lit_classed : (t : Bytes) (k : Toks) → is_lit_at (text_class t) k ≡ (is_word (text_class t) 41 || is_word (text_class t) 16)
+lit_classed : (t : Bytes) (k : Toks) → is_lit_at (text_class t) k ≡ (is_word (text_class t) true_number || is_word (text_class t) false_number)
 unfolding text_class
 lit_classed t k = at (word_number t)
   where
-    plain : (z : Bool) → is_lit_at (if z then Raw else Ident) k ≡ (is_word (if z then Raw else Ident) 41 || is_word (if z then Raw else Ident) 16)
+    plain : (z : Bool) → is_lit_at (if z then Raw else Ident) k ≡ (is_word (if z then Raw else Ident) true_number || is_word (if z then Raw else Ident) false_number)
     plain true = refl
     plain false = refl
 
-    at : (o : Option ℕ) → is_lit_at (classed o t) k ≡ (is_word (classed o t) 41 || is_word (classed o t) 16)
+    at : (o : Option ℕ) → is_lit_at (classed o t) k ≡ (is_word (classed o t) true_number || is_word (classed o t) false_number)
     at (Some n) = refl
     at None = plain (is_raw t)
 
@@ -512,7 +495,7 @@ bool_here x y false false = refl
 lit_here : (t : Toks) → is_lit_at (class_at t) (rest_of t) ≡ is_some (lits.lit_at t)
 lit_here done = refl
 lit_here (word i k) =
-    lit_classed i.text k ∙ ap₂ (λ a b. a || b) (word_text i.text 41 (omega arith)) (word_text i.text 16 (omega arith))
+    lit_classed i.text k ∙ ap₂ (λ a b. a || b) (word_text i.text true_number (omega arith)) (word_text i.text false_number (omega arith))
     ∙ bool_here (variant.Bool (lits.lit_bool true i.span), k) (variant.Bool (lits.lit_bool false i.span), k) (bytes_eq i.text lits.true_text) (bytes_eq i.text lits.false_text)
 lit_here (mark p k) = minus_here p k (p.ch == 45)
 lit_here (lit l k) = refl

@@ -1,5 +1,5 @@
 -- The classes of entries.
-use Rattle.std.specs.Prelude.{ℕ, ◌+◌, Bool, false, if◌then◌else◌, List, [], ◌∷◌, ◌++◌, Option, Some, None, codes, nat_eq}
+use Rattle.std.specs.Prelude.{ℕ, ◌+◌, Bool, false, if◌then◌else◌, List, [], ◌∷◌, Option, Some, None, codes, nat_eq}
 use Rattle.std.specs.List.{starts_with}
 use Rattle.std.specs.Str.{bytes_eq}
 use Rattle.token_core.specs.declared.class.Class.{Class}
@@ -11,12 +11,9 @@ use Rattle.token_core.specs.declared.tree.Group.{Group}
 use Rattle.token_core.specs.Toks.{Bytes}
 use Rattle.token_core.specs.Trees.{delimiter_of}
 use Rattle.token_core.specs.Seen.{Seen, saw_word, saw_mark, saw_lit, saw_group, saw_enter, saw_leave}
-use Rattle.token_core.specs.Keywords.{keywords}
+use Rattle.token_core.specs.Keywords.{words}
 
 -- ---- words by their numbers
-
-abbrev pub words : List Bytes
-words = keywords ++ (codes "builtin" ∷ [])
 
 abbrev pub Numbered : Type 0
 Numbered = List (ℕ × Bytes)
@@ -47,6 +44,12 @@ word_number t = among (numbered 0 words) t
 
 abbrev pub builtin_number : ℕ
 builtin_number = 52
+
+abbrev pub true_number : ℕ
+true_number = 45
+
+abbrev pub false_number : ℕ
+false_number = 29
 
 -- ---- classes
 

@@ -1,18 +1,75 @@
--- The words that are no `Ident`.
-use Rattle.std.specs.Prelude.{Bool, false, List, [], ◌∷◌, ◌||◌, codes}
+-- The words: those that are no `Ident`, and `builtin`.
+use Rattle.std.specs.Prelude.{ℕ, Bool, false, List, [], ◌∷◌, ◌++◌, ◌||◌, codes, get_or}
 use Rattle.std.specs.Str.{bytes_eq}
 use Rattle.token_core.specs.Toks.{Bytes}
 
+-- in the order of their numbers, by which types and proofs name them
 abbrev pub keywords : List Bytes
 keywords =
-    codes "_" ∷ codes "abstract" ∷ codes "as" ∷ codes "async" ∷ codes "await" ∷ codes "become" ∷ codes "box"
-    ∷ codes "break" ∷ codes "const" ∷ codes "continue" ∷ codes "crate" ∷ codes "do" ∷ codes "dyn" ∷ codes "else"
-    ∷ codes "enum" ∷ codes "extern" ∷ codes "false" ∷ codes "final" ∷ codes "fn" ∷ codes "for" ∷ codes "if"
-    ∷ codes "impl" ∷ codes "in" ∷ codes "let" ∷ codes "loop" ∷ codes "macro" ∷ codes "match" ∷ codes "mod"
-    ∷ codes "move" ∷ codes "mut" ∷ codes "override" ∷ codes "priv" ∷ codes "pub" ∷ codes "ref" ∷ codes "return"
-    ∷ codes "Self" ∷ codes "self" ∷ codes "static" ∷ codes "struct" ∷ codes "super" ∷ codes "trait" ∷ codes "true"
-    ∷ codes "try" ∷ codes "type" ∷ codes "typeof" ∷ codes "unsafe" ∷ codes "unsized" ∷ codes "use"
-    ∷ codes "virtual" ∷ codes "where" ∷ codes "while" ∷ codes "yield" ∷ []
+    codes "Self"
+    ∷ codes "self"
+    ∷ codes "super"
+    ∷ codes "crate"
+    ∷ codes "as"
+    ∷ codes "box"
+    ∷ codes "const"
+    ∷ codes "dyn"
+    ∷ codes "extern"
+    ∷ codes "fn"
+    ∷ codes "for"
+    ∷ codes "if"
+    ∷ codes "impl"
+    ∷ codes "mut"
+    ∷ codes "ref"
+    ∷ codes "try"
+    ∷ codes "unsafe"
+    ∷ codes "use"
+    ∷ codes "where"
+    ∷ codes "_"
+    ∷ codes "abstract"
+    ∷ codes "async"
+    ∷ codes "await"
+    ∷ codes "become"
+    ∷ codes "break"
+    ∷ codes "continue"
+    ∷ codes "do"
+    ∷ codes "else"
+    ∷ codes "enum"
+    ∷ codes "false"
+    ∷ codes "final"
+    ∷ codes "in"
+    ∷ codes "let"
+    ∷ codes "loop"
+    ∷ codes "macro"
+    ∷ codes "match"
+    ∷ codes "mod"
+    ∷ codes "move"
+    ∷ codes "override"
+    ∷ codes "priv"
+    ∷ codes "pub"
+    ∷ codes "return"
+    ∷ codes "static"
+    ∷ codes "struct"
+    ∷ codes "trait"
+    ∷ codes "true"
+    ∷ codes "type"
+    ∷ codes "typeof"
+    ∷ codes "unsized"
+    ∷ codes "virtual"
+    ∷ codes "while"
+    ∷ codes "yield"
+    ∷ []
+
+-- the words by their numbers
+abbrev pub words : List Bytes
+words = keywords ++ (codes "builtin" ∷ [])
+
+abbrev pub word_count : ℕ
+word_count = 53
+
+-- the text of a word; a number that names none has no text
+abbrev pub text_of : ℕ → Bytes
+text_of n = get_or words n []
 
 abbrev pub is_one_of : List Bytes → Bytes → Bool
 is_one_of [] t = false

@@ -1,11 +1,12 @@
 -- The named marks and words, by their numbers.
-use Rattle.std.specs.Prelude.{ℕ, List, [], ◌∷◌, ◌++◌, get_or, replicate, slice_set, codes}
+use Rattle.std.specs.Prelude.{ℕ, List, [], ◌∷◌, ◌++◌, get_or, replicate, slice_set}
 use Rattle.token_core.specs.declared.span.Span.{Span}
 use Rattle.token_core.specs.declared.mark.Spans.{Spans}
 use Rattle.token_core.specs.declared.mark.Mark.{Mark}
 use Rattle.token_core.specs.declared.word.Word.{Word}
 use Rattle.token_core.specs.declared.tree.Ident.{Ident}
 use Rattle.token_core.specs.Toks.{Bytes}
+pub use Rattle.token_core.specs.Keywords.{text_of}
 use Rattle.token_core.specs.Reads.{Reader, ◌<$>◌, read_mark, read_word, is_text}
 
 -- the characters of the marks, by their numbers
@@ -17,20 +18,12 @@ mark_table =
     ∷ (124 ∷ 61 ∷ []) ∷ (124 ∷ 124 ∷ []) ∷ (43 ∷ []) ∷ (35 ∷ []) ∷ (63 ∷ []) ∷ (45 ∷ 62 ∷ [])
     ∷ (59 ∷ []) ∷ (60 ∷ 60 ∷ 61 ∷ []) ∷ (42 ∷ []) ∷ []
 
--- the words, by their numbers
-abbrev pub word_table : List Bytes
-word_table =
-    codes "Self" ∷ codes "self" ∷ codes "super" ∷ codes "crate" ∷ codes "as" ∷ codes "box" ∷ codes "const"
-    ∷ codes "dyn" ∷ codes "extern" ∷ codes "fn" ∷ codes "for" ∷ codes "if" ∷ codes "impl" ∷ codes "mut"
-    ∷ codes "ref" ∷ codes "try" ∷ codes "unsafe" ∷ codes "use" ∷ codes "where" ∷ codes "_" ∷ []
+abbrev pub mark_count : ℕ
+mark_count = 27
 
 -- the characters of a mark; a number that names none has no character
 abbrev pub chars_of : ℕ → List ℕ
 chars_of n = get_or mark_table n []
-
--- the text of a word; a number that names none has no text
-abbrev pub text_of : ℕ → Bytes
-text_of n = get_or word_table n []
 
 -- a text between back quotes, as refusals name it
 abbrev pub quoted : Bytes → Bytes

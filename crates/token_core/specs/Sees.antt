@@ -8,7 +8,7 @@ use Rattle.token_core.specs.declared.tree.LitKind.{LitKind}
 use Rattle.token_core.specs.Toks.{Toks, done, word, mark, lit, group, enter, leave}
 use Rattle.token_core.specs.Seen.{Seen, saw_word, saw_mark, saw_lit, saw_group, saw_enter, saw_leave}
 use Rattle.token_core.specs.Front.{front}
-use Rattle.token_core.specs.Classes.{text_class, class_of, builtin_number}
+use Rattle.token_core.specs.Classes.{text_class, class_of, builtin_number, true_number, false_number}
 use Rattle.token_core.specs.Reads.{same_delimiter, is_joint, is_last}
 use Rattle.token_core.specs.Lits as lits
 
@@ -172,11 +172,6 @@ after_class (Literal x) k = Some k
 after_class (Open a) k = Some k
 after_class End k = None
 
--- ---- the keywords that are named words, by the numbers of those
-
-abbrev pub word_numbers : List ℕ
-word_numbers = 35 ∷ 36 ∷ 39 ∷ 10 ∷ 2 ∷ 6 ∷ 8 ∷ 12 ∷ 15 ∷ 18 ∷ 19 ∷ 20 ∷ 21 ∷ 29 ∷ 33 ∷ 42 ∷ 45 ∷ 47 ∷ 49 ∷ 0 ∷ []
-
 -- ---- two trees
 
 abbrev pub is_lifetime : Toks → Bool
@@ -185,7 +180,7 @@ is_lifetime l = if is_quote (class_at (front l)) then is_any_ident (class_at (fr
 -- ---- literals: a literal tree, `true` or `false`, or a minus and a number
 
 abbrev pub is_lit_at : Class → Toks → Bool
-is_lit_at (Word m) k = nat_eq m 41 || nat_eq m 16
+is_lit_at (Word m) k = nat_eq m true_number || nat_eq m false_number
 is_lit_at Raw k = false
 is_lit_at Ident k = false
 is_lit_at (Mark c j) k = if c == 45 then kind_meets lits.is_number (literal_kind (class_at (front k))) else false

@@ -16,14 +16,6 @@ bang_char = 33
 abbrev pub pound_char : ℕ
 pound_char = 35
 
--- `&`
-abbrev pub and_char : ℕ
-and_char = 38
-
--- `*`
-abbrev pub star_char : ℕ
-star_char = 42
-
 -- `+`
 abbrev pub plus_char : ℕ
 plus_char = 43
@@ -36,10 +28,6 @@ comma_char = 44
 abbrev pub minus_char : ℕ
 minus_char = 45
 
--- `.`
-abbrev pub dot_char : ℕ
-dot_char = 46
-
 -- `:`
 abbrev pub colon_char : ℕ
 colon_char = 58
@@ -48,38 +36,11 @@ colon_char = 58
 abbrev pub semi_char : ℕ
 semi_char = 59
 
--- `<`
-abbrev pub lt_char : ℕ
-lt_char = 60
-
--- `=`
-abbrev pub equals_char : ℕ
-equals_char = 61
-
--- `>`
-abbrev pub gt_char : ℕ
-gt_char = 62
-
--- `?`
-abbrev pub question_char : ℕ
-question_char = 63
-
--- `@`
-abbrev pub at_char : ℕ
-at_char = 64
-
--- `|`
-abbrev pub bar_char : ℕ
-bar_char = 124
-
 -- ---- marks
 
 -- `!`
 abbrev pub Bang : Type 0
 Bang = Mark 0 1
-
-abbrev pub bang_chars : List ℕ
-bang_chars = chars_of 0
 
 abbrev pub sees_bang : Toks → Bool
 sees_bang = sees_mark (chars_of 0)
@@ -104,9 +65,6 @@ path_sep = read 1 2
 abbrev pub Lt : Type 0
 Lt = Mark 2 1
 
-abbrev pub lt_chars : List ℕ
-lt_chars = chars_of 2
-
 abbrev pub sees_lt : Toks → Bool
 sees_lt = sees_mark (chars_of 2)
 
@@ -116,9 +74,6 @@ lt = read 2 1
 -- `>`
 abbrev pub Gt : Type 0
 Gt = Mark 3 1
-
-abbrev pub gt_chars : List ℕ
-gt_chars = chars_of 3
 
 abbrev pub sees_gt : Toks → Bool
 sees_gt = sees_mark (chars_of 3)
@@ -130,9 +85,6 @@ gt = read 3 1
 abbrev pub Comma : Type 0
 Comma = Mark 4 1
 
-abbrev pub comma_chars : List ℕ
-comma_chars = chars_of 4
-
 abbrev pub sees_comma : Toks → Bool
 sees_comma = sees_mark (chars_of 4)
 
@@ -142,9 +94,6 @@ comma = read 4 1
 -- `&`
 abbrev pub And : Type 0
 And = Mark 5 1
-
-abbrev pub and_chars : List ℕ
-and_chars = chars_of 5
 
 abbrev pub sees_and : Toks → Bool
 sees_and = sees_mark (chars_of 5)
@@ -156,9 +105,6 @@ and = read 5 1
 abbrev pub At : Type 0
 At = Mark 6 1
 
-abbrev pub at_chars : List ℕ
-at_chars = chars_of 6
-
 abbrev pub sees_at : Toks → Bool
 sees_at = sees_mark (chars_of 6)
 
@@ -168,9 +114,6 @@ at = read 6 1
 -- `:`
 abbrev pub Colon : Type 0
 Colon = Mark 7 1
-
-abbrev pub colon_chars : List ℕ
-colon_chars = chars_of 7
 
 abbrev pub sees_colon : Toks → Bool
 sees_colon = sees_mark (chars_of 7)
@@ -182,9 +125,6 @@ colon = read 7 1
 abbrev pub DotDot : Type 0
 DotDot = Mark 8 2
 
-abbrev pub dot_dot_chars : List ℕ
-dot_dot_chars = chars_of 8
-
 abbrev pub sees_dot_dot : Toks → Bool
 sees_dot_dot = sees_mark (chars_of 8)
 
@@ -194,9 +134,6 @@ dot_dot = read 8 2
 -- `...`
 abbrev pub DotDotDot : Type 0
 DotDotDot = Mark 9 3
-
-abbrev pub dot_dot_dot_chars : List ℕ
-dot_dot_dot_chars = chars_of 9
 
 abbrev pub sees_dot_dot_dot : Toks → Bool
 sees_dot_dot_dot = sees_mark (chars_of 9)
@@ -208,21 +145,9 @@ dot_dot_dot = read 9 3
 abbrev pub DotDotEq : Type 0
 DotDotEq = Mark 10 3
 
-abbrev pub dot_dot_eq_chars : List ℕ
-dot_dot_eq_chars = chars_of 10
-
-abbrev pub sees_dot_dot_eq : Toks → Bool
-sees_dot_dot_eq = sees_mark (chars_of 10)
-
-abbrev pub dot_dot_eq : Reader (Mark 10 3)
-dot_dot_eq = read 10 3
-
 -- `=`
 abbrev pub Equals : Type 0
 Equals = Mark 11 1
-
-abbrev pub equals_chars : List ℕ
-equals_chars = chars_of 11
 
 abbrev pub sees_equals : Toks → Bool
 sees_equals = sees_mark (chars_of 11)
@@ -231,37 +156,19 @@ abbrev pub equals : Reader (Mark 11 1)
 equals = read 11 1
 
 -- `==`
-abbrev pub EqualsEquals : Type 0
-EqualsEquals = Mark 12 2
-
-abbrev pub equals_equals_chars : List ℕ
-equals_equals_chars = chars_of 12
-
 abbrev pub sees_equals_equals : Toks → Bool
 sees_equals_equals = sees_mark (chars_of 12)
-
-abbrev pub equals_equals : Reader (Mark 12 2)
-equals_equals = read 12 2
 
 -- `=>`
 abbrev pub FatArrow : Type 0
 FatArrow = Mark 13 2
 
-abbrev pub fat_arrow_chars : List ℕ
-fat_arrow_chars = chars_of 13
-
 abbrev pub sees_fat_arrow : Toks → Bool
 sees_fat_arrow = sees_mark (chars_of 13)
-
-abbrev pub fat_arrow : Reader (Mark 13 2)
-fat_arrow = read 13 2
 
 -- `<=`
 abbrev pub Le : Type 0
 Le = Mark 14 2
-
-abbrev pub le_chars : List ℕ
-le_chars = chars_of 14
 
 abbrev pub sees_le : Toks → Bool
 sees_le = sees_mark (chars_of 14)
@@ -273,9 +180,6 @@ le = read 14 2
 abbrev pub Minus : Type 0
 Minus = Mark 15 1
 
-abbrev pub minus_chars : List ℕ
-minus_chars = chars_of 15
-
 abbrev pub sees_minus : Toks → Bool
 sees_minus = sees_mark (chars_of 15)
 
@@ -285,9 +189,6 @@ minus = read 15 1
 -- `!=`
 abbrev pub Ne : Type 0
 Ne = Mark 16 2
-
-abbrev pub ne_chars : List ℕ
-ne_chars = chars_of 16
 
 abbrev pub sees_ne : Toks → Bool
 sees_ne = sees_mark (chars_of 16)
@@ -299,9 +200,6 @@ ne = read 16 2
 abbrev pub Bar : Type 0
 Bar = Mark 17 1
 
-abbrev pub bar_chars : List ℕ
-bar_chars = chars_of 17
-
 abbrev pub sees_bar : Toks → Bool
 sees_bar = sees_mark (chars_of 17)
 
@@ -309,30 +207,12 @@ abbrev pub bar : Reader (Mark 17 1)
 bar = read 17 1
 
 -- `|=`
-abbrev pub BarEq : Type 0
-BarEq = Mark 18 2
-
-abbrev pub bar_eq_chars : List ℕ
-bar_eq_chars = chars_of 18
-
 abbrev pub sees_bar_eq : Toks → Bool
 sees_bar_eq = sees_mark (chars_of 18)
 
-abbrev pub bar_eq : Reader (Mark 18 2)
-bar_eq = read 18 2
-
 -- `||`
-abbrev pub BarBar : Type 0
-BarBar = Mark 19 2
-
-abbrev pub bar_bar_chars : List ℕ
-bar_bar_chars = chars_of 19
-
 abbrev pub sees_bar_bar : Toks → Bool
 sees_bar_bar = sees_mark (chars_of 19)
-
-abbrev pub bar_bar : Reader (Mark 19 2)
-bar_bar = read 19 2
 
 -- `+`
 abbrev pub Plus : Type 0
@@ -351,9 +231,6 @@ plus = read 20 1
 abbrev pub Pound : Type 0
 Pound = Mark 21 1
 
-abbrev pub pound_chars : List ℕ
-pound_chars = chars_of 21
-
 abbrev pub sees_pound : Toks → Bool
 sees_pound = sees_mark (chars_of 21)
 
@@ -364,9 +241,6 @@ pound = read 21 1
 abbrev pub Question : Type 0
 Question = Mark 22 1
 
-abbrev pub question_chars : List ℕ
-question_chars = chars_of 22
-
 abbrev pub sees_question : Toks → Bool
 sees_question = sees_mark (chars_of 22)
 
@@ -376,9 +250,6 @@ question = read 22 1
 -- `->`
 abbrev pub RArrow : Type 0
 RArrow = Mark 23 2
-
-abbrev pub r_arrow_chars : List ℕ
-r_arrow_chars = chars_of 23
 
 abbrev pub sees_r_arrow : Toks → Bool
 sees_r_arrow = sees_mark (chars_of 23)
@@ -403,21 +274,12 @@ semi = read 24 1
 abbrev pub ShlEq : Type 0
 ShlEq = Mark 25 3
 
-abbrev pub shl_eq_chars : List ℕ
-shl_eq_chars = chars_of 25
-
 abbrev pub sees_shl_eq : Toks → Bool
 sees_shl_eq = sees_mark (chars_of 25)
-
-abbrev pub shl_eq : Reader (Mark 25 3)
-shl_eq = read 25 3
 
 -- `*`
 abbrev pub Star : Type 0
 Star = Mark 26 1
-
-abbrev pub star_chars : List ℕ
-star_chars = chars_of 26
 
 abbrev pub sees_star : Toks → Bool
 sees_star = sees_mark (chars_of 26)
@@ -436,9 +298,6 @@ self_type_text = text_of 0
 
 abbrev pub sees_self_type : Toks → Bool
 sees_self_type = sees_word (is_text (text_of 0))
-
-abbrev pub self_type : Reader (Word 0)
-self_type = read_named 0
 
 -- `self`
 abbrev pub SelfValue : Type 0
@@ -463,9 +322,6 @@ super_text = text_of 2
 abbrev pub sees_super : Toks → Bool
 sees_super = sees_word (is_text (text_of 2))
 
-abbrev pub super_word : Reader (Word 2)
-super_word = read_named 2
-
 -- `crate`
 abbrev pub Crate : Type 0
 Crate = Word 3
@@ -476,15 +332,9 @@ crate_text = text_of 3
 abbrev pub sees_crate : Toks → Bool
 sees_crate = sees_word (is_text (text_of 3))
 
-abbrev pub crate_word : Reader (Word 3)
-crate_word = read_named 3
-
 -- `as`
 abbrev pub As : Type 0
 As = Word 4
-
-abbrev pub as_text : Bytes
-as_text = text_of 4
 
 abbrev pub sees_as : Toks → Bool
 sees_as = sees_word (is_text (text_of 4))
@@ -495,9 +345,6 @@ as_word = read_named 4
 -- `box`
 abbrev pub Box : Type 0
 Box = Word 5
-
-abbrev pub box_text : Bytes
-box_text = text_of 5
 
 abbrev pub sees_box : Toks → Bool
 sees_box = sees_word (is_text (text_of 5))
@@ -587,9 +434,6 @@ if_word = read_named 11
 abbrev pub Impl : Type 0
 Impl = Word 12
 
-abbrev pub impl_text : Bytes
-impl_text = text_of 12
-
 abbrev pub sees_impl : Toks → Bool
 sees_impl = sees_word (is_text (text_of 12))
 
@@ -613,9 +457,6 @@ mut_word = read_named 13
 abbrev pub Ref : Type 0
 Ref = Word 14
 
-abbrev pub ref_text : Bytes
-ref_text = text_of 14
-
 abbrev pub sees_ref : Toks → Bool
 sees_ref = sees_word (is_text (text_of 14))
 
@@ -631,9 +472,6 @@ try_text = text_of 15
 
 abbrev pub sees_try : Toks → Bool
 sees_try = sees_word (is_text (text_of 15))
-
-abbrev pub try_word : Reader (Word 15)
-try_word = read_named 15
 
 -- `unsafe`
 abbrev pub Unsafe : Type 0
@@ -652,9 +490,6 @@ unsafe_word = read_named 16
 abbrev pub Use : Type 0
 Use = Word 17
 
-abbrev pub use_text : Bytes
-use_text = text_of 17
-
 abbrev pub sees_use : Toks → Bool
 sees_use = sees_word (is_text (text_of 17))
 
@@ -664,9 +499,6 @@ use_word = read_named 17
 -- `where`
 abbrev pub Where : Type 0
 Where = Word 18
-
-abbrev pub where_text : Bytes
-where_text = text_of 18
 
 abbrev pub sees_where : Toks → Bool
 sees_where = sees_word (is_text (text_of 18))

@@ -3,14 +3,16 @@
 ghost use Rattle.std.specs.Prelude.{◌≡◌, map};
 ghost use Rattle.token_core.specs.Classes as spec;
 ghost use Rattle.token_core.specs.Classes.{layer_class};
+ghost use Rattle.token_core.specs.Keywords.{text_of};
 ghost use Rattle.token_core.specs.declared.tree.TokenTree.{out-TokenTree};
 
 use crate::tree::{Delimiter, LitKind, Spacing, TokenTree};
+use crate::word::word_text;
 
 /// What an entry is.
 #[derive(Clone, Copy)]
 pub(crate) enum Class {
-    /// A plain identifier that is a keyword or `builtin`, by its number.
+    /// A plain identifier that is a keyword or `builtin`, by its number among the words.
     Word(u8),
     /// A raw identifier.
     Raw,
@@ -25,66 +27,40 @@ pub(crate) enum Class {
     End,
 }
 
-/// The number of `builtin`, which is no keyword.
-pub(crate) const BUILTIN: u8 = 52;
-
-/// The number of `true`.
-pub(crate) const TRUE: u8 = 41;
-
-/// The number of `false`.
-pub(crate) const FALSE: u8 = 16;
-
-/// The keywords that are named words, by the numbers of those.
-pub(crate) static NAMED: [u8; 20] = [
-    35, 36, 39, 10, 2, 6, 8, 12, 15, 18, 19, 20, 21, 29, 33, 42, 45, 47, 49, 0,
-];
-
-/// The words that begin with this byte, with their numbers.
-fn words_from(first: u8) -> &'static [(u8, &'static str)]
-    ensures { map (λ w. (w.0, w.1.now)) result.now ≡ spec.words_from first }
+/// The numbers of the words that begin with this byte.
+fn numbers_from(first: u8) -> &'static [u8]
+    ensures { map (λ n. (n, text_of n)) result.now ≡ spec.words_from first }
 {
     match first {
-        b'S' => &[(35, "Self")],
-        b'_' => &[(0, "_")],
-        b'a' => &[(1, "abstract"), (2, "as"), (3, "async"), (4, "await")],
-        b'b' => &[(5, "become"), (6, "box"), (7, "break"), (52, "builtin")],
-        b'c' => &[(8, "const"), (9, "continue"), (10, "crate")],
-        b'd' => &[(11, "do"), (12, "dyn")],
-        b'e' => &[(13, "else"), (14, "enum"), (15, "extern")],
-        b'f' => &[(16, "false"), (17, "final"), (18, "fn"), (19, "for")],
-        b'i' => &[(20, "if"), (21, "impl"), (22, "in")],
-        b'l' => &[(23, "let"), (24, "loop")],
-        b'm' => &[
-            (25, "macro"),
-            (26, "match"),
-            (27, "mod"),
-            (28, "move"),
-            (29, "mut"),
-        ],
-        b'o' => &[(30, "override")],
-        b'p' => &[(31, "priv"), (32, "pub")],
-        b'r' => &[(33, "ref"), (34, "return")],
-        b's' => &[(36, "self"), (37, "static"), (38, "struct"), (39, "super")],
-        b't' => &[
-            (40, "trait"),
-            (41, "true"),
-            (42, "try"),
-            (43, "type"),
-            (44, "typeof"),
-        ],
-        b'u' => &[(45, "unsafe"), (46, "unsized"), (47, "use")],
-        b'v' => &[(48, "virtual")],
-        b'w' => &[(49, "where"), (50, "while")],
-        b'y' => &[(51, "yield")],
+        b'S' => &[0],
+        b'_' => &[19],
+        b'a' => &[4, 20, 21, 22],
+        b'b' => &[5, 23, 24, 52],
+        b'c' => &[3, 6, 25],
+        b'd' => &[7, 26],
+        b'e' => &[8, 27, 28],
+        b'f' => &[9, 10, 29, 30],
+        b'i' => &[11, 12, 31],
+        b'l' => &[32, 33],
+        b'm' => &[13, 34, 35, 36, 37],
+        b'o' => &[38],
+        b'p' => &[39, 40],
+        b'r' => &[14, 41],
+        b's' => &[1, 2, 42, 43],
+        b't' => &[15, 44, 45, 46, 47],
+        b'u' => &[16, 17, 48],
+        b'v' => &[49],
+        b'w' => &[18, 50],
+        b'y' => &[51],
         _ => &[],
     }
 }
 
-fn among(words: &[(u8, &'static str)], text: &str) -> Option<u8>
-    ensures { result ≡ spec.among (map (λ w. (w.0, w.1.now)) words.now) text.now }
+fn among(numbers: &[u8], text: &str) -> Option<u8>
+    ensures { result ≡ spec.among (map (λ n. (n, text_of n)) numbers.now) text.now }
 {
-    for (number, word) in words {
-        if text == *word {
+    for number in numbers {
+        if text == word_text(*number as u32) {
             return Some(*number);
         }
     }
@@ -97,7 +73,7 @@ fn word_number(text: &str) -> Option<u8>
     ensures { result ≡ spec.word_number text.now }
 {
     match text.as_bytes() {
-        [first, ..] => among(words_from(*first), text),
+        [first, ..] => among(numbers_from(*first), text),
         [] => None,
     }
 }

@@ -6,12 +6,11 @@ ghost use Rattle.token_core.specs.Marks.{text_of, word_name};
 ghost use Rattle.token_core.specs.Reads as spec;
 ghost use Rattle.token_core.specs.Reads.{Reads, lent, Parses};
 
-use crate::class::{BUILTIN, NAMED};
 use crate::error::Error;
 use crate::parse_stream::ParseStream;
 use crate::sees::{is_any_ident, is_ident, is_word};
 use crate::tree::Ident;
-use crate::word::word_name;
+use crate::word::{BUILTIN, WORDS, word_name};
 use std::alloc::Global;
 
 impl<'a> ParseStream<'a> {
@@ -103,8 +102,8 @@ impl<'a> ParseStream<'a> {
     pub(crate) fn peek_named(&self, n: u32) -> bool
         ensures { result ≡ spec.sees_word (spec.is_text (text_of n)) self.now.rest }
     {
-        if n < 20 {
-            is_word(self.class(), NAMED[n as usize])
+        if n < WORDS {
+            is_word(self.class(), n as u8)
         } else {
             self.peek_word("")
         }

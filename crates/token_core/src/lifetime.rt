@@ -5,6 +5,7 @@ ghost use Rattle.token_core.specs.Lifetimes as spec;
 ghost use Rattle.token_core.specs.Prints as prints;
 ghost use Rattle.token_core.specs.Prints.{Appends};
 ghost use Rattle.token_core.specs.Reads.{Reads, Parses};
+ghost use Rattle.token_core.specs.TokenNames as names;
 
 use crate::error::Error;
 use crate::parse::Token;
@@ -12,6 +13,7 @@ use crate::parse_stream::{ParseStream, as_punct, as_word};
 use crate::place::Place;
 use crate::span::Span;
 use crate::to_tokens::ToTokens;
+use crate::token_names::LIFETIME;
 use crate::tree::{Ident, Punct, Spacing, TokenStream, TokenTree};
 use std::alloc::{AllocError, Global};
 
@@ -102,14 +104,14 @@ impl Token for Lifetime {
 
     ghost name = { spec.lifetime_name };
 
-    ghost number = { 48 };
+    ghost number = { names.lifetime_number };
 
     fn peek(input: &ParseStream<'_>) -> bool {
         input.place().sees_lifetime()
     }
 
     fn number() -> u8 {
-        48
+        LIFETIME
     }
 }
 

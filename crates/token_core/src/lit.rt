@@ -7,10 +7,11 @@ ghost use Rattle.token_core.specs.Prints.{Appends};
 ghost use Rattle.token_core.specs.Reads.{Reads, Gives, Fails, as_lit, Parses};
 ghost use Rattle.token_core.specs.Front.{front, shows};
 ghost use Rattle.token_core.specs.Sees as sees;
+ghost use Rattle.token_core.specs.TokenNames as names;
 ghost use Rattle.token_core.specs.Trees.{trees};
 
 use crate::buffer::Front;
-use crate::class::{Class, FALSE, TRUE};
+use crate::class::Class;
 use crate::error::Error;
 use crate::parse::{Parse, Token};
 use crate::parse_stream::ParseStream;
@@ -19,7 +20,9 @@ use crate::sees::literal_kind;
 use crate::span::Span;
 use crate::text::Text;
 use crate::to_tokens::{Spanned, ToTokens};
+use crate::token_names::{LIT, LIT_STR};
 use crate::tree::{Ident, LitKind, Literal, Punct, Spacing, TokenStream, TokenTree};
+use crate::word::{FALSE, TRUE};
 use std::alloc::{AllocError, Global};
 use std::marker::Model;
 
@@ -353,7 +356,7 @@ impl Token for Lit {
 
     ghost name = { spec.lit_name };
 
-    ghost number = { 49 };
+    ghost number = { names.lit_number };
 
     #[tactic(auto, using(crate::proofs::SeenClasses::lit_seen))]
     fn peek(input: &ParseStream<'_>) -> bool {
@@ -362,7 +365,7 @@ impl Token for Lit {
     }
 
     fn number() -> u8 {
-        49
+        LIT
     }
 }
 
@@ -459,7 +462,7 @@ impl Token for LitStr {
 
     ghost name = { spec.str_name };
 
-    ghost number = { 50 };
+    ghost number = { names.lit_str_number };
 
     #[tactic(auto, using(crate::proofs::SeenClasses::str_seen))]
     fn peek(input: &ParseStream<'_>) -> bool {
@@ -470,7 +473,7 @@ impl Token for LitStr {
     }
 
     fn number() -> u8 {
-        50
+        LIT_STR
     }
 }
 

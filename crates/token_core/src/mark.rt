@@ -4,7 +4,7 @@ ghost use Rattle.std.specs.Prelude.{◌≡◌, [], get_or, map};
 ghost use Rattle.token_core.specs.Marks as spec;
 
 use crate::span::Span;
-use crate::token_names::{mark_number, token_name};
+use crate::token_names::name_at;
 
 /// The spans of the characters of a mark; a short mark repeats its last.
 #[derive(Clone, Copy)]
@@ -20,71 +20,62 @@ pub struct Mark<const N: u32, const LEN: usize> {
     pub spans: [Span; LEN],
 }
 
-/// The characters of the marks, by their numbers.
-static CHARS: [&[char]; 27] = [
-    &['!'],
-    &[':', ':'],
-    &['<'],
-    &['>'],
-    &[','],
-    &['&'],
-    &['@'],
-    &[':'],
-    &['.', '.'],
-    &['.', '.', '.'],
-    &['.', '.', '='],
-    &['='],
-    &['=', '='],
-    &['=', '>'],
-    &['<', '='],
-    &['-'],
-    &['!', '='],
-    &['|'],
-    &['|', '='],
-    &['|', '|'],
-    &['+'],
-    &['#'],
-    &['?'],
-    &['-', '>'],
-    &[';'],
-    &['<', '<', '='],
-    &['*'],
+/// How many marks there are.
+pub(crate) const MARKS: u32 = 27;
+
+/// The marks by their numbers: the characters of each, and its name in refusals.
+static TABLE: [(&[char], &str); 27] = [
+    (&['!'], "`!`"),
+    (&[':', ':'], "`::`"),
+    (&['<'], "`<`"),
+    (&['>'], "`>`"),
+    (&[','], "`,`"),
+    (&['&'], "`&`"),
+    (&['@'], "`@`"),
+    (&[':'], "`:`"),
+    (&['.', '.'], "`..`"),
+    (&['.', '.', '.'], "`...`"),
+    (&['.', '.', '='], "`..=`"),
+    (&['='], "`=`"),
+    (&['=', '='], "`==`"),
+    (&['=', '>'], "`=>`"),
+    (&['<', '='], "`<=`"),
+    (&['-'], "`-`"),
+    (&['!', '='], "`!=`"),
+    (&['|'], "`|`"),
+    (&['|', '='], "`|=`"),
+    (&['|', '|'], "`||`"),
+    (&['+'], "`+`"),
+    (&['#'], "`#`"),
+    (&['?'], "`?`"),
+    (&['-', '>'], "`->`"),
+    (&[';'], "`;`"),
+    (&['<', '<', '='], "`<<=`"),
+    (&['*'], "`*`"),
 ];
 
 /// The characters of the mark of a number, none where the number names none.
 pub(crate) fn mark_chars(n: u32) -> &'static [char]
     ensures { result.now ≡ spec.chars_of n }
 {
-    chars_at(&CHARS, n)
+    chars_at(&TABLE, n)
 }
 
 #[tactic(auto, using(crate::proofs::Tables::rows))]
-fn chars_at(table: &[&'static [char]], n: u32) -> &'static [char]
-    ensures { result.now ≡ get_or (map (λ c. c.now) table.now) n [] }
+fn chars_at(table: &[(&'static [char], &'static str)], n: u32) -> &'static [char]
+    ensures { result.now ≡ get_or (map (λ r. r.0.now) table.now) n [] }
 {
     match table.get(n as usize) {
-        Some(chars) => chars,
+        Some(row) => row.0,
         None => &[],
     }
 }
 
 /// The mark of a number as refusals name it.
-#[tactic(auto, using(crate::proofs::TokenNames::mark_named))]
 pub(crate) fn mark_name(n: u32) -> &'static str
     ensures { result.now ≡ spec.mark_name n }
 {
-    token_name(mark_number(n))
-}
-
-/// What a table has at a number, and past its end the other text.
-#[tactic(auto, using(crate::proofs::Tables::rows))]
-pub(crate) fn text_at(table: &[&'static str], n: u32, other: &'static str) -> &'static str
-    ensures { result.now ≡ get_or (map (λ t. t.now) table.now) n other.now }
-{
-    match table.get(n as usize) {
-        Some(text) => text,
-        None => other,
-    }
+    name_at(&TABLE, n)
 }
 
 /// As many spans as the mark has characters.

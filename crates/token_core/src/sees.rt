@@ -6,9 +6,10 @@ ghost use Rattle.token_core.specs.Lifetimes.{sees_lifetime};
 ghost use Rattle.token_core.specs.Reads as reads;
 ghost use Rattle.token_core.specs.Sees as spec;
 
-use crate::class::{BUILTIN, Class};
+use crate::class::Class;
 use crate::place::Place;
 use crate::tree::{Delimiter, LitKind, Spacing};
+use crate::word::BUILTIN;
 
 /// Whether it is an identifier, keywords and `_` too.
 pub(crate) fn is_any_ident(class: Class) -> bool

@@ -20,7 +20,7 @@ use crate::parse::{Parse, Token};
 use crate::parse_stream::ParseStream;
 use crate::span::{DelimSpan, Span};
 use crate::to_tokens::{DefaultToken, ToTokens};
-use crate::token_names::{mark_number, word_number};
+use crate::token_names::{BRACE, BRACKET, IDENT, INVISIBLE, PAREN, mark_number, word_number};
 use crate::tree::{Delimiter, Group, Ident, Punct, Spacing, TokenStream, TokenTree};
 pub use crate::word::Word;
 use crate::word::word_text;
@@ -276,14 +276,14 @@ impl Token for Ident {
 
     ghost name = { spec.ident_name };
 
-    ghost number = { 47 };
+    ghost number = { names.ident_number };
 
     fn peek(input: &ParseStream<'_>) -> bool {
         input.peek_ident()
     }
 
     fn number() -> u8 {
-        47
+        IDENT
     }
 }
 
@@ -416,14 +416,14 @@ impl Token for Paren {
 
     ghost name = { groups.paren_name };
 
-    ghost number = { 51 };
+    ghost number = { names.paren_number };
 
     fn peek(input: &ParseStream<'_>) -> bool {
         input.peek_group(Delimiter::Parenthesis)
     }
 
     fn number() -> u8 {
-        51
+        PAREN
     }
 }
 
@@ -432,14 +432,14 @@ impl Token for Brace {
 
     ghost name = { groups.brace_name };
 
-    ghost number = { 52 };
+    ghost number = { names.brace_number };
 
     fn peek(input: &ParseStream<'_>) -> bool {
         input.peek_group(Delimiter::Brace)
     }
 
     fn number() -> u8 {
-        52
+        BRACE
     }
 }
 
@@ -448,14 +448,14 @@ impl Token for Bracket {
 
     ghost name = { groups.bracket_name };
 
-    ghost number = { 53 };
+    ghost number = { names.bracket_number };
 
     fn peek(input: &ParseStream<'_>) -> bool {
         input.peek_group(Delimiter::Bracket)
     }
 
     fn number() -> u8 {
-        53
+        BRACKET
     }
 }
 
@@ -464,14 +464,14 @@ impl Token for GroupToken {
 
     ghost name = { groups.invisible_name };
 
-    ghost number = { 54 };
+    ghost number = { names.invisible_number };
 
     fn peek(input: &ParseStream<'_>) -> bool {
         input.place().sees_invisible()
     }
 
     fn number() -> u8 {
-        54
+        INVISIBLE
     }
 }
 

@@ -1,7 +1,7 @@
 use Rattle.std.proofs.Common.{refl, arith}
 use Rattle.token_core.specs.Classes.{words_from}
 use Rattle.token_core.proofs.Classes.{differs, neither, begun_none}
-use Rattle.token_core.proofs.class.words_from.Goals as goal
+use Rattle.token_core.proofs.class.numbers_from.Goals as goal
 
 pub returns-in-83 : goal.returns-in-83
 unfolding words_from
