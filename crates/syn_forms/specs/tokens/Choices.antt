@@ -2,7 +2,7 @@
 use Rattle.std.specs.Prelude.{ℕ, List, Err}
 use Rattle.token_core.specs.Looks.{unmet}
 use Rattle.token_core.specs.Reads.{Reader, forked}
-use Rattle.token_core.specs.TokenNames.{mark_number, word_number}
+use Rattle.token_core.specs.TokenNames.{mark_number, word_number, ident_number, lifetime_number, paren_number, bracket_number}
 
 -- ---- tokens by their numbers
 
@@ -64,16 +64,16 @@ abbrev pub an_underscore : ℕ
 an_underscore = word_number 19
 
 abbrev pub an_ident : ℕ
-an_ident = 47
+an_ident = ident_number
 
 abbrev pub a_lifetime : ℕ
-a_lifetime = 48
+a_lifetime = lifetime_number
 
 abbrev pub a_paren : ℕ
-a_paren = 51
+a_paren = paren_number
 
 abbrev pub a_bracket : ℕ
-a_bracket = 53
+a_bracket = bracket_number
 
 -- ---- refusals
 

@@ -59,7 +59,7 @@ use Rattle.token_core.specs.Ranges as ranges
 use Rattle.token_core.specs.Reads.{Reader, ◌>>=◌, ◌<$>◌, any_text, ident_name, in_group, is_done, is_ident, optional, peek, pure, read_word, refuse, second, sees_group, sees_word}
 use Rattle.token_core.specs.Refusal.{fixed, refusal}
 use Rattle.token_core.specs.Spans.{none}
-use Rattle.token_core.specs.TokenNames.{mark_number, word_number}
+use Rattle.token_core.specs.TokenNames.{mark_number, word_number, lit_number}
 use Rattle.token_core.specs.Toks.{Toks}
 use Rattle.token_core.specs.Tokens as token
 
@@ -119,7 +119,7 @@ ends_range l = is_done l || (token.sees_bar l || (token.sees_equals l || (sees_l
 
 -- tokens by their numbers
 abbrev pub a_literal : ℕ
-a_literal = 49
+a_literal = lit_number
 
 abbrev pub a_dot_dot : ℕ
 a_dot_dot = mark_number 8

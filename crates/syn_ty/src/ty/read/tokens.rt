@@ -10,6 +10,7 @@ ghost use Rattle.token_core.specs.Looks.{unmet};
 ghost use Rattle.token_core.specs.Positions.{IsReached};
 ghost use Rattle.token_core.specs.Reads.{Parses, any_text, forked, ident_name, sees_word};
 ghost use Rattle.token_core.specs.Refusal.{Made};
+ghost use Rattle.token_core.specs.TokenNames.{ident_number};
 
 use crate::ty::{Abi, TypeInferOf, TypeMacroOf, TypeNeverOf, TypeOf};
 use std::alloc::Global;
@@ -30,14 +31,14 @@ impl Token for AnyIdent {
 
     ghost name = { ident_name };
 
-    ghost number = { 47 };
+    ghost number = { ident_number };
 
     fn peek(input: &ParseStream<'_>) -> bool {
         Ident::peek_any(input)
     }
 
     fn number() -> u8 {
-        47
+        Ident::number()
     }
 }
 
