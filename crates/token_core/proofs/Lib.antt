@@ -22,6 +22,7 @@ pub mod Steps
 pub mod Listings
 pub mod Name_lists
 pub mod Headlines
+pub mod Fronteds
 pub mod Took
 pub mod Rows
 pub mod lifetime_laws

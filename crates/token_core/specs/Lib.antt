@@ -33,6 +33,7 @@ pub mod Positions
 pub mod Cut
 pub mod Clear
 pub mod Headline
+pub mod Fronted
 pub mod Negatives
 pub mod Lits
 pub mod Members

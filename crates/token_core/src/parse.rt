@@ -9,6 +9,7 @@ ghost use Rattle.token_core.specs.TokenNames.{name_of, token_count};
 ghost use Rattle.token_core.specs.Stream.{Stream, started};
 ghost use Rattle.token_core.specs.ByFns.{CanParse, Answers, RefusesBy};
 ghost use Rattle.token_core.specs.Reads.{Follows, Parsed, WholeRead, Promised, Keeps};
+ghost use Rattle.token_core.specs.Fronted.{Fronts, unsaid, KeepsFront};
 
 use crate::buffer::TokenBuffer;
 use crate::error::{Error, ErrorKind};
@@ -58,10 +59,14 @@ pub trait Parse: Sized + Drop {
     /// What a whole read of these tokens promises of its answer, and of a refusal; nothing, where a type promises nothing.
     ghost promise: { Toks → Option Self → Type 0 } = { λ _ _. Unit {0} };
 
+    /// What a read on the front of a list promises; nothing, where a type promises nothing.
+    ghost fronts: { Fronts Self } = { unsaid };
+
     fn parse(alloc: Global, input: &mut ParseStream<'_>) -> Result<Self, Error>
         ensures reads { Parsed (reads input.old) (refuses input.old) result input.new }
         ensures within { Follows input.old input.new }
-        ensures promise { Keeps promise input.old result input.new };
+        ensures promise { Keeps promise input.old result input.new }
+        ensures fronts { KeepsFront fronts input.old result input.new };
 }
 
 /// Reads all of a list.
@@ -88,11 +93,15 @@ pub trait Parser {
     /// What a whole read of these tokens promises of its answer, and of a refusal; nothing, where a parser promises nothing.
     ghost promise: { Self → Toks → Option Self.Output → Type 0 } = { λ _ _ _. Unit {0} };
 
+    /// What a read on the front of a list promises; nothing, where a parser promises nothing.
+    ghost fronts: { Self → Fronts Self.Output } = { λ _. unsaid };
+
     fn parse(self, alloc: Global, input: &mut ParseStream<'_>) -> Result<Self::Output, Error>
         requires { can_parse self }
         ensures reads { Parsed (reads self input.old) (refuses self input.old) result input.new }
         ensures within { Follows input.old input.new }
-        ensures promise { Keeps (promise self) input.old result input.new };
+        ensures promise { Keeps (promise self) input.old result input.new }
+        ensures fronts { KeepsFront (fronts self) input.old result input.new };
 }
 
 /// Reads all of a list by a parser.
@@ -172,6 +181,8 @@ impl<T: Parse> Parser for ByParse<T> {
     ghost refuses = { λ _. T.refuses };
 
     ghost promise = { λ _. T.promise };
+
+    ghost fronts = { λ _. T.fronts };
 
     fn parse(self, alloc: Global, input: &mut ParseStream<'_>) -> Result<T, Error> {
         T::parse(alloc, input)

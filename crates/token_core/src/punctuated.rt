@@ -198,7 +198,7 @@ impl<T: Drop, P: Drop> Punctuated<T, P> {
         ensures ok { OnOk result (self.new ≡ (self.old.0, self.old.1 ++ mark ∷ [])) }
         ensures err { OnErr result (self.new ≡ self.old) }
     {
-        self.marks.push(mark)
+        self.marks.push_sparing(mark)
     }
 }
 

@@ -7,6 +7,7 @@ ghost use Rattle.token_core.specs.Groups as groups;
 ghost use Rattle.token_core.specs.Marks as marks;
 ghost use Rattle.token_core.specs.Positions.{Holds};
 ghost use Rattle.token_core.specs.Prints as prints;
+ghost use Rattle.token_core.specs.Fronted.{KeepsFront};
 ghost use Rattle.token_core.specs.Reads as spec;
 ghost use Rattle.token_core.specs.Reads.{Reads, Parsed, Keeps, Follows, Gives, Fails, Parses};
 ghost use Rattle.token_core.specs.Spans as spans;
@@ -576,6 +577,8 @@ impl<'a> ParseStream<'a> {
     pub fn parse<T: Parse>(&mut self, alloc: Global) -> Result<T, Error>
         ensures reads { Parsed (T.reads self.old) (T.refuses self.old) result self.new }
         ensures within { Follows self.old self.new }
+        ensures promise { Keeps T.promise self.old result self.new }
+        ensures fronts { KeepsFront T.fronts self.old result self.new }
     {
         T::parse(alloc, self)
     }
