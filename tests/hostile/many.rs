@@ -251,7 +251,10 @@ fn read_again(
         return Came::View;
     }
     let reader = by(reader);
-    match reader.reprint(alloc, print) {
+    let Ok(list) = print.copy(alloc) else {
+        return Came::OutOfMemory;
+    };
+    match reader.reprint(alloc, list) {
         Ok(again) => {
             if !again.same(print) {
                 return Came::PrintDiffers;
@@ -265,7 +268,7 @@ fn read_again(
     let Ok(tokens) = lex(alloc, text) else {
         return Came::TextDiffers;
     };
-    let Ok(again) = reader.reprint(alloc, &tokens) else {
+    let Ok(again) = reader.reprint(alloc, tokens) else {
         return Came::TextDiffers;
     };
     match text_of(alloc, &again) {
@@ -295,8 +298,12 @@ fn timed(
     reader: Reader,
     tokens: &TokenStream,
 ) -> (Result<TokenStream, Error>, u64) {
+    let alloc = rt.alloc();
+    let Ok(list) = tokens.copy(alloc) else {
+        return (Err(Error::out_of_memory()), 0);
+    };
     let begin = Instant::now(rt);
-    let answer = reader.reprint(rt.alloc(), tokens);
+    let answer = reader.reprint(alloc, list);
     let time = match begin {
         Ok(begin) => match begin.elapsed(rt) {
             Ok(time) => time.as_nanos() as u64,

@@ -13,7 +13,7 @@ use token_text::{lex, text_of};
 /// What all of a text prints once it is read.
 fn read(alloc: Global, reader: Reader, text: &str) -> Result<String, Error> {
     let tokens = lex(alloc, text)?;
-    let print = reader.reprint(alloc, &tokens)?;
+    let print = reader.reprint(alloc, tokens)?;
     Ok(text_of(alloc, &print)?)
 }
 

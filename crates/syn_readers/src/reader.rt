@@ -5,7 +5,9 @@ ghost use Rattle.syn_generics.specs.generics.Alone as alone;
 ghost use Rattle.syn_generics.specs.generics.Views as views;
 ghost use Rattle.syn_generics.specs.generics.Promises as promises;
 ghost use Rattle.token_core.specs.Headline.{Headline};
-ghost use Rattle.token_core.specs.Reads.{Fails, Gives};
+ghost use Rattle.token_core.specs.Reads.{Fails, Gives, Promised, WholeRead};
+ghost use Rattle.token_core.specs.Spans.{none};
+ghost use Rattle.token_core.specs.Stream.{started};
 ghost use Rattle.token_core.specs.Trees.{toks, trees};
 ghost use Rattle.syn_readers.specs.Readers as spec;
 
@@ -30,7 +32,7 @@ use syn_ty::ty::{
     TypeInferOf, TypeMacroOf, TypeNeverOf, TypeOf, TypeParenOf, TypePathOf, TypePtrOf,
     TypeReferenceOf, TypeSliceOf, TypeTraitObjectOf, TypeTupleOf,
 };
-use token_core::{Error, Parse, Parser, ToTokens, TokenStream, read_all, read_all_with};
+use token_core::{ByParse, Error, Parse, Parser, ToTokens, TokenStream, read_all_with};
 
 /// A reader of types, or of a form of types.
 #[derive(Clone, Copy, PartialEq, Eq)]
@@ -130,9 +132,9 @@ impl TypeReader {
     pub fn reprint_over<A: Attributes, E: Value>(
         self,
         alloc: Global,
-        tokens: &TokenStream,
+        tokens: TokenStream,
     ) -> Result<TokenStream, Error>
-        ensures { spec.Reprints (spec.types_category A.reads E.reads A.spells E.spells A.normal E.normal A.shown E.values self) (toks tokens.now) result }
+        ensures { spec.Reprints (spec.types_category A.reads E.reads A.spells E.spells A.normal E.normal A.shown E.values self) (toks tokens) result }
     {
         match self {
             TypeReader::Any => reprint::<TypeOf<A, E>>(alloc, tokens),
@@ -198,9 +200,9 @@ impl PathReader {
     pub fn reprint_over<A: Attributes, E: Value>(
         self,
         alloc: Global,
-        tokens: &TokenStream,
+        tokens: TokenStream,
     ) -> Result<TokenStream, Error>
-        ensures { spec.Reprints (spec.paths_category A.reads E.reads A.spells E.spells A.normal E.normal A.shown E.values self) (toks tokens.now) result }
+        ensures { spec.Reprints (spec.paths_category A.reads E.reads A.spells E.spells A.normal E.normal A.shown E.values self) (toks tokens) result }
     {
         match self {
             PathReader::Whole => reprint::<PathOf<PathArgumentsOf<A, E>>>(alloc, tokens),
@@ -252,9 +254,9 @@ impl GenericsReader {
     pub fn reprint_over<A: Attributes, E: Value>(
         self,
         alloc: Global,
-        tokens: &TokenStream,
+        tokens: TokenStream,
     ) -> Result<TokenStream, Error>
-        ensures { spec.Reprints (spec.generics_category A.reads E.reads A.spells E.spells A.normal E.normal A.shown E.values self) (toks tokens.now) result }
+        ensures { spec.Reprints (spec.generics_category A.reads E.reads A.spells E.spells A.normal E.normal A.shown E.values self) (toks tokens) result }
     {
         match self {
             GenericsReader::Param => reprint::<GenericParamOf<A, E>>(alloc, tokens),
@@ -290,14 +292,27 @@ impl GenericsReader {
     }
 }
 
+/// Reads all of a list by a parser; the list is gone when it is read.
+pub fn taken<P: Parser + Drop>(
+    alloc: Global,
+    parser: P,
+    tokens: TokenStream,
+) -> Result<P::Output, Error>
+    requires { P.can_parse parser }
+    ensures reads { WholeRead (P.reads parser) (P.refuses parser) (started none (toks tokens)) result }
+    ensures promise { Promised (P.promise parser (toks tokens)) result }
+{
+    read_all_with(alloc, parser, &tokens)
+}
+
 /// Reads all of a list as a `T`, and answers its print.
 pub fn reprint<T: Parse + ToTokens>(
     alloc: Global,
-    tokens: &TokenStream,
+    tokens: TokenStream,
 ) -> Result<TokenStream, Error>
-    ensures { spec.Prints T.reads T.refuses T.promise T.print (toks tokens.now) result }
+    ensures { spec.Prints T.reads T.refuses T.promise T.print (toks tokens) result }
 {
-    let tree = read_all::<T>(alloc, tokens)?;
+    let tree = taken(alloc, ByParse::<T>::new(), tokens)?;
     Ok(print_of(alloc, &tree)?)
 }
 
@@ -305,25 +320,25 @@ pub fn reprint<T: Parse + ToTokens>(
 pub fn reprint_with<P: Parser + Drop>(
     alloc: Global,
     parser: P,
-    tokens: &TokenStream,
+    tokens: TokenStream,
 ) -> Result<TokenStream, Error>
 where
     P::Output: ToTokens,
     requires { P.can_parse parser }
-    ensures { spec.Prints (P.reads parser) (P.refuses parser) (P.promise parser) P.Output.print (toks tokens.now) result }
+    ensures { spec.Prints (P.reads parser) (P.refuses parser) (P.promise parser) P.Output.print (toks tokens) result }
 {
-    let tree = read_all_with(alloc, parser, tokens)?;
+    let tree = taken(alloc, parser, tokens)?;
     Ok(print_of(alloc, &tree)?)
 }
 
 /// Reads all of a list as generics, and prints those of an implementation.
 fn reprint_impl_generics<A: Attributes, E: Value>(
     alloc: Global,
-    tokens: &TokenStream,
+    tokens: TokenStream,
 ) -> Result<TokenStream, Error>
-    ensures { spec.Prints (Gives (alone.generics A.reads E.reads)) (Fails (alone.generics A.reads E.reads)) (Headline (promises.generics A.reads E.reads A.spells E.spells A.normal E.normal A.shown E.values)) (spec.impl_generics A.shown E.values) (toks tokens.now) result }
+    ensures { spec.Prints (Gives (alone.generics A.reads E.reads)) (Fails (alone.generics A.reads E.reads)) (Headline (promises.generics A.reads E.reads A.spells E.spells A.normal E.normal A.shown E.values)) (spec.impl_generics A.shown E.values) (toks tokens) result }
 {
-    let generics = read_all::<GenericsOf<A, E>>(alloc, tokens)?;
+    let generics = taken(alloc, ByParse::<GenericsOf<A, E>>::new(), tokens)?;
     let (impl_generics, _, _) = generics.split_for_impl();
     Ok(print_of(alloc, &impl_generics)?)
 }
@@ -331,11 +346,11 @@ fn reprint_impl_generics<A: Attributes, E: Value>(
 /// Reads all of a list as generics, and prints the names of the parameters.
 fn reprint_type_generics<A: Attributes, E: Value>(
     alloc: Global,
-    tokens: &TokenStream,
+    tokens: TokenStream,
 ) -> Result<TokenStream, Error>
-    ensures { spec.Prints (Gives (alone.generics A.reads E.reads)) (Fails (alone.generics A.reads E.reads)) (Headline (promises.generics A.reads E.reads A.spells E.spells A.normal E.normal A.shown E.values)) views.names (toks tokens.now) result }
+    ensures { spec.Prints (Gives (alone.generics A.reads E.reads)) (Fails (alone.generics A.reads E.reads)) (Headline (promises.generics A.reads E.reads A.spells E.spells A.normal E.normal A.shown E.values)) views.names (toks tokens) result }
 {
-    let generics = read_all::<GenericsOf<A, E>>(alloc, tokens)?;
+    let generics = taken(alloc, ByParse::<GenericsOf<A, E>>::new(), tokens)?;
     let (_, type_generics, _) = generics.split_for_impl();
     Ok(print_of(alloc, &type_generics)?)
 }
@@ -343,11 +358,11 @@ fn reprint_type_generics<A: Attributes, E: Value>(
 /// Reads all of a list as generics, and prints the names of the parameters after `::`.
 fn reprint_turbofish<A: Attributes, E: Value>(
     alloc: Global,
-    tokens: &TokenStream,
+    tokens: TokenStream,
 ) -> Result<TokenStream, Error>
-    ensures { spec.Prints (Gives (alone.generics A.reads E.reads)) (Fails (alone.generics A.reads E.reads)) (Headline (promises.generics A.reads E.reads A.spells E.spells A.normal E.normal A.shown E.values)) views.turbofish (toks tokens.now) result }
+    ensures { spec.Prints (Gives (alone.generics A.reads E.reads)) (Fails (alone.generics A.reads E.reads)) (Headline (promises.generics A.reads E.reads A.spells E.spells A.normal E.normal A.shown E.values)) views.turbofish (toks tokens) result }
 {
-    let generics = read_all::<GenericsOf<A, E>>(alloc, tokens)?;
+    let generics = taken(alloc, ByParse::<GenericsOf<A, E>>::new(), tokens)?;
     let (_, type_generics, _) = generics.split_for_impl();
     Ok(print_of(alloc, &type_generics.as_turbofish())?)
 }

@@ -30,11 +30,11 @@ use syn_path::mac::Macro;
 use syn_path::path::{Arguments, NoArguments};
 use syn_path::supplied::Subtree;
 use syn_readers::reader::{
-    GenericsReader, PathReader, TypeReader, print_of, reprint, reprint_with,
+    GenericsReader, PathReader, TypeReader, print_of, reprint, reprint_with, taken,
 };
 use syn_sample::sample::Sample;
 use token_core::{
-    Boxed, Error, Items, Parse, ParseStream, Parser, ToTokens, TokenStream, read_all_with,
+    Boxed, Error, Items, Parse, ParseStream, Parser, ToTokens, TokenStream,
 };
 
 /// A reader that a run knows by name.
@@ -100,8 +100,8 @@ impl Reader {
     }
 
     /// Reads all of a list, and prints what was read.
-    pub fn reprint(self, alloc: Global, tokens: &TokenStream) -> Result<TokenStream, Error>
-        ensures { readers.Reprints (spec.category self) (toks tokens.now) result }
+    pub fn reprint(self, alloc: Global, tokens: TokenStream) -> Result<TokenStream, Error>
+        ensures { readers.Reprints (spec.category self) (toks tokens) result }
     {
         match self {
             Reader::Macro => reprint::<Macro>(alloc, tokens),
@@ -144,15 +144,15 @@ impl PatternReader {
     fn reprint_over<X: Subtree>(
         self,
         alloc: Global,
-        tokens: &TokenStream,
+        tokens: TokenStream,
     ) -> Result<TokenStream, Error>
-        ensures { readers.Reprints (spec.patterns_category X.reads X.spells X.normal X.prints self) (toks tokens.now) result }
+        ensures { readers.Reprints (spec.patterns_category X.reads X.spells X.normal X.prints self) (toks tokens) result }
     {
         let parser: PatternPrint<X> = PatternPrint {
             reader: self,
             of: PhantomData,
         };
-        read_all_with(alloc, parser, tokens)
+        taken(alloc, parser, tokens)
     }
 
     /// Reads a pattern, and prints it.
@@ -204,12 +204,12 @@ impl<X: Subtree> Parser for PatternPrint<X> {
 fn reprint_attributes<P: Parser<Output = Items<Attribute<Sample>>> + Drop>(
     alloc: Global,
     parser: P,
-    tokens: &TokenStream,
+    tokens: TokenStream,
 ) -> Result<TokenStream, Error>
     requires { P.can_parse parser }
-    ensures { readers.Prints (P.reads parser) (P.refuses parser) (P.promise parser) spec.attributes (toks tokens.now) result }
+    ensures { readers.Prints (P.reads parser) (P.refuses parser) (P.promise parser) spec.attributes (toks tokens) result }
 {
-    let attrs = read_all_with(alloc, parser, tokens)?;
+    let attrs = taken(alloc, parser, tokens)?;
     Ok(print_of(alloc, &attrs)?)
 }
 

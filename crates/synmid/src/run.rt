@@ -70,6 +70,6 @@ fn reprinted(alloc: Global, reader: Reader, text: &str) -> Result<String, Error>
     ensures { spec.AnswersTo reader text.now (faults.answer string_bytes (faults.faulty result)) }
 {
     let tokens = lex(alloc, text)?;
-    let print = reader.reprint(alloc, &tokens)?;
+    let print = reader.reprint(alloc, tokens)?;
     Ok(text_of(alloc, &print)?)
 }

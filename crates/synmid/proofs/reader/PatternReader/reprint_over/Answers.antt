@@ -7,4 +7,4 @@ use Rattle.synmid.proofs.reader.PatternReader.reprint_over.Goals as goal
 pub returns : goal.returns
 returns g c =
     let C = patterns_category g.X.Subtree.reads g.X.Subtree.spells g.X.Subtree.normal g.X.Subtree.prints c.args.self in
-    shows-reprints C (toks c.args.tokens.now) (pattern-keeps g.X.Subtree.reads g.X.Subtree.spells g.X.Subtree.normal g.X.Subtree.prints g.met.X.Subtree.steady g.met.X.Subtree.sound g.met.X.Subtree.complete g.met.X.Subtree.reprint g.met.X.Subtree.apart c.args.self (toks c.args.tokens.now)) (pattern-refuses g.X.Subtree.reads g.X.Subtree.spells g.X.Subtree.normal g.X.Subtree.prints g.met.X.Subtree.steady g.met.X.Subtree.sound g.met.X.Subtree.complete g.met.X.Subtree.reprint g.met.X.Subtree.apart c.args.self (toks c.args.tokens.now)) c.read_all_with.result c.read_all_with.ensures.reads
+    shows-reprints C (toks c.args.tokens) (pattern-keeps g.X.Subtree.reads g.X.Subtree.spells g.X.Subtree.normal g.X.Subtree.prints g.met.X.Subtree.steady g.met.X.Subtree.sound g.met.X.Subtree.complete g.met.X.Subtree.reprint g.met.X.Subtree.apart c.args.self (toks c.args.tokens)) (pattern-refuses g.X.Subtree.reads g.X.Subtree.spells g.X.Subtree.normal g.X.Subtree.prints g.met.X.Subtree.steady g.met.X.Subtree.sound g.met.X.Subtree.complete g.met.X.Subtree.reprint g.met.X.Subtree.apart c.args.self (toks c.args.tokens)) c.taken.result c.taken.ensures.reads
