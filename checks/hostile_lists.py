@@ -594,14 +594,19 @@ SHAPES = {
     "bindings": ("Pat::parse_single", "x @ ", "x", "", 2),
     "fields": ("Pat::parse_single", "S {a: b,", "", "}", 4),
     "patterns of structs": ("Pat::parse_single", "S {a: ", "x", "}", 6),
-    # each of these holds the one below it as written, so all tokens below are copied at each level
-    "held as written: boxed patterns": ("Pat::parse_single", "box ", "x", "", 1),
-    "held as written: types after lifetimes": ("Type", "unsafe<'a> ", "A", "", 5),
-    "held as written: objects with a star": ("Type", "dyn *A<", "B", ">", 5),
-    "held as written: const bounds": ("Type", "impl const A<", "B", ">", 5),
-    "held as written: first arguments": ("Type", "fn(mut self: ", "A", ")", 7),
 }
-HELD = "held as written"
+# Forms that hold such a form as written, in the same form: all tokens below are copied at each level, but for those in groups, which copies share.
+HELD = {
+    "boxed patterns": ("Pat::parse_single", "box ", "x", ""),
+    "types after lifetimes": ("Type", "unsafe<'a> ", "A", ""),
+    "objects with a star": ("Type", "dyn *A<", "B", ">"),
+    "const bounds": ("Type", "impl const A<", "B", ">"),
+    "boxed patterns, each in parentheses": ("Pat::parse_single", "box (", "x", ")"),
+    "types after lifetimes, each in parentheses": ("Type", "unsafe<'a> (", "A", ")"),
+    "objects with a star, each in brackets": ("Type", "[dyn *A<", "B", ">]"),
+    "const bounds, each in brackets": ("Type", "[impl const A<", "B", ">]"),
+    "first arguments": ("Type", "fn(mut self: ", "A", ")"),
+}
 # Of the long ones the part that stands once.
 ONCE = {
     "elements of a tuple": "(",
@@ -623,6 +628,12 @@ def shaped(name, tokens):
     if once is None:
         return reader, before * times + middle + after * times
     return reader, once + before.removeprefix(once) * times + middle + after
+
+
+def held(name, levels):
+    """The reader and a text of so many levels."""
+    reader, before, middle, after = HELD[name]
+    return reader, before * levels + middle + after * levels
 
 
 # What is put in the place of a token.
