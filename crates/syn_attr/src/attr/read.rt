@@ -1,6 +1,7 @@
 //! Attributes and metas are read.
 
 ghost use Rattle.std.specs.Prelude.{◌≡◌, false, None, IfOk};
+ghost use Rattle.token_core.specs.Fronted.{Fronted};
 ghost use Rattle.token_core.specs.Headline.{Headline, Heads};
 ghost use Rattle.token_core.specs.Reads.{Reads, Follows, Gives, Fails, Parses};
 ghost use Rattle.token_core.specs.Rebuilt.{Visible};
@@ -266,7 +267,8 @@ impl<X: Subtree> Attribute<X> {
     /// Reads outer attributes as long as a `#` follows, of which there may be none.
     ///
     /// On the front of a list without invisible groups, where no finished group left a tree over, it took what they spell. Where the
-    /// stream has no left-over tree, a whole read that begins here keeps the promise of the grammar.
+    /// stream has no left-over tree, a whole read that begins here keeps the promise of the grammar, and a read on the front of a list
+    /// that of fronts, where the end follows or anything but a `#`.
     pub fn parse_outer(
         alloc: Global,
         input: &mut ParseStream<'_>,
@@ -274,11 +276,12 @@ impl<X: Subtree> Attribute<X> {
         ensures parses { Parses (reading.outer X.reads) result input.old input.new }
         ensures front { Visible input.old.rest → input.new.left ≡ None → IfOk result (λ all. AreAll (IsOuter X.spells false) all input.old.rest input.new.rest) }
         ensures headline { Heads (grammars.outer X.reads X.spells X.normal X.prints) input.old result input.new }
+        ensures fronts { Fronted (grammars.outer_front X.reads X.spells X.normal X.prints) input.old result input.new }
     {
         parse_outers(alloc, input)
     }
 
-    /// Reads inner attributes as long as a `#` and a `!` follow, of which there may be none. It promises what `parse_outer` does.
+    /// Reads inner attributes as long as a `#` and a `!` follow, of which there may be none. It promises what `parse_outer` does, but of fronts.
     pub fn parse_inner(
         alloc: Global,
         input: &mut ParseStream<'_>,

@@ -1,6 +1,7 @@
+use Rattle.token_core.proofs.Fronteds.{fronted}
 use Rattle.token_core.proofs.Headlines.{heads}
 use Rattle.syn_attr.specs.attr.Grammars as grammars
-use Rattle.syn_attr.proofs.attr_laws.Laws.{outer_lawful, outer_front}
+use Rattle.syn_attr.proofs.attr_laws.Laws.{outer_lawful, outer_front, outer_front_lawful}
 use Rattle.syn_attr.proofs.attr.read.Attribute+X.parse_outer.Goals as goal
 
 pub returns-clause-headline : goal.returns-clause-headline
@@ -8,3 +9,6 @@ returns-clause-headline g c = heads (grammars.outer g.X.Subtree.reads g.X.Subtre
 
 pub returns-clause-front : goal.returns-clause-front
 returns-clause-front g c = outer_front g.X.Subtree.reads g.X.Subtree.spells g.X.Subtree.normal g.X.Subtree.prints g.met.X.Subtree.sound g.met.X.Subtree.complete g.met.X.Subtree.reprint g.met.X.Subtree.apart _ _ _ c.parse_outers.ensures.parses.0
+
+pub returns-clause-fronts : goal.returns-clause-fronts
+returns-clause-fronts g c = fronted (grammars.outer_front g.X.Subtree.reads g.X.Subtree.spells g.X.Subtree.normal g.X.Subtree.prints) (outer_front_lawful g.X.Subtree.reads g.X.Subtree.spells g.X.Subtree.normal g.X.Subtree.prints g.met.X.Subtree.sound g.met.X.Subtree.complete g.met.X.Subtree.reprint g.met.X.Subtree.apart) _ _ _ c.parse_outers.ensures.parses.0
