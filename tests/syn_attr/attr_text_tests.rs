@@ -4,7 +4,7 @@ use crate::nested_tests::{Does, at_property, called, show};
 use std::alloc::Global;
 use std::process::Abort;
 use syn_mid::meta::ParseNestedMeta;
-use syn_mid::{Attribute, Meta, MetaList, MetaNameValue};
+use syn_mid::{Attribute, Meta, MetaList, MetaNameValue, Place, Subtree, VerbatimExpr};
 use syn_sample::sample::Sample;
 use token_core::token::FatArrow;
 use token_core::{
@@ -201,6 +201,58 @@ fn attributes_are_refused(rt: HostRuntime) {
         ),
     ] {
         says(&rt, alloc, refused(alloc, text), wanted);
+    }
+}
+
+/// Outer attributes on the front of a list, as they are printed, and what stands behind them.
+fn outers_and_rest(alloc: Global, input: &mut ParseStream<'_>) -> Result<String, Error> {
+    let mut out = TokenStream::new(alloc);
+    for attr in parse_outer(alloc, input)?.iter() {
+        attr.to_tokens(alloc, &mut out)?;
+    }
+    let mut text = text_of(alloc, &out)?;
+    text.push_str(" | ")?;
+    let rest = VerbatimExpr::read(alloc, Place::Block, input)?;
+    text.push_str(printed(alloc, &rest)?.as_str())?;
+    Ok(text)
+}
+
+fn front(alloc: Global, text: &str) -> Result<String, Error> {
+    let tokens = lex(alloc, text)?;
+    read_all_with(alloc, ByFn(outers_and_rest), &tokens)
+}
+
+#[test]
+fn attributes_end_before_what_is_none(rt: HostRuntime) {
+    let alloc = rt.alloc();
+    for (text, again, wanted) in [
+        ("", "", "|"),
+        ("struct S;", "struct S ;", "| struct S ;"),
+        ("#[a]", "# [a]", "# [a] |"),
+        (
+            "#[a] #[b(c d)] struct S;",
+            "# [a] # [b (c d)] struct S ;",
+            "# [a] # [b (c d)] | struct S ;",
+        ),
+        (
+            "#[a = b]#[c](d) #[e]",
+            "# [a = b] # [c] (d) # [e]",
+            "# [a = b] # [c] | (d) # [e]",
+        ),
+        (
+            "#[unsafe(a = 1)] ! [b]",
+            "# [unsafe (a = 1)] ! [b]",
+            "# [unsafe (a = 1)] | ! [b]",
+        ),
+    ] {
+        says(&rt, alloc, front(alloc, text), wanted);
+        says(&rt, alloc, front(alloc, again), wanted);
+    }
+    for (text, wanted) in [
+        ("#[a] # b", "expected square brackets 7-8 7-8"),
+        ("#[a b] c", "unexpected token 4-5 4-5"),
+    ] {
+        says(&rt, alloc, front(alloc, text), wanted);
     }
 }
 
