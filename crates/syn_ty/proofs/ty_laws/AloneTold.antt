@@ -39,7 +39,7 @@ use Rattle.syn_ty.specs.ty.Parts.{Manner, loosely, Parts}
 use Rattle.syn_ty.specs.ty.Points.{Readers, a_bound, a_param, a_type, an_argument, some_arguments}
 use Rattle.syn_ty.specs.ty.Reading as reading
 use Rattle.syn_ty.specs.ty.Spelling.{IsOptional}
-use Rattle.syn_ty.specs.ty.Spelt.{IsPathAlone, Spells, SpellsEnding, spelt_to}
+use Rattle.syn_ty.specs.ty.Spelt.{BeginsEnding, IsPathAlone, Spells, SpellsEnding, spelt_to}
 use Rattle.syn_ty.specs.ty.Trees.{AngleBracketed, BoundLifetimes, ConstParam, GenericArgument, GenericParam, NamedArg, Parenthesized, Path, PathArguments, PathSegment, QSelf, ReturnType, TraitBound, TypeArray, TypeFnPtr, TypeGroup, TypeImplTrait, TypeParam, TypeParamBound, TypeParen, TypePath, TypePtr, TypeReference, TypeSlice, TypeTraitObject, TypeTree, TypeTuple}
 use Rattle.syn_ty.specs.ty.Types.{group_with}
 use Rattle.syn_ty.proofs.ty_laws.AlongTypesTold.{optional_dyn_along}
@@ -73,12 +73,16 @@ module _ {A E : Type 0} (shown : Bool → List A → Toks → Toks → Type 0) (
   ending : {F : Type 0} (Is : EndingForm shown spelt F) (n : ℕ) (s t : Stream) (x : F) → TookOne (Told (Is (spelt_to shown spelt n) loosely)) s t x → TookOne (FrontEnding shown spelt Is) s t x
   ending Is n s t x k = record { left = k.left; seen = k.seen; spelt = λ h. (n, k.spelt h) }
 
+  -- however it ends
+  pub begun_ending : {F : Type 0} (Is : EndingForm shown spelt F) (s t : Stream) (x : F) → TookOne (FrontEnding shown spelt Is) s t x → TookOne (BeginsEnding shown spelt Is loosely) s t x
+  begun_ending Is s t x k = record { left = k.left; seen = k.seen; spelt = λ h. let i = k.spelt h in (i.0, i.1.0, i.1.1) }
+
   -- where nothing is left over in the end, all of a list
   pub all_of : {F : Type 0} (Is : Form shown spelt F) (s t : Stream) (x : F) → TookOne (Front shown spelt Is) s t x → leaves t ≡ None → Spells shown spelt Is loosely x s.rest
   all_of Is s t x k h = took_whole {Is = Front shown spelt Is} s t x k h
 
   pub all_ending : {F : Type 0} (Is : EndingForm shown spelt F) (s t : Stream) (x : F) → TookOne (FrontEnding shown spelt Is) s t x → leaves t ≡ None → SpellsEnding shown spelt Is loosely x s.rest
-  all_ending Is s t x k h = let i = took_whole {Is = FrontEnding shown spelt Is} s t x k h in (i.0, i.1.0, i.1.1)
+  all_ending Is s t x k h = took_whole {Is = BeginsEnding shown spelt Is loosely} s t x (begun_ending Is s t x k) h
 
 -- ---- an invisible group stands on no list that is without them
 

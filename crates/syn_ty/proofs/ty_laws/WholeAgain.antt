@@ -51,8 +51,12 @@ use Rattle.syn_ty.proofs.ty_laws.BoundAgain as bounds
 abbrev pub Whole : {F : Type 0} → (Manner → F → Toks → Type 0) → (F → F) → (F → Print) → Type 0
 Whole {F} Is n f = (x : F) (l : Toks) → Is plainly x l → Again (Is clearly) n f x l
 
+-- the same, before what follows
+abbrev pub Fronts : {F : Type 0} → (Manner → Relation F) → (F → F) → (F → Print) → Type 0
+Fronts {F} Is n f = (x : F) (l r : Toks) → Is plainly x l r → AgainFront (Is clearly) n f x l r
+
 -- before nothing
-at_end : {F : Type 0} (S : Relation F) (n : F → F) (f : F → Print) (x : F) (l : Toks) → AgainFront S n f x l done → Again (λ y m. S y m done) n f x l
+pub at_end : {F : Type 0} (S : Relation F) (n : F → F) (f : F → Print) (x : F) (l : Toks) → AgainFront S n f x l done → Again (λ y m. S y m done) n f x l
 at_end S n f x l k = record { spelt = k.spelt done; visible = λ u. k.visible done u tt; stays = k.stays; same = k.same }
 
 module _ {A E : Type 0} {na : List A → List A} {ne : NormalValues E} {pa : List A → Print} {pe : Values E} {shown : Bool → List A → Toks → Toks → Type 0} {spelt : SpelledValues E} (g : GivenAgain na ne pa pe shown spelt) where
@@ -61,11 +65,17 @@ module _ {A E : Type 0} {na : List A → List A} {ne : NormalValues E} {pa : Lis
 
   -- at some height, however it ends
   module _ {F : Type 0} (n : F → F) (f : F → Print) where
+    pub front_of : (Is : (Manner → Parts A E) → Manner → Relation F) → ((k : ℕ) (x : F) (l r : Toks) → Is (To k) plainly x l r → AgainFront (Is (To k) clearly) n f x l r) → Fronts (by.Begins shown spelt Is) n f
+    front_of Is again x l r i = let k = again i.0 x l r i.1 in record { spelt = λ m. (i.0, k.spelt m); visible = λ m u v. k.visible m u v; seen = λ u. k.seen u; stays = k.stays; same = k.same }
+
+    front_ending : (Is : (Manner → Parts A E) → Manner → End → Relation F) → ((k : ℕ) (e : End) (x : F) (l r : Toks) → Is (To k) plainly e x l r → AgainFront (Is (To k) clearly e) n f x l r) → Fronts (by.BeginsEnding shown spelt Is) n f
+    front_ending Is again x l r i = let k = again i.0 i.1 x l r i.2 in record { spelt = λ m. (i.0, i.1, k.spelt m); visible = λ m u v. k.visible m u v; seen = λ u. k.seen u; stays = k.stays; same = k.same }
+
     pub all_of : (Is : (Manner → Parts A E) → Manner → Relation F) → ((k : ℕ) (x : F) (l r : Toks) → Is (To k) plainly x l r → AgainFront (Is (To k) clearly) n f x l r) → Whole (by.Spells shown spelt Is) n f
-    all_of Is again x l i = let k = again i.0 x l done i.1 in record { spelt = (i.0, k.spelt done); visible = λ u. k.visible done u tt; stays = k.stays; same = k.same }
+    all_of Is again x l i = at_end (by.Begins shown spelt Is clearly) n f x l (front_of Is again x l done i)
 
     all_ending : (Is : (Manner → Parts A E) → Manner → End → Relation F) → ((k : ℕ) (e : End) (x : F) (l r : Toks) → Is (To k) plainly e x l r → AgainFront (Is (To k) clearly e) n f x l r) → Whole (by.SpellsEnding shown spelt Is) n f
-    all_ending Is again x l i = let k = again i.0 i.1 x l done i.2 in record { spelt = (i.0, i.1, k.spelt done); visible = λ u. k.visible done u tt; stays = k.stays; same = k.same }
+    all_ending Is again x l i = at_end (by.BeginsEnding shown spelt Is clearly) n f x l (front_ending Is again x l done i)
 
   pub known : (k : ℕ) → Known na ne pa pe (To k)
   known = known_to na ne pa pe shown spelt g
@@ -100,8 +110,11 @@ module _ {A E : Type 0} {na : List A → List A} {ne : NormalValues E} {pa : Lis
 
   -- ---- types, with plus or without
 
+  pub ty_fronts : (place : TypePlace) → Fronts (by.BeginsType shown spelt place) (normal.ty na ne) (printing.ty pa pe)
+  ty_fronts place = front_ending (normal.ty na ne) (printing.ty pa pe) (λ part how. IsType part how place) (λ k. type_turn na ne pa pe (To k) (known k) place)
+
   pub ty_again : (place : TypePlace) → Whole (by.SpellsType shown spelt place) (normal.ty na ne) (printing.ty pa pe)
-  ty_again place = all_ending (normal.ty na ne) (printing.ty pa pe) (λ part how. IsType part how place) (λ k. type_turn na ne pa pe (To k) (known k) place)
+  ty_again place x l i = at_end (by.BeginsType shown spelt place clearly) (normal.ty na ne) (printing.ty pa pe) x l (ty_fronts place x l done i)
 
   pub return_type_again : (place : TypePlace) → Whole (by.SpellsReturn shown spelt place) (normal.return_type na ne) (printing.return_type pa pe)
   return_type_again place = all_ending (normal.return_type na ne) (printing.return_type pa pe) (λ part how. IsReturn part how place) (λ k. signatures.return_again na ne pa pe (To k) (known k).again place)

@@ -19,7 +19,7 @@ use Rattle.syn_ty.specs.ty.Parts.{Manner, End, Parts, loosely, Told}
 use Rattle.syn_ty.specs.ty.Spelling.{IsOptional, Relation}
 use Rattle.syn_ty.specs.ty.Trees.{AngleBracketed, BoundLifetimes, ConstParam, GenericArgument, GenericParam, NamedArg, Parenthesized, Path, PathSegment, QSelf, ReturnType, TraitBound, TypeArray, TypeFnPtr, TypeGroup, TypeImplTrait, TypeParam, TypeParamBound, TypeParen, TypePath, TypePtr, TypeReference, TypeSlice, TypeTraitObject, TypeTree, TypeTuple}
 use Rattle.syn_path.specs.declared.path.PathStyle.{PathStyle}
-use Rattle.syn_ty.specs.ty.Spelt.{spelt_to, IsPathAlone}
+use Rattle.syn_ty.specs.ty.Spelt.{spelt_to, Begins, IsPathAlone}
 
 module _ {A E : Type 0} (attrs : Bool → List A → Toks → Toks → Type 0) (values : SpelledValues E) where
   -- a form, over what stands within it; and one that may end open
@@ -31,7 +31,7 @@ module _ {A E : Type 0} (attrs : Bool → List A → Toks → Toks → Type 0) (
 
   -- by trees of some height
   abbrev pub Front : {F : Type 0} → Form F → Relation F
-  Front Is x l r = (n : ℕ) × Is (spelt_to attrs values n) loosely x l r
+  Front Is = Begins attrs values Is loosely
 
   abbrev pub FrontEnding : {F : Type 0} → EndingForm F → Relation F
   FrontEnding Is x l r = (n : ℕ) × Told (Is (spelt_to attrs values n) loosely) x l r

@@ -1,16 +1,19 @@
 -- The promise of each reader of this layer: which lists its trees spell, their normal form, their print, which have clear verbatim parts, and the read.
-use Rattle.std.specs.Prelude.{Bool, true, false, List, Option, option_map}
+use Rattle.std.specs.Prelude.{Bool, true, false, ◌||◌, List, Option, option_map}
+use Rattle.token_core.specs.Fronted.{Fronting}
 use Rattle.token_core.specs.Headline.{Grammar}
 use Rattle.token_core.specs.Prints as p
 use Rattle.token_core.specs.Prints.{Print}
-use Rattle.token_core.specs.Reads.{Reader}
+use Rattle.token_core.specs.Reads.{Reader, is_done}
 use Rattle.token_core.specs.Rebuilt.{Visible}
+use Rattle.token_core.specs.Tokens as token
 use Rattle.token_core.specs.Toks.{Toks}
 use Rattle.syn_path.specs.declared.path.PathStyle.TheVariants.{AsWritten}
 use Rattle.syn_path.specs.Values.{NormalValues, ReadValues, SpelledValues, Values}
 use Rattle.syn_forms.specs.declared.places.BoundPlace.TheVariants.{Opaque}
 use Rattle.syn_forms.specs.declared.places.ParamPlace.TheVariants.{Binder}
 use Rattle.syn_forms.specs.declared.places.TypePlace.{TypePlace}
+use Rattle.syn_forms.specs.declared.places.TypePlace.TheVariants.{Plus}
 use Rattle.syn_forms.specs.places.Reading.{allows_plus}
 use Rattle.syn_ty.specs.declared.generics.CapturedParam.{CapturedParam}
 use Rattle.syn_ty.specs.declared.generics.LifetimeParamOf.{LifetimeParamOf}
@@ -26,6 +29,7 @@ use Rattle.syn_ty.specs.ty.Normal as normal
 use Rattle.syn_ty.specs.ty.Parts.{Manner, loosely, plainly, clearly}
 use Rattle.syn_ty.specs.ty.Printing as shown
 use Rattle.syn_ty.specs.ty.Reading as reading
+use Rattle.syn_ty.specs.ty.Spelling.{Relation}
 use Rattle.syn_ty.specs.ty.Spelt as spelt
 use Rattle.syn_ty.specs.ty.Trees.{AngleBracketed, BoundLifetimes, ConstParam, GenericArgument, GenericParam, NamedArg, Parenthesized, Path, PathSegment, ReturnType, TraitBound, TypeArray, TypeFnPtr, TypeGroup, TypeImplTrait, TypeParam, TypeParamBound, TypeParen, TypePath, TypePtr, TypeReference, TypeSlice, TypeTraitObject, TypeTree, TypeTuple}
 
@@ -37,6 +41,14 @@ manner true = clearly
 -- The verbatim parts of a tree are clear where it spells some list plainly.
 abbrev pub promise : {F : Type 0} → (Manner → F → Toks → Type 0) → (F → F) → (F → Print) → Reader F → Grammar F
 promise Is form print reader = record { spells = λ clear x l. Is (manner clear) x l; normal = form; print = print; plain = λ x. (l : Toks) × Visible l × Is plainly x l; reader = reader }
+
+-- On the front of a list: which lists its trees spell up to what follows, and what may follow.
+abbrev pub fronting : {F : Type 0} → Grammar F → (Manner → Relation F) → (Toks → Bool) → Fronting F
+fronting G Is follows = record { grammar = G; begins = λ clear x l k. Is (manner clear) x l k; follows = follows }
+
+-- what may follow a type there: nothing, or a comma
+abbrev pub follows_type : Toks → Bool
+follows_type k = is_done k || token.sees_comma k
 
 -- ---- over what attributes and expressions read, spell, have as their normal form and print
 
@@ -66,6 +78,10 @@ module _ {A E : Type 0} (read_attrs : Reader (List A)) (reads : ReadValues E) (s
 
   abbrev pub ty : TypePlace → Grammar (TypeTree A E)
   ty place = promise (spelt.SpellsType spelt_attrs spells place) (normal.ty normal_attrs normals) (shown.ty shown_attrs prints) (knot.ty read_attrs reads place)
+
+  -- with plus, on the front of a list
+  abbrev pub ty_front : Fronting (TypeTree A E)
+  ty_front = fronting (ty Plus) (spelt.BeginsType spelt_attrs spells Plus) follows_type
 
   abbrev pub return_type : TypePlace → Grammar (ReturnType A E)
   return_type place = promise (spelt.SpellsReturn spelt_attrs spells place) (normal.return_type normal_attrs normals) (shown.return_type shown_attrs prints) (knot.return_type read_attrs reads place)

@@ -61,13 +61,20 @@ module _ {A E : Type 0} (attrs : Bool → List A → Toks → Toks → Type 0) (
   spelt_to zero = nothing_spelt
   spelt_to (suc n) = turn (spelt_to n)
 
-  -- all of a list, at some height
-  abbrev pub Spells : {F : Type 0} → ((Manner → Parts A E) → Manner → Relation F) → Manner → F → Toks → Type 0
-  Spells Is how x l = (n : ℕ) × Is (spelt_to n) how x l done
+  -- the front of a list up to a rest, at some height
+  abbrev pub Begins : {F : Type 0} → ((Manner → Parts A E) → Manner → Relation F) → Manner → Relation F
+  Begins Is how x l r = (n : ℕ) × Is (spelt_to n) how x l r
 
   -- however it ends
+  abbrev pub BeginsEnding : {F : Type 0} → ((Manner → Parts A E) → Manner → End → Relation F) → Manner → Relation F
+  BeginsEnding Is how x l r = (n : ℕ) × (e : End) × Is (spelt_to n) how e x l r
+
+  -- all of a list
+  abbrev pub Spells : {F : Type 0} → ((Manner → Parts A E) → Manner → Relation F) → Manner → F → Toks → Type 0
+  Spells Is how x l = Begins Is how x l done
+
   abbrev pub SpellsEnding : {F : Type 0} → ((Manner → Parts A E) → Manner → End → Relation F) → Manner → F → Toks → Type 0
-  SpellsEnding Is how x l = (n : ℕ) × (e : End) × Is (spelt_to n) how e x l done
+  SpellsEnding Is how x l = BeginsEnding Is how x l done
 
   -- ---- for each reader: paths
 
@@ -94,6 +101,9 @@ module _ {A E : Type 0} (attrs : Bool → List A → Toks → Toks → Type 0) (
 
   abbrev pub SpellsType : TypePlace → Manner → TypeTree A E → Toks → Type 0
   SpellsType place = SpellsEnding (λ part how. IsType part how place)
+
+  abbrev pub BeginsType : TypePlace → Manner → Relation (TypeTree A E)
+  BeginsType place = BeginsEnding (λ part how. IsType part how place)
 
   abbrev pub SpellsReturn : TypePlace → Manner → ReturnType A E → Toks → Type 0
   SpellsReturn place = SpellsEnding (λ part how. IsReturn part how place)
