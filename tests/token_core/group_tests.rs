@@ -4,7 +4,8 @@ use crate::core_tests::{is, made, nth, tokens};
 use std::alloc::Global;
 use std::mem;
 use std::process::Abort;
-use token_core::{DelimSpan, Delimiter, Group, TokenTree};
+use token_core::{DelimSpan, Delimiter, Group, TokenStream, TokenTree};
+use token_text::text_of;
 
 fn span() -> DelimSpan {
     DelimSpan::new(nth(0), nth(9))
@@ -54,10 +55,42 @@ fn lists_are_apart(rt: &impl Abort, alloc: Global, text: &str, shared: bool) {
     holds(rt, alloc, &group, text);
 }
 
+/// A list of this group alone.
+fn alone(rt: &impl Abort, alloc: Global, group: Group) -> TokenStream {
+    let mut list = TokenStream::new(alloc);
+    made(rt, list.push(TokenTree::Group(group)));
+    list
+}
+
+fn are_the_same(rt: &impl Abort, alloc: Global, list: &TokenStream, other: &TokenStream) {
+    is(rt, list.same(other) & other.same(list), "the same");
+    let text = made(rt, text_of(alloc, list));
+    let others = made(rt, text_of(alloc, other));
+    is(rt, text.as_str() == others.as_str(), "the same text");
+}
+
+/// A group that shares its list is the same as one with its own, and so are copies of both.
+fn own_is_as_shared(rt: &impl Abort, alloc: Global, text: &str) {
+    let own = group(rt, alloc, text, false);
+    let shared = group(rt, alloc, text, true);
+    let of_own = alone(rt, alloc, made(rt, own.copy(alloc)));
+    let of_shared = alone(rt, alloc, made(rt, shared.copy(alloc)));
+    let own = alone(rt, alloc, own);
+    let shared = alone(rt, alloc, shared);
+    are_the_same(rt, alloc, &own, &shared);
+    are_the_same(rt, alloc, &own, &of_own);
+    are_the_same(rt, alloc, &shared, &of_shared);
+    are_the_same(rt, alloc, &of_own, &of_shared);
+    are_the_same(rt, alloc, &own, &made(rt, own.copy(alloc)));
+    is(rt, !shared.same(group(rt, alloc, text, true).stream()), "a group is not what it holds");
+    is(rt, !shared.same(&alone(rt, alloc, group(rt, alloc, "z", true))), "another list");
+}
+
 #[test]
 fn groups_share_what_they_hold(rt: HostRuntime) {
     let alloc = rt.alloc();
     for text in ["", "a", "a ( 1 :: [ b { } ] ) c", "^ a $ ^ $"] {
+        own_is_as_shared(&rt, alloc, text);
         for shared in [false, true] {
             copies_hold(&rt, alloc, text, shared);
             lists_are_apart(&rt, alloc, text, shared);
