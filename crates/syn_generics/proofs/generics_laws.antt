@@ -5,6 +5,7 @@ pub mod Clauses
 pub mod ClausesAgain
 pub mod ClausesMet
 pub mod ClausesTold
+pub mod FrontLaws
 pub mod GenericsAgain
 pub mod HigherTold
 pub mod Prints

@@ -114,7 +114,7 @@ pub predicate_over : (l : Toks) → ends_predicate l ≡ true → Over l
 predicate_over l h = predicate_cases l (done_over l) (brace_over l) (comma_over l) (semi_over l) (colon_over l) (equals_over l) h
 
 -- no `<` begins there
-brace_no_mark : (x : ℕ) (xs : List ℕ) (l : Toks) → sees_group Brace l ≡ true → sees_mark (x ∷ xs) l ≡ false
+pub brace_no_mark : (x : ℕ) (xs : List ℕ) (l : Toks) → sees_group Brace l ≡ true → sees_mark (x ∷ xs) l ≡ false
 unfolding sees_mark sees_group
 brace_no_mark x xs done h = refl
 brace_no_mark x xs (word i k) h = refl
@@ -124,7 +124,7 @@ brace_no_mark x xs (group y s c k) h = refl
 brace_no_mark x xs (enter s k) h = brace_no_mark x xs k h
 brace_no_mark x xs (leave k) h = brace_no_mark x xs k h
 
-predicate_no_lt : (l : Toks) → ends_predicate l ≡ true → token.sees_lt l ≡ false
+pub predicate_no_lt : (l : Toks) → ends_predicate l ≡ true → token.sees_lt l ≡ false
 predicate_no_lt l h = predicate_cases l (done_no_mark 60 [] l) (brace_no_mark 60 [] l) (other_char 44 60 [] [] l refl) (other_char 59 60 [] [] l refl) (λ e g. other_char 58 60 [] [] l refl e) (other_char 61 60 [] [] l refl) h
 
 -- that of a lifetime ends there too

@@ -18,7 +18,7 @@ use Rattle.syn_generics.proofs.generics_laws.ClausesAgain.{ForKept, TypeKept, fo
 use Rattle.syn_generics.proofs.generics_laws.GenericsAgain as generics
 use Rattle.syn_ty.proofs.ty_laws.KnotAgain.{GivenAgain, bounds_of_turn}
 use Rattle.syn_generics.specs.generics.Spelt as by
-use Rattle.syn_ty.proofs.ty_laws.WholeAgain.{Whole, To, all_of, known}
+use Rattle.syn_ty.proofs.ty_laws.WholeAgain.{Fronts, Whole, To, all_of, at_end, front_of, known}
 
 module _ {A E : Type 0} {na : List A → List A} {ne : NormalValues E} {pa : List A → Print} {pe : Values E} {shown : Bool → List A → Toks → Toks → Type 0} {spelt : SpelledValues E} (g : GivenAgain na ne pa pe shown spelt) where
   -- how the print of a type begins
@@ -28,17 +28,23 @@ module _ {A E : Type 0} {na : List A → List A} {ne : NormalValues E} {pa : Lis
   no_generics : (k : ℕ) → TypeKept pa pe (To g k)
   no_generics k = generics_kept pa pe (To g k) (known g k).kept
 
+  pub generics_fronts : Fronts (by.BeginsGenerics shown spelt) (clauses.generics na ne) (shown_clauses.generics pa pe)
+  generics_fronts = front_of g (clauses.generics na ne) (shown_clauses.generics pa pe) AreGenerics (λ k. generics.generics_again na ne pa pe (To g k) (known g k).again)
+
   pub generics_again : Whole (by.SpellsGenerics shown spelt) (clauses.generics na ne) (shown_clauses.generics pa pe)
-  generics_again = all_of g (clauses.generics na ne) (shown_clauses.generics pa pe) AreGenerics (λ k. generics.generics_again na ne pa pe (To g k) (known g k).again)
+  generics_again x l i = at_end (by.BeginsGenerics shown spelt clearly) (clauses.generics na ne) (shown_clauses.generics pa pe) x l (generics_fronts x l done i)
 
   pub predicate_again : Whole (by.SpellsPredicate shown spelt) (clauses.predicate na ne) (shown_clauses.predicate pa pe)
   predicate_again =
       all_of g (clauses.predicate na ne) (shown_clauses.predicate pa pe) IsPredicate (λ k. wheres.predicate_again na ne pa pe (To g k) (known g k).again (known g k).supplied (bounds_of_turn na ne pa pe (To g k) (known g k)) (no_for k))
 
-  pub optional_where_clause_again : Whole (by.SpellsOptionalClause shown spelt) (clauses.where_option na ne) (p.optional (shown_clauses.where_clause pa pe))
-  optional_where_clause_again =
-      all_of g (clauses.where_option na ne) (p.optional (shown_clauses.where_clause pa pe)) (λ part how. IsOptional (IsWhereClause part how))
+  pub optional_where_clause_fronts : Fronts (by.BeginsOptionalClause shown spelt) (clauses.where_option na ne) (p.optional (shown_clauses.where_clause pa pe))
+  optional_where_clause_fronts =
+      front_of g (clauses.where_option na ne) (p.optional (shown_clauses.where_clause pa pe)) (λ part how. IsOptional (IsWhereClause part how))
       (λ k. wheres.optional_where_again na ne pa pe (To g k) (known g k).again (known g k).supplied (bounds_of_turn na ne pa pe (To g k) (known g k)) (no_for k) (known g k).attrs_begin (no_generics k))
+
+  pub optional_where_clause_again : Whole (by.SpellsOptionalClause shown spelt) (clauses.where_option na ne) (p.optional (shown_clauses.where_clause pa pe))
+  optional_where_clause_again x l i = at_end (by.BeginsOptionalClause shown spelt clearly) (clauses.where_option na ne) (p.optional (shown_clauses.where_clause pa pe)) x l (optional_where_clause_fronts x l done i)
 
   -- one without predicates prints nothing: as a clause of its own that is not spelt
   pub where_clause_again : (x : WhereClauseOf A E) (l : Toks) → by.SpellsClause shown spelt plainly x l → some x.predicates.0 ≡ true → Again (by.SpellsClause shown spelt clearly) (clauses.where_clause na ne) (shown_clauses.where_clause pa pe) x l

@@ -1,0 +1,80 @@
+-- The grammars of generics and of an optional where clause meet their laws on the front of a list, where those of attributes and expressions are given: before what may follow, each read is sound and complete, and what is spelt plainly is reprinted.
+use Rattle.std.proofs.Common.{◌≡◌, ℕ, Bool, true, false, ◌||◌, List, [], ◌∷◌, Option, Some, None, refl}
+use Rattle.token_core.specs.declared.tree.Delimiter.TheVariants.{Brace}
+use Rattle.token_core.specs.declared.tree.Ident.{Ident}
+use Rattle.token_core.specs.Front.{front}
+use Rattle.token_core.specs.Fronted.{FrontLaws}
+use Rattle.token_core.specs.Marks.{text_of}
+use Rattle.token_core.specs.Prints.{Print}
+use Rattle.token_core.specs.Reads.{Reader, any_text, as_word, is_done, is_text, sees_group, sees_mark, sees_word, word_meets}
+use Rattle.token_core.specs.Tokens as token
+use Rattle.token_core.specs.Toks.{Bytes, Toks, done, word, mark, lit, group, enter, leave}
+use Rattle.syn_path.specs.Values.{NormalValues, ReadValues, SpelledValues, Values}
+use Rattle.syn_forms.specs.predicates.Reading.{ends_predicate}
+use Rattle.syn_generics.specs.generics.Promises as promises
+use Rattle.syn_generics.specs.generics.Promises.{follows_clause, follows_generics}
+use Rattle.syn_generics.specs.generics.Spelt as by
+use Rattle.syn_generics.proofs.generics_laws.AloneMet.{generics_met, optional_where_clause_met}
+use Rattle.syn_generics.proofs.generics_laws.AloneTold.{generics_took, optional_where_clause_took}
+use Rattle.syn_generics.proofs.generics_laws.ClausesMet.{brace_no_mark, predicate_no_lt, predicate_over}
+use Rattle.syn_generics.proofs.generics_laws.WholeAgain as again
+use Rattle.syn_ty.proofs.ty_laws.FrontLaws.{lawful_on_fronts}
+use Rattle.syn_ty.proofs.ty_laws.Given.{Given}
+use Rattle.syn_ty.proofs.ty_laws.KnotAgain.{GivenAgain}
+use Rattle.syn_ty.proofs.ty_laws.KnotMet.{GivenMeets}
+use Rattle.syn_ty.proofs.ty_laws.ParamsMet.{done_no_mark, of_either, other_char}
+
+-- ---- what may follow
+
+-- a predicate ends there
+clause_ends : (k : Toks) → follows_clause k ≡ true → ends_predicate k ≡ true
+unfolding ends_predicate
+clause_ends k h = by_test (is_done k) (token.sees_semi k) (sees_group Brace k) (token.sees_comma k) _ h
+  where
+    by_test : (a b c d e : Bool) → a || (b || c) ≡ true → a || (c || (d || (b || e))) ≡ true
+    by_test true b c d e h = refl
+    by_test false b true d e h = refl
+    by_test false true false true e h = refl
+    by_test false true false false e h = refl
+    by_test false false false d e h = cc h
+
+clause_no_comma : (k : Toks) → follows_clause k ≡ true → token.sees_comma k ≡ false
+clause_no_comma k h = of_either (is_done k) _ (done_no_mark 44 [] k) (of_either (token.sees_semi k) (sees_group Brace k) (other_char 59 44 [] [] k refl) (brace_no_mark 44 [] k)) h
+
+-- where no word stands, none that meets a test does
+no_word : (test : Bytes → Bool) (k : Toks) → sees_word any_text k ≡ false → sees_word test k ≡ false
+unfolding sees_word
+no_word test k h = at_front (as_word (front k)) h
+  where
+    at_front : (o : Option (Ident × Toks)) → word_meets any_text o ≡ false → word_meets test o ≡ false
+    at_front None h = refl
+    at_front (Some p) h = cc h
+
+clause_no_where : (k : Toks) → follows_clause k ≡ true → token.sees_where k ≡ false
+clause_no_where k h = no_word (is_text (text_of 18)) k (predicate_over k (clause_ends k h)).no_word
+
+-- where a word stands, no mark does
+word_no_mark : (test : Bytes → Bool) (c : ℕ) (cs : List ℕ) (k : Toks) → sees_word test k ≡ true → sees_mark (c ∷ cs) k ≡ false
+unfolding sees_word sees_mark
+word_no_mark test c cs done h = refl
+word_no_mark test c cs (word i k) h = refl
+word_no_mark test c cs (mark p k) h = cc h
+word_no_mark test c cs (lit x k) h = refl
+word_no_mark test c cs (group x s y k) h = refl
+word_no_mark test c cs (enter s k) h = word_no_mark test c cs k h
+word_no_mark test c cs (leave k) h = word_no_mark test c cs k h
+
+-- no parameters begin there
+generics_no_lt : (k : Toks) → follows_generics k ≡ true → token.sees_lt k ≡ false
+generics_no_lt k h = of_either (token.sees_where k) (follows_clause k) (word_no_mark (is_text (text_of 18)) 60 [] k) (λ i. predicate_no_lt k (clause_ends k i)) h
+
+module _ {A E : Type 0} {attrs : Reader (List A)} {values : ReadValues E} {shown : Bool → List A → Toks → Toks → Type 0} {spelt : SpelledValues E} {na : List A → List A} {ne : NormalValues E} {pa : List A → Print} {pe : Values E}
+    (g : Given attrs values shown spelt) (m : GivenMeets attrs values shown spelt) (a : GivenAgain na ne pa pe shown spelt) where
+  pub generics_fronts : FrontLaws (promises.generics_front attrs values shown spelt na ne pa pe)
+  generics_fronts =
+      lawful_on_fronts (by.BeginsGenerics shown spelt) follows_generics (generics_took g) (λ s x k i o. generics_met m i.0 x s.rest k s.left s.last s.scope i.1 (λ q. generics_no_lt k o)) (again.generics_fronts a)
+
+  pub optional_where_clause_fronts : FrontLaws (promises.optional_where_clause_front attrs values shown spelt na ne pa pe)
+  optional_where_clause_fronts =
+      lawful_on_fronts (by.BeginsOptionalClause shown spelt) follows_clause (optional_where_clause_took g)
+      (λ s x k i o. optional_where_clause_met m i.0 x s.rest k s.left s.last s.scope i.1 (λ q. clause_no_where k o) (clause_ends k o) (clause_no_comma k o)) (again.optional_where_clause_fronts a)
