@@ -11,6 +11,7 @@ ghost use Rattle.syn_forms.specs.predicates.Reading as predicates;
 ghost use Rattle.syn_generics.specs.generics.Alone as alone;
 ghost use Rattle.syn_generics.specs.generics.Declared as reading;
 ghost use Rattle.syn_ty.specs.ty.Knot as knot;
+ghost use Rattle.token_core.specs.Fronted.{Fronted, said};
 ghost use Rattle.token_core.specs.Headline.{Heads, Headline};
 ghost use Rattle.token_core.specs.Reads.{Fails, Follows, Gives, Parses, Reads};
 
@@ -283,11 +284,14 @@ impl<A: Attributes, E: Value> Parse for GenericsOf<A, E> {
 
     ghost promise = { Headline (promises.generics A.reads E.reads A.spells E.spells A.normal E.normal A.shown E.values) };
 
+    ghost fronts = { said (promises.generics_front A.reads E.reads A.spells E.spells A.normal E.normal A.shown E.values) };
+
     fn parse(alloc: Global, input: &mut ParseStream<'_>) -> Result<GenericsOf<A, E>, Error>
         ensures reads { Reads (alone.generics A.reads E.reads input.old) result input.new }
         ensures within { Follows input.old input.new }
         ensures promise { Heads (promises.generics A.reads E.reads A.spells E.spells A.normal E.normal A.shown E.values) input.old result input.new }
         ensures front { Takes (fronts.generics A.spells E.spells) input.old result input.new }
+        ensures fronts { Fronted (promises.generics_front A.reads E.reads A.spells E.spells A.normal E.normal A.shown E.values) input.old result input.new }
     {
         parse_generics(alloc, input)
     }
@@ -330,6 +334,7 @@ impl<A: Attributes, E: Value> WhereClauseOf<A, E> {
         ensures parses { Parses (alone.optional_where_clause A.reads E.reads) result input.old input.new }
         ensures promise { Heads (promises.optional_where_clause A.reads E.reads A.spells E.spells A.normal E.normal A.shown E.values) input.old result input.new }
         ensures front { Takes (fronts.optional_where_clause A.spells E.spells) input.old result input.new }
+        ensures fronts { Fronted (promises.optional_where_clause_front A.reads E.reads A.spells E.spells A.normal E.normal A.shown E.values) input.old result input.new }
     {
         parse_optional_where_clause(alloc, input)
     }

@@ -21,6 +21,7 @@ ghost use Rattle.syn_ty.specs.ty.Groups.{IsGrouped};
 ghost use Rattle.syn_ty.specs.ty.Knot as knot;
 ghost use Rattle.syn_ty.specs.ty.Reading as reading;
 ghost use Rattle.syn_ty.specs.ty.Spelling.{IsInfer, IsMacroType, IsNever, IsOptional};
+ghost use Rattle.token_core.specs.Fronted.{Fronted, said};
 ghost use Rattle.token_core.specs.Groups.{sees_invisible};
 ghost use Rattle.token_core.specs.Headline.{Heads, Headline};
 ghost use Rattle.token_core.specs.Reads.{Fails, Follows, Gives, Parses, Reads};
@@ -71,12 +72,15 @@ impl<A: Attributes, E: Value> Parse for TypeOf<A, E> {
 
     ghost promise = { Headline (promises.ty A.reads E.reads A.spells E.spells A.normal E.normal A.shown E.values Plus) };
 
+    ghost fronts = { said (promises.ty_front A.reads E.reads A.spells E.spells A.normal E.normal A.shown E.values) };
+
     #[tactic(auto, using(crate::proofs::ty_laws::Groups::groups))]
     fn parse(alloc: Global, input: &mut ParseStream<'_>) -> Result<TypeOf<A, E>, Error>
         ensures reads { Reads (knot.ty A.reads E.reads Plus input.old) result input.new }
         ensures within { Follows input.old input.new }
         ensures promise { Heads (promises.ty A.reads E.reads A.spells E.spells A.normal E.normal A.shown E.values Plus) input.old result input.new }
         ensures front { Takes (fronts.ty A.spells E.spells Plus) input.old result input.new }
+        ensures fronts { Fronted (promises.ty_front A.reads E.reads A.spells E.spells A.normal E.normal A.shown E.values) input.old result input.new }
         ensures group { sees_invisible input.old.rest ≡ true → IfOk result (λ x. IsGrouped (knot.reads_below A.reads E.reads (ahead input.old)) input.old x input.new) }
     {
         <TypeOf<A, E> as Held<TypePlace>>::parse_held(alloc, PhantomData, input, TypePlace::Plus)

@@ -1,5 +1,7 @@
+use Rattle.token_core.proofs.Fronteds.{fronted}
 use Rattle.token_core.proofs.Headlines.{heads}
 use Rattle.syn_generics.specs.generics.Promises as promises
+use Rattle.syn_generics.proofs.generics_laws.FrontLaws.{generics_fronts}
 use Rattle.syn_generics.proofs.generics_laws.WholeLaws.{generics_lawful}
 use Rattle.syn_ty.proofs.ty_laws.WholeTold.{takes}
 use Rattle.syn_ty.proofs.ty_laws.GivenWhole.{given_again, given_meets}
@@ -12,3 +14,6 @@ returns-clause-promise g c = heads (promises.generics g.A.Attributes.reads g.E.V
 
 pub returns-clause-front : goal.returns-clause-front
 returns-clause-front g c = takes (generics_took (given g.met.A.Attributes.told g.met.E.Value.consts g.met.E.Value.lengths)) _ _ _ c.parse_generics.ensures.parses.0
+
+pub returns-clause-fronts : goal.returns-clause-fronts
+returns-clause-fronts g c = fronted (promises.generics_front g.A.Attributes.reads g.E.Value.reads g.A.Attributes.spells g.E.Value.spells g.A.Attributes.normal g.E.Value.normal g.A.Attributes.shown g.E.Value.values) (generics_fronts (given g.met.A.Attributes.told g.met.E.Value.consts g.met.E.Value.lengths) (given_meets g.met.A.Attributes.met g.met.E.Value.met g.met.E.Value.lengths) (given_again g.met.A.Attributes.met g.met.E.Value.met g.met.E.Value.lengths g.met.A.Attributes.bare)) _ _ _ c.parse_generics.ensures.parses.0
