@@ -229,11 +229,15 @@ fn one(
     }
 }
 
-/// The reader of a print: a where clause without predicates prints nothing, which is read as an optional one.
+/// The reader of a print: a where clause without predicates prints nothing, which is read as an optional one, and what an
+/// implementation prints of generics is read as generics.
 fn by(reader: Reader) -> Reader {
     match reader {
         Reader::Generics(GenericsReader::WhereClause) => {
             Reader::Generics(GenericsReader::OptionalWhereClause)
+        }
+        Reader::Generics(GenericsReader::ImplGenerics) => {
+            Reader::Generics(GenericsReader::Declared)
         }
         _ => reader,
     }
@@ -283,9 +287,9 @@ fn read_again(
     }
 }
 
+/// Whether it prints names alone.
 fn is_view(reader: Reader) -> bool {
     match reader {
-        Reader::Generics(GenericsReader::ImplGenerics) => true,
         Reader::Generics(GenericsReader::TypeGenerics) => true,
         Reader::Generics(GenericsReader::Turbofish) => true,
         _ => false,

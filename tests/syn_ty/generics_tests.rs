@@ -627,6 +627,23 @@ fn views_print(rt: HostRuntime) {
     says(&rt, split_clause(alloc, &generics), "2");
 }
 
+/// Each view is cloned, over attributes and expressions that are not `Clone`.
+fn cloned(alloc: Global, generics: &Generics<Nothing>) -> Result<String, Error> {
+    let (impl_generics, type_generics, _) = generics.split_for_impl();
+    let mut all = printed(alloc, &impl_generics.clone()?)?;
+    all.push_str(printed(alloc, &type_generics.clone()?)?.as_str())?;
+    all.push_str(printed(alloc, &type_generics.as_turbofish().clone()?)?.as_str())?;
+    Ok(all)
+}
+
+#[test]
+fn views_are_cloned(rt: HostRuntime) {
+    let alloc = rt.alloc();
+    let generics = got(&rt, whole(alloc));
+    let all = "< 'a , T : Clone , const N : usize >< 'a , T , N >:: < 'a , T , N >";
+    says(&rt, cloned(alloc, &generics), all);
+}
+
 #[test]
 fn views_without_parameters_print_nothing(rt: HostRuntime) {
     let alloc = rt.alloc();

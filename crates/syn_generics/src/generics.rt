@@ -312,19 +312,22 @@ impl<A: Drop, E: Drop> GenericsOf<A, E> {
 // ---- generics and their views
 
 /// The head of an implementation: the parameters without their defaults.
-#[derive(Clone, Drop)]
+#[derive(Drop)]
+#[derive_where(Clone)]
 pub struct ImplGenericsOf<'a, A, E> {
     generics: &'a GenericsOf<A, E>,
 }
 
 /// The parameters by their names.
-#[derive(Clone, Drop)]
+#[derive(Drop)]
+#[derive_where(Clone)]
 pub struct TypeGenericsOf<'a, A, E> {
     generics: &'a GenericsOf<A, E>,
 }
 
 /// The parameters by their names, after `::`.
-#[derive(Clone, Drop)]
+#[derive(Drop)]
+#[derive_where(Clone)]
 pub struct TurbofishOf<'a, A, E> {
     generics: &'a GenericsOf<A, E>,
 }
