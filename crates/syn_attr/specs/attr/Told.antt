@@ -1,5 +1,5 @@
 -- Attributes and const arguments as types ask of them: what is read is spelt, and the read stands further on.
-use Rattle.std.proofs.Common.{◌≡◌, ◌||◌, ℕ, zero, suc, Bool, true, false, List, [], ◌∷◌, None, Ok, Err, inl, inr, refl, sym, ◌∙◌, ap, subst}
+use Rattle.std.proofs.Common.{◌≡◌, ◌||◌, ℕ, zero, suc, Bool, true, false, List, [], ◌∷◌, None, Ok, inl, inr, sym, ◌∙◌, subst}
 use Rattle.token_core.specs.declared.span.DelimSpan.{DelimSpan}
 use Rattle.token_core.specs.declared.tree.Delimiter.TheVariants.{Brace}
 use Rattle.token_core.specs.Groups as groups
@@ -17,7 +17,7 @@ use Rattle.syn_path.specs.declared.supplied.Place.TheVariants.{Block}
 use Rattle.syn_path.specs.Lengths.{AttributeLaws, ConstLaws, begins_const}
 use Rattle.syn_path.specs.Took.{Along, TookOne}
 use Rattle.syn_path.proofs.Along.{bind, either, in_group_along, literal as read_literal, made, mark, refused, stays, word}
-use Rattle.syn_path.proofs.Groups.{IsHeld, held_sound}
+use Rattle.syn_path.proofs.Groups.{held_sound}
 use Rattle.syn_attr.specs.attr.Attrs.{Attribute, block_of, literal}
 use Rattle.syn_attr.specs.attr.Reading.{block, const_argument, content, many, many_from, one_outer, outer, word_expr}
 use Rattle.syn_attr.specs.attr.Spelling.{AreAll, IsConst, a_lone_literal, a_block, IsConstDefault, a_const, a_word, IsOuter}
