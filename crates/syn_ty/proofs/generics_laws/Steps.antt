@@ -17,7 +17,7 @@ use Rattle.token_core.specs.Reads.{Reader, and_then, sees_group}
 use Rattle.token_core.specs.Refusal.{Refusal}
 use Rattle.token_core.specs.Stream.{Stream}
 use Rattle.token_core.specs.Tokens as token
-use Rattle.token_core.proofs.Steps.{chosen, link}
+use Rattle.token_core.proofs.Steps.{chosen}
 
 module _ {A E : Type 0} (r : Readers A E) (place : BoundPlace) (s : Stream) where
   pub capture_bound : sees_lifetime s.rest ≡ false → token.sees_use s.rest ≡ true → bound_step r place s ≡ capture_in_place r place s

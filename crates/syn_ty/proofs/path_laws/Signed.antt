@@ -1,5 +1,5 @@
 -- The path of a trait and its signature, in two steps: the `::` with the signature, and the path with it.
-use Rattle.std.proofs.Common.{◌≡◌, Bool, true, ◌&&◌, if◌then◌else◌, Option, Ok, Err, refl, ap, ◌∙◌}
+use Rattle.std.proofs.Common.{◌≡◌, true, ◌&&◌, if◌then◌else◌, Option, Ok, Err, refl, ap, ◌∙◌}
 use Rattle.syn_forms.specs.paths.Reading as paths
 use Rattle.syn_path.specs.path.Reading.{sees_sep, sep}
 use Rattle.syn_ty.specs.declared.path.PathArgumentsOf.TheVariants as a

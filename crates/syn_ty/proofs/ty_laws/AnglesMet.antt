@@ -22,7 +22,6 @@ use Rattle.syn_forms.specs.paths.Reading.{sees_arguments, sees_turbofish}
 use Rattle.syn_forms.specs.tokens.Reading.{comma, sees_gt}
 use Rattle.syn_forms.proofs.lists_laws.Complete.{listed_here}
 use Rattle.syn_forms.proofs.nested_laws.Ahead.{ahead-is, weight}
-use Rattle.syn_ty.specs.declared.path.PathArgumentsOf.TheVariants as a
 use Rattle.syn_ty.specs.path.Paths.{Sep, angle_of}
 use Rattle.syn_ty.specs.path.Reading.{angle_bracketed, arguments_after, arguments_step, ends_constraint, turbofish}
 use Rattle.syn_ty.specs.path.Spelling.{Styled, IsAngle, an_angle, IsArguments, some_arguments}

@@ -15,7 +15,6 @@ use Rattle.token_core.specs.Toks.{Toks, mark, group}
 use Rattle.token_core.specs.Trees.{TokenStream, punct, toks}
 use Rattle.token_core.proofs.Steps.{Reads_to, chosen, link}
 use Rattle.token_core.proofs.Took.{at}
-use Rattle.syn_path.specs.declared.mac.Macro.{Macro}
 use Rattle.syn_path.specs.declared.path.PathStyle.TheVariants.{AsWritten}
 use Rattle.syn_path.specs.declared.mac.MacroDelimiter.{MacroDelimiter}
 use Rattle.syn_path.specs.mac.Macros.{macro_of}

@@ -1,5 +1,5 @@
 -- A type read at an invisible group is what follows the group says it is.
-use Rattle.std.proofs.Common.{◌≡◌, Bool, true, false, not, ◌&&◌, if◌then◌else◌, List, [], Option, Some, None, Ok, inl, inr, refl, sym, ◌∙◌, ap, subst}
+use Rattle.std.proofs.Common.{◌≡◌, Bool, true, false, not, ◌&&◌, List, [], Option, Some, None, Ok, inl, inr, refl, sym, ◌∙◌, ap, subst}
 use Rattle.syn_forms.specs.declared.places.TypePlace.{TypePlace}
 use Rattle.syn_forms.specs.declared.places.TypePlace.TheVariants.{Plus}
 use Rattle.syn_forms.specs.groups.Reading.{in_invisible}
@@ -13,7 +13,7 @@ use Rattle.syn_ty.specs.ty.Groups.{GoesOn, IsGrouped, alone, arguments, grouped,
 use Rattle.syn_ty.specs.ty.Knot.{reads_below, ty}
 use Rattle.syn_ty.specs.ty.Points.{Readers, a_type, some_arguments}
 use Rattle.syn_ty.specs.ty.Reading.{after_group, as_path, group_type, group_with_arguments, group_with_segments, group_without_segments, has_arguments, path_within, qself_in, sees_further_arguments, sees_further_segment, type_step, with_arguments, with_path}
-use Rattle.syn_ty.specs.ty.Trees.{Path, TypePath, TypeTree}
+use Rattle.syn_ty.specs.ty.Trees.{TypePath, TypeTree}
 use Rattle.syn_ty.specs.ty.Types.{group_with, qualified_with}
 use Rattle.token_core.specs.declared.token.GroupToken.{GroupToken}
 use Rattle.token_core.specs.Groups.{sees_invisible}

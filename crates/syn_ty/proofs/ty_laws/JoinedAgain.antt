@@ -21,7 +21,6 @@ use Rattle.syn_ty.specs.generics.NormalShapes.{colon, many}
 use Rattle.syn_ty.specs.generics.Parameters.{AreLifetimes}
 use Rattle.syn_ty.specs.generics.Shapes.{lifetimes_joined}
 use Rattle.syn_ty.specs.generics.Shapes as shown
-use Rattle.syn_ty.specs.ty.Parts.{clearly}
 use Rattle.syn_ty.specs.ty.Spelling.{Relation, IsOptional, absent, present}
 use Rattle.syn_ty.proofs.ty_laws.Reprint.{mark_front, listed_front}
 

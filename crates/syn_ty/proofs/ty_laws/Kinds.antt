@@ -1,15 +1,11 @@
 -- Questions about bounds and types that were read, case by case.
-use Rattle.std.proofs.Common.{◌≡◌, ◌==◌, ◌&&◌, not, if◌then◌else◌, Bool, true, false, List, [], ◌∷◌, ◌++◌, Option, Some, None, Ok, is_some, refl, sym, ◌∙◌, ap, length, arith}
+use Rattle.std.proofs.Common.{◌≡◌, if◌then◌else◌, Bool, true, false, List, [], ◌∷◌, ◌++◌, Option, Some, None, Ok, refl, ap}
 use Rattle.std.specs.Prelude.{slice_get}
 use Rattle.syn_forms.specs.lists.Reading.{plus_follows}
-use Rattle.syn_path.specs.declared.mac.Macro.{Macro}
-use Rattle.syn_path.specs.declared.path.PathOf.{PathOf}
-use Rattle.syn_path.specs.declared.path.QSelfOf.{QSelfOf}
 use Rattle.syn_ty.specs.declared.generics.PreciseCapture.{PreciseCapture}
 use Rattle.syn_ty.specs.declared.generics.TraitBoundOf.{TraitBoundOf}
 use Rattle.syn_ty.specs.declared.generics.TypeParamBoundOf.{TypeParamBoundOf, out-TypeParamBoundOf}
 use Rattle.syn_ty.specs.declared.generics.TypeParamBoundOf.TheVariants as b
-use Rattle.syn_ty.specs.declared.path.PathArgumentsOf.{PathArgumentsOf}
 use Rattle.syn_ty.specs.declared.ty.TypeArrayOf.{TypeArrayOf}
 use Rattle.syn_ty.specs.declared.ty.TypeFnPtrOf.{TypeFnPtrOf}
 use Rattle.syn_ty.specs.declared.ty.TypeGroupOf.{TypeGroupOf}
@@ -17,7 +13,7 @@ use Rattle.syn_ty.specs.declared.ty.TypeImplTraitOf.{TypeImplTraitOf}
 use Rattle.syn_ty.specs.declared.ty.TypeInferOf.{TypeInferOf}
 use Rattle.syn_ty.specs.declared.ty.TypeMacroOf.{TypeMacroOf}
 use Rattle.syn_ty.specs.declared.ty.TypeNeverOf.{TypeNeverOf}
-use Rattle.syn_ty.specs.declared.ty.TypeOf.{TypeOf, out-TypeOf}
+use Rattle.syn_ty.specs.declared.ty.TypeOf.{TypeOf}
 use Rattle.syn_ty.specs.declared.ty.TypeOf.TheVariants as t
 use Rattle.syn_ty.specs.declared.ty.TypeParenOf.{TypeParenOf}
 use Rattle.syn_ty.specs.declared.ty.TypePathOf.{TypePathOf, out-TypePathOf}
@@ -29,7 +25,7 @@ use Rattle.syn_ty.specs.declared.ty.TypeTupleOf.{TypeTupleOf}
 use Rattle.syn_ty.specs.generics.Params.{held_bound}
 use Rattle.syn_ty.specs.ty.Points.{Readers}
 use Rattle.syn_ty.specs.ty.Reading.{as_path, each_object_from, first_bound, first_bound_layer, held_in, held_layer, is_lone, lone_bound, paren_or_object, path_layer, trait_layer, unqualified_layer}
-use Rattle.syn_ty.specs.ty.Trees.{TypeParamBound, TypePath, TypeTree}
+use Rattle.syn_ty.specs.ty.Trees.{TypeParamBound, TypeTree}
 use Rattle.syn_ty.specs.ty.Types.{paren_of}
 use Rattle.token_core.specs.declared.lifetime.Lifetime.{Lifetime}
 use Rattle.token_core.specs.declared.token.Paren.{Paren}

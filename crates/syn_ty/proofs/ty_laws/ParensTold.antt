@@ -42,7 +42,7 @@ use Rattle.syn_ty.specs.ty.Trees.{TraitBound, TypeParamBound, TypeTree}
 use Rattle.syn_ty.specs.ty.Types.{paren_of, tuple_of}
 use Rattle.syn_ty.proofs.ty_laws.CallsTold.{and_second}
 use Rattle.syn_ty.proofs.ty_laws.FirstBoundTold.{Further, Lone, first_took}
-use Rattle.syn_ty.proofs.ty_laws.FirstPartsTold.{Asked, Starts, asked_of, starts_asked, starts_held, type_starts}
+use Rattle.syn_ty.proofs.ty_laws.FirstPartsTold.{Starts, asked_of, starts_asked, starts_held, type_starts}
 use Rattle.syn_ty.proofs.ty_laws.GroupsTold.{Elements, TypeAt, tupled_at}
 use Rattle.syn_ty.proofs.ty_laws.PathsTold.{and_first}
 use Rattle.syn_ty.proofs.ty_laws.Sound.{IsHeld, held_sound, more_sound}

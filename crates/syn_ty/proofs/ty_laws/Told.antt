@@ -6,7 +6,7 @@ use Rattle.token_core.specs.Groups as groups
 use Rattle.token_core.specs.Lifetimes.{sees_lifetime, read_lifetime, read_optional_lifetime}
 use Rattle.token_core.specs.Listed.{AreListed, none_left, last_value, value_and_mark}
 use Rattle.token_core.specs.Marks as marks
-use Rattle.token_core.specs.Reads.{Reader, any_text, in_group, leaves, optional, sees_word}
+use Rattle.token_core.specs.Reads.{Reader, in_group, leaves, optional}
 use Rattle.token_core.specs.Rebuilt.{Visible}
 use Rattle.token_core.specs.Spellings.{IsMark, IsWord, IsLifetime}
 use Rattle.token_core.specs.Stream.{Stream}

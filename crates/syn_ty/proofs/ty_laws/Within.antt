@@ -1,6 +1,6 @@
 -- What is known of the reads that a form holds: each took what its answer spells, and stands further on; and the same of attributes and expressions.
 use Rattle.std.proofs.Common.{◌≡◌, true, List, None, Ok}
-use Rattle.token_core.specs.Reads.{Reader, Follows, leaves}
+use Rattle.token_core.specs.Reads.{Reader, leaves}
 use Rattle.token_core.specs.Rebuilt.{Visible}
 use Rattle.token_core.specs.Stream.{Stream}
 use Rattle.token_core.specs.Toks.{Toks}

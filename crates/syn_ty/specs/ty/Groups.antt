@@ -1,5 +1,5 @@
 -- What a type in an invisible group is, by what follows the group: each case leaves no other.
-use Rattle.std.specs.Prelude.{◌≡◌, Bool, true, false, ◌&&◌, not, List, [], Option, Some, None, Ok}
+use Rattle.std.specs.Prelude.{◌≡◌, Bool, true, false, ◌&&◌, not, [], Option, Some, None, Ok}
 use Rattle.syn_forms.specs.declared.places.TypePlace.TheVariants.{Plus}
 use Rattle.syn_forms.specs.groups.Reading.{in_invisible}
 use Rattle.syn_forms.specs.paths.Reading as paths

@@ -1,4 +1,4 @@
-use Rattle.std.proofs.Common.{◌≡◌, true, false, length, rules, arith}
+use Rattle.std.proofs.Common.{◌≡◌, true, length, rules, arith}
 use Rattle.std.proofs.lemmas.Grind.{common_steps}
 use Rattle.syn_ty.specs.ty.Reading.{sees_further_arguments}
 use Rattle.syn_ty.proofs.ty_laws.Steps.{arguments_go_on, as_told}
