@@ -9,6 +9,7 @@ pub mod FrontLaws
 pub mod GenericsAgain
 pub mod HigherTold
 pub mod Prints
+pub mod StrippedAgain
 pub mod Views
 pub mod WholeAgain
 pub mod WholeLaws

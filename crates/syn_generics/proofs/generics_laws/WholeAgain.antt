@@ -1,21 +1,27 @@
 -- Each grammar of this layer is reprinted: what spells all of a list plainly prints its normal form clearly, which is its own and prints the same.
-use Rattle.std.proofs.Common.{◌≡◌, ℕ, Bool, true, List}
+use Rattle.std.proofs.Common.{◌≡◌, ℕ, zero, suc, Bool, true, List}
 use Rattle.token_core.specs.Prints as p
 use Rattle.token_core.specs.Prints.{Print}
 use Rattle.token_core.specs.Toks.{Toks, done}
 use Rattle.syn_path.specs.Values.{NormalValues, SpelledValues, Values}
-use Rattle.syn_path.proofs.Words.{Again}
+use Rattle.syn_path.proofs.Words.{Again, AgainFront}
+use Rattle.syn_forms.specs.declared.places.ParamPlace.TheVariants as params
+use Rattle.syn_generics.specs.declared.generics.GenericsOf.{GenericsOf}
 use Rattle.syn_generics.specs.declared.generics.WhereClauseOf.{WhereClauseOf}
 use Rattle.syn_generics.specs.generics.Clauses.{IsPredicate, IsWhereClause}
 use Rattle.syn_generics.specs.generics.Normal as clauses
 use Rattle.syn_generics.specs.generics.Parameters.{AreGenerics}
 use Rattle.syn_generics.specs.generics.Printing as shown_clauses
+use Rattle.syn_generics.specs.generics.Views.{stripped}
 use Rattle.syn_ty.specs.ty.Parts.{plainly, clearly}
+use Rattle.syn_ty.specs.generics.Views.{strip}
 use Rattle.syn_ty.specs.ty.Spelling.{IsOptional}
+use Rattle.syn_ty.specs.ty.Trees.{GenericParam}
 use Rattle.syn_ty.proofs.generics_laws.Members.{some}
 use Rattle.syn_generics.proofs.generics_laws.ClausesAgain as wheres
 use Rattle.syn_generics.proofs.generics_laws.ClausesAgain.{ForKept, TypeKept, for_kept, generics_kept}
 use Rattle.syn_generics.proofs.generics_laws.GenericsAgain as generics
+use Rattle.syn_generics.proofs.generics_laws.StrippedAgain as views
 use Rattle.syn_ty.proofs.ty_laws.KnotAgain.{GivenAgain, bounds_of_turn}
 use Rattle.syn_generics.specs.generics.Spelt as by
 use Rattle.syn_ty.proofs.ty_laws.WholeAgain.{Fronts, Whole, To, all_of, at_end, front_of, known}
@@ -33,6 +39,19 @@ module _ {A E : Type 0} {na : List A → List A} {ne : NormalValues E} {pa : Lis
 
   pub generics_again : Whole (by.SpellsGenerics shown spelt) (clauses.generics na ne) (shown_clauses.generics pa pe)
   generics_again x l i = at_end (by.BeginsGenerics shown spelt clearly) (clauses.generics na ne) (shown_clauses.generics pa pe) x l (generics_fronts x l done i)
+
+  -- without their defaults
+  before : (k : ℕ) (x : GenericParam A E) (l r : Toks) → (To g k plainly).param params.Generics x l r → (n : Toks) × (To g k plainly).param params.Generics (strip x) l n
+  before zero x l r i = absurd i
+  before (suc k) x l r i = views.before_default (To g k) plainly params.Generics x l r i
+
+  stripped_fronts : (x : GenericsOf A E) (l r : Toks) → by.BeginsGenerics shown spelt plainly x l r → AgainFront (by.BeginsGenerics shown spelt clearly) (clauses.generics na ne) (shown_clauses.generics pa pe) (stripped x) l r
+  stripped_fronts x l r i =
+      let k = views.stripped_again na ne pa pe (To g i.0) (known g i.0).again (before i.0) x l r i.1 in
+      record { spelt = λ m. (i.0, k.spelt m); visible = λ m u v. k.visible m u v; seen = λ u. k.seen u; stays = k.stays; same = k.same }
+
+  pub stripped_again : (x : GenericsOf A E) (l : Toks) → by.SpellsGenerics shown spelt plainly x l → Again (by.SpellsGenerics shown spelt clearly) (clauses.generics na ne) (shown_clauses.generics pa pe) (stripped x) l
+  stripped_again x l i = at_end (by.BeginsGenerics shown spelt clearly) (clauses.generics na ne) (shown_clauses.generics pa pe) (stripped x) l (stripped_fronts x l done i)
 
   pub predicate_again : Whole (by.SpellsPredicate shown spelt) (clauses.predicate na ne) (shown_clauses.predicate pa pe)
   predicate_again =

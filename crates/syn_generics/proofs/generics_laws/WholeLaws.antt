@@ -1,15 +1,22 @@
 -- Each grammar of this layer meets its laws, where those of attributes and expressions are given: its read is sound and complete, and what it spells plainly is reprinted.
-use Rattle.std.proofs.Common.{◌≡◌, ◌≢◌, Bool, true, List, [], ◌∷◌, refl}
-use Rattle.token_core.specs.Headline.{Lawful}
+use Rattle.std.proofs.Common.{◌≡◌, ◌≢◌, Bool, true, List, [], ◌∷◌, refl, ◌∙◌, ap}
+use Rattle.token_core.specs.Headline.{Lawful, Reprinted, end_of, ended}
 use Rattle.token_core.specs.Prints.{Print}
 use Rattle.token_core.specs.Reads.{Reader}
-use Rattle.token_core.specs.Toks.{Toks}
+use Rattle.token_core.specs.Rebuilt.{Visible}
+use Rattle.token_core.specs.Spans.{none}
+use Rattle.token_core.specs.Stream.{started}
+use Rattle.token_core.specs.Toks.{Toks, done}
+use Rattle.token_core.specs.Trees.{row}
 use Rattle.syn_path.specs.Values.{NormalValues, ReadValues, SpelledValues, Values}
 use Rattle.syn_path.proofs.Words.{Again}
+use Rattle.syn_generics.specs.declared.generics.GenericsOf.{GenericsOf}
 use Rattle.syn_generics.specs.declared.generics.WhereClauseOf.{WhereClauseOf}
 use Rattle.syn_generics.specs.generics.Normal as clauses
 use Rattle.syn_generics.specs.generics.Printing as shown_clauses
-use Rattle.syn_ty.specs.ty.Parts.{plainly, clearly}
+use Rattle.syn_generics.specs.generics.Views.{stripped}
+use Rattle.syn_ty.specs.ty.Parts.{Manner, plainly, clearly}
+use Rattle.syn_ty.specs.ty.Promises.{promise}
 use Rattle.syn_ty.proofs.generics_laws.Members.{some}
 use Rattle.syn_ty.proofs.ty_laws.Given.{Given}
 use Rattle.syn_ty.proofs.ty_laws.KnotAgain.{GivenAgain}
@@ -21,10 +28,21 @@ use Rattle.syn_generics.proofs.generics_laws.WholeMet as met
 use Rattle.syn_generics.proofs.generics_laws.WholeTold as told
 use Rattle.syn_ty.proofs.ty_laws.WholeLaws.{lawful}
 
+-- what prints its normal form clearly is read again, where the grammar meets its laws
+reprinted : {F : Type 0} (Is : Manner → F → Toks → Type 0) {n : F → F} {f : F → Print} {reader : Reader F} → Lawful (promise Is n f reader) → (x : F) (l : Toks) → Again (Is clearly) n f x l → Visible l → Reprinted (promise Is n f reader) x
+reprinted Is {n = n} {f = f} laws x l w v =
+    let seen = w.visible v in
+    let k = laws.complete (started none (row (f x) done)) (n x) refl seen w.spelt in
+    record { spells = w.spelt; visible = seen; stays = w.stays; same = w.same; again = ap end_of k.1 ∙ ap (ended (n x) k.0) k.2 }
+
 module _ {A E : Type 0} {attrs : Reader (List A)} {values : ReadValues E} {shown : Bool → List A → Toks → Toks → Type 0} {spelt : SpelledValues E} {na : List A → List A} {ne : NormalValues E} {pa : List A → Print} {pe : Values E}
     (g : Given attrs values shown spelt) (m : GivenMeets attrs values shown spelt) (a : GivenAgain na ne pa pe shown spelt) where
   pub generics_lawful : Lawful (promises.generics attrs values shown spelt na ne pa pe)
   generics_lawful = lawful (by.SpellsGenerics shown spelt) (told.generics_sound g) (met.generics_complete m) (again.generics_again a)
+
+  -- without their defaults and where clause
+  pub stripped_reprinted : (x : GenericsOf A E) → (promises.generics attrs values shown spelt na ne pa pe).plain x → Reprinted (promises.generics attrs values shown spelt na ne pa pe) (stripped x)
+  stripped_reprinted x q = reprinted (by.SpellsGenerics shown spelt) generics_lawful (stripped x) q.0 (again.stripped_again a x q.0 q.2) q.1
 
   -- of a clause, where it has predicates
   has_some : {T : Type 0} (xs : List T) → xs ≢ [] → some xs ≡ true
