@@ -1,5 +1,5 @@
 -- Each grammar of this layer meets its laws, where those of attributes and expressions are given: its read is sound and complete, and what it spells plainly is reprinted.
-use Rattle.std.proofs.Common.{◌≡◌, ◌≢◌, Bool, true, List, [], ◌∷◌, refl, ◌∙◌, ap}
+use Rattle.std.proofs.Common.{◌≡◌, ◌≢◌, Bool, true, List, [], ◌∷◌, Option, refl, ◌∙◌, ap}
 use Rattle.token_core.specs.Headline.{Lawful, Reprinted, end_of, ended}
 use Rattle.token_core.specs.Prints.{Print}
 use Rattle.token_core.specs.Reads.{Reader}
@@ -64,6 +64,10 @@ module _ {A E : Type 0} {attrs : Reader (List A)} {values : ReadValues E} {shown
 
   pub optional_where_clause_lawful : Lawful (promises.optional_where_clause attrs values shown spelt na ne pa pe)
   optional_where_clause_lawful = lawful (by.SpellsOptionalClause shown spelt) (told.optional_where_clause_sound g) (met.optional_where_clause_complete m) (again.optional_where_clause_again a)
+
+  -- one without predicates too, as none
+  pub optional_where_clause_reprinted : (x : Option (WhereClauseOf A E)) → (promises.optional_where_clause attrs values shown spelt na ne pa pe).plain x → Reprinted (promises.optional_where_clause attrs values shown spelt na ne pa pe) x
+  optional_where_clause_reprinted x q = reprinted (by.SpellsOptionalClause shown spelt) optional_where_clause_lawful x q.0 (again.optional_where_clause_again a x q.0 q.2) q.1
 
   pub predicate_lawful : Lawful (promises.predicate attrs values shown spelt na ne pa pe)
   predicate_lawful = lawful (by.SpellsPredicate shown spelt) (told.predicate_sound g) (met.predicate_complete m) (again.predicate_again a)
