@@ -1,3 +1,4 @@
 pub mod generics_laws
+pub mod pair_laws
 pub mod pat_laws
 pub mod ty_laws

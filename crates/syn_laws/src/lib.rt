@@ -1,6 +1,9 @@
 //! Laws of normal forms: of every tree, also one that was made by hand, the normal form is its own and prints the same, where so it is of the supplied subtree.
 //! Each is the contract of a function that does nothing. The other laws here no contract names.
+//! In `pair` stands what a layer above makes of the promises on fronts: a reader of two values with a comma between them.
 #![tactic(auto)]
+
+pub mod pair;
 
 ghost use Rattle.std.specs.Prelude.{◌≡◌, List};
 ghost use Rattle.syn_attr.specs.attr.Normal as normal;

@@ -1,0 +1,33 @@
+//! Two values with a comma between them. What their read promises is proved from the clauses of the read of one, whatever it reads.
+
+ghost use Rattle.token_core.specs.Reads.{Follows, Reader, Reads};
+ghost use Rattle.syn_laws.specs.pair.Fronts as pairs;
+
+use std::alloc::Global;
+use token_core::token::Comma;
+use token_core::{Error, Parse, ParseStream};
+
+/// Two values with a comma between them.
+#[derive(Drop)]
+pub struct Pair<T> {
+    pub first: T,
+    pub comma: Comma,
+    pub second: T,
+}
+
+/// Reads two values with a comma between them. On the front of a list it promises what the type promises there, if a comma may follow a value.
+#[tactic(auto, using(token_core::proofs::Suffixes::follows))]
+pub fn parse_pair<T: Parse>(alloc: Global, input: &mut ParseStream<'_>) -> Result<Pair<T>, Error>
+    ensures reads { (f : Reader T) → pairs.IsReadBy T.reads T.refuses f → Reads (pairs.read f input.old) result input.new }
+    ensures within { Follows input.old input.new }
+    ensures fronts { pairs.KeepsPair T.fronts input.old result input.new }
+{
+    let first = input.parse::<T>(alloc)?;
+    let comma = input.parse::<Comma>(alloc)?;
+    let second = input.parse::<T>(alloc)?;
+    Ok(Pair {
+        first,
+        comma,
+        second,
+    })
+}
