@@ -1,9 +1,14 @@
 //! Two values with a comma between them. What their read promises is proved from the clauses of the read of one, whatever it reads.
 
 ghost use Rattle.token_core.specs.Reads.{Follows, Reader, Reads};
+ghost use Rattle.syn_forms.specs.declared.places.TypePlace.TheVariants.{Plus};
+ghost use Rattle.syn_ty.specs.ty.Knot as knot;
+ghost use Rattle.syn_ty.specs.ty.Promises as promises;
 ghost use Rattle.syn_laws.specs.pair.Fronts as pairs;
 
 use std::alloc::Global;
+use syn_path::supplied::{Attributes, Value};
+use syn_ty::ty::TypeOf;
 use token_core::token::Comma;
 use token_core::{Error, Parse, ParseStream};
 
@@ -30,4 +35,16 @@ pub fn parse_pair<T: Parse>(alloc: Global, input: &mut ParseStream<'_>) -> Resul
         comma,
         second,
     })
+}
+
+/// Reads two types with a comma between them, before the end or another comma.
+pub fn parse_types<A: Attributes, E: Value>(
+    alloc: Global,
+    input: &mut ParseStream<'_>,
+) -> Result<Pair<TypeOf<A, E>>, Error>
+    ensures reads { Reads (pairs.read (knot.ty A.reads E.reads Plus) input.old) result input.new }
+    ensures within { Follows input.old input.new }
+    ensures fronts { pairs.FrontedClean (pairs.fronting (promises.ty_front A.reads E.reads A.spells E.spells A.normal E.normal A.shown E.values)) input.old result input.new }
+{
+    parse_pair::<TypeOf<A, E>>(alloc, input)
 }
