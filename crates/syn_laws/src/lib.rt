@@ -1,11 +1,12 @@
 //! Laws of normal forms: of every tree, also one that was made by hand, the normal form is its own and prints the same, where so it is of the supplied subtree.
-//! Each is the contract of a function that does nothing. The other laws here no contract names.
+//! Beside them two of prints that other readers read again. Each is the contract of a function that does nothing. The other laws here no contract names.
 //! In `pair` stands what a layer above makes of the promises on fronts: a reader of two values with a comma between them.
 #![tactic(auto)]
 
 pub mod pair;
 
-ghost use Rattle.std.specs.Prelude.{◌≡◌, List};
+ghost use Rattle.std.specs.Prelude.{◌≡◌, List, Some};
+ghost use Rattle.token_core.specs.Headline.{Reprinted};
 ghost use Rattle.syn_attr.specs.attr.Normal as normal;
 ghost use Rattle.syn_attr.specs.attr.Printing as printing;
 ghost use Rattle.syn_pat.specs.pat.Normal as normal_patterns;
@@ -14,12 +15,14 @@ ghost use Rattle.syn_path.specs.Values.{OwnValues, SameValues};
 ghost use Rattle.syn_path.specs.declared.supplied.Place.{Place};
 ghost use Rattle.syn_generics.specs.generics.Normal as normal_generics;
 ghost use Rattle.syn_generics.specs.generics.Printing as printed_generics;
+ghost use Rattle.syn_generics.specs.generics.Promises as promises;
+ghost use Rattle.syn_generics.specs.generics.Views.{stripped};
 ghost use Rattle.syn_ty.specs.ty.Normal as normal_types;
 ghost use Rattle.syn_ty.specs.ty.Printing as printed_types;
 
 use syn_attr::attr::{Attribute, Meta};
 use syn_attr::expr::Expr;
-use syn_generics::generics::GenericsOf;
+use syn_generics::generics::{GenericsOf, WhereClauseOf};
 use syn_pat::pat::Pat;
 use syn_path::supplied::{Attributes, Subtree, Value};
 use syn_ty::ty::TypeOf;
@@ -72,6 +75,16 @@ pub fn generics<A: Attributes, E: Value>(tree: &GenericsOf<A, E>)
     requires same_values { SameValues E.normal E.values }
     ensures stays { normal_generics.generics A.normal E.normal (normal_generics.generics A.normal E.normal tree.now) ≡ normal_generics.generics A.normal E.normal tree.now }
     ensures same { printed_generics.generics A.shown E.values (normal_generics.generics A.normal E.normal tree.now) ≡ printed_generics.generics A.shown E.values tree.now }
+{}
+
+/// The print of `ImplGenerics`, of generics that spell some list plainly: `Generics` reads it as the normal form of these without defaults and where clause.
+pub fn impl_generics<A: Attributes, E: Value>(tree: &GenericsOf<A, E>)
+    ensures again { (promises.generics A.reads E.reads A.spells E.spells A.normal E.normal A.shown E.values).plain tree.now → Reprinted (promises.generics A.reads E.reads A.spells E.spells A.normal E.normal A.shown E.values) (stripped tree.now) }
+{}
+
+/// The print of a where clause that spells some list plainly: an optional where clause reads it as the normal form, none without predicates.
+pub fn where_clause<A: Attributes, E: Value>(tree: &WhereClauseOf<A, E>)
+    ensures again { (promises.optional_where_clause A.reads E.reads A.spells E.spells A.normal E.normal A.shown E.values).plain (Some tree.now) → Reprinted (promises.optional_where_clause A.reads E.reads A.spells E.spells A.normal E.normal A.shown E.values) (Some tree.now) }
 {}
 
 /// The normal form of a pattern.

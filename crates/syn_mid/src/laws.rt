@@ -1,3 +1,3 @@
-//! Laws of normal forms, each the contract of a call that does nothing.
+//! Laws of normal forms and of prints, each the contract of a call that does nothing.
 
-pub use syn_laws::{attributes, expression, generics, meta, pat, ty};
+pub use syn_laws::{attributes, expression, generics, impl_generics, meta, pat, ty, where_clause};

@@ -1,0 +1,11 @@
+use Rattle.syn_generics.proofs.generics_laws.WholeLaws.{stripped_reprinted}
+use Rattle.syn_ty.proofs.ty_laws.Given.{given}
+use Rattle.syn_ty.proofs.ty_laws.GivenWhole.{given_again, given_meets}
+use Rattle.syn_laws.proofs.impl_generics.Goals as goal
+
+pub returns : goal.returns
+returns g c = record {
+  again =
+      stripped_reprinted (given g.met.A.Attributes.told g.met.E.Value.consts g.met.E.Value.lengths) (given_meets g.met.A.Attributes.met g.met.E.Value.met g.met.E.Value.lengths)
+      (given_again g.met.A.Attributes.met g.met.E.Value.met g.met.E.Value.lengths g.met.A.Attributes.bare) c.args.tree.now;
+}
