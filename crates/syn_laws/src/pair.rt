@@ -1,5 +1,6 @@
 //! Two values with a comma between them. What their read promises is proved from the clauses of the read of one, whatever it reads.
 
+ghost use Rattle.token_core.specs.Fronted.{Fronted};
 ghost use Rattle.token_core.specs.Reads.{Follows, Reader, Reads};
 ghost use Rattle.syn_forms.specs.declared.places.TypePlace.TheVariants.{Plus};
 ghost use Rattle.syn_ty.specs.ty.Knot as knot;
@@ -44,7 +45,7 @@ pub fn parse_types<A: Attributes, E: Value>(
 ) -> Result<Pair<TypeOf<A, E>>, Error>
     ensures reads { Reads (pairs.read (knot.ty A.reads E.reads Plus) input.old) result input.new }
     ensures within { Follows input.old input.new }
-    ensures fronts { pairs.FrontedClean (pairs.fronting (promises.ty_front A.reads E.reads A.spells E.spells A.normal E.normal A.shown E.values)) input.old result input.new }
+    ensures fronts { Fronted (pairs.fronting (promises.ty_front A.reads E.reads A.spells E.spells A.normal E.normal A.shown E.values)) input.old result input.new }
 {
     parse_pair::<TypeOf<A, E>>(alloc, input)
 }

@@ -14,7 +14,8 @@ module _ {A : Type 0} (G : Grammar A) (laws : Lawful G) where
   again_at : (a : A) (o : Outcome A) (t : Stream) → o ≡ Ok (a, t) → leaves t ≡ None → end_of o ≡ Ok a
   again_at a o t e n = ap end_of e ∙ ap (ended a t) n
 
-  again : (l : Toks) (a : A) → Visible l → G.spells true a l → whole G.reader l ≡ Ok a
+  -- a whole read answers what is spelt clearly
+  pub again : (l : Toks) (a : A) → Visible l → G.spells true a l → whole G.reader l ≡ Ok a
   again l a v h = let k = laws.complete (started none l) a refl v h in again_at a (G.reader (started none l)) k.0 k.1 k.2
 
   reprinted : (l : Toks) (a : A) → Visible l → G.spells false a l → G.plain a → Reprinted G a

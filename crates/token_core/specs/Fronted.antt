@@ -30,16 +30,16 @@ pub record FrontAgain {A : Type 0} (F : Fronting A) (a : A) (k : Toks) : Type 0 
   pub same : F.grammar.print (F.grammar.normal a) ≡ F.grammar.print a
   pub again : (s : Stream) → s.left ≡ None → s.rest ≡ printed_on F a k → ReadTo F (F.grammar.normal a) s k
 
--- Where no tree was left over and what may follow stands there, an answer spells what was taken. Each tree that spells a front clearly, before what may follow, is the answer, and nothing was left over. Its print is read again.
+-- Before what may follow, an answer spells what was taken, and its print is read again. Each tree that spells a front clearly, before what may follow, is the answer.
 pub record Begun {A : Type 0} (F : Fronting A) (s t : Stream) (a : A) : Type 0 where
-  pub sound : t.left ≡ None → F.follows t.rest ≡ true → F.begins false a s.rest t.rest
   pub visible : Visible t.rest
-  pub unique : (b : A) (k : Toks) → F.begins true b s.rest k → F.follows k ≡ true → (b ≡ a) × (t.rest ≡ k) × (t.left ≡ None)
-  pub reprint : F.grammar.plain a → (k : Toks) → Visible k → F.follows k ≡ true → FrontAgain F a k
+  pub sound : F.follows t.rest ≡ true → F.begins false a s.rest t.rest
+  pub unique : (b : A) (k : Toks) → F.begins true b s.rest k → F.follows k ≡ true → (b ≡ a) × (t.rest ≡ k)
+  pub reprint : F.follows t.rest ≡ true → F.grammar.plain a → (k : Toks) → Visible k → F.follows k ≡ true → FrontAgain F a k
 
--- A read of a list without invisible groups, where nothing was left over before, promises this; where it is refused, no tree spells a front clearly before what may follow.
+-- What a read of a list without invisible groups promises, where nothing was left over before: its answer is so, if it left no tree over in a group; if it left one, or was refused, no tree spells a front clearly before what may follow.
 abbrev pub Fronted : {A : Type 0} → Fronting A → Stream → Result A Refusal → Stream → Type 0
-Fronted F s (Ok a) t = s.left ≡ None → Visible s.rest → Begun F s t a
+Fronted F s (Ok a) t = s.left ≡ None → Visible s.rest → (t.left ≡ None → Begun F s t a) × ((b : _) (k : Toks) → F.begins true b s.rest k → F.follows k ≡ true → t.left ≡ None)
 Fronted F s (Err e) t = e.kind ≢ OutOfMemory → s.left ≡ None → Visible s.rest → (b : _) (k : Toks) → F.begins true b s.rest k → F.follows k ≡ true → ⊥
 
 -- What a type says of fronts: nothing, or what its grammar promises.
@@ -54,9 +54,9 @@ KeepsFront (said F) s r t = Fronted F s r t
 -- ---- the laws of a grammar and its read on fronts, from which it follows
 
 pub record FrontLaws {A : Type 0} (F : Fronting A) : Type 0 where
-  pub sound : (s t : Stream) (a : A) → s.left ≡ None → Visible s.rest → F.grammar.reader s ≡ Ok (a, t) → Visible t.rest × (t.left ≡ None → F.follows t.rest ≡ true → F.begins false a s.rest t.rest)
+  pub sound : (s t : Stream) (a : A) → s.left ≡ None → Visible s.rest → F.grammar.reader s ≡ Ok (a, t) → t.left ≡ None → Visible t.rest × (F.follows t.rest ≡ true → F.begins false a s.rest t.rest)
   pub complete : (s : Stream) (a : A) (k : Toks) → s.left ≡ None → Visible s.rest → F.begins true a s.rest k → F.follows k ≡ true → ReadTo F a s k
-  pub spells : (a : A) (k : Toks) → F.grammar.plain a → F.follows k ≡ true → F.begins true (F.grammar.normal a) (printed_on F a k) k
-  pub visible : (a : A) (k : Toks) → F.grammar.plain a → Visible k → F.follows k ≡ true → Visible (printed_on F a k)
-  pub stays : (a : A) → F.grammar.plain a → F.grammar.normal (F.grammar.normal a) ≡ F.grammar.normal a
-  pub same : (a : A) → F.grammar.plain a → F.grammar.print (F.grammar.normal a) ≡ F.grammar.print a
+  pub spells : (a : A) (l r k : Toks) → F.begins false a l r → F.grammar.plain a → F.follows k ≡ true → F.begins true (F.grammar.normal a) (printed_on F a k) k
+  pub visible : (a : A) (l r k : Toks) → F.begins false a l r → Visible l → F.grammar.plain a → Visible k → F.follows k ≡ true → Visible (printed_on F a k)
+  pub stays : (a : A) (l r : Toks) → F.begins false a l r → F.grammar.plain a → F.grammar.normal (F.grammar.normal a) ≡ F.grammar.normal a
+  pub same : (a : A) (l r : Toks) → F.begins false a l r → F.grammar.plain a → F.grammar.print (F.grammar.normal a) ≡ F.grammar.print a

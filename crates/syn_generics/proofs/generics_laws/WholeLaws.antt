@@ -1,13 +1,12 @@
 -- Each grammar of this layer meets its laws, where those of attributes and expressions are given: its read is sound and complete, and what it spells plainly is reprinted.
-use Rattle.std.proofs.Common.{◌≡◌, ◌≢◌, Bool, true, List, [], ◌∷◌, Option, refl, ◌∙◌, ap}
-use Rattle.token_core.specs.Headline.{Lawful, Reprinted, end_of, ended}
+use Rattle.std.proofs.Common.{◌≡◌, ◌≢◌, Bool, true, List, [], ◌∷◌, Option, refl}
+use Rattle.token_core.specs.Headline.{Lawful, Reprinted}
 use Rattle.token_core.specs.Prints.{Print}
 use Rattle.token_core.specs.Reads.{Reader}
 use Rattle.token_core.specs.Rebuilt.{Visible}
-use Rattle.token_core.specs.Spans.{none}
-use Rattle.token_core.specs.Stream.{started}
 use Rattle.token_core.specs.Toks.{Toks, done}
 use Rattle.token_core.specs.Trees.{row}
+use Rattle.token_core.proofs.Headlines.{again as again_whole}
 use Rattle.syn_path.specs.Values.{NormalValues, ReadValues, SpelledValues, Values}
 use Rattle.syn_path.proofs.Words.{Again}
 use Rattle.syn_generics.specs.declared.generics.GenericsOf.{GenericsOf}
@@ -32,8 +31,7 @@ use Rattle.syn_ty.proofs.ty_laws.WholeLaws.{lawful}
 reprinted : {F : Type 0} (Is : Manner → F → Toks → Type 0) {n : F → F} {f : F → Print} {reader : Reader F} → Lawful (promise Is n f reader) → (x : F) (l : Toks) → Again (Is clearly) n f x l → Visible l → Reprinted (promise Is n f reader) x
 reprinted Is {n = n} {f = f} laws x l w v =
     let seen = w.visible v in
-    let k = laws.complete (started none (row (f x) done)) (n x) refl seen w.spelt in
-    record { spells = w.spelt; visible = seen; stays = w.stays; same = w.same; again = ap end_of k.1 ∙ ap (ended (n x) k.0) k.2 }
+    record { spells = w.spelt; visible = seen; stays = w.stays; same = w.same; again = again_whole (promise Is n f _) laws (row (f x) done) (n x) seen w.spelt }
 
 module _ {A E : Type 0} {attrs : Reader (List A)} {values : ReadValues E} {shown : Bool → List A → Toks → Toks → Type 0} {spelt : SpelledValues E} {na : List A → List A} {ne : NormalValues E} {pa : List A → Print} {pe : Values E}
     (g : Given attrs values shown spelt) (m : GivenMeets attrs values shown spelt) (a : GivenAgain na ne pa pe shown spelt) where

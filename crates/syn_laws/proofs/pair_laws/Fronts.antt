@@ -19,7 +19,7 @@ use Rattle.token_core.proofs.Steps.{Reads_to, link}
 use Rattle.token_core.proofs.Took.{at}
 use Rattle.token_core.proofs.Turns.{same_pair}
 use Rattle.syn_laws.specs.declared.pair.Pair.{Pair}
-use Rattle.syn_laws.specs.pair.Fronts.{BeforeComma, Begins, FrontedClean, KeepsPair, fronting, grammar, pair_of, read}
+use Rattle.syn_laws.specs.pair.Fronts.{BeforeComma, Begins, KeepsPair, fronting, grammar, pair_of, read}
 
 -- where none was left over after, none was before
 none_at : (a b : Option Span) → first_of a b ≡ b → b ≡ None → a ≡ None
@@ -41,37 +41,33 @@ comma_same s t c d l n g e i =
     let same = same_pair d c (at n s.left m.last s.scope) t (sym m.reads ∙ g) in
     (same.0, ap (λ (z : Stream). z.rest) (sym same.1), ap (λ (z : Stream). z.left) (sym same.1))
 
--- what is promised is kept where no tree was left over
-pub cleaned : {A : Type 0} (F : Fronting A) (s t : Stream) (r : Result A Refusal) → Fronted F s r t → FrontedClean F s r t
-cleaned F s t (Ok a) h = λ n v. (λ e. h n v, λ b k i o. ((h n v).unique b k i o).2)
-cleaned F s t (Err e) h = h
-
 module _ {T : Type 0} (F : Fronting T) (may : BeforeComma F) where
   -- what follows the first of a pair that is spelt
   comma_after : (x : Pair T) (l k : Toks) (i : Begins F true x l k) → F.follows i.at ≡ true
   comma_after x l k i = may i.at (mark_seen true x.comma i.at i.past i.comma)
 
   -- the first of a pair that is spelt is what was read
-  first_same : (s t : Stream) (a : T) → FrontedClean F s (Ok a) t → s.left ≡ None → Visible s.rest → (x : Pair T) (k : Toks) (i : Begins F true x s.rest k) → (x.first ≡ a) × (t.rest ≡ i.at) × (t.left ≡ None) × Visible i.at
+  first_same : (s t : Stream) (a : T) → Fronted F s (Ok a) t → s.left ≡ None → Visible s.rest → (x : Pair T) (k : Toks) (i : Begins F true x s.rest k) → (x.first ≡ a) × (t.rest ≡ i.at) × (t.left ≡ None) × Visible i.at
   first_same s t a h n v x k i =
       let o = comma_after x s.rest k i in
-      let b = (h n v).0 ((h n v).1 x.first i.at i.first o) in
+      let e = (h n v).1 x.first i.at i.first o in
+      let b = (h n v).0 e in
       let u = b.unique x.first i.at i.first o in
-      (u.0, u.1, u.2, subst Visible u.1 b.visible)
+      (u.0, u.1, e, subst Visible u.1 b.visible)
 
   -- ---- refused
 
-  pub no_first : (s t : Stream) (e : Refusal) → FrontedClean F s (Err e) t → FrontedClean (fronting F) s (Err e) t
+  pub no_first : (s t : Stream) (e : Refusal) → Fronted F s (Err e) t → Fronted (fronting F) s (Err e) t
   no_first s t e h = λ k n v x m i o. h k n v x.first i.at i.first (comma_after x s.rest m i)
 
-  pub no_comma : (s t u : Stream) (a : T) (e : Refusal) → FrontedClean F s (Ok a) t → (e.kind ≢ OutOfMemory → token.comma t ≡ Err e) → FrontedClean (fronting F) s (Err e) u
+  pub no_comma : (s t u : Stream) (a : T) (e : Refusal) → Fronted F s (Ok a) t → (e.kind ≢ OutOfMemory → token.comma t ≡ Err e) → Fronted (fronting F) s (Err e) u
   no_comma s t u a e h r = λ k n v x m i o.
       let f = first_same s t a h n v x m i in
       let c = comma_met t x.comma i.at i.past f.1 i.comma in
       let w : ◌≡◌ {A = Outcome token.Comma} (Err e) (Ok (x.comma, at i.past t.left c.last t.scope)) = sym (r k) ∙ c.reads in
       absurd (cc)
 
-  pub no_second : (s t u w : Stream) (a : T) (c : token.Comma) (e : Refusal) → FrontedClean F s (Ok a) t → token.comma t ≡ Ok (c, u) → FrontedClean F u (Err e) w → FrontedClean (fronting F) s (Err e) w
+  pub no_second : (s t u w : Stream) (a : T) (c : token.Comma) (e : Refusal) → Fronted F s (Ok a) t → token.comma t ≡ Ok (c, u) → Fronted F u (Err e) w → Fronted (fronting F) s (Err e) w
   no_second s t u w a c e h g r = λ k n v x m i o.
       let f = first_same s t a h n v x m i in
       let d = comma_same t u c x.comma i.at i.past g f.1 i.comma in
@@ -102,7 +98,7 @@ module _ {T : Type 0} (F : Fronting T) (may : BeforeComma F) where
       again = read_again;
     }
 
-  module _ (s t u w : Stream) (a b : T) (c : token.Comma) (h : FrontedClean F s (Ok a) t) (g : token.comma t ≡ Ok (c, u)) (i : FrontedClean F u (Ok b) w) (n : s.left ≡ None) (v : Visible s.rest) where
+  module _ (s t u w : Stream) (a b : T) (c : token.Comma) (h : Fronted F s (Ok a) t) (g : token.comma t ≡ Ok (c, u)) (i : Fronted F u (Ok b) w) (n : s.left ≡ None) (v : Visible s.rest) where
     -- one that is spelt is the one that was read, up to its second
     parts_same : (x : Pair T) (k : Toks) (q : Begins F true x s.rest k) → (x.first ≡ a) × (x.comma ≡ c) × (u.rest ≡ q.past) × (u.left ≡ None) × Visible u.rest
     parts_same x k q =
@@ -114,26 +110,30 @@ module _ {T : Type 0} (F : Fronting T) (may : BeforeComma F) where
     left_none : (x : Pair T) (k : Toks) → Begins F true x s.rest k → F.follows k ≡ true → w.left ≡ None
     left_none x k q o = let d = parts_same x k q in (i d.3 d.4).1 x.second k (subst (λ y. F.begins true x.second y k) (sym d.2) q.second) o
 
-    module _ (first : Begun F s t a) (second : Begun F u w b) (mark : IsMark false c t.rest u.rest) (ends : t.left ≡ None) where
-      pair_same : (x : Pair T) (k : Toks) → Begins F true x s.rest k → F.follows k ≡ true → (x ≡ pair_of a c b) × (w.rest ≡ k) × (w.left ≡ None)
+    module _ (first : Begun F s t a) (second : Begun F u w b) (mark : IsMark false c t.rest u.rest) where
+      pair_same : (x : Pair T) (k : Toks) → Begins F true x s.rest k → F.follows k ≡ true → (x ≡ pair_of a c b) × (w.rest ≡ k)
       pair_same x k q o =
           let d = parts_same x k q in
           let e = second.unique x.second k (subst (λ y. F.begins true x.second y k) (sym d.2) q.second) o in
-          (ap (λ y. pair_of y x.comma x.second) d.0 ∙ ap (λ y. pair_of a y x.second) d.1 ∙ ap (λ y. pair_of a c y) e.0, e.1, e.2)
+          (ap (λ y. pair_of y x.comma x.second) d.0 ∙ ap (λ y. pair_of a y x.second) d.1 ∙ ap (λ y. pair_of a c y) e.0, e.1)
 
-      reprinted : F.grammar.plain a → F.grammar.plain b → (k : Toks) → Visible k → F.follows k ≡ true → FrontAgain (fronting F) (pair_of a c b) k
-      reprinted x y k z o =
-          let e = second.reprint y k z o in
+      -- a comma follows the first
+      comma_follows : F.follows t.rest ≡ true
+      comma_follows = may t.rest (mark_seen false c t.rest u.rest mark)
+
+      reprinted : F.follows w.rest ≡ true → F.grammar.plain a → F.grammar.plain b → (k : Toks) → Visible k → F.follows k ≡ true → FrontAgain (fronting F) (pair_of a c b) k
+      reprinted f x y k z o =
+          let e = second.reprint f y k z o in
           let m = mark_again false c t.rest u.rest (printed_on F b k) mark in
           let l = row (p.mark c) (printed_on F b k) in
-          pair_again a b c k m (first.reprint x l (mark_whole true c l (printed_on F b k) m e.visible) (may l (mark_seen true c l (printed_on F b k) m))) e
+          pair_again a b c k m (first.reprint comma_follows x l (mark_whole true c l (printed_on F b k) m e.visible) (may l (mark_seen true c l (printed_on F b k) m))) e
 
       begun : Begun (fronting F) s w (pair_of a c b)
       begun = record {
-        sound = λ e o. record { at = t.rest; past = u.rest; first = first.sound ends (may t.rest (mark_seen false c t.rest u.rest mark)); comma = mark; second = second.sound e o };
         visible = second.visible;
+        sound = λ o. record { at = t.rest; past = u.rest; first = first.sound comma_follows; comma = mark; second = second.sound o };
         unique = pair_same;
-        reprint = λ x. reprinted x.0 x.1;
+        reprint = λ f x. reprinted f x.0 x.1;
       }
 
     begun_clean : Follows t u → Follows u w → w.left ≡ None → Begun (fronting F) s w (pair_of a c b)
@@ -142,9 +142,9 @@ module _ {T : Type 0} (F : Fronting T) (may : BeforeComma F) where
         let tn = none_before t u f un in
         let first = (h n v).0 tn in
         let m = mark_sound {n = 4} {k = 1} refl (omega arith) t u c first.visible g in
-        begun first ((i un (mark_visible false c t.rest u.rest m.spelt first.visible)).0 e) m.spelt tn
+        begun first ((i un (mark_visible false c t.rest u.rest m.spelt first.visible)).0 e) m.spelt
 
-  pub paired : (s t u w : Stream) (a b : T) (c : token.Comma) → FrontedClean F s (Ok a) t → token.comma t ≡ Ok (c, u) → FrontedClean F u (Ok b) w → Follows t u → Follows u w → FrontedClean (fronting F) s (Ok (pair_of a c b)) w
+  pub paired : (s t u w : Stream) (a b : T) (c : token.Comma) → Fronted F s (Ok a) t → token.comma t ≡ Ok (c, u) → Fronted F u (Ok b) w → Follows t u → Follows u w → Fronted (fronting F) s (Ok (pair_of a c b)) w
   paired s t u w a b c h g i f j = λ n v. (begun_clean s t u w a b c h g i n v f j, left_none s t u w a b c h g i n v)
 
 -- ---- of what a type says of fronts
@@ -156,17 +156,17 @@ refusal_is (Err d) e h = ap (λ z. Err z) h.1
 module _ {T : Type 0} where
   pub keeps_no_first : (f : Fronts T) (s t : Stream) (e : Refusal) (r : Result (Pair T) Refusal) → IsErr r × IsErrAnd r (λ z. z ≡ e) → KeepsFront f s (Err e) t → KeepsPair f s r t
   keeps_no_first unsaid s t e r q h = tt
-  keeps_no_first (said F) s t e r q h = λ may. subst (λ z. FrontedClean (fronting F) s z t) (sym (refusal_is r e q)) (no_first F may s t e h)
+  keeps_no_first (said F) s t e r q h = λ may. subst (λ z. Fronted (fronting F) s z t) (sym (refusal_is r e q)) (no_first F may s t e h)
 
   pub keeps_no_comma : (f : Fronts T) (s t u : Stream) (a : T) (e : Refusal) (r : Result (Pair T) Refusal) → IsErr r × IsErrAnd r (λ z. z ≡ e) → KeepsFront f s (Ok a) t → (e.kind ≢ OutOfMemory → token.comma t ≡ Err e) → KeepsPair f s r u
   keeps_no_comma unsaid s t u a e r q h g = tt
-  keeps_no_comma (said F) s t u a e r q h g = λ may. subst (λ z. FrontedClean (fronting F) s z u) (sym (refusal_is r e q)) (no_comma F may s t u a e (cleaned F s t (Ok a) h) g)
+  keeps_no_comma (said F) s t u a e r q h g = λ may. subst (λ z. Fronted (fronting F) s z u) (sym (refusal_is r e q)) (no_comma F may s t u a e h g)
 
   pub keeps_no_second : (f : Fronts T) (s t u w : Stream) (a : T) (c : token.Comma) (e : Refusal) (r : Result (Pair T) Refusal) → IsErr r × IsErrAnd r (λ z. z ≡ e) →
       KeepsFront f s (Ok a) t → token.comma t ≡ Ok (c, u) → KeepsFront f u (Err e) w → KeepsPair f s r w
   keeps_no_second unsaid s t u w a c e r q h g i = tt
-  keeps_no_second (said F) s t u w a c e r q h g i = λ may. subst (λ z. FrontedClean (fronting F) s z w) (sym (refusal_is r e q)) (no_second F may s t u w a c e (cleaned F s t (Ok a) h) g i)
+  keeps_no_second (said F) s t u w a c e r q h g i = λ may. subst (λ z. Fronted (fronting F) s z w) (sym (refusal_is r e q)) (no_second F may s t u w a c e h g i)
 
   pub keeps_pair : (f : Fronts T) (s t u w : Stream) (a b : T) (c : token.Comma) → KeepsFront f s (Ok a) t → token.comma t ≡ Ok (c, u) → KeepsFront f u (Ok b) w → Follows t u → Follows u w → KeepsPair f s (Ok (pair_of a c b)) w
   keeps_pair unsaid s t u w a b c h g i j k = tt
-  keeps_pair (said F) s t u w a b c h g i j k = λ may. paired F may s t u w a b c (cleaned F s t (Ok a) h) g (cleaned F u w (Ok b) i) j k
+  keeps_pair (said F) s t u w a b c h g i j k = λ may. paired F may s t u w a b c h g i j k

@@ -1,10 +1,9 @@
 -- Two values with a comma between them: which lists they spell, what they print, how they are read, and what that read promises on the front of a list.
-use Rattle.std.specs.Prelude.{◌≡◌, Bool, true, ◌++◌, None, Result, Ok, Err}
-use Rattle.token_core.specs.Fronted.{Begun, Fronting, Fronts, unsaid, said, Fronted}
+use Rattle.std.specs.Prelude.{◌≡◌, Bool, true, ◌++◌, Result, Ok, Err}
+use Rattle.token_core.specs.Fronted.{Fronting, Fronts, unsaid, said, Fronted}
 use Rattle.token_core.specs.Headline.{Grammar}
 use Rattle.token_core.specs.Prints as p
 use Rattle.token_core.specs.Reads.{Reader, ◌>>=◌, pure}
-use Rattle.token_core.specs.Rebuilt.{Visible}
 use Rattle.token_core.specs.Refusal.{Refusal}
 use Rattle.token_core.specs.Spellings.{IsMark}
 use Rattle.token_core.specs.Stream.{Stream}
@@ -54,12 +53,7 @@ module _ {T : Type 0} (F : Fronting T) where
   abbrev pub BeforeComma : Type 0
   BeforeComma = (k : Toks) → token.sees_comma k ≡ true → F.follows k ≡ true
 
--- Where a read left no tree over, its answer is as it should be; where it left one, or was refused, no tree spells a front clearly before what may follow.
-abbrev pub FrontedClean : {A : Type 0} → Fronting A → Stream → Result A Refusal → Stream → Type 0
-FrontedClean F s (Ok a) t = s.left ≡ None → Visible s.rest → (t.left ≡ None → Begun F s t a) × ((b : _) (k : Toks) → F.begins true b s.rest k → F.follows k ≡ true → t.left ≡ None)
-FrontedClean F s (Err e) t = Fronted F s (Err e) t
-
 -- what a read of a pair promises, by what the type says of fronts
 abbrev pub KeepsPair : {T : Type 0} → Fronts T → Stream → Result (Pair T) Refusal → Stream → Type 0
 KeepsPair unsaid s r t = Unit {0}
-KeepsPair (said F) s r t = BeforeComma F → FrontedClean (fronting F) s r t
+KeepsPair (said F) s r t = BeforeComma F → Fronted (fronting F) s r t

@@ -38,12 +38,12 @@ Met {F} reader Is follows = (s : Stream) (x : F) (k : Toks) → Is clearly x s.r
 
 pub lawful_on_fronts : {F : Type 0} (Is : Manner → Relation F) {n : F → F} {f : F → Print} {reader : Reader F} (follows : Toks → Bool) → Told reader Is → Met reader Is follows → again.Fronts Is n f → FrontLaws (fronting (promise (λ how x l. Is how x l done) n f reader) Is follows)
 lawful_on_fronts Is follows told met reprint = record {
-  sound = λ s t a e v h. let k = told s t a v h in (k.seen, λ c o. k.spelt c);
+  sound = λ s t a e v h c. let k = told s t a v h in (k.seen, λ o. k.spelt c);
   complete = λ s a k e v i o. let w = met s a k i o in (at k s.left w.last s.scope, w.reads, refl, e);
-  spells = λ a k p o. (reprint a p.0 done p.2).spelt k;
-  visible = λ a k p v o. (reprint a p.0 done p.2).visible k p.1 v;
-  stays = λ a p. (reprint a p.0 done p.2).stays;
-  same = λ a p. (reprint a p.0 done p.2).same;
+  spells = λ a l r k i p o. (reprint a p.0 done p.2).spelt k;
+  visible = λ a l r k i u p v o. (reprint a p.0 done p.2).visible k p.1 v;
+  stays = λ a l r i p. (reprint a p.0 done p.2).stays;
+  same = λ a l r i p. (reprint a p.0 done p.2).same;
 }
 
 -- ---- types
