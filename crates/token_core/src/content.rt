@@ -112,9 +112,11 @@ impl<T> Content<T> {
 }
 
 impl<T: Drop> Content<T> {
-    pub fn shared(alloc: Global, list: Items<T>) -> Result<Content<T>, AllocError>
+    /// A list that is shared, in no more room than it needs.
+    pub fn shared(alloc: Global, mut list: Items<T>) -> Result<Content<T>, AllocError>
         ensures { IfOk result (λ c. c ≡ list) }
     {
+        list.shrink_to_fit();
         Ok(Content {
             kept: Keep::Shared(Held::new(alloc, list)?),
         })
