@@ -7,7 +7,7 @@ use arrayvec::ArrayString;
 use std::alloc::{AllocError, Global};
 use std::marker::Model;
 
-/// A text that contracts see as its bytes. One of up to 24 bytes takes no memory.
+/// A text that contracts see as its bytes. One of up to 16 bytes takes no memory.
 #[derive(Drop)]
 pub struct Text {
     kept: Kept,
@@ -17,7 +17,7 @@ pub struct Text {
 /// Where a text stands.
 #[derive(Drop)]
 enum Kept {
-    Short(ArrayString<24>),
+    Short(ArrayString<16>),
     Long(String),
 }
 
