@@ -2,7 +2,7 @@
 use Rattle.std.proofs.Common.{◌≡◌, ℕ, ◌+◌, ◌-◌, ◌<◌, List, [], ◌∷◌, ◌++◌, map, length, take, get_or, refl, sym, ap, ◌∙◌, append_assoc, append-nil, arith}
 use Rattle.std.proofs.Math.ListN.{set, length-map}
 use Rattle.std.proofs.lemmas.List.{map-append, map-set, length-append, map_more}
-use Rattle.token_core.specs.declared.buffer.Entry.{Entry}
+use Rattle.token_core.specs.declared.class.Entry.{Entry}
 use Rattle.token_core.specs.declared.tree.TokenTree.{TokenTree}
 use Rattle.token_core.specs.Seen.{Seen}
 use Rattle.token_core.specs.Entries.{Flat, saw, all_of, flat_tree}

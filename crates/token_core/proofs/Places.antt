@@ -10,7 +10,7 @@ use Rattle.token_core.specs.declared.tree.TokenTree.TheOpen as o
 use Rattle.token_core.specs.declared.tree.TokenTree.TheVariants as t
 use Rattle.token_core.specs.declared.tree.TokenTree.TheVariants.{outs-Group}
 use Rattle.token_core.specs.declared.tree.Group.{Group}
-use Rattle.token_core.specs.declared.buffer.Entry.{Entry}
+use Rattle.token_core.specs.declared.class.Entry.{Entry}
 use Rattle.token_core.specs.Toks.{Toks, done, word, mark, lit, group, enter, leave}
 use Rattle.token_core.specs.Trees.{TokenStream, delimiter_of, span_of, content_of}
 use Rattle.token_core.specs.Seen.{view, saw_delimiter, view-enter}

@@ -1,7 +1,7 @@
 -- The items of tokens: those of trees, and those that entries show.
 use Rattle.std.proofs.Common.{◌≡◌, ℕ, zero, suc, ◌+◌, ◌≤◌, List, [], ◌∷◌, ◌++◌, map, length, take, drop, refl, sym, ap, subst, ◌∙◌, append_assoc, arith}
 use Rattle.std.proofs.lemmas.List.{length-map, length-take, length-drop, take-append-drop, map-append}
-use Rattle.token_core.specs.declared.buffer.Entry.{Entry}
+use Rattle.token_core.specs.declared.class.Entry.{Entry}
 use Rattle.token_core.specs.declared.tree.Delimiter.{Delimiter}
 use Rattle.token_core.specs.declared.tree.Delimiter.TheVariants.{Parenthesis, Brace, Bracket, None}
 use Rattle.token_core.specs.declared.span.DelimSpan.{DelimSpan}

@@ -5,7 +5,7 @@ use Rattle.std.proofs.lemmas.Bool.{cases_Bool, false≢true}
 use Rattle.std.proofs.lemmas.Slice.Eq.{bytes_eq-Decides}
 use Rattle.std.proofs.lemmas.List.{drop-map}
 use Rattle.token_core.specs.declared.class.Class.{Class}
-use Rattle.token_core.specs.declared.class.Class.TheVariants.{Word, Raw, Ident, Open}
+use Rattle.token_core.specs.declared.class.Class.TheVariants.{Word, Raw, Ident, Open, End}
 use Rattle.token_core.specs.declared.span.Span.{Span}
 use Rattle.token_core.specs.declared.mark.Spans.{Spans}
 use Rattle.token_core.specs.declared.tree.Punct.{Punct}
@@ -14,7 +14,7 @@ use Rattle.token_core.specs.Toks.{Bytes, Toks, done, word, mark, lit, group, ent
 use Rattle.token_core.specs.Seen.{Seen, view, saw_word, saw_mark, saw_lit, saw_group, saw_enter, saw_leave, saw_delimiter, view-nil, view-word, view-mark, view-lit, view-group, view-enter, view-leave}
 use Rattle.token_core.specs.Front.{front, settled}
 use Rattle.token_core.specs.Keywords.{keywords, words, word_count, is_one_of, is_keyword}
-use Rattle.token_core.specs.Classes.{numbered, among, word_number, builtin_number, true_number, false_number, is_raw, classed, text_class, layer_class, class_of}
+use Rattle.token_core.specs.Classes.{numbered, among, word_number, builtin_number, true_number, false_number, is_raw, classed, text_class, layer_class, class_of, is_end}
 use Rattle.token_core.specs.Reads as reads
 use Rattle.token_core.specs.Reads.{past, next_word, word_past, word_if, as_word, as_punct, as_group, as_lit, word_meets, group_meets, sees_word, sees_mark, sees_group, any_text, is_text, past_mark, past_next, put_first, is_last, is_joint, after_one, is_done}
 use Rattle.token_core.specs.Lifetimes.{with_ident, with_quote, sees_lifetime}
@@ -26,8 +26,7 @@ use Rattle.token_core.specs.declared.span.DelimSpan.{DelimSpan}
 use Rattle.token_core.specs.declared.tree.Delimiter.TheVariants as d
 use Rattle.token_core.specs.declared.tree.TokenTree.TheOpen as o
 use Rattle.token_core.specs.Trees.{TokenStream, delimiter_of, span_of, content_of}
-use Rattle.token_core.specs.declared.buffer.Entry.{Entry}
-use Rattle.token_core.specs.declared.buffer.Entry.TheVariants.{Tree, End}
+use Rattle.token_core.specs.declared.class.Entry.{Entry}
 use Rattle.token_core.specs.declared.tree.TokenTree.{out-TokenTree}
 use Rattle.token_core.specs.Groups.{as_invisible, is_there}
 use Rattle.token_core.specs.Entries.{Layer, saw, saw_layer, entries_view, Nested}
@@ -36,10 +35,10 @@ use Rattle.token_core.specs.Front as f
 use Rattle.token_core.specs.declared.tree.Ident as tree
 use Rattle.token_core.specs.Stream.{Stream}
 use Rattle.token_core.specs.Refusal.{Refusal}
-use Rattle.token_core.proofs.Classes.{both_left, both_right}
+use Rattle.token_core.proofs.Classes.{layer_classed, both_left, both_right}
 use Rattle.token_core.proofs.Fronts.{settled-front, nested_from}
 use Rattle.token_core.specs.Sees as sees
-use Rattle.token_core.specs.Sees.{class_at, rest_of, first_class, after_first, is_any_ident, is_ident, is_word, is_group, is_quote, is_char, are_chars, is_lifetime, after_class, literal_kind, kind_meets, is_lit, is_lit_at, is_end, bounds}
+use Rattle.token_core.specs.Sees.{class_at, rest_of, first_class, after_first, is_any_ident, is_ident, is_word, is_group, is_quote, is_char, are_chars, is_lifetime, after_class, literal_kind, kind_meets, is_lit, is_lit_at, bounds}
 
 -- ---- the first entry that is no bound
 
@@ -86,6 +85,10 @@ eq_less a b h = grind (arith, h)
 eq_more : (a b : ℕ) → b < a → nat_eq a b ≡ false
 eq_more a b h = grind (arith, h)
 
+-- an entry that is an end or none
+abbrev seen_as : Bool → Entry → Seen
+seen_as b e = if b then saw_leave else saw_layer e.content (out-TokenTree e.tree.now)
+
 delimiter_bounds : (b : Delimiter) (s : DelimSpan) (c : TokenStream) (n : ℕ) → bounds (class_of (saw_delimiter b s c n)) ≡ f.bounds (saw_delimiter b s c n)
 delimiter_bounds d.Parenthesis s c n = refl
 delimiter_bounds d.Brace s c n = refl
@@ -99,8 +102,48 @@ layer_bounds n (o.Literal k) = refl
 layer_bounds n (o.Group g) = delimiter_bounds (delimiter_of g) (span_of g) (content_of g) n
 
 pub bounds_classed : (e : Entry) → bounds (class_of (saw e)) ≡ f.bounds (saw e)
-bounds_classed (Tree k n) = layer_bounds n (out-TokenTree k.tree.now)
-bounds_classed (End x) = refl
+bounds_classed e = at (is_end e.class)
+  where
+    at : (b : Bool) → bounds (class_of (seen_as b e)) ≡ f.bounds (seen_as b e)
+    at true = refl
+    at false = layer_bounds e.content (out-TokenTree e.tree.now)
+
+-- ---- the class of an entry
+
+layer_end : (x : Layer) → is_end (layer_class x) ≡ false
+layer_end (o.Ident i) = no_text is_end i.text (λ n. refl) refl refl
+layer_end (o.Punct p) = refl
+layer_end (o.Literal k) = refl
+layer_end (o.Group g) = refl
+
+pub tree_end : (c : Class) (x : Layer) → c ≡ layer_class x → is_end c ≡ false
+tree_end c x h = ap is_end h ∙ layer_end x
+
+delimiter_ends : (b : Delimiter) (s : DelimSpan) (c : TokenStream) (n : ℕ) → f.ends (saw_delimiter b s c n) ≡ false
+delimiter_ends d.Parenthesis s c n = refl
+delimiter_ends d.Brace s c n = refl
+delimiter_ends d.Bracket s c n = refl
+delimiter_ends d.None s c n = refl
+
+layer_ends : (n : ℕ) (x : Layer) → f.ends (saw_layer n x) ≡ false
+layer_ends n (o.Ident i) = refl
+layer_ends n (o.Punct p) = refl
+layer_ends n (o.Literal k) = refl
+layer_ends n (o.Group g) = delimiter_ends (delimiter_of g) (span_of g) (content_of g) n
+
+pub ends_classed : (e : Entry) → is_end e.class ≡ f.ends (saw e)
+ends_classed e = at (is_end e.class)
+  where
+    at : (b : Bool) → b ≡ f.ends (seen_as b e)
+    at true = refl
+    at false = sym (layer_ends e.content (out-TokenTree e.tree.now))
+
+pub entry_classed : (e : Entry) → e.class ≡ class_of (saw e)
+entry_classed e = e.is ∙ at (is_end e.class)
+  where
+    at : (b : Bool) → (if b then End else layer_class (out-TokenTree e.tree.now)) ≡ class_of (seen_as b e)
+    at true = refl
+    at false = sym (layer_classed e.content (out-TokenTree e.tree.now))
 
 -- ---- identifiers
 
@@ -179,8 +222,11 @@ layer_invisible n (o.Group g) l = delimiter_invisible (delimiter_of g) (span_of 
 
 pub invisible_first : (l : List Entry) → is_group (first_class (map saw l)) d.None ≡ is_there (as_invisible (entries_view l))
 invisible_first [] = rw view-nil refl
-invisible_first (Tree k n ∷ l) = layer_invisible n (out-TokenTree k.tree.now) (map saw l)
-invisible_first (End x ∷ l) = rw view-leave refl
+invisible_first (e ∷ l) = at (is_end e.class)
+  where
+    at : (b : Bool) → is_group (class_of (seen_as b e)) d.None ≡ is_there (as_invisible (view (seen_as b e ∷ map saw l)))
+    at true = rw view-leave refl
+    at false = layer_invisible e.content (out-TokenTree e.tree.now) (map saw l)
 
 text_opens : (t : Bytes) (b : Delimiter) → text_class t ≡ Open b → ⊥
 text_opens t b e = false≢true (sym (ap is_any_ident e) ∙ any_text_class t)
@@ -538,8 +584,15 @@ delimiter_after d.Brace s c n l = refl
 delimiter_after d.Bracket s c n l = refl
 delimiter_after d.None s c n l = refl
 
-pub tree_after : (n : ℕ) (x : Layer) (l : List Entry) → map saw (sees.past (layer_class x) n l) ≡ after_first (saw_layer n x ∷ map saw l)
+tree_after : (n : ℕ) (x : Layer) (l : List Entry) → map saw (sees.past (layer_class x) n l) ≡ after_first (saw_layer n x ∷ map saw l)
 tree_after n (o.Ident i) l = ap (map saw) (text_is (λ c. sees.past c n l) l refl refl i.text (λ m. refl))
 tree_after n (o.Punct p) l = refl
 tree_after n (o.Literal k) l = refl
 tree_after n (o.Group g) l = sym (drop-map saw (n + 1) l) ∙ delimiter_after (delimiter_of g) (span_of g) (content_of g) n (map saw l)
+
+pub entry_after : (e : Entry) (l : List Entry) → map saw (sees.past e.class e.content l) ≡ after_first (saw e ∷ map saw l)
+entry_after e l = ap (λ c. map saw (sees.past c e.content l)) e.is ∙ at (is_end e.class)
+  where
+    at : (b : Bool) → map saw (sees.past (if b then End else layer_class (out-TokenTree e.tree.now)) e.content l) ≡ after_first (seen_as b e ∷ map saw l)
+    at true = refl
+    at false = tree_after e.content (out-TokenTree e.tree.now) l

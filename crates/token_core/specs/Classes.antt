@@ -1,5 +1,5 @@
 -- The classes of entries.
-use Rattle.std.specs.Prelude.{ℕ, ◌+◌, Bool, false, if◌then◌else◌, List, [], ◌∷◌, Option, Some, None, codes, nat_eq}
+use Rattle.std.specs.Prelude.{◌≡◌, ℕ, ◌+◌, Bool, true, false, if◌then◌else◌, List, [], ◌∷◌, Option, Some, None, codes, nat_eq}
 use Rattle.std.specs.List.{starts_with}
 use Rattle.std.specs.Str.{bytes_eq}
 use Rattle.token_core.specs.declared.class.Class.{Class}
@@ -66,13 +66,27 @@ text_class t = classed (word_number t) t
 
 abbrev pub layer_class : o.TokenTree-F TokenTree Group → Class
 layer_class (o.Ident i) = text_class i.text
-layer_class (o.Punct p) = Mark p.ch p.spacing
+layer_class (o.Punct p) = Mark p.spacing p.ch
 layer_class (o.Literal l) = Literal l.kind
 layer_class (o.Group g) = Open (delimiter_of g)
 
+-- the end of a group, or of the list
+abbrev pub is_end : Class → Bool
+is_end (Word m) = false
+is_end Raw = false
+is_end Ident = false
+is_end (Mark j c) = false
+is_end (Literal k) = false
+is_end (Open a) = false
+is_end End = true
+
+-- the class of an entry of a tree: that of an end, or of the tree
+abbrev pub IsClass : Class → o.TokenTree-F TokenTree Group → Type 0
+IsClass c x = c ≡ (if is_end c then End else layer_class x)
+
 abbrev pub class_of : Seen → Class
 class_of (saw_word i) = text_class i.text
-class_of (saw_mark p) = Mark p.ch p.spacing
+class_of (saw_mark p) = Mark p.spacing p.ch
 class_of (saw_lit l) = Literal l.kind
 class_of (saw_group b s c n) = Open b
 class_of (saw_enter s c n) = Open d.None

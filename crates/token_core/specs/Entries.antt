@@ -1,5 +1,5 @@
 -- What the entries of a buffer show, and the entries of trees.
-use Rattle.std.specs.Prelude.{◌≡◌, ℕ, suc, List, [], ◌∷◌, ◌++◌, map, length, take}
+use Rattle.std.specs.Prelude.{◌≡◌, ℕ, suc, List, [], ◌∷◌, ◌++◌, map, length, take, if◌then◌else◌}
 use Rattle.token_core.specs.declared.tree.TokenTree.{TokenTree, out-TokenTree}
 use Rattle.token_core.specs.declared.tree.Delimiter.{Delimiter}
 use Rattle.token_core.specs.declared.span.DelimSpan.{DelimSpan}
@@ -7,9 +7,9 @@ use Rattle.token_core.specs.declared.tree.Group.{Group}
 use Rattle.token_core.specs.declared.tree.TokenTree.TheVariants as t
 use Rattle.token_core.specs.declared.tree.TokenTree.TheOpen as o
 use Rattle.token_core.specs.declared.tree.TokenTree.TheFolds.{fold-TokenTree, fold-Group}
-use Rattle.token_core.specs.declared.buffer.Entry.{Entry}
-use Rattle.token_core.specs.declared.buffer.Entry.TheVariants.{Tree, End}
+use Rattle.token_core.specs.declared.class.Entry.{Entry}
 use Rattle.token_core.specs.Toks.{Toks}
+use Rattle.token_core.specs.Classes.{is_end}
 use Rattle.token_core.specs.Trees.{TokenStream, delimiter_of, span_of, content_of, group_of}
 use Rattle.token_core.specs.Seen.{Seen, view, saw_word, saw_mark, saw_lit, saw_group, saw_enter, saw_leave, saw_delimiter}
 
@@ -23,8 +23,7 @@ saw_layer n (o.Literal l) = saw_lit l
 saw_layer n (o.Group g) = saw_delimiter (delimiter_of g) (span_of g) (content_of g) n
 
 abbrev pub saw : Entry → Seen
-saw (Tree k n) = saw_layer n (out-TokenTree k.tree.now)
-saw (End x) = saw_leave
+saw e = if is_end e.class then saw_leave else saw_layer e.content (out-TokenTree e.tree.now)
 
 abbrev pub entries_view : List Entry → Toks
 entries_view l = view (map saw l)

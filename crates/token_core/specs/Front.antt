@@ -1,6 +1,6 @@
 -- The tokens at the front of a buffer: within invisible groups, and after the ends of those that are left.
 use Rattle.std.specs.Prelude.{◌≡◌, Bool, true, false}
-use Rattle.token_core.specs.declared.buffer.Entry.{Entry}
+use Rattle.token_core.specs.declared.class.Entry.{Entry}
 use Rattle.token_core.specs.declared.buffer.Front.{Front}
 use Rattle.token_core.specs.declared.buffer.Front.TheVariants as f
 use Rattle.token_core.specs.Toks.{Toks, done, word, mark, lit, group, enter, leave}

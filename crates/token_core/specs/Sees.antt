@@ -17,7 +17,7 @@ use Rattle.token_core.specs.Lits as lits
 abbrev pub class_at : Toks → Class
 class_at done = End
 class_at (word i k) = text_class i.text
-class_at (mark p k) = Mark p.ch p.spacing
+class_at (mark p k) = Mark p.spacing p.ch
 class_at (lit l k) = Literal l.kind
 class_at (group b s c k) = Open b
 class_at (enter s k) = Open d.None
@@ -51,7 +51,7 @@ abbrev pub past : {A : Type 0} → Class → ℕ → List A → List A
 past (Word m) n l = l
 past Raw n l = l
 past Ident n l = l
-past (Mark c j) n l = l
+past (Mark j c) n l = l
 past (Literal k) n l = l
 past (Open b) n l = drop (n + 1) l
 past End n l = l
@@ -63,7 +63,7 @@ abbrev pub is_any_ident : Class → Bool
 is_any_ident (Word n) = true
 is_any_ident Raw = true
 is_any_ident Ident = true
-is_any_ident (Mark c j) = false
+is_any_ident (Mark j c) = false
 is_any_ident (Literal k) = false
 is_any_ident (Open b) = false
 is_any_ident End = false
@@ -73,7 +73,7 @@ abbrev pub is_ident : Class → Bool
 is_ident (Word n) = nat_eq n builtin_number
 is_ident Raw = true
 is_ident Ident = true
-is_ident (Mark c j) = false
+is_ident (Mark j c) = false
 is_ident (Literal k) = false
 is_ident (Open b) = false
 is_ident End = false
@@ -83,7 +83,7 @@ abbrev pub is_word : Class → ℕ → Bool
 is_word (Word m) n = nat_eq m n
 is_word Raw n = false
 is_word Ident n = false
-is_word (Mark c j) n = false
+is_word (Mark j c) n = false
 is_word (Literal k) n = false
 is_word (Open b) n = false
 is_word End n = false
@@ -92,7 +92,7 @@ abbrev pub is_group : Class → Delimiter → Bool
 is_group (Word m) b = false
 is_group Raw b = false
 is_group Ident b = false
-is_group (Mark c j) b = false
+is_group (Mark j c) b = false
 is_group (Literal k) b = false
 is_group (Open a) b = same_delimiter a b
 is_group End b = false
@@ -102,7 +102,7 @@ abbrev pub is_quote : Class → Bool
 is_quote (Word m) = false
 is_quote Raw = false
 is_quote Ident = false
-is_quote (Mark c j) = if c == 39 then is_joint j else false
+is_quote (Mark j c) = if c == 39 then is_joint j else false
 is_quote (Literal k) = false
 is_quote (Open a) = false
 is_quote End = false
@@ -112,7 +112,7 @@ abbrev pub literal_kind : Class → Option LitKind
 literal_kind (Word m) = None
 literal_kind Raw = None
 literal_kind Ident = None
-literal_kind (Mark c j) = None
+literal_kind (Mark j c) = None
 literal_kind (Literal k) = Some k
 literal_kind (Open a) = None
 literal_kind End = None
@@ -121,22 +121,12 @@ abbrev pub kind_meets : (LitKind → Bool) → Option LitKind → Bool
 kind_meets test None = false
 kind_meets test (Some k) = test k
 
--- the end of a group, or of the list
-abbrev pub is_end : Class → Bool
-is_end (Word m) = false
-is_end Raw = false
-is_end Ident = false
-is_end (Mark c j) = false
-is_end (Literal k) = false
-is_end (Open a) = false
-is_end End = true
-
 -- a bound of an invisible group
 abbrev pub bounds : Class → Bool
 bounds (Word m) = false
 bounds Raw = false
 bounds Ident = false
-bounds (Mark c j) = false
+bounds (Mark j c) = false
 bounds (Literal k) = false
 bounds (Open a) = same_delimiter a d.None
 bounds End = true
@@ -148,7 +138,7 @@ abbrev pub is_char : Class → ℕ → Bool → Bool
 is_char (Word m) c last = false
 is_char Raw c last = false
 is_char Ident c last = false
-is_char (Mark x j) c last = if x == c then (if last then true else is_joint j) else false
+is_char (Mark j x) c last = if x == c then (if last then true else is_joint j) else false
 is_char (Literal k) c last = false
 is_char (Open a) c last = false
 is_char End c last = false
@@ -167,7 +157,7 @@ abbrev pub after_class : Class → Toks → Option Toks
 after_class (Word m) k = Some k
 after_class Raw k = Some k
 after_class Ident k = Some k
-after_class (Mark c j) k = Some (after_mark (Mark c j) k)
+after_class (Mark j c) k = Some (after_mark (Mark j c) k)
 after_class (Literal x) k = Some k
 after_class (Open a) k = Some k
 after_class End k = None
@@ -183,7 +173,7 @@ abbrev pub is_lit_at : Class → Toks → Bool
 is_lit_at (Word m) k = nat_eq m true_number || nat_eq m false_number
 is_lit_at Raw k = false
 is_lit_at Ident k = false
-is_lit_at (Mark c j) k = if c == 45 then kind_meets lits.is_number (literal_kind (class_at (front k))) else false
+is_lit_at (Mark j c) k = if c == 45 then kind_meets lits.is_number (literal_kind (class_at (front k))) else false
 is_lit_at (Literal x) k = true
 is_lit_at (Open a) k = false
 is_lit_at End k = false

@@ -9,34 +9,44 @@ ghost use Rattle.token_core.specs.Trees.{delimiter_of, span_of, content_of, toks
 ghost use Rattle.token_core.specs.Entries.{saw, saw_layer, entries_view, flat_tree, flat_stream, Nested};
 ghost use Rattle.token_core.specs.Positions.{items, Holds};
 ghost use Rattle.token_core.specs.Sees as sees;
-ghost use Rattle.token_core.specs.Seen.{view, saw_delimiter};
+ghost use Rattle.token_core.specs.Seen.{view, saw_delimiter, saw_leave};
 ghost use Rattle.token_core.specs.declared.tree.TokenTree.{out-TokenTree};
 
-use crate::class::{Class, Classed};
+use crate::class::{Class, Entry, tree_class};
 use crate::cursor::Cursor;
 use crate::place::Place;
-use crate::sees::{bounds, is_group};
+use crate::sees::{bounds, is_end as ends, is_group};
 use crate::tree::{Delimiter, Group, Ident, Literal, Punct, TokenStream, TokenTree};
 use std::alloc::{AllocError, Global};
 use std::marker::Model;
 
-#[derive(Clone, Copy)]
-pub(crate) enum Entry<'a> {
-    /// A tree, and of a group the number of entries of its content.
-    Tree(Classed<'a>, usize),
-    /// The end of a group.
-    End(&'a TokenTree),
-}
-
 impl<'a> Entry<'a> {
-    #[tactic(auto, using(crate::proofs::Classes::layer_classed))]
+    /// Of a tree, and of a group with so many entries of its content.
+    fn of(tree: &'a TokenTree, content: usize) -> Entry<'a>
+        ensures { saw result ≡ saw_layer content (out-TokenTree tree.now) }
+    {
+        Entry {
+            tree,
+            class: tree_class(tree),
+            content,
+        }
+    }
+
+    /// The end of a group.
+    fn end(group: &'a TokenTree) -> Entry<'a>
+        ensures { saw result ≡ saw_leave }
+    {
+        Entry {
+            tree: group,
+            class: Class::End,
+            content: 0,
+        }
+    }
+
     pub(crate) fn class(&self) -> Class
         ensures { result ≡ classes.class_of (saw self.now) }
     {
-        match self {
-            Entry::Tree(classed, _) => classed.class,
-            Entry::End(_) => Class::End,
-        }
+        self.class
     }
 }
 
@@ -70,13 +80,10 @@ fn past_ends<'a>(entries: &'a [Entry<'a>]) -> &'a [Entry<'a>]
     &entries[at..]
 }
 
-fn is_end(entry: &Entry<'_>) -> bool
+pub(crate) fn is_end(entry: &Entry<'_>) -> bool
     ensures { result ≡ spec.is_end entry.now }
 {
-    match entry {
-        Entry::Tree(_, _) => false,
-        Entry::End(_) => true,
-    }
+    ends(entry.class)
 }
 
 /// What stands at the front, with what follows it.
@@ -96,9 +103,10 @@ fn shown<'a>(entry: &Entry<'a>, more: &'a [Entry<'a>]) -> Front<'a>
     ensures shown { shows result ≡ spec.settled (view (saw entry.now ∷ map saw more.now)) }
     ensures linked { Linked result }
 {
-    match entry {
-        Entry::Tree(classed, n) => tree_front(classed.tree, *n, more),
-        Entry::End(_) => Front::Done,
+    if is_end(entry) {
+        Front::Done
+    } else {
+        tree_front(entry.tree, entry.content, more)
     }
 }
 
@@ -140,9 +148,10 @@ fn invisible_at<'a>(
     ensures shown { option_map (λ p. (span_of p.0.now, p.1, p.2)) result ≡ groups.as_invisible (view (saw entry.now ∷ map saw more.now)) }
     ensures held { IfSome result (λ p. Holds (view (saw entry.now ∷ map saw more.now)) p.1 p.2) }
 {
-    match entry {
-        Entry::Tree(classed, n) => invisible_tree(classed.tree, *n, more),
-        Entry::End(_) => None,
+    if is_end(entry) {
+        None
+    } else {
+        invisible_tree(entry.tree, entry.content, more)
     }
 }
 
@@ -231,10 +240,7 @@ fn past<'a>(class: Class, n: usize, more: &'a [Entry<'a>]) -> &'a [Entry<'a>]
 fn after<'a>(entry: &Entry<'a>, more: &'a [Entry<'a>]) -> &'a [Entry<'a>]
     ensures { map saw result.now ≡ sees.after_first (saw entry.now ∷ map saw more.now) }
 {
-    match entry {
-        Entry::Tree(classed, n) => past(classed.class, *n, more),
-        Entry::End(_) => more,
-    }
+    past(entry.class, entry.content, more)
 }
 
 /// The class of the first entry, and what follows its tree.
@@ -381,27 +387,27 @@ fn fill_trees<'a>(entries: &mut Vec<Entry<'a>>, trees: &'a [TokenTree]) -> Resul
 fn fill_tree<'a>(entries: &mut Vec<Entry<'a>>, tree: &'a TokenTree) -> Result<(), AllocError>
     ensures { OnOk result (map saw entries.new.items ≡ map saw entries.old.items ++ flat_tree tree.now) }
 {
-    let classed = Classed::of(tree);
+    let entry = Entry::of(tree, 0);
     match tree {
         TokenTree::Group(group) => {
             let at = entries.len();
-            entries.push(Entry::Tree(classed, 0))?;
+            entries.push(entry)?;
             fill_trees(entries, group.stream().trees())?;
             let n = entries.len() - at - 1;
-            entries[at] = Entry::Tree(classed, n);
-            entries.push(Entry::End(tree))?;
+            entries[at] = Entry::of(tree, n);
+            entries.push(Entry::end(tree))?;
             Ok(())
         }
         TokenTree::Ident(_) => {
-            entries.push(Entry::Tree(classed, 0))?;
+            entries.push(entry)?;
             Ok(())
         }
         TokenTree::Punct(_) => {
-            entries.push(Entry::Tree(classed, 0))?;
+            entries.push(entry)?;
             Ok(())
         }
         TokenTree::Literal(_) => {
-            entries.push(Entry::Tree(classed, 0))?;
+            entries.push(entry)?;
             Ok(())
         }
     }

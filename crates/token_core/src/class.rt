@@ -2,7 +2,7 @@
 
 ghost use Rattle.std.specs.Prelude.{◌≡◌, map};
 ghost use Rattle.token_core.specs.Classes as spec;
-ghost use Rattle.token_core.specs.Classes.{layer_class};
+ghost use Rattle.token_core.specs.Classes.{layer_class, IsClass};
 ghost use Rattle.token_core.specs.Keywords.{text_of};
 ghost use Rattle.token_core.specs.declared.tree.TokenTree.{out-TokenTree};
 
@@ -19,7 +19,7 @@ pub(crate) enum Class {
     /// Another identifier.
     Ident,
     /// A character of a mark.
-    Mark(char, Spacing),
+    Mark(Spacing, char),
     Literal(LitKind),
     /// The opening of a group.
     Open(Delimiter),
@@ -95,32 +95,23 @@ pub(crate) fn text_class(text: &str) -> Class
     }
 }
 
-fn tree_class(tree: &TokenTree) -> Class
+pub(crate) fn tree_class(tree: &TokenTree) -> Class
     ensures { result ≡ layer_class (out-TokenTree tree.now) }
 {
     match tree {
         TokenTree::Ident(ident) => text_class(ident.text()),
-        TokenTree::Punct(punct) => Class::Mark(punct.ch, punct.spacing),
+        TokenTree::Punct(punct) => Class::Mark(punct.spacing, punct.ch),
         TokenTree::Literal(literal) => Class::Literal(literal.kind),
         TokenTree::Group(group) => Class::Open(group.delimiter()),
     }
 }
 
-/// A tree beside its class.
+/// A tree, or the end of a group, by its class.
 #[derive(Clone, Copy)]
-pub(crate) struct Classed<'a> {
+pub(crate) struct Entry<'a> {
     pub(crate) tree: &'a TokenTree,
     pub(crate) class: Class,
-    ghost is: { class ≡ layer_class (out-TokenTree tree.now) },
-}
-
-impl<'a> Classed<'a> {
-    pub(crate) fn of(tree: &'a TokenTree) -> Classed<'a>
-        ensures { result.tree ≡ tree.entry }
-    {
-        Classed {
-            tree,
-            class: tree_class(tree),
-        }
-    }
+    /// Of a group, the number of entries of its content.
+    pub(crate) content: usize,
+    ghost is: { IsClass class (out-TokenTree tree.now) },
 }

@@ -6,8 +6,8 @@ ghost use Rattle.token_core.specs.Positions.{item, tree_items, entries_items};
 ghost use Rattle.token_core.specs.Entries.{saw, saw_layer, Nested};
 ghost use Rattle.token_core.specs.declared.tree.TokenTree.{out-TokenTree};
 
-use crate::buffer::{Entry, around};
-use crate::class::Class;
+use crate::buffer::{around, is_end};
+use crate::class::{Class, Entry};
 use crate::tree::TokenTree;
 use std::marker::Model;
 
@@ -85,9 +85,10 @@ fn tree_at<'a>(entry: &Entry<'a>, more: &'a [Entry<'a>]) -> Option<(&'a TokenTre
     requires { Nested (saw entry.now ∷ map saw more.now) }
     ensures { MatchOption result (spec.has_tree (item (saw entry.now) ∷ entries_items more.now) ≡ false) (λ p. item (saw entry.now) ∷ entries_items more.now ≡ tree_items p.0.now ++ p.1) }
 {
-    match entry {
-        Entry::Tree(classed, n) => Some((classed.tree, past_tree(classed.tree, *n, more))),
-        Entry::End(_) => None,
+    if is_end(entry) {
+        None
+    } else {
+        Some((entry.tree, past_tree(entry.tree, entry.content, more)))
     }
 }
 
@@ -120,8 +121,9 @@ fn outside<'a>(entry: &Entry<'a>, more: &'a [Entry<'a>]) -> Option<Cursor<'a>>
     requires { Nested (saw entry.now ∷ map saw more.now) }
     ensures { option_map (λ c. c) result ≡ spec.left (item (saw entry.now) ∷ entries_items more.now) }
 {
-    match entry {
-        Entry::Tree(_, _) => None,
-        Entry::End(_) => Some(Cursor { entries: more }),
+    if is_end(entry) {
+        Some(Cursor { entries: more })
+    } else {
+        None
     }
 }

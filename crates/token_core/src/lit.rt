@@ -253,7 +253,7 @@ fn sees_lit(class: Class, more: &Place<'_>) -> bool
     match class {
         Class::Literal(_) => true,
         Class::Word(number) => number == TRUE || number == FALSE,
-        Class::Mark(ch, _) => ch == '-' && sees_number(more),
+        Class::Mark(_, ch) => ch == '-' && sees_number(more),
         Class::Raw => false,
         Class::Ident => false,
         Class::Open(_) => false,

@@ -4,7 +4,7 @@ ghost use Rattle.std.specs.Prelude.{◌≡◌, [], ◌∷◌, ◌++◌, length};
 ghost use Rattle.token_core.specs.Positions.{items, an_end, Holds};
 ghost use Rattle.token_core.specs.Reads.{IsSuffix};
 
-use crate::buffer::Entry;
+use crate::class::Entry;
 use crate::cursor::Cursor;
 use std::marker::Model;
 

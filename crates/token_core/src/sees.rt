@@ -1,6 +1,7 @@
 //! What tests see of classes alone.
 
 ghost use Rattle.std.specs.Prelude.{◌≡◌, ◌≤◌, drop, length};
+ghost use Rattle.token_core.specs.Classes as classes;
 ghost use Rattle.token_core.specs.Front.{front};
 ghost use Rattle.token_core.specs.Lifetimes.{sees_lifetime};
 ghost use Rattle.token_core.specs.Reads as reads;
@@ -76,7 +77,7 @@ fn is_quote(class: Class) -> bool
     ensures { result ≡ spec.is_quote class }
 {
     match class {
-        Class::Mark(ch, spacing) => ch == '\'' && spacing == Spacing::Joint,
+        Class::Mark(spacing, ch) => ch == '\'' && spacing == Spacing::Joint,
         Class::Word(_) => false,
         Class::Raw => false,
         Class::Ident => false,
@@ -91,7 +92,7 @@ fn is_char(class: Class, ch: char, last: bool) -> bool
     ensures { result ≡ spec.is_char class ch last }
 {
     match class {
-        Class::Mark(c, spacing) => c == ch && (last || spacing == Spacing::Joint),
+        Class::Mark(spacing, c) => c == ch && (last || spacing == Spacing::Joint),
         Class::Word(_) => false,
         Class::Raw => false,
         Class::Ident => false,
@@ -118,7 +119,7 @@ pub(crate) fn literal_kind(class: Class) -> Option<LitKind>
 
 /// Whether it is the end of a group, or of the list.
 pub(crate) fn is_end(class: Class) -> bool
-    ensures { result ≡ spec.is_end class }
+    ensures { result ≡ classes.is_end class }
 {
     match class {
         Class::End => true,

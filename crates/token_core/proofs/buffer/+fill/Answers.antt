@@ -1,7 +1,6 @@
 use Rattle.std.proofs.Common.{◌≡◌, ◌-◌, ◌++◌, ◌∷◌, [], map, take, length, ap, sym, ◌∙◌, append_assoc, rules, arith}
 use Rattle.std.proofs.lemmas.Grind.{common_steps}
 use Rattle.std.proofs.Math.ListN.{set}
-use Rattle.token_core.specs.declared.buffer.Entry.TheVariants.{Tree, End}
 use Rattle.token_core.specs.declared.tree.Group.{out-Group}
 use Rattle.token_core.specs.declared.tree.TokenTree.TheOpen as o
 use Rattle.token_core.specs.Seen.{saw_leave, saw_delimiter}
@@ -51,21 +50,23 @@ fill_tree-returns-in_ok-push-in-Group-2 t c =
     let old = c.args.entries.now.items in
     let filled = c.fill_trees.new.entries.items in
     let inner = flat_stream (out-Group g).stream in
-    let k = c.of-classed.result in
+    let e0 = c.of-entry.result in
+    let e1 = c.of.result in
+    let e2 = c.end.result in
     let u : out-TokenTree c.args.tree.now ≡ o.Group g = ap out-TokenTree c.in-Group.is ∙ outs-Group g in
-    let p : c.push.new.self.items ≡ old ++ Tree k 0 ∷ [] = search rules in
+    let p : c.push.new.self.items ≡ old ++ e0 ∷ [] = search rules in
     let s : flat_stream c.trees.result.now ≡ inner = ap flat_stream (c.trees.ensures ∙ c.stream.ensures) in
-    let h : map saw filled ≡ map saw (old ++ Tree k 0 ∷ []) ++ inner =
-    c.in_ok-fill_trees-in-Group.ensures ∙ ap (λ x. map saw x ++ flat_stream c.trees.result.now) p ∙ ap (λ x. map saw (old ++ Tree k 0 ∷ []) ++ x) s in
+    let h : map saw filled ≡ map saw (old ++ e0 ∷ []) ++ inner =
+    c.in_ok-fill_trees-in-Group.ensures ∙ ap (λ x. map saw x ++ flat_stream c.trees.result.now) p ∙ ap (λ x. map saw (old ++ e0 ∷ []) ++ x) s in
     let at : c.len-at.result ≡ length old = search rules in
     let len : c.len.result ≡ length filled = search rules in
-    let new : c.push-in-Group.new.self.items ≡ set filled c.len-at.result (Tree k (c.len.result - c.len-at.result - 1)) ++ End c.args.tree ∷ [] = search rules in
-    let e1 = Tree k (c.len.result - c.len-at.result - 1) in
-    let count : c.len.result - c.len-at.result - 1 ≡ length inner = rw (at, len) (group_count old filled (Tree k 0) e1 (End c.args.tree) inner h) in
+    let new : c.push-in-Group.new.self.items ≡ set filled c.len-at.result e1 ++ e2 ∷ [] = search rules in
+    let count : c.len.result - c.len-at.result - 1 ≡ length inner = rw (at, len) (group_count old filled e0 e1 e2 inner h) in
     let seen : saw e1 ≡ saw_delimiter (delimiter_of g) (span_of g) (content_of g) (length inner) =
-    ap (λ (t : Bor TokenTree). saw_layer (c.len.result - c.len-at.result - 1) (out-TokenTree t.now)) c.of-classed.ensures ∙ ap (saw_layer (c.len.result - c.len-at.result - 1)) u ∙ ap (saw_delimiter (delimiter_of g) (span_of g) (content_of g)) count in
+    c.of.ensures ∙ ap (saw_layer (c.len.result - c.len-at.result - 1)) u ∙ ap (saw_delimiter (delimiter_of g) (span_of g) (content_of g)) count in
     let whole : flat_tree c.args.tree.now ≡ saw_delimiter (delimiter_of g) (span_of g) (content_of g) (length inner) ∷ (inner ++ saw_leave ∷ []) =
     flat_tree_is c.args.tree.now ∙ ap tree_flat u ∙ flat_group_is g in
-    ap (λ x. map saw x) new ∙ ap (λ i. map saw (set filled i e1 ++ End c.args.tree ∷ [])) at
-    ∙ group_filled old filled (Tree k 0) e1 (End c.args.tree) inner h
+    ap (λ x. map saw x) new ∙ ap (λ i. map saw (set filled i e1 ++ e2 ∷ [])) at
+    ∙ group_filled old filled e0 e1 e2 inner h
+    ∙ ap (λ x. map saw old ++ (saw e1 ∷ (inner ++ x ∷ []))) c.end.ensures
     ∙ ap (λ x. map saw old ++ (x ∷ (inner ++ saw_leave ∷ []))) seen ∙ ap (λ x. map saw old ++ x) (sym whole)

@@ -1,5 +1,5 @@
 use Rattle.std.proofs.Common.{ap, ◌∙◌}
-use Rattle.token_core.specs.Sees.{is_end}
+use Rattle.token_core.specs.Classes.{is_end}
 use Rattle.token_core.proofs.SeenClasses.{end_seen}
 use Rattle.token_core.proofs.parse_stream.ParseStream.is_empty.Goals as goal
 
