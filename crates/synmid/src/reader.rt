@@ -33,9 +33,7 @@ use syn_readers::reader::{
     GenericsReader, PathReader, TypeReader, print_of, reprint, reprint_with, taken,
 };
 use syn_sample::sample::Sample;
-use token_core::{
-    Boxed, Error, Items, Parse, ParseStream, Parser, ToTokens, TokenStream,
-};
+use token_core::{Boxed, Error, Items, Parse, ParseStream, Parser, ToTokens, TokenStream};
 
 /// A reader that a run knows by name.
 #[derive(Clone, Copy, PartialEq, Eq)]
