@@ -480,14 +480,13 @@ impl Token for GroupToken {
 pub fn surround(
     delimiter: Delimiter,
     span: DelimSpan,
-    mut tokens: TokenStream,
+    tokens: TokenStream,
     out: &mut TokenStream,
 ) -> Result<(), AllocError>
     ensures ok { OnOk result (trees out.new ≡ trees out.old ++ prints.group delimiter tokens span) }
     ensures err { OnErr result (trees out.new ≡ trees out.old) }
 {
-    tokens.shrink_to_fit();
-    out.push(TokenTree::Group(Group::new(delimiter, tokens, span)))
+    out.push(TokenTree::Group(Group::new(delimiter, tokens.fitted()?, span)))
 }
 
 impl Paren {
