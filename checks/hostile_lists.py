@@ -264,7 +264,7 @@ class Makes:
         return "impl " + self.trait_bound(d - 1) + self.may(lambda: " + " + self.bounds(d - 1)) + self.may(" + use < 'a , T >", 0.1)
 
     def object(self, d):
-        return "dyn " + self.plain_bound(d - 1) + self.may(lambda: " + " + self.lifetime()) + self.may(lambda: " + " + self.plain_bound(d - 1))
+        return "dyn " + self.plain_bound(d - 1) + self.may(lambda: " + " + self.lifetime()) + self.may(lambda: " + " + self.trait_bound(d - 1))
 
     def bare(self, d):
         return self.one(self.plain_bound(d - 1), self.lifetime() + " + " + self.path(d - 1)) + " + " + self.one(self.lifetime, "Send")
@@ -293,11 +293,17 @@ class Makes:
     def plain_bound(self, d):
         return self.one(lambda: self.trait_path(d), lambda: self.trait_path(d), lambda: f"{self.binder()} {self.trait_path(d)}", lambda: f"( {self.trait_path(d)} )")
 
+    def modified_bound(self, d, form):
+        """A bound with modifiers, of which the first is this form."""
+        modifiers = f"{form} {self.may('async', 0.3)}" if form else "async"
+        return self.one(f"{self.may(self.binder)} {modifiers} {self.trait_path(d)}", f"{modifiers} {self.may('?', 0.5)} {self.trait_path(d)}")
+
     def trait_bound(self, d=1):
-        return self.one(lambda: self.plain_bound(d), lambda: f"? {self.trait_path(d)}", lambda: f"( ? {self.trait_path(d)} )", lambda: f"{self.trait_path(d)}")
+        return self.one(lambda: self.plain_bound(d), lambda: f"? {self.trait_path(d)}", lambda: f"( ? {self.trait_path(d)} )", lambda: f"{self.trait_path(d)}", lambda: self.modified_bound(d, ""))
 
     def bound(self, d=1):
-        return self.one(self.lifetime, lambda: self.trait_bound(d), lambda: self.trait_bound(d), lambda: self.one("const ", "[ const ] ") + self.trait_path(d))
+        modified = lambda: self.modified_bound(d, self.one("const", "[ const ]"))
+        return self.one(self.lifetime, lambda: self.trait_bound(d), lambda: self.trait_bound(d), modified, lambda: f"( {modified()} )")
 
     def bounds(self, d=1):
         return self.many(lambda: self.one(self.lifetime, lambda: self.trait_bound(d)), "+", 1, 3, 0.1)
@@ -637,7 +643,7 @@ def held(name, levels):
 
 
 # What is put in the place of a token.
-OTHERS = spelt("A self Self 'a :: < > << + , : = ; & && * ! # ? - -> => .. ... ..= | || @ _ 1 - 1 true mut const dyn impl for fn where as ref box if try unsafe extern use")
+OTHERS = spelt("A self Self 'a :: < > << + , : = ; & && * ! # ? - -> => .. ... ..= | || @ _ 1 - 1 true mut const async dyn impl for fn where as ref box if try unsafe extern use")
 
 
 class Mutates:

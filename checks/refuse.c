@@ -1,10 +1,8 @@
 /* Refuses memory to the program that it is preloaded into: the call for memory whose number REFUSE_AT gives, and with
-   REFUSE_LATER each later one too. Calls for fewer bytes than REFUSE_SIZE, where it is given, and calls that give bytes back, are
-   granted and not counted.
+   REFUSE_LATER each later one too. Calls for fewer bytes than REFUSE_SIZE, where it is given, are granted and not counted.
    At the end it writes to the standard error how many calls it counted, and how many it refused. */
 
 #include <errno.h>
-#include <malloc.h>
 #include <stdio.h>
 #include <stdlib.h>
 #include <unistd.h>
@@ -55,8 +53,7 @@ void *calloc(size_t count, size_t size) {
 }
 
 void *realloc(void *old, size_t size) {
-    int less = old != NULL && size <= malloc_usable_size(old);
-    return !less && refuses(size) ? NULL : __libc_realloc(old, size);
+    return refuses(size) ? NULL : __libc_realloc(old, size);
 }
 
 void *memalign(size_t alignment, size_t size) {

@@ -21,6 +21,8 @@ mod core_tests;
 #[cfg(test)]
 mod cursor_tests;
 #[cfg(test)]
+mod derive_head;
+#[cfg(test)]
 mod derive_head_tests;
 #[cfg(test)]
 mod expr_tests;
@@ -41,15 +43,23 @@ mod look_tests;
 #[cfg(test)]
 mod mac_tests;
 #[cfg(test)]
+mod made_by_hand;
+#[cfg(test)]
 mod made_by_hand_tests;
 #[cfg(test)]
 mod mod_path_tests;
 #[cfg(test)]
 mod nested_tests;
 #[cfg(test)]
+mod note_tests;
+#[cfg(test)]
 mod nothing;
 #[cfg(test)]
 mod object_tests;
+#[cfg(test)]
+mod options;
+#[cfg(test)]
+mod options_tests;
 #[cfg(test)]
 mod pat_tests;
 #[cfg(test)]
@@ -61,9 +71,13 @@ mod qualified_tests;
 #[cfg(test)]
 mod sample_tests;
 #[cfg(test)]
+mod signature_index;
+#[cfg(test)]
 mod signature_index_tests;
 #[cfg(test)]
 mod stream_tests;
+#[cfg(test)]
+mod string_tests;
 #[cfg(test)]
 mod supplied_tests;
 #[cfg(test)]

@@ -507,11 +507,11 @@ fn tokens_as_written_keep_the_invisible_groups_that_were_read(rt: HostRuntime) {
         ("(dyn *\\(\\(A\\)\\))", "(dyn * \\(\\(A\\)\\))"),
         ("builtin # x \\((y)\\)", "builtin # x \\((y)\\)"),
         ("unsafe<'a> \\(A\\)", "unsafe < 'a > \\(A\\)"),
-        ("impl const \\(A\\)", "impl const \\(A\\)"),
-        ("impl \\((const A)\\)", "impl \\((const A)\\)"),
         ("fn(mut \\(self\\))", "fn (mut \\(self\\))"),
-        // one that goes on is entered, and not kept
-        ("impl \\(const\\) A + B", "impl \\(const\\) A + B"),
+        // a bound is no such form, and keeps none
+        ("impl const \\(A\\)", "impl const A"),
+        ("impl \\((const A)\\)", "impl (const A)"),
+        ("impl \\(const\\) A + B", "impl const A + B"),
         ("impl \\(const A + B\\)", "impl const A + B"),
     ] {
         says(

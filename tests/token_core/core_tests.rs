@@ -188,6 +188,10 @@ fn refusals_have_their_texts(rt: HostRuntime) {
             ErrorKind::OpenRangeInSlice,
             "range pattern is not allowed unparenthesized inside slice pattern",
         ),
+        (
+            ErrorKind::BoundModifiersNotSupported,
+            "trait bound modifiers are not supported here",
+        ),
     ] {
         kind_says(&rt, alloc, kind, text);
     }

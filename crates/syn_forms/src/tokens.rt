@@ -17,8 +17,8 @@ ghost use Rattle.syn_forms.specs.tokens.Spelling.{IsMutability};
 
 use std::alloc::{AllocError, Global};
 use token_core::token::{
-    And, Bracket, Colon, Comma, Const, Dyn, Eq, Extern, Fn, For, GroupToken, Gt, Impl, Lt, Mut,
-    Paren, PathSep, Plus, Question, RArrow, Star, Unsafe, Use, Where,
+    And, Async, Bracket, Colon, Comma, Const, Dyn, Eq, Extern, Fn, For, GroupToken, Gt, Impl, Lt,
+    Mut, Paren, PathSep, Plus, Question, RArrow, Star, Unsafe, Use, Where,
 };
 use token_core::{Error, Ident, Lifetime, Parse, ParseStream, ToTokens, TokenStream};
 
@@ -331,6 +331,15 @@ pub fn parse_mut(alloc: Global, input: &mut ParseStream<'_>) -> Result<Option<Mu
     ensures fewer { ahead input.new ≤ ahead input.old }
 {
     input.parse_option::<Mut>(alloc)
+}
+
+/// `async` that may be there.
+#[tactic(auto, using(crate::proofs::nested_laws::Ahead::later))]
+pub fn parse_asyncness(alloc: Global, input: &mut ParseStream<'_>) -> Result<Option<Async>, Error>
+    ensures parses { Parses reading.asyncness result input.old input.new }
+    ensures fewer { ahead input.new ≤ ahead input.old }
+{
+    input.parse_option::<Async>(alloc)
 }
 
 /// `?` that may be there.

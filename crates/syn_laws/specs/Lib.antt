@@ -1,1 +1,3 @@
+pub mod Normal
+pub mod aside
 pub mod pair

@@ -1,24 +1,34 @@
-//! Laws of normal forms: of every tree, also one that was made by hand, the normal form is its own and prints the same, where so it is of the supplied subtree.
-//! Beside them two of prints that other readers read again. Each is the contract of a function that does nothing. The other laws here no contract names.
+//! Laws of normal forms. Of an admitted tree whose verbatim parts are clear, also one that was made by hand, the normal form is its own and prints the same, and is read again;
+//! so it is, but for the reading, of every tree, where so it is of the supplied subtree. Beside them two of prints that other readers read again. Each is the contract of a function
+//! that does nothing. The other laws here no contract names.
 //! In `pair` stands what a layer above makes of the promises on fronts: a reader of two values with a comma between them.
+//! In `aside` stands what the promises of whole reads say of lists and trees that are the same aside from spans.
 #![tactic(auto)]
 
+pub mod aside;
 pub mod pair;
 
-ghost use Rattle.std.specs.Prelude.{◌≡◌, List, Some};
+ghost use Rattle.std.specs.Prelude.{◌≡◌, false, Some};
 ghost use Rattle.token_core.specs.Headline.{Reprinted};
+ghost use Rattle.token_core.specs.Toks.{Toks};
+ghost use Rattle.syn_attr.specs.attr.Grammars as grammars;
 ghost use Rattle.syn_attr.specs.attr.Normal as normal;
 ghost use Rattle.syn_attr.specs.attr.Printing as printing;
+ghost use Rattle.syn_attr.specs.attr.Spelling.{IsValue};
+ghost use Rattle.syn_forms.specs.declared.places.TypePlace.{TypePlace};
+ghost use Rattle.syn_laws.specs.Normal.{Admitted, Own, OwnList, SameList, SamePrint};
+ghost use Rattle.syn_pat.specs.declared.place.PatPlace.{PatPlace};
 ghost use Rattle.syn_pat.specs.pat.Normal as normal_patterns;
 ghost use Rattle.syn_pat.specs.pat.Printing as printed_patterns;
+ghost use Rattle.syn_pat.specs.pat.Promises as patterns;
 ghost use Rattle.syn_path.specs.Values.{OwnValues, SameValues};
-ghost use Rattle.syn_path.specs.declared.supplied.Place.{Place};
 ghost use Rattle.syn_generics.specs.generics.Normal as normal_generics;
 ghost use Rattle.syn_generics.specs.generics.Printing as printed_generics;
 ghost use Rattle.syn_generics.specs.generics.Promises as promises;
 ghost use Rattle.syn_generics.specs.generics.Views.{stripped};
 ghost use Rattle.syn_ty.specs.ty.Normal as normal_types;
 ghost use Rattle.syn_ty.specs.ty.Printing as printed_types;
+ghost use Rattle.syn_ty.specs.ty.Promises as types;
 
 use syn_attr::attr::{Attribute, Meta};
 use syn_attr::expr::Expr;
@@ -29,52 +39,39 @@ use syn_ty::ty::TypeOf;
 use token_core::Items;
 
 /// The normal form of a meta.
-#[tactic(auto, using(syn_attr::proofs::attr_laws::Normal::normals))]
 pub fn meta<X: Subtree>(tree: &Meta<X>)
-    requires own { (w : Place) (x : X) → X.normal w (X.normal w x) ≡ X.normal w x }
-    requires prints { (w : Place) (x : X) → X.prints w (X.normal w x) ≡ X.prints w x }
-    ensures stays { normal.meta X.normal (normal.meta X.normal tree.now) ≡ normal.meta X.normal tree.now }
-    ensures same { printing.meta X.prints (normal.meta X.normal tree.now) ≡ printing.meta X.prints tree.now }
+    ensures admitted { Admitted (grammars.meta X.reads X.spells X.normal X.prints) tree.now }
+    ensures stays { Own X.normal → normal.meta X.normal (normal.meta X.normal tree.now) ≡ normal.meta X.normal tree.now }
+    ensures same { SamePrint X.normal X.prints → printing.meta X.prints (normal.meta X.normal tree.now) ≡ printing.meta X.prints tree.now }
 {}
 
 /// The normal form of attributes.
-#[tactic(auto, using(syn_attr::proofs::attr_laws::Normal::normals))]
 pub fn attributes<X: Subtree>(trees: &Items<Attribute<X>>)
-    requires own { (w : Place) (x : X) → X.normal w (X.normal w x) ≡ X.normal w x }
-    requires prints { (w : Place) (x : X) → X.prints w (X.normal w x) ≡ X.prints w x }
-    ensures stays { normal.attributes X.normal (normal.attributes X.normal trees.now) ≡ normal.attributes X.normal trees.now }
-    ensures same { printing.attributes X.prints (normal.attributes X.normal trees.now) ≡ printing.attributes X.prints trees.now }
+    ensures outer { Admitted (grammars.outer X.reads X.spells X.normal X.prints) trees.now }
+    ensures inner { Admitted (grammars.inner X.reads X.spells X.normal X.prints) trees.now }
+    ensures stays { Own X.normal → normal.attributes X.normal (normal.attributes X.normal trees.now) ≡ normal.attributes X.normal trees.now }
+    ensures same { SamePrint X.normal X.prints → printing.attributes X.prints (normal.attributes X.normal trees.now) ≡ printing.attributes X.prints trees.now }
 {}
 
 /// The normal form of an expression as the value of a meta.
-#[tactic(auto, using(syn_attr::proofs::attr_laws::Normal::normals))]
 pub fn expression<X: Subtree>(tree: &Expr<X>)
-    requires own { (w : Place) (x : X) → X.normal w (X.normal w x) ≡ X.normal w x }
-    requires prints { (w : Place) (x : X) → X.prints w (X.normal w x) ≡ X.prints w x }
-    ensures stays { normal.value X.normal (normal.value X.normal tree.now) ≡ normal.value X.normal tree.now }
-    ensures same { printing.value X.prints (normal.value X.normal tree.now) ≡ printing.value X.prints tree.now }
+    ensures admitted { (l : Toks) → IsValue X.spells false tree.now l → (normal.value X.normal (normal.value X.normal tree.now) ≡ normal.value X.normal tree.now) × (printing.value X.prints (normal.value X.normal tree.now) ≡ printing.value X.prints tree.now) }
+    ensures stays { Own X.normal → normal.value X.normal (normal.value X.normal tree.now) ≡ normal.value X.normal tree.now }
+    ensures same { SamePrint X.normal X.prints → printing.value X.prints (normal.value X.normal tree.now) ≡ printing.value X.prints tree.now }
 {}
 
-/// The normal form of a type, where so it is of its attributes and expressions.
-#[tactic(auto, using(crate::proofs::ty_laws::Stays::laws, crate::proofs::ty_laws::SamePrint::laws))]
+/// The normal form of a type.
 pub fn ty<A: Attributes, E: Value>(tree: &TypeOf<A, E>)
-    requires own_attributes { (l : List A) → A.normal (A.normal l) ≡ A.normal l }
-    requires own_values { OwnValues E.normal }
-    requires same_attributes { (l : List A) → A.shown (A.normal l) ≡ A.shown l }
-    requires same_values { SameValues E.normal E.values }
-    ensures stays { normal_types.ty A.normal E.normal (normal_types.ty A.normal E.normal tree.now) ≡ normal_types.ty A.normal E.normal tree.now }
-    ensures same { printed_types.ty A.shown E.values (normal_types.ty A.normal E.normal tree.now) ≡ printed_types.ty A.shown E.values tree.now }
+    ensures admitted { (place : TypePlace) → Admitted (types.ty A.reads E.reads A.spells E.spells A.normal E.normal A.shown E.values place) tree.now }
+    ensures stays { OwnList A.normal → OwnValues E.normal → normal_types.ty A.normal E.normal (normal_types.ty A.normal E.normal tree.now) ≡ normal_types.ty A.normal E.normal tree.now }
+    ensures same { SameList A.normal A.shown → SameValues E.normal E.values → printed_types.ty A.shown E.values (normal_types.ty A.normal E.normal tree.now) ≡ printed_types.ty A.shown E.values tree.now }
 {}
 
-/// The normal form of generics, where so it is of their attributes and expressions.
-#[tactic(auto, using(crate::proofs::generics_laws::Normal::laws, crate::proofs::generics_laws::SamePrint::laws))]
+/// The normal form of generics.
 pub fn generics<A: Attributes, E: Value>(tree: &GenericsOf<A, E>)
-    requires own_attributes { (l : List A) → A.normal (A.normal l) ≡ A.normal l }
-    requires own_values { OwnValues E.normal }
-    requires same_attributes { (l : List A) → A.shown (A.normal l) ≡ A.shown l }
-    requires same_values { SameValues E.normal E.values }
-    ensures stays { normal_generics.generics A.normal E.normal (normal_generics.generics A.normal E.normal tree.now) ≡ normal_generics.generics A.normal E.normal tree.now }
-    ensures same { printed_generics.generics A.shown E.values (normal_generics.generics A.normal E.normal tree.now) ≡ printed_generics.generics A.shown E.values tree.now }
+    ensures admitted { Admitted (promises.generics A.reads E.reads A.spells E.spells A.normal E.normal A.shown E.values) tree.now }
+    ensures stays { OwnList A.normal → OwnValues E.normal → normal_generics.generics A.normal E.normal (normal_generics.generics A.normal E.normal tree.now) ≡ normal_generics.generics A.normal E.normal tree.now }
+    ensures same { SameList A.normal A.shown → SameValues E.normal E.values → printed_generics.generics A.shown E.values (normal_generics.generics A.normal E.normal tree.now) ≡ printed_generics.generics A.shown E.values tree.now }
 {}
 
 /// The print of `ImplGenerics`, of generics that spell some list plainly: `Generics` reads it as the normal form of these without defaults and where clause.
@@ -88,10 +85,8 @@ pub fn where_clause<A: Attributes, E: Value>(tree: &WhereClauseOf<A, E>)
 {}
 
 /// The normal form of a pattern.
-#[tactic(auto, using(crate::proofs::pat_laws::Stays::normals))]
 pub fn pat<X: Subtree>(tree: &Pat<X>)
-    requires own { (w : Place) (x : X) → X.normal w (X.normal w x) ≡ X.normal w x }
-    requires prints { (w : Place) (x : X) → X.prints w (X.normal w x) ≡ X.prints w x }
-    ensures stays { normal_patterns.pat X.normal (normal_patterns.pat X.normal tree.now) ≡ normal_patterns.pat X.normal tree.now }
-    ensures same { printed_patterns.pat X.prints (printed_patterns.types_shown X.prints) (normal_patterns.pat X.normal tree.now) ≡ printed_patterns.pat X.prints (printed_patterns.types_shown X.prints) tree.now }
+    ensures admitted { (place : PatPlace) → Admitted (patterns.pat X.reads X.spells X.normal X.prints place) tree.now }
+    ensures stays { Own X.normal → normal_patterns.pat X.normal (normal_patterns.pat X.normal tree.now) ≡ normal_patterns.pat X.normal tree.now }
+    ensures same { SamePrint X.normal X.prints → printed_patterns.pat X.prints (printed_patterns.types_shown X.prints) (normal_patterns.pat X.normal tree.now) ≡ printed_patterns.pat X.prints (printed_patterns.types_shown X.prints) tree.now }
 {}

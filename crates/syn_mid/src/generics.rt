@@ -10,8 +10,8 @@ pub use syn_pat::supplied::{
     BoundLifetimes, ConstParam, GenericParam, LifetimeParam, TraitBound, TypeParam, TypeParamBound,
 };
 pub use syn_ty::generics::{
-    BoundLifetimesOf, CapturedParam, ConstParamOf, GenericParamOf, LifetimeParamOf, PreciseCapture,
-    TraitBoundModifiers, TraitBoundOf, TypeParamBoundOf, TypeParamOf,
+    BoundConst, BoundLifetimesOf, CapturedParam, ConstParamOf, GenericParamOf, LifetimeParamOf,
+    PreciseCapture, TraitBoundModifiers, TraitBoundOf, TypeParamBoundOf, TypeParamOf,
 };
 
 /// The parameters of a declaration, and its where clause, which stands elsewhere in many of them.

@@ -19,6 +19,7 @@ pub use attr::AttributeOf;
 pub use attr::Meta;
 pub use attr::MetaList;
 pub use attr::MetaNameValue;
+pub use generics::BoundConst;
 pub use generics::BoundLifetimes;
 pub use generics::BoundLifetimesOf;
 pub use generics::CapturedParam;

@@ -3,12 +3,13 @@
 pub mod print;
 pub mod read;
 
-ghost use Rattle.std.specs.Prelude.{◌≡◌, ◌++◌, [], Bool, None, IsOk, OnOk, OnErr};
+ghost use Rattle.std.specs.Prelude.{◌≡◌, ◌++◌, [], Bool, None, OnOk, OnErr};
 ghost use Rattle.token_core.specs.Prints.{Extends, Print};
 ghost use Rattle.token_core.specs.Trees.{trees};
 ghost use Rattle.syn_ty.specs.declared.generics.GenericParamOf.TheVariants as params;
 ghost use Rattle.syn_ty.specs.declared.generics.Style as styles;
 ghost use Rattle.syn_ty.specs.declared.generics.TypeParamBoundOf.TheVariants as bounds;
+ghost use Rattle.syn_ty.specs.generics.Modifiers as modifiers;
 ghost use Rattle.syn_ty.specs.generics.Params as spec;
 ghost use Rattle.syn_ty.specs.generics.Shapes as shapes;
 ghost use Rattle.syn_ty.specs.generics.Views as views;
@@ -19,8 +20,12 @@ use crate::ty::TypeOf;
 use std::alloc::{AllocError, Global};
 use syn_path::path::PathOf;
 use syn_path::supplied::{Attributes, Value};
-use token_core::token::{Colon, Comma, Const, Eq, For, Gt, Lt, Paren, Plus, Question, Use};
-use token_core::{Error, Ident, Items, Lifetime, Punctuated, ToTokens, TokenStream};
+use token_core::token::{
+    Async, Bracket, Colon, Comma, Const, Eq, For, Gt, Lt, Paren, Plus, Question, Use,
+};
+use token_core::{
+    Error, ErrorKind, Ident, Items, Lifetime, Punctuated, Span, ToTokens, TokenStream,
+};
 
 /// A parameter of generics.
 #[cycle(types)]
@@ -78,13 +83,13 @@ pub struct BoundLifetimesOf<G> {
 #[cycle(types)]
 #[derive(Drop)]
 pub enum TypeParamBoundOf<A, E> {
-    /// `for<'a> ?a::b`
+    /// `for<'a> const a::b`
     Trait(TraitBoundOf<A, E>),
     /// `'a`
     Lifetime(Lifetime),
     /// `use<'a, T>`
     PreciseCapture(PreciseCapture),
-    /// Tokens that no other case holds.
+    /// Tokens that were put there by hand: no read gives them.
     Verbatim(TokenStream),
 }
 
@@ -99,9 +104,21 @@ pub struct TraitBoundOf<A, E> {
     pub path: PathOf<PathArgumentsOf<A, E>>,
 }
 
-/// What stands between the binder of a trait bound and its `?`: nothing, today.
-#[derive(Clone, Copy, Default)]
-pub struct TraitBoundModifiers {}
+/// What stands between the binder of a trait bound and its `?`: `const` or `[const]`, and `async`.
+#[derive(Clone, Copy)]
+pub struct TraitBoundModifiers {
+    pub constness: Option<BoundConst>,
+    pub asyncness: Option<Async>,
+}
+
+/// How a trait bound is `const`.
+#[derive(Clone, Copy)]
+pub enum BoundConst {
+    /// `const`
+    Const(Const),
+    /// `[const]`
+    Conditional(Bracket, Const),
+}
 
 /// What an opaque type captures: `use<'a, T>`.
 #[derive(Drop)]
@@ -166,13 +183,54 @@ impl<A> LifetimeParamOf<A> {
     }
 }
 
-impl TraitBoundModifiers {
-    /// Refuses modifiers where none may stand. None is there today.
-    pub fn require_empty(&self) -> Result<(), Error>
-        ensures { IsOk result }
+/// No modifiers.
+impl Default for TraitBoundModifiers {
+    ghost is_default = { λ m. m ≡ modifiers.no_modifiers };
+
+    fn default() -> TraitBoundModifiers {
+        TraitBoundModifiers {
+            constness: None,
+            asyncness: None,
+        }
+    }
+}
+
+impl BoundConst {
+    /// Its first and its last token, brackets by their delimiters.
+    fn ends(&self) -> (Span, Span)
+        ensures { result ≡ modifiers.ends_of_const self.now }
     {
-        let TraitBoundModifiers {} = self;
-        Ok(())
+        match self {
+            BoundConst::Const(token) => (token.span, token.span),
+            BoundConst::Conditional(bracket, _) => (bracket.span.open_(), bracket.span.close()),
+        }
+    }
+}
+
+impl TraitBoundModifiers {
+    /// Their first and their last token, if there are any.
+    fn ends(&self) -> Option<(Span, Span)>
+        ensures { result ≡ modifiers.ends self.now.constness self.now.asyncness }
+    {
+        match (&self.constness, &self.asyncness) {
+            (None, None) => None,
+            (None, Some(token)) => Some((token.span, token.span)),
+            (Some(constness), None) => Some(constness.ends()),
+            (Some(constness), Some(token)) => Some((constness.ends().0, token.span)),
+        }
+    }
+
+    /// Refuses modifiers where none is supported (`BoundModifiersNotSupported`), from the first token of them to the last.
+    pub fn require_empty(&self, alloc: Global) -> Result<(), Error>
+        ensures { modifiers.required_empty (modifiers.ends self.now.constness self.now.asyncness) result }
+    {
+        match self.ends() {
+            None => Ok(()),
+            Some((start, end)) => {
+                let kind = ErrorKind::BoundModifiersNotSupported;
+                Err(Error::of(alloc, kind, kind.text(), start, end))
+            }
+        }
     }
 }
 

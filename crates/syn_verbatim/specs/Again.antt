@@ -73,8 +73,8 @@ module _ where
 
   group_layer : (y : o.Group-F A B) → Q (roll-Group (map-Group A B TokenTree Group (λ a. a.0) (λ b. b.0) y))
   group_layer y = λ r.
-      let c = trees_of y.stream in
-      ap (λ f. levels (f r)) (group-roll (record { delimiter = y.delimiter; stream = c; span = y.span })) ∙ rebuilds_group y.delimiter y.span c r (rebuilds_content y.stream)
+      let c = trees_of y.content.0 in
+      ap (λ f. levels (f r)) (group-roll (record { content = (c, y.content.1); span = y.span })) ∙ rebuilds_group y.content.1 y.span c r (rebuilds_content y.content.0)
 
   rebuilds_tree : (x : TokenTree) → P x
   rebuilds_tree = ind-TokenTree P Q (λ x y is. subst (λ z. P (roll-TokenTree z)) is (tree_layer y)) (λ x y is. subst (λ z. Q (roll-Group z)) is (group_layer y))

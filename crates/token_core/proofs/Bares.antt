@@ -26,7 +26,7 @@ bare-tree : (x : o.TokenTree-F TokenTree Group) → bare_tree (roll-TokenTree x)
 unfolding bare_tree bare_group
 bare-tree x = fold-roll-TokenTree TokenTree Group s.tree_step s.group_step x
 
-bare-group : (x : o.Group-F TokenTree Group) → bare_group (roll-Group x) ≡ group_of x.delimiter (bare_stream x.stream) (delim_span none none)
+bare-group : (x : o.Group-F TokenTree Group) → bare_group (roll-Group x) ≡ group_of x.content.1 (bare_stream x.content.0) (delim_span none none)
 unfolding bare_tree bare_group bare_stream
 bare-group x = fold-roll-Group TokenTree Group s.tree_step s.group_step x
 
@@ -189,10 +189,10 @@ same_group a b x r e d = (
 -- ---- groups and lists
 
 delimiter_bare : (g : Group) → delimiter_of (bare_group g) ≡ delimiter_of g
-delimiter_bare g = ap delimiter_of (bare_group_is g) ∙ ap (λ (y : o.Group-F TokenTree Group). y.delimiter) (out-roll-Group (record { delimiter = delimiter_of g; stream = bare_stream (content_of g); span = delim_span none none }))
+delimiter_bare g = ap delimiter_of (bare_group_is g) ∙ ap (λ (y : o.Group-F TokenTree Group). y.content.1) (out-roll-Group (record { content = (bare_stream (content_of g), delimiter_of g); span = delim_span none none }))
 
 content_bare : (g : Group) → content_of (bare_group g) ≡ bare_stream (content_of g)
-content_bare g = ap content_of (bare_group_is g) ∙ ap (λ (y : o.Group-F TokenTree Group). y.stream) (out-roll-Group (record { delimiter = delimiter_of g; stream = bare_stream (content_of g); span = delim_span none none }))
+content_bare g = ap content_of (bare_group_is g) ∙ ap (λ (y : o.Group-F TokenTree Group). y.content.0) (out-roll-Group (record { content = (bare_stream (content_of g), delimiter_of g); span = delim_span none none }))
 
 pub other_delimiter : (a b : Group) → (delimiter_of a ≡ delimiter_of b → ⊥) → Decides false (bare_group a ≡ bare_group b)
 other_delimiter a b h = ((λ e. absurd (cc)), (λ e. absurd (h (sym (delimiter_bare a) ∙ ap delimiter_of e ∙ delimiter_bare b))))

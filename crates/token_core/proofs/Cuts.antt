@@ -151,7 +151,7 @@ module _ where
   tree_layer (o.Group g) = subst Whole (sym (t.rolls-Group g.0)) g.1
 
   group_layer : (y : o.Group-F WA WB) → WQ (roll-Group (map-Group WA WB TokenTree Group (λ a. a.0) (λ b. b.0) y))
-  group_layer y = whole_group y.delimiter y.span (map (λ (a : WA). a.0) y.stream) (whole_content y.stream)
+  group_layer y = whole_group y.content.1 y.span (map (λ (a : WA). a.0) y.content.0) (whole_content y.content.0)
 
   whole_tree : (x : TokenTree) → Whole x
   whole_tree = ind-TokenTree Whole WQ (λ x y is. subst (λ z. Whole (roll-TokenTree z)) is (tree_layer y)) (λ x y is. subst (λ z. WQ (roll-Group z)) is (group_layer y))

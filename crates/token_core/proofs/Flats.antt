@@ -37,7 +37,7 @@ pub tree-roll : (x : TreeLayer) → s.tree (roll-TokenTree x) ≡ s.tree_step (m
 unfolding s.tree s.inside
 tree-roll x = fold-roll-TokenTree Before Before s.tree_step s.group_step x
 
-pub group-roll : (x : GroupLayer) → s.inside (roll-Group x) ≡ grouped x.delimiter x.span (s.stream x.stream)
+pub group-roll : (x : GroupLayer) → s.inside (roll-Group x) ≡ grouped x.content.1 x.span (s.stream x.content.0)
 unfolding s.tree s.inside s.stream
 group-roll x = fold-roll-Group Before Before s.tree_step s.group_step x
 
@@ -71,7 +71,7 @@ module _ where
   tree_layer (o.Group g) = ap (λ (k : KnownTree). k.0) (known-tree (o.Group g.0)) ∙ ap t.Group g.1 ∙ sym (t.rolls-Group g.0)
 
   group_layer : (y : o.Group-F A B) → Q (roll-Group (map-Group A B TokenTree Group (λ a. a.0) (λ b. b.0) y))
-  group_layer y = ap (λ (k : KnownGroup). k.0) (known-group (record { delimiter = y.delimiter; stream = map (λ (a : A). a.0) y.stream; span = y.span })) ∙ ap (λ z. group_of y.delimiter z y.span) (firsts_known y.stream)
+  group_layer y = ap (λ (k : KnownGroup). k.0) (known-group (record { content = (map (λ (a : A). a.0) y.content.0, y.content.1); span = y.span })) ∙ ap (λ z. group_of y.content.1 z y.span) (firsts_known y.content.0)
 
   known_tree_is : (t : TokenTree) → P t
   known_tree_is = ind-TokenTree P Q (λ x y is. subst (λ z. P (roll-TokenTree z)) is (tree_layer y)) (λ x y is. subst (λ z. Q (roll-Group z)) is (group_layer y))
@@ -93,11 +93,11 @@ pub flat_stream_is : (c : TokenStream) → flat_stream c ≡ all_of (map flat_tr
 unfolding flat_stream
 flat_stream_is c = refl
 
-flat-group-roll : (x : GroupLayer) → flat_group (roll-Group x) ≡ group_flat x.delimiter x.span x.stream
+flat-group-roll : (x : GroupLayer) → flat_group (roll-Group x) ≡ group_flat x.content.1 x.span x.content.0
 flat-group-roll x =
     ap (λ (k : KnownGroup). k.1) (known-group x)
-    ∙ ap (λ z. (closed x.delimiter x.span z (all_of (seconds (map known_tree x.stream)))).1) (known_is x.stream)
-    ∙ ap (λ z. (closed x.delimiter x.span x.stream z).1) (ap all_of (flats_known x.stream) ∙ sym (flat_stream_is x.stream))
+    ∙ ap (λ z. (closed x.content.1 x.span z (all_of (seconds (map known_tree x.content.0)))).1) (known_is x.content.0)
+    ∙ ap (λ z. (closed x.content.1 x.span x.content.0 z).1) (ap all_of (flats_known x.content.0) ∙ sym (flat_stream_is x.content.0))
 
 abbrev pub tree_flat : e.Layer → Flat
 tree_flat (o.Ident i) = saw_word i ∷ []
@@ -172,8 +172,8 @@ module _ where
 
   nested_group_layer : (y : o.Group-F NA NB) → NQ (roll-Group (map-Group NA NB TokenTree Group (λ a. a.0) (λ b. b.0) y))
   nested_group_layer y =
-      let c = nested_trees y.stream in
-      subst Nested (sym (flat-group-roll (record { delimiter = y.delimiter; stream = c; span = y.span }))) (nested_group y.delimiter y.span c (nested_content y.stream))
+      let c = nested_trees y.content.0 in
+      subst Nested (sym (flat-group-roll (record { content = (c, y.content.1); span = y.span }))) (nested_group y.content.1 y.span c (nested_content y.content.0))
 
   nested_tree : (t : TokenTree) → NP t
   nested_tree = ind-TokenTree NP NQ (λ x y is. subst (λ z. NP (roll-TokenTree z)) is (nested_tree_layer y)) (λ x y is. subst (λ z. NQ (roll-Group z)) is (nested_group_layer y))
@@ -254,10 +254,10 @@ module _ where
 
   shows_group_layer : (y : o.Group-F SA SB) → SQ (roll-Group (map-Group SA SB TokenTree Group (λ a. a.0) (λ b. b.0) y))
   shows_group_layer y = λ l.
-      let c = shown_trees y.stream in
-      ap (λ k. view (k ++ l)) (flat-group-roll (record { delimiter = y.delimiter; stream = c; span = y.span }))
-      ∙ shows_group y.delimiter y.span c l (shows_content y.stream)
-      ∙ sym (ap (λ f. f (view l)) (group-roll (record { delimiter = y.delimiter; stream = c; span = y.span })))
+      let c = shown_trees y.content.0 in
+      ap (λ k. view (k ++ l)) (flat-group-roll (record { content = (c, y.content.1); span = y.span }))
+      ∙ shows_group y.content.1 y.span c l (shows_content y.content.0)
+      ∙ sym (ap (λ f. f (view l)) (group-roll (record { content = (c, y.content.1); span = y.span })))
 
   shows_tree : (t : TokenTree) → SP t
   shows_tree = ind-TokenTree SP SQ (λ x y is. subst (λ z. SP (roll-TokenTree z)) is (shows_tree_layer y)) (λ x y is. subst (λ z. SQ (roll-Group z)) is (shows_group_layer y))

@@ -71,9 +71,9 @@ module _ where
 
   keeps_group_layer : (y : o.Group-F KA KB) → KQ (roll-Group (map-Group KA KB TokenTree Group (λ a. a.0) (λ b. b.0) y))
   keeps_group_layer y =
-      let c = trees_of y.stream in
-      moved (s.inside (roll-Group (record { delimiter = y.delimiter; stream = c; span = y.span }))) (grouped y.delimiter y.span (s.stream c))
-      (λ r. ap (λ (f : Before). f r) (group-roll (record { delimiter = y.delimiter; stream = c; span = y.span }))) (keeps_group y.delimiter y.span (s.stream c) (keeps_content y.stream))
+      let c = trees_of y.content.0 in
+      moved (s.inside (roll-Group (record { content = (c, y.content.1); span = y.span }))) (grouped y.content.1 y.span (s.stream c))
+      (λ r. ap (λ (f : Before). f r) (group-roll (record { content = (c, y.content.1); span = y.span }))) (keeps_group y.content.1 y.span (s.stream c) (keeps_content y.content.0))
 
   keeps_tree : (t : TokenTree) → KP t
   keeps_tree = ind-TokenTree KP KQ (λ x y is. subst (λ z. KP (roll-TokenTree z)) is (keeps_tree_layer y)) (λ x y is. subst (λ z. KQ (roll-Group z)) is (keeps_group_layer y))

@@ -85,9 +85,9 @@ module _ where
 
   adds_group_layer : (y : o.Group-F AA AB) → AQ (roll-Group (map-Group AA AB TokenTree Group (λ a. a.0) (λ b. b.0) y))
   adds_group_layer y =
-      let c = trees_of y.stream in
-      moved (s.inside (roll-Group (record { delimiter = y.delimiter; stream = c; span = y.span }))) (grouped y.delimiter y.span (s.stream c))
-      (λ r. ap (λ (f : Before). f r) (group-roll (record { delimiter = y.delimiter; stream = c; span = y.span }))) (adds_group y.delimiter y.span (s.stream c) (adds_content y.stream))
+      let c = trees_of y.content.0 in
+      moved (s.inside (roll-Group (record { content = (c, y.content.1); span = y.span }))) (grouped y.content.1 y.span (s.stream c))
+      (λ r. ap (λ (f : Before). f r) (group-roll (record { content = (c, y.content.1); span = y.span }))) (adds_group y.content.1 y.span (s.stream c) (adds_content y.content.0))
 
   -- the items of a tree's tokens and of what follows them
   pub adds_tree : (t : TokenTree) → AP t

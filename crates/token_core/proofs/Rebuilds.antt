@@ -74,8 +74,8 @@ module _ where
 
   group_layer : (y : o.Group-F A B) → Q (roll-Group (map-Group A B TokenTree Group (λ a. a.0) (λ b. b.0) y))
   group_layer y = λ r.
-      let c = trees_of y.stream in
-      ap (λ f. levels (f r)) (group-roll (record { delimiter = y.delimiter; stream = c; span = y.span })) ∙ rebuilds_group y.delimiter y.span c r (rebuilds_content y.stream)
+      let c = trees_of y.content.0 in
+      ap (λ f. levels (f r)) (group-roll (record { content = (c, y.content.1); span = y.span })) ∙ rebuilds_group y.content.1 y.span c r (rebuilds_content y.content.0)
 
   rebuilds_tree : (x : TokenTree) → P x
   rebuilds_tree = ind-TokenTree P Q (λ x y is. subst (λ z. P (roll-TokenTree z)) is (tree_layer y)) (λ x y is. subst (λ z. Q (roll-Group z)) is (group_layer y))
@@ -101,7 +101,7 @@ tree-literal l r = ap (λ x. s.tree x r) (sym (t.rolls-Literal l)) ∙ ap (λ f.
 pub tree-group : (d : Delimiter) (c : TokenStream) (p : DelimSpan) (r : Toks) → s.tree (t.Group (group_of d c p)) r ≡ grouped d p (s.stream c) r
 tree-group d c p r =
     ap (λ x. s.tree x r) (sym (t.rolls-Group (group_of d c p))) ∙ ap (λ f. f r) (tree-roll (o.Group (group_of d c p)))
-    ∙ ap (λ f. f r) (group-roll (record { delimiter = d; stream = c; span = p }))
+    ∙ ap (λ f. f r) (group-roll (record { content = (c, d); span = p }))
 
 pub stream-trees : (l : List TokenTree) (r : Toks) → s.stream (stream_of_trees l) r ≡ row l r
 stream-trees l r = ap (λ f. f r) (stream-roll l)

@@ -61,7 +61,7 @@ abbrev pub closed : Delimiter → DelimSpan → TokenStream → Flat → KnownGr
 closed d s c l = (group_of d c s, saw_delimiter d s c (length l) ∷ (l ++ saw_leave ∷ []))
 
 abbrev pub group_step : o.Group-F KnownTree KnownGroup → KnownGroup
-group_step g = closed g.delimiter g.span (firsts g.stream) (all_of (seconds g.stream))
+group_step g = closed g.content.1 g.span (firsts g.content.0) (all_of (seconds g.content.0))
 
 unfoldable pub known_tree : TokenTree → KnownTree
 known_tree = fold-TokenTree KnownTree KnownGroup tree_step group_step

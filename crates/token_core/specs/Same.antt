@@ -15,7 +15,7 @@ tree_step (o.Literal l) = t.Literal (literal l.kind l.text none)
 tree_step (o.Group g) = t.Group g
 
 abbrev pub group_step : o.Group-F TokenTree Group → Group
-group_step g = group_of g.delimiter g.stream (delim_span none none)
+group_step g = group_of g.content.1 g.content.0 (delim_span none none)
 
 unfoldable pub bare_tree : TokenTree → TokenTree
 bare_tree = fold-TokenTree TokenTree Group tree_step group_step

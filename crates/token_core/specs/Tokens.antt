@@ -518,3 +518,20 @@ sees_underscore = sees_word (is_text (text_of 19))
 
 abbrev pub underscore : Reader (Word 19)
 underscore = read_named 19
+
+-- `async`
+abbrev pub Async : Type 0
+Async = Word 21
+
+abbrev pub sees_async : Toks → Bool
+sees_async = sees_word (is_text (text_of 21))
+
+abbrev pub async_word : Reader (Word 21)
+async_word = read_named 21
+
+-- `struct`
+abbrev pub Struct : Type 0
+Struct = Word 43
+
+abbrev pub struct_word : Reader (Word 43)
+struct_word = read_named 43

@@ -29,13 +29,13 @@ abbrev pub literal : LitKind → Bytes → Span → Literal
 literal k t s = record { kind = k; text = t; span = s }
 
 abbrev pub group_of : Delimiter → TokenStream → DelimSpan → Group
-group_of d c s = roll-Group (record { delimiter = d; stream = c; span = s })
+group_of d c s = roll-Group (record { content = (c, d); span = s })
 
 abbrev pub delimiter_of : Group → Delimiter
-delimiter_of g = (out-Group g).delimiter
+delimiter_of g = (out-Group g).content.1
 
 abbrev pub content_of : Group → TokenStream
-content_of g = (out-Group g).stream
+content_of g = (out-Group g).content.0
 
 abbrev pub span_of : Group → DelimSpan
 span_of g = (out-Group g).span
@@ -68,7 +68,7 @@ tree_step (o.Literal l) r = lit l r
 tree_step (o.Group g) r = g r
 
 abbrev pub group_step : o.Group-F Before Before → Before
-group_step g = grouped g.delimiter g.span (all g.stream)
+group_step g = grouped g.content.1 g.span (all g.content.0)
 
 unfoldable pub tree : TokenTree → Before
 tree = fold-TokenTree Before Before tree_step group_step

@@ -130,7 +130,7 @@ fn group_front<'a>(group: &'a Group, n: usize, more: &'a [Entry<'a>]) -> Front<'
     ensures shown { shows result ≡ spec.settled (view (saw_delimiter (delimiter_of group.now) (span_of group.now) (content_of group.now) n ∷ map saw more.now)) }
     ensures linked { Linked result }
 {
-    match group.delimiter {
+    match group.delimiter() {
         Delimiter::None => Front::Done,
         _ => {
             let (inside, after) = around(n, more);
@@ -181,7 +181,7 @@ fn invisible_group<'a>(
     ensures shown { option_map (λ p. (span_of p.0.now, p.1, p.2)) result ≡ groups.as_invisible (view (saw_delimiter (delimiter_of group.now) (span_of group.now) (content_of group.now) n ∷ map saw more.now)) }
     ensures held { IfSome result (λ p. Holds (view (saw_delimiter (delimiter_of group.now) (span_of group.now) (content_of group.now) n ∷ map saw more.now)) p.1 p.2) }
 {
-    match group.delimiter {
+    match group.delimiter() {
         Delimiter::None => {
             let (inside, after) = around(n, more);
             Some((group, Place { entries: inside }, Place { entries: after }))

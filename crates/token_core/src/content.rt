@@ -3,6 +3,7 @@
 ghost use Rattle.std.specs.Prelude.{◌≡◌, IfOk, IfSome};
 
 use crate::items::Items;
+use crate::tree::Delimiter;
 use std::alloc::{AllocError, Global};
 use std::marker::Model;
 use std::rc::Rc;
@@ -54,22 +55,22 @@ impl<T: Drop> Held<T> {
     }
 }
 
-/// A list of its own, or a shared one.
+/// A list of its own, or a shared one. The delimiter stands beside what tells the two apart, and takes no room there.
 pub enum Keep<T> {
-    Own(Items<T>),
-    Shared(Held<Items<T>>),
+    Own(Delimiter, Items<T>),
+    Shared(Delimiter, Held<Items<T>>),
 }
 
 impl<T: Drop> Drop for Keep<T> {
     fn drop(self) {
         match self {
-            Keep::Own(_list) => (),
-            Keep::Shared(_list) => (),
+            Keep::Own(_, _list) => (),
+            Keep::Shared(_, _list) => (),
         }
     }
 }
 
-/// What is kept so, and contracts see as the list.
+/// What is kept so, and contracts see as the list and the delimiter.
 pub struct Content<T> {
     kept: Keep<T>,
 }
@@ -82,43 +83,57 @@ impl<T: Drop> Drop for Content<T> {
 
 impl<T> Model for Content<T> {
     ghost use Rattle.std.specs.Prelude.{List};
-    ghost use Rattle.std.specs.Coded.{coded_list};
-    ghost use Rattle.token_core.specs.Kept.{list_of};
+    ghost use Rattle.std.specs.Coded.{coded_list, coded×};
+    ghost use Rattle.token_core.specs.declared.tree.Delimiter.{Delimiter};
+    ghost use Rattle.token_core.specs.Codes.{delimiter_code};
+    ghost use Rattle.token_core.specs.Kept.{list_of, delimiter_of};
 
-    ghost Value = { List T };
+    ghost Value = { List T × Delimiter };
 
-    ghost coded = { coded_list T.code };
+    ghost coded = { coded× (coded_list T.code) delimiter_code };
 
-    ghost view = { λ c. list_of c.kept };
+    ghost view = { λ c. (list_of c.kept, delimiter_of c.kept) };
 }
 
 impl<T> Content<T> {
-    pub fn own(list: Items<T>) -> Content<T>
-        ensures { result ≡ list }
+    pub fn own(delimiter: Delimiter, list: Items<T>) -> Content<T>
+        ensures { result ≡ (list, delimiter) }
     {
         Content {
-            kept: Keep::Own(list),
+            kept: Keep::Own(delimiter, list),
         }
     }
 
     pub fn get(&self) -> &Items<T>
-        ensures { result.now ≡ self.now }
+        ensures { result.now ≡ self.now.0 }
     {
         match &self.kept {
-            Keep::Own(list) => list,
-            Keep::Shared(list) => list.get(),
+            Keep::Own(_, list) => list,
+            Keep::Shared(_, list) => list.get(),
+        }
+    }
+
+    pub fn delimiter(&self) -> Delimiter
+        ensures { result ≡ self.now.1 }
+    {
+        match &self.kept {
+            Keep::Own(delimiter, _) => *delimiter,
+            Keep::Shared(delimiter, _) => *delimiter,
         }
     }
 }
 
 impl<T: Drop> Content<T> {
     /// A list that is shared, in no more room than it needs.
-    pub fn shared(alloc: Global, mut list: Items<T>) -> Result<Content<T>, AllocError>
-        ensures { IfOk result (λ c. c ≡ list) }
+    pub fn shared(
+        alloc: Global,
+        delimiter: Delimiter,
+        list: Items<T>,
+    ) -> Result<Content<T>, AllocError>
+        ensures { IfOk result (λ c. c ≡ (list, delimiter)) }
     {
-        list.shrink_to_fit();
         Ok(Content {
-            kept: Keep::Shared(Held::new(alloc, list)?),
+            kept: Keep::Shared(delimiter, Held::new(alloc, list.fitted()?)?),
         })
     }
 
@@ -127,9 +142,9 @@ impl<T: Drop> Content<T> {
         ensures { IfOk result (λ o. IfSome o (λ c. c ≡ self.now)) }
     {
         match &self.kept {
-            Keep::Own(_) => Ok(None),
-            Keep::Shared(list) => Ok(Some(Content {
-                kept: Keep::Shared(list.share()?),
+            Keep::Own(_, _) => Ok(None),
+            Keep::Shared(delimiter, list) => Ok(Some(Content {
+                kept: Keep::Shared(*delimiter, list.share()?),
             })),
         }
     }

@@ -78,6 +78,8 @@ pub enum ErrorKind {
     RangeWithoutEnd,
     /// An element of a slice's pattern is a range that lacks a bound.
     OpenRangeInSlice,
+    /// A trait bound has `const`, `[const]` or `async` where none is supported.
+    BoundModifiersNotSupported,
 }
 
 impl ErrorKind {
@@ -126,6 +128,7 @@ impl ErrorKind {
             ErrorKind::RangeWithoutEnd => "expected range upper bound",
             ErrorKind::OpenRangeInSlice =>
                 "range pattern is not allowed unparenthesized inside slice pattern",
+            ErrorKind::BoundModifiersNotSupported => "trait bound modifiers are not supported here",
         }
     }
 }

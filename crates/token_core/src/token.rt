@@ -168,6 +168,12 @@ pub type Where = Word<18>;
 /// `_`
 pub type Underscore = Word<19>;
 
+/// `async`
+pub type Async = Word<21>;
+
+/// `struct`
+pub type Struct = Word<43>;
+
 impl<const N: u32, const LEN: usize> Default for Mark<N, LEN> {
     ghost is_default = { λ m. m ≡ marks.mark_of N LEN (spec.three spans.none spans.none spans.none) };
 
@@ -480,14 +486,13 @@ impl Token for GroupToken {
 pub fn surround(
     delimiter: Delimiter,
     span: DelimSpan,
-    mut tokens: TokenStream,
+    tokens: TokenStream,
     out: &mut TokenStream,
 ) -> Result<(), AllocError>
     ensures ok { OnOk result (trees out.new ≡ trees out.old ++ prints.group delimiter tokens span) }
     ensures err { OnErr result (trees out.new ≡ trees out.old) }
 {
-    tokens.shrink_to_fit();
-    out.push(TokenTree::Group(Group::new(delimiter, tokens, span)))
+    out.push(TokenTree::Group(Group::new(delimiter, tokens.fitted()?, span)))
 }
 
 impl Paren {

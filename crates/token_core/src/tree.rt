@@ -75,8 +75,7 @@ pub enum TokenTree {
 #[cycle(tree)]
 #[derive(Drop)]
 pub struct Group {
-    pub delimiter: Delimiter,
-    stream: Content<TokenTree>,
+    content: Content<TokenTree>,
     pub span: DelimSpan,
 }
 
@@ -199,8 +198,7 @@ impl Group {
         ensures { result ≡ spec.group_of delimiter stream span }
     {
         Group {
-            delimiter,
-            stream: Content::own(stream),
+            content: Content::own(delimiter, stream),
             span,
         }
     }
@@ -215,8 +213,7 @@ impl Group {
         ensures { IfOk result (λ g. g ≡ spec.group_of delimiter stream span) }
     {
         Ok(Group {
-            delimiter,
-            stream: Content::shared(alloc, stream)?,
+            content: Content::shared(alloc, delimiter, stream)?,
             span,
         })
     }
@@ -224,13 +221,13 @@ impl Group {
     pub fn delimiter(&self) -> Delimiter
         ensures { result ≡ spec.delimiter_of self.now }
     {
-        self.delimiter
+        self.content.delimiter()
     }
 
     pub fn stream(&self) -> &TokenStream
         ensures { result.now ≡ spec.content_of self.now }
     {
-        self.stream.get()
+        self.content.get()
     }
 
     pub fn delim_span(&self) -> DelimSpan
@@ -305,13 +302,16 @@ fn copy_tree(alloc: Global, tree: &TokenTree) -> Result<TokenTree, AllocError>
 fn copy_group(alloc: Global, group: &Group) -> Result<Group, AllocError>
     ensures { IfOk result (λ g. g ≡ group.now) }
 {
-    let stream = match group.stream.share()? {
-        Some(stream) => stream,
-        None => Content::shared(alloc, copy_trees(alloc, group.stream().trees())?)?,
+    let content = match group.content.share()? {
+        Some(content) => content,
+        None => Content::shared(
+            alloc,
+            group.delimiter(),
+            copy_trees(alloc, group.stream().trees())?,
+        )?,
     };
     Ok(Group {
-        delimiter: group.delimiter,
-        stream,
+        content,
         span: group.span,
     })
 }
@@ -361,7 +361,7 @@ fn is_group(group: &Group, other: &TokenTree) -> bool
 fn same_group(group: &Group, other: &Group) -> bool
     ensures { IsTrue result ↔ (sameness.bare_group group.now ≡ sameness.bare_group other.now) }
 {
-    if group.delimiter != other.delimiter {
+    if group.delimiter() != other.delimiter() {
         return false;
     }
     same_trees(group.stream().trees(), other.stream().trees())

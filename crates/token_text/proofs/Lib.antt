@@ -1,5 +1,6 @@
 mod Words
 mod Pasts
+mod NoteLaws
 mod Blanks
 mod Scans
 mod Choices
@@ -12,3 +13,7 @@ mod Steps
 mod CharacterLaws
 mod PieceLaws
 mod TextLaws
+mod StringLaws
+mod WholeLaws
+mod MovingLaws
+mod Escapes

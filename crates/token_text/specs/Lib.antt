@@ -5,3 +5,7 @@ pub mod Spelling
 pub mod Front
 pub mod Reading
 pub mod Printing
+pub mod Wholes
+pub mod Strings
+pub mod Moving
+pub mod Note

@@ -55,7 +55,7 @@ tree_step (o.Literal l) = shown_alone l.text
 tree_step (o.Group g) = shown_alone g
 
 abbrev pub group_step : o.Group-F Shown Bytes → Bytes
-group_step g = before g.delimiter ++ joined true g.stream ++ after g.delimiter (is_none g.stream)
+group_step g = before g.content.1 ++ joined true g.content.0 ++ after g.content.1 (is_none g.content.0)
 
 abbrev pub shown : TokenTree → Shown
 shown = fold-TokenTree Shown Bytes tree_step group_step

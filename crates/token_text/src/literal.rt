@@ -123,7 +123,7 @@ fn after_string(text: &str) -> Option<&str>
 
 /// What follows as many `#`, where they stand here.
 #[tactic(auto, using(crate::proofs::Pasts::pasts))]
-fn past_hashes(text: &str, count: usize) -> Option<&str>
+pub fn past_hashes(text: &str, count: usize) -> Option<&str>
     ensures { MatchOption result (pieces.has_hashes count (chars text.now) ≡ false)
         (λ rest. (pieces.has_hashes count (chars text.now) ≡ true) × (chars rest.now ≡ drop count (chars text.now)) × spec.Past text.now rest.now) }
 {

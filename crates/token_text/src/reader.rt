@@ -9,9 +9,12 @@ use crate::piece::{Leaf, Piece};
 use std::alloc::{AllocError, Global};
 use std::mem;
 use token_core::{
-    DelimSpan, Delimiter, Error, ErrorKind, Group, Ident, Literal, Punct, Spacing, Span,
+    DelimSpan, Delimiter, Error, ErrorKind, Group, Ident, Items, Literal, Punct, Spacing, Span,
     TokenStream, TokenTree,
 };
+
+/// For how many trees an open group has room at first. Few groups hold more, and its list is copied once it is closed.
+const ROOM: usize = 8;
 
 /// A group whose closing bracket is still to come.
 #[derive(Drop)]
@@ -107,7 +110,8 @@ impl Reader {
     fn open_group(&mut self, delimiter: Delimiter, span: Span) -> Result<(), AllocError>
         ensures { IfOk result (λ _. spec.opened delimiter span (spec.state_of self.old) ≡ spec.state_of self.new) }
     {
-        let before = mem::replace(&mut self.trees, TokenStream::new(self.alloc));
+        let content = Items::from_vec(Vec::with_capacity(self.alloc, ROOM)?);
+        let before = mem::replace(&mut self.trees, content);
         self.open_groups.push(Open {
             delimiter,
             span,

@@ -1,5 +1,6 @@
 //! Attributes, metas and expressions are printed.
 
+ghost use Rattle.std.specs.Prelude.{◌≡◌, [], IfOk};
 ghost use Rattle.token_core.specs.Prints.{Appends};
 ghost use Rattle.syn_attr.specs.attr.Printing as printing;
 
@@ -102,9 +103,16 @@ fn print_attribute<X: Subtree>(
 ) -> Result<(), AllocError>
     ensures appends { Appends (printing.attribute X.prints attr.now) result out.old out.new }
 {
-    let mut content = TokenStream::new(alloc);
+    let mut content = room(alloc)?;
     print_meta(alloc, &attr.meta, &mut content)?;
     print_around(alloc, attr, content, out)
+}
+
+/// An empty list with room for the tokens of most attributes.
+fn room(alloc: Global) -> Result<TokenStream, AllocError>
+    ensures { IfOk result (λ it. it ≡ []) }
+{
+    Ok(Items::from_vec(Vec::with_capacity(alloc, 8)?))
 }
 
 /// Appends an attribute around the tokens of its content; refused, what stood before is kept.

@@ -32,6 +32,9 @@ use Rattle.syn_forms.proofs.along_laws.Kit.{further, more_along}
 pub question_along : Along tokens.question
 question_along = search further
 
+pub asyncness_along : Along tokens.asyncness
+asyncness_along = search further
+
 pub mutable_along : Along tokens.mutable
 mutable_along = search further
 

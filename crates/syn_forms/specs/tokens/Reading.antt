@@ -18,6 +18,9 @@ sees_named n = sees_word (is_text (marks.text_of n))
 abbrev pub question : Reader (Option token.Question)
 question = optional sees_question token.question
 
+abbrev pub asyncness : Reader (Option token.Async)
+asyncness = optional token.sees_async token.async_word
+
 abbrev pub mutable : Reader (Option token.Mut)
 mutable = optional token.sees_mut token.mut_word
 

@@ -6,9 +6,10 @@ use Rattle.token_core.specs.Front.{front}
 use Rattle.token_core.specs.Fronted.{FrontLaws}
 use Rattle.token_core.specs.Marks.{text_of}
 use Rattle.token_core.specs.Prints.{Print}
-use Rattle.token_core.specs.Reads.{Reader, any_text, as_word, is_done, is_text, sees_group, sees_mark, sees_word, word_meets}
+use Rattle.token_core.specs.Reads.{Reader, any_text, as_word, is_done, is_text, sees_group, sees_word, word_meets}
 use Rattle.token_core.specs.Tokens as token
-use Rattle.token_core.specs.Toks.{Bytes, Toks, done, word, mark, lit, group, enter, leave}
+use Rattle.token_core.specs.Toks.{Bytes, Toks, done, word, mark, group}
+use Rattle.token_core.proofs.Unseen.{word_no_mark}
 use Rattle.syn_path.specs.Values.{NormalValues, ReadValues, SpelledValues, Values}
 use Rattle.syn_forms.specs.predicates.Reading.{ends_predicate}
 use Rattle.syn_generics.specs.generics.Promises as promises
@@ -52,17 +53,6 @@ no_word test k h = at_front (as_word (front k)) h
 
 clause_no_where : (k : Toks) → follows_clause k ≡ true → token.sees_where k ≡ false
 clause_no_where k h = no_word (is_text (text_of 18)) k (predicate_over k (clause_ends k h)).no_word
-
--- where a word stands, no mark does
-word_no_mark : (test : Bytes → Bool) (c : ℕ) (cs : List ℕ) (k : Toks) → sees_word test k ≡ true → sees_mark (c ∷ cs) k ≡ false
-unfolding sees_word sees_mark
-word_no_mark test c cs done h = refl
-word_no_mark test c cs (word i k) h = refl
-word_no_mark test c cs (mark p k) h = cc h
-word_no_mark test c cs (lit x k) h = refl
-word_no_mark test c cs (group x s y k) h = refl
-word_no_mark test c cs (enter s k) h = word_no_mark test c cs k h
-word_no_mark test c cs (leave k) h = word_no_mark test c cs k h
 
 -- no parameters begin there
 generics_no_lt : (k : Toks) → follows_generics k ≡ true → token.sees_lt k ≡ false

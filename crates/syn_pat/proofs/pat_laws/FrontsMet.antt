@@ -26,15 +26,6 @@ end_no_group d (group b s c k) h = cc h
 end_no_group d (enter s k) h = refl
 end_no_group d (leave k) h = refl
 
-word_no_punct : (test : Bytes → Bool) (l : Toks) → word_meets test (as_word l) ≡ true → as_punct l ≡ None
-word_no_punct test done h = refl
-word_no_punct test (word i k) h = refl
-word_no_punct test (mark p k) h = cc h
-word_no_punct test (lit x k) h = refl
-word_no_punct test (group d s c k) h = refl
-word_no_punct test (enter s k) h = refl
-word_no_punct test (leave k) h = refl
-
 word_no_group : (test : Bytes → Bool) (d : Delimiter) (l : Toks) → word_meets test (as_word l) ≡ true → group_meets d (as_group l) ≡ false
 word_no_group test d done h = refl
 word_no_group test d (word i k) h = refl
@@ -60,10 +51,6 @@ done_no_mark c cs l h = ap (λ o. is_some (past_next c (is_last cs) (past_mark c
 pub done_no_group : (d : Delimiter) (l : Toks) → is_done l ≡ true → sees_group d l ≡ false
 unfolding sees_group is_done
 done_no_group d l h = end_no_group d (front l) h
-
-pub word_no_mark : (test : Bytes → Bool) (c : ℕ) (cs : List ℕ) (l : Toks) → sees_word test l ≡ true → sees_mark (c ∷ cs) l ≡ false
-unfolding sees_mark sees_word
-word_no_mark test c cs l h = ap (λ o. is_some (past_next c (is_last cs) (past_mark cs) o)) (word_no_punct test (front l) h)
 
 pub word_apart : (test : Bytes → Bool) (d : Delimiter) (l : Toks) → sees_word test l ≡ true → sees_group d l ≡ false
 unfolding sees_group sees_word

@@ -11,7 +11,7 @@ use Rattle.token_core.specs.Toks.{Bytes, Toks, done}
 use Rattle.token_core.proofs.MarkSpells.{mark_seen}
 use Rattle.token_core.proofs.Steps.{Reads_to}
 use Rattle.token_core.proofs.Took.{at}
-use Rattle.token_core.proofs.Unseen.{colon_apart, or_apart, or_no_eq}
+use Rattle.token_core.proofs.Unseen.{colon_apart, or_apart, or_no_eq, word_no_mark}
 use Rattle.token_core.proofs.WordSpells.{word_seen}
 use Rattle.syn_path.specs.declared.supplied.Place.{Place}
 use Rattle.syn_path.specs.declared.supplied.Place.TheVariants.{Block, Guard}
@@ -34,7 +34,7 @@ use Rattle.syn_pat.specs.pat.Knot as knot
 use Rattle.syn_pat.specs.pat.Pats.{Attrs, Pat}
 use Rattle.syn_pat.specs.pat.Reading.{Readers, ends_range, qpath, sees_lone_colon, sees_vert}
 use Rattle.syn_pat.specs.pat.Spelling.{IsPatPath, outer_spelt, types_to}
-use Rattle.syn_pat.proofs.pat_laws.FrontsMet.{done_no_group, done_no_mark, mark_apart, no_longer, word_apart, word_no_mark}
+use Rattle.syn_pat.proofs.pat_laws.FrontsMet.{done_no_group, done_no_mark, mark_apart, no_longer, word_apart}
 
 -- ---- what may follow
 

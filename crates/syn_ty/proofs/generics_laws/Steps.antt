@@ -1,20 +1,15 @@
 -- Bounds and parameters by what begins them and where they stand.
 use Rattle.std.specs.Prelude.{is_some}
-use Rattle.std.proofs.Common.{◌≡◌, Bool, true, false, List, Option, Some, None, Ok, Err, refl, sym, ap, ◌∙◌}
+use Rattle.std.proofs.Common.{◌≡◌, true, false, List, Option, Some, None, Ok, refl, ap, ◌∙◌}
 use Rattle.syn_forms.specs.declared.places.BoundPlace.{BoundPlace}
 use Rattle.syn_forms.specs.declared.places.ParamPlace.{ParamPlace}
 use Rattle.syn_forms.specs.declared.places.ParamPlace.TheVariants as p
-use Rattle.syn_forms.specs.groups.Reading.{in_parens}
-use Rattle.syn_forms.specs.places.Reading.{allows_const}
-use Rattle.syn_forms.specs.verbatim.Reading.{position}
 use Rattle.syn_path.specs.Values.{ReadValues}
-use Rattle.syn_ty.specs.generics.Reading.{binder_after, bound_step, capture_in_place, in_binder, in_generics, kept_in_parens, optional_binder, param_after, param_step, trait_in, trait_in_place}
+use Rattle.syn_ty.specs.generics.Reading.{binder_after, bound_step, capture_in_place, in_binder, in_generics, optional_binder, param_after, param_step, trait_in_place}
 use Rattle.syn_ty.specs.ty.Points.{Readers}
 use Rattle.syn_ty.specs.ty.Trees.{BoundLifetimes}
-use Rattle.token_core.specs.declared.tree.Delimiter.TheVariants as d
 use Rattle.token_core.specs.Lifetimes.{sees_lifetime}
-use Rattle.token_core.specs.Reads.{Reader, and_then, sees_group}
-use Rattle.token_core.specs.Refusal.{Refusal}
+use Rattle.token_core.specs.Reads.{Reader, and_then}
 use Rattle.token_core.specs.Stream.{Stream}
 use Rattle.token_core.specs.Tokens as token
 use Rattle.token_core.proofs.Steps.{chosen}
@@ -27,11 +22,6 @@ module _ {A E : Type 0} (r : Readers A E) (place : BoundPlace) (s : Stream) wher
   pub trait_bound : sees_lifetime s.rest ≡ false → token.sees_use s.rest ≡ false → bound_step r place s ≡ trait_in_place r place s
   unfolding bound_step
   trait_bound l u = chosen (sees_lifetime s.rest) false _ _ s _ l (chosen (token.sees_use s.rest) false _ _ s _ u refl)
-
-  -- what parentheses hold is refused
-  pub held_refused : (consts : Bool) (k : Refusal) → sees_group d.Parenthesis s.rest ≡ true → consts ≡ allows_const place → in_parens (trait_in r consts) s ≡ Err k → trait_in_place r place s ≡ Err k
-  unfolding trait_in_place
-  held_refused consts k h e b = chosen (sees_group d.Parenthesis s.rest) true _ _ s _ h (ap (λ o. and_then o (kept_in_parens (position s))) (ap (λ z. in_parens (trait_in r z) s) (sym e) ∙ b))
 
 module _ {A E : Type 0} (r : Readers A E) where
   asked : (q : Option token.Question) (s : Stream) → is_some q ≡ true → binder_after r None q s ≡ optional_binder r s

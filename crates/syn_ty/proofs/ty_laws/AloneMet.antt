@@ -186,7 +186,7 @@ module _ {A E : Type 0} {attrs : Reader (List A)} {values : ReadValues E} {shown
 
   -- ---- generics
 
-  pub trait_bound_met : (n : ℕ) (d : End) (x : TraitBound A E) (l k : Toks) (f : Option Span) (e : Span) (sc : Scope) → IsTraitBound (To n) clearly d x l k → Fits d k → Reads_to (knot.trait_bound attrs values) x l k f e sc
+  pub trait_bound_met : (n : ℕ) (d : End) (x : TraitBound A E) (l k : Toks) (f : Option Span) (e : Span) (sc : Scope) → IsTraitBound (To n) clearly false d x l k → Fits d k → Reads_to (knot.trait_bound attrs values) x l k f e sc
   unfolding knot.trait_bound
   trait_bound_met n d x l k f e sc i o = single_met generics.trait_bound x l k f e sc (λ b h. of_knot.trait_turn attrs values shown spelt g (within b) b (below b) n d x l k f e sc h i o)
 

@@ -276,6 +276,6 @@ module _ {A E : Type 0} {attrs : Reader (List A)} {values : ReadValues E} {shown
   pub optional_binder_took : (s t : Stream) (o : Option (BoundLifetimes A E)) → Visible s.rest → knot.optional_binder attrs values s ≡ Ok (o, t) → TookOne (Front shown spelt (λ part how. IsOptional (IsFor part how))) s t o
   optional_binder_took s t o v e = front shown spelt (λ part how. IsOptional (IsFor part how)) (height s) s t o (params.optional_for_alone_took attrs values (part s) s t o (here s) v e)
 
-  pub trait_bound_took : (s t : Stream) (x : TraitBound A E) → Visible s.rest → knot.trait_bound attrs values s ≡ Ok (x, t) → TookOne (FrontEnding shown spelt IsTraitBound) s t x
+  pub trait_bound_took : (s t : Stream) (x : TraitBound A E) → Visible s.rest → knot.trait_bound attrs values s ≡ Ok (x, t) → TookOne (FrontEnding shown spelt (λ part how. IsTraitBound part how false)) s t x
   unfolding knot.trait_bound
-  trait_bound_took s t x v e = let h = here s in ending shown spelt IsTraitBound (height s) s t x (traits.trait_bound_took (within s) (part s) h.ty (h.param Binder) h.arguments h.pair s t x v e)
+  trait_bound_took s t x v e = let h = here s in ending shown spelt (λ part how. IsTraitBound part how false) (height s) s t x (traits.trait_in_took (within s) (part s) h.ty (h.param Binder) h.arguments h.pair false s t x v e)

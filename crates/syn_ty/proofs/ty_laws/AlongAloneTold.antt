@@ -1,5 +1,5 @@
 -- Single forms of paths, bounds, parameters and types, what they hold read by the knot: where one is read, the stream stands further on.
-use Rattle.std.proofs.Common.{Bool, List}
+use Rattle.std.proofs.Common.{Bool, false, List}
 use Rattle.syn_forms.specs.declared.places.BoundPlace.TheVariants.{Object}
 use Rattle.syn_forms.specs.declared.places.TypePlace.{TypePlace}
 use Rattle.syn_forms.specs.declared.places.TypePlace.TheVariants.{Plus}
@@ -60,7 +60,7 @@ module _ {A E : Type 0} (attrs : Reader (List A)) (values : ReadValues E) (g : A
 
   pub lone_trait_bound : Along (knot.trait_bound attrs values)
   unfolding knot.trait_bound
-  lone_trait_bound = single_along _ (λ r al. bounds.trait_bound_along al)
+  lone_trait_bound = single_along _ (λ r al. bounds.trait_in_along al false)
 
   pub lone_type_param : Along (knot.type_param attrs values)
   unfolding knot.type_param

@@ -1,23 +1,23 @@
 -- Where the read of a binder, of a bound or of a parameter answers, the stream stands further on, over the same of what it holds.
-use Rattle.std.proofs.Common.{Bool, true, false, List, Option, Some, None}
+use Rattle.std.proofs.Common.{Bool, List, Option, Some, None}
 use Rattle.syn_forms.specs.declared.places.BoundPlace.{BoundPlace}
 use Rattle.syn_forms.specs.declared.places.ParamPlace.{ParamPlace}
 use Rattle.syn_forms.specs.declared.places.ParamPlace.TheVariants as p
 use Rattle.syn_path.specs.Values.{ReadValues}
 use Rattle.syn_ty.specs.declared.generics.CapturedParam.{CapturedParam}
+use Rattle.syn_ty.specs.declared.generics.TraitBoundModifiers.{TraitBoundModifiers}
 use Rattle.syn_ty.specs.generics.Reading as reading
 use Rattle.syn_ty.specs.ty.Points.{Point, Readers}
-use Rattle.syn_ty.specs.ty.Trees.{BoundLifetimes, Path, TraitBound}
-use Rattle.token_core.specs.declared.token.Paren.{Paren}
-use Rattle.token_core.specs.Positions.{Item}
+use Rattle.syn_ty.specs.ty.Trees.{BoundLifetimes, Path}
 use Rattle.token_core.specs.Reads.{Reader}
 use Rattle.token_core.specs.Tokens as token
 use Rattle.syn_forms.proofs.along_laws.Forms as forms
 use Rattle.syn_ty.proofs.ty_laws.AlongPathsTold.{path_along, signed_along}
+use Rattle.syn_ty.proofs.ty_laws.ModifiersTold.{modifiers_along}
 use Rattle.syn_forms.proofs.along_laws.Kit.{further}
 use Rattle.syn_path.specs.Took.{Along}
 
--- ---- captures and `const` forms
+-- ---- captures
 
 pub captured_or_along : {other : Reader CapturedParam} → Along other → Along (reading.captured_or other)
 captured_or_along h = search (further, h)
@@ -38,29 +38,13 @@ pub capture_along : Along reading.capture
 unfolding reading.capture
 capture_along = search (further, listed_captured_along, captured_comma_along)
 
-pub const_form_along : Along reading.const_form
-unfolding reading.const_form
-const_form_along = search further
-
-pub no_const_form_along : Along reading.no_const_form
-unfolding reading.no_const_form
-no_const_form_along = search further
-
 -- ---- bounds
 
 module _ {A E : Type 0} where
-  pub trait_of_along : (x : Option (BoundLifetimes A E)) (q : Option token.Question) (y : Path A E) → Along (reading.trait_of x q y)
-  trait_of_along (Some x) (Some q) y = search further
-  trait_of_along (Some x) None y = search further
-  trait_of_along None q y = search further
-
-  pub kept_along : (from : List Item) (x : Option (TraitBound A E)) → Along (reading.kept from x)
-  kept_along from (Some x) = search further
-  kept_along from None = search further
-
-  pub kept_in_parens_along : (from : List Item) (g : Paren × Option (TraitBound A E)) → Along (reading.kept_in_parens from g)
-  kept_in_parens_along from (t, Some x) = search further
-  kept_in_parens_along from (t, None) = search further
+  pub trait_of_along : (m : TraitBoundModifiers) (x : Option (BoundLifetimes A E)) (q : Option token.Question) (y : Path A E) → Along (reading.trait_of m x q y)
+  trait_of_along m (Some x) (Some q) y = search further
+  trait_of_along m (Some x) None y = search further
+  trait_of_along m None q y = search further
 
 module _ {A E : Type 0} {r : Readers A E} (al : (q : Point) → Along (r q)) where
   pub binder_along : Along (reading.binder r)
@@ -76,25 +60,17 @@ module _ {A E : Type 0} {r : Readers A E} (al : (q : Point) → Along (r q)) whe
   binder_after_along None None = search further
   binder_after_along (Some x) q = search further
 
-  pub trait_after_along : (x : Option (BoundLifetimes A E)) → Along (reading.trait_after r x)
+  pub trait_after_along : (x : Option (BoundLifetimes A E)) (m : TraitBoundModifiers) → Along (reading.trait_after r x m)
   unfolding reading.trait_after
-  trait_after_along x = search (further, forms.question_along, binder_after_along, path_along al, signed_along al, trait_of_along)
-
-  pub trait_bound_along : Along (reading.trait_bound r)
-  unfolding reading.trait_bound
-  trait_bound_along = search (further, optional_binder_along, no_const_form_along, trait_after_along)
-
-  pub trait_or_const_along : Along (reading.trait_or_const r)
-  unfolding reading.trait_or_const
-  trait_or_const_along = search (further, optional_binder_along, const_form_along, trait_after_along)
+  trait_after_along x m = search (further, forms.question_along, binder_after_along, path_along al, signed_along al, trait_of_along)
 
   pub trait_in_along : (consts : Bool) → Along (reading.trait_in r consts)
-  trait_in_along true = search (further, trait_or_const_along)
-  trait_in_along false = search (further, trait_bound_along)
+  unfolding reading.trait_in
+  trait_in_along consts = search (further, optional_binder_along, modifiers_along, trait_after_along)
 
   pub trait_in_place_along : (place : BoundPlace) → Along (reading.trait_in_place r place)
   unfolding reading.trait_in_place
-  trait_in_place_along place = search (further, kept_in_parens_along, trait_in_along, kept_along)
+  trait_in_place_along place = search (further, trait_in_along)
 
   pub capture_in_place_along : (place : BoundPlace) → Along (reading.capture_in_place r place)
   unfolding reading.capture_in_place

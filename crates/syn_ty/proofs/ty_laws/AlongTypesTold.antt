@@ -17,7 +17,7 @@ use Rattle.token_core.specs.Loops.{Many}
 use Rattle.token_core.specs.Positions.{Item}
 use Rattle.token_core.specs.Reads.{Reader}
 use Rattle.token_core.specs.Tokens as token
-use Rattle.syn_ty.proofs.ty_laws.AlongBoundsTold.{binder_along, optional_binder_along, trait_bound_along}
+use Rattle.syn_ty.proofs.ty_laws.AlongBoundsTold.{binder_along, optional_binder_along, trait_in_along}
 use Rattle.syn_forms.proofs.along_laws.Forms as forms
 use Rattle.syn_ty.proofs.ty_laws.AlongPathsTold.{maybe_qualified_along, path_along, rest_along}
 use Rattle.syn_path.proofs.Along.{lifetime, opening}
@@ -121,7 +121,7 @@ module _ {A E : Type 0} {r : Readers A E} (al : (q : Point) → Along (r q)) whe
 
   pub paren_content_along : Along (reading.paren_content r)
   unfolding reading.paren_content
-  paren_content_along = search (further, forms.type_paren_content_along, al (a_type Plus), lifetime_object_along, trait_bound_along al)
+  paren_content_along = search (further, forms.type_paren_content_along, al (a_type Plus), lifetime_object_along, trait_in_along al)
 
   pub each_object_from_along : (x : TypeParamBound A E) → Along (reading.each_object_from r x)
   each_object_from_along = search (further, forms.each_bound_from_along, al (a_bound Object))

@@ -23,6 +23,7 @@ use Rattle.syn_forms.specs.declared.places.TypePlace.{TypePlace}
 use Rattle.syn_forms.specs.places.Reading.{allows_plus}
 use Rattle.syn_ty.specs.declared.generics.TypeParamBoundOf.TheVariants as b
 use Rattle.syn_ty.specs.generics.Bounds.{AreBounds, no_bounds, last_bound, bound_and_plus}
+use Rattle.syn_ty.specs.generics.Modifiers.{no_modifiers}
 use Rattle.syn_ty.specs.generics.NormalShapes.{binder_by}
 use Rattle.syn_ty.specs.path.Printing.{path}
 use Rattle.syn_ty.specs.ty.Normal as normal
@@ -81,7 +82,7 @@ module _ {A E : Type 0} (na : List A → List A) (ne : NormalValues E) (pa : Lis
   Bare = Option (BoundLifetimes A E) × Path A E
 
   abbrev pub named_of : Bare → Named A E
-  named_of z = (z.0, None, z.1)
+  named_of z = (z.0, no_modifiers, None, z.1)
 
   abbrev pub normal_bare : Bare → Bare
   normal_bare z = (binder_by (normal.param na ne) z.0, normal.path na ne z.1)
@@ -97,7 +98,7 @@ module _ {A E : Type 0} (na : List A → List A) (ne : NormalValues E) (pa : Lis
 
   -- after a `?`
   abbrev asked_of : token.Question → Path A E → Named A E
-  asked_of q z = (None, Some q, z)
+  asked_of q z = (None, no_modifiers, Some q, z)
 
   abbrev held_asked : DelimSpan → token.Question → Path A E → Bound
   held_asked s q z = b.Trait (with_parens (Some (groups.paren s)) (asked_of q z))

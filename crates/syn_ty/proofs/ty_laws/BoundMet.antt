@@ -1,10 +1,9 @@
--- A bound in its place, spelt clearly, is what its read answers and all that it takes: a lifetime, a capture, or a trait bound, also in parentheses; what has a `const` form is held verbatim.
+-- A bound in its place, spelt clearly, is what its read answers and all that it takes: a lifetime, a capture, or a trait bound, also in parentheses.
 use Rattle.std.proofs.Common.{◌≡◌, ℕ, ◌≤◌, true, false, [], Option, Some, None, Ok, refl, ap, arith}
 use Rattle.token_core.specs.declared.span.DelimSpan.{DelimSpan}
 use Rattle.token_core.specs.declared.span.Span.{Span}
 use Rattle.token_core.specs.declared.token.Paren.{Paren}
 use Rattle.token_core.specs.declared.tree.Delimiter.TheVariants.{Parenthesis}
-use Rattle.token_core.specs.Trees.{TokenStream}
 use Rattle.token_core.specs.Groups as groups
 use Rattle.token_core.specs.Lifetimes.{sees_lifetime}
 use Rattle.token_core.specs.Reads.{sees_group, sees_mark, sees_word}
@@ -22,23 +21,24 @@ use Rattle.syn_forms.specs.places.Reading.{allows_const, allows_capture}
 use Rattle.syn_forms.proofs.groups_laws.Complete.{content, content_ahead, reads_inside}
 use Rattle.syn_ty.specs.declared.generics.PreciseCapture.{PreciseCapture}
 use Rattle.syn_ty.specs.declared.generics.TraitBoundOf.{out-roll-TraitBoundOf}
+use Rattle.syn_ty.specs.declared.generics.TraitBoundModifiers.{TraitBoundModifiers}
 use Rattle.syn_ty.specs.declared.generics.TypeParamBoundOf.TheVariants as b
 use Rattle.syn_ty.specs.declared.path.PathArgumentsOf.TheVariants as a
-use Rattle.syn_ty.specs.generics.Bounds.{IsCapture, a_capture, IsFor, IsTrait, IsTraitBound, a_trait_bound, IsConstBound, a_const_alone, a_const_in_parens, IsBound, a_lifetime_bound, a_bare_bound, a_bound_in_parens, a_capture_bound, a_verbatim_bound}
-use Rattle.syn_ty.specs.generics.Params.{held_bound, held_layer, named_bound, trait_bound_of}
+use Rattle.syn_ty.specs.generics.Bounds.{IsCapture, a_capture, IsFor, IsTrait, IsTraitBound, a_trait_bound, IsBound, a_lifetime_bound, a_bare_bound, a_bound_in_parens, a_capture_bound}
+use Rattle.syn_ty.specs.generics.Params.{held_bound, held_layer, trait_bound_of}
 use Rattle.syn_ty.specs.generics.Reading as reading
 use Rattle.syn_ty.specs.generics.Reading.{binder, trait_in}
 use Rattle.syn_ty.specs.path.Paths.{Sep, angle_of}
 use Rattle.syn_ty.specs.path.Reading.{parenthesized}
 use Rattle.syn_ty.specs.path.Signed.{IsParens}
-use Rattle.syn_ty.specs.ty.Parts.{Manner, clearly, End, Parts, Holds}
+use Rattle.syn_ty.specs.ty.Parts.{Manner, clearly, End, Parts}
 use Rattle.syn_ty.specs.ty.Points.{Readers}
 use Rattle.syn_ty.specs.ty.Reading.{sees_call}
 use Rattle.syn_ty.specs.ty.Spelling.{IsOptional}
 use Rattle.syn_ty.specs.ty.Trees.{BoundLifetimes, Parenthesized, Path, TraitBound, TypeParamBound}
-use Rattle.syn_ty.proofs.ty_laws.CaptureMet.{capture_met, since_met}
+use Rattle.syn_ty.proofs.ty_laws.CaptureMet.{capture_met}
 use Rattle.syn_ty.proofs.ty_laws.Met.{Fits, Meets, PathsMeet}
-use Rattle.syn_ty.proofs.ty_laws.TraitsMet.{const_in_met, const_named, trait_in_met, trait_named}
+use Rattle.syn_ty.proofs.ty_laws.TraitsMet.{trait_in_met, trait_named}
 
 -- nothing follows what is all of a content
 pub done_fits : (d : End) → Fits d done
@@ -73,46 +73,25 @@ module _ {A E : Type 0} (r : Readers A E) (part : Manner → Parts A E) (limit :
 
   -- ---- bounds in their places
 
-  held_is : (t : Paren) (o : For) (q : Option token.Question) (p : Path A E) → held_bound t (named_bound o q p) ≡ trait_bound_of (Some t) o (record {}) q p
-  held_is t o q p = ap (held_layer t) (out-roll-TraitBoundOf A E (record { paren_token = None; lifetimes = o; modifiers = record {}; maybe = q; path = p }))
+  held_is : (t : Paren) (o : For) (x : TraitBoundModifiers) (q : Option token.Question) (p : Path A E) → held_bound t (trait_bound_of None o x q p) ≡ trait_bound_of (Some t) o x q p
+  held_is t o x q p = ap (held_layer t) (out-roll-TraitBoundOf A E (record { paren_token = None; lifetimes = o; modifiers = x; maybe = q; path = p }))
 
   module _ (place : BoundPlace) where
-    bare_met : (d : End) (x : Trait) (l k : Toks) (f : Option Span) (e : Span) (sc : Scope) → ahead (at l f e sc) ≤ limit → IsTraitBound part clearly d x l k → Fits d k → Reads_to (reading.trait_in_place r place) (b.Trait x) l k f e sc
+    bare_met : (d : End) (x : Trait) (l k : Toks) (f : Option Span) (e : Span) (sc : Scope) → ahead (at l f e sc) ≤ limit → IsTraitBound part clearly (allows_const place) d x l k → Fits d k → Reads_to (reading.trait_in_place r place) (b.Trait x) l k f e sc
     unfolding reading.trait_in_place
     bare_met d x l k f e sc h i o =
-        let s = trait_named r part limit m paths pair parens_met for_met d x l k i in
+        let s = trait_named r part limit m paths pair parens_met for_met (allows_const place) d x l k i in
         let w = trait_in_met r part limit m paths pair parens_met for_met (allows_const place) d x l k f e sc h i o in
         record { last = w.last; reads = chosen (sees_group Parenthesis l) false _ _ (at l f e sc) _ s.no_paren (link _ w.reads refl) }
 
-    in_parens_met : (d : End) (n : For) (q : Option token.Question) (p : Path A E) (s : DelimSpan) (c k : Toks) (f : Option Span) (e : Span) (sc : Scope) → ahead (at (group Parenthesis s c k) f e sc) ≤ limit → IsTrait part clearly d n q p c done →
-        Reads_to (reading.trait_in_place r place) (b.Trait (trait_bound_of (Some (groups.paren s)) n (record {}) q p)) (group Parenthesis s c k) k f e sc
+    in_parens_met : (d : End) (n : For) (x : TraitBoundModifiers) (q : Option token.Question) (p : Path A E) (s : DelimSpan) (c k : Toks) (f : Option Span) (e : Span) (sc : Scope) → ahead (at (group Parenthesis s c k) f e sc) ≤ limit →
+        IsTrait part clearly (allows_const place) d n x q p c done → Reads_to (reading.trait_in_place r place) (b.Trait (trait_bound_of (Some (groups.paren s)) n x q p)) (group Parenthesis s c k) k f e sc
     unfolding reading.trait_in_place
-    in_parens_met d n q p s c k f e sc h i =
+    in_parens_met d n x q p s c k f e sc h i =
         let z = content Parenthesis s c k f e sc in
-        let w = trait_in_met r part limit m paths pair parens_met for_met (allows_const place) d (named_bound n q p) c done None none z.scope (less_inside s c k f e sc limit h) (a_trait_bound i) (done_fits d) in
-        let y = reads_inside Parenthesis groups.paren_name (trait_in r (allows_const place)) (Some (named_bound n q p)) s c k (at done None w.last z.scope) f e sc w.reads (leaves_none None w.last z.scope refl) in
-        record { last = s.closing; reads = chosen (sees_group Parenthesis (group Parenthesis s c k)) true _ _ (at (group Parenthesis s c k) f e sc) _ (parens_seen s c k) (link _ (link _ y refl) (ap (λ u. Ok (b.Trait u, at k f s.closing sc)) (held_is (groups.paren s) n q p))) }
-
-    const_met : (d : End) (t : TokenStream) (l k : Toks) (f : Option Span) (e : Span) (sc : Scope) → allows_const place ≡ true → ahead (at l f e sc) ≤ limit → IsConstBound part clearly d l k → Holds t l k → Fits d k →
-        Reads_to (reading.trait_in_place r place) (b.Verbatim t) l k f e sc
-    unfolding reading.trait_in_place
-    const_met d t l k f e sc g h i j o =
-        let s = const_named r part limit m paths pair parens_met for_met d l k i in
-        let w = const_in_met r part limit m paths pair parens_met for_met (allows_const place) d l k f e sc g h i o in
-        record { last = w.last; reads = chosen (sees_group Parenthesis l) false _ _ (at l f e sc) _ s.no_paren (link _ w.reads (link _ (since_met t l k f f e w.last sc j) refl)) }
-
-    const_in_parens_met : (d : End) (t : TokenStream) (s : DelimSpan) (c k : Toks) (f : Option Span) (e : Span) (sc : Scope) → allows_const place ≡ true → ahead (at (group Parenthesis s c k) f e sc) ≤ limit → IsConstBound part clearly d c done →
-        Holds t (group Parenthesis s c k) k → Reads_to (reading.trait_in_place r place) (b.Verbatim t) (group Parenthesis s c k) k f e sc
-    unfolding reading.trait_in_place
-    const_in_parens_met d t s c k f e sc g h i j =
-        let z = content Parenthesis s c k f e sc in
-        let w = const_in_met r part limit m paths pair parens_met for_met (allows_const place) d c done None none z.scope g (less_inside s c k f e sc limit h) i (done_fits d) in
-        let y = reads_inside Parenthesis groups.paren_name (trait_in r (allows_const place)) None s c k (at done None w.last z.scope) f e sc w.reads (leaves_none None w.last z.scope refl) in
-        record {
-          last = s.closing;
-          reads = chosen (sees_group Parenthesis (group Parenthesis s c k)) true _ _ (at (group Parenthesis s c k) f e sc) _ (parens_seen s c k)
-              (link _ (link _ y refl) (link _ (since_met t (group Parenthesis s c k) k f f e s.closing sc j) refl));
-        }
+        let w = trait_in_met r part limit m paths pair parens_met for_met (allows_const place) d (trait_bound_of None n x q p) c done None none z.scope (less_inside s c k f e sc limit h) (a_trait_bound i) (done_fits d) in
+        let y = reads_inside Parenthesis groups.paren_name (trait_in r (allows_const place)) (trait_bound_of None n x q p) s c k (at done None w.last z.scope) f e sc w.reads (leaves_none None w.last z.scope refl) in
+        record { last = s.closing; reads = chosen (sees_group Parenthesis (group Parenthesis s c k)) true _ _ (at (group Parenthesis s c k) f e sc) _ (parens_seen s c k) (link _ (link _ y refl) (ap (λ u. Ok (b.Trait u, at k f s.closing sc)) (held_is (groups.paren s) n x q p))) }
 
     capture_in_place_met : (x : PreciseCapture) (l k : Toks) (f : Option Span) (e : Span) (sc : Scope) → allows_capture place ≡ true → IsCapture true x l k → Reads_to (reading.capture_in_place r place) (b.PreciseCapture x) l k f e sc
     unfolding reading.capture_in_place
@@ -131,10 +110,8 @@ module _ {A E : Type 0} (r : Readers A E) (part : Manner → Parts A E) (limit :
     bound_met d x l k f e sc h (a_lifetime_bound {x = y} i) o =
         let w = lifetime_complete y l k f e sc i in
         record { last = w.last; reads = chosen (sees_lifetime l) true _ _ (at l f e sc) _ (lifetime_seen y l k i) (link _ w.reads refl) }
-    bound_met d x l k f e sc h (a_bare_bound {x = y} i) o = let s = trait_named r part limit m paths pair parens_met for_met d y l k i in trait_turn x l k f e sc s.no_lifetime s.no_use (bare_met d y l k f e sc h i o)
-    bound_met d x l k f e sc h (a_bound_in_parens {e = u} {o = n} {q = q} {p = p} {s = s} {c = c} i) o = let g = group_bound s c k in trait_turn x l k f e sc g.0 g.1 (in_parens_met u n q p s c k f e sc h i)
+    bound_met d x l k f e sc h (a_bare_bound {x = y} i) o = let s = trait_named r part limit m paths pair parens_met for_met (allows_const place) d y l k i in trait_turn x l k f e sc s.no_lifetime s.no_use (bare_met d y l k f e sc h i o)
+    bound_met d x l k f e sc h (a_bound_in_parens {e = u} {o = n} {x = y} {q = q} {p = p} {s = s} {c = c} i) o = let g = group_bound s c k in trait_turn x l k f e sc g.0 g.1 (in_parens_met u n y q p s c k f e sc h i)
     bound_met d x l k f e sc h (a_capture_bound {x = y} g i) o =
         let w = capture_in_place_met y l k f e sc g i in
         record { last = w.last; reads = chosen (sees_lifetime l) false _ _ (at l f e sc) _ (capture_begins y l k i).0 (chosen (token.sees_use l) true _ _ (at l f e sc) _ (capture_begins y l k i).1 w.reads) }
-    bound_met d x l k f e sc h (a_verbatim_bound {t = t} g (a_const_alone i, j)) o = let s = const_named r part limit m paths pair parens_met for_met d l k i in trait_turn x l k f e sc s.no_lifetime s.no_use (const_met d t l k f e sc g h i j o)
-    bound_met d x l k f e sc h (a_verbatim_bound {t = t} g (a_const_in_parens {e = u} {s = s} {c = c} i, j)) o = let w = group_bound s c k in trait_turn x l k f e sc w.0 w.1 (const_in_parens_met u t s c k f e sc g h i j)

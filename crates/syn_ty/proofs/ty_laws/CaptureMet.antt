@@ -1,21 +1,18 @@
--- What holds no type, spelt clearly, is what its read answers and all that it takes: captures, `const` forms, and tokens that are held as they were written.
+-- What holds no type, spelt clearly, is what its read answers and all that it takes: captures, and tokens that are held as they were written.
 use Rattle.std.specs.Prelude.{not}
-use Rattle.std.proofs.Common.{◌≡◌, suc, ◌<◌, Bool, true, false, List, [], ◌∷◌, ◌++◌, length, Option, None, Ok, refl, sym, ◌∙◌, ap, subst, append_assoc, arith}
+use Rattle.std.proofs.Common.{◌≡◌, suc, ◌<◌, Bool, true, false, List, [], ◌∷◌, ◌++◌, length, Option, Ok, refl, sym, ◌∙◌, ap, subst, append_assoc, arith}
 use Rattle.std.proofs.lemmas.Bool.{le-ltb, lt-ltb}
-use Rattle.token_core.specs.declared.span.DelimSpan.{DelimSpan}
 use Rattle.token_core.specs.declared.span.Span.{Span}
-use Rattle.token_core.specs.declared.tree.Delimiter.TheVariants.{Bracket}
 use Rattle.token_core.specs.declared.tree.Ident.{Ident}
 use Rattle.token_core.specs.declared.tree.TokenTree.{TokenTree}
 use Rattle.token_core.specs.Cut.{trees_between}
 use Rattle.token_core.specs.Front.{past_ends}
-use Rattle.token_core.specs.Groups as groups
 use Rattle.token_core.specs.Lifetimes.{sees_lifetime}
 use Rattle.token_core.specs.Listed.{AreListed, Anywhere}
 use Rattle.token_core.specs.Loops.{size}
 use Rattle.token_core.specs.Positions.{Item, IsReached, an_end, items, past, row_items, there, tree_items}
-use Rattle.token_core.specs.Reads.{Reader, any_text, ident_name, next_word, read_word, sees_group, sees_mark, sees_word}
-use Rattle.token_core.specs.Spellings.{last_char, IsMark, is_mark, IsWord, is_word, is_lifetime}
+use Rattle.token_core.specs.Reads.{Reader, any_text, ident_name, next_word, read_word, sees_mark, sees_word}
+use Rattle.token_core.specs.Spellings.{last_char, IsMark, is_mark, is_lifetime}
 use Rattle.token_core.specs.Stream.{Scope}
 use Rattle.token_core.specs.Tokens as token
 use Rattle.token_core.specs.Toks.{Toks, done, word, mark, lit, group, enter, leave}
@@ -25,17 +22,15 @@ use Rattle.token_core.proofs.MarkSpells.{mark_complete, mark_seen, mark_size}
 use Rattle.token_core.proofs.Places.{reached_after, reached_outside, reached_shorter, reached_trans}
 use Rattle.token_core.proofs.Positions.{adds_tree}
 use Rattle.token_core.proofs.Steps.{link, chosen, Reads_to}
-use Rattle.token_core.proofs.Took.{at, leaves_none}
-use Rattle.token_core.proofs.WordSpells.{word_complete, word_seen, lifetime_complete, lifetime_seen}
-use Rattle.syn_forms.specs.groups.Reading.{in_brackets}
+use Rattle.token_core.proofs.Took.{at}
+use Rattle.token_core.proofs.WordSpells.{word_complete, lifetime_complete, lifetime_seen}
 use Rattle.syn_forms.specs.lists.Reading.{list}
 use Rattle.syn_forms.specs.paths.Reading.{is_named_word}
 use Rattle.syn_forms.specs.verbatim.Reading.{outside, position, since}
-use Rattle.syn_forms.proofs.groups_laws.Complete.{reads_inside}
 use Rattle.syn_forms.proofs.lists_laws.Complete.{listed_here}
 use Rattle.syn_ty.specs.declared.generics.CapturedParam.{CapturedParam}
 use Rattle.syn_ty.specs.declared.generics.PreciseCapture.{PreciseCapture}
-use Rattle.syn_ty.specs.generics.Bounds.{IsCaptured, a_lifetime_captured, a_name_captured, IsCapture, a_capture, IsConstForm, a_const_form, a_conditional_form}
+use Rattle.syn_ty.specs.generics.Bounds.{IsCaptured, a_lifetime_captured, a_name_captured, IsCapture, a_capture}
 use Rattle.syn_ty.specs.generics.Reading as reading
 use Rattle.syn_ty.specs.generics.Reading.{captured_comma, captured_or, listed_captured, sees_captured_ident}
 use Rattle.syn_ty.specs.ty.Parts.{Holds}
@@ -114,43 +109,6 @@ capture_met x l k f e sc (a_capture {u = u} {o = o} {xs = xs} {cs = cs} {g = g} 
     let v = params_met xs cs n j f y.last sc c (mark_seen true {n = 3} {k = 1} g j k d) in
     let z = mark_complete true {n = 3} {k = 1} refl (omega arith) g j k f v.last sc d in
     record { last = z.last; reads = link _ w.reads (link _ y.reads (link _ v.reads (link _ z.reads refl))) }
-
--- ---- `const` forms
-
-const_unseen : (s : DelimSpan) (c k : Toks) → token.sees_const (group Bracket s c k) ≡ false
-unfolding sees_word
-const_unseen s c k = refl
-
-brackets_seen : (s : DelimSpan) (c k : Toks) → sees_group Bracket (group Bracket s c k) ≡ true
-unfolding sees_group
-brackets_seen s c k = refl
-
-word_no_brackets : (w : token.Const) (l k : Toks) → IsWord w l k → sees_group Bracket l ≡ false
-unfolding sees_group
-word_no_brackets w l k is_word = refl
-
-brackets_met : (w : token.Const) (s : DelimSpan) (c k : Toks) (f : Option Span) (e : Span) (sc : Scope) → IsWord w c done → in_brackets token.const_word (at (group Bracket s c k) f e sc) ≡ Ok ((groups.bracket s, w), at k f s.closing sc)
-brackets_met w s c k f e sc i =
-    let y = word_complete {n = 6} w c done None _ _ i in
-    link _ (reads_inside Bracket groups.bracket_name token.const_word w s c k (at done None y.last _) f e sc y.reads (leaves_none None y.last _ refl)) refl
-
-pub const_form_met : (l k : Toks) (f : Option Span) (e : Span) (sc : Scope) → IsConstForm l k → Reads_to reading.const_form true l k f e sc
-unfolding reading.const_form
-const_form_met l k f e sc (a_const_form {w = w} i) =
-    let y = word_complete {n = 6} w l k f e sc i in
-    record { last = y.last; reads = chosen (sees_group Bracket l) false _ _ (at l f e sc) _ (word_no_brackets w l k i) (chosen (token.sees_const l) true _ _ (at l f e sc) _ (word_seen {n = 6} w l k i) (link _ y.reads refl)) }
-const_form_met l k f e sc (a_conditional_form {w = w} {s = s} {c = c} i) =
-    record { last = s.closing; reads = chosen (sees_group Bracket l) true _ _ (at l f e sc) _ (brackets_seen s c k) (link _ (brackets_met w s c k f e sc i) refl) }
-
--- where none stands
-pub no_form_met : (l : Toks) (f : Option Span) (e : Span) (sc : Scope) → sees_group Bracket l ≡ false → token.sees_const l ≡ false → reading.const_form (at l f e sc) ≡ Ok (false, at l f e sc)
-unfolding reading.const_form
-no_form_met l f e sc h g = chosen (sees_group Bracket l) false _ _ (at l f e sc) _ h (chosen (token.sees_const l) false _ _ (at l f e sc) _ g refl)
-
--- and where none may stand
-pub no_const_form_met : (l : Toks) (f : Option Span) (e : Span) (sc : Scope) → sees_group Bracket l ≡ false → token.sees_const l ≡ false → reading.no_const_form (at l f e sc) ≡ Ok (tt, at l f e sc)
-unfolding reading.no_const_form
-no_const_form_met l f e sc h g = chosen (sees_group Bracket l) false _ _ (at l f e sc) _ h (chosen (token.sees_const l) false _ _ (at l f e sc) _ g refl)
 
 -- ---- what is held verbatim
 

@@ -30,7 +30,7 @@ use Rattle.syn_ty.specs.ty.Objects.{IsBoundList, several_bounds, one_bound, AreO
 use Rattle.syn_ty.specs.ty.Parts.{Manner, loosely, End, Holds, Parts}
 use Rattle.syn_ty.specs.ty.Points.{Point, Readers, a_bound}
 use Rattle.syn_ty.specs.ty.Reading as reading
-use Rattle.syn_ty.specs.ty.Reading.{names_trait}
+use Rattle.syn_ty.specs.ty.Reading.{is_trait}
 use Rattle.syn_ty.specs.ty.Spelling.{IsOptional, absent, present}
 use Rattle.syn_ty.specs.ty.Trees.{TypeImplTrait, TypeParamBound, TypeTraitObject, TypeTree}
 use Rattle.syn_ty.specs.ty.Types.{impl_trait_with, trait_object_with}
@@ -43,7 +43,7 @@ use Rattle.syn_ty.proofs.ty_laws.Sound.{named_sound, optional_sound}
 use Rattle.syn_ty.proofs.ty_laws.Told.{Told}
 use Rattle.syn_path.specs.Took.{Along}
 
--- ---- `impl`: one of the bounds names a trait, or has a `const` form
+-- ---- `impl`: one of the bounds names a trait
 
 module _ {A E : Type 0} (r : Readers A E) (part : Manner → Parts A E)
     (took : (s t : Stream) (x : TypeParamBound A E) → Visible s.rest → r (a_bound Opaque) s ≡ Ok (x, t) → TookOne (Told ((part loosely).bound Opaque)) s t x) where
@@ -58,10 +58,10 @@ module _ {A E : Type 0} (r : Readers A E) (part : Manner → Parts A E)
   Several = Told (λ e (w : Opaques). AreBounds part loosely Opaque AfterMark true e w.0 w.1)
 
   -- bounds of which none is as it is needed are refused
-  kept_if : (from : Span) (v w : Opaques) (s t : Stream) → reading.needs names_trait NoTraitInImpl from v s ≡ Ok (w, t) → (v ≡ w) × (s ≡ t) × (list_any names_trait v.0 ≡ true)
+  kept_if : (from : Span) (v w : Opaques) (s t : Stream) → reading.needs is_trait NoTraitInImpl from v s ≡ Ok (w, t) → (v ≡ w) × (s ≡ t) × (list_any is_trait v.0 ≡ true)
   unfolding reading.needs
   kept_if from v w s t e =
-      elim (branch (list_any names_trait v.0) (pure v) (refuse_since NoTraitInImpl from) s (Ok (w, t)) e) [
+      elim (branch (list_any is_trait v.0) (pure v) (refuse_since NoTraitInImpl from) s (Ok (w, t)) e) [
         | inl y ↦ let k = same_pair v w s t y.1 in (k.0, k.1, y.0)
         | inr y ↦ cc y.1
       ]
@@ -83,7 +83,7 @@ module _ {A E : Type 0} (r : Readers A E) (part : Manner → Parts A E)
     abbrev OfImpl : TypeImplTrait A E → Toks → Toks → Type 0
     OfImpl = Told (IsImpl part loosely place)
 
-    impl_at : (w : token.Impl) (v : Opaques) (l m k : Toks) → IsWord w l m → Listed v m k → list_any names_trait v.0 ≡ true → OfImpl (impl_trait_with [] w v) l k
+    impl_at : (w : token.Impl) (v : Opaques) (l m k : Toks) → IsWord w l m → Listed v m k → list_any is_trait v.0 ≡ true → OfImpl (impl_trait_with [] w v) l k
     impl_at w v l m k i j h = (j.0, an_impl i j.1 h, j.2, j.3)
 
     module _ (plus : Bool) (as_plus : allows_plus place ≡ plus) where
@@ -91,7 +91,7 @@ module _ {A E : Type 0} (r : Readers A E) (part : Manner → Parts A E)
       after_word from w = reading.impl_bounds r from plus >>= (λ v. pure (impl_trait_with [] w v))
 
       abbrev after_bounds : Span → Opaques → Reader Opaques
-      after_bounds = reading.needs names_trait NoTraitInImpl
+      after_bounds = reading.needs is_trait NoTraitInImpl
 
       pub impl_took : (s t : Stream) (x : TypeImplTrait A E) → Visible s.rest → reading.impl_trait r plus s ≡ Ok (x, t) → TookOne OfImpl s t x
       unfolding reading.impl_trait reading.impl_bounds

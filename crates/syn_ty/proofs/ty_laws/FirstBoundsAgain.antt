@@ -20,9 +20,12 @@ use Rattle.syn_path.specs.Values.{NormalValues, Values}
 use Rattle.syn_path.proofs.Words.{row-group}
 use Rattle.syn_forms.specs.declared.places.BoundPlace.{BoundPlace}
 use Rattle.syn_forms.specs.declared.places.TypePlace.{TypePlace}
+use Rattle.syn_forms.specs.places.Reading.{allows_const}
 use Rattle.syn_ty.specs.declared.generics.PreciseCapture.{PreciseCapture}
+use Rattle.syn_ty.specs.declared.generics.TraitBoundModifiers.{TraitBoundModifiers}
 use Rattle.syn_ty.specs.declared.generics.TypeParamBoundOf.TheVariants as b
-use Rattle.syn_ty.specs.generics.Bounds.{IsCapture, a_capture, IsConstForm, a_const_form, a_conditional_form, IsTrait, a_trait, a_trait_for, a_trait_asked, a_trait_bound, IsConstBound, a_const_bound, a_const_bound_for, a_const_bound_asked, IsVerbatimBound, a_const_alone, a_const_in_parens, IsBound, a_lifetime_bound, a_bare_bound, a_bound_in_parens, a_capture_bound, a_verbatim_bound}
+use Rattle.syn_ty.specs.generics.Bounds.{IsCapture, a_capture, IsTrait, a_trait, a_trait_for, a_trait_asked, a_trait_bound, IsBound, a_lifetime_bound, a_bare_bound, a_bound_in_parens, a_capture_bound}
+use Rattle.syn_ty.specs.generics.Modifiers.{no_modifiers}
 use Rattle.syn_ty.specs.generics.NormalShapes.{binder_by}
 use Rattle.syn_ty.specs.generics.Spelling.{a_binder}
 use Rattle.syn_ty.specs.path.Paths.{Sep}
@@ -31,14 +34,14 @@ use Rattle.syn_ty.specs.path.Signed as signed
 use Rattle.syn_ty.specs.path.Spelling.{IsPath, a_path, IsSegment, a_word, a_word_with_arguments}
 use Rattle.syn_ty.specs.ty.Normal as normal
 use Rattle.syn_ty.specs.ty.Objects.{IsFirst, a_first, a_first_for, AreBareBounds, path_alone, path_and_plus, held_and_plus, asked_first, asked_in_two, lifetime_first}
-use Rattle.syn_ty.specs.ty.Parts.{Manner, is_clear, kept, plainly, clearly, End, Parts}
+use Rattle.syn_ty.specs.ty.Parts.{Manner, is_clear, plainly, clearly, End, Parts}
 use Rattle.syn_ty.specs.ty.Printing as printing
 use Rattle.syn_ty.specs.ty.Spelling.{IsOptional, absent, present}
 use Rattle.syn_ty.specs.ty.Trees.{BoundLifetimes, Path, PathSegment, TypeParamBound}
 use Rattle.syn_ty.proofs.ty_laws.Again.{Again}
 use Rattle.syn_ty.proofs.ty_laws.BareBoundsAgain.{first_again}
 use Rattle.syn_ty.proofs.ty_laws.BoundAgain.{named_prints, print_named, with_parens}
-use Rattle.syn_ty.proofs.ty_laws.HeldForms.{held_spelt}
+use Rattle.syn_ty.proofs.ty_laws.ModifiersAgain.{modifiers_no_lifetime}
 use Rattle.syn_ty.proofs.ty_laws.Prints.{bound-Lifetime}
 
 -- ---- what begins with no lifetime
@@ -53,14 +56,13 @@ module _ (clear : Bool) where
   leading_no_lifetime o l m absent h = h
   leading_no_lifetime o l m (present (is_mark (more_chars y))) h = refl
 
+question_no_lifetime : (clear : Bool) (q : token.Question) (l m : Toks) → IsMark clear q l m → sees_lifetime l ≡ false
+unfolding sees_lifetime
+question_no_lifetime clear q l m (is_mark (last_char y)) = refl
+
 capture_no_lifetime : (clear : Bool) (x : PreciseCapture) (l m : Toks) → IsCapture clear x l m → sees_lifetime l ≡ false
 unfolding sees_lifetime
 capture_no_lifetime clear x l m (a_capture is_word i j n) = refl
-
-const_no_lifetime : (l m : Toks) → IsConstForm l m → sees_lifetime l ≡ false
-unfolding sees_lifetime
-const_no_lifetime l m (a_const_form is_word) = refl
-const_no_lifetime l m (a_conditional_form i) = refl
 
 module _ {A E : Type 0} (part : Manner → Parts A E) (how : Manner) where
   segment_no_lifetime : (x : PathSegment A E) (l m : Toks) → IsSegment part how AsWritten x l m → sees_lifetime l ≡ false
@@ -85,21 +87,11 @@ module _ {A E : Type 0} (part : Manner → Parts A E) (how : Manner) where
   bound_path_no_lifetime e p l m (without_parens i) = path_no_lifetime p l m i
   bound_path_no_lifetime e p l m (signed.with_parens {c = o} {xs = xs} {cs = cs} {m = k} i n) = leading_no_lifetime (is_clear how) o l k i (signed_no_lifetime e xs cs k m n)
 
-  trait_no_lifetime : (e : End) (o : Option (BoundLifetimes A E)) (q : Option token.Question) (p : Path A E) (l m : Toks) → IsTrait part how e o q p l m → sees_lifetime l ≡ false
+  trait_no_lifetime : (consts : Bool) (e : End) (o : Option (BoundLifetimes A E)) (x : TraitBoundModifiers) (q : Option token.Question) (p : Path A E) (l m : Toks) → IsTrait part how consts e o x q p l m → sees_lifetime l ≡ false
   unfolding sees_lifetime
-  trait_no_lifetime e o q p l m (a_trait i) = bound_path_no_lifetime e p l m i
-  trait_no_lifetime e o q p l m (a_trait_for (a_binder is_word i j n) k) = refl
-  trait_no_lifetime e o q p l m (a_trait_asked (is_mark (last_char y)) i) = refl
-
-  const_bound_no_lifetime : (e : End) (l m : Toks) → IsConstBound part how e l m → sees_lifetime l ≡ false
-  unfolding sees_lifetime
-  const_bound_no_lifetime e l m (a_const_bound {m = k} i j) = const_no_lifetime l k i
-  const_bound_no_lifetime e l m (a_const_bound_for (a_binder is_word i j n) k g) = refl
-  const_bound_no_lifetime e l m (a_const_bound_asked {m = k} i j n) = const_no_lifetime l k i
-
-  verbatim_no_lifetime : (e : End) (l m : Toks) → IsVerbatimBound part how e l m → sees_lifetime l ≡ false
-  verbatim_no_lifetime e l m (a_const_alone i) = const_bound_no_lifetime e l m i
-  verbatim_no_lifetime e l m (a_const_in_parens {s = s} {c = c} i) = group_no_lifetime s c m
+  trait_no_lifetime consts e o x q p l m (a_trait {m = k} i j) = modifiers_no_lifetime consts x l k i (bound_path_no_lifetime e p k m j)
+  trait_no_lifetime consts e o x q p l m (a_trait_for (a_binder is_word i j n) k h) = refl
+  trait_no_lifetime consts e o x q p l m (a_trait_asked {q = a} {m = k} {n = n} i j h) = modifiers_no_lifetime consts x l k i (question_no_lifetime (is_clear how) a k n j)
 
   first_no_lifetime : (o : Option (BoundLifetimes A E)) (p : Path A E) (l m : Toks) → IsFirst part how o p l m → sees_lifetime l ≡ false
   unfolding sees_lifetime
@@ -115,10 +107,9 @@ module _ {A E : Type 0} (pa : List A → Print) (pe : Values E) (part : Manner �
   pub bound_lives : (e : End) (x : TypeParamBound A E) (l r : Toks) → IsBound part how place e x l r → sees_lifetime l ≡ true → (k : Toks) → sees_lifetime (row (printing.bound pa pe x) k) ≡ true
   bound_lives e x l r (a_lifetime_bound {x = y} i) h k =
       subst (λ z. sees_lifetime (row z k) ≡ true) (sym (bound-Lifetime pa pe y)) (lifetime_seen y (row (lifetimes.print y) k) k (lifetime_again y l r k i))
-  bound_lives e x l r (a_bare_bound (a_trait_bound {o = o} {q = q} {p = p} i)) h k = unseen l h (trait_no_lifetime part how e o q p l r i)
+  bound_lives e x l r (a_bare_bound (a_trait_bound {o = o} {x = y} {q = q} {p = p} i)) h k = unseen l h (trait_no_lifetime part how (allows_const place) e o y q p l r i)
   bound_lives e x l r (a_bound_in_parens {s = s} {c = c} i) h k = unseen l h (group_no_lifetime s c r)
   bound_lives e x l r (a_capture_bound {x = y} g i) h k = unseen l h (capture_no_lifetime (is_clear how) y l r i)
-  bound_lives e x l r (a_verbatim_bound {t = t} g i) h k = unseen l h (verbatim_no_lifetime part (kept how) e l r (held_spelt (λ m. IsVerbatimBound part m e) how t l r i))
 
 -- ---- bounds without `dyn` that begin with no lifetime
 
@@ -141,20 +132,20 @@ module _ {A E : Type 0} (na : List A → List A) (ne : NormalValues E) (pa : Lis
   held_seen s q k = ap sees_lifetime (row-group Parenthesis s q k tt) ∙ group_no_lifetime s (row q done) k
 
   module _ (again : Again na ne pa pe part) where
-    bare_seen : (o : Option (BoundLifetimes A E)) (z : Path A E) (l r : Toks) → IsFirst part plainly o z l r → (k : Toks) → sees_lifetime (row (print_named pa pe (o, None, z)) k) ≡ false
+    bare_seen : (o : Option (BoundLifetimes A E)) (z : Path A E) (l r : Toks) → IsFirst part plainly o z l r → (k : Toks) → sees_lifetime (row (print_named pa pe (o, no_modifiers, None, z)) k) ≡ false
     bare_seen o z l r i k =
-        first_no_lifetime part clearly (binder_by (normal.param na ne) o) (normal.path na ne z) (row (print_named pa pe (o, None, z)) k) k ((first_again na ne pa pe part again o z l r i).spelt k)
+        first_no_lifetime part clearly (binder_by (normal.param na ne) o) (normal.path na ne z) (row (print_named pa pe (o, no_modifiers, None, z)) k) k ((first_again na ne pa pe part again o z l r i).spelt k)
 
     pub bare_no_lifetime : (place : TypePlace) (e : End) (v : Bounds) (l r : Toks) → AreBareBounds part plainly place e v l r → sees_lifetime l ≡ false → (k : Toks) → sees_lifetime (row (printing.bounds_joined pa pe v) k) ≡ false
-    bare_no_lifetime place e v l r (path_alone {x = x} {p = z} i) h = first_seen (b.Trait (with_parens None (Some x, None, z))) [] [] (print_named pa pe (Some x, None, z)) (named_prints pa pe None (Some x, None, z)) (bare_seen (Some x) z l r i)
+    bare_no_lifetime place e v l r (path_alone {x = x} {p = z} i) h = first_seen (b.Trait (with_parens None (Some x, no_modifiers, None, z))) [] [] (print_named pa pe (Some x, no_modifiers, None, z)) (named_prints pa pe None (Some x, no_modifiers, None, z)) (bare_seen (Some x) z l r i)
     bare_no_lifetime place e v l r (path_and_plus {o = o} {p = z} {c = c} {xs = xs} {ps = qs} {m = m} a i j t) h =
-        first_seen (b.Trait (with_parens None (o, None, z))) xs (c ∷ qs) (print_named pa pe (o, None, z)) (named_prints pa pe None (o, None, z)) (bare_seen o z l m i)
+        first_seen (b.Trait (with_parens None (o, no_modifiers, None, z))) xs (c ∷ qs) (print_named pa pe (o, no_modifiers, None, z)) (named_prints pa pe None (o, no_modifiers, None, z)) (bare_seen o z l m i)
     bare_no_lifetime place e v l r (held_and_plus {o = o} {p = z} {s = s} {k = c} {xs = xs} {ps = qs} a i j t) h =
-        first_seen (b.Trait (with_parens (Some (groups.paren s)) (o, None, z))) xs (c ∷ qs) (p.group Parenthesis (stream_of_trees (print_named pa pe (o, None, z))) s) (named_prints pa pe (Some (groups.paren s)) (o, None, z)) (held_seen s (print_named pa pe (o, None, z)))
+        first_seen (b.Trait (with_parens (Some (groups.paren s)) (o, no_modifiers, None, z))) xs (c ∷ qs) (p.group Parenthesis (stream_of_trees (print_named pa pe (o, no_modifiers, None, z))) s) (named_prints pa pe (Some (groups.paren s)) (o, no_modifiers, None, z)) (held_seen s (print_named pa pe (o, no_modifiers, None, z)))
     bare_no_lifetime place e v l r (asked_first {q = q} {p = z} {s = s} {xs = xs} {ps = qs} i t) h =
-        first_seen (b.Trait (with_parens (Some (groups.paren s)) (None, Some q, z))) xs qs (p.group Parenthesis (stream_of_trees (print_named pa pe (None, Some q, z))) s) (named_prints pa pe (Some (groups.paren s)) (None, Some q, z))
-        (held_seen s (print_named pa pe (None, Some q, z)))
+        first_seen (b.Trait (with_parens (Some (groups.paren s)) (None, no_modifiers, Some q, z))) xs qs (p.group Parenthesis (stream_of_trees (print_named pa pe (None, no_modifiers, Some q, z))) s) (named_prints pa pe (Some (groups.paren s)) (None, no_modifiers, Some q, z))
+        (held_seen s (print_named pa pe (None, no_modifiers, Some q, z)))
     bare_no_lifetime place e v l r (asked_in_two {q = q} {p = z} {s = s} {k = c} {xs = xs} {ps = qs} a i j t) h =
-        first_seen (b.Trait (with_parens (Some (groups.paren s)) (None, Some q, z))) xs (c ∷ qs) (p.group Parenthesis (stream_of_trees (print_named pa pe (None, Some q, z))) s) (named_prints pa pe (Some (groups.paren s)) (None, Some q, z))
-        (held_seen s (print_named pa pe (None, Some q, z)))
+        first_seen (b.Trait (with_parens (Some (groups.paren s)) (None, no_modifiers, Some q, z))) xs (c ∷ qs) (p.group Parenthesis (stream_of_trees (print_named pa pe (None, no_modifiers, Some q, z))) s) (named_prints pa pe (Some (groups.paren s)) (None, no_modifiers, Some q, z))
+        (held_seen s (print_named pa pe (None, no_modifiers, Some q, z)))
     bare_no_lifetime place e v l r (lifetime_first g i t) h = unseen l g h

@@ -1,5 +1,5 @@
 -- What bounds begin with, and that fewer tokens are left after them: over the same of what they hold.
-use Rattle.std.proofs.Common.{◌≡◌, ◌&&◌, Bool, true, false, List, Option, refl, ap}
+use Rattle.std.proofs.Common.{◌≡◌, ◌&&◌, ℕ, Bool, true, false, List, Option, refl, ap}
 use Rattle.token_core.specs.declared.lifetime.Lifetime.{Lifetime}
 use Rattle.token_core.specs.declared.span.DelimSpan.{DelimSpan}
 use Rattle.token_core.specs.declared.span.Span.{Span}
@@ -7,10 +7,11 @@ use Rattle.token_core.specs.declared.tree.Delimiter.TheVariants.{Parenthesis, Br
 use Rattle.token_core.specs.declared.tree.Ident.{Ident}
 use Rattle.token_core.specs.declared.tree.Spacing.{Spacing}
 use Rattle.token_core.specs.declared.tree.Spacing.TheVariants.{Joint}
+use Rattle.token_core.specs.declared.word.Word.{Word}
 use Rattle.token_core.specs.Lifetimes.{sees_lifetime}
 use Rattle.token_core.specs.Listed.{AreListed, Nowhere, none_left, last_value, value_and_mark}
 use Rattle.token_core.specs.Reads.{is_done, sees_group, sees_mark, sees_word}
-use Rattle.token_core.specs.Spellings.{last_char, more_chars, IsMark, is_mark, is_word, IsLifetime, is_lifetime}
+use Rattle.token_core.specs.Spellings.{last_char, more_chars, IsMark, is_mark, IsWord, is_word, IsLifetime, is_lifetime}
 use Rattle.token_core.specs.Tokens as token
 use Rattle.token_core.specs.Toks.{Bytes, Toks, word, mark, group}
 use Rattle.token_core.specs.Trees.{punct}
@@ -23,8 +24,9 @@ use Rattle.syn_forms.specs.lists.Reading.{sees_bound}
 use Rattle.syn_forms.specs.places.Reading.{allows_const}
 use Rattle.syn_ty.specs.declared.generics.CapturedParam.{CapturedParam}
 use Rattle.syn_ty.specs.declared.generics.PreciseCapture.{PreciseCapture}
-use Rattle.syn_ty.specs.generics.Bounds.{IsCaptured, a_lifetime_captured, a_name_captured, IsCapture, a_capture, IsConstForm, a_const_form, a_conditional_form, IsFor, IsTrait, a_trait, a_trait_for, a_trait_asked, IsTraitBound, a_trait_bound}
-use Rattle.syn_ty.specs.generics.Bounds.{IsConstBound, a_const_bound, a_const_bound_for, a_const_bound_asked, IsVerbatimBound, a_const_alone, a_const_in_parens, IsBound, a_lifetime_bound, a_bare_bound, a_bound_in_parens, a_capture_bound, a_verbatim_bound}
+use Rattle.syn_ty.specs.declared.generics.TraitBoundModifiers.{TraitBoundModifiers}
+use Rattle.syn_ty.specs.generics.Bounds.{IsCaptured, a_lifetime_captured, a_name_captured, IsCapture, a_capture, AreModifiers, IsFor, IsTrait, a_trait, a_trait_for, a_trait_asked, IsTraitBound, a_trait_bound}
+use Rattle.syn_ty.specs.generics.Bounds.{IsBound, a_lifetime_bound, a_bare_bound, a_bound_in_parens, a_capture_bound}
 use Rattle.syn_ty.specs.generics.Bounds.{AreBounds, no_bounds, last_plus, last_bound, bound_and_plus}
 use Rattle.syn_ty.specs.generics.Spelling.{a_binder}
 use Rattle.syn_ty.specs.path.Signed.{IsReturn, no_output, an_output, IsParens, a_parens, IsDropped, nothing_dropped, a_sep_dropped, a_pair_dropped, IsSigned, a_signed, AreSigned, signed_last, signed_after, IsBoundPath, without_parens, with_parens}
@@ -35,8 +37,9 @@ use Rattle.syn_ty.specs.ty.Spelling.{IsOptional, absent, present}
 use Rattle.syn_ty.specs.ty.Trees.{BoundLifetimes, Parenthesized, Path, PathSegment, ReturnType, TraitBound, TypeParamBound}
 use Rattle.syn_ty.proofs.ty_laws.FirstPathsMet.{Starts, path_less, segment_less, word_bound, sep_bound}
 use Rattle.syn_ty.proofs.ty_laws.Kinds as kinds
+use Rattle.syn_ty.proofs.ty_laws.ModifiersMet.{modifiers_begin, modifiers_no}
 use Rattle.syn_ty.proofs.ty_laws.NamedMet.{for_less}
-use Rattle.syn_ty.proofs.ty_laws.LessMet.{same, some, no_no, no_less, less_no, less_less, word_less, mark_less, group_less, mark_no, word_takes, lifetime_takes, optional_no, listed_no}
+use Rattle.syn_ty.proofs.ty_laws.LessMet.{same, some, no_no, no_less, less_no, less_less, word_less, group_less, mark_no, lifetime_takes, optional_no, listed_no}
 use Rattle.syn_ty.proofs.ty_laws.Met.{BoundBegins, Less, NoMore}
 
 -- ---- the first token of a bound that is no lifetime
@@ -79,13 +82,16 @@ capture_starts : (place : BoundPlace) (x : PreciseCapture) (l k : Toks) → IsCa
 capture_starts place x l k (a_capture {o = o} {xs = xs} {cs = cs} {g = g} {m = m} {n = n} {k = j} is_word d v e) =
     (at_word, less_no (word_less _ m) (no_no (mark_no o m n d) (no_no (listed_no (λ b. captured_less) mark_no true xs cs n j v) (mark_no g j k e))))
 
-const_form_starts : (place : BoundPlace) → allows_const place ≡ true → (l k : Toks) → IsConstForm l k → BoundStarts place l
-const_form_starts place h l k (a_const_form is_word) = at_word
-const_form_starts place h l k (a_conditional_form i) = at_bracket h
+question_starts : (place : BoundPlace) (q : token.Question) (l k : Toks) → IsMark true q l k → BoundStarts place l
+question_starts place q l k (is_mark (last_char y)) = at_question
 
-const_form_less : (l k : Toks) → IsConstForm l k → Less l k
-const_form_less l k (a_const_form {w = w} i) = word_takes w l k i
-const_form_less l k (a_conditional_form {s = a} {c = c} i) = group_less Bracket a c k
+-- ---- modifiers
+
+modifiers_start : (place : BoundPlace) (x : TraitBoundModifiers) (l k : Toks) → AreModifiers (allows_const place) x l k → BoundStarts place k → BoundStarts place l
+modifiers_start place = modifiers_begin (allows_const place) (BoundStarts place) word_start (λ s c k h. at_bracket h) word_start
+  where
+    word_start : {n : ℕ} (w : Word n) (l k : Toks) → IsWord w l k → BoundStarts place l
+    word_start w l k is_word = at_word
 
 -- ---- over what they hold
 
@@ -149,29 +155,15 @@ module _ {A E : Type 0} {part : Manner → Parts A E} (s : Starts part) where
 
   -- ---- trait bounds
 
-  trait_starts : (place : BoundPlace) (e : End) (o : Option (BoundLifetimes A E)) (q : Option token.Question) (p : Path A E) (l k : Toks) → IsTrait part clearly e o q p l k → BoundStarts place l × Less l k
-  trait_starts place e o q p l k (a_trait i) = (bound_path_starts place e p l k i, bound_path_less e p l k i)
-  trait_starts place e o q p l k (a_trait_for {x = x} {m = m} b i) = (binder_starts place x l m b, less_less (for_less part s.firsts x l m b) (bound_path_less e p m k i))
-  trait_starts place e o q p l k (a_trait_asked {m = m} (is_mark (last_char {a = a} {j = j} y)) i) = (at_question, less_less (mark_less (punct 63 j a) m) (bound_path_less e p m k i))
+  trait_starts : (place : BoundPlace) (e : End) (o : Option (BoundLifetimes A E)) (y : TraitBoundModifiers) (q : Option token.Question) (p : Path A E) (l k : Toks) → IsTrait part clearly (allows_const place) e o y q p l k → BoundStarts place l × Less l k
+  trait_starts place e o y q p l k (a_trait {m = m} j i) = (modifiers_start place y l m j (bound_path_starts place e p m k i), no_less (modifiers_no (allows_const place) y l m j) (bound_path_less e p m k i))
+  trait_starts place e o y q p l k (a_trait_for {o = x} {m = m} {n = n} b j i) =
+      (binder_starts place x l m b, less_less (for_less part s.firsts x l m b) (no_less (modifiers_no (allows_const place) y m n j) (bound_path_less e p n k i)))
+  trait_starts place e o y q p l k (a_trait_asked {q = x} {m = m} {n = n} j h i) =
+      (modifiers_start place y l m j (question_starts place x m n h), no_less (modifiers_no (allows_const place) y l m j) (no_less (mark_no x m n h) (bound_path_less e p n k i)))
 
-  trait_bound_starts : (place : BoundPlace) (e : End) (x : TraitBound A E) (l k : Toks) → IsTraitBound part clearly e x l k → BoundStarts place l × Less l k
-  trait_bound_starts place e x l k (a_trait_bound {o = o} {q = q} {p = p} i) = trait_starts place e o q p l k i
-
-  -- ---- bounds with a `const` form
-
-  const_bound_starts : (place : BoundPlace) → allows_const place ≡ true → (e : End) (l k : Toks) → IsConstBound part clearly e l k → BoundStarts place l
-  const_bound_starts place h e l k (a_const_bound {m = m} c i) = const_form_starts place h l m c
-  const_bound_starts place h e l k (a_const_bound_for {x = x} {m = m} b c i) = binder_starts place x l m b
-  const_bound_starts place h e l k (a_const_bound_asked {m = m} c q i) = const_form_starts place h l m c
-
-  const_bound_less : (e : End) (l k : Toks) → IsConstBound part clearly e l k → Less l k
-  const_bound_less e l k (a_const_bound {p = p} {m = m} c i) = less_less (const_form_less l m c) (bound_path_less e p m k i)
-  const_bound_less e l k (a_const_bound_for {x = x} {p = p} {m = m} {n = n} b c i) = less_less (for_less part s.firsts x l m b) (less_less (const_form_less m n c) (bound_path_less e p n k i))
-  const_bound_less e l k (a_const_bound_asked {q = q} {p = p} {m = m} {n = n} c j i) = less_less (const_form_less l m c) (no_less (mark_no q m n j) (bound_path_less e p n k i))
-
-  verbatim_starts : (place : BoundPlace) → allows_const place ≡ true → (e : End) (l k : Toks) → IsVerbatimBound part clearly e l k → BoundStarts place l × Less l k
-  verbatim_starts place h e l k (a_const_alone i) = (const_bound_starts place h e l k i, const_bound_less e l k i)
-  verbatim_starts place h e l k (a_const_in_parens {s = a} {c = c} i) = (at_paren, group_less Parenthesis a c k)
+  trait_bound_starts : (place : BoundPlace) (e : End) (x : TraitBound A E) (l k : Toks) → IsTraitBound part clearly (allows_const place) e x l k → BoundStarts place l × Less l k
+  trait_bound_starts place e x l k (a_trait_bound {o = o} {x = y} {q = q} {p = p} i) = trait_starts place e o y q p l k i
 
   -- ---- bounds in a place
 
@@ -180,7 +172,6 @@ module _ {A E : Type 0} {part : Manner → Parts A E} (s : Starts part) where
   bound_starts place e x l k (a_bare_bound {x = y} i) = let h = trait_bound_starts place e y l k i in (bound_begins place l h.0, h.1)
   bound_starts place e x l k (a_bound_in_parens {s = a} {c = c} i) = (bound_begins place l at_paren, group_less Parenthesis a c k)
   bound_starts place e x l k (a_capture_bound {x = y} h i) = let g = capture_starts place y l k i in (bound_begins place l g.0, g.1)
-  bound_starts place e x l k (a_verbatim_bound h (i, t)) = let g = verbatim_starts place h e l k i in (bound_begins place l g.0, g.1)
 
   -- one that begins with a lifetime
   abbrev IsLife : TypeParamBound A E → Toks → Toks → Type 0
@@ -190,11 +181,10 @@ module _ {A E : Type 0} {part : Manner → Parts A E} (s : Starts part) where
   not_life place x l k h g = let n = no_life place l h in cc
 
   pub bound_life : (place : BoundPlace) (e : End) (x : TypeParamBound A E) (l k : Toks) → IsBound part clearly place e x l k → sees_lifetime l ≡ true → IsLife x l k
-  bound_life place e x l k (a_lifetime_bound {x = y} i) h = (kinds.trait-Lifetime A E false y, y, i)
+  bound_life place e x l k (a_lifetime_bound {x = y} i) h = (kinds.trait-Lifetime A E y, y, i)
   bound_life place e x l k (a_bare_bound {x = y} i) h = not_life place x l k (trait_bound_starts place e y l k i).0 h
   bound_life place e x l k (a_bound_in_parens i) h = not_life place x l k at_paren h
   bound_life place e x l k (a_capture_bound {x = y} g i) h = not_life place x l k (capture_starts place y l k i).0 h
-  bound_life place e x l k (a_verbatim_bound g (i, t)) h = not_life place x l k (verbatim_starts place g e l k i).0 h
 
   -- ---- bounds joined by `+`
 

@@ -13,10 +13,12 @@ use Rattle.token_core.proofs.Unseen.{no_mark-other, no_mark-word}
 use Rattle.syn_path.specs.declared.path.PathStyle.TheVariants.{AsWritten}
 use Rattle.syn_forms.specs.declared.places.TypePlace.TheVariants.{Plus}
 use Rattle.syn_ty.specs.declared.generics.TraitBoundOf.{out-roll-TraitBoundOf}
+use Rattle.syn_ty.specs.declared.generics.TraitBoundModifiers.{TraitBoundModifiers}
 use Rattle.syn_ty.specs.declared.generics.TypeParamBoundOf.TheVariants as b
 use Rattle.syn_ty.specs.declared.ty.TypeOf.TheVariants as v
 use Rattle.syn_ty.specs.declared.ty.TypePathOf.{out-roll-TypePathOf}
-use Rattle.syn_ty.specs.generics.Bounds.{IsFor, IsTrait, IsTraitBound, a_trait_bound, a_trait, a_trait_for, a_trait_asked}
+use Rattle.syn_ty.specs.generics.Bounds.{no_constness, a_const, a_conditional_const, AreModifiers, some_modifiers, IsFor, IsTrait, IsTraitBound, a_trait_bound, a_trait, a_trait_for, a_trait_asked}
+use Rattle.syn_ty.specs.generics.Modifiers.{no_modifiers}
 use Rattle.syn_ty.specs.generics.Params as params
 use Rattle.syn_ty.specs.generics.Params.{held_bound, named_bound, trait_bound_of}
 use Rattle.syn_ty.specs.generics.Spelling.{a_binder}
@@ -78,13 +80,13 @@ module _ {A E : Type 0} (part : Manner → Parts A E) where
 
   -- ---- a bound in parentheses
 
-  held_is : (s : DelimSpan) (o : For) (q : Option token.Question) (p : Path A E) → b.Trait (held_bound (groups.paren s) (trait_bound_of None o (record {}) q p)) ≡ in_parens s o q p
-  held_is s o q p = ap (λ z. b.Trait (params.held_layer (groups.paren s) z)) (out-roll-TraitBoundOf A E (record { paren_token = None; lifetimes = o; modifiers = record {}; maybe = q; path = p }))
+  held_is : (s : DelimSpan) (o : For) (q : Option token.Question) (p : Path A E) → b.Trait (held_bound (groups.paren s) (named_bound o q p)) ≡ in_parens s o q p
+  held_is s o q p = ap (λ z. b.Trait (params.held_layer (groups.paren s) z)) (out-roll-TraitBoundOf A E (record { paren_token = None; lifetimes = o; modifiers = no_modifiers; maybe = q; path = p }))
 
   -- also where it stood in parentheses before
-  held_again : (s i : DelimSpan) (o : For) (q : Option token.Question) (p : Path A E) → b.Trait (held_bound (groups.paren s) (trait_bound_of (Some (groups.paren i)) o (record {}) q p)) ≡ in_parens s o q p
+  held_again : (s i : DelimSpan) (o : For) (q : Option token.Question) (p : Path A E) → b.Trait (held_bound (groups.paren s) (trait_bound_of (Some (groups.paren i)) o no_modifiers q p)) ≡ in_parens s o q p
   held_again s i o q p =
-      ap (λ z. b.Trait (params.held_layer (groups.paren s) z)) (out-roll-TraitBoundOf A E (record { paren_token = Some (groups.paren i); lifetimes = o; modifiers = record {}; maybe = q; path = p }))
+      ap (λ z. b.Trait (params.held_layer (groups.paren s) z)) (out-roll-TraitBoundOf A E (record { paren_token = Some (groups.paren i); lifetimes = o; modifiers = no_modifiers; maybe = q; path = p }))
 
   -- `?` and a path, and the bound that they are in parentheses
   pub record Asked (s : DelimSpan) (y : Bound) (c : Toks) : Type 0 where
@@ -93,14 +95,30 @@ module _ {A E : Type 0} (part : Manner → Parts A E) where
     pub spelt : IsAsked part loosely question path c done
     pub is : in_parens s None (Some question) path ≡ y
 
-  trait_asked : (s : DelimSpan) (e : End) (o : For) (q : Option token.Question) (p : Path A E) (c : Toks) → IsTrait part loosely e o q p c done → token.sees_question c ≡ true →
-      Asked s (b.Trait (held_bound (groups.paren s) (trait_bound_of None o (record {}) q p))) c
-  trait_asked s e o q p c (a_trait i) h = both (token.sees_question c) h (no_question e p c done i)
-  trait_asked s e o q p c (a_trait_for {x = x} {m = m} i j) h = both (token.sees_question c) h (no_question-for x c m i)
-  trait_asked s e o q p c (a_trait_asked {q = k} i j) h = record { question = k; path = p; spelt = an_asked i j; is = sym (held_is s None (Some k) p) }
+  -- no modifier begins with `?`
+  none_asked : (x : TraitBoundModifiers) (l m : Toks) → AreModifiers false x l m → token.sees_question l ≡ true → (x ≡ no_modifiers) × (l ≡ m)
+  none_asked x l m (some_modifiers no_constness absent) h = (refl, refl)
+  none_asked x l m (some_modifiers no_constness (present is_word)) h = both (token.sees_question l) h (no_mark-word 63 [] _ _)
+  none_asked x l m (some_modifiers (a_const g i) j) h = cc g
+  none_asked x l m (some_modifiers (a_conditional_const g i) j) h = cc g
 
-  pub asked_of : (s : DelimSpan) (e : End) (x : TraitBound A E) (c : Toks) → IsTraitBound part loosely e x c done → token.sees_question c ≡ true → Asked s (b.Trait (held_bound (groups.paren s) x)) c
-  asked_of s e x c (a_trait_bound {o = o} {q = q} {p = p} i) h = trait_asked s e o q p c i h
+  trait_asked : (s : DelimSpan) (e : End) (o : For) (x : TraitBoundModifiers) (q : Option token.Question) (p : Path A E) (c : Toks) → IsTrait part loosely false e o x q p c done → token.sees_question c ≡ true →
+      Asked s (b.Trait (held_bound (groups.paren s) (trait_bound_of None o x q p))) c
+  trait_asked s e o x q p c (a_trait {m = m} w i) h =
+      let n = none_asked x c m w h in
+      both (token.sees_question c) h (ap token.sees_question n.1 ∙ no_question e p m done i)
+  trait_asked s e o x q p c (a_trait_for {o = f} {m = m} i w j) h = both (token.sees_question c) h (no_question-for f c m i)
+  trait_asked s e o x q p c (a_trait_asked {q = k} {m = m} w i j) h =
+      let n = none_asked x c m w h in
+      record {
+        question = k;
+        path = p;
+        spelt = subst (λ z. IsAsked part loosely k p z done) (sym n.1) (an_asked i j);
+        is = sym (held_is s None (Some k) p) ∙ ap (λ z. b.Trait (held_bound (groups.paren s) (trait_bound_of None None z (Some k) p))) (sym n.0);
+      }
+
+  pub asked_of : (s : DelimSpan) (e : End) (x : TraitBound A E) (c : Toks) → IsTraitBound part loosely false e x c done → token.sees_question c ≡ true → Asked s (b.Trait (held_bound (groups.paren s) x)) c
+  asked_of s e x c (a_trait_bound {o = o} {x = m} {q = q} {p = p} i) h = trait_asked s e o m q p c i h
 
   -- ---- a type as the first bound
 
@@ -134,7 +152,7 @@ module _ {A E : Type 0} (part : Manner → Parts A E) where
       lone_bound (groups.paren s) None (in_parens i None (Some q) p ∷ xs, ps) ≡ Some y → Starts s y (group Parenthesis i c m)
   further_starts s i e q p xs ps c m y j none_further h =
       moved s (in_parens s None (Some q) p) y (group Parenthesis i c done)
-      (ap Some (sym (kinds.held-Trait A E (groups.paren s) (trait_bound_of (Some (groups.paren i)) None (record {}) (Some q) p) ∙ held_again s i None (Some q) p)) ∙ h) (starts_asked j)
+      (ap Some (sym (kinds.held-Trait A E (groups.paren s) (trait_bound_of (Some (groups.paren i)) None no_modifiers (Some q) p) ∙ held_again s i None (Some q) p)) ∙ h) (starts_asked j)
   further_starts s i e q p xs ps c m y j (some_further {xs = []} k n) h = cc h
   further_starts s i e q p xs ps c m y j (some_further {xs = x ∷ ys} k n) h = cc h
 

@@ -41,7 +41,7 @@ use Rattle.syn_ty.specs.ty.Parts.{Manner, clearly, End, Parts}
 use Rattle.syn_ty.specs.ty.Points.{Readers, a_type}
 use Rattle.syn_ty.specs.ty.Reading as reading
 use Rattle.syn_ty.specs.ty.Reading.{sees_call}
-use Rattle.syn_ty.specs.ty.Spelling.{Relation, IsOptional, absent, present, a_paren, a_ptr, a_slice, an_array}
+use Rattle.syn_ty.specs.ty.Spelling.{Relation, IsOptional, absent, present}
 use Rattle.syn_ty.specs.ty.Trees.{TypeTree, TypeArray, TypeParen, TypePtr, TypeReference, TypeSlice, TypeTuple}
 use Rattle.syn_ty.specs.ty.Types.{And, Comma, Mut, Semi, reference_of}
 use Rattle.syn_ty.proofs.ty_laws.Complete.{array_complete, later, not_more, paren_complete, ptr_complete, slice_complete}
@@ -135,7 +135,7 @@ module _ {A E : Type 0} (r : Readers A E) (part : Manner → Parts A E) (limit :
   without_plus d k o = (o, λ q. cc q)
 
   pub pointer_met : (d : End) (x : TypePtr A E) (l k : Toks) (f : Option Span) (e : Span) (sc : Scope) → ahead (at l f e sc) ≤ limit → IsPointer part clearly d x l k → Fits d k → Reads_to (reading.ptr r) x l k f e sc
-  pointer_met d x l k f e sc h (a_pointer i j g) o = ptr_complete r (Ending d) (Follows d) limit (ending_met d) x l k f e sc h (a_ptr i j g) (without_plus d k o)
+  pointer_met d x l k f e sc h (a_pointer {s = b} {q = q} {x = y} {m = u} {n = n} i j g) o = ptr_complete r (Ending d) (Follows d) limit (ending_met d) b q y l u n k f e sc h i j g (without_plus d k o)
 
   -- ---- references
 
@@ -166,10 +166,10 @@ module _ {A E : Type 0} (r : Readers A E) (part : Manner → Parts A E) (limit :
   nothing_follows d p = (over_fits d done (done_over done done_there), λ q. (done_over done done_there).no_plus)
 
   pub enclosed_met : (x : TypeParen A E) (l k : Toks) (f : Option Span) (e : Span) (sc : Scope) → ahead (at l f e sc) ≤ limit → IsEnclosed part clearly NoPlus x l k → Reads_to (reading.paren r) x l k f e sc
-  enclosed_met x l k f e sc h (enclosed {e = d} i) = paren_complete r (Ending d) (Follows d) limit (ending_met d) (nothing_follows d) x l k f e sc h (a_paren i)
+  enclosed_met x l k f e sc h (enclosed {s = b} {e = d} {x = y} {c = c} i) = paren_complete r (Ending d) (Follows d) limit (ending_met d) (nothing_follows d) b y c k f e sc h i
 
   pub bracketed_met : (x : TypeSlice A E) (l k : Toks) (f : Option Span) (e : Span) (sc : Scope) → ahead (at l f e sc) ≤ limit → IsBracketed part clearly x l k → Reads_to (reading.slice r) x l k f e sc
-  bracketed_met x l k f e sc h (bracketed {e = d} i) = slice_complete r (Ending d) (Follows d) limit (ending_met d) (nothing_follows d) x l k f e sc h (a_slice i)
+  bracketed_met x l k f e sc h (bracketed {s = b} {e = d} {x = y} {c = c} i) = slice_complete r (Ending d) (Follows d) limit (ending_met d) (nothing_follows d) b y c k f e sc h i
 
   -- ---- tuples
 
@@ -228,8 +228,8 @@ module _ {A E : Type 0} (r : Readers A E) (part : Manner → Parts A E) (limit :
 
   module _ (attrs : Reader (List A)) (values : ReadValues E) (given : SuppliedMeets attrs values part) where
     pub counted_met : (x : TypeArray A E) (l k : Toks) (f : Option Span) (e : Span) (sc : Scope) → ahead (at l f e sc) ≤ limit → IsCounted part clearly x l k → Reads_to (reading.array values r) x l k f e sc
-    counted_met x l k f e sc h (counted {e = d} i j g) =
-        array_complete r (Ending d) (Follows d) limit (ending_met d) values (part clearly).len given.len (λ q n c w. let o = semi_ended q n c w in (over_fits d n o, λ z. o.no_plus)) x l k f e sc h (an_array i j g)
+    counted_met x l k f e sc h (counted {s = b} {e = d} {x = y} {q = q} {n = n} {c = c} {m = u} {k = o} i j g) =
+        array_complete r (Ending d) (Follows d) limit (ending_met d) values (part clearly).len given.len (λ q n c w. let o = semi_ended q n c w in (over_fits d n o, λ z. o.no_plus)) b y q n c u o k f e sc h i j g
 
     one_content : (d : End) (x : TypeTree A E) (c : Toks) (f : Option Span) (e : Span) (sc : Scope) → ahead (at c f e sc) < limit → (part clearly).ty Plus d x c done → Uses (bracket_content values.len (r (a_type Plus))) (Element x) (at c f e sc)
     unfolding bracket_content

@@ -27,10 +27,10 @@ use Rattle.syn_ty.specs.ty.Admitted.{bracketed, IsCounted, counted, IsElement, a
 use Rattle.syn_ty.specs.ty.Parts.{Manner, loosely, End, closed, Parts}
 use Rattle.syn_ty.specs.ty.Points.{Readers, a_type}
 use Rattle.syn_ty.specs.ty.Reading as reading
-use Rattle.syn_ty.specs.ty.Spelling as plain
 use Rattle.syn_ty.specs.ty.Spelling.{Relation}
 use Rattle.syn_ty.specs.ty.Trees.{TypeTree, TypeArray, TypeTuple}
 use Rattle.syn_ty.specs.ty.Types.{Comma, array_of, tuple_of}
+use Rattle.syn_ty.proofs.ty_laws.Sound as plain
 use Rattle.syn_ty.proofs.ty_laws.Sound.{IsHeld, held_sound, tuple_content_sound, twice}
 use Rattle.syn_ty.proofs.ty_laws.Told.{Told, never_open}
 use Rattle.syn_ty.proofs.ty_laws.Within.{Held, Supplied}
@@ -142,9 +142,9 @@ module _ {A E : Type 0} (r : Readers A E) (part : Manner → Parts A E) (h : Hel
 
   -- elements that are all of a list
   abbrev pub Elements : Many (TypeTree A E) Comma → Toks → Type 0
-  Elements w l = plain.AreElements false TypeAt w.0 w.1 l
+  Elements w l = plain.AreElements TypeAt w.0 w.1 l
 
-  tupled_in : (Begins : Toks → Type 0) (s : DelimSpan) (xs : List (TypeTree A E)) (cs : List Comma) (c k : Toks) → plain.AreElements false TypeAt xs cs c → Begins c →
+  tupled_in : (Begins : Toks → Type 0) (s : DelimSpan) (xs : List (TypeTree A E)) (cs : List Comma) (c k : Toks) → plain.AreElements TypeAt xs cs c → Begins c →
       IsTupled part loosely Begins (tuple_of (groups.paren s) (xs, cs)) (group Parenthesis s c k) k
   tupled_in Begins s xs cs c k plain.no_elements b = no_element
   tupled_in Begins s xs cs c k (plain.some_elements {xs = ys} {cs = ds} {k = m} i j n) b =

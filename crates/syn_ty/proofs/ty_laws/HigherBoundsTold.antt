@@ -6,13 +6,14 @@ use Rattle.token_core.specs.Toks.{Toks}
 use Rattle.syn_forms.specs.declared.places.BoundPlace.{BoundPlace}
 use Rattle.syn_forms.specs.declared.places.ParamPlace.{ParamPlace}
 use Rattle.syn_ty.specs.declared.generics.LifetimeParamOf.{LifetimeParamOf}
-use Rattle.syn_ty.specs.generics.Bounds.{IsFor, IsTrait, a_trait, a_trait_for, a_trait_asked, IsTraitBound, a_trait_bound, IsConstBound, a_const_bound, a_const_bound_for, a_const_bound_asked, IsVerbatimBound, a_const_alone, a_const_in_parens, IsBound, a_lifetime_bound, a_bare_bound, a_bound_in_parens, a_capture_bound, a_verbatim_bound, AreBounds, no_bounds, last_plus, last_bound, bound_and_plus}
+use Rattle.syn_ty.specs.declared.generics.TraitBoundModifiers.{TraitBoundModifiers}
+use Rattle.syn_ty.specs.generics.Bounds.{IsFor, IsTrait, a_trait, a_trait_for, a_trait_asked, IsTraitBound, a_trait_bound, IsBound, a_lifetime_bound, a_bare_bound, a_bound_in_parens, a_capture_bound, AreBounds, no_bounds, last_plus, last_bound, bound_and_plus}
 use Rattle.syn_ty.specs.generics.Parameters.{IsLifetimeParam, a_lone_lifetime, a_lifetime_with_bounds, AreBoundsAfter, no_colon, after_colon, IsAnyType, any_type, IsTypeParam, a_type_param, IsConstParam, a_const_param, IsParam, a_lifetime_param, a_named_param, a_constant_param, a_bare_param}
 use Rattle.syn_ty.specs.path.Arguments.{ArgumentPlace, IsItemName, an_item, an_item_with_arguments, IsArgument, a_lifetime_argument, a_type_argument, a_const_argument, an_assoc_type, an_assoc_const, a_constraint}
 use Rattle.syn_ty.specs.ty.Parts.{Manner, End, Parts}
 use Rattle.syn_ty.specs.ty.Spelling.{Relation}
 use Rattle.syn_ty.specs.ty.Trees.{AngleBracketed, BoundLifetimes, ConstParam, GenericArgument, GenericParam, Path, TraitBound, TypeParam, TypeParamBound, TypeTree}
-use Rattle.syn_ty.proofs.ty_laws.HigherPartsTold.{Up, held_up, optional_up, given_up, binder_up}
+use Rattle.syn_ty.proofs.ty_laws.HigherPartsTold.{Up, optional_up, given_up, binder_up}
 use Rattle.syn_ty.proofs.ty_laws.HigherPathsTold.{bound_path_up}
 
 module _ {A E : Type 0} {part over : Manner → Parts A E} (up : (how : Manner) → Up (part how) (over how)) where
@@ -21,31 +22,22 @@ module _ {A E : Type 0} {part over : Manner → Parts A E} (up : (how : Manner) 
 
   -- ---- trait bounds
 
-  pub trait_up : {how : Manner} {e : End} {o : Option (BoundLifetimes A E)} {q : Option token.Question} {x : Path A E} {l r : Toks} → IsTrait part how e o q x l r → IsTrait over how e o q x l r
-  trait_up (a_trait i) = a_trait (bound_path_up up i)
-  trait_up (a_trait_for f i) = a_trait_for (for_up f) (bound_path_up up i)
-  trait_up (a_trait_asked q i) = a_trait_asked q (bound_path_up up i)
+  pub trait_up : {how : Manner} {consts : Bool} {e : End} {o : Option (BoundLifetimes A E)} {m : TraitBoundModifiers} {q : Option token.Question} {x : Path A E} {l r : Toks} →
+      IsTrait part how consts e o m q x l r → IsTrait over how consts e o m q x l r
+  trait_up (a_trait m i) = a_trait m (bound_path_up up i)
+  trait_up (a_trait_for f m i) = a_trait_for (for_up f) m (bound_path_up up i)
+  trait_up (a_trait_asked m q i) = a_trait_asked m q (bound_path_up up i)
 
-  pub trait_bound_up : {how : Manner} {e : End} {x : TraitBound A E} {l r : Toks} → IsTraitBound part how e x l r → IsTraitBound over how e x l r
+  pub trait_bound_up : {how : Manner} {consts : Bool} {e : End} {x : TraitBound A E} {l r : Toks} → IsTraitBound part how consts e x l r → IsTraitBound over how consts e x l r
   trait_bound_up (a_trait_bound i) = a_trait_bound (trait_up i)
 
-  pub const_bound_up : {how : Manner} {e : End} {l r : Toks} → IsConstBound part how e l r → IsConstBound over how e l r
-  const_bound_up (a_const_bound c i) = a_const_bound c (bound_path_up up i)
-  const_bound_up (a_const_bound_for f c i) = a_const_bound_for (for_up f) c (bound_path_up up i)
-  const_bound_up (a_const_bound_asked c q i) = a_const_bound_asked c q (bound_path_up up i)
-
   -- ---- bounds in a place
-
-  pub verbatim_bound_up : {how : Manner} {e : End} {l r : Toks} → IsVerbatimBound part how e l r → IsVerbatimBound over how e l r
-  verbatim_bound_up (a_const_alone i) = a_const_alone (const_bound_up i)
-  verbatim_bound_up (a_const_in_parens i) = a_const_in_parens (const_bound_up i)
 
   pub bound_up : {how : Manner} {place : BoundPlace} {e : End} {x : TypeParamBound A E} {l r : Toks} → IsBound part how place e x l r → IsBound over how place e x l r
   bound_up (a_lifetime_bound i) = a_lifetime_bound i
   bound_up (a_bare_bound i) = a_bare_bound (trait_bound_up i)
   bound_up (a_bound_in_parens i) = a_bound_in_parens (trait_up i)
   bound_up (a_capture_bound a i) = a_capture_bound a i
-  bound_up {how} {e = e} {l = l} {r = r} (a_verbatim_bound {t = t} a i) = a_verbatim_bound a (held_up (λ m. IsVerbatimBound part m e) (λ m. IsVerbatimBound over m e) (λ m l r j. verbatim_bound_up j) how t l r i)
 
   pub bounds_up : {how : Manner} {place : BoundPlace} {Ends : Bool → Type 0} {first : Bool} {e : End} {xs : List (TypeParamBound A E)} {ps : List token.Plus} {l r : Toks} →
       AreBounds part how place Ends first e xs ps l r → AreBounds over how place Ends first e xs ps l r

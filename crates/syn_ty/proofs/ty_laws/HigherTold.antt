@@ -1,5 +1,5 @@
 -- A grammar of trees up to a height grows with the height: what spells a tree by a lower one spells it by a higher one.
-use Rattle.std.proofs.Common.{ℕ, zero, suc, ◌≤◌, Bool, List, arith}
+use Rattle.std.proofs.Common.{ℕ, zero, suc, ◌≤◌, Bool, false, List, arith}
 use Rattle.token_core.specs.Toks.{Toks}
 use Rattle.syn_path.specs.Values.{SpelledValues}
 use Rattle.syn_path.specs.declared.path.PathStyle.{PathStyle}
@@ -160,5 +160,5 @@ module _ {A E : Type 0} (shown : Bool → List A → Toks → Toks → Type 0) (
   pub bound_higher : (place : BoundPlace) → GrowsEnding (λ part how. IsBound part how place)
   bound_higher place n m h how e x l r i = bound_up (higher_to n m h) i
 
-  pub trait_bound_higher : GrowsEnding IsTraitBound
+  pub trait_bound_higher : GrowsEnding (λ part how. IsTraitBound part how false)
   trait_bound_higher n m h how e x l r i = trait_bound_up (higher_to n m h) i

@@ -38,18 +38,18 @@ use Rattle.token_core.specs.Tokens as token
 
 -- ---- bounds
 
-module _ (A E : Type 0) (consts : Bool) where
-  pub trait-Lifetime : (x : Lifetime) → trait_layer consts (out-TypeParamBoundOf A E (b.Lifetime x)) ≡ false
-  trait-Lifetime x = ap (trait_layer {A = A} {E = E} consts) (b.outs-Lifetime x)
+module _ (A E : Type 0) where
+  pub trait-Lifetime : (x : Lifetime) → trait_layer (out-TypeParamBoundOf A E (b.Lifetime x)) ≡ false
+  trait-Lifetime x = ap (trait_layer {A = A} {E = E}) (b.outs-Lifetime x)
 
-  pub trait-PreciseCapture : (x : PreciseCapture) → trait_layer consts (out-TypeParamBoundOf A E (b.PreciseCapture x)) ≡ false
-  trait-PreciseCapture x = ap (trait_layer {A = A} {E = E} consts) (b.outs-PreciseCapture x)
+  pub trait-PreciseCapture : (x : PreciseCapture) → trait_layer (out-TypeParamBoundOf A E (b.PreciseCapture x)) ≡ false
+  trait-PreciseCapture x = ap (trait_layer {A = A} {E = E}) (b.outs-PreciseCapture x)
 
-  pub trait-Verbatim : (x : TokenStream) → trait_layer consts (out-TypeParamBoundOf A E (b.Verbatim x)) ≡ consts
-  trait-Verbatim x = ap (trait_layer {A = A} {E = E} consts) (b.outs-Verbatim x)
+  pub trait-Verbatim : (x : TokenStream) → trait_layer (out-TypeParamBoundOf A E (b.Verbatim x)) ≡ false
+  trait-Verbatim x = ap (trait_layer {A = A} {E = E}) (b.outs-Verbatim x)
 
-  pub trait-Trait : (x : TraitBoundOf A E) → trait_layer consts (out-TypeParamBoundOf A E (b.Trait x)) ≡ true
-  trait-Trait x = ap (trait_layer consts) (b.outs-Trait x)
+  pub trait-Trait : (x : TraitBoundOf A E) → trait_layer (out-TypeParamBoundOf A E (b.Trait x)) ≡ true
+  trait-Trait x = ap trait_layer (b.outs-Trait x)
 
 pub ruleset bound_kinds = (trait-Trait, trait-Lifetime, trait-PreciseCapture, trait-Verbatim)
 

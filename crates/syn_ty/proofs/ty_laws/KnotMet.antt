@@ -45,7 +45,7 @@ use Rattle.syn_ty.proofs.ty_laws.ParamsMet.{binder_met, param_met}
 use Rattle.syn_ty.proofs.ty_laws.QualifiedMet.{paths_met}
 use Rattle.syn_ty.proofs.ty_laws.SignaturesMet.{parens_met}
 use Rattle.syn_ty.proofs.ty_laws.SignedMet.{empty_pair}
-use Rattle.syn_ty.proofs.ty_laws.TraitsMet.{trait_bound_met}
+use Rattle.syn_ty.proofs.ty_laws.TraitsMet.{trait_in_met}
 use Rattle.syn_ty.proofs.ty_laws.TypeFormsMet.{type_forms}
 use Rattle.syn_ty.proofs.ty_laws.TypesMet.{TypeForms, type_met}
 use Rattle.std.proofs.lemmas.Bool.{lt-ltb}
@@ -111,10 +111,10 @@ module _ {A E : Type 0} (attrs : Reader (List A)) (values : ReadValues E) (shown
       binder_at n = binder_met r (To n) limit (meets n)
 
       -- an empty pair of angle marks before parentheses is spelt from the first height on: what a bound holds is taken one height more
-      pub trait_turn : (n : ℕ) (d : End) (x : TraitBound A E) (l k : Toks) (f : Option Span) (e : Span) (sc : Scope) → ahead (at l f e sc) ≤ limit → IsTraitBound (To n) clearly d x l k → Fits d k → Reads_to (generics.trait_bound r) x l k f e sc
+      pub trait_turn : (n : ℕ) (d : End) (x : TraitBound A E) (l k : Toks) (f : Option Span) (e : Span) (sc : Scope) → ahead (at l f e sc) ≤ limit → IsTraitBound (To n) clearly false d x l k → Fits d k → Reads_to (generics.trait_bound r) x l k f e sc
       trait_turn n d x l k f e sc h i o =
           let m = suc n in
-          trait_bound_met r (To m) limit (meets m) (paths_at m) (empty_pair (To n)) (parens_at m) (binder_at m) d x l k f e sc h (trait_bound_higher shown spelt n m (omega arith) clearly d x l k i) o
+          trait_in_met r (To m) limit (meets m) (paths_at m) (empty_pair (To n)) (parens_at m) (binder_at m) false d x l k f e sc h (trait_bound_higher shown spelt n m (omega arith) clearly d x l k i) o
 
       bound_turn : (n : ℕ) (p : BoundPlace) (d : End) (x : TypeParamBound A E) (l k : Toks) (f : Option Span) (e : Span) (sc : Scope) → ahead (at l f e sc) ≤ limit → IsBound (To n) clearly p d x l k → Fits d k → Reads_to (generics.bound_step r p) x l k f e sc
       bound_turn n p d x l k f e sc h i o =

@@ -1,5 +1,5 @@
 -- The bounds of trait objects and of `impl`, with `dyn` or without, print their normal form clearly, where single bounds do.
-use Rattle.std.proofs.Common.{◌≡◌, Bool, true, false, ◌||◌, List, [], ◌∷◌, ◌++◌, map, None, Some, refl, sym, ◌∙◌, ap, subst}
+use Rattle.std.proofs.Common.{◌≡◌, Bool, true, ◌||◌, List, [], ◌∷◌, ◌++◌, map, None, Some, refl, sym, ◌∙◌, ap, subst}
 use Rattle.std.specs.List.{list_any}
 use Rattle.token_core.specs.Listed.{AfterMark}
 use Rattle.token_core.specs.Loops.{Many}
@@ -23,7 +23,7 @@ use Rattle.syn_ty.specs.ty.Normal as normal
 use Rattle.syn_ty.specs.ty.Objects.{IsBoundList, several_bounds, one_bound, AreObjectBounds, object_bounds, IsDyn, a_dyn, IsObject, an_object, IsImpl, an_impl}
 use Rattle.syn_ty.specs.ty.Parts.{Manner, plainly, clearly, End, Parts}
 use Rattle.syn_ty.specs.ty.Printing as printing
-use Rattle.syn_ty.specs.ty.Reading.{is_trait, names_trait, trait_layer}
+use Rattle.syn_ty.specs.ty.Reading.{is_trait, trait_layer}
 use Rattle.syn_ty.specs.ty.Spelling.{absent, present}
 use Rattle.syn_ty.specs.ty.Trees.{Layer, TypeImplTrait, TypeParamBound, TypeTraitObject}
 use Rattle.syn_ty.specs.ty.Types.{impl_trait_with, trait_object_with}
@@ -41,23 +41,14 @@ module _ {A E : Type 0} (na : List A → List A) (ne : NormalValues E) where
   abbrev nb : TypeParamBound A E → TypeParamBound A E
   nb = normal.bound na ne
 
-  abbrev kind_of : Bool → TypeParamBound A E → Bool
-  kind_of c x = trait_layer c (out-TypeParamBoundOf A E x)
-
-  kind_layer : (c : Bool) (y : Layer o.TypeParamBoundOf-F A E) → kind_of c (nb (roll-TypeParamBoundOf A E y)) ≡ kind_of c (roll-TypeParamBoundOf A E y)
-  kind_layer c (o.Trait x) = ap (λ z. kind_of c (nb z)) (b.rolls-Trait x) ∙ ap (kind_of c) (normal-Trait na ne x) ∙ ap (trait_layer c) (b.outs-Trait (normal.trait_bound na ne x)) ∙ sym (ap (trait_layer c) (b.outs-Trait x)) ∙ ap (kind_of c) (sym (b.rolls-Trait x))
-  kind_layer c (o.TypeParamBoundOf::Lifetime x) = ap (λ z. kind_of c (nb z)) (b.rolls-Lifetime x) ∙ ap (kind_of c) (normal-bound-Lifetime na ne x) ∙ ap (kind_of c) (sym (b.rolls-Lifetime x))
-  kind_layer c (o.PreciseCapture x) = ap (λ z. kind_of c (nb z)) (b.rolls-PreciseCapture x) ∙ ap (kind_of c) (normal-PreciseCapture na ne x) ∙ ap (trait_layer c) (b.outs-PreciseCapture _) ∙ sym (ap (trait_layer c) (b.outs-PreciseCapture x)) ∙ ap (kind_of c) (sym (b.rolls-PreciseCapture x))
-  kind_layer c (o.TypeParamBoundOf::Verbatim x) = ap (λ z. kind_of c (nb z)) (b.rolls-Verbatim x) ∙ ap (kind_of c) (normal-bound-Verbatim na ne x) ∙ ap (kind_of c) (sym (b.rolls-Verbatim x))
-
-  kind_kept : (c : Bool) (x : TypeParamBound A E) → kind_of c (nb x) ≡ kind_of c x
-  kind_kept c x = subst (λ z. kind_of c (nb z) ≡ kind_of c z) (roll-out-TypeParamBoundOf A E x) (kind_layer c (out-TypeParamBoundOf A E x))
+  kind_layer : (y : Layer o.TypeParamBoundOf-F A E) → is_trait (nb (roll-TypeParamBoundOf A E y)) ≡ is_trait (roll-TypeParamBoundOf A E y)
+  kind_layer (o.Trait x) = ap (λ z. is_trait (nb z)) (b.rolls-Trait x) ∙ ap is_trait (normal-Trait na ne x) ∙ ap trait_layer (b.outs-Trait (normal.trait_bound na ne x)) ∙ sym (ap trait_layer (b.outs-Trait x)) ∙ ap is_trait (sym (b.rolls-Trait x))
+  kind_layer (o.TypeParamBoundOf::Lifetime x) = ap (λ z. is_trait (nb z)) (b.rolls-Lifetime x) ∙ ap is_trait (normal-bound-Lifetime na ne x) ∙ ap is_trait (sym (b.rolls-Lifetime x))
+  kind_layer (o.PreciseCapture x) = ap (λ z. is_trait (nb z)) (b.rolls-PreciseCapture x) ∙ ap is_trait (normal-PreciseCapture na ne x) ∙ ap trait_layer (b.outs-PreciseCapture _) ∙ sym (ap trait_layer (b.outs-PreciseCapture x)) ∙ ap is_trait (sym (b.rolls-PreciseCapture x))
+  kind_layer (o.TypeParamBoundOf::Verbatim x) = ap (λ z. is_trait (nb z)) (b.rolls-Verbatim x) ∙ ap is_trait (normal-bound-Verbatim na ne x) ∙ ap is_trait (sym (b.rolls-Verbatim x))
 
   pub is_trait_kept : (x : TypeParamBound A E) → is_trait (normal.bound na ne x) ≡ is_trait x
-  is_trait_kept = kind_kept false
-
-  pub names_trait_kept : (x : TypeParamBound A E) → names_trait (normal.bound na ne x) ≡ names_trait x
-  names_trait_kept = kind_kept true
+  is_trait_kept x = subst (λ z. is_trait (nb z) ≡ is_trait z) (roll-out-TypeParamBoundOf A E x) (kind_layer (out-TypeParamBoundOf A E x))
 
 module _ {A E : Type 0} (na : List A → List A) (ne : NormalValues E) (pa : List A → Print) (pe : Values E) where
   abbrev Bound : Type 0
@@ -121,7 +112,7 @@ module _ {A E : Type 0} (na : List A → List A) (ne : NormalValues E) (pa : Lis
             let seen = λ (c : Toks). row-append (p.word a) (ps v) c in
             record {
               spelt = λ c. subst (λ z. IsImpl part clearly place e (impl_trait_with z a (ns v)) (row (printing.impl_trait pa pe x) c) c) (sym own)
-                  (subst (λ z. IsImpl part clearly place e (impl_trait_with [] a (ns v)) z c) (sym (seen c)) (an_impl (h.spelt (row (ps v) c)) (k.spelt c) (any_kept names_trait (normal.bound na ne) (names_trait_kept na ne) v.0 ∙ g)));
+                  (subst (λ z. IsImpl part clearly place e (impl_trait_with [] a (ns v)) z c) (sym (seen c)) (an_impl (h.spelt (row (ps v) c)) (k.spelt c) (any_kept is_trait (normal.bound na ne) (is_trait_kept na ne) v.0 ∙ g)));
               visible = λ c u w. subst Visible (sym (seen c)) (h.visible (row (ps v) c) u (k.visible c (h.seen u) w));
               seen = λ u. k.seen (h.seen u);
               stays = ap (λ z. impl_trait_with (na z) a (ns (ns v))) own ∙ ap (impl_trait_with (na []) a) k.stays;

@@ -34,9 +34,10 @@ use Rattle.syn_forms.specs.paths.Reading.{is_bare_word}
 use Rattle.syn_forms.specs.nested.Below.{ahead}
 use Rattle.syn_forms.specs.places.Reading.{allows_const, allows_plus}
 use Rattle.syn_forms.specs.verbatim.Reading.{position}
+use Rattle.syn_ty.specs.declared.generics.TraitBoundModifiers.{TraitBoundModifiers}
 use Rattle.syn_ty.specs.declared.generics.TypeParamBoundOf.TheVariants as b
 use Rattle.syn_ty.specs.declared.ty.TypeOf.TheVariants as tree
-use Rattle.syn_ty.specs.generics.Bounds.{IsTrait, a_trait, a_trait_for, a_trait_asked, a_trait_bound, IsBound, a_lifetime_bound, a_bare_bound, a_bound_in_parens, a_capture_bound, a_verbatim_bound, AreBounds}
+use Rattle.syn_ty.specs.generics.Bounds.{AreModifiers, IsTrait, a_trait, a_trait_for, a_trait_asked, a_trait_bound, IsBound, a_lifetime_bound, a_bare_bound, a_bound_in_parens, a_capture_bound, AreBounds}
 use Rattle.syn_ty.specs.generics.Params.{named_bound}
 use Rattle.syn_ty.specs.generics.Reading.{bound_step}
 use Rattle.syn_ty.specs.generics.Spelling.{a_binder}
@@ -47,7 +48,7 @@ use Rattle.syn_ty.specs.ty.Objects.{ends_lone, IsBoundList, several_bounds, one_
 use Rattle.syn_ty.specs.ty.Parts.{Manner, clearly, End, Holds, Parts}
 use Rattle.syn_ty.specs.ty.Points.{Readers, a_bound}
 use Rattle.syn_ty.specs.ty.Reading as reading
-use Rattle.syn_ty.specs.ty.Reading.{is_trait, names_trait, object_of}
+use Rattle.syn_ty.specs.ty.Reading.{is_trait, object_of}
 use Rattle.syn_ty.specs.ty.Spelling.{IsOptional, absent, present}
 use Rattle.syn_ty.specs.ty.Trees.{BoundLifetimes, Path, PathSegment, TypeImplTrait, TypeParamBound, TypeTraitObject}
 use Rattle.syn_ty.specs.ty.Types.{trait_object_with}
@@ -56,6 +57,7 @@ use Rattle.syn_ty.proofs.ty_laws.CaptureMet.{since_met}
 use Rattle.syn_ty.proofs.ty_laws.Complete.{later}
 use Rattle.syn_ty.proofs.ty_laws.LessMet.{mark_no, word_takes}
 use Rattle.syn_ty.proofs.ty_laws.Met.{Fits, Meets}
+use Rattle.syn_ty.proofs.ty_laws.ModifiersMet.{modifiers_begin}
 
 -- ---- no `*` stands where a bound begins
 
@@ -192,7 +194,7 @@ module _ {A E : Type 0} (r : Readers A E) (part : Manner → Parts A E) (limit :
     impl_met d x l k f e sc h (an_impl {w = w} {v = v} {m = m} i j n) o =
         let u = word_complete {n = 12} w l m f e sc i in
         let q = opaque_bounds_met plus place as_plus d v m k f u.last sc (later l m f f e u.last sc limit (word_takes w l m i).lighter h) j o in
-        let p : reading.impl_bounds r (here (at l f e sc)) plus (at m f u.last sc) ≡ Ok (v, at k f q.last sc) = link _ q.reads (needs_met names_trait NoTraitInImpl (here (at l f e sc)) v (at k f q.last sc) n) in
+        let p : reading.impl_bounds r (here (at l f e sc)) plus (at m f u.last sc) ≡ Ok (v, at k f q.last sc) = link _ q.reads (needs_met is_trait NoTraitInImpl (here (at l f e sc)) v (at k f q.last sc) n) in
         record { last = q.last; reads = link _ u.reads (link _ p refl) }
 
     -- ---- a trait object by itself: its first bound is read by a turn, and does not begin with `dyn`
@@ -316,6 +318,20 @@ sep_no_dyn : (c : Sep) (l m : Toks) → IsMark true c l m → token.sees_dyn l �
 unfolding sees_word
 sep_no_dyn c l m (is_mark (more_chars y)) = refl
 
+question_no_dyn : (q : token.Question) (l m : Toks) → IsMark true q l m → token.sees_dyn l ≡ false
+unfolding sees_word
+question_no_dyn q l m (is_mark (last_char y)) = refl
+
+modifiers_no_dyn : (consts : Bool) (x : TraitBoundModifiers) (l m : Toks) → AreModifiers consts x l m → token.sees_dyn m ≡ false → token.sees_dyn l ≡ false
+unfolding sees_word
+modifiers_no_dyn consts = modifiers_begin consts (λ l. token.sees_dyn l ≡ false) const_no_dyn (λ s c k h. refl) async_no_dyn
+  where
+    const_no_dyn : (w : token.Const) (l m : Toks) → IsWord w l m → token.sees_dyn l ≡ false
+    const_no_dyn w l m is_word = refl
+
+    async_no_dyn : (w : token.Async) (l m : Toks) → IsWord w l m → token.sees_dyn l ≡ false
+    async_no_dyn w l m is_word = refl
+
 leading_no_dyn : (o : Option Sep) (l m : Toks) → IsOptional (IsMark true) o l m → token.sees_dyn m ≡ false → token.sees_dyn l ≡ false
 leading_no_dyn o l m absent h = h
 leading_no_dyn o l m (present {a = c} i) h = sep_no_dyn c l m i
@@ -341,16 +357,15 @@ module _ {A E : Type 0} (part : Manner → Parts A E) where
   bound_path_no_dyn e p l m (without_parens i) = path_no_dyn p l m i
   bound_path_no_dyn e p l m (with_parens {c = o} {xs = xs} {cs = cs} {m = k} i n) = leading_no_dyn o l k i (signed_no_dyn e xs cs k m n)
 
-  trait_no_dyn : (e : End) (o : Option (BoundLifetimes A E)) (q : Option token.Question) (p : Path A E) (l m : Toks) → IsTrait part clearly e o q p l m → token.sees_dyn l ≡ false
+  trait_no_dyn : (consts : Bool) (e : End) (o : Option (BoundLifetimes A E)) (x : TraitBoundModifiers) (q : Option token.Question) (p : Path A E) (l m : Toks) → IsTrait part clearly consts e o x q p l m → token.sees_dyn l ≡ false
   unfolding sees_word
-  trait_no_dyn e o q p l m (a_trait i) = bound_path_no_dyn e p l m i
-  trait_no_dyn e o q p l m (a_trait_for (a_binder is_word i j n) k) = refl
-  trait_no_dyn e o q p l m (a_trait_asked (is_mark (last_char y)) i) = refl
+  trait_no_dyn consts e o x q p l m (a_trait {m = n} j i) = modifiers_no_dyn consts x l n j (bound_path_no_dyn e p n m i)
+  trait_no_dyn consts e o x q p l m (a_trait_for (a_binder is_word i j n) k h) = refl
+  trait_no_dyn consts e o x q p l m (a_trait_asked {q = y} {m = n} {n = k} j h i) = modifiers_no_dyn consts x l n j (question_no_dyn y n k h)
 
   pub bound_no_dyn : (e : End) (x : TypeParamBound A E) (l k : Toks) → IsBound part clearly Object e x l k → token.sees_dyn l ≡ false
   unfolding sees_word
   bound_no_dyn e x l k (a_lifetime_bound is_lifetime) = refl
-  bound_no_dyn e x l k (a_bare_bound (a_trait_bound {o = o} {q = q} {p = p} i)) = trait_no_dyn e o q p l k i
+  bound_no_dyn e x l k (a_bare_bound (a_trait_bound {o = o} {x = y} {q = q} {p = p} i)) = trait_no_dyn false e o y q p l k i
   bound_no_dyn e x l k (a_bound_in_parens i) = refl
   bound_no_dyn e x l k (a_capture_bound h i) = cc h
-  bound_no_dyn e x l k (a_verbatim_bound h i) = cc h

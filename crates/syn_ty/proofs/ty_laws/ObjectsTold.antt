@@ -177,7 +177,7 @@ module _ {A E : Type 0} (r : Readers A E) (part : Manner → Parts A E)
   from_lifetime y xs = b.Lifetime y ∷ xs
 
   lone_lifetime : {P : Type 0} (y : Lifetime) → list_any is_trait (from_lifetime y []) ≡ true → P
-  lone_lifetime y h = both (list_any is_trait (from_lifetime y [])) h (ap (λ z. z || false) (ap (trait_layer {A = A} {E = E} false) (b.outs-Lifetime y)))
+  lone_lifetime y h = both (list_any is_trait (from_lifetime y [])) h (ap (λ z. z || false) (ap (trait_layer {A = A} {E = E}) (b.outs-Lifetime y)))
 
   -- where there is a bound of a trait object, a lifetime is one too
   module _ (lifetimes : (e : End) (x : Bound) (l k : Toks) → (part loosely).bound Object e x l k → (y : Lifetime) (m n : Toks) → IsLifetime y m n → (part loosely).bound Object closed (b.Lifetime y) m n) where

@@ -49,7 +49,8 @@ use Rattle.syn_ty.specs.declared.generics.TypeParamBoundOf.TheVariants as b
 use Rattle.syn_ty.specs.declared.ty.Abi.{Abi}
 use Rattle.syn_ty.specs.declared.ty.TypeOf.TheVariants as v
 use Rattle.syn_ty.specs.declared.ty.TypePathOf.{out-roll-TypePathOf}
-use Rattle.syn_ty.specs.generics.Bounds.{AreBounds, IsFor, IsTraitBound, a_trait_bound, a_trait_asked}
+use Rattle.syn_ty.specs.generics.Bounds.{AreBounds, IsFor, IsTraitBound, a_trait_bound, a_trait_asked, no_constness, some_modifiers}
+use Rattle.syn_ty.specs.generics.Modifiers.{no_modifiers}
 use Rattle.syn_ty.specs.generics.Params as params
 use Rattle.syn_ty.specs.generics.Params.{held_bound, named_bound, trait_bound_of}
 use Rattle.syn_ty.specs.generics.Reading.{trait_bound}
@@ -264,14 +265,14 @@ module _ {A E : Type 0} (r : Readers A E) (part : Manner → Parts A E) (limit :
 -- ---- what a type in parentheses is as the first bound
 
 module _ {A E : Type 0} (s : DelimSpan) where
-  held_is : (t : Option Paren) (o : Option (BoundLifetimes A E)) (q : Option token.Question) (p : Path A E) → b.Trait (held_bound (groups.paren s) (trait_bound_of t o (record {}) q p)) ≡ in_parens s o q p
-  held_is t o q p = ap (λ z. b.Trait (params.held_layer (groups.paren s) z)) (out-roll-TraitBoundOf A E (record { paren_token = t; lifetimes = o; modifiers = record {}; maybe = q; path = p }))
+  held_is : (t : Option Paren) (o : Option (BoundLifetimes A E)) (q : Option token.Question) (p : Path A E) → b.Trait (held_bound (groups.paren s) (trait_bound_of t o no_modifiers q p)) ≡ in_parens s o q p
+  held_is t o q p = ap (λ z. b.Trait (params.held_layer (groups.paren s) z)) (out-roll-TraitBoundOf A E (record { paren_token = t; lifetimes = o; modifiers = no_modifiers; maybe = q; path = p }))
 
   lone_is : (t : Option Paren) (o : Option (BoundLifetimes A E)) (q : Option token.Question) (p : Path A E) →
-      first_bound (groups.paren s) (object_of (b.Trait (trait_bound_of t o (record {}) q p) ∷ [], [])) ≡ Some (in_parens s o q p)
+      first_bound (groups.paren s) (object_of (b.Trait (trait_bound_of t o no_modifiers q p) ∷ [], [])) ≡ Some (in_parens s o q p)
   lone_is t o q p =
-      kinds.first-TraitObject A E (groups.paren s) (trait_object_with [] None (b.Trait (trait_bound_of t o (record {}) q p) ∷ [], []))
-      ∙ ap Some (kinds.held-Trait A E (groups.paren s) (trait_bound_of t o (record {}) q p) ∙ held_is t o q p)
+      kinds.first-TraitObject A E (groups.paren s) (trait_object_with [] None (b.Trait (trait_bound_of t o no_modifiers q p) ∷ [], []))
+      ∙ ap Some (kinds.held-Trait A E (groups.paren s) (trait_bound_of t o no_modifiers q p) ∙ held_is t o q p)
 
   path_is : (p : Path A E) → first_bound (groups.paren s) (v.Path (qualified_with [] None p)) ≡ Some (in_parens s None None p)
   path_is p =
@@ -357,13 +358,13 @@ module _ {A E : Type 0} (r : Readers A E) (plus : Bool) where
       (reads_further : (y : TypeParamBound A E) (d : End) (xs : List (TypeParamBound A E)) (ps : List token.Plus) (l k : Toks) (f : Option Span) (e : Span) (sc : Scope) → ahead (at l f e sc) < limit → AreFurther part clearly d xs ps l k → Fits d k →
       Reads_to (reading.each_object_from r y) (object_of (y ∷ xs, ps)) l k f e sc) where
     -- a trait bound with `?`
-    module _ (reads_asked : (d : End) (x : TraitBound A E) (l k : Toks) (f : Option Span) (e : Span) (sc : Scope) → ahead (at l f e sc) < limit → IsTraitBound part clearly d x l k → Fits d k → Reads_to (trait_bound r) x l k f e sc) where
+    module _ (reads_asked : (d : End) (x : TraitBound A E) (l k : Toks) (f : Option Span) (e : Span) (sc : Scope) → ahead (at l f e sc) < limit → IsTraitBound part clearly false d x l k → Fits d k → Reads_to (trait_bound r) x l k f e sc) where
       asked_content : (q : token.Question) (p : Path A E) (c : Toks) (f : Option Span) (e : Span) (sc : Scope) → ahead (at c f e sc) < limit → IsAsked part clearly q p c done →
           Reads_to (reading.paren_content r) (held.Asked (named_bound None (Some q) p)) c done f e sc
       unfolding reading.paren_content inner.type_paren_content
       asked_content q p c f e sc h (an_asked {e = d} {m = n} i j) =
           let start = asks q c n i in
-          let w = reads_asked d (named_bound None (Some q) p) c done f e sc h (a_trait_bound (a_trait_asked i j)) (over_fits d done (done_over done done_there)) in
+          let w = reads_asked d (named_bound None (Some q) p) c done f e sc h (a_trait_bound (a_trait_asked (some_modifiers no_constness absent) i j)) (over_fits d done (done_over done done_there)) in
           record {
             last = w.last;
             reads = chosen (is_done c) false _ _ (at c f e sc) _ start.there (chosen (sees_lifetime c) false _ _ (at c f e sc) _ start.no_lifetime (chosen (token.sees_question c) true _ _ (at c f e sc) _ start.question (link _ w.reads refl)));

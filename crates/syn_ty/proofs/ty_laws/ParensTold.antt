@@ -30,14 +30,14 @@ use Rattle.syn_ty.specs.declared.generics.TypeParamBoundOf.TheVariants as b
 use Rattle.syn_ty.specs.declared.ty.TypeOf.TheVariants as v
 use Rattle.syn_ty.specs.generics.Bounds.{AreBounds, IsTraitBound}
 use Rattle.syn_ty.specs.generics.Params.{held_bound}
-use Rattle.syn_ty.specs.generics.Reading.{trait_bound}
+use Rattle.syn_ty.specs.generics.Reading.{trait_in}
 use Rattle.syn_ty.specs.ty.Admitted.{IsType, NoLifetime, a_paren_type, a_tuple_type, an_object_without_dyn, enclosed}
 use Rattle.syn_ty.specs.ty.Objects.{AreBareBounds, asked_first, asked_in_two, held_and_plus, none_further, some_further}
 use Rattle.syn_ty.specs.ty.Parts.{Manner, loosely, End, closed, opened, Parts}
 use Rattle.syn_ty.specs.ty.Points.{Readers, a_bound, a_type}
 use Rattle.syn_ty.specs.ty.Reading as reading
 use Rattle.syn_ty.specs.ty.Reading.{first_bound, object_of}
-use Rattle.syn_ty.specs.ty.Spelling as plain
+use Rattle.syn_ty.proofs.ty_laws.Sound as plain
 use Rattle.syn_ty.specs.ty.Trees.{TraitBound, TypeParamBound, TypeTree}
 use Rattle.syn_ty.specs.ty.Types.{paren_of, tuple_of}
 use Rattle.syn_ty.proofs.ty_laws.CallsTold.{and_second}
@@ -47,7 +47,7 @@ use Rattle.syn_ty.proofs.ty_laws.GroupsTold.{Elements, TypeAt, tupled_at}
 use Rattle.syn_ty.proofs.ty_laws.PathsTold.{and_first}
 use Rattle.syn_ty.proofs.ty_laws.Sound.{IsHeld, held_sound, more_sound}
 use Rattle.syn_ty.proofs.ty_laws.Told.{Told, both, never_open}
-use Rattle.syn_ty.proofs.ty_laws.TraitsTold.{trait_bound_took}
+use Rattle.syn_ty.proofs.ty_laws.TraitsTold.{trait_in_took}
 use Rattle.syn_ty.proofs.ty_laws.TypePathsTold.{Onward}
 use Rattle.syn_ty.proofs.ty_laws.Within.{Held}
 
@@ -74,7 +74,7 @@ module _ {A E : Type 0} (r : Readers A E) (part over : Manner → Parts A E) (h 
   IsContent : Content → Toks → Type 0
   IsContent (held.Elements w) l = Elements r part h w l × (sees_lifetime l ≡ false)
   IsContent (held.Object w) l = (e : End) × AreBareBounds part loosely Plus e w l done
-  IsContent (held.Asked x) l = (e : End) × IsTraitBound part loosely e x l done × (token.sees_question l ≡ true)
+  IsContent (held.Asked x) l = (e : End) × IsTraitBound part loosely false e x l done × (token.sees_question l ≡ true)
   IsContent (held.One x) l = (e : End) × (part loosely).ty Plus e x l done × (sees_lifetime l ≡ false)
 
   abbrev typ : Reader Tree
@@ -105,8 +105,8 @@ module _ {A E : Type 0} (r : Readers A E) (part over : Manner → Parts A E) (h 
               let i = took_whole {Is = Told (AreBareBounds part loosely Plus)} s t f.value (took_lifetime Plus s t f.value u f.was) o in
               subst (λ d. IsContent d s.rest) f.is (i.0, i.1)
           | inr z ↦ elim (branch (token.sees_question s.rest) _ _ s (Ok (w, t)) z.1) [
-            | inl d ↦ let f = mapped (trait_bound r s) held.Asked w t d.1 in
-                let i = took_whole {Is = Told (IsTraitBound part loosely)} s t f.value (trait_bound_took r part h.ty (h.param Binder) h.arguments h.pair s t f.value u f.was) o in
+            | inl d ↦ let f = mapped (trait_in r false s) held.Asked w t d.1 in
+                let i = took_whole {Is = Told (IsTraitBound part loosely false)} s t f.value (trait_in_took r part h.ty (h.param Binder) h.arguments h.pair false s t f.value u f.was) o in
                 subst (λ j. IsContent j s.rest) f.is (i.0, i.1, d.0)
             | inr d ↦ elements_sound s t w u z.0 d.1 o
           ]

@@ -1,25 +1,23 @@
--- Where a trait bound is read, it is spelt by the rules of the whole grammar: perhaps a binder or `?`, never both, and a path.
-use Rattle.std.proofs.Common.{◌≡◌, true, false, Option, Some, None, Ok, inl, inr, refl, sym, subst, arith}
-use Rattle.token_core.specs.Reads.{Reader, ◌>>=◌, sees_group}
-use Rattle.token_core.specs.declared.tree.Delimiter.TheVariants as d
+-- Where a trait bound is read, it is spelt by the rules of the whole grammar: modifiers, perhaps a binder before them or `?` behind them, never both, and a path.
+use Rattle.std.proofs.Common.{◌≡◌, Bool, true, false, Option, Some, None, Ok, refl, subst, arith}
+use Rattle.token_core.specs.Reads.{Reader, ◌>>=◌}
 use Rattle.token_core.specs.Rebuilt.{Visible}
 use Rattle.token_core.specs.Spellings.{IsMark}
 use Rattle.token_core.specs.Stream.{Stream}
 use Rattle.token_core.specs.Tokens as token
 use Rattle.token_core.specs.Toks.{Toks}
 use Rattle.token_core.proofs.MarkSpells.{mark_sound, mark_visible}
-use Rattle.token_core.proofs.Took.{branch}
 use Rattle.token_core.proofs.Turns.{chain, same_pair}
 use Rattle.syn_path.proofs.Words.{TookOne}
 use Rattle.syn_path.specs.declared.path.PathStyle.TheVariants.{AsWritten}
 use Rattle.syn_forms.specs.declared.places.ParamPlace.TheVariants.{Binder}
 use Rattle.syn_forms.specs.declared.places.TypePlace.{TypePlace}
-use Rattle.syn_forms.specs.groups.Reading.{in_brackets}
 use Rattle.syn_forms.specs.tokens.Reading.{question}
 use Rattle.syn_forms.proofs.tokens_laws.Fronts.{plainly}
-use Rattle.syn_ty.specs.generics.Bounds.{IsConstBound, a_const_bound, a_const_bound_asked, a_const_bound_for, IsConstForm, IsFor, IsTraitBound, a_trait_bound, a_trait, a_trait_for, a_trait_asked}
-use Rattle.syn_ty.specs.generics.Params.{named_bound}
-use Rattle.syn_ty.specs.generics.Reading.{binder_after, no_const_form, optional_binder, trait_after, trait_bound, trait_of}
+use Rattle.syn_ty.specs.declared.generics.TraitBoundModifiers.{TraitBoundModifiers}
+use Rattle.syn_ty.specs.generics.Bounds.{AreModifiers, IsFor, IsTraitBound, a_trait_bound, a_trait, a_trait_for, a_trait_asked}
+use Rattle.syn_ty.specs.generics.Params.{trait_bound_of}
+use Rattle.syn_ty.specs.generics.Reading.{binder_after, modifiers, optional_binder, trait_after, trait_in, trait_of}
 use Rattle.syn_ty.specs.path.Paths.{is_empty}
 use Rattle.syn_ty.specs.path.Reading.{path, signed}
 use Rattle.syn_ty.specs.path.Signed.{IsBoundPath}
@@ -28,49 +26,33 @@ use Rattle.syn_ty.specs.ty.Points.{Readers, a_param, a_type, some_arguments}
 use Rattle.syn_ty.specs.ty.Spelling.{IsOptional, absent, present}
 use Rattle.syn_ty.specs.ty.Trees.{BoundLifetimes, GenericParam, Path, PathArguments, TraitBound, TypeTree}
 use Rattle.syn_ty.proofs.generics_laws.Sound.{optional_took}
+use Rattle.syn_ty.proofs.ty_laws.ModifiersTold.{modifiers_took}
 use Rattle.syn_ty.proofs.ty_laws.PathsTold.{path_took}
 use Rattle.syn_ty.proofs.ty_laws.SignedTold.{EmptyPair, signed_took}
 use Rattle.syn_ty.proofs.ty_laws.Sound.{optional_sound}
 use Rattle.syn_ty.proofs.ty_laws.Told.{Told}
 
--- where no `const` form may stand, none was read
-nothing_read : (s t : Stream) (u : Unit {0}) → no_const_form s ≡ Ok (u, t) → s ≡ t
-unfolding no_const_form
-nothing_read s t u e =
-    elim (branch (sees_group d.Bracket s.rest) _ _ s (Ok (u, t)) e) [
-      | inl y ↦ let c = chain (in_brackets token.const_word s) _ u t y.1 in cc c.goes
-      | inr y ↦ elim (branch (token.sees_const s.rest) _ _ s (Ok (u, t)) y.1) [
-        | inl z ↦ let c = chain (token.const_word s) _ u t z.1 in cc c.goes
-        | inr z ↦ (same_pair tt u s t z.1).1
-      ]
-    ]
-
 question_took : (s t : Stream) (q : token.Question) → Visible s.rest → token.question s ≡ Ok (q, t) → TookOne (IsMark false) s t q
 question_took s t q v e = plainly {Is = IsMark false {n = 22} {k = 1}} (λ a l r i w. mark_visible false {n = 22} {k = 1} a l r i w) s t q v (mark_sound {n = 22} {k = 1} refl (omega arith) s t q v e)
 
--- what stands after the first binder and a `const` form: a path, and before it perhaps a `?` where no binder stood
+-- what stands after the first binder and the modifiers: a path, and before it perhaps a `?` where no binder stood
 module _ {A E : Type 0} (part : Manner → Parts A E) where
-  abbrev pub For : Type 0
+  abbrev For : Type 0
   For = Option (BoundLifetimes A E)
 
-  abbrev pub IsPerhapsFor : For → Toks → Toks → Type 0
+  abbrev IsPerhapsFor : For → Toks → Toks → Type 0
   IsPerhapsFor = IsOptional (IsFor part loosely)
 
-  pub data IsAfter : For → End → TraitBound A E → Toks → Toks → Type 0 where
-    a_path_after : {o : For} {e : End} {p : Path A E} {l k : Toks} → IsBoundPath part loosely e p l k → IsAfter o e (named_bound o None p) l k
-    an_asked_after : {e : End} {q : token.Question} {p : Path A E} {l m k : Toks} → IsMark false q l m → IsBoundPath part loosely e p m k → IsAfter None e (named_bound None (Some q) p) l k
+  data IsAfter : For → TraitBoundModifiers → End → TraitBound A E → Toks → Toks → Type 0 where
+    a_path_after : {o : For} {y : TraitBoundModifiers} {e : End} {p : Path A E} {l k : Toks} → IsBoundPath part loosely e p l k → IsAfter o y e (trait_bound_of None o y None p) l k
+    an_asked_after : {y : TraitBoundModifiers} {e : End} {q : token.Question} {p : Path A E} {l m k : Toks} →
+        IsMark false q l m → IsBoundPath part loosely e p m k → IsAfter None y e (trait_bound_of None None y (Some q) p) l k
 
-  -- without a `const` form
-  pub trait_at : (o : For) (e : End) (x : TraitBound A E) (l m k : Toks) → IsPerhapsFor o l m → IsAfter o e x m k → IsTraitBound part loosely e x l k
-  trait_at None e x l m k absent (a_path_after i) = a_trait_bound (a_trait i)
-  trait_at None e x l m k absent (an_asked_after q i) = a_trait_bound (a_trait_asked q i)
-  trait_at (Some y) e x l m k (present f) (a_path_after i) = a_trait_bound (a_trait_for f i)
-
-  -- with one
-  pub const_at : (o : For) (e : End) (x : TraitBound A E) (l m n k : Toks) → IsPerhapsFor o l m → IsConstForm m n → IsAfter o e x n k → IsConstBound part loosely e l k
-  const_at None e x l m n k absent c (a_path_after i) = a_const_bound c i
-  const_at None e x l m n k absent c (an_asked_after q i) = a_const_bound_asked c q i
-  const_at (Some y) e x l m n k (present f) c (a_path_after i) = a_const_bound_for f c i
+  trait_at : (consts : Bool) (o : For) (y : TraitBoundModifiers) (e : End) (x : TraitBound A E) (l m n k : Toks) →
+      IsPerhapsFor o l m → AreModifiers consts y m n → IsAfter o y e x n k → IsTraitBound part loosely consts e x l k
+  trait_at consts None y e x l m n k absent w (a_path_after i) = a_trait_bound (a_trait w i)
+  trait_at consts None y e x l m n k absent w (an_asked_after q i) = a_trait_bound (a_trait_asked w q i)
+  trait_at consts (Some o) y e x l m n k (present f) w (a_path_after i) = a_trait_bound (a_trait_for f w i)
 
 module _ {A E : Type 0} (r : Readers A E) (part : Manner → Parts A E)
     (took : (p : TypePlace) (s t : Stream) (x : TypeTree A E) → Visible s.rest → r (a_type p) s ≡ Ok (x, t) → TookOne (Told ((part loosely).ty p)) s t x)
@@ -83,7 +65,7 @@ module _ {A E : Type 0} (r : Readers A E) (part : Manner → Parts A E)
   abbrev IsPerhapsAsked : Option token.Question → Toks → Toks → Type 0
   IsPerhapsAsked = IsOptional (IsMark false {n = 22} {k = 1})
 
-  pub for_took : (s t : Stream) (x : MaybeFor) → Visible s.rest → optional_binder r s ≡ Ok (x, t) → TookOne (IsPerhapsFor part) s t x
+  for_took : (s t : Stream) (x : MaybeFor) → Visible s.rest → optional_binder r s ≡ Ok (x, t) → TookOne (IsPerhapsFor part) s t x
   for_took = optional_took r ((part loosely).param Binder) took_param
 
   -- the binder that stood before, or, where none did, one behind a `?`
@@ -103,72 +85,73 @@ module _ {A E : Type 0} (r : Readers A E) (part : Manner → Parts A E)
   abbrev Ends : Path A E → Toks → Toks → Type 0
   Ends = Told (IsBoundPath part loosely)
 
-  abbrev After : MaybeFor → TraitBound A E → Toks → Toks → Type 0
-  After x = Told (IsAfter part x)
+  abbrev After : MaybeFor → TraitBoundModifiers → TraitBound A E → Toks → Toks → Type 0
+  After x u = Told (IsAfter part x u)
 
-  moved : (x : MaybeFor) (y z : TraitBound A E) (l k : Toks) (s t : Stream) → (y ≡ z) × (s ≡ t) → After x y l k → After x z l k
-  moved x y z l k s t g i = subst (λ u. After x u l k) g.0 i
+  moved : (x : MaybeFor) (u : TraitBoundModifiers) (y z : TraitBound A E) (l k : Toks) (s t : Stream) → (y ≡ z) × (s ≡ t) → After x u y l k → After x u z l k
+  moved x u y z l k s t g i = subst (λ w. After x u w l k) g.0 i
 
-  after_is : (x : MaybeFor) (q : Option token.Question) (y : MaybeFor) (p : Path A E) (z : TraitBound A E) (l m n k : Toks) (s t : Stream) → IsPerhapsAsked q l m → Behind x q y m n → Ends p n k → trait_of y q p s ≡ Ok (z, t) → After x z l k
-  after_is None q y p z l m n k s t absent the_same w e = moved None _ z l k s t (same_pair _ z s t e) (w.0, a_path_after w.1, w.2, w.3)
-  after_is None q y p z l m n k s t (present i) the_same w e = moved None _ z l k s t (same_pair _ z s t e) (w.0, an_asked_after i w.1, w.2, w.3)
-  after_is None q y p z l m n k s t (present i) (another absent) w e = moved None _ z l k s t (same_pair _ z s t e) (w.0, an_asked_after i w.1, w.2, w.3)
-  after_is None q y p z l m n k s t (present i) (another (present f)) w e = cc e
-  after_is (Some x) q y p z l m n k s t absent the_same w e = moved (Some x) _ z l k s t (same_pair _ z s t e) (w.0, a_path_after w.1, w.2, w.3)
-  after_is (Some x) q y p z l m n k s t (present i) the_same w e = cc e
+  after_is : (x : MaybeFor) (u : TraitBoundModifiers) (q : Option token.Question) (y : MaybeFor) (p : Path A E) (z : TraitBound A E) (l m n k : Toks) (s t : Stream) →
+      IsPerhapsAsked q l m → Behind x q y m n → Ends p n k → trait_of u y q p s ≡ Ok (z, t) → After x u z l k
+  after_is None u q y p z l m n k s t absent the_same w e = moved None u _ z l k s t (same_pair _ z s t e) (w.0, a_path_after w.1, w.2, w.3)
+  after_is None u q y p z l m n k s t (present i) the_same w e = moved None u _ z l k s t (same_pair _ z s t e) (w.0, an_asked_after i w.1, w.2, w.3)
+  after_is None u q y p z l m n k s t (present i) (another absent) w e = moved None u _ z l k s t (same_pair _ z s t e) (w.0, an_asked_after i w.1, w.2, w.3)
+  after_is None u q y p z l m n k s t (present i) (another (present f)) w e = cc e
+  after_is (Some x) u q y p z l m n k s t absent the_same w e = moved (Some x) u _ z l k s t (same_pair _ z s t e) (w.0, a_path_after w.1, w.2, w.3)
+  after_is (Some x) u q y p z l m n k s t (present i) the_same w e = cc e
 
   -- the stream stays where the path ended
-  stays : (q : Option token.Question) (y : MaybeFor) (p : Path A E) (z : TraitBound A E) (s t : Stream) → trait_of y q p s ≡ Ok (z, t) → s ≡ t
-  stays q None p z s t e = (same_pair _ z s t e).1
-  stays None (Some y) p z s t e = (same_pair _ z s t e).1
-  stays (Some q) (Some y) p z s t e = cc e
+  stays : (u : TraitBoundModifiers) (q : Option token.Question) (y : MaybeFor) (p : Path A E) (z : TraitBound A E) (s t : Stream) → trait_of u y q p s ≡ Ok (z, t) → s ≡ t
+  stays u q None p z s t e = (same_pair _ z s t e).1
+  stays u None (Some y) p z s t e = (same_pair _ z s t e).1
+  stays u (Some q) (Some y) p z s t e = cc e
 
-  abbrev after_path : MaybeFor → Option token.Question → Path A E → Reader (TraitBound A E)
-  after_path y q p = signed r p >>= trait_of y q
+  abbrev after_path : TraitBoundModifiers → MaybeFor → Option token.Question → Path A E → Reader (TraitBound A E)
+  after_path u y q p = signed r p >>= trait_of u y q
 
-  abbrev after_binder : Option token.Question → MaybeFor → Reader (TraitBound A E)
-  after_binder q y = path r AsWritten >>= after_path y q
+  abbrev after_binder : TraitBoundModifiers → Option token.Question → MaybeFor → Reader (TraitBound A E)
+  after_binder u q y = path r AsWritten >>= after_path u y q
 
-  abbrev after_question : MaybeFor → Option token.Question → Reader (TraitBound A E)
-  after_question x q = binder_after r x q >>= after_binder q
+  abbrev after_question : MaybeFor → TraitBoundModifiers → Option token.Question → Reader (TraitBound A E)
+  after_question x u q = binder_after r x q >>= after_binder u q
 
-  -- after the first binder and a `const` form
-  pub after_took : (x : MaybeFor) (s t : Stream) (z : TraitBound A E) → Visible s.rest → trait_after r x s ≡ Ok (z, t) → TookOne (After x) s t z
+  -- after the first binder and the modifiers
+  after_took : (x : MaybeFor) (m : TraitBoundModifiers) (s t : Stream) (z : TraitBound A E) → Visible s.rest → trait_after r x m s ≡ Ok (z, t) → TookOne (After x m) s t z
   unfolding trait_after
-  after_took x s t z v e =
-      let c = chain (question s) (after_question x) z t e in
+  after_took x m s t z v e =
+      let c = chain (question s) (after_question x m) z t e in
       let o = optional_sound {Is = IsMark false {n = 22} {k = 1}} token.sees_question token.question question_took s c.rest c.value v c.was in
-      let f = chain (binder_after r x c.value c.rest) (after_binder c.value) z t c.goes in
+      let f = chain (binder_after r x c.value c.rest) (after_binder m c.value) z t c.goes in
       let h = behind_took x c.value c.rest f.rest f.value o.seen f.was in
-      let g = chain (path r AsWritten f.rest) (after_path f.value c.value) z t f.goes in
+      let g = chain (path r AsWritten f.rest) (after_path m f.value c.value) z t f.goes in
       let w = path_took r part took_arguments AsWritten f.rest g.rest g.value h.seen g.was in
-      let b = chain (signed r g.value g.rest) (trait_of f.value c.value) z t g.goes in
+      let b = chain (signed r g.value g.rest) (trait_of m f.value c.value) z t g.goes in
       let u = signed_took r part took pair g.value b.value f.rest.rest g.rest b.rest w.seen b.was in
-      let at = stays c.value f.value b.value z b.rest t b.goes in
-      subst (λ (y : Stream). TookOne (After x) s y z) at (record {
+      let at = stays m c.value f.value b.value z b.rest t b.goes in
+      subst (λ (y : Stream). TookOne (After x m) s y z) at (record {
         left = λ n. o.left (h.left (w.left (u.0 n)));
         seen = u.1;
         spelt = λ n.
             let ng = u.0 n in
             let nf = w.left ng in
-            after_is x c.value f.value b.value z s.rest c.rest.rest f.rest.rest b.rest.rest b.rest t (o.spelt (h.left nf)) (h.spelt nf) (u.2 n (w.spelt ng)) b.goes;
+            after_is x m c.value f.value b.value z s.rest c.rest.rest f.rest.rest b.rest.rest b.rest t (o.spelt (h.left nf)) (h.spelt nf) (u.2 n (w.spelt ng)) b.goes;
       })
 
-  abbrev Of : TraitBound A E → Toks → Toks → Type 0
-  Of = Told (IsTraitBound part loosely)
-
-  -- a trait bound by itself
-  pub trait_bound_took : (s t : Stream) (z : TraitBound A E) → Visible s.rest → trait_bound r s ≡ Ok (z, t) → TookOne Of s t z
-  unfolding trait_bound
-  trait_bound_took s t z v e =
-      let rest : MaybeFor → Reader (TraitBound A E) = λ x. no_const_form >>= (λ u. trait_after r x) in
+  -- a trait bound without parentheses
+  pub trait_in_took : (consts : Bool) (s t : Stream) (z : TraitBound A E) → Visible s.rest → trait_in r consts s ≡ Ok (z, t) → TookOne (Told (IsTraitBound part loosely consts)) s t z
+  unfolding trait_in
+  trait_in_took consts s t z v e =
+      let rest : MaybeFor → Reader (TraitBound A E) = λ x. modifiers consts >>= trait_after r x in
       let c = chain (optional_binder r s) rest z t e in
       let o = for_took s c.rest c.value v c.was in
-      let f = chain (no_const_form c.rest) (λ u. trait_after r c.value) z t c.goes in
-      let same = nothing_read c.rest f.rest f.value f.was in
-      let w = after_took c.value c.rest t z o.seen (subst (λ y. trait_after r c.value y ≡ Ok (z, t)) (sym same) f.goes) in
+      let f = chain (modifiers consts c.rest) (trait_after r c.value) z t c.goes in
+      let m = modifiers_took consts c.rest f.rest f.value o.seen f.was in
+      let w = after_took c.value f.value f.rest t z m.seen f.goes in
       record {
-        left = λ n. o.left (w.left n);
+        left = λ n. o.left (m.left (w.left n));
         seen = w.seen;
-        spelt = λ n. let i = w.spelt n in (i.0, trait_at part c.value i.0 z s.rest c.rest.rest t.rest (o.spelt (w.left n)) i.1, i.2, i.3);
+        spelt = λ n.
+            let i = w.spelt n in
+            let nf = w.left n in
+            (i.0, trait_at part consts c.value f.value i.0 z s.rest c.rest.rest f.rest.rest t.rest (o.spelt (m.left nf)) (m.spelt nf) i.1, i.2, i.3);
       }

@@ -60,7 +60,7 @@ module _ {A E : Type 0} (attrs : Reader (List A)) (values : ReadValues E) (r : R
     (life : (d : End) (x : TypeParamBound A E) (l k : Toks) → (part clearly).bound Object d x l k → sees_lifetime l ≡ true → (y : Lifetime) × IsLifetime y l k)
     (reads_binder : (x : BoundLifetimes A E) (l k : Toks) (f : Option Span) (e : Span) (sc : Scope) → ahead (at l f e sc) ≤ limit → IsFor part clearly x l k → Reads_to (generics.binder r) x l k f e sc)
     (reads_first : (d : End) (x : TypeParamBound A E) (l k : Toks) (f : Option Span) (e : Span) (sc : Scope) → ahead (at l f e sc) ≤ limit → (part clearly).bound Object d x l k → Fits d k → Reads_to (generics.bound_step r Object) x l k f e sc)
-    (reads_asked : (d : End) (x : TraitBound A E) (l k : Toks) (f : Option Span) (e : Span) (sc : Scope) → ahead (at l f e sc) < limit → IsTraitBound part clearly d x l k → Fits d k → Reads_to (generics.trait_bound r) x l k f e sc)
+    (reads_asked : (d : End) (x : TraitBound A E) (l k : Toks) (f : Option Span) (e : Span) (sc : Scope) → ahead (at l f e sc) < limit → IsTraitBound part clearly false d x l k → Fits d k → Reads_to (generics.trait_bound r) x l k f e sc)
     (reads_type : (d : End) (x : TypeTree A E) (l k : Toks) (f : Option Span) (e : Span) (sc : Scope) → ahead (at l f e sc) < limit → IsType part clearly Plus d x l k → Fits d k → token.sees_plus k ≡ false → Reads_to (r (a_type Plus)) x l k f e sc) where
   no_question : (d : End) (x : TypeTree A E) (l k : Toks) → (part clearly).ty Plus d x l k → token.sees_question l ≡ false
   no_question d x l k i = type_no_question part Plus d x l k (wider d x l k i)

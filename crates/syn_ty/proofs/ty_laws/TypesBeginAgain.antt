@@ -37,6 +37,7 @@ use Rattle.syn_ty.specs.declared.generics.TypeParamBoundOf.TheVariants as b
 use Rattle.syn_ty.specs.declared.ty.Abi.{Abi}
 use Rattle.syn_ty.specs.declared.ty.TypeOf.TheVariants as v
 use Rattle.syn_ty.specs.generics.Bounds.{AreBounds, no_bounds, last_bound, bound_and_plus}
+use Rattle.syn_ty.specs.generics.Modifiers.{no_modifiers}
 use Rattle.syn_ty.specs.generics.Parameters.{begins_as_generics}
 use Rattle.syn_ty.specs.generics.Params.{named_bound, trait_bound_of}
 use Rattle.syn_ty.specs.generics.Shapes.{bare_trait_by}
@@ -145,15 +146,15 @@ module _ {A E : Type 0} (pa : List A → Print) (pe : Values E) (part : Manner �
   group_first : (s : DelimSpan) (o : Option (BoundLifetimes A E)) (q : Option token.Question) (z : Path A E) (xs : List (TypeParamBound A E)) (ps : List token.Plus) (l r : Toks) → Kept l r (printing.bounds_joined pa pe (in_parens s o q z ∷ xs, ps))
   group_first s o q z xs ps l r =
       let all = first_joined pb p.mark (in_parens s o q z) xs ps in
-      let one = bound-Trait pa pe (trait_bound_of (Some (groups.paren s)) o (record {}) q z) ∙ trait_bound_parts pa pe (Some (groups.paren s)) o (record {}) q z in
-      same_kept l r _ _ (all.1 ∙ ap (λ y. y ++ all.0) one) (quiet_kept l r _ (group_quiet Parenthesis s (stream_of_trees (bare_trait_by (printing.param pa pe) (printing.arguments pa pe AsWritten) o q z)) all.0 tt))
+      let one = bound-Trait pa pe (trait_bound_of (Some (groups.paren s)) o no_modifiers q z) ∙ trait_bound_parts pa pe (Some (groups.paren s)) o no_modifiers q z in
+      same_kept l r _ _ (all.1 ∙ ap (λ y. y ++ all.0) one) (quiet_kept l r _ (group_quiet Parenthesis s (stream_of_trees (bare_trait_by (printing.param pa pe) (printing.arguments pa pe AsWritten) o no_modifiers q z)) all.0 tt))
 
   -- or stands after a binder
   binder_first : (x : BoundLifetimes A E) (z : Path A E) (xs : List (TypeParamBound A E)) (ps : List token.Plus) (l r : Toks) → token.sees_for l ≡ true → Kept l r (printing.bounds_joined pa pe (b.Trait (named_bound (Some x) None z) ∷ xs, ps))
   binder_first x z xs ps l r e =
       let y = b.Trait (named_bound (Some x) None z) in
       let all = first_joined pb p.mark y xs ps in
-      let one = bound-Trait pa pe (named_bound (Some x) None z) ∙ trait_bound_parts pa pe None (Some x) (record {}) None z in
+      let one = bound-Trait pa pe (named_bound (Some x) None z) ∙ trait_bound_parts pa pe None (Some x) no_modifiers None z in
       let rest = (p.mark x.lt_token ++ (joined (printing.param pa pe) p.mark x.lifetimes.0 x.lifetimes.1 ++ p.mark x.gt_token)) ++ path_by (printing.arguments pa pe AsWritten) z in
       same_kept l r _ (p.word x.for_token ++ (rest ++ all.0)) (all.1 ∙ ap (λ k. k ++ all.0) one)
       (binder_kept l r (p.word x.for_token ++ (rest ++ all.0)) e (λ k. (for_first x.for_token (rest ++ all.0) k).0) (λ k. (for_first x.for_token (rest ++ all.0) k).1))
@@ -170,7 +171,7 @@ module _ {A E : Type 0} (pa : List A → Print) (pe : Values E) (part : Manner �
     bare_kept : (place : TypePlace) (e : End) (w : Many (TypeParamBound A E) token.Plus) (l r : Toks) → AreBareBounds part plainly place e w l r → Kept l r (printing.bounds_joined pa pe w)
     bare_kept place e w l r (path_alone {x = x} {p = z} (a_first_for {m = m} f i n t)) = binder_first x z [] [] l r (for_seen part plainly x l m f)
     bare_kept place e w l r (path_and_plus {p = z} {c = c} {xs = xs} {ps = ps} {m = m} {n = n} a (a_first i u) j t) =
-        let one = bound-Trait pa pe (named_bound None None z) ∙ trait_bound_parts pa pe None None (record {}) None z in
+        let one = bound-Trait pa pe (named_bound None None z) ∙ trait_bound_parts pa pe None None no_modifiers None z in
         let rest = printing.bounds_joined pa pe (xs, ps) in
         let q = path_by (printing.arguments pa pe AsWritten) z in
         same_kept l r _ (q ++ (p.mark c ++ rest)) (ap (λ k. k ++ (p.mark c ++ rest)) one) (plus_kept q rest c l m n r (path_kept pa pe part arguments_begin z l m i) j)

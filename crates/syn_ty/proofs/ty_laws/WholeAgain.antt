@@ -182,8 +182,8 @@ module _ {A E : Type 0} {na : List A → List A} {ne : NormalValues E} {pa : Lis
 
   pub trait_bound_again : Whole (by.SpellsTraitBound shown spelt) (normal.trait_bound na ne) (printing.trait_bound pa pe)
   trait_bound_again =
-      all_ending (normal.trait_bound na ne) (printing.trait_bound pa pe) IsTraitBound
-      (λ k. bounds.trait_bound_again na ne pa pe (To k) (known k).again (known k).supplied)
+      all_ending (normal.trait_bound na ne) (printing.trait_bound pa pe) (λ part how. IsTraitBound part how false)
+      (λ k. bounds.trait_bound_again na ne pa pe (To k) (known k).again (known k).supplied false)
 
 -- ---- a lifetime parameter
 

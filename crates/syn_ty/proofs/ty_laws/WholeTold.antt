@@ -131,7 +131,7 @@ module _ {A E : Type 0} {attrs : Reader (List A)} {values : ReadValues E} {shown
   bound_sound s t a n v e c = all_ending shown spelt (λ part how. IsBound part how Opaque) s t a (alone.bound_took g Opaque s t a v e) c
 
   pub trait_bound_sound : Whole (knot.trait_bound attrs values) (by.SpellsTraitBound shown spelt loosely)
-  trait_bound_sound s t a n v e c = all_ending shown spelt IsTraitBound s t a (alone.trait_bound_took g s t a v e) c
+  trait_bound_sound s t a n v e c = all_ending shown spelt (λ part how. IsTraitBound part how false) s t a (alone.trait_bound_took g s t a v e) c
 
 -- ---- a lifetime parameter
 

@@ -14,6 +14,7 @@ use Rattle.syn_ty.specs.path.Signed.{IsParens, IsReturn}
 use Rattle.syn_ty.specs.path.Spelling.{IsAngle, IsAnyPath, IsPath, IsSegment, Styled}
 use Rattle.syn_ty.specs.ty.Admitted.{IsBorrow, IsBracketed, IsCounted, IsEnclosed, IsPointer, IsTupled, IsType}
 use Rattle.syn_ty.specs.ty.Functions.{IsFnPtr, IsNamedArg}
+use Rattle.syn_ty.specs.ty.Groups.{IsGrouped}
 use Rattle.syn_ty.specs.ty.Objects.{IsImpl, IsObject}
 use Rattle.syn_ty.specs.ty.Parts.{Manner, End, Parts, loosely, Told}
 use Rattle.syn_ty.specs.ty.Spelling.{IsOptional, Relation}
@@ -67,6 +68,10 @@ module _ {A E : Type 0} (attrs : Bool → List A → Toks → Toks → Type 0) (
 
   abbrev pub ty : TypePlace → TypeTree A E → Toks → Toks → Type 0
   ty place = FrontEnding (λ part how. IsType part how place)
+
+  -- a type at an invisible group
+  abbrev pub grouped : TypeTree A E → Toks → Toks → Type 0
+  grouped = Front (IsGrouped)
 
   abbrev pub return_type : TypePlace → ReturnType A E → Toks → Toks → Type 0
   return_type place = FrontEnding (λ part how. IsReturn part how place)
@@ -123,4 +128,4 @@ module _ {A E : Type 0} (attrs : Bool → List A → Toks → Toks → Type 0) (
   bound = FrontEnding (λ part how. IsBound part how Opaque)
 
   abbrev pub trait_bound : TraitBound A E → Toks → Toks → Type 0
-  trait_bound = FrontEnding (IsTraitBound)
+  trait_bound = FrontEnding (λ part how. IsTraitBound part how false)

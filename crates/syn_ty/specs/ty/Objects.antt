@@ -16,11 +16,12 @@ use Rattle.syn_forms.specs.declared.places.TypePlace.{TypePlace}
 use Rattle.syn_forms.specs.places.Reading.{allows_plus}
 use Rattle.syn_ty.specs.declared.generics.TypeParamBoundOf.TheVariants as b
 use Rattle.syn_ty.specs.generics.Bounds.{IsFor, AreBounds}
+use Rattle.syn_ty.specs.generics.Modifiers.{no_modifiers}
 use Rattle.syn_ty.specs.generics.Params.{named_bound, trait_bound_of}
 use Rattle.syn_ty.specs.path.Signed.{IsBoundPath}
 use Rattle.syn_ty.specs.path.Spelling.{IsPath}
 use Rattle.syn_ty.specs.ty.Parts.{Manner, is_clear, End, opened, Parts}
-use Rattle.syn_ty.specs.ty.Reading.{is_trait, names_trait}
+use Rattle.syn_ty.specs.ty.Reading.{is_trait}
 use Rattle.syn_ty.specs.ty.Spelling.{IsOptional}
 use Rattle.syn_ty.specs.ty.Trees.{BoundLifetimes, Path, TypeImplTrait, TypeParamBound, TypeTraitObject}
 use Rattle.syn_ty.specs.ty.Types.{impl_trait_with, trait_object_with}
@@ -30,9 +31,9 @@ use Rattle.token_core.specs.Tokens as token
 abbrev pub ends_lone : TypePlace → End
 ends_lone place = record { is_open = allows_plus place; in_plus = false }
 
--- a bound of a path in parentheses
+-- a bound of a path in parentheses, without modifiers
 abbrev pub in_parens : {A E : Type 0} → DelimSpan → Option (BoundLifetimes A E) → Option token.Question → Path A E → TypeParamBound A E
-in_parens s o q p = b.Trait (trait_bound_of (Some (groups.paren s)) o (record {}) q p)
+in_parens s o q p = b.Trait (trait_bound_of (Some (groups.paren s)) o no_modifiers q p)
 
 module _ {A E : Type 0} (part : Manner → Parts A E) (how : Manner) where
   -- ---- after `dyn` and `impl`
@@ -55,10 +56,10 @@ module _ {A E : Type 0} (part : Manner → Parts A E) (how : Manner) where
     pub data IsObject : TypeTraitObject A E → Toks → Toks → Type 0 where
       an_object : {e : End} {w : Option token.Dyn} {v : Many (TypeParamBound A E) token.Plus} {l m r : Toks} → IsOptional IsWord w l m → AreObjectBounds e v m r → IsObject (trait_object_with [] w v) l r
 
-    -- `impl` and bounds: one names a trait, or has a `const` form
+    -- `impl` and bounds: one names a trait
     pub data IsImpl : End → TypeImplTrait A E → Toks → Toks → Type 0 where
       an_impl : {e : End} {w : token.Impl} {v : Many (TypeParamBound A E) token.Plus} {l m r : Toks} →
-          IsWord w l m → IsBoundList Opaque e v m r → list_any names_trait v.0 ≡ true → IsImpl e (impl_trait_with [] w v) l r
+          IsWord w l m → IsBoundList Opaque e v m r → list_any is_trait v.0 ≡ true → IsImpl e (impl_trait_with [] w v) l r
 
   -- ---- without `dyn`, as a type
 

@@ -172,7 +172,7 @@ module _ {A E : Type 0} (attrs : Bool → List A → Toks → Toks → Type 0) (
   SpellsBound = SpellsEnding (λ part how. IsBound part how Opaque)
 
   abbrev pub SpellsTraitBound : Manner → TraitBound A E → Toks → Type 0
-  SpellsTraitBound = SpellsEnding IsTraitBound
+  SpellsTraitBound = SpellsEnding (λ part how. IsTraitBound part how false)
 
 -- ---- a lifetime parameter: within it stand its attributes alone
 

@@ -13,8 +13,9 @@ ghost use Rattle.syn_ty.specs.ty.Printing as types;
 ghost use Rattle.syn_ty.specs.generics.Views as views;
 
 use crate::generics::{
-    BoundLifetimesOf, CapturedParam, ConstParamOf, GenericParamOf, LifetimeParamOf, Member,
-    PreciseCapture, Style, Styled, TraitBoundOf, TypeParamBoundOf, TypeParamOf,
+    BoundConst, BoundLifetimesOf, CapturedParam, ConstParamOf, GenericParamOf, LifetimeParamOf,
+    Member, PreciseCapture, Style, Styled, TraitBoundModifiers, TraitBoundOf, TypeParamBoundOf,
+    TypeParamOf,
 };
 use crate::path::print::print_path;
 use crate::ty::TypeOf;
@@ -480,6 +481,36 @@ pub fn print_binder_end<G>(
     }
 }
 
+/// `const`, or `const` in brackets.
+impl ToTokens for BoundConst {
+    ghost print = { shapes.bound_const };
+
+    fn append_tokens(&self, alloc: Global, out: &mut TokenStream) -> Result<(), AllocError> {
+        match self {
+            BoundConst::Const(token) => token.append_tokens(alloc, out),
+            BoundConst::Conditional(bracket, token) => {
+                let mut content = TokenStream::new(alloc);
+                token.append_tokens(alloc, &mut content)?;
+                bracket.surround(content, out)
+            }
+        }
+    }
+}
+
+/// A `const` form and `async`, those that are there.
+#[tactic(auto, using(token_core::proofs::Puts::puts))]
+fn print_modifiers(
+    alloc: Global,
+    modifiers: &TraitBoundModifiers,
+    out: &mut TokenStream,
+) -> Result<(), AllocError>
+    ensures ok { OnOk result (trees out.new ≡ trees out.old ++ shapes.modifiers modifiers.now) }
+    ensures err { OnErr result (Extends (trees out.old) (trees out.new)) }
+{
+    modifiers.constness.append_tokens(alloc, out)?;
+    modifiers.asyncness.append_tokens(alloc, out)
+}
+
 /// A trait bound after its binder.
 #[cycle(print)]
 #[tactic(auto, using(token_core::proofs::Puts::puts))]
@@ -491,6 +522,7 @@ fn print_named_trait<A: Attributes, E: Value>(
     ensures ok { OnOk result (trees out.new ≡ trees out.old ++ types.named_trait A.shown E.values bound.now) }
     ensures err { OnErr result (Extends (trees out.old) (trees out.new)) }
 {
+    print_modifiers(alloc, &bound.modifiers, out)?;
     bound.maybe.append_tokens(alloc, out)?;
     print_path(alloc, &bound.path, PathStyle::AsWritten, out)
 }

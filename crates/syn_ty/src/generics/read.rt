@@ -13,21 +13,19 @@ ghost use Rattle.syn_forms.specs.groups.Reading as groups;
 ghost use Rattle.syn_forms.specs.lists.Reading.{list};
 ghost use Rattle.syn_forms.specs.nested.Below.{Nests, ahead};
 ghost use Rattle.syn_forms.specs.tokens.Choices.{none_of, a_comma, a_const, a_gt, a_lifetime, an_ident};
-ghost use Rattle.syn_forms.specs.verbatim.Reading.{position};
 ghost use Rattle.syn_ty.specs.generics.Params as parts;
 ghost use Rattle.syn_ty.specs.generics.Reading as reading;
 ghost use Rattle.syn_ty.specs.ty.Knot as knot;
 ghost use Rattle.token_core.specs.Headline.{Heads, Headline};
 ghost use Rattle.token_core.specs.Looks.{unmet};
-ghost use Rattle.token_core.specs.Positions.{IsReached};
 ghost use Rattle.token_core.specs.Reads.{Fails, Follows, Gives, Parses, Reads, forked};
 ghost use Rattle.token_core.specs.Refusal.{Made};
 ghost use Rattle.token_core.specs.Stream.{Stream};
 ghost use Rattle.token_core.specs.Tokens as token;
 
 use crate::generics::{
-    BoundLifetimesOf, CapturedParam, ConstParamOf, GenericParamOf, LifetimeParamOf, PreciseCapture,
-    TraitBoundModifiers, TraitBoundOf, TypeParamBoundOf, TypeParamOf,
+    BoundConst, BoundLifetimesOf, CapturedParam, ConstParamOf, GenericParamOf, LifetimeParamOf,
+    PreciseCapture, TraitBoundModifiers, TraitBoundOf, TypeParamBoundOf, TypeParamOf,
 };
 use crate::grammar::Grammar;
 use crate::path::PathArgumentsOf;
@@ -40,10 +38,10 @@ use syn_forms::nested::Held;
 use syn_forms::params::{const_parts, parse_lifetime_parts, type_parts};
 use syn_forms::places::{BoundPlace, ParamPlace, TypePlace};
 use syn_forms::tokens::{
-    open_brackets, open_parens, parse_any_ident, parse_any_lifetime, parse_comma, parse_const,
-    parse_gt, parse_lt, parse_question, parse_use,
+    open_brackets, open_parens, parse_any_ident, parse_any_lifetime, parse_asyncness, parse_comma,
+    parse_const, parse_gt, parse_lt, parse_question, parse_use,
 };
-use syn_forms::verbatim::{refuse_at, refuse_since, since};
+use syn_forms::verbatim::{refuse_at, refuse_since};
 use syn_path::path::{PathOf, PathStyle};
 use syn_path::supplied::{Attributes, Value};
 use token_core::token::{
@@ -173,7 +171,7 @@ fn parse_capture(alloc: Global, input: &mut ParseStream<'_>) -> Result<PreciseCa
     })
 }
 
-// ---- `const` and `[const]` before the path of a trait
+// ---- modifiers of a trait bound
 
 /// `const` in brackets.
 #[tactic(auto, using(token_core::proofs::Suffixes::follows))]
@@ -186,44 +184,79 @@ fn parse_conditional(alloc: Global, input: &mut ParseStream<'_>) -> Result<(Brac
     Ok((bracket_token, const_token))
 }
 
-/// `const` or `[const]` where one may stand: whether one does.
+/// `const` or `[const]` that may be there.
 #[tactic(auto, using(token_core::proofs::Suffixes::follows, syn_forms::proofs::nested_laws::Ahead::later), unfolding(crate::specs::generics::Reading::const_form))]
-fn const_form(alloc: Global, input: &mut ParseStream<'_>) -> Result<bool, Error>
+fn parse_const_form(alloc: Global, input: &mut ParseStream<'_>) -> Result<Option<BoundConst>, Error>
     ensures parses { Parses reading.const_form result input.old input.new }
     ensures fewer { ahead input.new ≤ ahead input.old }
 {
     if input.peek::<Bracket>() {
-        parse_conditional(alloc, input)?;
-        return Ok(true);
+        let (bracket_token, const_token) = parse_conditional(alloc, input)?;
+        return Ok(Some(BoundConst::Conditional(bracket_token, const_token)));
     }
     if input.peek::<Const>() {
-        parse_const(alloc, input)?;
-        return Ok(true);
+        return Ok(Some(BoundConst::Const(parse_const(alloc, input)?)));
     }
-    Ok(false)
+    Ok(None)
 }
 
-/// Refuses `const` and `[const]`, each once it is read, the second from bracket to bracket.
-#[tactic(auto, using(token_core::proofs::Suffixes::follows, syn_forms::proofs::nested_laws::Ahead::later), unfolding(crate::specs::generics::Reading::no_const_form))]
-fn no_const_form(alloc: Global, input: &mut ParseStream<'_>) -> Result<(), Error>
-    ensures parses { Parses reading.no_const_form result input.old input.new }
+/// The refusal of a `const` form, from its first to its last token.
+fn not_allowed(alloc: Global, constness: BoundConst) -> Error
+    ensures made { Made result (reading.not_allowed constness) }
+{
+    match constness {
+        BoundConst::Const(token) => { refuse_at(alloc, ErrorKind::ConstNotAllowed, token.span) }
+        BoundConst::Conditional(bracket, _) => {
+            refuse_at(
+                alloc,
+                ErrorKind::ConditionalConstNotAllowed,
+                bracket.span.join(),
+            )
+        }
+    }
+}
+
+/// A `const` form that may be there; where `consts` doesn't allow one it is refused once it is read.
+#[tactic(auto, using(token_core::proofs::Suffixes::follows, syn_forms::proofs::nested_laws::Ahead::later), unfolding(crate::specs::generics::Reading::constness))]
+fn parse_constness(
+    alloc: Global,
+    input: &mut ParseStream<'_>,
+    consts: bool,
+) -> Result<Option<BoundConst>, Error>
+    ensures parses { Parses (reading.constness consts) result input.old input.new }
     ensures fewer { ahead input.new ≤ ahead input.old }
 {
-    if input.peek::<Bracket>() {
-        let (bracket_token, const_token) = parse_conditional(alloc, input)?;
-        let at = bracket_token.span.join();
-        return Err(refuse_at(alloc, ErrorKind::ConditionalConstNotAllowed, at));
+    let constness = parse_const_form(alloc, input)?;
+    if consts {
+        return Ok(constness);
     }
-    if input.peek::<Const>() {
-        let const_token = parse_const(alloc, input)?;
-        return Err(refuse_at(alloc, ErrorKind::ConstNotAllowed, const_token.span));
+    match constness {
+        None => Ok(None),
+        Some(constness) => Err(not_allowed(alloc, constness)),
     }
-    Ok(())
+}
+
+/// The modifiers of a trait bound: a `const` form and `async`, each of which may be missing.
+#[tactic(auto, using(token_core::proofs::Suffixes::follows, syn_forms::proofs::nested_laws::Ahead::later), unfolding(crate::specs::generics::Reading::modifiers))]
+fn parse_modifiers(
+    alloc: Global,
+    input: &mut ParseStream<'_>,
+    consts: bool,
+) -> Result<TraitBoundModifiers, Error>
+    ensures parses { Parses (reading.modifiers consts) result input.old input.new }
+    ensures fewer { ahead input.new ≤ ahead input.old }
+{
+    let constness = parse_constness(alloc, input, consts)?;
+    let asyncness = parse_asyncness(alloc, input)?;
+    Ok(TraitBoundModifiers {
+        constness,
+        asyncness,
+    })
 }
 
 // ---- traits by their parts
 
-/// A trait by its path, without parentheses.
+/// A trait by its path, without parentheses and modifiers.
 pub(crate) fn named_bound<A, E>(
     lifetimes: Option<BoundLifetimesOf<GenericParamOf<A, E>>>,
     maybe: Option<Question>,
@@ -234,7 +267,7 @@ pub(crate) fn named_bound<A, E>(
     TraitBoundOf {
         paren_token: None,
         lifetimes,
-        modifiers: TraitBoundModifiers {},
+        modifiers: TraitBoundModifiers::default(),
         maybe,
         path,
     }
@@ -251,59 +284,27 @@ pub(crate) fn held_bound<A, E>(paren_token: Paren, bound: TraitBoundOf<A, E>) ->
 }
 
 /// A trait by what was read of it. A binder and a `?` refuse each other, at the `?`.
-#[tactic(auto, using(crate::proofs::generics_laws::Traits::traits))]
 fn trait_of<A: Attributes, E: Value>(
     alloc: Global,
     input: &ParseStream<'_>,
     lifetimes: Option<BoundLifetimesOf<GenericParamOf<A, E>>>,
+    modifiers: TraitBoundModifiers,
     maybe: Option<Question>,
     path: PathOf<PathArgumentsOf<A, E>>,
 ) -> Result<TraitBoundOf<A, E>, Error>
-    ensures reads { Reads (reading.trait_of lifetimes maybe path input.now) result input.now }
+    ensures reads { Reads (reading.trait_of modifiers lifetimes maybe path input.now) result input.now }
 {
-    match maybe {
-        None => Ok(named_bound(lifetimes, None, path)),
-        Some(question) => {
-            if lifetimes.is_some() {
-                let at = question.spans[0];
-                return Err(refuse_at(alloc, ErrorKind::BinderWithQuestion, at));
-            }
-            Ok(named_bound(None, Some(question), path))
-        }
+    if let (Some(_), Some(question)) = (&lifetimes, &maybe) {
+        let at = question.spans[0];
+        return Err(refuse_at(alloc, ErrorKind::BinderWithQuestion, at));
     }
-}
-
-/// A trait as a bound, or its tokens as they were written.
-fn kept<A: Attributes, E: Value>(
-    alloc: Global,
-    from: &Cursor<'_>,
-    input: &ParseStream<'_>,
-    bound: Option<TraitBoundOf<A, E>>,
-) -> Result<TypeParamBoundOf<A, E>, Error>
-    requires reached { IsReached (position input.now) from.now }
-    ensures reads { Reads (reading.kept from.now bound input.now) result input.now }
-{
-    match bound {
-        Some(bound) => Ok(TypeParamBoundOf::Trait(bound)),
-        None => Ok(TypeParamBoundOf::Verbatim(since(alloc, from, input)?)),
-    }
-}
-
-/// The same of what parentheses held.
-fn kept_in_parens<A: Attributes, E: Value>(
-    alloc: Global,
-    from: &Cursor<'_>,
-    input: &ParseStream<'_>,
-    paren_token: Paren,
-    bound: Option<TraitBoundOf<A, E>>,
-) -> Result<TypeParamBoundOf<A, E>, Error>
-    requires reached { IsReached (position input.now) from.now }
-    ensures reads { Reads (reading.kept_in_parens from.now (paren_token, bound) input.now) result input.now }
-{
-    match bound {
-        Some(bound) => Ok(TypeParamBoundOf::Trait(held_bound(paren_token, bound))),
-        None => Ok(TypeParamBoundOf::Verbatim(since(alloc, from, input)?)),
-    }
+    Ok(TraitBoundOf {
+        paren_token: None,
+        lifetimes,
+        modifiers,
+        maybe,
+        path,
+    })
 }
 
 // ---- lifetime parameters
@@ -506,79 +507,44 @@ impl<
     ) -> Result<PathArgumentsOf<A, E>, Error>
         + Copy,
 > Grammar<'a, A, E, F, G, H, I, J> {
-    /// A trait bound after its first binder and a `const` form: `?`, a binder behind it, a path in the style of types and its
+    /// A trait bound after its first binder and its modifiers: `?`, a binder behind it, a path in the style of types and its
     /// signature. A binder and a `?` refuse each other, at the `?`, once the path is read.
     #[tactic(auto, using(token_core::proofs::Suffixes::follows, syn_forms::proofs::nested_laws::Ahead::later), unfolding(crate::specs::generics::Reading::trait_after))]
     fn trait_after(
         &self,
         input: &mut ParseStream<'_>,
         lifetimes: Option<BoundLifetimesOf<GenericParamOf<A, E>>>,
+        modifiers: TraitBoundModifiers,
     ) -> Result<TraitBoundOf<A, E>, Error>
         requires types { Nests (knot.ty A.reads E.reads) (length self.now.begin) (F.pre self.now.types) (F.post self.now.types) }
         requires params { Nests (knot.param A.reads E.reads) (length self.now.begin) (H.pre self.now.params) (H.post self.now.params) }
         requires segments { Nests (knot.arguments_in A.reads E.reads) (length self.now.begin) (J.pre self.now.segments) (J.post self.now.segments) }
         requires few { ahead input.old ≤ length self.now.begin }
-        ensures parses { Parses (reading.trait_after (knot.reads_below A.reads E.reads (length self.now.begin)) lifetimes) result input.old input.new }
+        ensures parses { Parses (reading.trait_after (knot.reads_below A.reads E.reads (length self.now.begin)) lifetimes modifiers) result input.old input.new }
     {
         let maybe = parse_question(self.alloc, input)?;
         let lifetimes = self.binder_after(input, lifetimes, &maybe)?;
         let path = self.path(input, PathStyle::AsWritten)?;
         let path = self.signed(input, path)?;
-        trait_of(self.alloc, input, lifetimes, maybe, path)
+        trait_of(self.alloc, input, lifetimes, modifiers, maybe, path)
     }
 
-    /// A trait bound without parentheses: `for<'a> a::b<'a>`, `?a::b`. `const` and `[const]` are refused.
-    #[tactic(auto, using(token_core::proofs::Suffixes::follows, syn_forms::proofs::nested_laws::Ahead::later), unfolding(crate::specs::generics::Reading::trait_bound))]
-    pub fn trait_bound(&self, input: &mut ParseStream<'_>) -> Result<TraitBoundOf<A, E>, Error>
-        requires types { Nests (knot.ty A.reads E.reads) (length self.now.begin) (F.pre self.now.types) (F.post self.now.types) }
-        requires params { Nests (knot.param A.reads E.reads) (length self.now.begin) (H.pre self.now.params) (H.post self.now.params) }
-        requires segments { Nests (knot.arguments_in A.reads E.reads) (length self.now.begin) (J.pre self.now.segments) (J.post self.now.segments) }
-        requires few { ahead input.old ≤ length self.now.begin }
-        ensures parses { Parses (reading.trait_bound (knot.reads_below A.reads E.reads (length self.now.begin))) result input.old input.new }
-    {
-        let lifetimes = self.optional_binder(input)?;
-        no_const_form(self.alloc, input)?;
-        self.trait_after(input, lifetimes)
-    }
-
-    /// A trait bound where `const` and `[const]` may stand. With one there is no tree for it.
-    #[tactic(auto, using(token_core::proofs::Suffixes::follows, syn_forms::proofs::nested_laws::Ahead::later), unfolding(crate::specs::generics::Reading::trait_or_const))]
-    fn trait_or_const(
-        &self,
-        input: &mut ParseStream<'_>,
-    ) -> Result<Option<TraitBoundOf<A, E>>, Error>
-        requires types { Nests (knot.ty A.reads E.reads) (length self.now.begin) (F.pre self.now.types) (F.post self.now.types) }
-        requires params { Nests (knot.param A.reads E.reads) (length self.now.begin) (H.pre self.now.params) (H.post self.now.params) }
-        requires segments { Nests (knot.arguments_in A.reads E.reads) (length self.now.begin) (J.pre self.now.segments) (J.post self.now.segments) }
-        requires few { ahead input.old ≤ length self.now.begin }
-        ensures parses { Parses (reading.trait_or_const (knot.reads_below A.reads E.reads (length self.now.begin))) result input.old input.new }
-    {
-        let lifetimes = self.optional_binder(input)?;
-        let is_const = const_form(self.alloc, input)?;
-        let bound = self.trait_after(input, lifetimes)?;
-        if is_const {
-            return Ok(None);
-        }
-        Ok(Some(bound))
-    }
-
-    /// A trait bound without parentheses, where `const` forms may stand or not.
-    #[tactic(auto, using(token_core::proofs::Suffixes::follows))]
-    fn trait_in(
+    /// A trait bound without parentheses, where `const` forms may stand or not: `for<'a> a::b<'a>`, `const ?a::b`.
+    #[tactic(auto, using(token_core::proofs::Suffixes::follows, syn_forms::proofs::nested_laws::Ahead::later), unfolding(crate::specs::generics::Reading::trait_in))]
+    pub fn trait_in(
         &self,
         input: &mut ParseStream<'_>,
         consts: bool,
-    ) -> Result<Option<TraitBoundOf<A, E>>, Error>
+    ) -> Result<TraitBoundOf<A, E>, Error>
         requires types { Nests (knot.ty A.reads E.reads) (length self.now.begin) (F.pre self.now.types) (F.post self.now.types) }
         requires params { Nests (knot.param A.reads E.reads) (length self.now.begin) (H.pre self.now.params) (H.post self.now.params) }
         requires segments { Nests (knot.arguments_in A.reads E.reads) (length self.now.begin) (J.pre self.now.segments) (J.post self.now.segments) }
         requires few { ahead input.old ≤ length self.now.begin }
         ensures parses { Parses (reading.trait_in (knot.reads_below A.reads E.reads (length self.now.begin)) consts) result input.old input.new }
     {
-        if consts {
-            return self.trait_or_const(input);
-        }
-        Ok(Some(self.trait_bound(input)?))
+        let lifetimes = self.optional_binder(input)?;
+        let modifiers = parse_modifiers(self.alloc, input, consts)?;
+        self.trait_after(input, lifetimes, modifiers)
     }
 
     /// The same in parentheses.
@@ -587,7 +553,7 @@ impl<
         &self,
         input: &mut ParseStream<'_>,
         consts: bool,
-    ) -> Result<(Paren, Option<TraitBoundOf<A, E>>), Error>
+    ) -> Result<(Paren, TraitBoundOf<A, E>), Error>
         requires types { Nests (knot.ty A.reads E.reads) (length self.now.begin) (F.pre self.now.types) (F.post self.now.types) }
         requires params { Nests (knot.param A.reads E.reads) (length self.now.begin) (H.pre self.now.params) (H.post self.now.params) }
         requires segments { Nests (knot.arguments_in A.reads E.reads) (length self.now.begin) (J.pre self.now.segments) (J.post self.now.segments) }
@@ -600,9 +566,8 @@ impl<
         Ok((paren_token, bound))
     }
 
-    /// A bound that is neither a lifetime nor a capture: a trait, which may stand in parentheses, or its tokens where a `const`
-    /// form stands before it.
-    #[tactic(auto, using(token_core::proofs::Suffixes::follows, token_core::proofs::Places::positions, crate::proofs::generics_laws::Traits::traits), unfolding(crate::specs::generics::Reading::trait_in_place))]
+    /// A bound that is neither a lifetime nor a capture: a trait, which may stand in parentheses.
+    #[tactic(auto, using(token_core::proofs::Suffixes::follows), unfolding(crate::specs::generics::Reading::trait_in_place))]
     fn trait_in_place(
         &self,
         input: &mut ParseStream<'_>,
@@ -614,14 +579,12 @@ impl<
         requires few { ahead input.old ≤ length self.now.begin }
         ensures parses { Parses (reading.trait_in_place (knot.reads_below A.reads E.reads (length self.now.begin)) place) result input.old input.new }
     {
-        let from = input.cursor();
         let consts = place.allows_const();
         if input.peek::<Paren>() {
             let (paren_token, bound) = self.trait_in_parens(input, consts)?;
-            return kept_in_parens(self.alloc, &from, input, paren_token, bound);
+            return Ok(TypeParamBoundOf::Trait(held_bound(paren_token, bound)));
         }
-        let bound = self.trait_in(input, consts)?;
-        kept(self.alloc, &from, input, bound)
+        Ok(TypeParamBoundOf::Trait(self.trait_in(input, consts)?))
     }
 
     /// One turn: a bound in its place. A lifetime, `use<..>`, or a trait by its path.
@@ -876,26 +839,27 @@ fn binder_after_from<A: Attributes, E: Value>(
     }
 }
 
-/// What follows the first binder of a trait bound and a `const` form.
+/// What follows the first binder of a trait bound and its modifiers.
 #[tactic(auto, using(token_core::proofs::Suffixes::follows, syn_forms::proofs::nested_laws::Ahead::later), unfolding(crate::specs::generics::Reading::trait_after))]
 fn trait_after_from<A: Attributes, E: Value>(
     alloc: Global,
     begin: &Cursor<'_>,
     input: &mut ParseStream<'_>,
     lifetimes: Option<BoundLifetimesOf<GenericParamOf<A, E>>>,
+    modifiers: TraitBoundModifiers,
 ) -> Result<TraitBoundOf<A, E>, Error>
     requires few { ahead input.old ≤ length begin.now }
-    ensures parses { Parses (reading.trait_after (knot.reads_below A.reads E.reads (length begin.now)) lifetimes) result input.old input.new }
+    ensures parses { Parses (reading.trait_after (knot.reads_below A.reads E.reads (length begin.now)) lifetimes modifiers) result input.old input.new }
 {
     let maybe = parse_question(alloc, input)?;
     let lifetimes = binder_after_from::<A, E>(alloc, begin, input, lifetimes, &maybe)?;
     let path = path_from::<A, E>(alloc, begin, input, PathStyle::AsWritten)?;
     let path = signed_from::<A, E>(alloc, begin, input, path)?;
-    trait_of(alloc, input, lifetimes, maybe, path)
+    trait_of(alloc, input, lifetimes, modifiers, maybe, path)
 }
 
-/// A trait bound.
-#[tactic(auto, using(token_core::proofs::Suffixes::follows, syn_forms::proofs::nested_laws::Ahead::later), unfolding(crate::specs::generics::Reading::trait_bound))]
+/// A trait bound by itself: no `const` form may stand in it.
+#[tactic(auto, using(token_core::proofs::Suffixes::follows, syn_forms::proofs::nested_laws::Ahead::later), unfolding(crate::specs::generics::Reading::trait_in))]
 fn trait_bound_from<A: Attributes, E: Value>(
     alloc: Global,
     begin: &Cursor<'_>,
@@ -905,8 +869,8 @@ fn trait_bound_from<A: Attributes, E: Value>(
     ensures parses { Parses (reading.trait_bound (knot.reads_below A.reads E.reads (length begin.now))) result input.old input.new }
 {
     let lifetimes = optional_binder_from::<A, E>(alloc, begin, input)?;
-    no_const_form(alloc, input)?;
-    trait_after_from(alloc, begin, input, lifetimes)
+    let modifiers = parse_modifiers(alloc, input, false)?;
+    trait_after_from(alloc, begin, input, lifetimes, modifiers)
 }
 
 /// A type parameter after its attributes.
@@ -1107,11 +1071,11 @@ impl<A: Attributes, E: Value> BoundLifetimesOf<GenericParamOf<A, E>> {
 ///
 /// ```text
 /// bound = lifetime | capture | '(' trait ')' | trait
-/// trait = [binder] ['const' | '[' 'const' ']'] ['?' [binder]] path [signature]
+/// trait = [binder] ['const' | '[' 'const' ']'] ['async'] ['?' [binder]] path [signature]
 /// ```
 ///
-/// With a `const` form the bound is held as it was written (`TypeParamBound::Verbatim`). It is refused where one of its parts
-/// is, and where a binder stands beside a `?` (`BinderWithQuestion`, at the `?`). As `syn::TypeParamBound`.
+/// It is refused where one of its parts is, and where a binder stands beside a `?` (`BinderWithQuestion`, at the `?`). As
+/// `syn::TypeParamBound`, which holds a bound with a `const` form as it was written and reads no `async`.
 impl<A: Attributes, E: Value> Parse for TypeParamBoundOf<A, E> {
     ghost reads = { Gives (knot.bound A.reads E.reads bound_places.Opaque) };
 
@@ -1132,7 +1096,7 @@ impl<A: Attributes, E: Value> Parse for TypeParamBoundOf<A, E> {
 /// Reads a trait bound without parentheses.
 ///
 /// ```text
-/// trait = [binder] ['?' [binder]] path [signature]
+/// trait = [binder] ['async'] ['?' [binder]] path [signature]
 /// ```
 ///
 /// It is refused where `const` (`ConstNotAllowed`) or `[const]` (`ConditionalConstNotAllowed`) stands before the path, where

@@ -17,7 +17,8 @@ ghost use Rattle.std.specs.Prelude.{◌≡◌, false, true, IfOk};
 ghost use Rattle.syn_forms.specs.declared.places.TypePlace.TheVariants.{NoPlus, Plus};
 ghost use Rattle.syn_forms.specs.nested.Below.{ahead};
 ghost use Rattle.syn_ty.specs.ty.Grammars as grammars;
-ghost use Rattle.syn_ty.specs.ty.Groups.{IsGrouped};
+ghost use Rattle.syn_ty.specs.ty.GroupCases.{IsReadGrouped};
+ghost use Rattle.syn_ty.specs.ty.Groups.{TakesGroup};
 ghost use Rattle.syn_ty.specs.ty.Knot as knot;
 ghost use Rattle.syn_ty.specs.ty.Reading as reading;
 ghost use Rattle.syn_ty.specs.ty.Spelling.{IsInfer, IsMacroType, IsNever, IsOptional};
@@ -55,7 +56,8 @@ impl<A: Attributes, E: Value> TypeOf<A, E> {
         ensures parses { Parses (knot.ty A.reads E.reads NoPlus) result input.old input.new }
         ensures promise { Heads (promises.ty A.reads E.reads A.spells E.spells A.normal E.normal A.shown E.values NoPlus) input.old result input.new }
         ensures front { Takes (fronts.ty A.spells E.spells NoPlus) input.old result input.new }
-        ensures group { sees_invisible input.old.rest ≡ true → IfOk result (λ x. IsGrouped (knot.reads_below A.reads E.reads (ahead input.old)) input.old x input.new) }
+        ensures group { TakesGroup (fronts.grouped A.spells E.spells) input.old result input.new }
+        ensures cases { sees_invisible input.old.rest ≡ true → IfOk result (λ x. IsReadGrouped (knot.reads_below A.reads E.reads (ahead input.old)) input.old x input.new) }
     {
         <TypeOf<A, E> as Held<TypePlace>>::parse_held(alloc, PhantomData, input, TypePlace::NoPlus)
     }
@@ -81,7 +83,8 @@ impl<A: Attributes, E: Value> Parse for TypeOf<A, E> {
         ensures promise { Heads (promises.ty A.reads E.reads A.spells E.spells A.normal E.normal A.shown E.values Plus) input.old result input.new }
         ensures front { Takes (fronts.ty A.spells E.spells Plus) input.old result input.new }
         ensures fronts { Fronted (promises.ty_front A.reads E.reads A.spells E.spells A.normal E.normal A.shown E.values) input.old result input.new }
-        ensures group { sees_invisible input.old.rest ≡ true → IfOk result (λ x. IsGrouped (knot.reads_below A.reads E.reads (ahead input.old)) input.old x input.new) }
+        ensures group { TakesGroup (fronts.grouped A.spells E.spells) input.old result input.new }
+        ensures cases { sees_invisible input.old.rest ≡ true → IfOk result (λ x. IsReadGrouped (knot.reads_below A.reads E.reads (ahead input.old)) input.old x input.new) }
     {
         <TypeOf<A, E> as Held<TypePlace>>::parse_held(alloc, PhantomData, input, TypePlace::Plus)
     }

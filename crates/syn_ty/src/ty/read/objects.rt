@@ -34,20 +34,18 @@ use token_core::{Boxed, Cursor, Error, ErrorKind, Lifetime, ParseStream, Punctua
 
 // ---- bounds that were read
 
-/// Bounds of which one names a trait: else they are refused, from a token on up to where the stream stands. Tokens that are held
-/// as they were written name one where `consts` says so.
+/// Bounds of which one names a trait: else they are refused, from a token on up to where the stream stands.
 #[tactic(auto, unfolding(crate::specs::ty::Reading::needs))]
 fn needs_trait<A: Attributes, E: Value>(
     alloc: Global,
     input: &ParseStream<'_>,
     bounds: Punctuated<TypeParamBoundOf<A, E>, Plus>,
-    consts: bool,
     kind: ErrorKind,
     from: Span,
 ) -> Result<Punctuated<TypeParamBoundOf<A, E>, Plus>, Error>
-    ensures reads { Reads (reading.needs (λ x. reading.trait_layer consts (out-TypeParamBoundOf A E x)) kind from bounds input.now) result input.now }
+    ensures reads { Reads (reading.needs (λ x. reading.trait_layer (out-TypeParamBoundOf A E x)) kind from bounds input.now) result input.now }
 {
-    if !any_trait(&bounds, consts) {
+    if !any_trait(&bounds) {
         return Err(refuse_since(alloc, kind, from, input));
     }
     Ok(bounds)
@@ -138,14 +136,7 @@ impl<
         ensures fewer { ahead input.new ≤ ahead input.old }
     {
         let bounds = self.more_bounds(input, plus, first)?;
-        needs_trait(
-            self.alloc,
-            input,
-            bounds,
-            false,
-            ErrorKind::NoTraitInObject,
-            from,
-        )
+        needs_trait(self.alloc, input, bounds, ErrorKind::NoTraitInObject, from)
     }
 
     /// The bounds of a trait object that begins with a lifetime: several in every place.
@@ -215,14 +206,7 @@ impl<
         ensures fewer { ahead input.new ≤ ahead input.old }
     {
         let bounds = self.opaque_bounds(input, plus)?;
-        needs_trait(
-            self.alloc,
-            input,
-            bounds,
-            true,
-            ErrorKind::NoTraitInImpl,
-            from,
-        )
+        needs_trait(self.alloc, input, bounds, ErrorKind::NoTraitInImpl, from)
     }
 
     /// `impl A + 'a`: bounds, of which one has to name a trait.
@@ -381,7 +365,7 @@ impl<
             return Ok(ParenContent::Object(self.lifetime_object(input)?));
         }
         if input.peek::<Question>() {
-            return Ok(ParenContent::Asked(self.trait_bound(input)?));
+            return Ok(ParenContent::Asked(self.trait_in(input, false)?));
         }
         self.type_or_elements(input)
     }

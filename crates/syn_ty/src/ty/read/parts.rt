@@ -262,28 +262,25 @@ impl<A, E> Verbatim<TypeOf<A, E>> for TypeTokens {
 
 // ---- bounds
 
-/// Whether a bound names a trait; tokens that are held as they were written do where `consts` says so.
+/// Whether a bound names a trait.
 #[tactic(auto, using(crate::proofs::ty_laws::Kinds::bound_kinds))]
-fn names_trait<A, E>(bound: &TypeParamBoundOf<A, E>, consts: bool) -> bool
-    ensures { result ≡ reading.trait_layer consts (out-TypeParamBoundOf A E bound.now) }
+fn is_trait<A, E>(bound: &TypeParamBoundOf<A, E>) -> bool
+    ensures { result ≡ reading.trait_layer (out-TypeParamBoundOf A E bound.now) }
 {
     match bound {
         TypeParamBoundOf::Trait(_) => true,
         TypeParamBoundOf::Lifetime(_) => false,
         TypeParamBoundOf::PreciseCapture(_) => false,
-        TypeParamBoundOf::Verbatim(_) => consts,
+        TypeParamBoundOf::Verbatim(_) => false,
     }
 }
 
 /// Whether one of the bounds names a trait.
-pub(crate) fn any_trait<A, E>(
-    bounds: &Punctuated<TypeParamBoundOf<A, E>, Plus>,
-    consts: bool,
-) -> bool
-    ensures { result ≡ list_any (λ x. reading.trait_layer consts (out-TypeParamBoundOf A E x)) bounds.now.0 }
+pub(crate) fn any_trait<A, E>(bounds: &Punctuated<TypeParamBoundOf<A, E>, Plus>) -> bool
+    ensures { result ≡ list_any (λ x. reading.trait_layer (out-TypeParamBoundOf A E x)) bounds.now.0 }
 {
     for bound in bounds.iter() {
-        if names_trait(bound, consts) {
+        if is_trait(bound) {
             return true;
         }
     }

@@ -10,12 +10,12 @@ use Rattle.token_core.proofs.buffer.invisible_group.Goals as goal
 pub invariant_of-result : goal.invariant_of-result
 invariant_of-result c =
     let g = c.args.group.now in
-    (invisible_nested (span_of g) (content_of g) c.args.n (delimiter_of g) c.args.more.now c.around.result.0.now c.around.result.1.now c.in-None.is c.around.ensures.inside c.around.ensures.after c.requires).0
+    (invisible_nested (span_of g) (content_of g) c.args.n (delimiter_of g) c.args.more.now c.around.result.0.now c.around.result.1.now (sym c.delimiter.ensures ∙ c.in-None.is) c.around.ensures.inside c.around.ensures.after c.requires).0
 
 pub invariant_of-result-in-None : goal.invariant_of-result-in-None
 invariant_of-result-in-None c =
     let g = c.args.group.now in
-    (invisible_nested (span_of g) (content_of g) c.args.n (delimiter_of g) c.args.more.now c.around.result.0.now c.around.result.1.now c.in-None.is c.around.ensures.inside c.around.ensures.after c.requires).1
+    (invisible_nested (span_of g) (content_of g) c.args.n (delimiter_of g) c.args.more.now c.around.result.0.now c.around.result.1.now (sym c.delimiter.ensures ∙ c.in-None.is) c.around.ensures.inside c.around.ensures.after c.requires).1
 
 pub returns-in-None : goal.returns-in-None
 returns-in-None c =
@@ -24,11 +24,11 @@ returns-in-None c =
     let i : entries_view c.around.result.0.now ≡ view (take c.args.n (map saw l)) = ap entries_view c.around.ensures.inside ∙ ap view (sym (take-map saw c.args.n l)) in
     let r : entries_view c.around.result.1.now ≡ view (drop (c.args.n + 1) (map saw l)) = ap entries_view c.around.ensures.after ∙ ap view (sym (drop-map saw (c.args.n + 1) l)) in
     record {
-      shown = invisible_shown (span_of g) (content_of g) c.args.n (delimiter_of g) l c.around.result.0.now c.around.result.1.now c.in-None.is c.around.ensures.inside c.around.ensures.after c.requires;
-      held = holds_invisible (span_of g) (content_of g) c.args.n (delimiter_of g) (map saw l) _ _ c.in-None.is i r c.requires;
+      shown = invisible_shown (span_of g) (content_of g) c.args.n (delimiter_of g) l c.around.result.0.now c.around.result.1.now (sym c.delimiter.ensures ∙ c.in-None.is) c.around.ensures.inside c.around.ensures.after c.requires;
+      held = holds_invisible (span_of g) (content_of g) c.args.n (delimiter_of g) (map saw l) _ _ (sym c.delimiter.ensures ∙ c.in-None.is) i r c.requires;
     }
 
 pub returns-in_default : goal.returns-in_default
 returns-in_default c =
     let g = c.args.group.now in
-    record { shown = invisible_hidden (span_of g) (content_of g) c.args.n (delimiter_of g) _ c.in_default.not-None; held = tt }
+    record { shown = invisible_hidden (span_of g) (content_of g) c.args.n (delimiter_of g) _ (λ e. c.in_default.not-None (c.delimiter.ensures ∙ e)); held = tt }

@@ -15,7 +15,7 @@ returns-in_err-path-2 g c =
     record {
       parses = (
         refused_by _ _ _ _ _ _ e was back c.signed_from.ensures.parses.0
-            (λ h. signature_refused r c.args.lifetimes _ _ _ _ _ _ _ e c.in_ok-maybe.ensures.parses.0 c.in_ok-lifetimes.ensures.parses.0 c.in_ok-path.ensures.parses.0 h),
+            (λ h. signature_refused r c.args.lifetimes c.args.modifiers _ _ _ _ _ _ _ e c.in_ok-maybe.ensures.parses.0 c.in_ok-lifetimes.ensures.parses.0 c.in_ok-path.ensures.parses.0 h),
         grind (arith, follows),
       );
     }

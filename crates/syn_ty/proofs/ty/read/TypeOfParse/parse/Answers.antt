@@ -7,6 +7,7 @@ use Rattle.syn_ty.proofs.ty_laws.WholeTold.{takes}
 use Rattle.syn_ty.proofs.ty_laws.GivenWhole.{given_again, given_meets}
 use Rattle.syn_ty.proofs.ty_laws.Given.{given}
 use Rattle.syn_ty.proofs.ty_laws.AloneTold.{ty_took}
+use Rattle.syn_ty.proofs.ty_laws.GroupedTold.{takes_group}
 use Rattle.syn_forms.specs.declared.places.TypePlace.TheVariants.{Plus}
 use Rattle.syn_ty.proofs.ty.read.TypeOfParse.parse.Goals as goal
 
@@ -18,3 +19,6 @@ returns-clause-front g c = takes (ty_took (given g.met.A.Attributes.told g.met.E
 
 pub returns-clause-fronts : goal.returns-clause-fronts
 returns-clause-fronts g c = fronted (promises.ty_front g.A.Attributes.reads g.E.Value.reads g.A.Attributes.spells g.E.Value.spells g.A.Attributes.normal g.E.Value.normal g.A.Attributes.shown g.E.Value.values) (ty_fronts (given g.met.A.Attributes.told g.met.E.Value.consts g.met.E.Value.lengths) (given_meets g.met.A.Attributes.met g.met.E.Value.met g.met.E.Value.lengths) (given_again g.met.A.Attributes.met g.met.E.Value.met g.met.E.Value.lengths g.met.A.Attributes.bare)) _ _ _ c.parse_held.ensures.reads
+
+pub returns-clause-group : goal.returns-clause-group
+returns-clause-group g c = takes_group (given g.met.A.Attributes.told g.met.E.Value.consts g.met.E.Value.lengths) Plus _ _ _ c.parse_held.ensures.reads

@@ -1,0 +1,17 @@
+use Rattle.syn_ty.proofs.ty_laws.Given.{given}
+use Rattle.syn_ty.proofs.ty_laws.GivenWhole.{given_again, given_meets}
+use Rattle.syn_laws.proofs.normal_laws.Admitted.{generics_admitted}
+use Rattle.syn_laws.proofs.generics_laws.Normal.{generics_stay}
+use Rattle.syn_laws.proofs.generics_laws.SamePrint.{generics_same}
+use Rattle.syn_laws.proofs.generics.Goals as goal
+
+pub returns-clause-admitted : goal.returns-clause-admitted
+returns-clause-admitted g c =
+    generics_admitted (given g.met.A.Attributes.told g.met.E.Value.consts g.met.E.Value.lengths) (given_meets g.met.A.Attributes.met g.met.E.Value.met g.met.E.Value.lengths)
+    (given_again g.met.A.Attributes.met g.met.E.Value.met g.met.E.Value.lengths g.met.A.Attributes.bare) c.args.tree.now
+
+pub returns-clause-stays : goal.returns-clause-stays
+returns-clause-stays g c = λ attrs values. generics_stay g.A.Attributes.normal g.E.Value.normal attrs values c.args.tree.now
+
+pub returns-clause-same : goal.returns-clause-same
+returns-clause-same g c = λ attrs values. generics_same g.A.Attributes.normal g.E.Value.normal g.A.Attributes.shown g.E.Value.values attrs values c.args.tree.now

@@ -1,0 +1,38 @@
+-- What a whole read promises of lists and trees that are the same aside from spans.
+use Rattle.std.specs.Prelude.{◌≡◌, true, Option, Some, None}
+use Rattle.token_core.specs.Headline.{Grammar, Headline}
+use Rattle.token_core.specs.Rebuilt.{Visible}
+use Rattle.token_core.specs.Spans.{none, delim_span}
+use Rattle.token_core.specs.Toks.{Toks, done, word, mark, lit, group, enter, leave}
+use Rattle.token_core.specs.Trees.{ident, punct, literal}
+use Rattle.syn_path.specs.declared.supplied.Place.{Place}
+
+-- the tokens without their spans
+abbrev pub bare : Toks → Toks
+bare done = done
+bare (word i k) = word (ident i.text none) (bare k)
+bare (mark p k) = mark (punct p.ch p.spacing none) (bare k)
+bare (lit l k) = lit (literal l.kind l.text none) (bare k)
+bare (group d s c k) = group d (delim_span none none) (bare c) (bare k)
+bare (enter s k) = enter (delim_span none none) (bare k)
+bare (leave k) = leave (bare k)
+
+abbrev pub AreSame : Toks → Toks → Type 0
+AreSame l m = bare l ≡ bare m
+
+-- A tree without its spans is given by the function. Whatever tree clearly spells a list that is the same as this one, it is the same as the answer; where there is no answer, there is no such tree.
+abbrev pub Aside : {A : Type 0} → Grammar A → (A → A) → Toks → Option A → Type 0
+Aside G free l (Some a) = Visible l → (m : Toks) → AreSame m l → (b : _) → G.spells true b m → free b ≡ free a
+Aside G free l None = Visible l → (m : Toks) → AreSame m l → (b : _) → G.spells true b m → ⊥
+
+-- what a whole read promises, it promises aside from spans
+abbrev pub Asides : {A : Type 0} → Grammar A → (A → A) → Type 0
+Asides G free = (l : Toks) (o : Option _) → Headline G l o → Aside G free l o
+
+-- the law of a grammar from which it follows: what a tree clearly spells, a tree that is the same spells with other spans
+abbrev pub Moves : {A : Type 0} → Grammar A → (A → A) → Type 0
+Moves G free = (b : _) (m l : Toks) → Visible l → G.spells true b m → AreSame m l → (a : _) × G.spells true a l × (free a ≡ free b)
+
+-- the law of a supplied subtree: what a tree spells in a place, a tree that is the same spells there with other spans
+abbrev pub MovesSubtree : {X : Type 0} → (Place → X → Toks → Type 0) → (X → X) → Type 0
+MovesSubtree spells free = (w : Place) (x : _) (m l : Toks) → Visible m → Visible l → spells w x m → AreSame m l → (y : _) × spells w y l × (free y ≡ free x)
