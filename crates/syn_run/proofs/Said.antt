@@ -12,7 +12,7 @@ use Rattle.token_core.proofs.Rebuilds.{stream-trees}
 use Rattle.token_text.specs.Spelling.{Spells, Refused}
 use Rattle.token_text.specs.Printing.{text_of}
 use Rattle.syn_readers.specs.Readers.{Category, Reprints}
-use Rattle.syn_run.specs.Run.{Answer, shown, no_memory, not_text, line, IsTextOf, Refuses, not_utf8, no_list, no_tree, memory, RefusedFor, in_text, in_list, by_memory, Justified, JustifiedBy, AnswersBy, Accepts, AnswersTo, Replies, text_of_print, Ends}
+use Rattle.syn_run.specs.Run.{Answer, Shows, shown, no_memory, not_text, line, IsTextOf, Refuses, not_utf8, no_list, no_tree, memory, RefusedFor, in_text, in_list, by_memory, Justified, JustifiedBy, AnswersBy, Accepts, AnswersTo, Replies, text_of_print, Ends}
 use Rattle.syn_run.specs.declared.fault.Fault.{Fault}
 use Rattle.syn_run.specs.declared.fault.Fault.TheVariants as f
 use Rattle.syn_run.specs.Faults.{text, of_fault, of_kind, of_refusal, faulty, answer}
@@ -69,6 +69,13 @@ module _ {A S : Type 0} (C : Category A) (scope : Span) (input : Bytes) (bytes :
           accepts = λ l a t v s. e ∙ ap (text_of_print C) (sym (C.unique (row (trees c) done) a q.0 q.2 (visible l t.spells v) (clear l a t.spells s)));
         }
 
+  -- as bytes
+  pub reply-text : (s : S) (t : Bytes) → t ≡ bytes s → Replies C scope input bytes (Ok s) → Replies C scope input (λ (x : Bytes). x) (Ok t)
+  reply-text s t e h = record { justified = let P : Bytes → Type 0 = λ x. Shows C scope input x in subst P (sym e) h.justified; accepts = λ l a i v k. e ∙ h.accepts l a i v k }
+
+  pub reply-refusal : (e : Refusal) → Replies C scope input bytes (Err e) → Replies C scope input (λ (x : Bytes). x) (Err e)
+  reply-refusal e h = record { justified = h.justified; accepts = h.accepts }
+
 -- ---- what a run says of it
 
 module _ {A : Type 0} (C : Category A) (scope : Span) (input : Bytes) where
@@ -78,9 +85,9 @@ module _ {A : Type 0} (C : Category A) (scope : Span) (input : Bytes) where
   said _ e h = h (λ q. cc)
 
   refused-said : (e : Refusal) → IsUtf8 input → RefusedFor C scope input e → Justified C scope input (of_fault (of_refusal e))
-  refused-said e utf8 (in_text e h) = said e.kind e (λ k. no_list e utf8 h)
-  refused-said e utf8 (in_list l e t w p) = said e.kind e (λ k. no_tree l e t w p)
-  refused-said e utf8 (by_memory e q) = let P : ErrorKind → Type 0 = λ k. Justified C scope input (of_fault (of_kind k e)) in subst P (sym q) memory
+  refused-said _ utf8 (in_text e h) = said e.kind e (λ k. no_list e utf8 h)
+  refused-said _ utf8 (in_list l e t w p) = said e.kind e (λ k. no_tree l e t w p)
+  refused-said _ utf8 (by_memory e q) = let P : ErrorKind → Type 0 = λ k. Justified C scope input (of_fault (of_kind k e)) in subst P (sym q) memory
 
   pub of_bytes : ¬ IsUtf8 input → AnswersTo C scope input not_text
   of_bytes h = record { justified = not_utf8 h; accepts = λ l a t v s. absurd (h t.utf8) }

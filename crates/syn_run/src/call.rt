@@ -1,6 +1,6 @@
 //! Calls that are made from C: a text is read, or a note made, into room that the caller gives.
 
-ghost use Rattle.std.specs.Prelude.{◌≡◌};
+ghost use Rattle.std.specs.Prelude.{◌≡◌, ◌<◌};
 ghost use Rattle.syn_run.specs.Calls as spec;
 ghost use Rattle.syn_run.specs.Readers.{category, named};
 ghost use Rattle.syn_run.specs.declared.call.Call.{Call};
@@ -67,7 +67,8 @@ fn read_by<X: Subtree>(alloc: Global, reader: Reader, text: &str, out: &mut [u8]
 /// The number of a kind.
 #[tactic(auto, unfolding(crate::specs::Calls::number))]
 fn number(kind: ErrorKind) -> u32
-    ensures { result ≡ spec.number kind }
+    ensures value { result ≡ spec.number kind }
+    ensures few { result < 64 }
 {
     kind as u32
 }
