@@ -174,3 +174,28 @@ fn told(call: Call<'_>, room: usize) -> (u32, String, Report) {
     let text = String::from_utf8(out).expect("prints, notes and refusals are UTF-8");
     (status, text, report)
 }
+
+#[cfg(test)]
+mod tests {
+    use super::{told, Report};
+
+    /// A call with this text, as the library answers it.
+    fn call(text: &str, out: &mut [u8], report: &mut Report) -> u32 {
+        report.bytes = text.len();
+        match out.get_mut(..text.len()) {
+            Some(front) => {
+                front.copy_from_slice(text.as_bytes());
+                super::SHOWN
+            }
+            None => super::ROOM_IS_SHORT,
+        }
+    }
+
+    #[test]
+    fn room_that_is_wanted_is_given() {
+        for room in [0, 1, 5, 6] {
+            let (status, text, _) = told(&|out, report| call("a :: b", out, report), room);
+            assert_eq!((status, text.as_str()), (super::SHOWN, "a :: b"));
+        }
+    }
+}
