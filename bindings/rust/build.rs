@@ -21,7 +21,10 @@ fn main() {
     }
     println!("cargo:rustc-link-search=native={}", folder.display());
     println!("cargo:rustc-link-lib=static=kulojenta_c");
-    if C_PART.iter().all(|it| folder.join(format!("lib{it}.a")).is_file()) {
+    if C_PART
+        .iter()
+        .all(|it| folder.join(format!("lib{it}.a")).is_file())
+    {
         link_c_part();
     } else if let Some(kit) = kit() {
         println!("cargo:rustc-link-search=native={}", kit.display());

@@ -17,8 +17,16 @@ fn texts_are_read() {
         ("Type", "[u8; 2 * N]", "[u8 ; 2 * N]"),
         ("Macro", "a::b!{x y}", "a :: b ! { x y }"),
         ("Attribute::parse_outer", "", ""),
-        ("Attribute::parse_outer", "#[doc = concat!(\"a\", \"é\")]", "# [doc = concat ! (\"a\" , \"é\")]"),
-        ("Generics", "<T: 'a + Copy, const N: usize = 3>", "< T : 'a + Copy , const N : usize = 3 >"),
+        (
+            "Attribute::parse_outer",
+            "#[doc = concat!(\"a\", \"é\")]",
+            "# [doc = concat ! (\"a\" , \"é\")]",
+        ),
+        (
+            "Generics",
+            "<T: 'a + Copy, const N: usize = 3>",
+            "< T : 'a + Copy , const N : usize = 3 >",
+        ),
         ("Pat::parse_multi", "Some(x) | None", "Some (x) | None"),
         ("TypeParamBound", "?Sized", "? Sized"),
     ] {
@@ -32,7 +40,11 @@ fn refusals_say_where() {
         ("Type", "Vec<", "unexpected end of input"),
         ("Type", "a b", "unexpected token at 2..3"),
         ("Type", "(é, \"", "unterminated literal or comment at 5..6"),
-        ("Macro", "m!", "unexpected end of input, expected delimiter at 2..2"),
+        (
+            "Macro",
+            "m!",
+            "unexpected end of input, expected delimiter at 2..2",
+        ),
         ("Macro", "", "unexpected end of input"),
         ("Foo", "a", "unknown reader at 0..0 (1)"),
         ("Type ", "a", "unknown reader at 0..0 (1)"),
@@ -55,7 +67,10 @@ fn the_end_is_a_place_at_the_end() {
 fn notes_are_rendered() {
     let text = "fn(\n\té, a b)";
     let refusal = read("Type", text).unwrap_err();
-    assert_eq!(refusal.note("a.rs", text), "a.rs:2:7: expected `,`\n\té, a b)\n\t     ^");
+    assert_eq!(
+        refusal.note("a.rs", text),
+        "a.rs:2:7: expected `,`\n\té, a b)\n\t     ^"
+    );
 }
 
 #[test]
@@ -64,5 +79,8 @@ fn long_prints_are_whole() {
     let shown = read("Type", &text).unwrap();
     assert_eq!(shown, format!("({})", vec!["a"; 20_000].join(" , ") + " ,"));
     // (an empty text has room for no print, and `::` is longer printed than written)
-    assert_eq!(read("Path::parse_mod_style", "::a::b").unwrap(), ":: a :: b");
+    assert_eq!(
+        read("Path::parse_mod_style", "::a::b").unwrap(),
+        ":: a :: b"
+    );
 }
