@@ -1,5 +1,5 @@
 use Rattle.std.specs.Prelude.{string_bytes}
-use Rattle.std.proofs.Common.{Err}
+use Rattle.std.proofs.Common.{Global, Err}
 use Rattle.std.proofs.lemmas.Result.{err_from_is_err_and}
 use Rattle.token_core.specs.Spans.{none}
 use Rattle.syn_run.specs.Readers.{category}
@@ -14,4 +14,4 @@ returns-in_err-reprinted-in-Ok g c =
     let C = category g.X.Subtree.reads g.X.Subtree.spells g.X.Subtree.normal g.X.Subtree.prints c.args.reader in
     let e = c.in_err-reprinted-in-Ok.field-0.0 in
     let p = err_from_is_err_and c.from_residual.result c.from_residual.ensures.1 in
-    rw (p.1, p.2) (of_reply C none c.args.input.now string_bytes (Err e) c.in-Ok.ensures.cases.1 (rw (← c.in-Ok.ensures.cases.0) c.in_err-reprinted-in-Ok.ensures))
+    rw (p.1, p.2) (of_reply C none c.args.input.now (string_bytes {Z = Global}) (Err e) c.in-Ok.ensures.cases.1 (rw (← c.in-Ok.ensures.cases.0) c.in_err-reprinted-in-Ok.ensures))
