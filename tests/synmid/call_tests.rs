@@ -58,10 +58,10 @@ fn texts_that_do_not_fit_are_wanted(rt: HostRuntime) {
 fn what_is_no_text_is_refused(rt: HostRuntime) {
     let (call, room) = called(rt.alloc(), b"Type", b"a\xff", ROOM);
     assert_eq!(rt; numbers(call), (1, 18, 2, 0, 0));
-    assert_eq!(rt; &room[..18], b"input is not UTF-8");
+    assert_eq!(rt; &room[..18], b"input is not UTF-8".as_slice());
     let (call, room) = called(rt.alloc(), b"Type\xff", b"a", ROOM);
     assert_eq!(rt; numbers(call), (2, 14, 1, 0, 0));
-    assert_eq!(rt; &room[..14], b"unknown reader");
+    assert_eq!(rt; &room[..14], b"unknown reader".as_slice());
 }
 
 #[test]
@@ -70,7 +70,7 @@ fn notes_are_written(rt: HostRuntime) {
     let call = note_into(rt.alloc(), b"a.rs", b"a\nb c\n", b"unexpected", (4, 5), &mut room);
     let wanted = b"a.rs:2:3: unexpected\nb c\n  ^";
     assert_eq!(rt; numbers(call), (0, wanted.len(), 0, 0, 0));
-    assert_eq!(rt; &room[..wanted.len()], wanted);
+    assert_eq!(rt; &room[..wanted.len()], wanted.as_slice());
     let call = note_into(rt.alloc(), b"a.rs", b"a", b"\xff", (0, 1), &mut room);
     assert_eq!(rt; numbers(call), (1, 18, 2, 0, 0));
 }
