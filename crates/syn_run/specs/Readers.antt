@@ -126,7 +126,7 @@ module _ {X : Type 0} (reads : Place → R X) (spells : Place → X → Toks →
   spelt_attributes clear = AreAll (IsOuter spells clear)
 
   abbrev pub spelt_values : SpelledValues (Expr X)
-  spelt_values = record { len = spells_len spells; const_argument = λ clear. IsConst spells clear; const_default = λ clear. IsConstDefault spells clear }
+  spelt_values = record { len = spells_len spells; const_argument = λ clear. IsConst spells; const_default = λ clear. IsConstDefault spells }
 
   -- what a reader reads, prints and promises
   abbrev pub category : (r : Reader) → Category (Tree X r)
