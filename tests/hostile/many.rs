@@ -13,13 +13,6 @@
 
 ghost use Rattle.std.specs.Prelude.{};
 
-mod channel;
-mod fault;
-mod reader;
-mod run;
-
-use channel::{Plain, Source};
-use reader::Reader;
 use std::alloc::{AllocError, Global};
 use std::fmt::Write as _;
 use std::io::Write;
@@ -27,6 +20,9 @@ use std::process::ExitCode;
 use std::time::Instant;
 use std::{env, io};
 use syn_readers::reader::GenericsReader;
+use syn_run::channel::{Plain, Source};
+use syn_run::reader::Reader;
+use syn_sample::sample::Sample;
 use token_core::{
     DelimSpan, Delimiter, Error, ErrorKind, Group, Punct, Spacing, Span, TokenStream, TokenTree,
 };
@@ -258,7 +254,7 @@ fn read_again(
     let Ok(list) = print.copy(alloc) else {
         return Came::OutOfMemory;
     };
-    match reader.reprint(alloc, list) {
+    match reader.reprint::<Sample>(alloc, Span::none(), list) {
         Ok(again) => {
             if !again.same(print) {
                 return Came::PrintDiffers;
@@ -272,7 +268,7 @@ fn read_again(
     let Ok(tokens) = lex(alloc, text) else {
         return Came::TextDiffers;
     };
-    let Ok(again) = reader.reprint(alloc, tokens) else {
+    let Ok(again) = reader.reprint::<Sample>(alloc, Span::none(), tokens) else {
         return Came::TextDiffers;
     };
     match text_of(alloc, &again) {
@@ -307,7 +303,7 @@ fn timed(
         return (Err(Error::out_of_memory()), 0);
     };
     let begin = Instant::now(rt);
-    let answer = reader.reprint(alloc, list);
+    let answer = reader.reprint::<Sample>(alloc, Span::none(), list);
     let time = match begin {
         Ok(begin) => match begin.elapsed(rt) {
             Ok(time) => time.as_nanos() as u64,

@@ -3,16 +3,17 @@
 //! A test calls and does not branch, as docs/GATE.md says.
 
 use crate::answers::says;
-use crate::reader::{PatternReader, Reader};
 use std::alloc::Global;
 use syn_pat::place::PatPlace;
-use token_core::Error;
+use syn_run::reader::{PatternReader, Reader};
+use syn_sample::sample::Sample;
+use token_core::{Error, Span};
 use token_text::{lex, text_of};
 
 /// What all of a text prints once it is read.
 fn read(alloc: Global, reader: PatternReader, text: &str) -> Result<String, Error> {
     let tokens = lex(alloc, text)?;
-    let print = Reader::Patterns(reader).reprint(alloc, tokens)?;
+    let print = Reader::Patterns(reader).reprint::<Sample>(alloc, Span::none(), tokens)?;
     Ok(text_of(alloc, &print)?)
 }
 

@@ -1,11 +1,12 @@
 //! Runs over inputs and outputs of memory, and over ones that fail.
 
-use crate::channel::{Plain, Room};
-use crate::run::run;
 use std::alloc::{AllocError, Global};
-use std::io;
 use std::io::{ErrorKind, Read, Write};
+use std::io;
 use std::test::Fail;
+use syn_run::channel::{Plain, Room};
+use syn_run::run::run;
+use syn_sample::sample::Sample;
 
 /// A reader that gives its bytes and then fails.
 #[derive(Drop)]
@@ -93,7 +94,7 @@ impl Write for Flushing {
 fn ran(alloc: Global, name: &str, input: &[u8]) -> Result<(u8, Vec<u8>), AllocError> {
     let mut output = Plain(Vec::new(alloc));
     let mut input = input;
-    let status = run(alloc, name, &mut input, &mut output);
+    let status = run::<Sample, _, _>(alloc, name, &mut input, &mut output);
     let Plain(written) = output;
     Ok((status, written))
 }
@@ -102,7 +103,7 @@ fn ran(alloc: Global, name: &str, input: &[u8]) -> Result<(u8, Vec<u8>), AllocEr
 fn ran_within<const N: usize>(alloc: Global, name: &str, input: &[u8]) -> (u8, Room<N>) {
     let mut output = Room::new();
     let mut input = input;
-    let status = run(alloc, name, &mut input, &mut output);
+    let status = run::<Sample, _, _>(alloc, name, &mut input, &mut output);
     (status, output)
 }
 
@@ -219,7 +220,7 @@ fn says_that_reading_failed(rt: HostRuntime) -> Result<(), Fail> {
             rest: rest.as_bytes(),
         });
         let mut output = Plain(Vec::new(rt.alloc()));
-        let status = run(rt.alloc(), "Macro", &mut input, &mut output);
+        let status = run::<Sample, _, _>(rt.alloc(), "Macro", &mut input, &mut output);
         assert_eq!(rt; status, 1);
         assert!(rt; output.0.as_slice() == "error: cannot read input\n".as_bytes());
     }
@@ -230,7 +231,7 @@ fn says_that_reading_failed(rt: HostRuntime) -> Result<(), Fail> {
 fn reads_nothing_for_an_unknown_name(rt: HostRuntime) -> Result<(), Fail> {
     let mut input: &[u8] = b"m!()";
     let mut output = Plain(Vec::new(rt.alloc()));
-    let status = run(rt.alloc(), "Foo", &mut input, &mut output);
+    let status = run::<Sample, _, _>(rt.alloc(), "Foo", &mut input, &mut output);
     assert_eq!(rt; status, 2);
     assert_eq!(rt; input.len(), 4);
     Ok(())
@@ -254,7 +255,7 @@ fn ends_with_1_where_writing_fails(rt: HostRuntime) -> Result<(), Fail> {
                 taken: Vec::new(rt.alloc()),
                 room,
             });
-            let status = run(rt.alloc(), name, &mut input, &mut output);
+            let status = run::<Sample, _, _>(rt.alloc(), name, &mut input, &mut output);
             assert_eq!(rt; status, 1, "{name} of {text} with room for {room}");
             assert!(rt; output.0.taken.as_slice() == &line.as_bytes()[..room]);
         }
@@ -269,7 +270,7 @@ fn reads_on_after_an_interruption(rt: HostRuntime) -> Result<(), Fail> {
         is_interrupted: false,
     });
     let mut output = Plain(Vec::new(rt.alloc()));
-    let status = run(rt.alloc(), "Macro", &mut input, &mut output);
+    let status = run::<Sample, _, _>(rt.alloc(), "Macro", &mut input, &mut output);
     assert_eq!(rt; status, 0);
     assert!(rt; output.0.as_slice() == "a :: b ! { x y }\n".as_bytes());
     Ok(())
@@ -285,7 +286,7 @@ fn flushes_its_line(rt: HostRuntime) -> Result<(), Fail> {
                 is_flushed: false,
                 can_flush,
             });
-            let got = run(rt.alloc(), name, &mut input, &mut output);
+            let got = run::<Sample, _, _>(rt.alloc(), name, &mut input, &mut output);
             let wanted = if can_flush { status } else { 1 };
             assert_eq!(rt; got, wanted, "{name}");
             assert_eq!(rt; output.0.is_flushed, can_flush, "{name}");
@@ -314,7 +315,7 @@ fn keeps_its_room_where_a_further_line_does_not_fit(rt: HostRuntime) -> Result<(
     let mut output: Room<13> = Room::new();
     for status in [0, 1] {
         let mut input = "m!()".as_bytes();
-        let got = run(rt.alloc(), "Macro", &mut input, &mut output);
+        let got = run::<Sample, _, _>(rt.alloc(), "Macro", &mut input, &mut output);
         assert_eq!(rt; got, status);
         assert!(rt; output.written() == "m ! ()\n".as_bytes());
     }

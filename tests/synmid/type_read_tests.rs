@@ -3,17 +3,18 @@
 //! A test calls and does not branch, as docs/GATE.md says.
 
 use crate::answers::says;
-use crate::reader::Reader;
 use std::alloc::Global;
 use std::fmt::Write;
 use syn_readers::reader::{GenericsReader, PathReader, TypeReader};
-use token_core::Error;
+use syn_run::reader::Reader;
+use syn_sample::sample::Sample;
+use token_core::{Error, Span};
 use token_text::{lex, text_of};
 
 /// What all of a text prints once it is read.
 fn read(alloc: Global, reader: Reader, text: &str) -> Result<String, Error> {
     let tokens = lex(alloc, text)?;
-    let print = reader.reprint(alloc, tokens)?;
+    let print = reader.reprint::<Sample>(alloc, Span::none(), tokens)?;
     Ok(text_of(alloc, &print)?)
 }
 

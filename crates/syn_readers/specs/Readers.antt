@@ -6,9 +6,9 @@ use Rattle.token_core.specs.Toks.{Bytes, Toks}
 use Rattle.token_core.specs.Trees.{TokenStream, trees}
 use Rattle.token_core.specs.Rebuilt.{Visible}
 use Rattle.token_core.specs.Refusal.{Refusal}
-use Rattle.token_core.specs.Headline.{Grammar, Headline, whole}
+use Rattle.token_core.specs.Headline.{Grammar, Headline, end_of}
 use Rattle.token_core.specs.Prints.{Print}
-use Rattle.token_core.specs.Spans.{none}
+use Rattle.token_core.specs.declared.span.Span.{Span}
 use Rattle.token_core.specs.Stream.{Stream, started}
 use Rattle.token_core.specs.Reads.{Ends, Refuses, Reader as R}
 use Rattle.syn_ty.specs.ty.Grammars as types
@@ -234,13 +234,17 @@ module _ {A E : Type 0} (attrs : R (List A)) (values : ReadValues E) (sa : Bool 
 abbrev pub Shows : {A : Type 0} → Category A → Stream → TokenStream → Stream → Type 0
 Shows {A = A} C s out new = (a : A) × (C.reader s ≡ Ok (a, new)) × (trees out ≡ C.print a)
 
--- A read that answers prints the tree that the read of the category answers, and keeps its promise. One that is refused is refused as the read of the category
--- is, and keeps the promise of a refusal.
-abbrev pub Reprints : {A : Type 0} → Category A → Toks → Result TokenStream Refusal → Type 0
-Reprints {A = A} C l (Ok s) = (a : A) × (whole C.reader l ≡ Ok a) × C.promise l (Some a) × (trees s ≡ C.print a)
-Reprints C l (Err e) = e.kind ≢ OutOfMemory → (whole C.reader l ≡ Err e) × C.promise l None
+-- a whole read in a scope: refusals at the list's end point at it
+abbrev pub whole_in : {A : Type 0} → R A → Span → Toks → Result A Refusal
+whole_in reader scope l = end_of (reader (started scope l))
+
+-- A read in a scope that answers prints the tree that the read of the category answers there, and keeps its promise. One that is refused is refused as the
+-- read of the category is, and keeps the promise of a refusal.
+abbrev pub Reprints : {A : Type 0} → Category A → Span → Toks → Result TokenStream Refusal → Type 0
+Reprints {A = A} C scope l (Ok s) = (a : A) × (whole_in C.reader scope l ≡ Ok a) × C.promise l (Some a) × (trees s ≡ C.print a)
+Reprints C scope l (Err e) = e.kind ≢ OutOfMemory → (whole_in C.reader scope l ≡ Err e) × C.promise l None
 
 -- the same by the relations of a read and its promise
-abbrev pub Prints : {A : Type 0} → (Stream → A → Stream → Type 0) → (Stream → Refusal → Type 0) → (Toks → Option A → Type 0) → (A → Print) → Toks → Result TokenStream Refusal → Type 0
-Prints {A = A} reads refuses promise print l (Ok s) = (a : A) × Ends reads (started none l) a None × promise l (Some a) × (trees s ≡ print a)
-Prints reads refuses promise print l (Err e) = e.kind ≢ OutOfMemory → Refuses reads refuses (started none l) e × promise l None
+abbrev pub Prints : {A : Type 0} → (Stream → A → Stream → Type 0) → (Stream → Refusal → Type 0) → (Toks → Option A → Type 0) → (A → Print) → Span → Toks → Result TokenStream Refusal → Type 0
+Prints {A = A} reads refuses promise print scope l (Ok s) = (a : A) × Ends reads (started scope l) a None × promise l (Some a) × (trees s ≡ print a)
+Prints reads refuses promise print scope l (Err e) = e.kind ≢ OutOfMemory → Refuses reads refuses (started scope l) e × promise l None

@@ -2,26 +2,22 @@
 #![tactic(auto)]
 
 ghost use Rattle.std.specs.Prelude.{◌≡◌, IfErr};
-ghost use Rattle.synmid.specs.declared.fault.Fault.{Fault};
+ghost use Rattle.syn_run.specs.declared.fault.Fault.{Fault};
 
-mod channel;
-mod fault;
-mod reader;
-mod run;
-mod within;
-
-use channel::Plain;
-use fault::Fault;
 use std::io::ErrorKind;
 use std::process::ExitCode;
 use std::{env, io};
+use syn_run::channel::Plain;
+use syn_run::fault::Fault;
+use syn_run::run::{refuse, run};
+use syn_sample::sample::Sample;
 
 fn main(rt: HostRuntime) -> ExitCode {
     let mut input = Plain(rt.reader());
     let mut output = Plain(io::writer(&rt));
     let status = match name(&rt) {
-        Ok(name) => run::run(rt.alloc(), name.as_str(), &mut input, &mut output),
-        Err(fault) => run::refuse(&fault, &mut output),
+        Ok(name) => run::<Sample, _, _>(rt.alloc(), name.as_str(), &mut input, &mut output),
+        Err(fault) => refuse(&fault, &mut output),
     };
     ExitCode::from(status)
 }

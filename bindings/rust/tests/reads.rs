@@ -1,0 +1,86 @@
+//! What the readers answer through C.
+
+use kulojenta::read;
+
+/// What was read, or the refusal with its place.
+fn said(reader: &str, text: &str) -> String {
+    match read(reader, text) {
+        Ok(shown) => shown,
+        Err(it) => format!("{it} at {}..{} ({})", it.start(), it.end(), it.kind()),
+    }
+}
+
+#[test]
+fn texts_are_read() {
+    for (reader, text, wanted) in [
+        ("Type", "Vec<T>", "Vec < T >"),
+        ("Type", "[u8; 2 * N]", "[u8 ; 2 * N]"),
+        ("Macro", "a::b!{x y}", "a :: b ! { x y }"),
+        ("Attribute::parse_outer", "", ""),
+        (
+            "Attribute::parse_outer",
+            "#[doc = concat!(\"a\", \"é\")]",
+            "# [doc = concat ! (\"a\" , \"é\")]",
+        ),
+        (
+            "Generics",
+            "<T: 'a + Copy, const N: usize = 3>",
+            "< T : 'a + Copy , const N : usize = 3 >",
+        ),
+        ("Pat::parse_multi", "Some(x) | None", "Some (x) | None"),
+        ("TypeParamBound", "?Sized", "? Sized"),
+    ] {
+        assert_eq!(said(reader, text), wanted, "{reader} of {text}");
+    }
+}
+
+#[test]
+fn refusals_say_where() {
+    for (reader, text, wanted) in [
+        ("Type", "Vec<", "unexpected end of input"),
+        ("Type", "a b", "unexpected token at 2..3"),
+        ("Type", "(é, \"", "unterminated literal or comment at 5..6"),
+        (
+            "Macro",
+            "m!",
+            "unexpected end of input, expected delimiter at 2..2",
+        ),
+        ("Macro", "", "unexpected end of input"),
+        ("Foo", "a", "unknown reader at 0..0 (1)"),
+        ("Type ", "a", "unknown reader at 0..0 (1)"),
+    ] {
+        let said = said(reader, text);
+        assert!(said.starts_with(wanted), "{reader} of {text}: {said}");
+    }
+    assert!(read("Foo", "a").unwrap_err().is_unknown_reader());
+    assert!(!read("Type", "").unwrap_err().is_out_of_memory());
+}
+
+#[test]
+fn the_end_is_a_place_at_the_end() {
+    let text = "Map<K,\n    V";
+    let refusal = read("Type", text).unwrap_err();
+    assert_eq!((refusal.start(), refusal.end()), (text.len(), text.len()));
+}
+
+#[test]
+fn notes_are_rendered() {
+    let text = "fn(\n\té, a b)";
+    let refusal = read("Type", text).unwrap_err();
+    assert_eq!(
+        refusal.note("a.rs", text),
+        "a.rs:2:7: expected `,`\n\té, a b)\n\t     ^"
+    );
+}
+
+#[test]
+fn long_prints_are_whole() {
+    let text = format!("({})", "a,".repeat(20_000));
+    let shown = read("Type", &text).unwrap();
+    assert_eq!(shown, format!("({})", vec!["a"; 20_000].join(" , ") + " ,"));
+    // (an empty text has room for no print, and `::` is longer printed than written)
+    assert_eq!(
+        read("Path::parse_mod_style", "::a::b").unwrap(),
+        ":: a :: b"
+    );
+}

@@ -1,0 +1,70 @@
+//! The readers for callers from C: `bindings/c/kulojenta.h` declares these functions.
+#![tactic(auto)]
+
+ghost use Rattle.std.specs.Prelude.{◌≡◌};
+ghost use Rattle.syn_run.specs.Calls.{Notes, Reads};
+ghost use Rattle.syn_run.specs.Readers.{category};
+ghost use Rattle.syn_run.specs.declared.call.Call.{Call};
+ghost use Rattle.syn_verbatim.specs.Reading as reading;
+ghost use Rattle.syn_verbatim.specs.Spelling as spelling;
+ghost use Rattle.kulojenta_c.specs.Reports.{call_of};
+
+use std::alloc::Global;
+use syn_run::call::{Call, note_into, read_into};
+use syn_verbatim::expr::VerbatimExpr;
+
+/// What a call says beside its status and its text; `syn_run::call::Call` says what each number is.
+#[repr(C)]
+#[derive(Clone, Copy)]
+pub struct Report {
+    pub bytes: usize,
+    pub kind: u32,
+    pub start: usize,
+    pub end: usize,
+}
+
+/// Reads all of a text by the reader of this name, over `VerbatimExpr`, and writes the text of the print of what was read to `out`, or why
+/// there is none. Answers the status.
+#[unsafe(no_mangle)]
+pub extern "C" fn kulojenta_read(
+    alloc: Global,
+    reader: &[u8],
+    text: &[u8],
+    out: &mut [u8],
+    report: &mut Report,
+) -> u32
+    ensures { Reads (category reading.at_place spelling.spells (λ _ x. x) (λ _. spelling.print)) reader.now text.now out.old out.new (call_of result report.new) }
+{
+    told(read_into::<VerbatimExpr>(alloc, reader, text, out), report)
+}
+
+/// Writes the note for a message at a place of a text to `out`, or why there is none. Answers the status.
+#[unsafe(no_mangle)]
+pub extern "C" fn kulojenta_note(
+    alloc: Global,
+    name: &[u8],
+    text: &[u8],
+    message: &[u8],
+    start: usize,
+    end: usize,
+    out: &mut [u8],
+    report: &mut Report,
+) -> u32
+    ensures { Notes name.now text.now message.now (start, end) out.old out.new (call_of result report.new) }
+{
+    told(
+        note_into(alloc, name, text, message, (start, end), out),
+        report,
+    )
+}
+
+/// Hands on what a call says.
+fn told(call: Call, report: &mut Report) -> u32
+    ensures { call_of result report.new ≡ call }
+{
+    report.bytes = call.bytes;
+    report.kind = call.kind;
+    report.start = call.start;
+    report.end = call.end;
+    call.status
+}

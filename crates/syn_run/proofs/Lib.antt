@@ -1,0 +1,4 @@
+pub mod Called
+pub mod Consumed
+pub mod Whole
+pub mod Said

@@ -1,0 +1,6 @@
+pub mod Calls
+pub mod Complaint
+pub mod Faults
+pub mod Readers
+pub mod Run
+pub mod Within

@@ -1,0 +1,144 @@
+-- The readers that a run knows by name.
+use Rattle.std.specs.Prelude.{◌≡◌, Bool, if◌then◌else◌, List, [], Option, Some, None, Ok, option_map, codes}
+use Rattle.std.specs.Str.{bytes_eq}
+use Rattle.token_core.specs.Toks.{Bytes, Toks}
+use Rattle.token_core.specs.Trees.{TokenStream, trees}
+use Rattle.token_core.specs.Prints.{Print}
+use Rattle.token_core.specs.Reads.{Reader as R}
+use Rattle.token_core.specs.Stream.{Stream}
+use Rattle.syn_pat.specs.declared.place.PatPlace.TheVariants.{LeadingVert, Multi, Single}
+use Rattle.syn_pat.specs.pat.Pats as pats
+use Rattle.syn_pat.specs.pat.Promises as pat_promises
+use Rattle.syn_path.specs.declared.mac.Macro as mac
+use Rattle.syn_path.specs.declared.supplied.Place.{Place}
+use Rattle.syn_attr.specs.declared.attr.Meta as meta
+use Rattle.syn_attr.specs.declared.attr.MetaList as meta_list
+use Rattle.syn_attr.specs.declared.attr.MetaNameValue as name_value
+use Rattle.syn_forms.specs.declared.tokens.PointerMutability as mutability
+use Rattle.syn_forms.specs.tokens.Grammars as tokens
+use Rattle.syn_attr.specs.attr.Attrs.{Attribute}
+use Rattle.syn_attr.specs.attr.Grammars as attrs
+use Rattle.syn_attr.specs.attr.Printing as attr_printing
+use Rattle.syn_attr.specs.attr.Reading as attr_reading
+use Rattle.syn_attr.specs.attr.Normal as normal
+use Rattle.syn_attr.specs.attr.Lengths.{lens, spells_len}
+use Rattle.syn_attr.specs.attr.Spelling.{AreAll, IsConst, IsConstDefault, IsOuter}
+use Rattle.syn_attr.specs.declared.expr.Expr.{Expr}
+use Rattle.syn_path.specs.Values.{ReadValues, SpelledValues}
+use Rattle.syn_attr.specs.attr.Consts.{normal_values_of, values_of, outer}
+use Rattle.syn_path.specs.mac.Grammars as macs
+use Rattle.syn_path.specs.path.Grammars as paths
+use Rattle.syn_ty.specs.path.Paths as path
+use Rattle.syn_run.specs.declared.reader.Reader.{Reader}
+use Rattle.syn_run.specs.declared.reader.Reader.TheVariants.{Macro, ModStyle, Meta, MetaList, MetaNameValue, Outer, Inner, PointerMutability, Types, Paths, Generics, Patterns}
+use Rattle.syn_run.specs.declared.reader.PatternReader.{PatternReader}
+use Rattle.syn_run.specs.declared.reader.PatternReader.TheVariants as q
+use Rattle.syn_readers.specs.Readers.{Category, of_grammar, TypesTree, PathsTree, GenericsTree, types_named, paths_named, generics_named, types_category, paths_category, generics_category}
+use Rattle.syn_readers.specs.declared.reader.TypeReader.{TypeReader}
+use Rattle.syn_readers.specs.declared.reader.PathReader.{PathReader}
+use Rattle.syn_readers.specs.declared.reader.GenericsReader.{GenericsReader}
+
+abbrev pub patterns_named : Bytes → Option PatternReader
+patterns_named name =
+    if bytes_eq name (codes "Pat::parse_single") then Some (q.In Single)
+    else (if bytes_eq name (codes "Pat::parse_multi") then Some (q.In Multi)
+    else (if bytes_eq name (codes "Pat::parse_multi_with_leading_vert") then Some (q.In LeadingVert)
+    else (if bytes_eq name (codes "Pat::parse_multi_with_leading_vert_and_guard") then Some q.Guarded
+    else (if bytes_eq name (codes "PatType") then Some q.Typed
+    else None))))
+
+-- of the readers of types, paths, generics and patterns, the one of this name
+abbrev pub patterns_reader : Option PatternReader → Option Reader
+patterns_reader = option_map Patterns
+
+abbrev pub or_patterns : Bytes → Option GenericsReader → Option Reader
+or_patterns name (Some r) = Some (Generics r)
+or_patterns name None = patterns_reader (patterns_named name)
+
+abbrev pub or_generics : Bytes → Option PathReader → Option Reader
+or_generics name (Some r) = Some (Paths r)
+or_generics name None = or_patterns name (generics_named name)
+
+abbrev pub or_paths : Bytes → Option TypeReader → Option Reader
+or_paths name (Some r) = Some (Types r)
+or_paths name None = or_generics name (paths_named name)
+
+abbrev pub of_types : Bytes → Option Reader
+of_types name = or_paths name (types_named name)
+
+abbrev pub named : Bytes → Option Reader
+named name =
+    if bytes_eq name (codes "Macro") then Some Macro
+    else (if bytes_eq name (codes "Path::parse_mod_style") then Some ModStyle
+    else (if bytes_eq name (codes "Meta") then Some Meta
+    else (if bytes_eq name (codes "MetaList") then Some MetaList
+    else (if bytes_eq name (codes "MetaNameValue") then Some MetaNameValue
+    else (if bytes_eq name (codes "Attribute::parse_outer") then Some Outer
+    else (if bytes_eq name (codes "Attribute::parse_inner") then Some Inner
+    else (if bytes_eq name (codes "PointerMutability") then Some PointerMutability
+    else of_types name)))))))
+
+-- the trees of a reader of patterns, over a supplied subtree
+abbrev pub PatternsTree : Type 0 → PatternReader → Type 0
+PatternsTree X (q.In place) = pats.Pat X
+PatternsTree X q.Guarded = pats.Pat X
+PatternsTree X q.Typed = pats.PatType X
+
+module _ {X : Type 0} (reads : Place → R X) (spells : Place → X → Toks → Type 0) (normals : Place → X → X) (prints : Place → X → Print) where
+  abbrev pub patterns_category : (r : PatternReader) → Category (PatternsTree X r)
+  patterns_category (q.In place) = of_grammar (pat_promises.pat reads spells normals prints place)
+  patterns_category q.Guarded = of_grammar (pat_promises.guarded reads spells normals prints)
+  patterns_category q.Typed = of_grammar (pat_promises.typed reads spells normals prints)
+
+-- what a reader of patterns shows: the print of the tree that its read answers
+abbrev pub shows : {A : Type 0} → R A → (A → Print) → Stream → TokenStream → Stream → Type 0
+shows {A = A} read print s out new = (a : A) × (read s ≡ Ok (a, new)) × (trees out ≡ print a)
+
+-- the trees of a reader, over a supplied subtree
+abbrev pub Tree : Type 0 → Reader → Type 0
+Tree X Macro = mac.Macro
+Tree X ModStyle = path.ModPath
+Tree X Meta = meta.Meta X
+Tree X MetaList = meta_list.MetaList
+Tree X MetaNameValue = name_value.MetaNameValue X
+Tree X Outer = List (Attribute X)
+Tree X Inner = List (Attribute X)
+Tree X PointerMutability = mutability.PointerMutability
+Tree X (Types r) = TypesTree (Attribute X) (Expr X) r
+Tree X (Paths r) = PathsTree (Attribute X) (Expr X) r
+Tree X (Generics r) = GenericsTree (Attribute X) (Expr X) r
+Tree X (Patterns r) = PatternsTree X r
+
+-- what attributes print, one after the other
+abbrev pub attributes : {X : Type 0} → (Place → X → Print) → List (Attribute X) → Print
+attributes = attr_printing.attributes
+
+module _ {X : Type 0} (reads : Place → R X) (spells : Place → X → Toks → Type 0) (normals : Place → X → X) (prints : Place → X → Print) where
+  -- what attributes and expressions read
+  abbrev pub read_attributes : R (List (Attribute X))
+  read_attributes = attr_reading.outer reads
+
+  abbrev pub read_values : ReadValues (Expr X)
+  read_values = record { len = lens reads; const_argument = attr_reading.const_argument reads }
+
+  -- what they spell
+  abbrev pub spelt_attributes : Bool → List (Attribute X) → Toks → Toks → Type 0
+  spelt_attributes clear = AreAll (IsOuter spells clear)
+
+  abbrev pub spelt_values : SpelledValues (Expr X)
+  spelt_values = record { len = spells_len spells; const_argument = λ clear. IsConst spells; const_default = λ clear. IsConstDefault spells }
+
+  -- what a reader reads, prints and promises
+  abbrev pub category : (r : Reader) → Category (Tree X r)
+  category Macro = of_grammar macs.mac
+  category ModStyle = of_grammar (paths.mod_style path.nothing (λ a. []))
+  category Meta = of_grammar (attrs.meta reads spells normals prints)
+  category MetaList = of_grammar attrs.list
+  category MetaNameValue = of_grammar (attrs.name_value reads spells normals prints)
+  category Outer = of_grammar (attrs.outer reads spells normals prints)
+  category Inner = of_grammar (attrs.inner reads spells normals prints)
+  category PointerMutability = of_grammar tokens.mutability
+  category (Types r) = types_category read_attributes read_values spelt_attributes spelt_values (normal.attributes normals) (normal_values_of normals) (outer prints) (values_of prints) r
+  category (Paths r) = paths_category read_attributes read_values spelt_attributes spelt_values (normal.attributes normals) (normal_values_of normals) (outer prints) (values_of prints) r
+  category (Generics r) = generics_category read_attributes read_values spelt_attributes spelt_values (normal.attributes normals) (normal_values_of normals) (outer prints) (values_of prints) r
+  category (Patterns r) = patterns_category reads spells normals prints r

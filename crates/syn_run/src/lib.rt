@@ -1,0 +1,10 @@
+//! Runs of the readers by their names, over any supplied subtree: what the programs and the static library are thin mains over.
+#![tactic(auto)]
+
+pub mod call;
+pub mod channel;
+pub mod complaint;
+pub mod fault;
+pub mod reader;
+pub mod run;
+pub mod within;

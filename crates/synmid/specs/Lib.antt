@@ -1,4 +1,0 @@
-pub mod Faults
-pub mod Readers
-pub mod Run
-pub mod Within
