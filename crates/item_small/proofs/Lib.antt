@@ -1,0 +1,2 @@
+pub mod front_laws
+pub mod item_laws

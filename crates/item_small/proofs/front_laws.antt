@@ -1,0 +1,4 @@
+pub mod Both
+pub mod Heads
+pub mod Same
+pub mod Tokens
