@@ -1,5 +1,5 @@
 -- What the readers of items promise, by what those of their parts say of fronts.
-use Rattle.std.specs.Prelude.{◌≡◌, ◌||◌, Bool, true, List, [], ◌∷◌, Ok, Err}
+use Rattle.std.specs.Prelude.{◌≡◌, ◌||◌, Bool, true, false, List, [], ◌∷◌, Ok, Err}
 use Rattle.token_core.specs.declared.tree.Delimiter.TheVariants.{Brace}
 use Rattle.token_core.specs.Fronted.{Fronting, Fronted}
 use Rattle.token_core.specs.Headline.{Grammar}
@@ -48,8 +48,9 @@ module _ {A T : Type 0} (a : Fronting A) (t : Fronting T) where
     follows = ends_field;
   }
 
-  -- attributes may stand before a name, and a type before the end or a comma
+  -- Attributes may stand before a name, and a type before the end or a comma. What attributes spell before more tokens is no end.
   pub record FieldFits : Type 0 where
+    pub starts : (x : A) (l k : Toks) → a.begins true x l k → is_done k ≡ false → is_done l ≡ false
     pub name : (k : Toks) → sees_word is_ident k ≡ true → a.follows k ≡ true
     pub ends : (k : Toks) → ends_field k ≡ true → t.follows k ≡ true
 
