@@ -10,6 +10,7 @@ use Rattle.token_core.specs.Toks.{Toks, done}
 use Rattle.token_core.specs.Trees.{row}
 use Rattle.token_core.proofs.Rows.{row-append}
 use Rattle.token_core.proofs.Steps.{link}
+use Rattle.token_core.proofs.Turns.{chain, same_pair}
 
 -- where none was left over after, none was before
 none_at : (a b : Option Span) → first_of a b ≡ b → b ≡ None → a ≡ None
@@ -24,6 +25,23 @@ read_both p q = do
   a ← p
   b ← q
   pure (a, b)
+
+-- what both reads answered
+pub record Both {A B : Type 0} (p : Reader A) (q : Reader B) (s u : Stream) (x : A × B) : Type 0 where
+  pub between : Stream
+  pub first : p s ≡ Ok (x.0, between)
+  pub second : q between ≡ Ok (x.1, u)
+
+pub took_both : {A B : Type 0} (p : Reader A) (q : Reader B) (s u : Stream) (x : A × B) → read_both p q s ≡ Ok (x, u) → Both p q s u x
+took_both {A} {B} p q s u x e =
+    let c = chain (p s) _ x u e in
+    let d = chain (q c.rest) _ x u c.goes in
+    let g = same_pair (c.value, d.value) x d.rest u d.goes in
+    record {
+      between = c.rest;
+      first = c.was ∙ ap (λ (z : A × B). Ok (z.0, c.rest)) g.0;
+      second = d.was ∙ ap (λ (z : A × B). Ok (z.1, d.rest)) g.0 ∙ ap (λ (z : Stream). Ok (x.1, z)) g.1;
+    }
 
 module _ {A B : Type 0} (F : Fronting A) (G : Fronting B) where
   -- the first up to where the second begins

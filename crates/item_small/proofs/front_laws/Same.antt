@@ -13,18 +13,15 @@ module _ {A B : Type 0} (F : Fronting A) (G : Fronting B) (to : A → B) (from :
     pub back : (b : B) → to (from b) ≡ b
     pub parted : (clear : Bool) (b : B) (l k : Toks) → G.begins clear b l k → F.begins clear (from b) l k
     pub made : (clear : Bool) (a : A) (l k : Toks) → F.begins clear a l k → G.begins clear (to a) l k
-    pub follows : (k : Toks) → G.follows k ≡ F.follows k
+    pub follows : (k : Toks) → G.follows k ≡ true → F.follows k ≡ true
     pub normal : (a : A) → G.grammar.normal (to a) ≡ to (F.grammar.normal a)
     pub print : (a : A) → G.grammar.print (to a) ≡ F.grammar.print a
     pub plain : (a : A) → G.grammar.plain (to a) → F.grammar.plain a
     pub reads : (s t : Stream) (a : A) → F.grammar.reader s ≡ Ok (a, t) → G.grammar.reader s ≡ Ok (to a, t)
 
   module _ (same : Alike) where
-    open_to : (k : Toks) → G.follows k ≡ true → F.follows k ≡ true
-    open_to k o = sym (same.follows k) ∙ o
-
     pub refused_alike : (s t : Stream) (e : Refusal) → Fronted F s (Err e) t → Fronted G s (Err e) t
-    refused_alike s t e h = λ k n v b m i o. h k n v (from b) m (same.parted true b s.rest m i) (open_to m o)
+    refused_alike s t e h = λ k n v b m i o. h k n v (from b) m (same.parted true b s.rest m i) (same.follows m o)
 
     module _ (a : A) (k : Toks) (h : FrontAgain F a k) where
       printed_alike : printed_on G (to a) k ≡ printed_on F a k
@@ -48,10 +45,10 @@ module _ {A B : Type 0} (F : Fronting A) (G : Fronting B) (to : A → B) (from :
     begun_alike : (s t : Stream) (a : A) → Begun F s t a → Begun G s t (to a)
     begun_alike s t a h = record {
       visible = h.visible;
-      sound = λ o. same.made false a s.rest t.rest (h.sound (open_to t.rest o));
-      unique = λ b k i o. let u = h.unique (from b) k (same.parted true b s.rest k i) (open_to k o) in (sym (same.back b) ∙ ap to u.0, u.1);
-      reprint = λ o p k v q. front_alike a k (h.reprint (open_to t.rest o) (same.plain a p) k v (open_to k q));
+      sound = λ o. same.made false a s.rest t.rest (h.sound (same.follows t.rest o));
+      unique = λ b k i o. let u = h.unique (from b) k (same.parted true b s.rest k i) (same.follows k o) in (sym (same.back b) ∙ ap to u.0, u.1);
+      reprint = λ o p k v q. front_alike a k (h.reprint (same.follows t.rest o) (same.plain a p) k v (same.follows k q));
     }
 
     pub answered_alike : (s t : Stream) (a : A) → Fronted F s (Ok a) t → Fronted G s (Ok (to a)) t
-    answered_alike s t a h = λ n v. (λ c. begun_alike s t a ((h n v).0 c), λ b k i o. (h n v).1 (from b) k (same.parted true b s.rest k i) (open_to k o))
+    answered_alike s t a h = λ n v. (λ c. begun_alike s t a ((h n v).0 c), λ b k i o. (h n v).1 (from b) k (same.parted true b s.rest k i) (same.follows k o))

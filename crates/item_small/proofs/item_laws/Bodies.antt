@@ -94,7 +94,7 @@ pub braces_refused : (o : Outcome (DelimSpan × Stream)) (e : Refusal) → opene
 braces_refused (Err r) e h = cc
 braces_refused (Ok q) e h = cc
 
-sees_brace : (x : DelimSpan) (c k : Toks) → sees_group d.Brace (group d.Brace x c k) ≡ true
+pub sees_brace : (x : DelimSpan) (c k : Toks) → sees_group d.Brace (group d.Brace x c k) ≡ true
 unfolding sees_group
 sees_brace x c k = refl
 
