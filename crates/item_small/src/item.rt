@@ -1,5 +1,8 @@
 //! Structs, over their parts: what stands for their attributes, generics, where clause and types.
 
+pub mod print;
+pub mod read;
+
 use token_core::token::{Brace, Colon, Comma, Semi, Struct};
 use token_core::{Ident, Punctuated};
 

@@ -75,11 +75,11 @@ module _ {A B : Type 0} (F : Fronting A) (G : Fronting B) where
         let u = b.unique x.0 i.0 i.1 f in
         (u.0, u.1, e, b.visible)
 
-    pub no_first : (s t u : Stream) (e : Refusal) → Fronted F s (Err e) t → Fronted both s (Err e) u
-    no_first s t u e h = λ k n v x m i o. h k n v x.0 i.0 i.1 (fit true x.1 i.0 m i.2 o)
+    pub no_first : (s : Stream) (e : Refusal) → Fronted F s (Err e) s → Fronted both s (Err e) s
+    no_first s e h = λ k n v x m i o. h k n v x.0 i.0 i.1 (fit true x.1 i.0 m i.2 o)
 
-    pub no_second : (s t u w : Stream) (a : A) (e : Refusal) → Fronted F s (Ok a) t → Fronted G t (Err e) u → Fronted both s (Err e) w
-    no_second s t u w a e h g = λ k n v x m i o.
+    pub no_second : (s t : Stream) (a : A) (e : Refusal) → Fronted F s (Ok a) t → Fronted G t (Err e) t → Fronted both s (Err e) s
+    no_second s t a e h g = λ k n v x m i o.
         let f = first_same s t a h n v x m i o in
         g k f.2 f.3 x.1 m (subst (λ y. G.begins true x.1 y m) (sym f.1) i.2) o
 

@@ -20,8 +20,8 @@ module _ {A B : Type 0} (F : Fronting A) (G : Fronting B) (to : A → B) (from :
     pub reads : (s t : Stream) (a : A) → F.grammar.reader s ≡ Ok (a, t) → G.grammar.reader s ≡ Ok (to a, t)
 
   module _ (same : Alike) where
-    pub refused_alike : (s t : Stream) (e : Refusal) → Fronted F s (Err e) t → Fronted G s (Err e) t
-    refused_alike s t e h = λ k n v b m i o. h k n v (from b) m (same.parted true b s.rest m i) (same.follows m o)
+    pub refused_alike : (s : Stream) (e : Refusal) → Fronted F s (Err e) s → Fronted G s (Err e) s
+    refused_alike s e h = λ k n v b m i o. h k n v (from b) m (same.parted true b s.rest m i) (same.follows m o)
 
     module _ (a : A) (k : Toks) (h : FrontAgain F a k) where
       printed_alike : printed_on G (to a) k ≡ printed_on F a k

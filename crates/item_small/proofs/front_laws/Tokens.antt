@@ -1,5 +1,7 @@
 -- A token on the front of a list: what its read promises there, whatever follows.
+use Rattle.std.specs.Prelude.{◌≢◌}
 use Rattle.std.proofs.Common.{◌≡◌, ℕ, ◌≤◌, Bool, true, false, if◌then◌else◌, Option, Some, None, List, length, Result, Ok, Err, refl, sym, ◌∙◌, ap, subst, arith}
+use Rattle.token_core.specs.declared.error.ErrorKind.TheVariants.{OutOfMemory}
 use Rattle.token_core.specs.declared.mark.Mark.{Mark}
 use Rattle.token_core.specs.declared.span.Span.{Span}
 use Rattle.token_core.specs.declared.tree.Ident.{Ident}
@@ -65,6 +67,9 @@ module _ {n k : ℕ} where
       token_fronted (λ clear. IsMark clear) p.mark (read n k) (λ s t x v e. mark_sound fits short s t x v e) (λ x l r f e sc i. mark_complete true fits short x l r f e sc i)
       (λ x l r h i. mark_again false x l r h i) (λ x l r i v. mark_visible false x l r i v) (λ x l r i v. mark_whole true x l r i v)
 
+  pub mark_refused : length (chars_of n) ≡ k → k ≤ 3 → (s : Stream) (e : Refusal) → (e.kind ≢ OutOfMemory → read n k s ≡ Err e) → Fronted mark_front s (Err e) s
+  mark_refused fits short s e h = mark_fronted fits short s s (Err e) h
+
 -- ---- words
 
 module _ {n : ℕ} where
@@ -73,6 +78,9 @@ module _ {n : ℕ} where
 
   pub word_fronted : (s t : Stream) (r : Result (Word n) Refusal) → Reads (read_named n s) r t → Fronted word_front s r t
   word_fronted = token_fronted (λ clear. IsWord) p.word (read_named n) (λ s t x v e. word_sound s t x v e) (λ x l r f e sc i. word_complete x l r f e sc i) (λ x l r h i. word_again x l r h i) (λ x l r i v. word_visible x l r i v) (λ x l r i v. word_whole x l r i v)
+
+  pub word_refused : (s : Stream) (e : Refusal) → (e.kind ≢ OutOfMemory → read_named n s ≡ Err e) → Fronted word_front s (Err e) s
+  word_refused s e h = word_fronted s s (Err e) h
 
 -- ---- names
 
@@ -99,3 +107,6 @@ name_whole x l r (a_name m) v = v
 
 pub name_fronted : (s t : Stream) (r : Result Ident Refusal) → Reads (name s) r t → Fronted name_front s r t
 name_fronted = token_fronted (λ clear. IsName) p.ident name name_sound name_complete name_again name_visible name_whole
+
+pub name_refused : (s : Stream) (e : Refusal) → (e.kind ≢ OutOfMemory → name s ≡ Err e) → Fronted name_front s (Err e) s
+name_refused s e h = name_fronted s s (Err e) h

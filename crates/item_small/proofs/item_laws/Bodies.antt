@@ -38,10 +38,10 @@ use Rattle.item_small.specs.item.Reading.{comma}
 use Rattle.item_small.specs.item.Spelling.{IsBody, IsField, a_field, named, unit}
 use Rattle.item_small.specs.item.Trees.{Comma, Semi}
 use Rattle.item_small.proofs.front_laws.Heads.{at_end, no_left}
-use Rattle.item_small.proofs.front_laws.Tokens.{mark_front, mark_fronted}
+use Rattle.item_small.proofs.front_laws.Tokens.{mark_front, mark_fronted, mark_refused}
+use Rattle.item_small.proofs.front_laws.Refused.{stopped}
 use Rattle.item_small.proofs.item_laws.Ends.{name_goes}
 use Rattle.item_small.proofs.item_laws.Fields as list
-use Rattle.item_small.proofs.item_laws.Fields.{stopped}
 
 -- ---- braces
 
@@ -170,6 +170,27 @@ module _ {A T : Type 0} (a : Fronting A) (t : Fronting T) where
   abbrev pub read_body : Reader (BodyOf A T)
   read_body = reading.body a.grammar.reader t.grammar.reader
 
+  -- ---- how they are read
+
+  pub fields_read : (c r : Stream) (v : Many (FieldOf A T) Comma) → Terminates (FieldRead a t) (Gives comma) c v.0 v.1 r → read_fields c ≡ Ok (v, r)
+  fields_read c r v i = list.read_list Field.grammar.reader (FieldRead a t) (λ _ _ _ h. h.gives) (λ _ _ _ h. h.within) c r v.0 v.1 i
+
+  pub fields_refused : (c : Stream) (e : Refusal) → Refused (FieldRead a t) (Gives comma) (FieldRefused a t) (Fails comma) e c → read_fields c ≡ Err e
+  fields_refused c e i = list.refused_list Field.grammar.reader (FieldRead a t) (λ _ _ _ h. h.gives) (λ _ _ _ h. h.within) (FieldRefused a t) (λ _ _ h. h.fails) c e i
+
+  abbrev read_named : Reader (BodyOf A T)
+  read_named = reading.named a.grammar.reader t.grammar.reader
+
+  pub not_opened : (s : Stream) (e : Refusal) → opened brace (open_group d.Brace brace_name s) ≡ Err e → read_named s ≡ Err e
+  not_opened s e h = stopped _ e (stopped (λ g. λ u. closing g.0 u (read_fields g.1)) e (braces_refused (open_group d.Brace brace_name s) e h))
+
+  module _ (s u c : Stream) (x : Brace) (o : opened brace (open_group d.Brace brace_name s) ≡ Ok ((x, c), u)) where
+    pub named_refused : (e : Refusal) → read_fields c ≡ Err e → read_named s ≡ Err e
+    named_refused e h = stopped _ e (link (λ g. λ z. closing g.0 z (read_fields g.1)) (braces_opened (open_group d.Brace brace_name s) x c u o) (ap (closing x.span u) h))
+
+    pub named_read : (r : Stream) (v : Many (FieldOf A T) Comma) → read_fields c ≡ Ok (v, r) → read_named s ≡ Ok (b.Named x v, finished r u)
+    named_read r v h = link _ (link (λ g. λ z. closing g.0 z (read_fields g.1)) (braces_opened (open_group d.Brace brace_name s) x c u o) (ap (closing x.span u) h)) refl
+
   module _ (fits : FieldFits a t) where
     field_starts : (x : FieldOf A T) (l k : Toks) → IsField a t true x l k → reads.is_done l ≡ false
     field_starts x l k (a_field {x = y} {i = i} {m = m} {n = n} h j c q) = fits.starts y l m h (name_goes i m n j)
@@ -279,8 +300,8 @@ module _ {A T : Type 0} (a : Fronting A) (t : Fronting T) where
       fields_fronted = λ n v. (body_begun n v, λ y k j q. body_left n v y k s.rest refl j)
 
     -- the fields that are spelt in the braces were refused
-    pub no_fields : (s c u w : Stream) (x : DelimSpan) (e : Refusal) → open_group d.Brace brace_name s ≡ Ok ((x, c), u) → (e.kind ≢ OutOfMemory → Refused (FieldRead a t) (Gives comma) (FieldRefused a t) (Fails comma) e c) → Fronted Body s (Err e) w
-    no_fields s c u w x e o i = λ k n v y m j q. none_spelt k n v (opens s x c u v o) y m s.rest refl j
+    pub no_fields : (s c u : Stream) (x : DelimSpan) (e : Refusal) → open_group d.Brace brace_name s ≡ Ok ((x, c), u) → (e.kind ≢ OutOfMemory → Refused (FieldRead a t) (Gives comma) (FieldRefused a t) (Fails comma) e c) → Fronted Body s (Err e) s
+    no_fields s c u x e o i = λ k n v y m j q. none_spelt k n v (opens s x c u v o) y m s.rest refl j
       where
         none_spelt : e.kind ≢ OutOfMemory → s.left ≡ None → Visible s.rest → Braces s x c u → (y : BodyOf A T) (m l : Toks) → s.rest ≡ l → IsBody a t true y l m → ⊥
         none_spelt k n v f y m l g (named {s = z} {xs = ys} {cs = ds} {l = q} j) =
@@ -306,11 +327,13 @@ module _ {A T : Type 0} (a : Fronting A) (t : Fronting T) where
 
   semi_read : (s : Stream) (q : Semi) (k l : Toks) → s.left ≡ None → s.rest ≡ l → IsMark true q l k → ReadTo Closing q s k → ReadTo Body (b.Unit q) s k
   unfolding reading.body
-  semi_read s q k l n e i r =
-      (r.0,
-      chosen (sees_group d.Brace s.rest) false _ _ s _ (semi_brace s.rest l e i)
-      (chosen (token.sees_semi s.rest) true _ _ s _ (ap token.sees_semi e ∙ mark_seen true q l k i) (link _ r.1 refl)),
-      r.2, r.3)
+  semi_read s q k l n e i r = (
+    r.0,
+    chosen (sees_group d.Brace s.rest) false _ _ s _ (semi_brace s.rest l e i)
+        (chosen (token.sees_semi s.rest) true _ _ s _ (ap token.sees_semi e ∙ mark_seen true q l k i) (link _ r.1 refl)),
+    r.2,
+    r.3,
+  )
     where
       semi_brace : (m l : Toks) → m ≡ l → IsMark true q l k → sees_group d.Brace m ≡ false
       semi_brace m l e i = ap (sees_group d.Brace) e ∙ mark_brace l i
@@ -346,15 +369,15 @@ module _ {A T : Type 0} (a : Fronting A) (t : Fronting T) where
   no_other s e f g y k l h (named {s = z} {l = m} j) = no_named s f z m k h
   no_other s e f g y k l h (unit {q = q} j) = g q k (subst (λ m. IsMark true q m k) (sym h) j)
 
-  pub no_semi : (s u : Stream) (e : Refusal) → sees_group d.Brace s.rest ≡ false → (e.kind ≢ OutOfMemory → reading.semi s ≡ Err e) → Fronted Body s (Err e) u
-  no_semi s u e f h = λ k n v y m i o. no_other s e f (λ q r j. mark_fronted {n = 24} {k = 1} refl (omega arith) s u (Err e) h k n v q r j refl) y m s.rest refl i
+  pub no_semi : (s : Stream) (e : Refusal) → sees_group d.Brace s.rest ≡ false → (e.kind ≢ OutOfMemory → reading.semi s ≡ Err e) → Fronted Body s (Err e) s
+  no_semi s e f h = λ k n v y m i o. no_other s e f (λ q r j. mark_refused {n = 24} {k = 1} refl (omega arith) s e h k n v q r j refl) y m s.rest refl i
 
-  pub no_body : (s u : Stream) (e : Refusal) → sees_group d.Brace s.rest ≡ false → token.sees_semi s.rest ≡ false → Fronted Body s (Err e) u
-  no_body s u e f g = λ k n v y m i o. no_other s e f (λ q r j. not_seen q r j) y m s.rest refl i
+  pub no_body : (s : Stream) (e : Refusal) → sees_group d.Brace s.rest ≡ false → token.sees_semi s.rest ≡ false → Fronted Body s (Err e) s
+  no_body s e f g = λ k n v y m i o. no_other s e f (λ q r j. not_seen q r j) y m s.rest refl i
     where
       not_seen : (q : Semi) (k : Toks) → IsMark true q s.rest k → ⊥
       not_seen q k j = let w = sym g ∙ mark_seen true q s.rest k j in absurd (cc w)
 
   -- braces that are seen are opened
-  pub no_braces : (s u : Stream) (e : Refusal) → sees_group d.Brace s.rest ≡ true → (e.kind ≢ OutOfMemory → open_group d.Brace brace_name s ≡ Err e) → Fronted Body s (Err e) u
-  no_braces s u e f h = λ k n v y m i o. never_refused s e f (h k)
+  pub no_braces : (s : Stream) (e : Refusal) → sees_group d.Brace s.rest ≡ true → (e.kind ≢ OutOfMemory → open_group d.Brace brace_name s ≡ Err e) → Fronted Body s (Err e) s
+  no_braces s e f h = λ k n v y m i o. never_refused s e f (h k)

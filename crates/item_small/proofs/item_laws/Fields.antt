@@ -25,11 +25,8 @@ use Rattle.item_small.specs.item.Promises.{ends_field}
 use Rattle.item_small.specs.item.Reading.{comma}
 use Rattle.item_small.specs.item.Trees.{Comma}
 use Rattle.item_small.proofs.front_laws.Both.{none_before}
+use Rattle.item_small.proofs.front_laws.Refused.{stopped}
 use Rattle.item_small.proofs.item_laws.Ends.{comma_follows, comma_goes, comma_left, comma_met, comma_same, comma_takes, done_of, end_follows, not_over, over, row_size}
-
--- a step that is refused
-pub stopped : {A B : Type 0} {o : Outcome A} (f : A → Reader B) (e : Refusal) → o ≡ Err e → and_then o f ≡ Err e
-stopped f e h = ap (λ z. and_then z f) h
 
 module _ {X : Type 0} (reader : Reader X) where
   -- at most n values up to the end
@@ -170,11 +167,13 @@ module _ {X : Type 0} (F : Fronting X) where
             let here = ap size r.2 in
             let long = row_size (F.grammar.print x) (row (p.mark c) (printed_list xs cs)) f.visible in
             let there = ap size (e ∙ whole_row) in
-            let w = g.again n u r.3 refl (omega (arith, h, less, here, long, there)) in
-            (w.0,
-            chosen (is_done s.rest) false _ _ s _ goes
-            (link {s = r.0} _ r.1 (chosen (not (is_done r.0.rest)) true _ _ r.0 _ (ap not (ap is_done r.2 ∙ comma_goes true c _ _ mark)) (link {s = u} _ m.reads (link _ w.1 refl)))),
-            w.2, w.3)
+            let w = g.again n u r.3 refl (omega (arith, h, less, here, long, there)) in (
+              w.0,
+              chosen (is_done s.rest) false _ _ s _ goes
+                  (link {s = r.0} _ r.1 (chosen (not (is_done r.0.rest)) true _ _ r.0 _ (ap not (ap is_done r.2 ∙ comma_goes true c _ _ mark)) (link {s = u} _ m.reads (link _ w.1 refl)))),
+              w.2,
+              w.3,
+            )
 
         more_again : (b : Bool) → Again b (x ∷ xs) (c ∷ cs)
         more_again b = record {

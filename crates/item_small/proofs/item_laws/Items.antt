@@ -129,43 +129,43 @@ module _ {A G W T : Type 0} (a : Fronting A) (g : Fronting G) (w : Fronting W) (
     parts_fit : both.Fit a Bare
     parts_fit clear x l k i o = fits.word l (word_seen x.0 l i.0 i.1)
 
-    refused : (s w : Stream) (e : Refusal) → Fronted Parts s (Err e) w → Fronted Item s (Err e) w
-    refused s w e h = refused_alike Parts Item to from alike s w e h
+    refused : (s : Stream) (e : Refusal) → Fronted Parts s (Err e) s → Fronted Item s (Err e) s
+    refused s e h = refused_alike Parts Item to from alike s e h
 
-    pub no_attrs : (s u r : Stream) (e : Refusal) → Fronted a s (Err e) u → Fronted Item s (Err e) r
-    no_attrs s u r e h = refused s r e (both.no_first a Bare parts_fit s u r e h)
+    pub no_attrs : (s : Stream) (e : Refusal) → Fronted a s (Err e) s → Fronted Item s (Err e) s
+    no_attrs s e h = refused s e (both.no_first a Bare parts_fit s e h)
 
     module _ (s m : Stream) (x : A) (h : Fronted a s (Ok x) m) where
-      after_attrs : (u r : Stream) (e : Refusal) → Fronted Bare m (Err e) u → Fronted Item s (Err e) r
-      after_attrs u r e f = refused s r e (both.no_second a Bare parts_fit s m u r x e h f)
+      after_attrs : (e : Refusal) → Fronted Bare m (Err e) m → Fronted Item s (Err e) s
+      after_attrs e f = refused s e (both.no_second a Bare parts_fit s m x e h f)
 
-      pub no_word : (u r : Stream) (e : Refusal) → Fronted struct_front m (Err e) u → Fronted Item s (Err e) r
-      no_word u r e f = after_attrs u r e (both.no_first struct_front Named bare_fits m u u e f)
+      pub no_word : (e : Refusal) → Fronted struct_front m (Err e) m → Fronted Item s (Err e) s
+      no_word e f = after_attrs e (both.no_first struct_front Named bare_fits m e f)
 
       module _ (n : Stream) (q : Struct) (i : Fronted struct_front m (Ok q) n) where
-        after_word : (u r : Stream) (e : Refusal) → Fronted Named n (Err e) u → Fronted Item s (Err e) r
-        after_word u r e f = after_attrs u r e (both.no_second struct_front Named bare_fits m n u u q e i f)
+        after_word : (e : Refusal) → Fronted Named n (Err e) n → Fronted Item s (Err e) s
+        after_word e f = after_attrs e (both.no_second struct_front Named bare_fits m n q e i f)
 
-        pub no_name : (u r : Stream) (e : Refusal) → Fronted name_front n (Err e) u → Fronted Item s (Err e) r
-        no_name u r e f = after_word u r e (both.no_first name_front Declared named_fits n u u e f)
+        pub no_name : (e : Refusal) → Fronted name_front n (Err e) n → Fronted Item s (Err e) s
+        no_name e f = after_word e (both.no_first name_front Declared named_fits n e f)
 
         module _ (k : Stream) (y : Ident) (j : Fronted name_front n (Ok y) k) where
-          after_name : (u r : Stream) (e : Refusal) → Fronted Declared k (Err e) u → Fronted Item s (Err e) r
-          after_name u r e f = after_word u r e (both.no_second name_front Declared named_fits n k u u y e j f)
+          after_name : (e : Refusal) → Fronted Declared k (Err e) k → Fronted Item s (Err e) s
+          after_name e f = after_word e (both.no_second name_front Declared named_fits n k y e j f)
 
-          pub no_generics : (u r : Stream) (e : Refusal) → Fronted g k (Err e) u → Fronted Item s (Err e) r
-          no_generics u r e f = after_name u r e (both.no_first g Clause declared_fits k u u e f)
+          pub no_generics : (e : Refusal) → Fronted g k (Err e) k → Fronted Item s (Err e) s
+          no_generics e f = after_name e (both.no_first g Clause declared_fits k e f)
 
           module _ (o : Stream) (z : G) (l : Fronted g k (Ok z) o) where
-            after_generics : (u r : Stream) (e : Refusal) → Fronted Clause o (Err e) u → Fronted Item s (Err e) r
-            after_generics u r e f = after_name u r e (both.no_second g Clause declared_fits k o u u z e l f)
+            after_generics : (e : Refusal) → Fronted Clause o (Err e) o → Fronted Item s (Err e) s
+            after_generics e f = after_name e (both.no_second g Clause declared_fits k o z e l f)
 
-            pub no_clause : (u r : Stream) (e : Refusal) → Fronted w o (Err e) u → Fronted Item s (Err e) r
-            no_clause u r e f = after_generics u r e (both.no_first w Body clause_fits o u u e f)
+            pub no_clause : (e : Refusal) → Fronted w o (Err e) o → Fronted Item s (Err e) s
+            no_clause e f = after_generics e (both.no_first w Body clause_fits o e f)
 
             module _ (p : Stream) (c : W) (v : Fronted w o (Ok c) p) where
-              pub no_body : (u r : Stream) (e : Refusal) → Fronted Body p (Err e) u → Fronted Item s (Err e) r
-              no_body u r e f = after_generics u r e (both.no_second w Body clause_fits o p u u c e v f)
+              pub no_body : (e : Refusal) → Fronted Body p (Err e) p → Fronted Item s (Err e) s
+              no_body e f = after_generics e (both.no_second w Body clause_fits o p c e v f)
 
               pub item_fronted : (u : Stream) (b : BodyOf A T) → Fronted Body p (Ok b) u → Follows m u → Follows n u → Follows k u → Follows o u → Follows p u → Fronted Item s (Ok (item_of x q y z c b)) u
               item_fronted u b f f1 f2 f3 f4 f5 =

@@ -1,15 +1,15 @@
 -- A field: what is promised of it by what is promised of its attributes and its type.
-use Rattle.std.proofs.Common.{◌≡◌, Bool, true, Ok, Err, refl, ap}
+use Rattle.std.proofs.Common.{◌≡◌, Bool, true, Result, Ok, Err, refl}
 use Rattle.token_core.specs.declared.tree.Ident.{Ident}
 use Rattle.token_core.specs.Fronted.{Fronting, Fronted}
-use Rattle.token_core.specs.Reads.{Follows, is_ident, sees_word}
+use Rattle.token_core.specs.Reads.{Follows, Parsed, Parses, is_ident, sees_word}
 use Rattle.token_core.specs.Refusal.{Refusal}
 use Rattle.token_core.specs.Stream.{Stream}
 use Rattle.token_core.specs.Toks.{Toks}
 use Rattle.token_core.proofs.Steps.{link}
 use Rattle.item_small.specs.declared.item.FieldOf.{FieldOf}
 use Rattle.item_small.specs.item.Promises as promises
-use Rattle.item_small.specs.item.Promises.{FieldFits}
+use Rattle.item_small.specs.item.Promises.{FieldFits, FieldRead, FieldRefused}
 use Rattle.item_small.specs.item.Reading as reading
 use Rattle.item_small.specs.item.Spelling.{IsField, a_field, IsName, a_name}
 use Rattle.item_small.specs.item.Trees.{Colon, field_of}
@@ -81,24 +81,26 @@ module _ {A T : Type 0} (a : Fronting A) (t : Fronting T) where
     parts_fit : both.Fit a Named
     parts_fit clear x l k i o = fits.name l (name_seen x.0 l i.0 i.1)
 
-    pub no_attrs : (s u w : Stream) (e : Refusal) → Fronted a s (Err e) u → Fronted Field s (Err e) w
-    no_attrs s u w e h = refused_alike Parts Field to from alike s w e (both.no_first a Named parts_fit s u w e h)
+    pub no_attrs : (s : Stream) (e : Refusal) → Fronted a s (Err e) s → Fronted Field s (Err e) s
+    no_attrs s e h = refused_alike Parts Field to from alike s e (both.no_first a Named parts_fit s e h)
 
     module _ (s m : Stream) (x : A) (h : Fronted a s (Ok x) m) where
-      pub no_name : (u w : Stream) (e : Refusal) → Fronted name_front m (Err e) u → Fronted Field s (Err e) w
-      no_name u w e g = refused_alike Parts Field to from alike s w e (both.no_second a Named parts_fit s m u w x e h (both.no_first name_front Typed named_fits m u u e g))
+      after_attrs : (e : Refusal) → Fronted Named m (Err e) m → Fronted Field s (Err e) s
+      after_attrs e f = refused_alike Parts Field to from alike s e (both.no_second a Named parts_fit s m x e h f)
+
+      pub no_name : (e : Refusal) → Fronted name_front m (Err e) m → Fronted Field s (Err e) s
+      no_name e g = after_attrs e (both.no_first name_front Typed named_fits m e g)
 
       module _ (n : Stream) (i : Ident) (j : Fronted name_front m (Ok i) n) where
-        pub no_colon : (u w : Stream) (e : Refusal) → Fronted colon_front n (Err e) u → Fronted Field s (Err e) w
-        no_colon u w e g =
-            refused_alike Parts Field to from alike s w e
-            (both.no_second a Named parts_fit s m u w x e h (both.no_second name_front Typed named_fits m n u u i e j (both.no_first colon_front t typed_fits n u u e g)))
+        after_name : (e : Refusal) → Fronted Typed n (Err e) n → Fronted Field s (Err e) s
+        after_name e f = after_attrs e (both.no_second name_front Typed named_fits m n i e j f)
+
+        pub no_colon : (e : Refusal) → Fronted colon_front n (Err e) n → Fronted Field s (Err e) s
+        no_colon e g = after_name e (both.no_first colon_front t typed_fits n e g)
 
         module _ (k : Stream) (c : Colon) (q : Fronted colon_front n (Ok c) k) where
-          pub no_type : (u w : Stream) (e : Refusal) → Fronted t k (Err e) u → Fronted Field s (Err e) w
-          no_type u w e g =
-              refused_alike Parts Field to from alike s w e
-              (both.no_second a Named parts_fit s m u w x e h (both.no_second name_front Typed named_fits m n u u i e j (both.no_second colon_front t typed_fits n k u u c e q g)))
+          pub no_type : (e : Refusal) → Fronted t k (Err e) k → Fronted Field s (Err e) s
+          no_type e g = after_name e (both.no_second colon_front t typed_fits n k c e q g)
 
           pub field_fronted : (u : Stream) (y : T) → Fronted t k (Ok y) u → Follows m u → Follows n u → Follows k u → Fronted Field s (Ok (field_of x i c y)) u
           field_fronted u y g f1 f2 f3 =
@@ -106,3 +108,8 @@ module _ {A T : Type 0} (a : Fronting A) (t : Fronting T) where
               (both.paired a Named parts_fit s m u x (i, (c, y)) h
               (both.paired name_front Typed named_fits m n u i (c, y) j (both.paired colon_front t typed_fits n k u c y q g f3) f2)
               f1)
+
+  -- what a read says, with what it promises on fronts
+  pub as_read : (s u : Stream) (r : Result (FieldOf A T) Refusal) → Parses Field.grammar.reader r s u → (FieldFits a t → Fronted Field s r u) → Parsed (FieldRead a t s) (FieldRefused a t s) r u
+  as_read s u (Ok x) h f = record { gives = h.0; within = h.1; fronts = f }
+  as_read s u (Err e) h f = λ k. record { fails = h.0 k; fronts = f }

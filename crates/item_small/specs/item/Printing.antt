@@ -1,10 +1,14 @@
 -- What an item prints: its parts in their order.
-use Rattle.std.specs.Prelude.{◌++◌}
+use Rattle.std.specs.Prelude.{[], ◌++◌}
 use Rattle.token_core.specs.declared.tree.Delimiter.TheVariants.{Brace}
+use Rattle.token_core.specs.declared.tree.Ident.{Ident}
+use Rattle.token_core.specs.declared.word.Word.{Word}
 use Rattle.token_core.specs.Fronted.{Fronting}
 use Rattle.token_core.specs.Lists.{joined}
+use Rattle.token_core.specs.Marks.{word_of}
 use Rattle.token_core.specs.Prints as p
 use Rattle.token_core.specs.Prints.{Print}
+use Rattle.token_core.specs.Spans.{delim_span, none}
 use Rattle.item_small.specs.declared.item.BodyOf.{BodyOf}
 use Rattle.item_small.specs.declared.item.BodyOf.TheVariants as b
 use Rattle.item_small.specs.declared.item.FieldOf.{FieldOf}
@@ -25,3 +29,15 @@ module _ {A T : Type 0} (a : Fronting A) (t : Fronting T) where
 module _ {A G W T : Type 0} (a : Fronting A) (g : Fronting G) (w : Fronting W) (t : Fronting T) where
   abbrev pub item : ItemOf A G W T → Print
   item x = a.grammar.print x.attrs ++ (p.word x.struct_token ++ (p.ident x.ident ++ (g.grammar.print x.generics ++ (w.grammar.print x.where_clause ++ body a t x.body))))
+
+-- `impl`, which stands nowhere
+abbrev pub impl_word : Word 12
+impl_word = word_of 12 none
+
+-- `for`, which stands nowhere
+abbrev pub for_word : Word 10
+for_word = word_of 10 none
+
+-- The head of an implementation: `impl`, generics, a path, `for`, a name with its arguments, a where clause, and empty braces. It is given what the parts print.
+abbrev pub head : Print → Print → Ident → Print → Print → Print
+head generics path name arguments clause = p.word impl_word ++ (generics ++ (path ++ (p.word for_word ++ (p.ident name ++ (arguments ++ (clause ++ p.group Brace [] (delim_span none none)))))))
