@@ -1,5 +1,6 @@
 //! Structs, over their parts: what stands for their attributes, generics, where clause and types.
 
+pub mod head;
 pub mod print;
 pub mod read;
 

@@ -38,6 +38,10 @@ impl_word = word_of 12 none
 abbrev pub for_word : Word 10
 for_word = word_of 10 none
 
--- The head of an implementation: `impl`, generics, a path, `for`, a name with its arguments, a where clause, and empty braces. It is given what the parts print.
+-- `for`, a name with its arguments, a where clause, and empty braces, which stand nowhere
+abbrev pub target : Ident → Print → Print → Print
+target name arguments clause = p.word for_word ++ (p.ident name ++ (arguments ++ (clause ++ p.group Brace [] (delim_span none none))))
+
+-- The head of an implementation: `impl`, generics, a path, and what it is for. It is given what the parts print.
 abbrev pub head : Print → Print → Ident → Print → Print → Print
-head generics path name arguments clause = p.word impl_word ++ (generics ++ (path ++ (p.word for_word ++ (p.ident name ++ (arguments ++ (clause ++ p.group Brace [] (delim_span none none)))))))
+head generics path name arguments clause = p.word impl_word ++ (generics ++ (path ++ target name arguments clause))

@@ -1,8 +1,6 @@
 //! The head of an implementation is printed.
 
-ghost use Rattle.std.specs.Prelude.{◌≡◌, ◌++◌, OnErr, OnOk};
 ghost use Rattle.token_core.specs.Prints.{Appends};
-ghost use Rattle.token_core.specs.Trees.{trees};
 ghost use Rattle.item_small.specs.item.Printing as printing;
 
 use std::alloc::{AllocError, Global};
@@ -28,10 +26,24 @@ impl<'a, I: ToTokens, P: ToTokens, N: ToTokens, W: ToTokens> ToTokens for Head<'
         Impl::default().append_tokens(alloc, out)?;
         self.generics.append_tokens(alloc, out)?;
         self.trait_path.append_tokens(alloc, out)?;
-        For::default().append_tokens(alloc, out)?;
-        self.ident.append_tokens(alloc, out)?;
-        self.arguments.append_tokens(alloc, out)?;
-        self.where_clause.append_tokens(alloc, out)?;
-        Brace::default().surround(TokenStream::new(alloc), out)
+        append_target(alloc, self.ident, self.arguments, self.where_clause, out)
     }
+}
+
+/// Appends `for`, a name with its arguments, a where clause and empty braces; refused, what stood before is kept.
+#[tactic(auto, using(token_core::proofs::Puts::puts))]
+fn append_target<N: ToTokens, W: ToTokens>(
+    alloc: Global,
+    ident: &Ident,
+    arguments: &N,
+    where_clause: &W,
+    out: &mut TokenStream,
+) -> Result<(), AllocError>
+    ensures appends { Appends (printing.target ident.now (N.print arguments.now) (W.print where_clause.now)) result out.old out.new }
+{
+    For::default().append_tokens(alloc, out)?;
+    ident.append_tokens(alloc, out)?;
+    arguments.append_tokens(alloc, out)?;
+    where_clause.append_tokens(alloc, out)?;
+    Brace::default().surround(TokenStream::new(alloc), out)
 }

@@ -1,7 +1,7 @@
 //! Items are read.
 
 ghost use Rattle.std.specs.Prelude.{◌≡◌, true};
-ghost use Rattle.token_core.specs.declared.tree.Delimiter.TheVariants.{Brace};
+ghost use Rattle.token_core.specs.declared.tree.Delimiter.TheVariants as delimiter;
 ghost use Rattle.token_core.specs.Fronted.{Fronted};
 ghost use Rattle.token_core.specs.Reads.{Parses, sees_group};
 ghost use Rattle.item_small.specs.item.Promises as promises;
@@ -56,7 +56,7 @@ fn parse_named<A: Part, T: Part>(
     input: &mut ParseStream<'_>,
 ) -> Result<BodyOf<A, T>, Error>
     ensures parses { Parses (reading.named A.front.grammar.reader T.front.grammar.reader) result input.old input.new }
-    ensures fronts { sees_group Brace input.old.rest ≡ true → FieldFits A.front T.front → Fronted (promises.body A.front T.front) input.old result input.new }
+    ensures fronts { sees_group delimiter.Brace input.old.rest ≡ true → FieldFits A.front T.front → Fronted (promises.body A.front T.front) input.old result input.new }
 {
     let (brace_token, mut content) = input.braced(alloc)?;
     let fields = Punctuated::parse_terminated(alloc, &mut content)?;
