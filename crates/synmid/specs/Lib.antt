@@ -1,4 +1,5 @@
 pub mod Faults
+pub mod Items
 pub mod Readers
 pub mod Run
 pub mod Within

@@ -32,13 +32,15 @@ use Rattle.syn_ty.specs.path.Paths as path
 use Rattle.syn_sample.specs.contracts.sample.SampleSubtree.TheImpl.{reads-value, spells-value, normal-value, prints-value}
 use Rattle.syn_sample.specs.declared.sample.Sample.{Sample}
 use Rattle.synmid.specs.declared.reader.Reader.{Reader}
-use Rattle.synmid.specs.declared.reader.Reader.TheVariants.{Macro, ModStyle, Meta, MetaList, MetaNameValue, Outer, Inner, PointerMutability, Types, Paths, Generics, Patterns}
+use Rattle.synmid.specs.declared.reader.Reader.TheVariants.{Macro, ModStyle, Meta, MetaList, MetaNameValue, Outer, Inner, PointerMutability, Types, Paths, Generics, Items, Patterns}
 use Rattle.synmid.specs.declared.reader.PatternReader.{PatternReader}
 use Rattle.synmid.specs.declared.reader.PatternReader.TheVariants as q
 use Rattle.syn_readers.specs.Readers.{Category, of_grammar, TypesTree, PathsTree, GenericsTree, types_named, paths_named, generics_named, types_category, paths_category, generics_category}
 use Rattle.syn_readers.specs.declared.reader.TypeReader.{TypeReader}
 use Rattle.syn_readers.specs.declared.reader.PathReader.{PathReader}
 use Rattle.syn_readers.specs.declared.reader.GenericsReader.{GenericsReader}
+use Rattle.synmid.specs.Items.{ItemsTree, items_category, items_named}
+use Rattle.synmid.specs.declared.items.ItemReader.{ItemReader}
 
 abbrev pub patterns_named : Bytes → Option PatternReader
 patterns_named name =
@@ -49,17 +51,21 @@ patterns_named name =
     else (if bytes_eq name (codes "PatType") then Some q.Typed
     else None))))
 
--- of the readers of types, paths, generics and patterns, the one of this name
+-- of the readers of types, paths, generics, items and patterns, the one of this name
 abbrev pub patterns_reader : Option PatternReader → Option Reader
 patterns_reader = option_map Patterns
 
-abbrev pub or_patterns : Bytes → Option GenericsReader → Option Reader
-or_patterns name (Some r) = Some (Generics r)
+abbrev pub or_patterns : Bytes → Option ItemReader → Option Reader
+or_patterns name (Some r) = Some (Items r)
 or_patterns name None = patterns_reader (patterns_named name)
+
+abbrev pub or_items : Bytes → Option GenericsReader → Option Reader
+or_items name (Some r) = Some (Generics r)
+or_items name None = or_patterns name (items_named name)
 
 abbrev pub or_generics : Bytes → Option PathReader → Option Reader
 or_generics name (Some r) = Some (Paths r)
-or_generics name None = or_patterns name (generics_named name)
+or_generics name None = or_items name (generics_named name)
 
 abbrev pub or_paths : Bytes → Option TypeReader → Option Reader
 or_paths name (Some r) = Some (Types r)
@@ -123,6 +129,7 @@ Tree PointerMutability = mutability.PointerMutability
 Tree (Types r) = TypesTree (Attribute Sample) (Expr Sample) r
 Tree (Paths r) = PathsTree (Attribute Sample) (Expr Sample) r
 Tree (Generics r) = GenericsTree (Attribute Sample) (Expr Sample) r
+Tree (Items r) = ItemsTree (Attribute Sample) (Expr Sample) r
 Tree (Patterns r) = PatternsTree Sample r
 
 abbrev pub category : (r : Reader) → Category (Tree r)
@@ -137,6 +144,7 @@ category PointerMutability = of_grammar tokens.mutability
 category (Types r) = types_category sample_attributes sample_values attributes_spelt sample_spelt (normal.attributes normal-value.it) (normal_values_of normal-value.it) (outer prints-value.it) (values_of prints-value.it) r
 category (Paths r) = paths_category sample_attributes sample_values attributes_spelt sample_spelt (normal.attributes normal-value.it) (normal_values_of normal-value.it) (outer prints-value.it) (values_of prints-value.it) r
 category (Generics r) = generics_category sample_attributes sample_values attributes_spelt sample_spelt (normal.attributes normal-value.it) (normal_values_of normal-value.it) (outer prints-value.it) (values_of prints-value.it) r
+category (Items r) = items_category sample_attributes sample_values attributes_spelt sample_spelt (normal.attributes normal-value.it) (normal_values_of normal-value.it) (outer prints-value.it) (values_of prints-value.it) r
 category (Patterns r) = patterns_category reads-value.it spells-value.it normal-value.it prints-value.it r
 
 -- what attributes print, one after the other

@@ -6,6 +6,7 @@ ghost use Rattle.synmid.specs.declared.fault.Fault.{Fault};
 
 mod channel;
 mod fault;
+mod items;
 mod reader;
 mod run;
 mod within;
