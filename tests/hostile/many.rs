@@ -15,10 +15,12 @@ ghost use Rattle.std.specs.Prelude.{};
 
 mod channel;
 mod fault;
+mod items;
 mod reader;
 mod run;
 
 use channel::{Plain, Source};
+use items::ItemReader;
 use reader::Reader;
 use std::alloc::{AllocError, Global};
 use std::fmt::Write as _;
@@ -292,6 +294,7 @@ fn is_view(reader: Reader) -> bool {
     match reader {
         Reader::Generics(GenericsReader::TypeGenerics) => true,
         Reader::Generics(GenericsReader::Turbofish) => true,
+        Reader::Items(ItemReader::Head) => true,
         _ => false,
     }
 }

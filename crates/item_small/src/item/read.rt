@@ -29,7 +29,6 @@ impl<A: Part, T: Part> Parse for FieldOf<A, T> {
 }
 
 /// A field.
-#[tactic(auto, using(token_core::proofs::Suffixes::follows))]
 fn parse_field<A: Part, T: Part>(
     alloc: Global,
     input: &mut ParseStream<'_>,
@@ -50,7 +49,6 @@ fn parse_field<A: Part, T: Part>(
 }
 
 /// Fields in braces, which hold nothing else.
-#[tactic(auto, using(token_core::proofs::Suffixes::follows))]
 fn parse_named<A: Part, T: Part>(
     alloc: Global,
     input: &mut ParseStream<'_>,
@@ -83,7 +81,6 @@ fn parse_body<A: Part, T: Part>(
 }
 
 /// Reads a struct of any parts: attributes, `struct`, a name, generics, a where clause and a body.
-#[tactic(auto, using(token_core::proofs::Suffixes::follows))]
 pub fn parse_item<A: Part, G: Part, W: Part, T: Part>(
     alloc: Global,
     input: &mut ParseStream<'_>,
