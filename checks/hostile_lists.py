@@ -340,6 +340,15 @@ class Makes:
     def clause(self):
         return f"where {self.many(self.predicate, ',')}"
 
+    # ---- structs
+
+    def struct_field(self, d=1):
+        return f"{self.attributes()} {self.name()} : {self.type(d)}"
+
+    def struct(self):
+        body = lambda: f"{{ {self.many(self.struct_field, ',')} }}"
+        return f"{self.attributes()} struct {self.name()} {self.may(self.generics, 0.5)} {self.may(self.clause)} {self.one(';', body, body)}"
+
     # ---- patterns
 
     def bound_of_range(self):
@@ -542,6 +551,12 @@ class Makes:
     def of_WherePredicate(self):
         return self.predicate(2)
 
+    def of_StructItem(self):
+        return self.struct()
+
+    def of_ImplHead(self):
+        return self.struct()
+
     def of_Pat__parse_single(self):
         return self.single(3)
 
@@ -593,6 +608,8 @@ SHAPES = {
     "predicates": ("WhereClause", "where A: B,", "", "", 4),
     "attributes of a parameter": ("GenericParam", "#[a] ", "T", "", 3),
     "inputs of a function pointer": ("Type", "fn(a: A,", "", ")", 4),
+    "fields of a struct": ("StructItem", "struct S {a: A,", "", "}", 4),
+    "attributes of a field": ("StructItem", "struct S {#[a] ", "b: A", "}", 3),
     "nested patterns": ("Pat::parse_multi", "(", "x", ")", 2),
     "patterns of tuples": ("Pat::parse_multi", "A(", "x", ")", 3),
     "alternatives": ("Pat::parse_multi", "A | ", "A", "", 2),
@@ -622,6 +639,8 @@ ONCE = {
     "lifetimes of a binder": "for<",
     "predicates": "where ",
     "inputs of a function pointer": "fn(",
+    "fields of a struct": "struct S {",
+    "attributes of a field": "struct S {",
     "fields": "S {",
 }
 

@@ -79,6 +79,8 @@ mod stream_tests;
 #[cfg(test)]
 mod string_tests;
 #[cfg(test)]
+mod struct_tests;
+#[cfg(test)]
 mod supplied_tests;
 #[cfg(test)]
 mod text_tests;

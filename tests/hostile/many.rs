@@ -21,6 +21,7 @@ use std::time::Instant;
 use std::{env, io};
 use syn_readers::reader::GenericsReader;
 use syn_run::channel::{Plain, Source};
+use syn_run::items::ItemReader;
 use syn_run::reader::Reader;
 use syn_sample::sample::Sample;
 use token_core::{
@@ -288,6 +289,7 @@ fn is_view(reader: Reader) -> bool {
     match reader {
         Reader::Generics(GenericsReader::TypeGenerics) => true,
         Reader::Generics(GenericsReader::Turbofish) => true,
+        Reader::Items(ItemReader::Head) => true,
         _ => false,
     }
 }

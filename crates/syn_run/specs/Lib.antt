@@ -1,6 +1,7 @@
 pub mod Calls
 pub mod Complaint
 pub mod Faults
+pub mod Items
 pub mod Readers
 pub mod Run
 pub mod Within

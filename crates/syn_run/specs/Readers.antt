@@ -30,13 +30,15 @@ use Rattle.syn_path.specs.mac.Grammars as macs
 use Rattle.syn_path.specs.path.Grammars as paths
 use Rattle.syn_ty.specs.path.Paths as path
 use Rattle.syn_run.specs.declared.reader.Reader.{Reader}
-use Rattle.syn_run.specs.declared.reader.Reader.TheVariants.{Macro, ModStyle, Meta, MetaList, MetaNameValue, Outer, Inner, PointerMutability, Types, Paths, Generics, Patterns}
+use Rattle.syn_run.specs.declared.reader.Reader.TheVariants.{Macro, ModStyle, Meta, MetaList, MetaNameValue, Outer, Inner, PointerMutability, Types, Paths, Generics, Items, Patterns}
 use Rattle.syn_run.specs.declared.reader.PatternReader.{PatternReader}
 use Rattle.syn_run.specs.declared.reader.PatternReader.TheVariants as q
 use Rattle.syn_readers.specs.Readers.{Category, of_grammar, TypesTree, PathsTree, GenericsTree, types_named, paths_named, generics_named, types_category, paths_category, generics_category}
 use Rattle.syn_readers.specs.declared.reader.TypeReader.{TypeReader}
 use Rattle.syn_readers.specs.declared.reader.PathReader.{PathReader}
 use Rattle.syn_readers.specs.declared.reader.GenericsReader.{GenericsReader}
+use Rattle.syn_run.specs.Items.{ItemsTree, items_category, items_named}
+use Rattle.syn_run.specs.declared.items.ItemReader.{ItemReader}
 
 abbrev pub patterns_named : Bytes → Option PatternReader
 patterns_named name =
@@ -47,17 +49,21 @@ patterns_named name =
     else (if bytes_eq name (codes "PatType") then Some q.Typed
     else None))))
 
--- of the readers of types, paths, generics and patterns, the one of this name
+-- of the readers of types, paths, generics, items and patterns, the one of this name
 abbrev pub patterns_reader : Option PatternReader → Option Reader
 patterns_reader = option_map Patterns
 
-abbrev pub or_patterns : Bytes → Option GenericsReader → Option Reader
-or_patterns name (Some r) = Some (Generics r)
+abbrev pub or_patterns : Bytes → Option ItemReader → Option Reader
+or_patterns name (Some r) = Some (Items r)
 or_patterns name None = patterns_reader (patterns_named name)
+
+abbrev pub or_items : Bytes → Option GenericsReader → Option Reader
+or_items name (Some r) = Some (Generics r)
+or_items name None = or_patterns name (items_named name)
 
 abbrev pub or_generics : Bytes → Option PathReader → Option Reader
 or_generics name (Some r) = Some (Paths r)
-or_generics name None = or_patterns name (generics_named name)
+or_generics name None = or_items name (generics_named name)
 
 abbrev pub or_paths : Bytes → Option TypeReader → Option Reader
 or_paths name (Some r) = Some (Types r)
@@ -107,6 +113,7 @@ Tree X PointerMutability = mutability.PointerMutability
 Tree X (Types r) = TypesTree (Attribute X) (Expr X) r
 Tree X (Paths r) = PathsTree (Attribute X) (Expr X) r
 Tree X (Generics r) = GenericsTree (Attribute X) (Expr X) r
+Tree X (Items r) = ItemsTree (Attribute X) (Expr X) r
 Tree X (Patterns r) = PatternsTree X r
 
 -- what attributes print, one after the other
@@ -141,4 +148,5 @@ module _ {X : Type 0} (reads : Place → R X) (spells : Place → X → Toks →
   category (Types r) = types_category read_attributes read_values spelt_attributes spelt_values (normal.attributes normals) (normal_values_of normals) (outer prints) (values_of prints) r
   category (Paths r) = paths_category read_attributes read_values spelt_attributes spelt_values (normal.attributes normals) (normal_values_of normals) (outer prints) (values_of prints) r
   category (Generics r) = generics_category read_attributes read_values spelt_attributes spelt_values (normal.attributes normals) (normal_values_of normals) (outer prints) (values_of prints) r
+  category (Items r) = items_category read_attributes read_values spelt_attributes spelt_values (normal.attributes normals) (normal_values_of normals) (outer prints) (values_of prints) r
   category (Patterns r) = patterns_category reads spells normals prints r

@@ -5,6 +5,7 @@ pub mod call;
 pub mod channel;
 pub mod complaint;
 pub mod fault;
+pub mod items;
 pub mod reader;
 pub mod run;
 pub mod within;

@@ -11,6 +11,7 @@ ghost use Rattle.token_core.specs.Reads.{Fails, Follows, Parsed};
 ghost use Rattle.token_core.specs.Trees.{toks, trees};
 ghost use Rattle.syn_run.specs.Readers as spec;
 
+use crate::items::ItemReader;
 use std::alloc::{AllocError, Global};
 use std::marker::PhantomData;
 use syn_attr::attr::{Attribute, Meta, MetaList, MetaNameValue};
@@ -48,6 +49,7 @@ pub enum Reader {
     Types(TypeReader),
     Paths(PathReader),
     Generics(GenericsReader),
+    Items(ItemReader),
     Patterns(PatternReader),
 }
 
@@ -77,7 +79,7 @@ impl Reader {
         }
     }
 
-    /// Of the readers of types, paths, generics and patterns, the one of this name.
+    /// Of the readers of types, paths, generics, items and patterns, the one of this name.
     fn of_types(name: &str) -> Option<Reader>
         ensures { result ≡ spec.of_types name.now }
     {
@@ -89,6 +91,9 @@ impl Reader {
         }
         if let Some(reader) = GenericsReader::named(name) {
             return Some(Reader::Generics(reader));
+        }
+        if let Some(reader) = ItemReader::named(name) {
+            return Some(Reader::Items(reader));
         }
         match PatternReader::named(name) {
             Some(reader) => Some(Reader::Patterns(reader)),
@@ -131,6 +136,9 @@ impl Reader {
                 reader.reprint_over::<Attribute<X>, Expr<X>>(alloc, scope, tokens)
             }
             Reader::Generics(reader) => {
+                reader.reprint_over::<Attribute<X>, Expr<X>>(alloc, scope, tokens)
+            }
+            Reader::Items(reader) => {
                 reader.reprint_over::<Attribute<X>, Expr<X>>(alloc, scope, tokens)
             }
             Reader::Patterns(reader) => reader.reprint_over::<X>(alloc, scope, tokens),

@@ -39,3 +39,6 @@ returns-in-Generics g c = rw c.in-Generics.is c.reprint_over-in-Generics.ensures
 
 pub returns-in-Patterns : goal.returns-in-Patterns
 returns-in-Patterns g c = rw c.in-Patterns.is c.reprint_over-in-Patterns.ensures
+
+pub returns-in-Items : goal.returns-in-Items
+returns-in-Items c = rw c.in-Items.is c.reprint_over-in-Items.ensures

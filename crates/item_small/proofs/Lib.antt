@@ -1,0 +1,3 @@
+pub mod front_laws
+pub mod item_laws
+pub mod part_laws

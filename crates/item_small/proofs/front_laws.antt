@@ -1,0 +1,5 @@
+pub mod Both
+pub mod Heads
+pub mod Same
+pub mod Tokens
+pub mod Refused

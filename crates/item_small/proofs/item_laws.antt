@@ -1,0 +1,5 @@
+pub mod Bodies
+pub mod Ends
+pub mod Fields
+pub mod Items
+pub mod Single

@@ -1,0 +1,113 @@
+-- The fronts of a struct's parts: attributes keep theirs, by the laws of the trait; and each part fits before the next.
+use Rattle.std.specs.Prelude.{not}
+use Rattle.std.proofs.Common.{◌≡◌, ◌||◌, ◌⊎◌, inl, inr, Bool, true, false, List, [], Option, Some, None, Result, Ok, refl, sym, ◌∙◌, ap, subst}
+use Rattle.token_core.specs.declared.tree.Delimiter.TheVariants.{Brace}
+use Rattle.token_core.specs.Fronted.{Fronted, FrontLaws}
+use Rattle.token_core.specs.Marks.{text_of}
+use Rattle.token_core.specs.Prints.{Print}
+use Rattle.token_core.specs.Reads.{Reader, Reads, is_done, is_ident, is_text, past, sees_group, sees_mark, sees_word}
+use Rattle.token_core.specs.Refusal.{Refusal}
+use Rattle.token_core.specs.Stream.{Stream}
+use Rattle.token_core.specs.Tokens as token
+use Rattle.token_core.specs.Toks.{Bytes, Toks, done, word, mark, lit, group, enter, leave}
+use Rattle.token_core.proofs.Fronteds.{fronted}
+use Rattle.token_core.proofs.Unseen.{word_no_mark}
+use Rattle.token_core.proofs.WordSpells.{word_seen}
+use Rattle.syn_path.specs.Lengths.{AttributeLaws}
+use Rattle.syn_path.specs.Values.{NormalValues, ReadValues, SpelledValues, Values}
+use Rattle.syn_path.specs.Whole.{AttributesMeet}
+use Rattle.syn_generics.specs.declared.generics.WhereClauseOf.{WhereClauseOf}
+use Rattle.syn_generics.specs.generics.Clauses.{a_where_clause}
+use Rattle.syn_generics.specs.generics.Promises.{follows_clause, follows_generics}
+use Rattle.syn_generics.specs.generics.Spelt.{BeginsOptionalClause}
+use Rattle.syn_ty.specs.ty.Parts.{Manner}
+use Rattle.syn_ty.specs.ty.Spelling.{absent, present}
+use Rattle.item_small.specs.item.Promises.{begins_body, FieldFits, Fits}
+use Rattle.item_small.specs.part.Fronts as fronts
+
+not_pound : (k : Toks) → token.sees_pound k ≡ false → not (token.sees_pound k) ≡ true
+not_pound k h = ap not h
+
+no_pound : (k : Toks) → not (token.sees_pound k) ≡ true → token.sees_pound k ≡ false
+no_pound k h = turned (token.sees_pound k) h
+  where
+    turned : (b : Bool) → not b ≡ true → b ≡ false
+    turned true h = cc h
+    turned false h = refl
+
+module _ {A : Type 0} {reads : Reader (List A)} {spells : Bool → List A → Toks → Toks → Type 0} {normal : List A → List A} {shown : List A → Print} (told : AttributeLaws reads spells) (met : AttributesMeet reads spells normal shown) where
+  attrs_laws : FrontLaws (fronts.attrs reads spells normal shown)
+  attrs_laws = record {
+    sound = λ s t x n v e c. let h = told.took s t x v e in (h.seen, λ o. h.spelt c);
+    complete = λ s x k n v i o. let h = met.met s x k i (no_pound k o) in (past s k h.last, h.reads, refl, n);
+    spells = λ x l r k i p o. (met.reprint x l r i).again k;
+    visible = λ x l r k i v p u o. (met.reprint x l r i).visible k v u;
+    stays = λ x l r i p. (met.reprint x l r i).stays;
+    same = λ x l r i p. (met.reprint x l r i).same;
+  }
+
+  pub attrs_fronted : (s t : Stream) (r : Result (List A) Refusal) → Reads (reads s) r t → Fronted (fronts.attrs reads spells normal shown) s r t
+  attrs_fronted s t r h = fronted (fronts.attrs reads spells normal shown) attrs_laws s t r h
+
+-- ---- each before the next
+
+-- where a mark is seen, the list goes on
+mark_goes : (l : Toks) → token.sees_pound l ≡ true → is_done l ≡ false
+unfolding sees_mark is_done
+mark_goes done h = cc h
+mark_goes (word i k) h = refl
+mark_goes (mark p k) h = refl
+mark_goes (lit x k) h = refl
+mark_goes (group d s c k) h = refl
+mark_goes (enter s k) h = mark_goes k h
+mark_goes (leave k) h = mark_goes k h
+
+starts_at : (l k : Toks) → (l ≡ k) ⊎ (token.sees_pound l ≡ true) → is_done k ≡ false → is_done l ≡ false
+starts_at l k (inl e) h = ap is_done e ∙ h
+starts_at l k (inr e) h = mark_goes l e
+
+before_word : (test : Bytes → Bool) (k : Toks) → sees_word test k ≡ true → not (token.sees_pound k) ≡ true
+before_word test k h = not_pound k (word_no_mark test 35 [] k h)
+
+either : (a b c : Bool) → a || b ≡ true → c || (b || a) ≡ true
+either true true true h = refl
+either true true false h = refl
+either true false true h = refl
+either true false false h = refl
+either false true true h = refl
+either false true false h = refl
+either false false c h = cc h
+
+body_follows : (k : Toks) → begins_body k ≡ true → follows_clause k ≡ true
+body_follows k h = either (sees_group Brace k) (token.sees_semi k) (is_done k) h
+
+follows_on : (a b : Bool) → b ≡ true → a || b ≡ true
+follows_on true b h = refl
+follows_on false b h = h
+
+follows_word : (a b : Bool) → a ≡ true → a || b ≡ true
+follows_word true b h = refl
+follows_word false b h = cc h
+
+module _ {A E : Type 0} (attrs : Bool → List A → Toks → Toks → Type 0) (values : SpelledValues E) where
+  clause_follows : (how : Manner) (x : Option (WhereClauseOf A E)) (l k : Toks) → BeginsOptionalClause attrs values how x l k → begins_body k ≡ true → follows_generics l ≡ true
+  clause_follows how x l k (n, absent) h = follows_on (token.sees_where l) (follows_clause l) (body_follows l h)
+  clause_follows how x l k (n, present (a_where_clause {q = q} {m = m} w g i)) h = follows_word (token.sees_where l) (follows_clause l) (word_seen q l m w)
+
+module _ {A E : Type 0} {read_attrs : Reader (List A)} (reads : ReadValues E) {spelt_attrs : Bool → List A → Toks → Toks → Type 0} (spells : SpelledValues E)
+    {normal_attrs : List A → List A} (normals : NormalValues E) {shown_attrs : List A → Print} (prints : Values E) (met : AttributesMeet read_attrs spelt_attrs normal_attrs shown_attrs) where
+  pub field_fits : FieldFits (fronts.attributes read_attrs reads spelt_attrs spells normal_attrs normals shown_attrs prints) (fronts.ty read_attrs reads spelt_attrs spells normal_attrs normals shown_attrs prints)
+  field_fits = record {
+    starts = λ x l k i h. starts_at l k (met.begins x l k i) h;
+    name = λ k h. before_word is_ident k h;
+    ends = λ k h. h;
+  }
+
+  pub fits : Fits (fronts.attributes read_attrs reads spelt_attrs spells normal_attrs normals shown_attrs prints) (fronts.generics read_attrs reads spelt_attrs spells normal_attrs normals shown_attrs prints)
+      (fronts.clause read_attrs reads spelt_attrs spells normal_attrs normals shown_attrs prints) (fronts.ty read_attrs reads spelt_attrs spells normal_attrs normals shown_attrs prints)
+  fits = record {
+    field = field_fits;
+    word = λ k h. before_word (is_text (text_of 43)) k h;
+    clause = λ clear x l k i h. clause_follows spelt_attrs spells _ x l k i h;
+    body = body_follows;
+  }
