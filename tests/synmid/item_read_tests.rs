@@ -1,0 +1,47 @@
+//! What structs that are read from text print, and the heads of implementations for them.
+//!
+//! A test calls and does not branch, as docs/GATE.md says.
+
+use crate::answers::says;
+use crate::items::ItemReader;
+use crate::reader::Reader;
+use std::alloc::Global;
+use token_core::Error;
+use token_text::{lex, text_of};
+
+/// What all of a text prints once it is read.
+fn read(alloc: Global, reader: ItemReader, text: &str) -> Result<String, Error> {
+    let tokens = lex(alloc, text)?;
+    let print = Reader::Items(reader).reprint(alloc, tokens)?;
+    Ok(text_of(alloc, &print)?)
+}
+
+#[test]
+fn structs_are_read(rt: HostRuntime) {
+    let alloc = rt.alloc();
+    for (text, wanted) in [
+        ("struct A;", "struct A ;"),
+        ("#[a] struct A<B, 'c> {}", "# [a] struct A < 'c , B , > { }"),
+        ("struct A where { a: B }", "struct A { a : B }"),
+        (
+            "struct A where B: C { #[d] e: F, g: [H; 1 + i], }",
+            "struct A where B : C { # [d] e : F , g : [H ; 1 + i] , }",
+        ),
+    ] {
+        says(&rt, alloc, read(alloc, ItemReader::Struct, text), wanted);
+    }
+}
+
+#[test]
+fn heads_are_read(rt: HostRuntime) {
+    let alloc = rt.alloc();
+    for (text, wanted) in [
+        ("struct A;", "impl Marker for A { }"),
+        (
+            "struct A<B: C = D, 'e> where F: G { h: I }",
+            "impl < 'e , B : C , > Marker for A < 'e , B , > where F : G { }",
+        ),
+    ] {
+        says(&rt, alloc, read(alloc, ItemReader::Head, text), wanted);
+    }
+}
