@@ -3,16 +3,17 @@
 //! A test calls and does not branch, as docs/GATE.md says.
 
 use crate::answers::says;
-use crate::items::ItemReader;
-use crate::reader::Reader;
 use std::alloc::Global;
-use token_core::Error;
+use syn_run::items::ItemReader;
+use syn_run::reader::Reader;
+use syn_sample::sample::Sample;
+use token_core::{Error, Span};
 use token_text::{lex, text_of};
 
 /// What all of a text prints once it is read.
 fn read(alloc: Global, reader: ItemReader, text: &str) -> Result<String, Error> {
     let tokens = lex(alloc, text)?;
-    let print = Reader::Items(reader).reprint(alloc, tokens)?;
+    let print = Reader::Items(reader).reprint::<Sample>(alloc, Span::none(), tokens)?;
     Ok(text_of(alloc, &print)?)
 }
 
