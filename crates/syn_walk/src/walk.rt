@@ -1,0 +1,83 @@
+//! The types, paths and lifetimes in a tree, in order of writing.
+
+pub mod add;
+
+ghost use Rattle.std.specs.Prelude.{◌≡◌, ◌++◌, OnOk, IfOk};
+ghost use Rattle.syn_walk.specs.walk.Nodes as spec;
+ghost use Rattle.syn_walk.specs.walk.Nodes.{Visits, seen};
+
+use crate::walk::add::{add_bound, add_param, add_path, add_type};
+use std::alloc::{AllocError, Global};
+use syn_path::path::{ModPath, PathOf};
+use syn_ty::generics::{GenericParamOf, TypeParamBoundOf};
+use syn_ty::path::PathArgumentsOf;
+use syn_ty::ty::TypeOf;
+use token_core::{Items, Lifetime};
+
+/// A node of a tree.
+#[derive(Clone, Copy)]
+pub enum Node<'a, A, E> {
+    Type(&'a TypeOf<A, E>),
+    /// The path of a type or a bound.
+    Path(&'a PathOf<PathArgumentsOf<A, E>>),
+    /// The path of a macro call in the place of a type.
+    MacroPath(&'a ModPath),
+    Lifetime(&'a Lifetime),
+}
+
+/// A tree that has nodes.
+pub trait Walk<A, E> {
+    /// Its nodes, in order of writing.
+    ghost visits: { Self → Visits A E };
+
+    /// Appends its nodes. Refused for want of memory, some of them may be there.
+    fn add_nodes<'a>(&'a self, out: &mut Items<Node<'a, A, E>>) -> Result<(), AllocError>
+        ensures { OnOk result (seen out.new ≡ seen out.old ++ visits self.now) };
+}
+
+/// The nodes of a tree in order of writing: each type, itself too, before what it holds; each path of a type or a bound, before its
+/// arguments and after the type that qualifies it; the path of each macro call in the place of a type; each lifetime.
+///
+/// What attributes, expressions, macro calls and tokens held as written hold is not looked into. It is refused for want of memory alone.
+pub fn nodes<A, E, T: Walk<A, E>>(
+    alloc: Global,
+    tree: &T,
+) -> Result<Items<Node<'_, A, E>>, AllocError>
+    ensures { IfOk result (λ nodes. seen nodes ≡ T.visits tree.now) }
+{
+    let mut out = Items::new(alloc);
+    tree.add_nodes(&mut out)?;
+    Ok(out)
+}
+
+impl<A, E> Walk<A, E> for TypeOf<A, E> {
+    ghost visits = { spec.ty };
+
+    fn add_nodes<'a>(&'a self, out: &mut Items<Node<'a, A, E>>) -> Result<(), AllocError> {
+        add_type(self, out)
+    }
+}
+
+impl<A, E> Walk<A, E> for PathOf<PathArgumentsOf<A, E>> {
+    ghost visits = { spec.path };
+
+    fn add_nodes<'a>(&'a self, out: &mut Items<Node<'a, A, E>>) -> Result<(), AllocError> {
+        add_path(self, out)
+    }
+}
+
+impl<A, E> Walk<A, E> for TypeParamBoundOf<A, E> {
+    ghost visits = { spec.bound };
+
+    fn add_nodes<'a>(&'a self, out: &mut Items<Node<'a, A, E>>) -> Result<(), AllocError> {
+        add_bound(self, out)
+    }
+}
+
+impl<A, E> Walk<A, E> for GenericParamOf<A, E> {
+    ghost visits = { spec.param };
+
+    fn add_nodes<'a>(&'a self, out: &mut Items<Node<'a, A, E>>) -> Result<(), AllocError> {
+        add_param(self, out)
+    }
+}
