@@ -21,8 +21,8 @@ use Rattle.syn_ty.specs.declared.ty.ReturnTypeOf.TheVariants as r
 use Rattle.syn_ty.specs.declared.ty.TypeReferenceOf.{TypeReferenceOf}
 use Rattle.syn_ty.specs.generics.Params.{Eq}
 use Rattle.syn_ty.specs.ty.Trees.{Family, GenericParam, TypeParamBound, GenericArgument, PathArguments, TypeTree, TraitBound, TypeParam, AssocType, Constraint, TypeFnPtr, TypePath, Path}
-use Rattle.syn_walk.specs.declared.walk.Node.{Node}
-use Rattle.syn_walk.specs.declared.walk.Node.TheVariants as n
+use Rattle.syn_walk.specs.declared.walk.NodeOf.{NodeOf}
+use Rattle.syn_walk.specs.declared.walk.NodeOf.TheVariants as n
 
 -- a node
 pub data Visited (A E : Type 0) : Type 0 where
@@ -35,13 +35,13 @@ abbrev pub Visits : Type 0 → Type 0 → Type 0
 Visits A E = List (Visited A E)
 
 -- what a node lends
-abbrev pub saw : {A E : Type 0} → Node A E → Visited A E
+abbrev pub saw : {A E : Type 0} → NodeOf A E → Visited A E
 saw (n.«Type» t) = a_type t.now
 saw (n.Path p) = a_path p.now
 saw (n.MacroPath p) = a_macro_path p.now
 saw (n.Lifetime l) = a_lifetime l.now
 
-abbrev pub seen : {A E : Type 0} → List (Node A E) → Visits A E
+abbrev pub seen : {A E : Type 0} → List (NodeOf A E) → Visits A E
 seen l = map saw l
 
 -- one layer of a tree, each tree within beside what is in it

@@ -5,7 +5,7 @@ ghost use Rattle.token_core.specs.Prints.{each};
 ghost use Rattle.syn_walk.specs.walk.Nodes as spec;
 ghost use Rattle.syn_walk.specs.walk.Nodes.{seen};
 
-use crate::walk::Node;
+use crate::walk::NodeOf;
 use std::alloc::AllocError;
 use syn_path::path::PathOf;
 use syn_ty::generics::{
@@ -27,11 +27,11 @@ use token_core::{Items, Lifetime, Punctuated};
 #[tactic(auto, using(crate::proofs::Walks::walks))]
 pub(crate) fn add_type<'a, A, E>(
     ty: &'a TypeOf<A, E>,
-    out: &mut Items<Node<'a, A, E>>,
+    out: &mut Items<NodeOf<'a, A, E>>,
 ) -> Result<(), AllocError>
     ensures { OnOk result (seen out.new ≡ seen out.old ++ spec.ty ty.now) }
 {
-    out.push(Node::Type(ty))?;
+    out.push(NodeOf::Type(ty))?;
     add_parts(ty, out)
 }
 
@@ -40,7 +40,7 @@ pub(crate) fn add_type<'a, A, E>(
 #[tactic(auto, using(crate::proofs::Walks::walks))]
 fn add_parts<'a, A, E>(
     ty: &'a TypeOf<A, E>,
-    out: &mut Items<Node<'a, A, E>>,
+    out: &mut Items<NodeOf<'a, A, E>>,
 ) -> Result<(), AllocError>
     ensures { OnOk result (seen out.new ≡ seen out.old ++ spec.inside ty.now) }
 {
@@ -50,7 +50,7 @@ fn add_parts<'a, A, E>(
         TypeOf::Group(group) => add_type(group.elem.get(), out),
         TypeOf::ImplTrait(opaque) => add_bounds(&opaque.bounds, out),
         TypeOf::Infer(_) | TypeOf::Never(_) | TypeOf::Verbatim(_) => Ok(()),
-        TypeOf::Macro(call) => out.push(Node::MacroPath(&call.mac.path)),
+        TypeOf::Macro(call) => out.push(NodeOf::MacroPath(&call.mac.path)),
         TypeOf::Paren(paren) => add_type(paren.elem.get(), out),
         TypeOf::Path(path) => add_path_type(path, out),
         TypeOf::Ptr(ptr) => add_type(ptr.elem.get(), out),
@@ -65,7 +65,7 @@ fn add_parts<'a, A, E>(
 #[tactic(auto, using(crate::proofs::Walks::walks))]
 fn add_types<'a, A, E>(
     types: &'a Punctuated<TypeOf<A, E>, Comma>,
-    out: &mut Items<Node<'a, A, E>>,
+    out: &mut Items<NodeOf<'a, A, E>>,
 ) -> Result<(), AllocError>
     ensures { OnOk result (seen out.new ≡ seen out.old ++ each spec.ty types.now.0) }
 {
@@ -79,12 +79,12 @@ fn add_types<'a, A, E>(
 #[tactic(auto, using(crate::proofs::Walks::walks))]
 fn add_reference<'a, A, E>(
     reference: &'a TypeReferenceOf<TypeOf<A, E>, A>,
-    out: &mut Items<Node<'a, A, E>>,
+    out: &mut Items<NodeOf<'a, A, E>>,
 ) -> Result<(), AllocError>
     ensures { OnOk result (seen out.new ≡ seen out.old ++ spec.reference reference.now) }
 {
     if let Some(lifetime) = &reference.lifetime {
-        out.push(Node::Lifetime(lifetime))?;
+        out.push(NodeOf::Lifetime(lifetime))?;
     }
     add_type(reference.elem.get(), out)
 }
@@ -93,7 +93,7 @@ fn add_reference<'a, A, E>(
 #[tactic(auto, using(crate::proofs::Walks::walks))]
 fn add_fn_ptr<'a, A, E>(
     pointer: &'a TypeFnPtrOf<A, E>,
-    out: &mut Items<Node<'a, A, E>>,
+    out: &mut Items<NodeOf<'a, A, E>>,
 ) -> Result<(), AllocError>
     ensures { OnOk result (seen out.new ≡ seen out.old ++ spec.fn_ptr pointer.now) }
 {
@@ -106,7 +106,7 @@ fn add_fn_ptr<'a, A, E>(
 #[tactic(auto, using(crate::proofs::Walks::walks))]
 fn add_inputs<'a, A, E>(
     inputs: &'a Punctuated<NamedArgOf<TypeOf<A, E>, A>, Comma>,
-    out: &mut Items<Node<'a, A, E>>,
+    out: &mut Items<NodeOf<'a, A, E>>,
 ) -> Result<(), AllocError>
     ensures { OnOk result (seen out.new ≡ seen out.old ++ spec.inputs inputs.now.0) }
 {
@@ -120,7 +120,7 @@ fn add_inputs<'a, A, E>(
 #[tactic(auto, using(crate::proofs::Walks::walks))]
 fn add_output<'a, A, E>(
     output: &'a ReturnTypeOf<TypeOf<A, E>>,
-    out: &mut Items<Node<'a, A, E>>,
+    out: &mut Items<NodeOf<'a, A, E>>,
 ) -> Result<(), AllocError>
     ensures { OnOk result (seen out.new ≡ seen out.old ++ spec.output output.now) }
 {
@@ -134,7 +134,7 @@ fn add_output<'a, A, E>(
 #[tactic(auto, using(crate::proofs::Walks::walks))]
 fn add_path_type<'a, A, E>(
     path: &'a TypePathOf<A, E>,
-    out: &mut Items<Node<'a, A, E>>,
+    out: &mut Items<NodeOf<'a, A, E>>,
 ) -> Result<(), AllocError>
     ensures { OnOk result (seen out.new ≡ seen out.old ++ spec.path_type path.now) }
 {
@@ -150,11 +150,11 @@ fn add_path_type<'a, A, E>(
 #[tactic(auto, using(crate::proofs::Walks::walks))]
 pub(crate) fn add_path<'a, A, E>(
     path: &'a PathOf<PathArgumentsOf<A, E>>,
-    out: &mut Items<Node<'a, A, E>>,
+    out: &mut Items<NodeOf<'a, A, E>>,
 ) -> Result<(), AllocError>
     ensures { OnOk result (seen out.new ≡ seen out.old ++ spec.path path.now) }
 {
-    out.push(Node::Path(path))?;
+    out.push(NodeOf::Path(path))?;
     for segment in path.segments.values() {
         add_arguments(&segment.arguments, out)?;
     }
@@ -165,7 +165,7 @@ pub(crate) fn add_path<'a, A, E>(
 #[tactic(auto, using(crate::proofs::Walks::walks))]
 fn add_arguments<'a, A, E>(
     arguments: &'a PathArgumentsOf<A, E>,
-    out: &mut Items<Node<'a, A, E>>,
+    out: &mut Items<NodeOf<'a, A, E>>,
 ) -> Result<(), AllocError>
     ensures { OnOk result (seen out.new ≡ seen out.old ++ spec.arguments arguments.now) }
 {
@@ -180,7 +180,7 @@ fn add_arguments<'a, A, E>(
 #[tactic(auto, using(crate::proofs::Walks::walks))]
 fn add_parenthesized<'a, A, E>(
     paren: &'a ParenthesizedGenericArgumentsOf<TypeOf<A, E>, A>,
-    out: &mut Items<Node<'a, A, E>>,
+    out: &mut Items<NodeOf<'a, A, E>>,
 ) -> Result<(), AllocError>
     ensures { OnOk result (seen out.new ≡ seen out.old ++ spec.parenthesized paren.now) }
 {
@@ -192,7 +192,7 @@ fn add_parenthesized<'a, A, E>(
 #[tactic(auto, using(crate::proofs::Walks::walks))]
 fn add_each_argument<'a, A, E>(
     args: &'a Punctuated<GenericArgumentOf<A, E>, Comma>,
-    out: &mut Items<Node<'a, A, E>>,
+    out: &mut Items<NodeOf<'a, A, E>>,
 ) -> Result<(), AllocError>
     ensures { OnOk result (seen out.new ≡ seen out.old ++ each spec.argument args.now.0) }
 {
@@ -206,12 +206,12 @@ fn add_each_argument<'a, A, E>(
 #[tactic(auto, using(crate::proofs::Walks::walks))]
 fn add_argument<'a, A, E>(
     argument: &'a GenericArgumentOf<A, E>,
-    out: &mut Items<Node<'a, A, E>>,
+    out: &mut Items<NodeOf<'a, A, E>>,
 ) -> Result<(), AllocError>
     ensures { OnOk result (seen out.new ≡ seen out.old ++ spec.argument argument.now) }
 {
     match argument {
-        GenericArgumentOf::Lifetime(lifetime) => out.push(Node::Lifetime(lifetime)),
+        GenericArgumentOf::Lifetime(lifetime) => out.push(NodeOf::Lifetime(lifetime)),
         GenericArgumentOf::Type(ty) => add_type(ty, out),
         GenericArgumentOf::Const(_) => Ok(()),
         GenericArgumentOf::AssocType(assoc) => add_assoc_type(assoc, out),
@@ -225,7 +225,7 @@ fn add_argument<'a, A, E>(
 #[tactic(auto, using(crate::proofs::Walks::walks))]
 fn add_generics<'a, A, E>(
     generics: &'a Option<AngleBracketedGenericArgumentsOf<GenericArgumentOf<A, E>>>,
-    out: &mut Items<Node<'a, A, E>>,
+    out: &mut Items<NodeOf<'a, A, E>>,
 ) -> Result<(), AllocError>
     ensures { OnOk result (seen out.new ≡ seen out.old ++ spec.generics generics.now) }
 {
@@ -239,7 +239,7 @@ fn add_generics<'a, A, E>(
 #[tactic(auto, using(crate::proofs::Walks::walks))]
 fn add_assoc_type<'a, A, E>(
     assoc: &'a AssocTypeOf<A, E>,
-    out: &mut Items<Node<'a, A, E>>,
+    out: &mut Items<NodeOf<'a, A, E>>,
 ) -> Result<(), AllocError>
     ensures { OnOk result (seen out.new ≡ seen out.old ++ spec.assoc_type assoc.now) }
 {
@@ -251,7 +251,7 @@ fn add_assoc_type<'a, A, E>(
 #[tactic(auto, using(crate::proofs::Walks::walks))]
 fn add_constraint<'a, A, E>(
     constraint: &'a ConstraintOf<A, E>,
-    out: &mut Items<Node<'a, A, E>>,
+    out: &mut Items<NodeOf<'a, A, E>>,
 ) -> Result<(), AllocError>
     ensures { OnOk result (seen out.new ≡ seen out.old ++ spec.constraint constraint.now) }
 {
@@ -265,7 +265,7 @@ fn add_constraint<'a, A, E>(
 #[tactic(auto, using(crate::proofs::Walks::walks))]
 pub(crate) fn add_bounds<'a, A, E>(
     bounds: &'a Punctuated<TypeParamBoundOf<A, E>, Plus>,
-    out: &mut Items<Node<'a, A, E>>,
+    out: &mut Items<NodeOf<'a, A, E>>,
 ) -> Result<(), AllocError>
     ensures { OnOk result (seen out.new ≡ seen out.old ++ each spec.bound bounds.now.0) }
 {
@@ -279,13 +279,13 @@ pub(crate) fn add_bounds<'a, A, E>(
 #[tactic(auto, using(crate::proofs::Walks::walks))]
 pub(crate) fn add_bound<'a, A, E>(
     bound: &'a TypeParamBoundOf<A, E>,
-    out: &mut Items<Node<'a, A, E>>,
+    out: &mut Items<NodeOf<'a, A, E>>,
 ) -> Result<(), AllocError>
     ensures { OnOk result (seen out.new ≡ seen out.old ++ spec.bound bound.now) }
 {
     match bound {
         TypeParamBoundOf::Trait(bound) => add_trait_bound(bound, out),
-        TypeParamBoundOf::Lifetime(lifetime) => out.push(Node::Lifetime(lifetime)),
+        TypeParamBoundOf::Lifetime(lifetime) => out.push(NodeOf::Lifetime(lifetime)),
         TypeParamBoundOf::PreciseCapture(capture) => add_capture(capture, out),
         TypeParamBoundOf::Verbatim(_) => Ok(()),
     }
@@ -295,7 +295,7 @@ pub(crate) fn add_bound<'a, A, E>(
 #[tactic(auto, using(crate::proofs::Walks::walks))]
 fn add_trait_bound<'a, A, E>(
     bound: &'a TraitBoundOf<A, E>,
-    out: &mut Items<Node<'a, A, E>>,
+    out: &mut Items<NodeOf<'a, A, E>>,
 ) -> Result<(), AllocError>
     ensures { OnOk result (seen out.new ≡ seen out.old ++ spec.trait_bound bound.now) }
 {
@@ -307,7 +307,7 @@ fn add_trait_bound<'a, A, E>(
 #[tactic(auto, using(crate::proofs::Walks::walks))]
 pub(crate) fn add_binder<'a, A, E>(
     binder: &'a Option<BoundLifetimesOf<GenericParamOf<A, E>>>,
-    out: &mut Items<Node<'a, A, E>>,
+    out: &mut Items<NodeOf<'a, A, E>>,
 ) -> Result<(), AllocError>
     ensures { OnOk result (seen out.new ≡ seen out.old ++ spec.binder binder.now) }
 {
@@ -321,7 +321,7 @@ pub(crate) fn add_binder<'a, A, E>(
 #[tactic(auto, using(crate::proofs::Walks::walks))]
 pub(crate) fn add_params<'a, A, E>(
     params: &'a Punctuated<GenericParamOf<A, E>, Comma>,
-    out: &mut Items<Node<'a, A, E>>,
+    out: &mut Items<NodeOf<'a, A, E>>,
 ) -> Result<(), AllocError>
     ensures { OnOk result (seen out.new ≡ seen out.old ++ each spec.param params.now.0) }
 {
@@ -335,7 +335,7 @@ pub(crate) fn add_params<'a, A, E>(
 #[tactic(auto, using(crate::proofs::Walks::walks))]
 pub(crate) fn add_param<'a, A, E>(
     param: &'a GenericParamOf<A, E>,
-    out: &mut Items<Node<'a, A, E>>,
+    out: &mut Items<NodeOf<'a, A, E>>,
 ) -> Result<(), AllocError>
     ensures { OnOk result (seen out.new ≡ seen out.old ++ spec.param param.now) }
 {
@@ -350,7 +350,7 @@ pub(crate) fn add_param<'a, A, E>(
 #[tactic(auto, using(crate::proofs::Walks::walks))]
 fn add_type_param<'a, A, E>(
     param: &'a TypeParamOf<A, E>,
-    out: &mut Items<Node<'a, A, E>>,
+    out: &mut Items<NodeOf<'a, A, E>>,
 ) -> Result<(), AllocError>
     ensures { OnOk result (seen out.new ≡ seen out.old ++ spec.type_param param.now) }
 {
@@ -366,23 +366,23 @@ fn add_type_param<'a, A, E>(
 #[tactic(auto, using(crate::proofs::Walks::walks))]
 fn add_lifetime_param<'a, A, E>(
     param: &'a LifetimeParamOf<A>,
-    out: &mut Items<Node<'a, A, E>>,
+    out: &mut Items<NodeOf<'a, A, E>>,
 ) -> Result<(), AllocError>
     ensures { OnOk result (seen out.new ≡ seen out.old ++ spec.lifetime_param param.now) }
 {
-    out.push(Node::Lifetime(&param.lifetime))?;
+    out.push(NodeOf::Lifetime(&param.lifetime))?;
     add_lifetimes(&param.bounds, out)
 }
 
 #[tactic(auto, using(crate::proofs::Walks::walks))]
 pub(crate) fn add_lifetimes<'a, A, E>(
     lifetimes: &'a Punctuated<Lifetime, Plus>,
-    out: &mut Items<Node<'a, A, E>>,
+    out: &mut Items<NodeOf<'a, A, E>>,
 ) -> Result<(), AllocError>
     ensures { OnOk result (seen out.new ≡ seen out.old ++ each spec.lifetime lifetimes.now.0) }
 {
     for lifetime in lifetimes.values() {
-        out.push(Node::Lifetime(lifetime))?;
+        out.push(NodeOf::Lifetime(lifetime))?;
     }
     Ok(())
 }
@@ -390,7 +390,7 @@ pub(crate) fn add_lifetimes<'a, A, E>(
 #[tactic(auto, using(crate::proofs::Walks::walks))]
 fn add_capture<'a, A, E>(
     capture: &'a PreciseCapture,
-    out: &mut Items<Node<'a, A, E>>,
+    out: &mut Items<NodeOf<'a, A, E>>,
 ) -> Result<(), AllocError>
     ensures { OnOk result (seen out.new ≡ seen out.old ++ spec.capture capture.now) }
 {
@@ -403,12 +403,12 @@ fn add_capture<'a, A, E>(
 #[tactic(auto, using(crate::proofs::Walks::walks))]
 fn add_captured<'a, A, E>(
     param: &'a CapturedParam,
-    out: &mut Items<Node<'a, A, E>>,
+    out: &mut Items<NodeOf<'a, A, E>>,
 ) -> Result<(), AllocError>
     ensures { OnOk result (seen out.new ≡ seen out.old ++ spec.captured param.now) }
 {
     match param {
-        CapturedParam::Lifetime(lifetime) => out.push(Node::Lifetime(lifetime)),
+        CapturedParam::Lifetime(lifetime) => out.push(NodeOf::Lifetime(lifetime)),
         CapturedParam::Ident(_) => Ok(()),
     }
 }
