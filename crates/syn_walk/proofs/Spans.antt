@@ -1,4 +1,4 @@
--- What was found, and what is left.
+-- Where tokens stand, by what was found so far and what is left.
 use Rattle.std.proofs.Common.{◌≡◌, Bool, true, false, List, [], ◌∷◌, map, Option, Some, None, unwrap_or, nat_eq, if◌then◌else◌, refl, ap}
 use Rattle.token_core.specs.declared.span.Span.{Span}
 use Rattle.token_core.specs.declared.tree.TokenTree.{TokenTree}

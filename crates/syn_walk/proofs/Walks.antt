@@ -1,4 +1,4 @@
--- What is in each kind of tree.
+-- What stands in each kind of tree, by what it holds.
 use Rattle.std.proofs.Common.{◌≡◌, List, [], ◌∷◌, ◌++◌, map, Option, Some, None, refl, sym, ap, ◌∙◌, append_assoc, append-nil}
 use Rattle.std.proofs.lemmas.List.{map-append}
 use Rattle.token_core.specs.declared.lifetime.Lifetime.{Lifetime}
