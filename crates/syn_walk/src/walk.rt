@@ -9,13 +9,13 @@ ghost use Rattle.syn_walk.specs.walk.Nodes as spec;
 ghost use Rattle.syn_walk.specs.walk.Printing.{printed};
 ghost use Rattle.syn_walk.specs.walk.Nodes.{Visits, seen};
 
-use crate::walk::add::{add_bound, add_param, add_path, add_type};
+use crate::walk::add::{add_bound, add_fn_ptr, add_param, add_path, add_type};
 use std::alloc::{AllocError, Global};
 use syn_path::path::{ModPath, PathOf};
 use syn_path::supplied::{Attributes, Value};
 use syn_ty::generics::{GenericParamOf, TypeParamBoundOf};
 use syn_ty::path::PathArgumentsOf;
-use syn_ty::ty::TypeOf;
+use syn_ty::ty::{TypeFnPtrOf, TypeOf};
 use token_core::{Items, Lifetime, Punctuated, ToTokens, TokenStream};
 
 /// A node of a tree.
@@ -73,6 +73,14 @@ impl<A, E> Walk<A, E> for TypeOf<A, E> {
 
     fn add_nodes<'a>(&'a self, out: &mut Items<NodeOf<'a, A, E>>) -> Result<(), AllocError> {
         add_type(self, out)
+    }
+}
+
+impl<A, E> Walk<A, E> for TypeFnPtrOf<A, E> {
+    ghost visits = { spec.fn_ptr };
+
+    fn add_nodes<'a>(&'a self, out: &mut Items<NodeOf<'a, A, E>>) -> Result<(), AllocError> {
+        add_fn_ptr(self, out)
     }
 }
 

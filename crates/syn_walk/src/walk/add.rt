@@ -91,7 +91,7 @@ fn add_reference<'a, A, E>(
 
 #[cycle(add)]
 #[tactic(auto, using(crate::proofs::Walks::walks))]
-fn add_fn_ptr<'a, A, E>(
+pub(crate) fn add_fn_ptr<'a, A, E>(
     pointer: &'a TypeFnPtrOf<A, E>,
     out: &mut Items<NodeOf<'a, A, E>>,
 ) -> Result<(), AllocError>
