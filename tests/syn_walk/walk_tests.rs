@@ -57,8 +57,14 @@ fn types(rt: HostRuntime) {
         ("!", "T !; "),
         ("m::n!(a)", "T m::n!(a); M m::n; "),
         ("[u8; 2 * N]", "T [u8; 2 * N]; T u8; P u8; "),
-        ("(A, (B), [C])", "T (A, (B), [C]); T A; P A; T (B); T B; P B; T [C]; T C; P C; "),
-        ("*const &'a mut A", "T *const &'a mut A; T &'a mut A; L 'a; T A; P A; "),
+        (
+            "(A, (B), [C])",
+            "T (A, (B), [C]); T A; P A; T (B); T B; P B; T [C]; T C; P C; ",
+        ),
+        (
+            "*const &'a mut A",
+            "T *const &'a mut A; T &'a mut A; L 'a; T A; P A; ",
+        ),
         (
             "&'a Map<'b, [K; n]>",
             "T &'a Map<'b, [K; n]>; L 'a; T Map<'b, [K; n]>; P Map<'b, [K; n]>; L 'b; T [K; n]; T K; P K; ",
@@ -72,7 +78,10 @@ fn types(rt: HostRuntime) {
             "for<'a> fn(x: &'a A, B, ...) -> C",
             "T for<'a> fn(x: &'a A, B, ...) -> C; L 'a; T &'a A; L 'a; T A; P A; T B; P B; T C; P C; ",
         ),
-        ("dyn Fn(A) -> B", "T dyn Fn(A) -> B; P Fn(A) -> B; T A; P A; T B; P B; "),
+        (
+            "dyn Fn(A) -> B",
+            "T dyn Fn(A) -> B; P Fn(A) -> B; T A; P A; T B; P B; ",
+        ),
         (
             "impl for<'a> A<'a> + 'b + use<'c, T>",
             "T impl for<'a> A<'a> + 'b + use<'c, T>; L 'a; P A<'a>; L 'a; L 'b; L 'c; ",
