@@ -11,10 +11,12 @@ ghost use Rattle.syn_walk.specs.walk.Nodes.{Visits, seen};
 
 use crate::walk::add::{add_bound, add_fn_ptr, add_param, add_path, add_type};
 use std::alloc::{AllocError, Global};
-use syn_path::path::{ModPath, PathOf};
+use syn_path::path::{ModPath, PathOf, PathStyle, print_mod_path};
 use syn_path::supplied::{Attributes, Value};
 use syn_ty::generics::{GenericParamOf, TypeParamBoundOf};
 use syn_ty::path::PathArgumentsOf;
+use syn_ty::path::print::print_path;
+use syn_ty::ty::print::print_type;
 use syn_ty::ty::{TypeFnPtrOf, TypeOf};
 use token_core::{Items, Lifetime, Punctuated, ToTokens, TokenStream};
 
@@ -35,9 +37,9 @@ impl<A: Attributes, E: Value> ToTokens for NodeOf<'_, A, E> {
 
     fn append_tokens(&self, alloc: Global, out: &mut TokenStream) -> Result<(), AllocError> {
         match self {
-            NodeOf::Type(ty) => ty.append_tokens(alloc, out),
-            NodeOf::Path(path) => path.append_tokens(alloc, out),
-            NodeOf::MacroPath(path) => path.append_tokens(alloc, out),
+            NodeOf::Type(ty) => print_type(alloc, ty, out),
+            NodeOf::Path(path) => print_path(alloc, path, PathStyle::AsWritten, out),
+            NodeOf::MacroPath(path) => print_mod_path(alloc, path, out),
             NodeOf::Lifetime(lifetime) => lifetime.append_tokens(alloc, out),
         }
     }

@@ -9,13 +9,10 @@ use crate::walk::NodeOf;
 use std::alloc::AllocError;
 use syn_path::path::PathOf;
 use syn_ty::generics::{
-    BoundLifetimesOf, CapturedParam, GenericParamOf, LifetimeParamOf, PreciseCapture, TraitBoundOf,
-    TypeParamBoundOf, TypeParamOf,
+    CapturedParam, GenericParamOf, LifetimeParamOf, PreciseCapture, TraitBoundOf, TypeParamBoundOf,
+    TypeParamOf,
 };
-use syn_ty::path::{
-    AngleBracketedGenericArgumentsOf, AssocTypeOf, ConstraintOf, GenericArgumentOf,
-    ParenthesizedGenericArgumentsOf, PathArgumentsOf,
-};
+use syn_ty::path::{AssocTypeOf, ConstraintOf, GenericArgumentOf, PathArgumentsOf};
 use syn_ty::ty::{NamedArgOf, ReturnTypeOf, TypeFnPtrOf, TypeOf, TypePathOf, TypeReferenceOf};
 use token_core::token::{Comma, Plus};
 use token_core::{Items, Lifetime, Punctuated};
@@ -97,7 +94,9 @@ pub(crate) fn add_fn_ptr<'a, A, E>(
 ) -> Result<(), AllocError>
     ensures { OnOk result (seen out.new ≡ seen out.old ++ spec.fn_ptr pointer.now) }
 {
-    add_binder(&pointer.lifetimes, out)?;
+    if let Some(binder) = &pointer.lifetimes {
+        add_params(&binder.lifetimes, out)?;
+    }
     add_inputs(&pointer.inputs, out)?;
     add_output(&pointer.output, out)
 }
@@ -172,20 +171,11 @@ fn add_arguments<'a, A, E>(
     match arguments {
         PathArgumentsOf::None => Ok(()),
         PathArgumentsOf::AngleBracketed(angle) => add_each_argument(&angle.args, out),
-        PathArgumentsOf::Parenthesized(paren) => add_parenthesized(paren, out),
+        PathArgumentsOf::Parenthesized(paren) => {
+            add_inputs(&paren.inputs, out)?;
+            add_output(&paren.output, out)
+        }
     }
-}
-
-#[cycle(add)]
-#[tactic(auto, using(crate::proofs::Walks::walks))]
-fn add_parenthesized<'a, A, E>(
-    paren: &'a ParenthesizedGenericArgumentsOf<TypeOf<A, E>, A>,
-    out: &mut Items<NodeOf<'a, A, E>>,
-) -> Result<(), AllocError>
-    ensures { OnOk result (seen out.new ≡ seen out.old ++ spec.parenthesized paren.now) }
-{
-    add_inputs(&paren.inputs, out)?;
-    add_output(&paren.output, out)
 }
 
 #[cycle(add)]
@@ -215,23 +205,13 @@ fn add_argument<'a, A, E>(
         GenericArgumentOf::Type(ty) => add_type(ty, out),
         GenericArgumentOf::Const(_) => Ok(()),
         GenericArgumentOf::AssocType(assoc) => add_assoc_type(assoc, out),
-        GenericArgumentOf::AssocConst(assoc) => add_generics(&assoc.generics, out),
+        GenericArgumentOf::AssocConst(assoc) => {
+            if let Some(angle) = &assoc.generics {
+                add_each_argument(&angle.args, out)?;
+            }
+            Ok(())
+        }
         GenericArgumentOf::Constraint(constraint) => add_constraint(constraint, out),
-    }
-}
-
-/// The arguments of an associated item, if it has any.
-#[cycle(add)]
-#[tactic(auto, using(crate::proofs::Walks::walks))]
-fn add_generics<'a, A, E>(
-    generics: &'a Option<AngleBracketedGenericArgumentsOf<GenericArgumentOf<A, E>>>,
-    out: &mut Items<NodeOf<'a, A, E>>,
-) -> Result<(), AllocError>
-    ensures { OnOk result (seen out.new ≡ seen out.old ++ spec.generics generics.now) }
-{
-    match generics {
-        None => Ok(()),
-        Some(angle) => add_each_argument(&angle.args, out),
     }
 }
 
@@ -243,7 +223,9 @@ fn add_assoc_type<'a, A, E>(
 ) -> Result<(), AllocError>
     ensures { OnOk result (seen out.new ≡ seen out.old ++ spec.assoc_type assoc.now) }
 {
-    add_generics(&assoc.generics, out)?;
+    if let Some(angle) = &assoc.generics {
+        add_each_argument(&angle.args, out)?;
+    }
     add_type(&assoc.ty, out)
 }
 
@@ -255,7 +237,9 @@ fn add_constraint<'a, A, E>(
 ) -> Result<(), AllocError>
     ensures { OnOk result (seen out.new ≡ seen out.old ++ spec.constraint constraint.now) }
 {
-    add_generics(&constraint.generics, out)?;
+    if let Some(angle) = &constraint.generics {
+        add_each_argument(&angle.args, out)?;
+    }
     add_bounds(&constraint.bounds, out)
 }
 
@@ -299,22 +283,10 @@ fn add_trait_bound<'a, A, E>(
 ) -> Result<(), AllocError>
     ensures { OnOk result (seen out.new ≡ seen out.old ++ spec.trait_bound bound.now) }
 {
-    add_binder(&bound.lifetimes, out)?;
-    add_path(&bound.path, out)
-}
-
-#[cycle(add)]
-#[tactic(auto, using(crate::proofs::Walks::walks))]
-pub(crate) fn add_binder<'a, A, E>(
-    binder: &'a Option<BoundLifetimesOf<GenericParamOf<A, E>>>,
-    out: &mut Items<NodeOf<'a, A, E>>,
-) -> Result<(), AllocError>
-    ensures { OnOk result (seen out.new ≡ seen out.old ++ spec.binder binder.now) }
-{
-    match binder {
-        None => Ok(()),
-        Some(binder) => add_params(&binder.lifetimes, out),
+    if let Some(binder) = &bound.lifetimes {
+        add_params(&binder.lifetimes, out)?;
     }
+    add_path(&bound.path, out)
 }
 
 #[cycle(add)]

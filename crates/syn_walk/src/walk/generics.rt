@@ -4,7 +4,7 @@ ghost use Rattle.std.specs.Prelude.{◌≡◌, ◌++◌, OnOk};
 ghost use Rattle.syn_walk.specs.walk.Generics as spec;
 ghost use Rattle.syn_walk.specs.walk.Nodes.{seen};
 
-use crate::walk::add::{add_binder, add_bounds, add_lifetimes, add_params, add_type};
+use crate::walk::add::{add_bounds, add_lifetimes, add_params, add_type};
 use crate::walk::{NodeOf, Walk};
 use std::alloc::AllocError;
 use syn_generics::generics::{
@@ -63,7 +63,9 @@ fn add_predicate_type<'a, A, E>(
 ) -> Result<(), AllocError>
     ensures { OnOk result (seen out.new ≡ seen out.old ++ spec.predicate_type predicate.now) }
 {
-    add_binder(&predicate.lifetimes, out)?;
+    if let Some(binder) = &predicate.lifetimes {
+        add_params(&binder.lifetimes, out)?;
+    }
     add_type(&predicate.bounded_ty, out)?;
     add_bounds(&predicate.bounds, out)
 }
