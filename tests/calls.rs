@@ -16,7 +16,10 @@ use token_core::{
     RangeLimits, Span, ToTokens, TokenBuffer, TokenStream, TokenTree, read_all, read_all_with,
     read_scoped,
 };
-use token_text::{lex, text_of};
+use token_text::{
+    lex, lit_str_value, note, note_at, place_of, read_lit_str, read_lit_str_with, read_str,
+    read_str_with, text_of,
+};
 
 // Texts that take memory: short ones stand in their trees.
 const WORD: &str = "a_word_of_more_than_24_bytes";
@@ -34,6 +37,9 @@ pub(crate) fn outcome(alloc: Global, name: &str, times: usize) -> Result<Outcome
         "streams" => streams(alloc, times),
         "groups" => groups(alloc, times),
         "texts" => texts(alloc, times),
+        "wholes" => wholes(alloc, times),
+        "strings" => strings(alloc, times),
+        "notes" => notes(alloc, times),
         "paths" => paths(alloc, times),
         "attributes" => attributes(alloc, times),
         "properties" => properties(alloc, times),
@@ -361,6 +367,77 @@ fn text_calls(alloc: Global, list: &TokenStream) -> Result<(), Error> {
     read(lex(alloc, "a (b) \"a text of more than 24 bytes\" 'd"))?;
     refused(alloc, lex(alloc, "a ("))?;
     refused(alloc, lex(alloc, "a \""))
+}
+
+// ---- whole reads of texts, and what string literals hold
+
+fn wholes(alloc: Global, times: usize) -> Result<Outcome, Error> {
+    take(alloc, times)?;
+    Ok(came(whole_calls(alloc)))
+}
+
+fn whole_calls(alloc: Global) -> Result<(), Error> {
+    read(read_str::<Ident>(alloc, WORD))?;
+    read(read_str_with(alloc, ByParse::<Ident>::new(), WORD))?;
+    refused(alloc, read_str::<Ident>(alloc, "a ("))?;
+    refused(alloc, read_str::<Ident>(alloc, "a b"))?;
+    refused(alloc, read_str_with(alloc, ByParse::<Ident>::new(), ""))
+}
+
+fn strings(alloc: Global, times: usize) -> Result<Outcome, Error> {
+    let written = read_str::<LitStr>(alloc, "\"a_word_of_more_than_24_\\x62ytes\"")?;
+    let escape = read_str::<LitStr>(alloc, "\"\\q\"")?;
+    let suffixed = read_str::<LitStr>(alloc, "\"a\"s")?;
+    let open = read_str::<LitStr>(alloc, "\"a (\"")?;
+    take(alloc, times)?;
+    Ok(came(string_calls(alloc, &written, &escape, &suffixed, &open)))
+}
+
+fn string_calls(
+    alloc: Global,
+    written: &LitStr,
+    escape: &LitStr,
+    suffixed: &LitStr,
+    open: &LitStr,
+) -> Result<(), Error> {
+    read(lit_str_value(alloc, written))?;
+    refused(alloc, lit_str_value(alloc, escape))?;
+    read(read_lit_str::<Ident>(alloc, written))?;
+    read(read_lit_str_with(alloc, ByParse::<Ident>::new(), written))?;
+    refused(alloc, read_lit_str::<Lit>(alloc, written))?;
+    refused(alloc, read_lit_str::<Ident>(alloc, suffixed))?;
+    refused(
+        alloc,
+        read_lit_str_with(alloc, ByParse::<Ident>::new(), open),
+    )
+}
+
+// ---- notes on refusals
+
+fn notes(alloc: Global, times: usize) -> Result<Outcome, Error> {
+    let text = "a\n\tb: a_word_of_more_than_24_bytes c";
+    match read_str::<Ident>(alloc, text) {
+        Ok(_) => Err(Error::new(alloc, Span::none(), "it answers")),
+        Err(refusal) => {
+            take(alloc, times)?;
+            Ok(came(note_calls(alloc, text, &refusal)))
+        }
+    }
+}
+
+fn note_calls(alloc: Global, text: &str, refusal: &Error) -> Result<(), Error> {
+    made(note(alloc, "a/file", text, refusal))?;
+    let (start, end) = place_of(text, refusal);
+    made(note_at(alloc, "a/file", text, "no", start, end))?;
+    made(note_at(alloc, "", "", "", 0, 0))?;
+    made(note_at(
+        alloc,
+        "a/file",
+        text,
+        "a_message_of_more_than_24_bytes",
+        3,
+        text.len(),
+    ))
 }
 
 // ---- paths and macro calls

@@ -92,3 +92,5 @@ mod type_attr_tests;
 mod type_tests;
 #[cfg(test)]
 mod verbatim_tests;
+#[cfg(test)]
+mod walk_tests;

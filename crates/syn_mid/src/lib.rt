@@ -11,6 +11,7 @@ pub mod path;
 pub mod supplied;
 pub mod ty;
 pub mod verbatim;
+pub mod walk;
 pub mod whole;
 
 pub use attr::AttrStyle;

@@ -173,6 +173,11 @@ pub type FnPtrVariadic = crate::ty::FnPtrVariadic<VerbatimExpr>;
 /// What a function returns.
 pub type ReturnType = crate::ty::ReturnType<VerbatimExpr>;
 
+// ---- nodes
+
+/// A node of a tree: a type, a path or a lifetime.
+pub type Node<'a> = crate::walk::Node<'a, VerbatimExpr>;
+
 // ---- patterns
 
 /// A pattern.

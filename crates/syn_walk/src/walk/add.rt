@@ -1,0 +1,386 @@
+//! The nodes of types, paths, bounds and parameters, which lead back to each other.
+
+ghost use Rattle.std.specs.Prelude.{◌≡◌, ◌++◌, OnOk};
+ghost use Rattle.token_core.specs.Prints.{each};
+ghost use Rattle.syn_walk.specs.walk.Nodes as spec;
+ghost use Rattle.syn_walk.specs.walk.Nodes.{seen};
+
+use crate::walk::NodeOf;
+use std::alloc::AllocError;
+use syn_path::path::PathOf;
+use syn_ty::generics::{
+    CapturedParam, GenericParamOf, LifetimeParamOf, PreciseCapture, TraitBoundOf, TypeParamBoundOf,
+    TypeParamOf,
+};
+use syn_ty::path::{AssocTypeOf, ConstraintOf, GenericArgumentOf, PathArgumentsOf};
+use syn_ty::ty::{NamedArgOf, ReturnTypeOf, TypeFnPtrOf, TypeOf, TypePathOf, TypeReferenceOf};
+use token_core::token::{Comma, Plus};
+use token_core::{Items, Lifetime, Punctuated};
+
+// ---- types
+
+/// A type, and what it holds.
+#[cycle(add)]
+#[tactic(auto, using(crate::proofs::Walks::walks))]
+pub(crate) fn add_type<'a, A, E>(
+    ty: &'a TypeOf<A, E>,
+    out: &mut Items<NodeOf<'a, A, E>>,
+) -> Result<(), AllocError>
+    ensures { OnOk result (seen out.new ≡ seen out.old ++ spec.ty ty.now) }
+{
+    out.push(NodeOf::Type(ty))?;
+    add_parts(ty, out)
+}
+
+/// What a type holds.
+#[cycle(add)]
+#[tactic(auto, using(crate::proofs::Walks::walks))]
+fn add_parts<'a, A, E>(
+    ty: &'a TypeOf<A, E>,
+    out: &mut Items<NodeOf<'a, A, E>>,
+) -> Result<(), AllocError>
+    ensures { OnOk result (seen out.new ≡ seen out.old ++ spec.inside ty.now) }
+{
+    match ty {
+        TypeOf::Array(array) => add_type(array.elem.get(), out),
+        TypeOf::FnPtr(pointer) => add_fn_ptr(pointer, out),
+        TypeOf::Group(group) => add_type(group.elem.get(), out),
+        TypeOf::ImplTrait(opaque) => add_bounds(&opaque.bounds, out),
+        TypeOf::Infer(_) | TypeOf::Never(_) | TypeOf::Verbatim(_) => Ok(()),
+        TypeOf::Macro(call) => out.push(NodeOf::MacroPath(&call.mac.path)),
+        TypeOf::Paren(paren) => add_type(paren.elem.get(), out),
+        TypeOf::Path(path) => add_path_type(path, out),
+        TypeOf::Ptr(ptr) => add_type(ptr.elem.get(), out),
+        TypeOf::Reference(reference) => add_reference(reference, out),
+        TypeOf::Slice(slice) => add_type(slice.elem.get(), out),
+        TypeOf::TraitObject(object) => add_bounds(&object.bounds, out),
+        TypeOf::Tuple(tuple) => add_types(&tuple.elems, out),
+    }
+}
+
+#[cycle(add)]
+#[tactic(auto, using(crate::proofs::Walks::walks))]
+fn add_types<'a, A, E>(
+    types: &'a Punctuated<TypeOf<A, E>, Comma>,
+    out: &mut Items<NodeOf<'a, A, E>>,
+) -> Result<(), AllocError>
+    ensures { OnOk result (seen out.new ≡ seen out.old ++ each spec.ty types.now.0) }
+{
+    for ty in types.values() {
+        add_type(ty, out)?;
+    }
+    Ok(())
+}
+
+#[cycle(add)]
+#[tactic(auto, using(crate::proofs::Walks::walks))]
+fn add_reference<'a, A, E>(
+    reference: &'a TypeReferenceOf<TypeOf<A, E>, A>,
+    out: &mut Items<NodeOf<'a, A, E>>,
+) -> Result<(), AllocError>
+    ensures { OnOk result (seen out.new ≡ seen out.old ++ spec.reference reference.now) }
+{
+    if let Some(lifetime) = &reference.lifetime {
+        out.push(NodeOf::Lifetime(lifetime))?;
+    }
+    add_type(reference.elem.get(), out)
+}
+
+#[cycle(add)]
+#[tactic(auto, using(crate::proofs::Walks::walks))]
+pub(crate) fn add_fn_ptr<'a, A, E>(
+    pointer: &'a TypeFnPtrOf<A, E>,
+    out: &mut Items<NodeOf<'a, A, E>>,
+) -> Result<(), AllocError>
+    ensures { OnOk result (seen out.new ≡ seen out.old ++ spec.fn_ptr pointer.now) }
+{
+    if let Some(binder) = &pointer.lifetimes {
+        add_params(&binder.lifetimes, out)?;
+    }
+    add_inputs(&pointer.inputs, out)?;
+    add_output(&pointer.output, out)
+}
+
+#[cycle(add)]
+#[tactic(auto, using(crate::proofs::Walks::walks))]
+fn add_inputs<'a, A, E>(
+    inputs: &'a Punctuated<NamedArgOf<TypeOf<A, E>, A>, Comma>,
+    out: &mut Items<NodeOf<'a, A, E>>,
+) -> Result<(), AllocError>
+    ensures { OnOk result (seen out.new ≡ seen out.old ++ spec.inputs inputs.now.0) }
+{
+    for arg in inputs.values() {
+        add_type(&arg.ty, out)?;
+    }
+    Ok(())
+}
+
+#[cycle(add)]
+#[tactic(auto, using(crate::proofs::Walks::walks))]
+fn add_output<'a, A, E>(
+    output: &'a ReturnTypeOf<TypeOf<A, E>>,
+    out: &mut Items<NodeOf<'a, A, E>>,
+) -> Result<(), AllocError>
+    ensures { OnOk result (seen out.new ≡ seen out.old ++ spec.output output.now) }
+{
+    match output {
+        ReturnTypeOf::Default => Ok(()),
+        ReturnTypeOf::Type(_, ty) => add_type(ty.get(), out),
+    }
+}
+
+#[cycle(add)]
+#[tactic(auto, using(crate::proofs::Walks::walks))]
+fn add_path_type<'a, A, E>(
+    path: &'a TypePathOf<A, E>,
+    out: &mut Items<NodeOf<'a, A, E>>,
+) -> Result<(), AllocError>
+    ensures { OnOk result (seen out.new ≡ seen out.old ++ spec.path_type path.now) }
+{
+    if let Some(qself) = &path.qself {
+        add_type(qself.ty.get(), out)?;
+    }
+    add_path(&path.path, out)
+}
+
+// ---- paths and their arguments
+
+#[cycle(add)]
+#[tactic(auto, using(crate::proofs::Walks::walks))]
+pub(crate) fn add_path<'a, A, E>(
+    path: &'a PathOf<PathArgumentsOf<A, E>>,
+    out: &mut Items<NodeOf<'a, A, E>>,
+) -> Result<(), AllocError>
+    ensures { OnOk result (seen out.new ≡ seen out.old ++ spec.path path.now) }
+{
+    out.push(NodeOf::Path(path))?;
+    for segment in path.segments.values() {
+        add_arguments(&segment.arguments, out)?;
+    }
+    Ok(())
+}
+
+#[cycle(add)]
+#[tactic(auto, using(crate::proofs::Walks::walks))]
+fn add_arguments<'a, A, E>(
+    arguments: &'a PathArgumentsOf<A, E>,
+    out: &mut Items<NodeOf<'a, A, E>>,
+) -> Result<(), AllocError>
+    ensures { OnOk result (seen out.new ≡ seen out.old ++ spec.arguments arguments.now) }
+{
+    match arguments {
+        PathArgumentsOf::None => Ok(()),
+        PathArgumentsOf::AngleBracketed(angle) => add_each_argument(&angle.args, out),
+        PathArgumentsOf::Parenthesized(paren) => {
+            add_inputs(&paren.inputs, out)?;
+            add_output(&paren.output, out)
+        }
+    }
+}
+
+#[cycle(add)]
+#[tactic(auto, using(crate::proofs::Walks::walks))]
+fn add_each_argument<'a, A, E>(
+    args: &'a Punctuated<GenericArgumentOf<A, E>, Comma>,
+    out: &mut Items<NodeOf<'a, A, E>>,
+) -> Result<(), AllocError>
+    ensures { OnOk result (seen out.new ≡ seen out.old ++ each spec.argument args.now.0) }
+{
+    for arg in args.values() {
+        add_argument(arg, out)?;
+    }
+    Ok(())
+}
+
+#[cycle(add)]
+#[tactic(auto, using(crate::proofs::Walks::walks))]
+fn add_argument<'a, A, E>(
+    argument: &'a GenericArgumentOf<A, E>,
+    out: &mut Items<NodeOf<'a, A, E>>,
+) -> Result<(), AllocError>
+    ensures { OnOk result (seen out.new ≡ seen out.old ++ spec.argument argument.now) }
+{
+    match argument {
+        GenericArgumentOf::Lifetime(lifetime) => out.push(NodeOf::Lifetime(lifetime)),
+        GenericArgumentOf::Type(ty) => add_type(ty, out),
+        GenericArgumentOf::Const(_) => Ok(()),
+        GenericArgumentOf::AssocType(assoc) => add_assoc_type(assoc, out),
+        GenericArgumentOf::AssocConst(assoc) => {
+            if let Some(angle) = &assoc.generics {
+                add_each_argument(&angle.args, out)?;
+            }
+            Ok(())
+        }
+        GenericArgumentOf::Constraint(constraint) => add_constraint(constraint, out),
+    }
+}
+
+#[cycle(add)]
+#[tactic(auto, using(crate::proofs::Walks::walks))]
+fn add_assoc_type<'a, A, E>(
+    assoc: &'a AssocTypeOf<A, E>,
+    out: &mut Items<NodeOf<'a, A, E>>,
+) -> Result<(), AllocError>
+    ensures { OnOk result (seen out.new ≡ seen out.old ++ spec.assoc_type assoc.now) }
+{
+    if let Some(angle) = &assoc.generics {
+        add_each_argument(&angle.args, out)?;
+    }
+    add_type(&assoc.ty, out)
+}
+
+#[cycle(add)]
+#[tactic(auto, using(crate::proofs::Walks::walks))]
+fn add_constraint<'a, A, E>(
+    constraint: &'a ConstraintOf<A, E>,
+    out: &mut Items<NodeOf<'a, A, E>>,
+) -> Result<(), AllocError>
+    ensures { OnOk result (seen out.new ≡ seen out.old ++ spec.constraint constraint.now) }
+{
+    if let Some(angle) = &constraint.generics {
+        add_each_argument(&angle.args, out)?;
+    }
+    add_bounds(&constraint.bounds, out)
+}
+
+// ---- bounds and parameters
+
+#[cycle(add)]
+#[tactic(auto, using(crate::proofs::Walks::walks))]
+pub(crate) fn add_bounds<'a, A, E>(
+    bounds: &'a Punctuated<TypeParamBoundOf<A, E>, Plus>,
+    out: &mut Items<NodeOf<'a, A, E>>,
+) -> Result<(), AllocError>
+    ensures { OnOk result (seen out.new ≡ seen out.old ++ each spec.bound bounds.now.0) }
+{
+    for bound in bounds.values() {
+        add_bound(bound, out)?;
+    }
+    Ok(())
+}
+
+#[cycle(add)]
+#[tactic(auto, using(crate::proofs::Walks::walks))]
+pub(crate) fn add_bound<'a, A, E>(
+    bound: &'a TypeParamBoundOf<A, E>,
+    out: &mut Items<NodeOf<'a, A, E>>,
+) -> Result<(), AllocError>
+    ensures { OnOk result (seen out.new ≡ seen out.old ++ spec.bound bound.now) }
+{
+    match bound {
+        TypeParamBoundOf::Trait(bound) => add_trait_bound(bound, out),
+        TypeParamBoundOf::Lifetime(lifetime) => out.push(NodeOf::Lifetime(lifetime)),
+        TypeParamBoundOf::PreciseCapture(capture) => add_capture(capture, out),
+        TypeParamBoundOf::Verbatim(_) => Ok(()),
+    }
+}
+
+#[cycle(add)]
+#[tactic(auto, using(crate::proofs::Walks::walks))]
+fn add_trait_bound<'a, A, E>(
+    bound: &'a TraitBoundOf<A, E>,
+    out: &mut Items<NodeOf<'a, A, E>>,
+) -> Result<(), AllocError>
+    ensures { OnOk result (seen out.new ≡ seen out.old ++ spec.trait_bound bound.now) }
+{
+    if let Some(binder) = &bound.lifetimes {
+        add_params(&binder.lifetimes, out)?;
+    }
+    add_path(&bound.path, out)
+}
+
+#[cycle(add)]
+#[tactic(auto, using(crate::proofs::Walks::walks))]
+pub(crate) fn add_params<'a, A, E>(
+    params: &'a Punctuated<GenericParamOf<A, E>, Comma>,
+    out: &mut Items<NodeOf<'a, A, E>>,
+) -> Result<(), AllocError>
+    ensures { OnOk result (seen out.new ≡ seen out.old ++ each spec.param params.now.0) }
+{
+    for param in params.values() {
+        add_param(param, out)?;
+    }
+    Ok(())
+}
+
+#[cycle(add)]
+#[tactic(auto, using(crate::proofs::Walks::walks))]
+pub(crate) fn add_param<'a, A, E>(
+    param: &'a GenericParamOf<A, E>,
+    out: &mut Items<NodeOf<'a, A, E>>,
+) -> Result<(), AllocError>
+    ensures { OnOk result (seen out.new ≡ seen out.old ++ spec.param param.now) }
+{
+    match param {
+        GenericParamOf::Lifetime(param) => add_lifetime_param(param, out),
+        GenericParamOf::Type(param) => add_type_param(param, out),
+        GenericParamOf::Const(param) => add_type(&param.ty, out),
+    }
+}
+
+#[cycle(add)]
+#[tactic(auto, using(crate::proofs::Walks::walks))]
+fn add_type_param<'a, A, E>(
+    param: &'a TypeParamOf<A, E>,
+    out: &mut Items<NodeOf<'a, A, E>>,
+) -> Result<(), AllocError>
+    ensures { OnOk result (seen out.new ≡ seen out.old ++ spec.type_param param.now) }
+{
+    add_bounds(&param.bounds, out)?;
+    match &param.default {
+        None => Ok(()),
+        Some((_, ty)) => add_type(ty, out),
+    }
+}
+
+// ---- what leads back to no type
+
+#[tactic(auto, using(crate::proofs::Walks::walks))]
+fn add_lifetime_param<'a, A, E>(
+    param: &'a LifetimeParamOf<A>,
+    out: &mut Items<NodeOf<'a, A, E>>,
+) -> Result<(), AllocError>
+    ensures { OnOk result (seen out.new ≡ seen out.old ++ spec.lifetime_param param.now) }
+{
+    out.push(NodeOf::Lifetime(&param.lifetime))?;
+    add_lifetimes(&param.bounds, out)
+}
+
+#[tactic(auto, using(crate::proofs::Walks::walks))]
+pub(crate) fn add_lifetimes<'a, A, E>(
+    lifetimes: &'a Punctuated<Lifetime, Plus>,
+    out: &mut Items<NodeOf<'a, A, E>>,
+) -> Result<(), AllocError>
+    ensures { OnOk result (seen out.new ≡ seen out.old ++ each spec.lifetime lifetimes.now.0) }
+{
+    for lifetime in lifetimes.values() {
+        out.push(NodeOf::Lifetime(lifetime))?;
+    }
+    Ok(())
+}
+
+#[tactic(auto, using(crate::proofs::Walks::walks))]
+fn add_capture<'a, A, E>(
+    capture: &'a PreciseCapture,
+    out: &mut Items<NodeOf<'a, A, E>>,
+) -> Result<(), AllocError>
+    ensures { OnOk result (seen out.new ≡ seen out.old ++ spec.capture capture.now) }
+{
+    for param in capture.params.values() {
+        add_captured(param, out)?;
+    }
+    Ok(())
+}
+
+#[tactic(auto, using(crate::proofs::Walks::walks))]
+fn add_captured<'a, A, E>(
+    param: &'a CapturedParam,
+    out: &mut Items<NodeOf<'a, A, E>>,
+) -> Result<(), AllocError>
+    ensures { OnOk result (seen out.new ≡ seen out.old ++ spec.captured param.now) }
+{
+    match param {
+        CapturedParam::Lifetime(lifetime) => out.push(NodeOf::Lifetime(lifetime)),
+        CapturedParam::Ident(_) => Ok(()),
+    }
+}

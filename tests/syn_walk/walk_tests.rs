@@ -1,0 +1,165 @@
+//! The nodes of types, bounds and generics, each with its place in the text; places of prints.
+
+use crate::lists::text_is;
+use std::alloc::{AllocError, Global};
+use std::fmt::Write;
+use std::process::Abort;
+use std::test::Fail;
+use syn_mid::verbatim::{Attribute, Expr, Generics, Node, Type, TypeParamBound, WhereClause};
+use syn_mid::walk::{NodeOf, Walk, nodes, span_of, span_of_tokens};
+use token_core::token::{Comma, Plus};
+use token_core::{ByFn, Error, Ident, Items, Parse, Punctuated, Span, TokenStream};
+use token_text::{lex, read_str, read_str_with};
+
+/// The kinds of the nodes, and what stands in the text where they stand.
+fn told(alloc: Global, text: &str, nodes: &Items<Node<'_>>) -> Result<String, AllocError> {
+    let mut out = String::new(alloc);
+    for node in nodes.iter() {
+        let kind = match node {
+            NodeOf::Type(_) => "T",
+            NodeOf::Path(_) => "P",
+            NodeOf::MacroPath(_) => "M",
+            NodeOf::Lifetime(_) => "L",
+        };
+        let span = span_of(alloc, node)?;
+        let place = text.get(span.lo..span.hi).unwrap_or("nowhere");
+        write!(out, "{kind} {place}; ")?;
+    }
+    Ok(out)
+}
+
+fn in_tree<T: Parse + Walk<Attribute, Expr> + Drop>(
+    alloc: Global,
+    text: &str,
+) -> Result<String, Error> {
+    let tree = read_str::<T>(alloc, text)?;
+    Ok(told(alloc, text, &nodes(alloc, &tree)?)?)
+}
+
+/// A tree of the text has these nodes.
+fn has<T: Parse + Walk<Attribute, Expr> + Drop>(
+    rt: &impl Abort,
+    alloc: Global,
+    text: &str,
+    wanted: &str,
+) {
+    match in_tree::<T>(alloc, text) {
+        Ok(found) => text_is(rt, found.as_str(), wanted),
+        Err(error) => text_is(rt, error.text(), wanted),
+    }
+}
+
+#[test]
+fn types(rt: HostRuntime) {
+    let alloc = rt.alloc();
+    for (text, wanted) in [
+        ("_", "T _; "),
+        ("!", "T !; "),
+        ("m::n!(a)", "T m::n!(a); M m::n; "),
+        ("[u8; 2 * N]", "T [u8; 2 * N]; T u8; P u8; "),
+        (
+            "(A, (B), [C])",
+            "T (A, (B), [C]); T A; P A; T (B); T B; P B; T [C]; T C; P C; ",
+        ),
+        (
+            "*const &'a mut A",
+            "T *const &'a mut A; T &'a mut A; L 'a; T A; P A; ",
+        ),
+        (
+            "&'a Map<'b, [K; n]>",
+            "T &'a Map<'b, [K; n]>; L 'a; T Map<'b, [K; n]>; P Map<'b, [K; n]>; L 'b; T [K; n]; T K; P K; ",
+        ),
+        // the type that qualifies a path stands before it
+        (
+            "<T as a::B<U>>::C<'d>",
+            "T <T as a::B<U>>::C<'d>; T T; P T; P a::B<U>>::C<'d>; T U; P U; L 'd; ",
+        ),
+        (
+            "for<'a> fn(x: &'a A, B, ...) -> C",
+            "T for<'a> fn(x: &'a A, B, ...) -> C; L 'a; T &'a A; L 'a; T A; P A; T B; P B; T C; P C; ",
+        ),
+        (
+            "dyn Fn(A) -> B",
+            "T dyn Fn(A) -> B; P Fn(A) -> B; T A; P A; T B; P B; ",
+        ),
+        (
+            "impl for<'a> A<'a> + 'b + use<'c, T>",
+            "T impl for<'a> A<'a> + 'b + use<'c, T>; L 'a; P A<'a>; L 'a; L 'b; L 'c; ",
+        ),
+        (
+            "A<{ n }, N<'a> = 1, I<T> = U, J<'b>: B + ?C>",
+            "T A<{ n }, N<'a> = 1, I<T> = U, J<'b>: B + ?C>; P A<{ n }, N<'a> = 1, I<T> = U, J<'b>: B + ?C>; L 'a; T T; P T; T U; P U; L 'b; P B; P C; ",
+        ),
+        ("\\(A\\)", "T \\(A\\); T A; P A; "),
+    ] {
+        has::<Type>(&rt, alloc, text, wanted);
+    }
+}
+
+#[test]
+fn bounds_and_generics(rt: HostRuntime) {
+    let alloc = rt.alloc();
+    has::<TypeParamBound>(&rt, alloc, "'a", "L 'a; ");
+    has::<TypeParamBound>(
+        &rt,
+        alloc,
+        "(for<'a, 'b: 'a> a::B<'b>)",
+        "L 'a; L 'b; L 'a; P a::B<'b>; L 'b; ",
+    );
+    has::<Generics>(
+        &rt,
+        alloc,
+        "<'a: 'b + 'c, #[d(e)] T: ?F<'a> + 'b = U, const N: u8 = { n }>",
+        "L 'a; L 'b; L 'c; P F<'a>; L 'a; L 'b; T U; P U; T u8; P u8; ",
+    );
+    has::<WhereClause>(
+        &rt,
+        alloc,
+        "where for<'a> T: A<'a> + 'd, 'b: 'c",
+        "L 'a; T T; P T; P A<'a>; L 'a; L 'd; L 'b; L 'c; ",
+    );
+}
+
+fn in_bounds(alloc: Global, text: &str) -> Result<String, Error> {
+    let read = ByFn(Punctuated::<TypeParamBound, Plus>::parse_terminated);
+    let bounds = read_str_with(alloc, read, text)?;
+    Ok(told(alloc, text, &nodes(alloc, &bounds)?)?)
+}
+
+#[test]
+fn lists(rt: HostRuntime) {
+    match in_bounds(rt.alloc(), "A<B> + 'c") {
+        Ok(found) => text_is(&rt, found.as_str(), "P A<B>; T B; P B; L 'c; "),
+        Err(_) => panic!(rt; "refused"),
+    }
+}
+
+/// It stands there.
+fn stands(rt: &impl Abort, place: Span, lo: usize, hi: usize) {
+    assert_eq!(rt; place.lo, lo);
+    assert_eq!(rt; place.hi, hi);
+}
+
+#[test]
+fn places_of_tokens(rt: HostRuntime) {
+    let alloc = rt.alloc();
+    stands(&rt, span_of_tokens(&TokenStream::new(alloc)), 0, 0);
+    match lex(alloc, " a (b) ") {
+        Ok(list) => stands(&rt, span_of_tokens(&list), 1, 6),
+        Err(_) => panic!(rt; "refused"),
+    }
+}
+
+/// Tokens that no text gave are passed over.
+#[test]
+fn places_of_prints(rt: HostRuntime) -> Result<(), Fail> {
+    let alloc = rt.alloc();
+    let mut joined = Punctuated::<Ident, Comma>::new(alloc);
+    joined.push_value(Ident::new(alloc, "a", Span::none())?)?;
+    stands(&rt, span_of(alloc, &joined)?, 0, 0);
+    joined.push_punct(Comma::default())?;
+    joined.push_value(Ident::new(alloc, "b", Span::new(7, 8))?)?;
+    joined.push_punct(Comma::default())?;
+    stands(&rt, span_of(alloc, &joined)?, 7, 8);
+    Ok(())
+}
