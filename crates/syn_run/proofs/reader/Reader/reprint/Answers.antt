@@ -41,4 +41,4 @@ pub returns-in-Patterns : goal.returns-in-Patterns
 returns-in-Patterns g c = rw c.in-Patterns.is c.reprint_over-in-Patterns.ensures
 
 pub returns-in-Items : goal.returns-in-Items
-returns-in-Items c = rw c.in-Items.is c.reprint_over-in-Items.ensures
+returns-in-Items g c = rw c.in-Items.is c.reprint_over-in-Items.ensures
