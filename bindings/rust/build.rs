@@ -17,7 +17,7 @@ fn main() {
     let library = folder.join(LIBRARY);
     println!("cargo:rerun-if-changed={}", library.display());
     if !library.is_file() {
-        panic!("there is no {}: run `rt lib` in crates/kulojenta_c, or say in KULOJENTA_LIB in which folder {LIBRARY} is", library.display());
+        panic!("there is no {}: run `checks/bindings --into FOLDER`, and say in KULOJENTA_LIB in which folder {LIBRARY} is", library.display());
     }
     println!("cargo:rustc-link-search=native={}", folder.display());
     println!("cargo:rustc-link-lib=static=kulojenta_c");
