@@ -43,8 +43,8 @@ never_moves k (a_never i) q = let a = bang_moves k i q in record { calm = a.calm
 pub type_call_moves : {x : Macro} {l r : Toks} (k : Toks) → IsTypeCall true x l r → Calm l → Moved (IsTypeCall true x) k l r
 type_call_moves {l = l} k (i, h) q = let a = call_moves k i q in record { calm = a.calm; is = (a.is, (steady k l (call_there i) q).words _ ∙ h) }
 
-pub held_before : (t : TokenStream) (l r k : Toks) → Holds t l r → Holds t (before l k) (before r k)
-held_before t l r k h = ap (λ z. before z k) h ∙ row_before (trees t) r k
+holds_before : (t : TokenStream) (l r k : Toks) → Holds t l r → Holds t (before l k) (before r k)
+holds_before t l r k h = ap (λ z. before z k) h ∙ row_before (trees t) r k
 
 module _ {A E : Type 0} (part : Manner → Parts A E) (k : Toks) (up : Moving k (part clearly)) where
   optional_for_moves : {o : Option (BoundLifetimes A E)} {l r : Toks} → IsOptional (IsFor part clearly) o l r → Calm l → Moved (IsOptional (IsFor part clearly) o) k l r
@@ -238,7 +238,7 @@ module _ {A E : Type 0} (part : Manner → Parts A E) (k : Toks) (up : Moving k 
   type_moves (an_array_type i) q = let a = counted_moves i q in record { calm = a.calm; is = an_array_type a.is }
   type_moves (an_infer_type i) q = let a = infer_moves k i q in record { calm = a.calm; is = an_infer_type a.is }
   type_moves (a_never_type i) q = let a = never_moves k i q in record { calm = a.calm; is = a_never_type a.is }
-  type_moves {l = l} {r = r} (a_verbatim_type {t = t} (i, h)) q = let a = verbatim_moves i q in record { calm = a.calm; is = a_verbatim_type (a.is, held_before t l r k h) }
+  type_moves {l = l} {r = r} (a_verbatim_type {t = t} (i, h)) q = let a = verbatim_moves i q in record { calm = a.calm; is = a_verbatim_type (a.is, holds_before t l r k h) }
 
   pub type_there : {place : TypePlace} {e : End} {x : TypeTree A E} {l r : Toks} → IsType part clearly place e x l r → is_done l ≡ false
   type_there (a_path_type i) = any_path_there part k up i.0
