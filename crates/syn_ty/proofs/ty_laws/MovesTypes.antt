@@ -43,7 +43,7 @@ never_moves k (a_never i) q = let a = bang_moves k i q in record { calm = a.calm
 pub type_call_moves : {x : Macro} {l r : Toks} (k : Toks) → IsTypeCall true x l r → Calm l → Moved (IsTypeCall true x) k l r
 type_call_moves {l = l} k (i, h) q = let a = call_moves k i q in record { calm = a.calm; is = (a.is, (steady k l (call_there i) q).words _ ∙ h) }
 
-holds_before : (t : TokenStream) (l r k : Toks) → Holds t l r → Holds t (before l k) (before r k)
+pub holds_before : (t : TokenStream) (l r k : Toks) → Holds t l r → Holds t (before l k) (before r k)
 holds_before t l r k h = ap (λ z. before z k) h ∙ row_before (trees t) r k
 
 module _ {A E : Type 0} (part : Manner → Parts A E) (k : Toks) (up : Moving k (part clearly)) where

@@ -1,0 +1,234 @@
+-- A single pattern is spelt clearly before other tokens too, where no longer mark begins with `..` before these: each of its forms, over the patterns within.
+use Rattle.std.proofs.Common.{◌≡◌, ◌||◌, ℕ, Bool, true, false, List, [], ◌∷◌, Option, refl, sym, ◌∙◌, ap}
+use Rattle.token_core.specs.declared.lit.Lit.{Lit}
+use Rattle.token_core.specs.declared.range.RangeLimits.{RangeLimits}
+use Rattle.token_core.specs.declared.span.Span.{Span}
+use Rattle.token_core.specs.declared.tree.Ident.{Ident}
+use Rattle.token_core.specs.declared.tree.Spacing.{Spacing}
+use Rattle.token_core.specs.declared.tree.Spacing.TheVariants.{Joint}
+use Rattle.token_core.specs.Clear.{Apart, is_glued}
+use Rattle.token_core.specs.Reads.{is_done, sees_mark}
+use Rattle.token_core.specs.Spellings.{IsMark, is_mark, last_char, more_chars, IsWord, IsLit, a_literal as a_lone, a_bool, a_negative, AreLimits, half_open, closed, AreOldLimits, new_limits, old_limits}
+use Rattle.token_core.specs.Tokens as token
+use Rattle.token_core.specs.Toks.{Toks, done, word, mark, lit, group, enter, leave}
+use Rattle.token_core.specs.Trees.{punct}
+use Rattle.syn_path.specs.declared.mac.Macro.{Macro}
+use Rattle.syn_path.specs.declared.path.PathStyle.TheVariants.{Expr as expressions}
+use Rattle.syn_path.specs.declared.supplied.Place.{Place}
+use Rattle.syn_path.specs.Ends.{before, Calm, Moved}
+use Rattle.syn_path.proofs.Moves.{Steady, steady, calm_after, call_there, free_moves, lit_moves, word_moves}
+use Rattle.syn_attr.specs.attr.Attrs.{Attribute as Attr}
+use Rattle.syn_attr.specs.declared.expr.Expr.{Expr}
+use Rattle.syn_attr.specs.declared.expr.ExprConstOf.{ExprConstOf}
+use Rattle.syn_ty.specs.ty.Parts.{Manner, clearly}
+use Rattle.syn_ty.specs.ty.Spelling.{IsOptional, Relation}
+use Rattle.syn_ty.specs.ty.Trees.{Path, QSelf}
+use Rattle.syn_ty.proofs.ty_laws.MovesKnot.{GivenMoves, moving_to}
+use Rattle.syn_ty.proofs.ty_laws.MovesParts.{a_group_there, a_word_there, chars_there, optional_moves, optional_there, word_there}
+use Rattle.syn_ty.proofs.ty_laws.MovesPaths.{any_path_there, no_try_moves}
+use Rattle.syn_ty.proofs.ty_laws.MovesTypes.{holds_before, type_call_moves}
+use Rattle.syn_pat.specs.declared.place.PatPlace.{PatPlace}
+use Rattle.syn_pat.specs.declared.place.PatPlace.TheVariants.{Single}
+use Rattle.syn_pat.specs.pat.Admitted.{IsBoxed, a_box, IsBoxedName, a_boxed_name, IsSubpat, a_subpat, IsBinding, a_binding, IsSingle, a_binding_pat, a_wild, a_rest, a_literal, a_const, a_call, a_path, a_range, a_reference, a_mutable_reference, a_paren, a_tuple, a_slice, a_tuple_struct, a_struct, a_verbatim, IsPat, a_single, some_cases, one_after_vert, some_after_vert}
+use Rattle.syn_pat.specs.pat.Pats.{Pat, PatIdent, PatRange, PatRangeBound}
+use Rattle.syn_pat.specs.pat.Spelling.{outer_spelt, values_spelt, types_to, IsConstBlock, a_const_block, IsPatPath, a_pat_path, IsHead, IsEnd, a_literal_end, a_path_end, a_const_end, IsStart, a_literal_start, a_path_start, a_const_start, IsRange, without_end, without_start, with_both, IsPatCall}
+
+-- ---- `..`
+
+-- no longer mark begins with `..` before these
+abbrev pub NoDots : Toks → Type 0
+NoDots k = is_glued (46 ∷ 46 ∷ []) k ≡ false
+
+-- what stands after nothing more
+past_done : (cs : List ℕ) (l k : Toks) → is_done l ≡ true → sees_mark cs (before l k) ≡ sees_mark cs k
+unfolding is_done sees_mark
+past_done cs done k h = refl
+past_done cs (word i l) k h = cc h
+past_done cs (mark p l) k h = cc h
+past_done cs (lit x l) k h = cc h
+past_done cs (group d s c l) k h = cc h
+past_done [] (enter s l) k h = refl
+past_done (c ∷ cs) (enter s l) k h = past_done (c ∷ cs) l k h
+past_done [] (leave l) k h = refl
+past_done (c ∷ cs) (leave l) k h = past_done (c ∷ cs) l k h
+
+module _ (k : Toks) (no_dots : NoDots k) where
+  dots_apart : (a : Span) (j : Spacing) (l : Toks) → Calm l → Apart true (46 ∷ 46 ∷ []) j l → Apart true (46 ∷ 46 ∷ []) j (before l k)
+  dots_apart a j l q h = λ y f. by_end (is_done l) refl f
+    where
+      by_end : (b : Bool) → is_done l ≡ b → j ≡ Joint → is_glued (46 ∷ 46 ∷ []) (before l k) ≡ false
+      by_end true e f = ap (λ z. z || (sees_mark (61 ∷ []) (before l k) || false)) (past_done (46 ∷ []) l k e) ∙ ap (λ z. sees_mark (46 ∷ []) k || (z || false)) (past_done (61 ∷ []) l k e) ∙ no_dots
+      by_end false e f =
+          let s = steady k l e q in
+          ap (λ z. z || (sees_mark (61 ∷ []) (before l k) || false)) (s.one 46) ∙ ap (λ z. sees_mark (46 ∷ []) l || (z || false)) (s.one 61) ∙ h refl f
+
+  dots_move : {x : token.DotDot} {l r : Toks} → IsMark true x l r → Calm l → Moved (IsMark true x) k l r
+  dots_move (is_mark (more_chars {a = a} {l = m} (last_char {a = b} {j = j} {r = r} h))) q =
+      let p = calm_after (punct 46 j b) r (calm_after (punct 46 Joint a) m q) in
+      record { calm = p; is = is_mark (more_chars (last_char (dots_apart b j r p h))) }
+
+  limits_move : {x : RangeLimits} {l r : Toks} → AreLimits true x l r → Calm l → Moved (AreLimits true x) k l r
+  limits_move (half_open i) q = let a = dots_move i q in record { calm = a.calm; is = half_open a.is }
+  limits_move (closed i) q = let a = free_moves (λ l. refl) k i q in record { calm = a.calm; is = closed a.is }
+
+  old_limits_move : {x : RangeLimits} {l r : Toks} → AreOldLimits true x l r → Calm l → Moved (AreOldLimits true x) k l r
+  old_limits_move (new_limits i) q = let a = limits_move i q in record { calm = a.calm; is = new_limits a.is }
+  old_limits_move (old_limits i) q = let a = free_moves (λ l. refl) k i q in record { calm = a.calm; is = old_limits a.is }
+
+-- ---- something stands there
+
+dots_there : (d : token.DotDot) {l r : Toks} → IsMark true d l r → is_done l ≡ false
+dots_there d (is_mark i) = chars_there i
+
+lit_there : (x : Lit) (l r : Toks) → IsLit x l r → is_done l ≡ false
+unfolding is_done
+lit_there x l r a_lone = refl
+lit_there x l r a_bool = refl
+lit_there x l r (a_negative h) = refl
+
+limits_there : {x : RangeLimits} {l r : Toks} → AreLimits true x l r → is_done l ≡ false
+limits_there (half_open (is_mark i)) = chars_there i
+limits_there (closed (is_mark i)) = chars_there i
+
+-- ---- the name of a field that is held verbatim
+
+pub boxed_name_moves : {i : Ident} (k : Toks) {l r : Toks} → IsBoxedName i l r → Calm l → Moved (IsBoxedName i) k l r
+boxed_name_moves k (a_boxed_name b f u h) q =
+    let a = word_moves k b q in
+    let c = optional_moves k f a.calm (λ x l r i q. word_moves k i q) in
+    let d = optional_moves k u c.calm (λ x l r i q. word_moves k i q) in
+    record { calm = d.calm; is = a_boxed_name a.is c.is d.is h }
+
+-- ---- what is known of single patterns within a form
+
+module _ {X : Type 0} where
+  pub record SinglesMove (part : PatPlace → Relation (Pat X)) : Type 0 where
+    pub single : (k : Toks) → NoDots k → (x : Pat X) (l r : Toks) → part Single x l r → Calm l → Moved (part Single x) k l r
+    pub there : (x : Pat X) (l r : Toks) → part Single x l r → is_done l ≡ false
+
+module _ {X : Type 0} (spells : Place → X → Toks → Type 0) (types : GivenMoves (outer_spelt spells) (values_spelt spells)) where
+  -- ---- paths, const blocks and ranges
+
+  pat_path_moves : {o : Option (QSelf (Attr X) (Expr X))} {p : Path (Attr X) (Expr X)} {l r : Toks} (k : Toks) → IsPatPath spells clearly o p l r → Calm l → Moved (IsPatPath spells clearly o p) k l r
+  pat_path_moves k (a_pat_path n i) q = let a = no_try_moves (types_to spells n) k (moving_to (outer_spelt spells) (values_spelt spells) types k n) i q in record { calm = a.calm; is = a_pat_path n a.is }
+
+  pat_path_there : {o : Option (QSelf (Attr X) (Expr X))} {p : Path (Attr X) (Expr X)} {l r : Toks} → IsPatPath spells clearly o p l r → is_done l ≡ false
+  pat_path_there (a_pat_path n i) = any_path_there (types_to spells n) done (moving_to (outer_spelt spells) (values_spelt spells) types done n) i.0
+
+  head_moves : {o : Option (QSelf (Attr X) (Expr X))} {p : Path (Attr X) (Expr X)} {l r : Toks} (k : Toks) → IsHead spells clearly o p l r → Calm l → Moved (IsHead spells clearly o p) k l r
+  head_moves k (i, h) q = let a = pat_path_moves k i q in record { calm = a.calm; is = (a.is, h) }
+
+  block_moves : {x : ExprConstOf (Attr X) X} {l r : Toks} (k : Toks) → IsConstBlock spells x l r → Calm l → Moved (IsConstBlock spells x) k l r
+  block_moves k (a_const_block i j) q = let a = word_moves k i q in record { calm = a.calm; is = a_const_block a.is j }
+
+  block_there : {x : ExprConstOf (Attr X) X} {l r : Toks} → IsConstBlock spells x l r → is_done l ≡ false
+  block_there (a_const_block i j) = word_there i
+
+  end_moves : {x : PatRangeBound X} {l r : Toks} (k : Toks) → IsEnd spells clearly x l r → Calm l → Moved (IsEnd spells clearly x) k l r
+  end_moves k (a_literal_end i) q = let a = lit_moves k i q in record { calm = a.calm; is = a_literal_end a.is }
+  end_moves k (a_path_end i) q = let a = pat_path_moves k i q in record { calm = a.calm; is = a_path_end a.is }
+  end_moves k (a_const_end i) q = let a = block_moves k i q in record { calm = a.calm; is = a_const_end a.is }
+
+  start_moves : {x : PatRangeBound X} {l r : Toks} (k : Toks) → IsStart spells clearly x l r → Calm l → Moved (IsStart spells clearly x) k l r
+  start_moves k (a_literal_start i) q = let a = lit_moves k i q in record { calm = a.calm; is = a_literal_start a.is }
+  start_moves k (a_path_start i) q = let a = head_moves k i q in record { calm = a.calm; is = a_path_start a.is }
+  start_moves k (a_const_start i) q = let a = block_moves k i q in record { calm = a.calm; is = a_const_start a.is }
+
+  start_there : {x : PatRangeBound X} {l r : Toks} → IsStart spells clearly x l r → is_done l ≡ false
+  start_there (a_literal_start i) = lit_there _ _ _ i
+  start_there (a_path_start i) = pat_path_there i.0
+  start_there (a_const_start i) = block_there i
+
+  range_moves : {x : PatRange X} {l r : Toks} (k : Toks) → NoDots k → IsRange spells clearly x l r → Calm l → Moved (IsRange spells clearly x) k l r
+  range_moves k n (without_end i d) q = let a = start_moves k i q in let b = dots_move k n d a.calm in record { calm = b.calm; is = without_end a.is b.is }
+  range_moves k n (without_start t i) q = let a = limits_move k n t q in let b = end_moves k i a.calm in record { calm = b.calm; is = without_start a.is b.is }
+  range_moves k n (with_both i t j) q =
+      let a = start_moves k i q in
+      let b = old_limits_move k n t a.calm in
+      let c = end_moves k j b.calm in
+      record { calm = c.calm; is = with_both a.is b.is c.is }
+
+  range_there : {x : PatRange X} {l r : Toks} → IsRange spells clearly x l r → is_done l ≡ false
+  range_there (without_end i d) = start_there i
+  range_there (without_start t i) = limits_there t
+  range_there (with_both i t j) = start_there i
+
+  call_moves : {x : Macro} {l r : Toks} (k : Toks) → IsPatCall true x l r → Calm l → Moved (IsPatCall true x) k l r
+  call_moves k (i, h) q = let a = type_call_moves k i q in record { calm = a.calm; is = (a.is, h) }
+
+  -- ---- over single patterns within
+
+  module _ (part : Manner → PatPlace → Relation (Pat X)) (up : SinglesMove (part clearly)) where
+    pub boxed_moves : (k : Toks) → NoDots k → {l r : Toks} → IsBoxed part clearly l r → Calm l → Moved (IsBoxed part clearly) k l r
+    boxed_moves k n (a_box b i) q = let a = word_moves k b q in let c = up.single k n _ _ _ i a.calm in record { calm = c.calm; is = a_box a.is c.is }
+
+    module _ (k : Toks) (n : NoDots k) where
+      sub_moves : {x : token.At × Pat X} {l r : Toks} → IsSubpat spells part clearly x l r → Calm l → Moved (IsSubpat spells part clearly x) k l r
+      sub_moves (a_subpat i j) q = let a = free_moves (λ l. refl) k i q in let b = up.single k n _ _ _ j a.calm in record { calm = b.calm; is = a_subpat a.is b.is }
+
+      binding_moves : {x : PatIdent X} {l r : Toks} → IsBinding spells part clearly x l r → Calm l → Moved (IsBinding spells part clearly x) k l r
+      binding_moves (a_binding f u h s) q =
+          let a = optional_moves k f q (λ x l r i q. word_moves k i q) in
+          let b = optional_moves k u a.calm (λ x l r i q. word_moves k i q) in
+          let c = optional_moves k s b.calm (λ x l r i q. sub_moves i q) in
+          record { calm = c.calm; is = a_binding a.is b.is h c.is }
+
+      pub single_moves : (x : Pat X) (l r : Toks) → IsSingle spells part clearly x l r → Calm l → Moved (IsSingle spells part clearly x) k l r
+      single_moves x l r (a_binding_pat i) q = let a = binding_moves i q in record { calm = a.calm; is = a_binding_pat a.is }
+      single_moves x l r (a_wild i) q = let a = word_moves k i q in record { calm = a.calm; is = a_wild a.is }
+      single_moves x l r (a_rest i) q = let a = dots_move k n i q in record { calm = a.calm; is = a_rest a.is }
+      single_moves x l r (a_literal i) q = let a = lit_moves k i q in record { calm = a.calm; is = a_literal a.is }
+      single_moves x l r (a_const i) q = let a = block_moves k i q in record { calm = a.calm; is = a_const a.is }
+      single_moves x l r (a_call i) q = let a = call_moves k i q in record { calm = a.calm; is = a_call a.is }
+      single_moves x l r (a_path i h) q = let a = pat_path_moves k i q in record { calm = a.calm; is = a_path a.is h }
+      single_moves x l r (a_range i) q = let a = range_moves k n i q in record { calm = a.calm; is = a_range a.is }
+      single_moves x l r (a_reference {m = m} i h j) q =
+          let a = free_moves (λ l. refl) k i q in
+          let b = up.single k n _ _ _ j a.calm in
+          record { calm = b.calm; is = a_reference a.is ((steady k m (up.there _ _ _ j) a.calm).words _ ∙ h) b.is }
+      single_moves x l r (a_mutable_reference i u j) q =
+          let a = free_moves (λ l. refl) k i q in
+          let b = word_moves k u a.calm in
+          let c = up.single k n _ _ _ j b.calm in
+          record { calm = c.calm; is = a_mutable_reference a.is b.is c.is }
+      single_moves x l r (a_paren i h) q = record { calm = q; is = a_paren i h }
+      single_moves x l r (a_tuple i h) q = record { calm = q; is = a_tuple i h }
+      single_moves x l r (a_slice i) q = record { calm = q; is = a_slice i }
+      single_moves x l r (a_tuple_struct i j) q = let a = head_moves k i q in record { calm = a.calm; is = a_tuple_struct a.is j }
+      single_moves x l r (a_struct i j) q = let a = head_moves k i q in record { calm = a.calm; is = a_struct a.is j }
+      single_moves x l r (a_verbatim {t = t} (i, h)) q = let a = boxed_moves k n i q in record { calm = a.calm; is = a_verbatim (a.is, holds_before t l r k h) }
+
+    binding_there : {x : PatIdent X} {l r : Toks} → IsBinding spells part clearly x l r → is_done l ≡ false
+    binding_there (a_binding f u h s) = optional_there f (λ x i. word_there i) (optional_there u (λ x i. word_there i) (a_word_there _ _))
+
+    pub single_there : (x : Pat X) (l r : Toks) → IsSingle spells part clearly x l r → is_done l ≡ false
+    single_there x l r (a_binding_pat i) = binding_there i
+    single_there x l r (a_wild i) = word_there i
+    single_there x l r (a_rest i) = dots_there _ i
+    single_there x l r (a_literal i) = lit_there _ _ _ i
+    single_there x l r (a_const i) = block_there i
+    single_there x l r (a_call i) = call_there i.0.0
+    single_there x l r (a_path i h) = pat_path_there i
+    single_there x l r (a_range i) = range_there i
+    single_there x l r (a_reference (is_mark i) h j) = chars_there i
+    single_there x l r (a_mutable_reference (is_mark i) u j) = chars_there i
+    single_there x l r (a_paren i h) = a_group_there _ _ _ _
+    single_there x l r (a_tuple i h) = a_group_there _ _ _ _
+    single_there x l r (a_slice i) = a_group_there _ _ _ _
+    single_there x l r (a_tuple_struct i j) = pat_path_there i.0
+    single_there x l r (a_struct i j) = pat_path_there i.0
+    single_there x l r (a_verbatim (a_box b i, h)) = word_there b
+
+    -- ---- in the place of a single pattern
+
+    pub pat_moves : (k : Toks) → NoDots k → (x : Pat X) (l r : Toks) → IsPat spells part clearly Single x l r → Calm l → Moved (IsPat spells part clearly Single x) k l r
+    pat_moves k n x l r (a_single i h) q = let a = single_moves k n x l r i q in record { calm = a.calm; is = a_single a.is h }
+    pat_moves k n x l r (some_cases h i) q = cc h
+    pat_moves k n x l r (one_after_vert h i j) q = cc h
+    pat_moves k n x l r (some_after_vert h i j) q = cc h
+
+    pub pat_there : (x : Pat X) (l r : Toks) → IsPat spells part clearly Single x l r → is_done l ≡ false
+    pat_there x l r (a_single i h) = single_there x l r i
+    pat_there x l r (some_cases h i) = cc h
+    pat_there x l r (one_after_vert h i j) = cc h
+    pat_there x l r (some_after_vert h i j) = cc h
