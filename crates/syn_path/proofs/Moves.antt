@@ -33,7 +33,7 @@ use Rattle.token_core.proofs.Flats.{tree-roll, group-roll, stream-roll}
 use Rattle.syn_path.specs.declared.mac.Macro.{Macro}
 use Rattle.syn_path.specs.declared.path.PathOf.{PathOf}
 use Rattle.syn_path.specs.declared.path.PathSegmentOf.{PathSegmentOf}
-use Rattle.syn_path.specs.Ends.{before, Calm, ends_glued, may_go_on, Moved}
+use Rattle.syn_path.specs.Ends.{before, Calm, ends_with, is_glued_bang, is_other_glued, may_go_on, Moved}
 use Rattle.syn_path.specs.mac.Spelling.{IsCall, a_macro}
 use Rattle.syn_path.specs.path.Paths.{Sep}
 use Rattle.syn_path.specs.path.Spelling.{IsLeading, no_leading, leading, AreSegments, last_segment, more_segments, IsBarePath, a_bare_path, sep_chars}
@@ -54,13 +54,13 @@ calm_done (leave l) h = calm_done l h
 pub calm_after : (p : Punct) (l : Toks) → Calm (mark p l) → Calm l
 calm_after p l q = by_end (is_done l) refl q
   where
-    by_end : (b : Bool) → is_done l ≡ b → (if b then may_go_on p else ends_glued l) ≡ false → ends_glued l ≡ false
+    by_end : (b : Bool) → is_done l ≡ b → (if b then may_go_on p else ends_with may_go_on l) ≡ false → ends_with may_go_on l ≡ false
     by_end true e h = calm_done l e
     by_end false e h = h
 
 -- a mark that nothing follows
 calm_last : (p : Punct) (l : Toks) → is_done l ≡ true → Calm (mark p l) → may_go_on p ≡ false
-calm_last p l e q = ap (λ (b : Bool). if b then may_go_on p else ends_glued l) (sym e) ∙ q
+calm_last p l e q = ap (λ (b : Bool). if b then may_go_on p else ends_with may_go_on l) (sym e) ∙ q
 
 -- ---- what is seen before others, where something stands there
 
@@ -98,50 +98,41 @@ both false b e f = cc e
 abbrev Goes : ℕ → Type 0
 Goes c = (p : Punct) → (p.ch == c) ≡ true → is_joint p.spacing ≡ true → may_go_on p ≡ true
 
--- one of six tests
-module _ (a b c d e f : Bool) where
-  first : a ≡ true → (a || (b || (c || (d || (e || f))))) ≡ true
-  first h = or_left a (b || (c || (d || (e || f)))) h
+-- one of five tests
+module _ (b c d e f : Bool) where
+  second : b ≡ true → (b || (c || (d || (e || f)))) ≡ true
+  second h = or_left b (c || (d || (e || f))) h
 
-  second : b ≡ true → (a || (b || (c || (d || (e || f))))) ≡ true
-  second h = or_right a (b || (c || (d || (e || f)))) (or_left b (c || (d || (e || f))) h)
+  third : c ≡ true → (b || (c || (d || (e || f)))) ≡ true
+  third h = or_right b (c || (d || (e || f))) (or_left c (d || (e || f)) h)
 
-  third : c ≡ true → (a || (b || (c || (d || (e || f))))) ≡ true
-  third h = or_right a (b || (c || (d || (e || f)))) (or_right b (c || (d || (e || f))) (or_left c (d || (e || f)) h))
+  fourth : d ≡ true → (b || (c || (d || (e || f)))) ≡ true
+  fourth h = or_right b (c || (d || (e || f))) (or_right c (d || (e || f)) (or_left d (e || f) h))
 
-  fourth : d ≡ true → (a || (b || (c || (d || (e || f))))) ≡ true
-  fourth h = or_right a (b || (c || (d || (e || f)))) (or_right b (c || (d || (e || f))) (or_right c (d || (e || f)) (or_left d (e || f) h)))
-
-  fifth : e ≡ true → (a || (b || (c || (d || (e || f))))) ≡ true
-  fifth h = or_right a (b || (c || (d || (e || f)))) (or_right b (c || (d || (e || f))) (or_right c (d || (e || f)) (or_right d (e || f) (or_left e f h))))
-
-  sixth : f ≡ true → (a || (b || (c || (d || (e || f))))) ≡ true
-  sixth h = or_right a (b || (c || (d || (e || f)))) (or_right b (c || (d || (e || f))) (or_right c (d || (e || f)) (or_right d (e || f) (or_right e f h))))
+  sixth : f ≡ true → (b || (c || (d || (e || f)))) ≡ true
+  sixth h = or_right b (c || (d || (e || f))) (or_right c (d || (e || f)) (or_right d (e || f) (or_right e f h)))
 
 module _ (p : Punct) where
   abbrev any : Bool
-  any = p.ch == 33 || (p.ch == 58 || (p.ch == 61 || (p.ch == 60 || (p.ch == 124 || p.ch == 39))))
+  any = p.ch == 58 || (p.ch == 61 || (p.ch == 60 || (p.ch == 124 || p.ch == 39)))
 
-  of_six : any ≡ true → is_joint p.spacing ≡ true → may_go_on p ≡ true
-  of_six h j = both (is_joint p.spacing) any j h
+  of_five : any ≡ true → is_joint p.spacing ≡ true → may_go_on p ≡ true
+  of_five h j = or_right (is_glued_bang p) (is_other_glued p) (both (is_joint p.spacing) any j h)
 
 bang_goes : Goes 33
-bang_goes p e = of_six p (first (p.ch == 33) (p.ch == 58) (p.ch == 61) (p.ch == 60) (p.ch == 124) (p.ch == 39) e)
+bang_goes p e j = or_left (is_glued_bang p) (is_other_glued p) (both (is_joint p.spacing) (p.ch == 33) j e)
 
 colon_goes : Goes 58
-colon_goes p e = of_six p (second (p.ch == 33) (p.ch == 58) (p.ch == 61) (p.ch == 60) (p.ch == 124) (p.ch == 39) e)
+colon_goes p e = of_five p (second (p.ch == 58) (p.ch == 61) (p.ch == 60) (p.ch == 124) (p.ch == 39) e)
 
 equals_goes : Goes 61
-equals_goes p e = of_six p (third (p.ch == 33) (p.ch == 58) (p.ch == 61) (p.ch == 60) (p.ch == 124) (p.ch == 39) e)
+equals_goes p e = of_five p (third (p.ch == 58) (p.ch == 61) (p.ch == 60) (p.ch == 124) (p.ch == 39) e)
 
 lt_goes : Goes 60
-lt_goes p e = of_six p (fourth (p.ch == 33) (p.ch == 58) (p.ch == 61) (p.ch == 60) (p.ch == 124) (p.ch == 39) e)
-
-bar_goes : Goes 124
-bar_goes p e = of_six p (fifth (p.ch == 33) (p.ch == 58) (p.ch == 61) (p.ch == 60) (p.ch == 124) (p.ch == 39) e)
+lt_goes p e = of_five p (fourth (p.ch == 58) (p.ch == 61) (p.ch == 60) (p.ch == 124) (p.ch == 39) e)
 
 quote_goes : Goes 39
-quote_goes p e = of_six p (sixth (p.ch == 33) (p.ch == 58) (p.ch == 61) (p.ch == 60) (p.ch == 124) (p.ch == 39) e)
+quote_goes p e = of_five p (sixth (p.ch == 58) (p.ch == 61) (p.ch == 60) (p.ch == 124) (p.ch == 39) e)
 
 module _ (p : Punct) (k l : Toks) (q : Calm (mark p l)) where
   -- a mark that may go on is not the last token
@@ -210,6 +201,16 @@ steady k (lit x l) e q = record { one = λ c. refl; less = refl; sep = refl; liv
 steady k (group d s c l) e q = record { one = λ c. refl; less = refl; sep = refl; lives = refl; words = λ t. refl }
 steady k (enter s l) e q = let z = steady k l e q in record { one = z.one; less = z.less; sep = z.sep; lives = z.lives; words = z.words }
 steady k (leave l) e q = let z = steady k l e q in record { one = z.one; less = z.less; sep = z.sep; lives = z.lives; words = z.words }
+
+pub words_before : (k l : Toks) → is_done l ≡ false → (test : Bytes → Bool) → sees_word test (before l k) ≡ sees_word test l
+unfolding is_done sees_word
+words_before k done e test = cc e
+words_before k (word i l) e test = refl
+words_before k (mark p l) e test = refl
+words_before k (lit x l) e test = refl
+words_before k (group d s c l) e test = refl
+words_before k (enter s l) e test = words_before k l e test
+words_before k (leave l) e test = words_before k l e test
 
 -- ---- marks
 

@@ -29,7 +29,7 @@ use Rattle.syn_ty.specs.path.Spelling.{is_segment_word, IsAnyPath, unqualified, 
 use Rattle.syn_ty.specs.ty.Parts.{Manner, loosely, plainly, clearly, is_clear, IsVerbatim, Parts}
 use Rattle.syn_ty.specs.ty.Spelling.{absent, present, Relation}
 use Rattle.syn_ty.specs.ty.Trees.{Path, PathSegment, QSelf, TypeTree}
-use Rattle.syn_path.proofs.Moves.{row_before, steady}
+use Rattle.syn_path.proofs.Moves.{row_before, words_before}
 use Rattle.syn_ty.proofs.ty_laws.MovesParts.{word_there}
 use Rattle.syn_pat.specs.declared.pat.PatOf.{out-PatOf, map-PatOf}
 use Rattle.syn_pat.specs.declared.pat.PatOf.TheFolds.{fold_out-PatOf}
@@ -250,7 +250,7 @@ module _ {X : Type 0} (part : Manner → PatPlace → Relation (Pat X)) where
   held_no_mut loosely t l r (i, h) = box_no_mut loosely l r i
   held_no_mut plainly t l r ((i, q), h) =
       let own = row (trees t) done in
-      ap token.sees_mut (h ∙ sym (row_before (trees t) done r)) ∙ (steady r own (box_there clearly own done i) q).words _ ∙ box_no_mut clearly own done i
+      ap token.sees_mut (h ∙ sym (row_before (trees t) done r)) ∙ words_before r own (box_there clearly own done i) _ ∙ box_no_mut clearly own done i
   held_no_mut clearly t l r (i, h) = box_no_mut clearly l r i
 
   module _ (spells : Place → X → Toks → Type 0) (how : Manner) where

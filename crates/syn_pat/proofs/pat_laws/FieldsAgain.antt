@@ -38,7 +38,7 @@ use Rattle.syn_pat.specs.pat.Spelling.{outer_spelt, is_binding_name}
 use Rattle.syn_pat.proofs.pat_laws.BeginsAgain.{mut_first}
 use Rattle.syn_pat.proofs.pat_laws.NormalsAgain.{normal-Ident, normal-Verbatim}
 use Rattle.syn_pat.proofs.pat_laws.PartsAgain.{SuppliedAgain, Stopped, comma_stops, held_front, listed_stop, marked_stop, stopped, stops_done}
-use Rattle.syn_pat.proofs.pat_laws.PatsMove.{SinglesMove, boxed_name_moves}
+use Rattle.syn_pat.proofs.pat_laws.PatsMove.{SinglesMove, boxed_name_moves, boxed_name_over}
 use Rattle.syn_pat.proofs.pat_laws.Prints.{last_mapped, pat-Ident, pat-Verbatim}
 
 member_front : (x : Member) (l r : Toks) → IsMember x l r → AgainFront IsMember (λ (z : Member). z) members.print x l r
@@ -130,7 +130,7 @@ module _ {X : Type 0} (spells : Place → X → Toks → Type 0) (nx : Place →
         (λ z. ap (field_of (normal.attrs nx z.0) (member.Named z.1.1.1) None) (normal-Ident nx (binding_of [] z.1.0 z.1.1.0 z.1.1.1 None))) name_prints (a, (f, (u, i))) l r (then_front (g.types.attrs a l m o) (name_front is_ident f u i m n r t q h)))
     field_again x l r (boxed {a = a} {i = i} {t = t} {m = m} o h) =
         made_front (Then Outer (Stopped (IsVerbatim (λ (w : Manner). IsBoxedName i) clearly))) (Stopped Fields) _ nf _ pf (held_field i) (λ z l r j e. boxed j.1 (j.2 e))
-        (λ z. ap (field_of (normal.attrs nx z.0) (member.Named i) None) (normal-Verbatim nx z.1)) (held_prints i) (a, t) l r (then_front (g.types.attrs a l m o) (held_front (λ (w : Manner). IsBoxedName i) (λ k e l r j q. boxed_name_moves k j q) t m r h))
+        (λ z. ap (field_of (normal.attrs nx z.0) (member.Named i) None) (normal-Verbatim nx z.1)) (held_prints i) (a, t) l r (then_front (g.types.attrs a l m o) (held_front (λ (w : Manner). IsBoxedName i) (λ k e l r j q. boxed_name_moves k j q) (λ l r j q. boxed_name_over j q) t m r h))
 
     -- ---- what the braces of a struct hold
 

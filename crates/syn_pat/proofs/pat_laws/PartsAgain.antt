@@ -27,7 +27,8 @@ use Rattle.syn_path.specs.declared.path.PathStyle.TheVariants.{Expr as expressio
 use Rattle.syn_path.specs.declared.supplied.Place.{Place}
 use Rattle.syn_path.specs.declared.supplied.Place.TheVariants.{Block, Guard}
 use Rattle.syn_path.specs.Supplied.{Reprints}
-use Rattle.syn_path.specs.Ends.{Calm, Moved}
+use Rattle.syn_path.specs.Ends.{Calm, Ended, Moved, NoBang, Shut}
+use Rattle.syn_path.proofs.Ends.{calm_of}
 use Rattle.syn_path.proofs.Moves.{row_before}
 use Rattle.syn_path.proofs.Words.{Again, AgainFront, row-group}
 use Rattle.syn_attr.specs.attr.Attrs.{Attribute as Attr, const_of, lit_of}
@@ -132,9 +133,12 @@ inside_front d s T n f whole x c r k =
 
 -- ---- held verbatim
 
-module _ (Form : Manner → Toks → Toks → Type 0) (moves : (k : Toks) → NoDots k → (l r : Toks) → Form clearly l r → Calm l → Moved (Form clearly) k l r) where
-  held_before : (t : TokenStream) → Form clearly (row (trees t) done) done → Calm (row (trees t) done) → (k : Toks) → NoDots k → Form clearly (row (trees t) k) k
-  held_before t i q k h = subst (λ z. Form clearly z k) (row_before (trees t) done k) (moves k h (row (trees t) done) done i q).is
+module _ (Form : Manner → Toks → Toks → Type 0) (moves : (k : Toks) → NoDots k → (l r : Toks) → Form clearly l r → Calm l → Moved (Form clearly) k l r) (ends : (l r : Toks) → Form clearly l r → Shut r → Ended l) where
+  held_before : (t : TokenStream) → Form clearly (row (trees t) done) done → NoBang (row (trees t) done) → (k : Toks) → NoDots k → Form clearly (row (trees t) k) k
+  held_before t i q k h =
+      let own = row (trees t) done in
+      let u = ends own done i refl in
+      subst (λ z. Form clearly z k) (row_before (trees t) done k) (moves k h own done i (calm_of own q u.apart)).is
 
   pub held_front : (t : TokenStream) (l r : Toks) → IsVerbatim Form plainly t l r → AgainFront (Stopped (IsVerbatim Form clearly)) (λ (z : TokenStream). z) (λ (z : TokenStream). trees z) t l r
   held_front t l r (i, j) =

@@ -7,7 +7,7 @@ use Rattle.token_core.specs.declared.tree.Ident.{Ident}
 use Rattle.token_core.specs.declared.tree.Spacing.{Spacing}
 use Rattle.token_core.specs.declared.tree.Spacing.TheVariants.{Joint}
 use Rattle.token_core.specs.Clear.{Apart, is_glued}
-use Rattle.token_core.specs.Reads.{is_done, sees_mark}
+use Rattle.token_core.specs.Reads.{is_done, is_joint, sees_mark}
 use Rattle.token_core.specs.Spellings.{IsMark, is_mark, last_char, more_chars, IsWord, IsLit, a_literal as a_lone, a_bool, a_negative, AreLimits, half_open, closed, AreOldLimits, new_limits, old_limits}
 use Rattle.token_core.specs.Tokens as token
 use Rattle.token_core.specs.Toks.{Toks, done, word, mark, lit, group, enter, leave}
@@ -15,17 +15,20 @@ use Rattle.token_core.specs.Trees.{punct}
 use Rattle.syn_path.specs.declared.mac.Macro.{Macro}
 use Rattle.syn_path.specs.declared.path.PathStyle.TheVariants.{Expr as expressions}
 use Rattle.syn_path.specs.declared.supplied.Place.{Place}
-use Rattle.syn_path.specs.Ends.{before, Calm, Moved}
-use Rattle.syn_path.proofs.Moves.{Steady, steady, calm_after, call_there, free_moves, lit_moves, word_moves}
+use Rattle.syn_path.specs.Ends.{before, Calm, Ended, Moved, Shut}
+use Rattle.syn_path.proofs.Ends.{call_over, chars_on, group_on, lit_over, not_joint, on, over, shut_of, word_on, word_over}
+use Rattle.syn_path.proofs.Moves.{steady, calm_after, free_moves, lit_moves, word_moves, words_before}
 use Rattle.syn_attr.specs.attr.Attrs.{Attribute as Attr}
 use Rattle.syn_attr.specs.declared.expr.Expr.{Expr}
 use Rattle.syn_attr.specs.declared.expr.ExprConstOf.{ExprConstOf}
 use Rattle.syn_ty.specs.ty.Parts.{Manner, clearly}
-use Rattle.syn_ty.specs.ty.Spelling.{IsOptional, Relation}
+use Rattle.syn_ty.specs.ty.Spelling.{IsOptional, absent, present, Relation}
 use Rattle.syn_ty.specs.ty.Trees.{Path, QSelf}
 use Rattle.syn_ty.proofs.ty_laws.MovesKnot.{GivenMoves, moving_to}
-use Rattle.syn_ty.proofs.ty_laws.MovesParts.{a_group_there, a_word_there, chars_there, optional_moves, optional_there, word_there}
-use Rattle.syn_ty.proofs.ty_laws.MovesPaths.{any_path_there, no_try_moves}
+use Rattle.syn_ty.proofs.ty_laws.EndsParts.{optional_on}
+use Rattle.syn_ty.proofs.ty_laws.EndsPaths.{any_path_over}
+use Rattle.syn_ty.proofs.ty_laws.MovesParts.{optional_moves}
+use Rattle.syn_ty.proofs.ty_laws.MovesPaths.{no_try_moves}
 use Rattle.syn_ty.proofs.ty_laws.MovesTypes.{holds_before, type_call_moves}
 use Rattle.syn_pat.specs.declared.place.PatPlace.{PatPlace}
 use Rattle.syn_pat.specs.declared.place.PatPlace.TheVariants.{Single}
@@ -75,20 +78,18 @@ module _ (k : Toks) (no_dots : NoDots k) where
   old_limits_move (new_limits i) q = let a = limits_move i q in record { calm = a.calm; is = new_limits a.is }
   old_limits_move (old_limits i) q = let a = free_moves (λ l. refl) k i q in record { calm = a.calm; is = old_limits a.is }
 
--- ---- something stands there
+-- ---- how they end
 
-dots_there : (d : token.DotDot) {l r : Toks} → IsMark true d l r → is_done l ≡ false
-dots_there d (is_mark i) = chars_there i
+dots_over : {x : token.DotDot} {l r : Toks} → IsMark true x l r → Shut r → Ended l
+dots_over (is_mark (more_chars {a = a} {l = m} (last_char {a = b} {j = j} {r = r} e))) h = on (punct 46 Joint a) m (over (punct 46 j b) r (not_joint (is_joint j) false refl) h)
 
-lit_there : (x : Lit) (l r : Toks) → IsLit x l r → is_done l ≡ false
-unfolding is_done
-lit_there x l r a_lone = refl
-lit_there x l r a_bool = refl
-lit_there x l r (a_negative h) = refl
+limits_on : {x : RangeLimits} {l r : Toks} → AreLimits true x l r → Ended r → Ended l
+limits_on (half_open (is_mark i)) h = chars_on i h
+limits_on (closed (is_mark i)) h = chars_on i h
 
-limits_there : {x : RangeLimits} {l r : Toks} → AreLimits true x l r → is_done l ≡ false
-limits_there (half_open (is_mark i)) = chars_there i
-limits_there (closed (is_mark i)) = chars_there i
+old_limits_on : {x : RangeLimits} {l r : Toks} → AreOldLimits true x l r → Ended r → Ended l
+old_limits_on (new_limits i) h = limits_on i h
+old_limits_on (old_limits (is_mark i)) h = chars_on i h
 
 -- ---- the name of a field that is held verbatim
 
@@ -99,12 +100,16 @@ boxed_name_moves k (a_boxed_name b f u h) q =
     let d = optional_moves k u c.calm (λ x l r i q. word_moves k i q) in
     record { calm = d.calm; is = a_boxed_name a.is c.is d.is h }
 
+pub boxed_name_over : {i : Ident} {l r : Toks} → IsBoxedName i l r → Shut r → Ended l
+boxed_name_over (a_boxed_name b f u e) h =
+    let k = optional_on f (λ x l r i u. word_over i u.apart) (optional_on u (λ x l r i u. word_over i u.apart) (word_on _ _ h)) in word_over b k.apart
+
 -- ---- what is known of single patterns within a form
 
 module _ {X : Type 0} where
   pub record SinglesMove (part : PatPlace → Relation (Pat X)) : Type 0 where
     pub single : (k : Toks) → NoDots k → (x : Pat X) (l r : Toks) → part Single x l r → Calm l → Moved (part Single x) k l r
-    pub there : (x : Pat X) (l r : Toks) → part Single x l r → is_done l ≡ false
+    pub ends : (x : Pat X) (l r : Toks) → part Single x l r → Shut r → Ended l
 
 module _ {X : Type 0} (spells : Place → X → Toks → Type 0) (types : GivenMoves (outer_spelt spells) (values_spelt spells)) where
   -- ---- paths, const blocks and ranges
@@ -112,8 +117,8 @@ module _ {X : Type 0} (spells : Place → X → Toks → Type 0) (types : GivenM
   pat_path_moves : {o : Option (QSelf (Attr X) (Expr X))} {p : Path (Attr X) (Expr X)} {l r : Toks} (k : Toks) → IsPatPath spells clearly o p l r → Calm l → Moved (IsPatPath spells clearly o p) k l r
   pat_path_moves k (a_pat_path n i) q = let a = no_try_moves (types_to spells n) k (moving_to (outer_spelt spells) (values_spelt spells) types k n) i q in record { calm = a.calm; is = a_pat_path n a.is }
 
-  pat_path_there : {o : Option (QSelf (Attr X) (Expr X))} {p : Path (Attr X) (Expr X)} {l r : Toks} → IsPatPath spells clearly o p l r → is_done l ≡ false
-  pat_path_there (a_pat_path n i) = any_path_there (types_to spells n) done (moving_to (outer_spelt spells) (values_spelt spells) types done n) i.0
+  pat_path_over : {o : Option (QSelf (Attr X) (Expr X))} {p : Path (Attr X) (Expr X)} {l r : Toks} → IsPatPath spells clearly o p l r → Shut r → Ended l
+  pat_path_over (a_pat_path n i) h = let up = moving_to (outer_spelt spells) (values_spelt spells) types done n in any_path_over (types_to spells n) up.ends i.0 h
 
   head_moves : {o : Option (QSelf (Attr X) (Expr X))} {p : Path (Attr X) (Expr X)} {l r : Toks} (k : Toks) → IsHead spells clearly o p l r → Calm l → Moved (IsHead spells clearly o p) k l r
   head_moves k (i, h) q = let a = pat_path_moves k i q in record { calm = a.calm; is = (a.is, h) }
@@ -121,8 +126,8 @@ module _ {X : Type 0} (spells : Place → X → Toks → Type 0) (types : GivenM
   block_moves : {x : ExprConstOf (Attr X) X} {l r : Toks} (k : Toks) → IsConstBlock spells x l r → Calm l → Moved (IsConstBlock spells x) k l r
   block_moves k (a_const_block i j) q = let a = word_moves k i q in record { calm = a.calm; is = a_const_block a.is j }
 
-  block_there : {x : ExprConstOf (Attr X) X} {l r : Toks} → IsConstBlock spells x l r → is_done l ≡ false
-  block_there (a_const_block i j) = word_there i
+  block_over : {x : ExprConstOf (Attr X) X} {l r : Toks} → IsConstBlock spells x l r → Shut r → Ended l
+  block_over (a_const_block i j) h = let k = group_on _ _ _ _ h in word_over i k.apart
 
   end_moves : {x : PatRangeBound X} {l r : Toks} (k : Toks) → IsEnd spells clearly x l r → Calm l → Moved (IsEnd spells clearly x) k l r
   end_moves k (a_literal_end i) q = let a = lit_moves k i q in record { calm = a.calm; is = a_literal_end a.is }
@@ -134,10 +139,15 @@ module _ {X : Type 0} (spells : Place → X → Toks → Type 0) (types : GivenM
   start_moves k (a_path_start i) q = let a = head_moves k i q in record { calm = a.calm; is = a_path_start a.is }
   start_moves k (a_const_start i) q = let a = block_moves k i q in record { calm = a.calm; is = a_const_start a.is }
 
-  start_there : {x : PatRangeBound X} {l r : Toks} → IsStart spells clearly x l r → is_done l ≡ false
-  start_there (a_literal_start i) = lit_there _ _ _ i
-  start_there (a_path_start i) = pat_path_there i.0
-  start_there (a_const_start i) = block_there i
+  end_over : {x : PatRangeBound X} {l r : Toks} → IsEnd spells clearly x l r → Shut r → Ended l
+  end_over (a_literal_end i) h = lit_over i h
+  end_over (a_path_end i) h = pat_path_over i h
+  end_over (a_const_end i) h = block_over i h
+
+  start_over : {x : PatRangeBound X} {l r : Toks} → IsStart spells clearly x l r → Shut r → Ended l
+  start_over (a_literal_start i) h = lit_over i h
+  start_over (a_path_start i) h = pat_path_over i.0 h
+  start_over (a_const_start i) h = block_over i h
 
   range_moves : {x : PatRange X} {l r : Toks} (k : Toks) → NoDots k → IsRange spells clearly x l r → Calm l → Moved (IsRange spells clearly x) k l r
   range_moves k n (without_end i d) q = let a = start_moves k i q in let b = dots_move k n d a.calm in record { calm = b.calm; is = without_end a.is b.is }
@@ -148,10 +158,10 @@ module _ {X : Type 0} (spells : Place → X → Toks → Type 0) (types : GivenM
       let c = end_moves k j b.calm in
       record { calm = c.calm; is = with_both a.is b.is c.is }
 
-  range_there : {x : PatRange X} {l r : Toks} → IsRange spells clearly x l r → is_done l ≡ false
-  range_there (without_end i d) = start_there i
-  range_there (without_start t i) = limits_there t
-  range_there (with_both i t j) = start_there i
+  range_over : {x : PatRange X} {l r : Toks} → IsRange spells clearly x l r → Shut r → Ended l
+  range_over (without_end i d) h = let k = dots_over d h in start_over i k.apart
+  range_over (without_start t i) h = limits_on t (end_over i h)
+  range_over (with_both i t j) h = let k = old_limits_on t (end_over j h) in start_over i k.apart
 
   call_moves : {x : Macro} {l r : Toks} (k : Toks) → IsPatCall true x l r → Calm l → Moved (IsPatCall true x) k l r
   call_moves k (i, h) q = let a = type_call_moves k i q in record { calm = a.calm; is = (a.is, h) }
@@ -161,6 +171,9 @@ module _ {X : Type 0} (spells : Place → X → Toks → Type 0) (types : GivenM
   module _ (part : Manner → PatPlace → Relation (Pat X)) (up : SinglesMove (part clearly)) where
     pub boxed_moves : (k : Toks) → NoDots k → {l r : Toks} → IsBoxed part clearly l r → Calm l → Moved (IsBoxed part clearly) k l r
     boxed_moves k n (a_box b i) q = let a = word_moves k b q in let c = up.single k n _ _ _ i a.calm in record { calm = c.calm; is = a_box a.is c.is }
+
+    pub boxed_over : {l r : Toks} → IsBoxed part clearly l r → Shut r → Ended l
+    boxed_over (a_box b i) h = let k = up.ends _ _ _ i h in word_over b k.apart
 
     module _ (k : Toks) (n : NoDots k) where
       sub_moves : {x : token.At × Pat X} {l r : Toks} → IsSubpat spells part clearly x l r → Calm l → Moved (IsSubpat spells part clearly x) k l r
@@ -185,7 +198,8 @@ module _ {X : Type 0} (spells : Place → X → Toks → Type 0) (types : GivenM
       single_moves x l r (a_reference {m = m} i h j) q =
           let a = free_moves (λ l. refl) k i q in
           let b = up.single k n _ _ _ j a.calm in
-          record { calm = b.calm; is = a_reference a.is ((steady k m (up.there _ _ _ j) a.calm).words _ ∙ h) b.is }
+          let u = up.ends _ m r j (shut_of r b.calm) in
+          record { calm = b.calm; is = a_reference a.is (words_before k m u.there _ ∙ h) b.is }
       single_moves x l r (a_mutable_reference i u j) q =
           let a = free_moves (λ l. refl) k i q in
           let b = word_moves k u a.calm in
@@ -198,26 +212,30 @@ module _ {X : Type 0} (spells : Place → X → Toks → Type 0) (types : GivenM
       single_moves x l r (a_struct i j) q = let a = head_moves k i q in record { calm = a.calm; is = a_struct a.is j }
       single_moves x l r (a_verbatim {t = t} (i, h)) q = let a = boxed_moves k n i q in record { calm = a.calm; is = a_verbatim (a.is, holds_before t l r k h) }
 
-    binding_there : {x : PatIdent X} {l r : Toks} → IsBinding spells part clearly x l r → is_done l ≡ false
-    binding_there (a_binding f u h s) = optional_there f (λ x i. word_there i) (optional_there u (λ x i. word_there i) (a_word_there _ _))
+    sub_shut : {x : Option (token.At × Pat X)} {l r : Toks} → IsOptional (IsSubpat spells part clearly) x l r → Shut r → Shut l
+    sub_shut absent h = h
+    sub_shut (present (a_subpat (is_mark i) j)) h = let k = chars_on i (up.ends _ _ _ j h) in k.apart
 
-    pub single_there : (x : Pat X) (l r : Toks) → IsSingle spells part clearly x l r → is_done l ≡ false
-    single_there x l r (a_binding_pat i) = binding_there i
-    single_there x l r (a_wild i) = word_there i
-    single_there x l r (a_rest i) = dots_there _ i
-    single_there x l r (a_literal i) = lit_there _ _ _ i
-    single_there x l r (a_const i) = block_there i
-    single_there x l r (a_call i) = call_there i.0.0
-    single_there x l r (a_path i h) = pat_path_there i
-    single_there x l r (a_range i) = range_there i
-    single_there x l r (a_reference (is_mark i) h j) = chars_there i
-    single_there x l r (a_mutable_reference (is_mark i) u j) = chars_there i
-    single_there x l r (a_paren i h) = a_group_there _ _ _ _
-    single_there x l r (a_tuple i h) = a_group_there _ _ _ _
-    single_there x l r (a_slice i) = a_group_there _ _ _ _
-    single_there x l r (a_tuple_struct i j) = pat_path_there i.0
-    single_there x l r (a_struct i j) = pat_path_there i.0
-    single_there x l r (a_verbatim (a_box b i, h)) = word_there b
+    binding_over : {x : PatIdent X} {l r : Toks} → IsBinding spells part clearly x l r → Shut r → Ended l
+    binding_over (a_binding f u e s) h = optional_on f (λ x l r i u. word_over i u.apart) (optional_on u (λ x l r i u. word_over i u.apart) (word_on _ _ (sub_shut s h)))
+
+    pub single_over : (x : Pat X) (l r : Toks) → IsSingle spells part clearly x l r → Shut r → Ended l
+    single_over x l r (a_binding_pat i) h = binding_over i h
+    single_over x l r (a_wild i) h = word_over i h
+    single_over x l r (a_rest i) h = dots_over i h
+    single_over x l r (a_literal i) h = lit_over i h
+    single_over x l r (a_const i) h = block_over i h
+    single_over x l r (a_call i) h = call_over i.0.0 h
+    single_over x l r (a_path i e) h = pat_path_over i h
+    single_over x l r (a_range i) h = range_over i h
+    single_over x l r (a_reference (is_mark i) e j) h = chars_on i (up.ends _ _ _ j h)
+    single_over x l r (a_mutable_reference (is_mark i) u j) h = let k = up.ends _ _ _ j h in chars_on i (word_over u k.apart)
+    single_over x l r (a_paren i e) h = group_on _ _ _ _ h
+    single_over x l r (a_tuple i e) h = group_on _ _ _ _ h
+    single_over x l r (a_slice i) h = group_on _ _ _ _ h
+    single_over x l r (a_tuple_struct i j) h = let k = group_on _ _ _ _ h in pat_path_over i.0 k.apart
+    single_over x l r (a_struct i j) h = let k = group_on _ _ _ _ h in pat_path_over i.0 k.apart
+    single_over x l r (a_verbatim i) h = boxed_over i.0 h
 
     -- ---- in the place of a single pattern
 
@@ -227,8 +245,8 @@ module _ {X : Type 0} (spells : Place → X → Toks → Type 0) (types : GivenM
     pat_moves k n x l r (one_after_vert h i j) q = cc h
     pat_moves k n x l r (some_after_vert h i j) q = cc h
 
-    pub pat_there : (x : Pat X) (l r : Toks) → IsPat spells part clearly Single x l r → is_done l ≡ false
-    pat_there x l r (a_single i h) = single_there x l r i
-    pat_there x l r (some_cases h i) = cc h
-    pat_there x l r (one_after_vert h i j) = cc h
-    pat_there x l r (some_after_vert h i j) = cc h
+    pub pat_ends : (x : Pat X) (l r : Toks) → IsPat spells part clearly Single x l r → Shut r → Ended l
+    pat_ends x l r (a_single i e) h = single_over x l r i h
+    pat_ends x l r (some_cases e i) h = cc e
+    pat_ends x l r (one_after_vert e i j) h = cc e
+    pat_ends x l r (some_after_vert e i j) h = cc e

@@ -44,7 +44,7 @@ use Rattle.syn_pat.proofs.pat_laws.FieldsAgain.{PatsAgain, np, pp, AreHeld, Held
 use Rattle.syn_pat.proofs.pat_laws.KindsAgain.{no_comma, tuple_kept}
 use Rattle.syn_pat.proofs.pat_laws.NormalsAgain.{kind_kept, normal-Const, normal-Ident, normal-Lit, normal-Macro, normal-Paren, normal-Path, normal-Range, normal-Reference, normal-Rest, normal-Slice, normal-Struct, normal-Tuple, normal-TupleStruct, normal-Verbatim, normal-Wild}
 use Rattle.syn_pat.proofs.pat_laws.PartsAgain.{SuppliedAgain, Inside, Stopped, also_front, comma_stops, held_front, inside_front, listed_stop, lit_front, stopped, stops_done, AnyPath, ArePaths, AreHeads, normal_path, print_path, const_again, head_again, path_again, range_again, word_kept}
-use Rattle.syn_pat.proofs.pat_laws.PatsMove.{boxed_moves}
+use Rattle.syn_pat.proofs.pat_laws.PatsMove.{boxed_moves, boxed_over}
 use Rattle.syn_pat.proofs.pat_laws.Prints.{pat-Const, pat-Ident, pat-Lit, pat-Macro, pat-Paren, pat-Path, pat-Range, pat-Reference, pat-Rest, pat-Slice, pat-Struct, pat-Tuple, pat-TupleStruct, pat-Verbatim, pat-Wild}
 
 module _ {X : Type 0} (spells : Place → X → Toks → Type 0) (nx : Place → X → X) (px : Place → X → Print) (g : SuppliedAgain spells nx px) (part : Manner → PatPlace → Relation (Pat X)) (again : PatsAgain spells nx px part) where
@@ -171,4 +171,4 @@ module _ {X : Type 0} (spells : Place → X → Toks → Type 0) (nx : Place →
       (λ z l r i. let k = into_group Brace s T z l r i in a_struct k.1 k.2) (λ z. normal-Struct nx (struct_of [] z.0.0 z.0.1 (groups.brace s) z.1.0 z.1.1)) (λ z. pat-Struct px (types_shown px) (struct_of [] z.0.0 z.0.1 (groups.brace s) z.1.0 z.1.1)) ((q, y), (w, o)) l r
       (then_front (head_again spells nx px g q y l (group Brace s c r) i) (inside_front Brace s T (normal_held spells nx px g part again) (print_held spells nx px g part again) tt (w, o) c r (fields_again spells nx px g part again w o c j))))
   single_again x l r (a_verbatim {t = t} i) =
-      made_front (Stopped (IsVerbatim (IsBoxed part) clearly)) (Stopped Is) (λ (z : TokenStream). z) N (λ (z : TokenStream). trees z) P v.Verbatim (λ z l r i e. a_verbatim (i e)) (normal-Verbatim nx) (pat-Verbatim px (types_shown px)) t l r (held_front (IsBoxed part) (λ k e l r j q. boxed_moves spells g.types.moves part again.moves k e j q) t l r i)
+      made_front (Stopped (IsVerbatim (IsBoxed part) clearly)) (Stopped Is) (λ (z : TokenStream). z) N (λ (z : TokenStream). trees z) P v.Verbatim (λ z l r i e. a_verbatim (i e)) (normal-Verbatim nx) (pat-Verbatim px (types_shown px)) t l r (held_front (IsBoxed part) (λ k e l r j q. boxed_moves spells g.types.moves part again.moves k e j q) (λ l r j q. boxed_over spells g.types.moves part again.moves j q) t l r i)

@@ -37,6 +37,7 @@ use Rattle.syn_ty.specs.ty.Spelling.{IsOptional, absent, present}
 use Rattle.syn_ty.specs.ty.Trees.{BoundLifetimes, NamedArg, ReturnType, TypeFnPtr, TypeTree}
 use Rattle.syn_ty.specs.ty.Types.{Comma, fn_ptr_with, named_arg_of, variadic_of}
 use Rattle.syn_ty.proofs.ty_laws.Again.{Again as AllAgain, SuppliedAgain}
+use Rattle.syn_ty.proofs.ty_laws.EndsTypes.{mut_self_over}
 use Rattle.syn_ty.proofs.ty_laws.HeldForms.{held_before}
 use Rattle.syn_ty.proofs.ty_laws.MovesTypes.{mut_self_moves}
 use Rattle.syn_ty.proofs.ty_laws.NormalsAgain.{fn_ptr_normal, normal-Verbatim}
@@ -139,7 +140,7 @@ module _ {A E : Type 0} (na : List A → List A) (ne : NormalValues E) (pa : Lis
   named_arg_again first x l r (a_verbatim_argument {a = a} {t = y} {m = m} i (j, q)) =
       let s = supplied.attrs a l m i in
       let is = normal-Verbatim na ne y in
-      let held = held_before (IsMutSelf part) (λ k l r i q. mut_self_moves part k (again.moving k) i q) y j.0 j.1 in
+      let held = held_before (IsMutSelf part) (λ k l r i q. mut_self_moves part k (again.moving k) i q) (λ l r i q. mut_self_over part (again.moving done).ends i q) y j.0 j.1 in
       let shows = ty-Verbatim pa pe y in
       let seen = λ (h : Toks). row-bare a (pt (v.Verbatim y)) h ∙ ap (λ z. row (pa a) (row z h)) shows in
       record {

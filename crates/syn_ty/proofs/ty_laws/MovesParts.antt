@@ -19,6 +19,7 @@ use Rattle.syn_ty.specs.generics.Spelling.{IsBinder, a_binder}
 use Rattle.syn_ty.specs.ty.Parts.{End, Parts}
 use Rattle.syn_ty.specs.ty.Spelling.{Relation, IsOptional, absent, present}
 use Rattle.syn_ty.specs.ty.Trees.{BoundLifetimes, GenericArgument, GenericParam, PathArguments, TypeParamBound, TypeTree}
+use Rattle.syn_ty.proofs.ty_laws.EndsParts.{Ending}
 
 -- ---- what is known of what a form holds
 
@@ -32,6 +33,7 @@ pub record Moving {A E : Type 0} (k : Toks) (p : Parts A E) : Type 0 where
   pub attrs : (x : List A) (l r : Toks) → p.attrs x l r → Calm l → Moved (p.attrs x) k l r
   pub const_argument : (x : E) (l r : Toks) → p.const_argument x l r → Calm l → Moved (p.const_argument x) k l r
   pub const_default : (x : E) (l r : Toks) → p.const_default x l r → Calm l → Moved (p.const_default x) k l r
+  pub ends : Ending p
 
 -- ---- something stands there
 

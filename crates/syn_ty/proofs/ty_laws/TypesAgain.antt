@@ -4,7 +4,7 @@ use Rattle.token_core.specs.Prints as p
 use Rattle.token_core.specs.Prints.{Print}
 use Rattle.token_core.specs.Rebuilt.{Visible}
 use Rattle.token_core.specs.Spellings.{IsMark, IsWord}
-use Rattle.token_core.specs.Toks.{Toks}
+use Rattle.token_core.specs.Toks.{Toks, done}
 use Rattle.token_core.specs.Trees.{row, trees}
 use Rattle.syn_path.specs.declared.mac.Macro.{Macro}
 use Rattle.syn_path.specs.declared.path.PathStyle.TheVariants.{AsWritten}
@@ -33,6 +33,7 @@ use Rattle.syn_ty.proofs.ty_laws.Again.{Again, SuppliedAgain}
 use Rattle.syn_ty.proofs.ty_laws.AnglesAgain.{made_front}
 use Rattle.syn_ty.proofs.ty_laws.FormsAgain.{NoneFirst, type_call_again, pointer_again, borrow_again, enclosed_again, bracketed_again, counted_again, tuple_again}
 use Rattle.syn_ty.proofs.ty_laws.FunctionsAgain.{fn_ptr_again}
+use Rattle.syn_ty.proofs.ty_laws.EndsTypes.{verbatim_over}
 use Rattle.syn_ty.proofs.ty_laws.HeldForms.{held_before}
 use Rattle.syn_ty.proofs.ty_laws.MovesTypes.{verbatim_moves}
 use Rattle.syn_ty.proofs.ty_laws.NormalsAgain.{normal-Array, normal-FnPtr, normal-ImplTrait, normal-Infer, normal-Macro, normal-Never, normal-Paren, normal-Path, normal-Ptr, normal-Reference, normal-Slice, normal-TraitObject, normal-Tuple, normal-Verbatim, path_type_normal}
@@ -110,7 +111,7 @@ module _ {A E : Type 0} (na : List A → List A) (ne : NormalValues E) (pa : Lis
       type_again e x l r (a_never_type {x = y} i) = never_again y l r i
       type_again e x l r (a_verbatim_type {t = t} (i, j)) =
           let is = normal-Verbatim na ne t in
-          let held = held_before (λ m. IsVerbatimType part m place e) (λ k l r j q. verbatim_moves part k (again.moving k) j q) t i.0 i.1 in
+          let held = held_before (λ m. IsVerbatimType part m place e) (λ k l r j q. verbatim_moves part k (again.moving k) j q) (λ l r j q. verbatim_over part (again.moving done).ends j q) t i.0 i.1 in
           let seen = λ (h : Toks). ap (λ z. row z h) (ty-Verbatim pa pe t) in
           record {
             spelt = λ h. subst (λ z. Is e z (row (pt x) h) h) (sym is) (subst (λ z. Is e (v.Verbatim t) z h) (sym (seen h)) (a_verbatim_type (held h, refl)));

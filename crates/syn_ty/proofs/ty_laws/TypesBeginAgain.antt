@@ -52,6 +52,7 @@ use Rattle.syn_ty.specs.ty.Trees.{BoundLifetimes, GenericParam, Path, QSelf, Typ
 use Rattle.syn_ty.specs.ty.Types.{And, Star, macro_type_of, qualified_with, trait_object_with}
 use Rattle.syn_ty.proofs.ty_laws.BeginsAgain.{Quiet, quiet_mark, quiet_before, segment_no_for, Kept, quiet_kept, binder_kept, same_kept, word_quiet, group_quiet, for_first, for_seen, no_second, named, ArgumentsBegin, TypesAlone, path_kept, qualified_kept}
 use Rattle.syn_ty.proofs.ty_laws.HeldBeginAgain.{held_kept}
+use Rattle.syn_ty.proofs.ty_laws.EndsTypes.{verbatim_over}
 use Rattle.syn_ty.proofs.ty_laws.HeldForms.{held_before}
 use Rattle.syn_ty.proofs.ty_laws.MovesParts.{Moving}
 use Rattle.syn_ty.proofs.ty_laws.MovesTypes.{verbatim_moves}
@@ -233,4 +234,4 @@ module _ {A E : Type 0} (pa : List A → Print) (pe : Values E) (part : Manner �
     type_kept place e x l r (an_array_type {x = y} (counted {s = s} i j t)) = group_kept Bracket s _ _ l r tt (ty-Array pa pe y)
     type_kept place e x l r (an_infer_type {x = y} (an_infer {w = w} i)) = same_kept l r _ _ (ty-Infer pa pe y) (quiet_kept l r (p.word w) (word_quiet w [] refl refl))
     type_kept place e x l r (a_never_type {x = y} (a_never {b = a} i)) = same_kept l r _ _ (ty-Never pa pe y) (quiet_kept l r (p.mark a) (λ k. bang_quiet a (row (p.mark a) k) k (mark_again false a l r k i)))
-    type_kept place e x l r (a_verbatim_type {e = f} {t = t} (i, h)) = same_kept l r _ _ (ty-Verbatim pa pe t) (held_kept part place f t l r (held_before (λ m. IsVerbatimType part m place f) (λ k l r j q. verbatim_moves part k (moving k) j q) t i.0 i.1) h)
+    type_kept place e x l r (a_verbatim_type {e = f} {t = t} (i, h)) = same_kept l r _ _ (ty-Verbatim pa pe t) (held_kept part place f t l r (held_before (λ m. IsVerbatimType part m place f) (λ k l r j q. verbatim_moves part k (moving k) j q) (λ l r j q. verbatim_over part (moving done).ends j q) t i.0 i.1) h)

@@ -4,7 +4,7 @@ use Rattle.token_core.specs.Reads.{any_text, sees_word}
 use Rattle.token_core.specs.Tokens as token
 use Rattle.token_core.specs.Toks.{Toks, done}
 use Rattle.token_core.specs.Trees.{TokenStream, row, trees}
-use Rattle.syn_path.specs.Ends.{Calm}
+use Rattle.syn_path.specs.Ends.{NoBang}
 use Rattle.syn_forms.specs.declared.places.BoundPlace.{BoundPlace}
 use Rattle.syn_forms.specs.declared.places.ParamPlace.{ParamPlace}
 use Rattle.syn_forms.specs.declared.places.TypePlace.{TypePlace}
@@ -13,7 +13,7 @@ use Rattle.syn_ty.specs.ty.Trees.{GenericArgument, GenericParam, PathArguments, 
 
 -- ---- how a spelling is told
 
--- Loosely: each mark may be glued to what follows it. Plainly: the same, but what is held verbatim spells its form clearly, and its last token may not go on in what follows. Clearly: no mark is glued to a longer one.
+-- Loosely: each mark may be glued to what follows it. Plainly: the same, but what is held verbatim spells its form clearly, and does not end in a `!` that is glued to what follows. Clearly: no mark is glued to a longer one.
 pub data Manner : Type 0 where
   loosely : Manner
   plainly : Manner
@@ -74,10 +74,10 @@ pub record Parts (A E : Type 0) : Type 1 where
 abbrev pub Holds : TokenStream → Toks → Toks → Type 0
 Holds t l r = l ≡ row (trees t) r
 
--- What is held verbatim, where there is no tree for a form. Loosely and clearly, it is what the list spells. Plainly, by itself it spells the form clearly, and its last token may not go on in what follows: so it spells the form clearly before whatever a print puts there.
+-- What is held verbatim, where there is no tree for a form. Loosely and clearly, it is what the list spells. Plainly, by itself it spells the form clearly, and does not end in a glued `!`: so it spells the form clearly before all that a print puts there.
 abbrev pub IsVerbatim : (Manner → Toks → Toks → Type 0) → Manner → TokenStream → Toks → Toks → Type 0
 IsVerbatim Form loosely t l r = Form loosely l r × Holds t l r
-IsVerbatim Form plainly t l r = (Form clearly (row (trees t) done) done × Calm (row (trees t) done)) × Holds t l r
+IsVerbatim Form plainly t l r = (Form clearly (row (trees t) done) done × NoBang (row (trees t) done)) × Holds t l r
 IsVerbatim Form clearly t l r = Form clearly l r × Holds t l r
 
 -- values of which each has its mark; there may be none
