@@ -3,6 +3,7 @@ use Rattle.std.proofs.Common.{◌≡◌, ◌||◌, ℕ, Bool, true, false, List,
 use Rattle.token_core.specs.declared.lit.Lit.{Lit}
 use Rattle.token_core.specs.declared.range.RangeLimits.{RangeLimits}
 use Rattle.token_core.specs.declared.span.Span.{Span}
+use Rattle.token_core.specs.declared.tree.Delimiter.TheVariants.{Brace, Parenthesis}
 use Rattle.token_core.specs.declared.tree.Ident.{Ident}
 use Rattle.token_core.specs.declared.tree.Spacing.{Spacing}
 use Rattle.token_core.specs.declared.tree.Spacing.TheVariants.{Joint}
@@ -127,7 +128,7 @@ module _ {X : Type 0} (spells : Place → X → Toks → Type 0) (types : GivenM
   block_moves k (a_const_block i j) q = let a = word_moves k i q in record { calm = a.calm; is = a_const_block a.is j }
 
   block_over : {x : ExprConstOf (Attr X) X} {l r : Toks} → IsConstBlock spells x l r → Shut r → Ended l
-  block_over (a_const_block i j) h = let k = group_on _ _ _ _ h in word_over i k.apart
+  block_over {r = r} (a_const_block {s = s} {c = c} i j) h = let k = group_on Brace s c r h in word_over i k.apart
 
   end_moves : {x : PatRangeBound X} {l r : Toks} (k : Toks) → IsEnd spells clearly x l r → Calm l → Moved (IsEnd spells clearly x) k l r
   end_moves k (a_literal_end i) q = let a = lit_moves k i q in record { calm = a.calm; is = a_literal_end a.is }
@@ -233,8 +234,8 @@ module _ {X : Type 0} (spells : Place → X → Toks → Type 0) (types : GivenM
     single_over x l r (a_paren i e) h = group_on _ _ _ _ h
     single_over x l r (a_tuple i e) h = group_on _ _ _ _ h
     single_over x l r (a_slice i) h = group_on _ _ _ _ h
-    single_over x l r (a_tuple_struct i j) h = let k = group_on _ _ _ _ h in pat_path_over i.0 k.apart
-    single_over x l r (a_struct i j) h = let k = group_on _ _ _ _ h in pat_path_over i.0 k.apart
+    single_over x l r (a_tuple_struct {s = s} {c = c} i j) h = let k = group_on Parenthesis s c r h in pat_path_over i.0 k.apart
+    single_over x l r (a_struct {s = s} {c = c} i j) h = let k = group_on Brace s c r h in pat_path_over i.0 k.apart
     single_over x l r (a_verbatim i) h = boxed_over i.0 h
 
     -- ---- in the place of a single pattern

@@ -95,9 +95,9 @@ module _ {A E : Type 0} (part : Manner → Parts A E) (up : Ending (part clearly
       let k = bounds_after_on j (optional_on d (λ x l r i u. given_on i any_type_on u) h) in up.attrs _ _ _ i (word_on _ _ k.apart)
 
   const_param_on : {x : ConstParam A E} {l r : Toks} → IsConstParam part clearly x l r → Ended r → Ended l
-  const_param_on (a_const_param i w n (is_mark c) t d) h =
+  const_param_on (a_const_param {i = y} {n = u} i w n (is_mark c) t d) h =
       let k = chars_on c (any_type_on _ _ _ t (optional_on d (λ x l r i u. given_on i up.const_default u) h)) in
-      let m = word_on _ _ k.apart in
+      let m = word_on y u k.apart in
       up.attrs _ _ _ i (word_over w m.apart)
 
   pub param_on : {place : ParamPlace} {x : GenericParam A E} {l r : Toks} → IsParam part clearly place x l r → Ended r → Ended l

@@ -1,9 +1,10 @@
 -- Types do not end in a mark that is glued to what follows, but perhaps in a `!`, where what stands within them does not.
 use Rattle.std.proofs.Common.{◌≡◌, Bool, true, List, Option, refl}
+use Rattle.token_core.specs.declared.tree.Delimiter.TheVariants.{Parenthesis}
 use Rattle.token_core.specs.Loops.{Many}
 use Rattle.token_core.specs.Spellings.{is_mark}
 use Rattle.token_core.specs.Tokens as token
-use Rattle.token_core.specs.Toks.{Toks}
+use Rattle.token_core.specs.Toks.{Toks, group}
 use Rattle.syn_path.specs.declared.mac.Macro.{Macro}
 use Rattle.syn_path.specs.Ends.{Ended, Shut}
 use Rattle.syn_path.proofs.Ends.{call_over, char_over, chars_on, group_on, lifetime_over, listed_on, str_over, word_on, word_over}
@@ -80,8 +81,8 @@ module _ {A E : Type 0} (part : Manner → Parts A E) (up : Ending (part clearly
       word_on _ _ m.apart
 
   fn_ptr_over : {e : End} {x : TypeFnPtr A E} {l r : Toks} → IsFnPtr part clearly e x l r → Shut r → Ended l
-  fn_ptr_over (a_fn_ptr b u a w i o) h =
-      let k = group_on _ _ _ _ (return_shut part up o h) in
+  fn_ptr_over (a_fn_ptr {s = s} {c = c} {j = j} b u a w i o) h =
+      let k = group_on Parenthesis s c j (return_shut part up o h) in
       optional_for_on b (optional_on u (λ x l r i u. word_over i u.apart) (optional_on a abi_on (word_over w k.apart)))
 
   -- ---- forms that hold a type
@@ -116,9 +117,9 @@ module _ {A E : Type 0} (part : Manner → Parts A E) (up : Ending (part clearly
       let k = chars_on o (listed_on (λ b x l r i u. lifetime_over i u.apart) comma_on xs (chars_on g (up.ty _ _ _ _ _ i h))) in
       optional_for_on b (word_over u k.apart)
   verbatim_over (a_dyn_star w (is_mark s) i) h = let k = char_over 42 refl s (object_bounds_shut i h) in word_over w k.apart
-  verbatim_over (a_builtin b w (is_mark p) n) h =
-      let k = group_on _ _ _ _ h in
-      let m = chars_on p (word_on _ _ k.apart) in
+  verbatim_over {r = r} (a_builtin {i = i} {s = s} {c = c} b w (is_mark p) n) h =
+      let k = group_on Parenthesis s c r h in
+      let m = chars_on p (word_on i (group Parenthesis s c r) k.apart) in
       optional_for_on b (word_on _ _ m.apart)
 
   -- ---- a type
