@@ -301,16 +301,6 @@ module _ (ok : Bytes → Bool) {A : Type 0} (none : A) where
   pub bare_path_moves : {p : PathOf A} {l r : Toks} (k : Toks) → IsBarePath true ok none p l r → Calm l → Moved (IsBarePath true ok none p) k l r
   bare_path_moves k (a_bare_path i j) q = let a = leading_moves k i q in let b = segments_move k j a.calm in record { calm = b.calm; is = a_bare_path a.is b.is }
 
-  segments_there : {xs : List (PathSegmentOf A)} {ps : List Sep} {l r : Toks} → AreSegments true ok none xs ps l r → is_done l ≡ false
-  unfolding is_done
-  segments_there (last_segment h) = refl
-  segments_there (more_segments h p i) = refl
-
-  pub bare_path_there : {p : PathOf A} {l r : Toks} → IsBarePath true ok none p l r → is_done l ≡ false
-  unfolding is_done
-  bare_path_there (a_bare_path no_leading j) = segments_there j
-  bare_path_there (a_bare_path (leading h) j) = refl
-
 bang_group : (d : _) (s : _) (c r : Toks) → is_glued (33 ∷ []) (group d s c r) ≡ false
 unfolding sees_mark
 bang_group d s c r = refl
@@ -319,9 +309,6 @@ pub call_moves : {ok : Bytes → Bool} {x : Macro} {l r : Toks} (k : Toks) → I
 call_moves {ok = ok} k (a_macro {a = a} {j = j} {d = d} {s = s} {c = c} {r = r} i h e t) q =
     let n = bare_path_moves ok _ k i q in
     record { calm = calm_after (punct 33 j a) (group d s c r) n.calm; is = a_macro n.is (λ y f. bang_group d s c (before r k)) e t }
-
-pub call_there : {ok : Bytes → Bool} {x : Macro} {l r : Toks} → IsCall true ok x l r → is_done l ≡ false
-call_there {ok = ok} (a_macro i h e t) = bare_path_there ok _ i
 
 -- ---- what is held, before others
 

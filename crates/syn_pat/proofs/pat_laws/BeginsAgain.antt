@@ -30,7 +30,6 @@ use Rattle.syn_ty.specs.ty.Parts.{Manner, loosely, plainly, clearly, is_clear, I
 use Rattle.syn_ty.specs.ty.Spelling.{absent, present, Relation}
 use Rattle.syn_ty.specs.ty.Trees.{Path, PathSegment, QSelf, TypeTree}
 use Rattle.syn_path.proofs.Moves.{row_before, words_before}
-use Rattle.syn_ty.proofs.ty_laws.MovesParts.{word_there}
 use Rattle.syn_pat.specs.declared.pat.PatOf.{out-PatOf, map-PatOf}
 use Rattle.syn_pat.specs.declared.pat.PatOf.TheFolds.{fold_out-PatOf}
 use Rattle.syn_pat.specs.declared.pat.PatOf.TheOpen as o
@@ -243,7 +242,8 @@ module _ {X : Type 0} (part : Manner → PatPlace → Relation (Pat X)) where
   box_no_mut how l r (a_box is_word j) = refl
 
   box_there : (how : Manner) (l r : Toks) → IsBoxed part how l r → is_done l ≡ false
-  box_there how l r (a_box i j) = word_there i
+  unfolding is_done
+  box_there how l r (a_box is_word j) = refl
 
   -- what is held begins as it does by itself
   held_no_mut : (how : Manner) (t : TokenStream) (l r : Toks) → IsVerbatim (IsBoxed part) how t l r → token.sees_mut l ≡ false

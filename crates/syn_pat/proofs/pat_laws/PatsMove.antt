@@ -1,5 +1,5 @@
 -- A single pattern is spelt clearly before other tokens too, where no longer mark begins with `..` before these: each of its forms, over the patterns within.
-use Rattle.std.proofs.Common.{◌≡◌, ◌||◌, ℕ, Bool, true, false, List, [], ◌∷◌, Option, refl, sym, ◌∙◌, ap}
+use Rattle.std.proofs.Common.{◌≡◌, ◌||◌, ◌&&◌, ℕ, Bool, true, false, List, [], ◌∷◌, Option, refl, sym, ◌∙◌, ap}
 use Rattle.token_core.specs.declared.lit.Lit.{Lit}
 use Rattle.token_core.specs.declared.range.RangeLimits.{RangeLimits}
 use Rattle.token_core.specs.declared.span.Span.{Span}
@@ -17,7 +17,7 @@ use Rattle.syn_path.specs.declared.mac.Macro.{Macro}
 use Rattle.syn_path.specs.declared.path.PathStyle.TheVariants.{Expr as expressions}
 use Rattle.syn_path.specs.declared.supplied.Place.{Place}
 use Rattle.syn_path.specs.Ends.{before, Calm, Ended, Moved, Shut}
-use Rattle.syn_path.proofs.Ends.{call_over, chars_on, group_on, lit_over, not_joint, on, over, shut_of, word_on, word_over}
+use Rattle.syn_path.proofs.Ends.{call_over, chars_on, group_on, lit_over, on, over, shut_of, word_on, word_over}
 use Rattle.syn_path.proofs.Moves.{steady, calm_after, free_moves, lit_moves, word_moves, words_before}
 use Rattle.syn_attr.specs.attr.Attrs.{Attribute as Attr}
 use Rattle.syn_attr.specs.declared.expr.Expr.{Expr}
@@ -81,8 +81,12 @@ module _ (k : Toks) (no_dots : NoDots k) where
 
 -- ---- how they end
 
+neither : (b : Bool) → (b && false) ≡ false
+neither true = refl
+neither false = refl
+
 dots_over : {x : token.DotDot} {l r : Toks} → IsMark true x l r → Shut r → Ended l
-dots_over (is_mark (more_chars {a = a} {l = m} (last_char {a = b} {j = j} {r = r} e))) h = on (punct 46 Joint a) m (over (punct 46 j b) r (not_joint (is_joint j) false refl) h)
+dots_over (is_mark (more_chars {a = a} {l = m} (last_char {a = b} {j = j} {r = r} e))) h = on (punct 46 Joint a) m (over (punct 46 j b) r (neither (is_joint j)) h)
 
 limits_on : {x : RangeLimits} {l r : Toks} → AreLimits true x l r → Ended r → Ended l
 limits_on (half_open (is_mark i)) h = chars_on i h

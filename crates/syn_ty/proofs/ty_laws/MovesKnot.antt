@@ -15,7 +15,7 @@ use Rattle.syn_ty.proofs.ty_laws.EndsTypes.{type_over}
 use Rattle.syn_ty.proofs.ty_laws.MovesBounds.{argument_moves, bound_moves, param_moves}
 use Rattle.syn_ty.proofs.ty_laws.MovesParts.{Moving}
 use Rattle.syn_ty.proofs.ty_laws.MovesPaths.{arguments_move}
-use Rattle.syn_ty.proofs.ty_laws.MovesTypes.{type_moves, type_there}
+use Rattle.syn_ty.proofs.ty_laws.MovesTypes.{type_moves}
 
 module _ {A E : Type 0} (attrs : Bool → List A → Toks → Toks → Type 0) (values : SpelledValues E) where
   -- of attributes, and of expressions in their places
@@ -45,7 +45,6 @@ module _ {A E : Type 0} (attrs : Bool → List A → Toks → Toks → Type 0) (
     pub moving_turn : (part : Manner → Parts A E) → Moving k (part clearly) → Moving k (turn attrs values part clearly)
     moving_turn part up = record {
       ty = λ p e x l r i q. type_moves part k up i q;
-      ty_there = λ p e x l r i. type_there part k up i;
       bound = λ p e x l r i q. bound_moves part k up i q;
       param = λ p x l r i q. param_moves part k up i q;
       argument = λ x l r i q. argument_moves part k up (IsType part clearly Plus) (λ e x l r i q. type_moves part k up i q) i q;
@@ -60,7 +59,6 @@ module _ {A E : Type 0} (attrs : Bool → List A → Toks → Toks → Type 0) (
     pub moving_to : (n : ℕ) → Moving k (spelt_to attrs values n clearly)
     moving_to zero = record {
       ty = λ p e x l r i. absurd i;
-      ty_there = λ p e x l r i. absurd i;
       bound = λ p e x l r i. absurd i;
       param = λ p x l r i. absurd i;
       argument = λ x l r i. absurd i;

@@ -1,10 +1,7 @@
 -- What stands within a form is spelt clearly before other tokens too: what is known of it; a part that may be there, a given value, a binder, `const` or `mut`, and that something stands there.
-use Rattle.std.proofs.Common.{◌≡◌, ℕ, Bool, true, false, List, [], ◌∷◌, Option, refl}
-use Rattle.token_core.specs.declared.span.Span.{Span}
-use Rattle.token_core.specs.declared.word.Word.{Word}
+use Rattle.std.proofs.Common.{◌≡◌, true, false, List, Option, refl}
 use Rattle.token_core.specs.Lifetimes.{sees_lifetime}
 use Rattle.token_core.specs.Reads.{is_done, sees_mark}
-use Rattle.token_core.specs.Spellings.{AreChars, no_char, last_char, more_chars, IsWord, is_word, IsLifetime, is_lifetime}
 use Rattle.token_core.specs.Tokens as token
 use Rattle.token_core.specs.Toks.{Toks, done, word, mark, lit, group, enter, leave}
 use Rattle.syn_path.specs.Ends.{Calm, Moved}
@@ -25,7 +22,6 @@ use Rattle.syn_ty.proofs.ty_laws.EndsParts.{Ending}
 
 pub record Moving {A E : Type 0} (k : Toks) (p : Parts A E) : Type 0 where
   pub ty : (place : TypePlace) (e : End) (x : TypeTree A E) (l r : Toks) → p.ty place e x l r → Calm l → Moved (p.ty place e x) k l r
-  pub ty_there : (place : TypePlace) (e : End) (x : TypeTree A E) (l r : Toks) → p.ty place e x l r → is_done l ≡ false
   pub bound : (place : BoundPlace) (e : End) (x : TypeParamBound A E) (l r : Toks) → p.bound place e x l r → Calm l → Moved (p.bound place e x) k l r
   pub param : (place : ParamPlace) (x : GenericParam A E) (l r : Toks) → p.param place x l r → Calm l → Moved (p.param place x) k l r
   pub argument : (x : GenericArgument A E) (l r : Toks) → p.argument x l r → Calm l → Moved (p.argument x) k l r
@@ -36,23 +32,6 @@ pub record Moving {A E : Type 0} (k : Toks) (p : Parts A E) : Type 0 where
   pub ends : Ending p
 
 -- ---- something stands there
-
-pub chars_there : {clear : Bool} {all : List ℕ} {c : ℕ} {cs : List ℕ} {ss : List Span} {l r : Toks} → AreChars clear all (c ∷ cs) ss l r → is_done l ≡ false
-unfolding is_done
-chars_there (last_char x) = refl
-chars_there (more_chars x) = refl
-
-pub word_there : {n : ℕ} {w : Word n} {l r : Toks} → IsWord w l r → is_done l ≡ false
-unfolding is_done
-word_there is_word = refl
-
-pub a_word_there : (i : _) (r : Toks) → is_done (word i r) ≡ false
-unfolding is_done
-a_word_there i r = refl
-
-pub a_group_there : (d : _) (s : _) (c r : Toks) → is_done (group d s c r) ≡ false
-unfolding is_done
-a_group_there d s c r = refl
 
 pub lifetime_there : (l : Toks) → sees_lifetime l ≡ true → is_done l ≡ false
 unfolding is_done sees_lifetime
@@ -73,10 +52,6 @@ sep_there (lit x l) h = refl
 sep_there (group d s c l) h = refl
 sep_there (enter s l) h = sep_there l h
 sep_there (leave l) h = sep_there l h
-
-pub optional_there : {A : Type 0} {V : Relation A} {o : Option A} {l m : Toks} → IsOptional V o l m → ((x : A) → V x l m → is_done l ≡ false) → is_done m ≡ false → is_done l ≡ false
-optional_there absent f h = h
-optional_there (present i) f h = f _ i
 
 -- ---- parts of forms
 

@@ -1,22 +1,22 @@
 -- Paths and their arguments are spelt clearly before other tokens too, where what stands within them is.
 use Rattle.std.proofs.Common.{◌≡◌, Bool, true, false, List, Option, refl, sym, ◌∙◌}
-use Rattle.token_core.specs.Reads.{is_done}
-use Rattle.token_core.specs.Spellings.{IsMark, is_mark}
+use Rattle.token_core.specs.Spellings.{IsMark}
 use Rattle.token_core.specs.Tokens as token
 use Rattle.token_core.specs.Toks.{Bytes, Toks}
 use Rattle.syn_path.specs.declared.path.PathStyle.{PathStyle}
 use Rattle.syn_path.specs.declared.path.PathStyle.TheVariants.{AsWritten, Expr}
 use Rattle.syn_path.specs.Ends.{before, Calm, Moved}
-use Rattle.syn_path.proofs.Moves.{Steady, steady, free_moves, listed_moves, lt_moves, word_moves}
+use Rattle.syn_path.proofs.Ends.{shut_of}
+use Rattle.syn_path.proofs.Moves.{steady, free_moves, listed_moves, lt_moves, word_moves, words_before}
 use Rattle.syn_forms.specs.declared.places.TypePlace.{TypePlace}
 use Rattle.syn_ty.specs.path.Paths.{Sep}
 use Rattle.syn_ty.specs.path.Signed.{IsReturn, no_output, an_output, IsParens, a_parens, IsDropped, nothing_dropped, a_sep_dropped, a_pair_dropped, IsSigned, a_signed, AreSigned, signed_last, signed_after, IsBoundPath, without_parens, with_parens}
 use Rattle.syn_ty.specs.path.Spelling.{Styled, IsAngle, an_angle, IsArguments, some_arguments, IsSegment, a_word, a_word_with_arguments, AreSegments, IsPath, a_path, IsQualified, by_type, by_type_as_path, IsAnyPath, unqualified, qualified, IsNoTry}
-use Rattle.token_core.specs.Listed.{none_left, last_value, value_and_mark}
 use Rattle.syn_ty.specs.ty.Parts.{Manner, clearly, End, Parts}
-use Rattle.syn_ty.specs.ty.Spelling.{IsOptional, absent, present}
+use Rattle.syn_ty.specs.ty.Spelling.{IsOptional}
 use Rattle.syn_ty.specs.ty.Trees.{AngleBracketed, Parenthesized, Path, PathArguments, PathSegment, QSelf, ReturnType}
-use Rattle.syn_ty.proofs.ty_laws.MovesParts.{Moving, a_word_there, chars_there, optional_there, optional_moves, sep_there}
+use Rattle.syn_ty.proofs.ty_laws.EndsPaths.{any_path_over}
+use Rattle.syn_ty.proofs.ty_laws.MovesParts.{Moving, optional_moves, sep_there}
 
 module _ {A E : Type 0} (part : Manner → Parts A E) (k : Toks) (up : Moving k (part clearly)) where
   abbrev Seps : Type 0
@@ -54,21 +54,6 @@ module _ {A E : Type 0} (part : Manner → Parts A E) (k : Toks) (up : Moving k 
   pub path_moves : {style : PathStyle} {x : Path A E} {l r : Toks} → IsPath part clearly style x l r → Calm l → Moved (IsPath part clearly style x) k l r
   path_moves (a_path i j) q = let a = optional_moves k i q seps in let b = segments_move j a.calm in record { calm = b.calm; is = a_path a.is b.is }
 
-  segment_there : {style : PathStyle} {x : PathSegment A E} {l r : Toks} → IsSegment part clearly style x l r → is_done l ≡ false
-  segment_there (a_word w) = a_word_there _ _
-  segment_there (a_word_with_arguments w s i) = a_word_there _ _
-
-  segments_there : {style : PathStyle} {xs : List (PathSegment A E)} {cs : List Sep} {l r : Toks} → AreSegments part clearly style xs cs l r → is_done l ≡ false
-  segments_there (none_left h) = absurd h
-  segments_there (last_value i) = segment_there i
-  segments_there (value_and_mark i j n) = segment_there i
-
-  a_sep_there : (c : Sep) (l r : Toks) → IsMark true c l r → is_done l ≡ false
-  a_sep_there c l r (is_mark i) = chars_there i
-
-  pub path_there : {style : PathStyle} {x : Path A E} {l r : Toks} → IsPath part clearly style x l r → is_done l ≡ false
-  path_there (a_path i j) = optional_there i (λ c. a_sep_there c _ _) (segments_there j)
-
   -- ---- qualified paths
 
   pub qualified_moves : {style : PathStyle} {x : QSelf A E} {p : Path A E} {l r : Toks} → IsQualified part clearly style x p l r → Calm l → Moved (IsQualified part clearly style x p) k l r
@@ -89,20 +74,15 @@ module _ {A E : Type 0} (part : Manner → Parts A E) (k : Toks) (up : Moving k 
       let f = segments_move j e.calm in
       record { calm = f.calm; is = by_type_as_path a.is b.is n u.is v.is d.is e.is f.is }
 
-  qualified_there : {style : PathStyle} {x : QSelf A E} {p : Path A E} {l r : Toks} → IsQualified part clearly style x p l r → is_done l ≡ false
-  qualified_there (by_type (is_mark i) t g c j) = chars_there i
-  qualified_there (by_type_as_path (is_mark i) t n w p g c j) = chars_there i
-
   pub any_path_moves : {style : PathStyle} {x : Option (QSelf A E)} {p : Path A E} {l r : Toks} → IsAnyPath part clearly style x p l r → Calm l → Moved (IsAnyPath part clearly style x p) k l r
   any_path_moves (unqualified i) q = let a = path_moves i q in record { calm = a.calm; is = unqualified a.is }
   any_path_moves (qualified i) q = let a = qualified_moves i q in record { calm = a.calm; is = qualified a.is }
 
-  pub any_path_there : {style : PathStyle} {x : Option (QSelf A E)} {p : Path A E} {l r : Toks} → IsAnyPath part clearly style x p l r → is_done l ≡ false
-  any_path_there (unqualified i) = path_there i
-  any_path_there (qualified i) = qualified_there i
-
   pub no_try_moves : {style : PathStyle} {x : Option (QSelf A E)} {p : Path A E} {l r : Toks} → IsNoTry part clearly style x p l r → Calm l → Moved (IsNoTry part clearly style x p) k l r
-  no_try_moves {l = l} (i, h) q = let a = any_path_moves i q in record { calm = a.calm; is = (a.is, (steady k l (any_path_there i) q).words _ ∙ h) }
+  no_try_moves {l = l} {r = r} (i, h) q =
+      let a = any_path_moves i q in
+      let u = any_path_over part up.ends i (shut_of r a.calm) in
+      record { calm = a.calm; is = (a.is, words_before k l u.there _ ∙ h) }
 
   -- ---- arguments in parentheses
 

@@ -1,38 +1,32 @@
 -- Types are spelt clearly before other tokens too, where what stands within them is.
-use Rattle.std.proofs.Common.{◌≡◌, Bool, true, false, List, Option, refl, sym, ◌∙◌, ap}
-use Rattle.token_core.specs.declared.lit.LitStr.{LitStr}
+use Rattle.std.proofs.Common.{◌≡◌, Bool, true, List, Option, refl, ◌∙◌, ap}
 use Rattle.token_core.specs.Loops.{Many}
-use Rattle.token_core.specs.Lifetimes.{sees_lifetime}
-use Rattle.token_core.specs.Reads.{is_done}
-use Rattle.token_core.specs.Spellings.{IsMark, is_mark}
 use Rattle.token_core.specs.Tokens as token
 use Rattle.token_core.specs.Toks.{Toks}
 use Rattle.token_core.specs.Trees.{TokenStream, trees}
 use Rattle.syn_path.specs.declared.mac.Macro.{Macro}
 use Rattle.syn_path.specs.Ends.{before, Calm, Moved}
-use Rattle.syn_path.proofs.Moves.{Steady, steady, bang_moves, call_moves, call_there, colon_moves, free_moves, lifetime_moves, listed_moves, lt_moves, row_before, str_moves, word_moves}
+use Rattle.syn_path.proofs.Ends.{call_over, shut_of}
+use Rattle.syn_path.proofs.Moves.{steady, bang_moves, call_moves, colon_moves, free_moves, lifetime_moves, listed_moves, lt_moves, row_before, str_moves, word_moves, words_before}
 use Rattle.syn_forms.specs.declared.places.BoundPlace.{BoundPlace}
 use Rattle.syn_forms.specs.declared.places.TypePlace.{TypePlace}
 use Rattle.syn_ty.specs.declared.ty.Abi.{Abi}
 use Rattle.syn_ty.specs.declared.ty.TypeInferOf.{TypeInferOf}
 use Rattle.syn_ty.specs.declared.ty.TypeNeverOf.{TypeNeverOf}
 use Rattle.syn_ty.specs.generics.Bounds.{IsFor}
-use Rattle.syn_ty.specs.generics.Spelling.{a_binder}
 use Rattle.syn_ty.specs.ty.Admitted.{IsPointer, a_pointer, IsBorrow, a_borrow, a_mutable_borrow, a_lifetime_borrow, IsEnclosed, enclosed, IsBracketed, bracketed, IsCounted, counted, IsTupled, no_element, some_elements, IsVerbatimType, an_unsafe_binder, a_dyn_star, a_builtin, IsTypeCall, IsType, a_path_type, a_macro, a_bound_macro, an_object_with_dyn, an_object_without_dyn, an_impl_type, a_fn_type, a_ptr_type, a_reference_type, a_paren_type, a_tuple_type, a_slice_type, an_array_type, an_infer_type, a_never_type, a_verbatim_type}
 use Rattle.syn_ty.specs.ty.Functions.{IsAbi, an_abi, IsMutSelf, mut_self, mut_self_typed, named_mut_self, IsFnPtr, a_fn_ptr}
 use Rattle.syn_ty.specs.ty.Objects.{IsBoundList, several_bounds, one_bound, AreObjectBounds, object_bounds, IsDyn, a_dyn, IsImpl, an_impl, IsFirst, a_first, a_first_for, AreFurther, none_further, some_further, AreBareBounds, path_alone, path_and_plus, held_and_plus, asked_first, asked_in_two, lifetime_first}
 use Rattle.syn_ty.specs.ty.Parts.{Manner, clearly, End, Holds, Parts, IsVerbatim}
 use Rattle.syn_ty.specs.ty.Spelling.{IsInfer, an_infer, IsNever, a_never, IsOptional}
 use Rattle.syn_ty.specs.ty.Trees.{BoundLifetimes, Path, TypeArray, TypeFnPtr, TypeImplTrait, TypeParamBound, TypeParen, TypePtr, TypeReference, TypeSlice, TypeTraitObject, TypeTree, TypeTuple}
+use Rattle.syn_ty.proofs.ty_laws.EndsPaths.{path_over}
 use Rattle.syn_ty.proofs.ty_laws.MovesBounds.{bounds_move, for_moves}
-use Rattle.syn_ty.proofs.ty_laws.MovesParts.{Moving, a_group_there, a_word_there, chars_there, lifetime_there, mutability_moves, optional_moves, optional_there, word_there}
-use Rattle.syn_ty.proofs.ty_laws.MovesPaths.{any_path_there, no_try_moves, path_moves, path_there, return_moves}
+use Rattle.syn_ty.proofs.ty_laws.MovesParts.{Moving, lifetime_there, mutability_moves, optional_moves}
+use Rattle.syn_ty.proofs.ty_laws.MovesPaths.{no_try_moves, path_moves, return_moves}
 
 abi_moves : {x : Abi} {l r : Toks} (k : Toks) → IsAbi x l r → Calm l → Moved (IsAbi x) k l r
 abi_moves k (an_abi i j) q = let a = word_moves k i q in let b = optional_moves k j a.calm (λ x l r i q. str_moves k i q) in record { calm = b.calm; is = an_abi a.is b.is }
-
-abi_there : (x : Abi) {l r : Toks} → IsAbi x l r → is_done l ≡ false
-abi_there x (an_abi i j) = word_there i
 
 infer_moves : {A : Type 0} {x : TypeInferOf A} {l r : Toks} (k : Toks) → IsInfer x l r → Calm l → Moved (IsInfer x) k l r
 infer_moves k (an_infer i) q = let a = word_moves k i q in record { calm = a.calm; is = an_infer a.is }
@@ -41,7 +35,10 @@ never_moves : {A : Type 0} {x : TypeNeverOf A} {l r : Toks} (k : Toks) → IsNev
 never_moves k (a_never i) q = let a = bang_moves k i q in record { calm = a.calm; is = a_never a.is }
 
 pub type_call_moves : {x : Macro} {l r : Toks} (k : Toks) → IsTypeCall true x l r → Calm l → Moved (IsTypeCall true x) k l r
-type_call_moves {l = l} k (i, h) q = let a = call_moves k i q in record { calm = a.calm; is = (a.is, (steady k l (call_there i) q).words _ ∙ h) }
+type_call_moves {l = l} {r = r} k (i, h) q =
+    let a = call_moves k i q in
+    let u = call_over i (shut_of r a.calm) in
+    record { calm = a.calm; is = (a.is, words_before k l u.there _ ∙ h) }
 
 pub holds_before : (t : TokenStream) (l r k : Toks) → Holds t l r → Holds t (before l k) (before r k)
 holds_before t l r k h = ap (λ z. before z k) h ∙ row_before (trees t) r k
@@ -49,12 +46,6 @@ holds_before t l r k h = ap (λ z. before z k) h ∙ row_before (trees t) r k
 module _ {A E : Type 0} (part : Manner → Parts A E) (k : Toks) (up : Moving k (part clearly)) where
   optional_for_moves : {o : Option (BoundLifetimes A E)} {l r : Toks} → IsOptional (IsFor part clearly) o l r → Calm l → Moved (IsOptional (IsFor part clearly) o) k l r
   optional_for_moves i q = optional_moves k i q (λ x l r j u. for_moves part k up j u)
-
-  for_there : (x : BoundLifetimes A E) {l r : Toks} → IsFor part clearly x l r → is_done l ≡ false
-  for_there x (a_binder i j v g) = word_there i
-
-  optional_for_there : {o : Option (BoundLifetimes A E)} {l m : Toks} → IsOptional (IsFor part clearly) o l m → is_done m ≡ false → is_done l ≡ false
-  optional_for_there i h = optional_there i (λ x j. for_there x j) h
 
   -- ---- bounds after `dyn` and `impl`
 
@@ -74,16 +65,16 @@ module _ {A E : Type 0} (part : Manner → Parts A E) (k : Toks) (up : Moving k 
   -- ---- trait objects without `dyn`
 
   first_moves : {o : Option (BoundLifetimes A E)} {x : Path A E} {l r : Toks} → IsFirst part clearly o x l r → Calm l → Moved (IsFirst part clearly o x) k l r
-  first_moves {l = l} (a_first i h) q = let a = path_moves part k up i q in record { calm = a.calm; is = a_first a.is ((steady k l (path_there part k up i) q).words _ ∙ h) }
-  first_moves (a_first_for {m = m} f i h s) q =
+  first_moves {l = l} {r = r} (a_first i h) q =
+      let a = path_moves part k up i q in
+      let u = path_over part up.ends i (shut_of r a.calm) in
+      record { calm = a.calm; is = a_first a.is (words_before k l u.there _ ∙ h) }
+  first_moves {r = r} (a_first_for {m = m} f i h s) q =
       let a = for_moves part k up f q in
       let b = path_moves part k up i a.calm in
-      let u = steady k m (path_there part k up i) a.calm in
+      let w = path_over part up.ends i (shut_of r b.calm) in
+      let u = steady k m w.there a.calm in
       record { calm = b.calm; is = a_first_for a.is b.is (u.words _ ∙ h) (u.sep ∙ s) }
-
-  first_there : {o : Option (BoundLifetimes A E)} {x : Path A E} {l r : Toks} → IsFirst part clearly o x l r → is_done l ≡ false
-  first_there (a_first i h) = path_there part k up i
-  first_there (a_first_for f i h s) = for_there _ f
 
   further_move : {e : End} {xs : List (TypeParamBound A E)} {ps : List token.Plus} {l r : Toks} → AreFurther part clearly e xs ps l r → Calm l → Moved (AreFurther part clearly e xs ps) k l r
   further_move none_further q = record { calm = q; is = none_further }
@@ -100,14 +91,6 @@ module _ {A E : Type 0} (part : Manner → Parts A E) (k : Toks) (up : Moving k 
   bare_bounds_move (asked_first i j) q = let a = further_move j q in record { calm = a.calm; is = asked_first i a.is }
   bare_bounds_move (asked_in_two h i p j) q = let b = free_moves (λ l. refl) k p q in let c = bounds_move part k up j b.calm in record { calm = c.calm; is = asked_in_two h i b.is c.is }
   bare_bounds_move {l = l} (lifetime_first s i t) q = let a = bounds_move part k up i q in record { calm = a.calm; is = lifetime_first ((steady k l (lifetime_there l s) q).lives ∙ s) a.is t }
-
-  bare_bounds_there : {place : TypePlace} {e : End} {v : Many (TypeParamBound A E) token.Plus} {l r : Toks} → AreBareBounds part clearly place e v l r → is_done l ≡ false
-  bare_bounds_there (path_alone i) = first_there i
-  bare_bounds_there (path_and_plus h i p j) = first_there i
-  bare_bounds_there (held_and_plus h i p j) = a_group_there _ _ _ _
-  bare_bounds_there (asked_first i j) = a_group_there _ _ _ _
-  bare_bounds_there (asked_in_two h i p j) = a_group_there _ _ _ _
-  bare_bounds_there {l = l} (lifetime_first s i t) = lifetime_there l s
 
   -- ---- pointers to functions
 
@@ -134,9 +117,6 @@ module _ {A E : Type 0} (part : Manner → Parts A E) (k : Toks) (up : Moving k 
       let h = return_moves part k up o g.calm in
       record { calm = h.calm; is = a_fn_ptr c.is d.is f.is g.is i h.is }
 
-  fn_ptr_there : {e : End} {x : TypeFnPtr A E} {l r : Toks} → IsFnPtr part clearly e x l r → is_done l ≡ false
-  fn_ptr_there (a_fn_ptr b u a w i o) = optional_for_there b (optional_there u (λ x j. word_there j) (optional_there a (λ x j. abi_there x j) (word_there w)))
-
   -- ---- forms that hold a type
 
   pointer_moves : {e : End} {x : TypePtr A E} {l r : Toks} → IsPointer part clearly e x l r → Calm l → Moved (IsPointer part clearly e x) k l r
@@ -147,10 +127,11 @@ module _ {A E : Type 0} (part : Manner → Parts A E) (k : Toks) (up : Moving k 
       record { calm = c.calm; is = a_pointer a.is b.is c.is }
 
   borrow_moves : {e : End} {x : TypeReference A E} {l r : Toks} → IsBorrow part clearly e x l r → Calm l → Moved (IsBorrow part clearly e x) k l r
-  borrow_moves (a_borrow {m = m} s n i) q =
+  borrow_moves {r = r} (a_borrow {m = m} s n i) q =
       let a = free_moves (λ l. refl) k s q in
       let c = up.ty _ _ _ _ _ i a.calm in
-      record { calm = c.calm; is = a_borrow a.is ((steady k m (up.ty_there _ _ _ _ _ i) a.calm).lives ∙ n) c.is }
+      let u = up.ends.ty _ _ _ m r i (shut_of r c.calm) in
+      record { calm = c.calm; is = a_borrow a.is ((steady k m u.there a.calm).lives ∙ n) c.is }
   borrow_moves (a_mutable_borrow s u i) q =
       let a = free_moves (λ l. refl) k s q in
       let b = word_moves k u a.calm in
@@ -163,36 +144,18 @@ module _ {A E : Type 0} (part : Manner → Parts A E) (k : Toks) (up : Moving k 
       let c = up.ty _ _ _ _ _ i b.calm in
       record { calm = c.calm; is = a_lifetime_borrow a.is d.is b.is c.is }
 
-  borrow_there : {e : End} {x : TypeReference A E} {l r : Toks} → IsBorrow part clearly e x l r → is_done l ≡ false
-  borrow_there (a_borrow (is_mark s) n i) = chars_there s
-  borrow_there (a_mutable_borrow (is_mark s) u i) = chars_there s
-  borrow_there (a_lifetime_borrow (is_mark s) y u i) = chars_there s
-
   enclosed_moves : {place : TypePlace} {x : TypeParen A E} {l r : Toks} → IsEnclosed part clearly place x l r → Calm l → Moved (IsEnclosed part clearly place x) k l r
   enclosed_moves (enclosed i) q = record { calm = q; is = enclosed i }
-
-  enclosed_there : {place : TypePlace} {x : TypeParen A E} {l r : Toks} → IsEnclosed part clearly place x l r → is_done l ≡ false
-  enclosed_there (enclosed i) = a_group_there _ _ _ _
 
   bracketed_moves : {x : TypeSlice A E} {l r : Toks} → IsBracketed part clearly x l r → Calm l → Moved (IsBracketed part clearly x) k l r
   bracketed_moves (bracketed i) q = record { calm = q; is = bracketed i }
 
-  bracketed_there : {x : TypeSlice A E} {l r : Toks} → IsBracketed part clearly x l r → is_done l ≡ false
-  bracketed_there (bracketed i) = a_group_there _ _ _ _
-
   counted_moves : {x : TypeArray A E} {l r : Toks} → IsCounted part clearly x l r → Calm l → Moved (IsCounted part clearly x) k l r
   counted_moves (counted i m n) q = record { calm = q; is = counted i m n }
-
-  counted_there : {x : TypeArray A E} {l r : Toks} → IsCounted part clearly x l r → is_done l ≡ false
-  counted_there (counted i m n) = a_group_there _ _ _ _
 
   tupled_moves : {Begins : Toks → Type 0} {x : TypeTuple A E} {l r : Toks} → IsTupled part clearly Begins x l r → Calm l → Moved (IsTupled part clearly Begins x) k l r
   tupled_moves no_element q = record { calm = q; is = no_element }
   tupled_moves (some_elements b i c j) q = record { calm = q; is = some_elements b i c j }
-
-  tupled_there : {Begins : Toks → Type 0} {x : TypeTuple A E} {l r : Toks} → IsTupled part clearly Begins x l r → is_done l ≡ false
-  tupled_there no_element = a_group_there _ _ _ _
-  tupled_there (some_elements b i c j) = a_group_there _ _ _ _
 
   -- ---- what is held verbatim
 
@@ -212,20 +175,16 @@ module _ {A E : Type 0} (part : Manner → Parts A E) (k : Toks) (up : Moving k 
       record { calm = c.calm; is = a_dyn_star a.is b.is c.is }
   verbatim_moves (a_builtin b w p n) q = let c = optional_for_moves b q in let d = free_moves (λ l. refl) k p c.calm in record { calm = d.calm; is = a_builtin c.is w d.is n }
 
-  verbatim_there : {place : TypePlace} {e : End} {l r : Toks} → IsVerbatimType part clearly place e l r → is_done l ≡ false
-  verbatim_there (an_unsafe_binder b u o xs g i) = optional_for_there b (word_there u)
-  verbatim_there (a_dyn_star w s i) = word_there w
-  verbatim_there (a_builtin b w p n) = optional_for_there b (a_word_there _ _)
-
   -- ---- a type
 
   pub type_moves : {place : TypePlace} {e : End} {x : TypeTree A E} {l r : Toks} → IsType part clearly place e x l r → Calm l → Moved (IsType part clearly place e x) k l r
   type_moves (a_path_type i) q = let a = no_try_moves part k up i q in record { calm = a.calm; is = a_path_type a.is }
   type_moves (a_macro i) q = let a = type_call_moves k i q in record { calm = a.calm; is = a_macro a.is }
-  type_moves (a_bound_macro {m = m} b i n) q =
+  type_moves {r = r} (a_bound_macro {m = m} b i n) q =
       let a = for_moves part k up b q in
       let c = type_call_moves k i a.calm in
-      record { calm = c.calm; is = a_bound_macro a.is c.is ((steady k m (call_there i.0) a.calm).sep ∙ n) }
+      let u = call_over i.0 (shut_of r c.calm) in
+      record { calm = c.calm; is = a_bound_macro a.is c.is ((steady k m u.there a.calm).sep ∙ n) }
   type_moves (an_object_with_dyn i) q = let a = dyn_moves i q in record { calm = a.calm; is = an_object_with_dyn a.is }
   type_moves (an_object_without_dyn i) q = let a = bare_bounds_move i q in record { calm = a.calm; is = an_object_without_dyn a.is }
   type_moves (an_impl_type i) q = let a = impl_moves i q in record { calm = a.calm; is = an_impl_type a.is }
@@ -240,20 +199,3 @@ module _ {A E : Type 0} (part : Manner → Parts A E) (k : Toks) (up : Moving k 
   type_moves (a_never_type i) q = let a = never_moves k i q in record { calm = a.calm; is = a_never_type a.is }
   type_moves {l = l} {r = r} (a_verbatim_type {t = t} (i, h)) q = let a = verbatim_moves i q in record { calm = a.calm; is = a_verbatim_type (a.is, holds_before t l r k h) }
 
-  pub type_there : {place : TypePlace} {e : End} {x : TypeTree A E} {l r : Toks} → IsType part clearly place e x l r → is_done l ≡ false
-  type_there (a_path_type i) = any_path_there part k up i.0
-  type_there (a_macro i) = call_there i.0
-  type_there (a_bound_macro b i n) = for_there _ b
-  type_there (an_object_with_dyn (a_dyn w i)) = word_there w
-  type_there (an_object_without_dyn i) = bare_bounds_there i
-  type_there (an_impl_type (an_impl w i h)) = word_there w
-  type_there (a_fn_type i) = fn_ptr_there i
-  type_there (a_ptr_type (a_pointer (is_mark s) m i)) = chars_there s
-  type_there (a_reference_type i) = borrow_there i
-  type_there (a_paren_type i) = enclosed_there i
-  type_there (a_tuple_type i) = tupled_there i
-  type_there (a_slice_type i) = bracketed_there i
-  type_there (an_array_type i) = counted_there i
-  type_there (an_infer_type (an_infer i)) = word_there i
-  type_there (a_never_type (a_never (is_mark i))) = chars_there i
-  type_there (a_verbatim_type i) = verbatim_there i.0

@@ -25,12 +25,6 @@ is_clear loosely = false
 is_clear plainly = false
 is_clear clearly = true
 
--- the manner in which what is held verbatim spells its form
-abbrev pub kept : Manner → Manner
-kept loosely = loosely
-kept plainly = clearly
-kept clearly = clearly
-
 -- ---- how a spelling ends
 
 -- Open: a list of bounds ends there, with a bound, that a `+` would go on with. In a plus: the last token is the `+` after the last bound of a list.
