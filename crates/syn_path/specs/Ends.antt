@@ -29,7 +29,7 @@ ends_with f (leave l) = ends_with f l
 abbrev pub is_glued_bang : Punct → Bool
 is_glued_bang p = is_joint p.spacing && p.ch == token.bang_char
 
--- the last token is none
+-- the last token is no such `!`
 abbrev pub NoBang : Toks → Type 0
 NoBang l = ends_with is_glued_bang l ≡ false
 
@@ -50,7 +50,7 @@ pub record Moved (Is : Toks → Toks → Type 0) (k l r : Toks) : Type 0 where
   pub calm : Calm r
   pub is : Is (before l k) (before r k)
 
--- it is none but perhaps a `!`
+-- the last token is none of these but perhaps a `!`
 abbrev pub Shut : Toks → Type 0
 Shut l = ends_with is_other_glued l ≡ false
 
