@@ -1,17 +1,15 @@
 -- What spells tokens clearly does not end in a mark that is glued to what follows, but perhaps in a `!`: marks, words, lifetimes, literals, values with marks between them, paths without arguments and macro calls.
-use Rattle.std.proofs.Common.{◌≡◌, ◌||◌, ◌&&◌, ◌==◌, ℕ, Bool, true, false, if◌then◌else◌, List, [], ◌∷◌, refl, sym, ◌∙◌, ap}
+use Rattle.std.proofs.Common.{◌≡◌, ◌||◌, ◌&&◌, ◌==◌, ℕ, Bool, true, false, if◌then◌else◌, List, [], ◌∷◌, refl, ◌∙◌, ap}
 use Rattle.token_core.specs.declared.lifetime.Lifetime.{Lifetime}
 use Rattle.token_core.specs.declared.lit.Lit.{Lit}
 use Rattle.token_core.specs.declared.lit.LitStr.{LitStr}
-use Rattle.token_core.specs.declared.mark.Mark.{Mark}
 use Rattle.token_core.specs.declared.span.Span.{Span}
 use Rattle.token_core.specs.declared.tree.Punct.{Punct}
 use Rattle.token_core.specs.declared.tree.Spacing.TheVariants.{Joint}
 use Rattle.token_core.specs.declared.word.Word.{Word}
 use Rattle.token_core.specs.Listed.{AreListed, none_left, last_value, value_and_mark}
-use Rattle.token_core.specs.Marks.{chars_of}
 use Rattle.token_core.specs.Reads.{is_done, is_joint}
-use Rattle.token_core.specs.Spellings.{AreChars, last_char, more_chars, IsMark, is_mark, IsWord, is_word, IsLifetime, is_lifetime, IsLit, a_literal, a_bool, a_negative, IsStr, a_str}
+use Rattle.token_core.specs.Spellings.{AreChars, last_char, more_chars, IsWord, is_word, IsLifetime, is_lifetime, IsLit, a_literal, a_bool, a_negative, IsStr, a_str}
 use Rattle.token_core.specs.Toks.{Bytes, Toks, done, word, mark, lit, group, enter, leave}
 use Rattle.token_core.specs.Trees.{punct}
 use Rattle.syn_path.specs.declared.mac.Macro.{Macro}
@@ -20,7 +18,7 @@ use Rattle.syn_path.specs.declared.path.PathSegmentOf.{PathSegmentOf}
 use Rattle.syn_path.specs.Ends.{Calm, Ended, NoBang, Shut, ends_with, is_glued_bang, is_other_glued, may_go_on}
 use Rattle.syn_path.specs.mac.Spelling.{IsCall, a_macro}
 use Rattle.syn_path.specs.path.Paths.{Sep}
-use Rattle.syn_path.specs.path.Spelling.{IsLeading, no_leading, leading, AreSegments, last_segment, more_segments, IsBarePath, a_bare_path}
+use Rattle.syn_path.specs.path.Spelling.{no_leading, leading, AreSegments, last_segment, more_segments, IsBarePath, a_bare_path}
 
 -- ---- before what is there, and before nothing
 

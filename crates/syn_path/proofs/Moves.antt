@@ -16,14 +16,13 @@ use Rattle.token_core.specs.declared.tree.Group.{Group, roll-Group, map-Group}
 use Rattle.token_core.specs.declared.tree.TokenTree.{TokenTree, roll-TokenTree, map-TokenTree}
 use Rattle.token_core.specs.declared.tree.TokenTree.TheOpen as o
 use Rattle.token_core.specs.declared.tree.TokenTree.TheFolds.{ind-TokenTree}
-use Rattle.token_core.specs.declared.tree.Spacing.TheVariants.{Joint, Alone}
+use Rattle.token_core.specs.declared.tree.Spacing.TheVariants.{Joint}
 use Rattle.token_core.specs.declared.word.Word.{Word}
 use Rattle.token_core.specs.Clear.{Apart, is_glued}
-use Rattle.token_core.specs.Front.{front}
 use Rattle.token_core.specs.Lifetimes.{sees_lifetime, next_word, with_ident}
 use Rattle.token_core.specs.Listed.{AreListed, none_left, last_value, value_and_mark}
 use Rattle.token_core.specs.Marks.{chars_of}
-use Rattle.token_core.specs.Reads.{is_done, is_joint, past_mark, put_first, sees_mark, sees_word, as_word}
+use Rattle.token_core.specs.Reads.{is_done, is_joint, past_mark, put_first, sees_mark, sees_word}
 use Rattle.token_core.specs.Spellings.{AreChars, no_char, last_char, more_chars, IsMark, is_mark, IsWord, is_word, IsLifetime, is_lifetime, IsLit, a_literal, a_bool, a_negative, IsStr, a_str}
 use Rattle.token_core.specs.Tokens as token
 use Rattle.token_core.specs.Toks.{Bytes, Toks, done, word, mark, lit, group, enter, leave}
@@ -36,7 +35,7 @@ use Rattle.syn_path.specs.declared.path.PathSegmentOf.{PathSegmentOf}
 use Rattle.syn_path.specs.Ends.{before, Calm, ends_with, is_glued_bang, is_other_glued, may_go_on, Moved}
 use Rattle.syn_path.specs.mac.Spelling.{IsCall, a_macro}
 use Rattle.syn_path.specs.path.Paths.{Sep}
-use Rattle.syn_path.specs.path.Spelling.{IsLeading, no_leading, leading, AreSegments, last_segment, more_segments, IsBarePath, a_bare_path, sep_chars}
+use Rattle.syn_path.specs.path.Spelling.{IsLeading, no_leading, leading, AreSegments, last_segment, more_segments, IsBarePath, a_bare_path}
 
 -- ---- the last token, where all is used up
 

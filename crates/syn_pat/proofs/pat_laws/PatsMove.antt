@@ -1,6 +1,5 @@
 -- A single pattern is spelt clearly before other tokens too, where no longer mark begins with `..` before these: each of its forms, over the patterns within.
-use Rattle.std.proofs.Common.{◌≡◌, ◌||◌, ◌&&◌, ℕ, Bool, true, false, List, [], ◌∷◌, Option, refl, sym, ◌∙◌, ap}
-use Rattle.token_core.specs.declared.lit.Lit.{Lit}
+use Rattle.std.proofs.Common.{◌≡◌, ◌||◌, ◌&&◌, ℕ, Bool, true, false, List, [], ◌∷◌, Option, refl, ◌∙◌, ap}
 use Rattle.token_core.specs.declared.range.RangeLimits.{RangeLimits}
 use Rattle.token_core.specs.declared.span.Span.{Span}
 use Rattle.token_core.specs.declared.tree.Delimiter.TheVariants.{Brace, Parenthesis}
@@ -9,12 +8,11 @@ use Rattle.token_core.specs.declared.tree.Spacing.{Spacing}
 use Rattle.token_core.specs.declared.tree.Spacing.TheVariants.{Joint}
 use Rattle.token_core.specs.Clear.{Apart, is_glued}
 use Rattle.token_core.specs.Reads.{is_done, is_joint, sees_mark}
-use Rattle.token_core.specs.Spellings.{IsMark, is_mark, last_char, more_chars, IsWord, IsLit, a_literal as a_lone, a_bool, a_negative, AreLimits, half_open, closed, AreOldLimits, new_limits, old_limits}
+use Rattle.token_core.specs.Spellings.{IsMark, is_mark, last_char, more_chars, AreLimits, half_open, closed, AreOldLimits, new_limits, old_limits}
 use Rattle.token_core.specs.Tokens as token
 use Rattle.token_core.specs.Toks.{Toks, done, word, mark, lit, group, enter, leave}
 use Rattle.token_core.specs.Trees.{punct}
 use Rattle.syn_path.specs.declared.mac.Macro.{Macro}
-use Rattle.syn_path.specs.declared.path.PathStyle.TheVariants.{Expr as expressions}
 use Rattle.syn_path.specs.declared.supplied.Place.{Place}
 use Rattle.syn_path.specs.Ends.{before, Calm, Ended, Moved, Shut}
 use Rattle.syn_path.proofs.Ends.{call_over, chars_on, group_on, lit_over, on, over, shut_of, word_on, word_over}

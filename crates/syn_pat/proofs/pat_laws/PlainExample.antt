@@ -1,11 +1,10 @@
 -- An example: `box 1..`, whose dots are glued to what follows, is held plainly, as in `(box 1..,x)` and `box 1..|x`.
-use Rattle.std.proofs.Common.{◌≡◌, ℕ, suc, zero, true, false, [], ◌∷◌, codes, refl, sym, ◌∙◌, ap, subst}
+use Rattle.std.proofs.Common.{◌≡◌, [], ◌∷◌, codes, refl, sym, ◌∙◌, ap, subst}
 use Rattle.token_core.specs.declared.span.Span.{Span}
 use Rattle.token_core.specs.declared.tree.LitKind.TheVariants.{Int}
 use Rattle.token_core.specs.declared.tree.Spacing.TheVariants.{Joint}
 use Rattle.token_core.specs.declared.tree.TokenTree.TheVariants as t
-use Rattle.token_core.specs.Marks.{text_of}
-use Rattle.token_core.specs.Reads.{sees_mark, is_done}
+use Rattle.token_core.specs.Reads.{is_done}
 use Rattle.token_core.specs.Spellings.{is_mark, last_char, more_chars, is_word, a_literal}
 use Rattle.token_core.specs.Toks.{Toks, done, word, mark, lit}
 use Rattle.token_core.specs.Trees.{TokenStream, ident, literal, punct, row, trees}
@@ -13,7 +12,6 @@ use Rattle.token_core.proofs.Rebuilds.{tree-ident, tree-literal, tree-punct}
 use Rattle.syn_path.specs.declared.supplied.Place.{Place}
 use Rattle.syn_path.specs.Ends.{NoBang}
 use Rattle.syn_ty.specs.ty.Parts.{plainly, clearly, IsVerbatim}
-use Rattle.syn_pat.specs.declared.place.PatPlace.TheVariants.{Single}
 use Rattle.syn_pat.specs.pat.Admitted.{IsBoxed, a_box, a_single, a_range}
 use Rattle.syn_pat.specs.pat.Spelling.{a_literal_start, without_end}
 use Rattle.syn_pat.specs.pat.Spelt.{pats_to}

@@ -1,5 +1,5 @@
 -- Bounds, parameters and generic arguments do not end in a mark that is glued to what follows, but perhaps in a `!`, where what stands within them does not: parameters and arguments where something follows.
-use Rattle.std.proofs.Common.{◌≡◌, Bool, true, List, Option}
+use Rattle.std.proofs.Common.{Bool, true, List, Option}
 use Rattle.token_core.specs.declared.tree.Ident.{Ident}
 use Rattle.token_core.specs.Spellings.{is_mark}
 use Rattle.token_core.specs.Tokens as token

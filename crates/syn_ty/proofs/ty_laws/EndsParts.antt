@@ -1,5 +1,5 @@
 -- What stands within a form does not end in a mark that is glued to what follows, but perhaps in a `!`: what is known of it; marks, a part that may be there, a given value, a binder, `const` or `mut`.
-use Rattle.std.proofs.Common.{◌≡◌, ℕ, Bool, true, List, Option, refl}
+use Rattle.std.proofs.Common.{true, List, Option, refl}
 use Rattle.token_core.specs.Spellings.{IsMark, is_mark}
 use Rattle.token_core.specs.Tokens as token
 use Rattle.token_core.specs.Toks.{Toks}

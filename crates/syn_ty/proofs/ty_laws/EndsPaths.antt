@@ -1,5 +1,5 @@
 -- Paths and their arguments do not end in a mark that is glued to what follows, but perhaps in a `!`, where what stands within them does not.
-use Rattle.std.proofs.Common.{◌≡◌, Bool, List, Option}
+use Rattle.std.proofs.Common.{List, Option}
 use Rattle.token_core.specs.Spellings.{is_mark}
 use Rattle.token_core.specs.Toks.{Bytes, Toks}
 use Rattle.syn_path.specs.declared.path.PathStyle.{PathStyle}

@@ -1,7 +1,6 @@
 -- Bounds, parameters and generic arguments are spelt clearly before other tokens too, where what stands within them is.
-use Rattle.std.proofs.Common.{◌≡◌, Bool, true, List, Option, refl}
+use Rattle.std.proofs.Common.{Bool, true, List, Option, refl}
 use Rattle.token_core.specs.declared.tree.Ident.{Ident}
-use Rattle.token_core.specs.Spellings.{IsMark}
 use Rattle.token_core.specs.Tokens as token
 use Rattle.token_core.specs.Toks.{Toks}
 use Rattle.syn_path.specs.Ends.{Calm, Moved}

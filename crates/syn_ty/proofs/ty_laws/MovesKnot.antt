@@ -4,7 +4,6 @@ use Rattle.token_core.specs.Toks.{Toks}
 use Rattle.syn_path.specs.Ends.{Calm, Ended, Moved}
 use Rattle.syn_path.specs.Values.{SpelledValues}
 use Rattle.syn_forms.specs.declared.places.TypePlace.TheVariants.{Plus}
-use Rattle.syn_ty.specs.path.Arguments.{between_angles}
 use Rattle.syn_ty.specs.ty.Admitted.{IsType}
 use Rattle.syn_ty.specs.ty.Parts.{Manner, clearly, Parts}
 use Rattle.syn_ty.specs.ty.Spelt.{spelt_to, turn}

@@ -1,7 +1,6 @@
 -- Paths and their arguments are spelt clearly before other tokens too, where what stands within them is.
-use Rattle.std.proofs.Common.{◌≡◌, Bool, true, false, List, Option, refl, sym, ◌∙◌}
+use Rattle.std.proofs.Common.{true, List, Option, refl, ◌∙◌}
 use Rattle.token_core.specs.Spellings.{IsMark}
-use Rattle.token_core.specs.Tokens as token
 use Rattle.token_core.specs.Toks.{Bytes, Toks}
 use Rattle.syn_path.specs.declared.path.PathStyle.{PathStyle}
 use Rattle.syn_path.specs.declared.path.PathStyle.TheVariants.{AsWritten, Expr}
@@ -13,7 +12,6 @@ use Rattle.syn_ty.specs.path.Paths.{Sep}
 use Rattle.syn_ty.specs.path.Signed.{IsReturn, no_output, an_output, IsParens, a_parens, IsDropped, nothing_dropped, a_sep_dropped, a_pair_dropped, IsSigned, a_signed, AreSigned, signed_last, signed_after, IsBoundPath, without_parens, with_parens}
 use Rattle.syn_ty.specs.path.Spelling.{Styled, IsAngle, an_angle, IsArguments, some_arguments, IsSegment, a_word, a_word_with_arguments, AreSegments, IsPath, a_path, IsQualified, by_type, by_type_as_path, IsAnyPath, unqualified, qualified, IsNoTry}
 use Rattle.syn_ty.specs.ty.Parts.{Manner, clearly, End, Parts}
-use Rattle.syn_ty.specs.ty.Spelling.{IsOptional}
 use Rattle.syn_ty.specs.ty.Trees.{AngleBracketed, Parenthesized, Path, PathArguments, PathSegment, QSelf, ReturnType}
 use Rattle.syn_ty.proofs.ty_laws.EndsPaths.{any_path_over}
 use Rattle.syn_ty.proofs.ty_laws.MovesParts.{Moving, optional_moves, sep_there}
