@@ -25,11 +25,12 @@ abbrev pub Aside : {A : Type 0} → Grammar A → (A → A) → Toks → Option 
 Aside G free l (Some a) = Visible l → (m : Toks) → AreSame m l → (b : _) → G.spells true b m → free b ≡ free a
 Aside G free l None = Visible l → (m : Toks) → AreSame m l → (b : _) → G.spells true b m → ⊥
 
--- what a whole read promises, it promises aside from spans
-abbrev pub Asides : {A : Type 0} → Grammar A → (A → A) → Type 0
-Asides G free = (l : Toks) (o : Option _) → Headline G l o → Aside G free l o
+-- What a whole read promises, it promises aside from spans. And whatever a read answers, for want of memory too: any two trees that clearly spell lists that are the same are the same.
+pub record Asides {A : Type 0} (G : Grammar A) (free : A → A) : Type 0 where
+  pub read : (l : Toks) (o : Option A) → Headline G l o → Aside G free l o
+  pub trees : (l m : Toks) → Visible l → AreSame m l → (a b : A) → G.spells true a l → G.spells true b m → free b ≡ free a
 
--- the law of a grammar from which it follows: what a tree clearly spells, a tree that is the same spells with other spans
+-- the law of a grammar from which that follows: what a tree clearly spells, a tree that is the same spells with other spans
 abbrev pub Moves : {A : Type 0} → Grammar A → (A → A) → Type 0
 Moves G free = (b : _) (m l : Toks) → Visible l → G.spells true b m → AreSame m l → (a : _) × G.spells true a l × (free a ≡ free b)
 

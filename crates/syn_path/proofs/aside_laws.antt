@@ -1,0 +1,6 @@
+pub mod Both
+pub mod Held
+pub mod Paths
+pub mod Same
+pub mod Streams
+pub mod Tokens
