@@ -59,11 +59,9 @@ impl<X: Subtree> Subtree for Scoped<X> {
 
     ghost moves = { X.moves };
 
-    fn read(
-        alloc: Global,
-        place: Place,
-        input: &mut ParseStream<'_>,
-    ) -> Result<Scoped<X>, Error> {
+    ghost alike = { X.alike };
+
+    fn read(alloc: Global, place: Place, input: &mut ParseStream<'_>) -> Result<Scoped<X>, Error> {
         let end = input.scope();
         let tree = X::read(alloc, place, input)?;
         Ok(Scoped { tree, end })

@@ -16,8 +16,8 @@ use Rattle.syn_path.specs.declared.supplied.Place.{Place}
 use Rattle.syn_path.specs.declared.supplied.Place.TheVariants.{ArrayLen, Value, Guard, Block}
 use Rattle.syn_verbatim.specs.declared.expr.VerbatimExpr.{VerbatimExpr}
 use Rattle.syn_verbatim.specs.Held.{held, levels, seen}
-use Rattle.syn_verbatim.specs.Spelling.{fits, spells, verbatim_of}
-use Rattle.syn_path.specs.aside.Lists.{MovesSubtree}
+use Rattle.syn_verbatim.specs.Spelling.{fits, print, spells, verbatim_of}
+use Rattle.syn_path.specs.aside.Lists.{MovesSubtree, PrintsAlike}
 use Rattle.syn_path.proofs.aside_laws.Both.{cons_same, of3}
 use Rattle.syn_path.proofs.aside_laws.Held.{seen_group}
 use Rattle.syn_path.proofs.aside_laws.Paths.{stream_same}
@@ -81,8 +81,11 @@ fits_seen Value s = of3 (λ (a b c : Bool). not a && (not b && not c)) (done_see
 fits_seen Guard s = ap not (done_seen s)
 fits_seen Block s = refl
 
--- ---- the law of a supplied subtree
+-- ---- the laws of a supplied subtree
 
 pub moves : MovesSubtree spells bare
 moves w x l m v u (i, h) e =
     let s = same_of l m u e in (verbatim_of (stream_of_trees (held m)), (refl, sym (fits_seen w s) ∙ h), ap verbatim_of (held_same l m s ∙ ap bare_stream (sym i)))
+
+pub alike : PrintsAlike (λ w. print) bare
+alike w x y e = ap (λ (z : VerbatimExpr). z.tokens) e

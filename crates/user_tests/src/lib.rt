@@ -7,3 +7,5 @@
 mod form_tests;
 #[cfg(test)]
 mod required_tests;
+#[cfg(test)]
+mod scoped_tests;

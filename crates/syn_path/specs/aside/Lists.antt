@@ -1,7 +1,9 @@
 -- What a whole read promises of lists and trees that are the same aside from spans.
 use Rattle.std.specs.Prelude.{◌≡◌, true, Option, Some, None}
 use Rattle.token_core.specs.Headline.{Grammar, Headline}
+use Rattle.token_core.specs.Prints.{Print}
 use Rattle.token_core.specs.Rebuilt.{Visible}
+use Rattle.token_core.specs.Same.{Same}
 use Rattle.token_core.specs.Spans.{none, delim_span}
 use Rattle.token_core.specs.Toks.{Toks, done, word, mark, lit, group, enter, leave}
 use Rattle.token_core.specs.Trees.{ident, punct, literal}
@@ -37,3 +39,7 @@ Moves G free = (b : _) (m l : Toks) → Visible l → G.spells true b m → AreS
 -- the law of a supplied subtree: what a tree spells in a place, a tree that is the same spells there with other spans
 abbrev pub MovesSubtree : {X : Type 0} → (Place → X → Toks → Type 0) → (X → X) → Type 0
 MovesSubtree spells free = (w : Place) (x : _) (m l : Toks) → Visible m → Visible l → spells w x m → AreSame m l → (y : _) × spells w y l × (free y ≡ free x)
+
+-- the law of what a supplied subtree is without its spans: trees that are the same print lists that are the same
+abbrev pub PrintsAlike : {X : Type 0} → (Place → X → Print) → (X → X) → Type 0
+PrintsAlike prints free = (w : Place) (x y : _) → free x ≡ free y → Same (prints w x) (prints w y)

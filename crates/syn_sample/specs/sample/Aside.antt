@@ -1,30 +1,40 @@
 -- The sample's trees on lists that are the same aside from spans.
-use Rattle.std.specs.Prelude.{◌≡◌, ℕ, zero, suc, Bool, false, List, [], ◌∷◌, Some, None, map, refl}
-use Rattle.std.proofs.Common.{sym, ◌∙◌, ap, ap₂}
+use Rattle.std.specs.Prelude.{◌≡◌, ℕ, zero, suc, Bool, false, List, [], ◌∷◌, Some, None, map, option_map, refl}
+use Rattle.std.proofs.Common.{sym, ◌∙◌, ap, ap₂, subst}
 use Rattle.token_core.specs.declared.span.DelimSpan.{DelimSpan}
 use Rattle.token_core.specs.declared.lit.Lit.{Lit}
 use Rattle.token_core.specs.declared.token.Paren.{Paren}
 use Rattle.token_core.specs.declared.tree.Delimiter.{Delimiter}
 use Rattle.token_core.specs.declared.tree.Delimiter.TheVariants as d
 use Rattle.token_core.specs.declared.tree.Ident.{Ident}
+use Rattle.token_core.specs.Groups.{paren}
+use Rattle.token_core.specs.Lits as lits
+use Rattle.token_core.specs.Prints as p
+use Rattle.token_core.specs.Prints.{Print}
+use Rattle.token_core.specs.Same.{bare_tree}
+use Rattle.token_core.specs.Loops.{Many}
 use Rattle.token_core.specs.Rebuilt.{IsVisible}
+use Rattle.token_core.specs.Spans.{none, delim_span}
 use Rattle.token_core.specs.Toks.{Toks, done, group}
 use Rattle.token_core.specs.Trees.{ident}
 use Rattle.syn_path.specs.declared.supplied.Place.{Place}
 use Rattle.syn_path.specs.declared.supplied.Place.TheVariants.{ArrayLen, Value, Guard, Block}
-use Rattle.syn_path.specs.aside.Lists.{MovesSubtree}
+use Rattle.syn_path.specs.aside.Lists.{MovesSubtree, PrintsAlike}
 use Rattle.syn_path.specs.aside.Tokens as tokens
+use Rattle.syn_path.proofs.aside_laws.Prints.{Alike, alike_both, alike_same, group_alike, ident_alike, joined_alike, joined_each, lit_alike, mark_alike, optional_alike}
 use Rattle.syn_path.proofs.aside_laws.Same.{Same, same_done, same_word, same_mark, same_lit, same_group, same_of, all_left, past_word, past_group, onward, Moved, Mover, at_end}
 use Rattle.syn_path.proofs.aside_laws.Tokens.{mark_moves, lit_moves, listed_move}
 use Rattle.syn_sample.specs.declared.sample.Sample.{Sample}
 use Rattle.syn_sample.specs.declared.sample.Sample.TheVariants.{Sum, Statements}
-use Rattle.syn_sample.specs.declared.sample.Atom.{Atom, out-Atom, roll-Atom, roll-out-Atom}
-use Rattle.syn_sample.specs.declared.sample.Atom.TheFolds.{fold-roll-Atom}
+use Rattle.syn_sample.specs.declared.sample.Atom.{Atom, out-Atom, roll-Atom, roll-out-Atom, map-Atom}
+use Rattle.syn_sample.specs.declared.sample.Atom.TheFolds.{fold-roll-Atom, ind-Atom}
 use Rattle.syn_sample.specs.declared.sample.Atom.TheOpen as o
 use Rattle.syn_sample.specs.declared.sample.Atom.TheVariants as a
 use Rattle.syn_sample.specs.declared.sample.ModPath.{ModPath}
 use Rattle.syn_sample.specs.sample.Bare as free
-use Rattle.syn_sample.specs.sample.Parts.{Atoms, path_of, group_of, is_lit, lone, lit-is_lit, path-is_lit, group-is_lit}
+use Rattle.syn_sample.specs.sample.Parts.{Atoms, Semi, path_of, group_of, is_lit, lone, lit-is_lit, path-is_lit, group-is_lit}
+use Rattle.syn_sample.specs.sample.Printing as printing
+use Rattle.syn_sample.specs.sample.Prints.{prints_lit, prints_path, prints_group}
 use Rattle.syn_sample.specs.sample.Spelling.{seen_delimiter, shown, IsSegment, a_segment, IsPath, a_path, a_global_path, IsAtom, an_atom_lit, an_atom_path, an_atom_group, AreAtoms, AreSummed, AreStatements, IsSum, IsValue, IsBlock, spells}
 
 -- ---- atoms without their spans, by their kinds
@@ -99,19 +109,19 @@ record Kept (Inside : Atoms → Toks → Type 0) (v : Atoms) (e : Toks) : Type 0
   is : Inside atoms e
   same : free.atoms atoms ≡ free.atoms v
 
-module _ (Inside : Atoms → Toks → Type 0) (keeps : {v : Atoms} {c e : Toks} → Inside v c → Same c e → Kept Inside v e) where
+module _ (Inside : Atoms → Toks → Type 0) (keeps : (v : Atoms) (c e : Toks) → Inside v c → Same c e → Kept Inside v e) where
   atom_moves : {x : Atom} {l r m : Toks} → IsAtom Inside x l r → Same l m → Moved free.atom (IsAtom Inside) x r m
   atom_moves (an_atom_lit {x = x} i) s =
       let q = lit_moves i s in record { tree = a.Lit q.tree; rest = q.rest; is = an_atom_lit q.is; same = bare-lit q.tree ∙ ap a.Lit q.same ∙ sym (bare-lit x); on = q.on; part = q.part }
   atom_moves (an_atom_path {p = p} i) s =
       let q = path_moves i s in record { tree = a.Path q.tree; rest = q.rest; is = an_atom_path q.is; same = bare-path q.tree ∙ ap a.Path q.same ∙ sym (bare-path p); on = q.on; part = q.part }
   atom_moves (an_atom_group {s = g} {v = v} i) (same_group {b = b} u j s) =
-      let q = keeps i j in
+      let q = keeps v _ _ i j in
       record {
         tree = group_of b q.atoms;
         rest = _;
         is = an_atom_group q.is;
-        same = bare-group _ q.atoms ∙ ap (a.Group (tokens.paren _)) q.same ∙ sym (bare-group _ v);
+        same = bare-group (paren b) q.atoms ∙ ap (a.Group (paren (delim_span none none))) q.same ∙ sym (bare-group (paren g) v);
         on = s;
         part = past_group all_left;
       }
@@ -119,12 +129,16 @@ module _ (Inside : Atoms → Toks → Type 0) (keeps : {v : Atoms} {c e : Toks} 
 atoms_move : (n : ℕ) {v : Atoms} {l r m : Toks} → AreAtoms n v l r → Same l m → Moved free.atoms (AreAtoms n) v r m
 atoms_move zero i s = absurd i
 atoms_move (suc n) i s =
-    let inside : {v : Atoms} {c e : Toks} → AreAtoms n v c done → Same c e → Kept (λ w k. AreAtoms n w k done) v e = λ i s. let q = at_end (atoms_move n i s) in record { atoms = q.0; is = q.1; same = q.2 } in
-    let q = listed_move free.atom tokens.mark i s (λ b x l r m i s. atom_moves (λ w k. AreAtoms n w k done) inside i s) (λ x l r m i s. mark_moves i s) in
+    let q = listed_move free.atom tokens.mark i s (λ b x l r m i s. atom_moves (λ w k. AreAtoms n w k done) (λ v c e i s. let q = at_end (atoms_move n i s) in record { atoms = q.0; is = q.1; same = q.2 }) i s) (λ x l r m i s. mark_moves i s) in
     record { tree = (q.values, q.marks); rest = q.rest; is = q.is; same = ap₂ (λ x y. (x, y)) q.same q.same_marks; on = q.on; part = q.part }
 
 summed_moves : {v : Atoms} {l r m : Toks} → AreSummed v l r → Same l m → Moved free.atoms AreSummed v r m
 summed_moves (n, i) s = let q = atoms_move n i s in record { tree = q.tree; rest = q.rest; is = (n, q.is); same = q.same; on = q.on; part = q.part }
+
+statements_move : {v : Many Atoms Semi} {l r m : Toks} → AreStatements v l r → Same l m → Moved (tokens.many free.atoms tokens.mark) AreStatements v r m
+statements_move i s =
+    let q = listed_move free.atoms tokens.mark i s (λ b x l r m i s. summed_moves i s) (λ x l r m i s. mark_moves i s) in
+    record { tree = (q.values, q.marks); rest = q.rest; is = q.is; same = ap₂ (λ x y. (x, y)) q.same q.same_marks; on = q.on; part = q.part }
 
 -- ---- all of a list, by its place
 
@@ -145,12 +159,50 @@ value_moves (Statements v) i s = absurd i
 block_moves : (x : Sample) {l m : Toks} → IsBlock x l → Same l m → AllMoved IsBlock x m
 unfolding AllMoved
 block_moves (Sum v) i s = absurd i
-block_moves (Statements v) i s =
-    let q = listed_move free.atoms tokens.mark i s (λ b x l r m i s. summed_moves i s) (λ x l r m i s. mark_moves i s) in
-    let k = at_end {Is = λ w l r. AreStatements w l r} {x = v} (record { tree = (q.values, q.marks); rest = q.rest; is = q.is; same = ap₂ (λ x y. (x, y)) q.same q.same_marks; on = q.on; part = q.part }) in
-    (Statements k.0, k.1, ap Statements k.2)
+block_moves (Statements v) i s = let q = at_end (statements_move i s) in (Statements q.0, q.1, ap Statements q.2)
 
--- ---- the law of a supplied subtree
+-- ---- prints
+
+path_alike : (x : ModPath) → Alike (printing.path x) (printing.path (free.path x))
+path_alike x =
+    alike_both (printing.colon x.leading_colon) (printing.colon (option_map tokens.mark x.leading_colon)) (printing.segments x.segments) (printing.segments (tokens.many tokens.ident tokens.mark x.segments))
+    (optional_alike p.mark tokens.mark mark_alike x.leading_colon) (joined_alike p.ident tokens.ident p.mark tokens.mark mark_alike ident_alike x.segments.0 x.segments.1)
+
+abbrev OneAlike : Atom → Type 0
+OneAlike x = Alike (printing.atom x) (printing.atom (free.atom x))
+
+-- of what an atom prints, and one that is the same
+by_prints : (x : Atom) (a b : Print) → printing.atom x ≡ a → printing.atom (free.atom x) ≡ b → Alike a b → OneAlike x
+by_prints x a b e h i = ap (map bare_tree) e ∙ i ∙ sym (ap (map bare_tree) h)
+
+abbrev Held : Type 0
+Held = (x : Atom) × OneAlike x
+
+abbrev atom_in : Held → Atom
+atom_in h = h.0
+
+layer_alike : (y : o.Atom-F Held) → OneAlike (roll-Atom (map-Atom Held Atom atom_in y))
+layer_alike (o.Lit x) = subst OneAlike (sym (a.rolls-Lit x)) (by_prints (a.Lit x) (lits.print x) (lits.print (tokens.lit x)) (prints_lit x) (ap printing.atom (bare-lit x) ∙ prints_lit (tokens.lit x)) (lit_alike x))
+layer_alike (o.Path x) =
+    subst OneAlike (sym (a.rolls-Path x)) (by_prints (a.Path x) (printing.path x) (printing.path (free.path x)) (prints_path x) (ap printing.atom (bare-path x) ∙ prints_path (free.path x)) (path_alike x))
+layer_alike (o.Group t v) =
+    let w : Atoms = (map atom_in v.0, v.1) in
+    subst OneAlike (sym (a.rolls-Group t w))
+    (by_prints (a.Group t w) (p.group d.Parenthesis (printing.atoms w) t.span) (p.group d.Parenthesis (printing.atoms (free.atoms w)) (delim_span none none)) (prints_group t w)
+    (ap printing.atom (bare-group t w) ∙ prints_group (tokens.paren t) (free.atoms w))
+    (group_alike d.Parenthesis t.span (delim_span none none) (printing.atoms w) (printing.atoms (free.atoms w)) (joined_each printing.atom free.atom p.mark tokens.mark mark_alike v.0 v.1)))
+
+atom_alike : (x : Atom) → OneAlike x
+atom_alike = ind-Atom OneAlike (λ x y is. subst (λ z. OneAlike (roll-Atom z)) is (layer_alike y))
+
+atoms_alike : (v : Atoms) → Alike (printing.atoms v) (printing.atoms (free.atoms v))
+atoms_alike v = joined_alike printing.atom free.atom p.mark tokens.mark mark_alike atom_alike v.0 v.1
+
+sample_alike : (x : Sample) → Alike (printing.sample x) (printing.sample (free.sample x))
+sample_alike (Sum v) = atoms_alike v
+sample_alike (Statements v) = joined_alike printing.atoms free.atoms p.mark tokens.mark mark_alike atoms_alike v.0 v.1
+
+-- ---- the laws of a supplied subtree
 
 pub moves : MovesSubtree spells free.sample
 unfolding AllMoved
@@ -158,3 +210,6 @@ moves ArrayLen x l m v u i e = sum_moves x i (shown_same (same_of l m u e))
 moves Value x l m v u i e = value_moves x i (shown_same (same_of l m u e))
 moves Guard x l m v u i e = sum_moves x i (shown_same (same_of l m u e))
 moves Block x l m v u i e = block_moves x i (shown_same (same_of l m u e))
+
+pub alike : PrintsAlike (λ w. printing.sample) free.sample
+alike w x y e = alike_same _ _ (sample_alike x ∙ ap (λ z. map bare_tree (printing.sample z)) e ∙ sym (sample_alike y))
