@@ -71,3 +71,32 @@ impl<X: Subtree> Subtree for Scoped<X> {
         self.tree.print(alloc, place, out)
     }
 }
+
+/// A span that contracts don't see.
+#[derive(Drop)]
+pub struct Unseen {
+    span: Span,
+}
+
+impl Model for Unseen {
+    ghost Value = { Unit {0} };
+
+    ghost view = { λ _. tt };
+}
+
+impl Unseen {
+    pub fn new(span: Span) -> Unseen {
+        Unseen { span }
+    }
+
+    pub fn span(&self) -> Span {
+        self.span
+    }
+}
+
+/// A tree that holds one.
+#[derive(Drop)]
+pub enum Tree {
+    Leaf(Unseen, TokenStream),
+    More(token_core::Items<Tree>, Unseen),
+}

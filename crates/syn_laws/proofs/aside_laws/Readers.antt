@@ -46,7 +46,7 @@ use Rattle.syn_ty.specs.ty.Spelling.{Relation, IsOptional, IsInfer, IsNever, IsM
 use Rattle.syn_ty.specs.ty.Spelt.{spelt_to, Begins, IsLifetimeAlone, IsPathAlone, with_attributes}
 use Rattle.syn_forms.specs.tokens.Grammars as forms
 use Rattle.syn_forms.proofs.tokens_laws.Mutability.{mutability_lawful}
-use Rattle.syn_ty.proofs.ty_laws.Given.{Given, given}
+use Rattle.syn_ty.proofs.ty_laws.Given.{Given, given as given_by}
 use Rattle.syn_ty.proofs.ty_laws.GivenWhole.{attributes_again, attributes_met, given_again, given_meets}
 use Rattle.syn_ty.proofs.ty_laws.KnotAgain.{GivenAgain}
 use Rattle.syn_ty.proofs.ty_laws.KnotMet.{GivenMeets}
@@ -140,7 +140,7 @@ module _ {X : Type 0} (reads : Place → Reader X) (spells : Place → X → Tok
   values_meet = consts_meet reads spells normals prints complete reprint
 
   g : Given (reading.outer reads) rv sa se
-  g = given (attributes_told reads spells sound) (consts_told reads spells sound) lens
+  g = given_by (attributes_told reads spells sound) (consts_told reads spells sound) lens
 
   m : GivenMeets (reading.outer reads) rv sa se
   m = given_meets attrs_meet values_meet lens
