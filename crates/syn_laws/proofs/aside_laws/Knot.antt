@@ -1,27 +1,22 @@
 -- Types, paths, bounds, parameters and generics of any height on lists that are the same aside from spans.
 use Rattle.std.proofs.Common.{◌≡◌, ℕ, zero, suc, Bool, true, List, [], Option, Some, None, refl, sym, ap, ◌∙◌, subst}
-use Rattle.token_core.specs.Prints.{Print}
-use Rattle.token_core.specs.Reads.{Reader}
 use Rattle.token_core.specs.Toks.{Toks}
 use Rattle.syn_path.specs.Values.{SpelledValues}
 use Rattle.syn_ty.specs.declared.generics.GenericParamOf.TheOpen as o
 use Rattle.syn_ty.specs.declared.path.PathArgumentsOf.{out-PathArgumentsOf}
 use Rattle.syn_ty.specs.declared.path.PathArgumentsOf.TheVariants as a
 use Rattle.syn_ty.specs.path.Spelling.{IsAngle, IsArguments, some_arguments}
-use Rattle.syn_ty.specs.ty.Parts.{Manner, clearly, End, Parts}
-use Rattle.syn_ty.specs.ty.Promises.{promise}
-use Rattle.syn_ty.specs.ty.Spelling.{Relation}
-use Rattle.syn_ty.specs.ty.Spelt.{spelt_to, Begins, BeginsEnding, Spells, SpellsEnding, IsPathAlone, a_path_alone}
+use Rattle.syn_ty.specs.ty.Parts.{Manner, clearly, Parts}
+use Rattle.syn_ty.specs.ty.Spelt.{spelt_to, IsPathAlone, a_path_alone}
 use Rattle.syn_ty.specs.ty.Trees.{AngleBracketed, Layer, Path, PathArguments, QSelf}
 use Rattle.syn_ty.specs.ty.Types.{qualified_with}
-use Rattle.syn_path.specs.aside.Lists.{Asides}
 use Rattle.syn_laws.specs.aside.Types as free
 use Rattle.syn_laws.proofs.aside_laws.Attrs.{Kept}
 use Rattle.syn_laws.proofs.aside_laws.BoundForms.{bound_moves, param_moves}
 use Rattle.syn_laws.proofs.aside_laws.Layers.{free-path-type}
 use Rattle.syn_laws.proofs.aside_laws.Parts.{Moving}
 use Rattle.syn_laws.proofs.aside_laws.PathForms.{angle_moves, any_path_moves, argument_moves, arguments_move}
-use Rattle.syn_path.proofs.aside_laws.Same.{Same, Mover, aside, moves}
+use Rattle.syn_path.proofs.aside_laws.Same.{Same, Mover}
 use Rattle.syn_laws.proofs.aside_laws.TypeForms.{type_moves}
 
 -- ---- arguments in angle brackets

@@ -19,7 +19,7 @@ use Rattle.token_core.specs.Lits.{bool_text}
 use Rattle.token_core.specs.Marks.{chars_of}
 use Rattle.token_core.specs.Prints as p
 use Rattle.token_core.specs.Prints.{Print}
-use Rattle.token_core.specs.Same.{bare_tree, bare_stream, Same}
+use Rattle.token_core.specs.Same.{bare_tree, Same}
 use Rattle.token_core.specs.Spans.{none, delim_span}
 use Rattle.token_core.specs.Trees.{TokenStream, group_of, ident, punct, literal}
 use Rattle.token_core.proofs.Bares.{bare-ident, bare-punct, bare-literal, bare_stream_is}

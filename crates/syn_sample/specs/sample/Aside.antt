@@ -1,7 +1,6 @@
 -- The sample's trees on lists that are the same aside from spans.
-use Rattle.std.specs.Prelude.{◌≡◌, ℕ, zero, suc, Bool, false, List, [], ◌∷◌, Some, None, map, option_map, refl}
+use Rattle.std.specs.Prelude.{◌≡◌, ℕ, zero, suc, List, [], ◌∷◌, Some, None, map, option_map, refl}
 use Rattle.std.proofs.Common.{sym, ◌∙◌, ap, ap₂, subst}
-use Rattle.token_core.specs.declared.span.DelimSpan.{DelimSpan}
 use Rattle.token_core.specs.declared.lit.Lit.{Lit}
 use Rattle.token_core.specs.declared.token.Paren.{Paren}
 use Rattle.token_core.specs.declared.tree.Delimiter.{Delimiter}
@@ -17,12 +16,11 @@ use Rattle.token_core.specs.Rebuilt.{IsVisible}
 use Rattle.token_core.specs.Spans.{none, delim_span}
 use Rattle.token_core.specs.Toks.{Toks, done, group}
 use Rattle.token_core.specs.Trees.{ident}
-use Rattle.syn_path.specs.declared.supplied.Place.{Place}
 use Rattle.syn_path.specs.declared.supplied.Place.TheVariants.{ArrayLen, Value, Guard, Block}
 use Rattle.syn_path.specs.aside.Lists.{MovesSubtree, PrintsAlike}
 use Rattle.syn_path.specs.aside.Tokens as tokens
 use Rattle.syn_path.proofs.aside_laws.Prints.{Alike, alike_both, alike_same, group_alike, ident_alike, joined_alike, joined_each, lit_alike, mark_alike, optional_alike}
-use Rattle.syn_path.proofs.aside_laws.Same.{Same, same_done, same_word, same_mark, same_lit, same_group, same_of, all_left, past_word, past_group, onward, Moved, Mover, at_end}
+use Rattle.syn_path.proofs.aside_laws.Same.{Same, same_done, same_word, same_mark, same_lit, same_group, same_of, all_left, past_word, past_group, onward, Moved, at_end}
 use Rattle.syn_path.proofs.aside_laws.Tokens.{mark_moves, lit_moves, listed_move}
 use Rattle.syn_sample.specs.declared.sample.Sample.{Sample}
 use Rattle.syn_sample.specs.declared.sample.Sample.TheVariants.{Sum, Statements}
