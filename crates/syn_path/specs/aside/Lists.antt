@@ -27,7 +27,7 @@ abbrev pub Aside : {A : Type 0} → Grammar A → (A → A) → Toks → Option 
 Aside G free l (Some a) = Visible l → (m : Toks) → AreSame m l → (b : _) → G.spells true b m → free b ≡ free a
 Aside G free l None = Visible l → (m : Toks) → AreSame m l → (b : _) → G.spells true b m → ⊥
 
--- What a whole read promises, it promises aside from spans. And whatever a read answers, for want of memory too: any two trees that clearly spell lists that are the same are the same.
+-- What a whole read promises, it promises aside from spans. And whatever was read, also where memory ran out: any two trees that clearly spell lists that are the same are the same.
 pub record Asides {A : Type 0} (G : Grammar A) (free : A → A) : Type 0 where
   pub read : (l : Toks) (o : Option A) → Headline G l o → Aside G free l o
   pub trees : (l m : Toks) → Visible l → AreSame m l → (a b : A) → G.spells true a l → G.spells true b m → free b ≡ free a
