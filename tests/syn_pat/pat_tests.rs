@@ -73,6 +73,13 @@ fn verbatim(alloc: Global, text: &str) -> Result<Pattern, Error> {
     Ok(Pat::Verbatim(lex(alloc, text)?))
 }
 
+/// `box 1..`, whose last dot is glued to what follows.
+fn glued(alloc: Global) -> Result<Pattern, Error> {
+    let mut tokens = lex(alloc, "box 1..,")?;
+    tokens.truncate(4);
+    Ok(Pat::Verbatim(tokens))
+}
+
 #[test]
 fn leaves_print(rt: HostRuntime) {
     let alloc = rt.alloc();
@@ -272,6 +279,10 @@ fn lists_print(rt: HostRuntime) {
     );
     let some = two(alloc, name(alloc, "a"));
     says(&rt, shown(alloc, tuple(alloc, some)), "(a , ..)");
+    let some = two(alloc, glued(alloc));
+    says(&rt, shown(alloc, tuple(alloc, some)), "(box 1 .., ..)");
+    let some = alternatives(alloc, glued(alloc), wild(alloc));
+    says(&rt, shown(alloc, some), "| box 1 ..| _");
 }
 
 #[test]

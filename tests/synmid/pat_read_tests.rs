@@ -94,6 +94,8 @@ fn bindings_and_references_are_read(rt: HostRuntime) {
         ("&(a | b)", "& (a | b)"),
         ("box a", "box a"),
         ("box box (a, b)", "box box (a , b)"),
+        ("(box 1..,a)", "(box 1 .., a)"),
+        ("(box 1 .., a)", "(box 1 .., a)"),
         ("ref 1", "expected identifier 4-5 4-5"),
         ("mut ref a", "expected identifier 4-7 4-7"),
         (

@@ -11,6 +11,7 @@ use Rattle.token_core.specs.Stream.{Stream}
 use Rattle.token_core.specs.Tokens as token
 use Rattle.token_core.specs.Toks.{Toks}
 use Rattle.token_core.specs.Trees.{row}
+use Rattle.syn_path.specs.Ends.{Calm, Ended, Moved}
 use Rattle.syn_path.specs.Lengths.{begins_const}
 
 -- ---- what a read answers, how much it leaves, and what a print spells
@@ -49,6 +50,10 @@ pub record AttributesMeet {A : Type 0} (reads : Reader (List A)) (spells : Bool 
   pub reprint : (x : List A) (l k : Toks) → spells false x l k → ReprintsFront (spells true) normal print x l k
   -- they print nothing only where nothing is spelt for them, and what they print does not begin with `<`
   pub shows : (x : List A) (l k : Toks) → spells false x l k → (h : Toks) → ((l ≡ k) × (row (print x) h ≡ h)) ⊎ (token.sees_lt (row (print x) h) ≡ false)
+  -- before other tokens they are spelt clearly too
+  pub moves : (k : Toks) (x : List A) (l r : Toks) → spells true x l r → Calm l → Moved (spells true x) k l r
+  -- they end in no mark that is glued to what follows
+  pub ends : (x : List A) (l r : Toks) → spells true x l r → Ended r → Ended l
 
 -- ---- const arguments and the defaults of const parameters
 
@@ -61,3 +66,8 @@ pub record ConstsMeet {E : Type 0} (reads : Reader E) (argument default : Bool �
   pub default_met : (s : Stream) (x : E) (k : Toks) → default true x s.rest k → Answers reads x s k
   pub default_less : (x : E) (l k : Toks) → default true x l k → Fewer l k
   pub default_reprint : (x : E) (l k : Toks) → default false x l k → ReprintsFront (default true) normal print x l k
+  -- before other tokens they are spelt clearly too, and they end in no mark that is glued to what follows
+  pub argument_moves : (k : Toks) (x : E) (l r : Toks) → argument true x l r → Calm l → Moved (argument true x) k l r
+  pub argument_ends : (x : E) (l r : Toks) → argument true x l r → Ended r → Ended l
+  pub default_moves : (k : Toks) (x : E) (l r : Toks) → default true x l r → Calm l → Moved (default true x) k l r
+  pub default_ends : (x : E) (l r : Toks) → default true x l r → Ended r → Ended l

@@ -28,9 +28,12 @@ use Rattle.token_core.proofs.Steps.{link, chosen, Reads_to}
 use Rattle.token_core.proofs.Took.{at, seen_word}
 use Rattle.syn_path.specs.declared.supplied.Place.{Place}
 use Rattle.syn_path.specs.declared.supplied.Place.TheVariants.{Block}
+use Rattle.syn_path.specs.Ends.{Calm, Ended, Moved}
 use Rattle.syn_path.specs.Lengths.{begins_const}
 use Rattle.syn_path.specs.Supplied.{UsesUp, Reprints}
 use Rattle.syn_path.specs.Whole.{Answers, ConstsMeet, Fewer, ReprintsFront}
+use Rattle.syn_path.proofs.Ends.{group_on, lit_over, word_on}
+use Rattle.syn_path.proofs.Moves.{lit_moves}
 use Rattle.syn_path.proofs.Words.{row-group, uses_none}
 use Rattle.syn_attr.specs.declared.expr.Expr.{Expr}
 use Rattle.syn_attr.specs.declared.expr.Expr.TheVariants as e
@@ -131,6 +134,22 @@ module _ {X : Type 0} (spells : Place → X → Toks → Type 0) where
   const_begins : (x : Expr X) (l r : Toks) → IsConst spells x l r → begins_const l ≡ true
   const_begins x l r (a_lone_literal {x = y} i) = ap (λ b. b || sees_group Brace l) (lit_seen y l r i)
   const_begins x l r (a_block {s = s} {c = c} i) = ap (λ b. b || sees_group Brace l) (no_literal-group s c r) ∙ braces_seen s c r
+
+  const_moves : (k : Toks) (x : Expr X) (l r : Toks) → IsConst spells x l r → Calm l → Moved (IsConst spells x) k l r
+  const_moves k x l r (a_lone_literal i) q = let m = lit_moves k i q in record { calm = m.calm; is = a_lone_literal m.is }
+  const_moves k x l r (a_block i) q = record { calm = q; is = a_block i }
+
+  default_moves : (k : Toks) (x : Expr X) (l r : Toks) → IsConstDefault spells x l r → Calm l → Moved (IsConstDefault spells x) k l r
+  default_moves k x l r (a_const i) q = let m = const_moves k x l r i q in record { calm = m.calm; is = a_const m.is }
+  default_moves k x l r (a_word h) q = record { calm = q; is = a_word h }
+
+  const_ends : (x : Expr X) (l r : Toks) → IsConst spells x l r → Ended r → Ended l
+  const_ends x l r (a_lone_literal i) h = lit_over i h.apart
+  const_ends x l r (a_block {s = s} {c = c} i) h = group_on Brace s c r h.apart
+
+  default_ends : (x : Expr X) (l r : Toks) → IsConstDefault spells x l r → Ended r → Ended l
+  default_ends x l r (a_const i) h = const_ends x l r i h
+  default_ends x l r (a_word {i = i} e) h = word_on i r h.apart
 
 -- ---- reads
 
@@ -255,4 +274,8 @@ module _ {X : Type 0} (reads : Place → Reader X) (spells : Place → X → Tok
     default_met = default_met reads spells complete;
     default_less = default_fewer spells;
     default_reprint = default_reprint;
+    argument_moves = const_moves spells;
+    argument_ends = const_ends spells;
+    default_moves = default_moves spells;
+    default_ends = default_ends spells;
   }

@@ -1,6 +1,7 @@
 -- Attributes in a row before a node are read where they spell a list clearly, and print their normal form clearly.
 use Rattle.std.proofs.Common.{◌≡◌, ◌⊎◌, Bool, true, false, List, ◌∷◌, ◌++◌, Ok, inl, inr, refl, sym, ◌∙◌, ap, subst, arith}
 use Rattle.std.proofs.lemmas.List.{length-append}
+use Rattle.token_core.specs.declared.tree.Delimiter.TheVariants.{Bracket}
 use Rattle.token_core.specs.Positions.{items, an_end}
 use Rattle.token_core.specs.Prints.{Print}
 use Rattle.token_core.specs.Reads.{Reader, sees_mark}
@@ -12,8 +13,11 @@ use Rattle.token_core.specs.Toks.{Toks, done}
 use Rattle.token_core.specs.Trees.{row}
 use Rattle.syn_path.specs.declared.supplied.Place.{Place}
 use Rattle.syn_path.specs.declared.supplied.Place.TheVariants.{Value}
+use Rattle.syn_path.specs.Ends.{Calm, Ended, Moved}
 use Rattle.syn_path.specs.Supplied.{UsesUp, Reprints, IsApart}
 use Rattle.syn_path.specs.Whole.{Answers, AttributesMeet, Fewer, NotMore, ReprintsFront}
+use Rattle.syn_path.proofs.Ends.{chars_on, group_on}
+use Rattle.syn_path.proofs.Moves.{free_moves}
 use Rattle.syn_attr.specs.attr.Attrs.{Attribute}
 use Rattle.syn_attr.specs.attr.Consts as consts
 use Rattle.syn_attr.specs.attr.Normal as normal
@@ -50,6 +54,24 @@ module _ {X : Type 0} (spells : Place → X → Toks → Type 0) where
 
   outers_unlike : (clear : Bool) (a : Attribute X) (more : List (Attribute X)) (l r : Toks) → AreAll (IsOuter spells clear) (a ∷ more) l r → sees_lt l ≡ false
   outers_unlike clear a more l r (one_more {m = m} i j) = outer_unlike clear a l m i
+
+  -- ---- they stand before other tokens too
+
+  outer_moves : (k : Toks) (a : Attribute X) (l r : Toks) → IsOuter spells true a l r → Calm l → Moved (IsOuter spells true a) k l r
+  outer_moves k a l r (an_outer i j) q = let p = free_moves (λ l. refl) k i q in record { calm = p.calm; is = an_outer p.is j }
+
+  outers_move : (k : Toks) (x : List (Attribute X)) (l r : Toks) → AreAll (IsOuter spells true) x l r → Calm l → Moved (AreAll (IsOuter spells true) x) k l r
+  outers_move k x l r no_more q = record { calm = q; is = no_more }
+  outers_move k x l r (one_more {a = a} {all = more} {m = m} i j) q = let u = outer_moves k a l m i q in let w = outers_move k more m r j u.calm in record { calm = w.calm; is = one_more u.is w.is }
+
+  -- ---- and end in their brackets
+
+  outer_ends : (a : Attribute X) (l r : Toks) → IsOuter spells true a l r → Ended r → Ended l
+  outer_ends a l r (an_outer {s = s} {c = c} (is_mark i) j) h = chars_on i (group_on Bracket s c r h.apart)
+
+  outers_end : (x : List (Attribute X)) (l r : Toks) → AreAll (IsOuter spells true) x l r → Ended r → Ended l
+  outers_end x l r no_more h = h
+  outers_end x l r (one_more {a = a} {all = more} {m = m} i j) h = outer_ends a l m i (outers_end more m r j h)
 
   -- ---- each of them is printed before its node
 
@@ -92,4 +114,4 @@ module _ {X : Type 0} (reads : Place → Reader X) (spells : Place → X → Tok
       inr (outers_unlike spells true (normal.attribute normals a) (normal.attributes normals more) (row (consts.outer prints (a ∷ more)) h) h ((outers_reprint (a ∷ more) l k (one_more i j)).again h))
 
   pub attributes_meet : AttributesMeet (outer reads) (λ clear. AreAll (IsOuter spells clear)) (normal.attributes normals) (consts.outer prints)
-  attributes_meet = record { met = outers_met; begins = outers_begin; light = outers_light spells true; reprint = outers_reprint; shows = outers_show }
+  attributes_meet = record { met = outers_met; begins = outers_begin; light = outers_light spells true; reprint = outers_reprint; shows = outers_show; moves = outers_move spells; ends = outers_end spells }

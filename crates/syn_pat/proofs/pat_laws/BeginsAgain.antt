@@ -7,11 +7,11 @@ use Rattle.token_core.specs.declared.tree.Spacing.TheVariants.{Joint}
 use Rattle.token_core.specs.Keywords.{is_keyword}
 use Rattle.token_core.specs.Listed.{AreListed, none_left, last_value, value_and_mark, Nowhere}
 use Rattle.token_core.specs.Marks.{text_of}
-use Rattle.token_core.specs.Reads.{is_text, sees_word}
+use Rattle.token_core.specs.Reads.{is_done, is_text, sees_word}
 use Rattle.token_core.specs.Spellings.{last_char, more_chars, IsLit, a_literal, a_bool, a_negative, IsMark, is_mark, is_word, AreLimits, half_open, closed}
 use Rattle.token_core.specs.Tokens as token
-use Rattle.token_core.specs.Toks.{Bytes, Toks, word, mark, group}
-use Rattle.token_core.specs.Trees.{punct}
+use Rattle.token_core.specs.Toks.{Bytes, Toks, done, word, mark, group}
+use Rattle.token_core.specs.Trees.{TokenStream, punct, row, trees}
 use Rattle.token_core.proofs.Took.{seen_word}
 use Rattle.syn_path.specs.declared.mac.Macro.{Macro}
 use Rattle.syn_path.specs.declared.path.PathStyle.{PathStyle}
@@ -26,10 +26,10 @@ use Rattle.syn_attr.specs.declared.expr.ExprConstOf.{ExprConstOf}
 use Rattle.syn_forms.specs.paths.Reading.{is_named_word}
 use Rattle.syn_ty.specs.path.Paths.{Sep}
 use Rattle.syn_ty.specs.path.Spelling.{is_segment_word, IsAnyPath, unqualified, qualified, by_type, by_type_as_path, a_path as a_written_path, IsSegment, a_word, a_word_with_arguments}
-use Rattle.syn_ty.specs.ty.Parts.{Manner, is_clear, kept, Parts}
+use Rattle.syn_ty.specs.ty.Parts.{Manner, loosely, plainly, clearly, is_clear, IsVerbatim, Parts}
 use Rattle.syn_ty.specs.ty.Spelling.{absent, present, Relation}
 use Rattle.syn_ty.specs.ty.Trees.{Path, PathSegment, QSelf, TypeTree}
-use Rattle.syn_ty.proofs.ty_laws.HeldForms.{held_spelt}
+use Rattle.syn_path.proofs.Moves.{row_before, words_before}
 use Rattle.syn_pat.specs.declared.pat.PatOf.{out-PatOf, map-PatOf}
 use Rattle.syn_pat.specs.declared.pat.PatOf.TheFolds.{fold_out-PatOf}
 use Rattle.syn_pat.specs.declared.pat.PatOf.TheOpen as o
@@ -241,6 +241,18 @@ module _ {X : Type 0} (part : Manner → PatPlace → Relation (Pat X)) where
   unfolding sees_word
   box_no_mut how l r (a_box is_word j) = refl
 
+  box_there : (how : Manner) (l r : Toks) → IsBoxed part how l r → is_done l ≡ false
+  unfolding is_done
+  box_there how l r (a_box is_word j) = refl
+
+  -- what is held begins as it does by itself
+  held_no_mut : (how : Manner) (t : TokenStream) (l r : Toks) → IsVerbatim (IsBoxed part) how t l r → token.sees_mut l ≡ false
+  held_no_mut loosely t l r (i, h) = box_no_mut loosely l r i
+  held_no_mut plainly t l r ((i, q), h) =
+      let own = row (trees t) done in
+      ap token.sees_mut (h ∙ sym (row_before (trees t) done r)) ∙ words_before r own (box_there clearly own done i) _ ∙ box_no_mut clearly own done i
+  held_no_mut clearly t l r (i, h) = box_no_mut clearly l r i
+
   module _ (spells : Place → X → Toks → Type 0) (how : Manner) where
     pub single_mut : (x : Pat X) (l r : Toks) → IsSingle spells part how x l r → token.sees_mut l ≡ mut_first x
     unfolding sees_word
@@ -259,4 +271,4 @@ module _ {X : Type 0} (part : Manner → PatPlace → Relation (Pat X)) where
     single_mut x l r (a_slice i) = sym (ap mut_layer (v.outs-Slice _))
     single_mut x l r (a_tuple_struct {q = q} {p = p} i j) = pat_path_no_mut spells part how q p l _ i.0 ∙ sym (ap mut_layer (v.outs-TupleStruct _))
     single_mut x l r (a_struct {q = q} {p = p} i j) = pat_path_no_mut spells part how q p l _ i.0 ∙ sym (ap mut_layer (v.outs-Struct _))
-    single_mut x l r (a_verbatim {t = t} i) = box_no_mut (kept how) l r (held_spelt (IsBoxed part) how t l r i) ∙ sym (ap mut_layer (v.outs-Verbatim t))
+    single_mut x l r (a_verbatim {t = t} i) = held_no_mut how t l r i ∙ sym (ap mut_layer (v.outs-Verbatim t))

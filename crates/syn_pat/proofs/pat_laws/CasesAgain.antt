@@ -24,7 +24,7 @@ use Rattle.syn_pat.specs.pat.Printing as printing
 use Rattle.syn_pat.proofs.pat_laws.BeginsAgain.{open_kept}
 use Rattle.syn_pat.proofs.pat_laws.FieldsAgain.{PatsAgain, np, pp}
 use Rattle.syn_pat.proofs.pat_laws.NormalsAgain.{normal-Or}
-use Rattle.syn_pat.proofs.pat_laws.PartsAgain.{SuppliedAgain}
+use Rattle.syn_pat.proofs.pat_laws.PartsAgain.{SuppliedAgain, Stopped, bar_stops, listed_stop}
 use Rattle.syn_pat.proofs.pat_laws.Prints.{pat-Or}
 use Rattle.syn_pat.proofs.pat_laws.SinglesAgain.{single_again}
 
@@ -42,7 +42,7 @@ module _ {X : Type 0} (spells : Place → X → Toks → Type 0) (nx : Place →
   Are z = AreCases spells part clearly z.0 z.1
 
   abbrev More : Cases → Toks → Toks → Type 0
-  More z = AreListed (λ (_ : Bool). part clearly Single) (IsMark true) Nowhere true z.0 z.1
+  More z = AreListed (λ (_ : Bool). Stopped (part clearly Single)) (IsMark true) Nowhere true z.0 z.1
 
   abbrev print_cases : Cases → Print
   print_cases z = printing.list px (types_shown px) z
@@ -50,11 +50,11 @@ module _ {X : Type 0} (spells : Place → X → Toks → Type 0) (nx : Place →
   abbrev with_first : Pat X × (token.Bar × Cases) → Cases
   with_first z = (z.0 ∷ z.1.1.0, z.1.0 ∷ z.1.1.1)
 
-  cases_again : (xs : List (Pat X)) (cs : List token.Bar) (l r : Toks) → AreCases spells part plainly xs cs l r → AgainFront Are (many N) print_cases (xs, cs) l r
+  cases_again : (xs : List (Pat X)) (cs : List token.Bar) (l r : Toks) → AreCases spells part plainly xs cs l r → AgainFront (Stopped Are) (many N) print_cases (xs, cs) l r
   cases_again xs cs l r (cases {x = x} {c = c} {xs = ys} {cs = ds} {m = m} {n = n} i j rest) =
-      made_front (Then (IsSingle spells part clearly) (Then (IsMark true) More)) Are _ (many N) _ print_cases with_first (λ z l r i. cases i.1 i.2.1 i.2.2) (λ z. refl) (λ z. refl) (x, (c, (ys, ds))) l r
+      made_front (Then (Stopped (IsSingle spells part clearly)) (Then (IsMark true) More)) (Stopped Are) _ (many N) _ print_cases with_first (λ z l r i e. cases (i.1 (bar_stops _ _ _ i.2.1)) i.2.1 (listed_stop bar_stops i.2.2 e)) (λ z. refl) (λ z. refl) (x, (c, (ys, ds))) l r
       (then_front (single_again spells nx px g part again x l m i) (then_front (mark_front c m n j)
-      (listed_front (λ (_ : Bool). part plainly Single) (λ (_ : Bool). part clearly Single) (IsMark false) (IsMark true) Nowhere N P p.mark (λ _. again.pat Single) mark_front true ys ds n r rest)))
+      (listed_front (λ (_ : Bool). part plainly Single) (λ (_ : Bool). Stopped (part clearly Single)) (IsMark false) (IsMark true) Nowhere N P p.mark (λ _. again.pat Single) mark_front true ys ds n r rest)))
 
   fits : (place : PatPlace) (x : Pat X) → Fits place x → Fits place (N x)
   fits Single x h = tt
@@ -69,15 +69,15 @@ module _ {X : Type 0} (spells : Place → X → Toks → Type 0) (nx : Place →
     abbrev alone_after : token.Bar × Pat X → Pat X
     alone_after z = v.Or (or_of [] (Some z.0) (z.1 ∷ [], []))
 
-    pub pat_again : (x : Pat X) (l r : Toks) → IsPat spells part plainly place x l r → AgainFront Is N P x l r
+    pub pat_again : (x : Pat X) (l r : Toks) → IsPat spells part plainly place x l r → AgainFront (Stopped Is) N P x l r
     pat_again x l r (a_single i h) =
         let k = single_again spells nx px g part again x l r i in
-        record { spelt = λ o. a_single (k.spelt o) (fits place x h); visible = k.visible; seen = k.seen; stays = k.stays; same = k.same }
+        record { spelt = λ o e. a_single (k.spelt o e) (fits place x h); visible = k.visible; seen = k.seen; stays = k.stays; same = k.same }
     pat_again x l r (some_cases {xs = xs} {cs = cs} h i) =
-        made_front Are Is (many N) N print_cases P (λ z. v.Or (or_of [] None z)) (λ z l r i. some_cases h i) (λ z. normal-Or nx (or_of [] None z)) (λ z. pat-Or px (types_shown px) (or_of [] None z)) (xs, cs) l r (cases_again xs cs l r i)
+        made_front (Stopped Are) (Stopped Is) (many N) N print_cases P (λ z. v.Or (or_of [] None z)) (λ z l r i e. some_cases h (i e)) (λ z. normal-Or nx (or_of [] None z)) (λ z. pat-Or px (types_shown px) (or_of [] None z)) (xs, cs) l r (cases_again xs cs l r i)
     pat_again x l r (one_after_vert {b = b} {x = y} {m = m} h i j) =
-        made_front (Then (IsMark true) (IsSingle spells part clearly)) Is _ N _ P alone_after (λ z l r i. one_after_vert h i.1 i.2) (λ z. normal-Or nx (or_of [] (Some z.0) (z.1 ∷ [], [])))
+        made_front (Then (IsMark true) (Stopped (IsSingle spells part clearly))) (Stopped Is) _ N _ P alone_after (λ z l r i e. one_after_vert h i.1 (i.2 e)) (λ z. normal-Or nx (or_of [] (Some z.0) (z.1 ∷ [], [])))
         (λ z. pat-Or px (types_shown px) (or_of [] (Some z.0) (z.1 ∷ [], [])) ∙ ap (λ k. p.mark z.0 ++ k) (append-nil (P z.1))) (b, y) l r (then_front (mark_front b l m i) (single_again spells nx px g part again y m r j))
     pat_again x l r (some_after_vert {b = b} {xs = xs} {cs = cs} {m = m} h i j) =
-        made_front (Then (IsMark true) Are) Is _ N _ P (λ (z : token.Bar × Cases). v.Or (or_of [] (Some z.0) z.1)) (λ z l r i. some_after_vert h i.1 i.2) (λ z. normal-Or nx (or_of [] (Some z.0) z.1)) (λ z. pat-Or px (types_shown px) (or_of [] (Some z.0) z.1)) (b, (xs, cs)) l r
+        made_front (Then (IsMark true) (Stopped Are)) (Stopped Is) _ N _ P (λ (z : token.Bar × Cases). v.Or (or_of [] (Some z.0) z.1)) (λ z l r i e. some_after_vert h i.1 (i.2 e)) (λ z. normal-Or nx (or_of [] (Some z.0) z.1)) (λ z. pat-Or px (types_shown px) (or_of [] (Some z.0) z.1)) (b, (xs, cs)) l r
         (then_front (mark_front b l m i) (cases_again xs cs m r j))

@@ -32,10 +32,9 @@ use Rattle.syn_ty.specs.path.Spelling.{IsAnyPath, qualified, unqualified, by_typ
 use Rattle.syn_ty.specs.ty.Admitted.{a_borrow, a_mutable_borrow, a_lifetime_borrow, bracketed, counted, enclosed, a_pointer, no_element, some_elements, IsType, a_path_type, a_macro, a_bound_macro, an_object_with_dyn, an_object_without_dyn, an_impl_type, a_fn_type, a_ptr_type, a_reference_type, a_paren_type, a_tuple_type, a_slice_type, an_array_type, an_infer_type, a_never_type, a_verbatim_type, IsVerbatimType, an_unsafe_binder, a_dyn_star, a_builtin}
 use Rattle.syn_ty.specs.ty.Functions.{a_fn_ptr, an_abi}
 use Rattle.syn_ty.specs.ty.Objects.{IsFirst, a_first, a_first_for, a_dyn, an_impl, path_alone, path_and_plus, held_and_plus, asked_first, asked_in_two, lifetime_first}
-use Rattle.syn_ty.specs.ty.Parts.{Manner, is_clear, kept, End, Parts}
+use Rattle.syn_ty.specs.ty.Parts.{Manner, loosely, is_clear, End, Parts}
 use Rattle.syn_ty.specs.ty.Spelling.{IsOptional, absent, present, an_infer, a_never}
 use Rattle.syn_ty.specs.ty.Trees.{BoundLifetimes, Path, PathSegment, QSelf, TypeTree}
-use Rattle.syn_ty.proofs.ty_laws.HeldForms.{held_spelt}
 use Rattle.syn_pat.proofs.pat_laws.WithinTold.{and_second, chosen_some, sees_called, Stops}
 
 -- a `:` there is the first half of `::`
@@ -144,37 +143,37 @@ module _ {A E : Type 0} (part : Manner → Parts A E) (how : Manner) where
   verbatim_starts place e l k (a_dyn_star {w = w} {m = m} i c d) = word_starts w l m i
   verbatim_starts place e l k (a_builtin {b = b} {w = w} {m = m} o f c g) = for_or b l (word w m) o (text_starts w m)
 
-module _ {A E : Type 0} (part : Manner → Parts A E) (how : Manner) (place : TypePlace) where
+module _ {A E : Type 0} (part : Manner → Parts A E) (place : TypePlace) where
   word_or : {n : _} (w : Option (Word n)) (l m : Toks) → IsOptional IsWord w l m → Starts m → Starts l
   word_or w l m absent h = h
   word_or w l m (present {a = a} i) h = word_starts a l m i
 
-  pub type_starts : (e : End) (x : TypeTree A E) (l k : Toks) → IsType part how place e x l k → Starts l
-  type_starts e x l k (a_path_type {o = o} {p = p} i) = any_starts part how AsWritten o p l k i.0
-  type_starts e x l k (a_macro {x = y} i) = call_starts (is_clear how) _ y l k i.0
-  type_starts e x l k (a_bound_macro {b = b} {m = m} i j h) = for_starts part how b l m i
+  pub type_starts : (e : End) (x : TypeTree A E) (l k : Toks) → IsType part loosely place e x l k → Starts l
+  type_starts e x l k (a_path_type {o = o} {p = p} i) = any_starts part loosely AsWritten o p l k i.0
+  type_starts e x l k (a_macro {x = y} i) = call_starts false _ y l k i.0
+  type_starts e x l k (a_bound_macro {b = b} {m = m} i j h) = for_starts part loosely b l m i
   type_starts e x l k (an_object_with_dyn (a_dyn {w = w} {m = m} i j)) = word_starts w l m i
-  type_starts e x l k (an_object_without_dyn (path_alone {x = y} {p = p} i)) = first_starts part how (Some y) p l k i
-  type_starts e x l k (an_object_without_dyn (path_and_plus {o = o} {p = p} {m = m} h i j rest)) = first_starts part how o p l m i
+  type_starts e x l k (an_object_without_dyn (path_alone {x = y} {p = p} i)) = first_starts part loosely (Some y) p l k i
+  type_starts e x l k (an_object_without_dyn (path_and_plus {o = o} {p = p} {m = m} h i j rest)) = first_starts part loosely o p l m i
   type_starts e x l k (an_object_without_dyn (held_and_plus {s = s} {c = c} {m = m} h i j rest)) = group_starts Parenthesis s c m
   type_starts e x l k (an_object_without_dyn (asked_first {s = s} {c = c} {m = m} i rest)) = group_starts Parenthesis s c m
   type_starts e x l k (an_object_without_dyn (asked_in_two {s = s} {i = i} {c = c} {m = m} h a j rest)) = group_starts Parenthesis s (group Parenthesis i c done) m
   type_starts e x l k (an_object_without_dyn (lifetime_first h i f)) = lifetime_starts l h
   type_starts e x l k (an_impl_type (an_impl {w = w} {m = m} i j h)) = word_starts w l m i
-  type_starts e x l k (a_fn_type (a_fn_ptr {b = b} {u = u} {w = w} {s = s} {l = z} {m = m} {n = n} {c = c} {j = j} o f absent i v r)) = for_or part how b l m o (word_or u m n f (word_starts w n (group Parenthesis s c j) i))
-  type_starts e x l k (a_fn_type (a_fn_ptr {b = b} {u = u} {l = z} {m = m} {n = n} o f (present (an_abi {w = a} {m = y} g q)) i v r)) = for_or part how b l m o (word_or u m n f (word_starts a n y g))
-  type_starts e x l k (a_ptr_type (a_pointer {s = s} {m = m} i j h)) = star_starts (is_clear how) s l m i
-  type_starts e x l k (a_reference_type (a_borrow {a = a} {m = m} i h j)) = and_starts (is_clear how) a l m i
-  type_starts e x l k (a_reference_type (a_mutable_borrow {a = a} {m = m} i h j)) = and_starts (is_clear how) a l m i
-  type_starts e x l k (a_reference_type (a_lifetime_borrow {a = a} {m = m} i h j f)) = and_starts (is_clear how) a l m i
+  type_starts e x l k (a_fn_type (a_fn_ptr {b = b} {u = u} {w = w} {s = s} {l = z} {m = m} {n = n} {c = c} {j = j} o f absent i v r)) = for_or part loosely b l m o (word_or u m n f (word_starts w n (group Parenthesis s c j) i))
+  type_starts e x l k (a_fn_type (a_fn_ptr {b = b} {u = u} {l = z} {m = m} {n = n} o f (present (an_abi {w = a} {m = y} g q)) i v r)) = for_or part loosely b l m o (word_or u m n f (word_starts a n y g))
+  type_starts e x l k (a_ptr_type (a_pointer {s = s} {m = m} i j h)) = star_starts false s l m i
+  type_starts e x l k (a_reference_type (a_borrow {a = a} {m = m} i h j)) = and_starts false a l m i
+  type_starts e x l k (a_reference_type (a_mutable_borrow {a = a} {m = m} i h j)) = and_starts false a l m i
+  type_starts e x l k (a_reference_type (a_lifetime_borrow {a = a} {m = m} i h j f)) = and_starts false a l m i
   type_starts e x l k (a_paren_type (enclosed {s = s} {c = c} i)) = group_starts Parenthesis s c k
   type_starts e x l k (a_tuple_type (no_element {s = s})) = group_starts Parenthesis s done k
   type_starts e x l k (a_tuple_type (some_elements {s = s} {c = c} b i j rest)) = group_starts Parenthesis s c k
   type_starts e x l k (a_slice_type (bracketed {s = s} {c = c} i)) = group_starts _ s c k
   type_starts e x l k (an_array_type (counted {s = s} {c = c} i j h)) = group_starts _ s c k
   type_starts e x l k (an_infer_type (an_infer {w = w} i)) = word_starts w l k i
-  type_starts e x l k (a_never_type (a_never {b = b} i)) = bang_starts (is_clear how) b l k i
-  type_starts e x l k (a_verbatim_type {t = t} i) = verbatim_starts part (kept how) place e l k (held_spelt (λ m. IsVerbatimType part m place e) how t l k i)
+  type_starts e x l k (a_never_type (a_never {b = b} i)) = bang_starts false b l k i
+  type_starts e x l k (a_verbatim_type {t = t} i) = verbatim_starts part loosely place e l k i.0
 
 -- ---- a `:` that is read from a `::` before parentheses leaves a lone one
 

@@ -15,6 +15,7 @@ use Rattle.syn_pat.proofs.pat_laws.BeginsAgain.{mut_first, single_mut}
 use Rattle.syn_pat.proofs.pat_laws.CasesAgain.{pat_again}
 use Rattle.syn_pat.proofs.pat_laws.FieldsAgain.{PatsAgain}
 use Rattle.syn_pat.proofs.pat_laws.PartsAgain.{SuppliedAgain}
+use Rattle.syn_pat.proofs.pat_laws.PatsMove.{pat_ends, pat_moves}
 
 module _ {X : Type 0} (spells : Place → X → Toks → Type 0) (nx : Place → X → X) (px : Place → X → Print) where
   -- a single pattern has no cases
@@ -26,5 +27,11 @@ module _ {X : Type 0} (spells : Place → X → Toks → Type 0) (nx : Place →
 
   module _ (g : SuppliedAgain spells nx px) where
     pub pats_again : (n : ℕ) → PatsAgain spells nx px (pats_to spells n)
-    pats_again zero = record { pat = λ p x l r i. absurd i; begins = λ how x l r i. absurd i }
-    pats_again (suc n) = record { pat = λ p. pat_again spells nx px g (pats_to spells n) (pats_again n) p; begins = begins_turn (pats_to spells n) }
+    pats_again zero = record { pat = λ p x l r i. absurd i; moves = record { single = λ k e x l r i. absurd i; ends = λ x l r i. absurd i }; begins = λ how x l r i. absurd i }
+    pats_again (suc n) =
+        let k = pats_again n in
+        record {
+          pat = λ p. pat_again spells nx px g (pats_to spells n) k p;
+          moves = record { single = pat_moves spells g.types.moves (pats_to spells n) k.moves; ends = pat_ends spells g.types.moves (pats_to spells n) k.moves };
+          begins = begins_turn (pats_to spells n);
+        }

@@ -110,7 +110,7 @@ module _ {X : Type 0} (supplied : Place → Reader X) (spells : Place → X → 
   -- it does not begin with a lone `:`
   some_starts : (n : ℕ) (f : End) (x : TypeTree (Attr X) (Expr X)) (l k : Toks) → (types_to spells n loosely).ty Plus f x l k → Starts l
   some_starts zero f x l k i = absurd i
-  some_starts (suc n) f x l k i = type_starts (types_to spells n) loosely Plus f x l k i
+  some_starts (suc n) f x l k i = type_starts (types_to spells n) Plus f x l k i
 
   -- a type of some height is what the reader of types takes on a front
   some_type : (n : ℕ) (x : TypeTree (Attr X) (Expr X)) (l k : Toks) → Told ((types_to spells n loosely).ty Plus) x l k → types.ty (outer_spelt spells) (values_spelt spells) Plus x l k

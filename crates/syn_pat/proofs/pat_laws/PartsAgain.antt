@@ -1,6 +1,6 @@
 -- What a pattern is made of prints its normal form clearly, where what is supplied does: what is held, what stands in a group, const blocks, paths, ends of ranges and ranges.
 use Rattle.syn_pat.specs.pat.Printing.{path_shown}
-use Rattle.std.proofs.Common.{◌≡◌, ℕ, true, false, [], ◌++◌, Option, Some, None, refl, sym, ◌∙◌, ap, subst, append-nil}
+use Rattle.std.proofs.Common.{◌≡◌, ℕ, Bool, true, false, List, [], ◌++◌, Option, Some, None, refl, sym, ◌∙◌, ap, subst, append-nil}
 use Rattle.token_core.specs.declared.lit.Lit.{Lit}
 use Rattle.token_core.specs.declared.range.RangeLimits.{RangeLimits}
 use Rattle.token_core.specs.declared.range.RangeLimits.TheVariants as limits
@@ -13,7 +13,10 @@ use Rattle.token_core.specs.Prints as p
 use Rattle.token_core.specs.Prints.{Print}
 use Rattle.token_core.specs.Ranges as ranges
 use Rattle.token_core.specs.Rebuilt.{Visible, IsVisible}
-use Rattle.token_core.specs.Spellings.{IsLit, IsWord, AreLimits, AreOldLimits, new_limits, old_limits}
+use Rattle.token_core.specs.declared.word.Word.{Word}
+use Rattle.token_core.specs.Listed.{AreListed, none_left, last_value, value_and_mark}
+use Rattle.token_core.specs.Reads.{sees_mark}
+use Rattle.token_core.specs.Spellings.{last_char, IsLit, IsMark, is_mark, IsWord, is_word, AreLimits, AreOldLimits, new_limits, old_limits}
 use Rattle.token_core.specs.Tokens as token
 use Rattle.token_core.specs.Toks.{Toks, done, group}
 use Rattle.token_core.specs.Trees.{TokenStream, row, trees, stream_of_trees}
@@ -24,6 +27,9 @@ use Rattle.syn_path.specs.declared.path.PathStyle.TheVariants.{Expr as expressio
 use Rattle.syn_path.specs.declared.supplied.Place.{Place}
 use Rattle.syn_path.specs.declared.supplied.Place.TheVariants.{Block, Guard}
 use Rattle.syn_path.specs.Supplied.{Reprints}
+use Rattle.syn_path.specs.Ends.{Calm, Ended, Moved, NoBang, Shut}
+use Rattle.syn_path.proofs.Ends.{calm_of}
+use Rattle.syn_path.proofs.Moves.{row_before}
 use Rattle.syn_path.proofs.Words.{Again, AgainFront, row-group}
 use Rattle.syn_attr.specs.attr.Attrs.{Attribute as Attr, const_of, lit_of}
 use Rattle.syn_attr.specs.attr.Consts.{normal_values_of, values_of}
@@ -34,8 +40,9 @@ use Rattle.syn_attr.specs.declared.expr.ExprConstOf.{ExprConstOf}
 use Rattle.syn_forms.proofs.tokens_laws.Mutability.{word_front}
 use Rattle.syn_ty.specs.path.Spelling.{IsNoTry}
 use Rattle.syn_ty.specs.ty.Normal as types
-use Rattle.syn_ty.specs.ty.Parts.{Manner, plainly, clearly, IsVerbatim}
+use Rattle.syn_ty.specs.ty.Parts.{Manner, plainly, clearly, IsVerbatim, AreMarked, no_further, one_further}
 use Rattle.syn_ty.specs.ty.Printing as texts
+use Rattle.syn_ty.specs.ty.Types.{Comma}
 use Rattle.syn_ty.specs.ty.Trees.{Path, QSelf}
 use Rattle.syn_ty.proofs.ty_laws.AnglesAgain.{Then, then_front, made_front}
 use Rattle.syn_ty.proofs.ty_laws.KnotAgain.{GivenAgain, Known, known_to}
@@ -49,6 +56,7 @@ use Rattle.syn_pat.specs.pat.Pats.{PatRange, PatRangeBound, pat_range_of, path_p
 use Rattle.syn_pat.specs.pat.Printing as printing
 use Rattle.syn_pat.specs.pat.Spelling.{outer_spelt, values_spelt, types_to, IsConstBlock, a_const_block, IsPatPath, a_pat_path, IsHead, IsEnd, a_literal_end, a_path_end, a_const_end, IsStart, a_literal_start, a_path_start, a_const_start, IsRange, without_end, without_start, with_both, is_self, lone_word}
 use Rattle.syn_pat.proofs.pat_laws.KindsAgain.{lone_kept}
+use Rattle.syn_pat.proofs.pat_laws.PatsMove.{NoDots}
 
 -- ---- before nothing; and what else is known of the normal form
 
@@ -58,6 +66,53 @@ module _ {A : Type 0} {S : A → Toks → Toks → Type 0} {n : A → A} {f : A 
 
   pub also_front : (P : A → Type 0) {x : A} {l r : Toks} → P (n x) → AgainFront S n f x l r → AgainFront (λ (y : A) (l r : Toks). S y l r × P y) n f x l r
   also_front P h k = record { spelt = λ o. (k.spelt o, h); visible = k.visible; seen = k.seen; stays = k.stays; same = k.same }
+
+-- ---- before what no longer mark begins with `..`
+
+-- what is so there
+abbrev pub Stopped : {A : Type 0} → (A → Toks → Toks → Type 0) → A → Toks → Toks → Type 0
+Stopped Is x l r = NoDots r → Is x l r
+
+-- nothing follows
+pub stops_done : NoDots done
+unfolding sees_mark
+stops_done = refl
+
+module _ {A : Type 0} {S : A → Toks → Toks → Type 0} {n : A → A} {f : A → Print} where
+  pub stopped : {x : A} {l r : Toks} → AgainFront S n f x l r → AgainFront (Stopped S) n f x l r
+  stopped k = record { spelt = λ o h. k.spelt o; visible = k.visible; seen = k.seen; stays = k.stays; same = k.same }
+
+  pub at_stop : {x : A} {l : Toks} → AgainFront (Stopped S) n f x l done → Again (λ y m. S y m done) n f x l
+  at_stop k = record { spelt = k.spelt done stops_done; visible = λ u. k.visible done u tt; stays = k.stays; same = k.same }
+
+-- a comma, a `|`, a colon or a word follows
+
+pub comma_stops : (c : Comma) (l r : Toks) → IsMark true c l r → NoDots l
+unfolding sees_mark
+comma_stops c l r (is_mark (last_char h)) = refl
+
+pub bar_stops : (c : token.Bar) (l r : Toks) → IsMark true c l r → NoDots l
+unfolding sees_mark
+bar_stops c l r (is_mark (last_char h)) = refl
+
+pub colon_stops : (c : token.Colon) (l r : Toks) → IsMark true c l r → NoDots l
+unfolding sees_mark
+colon_stops c l r (is_mark (last_char h)) = refl
+
+pub word_stops : {n : ℕ} (w : Word n) (l r : Toks) → IsWord w l r → NoDots l
+unfolding sees_mark
+word_stops w l r is_word = refl
+
+-- values with such marks between them
+module _ {A P : Type 0} {V : A → Toks → Toks → Type 0} {M : P → Toks → Toks → Type 0} (marks : (p : P) (l r : Toks) → M p l r → NoDots l) where
+  pub listed_stop : {Ends : Bool → Type 0} {b : Bool} {xs : List A} {ps : List P} {l r : Toks} → AreListed (λ (_ : Bool). Stopped V) M Ends b xs ps l r → NoDots r → AreListed (λ (_ : Bool). V) M Ends b xs ps l r
+  listed_stop (none_left h) e = none_left h
+  listed_stop (last_value i) e = last_value (i e)
+  listed_stop (value_and_mark i j k) e = value_and_mark (i (marks _ _ _ j)) j (listed_stop k e)
+
+  pub marked_stop : {b : Bool} {xs : List A} {ps : List P} {l r : Toks} → AreMarked (λ (_ : Bool). Stopped V) M b xs ps l r → AreMarked (λ (_ : Bool). V) M b xs ps l r
+  marked_stop no_further = no_further
+  marked_stop (one_further i j k) = one_further (i (marks _ _ _ j)) j (marked_stop k)
 
 -- ---- in a group
 
@@ -78,10 +133,16 @@ inside_front d s T n f whole x c r k =
 
 -- ---- held verbatim
 
-module _ (Form : Manner → Toks → Toks → Type 0) where
-  pub held_front : (t : TokenStream) (l r : Toks) → IsVerbatim Form plainly t l r → AgainFront (IsVerbatim Form clearly) (λ (z : TokenStream). z) (λ (z : TokenStream). trees z) t l r
+module _ (Form : Manner → Toks → Toks → Type 0) (moves : (k : Toks) → NoDots k → (l r : Toks) → Form clearly l r → Calm l → Moved (Form clearly) k l r) (ends : (l r : Toks) → Form clearly l r → Shut r → Ended l) where
+  held_before : (t : TokenStream) → Form clearly (row (trees t) done) done → NoBang (row (trees t) done) → (k : Toks) → NoDots k → Form clearly (row (trees t) k) k
+  held_before t i q k h =
+      let own = row (trees t) done in
+      let u = ends own done i refl in
+      subst (λ z. Form clearly z k) (row_before (trees t) done k) (moves k h own done i (calm_of own q u.apart)).is
+
+  pub held_front : (t : TokenStream) (l r : Toks) → IsVerbatim Form plainly t l r → AgainFront (Stopped (IsVerbatim Form clearly)) (λ (z : TokenStream). z) (λ (z : TokenStream). trees z) t l r
   held_front t l r (i, j) =
-      record { spelt = λ h. (i h, refl); visible = λ h u w. row_visible (trees t) r h (subst Visible j u) w; seen = λ u. row_seen (trees t) r (subst Visible j u); stays = refl; same = refl }
+      record { spelt = λ h e. (held_before t i.0 i.1 h e, refl); visible = λ h u w. row_visible (trees t) r h (subst Visible j u) w; seen = λ u. row_seen (trees t) r (subst Visible j u); stays = refl; same = refl }
 
 -- ---- literals, and limits of ranges, which are their own normal forms
 

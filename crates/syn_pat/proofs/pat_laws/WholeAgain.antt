@@ -35,7 +35,7 @@ use Rattle.syn_pat.specs.pat.Spelt.{SpellsGuarded, without_guard, with_guard, Sp
 use Rattle.syn_pat.proofs.pat_laws.CasesAgain.{pat_again}
 use Rattle.syn_pat.proofs.pat_laws.KnotAgain.{pats_again}
 use Rattle.syn_pat.proofs.pat_laws.NormalsAgain.{normal-Guard}
-use Rattle.syn_pat.proofs.pat_laws.PartsAgain.{SuppliedAgain, at_end, known, supplied_again}
+use Rattle.syn_pat.proofs.pat_laws.PartsAgain.{SuppliedAgain, Stopped, at_end, colon_stops, known, stops_done, supplied_again, word_stops}
 use Rattle.syn_pat.proofs.pat_laws.Prints.{pat-Guard}
 
 -- ---- forms by their parts, of which the last spells all that is left
@@ -66,11 +66,11 @@ module _ {A B : Type 0} (S : A → Toks → Type 0) (T : B → Toks → Type 0) 
 
 module _ {X : Type 0} (spells : Place → X → Toks → Type 0) (nx : Place → X → X) (px : Place → X → Print) (g : SuppliedAgain spells nx px) where
   -- on the front of a list
-  front_again : (n : ℕ) (place : PatPlace) (x : Pat X) (l r : Toks) → IsPat spells (pats_to spells n) plainly place x l r → AgainFront (IsPat spells (pats_to spells n) clearly place) (normal.pat nx) (printing.pat px (types_shown px)) x l r
+  front_again : (n : ℕ) (place : PatPlace) (x : Pat X) (l r : Toks) → IsPat spells (pats_to spells n) plainly place x l r → AgainFront (Stopped (IsPat spells (pats_to spells n) clearly place)) (normal.pat nx) (printing.pat px (types_shown px)) x l r
   front_again n place = pat_again spells nx px g (pats_to spells n) (pats_again spells nx px g n) place
 
   pub pat_whole : (place : PatPlace) → Whole (SpellsPat spells place) (normal.pat nx) (printing.pat px (types_shown px))
-  pat_whole place x l (n, i) = let k = front_again n place x l done i in record { spelt = (n, k.spelt done); visible = λ u. k.visible done u tt; stays = k.stays; same = k.same }
+  pat_whole place x l (n, i) = let k = front_again n place x l done i in record { spelt = (n, k.spelt done stops_done); visible = λ u. k.visible done u tt; stays = k.stays; same = k.same }
 
   -- ---- with a guard
 
@@ -89,7 +89,7 @@ module _ {X : Type 0} (spells : Place → X → Toks → Type 0) (nx : Place →
   pub guarded_whole : Whole (SpellsGuarded spells) (normal.pat nx) (printing.pat px (types_shown px))
   guarded_whole x l (without_guard i) = let k = pat_whole LeadingVert x l i in record { spelt = without_guard k.spelt; visible = k.visible; stays = k.stays; same = k.same }
   guarded_whole x l (with_guard {x = y} {w = w} {g = z} {m = m} {k = j} n i h q) =
-      made_last (ThenLast (IsPat spells (pats_to spells n) clearly LeadingVert) (ThenLast IsWord (spells Guard))) (SpellsGuarded spells clearly) _ (normal.pat nx) _ (printing.pat px (types_shown px)) guarded (λ z l i. with_guard n i.1 i.2.1 i.2.2)
+      made_last (ThenLast (Stopped (IsPat spells (pats_to spells n) clearly LeadingVert)) (ThenLast IsWord (spells Guard))) (SpellsGuarded spells clearly) _ (normal.pat nx) _ (printing.pat px (types_shown px)) guarded (λ z l i. with_guard n (i.1 (word_stops _ _ _ i.2.1)) i.2.1 i.2.2)
       (λ z. normal-Guard nx (guard_of [] z.0 z.1.0 (e.Other z.1.1)) ∙ ap (λ k. v.Guard (guard_of [] (normal.pat nx z.0) z.1.0 k)) (normal_guard z.1.1))
       (λ z. pat-Guard px (types_shown px) (guard_of [] z.0 z.1.0 (e.Other z.1.1)) ∙ ap (λ k. printing.pat px (types_shown px) z.0 ++ (p.word z.1.0 ++ k)) (print_guard z.1.1)) (y, (w, z)) l
       (then_last (front_again n LeadingVert y l m i) (then_last (word_front w m j h) (supplied_again spells nx px g Guard z j (g.guard z j q) (g.guard_stays z j q))))
@@ -98,5 +98,5 @@ module _ {X : Type 0} (spells : Place → X → Toks → Type 0) (nx : Place →
 
   pub typed_whole : Whole (SpellsPatType spells) (normal.typed nx) (printing.typed px (types_shown px))
   typed_whole x l (a_pat_type {x = y} {c = c} {t = t} {m = m} {j = j} n k f i h q) =
-      made_last _ (SpellsPatType spells clearly) _ (normal.typed nx) _ (printing.typed px (types_shown px)) (λ (z : Pat X × (token.Colon × TypeTree (Attr X) (Expr X))). typed_of [] z.0 z.1.0 z.1.1) (λ z l i. a_pat_type n k f i.1 i.2.1 i.2.2) (λ z. refl) (λ z. refl) (y, (c, t)) l
+      made_last _ (SpellsPatType spells clearly) _ (normal.typed nx) _ (printing.typed px (types_shown px)) (λ (z : Pat X × (token.Colon × TypeTree (Attr X) (Expr X))). typed_of [] z.0 z.1.0 z.1.1) (λ z l i. a_pat_type n k f (i.1 (colon_stops _ _ _ i.2.1)) i.2.1 i.2.2) (λ z. refl) (λ z. refl) (y, (c, t)) l
       (at_end (then_front (front_again n Single y l m i) (then_front (mark_front c m j h) ((known spells nx px g k).again.ty Plus f t j done q))))

@@ -13,6 +13,7 @@ use Rattle.syn_ty.specs.ty.Normal as normal
 use Rattle.syn_ty.specs.ty.Parts.{Manner, plainly, clearly, End, Parts}
 use Rattle.syn_ty.specs.ty.Printing as printing
 use Rattle.syn_ty.specs.ty.Trees.{GenericArgument, GenericParam, PathArguments, TypeParamBound, TypeTree}
+use Rattle.syn_ty.proofs.ty_laws.MovesParts.{Moving}
 
 module _ {A E : Type 0} (na : List A → List A) (ne : NormalValues E) (pa : List A → Print) (pe : Values E) where
   -- the five points
@@ -22,6 +23,8 @@ module _ {A E : Type 0} (na : List A → List A) (ne : NormalValues E) (pa : Lis
     pub param : (p : ParamPlace) (x : GenericParam A E) (l r : Toks) → (part plainly).param p x l r → AgainFront ((part clearly).param p) (normal.param na ne) (printing.param pa pe) x l r
     pub argument : (x : GenericArgument A E) (l r : Toks) → (part plainly).argument x l r → AgainFront (part clearly).argument (normal.argument na ne) (printing.argument pa pe) x l r
     pub arguments : (x : PathArguments A E) (l r : Toks) → (part plainly).arguments x l r → AgainFront (part clearly).arguments (normal.arguments na ne) (printing.arguments pa pe AsWritten) x l r
+    -- what is spelt clearly is so before other tokens too
+    pub moving : (k : Toks) → Moving k (part clearly)
 
   -- attributes, and expressions in their places
   pub record SuppliedAgain (part : Manner → Parts A E) : Type 0 where

@@ -7,7 +7,7 @@ use Rattle.token_core.specs.Lifetimes.{sees_lifetime}
 use Rattle.token_core.specs.Prints as p
 use Rattle.token_core.specs.Prints.{Print}
 use Rattle.token_core.specs.Spellings.{IsMark, is_mark, last_char, IsWord, is_word}
-use Rattle.token_core.specs.Toks.{Bytes, Toks, word, mark, group}
+use Rattle.token_core.specs.Toks.{Bytes, Toks, done, word, mark, group}
 use Rattle.token_core.specs.Trees.{punct, row, trees}
 use Rattle.syn_path.specs.declared.mac.Macro.{Macro}
 use Rattle.syn_path.specs.declared.path.PathStyle.TheVariants.{AsWritten}
@@ -38,6 +38,9 @@ use Rattle.syn_ty.proofs.ty_laws.Again.{Again, SuppliedAgain}
 use Rattle.syn_ty.proofs.ty_laws.FirstBoundsAgain.{bare_no_lifetime, path_no_lifetime}
 use Rattle.syn_ty.proofs.ty_laws.FormsAgain.{NoneFirst, type_call_again, pointer_again, borrow_again, enclosed_again, bracketed_again, counted_again, tuple_again}
 use Rattle.syn_ty.proofs.ty_laws.FunctionsAgain.{fn_ptr_again}
+use Rattle.syn_ty.proofs.ty_laws.EndsTypes.{verbatim_over}
+use Rattle.syn_ty.proofs.ty_laws.HeldForms.{held_before}
+use Rattle.syn_ty.proofs.ty_laws.MovesTypes.{verbatim_moves}
 use Rattle.syn_ty.proofs.ty_laws.ObjectsAgain.{dyn_again, impl_again}
 use Rattle.syn_ty.proofs.ty_laws.Prints.{ty-Array, ty-FnPtr, ty-ImplTrait, ty-Infer, ty-Macro, ty-Never, ty-Paren, ty-Path, ty-Ptr, ty-Reference, ty-Slice, ty-TraitObject, ty-Tuple, ty-Verbatim, path_type_parts}
 use Rattle.syn_ty.proofs.ty_laws.QualifiedAgain.{no_try_again}
@@ -180,4 +183,4 @@ module _ {A E : Type 0} (na : List A → List A) (ne : NormalValues E) (pa : Lis
       by_form x q k (ty-Array pa pe y) (counted_none part clearly (normal.array na ne y) (row q k) k ((counted_again na ne pa pe part again supplied len_stays y l r i).spelt k))
   none_first e x l r (an_infer_type {x = y} (an_infer {w = w} i)) h k = by_form x (p.word w) k (ty-Infer pa pe y) (word_none w (row (p.word w) k) k ((word_front w l r i).spelt k))
   none_first e x l r (a_never_type {x = y} (a_never {b = b} i)) h k = by_form x (p.mark b) k (ty-Never pa pe y) (bang_none true b (row (p.mark b) k) k ((mark_front b l r i).spelt k))
-  none_first e x l r (a_verbatim_type {t = t} (i, j)) h k = by_form x (trees t) k (ty-Verbatim pa pe t) (verbatim_none part clearly place e (row (trees t) k) k (i k))
+  none_first e x l r (a_verbatim_type {t = t} (i, j)) h k = by_form x (trees t) k (ty-Verbatim pa pe t) (verbatim_none part clearly place e (row (trees t) k) k (held_before (λ m. IsVerbatimType part m place e) (λ k l r j q. verbatim_moves part k (again.moving k) j q) (λ l r j q. verbatim_over part (again.moving done).ends j q) t i.0 i.1 k))

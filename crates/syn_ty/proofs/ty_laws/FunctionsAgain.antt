@@ -28,7 +28,7 @@ use Rattle.syn_ty.specs.generics.NormalShapes.{many}
 use Rattle.syn_ty.specs.generics.NormalShapes as shapes
 use Rattle.syn_ty.specs.generics.Shapes as shown
 use Rattle.syn_ty.specs.generics.Shapes.{binder_start, binder_end, binder_joined}
-use Rattle.syn_ty.specs.ty.Functions.{IsAbi, IsNamedArg, an_argument, a_named_argument, a_verbatim_argument, IsVariadic, dots, named_dots, AreInputs, plain_inputs, variadic_inputs, IsFnPtr, a_fn_ptr}
+use Rattle.syn_ty.specs.ty.Functions.{IsAbi, IsMutSelf, IsNamedArg, an_argument, a_named_argument, a_verbatim_argument, IsVariadic, dots, named_dots, AreInputs, plain_inputs, variadic_inputs, IsFnPtr, a_fn_ptr}
 use Rattle.syn_ty.specs.ty.Normal as normal
 use Rattle.syn_ty.specs.ty.Parts.{Manner, plainly, clearly, End, Parts}
 use Rattle.syn_ty.specs.ty.Printing as printing
@@ -37,6 +37,9 @@ use Rattle.syn_ty.specs.ty.Spelling.{IsOptional, absent, present}
 use Rattle.syn_ty.specs.ty.Trees.{BoundLifetimes, NamedArg, ReturnType, TypeFnPtr, TypeTree}
 use Rattle.syn_ty.specs.ty.Types.{Comma, fn_ptr_with, named_arg_of, variadic_of}
 use Rattle.syn_ty.proofs.ty_laws.Again.{Again as AllAgain, SuppliedAgain}
+use Rattle.syn_ty.proofs.ty_laws.EndsTypes.{mut_self_over}
+use Rattle.syn_ty.proofs.ty_laws.HeldForms.{held_before}
+use Rattle.syn_ty.proofs.ty_laws.MovesTypes.{mut_self_moves}
 use Rattle.syn_ty.proofs.ty_laws.NormalsAgain.{fn_ptr_normal, normal-Verbatim}
 use Rattle.syn_ty.proofs.ty_laws.ParamsAgain.{for_again}
 use Rattle.syn_ty.proofs.ty_laws.Prints.{fn_ptr_parts, ty-Verbatim}
@@ -137,11 +140,12 @@ module _ {A E : Type 0} (na : List A → List A) (ne : NormalValues E) (pa : Lis
   named_arg_again first x l r (a_verbatim_argument {a = a} {t = y} {m = m} i (j, q)) =
       let s = supplied.attrs a l m i in
       let is = normal-Verbatim na ne y in
+      let held = held_before (IsMutSelf part) (λ k l r i q. mut_self_moves part k (again.moving k) i q) (λ l r i q. mut_self_over part (again.moving done).ends i q) y j.0 j.1 in
       let shows = ty-Verbatim pa pe y in
       let seen = λ (h : Toks). row-bare a (pt (v.Verbatim y)) h ∙ ap (λ z. row (pa a) (row z h)) shows in
       record {
         spelt = λ h. subst (λ z. IsNamedArg part clearly true (named_arg_of (na a) None z) (row (printing.named_arg pa pe x) h) h) (sym is)
-            (subst (λ z. IsNamedArg part clearly true (named_arg_of (na a) None (v.Verbatim y)) z h) (sym (seen h)) (a_verbatim_argument (s.spelt (row (trees y) h)) (j h, refl)));
+            (subst (λ z. IsNamedArg part clearly true (named_arg_of (na a) None (v.Verbatim y)) z h) (sym (seen h)) (a_verbatim_argument (s.spelt (row (trees y) h)) (held h, refl)));
         visible = λ h u w. subst Visible (sym (seen h)) (s.visible (row (trees y) h) u (row_visible (trees y) r h (subst Visible q (s.seen u)) w));
         seen = λ u. row_seen (trees y) r (subst Visible q (s.seen u));
         stays = ap (λ z. named_arg_of z None (nt (nt (v.Verbatim y)))) s.stays ∙ ap (named_arg_of (na a) None) (ap nt is);

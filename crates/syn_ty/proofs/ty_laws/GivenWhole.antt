@@ -86,5 +86,6 @@ module _ {A E : Type 0} {attrs : Reader (List A)} {values : ReadValues E} {shown
     len_stays = len_stays lens;
     argument = λ x l r i. front (consts.argument_reprint x l r i);
     attrs_begin = whole.shows;
+    moves = record { attrs_move = whole.moves; argument_moves = consts.argument_moves; default_moves = consts.default_moves; attrs_end = whole.ends; argument_ends = consts.argument_ends; default_ends = consts.default_ends };
     default = λ x l r i. front (consts.default_reprint x l r i);
   }

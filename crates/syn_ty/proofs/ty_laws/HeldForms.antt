@@ -1,11 +1,16 @@
--- What is held verbatim spells its form where it stands: loosely, or else clearly.
-use Rattle.std.proofs.Common.{sym, subst}
-use Rattle.token_core.specs.Trees.{TokenStream}
-use Rattle.token_core.specs.Toks.{Toks}
-use Rattle.syn_ty.specs.ty.Parts.{Manner, loosely, plainly, clearly, kept, IsVerbatim}
+-- What is held verbatim spells its form clearly before other tokens, where it does so by itself and ends in no glued `!`.
+use Rattle.std.proofs.Common.{refl, subst}
+use Rattle.token_core.specs.Trees.{TokenStream, row, trees}
+use Rattle.token_core.specs.Toks.{Toks, done}
+use Rattle.syn_path.specs.Ends.{Calm, Ended, Moved, NoBang, Shut}
+use Rattle.syn_path.proofs.Ends.{calm_of}
+use Rattle.syn_path.proofs.Moves.{row_before}
+use Rattle.syn_ty.specs.ty.Parts.{Manner, clearly}
 
-module _ (Form : Manner → Toks → Toks → Type 0) where
-  pub held_spelt : (how : Manner) (t : TokenStream) (l r : Toks) → IsVerbatim Form how t l r → Form (kept how) l r
-  held_spelt loosely t l r (i, h) = i
-  held_spelt plainly t l r (i, h) = subst (λ z. Form clearly z r) (sym h) (i r)
-  held_spelt clearly t l r (i, h) = i
+module _ (Form : Manner → Toks → Toks → Type 0) (moves : (k l r : Toks) → Form clearly l r → Calm l → Moved (Form clearly) k l r) (ends : (l r : Toks) → Form clearly l r → Shut r → Ended l) where
+  -- before other tokens
+  pub held_before : (t : TokenStream) → Form clearly (row (trees t) done) done → NoBang (row (trees t) done) → (k : Toks) → Form clearly (row (trees t) k) k
+  held_before t i q k =
+      let own = row (trees t) done in
+      let u = ends own done i refl in
+      subst (λ z. Form clearly z k) (row_before (trees t) done k) (moves k own done i (calm_of own q u.apart)).is

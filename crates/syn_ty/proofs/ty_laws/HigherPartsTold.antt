@@ -2,7 +2,7 @@
 use Rattle.std.proofs.Common.{Bool, List, Option}
 use Rattle.token_core.specs.Listed.{AreListed, none_left, last_value, value_and_mark}
 use Rattle.token_core.specs.Tokens as token
-use Rattle.token_core.specs.Toks.{Toks}
+use Rattle.token_core.specs.Toks.{Toks, done}
 use Rattle.token_core.specs.Trees.{TokenStream, row, trees}
 use Rattle.syn_forms.specs.declared.places.BoundPlace.{BoundPlace}
 use Rattle.syn_forms.specs.declared.places.ParamPlace.{ParamPlace}
@@ -52,7 +52,7 @@ module _ {A : Type 0} {V W : Relation A} where
 module _ (V W : Manner → Toks → Toks → Type 0) (up : (how : Manner) (l r : Toks) → V how l r → W how l r) where
   pub held_up : (how : Manner) (t : TokenStream) (l r : Toks) → IsVerbatim V how t l r → IsVerbatim W how t l r
   held_up loosely t l r (i, h) = (up loosely l r i, h)
-  held_up plainly t l r (i, h) = (λ k. up clearly (row (trees t) k) k (i k), h)
+  held_up plainly t l r (i, h) = ((up clearly (row (trees t) done) done i.0, i.1), h)
   held_up clearly t l r (i, h) = (up clearly l r i, h)
 
 -- ---- a binder

@@ -18,13 +18,15 @@ use Rattle.syn_ty.specs.generics.Members.{sorted}
 use Rattle.syn_ty.specs.path.Paths.{is_lifetime}
 use Rattle.syn_ty.specs.path.Spelling.{IsAngle, an_angle, some_arguments}
 use Rattle.syn_ty.specs.ty.Admitted.{IsType}
-use Rattle.syn_ty.specs.ty.Parts.{Manner, plainly, End, Parts}
+use Rattle.syn_ty.specs.ty.Parts.{Manner, plainly, clearly, End, Parts}
 use Rattle.syn_ty.specs.ty.Printing as printing
 use Rattle.syn_ty.specs.ty.Spelling.{absent, present}
 use Rattle.syn_ty.specs.ty.Spelt.{spelt_to, turn}
 use Rattle.syn_ty.specs.ty.Trees.{AngleBracketed, TypeTree}
 use Rattle.syn_ty.proofs.ty_laws.BeginsAgain.{Kept, ArgumentsBegin, sep_no_gt}
 use Rattle.syn_ty.proofs.ty_laws.FirstBoundsAgain.{bound_lives}
+use Rattle.syn_ty.proofs.ty_laws.MovesKnot.{GivenMoves, moving_to}
+use Rattle.syn_ty.proofs.ty_laws.MovesParts.{Moving}
 use Rattle.syn_ty.proofs.ty_laws.Prints.{arguments-AngleBracketed}
 use Rattle.syn_ty.proofs.ty_laws.TypesBeginAgain.{LivesKept, type_kept}
 
@@ -50,14 +52,14 @@ module _ {A E : Type 0} (pa : List A → Print) (pe : Values E) where
         ap token.sees_gt (row-append (p.mark c ++ p.mark o) rest k ∙ row-append (p.mark c) (p.mark o) (row rest k)) ∙ sep_no_gt c (row (p.mark c) next) next (mark_again false c l m next h)
 
     -- one turn
-    module _ (kept : KeptParts part) where
+    module _ (moving : (k : Toks) → Moving k (part clearly)) (kept : KeptParts part) where
       pub types_kept : (place : TypePlace) (e : End) (x : TypeTree A E) (l r : Toks) → IsType part plainly place e x l r → Kept l r (printing.ty pa pe x)
-      types_kept place e x l r i = type_kept pa pe part kept.arguments (λ f y m n j. (kept.ty Plus f y m n j).alone) kept.lives place e x l r i
+      types_kept place e x l r i = type_kept pa pe part kept.arguments (λ f y m n j. (kept.ty Plus f y m n j).alone) kept.lives moving place e x l r i
 
   module _ (attrs : Bool → List A → Toks → Toks → Type 0) (values : SpelledValues E) where
-    pub turn_kept : (part : Manner → Parts A E) → KeptParts part → KeptParts (turn attrs values part)
-    turn_kept part kept = record {
-      ty = λ place e x l r i. types_kept part kept place e x l r i;
+    pub turn_kept : (part : Manner → Parts A E) → ((k : Toks) → Moving k (part clearly)) → KeptParts part → KeptParts (turn attrs values part)
+    turn_kept part moving kept = record {
+      ty = λ place e x l r i. types_kept part moving kept place e x l r i;
       arguments = λ x l r i k. by_arguments x l r i k;
       lives = λ e x l r i h k. bound_lives pa pe part plainly Object e x l r i h k;
     }
@@ -66,9 +68,9 @@ module _ {A E : Type 0} (pa : List A → Print) (pe : Values E) where
         by_arguments x l r (some_arguments {x = y} i) k = ap (λ z. token.sees_gt (row z k)) (arguments-AngleBracketed pa pe AsWritten y) ∙ angle_begins part y l r i k
 
     -- at every height
-    pub kept_to : (n : ℕ) → KeptParts (spelt_to attrs values n)
-    kept_to zero = record { ty = λ place e x l r i. absurd i; arguments = λ x l r i k. absurd i; lives = λ e x l r i h k. absurd i }
-    kept_to (suc n) = turn_kept (spelt_to attrs values n) (kept_to n)
+    pub kept_to : GivenMoves attrs values → (n : ℕ) → KeptParts (spelt_to attrs values n)
+    kept_to g zero = record { ty = λ place e x l r i. absurd i; arguments = λ x l r i k. absurd i; lives = λ e x l r i h k. absurd i }
+    kept_to g (suc n) = turn_kept (spelt_to attrs values n) (λ k. moving_to attrs values g k n) (kept_to g n)
 
 -- ---- what where clauses ask of attributes
 

@@ -32,6 +32,7 @@ use Rattle.syn_ty.proofs.ty_laws.BoundAgain.{bound_again, bounds_again}
 use Rattle.syn_ty.proofs.ty_laws.KeptAgain.{AttrsBegin, KeptParts, turn_kept, kept_to}
 use Rattle.syn_ty.proofs.ty_laws.FirstTypesAgain.{none_first}
 use Rattle.syn_ty.proofs.ty_laws.FormsAgain.{NoneFirst}
+use Rattle.syn_ty.proofs.ty_laws.MovesKnot.{GivenMoves, moving_to, moving_turn}
 use Rattle.syn_ty.proofs.ty_laws.ParamsAgain.{BoundsAgain, param_again}
 use Rattle.syn_ty.proofs.ty_laws.TypesAgain.{type_again}
 
@@ -85,6 +86,7 @@ module _ {A E : Type 0} (na : List A → List A) (ne : NormalValues E) (pa : Lis
       pub len_stays : (x : E) (l : Toks) → spelt.len x l → ne.len (ne.len x) ≡ ne.len x
       pub argument : (x : E) (l r : Toks) → spelt.const_argument false x l r → AgainFront (spelt.const_argument true) ne.const_argument pe.const_argument x l r
       pub attrs_begin : (x : List A) (l r : Toks) → shown false x l r → (k : Toks) → ((l ≡ r) × (row (pa x) k ≡ k)) ⊎ (token.sees_lt (row (pa x) k) ≡ false)
+      pub moves : GivenMoves shown spelt
       pub default : (x : E) (l r : Toks) → spelt.const_default false x l r → AgainFront (spelt.const_default true) ne.const_argument pe.const_argument x l r
 
     abbrev To : ℕ → Manner → Parts A E
@@ -97,22 +99,22 @@ module _ {A E : Type 0} (na : List A → List A) (ne : NormalValues E) (pa : Lis
       -- one height more
       higher : (part : Manner → Parts A E) → Known part → Known (turn shown spelt part)
       higher part k = record {
-        again = record { ty = type_turn part k; bound = bound_turn part k; param = param_turn part k; argument = argument_turn part k between_angles; arguments = arguments_turn part k };
+        again = record { ty = type_turn part k; bound = bound_turn part k; param = param_turn part k; argument = argument_turn part k between_angles; arguments = arguments_turn part k; moving = λ h. moving_turn shown spelt g.moves h part (k.again.moving h) };
         supplied = supplied_turn part;
         len_stays = g.len_stays;
         none = none_turn part k;
-        kept = turn_kept pa pe shown spelt part k.kept;
+        kept = turn_kept pa pe shown spelt part k.again.moving k.kept;
         attrs_begin = g.attrs_begin;
       }
 
       -- at every height
       pub known_to : (n : ℕ) → Known (To n)
       known_to zero = record {
-        again = record { ty = λ p d x l r i. absurd i; bound = λ p d x l r i. absurd i; param = λ p x l r i. absurd i; argument = λ x l r i. absurd i; arguments = λ x l r i. absurd i };
+        again = record { ty = λ p d x l r i. absurd i; bound = λ p d x l r i. absurd i; param = λ p x l r i. absurd i; argument = λ x l r i. absurd i; arguments = λ x l r i. absurd i; moving = λ h. moving_to shown spelt g.moves h zero };
         supplied = record { attrs = λ x l r i. absurd i; own = g.own; silent = g.silent; len = λ x l i. absurd i; const_argument = λ x l r i. absurd i; const_default = λ x l r i. absurd i };
         len_stays = λ x l i. absurd i;
         none = λ p e x l r i. absurd i;
-        kept = kept_to pa pe shown spelt zero;
+        kept = kept_to pa pe shown spelt g.moves zero;
         attrs_begin = λ x l r i. absurd i;
       }
       known_to (suc n) = higher (To n) (known_to n)

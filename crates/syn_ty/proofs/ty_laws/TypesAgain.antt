@@ -4,7 +4,7 @@ use Rattle.token_core.specs.Prints as p
 use Rattle.token_core.specs.Prints.{Print}
 use Rattle.token_core.specs.Rebuilt.{Visible}
 use Rattle.token_core.specs.Spellings.{IsMark, IsWord}
-use Rattle.token_core.specs.Toks.{Toks}
+use Rattle.token_core.specs.Toks.{Toks, done}
 use Rattle.token_core.specs.Trees.{row, trees}
 use Rattle.syn_path.specs.declared.mac.Macro.{Macro}
 use Rattle.syn_path.specs.declared.path.PathStyle.TheVariants.{AsWritten}
@@ -19,7 +19,7 @@ use Rattle.syn_ty.specs.declared.ty.TypeInferOf.{TypeInferOf}
 use Rattle.syn_ty.specs.declared.ty.TypeNeverOf.{TypeNeverOf}
 use Rattle.syn_ty.specs.declared.ty.TypeOf.TheVariants as v
 use Rattle.syn_ty.specs.path.Spelling.{IsNoTry}
-use Rattle.syn_ty.specs.ty.Admitted.{NoLifetime, IsPointer, IsBorrow, IsEnclosed, IsBracketed, IsCounted, IsTupled, IsTypeCall, IsType}
+use Rattle.syn_ty.specs.ty.Admitted.{NoLifetime, IsPointer, IsBorrow, IsEnclosed, IsBracketed, IsCounted, IsTupled, IsTypeCall, IsType, IsVerbatimType}
 use Rattle.syn_ty.specs.ty.Admitted.{a_path_type, a_macro, a_bound_macro, an_object_with_dyn, an_object_without_dyn, an_impl_type, a_fn_type, a_ptr_type, a_reference_type, a_paren_type, a_tuple_type, a_slice_type, an_array_type, an_infer_type, a_never_type, a_verbatim_type}
 use Rattle.syn_ty.specs.ty.Functions.{IsFnPtr}
 use Rattle.syn_ty.specs.ty.Normal as normal
@@ -33,6 +33,9 @@ use Rattle.syn_ty.proofs.ty_laws.Again.{Again, SuppliedAgain}
 use Rattle.syn_ty.proofs.ty_laws.AnglesAgain.{made_front}
 use Rattle.syn_ty.proofs.ty_laws.FormsAgain.{NoneFirst, type_call_again, pointer_again, borrow_again, enclosed_again, bracketed_again, counted_again, tuple_again}
 use Rattle.syn_ty.proofs.ty_laws.FunctionsAgain.{fn_ptr_again}
+use Rattle.syn_ty.proofs.ty_laws.EndsTypes.{verbatim_over}
+use Rattle.syn_ty.proofs.ty_laws.HeldForms.{held_before}
+use Rattle.syn_ty.proofs.ty_laws.MovesTypes.{verbatim_moves}
 use Rattle.syn_ty.proofs.ty_laws.NormalsAgain.{normal-Array, normal-FnPtr, normal-ImplTrait, normal-Infer, normal-Macro, normal-Never, normal-Paren, normal-Path, normal-Ptr, normal-Reference, normal-Slice, normal-TraitObject, normal-Tuple, normal-Verbatim, path_type_normal}
 use Rattle.syn_ty.proofs.ty_laws.ParamsAgain.{for_again}
 use Rattle.syn_ty.proofs.ty_laws.PathsAgain.{StyledAgain, written_again}
@@ -108,9 +111,10 @@ module _ {A E : Type 0} (na : List A → List A) (ne : NormalValues E) (pa : Lis
       type_again e x l r (a_never_type {x = y} i) = never_again y l r i
       type_again e x l r (a_verbatim_type {t = t} (i, j)) =
           let is = normal-Verbatim na ne t in
+          let held = held_before (λ m. IsVerbatimType part m place e) (λ k l r j q. verbatim_moves part k (again.moving k) j q) (λ l r j q. verbatim_over part (again.moving done).ends j q) t i.0 i.1 in
           let seen = λ (h : Toks). ap (λ z. row z h) (ty-Verbatim pa pe t) in
           record {
-            spelt = λ h. subst (λ z. Is e z (row (pt x) h) h) (sym is) (subst (λ z. Is e (v.Verbatim t) z h) (sym (seen h)) (a_verbatim_type (i h, refl)));
+            spelt = λ h. subst (λ z. Is e z (row (pt x) h) h) (sym is) (subst (λ z. Is e (v.Verbatim t) z h) (sym (seen h)) (a_verbatim_type (held h, refl)));
             visible = λ h u w. subst Visible (sym (seen h)) (row_visible (trees t) r h (subst Visible j u) w);
             seen = λ u. row_seen (trees t) r (subst Visible j u);
             stays = ap nt is;

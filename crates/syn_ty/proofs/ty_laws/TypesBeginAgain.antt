@@ -42,16 +42,20 @@ use Rattle.syn_ty.specs.generics.Parameters.{begins_as_generics}
 use Rattle.syn_ty.specs.generics.Params.{named_bound, trait_bound_of}
 use Rattle.syn_ty.specs.generics.Shapes.{bare_trait_by}
 use Rattle.syn_ty.specs.path.Spelling.{is_segment_word, IsAnyPath, unqualified, qualified}
-use Rattle.syn_ty.specs.ty.Admitted.{IsType, a_path_type, a_macro as a_macro_type, a_bound_macro, an_object_with_dyn, an_object_without_dyn, an_impl_type, a_fn_type, a_ptr_type, a_reference_type, a_paren_type, a_tuple_type, a_slice_type, an_array_type, an_infer_type, a_never_type, a_verbatim_type, a_pointer, a_borrow, a_mutable_borrow, a_lifetime_borrow, enclosed, bracketed, counted, no_element, some_elements, IsTypeCall}
+use Rattle.syn_ty.specs.ty.Admitted.{IsType, a_path_type, a_macro as a_macro_type, a_bound_macro, an_object_with_dyn, an_object_without_dyn, an_impl_type, a_fn_type, a_ptr_type, a_reference_type, a_paren_type, a_tuple_type, a_slice_type, an_array_type, an_infer_type, a_never_type, a_verbatim_type, a_pointer, a_borrow, a_mutable_borrow, a_lifetime_borrow, enclosed, bracketed, counted, no_element, some_elements, IsTypeCall, IsVerbatimType}
 use Rattle.syn_ty.specs.ty.Functions.{IsFnPtr, a_fn_ptr}
 use Rattle.syn_ty.specs.ty.Objects.{a_dyn, an_impl, a_first, a_first_for, AreBareBounds, path_alone, path_and_plus, held_and_plus, asked_first, asked_in_two, lifetime_first, in_parens}
-use Rattle.syn_ty.specs.ty.Parts.{Manner, plainly, End, Parts}
+use Rattle.syn_ty.specs.ty.Parts.{Manner, plainly, clearly, End, Parts}
 use Rattle.syn_ty.specs.ty.Printing as printing
 use Rattle.syn_ty.specs.ty.Spelling.{absent, present, an_infer, a_never}
 use Rattle.syn_ty.specs.ty.Trees.{BoundLifetimes, GenericParam, Path, QSelf, TypeFnPtr, TypeParamBound, TypeTree}
 use Rattle.syn_ty.specs.ty.Types.{And, Star, macro_type_of, qualified_with, trait_object_with}
 use Rattle.syn_ty.proofs.ty_laws.BeginsAgain.{Quiet, quiet_mark, quiet_before, segment_no_for, Kept, quiet_kept, binder_kept, same_kept, word_quiet, group_quiet, for_first, for_seen, no_second, named, ArgumentsBegin, TypesAlone, path_kept, qualified_kept}
 use Rattle.syn_ty.proofs.ty_laws.HeldBeginAgain.{held_kept}
+use Rattle.syn_ty.proofs.ty_laws.EndsTypes.{verbatim_over}
+use Rattle.syn_ty.proofs.ty_laws.HeldForms.{held_before}
+use Rattle.syn_ty.proofs.ty_laws.MovesParts.{Moving}
+use Rattle.syn_ty.proofs.ty_laws.MovesTypes.{verbatim_moves}
 use Rattle.syn_ty.proofs.ty_laws.Prints.{ty-Array, ty-FnPtr, ty-ImplTrait, ty-Infer, ty-Macro, ty-Never, ty-Paren, ty-Path, ty-Ptr, ty-Reference, ty-Slice, ty-TraitObject, ty-Tuple, ty-Verbatim, path_type_parts, fn_ptr_parts, trait_bound_parts, bound-Trait}
 
 -- ---- marks
@@ -159,7 +163,7 @@ module _ {A E : Type 0} (pa : List A → Print) (pe : Values E) (part : Manner �
       same_kept l r _ (p.word x.for_token ++ (rest ++ all.0)) (all.1 ∙ ap (λ k. k ++ all.0) one)
       (binder_kept l r (p.word x.for_token ++ (rest ++ all.0)) e (λ k. (for_first x.for_token (rest ++ all.0) k).0) (λ k. (for_first x.for_token (rest ++ all.0) k).1))
 
-  module _ (lives_kept : LivesKept pa pe part) where
+  module _ (lives_kept : LivesKept pa pe part) (moving : (k : Toks) → Moving k (part clearly)) where
     lives_first : (e : End) (xs : List (TypeParamBound A E)) (ps : List token.Plus) (l r : Toks) → sees_lifetime l ≡ true → AreBounds part plainly Object AfterMark true e xs ps l r → Kept l r (printing.bounds_joined pa pe (xs, ps))
     lives_first e xs ps l r h (no_bounds u) = absurd u
     lives_first e xs ps l r h (last_bound {e = f} {x = x} i) =
@@ -230,4 +234,4 @@ module _ {A E : Type 0} (pa : List A → Print) (pe : Values E) (part : Manner �
     type_kept place e x l r (an_array_type {x = y} (counted {s = s} i j t)) = group_kept Bracket s _ _ l r tt (ty-Array pa pe y)
     type_kept place e x l r (an_infer_type {x = y} (an_infer {w = w} i)) = same_kept l r _ _ (ty-Infer pa pe y) (quiet_kept l r (p.word w) (word_quiet w [] refl refl))
     type_kept place e x l r (a_never_type {x = y} (a_never {b = a} i)) = same_kept l r _ _ (ty-Never pa pe y) (quiet_kept l r (p.mark a) (λ k. bang_quiet a (row (p.mark a) k) k (mark_again false a l r k i)))
-    type_kept place e x l r (a_verbatim_type {e = f} {t = t} (i, h)) = same_kept l r _ _ (ty-Verbatim pa pe t) (held_kept part place f t l r i h)
+    type_kept place e x l r (a_verbatim_type {e = f} {t = t} (i, h)) = same_kept l r _ _ (ty-Verbatim pa pe t) (held_kept part place f t l r (held_before (λ m. IsVerbatimType part m place f) (λ k l r j q. verbatim_moves part k (moving k) j q) (λ l r j q. verbatim_over part (moving done).ends j q) t i.0 i.1) h)

@@ -2,8 +2,9 @@
 use Rattle.std.specs.Prelude.{◌≡◌, Bool, true, false, List, [], ◌∷◌}
 use Rattle.token_core.specs.Reads.{any_text, sees_word}
 use Rattle.token_core.specs.Tokens as token
-use Rattle.token_core.specs.Toks.{Toks}
+use Rattle.token_core.specs.Toks.{Toks, done}
 use Rattle.token_core.specs.Trees.{TokenStream, row, trees}
+use Rattle.syn_path.specs.Ends.{NoBang}
 use Rattle.syn_forms.specs.declared.places.BoundPlace.{BoundPlace}
 use Rattle.syn_forms.specs.declared.places.ParamPlace.{ParamPlace}
 use Rattle.syn_forms.specs.declared.places.TypePlace.{TypePlace}
@@ -12,7 +13,7 @@ use Rattle.syn_ty.specs.ty.Trees.{GenericArgument, GenericParam, PathArguments, 
 
 -- ---- how a spelling is told
 
--- Loosely: each mark may be glued to what follows it. Plainly: the same, but what is held verbatim spells its form clearly, whatever follows it. Clearly: no mark is glued to a longer one.
+-- Loosely: each mark may be glued to what follows it. Plainly: the same, but what is held verbatim spells its form clearly, and does not end in a `!` that is glued to what follows. Clearly: no mark is glued to a longer one.
 pub data Manner : Type 0 where
   loosely : Manner
   plainly : Manner
@@ -23,12 +24,6 @@ abbrev pub is_clear : Manner → Bool
 is_clear loosely = false
 is_clear plainly = false
 is_clear clearly = true
-
--- the manner in which what is held verbatim spells its form
-abbrev pub kept : Manner → Manner
-kept loosely = loosely
-kept plainly = clearly
-kept clearly = clearly
 
 -- ---- how a spelling ends
 
@@ -73,10 +68,10 @@ pub record Parts (A E : Type 0) : Type 1 where
 abbrev pub Holds : TokenStream → Toks → Toks → Type 0
 Holds t l r = l ≡ row (trees t) r
 
--- What is held verbatim, where there is no tree for a form. Loosely and clearly, it is what the list spells. Plainly, it spells the form clearly whatever follows it: no mark in it is glued to a longer one, nor is the last one glued to what follows.
+-- What is held verbatim, where there is no tree for a form. Loosely and clearly, it is what the list spells. Plainly, by itself it spells the form clearly, and does not end in a glued `!`: so it spells the form clearly before all that a print puts there.
 abbrev pub IsVerbatim : (Manner → Toks → Toks → Type 0) → Manner → TokenStream → Toks → Toks → Type 0
 IsVerbatim Form loosely t l r = Form loosely l r × Holds t l r
-IsVerbatim Form plainly t l r = ((k : Toks) → Form clearly (row (trees t) k) k) × Holds t l r
+IsVerbatim Form plainly t l r = (Form clearly (row (trees t) done) done × NoBang (row (trees t) done)) × Holds t l r
 IsVerbatim Form clearly t l r = Form clearly l r × Holds t l r
 
 -- values of which each has its mark; there may be none
