@@ -1,6 +1,6 @@
 //! A supplied subtree that is never read: the trees of these tests hold none but where a test puts it.
 
-ghost use Rattle.std.specs.Prelude.{Err, [], codes};
+ghost use Rattle.std.specs.Prelude.{Err, [], codes, refl};
 ghost use Rattle.token_core.specs.declared.error.ErrorKind.TheVariants as kinds;
 ghost use Rattle.token_core.specs.Reads.{refused};
 
@@ -21,6 +21,8 @@ impl Subtree for Nothing {
 
     ghost prints = { λ _ _. [] };
 
+    ghost bare = { λ x. x };
+
     ghost steady = { λ p s t e. tt };
 
     ghost sound = { λ p s t x e. cc };
@@ -30,6 +32,10 @@ impl Subtree for Nothing {
     ghost reprint = { λ p x l i. absurd i };
 
     ghost apart = { λ x l i. absurd i };
+
+    ghost moves = { λ w x l m v u i e. absurd i };
+
+    ghost alike = { λ w x y e. refl };
 
     #[tactic(auto, using(token_core::proofs::Suffixes::follows))]
     fn read(alloc: Global, _place: Place, input: &mut ParseStream<'_>) -> Result<Nothing, Error> {

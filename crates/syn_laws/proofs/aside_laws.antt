@@ -1,8 +1,6 @@
 pub mod Attrs
-pub mod Both
 pub mod BoundForms
 pub mod ClauseForms
-pub mod Held
 pub mod Knot
 pub mod Layers
 pub mod Parts
@@ -10,10 +8,5 @@ pub mod PatForms
 pub mod PatLayers
 pub mod PatParts
 pub mod PathForms
-pub mod Paths
 pub mod Readers
-pub mod Same
-pub mod Streams
-pub mod Tokens
 pub mod TypeForms
-pub mod Verbatims

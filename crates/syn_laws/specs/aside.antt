@@ -1,9 +1,5 @@
 pub mod Attrs
 pub mod Generics
-pub mod Lists
-pub mod Paths
 pub mod Pats
 pub mod Readers
-pub mod Tokens
 pub mod Types
-pub mod Verbatims

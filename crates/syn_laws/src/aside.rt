@@ -1,14 +1,14 @@
 //! What whole reads promise of lists and trees that are the same aside from spans. Each is the contract of a function that does nothing.
 //!
 //! Of each reader that has the promise of a grammar: whatever tree clearly spells a list that is the same as the one that was read, it is the same as the answer; where there was
-//! none, no tree spells such a list clearly. A tree without its spans is said by `specs/aside`, and by a supplied subtree of itself: it is asked that what a subtree spells in a place,
-//! a subtree that is the same spells there with other spans.
+//! none, no tree spells such a list clearly. And any two trees that clearly spell lists that are the same are the same, whatever was read. A tree without its spans is said by
+//! `specs/aside`, of a supplied subtree by its trait.
 
 ghost use Rattle.token_core.specs.Same.{Same};
 ghost use Rattle.token_core.specs.Trees.{toks};
-ghost use Rattle.syn_laws.specs.aside.Lists.{AreSame, MovesSubtree};
+ghost use Rattle.syn_path.specs.aside.Lists.{AreSame, MovesSubtree};
 ghost use Rattle.syn_laws.specs.aside.Readers as readers;
-ghost use Rattle.syn_laws.specs.aside.Verbatims as free;
+ghost use Rattle.syn_verbatim.specs.Aside as free;
 ghost use Rattle.syn_verbatim.specs.Spelling as spelling;
 
 use syn_path::path::Arguments;
@@ -27,37 +27,37 @@ pub fn mod_paths_aside<A: Arguments>()
 
 /// Metas and attributes.
 pub fn attributes_aside<X: Subtree>()
-    ensures { (subtree : X → X) → MovesSubtree X.spells subtree → readers.Attributes X.reads X.spells X.normal X.prints subtree }
+    ensures { readers.Attributes X.reads X.spells X.normal X.prints X.bare }
 {}
 
 /// Paths with arguments.
 pub fn paths_aside<X: Subtree>()
-    ensures { (subtree : X → X) → MovesSubtree X.spells subtree → readers.Paths X.reads X.spells X.normal X.prints subtree }
+    ensures { readers.Paths X.reads X.spells X.normal X.prints X.bare }
 {}
 
 /// Types.
 pub fn types_aside<X: Subtree>()
-    ensures { (subtree : X → X) → MovesSubtree X.spells subtree → readers.Types X.reads X.spells X.normal X.prints subtree }
+    ensures { readers.Types X.reads X.spells X.normal X.prints X.bare }
 {}
 
 /// Parameters, binders and bounds.
 pub fn parameters_aside<X: Subtree>()
-    ensures { (subtree : X → X) → MovesSubtree X.spells subtree → readers.Parameters X.reads X.spells X.normal X.prints subtree }
+    ensures { readers.Parameters X.reads X.spells X.normal X.prints X.bare }
 {}
 
 /// Generics and where clauses.
 pub fn generics_aside<X: Subtree>()
-    ensures { (subtree : X → X) → MovesSubtree X.spells subtree → readers.Generics X.reads X.spells X.normal X.prints subtree }
+    ensures { readers.Generics X.reads X.spells X.normal X.prints X.bare }
 {}
 
 /// Patterns.
 pub fn patterns_aside<X: Subtree>()
-    ensures { (subtree : X → X) → MovesSubtree X.spells subtree → readers.Patterns X.reads X.spells X.normal X.prints subtree }
+    ensures { readers.Patterns X.reads X.spells X.normal X.prints X.bare }
 {}
 
 /// Tokens in the place of an expression.
 pub fn verbatim_aside()
-    ensures { MovesSubtree spelling.spells free.verbatim }
+    ensures { MovesSubtree spelling.spells free.bare }
 {}
 
 /// Lists that are the same by `TokenStream::same`.

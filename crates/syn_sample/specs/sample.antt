@@ -9,3 +9,5 @@ pub mod Joins
 pub mod Reads
 pub mod Sums
 pub mod Laws
+pub mod Bare
+pub mod Aside

@@ -11,6 +11,8 @@ ghost use Rattle.syn_sample.specs.sample.Reading as reading;
 ghost use Rattle.syn_sample.specs.sample.Printing as printing;
 ghost use Rattle.syn_sample.specs.sample.Spelling as spelling;
 ghost use Rattle.syn_sample.specs.sample.Laws as laws;
+ghost use Rattle.syn_sample.specs.sample.Bare as bare;
+ghost use Rattle.syn_sample.specs.sample.Aside as aside;
 
 use std::alloc::{AllocError, Global};
 use syn_path::supplied::{Place, Subtree};
@@ -311,6 +313,8 @@ impl Subtree for Sample {
 
     ghost prints = { λ _. printing.sample };
 
+    ghost bare = { bare.sample };
+
     ghost steady = { laws.steady };
 
     ghost sound = { laws.sound };
@@ -320,6 +324,10 @@ impl Subtree for Sample {
     ghost reprint = { laws.reprint };
 
     ghost apart = { laws.apart };
+
+    ghost moves = { aside.moves };
+
+    ghost alike = { aside.alike };
 
     #[tactic(auto, using(token_core::proofs::Suffixes::follows))]
     fn read(alloc: Global, place: Place, input: &mut ParseStream<'_>) -> Result<Sample, Error> {

@@ -4,3 +4,4 @@ pub mod Spelling
 pub mod Likes
 pub mod Again
 pub mod Laws
+pub mod Aside

@@ -6,6 +6,7 @@ ghost use Rattle.token_core.specs.Prints.{Extends};
 ghost use Rattle.token_core.specs.Reads.{Reads, Follows, peek};
 ghost use Rattle.token_core.specs.Trees.{trees};
 ghost use Rattle.syn_path.specs.Supplied.{lone_literal, attribute_ahead};
+ghost use Rattle.syn_verbatim.specs.Aside as aside;
 ghost use Rattle.syn_verbatim.specs.Laws as laws;
 ghost use Rattle.syn_verbatim.specs.Reading as reading;
 ghost use Rattle.syn_verbatim.specs.Spelling as spelling;
@@ -87,6 +88,8 @@ impl Subtree for VerbatimExpr {
 
     ghost prints = { λ _. spelling.print };
 
+    ghost bare = { aside.bare };
+
     ghost steady = { laws.steady };
 
     ghost sound = { laws.sound };
@@ -96,6 +99,10 @@ impl Subtree for VerbatimExpr {
     ghost reprint = { laws.reprint };
 
     ghost apart = { laws.apart };
+
+    ghost moves = { aside.moves };
+
+    ghost alike = { aside.alike };
 
     #[tactic(auto, using(token_core::proofs::Suffixes::follows), unfolding(crate::specs::Reading::verbatim))]
     fn read(

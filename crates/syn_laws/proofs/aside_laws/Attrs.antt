@@ -6,7 +6,7 @@ use Rattle.token_core.specs.declared.tree.Delimiter.{Delimiter}
 use Rattle.token_core.specs.declared.tree.Delimiter.TheVariants.{Bracket}
 use Rattle.token_core.specs.declared.token.Brace.{Brace}
 use Rattle.token_core.specs.Groups as groups
-use Rattle.token_core.specs.Headline.{Grammar}
+use Rattle.token_core.specs.Headline.{Grammar, Lawful}
 use Rattle.token_core.specs.Prints.{Print}
 use Rattle.token_core.specs.Reads.{Reader}
 use Rattle.token_core.specs.Spellings.{IsLit, IsMark}
@@ -33,14 +33,15 @@ use Rattle.syn_attr.specs.attr.Attrs.{Pound, Equals, Attribute, word_path, list_
 use Rattle.syn_attr.specs.attr.Grammars as grammars
 use Rattle.syn_attr.specs.attr.Lengths.{spells_len}
 use Rattle.syn_attr.specs.attr.Spelling.{AreAll, no_more, one_more, IsMetaPath, unsafe_path, mod_path, IsMetaList, a_meta_list, IsValue, a_literal, supplied, IsNameValue, a_name_value, IsMeta, a_path, a_list, a_value, IsOuter, an_outer, IsInner, an_inner, IsConst, a_lone_literal, a_block, IsConstDefault, a_const, a_word}
-use Rattle.syn_laws.specs.aside.Lists.{Asides, Moves, MovesSubtree}
-use Rattle.syn_laws.specs.aside.Tokens as tokens
-use Rattle.syn_laws.specs.aside.Paths as paths
+use Rattle.syn_attr.proofs.attr_laws.Laws.{list_lawful}
+use Rattle.syn_path.specs.aside.Lists.{Asides, Moves, MovesSubtree}
+use Rattle.syn_path.specs.aside.Tokens as tokens
+use Rattle.syn_path.specs.aside.Paths as paths
 use Rattle.syn_laws.specs.aside.Attrs as free
-use Rattle.syn_laws.proofs.aside_laws.Both.{of3, cons_same}
-use Rattle.syn_laws.proofs.aside_laws.Same.{Same, same_done, same_word, same_group, same_of, bare_same, visible_same, same_sym, Rest, all_left, past_word, past_group, onward, Moved, Mover, aside, moves}
-use Rattle.syn_laws.proofs.aside_laws.Tokens.{mark_moves, lit_moves}
-use Rattle.syn_laws.proofs.aside_laws.Paths.{path_move, brackets_move, held_move}
+use Rattle.syn_path.proofs.aside_laws.Both.{of3, cons_same}
+use Rattle.syn_path.proofs.aside_laws.Same.{Same, same_done, same_word, same_group, same_of, bare_same, visible_same, same_sym, Rest, all_left, past_word, past_group, onward, Moved, Mover, aside, moves}
+use Rattle.syn_path.proofs.aside_laws.Tokens.{mark_moves, lit_moves}
+use Rattle.syn_path.proofs.aside_laws.Paths.{path_move, brackets_move, held_move}
 
 -- a tree that spells all of a list
 pub record Kept {A : Type 0} (fr : A → A) (Is : A → Toks → Type 0) (x : A) (m : Toks) : Type 0 where
@@ -198,24 +199,24 @@ module _ {X : Type 0} (spells : Place → X → Toks → Type 0) (fx : X → X) 
 -- ---- the promises
 
 pub list_aside : Asides grammars.list free.list
-list_aside = aside grammars.list free.list (moves grammars.list free.list (IsMetaList true) (λ x l i. i) (λ x l i. i) (λ x l r m. meta_list_moves))
+list_aside = aside grammars.list free.list list_lawful (moves grammars.list free.list (IsMetaList true) (λ x l i. i) (λ x l i. i) (λ x l r m. meta_list_moves))
 
 pub kept_moves : {A : Type 0} (G : Grammar A) (fr : A → A) → ((x : A) (l m : Toks) → G.spells true x l → Same l m → Kept fr (G.spells true) x m) → Moves G fr
 kept_moves G fr f b m l v i s = let q = f b m l i (same_of m l v s) in (q.tree, q.is, q.same)
 
 module _ {X : Type 0} (reads : Place → Reader X) (spells : Place → X → Toks → Type 0) (normals : Place → X → X) (prints : Place → X → Print) (fx : X → X) (given : MovesSubtree spells fx) where
-  pub name_value_aside : Asides (grammars.name_value reads spells normals prints) (free.name_value fx)
-  name_value_aside = let G = grammars.name_value reads spells normals prints in aside G (free.name_value fx) (kept_moves G (free.name_value fx) (λ x l m i s. name_value_moves spells fx given i s))
+  pub name_value_aside : Lawful (grammars.name_value reads spells normals prints) → Asides (grammars.name_value reads spells normals prints) (free.name_value fx)
+  name_value_aside laws = let G = grammars.name_value reads spells normals prints in aside G (free.name_value fx) laws (kept_moves G (free.name_value fx) (λ x l m i s. name_value_moves spells fx given i s))
 
-  pub meta_aside : Asides (grammars.meta reads spells normals prints) (free.meta fx)
-  meta_aside = let G = grammars.meta reads spells normals prints in aside G (free.meta fx) (kept_moves G (free.meta fx) (λ x l m i s. meta_moves spells fx given i s))
+  pub meta_aside : Lawful (grammars.meta reads spells normals prints) → Asides (grammars.meta reads spells normals prints) (free.meta fx)
+  meta_aside laws = let G = grammars.meta reads spells normals prints in aside G (free.meta fx) laws (kept_moves G (free.meta fx) (λ x l m i s. meta_moves spells fx given i s))
 
-  pub outer_aside : Asides (grammars.outer reads spells normals prints) (free.attributes fx)
-  outer_aside =
+  pub outer_aside : Lawful (grammars.outer reads spells normals prints) → Asides (grammars.outer reads spells normals prints) (free.attributes fx)
+  outer_aside laws =
       let G = grammars.outer reads spells normals prints in
-      aside G (free.attributes fx) (moves G (free.attributes fx) (AreAll (IsOuter spells true)) (λ x l i. i) (λ x l i. i) (λ x l r m i s. all_move (free.attribute fx) i s (λ x l r m. outer_moves spells fx given)))
+      aside G (free.attributes fx) laws (moves G (free.attributes fx) (AreAll (IsOuter spells true)) (λ x l i. i) (λ x l i. i) (λ x l r m i s. all_move (free.attribute fx) i s (λ x l r m. outer_moves spells fx given)))
 
-  pub inner_aside : Asides (grammars.inner reads spells normals prints) (free.attributes fx)
-  inner_aside =
+  pub inner_aside : Lawful (grammars.inner reads spells normals prints) → Asides (grammars.inner reads spells normals prints) (free.attributes fx)
+  inner_aside laws =
       let G = grammars.inner reads spells normals prints in
-      aside G (free.attributes fx) (moves G (free.attributes fx) (AreAll (IsInner spells true)) (λ x l i. i) (λ x l i. i) (λ x l r m i s. all_move (free.attribute fx) i s (λ x l r m. inner_moves spells fx given)))
+      aside G (free.attributes fx) laws (moves G (free.attributes fx) (AreAll (IsInner spells true)) (λ x l i. i) (λ x l i. i) (λ x l r m i s. all_move (free.attribute fx) i s (λ x l r m. inner_moves spells fx given)))

@@ -35,15 +35,15 @@ use Rattle.syn_ty.specs.ty.Reading.{is_trait}
 use Rattle.syn_ty.specs.ty.Spelling.{IsOptional}
 use Rattle.syn_ty.specs.ty.Trees.{BoundLifetimes, ConstParam, GenericParam, Path, TraitBound, TypeImplTrait, TypeParam, TypeParamBound, TypeTraitObject, TypeTree}
 use Rattle.syn_ty.specs.ty.Types.{impl_trait_with, trait_object_with}
-use Rattle.syn_laws.specs.aside.Tokens as tokens
+use Rattle.syn_path.specs.aside.Tokens as tokens
 use Rattle.syn_laws.specs.aside.Types as free
-use Rattle.syn_laws.proofs.aside_laws.Both.{cons_same, of3, of5}
-use Rattle.syn_laws.proofs.aside_laws.Held.{put_in, lifetime_seen}
+use Rattle.syn_path.proofs.aside_laws.Both.{cons_same, of3, of5}
+use Rattle.syn_path.proofs.aside_laws.Held.{put_in, lifetime_seen}
 use Rattle.syn_laws.proofs.aside_laws.Layers.{free-lifetime-param, free-named-param, free-constant-param, free-type-param, free-trait, free-lifetime-bound, free-capture, free-trait-bound, trait_kept}
 use Rattle.syn_laws.proofs.aside_laws.Parts.{Moving, optional_moves, given_moves, binder_moves}
 use Rattle.syn_laws.proofs.aside_laws.PathForms.{path_moves, bound_path_moves, bounds_move}
-use Rattle.syn_laws.proofs.aside_laws.Same.{Same, same_done, same_word, same_group, Rest, all_left, past_word, past_group, onward, Moved}
-use Rattle.syn_laws.proofs.aside_laws.Tokens.{MovedMany, listed_move, mark_moves, word_moves, lifetime_moves, mark_seen, word_seen}
+use Rattle.syn_path.proofs.aside_laws.Same.{Same, same_done, same_word, same_group, Rest, all_left, past_word, past_group, onward, Moved}
+use Rattle.syn_path.proofs.aside_laws.Tokens.{MovedMany, listed_move, mark_moves, word_moves, lifetime_moves, mark_seen, word_seen}
 
 -- ---- captures
 

@@ -18,14 +18,14 @@ use Rattle.syn_ty.specs.generics.Parameters.{begins_as_generics}
 use Rattle.syn_ty.specs.ty.Parts.{Manner, clearly, Parts}
 use Rattle.syn_ty.specs.ty.Trees.{BoundLifetimes, GenericParam, TypeParamBound, TypeTree}
 use Rattle.syn_laws.specs.aside.Generics as free
-use Rattle.syn_laws.specs.aside.Tokens as tokens
+use Rattle.syn_path.specs.aside.Tokens as tokens
 use Rattle.syn_laws.specs.aside.Types as types
-use Rattle.syn_laws.proofs.aside_laws.Both.{of3, of4, of5}
+use Rattle.syn_path.proofs.aside_laws.Both.{of3, of4, of5}
 use Rattle.syn_laws.proofs.aside_laws.BoundForms.{for_moves}
 use Rattle.syn_laws.proofs.aside_laws.Parts.{Moving}
 use Rattle.syn_laws.proofs.aside_laws.PathForms.{bounds_move}
-use Rattle.syn_laws.proofs.aside_laws.Same.{Same, same_done, same_word, same_mark, same_lit, same_group, all_left, onward, Moved}
-use Rattle.syn_laws.proofs.aside_laws.Tokens.{listed_move, mark_moves, word_moves, lifetime_moves, mark_seen, word_seen}
+use Rattle.syn_path.proofs.aside_laws.Same.{Same, same_done, same_word, same_mark, same_lit, same_group, all_left, onward, Moved}
+use Rattle.syn_path.proofs.aside_laws.Tokens.{listed_move, mark_moves, word_moves, lifetime_moves, mark_seen, word_seen}
 
 -- ---- tests of what stands behind the first tokens
 

@@ -1,27 +1,22 @@
--- Types, paths, bounds, parameters and generics of any height on lists that are the same aside from spans; and what their whole reads promise.
+-- Types, paths, bounds, parameters and generics of any height on lists that are the same aside from spans.
 use Rattle.std.proofs.Common.{◌≡◌, ℕ, zero, suc, Bool, true, List, [], Option, Some, None, refl, sym, ap, ◌∙◌, subst}
-use Rattle.token_core.specs.Prints.{Print}
-use Rattle.token_core.specs.Reads.{Reader}
 use Rattle.token_core.specs.Toks.{Toks}
 use Rattle.syn_path.specs.Values.{SpelledValues}
 use Rattle.syn_ty.specs.declared.generics.GenericParamOf.TheOpen as o
 use Rattle.syn_ty.specs.declared.path.PathArgumentsOf.{out-PathArgumentsOf}
 use Rattle.syn_ty.specs.declared.path.PathArgumentsOf.TheVariants as a
 use Rattle.syn_ty.specs.path.Spelling.{IsAngle, IsArguments, some_arguments}
-use Rattle.syn_ty.specs.ty.Parts.{Manner, clearly, End, Parts}
-use Rattle.syn_ty.specs.ty.Promises.{promise}
-use Rattle.syn_ty.specs.ty.Spelling.{Relation}
-use Rattle.syn_ty.specs.ty.Spelt.{spelt_to, Begins, BeginsEnding, Spells, SpellsEnding, IsPathAlone, a_path_alone}
+use Rattle.syn_ty.specs.ty.Parts.{Manner, clearly, Parts}
+use Rattle.syn_ty.specs.ty.Spelt.{spelt_to, IsPathAlone, a_path_alone}
 use Rattle.syn_ty.specs.ty.Trees.{AngleBracketed, Layer, Path, PathArguments, QSelf}
 use Rattle.syn_ty.specs.ty.Types.{qualified_with}
-use Rattle.syn_laws.specs.aside.Lists.{Asides}
 use Rattle.syn_laws.specs.aside.Types as free
 use Rattle.syn_laws.proofs.aside_laws.Attrs.{Kept}
 use Rattle.syn_laws.proofs.aside_laws.BoundForms.{bound_moves, param_moves}
 use Rattle.syn_laws.proofs.aside_laws.Layers.{free-path-type}
 use Rattle.syn_laws.proofs.aside_laws.Parts.{Moving}
 use Rattle.syn_laws.proofs.aside_laws.PathForms.{angle_moves, any_path_moves, argument_moves, arguments_move}
-use Rattle.syn_laws.proofs.aside_laws.Same.{Same, Mover, aside, moves}
+use Rattle.syn_path.proofs.aside_laws.Same.{Same, Mover}
 use Rattle.syn_laws.proofs.aside_laws.TypeForms.{type_moves}
 
 -- ---- arguments in angle brackets
@@ -70,22 +65,6 @@ module _ {A E : Type 0} (na : List A → List A) (ne : E → E) (attrs : Bool �
     const_argument = argument_moved;
     const_default = default_moved;
   }
-
-  -- ---- all of a list
-
-  begins_move : {F : Type 0} (fr : F → F) (Is : (Manner → Parts A E) → Manner → Relation F) → ((n : ℕ) → Mover fr (Is (spelt_to attrs values n) clearly)) → Mover fr (Begins attrs values Is clearly)
-  begins_move fr Is f x l r m (n, i) s = let q = f n x l r m i s in record { tree = q.tree; rest = q.rest; is = (n, q.is); same = q.same; on = q.on; part = q.part }
-
-  ending_moves : {F : Type 0} (fr : F → F) (Is : (Manner → Parts A E) → Manner → End → Relation F) → ((n : ℕ) (e : End) → Mover fr (Is (spelt_to attrs values n) clearly e)) → Mover fr (BeginsEnding attrs values Is clearly)
-  ending_moves fr Is f x l r m (n, e, i) s = let q = f n e x l r m i s in record { tree = q.tree; rest = q.rest; is = (n, e, q.is); same = q.same; on = q.on; part = q.part }
-
-  pub whole_aside : {F : Type 0} (fr form : F → F) (print : F → Print) (reader : Reader F) (Is : (Manner → Parts A E) → Manner → Relation F) → ((n : ℕ) → Mover fr (Is (spelt_to attrs values n) clearly)) →
-      Asides (promise (Spells attrs values Is) form print reader) fr
-  whole_aside fr form print reader Is f = let G = promise (Spells attrs values Is) form print reader in aside G fr (moves G fr (Begins attrs values Is clearly) (λ x l i. i) (λ x l i. i) (begins_move fr Is f))
-
-  pub ending_aside : {F : Type 0} (fr form : F → F) (print : F → Print) (reader : Reader F) (Is : (Manner → Parts A E) → Manner → End → Relation F) → ((n : ℕ) (e : End) → Mover fr (Is (spelt_to attrs values n) clearly e)) →
-      Asides (promise (SpellsEnding attrs values Is) form print reader) fr
-  ending_aside fr form print reader Is f = let G = promise (SpellsEnding attrs values Is) form print reader in aside G fr (moves G fr (BeginsEnding attrs values Is clearly) (λ x l i. i) (λ x l i. i) (ending_moves fr Is f))
 
   -- a path type by itself
   abbrev Named : Type 0

@@ -39,8 +39,8 @@ use Rattle.syn_ty.specs.path.Paths.{path_of, parens_of, assoc_type_of, assoc_con
 use Rattle.syn_ty.specs.ty.Reading.{is_trait, trait_layer}
 use Rattle.syn_ty.specs.ty.Trees.{GenericParam, TypeParam, ConstParam, BoundLifetimes, TypeParamBound, TraitBound, PathArguments, Path, PathSegment, GenericArgument, AngleBracketed, AssocType, Constraint, TypeTree, QSelf, TypeArray, TypeFnPtr, TypeGroup, TypeImplTrait, TypeParen, TypePath, TypePtr, TypeReference, TypeSlice, TypeTraitObject, TypeTuple, NamedArg, ReturnType, Layer}
 use Rattle.syn_ty.specs.ty.Types.{Plus, Comma, fn_ptr_with, named_arg_of, qualified_with}
-use Rattle.syn_laws.specs.aside.Paths as paths
-use Rattle.syn_laws.specs.aside.Tokens as tokens
+use Rattle.syn_path.specs.aside.Paths as paths
+use Rattle.syn_path.specs.aside.Tokens as tokens
 use Rattle.syn_laws.specs.aside.Types as free
 
 module _ {A E : Type 0} (na : List A → List A) (ne : E → E) where

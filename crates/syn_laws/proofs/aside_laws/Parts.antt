@@ -16,12 +16,12 @@ use Rattle.syn_ty.specs.generics.Spelling.{IsBinder, a_binder}
 use Rattle.syn_ty.specs.ty.Parts.{End, Parts, AreMarked, no_further, one_further}
 use Rattle.syn_ty.specs.ty.Spelling.{Relation, IsOptional, absent, present}
 use Rattle.syn_ty.specs.ty.Trees.{BoundLifetimes, GenericParam}
-use Rattle.syn_laws.specs.aside.Tokens as tokens
+use Rattle.syn_path.specs.aside.Tokens as tokens
 use Rattle.syn_laws.specs.aside.Types as free
 use Rattle.syn_laws.proofs.aside_laws.Attrs.{Kept}
-use Rattle.syn_laws.proofs.aside_laws.Both.{cons_same, of5}
-use Rattle.syn_laws.proofs.aside_laws.Same.{Same, all_left, onward, Moved, Mover}
-use Rattle.syn_laws.proofs.aside_laws.Tokens.{MovedMany, listed_move, mark_moves, word_moves}
+use Rattle.syn_path.proofs.aside_laws.Both.{cons_same, of5}
+use Rattle.syn_path.proofs.aside_laws.Same.{Same, all_left, onward, Moved, Mover}
+use Rattle.syn_path.proofs.aside_laws.Tokens.{MovedMany, listed_move, mark_moves, word_moves}
 
 pub record Moving {A E : Type 0} (na : List A → List A) (ne : E → E) (p : Parts A E) : Type 0 where
   pub ty : (place : TypePlace) (e : End) → Mover (free.ty na ne) (p.ty place e)

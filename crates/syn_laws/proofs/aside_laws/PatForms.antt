@@ -8,6 +8,7 @@ use Rattle.token_core.specs.declared.tree.Ident.{Ident}
 use Rattle.token_core.specs.Groups as groups
 use Rattle.token_core.specs.Listed.{AreListed, Anywhere}
 use Rattle.token_core.specs.Loops.{Many}
+use Rattle.token_core.specs.Headline.{Lawful}
 use Rattle.token_core.specs.Prints.{Print}
 use Rattle.token_core.specs.Reads.{Reader, is_ident}
 use Rattle.token_core.specs.Spans.{none, delim_span}
@@ -32,17 +33,17 @@ use Rattle.syn_pat.specs.pat.Admitted.{is_tuple, Fits, IsBoxedName, a_boxed_name
 use Rattle.syn_pat.specs.pat.Pats.{Attrs, Pat, PatIdent, PatRest, PatType, FieldPat, binding_of, field_of, guard_of, or_of, paren_of, path_pat_of, reference_of, rest_of, slice_of, struct_of, tuple_of, tuple_struct_of, typed_of, wild_of, is_rest}
 use Rattle.syn_pat.specs.pat.Spelling.{outer_spelt, IsHead, is_binding_name}
 use Rattle.syn_pat.specs.pat.Spelt.{pats_to, SpellsPat, SpellsGuarded, without_guard, with_guard, SpellsPatType, a_pat_type}
-use Rattle.syn_laws.specs.aside.Lists.{Asides, MovesSubtree}
+use Rattle.syn_path.specs.aside.Lists.{Asides, MovesSubtree}
 use Rattle.syn_laws.specs.aside.Pats as free
-use Rattle.syn_laws.specs.aside.Tokens as tokens
+use Rattle.syn_path.specs.aside.Tokens as tokens
 use Rattle.syn_laws.proofs.aside_laws.Attrs.{Kept, free-other, kept_moves, subtree_moves}
-use Rattle.syn_laws.proofs.aside_laws.Both.{cons_same, of3, of4}
-use Rattle.syn_laws.proofs.aside_laws.Held.{put_in, MovedForm, held_moves}
+use Rattle.syn_path.proofs.aside_laws.Both.{cons_same, of3, of4}
+use Rattle.syn_path.proofs.aside_laws.Held.{put_in, MovedForm, held_moves}
 use Rattle.syn_laws.proofs.aside_laws.Parts.{marked_move, optional_moves}
 use Rattle.syn_laws.proofs.aside_laws.PatLayers.{free-Const, free-Guard, free-Ident, free-Lit, free-Macro, free-Or, free-Paren, free-Path, free-Range, free-Reference, free-Rest, free-Slice, free-Struct, free-Tuple, free-TupleStruct, free-Verbatim, free-Wild, rest_kept, open_kept}
 use Rattle.syn_laws.proofs.aside_laws.PatParts.{attrs_move, const_block_moves, head_moves, Names, names, pat_call_moves, pat_path_moves, range_moves, same_binding, types_move}
-use Rattle.syn_laws.proofs.aside_laws.Same.{Same, same_word, same_group, Rest, all_left, past_word, past_group, onward, Moved, Mover, aside}
-use Rattle.syn_laws.proofs.aside_laws.Tokens.{MovedMany, ended, listed_ended, listed_move, lit_moves, mark_moves, member_moves, word_moves, word_seen}
+use Rattle.syn_path.proofs.aside_laws.Same.{Same, same_word, same_group, Rest, all_left, past_word, past_group, onward, Moved, Mover, aside}
+use Rattle.syn_path.proofs.aside_laws.Tokens.{MovedMany, ended, listed_ended, listed_move, lit_moves, mark_moves, member_moves, word_moves, word_seen}
 
 -- ---- a name held after `box`
 
@@ -373,11 +374,11 @@ module _ {X : Type 0} (spells : Place → X → Toks → Type 0) (fx : X → X) 
       let c = (types_move spells fx given k).ty _ _ _ _ _ _ t a.on in
       record { tree = typed_of [] q.tree a.tree c.tree; is = a_pat_type n k f q.is a.is (ended c); same = of3 (λ (x : Pat X) (w : token.Colon) (z : TypeTree (Attr X) (Expr X)). typed_of [] x w z) q.same a.same c.same }
 
-  pub pat_aside : (place : PatPlace) (form : Pat X → Pat X) (print : Pat X → Print) (reader : Reader (Pat X)) → Asides (promise (SpellsPat spells place) form print reader) (free.pat fx)
-  pat_aside place form print reader = let G = promise (SpellsPat spells place) form print reader in aside G (free.pat fx) (kept_moves G (free.pat fx) (whole_moves place))
+  pub pat_aside : (place : PatPlace) (form : Pat X → Pat X) (print : Pat X → Print) (reader : Reader (Pat X)) → Lawful (promise (SpellsPat spells place) form print reader) → Asides (promise (SpellsPat spells place) form print reader) (free.pat fx)
+  pat_aside place form print reader laws = let G = promise (SpellsPat spells place) form print reader in aside G (free.pat fx) laws (kept_moves G (free.pat fx) (whole_moves place))
 
-  pub guarded_aside : (form : Pat X → Pat X) (print : Pat X → Print) (reader : Reader (Pat X)) → Asides (promise (SpellsGuarded spells) form print reader) (free.pat fx)
-  guarded_aside form print reader = let G = promise (SpellsGuarded spells) form print reader in aside G (free.pat fx) (kept_moves G (free.pat fx) guarded_moves)
+  pub guarded_aside : (form : Pat X → Pat X) (print : Pat X → Print) (reader : Reader (Pat X)) → Lawful (promise (SpellsGuarded spells) form print reader) → Asides (promise (SpellsGuarded spells) form print reader) (free.pat fx)
+  guarded_aside form print reader laws = let G = promise (SpellsGuarded spells) form print reader in aside G (free.pat fx) laws (kept_moves G (free.pat fx) guarded_moves)
 
-  pub typed_aside : (form : PatType X → PatType X) (print : PatType X → Print) (reader : Reader (PatType X)) → Asides (promise (SpellsPatType spells) form print reader) (free.typed fx)
-  typed_aside form print reader = let G = promise (SpellsPatType spells) form print reader in aside G (free.typed fx) (kept_moves G (free.typed fx) typed_moves)
+  pub typed_aside : (form : PatType X → PatType X) (print : PatType X → Print) (reader : Reader (PatType X)) → Lawful (promise (SpellsPatType spells) form print reader) → Asides (promise (SpellsPatType spells) form print reader) (free.typed fx)
+  typed_aside form print reader laws = let G = promise (SpellsPatType spells) form print reader in aside G (free.typed fx) laws (kept_moves G (free.typed fx) typed_moves)

@@ -19,9 +19,9 @@ use Rattle.syn_pat.specs.pat.Pats.{Attrs, LayerOf, Pat, PatGuard, PatIdent, PatO
 use Rattle.syn_pat.specs.pat.Reading.{open_range, open_range_layer}
 use Rattle.syn_ty.specs.ty.Trees.{Path, QSelf, TypeTree}
 use Rattle.syn_laws.specs.aside.Attrs as attr
-use Rattle.syn_laws.specs.aside.Paths as paths
+use Rattle.syn_path.specs.aside.Paths as paths
 use Rattle.syn_laws.specs.aside.Pats as free
-use Rattle.syn_laws.specs.aside.Tokens as tokens
+use Rattle.syn_path.specs.aside.Tokens as tokens
 
 module _ {X : Type 0} (fx : X → X) where
   by_layer : (y : LayerOf X (Pat X)) → free.pat fx (roll-PatOf (Attr X) (Path (Attr X) (Expr X)) (QSelf (Attr X) (Expr X)) (TypeTree (Attr X) (Expr X)) X y) ≡ free.pat_step fx (map-PatOf (Attr X) (Path (Attr X) (Expr X)) (QSelf (Attr X) (Expr X)) (TypeTree (Attr X) (Expr X)) X (Pat X) (Pat X) (free.pat fx) y)

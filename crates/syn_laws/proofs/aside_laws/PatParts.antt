@@ -32,19 +32,19 @@ use Rattle.syn_pat.specs.declared.pat.PatRangeBoundOf.TheVariants as b
 use Rattle.syn_pat.specs.pat.Pats.{Attrs, PatRange, PatRangeBound, pat_range_of, path_pat_of}
 use Rattle.syn_pat.specs.pat.Spelling.{is_self, is_binding, lone_word, outer_spelt, values_spelt, types_to, IsConstBlock, a_const_block, IsPatPath, a_pat_path, IsHead, IsEnd, a_literal_end, a_path_end, a_const_end, IsStart, a_literal_start, a_path_start, a_const_start, IsRange, without_end, without_start, with_both, IsPatCall}
 use Rattle.syn_laws.specs.aside.Attrs as attr
-use Rattle.syn_laws.specs.aside.Lists.{MovesSubtree}
-use Rattle.syn_laws.specs.aside.Paths as paths
+use Rattle.syn_path.specs.aside.Lists.{MovesSubtree}
+use Rattle.syn_path.specs.aside.Paths as paths
 use Rattle.syn_laws.specs.aside.Pats as free
-use Rattle.syn_laws.specs.aside.Tokens as tokens
+use Rattle.syn_path.specs.aside.Tokens as tokens
 use Rattle.syn_laws.specs.aside.Types as types
 use Rattle.syn_laws.proofs.aside_laws.Attrs.{all_move, const_moves, default_moves, len_moves, outer_moves, subtree_moves}
-use Rattle.syn_laws.proofs.aside_laws.Both.{of3}
+use Rattle.syn_path.proofs.aside_laws.Both.{of3}
 use Rattle.syn_laws.proofs.aside_laws.Knot.{knot}
 use Rattle.syn_laws.proofs.aside_laws.Layers.{free-none, free-angle, free-parens}
 use Rattle.syn_laws.proofs.aside_laws.Parts.{Moving}
 use Rattle.syn_laws.proofs.aside_laws.PathForms.{no_try_moves}
-use Rattle.syn_laws.proofs.aside_laws.Same.{Same, same_group, Rest, all_left, past_group, onward, Moved}
-use Rattle.syn_laws.proofs.aside_laws.Tokens.{limits_move, lit_moves, mark_moves, word_moves}
+use Rattle.syn_path.proofs.aside_laws.Same.{Same, same_group, Rest, all_left, past_group, onward, Moved}
+use Rattle.syn_path.proofs.aside_laws.Tokens.{limits_move, lit_moves, mark_moves, word_moves}
 use Rattle.syn_laws.proofs.aside_laws.TypeForms.{type_call_moves}
 
 -- ---- whether arguments are none stays, and so does the word of a path that is one

@@ -29,14 +29,14 @@ use Rattle.syn_ty.specs.ty.Parts.{Manner, clearly, End, Parts}
 use Rattle.syn_ty.specs.ty.Spelling.{Relation}
 use Rattle.syn_ty.specs.ty.Trees.{AngleBracketed, GenericArgument, NamedArg, Parenthesized, Path, PathArguments, PathSegment, QSelf, ReturnType, TypeParamBound, TypeTree}
 use Rattle.syn_ty.specs.ty.Types.{named_arg_of, qself_of}
-use Rattle.syn_laws.specs.aside.Tokens as tokens
+use Rattle.syn_path.specs.aside.Tokens as tokens
 use Rattle.syn_laws.specs.aside.Types as free
-use Rattle.syn_laws.proofs.aside_laws.Both.{cons_same, of3, of4, of5}
-use Rattle.syn_laws.proofs.aside_laws.Held.{put_in, MovedForm}
+use Rattle.syn_path.proofs.aside_laws.Both.{cons_same, of3, of4, of5}
+use Rattle.syn_path.proofs.aside_laws.Held.{put_in, MovedForm}
 use Rattle.syn_laws.proofs.aside_laws.Layers.{free-angle, free-parens, free-lifetime-argument, free-type-argument, free-const-argument, free-assoc-type, free-assoc-const, free-constraint}
 use Rattle.syn_laws.proofs.aside_laws.Parts.{Moving, optional_moves, onto_same, as_long}
-use Rattle.syn_laws.proofs.aside_laws.Same.{Same, same_word, same_group, all_left, past_word, past_group, onward, Moved, Mover}
-use Rattle.syn_laws.proofs.aside_laws.Tokens.{MovedMany, listed_ended, listed_move, mark_moves, word_moves, lifetime_moves, mark_seen, word_seen}
+use Rattle.syn_path.proofs.aside_laws.Same.{Same, same_word, same_group, all_left, past_word, past_group, onward, Moved, Mover}
+use Rattle.syn_path.proofs.aside_laws.Tokens.{MovedMany, listed_ended, listed_move, mark_moves, word_moves, lifetime_moves, mark_seen, word_seen}
 
 styled_seen : (style : PathStyle) {l m : Toks} → Same l m → Styled style l → Styled style m
 styled_seen AsWritten s h = h

@@ -30,19 +30,19 @@ use Rattle.syn_ty.specs.ty.Parts.{Manner, clearly, closed, End, Parts}
 use Rattle.syn_ty.specs.ty.Spelling.{IsOptional, IsInfer, an_infer, IsNever, a_never, IsMacroType, a_macro_type}
 use Rattle.syn_ty.specs.ty.Trees.{BoundLifetimes, NamedArg, Path, QSelf, ReturnType, TypeArray, TypeFnPtr, TypeParen, TypePtr, TypeReference, TypeSlice, TypeTree, TypeTuple}
 use Rattle.syn_ty.specs.ty.Types.{And, Comma, Mut, array_of, array_with, fn_ptr_with, infer_with, infer_of, macro_type_of, macro_type_with, named_arg_of, never_of, never_with, paren_of, paren_with, ptr_of, ptr_with, qualified_with, reference_of, reference_with, slice_of, slice_with, trait_object_with, tuple_of, tuple_with, variadic_of}
-use Rattle.syn_laws.specs.aside.Paths as paths
-use Rattle.syn_laws.specs.aside.Tokens as tokens
+use Rattle.syn_path.specs.aside.Paths as paths
+use Rattle.syn_path.specs.aside.Tokens as tokens
 use Rattle.syn_laws.specs.aside.Types as free
 use Rattle.syn_laws.proofs.aside_laws.Attrs.{Kept}
-use Rattle.syn_laws.proofs.aside_laws.Both.{cons_same, more, of3, of4}
+use Rattle.syn_path.proofs.aside_laws.Both.{cons_same, more, of3, of4}
 use Rattle.syn_laws.proofs.aside_laws.BoundForms.{for_moves, optional_for_moves, object_bounds_move, dyn_moves, impl_moves, bare_bounds_move}
-use Rattle.syn_laws.proofs.aside_laws.Held.{put_in, MovedForm, held_moves, lifetime_seen}
+use Rattle.syn_path.proofs.aside_laws.Held.{put_in, MovedForm, held_moves, lifetime_seen}
 use Rattle.syn_laws.proofs.aside_laws.Layers.{free-Array, free-FnPtr, free-ImplTrait, free-Infer, free-Macro, free-Never, free-Paren, free-Path, free-Ptr, free-Reference, free-Slice, free-TraitObject, free-Tuple, free-Verbatim, free-path-type, free-fn-ptr}
 use Rattle.syn_laws.proofs.aside_laws.Parts.{Moving, optional_moves, mutability_moves, marked_move}
 use Rattle.syn_laws.proofs.aside_laws.PathForms.{no_try_moves, return_moves}
-use Rattle.syn_laws.proofs.aside_laws.Paths.{call_moves}
-use Rattle.syn_laws.proofs.aside_laws.Same.{Same, same_done, same_word, same_group, Rest, all_left, past_word, past_group, onward, Moved}
-use Rattle.syn_laws.proofs.aside_laws.Tokens.{ended, listed_ended, listed_move, mark_moves, word_moves, lifetime_moves, str_moves, mark_seen, word_seen}
+use Rattle.syn_path.proofs.aside_laws.Paths.{call_moves}
+use Rattle.syn_path.proofs.aside_laws.Same.{Same, same_done, same_word, same_group, Rest, all_left, past_word, past_group, onward, Moved}
+use Rattle.syn_path.proofs.aside_laws.Tokens.{ended, listed_ended, listed_move, mark_moves, word_moves, lifetime_moves, str_moves, mark_seen, word_seen}
 
 pub abi_moves : {x : Abi} {l r m : Toks} → IsAbi x l r → Same l m → Moved free.abi IsAbi x r m
 abi_moves (an_abi i j) s =

@@ -15,8 +15,8 @@ use Rattle.syn_attr.specs.declared.expr.ExprConstOf.{ExprConstOf}
 use Rattle.syn_attr.specs.declared.expr.ExprLitOf.{ExprLitOf}
 use Rattle.syn_attr.specs.declared.expr.ExprRange.{ExprRange}
 use Rattle.syn_attr.specs.attr.Attrs.{Attribute, list_of, name_value_of, range_of, lit_of, expr_path_of, const_of, expr_macro_of, block_of, attribute_of}
-use Rattle.syn_laws.specs.aside.Paths.{mod_path, delimiter, mac}
-use Rattle.syn_laws.specs.aside.Tokens.{mark, word, lit, limits_of, bracket, brace}
+use Rattle.syn_path.specs.aside.Paths.{mod_path, delimiter, mac}
+use Rattle.syn_path.specs.aside.Tokens.{mark, word, lit, limits_of, bracket, brace}
 
 abbrev pub style : AttrStyle → AttrStyle
 style y.Outer = y.Outer

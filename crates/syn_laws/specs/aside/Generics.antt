@@ -7,7 +7,7 @@ use Rattle.syn_generics.specs.declared.generics.WhereClauseOf.{WhereClauseOf}
 use Rattle.syn_generics.specs.declared.generics.WherePredicateOf.{WherePredicateOf}
 use Rattle.syn_generics.specs.declared.generics.WherePredicateOf.TheVariants as w
 use Rattle.syn_generics.specs.generics.Params.{generics_of, predicate_lifetime_of, predicate_type_of, where_clause_of}
-use Rattle.syn_laws.specs.aside.Tokens.{mark, word, lifetime, many}
+use Rattle.syn_path.specs.aside.Tokens.{mark, word, lifetime, many}
 use Rattle.syn_laws.specs.aside.Types as types
 
 -- by what attributes and expressions are without their spans

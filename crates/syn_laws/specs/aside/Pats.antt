@@ -13,8 +13,8 @@ use Rattle.syn_pat.specs.declared.pat.PatWild.{PatWild}
 use Rattle.syn_pat.specs.pat.Pats.{Attrs, LayerOf, Pat, PatGuard, PatIdent, PatOr, PatParen, PatPath, PatRange, PatRangeBound, PatReference, PatRest, PatSlice, PatStruct, PatTuple, PatTupleStruct, PatType, FieldPat, guard_of, binding_of, or_of, paren_of, reference_of, slice_of, struct_of, tuple_of, tuple_struct_of, path_pat_of, pat_range_of, typed_of, field_of, rest_of, wild_of}
 use Rattle.syn_ty.specs.ty.Trees.{Path, QSelf, TypeTree}
 use Rattle.syn_laws.specs.aside.Attrs as attr
-use Rattle.syn_laws.specs.aside.Paths as paths
-use Rattle.syn_laws.specs.aside.Tokens.{ident, mark, word, member, limits_of, many, brace, bracket, paren as paren_token}
+use Rattle.syn_path.specs.aside.Paths as paths
+use Rattle.syn_path.specs.aside.Tokens.{ident, mark, word, member, limits_of, many, brace, bracket, paren as paren_token}
 use Rattle.syn_laws.specs.aside.Types as types
 
 module _ {X : Type 0} (subtree : X → X) where

@@ -24,8 +24,8 @@ use Rattle.syn_ty.specs.ty.Grammars as plain
 use Rattle.syn_ty.specs.ty.Promises as promises
 use Rattle.syn_laws.specs.aside.Attrs as free_attrs
 use Rattle.syn_laws.specs.aside.Generics as free_generics
-use Rattle.syn_laws.specs.aside.Lists.{Asides}
-use Rattle.syn_laws.specs.aside.Paths as free_paths
+use Rattle.syn_path.specs.aside.Lists.{Asides}
+use Rattle.syn_path.specs.aside.Paths as free_paths
 use Rattle.syn_laws.specs.aside.Pats as free_patterns
 use Rattle.syn_laws.specs.aside.Types as free
 

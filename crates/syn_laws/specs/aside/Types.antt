@@ -36,9 +36,9 @@ use Rattle.syn_ty.specs.generics.Params.{bound_lifetimes_of, capture_of, const_p
 use Rattle.syn_ty.specs.path.Paths.{angle_of, parens_of, assoc_type_of, assoc_const_of, constraint_of}
 use Rattle.syn_ty.specs.ty.Trees.{Layer, GenericParam, TypeParam, ConstParam, BoundLifetimes, TypeParamBound, TraitBound, PathArguments, Path, PathSegment, GenericArgument, AngleBracketed, AssocType, AssocConst, Constraint, Parenthesized, TypeTree, QSelf, TypeArray, TypeFnPtr, TypeGroup, TypeImplTrait, TypeParen, TypePath, TypePtr, TypeReference, TypeSlice, TypeTraitObject, TypeTuple, NamedArg, ReturnType}
 use Rattle.syn_ty.specs.ty.Types.{array_with, fn_ptr_with, group_with, impl_trait_with, infer_with, macro_type_with, named_arg_of, never_with, paren_with, ptr_with, qself_of, qualified_with, reference_with, slice_with, trait_object_with, tuple_with, variadic_of}
-use Rattle.syn_laws.specs.aside.Paths as paths
-use Rattle.syn_laws.specs.aside.Paths.{mac}
-use Rattle.syn_laws.specs.aside.Tokens.{ident, mark, word, lifetime, str, paren as paren_token, bracket, group_token, many}
+use Rattle.syn_path.specs.aside.Paths as paths
+use Rattle.syn_path.specs.aside.Paths.{mac}
+use Rattle.syn_path.specs.aside.Tokens.{ident, mark, word, lifetime, str, paren as paren_token, bracket, group_token, many}
 
 -- ---- what holds no type
 

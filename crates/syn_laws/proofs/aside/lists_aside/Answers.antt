@@ -1,4 +1,4 @@
-use Rattle.syn_laws.proofs.aside_laws.Streams.{lists_same}
+use Rattle.syn_path.proofs.aside_laws.Streams.{lists_same}
 use Rattle.syn_laws.proofs.aside.lists_aside.Goals as goal
 
 pub returns : goal.returns

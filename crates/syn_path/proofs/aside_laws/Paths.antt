@@ -10,6 +10,7 @@ use Rattle.token_core.specs.Rebuilt.{levels, stream_of}
 use Rattle.token_core.specs.Same.{bare_tree, bare_stream}
 use Rattle.token_core.specs.Spans.{none, delim_span}
 use Rattle.token_core.specs.Clear.{Apart}
+use Rattle.token_core.specs.Prints.{Print}
 use Rattle.token_core.specs.Tokens as token
 use Rattle.token_core.specs.declared.span.Span.{Span}
 use Rattle.token_core.specs.declared.tree.Spacing.{Spacing}
@@ -28,12 +29,14 @@ use Rattle.syn_path.specs.mac.Spelling.{bang_at, Delimits, in_paren, in_brace, i
 use Rattle.syn_path.specs.path.Grammars as paths
 use Rattle.syn_path.specs.path.Paths.{Sep, ModPath, nothing, segment_of, path_of}
 use Rattle.syn_path.specs.path.Spelling.{sep_at, sep_chars, IsLeading, no_leading, leading, AreSegments, last_segment, more_segments, IsBarePath, a_bare_path, IsModPath}
-use Rattle.syn_laws.specs.aside.Lists.{Asides}
-use Rattle.syn_laws.specs.aside.Tokens as tokens
-use Rattle.syn_laws.specs.aside.Paths as free
-use Rattle.syn_laws.proofs.aside_laws.Both.{of3, cons_same}
-use Rattle.syn_laws.proofs.aside_laws.Same.{Same, same_done, same_word, same_mark, same_lit, same_group, visible_same, Rest, all_left, past_word, past_mark, past_group, onward, Moved, aside, moves}
-use Rattle.syn_laws.proofs.aside_laws.Tokens.{apart_on, MovedMany}
+use Rattle.syn_path.specs.aside.Lists.{Asides}
+use Rattle.syn_path.specs.aside.Tokens as tokens
+use Rattle.syn_path.specs.aside.Paths as free
+use Rattle.syn_path.proofs.mac_laws.Laws as call
+use Rattle.syn_path.proofs.path_laws.Laws as path
+use Rattle.syn_path.proofs.aside_laws.Both.{of3, cons_same}
+use Rattle.syn_path.proofs.aside_laws.Same.{Same, same_done, same_word, same_mark, same_lit, same_group, visible_same, Rest, all_left, past_word, past_mark, past_group, onward, Moved, aside, moves}
+use Rattle.syn_path.proofs.aside_laws.Tokens.{apart_on, MovedMany}
 
 -- ---- token lists that are held
 
@@ -95,8 +98,8 @@ module _ {A : Type 0} (none : A) (arguments : A → A) {clear : Bool} {ok : Byte
       let q = segments_move j p.on in
       record { tree = path_of p.tree (q.values, q.marks); rest = q.rest; is = a_bare_path p.is q.is; same = of3 (λ o v w. path_of o (v, w)) p.same q.same q.same_marks; on = q.on; part = onward q.part p.part }
 
-pub mod_style_aside : {A : Type 0} (none : A) (arguments : A → A) (shown : _) → Asides (paths.mod_style none shown) (free.path arguments)
-mod_style_aside none arguments shown = aside (paths.mod_style none shown) (free.path arguments) (moves (paths.mod_style none shown) (free.path arguments) (IsModPath true none) (λ x l i. i) (λ x l i. i) (λ x l r m. path_move none arguments))
+pub mod_style_aside : {A : Type 0} (none : A) (arguments : A → A) (shown : A → Print) → shown none ≡ [] → Asides (paths.mod_style none shown) (free.path arguments)
+mod_style_aside none arguments shown silent = aside (paths.mod_style none shown) (free.path arguments) (path.lawful none shown silent) (moves (paths.mod_style none shown) (free.path arguments) (IsModPath true none) (λ x l i. i) (λ x l i. i) (λ x l r m. path_move none arguments))
 
 -- ---- macro calls
 
@@ -128,4 +131,4 @@ pub call_moves : {clear : Bool} {ok : Bytes → Bool} {x : Macro} {l r m : Toks}
 call_moves (a_macro i a h e) s = let p = path_move nothing (λ a. a) i s in called _ _ _ _ _ _ _ _ _ _ _ p.tree p.on p.part p.is p.same a h e
 
 pub macro_aside : Asides macros.mac free.mac
-macro_aside = aside macros.mac free.mac (moves macros.mac free.mac (IsMacro true) (λ x l i. i) (λ x l i. i) (λ x l r m. call_moves))
+macro_aside = aside macros.mac free.mac call.lawful (moves macros.mac free.mac (IsMacro true) (λ x l i. i) (λ x l i. i) (λ x l r m. call_moves))

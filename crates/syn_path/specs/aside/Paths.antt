@@ -8,7 +8,7 @@ use Rattle.syn_path.specs.declared.path.PathOf.{PathOf}
 use Rattle.syn_path.specs.declared.path.PathSegmentOf.{PathSegmentOf}
 use Rattle.syn_path.specs.mac.Macros.{macro_of}
 use Rattle.syn_path.specs.path.Paths.{ModPath, path_of, segment_of}
-use Rattle.syn_laws.specs.aside.Tokens.{ident, mark, many, paren, brace, bracket}
+use Rattle.syn_path.specs.aside.Tokens.{ident, mark, many, paren, brace, bracket}
 
 -- a path whose arguments are so
 module _ {A : Type 0} (arguments : A → A) where

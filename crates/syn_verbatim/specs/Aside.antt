@@ -1,4 +1,4 @@
--- Tokens in the place of an expression, on lists that are the same aside from spans.
+-- Tokens in the place of an expression without their spans, and on lists that are the same aside from spans.
 use Rattle.std.proofs.Common.{◌≡◌, Bool, false, not, ◌&&◌, ◌==◌, if◌then◌else◌, [], ◌++◌, map, refl, sym, ap, ◌∙◌, append-nil}
 use Rattle.token_core.specs.declared.tree.Delimiter.TheVariants.{Bracket}
 use Rattle.token_core.specs.declared.tree.TokenTree.TheVariants as t
@@ -14,15 +14,18 @@ use Rattle.token_core.proofs.Bares.{bare-ident, bare-punct, bare-literal, bare_s
 use Rattle.syn_path.specs.Supplied.{is_number, is_truth, lone_literal, lone_number, attribute_ahead}
 use Rattle.syn_path.specs.declared.supplied.Place.{Place}
 use Rattle.syn_path.specs.declared.supplied.Place.TheVariants.{ArrayLen, Value, Guard, Block}
+use Rattle.syn_verbatim.specs.declared.expr.VerbatimExpr.{VerbatimExpr}
 use Rattle.syn_verbatim.specs.Held.{held, levels, seen}
-use Rattle.syn_verbatim.specs.Spelling.{fits, spells, verbatim_of}
-use Rattle.syn_laws.specs.aside.Lists.{MovesSubtree}
-use Rattle.syn_laws.specs.aside.Verbatims as free
-use Rattle.syn_laws.proofs.aside_laws.Both.{cons_same, of3}
-use Rattle.syn_laws.proofs.aside_laws.Held.{seen_group}
-use Rattle.syn_laws.proofs.aside_laws.Paths.{stream_same}
-use Rattle.syn_laws.proofs.aside_laws.Same.{Same, same_done, same_word, same_mark, same_lit, same_group, same_of, same_sym}
-use Rattle.syn_laws.proofs.aside_laws.Tokens.{done_seen, group_seen}
+use Rattle.syn_verbatim.specs.Spelling.{fits, print, spells, verbatim_of}
+use Rattle.syn_path.specs.aside.Lists.{MovesSubtree, PrintsAlike}
+use Rattle.syn_path.proofs.aside_laws.Both.{cons_same, of3}
+use Rattle.syn_path.proofs.aside_laws.Held.{seen_group}
+use Rattle.syn_path.proofs.aside_laws.Paths.{stream_same}
+use Rattle.syn_path.proofs.aside_laws.Same.{Same, same_done, same_word, same_mark, same_lit, same_group, same_of, same_sym}
+use Rattle.syn_path.proofs.aside_laws.Tokens.{done_seen, group_seen}
+
+abbrev pub bare : VerbatimExpr → VerbatimExpr
+bare x = verbatim_of (bare_stream x.tokens)
 
 -- ---- what is held
 
@@ -78,8 +81,11 @@ fits_seen Value s = of3 (λ (a b c : Bool). not a && (not b && not c)) (done_see
 fits_seen Guard s = ap not (done_seen s)
 fits_seen Block s = refl
 
--- ---- the law of a supplied subtree
+-- ---- the laws of a supplied subtree
 
-pub verbatim : MovesSubtree spells free.verbatim
-verbatim w x l m v u (i, h) e =
+pub moves : MovesSubtree spells bare
+moves w x l m v u (i, h) e =
     let s = same_of l m u e in (verbatim_of (stream_of_trees (held m)), (refl, sym (fits_seen w s) ∙ h), ap verbatim_of (held_same l m s ∙ ap bare_stream (sym i)))
+
+pub alike : PrintsAlike (λ w. print) bare
+alike w x y e = ap (λ (z : VerbatimExpr). z.tokens) e

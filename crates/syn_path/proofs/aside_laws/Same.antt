@@ -1,17 +1,19 @@
 -- Lists without invisible groups that are the same aside from spans, token by token; and the promise aside from spans.
-use Rattle.std.proofs.Common.{◌≡◌, ℕ, suc, ◌≤◌, true, Some, None, refl, sym, ap, ◌∙◌, subst, arith}
+use Rattle.std.proofs.Common.{◌≡◌, ℕ, suc, ◌≤◌, true, Option, Some, None, Result, Ok, refl, sym, ap, ◌∙◌, subst, arith}
 use Rattle.token_core.specs.declared.span.Span.{Span}
 use Rattle.token_core.specs.declared.span.DelimSpan.{DelimSpan}
 use Rattle.token_core.specs.declared.tree.Delimiter.{Delimiter}
 use Rattle.token_core.specs.declared.tree.LitKind.{LitKind}
 use Rattle.token_core.specs.declared.tree.Spacing.{Spacing}
-use Rattle.token_core.specs.Headline.{Grammar}
+use Rattle.token_core.specs.Headline.{Grammar, Headline, Lawful}
 use Rattle.token_core.specs.Loops.{size}
 use Rattle.token_core.specs.Rebuilt.{Visible, IsVisible}
+use Rattle.token_core.specs.Refusal.{Refusal}
 use Rattle.token_core.specs.Spans.{none, delim_span}
 use Rattle.token_core.specs.Toks.{Bytes, Toks, done, word, mark, lit, group, enter, leave}
 use Rattle.token_core.specs.Trees.{ident, punct, literal}
-use Rattle.syn_laws.specs.aside.Lists.{bare, Asides, Moves}
+use Rattle.token_core.proofs.Headlines.{again}
+use Rattle.syn_path.specs.aside.Lists.{bare, Aside, Asides, Moves}
 
 pub data Same : Toks → Toks → Type 0 where
   same_done : Same done done
@@ -171,9 +173,19 @@ at_end {Is = Is} {m = m} q = (q.tree, ended q.rest q.on q.is, q.same)
 answered : {A : Type 0} (G : Grammar A) (free : A → A) (l : Toks) (a b : A) → ((c : A) → G.spells true c l → c ≡ a) → (c : A) × G.spells true c l × (free c ≡ free b) → free b ≡ free a
 answered G free l a b unique (c, i, e) = sym e ∙ ap free (unique c i)
 
-pub aside : {A : Type 0} (G : Grammar A) (free : A → A) → Moves G free → Asides G free
-aside G free moves l (Some a) h = λ v m s b i. answered G free l a b (h v).unique (moves b m l v i s)
-aside G free moves l None h = λ v m s b i. let q = moves b m l v i s in h v q.0 q.1
+read : {A : Type 0} (G : Grammar A) (free : A → A) → Moves G free → (l : Toks) (o : Option A) → Headline G l o → Aside G free l o
+read G free moves l (Some a) h = λ v m s b i. answered G free l a b (h v).unique (moves b m l v i s)
+read G free moves l None h = λ v m s b i. let q = moves b m l v i s in h v q.0 q.1
+
+-- a list has one tree, since the read answers each that spells it clearly
+one_tree : {A : Type 0} (G : Grammar A) → Lawful G → (l : Toks) (a b : A) → Visible l → G.spells true a l → G.spells true b l → b ≡ a
+one_tree {A} G laws l a b v i j = let e : ◌≡◌ {A = Result A Refusal} (Ok b) (Ok a) = sym (again G laws l b v j) ∙ again G laws l a v i in cc
+
+pub aside : {A : Type 0} (G : Grammar A) (free : A → A) → Lawful G → Moves G free → Asides G free
+aside G free laws moves = record {
+  read = read G free moves;
+  trees = λ l m v s a b i j. answered G free l a b (λ c k. one_tree G laws l a c v i k) (moves b m l v j s);
+}
 
 -- a grammar by what its trees spell on the front of a list
 pub moves : {A : Type 0} (G : Grammar A) (free : A → A) (Is : A → Toks → Toks → Type 0) → ((x : A) (l : Toks) → G.spells true x l → Is x l done) → ((x : A) (l : Toks) → Is x l done → G.spells true x l) → Mover free Is → Moves G free

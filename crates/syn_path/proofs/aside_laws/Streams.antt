@@ -17,7 +17,7 @@ use Rattle.token_core.proofs.Bares.{bare-ident, bare-punct, bare-literal, bare-o
 use Rattle.token_core.proofs.Flats.{tree-roll, group-roll, stream-roll}
 use Rattle.token_core.proofs.Rebuilds.{tree-ident, tree-punct, tree-literal}
 use Rattle.token_core.proofs.Rows.{with_each, beside}
-use Rattle.syn_laws.specs.aside.Lists.{bare, AreSame}
+use Rattle.syn_path.specs.aside.Lists.{bare, AreSame}
 
 abbrev Spares : TokenStream → Type 0
 Spares c = (r : Toks) → bare (s.stream c r) ≡ s.stream (bare_stream c) (bare r)

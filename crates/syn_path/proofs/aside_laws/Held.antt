@@ -21,10 +21,10 @@ use Rattle.token_core.specs.Trees as s
 use Rattle.token_core.specs.Trees.{TokenStream, group_of, ident, punct, literal, row, toks, trees}
 use Rattle.token_core.proofs.Bares.{bare-ident, bare-punct, bare-literal, bare-of-group, bare_group_is, bare_stream_is}
 use Rattle.token_core.proofs.Rebuilds.{tree-ident, tree-punct, tree-literal, tree-group, visible-tree, toks-stream_of, stream_of-toks}
-use Rattle.syn_laws.proofs.aside_laws.Both.{cons_same}
-use Rattle.syn_laws.proofs.aside_laws.Same.{Same, same_done, same_word, same_mark, same_lit, same_group, same_size, visible_same, Rest, all_left, past_word, past_mark, past_lit, past_group, onward, one_rest, Moved}
-use Rattle.syn_laws.proofs.aside_laws.Tokens.{some_if}
-use Rattle.syn_laws.proofs.aside_laws.Paths.{stream_same}
+use Rattle.syn_path.proofs.aside_laws.Both.{cons_same}
+use Rattle.syn_path.proofs.aside_laws.Same.{Same, same_done, same_word, same_mark, same_lit, same_group, same_size, visible_same, Rest, all_left, past_word, past_mark, past_lit, past_group, onward, one_rest, Moved}
+use Rattle.syn_path.proofs.aside_laws.Tokens.{some_if}
+use Rattle.syn_path.proofs.aside_laws.Paths.{stream_same}
 
 -- ---- a token tree
 

@@ -26,9 +26,9 @@ use Rattle.token_core.specs.Spellings.{AreChars, no_char, last_char, more_chars,
 use Rattle.token_core.specs.Spans.{none}
 use Rattle.token_core.specs.Toks.{Bytes, Toks, done}
 use Rattle.token_core.specs.Trees.{ident, literal}
-use Rattle.syn_laws.specs.aside.Tokens as free
-use Rattle.syn_laws.proofs.aside_laws.Both.{cons_same}
-use Rattle.syn_laws.proofs.aside_laws.Same.{Same, same_done, same_word, same_mark, same_lit, same_group, Rest, all_left, past_word, past_mark as past_one_mark, past_lit, onward, Moved, Mover}
+use Rattle.syn_path.specs.aside.Tokens as free
+use Rattle.syn_path.proofs.aside_laws.Both.{cons_same}
+use Rattle.syn_path.proofs.aside_laws.Same.{Same, same_done, same_word, same_mark, same_lit, same_group, Rest, all_left, past_word, past_mark as past_one_mark, past_lit, onward, Moved, Mover}
 
 -- ---- tests
 
