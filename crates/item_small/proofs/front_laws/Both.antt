@@ -7,7 +7,6 @@ use Rattle.token_core.specs.Rebuilt.{Visible}
 use Rattle.token_core.specs.Refusal.{Refusal}
 use Rattle.token_core.specs.Stream.{Stream}
 use Rattle.token_core.specs.Toks.{Toks, done}
-use Rattle.token_core.specs.Trees.{row}
 use Rattle.token_core.proofs.Rows.{row-append}
 use Rattle.token_core.proofs.Steps.{link}
 use Rattle.token_core.proofs.Turns.{chain, same_pair}

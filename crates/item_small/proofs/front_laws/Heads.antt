@@ -1,14 +1,13 @@
 -- What is promised of fronts is promised of whole reads, where the end may follow.
-use Rattle.std.proofs.Common.{◌≡◌, Bool, true, false, Option, Some, None, Result, Ok, Err, refl, sym, ◌∙◌, ap, subst}
+use Rattle.std.proofs.Common.{◌≡◌, true, false, Option, Some, None, Result, Ok, Err, refl, sym, ◌∙◌, ap, subst}
 use Rattle.token_core.specs.declared.span.Span.{Span}
 use Rattle.token_core.specs.Fronted.{Begun, FrontAgain, Fronting, Fronted}
-use Rattle.token_core.specs.Headline.{Answered, Grammar, Headline, Heads, Reprinted, ended, end_of, printed, whole}
+use Rattle.token_core.specs.Headline.{Answered, Grammar, Headline, Heads, Reprinted, ended, end_of, printed}
 use Rattle.token_core.specs.Reads.{Outcome, first_of, kept, leaves}
-use Rattle.token_core.specs.Rebuilt.{Visible}
 use Rattle.token_core.specs.Refusal.{Refusal}
 use Rattle.token_core.specs.Spans.{none}
 use Rattle.token_core.specs.Stream.{Stream, started}
-use Rattle.token_core.specs.Toks.{Toks, done}
+use Rattle.token_core.specs.Toks.{done}
 use Rattle.token_core.proofs.Took.{leaves_none, took_all}
 
 first_none : (f g : Option Span) → first_of f g ≡ None → f ≡ None

@@ -1,6 +1,6 @@
 -- What was refused in a step is refused by the whole, as it was.
 use Rattle.std.specs.Prelude.{◌≢◌, IsErr, IsErrAnd}
-use Rattle.std.proofs.Common.{◌≡◌, Result, Ok, Err, refl, sym, ap, subst}
+use Rattle.std.proofs.Common.{◌≡◌, Result, Ok, Err, sym, ap, subst}
 use Rattle.token_core.specs.declared.error.ErrorKind.TheVariants.{OutOfMemory}
 use Rattle.token_core.specs.Fronted.{Fronting, Fronted}
 use Rattle.token_core.specs.Reads.{Outcome, Reader, Reads, and_then}

@@ -1,5 +1,5 @@
 -- What is promised of a tree by its parts is promised of the tree.
-use Rattle.std.proofs.Common.{◌≡◌, Bool, true, false, None, Ok, Err, refl, sym, ◌∙◌, ap, subst}
+use Rattle.std.proofs.Common.{◌≡◌, Bool, true, false, None, Ok, Err, sym, ◌∙◌, ap, subst}
 use Rattle.token_core.specs.Fronted.{Begun, FrontAgain, Fronting, Fronted, ReadTo, printed_on}
 use Rattle.token_core.specs.Rebuilt.{Visible}
 use Rattle.token_core.specs.Refusal.{Refusal}

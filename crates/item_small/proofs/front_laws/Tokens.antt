@@ -1,12 +1,12 @@
 -- A token on the front of a list: what its read promises there, whatever follows.
 use Rattle.std.specs.Prelude.{◌≢◌}
-use Rattle.std.proofs.Common.{◌≡◌, ℕ, ◌≤◌, Bool, true, false, if◌then◌else◌, Option, Some, None, List, length, Result, Ok, Err, refl, sym, ◌∙◌, ap, subst, arith}
+use Rattle.std.proofs.Common.{◌≡◌, ℕ, ◌≤◌, Bool, true, false, if◌then◌else◌, Option, None, length, Result, Ok, Err, refl, sym, ap, subst}
 use Rattle.token_core.specs.declared.error.ErrorKind.TheVariants.{OutOfMemory}
 use Rattle.token_core.specs.declared.mark.Mark.{Mark}
 use Rattle.token_core.specs.declared.span.Span.{Span}
 use Rattle.token_core.specs.declared.tree.Ident.{Ident}
 use Rattle.token_core.specs.declared.word.Word.{Word}
-use Rattle.token_core.specs.Fronted.{Fronting, Fronted, FrontLaws, ReadTo, printed_on}
+use Rattle.token_core.specs.Fronted.{Fronting, Fronted, FrontLaws, ReadTo}
 use Rattle.token_core.specs.Marks.{chars_of, read, read_named}
 use Rattle.token_core.specs.Prints as p
 use Rattle.token_core.specs.Prints.{Print}

@@ -1,6 +1,6 @@
 -- The body of an item: how it is read, and what is promised of it by what is promised of its fields, or of its `;`.
 use Rattle.std.specs.Prelude.{◌≢◌}
-use Rattle.std.proofs.Common.{◌≡◌, ℕ, suc, ◌||◌, Bool, true, false, if◌then◌else◌, List, [], ◌∷◌, Option, Some, None, Ok, Err, refl, sym, ◌∙◌, ap, subst, arith}
+use Rattle.std.proofs.Common.{◌≡◌, ℕ, suc, Bool, true, false, if◌then◌else◌, List, [], ◌∷◌, Option, Some, None, Ok, Err, refl, sym, ◌∙◌, ap, subst, arith}
 use Rattle.token_core.specs.declared.error.ErrorKind.TheVariants.{OutOfMemory}
 use Rattle.token_core.specs.declared.span.DelimSpan.{DelimSpan}
 use Rattle.token_core.specs.declared.span.Span.{Span}
@@ -10,7 +10,7 @@ use Rattle.token_core.specs.declared.tree.Delimiter.TheVariants as d
 use Rattle.token_core.specs.Fronted.{Begun, FrontAgain, Fronting, Fronted, ReadTo, printed_on}
 use Rattle.token_core.specs.Front.{front}
 use Rattle.token_core.specs.Groups.{brace, brace_name, opened}
-use Rattle.token_core.specs.Loops.{Many, listed, size, terminated}
+use Rattle.token_core.specs.Loops.{Many, listed, size}
 use Rattle.token_core.specs.Prints as p
 use Rattle.token_core.specs.Reads as reads
 use Rattle.token_core.specs.Reads.{Fails, Gives, Outcome, Reader, and_then, closing, expected, finished, first_of, in_group, inside, leaves, open_group, past, same_delimiter, sees_group}
@@ -21,7 +21,6 @@ use Rattle.token_core.specs.Stream.{Scope, Stream}
 use Rattle.token_core.specs.Terminated.{Terminates, Refused}
 use Rattle.token_core.specs.Tokens as token
 use Rattle.token_core.specs.Toks.{Toks, done, word, mark, lit, group, enter, leave}
-use Rattle.token_core.specs.Trees.{row, toks}
 use Rattle.token_core.proofs.MarkSpells.{mark_seen}
 use Rattle.token_core.proofs.Rebuilds.{stream-trees, visible-tree}
 use Rattle.token_core.proofs.Steps.{chosen, link}

@@ -1,13 +1,13 @@
 -- Values with commas between them, up to the end of a stream: how the list is read, and what is promised of it by what is promised of each value.
 use Rattle.std.specs.Prelude.{◌≢◌, not}
-use Rattle.std.proofs.Common.{◌≡◌, ℕ, zero, suc, ◌<◌, ◌≤◌, Bool, true, false, List, [], ◌∷◌, ◌++◌, map, None, Ok, Err, refl, sym, ◌∙◌, ap, subst, arith, append-nil}
+use Rattle.std.proofs.Common.{◌≡◌, ℕ, zero, suc, ◌<◌, Bool, true, false, List, [], ◌∷◌, ◌++◌, map, None, Ok, Err, refl, sym, ◌∙◌, ap, subst, arith, append-nil}
 use Rattle.token_core.specs.declared.error.ErrorKind.TheVariants.{OutOfMemory}
-use Rattle.token_core.specs.Fronted.{Begun, FrontAgain, Fronting, Fronted, ReadTo, printed_on}
+use Rattle.token_core.specs.Fronted.{Begun, FrontAgain, Fronting, Fronted, printed_on}
 use Rattle.token_core.specs.Listed.{AreListed, Anywhere, none_left, last_value, value_and_mark}
 use Rattle.token_core.specs.Lists.{joined}
 use Rattle.token_core.specs.Loops.{Many, listed, listed_from, size, terminated}
 use Rattle.token_core.specs.Prints as p
-use Rattle.token_core.specs.Reads.{Fails, Follows, Gives, Outcome, Reader, and_then, is_done}
+use Rattle.token_core.specs.Reads.{Fails, Follows, Gives, Outcome, Reader, is_done}
 use Rattle.token_core.specs.Rebuilt.{Visible}
 use Rattle.token_core.specs.Refusal.{Refusal}
 use Rattle.token_core.specs.Spellings.{IsMark}

@@ -1,9 +1,8 @@
 -- An item: what is promised of it by what is promised of its parts.
-use Rattle.std.proofs.Common.{◌≡◌, ◌||◌, Bool, true, false, Ok, Err, refl, ap}
+use Rattle.std.proofs.Common.{◌≡◌, ◌||◌, Bool, true, false, Ok, Err, refl}
 use Rattle.token_core.specs.declared.tree.Delimiter.TheVariants as d
 use Rattle.token_core.specs.declared.tree.Ident.{Ident}
 use Rattle.token_core.specs.Fronted.{Fronting, Fronted}
-use Rattle.token_core.specs.Headline.{Heads}
 use Rattle.token_core.specs.Reads.{Follows, sees_group}
 use Rattle.token_core.specs.Refusal.{Refusal}
 use Rattle.token_core.specs.Stream.{Stream}

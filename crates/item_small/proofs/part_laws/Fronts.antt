@@ -1,6 +1,6 @@
 -- The fronts of a struct's parts: attributes keep theirs, by the laws of the trait; and each part fits before the next.
 use Rattle.std.specs.Prelude.{not}
-use Rattle.std.proofs.Common.{◌≡◌, ◌||◌, ◌⊎◌, inl, inr, Bool, true, false, List, [], Option, Some, None, Result, Ok, refl, sym, ◌∙◌, ap, subst}
+use Rattle.std.proofs.Common.{◌≡◌, ◌||◌, ◌⊎◌, inl, inr, Bool, true, false, List, [], Option, Result, refl, ◌∙◌, ap}
 use Rattle.token_core.specs.declared.tree.Delimiter.TheVariants.{Brace}
 use Rattle.token_core.specs.Fronted.{Fronted, FrontLaws}
 use Rattle.token_core.specs.Marks.{text_of}

@@ -1,8 +1,7 @@
 -- How an item is read.
-use Rattle.std.specs.Prelude.{Bool, if◌then◌else◌, Err, codes}
+use Rattle.std.specs.Prelude.{if◌then◌else◌, Err, codes}
 use Rattle.token_core.specs.declared.tree.Delimiter.TheVariants.{Brace}
 use Rattle.token_core.specs.declared.tree.Ident.{Ident}
-use Rattle.token_core.specs.Fronted.{Fronting}
 use Rattle.token_core.specs.Groups.{brace, brace_name}
 use Rattle.token_core.specs.Loops.{terminated}
 use Rattle.token_core.specs.Marks as marks

@@ -1,7 +1,6 @@
 -- What the parts of a struct spell on the front of a list, over what attributes and expressions read, spell, have as their normal form and print.
 use Rattle.std.specs.Prelude.{Bool, List, Option, not}
 use Rattle.token_core.specs.Fronted.{Fronting}
-use Rattle.token_core.specs.Headline.{Grammar}
 use Rattle.token_core.specs.Prints.{Print}
 use Rattle.token_core.specs.Reads.{Reader}
 use Rattle.token_core.specs.Tokens as token
