@@ -15,15 +15,15 @@ use Rattle.syn_forms.specs.predicates.Reading.{ends_predicate}
 use Rattle.syn_generics.specs.generics.Promises as promises
 use Rattle.syn_generics.specs.generics.Promises.{follows_clause, follows_generics}
 use Rattle.syn_generics.specs.generics.Spelt as by
-use Rattle.syn_generics.proofs.generics_laws.AloneMet.{generics_met, optional_where_clause_met}
-use Rattle.syn_generics.proofs.generics_laws.AloneTold.{generics_took, optional_where_clause_took}
-use Rattle.syn_generics.proofs.generics_laws.ClausesMet.{brace_no_mark, predicate_no_lt, predicate_over}
-use Rattle.syn_generics.proofs.generics_laws.WholeAgain as again
+use Rattle.syn_generics.proofs.generics_laws.complete.Alone.{generics_met, optional_where_clause_met}
+use Rattle.syn_generics.proofs.generics_laws.sound.Alone.{generics_took, optional_where_clause_took}
+use Rattle.syn_generics.proofs.generics_laws.complete.Clauses.{brace_no_mark, predicate_no_lt, predicate_over}
+use Rattle.syn_generics.proofs.generics_laws.reprint.Whole as again
 use Rattle.syn_ty.proofs.ty_laws.FrontLaws.{lawful_on_fronts}
 use Rattle.syn_ty.proofs.ty_laws.Given.{Given}
-use Rattle.syn_ty.proofs.ty_laws.KnotAgain.{GivenAgain}
-use Rattle.syn_ty.proofs.ty_laws.KnotMet.{GivenMeets}
-use Rattle.syn_ty.proofs.ty_laws.ParamsMet.{done_no_mark, of_either, other_char}
+use Rattle.syn_ty.proofs.ty_laws.reprint.Knot.{GivenAgain}
+use Rattle.syn_ty.proofs.ty_laws.complete.Knot.{GivenMeets}
+use Rattle.syn_ty.proofs.ty_laws.complete.Params.{done_no_mark, of_either, other_char}
 
 -- ---- what may follow
 

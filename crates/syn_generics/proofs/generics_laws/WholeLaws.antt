@@ -18,13 +18,13 @@ use Rattle.syn_ty.specs.ty.Parts.{Manner, plainly, clearly}
 use Rattle.syn_ty.specs.ty.Promises.{promise}
 use Rattle.syn_ty.proofs.generics_laws.Members.{some}
 use Rattle.syn_ty.proofs.ty_laws.Given.{Given}
-use Rattle.syn_ty.proofs.ty_laws.KnotAgain.{GivenAgain}
-use Rattle.syn_ty.proofs.ty_laws.KnotMet.{GivenMeets}
+use Rattle.syn_ty.proofs.ty_laws.reprint.Knot.{GivenAgain}
+use Rattle.syn_ty.proofs.ty_laws.complete.Knot.{GivenMeets}
 use Rattle.syn_generics.specs.generics.Promises as promises
 use Rattle.syn_generics.specs.generics.Spelt as by
-use Rattle.syn_generics.proofs.generics_laws.WholeAgain as again
-use Rattle.syn_generics.proofs.generics_laws.WholeMet as met
-use Rattle.syn_generics.proofs.generics_laws.WholeTold as told
+use Rattle.syn_generics.proofs.generics_laws.reprint.Whole as again
+use Rattle.syn_generics.proofs.generics_laws.complete.Whole as met
+use Rattle.syn_generics.proofs.generics_laws.sound.Whole as told
 use Rattle.syn_ty.proofs.ty_laws.WholeLaws.{lawful}
 
 -- what prints its normal form clearly is read again, where the grammar meets its laws

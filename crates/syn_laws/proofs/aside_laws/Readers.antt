@@ -48,9 +48,9 @@ use Rattle.syn_forms.specs.tokens.Grammars as forms
 use Rattle.syn_forms.proofs.tokens_laws.Mutability.{mutability_lawful}
 use Rattle.syn_ty.proofs.ty_laws.Given.{Given, given as given_by}
 use Rattle.syn_ty.proofs.ty_laws.GivenWhole.{attributes_again, attributes_met, given_again, given_meets}
-use Rattle.syn_ty.proofs.ty_laws.KnotAgain.{GivenAgain}
-use Rattle.syn_ty.proofs.ty_laws.KnotMet.{GivenMeets}
-use Rattle.syn_ty.proofs.ty_laws.Laws as plain_laws
+use Rattle.syn_ty.proofs.ty_laws.reprint.Knot.{GivenAgain}
+use Rattle.syn_ty.proofs.ty_laws.complete.Knot.{GivenMeets}
+use Rattle.syn_ty.proofs.ty_laws.Leaves as plain_laws
 use Rattle.syn_ty.proofs.ty_laws.WholeLaws as type_laws
 use Rattle.syn_generics.proofs.generics_laws.WholeLaws as clause_laws
 use Rattle.syn_pat.proofs.pat_laws.GivenLaws.{guarded_lawful, pat_lawful, typed_lawful}

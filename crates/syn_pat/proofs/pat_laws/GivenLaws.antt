@@ -16,8 +16,8 @@ use Rattle.syn_attr.specs.attr.Reading.{outer}
 use Rattle.syn_attr.specs.attr.ConstsMeet.{consts_meet}
 use Rattle.syn_attr.specs.attr.OuterMeet.{attributes_meet}
 use Rattle.syn_ty.proofs.ty_laws.GivenWhole.{given_again, given_meets}
-use Rattle.syn_ty.proofs.ty_laws.KnotAgain.{GivenAgain}
-use Rattle.syn_ty.proofs.ty_laws.KnotMet.{GivenMeets}
+use Rattle.syn_ty.proofs.ty_laws.reprint.Knot.{GivenAgain}
+use Rattle.syn_ty.proofs.ty_laws.complete.Knot.{GivenMeets}
 use Rattle.syn_pat.specs.declared.place.PatPlace.{PatPlace}
 use Rattle.syn_pat.specs.pat.Normal as normal
 use Rattle.syn_pat.specs.pat.Printing as printing

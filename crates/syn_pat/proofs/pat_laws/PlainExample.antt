@@ -15,7 +15,7 @@ use Rattle.syn_ty.specs.ty.Parts.{plainly, clearly, IsVerbatim}
 use Rattle.syn_pat.specs.pat.Admitted.{IsBoxed, a_box, a_single, a_range}
 use Rattle.syn_pat.specs.pat.Spelling.{a_literal_start, without_end}
 use Rattle.syn_pat.specs.pat.Spelt.{pats_to}
-use Rattle.syn_pat.proofs.pat_laws.PartsAgain.{stops_done}
+use Rattle.syn_pat.proofs.pat_laws.reprint.Parts.{stops_done}
 
 module _ {X : Type 0} (spells : Place → X → Toks → Type 0) (a b c d : Span) where
   -- `box`, `1`, and two dots, both Joint

@@ -13,8 +13,8 @@ use Rattle.syn_path.specs.declared.supplied.Place.TheVariants.{Block, Guard}
 use Rattle.syn_path.specs.Supplied.{Reprints, SameOutcome, UsesUp}
 use Rattle.syn_attr.specs.attr.Consts.{normal_values_of, values_of}
 use Rattle.syn_attr.specs.attr.Reading.{outer}
-use Rattle.syn_ty.proofs.ty_laws.KnotAgain.{GivenAgain}
-use Rattle.syn_ty.proofs.ty_laws.KnotMet.{GivenMeets}
+use Rattle.syn_ty.proofs.ty_laws.reprint.Knot.{GivenAgain}
+use Rattle.syn_ty.proofs.ty_laws.complete.Knot.{GivenMeets}
 use Rattle.syn_pat.specs.declared.place.PatPlace.{PatPlace}
 use Rattle.syn_pat.specs.pat.Normal as normal
 use Rattle.syn_pat.specs.pat.Printing as printing
@@ -23,10 +23,10 @@ use Rattle.syn_pat.specs.pat.Reading.{values}
 use Rattle.syn_pat.specs.pat.Spelling.{outer_spelt, values_spelt}
 use Rattle.syn_pat.specs.pat.Spelt.{SpellsGuarded, SpellsPat, SpellsPatType}
 use Rattle.syn_ty.proofs.ty_laws.WholeLaws.{lawful}
-use Rattle.syn_pat.proofs.pat_laws.PartsAgain.{SuppliedAgain}
-use Rattle.syn_pat.proofs.pat_laws.WholeAgain as again
-use Rattle.syn_pat.proofs.pat_laws.WholeMet as met
-use Rattle.syn_pat.proofs.pat_laws.WholeTold as told
+use Rattle.syn_pat.proofs.pat_laws.reprint.Parts.{SuppliedAgain}
+use Rattle.syn_pat.proofs.pat_laws.reprint.Whole as again
+use Rattle.syn_pat.proofs.pat_laws.complete.Whole as met
+use Rattle.syn_pat.proofs.pat_laws.sound.Whole as told
 
 module _ {X : Type 0} (reads : Place → Reader X) (spells : Place → X → Toks → Type 0) (normals : Place → X → X) (prints : Place → X → Print)
     (steady : (p : Place) (s t : Stream) → s.rest ≡ t.rest → SameOutcome (reads p s) (reads p t))

@@ -18,13 +18,13 @@ use Rattle.syn_ty.specs.ty.Promises as promises
 use Rattle.syn_ty.specs.ty.Promises.{follows_type, fronting, promise}
 use Rattle.syn_ty.specs.ty.Spelling.{Relation}
 use Rattle.syn_ty.specs.ty.Spelt as by
-use Rattle.syn_ty.proofs.ty_laws.AloneMet.{ty_met}
-use Rattle.syn_ty.proofs.ty_laws.AloneTold.{begun_ending, ty_took}
+use Rattle.syn_ty.proofs.ty_laws.complete.Alone.{ty_met}
+use Rattle.syn_ty.proofs.ty_laws.sound.Alone.{begun_ending, ty_took}
 use Rattle.syn_ty.proofs.ty_laws.Given.{Given}
-use Rattle.syn_ty.proofs.ty_laws.KnotAgain.{GivenAgain}
-use Rattle.syn_ty.proofs.ty_laws.KnotMet.{GivenMeets}
-use Rattle.syn_ty.proofs.ty_laws.ParamsMet.{Over, comma_over, done_over, of_either, over_fits}
-use Rattle.syn_ty.proofs.ty_laws.WholeAgain as again
+use Rattle.syn_ty.proofs.ty_laws.reprint.Knot.{GivenAgain}
+use Rattle.syn_ty.proofs.ty_laws.complete.Knot.{GivenMeets}
+use Rattle.syn_ty.proofs.ty_laws.complete.Params.{Over, comma_over, done_over, of_either, over_fits}
+use Rattle.syn_ty.proofs.ty_laws.reprint.Whole as again
 
 -- ---- of every grammar
 

@@ -13,7 +13,7 @@ use Rattle.syn_forms.proofs.tokens_laws.Fronts.{nothing_left}
 use Rattle.syn_ty.specs.path.Reading.{sees_const}
 use Rattle.syn_ty.specs.ty.Spelt.{spelt_to}
 use Rattle.syn_path.specs.Took.{Along}
-use Rattle.syn_ty.proofs.ty_laws.Within.{Supplied}
+use Rattle.syn_ty.proofs.ty_laws.sound.Within.{Supplied}
 
 -- ---- lengths that meet their laws
 

@@ -16,9 +16,9 @@ use Rattle.syn_path.specs.Values.{NormalValues, ReadValues, SpelledValues, Value
 use Rattle.syn_path.specs.Whole.{Answers, AttributesMeet, ConstsMeet, Fewer, NotMore, ReprintsFront}
 use Rattle.syn_path.proofs.Words.{AgainFront}
 use Rattle.syn_ty.specs.path.Reading.{sees_const}
-use Rattle.syn_ty.proofs.ty_laws.KnotAgain.{GivenAgain}
-use Rattle.syn_ty.proofs.ty_laws.KnotMet.{GivenMeets}
-use Rattle.syn_ty.proofs.ty_laws.Met.{Less, NoMore}
+use Rattle.syn_ty.proofs.ty_laws.reprint.Knot.{GivenAgain}
+use Rattle.syn_ty.proofs.ty_laws.complete.Knot.{GivenMeets}
+use Rattle.syn_ty.proofs.ty_laws.complete.Within.{Less, NoMore}
 
 -- ---- the words of both layers
 

@@ -17,11 +17,11 @@ use Rattle.syn_ty.specs.ty.Promises as promises
 use Rattle.syn_ty.specs.ty.Promises.{promise}
 use Rattle.syn_ty.specs.ty.Spelt as by
 use Rattle.syn_ty.proofs.ty_laws.Given.{Given}
-use Rattle.syn_ty.proofs.ty_laws.KnotAgain.{GivenAgain}
-use Rattle.syn_ty.proofs.ty_laws.KnotMet.{GivenMeets}
-use Rattle.syn_ty.proofs.ty_laws.WholeAgain as again
-use Rattle.syn_ty.proofs.ty_laws.WholeMet as met
-use Rattle.syn_ty.proofs.ty_laws.WholeTold as told
+use Rattle.syn_ty.proofs.ty_laws.reprint.Knot.{GivenAgain}
+use Rattle.syn_ty.proofs.ty_laws.complete.Knot.{GivenMeets}
+use Rattle.syn_ty.proofs.ty_laws.reprint.Whole as again
+use Rattle.syn_ty.proofs.ty_laws.complete.Whole as met
+use Rattle.syn_ty.proofs.ty_laws.sound.Whole as told
 
 -- a grammar that is sound, complete and reprinted
 pub lawful : {F : Type 0} (Is : Manner → F → Toks → Type 0) {n : F → F} {f : F → Print} {reader : Reader F} → told.Whole reader (Is loosely) → met.Whole reader (Is clearly) → again.Whole Is n f → Lawful (promise Is n f reader)

@@ -1,8 +1,8 @@
 use Rattle.token_core.proofs.Headlines.{heads}
 use Rattle.syn_ty.specs.ty.Promises as promises
 use Rattle.syn_ty.proofs.ty_laws.WholeLaws.{optional_abi_lawful}
-use Rattle.syn_ty.proofs.ty_laws.WholeTold.{takes}
-use Rattle.syn_ty.proofs.ty_laws.FunctionsTold.{optional_abi_took}
+use Rattle.syn_ty.proofs.ty_laws.sound.Whole.{takes}
+use Rattle.syn_ty.proofs.ty_laws.sound.Functions.{optional_abi_took}
 use Rattle.syn_ty.proofs.ty.Abi.parse_optional.Goals as goal
 
 pub returns-clause-promise : goal.returns-clause-promise

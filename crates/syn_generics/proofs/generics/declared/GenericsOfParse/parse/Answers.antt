@@ -3,10 +3,10 @@ use Rattle.token_core.proofs.Headlines.{heads}
 use Rattle.syn_generics.specs.generics.Promises as promises
 use Rattle.syn_generics.proofs.generics_laws.FrontLaws.{generics_fronts}
 use Rattle.syn_generics.proofs.generics_laws.WholeLaws.{generics_lawful}
-use Rattle.syn_ty.proofs.ty_laws.WholeTold.{takes}
+use Rattle.syn_ty.proofs.ty_laws.sound.Whole.{takes}
 use Rattle.syn_ty.proofs.ty_laws.GivenWhole.{given_again, given_meets}
 use Rattle.syn_ty.proofs.ty_laws.Given.{given}
-use Rattle.syn_generics.proofs.generics_laws.AloneTold.{generics_took}
+use Rattle.syn_generics.proofs.generics_laws.sound.Alone.{generics_took}
 use Rattle.syn_generics.proofs.generics.declared.GenericsOfParse.parse.Goals as goal
 
 pub returns-clause-promise : goal.returns-clause-promise

@@ -1,10 +1,10 @@
 use Rattle.syn_pat.specs.pat.Promises as promises
 use Rattle.token_core.proofs.Headlines.{heads}
-use Rattle.syn_ty.proofs.ty_laws.WholeTold.{takes}
+use Rattle.syn_ty.proofs.ty_laws.sound.Whole.{takes}
 use Rattle.syn_pat.specs.declared.place.PatPlace.TheVariants.{Multi}
-use Rattle.syn_pat.proofs.pat_laws.WholeTold.{supplied}
+use Rattle.syn_pat.proofs.pat_laws.sound.Whole.{supplied}
 use Rattle.syn_pat.proofs.pat_laws.GivenLaws.{pat_lawful}
-use Rattle.syn_pat.proofs.pat_laws.KnotTold.{pat_took}
+use Rattle.syn_pat.proofs.pat_laws.sound.Knot.{pat_took}
 use Rattle.syn_pat.proofs.pat.read.Pat+X.parse_multi.Goals as goal
 
 pub returns-clause-promise : goal.returns-clause-promise

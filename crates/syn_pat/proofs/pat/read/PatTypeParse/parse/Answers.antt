@@ -1,9 +1,9 @@
 use Rattle.syn_pat.specs.pat.Promises as promises
 use Rattle.token_core.proofs.Headlines.{heads}
-use Rattle.syn_ty.proofs.ty_laws.WholeTold.{takes}
-use Rattle.syn_pat.proofs.pat_laws.WholeTold.{supplied}
+use Rattle.syn_ty.proofs.ty_laws.sound.Whole.{takes}
+use Rattle.syn_pat.proofs.pat_laws.sound.Whole.{supplied}
 use Rattle.syn_pat.proofs.pat_laws.GivenLaws.{typed_lawful}
-use Rattle.syn_pat.proofs.pat_laws.KnotTold.{typed_took}
+use Rattle.syn_pat.proofs.pat_laws.sound.Knot.{typed_took}
 use Rattle.syn_pat.proofs.pat.read.PatTypeParse.parse.Goals as goal
 
 pub returns-clause-promise : goal.returns-clause-promise

@@ -1,8 +1,8 @@
 use Rattle.token_core.proofs.Headlines.{heads}
 use Rattle.syn_ty.specs.ty.Promises as promises
 use Rattle.syn_ty.proofs.ty_laws.WholeLaws.{captured_lawful}
-use Rattle.syn_ty.proofs.ty_laws.WholeTold.{takes}
-use Rattle.syn_ty.proofs.ty_laws.BoundTold.{captured_took}
+use Rattle.syn_ty.proofs.ty_laws.sound.Whole.{takes}
+use Rattle.syn_ty.proofs.ty_laws.sound.Bound.{captured_took}
 use Rattle.syn_ty.proofs.generics.read.CapturedParamParse.parse.Goals as goal
 
 pub returns-clause-promise : goal.returns-clause-promise

@@ -1,10 +1,10 @@
 use Rattle.token_core.proofs.Headlines.{heads}
 use Rattle.syn_ty.specs.ty.Promises as promises
 use Rattle.syn_ty.proofs.ty_laws.WholeLaws.{param_lawful}
-use Rattle.syn_ty.proofs.ty_laws.WholeTold.{takes}
+use Rattle.syn_ty.proofs.ty_laws.sound.Whole.{takes}
 use Rattle.syn_ty.proofs.ty_laws.GivenWhole.{given_again, given_meets}
 use Rattle.syn_ty.proofs.ty_laws.Given.{given}
-use Rattle.syn_ty.proofs.ty_laws.AloneTold.{param_took}
+use Rattle.syn_ty.proofs.ty_laws.sound.Alone.{param_took}
 use Rattle.syn_forms.specs.declared.places.ParamPlace.TheVariants.{Binder}
 use Rattle.syn_ty.proofs.generics.read.GenericParamOfParse.parse.Goals as goal
 

@@ -1,7 +1,7 @@
 use Rattle.token_core.proofs.Headlines.{heads}
 use Rattle.syn_ty.specs.ty.Promises as promises
 use Rattle.syn_ty.proofs.ty_laws.WholeLaws.{lifetime_param_lawful}
-use Rattle.syn_ty.proofs.ty_laws.WholeTold.{takes, lifetime_param_took}
+use Rattle.syn_ty.proofs.ty_laws.sound.Whole.{takes, lifetime_param_took}
 use Rattle.syn_ty.proofs.ty_laws.GivenWhole.{attributes_again, attributes_met}
 use Rattle.syn_ty.proofs.generics.read.LifetimeParamOfParse.parse.Goals as goal
 

@@ -1,8 +1,8 @@
 use Rattle.token_core.proofs.Headlines.{heads}
 use Rattle.syn_ty.specs.ty.Promises as promises
 use Rattle.syn_ty.proofs.ty_laws.WholeLaws.{capture_lawful}
-use Rattle.syn_ty.proofs.ty_laws.WholeTold.{takes}
-use Rattle.syn_ty.proofs.ty_laws.BoundTold.{capture_took}
+use Rattle.syn_ty.proofs.ty_laws.sound.Whole.{takes}
+use Rattle.syn_ty.proofs.ty_laws.sound.Bound.{capture_took}
 use Rattle.syn_ty.proofs.generics.read.PreciseCaptureParse.parse.Goals as goal
 
 pub returns-clause-promise : goal.returns-clause-promise

@@ -1,10 +1,10 @@
 use Rattle.token_core.proofs.Headlines.{heads}
 use Rattle.syn_ty.specs.ty.Promises as promises
 use Rattle.syn_ty.proofs.ty_laws.WholeLaws.{impl_trait_lawful}
-use Rattle.syn_ty.proofs.ty_laws.WholeTold.{takes}
+use Rattle.syn_ty.proofs.ty_laws.sound.Whole.{takes}
 use Rattle.syn_ty.proofs.ty_laws.GivenWhole.{given_again, given_meets}
 use Rattle.syn_ty.proofs.ty_laws.Given.{given}
-use Rattle.syn_ty.proofs.ty_laws.AloneTold.{impl_trait_took}
+use Rattle.syn_ty.proofs.ty_laws.sound.Alone.{impl_trait_took}
 use Rattle.syn_forms.specs.declared.places.TypePlace.TheVariants.{Plus}
 use Rattle.syn_ty.proofs.ty.read.TypeImplTraitOfTypeParamBoundOfParse.parse.Goals as goal
 

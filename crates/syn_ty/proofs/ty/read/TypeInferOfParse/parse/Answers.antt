@@ -1,6 +1,6 @@
 use Rattle.token_core.proofs.Headlines.{heads}
 use Rattle.syn_ty.specs.ty.Grammars as grammars
-use Rattle.syn_ty.proofs.ty_laws.Laws.{infer_lawful, infer_front}
+use Rattle.syn_ty.proofs.ty_laws.Leaves.{infer_lawful, infer_front}
 use Rattle.syn_ty.proofs.ty.read.TypeInferOfParse.parse.Goals as goal
 
 pub returns-clause-promise : goal.returns-clause-promise

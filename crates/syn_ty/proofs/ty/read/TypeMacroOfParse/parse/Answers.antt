@@ -1,6 +1,6 @@
 use Rattle.token_core.proofs.Headlines.{heads}
 use Rattle.syn_ty.specs.ty.Grammars as grammars
-use Rattle.syn_ty.proofs.ty_laws.Laws.{macro_type_lawful, macro_type_front}
+use Rattle.syn_ty.proofs.ty_laws.Leaves.{macro_type_lawful, macro_type_front}
 use Rattle.syn_ty.proofs.ty.read.TypeMacroOfParse.parse.Goals as goal
 
 pub returns-clause-promise : goal.returns-clause-promise

@@ -1,6 +1,6 @@
 use Rattle.token_core.proofs.Headlines.{heads}
 use Rattle.syn_ty.specs.ty.Grammars as grammars
-use Rattle.syn_ty.proofs.ty_laws.Laws.{never_lawful, never_front}
+use Rattle.syn_ty.proofs.ty_laws.Leaves.{never_lawful, never_front}
 use Rattle.syn_ty.proofs.ty.read.TypeNeverOfParse.parse.Goals as goal
 
 pub returns-clause-promise : goal.returns-clause-promise

@@ -3,11 +3,11 @@ use Rattle.token_core.proofs.Headlines.{heads}
 use Rattle.syn_ty.specs.ty.Promises as promises
 use Rattle.syn_ty.proofs.ty_laws.FrontLaws.{ty_fronts}
 use Rattle.syn_ty.proofs.ty_laws.WholeLaws.{ty_lawful}
-use Rattle.syn_ty.proofs.ty_laws.WholeTold.{takes}
+use Rattle.syn_ty.proofs.ty_laws.sound.Whole.{takes}
 use Rattle.syn_ty.proofs.ty_laws.GivenWhole.{given_again, given_meets}
 use Rattle.syn_ty.proofs.ty_laws.Given.{given}
-use Rattle.syn_ty.proofs.ty_laws.AloneTold.{ty_took}
-use Rattle.syn_ty.proofs.ty_laws.GroupedTold.{takes_group}
+use Rattle.syn_ty.proofs.ty_laws.sound.Alone.{ty_took}
+use Rattle.syn_ty.proofs.ty_laws.sound.Grouped.{takes_group}
 use Rattle.syn_forms.specs.declared.places.TypePlace.TheVariants.{Plus}
 use Rattle.syn_ty.proofs.ty.read.TypeOfParse.parse.Goals as goal
 

@@ -1,10 +1,10 @@
 use Rattle.token_core.proofs.Headlines.{heads}
 use Rattle.syn_ty.specs.ty.Promises as promises
 use Rattle.syn_ty.proofs.ty_laws.WholeLaws.{trait_object_lawful}
-use Rattle.syn_ty.proofs.ty_laws.WholeTold.{takes}
+use Rattle.syn_ty.proofs.ty_laws.sound.Whole.{takes}
 use Rattle.syn_ty.proofs.ty_laws.GivenWhole.{given_again, given_meets}
 use Rattle.syn_ty.proofs.ty_laws.Given.{given}
-use Rattle.syn_ty.proofs.ty_laws.AloneTold.{trait_object_took}
+use Rattle.syn_ty.proofs.ty_laws.sound.Alone.{trait_object_took}
 use Rattle.syn_forms.specs.declared.places.TypePlace.TheVariants.{NoPlus}
 use Rattle.syn_ty.proofs.ty.read.TypeTraitObjectOf+TypeParamBoundOf+A+E+A.without_plus.Goals as goal
 

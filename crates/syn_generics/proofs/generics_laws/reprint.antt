@@ -1,0 +1,4 @@
+pub mod Clauses
+pub mod Generics
+pub mod Stripped
+pub mod Whole

@@ -1,0 +1,5 @@
+pub mod Alone
+pub mod AlongAlone
+pub mod Clauses
+pub mod Higher
+pub mod Whole

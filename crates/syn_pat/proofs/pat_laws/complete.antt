@@ -1,0 +1,15 @@
+pub mod Bindings
+pub mod Calls
+pub mod Cases
+pub mod Fields
+pub mod Firsts
+pub mod Fronts
+pub mod Groups
+pub mod Knot
+pub mod Names
+pub mod Ranges
+pub mod Singles
+pub mod Structs
+pub mod Turns
+pub mod Whole
+pub mod Within

@@ -1,0 +1,10 @@
+pub mod Begins
+pub mod Cases
+pub mod Fields
+pub mod Kinds
+pub mod Knot
+pub mod Normals
+pub mod Parts
+pub mod PatsMove
+pub mod Singles
+pub mod Whole

@@ -1,0 +1,12 @@
+pub mod Along
+pub mod Bindings
+pub mod Calls
+pub mod Cases
+pub mod Colons
+pub mod Fields
+pub mod Knot
+pub mod Names
+pub mod Ranges
+pub mod Singles
+pub mod Whole
+pub mod Within
