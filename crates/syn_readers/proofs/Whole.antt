@@ -7,10 +7,10 @@ use Rattle.token_core.specs.Stream.{Stream, started}
 use Rattle.token_core.specs.declared.error.ErrorKind.TheVariants.{OutOfMemory}
 use Rattle.token_core.specs.declared.span.Span.{Span}
 use Rattle.token_core.specs.Reads.{Reader, Outcome, Ends, Refuses, WholeRead, Promised, Parsed, Gives, Fails, kept, leaves}
-use Rattle.token_core.specs.Headline.{Grammar, Headline, Lawful, end_of, ended}
+use Rattle.token_core.specs.Headline.{Grammar, Headline, Lawful, Reprinted, end_of, ended}
 use Rattle.token_core.proofs.Headlines.{heads}
 use Rattle.token_core.specs.Prints.{Print}
-use Rattle.syn_readers.specs.Readers.{Category, Reprints, Prints, Shows, whole_in}
+use Rattle.syn_readers.specs.Readers.{Category, Reprints, Prints, Shows, Viewed, whole_in}
 
 refuses-whole : {A : Type 0} (f : Reader A) (scope : Span) (l : Toks) (e : Refusal) → Refuses (Gives f) (Fails f) (started scope l) e → whole_in f scope l ≡ Err e
 refuses-whole f scope l e (inl h) = ap end_of h
@@ -22,6 +22,12 @@ ends-whole f scope l a h = ap end_of h.read ∙ ap (ended a h.last) h.is
 pub prints-reprints : {A : Type 0} (C : Category A) (scope : Span) (l : Toks) (r : Result TokenStream Refusal) → Prints (Gives C.reader) (Fails C.reader) C.promise C.print scope l r → Reprints C scope l r
 prints-reprints C scope l (Ok s) h = (h.0, ends-whole C.reader scope l h.0 h.1, h.2, h.3)
 prints-reprints C scope l (Err e) h = λ k. (refuses-whole C.reader scope l e (h k).0, (h k).1)
+
+-- the same of a view that is printed as it is read again
+pub viewed-prints : {A : Type 0} (G : Grammar A) (view : A → A) → ((a : A) → G.plain a → Reprinted G (view a)) → (print : A → Print) (scope : Span) (l : Toks) (r : Result TokenStream Refusal) → Prints (Gives G.reader) (Fails G.reader) (Headline G) print scope l r →
+    Prints (Gives G.reader) (Fails G.reader) (Viewed G view) print scope l r
+viewed-prints G view law print scope l (Ok s) h = (h.0, h.1, (h.2, law h.0), h.3)
+viewed-prints G view law print scope l (Err e) h = h
 
 -- what a whole read refuses, a print of its answer refuses
 pub refused-prints : {A : Type 0} (reads : Stream → A → Stream → Type 0) (refuses : Stream → Refusal → Type 0) (promise : Toks → Option A → Type 0) (print : A → Print) (scope : Span) (l : Toks) (r : Result A Refusal) (s : Result TokenStream Refusal) (e : Refusal) → r ≡ Err e → s ≡ Err e → WholeRead reads refuses (started scope l) r → Promised (promise l) r → Prints reads refuses promise print scope l s

@@ -6,7 +6,7 @@ use Rattle.token_core.specs.Toks.{Bytes, Toks}
 use Rattle.token_core.specs.Trees.{TokenStream, trees}
 use Rattle.token_core.specs.Rebuilt.{Visible}
 use Rattle.token_core.specs.Refusal.{Refusal}
-use Rattle.token_core.specs.Headline.{Grammar, Headline, end_of}
+use Rattle.token_core.specs.Headline.{Grammar, Headline, Reprinted, end_of}
 use Rattle.token_core.specs.Prints.{Print}
 use Rattle.token_core.specs.declared.span.Span.{Span}
 use Rattle.token_core.specs.Stream.{Stream, started}
@@ -109,6 +109,15 @@ pub record Category (A : Type 0) : Type 1 where
 -- with the whole promise
 abbrev pub of_grammar : {A : Type 0} → Grammar A → Category A
 of_grammar G = record { reader = G.reader; print = G.print; promise = Headline G; clear = G.spells true; refused = λ l a h v c. h v a c; unique = λ l a b h v c. (h v).unique a c }
+
+-- the whole promise; and of an answer that is plain, its view, a tree of its own, is printed as it is read again
+abbrev pub Viewed : {A : Type 0} → Grammar A → (A → A) → Toks → Option A → Type 0
+Viewed G view l (Some a) = Headline G l (Some a) × (G.plain a → Reprinted G (view a))
+Viewed G view l None = Headline G l None
+
+-- with a view of a tree that prints as a tree does, as the same reader reads
+abbrev pub of_tree_view : {A : Type 0} → Grammar A → (A → A) → Category A
+of_tree_view G view = record { reader = G.reader; print = λ a. G.print (view a); promise = Viewed G view; clear = G.spells true; refused = λ l a h v c. h v a c; unique = λ l a b h v c. (h.0 v).unique a c }
 
 -- with the view of a tree as its print
 abbrev pub of_view : {A : Type 0} → Grammar A → (A → Print) → Category A
@@ -223,7 +232,7 @@ module _ {A E : Type 0} (attrs : R (List A)) (values : ReadValues E) (sa : Bool 
   generics_category g.Capture = of_grammar promises.capture
   generics_category g.Captured = of_grammar promises.captured
   generics_category g.Declared = of_grammar (generics_promises.generics attrs values sa se na ne pa pe)
-  generics_category g.ImplGenerics = of_view (generics_promises.generics attrs values sa se na ne pa pe) (impl_generics pa pe)
+  generics_category g.ImplGenerics = of_tree_view (generics_promises.generics attrs values sa se na ne pa pe) views.stripped
   generics_category g.TypeGenerics = of_view (generics_promises.generics attrs values sa se na ne pa pe) views.names
   generics_category g.Turbofish = of_view (generics_promises.generics attrs values sa se na ne pa pe) views.turbofish
   generics_category g.WhereClause = of_grammar (generics_promises.where_clause attrs values sa se na ne pa pe)

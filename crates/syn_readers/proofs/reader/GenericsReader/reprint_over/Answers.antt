@@ -1,6 +1,11 @@
 use Rattle.token_core.specs.Trees.{toks}
-use Rattle.syn_readers.proofs.Whole.{prints-reprints}
-use Rattle.syn_readers.specs.Readers.{generics_category}
+use Rattle.syn_ty.proofs.ty_laws.Given.{given}
+use Rattle.syn_ty.proofs.ty_laws.GivenWhole.{given_again, given_meets}
+use Rattle.syn_generics.proofs.generics_laws.WholeLaws.{stripped_reprinted}
+use Rattle.syn_generics.specs.generics.Promises as promises
+use Rattle.syn_generics.specs.generics.Views as views
+use Rattle.syn_readers.proofs.Whole.{prints-reprints, viewed-prints}
+use Rattle.syn_readers.specs.Readers.{generics_category, impl_generics}
 use Rattle.syn_readers.specs.declared.reader.GenericsReader.TheVariants as r
 use Rattle.syn_readers.proofs.reader.GenericsReader.reprint_over.Goals as goal
 
@@ -62,7 +67,11 @@ returns-in-Declared g c =
 pub returns-in-ImplGenerics : goal.returns-in-ImplGenerics
 returns-in-ImplGenerics g c =
     let C = generics_category g.A.Attributes.reads g.E.Value.reads g.A.Attributes.spells g.E.Value.spells g.A.Attributes.normal g.E.Value.normal g.A.Attributes.shown g.E.Value.values r.ImplGenerics in
-    rw c.in-ImplGenerics.is (prints-reprints C c.args.scope (toks c.args.tokens) c.reprint_impl_generics.result c.reprint_impl_generics.ensures)
+    let G = promises.generics g.A.Attributes.reads g.E.Value.reads g.A.Attributes.spells g.E.Value.spells g.A.Attributes.normal g.E.Value.normal g.A.Attributes.shown g.E.Value.values in
+    let law = stripped_reprinted (given g.met.A.Attributes.told g.met.E.Value.consts g.met.E.Value.lengths) (given_meets g.met.A.Attributes.met g.met.E.Value.met g.met.E.Value.lengths)
+        (given_again g.met.A.Attributes.met g.met.E.Value.met g.met.E.Value.lengths g.met.A.Attributes.bare) in
+    rw c.in-ImplGenerics.is (prints-reprints C c.args.scope (toks c.args.tokens) c.reprint_impl_generics.result
+        (viewed-prints G views.stripped law (impl_generics g.A.Attributes.shown g.E.Value.values) c.args.scope (toks c.args.tokens) c.reprint_impl_generics.result c.reprint_impl_generics.ensures))
 
 pub returns-in-TypeGenerics : goal.returns-in-TypeGenerics
 returns-in-TypeGenerics g c =
