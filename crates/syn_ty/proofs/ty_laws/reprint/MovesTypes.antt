@@ -198,4 +198,3 @@ module _ {A E : Type 0} (part : Manner → Parts A E) (k : Toks) (up : Moving k 
   type_moves (an_infer_type i) q = let a = infer_moves k i q in record { calm = a.calm; is = an_infer_type a.is }
   type_moves (a_never_type i) q = let a = never_moves k i q in record { calm = a.calm; is = a_never_type a.is }
   type_moves {l = l} {r = r} (a_verbatim_type {t = t} (i, h)) q = let a = verbatim_moves i q in record { calm = a.calm; is = a_verbatim_type (a.is, holds_before t l r k h) }
-

@@ -69,9 +69,9 @@ returns-in-ImplGenerics g c =
     let C = generics_category g.A.Attributes.reads g.E.Value.reads g.A.Attributes.spells g.E.Value.spells g.A.Attributes.normal g.E.Value.normal g.A.Attributes.shown g.E.Value.values r.ImplGenerics in
     let G = promises.generics g.A.Attributes.reads g.E.Value.reads g.A.Attributes.spells g.E.Value.spells g.A.Attributes.normal g.E.Value.normal g.A.Attributes.shown g.E.Value.values in
     let law = stripped_reprinted (given g.met.A.Attributes.told g.met.E.Value.consts g.met.E.Value.lengths) (given_meets g.met.A.Attributes.met g.met.E.Value.met g.met.E.Value.lengths)
-        (given_again g.met.A.Attributes.met g.met.E.Value.met g.met.E.Value.lengths g.met.A.Attributes.bare) in
+    (given_again g.met.A.Attributes.met g.met.E.Value.met g.met.E.Value.lengths g.met.A.Attributes.bare) in
     rw c.in-ImplGenerics.is (prints-reprints C c.args.scope (toks c.args.tokens) c.reprint_impl_generics.result
-        (viewed-prints G views.stripped law (impl_generics g.A.Attributes.shown g.E.Value.values) c.args.scope (toks c.args.tokens) c.reprint_impl_generics.result c.reprint_impl_generics.ensures))
+    (viewed-prints G views.stripped law (impl_generics g.A.Attributes.shown g.E.Value.values) c.args.scope (toks c.args.tokens) c.reprint_impl_generics.result c.reprint_impl_generics.ensures))
 
 pub returns-in-TypeGenerics : goal.returns-in-TypeGenerics
 returns-in-TypeGenerics g c =
