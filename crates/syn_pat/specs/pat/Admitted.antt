@@ -1,5 +1,5 @@
 -- Which lists a pattern spells in its place: every form.
-use Rattle.std.specs.Prelude.{◌≡◌, Bool, true, false, List, [], ◌∷◌, Option, Some, None}
+use Rattle.std.specs.Prelude.{◌≡◌, ◌&&◌, Bool, true, false, not, List, [], ◌∷◌, Option, Some, None}
 use Rattle.token_core.specs.declared.lit.Lit.{Lit}
 use Rattle.token_core.specs.declared.member.Member.{Member}
 use Rattle.token_core.specs.declared.member.Member.TheVariants as member
@@ -45,6 +45,10 @@ allows_vert Single = false
 allows_vert Multi = false
 allows_vert LeadingVert = true
 allows_vert Element = true
+
+-- a path is a lone word that a pattern binds before none
+abbrev pub nowhere : Toks → Bool
+nowhere r = false
 
 -- ---- patterns that stand alone in their group, and elements
 
@@ -107,41 +111,52 @@ module _ {X : Type 0} (spells : Place → X → Toks → Type 0) (part : Manner 
   abbrev pub AreElements : PatPlace → List (Pat X) → List Comma → Toks → Type 0
   AreElements place xs cs c = AreListed (λ (_ : Bool). part how place) (IsMark (is_clear how)) Anywhere true xs cs c done
 
-  -- ---- a single pattern
+  -- ---- a single pattern, where a path may be a lone word that a pattern binds before these
 
-  pub data IsSingle : Pat X → Toks → Toks → Type 0 where
-    a_binding_pat : {x : PatIdent X} {l r : Toks} → IsBinding x l r → IsSingle (v.Ident x) l r
-    a_wild : {w : token.Underscore} {l r : Toks} → IsWord w l r → IsSingle (v.Wild (wild_of [] w)) l r
-    a_rest : {d : token.DotDot} {l r : Toks} → IsMark (is_clear how) d l r → IsSingle (v.Rest (rest_of [] d)) l r
-    a_literal : {x : Lit} {l r : Toks} → IsLit x l r → IsSingle (v.Lit (lit_of [] x)) l r
-    a_const : {x : ExprConstOf (Attr X) X} {l r : Toks} → IsConstBlock spells x l r → IsSingle (v.Const x) l r
-    a_call : {x : Macro} {l r : Toks} → IsPatCall (is_clear how) x l r → IsSingle (v.Macro (expr_macro_of [] x)) l r
-    -- not a lone `Ident` or `self`
-    a_path : {q : Option (QSelf (Attr X) (Expr X))} {p : Path (Attr X) (Expr X)} {l r : Toks} → IsPatPath spells how q p l r → is_binding (lone_word q p) ≡ false → IsSingle (v.Path (path_pat_of [] q p)) l r
-    a_range : {x : PatRange X} {l r : Toks} → IsRange spells how x l r → IsSingle (v.Range x) l r
+  pub data IsSingleWhere (lone : Toks → Bool) : Pat X → Toks → Toks → Type 0 where
+    a_binding_pat : {x : PatIdent X} {l r : Toks} → IsBinding x l r → IsSingleWhere lone (v.Ident x) l r
+    a_wild : {w : token.Underscore} {l r : Toks} → IsWord w l r → IsSingleWhere lone (v.Wild (wild_of [] w)) l r
+    a_rest : {d : token.DotDot} {l r : Toks} → IsMark (is_clear how) d l r → IsSingleWhere lone (v.Rest (rest_of [] d)) l r
+    a_literal : {x : Lit} {l r : Toks} → IsLit x l r → IsSingleWhere lone (v.Lit (lit_of [] x)) l r
+    a_const : {x : ExprConstOf (Attr X) X} {l r : Toks} → IsConstBlock spells x l r → IsSingleWhere lone (v.Const x) l r
+    a_call : {x : Macro} {l r : Toks} → IsPatCall (is_clear how) x l r → IsSingleWhere lone (v.Macro (expr_macro_of [] x)) l r
+    -- not a lone `Ident` or `self`, but where that may be
+    a_path : {q : Option (QSelf (Attr X) (Expr X))} {p : Path (Attr X) (Expr X)} {l r : Toks} → IsPatPath spells how q p l r → not (lone r) && is_binding (lone_word q p) ≡ false → IsSingleWhere lone (v.Path (path_pat_of [] q p)) l r
+    a_range : {x : PatRange X} {l r : Toks} → IsRange spells how x l r → IsSingleWhere lone (v.Range x) l r
     -- without `mut` it does not begin with `mut`
-    a_reference : {a : token.And} {x : Pat X} {l m r : Toks} → IsMark (is_clear how) a l m → token.sees_mut m ≡ false → part how Single x m r → IsSingle (v.Reference (reference_of [] a None x)) l r
-    a_mutable_reference : {a : token.And} {u : token.Mut} {x : Pat X} {l m n r : Toks} → IsMark (is_clear how) a l m → IsWord u m n → part how Single x n r → IsSingle (v.Reference (reference_of [] a (Some u) x)) l r
+    a_reference : {a : token.And} {x : Pat X} {l m r : Toks} → IsMark (is_clear how) a l m → token.sees_mut m ≡ false → part how Single x m r → IsSingleWhere lone (v.Reference (reference_of [] a None x)) l r
+    a_mutable_reference : {a : token.And} {u : token.Mut} {x : Pat X} {l m n r : Toks} → IsMark (is_clear how) a l m → IsWord u m n → part how Single x n r → IsSingleWhere lone (v.Reference (reference_of [] a (Some u) x)) l r
     -- not `..`
-    a_paren : {s : DelimSpan} {x : Pat X} {c r : Toks} → part how LeadingVert x c done → is_rest x ≡ false → IsSingle (v.Paren (paren_of [] (groups.paren s) x)) (group Parenthesis s c r) r
-    a_tuple : {s : DelimSpan} {xs : List (Pat X)} {cs : List Comma} {c r : Toks} → AreElements LeadingVert xs cs c → is_tuple xs cs ≡ true → IsSingle (v.Tuple (tuple_of [] (groups.paren s) (xs, cs))) (group Parenthesis s c r) r
-    a_slice : {s : DelimSpan} {xs : List (Pat X)} {cs : List Comma} {c r : Toks} → AreElements Element xs cs c → IsSingle (v.Slice (slice_of [] (groups.bracket s) (xs, cs))) (group Bracket s c r) r
+    a_paren : {s : DelimSpan} {x : Pat X} {c r : Toks} → part how LeadingVert x c done → is_rest x ≡ false → IsSingleWhere lone (v.Paren (paren_of [] (groups.paren s) x)) (group Parenthesis s c r) r
+    a_tuple : {s : DelimSpan} {xs : List (Pat X)} {cs : List Comma} {c r : Toks} → AreElements LeadingVert xs cs c → is_tuple xs cs ≡ true → IsSingleWhere lone (v.Tuple (tuple_of [] (groups.paren s) (xs, cs))) (group Parenthesis s c r) r
+    a_slice : {s : DelimSpan} {xs : List (Pat X)} {cs : List Comma} {c r : Toks} → AreElements Element xs cs c → IsSingleWhere lone (v.Slice (slice_of [] (groups.bracket s) (xs, cs))) (group Bracket s c r) r
     a_tuple_struct : {q : Option (QSelf (Attr X) (Expr X))} {p : Path (Attr X) (Expr X)} {s : DelimSpan} {xs : List (Pat X)} {cs : List Comma} {l c r : Toks} →
-        IsHead spells how q p l (group Parenthesis s c r) → AreElements LeadingVert xs cs c → IsSingle (v.TupleStruct (tuple_struct_of [] q p (groups.paren s) (xs, cs))) l r
+        IsHead spells how q p l (group Parenthesis s c r) → AreElements LeadingVert xs cs c → IsSingleWhere lone (v.TupleStruct (tuple_struct_of [] q p (groups.paren s) (xs, cs))) l r
     a_struct : {q : Option (QSelf (Attr X) (Expr X))} {p : Path (Attr X) (Expr X)} {s : DelimSpan} {w : Many (FieldPat X) Comma} {o : Option (PatRest X)} {l c r : Toks} →
-        IsHead spells how q p l (group Brace s c r) → AreFields w o c → IsSingle (v.Struct (struct_of [] q p (groups.brace s) w o)) l r
+        IsHead spells how q p l (group Brace s c r) → AreFields w o c → IsSingleWhere lone (v.Struct (struct_of [] q p (groups.brace s) w o)) l r
     -- `box` and a single pattern are held verbatim
-    a_verbatim : {t : TokenStream} {l r : Toks} → IsVerbatim (IsBoxed part) how t l r → IsSingle (v.Verbatim t) l r
+    a_verbatim : {t : TokenStream} {l r : Toks} → IsVerbatim (IsBoxed part) how t l r → IsSingleWhere lone (v.Verbatim t) l r
 
   -- ---- a pattern in its place
 
   -- a first case and, after `|`, further ones
-  pub data AreCases : List (Pat X) → List token.Bar → Toks → Toks → Type 0 where
+  pub data AreCasesWhere (lone : Toks → Bool) : List (Pat X) → List token.Bar → Toks → Toks → Type 0 where
     cases : {x : Pat X} {c : token.Bar} {xs : List (Pat X)} {cs : List token.Bar} {l m n r : Toks} →
-        IsSingle x l m → IsMark (is_clear how) c m n → AreListed (λ (_ : Bool). part how Single) (IsMark (is_clear how)) Nowhere true xs cs n r → AreCases (x ∷ xs) (c ∷ cs) l r
+        IsSingleWhere lone x l m → IsMark (is_clear how) c m n → AreListed (λ (_ : Bool). part how Single) (IsMark (is_clear how)) Nowhere true xs cs n r → AreCasesWhere lone (x ∷ xs) (c ∷ cs) l r
 
-  pub data IsPat (place : PatPlace) : Pat X → Toks → Toks → Type 0 where
-    a_single : {x : Pat X} {l r : Toks} → IsSingle x l r → Fits place x → IsPat place x l r
-    some_cases : {xs : List (Pat X)} {cs : List token.Bar} {l r : Toks} → allows_cases place ≡ true → AreCases xs cs l r → IsPat place (v.Or (or_of [] None (xs, cs))) l r
-    one_after_vert : {b : token.Bar} {x : Pat X} {l m r : Toks} → allows_vert place ≡ true → IsMark (is_clear how) b l m → IsSingle x m r → IsPat place (v.Or (or_of [] (Some b) (x ∷ [], []))) l r
-    some_after_vert : {b : token.Bar} {xs : List (Pat X)} {cs : List token.Bar} {l m r : Toks} → allows_vert place ≡ true → IsMark (is_clear how) b l m → AreCases xs cs m r → IsPat place (v.Or (or_of [] (Some b) (xs, cs))) l r
+  pub data IsPatWhere (lone : Toks → Bool) (place : PatPlace) : Pat X → Toks → Toks → Type 0 where
+    a_single : {x : Pat X} {l r : Toks} → IsSingleWhere lone x l r → Fits place x → IsPatWhere lone place x l r
+    some_cases : {xs : List (Pat X)} {cs : List token.Bar} {l r : Toks} → allows_cases place ≡ true → AreCasesWhere lone xs cs l r → IsPatWhere lone place (v.Or (or_of [] None (xs, cs))) l r
+    one_after_vert : {b : token.Bar} {x : Pat X} {l m r : Toks} → allows_vert place ≡ true → IsMark (is_clear how) b l m → IsSingleWhere lone x m r → IsPatWhere lone place (v.Or (or_of [] (Some b) (x ∷ [], []))) l r
+    some_after_vert : {b : token.Bar} {xs : List (Pat X)} {cs : List token.Bar} {l m r : Toks} → allows_vert place ≡ true → IsMark (is_clear how) b l m → AreCasesWhere lone xs cs m r → IsPatWhere lone place (v.Or (or_of [] (Some b) (xs, cs))) l r
+
+  -- ---- what is admitted: it is so nowhere
+
+  abbrev pub IsSingle : Pat X → Toks → Toks → Type 0
+  IsSingle = IsSingleWhere nowhere
+
+  abbrev pub AreCases : List (Pat X) → List token.Bar → Toks → Toks → Type 0
+  AreCases = AreCasesWhere nowhere
+
+  abbrev pub IsPat : PatPlace → Pat X → Toks → Toks → Type 0
+  IsPat = IsPatWhere nowhere

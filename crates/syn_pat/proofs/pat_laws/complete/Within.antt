@@ -29,7 +29,7 @@ use Rattle.syn_ty.proofs.ty_laws.complete.Tokens.{other_mark}
 use Rattle.syn_pat.specs.declared.place.PatPlace.{PatPlace}
 use Rattle.syn_pat.specs.declared.place.PatPlace.TheVariants.{Single}
 use Rattle.syn_pat.specs.pat.Admitted.{allows_cases}
-use Rattle.syn_pat.specs.pat.Fronts.{Stops}
+use Rattle.syn_pat.proofs.pat_laws.sound.Within.{Stops}
 use Rattle.syn_pat.specs.pat.Knot as knot
 use Rattle.syn_pat.specs.pat.Pats.{Attrs, Pat}
 use Rattle.syn_pat.specs.pat.Reading.{Readers, ends_range, qpath, sees_lone_colon, sees_vert}

@@ -30,11 +30,11 @@ use Rattle.syn_pat.specs.declared.pat.read.groups.InParens.{InParens}
 use Rattle.syn_pat.specs.declared.pat.read.groups.InParens.TheVariants as held
 use Rattle.syn_pat.specs.declared.place.PatPlace.{PatPlace}
 use Rattle.syn_pat.specs.declared.place.PatPlace.TheVariants.{Single, LeadingVert, Element}
-use Rattle.syn_pat.specs.pat.Admitted.{AreElements, is_tuple, IsBinding, a_binding, IsSingle, a_reference, a_mutable_reference, a_paren, a_tuple, a_slice, IsSubpat, a_subpat}
+use Rattle.syn_pat.specs.pat.Admitted.{AreElements, is_tuple, IsBinding, a_binding, IsSingleWhere, a_reference, a_mutable_reference, a_paren, a_tuple, a_slice, IsSubpat, a_subpat}
 use Rattle.syn_pat.specs.pat.Pats.{Pat, PatIdent, PatReference, PatSlice, binding_of, is_rest, reference_of, slice_of}
 use Rattle.syn_pat.specs.pat.Reading.{Readers, binding, bound_head, bound_name, by_ref, elements, of_parens, optional_subpat, paren_content, paren_or_tuple, reference, slice, subpat}
 use Rattle.syn_pat.specs.pat.Spelling.{is_binding_name}
-use Rattle.syn_pat.proofs.pat_laws.sound.Within.{Before, Held, Stops, comma_stops, done_stops, listed_before, not_false, not_true, or_left, or_right}
+use Rattle.syn_pat.proofs.pat_laws.sound.Within.{Before, Held, listed_before, not_false, not_true, or_left, or_right, Stopping}
 
 -- ---- a name that is bound
 
@@ -68,9 +68,9 @@ unseen {A} sees p s t o e h =
       | inr y ↦ y.0
     ]
 
-module _ {X : Type 0} (spells : Place → X → Toks → Type 0) (r : Readers X) (part : Manner → PatPlace → Relation (Pat X)) (h : Held r part) where
+module _ {X : Type 0} {lone : Toks → Bool} (halts : Stopping lone) (spells : Place → X → Toks → Type 0) (r : Readers X) (part : Manner → PatPlace → Relation (Pat X)) (h : Held halts.stops r part) where
   abbrev Of : Pat X → Toks → Toks → Type 0
-  Of = IsSingle spells part loosely
+  Of = IsSingleWhere spells part loosely lone
 
   -- ---- bindings
 
@@ -80,7 +80,7 @@ module _ {X : Type 0} (spells : Place → X → Toks → Type 0) (r : Readers X)
   sub_at : (a : token.At) (x : Pat X) (l m k : Toks) → IsMark false a l m → part loosely Single x m k → Sub (a, x) l k
   sub_at a x l m k i j = a_subpat i j
 
-  subpat_took : (s t : Stream) (x : token.At × Pat X) → Visible s.rest → subpat r s ≡ Ok (x, t) → TookOne (Before Sub) s t x
+  subpat_took : (s t : Stream) (x : token.At × Pat X) → Visible s.rest → subpat r s ≡ Ok (x, t) → TookOne (Before halts.stops Sub) s t x
   unfolding subpat
   subpat_took s t x v e =
       let c = chain (token.at s) _ x t e in
@@ -94,7 +94,7 @@ module _ {X : Type 0} (spells : Place → X → Toks → Type 0) (r : Readers X)
         spelt = λ n stop. subst (λ z. Sub z s.rest t.rest) f.is (sub_at c.value f.value s.rest c.rest.rest t.rest k.spelt (w.spelt n stop));
       }
 
-  optional_before : {A : Type 0} (Is : Relation A) (o : Option A) (l k : Toks) → Stops k → IsOptional (Before Is) o l k → IsOptional Is o l k
+  optional_before : {A : Type 0} (Is : Relation A) (o : Option A) (l k : Toks) → halts.stops k → IsOptional (Before halts.stops Is) o l k → IsOptional Is o l k
   optional_before Is o l k stop absent = absent
   optional_before Is o l k stop (present i) = present (i stop)
 
@@ -102,7 +102,7 @@ module _ {X : Type 0} (spells : Place → X → Toks → Type 0) (r : Readers X)
       IsBinding spells part loosely (binding_of [] f u i o) l j
   binding_at f u i o l m n k j a b c d = a_binding a (subst (λ z. IsOptional IsWord u m z) c.0 b) c.1 d
 
-  pub binding_took : (s t : Stream) (x : PatIdent X) → Visible s.rest → binding r s ≡ Ok (x, t) → TookOne (Before (IsBinding spells part loosely)) s t x
+  pub binding_took : (s t : Stream) (x : PatIdent X) → Visible s.rest → binding r s ≡ Ok (x, t) → TookOne (Before halts.stops (IsBinding spells part loosely)) s t x
   unfolding binding bound_head
   binding_took s t x v e =
       let d = chain (bound_head s) _ x t e in
@@ -115,7 +115,7 @@ module _ {X : Type 0} (spells : Place → X → Toks → Type 0) (r : Readers X)
       let kc = name_took b.rest d.rest c.value kb.seen c.was in
       let of : Option token.Ref × Option token.Mut × Ident → Option (token.At × Pat X) → PatIdent X = λ w z. binding_of [] w.0 w.1 w.2 z in
       let f = mapped (optional_subpat r d.rest) (of d.value) x t d.goes in
-      let w = optional_sound {Is = Before Sub} token.sees_at (subpat r) subpat_took d.rest t f.value kc.seen f.was in
+      let w = optional_sound {Is = Before halts.stops Sub} token.sees_at (subpat r) subpat_took d.rest t f.value kc.seen f.was in
       record {
         left = λ n. ka.left (kb.left (kc.left (w.left n)));
         seen = w.seen;
@@ -132,7 +132,7 @@ module _ {X : Type 0} (spells : Place → X → Toks → Type 0) (r : Readers X)
   reference_at a u x l m n k i f absent j = a_reference i (f refl) j
   reference_at a u x l m n k i f (present y) j = a_mutable_reference i y j
 
-  pub reference_took : (s t : Stream) (x : PatReference X) → Visible s.rest → reference r s ≡ Ok (x, t) → TookOne (Before Of) s t (pat.Reference x)
+  pub reference_took : (s t : Stream) (x : PatReference X) → Visible s.rest → reference r s ≡ Ok (x, t) → TookOne (Before halts.stops Of) s t (pat.Reference x)
   unfolding reference
   reference_took s t x v e =
       let c = chain (token.and s) _ x t e in
@@ -160,20 +160,20 @@ module _ {X : Type 0} (spells : Place → X → Toks → Type 0) (r : Readers X)
   abbrev read_elements : PatPlace → Bool → Reader (Many (Pat X) Comma)
   read_elements place = listed (λ (_ : Bool). is_done) (λ (_ : Bool). r place) (λ l. not (is_done l)) comma
 
-  value_took : (place : PatPlace) (s t : Stream) (x : Pat X) → Visible s.rest → r place s ≡ Ok (x, t) → t.left ≡ None → (s.left ≡ None) × Before (part loosely place) x s.rest t.rest
+  value_took : (place : PatPlace) (s t : Stream) (x : Pat X) → Visible s.rest → r place s ≡ Ok (x, t) → t.left ≡ None → (s.left ≡ None) × Before halts.stops (part loosely place) x s.rest t.rest
   value_took place s t x v e n = let k = h.took place s t x v e in (k.left n, k.spelt n)
 
   elements_seen : (place : PatPlace) (b : Bool) (s t : Stream) (w : Many (Pat X) Comma) → Visible s.rest → read_elements place b s ≡ Ok (w, t) → Visible t.rest
   elements_seen place b s t w v e =
-      listed_visible (λ (_ : Bool). is_done) (λ (_ : Bool). r place) (λ l. not (is_done l)) comma (λ (_ : Bool). Before (part loosely place)) (IsMark false) Anywhere (λ (z : Stream). z.left ≡ None)
+      listed_visible (λ (_ : Bool). is_done) (λ (_ : Bool). r place) (λ l. not (is_done l)) comma (λ (_ : Bool). Before halts.stops (part loosely place)) (IsMark false) Anywhere (λ (z : Stream). z.left ≡ None)
       (λ a l q. tt) (λ a c d x u i. (h.took place c d x u i).seen) comma_seen (λ a c d x u q i. value_took place c d x u i) (λ c d x u q i. comma_took c d x u i) b s t w v e
 
   elements_told : (place : PatPlace) (b : Bool) (s t : Stream) (w : Many (Pat X) Comma) → Visible s.rest → read_elements place b s ≡ Ok (w, t) → leaves t ≡ None → (s.left ≡ None) × Further place b w s.rest
   elements_told place b s t w v e n =
-      let k = listed_sound (λ (_ : Bool). is_done) (λ (_ : Bool). r place) (λ l. not (is_done l)) comma (λ (_ : Bool). Before (part loosely place)) (IsMark false) Anywhere (λ (z : Stream). z.left ≡ None)
+      let k = listed_sound (λ (_ : Bool). is_done) (λ (_ : Bool). r place) (λ l. not (is_done l)) comma (λ (_ : Bool). Before halts.stops (part loosely place)) (IsMark false) Anywhere (λ (z : Stream). z.left ≡ None)
       (λ a l q. tt) (λ a c d x u i. (h.took place c d x u i).seen) comma_seen (λ a c d x u q i. value_took place c d x u i) (λ c d x u q i. comma_took c d x u i) b s t w v e (nothing_left t n) in
       let over = took_all t (elements_seen place b s t w v e) n in
-      (k.0, listed_before (part loosely place) (IsMark false) Anywhere comma_stops b w.0 w.1 s.rest done done_stops (subst (λ z. AreListed (λ (_ : Bool). Before (part loosely place)) (IsMark false) Anywhere b w.0 w.1 s.rest z) over k.1))
+      (k.0, listed_before (part loosely place) (IsMark false) Anywhere halts.stops halts.at_comma b w.0 w.1 s.rest done halts.at_done (subst (λ z. AreListed (λ (_ : Bool). Before halts.stops (part loosely place)) (IsMark false) Anywhere b w.0 w.1 s.rest z) over k.1))
 
   pub elements_sound : (place : PatPlace) (s t : Stream) (w : Many (Pat X) Comma) → Visible s.rest → elements r place s ≡ Ok (w, t) → leaves t ≡ None → AllOf place w s.rest
   unfolding elements
@@ -219,7 +219,7 @@ module _ {X : Type 0} (spells : Place → X → Toks → Type 0) (r : Readers X)
 
   -- elements of which the first was read before
   more_sound : (x : Pat X) (l : Toks) (s t : Stream) (w : Many (Pat X) Comma) → Visible s.rest → is_done s.rest && not (is_rest x) ≡ false → list_from (λ (_ : Bool). at_end) (r LeadingVert) before_end comma x s ≡ Ok (w, t) → leaves t ≡ None →
-      (s.left ≡ None) × (Before (part loosely LeadingVert) x l s.rest → Tuple w l)
+      (s.left ≡ None) × (Before halts.stops (part loosely LeadingVert) x l s.rest → Tuple w l)
   unfolding list_from
   more_sound x l s t w v alone e n =
       elim (branch (not (is_done s.rest)) _ _ s (Ok (w, t)) e) [
@@ -228,12 +228,12 @@ module _ {X : Type 0} (spells : Place → X → Toks → Type 0) (r : Readers X)
             let with : Many (Pat X) Comma → Many (Pat X) Comma = λ z. (x ∷ z.0, c.value ∷ z.1) in
             let f = mapped (read_elements LeadingVert false c.rest) with w t c.goes in
             let q = elements_told LeadingVert false c.rest t f.value (comma_seen s c.rest c.value v c.was) f.was n in
-            (sym k.left ∙ q.0, λ i. subst (λ z. Tuple z l) f.is (value_and_mark (i (comma_stops c.value s.rest c.rest.rest k.spelt)) k.spelt q.1, several x f.value.0 c.value f.value.1))
+            (sym k.left ∙ q.0, λ i. subst (λ z. Tuple z l) f.is (value_and_mark (i (halts.at_comma c.value s.rest c.rest.rest k.spelt)) k.spelt q.1, several x f.value.0 c.value f.value.1))
         | inr y ↦ let q = same_pair (x ∷ [], []) w s t y.1 in
             let ends = ap leaves q.1 ∙ n in
             let over = took_all s v ends in
             let rest = rest_alone (is_done s.rest) (is_rest x) alone (not_true (is_done s.rest) y.0) in
-            (nothing_left s ends, λ i. subst (λ z. Tuple z l) q.0 (last_value (subst (λ z. Before (part loosely LeadingVert) x l z) over i done_stops), rest))
+            (nothing_left s ends, λ i. subst (λ z. Tuple z l) q.0 (last_value (subst (λ z. Before halts.stops (part loosely LeadingVert) x l z) over i halts.at_done), rest))
       ]
 
   no_elements : (s : Stream) → s.rest ≡ done → Tuple ([], []) s.rest
@@ -257,7 +257,7 @@ module _ {X : Type 0} (spells : Place → X → Toks → Type 0) (r : Readers X)
               | inl z ↦ let p = same_pair (held.One c.value) q c.rest t z.1 in
                   let ends = ap leaves p.1 ∙ n in
                   subst (λ u. Content u s.rest) p.0
-                  (subst (λ u. Before (part loosely LeadingVert) c.value s.rest u) (took_all c.rest w.seen ends) (w.spelt (nothing_left c.rest ends)) done_stops, lone_first (is_done c.rest.rest) (is_rest c.value) z.0)
+                  (subst (λ u. Before halts.stops (part loosely LeadingVert) c.value s.rest u) (took_all c.rest w.seen ends) (w.spelt (nothing_left c.rest ends)) halts.at_done, lone_first (is_done c.rest.rest) (is_rest c.value) z.0)
               | inr z ↦ let f = mapped (list_from (λ (_ : Bool). at_end) (r LeadingVert) before_end comma c.value c.rest) held.Elements q t z.1 in
                   subst (λ u. Content u s.rest) f.is (first_and_more c.value s c.rest t f.value v c.was z.0 f.was n)
             ]

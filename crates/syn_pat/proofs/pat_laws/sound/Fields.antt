@@ -40,7 +40,7 @@ use Rattle.syn_pat.specs.pat.Spelling.{outer_spelt}
 use Rattle.syn_pat.proofs.pat_laws.sound.Along.{modes_along}
 use Rattle.syn_pat.proofs.pat_laws.sound.Bindings.{mutable_took, ref_took}
 use Rattle.syn_path.proofs.Along.{word as word_along}
-use Rattle.syn_pat.proofs.pat_laws.sound.Within.{Before, Held, SuppliedTold, TookOn, comma_stops, done_stops}
+use Rattle.syn_pat.proofs.pat_laws.sound.Within.{Before, Held, Stopping, SuppliedTold, TookOn}
 
 -- ---- `box`, `ref` and `mut` before a name
 
@@ -65,7 +65,7 @@ modes_took s t x v e =
 
 -- ---- one field
 
-module _ {X : Type 0} (supplied : Place → Reader X) (spells : Place → X → Toks → Type 0) (g : SuppliedTold supplied spells) (r : Readers X) (part : Manner → PatPlace → Relation (Pat X)) (h : Held r part) where
+module _ {X : Type 0} {lone : Toks → Bool} (halts : Stopping lone) (supplied : Place → Reader X) (spells : Place → X → Toks → Type 0) (g : SuppliedTold supplied spells) (r : Readers X) (part : Manner → PatPlace → Relation (Pat X)) (h : Held halts.stops r part) where
   abbrev pub Of : FieldPat X → Toks → Toks → Type 0
   Of = IsField spells part loosely
 
@@ -76,7 +76,7 @@ module _ {X : Type 0} (supplied : Place → Reader X) (spells : Place → X → 
   colon_at a n c x l m k j i p q f w = with_colon p q f w
 
   -- after the member
-  member_took : (a : Attrs X) (n : Member) (l m : Toks) (s t : Stream) (x : FieldPat X) → Visible s.rest → member_field r a n s ≡ Ok (x, t) → TookOn s t (Outer a l m → IsMember n m s.rest → Before Of x l t.rest)
+  member_took : (a : Attrs X) (n : Member) (l m : Toks) (s t : Stream) (x : FieldPat X) → Visible s.rest → member_field r a n s ≡ Ok (x, t) → TookOn s t (Outer a l m → IsMember n m s.rest → Before halts.stops Of x l t.rest)
   unfolding member_field
   member_took a n l m s t x v e =
       let c = chain (token.colon s) _ x t e in
@@ -127,14 +127,14 @@ module _ {X : Type 0} (supplied : Place → Reader X) (spells : Place → X → 
   alone_at a i l m k p w = plain_at a None None i l m m m k p absent absent w.0 w.1
 
   -- after a member without modes
-  plain_took : (from : List Item) (a : Attrs X) (n : Member) (l m : Toks) (s t : Stream) (x : FieldPat X) → Visible s.rest → plain_field r from a n s ≡ Ok (x, t) → TookOn s t (Outer a l m → IsMember n m s.rest → Before Of x l t.rest)
+  plain_took : (from : List Item) (a : Attrs X) (n : Member) (l m : Toks) (s t : Stream) (x : FieldPat X) → Visible s.rest → plain_field r from a n s ≡ Ok (x, t) → TookOn s t (Outer a l m → IsMember n m s.rest → Before halts.stops Of x l t.rest)
   plain_took from a (member.Unnamed i) l m s t x v e = member_took a (member.Unnamed i) l m s t x v e
   plain_took from a (member.Named i) l m s t x v e =
       elim (branch (token.sees_colon s.rest) _ _ s (Ok (x, t)) e) [
         | inl y ↦ member_took a (member.Named i) l m s t x v y.1
         | inr y ↦ let q = same_pair (field_of a (member.Named i) None (pat.Ident (binding_of [] None None i None))) x s t y.1 in
-            subst (λ z. TookOn s t (Outer a l m → IsMember (member.Named i) m s.rest → Before Of z l t.rest)) q.0
-            (subst (λ (z : Stream). TookOn s z (Outer a l m → IsMember (member.Named i) m s.rest → Before Of (field_of a (member.Named i) None (pat.Ident (binding_of [] None None i None))) l z.rest)) q.1
+            subst (λ z. TookOn s t (Outer a l m → IsMember (member.Named i) m s.rest → Before halts.stops Of z l t.rest)) q.0
+            (subst (λ (z : Stream). TookOn s z (Outer a l m → IsMember (member.Named i) m s.rest → Before halts.stops Of (field_of a (member.Named i) None (pat.Ident (binding_of [] None None i None))) l z.rest)) q.1
             (record { left = λ n. n; seen = v; told = λ n o p stop. alone_at a i l m s.rest o (named_at i m s.rest p) }))
       ]
 
@@ -145,7 +145,7 @@ module _ {X : Type 0} (supplied : Place → Reader X) (spells : Place → X → 
   same_front b f u l m o k e (present i) q w = cc e
 
   -- after its attributes
-  pub field_took : (a : Attrs X) (l : Toks) (s t : Stream) (x : FieldPat X) → Visible s.rest → field r a s ≡ Ok (x, t) → TookOn s t (Outer a l s.rest → Before Of x l t.rest)
+  pub field_took : (a : Attrs X) (l : Toks) (s t : Stream) (x : FieldPat X) → Visible s.rest → field r a s ≡ Ok (x, t) → TookOn s t (Outer a l s.rest → Before halts.stops Of x l t.rest)
   unfolding field
   field_took a l s t x v e =
       let c = chain (modes s) _ x t e in
@@ -176,8 +176,8 @@ module _ {X : Type 0} (supplied : Place → Reader X) (spells : Place → X → 
   rest_at : (b : Bool) (a : Attrs X) (d : token.DotDot) (l m k : Toks) → k ≡ done → Outer a l m → IsMark false d m k → At b (no_fields (Some (rest_of a d))) l
   rest_at b a d l m k e i j = (l, m, no_further, i, subst (λ z. IsMark false d m z) e j)
 
-  last_at : (b : Bool) (x : FieldPat X) (l k : Toks) → k ≡ done → Before Of x l k → At b (one_field x) l
-  last_at b x l k e i = last_value (subst (λ z. Before Of x l z) e i done_stops)
+  last_at : (b : Bool) (x : FieldPat X) (l k : Toks) → k ≡ done → Before halts.stops Of x l k → At b (one_field x) l
+  last_at b x l k e i = last_value (subst (λ z. Before halts.stops Of x l z) e i halts.at_done)
 
   none_left_at : (b : Bool) (l : Toks) → l ≡ done → At b (no_fields None) l
   none_left_at b l e = subst (λ z. At b (no_fields None) z) (sym e) (none_left tt)
@@ -214,7 +214,7 @@ module _ {X : Type 0} (supplied : Place → Reader X) (spells : Place → X → 
                         let rest = from_sound k false f.rest t m.value (comma_seen d.rest f.rest f.value kd.seen f.was) m.was n in
                         let left = sym kf.left ∙ rest.0 in (
                           kc.left (kd.left left),
-                          subst (λ o. At b o s.rest) m.is (put_at b d.value f.value m.value s.rest d.rest.rest f.rest.rest (kd.told left (kc.spelt (kd.left left)) (comma_stops f.value d.rest.rest f.rest.rest kf.spelt)) kf.spelt rest.1),
+                          subst (λ o. At b o s.rest) m.is (put_at b d.value f.value m.value s.rest d.rest.rest f.rest.rest (kd.told left (kc.spelt (kd.left left)) (halts.at_comma f.value d.rest.rest f.rest.rest kf.spelt)) kf.spelt rest.1),
                         )
                   ]
             ]

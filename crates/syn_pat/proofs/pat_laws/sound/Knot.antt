@@ -1,5 +1,5 @@
 -- The law of patterns, tied by the count of turns; and so where all of a list is read as a pattern, as one with a guard or with a type, it is spelt.
-use Rattle.std.proofs.Common.{◌≡◌, ℕ, zero, suc, false, [], None, Ok, inl, inr, refl, sym, ◌∙◌, ap, subst, arith}
+use Rattle.std.proofs.Common.{◌≡◌, ℕ, zero, suc, Bool, false, [], None, Ok, inl, inr, refl, sym, ◌∙◌, ap, subst, arith}
 use Rattle.token_core.specs.Reads.{Reader, leaves}
 use Rattle.token_core.specs.Rebuilt.{Visible}
 use Rattle.token_core.specs.Spellings.{IsMark, IsWord}
@@ -31,7 +31,8 @@ use Rattle.syn_pat.specs.declared.place.PatPlace.TheVariants.{Single, LeadingVer
 use Rattle.syn_pat.specs.pat.Knot as knot
 use Rattle.syn_pat.specs.pat.Knot.{guard_after, guarded, pat, read_at, typed, typed_over}
 use Rattle.syn_pat.specs.pat.Fronts as fronts
-use Rattle.syn_pat.specs.pat.Fronts.{IsSomePat, some_pat_type}
+use Rattle.syn_pat.specs.pat.Admitted.{IsPatWhere}
+use Rattle.syn_pat.specs.pat.Fronts.{IsSomePat, fronts_to, some_pat_type}
 use Rattle.syn_pat.specs.pat.Pats.{Pat, PatType, guard_of, typed_of}
 use Rattle.syn_pat.specs.pat.Reading.{Readers, type_names}
 use Rattle.syn_pat.specs.pat.Spelling.{outer_spelt, types_to, values_spelt}
@@ -40,38 +41,51 @@ use Rattle.syn_pat.proofs.pat_laws.sound.Along.{turn_along}
 use Rattle.syn_pat.proofs.pat_laws.sound.Cases.{turn_took}
 use Rattle.syn_pat.proofs.pat_laws.sound.Colons.{Starts, colon_stops, type_starts}
 use Rattle.syn_forms.proofs.along_laws.Kit.{below_along}
-use Rattle.syn_pat.proofs.pat_laws.sound.Within.{Before, Held, IsSomeType, SuppliedTold, done_stops, word_stops}
+use Rattle.syn_pat.proofs.pat_laws.sound.Within.{Before, Held, IsSomeType, Stopping, Stops, SuppliedTold, admitted, done_stops, on_fronts, word_stops}
 
 module _ {X : Type 0} (supplied : Place → Reader X) (spells : Place → X → Toks → Type 0) (g : SuppliedTold supplied spells) where
-  -- ---- the turns
+  -- ---- the turns, where a path may be a lone word, and before what stops a pattern there
 
-  below_held : (limit : ℕ) (r : Readers X) (part : Manner → PatPlace → Relation (Pat X)) → Held r part → Held (λ (p : PatPlace). below limit (r p)) part
-  below_held limit r part h = record {
+  below_held : (stops : Toks → Type 0) (limit : ℕ) (r : Readers X) (part : Manner → PatPlace → Relation (Pat X)) → Held stops r part → Held stops (λ (p : PatPlace). below limit (r p)) part
+  below_held stops limit r part h = record {
     took = λ p s t x v e. h.took p s t x v (out limit (r p) s t x e).was;
     along = λ p. below_along limit (h.along p);
   }
 
-  no_turn : Held (read_at supplied (type_names supplied) zero) (pats_to spells zero)
-  no_turn = record { took = λ p s t x v e. cc e; along = λ p s t x e. cc e }
+  module _ {lone : Toks → Bool} (halts : Stopping lone) (part : ℕ → Manner → PatPlace → Relation (Pat X)) (turned : (n : ℕ) (p : PatPlace) (x : Pat X) (l r : Toks) → IsPatWhere spells (part n) loosely lone p x l r → part (suc n) loosely p x l r) where
+    no_turn : Held halts.stops (read_at supplied (type_names supplied) zero) (part zero)
+    no_turn = record { took = λ p s t x v e. cc e; along = λ p s t x e. cc e }
 
-  a_turn : (n : ℕ) → Held (read_at supplied (type_names supplied) n) (pats_to spells n) → Held (read_at supplied (type_names supplied) (suc n)) (pats_to spells (suc n))
-  a_turn n h = record {
-    took = λ p s t x v e. turn_took supplied spells g (λ (q : PatPlace). below (ahead s) (read_at supplied (type_names supplied) n q)) (pats_to spells n) (below_held (ahead s) (read_at supplied (type_names supplied) n) (pats_to spells n) h) p s t x v e;
-    along = λ p s t x e. turn_along supplied (type_names supplied) g.path_along (λ (q : PatPlace). below (ahead s) (read_at supplied (type_names supplied) n q)) (below_held (ahead s) (read_at supplied (type_names supplied) n) (pats_to spells n) h).along p s t x e;
-  }
+    a_turn : (n : ℕ) → Held halts.stops (read_at supplied (type_names supplied) n) (part n) → Held halts.stops (read_at supplied (type_names supplied) (suc n)) (part (suc n))
+    a_turn n h = record {
+      took = λ p s t x v e.
+          let k = turn_took halts supplied spells g (λ (q : PatPlace). below (ahead s) (read_at supplied (type_names supplied) n q)) (part n) (below_held halts.stops (ahead s) (read_at supplied (type_names supplied) n) (part n) h) p s t x v e in
+          record { left = k.left; seen = k.seen; spelt = λ m stop. turned n p x s.rest t.rest (k.spelt m stop) };
+      along = λ p s t x e. turn_along supplied (type_names supplied) g.path_along (λ (q : PatPlace). below (ahead s) (read_at supplied (type_names supplied) n q)) (below_held halts.stops (ahead s) (read_at supplied (type_names supplied) n) (part n) h).along p s t x e;
+    }
 
-  pub turns_told : (n : ℕ) → Held (read_at supplied (type_names supplied) n) (pats_to spells n)
-  turns_told zero = no_turn
-  turns_told (suc n) = a_turn n (turns_told n)
+    turns : (n : ℕ) → Held halts.stops (read_at supplied (type_names supplied) n) (part n)
+    turns zero = no_turn
+    turns (suc n) = a_turn n (turns n)
+
+  pub turns_told : (n : ℕ) → Held Stops (read_at supplied (type_names supplied) n) (pats_to spells n)
+  turns_told = turns admitted (pats_to spells) (λ n p x l r i. i)
 
   -- ---- patterns, at some height
 
-  -- on the front of a list: where neither `::` before parentheses nor `!=` follows
-  pub pat_took : (place : PatPlace) (s t : Stream) (x : Pat X) → Visible s.rest → pat supplied (type_names supplied) place s ≡ Ok (x, t) → TookOne (Before (IsSomePat spells place)) s t x
+  -- an admitted one, where neither `::` before parentheses nor `!=` follows
+  pat_told : (place : PatPlace) (s t : Stream) (x : Pat X) → Visible s.rest → pat supplied (type_names supplied) place s ≡ Ok (x, t) → TookOne (Before Stops (IsSomePat spells place)) s t x
   unfolding pat
-  pat_took place s t x v e =
+  pat_told place s t x v e =
       let k = (turns_told (suc (ahead s))).took place s t x v e in
       record { left = k.left; seen = k.seen; spelt = λ n stop. (ahead s, k.spelt n stop) }
+
+  -- on the front of a list: its last word may be a path there
+  pub pat_took : (place : PatPlace) (s t : Stream) (x : Pat X) → Visible s.rest → pat supplied (type_names supplied) place s ≡ Ok (x, t) → TookOne (fronts.pat spells place) s t x
+  unfolding pat
+  pat_took place s t x v e =
+      let k = (turns on_fronts (fronts_to spells) (λ n p y l r i. i) (suc (ahead s))).took place s t x v e in
+      record { left = k.left; seen = k.seen; spelt = λ n. (ahead s, k.spelt n tt) }
 
   pub pat_along : (place : PatPlace) → Along {A = Pat X} (pat supplied (type_names supplied) place)
   unfolding pat
@@ -79,7 +93,7 @@ module _ {X : Type 0} (supplied : Place → Reader X) (spells : Place → X → 
 
   -- all of a list
   pub pat_sound : (place : PatPlace) (s t : Stream) (x : Pat X) → Visible s.rest → pat supplied (type_names supplied) place s ≡ Ok (x, t) → leaves t ≡ None → SpellsPat spells place loosely x s.rest
-  pat_sound place s t x v e n = took_whole {Is = Before (IsSomePat spells place)} s t x (pat_took place s t x v e) n done_stops
+  pat_sound place s t x v e n = took_whole {Is = Before Stops (IsSomePat spells place)} s t x (pat_told place s t x v e) n done_stops
 
   -- ---- with a guard
 
@@ -90,7 +104,7 @@ module _ {X : Type 0} (supplied : Place → Reader X) (spells : Place → X → 
   unfolding guarded
   guarded_sound s t x v d n =
       let c = chain (pat supplied (type_names supplied) LeadingVert s) (guard_after supplied (type_names supplied)) x t d in
-      let k = pat_took LeadingVert s c.rest c.value v c.was in
+      let k = pat_told LeadingVert s c.rest c.value v c.was in
       elim (branch (token.sees_if c.rest.rest) _ _ c.rest (Ok (x, t)) c.goes) [
         | inl y ↦ let f = chain (token.if_word c.rest) _ x t y.1 in
             let w = named_sound {n = 11} c.rest f.rest f.value k.seen f.was in
@@ -102,7 +116,7 @@ module _ {X : Type 0} (supplied : Place → Reader X) (spells : Place → X → 
             (guard_at c.value f.value m.value s.rest c.rest.rest f.rest.rest (k.spelt (w.left q.0) (word_stops f.value c.rest.rest f.rest.rest i)) i q.1)
         | inr y ↦ let q = same_pair c.value x c.rest t y.1 in
             let ends = ap leaves q.1 ∙ n in
-            subst (λ z. SpellsGuarded spells loosely z s.rest) q.0 (without_guard (took_whole {Is = Before (IsSomePat spells LeadingVert)} s c.rest c.value k ends done_stops))
+            subst (λ z. SpellsGuarded spells loosely z s.rest) q.0 (without_guard (took_whole {Is = Before Stops (IsSomePat spells LeadingVert)} s c.rest c.value k ends done_stops))
       ]
 
   -- ---- with a type
@@ -118,7 +132,7 @@ module _ {X : Type 0} (supplied : Place → Reader X) (spells : Place → X → 
   some_type (suc n) x l k i = (n, i)
 
   -- what a pattern, `:` and a type spell, where the pattern stops before the `:`
-  typed_at : (x : Pat X) (c : token.Colon) (y : TypeTree (Attr X) (Expr X)) (l m j r : Toks) → Visible j → Before (IsSomePat spells Single) x l m → IsMark false c m j → IsSomeType spells y j r → fronts.typed spells (typed_of [] x c y) l r
+  typed_at : (x : Pat X) (c : token.Colon) (y : TypeTree (Attr X) (Expr X)) (l m j r : Toks) → Visible j → Before Stops (IsSomePat spells Single) x l m → IsMark false c m j → IsSomeType spells y j r → fronts.typed spells (typed_of [] x c y) l r
   typed_at x c y l m j r v i k f = some_pat_type (i (colon_stops c m j v k (some_starts f.0 f.1.0 y j r f.1.1))) k (some_type f.0 y j r f.1)
 
   -- on the front of a list
@@ -126,7 +140,7 @@ module _ {X : Type 0} (supplied : Place → Reader X) (spells : Place → X → 
   unfolding typed_over
   typed_took s t x v d =
       let c = chain (pat supplied (type_names supplied) Single s) _ x t d in
-      let k = pat_took Single s c.rest c.value v c.was in
+      let k = pat_told Single s c.rest c.value v c.was in
       let f = chain (token.colon c.rest) _ x t c.goes in
       let kf = mark_sound {n = 7} {k = 1} refl (omega arith) c.rest f.rest f.value k.seen f.was in
       let vf = mark_visible false {n = 7} {k = 1} f.value c.rest.rest f.rest.rest kf.spelt k.seen in

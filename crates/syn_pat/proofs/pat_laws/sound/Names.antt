@@ -267,3 +267,17 @@ module _ {X : Type 0} (spells : Place → X → Toks → Type 0) where
             let bang = bang_unseen k (is_mod_style p) (subst (λ (z : Option (QSelf (Attr X) (Expr X))). not (is_some z) && (sees_call k && is_mod_style p) ≡ false) y.3 call) y.4 stop.1 in
             ap is_binding y.1 ∙ no_binding y.0 k (subst (λ z. begins_path z ≡ true) y.2 h) sep (or_none _ _ sep (or_none _ _ bang (or_none _ _ brace (or_none _ _ paren dots))))
       ]
+
+  unless : (b c : Bool) → c ≡ false → b && c ≡ false
+  unless true c h = h
+  unless false c h = refl
+
+  -- the same where a path may be a lone word
+  pub unbound_or_lone : (lone : Toks → Bool) (n : ℕ) (q : Option (QSelf (Attr X) (Expr X))) (p : Path (Attr X) (Expr X)) (l k : Toks) → IsAnyPath (types_to spells n) loosely expressions q p l k → begins_path l ≡ true →
+      (q ≡ None → goes_on k ≡ false) → not (is_some q) && (sees_call k && is_mod_style p) ≡ false → sees_group Brace k ≡ false → sees_group Parenthesis k ≡ false → token.sees_dot_dot k ≡ false → (lone k ≡ true) ⊎ Stops k →
+      not (lone k) && is_binding (lone_word q p) ≡ false
+  unbound_or_lone lone n q p l k i h over call brace paren dots told =
+      elim told [
+        | inl y ↦ ap (λ b. not b && is_binding (lone_word q p)) y
+        | inr y ↦ unless (not (lone k)) _ (unbound n q p l k i h over call brace paren dots y)
+      ]

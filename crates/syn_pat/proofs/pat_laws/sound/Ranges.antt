@@ -1,5 +1,5 @@
 -- Where const blocks, the ends of ranges and ranges are read, they are spelt; what follows a start is told by what the start spells before it.
-use Rattle.std.proofs.Common.{◌≡◌, true, false, [], Option, Some, None, Ok, inl, inr, subst}
+use Rattle.std.proofs.Common.{◌≡◌, Bool, true, false, [], Option, Some, None, Ok, inl, inr, subst}
 use Rattle.token_core.specs.declared.lit.Lit.{Lit}
 use Rattle.token_core.specs.declared.range.RangeLimits.{RangeLimits}
 use Rattle.token_core.specs.declared.range.RangeLimits.TheVariants as limits
@@ -30,12 +30,12 @@ use Rattle.syn_ty.proofs.ty_laws.sound.Leaves.{IsHeld, held_sound, named_sound, 
 use Rattle.syn_pat.specs.declared.pat.PatOf.TheVariants as v
 use Rattle.syn_pat.specs.declared.pat.PatRangeBoundOf.TheVariants as b
 use Rattle.syn_pat.specs.declared.place.PatPlace.{PatPlace}
-use Rattle.syn_pat.specs.pat.Admitted.{IsSingle, a_const, a_literal, a_range, a_rest}
+use Rattle.syn_pat.specs.pat.Admitted.{IsSingleWhere, a_const, a_literal, a_range, a_rest}
 use Rattle.syn_pat.specs.pat.Pats.{Pat, PatRange, PatRangeBound, pat_range_of, path_pat_of, rest_of}
 use Rattle.syn_pat.specs.pat.Reading.{after_bound, begins_bound, bound, bound_as_pat, bound_or_range, const_block, ended, ends_range, half_of, half_open as half_open_range, optional_bound, qpath, range, range_after, sees_bound_path, type_names}
 use Rattle.syn_pat.specs.pat.Spelling.{IsConstBlock, a_const_block, a_pat_path, IsEnd, a_literal_end, a_path_end, a_const_end, IsStart, a_literal_start, a_const_start, IsRange, without_end, without_start, with_both}
 use Rattle.syn_pat.proofs.pat_laws.sound.Names.{no_path_bound, no_try_bound}
-use Rattle.syn_pat.proofs.pat_laws.sound.Within.{AnyPath, Before, IsSomePath, SuppliedTold, TookOn}
+use Rattle.syn_pat.proofs.pat_laws.sound.Within.{AnyPath, Before, IsSomePath, Stopping, SuppliedTold, TookOn}
 
 module _ {X : Type 0} (supplied : Place → Reader X) (spells : Place → X → Toks → Type 0) (g : SuppliedTold supplied spells) where
   -- ---- const blocks
@@ -103,9 +103,9 @@ module _ {X : Type 0} (supplied : Place → Reader X) (spells : Place → X → 
 
   -- ---- ranges
 
-  module _ (part : Manner → PatPlace → Relation (Pat X)) where
+  module _ {lone : Toks → Bool} (halts : Stopping lone) (part : Manner → PatPlace → Relation (Pat X)) where
     abbrev Single : Pat X → Toks → Toks → Type 0
-    Single = IsSingle spells part loosely
+    Single = IsSingleWhere spells part loosely lone
 
     abbrev Start : PatRangeBound X → Toks → Toks → Type 0
     Start = IsStart spells loosely
@@ -172,16 +172,16 @@ module _ {X : Type 0} (supplied : Place → Reader X) (spells : Place → X → 
 
     -- as a start, where `..` follows, and else as a pattern by itself
     abbrev pub AsStart : PatRangeBound X → Toks → Toks → Type 0
-    AsStart x l r = (token.sees_dot_dot r ≡ true → Start x l r) × (token.sees_dot_dot r ≡ false → Before Single (bound_as_pat x) l r)
+    AsStart x l r = (token.sees_dot_dot r ≡ true → Start x l r) × (token.sees_dot_dot r ≡ false → Before halts.stops Single (bound_as_pat x) l r)
 
-    pub after_bound_took : (x : PatRangeBound X) (l : Toks) (s t : Stream) (y : Pat X) → Visible s.rest → after_bound supplied (type_names supplied) x s ≡ Ok (y, t) → TookOn s t (AsStart x l s.rest → Before Single y l t.rest)
+    pub after_bound_took : (x : PatRangeBound X) (l : Toks) (s t : Stream) (y : Pat X) → Visible s.rest → after_bound supplied (type_names supplied) x s ≡ Ok (y, t) → TookOn s t (AsStart x l s.rest → Before halts.stops Single y l t.rest)
     unfolding after_bound
     after_bound_took x l s t y v e =
         elim (branch (token.sees_dot_dot s.rest) _ _ s (Ok (y, t)) e) [
           | inl z ↦ let w = range_after_took x l s t y v z.1 in record { left = w.left; seen = w.seen; told = λ n i o. w.told n (i.0 z.0) }
           | inr z ↦ let q = same_pair (bound_as_pat x) y s t z.1 in
-              subst (λ u. TookOn s t (AsStart x l s.rest → Before Single u l t.rest)) q.0
-              (subst (λ (u : Stream). TookOn s u (AsStart x l s.rest → Before Single (bound_as_pat x) l u.rest)) q.1 (record { left = λ n. n; seen = v; told = λ n i. i.1 z.0 }))
+              subst (λ u. TookOn s t (AsStart x l s.rest → Before halts.stops Single u l t.rest)) q.0
+              (subst (λ (u : Stream). TookOn s u (AsStart x l s.rest → Before halts.stops Single (bound_as_pat x) l u.rest)) q.1 (record { left = λ n. n; seen = v; told = λ n i. i.1 z.0 }))
         ]
 
     literal_told : (x : Lit) (l r : Toks) → IsLit x l r → AsStart (b.Lit (lit_of [] x)) l r
@@ -207,7 +207,7 @@ module _ {X : Type 0} (supplied : Place → Reader X) (spells : Place → X → 
           ]
         ]
 
-    pub bound_or_range_took : (s t : Stream) (y : Pat X) → Visible s.rest → begins_bound s.rest ≡ true → bound_or_range supplied (type_names supplied) s ≡ Ok (y, t) → TookOne (Before Single) s t y
+    pub bound_or_range_took : (s t : Stream) (y : Pat X) → Visible s.rest → begins_bound s.rest ≡ true → bound_or_range supplied (type_names supplied) s ≡ Ok (y, t) → TookOne (Before halts.stops Single) s t y
     unfolding bound_or_range
     bound_or_range_took s t y v h e =
         let c = chain (bound supplied (type_names supplied) s) (after_bound supplied (type_names supplied)) y t e in

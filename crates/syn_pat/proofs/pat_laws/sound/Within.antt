@@ -1,5 +1,5 @@
 -- What is known of the reads that a pattern holds: each took what its answer spells, where nothing follows that a lone word was taken for a path by; and the same of paths, types, attributes and supplied subtrees.
-use Rattle.std.proofs.Common.{◌≡◌, ℕ, Bool, true, false, not, ◌&&◌, ◌||◌, ◌==◌, if◌then◌else◌, List, Option, None, is_some, Ok, refl, ap}
+use Rattle.std.proofs.Common.{◌≡◌, ℕ, Bool, true, false, not, ◌&&◌, ◌||◌, ◌⊎◌, ◌==◌, if◌then◌else◌, inl, inr, List, Option, None, is_some, Ok, refl, ap}
 use Rattle.std.proofs.lemmas.Bool.{eqb-true}
 use Rattle.token_core.specs.declared.tree.Punct.{Punct}
 use Rattle.token_core.specs.declared.word.Word.{Word}
@@ -27,7 +27,8 @@ use Rattle.syn_ty.proofs.ty_laws.sound.Forms.{Told}
 use Rattle.syn_path.specs.Took.{Along}
 use Rattle.syn_pat.specs.declared.place.PatPlace.{PatPlace}
 use Rattle.syn_pat.specs.pat.Knot as knot
-pub use Rattle.syn_pat.specs.pat.Fronts.{sees_called, Stops, Before}
+pub use Rattle.syn_pat.specs.pat.Fronts.{sees_called, is_lone}
+use Rattle.syn_pat.specs.pat.Admitted.{nowhere}
 use Rattle.syn_pat.specs.pat.Pats.{Attrs, Pat}
 use Rattle.syn_pat.specs.pat.Reading.{Readers, qpath}
 use Rattle.syn_pat.specs.pat.Spelling.{outer_spelt, types_to}
@@ -60,6 +61,14 @@ not_true false h = cc h
 
 -- ---- what stops a pattern
 
+-- Neither `::` before parentheses follows, nor `!=`.
+abbrev pub Stops : Toks → Type 0
+Stops r = (sees_called r ≡ false) × (token.sees_ne r ≡ false)
+
+-- what it spells where it stops
+abbrev pub Before : {A : Type 0} → (Toks → Type 0) → Relation A → Relation A
+Before stops Is x l r = stops r → Is x l r
+
 pub done_stops : Stops done
 unfolding sees_mark
 done_stops = (refl, refl)
@@ -75,6 +84,27 @@ comma_stops c l r (is_mark (last_char h)) = (refl, refl)
 pub bar_stops : (c : token.Bar) (l r : Toks) → IsMark false c l r → Stops l
 unfolding sees_mark
 bar_stops c l r (is_mark (last_char h)) = (refl, refl)
+
+-- Where a path may be a lone word, and before what else a pattern is told: all that forms put behind one, and the end.
+pub record Stopping (lone : Toks → Bool) : Type 1 where
+  pub stops : Toks → Type 0
+  pub at_done : stops done
+  pub at_comma : (c : token.Comma) (l r : Toks) → IsMark false c l r → stops l
+  pub at_bar : (c : token.Bar) (l r : Toks) → IsMark false c l r → stops l
+  pub is_told : (l : Toks) → stops l → (lone l ≡ true) ⊎ Stops l
+
+-- it is told before what stops it, where a path is a lone word nowhere
+abbrev pub admitted : Stopping nowhere
+admitted = record { stops = Stops; at_done = done_stops; at_comma = comma_stops; at_bar = bar_stops; is_told = λ l h. inr h }
+
+pub stops_or_lone : (b c : Bool) → (b || c ≡ true) ⊎ ((b ≡ false) × (c ≡ false))
+stops_or_lone true c = inl refl
+stops_or_lone false true = inl refl
+stops_or_lone false false = inr (refl, refl)
+
+-- it is told before everything, where a path may be a lone word before what does not stop it
+abbrev pub on_fronts : Stopping is_lone
+on_fronts = record { stops = λ l. Unit {0}; at_done = tt; at_comma = λ c l r i. tt; at_bar = λ c l r i. tt; is_told = λ l h. stops_or_lone (sees_called l) (token.sees_ne l) }
 
 -- before `..` no `::` stands
 dots_at : (p : Punct) (k : Toks) → p.ch ≡ 46 → token.sees_path_sep (mark p k) ≡ false
@@ -96,8 +126,8 @@ dots_no_sep (enter s k) h = dots_no_sep k h
 dots_no_sep (leave k) h = dots_no_sep k h
 
 -- a list of what stops at each mark
-module _ {A P : Type 0} (V : Relation A) (M : Relation P) (Ends : Bool → Type 0) (stops : (p : P) (l r : Toks) → M p l r → Stops l) where
-  pub listed_before : (b : Bool) (xs : List A) (ps : List P) (l r : Toks) → Stops r → AreListed (λ (_ : Bool). Before V) M Ends b xs ps l r → AreListed (λ (_ : Bool). V) M Ends b xs ps l r
+module _ {A P : Type 0} (V : Relation A) (M : Relation P) (Ends : Bool → Type 0) (Stop : Toks → Type 0) (stops : (p : P) (l r : Toks) → M p l r → Stop l) where
+  pub listed_before : (b : Bool) (xs : List A) (ps : List P) (l r : Toks) → Stop r → AreListed (λ (_ : Bool). Before Stop V) M Ends b xs ps l r → AreListed (λ (_ : Bool). V) M Ends b xs ps l r
   listed_before b xs ps l r h (none_left may) = none_left may
   listed_before b xs ps l r h (last_value v) = last_value (v h)
   listed_before b xs ps l r h (value_and_mark {p = p} {xs = ys} {ps = qs} {m = m} {k = k} v i j) = value_and_mark (v (stops p m k i)) i (listed_before false ys qs k r h j)
@@ -117,8 +147,8 @@ AnyPath X = Option (QSelf (Attr X) (Expr X)) × Path (Attr X) (Expr X)
 
 module _ {X : Type 0} where
   -- of the patterns within
-  pub record Held (r : Readers X) (part : Manner → PatPlace → Relation (Pat X)) : Type 0 where
-    pub took : (p : PatPlace) (s t : Stream) (x : Pat X) → Visible s.rest → r p s ≡ Ok (x, t) → TookOne (Before (part loosely p)) s t x
+  pub record Held (stops : Toks → Type 0) (r : Readers X) (part : Manner → PatPlace → Relation (Pat X)) : Type 0 where
+    pub took : (p : PatPlace) (s t : Stream) (x : Pat X) → Visible s.rest → r p s ≡ Ok (x, t) → TookOne (Before stops (part loosely p)) s t x
     pub along : (p : PatPlace) → Along (r p)
 
   module _ (spells : Place → X → Toks → Type 0) where
