@@ -1,5 +1,6 @@
 -- Each grammar of this layer meets its laws, where those of attributes and expressions are given: its read is sound and complete, and what it spells plainly is reprinted.
-use Rattle.std.proofs.Common.{◌≡◌, ◌≢◌, Bool, true, List, [], ◌∷◌, Option, refl}
+use Rattle.std.specs.Prelude.{IfOk}
+use Rattle.std.proofs.Common.{◌≡◌, ◌≢◌, Bool, true, List, [], ◌∷◌, Option, Some, Result, Ok, Err, refl}
 use Rattle.token_core.specs.Headline.{Lawful, Reprinted}
 use Rattle.token_core.specs.Prints.{Print}
 use Rattle.token_core.specs.Reads.{Reader}
@@ -66,6 +67,11 @@ module _ {A E : Type 0} {attrs : Reader (List A)} {values : ReadValues E} {shown
   -- one without predicates too, as none
   pub optional_where_clause_reprinted : (x : Option (WhereClauseOf A E)) → (promises.optional_where_clause attrs values shown spelt na ne pa pe).plain x → Reprinted (promises.optional_where_clause attrs values shown spelt na ne pa pe) x
   optional_where_clause_reprinted x q = reprinted (by.SpellsOptionalClause shown spelt) optional_where_clause_lawful x q.0 (again.optional_where_clause_again a x q.0 q.2) q.1
+
+  -- and so it is of each clause that is read
+  pub clauses_reprinted : {R : Type 0} (r : Result (WhereClauseOf A E) R) → IfOk r (λ x. (promises.optional_where_clause attrs values shown spelt na ne pa pe).plain (Some x) → Reprinted (promises.optional_where_clause attrs values shown spelt na ne pa pe) (Some x))
+  clauses_reprinted (Ok x) = optional_where_clause_reprinted (Some x)
+  clauses_reprinted (Err e) = tt
 
   pub predicate_lawful : Lawful (promises.predicate attrs values shown spelt na ne pa pe)
   predicate_lawful = lawful (by.SpellsPredicate shown spelt) (told.predicate_sound g) (met.predicate_complete m) (again.predicate_again a)

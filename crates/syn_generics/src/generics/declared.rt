@@ -3,7 +3,7 @@
 ghost use Rattle.syn_path.specs.Took.{Takes};
 ghost use Rattle.syn_generics.specs.generics.Fronts as fronts;
 ghost use Rattle.syn_generics.specs.generics.Promises as promises;
-ghost use Rattle.std.specs.Prelude.{◌≡◌, ◌<◌, ◌≤◌, length};
+ghost use Rattle.std.specs.Prelude.{◌≡◌, ◌<◌, ◌≤◌, IfOk, Some, length};
 ghost use Rattle.syn_forms.specs.nested.Below as below;
 ghost use Rattle.syn_forms.specs.nested.Below.{ahead};
 ghost use Rattle.syn_forms.specs.declared.places.TypePlace.TheVariants as type_places;
@@ -12,7 +12,7 @@ ghost use Rattle.syn_generics.specs.generics.Alone as alone;
 ghost use Rattle.syn_generics.specs.generics.Declared as reading;
 ghost use Rattle.syn_ty.specs.ty.Knot as knot;
 ghost use Rattle.token_core.specs.Fronted.{Fronted, said};
-ghost use Rattle.token_core.specs.Headline.{Heads, Headline};
+ghost use Rattle.token_core.specs.Headline.{Heads, Headline, Reprinted};
 ghost use Rattle.token_core.specs.Reads.{Fails, Follows, Gives, Parses, Reads};
 
 use crate::generics::{
@@ -305,8 +305,8 @@ impl<A: Attributes, E: Value> Parse for GenericsOf<A, E> {
 /// ```
 ///
 /// It is refused where `where` is missing, where generics stand behind it (`GenericsOnWhere`: `<` and then `>`, `#`, `const`, or
-/// a lifetime or an identifier before `>`, `,`, `=` or a `:` that is not `::`), and where one of the predicates is refused. As
-/// `syn::WhereClause`.
+/// a lifetime or an identifier before `>`, `,`, `=` or a `:` that is not `::`), and where one of the predicates is refused. Its
+/// print is read by `WhereClause::parse_optional`: one without predicates prints nothing, which is none. As `syn::WhereClause`.
 impl<A: Attributes, E: Value> Parse for WhereClauseOf<A, E> {
     ghost reads = { Gives (alone.where_clause A.reads E.reads) };
 
@@ -319,6 +319,8 @@ impl<A: Attributes, E: Value> Parse for WhereClauseOf<A, E> {
         ensures within { Follows input.old input.new }
         ensures promise { Heads (promises.where_clause A.reads E.reads A.spells E.spells A.normal E.normal A.shown E.values) input.old result input.new }
         ensures front { Takes (fronts.where_clause A.spells E.spells) input.old result input.new }
+        ensures printed { IfOk result (λ x. (promises.optional_where_clause A.reads E.reads A.spells E.spells A.normal E.normal A.shown E.values).plain (Some x)
+            → Reprinted (promises.optional_where_clause A.reads E.reads A.spells E.spells A.normal E.normal A.shown E.values) (Some x)) }
     {
         parse_where_clause(alloc, input)
     }

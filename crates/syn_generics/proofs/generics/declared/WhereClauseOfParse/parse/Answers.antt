@@ -1,6 +1,6 @@
 use Rattle.token_core.proofs.Headlines.{heads}
 use Rattle.syn_generics.specs.generics.Promises as promises
-use Rattle.syn_generics.proofs.generics_laws.WholeLaws.{where_clause_lawful}
+use Rattle.syn_generics.proofs.generics_laws.WholeLaws.{clauses_reprinted, where_clause_lawful}
 use Rattle.syn_ty.proofs.ty_laws.sound.Whole.{takes}
 use Rattle.syn_ty.proofs.ty_laws.GivenWhole.{given_again, given_meets}
 use Rattle.syn_ty.proofs.ty_laws.Given.{given}
@@ -12,3 +12,8 @@ returns-clause-promise g c = heads (promises.where_clause g.A.Attributes.reads g
 
 pub returns-clause-front : goal.returns-clause-front
 returns-clause-front g c = takes (where_clause_took (given g.met.A.Attributes.told g.met.E.Value.consts g.met.E.Value.lengths)) _ _ _ c.parse_where_clause.ensures.parses.0
+
+pub returns-clause-printed : goal.returns-clause-printed
+returns-clause-printed g c =
+    clauses_reprinted (given g.met.A.Attributes.told g.met.E.Value.consts g.met.E.Value.lengths) (given_meets g.met.A.Attributes.met g.met.E.Value.met g.met.E.Value.lengths)
+    (given_again g.met.A.Attributes.met g.met.E.Value.met g.met.E.Value.lengths g.met.A.Attributes.bare) c.parse_where_clause.result
