@@ -1,6 +1,4 @@
 //! What structs that are read from text print, and the heads of implementations for them.
-//!
-//! A test calls and does not branch, as docs/GATE.md says.
 
 use crate::answers::says;
 use std::alloc::Global;

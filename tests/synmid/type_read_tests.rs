@@ -1,6 +1,4 @@
 //! What types, paths, bounds and parameters that are read from text print, and the texts and places of their refusals.
-//!
-//! A test calls and does not branch, as docs/GATE.md says.
 
 use crate::answers::says;
 use std::alloc::Global;
