@@ -16,7 +16,7 @@ use crate::tokens::{parse_comma, parse_plus};
 use std::alloc::Global;
 use std::marker::PhantomData;
 use token_core::token::{Bracket, Comma, Eq, Gt, Paren, PathSep, Plus, Question};
-use token_core::{Error, Lifetime, ParseStream, Punctuated};
+use token_core::{Boxed, Error, Lifetime, ParseStream, Punctuated};
 
 /// Where a list ends, and the mark that joins its values.
 pub trait End<M>: Copy {
@@ -236,11 +236,22 @@ impl End<Plus> for ToLifetimeParamEnd {
 
 // ---- lists
 
+/// What is made of a value, at the end of a list.
+#[inline(never)]
+fn put<T: Drop, V: Drop, M: Drop, K: Make<T, V>>(
+    alloc: Global,
+    list: &mut Punctuated<V, M>,
+    make: K,
+    value: Boxed<T>,
+) -> Result<(), Error> {
+    Ok(list.push_value(make.make(alloc, value.into_inner()))?)
+}
+
 impl<
     'a,
     P: Copy,
     T: Tree<P>,
-    F: Fn(Global, PhantomData<T>, &mut ParseStream<'_>, P) -> Result<T, Error>,
+    F: Fn(Global, PhantomData<T>, &mut ParseStream<'_>, P) -> Result<Boxed<T>, Error>,
 > Nested<'a, P, T, F> {
     /// What is made of a tree that the form holds.
     #[tactic(auto, using(token_core::proofs::Suffixes::follows))]
@@ -256,8 +267,8 @@ impl<
         ensures fewer { ahead input.new ≤ ahead input.old }
     {
         // a match, since `?` would hold the value several times while what it holds is read
-        match self.value(input, place) {
-            Ok(value) => Ok(make.make(self.alloc, value)),
+        match self.boxed(input, place) {
+            Ok(value) => Ok(make.make(self.alloc, value.into_inner())),
             Err(e) => Err(e),
         }
     }
@@ -282,10 +293,8 @@ impl<
             if end.is_over(input, first) {
                 return Ok(list);
             }
-            match self.made(input, place, make) {
-                Ok(value) => list.push_value(value)?,
-                Err(e) => return Err(e),
-            }
+            let value = self.boxed(input, place)?;
+            put(self.alloc, &mut list, make, value)?;
             if !end.goes_on(input) {
                 return Ok(list);
             }

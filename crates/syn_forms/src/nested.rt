@@ -24,7 +24,7 @@ pub trait Held<P>: Tree<P> {
         of: PhantomData<Self>,
         input: &mut ParseStream<'_>,
         place: P,
-    ) -> Result<Self, Error>
+    ) -> Result<Boxed<Self>, Error>
         ensures reads { Reads (Self.read place input.old) result input.new }
         ensures within { Follows input.old input.new };
 }
@@ -44,7 +44,7 @@ impl<
     'a,
     P,
     T: Tree<P>,
-    F: Fn(Global, PhantomData<T>, &mut ParseStream<'_>, P) -> Result<T, Error>,
+    F: Fn(Global, PhantomData<T>, &mut ParseStream<'_>, P) -> Result<Boxed<T>, Error>,
 > Nested<'a, P, T, F> {
     /// A tree that the form holds.
     #[tactic(auto, using(crate::proofs::nested_laws::Ahead::later), unfolding(crate::specs::nested::Below::held))]
@@ -54,7 +54,10 @@ impl<
         ensures parses { Parses (below.held T.read (length self.now.begin) place) result input.old input.new }
         ensures fewer { ahead input.new ≤ ahead input.old }
     {
-        (self.read)(self.alloc, PhantomData, input, place)
+        match (self.read)(self.alloc, PhantomData, input, place) {
+            Ok(value) => Ok(value.into_inner()),
+            Err(e) => Err(e),
+        }
     }
 
     /// The same on the heap, so that one word is at hand and dropped where what follows is refused.
@@ -65,10 +68,6 @@ impl<
         ensures parses { Parses (below.held T.read (length self.now.begin) place) result input.old input.new }
         ensures fewer { ahead input.new ≤ ahead input.old }
     {
-        // a match, since `?` would hold the value several times while what it holds is read
-        match self.value(input, place) {
-            Ok(value) => Ok(Boxed::new(self.alloc, value)?),
-            Err(e) => Err(e),
-        }
+        (self.read)(self.alloc, PhantomData, input, place)
     }
 }

@@ -109,7 +109,7 @@ fn parse_named_word(alloc: Global, input: &mut ParseStream<'_>) -> Result<Ident,
 impl<
     'a,
     G: Tree<()> + Arguments,
-    F: Fn(Global, PhantomData<G>, &mut ParseStream<'_>, ()) -> Result<G, Error>,
+    F: Fn(Global, PhantomData<G>, &mut ParseStream<'_>, ()) -> Result<Boxed<G>, Error>,
 > Nested<'a, (), G, F> {
     /// What follows the word of a segment that may have arguments.
     #[tactic(auto, using(token_core::proofs::Suffixes::follows))]
@@ -284,7 +284,7 @@ impl<
     pub fn qualified<
         P: Copy,
         T: Tree<P>,
-        H: Fn(Global, PhantomData<T>, &mut ParseStream<'_>, P) -> Result<T, Error>,
+        H: Fn(Global, PhantomData<T>, &mut ParseStream<'_>, P) -> Result<Boxed<T>, Error>,
     >(
         &self,
         types: &Nested<'_, P, T, H>,
@@ -364,7 +364,7 @@ impl<
     pub fn maybe_qualified<
         P: Copy,
         T: Tree<P>,
-        H: Fn(Global, PhantomData<T>, &mut ParseStream<'_>, P) -> Result<T, Error>,
+        H: Fn(Global, PhantomData<T>, &mut ParseStream<'_>, P) -> Result<Boxed<T>, Error>,
     >(
         &self,
         types: &Nested<'_, P, T, H>,

@@ -47,7 +47,7 @@ use syn_path::supplied::{Attributes, Value};
 use token_core::token::{
     Bracket, Comma, Const, For, Gt, Paren, Question, SelfType, Underscore, Use,
 };
-use token_core::{
+use token_core::{Boxed, 
     Cursor, Error, ErrorKind, Ident, Items, Lifetime, Parse, ParseStream, Punctuated,
 };
 
@@ -412,7 +412,7 @@ impl<
         PhantomData<GenericParamOf<A, E>>,
         &mut ParseStream<'_>,
         ParamPlace,
-    ) -> Result<GenericParamOf<A, E>, Error>
+    ) -> Result<Boxed<GenericParamOf<A, E>>, Error>
         + Copy,
     I,
     J,
@@ -488,7 +488,7 @@ impl<
         PhantomData<TypeOf<A, E>>,
         &mut ParseStream<'_>,
         TypePlace,
-    ) -> Result<TypeOf<A, E>, Error>
+    ) -> Result<Boxed<TypeOf<A, E>>, Error>
         + Copy,
     G,
     H: Fn(
@@ -496,7 +496,7 @@ impl<
         PhantomData<GenericParamOf<A, E>>,
         &mut ParseStream<'_>,
         ParamPlace,
-    ) -> Result<GenericParamOf<A, E>, Error>
+    ) -> Result<Boxed<GenericParamOf<A, E>>, Error>
         + Copy,
     I,
     J: Fn(
@@ -504,7 +504,7 @@ impl<
         PhantomData<PathArgumentsOf<A, E>>,
         &mut ParseStream<'_>,
         (),
-    ) -> Result<PathArgumentsOf<A, E>, Error>
+    ) -> Result<Boxed<PathArgumentsOf<A, E>>, Error>
         + Copy,
 > Grammar<'a, A, E, F, G, H, I, J> {
     /// A trait bound after its first binder and its modifiers: `?`, a binder behind it, a path in the style of types and its
@@ -620,7 +620,7 @@ impl<
         PhantomData<TypeOf<A, E>>,
         &mut ParseStream<'_>,
         TypePlace,
-    ) -> Result<TypeOf<A, E>, Error>
+    ) -> Result<Boxed<TypeOf<A, E>>, Error>
         + Copy,
     G,
     H,
@@ -663,14 +663,14 @@ impl<
         PhantomData<TypeOf<A, E>>,
         &mut ParseStream<'_>,
         TypePlace,
-    ) -> Result<TypeOf<A, E>, Error>
+    ) -> Result<Boxed<TypeOf<A, E>>, Error>
         + Copy,
     G: Fn(
         Global,
         PhantomData<TypeParamBoundOf<A, E>>,
         &mut ParseStream<'_>,
         BoundPlace,
-    ) -> Result<TypeParamBoundOf<A, E>, Error>
+    ) -> Result<Boxed<TypeParamBoundOf<A, E>>, Error>
         + Copy,
     H,
     I,
@@ -1089,7 +1089,7 @@ impl<A: Attributes, E: Value> Parse for TypeParamBoundOf<A, E> {
         ensures promise { Heads (promises.bound A.reads E.reads A.spells E.spells A.normal E.normal A.shown E.values) input.old result input.new }
         ensures front { Takes (fronts.bound A.spells E.spells) input.old result input.new }
     {
-        TypeParamBoundOf::parse_held(alloc, PhantomData, input, BoundPlace::Opaque)
+        Ok(TypeParamBoundOf::parse_held(alloc, PhantomData, input, BoundPlace::Opaque)?.into_inner())
     }
 }
 
@@ -1139,7 +1139,7 @@ impl<A: Attributes, E: Value> Parse for GenericParamOf<A, E> {
         ensures promise { Heads (promises.param A.reads E.reads A.spells E.spells A.normal E.normal A.shown E.values) input.old result input.new }
         ensures front { Takes (fronts.param A.spells E.spells) input.old result input.new }
     {
-        GenericParamOf::parse_held(alloc, PhantomData, input, ParamPlace::Binder)
+        Ok(GenericParamOf::parse_held(alloc, PhantomData, input, ParamPlace::Binder)?.into_inner())
     }
 }
 

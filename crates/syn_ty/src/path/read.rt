@@ -240,6 +240,26 @@ fn into_item<A: Attributes, E: Value>(ty: TypeOf<A, E>) -> Option<Item<A, E>>
     }
 }
 
+// ---- arguments that begin with no type
+
+#[inline(never)]
+fn lifetime_argument<A: Attributes, E: Value>(
+    alloc: Global,
+    input: &mut ParseStream<'_>,
+) -> Result<Boxed<GenericArgumentOf<A, E>>, Error> {
+    let lifetime = parse_any_lifetime(alloc, input)?;
+    Ok(Boxed::new(alloc, GenericArgumentOf::Lifetime(lifetime))?)
+}
+
+#[inline(never)]
+fn const_argument<A: Attributes, E: Value>(
+    alloc: Global,
+    input: &mut ParseStream<'_>,
+) -> Result<Boxed<GenericArgumentOf<A, E>>, Error> {
+    let value = E::read_const_argument(alloc, input)?;
+    Ok(Boxed::new(alloc, GenericArgumentOf::Const(value))?)
+}
+
 // ---- trees by their parts
 
 /// An argument without attributes and a name, by its type.
@@ -338,7 +358,7 @@ impl<
         PhantomData<GenericArgumentOf<A, E>>,
         &mut ParseStream<'_>,
         (),
-    ) -> Result<GenericArgumentOf<A, E>, Error>
+    ) -> Result<Boxed<GenericArgumentOf<A, E>>, Error>
         + Copy,
     J,
 > Grammar<'a, A, E, F, G, H, I, J> {
@@ -407,7 +427,7 @@ impl<
         PhantomData<PathArgumentsOf<A, E>>,
         &mut ParseStream<'_>,
         (),
-    ) -> Result<PathArgumentsOf<A, E>, Error>
+    ) -> Result<Boxed<PathArgumentsOf<A, E>>, Error>
         + Copy,
 > Grammar<'a, A, E, F, G, H, I, J> {
     // ---- paths
@@ -452,7 +472,7 @@ impl<
         PhantomData<TypeOf<A, E>>,
         &mut ParseStream<'_>,
         TypePlace,
-    ) -> Result<TypeOf<A, E>, Error>
+    ) -> Result<Boxed<TypeOf<A, E>>, Error>
         + Copy,
     G,
     H,
@@ -462,7 +482,7 @@ impl<
         PhantomData<PathArgumentsOf<A, E>>,
         &mut ParseStream<'_>,
         (),
-    ) -> Result<PathArgumentsOf<A, E>, Error>
+    ) -> Result<Boxed<PathArgumentsOf<A, E>>, Error>
         + Copy,
 > Grammar<'a, A, E, F, G, H, I, J> {
     /// A path, in this style, that a type in `<..>` may qualify.
@@ -492,7 +512,7 @@ impl<
         PhantomData<TypeOf<A, E>>,
         &mut ParseStream<'_>,
         TypePlace,
-    ) -> Result<TypeOf<A, E>, Error>
+    ) -> Result<Boxed<TypeOf<A, E>>, Error>
         + Copy,
     G,
     H,
@@ -591,7 +611,7 @@ impl<
         PhantomData<TypeParamBoundOf<A, E>>,
         &mut ParseStream<'_>,
         BoundPlace,
-    ) -> Result<TypeParamBoundOf<A, E>, Error>
+    ) -> Result<Boxed<TypeParamBoundOf<A, E>>, Error>
         + Copy,
     H,
     I,
@@ -636,19 +656,29 @@ impl<
         PhantomData<TypeOf<A, E>>,
         &mut ParseStream<'_>,
         TypePlace,
-    ) -> Result<TypeOf<A, E>, Error>
+    ) -> Result<Boxed<TypeOf<A, E>>, Error>
         + Copy,
     G: Fn(
         Global,
         PhantomData<TypeParamBoundOf<A, E>>,
         &mut ParseStream<'_>,
         BoundPlace,
-    ) -> Result<TypeParamBoundOf<A, E>, Error>
+    ) -> Result<Boxed<TypeParamBoundOf<A, E>>, Error>
         + Copy,
     H,
     I,
     J,
 > Grammar<'a, A, E, F, G, H, I, J> {
+    /// What begins with a type that was read, on the heap.
+    #[inline(never)]
+    fn after_boxed(
+        &self,
+        input: &mut ParseStream<'_>,
+        ty: Boxed<TypeOf<A, E>>,
+    ) -> Result<Boxed<GenericArgumentOf<A, E>>, Error> {
+        Ok(Boxed::new(self.alloc, self.after_type(input, ty.into_inner())?)?)
+    }
+
     /// What begins with a type that was read: the type itself, or what is said of the associated item that it names.
     #[tactic(auto, using(token_core::proofs::Suffixes::follows, crate::proofs::path_laws::Items::nameless_types), unfolding(crate::specs::path::Reading::after_item))]
     #[inline(never)]
@@ -697,35 +727,35 @@ impl<
         PhantomData<TypeOf<A, E>>,
         &mut ParseStream<'_>,
         TypePlace,
-    ) -> Result<TypeOf<A, E>, Error>
+    ) -> Result<Boxed<TypeOf<A, E>>, Error>
         + Copy,
     G: Fn(
         Global,
         PhantomData<TypeParamBoundOf<A, E>>,
         &mut ParseStream<'_>,
         BoundPlace,
-    ) -> Result<TypeParamBoundOf<A, E>, Error>
+    ) -> Result<Boxed<TypeParamBoundOf<A, E>>, Error>
         + Copy,
     H: Fn(
         Global,
         PhantomData<GenericParamOf<A, E>>,
         &mut ParseStream<'_>,
         ParamPlace,
-    ) -> Result<GenericParamOf<A, E>, Error>
+    ) -> Result<Boxed<GenericParamOf<A, E>>, Error>
         + Copy,
     I: Fn(
         Global,
         PhantomData<GenericArgumentOf<A, E>>,
         &mut ParseStream<'_>,
         (),
-    ) -> Result<GenericArgumentOf<A, E>, Error>
+    ) -> Result<Boxed<GenericArgumentOf<A, E>>, Error>
         + Copy,
     J: Fn(
         Global,
         PhantomData<PathArgumentsOf<A, E>>,
         &mut ParseStream<'_>,
         (),
-    ) -> Result<PathArgumentsOf<A, E>, Error>
+    ) -> Result<Boxed<PathArgumentsOf<A, E>>, Error>
         + Copy,
 > Grammar<'a, A, E, F, G, H, I, J> {
     /// One turn: an argument in angle brackets. It is a lifetime that no `+` follows, a constant where a literal or braces
@@ -735,7 +765,7 @@ impl<
     pub fn argument_step(
         &self,
         input: &mut ParseStream<'_>,
-    ) -> Result<GenericArgumentOf<A, E>, Error>
+    ) -> Result<Boxed<GenericArgumentOf<A, E>>, Error>
         requires types { Nests (knot.ty A.reads E.reads) (length self.now.begin) (F.pre self.now.types) (F.post self.now.types) }
         requires bounds { Nests (knot.bound A.reads E.reads) (length self.now.begin) (G.pre self.now.bounds) (G.post self.now.bounds) }
         requires params { Nests (knot.param A.reads E.reads) (length self.now.begin) (H.pre self.now.params) (H.post self.now.params) }
@@ -745,16 +775,14 @@ impl<
         ensures parses { Parses (reading.argument_step E.reads (knot.reads_below A.reads E.reads (length self.now.begin)) (types.type_step A.reads E.reads (knot.reads_below A.reads E.reads (length self.now.begin)) places.Plus)) result input.old input.new }
     {
         if peek_lone_lifetime(input) {
-            let lifetime = parse_any_lifetime(self.alloc, input)?;
-            return Ok(GenericArgumentOf::Lifetime(lifetime));
+            return lifetime_argument(self.alloc, input);
         }
         if peek_const(input) {
-            let value = E::read_const_argument(self.alloc, input)?;
-            return Ok(GenericArgumentOf::Const(value));
+            return const_argument(self.alloc, input);
         }
         // a match, since `?` would hold the type several times where it is read
         match self.type_step(input, TypePlace::Plus) {
-            Ok(ty) => self.after_type(input, ty),
+            Ok(ty) => self.after_boxed(input, ty),
             Err(e) => Err(e),
         }
     }
@@ -934,7 +962,7 @@ fn parse_argument<A: Attributes, E: Value>(
 ) -> Result<GenericArgumentOf<A, E>, Error>
     ensures parses { Parses (knot.argument A.reads E.reads) result input.old input.new }
 {
-    <GenericArgumentOf<A, E> as Held<()>>::parse_held(alloc, PhantomData, input, ())
+    Ok(<GenericArgumentOf<A, E> as Held<()>>::parse_held(alloc, PhantomData, input, ())?.into_inner())
 }
 
 /// Reads paths and segments as they stand in types.

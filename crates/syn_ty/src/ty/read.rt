@@ -59,7 +59,7 @@ impl<A: Attributes, E: Value> TypeOf<A, E> {
         ensures group { TakesGroup (fronts.grouped A.spells E.spells) input.old result input.new }
         ensures cases { sees_invisible input.old.rest ≡ true → IfOk result (λ x. IsReadGrouped (knot.reads_below A.reads E.reads (ahead input.old)) input.old x input.new) }
     {
-        <TypeOf<A, E> as Held<TypePlace>>::parse_held(alloc, PhantomData, input, TypePlace::NoPlus)
+        Ok(<TypeOf<A, E> as Held<TypePlace>>::parse_held(alloc, PhantomData, input, TypePlace::NoPlus)?.into_inner())
     }
 }
 
@@ -86,7 +86,7 @@ impl<A: Attributes, E: Value> Parse for TypeOf<A, E> {
         ensures group { TakesGroup (fronts.grouped A.spells E.spells) input.old result input.new }
         ensures cases { sees_invisible input.old.rest ≡ true → IfOk result (λ x. IsReadGrouped (knot.reads_below A.reads E.reads (ahead input.old)) input.old x input.new) }
     {
-        <TypeOf<A, E> as Held<TypePlace>>::parse_held(alloc, PhantomData, input, TypePlace::Plus)
+        Ok(<TypeOf<A, E> as Held<TypePlace>>::parse_held(alloc, PhantomData, input, TypePlace::Plus)?.into_inner())
     }
 }
 

@@ -243,7 +243,7 @@ pub(crate) fn parse_trait_object<A: Attributes, E: Value>(
     let from = input.span();
     let dyn_token = parse_optional_dyn(alloc, input)?;
     let first = read_bound::<A, E>(alloc, PhantomData, input, BoundPlace::Object)?;
-    let bounds = grammar.object_bounds(input, from, plus, first)?;
+    let bounds = grammar.object_bounds(input, from, plus, first.into_inner())?;
     Ok(bare_trait_object(alloc, dyn_token, bounds))
 }
 
@@ -290,5 +290,5 @@ pub(crate) fn parse_named_arg<A: Attributes, E: Value>(
     let attrs = A::read_outer(alloc, input)?;
     let name = parse_optional_name(alloc, input, false)?;
     let ty = read_type::<A, E>(alloc, PhantomData, input, TypePlace::Plus)?;
-    Ok(NamedArgOf { attrs, name, ty })
+    Ok(NamedArgOf { attrs, name, ty: ty.into_inner() })
 }

@@ -16,7 +16,7 @@ use crate::generics::read::held_bound;
 use crate::generics::{GenericParamOf, TraitBoundOf, TypeParamBoundOf};
 use crate::grammar::Grammar;
 use crate::path::PathArgumentsOf;
-use crate::ty::read::parts::{
+use crate::ty::read::parts::{boxed_form, boxed_of, 
     any_trait, bare_impl_trait, bare_paren, bare_trait_object, bare_tuple, first_bound, object_of,
 };
 use crate::ty::read::tokens::{parse_optional_star, plus_follows};
@@ -60,15 +60,15 @@ fn dyn_of<A: Attributes, E: Value>(
     dyn_token: Dyn,
     star: Option<Star>,
     bounds: Punctuated<TypeParamBoundOf<A, E>, Plus>,
-) -> Result<TypeOf<A, E>, Error>
+) -> Result<Boxed<TypeOf<A, E>>, Error>
     requires reached { IsReached (verbatim.position input.now) from.now }
     ensures reads { Reads (reading.dyn_of from.now dyn_token star bounds input.now) result input.now }
 {
     match star {
-        Some(_) => Ok(TypeOf::Verbatim(since(alloc, from, input)?)),
+        Some(_) => boxed_of(alloc, TypeOf::Verbatim(since(alloc, from, input)?)),
         None => {
             let object = bare_trait_object(alloc, Some(dyn_token), bounds);
-            Ok(TypeOf::TraitObject(object))
+            boxed_form(alloc, object)
         }
     }
 }
@@ -83,7 +83,7 @@ impl<
         PhantomData<TypeParamBoundOf<A, E>>,
         &mut ParseStream<'_>,
         BoundPlace,
-    ) -> Result<TypeParamBoundOf<A, E>, Error>
+    ) -> Result<Boxed<TypeParamBoundOf<A, E>>, Error>
         + Copy,
     H,
     I,
@@ -163,7 +163,7 @@ impl<
         &self,
         input: &mut ParseStream<'_>,
         plus: bool,
-    ) -> Result<TypeOf<A, E>, Error>
+    ) -> Result<Boxed<TypeOf<A, E>>, Error>
         requires bounds { Nests (knot.bound A.reads E.reads) (length self.now.begin) (G.pre self.now.bounds) (G.post self.now.bounds) }
         requires few { ahead input.old ≤ length self.now.begin }
         ensures parses { Parses (reading.dyn_type (knot.reads_below A.reads E.reads (length self.now.begin)) plus) result input.old input.new }
@@ -235,7 +235,7 @@ impl<
         &self,
         input: &mut ParseStream<'_>,
         first: TypeParamBoundOf<A, E>,
-    ) -> Result<TypeOf<A, E>, Error>
+    ) -> Result<Boxed<TypeOf<A, E>>, Error>
         requires bounds { Nests (knot.bound A.reads E.reads) (length self.now.begin) (G.pre self.now.bounds) (G.post self.now.bounds) }
         requires few { ahead input.old ≤ length self.now.begin }
         ensures parses { Parses (reading.each_object_from (knot.reads_below A.reads E.reads (length self.now.begin)) first) result input.old input.new }
@@ -244,7 +244,7 @@ impl<
         let bounds = self
             .bounds()
             .list_from(input, BoundPlace::Object, EachBound, first)?;
-        Ok(object_of(self.alloc, bounds))
+        boxed_of(self.alloc, object_of(self.alloc, bounds))
     }
 
     /// A type in parentheses; where a `+` may follow and does, it is the first bound of a trait object if it may be one.
@@ -255,20 +255,20 @@ impl<
         plus: bool,
         paren_token: Paren,
         elem: Boxed<TypeOf<A, E>>,
-    ) -> Result<TypeOf<A, E>, Error>
+    ) -> Result<Boxed<TypeOf<A, E>>, Error>
         requires bounds { Nests (knot.bound A.reads E.reads) (length self.now.begin) (G.pre self.now.bounds) (G.post self.now.bounds) }
         requires few { ahead input.old ≤ length self.now.begin }
         ensures parses { Parses (reading.paren_or_object (knot.reads_below A.reads E.reads (length self.now.begin)) plus paren_token elem (reading.first_bound paren_token elem)) result input.old input.new }
         ensures fewer { ahead input.new ≤ ahead input.old }
     {
         if !plus_follows(input, plus) {
-            return Ok(TypeOf::Paren(bare_paren(self.alloc, (paren_token, elem))));
+            return boxed_form(self.alloc, bare_paren(self.alloc, (paren_token, elem)));
         }
         match first_bound(paren_token, elem.into_inner()) {
             Ok(first) => self.object_from(input, first),
             Err(ty) => {
                 let elem = Boxed::new(self.alloc, ty)?;
-                Ok(TypeOf::Paren(bare_paren(self.alloc, (paren_token, elem))))
+                boxed_form(self.alloc, bare_paren(self.alloc, (paren_token, elem)))
             }
         }
     }
@@ -286,7 +286,7 @@ impl<
             Punctuated<TypeParamBoundOf<A, E>, Plus>,
             TraitBoundOf<A, E>,
         >,
-    ) -> Result<TypeOf<A, E>, Error>
+    ) -> Result<Boxed<TypeOf<A, E>>, Error>
         requires bounds { Nests (knot.bound A.reads E.reads) (length self.now.begin) (G.pre self.now.bounds) (G.post self.now.bounds) }
         requires few { ahead input.old ≤ length self.now.begin }
         ensures parses { Parses (reading.of_parens (knot.reads_below A.reads E.reads (length self.now.begin)) plus paren_token held) result input.old input.new }
@@ -294,11 +294,11 @@ impl<
     {
         match held {
             ParenContent::Elements(elems) => {
-                Ok(TypeOf::Tuple(bare_tuple(self.alloc, (paren_token, elems))))
+                boxed_form(self.alloc, bare_tuple(self.alloc, (paren_token, elems)))
             }
             ParenContent::Object(bounds) => {
                 let elem = Boxed::new(self.alloc, object_of(self.alloc, bounds))?;
-                Ok(TypeOf::Paren(bare_paren(self.alloc, (paren_token, elem))))
+                boxed_form(self.alloc, bare_paren(self.alloc, (paren_token, elem)))
             }
             ParenContent::Asked(bound) => {
                 let first = TypeParamBoundOf::Trait(held_bound(paren_token, bound));
@@ -318,21 +318,21 @@ impl<
         PhantomData<TypeOf<A, E>>,
         &mut ParseStream<'_>,
         TypePlace,
-    ) -> Result<TypeOf<A, E>, Error>
+    ) -> Result<Boxed<TypeOf<A, E>>, Error>
         + Copy,
     G: Fn(
         Global,
         PhantomData<TypeParamBoundOf<A, E>>,
         &mut ParseStream<'_>,
         BoundPlace,
-    ) -> Result<TypeParamBoundOf<A, E>, Error>
+    ) -> Result<Boxed<TypeParamBoundOf<A, E>>, Error>
         + Copy,
     H: Fn(
         Global,
         PhantomData<GenericParamOf<A, E>>,
         &mut ParseStream<'_>,
         ParamPlace,
-    ) -> Result<GenericParamOf<A, E>, Error>
+    ) -> Result<Boxed<GenericParamOf<A, E>>, Error>
         + Copy,
     I,
     J: Fn(
@@ -340,7 +340,7 @@ impl<
         PhantomData<PathArgumentsOf<A, E>>,
         &mut ParseStream<'_>,
         (),
-    ) -> Result<PathArgumentsOf<A, E>, Error>
+    ) -> Result<Boxed<PathArgumentsOf<A, E>>, Error>
         + Copy,
 > Grammar<'a, A, E, F, G, H, I, J> {
     // ---- parentheses
@@ -410,7 +410,7 @@ impl<
         &self,
         input: &mut ParseStream<'_>,
         plus: bool,
-    ) -> Result<TypeOf<A, E>, Error>
+    ) -> Result<Boxed<TypeOf<A, E>>, Error>
         requires types { Nests (knot.ty A.reads E.reads) (length self.now.begin) (F.pre self.now.types) (F.post self.now.types) }
         requires bounds { Nests (knot.bound A.reads E.reads) (length self.now.begin) (G.pre self.now.bounds) (G.post self.now.bounds) }
         requires params { Nests (knot.param A.reads E.reads) (length self.now.begin) (H.pre self.now.params) (H.post self.now.params) }
@@ -420,6 +420,6 @@ impl<
         ensures fewer { ahead input.new ≤ ahead input.old }
     {
         let (paren_token, held) = self.parens(input)?;
-        Ok(self.of_parens(input, plus, paren_token, held)?)
+        self.of_parens(input, plus, paren_token, held)
     }
 }

@@ -29,7 +29,7 @@ use token_core::token::{
     And, Bracket, Colon, Comma, Dyn, Extern, Fn, GroupToken, Gt, Impl, Lt, Mut, Paren, Plus, Semi,
     Star, Unsafe,
 };
-use token_core::{Boxed, Ident, Items, Lifetime, LitStr, Punctuated, TokenStream};
+use token_core::{Boxed, Error, Ident, Items, Lifetime, LitStr, Punctuated, TokenStream};
 
 // ---- forms by their parts, without attributes
 
@@ -449,4 +449,19 @@ pub(crate) fn qself_in<A: Attributes, E: Value>(
         as_token: None,
         gt_token: Gt { spans: [span] },
     })
+}
+
+/// A form as a type, on the heap.
+#[inline(never)]
+pub(crate) fn boxed_form<A: Attributes, E: Value, V>(alloc: Global, form: V) -> Result<Boxed<TypeOf<A, E>>, Error>
+where
+    TypeOf<A, E>: From<V>,
+{
+    Ok(Boxed::new(alloc, TypeOf::from(form))?)
+}
+
+/// A type on the heap.
+#[inline(never)]
+pub(crate) fn boxed_of<A: Attributes, E: Value>(alloc: Global, ty: TypeOf<A, E>) -> Result<Boxed<TypeOf<A, E>>, Error> {
+    Ok(Boxed::new(alloc, ty)?)
 }

@@ -11,7 +11,7 @@ use crate::generics::{BoundLifetimesOf, GenericParamOf, TypeParamBoundOf};
 use crate::grammar::Grammar;
 use crate::path::PathArgumentsOf;
 use crate::path::read::bare_path_type;
-use crate::ty::read::parts::{as_path, bare_group, has_arguments, object_of, qself_in};
+use crate::ty::read::parts::{boxed_form, boxed_of, as_path, bare_group, has_arguments, object_of, qself_in};
 use crate::ty::read::tokens::{
     plus_follows, sees_call, sees_further_arguments, sees_further_segment,
 };
@@ -32,15 +32,15 @@ fn macro_after<A: Attributes, E: Value>(
     alloc: Global,
     input: &mut ParseStream<'_>,
     path: &PathOf<PathArgumentsOf<A, E>>,
-) -> Result<TypeOf<A, E>, Error>
+) -> Result<Boxed<TypeOf<A, E>>, Error>
     ensures parses { Parses (reading.macro_after path.now) result input.old input.new }
 {
     let path = without_arguments(alloc, path)?;
     let mac = parse_call_after(alloc, input, path)?;
-    Ok(TypeOf::Macro(TypeMacroOf {
+    boxed_form(alloc, TypeMacroOf {
         attrs: Items::new(alloc),
         mac,
-    }))
+    })
 }
 
 impl<
@@ -53,7 +53,7 @@ impl<
         PhantomData<TypeParamBoundOf<A, E>>,
         &mut ParseStream<'_>,
         BoundPlace,
-    ) -> Result<TypeParamBoundOf<A, E>, Error>
+    ) -> Result<Boxed<TypeParamBoundOf<A, E>>, Error>
         + Copy,
     H,
     I,
@@ -67,7 +67,7 @@ impl<
         plus: bool,
         lifetimes: Option<BoundLifetimesOf<GenericParamOf<A, E>>>,
         path: PathOf<PathArgumentsOf<A, E>>,
-    ) -> Result<TypeOf<A, E>, Error>
+    ) -> Result<Boxed<TypeOf<A, E>>, Error>
         requires bounds { Nests (knot.bound A.reads E.reads) (length self.now.begin) (G.pre self.now.bounds) (G.post self.now.bounds) }
         requires few { ahead input.old ≤ length self.now.begin }
         ensures parses { Parses (reading.path_object (knot.reads_below A.reads E.reads (length self.now.begin)) plus lifetimes path) result input.old input.new }
@@ -75,7 +75,7 @@ impl<
     {
         let first = TypeParamBoundOf::Trait(named_bound(lifetimes, None, path));
         let bounds = self.more_bounds(input, plus, first)?;
-        Ok(object_of(self.alloc, bounds))
+        boxed_of(self.alloc, object_of(self.alloc, bounds))
     }
 
     /// After an unqualified path: a macro call; a trait object, after a binder or where a `+` may follow and does; or the path alone.
@@ -86,7 +86,7 @@ impl<
         plus: bool,
         lifetimes: Option<BoundLifetimesOf<GenericParamOf<A, E>>>,
         path: PathOf<PathArgumentsOf<A, E>>,
-    ) -> Result<TypeOf<A, E>, Error>
+    ) -> Result<Boxed<TypeOf<A, E>>, Error>
         requires bounds { Nests (knot.bound A.reads E.reads) (length self.now.begin) (G.pre self.now.bounds) (G.post self.now.bounds) }
         requires few { ahead input.old ≤ length self.now.begin }
         ensures parses { Parses (reading.after_path (knot.reads_below A.reads E.reads (length self.now.begin)) plus lifetimes path) result input.old input.new }
@@ -98,7 +98,7 @@ impl<
         if lifetimes.is_some() | plus_follows(input, plus) {
             return self.path_object(input, plus, lifetimes, path);
         }
-        Ok(TypeOf::Path(bare_path_type(self.alloc, None, path)))
+        boxed_form(self.alloc, bare_path_type(self.alloc, None, path))
     }
 
     /// After a path: one that a type qualifies is the type.
@@ -111,14 +111,14 @@ impl<
         lifetimes: Option<BoundLifetimesOf<GenericParamOf<A, E>>>,
         qself: Option<QSelfOf<TypeOf<A, E>>>,
         path: PathOf<PathArgumentsOf<A, E>>,
-    ) -> Result<TypeOf<A, E>, Error>
+    ) -> Result<Boxed<TypeOf<A, E>>, Error>
         requires bounds { Nests (knot.bound A.reads E.reads) (length self.now.begin) (G.pre self.now.bounds) (G.post self.now.bounds) }
         requires few { ahead input.old ≤ length self.now.begin }
         ensures parses { Parses (reading.path_or_object (knot.reads_below A.reads E.reads (length self.now.begin)) plus lifetimes (qself, path)) result input.old input.new }
         ensures fewer { ahead input.new ≤ ahead input.old }
     {
         match qself {
-            Some(qself) => Ok(TypeOf::Path(bare_path_type(self.alloc, Some(qself), path))),
+            Some(qself) => boxed_form(self.alloc, bare_path_type(self.alloc, Some(qself), path)),
             None => self.after_path(input, plus, lifetimes, path),
         }
     }
@@ -137,7 +137,7 @@ impl<
         PhantomData<PathArgumentsOf<A, E>>,
         &mut ParseStream<'_>,
         (),
-    ) -> Result<PathArgumentsOf<A, E>, Error>
+    ) -> Result<Boxed<PathArgumentsOf<A, E>>, Error>
         + Copy,
 > Grammar<'a, A, E, F, G, H, I, J> {
     // ---- invisible groups
@@ -149,7 +149,7 @@ impl<
         input: &mut ParseStream<'_>,
         group_token: GroupToken,
         ty: TypeOf<A, E>,
-    ) -> Result<TypeOf<A, E>, Error>
+    ) -> Result<Boxed<TypeOf<A, E>>, Error>
         requires segments { Nests (knot.arguments_in A.reads E.reads) (length self.now.begin) (J.pre self.now.segments) (J.post self.now.segments) }
         requires few { ahead input.old ≤ length self.now.begin }
         ensures parses { Parses (reading.group_with_segments (knot.reads_below A.reads E.reads (length self.now.begin)) group_token ty (reading.as_path ty)) result input.old input.new }
@@ -159,12 +159,12 @@ impl<
             Ok(ty) => {
                 let TypePathOf { attrs, qself, path } = ty;
                 let path = self.rest(input, path)?;
-                Ok(TypeOf::Path(TypePathOf { attrs, qself, path }))
+                boxed_form(self.alloc, TypePathOf { attrs, qself, path })
             }
             Err(ty) => {
                 let qself = qself_in(self.alloc, group_token, ty)?;
                 let path = self.path(input, PathStyle::AsWritten)?;
-                Ok(TypeOf::Path(bare_path_type(self.alloc, Some(qself), path)))
+                boxed_form(self.alloc, bare_path_type(self.alloc, Some(qself), path))
             }
         }
     }
@@ -175,7 +175,7 @@ impl<
         &self,
         input: &mut ParseStream<'_>,
         ty: TypePathOf<A, E>,
-    ) -> Result<TypeOf<A, E>, Error>
+    ) -> Result<Boxed<TypeOf<A, E>>, Error>
         requires segments { Nests (knot.arguments_in A.reads E.reads) (length self.now.begin) (J.pre self.now.segments) (J.post self.now.segments) }
         requires few { ahead input.old < length self.now.begin }
         ensures parses { Parses (reading.with_arguments (knot.reads_below A.reads E.reads (length self.now.begin)) ty) result input.old input.new }
@@ -185,7 +185,7 @@ impl<
         let arguments = self.segments().value(input, ())?;
         let path = with_last_arguments(path, arguments)?;
         let path = self.rest(input, path)?;
-        Ok(TypeOf::Path(TypePathOf { attrs, qself, path }))
+        boxed_form(self.alloc, TypePathOf { attrs, qself, path })
     }
 
     /// After an invisible group that `<`, or `::` and `<`, follow: a path whose last segment has no arguments takes them and goes on; another type is left as it is.
@@ -195,7 +195,7 @@ impl<
         input: &mut ParseStream<'_>,
         group_token: GroupToken,
         ty: TypeOf<A, E>,
-    ) -> Result<TypeOf<A, E>, Error>
+    ) -> Result<Boxed<TypeOf<A, E>>, Error>
         requires segments { Nests (knot.arguments_in A.reads E.reads) (length self.now.begin) (J.pre self.now.segments) (J.post self.now.segments) }
         requires few { ahead input.old < length self.now.begin }
         ensures parses { Parses (reading.group_with_arguments (knot.reads_below A.reads E.reads (length self.now.begin)) group_token ty (reading.as_path ty)) result input.old input.new }
@@ -211,7 +211,7 @@ impl<
             Err(ty) => ty,
         };
         let elem = Boxed::new(self.alloc, ty)?;
-        Ok(TypeOf::Group(bare_group(self.alloc, (group_token, elem))))
+        boxed_form(self.alloc, bare_group(self.alloc, (group_token, elem)))
     }
 
     /// After an invisible group that no segment follows: arguments may, else it is a type of its own.
@@ -221,7 +221,7 @@ impl<
         input: &mut ParseStream<'_>,
         group_token: GroupToken,
         elem: Boxed<TypeOf<A, E>>,
-    ) -> Result<TypeOf<A, E>, Error>
+    ) -> Result<Boxed<TypeOf<A, E>>, Error>
         requires segments { Nests (knot.arguments_in A.reads E.reads) (length self.now.begin) (J.pre self.now.segments) (J.post self.now.segments) }
         requires few { ahead input.old < length self.now.begin }
         ensures parses { Parses (reading.group_without_segments (knot.reads_below A.reads E.reads (length self.now.begin)) group_token elem) result input.old input.new }
@@ -230,7 +230,7 @@ impl<
         if sees_further_arguments(input) {
             return self.group_with_arguments(input, group_token, elem.into_inner());
         }
-        Ok(TypeOf::Group(bare_group(self.alloc, (group_token, elem))))
+        boxed_form(self.alloc, bare_group(self.alloc, (group_token, elem)))
     }
 
     /// What follows an invisible group may go on with the type that it holds.
@@ -240,7 +240,7 @@ impl<
         input: &mut ParseStream<'_>,
         group_token: GroupToken,
         elem: Boxed<TypeOf<A, E>>,
-    ) -> Result<TypeOf<A, E>, Error>
+    ) -> Result<Boxed<TypeOf<A, E>>, Error>
         requires segments { Nests (knot.arguments_in A.reads E.reads) (length self.now.begin) (J.pre self.now.segments) (J.post self.now.segments) }
         requires few { ahead input.old < length self.now.begin }
         ensures parses { Parses (reading.after_group (knot.reads_below A.reads E.reads (length self.now.begin)) (group_token, elem)) result input.old input.new }
@@ -262,7 +262,7 @@ impl<
         PhantomData<TypeOf<A, E>>,
         &mut ParseStream<'_>,
         TypePlace,
-    ) -> Result<TypeOf<A, E>, Error>
+    ) -> Result<Boxed<TypeOf<A, E>>, Error>
         + Copy,
     G,
     H,
@@ -272,13 +272,13 @@ impl<
         PhantomData<PathArgumentsOf<A, E>>,
         &mut ParseStream<'_>,
         (),
-    ) -> Result<PathArgumentsOf<A, E>, Error>
+    ) -> Result<Boxed<PathArgumentsOf<A, E>>, Error>
         + Copy,
 > Grammar<'a, A, E, F, G, H, I, J> {
     /// A type in an invisible group, and what goes on with it (syn's `ambig_ty` at a group).
     #[tactic(auto, using(token_core::proofs::Suffixes::follows, syn_forms::proofs::nested_laws::Ahead::later), unfolding(crate::specs::ty::Reading::group_type))]
     #[inline(never)]
-    pub(crate) fn group_type(&self, input: &mut ParseStream<'_>) -> Result<TypeOf<A, E>, Error>
+    pub(crate) fn group_type(&self, input: &mut ParseStream<'_>) -> Result<Boxed<TypeOf<A, E>>, Error>
         requires types { Nests (knot.ty A.reads E.reads) (length self.now.begin) (F.pre self.now.types) (F.post self.now.types) }
         requires segments { Nests (knot.arguments_in A.reads E.reads) (length self.now.begin) (J.pre self.now.segments) (J.post self.now.segments) }
         requires few { ahead input.old ≤ length self.now.begin }
@@ -286,6 +286,6 @@ impl<
         ensures fewer { ahead input.new ≤ ahead input.old }
     {
         let (group_token, elem) = self.types().in_invisible(input, TypePlace::Plus)?;
-        Ok(self.after_group(input, group_token, elem)?)
+        self.after_group(input, group_token, elem)
     }
 }

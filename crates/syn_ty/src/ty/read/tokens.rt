@@ -12,6 +12,7 @@ ghost use Rattle.token_core.specs.Reads.{Parses, any_text, forked, ident_name, s
 ghost use Rattle.token_core.specs.Refusal.{Made};
 ghost use Rattle.token_core.specs.TokenNames.{ident_number};
 
+use crate::ty::read::parts::{boxed_of};
 use crate::ty::{Abi, TypeInferOf, TypeMacroOf, TypeNeverOf, TypeOf};
 use std::alloc::Global;
 use syn_forms::heads;
@@ -21,7 +22,7 @@ use token_core::token::{
     And, Bracket, Crate, Dyn, Extern, Fn, For, Impl, Lt, Ne, Not, Paren, PathSep, Plus, Pound,
     SelfType, SelfValue, Star, Super, Underscore, Unsafe,
 };
-use token_core::{Cursor, Delimiter, Error, Ident, Items, Lifetime, LitStr, ParseStream, Token};
+use token_core::{Boxed, Cursor, Delimiter, Error, Ident, Items, Lifetime, LitStr, ParseStream, Token};
 
 /// Any identifier, keywords too, as a token that is tested for (syn's `Ident::peek_any`).
 struct AnyIdent;
@@ -240,16 +241,16 @@ fn parse_builtin(alloc: Global, input: &mut ParseStream<'_>) -> Result<(), Error
 /// What `builtin #` begins, held as it was written from a position on.
 #[tactic(auto, using(token_core::proofs::Suffixes::follows, syn_forms::proofs::verbatim_laws::Reached::later))]
 #[inline(never)]
-pub(crate) fn parse_builtin_type<A, E>(
+pub(crate) fn parse_builtin_type<A: syn_path::supplied::Attributes, E: syn_path::supplied::Value>(
     alloc: Global,
     input: &mut ParseStream<'_>,
     from: &Cursor<'_>,
-) -> Result<TypeOf<A, E>, Error>
+) -> Result<Boxed<TypeOf<A, E>>, Error>
     requires reached { IsReached (verbatim.position input.old) from.now }
     ensures parses { Parses (reading.builtin_type from.now) result input.old input.new }
 {
     parse_builtin(alloc, input)?;
-    Ok(TypeOf::Verbatim(since(alloc, from, input)?))
+    boxed_of(alloc, TypeOf::Verbatim(since(alloc, from, input)?))
 }
 
 // ---- refusals
