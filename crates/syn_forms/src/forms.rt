@@ -1,7 +1,7 @@
 //! Forms that look into nothing that they hold.
 
 ghost use Rattle.std.specs.Prelude.{◌<◌, ◌≤◌, length, true};
-ghost use Rattle.token_core.specs.Reads.{Parses};
+ghost use Rattle.token_core.specs.Reads.{Parses, ◌<$>◌};
 ghost use Rattle.syn_forms.specs.forms.Reading as reading;
 ghost use Rattle.syn_forms.specs.groups.Reading as groups;
 ghost use Rattle.syn_forms.specs.heads.Reading as heads;
@@ -14,7 +14,7 @@ ghost use Rattle.syn_forms.specs.paths.Reading as paths;
 
 use crate::inputs::Signature;
 use crate::lists::{End, Make};
-use crate::nested::{Held, Nested, Tree};
+use crate::nested::{Form, Held, Nested, Tree};
 use crate::params::{const_parts, type_parts};
 use crate::tokens::{
     PointerMutability, parse_and, parse_lifetime, parse_mut, parse_mutability, parse_star,
@@ -37,37 +37,37 @@ impl<
 > Nested<'a, P, T, F> {
     /// `*const T`, `*mut T`
     #[tactic(auto, using(token_core::proofs::Suffixes::follows), unfolding(crate::specs::forms::Reading::ptr))]
-    pub fn ptr(
+    pub fn ptr<V: Form<(Star, PointerMutability, Boxed<T>)>>(
         &self,
         input: &mut ParseStream<'_>,
         place: P,
-    ) -> Result<(Star, PointerMutability, Boxed<T>), Error>
+    ) -> Result<V, Error>
         requires nests { Nests T.read (length self.now.begin) (F.pre self.now.read) (F.post self.now.read) }
         requires few { ahead input.old ≤ length self.now.begin }
-        ensures parses { Parses (reading.ptr (below.held T.read (length self.now.begin) place)) result input.old input.new }
+        ensures parses { Parses (V.of_parts <$> reading.ptr (below.held T.read (length self.now.begin) place)) result input.old input.new }
     {
         let star_token = parse_star(self.alloc, input)?;
         let mutability = parse_mutability(self.alloc, input)?;
         let elem = self.boxed(input, place)?;
-        Ok((star_token, mutability, elem))
+        Ok(V::of_parts(self.alloc, (star_token, mutability, elem)))
     }
 
     /// `&'a mut T`
     #[tactic(auto, using(token_core::proofs::Suffixes::follows), unfolding(crate::specs::forms::Reading::reference))]
-    pub fn reference(
+    pub fn reference<V: Form<(And, Option<Lifetime>, Option<Mut>, Boxed<T>)>>(
         &self,
         input: &mut ParseStream<'_>,
         place: P,
-    ) -> Result<(And, Option<Lifetime>, Option<Mut>, Boxed<T>), Error>
+    ) -> Result<V, Error>
         requires nests { Nests T.read (length self.now.begin) (F.pre self.now.read) (F.post self.now.read) }
         requires few { ahead input.old ≤ length self.now.begin }
-        ensures parses { Parses (reading.reference (below.held T.read (length self.now.begin) place)) result input.old input.new }
+        ensures parses { Parses (V.of_parts <$> reading.reference (below.held T.read (length self.now.begin) place)) result input.old input.new }
     {
         let and_token = parse_and(self.alloc, input)?;
         let lifetime = parse_lifetime(self.alloc, input)?;
         let mutability = parse_mut(self.alloc, input)?;
         let elem = self.boxed(input, place)?;
-        Ok((and_token, lifetime, mutability, elem))
+        Ok(V::of_parts(self.alloc, (and_token, lifetime, mutability, elem)))
     }
 }
 
@@ -114,83 +114,75 @@ pub fn parse_binder<P: Copy, T: Held<P>>(
 }
 
 /// `*const T`, `*mut T`
-pub fn parse_ptr<P: Copy, T: Held<P>>(
+pub fn parse_ptr<P: Copy, T: Held<P>, V: Form<(Star, PointerMutability, Boxed<T>)>>(
     alloc: Global,
-    begin: &Cursor<'_>,
     input: &mut ParseStream<'_>,
     place: P,
-) -> Result<(Star, PointerMutability, Boxed<T>), Error>
-    requires few { ahead input.old ≤ length begin.now }
-    ensures parses { Parses (reading.ptr (below.held T.read (length begin.now) place)) result input.old input.new }
+) -> Result<V, Error>
+    ensures parses { Parses (below.alone T.read (λ held. V.of_parts <$> reading.ptr (held place))) result input.old input.new }
 {
     let read = T::parse_held;
     Nested {
         alloc,
         of: PhantomData,
-        begin: begin.again(),
+        begin: input.cursor(),
         read,
     }
     .ptr(input, place)
 }
 
 /// `&'a mut T`
-pub fn parse_reference<P: Copy, T: Held<P>>(
-    alloc: Global,
-    begin: &Cursor<'_>,
-    input: &mut ParseStream<'_>,
-    place: P,
-) -> Result<(And, Option<Lifetime>, Option<Mut>, Boxed<T>), Error>
-    requires few { ahead input.old ≤ length begin.now }
-    ensures parses { Parses (reading.reference (below.held T.read (length begin.now) place)) result input.old input.new }
+pub fn parse_reference<
+    P: Copy,
+    T: Held<P>,
+    V: Form<(And, Option<Lifetime>, Option<Mut>, Boxed<T>)>,
+>(alloc: Global, input: &mut ParseStream<'_>, place: P) -> Result<V, Error>
+    ensures parses { Parses (below.alone T.read (λ held. V.of_parts <$> reading.reference (held place))) result input.old input.new }
 {
     let read = T::parse_held;
     Nested {
         alloc,
         of: PhantomData,
-        begin: begin.again(),
+        begin: input.cursor(),
         read,
     }
     .reference(input, place)
 }
 
 /// A tree in brackets.
-pub fn parse_slice<P: Copy, T: Held<P>>(
+pub fn parse_slice<P: Copy, T: Held<P>, V: Form<(Bracket, Boxed<T>)>>(
     alloc: Global,
-    begin: &Cursor<'_>,
     input: &mut ParseStream<'_>,
     place: P,
-) -> Result<(Bracket, Boxed<T>), Error>
-    requires few { ahead input.old ≤ length begin.now }
-    ensures parses { Parses (groups.in_brackets (below.held T.read (length begin.now) place)) result input.old input.new }
+) -> Result<V, Error>
+    ensures parses { Parses (below.alone T.read (λ held. V.of_parts <$> groups.in_brackets (held place))) result input.old input.new }
 {
     let read = T::parse_held;
     Nested {
         alloc,
         of: PhantomData,
-        begin: begin.again(),
+        begin: input.cursor(),
         read,
     }
     .slice(input, place)
 }
 
 /// A tree, `;` and a length, in brackets.
-pub fn parse_array<P: Copy, T: Held<P>, E: Value>(
+pub fn parse_array<P: Copy, T: Held<P>, E: Value, V: Form<(Bracket, Boxed<T>, (Semi, E))>>(
     alloc: Global,
-    begin: &Cursor<'_>,
     input: &mut ParseStream<'_>,
     place: P,
-) -> Result<(Bracket, Boxed<T>, (Semi, E)), Error>
-    requires few { ahead input.old ≤ length begin.now }
-    ensures parses { Parses (groups.array E.reads.len (below.held T.read (length begin.now) place)) result input.old input.new }
+) -> Result<V, Error>
+    ensures parses { Parses (below.alone T.read (λ held. V.of_parts <$> groups.array E.reads.len (held place))) result input.old input.new }
 {
     let read = T::parse_held;
     Nested {
         alloc,
         of: PhantomData,
-        begin: begin.again(),
+        begin: input.cursor(),
         read,
     }
-    .array(input, place)
+    .array::<E, V>(input, place)
 }
 
 /// A tree in parentheses.
@@ -254,23 +246,21 @@ pub fn parse_in_invisible<P: Copy, T: Held<P>>(
 }
 
 /// `->` and what is returned, where it stands.
-pub fn parse_returned<P: Copy, T: Held<P>>(
+pub fn parse_return_type<P: Copy, T: Held<P>, V: Form<Option<(RArrow, Boxed<T>)>>>(
     alloc: Global,
-    begin: &Cursor<'_>,
     input: &mut ParseStream<'_>,
     place: P,
-) -> Result<Option<(RArrow, Boxed<T>)>, Error>
-    requires few { ahead input.old ≤ length begin.now }
-    ensures parses { Parses (heads.returned (below.held T.read (length begin.now) place)) result input.old input.new }
+) -> Result<V, Error>
+    ensures parses { Parses (below.alone T.read (λ held. V.of_parts <$> heads.returned (held place))) result input.old input.new }
 {
     let read = T::parse_held;
     Nested {
         alloc,
         of: PhantomData,
-        begin: begin.again(),
+        begin: input.cursor(),
         read,
     }
-    .returned(input, place)
+    .return_type(input, place)
 }
 
 /// Values in parentheses, and what is returned after them.

@@ -1,12 +1,12 @@
 //! Groups: what parentheses and brackets hold.
 
 ghost use Rattle.std.specs.Prelude.{◌<◌, ◌≤◌, length, IfOk};
-ghost use Rattle.token_core.specs.Reads.{Parses};
+ghost use Rattle.token_core.specs.Reads.{Parses, ◌<$>◌};
 ghost use Rattle.syn_forms.specs.groups.Reading as reading;
 ghost use Rattle.syn_forms.specs.nested.Below as below;
 ghost use Rattle.syn_forms.specs.nested.Below.{Nests, ahead};
 
-use crate::nested::{Nested, Tree};
+use crate::nested::{Form, Nested, Tree};
 use crate::tokens::{open_brackets, open_invisible, open_parens};
 use std::alloc::Global;
 use std::marker::PhantomData;
@@ -54,55 +54,62 @@ impl<
 > Nested<'a, P, T, F> {
     /// A tree in brackets.
     #[tactic(auto, using(token_core::proofs::Suffixes::follows))]
-    pub fn slice(&self, input: &mut ParseStream<'_>, place: P) -> Result<(Bracket, Boxed<T>), Error>
+    pub fn slice<V: Form<(Bracket, Boxed<T>)>>(
+        &self,
+        input: &mut ParseStream<'_>,
+        place: P,
+    ) -> Result<V, Error>
         requires nests { Nests T.read (length self.now.begin) (F.pre self.now.read) (F.post self.now.read) }
         requires few { ahead input.old ≤ length self.now.begin }
-        ensures parses { Parses (reading.in_brackets (below.held T.read (length self.now.begin) place)) result input.old input.new }
+        ensures parses { Parses (V.of_parts <$> reading.in_brackets (below.held T.read (length self.now.begin) place)) result input.old input.new }
     {
         let (bracket_token, mut content) = open_brackets(self.alloc, input)?;
         let elem = self.boxed(&mut content, place)?;
         input.finish(content);
-        Ok((bracket_token, elem))
+        Ok(V::of_parts(self.alloc, (bracket_token, elem)))
     }
 
     /// A tree, `;` and a length, in brackets.
     #[tactic(auto, using(token_core::proofs::Suffixes::follows), unfolding(crate::specs::groups::Reading::array_content))]
-    pub fn array<E: Value>(
+    pub fn array<E: Value, V: Form<(Bracket, Boxed<T>, (Semi, E))>>(
         &self,
         input: &mut ParseStream<'_>,
         place: P,
-    ) -> Result<(Bracket, Boxed<T>, (Semi, E)), Error>
+    ) -> Result<V, Error>
         requires nests { Nests T.read (length self.now.begin) (F.pre self.now.read) (F.post self.now.read) }
         requires few { ahead input.old ≤ length self.now.begin }
-        ensures parses { Parses (reading.array E.reads.len (below.held T.read (length self.now.begin) place)) result input.old input.new }
+        ensures parses { Parses (V.of_parts <$> reading.array E.reads.len (below.held T.read (length self.now.begin) place)) result input.old input.new }
     {
         let (bracket_token, mut content) = open_brackets(self.alloc, input)?;
         let elem = self.boxed(&mut content, place)?;
         let length = parse_length(self.alloc, &mut content)?;
         input.finish(content);
-        Ok((bracket_token, elem, length))
+        Ok(V::of_parts(self.alloc, (bracket_token, elem, length)))
     }
 
     /// A tree in brackets, that a length may follow.
     #[tactic(auto, using(token_core::proofs::Suffixes::follows), unfolding(crate::specs::groups::Reading::bracket_content))]
-    pub fn slice_or_array<E: Value>(
+    pub fn slice_or_array<E: Value, V: Form<(Bracket, InBrackets<T, E>)>>(
         &self,
         input: &mut ParseStream<'_>,
         place: P,
-    ) -> Result<(Bracket, InBrackets<T, E>), Error>
+    ) -> Result<V, Error>
         requires nests { Nests T.read (length self.now.begin) (F.pre self.now.read) (F.post self.now.read) }
         requires few { ahead input.old ≤ length self.now.begin }
-        ensures parses { Parses (reading.in_brackets (reading.bracket_content E.reads.len (below.held T.read (length self.now.begin) place))) result input.old input.new }
+        ensures parses { Parses (V.of_parts <$> reading.in_brackets (reading.bracket_content E.reads.len (below.held T.read (length self.now.begin) place))) result input.old input.new }
     {
         let (bracket_token, mut content) = open_brackets(self.alloc, input)?;
         let elem = self.boxed(&mut content, place)?;
         if content.peek::<Semi>() {
             let length = parse_length(self.alloc, &mut content)?;
             input.finish(content);
-            return Ok((bracket_token, InBrackets::Counted(elem, length)));
+            return Ok(V::of_parts(
+                self.alloc,
+                (bracket_token, InBrackets::Counted(elem, length)),
+            ));
         }
         input.finish(content);
-        Ok((bracket_token, InBrackets::Element(elem)))
+        Ok(V::of_parts(self.alloc, (bracket_token, InBrackets::Element(elem))))
     }
 
     /// A tree in parentheses.

@@ -1,13 +1,13 @@
 //! Heads: what stands before a form.
 
 ghost use Rattle.std.specs.Prelude.{◌<◌, ◌≤◌, length, IfOk};
-ghost use Rattle.token_core.specs.Reads.{Parses};
+ghost use Rattle.token_core.specs.Reads.{Parses, ◌<$>◌};
 ghost use Rattle.syn_forms.specs.heads.Reading as reading;
 ghost use Rattle.syn_forms.specs.nested.Below as below;
 ghost use Rattle.syn_forms.specs.nested.Below.{Nests, ahead};
 
 use crate::lists::ToGt;
-use crate::nested::{Nested, Tree};
+use crate::nested::{Form, Nested, Tree};
 use crate::tokens::{parse_extern, parse_fn, parse_for, parse_gt, parse_lt, parse_r_arrow};
 use std::alloc::Global;
 use std::marker::PhantomData;
@@ -73,6 +73,21 @@ impl<
         let arrow = parse_r_arrow(self.alloc, input)?;
         let output = self.boxed(input, place)?;
         Ok(Some((arrow, output)))
+    }
+
+    /// The same as the form that it is.
+    #[tactic(auto, using(token_core::proofs::Suffixes::follows))]
+    pub fn return_type<V: Form<Option<(RArrow, Boxed<T>)>>>(
+        &self,
+        input: &mut ParseStream<'_>,
+        place: P,
+    ) -> Result<V, Error>
+        requires nests { Nests T.read (length self.now.begin) (F.pre self.now.read) (F.post self.now.read) }
+        requires few { ahead input.old ≤ length self.now.begin }
+        ensures parses { Parses (V.of_parts <$> reading.returned (below.held T.read (length self.now.begin) place)) result input.old input.new }
+    {
+        let parts = self.returned(input, place)?;
+        Ok(V::of_parts(self.alloc, parts))
     }
 }
 

@@ -1,6 +1,6 @@
 //! What a form holds: trees that are read further on than the form began.
 
-ghost use Rattle.std.specs.Prelude.{◌<◌, ◌≤◌, length};
+ghost use Rattle.std.specs.Prelude.{◌≡◌, ◌<◌, ◌≤◌, length};
 ghost use Rattle.token_core.specs.Reads.{Reader, Reads, Follows, Parses};
 ghost use Rattle.syn_forms.specs.nested.Below as below;
 ghost use Rattle.syn_forms.specs.nested.Below.{Nests, ahead};
@@ -27,6 +27,17 @@ pub trait Held<P>: Tree<P> {
     ) -> Result<Self, Error>
         ensures reads { Reads (Self.read place input.old) result input.new }
         ensures within { Follows input.old input.new };
+}
+
+/// A form that is made of its parts, as a reader answers them: a pointer of its `*`, `const` or `mut` and what it points to.
+/// So a reader below the trees answers the form itself, which stands above with the trees.
+pub trait Form<X> {
+    /// The form of these parts.
+    ghost of_parts: { X → Self };
+
+    /// Makes it; what no part says, such as attributes, it has none of.
+    fn of_parts(alloc: Global, parts: X) -> Self
+        ensures { result ≡ of_parts parts };
 }
 
 /// The readers over what they hold.

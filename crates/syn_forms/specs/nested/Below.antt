@@ -24,6 +24,10 @@ below limit p s = below_if (nat_lt (ahead s) limit) p s
 unfoldable pub held : {P A : Type 0} → (P → Reader A) → ℕ → P → Reader A
 held r limit place = below limit (r place)
 
+-- a form by itself, over the reads of what it holds: these are asked further on than it began
+abbrev pub alone : {P A F : Type 0} → (P → Reader A) → ((P → Reader A) → Reader F) → Reader F
+alone r form s = form (held r (ahead s)) s
+
 -- a function value that reads in a place where less than the limit is left; its second argument tells what it reads
 pub record Nests {W P A : Type 0} (reader : P → Reader A) (limit : ℕ) (pre : Global → W → MutBor Stream → P → Type 0)
     (post : Global → W → MutBor Stream → P → Result A Refusal → MutBor Stream → Type 0) : Type 0 where

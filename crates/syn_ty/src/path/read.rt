@@ -34,13 +34,13 @@ use std::alloc::Global;
 use std::marker::PhantomData;
 use syn_forms::forms;
 use syn_forms::lists::{End, Make};
-use syn_forms::nested::Held;
+use syn_forms::nested::{Form, Held};
 use syn_forms::paths::{last_arguments, with_last_arguments};
 use syn_forms::places::{BoundPlace, ParamPlace, TypePlace};
 use syn_forms::tokens::{parse_any_lifetime, parse_colon, parse_eq, parse_plus};
 use syn_path::path::{PathOf, PathSegmentOf, PathStyle, QSelfOf, ReadArguments};
 use syn_path::supplied::{Attributes, Value};
-use token_core::token::{Brace, Colon, Comma, Eq, Gt, Paren, PathSep, Plus, RArrow};
+use token_core::token::{Brace, Colon, Comma, Eq, Gt, Paren, PathSep, Plus};
 use token_core::{
     Boxed, Cursor, Error, Ident, Items, Lifetime, Lit, Parse, ParseStream, Punctuated,
 };
@@ -255,16 +255,6 @@ impl<A, E> Make<TypeOf<A, E>, NamedArgOf<TypeOf<A, E>, A>> for UnnamedArg {
             name: None,
             ty,
         }
-    }
-}
-
-/// What is returned, by its parts.
-pub fn return_of<T>(returned: Option<(RArrow, Boxed<T>)>) -> ReturnTypeOf<T>
-    ensures { result ≡ reading.return_of returned }
-{
-    match returned {
-        Some((arrow, ty)) => ReturnTypeOf::Type(arrow, ty),
-        None => ReturnTypeOf::Default,
     }
 }
 
@@ -518,7 +508,7 @@ impl<
         Ok(ParenthesizedGenericArgumentsOf {
             paren_token,
             inputs,
-            output: return_of(returned),
+            output: ReturnTypeOf::of_parts(self.alloc, returned),
         })
     }
 
@@ -918,7 +908,7 @@ fn parse_parenthesized<A: Attributes, E: Value>(
     Ok(ParenthesizedGenericArgumentsOf {
         paren_token,
         inputs,
-        output: return_of(returned),
+        output: ReturnTypeOf::of_parts(alloc, returned),
     })
 }
 

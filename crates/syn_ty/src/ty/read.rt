@@ -30,8 +30,7 @@ ghost use Rattle.token_core.specs.Rebuilt.{Visible};
 
 use crate::generics::TypeParamBoundOf;
 use crate::ty::read::alone::{
-    parse_array, parse_fn_ptr, parse_group, parse_impl_trait, parse_named_arg, parse_paren,
-    parse_path_type, parse_ptr, parse_reference, parse_return_type, parse_slice,
+    parse_fn_ptr, parse_group, parse_impl_trait, parse_named_arg, parse_paren, parse_path_type,
     parse_trait_object, parse_tuple,
 };
 use crate::ty::read::tokens::{
@@ -44,6 +43,7 @@ use crate::ty::{
 };
 use std::alloc::Global;
 use std::marker::PhantomData;
+use syn_forms::forms::{parse_array, parse_ptr, parse_reference, parse_return_type, parse_slice};
 use syn_forms::nested::Held;
 use syn_forms::places::TypePlace;
 use syn_path::supplied::{Attributes, Value};
@@ -92,6 +92,7 @@ impl<A: Attributes, E: Value> Parse for TypeOf<A, E> {
 
 impl<A: Attributes, E: Value> ReturnTypeOf<TypeOf<A, E>> {
     /// Reads what a function returns; a `+` after the type is left (`ReturnType::without_plus`).
+    #[tactic(auto, unfolding(crate::specs::ty::Knot::return_type, crate::specs::ty::Reading::return_type))]
     pub fn without_plus(
         alloc: Global,
         input: &mut ParseStream<'_>,
@@ -100,7 +101,7 @@ impl<A: Attributes, E: Value> ReturnTypeOf<TypeOf<A, E>> {
         ensures promise { Heads (promises.return_type A.reads E.reads A.spells E.spells A.normal E.normal A.shown E.values NoPlus) input.old result input.new }
         ensures front { Takes (fronts.return_type A.spells E.spells NoPlus) input.old result input.new }
     {
-        parse_return_type(alloc, input, TypePlace::NoPlus)
+        parse_return_type::<TypePlace, TypeOf<A, E>, _>(alloc, input, TypePlace::NoPlus)
     }
 }
 
@@ -112,6 +113,7 @@ impl<A: Attributes, E: Value> Parse for ReturnTypeOf<TypeOf<A, E>> {
 
     ghost promise = { Headline (promises.return_type A.reads E.reads A.spells E.spells A.normal E.normal A.shown E.values Plus) };
 
+    #[tactic(auto, unfolding(crate::specs::ty::Knot::return_type, crate::specs::ty::Reading::return_type))]
     fn parse(
         alloc: Global,
         input: &mut ParseStream<'_>,
@@ -121,7 +123,7 @@ impl<A: Attributes, E: Value> Parse for ReturnTypeOf<TypeOf<A, E>> {
         ensures promise { Heads (promises.return_type A.reads E.reads A.spells E.spells A.normal E.normal A.shown E.values Plus) input.old result input.new }
         ensures front { Takes (fronts.return_type A.spells E.spells Plus) input.old result input.new }
     {
-        parse_return_type(alloc, input, TypePlace::Plus)
+        parse_return_type::<TypePlace, TypeOf<A, E>, _>(alloc, input, TypePlace::Plus)
     }
 }
 
@@ -203,6 +205,7 @@ impl<A: Attributes, E: Value> Parse for TypeArrayOf<TypeOf<A, E>, A, E> {
 
     ghost promise = { Headline (promises.array A.reads E.reads A.spells E.spells A.normal E.normal A.shown E.values) };
 
+    #[tactic(auto, unfolding(crate::specs::ty::Knot::array, crate::specs::ty::Reading::array))]
     fn parse(
         alloc: Global,
         input: &mut ParseStream<'_>,
@@ -212,7 +215,7 @@ impl<A: Attributes, E: Value> Parse for TypeArrayOf<TypeOf<A, E>, A, E> {
         ensures promise { Heads (promises.array A.reads E.reads A.spells E.spells A.normal E.normal A.shown E.values) input.old result input.new }
         ensures front { Takes (fronts.array A.spells E.spells) input.old result input.new }
     {
-        parse_array(alloc, input)
+        parse_array::<TypePlace, TypeOf<A, E>, E, _>(alloc, input, TypePlace::Plus)
     }
 }
 
@@ -303,6 +306,7 @@ impl<A: Attributes, E: Value> Parse for TypePtrOf<TypeOf<A, E>, A> {
 
     ghost promise = { Headline (promises.ptr A.reads E.reads A.spells E.spells A.normal E.normal A.shown E.values) };
 
+    #[tactic(auto, unfolding(crate::specs::ty::Knot::ptr, crate::specs::ty::Reading::ptr))]
     fn parse(
         alloc: Global,
         input: &mut ParseStream<'_>,
@@ -312,7 +316,7 @@ impl<A: Attributes, E: Value> Parse for TypePtrOf<TypeOf<A, E>, A> {
         ensures promise { Heads (promises.ptr A.reads E.reads A.spells E.spells A.normal E.normal A.shown E.values) input.old result input.new }
         ensures front { Takes (fronts.ptr A.spells E.spells) input.old result input.new }
     {
-        parse_ptr(alloc, input)
+        parse_ptr::<TypePlace, TypeOf<A, E>, _>(alloc, input, TypePlace::NoPlus)
     }
 }
 
@@ -324,6 +328,7 @@ impl<A: Attributes, E: Value> Parse for TypeReferenceOf<TypeOf<A, E>, A> {
 
     ghost promise = { Headline (promises.reference A.reads E.reads A.spells E.spells A.normal E.normal A.shown E.values) };
 
+    #[tactic(auto, unfolding(crate::specs::ty::Knot::reference, crate::specs::ty::Reading::reference))]
     fn parse(
         alloc: Global,
         input: &mut ParseStream<'_>,
@@ -333,7 +338,7 @@ impl<A: Attributes, E: Value> Parse for TypeReferenceOf<TypeOf<A, E>, A> {
         ensures promise { Heads (promises.reference A.reads E.reads A.spells E.spells A.normal E.normal A.shown E.values) input.old result input.new }
         ensures front { Takes (fronts.reference A.spells E.spells) input.old result input.new }
     {
-        parse_reference(alloc, input)
+        parse_reference::<TypePlace, TypeOf<A, E>, _>(alloc, input, TypePlace::NoPlus)
     }
 }
 
@@ -345,6 +350,7 @@ impl<A: Attributes, E: Value> Parse for TypeSliceOf<TypeOf<A, E>, A> {
 
     ghost promise = { Headline (promises.slice A.reads E.reads A.spells E.spells A.normal E.normal A.shown E.values) };
 
+    #[tactic(auto, unfolding(crate::specs::ty::Knot::slice, crate::specs::ty::Reading::slice))]
     fn parse(
         alloc: Global,
         input: &mut ParseStream<'_>,
@@ -354,7 +360,7 @@ impl<A: Attributes, E: Value> Parse for TypeSliceOf<TypeOf<A, E>, A> {
         ensures promise { Heads (promises.slice A.reads E.reads A.spells E.spells A.normal E.normal A.shown E.values) input.old result input.new }
         ensures front { Takes (fronts.slice A.spells E.spells) input.old result input.new }
     {
-        parse_slice(alloc, input)
+        parse_slice::<TypePlace, TypeOf<A, E>, _>(alloc, input, TypePlace::Plus)
     }
 }
 

@@ -9,16 +9,12 @@ ghost use Rattle.token_core.specs.Reads.{Parses};
 use crate::generics::read::optional_binder_from;
 use crate::generics::{BoundLifetimesOf, GenericParamOf, TypeParamBoundOf};
 use crate::grammar::{Grammar, read_bound, read_type};
-use crate::path::read::{bare_path_type, maybe_qualified_from, return_of};
-use crate::ty::read::parts::{
-    bare_array, bare_group, bare_paren, bare_ptr, bare_reference, bare_slice, bare_trait_object,
-    bare_tuple,
-};
+use crate::path::read::{bare_path_type, maybe_qualified_from};
+use crate::ty::read::parts::{bare_group, bare_paren, bare_trait_object, bare_tuple};
 use crate::ty::read::tokens::parse_optional_dyn;
 use crate::ty::{
-    NamedArgOf, ReturnTypeOf, TypeArrayOf, TypeFnPtrOf, TypeGroupOf, TypeImplTraitOf, TypeOf,
-    TypeParenOf, TypePathOf, TypePtrOf, TypeReferenceOf, TypeSliceOf, TypeTraitObjectOf,
-    TypeTupleOf,
+    NamedArgOf, TypeFnPtrOf, TypeGroupOf, TypeImplTraitOf, TypeOf, TypeParenOf, TypePathOf,
+    TypeTraitObjectOf, TypeTupleOf,
 };
 use std::alloc::Global;
 use std::marker::PhantomData;
@@ -28,24 +24,6 @@ use syn_forms::places::{BoundPlace, TypePlace};
 use syn_path::path::PathStyle;
 use syn_path::supplied::{Attributes, Value};
 use token_core::{Cursor, Error, ParseStream};
-
-/// `[T; n]`
-#[tactic(auto, using(token_core::proofs::Suffixes::follows), unfolding(crate::specs::ty::Knot::array, crate::specs::ty::Reading::array))]
-pub(crate) fn parse_array<A: Attributes, E: Value>(
-    alloc: Global,
-    input: &mut ParseStream<'_>,
-) -> Result<TypeArrayOf<TypeOf<A, E>, A, E>, Error>
-    ensures parses { Parses (knot.array A.reads E.reads) result input.old input.new }
-{
-    let begin = input.cursor();
-    let parts = forms::parse_array::<TypePlace, TypeOf<A, E>, E>(
-        alloc,
-        &begin,
-        input,
-        TypePlace::Plus,
-    )?;
-    Ok(bare_array(alloc, parts))
-}
 
 /// A pointer to a function after its binder, from a position on.
 fn fn_ptr_after_from<A: Attributes, E: Value>(
@@ -167,60 +145,6 @@ pub(crate) fn parse_path_type<A: Attributes, E: Value>(
     Ok(bare_path_type(alloc, qself, path))
 }
 
-/// `*const T`, `*mut T`
-#[tactic(auto, using(token_core::proofs::Suffixes::follows), unfolding(crate::specs::ty::Knot::ptr, crate::specs::ty::Reading::ptr))]
-pub(crate) fn parse_ptr<A: Attributes, E: Value>(
-    alloc: Global,
-    input: &mut ParseStream<'_>,
-) -> Result<TypePtrOf<TypeOf<A, E>, A>, Error>
-    ensures parses { Parses (knot.ptr A.reads E.reads) result input.old input.new }
-{
-    let begin = input.cursor();
-    let parts = forms::parse_ptr::<TypePlace, TypeOf<A, E>>(
-        alloc,
-        &begin,
-        input,
-        TypePlace::NoPlus,
-    )?;
-    Ok(bare_ptr(alloc, parts))
-}
-
-/// `&'a mut T`
-#[tactic(auto, using(token_core::proofs::Suffixes::follows), unfolding(crate::specs::ty::Knot::reference, crate::specs::ty::Reading::reference))]
-pub(crate) fn parse_reference<A: Attributes, E: Value>(
-    alloc: Global,
-    input: &mut ParseStream<'_>,
-) -> Result<TypeReferenceOf<TypeOf<A, E>, A>, Error>
-    ensures parses { Parses (knot.reference A.reads E.reads) result input.old input.new }
-{
-    let begin = input.cursor();
-    let parts = forms::parse_reference::<TypePlace, TypeOf<A, E>>(
-        alloc,
-        &begin,
-        input,
-        TypePlace::NoPlus,
-    )?;
-    Ok(bare_reference(alloc, parts))
-}
-
-/// `[T]`
-#[tactic(auto, using(token_core::proofs::Suffixes::follows), unfolding(crate::specs::ty::Knot::slice, crate::specs::ty::Reading::slice))]
-pub(crate) fn parse_slice<A: Attributes, E: Value>(
-    alloc: Global,
-    input: &mut ParseStream<'_>,
-) -> Result<TypeSliceOf<TypeOf<A, E>, A>, Error>
-    ensures parses { Parses (knot.slice A.reads E.reads) result input.old input.new }
-{
-    let begin = input.cursor();
-    let parts = forms::parse_slice::<TypePlace, TypeOf<A, E>>(
-        alloc,
-        &begin,
-        input,
-        TypePlace::Plus,
-    )?;
-    Ok(bare_slice(alloc, parts))
-}
-
 /// `dyn A + 'a`, `A + 'a` (syn's `TypeTraitObject::parse`)
 #[tactic(auto, using(token_core::proofs::Suffixes::follows, syn_forms::proofs::nested_laws::Ahead::later), unfolding(crate::specs::ty::Knot::trait_object, crate::specs::ty::Reading::trait_object))]
 pub(crate) fn parse_trait_object<A: Attributes, E: Value>(
@@ -263,20 +187,6 @@ pub(crate) fn parse_tuple<A: Attributes, E: Value>(
         TypePlace::Plus,
     )?;
     Ok(bare_tuple(alloc, parts))
-}
-
-/// Nothing, or `-> T`
-#[tactic(auto, using(token_core::proofs::Suffixes::follows), unfolding(crate::specs::ty::Knot::return_type, crate::specs::ty::Reading::return_type))]
-pub(crate) fn parse_return_type<A: Attributes, E: Value>(
-    alloc: Global,
-    input: &mut ParseStream<'_>,
-    place: TypePlace,
-) -> Result<ReturnTypeOf<TypeOf<A, E>>, Error>
-    ensures parses { Parses (knot.return_type A.reads E.reads place) result input.old input.new }
-{
-    let begin = input.cursor();
-    let parts = forms::parse_returned::<TypePlace, TypeOf<A, E>>(alloc, &begin, input, place)?;
-    Ok(return_of(parts))
 }
 
 /// `a: T`

@@ -1,18 +1,15 @@
 //! Types that are taken apart at their tokens alone.
 
-ghost use Rattle.std.specs.Prelude.{◌<◌, ◌≤◌, length};
+ghost use Rattle.std.specs.Prelude.{◌<◌, length};
 ghost use Rattle.syn_forms.specs.declared.places.TypePlace.TheVariants.{Plus};
 ghost use Rattle.syn_forms.specs.groups.Reading as content;
 ghost use Rattle.syn_forms.specs.nested.Below.{Nests, ahead};
 ghost use Rattle.syn_ty.specs.ty.Knot as knot;
 ghost use Rattle.syn_ty.specs.ty.Points.{a_type};
-ghost use Rattle.syn_ty.specs.ty.Reading as reading;
 ghost use Rattle.token_core.specs.Reads.{Parses};
 
 use crate::grammar::Grammar;
-use crate::path::read::return_of;
-use crate::ty::read::parts::{bare_ptr, bare_reference, of_brackets};
-use crate::ty::{ReturnTypeOf, TypeOf, TypePtrOf, TypeReferenceOf};
+use crate::ty::TypeOf;
 use std::alloc::Global;
 use std::marker::PhantomData;
 use syn_forms::groups::ParenContent;
@@ -36,48 +33,6 @@ impl<
     I,
     J,
 > Grammar<'a, A, E, F, G, H, I, J> {
-    /// `*const T`, `*mut T`, the type without plus.
-    #[tactic(auto, using(token_core::proofs::Suffixes::follows, syn_forms::proofs::nested_laws::Ahead::later), unfolding(crate::specs::ty::Reading::ptr))]
-    pub(crate) fn ptr(
-        &self,
-        input: &mut ParseStream<'_>,
-    ) -> Result<TypePtrOf<TypeOf<A, E>, A>, Error>
-        requires types { Nests (knot.ty A.reads E.reads) (length self.now.begin) (F.pre self.now.types) (F.post self.now.types) }
-        requires few { ahead input.old ≤ length self.now.begin }
-        ensures parses { Parses (reading.ptr (knot.reads_below A.reads E.reads (length self.now.begin))) result input.old input.new }
-        ensures fewer { ahead input.new ≤ ahead input.old }
-    {
-        let parts = self.types().ptr(input, TypePlace::NoPlus)?;
-        Ok(bare_ptr(self.alloc, parts))
-    }
-
-    /// `&'a mut T`, the type without plus.
-    #[tactic(auto, using(token_core::proofs::Suffixes::follows, syn_forms::proofs::nested_laws::Ahead::later), unfolding(crate::specs::ty::Reading::reference))]
-    pub(crate) fn reference(
-        &self,
-        input: &mut ParseStream<'_>,
-    ) -> Result<TypeReferenceOf<TypeOf<A, E>, A>, Error>
-        requires types { Nests (knot.ty A.reads E.reads) (length self.now.begin) (F.pre self.now.types) (F.post self.now.types) }
-        requires few { ahead input.old ≤ length self.now.begin }
-        ensures parses { Parses (reading.reference (knot.reads_below A.reads E.reads (length self.now.begin))) result input.old input.new }
-        ensures fewer { ahead input.new ≤ ahead input.old }
-    {
-        let parts = self.types().reference(input, TypePlace::NoPlus)?;
-        Ok(bare_reference(self.alloc, parts))
-    }
-
-    /// A slice, or an array where a `;` follows the type.
-    #[tactic(auto, using(token_core::proofs::Suffixes::follows, syn_forms::proofs::nested_laws::Ahead::later), unfolding(crate::specs::ty::Reading::slice_or_array))]
-    pub(crate) fn slice_or_array(&self, input: &mut ParseStream<'_>) -> Result<TypeOf<A, E>, Error>
-        requires types { Nests (knot.ty A.reads E.reads) (length self.now.begin) (F.pre self.now.types) (F.post self.now.types) }
-        requires few { ahead input.old ≤ length self.now.begin }
-        ensures parses { Parses (reading.slice_or_array E.reads (knot.reads_below A.reads E.reads (length self.now.begin))) result input.old input.new }
-        ensures fewer { ahead input.new ≤ ahead input.old }
-    {
-        let (bracket_token, held) = self.types().slice_or_array::<E>(input, TypePlace::Plus)?;
-        Ok(of_brackets(self.alloc, bracket_token, held))
-    }
-
     /// What parentheses hold that begin with a type.
     #[tactic(auto, using(token_core::proofs::Suffixes::follows))]
     pub(crate) fn type_or_elements<O, Q>(
@@ -89,21 +44,5 @@ impl<
         ensures parses { Parses (content.type_or_elements (knot.reads_below A.reads E.reads (length self.now.begin) (a_type Plus))) result input.old input.new }
     {
         self.types().type_or_elements(input, TypePlace::Plus)
-    }
-
-    /// What a function returns: nothing, or `->` and a type.
-    #[tactic(auto, using(token_core::proofs::Suffixes::follows, syn_forms::proofs::nested_laws::Ahead::later), unfolding(crate::specs::ty::Reading::return_type))]
-    pub(crate) fn return_type(
-        &self,
-        input: &mut ParseStream<'_>,
-        place: TypePlace,
-    ) -> Result<ReturnTypeOf<TypeOf<A, E>>, Error>
-        requires types { Nests (knot.ty A.reads E.reads) (length self.now.begin) (F.pre self.now.types) (F.post self.now.types) }
-        requires few { ahead input.old ≤ length self.now.begin }
-        ensures parses { Parses (reading.return_type (knot.reads_below A.reads E.reads (length self.now.begin)) place) result input.old input.new }
-        ensures fewer { ahead input.new ≤ ahead input.old }
-    {
-        let parts = self.types().returned(input, place)?;
-        Ok(return_of(parts))
     }
 }

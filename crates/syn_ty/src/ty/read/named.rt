@@ -81,7 +81,7 @@ impl<
         // boxed: a refusal then drops each by one call, where its options would be taken apart
         let head = Boxed::new(self.alloc, parse_fn_head(self.alloc, input)?)?;
         let inputs = Boxed::new(self.alloc, self.fn_ptr_inputs(input)?)?;
-        let output = self.return_type(input, TypePlace::NoPlus)?;
+        let output = self.types().return_type(input, TypePlace::NoPlus)?;
         Ok((head.into_inner(), inputs.into_inner(), output))
     }
 

@@ -6,6 +6,7 @@ ghost use Rattle.syn_forms.specs.verbatim.Reading.{join};
 ghost use Rattle.syn_ty.specs.declared.generics.TypeParamBoundOf.{out-TypeParamBoundOf};
 ghost use Rattle.syn_ty.specs.declared.ty.TypeOf.TheVariants as variants;
 ghost use Rattle.syn_ty.specs.declared.ty.TypePathOf.{out-TypePathOf};
+ghost use Rattle.syn_ty.specs.path.Reading as path_reading;
 ghost use Rattle.syn_ty.specs.ty.Reading as reading;
 ghost use Rattle.syn_ty.specs.ty.Types as types;
 
@@ -21,42 +22,104 @@ use crate::ty::{
 use std::alloc::{AllocError, Global};
 use syn_forms::groups::InBrackets;
 use syn_forms::inputs::{Argument, Dots, Verbatim};
+use syn_forms::nested::Form;
 use syn_forms::paths::last_arguments;
 use syn_forms::tokens::PointerMutability;
 use syn_path::path::{PathOf, QSelfOf};
 use syn_path::supplied::{Attributes, Value};
 use token_core::token::{
-    And, Bracket, Colon, Comma, Dyn, Extern, Fn, GroupToken, Gt, Impl, Lt, Mut, Paren, Plus, Semi,
-    Star, Unsafe,
+    And, Bracket, Colon, Comma, Dyn, Extern, Fn, GroupToken, Gt, Impl, Lt, Mut, Paren, Plus,
+    RArrow, Semi, Star, Unsafe,
 };
 use token_core::{Boxed, Ident, Items, Lifetime, LitStr, Punctuated, TokenStream};
 
 // ---- forms by their parts, without attributes
 
-pub(crate) fn bare_slice<T, A>(alloc: Global, parts: (Bracket, Boxed<T>)) -> TypeSliceOf<T, A>
-    ensures { result ≡ types.slice_of parts.0 parts.1 }
-{
-    let (bracket_token, elem) = parts;
-    TypeSliceOf {
-        attrs: Items::new(alloc),
-        bracket_token,
-        elem,
+impl<T, A> Form<(Bracket, Boxed<T>)> for TypeSliceOf<T, A> {
+    ghost of_parts = { λ p. types.slice_of p.0 p.1 };
+
+    fn of_parts(alloc: Global, parts: (Bracket, Boxed<T>)) -> TypeSliceOf<T, A> {
+        let (bracket_token, elem) = parts;
+        TypeSliceOf {
+            attrs: Items::new(alloc),
+            bracket_token,
+            elem,
+        }
     }
 }
 
-pub(crate) fn bare_array<T, A, E>(
-    alloc: Global,
-    parts: (Bracket, Boxed<T>, (Semi, E)),
-) -> TypeArrayOf<T, A, E>
-    ensures { result ≡ types.array_of parts.0 parts.1 parts.2.0 parts.2.1 }
-{
-    let (bracket_token, elem, (semi_token, len)) = parts;
-    TypeArrayOf {
-        attrs: Items::new(alloc),
-        bracket_token,
-        elem,
-        semi_token,
-        len,
+impl<T, A, E> Form<(Bracket, Boxed<T>, (Semi, E))> for TypeArrayOf<T, A, E> {
+    ghost of_parts = { λ p. types.array_of p.0 p.1 p.2.0 p.2.1 };
+
+    fn of_parts(alloc: Global, parts: (Bracket, Boxed<T>, (Semi, E))) -> TypeArrayOf<T, A, E> {
+        let (bracket_token, elem, (semi_token, len)) = parts;
+        TypeArrayOf {
+            attrs: Items::new(alloc),
+            bracket_token,
+            elem,
+            semi_token,
+            len,
+        }
+    }
+}
+
+impl<T, A> Form<(Star, PointerMutability, Boxed<T>)> for TypePtrOf<T, A> {
+    ghost of_parts = { λ p. types.ptr_of p.0 p.1 p.2 };
+
+    fn of_parts(alloc: Global, parts: (Star, PointerMutability, Boxed<T>)) -> TypePtrOf<T, A> {
+        let (star_token, mutability, elem) = parts;
+        TypePtrOf {
+            attrs: Items::new(alloc),
+            star_token,
+            mutability,
+            elem,
+        }
+    }
+}
+
+impl<T, A> Form<(And, Option<Lifetime>, Option<Mut>, Boxed<T>)> for TypeReferenceOf<T, A> {
+    ghost of_parts = { λ p. types.reference_of p.0 p.1 p.2 p.3 };
+
+    fn of_parts(
+        alloc: Global,
+        parts: (And, Option<Lifetime>, Option<Mut>, Boxed<T>),
+    ) -> TypeReferenceOf<T, A> {
+        let (and_token, lifetime, mutability, elem) = parts;
+        TypeReferenceOf {
+            attrs: Items::new(alloc),
+            and_token,
+            lifetime,
+            mutability,
+            elem,
+        }
+    }
+}
+
+impl<T> Form<Option<(RArrow, Boxed<T>)>> for ReturnTypeOf<T> {
+    ghost of_parts = { path_reading.return_of };
+
+    fn of_parts(alloc: Global, parts: Option<(RArrow, Boxed<T>)>) -> ReturnTypeOf<T> {
+        match parts {
+            Some((arrow, ty)) => ReturnTypeOf::Type(arrow, ty),
+            None => ReturnTypeOf::Default,
+        }
+    }
+}
+
+/// The type of what brackets held.
+impl<A, E> Form<(Bracket, InBrackets<TypeOf<A, E>, E>)> for TypeOf<A, E> {
+    ghost of_parts = { λ p. reading.bracketed p.0 p.1 };
+
+    fn of_parts(alloc: Global, parts: (Bracket, InBrackets<TypeOf<A, E>, E>)) -> TypeOf<A, E> {
+        let (bracket_token, held) = parts;
+        match held {
+            InBrackets::Element(elem) => {
+                TypeOf::Slice(TypeSliceOf::of_parts(alloc, (bracket_token, elem)))
+            }
+            InBrackets::Counted(elem, length) => {
+                TypeOf::Array(TypeArrayOf::of_parts(alloc, (bracket_token, elem, length)))
+            }
+        }
     }
 }
 
@@ -82,37 +145,6 @@ pub(crate) fn bare_tuple<T, A>(
         attrs: Items::new(alloc),
         paren_token,
         elems,
-    }
-}
-
-pub(crate) fn bare_ptr<T, A>(
-    alloc: Global,
-    parts: (Star, PointerMutability, Boxed<T>),
-) -> TypePtrOf<T, A>
-    ensures { result ≡ types.ptr_of parts.0 parts.1 parts.2 }
-{
-    let (star_token, mutability, elem) = parts;
-    TypePtrOf {
-        attrs: Items::new(alloc),
-        star_token,
-        mutability,
-        elem,
-    }
-}
-
-pub(crate) fn bare_reference<T, A>(
-    alloc: Global,
-    parts: (And, Option<Lifetime>, Option<Mut>, Boxed<T>),
-) -> TypeReferenceOf<T, A>
-    ensures { result ≡ types.reference_of parts.0 parts.1 parts.2 parts.3 }
-{
-    let (and_token, lifetime, mutability, elem) = parts;
-    TypeReferenceOf {
-        attrs: Items::new(alloc),
-        and_token,
-        lifetime,
-        mutability,
-        elem,
     }
 }
 
@@ -163,22 +195,6 @@ pub(crate) fn object_of<A, E>(
     ensures { result ≡ reading.object_of bounds }
 {
     TypeOf::TraitObject(bare_trait_object(alloc, None, bounds))
-}
-
-/// The type of what brackets held.
-pub(crate) fn of_brackets<A, E>(
-    alloc: Global,
-    bracket_token: Bracket,
-    held: InBrackets<TypeOf<A, E>, E>,
-) -> TypeOf<A, E>
-    ensures { result ≡ reading.bracketed bracket_token held }
-{
-    match held {
-        InBrackets::Element(elem) => TypeOf::Slice(bare_slice(alloc, (bracket_token, elem))),
-        InBrackets::Counted(elem, length) => {
-            TypeOf::Array(bare_array(alloc, (bracket_token, elem, length)))
-        }
-    }
 }
 
 /// `...` with its attributes, at the end of the arguments.

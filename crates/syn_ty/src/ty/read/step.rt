@@ -105,13 +105,15 @@ impl<
             return self.dyn_type(input, plus);
         }
         if input.peek::<Bracket>() {
-            return self.slice_or_array(input);
+            return self
+                .types()
+                .slice_or_array::<E, TypeOf<A, E>>(input, TypePlace::Plus);
         }
         if input.peek::<Star>() {
-            return Ok(TypeOf::Ptr(self.ptr(input)?));
+            return Ok(TypeOf::Ptr(self.types().ptr(input, TypePlace::NoPlus)?));
         }
         if input.peek::<And>() {
-            return Ok(TypeOf::Reference(self.reference(input)?));
+            return Ok(TypeOf::Reference(self.types().reference(input, TypePlace::NoPlus)?));
         }
         self.by_last_tokens(input, plus)
     }

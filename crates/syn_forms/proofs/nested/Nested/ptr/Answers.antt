@@ -1,4 +1,4 @@
-use Rattle.std.proofs.Common.{refl, arith}
+use Rattle.std.proofs.Common.{Ok, refl, sym, ap, arith}
 use Rattle.token_core.proofs.Suffixes.{follows_trans}
 use Rattle.token_core.proofs.Steps.{link}
 use Rattle.syn_forms.specs.forms.Reading.{ptr}
@@ -12,7 +12,7 @@ returns-in_err-star_token g c =
     let e = c.in_err-star_token.field-0.0 in
     record {
       parses = (
-        passed_on _ _ _ _ e c.from_residual.ensures c.in_err-star_token.ensures.parses.0 (λ h. stopped _ e h),
+        passed_on _ _ _ _ e c.from_residual.ensures c.in_err-star_token.ensures.parses.0 (λ h. stopped _ e (stopped _ e h)),
         c.parse_star.ensures.parses.1,
       );
     }
@@ -23,7 +23,7 @@ returns-in_err-mutability g c =
     let e = c.in_err-mutability.field-0.0 in
     record {
       parses = (
-        passed_on _ _ _ _ e c.from_residual-in_err-mutability.ensures c.in_err-mutability.ensures.parses.0 (λ h. link _ c.in_ok-star_token.ensures.parses.0 (stopped _ e h)),
+        passed_on _ _ _ _ e c.from_residual-in_err-mutability.ensures c.in_err-mutability.ensures.parses.0 (λ h. stopped _ e (link _ c.in_ok-star_token.ensures.parses.0 (stopped _ e h))),
         follows_trans _ _ _ c.parse_star.ensures.parses.1 c.parse_mutability.ensures.parses.1,
       );
     }
@@ -41,7 +41,7 @@ returns-in_err-elem g c =
     let e = c.in_err-elem.field-0.0 in
     record {
       parses = (
-        passed_on _ _ _ _ e c.from_residual-in_err-elem.ensures c.in_err-elem.ensures.parses.0 (λ h. link _ c.in_ok-star_token.ensures.parses.0 (link _ c.in_ok-mutability.ensures.parses.0 (stopped _ e h))),
+        passed_on _ _ _ _ e c.from_residual-in_err-elem.ensures c.in_err-elem.ensures.parses.0 (λ h. stopped _ e (link _ c.in_ok-star_token.ensures.parses.0 (link _ c.in_ok-mutability.ensures.parses.0 (stopped _ e h)))),
         follows_trans _ _ _ c.parse_star.ensures.parses.1 (follows_trans _ _ _ c.parse_mutability.ensures.parses.1 c.boxed.ensures.parses.1),
       );
     }
@@ -51,7 +51,7 @@ unfolding ptr
 returns g c =
     record {
       parses = (
-        link _ c.in_ok-star_token.ensures.parses.0 (link _ c.in_ok-mutability.ensures.parses.0 (link _ c.in_ok-elem.ensures.parses.0 refl)),
+        link _ (link _ c.in_ok-star_token.ensures.parses.0 (link _ c.in_ok-mutability.ensures.parses.0 (link _ c.in_ok-elem.ensures.parses.0 refl))) (ap (λ z. Ok (z, c.boxed.new.input)) (sym c.of_parts.ensures)),
         follows_trans _ _ _ c.parse_star.ensures.parses.1 (follows_trans _ _ _ c.parse_mutability.ensures.parses.1 c.boxed.ensures.parses.1),
       );
     }

@@ -1,4 +1,4 @@
-use Rattle.std.proofs.Common.{refl, arith}
+use Rattle.std.proofs.Common.{Ok, refl, sym, ap, arith}
 use Rattle.token_core.proofs.Suffixes.{follows_trans}
 use Rattle.token_core.proofs.Steps.{link}
 use Rattle.syn_forms.specs.forms.Reading.{reference}
@@ -12,7 +12,7 @@ returns-in_err-and_token g c =
     let e = c.in_err-and_token.field-0.0 in
     record {
       parses = (
-        passed_on _ _ _ _ e c.from_residual.ensures c.in_err-and_token.ensures.parses.0 (λ h. stopped _ e h),
+        passed_on _ _ _ _ e c.from_residual.ensures c.in_err-and_token.ensures.parses.0 (λ h. stopped _ e (stopped _ e h)),
         c.parse_and.ensures.parses.1,
       );
     }
@@ -23,7 +23,7 @@ returns-in_err-lifetime g c =
     let e = c.in_err-lifetime.field-0.0 in
     record {
       parses = (
-        passed_on _ _ _ _ e c.from_residual-in_err-lifetime.ensures c.in_err-lifetime.ensures.parses.0 (λ h. link _ c.in_ok-and_token.ensures.parses.0 (stopped _ e h)),
+        passed_on _ _ _ _ e c.from_residual-in_err-lifetime.ensures c.in_err-lifetime.ensures.parses.0 (λ h. stopped _ e (link _ c.in_ok-and_token.ensures.parses.0 (stopped _ e h))),
         follows_trans _ _ _ c.parse_and.ensures.parses.1 c.parse_lifetime.ensures.parses.1,
       );
     }
@@ -34,7 +34,7 @@ returns-in_err-mutability g c =
     let e = c.in_err-mutability.field-0.0 in
     record {
       parses = (
-        passed_on _ _ _ _ e c.from_residual-in_err-mutability.ensures c.in_err-mutability.ensures.parses.0 (λ h. link _ c.in_ok-and_token.ensures.parses.0 (link _ c.in_ok-lifetime.ensures.parses.0 (stopped _ e h))),
+        passed_on _ _ _ _ e c.from_residual-in_err-mutability.ensures c.in_err-mutability.ensures.parses.0 (λ h. stopped _ e (link _ c.in_ok-and_token.ensures.parses.0 (link _ c.in_ok-lifetime.ensures.parses.0 (stopped _ e h)))),
         follows_trans _ _ _ c.parse_and.ensures.parses.1 (follows_trans _ _ _ c.parse_lifetime.ensures.parses.1 c.parse_mut.ensures.parses.1),
       );
     }
@@ -52,7 +52,7 @@ returns-in_err-elem g c =
     let e = c.in_err-elem.field-0.0 in
     record {
       parses = (
-        passed_on _ _ _ _ e c.from_residual-in_err-elem.ensures c.in_err-elem.ensures.parses.0 (λ h. link _ c.in_ok-and_token.ensures.parses.0 (link _ c.in_ok-lifetime.ensures.parses.0 (link _ c.in_ok-mutability.ensures.parses.0 (stopped _ e h)))),
+        passed_on _ _ _ _ e c.from_residual-in_err-elem.ensures c.in_err-elem.ensures.parses.0 (λ h. stopped _ e (link _ c.in_ok-and_token.ensures.parses.0 (link _ c.in_ok-lifetime.ensures.parses.0 (link _ c.in_ok-mutability.ensures.parses.0 (stopped _ e h))))),
         follows_trans _ _ _ c.parse_and.ensures.parses.1 (follows_trans _ _ _ c.parse_lifetime.ensures.parses.1 (follows_trans _ _ _ c.parse_mut.ensures.parses.1 c.boxed.ensures.parses.1)),
       );
     }
@@ -62,7 +62,7 @@ unfolding reference
 returns g c =
     record {
       parses = (
-        link _ c.in_ok-and_token.ensures.parses.0 (link _ c.in_ok-lifetime.ensures.parses.0 (link _ c.in_ok-mutability.ensures.parses.0 (link _ c.in_ok-elem.ensures.parses.0 refl))),
+        link _ (link _ c.in_ok-and_token.ensures.parses.0 (link _ c.in_ok-lifetime.ensures.parses.0 (link _ c.in_ok-mutability.ensures.parses.0 (link _ c.in_ok-elem.ensures.parses.0 refl)))) (ap (λ z. Ok (z, c.boxed.new.input)) (sym c.of_parts.ensures)),
         follows_trans _ _ _ c.parse_and.ensures.parses.1 (follows_trans _ _ _ c.parse_lifetime.ensures.parses.1 (follows_trans _ _ _ c.parse_mut.ensures.parses.1 c.boxed.ensures.parses.1)),
       );
     }

@@ -1,11 +1,12 @@
 use Rattle.std.proofs.Common.{Ok, length, sym, ap, ◌∙◌, arith}
 use Rattle.token_core.proofs.Suffixes.{follows_trans}
+use Rattle.token_core.proofs.Steps.{link}
 use Rattle.token_core.specs.Groups as groups
 use Rattle.token_core.specs.Reads.{open_group}
 use Rattle.token_core.specs.declared.tree.Delimiter.TheVariants.{Bracket}
 use Rattle.syn_forms.proofs.groups_laws.Inside.{not_opened, read_inside, refused_inside}
 use Rattle.syn_forms.specs.nested.Below.{held}
-use Rattle.syn_forms.proofs.lists_laws.Turns.{passed_on}
+use Rattle.syn_forms.proofs.lists_laws.Turns.{passed_on, stopped}
 use Rattle.syn_forms.proofs.nested.Nested.slice.Goals as goal
 
 pub returns-in_err-bracket_token : goal.returns-in_err-bracket_token
@@ -13,7 +14,7 @@ returns-in_err-bracket_token g c =
     let e = c.in_err-bracket_token.field-0.0 in
     record {
       parses = (
-        passed_on _ _ _ _ e c.from_residual.ensures c.in_err-bracket_token.ensures.parses.0 (λ h. not_opened groups.bracket (open_group Bracket groups.bracket_name) (λ k x. (k, x)) (held g.T.Tree.read (length c.args.self.now.begin) c.args.place) _ e h),
+        passed_on _ _ _ _ e c.from_residual.ensures c.in_err-bracket_token.ensures.parses.0 (λ h. stopped _ e (not_opened groups.bracket (open_group Bracket groups.bracket_name) (λ k x. (k, x)) (held g.T.Tree.read (length c.args.self.now.begin) c.args.place) _ e h)),
         c.open_brackets.ensures.parses.1,
       );
     }
@@ -32,7 +33,7 @@ returns-in_err-elem g c =
     let e = c.in_err-elem.field-0.0 in
     record {
       parses = (
-        passed_on _ _ _ _ e c.from_residual-in_err-elem.ensures c.in_err-elem.ensures.parses.0 (λ h. refused_inside groups.bracket (open_group Bracket groups.bracket_name) (λ k x. (k, x)) (held g.T.Tree.read (length c.args.self.now.begin) c.args.place) _ _ _ _ e c.in_ok-bracket_token.ensures.parses.0 (h)),
+        passed_on _ _ _ _ e c.from_residual-in_err-elem.ensures c.in_err-elem.ensures.parses.0 (λ h. stopped _ e (refused_inside groups.bracket (open_group Bracket groups.bracket_name) (λ k x. (k, x)) (held g.T.Tree.read (length c.args.self.now.begin) c.args.place) _ _ _ _ e c.in_ok-bracket_token.ensures.parses.0 (h))),
         c.open_brackets.ensures.parses.1,
       );
     }
@@ -41,7 +42,7 @@ pub returns : goal.returns
 returns g c =
     record {
       parses = (
-        read_inside groups.bracket (open_group Bracket groups.bracket_name) (λ k x. (k, x)) (held g.T.Tree.read (length c.args.self.now.begin) c.args.place) _ _ _ _ _ _ c.in_ok-bracket_token.ensures.parses.0 (c.in_ok-elem.ensures.parses.0) ∙ ap (λ z. Ok ((c.in_ok-bracket_token.bracket_token, c.in_ok-elem.elem), z)) (sym c.finish.ensures.finished),
+        link _ (read_inside groups.bracket (open_group Bracket groups.bracket_name) (λ k x. (k, x)) (held g.T.Tree.read (length c.args.self.now.begin) c.args.place) _ _ _ _ _ _ c.in_ok-bracket_token.ensures.parses.0 (c.in_ok-elem.ensures.parses.0) ∙ ap (λ z. Ok ((c.in_ok-bracket_token.bracket_token, c.in_ok-elem.elem), z)) (sym c.finish.ensures.finished)) (ap (λ z. Ok (z, c.finish.new.self)) (sym c.of_parts.ensures)),
         follows_trans _ _ _ c.open_brackets.ensures.parses.1 c.finish.ensures.within,
       );
     }

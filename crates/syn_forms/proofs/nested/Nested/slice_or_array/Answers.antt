@@ -16,7 +16,7 @@ returns-in_err-bracket_token g c =
     let e = c.in_err-bracket_token.field-0.0 in
     record {
       parses = (
-        passed_on _ _ _ _ e c.from_residual.ensures c.in_err-bracket_token.ensures.parses.0 (λ h. not_opened groups.bracket (open_group Bracket groups.bracket_name) (λ k x. (k, x)) (bracket_content g.E.Value.reads.len (held g.T.Tree.read (length c.args.self.now.begin) c.args.place)) _ e h),
+        passed_on _ _ _ _ e c.from_residual.ensures c.in_err-bracket_token.ensures.parses.0 (λ h. stopped _ e (not_opened groups.bracket (open_group Bracket groups.bracket_name) (λ k x. (k, x)) (bracket_content g.E.Value.reads.len (held g.T.Tree.read (length c.args.self.now.begin) c.args.place)) _ e h)),
         c.open_brackets.ensures.parses.1,
       );
     }
@@ -36,7 +36,7 @@ returns-in_err-elem g c =
     let e = c.in_err-elem.field-0.0 in
     record {
       parses = (
-        passed_on _ _ _ _ e c.from_residual-in_err-elem.ensures c.in_err-elem.ensures.parses.0 (λ h. refused_inside groups.bracket (open_group Bracket groups.bracket_name) (λ k x. (k, x)) (bracket_content g.E.Value.reads.len (held g.T.Tree.read (length c.args.self.now.begin) c.args.place)) _ _ _ _ e c.in_ok-bracket_token.ensures.parses.0 (stopped _ e h)),
+        passed_on _ _ _ _ e c.from_residual-in_err-elem.ensures c.in_err-elem.ensures.parses.0 (λ h. stopped _ e (refused_inside groups.bracket (open_group Bracket groups.bracket_name) (λ k x. (k, x)) (bracket_content g.E.Value.reads.len (held g.T.Tree.read (length c.args.self.now.begin) c.args.place)) _ _ _ _ e c.in_ok-bracket_token.ensures.parses.0 (stopped _ e h))),
         c.open_brackets.ensures.parses.1,
       );
     }
@@ -47,7 +47,7 @@ returns-in_err-length g c =
     let e = c.in_err-length.field-0.0 in
     record {
       parses = (
-        passed_on _ _ _ _ e c.from_residual-in_err-length.ensures c.in_err-length.ensures.parses.0 (λ h. refused_inside groups.bracket (open_group Bracket groups.bracket_name) (λ k x. (k, x)) (bracket_content g.E.Value.reads.len (held g.T.Tree.read (length c.args.self.now.begin) c.args.place)) _ _ _ _ e c.in_ok-bracket_token.ensures.parses.0 (link _ c.in_ok-elem.ensures.parses.0 (chosen _ true _ _ _ _ (sym c.if-peek.ensures) (stopped _ e h)))),
+        passed_on _ _ _ _ e c.from_residual-in_err-length.ensures c.in_err-length.ensures.parses.0 (λ h. stopped _ e (refused_inside groups.bracket (open_group Bracket groups.bracket_name) (λ k x. (k, x)) (bracket_content g.E.Value.reads.len (held g.T.Tree.read (length c.args.self.now.begin) c.args.place)) _ _ _ _ e c.in_ok-bracket_token.ensures.parses.0 (link _ c.in_ok-elem.ensures.parses.0 (chosen _ true _ _ _ _ (sym c.if-peek.ensures) (stopped _ e h))))),
         c.open_brackets.ensures.parses.1,
       );
     }
@@ -57,7 +57,7 @@ unfolding bracket_content
 returns-then-peek g c =
     record {
       parses = (
-        read_inside groups.bracket (open_group Bracket groups.bracket_name) (λ k x. (k, x)) (bracket_content g.E.Value.reads.len (held g.T.Tree.read (length c.args.self.now.begin) c.args.place)) _ _ _ _ _ _ c.in_ok-bracket_token.ensures.parses.0 (link _ c.in_ok-elem.ensures.parses.0 (chosen _ true _ _ _ _ (sym c.if-peek.ensures) (link _ c.in_ok-length.ensures.parses.0 refl))) ∙ ap (λ z. Ok ((c.in_ok-bracket_token.bracket_token, Counted c.in_ok-elem.elem c.in_ok-length.length), z)) (sym c.finish.ensures.finished),
+        link _ (read_inside groups.bracket (open_group Bracket groups.bracket_name) (λ k x. (k, x)) (bracket_content g.E.Value.reads.len (held g.T.Tree.read (length c.args.self.now.begin) c.args.place)) _ _ _ _ _ _ c.in_ok-bracket_token.ensures.parses.0 (link _ c.in_ok-elem.ensures.parses.0 (chosen _ true _ _ _ _ (sym c.if-peek.ensures) (link _ c.in_ok-length.ensures.parses.0 refl))) ∙ ap (λ z. Ok ((c.in_ok-bracket_token.bracket_token, Counted c.in_ok-elem.elem c.in_ok-length.length), z)) (sym c.finish.ensures.finished)) (ap (λ z. Ok (z, c.finish.new.self)) (sym c.of_parts.ensures)),
         follows_trans _ _ _ c.open_brackets.ensures.parses.1 c.finish.ensures.within,
       );
     }
@@ -67,7 +67,7 @@ unfolding bracket_content
 returns g c =
     record {
       parses = (
-        read_inside groups.bracket (open_group Bracket groups.bracket_name) (λ k x. (k, x)) (bracket_content g.E.Value.reads.len (held g.T.Tree.read (length c.args.self.now.begin) c.args.place)) _ _ _ _ _ _ c.in_ok-bracket_token.ensures.parses.0 (link _ c.in_ok-elem.ensures.parses.0 (chosen _ false _ _ _ _ (sym c.if-peek.ensures) refl)) ∙ ap (λ z. Ok ((c.in_ok-bracket_token.bracket_token, Element c.in_ok-elem.elem), z)) (sym c.finish-2.ensures.finished),
+        link _ (read_inside groups.bracket (open_group Bracket groups.bracket_name) (λ k x. (k, x)) (bracket_content g.E.Value.reads.len (held g.T.Tree.read (length c.args.self.now.begin) c.args.place)) _ _ _ _ _ _ c.in_ok-bracket_token.ensures.parses.0 (link _ c.in_ok-elem.ensures.parses.0 (chosen _ false _ _ _ _ (sym c.if-peek.ensures) refl)) ∙ ap (λ z. Ok ((c.in_ok-bracket_token.bracket_token, Element c.in_ok-elem.elem), z)) (sym c.finish-2.ensures.finished)) (ap (λ z. Ok (z, c.finish-2.new.self)) (sym c.of_parts-2.ensures)),
         follows_trans _ _ _ c.open_brackets.ensures.parses.1 c.finish-2.ensures.within,
       );
     }
