@@ -1,5 +1,7 @@
 use Rattle.token_core.proofs.Headlines.{heads}
+use Rattle.syn_ty.specs.ty.Knot as knot
 use Rattle.syn_ty.specs.ty.Promises as promises
+use Rattle.syn_ty.specs.ty.Reading as reading
 use Rattle.syn_ty.proofs.ty_laws.WholeLaws.{array_lawful}
 use Rattle.syn_ty.proofs.ty_laws.sound.Whole.{takes}
 use Rattle.syn_ty.proofs.ty_laws.GivenWhole.{given_again, given_meets}
@@ -8,7 +10,9 @@ use Rattle.syn_ty.proofs.ty_laws.sound.Alone.{array_took}
 use Rattle.syn_ty.proofs.ty.read.TypeArrayOfTypeOfParse.parse.Goals as goal
 
 pub returns-clause-promise : goal.returns-clause-promise
+unfolding knot.array reading.array
 returns-clause-promise g c = heads (promises.array g.A.Attributes.reads g.E.Value.reads g.A.Attributes.spells g.E.Value.spells g.A.Attributes.normal g.E.Value.normal g.A.Attributes.shown g.E.Value.values) (array_lawful (given g.met.A.Attributes.told g.met.E.Value.consts g.met.E.Value.lengths) (given_meets g.met.A.Attributes.met g.met.E.Value.met g.met.E.Value.lengths) (given_again g.met.A.Attributes.met g.met.E.Value.met g.met.E.Value.lengths g.met.A.Attributes.bare)) _ _ _ c.parse_array.ensures.parses.0
 
 pub returns-clause-front : goal.returns-clause-front
+unfolding knot.array reading.array
 returns-clause-front g c = takes (array_took (given g.met.A.Attributes.told g.met.E.Value.consts g.met.E.Value.lengths)) _ _ _ c.parse_array.ensures.parses.0
