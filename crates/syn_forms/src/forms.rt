@@ -1,7 +1,7 @@
 //! Forms that look into nothing that they hold.
 
 ghost use Rattle.std.specs.Prelude.{◌<◌, ◌≤◌, length, true};
-ghost use Rattle.token_core.specs.Reads.{Parses, ◌<$>◌};
+ghost use Rattle.token_core.specs.Reads.{Parses};
 ghost use Rattle.syn_forms.specs.forms.Reading as reading;
 ghost use Rattle.syn_forms.specs.groups.Reading as groups;
 ghost use Rattle.syn_forms.specs.heads.Reading as heads;
@@ -44,7 +44,7 @@ impl<
     ) -> Result<V, Error>
         requires nests { Nests T.read (length self.now.begin) (F.pre self.now.read) (F.post self.now.read) }
         requires few { ahead input.old ≤ length self.now.begin }
-        ensures parses { Parses (V.of_parts <$> reading.ptr (below.held T.read (length self.now.begin) place)) result input.old input.new }
+        ensures parses { Parses (reading.formed V.of_parts (reading.ptr (below.held T.read (length self.now.begin) place))) result input.old input.new }
     {
         let star_token = parse_star(self.alloc, input)?;
         let mutability = parse_mutability(self.alloc, input)?;
@@ -61,7 +61,7 @@ impl<
     ) -> Result<V, Error>
         requires nests { Nests T.read (length self.now.begin) (F.pre self.now.read) (F.post self.now.read) }
         requires few { ahead input.old ≤ length self.now.begin }
-        ensures parses { Parses (V.of_parts <$> reading.reference (below.held T.read (length self.now.begin) place)) result input.old input.new }
+        ensures parses { Parses (reading.formed V.of_parts (reading.reference (below.held T.read (length self.now.begin) place))) result input.old input.new }
     {
         let and_token = parse_and(self.alloc, input)?;
         let lifetime = parse_lifetime(self.alloc, input)?;
@@ -119,7 +119,7 @@ pub fn parse_ptr<P: Copy, T: Held<P>, V: Form<(Star, PointerMutability, Boxed<T>
     input: &mut ParseStream<'_>,
     place: P,
 ) -> Result<V, Error>
-    ensures parses { Parses (below.alone T.read (λ held. V.of_parts <$> reading.ptr (held place))) result input.old input.new }
+    ensures parses { Parses (below.alone T.read (λ held. reading.formed V.of_parts (reading.ptr (held place)))) result input.old input.new }
 {
     let read = T::parse_held;
     Nested {
@@ -137,7 +137,7 @@ pub fn parse_reference<
     T: Held<P>,
     V: Form<(And, Option<Lifetime>, Option<Mut>, Boxed<T>)>,
 >(alloc: Global, input: &mut ParseStream<'_>, place: P) -> Result<V, Error>
-    ensures parses { Parses (below.alone T.read (λ held. V.of_parts <$> reading.reference (held place))) result input.old input.new }
+    ensures parses { Parses (below.alone T.read (λ held. reading.formed V.of_parts (reading.reference (held place)))) result input.old input.new }
 {
     let read = T::parse_held;
     Nested {
@@ -155,7 +155,7 @@ pub fn parse_slice<P: Copy, T: Held<P>, V: Form<(Bracket, Boxed<T>)>>(
     input: &mut ParseStream<'_>,
     place: P,
 ) -> Result<V, Error>
-    ensures parses { Parses (below.alone T.read (λ held. V.of_parts <$> groups.in_brackets (held place))) result input.old input.new }
+    ensures parses { Parses (below.alone T.read (λ held. reading.formed V.of_parts (groups.in_brackets (held place)))) result input.old input.new }
 {
     let read = T::parse_held;
     Nested {
@@ -173,7 +173,7 @@ pub fn parse_array<P: Copy, T: Held<P>, E: Value, V: Form<(Bracket, Boxed<T>, (S
     input: &mut ParseStream<'_>,
     place: P,
 ) -> Result<V, Error>
-    ensures parses { Parses (below.alone T.read (λ held. V.of_parts <$> groups.array E.reads.len (held place))) result input.old input.new }
+    ensures parses { Parses (below.alone T.read (λ held. reading.formed V.of_parts (groups.array E.reads.len (held place)))) result input.old input.new }
 {
     let read = T::parse_held;
     Nested {
@@ -251,7 +251,7 @@ pub fn parse_return_type<P: Copy, T: Held<P>, V: Form<Option<(RArrow, Boxed<T>)>
     input: &mut ParseStream<'_>,
     place: P,
 ) -> Result<V, Error>
-    ensures parses { Parses (below.alone T.read (λ held. V.of_parts <$> heads.returned (held place))) result input.old input.new }
+    ensures parses { Parses (below.alone T.read (λ held. reading.formed V.of_parts (heads.returned (held place)))) result input.old input.new }
 {
     let read = T::parse_held;
     Nested {

@@ -1,7 +1,8 @@
 //! Groups: what parentheses and brackets hold.
 
 ghost use Rattle.std.specs.Prelude.{◌<◌, ◌≤◌, length, IfOk};
-ghost use Rattle.token_core.specs.Reads.{Parses, ◌<$>◌};
+ghost use Rattle.token_core.specs.Reads.{Parses};
+ghost use Rattle.syn_forms.specs.forms.Reading.{formed};
 ghost use Rattle.syn_forms.specs.groups.Reading as reading;
 ghost use Rattle.syn_forms.specs.nested.Below as below;
 ghost use Rattle.syn_forms.specs.nested.Below.{Nests, ahead};
@@ -61,7 +62,7 @@ impl<
     ) -> Result<V, Error>
         requires nests { Nests T.read (length self.now.begin) (F.pre self.now.read) (F.post self.now.read) }
         requires few { ahead input.old ≤ length self.now.begin }
-        ensures parses { Parses (V.of_parts <$> reading.in_brackets (below.held T.read (length self.now.begin) place)) result input.old input.new }
+        ensures parses { Parses (formed V.of_parts (reading.in_brackets (below.held T.read (length self.now.begin) place))) result input.old input.new }
     {
         let (bracket_token, mut content) = open_brackets(self.alloc, input)?;
         let elem = self.boxed(&mut content, place)?;
@@ -78,7 +79,7 @@ impl<
     ) -> Result<V, Error>
         requires nests { Nests T.read (length self.now.begin) (F.pre self.now.read) (F.post self.now.read) }
         requires few { ahead input.old ≤ length self.now.begin }
-        ensures parses { Parses (V.of_parts <$> reading.array E.reads.len (below.held T.read (length self.now.begin) place)) result input.old input.new }
+        ensures parses { Parses (formed V.of_parts (reading.array E.reads.len (below.held T.read (length self.now.begin) place))) result input.old input.new }
     {
         let (bracket_token, mut content) = open_brackets(self.alloc, input)?;
         let elem = self.boxed(&mut content, place)?;
@@ -96,7 +97,7 @@ impl<
     ) -> Result<V, Error>
         requires nests { Nests T.read (length self.now.begin) (F.pre self.now.read) (F.post self.now.read) }
         requires few { ahead input.old ≤ length self.now.begin }
-        ensures parses { Parses (V.of_parts <$> reading.in_brackets (reading.bracket_content E.reads.len (below.held T.read (length self.now.begin) place))) result input.old input.new }
+        ensures parses { Parses (formed V.of_parts (reading.in_brackets (reading.bracket_content E.reads.len (below.held T.read (length self.now.begin) place)))) result input.old input.new }
     {
         let (bracket_token, mut content) = open_brackets(self.alloc, input)?;
         let elem = self.boxed(&mut content, place)?;

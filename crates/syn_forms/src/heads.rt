@@ -1,7 +1,8 @@
 //! Heads: what stands before a form.
 
 ghost use Rattle.std.specs.Prelude.{◌<◌, ◌≤◌, length, IfOk};
-ghost use Rattle.token_core.specs.Reads.{Parses, ◌<$>◌};
+ghost use Rattle.token_core.specs.Reads.{Parses};
+ghost use Rattle.syn_forms.specs.forms.Reading.{formed};
 ghost use Rattle.syn_forms.specs.heads.Reading as reading;
 ghost use Rattle.syn_forms.specs.nested.Below as below;
 ghost use Rattle.syn_forms.specs.nested.Below.{Nests, ahead};
@@ -84,7 +85,7 @@ impl<
     ) -> Result<V, Error>
         requires nests { Nests T.read (length self.now.begin) (F.pre self.now.read) (F.post self.now.read) }
         requires few { ahead input.old ≤ length self.now.begin }
-        ensures parses { Parses (V.of_parts <$> reading.returned (below.held T.read (length self.now.begin) place)) result input.old input.new }
+        ensures parses { Parses (formed V.of_parts (reading.returned (below.held T.read (length self.now.begin) place))) result input.old input.new }
     {
         let parts = self.returned(input, place)?;
         Ok(V::of_parts(self.alloc, parts))

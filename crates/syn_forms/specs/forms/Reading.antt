@@ -2,10 +2,14 @@
 use Rattle.std.specs.Prelude.{Option}
 use Rattle.token_core.specs.declared.lifetime.Lifetime.{Lifetime}
 use Rattle.token_core.specs.Lifetimes.{read_optional_lifetime}
-use Rattle.token_core.specs.Reads.{Reader, ◌>>=◌, pure}
+use Rattle.token_core.specs.Reads.{Reader, ◌>>=◌, ◌<$>◌, pure}
 use Rattle.syn_forms.specs.declared.tokens.PointerMutability.{PointerMutability}
 use Rattle.syn_forms.specs.tokens.Reading.{and, star, mutable, mutability}
 use Rattle.token_core.specs.Tokens as token
+
+-- a form of the parts that are read
+abbrev pub formed : {X V : Type 0} → (X → V) → Reader X → Reader V
+formed of p = of <$> p
 
 module _ {A : Type 0} (value : Reader A) where
   -- `*const T`, `*mut T`
