@@ -41,9 +41,7 @@ use syn_forms::tokens::{parse_any_lifetime, parse_colon, parse_eq, parse_plus};
 use syn_path::path::{PathOf, PathSegmentOf, PathStyle, QSelfOf, ReadArguments};
 use syn_path::supplied::{Attributes, Value};
 use token_core::token::{Brace, Colon, Comma, Eq, Gt, Paren, PathSep, Plus};
-use token_core::{
-    Boxed, Cursor, Error, Ident, Items, Lifetime, Lit, Parse, ParseStream, Punctuated,
-};
+use token_core::{Cursor, Error, Ident, Items, Lifetime, Lit, Parse, ParseStream, Punctuated};
 
 // ---- tests
 
