@@ -33,7 +33,8 @@ pub extern "C" fn kulojenta_read(
     out: &mut [u8],
     report: &mut Report,
 ) -> u32
-    ensures { Reads (category reading.at_place spelling.spells (λ _ x. x) (λ _. spelling.print)) reader.now text.now out.old out.new (call_of result report.new) }
+    ensures { Reads (category reading.at_place spelling.spells (λ _ x. x) (λ _. spelling.print)) reader.now text.now
+        out.old out.new (call_of result report.new) }
 {
     told(read_into::<VerbatimExpr>(alloc, reader, text, out), report)
 }

@@ -292,8 +292,10 @@ impl<X> Attribute<X> {
     /// is refused from the first segment of its path to the last, or at its `=`.
     pub fn parse_args<T: Parse>(&self, alloc: Global) -> Result<T, Error>
         requires { 0 < length (requirements.path_in self.now.meta).segments.0 }
-        ensures reads { requirements.WithArguments (requirements.arguments self.now) (λ l. WholeRead T.reads T.refuses (held l.delimiter l.tokens) result) result }
-        ensures promise { requirements.WithArguments (requirements.arguments self.now) (λ l. Promised (T.promise (toks l.tokens)) result) result }
+        ensures reads { requirements.WithArguments (requirements.arguments self.now)
+            (λ l. WholeRead T.reads T.refuses (held l.delimiter l.tokens) result) result }
+        ensures promise { requirements.WithArguments (requirements.arguments self.now)
+            (λ l. Promised (T.promise (toks l.tokens)) result) result }
     {
         self.parse_args_with(alloc, ByParse::<T>::new())
     }
@@ -306,8 +308,10 @@ impl<X> Attribute<X> {
     ) -> Result<P::Output, Error>
         requires parser { P.can_parse parser }
         requires segment { 0 < length (requirements.path_in self.now.meta).segments.0 }
-        ensures reads { requirements.WithArguments (requirements.arguments self.now) (λ l. WholeRead (P.reads parser) (P.refuses parser) (held l.delimiter l.tokens) result) result }
-        ensures promise { requirements.WithArguments (requirements.arguments self.now) (λ l. Promised (P.promise parser (toks l.tokens)) result) result }
+        ensures reads { requirements.WithArguments (requirements.arguments self.now)
+            (λ l. WholeRead (P.reads parser) (P.refuses parser) (held l.delimiter l.tokens) result) result }
+        ensures promise { requirements.WithArguments (requirements.arguments self.now)
+            (λ l. Promised (P.promise parser (toks l.tokens)) result) result }
     {
         match self.arguments(alloc) {
             Ok(list) => list.parse_args_with(alloc, parser),
@@ -325,8 +329,10 @@ impl<X: Drop> Attribute<X> {
     ) -> Result<(), Error>
         requires closure { turns.Careful F.pre F.step logic }
         requires segment { 0 < length (requirements.path_in self.now.meta).segments.0 }
-        ensures turns { requirements.WithArguments (requirements.arguments self.now) (λ l. turns.ReadsProperties F.step logic (held l.delimiter l.tokens) result) result }
-        ensures spelt { requirements.WithArguments (requirements.arguments self.now) (λ l. properties.ListsAll F.step logic (held l.delimiter l.tokens) result) result }
+        ensures turns { requirements.WithArguments (requirements.arguments self.now)
+            (λ l. turns.ReadsProperties F.step logic (held l.delimiter l.tokens) result) result }
+        ensures spelt { requirements.WithArguments (requirements.arguments self.now)
+            (λ l. properties.ListsAll F.step logic (held l.delimiter l.tokens) result) result }
     {
         match self.arguments(alloc) {
             Ok(list) => list.parse_nested_meta(alloc, logic),

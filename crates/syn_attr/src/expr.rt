@@ -57,7 +57,11 @@ impl<X: Subtree> Attributes for Attribute<X> {
 impl<X: Subtree> Value for Expr<X> {
     ghost reads = { record { len = lens X.reads; const_argument = reading.const_argument X.reads } };
 
-    ghost spells = { record { len = spells_len X.spells; const_argument = λ clear. IsConst X.spells; const_default = λ clear. IsConstDefault X.spells } };
+    ghost spells = { record {
+      len = spells_len X.spells;
+      const_argument = λ clear. IsConst X.spells;
+      const_default = λ clear. IsConstDefault X.spells;
+    } };
 
     ghost normal = { normal_values_of X.normal };
 

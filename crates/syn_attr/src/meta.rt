@@ -130,9 +130,11 @@ impl<F: FnMut(Global, &mut ParseNestedMeta<'_>) -> Result<(), Error>> Parser
 
     ghost can_parse = { λ p. spec.Careful F.pre F.step p.logic };
 
-    ghost reads = { λ p old a new. spec.Properties F.step p.logic old (Ok a) new × spelling.MayList F.step p.logic old (Ok a) new };
+    ghost reads = { λ p old a new. spec.Properties F.step p.logic old (Ok a) new
+        × spelling.MayList F.step p.logic old (Ok a) new };
 
-    ghost refuses = { λ p old e. (new : Stream) × spec.Properties F.step p.logic old (Err e) new × spelling.MayList F.step p.logic old (Err e) new };
+    ghost refuses = { λ p old e. (new : Stream) × spec.Properties F.step p.logic old (Err e) new
+        × spelling.MayList F.step p.logic old (Err e) new };
 
     #[tactic(auto, using(token_core::specs::Reads::no_promise, token_core::proofs::Suffixes::follows))]
     fn parse(self, alloc: Global, input: &mut ParseStream<'_>) -> Result<(), Error> {

@@ -44,7 +44,8 @@ impl<
     ) -> Result<(Star, PointerMutability, Boxed<T>), Error>
         requires nests { Nests T.read (length self.now.begin) (F.pre self.now.read) (F.post self.now.read) }
         requires few { ahead input.old ≤ length self.now.begin }
-        ensures parses { Parses (reading.ptr (below.held T.read (length self.now.begin) place)) result input.old input.new }
+        ensures parses { Parses (reading.ptr (below.held T.read (length self.now.begin) place))
+            result input.old input.new }
     {
         let star_token = parse_star(self.alloc, input)?;
         let mutability = parse_mutability(self.alloc, input)?;
@@ -61,7 +62,8 @@ impl<
     ) -> Result<(And, Option<Lifetime>, Option<Mut>, Boxed<T>), Error>
         requires nests { Nests T.read (length self.now.begin) (F.pre self.now.read) (F.post self.now.read) }
         requires few { ahead input.old ≤ length self.now.begin }
-        ensures parses { Parses (reading.reference (below.held T.read (length self.now.begin) place)) result input.old input.new }
+        ensures parses { Parses (reading.reference (below.held T.read (length self.now.begin) place))
+            result input.old input.new }
     {
         let and_token = parse_and(self.alloc, input)?;
         let lifetime = parse_lifetime(self.alloc, input)?;
@@ -141,7 +143,8 @@ pub fn parse_reference<P: Copy, T: Held<P>>(
     place: P,
 ) -> Result<(And, Option<Lifetime>, Option<Mut>, Boxed<T>), Error>
     requires few { ahead input.old ≤ length begin.now }
-    ensures parses { Parses (reading.reference (below.held T.read (length begin.now) place)) result input.old input.new }
+    ensures parses { Parses (reading.reference (below.held T.read (length begin.now) place))
+        result input.old input.new }
 {
     let read = T::parse_held;
     Nested {
@@ -161,7 +164,8 @@ pub fn parse_slice<P: Copy, T: Held<P>>(
     place: P,
 ) -> Result<(Bracket, Boxed<T>), Error>
     requires few { ahead input.old ≤ length begin.now }
-    ensures parses { Parses (groups.in_brackets (below.held T.read (length begin.now) place)) result input.old input.new }
+    ensures parses { Parses (groups.in_brackets (below.held T.read (length begin.now) place))
+        result input.old input.new }
 {
     let read = T::parse_held;
     Nested {
@@ -181,7 +185,8 @@ pub fn parse_array<P: Copy, T: Held<P>, E: Value>(
     place: P,
 ) -> Result<(Bracket, Boxed<T>, (Semi, E)), Error>
     requires few { ahead input.old ≤ length begin.now }
-    ensures parses { Parses (groups.array E.reads.len (below.held T.read (length begin.now) place)) result input.old input.new }
+    ensures parses { Parses (groups.array E.reads.len (below.held T.read (length begin.now) place))
+        result input.old input.new }
 {
     let read = T::parse_held;
     Nested {
@@ -221,7 +226,8 @@ pub fn parse_tuple<P: Copy, T: Held<P>>(
     place: P,
 ) -> Result<(Paren, Punctuated<T, Comma>), Error>
     requires few { ahead input.old ≤ length begin.now }
-    ensures parses { Parses (groups.in_parens (groups.tuple_content (below.held T.read (length begin.now) place))) result input.old input.new }
+    ensures parses { Parses (groups.in_parens (groups.tuple_content (below.held T.read (length begin.now) place)))
+        result input.old input.new }
 {
     let read = T::parse_held;
     Nested {
@@ -241,7 +247,8 @@ pub fn parse_in_invisible<P: Copy, T: Held<P>>(
     place: P,
 ) -> Result<(GroupToken, Boxed<T>), Error>
     requires few { ahead input.old ≤ length begin.now }
-    ensures parses { Parses (groups.in_invisible (below.held T.read (length begin.now) place)) result input.old input.new }
+    ensures parses { Parses (groups.in_invisible (below.held T.read (length begin.now) place))
+        result input.old input.new }
 {
     let read = T::parse_held;
     Nested {
@@ -283,7 +290,9 @@ pub fn parse_signature<P: Copy, T: Held<P>, V: Drop, K: Make<T, V>>(
     make: K,
 ) -> Result<Signature<T, V>, Error>
     requires few { ahead input.old ≤ length begin.now }
-    ensures parses { Parses (inputs.signature (K.make make) (below.held T.read (length begin.now) value_place) (below.held T.read (length begin.now) output_place)) result input.old input.new }
+    ensures parses { Parses (inputs.signature (K.make make)
+        (below.held T.read (length begin.now) value_place) (below.held T.read (length begin.now) output_place))
+        result input.old input.new }
 {
     let read = T::parse_held;
     Nested {
@@ -303,7 +312,8 @@ pub fn parse_const_parts<P: Copy, T: Held<P>, E: Value>(
     place: P,
 ) -> Result<(Const, Ident, Colon, T, Option<(Eq, E)>), Error>
     requires few { ahead input.old ≤ length begin.now }
-    ensures parses { Parses (params.const_parts (below.held T.read (length begin.now) place) E.reads.const_argument) result input.old input.new }
+    ensures parses { Parses (params.const_parts (below.held T.read (length begin.now) place) E.reads.const_argument)
+        result input.old input.new }
 {
     let read = T::parse_held;
     let types = Nested {
@@ -323,7 +333,8 @@ pub fn parse_path<G: Held<()> + Arguments>(
     style: PathStyle,
 ) -> Result<PathOf<G>, Error>
     requires few { ahead input.old ≤ length begin.now }
-    ensures parses { Parses (paths.path G.absent (below.held G.read (length begin.now) tt) style) result input.old input.new }
+    ensures parses { Parses (paths.path G.absent (below.held G.read (length begin.now) tt) style)
+        result input.old input.new }
 {
     let read = G::parse_held;
     Nested {
@@ -343,7 +354,8 @@ pub fn parse_segment<G: Held<()> + Arguments>(
     style: PathStyle,
 ) -> Result<PathSegmentOf<G>, Error>
     requires few { ahead input.old ≤ length begin.now }
-    ensures parses { Parses (paths.segment G.absent (below.held G.read (length begin.now) tt) style) result input.old input.new }
+    ensures parses { Parses (paths.segment G.absent (below.held G.read (length begin.now) tt) style)
+        result input.old input.new }
 {
     let read = G::parse_held;
     Nested {
@@ -364,7 +376,9 @@ pub fn parse_maybe_qualified<P: Copy, T: Held<P>, G: Held<()> + Arguments>(
     style: PathStyle,
 ) -> Result<(Option<QSelfOf<T>>, PathOf<G>), Error>
     requires few { ahead input.old ≤ length begin.now }
-    ensures parses { Parses (paths.maybe_qualified (below.held T.read (length begin.now) place) G.absent (below.held G.read (length begin.now) tt) style) result input.old input.new }
+    ensures parses { Parses (paths.maybe_qualified (below.held T.read (length begin.now) place)
+        G.absent (below.held G.read (length begin.now) tt) style)
+        result input.old input.new }
 {
     let read_type = T::parse_held;
     let types = Nested {
@@ -392,7 +406,9 @@ pub fn parse_type_parts<PB: Copy, B: Held<PB>, PT: Copy, T: Held<PT>>(
     type_place: PT,
 ) -> Result<(Ident, Option<Colon>, Punctuated<B, Plus>, Option<(Eq, T)>), Error>
     requires few { ahead input.old ≤ length begin.now }
-    ensures parses { Parses (params.type_parts (below.held B.read (length begin.now) bound_place) (below.held T.read (length begin.now) type_place)) result input.old input.new }
+    ensures parses { Parses (params.type_parts (below.held B.read (length begin.now) bound_place)
+        (below.held T.read (length begin.now) type_place))
+        result input.old input.new }
 {
     let read_bound = B::parse_held;
     let bounds = Nested {
@@ -420,7 +436,9 @@ pub fn parse_list<P: Copy, T: Held<P>, M: Drop, S: End<M>>(
     end: S,
 ) -> Result<Punctuated<T, M>, Error>
     requires few { ahead input.old < length begin.now }
-    ensures parses { Parses (lists.list (S.stops end) (below.held T.read (length begin.now) place) (S.more end) (S.joint end) true) result input.old input.new }
+    ensures parses { Parses
+        (lists.list (S.stops end) (below.held T.read (length begin.now) place) (S.more end) (S.joint end) true)
+        result input.old input.new }
 {
     let read = T::parse_held;
     Nested {

@@ -57,7 +57,8 @@ impl<
     pub fn slice(&self, input: &mut ParseStream<'_>, place: P) -> Result<(Bracket, Boxed<T>), Error>
         requires nests { Nests T.read (length self.now.begin) (F.pre self.now.read) (F.post self.now.read) }
         requires few { ahead input.old ≤ length self.now.begin }
-        ensures parses { Parses (reading.in_brackets (below.held T.read (length self.now.begin) place)) result input.old input.new }
+        ensures parses { Parses (reading.in_brackets (below.held T.read (length self.now.begin) place))
+            result input.old input.new }
     {
         let (bracket_token, mut content) = open_brackets(self.alloc, input)?;
         let elem = self.boxed(&mut content, place)?;
@@ -74,7 +75,8 @@ impl<
     ) -> Result<(Bracket, Boxed<T>, (Semi, E)), Error>
         requires nests { Nests T.read (length self.now.begin) (F.pre self.now.read) (F.post self.now.read) }
         requires few { ahead input.old ≤ length self.now.begin }
-        ensures parses { Parses (reading.array E.reads.len (below.held T.read (length self.now.begin) place)) result input.old input.new }
+        ensures parses { Parses (reading.array E.reads.len (below.held T.read (length self.now.begin) place))
+            result input.old input.new }
     {
         let (bracket_token, mut content) = open_brackets(self.alloc, input)?;
         let elem = self.boxed(&mut content, place)?;
@@ -92,7 +94,9 @@ impl<
     ) -> Result<(Bracket, InBrackets<T, E>), Error>
         requires nests { Nests T.read (length self.now.begin) (F.pre self.now.read) (F.post self.now.read) }
         requires few { ahead input.old ≤ length self.now.begin }
-        ensures parses { Parses (reading.in_brackets (reading.bracket_content E.reads.len (below.held T.read (length self.now.begin) place))) result input.old input.new }
+        ensures parses { Parses (reading.in_brackets
+            (reading.bracket_content E.reads.len (below.held T.read (length self.now.begin) place)))
+            result input.old input.new }
     {
         let (bracket_token, mut content) = open_brackets(self.alloc, input)?;
         let elem = self.boxed(&mut content, place)?;
@@ -110,7 +114,8 @@ impl<
     pub fn paren(&self, input: &mut ParseStream<'_>, place: P) -> Result<(Paren, Boxed<T>), Error>
         requires nests { Nests T.read (length self.now.begin) (F.pre self.now.read) (F.post self.now.read) }
         requires few { ahead input.old ≤ length self.now.begin }
-        ensures parses { Parses (reading.in_parens (below.held T.read (length self.now.begin) place)) result input.old input.new }
+        ensures parses { Parses (reading.in_parens (below.held T.read (length self.now.begin) place))
+            result input.old input.new }
     {
         let (paren_token, mut content) = open_parens(self.alloc, input)?;
         let tree = self.boxed(&mut content, place)?;
@@ -127,7 +132,8 @@ impl<
     ) -> Result<Punctuated<T, Comma>, Error>
         requires nests { Nests T.read (length self.now.begin) (F.pre self.now.read) (F.post self.now.read) }
         requires few { ahead input.old < length self.now.begin }
-        ensures parses { Parses (reading.tuple_content (below.held T.read (length self.now.begin) place)) result input.old input.new }
+        ensures parses { Parses (reading.tuple_content (below.held T.read (length self.now.begin) place))
+            result input.old input.new }
     {
         if input.is_empty() {
             return Ok(Punctuated::new(self.alloc));
@@ -145,7 +151,9 @@ impl<
     ) -> Result<(Paren, Punctuated<T, Comma>), Error>
         requires nests { Nests T.read (length self.now.begin) (F.pre self.now.read) (F.post self.now.read) }
         requires few { ahead input.old ≤ length self.now.begin }
-        ensures parses { Parses (reading.in_parens (reading.tuple_content (below.held T.read (length self.now.begin) place))) result input.old input.new }
+        ensures parses { Parses
+            (reading.in_parens (reading.tuple_content (below.held T.read (length self.now.begin) place)))
+            result input.old input.new }
     {
         let (paren_token, mut content) = open_parens(self.alloc, input)?;
         let elems = self.tuple_content(&mut content, place)?;
@@ -164,7 +172,8 @@ impl<
     ) -> Result<(GroupToken, Boxed<T>), Error>
         requires nests { Nests T.read (length self.now.begin) (F.pre self.now.read) (F.post self.now.read) }
         requires few { ahead input.old ≤ length self.now.begin }
-        ensures parses { Parses (reading.in_invisible (below.held T.read (length self.now.begin) place)) result input.old input.new }
+        ensures parses { Parses (reading.in_invisible (below.held T.read (length self.now.begin) place))
+            result input.old input.new }
         ensures taken { IfOk result (λ _. ahead input.new < ahead input.old) }
     {
         let (group_token, mut content) = open_invisible(self.alloc, input)?;
@@ -184,7 +193,8 @@ impl<
     ) -> Result<ParenContent<T, O, Q>, Error>
         requires nests { Nests T.read (length self.now.begin) (F.pre self.now.read) (F.post self.now.read) }
         requires few { ahead input.old < length self.now.begin }
-        ensures parses { Parses (reading.type_or_elements (below.held T.read (length self.now.begin) place)) result input.old input.new }
+        ensures parses { Parses (reading.type_or_elements (below.held T.read (length self.now.begin) place))
+            result input.old input.new }
     {
         let value = self.value(input, place)?;
         if input.peek::<Comma>() {

@@ -29,7 +29,8 @@ impl<
     ) -> Result<(Lt, Punctuated<T, Comma>, Gt), Error>
         requires nests { Nests T.read (length self.now.begin) (F.pre self.now.read) (F.post self.now.read) }
         requires few { ahead input.old ≤ length self.now.begin }
-        ensures parses { Parses (reading.angled (below.held T.read (length self.now.begin) place)) result input.old input.new }
+        ensures parses { Parses (reading.angled (below.held T.read (length self.now.begin) place))
+            result input.old input.new }
     {
         let lt_token = parse_lt(self.alloc, input)?;
         let values = self.list(input, place, ToGt)?;
@@ -46,7 +47,8 @@ impl<
     ) -> Result<(For, (Lt, Punctuated<T, Comma>, Gt)), Error>
         requires nests { Nests T.read (length self.now.begin) (F.pre self.now.read) (F.post self.now.read) }
         requires few { ahead input.old ≤ length self.now.begin }
-        ensures parses { Parses (reading.binder (below.held T.read (length self.now.begin) place)) result input.old input.new }
+        ensures parses { Parses (reading.binder (below.held T.read (length self.now.begin) place))
+            result input.old input.new }
     {
         let for_token = parse_for(self.alloc, input)?;
         let params = self.angled(input, place)?;
@@ -64,7 +66,8 @@ impl<
     ) -> Result<Option<(RArrow, Boxed<T>)>, Error>
         requires nests { Nests T.read (length self.now.begin) (F.pre self.now.read) (F.post self.now.read) }
         requires few { ahead input.old ≤ length self.now.begin }
-        ensures parses { Parses (reading.returned (below.held T.read (length self.now.begin) place)) result input.old input.new }
+        ensures parses { Parses (reading.returned (below.held T.read (length self.now.begin) place))
+            result input.old input.new }
         ensures fewer { ahead input.new ≤ ahead input.old }
     {
         if !input.peek::<RArrow>() {

@@ -177,7 +177,8 @@ impl<
     pub fn plain_argument(&self, input: &mut ParseStream<'_>, place: P) -> Result<(Name, T), Error>
         requires nests { Nests T.read (length self.now.begin) (F.pre self.now.read) (F.post self.now.read) }
         requires few { ahead input.old < length self.now.begin }
-        ensures parses { Parses (reading.plain_argument (below.held T.read (length self.now.begin) place)) result input.old input.new }
+        ensures parses { Parses (reading.plain_argument (below.held T.read (length self.now.begin) place))
+            result input.old input.new }
         ensures fewer { ahead input.new ≤ ahead input.old }
     {
         let name = parse_optional_name(self.alloc, input, false)?;
@@ -195,7 +196,9 @@ impl<
     ) -> Result<(Name, T), Error>
         requires nests { Nests T.read (length self.now.begin) (F.pre self.now.read) (F.post self.now.read) }
         requires few { ahead input.old < length self.now.begin }
-        ensures parses { Parses (reading.mut_self (below.held T.read (length self.now.begin) place) (V.verbatim verbatim)) result input.old input.new }
+        ensures parses { Parses
+            (reading.mut_self (below.held T.read (length self.now.begin) place) (V.verbatim verbatim))
+            result input.old input.new }
         ensures fewer { ahead input.new ≤ ahead input.old }
     {
         let from = input.cursor();
@@ -220,7 +223,9 @@ impl<
     ) -> Result<(Name, T), Error>
         requires nests { Nests T.read (length self.now.begin) (F.pre self.now.read) (F.post self.now.read) }
         requires few { ahead input.old < length self.now.begin }
-        ensures parses { Parses (reading.named_argument (below.held T.read (length self.now.begin) place) (V.verbatim verbatim)) result input.old input.new }
+        ensures parses { Parses
+            (reading.named_argument (below.held T.read (length self.now.begin) place) (V.verbatim verbatim))
+            result input.old input.new }
         ensures fewer { ahead input.new ≤ ahead input.old }
     {
         let from = input.cursor();
@@ -242,7 +247,9 @@ impl<
     ) -> Result<(Name, T), Error>
         requires nests { Nests T.read (length self.now.begin) (F.pre self.now.read) (F.post self.now.read) }
         requires few { ahead input.old < length self.now.begin }
-        ensures parses { Parses (reading.first_argument (below.held T.read (length self.now.begin) place) (V.verbatim verbatim)) result input.old input.new }
+        ensures parses { Parses
+            (reading.first_argument (below.held T.read (length self.now.begin) place) (V.verbatim verbatim))
+            result input.old input.new }
         ensures fewer { ahead input.new ≤ ahead input.old }
     {
         if sees_mut_self(input) {
@@ -265,7 +272,9 @@ impl<
     ) -> Result<(Name, T), Error>
         requires nests { Nests T.read (length self.now.begin) (F.pre self.now.read) (F.post self.now.read) }
         requires few { ahead input.old < length self.now.begin }
-        ensures parses { Parses (reading.argument (below.held T.read (length self.now.begin) place) (V.verbatim verbatim) first) result input.old input.new }
+        ensures parses { Parses
+            (reading.argument (below.held T.read (length self.now.begin) place) (V.verbatim verbatim) first)
+            result input.old input.new }
         ensures fewer { ahead input.new ≤ ahead input.old }
     {
         if first {
@@ -292,7 +301,9 @@ impl<
     ) -> Result<Inputs<B, I>, Error>
         requires nests { Nests T.read (length self.now.begin) (F.pre self.now.read) (F.post self.now.read) }
         requires few { ahead input.old < length self.now.begin }
-        ensures parses { Parses (reading.inputs (K.make make) B.reads (below.held T.read (length self.now.begin) place) (V.verbatim verbatim)) result input.old input.new }
+        ensures parses { Parses (reading.inputs (K.make make)
+            B.reads (below.held T.read (length self.now.begin) place) (V.verbatim verbatim))
+            result input.old input.new }
     {
         let mut list = Punctuated::new(self.alloc);
         let mut first = true;
@@ -327,7 +338,9 @@ impl<
     ) -> Result<(Paren, Punctuated<V, Comma>), Error>
         requires nests { Nests T.read (length self.now.begin) (F.pre self.now.read) (F.post self.now.read) }
         requires few { ahead input.old ≤ length self.now.begin }
-        ensures parses { Parses (in_parens (reading.made_inputs (K.make make) (below.held T.read (length self.now.begin) place))) result input.old input.new }
+        ensures parses { Parses
+            (in_parens (reading.made_inputs (K.make make) (below.held T.read (length self.now.begin) place)))
+            result input.old input.new }
         ensures fewer { ahead input.new ≤ ahead input.old }
     {
         let (paren_token, mut content) = open_parens(self.alloc, input)?;
@@ -350,7 +363,9 @@ impl<
     ) -> Result<Signature<T, V>, Error>
         requires nests { Nests T.read (length self.now.begin) (F.pre self.now.read) (F.post self.now.read) }
         requires few { ahead input.old ≤ length self.now.begin }
-        ensures parses { Parses (reading.signature (K.make make) (below.held T.read (length self.now.begin) value_place) (below.held T.read (length self.now.begin) output_place)) result input.old input.new }
+        ensures parses { Parses (reading.signature (K.make make) (below.held T.read (length self.now.begin) value_place)
+            (below.held T.read (length self.now.begin) output_place))
+            result input.old input.new }
         ensures fewer { ahead input.new ≤ ahead input.old }
     {
         let (paren_token, inputs) = self.made_in_parens(input, value_place, make)?;

@@ -252,7 +252,8 @@ impl<
     ) -> Result<V, Error>
         requires nests { Nests T.read (length self.now.begin) (F.pre self.now.read) (F.post self.now.read) }
         requires few { ahead input.old < length self.now.begin }
-        ensures parses { Parses (reading.made (K.make make) (below.held T.read (length self.now.begin) place)) result input.old input.new }
+        ensures parses { Parses (reading.made (K.make make) (below.held T.read (length self.now.begin) place))
+            result input.old input.new }
         ensures fewer { ahead input.new ≤ ahead input.old }
     {
         let value = self.value(input, place)?;
@@ -273,7 +274,10 @@ impl<
         requires nests { Nests T.read (length self.now.begin) (F.pre self.now.read) (F.post self.now.read) }
         requires few { ahead input.old < length self.now.begin }
         requires whole { length list.0 ≡ length list.1 }
-        ensures parses { Parses (λ s. after list (reading.list (S.stops end) (reading.made (K.make make) (below.held T.read (length self.now.begin) place)) (S.more end) (S.joint end) first s)) result input.old input.new }
+        ensures parses { Parses (λ s. after list
+            (reading.list (S.stops end) (reading.made (K.make make) (below.held T.read (length self.now.begin) place))
+            (S.more end) (S.joint end) first s))
+            result input.old input.new }
     {
         'turn: loop {
             if end.is_over(input, first) {
@@ -302,7 +306,9 @@ impl<
         requires nests { Nests T.read (length self.now.begin) (F.pre self.now.read) (F.post self.now.read) }
         requires few { ahead input.old < length self.now.begin }
         requires whole { length list.0 ≡ length list.1 }
-        ensures parses { Parses (λ s. after list (reading.list (S.stops end) (below.held T.read (length self.now.begin) place) (S.more end) (S.joint end) first s)) result input.old input.new }
+        ensures parses { Parses (λ s. after list (reading.list (S.stops end)
+            (below.held T.read (length self.now.begin) place) (S.more end) (S.joint end) first s))
+            result input.old input.new }
         ensures fewer { ahead input.new ≤ ahead input.old }
     {
         self.made_after(input, place, Itself, end, list, first)
@@ -318,7 +324,9 @@ impl<
     ) -> Result<Punctuated<T, M>, Error>
         requires nests { Nests T.read (length self.now.begin) (F.pre self.now.read) (F.post self.now.read) }
         requires few { ahead input.old < length self.now.begin }
-        ensures parses { Parses (reading.list (S.stops end) (below.held T.read (length self.now.begin) place) (S.more end) (S.joint end) true) result input.old input.new }
+        ensures parses { Parses (reading.list (S.stops end)
+            (below.held T.read (length self.now.begin) place) (S.more end) (S.joint end) true)
+            result input.old input.new }
         ensures fewer { ahead input.new ≤ ahead input.old }
     {
         self.list_after(input, place, end, Punctuated::new(self.alloc), true)
@@ -335,7 +343,9 @@ impl<
     ) -> Result<Punctuated<T, M>, Error>
         requires nests { Nests T.read (length self.now.begin) (F.pre self.now.read) (F.post self.now.read) }
         requires few { ahead input.old ≤ length self.now.begin }
-        ensures parses { Parses (reading.list_from (S.stops end) (below.held T.read (length self.now.begin) place) (S.more end) (S.joint end) first) result input.old input.new }
+        ensures parses { Parses (reading.list_from (S.stops end)
+            (below.held T.read (length self.now.begin) place) (S.more end) (S.joint end) first)
+            result input.old input.new }
         ensures fewer { ahead input.new ≤ ahead input.old }
     {
         let mut list = Punctuated::new(self.alloc);
@@ -357,7 +367,9 @@ impl<
     ) -> Result<Punctuated<V, Comma>, Error>
         requires nests { Nests T.read (length self.now.begin) (F.pre self.now.read) (F.post self.now.read) }
         requires few { ahead input.old < length self.now.begin }
-        ensures parses { Parses (terminated is_done (reading.made (K.make make) (below.held T.read (length self.now.begin) place)) tokens.comma) result input.old input.new }
+        ensures parses { Parses (terminated is_done
+            (reading.made (K.make make) (below.held T.read (length self.now.begin) place)) tokens.comma)
+            result input.old input.new }
         ensures fewer { ahead input.new ≤ ahead input.old }
     {
         self.made_after(input, place, make, ToEnd, Punctuated::new(self.alloc), true)
@@ -373,7 +385,8 @@ impl<
     ) -> Result<Punctuated<T, Comma>, Error>
         requires nests { Nests T.read (length self.now.begin) (F.pre self.now.read) (F.post self.now.read) }
         requires few { ahead input.old < length self.now.begin }
-        ensures parses { Parses (reading.more_elements (below.held T.read (length self.now.begin) place) first) result input.old input.new }
+        ensures parses { Parses (reading.more_elements (below.held T.read (length self.now.begin) place) first)
+            result input.old input.new }
     {
         let mut elems = Punctuated::new(self.alloc);
         elems.push_value(first)?;

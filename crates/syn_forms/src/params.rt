@@ -74,7 +74,8 @@ fn parse_lifetimes_after<'a>(
     colon_token: Option<Colon>,
 ) -> Result<Punctuated<Lifetime, Plus>, Error>
     requires few { ahead input.old < length begin }
-    ensures parses { Parses (reading.bounds_after reading.ends_lifetime read_lifetime colon_token) result input.old input.new }
+    ensures parses { Parses (reading.bounds_after reading.ends_lifetime read_lifetime colon_token)
+        result input.old input.new }
 {
     match colon_token {
         Some(_) => parse_lifetimes(alloc, begin, input),
@@ -141,7 +142,9 @@ impl<
     ) -> Result<Punctuated<T, Plus>, Error>
         requires nests { Nests T.read (length self.now.begin) (F.pre self.now.read) (F.post self.now.read) }
         requires few { ahead input.old < length self.now.begin }
-        ensures parses { Parses (reading.bounds_after reading.ends_type (below.held T.read (length self.now.begin) place) colon_token) result input.old input.new }
+        ensures parses { Parses
+            (reading.bounds_after reading.ends_type (below.held T.read (length self.now.begin) place) colon_token)
+            result input.old input.new }
         ensures fewer { ahead input.new ≤ ahead input.old }
     {
         match colon_token {
@@ -155,7 +158,8 @@ impl<
     fn default_of(&self, input: &mut ParseStream<'_>, place: P) -> Result<Option<(Eq, T)>, Error>
         requires nests { Nests T.read (length self.now.begin) (F.pre self.now.read) (F.post self.now.read) }
         requires few { ahead input.old ≤ length self.now.begin }
-        ensures parses { Parses (reading.default_of (below.held T.read (length self.now.begin) place)) result input.old input.new }
+        ensures parses { Parses (reading.default_of (below.held T.read (length self.now.begin) place))
+            result input.old input.new }
         ensures fewer { ahead input.new ≤ ahead input.old }
     {
         if !input.peek::<Eq>() {
@@ -191,7 +195,9 @@ pub fn type_parts<
     requires nests_types { Nests T.read (length types.now.begin) (FT.pre types.now.read) (FT.post types.now.read) }
     requires few_bounds { ahead input.old ≤ length bounds.now.begin }
     requires few_types { ahead input.old ≤ length types.now.begin }
-    ensures parses { Parses (reading.type_parts (below.held B.read (length bounds.now.begin) bound_place) (below.held T.read (length types.now.begin) type_place)) result input.old input.new }
+    ensures parses { Parses (reading.type_parts (below.held B.read (length bounds.now.begin) bound_place)
+        (below.held T.read (length types.now.begin) type_place))
+        result input.old input.new }
     ensures taken { IfOk result (λ _. ahead input.new < ahead input.old) }
 {
     let ident = parse_ident(bounds.alloc, input)?;
@@ -236,7 +242,9 @@ pub fn const_parts<
 ) -> Result<(Const, Ident, Colon, T, Option<(Eq, E)>), Error>
     requires nests { Nests T.read (length types.now.begin) (F.pre types.now.read) (F.post types.now.read) }
     requires few { ahead input.old ≤ length types.now.begin }
-    ensures parses { Parses (reading.const_parts (below.held T.read (length types.now.begin) place) E.reads.const_argument) result input.old input.new }
+    ensures parses { Parses
+        (reading.const_parts (below.held T.read (length types.now.begin) place) E.reads.const_argument)
+        result input.old input.new }
     ensures taken { IfOk result (λ _. ahead input.new < ahead input.old) }
 {
     let const_token = parse_const(types.alloc, input)?;

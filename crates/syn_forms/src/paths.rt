@@ -121,7 +121,9 @@ impl<
     ) -> Result<PathSegmentOf<G>, Error>
         requires nests { Nests G.read (length self.now.begin) (F.pre self.now.read) (F.post self.now.read) }
         requires few { ahead input.old < length self.now.begin }
-        ensures parses { Parses (reading.named_segment G.absent (below.held G.read (length self.now.begin) tt) style ident) result input.old input.new }
+        ensures parses { Parses
+            (reading.named_segment G.absent (below.held G.read (length self.now.begin) tt) style ident)
+            result input.old input.new }
         ensures fewer { ahead input.new ≤ ahead input.old }
     {
         if peek_arguments(input, style) {
@@ -144,7 +146,8 @@ impl<
     ) -> Result<PathSegmentOf<G>, Error>
         requires nests { Nests G.read (length self.now.begin) (F.pre self.now.read) (F.post self.now.read) }
         requires few { ahead input.old ≤ length self.now.begin }
-        ensures parses { Parses (reading.segment G.absent (below.held G.read (length self.now.begin) tt) style) result input.old input.new }
+        ensures parses { Parses (reading.segment G.absent (below.held G.read (length self.now.begin) tt) style)
+            result input.old input.new }
         ensures taken { IfOk result (λ _. ahead input.new < ahead input.old) }
     {
         if peek_bare_word(input) {
@@ -166,7 +169,9 @@ impl<
         requires nests { Nests G.read (length self.now.begin) (F.pre self.now.read) (F.post self.now.read) }
         requires few { ahead input.old ≤ length self.now.begin }
         requires whole { length segments.0 ≡ length segments.1 }
-        ensures parses { Parses (λ s. after segments (reading.segments G.absent (below.held G.read (length self.now.begin) tt) (S.more further) style s)) result input.old input.new }
+        ensures parses { Parses (λ s. after segments
+            (reading.segments G.absent (below.held G.read (length self.now.begin) tt) (S.more further) style s))
+            result input.old input.new }
         ensures ended { IfOk result (λ all. length all.0 ≡ length all.1 + 1) }
     {
         'turn: loop {
@@ -187,7 +192,8 @@ impl<
     pub fn path(&self, input: &mut ParseStream<'_>, style: PathStyle) -> Result<PathOf<G>, Error>
         requires nests { Nests G.read (length self.now.begin) (F.pre self.now.read) (F.post self.now.read) }
         requires few { ahead input.old ≤ length self.now.begin }
-        ensures parses { Parses (reading.path G.absent (below.held G.read (length self.now.begin) tt) style) result input.old input.new }
+        ensures parses { Parses (reading.path G.absent (below.held G.read (length self.now.begin) tt) style)
+            result input.old input.new }
         ensures fewer { ahead input.new ≤ ahead input.old }
         ensures ended { IfOk result (λ p. length p.segments.0 ≡ length p.segments.1 + 1) }
     {
@@ -217,7 +223,8 @@ impl<
         requires nests { Nests G.read (length self.now.begin) (F.pre self.now.read) (F.post self.now.read) }
         requires few { ahead input.old ≤ length self.now.begin }
         requires ended { length path.segments.0 ≡ length path.segments.1 + 1 }
-        ensures parses { Parses (λ s. and_then (reading.segments G.absent (below.held G.read (length self.now.begin) tt) (S.more further) style s) (λ all. pure (reading.longer path sep all))) result input.old input.new }
+        ensures parses { Parses (λ s. and_then (reading.segments G.absent (below.held G.read (length self.now.begin) tt)
+            (S.more further) style s) (λ all. pure (reading.longer path sep all))) result input.old input.new }
     {
         let PathOf {
             leading_colon,
@@ -244,7 +251,8 @@ impl<
     ) -> Result<PathOf<G>, Error>
         requires nests { Nests G.read (length self.now.begin) (F.pre self.now.read) (F.post self.now.read) }
         requires few { ahead input.old ≤ length self.now.begin }
-        ensures parses { Parses (reading.rest G.absent (below.held G.read (length self.now.begin) tt) style path) result input.old input.new }
+        ensures parses { Parses (reading.rest G.absent (below.held G.read (length self.now.begin) tt) style path)
+            result input.old input.new }
         ensures fewer { ahead input.new ≤ ahead input.old }
     {
         if ends_in_mark(&path) | !goes_on(input) {
@@ -259,7 +267,8 @@ impl<
     fn as_path(&self, input: &mut ParseStream<'_>) -> Result<Option<(As, PathOf<G>)>, Error>
         requires nests { Nests G.read (length self.now.begin) (F.pre self.now.read) (F.post self.now.read) }
         requires few { ahead input.old ≤ length self.now.begin }
-        ensures parses { Parses (reading.as_path G.absent (below.held G.read (length self.now.begin) tt)) result input.old input.new }
+        ensures parses { Parses (reading.as_path G.absent (below.held G.read (length self.now.begin) tt))
+            result input.old input.new }
         ensures ended { IfOk result (λ o. IfSome o (λ a. length a.1.segments.0 ≡ length a.1.segments.1 + 1)) }
     {
         if !input.peek::<As>() {
@@ -291,7 +300,9 @@ impl<
         requires few { ahead input.old ≤ length self.now.begin }
         requires nests_types { Nests T.read (length types.now.begin) (H.pre types.now.read) (H.post types.now.read) }
         requires few_types { ahead input.old ≤ length types.now.begin }
-        ensures parses { Parses (reading.qualified (below.held T.read (length types.now.begin) place) G.absent (below.held G.read (length self.now.begin) tt) style) result input.old input.new }
+        ensures parses { Parses (reading.qualified (below.held T.read (length types.now.begin) place)
+            G.absent (below.held G.read (length self.now.begin) tt) style)
+            result input.old input.new }
         ensures fewer { ahead input.new ≤ ahead input.old }
     {
         let lt_token = parse_lt(self.alloc, input)?;
@@ -313,7 +324,10 @@ impl<
         requires nests { Nests G.read (length self.now.begin) (F.pre self.now.read) (F.post self.now.read) }
         requires few { ahead input.old ≤ length self.now.begin }
         requires ended { IfSome before.2 (λ a. length a.1.segments.0 ≡ length a.1.segments.1 + 1) }
-        ensures parses { Parses (λ s. and_then (reading.segments G.absent (below.held G.read (length self.now.begin) tt) sees_sep style s) (λ all. pure (reading.qualified_of before.0 before.1 before.2 before.3 before.4 all))) result input.old input.new }
+        ensures parses { Parses
+            (λ s. and_then (reading.segments G.absent (below.held G.read (length self.now.begin) tt) sees_sep style s)
+            (λ all. pure (reading.qualified_of before.0 before.1 before.2 before.3 before.4 all)))
+            result input.old input.new }
     {
         let (lt_token, ty, trait_path, gt_token, sep) = before;
         match trait_path {
@@ -371,7 +385,9 @@ impl<
         requires few { ahead input.old ≤ length self.now.begin }
         requires nests_types { Nests T.read (length types.now.begin) (H.pre types.now.read) (H.post types.now.read) }
         requires few_types { ahead input.old ≤ length types.now.begin }
-        ensures parses { Parses (reading.maybe_qualified (below.held T.read (length types.now.begin) place) G.absent (below.held G.read (length self.now.begin) tt) style) result input.old input.new }
+        ensures parses { Parses (reading.maybe_qualified (below.held T.read (length types.now.begin) place)
+            G.absent (below.held G.read (length self.now.begin) tt) style)
+            result input.old input.new }
         ensures fewer { ahead input.new ≤ ahead input.old }
     {
         if input.peek::<Lt>() {
@@ -408,7 +424,8 @@ fn count_segments<G>(path: &PathOf<G>) -> Result<usize, AllocError>
 #[tactic(auto, using(crate::proofs::paths_laws::Lasts::lasts))]
 pub fn last_arguments<G: Arguments>(path: &PathOf<G>) -> Option<&G>
     ensures found { option_map (λ x. x.now) result ≡ option_map (λ s. s.arguments) (last path.now.segments.0) }
-    ensures value { MatchOption result (reading.last_arguments G.absent path.now.segments.0 ≡ G.absent) (λ x. reading.last_arguments G.absent path.now.segments.0 ≡ x.now) }
+    ensures value { MatchOption result (reading.last_arguments G.absent path.now.segments.0 ≡ G.absent)
+        (λ x. reading.last_arguments G.absent path.now.segments.0 ≡ x.now) }
 {
     match path.segments.last() {
         Some(segment) => Some(&segment.arguments),

@@ -66,7 +66,9 @@ pub fn open_parens<'a>(
     alloc: Global,
     input: &mut ParseStream<'a>,
 ) -> Result<(Paren, ParseStream<'a>), Error>
-    ensures parses { Parses (λ s. groups.opened groups.paren (spec.open_group delimiter.Parenthesis groups.paren_name s)) result input.old input.new }
+    ensures parses { Parses
+        (λ s. groups.opened groups.paren (spec.open_group delimiter.Parenthesis groups.paren_name s))
+        result input.old input.new }
     ensures inside { IfOk result (λ p. ahead p.1 < ahead input.old) }
 {
     input.parenthesized(alloc)
@@ -78,7 +80,9 @@ pub fn open_brackets<'a>(
     alloc: Global,
     input: &mut ParseStream<'a>,
 ) -> Result<(Bracket, ParseStream<'a>), Error>
-    ensures parses { Parses (λ s. groups.opened groups.bracket (spec.open_group delimiter.Bracket groups.bracket_name s)) result input.old input.new }
+    ensures parses { Parses
+        (λ s. groups.opened groups.bracket (spec.open_group delimiter.Bracket groups.bracket_name s))
+        result input.old input.new }
     ensures inside { IfOk result (λ p. ahead p.1 < ahead input.old) }
 {
     input.bracketed(alloc)
@@ -288,7 +292,8 @@ pub fn open_invisible<'a>(
     alloc: Global,
     input: &mut ParseStream<'a>,
 ) -> Result<(GroupToken, ParseStream<'a>), Error>
-    ensures parses { Parses (λ s. groups.opened groups.group_token (groups.open_invisible s)) result input.old input.new }
+    ensures parses { Parses (λ s. groups.opened groups.group_token (groups.open_invisible s))
+        result input.old input.new }
     ensures inside { IfOk result (λ p. ahead p.1 < ahead input.old) }
     ensures taken { IfOk result (λ p. ahead input.new < ahead input.old) }
 {

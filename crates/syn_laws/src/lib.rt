@@ -41,52 +41,79 @@ use token_core::Items;
 /// The normal form of a meta.
 pub fn meta<X: Subtree>(tree: &Meta<X>)
     ensures admitted { Admitted (grammars.meta X.reads X.spells X.normal X.prints) tree.now }
-    ensures stays { Own X.normal → normal.meta X.normal (normal.meta X.normal tree.now) ≡ normal.meta X.normal tree.now }
-    ensures same { SamePrint X.normal X.prints → printing.meta X.prints (normal.meta X.normal tree.now) ≡ printing.meta X.prints tree.now }
+    ensures stays { Own X.normal →
+        normal.meta X.normal (normal.meta X.normal tree.now) ≡ normal.meta X.normal tree.now }
+    ensures same { SamePrint X.normal X.prints →
+        printing.meta X.prints (normal.meta X.normal tree.now) ≡ printing.meta X.prints tree.now }
 {}
 
 /// The normal form of attributes.
 pub fn attributes<X: Subtree>(trees: &Items<Attribute<X>>)
     ensures outer { Admitted (grammars.outer X.reads X.spells X.normal X.prints) trees.now }
     ensures inner { Admitted (grammars.inner X.reads X.spells X.normal X.prints) trees.now }
-    ensures stays { Own X.normal → normal.attributes X.normal (normal.attributes X.normal trees.now) ≡ normal.attributes X.normal trees.now }
-    ensures same { SamePrint X.normal X.prints → printing.attributes X.prints (normal.attributes X.normal trees.now) ≡ printing.attributes X.prints trees.now }
+    ensures stays { Own X.normal →
+        normal.attributes X.normal (normal.attributes X.normal trees.now) ≡ normal.attributes X.normal trees.now }
+    ensures same { SamePrint X.normal X.prints →
+        printing.attributes X.prints (normal.attributes X.normal trees.now) ≡ printing.attributes X.prints trees.now }
 {}
 
 /// The normal form of an expression as the value of a meta.
 pub fn expression<X: Subtree>(tree: &Expr<X>)
-    ensures admitted { (l : Toks) → IsValue X.spells false tree.now l → (normal.value X.normal (normal.value X.normal tree.now) ≡ normal.value X.normal tree.now) × (printing.value X.prints (normal.value X.normal tree.now) ≡ printing.value X.prints tree.now) }
-    ensures stays { Own X.normal → normal.value X.normal (normal.value X.normal tree.now) ≡ normal.value X.normal tree.now }
-    ensures same { SamePrint X.normal X.prints → printing.value X.prints (normal.value X.normal tree.now) ≡ printing.value X.prints tree.now }
+    ensures admitted { (l : Toks) → IsValue X.spells false tree.now l →
+        (normal.value X.normal (normal.value X.normal tree.now) ≡ normal.value X.normal tree.now)
+        × (printing.value X.prints (normal.value X.normal tree.now) ≡ printing.value X.prints tree.now) }
+    ensures stays { Own X.normal →
+        normal.value X.normal (normal.value X.normal tree.now) ≡ normal.value X.normal tree.now }
+    ensures same { SamePrint X.normal X.prints →
+        printing.value X.prints (normal.value X.normal tree.now) ≡ printing.value X.prints tree.now }
 {}
 
 /// The normal form of a type.
 pub fn ty<A: Attributes, E: Value>(tree: &TypeOf<A, E>)
-    ensures admitted { (place : TypePlace) → Admitted (types.ty A.reads E.reads A.spells E.spells A.normal E.normal A.shown E.values place) tree.now }
-    ensures stays { OwnList A.normal → OwnValues E.normal → normal_types.ty A.normal E.normal (normal_types.ty A.normal E.normal tree.now) ≡ normal_types.ty A.normal E.normal tree.now }
-    ensures same { SameList A.normal A.shown → SameValues E.normal E.values → printed_types.ty A.shown E.values (normal_types.ty A.normal E.normal tree.now) ≡ printed_types.ty A.shown E.values tree.now }
+    ensures admitted { (place : TypePlace) →
+        Admitted (types.ty A.reads E.reads A.spells E.spells A.normal E.normal A.shown E.values place) tree.now }
+    ensures stays { OwnList A.normal → OwnValues E.normal →
+        normal_types.ty A.normal E.normal (normal_types.ty A.normal E.normal tree.now)
+        ≡ normal_types.ty A.normal E.normal tree.now }
+    ensures same { SameList A.normal A.shown → SameValues E.normal E.values →
+        printed_types.ty A.shown E.values (normal_types.ty A.normal E.normal tree.now)
+        ≡ printed_types.ty A.shown E.values tree.now }
 {}
 
 /// The normal form of generics.
 pub fn generics<A: Attributes, E: Value>(tree: &GenericsOf<A, E>)
-    ensures admitted { Admitted (promises.generics A.reads E.reads A.spells E.spells A.normal E.normal A.shown E.values) tree.now }
-    ensures stays { OwnList A.normal → OwnValues E.normal → normal_generics.generics A.normal E.normal (normal_generics.generics A.normal E.normal tree.now) ≡ normal_generics.generics A.normal E.normal tree.now }
-    ensures same { SameList A.normal A.shown → SameValues E.normal E.values → printed_generics.generics A.shown E.values (normal_generics.generics A.normal E.normal tree.now) ≡ printed_generics.generics A.shown E.values tree.now }
+    ensures admitted { Admitted (promises.generics A.reads E.reads A.spells E.spells A.normal E.normal A.shown E.values)
+        tree.now }
+    ensures stays { OwnList A.normal → OwnValues E.normal →
+        normal_generics.generics A.normal E.normal (normal_generics.generics A.normal E.normal tree.now)
+        ≡ normal_generics.generics A.normal E.normal tree.now }
+    ensures same { SameList A.normal A.shown → SameValues E.normal E.values →
+        printed_generics.generics A.shown E.values (normal_generics.generics A.normal E.normal tree.now)
+        ≡ printed_generics.generics A.shown E.values tree.now }
 {}
 
 /// The print of `ImplGenerics`, of generics that spell some list plainly: `Generics` reads it as the normal form of these without defaults and where clause.
 pub fn impl_generics<A: Attributes, E: Value>(tree: &GenericsOf<A, E>)
-    ensures again { (promises.generics A.reads E.reads A.spells E.spells A.normal E.normal A.shown E.values).plain tree.now → Reprinted (promises.generics A.reads E.reads A.spells E.spells A.normal E.normal A.shown E.values) (stripped tree.now) }
+    ensures again { (promises.generics A.reads E.reads A.spells E.spells A.normal E.normal A.shown E.values).plain
+        tree.now →
+        Reprinted (promises.generics A.reads E.reads A.spells E.spells A.normal E.normal A.shown E.values)
+        (stripped tree.now) }
 {}
 
 /// The print of a where clause that spells some list plainly: an optional where clause reads it as the normal form, none without predicates.
 pub fn where_clause<A: Attributes, E: Value>(tree: &WhereClauseOf<A, E>)
-    ensures again { (promises.optional_where_clause A.reads E.reads A.spells E.spells A.normal E.normal A.shown E.values).plain (Some tree.now) → Reprinted (promises.optional_where_clause A.reads E.reads A.spells E.spells A.normal E.normal A.shown E.values) (Some tree.now) }
+    ensures again { (promises.optional_where_clause A.reads E.reads
+        A.spells E.spells A.normal E.normal A.shown E.values).plain (Some tree.now) →
+        Reprinted (promises.optional_where_clause A.reads E.reads A.spells E.spells A.normal E.normal A.shown E.values)
+        (Some tree.now) }
 {}
 
 /// The normal form of a pattern.
 pub fn pat<X: Subtree>(tree: &Pat<X>)
     ensures admitted { (place : PatPlace) → Admitted (patterns.pat X.reads X.spells X.normal X.prints place) tree.now }
-    ensures stays { Own X.normal → normal_patterns.pat X.normal (normal_patterns.pat X.normal tree.now) ≡ normal_patterns.pat X.normal tree.now }
-    ensures same { SamePrint X.normal X.prints → printed_patterns.pat X.prints (printed_patterns.types_shown X.prints) (normal_patterns.pat X.normal tree.now) ≡ printed_patterns.pat X.prints (printed_patterns.types_shown X.prints) tree.now }
+    ensures stays { Own X.normal →
+        normal_patterns.pat X.normal (normal_patterns.pat X.normal tree.now) ≡ normal_patterns.pat X.normal tree.now }
+    ensures same { SamePrint X.normal X.prints →
+        printed_patterns.pat X.prints (printed_patterns.types_shown X.prints) (normal_patterns.pat X.normal tree.now)
+        ≡ printed_patterns.pat X.prints (printed_patterns.types_shown X.prints) tree.now }
 {}

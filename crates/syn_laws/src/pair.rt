@@ -24,7 +24,8 @@ pub struct Pair<T> {
 /// Reads two values with a comma between them. On the front of a list it promises what the type promises there, if a comma may follow a value.
 #[tactic(auto, using(token_core::proofs::Suffixes::follows))]
 pub fn parse_pair<T: Parse>(alloc: Global, input: &mut ParseStream<'_>) -> Result<Pair<T>, Error>
-    ensures reads { (f : Reader T) → pairs.IsReadBy T.reads T.refuses f → Reads (pairs.read f input.old) result input.new }
+    ensures reads { (f : Reader T) → pairs.IsReadBy T.reads T.refuses f →
+        Reads (pairs.read f input.old) result input.new }
     ensures within { Follows input.old input.new }
     ensures fronts { pairs.KeepsPair T.fronts input.old result input.new }
 {
@@ -45,7 +46,9 @@ pub fn parse_types<A: Attributes, E: Value>(
 ) -> Result<Pair<TypeOf<A, E>>, Error>
     ensures reads { Reads (pairs.read (knot.ty A.reads E.reads Plus) input.old) result input.new }
     ensures within { Follows input.old input.new }
-    ensures fronts { Fronted (pairs.fronting (promises.ty_front A.reads E.reads A.spells E.spells A.normal E.normal A.shown E.values)) input.old result input.new }
+    ensures fronts { Fronted
+        (pairs.fronting (promises.ty_front A.reads E.reads A.spells E.spells A.normal E.normal A.shown E.values))
+        input.old result input.new }
 {
     parse_pair::<TypeOf<A, E>>(alloc, input)
 }

@@ -344,7 +344,8 @@ impl<A: Arguments> PathOf<A> {
     /// answers only a path that spells the list, the path that a list spells clearly, and its print is read again.
     pub fn parse_mod_style(alloc: Global, input: &mut ParseStream<'_>) -> Result<PathOf<A>, Error>
         ensures parses { Parses (reading.mod_style A.absent) result input.old input.new }
-        ensures front { Visible input.old.rest → IfOk result (λ p. IsModPath false A.absent p input.old.rest input.new.rest) }
+        ensures front { Visible input.old.rest →
+            IfOk result (λ p. IsModPath false A.absent p input.old.rest input.new.rest) }
         ensures headline { Heads (grammars.mod_style A.absent A.shown) input.old result input.new }
     {
         parse_bare_path(alloc, input, SegmentStyle::Mod)

@@ -134,7 +134,9 @@ impl TypeReader {
         scope: Span,
         tokens: TokenStream,
     ) -> Result<TokenStream, Error>
-        ensures { spec.Reprints (spec.types_category A.reads E.reads A.spells E.spells A.normal E.normal A.shown E.values self) scope (toks tokens) result }
+        ensures { spec.Reprints
+            (spec.types_category A.reads E.reads A.spells E.spells A.normal E.normal A.shown E.values self) scope
+            (toks tokens) result }
     {
         match self {
             TypeReader::Any => reprint::<TypeOf<A, E>>(alloc, scope, tokens),
@@ -213,7 +215,9 @@ impl PathReader {
         scope: Span,
         tokens: TokenStream,
     ) -> Result<TokenStream, Error>
-        ensures { spec.Reprints (spec.paths_category A.reads E.reads A.spells E.spells A.normal E.normal A.shown E.values self) scope (toks tokens) result }
+        ensures { spec.Reprints
+            (spec.paths_category A.reads E.reads A.spells E.spells A.normal E.normal A.shown E.values self) scope
+            (toks tokens) result }
     {
         match self {
             PathReader::Whole => reprint::<PathOf<PathArgumentsOf<A, E>>>(alloc, scope, tokens),
@@ -271,7 +275,9 @@ impl GenericsReader {
         scope: Span,
         tokens: TokenStream,
     ) -> Result<TokenStream, Error>
-        ensures { spec.Reprints (spec.generics_category A.reads E.reads A.spells E.spells A.normal E.normal A.shown E.values self) scope (toks tokens) result }
+        ensures { spec.Reprints
+            (spec.generics_category A.reads E.reads A.spells E.spells A.normal E.normal A.shown E.values self) scope
+            (toks tokens) result }
     {
         match self {
             GenericsReader::Param => reprint::<GenericParamOf<A, E>>(alloc, scope, tokens),
@@ -345,7 +351,8 @@ pub fn reprint_with<P: Parser + Drop>(
 where
     P::Output: ToTokens,
     requires { P.can_parse parser }
-    ensures { spec.Prints (P.reads parser) (P.refuses parser) (P.promise parser) P.Output.print scope (toks tokens) result }
+    ensures { spec.Prints (P.reads parser) (P.refuses parser) (P.promise parser) P.Output.print scope (toks tokens)
+        result }
 {
     let tree = taken(alloc, parser, scope, tokens)?;
     Ok(print_of(alloc, &tree)?)
@@ -357,7 +364,9 @@ fn reprint_impl_generics<A: Attributes, E: Value>(
     scope: Span,
     tokens: TokenStream,
 ) -> Result<TokenStream, Error>
-    ensures { spec.Prints (Gives (alone.generics A.reads E.reads)) (Fails (alone.generics A.reads E.reads)) (Headline (promises.generics A.reads E.reads A.spells E.spells A.normal E.normal A.shown E.values)) (spec.impl_generics A.shown E.values) scope (toks tokens) result }
+    ensures { spec.Prints (Gives (alone.generics A.reads E.reads)) (Fails (alone.generics A.reads E.reads))
+        (Headline (promises.generics A.reads E.reads A.spells E.spells A.normal E.normal A.shown E.values))
+        (spec.impl_generics A.shown E.values) scope (toks tokens) result }
 {
     let generics = taken(alloc, ByParse::<GenericsOf<A, E>>::new(), scope, tokens)?;
     let (impl_generics, _, _) = generics.split_for_impl();
@@ -370,7 +379,9 @@ fn reprint_type_generics<A: Attributes, E: Value>(
     scope: Span,
     tokens: TokenStream,
 ) -> Result<TokenStream, Error>
-    ensures { spec.Prints (Gives (alone.generics A.reads E.reads)) (Fails (alone.generics A.reads E.reads)) (Headline (promises.generics A.reads E.reads A.spells E.spells A.normal E.normal A.shown E.values)) views.names scope (toks tokens) result }
+    ensures { spec.Prints (Gives (alone.generics A.reads E.reads)) (Fails (alone.generics A.reads E.reads))
+        (Headline (promises.generics A.reads E.reads A.spells E.spells A.normal E.normal A.shown E.values)) views.names
+        scope (toks tokens) result }
 {
     let generics = taken(alloc, ByParse::<GenericsOf<A, E>>::new(), scope, tokens)?;
     let (_, type_generics, _) = generics.split_for_impl();
@@ -383,7 +394,9 @@ fn reprint_turbofish<A: Attributes, E: Value>(
     scope: Span,
     tokens: TokenStream,
 ) -> Result<TokenStream, Error>
-    ensures { spec.Prints (Gives (alone.generics A.reads E.reads)) (Fails (alone.generics A.reads E.reads)) (Headline (promises.generics A.reads E.reads A.spells E.spells A.normal E.normal A.shown E.values)) views.turbofish scope (toks tokens) result }
+    ensures { spec.Prints (Gives (alone.generics A.reads E.reads)) (Fails (alone.generics A.reads E.reads))
+        (Headline (promises.generics A.reads E.reads A.spells E.spells A.normal E.normal A.shown E.values))
+        views.turbofish scope (toks tokens) result }
 {
     let generics = taken(alloc, ByParse::<GenericsOf<A, E>>::new(), scope, tokens)?;
     let (_, type_generics, _) = generics.split_for_impl();

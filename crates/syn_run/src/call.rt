@@ -43,7 +43,8 @@ pub fn read_into<X: Subtree>(alloc: Global, name: &[u8], text: &[u8], out: &mut 
 }
 
 fn read_named<X: Subtree>(alloc: Global, name: &str, text: &[u8], out: &mut [u8]) -> Call
-    ensures { spec.Calls (spec.Comes (category X.reads X.spells X.normal X.prints) (named name.now) text.now) text.now out.old out.new result }
+    ensures { spec.Calls (spec.Comes (category X.reads X.spells X.normal X.prints) (named name.now) text.now) text.now
+        out.old out.new result }
 {
     match (Reader::named(name), str::from_utf8(text)) {
         (Some(reader), Ok(text)) => read_by::<X>(alloc, reader, text, out),
@@ -53,7 +54,8 @@ fn read_named<X: Subtree>(alloc: Global, name: &str, text: &[u8], out: &mut [u8]
 }
 
 fn read_by<X: Subtree>(alloc: Global, reader: Reader, text: &str, out: &mut [u8]) -> Call
-    ensures { spec.Calls (spec.Answers (category X.reads X.spells X.normal X.prints reader) text.now) text.now out.old out.new result }
+    ensures { spec.Calls (spec.Answers (category X.reads X.spells X.normal X.prints reader) text.now) text.now
+        out.old out.new result }
 {
     match read_text::<X>(alloc, reader, text) {
         Ok(shown) => tell(shown.as_str(), 0, 0, (0, 0), out),

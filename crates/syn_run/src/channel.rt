@@ -52,7 +52,8 @@ pub trait Sink {
 
     /// Writes a line: a first part, a second one and a line feed.
     fn write_line(&mut self, first: &str, second: &str) -> Result<(), Unwritten>
-        ensures ok { OnOk result (Appends (contents self.old) (contents self.new) (first.now ++ second.now ++ codes "\n")) }
+        ensures ok { OnOk result
+            (Appends (contents self.old) (contents self.new) (first.now ++ second.now ++ codes "\n")) }
         ensures err { OnErr result (can_fail self.old (first.now ++ second.now ++ codes "\n")) };
 }
 

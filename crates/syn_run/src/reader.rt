@@ -167,7 +167,8 @@ impl PatternReader {
         scope: Span,
         tokens: TokenStream,
     ) -> Result<TokenStream, Error>
-        ensures { readers.Reprints (spec.patterns_category X.reads X.spells X.normal X.prints self) scope (toks tokens) result }
+        ensures { readers.Reprints (spec.patterns_category X.reads X.spells X.normal X.prints self) scope (toks tokens)
+            result }
     {
         let parser: PatternPrint<X> = PatternPrint {
             reader: self,
@@ -182,7 +183,9 @@ impl PatternReader {
         alloc: Global,
         input: &mut ParseStream<'_>,
     ) -> Result<TokenStream, Error>
-        ensures shown { Parsed (readers.Shows (spec.patterns_category X.reads X.spells X.normal X.prints self) input.old) (Fails (spec.patterns_category X.reads X.spells X.normal X.prints self).reader input.old) result input.new }
+        ensures shown { Parsed
+            (readers.Shows (spec.patterns_category X.reads X.spells X.normal X.prints self) input.old)
+            (Fails (spec.patterns_category X.reads X.spells X.normal X.prints self).reader input.old) result input.new }
         ensures within { Follows input.old input.new }
     {
         match self {
@@ -229,7 +232,8 @@ fn reprint_attributes<X: Subtree, P: Parser<Output = Items<Attribute<X>>> + Drop
     tokens: TokenStream,
 ) -> Result<TokenStream, Error>
     requires { P.can_parse parser }
-    ensures { readers.Prints (P.reads parser) (P.refuses parser) (P.promise parser) (spec.attributes X.prints) scope (toks tokens) result }
+    ensures { readers.Prints (P.reads parser) (P.refuses parser) (P.promise parser) (spec.attributes X.prints) scope
+        (toks tokens) result }
 {
     let attrs = taken(alloc, parser, scope, tokens)?;
     Ok(print_of(alloc, &attrs)?)
@@ -246,8 +250,10 @@ fn show_pat<X: Subtree, G: Arguments, Q: Qualifier<G>, T: ToTokens + Drop>(
     input: &mut ParseStream<'_>,
     place: PatPlace,
 ) -> Result<TokenStream, Error>
-    ensures shown { Parsed (spec.shows (knot.pat X.reads (named Q.reads G.is_absent) place) (patterns.pat X.prints (patterns.shown Q.shown T.print)) input.old)
-        (Fails {A = pats.PatOver X G Q T} (knot.pat X.reads (named Q.reads G.is_absent) place) input.old) result input.new }
+    ensures shown { Parsed (spec.shows (knot.pat X.reads (named Q.reads G.is_absent) place)
+        (patterns.pat X.prints (patterns.shown Q.shown T.print)) input.old)
+        (Fails {A = pats.PatOver X G Q T} (knot.pat X.reads (named Q.reads G.is_absent) place) input.old)
+        result input.new }
     ensures within { Follows input.old input.new }
 {
     let pat = Boxed::new(alloc, parse_pat::<X, G, Q, T>(alloc, of, input, place)?)?;
@@ -261,8 +267,10 @@ fn show_guarded<X: Subtree, G: Arguments, Q: Qualifier<G>, T: ToTokens + Drop>(
     of: PhantomData<PatOver<X, G, Q, T>>,
     input: &mut ParseStream<'_>,
 ) -> Result<TokenStream, Error>
-    ensures shown { Parsed (spec.shows (knot.guarded X.reads (named Q.reads G.is_absent)) (patterns.pat X.prints (patterns.shown Q.shown T.print)) input.old)
-        (Fails {A = pats.PatOver X G Q T} (knot.guarded X.reads (named Q.reads G.is_absent)) input.old) result input.new }
+    ensures shown { Parsed (spec.shows (knot.guarded X.reads (named Q.reads G.is_absent))
+        (patterns.pat X.prints (patterns.shown Q.shown T.print)) input.old)
+        (Fails {A = pats.PatOver X G Q T} (knot.guarded X.reads (named Q.reads G.is_absent)) input.old)
+        result input.new }
     ensures within { Follows input.old input.new }
 {
     let pat = Boxed::new(alloc, parse_guarded::<X, G, Q, T>(alloc, input)?)?;
@@ -276,7 +284,8 @@ fn show_typed<X: Subtree, G: Arguments, Q: Qualifier<G>, T: Held<TypePlace> + To
     of: PhantomData<TypedOver<X, G, Q, T>>,
     input: &mut ParseStream<'_>,
 ) -> Result<TokenStream, Error>
-    ensures shown { Parsed (spec.shows (knot.typed_over X.reads (named Q.reads G.is_absent) (T.read Plus)) (patterns.typed X.prints (patterns.shown Q.shown T.print)) input.old)
+    ensures shown { Parsed (spec.shows (knot.typed_over X.reads (named Q.reads G.is_absent) (T.read Plus))
+        (patterns.typed X.prints (patterns.shown Q.shown T.print)) input.old)
         (Fails (knot.typed_over X.reads (named Q.reads G.is_absent) (T.read Plus)) input.old) result input.new }
     ensures within { Follows input.old input.new }
 {

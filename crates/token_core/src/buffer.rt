@@ -126,8 +126,10 @@ fn tree_front<'a>(tree: &'a TokenTree, n: usize, more: &'a [Entry<'a>]) -> Front
 
 #[tactic(auto, using(crate::proofs::Fronts::views))]
 fn group_front<'a>(group: &'a Group, n: usize, more: &'a [Entry<'a>]) -> Front<'a>
-    requires { Nested (saw_delimiter (delimiter_of group.now) (span_of group.now) (content_of group.now) n ∷ map saw more.now) }
-    ensures shown { shows result ≡ spec.settled (view (saw_delimiter (delimiter_of group.now) (span_of group.now) (content_of group.now) n ∷ map saw more.now)) }
+    requires { Nested
+        (saw_delimiter (delimiter_of group.now) (span_of group.now) (content_of group.now) n ∷ map saw more.now) }
+    ensures shown { shows result ≡ spec.settled (view
+        (saw_delimiter (delimiter_of group.now) (span_of group.now) (content_of group.now) n ∷ map saw more.now)) }
     ensures linked { Linked result }
 {
     match group.delimiter() {
@@ -145,7 +147,8 @@ fn invisible_at<'a>(
     more: &'a [Entry<'a>],
 ) -> Option<(&'a Group, Place<'a>, Place<'a>)>
     requires { Nested (saw entry.now ∷ map saw more.now) }
-    ensures shown { option_map (λ p. (span_of p.0.now, p.1, p.2)) result ≡ groups.as_invisible (view (saw entry.now ∷ map saw more.now)) }
+    ensures shown { option_map (λ p. (span_of p.0.now, p.1, p.2)) result
+        ≡ groups.as_invisible (view (saw entry.now ∷ map saw more.now)) }
     ensures held { IfSome result (λ p. Holds (view (saw entry.now ∷ map saw more.now)) p.1 p.2) }
 {
     if is_end(entry) {
@@ -162,7 +165,8 @@ fn invisible_tree<'a>(
     more: &'a [Entry<'a>],
 ) -> Option<(&'a Group, Place<'a>, Place<'a>)>
     requires { Nested (saw_layer n (out-TokenTree tree.now) ∷ map saw more.now) }
-    ensures shown { option_map (λ p. (span_of p.0.now, p.1, p.2)) result ≡ groups.as_invisible (view (saw_layer n (out-TokenTree tree.now) ∷ map saw more.now)) }
+    ensures shown { option_map (λ p. (span_of p.0.now, p.1, p.2)) result
+        ≡ groups.as_invisible (view (saw_layer n (out-TokenTree tree.now) ∷ map saw more.now)) }
     ensures held { IfSome result (λ p. Holds (view (saw_layer n (out-TokenTree tree.now) ∷ map saw more.now)) p.1 p.2) }
 {
     match tree {
@@ -177,9 +181,13 @@ fn invisible_group<'a>(
     n: usize,
     more: &'a [Entry<'a>],
 ) -> Option<(&'a Group, Place<'a>, Place<'a>)>
-    requires { Nested (saw_delimiter (delimiter_of group.now) (span_of group.now) (content_of group.now) n ∷ map saw more.now) }
-    ensures shown { option_map (λ p. (span_of p.0.now, p.1, p.2)) result ≡ groups.as_invisible (view (saw_delimiter (delimiter_of group.now) (span_of group.now) (content_of group.now) n ∷ map saw more.now)) }
-    ensures held { IfSome result (λ p. Holds (view (saw_delimiter (delimiter_of group.now) (span_of group.now) (content_of group.now) n ∷ map saw more.now)) p.1 p.2) }
+    requires { Nested
+        (saw_delimiter (delimiter_of group.now) (span_of group.now) (content_of group.now) n ∷ map saw more.now) }
+    ensures shown { option_map (λ p. (span_of p.0.now, p.1, p.2)) result ≡ groups.as_invisible (view
+        (saw_delimiter (delimiter_of group.now) (span_of group.now) (content_of group.now) n ∷ map saw more.now)) }
+    ensures held { IfSome result (λ p. Holds
+        (view (saw_delimiter (delimiter_of group.now) (span_of group.now) (content_of group.now) n ∷ map saw more.now))
+        p.1 p.2) }
 {
     match group.delimiter() {
         Delimiter::None => {
@@ -194,7 +202,8 @@ fn invisible_group<'a>(
 #[tactic(auto, using(crate::proofs::Fronts::views))]
 fn first_invisible<'a>(entries: &'a [Entry<'a>]) -> Option<(&'a Group, Place<'a>, Place<'a>)>
     requires { Nested (map saw entries.now) }
-    ensures shown { option_map (λ p. (span_of p.0.now, p.1, p.2)) result ≡ groups.as_invisible (entries_view entries.now) }
+    ensures shown { option_map (λ p. (span_of p.0.now, p.1, p.2)) result
+        ≡ groups.as_invisible (entries_view entries.now) }
     ensures held { IfSome result (λ p. Holds (entries_view entries.now) p.1 p.2) }
 {
     if entries.len() == 0 {

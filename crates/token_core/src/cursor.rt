@@ -83,7 +83,8 @@ impl<'a> Cursor<'a> {
 
 fn tree_at<'a>(entry: &Entry<'a>, more: &'a [Entry<'a>]) -> Option<(&'a TokenTree, Cursor<'a>)>
     requires { Nested (saw entry.now ∷ map saw more.now) }
-    ensures { MatchOption result (spec.has_tree (item (saw entry.now) ∷ entries_items more.now) ≡ false) (λ p. item (saw entry.now) ∷ entries_items more.now ≡ tree_items p.0.now ++ p.1) }
+    ensures { MatchOption result (spec.has_tree (item (saw entry.now) ∷ entries_items more.now) ≡ false)
+        (λ p. item (saw entry.now) ∷ entries_items more.now ≡ tree_items p.0.now ++ p.1) }
 {
     if is_end(entry) {
         None

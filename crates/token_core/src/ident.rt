@@ -112,7 +112,8 @@ impl<'a> ParseStream<'a> {
     /// Lends the named word of a number at the front.
     #[tactic(auto, using(crate::proofs::Suffixes::words), unfolding(crate::specs::Reads::read_word))]
     pub(crate) fn read_named(&mut self, alloc: Global, n: u32) -> Result<&'a Ident, Error>
-        ensures parses { Parses (spec.read_word (spec.is_text (text_of n)) (word_name n)) (lent result) self.old self.new }
+        ensures parses { Parses (spec.read_word (spec.is_text (text_of n)) (word_name n)) (lent result)
+            self.old self.new }
         ensures same { OnErr result (self.new ≡ self.old) }
     {
         if !self.peek_named(n) {

@@ -41,7 +41,8 @@ fn past_lifetime<'a>(at: Place<'a>) -> Option<(Span, &'a Ident, Place<'a>)>
 }
 
 fn with_ident<'a>(apostrophe: Span, at: Place<'a>) -> Option<(Span, &'a Ident, Place<'a>)>
-    ensures { option_map (λ p. (spec.lifetime p.0 p.1.now, p.2)) result ≡ spec.with_ident apostrophe (spec.next_word at.entry) }
+    ensures { option_map (λ p. (spec.lifetime p.0 p.1.now, p.2)) result
+        ≡ spec.with_ident apostrophe (spec.next_word at.entry) }
 {
     match as_word(at.next()) {
         Some((ident, more)) => Some((apostrophe, ident, more)),

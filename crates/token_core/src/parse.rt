@@ -197,7 +197,8 @@ impl<'a> ParseStream<'a> {
         f: F,
     ) -> Result<T, Error>
         requires { CanParse (F.pre f) (F.post f) }
-        ensures reads { Parsed (λ a new. Answers (F.post f) self.old (Ok a) new) (RefusesBy (F.post f) self.old) result self.new }
+        ensures reads { Parsed (λ a new. Answers (F.post f) self.old (Ok a) new) (RefusesBy (F.post f) self.old)
+            result self.new }
         ensures within { Follows self.old self.new }
     {
         ByFn(f).parse(alloc, self)

@@ -40,7 +40,12 @@ impl<'a> Model for ParseStream<'a> {
 
     ghost coded = { stream_code };
 
-    ghost view = { λ s. record { rest = s.placed.rest; left = s.left; last = s.last; scope = record { at = s.scope; after = s.placed.after } } };
+    ghost view = { λ s. record {
+      rest = s.placed.rest;
+      left = s.left;
+      last = s.last;
+      scope = record { at = s.scope; after = s.placed.after };
+    } };
 }
 
 pub(crate) fn as_word<'a>(at: Front<'a>) -> Option<(&'a Ident, Place<'a>)>
@@ -68,7 +73,8 @@ pub(crate) fn as_punct<'a>(at: Front<'a>) -> Option<(Punct, Place<'a>)>
 }
 
 fn as_group<'a>(at: Front<'a>) -> Option<(&'a Group, Place<'a>, Place<'a>)>
-    ensures shown { option_map (λ p. (delimiter_of p.0.now, span_of p.0.now, p.1, p.2)) result ≡ spec.as_group (shows at.entry) }
+    ensures shown { option_map (λ p. (delimiter_of p.0.now, span_of p.0.now, p.1, p.2)) result
+        ≡ spec.as_group (shows at.entry) }
     ensures linked { Linked at.entry → IfSome result (λ p. p.1 ≡ toks (content_of p.0.now)) }
 {
     match at {

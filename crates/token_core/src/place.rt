@@ -66,10 +66,12 @@ impl<'a> Model for Placed<'a> {
 
     ghost use Rattle.token_core.specs.Entries.{saw, Nested};
 
-    ghost view = { λ p. record { rest = p.place; after = drop (length (items p.place)) (entries_items p.entries.now) } };
+    ghost view = { λ p.
+        record { rest = p.place; after = drop (length (items p.place)) (entries_items p.entries.now) } };
 
     // the entries of the scope are the first ones of those of the buffer
-    ghost invariant = { λ p. Nested (map saw p.entries.now) × (entries_items p.entries.now ≡ items p.place ++ drop (length (items p.place)) (entries_items p.entries.now)) };
+    ghost invariant = { λ p. Nested (map saw p.entries.now) × (entries_items p.entries.now
+        ≡ items p.place ++ drop (length (items p.place)) (entries_items p.entries.now)) };
 }
 
 impl<'a> Placed<'a> {

@@ -118,7 +118,8 @@ impl<T, P> Punctuated<T, P> {
 
     /// Removes the last value, and its mark if it has one.
     pub fn pop(&mut self) -> Option<(T, Option<P>)>
-        ensures popped { MatchOption result ((self.old ≡ ([], [])) × (self.new ≡ ([], []))) (λ x. self.old ≡ spec.put_last self.new x) }
+        ensures popped { MatchOption result ((self.old ≡ ([], [])) × (self.new ≡ ([], [])))
+            (λ x. self.old ≡ spec.put_last self.new x) }
         ensures left { length self.new.0 ≡ length self.new.1 }
     {
         let Some(value) = self.values.pop() else {
@@ -312,7 +313,8 @@ impl<T: Parse, P: Parse> Punctuated<T, P> {
         alloc: Global,
         input: &mut ParseStream<'_>,
     ) -> Result<Punctuated<T, P>, Error>
-        ensures reads { Parsed (terminated.Answers T.reads P.reads input.old) (λ e. terminated.Refused T.reads P.reads T.refuses P.refuses e input.old) result input.new }
+        ensures reads { Parsed (terminated.Answers T.reads P.reads input.old)
+            (λ e. terminated.Refused T.reads P.reads T.refuses P.refuses e input.old) result input.new }
         ensures within { Follows input.old input.new }
     {
         let mut list = Punctuated::new(alloc);

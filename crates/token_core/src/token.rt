@@ -223,7 +223,8 @@ impl<const N: u32, const LEN: usize> Parse for Mark<N, LEN> {
 
     #[tactic(auto, using(crate::specs::Reads::no_promise))]
     fn parse(alloc: Global, input: &mut ParseStream<'_>) -> Result<Mark<N, LEN>, Error>
-        ensures reads { Parsed (Gives (marks.read N LEN) input.old) (Fails (marks.read N LEN) input.old) result input.new }
+        ensures reads { Parsed (Gives (marks.read N LEN) input.old) (Fails (marks.read N LEN) input.old)
+            result input.new }
         ensures within { Follows input.old input.new }
         ensures promise { Keeps (λ _ _. Unit {0}) input.old result input.new }
         ensures same { OnErr result (input.new ≡ input.old) }
@@ -498,7 +499,8 @@ pub fn surround(
 impl Paren {
     /// Appends these tokens in parentheses; refused, the list is as before.
     pub fn surround(&self, tokens: TokenStream, out: &mut TokenStream) -> Result<(), AllocError>
-        ensures ok { OnOk result (trees out.new ≡ trees out.old ++ prints.group delimiter.Parenthesis tokens self.now.span) }
+        ensures ok { OnOk result
+            (trees out.new ≡ trees out.old ++ prints.group delimiter.Parenthesis tokens self.now.span) }
         ensures err { OnErr result (trees out.new ≡ trees out.old) }
     {
         surround(Delimiter::Parenthesis, self.span, tokens, out)
@@ -518,7 +520,8 @@ impl Brace {
 impl Bracket {
     /// Appends these tokens in brackets; refused, the list is as before.
     pub fn surround(&self, tokens: TokenStream, out: &mut TokenStream) -> Result<(), AllocError>
-        ensures ok { OnOk result (trees out.new ≡ trees out.old ++ prints.group delimiter.Bracket tokens self.now.span) }
+        ensures ok { OnOk result
+            (trees out.new ≡ trees out.old ++ prints.group delimiter.Bracket tokens self.now.span) }
         ensures err { OnErr result (trees out.new ≡ trees out.old) }
     {
         surround(Delimiter::Bracket, self.span, tokens, out)
@@ -592,7 +595,8 @@ impl<'a> ParseStream<'a> {
     /// Reads the token if it is there.
     #[tactic(auto, using(crate::proofs::Suffixes::follows_self))]
     pub fn parse_option<T: Token + Parse>(&mut self, alloc: Global) -> Result<Option<T>, Error>
-        ensures reads { Parsed (spec.OptionReads T.sees T.reads self.old) (spec.OptionRefuses T.sees T.refuses self.old) result self.new }
+        ensures reads { Parsed (spec.OptionReads T.sees T.reads self.old) (spec.OptionRefuses T.sees T.refuses self.old)
+            result self.new }
         ensures within { Follows self.old self.new }
     {
         if T::peek(self) {
@@ -604,7 +608,9 @@ impl<'a> ParseStream<'a> {
 
     /// The parentheses at the front, and a stream of what they hold.
     pub fn parenthesized(&mut self, alloc: Global) -> Result<(Paren, ParseStream<'a>), Error>
-        ensures parses { Parses (λ s. groups.opened groups.paren (spec.open_group delimiter.Parenthesis groups.paren_name s)) result self.old self.new }
+        ensures parses { Parses
+            (λ s. groups.opened groups.paren (spec.open_group delimiter.Parenthesis groups.paren_name s))
+            result self.old self.new }
         ensures same { OnErr result (self.new ≡ self.old) }
     {
         let (span, inside) = self.open_group(alloc, Delimiter::Parenthesis, Paren::display())?;
@@ -613,7 +619,8 @@ impl<'a> ParseStream<'a> {
 
     /// The braces at the front, and a stream of what they hold.
     pub fn braced(&mut self, alloc: Global) -> Result<(Brace, ParseStream<'a>), Error>
-        ensures parses { Parses (λ s. groups.opened groups.brace (spec.open_group delimiter.Brace groups.brace_name s)) result self.old self.new }
+        ensures parses { Parses (λ s. groups.opened groups.brace (spec.open_group delimiter.Brace groups.brace_name s))
+            result self.old self.new }
         ensures same { OnErr result (self.new ≡ self.old) }
     {
         let (span, inside) = self.open_group(alloc, Delimiter::Brace, Brace::display())?;
@@ -624,7 +631,8 @@ impl<'a> ParseStream<'a> {
     /// invisible group, but into none.
     #[tactic(auto, using(crate::proofs::Suffixes::follows_self), unfolding(crate::specs::Groups::open_invisible))]
     pub fn invisible(&mut self, alloc: Global) -> Result<(GroupToken, ParseStream<'a>), Error>
-        ensures parses { Parses (λ s. groups.opened groups.group_token (groups.open_invisible s)) result self.old self.new }
+        ensures parses { Parses (λ s. groups.opened groups.group_token (groups.open_invisible s))
+            result self.old self.new }
         ensures held { IfOk result (λ p. Holds self.old.rest p.1.rest self.new.rest) }
         ensures same { OnErr result (self.new ≡ self.old) }
     {
@@ -641,7 +649,9 @@ impl<'a> ParseStream<'a> {
 
     /// The brackets at the front, and a stream of what they hold.
     pub fn bracketed(&mut self, alloc: Global) -> Result<(Bracket, ParseStream<'a>), Error>
-        ensures parses { Parses (λ s. groups.opened groups.bracket (spec.open_group delimiter.Bracket groups.bracket_name s)) result self.old self.new }
+        ensures parses { Parses
+            (λ s. groups.opened groups.bracket (spec.open_group delimiter.Bracket groups.bracket_name s))
+            result self.old self.new }
         ensures same { OnErr result (self.new ≡ self.old) }
     {
         let (span, inside) = self.open_group(alloc, Delimiter::Bracket, Bracket::display())?;

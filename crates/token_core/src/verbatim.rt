@@ -37,7 +37,8 @@ pub fn between(
 fn part<'a>(cursor: &Cursor<'a>, end: &Cursor<'_>) -> (Option<&'a TokenTree>, Cursor<'a>)
     requires within { IsReached end.now cursor.now }
     requires before { is_before cursor.now end.now ≡ true }
-    ensures trees { spec.trees_between cursor.now end.now ≡ spec.kept (option_map (λ t. t.now) result.0) ++ spec.trees_between result.1 end.now }
+    ensures trees { spec.trees_between cursor.now end.now
+        ≡ spec.kept (option_map (λ t. t.now) result.0) ++ spec.trees_between result.1 end.now }
     ensures within { IsReached end.now result.1 }
     ensures less { length result.1 < length cursor.now }
 {

@@ -42,11 +42,13 @@ pub fn lex(alloc: Global, text: &str) -> Result<TokenStream, Error>
     // What is read the text spells.
     ensures read { IfOk result (λ s. Spells text.now (trees s)) }
     // What the text spells is read, unless memory runs out.
-    ensures all { (l : List TokenTree) → Spells text.now l → MatchResult result (λ s. trees s ≡ l) (λ e. e ≡ out_of_memory) }
+    ensures all { (l : List TokenTree) → Spells text.now l →
+        MatchResult result (λ s. trees s ≡ l) (λ e. e ≡ out_of_memory) }
     // A refusal that is not for memory is one that the text has,
     ensures refused { IfErr result (λ e. (e ≡ out_of_memory) ⊎ Refused text.now e) }
     // and a text that has one is not read.
-    ensures refuses { (e : Refusal) → Refused text.now e → MatchResult result (λ _. ⊥) (λ r. (r ≡ e) ⊎ (r ≡ out_of_memory)) }
+    ensures refuses { (e : Refusal) → Refused text.now e →
+        MatchResult result (λ _. ⊥) (λ r. (r ≡ e) ⊎ (r ≡ out_of_memory)) }
     // The same by a function of the text.
     ensures exact { spec.Gives trees result (spec.lexed text.now) }
 {

@@ -28,7 +28,8 @@ pub fn lit_str_value(alloc: Global, lit: &LitStr) -> Result<String, Error>
     // What is answered the literal holds.
     ensures read { IfOk result (λ v. HasValue lit.now (string_bytes v)) }
     // What the literal holds is answered, unless memory runs out.
-    ensures all { (v : Bytes) → HasValue lit.now v → MatchResult result (λ s. string_bytes s ≡ v) (λ e. e ≡ out_of_memory) }
+    ensures all { (v : Bytes) → HasValue lit.now v →
+        MatchResult result (λ s. string_bytes s ≡ v) (λ e. e ≡ out_of_memory) }
     // A refusal that is not for memory is one that the literal has,
     ensures refused { IfErr result (λ e. (e ≡ out_of_memory) ⊎ Malformed lit.now e) }
     // and a literal that has one is refused so.
@@ -76,7 +77,8 @@ pub fn read_lit_str_with<P: Parser + Drop>(
 
 /// The tokens of what a literal holds, with their places in it.
 fn tokens(alloc: Global, lit: &LitStr, content: &Content<'_>) -> Result<TokenStream, Error>
-    requires { Found lit.now (string_bytes content.now.held.text) content.now.held.places.items content.now.closing (chars content.now.suffix.now) × front.Past lit.now.text content.now.suffix.now }
+    requires { Found lit.now (string_bytes content.now.held.text) content.now.held.places.items content.now.closing
+        (chars content.now.suffix.now) × front.Past lit.now.text content.now.suffix.now }
     ensures held { IfOk result (λ l. spec.HoldsTokens lit.now content.now.closing (trees l)) }
     ensures refused { IfErr result (λ e. (e ≡ out_of_memory) ⊎ spec.Refused lit.now e) }
 {

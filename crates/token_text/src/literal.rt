@@ -125,7 +125,8 @@ fn after_string(text: &str) -> Option<&str>
 #[tactic(auto, using(crate::proofs::Pasts::pasts))]
 pub fn past_hashes(text: &str, count: usize) -> Option<&str>
     ensures { MatchOption result (pieces.has_hashes count (chars text.now) ≡ false)
-        (λ rest. (pieces.has_hashes count (chars text.now) ≡ true) × (chars rest.now ≡ drop count (chars text.now)) × spec.Past text.now rest.now) }
+        (λ rest. (pieces.has_hashes count (chars text.now) ≡ true) × (chars rest.now ≡ drop count (chars text.now))
+        × spec.Past text.now rest.now) }
 {
     let mut left = count;
     let mut rest = text;

@@ -35,14 +35,16 @@ impl Content<'_> {
         alloc: Global,
         tokens: &TokenStream,
     ) -> Result<TokenStream, AllocError>
-        ensures { IfOk result (λ s. s ≡ spec.moved_trees (spec.moved self.now.held.places.items self.now.closing) tokens.now) }
+        ensures { IfOk result
+            (λ s. s ≡ spec.moved_trees (spec.moved self.now.held.places.items self.now.closing) tokens.now) }
     {
         moved_trees(alloc, tokens.trees(), self)
     }
 
     /// A refusal of what the string holds, where it stands in the literal.
     pub fn moved_error(&self, alloc: Global, e: &Error) -> Error
-        ensures moved { Stored result (spec.moved_refusal (spec.moved self.now.held.places.items self.now.closing) e.now) }
+        ensures moved { Stored result
+            (spec.moved_refusal (spec.moved self.now.held.places.items self.now.closing) e.now) }
         ensures memory { e.now.kind ≡ ErrorKind.OutOfMemory → result ≡ out_of_memory }
     {
         match e.kind() {
@@ -65,7 +67,8 @@ fn moved_trees(
     trees: &[TokenTree],
     content: &Content<'_>,
 ) -> Result<TokenStream, AllocError>
-    ensures { IfOk result (λ s. s ≡ spec.moved_trees (spec.moved content.now.held.places.items content.now.closing) trees.now) }
+    ensures { IfOk result
+        (λ s. s ≡ spec.moved_trees (spec.moved content.now.held.places.items content.now.closing) trees.now) }
 {
     let mut moved = TokenStream::new(alloc);
     for tree in trees {
@@ -80,7 +83,8 @@ fn moved_tree(
     tree: &TokenTree,
     content: &Content<'_>,
 ) -> Result<TokenTree, AllocError>
-    ensures { IfOk result (λ t. t ≡ spec.moved_tree (spec.moved content.now.held.places.items content.now.closing) tree.now) }
+    ensures { IfOk result
+        (λ t. t ≡ spec.moved_tree (spec.moved content.now.held.places.items content.now.closing) tree.now) }
 {
     match tree {
         TokenTree::Ident(ident) => {
@@ -102,7 +106,8 @@ fn moved_tree(
 
 #[cycle(moved)]
 fn moved_group(alloc: Global, group: &Group, content: &Content<'_>) -> Result<Group, AllocError>
-    ensures { IfOk result (λ g. g ≡ spec.moved_group (spec.moved content.now.held.places.items content.now.closing) group.now) }
+    ensures { IfOk result
+        (λ g. g ≡ spec.moved_group (spec.moved content.now.held.places.items content.now.closing) group.now) }
 {
     let moved = moved_trees(alloc, group.stream().trees(), content)?;
     let span = content.moved_sides(group.delim_span());

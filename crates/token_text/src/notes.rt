@@ -79,7 +79,8 @@ fn heading(
     column: usize,
     message: &str,
 ) -> Result<String, AllocError>
-    ensures { IfOk result (λ s. string_bytes s ≡ name.now ++ (codes ":" ++ (decimal line ++ (codes ":" ++ (decimal column ++ (codes ": " ++ message.now)))))) }
+    ensures { IfOk result (λ s. string_bytes s
+        ≡ name.now ++ (codes ":" ++ (decimal line ++ (codes ":" ++ (decimal column ++ (codes ": " ++ message.now)))))) }
 {
     format!(in alloc; "{name}:{line}:{column}: {message}")
 }
@@ -93,7 +94,8 @@ fn joined(
     blanks: &str,
     marks: &str,
 ) -> Result<String, AllocError>
-    ensures { IfOk result (λ s. string_bytes s ≡ heading.now ++ (codes "\n" ++ (before.now ++ (after.now ++ (codes "\n" ++ (blanks.now ++ marks.now)))))) }
+    ensures { IfOk result (λ s. string_bytes s
+        ≡ heading.now ++ (codes "\n" ++ (before.now ++ (after.now ++ (codes "\n" ++ (blanks.now ++ marks.now)))))) }
 {
     format!(in alloc; "{heading}\n{before}{after}\n{blanks}{marks}")
 }

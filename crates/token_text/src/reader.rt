@@ -63,7 +63,8 @@ impl Reader {
     /// Takes the next piece.
     pub fn take(&mut self, piece: Piece, text: &str, span: Span) -> Result<(), Error>
         requires { span.lo < span.hi }
-        ensures { spec.Gives (λ _. spec.state_of self.new) result (spec.act span text.now piece (spec.state_of self.old)) }
+        ensures { spec.Gives (λ _. spec.state_of self.new) result
+            (spec.act span text.now piece (spec.state_of self.old)) }
     {
         match piece {
             Piece::Leaf(leaf) => Ok(self.push_leaf(leaf, text, span)?),
@@ -74,7 +75,8 @@ impl Reader {
 
     fn push_leaf(&mut self, leaf: Leaf, text: &str, span: Span) -> Result<(), AllocError>
         requires { span.lo < span.hi }
-        ensures { IfOk result (λ _. spec.act span text.now (spec.leaf_piece leaf) (spec.state_of self.old) ≡ Ok (spec.state_of self.new)) }
+        ensures { IfOk result (λ _. spec.act span text.now (spec.leaf_piece leaf) (spec.state_of self.old)
+            ≡ Ok (spec.state_of self.new)) }
     {
         match leaf {
             Leaf::Blank => Ok(()),
@@ -94,14 +96,16 @@ impl Reader {
     }
 
     fn push_word(&mut self, text: &str, span: Span) -> Result<(), AllocError>
-        ensures { IfOk result (λ _. spec.state_of self.new ≡ spec.with_tree (pieces.word_tree text.now span) (spec.state_of self.old)) }
+        ensures { IfOk result
+            (λ _. spec.state_of self.new ≡ spec.with_tree (pieces.word_tree text.now span) (spec.state_of self.old)) }
     {
         self.trees
             .push(TokenTree::Ident(Ident::new(self.alloc, text, span)?))
     }
 
     fn push_mark(&mut self, ch: char, spacing: Spacing, span: Span) -> Result<(), AllocError>
-        ensures { IfOk result (λ _. spec.state_of self.new ≡ spec.with_tree (pieces.mark_tree ch spacing span) (spec.state_of self.old)) }
+        ensures { IfOk result
+            (λ _. spec.state_of self.new ≡ spec.with_tree (pieces.mark_tree ch spacing span) (spec.state_of self.old)) }
     {
         self.trees
             .push(TokenTree::Punct(Punct::new(ch, spacing, span)))
@@ -121,7 +125,8 @@ impl Reader {
     }
 
     fn close_group(&mut self, delimiter: Delimiter, span: Span) -> Result<(), Error>
-        ensures { spec.Gives (λ _. spec.state_of self.new) result (spec.closed_by delimiter span (spec.state_of self.old)) }
+        ensures { spec.Gives (λ _. spec.state_of self.new) result
+            (spec.closed_by delimiter span (spec.state_of self.old)) }
     {
         match self.open_groups.pop() {
             Some(open) if is_same(open.delimiter, delimiter) => {

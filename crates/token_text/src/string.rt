@@ -43,7 +43,8 @@ impl Held {
 
     fn push(&mut self, ch: char, place: Span) -> Result<(), AllocError>
         ensures text { OnOk result (string_bytes self.new.text ≡ string_bytes self.old.text ++ encode_utf8 ch) }
-        ensures places { OnOk result (self.new.places.items ≡ self.old.places.items ++ replicate (length (encode_utf8 ch)) place) }
+        ensures places { OnOk result
+            (self.new.places.items ≡ self.old.places.items ++ replicate (length (encode_utf8 ch)) place) }
     {
         self.text.push(ch)?;
         push_times(&mut self.places, place, ch.len_utf8())
@@ -51,7 +52,8 @@ impl Held {
 
     /// Puts in a character that was found, if one was.
     fn add(&mut self, found: Option<char>, place: Span) -> Result<(), AllocError>
-        ensures { OnOk result (spec.Adds found place (string_bytes self.old.text) self.old.places.items (string_bytes self.new.text) self.new.places.items) }
+        ensures { OnOk result (spec.Adds found place (string_bytes self.old.text) self.old.places.items
+            (string_bytes self.new.text) self.new.places.items) }
     {
         match found {
             Some(ch) => self.push(ch, place),
@@ -146,8 +148,10 @@ fn take_held<'a>(
 ) -> Result<&'a str, AllocError>
     requires past { front.Past lit.now.text body.now }
     requires none { (string_bytes held.old.text ≡ []) × (held.old.places.items ≡ []) }
-    ensures taken { IfOk result (λ rest. spec.Taken lit.now closing (chars body.now) rest.now (string_bytes held.new.text) held.new.places.items) }
-    ensures stops { IfOk result (λ rest. (spec.shown closing (chars rest.now) ≡ None) × front.Past lit.now.text rest.now) }
+    ensures taken { IfOk result (λ rest. spec.Taken lit.now closing (chars body.now) rest.now
+        (string_bytes held.new.text) held.new.places.items) }
+    ensures stops { IfOk result
+        (λ rest. (spec.shown closing (chars rest.now) ≡ None) × front.Past lit.now.text rest.now) }
 {
     let mut rest = body;
     while let Some((found, after)) = shown(rest, closing) {
@@ -159,7 +163,9 @@ fn take_held<'a>(
 
 /// What the literal holds, or why it is no string.
 pub fn read_content(alloc: Global, lit: &LitStr) -> Result<Content<'_>, Error>
-    ensures found { IfOk result (λ c. spec.Found lit.now (string_bytes c.held.text) c.held.places.items c.closing (chars c.suffix.now) × front.Past lit.now.text c.suffix.now) }
+    ensures found { IfOk result
+        (λ c. spec.Found lit.now (string_bytes c.held.text) c.held.places.items c.closing (chars c.suffix.now)
+        × front.Past lit.now.text c.suffix.now) }
     ensures malformed { IfErr result (λ e. (e ≡ out_of_memory) ⊎ spec.Malformed lit.now e) }
 {
     match opened(lit.text()) {
@@ -178,7 +184,9 @@ fn read_body<'a>(
 ) -> Result<Content<'a>, Error>
     requires opens { front.opening (chars lit.now.text) ≡ Some (Str, closing, chars body.now) }
     requires past { front.Past lit.now.text body.now }
-    ensures found { IfOk result (λ c. spec.Found lit.now (string_bytes c.held.text) c.held.places.items c.closing (chars c.suffix.now) × front.Past lit.now.text c.suffix.now) }
+    ensures found { IfOk result
+        (λ c. spec.Found lit.now (string_bytes c.held.text) c.held.places.items c.closing (chars c.suffix.now)
+        × front.Past lit.now.text c.suffix.now) }
     ensures malformed { IfErr result (λ e. (e ≡ out_of_memory) ⊎ spec.Malformed lit.now e) }
 {
     let mut held = Held::new(alloc);

@@ -15,7 +15,8 @@ const NOT_RAW: [&str; 5] = ["r#_", "r#crate", "r#self", "r#super", "r#Self"];
 #[tactic(auto, using(crate::proofs::Pasts::pasts))]
 pub fn split_first(text: &str) -> Option<(char, &str)>
     ensures { MatchOption result ((chars text.now ≡ []) × (text.now ≡ []))
-        (λ (c, rest). (chars text.now ≡ c ∷ chars rest.now) × (text.now ≡ encode_utf8 c ++ rest.now) × (length rest.now < length text.now) × spec.Past text.now rest.now) }
+        (λ (c, rest). (chars text.now ≡ c ∷ chars rest.now) × (text.now ≡ encode_utf8 c ++ rest.now)
+        × (length rest.now < length text.now) × spec.Past text.now rest.now) }
 {
     let mut chars = text.chars();
     match chars.next() {

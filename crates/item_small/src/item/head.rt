@@ -19,7 +19,8 @@ pub struct Head<'a, I, P, N, W> {
 }
 
 impl<'a, I: ToTokens, P: ToTokens, N: ToTokens, W: ToTokens> ToTokens for Head<'a, I, P, N, W> {
-    ghost print = { λ x. printing.head (I.print x.generics.now) (P.print x.trait_path.now) x.ident.now (N.print x.arguments.now) (W.print x.where_clause.now) };
+    ghost print = { λ x. printing.head (I.print x.generics.now) (P.print x.trait_path.now) x.ident.now
+        (N.print x.arguments.now) (W.print x.where_clause.now) };
 
     #[tactic(auto, using(token_core::proofs::Puts::puts))]
     fn append_tokens(&self, alloc: Global, out: &mut TokenStream) -> Result<(), AllocError> {
@@ -39,7 +40,8 @@ fn append_target<N: ToTokens, W: ToTokens>(
     where_clause: &W,
     out: &mut TokenStream,
 ) -> Result<(), AllocError>
-    ensures appends { Appends (printing.target ident.now (N.print arguments.now) (W.print where_clause.now)) result out.old out.new }
+    ensures appends { Appends (printing.target ident.now (N.print arguments.now) (W.print where_clause.now))
+        result out.old out.new }
 {
     For::default().append_tokens(alloc, out)?;
     ident.append_tokens(alloc, out)?;

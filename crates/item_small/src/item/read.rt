@@ -54,7 +54,8 @@ fn parse_named<A: Part, T: Part>(
     input: &mut ParseStream<'_>,
 ) -> Result<BodyOf<A, T>, Error>
     ensures parses { Parses (reading.named A.front.grammar.reader T.front.grammar.reader) result input.old input.new }
-    ensures fronts { sees_group delimiter.Brace input.old.rest ≡ true → FieldFits A.front T.front → Fronted (promises.body A.front T.front) input.old result input.new }
+    ensures fronts { sees_group delimiter.Brace input.old.rest ≡ true → FieldFits A.front T.front →
+        Fronted (promises.body A.front T.front) input.old result input.new }
 {
     let (brace_token, mut content) = input.braced(alloc)?;
     let fields = Punctuated::parse_terminated(alloc, &mut content)?;
@@ -85,8 +86,11 @@ pub fn parse_item<A: Part, G: Part, W: Part, T: Part>(
     alloc: Global,
     input: &mut ParseStream<'_>,
 ) -> Result<ItemOf<A, G, W, T>, Error>
-    ensures parses { Parses (reading.item A.front.grammar.reader G.front.grammar.reader W.front.grammar.reader T.front.grammar.reader) result input.old input.new }
-    ensures fronts { Fits A.front G.front W.front T.front → Fronted (promises.item A.front G.front W.front T.front) input.old result input.new }
+    ensures parses { Parses
+        (reading.item A.front.grammar.reader G.front.grammar.reader W.front.grammar.reader T.front.grammar.reader)
+        result input.old input.new }
+    ensures fronts { Fits A.front G.front W.front T.front →
+        Fronted (promises.item A.front G.front W.front T.front) input.old result input.new }
 {
     let attrs = A::read(alloc, input)?;
     let struct_token = input.parse::<Struct>(alloc)?;

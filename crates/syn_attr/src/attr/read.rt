@@ -274,7 +274,8 @@ impl<X: Subtree> Attribute<X> {
         input: &mut ParseStream<'_>,
     ) -> Result<Items<Attribute<X>>, Error>
         ensures parses { Parses (reading.outer X.reads) result input.old input.new }
-        ensures front { Visible input.old.rest → input.new.left ≡ None → IfOk result (λ all. AreAll (IsOuter X.spells false) all input.old.rest input.new.rest) }
+        ensures front { Visible input.old.rest → input.new.left ≡ None →
+            IfOk result (λ all. AreAll (IsOuter X.spells false) all input.old.rest input.new.rest) }
         ensures headline { Heads (grammars.outer X.reads X.spells X.normal X.prints) input.old result input.new }
         ensures fronts { Fronted (grammars.outer_front X.reads X.spells X.normal X.prints) input.old result input.new }
     {
@@ -287,7 +288,8 @@ impl<X: Subtree> Attribute<X> {
         input: &mut ParseStream<'_>,
     ) -> Result<Items<Attribute<X>>, Error>
         ensures parses { Parses (reading.inner X.reads) result input.old input.new }
-        ensures front { Visible input.old.rest → input.new.left ≡ None → IfOk result (λ all. AreAll (IsInner X.spells false) all input.old.rest input.new.rest) }
+        ensures front { Visible input.old.rest → input.new.left ≡ None →
+            IfOk result (λ all. AreAll (IsInner X.spells false) all input.old.rest input.new.rest) }
         ensures headline { Heads (grammars.inner X.reads X.spells X.normal X.prints) input.old result input.new }
     {
         parse_inners(alloc, input)

@@ -108,7 +108,8 @@ fn generics_from<A: Attributes, E: Value>(
     input: &mut ParseStream<'_>,
 ) -> Result<GenericsOf<A, E>, Error>
     requires few { ahead input.old ≤ length begin.now }
-    ensures parses { Parses (reading.generics (knot.reads_below A.reads E.reads (length begin.now))) result input.old input.new }
+    ensures parses { Parses (reading.generics (knot.reads_below A.reads E.reads (length begin.now)))
+        result input.old input.new }
 {
     if !input.peek::<Lt>() {
         return Ok(GenericsOf::default(alloc));
@@ -135,7 +136,8 @@ fn predicate_bounds<A: Attributes, E: Value>(
     input: &mut ParseStream<'_>,
 ) -> Result<Punctuated<TypeParamBoundOf<A, E>, Plus>, Error>
     requires few { ahead input.old < length begin.now }
-    ensures parses { Parses (reading.predicate_bounds (knot.reads_below A.reads E.reads (length begin.now))) result input.old input.new }
+    ensures parses { Parses (reading.predicate_bounds (knot.reads_below A.reads E.reads (length begin.now)))
+        result input.old input.new }
 {
     forms::parse_list::<BoundPlace, TypeParamBoundOf<A, E>, Plus, ToPredicateEnd>(
         alloc,
@@ -155,7 +157,9 @@ fn type_after<A: Attributes, E: Value>(
     attrs: Items<A>,
 ) -> Result<PredicateTypeOf<A, E>, Error>
     requires few { ahead input.old ≤ length begin.now }
-    ensures parses { Parses (reading.type_after (knot.ty A.reads E.reads type_places.Bounded) (knot.reads_below A.reads E.reads (length begin.now)) attrs) result input.old input.new }
+    ensures parses { Parses (reading.type_after (knot.ty A.reads E.reads type_places.Bounded)
+        (knot.reads_below A.reads E.reads (length begin.now)) attrs)
+        result input.old input.new }
 {
     let lifetimes = optional_binder_from::<A, E>(alloc, begin, input)?;
     let bounded_ty = read_type::<A, E>(alloc, PhantomData, input, TypePlace::Bounded)?;
@@ -178,7 +182,9 @@ fn predicate_from<A: Attributes, E: Value>(
     input: &mut ParseStream<'_>,
 ) -> Result<WherePredicateOf<A, E>, Error>
     requires few { ahead input.old ≤ length begin.now }
-    ensures parses { Parses (reading.predicate A.reads (knot.ty A.reads E.reads type_places.Bounded) (knot.reads_below A.reads E.reads (length begin.now))) result input.old input.new }
+    ensures parses { Parses (reading.predicate A.reads
+        (knot.ty A.reads E.reads type_places.Bounded) (knot.reads_below A.reads E.reads (length begin.now)))
+        result input.old input.new }
 {
     let attrs = A::read_outer(alloc, input)?;
     if sees_lifetime_predicate(input) {
@@ -238,7 +244,9 @@ fn parse_predicates<A: Attributes, E: Value>(
     input: &mut ParseStream<'_>,
 ) -> Result<Punctuated<WherePredicateOf<A, E>, Comma>, Error>
     requires few { ahead input.old < length begin.now }
-    ensures parses { Parses (predicates.predicates_to (below.held (alone.predicate_in A.reads E.reads) (length begin.now) tt)) result input.old input.new }
+    ensures parses { Parses
+        (predicates.predicates_to (below.held (alone.predicate_in A.reads E.reads) (length begin.now) tt))
+        result input.old input.new }
 {
     forms::parse_list::<(), WherePredicateOf<A, E>, Comma, ToClauseEnd>(
         alloc,
@@ -282,16 +290,21 @@ impl<A: Attributes, E: Value> Parse for GenericsOf<A, E> {
 
     ghost refuses = { Fails (alone.generics A.reads E.reads) };
 
-    ghost promise = { Headline (promises.generics A.reads E.reads A.spells E.spells A.normal E.normal A.shown E.values) };
+    ghost promise = { Headline
+        (promises.generics A.reads E.reads A.spells E.spells A.normal E.normal A.shown E.values) };
 
-    ghost fronts = { said (promises.generics_front A.reads E.reads A.spells E.spells A.normal E.normal A.shown E.values) };
+    ghost fronts = { said
+        (promises.generics_front A.reads E.reads A.spells E.spells A.normal E.normal A.shown E.values) };
 
     fn parse(alloc: Global, input: &mut ParseStream<'_>) -> Result<GenericsOf<A, E>, Error>
         ensures reads { Reads (alone.generics A.reads E.reads input.old) result input.new }
         ensures within { Follows input.old input.new }
-        ensures promise { Heads (promises.generics A.reads E.reads A.spells E.spells A.normal E.normal A.shown E.values) input.old result input.new }
+        ensures promise { Heads (promises.generics A.reads E.reads A.spells E.spells A.normal E.normal A.shown E.values)
+            input.old result input.new }
         ensures front { Takes (fronts.generics A.spells E.spells) input.old result input.new }
-        ensures fronts { Fronted (promises.generics_front A.reads E.reads A.spells E.spells A.normal E.normal A.shown E.values) input.old result input.new }
+        ensures fronts { Fronted
+            (promises.generics_front A.reads E.reads A.spells E.spells A.normal E.normal A.shown E.values)
+            input.old result input.new }
     {
         parse_generics(alloc, input)
     }
@@ -312,15 +325,21 @@ impl<A: Attributes, E: Value> Parse for WhereClauseOf<A, E> {
 
     ghost refuses = { Fails (alone.where_clause A.reads E.reads) };
 
-    ghost promise = { Headline (promises.where_clause A.reads E.reads A.spells E.spells A.normal E.normal A.shown E.values) };
+    ghost promise = { Headline
+        (promises.where_clause A.reads E.reads A.spells E.spells A.normal E.normal A.shown E.values) };
 
     fn parse(alloc: Global, input: &mut ParseStream<'_>) -> Result<WhereClauseOf<A, E>, Error>
         ensures reads { Reads (alone.where_clause A.reads E.reads input.old) result input.new }
         ensures within { Follows input.old input.new }
-        ensures promise { Heads (promises.where_clause A.reads E.reads A.spells E.spells A.normal E.normal A.shown E.values) input.old result input.new }
+        ensures promise { Heads
+            (promises.where_clause A.reads E.reads A.spells E.spells A.normal E.normal A.shown E.values)
+            input.old result input.new }
         ensures front { Takes (fronts.where_clause A.spells E.spells) input.old result input.new }
-        ensures printed { IfOk result (λ x. (promises.optional_where_clause A.reads E.reads A.spells E.spells A.normal E.normal A.shown E.values).plain (Some x)
-            → Reprinted (promises.optional_where_clause A.reads E.reads A.spells E.spells A.normal E.normal A.shown E.values) (Some x)) }
+        ensures printed { IfOk result (λ x.
+            (promises.optional_where_clause A.reads E.reads A.spells E.spells A.normal E.normal A.shown E.values).plain
+            (Some x) → Reprinted
+            (promises.optional_where_clause A.reads E.reads A.spells E.spells A.normal E.normal A.shown E.values)
+            (Some x)) }
     {
         parse_where_clause(alloc, input)
     }
@@ -334,9 +353,13 @@ impl<A: Attributes, E: Value> WhereClauseOf<A, E> {
         input: &mut ParseStream<'_>,
     ) -> Result<Option<WhereClauseOf<A, E>>, Error>
         ensures parses { Parses (alone.optional_where_clause A.reads E.reads) result input.old input.new }
-        ensures promise { Heads (promises.optional_where_clause A.reads E.reads A.spells E.spells A.normal E.normal A.shown E.values) input.old result input.new }
+        ensures promise { Heads
+            (promises.optional_where_clause A.reads E.reads A.spells E.spells A.normal E.normal A.shown E.values)
+            input.old result input.new }
         ensures front { Takes (fronts.optional_where_clause A.spells E.spells) input.old result input.new }
-        ensures fronts { Fronted (promises.optional_where_clause_front A.reads E.reads A.spells E.spells A.normal E.normal A.shown E.values) input.old result input.new }
+        ensures fronts { Fronted
+            (promises.optional_where_clause_front A.reads E.reads A.spells E.spells A.normal E.normal A.shown E.values)
+            input.old result input.new }
     {
         parse_optional_where_clause(alloc, input)
     }
@@ -370,12 +393,15 @@ impl<A: Attributes, E: Value> Parse for WherePredicateOf<A, E> {
 
     ghost refuses = { Fails (alone.predicate A.reads E.reads) };
 
-    ghost promise = { Headline (promises.predicate A.reads E.reads A.spells E.spells A.normal E.normal A.shown E.values) };
+    ghost promise = { Headline
+        (promises.predicate A.reads E.reads A.spells E.spells A.normal E.normal A.shown E.values) };
 
     fn parse(alloc: Global, input: &mut ParseStream<'_>) -> Result<WherePredicateOf<A, E>, Error>
         ensures reads { Reads (alone.predicate A.reads E.reads input.old) result input.new }
         ensures within { Follows input.old input.new }
-        ensures promise { Heads (promises.predicate A.reads E.reads A.spells E.spells A.normal E.normal A.shown E.values) input.old result input.new }
+        ensures promise { Heads
+            (promises.predicate A.reads E.reads A.spells E.spells A.normal E.normal A.shown E.values)
+            input.old result input.new }
         ensures front { Takes (fronts.predicate A.spells E.spells) input.old result input.new }
     {
         parse_predicate(alloc, input)

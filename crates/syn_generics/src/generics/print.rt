@@ -66,7 +66,8 @@ fn print_binder<A: Attributes, E: Value>(
     binder: &Option<BoundLifetimesOf<GenericParamOf<A, E>>>,
     out: &mut TokenStream,
 ) -> Result<(), AllocError>
-    ensures ok { OnOk result (trees out.new ≡ trees out.old ++ shapes.binder_by (types.param A.shown E.values) binder.now) }
+    ensures ok { OnOk result
+        (trees out.new ≡ trees out.old ++ shapes.binder_by (types.param A.shown E.values) binder.now) }
     ensures err { OnErr result (Extends (trees out.old) (trees out.new)) }
 {
     match binder {

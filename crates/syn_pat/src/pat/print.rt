@@ -206,7 +206,8 @@ fn print_guarded<X: Subtree, G: Arguments, Q: Qualifier<G>, T: ToTokens>(
     pat: &GuardOver<X, G, Q, T>,
     out: &mut TokenStream,
 ) -> Result<(), AllocError>
-    ensures ok { OnOk result (trees out.new ≡ trees out.old ++ printing.guarded X.prints (shown Q.shown T.print) pat.now) }
+    ensures ok { OnOk result
+        (trees out.new ≡ trees out.old ++ printing.guarded X.prints (shown Q.shown T.print) pat.now) }
     ensures err { OnErr result (Extends (trees out.old) (trees out.new)) }
 {
     print_outer(alloc, &pat.attrs, out)?;
@@ -222,7 +223,8 @@ fn print_binding<X: Subtree, G: Arguments, Q: Qualifier<G>, T: ToTokens>(
     pat: &IdentOver<X, G, Q, T>,
     out: &mut TokenStream,
 ) -> Result<(), AllocError>
-    ensures ok { OnOk result (trees out.new ≡ trees out.old ++ printing.binding X.prints (shown Q.shown T.print) pat.now) }
+    ensures ok { OnOk result
+        (trees out.new ≡ trees out.old ++ printing.binding X.prints (shown Q.shown T.print) pat.now) }
     ensures err { OnErr result (Extends (trees out.old) (trees out.new)) }
 {
     print_name(alloc, pat, out)?;
@@ -242,7 +244,8 @@ fn print_alternatives<X: Subtree, G: Arguments, Q: Qualifier<G>, T: ToTokens>(
     pat: &OrOver<X, G, Q, T>,
     out: &mut TokenStream,
 ) -> Result<(), AllocError>
-    ensures ok { OnOk result (trees out.new ≡ trees out.old ++ printing.alternatives X.prints (shown Q.shown T.print) pat.now) }
+    ensures ok { OnOk result
+        (trees out.new ≡ trees out.old ++ printing.alternatives X.prints (shown Q.shown T.print) pat.now) }
     ensures err { OnErr result (Extends (trees out.old) (trees out.new)) }
 {
     print_outer(alloc, &pat.attrs, out)?;
@@ -257,7 +260,8 @@ fn print_paren<X: Subtree, G: Arguments, Q: Qualifier<G>, T: ToTokens>(
     pat: &ParenOver<X, G, Q, T>,
     out: &mut TokenStream,
 ) -> Result<(), AllocError>
-    ensures ok { OnOk result (trees out.new ≡ trees out.old ++ printing.paren X.prints (shown Q.shown T.print) pat.now) }
+    ensures ok { OnOk result
+        (trees out.new ≡ trees out.old ++ printing.paren X.prints (shown Q.shown T.print) pat.now) }
     ensures err { OnErr result (Extends (trees out.old) (trees out.new)) }
 {
     print_outer(alloc, &pat.attrs, out)?;
@@ -273,7 +277,8 @@ fn print_reference<X: Subtree, G: Arguments, Q: Qualifier<G>, T: ToTokens>(
     pat: &ReferenceOver<X, G, Q, T>,
     out: &mut TokenStream,
 ) -> Result<(), AllocError>
-    ensures ok { OnOk result (trees out.new ≡ trees out.old ++ printing.reference X.prints (shown Q.shown T.print) pat.now) }
+    ensures ok { OnOk result
+        (trees out.new ≡ trees out.old ++ printing.reference X.prints (shown Q.shown T.print) pat.now) }
     ensures err { OnErr result (Extends (trees out.old) (trees out.new)) }
 {
     print_outer(alloc, &pat.attrs, out)?;
@@ -289,7 +294,8 @@ fn print_slice<X: Subtree, G: Arguments, Q: Qualifier<G>, T: ToTokens>(
     pat: &SliceOver<X, G, Q, T>,
     out: &mut TokenStream,
 ) -> Result<(), AllocError>
-    ensures ok { OnOk result (trees out.new ≡ trees out.old ++ printing.slice X.prints (shown Q.shown T.print) pat.now) }
+    ensures ok { OnOk result
+        (trees out.new ≡ trees out.old ++ printing.slice X.prints (shown Q.shown T.print) pat.now) }
     ensures err { OnErr result (Extends (trees out.old) (trees out.new)) }
 {
     print_outer(alloc, &pat.attrs, out)?;
@@ -349,7 +355,8 @@ fn print_struct<X: Subtree, G: Arguments, Q: Qualifier<G>, T: ToTokens>(
     pat: &StructOver<X, G, Q, T>,
     out: &mut TokenStream,
 ) -> Result<(), AllocError>
-    ensures ok { OnOk result (trees out.new ≡ trees out.old ++ printing.fielded X.prints (shown Q.shown T.print) pat.now) }
+    ensures ok { OnOk result
+        (trees out.new ≡ trees out.old ++ printing.fielded X.prints (shown Q.shown T.print) pat.now) }
     ensures err { OnErr result (Extends (trees out.old) (trees out.new)) }
 {
     print_outer(alloc, &pat.attrs, out)?;
@@ -368,7 +375,8 @@ fn print_fields<X: Subtree, G: Arguments, Q: Qualifier<G>, T: ToTokens>(
     pat: &StructOver<X, G, Q, T>,
     out: &mut TokenStream,
 ) -> Result<(), AllocError>
-    ensures ok { OnOk result (trees out.new ≡ trees out.old ++ printing.fields X.prints (shown Q.shown T.print) pat.now.fields) }
+    ensures ok { OnOk result
+        (trees out.new ≡ trees out.old ++ printing.fields X.prints (shown Q.shown T.print) pat.now.fields) }
     ensures err { OnErr result (Extends (trees out.old) (trees out.new)) }
 {
     let mut commas = pat.fields.marks().iter();
@@ -387,7 +395,8 @@ fn print_tuple<X: Subtree, G: Arguments, Q: Qualifier<G>, T: ToTokens>(
     pat: &TupleOver<X, G, Q, T>,
     out: &mut TokenStream,
 ) -> Result<(), AllocError>
-    ensures ok { OnOk result (trees out.new ≡ trees out.old ++ printing.tuple X.prints (shown Q.shown T.print) pat.now) }
+    ensures ok { OnOk result
+        (trees out.new ≡ trees out.old ++ printing.tuple X.prints (shown Q.shown T.print) pat.now) }
     ensures err { OnErr result (Extends (trees out.old) (trees out.new)) }
 {
     print_outer(alloc, &pat.attrs, out)?;
@@ -405,7 +414,8 @@ fn print_tuple_struct<X: Subtree, G: Arguments, Q: Qualifier<G>, T: ToTokens>(
     pat: &TupleStructOver<X, G, Q, T>,
     out: &mut TokenStream,
 ) -> Result<(), AllocError>
-    ensures ok { OnOk result (trees out.new ≡ trees out.old ++ printing.tuple_struct X.prints (shown Q.shown T.print) pat.now) }
+    ensures ok { OnOk result
+        (trees out.new ≡ trees out.old ++ printing.tuple_struct X.prints (shown Q.shown T.print) pat.now) }
     ensures err { OnErr result (Extends (trees out.old) (trees out.new)) }
 {
     print_outer(alloc, &pat.attrs, out)?;
@@ -423,7 +433,8 @@ pub fn print_typed<X: Subtree, G: Arguments, Q: Qualifier<G>, T: ToTokens>(
     pat: &TypedOver<X, G, Q, T>,
     out: &mut TokenStream,
 ) -> Result<(), AllocError>
-    ensures ok { OnOk result (trees out.new ≡ trees out.old ++ printing.typed X.prints (shown Q.shown T.print) pat.now) }
+    ensures ok { OnOk result
+        (trees out.new ≡ trees out.old ++ printing.typed X.prints (shown Q.shown T.print) pat.now) }
     ensures err { OnErr result (Extends (trees out.old) (trees out.new)) }
 {
     print_outer(alloc, &pat.attrs, out)?;
@@ -440,7 +451,8 @@ fn print_elements<X: Subtree, G: Arguments, Q: Qualifier<G>, T: ToTokens>(
     elems: &Punctuated<PatOver<X, G, Q, T>, Comma>,
     out: &mut TokenStream,
 ) -> Result<(), AllocError>
-    ensures ok { OnOk result (trees out.new ≡ trees out.old ++ printing.list X.prints (shown Q.shown T.print) elems.now) }
+    ensures ok { OnOk result
+        (trees out.new ≡ trees out.old ++ printing.list X.prints (shown Q.shown T.print) elems.now) }
     ensures err { OnErr result (Extends (trees out.old) (trees out.new)) }
 {
     let mut commas = elems.marks().iter();
@@ -459,7 +471,8 @@ fn print_cases<X: Subtree, G: Arguments, Q: Qualifier<G>, T: ToTokens>(
     pat: &OrOver<X, G, Q, T>,
     out: &mut TokenStream,
 ) -> Result<(), AllocError>
-    ensures ok { OnOk result (trees out.new ≡ trees out.old ++ printing.list X.prints (shown Q.shown T.print) pat.now.cases) }
+    ensures ok { OnOk result
+        (trees out.new ≡ trees out.old ++ printing.list X.prints (shown Q.shown T.print) pat.now.cases) }
     ensures err { OnErr result (Extends (trees out.old) (trees out.new)) }
 {
     let mut marks = pat.cases.marks().iter();
@@ -538,7 +551,8 @@ fn print_field<X: Subtree, G: Arguments, Q: Qualifier<G>, T: ToTokens>(
     field: &FieldOver<X, G, Q, T>,
     out: &mut TokenStream,
 ) -> Result<(), AllocError>
-    ensures ok { OnOk result (trees out.new ≡ trees out.old ++ printing.field X.prints (shown Q.shown T.print) field.now) }
+    ensures ok { OnOk result
+        (trees out.new ≡ trees out.old ++ printing.field X.prints (shown Q.shown T.print) field.now) }
     ensures err { OnErr result (Extends (trees out.old) (trees out.new)) }
 {
     print_member(alloc, field, out)?;

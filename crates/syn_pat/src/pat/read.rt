@@ -89,7 +89,8 @@ impl<X: Subtree> Pat<X> {
         input: &mut ParseStream<'_>,
     ) -> Result<Pat<X>, Error>
         ensures parses { Parses (knot.pat X.reads (type_names X.reads) LeadingVert) result input.old input.new }
-        ensures promise { Heads (promises.pat X.reads X.spells X.normal X.prints LeadingVert) input.old result input.new }
+        ensures promise { Heads (promises.pat X.reads X.spells X.normal X.prints LeadingVert)
+            input.old result input.new }
         ensures front { Takes (fronts.pat X.spells LeadingVert) input.old result input.new }
     {
         parse_pat::<X, PathArguments<X>, QSelf<X>, Type<X>>(
@@ -147,7 +148,8 @@ pub fn parse_typed<X: Subtree, G: Arguments, Q: Qualifier<G>, T: Held<TypePlace>
     alloc: Global,
     input: &mut ParseStream<'_>,
 ) -> Result<TypedOver<X, G, Q, T>, Error>
-    ensures parses { Parses (knot.typed_over X.reads (named Q.reads G.is_absent) (T.read Plus)) result input.old input.new }
+    ensures parses { Parses (knot.typed_over X.reads (named Q.reads G.is_absent) (T.read Plus))
+        result input.old input.new }
 {
     let pat = parse_pat::<X, G, Q, T>(alloc, PhantomData, input, PatPlace::Single)?;
     let pat = Boxed::new(alloc, pat)?;

@@ -84,7 +84,8 @@ fn print_lifetime_members<M: Styled>(
     style: Style,
     out: &mut TokenStream,
 ) -> Result<(), AllocError>
-    ensures ok { OnOk result (trees out.new ≡ trees out.old ++ members.each (M.shown style) (members.firsts M.first list.now)) }
+    ensures ok { OnOk result
+        (trees out.new ≡ trees out.old ++ members.each (M.shown style) (members.firsts M.first list.now)) }
     ensures err { OnErr result (Extends (trees out.old) (trees out.new)) }
 {
     print_kind(alloc, list, true, style, out)
@@ -97,7 +98,8 @@ fn print_other_members<M: Styled>(
     style: Style,
     out: &mut TokenStream,
 ) -> Result<(), AllocError>
-    ensures ok { OnOk result (trees out.new ≡ trees out.old ++ members.each (M.shown style) (members.others M.first list.now)) }
+    ensures ok { OnOk result
+        (trees out.new ≡ trees out.old ++ members.each (M.shown style) (members.others M.first list.now)) }
     ensures err { OnErr result (Extends (trees out.old) (trees out.new)) }
 {
     print_kind(alloc, list, false, style, out)
@@ -112,7 +114,8 @@ fn print_kind<M: Styled>(
     style: Style,
     out: &mut TokenStream,
 ) -> Result<(), AllocError>
-    ensures ok { OnOk result (trees out.new ≡ trees out.old ++ members.each (M.shown style) (members.those M.first lifetimes (members.members_of list.now))) }
+    ensures ok { OnOk result (trees out.new ≡ trees out.old
+        ++ members.each (M.shown style) (members.those M.first lifetimes (members.members_of list.now))) }
     ensures err { OnErr result (Extends (trees out.old) (trees out.new)) }
 {
     let mut commas = list.marks().iter();
@@ -132,7 +135,8 @@ fn print_member<M: Styled>(
     style: Style,
     out: &mut TokenStream,
 ) -> Result<(), AllocError>
-    ensures ok { OnOk result (trees out.new ≡ trees out.old ++ members.each (M.shown style) (members.those M.first lifetimes ((member.now, option_map (λ c. c.now) comma.entry) ∷ []))) }
+    ensures ok { OnOk result (trees out.new ≡ trees out.old ++ members.each (M.shown style)
+        (members.those M.first lifetimes ((member.now, option_map (λ c. c.now) comma.entry) ∷ []))) }
     ensures err { OnErr result (Extends (trees out.old) (trees out.new)) }
 {
     if member.is_lifetime() != lifetimes {
@@ -209,7 +213,8 @@ fn print_lifetime_bounds<A>(
     param: &LifetimeParamOf<A>,
     out: &mut TokenStream,
 ) -> Result<(), AllocError>
-    ensures ok { OnOk result (trees out.new ≡ trees out.old ++ shapes.after_colon lifetimes.print param.now.colon_token param.now.bounds) }
+    ensures ok { OnOk result
+        (trees out.new ≡ trees out.old ++ shapes.after_colon lifetimes.print param.now.colon_token param.now.bounds) }
     ensures err { OnErr result (Extends (trees out.old) (trees out.new)) }
 {
     if param.bounds.is_empty() {
@@ -424,7 +429,8 @@ pub(crate) fn print_binder_params<A: Attributes, E: Value>(
     binder: &Option<BoundLifetimesOf<GenericParamOf<A, E>>>,
     out: &mut TokenStream,
 ) -> Result<(), AllocError>
-    ensures ok { OnOk result (trees out.new ≡ trees out.old ++ shapes.binder_joined (types.param A.shown E.values) binder.now) }
+    ensures ok { OnOk result
+        (trees out.new ≡ trees out.old ++ shapes.binder_joined (types.param A.shown E.values) binder.now) }
     ensures err { OnErr result (Extends (trees out.old) (trees out.new)) }
 {
     let (params, mut commas) = binder_parts(binder);

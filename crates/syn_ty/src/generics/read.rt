@@ -137,7 +137,9 @@ fn parse_captures(
     alloc: Global,
     input: &mut ParseStream<'_>,
 ) -> Result<Punctuated<CapturedParam, Comma>, Error>
-    ensures parses { Parses (list (λ first. token.sees_gt) reading.listed_captured (λ k. not (token.sees_gt k)) reading.captured_comma true) result input.old input.new }
+    ensures parses { Parses
+        (list (λ first. token.sees_gt) reading.listed_captured (λ k. not (token.sees_gt k)) reading.captured_comma true)
+        result input.old input.new }
 {
     let mut params = Punctuated::new(alloc);
     'turn: loop {
@@ -360,7 +362,8 @@ fn underscore_after<A: Attributes, E: Value>(
 
 /// The refusal where no parameter of a binder follows.
 fn no_binder_param(alloc: Global, input: &ParseStream<'_>) -> Error
-    ensures made { Made result (unmet (record { input = forked input.now; missing = an_ident ∷ a_lifetime ∷ a_const ∷ [] })) }
+    ensures made { Made result
+        (unmet (record { input = forked input.now; missing = an_ident ∷ a_lifetime ∷ a_const ∷ [] })) }
 {
     let mut look = input.lookahead1();
     look.note::<Ident>();
@@ -371,7 +374,8 @@ fn no_binder_param(alloc: Global, input: &ParseStream<'_>) -> Error
 
 /// The refusal where no parameter of generics follows.
 fn no_generics_param(alloc: Global, input: &ParseStream<'_>) -> Error
-    ensures made { Made result (unmet (record { input = forked input.now; missing = a_lifetime ∷ an_ident ∷ a_const ∷ [] })) }
+    ensures made { Made result
+        (unmet (record { input = forked input.now; missing = a_lifetime ∷ an_ident ∷ a_const ∷ [] })) }
 {
     let mut look = input.lookahead1();
     look.note::<Lifetime>();
@@ -390,7 +394,9 @@ impl<'a, A: Attributes, E: Value, F, G, H, I, J> Grammar<'a, A, E, F, G, H, I, J
         input: &mut ParseStream<'_>,
         place: BoundPlace,
     ) -> Result<TypeParamBoundOf<A, E>, Error>
-        ensures parses { Parses (reading.capture_in_place (knot.reads_below A.reads E.reads (length self.now.begin)) place) result input.old input.new }
+        ensures parses { Parses
+            (reading.capture_in_place (knot.reads_below A.reads E.reads (length self.now.begin)) place)
+            result input.old input.new }
     {
         let from = input.span();
         let capture = parse_capture(self.alloc, input)?;
@@ -423,9 +429,11 @@ impl<
         &self,
         input: &mut ParseStream<'_>,
     ) -> Result<BoundLifetimesOf<GenericParamOf<A, E>>, Error>
-        requires params { Nests (knot.param A.reads E.reads) (length self.now.begin) (H.pre self.now.params) (H.post self.now.params) }
+        requires params { Nests (knot.param A.reads E.reads) (length self.now.begin)
+            (H.pre self.now.params) (H.post self.now.params) }
         requires few { ahead input.old ≤ length self.now.begin }
-        ensures parses { Parses (reading.binder (knot.reads_below A.reads E.reads (length self.now.begin))) result input.old input.new }
+        ensures parses { Parses (reading.binder (knot.reads_below A.reads E.reads (length self.now.begin)))
+            result input.old input.new }
         ensures fewer { ahead input.new ≤ ahead input.old }
     {
         let (for_token, (lt_token, lifetimes, gt_token)) = self
@@ -445,9 +453,11 @@ impl<
         &self,
         input: &mut ParseStream<'_>,
     ) -> Result<Option<BoundLifetimesOf<GenericParamOf<A, E>>>, Error>
-        requires params { Nests (knot.param A.reads E.reads) (length self.now.begin) (H.pre self.now.params) (H.post self.now.params) }
+        requires params { Nests (knot.param A.reads E.reads) (length self.now.begin)
+            (H.pre self.now.params) (H.post self.now.params) }
         requires few { ahead input.old ≤ length self.now.begin }
-        ensures parses { Parses (reading.optional_binder (knot.reads_below A.reads E.reads (length self.now.begin))) result input.old input.new }
+        ensures parses { Parses (reading.optional_binder (knot.reads_below A.reads E.reads (length self.now.begin)))
+            result input.old input.new }
         ensures fewer { ahead input.new ≤ ahead input.old }
     {
         if input.peek::<For>() {
@@ -464,9 +474,12 @@ impl<
         lifetimes: Option<BoundLifetimesOf<GenericParamOf<A, E>>>,
         maybe: &Option<Question>,
     ) -> Result<Option<BoundLifetimesOf<GenericParamOf<A, E>>>, Error>
-        requires params { Nests (knot.param A.reads E.reads) (length self.now.begin) (H.pre self.now.params) (H.post self.now.params) }
+        requires params { Nests (knot.param A.reads E.reads) (length self.now.begin)
+            (H.pre self.now.params) (H.post self.now.params) }
         requires few { ahead input.old ≤ length self.now.begin }
-        ensures parses { Parses (reading.binder_after (knot.reads_below A.reads E.reads (length self.now.begin)) lifetimes maybe.now) result input.old input.new }
+        ensures parses { Parses
+            (reading.binder_after (knot.reads_below A.reads E.reads (length self.now.begin)) lifetimes maybe.now)
+            result input.old input.new }
         ensures fewer { ahead input.new ≤ ahead input.old }
     {
         match lifetimes {
@@ -516,11 +529,16 @@ impl<
         lifetimes: Option<BoundLifetimesOf<GenericParamOf<A, E>>>,
         modifiers: TraitBoundModifiers,
     ) -> Result<TraitBoundOf<A, E>, Error>
-        requires types { Nests (knot.ty A.reads E.reads) (length self.now.begin) (F.pre self.now.types) (F.post self.now.types) }
-        requires params { Nests (knot.param A.reads E.reads) (length self.now.begin) (H.pre self.now.params) (H.post self.now.params) }
-        requires segments { Nests (knot.arguments_in A.reads E.reads) (length self.now.begin) (J.pre self.now.segments) (J.post self.now.segments) }
+        requires types { Nests (knot.ty A.reads E.reads) (length self.now.begin)
+            (F.pre self.now.types) (F.post self.now.types) }
+        requires params { Nests (knot.param A.reads E.reads) (length self.now.begin)
+            (H.pre self.now.params) (H.post self.now.params) }
+        requires segments { Nests (knot.arguments_in A.reads E.reads) (length self.now.begin)
+            (J.pre self.now.segments) (J.post self.now.segments) }
         requires few { ahead input.old ≤ length self.now.begin }
-        ensures parses { Parses (reading.trait_after (knot.reads_below A.reads E.reads (length self.now.begin)) lifetimes modifiers) result input.old input.new }
+        ensures parses { Parses
+            (reading.trait_after (knot.reads_below A.reads E.reads (length self.now.begin)) lifetimes modifiers)
+            result input.old input.new }
     {
         let maybe = parse_question(self.alloc, input)?;
         let lifetimes = self.binder_after(input, lifetimes, &maybe)?;
@@ -536,11 +554,15 @@ impl<
         input: &mut ParseStream<'_>,
         consts: bool,
     ) -> Result<TraitBoundOf<A, E>, Error>
-        requires types { Nests (knot.ty A.reads E.reads) (length self.now.begin) (F.pre self.now.types) (F.post self.now.types) }
-        requires params { Nests (knot.param A.reads E.reads) (length self.now.begin) (H.pre self.now.params) (H.post self.now.params) }
-        requires segments { Nests (knot.arguments_in A.reads E.reads) (length self.now.begin) (J.pre self.now.segments) (J.post self.now.segments) }
+        requires types { Nests (knot.ty A.reads E.reads) (length self.now.begin)
+            (F.pre self.now.types) (F.post self.now.types) }
+        requires params { Nests (knot.param A.reads E.reads) (length self.now.begin)
+            (H.pre self.now.params) (H.post self.now.params) }
+        requires segments { Nests (knot.arguments_in A.reads E.reads) (length self.now.begin)
+            (J.pre self.now.segments) (J.post self.now.segments) }
         requires few { ahead input.old ≤ length self.now.begin }
-        ensures parses { Parses (reading.trait_in (knot.reads_below A.reads E.reads (length self.now.begin)) consts) result input.old input.new }
+        ensures parses { Parses (reading.trait_in (knot.reads_below A.reads E.reads (length self.now.begin)) consts)
+            result input.old input.new }
     {
         let lifetimes = self.optional_binder(input)?;
         let modifiers = parse_modifiers(self.alloc, input, consts)?;
@@ -554,11 +576,16 @@ impl<
         input: &mut ParseStream<'_>,
         consts: bool,
     ) -> Result<(Paren, TraitBoundOf<A, E>), Error>
-        requires types { Nests (knot.ty A.reads E.reads) (length self.now.begin) (F.pre self.now.types) (F.post self.now.types) }
-        requires params { Nests (knot.param A.reads E.reads) (length self.now.begin) (H.pre self.now.params) (H.post self.now.params) }
-        requires segments { Nests (knot.arguments_in A.reads E.reads) (length self.now.begin) (J.pre self.now.segments) (J.post self.now.segments) }
+        requires types { Nests (knot.ty A.reads E.reads) (length self.now.begin)
+            (F.pre self.now.types) (F.post self.now.types) }
+        requires params { Nests (knot.param A.reads E.reads) (length self.now.begin)
+            (H.pre self.now.params) (H.post self.now.params) }
+        requires segments { Nests (knot.arguments_in A.reads E.reads) (length self.now.begin)
+            (J.pre self.now.segments) (J.post self.now.segments) }
         requires few { ahead input.old ≤ length self.now.begin }
-        ensures parses { Parses (groups.in_parens (reading.trait_in (knot.reads_below A.reads E.reads (length self.now.begin)) consts)) result input.old input.new }
+        ensures parses { Parses
+            (groups.in_parens (reading.trait_in (knot.reads_below A.reads E.reads (length self.now.begin)) consts))
+            result input.old input.new }
     {
         let (paren_token, mut content) = open_parens(self.alloc, input)?;
         let bound = self.trait_in(&mut content, consts)?;
@@ -573,11 +600,16 @@ impl<
         input: &mut ParseStream<'_>,
         place: BoundPlace,
     ) -> Result<TypeParamBoundOf<A, E>, Error>
-        requires types { Nests (knot.ty A.reads E.reads) (length self.now.begin) (F.pre self.now.types) (F.post self.now.types) }
-        requires params { Nests (knot.param A.reads E.reads) (length self.now.begin) (H.pre self.now.params) (H.post self.now.params) }
-        requires segments { Nests (knot.arguments_in A.reads E.reads) (length self.now.begin) (J.pre self.now.segments) (J.post self.now.segments) }
+        requires types { Nests (knot.ty A.reads E.reads) (length self.now.begin)
+            (F.pre self.now.types) (F.post self.now.types) }
+        requires params { Nests (knot.param A.reads E.reads) (length self.now.begin)
+            (H.pre self.now.params) (H.post self.now.params) }
+        requires segments { Nests (knot.arguments_in A.reads E.reads) (length self.now.begin)
+            (J.pre self.now.segments) (J.post self.now.segments) }
         requires few { ahead input.old ≤ length self.now.begin }
-        ensures parses { Parses (reading.trait_in_place (knot.reads_below A.reads E.reads (length self.now.begin)) place) result input.old input.new }
+        ensures parses { Parses
+            (reading.trait_in_place (knot.reads_below A.reads E.reads (length self.now.begin)) place)
+            result input.old input.new }
     {
         let consts = place.allows_const();
         if input.peek::<Paren>() {
@@ -594,11 +626,15 @@ impl<
         input: &mut ParseStream<'_>,
         place: BoundPlace,
     ) -> Result<TypeParamBoundOf<A, E>, Error>
-        requires types { Nests (knot.ty A.reads E.reads) (length self.now.begin) (F.pre self.now.types) (F.post self.now.types) }
-        requires params { Nests (knot.param A.reads E.reads) (length self.now.begin) (H.pre self.now.params) (H.post self.now.params) }
-        requires segments { Nests (knot.arguments_in A.reads E.reads) (length self.now.begin) (J.pre self.now.segments) (J.post self.now.segments) }
+        requires types { Nests (knot.ty A.reads E.reads) (length self.now.begin)
+            (F.pre self.now.types) (F.post self.now.types) }
+        requires params { Nests (knot.param A.reads E.reads) (length self.now.begin)
+            (H.pre self.now.params) (H.post self.now.params) }
+        requires segments { Nests (knot.arguments_in A.reads E.reads) (length self.now.begin)
+            (J.pre self.now.segments) (J.post self.now.segments) }
         requires few { ahead input.old ≤ length self.now.begin }
-        ensures parses { Parses (reading.bound_step (knot.reads_below A.reads E.reads (length self.now.begin)) place) result input.old input.new }
+        ensures parses { Parses (reading.bound_step (knot.reads_below A.reads E.reads (length self.now.begin)) place)
+            result input.old input.new }
     {
         if input.peek::<Lifetime>() {
             let lifetime = parse_any_lifetime(self.alloc, input)?;
@@ -634,9 +670,12 @@ impl<
         input: &mut ParseStream<'_>,
         attrs: Items<A>,
     ) -> Result<ConstParamOf<TypeOf<A, E>, A, E>, Error>
-        requires types { Nests (knot.ty A.reads E.reads) (length self.now.begin) (F.pre self.now.types) (F.post self.now.types) }
+        requires types { Nests (knot.ty A.reads E.reads) (length self.now.begin)
+            (F.pre self.now.types) (F.post self.now.types) }
         requires few { ahead input.old ≤ length self.now.begin }
-        ensures parses { Parses (reading.const_after A.reads E.reads (knot.reads_below A.reads E.reads (length self.now.begin)) attrs) result input.old input.new }
+        ensures parses { Parses
+            (reading.const_after A.reads E.reads (knot.reads_below A.reads E.reads (length self.now.begin)) attrs)
+            result input.old input.new }
     {
         let (const_token, ident, colon_token, ty, default) = const_parts(
             &self.types(),
@@ -683,10 +722,14 @@ impl<
         input: &mut ParseStream<'_>,
         attrs: Items<A>,
     ) -> Result<TypeParamOf<A, E>, Error>
-        requires types { Nests (knot.ty A.reads E.reads) (length self.now.begin) (F.pre self.now.types) (F.post self.now.types) }
-        requires bounds { Nests (knot.bound A.reads E.reads) (length self.now.begin) (G.pre self.now.bounds) (G.post self.now.bounds) }
+        requires types { Nests (knot.ty A.reads E.reads) (length self.now.begin)
+            (F.pre self.now.types) (F.post self.now.types) }
+        requires bounds { Nests (knot.bound A.reads E.reads) (length self.now.begin)
+            (G.pre self.now.bounds) (G.post self.now.bounds) }
         requires few { ahead input.old ≤ length self.now.begin }
-        ensures parses { Parses (reading.type_after A.reads E.reads (knot.reads_below A.reads E.reads (length self.now.begin)) attrs) result input.old input.new }
+        ensures parses { Parses
+            (reading.type_after A.reads E.reads (knot.reads_below A.reads E.reads (length self.now.begin)) attrs)
+            result input.old input.new }
     {
         let (bounds, types) = (self.bounds(), self.types());
         let (ident, colon_token, bounds, default) = type_parts(
@@ -712,10 +755,14 @@ impl<
         input: &mut ParseStream<'_>,
         attrs: Items<A>,
     ) -> Result<GenericParamOf<A, E>, Error>
-        requires types { Nests (knot.ty A.reads E.reads) (length self.now.begin) (F.pre self.now.types) (F.post self.now.types) }
-        requires bounds { Nests (knot.bound A.reads E.reads) (length self.now.begin) (G.pre self.now.bounds) (G.post self.now.bounds) }
+        requires types { Nests (knot.ty A.reads E.reads) (length self.now.begin)
+            (F.pre self.now.types) (F.post self.now.types) }
+        requires bounds { Nests (knot.bound A.reads E.reads) (length self.now.begin)
+            (G.pre self.now.bounds) (G.post self.now.bounds) }
         requires few { ahead input.old ≤ length self.now.begin }
-        ensures parses { Parses (reading.in_binder A.reads E.reads (knot.reads_below A.reads E.reads (length self.now.begin)) attrs) result input.old input.new }
+        ensures parses { Parses
+            (reading.in_binder A.reads E.reads (knot.reads_below A.reads E.reads (length self.now.begin)) attrs)
+            result input.old input.new }
     {
         if input.peek::<Ident>() {
             return Ok(GenericParamOf::Type(self.type_after(input, attrs)?));
@@ -736,10 +783,14 @@ impl<
         input: &mut ParseStream<'_>,
         attrs: Items<A>,
     ) -> Result<GenericParamOf<A, E>, Error>
-        requires types { Nests (knot.ty A.reads E.reads) (length self.now.begin) (F.pre self.now.types) (F.post self.now.types) }
-        requires bounds { Nests (knot.bound A.reads E.reads) (length self.now.begin) (G.pre self.now.bounds) (G.post self.now.bounds) }
+        requires types { Nests (knot.ty A.reads E.reads) (length self.now.begin)
+            (F.pre self.now.types) (F.post self.now.types) }
+        requires bounds { Nests (knot.bound A.reads E.reads) (length self.now.begin)
+            (G.pre self.now.bounds) (G.post self.now.bounds) }
         requires few { ahead input.old ≤ length self.now.begin }
-        ensures parses { Parses (reading.in_generics A.reads E.reads (knot.reads_below A.reads E.reads (length self.now.begin)) attrs) result input.old input.new }
+        ensures parses { Parses
+            (reading.in_generics A.reads E.reads (knot.reads_below A.reads E.reads (length self.now.begin)) attrs)
+            result input.old input.new }
     {
         if input.peek::<Lifetime>() {
             return Ok(GenericParamOf::Lifetime(lifetime_after(self.alloc, input, attrs)?));
@@ -763,10 +814,14 @@ impl<
         input: &mut ParseStream<'_>,
         place: ParamPlace,
     ) -> Result<GenericParamOf<A, E>, Error>
-        requires types { Nests (knot.ty A.reads E.reads) (length self.now.begin) (F.pre self.now.types) (F.post self.now.types) }
-        requires bounds { Nests (knot.bound A.reads E.reads) (length self.now.begin) (G.pre self.now.bounds) (G.post self.now.bounds) }
+        requires types { Nests (knot.ty A.reads E.reads) (length self.now.begin)
+            (F.pre self.now.types) (F.post self.now.types) }
+        requires bounds { Nests (knot.bound A.reads E.reads) (length self.now.begin)
+            (G.pre self.now.bounds) (G.post self.now.bounds) }
         requires few { ahead input.old ≤ length self.now.begin }
-        ensures parses { Parses (reading.param_step A.reads E.reads (knot.reads_below A.reads E.reads (length self.now.begin)) place) result input.old input.new }
+        ensures parses { Parses
+            (reading.param_step A.reads E.reads (knot.reads_below A.reads E.reads (length self.now.begin)) place)
+            result input.old input.new }
     {
         let attrs = A::read_outer(self.alloc, input)?;
         match place {
@@ -786,7 +841,8 @@ fn binder_from<A: Attributes, E: Value>(
     input: &mut ParseStream<'_>,
 ) -> Result<BoundLifetimesOf<GenericParamOf<A, E>>, Error>
     requires few { ahead input.old ≤ length begin.now }
-    ensures parses { Parses (reading.binder (knot.reads_below A.reads E.reads (length begin.now))) result input.old input.new }
+    ensures parses { Parses (reading.binder (knot.reads_below A.reads E.reads (length begin.now)))
+        result input.old input.new }
 {
     let (for_token, (lt_token, lifetimes, gt_token)) = forms::parse_binder::<
         ParamPlace,
@@ -808,7 +864,8 @@ pub fn optional_binder_from<A: Attributes, E: Value>(
     input: &mut ParseStream<'_>,
 ) -> Result<Option<BoundLifetimesOf<GenericParamOf<A, E>>>, Error>
     requires few { ahead input.old ≤ length begin.now }
-    ensures parses { Parses (reading.optional_binder (knot.reads_below A.reads E.reads (length begin.now))) result input.old input.new }
+    ensures parses { Parses (reading.optional_binder (knot.reads_below A.reads E.reads (length begin.now)))
+        result input.old input.new }
     ensures fewer { ahead input.new ≤ ahead input.old }
 {
     if input.peek::<For>() {
@@ -827,7 +884,9 @@ fn binder_after_from<A: Attributes, E: Value>(
     maybe: &Option<Question>,
 ) -> Result<Option<BoundLifetimesOf<GenericParamOf<A, E>>>, Error>
     requires few { ahead input.old ≤ length begin.now }
-    ensures parses { Parses (reading.binder_after (knot.reads_below A.reads E.reads (length begin.now)) lifetimes maybe.now) result input.old input.new }
+    ensures parses { Parses
+        (reading.binder_after (knot.reads_below A.reads E.reads (length begin.now)) lifetimes maybe.now)
+        result input.old input.new }
     ensures fewer { ahead input.new ≤ ahead input.old }
 {
     match lifetimes {
@@ -849,7 +908,9 @@ fn trait_after_from<A: Attributes, E: Value>(
     modifiers: TraitBoundModifiers,
 ) -> Result<TraitBoundOf<A, E>, Error>
     requires few { ahead input.old ≤ length begin.now }
-    ensures parses { Parses (reading.trait_after (knot.reads_below A.reads E.reads (length begin.now)) lifetimes modifiers) result input.old input.new }
+    ensures parses { Parses
+        (reading.trait_after (knot.reads_below A.reads E.reads (length begin.now)) lifetimes modifiers)
+        result input.old input.new }
 {
     let maybe = parse_question(alloc, input)?;
     let lifetimes = binder_after_from::<A, E>(alloc, begin, input, lifetimes, &maybe)?;
@@ -866,7 +927,8 @@ fn trait_bound_from<A: Attributes, E: Value>(
     input: &mut ParseStream<'_>,
 ) -> Result<TraitBoundOf<A, E>, Error>
     requires few { ahead input.old ≤ length begin.now }
-    ensures parses { Parses (reading.trait_bound (knot.reads_below A.reads E.reads (length begin.now))) result input.old input.new }
+    ensures parses { Parses (reading.trait_bound (knot.reads_below A.reads E.reads (length begin.now)))
+        result input.old input.new }
 {
     let lifetimes = optional_binder_from::<A, E>(alloc, begin, input)?;
     let modifiers = parse_modifiers(alloc, input, false)?;
@@ -882,7 +944,9 @@ fn type_after_from<A: Attributes, E: Value>(
     attrs: Items<A>,
 ) -> Result<TypeParamOf<A, E>, Error>
     requires few { ahead input.old ≤ length begin.now }
-    ensures parses { Parses (reading.type_after A.reads E.reads (knot.reads_below A.reads E.reads (length begin.now)) attrs) result input.old input.new }
+    ensures parses { Parses
+        (reading.type_after A.reads E.reads (knot.reads_below A.reads E.reads (length begin.now)) attrs)
+        result input.old input.new }
 {
     let (ident, colon_token, bounds, default) = forms::parse_type_parts::<
         BoundPlace,
@@ -1044,7 +1108,8 @@ impl<A: Attributes, E: Value> Parse for BoundLifetimesOf<GenericParamOf<A, E>> {
     ) -> Result<BoundLifetimesOf<GenericParamOf<A, E>>, Error>
         ensures reads { Reads (knot.binder A.reads E.reads input.old) result input.new }
         ensures within { Follows input.old input.new }
-        ensures promise { Heads (promises.binder A.reads E.reads A.spells E.spells A.normal E.normal A.shown E.values) input.old result input.new }
+        ensures promise { Heads (promises.binder A.reads E.reads A.spells E.spells A.normal E.normal A.shown E.values)
+            input.old result input.new }
         ensures front { Takes (fronts.binder A.spells E.spells) input.old result input.new }
     {
         parse_binder(alloc, input)
@@ -1059,7 +1124,9 @@ impl<A: Attributes, E: Value> BoundLifetimesOf<GenericParamOf<A, E>> {
         input: &mut ParseStream<'_>,
     ) -> Result<Option<BoundLifetimesOf<GenericParamOf<A, E>>>, Error>
         ensures parses { Parses (knot.optional_binder A.reads E.reads) result input.old input.new }
-        ensures promise { Heads (promises.optional_binder A.reads E.reads A.spells E.spells A.normal E.normal A.shown E.values) input.old result input.new }
+        ensures promise { Heads
+            (promises.optional_binder A.reads E.reads A.spells E.spells A.normal E.normal A.shown E.values)
+            input.old result input.new }
         ensures front { Takes (fronts.optional_binder A.spells E.spells) input.old result input.new }
     {
         parse_optional_binder(alloc, input)
@@ -1086,7 +1153,8 @@ impl<A: Attributes, E: Value> Parse for TypeParamBoundOf<A, E> {
     fn parse(alloc: Global, input: &mut ParseStream<'_>) -> Result<TypeParamBoundOf<A, E>, Error>
         ensures reads { Reads (knot.bound A.reads E.reads bound_places.Opaque input.old) result input.new }
         ensures within { Follows input.old input.new }
-        ensures promise { Heads (promises.bound A.reads E.reads A.spells E.spells A.normal E.normal A.shown E.values) input.old result input.new }
+        ensures promise { Heads (promises.bound A.reads E.reads A.spells E.spells A.normal E.normal A.shown E.values)
+            input.old result input.new }
         ensures front { Takes (fronts.bound A.spells E.spells) input.old result input.new }
     {
         TypeParamBoundOf::parse_held(alloc, PhantomData, input, BoundPlace::Opaque)
@@ -1106,12 +1174,15 @@ impl<A: Attributes, E: Value> Parse for TraitBoundOf<A, E> {
 
     ghost refuses = { Fails (knot.trait_bound A.reads E.reads) };
 
-    ghost promise = { Headline (promises.trait_bound A.reads E.reads A.spells E.spells A.normal E.normal A.shown E.values) };
+    ghost promise = { Headline
+        (promises.trait_bound A.reads E.reads A.spells E.spells A.normal E.normal A.shown E.values) };
 
     fn parse(alloc: Global, input: &mut ParseStream<'_>) -> Result<TraitBoundOf<A, E>, Error>
         ensures reads { Reads (knot.trait_bound A.reads E.reads input.old) result input.new }
         ensures within { Follows input.old input.new }
-        ensures promise { Heads (promises.trait_bound A.reads E.reads A.spells E.spells A.normal E.normal A.shown E.values) input.old result input.new }
+        ensures promise { Heads
+            (promises.trait_bound A.reads E.reads A.spells E.spells A.normal E.normal A.shown E.values)
+            input.old result input.new }
         ensures front { Takes (fronts.trait_bound A.spells E.spells) input.old result input.new }
     {
         parse_trait_bound(alloc, input)
@@ -1136,7 +1207,8 @@ impl<A: Attributes, E: Value> Parse for GenericParamOf<A, E> {
     fn parse(alloc: Global, input: &mut ParseStream<'_>) -> Result<GenericParamOf<A, E>, Error>
         ensures reads { Reads (knot.param A.reads E.reads param_places.Binder input.old) result input.new }
         ensures within { Follows input.old input.new }
-        ensures promise { Heads (promises.param A.reads E.reads A.spells E.spells A.normal E.normal A.shown E.values) input.old result input.new }
+        ensures promise { Heads (promises.param A.reads E.reads A.spells E.spells A.normal E.normal A.shown E.values)
+            input.old result input.new }
         ensures front { Takes (fronts.param A.spells E.spells) input.old result input.new }
     {
         GenericParamOf::parse_held(alloc, PhantomData, input, ParamPlace::Binder)
@@ -1179,12 +1251,15 @@ impl<A: Attributes, E: Value> Parse for TypeParamOf<A, E> {
 
     ghost refuses = { Fails (knot.type_param A.reads E.reads) };
 
-    ghost promise = { Headline (promises.type_param A.reads E.reads A.spells E.spells A.normal E.normal A.shown E.values) };
+    ghost promise = { Headline
+        (promises.type_param A.reads E.reads A.spells E.spells A.normal E.normal A.shown E.values) };
 
     fn parse(alloc: Global, input: &mut ParseStream<'_>) -> Result<TypeParamOf<A, E>, Error>
         ensures reads { Reads (knot.type_param A.reads E.reads input.old) result input.new }
         ensures within { Follows input.old input.new }
-        ensures promise { Heads (promises.type_param A.reads E.reads A.spells E.spells A.normal E.normal A.shown E.values) input.old result input.new }
+        ensures promise { Heads
+            (promises.type_param A.reads E.reads A.spells E.spells A.normal E.normal A.shown E.values)
+            input.old result input.new }
         ensures front { Takes (fronts.type_param A.spells E.spells) input.old result input.new }
     {
         parse_type_param(alloc, input)
@@ -1203,7 +1278,8 @@ impl<A: Attributes, E: Value> Parse for ConstParamOf<TypeOf<A, E>, A, E> {
 
     ghost refuses = { Fails (knot.const_param A.reads E.reads) };
 
-    ghost promise = { Headline (promises.const_param A.reads E.reads A.spells E.spells A.normal E.normal A.shown E.values) };
+    ghost promise = { Headline
+        (promises.const_param A.reads E.reads A.spells E.spells A.normal E.normal A.shown E.values) };
 
     fn parse(
         alloc: Global,
@@ -1211,7 +1287,9 @@ impl<A: Attributes, E: Value> Parse for ConstParamOf<TypeOf<A, E>, A, E> {
     ) -> Result<ConstParamOf<TypeOf<A, E>, A, E>, Error>
         ensures reads { Reads (knot.const_param A.reads E.reads input.old) result input.new }
         ensures within { Follows input.old input.new }
-        ensures promise { Heads (promises.const_param A.reads E.reads A.spells E.spells A.normal E.normal A.shown E.values) input.old result input.new }
+        ensures promise { Heads
+            (promises.const_param A.reads E.reads A.spells E.spells A.normal E.normal A.shown E.values)
+            input.old result input.new }
         ensures front { Takes (fronts.const_param A.spells E.spells) input.old result input.new }
     {
         parse_const_param(alloc, input)

@@ -108,7 +108,8 @@ fn print_segments<A: Attributes, E: Value>(
     style: PathStyle,
     out: &mut TokenStream,
 ) -> Result<(), AllocError>
-    ensures ok { OnOk result (trees out.new ≡ trees out.old ++ printing.segments A.shown E.values style path.now.segments) }
+    ensures ok { OnOk result
+        (trees out.new ≡ trees out.old ++ printing.segments A.shown E.values style path.now.segments) }
     ensures err { OnErr result (Extends (trees out.old) (trees out.new)) }
 {
     let mut marks = path.segments.marks().iter();
@@ -203,7 +204,8 @@ fn print_argument_member<A: Attributes, E: Value>(
     lifetimes: bool,
     out: &mut TokenStream,
 ) -> Result<(), AllocError>
-    ensures ok { OnOk result (trees out.new ≡ trees out.old ++ members.each (types.argument A.shown E.values) (members.those spec.is_lifetime lifetimes ((argument.now, option_map (λ c. c.now) comma.entry) ∷ []))) }
+    ensures ok { OnOk result (trees out.new ≡ trees out.old ++ members.each (types.argument A.shown E.values)
+        (members.those spec.is_lifetime lifetimes ((argument.now, option_map (λ c. c.now) comma.entry) ∷ []))) }
     ensures err { OnErr result (Extends (trees out.old) (trees out.new)) }
 {
     if argument.is_lifetime() != lifetimes {
@@ -336,7 +338,8 @@ pub fn print_qualified<A: Attributes, E: Value>(
     style: PathStyle,
     out: &mut TokenStream,
 ) -> Result<(), AllocError>
-    ensures ok { OnOk result (trees out.new ≡ trees out.old ++ printing.qualified A.shown E.values style qself.now path.now) }
+    ensures ok { OnOk result
+        (trees out.new ≡ trees out.old ++ printing.qualified A.shown E.values style qself.now path.now) }
     ensures err { OnErr result (Extends (trees out.old) (trees out.new)) }
 {
     let before = qself.position.min(path.segments.len());
@@ -360,7 +363,8 @@ fn print_around<A: Attributes, E: Value>(
     style: PathStyle,
     out: &mut TokenStream,
 ) -> Result<(), AllocError>
-    ensures ok { OnOk result (trees out.new ≡ trees out.old ++ printing.around A.shown E.values style gt_token.now before path.now.segments.0 path.now.segments.1) }
+    ensures ok { OnOk result (trees out.new ≡ trees out.old
+        ++ printing.around A.shown E.values style gt_token.now before path.now.segments.0 path.now.segments.1) }
     ensures err { OnErr result (Extends (trees out.old) (trees out.new)) }
 {
     let mut marks = path.segments.marks().iter();
@@ -384,7 +388,8 @@ fn print_closing<A: Attributes, E: Value>(
     style: PathStyle,
     out: &mut TokenStream,
 ) -> Result<(), AllocError>
-    ensures ok { OnOk result (trees out.new ≡ trees out.old ++ printing.closing A.shown E.values style gt_token.now before segment.now) }
+    ensures ok { OnOk result
+        (trees out.new ≡ trees out.old ++ printing.closing A.shown E.values style gt_token.now before segment.now) }
     ensures err { OnErr result (Extends (trees out.old) (trees out.new)) }
 {
     if before == 0 {

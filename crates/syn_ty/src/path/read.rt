@@ -189,7 +189,8 @@ fn into_generics<A: Attributes, E: Value>(
 fn segment_into_item<A: Attributes, E: Value>(
     segment: PathSegmentOf<PathArgumentsOf<A, E>>,
 ) -> Option<Item<A, E>>
-    ensures { result ≡ reading.with_name segment.ident (reading.generics_layer (out-PathArgumentsOf A E segment.arguments)) }
+    ensures { result
+        ≡ reading.with_name segment.ident (reading.generics_layer (out-PathArgumentsOf A E segment.arguments)) }
 {
     let PathSegmentOf { ident, arguments } = segment;
     match into_generics(arguments) {
@@ -351,9 +352,12 @@ impl<
         input: &mut ParseStream<'_>,
         colon2_token: Option<PathSep>,
     ) -> Result<AngleBracketedGenericArgumentsOf<GenericArgumentOf<A, E>>, Error>
-        requires args { Nests (knot.argument_in A.reads E.reads) (length self.now.begin) (I.pre self.now.args) (I.post self.now.args) }
+        requires args { Nests (knot.argument_in A.reads E.reads) (length self.now.begin)
+            (I.pre self.now.args) (I.post self.now.args) }
         requires few { ahead input.old ≤ length self.now.begin }
-        ensures parses { Parses (reading.arguments_after (knot.reads_below A.reads E.reads (length self.now.begin)) colon2_token) result input.old input.new }
+        ensures parses { Parses
+            (reading.arguments_after (knot.reads_below A.reads E.reads (length self.now.begin)) colon2_token)
+            result input.old input.new }
         ensures fewer { ahead input.new ≤ ahead input.old }
     {
         let (lt_token, args, gt_token) = self.args().angled(input, ())?;
@@ -371,9 +375,11 @@ impl<
         &self,
         input: &mut ParseStream<'_>,
     ) -> Result<AngleBracketedGenericArgumentsOf<GenericArgumentOf<A, E>>, Error>
-        requires args { Nests (knot.argument_in A.reads E.reads) (length self.now.begin) (I.pre self.now.args) (I.post self.now.args) }
+        requires args { Nests (knot.argument_in A.reads E.reads) (length self.now.begin)
+            (I.pre self.now.args) (I.post self.now.args) }
         requires few { ahead input.old ≤ length self.now.begin }
-        ensures parses { Parses (reading.angle_bracketed (knot.reads_below A.reads E.reads (length self.now.begin))) result input.old input.new }
+        ensures parses { Parses (reading.angle_bracketed (knot.reads_below A.reads E.reads (length self.now.begin)))
+            result input.old input.new }
         ensures fewer { ahead input.new ≤ ahead input.old }
     {
         let colon2_token = input.parse_option::<PathSep>(self.alloc)?;
@@ -386,9 +392,11 @@ impl<
         &self,
         input: &mut ParseStream<'_>,
     ) -> Result<PathArgumentsOf<A, E>, Error>
-        requires args { Nests (knot.argument_in A.reads E.reads) (length self.now.begin) (I.pre self.now.args) (I.post self.now.args) }
+        requires args { Nests (knot.argument_in A.reads E.reads) (length self.now.begin)
+            (I.pre self.now.args) (I.post self.now.args) }
         requires few { ahead input.old ≤ length self.now.begin }
-        ensures parses { Parses (reading.arguments_step (knot.reads_below A.reads E.reads (length self.now.begin))) result input.old input.new }
+        ensures parses { Parses (reading.arguments_step (knot.reads_below A.reads E.reads (length self.now.begin)))
+            result input.old input.new }
     {
         Ok(PathArgumentsOf::AngleBracketed(self.angle_bracketed(input)?))
     }
@@ -419,9 +427,11 @@ impl<
         input: &mut ParseStream<'_>,
         style: PathStyle,
     ) -> Result<PathOf<PathArgumentsOf<A, E>>, Error>
-        requires segments { Nests (knot.arguments_in A.reads E.reads) (length self.now.begin) (J.pre self.now.segments) (J.post self.now.segments) }
+        requires segments { Nests (knot.arguments_in A.reads E.reads) (length self.now.begin)
+            (J.pre self.now.segments) (J.post self.now.segments) }
         requires few { ahead input.old ≤ length self.now.begin }
-        ensures parses { Parses (reading.path (knot.reads_below A.reads E.reads (length self.now.begin)) style) result input.old input.new }
+        ensures parses { Parses (reading.path (knot.reads_below A.reads E.reads (length self.now.begin)) style)
+            result input.old input.new }
         ensures fewer { ahead input.new ≤ ahead input.old }
     {
         self.segments().path(input, style)
@@ -434,9 +444,11 @@ impl<
         input: &mut ParseStream<'_>,
         path: PathOf<PathArgumentsOf<A, E>>,
     ) -> Result<PathOf<PathArgumentsOf<A, E>>, Error>
-        requires segments { Nests (knot.arguments_in A.reads E.reads) (length self.now.begin) (J.pre self.now.segments) (J.post self.now.segments) }
+        requires segments { Nests (knot.arguments_in A.reads E.reads) (length self.now.begin)
+            (J.pre self.now.segments) (J.post self.now.segments) }
         requires few { ahead input.old ≤ length self.now.begin }
-        ensures parses { Parses (reading.rest (knot.reads_below A.reads E.reads (length self.now.begin)) path) result input.old input.new }
+        ensures parses { Parses (reading.rest (knot.reads_below A.reads E.reads (length self.now.begin)) path)
+            result input.old input.new }
         ensures fewer { ahead input.new ≤ ahead input.old }
     {
         self.segments().rest(input, PathStyle::AsWritten, path)
@@ -472,10 +484,14 @@ impl<
         input: &mut ParseStream<'_>,
         style: PathStyle,
     ) -> Result<(Option<QSelfOf<TypeOf<A, E>>>, PathOf<PathArgumentsOf<A, E>>), Error>
-        requires types { Nests (knot.ty A.reads E.reads) (length self.now.begin) (F.pre self.now.types) (F.post self.now.types) }
-        requires segments { Nests (knot.arguments_in A.reads E.reads) (length self.now.begin) (J.pre self.now.segments) (J.post self.now.segments) }
+        requires types { Nests (knot.ty A.reads E.reads) (length self.now.begin)
+            (F.pre self.now.types) (F.post self.now.types) }
+        requires segments { Nests (knot.arguments_in A.reads E.reads) (length self.now.begin)
+            (J.pre self.now.segments) (J.post self.now.segments) }
         requires few { ahead input.old ≤ length self.now.begin }
-        ensures parses { Parses (reading.maybe_qualified (knot.reads_below A.reads E.reads (length self.now.begin)) style) result input.old input.new }
+        ensures parses { Parses
+            (reading.maybe_qualified (knot.reads_below A.reads E.reads (length self.now.begin)) style)
+            result input.old input.new }
         ensures fewer { ahead input.new ≤ ahead input.old }
     {
         self.segments()
@@ -507,9 +523,11 @@ impl<
         &self,
         input: &mut ParseStream<'_>,
     ) -> Result<ParenthesizedGenericArgumentsOf<TypeOf<A, E>, A>, Error>
-        requires types { Nests (knot.ty A.reads E.reads) (length self.now.begin) (F.pre self.now.types) (F.post self.now.types) }
+        requires types { Nests (knot.ty A.reads E.reads) (length self.now.begin)
+            (F.pre self.now.types) (F.post self.now.types) }
         requires few { ahead input.old ≤ length self.now.begin }
-        ensures parses { Parses (reading.parenthesized (knot.reads_below A.reads E.reads (length self.now.begin))) result input.old input.new }
+        ensures parses { Parses (reading.parenthesized (knot.reads_below A.reads E.reads (length self.now.begin)))
+            result input.old input.new }
         ensures fewer { ahead input.new ≤ ahead input.old }
     {
         let (paren_token, inputs, returned) = self
@@ -528,9 +546,12 @@ impl<
         &self,
         input: &mut ParseStream<'_>,
     ) -> Result<ParenthesizedGenericArgumentsOf<TypeOf<A, E>, A>, Error>
-        requires types { Nests (knot.ty A.reads E.reads) (length self.now.begin) (F.pre self.now.types) (F.post self.now.types) }
+        requires types { Nests (knot.ty A.reads E.reads) (length self.now.begin)
+            (F.pre self.now.types) (F.post self.now.types) }
         requires few { ahead input.old ≤ length self.now.begin }
-        ensures parses { Parses (λ s. and_then (optional sees_sep sep s) (λ c. reading.parenthesized (knot.reads_below A.reads E.reads (length self.now.begin)))) result input.old input.new }
+        ensures parses { Parses (λ s. and_then (optional sees_sep sep s)
+            (λ c. reading.parenthesized (knot.reads_below A.reads E.reads (length self.now.begin))))
+            result input.old input.new }
         ensures fewer { ahead input.new ≤ ahead input.old }
     {
         input.parse_option::<PathSep>(self.alloc)?;
@@ -545,9 +566,11 @@ impl<
         input: &mut ParseStream<'_>,
         path: PathOf<PathArgumentsOf<A, E>>,
     ) -> Result<PathOf<PathArgumentsOf<A, E>>, Error>
-        requires types { Nests (knot.ty A.reads E.reads) (length self.now.begin) (F.pre self.now.types) (F.post self.now.types) }
+        requires types { Nests (knot.ty A.reads E.reads) (length self.now.begin)
+            (F.pre self.now.types) (F.post self.now.types) }
         requires few { ahead input.old ≤ length self.now.begin }
-        ensures parses { Parses (reading.signed (knot.reads_below A.reads E.reads (length self.now.begin)) path) result input.old input.new }
+        ensures parses { Parses (reading.signed (knot.reads_below A.reads E.reads (length self.now.begin)) path)
+            result input.old input.new }
         ensures fewer { ahead input.new ≤ ahead input.old }
     {
         // both tested, so that the answer is one value
@@ -568,9 +591,12 @@ impl<
         item: Item<A, E>,
         eq_token: Eq,
     ) -> Result<GenericArgumentOf<A, E>, Error>
-        requires types { Nests (knot.ty A.reads E.reads) (length self.now.begin) (F.pre self.now.types) (F.post self.now.types) }
+        requires types { Nests (knot.ty A.reads E.reads) (length self.now.begin)
+            (F.pre self.now.types) (F.post self.now.types) }
         requires few { ahead input.old < length self.now.begin }
-        ensures parses { Parses (reading.assoc E.reads (knot.reads_below A.reads E.reads (length self.now.begin)) item.0 item.1 eq_token) result input.old input.new }
+        ensures parses { Parses
+            (reading.assoc E.reads (knot.reads_below A.reads E.reads (length self.now.begin)) item.0 item.1 eq_token)
+            result input.old input.new }
     {
         if peek_const(input) {
             let value = E::read_const_argument(self.alloc, input)?;
@@ -602,9 +628,13 @@ impl<
         &self,
         input: &mut ParseStream<'_>,
     ) -> Result<Punctuated<TypeParamBoundOf<A, E>, Plus>, Error>
-        requires bounds { Nests (knot.bound A.reads E.reads) (length self.now.begin) (G.pre self.now.bounds) (G.post self.now.bounds) }
+        requires bounds { Nests (knot.bound A.reads E.reads) (length self.now.begin)
+            (G.pre self.now.bounds) (G.post self.now.bounds) }
         requires few { ahead input.old < length self.now.begin }
-        ensures parses { Parses (bounds_to (knot.reads_below A.reads E.reads (length self.now.begin) (a_bound bound_places.Parameter)) reading.ends_constraint) result input.old input.new }
+        ensures parses { Parses
+            (bounds_to (knot.reads_below A.reads E.reads (length self.now.begin) (a_bound bound_places.Parameter))
+            reading.ends_constraint)
+            result input.old input.new }
     {
         self.bounds()
             .list(input, BoundPlace::Parameter, ToConstraintEnd)
@@ -618,9 +648,12 @@ impl<
         item: Item<A, E>,
         colon_token: Colon,
     ) -> Result<GenericArgumentOf<A, E>, Error>
-        requires bounds { Nests (knot.bound A.reads E.reads) (length self.now.begin) (G.pre self.now.bounds) (G.post self.now.bounds) }
+        requires bounds { Nests (knot.bound A.reads E.reads) (length self.now.begin)
+            (G.pre self.now.bounds) (G.post self.now.bounds) }
         requires few { ahead input.old < length self.now.begin }
-        ensures parses { Parses (reading.constraint E.reads (knot.reads_below A.reads E.reads (length self.now.begin)) item.0 item.1 colon_token) result input.old input.new }
+        ensures parses { Parses (reading.constraint E.reads
+            (knot.reads_below A.reads E.reads (length self.now.begin)) item.0 item.1 colon_token)
+            result input.old input.new }
     {
         let bounds = self.constraint_bounds(input)?;
         Ok(constraint_of(item, colon_token, bounds))
@@ -656,10 +689,14 @@ impl<
         input: &mut ParseStream<'_>,
         ty: TypeOf<A, E>,
     ) -> Result<GenericArgumentOf<A, E>, Error>
-        requires types { Nests (knot.ty A.reads E.reads) (length self.now.begin) (F.pre self.now.types) (F.post self.now.types) }
-        requires bounds { Nests (knot.bound A.reads E.reads) (length self.now.begin) (G.pre self.now.bounds) (G.post self.now.bounds) }
+        requires types { Nests (knot.ty A.reads E.reads) (length self.now.begin)
+            (F.pre self.now.types) (F.post self.now.types) }
+        requires bounds { Nests (knot.bound A.reads E.reads) (length self.now.begin)
+            (G.pre self.now.bounds) (G.post self.now.bounds) }
         requires few { ahead input.old ≤ length self.now.begin }
-        ensures parses { Parses (reading.after_type E.reads (knot.reads_below A.reads E.reads (length self.now.begin)) ty (reading.item_of ty)) result input.old input.new }
+        ensures parses { Parses (reading.after_type E.reads
+            (knot.reads_below A.reads E.reads (length self.now.begin)) ty (reading.item_of ty))
+            result input.old input.new }
     {
         if !names_item(&ty) {
             return Ok(GenericArgumentOf::Type(ty));
@@ -734,13 +771,21 @@ impl<
         &self,
         input: &mut ParseStream<'_>,
     ) -> Result<GenericArgumentOf<A, E>, Error>
-        requires types { Nests (knot.ty A.reads E.reads) (length self.now.begin) (F.pre self.now.types) (F.post self.now.types) }
-        requires bounds { Nests (knot.bound A.reads E.reads) (length self.now.begin) (G.pre self.now.bounds) (G.post self.now.bounds) }
-        requires params { Nests (knot.param A.reads E.reads) (length self.now.begin) (H.pre self.now.params) (H.post self.now.params) }
-        requires args { Nests (knot.argument_in A.reads E.reads) (length self.now.begin) (I.pre self.now.args) (I.post self.now.args) }
-        requires segments { Nests (knot.arguments_in A.reads E.reads) (length self.now.begin) (J.pre self.now.segments) (J.post self.now.segments) }
+        requires types { Nests (knot.ty A.reads E.reads) (length self.now.begin)
+            (F.pre self.now.types) (F.post self.now.types) }
+        requires bounds { Nests (knot.bound A.reads E.reads) (length self.now.begin)
+            (G.pre self.now.bounds) (G.post self.now.bounds) }
+        requires params { Nests (knot.param A.reads E.reads) (length self.now.begin)
+            (H.pre self.now.params) (H.post self.now.params) }
+        requires args { Nests (knot.argument_in A.reads E.reads) (length self.now.begin)
+            (I.pre self.now.args) (I.post self.now.args) }
+        requires segments { Nests (knot.arguments_in A.reads E.reads) (length self.now.begin)
+            (J.pre self.now.segments) (J.post self.now.segments) }
         requires few { ahead input.old ≤ length self.now.begin }
-        ensures parses { Parses (reading.argument_step E.reads (knot.reads_below A.reads E.reads (length self.now.begin)) (types.type_step A.reads E.reads (knot.reads_below A.reads E.reads (length self.now.begin)) places.Plus)) result input.old input.new }
+        ensures parses { Parses
+            (reading.argument_step E.reads (knot.reads_below A.reads E.reads (length self.now.begin))
+            (types.type_step A.reads E.reads (knot.reads_below A.reads E.reads (length self.now.begin)) places.Plus))
+            result input.old input.new }
     {
         if peek_lone_lifetime(input) {
             let lifetime = parse_any_lifetime(self.alloc, input)?;
@@ -766,7 +811,8 @@ fn arguments_from<A: Attributes, E: Value>(
     colon2_token: Option<PathSep>,
 ) -> Result<AngleBracketedGenericArgumentsOf<GenericArgumentOf<A, E>>, Error>
     requires few { ahead input.old ≤ length begin.now }
-    ensures parses { Parses (reading.arguments_after (knot.reads_below A.reads E.reads (length begin.now)) colon2_token) result input.old input.new }
+    ensures parses { Parses (reading.arguments_after (knot.reads_below A.reads E.reads (length begin.now)) colon2_token)
+        result input.old input.new }
 {
     let (lt_token, args, gt_token) = forms::parse_angled::<(), GenericArgumentOf<A, E>>(
         alloc,
@@ -791,7 +837,8 @@ pub(crate) fn path_from<A: Attributes, E: Value>(
     style: PathStyle,
 ) -> Result<PathOf<PathArgumentsOf<A, E>>, Error>
     requires few { ahead input.old ≤ length begin.now }
-    ensures parses { Parses (reading.path (knot.reads_below A.reads E.reads (length begin.now)) style) result input.old input.new }
+    ensures parses { Parses (reading.path (knot.reads_below A.reads E.reads (length begin.now)) style)
+        result input.old input.new }
     ensures fewer { ahead input.new ≤ ahead input.old }
 {
     forms::parse_path::<PathArgumentsOf<A, E>>(alloc, begin, input, style)
@@ -805,7 +852,8 @@ pub(crate) fn signed_from<A: Attributes, E: Value>(
     path: PathOf<PathArgumentsOf<A, E>>,
 ) -> Result<PathOf<PathArgumentsOf<A, E>>, Error>
     requires few { ahead input.old ≤ length begin.now }
-    ensures parses { Parses (reading.signed (knot.reads_below A.reads E.reads (length begin.now)) path) result input.old input.new }
+    ensures parses { Parses (reading.signed (knot.reads_below A.reads E.reads (length begin.now)) path)
+        result input.old input.new }
 {
     Grammar {
         alloc,
@@ -829,7 +877,8 @@ pub(crate) fn maybe_qualified_from<A: Attributes, E: Value>(
     style: PathStyle,
 ) -> Result<(Option<QSelfOf<TypeOf<A, E>>>, PathOf<PathArgumentsOf<A, E>>), Error>
     requires few { ahead input.old ≤ length begin.now }
-    ensures parses { Parses (reading.maybe_qualified (knot.reads_below A.reads E.reads (length begin.now)) style) result input.old input.new }
+    ensures parses { Parses (reading.maybe_qualified (knot.reads_below A.reads E.reads (length begin.now)) style)
+        result input.old input.new }
 {
     forms::parse_maybe_qualified::<TypePlace, TypeOf<A, E>, PathArgumentsOf<A, E>>(
         alloc,
@@ -946,9 +995,11 @@ impl<A: Attributes, E: Value> ReadArguments for PathArgumentsOf<A, E> {
 
     ghost reads_segment = { knot.segment A.reads E.reads };
 
-    ghost promise_path = { Headline (promises.path A.reads E.reads A.spells E.spells A.normal E.normal A.shown E.values) };
+    ghost promise_path = { Headline
+        (promises.path A.reads E.reads A.spells E.spells A.normal E.normal A.shown E.values) };
 
-    ghost promise_segment = { Headline (promises.segment A.reads E.reads A.spells E.spells A.normal E.normal A.shown E.values) };
+    ghost promise_segment = { Headline
+        (promises.segment A.reads E.reads A.spells E.spells A.normal E.normal A.shown E.values) };
 
     ghost spells_path = { fronts.path A.spells E.spells };
 
@@ -959,7 +1010,8 @@ impl<A: Attributes, E: Value> ReadArguments for PathArgumentsOf<A, E> {
         input: &mut ParseStream<'_>,
     ) -> Result<PathOf<PathArgumentsOf<A, E>>, Error>
         ensures parses { Parses (knot.path A.reads E.reads styles.AsWritten) result input.old input.new }
-        ensures promise { Heads (promises.path A.reads E.reads A.spells E.spells A.normal E.normal A.shown E.values) input.old result input.new }
+        ensures promise { Heads (promises.path A.reads E.reads A.spells E.spells A.normal E.normal A.shown E.values)
+            input.old result input.new }
         ensures front { Takes (fronts.path A.spells E.spells) input.old result input.new }
     {
         parse_path::<A, E>(alloc, input, PathStyle::AsWritten)
@@ -970,7 +1022,8 @@ impl<A: Attributes, E: Value> ReadArguments for PathArgumentsOf<A, E> {
         input: &mut ParseStream<'_>,
     ) -> Result<PathSegmentOf<PathArgumentsOf<A, E>>, Error>
         ensures parses { Parses (knot.segment A.reads E.reads) result input.old input.new }
-        ensures promise { Heads (promises.segment A.reads E.reads A.spells E.spells A.normal E.normal A.shown E.values) input.old result input.new }
+        ensures promise { Heads (promises.segment A.reads E.reads A.spells E.spells A.normal E.normal A.shown E.values)
+            input.old result input.new }
         ensures front { Takes (fronts.segment A.spells E.spells) input.old result input.new }
     {
         parse_segment::<A, E>(alloc, input)
@@ -992,12 +1045,14 @@ impl<A: Attributes, E: Value> Parse for GenericArgumentOf<A, E> {
 
     ghost refuses = { Fails (knot.argument A.reads E.reads) };
 
-    ghost promise = { Headline (promises.argument A.reads E.reads A.spells E.spells A.normal E.normal A.shown E.values) };
+    ghost promise = { Headline
+        (promises.argument A.reads E.reads A.spells E.spells A.normal E.normal A.shown E.values) };
 
     fn parse(alloc: Global, input: &mut ParseStream<'_>) -> Result<GenericArgumentOf<A, E>, Error>
         ensures reads { Reads (knot.argument A.reads E.reads input.old) result input.new }
         ensures within { Follows input.old input.new }
-        ensures promise { Heads (promises.argument A.reads E.reads A.spells E.spells A.normal E.normal A.shown E.values) input.old result input.new }
+        ensures promise { Heads (promises.argument A.reads E.reads A.spells E.spells A.normal E.normal A.shown E.values)
+            input.old result input.new }
         ensures front { Takes (fronts.argument A.spells E.spells) input.old result input.new }
     {
         parse_argument::<A, E>(alloc, input)
@@ -1025,7 +1080,8 @@ impl<A: Attributes, E: Value> Parse for AngleBracketedGenericArgumentsOf<Generic
     ) -> Result<AngleBracketedGenericArgumentsOf<GenericArgumentOf<A, E>>, Error>
         ensures reads { Reads (knot.angle_bracketed A.reads E.reads input.old) result input.new }
         ensures within { Follows input.old input.new }
-        ensures promise { Heads (promises.angle A.reads E.reads A.spells E.spells A.normal E.normal A.shown E.values) input.old result input.new }
+        ensures promise { Heads (promises.angle A.reads E.reads A.spells E.spells A.normal E.normal A.shown E.values)
+            input.old result input.new }
         ensures front { Takes (fronts.angle A.spells E.spells) input.old result input.new }
     {
         parse_angle_bracketed::<A, E>(alloc, input)
@@ -1046,7 +1102,9 @@ impl<A: Attributes, E: Value> AngleBracketedGenericArgumentsOf<GenericArgumentOf
         input: &mut ParseStream<'_>,
     ) -> Result<AngleBracketedGenericArgumentsOf<GenericArgumentOf<A, E>>, Error>
         ensures parses { Parses (knot.turbofish A.reads E.reads) result input.old input.new }
-        ensures promise { Heads (promises.turbofish A.reads E.reads A.spells E.spells A.normal E.normal A.shown E.values) input.old result input.new }
+        ensures promise { Heads
+            (promises.turbofish A.reads E.reads A.spells E.spells A.normal E.normal A.shown E.values)
+            input.old result input.new }
         ensures front { Takes (fronts.turbofish A.spells E.spells) input.old result input.new }
     {
         parse_turbofish::<A, E>(alloc, input)
@@ -1066,7 +1124,8 @@ impl<A: Attributes, E: Value> Parse for ParenthesizedGenericArgumentsOf<TypeOf<A
 
     ghost refuses = { Fails (knot.parenthesized A.reads E.reads) };
 
-    ghost promise = { Headline (promises.parenthesized A.reads E.reads A.spells E.spells A.normal E.normal A.shown E.values) };
+    ghost promise = { Headline
+        (promises.parenthesized A.reads E.reads A.spells E.spells A.normal E.normal A.shown E.values) };
 
     fn parse(
         alloc: Global,
@@ -1074,7 +1133,9 @@ impl<A: Attributes, E: Value> Parse for ParenthesizedGenericArgumentsOf<TypeOf<A
     ) -> Result<ParenthesizedGenericArgumentsOf<TypeOf<A, E>, A>, Error>
         ensures reads { Reads (knot.parenthesized A.reads E.reads input.old) result input.new }
         ensures within { Follows input.old input.new }
-        ensures promise { Heads (promises.parenthesized A.reads E.reads A.spells E.spells A.normal E.normal A.shown E.values) input.old result input.new }
+        ensures promise { Heads
+            (promises.parenthesized A.reads E.reads A.spells E.spells A.normal E.normal A.shown E.values)
+            input.old result input.new }
         ensures front { Takes (fronts.parenthesized A.spells E.spells) input.old result input.new }
     {
         parse_parenthesized::<A, E>(alloc, input)

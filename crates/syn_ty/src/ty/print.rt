@@ -480,7 +480,8 @@ pub fn print_qpath<A: Attributes, E: Value>(
     style: PathStyle,
     out: &mut TokenStream,
 ) -> Result<(), AllocError>
-    ensures ok { OnOk result (trees out.new ≡ trees out.old ++ printing.qpath A.shown E.values style qself.now path.now) }
+    ensures ok { OnOk result
+        (trees out.new ≡ trees out.old ++ printing.qpath A.shown E.values style qself.now path.now) }
     ensures err { OnErr result (Extends (trees out.old) (trees out.new)) }
 {
     match qself {

@@ -54,10 +54,13 @@ impl<A: Attributes, E: Value> TypeOf<A, E> {
     #[tactic(auto, using(crate::proofs::ty_laws::Groups::groups))]
     pub fn without_plus(alloc: Global, input: &mut ParseStream<'_>) -> Result<TypeOf<A, E>, Error>
         ensures parses { Parses (knot.ty A.reads E.reads NoPlus) result input.old input.new }
-        ensures promise { Heads (promises.ty A.reads E.reads A.spells E.spells A.normal E.normal A.shown E.values NoPlus) input.old result input.new }
+        ensures promise { Heads
+            (promises.ty A.reads E.reads A.spells E.spells A.normal E.normal A.shown E.values NoPlus)
+            input.old result input.new }
         ensures front { Takes (fronts.ty A.spells E.spells NoPlus) input.old result input.new }
         ensures group { TakesGroup (fronts.grouped A.spells E.spells) input.old result input.new }
-        ensures cases { sees_invisible input.old.rest ≡ true → IfOk result (λ x. IsReadGrouped (knot.reads_below A.reads E.reads (ahead input.old)) input.old x input.new) }
+        ensures cases { sees_invisible input.old.rest ≡ true → IfOk result
+            (λ x. IsReadGrouped (knot.reads_below A.reads E.reads (ahead input.old)) input.old x input.new) }
     {
         <TypeOf<A, E> as Held<TypePlace>>::parse_held(alloc, PhantomData, input, TypePlace::NoPlus)
     }
@@ -72,7 +75,8 @@ impl<A: Attributes, E: Value> Parse for TypeOf<A, E> {
 
     ghost refuses = { Fails (knot.ty A.reads E.reads Plus) };
 
-    ghost promise = { Headline (promises.ty A.reads E.reads A.spells E.spells A.normal E.normal A.shown E.values Plus) };
+    ghost promise = { Headline
+        (promises.ty A.reads E.reads A.spells E.spells A.normal E.normal A.shown E.values Plus) };
 
     ghost fronts = { said (promises.ty_front A.reads E.reads A.spells E.spells A.normal E.normal A.shown E.values) };
 
@@ -80,11 +84,15 @@ impl<A: Attributes, E: Value> Parse for TypeOf<A, E> {
     fn parse(alloc: Global, input: &mut ParseStream<'_>) -> Result<TypeOf<A, E>, Error>
         ensures reads { Reads (knot.ty A.reads E.reads Plus input.old) result input.new }
         ensures within { Follows input.old input.new }
-        ensures promise { Heads (promises.ty A.reads E.reads A.spells E.spells A.normal E.normal A.shown E.values Plus) input.old result input.new }
+        ensures promise { Heads (promises.ty A.reads E.reads A.spells E.spells A.normal E.normal A.shown E.values Plus)
+            input.old result input.new }
         ensures front { Takes (fronts.ty A.spells E.spells Plus) input.old result input.new }
-        ensures fronts { Fronted (promises.ty_front A.reads E.reads A.spells E.spells A.normal E.normal A.shown E.values) input.old result input.new }
+        ensures fronts { Fronted
+            (promises.ty_front A.reads E.reads A.spells E.spells A.normal E.normal A.shown E.values)
+            input.old result input.new }
         ensures group { TakesGroup (fronts.grouped A.spells E.spells) input.old result input.new }
-        ensures cases { sees_invisible input.old.rest ≡ true → IfOk result (λ x. IsReadGrouped (knot.reads_below A.reads E.reads (ahead input.old)) input.old x input.new) }
+        ensures cases { sees_invisible input.old.rest ≡ true → IfOk result
+            (λ x. IsReadGrouped (knot.reads_below A.reads E.reads (ahead input.old)) input.old x input.new) }
     {
         <TypeOf<A, E> as Held<TypePlace>>::parse_held(alloc, PhantomData, input, TypePlace::Plus)
     }
@@ -97,7 +105,9 @@ impl<A: Attributes, E: Value> ReturnTypeOf<TypeOf<A, E>> {
         input: &mut ParseStream<'_>,
     ) -> Result<ReturnTypeOf<TypeOf<A, E>>, Error>
         ensures parses { Parses (knot.return_type A.reads E.reads NoPlus) result input.old input.new }
-        ensures promise { Heads (promises.return_type A.reads E.reads A.spells E.spells A.normal E.normal A.shown E.values NoPlus) input.old result input.new }
+        ensures promise { Heads
+            (promises.return_type A.reads E.reads A.spells E.spells A.normal E.normal A.shown E.values NoPlus)
+            input.old result input.new }
         ensures front { Takes (fronts.return_type A.spells E.spells NoPlus) input.old result input.new }
     {
         parse_return_type(alloc, input, TypePlace::NoPlus)
@@ -110,7 +120,8 @@ impl<A: Attributes, E: Value> Parse for ReturnTypeOf<TypeOf<A, E>> {
 
     ghost refuses = { Fails (knot.return_type A.reads E.reads Plus) };
 
-    ghost promise = { Headline (promises.return_type A.reads E.reads A.spells E.spells A.normal E.normal A.shown E.values Plus) };
+    ghost promise = { Headline
+        (promises.return_type A.reads E.reads A.spells E.spells A.normal E.normal A.shown E.values Plus) };
 
     fn parse(
         alloc: Global,
@@ -118,7 +129,9 @@ impl<A: Attributes, E: Value> Parse for ReturnTypeOf<TypeOf<A, E>> {
     ) -> Result<ReturnTypeOf<TypeOf<A, E>>, Error>
         ensures reads { Reads (knot.return_type A.reads E.reads Plus input.old) result input.new }
         ensures within { Follows input.old input.new }
-        ensures promise { Heads (promises.return_type A.reads E.reads A.spells E.spells A.normal E.normal A.shown E.values Plus) input.old result input.new }
+        ensures promise { Heads
+            (promises.return_type A.reads E.reads A.spells E.spells A.normal E.normal A.shown E.values Plus)
+            input.old result input.new }
         ensures front { Takes (fronts.return_type A.spells E.spells Plus) input.old result input.new }
     {
         parse_return_type(alloc, input, TypePlace::Plus)
@@ -132,7 +145,9 @@ impl<A: Attributes, E: Value> TypeTraitObjectOf<TypeParamBoundOf<A, E>, A> {
         input: &mut ParseStream<'_>,
     ) -> Result<TypeTraitObjectOf<TypeParamBoundOf<A, E>, A>, Error>
         ensures parses { Parses (knot.trait_object A.reads E.reads false) result input.old input.new }
-        ensures promise { Heads (promises.trait_object A.reads E.reads A.spells E.spells A.normal E.normal A.shown E.values NoPlus) input.old result input.new }
+        ensures promise { Heads
+            (promises.trait_object A.reads E.reads A.spells E.spells A.normal E.normal A.shown E.values NoPlus)
+            input.old result input.new }
         ensures front { Takes (fronts.trait_object A.spells E.spells NoPlus) input.old result input.new }
     {
         parse_trait_object(alloc, input, false)
@@ -145,7 +160,8 @@ impl<A: Attributes, E: Value> Parse for TypeTraitObjectOf<TypeParamBoundOf<A, E>
 
     ghost refuses = { Fails (knot.trait_object A.reads E.reads true) };
 
-    ghost promise = { Headline (promises.trait_object A.reads E.reads A.spells E.spells A.normal E.normal A.shown E.values Plus) };
+    ghost promise = { Headline
+        (promises.trait_object A.reads E.reads A.spells E.spells A.normal E.normal A.shown E.values Plus) };
 
     fn parse(
         alloc: Global,
@@ -153,7 +169,9 @@ impl<A: Attributes, E: Value> Parse for TypeTraitObjectOf<TypeParamBoundOf<A, E>
     ) -> Result<TypeTraitObjectOf<TypeParamBoundOf<A, E>, A>, Error>
         ensures reads { Reads (knot.trait_object A.reads E.reads true input.old) result input.new }
         ensures within { Follows input.old input.new }
-        ensures promise { Heads (promises.trait_object A.reads E.reads A.spells E.spells A.normal E.normal A.shown E.values Plus) input.old result input.new }
+        ensures promise { Heads
+            (promises.trait_object A.reads E.reads A.spells E.spells A.normal E.normal A.shown E.values Plus)
+            input.old result input.new }
         ensures front { Takes (fronts.trait_object A.spells E.spells Plus) input.old result input.new }
     {
         parse_trait_object(alloc, input, true)
@@ -167,7 +185,9 @@ impl<A: Attributes, E: Value> TypeImplTraitOf<TypeParamBoundOf<A, E>, A> {
         input: &mut ParseStream<'_>,
     ) -> Result<TypeImplTraitOf<TypeParamBoundOf<A, E>, A>, Error>
         ensures parses { Parses (knot.impl_trait A.reads E.reads false) result input.old input.new }
-        ensures promise { Heads (promises.impl_trait A.reads E.reads A.spells E.spells A.normal E.normal A.shown E.values NoPlus) input.old result input.new }
+        ensures promise { Heads
+            (promises.impl_trait A.reads E.reads A.spells E.spells A.normal E.normal A.shown E.values NoPlus)
+            input.old result input.new }
         ensures front { Takes (fronts.impl_trait A.spells E.spells NoPlus) input.old result input.new }
     {
         parse_impl_trait(alloc, input, false)
@@ -180,7 +200,8 @@ impl<A: Attributes, E: Value> Parse for TypeImplTraitOf<TypeParamBoundOf<A, E>, 
 
     ghost refuses = { Fails (knot.impl_trait A.reads E.reads true) };
 
-    ghost promise = { Headline (promises.impl_trait A.reads E.reads A.spells E.spells A.normal E.normal A.shown E.values Plus) };
+    ghost promise = { Headline
+        (promises.impl_trait A.reads E.reads A.spells E.spells A.normal E.normal A.shown E.values Plus) };
 
     fn parse(
         alloc: Global,
@@ -188,7 +209,9 @@ impl<A: Attributes, E: Value> Parse for TypeImplTraitOf<TypeParamBoundOf<A, E>, 
     ) -> Result<TypeImplTraitOf<TypeParamBoundOf<A, E>, A>, Error>
         ensures reads { Reads (knot.impl_trait A.reads E.reads true input.old) result input.new }
         ensures within { Follows input.old input.new }
-        ensures promise { Heads (promises.impl_trait A.reads E.reads A.spells E.spells A.normal E.normal A.shown E.values Plus) input.old result input.new }
+        ensures promise { Heads
+            (promises.impl_trait A.reads E.reads A.spells E.spells A.normal E.normal A.shown E.values Plus)
+            input.old result input.new }
         ensures front { Takes (fronts.impl_trait A.spells E.spells Plus) input.old result input.new }
     {
         parse_impl_trait(alloc, input, true)
@@ -209,7 +232,8 @@ impl<A: Attributes, E: Value> Parse for TypeArrayOf<TypeOf<A, E>, A, E> {
     ) -> Result<TypeArrayOf<TypeOf<A, E>, A, E>, Error>
         ensures reads { Reads (knot.array A.reads E.reads input.old) result input.new }
         ensures within { Follows input.old input.new }
-        ensures promise { Heads (promises.array A.reads E.reads A.spells E.spells A.normal E.normal A.shown E.values) input.old result input.new }
+        ensures promise { Heads (promises.array A.reads E.reads A.spells E.spells A.normal E.normal A.shown E.values)
+            input.old result input.new }
         ensures front { Takes (fronts.array A.spells E.spells) input.old result input.new }
     {
         parse_array(alloc, input)
@@ -228,7 +252,8 @@ impl<A: Attributes, E: Value> Parse for TypeFnPtrOf<A, E> {
     fn parse(alloc: Global, input: &mut ParseStream<'_>) -> Result<TypeFnPtrOf<A, E>, Error>
         ensures reads { Reads (knot.fn_ptr A.reads E.reads input.old) result input.new }
         ensures within { Follows input.old input.new }
-        ensures promise { Heads (promises.fn_ptr A.reads E.reads A.spells E.spells A.normal E.normal A.shown E.values) input.old result input.new }
+        ensures promise { Heads (promises.fn_ptr A.reads E.reads A.spells E.spells A.normal E.normal A.shown E.values)
+            input.old result input.new }
         ensures front { Takes (fronts.fn_ptr A.spells E.spells) input.old result input.new }
     {
         parse_fn_ptr(alloc, input)
@@ -249,7 +274,8 @@ impl<A: Attributes, E: Value> Parse for TypeGroupOf<TypeOf<A, E>, A> {
     ) -> Result<TypeGroupOf<TypeOf<A, E>, A>, Error>
         ensures reads { Reads (knot.group A.reads E.reads input.old) result input.new }
         ensures within { Follows input.old input.new }
-        ensures promise { Heads (promises.group A.reads E.reads A.spells E.spells A.normal E.normal A.shown E.values) input.old result input.new }
+        ensures promise { Heads (promises.group A.reads E.reads A.spells E.spells A.normal E.normal A.shown E.values)
+            input.old result input.new }
         ensures front { Takes (fronts.group A.spells E.spells) input.old result input.new }
     {
         parse_group(alloc, input)
@@ -270,7 +296,8 @@ impl<A: Attributes, E: Value> Parse for TypeParenOf<TypeOf<A, E>, A> {
     ) -> Result<TypeParenOf<TypeOf<A, E>, A>, Error>
         ensures reads { Reads (knot.paren A.reads E.reads input.old) result input.new }
         ensures within { Follows input.old input.new }
-        ensures promise { Heads (promises.paren A.reads E.reads A.spells E.spells A.normal E.normal A.shown E.values) input.old result input.new }
+        ensures promise { Heads (promises.paren A.reads E.reads A.spells E.spells A.normal E.normal A.shown E.values)
+            input.old result input.new }
         ensures front { Takes (fronts.paren A.spells E.spells) input.old result input.new }
     {
         parse_paren(alloc, input)
@@ -283,12 +310,15 @@ impl<A: Attributes, E: Value> Parse for TypePathOf<A, E> {
 
     ghost refuses = { Fails (knot.path_type A.reads E.reads) };
 
-    ghost promise = { Headline (promises.path_type A.reads E.reads A.spells E.spells A.normal E.normal A.shown E.values) };
+    ghost promise = { Headline
+        (promises.path_type A.reads E.reads A.spells E.spells A.normal E.normal A.shown E.values) };
 
     fn parse(alloc: Global, input: &mut ParseStream<'_>) -> Result<TypePathOf<A, E>, Error>
         ensures reads { Reads (knot.path_type A.reads E.reads input.old) result input.new }
         ensures within { Follows input.old input.new }
-        ensures promise { Heads (promises.path_type A.reads E.reads A.spells E.spells A.normal E.normal A.shown E.values) input.old result input.new }
+        ensures promise { Heads
+            (promises.path_type A.reads E.reads A.spells E.spells A.normal E.normal A.shown E.values)
+            input.old result input.new }
         ensures front { Takes (fronts.path_type A.spells E.spells) input.old result input.new }
     {
         parse_path_type(alloc, input)
@@ -309,7 +339,8 @@ impl<A: Attributes, E: Value> Parse for TypePtrOf<TypeOf<A, E>, A> {
     ) -> Result<TypePtrOf<TypeOf<A, E>, A>, Error>
         ensures reads { Reads (knot.ptr A.reads E.reads input.old) result input.new }
         ensures within { Follows input.old input.new }
-        ensures promise { Heads (promises.ptr A.reads E.reads A.spells E.spells A.normal E.normal A.shown E.values) input.old result input.new }
+        ensures promise { Heads (promises.ptr A.reads E.reads A.spells E.spells A.normal E.normal A.shown E.values)
+            input.old result input.new }
         ensures front { Takes (fronts.ptr A.spells E.spells) input.old result input.new }
     {
         parse_ptr(alloc, input)
@@ -322,7 +353,8 @@ impl<A: Attributes, E: Value> Parse for TypeReferenceOf<TypeOf<A, E>, A> {
 
     ghost refuses = { Fails (knot.reference A.reads E.reads) };
 
-    ghost promise = { Headline (promises.reference A.reads E.reads A.spells E.spells A.normal E.normal A.shown E.values) };
+    ghost promise = { Headline
+        (promises.reference A.reads E.reads A.spells E.spells A.normal E.normal A.shown E.values) };
 
     fn parse(
         alloc: Global,
@@ -330,7 +362,9 @@ impl<A: Attributes, E: Value> Parse for TypeReferenceOf<TypeOf<A, E>, A> {
     ) -> Result<TypeReferenceOf<TypeOf<A, E>, A>, Error>
         ensures reads { Reads (knot.reference A.reads E.reads input.old) result input.new }
         ensures within { Follows input.old input.new }
-        ensures promise { Heads (promises.reference A.reads E.reads A.spells E.spells A.normal E.normal A.shown E.values) input.old result input.new }
+        ensures promise { Heads
+            (promises.reference A.reads E.reads A.spells E.spells A.normal E.normal A.shown E.values)
+            input.old result input.new }
         ensures front { Takes (fronts.reference A.spells E.spells) input.old result input.new }
     {
         parse_reference(alloc, input)
@@ -351,7 +385,8 @@ impl<A: Attributes, E: Value> Parse for TypeSliceOf<TypeOf<A, E>, A> {
     ) -> Result<TypeSliceOf<TypeOf<A, E>, A>, Error>
         ensures reads { Reads (knot.slice A.reads E.reads input.old) result input.new }
         ensures within { Follows input.old input.new }
-        ensures promise { Heads (promises.slice A.reads E.reads A.spells E.spells A.normal E.normal A.shown E.values) input.old result input.new }
+        ensures promise { Heads (promises.slice A.reads E.reads A.spells E.spells A.normal E.normal A.shown E.values)
+            input.old result input.new }
         ensures front { Takes (fronts.slice A.spells E.spells) input.old result input.new }
     {
         parse_slice(alloc, input)
@@ -372,7 +407,8 @@ impl<A: Attributes, E: Value> Parse for TypeTupleOf<TypeOf<A, E>, A> {
     ) -> Result<TypeTupleOf<TypeOf<A, E>, A>, Error>
         ensures reads { Reads (knot.tuple A.reads E.reads input.old) result input.new }
         ensures within { Follows input.old input.new }
-        ensures promise { Heads (promises.tuple A.reads E.reads A.spells E.spells A.normal E.normal A.shown E.values) input.old result input.new }
+        ensures promise { Heads (promises.tuple A.reads E.reads A.spells E.spells A.normal E.normal A.shown E.values)
+            input.old result input.new }
         ensures front { Takes (fronts.tuple A.spells E.spells) input.old result input.new }
     {
         parse_tuple(alloc, input)
@@ -385,7 +421,8 @@ impl<A: Attributes, E: Value> Parse for NamedArgOf<TypeOf<A, E>, A> {
 
     ghost refuses = { Fails (knot.named_arg A.reads E.reads) };
 
-    ghost promise = { Headline (promises.named_arg A.reads E.reads A.spells E.spells A.normal E.normal A.shown E.values) };
+    ghost promise = { Headline
+        (promises.named_arg A.reads E.reads A.spells E.spells A.normal E.normal A.shown E.values) };
 
     fn parse(
         alloc: Global,
@@ -393,7 +430,9 @@ impl<A: Attributes, E: Value> Parse for NamedArgOf<TypeOf<A, E>, A> {
     ) -> Result<NamedArgOf<TypeOf<A, E>, A>, Error>
         ensures reads { Reads (knot.named_arg A.reads E.reads input.old) result input.new }
         ensures within { Follows input.old input.new }
-        ensures promise { Heads (promises.named_arg A.reads E.reads A.spells E.spells A.normal E.normal A.shown E.values) input.old result input.new }
+        ensures promise { Heads
+            (promises.named_arg A.reads E.reads A.spells E.spells A.normal E.normal A.shown E.values)
+            input.old result input.new }
         ensures front { Takes (fronts.named_arg A.spells E.spells) input.old result input.new }
     {
         parse_named_arg(alloc, input)

@@ -119,9 +119,12 @@ impl<
         attrs: Items<Attribute<X>>,
         member: Member,
     ) -> Result<FieldOver<X, G, Q, T>, Error>
-        requires patterns { Nests (knot.pat X.reads (named Q.reads G.is_absent)) (length self.now.begin) (F.pre self.now.patterns) (F.post self.now.patterns) }
+        requires patterns { Nests (knot.pat X.reads (named Q.reads G.is_absent)) (length self.now.begin)
+            (F.pre self.now.patterns) (F.post self.now.patterns) }
         requires few { ahead input.old < length self.now.begin }
-        ensures parses { Parses (reading.member_field (knot.pats_below X.reads (named Q.reads G.is_absent) (length self.now.begin)) attrs member) result input.old input.new }
+        ensures parses { Parses (reading.member_field
+            (knot.pats_below X.reads (named Q.reads G.is_absent) (length self.now.begin)) attrs member)
+            result input.old input.new }
         ensures fewer { ahead input.new ≤ ahead input.old }
     {
         let colon_token = parse_colon(self.alloc, input)?;
@@ -143,10 +146,13 @@ impl<
         attrs: Items<Attribute<X>>,
         member: Member,
     ) -> Result<FieldOver<X, G, Q, T>, Error>
-        requires patterns { Nests (knot.pat X.reads (named Q.reads G.is_absent)) (length self.now.begin) (F.pre self.now.patterns) (F.post self.now.patterns) }
+        requires patterns { Nests (knot.pat X.reads (named Q.reads G.is_absent)) (length self.now.begin)
+            (F.pre self.now.patterns) (F.post self.now.patterns) }
         requires few { ahead input.old < length self.now.begin }
         requires reached { IsReached (verbatim.position input.old) from.now }
-        ensures parses { Parses (reading.plain_field (knot.pats_below X.reads (named Q.reads G.is_absent) (length self.now.begin)) from.now attrs member) result input.old input.new }
+        ensures parses { Parses (reading.plain_field
+            (knot.pats_below X.reads (named Q.reads G.is_absent) (length self.now.begin)) from.now attrs member)
+            result input.old input.new }
         ensures fewer { ahead input.new ≤ ahead input.old }
     {
         match member {
@@ -167,9 +173,12 @@ impl<
         input: &mut ParseStream<'_>,
         attrs: Items<Attribute<X>>,
     ) -> Result<FieldOver<X, G, Q, T>, Error>
-        requires patterns { Nests (knot.pat X.reads (named Q.reads G.is_absent)) (length self.now.begin) (F.pre self.now.patterns) (F.post self.now.patterns) }
+        requires patterns { Nests (knot.pat X.reads (named Q.reads G.is_absent)) (length self.now.begin)
+            (F.pre self.now.patterns) (F.post self.now.patterns) }
         requires few { ahead input.old < length self.now.begin }
-        ensures parses { Parses (reading.field (knot.pats_below X.reads (named Q.reads G.is_absent) (length self.now.begin)) attrs) result input.old input.new }
+        ensures parses { Parses
+            (reading.field (knot.pats_below X.reads (named Q.reads G.is_absent) (length self.now.begin)) attrs)
+            result input.old input.new }
         ensures fewer { ahead input.new ≤ ahead input.old }
     {
         let from = input.cursor();
@@ -186,9 +195,12 @@ impl<
     /// follow the last. A `..` ends them, with its attributes, and nothing is read after it.
     #[tactic(auto, using(token_core::proofs::Suffixes::follows))]
     pub(crate) fn fields(&self, input: &mut ParseStream<'_>) -> Result<Fields<X, G, Q, T>, Error>
-        requires patterns { Nests (knot.pat X.reads (named Q.reads G.is_absent)) (length self.now.begin) (F.pre self.now.patterns) (F.post self.now.patterns) }
+        requires patterns { Nests (knot.pat X.reads (named Q.reads G.is_absent)) (length self.now.begin)
+            (F.pre self.now.patterns) (F.post self.now.patterns) }
         requires few { ahead input.old < length self.now.begin }
-        ensures parses { Parses (reading.fields X.reads (knot.pats_below X.reads (named Q.reads G.is_absent) (length self.now.begin))) result input.old input.new }
+        ensures parses { Parses
+            (reading.fields X.reads (knot.pats_below X.reads (named Q.reads G.is_absent) (length self.now.begin)))
+            result input.old input.new }
     {
         let mut list = Punctuated::new(self.alloc);
         'turn: loop {

@@ -86,9 +86,12 @@ impl<
         &self,
         input: &mut ParseStream<'_>,
     ) -> Result<Option<(At, Boxed<PatOver<X, G, Q, T>>)>, Error>
-        requires patterns { Nests (knot.pat X.reads (named Q.reads G.is_absent)) (length self.now.begin) (F.pre self.now.patterns) (F.post self.now.patterns) }
+        requires patterns { Nests (knot.pat X.reads (named Q.reads G.is_absent)) (length self.now.begin)
+            (F.pre self.now.patterns) (F.post self.now.patterns) }
         requires few { ahead input.old ≤ length self.now.begin }
-        ensures parses { Parses (reading.optional_subpat (knot.pats_below X.reads (named Q.reads G.is_absent) (length self.now.begin))) result input.old input.new }
+        ensures parses { Parses
+            (reading.optional_subpat (knot.pats_below X.reads (named Q.reads G.is_absent) (length self.now.begin)))
+            result input.old input.new }
     {
         if !input.peek::<At>() {
             return Ok(None);
@@ -104,9 +107,12 @@ impl<
         &self,
         input: &mut ParseStream<'_>,
     ) -> Result<IdentOver<X, G, Q, T>, Error>
-        requires patterns { Nests (knot.pat X.reads (named Q.reads G.is_absent)) (length self.now.begin) (F.pre self.now.patterns) (F.post self.now.patterns) }
+        requires patterns { Nests (knot.pat X.reads (named Q.reads G.is_absent)) (length self.now.begin)
+            (F.pre self.now.patterns) (F.post self.now.patterns) }
         requires few { ahead input.old ≤ length self.now.begin }
-        ensures parses { Parses (reading.binding (knot.pats_below X.reads (named Q.reads G.is_absent) (length self.now.begin))) result input.old input.new }
+        ensures parses { Parses
+            (reading.binding (knot.pats_below X.reads (named Q.reads G.is_absent) (length self.now.begin)))
+            result input.old input.new }
     {
         let (by_ref, mutability, ident) = parse_bound_head(self.alloc, input)?;
         let subpat = self.subpat(input)?;
@@ -125,9 +131,12 @@ impl<
         &self,
         input: &mut ParseStream<'_>,
     ) -> Result<ReferenceOver<X, G, Q, T>, Error>
-        requires patterns { Nests (knot.pat X.reads (named Q.reads G.is_absent)) (length self.now.begin) (F.pre self.now.patterns) (F.post self.now.patterns) }
+        requires patterns { Nests (knot.pat X.reads (named Q.reads G.is_absent)) (length self.now.begin)
+            (F.pre self.now.patterns) (F.post self.now.patterns) }
         requires few { ahead input.old ≤ length self.now.begin }
-        ensures parses { Parses (reading.reference (knot.pats_below X.reads (named Q.reads G.is_absent) (length self.now.begin))) result input.old input.new }
+        ensures parses { Parses
+            (reading.reference (knot.pats_below X.reads (named Q.reads G.is_absent) (length self.now.begin)))
+            result input.old input.new }
     {
         let and_token = parse_and(self.alloc, input)?;
         let mutability = parse_mut(self.alloc, input)?;
@@ -143,9 +152,12 @@ impl<
     /// `box a`, held as it was written (syn's `pat_box`).
     #[tactic(auto, using(token_core::proofs::Suffixes::follows, syn_forms::proofs::nested_laws::Ahead::later, token_core::proofs::Places::positions), unfolding(crate::specs::pat::Reading::box_pat))]
     pub(crate) fn box_pat(&self, input: &mut ParseStream<'_>) -> Result<PatOver<X, G, Q, T>, Error>
-        requires patterns { Nests (knot.pat X.reads (named Q.reads G.is_absent)) (length self.now.begin) (F.pre self.now.patterns) (F.post self.now.patterns) }
+        requires patterns { Nests (knot.pat X.reads (named Q.reads G.is_absent)) (length self.now.begin)
+            (F.pre self.now.patterns) (F.post self.now.patterns) }
         requires few { ahead input.old ≤ length self.now.begin }
-        ensures parses { Parses (reading.box_pat (knot.pats_below X.reads (named Q.reads G.is_absent) (length self.now.begin))) result input.old input.new }
+        ensures parses { Parses
+            (reading.box_pat (knot.pats_below X.reads (named Q.reads G.is_absent) (length self.now.begin)))
+            result input.old input.new }
     {
         let from = input.cursor();
         parse_box(self.alloc, input)?;

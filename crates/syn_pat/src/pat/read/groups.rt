@@ -74,9 +74,12 @@ impl<
         input: &mut ParseStream<'_>,
         place: PatPlace,
     ) -> Result<Punctuated<PatOver<X, G, Q, T>, Comma>, Error>
-        requires patterns { Nests (knot.pat X.reads (named Q.reads G.is_absent)) (length self.now.begin) (F.pre self.now.patterns) (F.post self.now.patterns) }
+        requires patterns { Nests (knot.pat X.reads (named Q.reads G.is_absent)) (length self.now.begin)
+            (F.pre self.now.patterns) (F.post self.now.patterns) }
         requires few { ahead input.old < length self.now.begin }
-        ensures parses { Parses (reading.elements (knot.pats_below X.reads (named Q.reads G.is_absent) (length self.now.begin)) place) result input.old input.new }
+        ensures parses { Parses
+            (reading.elements (knot.pats_below X.reads (named Q.reads G.is_absent) (length self.now.begin)) place)
+            result input.old input.new }
     {
         self.patterns().list(input, place, ToEnd)
     }
@@ -87,9 +90,12 @@ impl<
         &self,
         input: &mut ParseStream<'_>,
     ) -> Result<(Paren, Punctuated<PatOver<X, G, Q, T>, Comma>), Error>
-        requires patterns { Nests (knot.pat X.reads (named Q.reads G.is_absent)) (length self.now.begin) (F.pre self.now.patterns) (F.post self.now.patterns) }
+        requires patterns { Nests (knot.pat X.reads (named Q.reads G.is_absent)) (length self.now.begin)
+            (F.pre self.now.patterns) (F.post self.now.patterns) }
         requires few { ahead input.old ≤ length self.now.begin }
-        ensures parses { Parses (in_parens (reading.elements (knot.pats_below X.reads (named Q.reads G.is_absent) (length self.now.begin)) LeadingVert)) result input.old input.new }
+        ensures parses { Parses (in_parens (reading.elements
+            (knot.pats_below X.reads (named Q.reads G.is_absent) (length self.now.begin)) LeadingVert))
+            result input.old input.new }
     {
         let (paren_token, mut content) = open_parens(self.alloc, input)?;
         let elems = self.elements(&mut content, PatPlace::LeadingVert)?;
@@ -100,9 +106,12 @@ impl<
     /// `[a, b, ..]` (syn's `pat_slice`).
     #[tactic(auto, using(token_core::proofs::Suffixes::follows, syn_forms::proofs::nested_laws::Ahead::later), unfolding(crate::specs::pat::Reading::slice))]
     pub(crate) fn slice(&self, input: &mut ParseStream<'_>) -> Result<SliceOver<X, G, Q, T>, Error>
-        requires patterns { Nests (knot.pat X.reads (named Q.reads G.is_absent)) (length self.now.begin) (F.pre self.now.patterns) (F.post self.now.patterns) }
+        requires patterns { Nests (knot.pat X.reads (named Q.reads G.is_absent)) (length self.now.begin)
+            (F.pre self.now.patterns) (F.post self.now.patterns) }
         requires few { ahead input.old ≤ length self.now.begin }
-        ensures parses { Parses (reading.slice (knot.pats_below X.reads (named Q.reads G.is_absent) (length self.now.begin))) result input.old input.new }
+        ensures parses { Parses
+            (reading.slice (knot.pats_below X.reads (named Q.reads G.is_absent) (length self.now.begin)))
+            result input.old input.new }
     {
         let (bracket_token, mut content) = open_brackets(self.alloc, input)?;
         let elems = self.elements(&mut content, PatPlace::Element)?;
@@ -120,9 +129,12 @@ impl<
         &self,
         input: &mut ParseStream<'_>,
     ) -> Result<InParens<PatOver<X, G, Q, T>>, Error>
-        requires patterns { Nests (knot.pat X.reads (named Q.reads G.is_absent)) (length self.now.begin) (F.pre self.now.patterns) (F.post self.now.patterns) }
+        requires patterns { Nests (knot.pat X.reads (named Q.reads G.is_absent)) (length self.now.begin)
+            (F.pre self.now.patterns) (F.post self.now.patterns) }
         requires few { ahead input.old < length self.now.begin }
-        ensures parses { Parses (reading.paren_content (knot.pats_below X.reads (named Q.reads G.is_absent) (length self.now.begin))) result input.old input.new }
+        ensures parses { Parses
+            (reading.paren_content (knot.pats_below X.reads (named Q.reads G.is_absent) (length self.now.begin)))
+            result input.old input.new }
     {
         if input.is_empty() {
             return Ok(InParens::Elements(Punctuated::new(self.alloc)));
@@ -143,9 +155,12 @@ impl<
         &self,
         input: &mut ParseStream<'_>,
     ) -> Result<PatOver<X, G, Q, T>, Error>
-        requires patterns { Nests (knot.pat X.reads (named Q.reads G.is_absent)) (length self.now.begin) (F.pre self.now.patterns) (F.post self.now.patterns) }
+        requires patterns { Nests (knot.pat X.reads (named Q.reads G.is_absent)) (length self.now.begin)
+            (F.pre self.now.patterns) (F.post self.now.patterns) }
         requires few { ahead input.old ≤ length self.now.begin }
-        ensures parses { Parses (reading.paren_or_tuple (knot.pats_below X.reads (named Q.reads G.is_absent) (length self.now.begin))) result input.old input.new }
+        ensures parses { Parses
+            (reading.paren_or_tuple (knot.pats_below X.reads (named Q.reads G.is_absent) (length self.now.begin)))
+            result input.old input.new }
     {
         let (paren_token, mut content) = open_parens(self.alloc, input)?;
         let held = self.paren_content(&mut content)?;

@@ -63,9 +63,12 @@ impl<
         qself: Option<Q>,
         path: PathOf<G>,
     ) -> Result<StructOver<X, G, Q, T>, Error>
-        requires patterns { Nests (knot.pat X.reads (named Q.reads G.is_absent)) (length self.now.begin) (F.pre self.now.patterns) (F.post self.now.patterns) }
+        requires patterns { Nests (knot.pat X.reads (named Q.reads G.is_absent)) (length self.now.begin)
+            (F.pre self.now.patterns) (F.post self.now.patterns) }
         requires few { ahead input.old ≤ length self.now.begin }
-        ensures parses { Parses (reading.struct_after X.reads (knot.pats_below X.reads (named Q.reads G.is_absent) (length self.now.begin)) qself path) result input.old input.new }
+        ensures parses { Parses (reading.struct_after X.reads
+            (knot.pats_below X.reads (named Q.reads G.is_absent) (length self.now.begin)) qself path)
+            result input.old input.new }
     {
         let (brace_token, mut content) = open_braces(self.alloc, input)?;
         let (fields, rest) = self.fields(&mut content)?;
@@ -88,9 +91,12 @@ impl<
         qself: Option<Q>,
         path: PathOf<G>,
     ) -> Result<TupleStructOver<X, G, Q, T>, Error>
-        requires patterns { Nests (knot.pat X.reads (named Q.reads G.is_absent)) (length self.now.begin) (F.pre self.now.patterns) (F.post self.now.patterns) }
+        requires patterns { Nests (knot.pat X.reads (named Q.reads G.is_absent)) (length self.now.begin)
+            (F.pre self.now.patterns) (F.post self.now.patterns) }
         requires few { ahead input.old ≤ length self.now.begin }
-        ensures parses { Parses (reading.tuple_struct_after (knot.pats_below X.reads (named Q.reads G.is_absent) (length self.now.begin)) qself path) result input.old input.new }
+        ensures parses { Parses (reading.tuple_struct_after
+            (knot.pats_below X.reads (named Q.reads G.is_absent) (length self.now.begin)) qself path)
+            result input.old input.new }
     {
         let (paren_token, elems) = self.in_parens(input)?;
         Ok(PatTupleStructOf {
@@ -110,9 +116,12 @@ impl<
         qself: Option<Q>,
         path: PathOf<G>,
     ) -> Result<PatOver<X, G, Q, T>, Error>
-        requires patterns { Nests (knot.pat X.reads (named Q.reads G.is_absent)) (length self.now.begin) (F.pre self.now.patterns) (F.post self.now.patterns) }
+        requires patterns { Nests (knot.pat X.reads (named Q.reads G.is_absent)) (length self.now.begin)
+            (F.pre self.now.patterns) (F.post self.now.patterns) }
         requires few { ahead input.old ≤ length self.now.begin }
-        ensures parses { Parses (reading.after_path X.reads (named Q.reads G.is_absent) (knot.pats_below X.reads (named Q.reads G.is_absent) (length self.now.begin)) qself path) result input.old input.new }
+        ensures parses { Parses (reading.after_path X.reads (named Q.reads G.is_absent)
+            (knot.pats_below X.reads (named Q.reads G.is_absent) (length self.now.begin)) qself path)
+            result input.old input.new }
     {
         if qself.is_none() & (sees_call(input) & path.is_mod_style()) {
             return parse_macro_after(self.alloc, input, &path);
@@ -130,9 +139,12 @@ impl<
     /// A pattern that begins with a path (syn's `pat_path_or_macro_or_struct_or_range`).
     #[tactic(auto, using(token_core::proofs::Suffixes::follows, syn_forms::proofs::nested_laws::Ahead::later), unfolding(crate::specs::pat::Reading::path_pat))]
     pub(crate) fn path_pat(&self, input: &mut ParseStream<'_>) -> Result<PatOver<X, G, Q, T>, Error>
-        requires patterns { Nests (knot.pat X.reads (named Q.reads G.is_absent)) (length self.now.begin) (F.pre self.now.patterns) (F.post self.now.patterns) }
+        requires patterns { Nests (knot.pat X.reads (named Q.reads G.is_absent)) (length self.now.begin)
+            (F.pre self.now.patterns) (F.post self.now.patterns) }
         requires few { ahead input.old ≤ length self.now.begin }
-        ensures parses { Parses (reading.path_pat X.reads (named Q.reads G.is_absent) (knot.pats_below X.reads (named Q.reads G.is_absent) (length self.now.begin))) result input.old input.new }
+        ensures parses { Parses (reading.path_pat X.reads
+            (named Q.reads G.is_absent) (knot.pats_below X.reads (named Q.reads G.is_absent) (length self.now.begin)))
+            result input.old input.new }
     {
         let (qself, path) = Q::parse_path(self.alloc, input)?;
         self.after_path(input, qself, path)

@@ -129,7 +129,8 @@ pub(crate) fn open_braces<'a>(
     alloc: Global,
     input: &mut ParseStream<'a>,
 ) -> Result<(Brace, ParseStream<'a>), Error>
-    ensures parses { Parses (λ s. groups.opened groups.brace (open_group delimiter.Brace groups.brace_name s)) result input.old input.new }
+    ensures parses { Parses (λ s. groups.opened groups.brace (open_group delimiter.Brace groups.brace_name s))
+        result input.old input.new }
     ensures inside { IfOk result (λ p. ahead p.1 < ahead input.old) }
 {
     input.braced(alloc)
@@ -154,7 +155,8 @@ pub(crate) fn parse_wild<X: Subtree>(
 
 /// Where no pattern begins. Before a `...` a `..` was seen, and is not named.
 pub(crate) fn no_pattern(alloc: Global, input: &ParseStream<'_>) -> Error
-    ensures { Made result (unmet (record { input = forked input.now; missing = reading.missing (token.sees_dot_dot input.now.rest) })) }
+    ensures { Made result
+        (unmet (record { input = forked input.now; missing = reading.missing (token.sees_dot_dot input.now.rest) })) }
 {
     let mut look = input.lookahead1();
     look.note::<Ident>();

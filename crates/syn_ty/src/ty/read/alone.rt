@@ -55,7 +55,9 @@ fn fn_ptr_after_from<A: Attributes, E: Value>(
     lifetimes: Option<BoundLifetimesOf<GenericParamOf<A, E>>>,
 ) -> Result<TypeFnPtrOf<A, E>, Error>
     requires few { ahead input.old ≤ length begin.now }
-    ensures parses { Parses (reading.fn_ptr_after A.reads E.reads (knot.reads_below A.reads E.reads (length begin.now)) lifetimes) result input.old input.new }
+    ensures parses { Parses
+        (reading.fn_ptr_after A.reads E.reads (knot.reads_below A.reads E.reads (length begin.now)) lifetimes)
+        result input.old input.new }
 {
     Grammar {
         alloc,
@@ -78,7 +80,8 @@ fn fn_ptr_from<A: Attributes, E: Value>(
     input: &mut ParseStream<'_>,
 ) -> Result<TypeFnPtrOf<A, E>, Error>
     requires few { ahead input.old ≤ length begin.now }
-    ensures parses { Parses (reading.fn_ptr A.reads E.reads (knot.reads_below A.reads E.reads (length begin.now))) result input.old input.new }
+    ensures parses { Parses (reading.fn_ptr A.reads E.reads (knot.reads_below A.reads E.reads (length begin.now)))
+        result input.old input.new }
 {
     let lifetimes = optional_binder_from::<A, E>(alloc, begin, input)?;
     fn_ptr_after_from::<A, E>(alloc, begin, input, lifetimes)

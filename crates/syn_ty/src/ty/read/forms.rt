@@ -42,9 +42,11 @@ impl<
         &self,
         input: &mut ParseStream<'_>,
     ) -> Result<TypePtrOf<TypeOf<A, E>, A>, Error>
-        requires types { Nests (knot.ty A.reads E.reads) (length self.now.begin) (F.pre self.now.types) (F.post self.now.types) }
+        requires types { Nests (knot.ty A.reads E.reads) (length self.now.begin)
+            (F.pre self.now.types) (F.post self.now.types) }
         requires few { ahead input.old ≤ length self.now.begin }
-        ensures parses { Parses (reading.ptr (knot.reads_below A.reads E.reads (length self.now.begin))) result input.old input.new }
+        ensures parses { Parses (reading.ptr (knot.reads_below A.reads E.reads (length self.now.begin)))
+            result input.old input.new }
         ensures fewer { ahead input.new ≤ ahead input.old }
     {
         let parts = self.types().ptr(input, TypePlace::NoPlus)?;
@@ -57,9 +59,11 @@ impl<
         &self,
         input: &mut ParseStream<'_>,
     ) -> Result<TypeReferenceOf<TypeOf<A, E>, A>, Error>
-        requires types { Nests (knot.ty A.reads E.reads) (length self.now.begin) (F.pre self.now.types) (F.post self.now.types) }
+        requires types { Nests (knot.ty A.reads E.reads) (length self.now.begin)
+            (F.pre self.now.types) (F.post self.now.types) }
         requires few { ahead input.old ≤ length self.now.begin }
-        ensures parses { Parses (reading.reference (knot.reads_below A.reads E.reads (length self.now.begin))) result input.old input.new }
+        ensures parses { Parses (reading.reference (knot.reads_below A.reads E.reads (length self.now.begin)))
+            result input.old input.new }
         ensures fewer { ahead input.new ≤ ahead input.old }
     {
         let parts = self.types().reference(input, TypePlace::NoPlus)?;
@@ -69,9 +73,12 @@ impl<
     /// A slice, or an array where a `;` follows the type.
     #[tactic(auto, using(token_core::proofs::Suffixes::follows, syn_forms::proofs::nested_laws::Ahead::later), unfolding(crate::specs::ty::Reading::slice_or_array))]
     pub(crate) fn slice_or_array(&self, input: &mut ParseStream<'_>) -> Result<TypeOf<A, E>, Error>
-        requires types { Nests (knot.ty A.reads E.reads) (length self.now.begin) (F.pre self.now.types) (F.post self.now.types) }
+        requires types { Nests (knot.ty A.reads E.reads) (length self.now.begin)
+            (F.pre self.now.types) (F.post self.now.types) }
         requires few { ahead input.old ≤ length self.now.begin }
-        ensures parses { Parses (reading.slice_or_array E.reads (knot.reads_below A.reads E.reads (length self.now.begin))) result input.old input.new }
+        ensures parses { Parses
+            (reading.slice_or_array E.reads (knot.reads_below A.reads E.reads (length self.now.begin)))
+            result input.old input.new }
         ensures fewer { ahead input.new ≤ ahead input.old }
     {
         let (bracket_token, held) = self.types().slice_or_array::<E>(input, TypePlace::Plus)?;
@@ -84,9 +91,12 @@ impl<
         &self,
         input: &mut ParseStream<'_>,
     ) -> Result<ParenContent<TypeOf<A, E>, O, Q>, Error>
-        requires types { Nests (knot.ty A.reads E.reads) (length self.now.begin) (F.pre self.now.types) (F.post self.now.types) }
+        requires types { Nests (knot.ty A.reads E.reads) (length self.now.begin)
+            (F.pre self.now.types) (F.post self.now.types) }
         requires few { ahead input.old < length self.now.begin }
-        ensures parses { Parses (content.type_or_elements (knot.reads_below A.reads E.reads (length self.now.begin) (a_type Plus))) result input.old input.new }
+        ensures parses { Parses
+            (content.type_or_elements (knot.reads_below A.reads E.reads (length self.now.begin) (a_type Plus)))
+            result input.old input.new }
     {
         self.types().type_or_elements(input, TypePlace::Plus)
     }
@@ -98,9 +108,11 @@ impl<
         input: &mut ParseStream<'_>,
         place: TypePlace,
     ) -> Result<ReturnTypeOf<TypeOf<A, E>>, Error>
-        requires types { Nests (knot.ty A.reads E.reads) (length self.now.begin) (F.pre self.now.types) (F.post self.now.types) }
+        requires types { Nests (knot.ty A.reads E.reads) (length self.now.begin)
+            (F.pre self.now.types) (F.post self.now.types) }
         requires few { ahead input.old ≤ length self.now.begin }
-        ensures parses { Parses (reading.return_type (knot.reads_below A.reads E.reads (length self.now.begin)) place) result input.old input.new }
+        ensures parses { Parses (reading.return_type (knot.reads_below A.reads E.reads (length self.now.begin)) place)
+            result input.old input.new }
         ensures fewer { ahead input.new ≤ ahead input.old }
     {
         let parts = self.types().returned(input, place)?;

@@ -57,9 +57,12 @@ impl<
     /// The arguments of a pointer to a function, in parentheses.
     #[tactic(auto, using(token_core::proofs::Suffixes::follows, syn_forms::proofs::nested_laws::Ahead::later), unfolding(crate::specs::ty::Reading::fn_inputs))]
     pub(crate) fn fn_ptr_inputs(&self, input: &mut ParseStream<'_>) -> Result<FnInputs<A, E>, Error>
-        requires types { Nests (knot.ty A.reads E.reads) (length self.now.begin) (F.pre self.now.types) (F.post self.now.types) }
+        requires types { Nests (knot.ty A.reads E.reads) (length self.now.begin)
+            (F.pre self.now.types) (F.post self.now.types) }
         requires few { ahead input.old ≤ length self.now.begin }
-        ensures parses { Parses (reading.fn_inputs A.reads E.reads (knot.reads_below A.reads E.reads (length self.now.begin))) result input.old input.new }
+        ensures parses { Parses
+            (reading.fn_inputs A.reads E.reads (knot.reads_below A.reads E.reads (length self.now.begin)))
+            result input.old input.new }
         ensures fewer { ahead input.new ≤ ahead input.old }
     {
         let (paren_token, mut content) = open_parens(self.alloc, input)?;
@@ -73,9 +76,12 @@ impl<
     /// A pointer to a function by its parts, after its binder.
     #[tactic(auto, using(token_core::proofs::Suffixes::follows, syn_forms::proofs::nested_laws::Ahead::later), unfolding(crate::specs::ty::Reading::fn_ptr_parts))]
     fn fn_ptr_parts(&self, input: &mut ParseStream<'_>) -> Result<FnPtrParts<A, E>, Error>
-        requires types { Nests (knot.ty A.reads E.reads) (length self.now.begin) (F.pre self.now.types) (F.post self.now.types) }
+        requires types { Nests (knot.ty A.reads E.reads) (length self.now.begin)
+            (F.pre self.now.types) (F.post self.now.types) }
         requires few { ahead input.old ≤ length self.now.begin }
-        ensures parses { Parses (reading.fn_ptr_parts A.reads E.reads (knot.reads_below A.reads E.reads (length self.now.begin))) result input.old input.new }
+        ensures parses { Parses
+            (reading.fn_ptr_parts A.reads E.reads (knot.reads_below A.reads E.reads (length self.now.begin)))
+            result input.old input.new }
         ensures fewer { ahead input.new ≤ ahead input.old }
     {
         // boxed: a refusal then drops each by one call, where its options would be taken apart
@@ -92,9 +98,12 @@ impl<
         input: &mut ParseStream<'_>,
         lifetimes: Option<BoundLifetimesOf<GenericParamOf<A, E>>>,
     ) -> Result<TypeFnPtrOf<A, E>, Error>
-        requires types { Nests (knot.ty A.reads E.reads) (length self.now.begin) (F.pre self.now.types) (F.post self.now.types) }
+        requires types { Nests (knot.ty A.reads E.reads) (length self.now.begin)
+            (F.pre self.now.types) (F.post self.now.types) }
         requires few { ahead input.old ≤ length self.now.begin }
-        ensures parses { Parses (reading.fn_ptr_after A.reads E.reads (knot.reads_below A.reads E.reads (length self.now.begin)) lifetimes) result input.old input.new }
+        ensures parses { Parses
+            (reading.fn_ptr_after A.reads E.reads (knot.reads_below A.reads E.reads (length self.now.begin)) lifetimes)
+            result input.old input.new }
         ensures fewer { ahead input.new ≤ ahead input.old }
     {
         let parts = self.fn_ptr_parts(input)?;
@@ -109,10 +118,13 @@ impl<
         from: &Cursor<'_>,
         place: TypePlace,
     ) -> Result<TypeOf<A, E>, Error>
-        requires types { Nests (knot.ty A.reads E.reads) (length self.now.begin) (F.pre self.now.types) (F.post self.now.types) }
+        requires types { Nests (knot.ty A.reads E.reads) (length self.now.begin)
+            (F.pre self.now.types) (F.post self.now.types) }
         requires few { ahead input.old ≤ length self.now.begin }
         requires reached { IsReached (verbatim.position input.old) from.now }
-        ensures parses { Parses (reading.unsafe_binder (knot.reads_below A.reads E.reads (length self.now.begin)) from.now place) result input.old input.new }
+        ensures parses { Parses
+            (reading.unsafe_binder (knot.reads_below A.reads E.reads (length self.now.begin)) from.now place)
+            result input.old input.new }
         ensures fewer { ahead input.new ≤ ahead input.old }
     {
         parse_unsafe(self.alloc, input)?;
@@ -160,12 +172,17 @@ impl<
         from: &Cursor<'_>,
         lifetimes: Option<BoundLifetimesOf<GenericParamOf<A, E>>>,
     ) -> Result<TypeOf<A, E>, Error>
-        requires types { Nests (knot.ty A.reads E.reads) (length self.now.begin) (F.pre self.now.types) (F.post self.now.types) }
-        requires bounds { Nests (knot.bound A.reads E.reads) (length self.now.begin) (G.pre self.now.bounds) (G.post self.now.bounds) }
-        requires segments { Nests (knot.arguments_in A.reads E.reads) (length self.now.begin) (J.pre self.now.segments) (J.post self.now.segments) }
+        requires types { Nests (knot.ty A.reads E.reads) (length self.now.begin)
+            (F.pre self.now.types) (F.post self.now.types) }
+        requires bounds { Nests (knot.bound A.reads E.reads) (length self.now.begin)
+            (G.pre self.now.bounds) (G.post self.now.bounds) }
+        requires segments { Nests (knot.arguments_in A.reads E.reads) (length self.now.begin)
+            (J.pre self.now.segments) (J.post self.now.segments) }
         requires few { ahead input.old ≤ length self.now.begin }
         requires reached { IsReached (verbatim.position input.old) from.now }
-        ensures parses { Parses (reading.named_type A.reads E.reads (knot.reads_below A.reads E.reads (length self.now.begin)) place from.now lifetimes) result input.old input.new }
+        ensures parses { Parses (reading.named_type A.reads E.reads
+            (knot.reads_below A.reads E.reads (length self.now.begin)) place from.now lifetimes)
+            result input.old input.new }
         ensures fewer { ahead input.new ≤ ahead input.old }
     {
         if sees_unsafe_binder(input) {
@@ -224,13 +241,19 @@ impl<
         place: TypePlace,
         from: &Cursor<'_>,
     ) -> Result<TypeOf<A, E>, Error>
-        requires types { Nests (knot.ty A.reads E.reads) (length self.now.begin) (F.pre self.now.types) (F.post self.now.types) }
-        requires bounds { Nests (knot.bound A.reads E.reads) (length self.now.begin) (G.pre self.now.bounds) (G.post self.now.bounds) }
-        requires params { Nests (knot.param A.reads E.reads) (length self.now.begin) (H.pre self.now.params) (H.post self.now.params) }
-        requires segments { Nests (knot.arguments_in A.reads E.reads) (length self.now.begin) (J.pre self.now.segments) (J.post self.now.segments) }
+        requires types { Nests (knot.ty A.reads E.reads) (length self.now.begin)
+            (F.pre self.now.types) (F.post self.now.types) }
+        requires bounds { Nests (knot.bound A.reads E.reads) (length self.now.begin)
+            (G.pre self.now.bounds) (G.post self.now.bounds) }
+        requires params { Nests (knot.param A.reads E.reads) (length self.now.begin)
+            (H.pre self.now.params) (H.post self.now.params) }
+        requires segments { Nests (knot.arguments_in A.reads E.reads) (length self.now.begin)
+            (J.pre self.now.segments) (J.post self.now.segments) }
         requires few { ahead input.old ≤ length self.now.begin }
         requires reached { IsReached (verbatim.position input.old) from.now }
-        ensures parses { Parses (reading.bound_type A.reads E.reads (knot.reads_below A.reads E.reads (length self.now.begin)) place from.now) result input.old input.new }
+        ensures parses { Parses (reading.bound_type A.reads E.reads
+            (knot.reads_below A.reads E.reads (length self.now.begin)) place from.now)
+            result input.old input.new }
         ensures fewer { ahead input.new ≤ ahead input.old }
     {
         let lifetimes = self.binder(input)?;

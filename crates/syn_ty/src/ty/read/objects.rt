@@ -43,7 +43,9 @@ fn needs_trait<A: Attributes, E: Value>(
     kind: ErrorKind,
     from: Span,
 ) -> Result<Punctuated<TypeParamBoundOf<A, E>, Plus>, Error>
-    ensures reads { Reads (reading.needs (λ x. reading.trait_layer (out-TypeParamBoundOf A E x)) kind from bounds input.now) result input.now }
+    ensures reads { Reads
+        (reading.needs (λ x. reading.trait_layer (out-TypeParamBoundOf A E x)) kind from bounds input.now)
+        result input.now }
 {
     if !any_trait(&bounds) {
         return Err(refuse_since(alloc, kind, from, input));
@@ -92,9 +94,11 @@ impl<
     /// A bound of a trait object.
     #[tactic(auto, using(token_core::proofs::Suffixes::follows, syn_forms::proofs::nested_laws::Ahead::later))]
     fn object_bound(&self, input: &mut ParseStream<'_>) -> Result<TypeParamBoundOf<A, E>, Error>
-        requires bounds { Nests (knot.bound A.reads E.reads) (length self.now.begin) (G.pre self.now.bounds) (G.post self.now.bounds) }
+        requires bounds { Nests (knot.bound A.reads E.reads) (length self.now.begin)
+            (G.pre self.now.bounds) (G.post self.now.bounds) }
         requires few { ahead input.old < length self.now.begin }
-        ensures parses { Parses (knot.reads_below A.reads E.reads (length self.now.begin) (a_bound Object)) result input.old input.new }
+        ensures parses { Parses (knot.reads_below A.reads E.reads (length self.now.begin) (a_bound Object))
+            result input.old input.new }
         ensures fewer { ahead input.new ≤ ahead input.old }
     {
         self.bounds().value(input, BoundPlace::Object)
@@ -108,9 +112,12 @@ impl<
         plus: bool,
         first: TypeParamBoundOf<A, E>,
     ) -> Result<Punctuated<TypeParamBoundOf<A, E>, Plus>, Error>
-        requires bounds { Nests (knot.bound A.reads E.reads) (length self.now.begin) (G.pre self.now.bounds) (G.post self.now.bounds) }
+        requires bounds { Nests (knot.bound A.reads E.reads) (length self.now.begin)
+            (G.pre self.now.bounds) (G.post self.now.bounds) }
         requires few { ahead input.old ≤ length self.now.begin }
-        ensures parses { Parses (bounds_from (knot.reads_below A.reads E.reads (length self.now.begin) (a_bound Object)) false plus first) result input.old input.new }
+        ensures parses { Parses
+            (bounds_from (knot.reads_below A.reads E.reads (length self.now.begin) (a_bound Object)) false plus first)
+            result input.old input.new }
         ensures fewer { ahead input.new ≤ ahead input.old }
     {
         let end = Bounds {
@@ -130,9 +137,12 @@ impl<
         plus: bool,
         first: TypeParamBoundOf<A, E>,
     ) -> Result<Punctuated<TypeParamBoundOf<A, E>, Plus>, Error>
-        requires bounds { Nests (knot.bound A.reads E.reads) (length self.now.begin) (G.pre self.now.bounds) (G.post self.now.bounds) }
+        requires bounds { Nests (knot.bound A.reads E.reads) (length self.now.begin)
+            (G.pre self.now.bounds) (G.post self.now.bounds) }
         requires few { ahead input.old ≤ length self.now.begin }
-        ensures parses { Parses (reading.object_bounds (knot.reads_below A.reads E.reads (length self.now.begin)) from plus first) result input.old input.new }
+        ensures parses { Parses
+            (reading.object_bounds (knot.reads_below A.reads E.reads (length self.now.begin)) from plus first)
+            result input.old input.new }
         ensures fewer { ahead input.new ≤ ahead input.old }
     {
         let bounds = self.more_bounds(input, plus, first)?;
@@ -145,9 +155,11 @@ impl<
         &self,
         input: &mut ParseStream<'_>,
     ) -> Result<Punctuated<TypeParamBoundOf<A, E>, Plus>, Error>
-        requires bounds { Nests (knot.bound A.reads E.reads) (length self.now.begin) (G.pre self.now.bounds) (G.post self.now.bounds) }
+        requires bounds { Nests (knot.bound A.reads E.reads) (length self.now.begin)
+            (G.pre self.now.bounds) (G.post self.now.bounds) }
         requires few { ahead input.old ≤ length self.now.begin }
-        ensures parses { Parses (reading.lifetime_object (knot.reads_below A.reads E.reads (length self.now.begin))) result input.old input.new }
+        ensures parses { Parses (reading.lifetime_object (knot.reads_below A.reads E.reads (length self.now.begin)))
+            result input.old input.new }
         ensures fewer { ahead input.new ≤ ahead input.old }
     {
         let from = input.span();
@@ -162,9 +174,11 @@ impl<
         input: &mut ParseStream<'_>,
         plus: bool,
     ) -> Result<TypeOf<A, E>, Error>
-        requires bounds { Nests (knot.bound A.reads E.reads) (length self.now.begin) (G.pre self.now.bounds) (G.post self.now.bounds) }
+        requires bounds { Nests (knot.bound A.reads E.reads) (length self.now.begin)
+            (G.pre self.now.bounds) (G.post self.now.bounds) }
         requires few { ahead input.old ≤ length self.now.begin }
-        ensures parses { Parses (reading.dyn_type (knot.reads_below A.reads E.reads (length self.now.begin)) plus) result input.old input.new }
+        ensures parses { Parses (reading.dyn_type (knot.reads_below A.reads E.reads (length self.now.begin)) plus)
+            result input.old input.new }
         ensures fewer { ahead input.new ≤ ahead input.old }
     {
         let at = input.cursor();
@@ -183,9 +197,11 @@ impl<
         input: &mut ParseStream<'_>,
         plus: bool,
     ) -> Result<Punctuated<TypeParamBoundOf<A, E>, Plus>, Error>
-        requires bounds { Nests (knot.bound A.reads E.reads) (length self.now.begin) (G.pre self.now.bounds) (G.post self.now.bounds) }
+        requires bounds { Nests (knot.bound A.reads E.reads) (length self.now.begin)
+            (G.pre self.now.bounds) (G.post self.now.bounds) }
         requires few { ahead input.old < length self.now.begin }
-        ensures parses { Parses (reading.opaque_bounds (knot.reads_below A.reads E.reads (length self.now.begin)) plus) result input.old input.new }
+        ensures parses { Parses (reading.opaque_bounds (knot.reads_below A.reads E.reads (length self.now.begin)) plus)
+            result input.old input.new }
         ensures fewer { ahead input.new ≤ ahead input.old }
     {
         let end = Bounds { consts: true, plus };
@@ -200,9 +216,12 @@ impl<
         from: Span,
         plus: bool,
     ) -> Result<Punctuated<TypeParamBoundOf<A, E>, Plus>, Error>
-        requires bounds { Nests (knot.bound A.reads E.reads) (length self.now.begin) (G.pre self.now.bounds) (G.post self.now.bounds) }
+        requires bounds { Nests (knot.bound A.reads E.reads) (length self.now.begin)
+            (G.pre self.now.bounds) (G.post self.now.bounds) }
         requires few { ahead input.old < length self.now.begin }
-        ensures parses { Parses (reading.impl_bounds (knot.reads_below A.reads E.reads (length self.now.begin)) from plus) result input.old input.new }
+        ensures parses { Parses
+            (reading.impl_bounds (knot.reads_below A.reads E.reads (length self.now.begin)) from plus)
+            result input.old input.new }
         ensures fewer { ahead input.new ≤ ahead input.old }
     {
         let bounds = self.opaque_bounds(input, plus)?;
@@ -216,9 +235,11 @@ impl<
         input: &mut ParseStream<'_>,
         plus: bool,
     ) -> Result<TypeImplTraitOf<TypeParamBoundOf<A, E>, A>, Error>
-        requires bounds { Nests (knot.bound A.reads E.reads) (length self.now.begin) (G.pre self.now.bounds) (G.post self.now.bounds) }
+        requires bounds { Nests (knot.bound A.reads E.reads) (length self.now.begin)
+            (G.pre self.now.bounds) (G.post self.now.bounds) }
         requires few { ahead input.old ≤ length self.now.begin }
-        ensures parses { Parses (reading.impl_trait (knot.reads_below A.reads E.reads (length self.now.begin)) plus) result input.old input.new }
+        ensures parses { Parses (reading.impl_trait (knot.reads_below A.reads E.reads (length self.now.begin)) plus)
+            result input.old input.new }
         ensures fewer { ahead input.new ≤ ahead input.old }
     {
         let from = input.span();
@@ -234,9 +255,12 @@ impl<
         input: &mut ParseStream<'_>,
         first: TypeParamBoundOf<A, E>,
     ) -> Result<TypeOf<A, E>, Error>
-        requires bounds { Nests (knot.bound A.reads E.reads) (length self.now.begin) (G.pre self.now.bounds) (G.post self.now.bounds) }
+        requires bounds { Nests (knot.bound A.reads E.reads) (length self.now.begin)
+            (G.pre self.now.bounds) (G.post self.now.bounds) }
         requires few { ahead input.old ≤ length self.now.begin }
-        ensures parses { Parses (reading.each_object_from (knot.reads_below A.reads E.reads (length self.now.begin)) first) result input.old input.new }
+        ensures parses { Parses
+            (reading.each_object_from (knot.reads_below A.reads E.reads (length self.now.begin)) first)
+            result input.old input.new }
         ensures fewer { ahead input.new ≤ ahead input.old }
     {
         let bounds = self
@@ -254,9 +278,12 @@ impl<
         paren_token: Paren,
         elem: Boxed<TypeOf<A, E>>,
     ) -> Result<TypeOf<A, E>, Error>
-        requires bounds { Nests (knot.bound A.reads E.reads) (length self.now.begin) (G.pre self.now.bounds) (G.post self.now.bounds) }
+        requires bounds { Nests (knot.bound A.reads E.reads) (length self.now.begin)
+            (G.pre self.now.bounds) (G.post self.now.bounds) }
         requires few { ahead input.old ≤ length self.now.begin }
-        ensures parses { Parses (reading.paren_or_object (knot.reads_below A.reads E.reads (length self.now.begin)) plus paren_token elem (reading.first_bound paren_token elem)) result input.old input.new }
+        ensures parses { Parses (reading.paren_or_object (knot.reads_below A.reads E.reads (length self.now.begin))
+            plus paren_token elem (reading.first_bound paren_token elem))
+            result input.old input.new }
         ensures fewer { ahead input.new ≤ ahead input.old }
     {
         if !plus_follows(input, plus) {
@@ -284,9 +311,12 @@ impl<
             TraitBoundOf<A, E>,
         >,
     ) -> Result<TypeOf<A, E>, Error>
-        requires bounds { Nests (knot.bound A.reads E.reads) (length self.now.begin) (G.pre self.now.bounds) (G.post self.now.bounds) }
+        requires bounds { Nests (knot.bound A.reads E.reads) (length self.now.begin)
+            (G.pre self.now.bounds) (G.post self.now.bounds) }
         requires few { ahead input.old ≤ length self.now.begin }
-        ensures parses { Parses (reading.of_parens (knot.reads_below A.reads E.reads (length self.now.begin)) plus paren_token held) result input.old input.new }
+        ensures parses { Parses
+            (reading.of_parens (knot.reads_below A.reads E.reads (length self.now.begin)) plus paren_token held)
+            result input.old input.new }
         ensures fewer { ahead input.new ≤ ahead input.old }
     {
         match held {
@@ -351,12 +381,17 @@ impl<
         ParenContent<TypeOf<A, E>, Punctuated<TypeParamBoundOf<A, E>, Plus>, TraitBoundOf<A, E>>,
         Error,
     >
-        requires types { Nests (knot.ty A.reads E.reads) (length self.now.begin) (F.pre self.now.types) (F.post self.now.types) }
-        requires bounds { Nests (knot.bound A.reads E.reads) (length self.now.begin) (G.pre self.now.bounds) (G.post self.now.bounds) }
-        requires params { Nests (knot.param A.reads E.reads) (length self.now.begin) (H.pre self.now.params) (H.post self.now.params) }
-        requires segments { Nests (knot.arguments_in A.reads E.reads) (length self.now.begin) (J.pre self.now.segments) (J.post self.now.segments) }
+        requires types { Nests (knot.ty A.reads E.reads) (length self.now.begin)
+            (F.pre self.now.types) (F.post self.now.types) }
+        requires bounds { Nests (knot.bound A.reads E.reads) (length self.now.begin)
+            (G.pre self.now.bounds) (G.post self.now.bounds) }
+        requires params { Nests (knot.param A.reads E.reads) (length self.now.begin)
+            (H.pre self.now.params) (H.post self.now.params) }
+        requires segments { Nests (knot.arguments_in A.reads E.reads) (length self.now.begin)
+            (J.pre self.now.segments) (J.post self.now.segments) }
         requires few { ahead input.old < length self.now.begin }
-        ensures parses { Parses (reading.paren_content (knot.reads_below A.reads E.reads (length self.now.begin))) result input.old input.new }
+        ensures parses { Parses (reading.paren_content (knot.reads_below A.reads E.reads (length self.now.begin)))
+            result input.old input.new }
     {
         if input.is_empty() {
             return Ok(ParenContent::Elements(Punctuated::new(self.alloc)));
@@ -386,12 +421,17 @@ impl<
         ),
         Error,
     >
-        requires types { Nests (knot.ty A.reads E.reads) (length self.now.begin) (F.pre self.now.types) (F.post self.now.types) }
-        requires bounds { Nests (knot.bound A.reads E.reads) (length self.now.begin) (G.pre self.now.bounds) (G.post self.now.bounds) }
-        requires params { Nests (knot.param A.reads E.reads) (length self.now.begin) (H.pre self.now.params) (H.post self.now.params) }
-        requires segments { Nests (knot.arguments_in A.reads E.reads) (length self.now.begin) (J.pre self.now.segments) (J.post self.now.segments) }
+        requires types { Nests (knot.ty A.reads E.reads) (length self.now.begin)
+            (F.pre self.now.types) (F.post self.now.types) }
+        requires bounds { Nests (knot.bound A.reads E.reads) (length self.now.begin)
+            (G.pre self.now.bounds) (G.post self.now.bounds) }
+        requires params { Nests (knot.param A.reads E.reads) (length self.now.begin)
+            (H.pre self.now.params) (H.post self.now.params) }
+        requires segments { Nests (knot.arguments_in A.reads E.reads) (length self.now.begin)
+            (J.pre self.now.segments) (J.post self.now.segments) }
         requires few { ahead input.old ≤ length self.now.begin }
-        ensures parses { Parses (reading.parens (knot.reads_below A.reads E.reads (length self.now.begin))) result input.old input.new }
+        ensures parses { Parses (reading.parens (knot.reads_below A.reads E.reads (length self.now.begin)))
+            result input.old input.new }
         ensures fewer { ahead input.new ≤ ahead input.old }
     {
         let (paren_token, mut content) = open_parens(self.alloc, input)?;
@@ -407,12 +447,17 @@ impl<
         input: &mut ParseStream<'_>,
         plus: bool,
     ) -> Result<TypeOf<A, E>, Error>
-        requires types { Nests (knot.ty A.reads E.reads) (length self.now.begin) (F.pre self.now.types) (F.post self.now.types) }
-        requires bounds { Nests (knot.bound A.reads E.reads) (length self.now.begin) (G.pre self.now.bounds) (G.post self.now.bounds) }
-        requires params { Nests (knot.param A.reads E.reads) (length self.now.begin) (H.pre self.now.params) (H.post self.now.params) }
-        requires segments { Nests (knot.arguments_in A.reads E.reads) (length self.now.begin) (J.pre self.now.segments) (J.post self.now.segments) }
+        requires types { Nests (knot.ty A.reads E.reads) (length self.now.begin)
+            (F.pre self.now.types) (F.post self.now.types) }
+        requires bounds { Nests (knot.bound A.reads E.reads) (length self.now.begin)
+            (G.pre self.now.bounds) (G.post self.now.bounds) }
+        requires params { Nests (knot.param A.reads E.reads) (length self.now.begin)
+            (H.pre self.now.params) (H.post self.now.params) }
+        requires segments { Nests (knot.arguments_in A.reads E.reads) (length self.now.begin)
+            (J.pre self.now.segments) (J.post self.now.segments) }
         requires few { ahead input.old ≤ length self.now.begin }
-        ensures parses { Parses (reading.paren_type (knot.reads_below A.reads E.reads (length self.now.begin)) plus) result input.old input.new }
+        ensures parses { Parses (reading.paren_type (knot.reads_below A.reads E.reads (length self.now.begin)) plus)
+            result input.old input.new }
         ensures fewer { ahead input.new ≤ ahead input.old }
     {
         let (paren_token, held) = self.parens(input)?;

@@ -308,7 +308,8 @@ fn unqualified<A: Attributes, E: Value>(
     ty: TypePathOf<A, E>,
 ) -> Result<TypeParamBoundOf<A, E>, TypePathOf<A, E>>
     ensures ok { IfOk result (λ bound. reading.unqualified_layer paren_token (out-TypePathOf A E ty) ≡ Some bound) }
-    ensures err { IfErr result (λ back. (reading.unqualified_layer paren_token (out-TypePathOf A E ty) ≡ None) × (back ≡ ty)) }
+    ensures err { IfErr result
+        (λ back. (reading.unqualified_layer paren_token (out-TypePathOf A E ty) ≡ None) × (back ≡ ty)) }
 {
     let TypePathOf { attrs, qself, path } = ty;
     match qself {
@@ -348,7 +349,8 @@ fn lone_bound<A: Attributes, E: Value>(
     object: TypeTraitObjectOf<TypeParamBoundOf<A, E>, A>,
 ) -> Result<TypeParamBoundOf<A, E>, TypeTraitObjectOf<TypeParamBoundOf<A, E>, A>>
     ensures ok { IfOk result (λ bound. reading.lone_bound paren_token object.dyn_token object.bounds ≡ Some bound) }
-    ensures err { IfErr result (λ back. (reading.lone_bound paren_token object.dyn_token object.bounds ≡ None) × (back ≡ object)) }
+    ensures err { IfErr result
+        (λ back. (reading.lone_bound paren_token object.dyn_token object.bounds ≡ None) × (back ≡ object)) }
 {
     if !is_lone(&object) {
         return Err(object);

@@ -68,9 +68,12 @@ impl<
         lifetimes: Option<BoundLifetimesOf<GenericParamOf<A, E>>>,
         path: PathOf<PathArgumentsOf<A, E>>,
     ) -> Result<TypeOf<A, E>, Error>
-        requires bounds { Nests (knot.bound A.reads E.reads) (length self.now.begin) (G.pre self.now.bounds) (G.post self.now.bounds) }
+        requires bounds { Nests (knot.bound A.reads E.reads) (length self.now.begin)
+            (G.pre self.now.bounds) (G.post self.now.bounds) }
         requires few { ahead input.old ≤ length self.now.begin }
-        ensures parses { Parses (reading.path_object (knot.reads_below A.reads E.reads (length self.now.begin)) plus lifetimes path) result input.old input.new }
+        ensures parses { Parses
+            (reading.path_object (knot.reads_below A.reads E.reads (length self.now.begin)) plus lifetimes path)
+            result input.old input.new }
         ensures fewer { ahead input.new ≤ ahead input.old }
     {
         let first = TypeParamBoundOf::Trait(named_bound(lifetimes, None, path));
@@ -87,9 +90,12 @@ impl<
         lifetimes: Option<BoundLifetimesOf<GenericParamOf<A, E>>>,
         path: PathOf<PathArgumentsOf<A, E>>,
     ) -> Result<TypeOf<A, E>, Error>
-        requires bounds { Nests (knot.bound A.reads E.reads) (length self.now.begin) (G.pre self.now.bounds) (G.post self.now.bounds) }
+        requires bounds { Nests (knot.bound A.reads E.reads) (length self.now.begin)
+            (G.pre self.now.bounds) (G.post self.now.bounds) }
         requires few { ahead input.old ≤ length self.now.begin }
-        ensures parses { Parses (reading.after_path (knot.reads_below A.reads E.reads (length self.now.begin)) plus lifetimes path) result input.old input.new }
+        ensures parses { Parses
+            (reading.after_path (knot.reads_below A.reads E.reads (length self.now.begin)) plus lifetimes path)
+            result input.old input.new }
         ensures fewer { ahead input.new ≤ ahead input.old }
     {
         if sees_call(input) & path.is_mod_style() {
@@ -111,9 +117,12 @@ impl<
         qself: Option<QSelfOf<TypeOf<A, E>>>,
         path: PathOf<PathArgumentsOf<A, E>>,
     ) -> Result<TypeOf<A, E>, Error>
-        requires bounds { Nests (knot.bound A.reads E.reads) (length self.now.begin) (G.pre self.now.bounds) (G.post self.now.bounds) }
+        requires bounds { Nests (knot.bound A.reads E.reads) (length self.now.begin)
+            (G.pre self.now.bounds) (G.post self.now.bounds) }
         requires few { ahead input.old ≤ length self.now.begin }
-        ensures parses { Parses (reading.path_or_object (knot.reads_below A.reads E.reads (length self.now.begin)) plus lifetimes (qself, path)) result input.old input.new }
+        ensures parses { Parses (reading.path_or_object (knot.reads_below A.reads E.reads (length self.now.begin))
+            plus lifetimes (qself, path))
+            result input.old input.new }
         ensures fewer { ahead input.new ≤ ahead input.old }
     {
         match qself {
@@ -149,9 +158,12 @@ impl<
         group_token: GroupToken,
         ty: TypeOf<A, E>,
     ) -> Result<TypeOf<A, E>, Error>
-        requires segments { Nests (knot.arguments_in A.reads E.reads) (length self.now.begin) (J.pre self.now.segments) (J.post self.now.segments) }
+        requires segments { Nests (knot.arguments_in A.reads E.reads) (length self.now.begin)
+            (J.pre self.now.segments) (J.post self.now.segments) }
         requires few { ahead input.old ≤ length self.now.begin }
-        ensures parses { Parses (reading.group_with_segments (knot.reads_below A.reads E.reads (length self.now.begin)) group_token ty (reading.as_path ty)) result input.old input.new }
+        ensures parses { Parses (reading.group_with_segments (knot.reads_below A.reads E.reads (length self.now.begin))
+            group_token ty (reading.as_path ty))
+            result input.old input.new }
         ensures fewer { ahead input.new ≤ ahead input.old }
     {
         match as_path(ty) {
@@ -175,9 +187,11 @@ impl<
         input: &mut ParseStream<'_>,
         ty: TypePathOf<A, E>,
     ) -> Result<TypeOf<A, E>, Error>
-        requires segments { Nests (knot.arguments_in A.reads E.reads) (length self.now.begin) (J.pre self.now.segments) (J.post self.now.segments) }
+        requires segments { Nests (knot.arguments_in A.reads E.reads) (length self.now.begin)
+            (J.pre self.now.segments) (J.post self.now.segments) }
         requires few { ahead input.old < length self.now.begin }
-        ensures parses { Parses (reading.with_arguments (knot.reads_below A.reads E.reads (length self.now.begin)) ty) result input.old input.new }
+        ensures parses { Parses (reading.with_arguments (knot.reads_below A.reads E.reads (length self.now.begin)) ty)
+            result input.old input.new }
         ensures fewer { ahead input.new ≤ ahead input.old }
     {
         let TypePathOf { attrs, qself, path } = ty;
@@ -195,9 +209,12 @@ impl<
         group_token: GroupToken,
         ty: TypeOf<A, E>,
     ) -> Result<TypeOf<A, E>, Error>
-        requires segments { Nests (knot.arguments_in A.reads E.reads) (length self.now.begin) (J.pre self.now.segments) (J.post self.now.segments) }
+        requires segments { Nests (knot.arguments_in A.reads E.reads) (length self.now.begin)
+            (J.pre self.now.segments) (J.post self.now.segments) }
         requires few { ahead input.old < length self.now.begin }
-        ensures parses { Parses (reading.group_with_arguments (knot.reads_below A.reads E.reads (length self.now.begin)) group_token ty (reading.as_path ty)) result input.old input.new }
+        ensures parses { Parses (reading.group_with_arguments (knot.reads_below A.reads E.reads (length self.now.begin))
+            group_token ty (reading.as_path ty))
+            result input.old input.new }
         ensures fewer { ahead input.new ≤ ahead input.old }
     {
         let ty = match as_path(ty) {
@@ -221,9 +238,12 @@ impl<
         group_token: GroupToken,
         elem: Boxed<TypeOf<A, E>>,
     ) -> Result<TypeOf<A, E>, Error>
-        requires segments { Nests (knot.arguments_in A.reads E.reads) (length self.now.begin) (J.pre self.now.segments) (J.post self.now.segments) }
+        requires segments { Nests (knot.arguments_in A.reads E.reads) (length self.now.begin)
+            (J.pre self.now.segments) (J.post self.now.segments) }
         requires few { ahead input.old < length self.now.begin }
-        ensures parses { Parses (reading.group_without_segments (knot.reads_below A.reads E.reads (length self.now.begin)) group_token elem) result input.old input.new }
+        ensures parses { Parses
+            (reading.group_without_segments (knot.reads_below A.reads E.reads (length self.now.begin)) group_token elem)
+            result input.old input.new }
         ensures fewer { ahead input.new ≤ ahead input.old }
     {
         if sees_further_arguments(input) {
@@ -240,9 +260,12 @@ impl<
         group_token: GroupToken,
         elem: Boxed<TypeOf<A, E>>,
     ) -> Result<TypeOf<A, E>, Error>
-        requires segments { Nests (knot.arguments_in A.reads E.reads) (length self.now.begin) (J.pre self.now.segments) (J.post self.now.segments) }
+        requires segments { Nests (knot.arguments_in A.reads E.reads) (length self.now.begin)
+            (J.pre self.now.segments) (J.post self.now.segments) }
         requires few { ahead input.old < length self.now.begin }
-        ensures parses { Parses (reading.after_group (knot.reads_below A.reads E.reads (length self.now.begin)) (group_token, elem)) result input.old input.new }
+        ensures parses { Parses
+            (reading.after_group (knot.reads_below A.reads E.reads (length self.now.begin)) (group_token, elem))
+            result input.old input.new }
         ensures fewer { ahead input.new ≤ ahead input.old }
     {
         if sees_further_segment(input) {
@@ -277,10 +300,13 @@ impl<
     /// A type in an invisible group, and what goes on with it (syn's `ambig_ty` at a group).
     #[tactic(auto, using(token_core::proofs::Suffixes::follows, syn_forms::proofs::nested_laws::Ahead::later), unfolding(crate::specs::ty::Reading::group_type))]
     pub(crate) fn group_type(&self, input: &mut ParseStream<'_>) -> Result<TypeOf<A, E>, Error>
-        requires types { Nests (knot.ty A.reads E.reads) (length self.now.begin) (F.pre self.now.types) (F.post self.now.types) }
-        requires segments { Nests (knot.arguments_in A.reads E.reads) (length self.now.begin) (J.pre self.now.segments) (J.post self.now.segments) }
+        requires types { Nests (knot.ty A.reads E.reads) (length self.now.begin)
+            (F.pre self.now.types) (F.post self.now.types) }
+        requires segments { Nests (knot.arguments_in A.reads E.reads) (length self.now.begin)
+            (J.pre self.now.segments) (J.post self.now.segments) }
         requires few { ahead input.old ≤ length self.now.begin }
-        ensures parses { Parses (reading.group_type (knot.reads_below A.reads E.reads (length self.now.begin))) result input.old input.new }
+        ensures parses { Parses (reading.group_type (knot.reads_below A.reads E.reads (length self.now.begin)))
+            result input.old input.new }
         ensures fewer { ahead input.new ≤ ahead input.old }
     {
         let (group_token, elem) = self.types().in_invisible(input, TypePlace::Plus)?;

@@ -44,9 +44,12 @@ impl<
         input: &mut ParseStream<'_>,
         plus: bool,
     ) -> Result<TypeOf<A, E>, Error>
-        requires bounds { Nests (knot.bound A.reads E.reads) (length self.now.begin) (G.pre self.now.bounds) (G.post self.now.bounds) }
+        requires bounds { Nests (knot.bound A.reads E.reads) (length self.now.begin)
+            (G.pre self.now.bounds) (G.post self.now.bounds) }
         requires few { ahead input.old ≤ length self.now.begin }
-        ensures parses { Parses (reading.by_last_tokens A.reads E.reads (knot.reads_below A.reads E.reads (length self.now.begin)) plus) result input.old input.new }
+        ensures parses { Parses
+            (reading.by_last_tokens A.reads E.reads (knot.reads_below A.reads E.reads (length self.now.begin)) plus)
+            result input.old input.new }
         ensures fewer { ahead input.new ≤ ahead input.old }
     {
         if input.peek::<Not>() {
@@ -95,10 +98,14 @@ impl<
         input: &mut ParseStream<'_>,
         plus: bool,
     ) -> Result<TypeOf<A, E>, Error>
-        requires types { Nests (knot.ty A.reads E.reads) (length self.now.begin) (F.pre self.now.types) (F.post self.now.types) }
-        requires bounds { Nests (knot.bound A.reads E.reads) (length self.now.begin) (G.pre self.now.bounds) (G.post self.now.bounds) }
+        requires types { Nests (knot.ty A.reads E.reads) (length self.now.begin)
+            (F.pre self.now.types) (F.post self.now.types) }
+        requires bounds { Nests (knot.bound A.reads E.reads) (length self.now.begin)
+            (G.pre self.now.bounds) (G.post self.now.bounds) }
         requires few { ahead input.old ≤ length self.now.begin }
-        ensures parses { Parses (reading.by_token A.reads E.reads (knot.reads_below A.reads E.reads (length self.now.begin)) plus) result input.old input.new }
+        ensures parses { Parses
+            (reading.by_token A.reads E.reads (knot.reads_below A.reads E.reads (length self.now.begin)) plus)
+            result input.old input.new }
         ensures fewer { ahead input.new ≤ ahead input.old }
     {
         if input.peek::<Dyn>() {
@@ -159,13 +166,19 @@ impl<
         place: TypePlace,
         from: &Cursor<'_>,
     ) -> Result<TypeOf<A, E>, Error>
-        requires types { Nests (knot.ty A.reads E.reads) (length self.now.begin) (F.pre self.now.types) (F.post self.now.types) }
-        requires bounds { Nests (knot.bound A.reads E.reads) (length self.now.begin) (G.pre self.now.bounds) (G.post self.now.bounds) }
-        requires params { Nests (knot.param A.reads E.reads) (length self.now.begin) (H.pre self.now.params) (H.post self.now.params) }
-        requires segments { Nests (knot.arguments_in A.reads E.reads) (length self.now.begin) (J.pre self.now.segments) (J.post self.now.segments) }
+        requires types { Nests (knot.ty A.reads E.reads) (length self.now.begin)
+            (F.pre self.now.types) (F.post self.now.types) }
+        requires bounds { Nests (knot.bound A.reads E.reads) (length self.now.begin)
+            (G.pre self.now.bounds) (G.post self.now.bounds) }
+        requires params { Nests (knot.param A.reads E.reads) (length self.now.begin)
+            (H.pre self.now.params) (H.post self.now.params) }
+        requires segments { Nests (knot.arguments_in A.reads E.reads) (length self.now.begin)
+            (J.pre self.now.segments) (J.post self.now.segments) }
         requires few { ahead input.old ≤ length self.now.begin }
         requires reached { IsReached (verbatim.position input.old) from.now }
-        ensures parses { Parses (reading.unbound_type A.reads E.reads (knot.reads_below A.reads E.reads (length self.now.begin)) place from.now) result input.old input.new }
+        ensures parses { Parses (reading.unbound_type A.reads E.reads
+            (knot.reads_below A.reads E.reads (length self.now.begin)) place from.now)
+            result input.old input.new }
         ensures fewer { ahead input.new ≤ ahead input.old }
     {
         let plus = place.allows_plus();
@@ -188,12 +201,18 @@ impl<
         input: &mut ParseStream<'_>,
         place: TypePlace,
     ) -> Result<TypeOf<A, E>, Error>
-        requires types { Nests (knot.ty A.reads E.reads) (length self.now.begin) (F.pre self.now.types) (F.post self.now.types) }
-        requires bounds { Nests (knot.bound A.reads E.reads) (length self.now.begin) (G.pre self.now.bounds) (G.post self.now.bounds) }
-        requires params { Nests (knot.param A.reads E.reads) (length self.now.begin) (H.pre self.now.params) (H.post self.now.params) }
-        requires segments { Nests (knot.arguments_in A.reads E.reads) (length self.now.begin) (J.pre self.now.segments) (J.post self.now.segments) }
+        requires types { Nests (knot.ty A.reads E.reads) (length self.now.begin)
+            (F.pre self.now.types) (F.post self.now.types) }
+        requires bounds { Nests (knot.bound A.reads E.reads) (length self.now.begin)
+            (G.pre self.now.bounds) (G.post self.now.bounds) }
+        requires params { Nests (knot.param A.reads E.reads) (length self.now.begin)
+            (H.pre self.now.params) (H.post self.now.params) }
+        requires segments { Nests (knot.arguments_in A.reads E.reads) (length self.now.begin)
+            (J.pre self.now.segments) (J.post self.now.segments) }
         requires few { ahead input.old ≤ length self.now.begin }
-        ensures parses { Parses (reading.type_step A.reads E.reads (knot.reads_below A.reads E.reads (length self.now.begin)) place) result input.old input.new }
+        ensures parses { Parses
+            (reading.type_step A.reads E.reads (knot.reads_below A.reads E.reads (length self.now.begin)) place)
+            result input.old input.new }
         ensures fewer { ahead input.new ≤ ahead input.old }
     {
         if input.peek::<GroupToken>() {

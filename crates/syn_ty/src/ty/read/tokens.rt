@@ -255,7 +255,11 @@ pub(crate) fn parse_builtin_type<A, E>(
 
 /// Where neither a path nor a pointer to a function follows a binder.
 pub(crate) fn no_bound_type(alloc: Global, input: &ParseStream<'_>) -> Error
-    ensures { Made result (unmet (record { input = forked input.now; missing = choices.an_ident ∷ choices.a_fn ∷ choices.an_unsafe ∷ choices.an_extern ∷ choices.a_super ∷ choices.a_self_value ∷ choices.a_self_type ∷ choices.a_crate ∷ [] })) }
+    ensures { Made result (unmet (record {
+      input = forked input.now;
+      missing = choices.an_ident ∷ choices.a_fn ∷ choices.an_unsafe ∷ choices.an_extern ∷ choices.a_super
+          ∷ choices.a_self_value ∷ choices.a_self_type ∷ choices.a_crate ∷ [];
+    })) }
 {
     let mut look = input.lookahead1();
     look.note::<Ident>();
@@ -271,7 +275,12 @@ pub(crate) fn no_bound_type(alloc: Global, input: &ParseStream<'_>) -> Error
 
 /// Where no type begins.
 pub(crate) fn no_type(alloc: Global, input: &ParseStream<'_>) -> Error
-    ensures { Made result (unmet (record { input = forked input.now; missing = choices.a_for ∷ choices.a_paren ∷ choices.an_unsafe ∷ choices.a_fn ∷ choices.an_extern ∷ choices.an_ident ∷ choices.a_sep ∷ choices.a_lt ∷ choices.a_dyn ∷ choices.a_bracket ∷ choices.a_star ∷ choices.an_and ∷ choices.a_bang ∷ choices.an_impl ∷ choices.an_underscore ∷ choices.a_lifetime ∷ [] })) }
+    ensures { Made result (unmet (record {
+      input = forked input.now;
+      missing = choices.a_for ∷ choices.a_paren ∷ choices.an_unsafe ∷ choices.a_fn ∷ choices.an_extern
+          ∷ choices.an_ident ∷ choices.a_sep ∷ choices.a_lt ∷ choices.a_dyn ∷ choices.a_bracket ∷ choices.a_star
+          ∷ choices.an_and ∷ choices.a_bang ∷ choices.an_impl ∷ choices.an_underscore ∷ choices.a_lifetime ∷ [];
+    })) }
 {
     let mut look = input.lookahead1();
     look.note::<For>();
