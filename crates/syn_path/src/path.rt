@@ -421,9 +421,9 @@ pub fn parse_leading(alloc: Global, input: &mut ParseStream<'_>) -> Result<Optio
     input.parse_option::<PathSep>(alloc)
 }
 
-/// Whether a segment of mod style begins here.
+/// Whether a segment of mod style begins here: no keyword, or `super`, `self`, `Self` or `crate`.
 #[tactic(auto, using(crate::proofs::path_laws::Turns::or_words))]
-fn begins_mod_segment(input: &ParseStream<'_>) -> bool
+pub fn begins_mod_segment(input: &ParseStream<'_>) -> bool
     ensures { result ≡ sees_word is_mod_word input.now.rest }
 {
     // all tested, so that the answer is one value
@@ -439,16 +439,6 @@ fn begins_segment(input: &ParseStream<'_>, style: SegmentStyle) -> bool
     match style {
         SegmentStyle::Mod => begins_mod_segment(input),
         SegmentStyle::Nested => Ident::peek_any(input),
-    }
-}
-
-/// Whether a path of this style goes on with a `::`.
-fn goes_on(input: &ParseStream<'_>, style: SegmentStyle) -> bool
-    ensures { result ≡ reading.goes_on style input.now.rest }
-{
-    match style {
-        SegmentStyle::Mod => input.peek::<PathSep>(),
-        SegmentStyle::Nested => input.peek::<PathSep>(),
     }
 }
 
@@ -518,7 +508,7 @@ fn parse_bare_segments<A: Arguments>(
     'turn: loop {
         let segment = parse_bare_segment(alloc, input, style, segments.is_empty())?;
         segments.push_value(segment)?;
-        if !goes_on(input, style) {
+        if !input.peek::<PathSep>() {
             return Ok(segments);
         }
         segments.push_punct(input.parse::<PathSep>(alloc)?)?;

@@ -4,8 +4,7 @@
 ghost use Rattle.std.specs.Prelude.{◌≡◌, ◌++◌, OnOk, OnErr};
 ghost use Rattle.token_core.specs.Trees.{trees};
 ghost use Rattle.token_core.specs.Prints.{Extends};
-ghost use Rattle.token_core.specs.Reads.{Reads, Follows, sees_word};
-ghost use Rattle.syn_path.specs.path.Spelling.{is_mod_word};
+ghost use Rattle.token_core.specs.Reads.{Reads, Follows};
 ghost use Rattle.syn_sample.specs.sample.Parts as spec;
 ghost use Rattle.syn_sample.specs.sample.Reading as reading;
 ghost use Rattle.syn_sample.specs.sample.Printing as printing;
@@ -15,8 +14,9 @@ ghost use Rattle.syn_sample.specs.sample.Bare as bare;
 ghost use Rattle.syn_sample.specs.sample.Aside as aside;
 
 use std::alloc::{AllocError, Global};
+use syn_path::path::begins_mod_segment;
 use syn_path::supplied::{Place, Subtree};
-use token_core::token::{Crate, Paren, PathSep, Plus, SelfType, SelfValue, Semi, Super};
+use token_core::token::{Paren, PathSep, Plus, Semi};
 use token_core::{Error, Ident, Lit, Parse, ParseStream, Punctuated, ToTokens, Token, TokenStream};
 
 /// What stands where an expression may stand.
@@ -49,24 +49,13 @@ pub struct ModPath {
 
 // ---- reads
 
-/// Whether an identifier of a path is here.
-#[tactic(auto, using(syn_path::proofs::path_laws::Turns::or_words))]
-fn begins_segment(input: &ParseStream<'_>) -> bool
-    ensures { result ≡ sees_word is_mod_word input.now.rest }
-{
-    // all tested, so that the answer is one value
-    input.peek::<Ident>()
-        | (input.peek::<Super>()
-            | (input.peek::<SelfValue>() | (input.peek::<SelfType>() | input.peek::<Crate>())))
-}
-
 /// An identifier of a path: no keyword, or `super`, `self`, `Self` or `crate`.
 #[tactic(auto, using(token_core::proofs::Suffixes::follows), unfolding(crate::specs::sample::Reading::segment))]
 fn read_segment(alloc: Global, input: &mut ParseStream<'_>) -> Result<Ident, Error>
     ensures reads { Reads (reading.segment input.old) result input.new }
     ensures within { Follows input.old input.new }
 {
-    if begins_segment(input) {
+    if begins_mod_segment(input) {
         return Ok(Ident::parse_any(alloc, input)?);
     }
     Err(input.expected(alloc, Ident::display()))

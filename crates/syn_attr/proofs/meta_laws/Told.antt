@@ -32,7 +32,7 @@ use Rattle.token_core.proofs.Took.{at}
 use Rattle.token_core.proofs.Turns.{same_pair, size_suffix, size_word}
 use Rattle.syn_path.specs.declared.path.SegmentStyle.TheVariants.{Nested}
 use Rattle.syn_path.specs.path.Paths.{Sep, ModPath, ModSegment, last_span, nothing, path_of, segment_of}
-use Rattle.syn_path.specs.path.Reading.{bare_path, bare_segment, bare_segments, begins, goes_on, leading, nested, no_property, no_segment, sees_sep, sep}
+use Rattle.syn_path.specs.path.Reading.{bare_path, bare_segment, bare_segments, begins, leading, nested, no_property, no_segment, sees_sep, sep}
 use Rattle.syn_path.specs.path.Spelling.{sep_at, sep_chars}
 use Rattle.syn_path.specs.path.Spelling as paths
 use Rattle.syn_path.specs.Took.{TookOne}
@@ -287,7 +287,7 @@ no_first_word l k (another h w n) i r e = w i r e
 -- ---- segments
 
 abbrev Goes : ℕ → Bool → Reader (Many ModSegment Sep)
-Goes = joined_from (bare_segment nothing Nested) (goes_on Nested) sep
+Goes = joined_from (bare_segment nothing Nested) sees_sep sep
 
 last_any : (all : List ModSegment) (seps : List Sep) (l r : Toks) (e g : Span) → AreSegments all seps l r → last_span all e ≡ last_span all g
 last_any all seps l r e g (last_segment h) = refl
@@ -297,13 +297,13 @@ segments_read : (n : ℕ) (b : Bool) (all : List ModSegment) (seps : List Sep) (
     Goes n b (at l f e sc) ≡ Ok ((all, seps), at r f (last_span all e) sc)
 segments_read zero b all seps l r f e sc h i s = absurd (omega (arith, h))
 segments_read (suc n) b all seps l r f e sc h (last_segment {i = i} w) s =
-    link _ (segment_there b (at l f e sc) i r w) (chosen (goes_on Nested r) false _ _ (at r f i.span sc) _ (sep_none r s) refl)
+    link _ (segment_there b (at l f e sc) i r w) (chosen (sees_sep r) false _ _ (at r f i.span sc) _ (sep_none r s) refl)
 segments_read (suc n) b all seps l r f e sc h (more_segments {i = i} {p = p} {all = xs} {seps = ps} {m = m} {n = k} w c more) s =
     let z = sep_reads p m k f i.span sc c in
     let a = word_size i l m w in
     let d = sep_size p m k c in
     let q = segments_read n false xs ps k r f z.last sc (omega (arith, h, a, d)) more s in
-    link _ (segment_there b (at l f e sc) i m w) (chosen (goes_on Nested m) true _ _ (at m f i.span sc) _ (sep_there p m k c) (link _ z.reads (link _ q refl)))
+    link _ (segment_there b (at l f e sc) i m w) (chosen (sees_sep m) true _ _ (at m f i.span sc) _ (sep_there p m k c) (link _ z.reads (link _ q refl)))
     ∙ ap (λ y. Ok ((segment_of nothing i ∷ xs, p ∷ ps), at r f y sc)) (last_any xs ps k r z.last i.span more)
 
 segments_refused : (n : ℕ) (l r : Toks) (f h : Option Span) (e g : Span) (sc : Scope) → size l < n → Breaks l r → Goes n false (at l f e sc) ≡ Err (expected ident_name (at r h g sc))
@@ -314,7 +314,7 @@ segments_refused (suc n) l r f h e g sc less (spelling.past_word {i = i} {p = p}
     let z = sep_reads p m k f i.span sc c in
     let a = word_size i l m w in
     let d = sep_size p m k c in
-    link _ (segment_there false (at l f e sc) i m w) (chosen (goes_on Nested m) true _ _ (at m f i.span sc) _ (sep_there p m k c)
+    link _ (segment_there false (at l f e sc) i m w) (chosen (sees_sep m) true _ _ (at m f i.span sc) _ (sep_there p m k c)
     (link _ z.reads (stop _ (segments_refused n k r f h z.last g sc (omega (arith, less, a, d)) more))))
 
 -- ---- paths
@@ -347,7 +347,7 @@ path_refused s e (breaks_off {o = o} {i = i} {p = p} {l = l} {m = m} {n = k} {r 
     let y = sep_reads p m k s.left i.span s.scope c in
     let a = word_size i l m w in
     let d = sep_size p m k c in
-    link _ z.reads (stop _ (link _ (segment_there true (at l s.left z.last s.scope) i m w) (chosen (goes_on Nested m) true _ _ (at m s.left i.span s.scope) _ (sep_there p m k c)
+    link _ z.reads (stop _ (link _ (segment_there true (at l s.left z.last s.scope) i m w) (chosen (sees_sep m) true _ _ (at m s.left i.span s.scope) _ (sep_there p m k c)
     (link _ y.reads (stop _ (segments_refused (size l) k r s.left s.left y.last s.last s.scope (omega (arith, a, d)) more))))))
 
 -- ---- a path begins, or none

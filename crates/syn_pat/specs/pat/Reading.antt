@@ -100,12 +100,9 @@ sees_half_open l = token.sees_dot_dot l && not (token.sees_dot_dot_dot l)
 unfoldable pub sees_vert : Toks → Bool
 sees_vert l = token.sees_bar l && (not (token.sees_bar_bar l) && not (token.sees_bar_eq l))
 
--- a path that a bound may be: an `Ident`, `super`, `self`, `Self` or `crate`
-abbrev pub sees_path_word : Toks → Bool
-sees_path_word = sees_word is_mod_word
-
+-- a path that a bound may be
 unfoldable pub sees_bound_path : Toks → Bool
-sees_bound_path l = sees_path_word l || (token.sees_path_sep l || token.sees_lt l)
+sees_bound_path l = sees_word is_mod_word l || (token.sees_path_sep l || token.sees_lt l)
 
 -- a `:` that is not `::`
 abbrev pub sees_lone_colon : Toks → Bool

@@ -10,7 +10,7 @@ ghost use Rattle.token_core.specs.Reads.{Parses};
 use crate::grammar::Patterns;
 use crate::names::Qualifier;
 use crate::pat::read::ranges::{bare_path, parse_after_bound};
-use crate::pat::read::tokens::{open_braces, sees_call};
+use crate::pat::read::tokens::open_braces;
 use crate::pat::{
     PatOf, PatOver, PatRangeBoundOf, PatStructOf, PatTupleStructOf, StructOver, TupleStructOver,
 };
@@ -21,6 +21,7 @@ use syn_attr::expr::ExprMacroOf;
 use syn_path::mac::parse_call_after;
 use syn_path::path::{Arguments, PathOf, without_arguments};
 use syn_path::supplied::Subtree;
+use syn_ty::ty::read::tokens::sees_call;
 use token_core::token::{Brace, Paren};
 use token_core::{Error, Items, ParseStream};
 

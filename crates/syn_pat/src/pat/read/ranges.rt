@@ -16,32 +16,19 @@ use crate::pat::{
 use std::alloc::{AllocError, Global};
 use syn_attr::attr::Attribute;
 use syn_attr::expr::{Expr, ExprConstOf, ExprLitOf};
-use syn_path::path::{Arguments, PathOf};
+use syn_path::path::{Arguments, PathOf, begins_mod_segment};
 use syn_path::supplied::{Place, Subtree};
-use token_core::token::{
-    Brace, Colon, Comma, Const, Crate, DotDot, Eq, If, Lt, Or, PathSep, SelfType, SelfValue, Semi,
-    Super,
-};
-use token_core::{Boxed, Error, ErrorKind, Ident, Items, Lit, ParseStream, RangeLimits};
+use token_core::token::{Brace, Colon, Comma, Const, DotDot, Eq, If, Lt, Or, PathSep, Semi};
+use token_core::{Boxed, Error, ErrorKind, Items, Lit, ParseStream, RangeLimits};
 
 // ---- tests
-
-/// Whether a path that a bound may be begins here.
-#[tactic(auto, using(syn_path::proofs::path_laws::Turns::or_words))]
-fn sees_path_word(input: &ParseStream<'_>) -> bool
-    ensures { result ≡ reading.sees_path_word input.now.rest }
-{
-    input.peek::<Ident>()
-        | (input.peek::<Super>()
-            | (input.peek::<SelfValue>() | (input.peek::<SelfType>() | input.peek::<Crate>())))
-}
 
 /// Whether a bound that is a path begins here.
 #[tactic(auto, unfolding(crate::specs::pat::Reading::sees_bound_path))]
 fn sees_bound_path(input: &ParseStream<'_>) -> bool
     ensures { result ≡ reading.sees_bound_path input.now.rest }
 {
-    sees_path_word(input) | (input.peek::<PathSep>() | input.peek::<Lt>())
+    begins_mod_segment(input) | (input.peek::<PathSep>() | input.peek::<Lt>())
 }
 
 /// Whether a `:` that is not `::` is at the front.

@@ -3,7 +3,6 @@
 ghost use Rattle.std.specs.Prelude.{◌≡◌, ◌<◌, ◌≤◌, IfOk};
 ghost use Rattle.syn_forms.specs.nested.Below.{ahead};
 ghost use Rattle.syn_pat.specs.pat.Reading as reading;
-ghost use Rattle.syn_ty.specs.ty.Reading as types;
 ghost use Rattle.token_core.specs.declared.tree.Delimiter.TheVariants as delimiter;
 ghost use Rattle.token_core.specs.Groups as groups;
 ghost use Rattle.token_core.specs.Looks.{unmet};
@@ -15,8 +14,8 @@ use crate::pat::PatWild;
 use std::alloc::Global;
 use syn_path::supplied::Subtree;
 use token_core::token::{
-    And, Box, Brace, Bracket, Const, Crate, DotDot, DotDotDot, Lt, Minus, Mut, Ne, Not, Or, OrEq,
-    OrOr, Paren, PathSep, Ref, SelfType, SelfValue, Super, Underscore,
+    And, Box, Brace, Bracket, Const, Crate, DotDot, DotDotDot, Lt, Minus, Mut, Not, Or, OrEq, OrOr,
+    Paren, PathSep, Ref, SelfType, SelfValue, Super, Underscore,
 };
 use token_core::{Error, Ident, Items, Lit, ParseStream};
 
@@ -85,14 +84,6 @@ pub(crate) fn sees_vert(input: &ParseStream<'_>) -> bool
     ensures { result ≡ reading.sees_vert input.now.rest }
 {
     input.peek::<Or>() & (!input.peek::<OrOr>() & !input.peek::<OrEq>())
-}
-
-/// Whether a `!` that is not `!=` is at the front.
-#[tactic(auto, unfolding(syn_ty::specs::ty::Reading::sees_call))]
-pub(crate) fn sees_call(input: &ParseStream<'_>) -> bool
-    ensures { result ≡ types.sees_call input.now.rest }
-{
-    input.peek::<Not>() & !input.peek::<Ne>()
 }
 
 // ---- tokens: each read says that something was taken

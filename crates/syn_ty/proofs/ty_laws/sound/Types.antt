@@ -35,7 +35,7 @@ use Rattle.syn_ty.specs.ty.Objects.{AreBareBounds, IsImpl}
 use Rattle.syn_ty.specs.ty.Parts.{Manner, loosely, End, closed, Parts}
 use Rattle.syn_ty.specs.ty.Points.{Readers}
 use Rattle.syn_ty.specs.ty.Reading as reading
-use Rattle.syn_ty.specs.ty.Reading.{begins_named, object_of, sees_bindable, sees_builtin, sees_fn_ptr, sees_path_word, sees_unsafe_binder}
+use Rattle.syn_ty.specs.ty.Reading.{begins_named, object_of, sees_bindable, sees_builtin, sees_fn_ptr, sees_unsafe_binder}
 use Rattle.syn_ty.specs.ty.Spelling.{IsInfer, IsNever, IsOptional, absent, present}
 use Rattle.syn_ty.specs.ty.Trees.{BoundLifetimes, PathArguments, TypeFnPtr, TypeImplTrait, TypeParamBound, TypeTree}
 use Rattle.syn_ty.proofs.generics_laws.Sound.{binder_took}
@@ -65,7 +65,7 @@ or_false true h = refl
 or_false false h = cc h
 
 -- what begins with such a word, `::` or `<` does not begin with `try`
-no_try : (l : Toks) → Visible l → sees_path_word l || (token.sees_path_sep l || token.sees_lt l) ≡ true → token.sees_try l ≡ false
+no_try : (l : Toks) → Visible l → sees_word is_mod_word l || (token.sees_path_sep l || token.sees_lt l) ≡ true → token.sees_try l ≡ false
 unfolding sees_word sees_mark
 no_try done u h = refl
 no_try (word i k) u h = no_try_word i.text (is_text (text_of 15) i.text) refl (or_false (is_mod_word i.text) h)
@@ -76,7 +76,7 @@ no_try (enter s k) u h = absurd u
 no_try (leave k) u h = absurd u
 
 -- before such a word stands neither `::` nor `<`
-word_alone : (l : Toks) → Visible l → sees_path_word l ≡ true → (token.sees_path_sep l ≡ false) × (token.sees_lt l ≡ false)
+word_alone : (l : Toks) → Visible l → sees_word is_mod_word l ≡ true → (token.sees_path_sep l ≡ false) × (token.sees_lt l ≡ false)
 unfolding sees_word sees_mark
 word_alone done u h = cc h
 word_alone (word i k) u h = (refl, refl)
@@ -195,11 +195,11 @@ module _ {A E : Type 0} (attrs : Reader (List A)) (values : ReadValues E) (r : R
 
   fits_try : (l : For) (m : Toks) → Visible m → Fits l m → sees_fn_ptr m ≡ false → token.sees_try m ≡ false
   unfolding begins_named sees_bindable
-  fits_try l m u f n = no_try m u (one_is_left (sees_path_word m) (sees_fn_ptr m) _ f.0 n)
+  fits_try l m u f n = no_try m u (one_is_left (sees_word is_mod_word m) (sees_fn_ptr m) _ f.0 n)
 
   fits_word : (l : For) (m : Toks) → Visible m → Fits l m → sees_fn_ptr m ≡ false → is_some l ≡ true → (token.sees_path_sep m ≡ false) × (token.sees_lt m ≡ false)
   unfolding sees_bindable
-  fits_word l m u f n o = word_alone m u (no_call (sees_path_word m) (sees_fn_ptr m) (f.1 o) n)
+  fits_word l m u f n o = word_alone m u (no_call (sees_word is_mod_word m) (sees_fn_ptr m) (f.1 o) n)
 
   named_type_took : (l : For) (k s t : Stream) (x : Tree) → Visible k.rest → Follows k s → Visible s.rest → Fits l s.rest → reading.named_type attrs values r place (position k) l s ≡ Ok (x, t) →
       Onward (IsPerhapsFor l k.rest s.rest) (Of x k.rest t.rest) s t

@@ -17,6 +17,7 @@ use std::alloc::Global;
 use syn_forms::heads;
 use syn_forms::verbatim::since;
 use syn_path::mac::parse_macro;
+use syn_path::path::begins_mod_segment;
 use token_core::token::{
     And, Bracket, Crate, Dyn, Extern, Fn, For, Impl, Lt, Ne, Not, Paren, PathSep, Plus, Pound,
     SelfType, SelfValue, Star, Super, Underscore, Unsafe,
@@ -68,22 +69,12 @@ pub(crate) fn sees_builtin(input: &ParseStream<'_>) -> bool
     input.peek_builtin() & input.peek2::<Pound>()
 }
 
-/// Whether a path that a type may be begins here with a word.
-#[tactic(auto, using(syn_path::proofs::path_laws::Turns::or_words))]
-fn sees_path_word(input: &ParseStream<'_>) -> bool
-    ensures { result ≡ reading.sees_path_word input.now.rest }
-{
-    input.peek::<Ident>()
-        | (input.peek::<Super>()
-            | (input.peek::<SelfValue>() | (input.peek::<SelfType>() | input.peek::<Crate>())))
-}
-
 /// Whether what may follow a binder is at the front.
 #[tactic(auto, unfolding(crate::specs::ty::Reading::sees_bindable))]
 pub(crate) fn sees_bindable(input: &ParseStream<'_>) -> bool
     ensures { result ≡ reading.sees_bindable input.now.rest }
 {
-    sees_path_word(input) | sees_fn_ptr(input)
+    begins_mod_segment(input) | sees_fn_ptr(input)
 }
 
 /// Whether a pointer to a function, a path, or tokens that no case holds begin here.
@@ -96,7 +87,7 @@ pub(crate) fn begins_named(input: &ParseStream<'_>) -> bool
 
 /// Whether a `!` that is not `!=` is at the front.
 #[tactic(auto, unfolding(crate::specs::ty::Reading::sees_call))]
-pub(crate) fn sees_call(input: &ParseStream<'_>) -> bool
+pub fn sees_call(input: &ParseStream<'_>) -> bool
     ensures { result ≡ reading.sees_call input.now.rest }
 {
     input.peek::<Not>() & !input.peek::<Ne>()
