@@ -19,10 +19,10 @@ use std::io::Write;
 use std::process::ExitCode;
 use std::time::Instant;
 use std::{env, io};
-use syn_readers::reader::GenericsReader;
+use syn_readers::by_name::GenericsReader;
 use syn_run::channel::{Plain, Source};
 use syn_run::items::ItemReader;
-use syn_run::reader::Reader;
+use syn_run::readers::Reader;
 use syn_sample::sample::Sample;
 use token_core::{
     DelimSpan, Delimiter, Error, ErrorKind, Group, Punct, Spacing, Span, TokenStream, TokenTree,

@@ -4,7 +4,7 @@ use std::alloc::Global;
 use syn_run::call::{Call, note_into, read_into};
 use syn_run::complaint::complaint;
 use syn_run::fault::Fault;
-use syn_run::reader::Reader;
+use syn_run::readers::Reader;
 use syn_run::run::read_text;
 use syn_sample::sample::Sample;
 use std::test::Fail;

@@ -3,7 +3,7 @@
 use crate::answers::says;
 use std::alloc::Global;
 use syn_run::items::ItemReader;
-use syn_run::reader::Reader;
+use syn_run::readers::Reader;
 use syn_sample::sample::Sample;
 use token_core::{Error, Span};
 use token_text::{lex, text_of};

@@ -3,7 +3,7 @@
 use crate::answers::says;
 use std::alloc::Global;
 use syn_pat::place::PatPlace;
-use syn_run::reader::{PatternReader, Reader};
+use syn_run::readers::{PatternReader, Reader};
 use syn_sample::sample::Sample;
 use token_core::{Error, Span};
 use token_text::{lex, text_of};

@@ -3,8 +3,8 @@
 use crate::answers::says;
 use std::alloc::Global;
 use std::fmt::Write;
-use syn_readers::reader::{GenericsReader, PathReader, TypeReader};
-use syn_run::reader::Reader;
+use syn_readers::by_name::{GenericsReader, PathReader, TypeReader};
+use syn_run::readers::Reader;
 use syn_sample::sample::Sample;
 use token_core::{Error, Span};
 use token_text::{lex, text_of};

@@ -9,7 +9,7 @@ use std::{env, io};
 use syn_run::channel::{Plain, Source};
 use syn_run::complaint::complaint;
 use syn_run::fault::Fault;
-use syn_run::reader::Reader;
+use syn_run::readers::Reader;
 use syn_run::run::read_text;
 use syn_verbatim::expr::VerbatimExpr;
 

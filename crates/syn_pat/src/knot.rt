@@ -4,9 +4,9 @@ ghost use Rattle.syn_pat.specs.pat.Knot as knot;
 ghost use Rattle.syn_pat.specs.pat.Reading.{named};
 ghost use Rattle.token_core.specs.Reads.{Parses};
 
-use crate::grammar::Patterns;
 use crate::names::Qualifier;
 use crate::pat::PatOver;
+use crate::patterns::Patterns;
 use crate::place::PatPlace;
 use std::alloc::Global;
 use std::marker::PhantomData;

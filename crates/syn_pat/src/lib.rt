@@ -1,9 +1,9 @@
 //! Patterns.
 #![tactic(auto)]
 
-pub mod grammar;
 pub mod knot;
 pub mod names;
 pub mod pat;
+pub mod patterns;
 pub mod place;
 pub mod supplied;

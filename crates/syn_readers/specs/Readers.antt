@@ -31,12 +31,12 @@ use Rattle.syn_ty.specs.declared.ty.TypeInferOf as infer
 use Rattle.syn_ty.specs.declared.ty.TypeMacroOf as macro
 use Rattle.syn_ty.specs.declared.ty.TypeNeverOf as never
 use Rattle.syn_path.specs.Values.{NormalValues, ReadValues, SpelledValues, Values}
-use Rattle.syn_readers.specs.declared.reader.TypeReader.{TypeReader}
-use Rattle.syn_readers.specs.declared.reader.TypeReader.TheVariants as t
-use Rattle.syn_readers.specs.declared.reader.PathReader.{PathReader}
-use Rattle.syn_readers.specs.declared.reader.PathReader.TheVariants as p
-use Rattle.syn_readers.specs.declared.reader.GenericsReader.{GenericsReader}
-use Rattle.syn_readers.specs.declared.reader.GenericsReader.TheVariants as g
+use Rattle.syn_readers.specs.declared.by_name.TypeReader.{TypeReader}
+use Rattle.syn_readers.specs.declared.by_name.TypeReader.TheVariants as t
+use Rattle.syn_readers.specs.declared.by_name.PathReader.{PathReader}
+use Rattle.syn_readers.specs.declared.by_name.PathReader.TheVariants as p
+use Rattle.syn_readers.specs.declared.by_name.GenericsReader.{GenericsReader}
+use Rattle.syn_readers.specs.declared.by_name.GenericsReader.TheVariants as g
 
 abbrev pub types_named : Bytes → Option TypeReader
 types_named name =

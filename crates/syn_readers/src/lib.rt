@@ -1,4 +1,4 @@
 //! The readers of types, paths and generics that a run knows by name.
 #![tactic(auto)]
 
-pub mod reader;
+pub mod by_name;

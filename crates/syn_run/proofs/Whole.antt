@@ -13,8 +13,8 @@ use Rattle.syn_path.specs.declared.supplied.Place.TheVariants.{Value}
 use Rattle.token_core.specs.Prints.{Print}
 use Rattle.syn_readers.proofs.Whole.{lawful-keeps, lawful-refuses}
 use Rattle.syn_readers.specs.Readers.{whole_in}
-use Rattle.syn_run.specs.declared.reader.PatternReader.{PatternReader}
-use Rattle.syn_run.specs.declared.reader.PatternReader.TheVariants.{In, Guarded, Typed}
+use Rattle.syn_run.specs.declared.readers.PatternReader.{PatternReader}
+use Rattle.syn_run.specs.declared.readers.PatternReader.TheVariants.{In, Guarded, Typed}
 use Rattle.syn_run.specs.Readers.{PatternsTree, patterns_category}
 
 module _ {X : Type 0} (reads : Place → Reader X) (spells : Place → X → Toks → Type 0) (normals : Place → X → X) (prints : Place → X → Print)

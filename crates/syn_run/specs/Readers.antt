@@ -29,14 +29,14 @@ use Rattle.syn_attr.specs.attr.Consts.{normal_values_of, values_of, outer}
 use Rattle.syn_path.specs.mac.Grammars as macs
 use Rattle.syn_path.specs.path.Grammars as paths
 use Rattle.syn_ty.specs.path.Paths as path
-use Rattle.syn_run.specs.declared.reader.Reader.{Reader}
-use Rattle.syn_run.specs.declared.reader.Reader.TheVariants.{Macro, ModStyle, Meta, MetaList, MetaNameValue, Outer, Inner, PointerMutability, Types, Paths, Generics, Items, Patterns}
-use Rattle.syn_run.specs.declared.reader.PatternReader.{PatternReader}
-use Rattle.syn_run.specs.declared.reader.PatternReader.TheVariants as q
+use Rattle.syn_run.specs.declared.readers.Reader.{Reader}
+use Rattle.syn_run.specs.declared.readers.Reader.TheVariants.{Macro, ModStyle, Meta, MetaList, MetaNameValue, Outer, Inner, PointerMutability, Types, Paths, Generics, Items, Patterns}
+use Rattle.syn_run.specs.declared.readers.PatternReader.{PatternReader}
+use Rattle.syn_run.specs.declared.readers.PatternReader.TheVariants as q
 use Rattle.syn_readers.specs.Readers.{Category, of_grammar, TypesTree, PathsTree, GenericsTree, types_named, paths_named, generics_named, types_category, paths_category, generics_category}
-use Rattle.syn_readers.specs.declared.reader.TypeReader.{TypeReader}
-use Rattle.syn_readers.specs.declared.reader.PathReader.{PathReader}
-use Rattle.syn_readers.specs.declared.reader.GenericsReader.{GenericsReader}
+use Rattle.syn_readers.specs.declared.by_name.TypeReader.{TypeReader}
+use Rattle.syn_readers.specs.declared.by_name.PathReader.{PathReader}
+use Rattle.syn_readers.specs.declared.by_name.GenericsReader.{GenericsReader}
 use Rattle.syn_run.specs.Items.{ItemsTree, items_category, items_named}
 use Rattle.syn_run.specs.declared.items.ItemReader.{ItemReader}
 

@@ -10,7 +10,7 @@ use Rattle.token_core.specs.declared.span.Span.{Span}
 use Rattle.token_core.specs.declared.error.ErrorKind.TheVariants.{OutOfMemory}
 use Rattle.token_text.specs.Spelling.{Spells, Refused}
 use Rattle.token_text.specs.Printing.{text_of}
-use Rattle.syn_run.specs.declared.reader.Reader.{Reader}
+use Rattle.syn_run.specs.declared.readers.Reader.{Reader}
 use Rattle.syn_readers.specs.Readers.{Category, whole_in}
 use Rattle.syn_run.specs.Readers.{named}
 

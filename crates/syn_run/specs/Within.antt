@@ -2,7 +2,7 @@
 use Rattle.std.specs.Prelude.{◌≡◌, ◌↔◌, ◌+◌, ◌≤◌, ℕ, Some, ◌++◌, length}
 use Rattle.token_core.specs.Toks.{Bytes}
 use Rattle.syn_readers.specs.Readers.{Category}
-use Rattle.syn_run.specs.declared.reader.Reader.{Reader}
+use Rattle.syn_run.specs.declared.readers.Reader.{Reader}
 use Rattle.syn_run.specs.Readers.{named}
 use Rattle.syn_run.specs.Run.{Answer, Answers, shown, refused, unknown, line}
 

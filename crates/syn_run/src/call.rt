@@ -5,7 +5,7 @@ ghost use Rattle.syn_run.specs.Calls as spec;
 ghost use Rattle.syn_run.specs.Readers.{category, named};
 ghost use Rattle.syn_run.specs.declared.call.Call.{Call};
 
-use crate::reader::Reader;
+use crate::readers::Reader;
 use crate::run::read_text;
 use std::alloc::Global;
 use syn_path::supplied::Subtree;

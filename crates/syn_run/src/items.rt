@@ -12,7 +12,7 @@ use item_small::structs::StructItemOf;
 use std::alloc::{AllocError, Global};
 use syn_path::path::PathOf;
 use syn_path::supplied::{Attributes, Value};
-use syn_readers::reader::{reprint, taken};
+use syn_readers::by_name::{reprint, taken};
 use token_core::{ByParse, Error, Ident, Span, TokenStream};
 
 /// A reader of items.

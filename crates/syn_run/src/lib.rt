@@ -6,6 +6,6 @@ pub mod channel;
 pub mod complaint;
 pub mod fault;
 pub mod items;
-pub mod reader;
+pub mod readers;
 pub mod run;
 pub mod within;

@@ -10,7 +10,7 @@ ghost use Rattle.syn_run.specs.Faults as faults;
 
 use crate::channel::{Sink, Source};
 use crate::fault::Fault;
-use crate::reader::Reader;
+use crate::readers::Reader;
 use std::alloc::Global;
 use syn_path::supplied::Subtree;
 use token_core::{Error, Span, TokenStream};

@@ -12,8 +12,8 @@ use Rattle.token_core.specs.Refusal.{Refusal, named, out_of_memory}
 use Rattle.token_core.specs.Spans.{span}
 use Rattle.token_core.specs.Toks.{Bytes}
 use Rattle.token_core.specs.Trees.{trees}
-use Rattle.token_text.specs.declared.reader.Open as code_open
-use Rattle.token_text.specs.declared.reader.Reader as code
+use Rattle.token_text.specs.declared.state.Open as code_open
+use Rattle.token_text.specs.declared.state.State as code
 use Rattle.token_text.specs.declared.piece.Leaf as leaves
 use Rattle.token_text.specs.declared.piece.Piece.{Piece}
 use Rattle.token_text.specs.declared.piece.Piece.TheVariants.{Leaf, Open, Close}
@@ -111,5 +111,5 @@ Gives f r o = MatchResult r (λ a. o ≡ Ok (f a)) (λ e. Fails e o)
 abbrev pub frame_of : code_open.Open → Frame
 frame_of o = frame o.delimiter o.span (trees o.before)
 
-abbrev pub state_of : code.Reader → State
+abbrev pub state_of : code.State → State
 state_of r = state (map frame_of (reverse r.open_groups.items)) (trees r.trees)

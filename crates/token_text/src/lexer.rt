@@ -8,7 +8,7 @@ ghost use Rattle.token_text.specs.Reading as spec;
 ghost use Rattle.token_text.specs.Spelling.{Spells, Refused};
 
 use crate::front::front;
-use crate::reader::Reader;
+use crate::state::State;
 use crate::word;
 use std::alloc::Global;
 use token_core::{Error, Span, TokenStream};
@@ -58,14 +58,14 @@ pub fn lex(alloc: Global, text: &str) -> Result<TokenStream, Error>
 fn read(alloc: Global, text: &str) -> Result<TokenStream, Error>
     ensures { spec.Gives trees result (spec.lexed text.now) }
 {
-    let mut reader = Reader::new(alloc);
+    let mut state = State::new(alloc);
     let mut rest = word::after_blanks(text);
     while let Some((first, _)) = word::split_first(rest) {
         let at = text.len() - rest.len();
         match front(rest) {
             Ok((piece, after)) => {
                 let span = Span::new(at, text.len() - after.len());
-                reader.take(piece, word::up_to(rest, after), span)?;
+                state.take(piece, word::up_to(rest, after), span)?;
                 rest = word::after_blanks(after);
             }
             Err(kind) => {
@@ -74,5 +74,5 @@ fn read(alloc: Global, text: &str) -> Result<TokenStream, Error>
             }
         }
     }
-    reader.finish()
+    state.finish()
 }

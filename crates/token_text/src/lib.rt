@@ -13,7 +13,7 @@ mod notes;
 mod number;
 mod piece;
 mod printer;
-mod reader;
+mod state;
 mod string;
 mod whole;
 mod word;

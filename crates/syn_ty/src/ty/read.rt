@@ -1,11 +1,11 @@
 //! Types are read.
 
+pub mod after_path;
 pub mod alone;
 pub mod forms;
 pub mod named;
 pub mod objects;
 pub mod parts;
-pub mod paths;
 pub mod step;
 pub mod tokens;
 

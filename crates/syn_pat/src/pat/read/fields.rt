@@ -9,11 +9,11 @@ ghost use Rattle.syn_pat.specs.pat.Reading.{named};
 ghost use Rattle.token_core.specs.Positions.{IsReached};
 ghost use Rattle.token_core.specs.Reads.{Parses};
 
-use crate::grammar::Patterns;
 use crate::names::Qualifier;
 use crate::pat::read::forms::parse_ref;
 use crate::pat::read::tokens::parse_dot_dot;
 use crate::pat::{FieldOver, FieldPatOf, PatIdentOf, PatOf, PatOver, PatRest, PatRestOf};
+use crate::patterns::Patterns;
 use crate::place::PatPlace;
 use std::alloc::Global;
 use std::marker::PhantomData;

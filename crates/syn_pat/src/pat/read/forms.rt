@@ -8,10 +8,10 @@ ghost use Rattle.syn_pat.specs.pat.Reading.{named};
 ghost use Rattle.token_core.specs.Reads.{Parses};
 ghost use Rattle.token_core.specs.Tokens as token;
 
-use crate::grammar::Patterns;
 use crate::names::Qualifier;
 use crate::pat::read::tokens::parse_box;
 use crate::pat::{IdentOver, PatIdentOf, PatOf, PatOver, PatReferenceOf, ReferenceOver};
+use crate::patterns::Patterns;
 use crate::place::PatPlace;
 use std::alloc::Global;
 use std::marker::PhantomData;

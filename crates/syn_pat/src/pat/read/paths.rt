@@ -7,13 +7,13 @@ ghost use Rattle.syn_pat.specs.pat.Reading as reading;
 ghost use Rattle.syn_pat.specs.pat.Reading.{named};
 ghost use Rattle.token_core.specs.Reads.{Parses};
 
-use crate::grammar::Patterns;
 use crate::names::Qualifier;
 use crate::pat::read::ranges::{bare_path, parse_after_bound};
 use crate::pat::read::tokens::open_braces;
 use crate::pat::{
     PatOf, PatOver, PatRangeBoundOf, PatStructOf, PatTupleStructOf, StructOver, TupleStructOver,
 };
+use crate::patterns::Patterns;
 use crate::place::PatPlace;
 use std::alloc::Global;
 use std::marker::PhantomData;

@@ -9,7 +9,6 @@ ghost use Rattle.token_core.specs.Loops.{never};
 ghost use Rattle.token_core.specs.Reads.{Parses, optional};
 ghost use Rattle.token_core.specs.Tokens as token;
 
-use crate::grammar::Patterns;
 use crate::names::Qualifier;
 use crate::pat::read::ranges::{parse_bound_or_range, parse_half_open};
 use crate::pat::read::tokens::{
@@ -17,6 +16,7 @@ use crate::pat::read::tokens::{
     sees_vert,
 };
 use crate::pat::{PatOf, PatOrOf, PatOver};
+use crate::patterns::Patterns;
 use crate::place::PatPlace;
 use std::alloc::Global;
 use std::marker::PhantomData;

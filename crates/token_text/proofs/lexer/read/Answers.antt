@@ -13,7 +13,7 @@ take-requires c =
     let text = c.args.text.now in
     let f = c.in-Ok.ensures in
     let i = c.loop-first.invariant in
-    let less = look_ahead text c.loop-first.rest.now c.in-Ok.after.now c.in-Ok.piece (state_of c.loop-first.reader) i.2 i.1 f.0 f.1 in
+    let less = look_ahead text c.loop-first.rest.now c.in-Ok.after.now c.in-Ok.piece (state_of c.loop-first.state) i.2 i.1 f.0 f.1 in
     let there : length text - length c.loop-first.rest.now < length text - length c.in-Ok.after.now = omega (arith, less, i.1) in
     rw c.new-span.ensures there
 
@@ -22,7 +22,7 @@ returns-in_err-take-in-Ok c =
     let p = err_from_is_err_and c.from_residual.result c.from_residual.ensures.1 in
     let f = c.in-Ok.ensures in
     let i = c.loop-first.invariant in
-    let stops = look_stops c.args.text.now c.loop-first.rest.now c.in-Ok.after.now c.in-Ok.piece (state_of c.loop-first.reader) i.2 i.1 f.0 f.1 in
+    let stops = look_stops c.args.text.now c.loop-first.rest.now c.in-Ok.after.now c.in-Ok.piece (state_of c.loop-first.state) i.2 i.1 f.0 f.1 in
     rw (p.1, p.2) (fails_so _ _ (lexed c.args.text.now) c.in_err-take-in-Ok.ensures (stops c.new-span.result c.up_to.result.now _ c.up_to.ensures c.new-span.ensures))
 
 pub loop-first-init : goal.loop-first-init
@@ -34,14 +34,14 @@ loop-first-init c =
     let goes = blanks_go text text c.after_blanks-rest.result.now start (ap (λ n. reads 0 n start (chars text)) at) same b.past b.rest in (
       search rules,
       past_le b.past,
-      rw c.new-reader.ensures goes,
+      rw c.new-state.ensures goes,
     )
 
 pub loop-first-smaller : goal.loop-first-smaller
 loop-first-smaller c =
     let f = c.in-Ok.ensures in
     let i = c.loop-first.invariant in
-    let less = look_ahead c.args.text.now c.loop-first.rest.now c.in-Ok.after.now c.in-Ok.piece (state_of c.loop-first.reader) i.2 i.1 f.0 f.1 in
+    let less = look_ahead c.args.text.now c.loop-first.rest.now c.in-Ok.after.now c.in-Ok.piece (state_of c.loop-first.state) i.2 i.1 f.0 f.1 in
     omega (arith, less, past_le c.after_blanks-rest-in-Ok.ensures.past)
 
 pub loop-first-preserved : goal.loop-first-preserved
@@ -52,7 +52,7 @@ loop-first-preserved c =
     let f = c.in-Ok.ensures in
     let i = c.loop-first.invariant in
     let b = c.after_blanks-rest-in-Ok.ensures in
-    let x = state_of c.loop-first.reader in
+    let x = state_of c.loop-first.state in
     let y = state_of c.take.new.self in
     let le : length after ≤ length text = omega (arith, i.1, look_ahead text rest after c.in-Ok.piece x i.2 i.1 f.0 f.1) in
     let goes = look_goes text rest after c.in-Ok.piece x i.2 i.1 f.0 f.1 c.new-span.result c.up_to.result.now y c.up_to.ensures c.new-span.ensures c.in_ok-take-in-Ok.ensures in (
@@ -65,7 +65,7 @@ pub returns-in-Err : goal.returns-in-Err
 returns-in-Err c =
     let text = c.args.text.now in
     let at = length text - length c.loop-first.rest.now in
-    let x = state_of c.loop-first.reader in
+    let x = state_of c.loop-first.state in
     let first = c.in-Some.ensures.0 in
     let none = rw first at (front_refused (chars c.loop-first.rest.now) c.in-Err.kind c.in-Err.ensures) in
     let place : span at (at + len_utf8 c.in-Some.first) ≡ c.new-span-in-Err.result =
@@ -77,7 +77,7 @@ returns-in-Err c =
 pub returns : goal.returns
 returns c =
     let text = c.args.text.now in
-    let x = state_of c.loop-first.reader in
+    let x = state_of c.loop-first.state in
     let at = length text - length c.loop-first.rest.now in
     let e : lexed text ≡ finish x = c.loop-first.invariant.2 ∙ ap (reads 0 at x) c.in_default.ensures.0 ∙ reads_end at x in
     rw e c.finish.ensures

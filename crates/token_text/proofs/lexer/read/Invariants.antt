@@ -6,7 +6,7 @@ use Rattle.token_text.proofs.lexer.read.Given as goal
 
 abbrev pub invariant-loop-first : goal.invariant-loop-first
 invariant-loop-first l =
-    shadow (Utf8 l.rest) × (length l.rest ≤ length l.text) × (lexed l.text ≡ reads 0 (length l.text - length l.rest) (state_of l.reader) (chars l.rest))
+    shadow (Utf8 l.rest) × (length l.rest ≤ length l.text) × (lexed l.text ≡ reads 0 (length l.text - length l.rest) (state_of l.state) (chars l.rest))
 
 abbrev pub decreases-loop-first : goal.decreases-loop-first
 decreases-loop-first l = length l.rest
