@@ -6,3 +6,4 @@ pub mod WholeLaws
 pub mod complete
 pub mod reprint
 pub mod sound
+pub mod words

@@ -1,13 +1,9 @@
 -- The bounds of a predicate that are refused after parts that were read.
 use Rattle.std.proofs.Common.{◌≡◌, List, Option, Ok, Err, ap}
-use Rattle.syn_generics.specs.generics.Declared.{predicate_bounds, type_after}
-use Rattle.syn_generics.specs.generics.Params.{predicate_type_of}
-use Rattle.syn_ty.specs.generics.Reading.{optional_binder}
-use Rattle.syn_ty.specs.ty.Points.{Readers}
-use Rattle.syn_ty.specs.ty.Trees.{BoundLifetimes, TypeTree}
-use Rattle.token_core.specs.Reads.{Reader, and_then, pure}
+use Rattle.syn_generics.proofs.generics_laws.words.Tokens.{Reader, and_then, pure, Stream}
+use Rattle.syn_generics.proofs.generics_laws.words.Types.{optional_binder, Readers, BoundLifetimes, TypeTree}
+use Rattle.syn_generics.proofs.generics_laws.words.Generics.{predicate_bounds, type_after, predicate_type_of}
 use Rattle.token_core.specs.Refusal.{Refusal}
-use Rattle.token_core.specs.Stream.{Stream}
 use Rattle.token_core.specs.Tokens as token
 use Rattle.token_core.proofs.Steps.{link}
 

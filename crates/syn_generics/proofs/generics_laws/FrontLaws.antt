@@ -1,17 +1,12 @@
 -- The grammars of generics and of an optional where clause meet their laws on the front of a list, where those of attributes and expressions are given: before what may follow, each read is sound and complete, and what is spelt plainly is reprinted.
 use Rattle.std.proofs.Common.{◌≡◌, ℕ, Bool, true, false, ◌||◌, List, [], ◌∷◌, Option, Some, None, refl}
-use Rattle.token_core.specs.declared.tree.Delimiter.TheVariants.{Brace}
-use Rattle.token_core.specs.declared.tree.Ident.{Ident}
+use Rattle.syn_generics.proofs.generics_laws.words.Tokens.{Brace, Ident, text_of, Print, Reader, any_text, as_word, is_done, is_text, sees_group, sees_word, word_meets, Bytes, Toks, done, word, mark, group}
+use Rattle.syn_generics.proofs.generics_laws.words.Paths.{NormalValues, ReadValues, SpelledValues, Values}
+use Rattle.syn_generics.proofs.generics_laws.words.Forms.{ends_predicate}
 use Rattle.token_core.specs.Front.{front}
 use Rattle.token_core.specs.Fronted.{FrontLaws}
-use Rattle.token_core.specs.Marks.{text_of}
-use Rattle.token_core.specs.Prints.{Print}
-use Rattle.token_core.specs.Reads.{Reader, any_text, as_word, is_done, is_text, sees_group, sees_word, word_meets}
 use Rattle.token_core.specs.Tokens as token
-use Rattle.token_core.specs.Toks.{Bytes, Toks, done, word, mark, group}
 use Rattle.token_core.proofs.Unseen.{word_no_mark}
-use Rattle.syn_path.specs.Values.{NormalValues, ReadValues, SpelledValues, Values}
-use Rattle.syn_forms.specs.predicates.Reading.{ends_predicate}
 use Rattle.syn_generics.specs.generics.Promises as promises
 use Rattle.syn_generics.specs.generics.Promises.{follows_clause, follows_generics}
 use Rattle.syn_generics.specs.generics.Spelt as by

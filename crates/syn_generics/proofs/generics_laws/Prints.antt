@@ -1,13 +1,11 @@
 -- What the predicates of a where clause print, by their pieces.
 use Rattle.std.proofs.Common.{◌≡◌, List, [], ◌∷◌, ◌++◌, length, refl, arith}
-use Rattle.token_core.specs.Lists.{joined}
-use Rattle.token_core.specs.Loops.{Many}
+use Rattle.syn_generics.proofs.generics_laws.words.Tokens.{joined, Many, Print}
+use Rattle.syn_generics.proofs.generics_laws.words.Paths.{Values}
+use Rattle.syn_generics.proofs.generics_laws.words.Types.{Comma}
+use Rattle.syn_generics.proofs.generics_laws.words.Generics.{WherePredicateOf}
 use Rattle.token_core.specs.Prints as p
-use Rattle.token_core.specs.Prints.{Print}
-use Rattle.syn_generics.specs.declared.generics.WherePredicateOf.{WherePredicateOf}
-use Rattle.syn_ty.specs.generics.Params.{Comma}
 use Rattle.syn_generics.specs.generics.Printing.{predicate, predicates_after}
-use Rattle.syn_path.specs.Values.{Values}
 
 -- the list of predicates
 module _ {A E : Type 0} (pa : List A → Print) (pe : Values E) where

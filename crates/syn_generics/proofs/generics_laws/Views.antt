@@ -1,23 +1,15 @@
 -- What generics print as a whole, without defaults and by name.
 use Rattle.std.proofs.Common.{◌≡◌, Bool, true, false, not, ◌&&◌, List, [], ◌∷◌, ◌++◌, Option, Some, None, if◌then◌else◌, filter, length, map, refl, sym, ◌∙◌, ap, arith}
+use Rattle.syn_generics.proofs.generics_laws.words.Tokens.{Many, Print, none}
+use Rattle.syn_generics.proofs.generics_laws.words.Paths.{Values}
+use Rattle.syn_generics.proofs.generics_laws.words.Types.{Member, comma_of, lacks, some_left, adds, each, members, members_of, firsts, others, sorted, is_lifetime, or_default, GenericParam, strip}
+use Rattle.syn_generics.proofs.generics_laws.words.Generics.{GenericsOf, between, stripped, names, after_sep, turbofish, between_as}
 use Rattle.token_core.specs.declared.mark.Mark.{Mark}
-use Rattle.token_core.specs.Loops.{Many}
 use Rattle.token_core.specs.Prints as p
-use Rattle.token_core.specs.Prints.{Print}
-use Rattle.token_core.specs.Spans.{none}
 use Rattle.syn_ty.specs.ty.Types.{Comma, comma}
-use Rattle.syn_generics.specs.declared.generics.GenericsOf.{GenericsOf}
 use Rattle.syn_ty.specs.declared.generics.Style.TheVariants as styles
-use Rattle.syn_ty.specs.generics.Members.{Member, comma_of, lacks, some_left, adds, each, members, members_of, firsts, others, sorted}
-use Rattle.syn_ty.specs.generics.Params.{is_lifetime}
 use Rattle.syn_generics.specs.generics.Printing.{generics}
-use Rattle.syn_ty.specs.generics.Shapes.{or_default}
-use Rattle.syn_generics.specs.generics.Shapes.{between}
-use Rattle.syn_path.specs.Values.{Values}
 use Rattle.syn_ty.specs.ty.Printing.{param}
-use Rattle.syn_ty.specs.ty.Trees.{GenericParam}
-use Rattle.syn_ty.specs.generics.Views.{strip}
-use Rattle.syn_generics.specs.generics.Views.{stripped, names, after_sep, turbofish, between_as}
 use Rattle.syn_ty.proofs.generics_laws.Views.{strip_kind}
 
 -- ---- lists of changed members

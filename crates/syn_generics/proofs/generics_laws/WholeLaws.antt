@@ -1,21 +1,15 @@
 -- Each grammar of this layer meets its laws, where those of attributes and expressions are given: its read is sound and complete, and what it spells plainly is reprinted.
 use Rattle.std.specs.Prelude.{IfOk}
 use Rattle.std.proofs.Common.{◌≡◌, ◌≢◌, Bool, true, List, [], ◌∷◌, Option, Some, Result, Ok, Err, refl}
+use Rattle.syn_generics.proofs.generics_laws.words.Tokens.{Print, Reader, Visible, Toks, done, row}
+use Rattle.syn_generics.proofs.generics_laws.words.Paths.{NormalValues, ReadValues, SpelledValues, Values}
+use Rattle.syn_generics.proofs.generics_laws.words.Types.{Manner, plainly, clearly}
+use Rattle.syn_generics.proofs.generics_laws.words.Generics.{GenericsOf, WhereClauseOf, stripped}
 use Rattle.token_core.specs.Headline.{Lawful, Reprinted}
-use Rattle.token_core.specs.Prints.{Print}
-use Rattle.token_core.specs.Reads.{Reader}
-use Rattle.token_core.specs.Rebuilt.{Visible}
-use Rattle.token_core.specs.Toks.{Toks, done}
-use Rattle.token_core.specs.Trees.{row}
 use Rattle.token_core.proofs.Headlines.{again as again_whole}
-use Rattle.syn_path.specs.Values.{NormalValues, ReadValues, SpelledValues, Values}
 use Rattle.syn_path.proofs.Words.{Again}
-use Rattle.syn_generics.specs.declared.generics.GenericsOf.{GenericsOf}
-use Rattle.syn_generics.specs.declared.generics.WhereClauseOf.{WhereClauseOf}
 use Rattle.syn_generics.specs.generics.Normal as clauses
 use Rattle.syn_generics.specs.generics.Printing as shown_clauses
-use Rattle.syn_generics.specs.generics.Views.{stripped}
-use Rattle.syn_ty.specs.ty.Parts.{Manner, plainly, clearly}
 use Rattle.syn_ty.specs.ty.Promises.{promise}
 use Rattle.syn_ty.proofs.generics_laws.Members.{some}
 use Rattle.syn_ty.proofs.ty_laws.Given.{Given}

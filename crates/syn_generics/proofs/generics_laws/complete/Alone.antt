@@ -1,24 +1,14 @@
 -- Each reader of this layer by itself on the front of a list is complete: at every height of a tree, what is spelt clearly there is what it answers, and it takes no more.
 use Rattle.std.proofs.Common.{◌≡◌, ℕ, Bool, true, false, List, Option, None}
-use Rattle.token_core.specs.declared.span.Span.{Span}
-use Rattle.token_core.specs.Reads.{Reader}
-use Rattle.token_core.specs.Stream.{Scope}
+use Rattle.syn_generics.proofs.generics_laws.words.Tokens.{Span, Reader, Scope, Toks}
+use Rattle.syn_generics.proofs.generics_laws.words.Paths.{ReadValues, SpelledValues}
+use Rattle.syn_generics.proofs.generics_laws.words.Forms.{Bounded, ends_predicate}
+use Rattle.syn_generics.proofs.generics_laws.words.Types.{clearly, End, IsOptional, TypeTree}
+use Rattle.syn_generics.proofs.generics_laws.words.Generics.{GenericsOf, WhereClauseOf, WherePredicateOf, IsPredicate, IsWhereClause, AreGenerics}
 use Rattle.token_core.specs.Tokens as token
-use Rattle.token_core.specs.Toks.{Toks}
 use Rattle.token_core.proofs.Steps.{Reads_to}
-use Rattle.syn_path.specs.Values.{ReadValues, SpelledValues}
-use Rattle.syn_forms.specs.declared.places.TypePlace.TheVariants.{Bounded}
-use Rattle.syn_forms.specs.predicates.Reading.{ends_predicate}
-use Rattle.syn_generics.specs.declared.generics.GenericsOf.{GenericsOf}
-use Rattle.syn_generics.specs.declared.generics.WhereClauseOf.{WhereClauseOf}
-use Rattle.syn_generics.specs.declared.generics.WherePredicateOf.{WherePredicateOf}
 use Rattle.syn_generics.specs.generics.Alone as clauses
-use Rattle.syn_generics.specs.generics.Clauses.{IsPredicate, IsWhereClause}
-use Rattle.syn_generics.specs.generics.Parameters.{AreGenerics}
 use Rattle.syn_ty.specs.ty.Knot as knot
-use Rattle.syn_ty.specs.ty.Parts.{clearly, End}
-use Rattle.syn_ty.specs.ty.Spelling.{IsOptional}
-use Rattle.syn_ty.specs.ty.Trees.{TypeTree}
 use Rattle.syn_generics.proofs.generics_laws.complete.Clauses as of_clauses
 use Rattle.syn_ty.proofs.ty_laws.complete.Knot.{GivenMeets}
 use Rattle.syn_ty.proofs.ty_laws.complete.Within.{Fits}

@@ -2,26 +2,17 @@
 use Rattle.std.proofs.lemmas.Bool.{eqb-true}
 use Rattle.std.proofs.lemmas.Slice.Eq.{bytes_eq-Decides}
 use Rattle.std.proofs.Common.{◌≡◌, ◌⊎◌, ℕ, zero, suc, ◌<◌, ◌≤◌, Bool, true, false, not, ◌&&◌, ◌||◌, ◌==◌, if◌then◌else◌, List, [], ◌∷◌, Option, Some, None, is_some, inl, inr, refl, sym, ◌∙◌, ap, subst, arith}
-use Rattle.token_core.specs.declared.lifetime.Lifetime.{Lifetime}
-use Rattle.token_core.specs.declared.span.Span.{Span}
+use Rattle.syn_generics.proofs.generics_laws.words.Tokens.{Lifetime, Span, Parenthesis, Brace, Bracket, Ident, text_of, sees_lifetime, AreListed, Anywhere, Nowhere, none_left, last_value, value_and_mark, Many, Reader, after_one, builtin_text, is_done, is_ident, is_text, meets, second, sees_group, sees_mark, sees_word, none, IsMark, is_mark, last_char, more_chars, IsWord, is_word, IsLifetime, is_lifetime, Scope, Bytes, Toks, done, word, mark, lit, group, enter, leave, punct}
+use Rattle.syn_generics.proofs.generics_laws.words.Paths.{ReadValues, SpelledValues}
+use Rattle.syn_generics.proofs.generics_laws.words.Forms.{Binder, Generics, Bounded, Plus, ahead, held, LifetimePredicate, ends_lifetime_predicate, ends_predicate, predicates_to}
+use Rattle.syn_generics.proofs.generics_laws.words.Types.{IsFor, begins_as_generics, AreLifetimes, optional_binder, sees_ident, a_binder, reads_below, ty, Manner, clearly, End, Parts, Readers, a_param, IsOptional, absent, present, an_infer, a_never, BoundLifetimes, GenericParam, Path, PathArguments, PathSegment, QSelf, TypeFnPtr, TypeParamBound, TypeTree}
+use Rattle.syn_generics.proofs.generics_laws.words.Generics.{GenericsOf, PredicateLifetimeOf, PredicateTypeOf, WhereClauseOf, WherePredicateOf, a_lifetime_predicate, AreBoundsOf, bounds_of, a_type_predicate, a_type_predicate_for, IsPredicate, of_lifetime, of_type, IsWhereClause, a_where_clause, lifetime_after, predicate_after, predicate_bounds, sees_first_param, sees_generics, sees_lifetime_predicate, type_after, generics, AreGenerics, no_generics, some_generics, predicate_lifetime_of, predicate_type_of, generics_of}
 use Rattle.token_core.specs.declared.span.DelimSpan.{DelimSpan}
-use Rattle.token_core.specs.declared.tree.Delimiter.TheVariants.{Parenthesis, Brace, Bracket}
-use Rattle.token_core.specs.declared.tree.Ident.{Ident}
 use Rattle.token_core.specs.declared.tree.Punct.{Punct}
 use Rattle.token_core.specs.declared.tree.Spacing.TheVariants.{Joint}
 use Rattle.token_core.specs.declared.word.Word.{Word}
 use Rattle.token_core.specs.Keywords.{is_keyword}
-use Rattle.token_core.specs.Marks.{text_of}
-use Rattle.token_core.specs.Lifetimes.{sees_lifetime}
-use Rattle.token_core.specs.Listed.{AreListed, Anywhere, Nowhere, none_left, last_value, value_and_mark}
-use Rattle.token_core.specs.Loops.{Many}
-use Rattle.token_core.specs.Reads.{Reader, after_one, builtin_text, is_done, is_ident, is_text, meets, second, sees_group, sees_mark, sees_word}
-use Rattle.token_core.specs.Spans.{none}
-use Rattle.token_core.specs.Spellings.{IsMark, is_mark, last_char, more_chars, IsWord, is_word, IsLifetime, is_lifetime}
-use Rattle.token_core.specs.Stream.{Scope}
 use Rattle.token_core.specs.Tokens as token
-use Rattle.token_core.specs.Toks.{Bytes, Toks, done, word, mark, lit, group, enter, leave}
-use Rattle.token_core.specs.Trees.{punct}
 use Rattle.token_core.proofs.MarkSpells.{mark_complete, mark_seen, mark_size}
 use Rattle.token_core.proofs.Steps.{link, chosen, Reads_to}
 use Rattle.token_core.proofs.Took.{at}
@@ -36,45 +27,22 @@ use Rattle.syn_path.specs.mac.Spelling as calls
 use Rattle.syn_path.specs.path.Paths.{nothing}
 use Rattle.syn_path.specs.path.Reading.{sees_angle, sees_sep}
 use Rattle.syn_path.specs.path.Spelling as bare
-use Rattle.syn_path.specs.Values.{ReadValues, SpelledValues}
 use Rattle.syn_forms.specs.declared.places.BoundPlace.TheVariants.{Parameter}
-use Rattle.syn_forms.specs.declared.places.ParamPlace.TheVariants.{Binder, Generics}
 use Rattle.syn_forms.specs.declared.places.TypePlace.{TypePlace}
-use Rattle.syn_forms.specs.declared.places.TypePlace.TheVariants.{Bounded, Plus}
 use Rattle.syn_forms.specs.inputs.Reading.{sees_ident_or_underscore, sees_name}
-use Rattle.syn_forms.specs.nested.Below.{ahead, held}
 use Rattle.syn_forms.specs.paths.Reading.{is_named_word, sees_turbofish}
 use Rattle.syn_forms.specs.predicates.Reading as predicates
-use Rattle.syn_forms.specs.predicates.Reading.{LifetimePredicate, ends_lifetime_predicate, ends_predicate, predicates_to}
 use Rattle.syn_forms.proofs.lists_laws.Complete.{listed_here}
-use Rattle.syn_generics.specs.declared.generics.GenericsOf.{GenericsOf}
-use Rattle.syn_generics.specs.declared.generics.PredicateLifetimeOf.{PredicateLifetimeOf}
-use Rattle.syn_generics.specs.declared.generics.PredicateTypeOf.{PredicateTypeOf}
-use Rattle.syn_generics.specs.declared.generics.WhereClauseOf.{WhereClauseOf}
-use Rattle.syn_generics.specs.declared.generics.WherePredicateOf.{WherePredicateOf}
 use Rattle.syn_generics.specs.declared.generics.WherePredicateOf.TheVariants as w
 use Rattle.syn_generics.specs.generics.Alone as alone
-use Rattle.syn_ty.specs.generics.Bounds.{IsFor}
-use Rattle.syn_ty.specs.generics.Parameters.{begins_as_generics, AreLifetimes}
-use Rattle.syn_generics.specs.generics.Clauses.{a_lifetime_predicate, AreBoundsOf, bounds_of, a_type_predicate, a_type_predicate_for, IsPredicate, of_lifetime, of_type, IsWhereClause, a_where_clause}
 use Rattle.syn_generics.specs.generics.Declared as declared
-use Rattle.syn_generics.specs.generics.Declared.{lifetime_after, predicate_after, predicate_bounds, sees_first_param, sees_generics, sees_lifetime_predicate, type_after, generics}
-use Rattle.syn_generics.specs.generics.Parameters.{AreGenerics, no_generics, some_generics}
-use Rattle.syn_generics.specs.generics.Params.{predicate_lifetime_of, predicate_type_of, generics_of}
-use Rattle.syn_ty.specs.generics.Reading.{optional_binder, sees_ident}
-use Rattle.syn_ty.specs.generics.Spelling.{a_binder}
 use Rattle.syn_ty.specs.path.Paths.{Sep}
 use Rattle.syn_ty.specs.path.Reading.{sees_lone_lifetime}
 use Rattle.syn_ty.specs.path.Spelling.{is_segment_word, IsSegment, a_word, a_word_with_arguments, IsPath, a_path, by_type, by_type_as_path, IsAnyPath, unqualified, qualified}
 use Rattle.syn_ty.specs.ty.Admitted.{IsType, a_path_type, a_macro, a_bound_macro, an_object_with_dyn, an_object_without_dyn, an_impl_type, a_fn_type, a_ptr_type, a_reference_type, a_paren_type, a_tuple_type, a_slice_type, an_array_type, an_infer_type, a_never_type, a_verbatim_type, a_pointer, a_borrow, a_mutable_borrow, a_lifetime_borrow, enclosed, bracketed, counted, no_element, some_elements, IsVerbatimType, an_unsafe_binder, a_dyn_star, a_builtin}
 use Rattle.syn_ty.specs.ty.Functions.{an_abi, IsFnPtr, a_fn_ptr}
-use Rattle.syn_ty.specs.ty.Knot.{reads_below, ty}
 use Rattle.syn_ty.specs.ty.Objects.{a_dyn, an_impl, IsFirst, a_first, a_first_for, AreBareBounds, path_alone, path_and_plus, held_and_plus, asked_first, asked_in_two, lifetime_first}
-use Rattle.syn_ty.specs.ty.Parts.{Manner, clearly, End, Parts}
-use Rattle.syn_ty.specs.ty.Points.{Readers, a_param}
-use Rattle.syn_ty.specs.ty.Spelling.{IsOptional, absent, present, an_infer, a_never}
 use Rattle.syn_ty.specs.ty.Spelt.{spelt_to}
-use Rattle.syn_ty.specs.ty.Trees.{BoundLifetimes, GenericParam, Path, PathArguments, PathSegment, QSelf, TypeFnPtr, TypeParamBound, TypeTree}
 use Rattle.syn_ty.proofs.ty_laws.complete.Leaves.{later, not_more}
 use Rattle.syn_ty.proofs.ty_laws.complete.Less.{same, some, no_no, no_less, less_no, less_less, listed_no, mark_takes, word_takes, lifetime_takes}
 use Rattle.syn_ty.proofs.ty_laws.complete.Within.{Firsts, Fits, Less, NoMore, TypeBegins, BoundBegins, Meets, SuppliedMeets}

@@ -1,11 +1,10 @@
 -- Each whole read of this layer is complete: a tree that all of a list spells clearly by its promise is what it answers, and nothing is left over.
 use Rattle.std.proofs.Common.{◌≡◌, Bool, true, List, [], refl}
-use Rattle.token_core.specs.Reads.{Reader, is_done}
-use Rattle.token_core.specs.Toks.{Toks, done}
-use Rattle.syn_path.specs.Values.{ReadValues, SpelledValues}
-use Rattle.syn_forms.specs.predicates.Reading.{ends_predicate}
+use Rattle.syn_generics.proofs.generics_laws.words.Tokens.{Reader, is_done, Toks, done}
+use Rattle.syn_generics.proofs.generics_laws.words.Paths.{ReadValues, SpelledValues}
+use Rattle.syn_generics.proofs.generics_laws.words.Forms.{ends_predicate}
+use Rattle.syn_generics.proofs.generics_laws.words.Types.{clearly}
 use Rattle.syn_generics.specs.generics.Alone as clauses
-use Rattle.syn_ty.specs.ty.Parts.{clearly}
 use Rattle.syn_ty.proofs.ty_laws.complete.Knot.{GivenMeets}
 use Rattle.syn_generics.specs.generics.Spelt as by
 use Rattle.syn_generics.proofs.generics_laws.complete.Alone as front

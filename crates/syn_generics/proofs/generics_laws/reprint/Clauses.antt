@@ -1,43 +1,22 @@
 -- Predicates and where clauses print their normal form clearly, where what stands within them does; a clause without predicates prints nothing.
 use Rattle.std.proofs.Common.{◌≡◌, ◌⊎◌, ◌&&◌, Bool, true, false, List, [], ◌∷◌, ◌++◌, Option, Some, None, inl, inr, refl, sym, ap, subst}
-use Rattle.token_core.specs.declared.lifetime.Lifetime.{Lifetime}
+use Rattle.syn_generics.proofs.generics_laws.words.Tokens.{Lifetime, AreListed, none_left, last_value, value_and_mark, Anywhere, joined, Many, Print, is_ident, second, sees_mark, sees_word, third, Visible, IsMark, IsWord, is_word, IsLifetime, is_lifetime, Toks, row}
+use Rattle.syn_generics.proofs.generics_laws.words.Paths.{NormalValues, Values}
+use Rattle.syn_generics.proofs.generics_laws.words.Forms.{Bounded}
+use Rattle.syn_generics.proofs.generics_laws.words.Types.{IsFor, begins_as_generics, many, lifetimes_joined, a_binder, Manner, plainly, clearly, End, Parts, Relation, IsOptional, absent, present, BoundLifetimes, TypeParamBound, TypeTree}
+use Rattle.syn_generics.proofs.generics_laws.words.Generics.{PredicateLifetimeOf, PredicateTypeOf, WhereClauseOf, WherePredicateOf, IsLifetimePredicate, a_lifetime_predicate, AreBoundsOf, bounds_of, IsTypePredicate, a_type_predicate, a_type_predicate_for, IsPredicate, of_lifetime, of_type, IsWhereClause, a_where_clause, predicate_lifetime_of, predicate_type_of, where_clause_of}
 use Rattle.token_core.specs.Lifetimes as lifetimes
-use Rattle.token_core.specs.Listed.{AreListed, none_left, last_value, value_and_mark, Anywhere}
-use Rattle.token_core.specs.Lists.{joined}
-use Rattle.token_core.specs.Loops.{Many}
-use Rattle.token_core.specs.Prints.{Print}
 use Rattle.token_core.specs.Prints as p
-use Rattle.token_core.specs.Reads.{is_ident, second, sees_mark, sees_word, third}
-use Rattle.token_core.specs.Rebuilt.{Visible}
-use Rattle.token_core.specs.Spellings.{IsMark, IsWord, is_word, IsLifetime, is_lifetime}
 use Rattle.token_core.specs.Tokens as token
-use Rattle.token_core.specs.Toks.{Toks}
-use Rattle.token_core.specs.Trees.{row}
 use Rattle.token_core.proofs.Rows.{row-append}
 use Rattle.token_core.proofs.WordSpells.{lifetime_again, word_again}
-use Rattle.syn_path.specs.Values.{NormalValues, Values}
 use Rattle.syn_path.proofs.Words.{AgainFront}
-use Rattle.syn_forms.specs.declared.places.TypePlace.TheVariants.{Bounded}
 use Rattle.syn_forms.proofs.tokens_laws.Mutability.{word_front}
-use Rattle.syn_generics.specs.declared.generics.PredicateLifetimeOf.{PredicateLifetimeOf}
-use Rattle.syn_generics.specs.declared.generics.PredicateTypeOf.{PredicateTypeOf}
-use Rattle.syn_generics.specs.declared.generics.WhereClauseOf.{WhereClauseOf}
 use Rattle.syn_generics.specs.declared.generics.WherePredicateOf.TheVariants as w
-use Rattle.syn_generics.specs.declared.generics.WherePredicateOf.{WherePredicateOf}
-use Rattle.syn_ty.specs.generics.Bounds.{IsFor}
-use Rattle.syn_ty.specs.generics.Parameters.{begins_as_generics}
-use Rattle.syn_generics.specs.generics.Clauses.{IsLifetimePredicate, a_lifetime_predicate, AreBoundsOf, bounds_of, IsTypePredicate, a_type_predicate, a_type_predicate_for, IsPredicate, of_lifetime, of_type, IsWhereClause, a_where_clause}
-use Rattle.syn_ty.specs.generics.NormalShapes.{many}
 use Rattle.syn_generics.specs.generics.Normal as normals
-use Rattle.syn_generics.specs.generics.Params.{predicate_lifetime_of, predicate_type_of, where_clause_of}
 use Rattle.syn_generics.specs.generics.Printing as shown
-use Rattle.syn_ty.specs.generics.Shapes.{lifetimes_joined}
-use Rattle.syn_ty.specs.generics.Spelling.{a_binder}
 use Rattle.syn_ty.specs.ty.Normal as normal
-use Rattle.syn_ty.specs.ty.Parts.{Manner, plainly, clearly, End, Parts}
 use Rattle.syn_ty.specs.ty.Printing as printing
-use Rattle.syn_ty.specs.ty.Spelling.{Relation, IsOptional, absent, present}
-use Rattle.syn_ty.specs.ty.Trees.{BoundLifetimes, TypeParamBound, TypeTree}
 use Rattle.syn_ty.proofs.generics_laws.Members.{true_false, some}
 use Rattle.syn_ty.proofs.ty_laws.reprint.Within.{Again, SuppliedAgain}
 use Rattle.syn_ty.proofs.ty_laws.reprint.Joined.{Then, then_front, made_front, lifetime_front, AreLives, lives_again}

@@ -1,29 +1,17 @@
 -- The generics of a declaration print their normal form clearly, where parameters do, whatever these spell: lifetimes first, and nothing without parameters.
 use Rattle.std.proofs.Common.{◌≡◌, Bool, true, false, List, [], ◌∷◌, ◌++◌, Some, None, refl, sym, ◌∙◌, ap}
-use Rattle.token_core.specs.Listed.{AreListed, none_left, Anywhere}
-use Rattle.token_core.specs.Loops.{Many}
-use Rattle.token_core.specs.Prints.{Print}
+use Rattle.syn_generics.proofs.generics_laws.words.Tokens.{AreListed, none_left, Anywhere, Many, Print, IsMark, Toks}
+use Rattle.syn_generics.proofs.generics_laws.words.Paths.{NormalValues, Values}
+use Rattle.syn_generics.proofs.generics_laws.words.Types.{sort, sorted, many, is_lifetime, Manner, plainly, clearly, Parts, Relation, GenericParam}
+use Rattle.syn_generics.proofs.generics_laws.words.Generics.{GenericsOf, AreGenerics, no_generics, some_generics, empty, generics_of, between}
 use Rattle.token_core.specs.Prints as p
-use Rattle.token_core.specs.Spellings.{IsMark}
 use Rattle.token_core.specs.Tokens as token
-use Rattle.token_core.specs.Toks.{Toks}
-use Rattle.syn_path.specs.Values.{NormalValues, Values}
 use Rattle.syn_path.proofs.Words.{AgainFront}
 use Rattle.syn_forms.specs.declared.places.ParamPlace.TheVariants as params
-use Rattle.syn_generics.specs.declared.generics.GenericsOf.{GenericsOf}
-use Rattle.syn_ty.specs.generics.Members.{sort, sorted}
-use Rattle.syn_ty.specs.generics.NormalShapes.{many}
 use Rattle.syn_generics.specs.generics.Normal as clauses
-use Rattle.syn_generics.specs.generics.Parameters.{AreGenerics, no_generics, some_generics}
-use Rattle.syn_generics.specs.generics.Params.{empty, generics_of}
-use Rattle.syn_ty.specs.generics.Params.{is_lifetime}
 use Rattle.syn_generics.specs.generics.Printing as shown
-use Rattle.syn_generics.specs.generics.Shapes.{between}
 use Rattle.syn_ty.specs.ty.Normal as normal
-use Rattle.syn_ty.specs.ty.Parts.{Manner, plainly, clearly, Parts}
 use Rattle.syn_ty.specs.ty.Printing as printing
-use Rattle.syn_ty.specs.ty.Spelling.{Relation}
-use Rattle.syn_ty.specs.ty.Trees.{GenericParam}
 use Rattle.syn_ty.proofs.generics_laws.Members.{true_false, some, some_sort}
 use Rattle.syn_ty.proofs.ty_laws.reprint.Within.{Again}
 use Rattle.syn_ty.proofs.ty_laws.reprint.AnglesSorted.{sorted_again}

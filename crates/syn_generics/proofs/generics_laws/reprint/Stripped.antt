@@ -1,32 +1,19 @@
 -- Generics without their defaults print their normal form clearly, where with them they spell a list plainly: a parameter spells its list up to where its default begins.
 use Rattle.std.proofs.Common.{◌≡◌, Bool, true, false, List, [], Option, None, map, sym, ◌∙◌, ap, subst}
-use Rattle.token_core.specs.declared.tree.Ident.{Ident}
-use Rattle.token_core.specs.Listed.{AreListed, none_left, last_value, value_and_mark, Anywhere}
-use Rattle.token_core.specs.Loops.{Many}
-use Rattle.token_core.specs.Prints.{Print}
-use Rattle.token_core.specs.Rebuilt.{Visible}
-use Rattle.token_core.specs.Spellings.{IsMark}
+use Rattle.syn_generics.proofs.generics_laws.words.Tokens.{Ident, AreListed, none_left, last_value, value_and_mark, Anywhere, Many, Print, Visible, IsMark, Toks}
+use Rattle.syn_generics.proofs.generics_laws.words.Paths.{NormalValues, Values}
+use Rattle.syn_generics.proofs.generics_laws.words.Types.{a_type_param, a_const_param, IsParam, a_lifetime_param, a_named_param, a_constant_param, a_bare_param, const_param_of, type_param_of, strip, strip_layer, Manner, plainly, clearly, Parts, Relation, absent, ConstParam, GenericParam, TypeParamBound, TypeTree}
+use Rattle.syn_generics.proofs.generics_laws.words.Generics.{GenericsOf, AreGenerics, no_generics, some_generics, stripped}
 use Rattle.token_core.specs.Tokens as token
-use Rattle.token_core.specs.Toks.{Toks}
-use Rattle.syn_path.specs.Values.{NormalValues, Values}
 use Rattle.syn_path.proofs.Words.{AgainFront}
 use Rattle.syn_forms.specs.declared.places.ParamPlace.{ParamPlace}
 use Rattle.syn_forms.specs.declared.places.ParamPlace.TheVariants as params
-use Rattle.syn_generics.specs.declared.generics.GenericsOf.{GenericsOf}
-use Rattle.syn_generics.specs.generics.Parameters.{AreGenerics, no_generics, some_generics}
-use Rattle.syn_generics.specs.generics.Views.{stripped}
 use Rattle.syn_generics.proofs.generics_laws.reprint.Generics.{AgainGenerics, held_again, nothing_again}
 use Rattle.syn_ty.specs.declared.generics.GenericParamOf.TheVariants as g
 use Rattle.syn_ty.specs.declared.generics.LifetimeParamOf.{LifetimeParamOf}
 use Rattle.syn_ty.specs.declared.generics.TypeParamOf.{out-roll-TypeParamOf}
-use Rattle.syn_ty.specs.generics.Parameters.{a_type_param, a_const_param, IsParam, a_lifetime_param, a_named_param, a_constant_param, a_bare_param}
-use Rattle.syn_ty.specs.generics.Params.{const_param_of, type_param_of}
-use Rattle.syn_ty.specs.generics.Views.{strip, strip_layer}
 use Rattle.syn_ty.specs.ty.Normal as normal
-use Rattle.syn_ty.specs.ty.Parts.{Manner, plainly, clearly, Parts}
 use Rattle.syn_ty.specs.ty.Printing as printing
-use Rattle.syn_ty.specs.ty.Spelling.{Relation, absent}
-use Rattle.syn_ty.specs.ty.Trees.{ConstParam, GenericParam, TypeParamBound, TypeTree}
 use Rattle.syn_ty.proofs.ty_laws.reprint.Within.{Again}
 
 -- ---- a parameter without its default

@@ -1,22 +1,14 @@
 -- Each grammar of this layer is reprinted: what spells all of a list plainly prints its normal form clearly, which is its own and prints the same.
 use Rattle.std.proofs.Common.{◌≡◌, ℕ, zero, suc, Bool, true, List}
+use Rattle.syn_generics.proofs.generics_laws.words.Tokens.{Print, Toks, done}
+use Rattle.syn_generics.proofs.generics_laws.words.Paths.{NormalValues, SpelledValues, Values}
+use Rattle.syn_generics.proofs.generics_laws.words.Types.{plainly, clearly, strip, IsOptional, GenericParam}
+use Rattle.syn_generics.proofs.generics_laws.words.Generics.{GenericsOf, WhereClauseOf, IsPredicate, IsWhereClause, AreGenerics, stripped}
 use Rattle.token_core.specs.Prints as p
-use Rattle.token_core.specs.Prints.{Print}
-use Rattle.token_core.specs.Toks.{Toks, done}
-use Rattle.syn_path.specs.Values.{NormalValues, SpelledValues, Values}
 use Rattle.syn_path.proofs.Words.{Again, AgainFront}
 use Rattle.syn_forms.specs.declared.places.ParamPlace.TheVariants as params
-use Rattle.syn_generics.specs.declared.generics.GenericsOf.{GenericsOf}
-use Rattle.syn_generics.specs.declared.generics.WhereClauseOf.{WhereClauseOf}
-use Rattle.syn_generics.specs.generics.Clauses.{IsPredicate, IsWhereClause}
 use Rattle.syn_generics.specs.generics.Normal as clauses
-use Rattle.syn_generics.specs.generics.Parameters.{AreGenerics}
 use Rattle.syn_generics.specs.generics.Printing as shown_clauses
-use Rattle.syn_generics.specs.generics.Views.{stripped}
-use Rattle.syn_ty.specs.ty.Parts.{plainly, clearly}
-use Rattle.syn_ty.specs.generics.Views.{strip}
-use Rattle.syn_ty.specs.ty.Spelling.{IsOptional}
-use Rattle.syn_ty.specs.ty.Trees.{GenericParam}
 use Rattle.syn_ty.proofs.generics_laws.Members.{some}
 use Rattle.syn_generics.proofs.generics_laws.reprint.Clauses as wheres
 use Rattle.syn_generics.proofs.generics_laws.reprint.Clauses.{ForKept, TypeKept, for_kept, generics_kept}

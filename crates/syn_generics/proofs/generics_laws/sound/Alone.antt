@@ -1,21 +1,12 @@
 -- Each reader of this layer on the front of a list without invisible groups: where it answers, what was taken is spelt by the whole grammar, by trees of some height.
 use Rattle.std.proofs.Common.{◌≡◌, ℕ, suc, ◌<◌, Bool, List, Option, Ok, arith}
-use Rattle.token_core.specs.Reads.{Reader}
-use Rattle.token_core.specs.Rebuilt.{Visible}
-use Rattle.token_core.specs.Stream.{Stream}
-use Rattle.token_core.specs.Toks.{Toks}
+use Rattle.syn_generics.proofs.generics_laws.words.Tokens.{Reader, Visible, Stream, Toks}
+use Rattle.syn_generics.proofs.generics_laws.words.Paths.{ReadValues, SpelledValues}
+use Rattle.syn_generics.proofs.generics_laws.words.Forms.{Bounded, ahead}
+use Rattle.syn_generics.proofs.generics_laws.words.Types.{loosely, IsOptional}
+use Rattle.syn_generics.proofs.generics_laws.words.Generics.{GenericsOf, WhereClauseOf, WherePredicateOf, IsPredicate, IsWhereClause, AreGenerics}
 use Rattle.syn_path.proofs.Words.{TookOne}
-use Rattle.syn_path.specs.Values.{ReadValues, SpelledValues}
-use Rattle.syn_forms.specs.declared.places.TypePlace.TheVariants.{Bounded}
-use Rattle.syn_forms.specs.nested.Below.{ahead}
-use Rattle.syn_generics.specs.declared.generics.GenericsOf.{GenericsOf}
-use Rattle.syn_generics.specs.declared.generics.WhereClauseOf.{WhereClauseOf}
-use Rattle.syn_generics.specs.declared.generics.WherePredicateOf.{WherePredicateOf}
 use Rattle.syn_generics.specs.generics.Alone as clauses
-use Rattle.syn_generics.specs.generics.Clauses.{IsPredicate, IsWhereClause}
-use Rattle.syn_generics.specs.generics.Parameters.{AreGenerics}
-use Rattle.syn_ty.specs.ty.Parts.{loosely}
-use Rattle.syn_ty.specs.ty.Spelling.{IsOptional}
 use Rattle.syn_ty.proofs.ty_laws.sound.AlongBounds.{optional_binder_along}
 use Rattle.syn_ty.proofs.ty_laws.sound.AlongKnot.{reads_below_along}
 use Rattle.syn_generics.proofs.generics_laws.sound.Clauses as of_clauses

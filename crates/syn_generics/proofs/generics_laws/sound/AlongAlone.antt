@@ -1,19 +1,16 @@
 -- Generics, predicates and where clauses, what they hold read by the knot: where one is read, the stream stands further on.
 use Rattle.std.proofs.Common.{List}
-use Rattle.syn_forms.specs.declared.places.TypePlace.TheVariants.{Bounded}
-use Rattle.syn_forms.specs.nested.Below.{ahead}
-use Rattle.syn_path.specs.Values.{ReadValues}
-use Rattle.syn_generics.specs.declared.generics.WherePredicateOf.{WherePredicateOf}
+use Rattle.syn_generics.proofs.generics_laws.words.Tokens.{Reader}
+use Rattle.syn_generics.proofs.generics_laws.words.Paths.{ReadValues, Along}
+use Rattle.syn_generics.proofs.generics_laws.words.Forms.{Bounded, ahead}
+use Rattle.syn_generics.proofs.generics_laws.words.Types.{Point, Readers, a_type, TypeTree}
+use Rattle.syn_generics.proofs.generics_laws.words.Generics.{WherePredicateOf}
 use Rattle.syn_generics.specs.generics.Alone as alone
 use Rattle.syn_generics.specs.generics.Declared as declared
-use Rattle.syn_ty.specs.ty.Points.{Point, Readers, a_type}
-use Rattle.syn_ty.specs.ty.Trees.{TypeTree}
-use Rattle.token_core.specs.Reads.{Reader}
 use Rattle.syn_ty.proofs.ty_laws.sound.AlongBounds as bounds
 use Rattle.syn_forms.proofs.along_laws.Forms as forms
 use Rattle.syn_ty.proofs.ty_laws.sound.AlongKnot.{read_along}
 use Rattle.syn_forms.proofs.along_laws.Kit.{further, held_along}
-use Rattle.syn_path.specs.Took.{Along}
 use Rattle.syn_ty.proofs.ty_laws.sound.AlongAlone.{single_along}
 
 -- ---- generics, predicates and where clauses over the reads of what they hold

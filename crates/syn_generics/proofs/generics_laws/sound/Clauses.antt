@@ -1,54 +1,27 @@
 -- Where generics, predicates and where clauses are read, they are spelt by the rules of the whole grammar: over the reads of what they hold, and by themselves.
 use Rattle.std.proofs.Common.{◌≡◌, ◌<◌, ◌≤◌, Bool, true, false, not, ◌&&◌, ◌||◌, List, Option, None, Some, Ok, inl, inr, refl, sym, ◌∙◌, ap, subst, arith}
-use Rattle.token_core.specs.declared.lifetime.Lifetime.{Lifetime}
-use Rattle.token_core.specs.Lifetimes.{read_lifetime, sees_lifetime}
-use Rattle.token_core.specs.Listed.{AreListed, Anywhere}
-use Rattle.token_core.specs.Loops.{Many}
-use Rattle.token_core.specs.Reads.{Reader, any_text, is_done, optional, second, sees_group, sees_mark, sees_word, third}
-use Rattle.token_core.specs.Rebuilt.{Visible}
-use Rattle.token_core.specs.Spellings.{IsMark, IsLifetime}
-use Rattle.token_core.specs.Stream.{Stream}
+use Rattle.syn_generics.proofs.generics_laws.words.Tokens.{Lifetime, read_lifetime, sees_lifetime, AreListed, Anywhere, Many, Reader, any_text, is_done, optional, second, sees_group, sees_mark, sees_word, third, Visible, IsMark, IsLifetime, Stream, Toks, done, word, mark, lit, group, enter, leave}
+use Rattle.syn_generics.proofs.generics_laws.words.Paths.{ReadValues, Along}
+use Rattle.syn_generics.proofs.generics_laws.words.Forms.{Generics, Bounded, ahead, held, LifetimePredicate, ends_lifetime_predicate, ends_predicate, predicates_to}
+use Rattle.syn_generics.proofs.generics_laws.words.Types.{IsFor, begins_as_generics, binder, optional_binder, sees_ident, reads_below, ty, Manner, loosely, Parts, Readers, a_param, IsOptional, absent, present, BoundLifetimes, GenericParam, TypeParamBound, TypeTree}
+use Rattle.syn_generics.proofs.generics_laws.words.Generics.{GenericsOf, PredicateLifetimeOf, PredicateTypeOf, WhereClauseOf, WherePredicateOf, IsLifetimePredicate, a_lifetime_predicate, bounds_of, IsTypePredicate, a_type_predicate, a_type_predicate_for, IsPredicate, of_lifetime, of_type, IsWhereClause, a_where_clause, lifetime_after, predicate_after, predicate_bounds, sees_first_param, sees_generics, sees_lifetime_predicate, type_after, AreGenerics, no_generics, some_generics, empty, generics_of, predicate_lifetime_of, predicate_type_of, where_clause_of}
 use Rattle.token_core.specs.Tokens as token
-use Rattle.token_core.specs.Toks.{Toks, done, word, mark, lit, group, enter, leave}
 use Rattle.token_core.proofs.Took.{branch, mapped}
 use Rattle.token_core.proofs.Turns.{chain, same_pair}
 use Rattle.syn_path.proofs.Words.{TookOne}
-use Rattle.syn_path.specs.Values.{ReadValues}
-use Rattle.syn_forms.specs.declared.places.ParamPlace.TheVariants.{Generics}
-use Rattle.syn_forms.specs.declared.places.TypePlace.TheVariants.{Bounded}
 use Rattle.syn_forms.specs.heads.Reading.{Angled, angled}
 use Rattle.syn_forms.specs.lists.Reading.{bounds_to}
-use Rattle.syn_forms.specs.nested.Below.{ahead, held}
 use Rattle.syn_forms.specs.predicates.Reading as predicates
-use Rattle.syn_forms.specs.predicates.Reading.{LifetimePredicate, ends_lifetime_predicate, ends_predicate, predicates_to}
 use Rattle.syn_forms.proofs.nested_laws.Ahead.{ahead_follows}
 use Rattle.syn_forms.proofs.nested_laws.Below.{out}
 use Rattle.syn_forms.proofs.tokens_laws.Fronts.{took_as, took_plainly}
-use Rattle.syn_generics.specs.declared.generics.GenericsOf.{GenericsOf}
-use Rattle.syn_generics.specs.declared.generics.PredicateLifetimeOf.{PredicateLifetimeOf}
-use Rattle.syn_generics.specs.declared.generics.PredicateTypeOf.{PredicateTypeOf}
-use Rattle.syn_generics.specs.declared.generics.WhereClauseOf.{WhereClauseOf}
-use Rattle.syn_generics.specs.declared.generics.WherePredicateOf.{WherePredicateOf}
 use Rattle.syn_generics.specs.declared.generics.WherePredicateOf.TheVariants as w
 use Rattle.syn_generics.specs.generics.Alone as alone
-use Rattle.syn_ty.specs.generics.Bounds.{IsFor}
-use Rattle.syn_ty.specs.generics.Parameters.{begins_as_generics}
-use Rattle.syn_generics.specs.generics.Clauses.{IsLifetimePredicate, a_lifetime_predicate, bounds_of, IsTypePredicate, a_type_predicate, a_type_predicate_for, IsPredicate, of_lifetime, of_type, IsWhereClause, a_where_clause}
 use Rattle.syn_generics.specs.generics.Declared as declared
-use Rattle.syn_generics.specs.generics.Declared.{lifetime_after, predicate_after, predicate_bounds, sees_first_param, sees_generics, sees_lifetime_predicate, type_after}
-use Rattle.syn_generics.specs.generics.Parameters.{AreGenerics, no_generics, some_generics}
-use Rattle.syn_generics.specs.generics.Params.{empty, generics_of, predicate_lifetime_of, predicate_type_of, where_clause_of}
-use Rattle.syn_ty.specs.generics.Reading.{binder, optional_binder, sees_ident}
-use Rattle.syn_ty.specs.ty.Knot.{reads_below, ty}
-use Rattle.syn_ty.specs.ty.Parts.{Manner, loosely, Parts}
-use Rattle.syn_ty.specs.ty.Points.{Readers, a_param}
-use Rattle.syn_ty.specs.ty.Spelling.{IsOptional, absent, present}
-use Rattle.syn_ty.specs.ty.Trees.{BoundLifetimes, GenericParam, TypeParamBound, TypeTree}
 use Rattle.syn_ty.proofs.ty_laws.sound.Angles.{IsAngled, angled_took}
 use Rattle.syn_ty.proofs.ty_laws.sound.Params.{After, HeldBelow, AreLives, AreParamBounds, colon_took, list_took, lives_took, mark_took, optional_for_took, param_bounds_took, with_attrs}
 use Rattle.syn_ty.proofs.ty_laws.sound.Leaves.{life_sound, named_sound}
 use Rattle.syn_ty.proofs.ty_laws.sound.Forms.{Told, unseen}
-use Rattle.syn_path.specs.Took.{Along}
 use Rattle.syn_ty.proofs.ty_laws.sound.Within.{Held, Supplied}
 
 -- ---- the generics of a declaration

@@ -1,19 +1,11 @@
 -- Generics, predicates and where clauses grow with what stands within, and so with the height of their trees: where the one grammar spells them, the other does.
 use Rattle.std.proofs.Common.{Bool, List}
+use Rattle.syn_generics.proofs.generics_laws.words.Tokens.{Toks}
+use Rattle.syn_generics.proofs.generics_laws.words.Paths.{SpelledValues}
+use Rattle.syn_generics.proofs.generics_laws.words.Types.{Manner, Parts, TypeParamBound, IsOptional}
+use Rattle.syn_generics.proofs.generics_laws.words.Generics.{GenericsOf, PredicateLifetimeOf, PredicateTypeOf, WhereClauseOf, WherePredicateOf, IsLifetimePredicate, a_lifetime_predicate, AreBoundsOf, bounds_of, IsTypePredicate, a_type_predicate, a_type_predicate_for, IsPredicate, of_lifetime, of_type, IsWhereClause, a_where_clause, AreGenerics, no_generics, some_generics}
 use Rattle.token_core.specs.Tokens as token
-use Rattle.token_core.specs.Toks.{Toks}
-use Rattle.syn_generics.specs.declared.generics.GenericsOf.{GenericsOf}
-use Rattle.syn_generics.specs.declared.generics.PredicateLifetimeOf.{PredicateLifetimeOf}
-use Rattle.syn_generics.specs.declared.generics.PredicateTypeOf.{PredicateTypeOf}
-use Rattle.syn_generics.specs.declared.generics.WhereClauseOf.{WhereClauseOf}
-use Rattle.syn_generics.specs.declared.generics.WherePredicateOf.{WherePredicateOf}
-use Rattle.syn_generics.specs.generics.Clauses.{IsLifetimePredicate, a_lifetime_predicate, AreBoundsOf, bounds_of, IsTypePredicate, a_type_predicate, a_type_predicate_for, IsPredicate, of_lifetime, of_type, IsWhereClause, a_where_clause}
-use Rattle.syn_generics.specs.generics.Parameters.{AreGenerics, no_generics, some_generics}
-use Rattle.syn_ty.specs.ty.Parts.{Manner, Parts}
-use Rattle.syn_ty.specs.ty.Trees.{TypeParamBound}
 use Rattle.syn_ty.proofs.ty_laws.sound.HigherParts.{Up, listed_up, optional_up}
-use Rattle.syn_path.specs.Values.{SpelledValues}
-use Rattle.syn_ty.specs.ty.Spelling.{IsOptional}
 use Rattle.syn_ty.proofs.ty_laws.sound.HigherBounds.{for_up, bounds_up}
 use Rattle.syn_ty.proofs.ty_laws.sound.Higher.{Grows, higher_to}
 

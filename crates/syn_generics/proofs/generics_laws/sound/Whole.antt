@@ -1,13 +1,10 @@
 -- Each whole read of this layer is sound: where it answers on a list without invisible groups and leaves nothing over, the answer spells the list by its promise.
 use Rattle.std.proofs.Common.{Bool, List}
-use Rattle.token_core.specs.Reads.{Reader}
-use Rattle.token_core.specs.Toks.{Toks}
-use Rattle.syn_path.specs.Values.{ReadValues, SpelledValues}
+use Rattle.syn_generics.proofs.generics_laws.words.Tokens.{Reader, Toks}
+use Rattle.syn_generics.proofs.generics_laws.words.Paths.{ReadValues, SpelledValues}
+use Rattle.syn_generics.proofs.generics_laws.words.Types.{loosely, IsOptional}
+use Rattle.syn_generics.proofs.generics_laws.words.Generics.{IsPredicate, IsWhereClause, AreGenerics}
 use Rattle.syn_generics.specs.generics.Alone as clauses
-use Rattle.syn_generics.specs.generics.Clauses.{IsPredicate, IsWhereClause}
-use Rattle.syn_generics.specs.generics.Parameters.{AreGenerics}
-use Rattle.syn_ty.specs.ty.Parts.{loosely}
-use Rattle.syn_ty.specs.ty.Spelling.{IsOptional}
 use Rattle.syn_ty.proofs.ty_laws.sound.Alone.{all_of}
 use Rattle.syn_ty.proofs.ty_laws.Given.{Given}
 use Rattle.syn_generics.specs.generics.Spelt as by
