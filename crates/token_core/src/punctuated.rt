@@ -28,6 +28,7 @@ pub struct Punctuated<T, P> {
 }
 
 impl<T: Drop, P: Drop> Drop for Punctuated<T, P> {
+    #[inline(never)]
     fn drop(self) {
         let Punctuated {
             values: _values,
