@@ -196,10 +196,12 @@ impl<
         ensures parses { Parses (reading.type_or_elements (below.held T.read (length self.now.begin) place))
             result input.old input.new }
     {
-        let value = self.value(input, place)?;
+        // boxed: one word is held while the elements are read
+        let value = self.boxed(input, place)?;
         if input.peek::<Comma>() {
-            return Ok(ParenContent::Elements(self.more_elements(input, place, value)?));
+            let elems = self.more_elements(input, place, value.into_inner())?;
+            return Ok(ParenContent::Elements(elems));
         }
-        Ok(ParenContent::One(Boxed::new(self.alloc, value)?))
+        Ok(ParenContent::One(value))
     }
 }

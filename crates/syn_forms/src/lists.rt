@@ -256,8 +256,11 @@ impl<
             result input.old input.new }
         ensures fewer { ahead input.new ≤ ahead input.old }
     {
-        let value = self.value(input, place)?;
-        Ok(make.make(self.alloc, value))
+        // a match, since `?` would hold the value several times while what it holds is read
+        match self.value(input, place) {
+            Ok(value) => Ok(make.make(self.alloc, value)),
+            Err(e) => Err(e),
+        }
     }
 
     /// What follows the values and marks that were found: what is made of each value, joined by marks.
@@ -283,8 +286,10 @@ impl<
             if end.is_over(input, first) {
                 return Ok(list);
             }
-            let value = self.made(input, place, make)?;
-            list.push_value(value)?;
+            match self.made(input, place, make) {
+                Ok(value) => list.push_value(value)?,
+                Err(e) => return Err(e),
+            }
             if !end.goes_on(input) {
                 return Ok(list);
             }

@@ -65,7 +65,10 @@ impl<
         ensures parses { Parses (below.held T.read (length self.now.begin) place) result input.old input.new }
         ensures fewer { ahead input.new ≤ ahead input.old }
     {
-        let value = self.value(input, place)?;
-        Ok(Boxed::new(self.alloc, value)?)
+        // a match, since `?` would hold the value several times while what it holds is read
+        match self.value(input, place) {
+            Ok(value) => Ok(Boxed::new(self.alloc, value)?),
+            Err(e) => Err(e),
+        }
     }
 }

@@ -175,8 +175,11 @@ impl<
         ensures ended { IfOk result (λ all. length all.0 ≡ length all.1 + 1) }
     {
         'turn: loop {
-            let segment = self.segment(input, style)?;
-            segments.push_value(segment)?;
+            // a match, since `?` would hold the segment several times while what it holds is read
+            match self.segment(input, style) {
+                Ok(segment) => segments.push_value(segment)?,
+                Err(e) => return Err(e),
+            }
             if !further.goes_on(input) {
                 return Ok(segments);
             }
@@ -189,6 +192,7 @@ impl<
     /// It is refused where no segment begins, and after a `::` that none follows. This is syn's `Path::parse_helper`, in the
     /// style of types its `Path::parse`.
     #[tactic(auto, using(token_core::proofs::Suffixes::follows, crate::proofs::nested_laws::Ahead::later), unfolding(crate::specs::paths::Reading::path))]
+    #[inline(never)]
     pub fn path(&self, input: &mut ParseStream<'_>, style: PathStyle) -> Result<PathOf<G>, Error>
         requires nests { Nests G.read (length self.now.begin) (F.pre self.now.read) (F.post self.now.read) }
         requires few { ahead input.old ≤ length self.now.begin }
@@ -285,6 +289,7 @@ impl<
     /// path's leading colon. The segments after `>` don't stop before parentheses. It is refused where one of `<`, the type,
     /// the path behind `as`, `>`, `::` and a segment isn't there. This is syn's `path::parsing::qpath` at a `<`.
     #[tactic(auto, using(token_core::proofs::Suffixes::follows, crate::proofs::nested_laws::Ahead::later), unfolding(crate::specs::paths::Reading::qualified))]
+    #[inline(never)]
     pub fn qualified<
         P: Copy,
         T: Tree<P>,

@@ -684,6 +684,7 @@ impl<
 > Grammar<'a, A, E, F, G, H, I, J> {
     /// What begins with a type that was read: the type itself, or what is said of the associated item that it names.
     #[tactic(auto, using(token_core::proofs::Suffixes::follows, crate::proofs::path_laws::Items::nameless_types), unfolding(crate::specs::path::Reading::after_item))]
+    #[inline(never)]
     fn after_type(
         &self,
         input: &mut ParseStream<'_>,
@@ -767,6 +768,7 @@ impl<
     /// One turn: an argument in angle brackets. It is a lifetime that no `+` follows, a constant where a literal or braces
     /// stand, or begins with a type (syn's `GenericArgument::parse`).
     #[tactic(auto, using(token_core::proofs::Suffixes::follows, syn_forms::proofs::nested_laws::Ahead::later), unfolding(crate::specs::path::Reading::argument_step))]
+    #[inline(never)]
     pub fn argument_step(
         &self,
         input: &mut ParseStream<'_>,
@@ -795,8 +797,11 @@ impl<
             let value = E::read_const_argument(self.alloc, input)?;
             return Ok(GenericArgumentOf::Const(value));
         }
-        let ty = self.type_step(input, TypePlace::Plus)?;
-        self.after_type(input, ty)
+        // a match, since `?` would hold the type several times where it is read
+        match self.type_step(input, TypePlace::Plus) {
+            Ok(ty) => self.after_type(input, ty),
+            Err(e) => Err(e),
+        }
     }
 }
 

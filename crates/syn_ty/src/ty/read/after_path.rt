@@ -109,6 +109,7 @@ impl<
 
     /// After a path: one that a type qualifies is the type.
     #[tactic(auto, using(token_core::proofs::Suffixes::follows, syn_forms::proofs::nested_laws::Ahead::later), unfolding(crate::specs::ty::Reading::path_or_object))]
+    #[inline(never)]
     pub(crate) fn path_or_object(
         &self,
         input: &mut ParseStream<'_>,
@@ -299,6 +300,7 @@ impl<
 > Grammar<'a, A, E, F, G, H, I, J> {
     /// A type in an invisible group, and what goes on with it (syn's `ambig_ty` at a group).
     #[tactic(auto, using(token_core::proofs::Suffixes::follows, syn_forms::proofs::nested_laws::Ahead::later), unfolding(crate::specs::ty::Reading::group_type))]
+    #[inline(never)]
     pub(crate) fn group_type(&self, input: &mut ParseStream<'_>) -> Result<TypeOf<A, E>, Error>
         requires types { Nests (knot.ty A.reads E.reads) (length self.now.begin)
             (F.pre self.now.types) (F.post self.now.types) }

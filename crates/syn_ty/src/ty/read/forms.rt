@@ -38,6 +38,7 @@ impl<
 > Grammar<'a, A, E, F, G, H, I, J> {
     /// `*const T`, `*mut T`, the type without plus.
     #[tactic(auto, using(token_core::proofs::Suffixes::follows, syn_forms::proofs::nested_laws::Ahead::later), unfolding(crate::specs::ty::Reading::ptr))]
+    #[inline(never)]
     pub(crate) fn ptr(
         &self,
         input: &mut ParseStream<'_>,
@@ -55,6 +56,7 @@ impl<
 
     /// `&'a mut T`, the type without plus.
     #[tactic(auto, using(token_core::proofs::Suffixes::follows, syn_forms::proofs::nested_laws::Ahead::later), unfolding(crate::specs::ty::Reading::reference))]
+    #[inline(never)]
     pub(crate) fn reference(
         &self,
         input: &mut ParseStream<'_>,
@@ -72,6 +74,7 @@ impl<
 
     /// A slice, or an array where a `;` follows the type.
     #[tactic(auto, using(token_core::proofs::Suffixes::follows, syn_forms::proofs::nested_laws::Ahead::later), unfolding(crate::specs::ty::Reading::slice_or_array))]
+    #[inline(never)]
     pub(crate) fn slice_or_array(&self, input: &mut ParseStream<'_>) -> Result<TypeOf<A, E>, Error>
         requires types { Nests (knot.ty A.reads E.reads) (length self.now.begin)
             (F.pre self.now.types) (F.post self.now.types) }

@@ -4,7 +4,10 @@ ghost use Rattle.std.specs.Prelude.{◌≡◌, ◌<◌, ◌≤◌, length};
 ghost use Rattle.syn_forms.specs.nested.Below.{Nests, ahead};
 ghost use Rattle.syn_ty.specs.ty.Knot as knot;
 ghost use Rattle.syn_ty.specs.ty.Reading as reading;
-ghost use Rattle.token_core.specs.Reads.{Parses};
+ghost use Rattle.syn_path.specs.declared.path.PathStyle.TheVariants as styles;
+ghost use Rattle.syn_ty.specs.declared.ty.TypeOf.TheVariants as variants;
+ghost use Rattle.syn_ty.specs.path.Reading as paths;
+ghost use Rattle.token_core.specs.Reads.{Parses, and_then, pure};
 ghost use Rattle.syn_forms.specs.verbatim.Reading as verbatim;
 ghost use Rattle.token_core.specs.Positions.{IsReached};
 
@@ -93,6 +96,7 @@ impl<
 
     /// A pointer to a function after its binder: `unsafe extern "C" fn(a: A, ...) -> B` (syn's `TypeBareFn`).
     #[tactic(auto, using(token_core::proofs::Suffixes::follows, syn_forms::proofs::nested_laws::Ahead::later), unfolding(crate::specs::ty::Reading::fn_ptr_after))]
+    #[inline(never)]
     pub(crate) fn fn_ptr_after(
         &self,
         input: &mut ParseStream<'_>,
@@ -110,8 +114,25 @@ impl<
         Ok(bare_fn_ptr(self.alloc, lifetimes, parts))
     }
 
+    /// The same as a type.
+    #[tactic(auto, using(token_core::proofs::Suffixes::follows, syn_forms::proofs::nested_laws::Ahead::later))]
+    #[inline(never)]
+    fn fn_ptr_type(
+        &self,
+        input: &mut ParseStream<'_>,
+        lifetimes: Option<BoundLifetimesOf<GenericParamOf<A, E>>>,
+    ) -> Result<TypeOf<A, E>, Error>
+        requires types { Nests (knot.ty A.reads E.reads) (length self.now.begin) (F.pre self.now.types) (F.post self.now.types) }
+        requires few { ahead input.old ≤ length self.now.begin }
+        ensures parses { Parses (λ s. and_then (reading.fn_ptr_after A.reads E.reads (knot.reads_below A.reads E.reads (length self.now.begin)) lifetimes s) (λ form. pure (variants.FnPtr form))) result input.old input.new }
+        ensures fewer { ahead input.new ≤ ahead input.old }
+    {
+        Ok(TypeOf::FnPtr(self.fn_ptr_after(input, lifetimes)?))
+    }
+
     /// `unsafe<'a> T`: no case holds it, so that it is held as it was written, from a position on.
     #[tactic(auto, using(token_core::proofs::Suffixes::follows, syn_forms::proofs::nested_laws::Ahead::later, syn_forms::proofs::verbatim_laws::Reached::later), unfolding(crate::specs::ty::Reading::unsafe_binder))]
+    #[inline(never)]
     pub(crate) fn unsafe_binder(
         &self,
         input: &mut ParseStream<'_>,
@@ -163,6 +184,28 @@ impl<
     ) -> Result<PathArgumentsOf<A, E>, Error>
         + Copy,
 > Grammar<'a, A, E, F, G, H, I, J> {
+    /// A path, or a trait object that begins with one.
+    #[tactic(auto, using(token_core::proofs::Suffixes::follows, syn_forms::proofs::nested_laws::Ahead::later))]
+    #[inline(never)]
+    fn path_type(
+        &self,
+        input: &mut ParseStream<'_>,
+        plus: bool,
+        lifetimes: Option<BoundLifetimesOf<GenericParamOf<A, E>>>,
+    ) -> Result<TypeOf<A, E>, Error>
+        requires types { Nests (knot.ty A.reads E.reads) (length self.now.begin) (F.pre self.now.types) (F.post self.now.types) }
+        requires bounds { Nests (knot.bound A.reads E.reads) (length self.now.begin) (G.pre self.now.bounds) (G.post self.now.bounds) }
+        requires segments { Nests (knot.arguments_in A.reads E.reads) (length self.now.begin) (J.pre self.now.segments) (J.post self.now.segments) }
+        requires few { ahead input.old ≤ length self.now.begin }
+        ensures parses { Parses (λ s. and_then (paths.maybe_qualified (knot.reads_below A.reads E.reads (length self.now.begin)) styles.AsWritten s) (reading.path_or_object (knot.reads_below A.reads E.reads (length self.now.begin)) plus lifetimes)) result input.old input.new }
+        ensures fewer { ahead input.new ≤ ahead input.old }
+    {
+        match self.maybe_qualified(input, PathStyle::AsWritten) {
+            Ok((qself, path)) => self.path_or_object(input, plus, lifetimes, qself, path),
+            Err(e) => Err(e),
+        }
+    }
+
     /// A pointer to a function, a path, or tokens that no case holds.
     #[tactic(auto, using(token_core::proofs::Suffixes::follows, syn_forms::proofs::nested_laws::Ahead::later), unfolding(crate::specs::ty::Reading::named_type))]
     pub(crate) fn named_type(
@@ -189,13 +232,12 @@ impl<
             return self.unsafe_binder(input, from, place);
         }
         if sees_fn_ptr(input) {
-            return Ok(TypeOf::FnPtr(self.fn_ptr_after(input, lifetimes)?));
+            return self.fn_ptr_type(input, lifetimes);
         }
         if sees_builtin(input) {
             return parse_builtin_type(self.alloc, input, from);
         }
-        let (qself, path) = self.maybe_qualified(input, PathStyle::AsWritten)?;
-        self.path_or_object(input, place.allows_plus(), lifetimes, qself, path)
+        self.path_type(input, place.allows_plus(), lifetimes)
     }
 }
 
@@ -235,6 +277,7 @@ impl<
 > Grammar<'a, A, E, F, G, H, I, J> {
     /// A type after its binder: a pointer to a function, or a trait object that begins with a path.
     #[tactic(auto, using(token_core::proofs::Suffixes::follows, syn_forms::proofs::nested_laws::Ahead::later, syn_forms::proofs::verbatim_laws::Reached::later), unfolding(crate::specs::ty::Reading::bound_type))]
+    #[inline(never)]
     pub(crate) fn bound_type(
         &self,
         input: &mut ParseStream<'_>,

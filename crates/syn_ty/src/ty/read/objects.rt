@@ -151,6 +151,7 @@ impl<
 
     /// The bounds of a trait object that begins with a lifetime: several in every place.
     #[tactic(auto, using(token_core::proofs::Suffixes::follows, syn_forms::proofs::nested_laws::Ahead::later), unfolding(crate::specs::ty::Reading::lifetime_object))]
+    #[inline(never)]
     pub(crate) fn lifetime_object(
         &self,
         input: &mut ParseStream<'_>,
@@ -169,6 +170,7 @@ impl<
 
     /// `dyn A + 'a`. A `*` after `dyn` has no case of its own: such a type is held as it was written.
     #[tactic(auto, using(token_core::proofs::Suffixes::follows, syn_forms::proofs::nested_laws::Ahead::later, syn_forms::proofs::verbatim_laws::Reached::later), unfolding(crate::specs::ty::Reading::dyn_type))]
+    #[inline(never)]
     pub(crate) fn dyn_type(
         &self,
         input: &mut ParseStream<'_>,
@@ -300,6 +302,7 @@ impl<
 
     /// The type of what parentheses held. After `(?..)` each `+` needs a bound in every place.
     #[tactic(auto, using(token_core::proofs::Suffixes::follows, syn_forms::proofs::nested_laws::Ahead::later), unfolding(crate::specs::ty::Reading::of_parens))]
+    #[inline(never)]
     pub(crate) fn of_parens(
         &self,
         input: &mut ParseStream<'_>,
@@ -442,6 +445,7 @@ impl<
 
     /// A tuple, a type in parentheses, or a trait object that begins with parentheses (syn's `ambig_ty` at `(`).
     #[tactic(auto, using(token_core::proofs::Suffixes::follows, syn_forms::proofs::nested_laws::Ahead::later), unfolding(crate::specs::ty::Reading::paren_type))]
+    #[inline(never)]
     pub(crate) fn paren_type(
         &self,
         input: &mut ParseStream<'_>,

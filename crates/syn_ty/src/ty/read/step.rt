@@ -39,6 +39,7 @@ impl<
 > Grammar<'a, A, E, F, G, H, I, J> {
     /// A type that begins with `!`, `impl`, `_` or a lifetime.
     #[tactic(auto, using(token_core::proofs::Suffixes::follows, syn_forms::proofs::nested_laws::Ahead::later), unfolding(crate::specs::ty::Reading::by_last_tokens))]
+    #[inline(never)]
     pub(crate) fn by_last_tokens(
         &self,
         input: &mut ParseStream<'_>,
@@ -93,6 +94,7 @@ impl<
 > Grammar<'a, A, E, F, G, H, I, J> {
     /// A type that begins with `dyn`, brackets, `*` or `&`, or as `by_last_tokens` reads it.
     #[tactic(auto, using(token_core::proofs::Suffixes::follows, syn_forms::proofs::nested_laws::Ahead::later), unfolding(crate::specs::ty::Reading::by_token))]
+    #[inline(never)]
     pub(crate) fn by_token(
         &self,
         input: &mut ParseStream<'_>,

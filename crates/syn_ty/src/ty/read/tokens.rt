@@ -230,6 +230,7 @@ fn parse_builtin(alloc: Global, input: &mut ParseStream<'_>) -> Result<(), Error
 
 /// What `builtin #` begins, held as it was written from a position on.
 #[tactic(auto, using(token_core::proofs::Suffixes::follows, syn_forms::proofs::verbatim_laws::Reached::later))]
+#[inline(never)]
 pub(crate) fn parse_builtin_type<A, E>(
     alloc: Global,
     input: &mut ParseStream<'_>,
