@@ -34,13 +34,13 @@ module _ {X : Type 0} (spells : Place → X → Toks → Type 0) where
   fronts_to zero how place x l r = ⊥
   fronts_to (suc n) how place x l r = IsPatWhere spells (fronts_to n) how is_lone place x l r
 
-  -- a pattern of some height
-  abbrev pub pat : PatPlace → Pat X → Toks → Toks → Type 0
-  pat place x l r = (n : ℕ) × IsPatWhere spells (fronts_to n) loosely is_lone place x l r
-
   -- an admitted one
   abbrev pub IsSomePat : PatPlace → Pat X → Toks → Toks → Type 0
   IsSomePat place x l r = (n : ℕ) × IsPat spells (pats_to spells n) loosely place x l r
+
+  -- a pattern of some height; where no lone word is read as a path, an admitted one
+  abbrev pub pat : PatPlace → Pat X → Toks → Toks → Type 0
+  pat place x l r = ((n : ℕ) × IsPatWhere spells (fronts_to n) loosely is_lone place x l r) × (is_lone r ≡ false → IsSomePat place x l r)
 
   -- a single pattern, `:` and a type with plus: the pattern is admitted, since none of these stands before a type
   pub data IsSomePatType : PatType X → Toks → Toks → Type 0 where

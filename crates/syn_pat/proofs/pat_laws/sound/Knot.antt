@@ -41,7 +41,7 @@ use Rattle.syn_pat.proofs.pat_laws.sound.Along.{turn_along}
 use Rattle.syn_pat.proofs.pat_laws.sound.Cases.{turn_took}
 use Rattle.syn_pat.proofs.pat_laws.sound.Colons.{Starts, colon_stops, type_starts}
 use Rattle.syn_forms.proofs.along_laws.Kit.{below_along}
-use Rattle.syn_pat.proofs.pat_laws.sound.Within.{Before, Held, IsSomeType, Stopping, Stops, SuppliedTold, admitted, done_stops, on_fronts, word_stops}
+use Rattle.syn_pat.proofs.pat_laws.sound.Within.{Before, Held, IsSomeType, Stopping, Stops, SuppliedTold, admitted, done_stops, not_lone, on_fronts, word_stops}
 
 module _ {X : Type 0} (supplied : Place → Reader X) (spells : Place → X → Toks → Type 0) (g : SuppliedTold supplied spells) where
   -- ---- the turns, where a path may be a lone word, and before what stops a pattern there
@@ -80,12 +80,13 @@ module _ {X : Type 0} (supplied : Place → Reader X) (spells : Place → X → 
       let k = (turns_told (suc (ahead s))).took place s t x v e in
       record { left = k.left; seen = k.seen; spelt = λ n stop. (ahead s, k.spelt n stop) }
 
-  -- on the front of a list: its last word may be a path there
+  -- on the front of a list: its last word may be a path there, and is none where it stops
   pub pat_took : (place : PatPlace) (s t : Stream) (x : Pat X) → Visible s.rest → pat supplied (type_names supplied) place s ≡ Ok (x, t) → TookOne (fronts.pat spells place) s t x
   unfolding pat
   pat_took place s t x v e =
       let k = (turns on_fronts (fronts_to spells) (λ n p y l r i. i) (suc (ahead s))).took place s t x v e in
-      record { left = k.left; seen = k.seen; spelt = λ n. (ahead s, k.spelt n tt) }
+      let a = pat_told place s t x v e in
+      record { left = k.left; seen = k.seen; spelt = λ n. ((ahead s, k.spelt n tt), λ h. a.spelt n (not_lone t.rest h)) }
 
   pub pat_along : (place : PatPlace) → Along {A = Pat X} (pat supplied (type_names supplied) place)
   unfolding pat

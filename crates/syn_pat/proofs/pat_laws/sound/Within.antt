@@ -97,6 +97,15 @@ pub record Stopping (lone : Toks → Bool) : Type 1 where
 abbrev pub admitted : Stopping nowhere
 admitted = record { stops = Stops; at_done = done_stops; at_comma = comma_stops; at_bar = bar_stops; is_told = λ l h. inr h }
 
+neither : (b c : Bool) → b || c ≡ false → (b ≡ false) × (c ≡ false)
+neither true c h = cc h
+neither false true h = cc h
+neither false false h = (refl, refl)
+
+-- where no lone word is a path it stops
+pub not_lone : (l : Toks) → is_lone l ≡ false → Stops l
+not_lone l h = neither (sees_called l) (token.sees_ne l) h
+
 pub stops_or_lone : (b c : Bool) → (b || c ≡ true) ⊎ ((b ≡ false) × (c ≡ false))
 stops_or_lone true c = inl refl
 stops_or_lone false true = inl refl
