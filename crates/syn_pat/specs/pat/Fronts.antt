@@ -1,5 +1,5 @@
 -- What the readers of patterns take on the front of a list.
-use Rattle.std.specs.Prelude.{◌&&◌, ◌||◌, ℕ, zero, suc, Bool, false, []}
+use Rattle.std.specs.Prelude.{◌≡◌, ◌&&◌, ◌||◌, ℕ, zero, suc, Bool, false, []}
 use Rattle.token_core.specs.declared.tree.Delimiter.TheVariants.{Parenthesis}
 use Rattle.token_core.specs.Reads.{sees_group, third}
 use Rattle.token_core.specs.Spellings.{IsMark}
