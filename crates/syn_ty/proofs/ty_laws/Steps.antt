@@ -14,7 +14,8 @@ use Rattle.syn_ty.specs.path.Reading.{maybe_qualified}
 use Rattle.syn_ty.specs.ty.Knot as knot
 use Rattle.syn_ty.specs.ty.Knot.{bound, reads_below}
 use Rattle.syn_ty.specs.ty.Points.{Readers, a_bound, a_type}
-use Rattle.syn_ty.specs.ty.Reading.{after_group, as_path, begins_named, bound_type, builtin_type, by_last_tokens, by_token, dyn_of, dyn_type, group_type, group_with_arguments, group_with_segments, group_without_segments, impl_bounds, impl_trait, named_type, object_bounds, optional_dyn, optional_star, paren_content, paren_type, path_or_object, sees_bindable, sees_builtin, sees_fn_ptr, sees_further_arguments, sees_further_segment, sees_unsafe_binder, slice_or_array, trait_object, type_step, unbound_type, unsafe_binder}
+use Rattle.syn_ty.specs.ty.Reading.{after_group, as_path, begins_named, bound_type, builtin_type, by_last_tokens, by_token, dyn_of, dyn_type, fn_ptr_after, group_type, group_with_arguments, group_with_segments, group_without_segments, impl_bounds, impl_trait, named_type, object_bounds, optional_dyn, optional_star, paren_content, paren_type, path_or_object, sees_bindable, sees_builtin, sees_fn_ptr, sees_further_arguments, sees_further_segment, sees_unsafe_binder, slice_or_array, trait_object, type_step, unbound_type, unsafe_binder}
+use Rattle.syn_ty.specs.declared.ty.TypeOf.TheVariants.{FnPtr}
 use Rattle.syn_ty.specs.ty.Trees.{BoundLifetimes, Path, QSelf, TypeParamBound, TypeTraitObject, TypeTree}
 use Rattle.syn_ty.specs.ty.Types.{impl_trait_with, trait_object_with}
 use Rattle.token_core.specs.declared.span.Span.{Span}
@@ -116,14 +117,18 @@ module _ {A E : Type 0} (attrs : Reader (List A)) (values : ReadValues E) (r : R
     named_builtin l h f b =
         chosen (sees_unsafe_binder s.rest) false _ _ s _ h (chosen (sees_fn_ptr s.rest) false _ _ s _ f (chosen (sees_builtin s.rest) true _ _ s _ b refl))
 
-    pub named_path : (l : Option (BoundLifetimes A E)) (plus : Bool) (q : Option (QSelf A E)) (p : Path A E) (t : Stream) → sees_unsafe_binder s.rest ≡ false → sees_fn_ptr s.rest ≡ false →
-        sees_builtin s.rest ≡ false → maybe_qualified r AsWritten s ≡ Ok ((q, p), t) → plus ≡ allows_plus place →
-        named_type attrs values r place from l s ≡ path_or_object r plus l (q, p) t
+    pub named_fn_ptr : (l : Option (BoundLifetimes A E)) → sees_unsafe_binder s.rest ≡ false → sees_fn_ptr s.rest ≡ true →
+        named_type attrs values r place from l s ≡ and_then (fn_ptr_after attrs values r l s) (λ x. pure (FnPtr x))
     unfolding named_type
-    named_path l plus q p t h f b e k =
+    named_fn_ptr l h f = chosen (sees_unsafe_binder s.rest) false _ _ s _ h (chosen (sees_fn_ptr s.rest) true _ _ s _ f refl)
+
+    pub named_path : (l : Option (BoundLifetimes A E)) (plus : Bool) → sees_unsafe_binder s.rest ≡ false → sees_fn_ptr s.rest ≡ false → sees_builtin s.rest ≡ false → plus ≡ allows_plus place →
+        named_type attrs values r place from l s ≡ and_then (maybe_qualified r AsWritten s) (path_or_object r plus l)
+    unfolding named_type
+    named_path l plus h f b k =
         chosen (sees_unsafe_binder s.rest) false _ _ s _ h
         (chosen (sees_fn_ptr s.rest) false _ _ s _ f
-        (chosen (sees_builtin s.rest) false _ _ s _ b (link (path_or_object r (allows_plus place) l) e (ap (λ z. path_or_object r z l (q, p) t) (sym k)))))
+        (chosen (sees_builtin s.rest) false _ _ s _ b (ap (λ z. and_then (maybe_qualified r AsWritten s) (path_or_object r z l)) (sym k))))
 
     -- ---- after a binder
 

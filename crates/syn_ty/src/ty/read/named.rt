@@ -122,9 +122,12 @@ impl<
         input: &mut ParseStream<'_>,
         lifetimes: Option<BoundLifetimesOf<GenericParamOf<A, E>>>,
     ) -> Result<TypeOf<A, E>, Error>
-        requires types { Nests (knot.ty A.reads E.reads) (length self.now.begin) (F.pre self.now.types) (F.post self.now.types) }
+        requires types { Nests (knot.ty A.reads E.reads) (length self.now.begin)
+            (F.pre self.now.types) (F.post self.now.types) }
         requires few { ahead input.old ≤ length self.now.begin }
-        ensures parses { Parses (λ s. and_then (reading.fn_ptr_after A.reads E.reads (knot.reads_below A.reads E.reads (length self.now.begin)) lifetimes s) (λ form. pure (variants.FnPtr form))) result input.old input.new }
+        ensures parses { Parses (λ s. and_then (reading.fn_ptr_after A.reads E.reads
+            (knot.reads_below A.reads E.reads (length self.now.begin)) lifetimes s)
+            (λ form. pure (variants.FnPtr form))) result input.old input.new }
         ensures fewer { ahead input.new ≤ ahead input.old }
     {
         Ok(TypeOf::FnPtr(self.fn_ptr_after(input, lifetimes)?))
@@ -193,11 +196,17 @@ impl<
         plus: bool,
         lifetimes: Option<BoundLifetimesOf<GenericParamOf<A, E>>>,
     ) -> Result<TypeOf<A, E>, Error>
-        requires types { Nests (knot.ty A.reads E.reads) (length self.now.begin) (F.pre self.now.types) (F.post self.now.types) }
-        requires bounds { Nests (knot.bound A.reads E.reads) (length self.now.begin) (G.pre self.now.bounds) (G.post self.now.bounds) }
-        requires segments { Nests (knot.arguments_in A.reads E.reads) (length self.now.begin) (J.pre self.now.segments) (J.post self.now.segments) }
+        requires types { Nests (knot.ty A.reads E.reads) (length self.now.begin)
+            (F.pre self.now.types) (F.post self.now.types) }
+        requires bounds { Nests (knot.bound A.reads E.reads) (length self.now.begin)
+            (G.pre self.now.bounds) (G.post self.now.bounds) }
+        requires segments { Nests (knot.arguments_in A.reads E.reads) (length self.now.begin)
+            (J.pre self.now.segments) (J.post self.now.segments) }
         requires few { ahead input.old ≤ length self.now.begin }
-        ensures parses { Parses (λ s. and_then (paths.maybe_qualified (knot.reads_below A.reads E.reads (length self.now.begin)) styles.AsWritten s) (reading.path_or_object (knot.reads_below A.reads E.reads (length self.now.begin)) plus lifetimes)) result input.old input.new }
+        ensures parses { Parses (λ s. and_then
+            (paths.maybe_qualified (knot.reads_below A.reads E.reads (length self.now.begin)) styles.AsWritten s)
+            (reading.path_or_object (knot.reads_below A.reads E.reads (length self.now.begin)) plus lifetimes))
+            result input.old input.new }
         ensures fewer { ahead input.new ≤ ahead input.old }
     {
         match self.maybe_qualified(input, PathStyle::AsWritten) {

@@ -1,8 +1,7 @@
 use Rattle.std.proofs.Common.{◌≡◌, true, false, length, rules, arith}
 use Rattle.std.proofs.lemmas.Grind.{common_steps}
 use Rattle.syn_ty.specs.ty.Reading.{sees_builtin, sees_fn_ptr, sees_unsafe_binder}
-use Rattle.token_core.proofs.Suffixes.{follows}
-use Rattle.syn_ty.proofs.ty_laws.Steps.{as_told, named_binder, named_builtin, named_path}
+use Rattle.syn_ty.proofs.ty_laws.Steps.{as_told, named_binder, named_builtin, named_fn_ptr, named_path}
 use Rattle.syn_ty.specs.ty.Knot as knot
 use Rattle.syn_ty.proofs.grammar.Grammar.named_type.Goals as goal
 
@@ -20,10 +19,17 @@ returns-then-sees_builtin-clause-parses g c =
     let r = knot.reads_below g.A.Attributes.reads g.E.Value.reads (length c.args.self.now.begin) in
     as_told _ _ c.parse_builtin_type.result c.args.input.now c.parse_builtin_type.new.input (named_builtin g.A.Attributes.reads g.E.Value.reads r c.args.input.now c.args.place c.args.from.now c.args.lifetimes h f b) c.parse_builtin_type.ensures.parses
 
+pub returns-then-sees_fn_ptr-clause-parses : goal.returns-then-sees_fn_ptr-clause-parses
+returns-then-sees_fn_ptr-clause-parses g c =
+    let h : sees_unsafe_binder c.args.input.now.rest ≡ false = first_of (search rules, grind (arith, common_steps)) in
+    let f : sees_fn_ptr c.args.input.now.rest ≡ true = first_of (search rules, grind (arith, common_steps)) in
+    let r = knot.reads_below g.A.Attributes.reads g.E.Value.reads (length c.args.self.now.begin) in
+    as_told _ _ c.fn_ptr_type.result c.args.input.now c.fn_ptr_type.new.input (named_fn_ptr g.A.Attributes.reads g.E.Value.reads r c.args.input.now c.args.place c.args.from.now c.args.lifetimes h f) c.fn_ptr_type.ensures.parses
+
 pub returns-clause-parses : goal.returns-clause-parses
 returns-clause-parses g c =
     let h : sees_unsafe_binder c.args.input.now.rest ≡ false = first_of (search rules, grind (arith, common_steps)) in
     let f : sees_fn_ptr c.args.input.now.rest ≡ false = first_of (search rules, grind (arith, common_steps)) in
     let b : sees_builtin c.args.input.now.rest ≡ false = first_of (search rules, grind (arith, common_steps)) in
     let r = knot.reads_below g.A.Attributes.reads g.E.Value.reads (length c.args.self.now.begin) in
-    ((as_told _ _ c.path_or_object.result c.maybe_qualified.new.input c.path_or_object.new.input (named_path g.A.Attributes.reads g.E.Value.reads r c.args.input.now c.args.place c.args.from.now c.args.lifetimes c.allows_plus.result c.in_ok-qself.qself c.in_ok-qself.path c.maybe_qualified.new.input h f b c.in_ok-qself.ensures.parses.0 c.allows_plus.ensures) c.path_or_object.ensures.parses).0, grind (arith, follows))
+    as_told _ _ c.path_type.result c.args.input.now c.path_type.new.input (named_path g.A.Attributes.reads g.E.Value.reads r c.args.input.now c.args.place c.args.from.now c.args.lifetimes c.allows_plus.result h f b c.allows_plus.ensures) c.path_type.ensures.parses
