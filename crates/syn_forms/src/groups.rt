@@ -196,12 +196,10 @@ impl<
         ensures parses { Parses (reading.type_or_elements (below.held T.read (length self.now.begin) place))
             result input.old input.new }
     {
-        // boxed: one word is held while the elements are read
-        let value = self.boxed(input, place)?;
+        let value = self.value(input, place)?;
         if input.peek::<Comma>() {
-            let elems = self.more_elements(input, place, value.into_inner())?;
-            return Ok(ParenContent::Elements(elems));
+            return Ok(ParenContent::Elements(self.more_elements(input, place, value)?));
         }
-        Ok(ParenContent::One(value))
+        Ok(ParenContent::One(Boxed::new(self.alloc, value)?))
     }
 }

@@ -286,10 +286,8 @@ impl<
             if end.is_over(input, first) {
                 return Ok(list);
             }
-            match self.made(input, place, make) {
-                Ok(value) => list.push_value(value)?,
-                Err(e) => return Err(e),
-            }
+            let value = self.made(input, place, make)?;
+            list.push_value(value)?;
             if !end.goes_on(input) {
                 return Ok(list);
             }

@@ -175,11 +175,8 @@ impl<
         ensures ended { IfOk result (λ all. length all.0 ≡ length all.1 + 1) }
     {
         'turn: loop {
-            // a match, since `?` would hold the segment several times while what it holds is read
-            match self.segment(input, style) {
-                Ok(segment) => segments.push_value(segment)?,
-                Err(e) => return Err(e),
-            }
+            let segment = self.segment(input, style)?;
+            segments.push_value(segment)?;
             if !further.goes_on(input) {
                 return Ok(segments);
             }
