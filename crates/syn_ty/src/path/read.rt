@@ -797,11 +797,8 @@ impl<
             let value = E::read_const_argument(self.alloc, input)?;
             return Ok(GenericArgumentOf::Const(value));
         }
-        // a match, since `?` would hold the type several times where it is read
-        match self.type_step(input, TypePlace::Plus) {
-            Ok(ty) => self.after_type(input, ty),
-            Err(e) => Err(e),
-        }
+        let ty = self.type_step(input, TypePlace::Plus)?;
+        self.after_type(input, ty)
     }
 }
 
