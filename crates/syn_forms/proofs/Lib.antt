@@ -5,5 +5,6 @@ pub mod lists_laws
 pub mod nested_laws
 pub mod params_laws
 pub mod paths_laws
+pub mod prints_laws
 pub mod tokens_laws
 pub mod verbatim_laws

@@ -8,5 +8,6 @@ pub mod params
 pub mod paths
 pub mod places
 pub mod predicates
+pub mod prints
 pub mod tokens
 pub mod verbatim
