@@ -1,6 +1,6 @@
 -- Lists by their values and marks: each value is printed after those before it.
-use Rattle.std.proofs.Common.{◌≡◌, ℕ, zero, suc, ◌+◌, ◌<◌, ◌≤◌, List, [], ◌∷◌, ◌++◌, Option, Some, None, Bor, Iter, get_or, length, drop, refl, sym, ap, subst, ◌∙◌, append-nil, append_assoc, arith}
-use Rattle.std.proofs.lemmas.List.{take-append-drop}
+use Rattle.std.proofs.Common.{◌≡◌, ℕ, zero, suc, ◌+◌, ◌<◌, ◌≤◌, List, [], ◌∷◌, ◌++◌, Option, Some, None, Bor, Iter, map, get_or, length, drop, refl, sym, ap, subst, ◌∙◌, append-nil, append_assoc, arith}
+use Rattle.std.proofs.lemmas.List.{take-append-drop, get_or-map, length-map}
 use Rattle.std.specs.Prelude.{MatchOption}
 use Rattle.std.specs.Slice.Iter.{iter_rest, iter_steps}
 use Rattle.std.specs.List.{Contains}
@@ -17,6 +17,11 @@ extends_both a b c h k = extends_on a (drop (length a) b) b c (sym (take-append-
 -- what stands in a list is one of its values
 pub one_of : {T : Type 0} (l all : List T) (i : ℕ) (x : T) → all ≡ l → i < length all → x ≡ get_or all i x → Contains l x
 one_of {T} l all i x p h e = subst (λ (z : List T). Contains z x) p (subst (λ (y : T). Contains all y) (sym e) (Contains-get_or all i x h))
+
+-- and what stands in it stands among what all hold
+pub in_mapped : {T U : Type 0} (f : T → U) (l all : List T) (i : ℕ) (x : T) → all ≡ l → i < length all → x ≡ get_or all i x → Contains (map f l) (f x)
+in_mapped f l all i x p h e =
+    one_of (map f l) (map f all) i (f x) (ap (map f) p) (subst (λ n. i < n) (sym (length-map all f)) h) (ap f e ∙ sym (get_or-map f all i x (f x) h))
 
 -- what an iterator gave of marks, and what it left
 abbrev pub Next : {P : Type 0} → List P → Option (Bor P) → List P → Type 0

@@ -1,11 +1,15 @@
 //! Captures, parameters, bounds and binders are printed.
 
+ghost use Rattle.std.specs.List.{Contains};
 ghost use Rattle.std.specs.Prelude.{◌≡◌, ◌++◌, ◌∷◌, [], false, OnOk, OnErr, option_map};
-ghost use Rattle.std.specs.Slice.Iter.{iter_rest};
 ghost use Rattle.token_core.specs.Lifetimes as lifetimes;
 ghost use Rattle.token_core.specs.Lists.{pairs};
+ghost use Rattle.token_core.specs.Prints as prints;
 ghost use Rattle.token_core.specs.Prints.{Extends};
 ghost use Rattle.token_core.specs.Trees.{trees};
+ghost use Rattle.syn_path.specs.path.Shapes.{as_written};
+ghost use Rattle.syn_forms.specs.prints.Held.{Takes, TakesIn, Shows, ShowsIn};
+ghost use Rattle.syn_forms.specs.prints.Paths.{InPath};
 ghost use Rattle.syn_ty.specs.declared.generics.TypeParamBoundOf.TheVariants as bounds;
 ghost use Rattle.syn_ty.specs.generics.Members as members;
 ghost use Rattle.syn_ty.specs.generics.Shapes as shapes;
@@ -17,15 +21,16 @@ use crate::generics::{
     Member, PreciseCapture, Style, Styled, TraitBoundModifiers, TraitBoundOf, TypeParamBoundOf,
     TypeParamOf,
 };
-use crate::path::print::print_path;
+use crate::path::print::print_arguments;
 use crate::ty::TypeOf;
 use crate::ty::print::{print_type, print_verbatim};
 use std::alloc::{AllocError, Global};
-use std::slice::Iter;
-use syn_path::path::PathStyle;
+use syn_forms::prints::paths::ShownIn;
+use syn_forms::prints::{Shown, paths, print_held, print_list};
+use syn_path::path::{PathOf, PathStyle};
 use syn_path::supplied::{Attributes, Value};
-use token_core::token::{Comma, Eq, Plus};
-use token_core::{Punctuated, ToTokens, TokenStream, TokensOrDefault};
+use token_core::token::{Colon, Comma, Eq, Plus, Question};
+use token_core::{Ident, Items, Punctuated, ToTokens, TokenStream, TokensOrDefault};
 
 impl ToTokens for CapturedParam {
     ghost print = { shapes.captured };
@@ -256,40 +261,54 @@ pub fn print_param<A: Attributes, E: Value>(
     match param {
         GenericParamOf::Lifetime(param) => print_lifetime_param(alloc, param, out),
         GenericParamOf::Type(param) => print_type_param(alloc, param, out),
-        GenericParamOf::Const(param) => print_const_param(alloc, param, out),
+        GenericParamOf::Const(param) => print_const_param(alloc, param, &print_type::<A, E>, out),
     }
 }
 
-#[cycle(print)]
 #[tactic(auto, using(token_core::proofs::Puts::puts))]
-fn print_const_param<A: Attributes, E: Value>(
+fn print_const_param<
+    T: Shown,
+    A: Attributes,
+    E: Value,
+    F: Fn(Global, &T, &mut TokenStream) -> Result<(), AllocError>,
+>(
     alloc: Global,
-    param: &ConstParamOf<TypeOf<A, E>, A, E>,
+    param: &ConstParamOf<T, A, E>,
+    print: &F,
     out: &mut TokenStream,
 ) -> Result<(), AllocError>
-    ensures ok { OnOk result (trees out.new ≡ trees out.old ++ types.const_param A.shown E.values param.now) }
+    requires takes { Takes (λ x. x ≡ param.now.ty) (F.pre print.now) }
+    requires shows { Shows T.shown (F.post print.now) }
+    ensures ok { OnOk result (trees out.new ≡ trees out.old ++ shapes.const_param_by A.shown E.values T.shown param.now) }
     ensures err { OnErr result (Extends (trees out.old) (trees out.new)) }
 {
-    print_const_head(alloc, param, out)?;
+    print_const_head(alloc, param, print, out)?;
     print_const_default(alloc, &param.default, out)
 }
 
 /// A const parameter without its default.
-#[cycle(print)]
 #[tactic(auto, using(token_core::proofs::Puts::puts))]
-fn print_const_head<A: Attributes, E: Value>(
+fn print_const_head<
+    T: Shown,
+    A: Attributes,
+    E: Value,
+    F: Fn(Global, &T, &mut TokenStream) -> Result<(), AllocError>,
+>(
     alloc: Global,
-    param: &ConstParamOf<TypeOf<A, E>, A, E>,
+    param: &ConstParamOf<T, A, E>,
+    print: &F,
     out: &mut TokenStream,
 ) -> Result<(), AllocError>
-    ensures ok { OnOk result (trees out.new ≡ trees out.old ++ types.const_head A.shown E.values param.now) }
+    requires takes { Takes (λ x. x ≡ param.now.ty) (F.pre print.now) }
+    requires shows { Shows T.shown (F.post print.now) }
+    ensures ok { OnOk result (trees out.new ≡ trees out.old ++ shapes.const_head_by A.shown E.values T.shown param.now) }
     ensures err { OnErr result (Extends (trees out.old) (trees out.new)) }
 {
     A::print_outer(alloc, &param.attrs, out)?;
     param.const_token.to_tokens(alloc, out)?;
     param.ident.to_tokens(alloc, out)?;
     param.colon_token.to_tokens(alloc, out)?;
-    print_type(alloc, &param.ty, out)
+    print_held(alloc, &param.ty, print, out)
 }
 
 #[cycle(print)]
@@ -302,7 +321,15 @@ fn print_type_param<A: Attributes, E: Value>(
     ensures ok { OnOk result (trees out.new ≡ trees out.old ++ types.type_param A.shown E.values param.now) }
     ensures err { OnErr result (Extends (trees out.old) (trees out.new)) }
 {
-    print_type_head(alloc, param, out)?;
+    print_type_head(
+        alloc,
+        &param.attrs,
+        &param.ident,
+        &param.colon_token,
+        &param.bounds,
+        &print_bound::<A, E>,
+        out,
+    )?;
     match &param.default {
         Some((eq_token, ty)) => {
             eq_token.to_tokens(alloc, out)?;
@@ -312,57 +339,51 @@ fn print_type_param<A: Attributes, E: Value>(
     }
 }
 
-/// A type parameter without its default.
-#[cycle(print)]
+/// A type parameter without its default, by its parts.
 #[tactic(auto, using(token_core::proofs::Puts::puts))]
-fn print_type_head<A: Attributes, E: Value>(
+fn print_type_head<
+    A: Attributes,
+    B: Shown,
+    F: Fn(Global, &B, &mut TokenStream) -> Result<(), AllocError>,
+>(
     alloc: Global,
-    param: &TypeParamOf<A, E>,
+    attrs: &Items<A>,
+    ident: &Ident,
+    colon_token: &Option<Colon>,
+    bounds: &Punctuated<B, Plus>,
+    print: &F,
     out: &mut TokenStream,
 ) -> Result<(), AllocError>
-    ensures ok { OnOk result (trees out.new ≡ trees out.old ++ types.type_head A.shown E.values param.now) }
+    requires takes { Takes (Contains bounds.now.0) (F.pre print.now) }
+    requires shows { Shows B.shown (F.post print.now) }
+    ensures ok { OnOk result (trees out.new ≡ trees out.old
+        ++ (A.shown attrs.now ++ (prints.ident ident.now ++ shapes.after_colon B.shown colon_token.now bounds.now))) }
     ensures err { OnErr result (Extends (trees out.old) (trees out.new)) }
 {
-    A::print_outer(alloc, &param.attrs, out)?;
-    param.ident.to_tokens(alloc, out)?;
-    print_type_bounds(alloc, param, out)
+    A::print_outer(alloc, attrs, out)?;
+    ident.to_tokens(alloc, out)?;
+    print_type_bounds(alloc, colon_token, bounds, print, out)
 }
 
-/// The bounds of a type parameter after their colon.
-#[cycle(print)]
+/// Bounds after their colon.
 #[tactic(auto, using(token_core::proofs::Puts::puts, crate::proofs::generics_laws::Prints::bounds))]
-fn print_type_bounds<A: Attributes, E: Value>(
+fn print_type_bounds<B: Shown, F: Fn(Global, &B, &mut TokenStream) -> Result<(), AllocError>>(
     alloc: Global,
-    param: &TypeParamOf<A, E>,
+    colon_token: &Option<Colon>,
+    bounds: &Punctuated<B, Plus>,
+    print: &F,
     out: &mut TokenStream,
 ) -> Result<(), AllocError>
-    ensures ok { OnOk result (trees out.new ≡ trees out.old ++ types.type_bounds A.shown E.values param.now) }
+    requires takes { Takes (Contains bounds.now.0) (F.pre print.now) }
+    requires shows { Shows B.shown (F.post print.now) }
+    ensures ok { OnOk result (trees out.new ≡ trees out.old ++ shapes.after_colon B.shown colon_token.now bounds.now) }
     ensures err { OnErr result (Extends (trees out.old) (trees out.new)) }
 {
-    if param.bounds.is_empty() {
+    if bounds.is_empty() {
         return Ok(());
     }
-    TokensOrDefault(&param.colon_token).append_tokens(alloc, out)?;
-    print_bounds(alloc, &param.bounds, out)
-}
-
-/// Each bound with its mark.
-#[cycle(print)]
-#[tactic(auto, using(token_core::proofs::Puts::puts))]
-pub(crate) fn print_bounds<A: Attributes, E: Value>(
-    alloc: Global,
-    bounds: &Punctuated<TypeParamBoundOf<A, E>, Plus>,
-    out: &mut TokenStream,
-) -> Result<(), AllocError>
-    ensures ok { OnOk result (trees out.new ≡ trees out.old ++ types.bounds_joined A.shown E.values bounds.now) }
-    ensures err { OnErr result (Extends (trees out.old) (trees out.new)) }
-{
-    let mut marks = bounds.marks().iter();
-    for bound in bounds.values() {
-        print_bound(alloc, bound, out)?;
-        marks.next().append_tokens(alloc, out)?;
-    }
-    Ok(())
+    TokensOrDefault(colon_token).append_tokens(alloc, out)?;
+    print_list(alloc, bounds, print, out)
 }
 
 /// Appends a bound; refused, what stood before is kept.
@@ -406,7 +427,7 @@ fn print_trait_bound<A: Attributes, E: Value>(
 
 /// A trait bound without its parentheses.
 #[cycle(print)]
-#[tactic(auto, using(token_core::proofs::Puts::puts, crate::proofs::generics_laws::Prints::binders))]
+#[tactic(auto, using(token_core::proofs::Puts::puts))]
 fn print_bare_trait<A: Attributes, E: Value>(
     alloc: Global,
     bound: &TraitBoundOf<A, E>,
@@ -415,41 +436,55 @@ fn print_bare_trait<A: Attributes, E: Value>(
     ensures ok { OnOk result (trees out.new ≡ trees out.old ++ types.bare_trait A.shown E.values bound.now) }
     ensures err { OnErr result (Extends (trees out.old) (trees out.new)) }
 {
-    print_binder_start(alloc, &bound.lifetimes, out)?;
-    print_binder_params(alloc, &bound.lifetimes, out)?;
-    print_binder_end(alloc, &bound.lifetimes, out)?;
-    print_named_trait(alloc, bound, out)
+    print_binder(alloc, &bound.lifetimes, &print_param::<A, E>, out)?;
+    print_named_trait(
+        alloc,
+        &bound.modifiers,
+        &bound.maybe,
+        &bound.path,
+        &print_arguments::<A, E>,
+        out,
+    )
 }
 
 /// The parameters of a binder, each with its comma; nothing without one.
-#[cycle(print)]
 #[tactic(auto, using(token_core::proofs::Puts::puts))]
-pub(crate) fn print_binder_params<A: Attributes, E: Value>(
+pub(crate) fn print_binder_params<
+    G: Shown,
+    F: Fn(Global, &G, &mut TokenStream) -> Result<(), AllocError>,
+>(
     alloc: Global,
-    binder: &Option<BoundLifetimesOf<GenericParamOf<A, E>>>,
+    binder: &Option<BoundLifetimesOf<G>>,
+    print: &F,
     out: &mut TokenStream,
 ) -> Result<(), AllocError>
-    ensures ok { OnOk result
-        (trees out.new ≡ trees out.old ++ shapes.binder_joined (types.param A.shown E.values) binder.now) }
+    requires takes { Takes (Contains (shapes.binder_params binder.now).0) (F.pre print.now) }
+    requires shows { Shows G.shown (F.post print.now) }
+    ensures ok { OnOk result (trees out.new ≡ trees out.old ++ shapes.binder_joined G.shown binder.now) }
     ensures err { OnErr result (Extends (trees out.old) (trees out.new)) }
 {
-    let (params, mut commas) = binder_parts(binder);
-    for param in params {
-        print_param(alloc, param, out)?;
-        commas.next().append_tokens(alloc, out)?;
+    match binder {
+        Some(binder) => print_list(alloc, &binder.lifetimes, print, out),
+        None => Ok(()),
     }
-    Ok(())
 }
 
-/// The parameters of a binder and their commas; none without a binder.
-fn binder_parts<G>(binder: &Option<BoundLifetimesOf<G>>) -> (&[G], Iter<'_, Comma>)
-    ensures params { result.0.now ≡ (shapes.binder_params binder.now).0 }
-    ensures commas { iter_rest result.1 ≡ (shapes.binder_params binder.now).1 }
+/// A binder; nothing without one.
+#[tactic(auto, using(token_core::proofs::Puts::puts, crate::proofs::generics_laws::Prints::binders))]
+fn print_binder<G: Shown, F: Fn(Global, &G, &mut TokenStream) -> Result<(), AllocError>>(
+    alloc: Global,
+    binder: &Option<BoundLifetimesOf<G>>,
+    print: &F,
+    out: &mut TokenStream,
+) -> Result<(), AllocError>
+    requires takes { Takes (Contains (shapes.binder_params binder.now).0) (F.pre print.now) }
+    requires shows { Shows G.shown (F.post print.now) }
+    ensures ok { OnOk result (trees out.new ≡ trees out.old ++ shapes.binder_by G.shown binder.now) }
+    ensures err { OnErr result (Extends (trees out.old) (trees out.new)) }
 {
-    match binder {
-        Some(binder) => (binder.lifetimes.values(), binder.lifetimes.marks().iter()),
-        None => (&[], [].iter()),
-    }
+    print_binder_start(alloc, binder, out)?;
+    print_binder_params(alloc, binder, print, out)?;
+    print_binder_end(alloc, binder, out)
 }
 
 /// A binder before its parameters; nothing without one.
@@ -517,20 +552,28 @@ fn print_modifiers(
     modifiers.asyncness.append_tokens(alloc, out)
 }
 
-/// A trait bound after its binder.
-#[cycle(print)]
+/// A trait bound after its binder, by its parts.
 #[tactic(auto, using(token_core::proofs::Puts::puts))]
-fn print_named_trait<A: Attributes, E: Value>(
+fn print_named_trait<
+    P: ShownIn,
+    F: Fn(Global, &P, PathStyle, &mut TokenStream) -> Result<(), AllocError>,
+>(
     alloc: Global,
-    bound: &TraitBoundOf<A, E>,
+    modifiers: &TraitBoundModifiers,
+    maybe: &Option<Question>,
+    path: &PathOf<P>,
+    print: &F,
     out: &mut TokenStream,
 ) -> Result<(), AllocError>
-    ensures ok { OnOk result (trees out.new ≡ trees out.old ++ types.named_trait A.shown E.values bound.now) }
+    requires takes { TakesIn (InPath path.now) (F.pre print.now) }
+    requires shows { ShowsIn P.shown (F.post print.now) }
+    ensures ok { OnOk result (trees out.new ≡ trees out.old
+        ++ shapes.named_trait_by (P.shown as_written) modifiers.now maybe.now path.now) }
     ensures err { OnErr result (Extends (trees out.old) (trees out.new)) }
 {
-    print_modifiers(alloc, &bound.modifiers, out)?;
-    bound.maybe.append_tokens(alloc, out)?;
-    print_path(alloc, &bound.path, PathStyle::AsWritten, out)
+    print_modifiers(alloc, modifiers, out)?;
+    maybe.append_tokens(alloc, out)?;
+    paths::print_path(alloc, path, PathStyle::AsWritten, print, out)
 }
 
 impl<A: Attributes> ToTokens for LifetimeParamOf<A> {
@@ -545,8 +588,12 @@ impl<A: Attributes, E: Value> ToTokens for ConstParamOf<TypeOf<A, E>, A, E> {
     ghost print = { types.const_param A.shown E.values };
 
     fn append_tokens(&self, alloc: Global, out: &mut TokenStream) -> Result<(), AllocError> {
-        print_const_param(alloc, self, out)
+        print_const_param(alloc, self, &print_type::<A, E>, out)
     }
+}
+
+impl<A: Attributes, E: Value> Shown for GenericParamOf<A, E> {
+    ghost shown = { types.param A.shown E.values };
 }
 
 impl<A: Attributes, E: Value> ToTokens for GenericParamOf<A, E> {
@@ -563,6 +610,10 @@ impl<A: Attributes, E: Value> ToTokens for TypeParamOf<A, E> {
     fn append_tokens(&self, alloc: Global, out: &mut TokenStream) -> Result<(), AllocError> {
         print_type_param(alloc, self, out)
     }
+}
+
+impl<A: Attributes, E: Value> Shown for TypeParamBoundOf<A, E> {
+    ghost shown = { types.bound A.shown E.values };
 }
 
 impl<A: Attributes, E: Value> ToTokens for TypeParamBoundOf<A, E> {
@@ -617,8 +668,16 @@ pub(crate) fn print_head<A: Attributes, E: Value>(
 {
     match param {
         GenericParamOf::Lifetime(param) => print_lifetime_param(alloc, param, out),
-        GenericParamOf::Type(param) => print_type_head(alloc, param, out),
-        GenericParamOf::Const(param) => print_const_head(alloc, param, out),
+        GenericParamOf::Type(param) => print_type_head(
+            alloc,
+            &param.attrs,
+            &param.ident,
+            &param.colon_token,
+            &param.bounds,
+            &print_bound::<A, E>,
+            out,
+        ),
+        GenericParamOf::Const(param) => print_const_head(alloc, param, &print_type::<A, E>, out),
     }
 }
 

@@ -1,27 +1,35 @@
 //! Arguments of paths, and paths with them, are printed.
 
+ghost use Rattle.std.specs.List.{Contains};
 ghost use Rattle.std.specs.Prelude.{◌≡◌, [], ◌∷◌, ◌++◌, option_map, OnOk, OnErr};
 ghost use Rattle.token_core.specs.Trees.{trees};
 ghost use Rattle.token_core.specs.Prints.{Extends};
+ghost use Rattle.syn_forms.specs.prints.Held.{Takes, Shows};
 ghost use Rattle.syn_ty.specs.generics.Members as members;
-ghost use Rattle.syn_ty.specs.path.Paths as spec;
 ghost use Rattle.syn_ty.specs.path.Printing as printing;
 ghost use Rattle.syn_ty.specs.path.Shapes as shapes;
+ghost use Rattle.syn_ty.specs.ty.Held.{InGenerics, InSignature};
 ghost use Rattle.syn_ty.specs.ty.Printing as types;
 
 use crate::generics::Member;
-use crate::generics::print::{print_added_comma, print_bounds};
+use crate::generics::print::{print_added_comma, print_bound};
 use crate::path::{
     AngleBracketedGenericArgumentsOf, AssocConstOf, AssocTypeOf, ConstraintOf, GenericArgumentOf,
     ParenthesizedGenericArgumentsOf, PathArgumentsOf,
 };
-use crate::ty::print::{print_inputs, print_type};
-use crate::ty::{ReturnTypeOf, TypeOf};
+use crate::ty::TypeOf;
+use crate::ty::print::{print_inputs, print_output, print_type};
 use std::alloc::{AllocError, Global};
-use syn_path::path::{Arguments, PathOf, PathSegmentOf, PathStyle, QSelfOf};
+use syn_forms::prints::paths::ShownIn;
+use syn_forms::prints::{Shown, paths, print_held, print_list};
+use syn_path::path::{PathOf, PathSegmentOf, PathStyle};
 use syn_path::supplied::{Attributes, Value};
-use token_core::token::{Comma, Gt, PathSep};
-use token_core::{ToTokens, TokenStream, TokensOrDefault};
+use token_core::token::{Comma, PathSep};
+use token_core::{Punctuated, ToTokens, TokenStream, TokensOrDefault};
+
+impl<A: Attributes, E: Value> ShownIn for PathArgumentsOf<A, E> {
+    ghost shown = { types.arguments A.shown E.values };
+}
 
 impl<A: Attributes, E: Value> ToTokens for PathArgumentsOf<A, E> {
     ghost print = { types.arguments A.shown E.values shapes.as_written };
@@ -29,6 +37,10 @@ impl<A: Attributes, E: Value> ToTokens for PathArgumentsOf<A, E> {
     fn append_tokens(&self, alloc: Global, out: &mut TokenStream) -> Result<(), AllocError> {
         print_arguments(alloc, self, PathStyle::AsWritten, out)
     }
+}
+
+impl<A: Attributes, E: Value> Shown for GenericArgumentOf<A, E> {
+    ghost shown = { types.argument A.shown E.values };
 }
 
 /// Appends an argument; a const argument in braces, but for a literal, a block and an identifier alone.
@@ -46,7 +58,13 @@ impl<A: Attributes, E: Value> ToTokens
     ghost print = { types.angle A.shown E.values shapes.as_written };
 
     fn append_tokens(&self, alloc: Global, out: &mut TokenStream) -> Result<(), AllocError> {
-        print_angle(alloc, self, PathStyle::AsWritten, out)
+        print_angle(
+            alloc,
+            self,
+            PathStyle::AsWritten,
+            &print_argument::<A, E>,
+            out,
+        )
     }
 }
 
@@ -62,7 +80,7 @@ impl<A: Attributes, E: Value> ToTokens for AssocConstOf<GenericArgumentOf<A, E>,
     ghost print = { types.assoc_const A.shown E.values };
 
     fn append_tokens(&self, alloc: Global, out: &mut TokenStream) -> Result<(), AllocError> {
-        print_assoc_const(alloc, self, out)
+        print_assoc_const(alloc, self, &print_argument::<A, E>, out)
     }
 }
 
@@ -79,13 +97,11 @@ impl<A: Attributes, E: Value> ToTokens for ParenthesizedGenericArgumentsOf<TypeO
     ghost print = { types.parenthesized A.shown E.values };
 
     fn append_tokens(&self, alloc: Global, out: &mut TokenStream) -> Result<(), AllocError> {
-        print_parenthesized(alloc, self, out)
+        print_parenthesized(alloc, self, &print_type::<A, E>, out)
     }
 }
 
 /// Appends a path; refused, what stood before is kept.
-#[cycle(print)]
-#[tactic(auto, using(token_core::proofs::Puts::puts))]
 pub fn print_path<A: Attributes, E: Value>(
     alloc: Global,
     path: &PathOf<PathArgumentsOf<A, E>>,
@@ -95,33 +111,9 @@ pub fn print_path<A: Attributes, E: Value>(
     ensures ok { OnOk result (trees out.new ≡ trees out.old ++ printing.path A.shown E.values style path.now) }
     ensures err { OnErr result (Extends (trees out.old) (trees out.new)) }
 {
-    path.leading_colon.append_tokens(alloc, out)?;
-    print_segments(alloc, path, style, out)
+    paths::print_path(alloc, path, style, &print_arguments::<A, E>, out)
 }
 
-/// Each segment with its mark.
-#[cycle(print)]
-#[tactic(auto, using(token_core::proofs::Puts::puts))]
-fn print_segments<A: Attributes, E: Value>(
-    alloc: Global,
-    path: &PathOf<PathArgumentsOf<A, E>>,
-    style: PathStyle,
-    out: &mut TokenStream,
-) -> Result<(), AllocError>
-    ensures ok { OnOk result
-        (trees out.new ≡ trees out.old ++ printing.segments A.shown E.values style path.now.segments) }
-    ensures err { OnErr result (Extends (trees out.old) (trees out.new)) }
-{
-    let mut marks = path.segments.marks().iter();
-    for segment in path.segments.values() {
-        print_segment(alloc, segment, style, out)?;
-        marks.next().append_tokens(alloc, out)?;
-    }
-    Ok(())
-}
-
-#[cycle(print)]
-#[tactic(auto, using(token_core::proofs::Puts::puts))]
 pub(crate) fn print_segment<A: Attributes, E: Value>(
     alloc: Global,
     segment: &PathSegmentOf<PathArgumentsOf<A, E>>,
@@ -131,13 +123,12 @@ pub(crate) fn print_segment<A: Attributes, E: Value>(
     ensures ok { OnOk result (trees out.new ≡ trees out.old ++ printing.segment A.shown E.values style segment.now) }
     ensures err { OnErr result (Extends (trees out.old) (trees out.new)) }
 {
-    segment.ident.to_tokens(alloc, out)?;
-    print_arguments(alloc, &segment.arguments, style, out)
+    paths::print_segment(alloc, segment, style, &print_arguments::<A, E>, out)
 }
 
 #[cycle(print)]
 #[tactic(auto, using(token_core::proofs::Puts::puts, crate::proofs::ty_laws::Prints::arguments))]
-fn print_arguments<A: Attributes, E: Value>(
+pub(crate) fn print_arguments<A: Attributes, E: Value>(
     alloc: Global,
     arguments: &PathArgumentsOf<A, E>,
     style: PathStyle,
@@ -148,70 +139,85 @@ fn print_arguments<A: Attributes, E: Value>(
 {
     match arguments {
         PathArgumentsOf::None => Ok(()),
-        PathArgumentsOf::AngleBracketed(arguments) => print_angle(alloc, arguments, style, out),
+        PathArgumentsOf::AngleBracketed(arguments) => {
+            print_angle(alloc, arguments, style, &print_argument::<A, E>, out)
+        }
         PathArgumentsOf::Parenthesized(arguments) => {
             print_parenthesized_start(alloc, style, out)?;
-            print_parenthesized(alloc, arguments, out)
+            print_parenthesized(alloc, arguments, &print_type::<A, E>, out)
         }
     }
 }
 
 /// Arguments between angle marks: lifetimes, each with its comma; a comma where the last has none and others follow; the others, each with its comma.
-#[cycle(print)]
 #[tactic(auto, using(token_core::proofs::Puts::puts))]
-fn print_angle<A: Attributes, E: Value>(
+fn print_angle<G: Member + Shown, F: Fn(Global, &G, &mut TokenStream) -> Result<(), AllocError>>(
     alloc: Global,
-    arguments: &AngleBracketedGenericArgumentsOf<GenericArgumentOf<A, E>>,
+    arguments: &AngleBracketedGenericArgumentsOf<G>,
     style: PathStyle,
+    print: &F,
     out: &mut TokenStream,
 ) -> Result<(), AllocError>
-    ensures ok { OnOk result (trees out.new ≡ trees out.old ++ types.angle A.shown E.values style arguments.now) }
+    requires takes { Takes (Contains arguments.now.args.0) (F.pre print.now) }
+    requires shows { Shows G.shown (F.post print.now) }
+    ensures ok { OnOk result (trees out.new ≡ trees out.old ++ shapes.angle_by G.first G.shown style arguments.now) }
     ensures err { OnErr result (Extends (trees out.old) (trees out.new)) }
 {
     print_angle_start(alloc, arguments, style, out)?;
-    print_argument_kind(alloc, arguments, true, out)?;
+    print_argument_kind(alloc, &arguments.args, true, print, out)?;
     print_added_comma(alloc, &arguments.args, out)?;
-    print_argument_kind(alloc, arguments, false, out)?;
+    print_argument_kind(alloc, &arguments.args, false, print, out)?;
     arguments.gt_token.to_tokens(alloc, out)
 }
 
 /// The arguments that are lifetimes, or those that are not, each with its comma.
-#[cycle(print)]
 #[tactic(auto, using(token_core::proofs::Puts::puts, crate::proofs::generics_laws::Sorted::kinds))]
-fn print_argument_kind<A: Attributes, E: Value>(
+fn print_argument_kind<
+    G: Member + Shown,
+    F: Fn(Global, &G, &mut TokenStream) -> Result<(), AllocError>,
+>(
     alloc: Global,
-    arguments: &AngleBracketedGenericArgumentsOf<GenericArgumentOf<A, E>>,
+    arguments: &Punctuated<G, Comma>,
     lifetimes: bool,
+    print: &F,
     out: &mut TokenStream,
 ) -> Result<(), AllocError>
-    ensures ok { OnOk result (trees out.new ≡ trees out.old ++ printing.kind A.shown E.values lifetimes arguments.now) }
+    requires takes { Takes (Contains arguments.now.0) (F.pre print.now) }
+    requires shows { Shows G.shown (F.post print.now) }
+    ensures ok { OnOk result (trees out.new ≡ trees out.old
+        ++ members.each G.shown (members.those G.first lifetimes (members.members_of arguments.now))) }
     ensures err { OnErr result (Extends (trees out.old) (trees out.new)) }
 {
-    let mut commas = arguments.args.marks().iter();
-    for argument in arguments.args.values() {
-        print_argument_member(alloc, argument, commas.next(), lifetimes, out)?;
+    let mut commas = arguments.marks().iter();
+    for argument in arguments.values() {
+        print_argument_member(alloc, argument, commas.next(), lifetimes, print, out)?;
     }
     Ok(())
 }
 
 /// An argument with its comma, where it is of the kind.
-#[cycle(print)]
 #[tactic(auto, using(token_core::proofs::Puts::puts, crate::proofs::generics_laws::Sorted::kinds))]
-fn print_argument_member<A: Attributes, E: Value>(
+fn print_argument_member<
+    G: Member + Shown,
+    F: Fn(Global, &G, &mut TokenStream) -> Result<(), AllocError>,
+>(
     alloc: Global,
-    argument: &GenericArgumentOf<A, E>,
+    argument: &G,
     comma: Option<&Comma>,
     lifetimes: bool,
+    print: &F,
     out: &mut TokenStream,
 ) -> Result<(), AllocError>
-    ensures ok { OnOk result (trees out.new ≡ trees out.old ++ members.each (types.argument A.shown E.values)
-        (members.those spec.is_lifetime lifetimes ((argument.now, option_map (λ c. c.now) comma.entry) ∷ []))) }
+    requires takes { Takes (λ x. x ≡ argument.now) (F.pre print.now) }
+    requires shows { Shows G.shown (F.post print.now) }
+    ensures ok { OnOk result (trees out.new ≡ trees out.old ++ members.each G.shown
+        (members.those G.first lifetimes ((argument.now, option_map (λ c. c.now) comma.entry) ∷ []))) }
     ensures err { OnErr result (Extends (trees out.old) (trees out.new)) }
 {
     if argument.is_lifetime() != lifetimes {
         return Ok(());
     }
-    print_argument(alloc, argument, out)?;
+    print_held(alloc, argument, print, out)?;
     match comma {
         Some(comma) => comma.to_tokens(alloc, out),
         None => Ok(()),
@@ -233,24 +239,28 @@ pub fn print_argument<A: Attributes, E: Value>(
         GenericArgumentOf::Type(ty) => print_type(alloc, ty, out),
         GenericArgumentOf::Const(value) => value.print_const_argument(alloc, out),
         GenericArgumentOf::AssocType(assoc) => print_assoc_type(alloc, assoc, out),
-        GenericArgumentOf::AssocConst(assoc) => print_assoc_const(alloc, assoc, out),
+        GenericArgumentOf::AssocConst(assoc) => {
+            print_assoc_const(alloc, assoc, &print_argument::<A, E>, out)
+        }
         GenericArgumentOf::Constraint(constraint) => print_constraint(alloc, constraint, out),
     }
 }
 
 /// The arguments of the name of an associated item, where it has some, as they stand.
-#[cycle(print)]
 #[tactic(auto, using(token_core::proofs::Puts::puts))]
-fn print_generics<A: Attributes, E: Value>(
+fn print_generics<G: Member + Shown, F: Fn(Global, &G, &mut TokenStream) -> Result<(), AllocError>>(
     alloc: Global,
-    generics: &Option<AngleBracketedGenericArgumentsOf<GenericArgumentOf<A, E>>>,
+    generics: &Option<AngleBracketedGenericArgumentsOf<G>>,
+    print: &F,
     out: &mut TokenStream,
 ) -> Result<(), AllocError>
-    ensures ok { OnOk result (trees out.new ≡ trees out.old ++ types.optional_angle A.shown E.values generics.now) }
+    requires takes { Takes (InGenerics generics.now) (F.pre print.now) }
+    requires shows { Shows G.shown (F.post print.now) }
+    ensures ok { OnOk result (trees out.new ≡ trees out.old ++ shapes.optional_angle_by G.first G.shown generics.now) }
     ensures err { OnErr result (Extends (trees out.old) (trees out.new)) }
 {
     match generics {
-        Some(arguments) => print_angle(alloc, arguments, PathStyle::AsWritten, out),
+        Some(arguments) => print_angle(alloc, arguments, PathStyle::AsWritten, print, out),
         None => Ok(()),
     }
 }
@@ -266,23 +276,29 @@ fn print_assoc_type<A: Attributes, E: Value>(
     ensures err { OnErr result (Extends (trees out.old) (trees out.new)) }
 {
     assoc.ident.to_tokens(alloc, out)?;
-    print_generics(alloc, &assoc.generics, out)?;
+    print_generics(alloc, &assoc.generics, &print_argument::<A, E>, out)?;
     assoc.eq_token.to_tokens(alloc, out)?;
     print_type(alloc, &assoc.ty, out)
 }
 
-#[cycle(print)]
 #[tactic(auto, using(token_core::proofs::Puts::puts))]
-fn print_assoc_const<A: Attributes, E: Value>(
+fn print_assoc_const<
+    G: Member + Shown,
+    E: Value,
+    F: Fn(Global, &G, &mut TokenStream) -> Result<(), AllocError>,
+>(
     alloc: Global,
-    assoc: &AssocConstOf<GenericArgumentOf<A, E>, E>,
+    assoc: &AssocConstOf<G, E>,
+    print: &F,
     out: &mut TokenStream,
 ) -> Result<(), AllocError>
-    ensures ok { OnOk result (trees out.new ≡ trees out.old ++ types.assoc_const A.shown E.values assoc.now) }
+    requires takes { Takes (InGenerics assoc.now.generics) (F.pre print.now) }
+    requires shows { Shows G.shown (F.post print.now) }
+    ensures ok { OnOk result (trees out.new ≡ trees out.old ++ types.assoc_const_by E.values G.first G.shown assoc.now) }
     ensures err { OnErr result (Extends (trees out.old) (trees out.new)) }
 {
     assoc.ident.to_tokens(alloc, out)?;
-    print_generics(alloc, &assoc.generics, out)?;
+    print_generics(alloc, &assoc.generics, print, out)?;
     assoc.eq_token.to_tokens(alloc, out)?;
     assoc.value.print_const_argument(alloc, out)
 }
@@ -299,115 +315,39 @@ fn print_constraint<A: Attributes, E: Value>(
     ensures err { OnErr result (Extends (trees out.old) (trees out.new)) }
 {
     constraint.ident.to_tokens(alloc, out)?;
-    print_generics(alloc, &constraint.generics, out)?;
+    print_generics(alloc, &constraint.generics, &print_argument::<A, E>, out)?;
     constraint.colon_token.to_tokens(alloc, out)?;
-    print_bounds(alloc, &constraint.bounds, out)
+    print_list(alloc, &constraint.bounds, &print_bound::<A, E>, out)
 }
 
 /// Arguments in their parentheses, and the output.
-#[cycle(print)]
 #[tactic(auto, using(token_core::proofs::Puts::puts))]
-fn print_parenthesized<A: Attributes, E: Value>(
+fn print_parenthesized<
+    T: Shown,
+    A: Attributes,
+    F: Fn(Global, &T, &mut TokenStream) -> Result<(), AllocError>,
+>(
     alloc: Global,
-    arguments: &ParenthesizedGenericArgumentsOf<TypeOf<A, E>, A>,
+    arguments: &ParenthesizedGenericArgumentsOf<T, A>,
+    print: &F,
     out: &mut TokenStream,
 ) -> Result<(), AllocError>
-    ensures ok { OnOk result (trees out.new ≡ trees out.old ++ types.parenthesized A.shown E.values arguments.now) }
+    requires takes { Takes (InSignature arguments.now) (F.pre print.now) }
+    requires shows { Shows T.shown (F.post print.now) }
+    ensures ok { OnOk result (trees out.new ≡ trees out.old ++ types.parenthesized_by A.shown T.shown arguments.now) }
     ensures err { OnErr result (Extends (trees out.old) (trees out.new)) }
 {
     let mut content = TokenStream::new(alloc);
-    print_inputs(alloc, &arguments.inputs, &mut content)?;
+    print_inputs(alloc, &arguments.inputs, print, &mut content)?;
     arguments.paren_token.surround(content, out)?;
-    match &arguments.output {
-        ReturnTypeOf::Default => Ok(()),
-        ReturnTypeOf::Type(arrow, ty) => {
-            arrow.to_tokens(alloc, out)?;
-            print_type(alloc, ty.get(), out)
-        }
-    }
-}
-
-/// Appends what follows the type that qualifies a path: `as` and the segments up to `>`, and those after it. `>` stands after as many segments as
-/// `position` says, or as there are; where that is none, there is no `as`. A missing `as` is printed all the same.
-#[cycle(print)]
-#[tactic(auto, using(token_core::proofs::Puts::puts, syn_path::proofs::path_laws::Around::qualifies))]
-pub fn print_qualified<A: Attributes, E: Value>(
-    alloc: Global,
-    qself: &QSelfOf<TypeOf<A, E>>,
-    path: &PathOf<PathArgumentsOf<A, E>>,
-    style: PathStyle,
-    out: &mut TokenStream,
-) -> Result<(), AllocError>
-    ensures ok { OnOk result
-        (trees out.new ≡ trees out.old ++ printing.qualified A.shown E.values style qself.now path.now) }
-    ensures err { OnErr result (Extends (trees out.old) (trees out.new)) }
-{
-    let before = qself.position.min(path.segments.len());
-    if before == 0 {
-        qself.gt_token.to_tokens(alloc, out)?;
-        return print_path(alloc, path, style, out);
-    }
-    TokensOrDefault(&qself.as_token).append_tokens(alloc, out)?;
-    path.leading_colon.append_tokens(alloc, out)?;
-    print_around(alloc, path, before, &qself.gt_token, style, out)
-}
-
-/// The segments, with `>` after as many as are to stand before it; those print as they stand.
-#[cycle(print)]
-#[tactic(auto, using(token_core::proofs::Puts::puts))]
-fn print_around<A: Attributes, E: Value>(
-    alloc: Global,
-    path: &PathOf<PathArgumentsOf<A, E>>,
-    before: usize,
-    gt_token: &Gt,
-    style: PathStyle,
-    out: &mut TokenStream,
-) -> Result<(), AllocError>
-    ensures ok { OnOk result (trees out.new ≡ trees out.old
-        ++ printing.around A.shown E.values style gt_token.now before path.now.segments.0 path.now.segments.1) }
-    ensures err { OnErr result (Extends (trees out.old) (trees out.new)) }
-{
-    let mut marks = path.segments.marks().iter();
-    let mut before = before;
-    for segment in path.segments.values() {
-        print_closing(alloc, segment, before, gt_token, style, out)?;
-        marks.next().append_tokens(alloc, out)?;
-        before = before.saturating_sub(1);
-    }
-    Ok(())
-}
-
-/// A segment, and `>` after it where it is the last of those before.
-#[cycle(print)]
-#[tactic(auto, using(token_core::proofs::Puts::puts, syn_path::proofs::path_laws::Around::closings))]
-fn print_closing<A: Attributes, E: Value>(
-    alloc: Global,
-    segment: &PathSegmentOf<PathArgumentsOf<A, E>>,
-    before: usize,
-    gt_token: &Gt,
-    style: PathStyle,
-    out: &mut TokenStream,
-) -> Result<(), AllocError>
-    ensures ok { OnOk result
-        (trees out.new ≡ trees out.old ++ printing.closing A.shown E.values style gt_token.now before segment.now) }
-    ensures err { OnErr result (Extends (trees out.old) (trees out.new)) }
-{
-    if before == 0 {
-        return print_segment(alloc, segment, style, out);
-    }
-    print_segment(alloc, segment, PathStyle::AsWritten, out)?;
-    if before == 1 {
-        gt_token.to_tokens(alloc, out)
-    } else {
-        Ok(())
-    }
+    print_output(alloc, &arguments.output, print, out)
 }
 
 /// The start of arguments between angle marks: in an expression after `::`, which is printed where it is missing.
 #[tactic(auto, using(token_core::proofs::Puts::puts))]
-fn print_angle_start<A, E>(
+fn print_angle_start<G>(
     alloc: Global,
-    arguments: &AngleBracketedGenericArgumentsOf<GenericArgumentOf<A, E>>,
+    arguments: &AngleBracketedGenericArgumentsOf<G>,
     style: PathStyle,
     out: &mut TokenStream,
 ) -> Result<(), AllocError>

@@ -1,26 +1,34 @@
 //! Types are printed.
 
+ghost use Rattle.std.specs.List.{Contains};
 ghost use Rattle.std.specs.Prelude.{◌≡◌, ◌++◌, OnOk, OnErr};
 ghost use Rattle.token_core.specs.Prints.{Extends};
 ghost use Rattle.token_core.specs.Trees.{trees};
+ghost use Rattle.syn_forms.specs.prints.Held.{Takes, Shows};
+ghost use Rattle.syn_ty.specs.ty.Held.{Among, Returned};
 ghost use Rattle.syn_ty.specs.ty.Printing as printing;
 
 use crate::generics::TypeParamBoundOf;
 use crate::generics::print::{
-    print_binder_end, print_binder_params, print_binder_start, print_bounds,
+    print_binder_end, print_binder_params, print_binder_start, print_bound, print_param,
 };
 use crate::path::PathArgumentsOf;
-use crate::path::print::{print_path, print_qualified};
+use crate::path::print::print_arguments;
 use crate::ty::{
     Abi, FnPtrVariadicOf, NamedArgOf, ReturnTypeOf, TypeArrayOf, TypeFnPtrOf, TypeGroupOf,
     TypeImplTraitOf, TypeInferOf, TypeMacroOf, TypeNeverOf, TypeOf, TypeParenOf, TypePathOf,
     TypePtrOf, TypeReferenceOf, TypeSliceOf, TypeTraitObjectOf, TypeTupleOf,
 };
 use std::alloc::{AllocError, Global};
+use syn_forms::prints::{Shown, paths, print_held, print_list};
 use syn_path::path::{PathOf, PathStyle, QSelfOf};
 use syn_path::supplied::{Attributes, Value};
-use token_core::token::{Colon, Comma, Mark};
+use token_core::token::{Colon, Comma, Mark, Paren};
 use token_core::{Ident, Items, Punctuated, ToTokens, TokenStream};
+
+impl<A: Attributes, E: Value> Shown for TypeOf<A, E> {
+    ghost shown = { printing.ty A.shown E.values };
+}
 
 impl<A: Attributes, E: Value> ToTokens for TypeOf<A, E> {
     ghost print = { printing.ty A.shown E.values };
@@ -34,7 +42,7 @@ impl<A: Attributes, E: Value> ToTokens for TypeArrayOf<TypeOf<A, E>, A, E> {
     ghost print = { printing.array A.shown E.values };
 
     fn append_tokens(&self, alloc: Global, out: &mut TokenStream) -> Result<(), AllocError> {
-        print_array(alloc, self, out)
+        print_array(alloc, self, &print_type::<A, E>, out)
     }
 }
 
@@ -42,7 +50,7 @@ impl<A: Attributes, E: Value> ToTokens for TypeGroupOf<TypeOf<A, E>, A> {
     ghost print = { printing.group A.shown E.values };
 
     fn append_tokens(&self, alloc: Global, out: &mut TokenStream) -> Result<(), AllocError> {
-        print_group(alloc, self, out)
+        print_group(alloc, self, &print_type::<A, E>, out)
     }
 }
 
@@ -74,7 +82,7 @@ impl<A: Attributes, E: Value> ToTokens for TypeParenOf<TypeOf<A, E>, A> {
     ghost print = { printing.paren A.shown E.values };
 
     fn append_tokens(&self, alloc: Global, out: &mut TokenStream) -> Result<(), AllocError> {
-        print_paren(alloc, self, out)
+        print_paren(alloc, self, &print_type::<A, E>, out)
     }
 }
 
@@ -91,7 +99,7 @@ impl<A: Attributes, E: Value> ToTokens for TypePtrOf<TypeOf<A, E>, A> {
     ghost print = { printing.ptr A.shown E.values };
 
     fn append_tokens(&self, alloc: Global, out: &mut TokenStream) -> Result<(), AllocError> {
-        print_ptr(alloc, self, out)
+        print_ptr(alloc, self, &print_type::<A, E>, out)
     }
 }
 
@@ -99,7 +107,7 @@ impl<A: Attributes, E: Value> ToTokens for TypeReferenceOf<TypeOf<A, E>, A> {
     ghost print = { printing.reference A.shown E.values };
 
     fn append_tokens(&self, alloc: Global, out: &mut TokenStream) -> Result<(), AllocError> {
-        print_reference(alloc, self, out)
+        print_reference(alloc, self, &print_type::<A, E>, out)
     }
 }
 
@@ -107,7 +115,7 @@ impl<A: Attributes, E: Value> ToTokens for TypeSliceOf<TypeOf<A, E>, A> {
     ghost print = { printing.slice A.shown E.values };
 
     fn append_tokens(&self, alloc: Global, out: &mut TokenStream) -> Result<(), AllocError> {
-        print_slice(alloc, self, out)
+        print_slice(alloc, self, &print_type::<A, E>, out)
     }
 }
 
@@ -115,7 +123,7 @@ impl<A: Attributes, E: Value> ToTokens for TypeTupleOf<TypeOf<A, E>, A> {
     ghost print = { printing.tuple A.shown E.values };
 
     fn append_tokens(&self, alloc: Global, out: &mut TokenStream) -> Result<(), AllocError> {
-        print_tuple(alloc, self, out)
+        print_tuple(alloc, self, &print_type::<A, E>, out)
     }
 }
 
@@ -134,15 +142,8 @@ impl ToTokens for Abi {
 impl<A: Attributes, E: Value> ToTokens for ReturnTypeOf<TypeOf<A, E>> {
     ghost print = { printing.return_type A.shown E.values };
 
-    #[tactic(auto, using(token_core::proofs::Puts::puts))]
     fn append_tokens(&self, alloc: Global, out: &mut TokenStream) -> Result<(), AllocError> {
-        match self {
-            ReturnTypeOf::Default => Ok(()),
-            ReturnTypeOf::Type(arrow, ty) => {
-                arrow.to_tokens(alloc, out)?;
-                print_type(alloc, ty.get(), out)
-            }
-        }
+        print_output(alloc, self, &print_type::<A, E>, out)
     }
 }
 
@@ -159,7 +160,7 @@ impl<A: Attributes, E: Value> ToTokens for TypeImplTraitOf<TypeParamBoundOf<A, E
     ghost print = { printing.impl_trait A.shown E.values };
 
     fn append_tokens(&self, alloc: Global, out: &mut TokenStream) -> Result<(), AllocError> {
-        print_impl_trait(alloc, self, out)
+        print_impl_trait(alloc, self, &print_bound::<A, E>, out)
     }
 }
 
@@ -167,7 +168,7 @@ impl<A: Attributes, E: Value> ToTokens for TypeTraitObjectOf<TypeParamBoundOf<A,
     ghost print = { printing.trait_object A.shown E.values };
 
     fn append_tokens(&self, alloc: Global, out: &mut TokenStream) -> Result<(), AllocError> {
-        print_trait_object(alloc, self, out)
+        print_trait_object(alloc, self, &print_bound::<A, E>, out)
     }
 }
 
@@ -203,36 +204,43 @@ pub fn print_type<A: Attributes, E: Value>(
     ensures err { OnErr result (Extends (trees out.old) (trees out.new)) }
 {
     match ty {
-        TypeOf::Array(array) => print_array(alloc, array, out),
+        TypeOf::Array(array) => print_array(alloc, array, &print_type::<A, E>, out),
         TypeOf::FnPtr(pointer) => print_fn_ptr(alloc, pointer, out),
-        TypeOf::Group(group) => print_group(alloc, group, out),
-        TypeOf::ImplTrait(opaque) => print_impl_trait(alloc, opaque, out),
+        TypeOf::Group(group) => print_group(alloc, group, &print_type::<A, E>, out),
+        TypeOf::ImplTrait(opaque) => print_impl_trait(alloc, opaque, &print_bound::<A, E>, out),
         TypeOf::Infer(infer) => infer.to_tokens(alloc, out),
         TypeOf::Macro(call) => call.to_tokens(alloc, out),
         TypeOf::Never(never) => never.to_tokens(alloc, out),
-        TypeOf::Paren(paren) => print_paren(alloc, paren, out),
+        TypeOf::Paren(paren) => print_paren(alloc, paren, &print_type::<A, E>, out),
         TypeOf::Path(path) => print_path_type(alloc, path, out),
-        TypeOf::Ptr(ptr) => print_ptr(alloc, ptr, out),
-        TypeOf::Reference(reference) => print_reference(alloc, reference, out),
-        TypeOf::Slice(slice) => print_slice(alloc, slice, out),
-        TypeOf::TraitObject(object) => print_trait_object(alloc, object, out),
-        TypeOf::Tuple(tuple) => print_tuple(alloc, tuple, out),
+        TypeOf::Ptr(ptr) => print_ptr(alloc, ptr, &print_type::<A, E>, out),
+        TypeOf::Reference(reference) => print_reference(alloc, reference, &print_type::<A, E>, out),
+        TypeOf::Slice(slice) => print_slice(alloc, slice, &print_type::<A, E>, out),
+        TypeOf::TraitObject(object) => print_trait_object(alloc, object, &print_bound::<A, E>, out),
+        TypeOf::Tuple(tuple) => print_tuple(alloc, tuple, &print_type::<A, E>, out),
         TypeOf::Verbatim(tokens) => print_verbatim(alloc, tokens, out),
     }
 }
 
-#[cycle(print)]
 #[tactic(auto, using(token_core::proofs::Puts::puts))]
-fn print_array<A: Attributes, E: Value>(
+fn print_array<
+    T: Shown,
+    A,
+    E: Value,
+    F: Fn(Global, &T, &mut TokenStream) -> Result<(), AllocError>,
+>(
     alloc: Global,
-    array: &TypeArrayOf<TypeOf<A, E>, A, E>,
+    array: &TypeArrayOf<T, A, E>,
+    print: &F,
     out: &mut TokenStream,
 ) -> Result<(), AllocError>
-    ensures ok { OnOk result (trees out.new ≡ trees out.old ++ printing.array A.shown E.values array.now) }
+    requires takes { Takes (λ x. x ≡ array.now.elem) (F.pre print.now) }
+    requires shows { Shows T.shown (F.post print.now) }
+    ensures ok { OnOk result (trees out.new ≡ trees out.old ++ printing.array_by T.shown E.values.len array.now) }
     ensures err { OnErr result (Extends (trees out.old) (trees out.new)) }
 {
     let mut content = TokenStream::new(alloc);
-    print_type(alloc, array.elem.get(), &mut content)?;
+    print_held(alloc, array.elem.get(), print, &mut content)?;
     array.semi_token.to_tokens(alloc, &mut content)?;
     array.len.print_len(alloc, &mut content)?;
     array.bracket_token.surround(content, out)
@@ -249,110 +257,141 @@ fn print_fn_ptr<A: Attributes, E: Value>(
     ensures err { OnErr result (Extends (trees out.old) (trees out.new)) }
 {
     print_binder_start(alloc, &pointer.lifetimes, out)?;
-    print_binder_params(alloc, &pointer.lifetimes, out)?;
+    print_binder_params(alloc, &pointer.lifetimes, &print_param::<A, E>, out)?;
     print_fn_head(alloc, pointer, out)?;
-    print_arguments(alloc, pointer, out)?;
-    print_output(alloc, pointer, out)
+    let print = &print_type::<A, E>;
+    print_fn_arguments(
+        alloc,
+        &pointer.paren_token,
+        &pointer.inputs,
+        &pointer.variadic,
+        print,
+        out,
+    )?;
+    print_output(alloc, &pointer.output, print, out)
 }
 
 /// The arguments of a pointer to a function in their parentheses.
-#[cycle(print)]
 #[tactic(auto, using(token_core::proofs::Puts::puts))]
-fn print_arguments<A: Attributes, E: Value>(
+fn print_fn_arguments<
+    T: Shown,
+    A: Attributes,
+    F: Fn(Global, &T, &mut TokenStream) -> Result<(), AllocError>,
+>(
     alloc: Global,
-    pointer: &TypeFnPtrOf<A, E>,
+    paren_token: &Paren,
+    inputs: &Punctuated<NamedArgOf<T, A>, Comma>,
+    variadic: &Option<FnPtrVariadicOf<A>>,
+    print: &F,
     out: &mut TokenStream,
 ) -> Result<(), AllocError>
-    ensures ok { OnOk result (trees out.new ≡ trees out.old ++ printing.fn_arguments A.shown E.values pointer.now) }
+    requires takes { Takes (Among inputs.now.0) (F.pre print.now) }
+    requires shows { Shows T.shown (F.post print.now) }
+    ensures ok { OnOk result (trees out.new ≡ trees out.old
+        ++ printing.fn_arguments_by A.shown T.shown paren_token.now inputs.now variadic.now) }
     ensures err { OnErr result (Extends (trees out.old) (trees out.new)) }
 {
     let mut content = TokenStream::new(alloc);
-    print_inputs(alloc, &pointer.inputs, &mut content)?;
-    print_more(alloc, pointer, &mut content)?;
-    pointer.paren_token.surround(content, out)
+    print_inputs(alloc, inputs, print, &mut content)?;
+    print_more(alloc, inputs, variadic, &mut content)?;
+    paren_token.surround(content, out)
 }
 
 /// Each argument of a function with its comma.
-#[cycle(print)]
 #[tactic(auto, using(token_core::proofs::Puts::puts))]
-pub(crate) fn print_inputs<A: Attributes, E: Value>(
+pub(crate) fn print_inputs<
+    T: Shown,
+    A: Attributes,
+    F: Fn(Global, &T, &mut TokenStream) -> Result<(), AllocError>,
+>(
     alloc: Global,
-    inputs: &Punctuated<NamedArgOf<TypeOf<A, E>, A>, Comma>,
+    inputs: &Punctuated<NamedArgOf<T, A>, Comma>,
+    print: &F,
     out: &mut TokenStream,
 ) -> Result<(), AllocError>
-    ensures ok { OnOk result (trees out.new ≡ trees out.old ++ printing.inputs A.shown E.values inputs.now) }
+    requires takes { Takes (Among inputs.now.0) (F.pre print.now) }
+    requires shows { Shows T.shown (F.post print.now) }
+    ensures ok { OnOk result (trees out.new ≡ trees out.old ++ printing.inputs_by A.shown T.shown inputs.now) }
     ensures err { OnErr result (Extends (trees out.old) (trees out.new)) }
 {
     let mut commas = inputs.marks().iter();
     for arg in inputs.values() {
         print_arg_name(alloc, &arg.attrs, &arg.name, out)?;
-        print_type(alloc, &arg.ty, out)?;
+        print_held(alloc, &arg.ty, print, out)?;
         commas.next().append_tokens(alloc, out)?;
     }
     Ok(())
 }
 
-/// What a pointer to a function returns.
-#[cycle(print)]
+/// What a function returns.
 #[tactic(auto, using(token_core::proofs::Puts::puts))]
-fn print_output<A: Attributes, E: Value>(
+pub(crate) fn print_output<T: Shown, F: Fn(Global, &T, &mut TokenStream) -> Result<(), AllocError>>(
     alloc: Global,
-    pointer: &TypeFnPtrOf<A, E>,
+    output: &ReturnTypeOf<T>,
+    print: &F,
     out: &mut TokenStream,
 ) -> Result<(), AllocError>
-    ensures ok { OnOk result (trees out.new ≡ trees out.old ++ printing.fn_output A.shown E.values pointer.now) }
+    requires takes { Takes (Returned output.now) (F.pre print.now) }
+    requires shows { Shows T.shown (F.post print.now) }
+    ensures ok { OnOk result (trees out.new ≡ trees out.old ++ printing.return_type_by T.shown output.now) }
     ensures err { OnErr result (Extends (trees out.old) (trees out.new)) }
 {
-    match &pointer.output {
+    match output {
         ReturnTypeOf::Default => Ok(()),
         ReturnTypeOf::Type(arrow, ty) => {
             arrow.to_tokens(alloc, out)?;
-            print_type(alloc, ty.get(), out)
+            print_held(alloc, ty.get(), print, out)
         }
     }
 }
 
-#[cycle(print)]
 #[tactic(auto, using(token_core::proofs::Puts::puts))]
-fn print_group<A: Attributes, E: Value>(
+fn print_group<T: Shown, A, F: Fn(Global, &T, &mut TokenStream) -> Result<(), AllocError>>(
     alloc: Global,
-    group: &TypeGroupOf<TypeOf<A, E>, A>,
+    group: &TypeGroupOf<T, A>,
+    print: &F,
     out: &mut TokenStream,
 ) -> Result<(), AllocError>
-    ensures ok { OnOk result (trees out.new ≡ trees out.old ++ printing.group A.shown E.values group.now) }
+    requires takes { Takes (λ x. x ≡ group.now.elem) (F.pre print.now) }
+    requires shows { Shows T.shown (F.post print.now) }
+    ensures ok { OnOk result (trees out.new ≡ trees out.old ++ printing.group_by T.shown group.now) }
     ensures err { OnErr result (Extends (trees out.old) (trees out.new)) }
 {
     let mut content = TokenStream::new(alloc);
-    print_type(alloc, group.elem.get(), &mut content)?;
+    print_held(alloc, group.elem.get(), print, &mut content)?;
     group.group_token.surround(content, out)
 }
 
-#[cycle(print)]
 #[tactic(auto, using(token_core::proofs::Puts::puts))]
-fn print_impl_trait<A: Attributes, E: Value>(
+fn print_impl_trait<B: Shown, A, F: Fn(Global, &B, &mut TokenStream) -> Result<(), AllocError>>(
     alloc: Global,
-    opaque: &TypeImplTraitOf<TypeParamBoundOf<A, E>, A>,
+    opaque: &TypeImplTraitOf<B, A>,
+    print: &F,
     out: &mut TokenStream,
 ) -> Result<(), AllocError>
-    ensures ok { OnOk result (trees out.new ≡ trees out.old ++ printing.impl_trait A.shown E.values opaque.now) }
+    requires takes { Takes (Contains opaque.now.bounds.0) (F.pre print.now) }
+    requires shows { Shows B.shown (F.post print.now) }
+    ensures ok { OnOk result (trees out.new ≡ trees out.old ++ printing.impl_trait_by B.shown opaque.now) }
     ensures err { OnErr result (Extends (trees out.old) (trees out.new)) }
 {
     opaque.impl_token.to_tokens(alloc, out)?;
-    print_bounds(alloc, &opaque.bounds, out)
+    print_list(alloc, &opaque.bounds, print, out)
 }
 
-#[cycle(print)]
 #[tactic(auto, using(token_core::proofs::Puts::puts))]
-fn print_paren<A: Attributes, E: Value>(
+fn print_paren<T: Shown, A, F: Fn(Global, &T, &mut TokenStream) -> Result<(), AllocError>>(
     alloc: Global,
-    paren: &TypeParenOf<TypeOf<A, E>, A>,
+    paren: &TypeParenOf<T, A>,
+    print: &F,
     out: &mut TokenStream,
 ) -> Result<(), AllocError>
-    ensures ok { OnOk result (trees out.new ≡ trees out.old ++ printing.paren A.shown E.values paren.now) }
+    requires takes { Takes (λ x. x ≡ paren.now.elem) (F.pre print.now) }
+    requires shows { Shows T.shown (F.post print.now) }
+    ensures ok { OnOk result (trees out.new ≡ trees out.old ++ printing.paren_by T.shown paren.now) }
     ensures err { OnErr result (Extends (trees out.old) (trees out.new)) }
 {
     let mut content = TokenStream::new(alloc);
-    print_type(alloc, paren.elem.get(), &mut content)?;
+    print_held(alloc, paren.elem.get(), print, &mut content)?;
     paren.paren_token.surround(content, out)
 }
 
@@ -370,105 +409,109 @@ fn print_path_type<A: Attributes, E: Value>(
         Some(qself) => {
             qself.lt_token.to_tokens(alloc, out)?;
             print_type(alloc, qself.ty.get(), out)?;
-            print_qualified(alloc, qself, &path.path, PathStyle::AsWritten, out)
+            paths::print_qualified(
+                alloc,
+                qself,
+                &path.path,
+                PathStyle::AsWritten,
+                &print_arguments::<A, E>,
+                out,
+            )
         }
-        None => print_path(alloc, &path.path, PathStyle::AsWritten, out),
+        None => paths::print_path(
+            alloc,
+            &path.path,
+            PathStyle::AsWritten,
+            &print_arguments::<A, E>,
+            out,
+        ),
     }
 }
 
-#[cycle(print)]
 #[tactic(auto, using(token_core::proofs::Puts::puts))]
-fn print_ptr<A: Attributes, E: Value>(
+fn print_ptr<T: Shown, A, F: Fn(Global, &T, &mut TokenStream) -> Result<(), AllocError>>(
     alloc: Global,
-    ptr: &TypePtrOf<TypeOf<A, E>, A>,
+    ptr: &TypePtrOf<T, A>,
+    print: &F,
     out: &mut TokenStream,
 ) -> Result<(), AllocError>
-    ensures ok { OnOk result (trees out.new ≡ trees out.old ++ printing.ptr A.shown E.values ptr.now) }
+    requires takes { Takes (λ x. x ≡ ptr.now.elem) (F.pre print.now) }
+    requires shows { Shows T.shown (F.post print.now) }
+    ensures ok { OnOk result (trees out.new ≡ trees out.old ++ printing.ptr_by T.shown ptr.now) }
     ensures err { OnErr result (Extends (trees out.old) (trees out.new)) }
 {
     ptr.star_token.to_tokens(alloc, out)?;
     ptr.mutability.to_tokens(alloc, out)?;
-    print_type(alloc, ptr.elem.get(), out)
+    print_held(alloc, ptr.elem.get(), print, out)
 }
 
-#[cycle(print)]
 #[tactic(auto, using(token_core::proofs::Puts::puts))]
-fn print_reference<A: Attributes, E: Value>(
+fn print_reference<T: Shown, A, F: Fn(Global, &T, &mut TokenStream) -> Result<(), AllocError>>(
     alloc: Global,
-    reference: &TypeReferenceOf<TypeOf<A, E>, A>,
+    reference: &TypeReferenceOf<T, A>,
+    print: &F,
     out: &mut TokenStream,
 ) -> Result<(), AllocError>
-    ensures ok { OnOk result (trees out.new ≡ trees out.old ++ printing.reference A.shown E.values reference.now) }
+    requires takes { Takes (λ x. x ≡ reference.now.elem) (F.pre print.now) }
+    requires shows { Shows T.shown (F.post print.now) }
+    ensures ok { OnOk result (trees out.new ≡ trees out.old ++ printing.reference_by T.shown reference.now) }
     ensures err { OnErr result (Extends (trees out.old) (trees out.new)) }
 {
     reference.and_token.to_tokens(alloc, out)?;
     reference.lifetime.append_tokens(alloc, out)?;
     reference.mutability.append_tokens(alloc, out)?;
-    print_type(alloc, reference.elem.get(), out)
+    print_held(alloc, reference.elem.get(), print, out)
 }
 
-#[cycle(print)]
 #[tactic(auto, using(token_core::proofs::Puts::puts))]
-fn print_slice<A: Attributes, E: Value>(
+fn print_slice<T: Shown, A, F: Fn(Global, &T, &mut TokenStream) -> Result<(), AllocError>>(
     alloc: Global,
-    slice: &TypeSliceOf<TypeOf<A, E>, A>,
+    slice: &TypeSliceOf<T, A>,
+    print: &F,
     out: &mut TokenStream,
 ) -> Result<(), AllocError>
-    ensures ok { OnOk result (trees out.new ≡ trees out.old ++ printing.slice A.shown E.values slice.now) }
+    requires takes { Takes (λ x. x ≡ slice.now.elem) (F.pre print.now) }
+    requires shows { Shows T.shown (F.post print.now) }
+    ensures ok { OnOk result (trees out.new ≡ trees out.old ++ printing.slice_by T.shown slice.now) }
     ensures err { OnErr result (Extends (trees out.old) (trees out.new)) }
 {
     let mut content = TokenStream::new(alloc);
-    print_type(alloc, slice.elem.get(), &mut content)?;
+    print_held(alloc, slice.elem.get(), print, &mut content)?;
     slice.bracket_token.surround(content, out)
 }
 
-#[cycle(print)]
 #[tactic(auto, using(token_core::proofs::Puts::puts))]
-fn print_trait_object<A: Attributes, E: Value>(
+fn print_trait_object<B: Shown, A, F: Fn(Global, &B, &mut TokenStream) -> Result<(), AllocError>>(
     alloc: Global,
-    object: &TypeTraitObjectOf<TypeParamBoundOf<A, E>, A>,
+    object: &TypeTraitObjectOf<B, A>,
+    print: &F,
     out: &mut TokenStream,
 ) -> Result<(), AllocError>
-    ensures ok { OnOk result (trees out.new ≡ trees out.old ++ printing.trait_object A.shown E.values object.now) }
+    requires takes { Takes (Contains object.now.bounds.0) (F.pre print.now) }
+    requires shows { Shows B.shown (F.post print.now) }
+    ensures ok { OnOk result (trees out.new ≡ trees out.old ++ printing.trait_object_by B.shown object.now) }
     ensures err { OnErr result (Extends (trees out.old) (trees out.new)) }
 {
     object.dyn_token.append_tokens(alloc, out)?;
-    print_bounds(alloc, &object.bounds, out)
+    print_list(alloc, &object.bounds, print, out)
 }
 
-#[cycle(print)]
 #[tactic(auto, using(token_core::proofs::Puts::puts))]
-fn print_tuple<A: Attributes, E: Value>(
+fn print_tuple<T: Shown, A, F: Fn(Global, &T, &mut TokenStream) -> Result<(), AllocError>>(
     alloc: Global,
-    tuple: &TypeTupleOf<TypeOf<A, E>, A>,
+    tuple: &TypeTupleOf<T, A>,
+    print: &F,
     out: &mut TokenStream,
 ) -> Result<(), AllocError>
-    ensures ok { OnOk result (trees out.new ≡ trees out.old ++ printing.tuple A.shown E.values tuple.now) }
+    requires takes { Takes (Contains tuple.now.elems.0) (F.pre print.now) }
+    requires shows { Shows T.shown (F.post print.now) }
+    ensures ok { OnOk result (trees out.new ≡ trees out.old ++ printing.tuple_by T.shown tuple.now) }
     ensures err { OnErr result (Extends (trees out.old) (trees out.new)) }
 {
     let mut content = TokenStream::new(alloc);
-    print_elements(alloc, &tuple.elems, &mut content)?;
+    print_list(alloc, &tuple.elems, print, &mut content)?;
     print_lone_comma(alloc, &tuple.elems, &mut content)?;
     tuple.paren_token.surround(content, out)
-}
-
-/// Each element of a tuple with its comma.
-#[cycle(print)]
-#[tactic(auto, using(token_core::proofs::Puts::puts))]
-fn print_elements<A: Attributes, E: Value>(
-    alloc: Global,
-    elems: &Punctuated<TypeOf<A, E>, Comma>,
-    out: &mut TokenStream,
-) -> Result<(), AllocError>
-    ensures ok { OnOk result (trees out.new ≡ trees out.old ++ printing.elements A.shown E.values elems.now) }
-    ensures err { OnErr result (Extends (trees out.old) (trees out.new)) }
-{
-    let mut commas = elems.marks().iter();
-    for ty in elems.values() {
-        print_type(alloc, ty, out)?;
-        commas.next().append_tokens(alloc, out)?;
-    }
-    Ok(())
 }
 
 /// Appends a path, which a type may qualify; refused, what stood before is kept.
@@ -488,9 +531,9 @@ pub fn print_qpath<A: Attributes, E: Value>(
         Some(qself) => {
             qself.lt_token.to_tokens(alloc, out)?;
             print_type(alloc, qself.ty.get(), out)?;
-            print_qualified(alloc, qself, path, style, out)
+            paths::print_qualified(alloc, qself, path, style, &print_arguments::<A, E>, out)
         }
-        None => print_path(alloc, path, style, out),
+        None => paths::print_path(alloc, path, style, &print_arguments::<A, E>, out),
     }
 }
 
@@ -583,20 +626,21 @@ fn print_variadic<A: Attributes>(
 
 /// `...` of a pointer to a function, after a comma, which is added where the last argument has none.
 #[tactic(auto, using(token_core::proofs::Puts::puts))]
-fn print_more<A: Attributes, E: Value>(
+fn print_more<N, A: Attributes>(
     alloc: Global,
-    pointer: &TypeFnPtrOf<A, E>,
+    inputs: &Punctuated<N, Comma>,
+    variadic: &Option<FnPtrVariadicOf<A>>,
     out: &mut TokenStream,
 ) -> Result<(), AllocError>
-    ensures ok { OnOk result (trees out.new ≡ trees out.old ++ printing.fn_more A.shown E.values pointer.now) }
+    ensures ok { OnOk result (trees out.new ≡ trees out.old ++ printing.more_by A.shown inputs.now variadic.now) }
     ensures err { OnErr result (Extends (trees out.old) (trees out.new)) }
 {
-    match &pointer.variadic {
+    match variadic {
         Some(variadic) => {
             let comma = Mark::<4, 1> {
                 spans: [variadic.dots.spans[0]],
             };
-            print_last_comma(alloc, &pointer.inputs, comma, out)?;
+            print_last_comma(alloc, inputs, comma, out)?;
             print_variadic(alloc, variadic, out)
         }
         None => Ok(()),

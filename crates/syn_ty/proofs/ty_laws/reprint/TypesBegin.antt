@@ -195,10 +195,10 @@ module _ {A E : Type 0} (pa : List A → Print) (pe : Values E) (part : Manner �
 
     fn_kept : (e : End) (x : TypeFnPtr A E) (l r : Toks) → IsFnPtr part plainly e x l r → Kept l r (pt (v.FnPtr x))
     fn_kept e x l r (a_fn_ptr {u = u} {i = i} {w = w} {s = s} {v = vs} {d = d} {o = o} absent f g h j t) =
-        let rest = printing.fn_arguments_by pa pe pt (groups.paren s) vs d ++ printing.return_type pa pe o in
+        let rest = printing.fn_arguments_by pa pt (groups.paren s) vs d ++ printing.return_type pa pe o in
         same_kept l r _ (printing.fn_head_by {G = GenericParam A E} None u i w ++ rest) (ty-FnPtr pa pe x ∙ fn_ptr_parts pa pe [] None u i w (groups.paren s) vs d o) (quiet_kept l r _ (fn_plain u i w rest))
     fn_kept e x l r (a_fn_ptr {b = Some y} {u = u} {i = i} {w = w} {s = s} {v = vs} {d = d} {o = o} {m = m} (present n) f g h j t) =
-        let rest = p.mark y.lt_token ++ (joined (printing.param pa pe) p.mark y.lifetimes.0 y.lifetimes.1 ++ (printing.fn_head_by (Some y) u i w ++ (printing.fn_arguments_by pa pe pt (groups.paren s) vs d ++ printing.return_type pa pe o))) in
+        let rest = p.mark y.lt_token ++ (joined (printing.param pa pe) p.mark y.lifetimes.0 y.lifetimes.1 ++ (printing.fn_head_by (Some y) u i w ++ (printing.fn_arguments_by pa pt (groups.paren s) vs d ++ printing.return_type pa pe o))) in
         same_kept l r _ (p.word y.for_token ++ rest) (ty-FnPtr pa pe x ∙ fn_ptr_parts pa pe [] (Some y) u i w (groups.paren s) vs d o)
         (binder_kept l r (p.word y.for_token ++ rest) (for_seen part plainly y l m n) (λ k. (for_first y.for_token rest k).0) (λ k. (for_first y.for_token rest k).1))
 
