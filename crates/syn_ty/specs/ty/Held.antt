@@ -1,6 +1,6 @@
 -- What stands in forms that are over it.
 use Rattle.std.specs.List.{Contains}
-use Rattle.std.specs.Prelude.{◌≡◌, List, map, Option, Some, None}
+use Rattle.std.specs.Prelude.{◌≡◌, ◌⊎◌, List, map, Option, Some, None}
 use Rattle.syn_ty.specs.declared.path.AngleBracketedGenericArgumentsOf.{AngleBracketedGenericArgumentsOf}
 use Rattle.syn_ty.specs.declared.path.ParenthesizedGenericArgumentsOf.{ParenthesizedGenericArgumentsOf}
 use Rattle.syn_ty.specs.declared.ty.NamedArgOf.{NamedArgOf}

@@ -279,7 +279,8 @@ fn print_const_param<
 ) -> Result<(), AllocError>
     requires takes { Takes (λ x. x ≡ param.now.ty) (F.pre print.now) }
     requires shows { Shows T.shown (F.post print.now) }
-    ensures ok { OnOk result (trees out.new ≡ trees out.old ++ shapes.const_param_by A.shown E.values T.shown param.now) }
+    ensures ok { OnOk result
+        (trees out.new ≡ trees out.old ++ shapes.const_param_by A.shown E.values T.shown param.now) }
     ensures err { OnErr result (Extends (trees out.old) (trees out.new)) }
 {
     print_const_head(alloc, param, print, out)?;
@@ -301,7 +302,8 @@ fn print_const_head<
 ) -> Result<(), AllocError>
     requires takes { Takes (λ x. x ≡ param.now.ty) (F.pre print.now) }
     requires shows { Shows T.shown (F.post print.now) }
-    ensures ok { OnOk result (trees out.new ≡ trees out.old ++ shapes.const_head_by A.shown E.values T.shown param.now) }
+    ensures ok { OnOk result
+        (trees out.new ≡ trees out.old ++ shapes.const_head_by A.shown E.values T.shown param.now) }
     ensures err { OnErr result (Extends (trees out.old) (trees out.new)) }
 {
     A::print_outer(alloc, &param.attrs, out)?;

@@ -294,7 +294,8 @@ fn print_assoc_const<
 ) -> Result<(), AllocError>
     requires takes { Takes (InGenerics assoc.now.generics) (F.pre print.now) }
     requires shows { Shows G.shown (F.post print.now) }
-    ensures ok { OnOk result (trees out.new ≡ trees out.old ++ types.assoc_const_by E.values G.first G.shown assoc.now) }
+    ensures ok { OnOk result
+        (trees out.new ≡ trees out.old ++ types.assoc_const_by E.values G.first G.shown assoc.now) }
     ensures err { OnErr result (Extends (trees out.old) (trees out.new)) }
 {
     assoc.ident.to_tokens(alloc, out)?;

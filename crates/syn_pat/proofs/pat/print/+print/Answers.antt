@@ -7,7 +7,8 @@ use Rattle.token_core.specs.Trees.{trees}
 use Rattle.token_core.proofs.Puts.{extends_append, extends_on}
 use Rattle.syn_pat.specs.pat.Printing.{pat, comma_unless, guard, member, field, fields, list, shown}
 use Rattle.syn_pat.proofs.pat_laws.Height.{height, sub_by, field_by, height-Guard, height-Ident, height-Or, height-Paren, height-Reference, height-Slice, height-Struct, height-Tuple, height-TupleStruct, height-Type}
-use Rattle.syn_ty.proofs.ty_laws.Parts.{extends_both, in_list, next_of, put_next}
+use Rattle.syn_forms.proofs.prints_laws.Lists.{extends_both, next_of, put_next}
+use Rattle.syn_ty.proofs.ty_laws.Weights.{in_list}
 use Rattle.syn_ty.proofs.ty_laws.Pieces.{put_both, put_as, put_case, put_group, puts2, puts3, puts4, still}
 use Rattle.syn_pat.proofs.pat_laws.Prints.{pat-Const, pat-Guard, pat-Ident, pat-Lit, pat-Macro, pat-Or, pat-Paren, pat-Path, pat-Range, pat-Reference, pat-Rest, pat-Slice, pat-Struct, pat-Tuple, pat-TupleStruct, pat-Type, pat-Verbatim, pat-Wild}
 use Rattle.syn_pat.proofs.pat.print.+print.Goals as goal

@@ -1,9 +1,8 @@
 use Rattle.std.proofs.Common.{◌++◌}
 use Rattle.token_core.specs.Trees.{trees}
 use Rattle.token_core.proofs.Puts.{extends_append}
-use Rattle.syn_forms.proofs.prints_laws.Lists.{one_of}
+use Rattle.syn_forms.proofs.prints_laws.Lists.{next_of}
 use Rattle.syn_ty.proofs.generics_laws.Sorted.{put_members, put_next_member}
-use Rattle.syn_ty.proofs.ty_laws.Parts.{next_of}
 use Rattle.syn_ty.proofs.path.print.print_argument_kind.Goals as goal
 
 pub returns-clause-ok : goal.returns-clause-ok

@@ -4,7 +4,7 @@ use Rattle.token_core.specs.Prints.{Extends}
 use Rattle.token_core.specs.Trees.{trees}
 use Rattle.token_core.proofs.Puts.{extends_append, extends_on}
 use Rattle.syn_ty.specs.ty.Printing.{named_arg_by, inputs_by}
-use Rattle.syn_ty.proofs.ty_laws.Parts.{extends_both, next_of, put_next}
+use Rattle.syn_forms.proofs.prints_laws.Lists.{extends_both, next_of, put_next}
 use Rattle.syn_ty.proofs.ty_laws.Pieces.{put_both}
 use Rattle.syn_ty.proofs.ty_laws.Weights.{is_among}
 use Rattle.syn_ty.proofs.ty.print.print_inputs.Goals as goal
