@@ -1,4 +1,4 @@
-use Rattle.std.specs.Prelude.{inl, inr}
+use Rattle.std.proofs.Common.{inl, inr}
 use Rattle.std.proofs.lemmas.Result.{on_err_weaker}
 use Rattle.token_core.proofs.Puts.{extends_on}
 use Rattle.syn_ty.proofs.path.print.print_parenthesized.Goals as goal
