@@ -1,6 +1,6 @@
-//! Readers over what they hold: lists, groups, heads and the forms made of them, for trees of any kind.
+//! Readers and prints over what they hold: lists, groups, heads and the forms made of them, for trees of any kind.
 //!
-//! None of them knows what it holds. The tree that it holds is read by a function value, further on than the form began.
+//! None of them knows what it holds. The tree that it holds is read by a function value, further on than the form began, or printed by one.
 #![tactic(auto)]
 
 pub mod forms;

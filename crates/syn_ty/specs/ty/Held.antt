@@ -1,8 +1,7 @@
 -- What stands in forms that are over it.
 use Rattle.std.specs.List.{Contains}
-use Rattle.std.specs.Prelude.{◌≡◌, ◌⊎◌, List, map, Option, Some, None}
+use Rattle.std.specs.Prelude.{◌≡◌, List, map, Option, Some, None}
 use Rattle.syn_ty.specs.declared.path.AngleBracketedGenericArgumentsOf.{AngleBracketedGenericArgumentsOf}
-use Rattle.syn_ty.specs.declared.path.ParenthesizedGenericArgumentsOf.{ParenthesizedGenericArgumentsOf}
 use Rattle.syn_ty.specs.declared.ty.NamedArgOf.{NamedArgOf}
 use Rattle.syn_ty.specs.declared.ty.ReturnTypeOf.{ReturnTypeOf}
 use Rattle.syn_ty.specs.declared.ty.ReturnTypeOf.TheVariants as r
@@ -15,10 +14,6 @@ Among l x = Contains (map (λ a. a.ty) l) x
 abbrev pub Returned : {T : Type 0} → ReturnTypeOf T → T → Type 0
 Returned r.Default x = ⊥
 Returned (r.«Type» a y) x = x ≡ y
-
--- the type of an argument, or that which is returned
-abbrev pub InSignature : {T A : Type 0} → ParenthesizedGenericArgumentsOf T A → T → Type 0
-InSignature s x = Among s.inputs.0 x ⊎ Returned s.output x
 
 -- an argument between angle marks, where they are there
 abbrev pub InGenerics : {G : Type 0} → Option (AngleBracketedGenericArgumentsOf G) → G → Type 0

@@ -8,7 +8,7 @@ ghost use Rattle.syn_forms.specs.prints.Held.{Takes, Shows};
 ghost use Rattle.syn_ty.specs.generics.Members as members;
 ghost use Rattle.syn_ty.specs.path.Printing as printing;
 ghost use Rattle.syn_ty.specs.path.Shapes as shapes;
-ghost use Rattle.syn_ty.specs.ty.Held.{InGenerics, InSignature};
+ghost use Rattle.syn_ty.specs.ty.Held.{InGenerics};
 ghost use Rattle.syn_ty.specs.ty.Printing as types;
 
 use crate::generics::Member;
@@ -97,7 +97,7 @@ impl<A: Attributes, E: Value> ToTokens for ParenthesizedGenericArgumentsOf<TypeO
     ghost print = { types.parenthesized A.shown E.values };
 
     fn append_tokens(&self, alloc: Global, out: &mut TokenStream) -> Result<(), AllocError> {
-        print_parenthesized(alloc, self, &print_type::<A, E>, out)
+        print_parenthesized(alloc, self, out)
     }
 }
 
@@ -144,7 +144,7 @@ pub(crate) fn print_arguments<A: Attributes, E: Value>(
         }
         PathArgumentsOf::Parenthesized(arguments) => {
             print_parenthesized_start(alloc, style, out)?;
-            print_parenthesized(alloc, arguments, &print_type::<A, E>, out)
+            print_parenthesized(alloc, arguments, out)
         }
     }
 }
@@ -322,26 +322,20 @@ fn print_constraint<A: Attributes, E: Value>(
 }
 
 /// Arguments in their parentheses, and the output.
+#[cycle(print)]
 #[tactic(auto, using(token_core::proofs::Puts::puts))]
-fn print_parenthesized<
-    T: Shown,
-    A: Attributes,
-    F: Fn(Global, &T, &mut TokenStream) -> Result<(), AllocError>,
->(
+fn print_parenthesized<A: Attributes, E: Value>(
     alloc: Global,
-    arguments: &ParenthesizedGenericArgumentsOf<T, A>,
-    print: &F,
+    arguments: &ParenthesizedGenericArgumentsOf<TypeOf<A, E>, A>,
     out: &mut TokenStream,
 ) -> Result<(), AllocError>
-    requires takes { Takes (InSignature arguments.now) (F.pre print.now) }
-    requires shows { Shows T.shown (F.post print.now) }
-    ensures ok { OnOk result (trees out.new ≡ trees out.old ++ types.parenthesized_by A.shown T.shown arguments.now) }
+    ensures ok { OnOk result (trees out.new ≡ trees out.old ++ types.parenthesized A.shown E.values arguments.now) }
     ensures err { OnErr result (Extends (trees out.old) (trees out.new)) }
 {
     let mut content = TokenStream::new(alloc);
-    print_inputs(alloc, &arguments.inputs, print, &mut content)?;
+    print_inputs(alloc, &arguments.inputs, &print_type::<A, E>, &mut content)?;
     arguments.paren_token.surround(content, out)?;
-    print_output(alloc, &arguments.output, print, out)
+    print_output(alloc, &arguments.output, &print_type::<A, E>, out)
 }
 
 /// The start of arguments between angle marks: in an expression after `::`, which is printed where it is missing.
