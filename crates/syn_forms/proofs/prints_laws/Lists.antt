@@ -1,5 +1,5 @@
 -- Lists by their values and marks: each value is printed after those before it.
-use Rattle.std.proofs.Common.{◌≡◌, ℕ, zero, suc, ◌+◌, ◌<◌, ◌≤◌, List, [], ◌∷◌, ◌++◌, Option, Some, None, Bor, Iter, map, get_or, length, drop, refl, sym, ap, subst, ◌∙◌, append-nil, append_assoc, arith}
+use Rattle.std.proofs.Common.{◌≡◌, ℕ, ◌+◌, ◌<◌, List, [], ◌∷◌, ◌++◌, Option, Some, None, Bor, Iter, map, get_or, length, drop, refl, sym, ap, subst, ◌∙◌, append-nil, append_assoc, arith}
 use Rattle.std.proofs.lemmas.List.{take-append-drop, get_or-map, length-map}
 use Rattle.std.specs.Prelude.{MatchOption}
 use Rattle.std.specs.Slice.Iter.{iter_rest, iter_steps}

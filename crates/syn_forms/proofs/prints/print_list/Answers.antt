@@ -1,8 +1,8 @@
-use Rattle.std.proofs.Common.{rules, ◌++◌, ◌≡◌, subst, ◌∙◌, ap, sym}
+use Rattle.std.proofs.Common.{rules}
 use Rattle.token_core.specs.Prints.{Extends}
 use Rattle.token_core.specs.Trees.{trees}
 use Rattle.token_core.proofs.Puts.{extends_append, extends_on}
-use Rattle.syn_forms.proofs.prints_laws.Lists.{extends_both, next_of, one_of, put_next}
+use Rattle.syn_forms.proofs.prints_laws.Lists.{extends_both, next_of, put_next}
 use Rattle.syn_forms.proofs.prints.print_list.Goals as goal
 
 pub loop-tree-preserved : goal.loop-tree-preserved
