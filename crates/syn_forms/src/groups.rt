@@ -50,7 +50,7 @@ impl<
     'a,
     P: Copy,
     T: Tree<P>,
-    F: Fn(Global, PhantomData<T>, &mut ParseStream<'_>, P) -> Result<T, Error>,
+    F: Fn(Global, PhantomData<T>, &mut ParseStream<'_>, P) -> Result<Boxed<T>, Error>,
 > Nested<'a, P, T, F> {
     /// A tree in brackets.
     #[tactic(auto, using(token_core::proofs::Suffixes::follows))]

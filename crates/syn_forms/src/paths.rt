@@ -109,7 +109,7 @@ fn parse_named_word(alloc: Global, input: &mut ParseStream<'_>) -> Result<Ident,
 impl<
     'a,
     G: Tree<()> + Arguments,
-    F: Fn(Global, PhantomData<G>, &mut ParseStream<'_>, ()) -> Result<G, Error>,
+    F: Fn(Global, PhantomData<G>, &mut ParseStream<'_>, ()) -> Result<Boxed<G>, Error>,
 > Nested<'a, (), G, F> {
     /// What follows the word of a segment that may have arguments.
     #[tactic(auto, using(token_core::proofs::Suffixes::follows))]
@@ -127,7 +127,7 @@ impl<
         ensures fewer { ahead input.new ≤ ahead input.old }
     {
         if peek_arguments(input, style) {
-            let arguments = self.value(input, ())?;
+            let arguments = self.boxed(input, ())?.into_inner();
             return Ok(PathSegmentOf { ident, arguments });
         }
         Ok(PathSegmentOf::from(ident))
@@ -293,7 +293,7 @@ impl<
     pub fn qualified<
         P: Copy,
         T: Tree<P>,
-        H: Fn(Global, PhantomData<T>, &mut ParseStream<'_>, P) -> Result<T, Error>,
+        H: Fn(Global, PhantomData<T>, &mut ParseStream<'_>, P) -> Result<Boxed<T>, Error>,
     >(
         &self,
         types: &Nested<'_, P, T, H>,
@@ -378,7 +378,7 @@ impl<
     pub fn maybe_qualified<
         P: Copy,
         T: Tree<P>,
-        H: Fn(Global, PhantomData<T>, &mut ParseStream<'_>, P) -> Result<T, Error>,
+        H: Fn(Global, PhantomData<T>, &mut ParseStream<'_>, P) -> Result<Boxed<T>, Error>,
     >(
         &self,
         types: &Nested<'_, P, T, H>,

@@ -8,6 +8,8 @@ ghost use Rattle.syn_ty.specs.declared.ty.TypeOf.TheVariants as variants;
 ghost use Rattle.syn_ty.specs.declared.ty.TypePathOf.{out-TypePathOf};
 ghost use Rattle.syn_ty.specs.ty.Reading as reading;
 ghost use Rattle.syn_ty.specs.ty.Types as types;
+ghost use Rattle.token_core.specs.Reads.{Reads, pure};
+ghost use Rattle.token_core.specs.Stream.{Stream};
 
 use crate::generics::read::{held_bound, named_bound};
 use crate::generics::{BoundLifetimesOf, GenericParamOf, TypeParamBoundOf};
@@ -29,7 +31,7 @@ use token_core::token::{
     And, Bracket, Colon, Comma, Dyn, Extern, Fn, GroupToken, Gt, Impl, Lt, Mut, Paren, Plus, Semi,
     Star, Unsafe,
 };
-use token_core::{Boxed, Ident, Items, Lifetime, LitStr, Punctuated, TokenStream};
+use token_core::{Boxed, Error, Ident, Items, Lifetime, LitStr, Punctuated, TokenStream};
 
 // ---- forms by their parts, without attributes
 
@@ -451,4 +453,18 @@ pub(crate) fn qself_in<A: Attributes, E: Value>(
         as_token: None,
         gt_token: Gt { spans: [span] },
     })
+}
+
+// ---- on the heap
+
+/// A type on the heap: a read of no token, which is refused for want of memory alone. It stays out of line, so that what reads
+/// a type within a type keeps no room for it.
+#[inline(never)]
+pub(crate) fn boxed_type<A: Attributes, E: Value>(
+    alloc: Global,
+    ty: TypeOf<A, E>,
+) -> Result<Boxed<TypeOf<A, E>>, Error>
+    ensures reads { (s : Stream) → Reads (pure ty s) result s }
+{
+    Ok(Boxed::new(alloc, ty)?)
 }
