@@ -639,11 +639,15 @@ impl<
         let consts = place.allows_const();
         if input.peek::<Paren>() {
             let (paren_token, bound) = self.trait_in_parens(input, consts)?;
-            let bound = held_bound(paren_token, bound);
-            return boxed_bound(self.alloc, TypeParamBoundOf::Trait(bound));
+            return boxed_bound(
+                self.alloc,
+                TypeParamBoundOf::Trait(held_bound(paren_token, bound)),
+            );
         }
-        let bound = self.trait_in(input, consts)?;
-        boxed_bound(self.alloc, TypeParamBoundOf::Trait(bound))
+        boxed_bound(
+            self.alloc,
+            TypeParamBoundOf::Trait(self.trait_in(input, consts)?),
+        )
     }
 
     /// One turn: a bound in its place. A lifetime, `use<..>`, or a trait by its path.

@@ -423,8 +423,10 @@ impl<
         ensures parses { Parses (reading.arguments_step (knot.reads_below A.reads E.reads (length self.now.begin)))
             result input.old input.new }
     {
-        let arguments = self.angle_bracketed(input)?;
-        boxed_arguments(self.alloc, PathArgumentsOf::AngleBracketed(arguments))
+        boxed_arguments(
+            self.alloc,
+            PathArgumentsOf::AngleBracketed(self.angle_bracketed(input)?),
+        )
     }
 }
 
@@ -725,7 +727,7 @@ impl<
             (knot.reads_below A.reads E.reads (length self.now.begin)) ty (reading.item_of ty))
             result input.old input.new }
     {
-        if !names_item(&ty) {
+        if !names_item(ty.get()) {
             return boxed_argument(self.alloc, GenericArgumentOf::Type(ty.into_inner()));
         }
         // the type is taken apart before the mark is read, so that no way out drops it

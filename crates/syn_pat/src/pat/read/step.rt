@@ -104,7 +104,7 @@ fn as_element<X: Subtree, G: Arguments, Q: Qualifier<G>, T: Drop>(
 ) -> Result<Boxed<PatOver<X, G, Q, T>>, Error>
     ensures parses { Parses (reading.as_element pat) result input.old input.new }
 {
-    match open_range(&pat) {
+    match open_range(pat.get()) {
         None => Ok(pat),
         Some((start, end)) => {
             let kind = ErrorKind::OpenRangeInSlice;
@@ -189,11 +189,9 @@ impl<
         ensures fewer { ahead input.new ≤ ahead input.old }
     {
         if begins_path(input) {
-            let pat = self.path_pat(input)?;
-            return boxed_pat(self.alloc, pat);
+            return boxed_pat(self.alloc, self.path_pat(input)?);
         }
-        let pat = self.by_word(input)?;
-        boxed_pat(self.alloc, pat)
+        boxed_pat(self.alloc, self.by_word(input)?)
     }
 
     /// After a pattern, and a `|` that may stand before it: further ones after `|` (syn's `multi_pat_impl`).

@@ -158,8 +158,10 @@ impl<
         parse_angled_lifetimes(self.alloc, input)?;
         // boxed: it is dropped by one call
         self.types().boxed(input, last_place(place))?;
-        let tokens = since(self.alloc, from, input)?;
-        boxed_type(self.alloc, TypeOf::Verbatim(tokens))
+        boxed_type(
+            self.alloc,
+            TypeOf::Verbatim(since(self.alloc, from, input)?),
+        )
     }
 }
 

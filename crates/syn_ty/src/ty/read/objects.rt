@@ -68,10 +68,7 @@ fn dyn_of<A: Attributes, E: Value>(
     ensures reads { Reads (reading.dyn_of from.now dyn_token star bounds input.now) result input.now }
 {
     match star {
-        Some(_) => {
-            let tokens = since(alloc, from, input)?;
-            boxed_type(alloc, TypeOf::Verbatim(tokens))
-        }
+        Some(_) => boxed_type(alloc, TypeOf::Verbatim(since(alloc, from, input)?)),
         None => {
             let object = bare_trait_object(alloc, Some(dyn_token), bounds);
             boxed_type(alloc, TypeOf::TraitObject(object))

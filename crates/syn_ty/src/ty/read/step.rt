@@ -54,16 +54,13 @@ impl<
         ensures fewer { ahead input.new ≤ ahead input.old }
     {
         if input.peek::<Not>() {
-            let form = parse_never(self.alloc, input)?;
-            return boxed_type(self.alloc, TypeOf::Never(form));
+            return boxed_type(self.alloc, TypeOf::Never(parse_never(self.alloc, input)?));
         }
         if input.peek::<Impl>() {
-            let form = self.impl_trait(input, plus)?;
-            return boxed_type(self.alloc, TypeOf::ImplTrait(form));
+            return boxed_type(self.alloc, TypeOf::ImplTrait(self.impl_trait(input, plus)?));
         }
         if input.peek::<Underscore>() {
-            let form = parse_infer(self.alloc, input)?;
-            return boxed_type(self.alloc, TypeOf::Infer(form));
+            return boxed_type(self.alloc, TypeOf::Infer(parse_infer(self.alloc, input)?));
         }
         if input.peek::<Lifetime>() {
             let bounds = self.lifetime_object(input)?;
@@ -120,12 +117,10 @@ impl<
             return self.slice_or_array(input);
         }
         if input.peek::<Star>() {
-            let form = self.ptr(input)?;
-            return boxed_type(self.alloc, TypeOf::Ptr(form));
+            return boxed_type(self.alloc, TypeOf::Ptr(self.ptr(input)?));
         }
         if input.peek::<And>() {
-            let form = self.reference(input)?;
-            return boxed_type(self.alloc, TypeOf::Reference(form));
+            return boxed_type(self.alloc, TypeOf::Reference(self.reference(input)?));
         }
         self.by_last_tokens(input, plus)
     }
