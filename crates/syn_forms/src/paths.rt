@@ -127,8 +127,11 @@ impl<
         ensures fewer { ahead input.new ≤ ahead input.old }
     {
         if peek_arguments(input, style) {
-            let arguments = self.boxed(input, ())?.into_inner();
-            return Ok(PathSegmentOf { ident, arguments });
+            let arguments = self.boxed(input, ())?;
+            return Ok(PathSegmentOf {
+                ident,
+                arguments: arguments.into_inner(),
+            });
         }
         Ok(PathSegmentOf::from(ident))
     }
