@@ -358,7 +358,7 @@ fn underscore_after<A: Attributes, E: Value>(
         bounds: Punctuated::new(alloc),
         default: None,
     };
-    boxed_param(alloc, GenericParamOf::Type(param))
+    boxed_param(alloc, GenericParamOf::Type(param), input)
 }
 
 /// The refusal where no parameter of a binder follows.
@@ -392,8 +392,9 @@ fn no_generics_param(alloc: Global, input: &ParseStream<'_>) -> Error
 fn boxed_bound<A: Attributes, E: Value>(
     alloc: Global,
     bound: TypeParamBoundOf<A, E>,
+    input: &ParseStream<'_>,
 ) -> Result<Boxed<TypeParamBoundOf<A, E>>, Error>
-    ensures reads { (s : Stream) → Reads (pure bound s) result s }
+    ensures reads { Reads (pure bound input.now) result input.now }
 {
     Ok(Boxed::new(alloc, bound)?)
 }
@@ -403,8 +404,9 @@ fn boxed_bound<A: Attributes, E: Value>(
 fn boxed_param<A: Attributes, E: Value>(
     alloc: Global,
     param: GenericParamOf<A, E>,
+    input: &ParseStream<'_>,
 ) -> Result<Boxed<GenericParamOf<A, E>>, Error>
-    ensures reads { (s : Stream) → Reads (pure param s) result s }
+    ensures reads { Reads (pure param input.now) result input.now }
 {
     Ok(Boxed::new(alloc, param)?)
 }
@@ -426,7 +428,7 @@ impl<'a, A: Attributes, E: Value, F, G, H, I, J> Grammar<'a, A, E, F, G, H, I, J
         let from = input.span();
         let capture = parse_capture(self.alloc, input)?;
         if place.allows_capture() {
-            return boxed_bound(self.alloc, TypeParamBoundOf::PreciseCapture(capture));
+            return boxed_bound(self.alloc, TypeParamBoundOf::PreciseCapture(capture), input);
         }
         Err(refuse_since(self.alloc, ErrorKind::CaptureNotAllowed, from, input))
     }
@@ -642,11 +644,13 @@ impl<
             return boxed_bound(
                 self.alloc,
                 TypeParamBoundOf::Trait(held_bound(paren_token, bound)),
+                input,
             );
         }
         boxed_bound(
             self.alloc,
             TypeParamBoundOf::Trait(self.trait_in(input, consts)?),
+            input,
         )
     }
 
@@ -669,7 +673,7 @@ impl<
     {
         if input.peek::<Lifetime>() {
             let lifetime = parse_any_lifetime(self.alloc, input)?;
-            return boxed_bound(self.alloc, TypeParamBoundOf::Lifetime(lifetime));
+            return boxed_bound(self.alloc, TypeParamBoundOf::Lifetime(lifetime), input);
         }
         if input.peek::<Use>() {
             return self.capture_in_place(input, place);
@@ -796,16 +800,16 @@ impl<
             result input.old input.new }
     {
         if input.peek::<Ident>() {
-            let param = self.type_after(input, attrs)?;
-            return boxed_param(self.alloc, GenericParamOf::Type(param));
+            let ty = self.type_after(input, attrs)?;
+            return boxed_param(self.alloc, GenericParamOf::Type(ty), input);
         }
         if input.peek::<Lifetime>() {
-            let param = lifetime_after(self.alloc, input, attrs)?;
-            return boxed_param(self.alloc, GenericParamOf::Lifetime(param));
+            let lifetime = lifetime_after(self.alloc, input, attrs)?;
+            return boxed_param(self.alloc, GenericParamOf::Lifetime(lifetime), input);
         }
         if input.peek::<Const>() {
-            let param = self.const_after(input, attrs)?;
-            return boxed_param(self.alloc, GenericParamOf::Const(param));
+            let constant = self.const_after(input, attrs)?;
+            return boxed_param(self.alloc, GenericParamOf::Const(constant), input);
         }
         Err(no_binder_param(self.alloc, input))
     }
@@ -827,16 +831,16 @@ impl<
             result input.old input.new }
     {
         if input.peek::<Lifetime>() {
-            let param = lifetime_after(self.alloc, input, attrs)?;
-            return boxed_param(self.alloc, GenericParamOf::Lifetime(param));
+            let lifetime = lifetime_after(self.alloc, input, attrs)?;
+            return boxed_param(self.alloc, GenericParamOf::Lifetime(lifetime), input);
         }
         if input.peek::<Ident>() {
-            let param = self.type_after(input, attrs)?;
-            return boxed_param(self.alloc, GenericParamOf::Type(param));
+            let ty = self.type_after(input, attrs)?;
+            return boxed_param(self.alloc, GenericParamOf::Type(ty), input);
         }
         if input.peek::<Const>() {
-            let param = self.const_after(input, attrs)?;
-            return boxed_param(self.alloc, GenericParamOf::Const(param));
+            let constant = self.const_after(input, attrs)?;
+            return boxed_param(self.alloc, GenericParamOf::Const(constant), input);
         }
         if input.peek::<Underscore>() {
             return underscore_after(self.alloc, input, attrs);

@@ -21,7 +21,6 @@ ghost use Rattle.syn_ty.specs.ty.Reading as types;
 ghost use Rattle.syn_ty.specs.ty.Types as parts;
 ghost use Rattle.token_core.specs.Headline.{Heads, Headline};
 ghost use Rattle.token_core.specs.Reads.{Fails, Follows, Gives, Parses, Reads, and_then, optional, pure};
-ghost use Rattle.token_core.specs.Stream.{Stream};
 ghost use Rattle.token_core.specs.Tokens as token;
 
 use crate::generics::{GenericParamOf, TypeParamBoundOf};
@@ -249,8 +248,9 @@ fn into_item<A: Attributes, E: Value>(ty: TypeOf<A, E>) -> Option<Item<A, E>>
 fn boxed_argument<A: Attributes, E: Value>(
     alloc: Global,
     argument: GenericArgumentOf<A, E>,
+    input: &ParseStream<'_>,
 ) -> Result<Boxed<GenericArgumentOf<A, E>>, Error>
-    ensures reads { (s : Stream) → Reads (pure argument s) result s }
+    ensures reads { Reads (pure argument input.now) result input.now }
 {
     Ok(Boxed::new(alloc, argument)?)
 }
@@ -260,8 +260,9 @@ fn boxed_argument<A: Attributes, E: Value>(
 fn boxed_arguments<A: Attributes, E: Value>(
     alloc: Global,
     arguments: PathArgumentsOf<A, E>,
+    input: &ParseStream<'_>,
 ) -> Result<Boxed<PathArgumentsOf<A, E>>, Error>
-    ensures reads { (s : Stream) → Reads (pure arguments s) result s }
+    ensures reads { Reads (pure arguments input.now) result input.now }
 {
     Ok(Boxed::new(alloc, arguments)?)
 }
@@ -426,6 +427,7 @@ impl<
         boxed_arguments(
             self.alloc,
             PathArgumentsOf::AngleBracketed(self.angle_bracketed(input)?),
+            input,
         )
     }
 }
@@ -628,10 +630,14 @@ impl<
     {
         if peek_const(input) {
             let value = E::read_const_argument(self.alloc, input)?;
-            return boxed_argument(self.alloc, assoc_const(item, eq_token, value));
+            return boxed_argument(self.alloc, assoc_const(item, eq_token, value), input);
         }
         let ty = self.types().boxed(input, TypePlace::Plus)?;
-        boxed_argument(self.alloc, assoc_type(item, eq_token, ty.into_inner()))
+        boxed_argument(
+            self.alloc,
+            assoc_type(item, eq_token, ty.into_inner()),
+            input,
+        )
     }
 }
 
@@ -684,7 +690,7 @@ impl<
             result input.old input.new }
     {
         let bounds = self.constraint_bounds(input)?;
-        boxed_argument(self.alloc, constraint_of(item, colon_token, bounds))
+        boxed_argument(self.alloc, constraint_of(item, colon_token, bounds), input)
     }
 }
 
@@ -728,7 +734,7 @@ impl<
             result input.old input.new }
     {
         if !names_item(ty.get()) {
-            return boxed_argument(self.alloc, GenericArgumentOf::Type(ty.into_inner()));
+            return boxed_argument(self.alloc, GenericArgumentOf::Type(ty.into_inner()), input);
         }
         // the type is taken apart before the mark is read, so that no way out drops it
         if input.peek::<Eq>() {
@@ -749,7 +755,7 @@ impl<
                 None => unreachable!(),
             };
         }
-        boxed_argument(self.alloc, GenericArgumentOf::Type(ty.into_inner()))
+        boxed_argument(self.alloc, GenericArgumentOf::Type(ty.into_inner()), input)
     }
 }
 
@@ -819,11 +825,11 @@ impl<
     {
         if peek_lone_lifetime(input) {
             let lifetime = parse_any_lifetime(self.alloc, input)?;
-            return boxed_argument(self.alloc, GenericArgumentOf::Lifetime(lifetime));
+            return boxed_argument(self.alloc, GenericArgumentOf::Lifetime(lifetime), input);
         }
         if peek_const(input) {
             let value = E::read_const_argument(self.alloc, input)?;
-            return boxed_argument(self.alloc, GenericArgumentOf::Const(value));
+            return boxed_argument(self.alloc, GenericArgumentOf::Const(value), input);
         }
         let ty = self.type_step(input, TypePlace::Plus)?;
         self.after_type(input, ty)

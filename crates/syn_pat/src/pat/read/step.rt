@@ -7,7 +7,6 @@ ghost use Rattle.syn_pat.specs.pat.Reading as reading;
 ghost use Rattle.syn_pat.specs.pat.Reading.{named};
 ghost use Rattle.token_core.specs.Loops.{never};
 ghost use Rattle.token_core.specs.Reads.{Parses, Reads, optional, pure};
-ghost use Rattle.token_core.specs.Stream.{Stream};
 ghost use Rattle.token_core.specs.Tokens as token;
 
 use crate::names::Qualifier;
@@ -90,7 +89,7 @@ fn boxed_pat<X: Subtree, G: Arguments, Q: Qualifier<G>, T: Drop>(
     alloc: Global,
     pat: PatOver<X, G, Q, T>,
 ) -> Result<Boxed<PatOver<X, G, Q, T>>, Error>
-    ensures reads { (s : Stream) → Reads (pure pat s) result s }
+    ensures reads { Reads (pure pat input.now) result input.now }
 {
     Ok(Boxed::new(alloc, pat)?)
 }
@@ -189,9 +188,9 @@ impl<
         ensures fewer { ahead input.new ≤ ahead input.old }
     {
         if begins_path(input) {
-            return boxed_pat(self.alloc, self.path_pat(input)?);
+            return boxed_pat(self.alloc, self.path_pat(input)?, input);
         }
-        boxed_pat(self.alloc, self.by_word(input)?)
+        boxed_pat(self.alloc, self.by_word(input)?, input)
     }
 
     /// After a pattern, and a `|` that may stand before it: further ones after `|` (syn's `multi_pat_impl`).
@@ -220,7 +219,7 @@ impl<
             leading_vert,
             cases,
         };
-        boxed_pat(self.alloc, PatOf::Or(form))
+        boxed_pat(self.alloc, PatOf::Or(form), input)
     }
 
     /// Patterns joined by `|`, of which the first may have one before it.

@@ -41,7 +41,7 @@ fn macro_after<A: Attributes, E: Value>(
         attrs: Items::new(alloc),
         mac,
     };
-    boxed_type(alloc, TypeOf::Macro(form))
+    boxed_type(alloc, TypeOf::Macro(form), input)
 }
 
 impl<
@@ -79,7 +79,7 @@ impl<
     {
         let first = TypeParamBoundOf::Trait(named_bound(lifetimes, None, path));
         let bounds = self.more_bounds(input, plus, first)?;
-        boxed_type(self.alloc, object_of(self.alloc, bounds))
+        boxed_type(self.alloc, object_of(self.alloc, bounds), input)
     }
 
     /// After an unqualified path: a macro call; a trait object, after a binder or where a `+` may follow and does; or the path alone.
@@ -106,7 +106,7 @@ impl<
             return self.path_object(input, plus, lifetimes, path);
         }
         let ty = bare_path_type(self.alloc, None, path);
-        boxed_type(self.alloc, TypeOf::Path(ty))
+        boxed_type(self.alloc, TypeOf::Path(ty), input)
     }
 
     /// After a path: one that a type qualifies is the type.
@@ -131,7 +131,7 @@ impl<
         match qself {
             Some(qself) => {
                 let ty = bare_path_type(self.alloc, Some(qself), path);
-                boxed_type(self.alloc, TypeOf::Path(ty))
+                boxed_type(self.alloc, TypeOf::Path(ty), input)
             }
             None => self.after_path(input, plus, lifetimes, path),
         }
@@ -176,13 +176,17 @@ impl<
             Ok(ty) => {
                 let TypePathOf { attrs, qself, path } = ty;
                 let path = self.rest(input, path)?;
-                boxed_type(self.alloc, TypeOf::Path(TypePathOf { attrs, qself, path }))
+                boxed_type(
+                    self.alloc,
+                    TypeOf::Path(TypePathOf { attrs, qself, path }),
+                    input,
+                )
             }
             Err(ty) => {
                 let qself = qself_in(self.alloc, group_token, ty)?;
                 let path = self.path(input, PathStyle::AsWritten)?;
                 let ty = bare_path_type(self.alloc, Some(qself), path);
-                boxed_type(self.alloc, TypeOf::Path(ty))
+                boxed_type(self.alloc, TypeOf::Path(ty), input)
             }
         }
     }
@@ -205,7 +209,11 @@ impl<
         let arguments = self.segments().boxed(input, ())?;
         let path = with_last_arguments(path, arguments.into_inner())?;
         let path = self.rest(input, path)?;
-        boxed_type(self.alloc, TypeOf::Path(TypePathOf { attrs, qself, path }))
+        boxed_type(
+            self.alloc,
+            TypeOf::Path(TypePathOf { attrs, qself, path }),
+            input,
+        )
     }
 
     /// After an invisible group that `<`, or `::` and `<`, follow: a path whose last segment has no arguments takes them and goes on; another type is left as it is.
@@ -237,6 +245,7 @@ impl<
         boxed_type(
             self.alloc,
             TypeOf::Group(bare_group(self.alloc, (group_token, elem))),
+            input,
         )
     }
 
@@ -262,6 +271,7 @@ impl<
         boxed_type(
             self.alloc,
             TypeOf::Group(bare_group(self.alloc, (group_token, elem))),
+            input,
         )
     }
 

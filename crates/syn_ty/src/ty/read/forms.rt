@@ -88,7 +88,11 @@ impl<
         ensures fewer { ahead input.new ≤ ahead input.old }
     {
         let (bracket_token, held) = self.types().slice_or_array::<E>(input, TypePlace::Plus)?;
-        boxed_type(self.alloc, of_brackets(self.alloc, bracket_token, held))
+        boxed_type(
+            self.alloc,
+            of_brackets(self.alloc, bracket_token, held),
+            input,
+        )
     }
 
     /// What parentheses hold that begin with a type.

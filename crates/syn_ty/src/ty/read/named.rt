@@ -133,7 +133,7 @@ impl<
         ensures fewer { ahead input.new ≤ ahead input.old }
     {
         let form = self.fn_ptr_after(input, lifetimes)?;
-        boxed_type(self.alloc, TypeOf::FnPtr(form))
+        boxed_type(self.alloc, TypeOf::FnPtr(form), input)
     }
 
     /// `unsafe<'a> T`: no case holds it, so that it is held as it was written, from a position on.
@@ -161,6 +161,7 @@ impl<
         boxed_type(
             self.alloc,
             TypeOf::Verbatim(since(self.alloc, from, input)?),
+            input,
         )
     }
 }

@@ -68,10 +68,10 @@ fn dyn_of<A: Attributes, E: Value>(
     ensures reads { Reads (reading.dyn_of from.now dyn_token star bounds input.now) result input.now }
 {
     match star {
-        Some(_) => boxed_type(alloc, TypeOf::Verbatim(since(alloc, from, input)?)),
+        Some(_) => boxed_type(alloc, TypeOf::Verbatim(since(alloc, from, input)?), input),
         None => {
             let object = bare_trait_object(alloc, Some(dyn_token), bounds);
-            boxed_type(alloc, TypeOf::TraitObject(object))
+            boxed_type(alloc, TypeOf::TraitObject(object), input)
         }
     }
 }
@@ -272,7 +272,7 @@ impl<
         let bounds = self
             .bounds()
             .list_from(input, BoundPlace::Object, EachBound, first)?;
-        boxed_type(self.alloc, object_of(self.alloc, bounds))
+        boxed_type(self.alloc, object_of(self.alloc, bounds), input)
     }
 
     /// A type in parentheses; where a `+` may follow and does, it is the first bound of a trait object if it may be one.
@@ -296,6 +296,7 @@ impl<
             return boxed_type(
                 self.alloc,
                 TypeOf::Paren(bare_paren(self.alloc, (paren_token, elem))),
+                input,
             );
         }
         match first_bound(paren_token, elem.into_inner()) {
@@ -305,6 +306,7 @@ impl<
                 boxed_type(
                     self.alloc,
                     TypeOf::Paren(bare_paren(self.alloc, (paren_token, elem))),
+                    input,
                 )
             }
         }
@@ -337,6 +339,7 @@ impl<
                 boxed_type(
                     self.alloc,
                     TypeOf::Tuple(bare_tuple(self.alloc, (paren_token, elems))),
+                    input,
                 )
             }
             ParenContent::Object(bounds) => {
@@ -344,6 +347,7 @@ impl<
                 boxed_type(
                     self.alloc,
                     TypeOf::Paren(bare_paren(self.alloc, (paren_token, elem))),
+                    input,
                 )
             }
             ParenContent::Asked(bound) => {

@@ -9,7 +9,6 @@ ghost use Rattle.syn_ty.specs.declared.ty.TypePathOf.{out-TypePathOf};
 ghost use Rattle.syn_ty.specs.ty.Reading as reading;
 ghost use Rattle.syn_ty.specs.ty.Types as types;
 ghost use Rattle.token_core.specs.Reads.{Reads, pure};
-ghost use Rattle.token_core.specs.Stream.{Stream};
 
 use crate::generics::read::{held_bound, named_bound};
 use crate::generics::{BoundLifetimesOf, GenericParamOf, TypeParamBoundOf};
@@ -463,8 +462,9 @@ pub(crate) fn qself_in<A: Attributes, E: Value>(
 pub(crate) fn boxed_type<A: Attributes, E: Value>(
     alloc: Global,
     ty: TypeOf<A, E>,
+    input: &ParseStream<'_>,
 ) -> Result<Boxed<TypeOf<A, E>>, Error>
-    ensures reads { (s : Stream) → Reads (pure ty s) result s }
+    ensures reads { Reads (pure ty input.now) result input.now }
 {
     Ok(Boxed::new(alloc, ty)?)
 }

@@ -54,17 +54,29 @@ impl<
         ensures fewer { ahead input.new ≤ ahead input.old }
     {
         if input.peek::<Not>() {
-            return boxed_type(self.alloc, TypeOf::Never(parse_never(self.alloc, input)?));
+            return boxed_type(
+                self.alloc,
+                TypeOf::Never(parse_never(self.alloc, input)?),
+                input,
+            );
         }
         if input.peek::<Impl>() {
-            return boxed_type(self.alloc, TypeOf::ImplTrait(self.impl_trait(input, plus)?));
+            return boxed_type(
+                self.alloc,
+                TypeOf::ImplTrait(self.impl_trait(input, plus)?),
+                input,
+            );
         }
         if input.peek::<Underscore>() {
-            return boxed_type(self.alloc, TypeOf::Infer(parse_infer(self.alloc, input)?));
+            return boxed_type(
+                self.alloc,
+                TypeOf::Infer(parse_infer(self.alloc, input)?),
+                input,
+            );
         }
         if input.peek::<Lifetime>() {
             let bounds = self.lifetime_object(input)?;
-            return boxed_type(self.alloc, object_of(self.alloc, bounds));
+            return boxed_type(self.alloc, object_of(self.alloc, bounds), input);
         }
         Err(no_type(self.alloc, input))
     }
@@ -117,10 +129,10 @@ impl<
             return self.slice_or_array(input);
         }
         if input.peek::<Star>() {
-            return boxed_type(self.alloc, TypeOf::Ptr(self.ptr(input)?));
+            return boxed_type(self.alloc, TypeOf::Ptr(self.ptr(input)?), input);
         }
         if input.peek::<And>() {
-            return boxed_type(self.alloc, TypeOf::Reference(self.reference(input)?));
+            return boxed_type(self.alloc, TypeOf::Reference(self.reference(input)?), input);
         }
         self.by_last_tokens(input, plus)
     }

@@ -244,7 +244,7 @@ pub(crate) fn parse_builtin_type<A: Attributes, E: Value>(
     ensures parses { Parses (reading.builtin_type from.now) result input.old input.new }
 {
     parse_builtin(alloc, input)?;
-    boxed_type(alloc, TypeOf::Verbatim(since(alloc, from, input)?))
+    boxed_type(alloc, TypeOf::Verbatim(since(alloc, from, input)?), input)
 }
 
 // ---- refusals

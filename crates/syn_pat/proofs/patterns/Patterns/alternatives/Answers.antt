@@ -43,7 +43,7 @@ returns g c =
     ∙ ap (λ z. list_from never (pats_below {T = g.row.T.Denot} g.X.Subtree.reads (named g.Q.Qualifier.reads g.G.Arguments.is_absent) (length c.patterns.result.begin) Single) sees_vert token.bar z c.args.input.now) (sym c.into_inner.ensures) in
     record {
       parses = (
-        told_by _ _ (chosen _ true _ _ _ _ goes (link _ (same ∙ c.in_ok-cases.ensures.parses.0) (ap (λ z. Ok (v.Or (or_of z c.args.leading_vert c.in_ok-cases.cases), c.list_from.new.input)) (sym c.new.ensures)))) (c.boxed_pat.ensures.reads _),
+        told_by _ _ (chosen _ true _ _ _ _ goes (link _ (same ∙ c.in_ok-cases.ensures.parses.0) (ap (λ z. Ok (v.Or (or_of z c.args.leading_vert c.in_ok-cases.cases), c.list_from.new.input)) (sym c.new.ensures)))) c.boxed_pat.ensures.reads,
         c.list_from.ensures.parses.1,
       );
     }

@@ -19,7 +19,7 @@ returns-in_err-path_pat-clause-fewer g c = ahead_follows _ _ c.path_pat.ensures.
 pub returns-then-begins_path-clause-parses : goal.returns-then-begins_path-clause-parses
 unfolding single
 returns-then-begins_path-clause-parses g c = (
-  told_by _ _ (chosen _ true _ _ _ _ (sym c.if-begins_path.ensures) c.in_ok-path_pat.ensures.parses.0) (c.boxed_pat.ensures.reads _),
+  told_by _ _ (chosen _ true _ _ _ _ (sym c.if-begins_path.ensures) c.in_ok-path_pat.ensures.parses.0) c.boxed_pat.ensures.reads,
   c.path_pat.ensures.parses.1,
 )
 
@@ -40,7 +40,7 @@ returns-in_err-by_word-clause-fewer g c = ahead_follows _ _ c.by_word.ensures.pa
 pub returns-clause-parses : goal.returns-clause-parses
 unfolding single
 returns-clause-parses g c = (
-  told_by _ _ (chosen _ false _ _ _ _ (sym c.if-begins_path.ensures) c.in_ok-by_word.ensures.parses.0) (c.boxed_pat-2.ensures.reads _),
+  told_by _ _ (chosen _ false _ _ _ _ (sym c.if-begins_path.ensures) c.in_ok-by_word.ensures.parses.0) c.boxed_pat-2.ensures.reads,
   c.by_word.ensures.parses.1,
 )
 

@@ -13,7 +13,7 @@ pub returns-in_err-form-clause-fewer : goal.returns-in_err-form-clause-fewer
 returns-in_err-form-clause-fewer g c = ahead_follows _ _ c.fn_ptr_after.ensures.parses.1
 
 pub returns-clause-parses : goal.returns-clause-parses
-returns-clause-parses g c = (told_by _ _ (link _ c.in_ok-form.ensures.parses.0 refl) (c.boxed_type.ensures.reads _), c.fn_ptr_after.ensures.parses.1)
+returns-clause-parses g c = (told_by _ _ (link _ c.in_ok-form.ensures.parses.0 refl) c.boxed_type.ensures.reads, c.fn_ptr_after.ensures.parses.1)
 
 pub returns-clause-fewer : goal.returns-clause-fewer
 returns-clause-fewer g c = ahead_follows _ _ c.fn_ptr_after.ensures.parses.1

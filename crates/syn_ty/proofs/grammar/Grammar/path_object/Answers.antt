@@ -19,4 +19,4 @@ pub returns-clause-parses : goal.returns-clause-parses
 returns-clause-parses g c =
     let r = knot.reads_below g.A.Attributes.reads g.E.Value.reads (length c.args.self.now.begin) in
     let same = ap (λ x. bounds_from (r (a_bound Object)) false c.args.plus (b.Trait x) c.args.input.now) (sym c.named_bound.ensures) in
-    (told_by _ _ (link _ (same ∙ c.in_ok-bounds.ensures.parses.0) (ap (λ z. Ok (z, c.more_bounds.new.input)) (sym c.object_of.ensures))) (c.boxed_type.ensures.reads _), c.more_bounds.ensures.parses.1)
+    (told_by _ _ (link _ (same ∙ c.in_ok-bounds.ensures.parses.0) (ap (λ z. Ok (z, c.more_bounds.new.input)) (sym c.object_of.ensures))) c.boxed_type.ensures.reads, c.more_bounds.ensures.parses.1)
