@@ -88,6 +88,7 @@ fn open_range<X: Subtree, G: Arguments, Q: Qualifier<G>, T: Drop>(
 fn boxed_pat<X: Subtree, G: Arguments, Q: Qualifier<G>, T: Drop>(
     alloc: Global,
     pat: PatOver<X, G, Q, T>,
+    input: &ParseStream<'_>,
 ) -> Result<Boxed<PatOver<X, G, Q, T>>, Error>
     ensures reads { Reads (pure pat input.now) result input.now }
 {

@@ -30,7 +30,9 @@ use token_core::token::{
     And, Bracket, Colon, Comma, Dyn, Extern, Fn, GroupToken, Gt, Impl, Lt, Mut, Paren, Plus, Semi,
     Star, Unsafe,
 };
-use token_core::{Boxed, Error, Ident, Items, Lifetime, LitStr, Punctuated, TokenStream};
+use token_core::{
+    Boxed, Error, Ident, Items, Lifetime, LitStr, ParseStream, Punctuated, TokenStream,
+};
 
 // ---- forms by their parts, without attributes
 
