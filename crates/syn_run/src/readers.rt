@@ -205,7 +205,7 @@ fn show_pat<X: Subtree, G: Arguments, Q: Qualifier<G>, T: ToTokens + Drop>(
         result input.new }
     ensures within { Follows input.old input.new }
 {
-    let pat = Boxed::new(alloc, parse_pat::<X, G, Q, T>(alloc, of, input, place)?)?;
+    let pat = parse_pat::<X, G, Q, T>(alloc, of, input, place)?;
     Ok(print_of_pat(alloc, pat.get())?)
 }
 
